@@ -1,0 +1,52 @@
+-- The lent tables as lists: what contracts speak of (document 01, "Tables and what is sound"). Assumes nothing.
+use mathlib.Core.Bool.{Bool, _&&_}
+use mathlib.Core.List.{List}
+use Prim.Native.Nat.{ℕ, _*_}
+use lib.Dec.{leb}
+use lib.ListN.{length, getD}
+use Rattle.tables.specs.Limits.{Limits}
+
+-- what no call writes: "Drone count, dependency count, names, each drone's M, stops .. and dependencies are lent tables". The stops of all drones stand one
+-- after another, those of drone 0 first; of a dependency the planned first drone and its stop, the planned second drone and its stop
+pub record PlanLists : Type 0 where
+  pub droneCount : List ℕ
+  pub dependencyCount : List ℕ
+  pub names : List ℕ
+  pub stopCounts : List ℕ
+  pub locations : List ℕ
+  pub times : List ℕ
+  pub firstDrones : List ℕ
+  pub firstStops : List ℕ
+  pub secondDrones : List ℕ
+  pub secondStops : List ℕ
+
+-- the tables: the plan, "drones' progress" (the last visited stop, and a flag byte whose bit 0 is "under way to the next"), and the dependencies' flag bytes
+pub record Tables : Type 0 where
+  pub plan : PlanLists
+  pub visited : List ℕ
+  pub droneFlags : List ℕ
+  pub flags : List ℕ
+
+-- a count stands alone in its table
+abbrev pub drones : PlanLists → ℕ
+drones p = getD (p .droneCount) 0 0
+
+abbrev pub dependencies : PlanLists → ℕ
+dependencies p = getD (p .dependencyCount) 0 0
+
+-- refusal 41 turned round: no lent table is below full size
+unfoldable pub fullSize : Limits → Tables → Bool
+fullSize L t =
+    leb 1 (length (t .plan .droneCount))
+    && (leb 1 (length (t .plan .dependencyCount))
+    && (leb (L .drones * L .name) (length (t .plan .names))
+    && (leb (L .drones) (length (t .plan .stopCounts))
+    && (leb (L .stops) (length (t .plan .locations))
+    && (leb (L .stops) (length (t .plan .times))
+    && (leb (L .dependencies) (length (t .plan .firstDrones))
+    && (leb (L .dependencies) (length (t .plan .firstStops))
+    && (leb (L .dependencies) (length (t .plan .secondDrones))
+    && (leb (L .dependencies) (length (t .plan .secondStops))
+    && (leb (L .drones) (length (t .visited))
+    && (leb (L .drones) (length (t .droneFlags))
+    && leb (L .dependencies) (length (t .flags)))))))))))))
