@@ -1,0 +1,4 @@
+pub mod Stops
+pub mod Check
+pub mod Dependencies
+pub mod Field
