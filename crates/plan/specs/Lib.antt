@@ -2,3 +2,4 @@ pub mod Stops
 pub mod Check
 pub mod Dependencies
 pub mod Field
+pub mod Status
