@@ -1,3 +1,5 @@
 pub mod Limits
+pub mod Flags
+pub mod Entries
 pub mod Tables
 pub mod Zero

@@ -1,0 +1,5 @@
+pub mod Stops
+pub mod Check
+pub mod Dependencies
+pub mod Field
+pub mod Status

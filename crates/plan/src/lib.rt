@@ -1,0 +1,1 @@
+// The plan check and the dependencies of a plan.

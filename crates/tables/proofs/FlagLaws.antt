@@ -1,0 +1,156 @@
+-- A mask of one bit, or of all the bits from one on, is a quotient and a remainder by powers of two: so the flag bytes are plain arithmetic.
+use mathlib.Core.Path.{_≡_, refl, _∙_, ap}
+use mathlib.Core.Bool.{Bool, true, false, not, cond}
+use Prim.Native.Nat.{ℕ, zero, suc, _+_, _-_, _*_, _/_, _%_, _≤_, _<_}
+use native.Mathlib.Nat.{mod-lt, mod-eq-of-lt}
+use native.Mathlib.Omega.{arith}
+use lib.Dec.{eqb, ltb, lit<}
+use lib.Bits.{bitAnd, bitOr, bitXor, and-mask, and-high, or-add-and, xor-add-and}
+use borrow.Author.Tests.{eq-eqb, ne-eqb, ltb-true, ltb-false, lt-ltb, le-ltb}
+use Rattle.tables.specs.Flags.{turnedBit, fixedBit, onlyTwoBits, flipBit, fixedFlag, underWayBit, onlyOneBit, setUnderWay, clearUnderWay}
+
+------------------------------------------------------------------------
+-- Tests by masks
+
+-- the weight of a bit is not 0 just where the bit is 1
+weight-bit : (weight x : ℕ) → 0 < weight → x < 2 → not (eqb (x * weight) 0) ≡ eqb x 1
+weight-bit weight zero w h = ap not (eq-eqb (0 * weight) 0 (omega arith))
+weight-bit weight (suc zero) w h = ap not (ne-eqb (1 * weight) 0 (λ e. omega arith))
+weight-bit weight (suc (suc x)) w h = absurd (omega arith)
+
+bit-mask : (masked weight x : ℕ) → masked ≡ x * weight → 0 < weight → x < 2 → not (eqb masked 0) ≡ eqb x 1
+bit-mask masked weight x e w h = ap (λ (m : ℕ). not (eqb m 0)) e ∙ weight-bit weight x w h
+
+low-mask : (f : ℕ) → not (eqb (bitAnd f 1) 0) ≡ eqb (f % 2) 1
+low-mask f = bit-mask (bitAnd f 1) 1 (f % 2) (and-mask f 1 ∙ omega arith) (lit< tt) (mod-lt f (lit< tt))
+
+pub turned-mask : (f : ℕ) → not (eqb (bitAnd f 1) 0) ≡ turnedBit f
+unfolding turnedBit
+turned-mask f = low-mask f
+
+pub under-way-mask : (f : ℕ) → not (eqb (bitAnd f 1) 0) ≡ underWayBit f
+unfolding underWayBit
+under-way-mask f = low-mask f
+
+pub fixed-mask : (f : ℕ) → not (eqb (bitAnd f 2) 0) ≡ fixedBit f
+unfolding fixedBit
+fixed-mask f = bit-mask (bitAnd f 2) 2 (f / 2 % 2) (and-high f 1 1) (lit< tt) (mod-lt (f / 2) (lit< tt))
+
+-- the mask of all the bits of a byte from bit 2 on, and from bit 1 on
+from-bit-2 : (f : ℕ) → f < 256 → bitAnd f 252 ≡ f / 4 * 4
+from-bit-2 f h = let q : f / 4 < 64 = omega arith in and-high f 6 2 ∙ ap (λ (x : ℕ). x * 4) (mod-eq-of-lt q)
+
+from-bit-1 : (f : ℕ) → f < 256 → bitAnd f 254 ≡ f / 2 * 2
+from-bit-1 f h = let q : f / 2 < 128 = omega arith in and-high f 7 1 ∙ ap (λ (x : ℕ). x * 2) (mod-eq-of-lt q)
+
+-- those bits are zero just where the byte is below the first one's weight
+upper-bits : (masked f weight : ℕ) (low : Bool) → ltb f weight ≡ low → (f < weight → masked ≡ 0) → (weight ≤ f → masked ≡ 0 → ⊥) → eqb masked 0 ≡ low
+upper-bits masked f weight true e z p = eq-eqb masked 0 (z (ltb-true f weight e))
+upper-bits masked f weight false e z p = ne-eqb masked 0 (p (ltb-false f weight e))
+
+pub two-bits-mask : (f : ℕ) → f < 256 → eqb (bitAnd f 252) 0 ≡ onlyTwoBits f
+unfolding onlyTwoBits
+two-bits-mask f h = let m = from-bit-2 f h in upper-bits (bitAnd f 252) f 4 (ltb f 4) refl (λ l. omega arith) (λ l e. omega arith)
+
+pub one-bit-mask : (f : ℕ) → f < 256 → eqb (bitAnd f 254) 0 ≡ onlyOneBit f
+unfolding onlyOneBit
+one-bit-mask f h = let m = from-bit-1 f h in upper-bits (bitAnd f 254) f 2 (ltb f 2) refl (λ l. omega arith) (λ l e. omega arith)
+
+------------------------------------------------------------------------
+-- Changes by masks
+
+pub flip-mask : (f : ℕ) → bitXor f 1 ≡ flipBit f
+unfolding flipBit
+flip-mask f = omega (arith, xor-add-and f 1, and-mask f 1)
+
+pub set-mask : (f : ℕ) → bitOr f 1 ≡ setUnderWay f
+unfolding setUnderWay
+set-mask f = omega (arith, or-add-and f 1, and-mask f 1)
+
+pub clear-mask : (f : ℕ) → f < 256 → bitAnd f 254 ≡ clearUnderWay f
+unfolding clearUnderWay
+clear-mask f h = from-bit-1 f h
+
+------------------------------------------------------------------------
+-- What the changes do to the bits
+
+-- the test of bits below a weight goes with the byte
+same-low : (f g weight : ℕ) (low : Bool) → ltb f weight ≡ low → (f < weight → g < weight) → (weight ≤ f → weight ≤ g) → ltb g weight ≡ low
+same-low f g weight true e l u = lt-ltb g weight (l (ltb-true f weight e))
+same-low f g weight false e l u = le-ltb g weight (u (ltb-false f weight e))
+
+other-bit : (x y : ℕ) → x < 2 → y ≡ 1 - x → eqb y 1 ≡ not (eqb x 1)
+other-bit zero y h e = eq-eqb y 1 e
+other-bit (suc zero) y h e = ne-eqb y 1 (λ k. omega arith)
+other-bit (suc (suc x)) y h e = absurd (omega arith)
+
+-- "Turning twice gives the first rule again"
+pub flip-flip : (f : ℕ) → flipBit (flipBit f) ≡ f
+unfolding flipBit
+flip-flip f = omega arith
+
+-- the fixed bit and the six above it stay
+pub flip-half : (f : ℕ) → flipBit f / 2 ≡ f / 2
+unfolding flipBit
+flip-half f = omega arith
+
+pub flip-turned : (f : ℕ) → turnedBit (flipBit f) ≡ not (turnedBit f)
+unfolding turnedBit flipBit
+flip-turned f = other-bit (f % 2) ((f / 2 * 2 + (1 - f % 2)) % 2) (mod-lt f (lit< tt)) (omega arith)
+
+pub flip-fixed : (f : ℕ) → fixedBit (flipBit f) ≡ fixedBit f
+unfolding fixedBit
+flip-fixed f = ap (λ (x : ℕ). eqb (x % 2) 1) (flip-half f)
+
+pub flip-two-bits : (f : ℕ) → onlyTwoBits (flipBit f) ≡ onlyTwoBits f
+unfolding onlyTwoBits
+flip-two-bits f = let e = flip-half f in same-low f (flipBit f) 4 (ltb f 4) refl (λ h. omega arith) (λ h. omega arith)
+
+pub set-under-way : (f : ℕ) → underWayBit (setUnderWay f) ≡ true
+unfolding underWayBit setUnderWay
+set-under-way f = eq-eqb ((f / 2 * 2 + 1) % 2) 1 (omega arith)
+
+pub clear-under-way : (f : ℕ) → underWayBit (clearUnderWay f) ≡ false
+unfolding underWayBit clearUnderWay
+clear-under-way f = ne-eqb (f / 2 * 2 % 2) 1 (λ e. omega arith)
+
+pub set-one-bit : (f : ℕ) → onlyOneBit (setUnderWay f) ≡ onlyOneBit f
+unfolding onlyOneBit setUnderWay
+set-one-bit f = same-low f (f / 2 * 2 + 1) 2 (ltb f 2) refl (λ h. omega arith) (λ h. omega arith)
+
+pub clear-one-bit : (f : ℕ) → onlyOneBit (clearUnderWay f) ≡ onlyOneBit f
+unfolding onlyOneBit clearUnderWay
+clear-one-bit f = same-low f (f / 2 * 2) 2 (ltb f 2) refl (λ h. omega arith) (λ h. omega arith)
+
+------------------------------------------------------------------------
+-- A byte whose other bits are zero is known by its bits
+
+pub by-two-bits : (f : ℕ) → onlyTwoBits f ≡ true → f ≡ fixedFlag (fixedBit f) + cond (turnedBit f) 1 0
+unfolding onlyTwoBits fixedFlag fixedBit turnedBit
+by-two-bits zero h = refl
+by-two-bits (suc zero) h = refl
+by-two-bits (suc (suc zero)) h = refl
+by-two-bits (suc (suc (suc zero))) h = refl
+by-two-bits (suc (suc (suc (suc f)))) h = absurd (omega (arith, ltb-true (suc (suc (suc (suc f)))) 4 h))
+
+pub by-one-bit : (f : ℕ) → onlyOneBit f ≡ true → f ≡ cond (underWayBit f) 1 0
+unfolding onlyOneBit underWayBit
+by-one-bit zero h = refl
+by-one-bit (suc zero) h = refl
+by-one-bit (suc (suc f)) h = absurd (omega (arith, ltb-true (suc (suc f)) 2 h))
+
+-- a new dependency: not turned, fixed as said, the other bits zero
+pub new-turned : (fixed : Bool) → turnedBit (fixedFlag fixed) ≡ false
+unfolding turnedBit fixedFlag
+new-turned true = refl
+new-turned false = refl
+
+pub new-fixed : (fixed : Bool) → fixedBit (fixedFlag fixed) ≡ fixed
+unfolding fixedBit fixedFlag
+new-fixed true = refl
+new-fixed false = refl
+
+pub new-two-bits : (fixed : Bool) → onlyTwoBits (fixedFlag fixed) ≡ true
+unfolding onlyTwoBits fixedFlag
+new-two-bits true = refl
+new-two-bits false = refl

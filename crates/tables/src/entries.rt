@@ -1,0 +1,150 @@
+// The entries of the tables. Each type carries its table's full size, and each size is shown to be that of the limits.
+ghost use mathlib.Core.Path.{_≡_};
+ghost use Prim.Native.Nat.{_*_};
+ghost use Rattle.tables.specs.Limits.{limits};
+ghost use Rattle.tables.specs.Entries.{zeroStop, zeroDrone, zeroDependency, flipDependency};
+
+// A stop of a drone's plan.
+pub struct Stop {
+    pub location: u16,
+    pub time: u32,
+}
+
+// A drone's progress: its last visited stop, and its flag byte.
+pub struct Drone {
+    pub visited: u16,
+    pub flags: u8,
+}
+
+// The planned first drone and its stop, the planned second drone and its stop, and the flag byte.
+pub struct Dependency {
+    pub first_stop: u16,
+    pub second_stop: u16,
+    pub first_drone: u8,
+    pub second_drone: u8,
+    pub flags: u8,
+}
+
+// The plan's text is no table of entries, but it has a full size too.
+pub struct Text {}
+
+impl Stop {
+    // The stops of all drones.
+    pub const FULL: usize = 1024;
+
+    pub const MAX_LOCATION: usize = 65535;
+
+    pub const MAX_TIME: usize = 1000000;
+
+    pub fn zero() -> Self
+        ensures { λ r. ⌜ r ≡ zeroStop ⌝ }
+    {
+        Self {
+            location: 0,
+            time: 0,
+        }
+    }
+
+    pub fn full_size() -> usize
+        ensures { λ r. ⌜ r ≡ limits .stops ⌝ }
+    {
+        Self::FULL
+    }
+
+    pub fn location_limit() -> usize
+        ensures { λ r. ⌜ r ≡ limits .location ⌝ }
+    {
+        Self::MAX_LOCATION
+    }
+
+    pub fn time_limit() -> usize
+        ensures { λ r. ⌜ r ≡ limits .time ⌝ }
+    {
+        Self::MAX_TIME
+    }
+}
+
+impl Drone {
+    pub const FULL: usize = 32;
+    // The bytes of a name, which are those of its row in the table of names.
+    pub const NAME: usize = 24;
+    // The mask of the flag byte's bit 0.
+    pub const UNDER_WAY: u8 = 1;
+
+    pub fn zero() -> Self
+        ensures { λ r. ⌜ r ≡ zeroDrone ⌝ }
+    {
+        Self {
+            visited: 0,
+            flags: 0,
+        }
+    }
+
+    pub fn full_size() -> usize
+        ensures { λ r. ⌜ r ≡ limits .drones ⌝ }
+    {
+        Self::FULL
+    }
+
+    pub fn name_limit() -> usize
+        ensures { λ r. ⌜ r ≡ limits .name ⌝ }
+    {
+        Self::NAME
+    }
+
+    // The full size of the table of names.
+    pub fn names_size() -> usize
+        ensures { λ r. ⌜ r ≡ limits .drones * limits .name ⌝ }
+    {
+        Self::FULL * Self::NAME
+    }
+}
+
+impl Dependency {
+    pub const FULL: usize = 2048;
+    // The masks of the flag byte's bits 0 and 1.
+    pub const TURNED: u8 = 1;
+
+    pub const FIXED: u8 = 2;
+
+    pub fn zero() -> Self
+        ensures { λ r. ⌜ r ≡ zeroDependency ⌝ }
+    {
+        Self {
+            first_stop: 0,
+            second_stop: 0,
+            first_drone: 0,
+            second_drone: 0,
+            flags: 0,
+        }
+    }
+
+    pub fn full_size() -> usize
+        ensures { λ r. ⌜ r ≡ limits .dependencies ⌝ }
+    {
+        Self::FULL
+    }
+
+    // The record with bit 0 of its flag byte flipped.
+    pub fn flip(self) -> Self
+        ensures { λ r. ⌜ r ≡ flipDependency self ⌝ }
+    {
+        Self {
+            first_stop: self.first_stop,
+            second_stop: self.second_stop,
+            first_drone: self.first_drone,
+            second_drone: self.second_drone,
+            flags: crate::flags::flipped(self.flags),
+        }
+    }
+}
+
+impl Text {
+    pub const FULL: usize = 32768;
+
+    pub fn full_size() -> usize
+        ensures { λ r. ⌜ r ≡ limits .text ⌝ }
+    {
+        Self::FULL
+    }
+}

@@ -1,0 +1,62 @@
+// The flag bytes, tested and changed by masks.
+use crate::entries::Dependency;
+use crate::entries::Drone;
+ghost use mathlib.Core.Path.{_≡_};
+ghost use Rattle.tables.specs.Flags.{turnedBit, fixedBit, onlyTwoBits, flipBit, fixedFlag, underWayBit, onlyOneBit, setUnderWay, clearUnderWay};
+
+pub fn is_turned(flags: u8) -> bool
+    ensures { λ r. ⌜ r ≡ turnedBit flags ⌝ }
+{
+    flags & Dependency::TURNED != 0
+}
+
+pub fn is_fixed(flags: u8) -> bool
+    ensures { λ r. ⌜ r ≡ fixedBit flags ⌝ }
+{
+    flags & Dependency::FIXED != 0
+}
+
+// The other six bits of a dependency's flag byte are zero.
+pub fn has_only_two_bits(flags: u8) -> bool
+    ensures { λ r. ⌜ r ≡ onlyTwoBits flags ⌝ }
+{
+    flags & 0xFC == 0
+}
+
+pub fn flipped(flags: u8) -> u8
+    ensures { λ r. ⌜ r ≡ flipBit flags ⌝ }
+{
+    flags ^ Dependency::TURNED
+}
+
+// The flag byte of a new dependency, which is not turned.
+pub fn fixed_flag(fixed: bool) -> u8
+    ensures { λ r. ⌜ r ≡ fixedFlag fixed ⌝ }
+{
+    if fixed { Dependency::FIXED } else { 0 }
+}
+
+pub fn is_under_way(flags: u8) -> bool
+    ensures { λ r. ⌜ r ≡ underWayBit flags ⌝ }
+{
+    flags & Drone::UNDER_WAY != 0
+}
+
+// The other seven bits of a drone's flag byte are zero.
+pub fn has_only_one_bit(flags: u8) -> bool
+    ensures { λ r. ⌜ r ≡ onlyOneBit flags ⌝ }
+{
+    flags & 0xFE == 0
+}
+
+pub fn with_under_way(flags: u8) -> u8
+    ensures { λ r. ⌜ r ≡ setUnderWay flags ⌝ }
+{
+    flags | Drone::UNDER_WAY
+}
+
+pub fn without_under_way(flags: u8) -> u8
+    ensures { λ r. ⌜ r ≡ clearUnderWay flags ⌝ }
+{
+    flags & 0xFE
+}
