@@ -1,7 +1,6 @@
 // Lines of the plan text, read at a position and written: bytes, numbers, names, stops.
 pub mod bytes;
 pub mod keys;
-pub mod limits;
 pub mod names;
 pub mod numbers;
 pub mod refusal;

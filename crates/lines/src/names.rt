@@ -1,8 +1,8 @@
 // The line of a drone's name, and the table of names: a row for each drone, zero after the name.
 use crate::bytes;
 use crate::keys;
-use crate::limits;
 use crate::refusal::Refusal;
+use tables::entries::Drone;
 ghost use mathlib.Core.Path.{_≡_};
 ghost use Prim.Native.Nat.{_≤_};
 ghost use lib.ListN.{length};
@@ -57,7 +57,7 @@ pub fn good_name(name: &[u8]) -> bool
     if name.len() == 0 {
         return false;
     }
-    if limits::NAME < name.len() {
+    if Drone::NAME < name.len() {
         return false;
     }
     name_bytes(name)
@@ -87,7 +87,7 @@ pub fn name_line(text: &[u8], at: usize) -> NameSpan
 }
 
 // Whether one of the first rows of the table is this row, over all its bytes.
-pub fn row_among(names: &[u8], rows: usize, row: &[u8; limits::NAME]) -> bool
+pub fn row_among(names: &[u8], rows: usize, row: &[u8; Drone::NAME]) -> bool
     requires { ⌜ rows ≤ limits .drones ⌝ }
     ensures { λ r. ⌜ r ≡ among limits rows (now (names .entry)) 0 (now (row .entry)) ⌝ }
 {
@@ -97,7 +97,7 @@ pub fn row_among(names: &[u8], rows: usize, row: &[u8; limits::NAME]) -> bool
         if bytes::starts(names, at, row) {
             return true;
         }
-        at += limits::NAME;
+        at += Drone::NAME;
         k += 1;
     }
     false

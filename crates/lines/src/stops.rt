@@ -1,10 +1,10 @@
 // The lines of the plan text that hold numbers.
 use crate::bytes;
 use crate::keys;
-use crate::limits;
 use crate::numbers;
 use crate::numbers::Number;
 use crate::refusal::Refusal;
+use tables::entries::Stop;
 ghost use mathlib.Core.Path.{_≡_};
 ghost use Prim.Native.Nat.{_+_, _<_, _≤_, _^_};
 ghost use lib.ListN.{length, take, drop};
@@ -39,10 +39,10 @@ pub fn go_line(text: &[u8], at: usize) -> GoLine
     let Number::Value { value: time, next } = numbers::field(text, middle, keys::LINE_FEED) else {
         return GoLine::Refused(Refusal::Form(at));
     };
-    if limits::LOCATION < location {
+    if Stop::MAX_LOCATION < location {
         return GoLine::Refused(Refusal::Range(at));
     }
-    if limits::TIME < time {
+    if Stop::MAX_TIME < time {
         return GoLine::Refused(Refusal::Range(at));
     }
     GoLine::At {
