@@ -3,3 +3,4 @@ pub mod Check
 pub mod Dependencies
 pub mod Field
 pub mod Status
+pub mod Claims
