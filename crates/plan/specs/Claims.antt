@@ -1,6 +1,10 @@
--- What is claimed of the plan check, the numbering of the stops and the graph of an accepted plan; the proofs are in proofs/. Assumes nothing.
+-- What is claimed of the numbering of the stops, the plan check and the graph of an accepted plan; the proofs are in proofs/. Assumes nothing.
 use mathlib.Core.Path.{_≡_}
-use Prim.Native.Nat.{ℕ, _+_, _≤_, _<_}
+use mathlib.Core.Logic.{_≢_}
+use mathlib.Core.Bool.{Bool, true, false}
+use Prim.Native.Nat.{ℕ, suc, _+_, _≤_, _<_}
+use Rattle.precedence.specs.Graph.{Formed, cyclic, Cycle}
+use Rattle.plan.specs.Field.{FieldPlan, flip, graph, fixed, AcceptedPlan}
 
 -- ---- the stops of all drones, numbered through
 
@@ -14,3 +18,36 @@ pub record Numbered (own num off last : ℕ → ℕ) (drones n : ℕ) : Type 0 w
   pub place-number : (d s : ℕ) → d < drones → s ≤ last d → num (off d + s) ≡ s
   -- "the stops of drone 0 first": owners never fall
   pub grouped : (v w : ℕ) → v ≤ w → w < n → own v ≤ own w
+
+-- ---- turning
+
+-- "nothing is turned"
+abbrev pub unturned : ℕ → Bool
+unturned w = false
+
+module _ (F : FieldPlan) where
+  open FieldPlan F using (count, dependency)
+
+  -- what a turn of dependency w does to the rules
+  pub record TurnRules (turned : ℕ → Bool) (w : ℕ) : Type 0 where
+    -- "Turning the dependency makes the rule: j may enter s only after i has visited k+1"
+    pub turned-rule : turned w ≡ false → graph F (flip turned w) .wait w ≡ record { waiter = dependency w .first; stop = dependency w .firstStop; awaited = dependency w .second; until = suc (dependency w .secondStop) }
+    -- every other dependency keeps its rule
+    pub other-rules : (v : ℕ) → v ≢ w → graph F (flip turned w) .wait v ≡ graph F turned .wait v
+    -- "Turning twice gives the first rule again"
+    pub turned-twice : graph F (flip (flip turned w) w) ≡ graph F turned
+
+  -- "none of the fixed ones turned"
+  abbrev pub Unfixed : (ℕ → Bool) → Type 0
+  Unfixed turned = (w : ℕ) → w < count → turned w ≡ true → fixed F w ≡ false
+
+  -- the graph of an accepted plan names only stops that are there, whatever is turned but fixed ones; as planned it has no cycle
+  pub record PlannedGraph : Type 0 where
+    pub formed : (turned : ℕ → Bool) → Unfixed turned → Formed (graph F turned)
+    pub no-cycle : Cycle (graph F unturned) → ⊥
+    pub acyclic : cyclic (graph F unturned) ≡ false
+
+-- both hold of every plan that is accepted
+pub record TurnClaims : Type 0 where
+  pub turn-rules : (F : FieldPlan) (turned : ℕ → Bool) (w : ℕ) → TurnRules F turned w
+  pub planned-graph : (F : FieldPlan) → AcceptedPlan F → PlannedGraph F
