@@ -1,1 +1,4 @@
 pub mod Numbering
+pub mod Turns
+pub mod Conditions
+pub mod Accepted
