@@ -1,12 +1,9 @@
 -- Whether a dependency table is right depends on the first n stops and the first m entries alone, so lists that hold them may stand for the functions. Assumes nothing.
-use mathlib.Core.Path.{_≡_, refl, sym, ap, _∙_}
-use mathlib.Core.Bool.{Bool, true, false, not, _&&_}
-use Prim.Native.Nat.{ℕ, suc, _+_, _-_, _<_}
-use native.Mathlib.Omega.{arith}
+use mathlib.Core.Path.{_≡_, refl, ap}
+use mathlib.Core.Bool.{Bool, not, _&&_}
+use Prim.Native.Nat.{ℕ, _+_, _<_}
 use lib.Dec.{ltb, eqb}
-use lib.ListN.{getD}
 use borrow.Author.Tests.{ltb-true}
-use Rattle.below.specs.Below.{allBelow}
 use Rattle.below.proofs.Tests.{by-cases}
 use Rattle.below.proofs.Every.{allBelow-ext}
 use Rattle.plan.specs.Check.{over, collide, apart}

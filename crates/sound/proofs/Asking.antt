@@ -1,12 +1,12 @@
 -- The parts of the sound test in the order in which the code asks them: a law for each return. Assumes nothing.
-use mathlib.Core.Path.{_≡_, refl, sym, ap, _∙_}
+use mathlib.Core.Path.{_≡_, refl, sym, _∙_}
 use mathlib.Core.Logic.{_≢_}
 use mathlib.Core.List.{List}
 use mathlib.Core.Bool.{Bool, true, false, not, cond, _&&_, _||_}
-use Prim.Native.Nat.{ℕ, zero, suc, _+_, _-_, _*_, _/_, _%_, _≤_, _<_}
+use Prim.Native.Nat.{ℕ, zero, suc, _+_, _-_, _*_, _/_, _≤_, _<_}
 use native.Mathlib.Omega.{arith}
 use lib.Dec.{ltb, leb, eqb}
-use borrow.Author.Tests.{ltb-true, ltb-false, leb-true, leb-false, eqb-true, lt-ltb, le-ltb, le-leb, lt-leb, eq-eqb, ne-eqb}
+use borrow.Author.Tests.{ltb-true, ltb-false, leb-true, eqb-true, lt-ltb, le-ltb, le-leb, lt-leb, eq-eqb, ne-eqb}
 use Rattle.below.specs.Below.{allBelow, firstBelow, fillBelow, at, pick}
 use Rattle.below.proofs.Tests.{by-cases, and-left, and-right, same-test}
 use Rattle.below.proofs.Every.{allBelow-all, all-miss}
@@ -15,7 +15,7 @@ use Rattle.tables.specs.Flags.{turnedBit, fixedBit, onlyTwoBits, underWayBit, o
 use Rattle.lines.specs.Names.{isNameByte}
 use Rattle.plan.specs.Stops.{start}
 use Rattle.plan.specs.Check.{faultAt}
-use Rattle.sound.specs.Sound.{zeroFrom, nameByte, nameLength, nameSound, sameName, namesDiffer}
+use Rattle.sound.specs.Sound.{zeroFrom, nameLength, nameSound, sameName, namesDiffer}
 use Rattle.sound.specs.Parts.{countsSound, stopSound, stopIn, flagRight, fixedAt, droneSound, enteredBy, waitKept, keptAt}
 
 -- ---- counts

@@ -1,6 +1,6 @@
 -- Sound, clause by clause: the conjunction taken apart and put together again. Assumes nothing.
 use mathlib.Core.Path.{_≡_, refl}
-use mathlib.Core.Bool.{true, false, not, _&&_}
+use mathlib.Core.Bool.{true, false, not}
 use borrow.Author.Tests.{not-true}
 use Rattle.below.proofs.Tests.{and-left, and-right}
 use Rattle.tables.specs.Limits.{Limits}

@@ -1,14 +1,10 @@
 -- Records of drones and stops are the plan's dependencies just where they name stops and the numbers of those stops are the listed pairs. Assumes nothing.
-use mathlib.Core.Path.{_≡_, refl, sym, ap, _∙_, subst}
-use mathlib.Core.Bool.{Bool, true, false, not, _&&_}
-use Prim.Native.Nat.{ℕ, suc, _+_, _-_, _≤_, _<_}
+use mathlib.Core.Path.{_≡_, sym, ap, _∙_, subst}
+use mathlib.Core.Bool.{Bool}
+use Prim.Native.Nat.{ℕ, _+_, _≤_, _<_}
 use native.Mathlib.Omega.{arith}
-use lib.Dec.{ltb, eqb}
 use lib.ListN.{getD}
-use borrow.Author.Tests.{ltb-true, eqb-true, lt-ltb, eq-eqb}
-use Rattle.below.specs.Below.{allBelow, pairsOf, listed}
-use Rattle.below.proofs.Tests.{and-left, and-right, and-both, same-test}
-use Rattle.below.proofs.Every.{allBelow-at, allBelow-all}
+use Rattle.below.specs.Below.{pairsOf, listed}
 use Rattle.below.proofs.Pairs.{listed-at, rank-find}
 use Rattle.plan.specs.Claims.{Numbered}
 

@@ -1,10 +1,10 @@
 -- Counts, picks and rows of tests that agree below n are the same. Assumes nothing.
 use mathlib.Core.Path.{_≡_, refl}
 use mathlib.Core.Bool.{Bool}
-use mathlib.Core.List.{List, [], _∷_, _++_}
+use mathlib.Core.List.{List}
 use Prim.Native.Nat.{ℕ, zero, suc, _<_}
 use native.Mathlib.Omega.{arith}
-use Rattle.below.specs.Below.{countBelow, sumBelow, picks, rowsBelow, pairsOf, listed}
+use Rattle.below.specs.Below.{countBelow, picks, rowsBelow, pairsOf, listed}
 use Rattle.below.proofs.Sum.{sum-ext}
 
 pub count-ext : (n : ℕ) (f g : ℕ → Bool) → ((i : ℕ) → i < n → f i ≡ g i) → countBelow n f ≡ countBelow n g

@@ -6,16 +6,16 @@ use mathlib.Core.List.{List}
 use mathlib.Core.Bool.{Bool, true, false, not, _&&_, _||_}
 use Prim.Native.Nat.{ℕ, suc, _+_, _-_, _/_, _≤_, _<_}
 use native.Mathlib.Omega.{arith}
-use lib.Dec.{ltb, leb, eqb}
-use lib.ListN.{length, getD}
-use borrow.Author.Tests.{ltb-true, eqb-true, eqb-false, not-true}
+use lib.Dec.{leb, eqb}
+use lib.ListN.{length}
+use borrow.Author.Tests.{eqb-true, eqb-false}
 use Rattle.below.specs.Below.{allBelow, fillBelow, at, pick}
 use Rattle.below.proofs.Tests.{by-cases, true-or-false, and-left, and-right, or-left, or-right}
 use Rattle.below.proofs.Every.{allBelow-at, allBelow-ext}
 use Rattle.below.proofs.Fill.{getD-fill, fill-length}
 use Rattle.tables.specs.Limits.{limits}
 use Rattle.tables.specs.Flags.{turnedBit}
-use Rattle.precedence.specs.Graph.{Plan, Wait, Formed, cyclic}
+use Rattle.precedence.specs.Graph.{Plan, Wait, cyclic}
 use Rattle.plan.specs.Stops.{start, owner, number}
 use Rattle.plan.specs.Check.{faultAt}
 use Rattle.plan.specs.Dependencies.{right}
@@ -24,9 +24,8 @@ use Rattle.plan.specs.Claims.{Numbered}
 use Rattle.plan.proofs.Numbering.{numbered, next-number, stays}
 use Rattle.plan.proofs.Conditions.{Passes, fault-says}
 use Rattle.meetings.specs.Meetings.{Steady}
-use Rattle.meetings.specs.Asked.{Stops, Table}
 use Rattle.meetings.proofs.Right.{Entry, right-entry}
-use Rattle.cycles.specs.Flat.{flatPlan, Shape, PlacedWaits}
+use Rattle.cycles.specs.Flat.{flatPlan, Shape}
 use Rattle.cycles.specs.Waits.{fromOf, intoOf, turnedIn, Unfixed, Given, graphSound}
 use Rattle.cycles.proofs.Certified.{formed}
 use Rattle.cycles.proofs.Directed.{right-placed}
@@ -34,7 +33,7 @@ use Rattle.sound.specs.Parts.{stopSound, stopIn, flagRight, fixedAt, fie
 use Rattle.sound.specs.Asked.{Counted, Columns, Numbers, Scratch, Through}
 use Rattle.sound.proofs.Asking.{stop-drone, stop-number}
 use Rattle.sound.proofs.Agreement.{right-same}
-use Rattle.sound.proofs.SameGraph.{Alike, formed-same, cyclic-same}
+use Rattle.sound.proofs.SameGraph.{cyclic-same}
 
 -- a table that was filled holds the function
 pub filled-at : (n : ℕ) (f : ℕ → ℕ) (l l₀ : List ℕ) → l ≡ fillBelow n f l₀ → n ≤ length l₀ → (v : ℕ) → v < n → at l v ≡ f v

@@ -1,7 +1,6 @@
 -- Two plans with the same drones, last stops and waits have the same edges, so the same cycles. Assumes nothing.
-use mathlib.Core.Path.{_≡_, refl, sym, ap, _∙_, subst}
-use mathlib.Core.Bool.{Bool, true, false}
-use Prim.Native.Nat.{ℕ, suc, _<_}
+use mathlib.Core.Path.{_≡_, sym, subst}
+use Prim.Native.Nat.{ℕ, _<_}
 use native.Mathlib.Omega.{arith}
 use Rattle.below.proofs.Tests.{same-test}
 use Rattle.precedence.specs.Graph.{Plan, Wait, Vertex, vertex, Edge, own, dep, Walk, edge, step, Cycle, FormedWait, Formed, cyclic}

@@ -1,31 +1,60 @@
 -- The parts that the code tests are together the sound test: each clause follows from the parts, and each part from the clauses. Assumes nothing.
 use mathlib.Core.Path.{_≡_, refl, sym, ap, _∙_, subst}
 use mathlib.Core.List.{List}
-use mathlib.Core.Bool.{Bool, true, false, not, _&&_, _||_}
-use Prim.Native.Nat.{ℕ, suc, _+_, _-_, _*_, _/_, _≤_, _<_}
+use mathlib.Core.Bool.{Bool, true, false, not, _&&_}
+use Prim.Native.Nat.{ℕ, _+_, _-_, _*_, _/_, _≤_, _<_}
 use native.Mathlib.Omega.{arith}
 use lib.Dec.{ltb, leb, eqb}
-use lib.ListN.{getD}
-use borrow.Author.Tests.{ltb-true, leb-true, eqb-true, lt-ltb, le-leb, eq-eqb, not-true, not-false}
+use lib.ListN.{length, getD}
+use borrow.Author.Tests.{ltb-true, leb-true, eqb-true, lt-ltb, le-leb, eq-eqb, not-true}
 use Rattle.below.specs.Below.{allBelow, at, pick}
 use Rattle.below.proofs.Tests.{by-cases, and-left, and-right, and-both, same-test}
 use Rattle.below.proofs.Every.{allBelow-at, allBelow-all, allBelow-ext}
-use Rattle.tables.specs.Limits.{Limits}
+use Rattle.tables.specs.Limits.{Limits, limits}
 use Rattle.tables.specs.Tables.{PlanLists, Tables, drones, dependencies}
 use Rattle.tables.specs.Flags.{turnedBit, underWayBit, onlyOneBit}
 use Rattle.precedence.specs.Graph.{cyclic}
-use Rattle.plan.specs.Stops.{start, owner, number}
+use Rattle.plan.specs.Stops.{start, number}
 use Rattle.plan.specs.Check.{faultAt, firstFault, apart}
-use Rattle.plan.specs.Dependencies.{follows, dependencyTotal, column, exact, right}
+use Rattle.plan.specs.Dependencies.{follows, dependencyTotal, exact, right}
 use Rattle.plan.specs.Field.{planOf, graph, fixed}
 use Rattle.plan.specs.Status.{statusIn, fixedUnturned, withinStops, waitsKept}
 use Rattle.plan.specs.Claims.{Numbered}
 use Rattle.plan.proofs.Numbering.{numbered}
 use Rattle.plan.proofs.Conditions.{fault-says, says-fault, firstFault-says, says-firstFault}
-use Rattle.sound.specs.Sound.{zeroFrom, stopTotal, own, num, nameSound, namesDiffer, inRange, namesSound, checked, planAccepted, planned, dependenciesSound, planUnused, flagsSound, droneFlagsSound, progressUnused, sound}
+use Rattle.sound.specs.Sound.{zeroFrom, own, num, nameSound, namesDiffer, inRange, namesSound, checked, planAccepted, planned, dependenciesSound, planUnused, flagsSound, droneFlagsSound, progressUnused, sound}
 use Rattle.sound.specs.Parts.{countsSound, stopSound, stopIn, flagRight, droneSound, enteredBy, waitKept, keptAt, graphPart}
+use Rattle.sound.specs.Asked.{Counted}
+use Rattle.sound.proofs.Asking.{stop-drone}
 use Rattle.sound.proofs.Columns.{NamesPair, columns-name, HoldsColumns, names-columns}
 use Rattle.sound.proofs.Clauses.{Sound, sound-says, says-sound}
+
+-- what the counts' part says
+module _ (L : Limits) (drones : ℕ) (counts : List ℕ) (m : ℕ) where
+  pub record CountsSay : Type 0 where
+    pub some-drone : 1 ≤ drones
+    pub few-drones : drones ≤ L .drones
+    pub few-dependencies : m ≤ L .dependencies
+    pub have-stops : (d : ℕ) → d < drones → 1 ≤ at counts d
+    pub few-stops : start counts drones ≤ L .stops
+
+  pub counts-say : countsSound L drones counts m ≡ true → CountsSay
+  unfolding countsSound
+  counts-say h =
+      let a = and-right (leb 1 drones) _ h in
+      let b = and-right (leb drones (L .drones)) _ a in
+      let c = and-right (leb m (L .dependencies)) _ b in
+      record {
+        some-drone = leb-true 1 drones (and-left _ _ h);
+        few-drones = leb-true drones (L .drones) (and-left _ _ a);
+        few-dependencies = leb-true m (L .dependencies) (and-left _ _ b);
+        have-stops = λ d l. leb-true 1 (at counts d) (allBelow-at drones (λ d. leb 1 (at counts d)) (and-left _ _ c) d l);
+        few-stops = leb-true (start counts drones) (L .stops) (and-right (allBelow drones (λ d. leb 1 (at counts d))) _ c);
+      }
+
+  say-counts : CountsSay → countsSound L drones counts m ≡ true
+  unfolding countsSound
+  say-counts s = rw (le-leb 1 drones (s .some-drone), le-leb drones (L .drones) (s .few-drones), le-leb m (L .dependencies) (s .few-dependencies), allBelow-all drones (λ d. leb 1 (at counts d)) (λ d l. le-leb 1 (at counts d) (s .have-stops d l)), le-leb (start counts drones) (L .stops) (s .few-stops)) refl
 
 module _ (L : Limits) (t : Tables) where
   abbrev p : PlanLists
@@ -74,10 +103,13 @@ module _ (L : Limits) (t : Tables) where
   abbrev pub waits-part : Bool
   waits-part = allBelow M (keptAt (t .visited) (t .droneFlags) (p .firstDrones) (p .firstStops) (p .secondDrones) (p .secondStops) (t .flags))
 
-  abbrev pub plan-unused-part : Bool
-  plan-unused-part = zeroFrom (D * L .name) (L .drones * L .name) (p .names)
-      && ((zeroFrom D (L .drones) counts && (zeroFrom n (L .stops) (p .locations) && zeroFrom n (L .stops) (p .times)))
+  abbrev pub unused-from : ℕ → Bool
+  unused-from v = zeroFrom (D * L .name) (L .drones * L .name) (p .names)
+      && ((zeroFrom D (L .drones) counts && (zeroFrom v (L .stops) (p .locations) && zeroFrom v (L .stops) (p .times)))
       && (zeroFrom M (L .dependencies) (p .firstDrones) && (zeroFrom M (L .dependencies) (p .firstStops) && (zeroFrom M (L .dependencies) (p .secondDrones) && zeroFrom M (L .dependencies) (p .secondStops)))))
+
+  abbrev pub plan-unused-part : Bool
+  plan-unused-part = unused-from n
 
   abbrev pub progress-unused-part : Bool
   progress-unused-part = zeroFrom D (L .drones) (t .visited) && (zeroFrom D (L .drones) (t .droneFlags) && zeroFrom M (L .dependencies) (t .flags))
@@ -90,32 +122,6 @@ module _ (L : Limits) (t : Tables) where
     pub waits-sound : waits-part ≡ true
     pub plan-zero : plan-unused-part ≡ true
     pub progress-zero : progress-unused-part ≡ true
-
-  -- ---- what a part says
-  pub record CountsSay : Type 0 where
-    pub some-drone : 1 ≤ D
-    pub few-drones : D ≤ L .drones
-    pub few-dependencies : M ≤ L .dependencies
-    pub have-stops : (d : ℕ) → d < D → 1 ≤ at counts d
-    pub few-stops : n ≤ L .stops
-
-  pub counts-say : countsSound L D counts M ≡ true → CountsSay
-  unfolding countsSound
-  counts-say h =
-      let a = and-right (leb 1 D) _ h in
-      let b = and-right (leb D (L .drones)) _ a in
-      let c = and-right (leb M (L .dependencies)) _ b in
-      record {
-        some-drone = leb-true 1 D (and-left _ _ h);
-        few-drones = leb-true D (L .drones) (and-left _ _ a);
-        few-dependencies = leb-true M (L .dependencies) (and-left _ _ b);
-        have-stops = λ d l. leb-true 1 (at counts d) (allBelow-at D (λ d. leb 1 (at counts d)) (and-left _ _ c) d l);
-        few-stops = leb-true n (L .stops) (and-right (allBelow D (λ d. leb 1 (at counts d))) _ c);
-      }
-
-  say-counts : CountsSay → countsSound L D counts M ≡ true
-  unfolding countsSound
-  say-counts s = rw (le-leb 1 D (s .some-drone), le-leb D (L .drones) (s .few-drones), le-leb M (L .dependencies) (s .few-dependencies), allBelow-all D (λ d. leb 1 (at counts d)) (λ d l. le-leb 1 (at counts d) (s .have-stops d l)), le-leb n (L .stops) (s .few-stops)) refl
 
   -- the plan, its dependencies and its graph, fact by fact: between the clauses and the parts
   pub record GraphSay : Type 0 where
@@ -233,7 +239,7 @@ module _ (L : Limits) (t : Tables) where
     room : dependencyTotal (own L p) loc time n ≤ L .dependencies
     room = leb-true _ _ (and-right (checked L p) _ (and-right (namesSound L p) _ rest))
 
-    sound-counts : CountsSay
+    sound-counts : CountsSay L D counts M
     unfolding inRange
     sound-counts =
         let a = and-left (leb 1 D && leb D (L .drones)) _ ranges in
@@ -284,7 +290,7 @@ module _ (L : Limits) (t : Tables) where
 
     sound-parts : Parts
     sound-parts = record {
-      counts-part = say-counts sound-counts;
+      counts-part = say-counts L D counts M sound-counts;
       names-sound = names-same ∙ and-left _ _ rest;
       graph-sound = say-graph sound-graph;
       drones-sound = drones-same (S .drone-flags) (S .within);
@@ -295,8 +301,8 @@ module _ (L : Limits) (t : Tables) where
 
   -- ---- from the parts to the clauses
   module _ (P : Parts) where
-    C : CountsSay
-    C = counts-say (P .counts-part)
+    C : CountsSay L D counts M
+    C = counts-say L D counts M (P .counts-part)
 
     G : GraphSay
     G = graph-say (P .graph-sound)
@@ -358,3 +364,59 @@ module _ (L : Limits) (t : Tables) where
 
   pub test-sound : soundTest ≡ sound L t
   test-sound = same-test _ _ (λ h. says-sound L t (parts-sound (test-says h))) (λ h. says-test (sound-parts (sound-says L t h)))
+
+  -- ---- as the code asks
+  module _ (a : Bool) (ea : a ≡ countsSound L D counts M) where
+    pub counts-wrong : a ≡ false → false ≡ sound L t
+    counts-wrong h = rw (sym ea ∙ h) at test-sound
+
+    module _ (ta : a ≡ true) (b : Bool) (eb : b ≡ names-part) where
+      pub names-wrong : b ≡ false → false ≡ sound L t
+      names-wrong h = rw (sym ea ∙ ta, sym eb ∙ h) at test-sound
+
+      -- n stops in all
+      module _ (tb : b ≡ true) (v : ℕ) (en : v ≡ n) (c : Bool) (ec : c ≡ graphPart D v M counts (p .locations) (p .times) (p .firstDrones) (p .firstStops) (p .secondDrones) (p .secondStops) L (t .flags)) where
+        graph-is : c ≡ graph-part
+        graph-is = subst (λ (z : ℕ). c ≡ graphPart D z M counts (p .locations) (p .times) (p .firstDrones) (p .firstStops) (p .secondDrones) (p .secondStops) L (t .flags)) en ec
+
+        pub graph-wrong : c ≡ false → false ≡ sound L t
+        graph-wrong h = rw (sym ea ∙ ta, sym eb ∙ tb, sym graph-is ∙ h) at test-sound
+
+        module _ (tc : c ≡ true) (d : Bool) (ed : d ≡ drones-part) where
+          pub drones-wrong : d ≡ false → false ≡ sound L t
+          drones-wrong h = rw (sym ea ∙ ta, sym eb ∙ tb, sym graph-is ∙ tc, sym ed ∙ h) at test-sound
+
+          module _ (td : d ≡ true) (e : Bool) (ee : e ≡ waits-part) where
+            pub waits-wrong : e ≡ false → false ≡ sound L t
+            waits-wrong h = rw (sym ea ∙ ta, sym eb ∙ tb, sym graph-is ∙ tc, sym ed ∙ td, sym ee ∙ h) at test-sound
+
+            module _ (te : e ≡ true) (f : Bool) (ef : f ≡ unused-from v) where
+              unused-is : f ≡ plan-unused-part
+              unused-is = ef ∙ ap unused-from en
+
+              pub unused-wrong : f ≡ false → false ≡ sound L t
+              unused-wrong h = rw (sym ea ∙ ta, sym eb ∙ tb, sym graph-is ∙ tc, sym ed ∙ td, sym ee ∙ te, sym unused-is ∙ h) at test-sound
+
+              pub progress-last : (g : Bool) → f ≡ true → g ≡ progress-unused-part → g ≡ sound L t
+              progress-last g tf eg = eg ∙ (rw (sym ea ∙ ta, sym eb ∙ tb, sym graph-is ∙ tc, sym ed ∙ td, sym ee ∙ te, sym unused-is ∙ tf) at test-sound)
+
+-- ---- what the code asks after the counts and the graph have passed
+
+pub counted : (drones n m : ℕ) (counts : List ℕ) → limits .drones ≤ length counts → countsSound limits drones counts m ≡ true → n ≡ start counts drones → Counted drones n m counts
+counted drones n m counts r h e =
+    let s : CountsSay limits drones counts m = counts-say limits drones counts m h in
+    record { has-counts = r; some-drone = s .some-drone; few-drones = s .few-drones; few-dependencies = s .few-dependencies; have-stops = s .have-stops; total = e; few-stops = omega (arith, e, s .few-stops) }
+
+module _ (drones n m : ℕ) (counts locations times firstDrones firstStops secondDrones secondStops : List ℕ) (L : Limits) (flags : List ℕ) (few : drones ≤ L .drones) (h : graphPart drones n m counts locations times firstDrones firstStops secondDrones secondStops L flags ≡ true) where
+  pub firsts-limited : (k : ℕ) → k < m → at firstDrones k < L .drones
+  unfolding graphPart
+  firsts-limited k l =
+      let a = and-right (allBelow n (stopSound L (number drones counts) (at locations) (at times))) _ h in
+      omega (arith, stop-drone drones counts (at firstDrones) (at firstStops) k (allBelow-at m (stopIn drones counts (at firstDrones) (at firstStops)) (and-left _ _ a) k l))
+
+  pub seconds-limited : (k : ℕ) → k < m → at secondDrones k < L .drones
+  unfolding graphPart
+  seconds-limited k l =
+      let a = and-right (allBelow n (stopSound L (number drones counts) (at locations) (at times))) _ h in
+      let b = and-right (allBelow m (stopIn drones counts (at firstDrones) (at firstStops))) _ a in
+      omega (arith, stop-drone drones counts (at secondDrones) (at secondStops) k (allBelow-at m (stopIn drones counts (at secondDrones) (at secondStops)) (and-left _ _ b) k l))
