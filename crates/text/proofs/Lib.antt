@@ -6,3 +6,4 @@ pub mod TextCases
 pub mod TakenIsWritten
 pub mod WrittenIsRead
 pub mod RoundTrips
+pub mod Flights
