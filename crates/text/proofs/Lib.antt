@@ -1,4 +1,5 @@
 pub mod DroneCases
+pub mod DroneTaken
 pub mod Rows
 pub mod DroneLoop
 pub mod Fits
