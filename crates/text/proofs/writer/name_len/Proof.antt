@@ -31,7 +31,7 @@ shared-slice-read-if1 c = omega arith
 
 -- src/writer.rt:28:13
 returns : tie.Need-returns Inv-loop μ-loop
-returns c = sym (c .before .before .before .loop .inv .1 ∙ len-here limits _ _ _ (c .before .before .loop-test .taken) (c .before .before .before .before .pre) (c .if1 .taken))
+returns c = sym (c .before .before .before .loop .inv .1 ∙ len-here limits _ _ _ (omega arith) (c .before .before .before .before .pre) (c .if1 .taken))
 
 -- src/writer.rt:30:9
 add-i : tie.Need-add-i Inv-loop μ-loop
@@ -43,7 +43,7 @@ loop-less c = omega arith
 
 -- src/writer.rt:26:5
 loop-again : tie.Need-loop-again Inv-loop μ-loop
-loop-again c = (omega arith, c .before .before .before .loop .inv .1 ∙ len-on limits _ _ _ (c .before .before .loop-test .taken) (c .before .before .before .before .pre) (c .if1 .left))
+loop-again c = (omega arith, c .before .before .before .loop .inv .1 ∙ len-on limits _ _ _ (omega arith) (c .before .before .before .before .pre) (c .if1 .left))
 
 -- src/writer.rt:21:1
 returns-2 : tie.Need-returns-2 Inv-loop μ-loop
