@@ -2,7 +2,6 @@ use native.Mathlib.Omega.{arith}
 use denote.Ref.{now}
 use Rattle.tables.specs.Limits.{limits}
 use Rattle.lines.specs.Keys.{agentsKey}
-use Rattle.lines.proofs.WriteLaws.{put-put}
 use Rattle.text.proofs.WriteLoop.{count-near, lines-near}
 use Rattle.text.proofs.WriteWhole.{text-put}
 use borrow.Author.Needs.{needs}
@@ -59,7 +58,7 @@ returns : tie.Need-returns
 returns c =
     let a = c .before .before .before .before .before .before .before .before .before .before .before .before .before .before .before .before .before .before .before .before .before .before .before .before .args in
     text-put limits (a .drones) (now (a .names)) (now (a .counts)) (now (a .locations)) (now (a .times))
-    (put-put (put-put (put-put (c .before .before .before .before .before .before .before .before .before .before .before .before .before .before .before .before .put-bytes .ensures) (c .before .before .before .before .before .before .before .before .before .before .before .put-count .ensures)) (c .before .before .before .before .before .before .before .put-drones .ensures)) (c .before .before .put-bytes2 .ensures))
+    (c .before .before .before .before .before .before .before .before .before .before .before .before .before .before .before .before .put-bytes .ensures) (c .before .before .before .before .before .before .before .before .before .before .before .put-count .ensures) (c .before .before .before .before .before .before .before .put-drones .ensures) (c .before .before .put-bytes2 .ensures)
 
 pub put-text-spec : {M : Type 1} → statement M
 put-text-spec =
