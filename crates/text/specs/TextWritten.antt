@@ -1,5 +1,5 @@
 -- Writing the plan that the tables hold: its text, the answer, and the buffer afterwards (document 01, "Where each refusal is checked"). Assumes nothing.
-use Prim.Native.Nat.{ℕ, zero, suc, _*_}
+use Prim.Native.Nat.{ℕ, zero, suc, _*_, _≤_}
 use mathlib.Core.Path.{_≡_}
 use mathlib.Core.List.{List, [], _∷_, _++_}
 use mathlib.Core.Bool.{Bool, cond}
@@ -33,6 +33,15 @@ unfoldable pub tablesText : Limits → ℕ → List ℕ → List ℕ → List �
 tablesText L n names counts locations times =
     let total = sumBelow n (entry counts) in
     planText n (rowsIn L n names) (take n counts) (take total locations) (take total times)
+
+-- what the writer asks of the tables: full sizes, and drones and stops within the limits
+pub record Writable (L : Limits) (n : ℕ) (names counts locations times : List ℕ) : Type 0 where
+  pub drones-in : n ≤ L .drones
+  pub stops-in : sumBelow n (entry counts) ≤ L .stops
+  pub names-full : L .drones * L .name ≤ length names
+  pub counts-full : L .drones ≤ length counts
+  pub locations-full : L .stops ≤ length locations
+  pub times-full : L .stops ≤ length times
 
 -- ---- the answer
 

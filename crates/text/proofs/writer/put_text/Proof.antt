@@ -34,7 +34,7 @@ put-drones-requires : tie.Need-put-drones-requires
 put-drones-requires c κs =
     let p = c .before .before .before .before .before .before .before .before .before .before .before .before .before .before .before .before .pre in
     let h = count-near agentsKey (c .before .before .before .before .before .before .before .before .before .before .before .before .before .before .before .before .args .drones) (c .before .before .before .put-count .ensures) in
-    (omega (arith, c .before .before .before .before .before .before .before .before .put-bytes .ensures .next-is, h), p .0, p .1, p .2, p .3, p .4, p .5)
+    (omega (arith, c .before .before .before .before .before .before .before .before .put-bytes .ensures .next-is, h), p)
 
 -- src/writer.rt:151:33
 slice-aggregate-put-bytes-2 : tie.Need-slice-aggregate-put-bytes-2
@@ -47,7 +47,7 @@ put-bytes-requires-2 c κs =
     let a = c .before .before .before .before .before .before .before .before .before .before .before .before .before .before .before .before .before .before .before .before .before .args in
     let h = count-near agentsKey (a .drones) (c .before .before .before .before .before .before .before .before .put-count .ensures) in
     let l = lines-near limits (a .drones) (now (a .names)) (now (a .counts)) (now (a .locations)) (now (a .times)) (c .before .before .before .before .put-drones .ensures) in
-    omega (arith, c .before .before .before .before .before .before .before .before .before .before .before .before .before .put-bytes .ensures .next-is, h, l, p .0, p .3)
+    omega (arith, c .before .before .before .before .before .before .before .before .before .before .before .before .before .put-bytes .ensures .next-is, h, l, p .drones-in, p .stops-in)
 
 -- src/writer.rt:133:1
 same-length : tie.Need-same-length
