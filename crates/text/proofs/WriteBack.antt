@@ -4,7 +4,7 @@ use native.Mathlib.Nat.{zero-add}
 use native.Mathlib.Omega.{arith}
 use mathlib.Core.Path.{_≡_, refl, sym, _∙_, ap}
 use mathlib.Core.List.{List, [], _∷_, _++_, append-assoc}
-use lib.ListN.{length, take, drop, replicate, length-append, length-replicate}
+use lib.ListN.{length, drop, replicate, length-append, length-replicate}
 use lib.Seq.{sets-eq, take-at, drop-at}
 use borrow.Author.Tests.{le-ltb}
 use Rattle.below.specs.Below.{sumBelow, at as entry}
@@ -15,7 +15,7 @@ use Rattle.lines.specs.Names.{rowOf}
 use Rattle.text.specs.declared.reader.Answer.{Answer}
 use Rattle.text.specs.declared.reader.Answer.the-variants.{Taken as Plan}
 use Rattle.text.specs.Reading.{Found, linesAt, flat}
-use Rattle.text.specs.TextRead.{answerOf, tableAfter}
+use Rattle.text.specs.TextRead.{tableAfter}
 use Rattle.text.specs.Written.{Route, routesText, rowsOf, countsOf, locationsOf, timesOf, foundOf, ValidFrom, Valid}
 use Rattle.text.specs.TextWritten.{rowsIn, tablesText, WrittenBack}
 use Rattle.text.proofs.DroneTaken.{range-long}

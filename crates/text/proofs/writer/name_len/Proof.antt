@@ -1,15 +1,13 @@
 use Prim.Native.Nat.{_+_, _-_, _≤_}
 use native.Mathlib.Nat.{zero-add, add-zero}
 use native.Mathlib.Omega.{arith}
-use mathlib.Core.Path.{_≡_, refl, sym, _∙_}
+use mathlib.Core.Path.{_≡_, sym, _∙_}
 use lib.ListN.{length, take, drop}
 use Rattle.tables.specs.Limits.{limits}
 use Rattle.lines.specs.Names.{nameOf}
 use Rattle.text.proofs.NameInRow.{bytesLeft, len-here, len-on, len-end}
 use Rattle.text.proofs.writer.name_len.Statement.{statement}
 use Rattle.text.proofs.writer.name_len.Tie as tie
-use Rattle.text.proofs.writer.name_len.Reads as reads
-use Rattle.text.proofs.writer.name_len.Lts as lts
 
 abbrev Inv-loop : tie.InvT-loop
 Inv-loop names row i₀ i = (i ≤ limits .name) × (length (nameOf (take (limits .name) (drop row names))) ≡ i + length (nameOf (bytesLeft limits names row i)))

@@ -4,9 +4,6 @@ use Rattle.tables.specs.Limits.{limits}
 use Rattle.text.proofs.WriteLoop.{Writing, writing-start, writing-near, writing-stops, writing-more, writing-done}
 use Rattle.text.proofs.writer.put_drones.Statement.{statement}
 use Rattle.text.proofs.writer.put_drones.Tie as tie
-use Rattle.text.proofs.writer.put_drones.Reads as reads
-use Rattle.text.proofs.writer.put_drones.Lts as lts
-use Rattle.text.proofs.writer.put_drone.Reads as put-drone-reads
 
 abbrev Inv-loop : tie.InvT-loop
 Inv-loop buf₀ at drones names counts locations times drone₀ from₀ next₀ buf drone from next = Writing limits drones names counts locations times buf₀ at buf drone from next
@@ -41,8 +38,7 @@ put-drone-requires c κs =
     let t = c .before .before .loop-test .taken in
     let at-in = c .before .before .before .before .before .before .before .before .before .pre .0 in
     let p = c .before .before .before .before .before .before .before .before .before .pre .1 in
-    let s = writing-stops w t in
-    (
+    let s = writing-stops w t in (
       omega (arith, at-in, writing-near w, p .drones-in, p .stops-in),
       omega (arith, t, p .drones-in, p .names-full),
       omega (arith, s, p .stops-in),

@@ -7,11 +7,6 @@ use Rattle.text.proofs.WriteWhole.{text-put}
 use borrow.Author.Needs.{needs}
 use Rattle.text.proofs.writer.put_text.Statement.{statement}
 use Rattle.text.proofs.writer.put_text.Tie as tie
-use Rattle.text.proofs.writer.put_text.Reads as reads
-use Rattle.text.proofs.writer.put_text.Lts as lts
-use Rattle.lines.proofs.bytes.put_bytes.Reads as put-bytes-reads
-use Rattle.text.proofs.writer.put_count.Reads as put-count-reads
-use Rattle.text.proofs.writer.put_drones.Reads as put-drones-reads
 
 -- src/writer.rt:148:43
 slice-aggregate-put-bytes : tie.Need-slice-aggregate-put-bytes
