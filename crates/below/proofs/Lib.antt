@@ -1,0 +1,11 @@
+pub mod Tests
+pub mod Search
+pub mod Every
+pub mod Count
+pub mod Sum
+pub mod Greatest
+pub mod Index
+pub mod Fill
+pub mod Picks
+pub mod Pairs
+pub mod Triangle

@@ -1,0 +1,102 @@
+-- The accepted plan: drones, stops, times and dependencies, and the graph with some dependencies turned (document 01, "The plan check" and
+-- "The graph"). Drones, stops and dependencies are numbered from 0. Assumes nothing.
+use mathlib.Core.Path.{_≡_}
+use mathlib.Core.Logic.{_≢_, _⊎_}
+use mathlib.Core.Bool.{Bool, true, false, not, cond, _&&_, _||_}
+use Prim.Native.Nat.{ℕ, suc, _+_, _-_, _≤_, _<_}
+use lib.Dec.{ltb, eqb}
+use Rattle.below.specs.Below.{at}
+use Rattle.tables.specs.Tables.{PlanLists, drones as droneCountOf, dependencies as dependencyCountOf}
+use Rattle.plan.specs.Stops.{start}
+use Rattle.precedence.specs.Graph.{Wait, departure, Plan}
+
+-- "drone j is there first at its stop s and drone i later at its stop k": first = j, firstStop = s, second = i, secondStop = k
+pub record Dependency : Type 0 where
+  pub first : ℕ
+  pub firstStop : ℕ
+  pub second : ℕ
+  pub secondStop : ℕ
+
+-- drones 0 to drones - 1; drone d with the stops 0 to last d, each with a location and a time; dependencies 0 to count - 1, as planned
+pub record FieldPlan : Type 0 where
+  pub drones : ℕ
+  pub last : ℕ → ℕ
+  pub location : ℕ → ℕ → ℕ
+  pub time : ℕ → ℕ → ℕ
+  pub count : ℕ
+  pub dependency : ℕ → Dependency
+
+-- "first and second mean the order now in force": a turned dependency has first and second exchanged
+abbrev pub inForce : Bool → Dependency → Dependency
+inForce false e = e
+inForce true e = record { first = e .second; firstStop = e .secondStop; second = e .first; secondStop = e .firstStop }
+
+-- "i may enter stop k only after j has visited stop s+1"
+abbrev pub waitOf : Dependency → Wait
+waitOf e = departure (e .first) (e .firstStop) (e .second) (e .secondStop)
+
+-- "Turn: flips bit 0 of one dependency": what is turned after a turn of dependency w
+abbrev pub flip : (ℕ → Bool) → ℕ → ℕ → Bool
+flip turned w v = cond (eqb v w) (not (turned v)) (turned v)
+
+-- "in rising order of planned first drone, its stop, planned second drone, its stop"
+abbrev pub before : Dependency → Dependency → Bool
+before x y = ltb (x .first) (y .first) || eqb (x .first) (y .first) && (ltb (x .firstStop) (y .firstStop) || eqb (x .firstStop) (y .firstStop) && (ltb (x .second) (y .second) || eqb (x .second) (y .second) && ltb (x .secondStop) (y .secondStop)))
+
+module _ (F : FieldPlan) where
+  open FieldPlan F using (drones, last, location, time, count, dependency)
+
+  -- the graph now in force: drones with their stops, and one wait for each dependency
+  abbrev pub graph : (ℕ → Bool) → Plan
+  graph turned = record { drones = drones; last = last; count = count; wait = λ w. waitOf (inForce (turned w) (dependency w)) }
+
+  -- "Fixed means that the planned first stop is stop 0 or the planned second stop is the last of its drone"
+  abbrev pub fixed : ℕ → Bool
+  fixed w = eqb (dependency w .firstStop) 0 || eqb (dependency w .secondStop) (last (dependency w .second))
+
+  -- ---- what "accepted plan" means
+
+  -- the span of drone d at its stop s ends before that of drone e at its stop k begins: d goes on from s, and is at its next stop before e comes.
+  -- ("A drone occupies a stop's location from its time to the time of its next stop, both included. It occupies its last location for ever.")
+  pub record GoneBefore (d s e k : ℕ) : Type 0 where
+    pub goes-on : s < last d
+    pub in-time : time d (suc s) < time e k
+
+  -- the plan check
+  pub record Checked : Type 0 where
+    -- "Stop 0 has time 0"
+    pub starts : (d : ℕ) → d < drones → time d 0 ≡ 0
+    -- "a drone's times strictly rise"
+    pub rises : (d s : ℕ) → d < drones → s < last d → time d s < time d (suc s)
+    -- "Neighbouring stops of a drone have different locations"
+    pub moves : (d s : ℕ) → d < drones → s < last d → location d s ≢ location d (suc s)
+    -- no two spans at one location, of different drones, share a timestep: one ends before the other begins
+    pub no-collision : (d s e k : ℕ) → d < drones → s ≤ last d → e < drones → k ≤ last e → d ≢ e → location d s ≡ location e k → GoneBefore d s e k ⊎ GoneBefore e k d s
+
+  -- "Two visits of one location by different drones make exactly one dependency", first is the one that is there first
+  pub record Meeting (x : Dependency) : Type 0 where
+    pub first-in : x .first < drones
+    pub first-stop-in : x .firstStop ≤ last (x .first)
+    pub second-in : x .second < drones
+    pub second-stop-in : x .secondStop ≤ last (x .second)
+    pub different : x .first ≢ x .second
+    pub one-location : location (x .first) (x .firstStop) ≡ location (x .second) (x .secondStop)
+    pub there-first : time (x .first) (x .firstStop) ≤ time (x .second) (x .secondStop)
+
+  -- the plan is accepted, and the dependencies are exactly its own, in order
+  pub record AcceptedPlan : Type 0 where
+    pub checked : Checked
+    pub each : (w : ℕ) → w < count → Meeting (dependency w)
+    pub every : (x : Dependency) → Meeting x → (w : ℕ) × (w < count) × (dependency w ≡ x)
+    pub ordered : (v w : ℕ) → v < w → w < count → before (dependency v) (dependency w) ≡ true
+
+-- the plan that the lent lists hold
+abbrev pub planOf : PlanLists → FieldPlan
+planOf l = record {
+  drones = droneCountOf l;
+  last = λ d. at (l .stopCounts) d - 1;
+  location = λ d s. at (l .locations) (start (l .stopCounts) d + s);
+  time = λ d s. at (l .times) (start (l .stopCounts) d + s);
+  count = dependencyCountOf l;
+  dependency = λ w. record { first = at (l .firstDrones) w; firstStop = at (l .firstStops) w; second = at (l .secondDrones) w; secondStop = at (l .secondStops) w };
+}

@@ -1,0 +1,49 @@
+-- Where the drones are and what is turned: the state that calls change (document 01, "Tables and what is sound"). Assumes nothing.
+use mathlib.Core.Bool.{Bool, not, _&&_, _||_}
+use Prim.Native.Nat.{ℕ, suc}
+use lib.Dec.{leb, ltb, eqb}
+use Rattle.below.specs.Below.{firstBelow, allBelow, at}
+use Rattle.tables.specs.Tables.{Tables}
+use Rattle.tables.specs.Flags.{turnedBit, underWayBit}
+use Rattle.precedence.specs.Graph.{Plan, blocks}
+use Rattle.plan.specs.Field.{Dependency, FieldPlan, inForce, graph, fixed}
+
+-- each drone's place (its last visited stop) and whether it is under way, and which dependencies are turned
+pub record Status : Type 0 where
+  pub place : ℕ → ℕ
+  pub underWay : ℕ → Bool
+  pub turned : ℕ → Bool
+
+-- "A drone's progress is its last visited stop (0 at first) and whether it is under way to the next"; "bit 0 is turned"
+abbrev pub statusIn : Tables → Status
+statusIn t = record { place = at (t .visited); underWay = λ d. underWayBit (at (t .droneFlags) d); turned = λ w. turnedBit (at (t .flags) w) }
+
+module _ (F : FieldPlan) (s : Status) where
+  open FieldPlan F using (drones, last, location, count, dependency)
+  open Status s using (place, underWay, turned)
+
+  -- "has visited or is under way to its stop"
+  abbrev pub entered : ℕ → ℕ → Bool
+  entered d k = leb k (place d) || underWay d && eqb k (suc (place d))
+
+  -- "the lowest dependency unmet" into the drone's next stop; the number of dependencies if there is none
+  abbrev pub unmet : ℕ → ℕ
+  unmet d = firstBelow count (blocks (graph F turned) place d)
+
+  -- the dependency as the order now in force has it
+  abbrev pub now : ℕ → Dependency
+  now w = inForce (turned w) (dependency w)
+
+  -- ---- the clauses of "sound" that speak of progress and turns
+
+  -- "none of the fixed ones turned"
+  unfoldable pub fixedUnturned : Bool
+  fixedUnturned = allBelow count (λ w. not (turned w && fixed F w))
+
+  -- "nobody is past or under way beyond a last stop"
+  unfoldable pub withinStops : Bool
+  withinStops = allBelow drones (λ d. leb (place d) (last d) && not (underWay d && leb (last d) (place d)))
+
+  -- "for every dependency whose waiting stop is visited or under way, the stop it waits for is visited"
+  unfoldable pub waitsKept : Bool
+  waitsKept = allBelow count (λ w. not (entered (graph F turned .wait w .waiter) (graph F turned .wait w .stop)) || leb (graph F turned .wait w .until) (place (graph F turned .wait w .awaited)))

@@ -1,0 +1,227 @@
+-- The plan graph, its rounds, cycles and chains: every definition of this crate on one page (document 01, "The graph" and "The calls"; source document 004,
+-- Definitions 1 and 2). A plan is given by functions on numbers, so that it can be read from lists, from lent tables or from a plan with some dependencies
+-- turned; no limit is built in. The laws are in proofs/, the theorems in `Theorems`. Assumes nothing.
+use mathlib.Core.Path.{_≡_}
+use mathlib.Core.Logic.{_⊎_}
+use mathlib.Core.Bool.{Bool, not, _&&_, _||_}
+use mathlib.Core.List.{List}
+use Prim.Native.Nat.{ℕ, zero, suc, _+_, _-_, _≤_, _<_, max}
+use lib.Dec.{ltb, leb, eqb}
+use lib.ListN.{length}
+use Rattle.below.specs.Below.{pick, firstBelow, allBelow, anyBelow, countBelow, sumBelow, maxBelow, listBelow, at}
+
+-- a wait: drone `waiter` may enter its stop `stop` only after drone `awaited` has visited its stop `until`. A wait until stop 0 counts for nothing
+pub record Wait : Type 0 where
+  pub waiter : ℕ
+  pub stop : ℕ
+  pub awaited : ℕ
+  pub until : ℕ
+
+-- "If drone j is there first at its stop s and drone i later at its stop k, then i may enter stop k only after j has visited stop s+1"
+abbrev pub departure : (j s i k : ℕ) → Wait
+departure j s i k = record { waiter = i; stop = k; awaited = j; until = suc s }
+
+-- "Drones, stops and dependencies are numbered from 0": drones 0 to drones - 1, drone d with the stops 0 to last d; waits 0 to count - 1
+pub record Plan : Type 0 where
+  pub drones : ℕ
+  pub last : ℕ → ℕ
+  pub count : ℕ
+  pub wait : ℕ → Wait
+
+-- a vertex of the graph: the stop `stop` of the drone `drone` (004, Definition 2)
+pub record Vertex : Type 0 where
+  pub drone : ℕ
+  pub stop : ℕ
+
+abbrev pub vertex : ℕ → ℕ → Vertex
+vertex d s = record { drone = d; stop = s }
+
+-- "its last visited stop (0 at first)"
+abbrev pub atStart : ℕ → ℕ
+atStart d = 0
+
+module _ (P : Plan) where
+  open Plan P using (drones, last, count, wait)
+
+  -- ---- the waits of a plan
+
+  -- both stops are there, and nobody waits to enter a stop 0
+  pub record FormedWait (w : Wait) : Type 0 where
+    pub waiter-in : w .waiter < drones
+    pub stop-pos : 0 < w .stop
+    pub stop-in : w .stop ≤ last (w .waiter)
+    pub awaited-in : w .awaited < drones
+    pub until-in : w .until ≤ last (w .awaited)
+
+  abbrev pub Formed : Type 0
+  Formed = (w : ℕ) → w < count → FormedWait (wait w)
+
+  -- ---- rounds. "A drone's progress is its last visited stop": p : ℕ → ℕ
+
+  -- wait w is into the next stop of drone d, and the awaited stop is not visited
+  unfoldable pub blocks : (ℕ → ℕ) → ℕ → ℕ → Bool
+  blocks p d w = eqb (wait w .waiter) d && eqb (wait w .stop) (suc (p d)) && ltb (p (wait w .awaited)) (wait w .until)
+
+  -- an "unfinished drone whose next stop has all awaited stops visited"
+  unfoldable pub free : (ℕ → ℕ) → ℕ → Bool
+  free p d = ltb (p d) (last d) && allBelow count (λ w. not (blocks p d w))
+
+  -- "A round: each unfinished drone whose next stop has all awaited stops visited at the round's start visits that stop"
+  unfoldable pub round : (ℕ → ℕ) → ℕ → ℕ
+  round p d = pick (free p d) (suc (p d)) (p d)
+
+  -- "rounds are played": k rounds
+  unfoldable pub play : (ℕ → ℕ) → ℕ → ℕ → ℕ
+  play p zero = p
+  play p (suc k) = round (play p k)
+
+  -- "every drone stands at its last stop"
+  unfoldable pub finished : (ℕ → ℕ) → Bool
+  finished p = allBelow drones (λ d. leb (last d) (p d))
+
+  -- the number of unvisited stops
+  unfoldable pub unvisited : (ℕ → ℕ) → ℕ
+  unvisited p = sumBelow drones (λ d. last d - p d)
+
+  -- the round in which the stop s of drone d is visited, 0 if it is visited at first
+  unfoldable pub reached : (ℕ → ℕ) → ℕ → ℕ → ℕ
+  reached p d s = firstBelow (unvisited p) (λ k. leb s (play p k d))
+
+  -- "A drone's remaining rounds are those until it finishes, 0 if finished"
+  unfoldable pub remaining : (ℕ → ℕ) → ℕ → ℕ
+  remaining p d = reached p d (last d)
+
+  -- "Remaining cost is their sum"
+  unfoldable pub cost : (ℕ → ℕ) → ℕ
+  cost p = sumBelow drones (remaining p)
+
+  -- wait w is one into the stop s of drone d
+  unfoldable pub into : ℕ → ℕ → ℕ → Bool
+  into d s w = eqb (wait w .waiter) d && eqb (wait w .stop) s
+
+  -- the greatest entry of a table t of rounds among what the stop s of drone d awaits, its own stop before it included
+  unfoldable pub latest : (ℕ → ℕ → ℕ) → ℕ → ℕ → ℕ
+  latest t d s = max (t d (s - 1)) (maxBelow count (λ w. pick (into d s w) (t (wait w .awaited) (wait w .until)) 0))
+
+  -- the computed test of a cycle: the rounds from the first stops do not finish everybody
+  unfoldable pub cyclic : Bool
+  cyclic = not (finished (play atStart (unvisited atStart)))
+
+  -- ---- the graph
+
+  -- "Stops of one drone follow each other"; an awaited stop comes before the one that waits for it (004, Definition 2: edges of type 1 and 2)
+  pub data Edge : Vertex → Vertex → Type 0 where
+    own : (d s : ℕ) → d < drones → s < last d → Edge (vertex d s) (vertex d (suc s))
+    dep : (w : ℕ) → w < count → Edge (vertex (wait w .awaited) (wait w .until)) (vertex (wait w .waiter) (wait w .stop))
+
+  -- one edge or more, each from where the one before it ends
+  pub data Walk : Vertex → Vertex → Type 0 where
+    edge : {u v : Vertex} → Edge u v → Walk u v
+    step : {u v w : Vertex} → Edge u v → Walk v w → Walk u w
+
+  -- a walk back to where it began: "the graph has no cycle" is `Cycle P → ⊥`
+  unfoldable pub Cycle : Type 0
+  Cycle = (v : Vertex) × Walk v v
+
+  -- "for every dependency whose waiting stop is visited .., the stop it waits for is visited"
+  abbrev pub Kept : (ℕ → ℕ) → Type 0
+  Kept p = (w : ℕ) → w < count → wait w .stop ≤ p (wait w .waiter) → wait w .until ≤ p (wait w .awaited)
+
+  -- the same as a test
+  unfoldable pub kept : (ℕ → ℕ) → Bool
+  kept p = allBelow count (λ w. not (leb (wait w .stop) (p (wait w .waiter))) || leb (wait w .until) (p (wait w .awaited)))
+
+  -- "the .. chain of unvisited stops that ends at [v], each stop awaited by the one after it (a drone's own stop before it counts as awaited)": n stops
+  pub data Chain (p : ℕ → ℕ) : Vertex → ℕ → Type 0 where
+    link : {v : Vertex} → p (v .drone) < v .stop → Chain p v 1
+    on : {u v : Vertex} {n : ℕ} → Chain p u n → Edge u v → p (v .drone) < v .stop → Chain p v (suc n)
+
+  -- n is "the number of stops in the longest chain of unvisited stops that ends at its last stop"
+  pub record Longest (p : ℕ → ℕ) (d n : ℕ) : Type 0 where
+    pub chain : Chain p (vertex d (last d)) n
+    pub none-longer : (m : ℕ) → Chain p (vertex d (last d)) m → m ≤ n
+
+  -- a number for each stop that rises along every edge, as planned times do (004: an accepted plan's graph has no cycle)
+  pub record Rising (time : ℕ → ℕ → ℕ) : Type 0 where
+    pub own-rises : (d s : ℕ) → d < drones → s < last d → time d s < time d (suc s)
+    pub wait-rises : (w : ℕ) → w < count → time (wait w .awaited) (wait w .until) < time (wait w .waiter) (wait w .stop)
+
+  -- ---- the table of each stop's round, with a leg for each stop: a stop is reached its leg after the latest stop that it awaits
+
+  -- what wait w adds: the entry of what it awaits if it is one into the stop s of drone d, or else 0
+  unfoldable pub awaitedAt : (ℕ → ℕ → ℕ) → ℕ → ℕ → ℕ → ℕ
+  awaitedAt t d s w = pick (into d s w) (t (wait w .awaited) (wait w .until)) 0
+
+  module _ (leg : ℕ → ℕ → ℕ) (p : ℕ → ℕ) where
+    -- "visited stops are in no chain": their round is 0
+    pub record Table (t : ℕ → ℕ → ℕ) : Type 0 where
+      pub at-visited : (d s : ℕ) → d < drones → s ≤ last d → s ≤ p d → t d s ≡ 0
+      pub at-unvisited : (d s : ℕ) → d < drones → s ≤ last d → p d < s → t d s ≡ leg d s + latest t d s
+
+    -- the table after k passes, each over the table of the pass before
+    unfoldable pub passes : ℕ → ℕ → ℕ → ℕ
+    passes zero d s = 0
+    passes (suc k) d s = pick (leb s (p d)) 0 (leg d s + latest (passes k) d s)
+
+    -- as many passes as there are unvisited stops
+    unfoldable pub arrival : ℕ → ℕ → ℕ
+    arrival = passes (unvisited p)
+
+    -- a chain of unvisited stops to v, with the legs of its stops added up
+    pub data LegChain : Vertex → ℕ → Type 0 where
+      leg-link : {v : Vertex} → p (v .drone) < v .stop → LegChain v (leg (v .drone) (v .stop))
+      leg-on : {u v : Vertex} {n : ℕ} → LegChain u n → Edge u v → p (v .drone) < v .stop → LegChain v (leg (v .drone) (v .stop) + n)
+
+    -- the legs of all unvisited stops, added up
+    unfoldable pub legsLeft : ℕ
+    legsLeft = sumBelow drones (λ d. sumBelow (suc (last d)) (λ s. pick (ltb (p d) s) (leg d s) 0))
+
+  -- ---- rounds in which some drones are held
+
+  -- the drones that pass h neither depart nor arrive
+  unfoldable pub heldRound : (ℕ → Bool) → (ℕ → ℕ) → ℕ → ℕ
+  heldRound h p d = pick (h d) (p d) (round p d)
+
+  -- k rounds; in round i the drones that pass `held i` are held
+  unfoldable pub heldPlay : (ℕ → ℕ → Bool) → (ℕ → ℕ) → ℕ → ℕ → ℕ
+  heldPlay held p zero = p
+  heldPlay held p (suc k) = heldRound (held k) (heldPlay held p k)
+
+  -- how many of the first k rounds hold somebody
+  unfoldable pub heldRounds : (ℕ → ℕ → Bool) → ℕ → ℕ
+  heldRounds held k = countBelow k (λ i. anyBelow drones (held i))
+
+  -- ---- progress in a list
+
+  -- a round on a list of last visited stops
+  unfoldable pub roundList : List ℕ → List ℕ
+  roundList ps = listBelow (length ps) (round (at ps))
+
+  unfoldable pub playList : List ℕ → ℕ → List ℕ
+  playList ps zero = ps
+  playList ps (suc k) = roundList (playList ps k)
+
+  unfoldable pub remainingList : List ℕ → ℕ → ℕ
+  remainingList ps d = firstBelow (unvisited (at ps)) (λ k. leb (last d) (at (playList ps k) d))
+
+  -- how many drones are short of their last stop
+  unfoldable pub unfinishedList : List ℕ → ℕ
+  unfinishedList ps = countBelow drones (λ d. ltb (at ps d) (last d))
+
+  -- the test of cycles on lists, for flights that are computed
+  unfoldable pub cyclicList : Bool
+  cyclicList = not (finished (at (playList (listBelow drones (λ d. 0)) (unvisited atStart))))
+
+-- legs of one round
+abbrev pub one : ℕ → ℕ → ℕ
+one d s = 1
+
+-- q is at least as far as p, for n drones
+abbrev pub Ahead : ℕ → (ℕ → ℕ) → (ℕ → ℕ) → Type 0
+Ahead n p q = (d : ℕ) → d < n → p d ≤ q d
+
+-- Q is P with some waits left out
+pub record Fewer (P Q : Plan) : Type 0 where
+  pub drones-same : Q .drones ≡ P .drones
+  pub last-same : (d : ℕ) → Q .last d ≡ P .last d
+  pub waits-in : (w : ℕ) → w < Q .count → (Q .wait w .until ≡ 0) ⊎ ((x : ℕ) × (x < P .count) × (P .wait x ≡ Q .wait w))
