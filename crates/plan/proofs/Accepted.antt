@@ -15,7 +15,7 @@ use Rattle.plan.specs.Stops.{start}
 use Rattle.plan.specs.Check.{firstFault, apart}
 use Rattle.plan.specs.Dependencies.{follows, isFixed, flagOf, dependencyTotal, column}
 use Rattle.plan.specs.Field.{Dependency, FieldPlan, before, fixed, GoneBefore, Checked, Meeting, AcceptedPlan, planOf}
-use Rattle.plan.specs.Claims.{Numbered, ownerIn, numberIn, stopTotal, HaveStops, NothingFound, planned, HoldsPlanned, AcceptedClaims}
+use Rattle.plan.specs.Claims.{Numbered, ownerIn, numberIn, locationIn, timeIn, stopTotal, HaveStops, NothingFound, planned, HoldsPlanned, AcceptedClaims, StopsChecked}
 use Rattle.plan.proofs.Numbering.{numbered, goes-on, stays, last-is, order-number}
 use Rattle.plan.proofs.Conditions.{Passes, firstFault-says, says-firstFault, Over, apart-says, says-apart, Follows, follows-says, says-follows}
 use Rattle.plan.proofs.Turns.{gone-before}
@@ -66,15 +66,11 @@ module _ (own num off last loc time : ℕ → ℕ) (drones n count : ℕ) (depen
       let q : off d + s + 1 ≡ off d + suc s = omega arith in
       record { next = rw q (N .place-in d (suc s) l k); same-drone = rw q (N .place-own d (suc s) l k ∙ sym (N .place-own d s l (omega arith))); leaves = rw q h }
 
-  pub passes-checked : firstFault num loc time n ≡ n → apart own loc time n ≡ true → Checked plan
-  passes-checked e a = record {
+  pub passes-stops : firstFault num loc time n ≡ n → StopsChecked plan
+  passes-stops e = record {
     starts = λ d l. passes (off d + 0) (N .place-in d 0 l (omega arith)) .starts (N .place-number d 0 l (omega arith));
     rises = λ d s l k. rw (back d s) at (later d s l k .0);
-    moves = λ d s l k. λ q. rw (back d s) at (later d s l k .1) (sym q);
-    no-collision = λ d s f k l m x y ne q. elim (apart-says own loc time n a (off d + s) (off f + k) (N .place-in d s l m) (N .place-in f k x y) (λ z. ne (sym (N .place-own d s l m) ∙ z ∙ N .place-own f k x y)) q) [
-      | inl o ↦ let g = over-gone d s _ l m o in inl (record { goes-on = g .0; in-time = g .1 })
-      | inr o ↦ let g = over-gone f k _ x y o in inr (record { goes-on = g .0; in-time = g .1 })
-    ];
+    moves = λ d s l k q. rw (back d s) at (later d s l k .1) (sym q);
   }
     where
       passes : (v : ℕ) → v < n → Passes num loc time v
@@ -88,6 +84,19 @@ module _ (own num off last loc time : ℕ → ℕ) (drones n count : ℕ) (depen
           let ne : num (off d + suc s) ≢ 0 = λ z. omega (arith, N .place-number d (suc s) l k) in
           let h = passes (off d + suc s) (N .place-in d (suc s) l k) in
           (h .rises ne, h .moves ne)
+
+  pub passes-checked : firstFault num loc time n ≡ n → apart own loc time n ≡ true → Checked plan
+  passes-checked e a =
+      let c : StopsChecked plan = passes-stops e in
+      record {
+        starts = c .starts;
+        rises = c .rises;
+        moves = c .moves;
+        no-collision = λ d s f k l m x y ne q. elim (apart-says own loc time n a (off d + s) (off f + k) (N .place-in d s l m) (N .place-in f k x y) (λ z. ne (sym (N .place-own d s l m) ∙ z ∙ N .place-own f k x y)) q) [
+          | inl o ↦ let g = over-gone d s _ l m o in inl (record { goes-on = g .0; in-time = g .1 })
+          | inr o ↦ let g = over-gone f k _ x y o in inr (record { goes-on = g .0; in-time = g .1 })
+        ];
+      }
 
   -- the other way round
   pub checked-passes : Checked plan → firstFault num loc time n ≡ n
@@ -222,6 +231,9 @@ module _ (own num off last loc time : ℕ → ℕ) (drones n count : ℕ) (depen
 module _ (p : PlanLists) (have : HaveStops p) where
   stops-numbered : Numbered (ownerIn p) (numberIn p) (start (p .stopCounts)) (planOf p .last) (drones p) (stopTotal p)
   stops-numbered = numbered (drones p) (p .stopCounts) have
+
+  pub stops-checked : firstFault (numberIn p) (locationIn p) (timeIn p) (stopTotal p) ≡ stopTotal p → StopsChecked (planOf p)
+  stops-checked = passes-stops _ _ _ _ _ _ _ _ _ _ stops-numbered
 
   pub taken-exactly : NothingFound p ↔ Checked (planOf p)
   taken-exactly = (λ (e, a). passes-checked _ _ _ _ _ _ _ _ _ _ stops-numbered e a, λ c. (checked-passes _ _ _ _ _ _ _ _ _ _ stops-numbered c, checked-apart _ _ _ _ _ _ _ _ _ _ stops-numbered c))

@@ -2,3 +2,4 @@ pub mod Numbering
 pub mod Turns
 pub mod Conditions
 pub mod Accepted
+pub mod Definition1

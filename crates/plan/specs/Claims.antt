@@ -1,6 +1,6 @@
 -- What is claimed of the numbering of the stops, the plan check and the graph of an accepted plan; the proofs are in proofs/. Assumes nothing.
 use mathlib.Core.Path.{_≡_}
-use mathlib.Core.Logic.{_≢_, _↔_}
+use mathlib.Core.Logic.{_≢_, _⊎_, _↔_}
 use mathlib.Core.Bool.{Bool, true, false, cond}
 use Prim.Native.Nat.{ℕ, suc, _+_, _≤_, _<_}
 use Rattle.below.specs.Below.{at}
@@ -69,6 +69,78 @@ pub record AcceptedClaims : Type 0 where
   pub accepted : (p : PlanLists) → HaveStops p → NothingFound p → HoldsPlanned p → AcceptedPlan (planOf p)
   -- the flag byte that is planned for a dependency is right
   pub right-flags : (p : PlanLists) → HaveStops p → HoldsPlanned p → (k : ℕ) → k < dependencies p → planned p (flagOf (ownerIn p) (numberIn p) (stopTotal p)) k ≡ cond (fixed (planOf p) k) 2 0
+
+-- ---- collisions by timesteps (source document 004, Definition 1 and Assumption 1)
+
+module _ (F : FieldPlan) where
+  open FieldPlan F using (drones, last, location, time)
+
+  -- the plan check stop by stop: what refusals 7, 8 and 9 ask
+  pub record StopsChecked : Type 0 where
+    pub starts : (d : ℕ) → d < drones → time d 0 ≡ 0
+    pub rises : (d s : ℕ) → d < drones → s < last d → time d s < time d (suc s)
+    pub moves : (d s : ℕ) → d < drones → s < last d → location d s ≢ location d (suc s)
+
+  -- at timestep t drone d is at location l: it has moved there by its stop's time and moves on later, if at all. (004: a tuple "indicates that agent i is
+  -- planned to perform a move action into the location .. at timestep" its time; "a wait action is implicitly defined between two consecutive tuples")
+  pub record IsAt (d l t : ℕ) : Type 0 where
+    pub stop : ℕ
+    pub stop-in : stop ≤ last d
+    pub here : location d stop ≡ l
+    pub since : time d stop ≤ t
+    pub until : stop < last d → t < time d (suc stop)
+
+  -- at timestep t drone d moves away from location l
+  pub record Leaves (d l t : ℕ) : Type 0 where
+    pub stop : ℕ
+    pub goes-on : stop < last d
+    pub here : location d stop ≡ l
+    pub then : time d (suc stop) ≡ t
+
+  -- at timestep t drone d moves into location l
+  pub record Enters (d l t : ℕ) : Type 0 where
+    pub stop : ℕ
+    pub goes-on : stop < last d
+    pub here : location d (suc stop) ≡ l
+    pub then : time d (suc stop) ≡ t
+
+  -- 004, Definition 1: "We say two agents i, j collide if either of the following happens: 1. i and j are at the same location at the same timestep.
+  -- 2. i leaves a location l at a timestep t and j enters the same location l at the timestep t."
+  abbrev pub Collides : ℕ → ℕ → Type 0
+  Collides i j = (l : ℕ) × (t : ℕ) × ((IsAt i l t × IsAt j l t) ⊎ (Leaves i l t × Enters j l t))
+
+  -- "A drone occupies a stop's location from its time to the time of its next stop, both included. It occupies its last location for ever."
+  pub record Occupies (d l t : ℕ) : Type 0 where
+    pub stop : ℕ
+    pub stop-in : stop ≤ last d
+    pub here : location d stop ≡ l
+    pub since : time d stop ≤ t
+    pub until : stop < last d → t ≤ time d (suc stop)
+
+  -- "two such spans at one location share a timestep"
+  abbrev pub SpansShare : ℕ → ℕ → Type 0
+  SpansShare i j = (l : ℕ) × (t : ℕ) × Occupies i l t × Occupies j l t
+
+  -- in one timestep two drones move each to the location of the other
+  pub record Swaps (i j : ℕ) : Type 0 where
+    pub stop-of-i : ℕ
+    pub stop-of-j : ℕ
+    pub i-goes-on : stop-of-i < last i
+    pub j-goes-on : stop-of-j < last j
+    pub i-to-j : location i (suc stop-of-i) ≡ location j stop-of-j
+    pub j-to-i : location j (suc stop-of-j) ≡ location i stop-of-i
+    pub together : time i (suc stop-of-i) ≡ time j (suc stop-of-j)
+
+  -- no two different drones do so
+  abbrev pub Never : (ℕ → ℕ → Type 0) → Type 0
+  Never C = (i j : ℕ) → i < drones → j < drones → i ≢ j → C i j → ⊥
+
+-- of a plan whose single stops pass, the test of collisions says exactly what 004 says, and what document 01 says of spans. "This covers equal place and time, and
+-- leaving a location in the timestep in which another enters it. A swap is covered too."
+pub record Definition1 : Type 0 where
+  pub collisions : (p : PlanLists) → HaveStops p → firstFault (numberIn p) (locationIn p) (timeIn p) (stopTotal p) ≡ stopTotal p → (apart (ownerIn p) (locationIn p) (timeIn p) (stopTotal p) ≡ true) ↔ Never (planOf p) (Collides (planOf p))
+  pub spans : (p : PlanLists) → HaveStops p → firstFault (numberIn p) (locationIn p) (timeIn p) (stopTotal p) ≡ stopTotal p → (apart (ownerIn p) (locationIn p) (timeIn p) (stopTotal p) ≡ true) ↔ Never (planOf p) (SpansShare (planOf p))
+  pub swap-covered : (F : FieldPlan) (i j : ℕ) → Swaps F i j → Collides F i j
 
 -- ---- turning
 
