@@ -1,3 +1,4 @@
+pub mod StopsLaws
 pub mod Numbering
 pub mod Turns
 pub mod Conditions

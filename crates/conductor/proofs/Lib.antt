@@ -1,0 +1,10 @@
+pub mod Counts
+pub mod Checks
+pub mod Running
+pub mod Good
+pub mod Log
+pub mod Found
+pub mod SoundParts
+pub mod Agree
+pub mod Shown
+pub mod Whole

@@ -1,0 +1,3 @@
+pub mod CallLog
+pub mod Calls
+pub mod Demand
