@@ -1,13 +1,13 @@
 -- Collisions by timesteps. Two spans that share a timestep share the later of their first timesteps. There one drone has just come: the other is still there, or
 -- leaves as it comes. Assumes nothing.
-use mathlib.Core.Path.{_≡_, refl, sym, _∙_}
+use mathlib.Core.Path.{_≡_, refl, sym, ap, _∙_}
 use mathlib.Core.Logic.{_≢_, _⊎_, inl, inr}
 use mathlib.Core.Bool.{Bool, true, false, _&&_}
 use Prim.Native.Nat.{ℕ, zero, suc, _-_, _≤_, _<_, max}
 use native.Mathlib.Omega.{arith}
-use lib.Dec.{ltb, eqb}
-use borrow.Author.Tests.{ltb-true, ltb-false, lt-ltb, eqb-true, eqb-false}
-use Rattle.below.proofs.Tests.{by-cases, and-left, and-right}
+use lib.Dec.{ltb, leb, eqb}
+use borrow.Author.Tests.{leb-true, leb-false, ltb-true, ltb-false, lt-ltb, eqb-true, eqb-false}
+use Rattle.below.proofs.Tests.{by-cases, below-cases, and-left, and-right}
 use Rattle.plan.specs.Field.{FieldPlan, GoneBefore, Checked, planOf}
 use Rattle.plan.specs.Claims.{StopsChecked, IsAt, Leaves, Enters, Collides, Occupies, SpansShare, Swaps, Never, Definition1}
 use Rattle.plan.proofs.Accepted.{stops-checked, taken-exactly}
@@ -19,6 +19,36 @@ module _ (F : FieldPlan) where
   swap-covered i j w = (location i (w .stop-of-i), time i (suc (w .stop-of-i)), inr (record { stop = w .stop-of-i; goes-on = w .i-goes-on; here = refl; then = refl }, record { stop = w .stop-of-j; goes-on = w .j-goes-on; here = w .j-to-i; then = sym (w .together) }))
 
   module _ (stops : StopsChecked F) where
+    -- ---- one location in each timestep
+
+    -- of the stops up to b, the last that drone d has come to by timestep t
+    latest : (d t : ℕ) → d < drones → (b : ℕ) → b ≤ last d → (s : ℕ) × (s ≤ b) × (time d s ≤ t) × (s < b → t < time d (suc s))
+    latest d t i zero m = (0, omega arith, omega (arith, stops .starts d i), λ l. absurd (omega arith))
+    latest d t i (suc b) m = by-cases (leb (time d (suc b)) t)
+        (λ h. (suc b, omega arith, leb-true _ _ h, λ l. absurd (omega arith)))
+        (λ h. let (s, k, since, until) = latest d t i b (omega arith) in
+        (s, omega arith, since, λ l. elim (below-cases l) [ inl x ↦ until x | inr e ↦ rw e (leb-false _ _ h) ]))
+
+    times-rise : (d s k : ℕ) → d < drones → s ≤ k → k ≤ last d → time d s ≤ time d k
+    times-rise d s zero i l m = let e : s ≡ 0 = omega arith in rw e (omega arith)
+    times-rise d s (suc k) i l m = by-cases (eqb s (suc k))
+        (λ h. rw (eqb-true s (suc k) h) (omega arith))
+        (λ h. let ne : s ≢ suc k = eqb-false s (suc k) h in omega (arith, times-rise d s k i (omega arith) (omega arith), stops .rises d k i m))
+
+    one-stop : (d l m t : ℕ) → d < drones → (a : IsAt F d l t) (b : IsAt F d m t) → a .stop ≡ b .stop
+    one-stop d l m t i a b = by-cases (ltb (a .stop) (b .stop)) (λ h. absurd (no-later a b (ltb-true _ _ h))) (λ h. by-cases (ltb (b .stop) (a .stop))
+        (λ g. absurd (no-later b a (ltb-true _ _ g)))
+        (λ g. omega (arith, ltb-false (a .stop) (b .stop) h, ltb-false (b .stop) (a .stop) g)))
+      where
+        no-later : {l m : ℕ} (a : IsAt F d l t) (b : IsAt F d m t) → a .stop < b .stop → ⊥
+        no-later a b h = omega (arith, a .until (omega (arith, b .stop-in)), times-rise d (suc (a .stop)) (b .stop) i h (b .stop-in), b .since)
+
+    one-location : (d t : ℕ) → d < drones → (l : ℕ) × IsAt F d l t × ((m : ℕ) → IsAt F d m t → l ≡ m)
+    one-location d t i =
+        let (s, m, since, until) = latest d t i (last d) (omega arith) in
+        let here : IsAt F d (location d s) t = record { stop = s; stop-in = m; here = refl; since = since; until = until } in
+        (location d s, here, λ m b. ap (location d) (one-stop d (location d s) m t i here b) ∙ b .here)
+
     -- ---- spans, as 004 has them
 
     at-occupies : (d l t : ℕ) → IsAt F d l t → Occupies F d l t
@@ -106,5 +136,6 @@ pub definition-1 : Definition1
 definition-1 = record {
   collisions = λ p have e. (λ a i j x y ne c. gone-share (planOf p) (stops-checked p have e) (taken-exactly p have .0 (e, a)) i j x y ne (collides-share (planOf p) (stops-checked p have e) i j x y c), λ never. taken-exactly p have .1 (collides-checked (planOf p) (stops-checked p have e) never) .1);
   spans = λ p have e. (λ a. gone-share (planOf p) (stops-checked p have e) (taken-exactly p have .0 (e, a)), λ never. taken-exactly p have .1 (share-checked (planOf p) (stops-checked p have e) never) .1);
+  one-location = one-location;
   swap-covered = swap-covered;
 }

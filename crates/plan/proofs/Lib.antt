@@ -3,4 +3,5 @@ pub mod Numbering
 pub mod Turns
 pub mod Conditions
 pub mod Accepted
+pub mod Exact
 pub mod Definition1

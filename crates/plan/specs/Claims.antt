@@ -63,10 +63,11 @@ module _ (p : PlanLists) where
     pub second-drones : (k : ℕ) → k < dependencies p → at (p .secondDrones) k ≡ planned (λ v w. ownerIn w) k
     pub second-stops : (k : ℕ) → k < dependencies p → at (p .secondStops) k ≡ planned (λ v w. numberIn w) k
 
--- the computed check finds nothing exactly when the plan is as document 01 asks; with the plan's own dependencies the tables hold an accepted plan
+-- the computed check finds nothing exactly when the plan is as document 01 asks, and the tables hold an accepted plan exactly when they hold the plan's own
+-- dependencies too
 pub record AcceptedClaims : Type 0 where
   pub taken-exactly : (p : PlanLists) → HaveStops p → NothingFound p ↔ Checked (planOf p)
-  pub accepted : (p : PlanLists) → HaveStops p → NothingFound p → HoldsPlanned p → AcceptedPlan (planOf p)
+  pub accepted-exactly : (p : PlanLists) → HaveStops p → (NothingFound p × HoldsPlanned p) ↔ AcceptedPlan (planOf p)
   -- the flag byte that is planned for a dependency is right
   pub right-flags : (p : PlanLists) → HaveStops p → HoldsPlanned p → (k : ℕ) → k < dependencies p → planned p (flagOf (ownerIn p) (numberIn p) (stopTotal p)) k ≡ cond (fixed (planOf p) k) 2 0
 
@@ -140,6 +141,8 @@ module _ (F : FieldPlan) where
 pub record Definition1 : Type 0 where
   pub collisions : (p : PlanLists) → HaveStops p → firstFault (numberIn p) (locationIn p) (timeIn p) (stopTotal p) ≡ stopTotal p → (apart (ownerIn p) (locationIn p) (timeIn p) (stopTotal p) ≡ true) ↔ Never (planOf p) (Collides (planOf p))
   pub spans : (p : PlanLists) → HaveStops p → firstFault (numberIn p) (locationIn p) (timeIn p) (stopTotal p) ≡ stopTotal p → (apart (ownerIn p) (locationIn p) (timeIn p) (stopTotal p) ≡ true) ↔ Never (planOf p) (SpansShare (planOf p))
+  -- in each timestep a drone is at one location
+  pub one-location : (F : FieldPlan) → StopsChecked F → (d t : ℕ) → d < F .drones → (l : ℕ) × IsAt F d l t × ((m : ℕ) → IsAt F d m t → l ≡ m)
   pub swap-covered : (F : FieldPlan) (i j : ℕ) → Swaps F i j → Collides F i j
 
 -- ---- turning
