@@ -16,7 +16,7 @@ use Rattle.plan.specs.Stops.{start}
 use Rattle.plan.specs.Check.{firstFault, apart}
 use Rattle.plan.specs.Dependencies.{follows, isFixed, flagOf, dependencyTotal, column}
 use Rattle.plan.specs.Field.{Dependency, FieldPlan, before, graph, fixed, GoneBefore, Checked, Meeting, AcceptedPlan, planOf}
-use Rattle.plan.specs.Claims.{Numbered, ownerIn, numberIn, locationIn, timeIn, stopTotal, HaveStops, NothingFound, planned, HoldsPlanned, StopsChecked}
+use Rattle.plan.specs.Claims.{Numbered, pair, ownerIn, numberIn, stopTotal, HaveStops, NoFault, NoCollision, planned, HoldsPlanned, StopsChecked}
 use Rattle.plan.proofs.Numbering.{numbered, goes-on, stays, last-is, order-number}
 use Rattle.plan.proofs.Conditions.{Passes, firstFault-says, says-firstFault, Over, apart-says, says-apart, Follows, follows-says, says-follows}
 use Rattle.plan.proofs.Turns.{gone-before}
@@ -41,10 +41,6 @@ before-second x y a b c = by-rest (x .first) (y .first) _ a (by-rest (x .firstSt
 
 before-last : (x y : Dependency) → x .first ≡ y .first → x .firstStop ≡ y .firstStop → x .second ≡ y .second → x .secondStop < y .secondStop → before x y ≡ true
 before-last x y a b c d = by-rest (x .first) (y .first) _ a (by-rest (x .firstStop) (y .firstStop) _ b (by-rest (x .second) (y .second) _ c (lt-ltb (x .secondStop) (y .secondStop) d)))
-
--- the dependency of the stops v and w
-abbrev pub pair : (own num : ℕ → ℕ) → ℕ → ℕ → Dependency
-pair own num v w = record { first = own v; firstStop = num v; second = own w; secondStop = num w }
 
 module _ {own num off last : ℕ → ℕ} {drones n : ℕ} (N : Numbered own num off last drones n) where
   -- the order of the pairs of stops is that of their dependencies
@@ -245,15 +241,15 @@ module _ (p : PlanLists) (have : HaveStops p) where
     place-number = stops-numbered .place-number;
   }
 
-  pub stops-checked : firstFault (numberIn p) (locationIn p) (timeIn p) (stopTotal p) ≡ stopTotal p → StopsChecked (planOf p)
+  pub stops-checked : NoFault p → StopsChecked (planOf p)
   stops-checked = passes-stops _ _ _ _ _ _ _ _ _ _ stops-numbered
 
-  pub taken-exactly : NothingFound p ↔ Checked (planOf p)
+  pub taken-exactly : (NoFault p × NoCollision p) ↔ Checked (planOf p)
   taken-exactly = (λ (e, a). passes-checked _ _ _ _ _ _ _ _ _ _ stops-numbered e a, λ c. (checked-passes _ _ _ _ _ _ _ _ _ _ stops-numbered c, checked-apart _ _ _ _ _ _ _ _ _ _ stops-numbered c))
 
   module _ (holds : HoldsPlanned p) where
-    pub accepted : NothingFound p → AcceptedPlan (planOf p)
-    accepted found = accepted-if _ _ _ _ _ _ _ _ _ _ stops-numbered (holds .total) (holds .first-drones) (holds .first-stops) (holds .second-drones) (holds .second-stops) (taken-exactly .0 found)
+    pub accepted : NoFault p → NoCollision p → AcceptedPlan (planOf p)
+    accepted e a = accepted-if _ _ _ _ _ _ _ _ _ _ stops-numbered (holds .total) (holds .first-drones) (holds .first-stops) (holds .second-drones) (holds .second-stops) (taken-exactly .0 (e, a))
 
     -- the flag byte that is planned for dependency k
     pub right-flag : (k : ℕ) → k < dependencies p → planned p (flagOf (ownerIn p) (numberIn p) (stopTotal p)) k ≡ cond (fixed (planOf p) k) 2 0

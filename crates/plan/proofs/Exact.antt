@@ -14,8 +14,8 @@ use Rattle.below.proofs.Pairs.{before-not, rank-find, rank-rises, rising-fit, C
 use Rattle.tables.specs.Tables.{PlanLists}
 use Rattle.plan.specs.Dependencies.{follows, dependencyTotal, column}
 use Rattle.plan.specs.Field.{Dependency, FieldPlan, before, Meeting, AcceptedPlan, planOf}
-use Rattle.plan.specs.Claims.{Numbered, HaveStops, HoldsPlanned, AcceptedClaims}
-use Rattle.plan.proofs.Accepted.{plan, pair, meeting-if, meeting-follows, pair-place, pair-order, stops-numbered, taken-exactly, accepted, right-flag}
+use Rattle.plan.specs.Claims.{Numbered, pair, HaveStops, HoldsPlanned}
+use Rattle.plan.proofs.Accepted.{plan, meeting-if, meeting-follows, pair-place, pair-order, stops-numbered}
 
 -- ---- no two dependencies come before each other
 
@@ -30,7 +30,7 @@ key-asym a b r s x y = by-cases (ltb a b)
     (λ k. absurd (omega (arith, ltb-true b a k)))
     (λ k. let f : (eqb b a && s) ≡ true = rw k at y in (and-right (eqb a b) _ e, and-right (eqb b a) _ f)))
 
-before-asym : (x y : Dependency) → before x y ≡ true → before y x ≡ true → ⊥
+pub before-asym : (x y : Dependency) → before x y ≡ true → before y x ≡ true → ⊥
 before-asym x y a b =
     let (c, d) = key-asym (x .first) (y .first) _ _ a b in
     let (e, f) = key-asym (x .firstStop) (y .firstStop) _ _ c d in
@@ -141,11 +141,4 @@ holds-planned p have A = record {
   first-stops = λ k l. columns-are _ _ _ _ _ _ _ _ _ _ (stops-numbered p have) A k l .1;
   second-drones = λ k l. columns-are _ _ _ _ _ _ _ _ _ _ (stops-numbered p have) A k l .2;
   second-stops = λ k l. columns-are _ _ _ _ _ _ _ _ _ _ (stops-numbered p have) A k l .3;
-}
-
-pub accepted-claims : AcceptedClaims
-accepted-claims = record {
-  taken-exactly = taken-exactly;
-  accepted-exactly = λ p have. (λ (found, holds). accepted p have holds found, λ A. (taken-exactly p have .1 (A .checked), holds-planned p have A));
-  right-flags = right-flag;
 }

@@ -5,3 +5,4 @@ pub mod Conditions
 pub mod Accepted
 pub mod Exact
 pub mod Definition1
+pub mod Claims

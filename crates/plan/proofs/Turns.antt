@@ -11,7 +11,7 @@ use Rattle.below.proofs.Tests.{by-cases, true-or-false, or-left, or-right}
 use Rattle.precedence.specs.Graph.{FormedWait, Formed, cyclic, Cycle, Rising}
 use Rattle.precedence.proofs.Visits.{rising-acyclic, acyclic-iff}
 use Rattle.plan.specs.Field.{Dependency, FieldPlan, inForce, waitOf, flip, graph, fixed, GoneBefore, Checked, Meeting, AcceptedPlan}
-use Rattle.plan.specs.Claims.{unturned, TurnRules, Unfixed, PlannedGraph, TurnClaims}
+use Rattle.plan.specs.Claims.{unturned, TurnRules, Unfixed, PlannedGraph}
 
 -- ---- what a turn changes
 
@@ -91,6 +91,3 @@ module _ (F : FieldPlan) (accepted : AcceptedPlan F) where
 
   pub planned-graph : PlannedGraph F
   planned-graph = record { formed = graph-formed; no-cycle = planned-no-cycle; acyclic = planned-acyclic }
-
-pub turn-claims : TurnClaims
-turn-claims = record { turn-rules = turn-rules; planned-graph = planned-graph }

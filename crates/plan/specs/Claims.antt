@@ -7,9 +7,9 @@ use Rattle.below.specs.Below.{at}
 use Rattle.tables.specs.Tables.{PlanLists, drones, dependencies}
 use Rattle.precedence.specs.Graph.{Formed, cyclic, Cycle}
 use Rattle.plan.specs.Stops.{start, owner, number}
-use Rattle.plan.specs.Check.{firstFault, apart}
+use Rattle.plan.specs.Check.{firstFault, collide, partner, collider, apart}
 use Rattle.plan.specs.Dependencies.{dependencyTotal, column, flagOf}
-use Rattle.plan.specs.Field.{FieldPlan, flip, graph, fixed, Checked, AcceptedPlan, planOf}
+use Rattle.plan.specs.Field.{Dependency, FieldPlan, before, flip, graph, fixed, Checked, AcceptedPlan, planOf}
 
 -- ---- the stops of all drones, numbered through
 
@@ -21,8 +21,12 @@ pub record Numbered (own num off last : ℕ → ℕ) (drones n : ℕ) : Type 0 w
   pub place-in : (d s : ℕ) → d < drones → s ≤ last d → off d + s < n
   pub place-own : (d s : ℕ) → d < drones → s ≤ last d → own (off d + s) ≡ d
   pub place-number : (d s : ℕ) → d < drones → s ≤ last d → num (off d + s) ≡ s
-  -- "the stops of drone 0 first": owners never fall
+  -- the stops of drone 0 stand first: owners never fall
   pub grouped : (v w : ℕ) → v ≤ w → w < n → own v ≤ own w
+
+-- two stops, each as a drone and its stop
+abbrev pub pair : (own num : ℕ → ℕ) → ℕ → ℕ → Dependency
+pair own num v w = record { first = own v; firstStop = num v; second = own w; secondStop = num w }
 
 -- ---- the plan in the tables
 
@@ -47,9 +51,25 @@ module _ (p : PlanLists) where
   abbrev pub HaveStops : Type 0
   HaveStops = (d : ℕ) → d < drones p → 1 ≤ at (p .stopCounts) d
 
-  -- the plan check finds nothing: no stop is at fault (7, 8, 9), and no two drones collide (10)
-  abbrev pub NothingFound : Type 0
-  NothingFound = (firstFault numberIn locationIn timeIn stopTotal ≡ stopTotal) × (apart ownerIn locationIn timeIn stopTotal ≡ true)
+  -- no stop is at fault: 7, 8 and 9 are not said
+  abbrev pub NoFault : Type 0
+  NoFault = firstFault numberIn locationIn timeIn stopTotal ≡ stopTotal
+
+  -- no two drones collide: 10 is not said
+  abbrev pub NoCollision : Type 0
+  NoCollision = apart ownerIn locationIn timeIn stopTotal ≡ true
+
+  -- the stop that a collision is reported at, or the number of stops
+  abbrev pub colliderIn : ℕ
+  colliderIn = collider ownerIn locationIn timeIn stopTotal
+
+  -- the two stops of a collision that is reported: "10 gives two of each, the pair with the lowest lower-numbered drone, then its stop, then the other drone,
+  -- then its stop"
+  pub record Reported (v w : ℕ) : Type 0 where
+    pub first-in : v < stopTotal
+    pub second-in : w < stopTotal
+    pub collision : collide ownerIn locationIn timeIn stopTotal v w ≡ true
+    pub lowest : (x y : ℕ) → x < stopTotal → y < stopTotal → collide ownerIn locationIn timeIn stopTotal x y ≡ true → ((v ≡ x) × (w ≡ y)) ⊎ (before (pair ownerIn numberIn v w) (pair ownerIn numberIn x y) ≡ true)
 
   -- f of the plan's dependency k, (v, w) being its two stops
   abbrev pub planned : (ℕ → ℕ → ℕ) → ℕ → ℕ
@@ -66,8 +86,11 @@ module _ (p : PlanLists) where
 -- the computed check finds nothing exactly when the plan is as document 01 asks, and the tables hold an accepted plan exactly when they hold the plan's own
 -- dependencies too
 pub record AcceptedClaims : Type 0 where
-  pub taken-exactly : (p : PlanLists) → HaveStops p → NothingFound p ↔ Checked (planOf p)
-  pub accepted-exactly : (p : PlanLists) → HaveStops p → (NothingFound p × HoldsPlanned p) ↔ AcceptedPlan (planOf p)
+  pub taken-exactly : (p : PlanLists) → HaveStops p → (NoFault p × NoCollision p) ↔ Checked (planOf p)
+  pub accepted-exactly : (p : PlanLists) → HaveStops p → (NoFault p × NoCollision p × HoldsPlanned p) ↔ AcceptedPlan (planOf p)
+  -- a collision is reported exactly when there is one, and it is the lowest
+  pub reported-exactly : (p : PlanLists) → NoCollision p ↔ (colliderIn p ≡ stopTotal p)
+  pub reported : (p : PlanLists) → HaveStops p → colliderIn p < stopTotal p → Reported p (colliderIn p) (partner (ownerIn p) (locationIn p) (timeIn p) (stopTotal p) (colliderIn p))
   -- the flag byte that is planned for a dependency is right
   pub right-flags : (p : PlanLists) → HaveStops p → HoldsPlanned p → (k : ℕ) → k < dependencies p → planned p (flagOf (ownerIn p) (numberIn p) (stopTotal p)) k ≡ cond (fixed (planOf p) k) 2 0
 
@@ -139,13 +162,13 @@ module _ (F : FieldPlan) where
 -- of a plan whose single stops pass, the test of collisions says exactly what 004 says, and what document 01 says of spans. "This covers equal place and time, and
 -- leaving a location in the timestep in which another enters it. A swap is covered too."
 pub record Definition1 : Type 0 where
-  pub collisions : (p : PlanLists) → HaveStops p → firstFault (numberIn p) (locationIn p) (timeIn p) (stopTotal p) ≡ stopTotal p → (apart (ownerIn p) (locationIn p) (timeIn p) (stopTotal p) ≡ true) ↔ Never (planOf p) (Collides (planOf p))
-  pub spans : (p : PlanLists) → HaveStops p → firstFault (numberIn p) (locationIn p) (timeIn p) (stopTotal p) ≡ stopTotal p → (apart (ownerIn p) (locationIn p) (timeIn p) (stopTotal p) ≡ true) ↔ Never (planOf p) (SpansShare (planOf p))
+  pub collisions : (p : PlanLists) → HaveStops p → NoFault p → NoCollision p ↔ Never (planOf p) (Collides (planOf p))
+  pub spans : (p : PlanLists) → HaveStops p → NoFault p → NoCollision p ↔ Never (planOf p) (SpansShare (planOf p))
   -- in each timestep a drone is at one location
   pub one-location : (F : FieldPlan) → StopsChecked F → (d t : ℕ) → d < F .drones → (l : ℕ) × IsAt F d l t × ((m : ℕ) → IsAt F d m t → l ≡ m)
   pub swap-covered : (F : FieldPlan) (i j : ℕ) → Swaps F i j → Collides F i j
 
--- ---- turning
+-- ---- the graph
 
 -- "nothing is turned"
 abbrev pub unturned : ℕ → Bool
@@ -163,6 +186,10 @@ module _ (F : FieldPlan) where
     -- "Turning twice gives the first rule again"
     pub turned-twice : graph F (flip (flip turned w) w) ≡ graph F turned
 
+  -- a dependency of the stop s of drone d and the stop k of drone e, whichever is there first
+  abbrev pub Between : ℕ → ℕ → ℕ → ℕ → Dependency → Type 0
+  Between d s e k x = (x ≡ record { first = d; firstStop = s; second = e; secondStop = k }) ⊎ (x ≡ record { first = e; firstStop = k; second = d; secondStop = s })
+
   -- "none of the fixed ones turned"
   abbrev pub Unfixed : (ℕ → Bool) → Type 0
   Unfixed turned = (w : ℕ) → w < count → turned w ≡ true → fixed F w ≡ false
@@ -173,7 +200,14 @@ module _ (F : FieldPlan) where
     pub no-cycle : Cycle (graph F unturned) → ⊥
     pub acyclic : cyclic (graph F unturned) ≡ false
 
--- both hold of every plan that is accepted
-pub record TurnClaims : Type 0 where
+  -- "Two visits of one location by different drones make exactly one dependency"
+  pub record OneDependency (d s e k : ℕ) : Type 0 where
+    pub index : ℕ
+    pub index-in : index < count
+    pub is-theirs : Between d s e k (dependency index)
+    pub no-other : (w : ℕ) → w < count → Between d s e k (dependency w) → w ≡ index
+
+pub record GraphClaims : Type 0 where
+  pub one-dependency : (F : FieldPlan) → AcceptedPlan F → (d s e k : ℕ) → d < F .drones → s ≤ F .last d → e < F .drones → k ≤ F .last e → d ≢ e → F .location d s ≡ F .location e k → OneDependency F d s e k
   pub turn-rules : (F : FieldPlan) (turned : ℕ → Bool) (w : ℕ) → TurnRules F turned w
   pub planned-graph : (F : FieldPlan) → AcceptedPlan F → PlannedGraph F
