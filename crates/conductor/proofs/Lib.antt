@@ -8,3 +8,4 @@ pub mod SoundParts
 pub mod Agree
 pub mod Shown
 pub mod Whole
+pub mod Steps

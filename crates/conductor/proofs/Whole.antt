@@ -13,7 +13,8 @@ use Rattle.sound.specs.Sound.{sound}
 use Rattle.conductor.specs.CallLog.{Call, grant, arrive, turn, Reply, isAccepted, Entry, entry, statusOf, acceptedCalls, replyBy, logFrom, logOf}
 use Rattle.conductor.specs.Calls.{Answer, granted, arrived, flipped, grantStep, arriveStep, turnStep, step, recorded, tablesAfter, Answered, Ran, none, next, AsRead}
 use Rattle.conductor.specs.Demand.{Found, Demand3, Demand3OfContracts}
-use Rattle.conductor.proofs.Checks.{GrantPassed, grant-passed, ArrivePassed, arrive-passed, TurnPassed, turn-passed}
+use Rattle.conductor.proofs.Checks.{grant-passed, arrive-passed, turn-passed}
+use Rattle.conductor.specs.Claims.{MayGo, MayArrive}
 use Rattle.conductor.proofs.Log.{arrivals, grants, turns, Counts, counts-refused, counts-grant, counts-arrive, counts-turn, GoodLog, good-empty, idle-same, good-more, good-calls}
 use Rattle.conductor.proofs.Shown.{SamePlan, full-same, Kept, kept-grant, kept-arrive, kept-turn, kept-status, kept-sound, kept-reply, kept-start}
 use Rattle.conductor.proofs.Found.{log-held, log-goes-on, log-finishes}
@@ -55,14 +56,14 @@ module _ (L : Limits) (lists : PlanLists) (t₀ : Tables) (plan : AcceptedPlan (
     kept-left : (c : Call) → isAccepted (replyBy F log c) ≡ true → KeptLog (log ++ (entry c (replyBy F log c) ∷ [])) (left c)
     unfolding left
     kept-left (grant d) e =
-        let q : GrantPassed F (statusOf log) d = grant-passed F (statusOf log) d e in
-        kept-counts _ _ _ _ _ (counts-grant log _ d e (idle-same F log good d (q .idle))) (kept-grant L lists t₀ read _ _ _ t kept d (q .drone-in))
+        let q : MayGo F (statusOf log) d = grant-passed F (statusOf log) d e in
+        kept-counts _ _ _ _ _ (counts-grant log _ d e (idle-same F log good d (q .waiting .idle))) (kept-grant L lists t₀ read _ _ _ t kept d (q .waiting .exists))
     kept-left (arrive d) e =
-        let q : ArrivePassed F (statusOf log) d = arrive-passed F (statusOf log) d e in
-        kept-counts _ _ _ _ _ (counts-arrive log _ d e) (kept-arrive L lists t₀ read _ _ _ t kept d (q .drone-in) (good .running .ahead d))
+        let q : MayArrive F (statusOf log) d = arrive-passed F (statusOf log) d e in
+        kept-counts _ _ _ _ _ (counts-arrive log _ d e) (kept-arrive L lists t₀ read _ _ _ t kept d (q .exists) (good .running .ahead d))
     kept-left (turn w) e =
-        let q : TurnPassed F (statusOf log) w = turn-passed F (statusOf log) w e in
-        kept-counts _ _ _ _ _ (counts-turn log _ w e) (kept-turn L lists t₀ read _ _ _ t kept w (q .dependency-in))
+        let q = turn-passed F (statusOf log) w e in
+        kept-counts _ _ _ _ _ (counts-turn log _ w e) (kept-turn L lists t₀ read _ _ _ t kept w (q .0 .exists))
 
     kept-more : (c : Call) → KeptLog (log ++ (entry c (replyBy F log c) ∷ [])) (step L t c .tables)
     kept-more c = by-cases (isAccepted (replyBy F log c))
