@@ -9,3 +9,4 @@ pub mod Agree
 pub mod Shown
 pub mod Whole
 pub mod Steps
+pub mod Exactly

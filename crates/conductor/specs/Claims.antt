@@ -95,11 +95,11 @@ module _ (L : Limits) (t : Tables) where
   Never33 = (w : ℕ) → turnStep L t w .reply ≢ refused 33
 
   abbrev pub TurnedExactly : Type 0
-  TurnedExactly = (w : ℕ) → (turnStep L t w .reply ≡ accepted) ↔ (Usable L t × Turnable F S w × (TurnedCycle F S w → ⊥))
+  TurnedExactly = (w : ℕ) → (turnStep L t w .reply ≡ accepted) ↔ (Usable L t × (Turnable F S w × (TurnedCycle F S w → ⊥)))
 
   -- "34 the turned graph has a cycle"
   abbrev pub CycleExactly : Type 0
-  CycleExactly = (w : ℕ) → (turnStep L t w .reply ≡ refused 34) ↔ (Usable L t × Turnable F S w × TurnedCycle F S w)
+  CycleExactly = (w : ℕ) → (turnStep L t w .reply ≡ refused 34) ↔ (Usable L t × (Turnable F S w × TurnedCycle F S w))
 
   -- "A drone's remaining rounds are those until it finishes, 0 if finished. Remaining cost is their sum"; they "are also the number of stops in the longest
   -- chain of unvisited stops that ends at its last stop"
