@@ -1,2 +1,5 @@
 pub mod Numbering
 pub mod Turns
+pub mod Conditions
+pub mod Accepted
+pub mod StopsLaws

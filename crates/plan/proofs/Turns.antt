@@ -10,7 +10,7 @@ use borrow.Author.Tests.{eqb-true, eqb-false, eq-eqb, ne-eqb}
 use Rattle.below.proofs.Tests.{by-cases, true-or-false, or-left, or-right}
 use Rattle.precedence.specs.Graph.{FormedWait, Formed, cyclic, Cycle, Rising}
 use Rattle.precedence.proofs.Visits.{rising-acyclic, acyclic-iff}
-use Rattle.plan.specs.Field.{Dependency, FieldPlan, inForce, waitOf, flip, graph, fixed, GoneBefore, Meeting, AcceptedPlan}
+use Rattle.plan.specs.Field.{Dependency, FieldPlan, inForce, waitOf, flip, graph, fixed, GoneBefore, Checked, Meeting, AcceptedPlan}
 use Rattle.plan.specs.Claims.{unturned, TurnRules, Unfixed, PlannedGraph, TurnClaims}
 
 -- ---- what a turn changes
@@ -41,28 +41,31 @@ turn-rules F t w = record {
   turned-twice = ap (graph F) (fun-ext (flip-twice t w));
 }
 
--- ---- accepted plans
+-- ---- plans that pass the check
 
-module _ (F : FieldPlan) (accepted : AcceptedPlan F) where
-  open FieldPlan F using (drones, last, location, time, count, dependency)
-
+module _ (F : FieldPlan) (checked : Checked F) where
   -- of two drones at one location the one that is there first goes on before the other comes
   pub gone-before : (x : Dependency) → Meeting F x → GoneBefore F (x .first) (x .firstStop) (x .second) (x .secondStop)
-  gone-before x m = elim (accepted .checked .no-collision (x .first) (x .firstStop) (x .second) (x .secondStop) (m .first-in) (m .first-stop-in) (m .second-in) (m .second-stop-in) (m .different) (m .one-location)) [
+  gone-before x m = elim (checked .no-collision (x .first) (x .firstStop) (x .second) (x .secondStop) (m .first-in) (m .first-stop-in) (m .second-in) (m .second-stop-in) (m .different) (m .one-location)) [
     | inl g ↦ g
-    | inr g ↦ absurd (omega (arith, accepted .checked .rises (x .second) (x .secondStop) (m .second-in) (g .goes-on), g .in-time, m .there-first))
+    | inr g ↦ absurd (omega (arith, checked .rises (x .second) (x .secondStop) (m .second-in) (g .goes-on), g .in-time, m .there-first))
   ]
 
   -- the second comes from another stop
   pub second-comes : (x : Dependency) → Meeting F x → 0 < x .secondStop
   second-comes x m = by-cases (eqb (x .secondStop) 0)
-      (λ e. let z : time (x .second) (x .secondStop) ≡ 0 = rw (eqb-true (x .secondStop) 0 e) (accepted .checked .starts (x .second) (m .second-in)) in absurd (omega (arith, gone-before x m .in-time)))
+      (λ e. let z : F .time (x .second) (x .secondStop) ≡ 0 = rw (eqb-true (x .secondStop) 0 e) (checked .starts (x .second) (m .second-in)) in absurd (omega (arith, gone-before x m .in-time)))
       (λ e. let n : x .secondStop ≢ 0 = eqb-false (x .secondStop) 0 e in omega arith)
+
+-- ---- accepted plans
+
+module _ (F : FieldPlan) (accepted : AcceptedPlan F) where
+  open FieldPlan F using (drones, last, location, time, count, dependency)
 
   formed-either : (w : ℕ) → w < count → (b : Bool) → (b ≡ true → fixed F w ≡ false) → (t : ℕ → Bool) → FormedWait (graph F t) (waitOf (inForce b (dependency w)))
   formed-either w l false u t =
       let m : Meeting F (dependency w) = accepted .each w l in
-      record { waiter-in = m .second-in; stop-pos = second-comes (dependency w) m; stop-in = m .second-stop-in; awaited-in = m .first-in; until-in = gone-before (dependency w) m .goes-on }
+      record { waiter-in = m .second-in; stop-pos = second-comes F (accepted .checked) (dependency w) m; stop-in = m .second-stop-in; awaited-in = m .first-in; until-in = gone-before F (accepted .checked) (dependency w) m .goes-on }
   formed-either w l true u t =
       let m : Meeting F (dependency w) = accepted .each w l in
       let f : fixed F w ≡ false = u refl in
@@ -78,7 +81,7 @@ module _ (F : FieldPlan) (accepted : AcceptedPlan F) where
 
   -- planned times rise along every edge
   pub planned-rising : Rising (graph F unturned) time
-  planned-rising = record { own-rises = accepted .checked .rises; wait-rises = λ w l. gone-before (dependency w) (accepted .each w l) .in-time }
+  planned-rising = record { own-rises = accepted .checked .rises; wait-rises = λ w l. gone-before F (accepted .checked) (dependency w) (accepted .each w l) .in-time }
 
   pub planned-no-cycle : Cycle (graph F unturned) → ⊥
   planned-no-cycle = rising-acyclic (graph F unturned) planned-rising

@@ -1,4 +1,5 @@
 pub mod Stops
+pub mod Room
 pub mod Check
 pub mod Dependencies
 pub mod Field

@@ -1,1 +1,2 @@
 // The plan check and the dependencies of a plan.
+pub mod stops;
