@@ -85,10 +85,10 @@ module _ (L : Limits) (p : PlanLists) where
   dependenciesSound =
       eqb (dependencies p) (dependencyTotal own (at (p .locations)) (at (p .times)) stopTotal)
       && allBelow (dependencies p) (λ k.
-        eqb (at (p .firstDrones) k) (getD (planned (λ v w. own v)) k 0)
-        && (eqb (at (p .firstStops) k) (getD (planned (λ v w. num v)) k 0)
-        && (eqb (at (p .secondDrones) k) (getD (planned (λ v w. own w)) k 0)
-        && eqb (at (p .secondStops) k) (getD (planned (λ v w. num w)) k 0))))
+      eqb (at (p .firstDrones) k) (getD (planned (λ v w. own v)) k 0)
+      && (eqb (at (p .firstStops) k) (getD (planned (λ v w. num v)) k 0)
+      && (eqb (at (p .secondDrones) k) (getD (planned (λ v w. own w)) k 0)
+      && eqb (at (p .secondStops) k) (getD (planned (λ v w. num w)) k 0))))
 
   -- "unused entries are zero", of the tables that no call writes
   unfoldable pub planUnused : Bool
