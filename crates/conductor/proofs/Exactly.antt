@@ -19,7 +19,7 @@ use Rattle.sound.specs.Sound.{sound}
 use Rattle.conductor.specs.CallLog.{Call, grant, arrive, turn, Reply, accepted, refused, mustWait, number, replyIn}
 use Rattle.conductor.specs.Calls.{replyOf, grantStep, arriveStep, turnStep}
 use Rattle.conductor.specs.Claims.{Usable, MayGo, MustWait, MayArrive, Turnable, TurnedCycle, GrantedExactly, WaitsExactly, ArrivedExactly, Never33, TurnedExactly, CycleExactly}
-use Rattle.conductor.proofs.SoundParts.{Sound, sound-says}
+use Rattle.conductor.proofs.SoundParts.{Sound, sound-says, accepted-plan}
 use Rattle.conductor.proofs.Checks.{differ, unfixed-is, grant-accepted, grant-waits, arrive-accepted, turn-accepted, turn-cycle, turn-33}
 
 -- none of the fixed ones is turned, as a test and as a law
@@ -73,20 +73,19 @@ module _ (L : Limits) (t : Tables) where
   unfolding turnStep
   never-33 w e = let (u, q) = passed (turn w) (refused 33) (omega arith) e in turn-33 F S (sound-says L t (u .1) .waits-kept) w q
 
-  module _ (plan : AcceptedPlan (planOf (t .plan))) where
-    formed : sound L t ≡ true → (w : ℕ) → Turnable F S w → Formed (graph F (flip (S .turned) w))
-    formed s = turned-formed F S plan (sound-says L t s .fixed-unturned)
+  formed : sound L t ≡ true → (w : ℕ) → Turnable F S w → Formed (graph F (flip (S .turned) w))
+  formed s = let x = sound-says L t s in turned-formed F S (accepted-plan L (t .plan) (x .accepted) (x .dependencies-own)) (x .fixed-unturned)
 
-    pub turned-exactly : TurnedExactly L t
-    unfolding turnStep
-    turned-exactly w = exactly (Turnable F S w × (TurnedCycle F S w → ⊥)) (turn w) accepted (omega arith) (λ s. (
-      λ e. let (m, q) = turn-accepted F S w .0 e in (m, acyclic-iff (graph F (flip (S .turned) w)) (formed s w m) .0 q),
-      λ (m, q). turn-accepted F S w .1 (m, acyclic-iff (graph F (flip (S .turned) w)) (formed s w m) .1 q),
-    ))
+  pub turned-exactly : TurnedExactly L t
+  unfolding turnStep
+  turned-exactly w = exactly (Turnable F S w × (TurnedCycle F S w → ⊥)) (turn w) accepted (omega arith) (λ s. (
+    λ e. let (m, q) = turn-accepted F S w .0 e in (m, acyclic-iff (graph F (flip (S .turned) w)) (formed s w m) .0 q),
+    λ (m, q). turn-accepted F S w .1 (m, acyclic-iff (graph F (flip (S .turned) w)) (formed s w m) .1 q),
+  ))
 
-    pub cycle-exactly : CycleExactly L t
-    unfolding turnStep
-    cycle-exactly w = exactly (Turnable F S w × TurnedCycle F S w) (turn w) (refused 34) (omega arith) (λ s. (
-      λ e. let (m, q) = turn-cycle F S w .0 e in (m, cyclic-iff (graph F (flip (S .turned) w)) (formed s w m) .0 q),
-      λ (m, q). turn-cycle F S w .1 (m, cyclic-iff (graph F (flip (S .turned) w)) (formed s w m) .1 q),
-    ))
+  pub cycle-exactly : CycleExactly L t
+  unfolding turnStep
+  cycle-exactly w = exactly (Turnable F S w × TurnedCycle F S w) (turn w) (refused 34) (omega arith) (λ s. (
+    λ e. let (m, q) = turn-cycle F S w .0 e in (m, cyclic-iff (graph F (flip (S .turned) w)) (formed s w m) .0 q),
+    λ (m, q). turn-cycle F S w .1 (m, cyclic-iff (graph F (flip (S .turned) w)) (formed s w m) .1 q),
+  ))

@@ -14,7 +14,7 @@ use Rattle.conductor.proofs.Checks.{unfixed-is, go-free}
 use Rattle.conductor.proofs.Running.{Running, grant-running, arrive-running}
 use Rattle.plan.specs.Field.{FieldPlan, inForce, waitOf, flip, graph, fixed, AcceptedPlan}
 use Rattle.plan.specs.Claims.{unturned, Unfixed}
-use Rattle.plan.proofs.Turns.{flip-elim, second-comes, none-unfixed, planned-acyclic}
+use Rattle.plan.proofs.Turns.{flip-elim, graph-formed, none-unfixed, planned-acyclic}
 use Rattle.plan.specs.Status.{Status}
 use Rattle.precedence.specs.Graph.{cyclic}
 
@@ -30,7 +30,7 @@ module _ (F : FieldPlan) where
 
   pub good-start : AcceptedPlan F → Good (λ d. 0) (λ d. 0) unturned
   good-start accepted = record {
-    running = record { behind = λ d. omega arith; ahead = λ d. omega arith; over = λ w l h. absurd (omega (arith, second-comes F accepted (dependency w) (accepted .each w l))) };
+    running = record { behind = λ d. omega arith; ahead = λ d. omega arith; over = λ w l h. absurd (omega (arith, graph-formed F accepted unturned (none-unfixed F accepted) w l .stop-pos)) };
     within = λ d l. omega arith;
     unfixed = none-unfixed F accepted;
     acyclic = planned-acyclic F accepted;

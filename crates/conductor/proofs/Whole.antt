@@ -16,12 +16,16 @@ use Rattle.conductor.specs.Demand.{Found, Demand3, Demand3OfContracts}
 use Rattle.conductor.proofs.Checks.{grant-passed, arrive-passed, turn-passed}
 use Rattle.conductor.specs.Claims.{MayGo, MayArrive}
 use Rattle.conductor.proofs.Log.{arrivals, grants, turns, Counts, counts-refused, counts-grant, counts-arrive, counts-turn, GoodLog, good-empty, idle-same, good-more, good-calls}
+use Rattle.conductor.proofs.SoundParts.{accepted-plan}
 use Rattle.conductor.proofs.Shown.{SamePlan, full-same, Kept, kept-grant, kept-arrive, kept-turn, kept-status, kept-sound, kept-reply, kept-start}
 use Rattle.conductor.proofs.Found.{log-held, log-goes-on, log-finishes}
 
-module _ (L : Limits) (lists : PlanLists) (t₀ : Tables) (plan : AcceptedPlan (planOf lists)) (read : AsRead L lists t₀) where
+module _ (L : Limits) (lists : PlanLists) (t₀ : Tables) (read : AsRead L lists t₀) where
   abbrev F : FieldPlan
   F = planOf lists
+
+  plan : AcceptedPlan F
+  plan = accepted-plan L lists (read .plan-accepted) (read .dependencies-own)
 
   -- the tables show the log, entry by entry
   abbrev KeptLog : List Entry → Tables → Type 0
@@ -116,7 +120,7 @@ module _ (L : Limits) (lists : PlanLists) (t₀ : Tables) (plan : AcceptedPlan (
   stays-within calls d l = omega (arith, kept-calls calls [] (good-empty F plan) t₀ kept-empty .visited-is d l, good-calls F calls [] (good-empty F plan) .running .behind d, good-calls F calls [] (good-empty F plan) .within d l)
 
 pub demand3 : Demand3
-demand3 L lists t calls plan read = found L lists t plan read calls
+demand3 L lists t calls read = found L lists t read calls
 
 -- a run by contracts is the run of the step functions
 pub replies-of : (L : Limits) {t t′ : Tables} {cs : List Call} {es : List Entry} → Ran (step L) t cs es t′ → es ≡ recorded (step L) t cs
@@ -130,7 +134,7 @@ tables-of L none = refl
 tables-of L (next {cs = cs} a r) = tables-of L r ∙ ap (λ (t : Tables). tablesAfter (step L) t cs) (a .left)
 
 pub demand3-of-contracts : Demand3OfContracts
-demand3-of-contracts L lists t calls got t′ plan read ran = rw (replies-of L ran, tables-of L ran) (demand3 L lists t calls plan read)
+demand3-of-contracts L lists t calls got t′ read ran = rw (replies-of L ran, tables-of L ran) (demand3 L lists t calls read)
 
 -- every list of calls has such a run
 pub ran : (L : Limits) (cs : List Call) (t : Tables) → Ran (step L) t cs (recorded (step L) t cs) (tablesAfter (step L) t cs)

@@ -7,7 +7,7 @@ use Rattle.below.specs.Below.{sumBelow}
 use Rattle.tables.specs.Limits.{Limits, limits}
 use Rattle.tables.specs.Tables.{Tables, fullSize}
 use Rattle.precedence.specs.Graph.{Cycle, Longest, remaining}
-use Rattle.plan.specs.Field.{FieldPlan, AcceptedPlan, planOf, flip, graph}
+use Rattle.plan.specs.Field.{FieldPlan, planOf, flip, graph}
 use Rattle.plan.specs.Status.{Status, statusIn, now}
 use Rattle.sound.specs.Sound.{sound}
 use Rattle.conductor.specs.CallLog.{Reply, accepted, refused, mustWait}
@@ -122,8 +122,8 @@ pub record Demand2 : Type 0 where
   pub waits-exactly : (L : Limits) (t : Tables) → WaitsExactly L t
   pub arrived-exactly : (L : Limits) (t : Tables) → ArrivedExactly L t
   pub never-33 : (L : Limits) (t : Tables) → Never33 L t
-  pub turned-exactly : (L : Limits) (t : Tables) → AcceptedPlan (planOf (t .plan)) → TurnedExactly L t
-  pub cycle-exactly : (L : Limits) (t : Tables) → AcceptedPlan (planOf (t .plan)) → CycleExactly L t
-  pub cost-means : (L : Limits) (t : Tables) → AcceptedPlan (planOf (t .plan)) → CostMeans L t
+  pub turned-exactly : (L : Limits) (t : Tables) → TurnedExactly L t
+  pub cycle-exactly : (L : Limits) (t : Tables) → CycleExactly L t
+  pub cost-means : (L : Limits) (t : Tables) → CostMeans L t
   pub cost-bounded : CostBounded
   pub cost-limit : CostLimit
