@@ -1,15 +1,14 @@
 -- Demand 2: the replies of the calls on tables are those of the tables' status once 41 and 40 are passed; 34's test is a cycle of the graph. Assumes nothing.
-use mathlib.Core.Path.{_≡_, refl, sym, _∙_}
-use mathlib.Core.Logic.{_≢_, _↔_}
-use mathlib.Core.Bool.{Bool, true, false, not, cond, _&&_}
+use mathlib.Core.Path.{_≡_, refl}
+use mathlib.Core.Logic.{_↔_}
+use mathlib.Core.Bool.{Bool, true, false, cond}
 use Prim.Native.Nat.{ℕ, _<_}
 use native.Mathlib.Omega.{arith}
-use borrow.Author.Tests.{not-true}
 use Rattle.below.proofs.Tests.{by-cases, true-or-false}
 use Rattle.below.proofs.Every.{allBelow-at}
 use Rattle.tables.specs.Limits.{Limits}
 use Rattle.tables.specs.Tables.{Tables, fullSize}
-use Rattle.precedence.specs.Graph.{Formed, cyclic, Cycle}
+use Rattle.precedence.specs.Graph.{Formed}
 use Rattle.precedence.proofs.Visits.{cyclic-iff, acyclic-iff}
 use Rattle.plan.specs.Field.{FieldPlan, AcceptedPlan, planOf, flip, graph, fixed}
 use Rattle.plan.specs.Status.{Status, statusIn, fixedUnturned}
@@ -19,7 +18,7 @@ use Rattle.sound.specs.Sound.{sound}
 use Rattle.conductor.specs.CallLog.{Call, grant, arrive, turn, Reply, accepted, refused, mustWait, number, replyIn}
 use Rattle.conductor.specs.Calls.{replyOf, grantStep, arriveStep, turnStep}
 use Rattle.conductor.specs.Claims.{Usable, MayGo, MustWait, MayArrive, Turnable, TurnedCycle, GrantedExactly, WaitsExactly, ArrivedExactly, Never33, TurnedExactly, CycleExactly}
-use Rattle.conductor.proofs.SoundParts.{Sound, sound-says, accepted-plan}
+use Rattle.conductor.proofs.SoundParts.{sound-says, accepted-plan}
 use Rattle.conductor.proofs.Checks.{differ, unfixed-is, grant-accepted, grant-waits, arrive-accepted, turn-accepted, turn-cycle, turn-33}
 
 -- none of the fixed ones is turned, as a test and as a law

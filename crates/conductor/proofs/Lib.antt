@@ -10,3 +10,6 @@ pub mod Shown
 pub mod Whole
 pub mod Steps
 pub mod Exactly
+pub mod Costs
+pub mod Claims
+pub mod Meaning
