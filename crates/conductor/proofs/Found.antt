@@ -9,13 +9,13 @@ use lib.Dec.{eqb, ltb, leb}
 use borrow.Author.Tests.{ltb-true, eqb-true, eqb-false, leb-true, leb-false}
 use Rattle.below.proofs.Tests.{by-cases, and-left, and-right}
 use Rattle.below.specs.Below.{firstBelow}
-use Rattle.conductor.proofs.Checks.{grant-passes}
+use Rattle.conductor.proofs.Checks.{grant-accepted, free-goes}
 use Rattle.conductor.proofs.Log.{arrivals, grants, turns, GoodLog}
 use Rattle.conductor.specs.CallLog.{Entry, statusOf, holdsLocation, short}
 use Rattle.conductor.specs.Demand.{HeldByOne, GoesOn, Finishes}
 use Rattle.plan.proofs.Turns.{graph-formed}
 use Rattle.plan.specs.Field.{Dependency, FieldPlan, inForce, waitOf, graph, AcceptedPlan}
-use Rattle.precedence.proofs.Rounds.{free-unfinished, finished-at, somebody-free, rounds-finish}
+use Rattle.precedence.proofs.Rounds.{finished-at, somebody-free, rounds-finish}
 use Rattle.precedence.proofs.Visits.{acyclic-iff}
 use Rattle.precedence.specs.Graph.{Cycle, free, finished, unvisited}
 
@@ -32,7 +32,7 @@ module _ (F : FieldPlan) (plan : AcceptedPlan F) (log : List Entry) (good : Good
   unfolding short
   log-goes-on d l s = by-cases (ltb (arrivals log free-one) (grants log free-one))
       (λ u. inl (free-one, is-free .0, u))
-      (λ u. inr (free-one, is-free .0, grant-passes F (statusOf log) free-one (record { drone-in = is-free .0; unfinished = free-unfinished (graph F (turns log)) (arrivals log) free-one (is-free .1); idle = u; free-now = is-free .1 })))
+      (λ u. inr (free-one, is-free .0, grant-accepted F (statusOf log) free-one .1 (free-goes F (statusOf log) free-one (is-free .0) (is-free .1) u)))
     where
       free-one : ℕ
       free-one = firstBelow drones (free (graph F (turns log)) (arrivals log))

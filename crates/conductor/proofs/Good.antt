@@ -1,21 +1,21 @@
 -- What every list of calls keeps, over plain functions: p counts the accepted arrivals of each drone, e its accepted grants, t says what is turned. Each accepted call
 -- changes one of the three at one index. Assumes nothing.
-use mathlib.Core.Path.{_≡_, sym, ap, _∙_}
-use mathlib.Core.Logic.{_≢_}
-use mathlib.Core.Bool.{Bool, true, false, _&&_}
+use mathlib.Core.Path.{_≡_}
+use mathlib.Core.Bool.{Bool, true, false}
 use Prim.Native.Nat.{ℕ, suc, _≤_, _<_}
 use native.Mathlib.Omega.{arith}
-use lib.Dec.{eqb, ltb, leb}
-use borrow.Author.Tests.{ltb-true, ltb-false, leb-false, eqb-false}
+use lib.Dec.{ltb}
+use borrow.Author.Tests.{ltb-true, ltb-false}
 use Rattle.below.proofs.Index.{put-elim}
-use Rattle.below.proofs.Tests.{by-cases, or-left, or-right}
+use Rattle.below.proofs.Tests.{by-cases}
 use Rattle.below.specs.Below.{put}
-use Rattle.conductor.proofs.Checks.{GrantPassed, ArrivePassed, TurnPassed}
+use Rattle.conductor.specs.Claims.{MayGo, MayArrive, Unentered, Turnable}
+use Rattle.conductor.proofs.Checks.{unfixed-is, go-free}
 use Rattle.conductor.proofs.Running.{Running, grant-running, arrive-running}
 use Rattle.plan.specs.Field.{FieldPlan, inForce, waitOf, flip, graph, fixed, AcceptedPlan}
 use Rattle.plan.specs.Claims.{unturned, Unfixed}
-use Rattle.plan.proofs.Turns.{flip-elim, second-comes, none-unfixed, planned-acyclic}
-use Rattle.plan.specs.Status.{Status, entered}
+use Rattle.plan.proofs.Turns.{flip-elim, graph-formed, none-unfixed, planned-acyclic}
+use Rattle.plan.specs.Status.{Status}
 use Rattle.precedence.specs.Graph.{cyclic}
 
 module _ (F : FieldPlan) where
@@ -30,7 +30,7 @@ module _ (F : FieldPlan) where
 
   pub good-start : AcceptedPlan F → Good (λ d. 0) (λ d. 0) unturned
   good-start accepted = record {
-    running = record { behind = λ d. omega arith; ahead = λ d. omega arith; over = λ w l h. absurd (omega (arith, second-comes F accepted (dependency w) (accepted .each w l))) };
+    running = record { behind = λ d. omega arith; ahead = λ d. omega arith; over = λ w l h. absurd (omega (arith, graph-formed F accepted unturned (none-unfixed F accepted) w l .stop-pos)) };
     within = λ d l. omega arith;
     unfixed = none-unfixed F accepted;
     acyclic = planned-acyclic F accepted;
@@ -41,40 +41,38 @@ module _ (F : FieldPlan) where
   abbrev pub statusBy : (ℕ → ℕ) → (ℕ → ℕ) → (ℕ → Bool) → Status
   statusBy p e t = record { place = p; underWay = λ d. ltb (p d) (e d); turned = t }
 
-  pub good-grant : (p e : ℕ → ℕ) (t : ℕ → Bool) → Good p e t → (d : ℕ) → GrantPassed F (statusBy p e t) d → Good p (put e d (suc (p d))) t
+  pub good-grant : (p e : ℕ → ℕ) (t : ℕ → Bool) → Good p e t → (d : ℕ) → MayGo F (statusBy p e t) d → Good p (put e d (suc (p d))) t
   good-grant p e t g d c = record {
-    running = grant-running (graph F t) p e (g .running) d (c .free-now);
-    within = put-elim (λ c z. c < drones → z ≤ last c) e d (suc (p d)) (λ l. c .unfinished) (λ c n. g .within c);
+    running = grant-running (graph F t) p e (g .running) d (go-free F (statusBy p e t) d c);
+    within = put-elim (λ c z. c < drones → z ≤ last c) e d (suc (p d)) (λ l. c .waiting .unfinished) (λ c n. g .within c);
     unfixed = g .unfixed;
     acyclic = g .acyclic;
   }
 
-  pub good-arrive : (p e : ℕ → ℕ) (t : ℕ → Bool) → Good p e t → (d : ℕ) → ArrivePassed F (statusBy p e t) d → Good (put p d (suc (p d))) e t
+  pub good-arrive : (p e : ℕ → ℕ) (t : ℕ → Bool) → Good p e t → (d : ℕ) → MayArrive F (statusBy p e t) d → Good (put p d (suc (p d))) e t
   good-arrive p e t g d c = record {
-    running = arrive-running (graph F t) p e (g .running) d (omega (arith, g .running .ahead d, ltb-true (p d) (e d) (c .moving)));
+    running = arrive-running (graph F t) p e (g .running) d (omega (arith, g .running .ahead d, ltb-true (p d) (e d) (c .under-way)));
     within = g .within;
     unfixed = g .unfixed;
     acyclic = g .acyclic;
   }
 
   -- a stop that is not entered is past the last entered one
-  pub not-entered : (p e : ℕ → ℕ) (t : ℕ → Bool) → Good p e t → (d k : ℕ) → entered F (statusBy p e t) d k ≡ false → e d < k
-  not-entered p e t g d k h =
-      let a : p d < k = leb-false k (p d) (or-left (leb k (p d)) _ h) in
-      by-cases (ltb (p d) (e d))
-      (λ u. let n : k ≢ suc (p d) = eqb-false k (suc (p d)) (sym (ap (λ (b : Bool). b && eqb k (suc (p d))) u) ∙ or-right (leb k (p d)) _ h) in omega (arith, g .running .ahead d))
+  not-entered : (p e : ℕ → ℕ) (t : ℕ → Bool) → Good p e t → (d k : ℕ) → Unentered F (statusBy p e t) d k → e d < k
+  not-entered p e t g d k (past, ahead) = by-cases (ltb (p d) (e d))
+      (λ u. omega (arith, ahead u, g .running .ahead d))
       (λ u. omega (arith, ltb-false (p d) (e d) u))
 
-  pub good-turn : (p e : ℕ → ℕ) (t : ℕ → Bool) → Good p e t → (w : ℕ) → TurnPassed F (statusBy p e t) w → Good p e (flip t w)
-  good-turn p e t g w c = record {
+  pub good-turn : (p e : ℕ → ℕ) (t : ℕ → Bool) → Good p e t → (w : ℕ) → Turnable F (statusBy p e t) w → cyclic (graph F (flip t w)) ≡ false → Good p e (flip t w)
+  good-turn p e t g w c no-cycle = record {
     running = record {
       behind = g .running .behind;
       ahead = g .running .ahead;
       over = flip-elim (λ v b. v < count → waitOf (inForce b (dependency v)) .stop ≤ e (waitOf (inForce b (dependency v)) .waiter) → waitOf (inForce b (dependency v)) .until ≤ p (waitOf (inForce b (dependency v)) .awaited)) t w unentered (λ v. g .running .over v);
     };
     within = g .within;
-    unfixed = flip-elim (λ v b. v < count → b ≡ true → fixed F v ≡ false) t w (λ b l u. c .not-fixed) (λ v. g .unfixed v);
-    acyclic = c .no-cycle;
+    unfixed = flip-elim (λ v b. v < count → b ≡ true → fixed F v ≡ false) t w (λ b l u. unfixed-is F (statusBy p e t) (c .not-first) (c .not-last)) (λ v. g .unfixed v);
+    acyclic = no-cycle;
   }
     where
       -- nobody has entered the stops of a dependency that may be turned, so nothing is asked of it

@@ -8,3 +8,8 @@ pub mod SoundParts
 pub mod Agree
 pub mod Shown
 pub mod Whole
+pub mod Steps
+pub mod Exactly
+pub mod Costs
+pub mod Claims
+pub mod Meaning

@@ -8,7 +8,8 @@ use lib.Dec.{eqb, ltb}
 use borrow.Author.Tests.{ltb-false, eqb-true}
 use Rattle.below.proofs.Tests.{by-cases}
 use Rattle.below.specs.Below.{pick, put}
-use Rattle.conductor.proofs.Checks.{GrantPassed, grant-passed, arrive-passed, turn-passed}
+use Rattle.conductor.proofs.Checks.{grant-passed, arrive-passed, turn-passed}
+use Rattle.conductor.specs.Claims.{MayGo}
 use Rattle.conductor.proofs.Counts.{counted-more, isOdd-suc}
 use Rattle.conductor.proofs.Good.{Good, good-start, good-grant, good-arrive, good-turn}
 use Rattle.conductor.specs.CallLog.{Call, grant, arrive, turn, Reply, isAccepted, Entry, entry, isGrant, isArrival, isTurn, acceptedCalls, isOdd, statusOf, replyBy, logFrom}
@@ -83,9 +84,9 @@ module _ (F : FieldPlan) where
   good-more log g c = by-cases (isAccepted (replyBy F log c)) (yes′ c) (λ e. good-counts _ _ _ _ (counts-refused log (replyBy F log c) c e) g)
     where
       yes′ : (c : Call) → isAccepted (replyBy F log c) ≡ true → GoodLog (log ++ (entry c (replyBy F log c) ∷ []))
-      yes′ (grant d) e = let q : GrantPassed F (statusOf log) d = grant-passed F (statusOf log) d e in good-counts _ _ _ _ (counts-grant log _ d e (idle-same log g d (q .idle))) (good-grant F _ _ _ g d q)
+      yes′ (grant d) e = let q : MayGo F (statusOf log) d = grant-passed F (statusOf log) d e in good-counts _ _ _ _ (counts-grant log _ d e (idle-same log g d (q .waiting .idle))) (good-grant F _ _ _ g d q)
       yes′ (arrive d) e = good-counts _ _ _ _ (counts-arrive log _ d e) (good-arrive F _ _ _ g d (arrive-passed F (statusOf log) d e))
-      yes′ (turn w) e = good-counts _ _ _ _ (counts-turn log _ w e) (good-turn F _ _ _ g w (turn-passed F (statusOf log) w e))
+      yes′ (turn w) e = let q = turn-passed F (statusOf log) w e in good-counts _ _ _ _ (counts-turn log _ w e) (good-turn F _ _ _ g w (q .0) (q .1))
 
   pub good-calls : (cs : List Call) (log : List Entry) → GoodLog log → GoodLog (logFrom F log cs)
   unfolding logFrom

@@ -13,14 +13,19 @@ use Rattle.sound.specs.Sound.{sound}
 use Rattle.conductor.specs.CallLog.{Call, grant, arrive, turn, Reply, isAccepted, Entry, entry, statusOf, acceptedCalls, replyBy, logFrom, logOf}
 use Rattle.conductor.specs.Calls.{Answer, granted, arrived, flipped, grantStep, arriveStep, turnStep, step, recorded, tablesAfter, Answered, Ran, none, next, AsRead}
 use Rattle.conductor.specs.Demand.{Found, Demand3, Demand3OfContracts}
-use Rattle.conductor.proofs.Checks.{GrantPassed, grant-passed, ArrivePassed, arrive-passed, TurnPassed, turn-passed}
+use Rattle.conductor.proofs.Checks.{grant-passed, arrive-passed, turn-passed}
+use Rattle.conductor.specs.Claims.{MayGo, MayArrive}
 use Rattle.conductor.proofs.Log.{arrivals, grants, turns, Counts, counts-refused, counts-grant, counts-arrive, counts-turn, GoodLog, good-empty, idle-same, good-more, good-calls}
+use Rattle.conductor.proofs.SoundParts.{accepted-plan}
 use Rattle.conductor.proofs.Shown.{SamePlan, full-same, Kept, kept-grant, kept-arrive, kept-turn, kept-status, kept-sound, kept-reply, kept-start}
 use Rattle.conductor.proofs.Found.{log-held, log-goes-on, log-finishes}
 
-module _ (L : Limits) (lists : PlanLists) (t₀ : Tables) (plan : AcceptedPlan (planOf lists)) (read : AsRead L lists t₀) where
+module _ (L : Limits) (lists : PlanLists) (t₀ : Tables) (read : AsRead L lists t₀) where
   abbrev F : FieldPlan
   F = planOf lists
+
+  plan : AcceptedPlan F
+  plan = accepted-plan L lists (read .plan-accepted) (read .dependencies-own)
 
   -- the tables show the log, entry by entry
   abbrev KeptLog : List Entry → Tables → Type 0
@@ -55,14 +60,14 @@ module _ (L : Limits) (lists : PlanLists) (t₀ : Tables) (plan : AcceptedPlan (
     kept-left : (c : Call) → isAccepted (replyBy F log c) ≡ true → KeptLog (log ++ (entry c (replyBy F log c) ∷ [])) (left c)
     unfolding left
     kept-left (grant d) e =
-        let q : GrantPassed F (statusOf log) d = grant-passed F (statusOf log) d e in
-        kept-counts _ _ _ _ _ (counts-grant log _ d e (idle-same F log good d (q .idle))) (kept-grant L lists t₀ read _ _ _ t kept d (q .drone-in))
+        let q : MayGo F (statusOf log) d = grant-passed F (statusOf log) d e in
+        kept-counts _ _ _ _ _ (counts-grant log _ d e (idle-same F log good d (q .waiting .idle))) (kept-grant L lists t₀ read _ _ _ t kept d (q .waiting .exists))
     kept-left (arrive d) e =
-        let q : ArrivePassed F (statusOf log) d = arrive-passed F (statusOf log) d e in
-        kept-counts _ _ _ _ _ (counts-arrive log _ d e) (kept-arrive L lists t₀ read _ _ _ t kept d (q .drone-in) (good .running .ahead d))
+        let q : MayArrive F (statusOf log) d = arrive-passed F (statusOf log) d e in
+        kept-counts _ _ _ _ _ (counts-arrive log _ d e) (kept-arrive L lists t₀ read _ _ _ t kept d (q .exists) (good .running .ahead d))
     kept-left (turn w) e =
-        let q : TurnPassed F (statusOf log) w = turn-passed F (statusOf log) w e in
-        kept-counts _ _ _ _ _ (counts-turn log _ w e) (kept-turn L lists t₀ read _ _ _ t kept w (q .dependency-in))
+        let q = turn-passed F (statusOf log) w e in
+        kept-counts _ _ _ _ _ (counts-turn log _ w e) (kept-turn L lists t₀ read _ _ _ t kept w (q .0 .exists))
 
     kept-more : (c : Call) → KeptLog (log ++ (entry c (replyBy F log c) ∷ [])) (step L t c .tables)
     kept-more c = by-cases (isAccepted (replyBy F log c))
@@ -115,7 +120,7 @@ module _ (L : Limits) (lists : PlanLists) (t₀ : Tables) (plan : AcceptedPlan (
   stays-within calls d l = omega (arith, kept-calls calls [] (good-empty F plan) t₀ kept-empty .visited-is d l, good-calls F calls [] (good-empty F plan) .running .behind d, good-calls F calls [] (good-empty F plan) .within d l)
 
 pub demand3 : Demand3
-demand3 L lists t calls plan read = found L lists t plan read calls
+demand3 L lists t calls read = found L lists t read calls
 
 -- a run by contracts is the run of the step functions
 pub replies-of : (L : Limits) {t t′ : Tables} {cs : List Call} {es : List Entry} → Ran (step L) t cs es t′ → es ≡ recorded (step L) t cs
@@ -129,7 +134,7 @@ tables-of L none = refl
 tables-of L (next {cs = cs} a r) = tables-of L r ∙ ap (λ (t : Tables). tablesAfter (step L) t cs) (a .left)
 
 pub demand3-of-contracts : Demand3OfContracts
-demand3-of-contracts L lists t calls got t′ plan read ran = rw (replies-of L ran, tables-of L ran) (demand3 L lists t calls plan read)
+demand3-of-contracts L lists t calls got t′ read ran = rw (replies-of L ran, tables-of L ran) (demand3 L lists t calls read)
 
 -- every list of calls has such a run
 pub ran : (L : Limits) (cs : List Call) (t : Tables) → Ran (step L) t cs (recorded (step L) t cs) (tablesAfter (step L) t cs)

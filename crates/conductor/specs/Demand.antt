@@ -7,7 +7,7 @@ use Prim.Native.Nat.{ℕ, _≤_, _<_}
 use Rattle.tables.specs.Limits.{Limits}
 use Rattle.tables.specs.Tables.{PlanLists, Tables}
 use Rattle.precedence.specs.Graph.{play, finished, unvisited}
-use Rattle.plan.specs.Field.{FieldPlan, graph, AcceptedPlan, planOf}
+use Rattle.plan.specs.Field.{FieldPlan, graph, planOf}
 use Rattle.plan.specs.Status.{Status, statusIn}
 use Rattle.conductor.specs.CallLog.{Call, grant, accepted, statusOf, Entry, replyBy, logOf, holdsLocation, short}
 use Rattle.conductor.specs.Calls.{Answer, step, AsRead, recorded, tablesAfter, Ran}
@@ -55,7 +55,7 @@ pub record Found (lists : PlanLists) (calls : List Call) (got : List Entry) (t�
 -- what is claimed of a program: "any accepted plan, then every list of grants, arrivals and turns, of any length and order, whatever drone or
 -- dependency each names, refused ones included"
 abbrev pub Demand3Of : Limits → (Tables → Call → Answer) → Type 0
-Demand3Of L program = (lists : PlanLists) (t : Tables) (calls : List Call) → AcceptedPlan (planOf lists) → AsRead L lists t → Found lists calls (recorded program t calls) (tablesAfter program t calls)
+Demand3Of L program = (lists : PlanLists) (t : Tables) (calls : List Call) → AsRead L lists t → Found lists calls (recorded program t calls) (tablesAfter program t calls)
 
 -- demand 3 of the conductor's calls
 abbrev pub Demand3 : Type 0
@@ -63,4 +63,4 @@ Demand3 = (L : Limits) → Demand3Of L (step L)
 
 -- the same of any run of real calls, known by their contracts alone
 abbrev pub Demand3OfContracts : Type 0
-Demand3OfContracts = (L : Limits) (lists : PlanLists) (t : Tables) (calls : List Call) (got : List Entry) (t′ : Tables) → AcceptedPlan (planOf lists) → AsRead L lists t → Ran (step L) t calls got t′ → Found lists calls got t′
+Demand3OfContracts = (L : Limits) (lists : PlanLists) (t : Tables) (calls : List Call) (got : List Entry) (t′ : Tables) → AsRead L lists t → Ran (step L) t calls got t′ → Found lists calls got t′

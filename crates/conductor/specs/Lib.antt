@@ -1,3 +1,4 @@
 pub mod CallLog
 pub mod Calls
 pub mod Demand
+pub mod Claims
