@@ -1,1 +1,2 @@
 pub mod StopsLaws
+pub mod CheckLaws
