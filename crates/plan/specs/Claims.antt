@@ -155,7 +155,7 @@ module _ (F : FieldPlan) where
     pub j-to-i : location j (suc stop-of-j) ≡ location i stop-of-i
     pub together : time i (suc stop-of-i) ≡ time j (suc stop-of-j)
 
-  -- no two different drones do so
+  -- no two different drones do so, in either order
   abbrev pub Never : (ℕ → ℕ → Type 0) → Type 0
   Never C = (i j : ℕ) → i < drones → j < drones → i ≢ j → C i j → ⊥
 
@@ -207,6 +207,7 @@ module _ (F : FieldPlan) where
     pub is-theirs : Between d s e k (dependency index)
     pub no-other : (w : ℕ) → w < count → Between d s e k (dependency w) → w ≡ index
 
+-- the dependencies of an accepted plan, what a turn does, and the graph as planned
 pub record GraphClaims : Type 0 where
   pub one-dependency : (F : FieldPlan) → AcceptedPlan F → (d s e k : ℕ) → d < F .drones → s ≤ F .last d → e < F .drones → k ≤ F .last e → d ≢ e → F .location d s ≡ F .location e k → OneDependency F d s e k
   pub turn-rules : (F : FieldPlan) (turned : ℕ → Bool) (w : ℕ) → TurnRules F turned w
