@@ -177,8 +177,10 @@ unturned w = false
 module _ (F : FieldPlan) where
   open FieldPlan F using (count, dependency)
 
-  -- what a turn of dependency w does to the rules
+  -- the rule of dependency w, and what a turn of it does to the rules
   pub record TurnRules (turned : ℕ → Bool) (w : ℕ) : Type 0 where
+    -- "If drone j is there first at its stop s and drone i later at its stop k, then i may enter stop k only after j has visited stop s+1"
+    pub planned-rule : turned w ≡ false → graph F turned .wait w ≡ record { waiter = dependency w .second; stop = dependency w .secondStop; awaited = dependency w .first; until = suc (dependency w .firstStop) }
     -- "Turning the dependency makes the rule: j may enter s only after i has visited k+1"
     pub turned-rule : turned w ≡ false → graph F (flip turned w) .wait w ≡ record { waiter = dependency w .first; stop = dependency w .firstStop; awaited = dependency w .second; until = suc (dependency w .secondStop) }
     -- every other dependency keeps its rule
