@@ -1,3 +1,4 @@
 pub mod Reading
 pub mod TextRead
 pub mod Written
+pub mod Claims
