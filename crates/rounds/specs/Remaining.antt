@@ -33,6 +33,19 @@ pub record Ready (L : Limits) (owners starts lasts : List ℕ) (drones n : ℕ) 
   pub kept : Kept (flatPlan (at owners) (at starts) (at lasts) drones (at from) (at into) m) (at visited)
   pub within : (d : ℕ) → d < drones → at visited d ≤ at lasts d
 
+-- stop v has an owner, which is a drone of the tables, and is no earlier than that drone's first stop
+pub record StopIn (L : Limits) (owners : List ℕ) (off : ℕ → ℕ) (v : ℕ) : Type 0 where
+  pub stop-in : v < L .stops
+  pub owned : v < length owners
+  pub owner-in : at owners v < L .drones
+  pub past : off (at owners v) ≤ v
+
+-- both stops of each wait are such stops
+pub record WaitsIn (L : Limits) (owners : List ℕ) (off from into : ℕ → ℕ) (m : ℕ) : Type 0 where
+  pub few : m ≤ L .dependencies
+  pub from-in : (k : ℕ) → k < m → StopIn L owners off (from k)
+  pub into-in : (k : ℕ) → k < m → StopIn L owners off (into k)
+
 -- ---- one round
 
 module _ (own off from into : ℕ → ℕ) (p : ℕ → ℕ) where
