@@ -12,7 +12,7 @@ use Rattle.below.specs.Below.{pick, countBelow, sumBelow}
 use Rattle.tables.specs.Limits.{Limits}
 use Rattle.precedence.specs.Graph.{Plan, Formed, Cycle, unvisited, cost}
 use Rattle.precedence.proofs.Visits.{cost-bound}
-use Rattle.rounds.specs.FlatPlan.{flatPlan, Laid}
+use Rattle.rounds.specs.FlatPlan.{flatPlan, Shape}
 
 -- a run of indices that all pass
 count-run : (f : ℕ → Bool) (a len : ℕ) → ((s : ℕ) → s < len → f (a + s) ≡ true) → countBelow a f + len ≤ countBelow (a + len) f
@@ -44,13 +44,13 @@ count-split g e (suc n) = go (ltb (g n) e) (eqb (g n) e) (ltb (g n) (suc e)) ref
     go false false true x y z h = omega arith
     go false false false x y z h = h
 
-module _ (own off last : ℕ → ℕ) (drones n : ℕ) (from into : ℕ → ℕ) (m : ℕ) (laid : Laid own off last drones n from into m) where
+module _ (own off last : ℕ → ℕ) (drones n : ℕ) (from into : ℕ → ℕ) (m : ℕ) (shape : Shape own off last drones n) where
   -- a drone has as many stops as it owns, or fewer
   owned : (d : ℕ) → d < drones → suc (last d) ≤ countBelow n (λ v. eqb (own v) d)
   owned d l = omega (
     arith,
-    count-run (λ v. eqb (own v) d) (off d) (suc (last d)) (λ s h. eq-eqb _ _ (laid .place-own d s l (omega arith))),
-    count-mono (off d + suc (last d)) n (λ v. eqb (own v) d) (omega (arith, laid .place-in d (last d) l (omega arith))),
+    count-run (λ v. eqb (own v) d) (off d) (suc (last d)) (λ s h. eq-eqb _ _ (shape .place-own d s l (omega arith))),
+    count-mono (off d + suc (last d)) n (λ v. eqb (own v) d) (omega (arith, shape .place-in d (last d) l (omega arith))),
   )
 
   stops-below : (e : ℕ) → e ≤ drones → sumBelow e (λ d. suc (last d)) ≤ countBelow n (λ v. ltb (own v) e)

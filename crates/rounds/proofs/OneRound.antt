@@ -14,19 +14,19 @@ use Rattle.below.proofs.Tests.{by-cases}
 use Rattle.below.proofs.Fill.{length-fill, getD-fill}
 use Rattle.below.specs.Below.{pick, allBelow, anyBelow, fillBelow, at}
 use Rattle.precedence.specs.Graph.{Plan, Formed, blocks, free, round}
-use Rattle.rounds.specs.FlatPlan.{flatPlan, Laid}
+use Rattle.rounds.specs.FlatPlan.{flatPlan, PlacedWaits}
 use Rattle.tables.specs.Limits.{Limits}
 use Rattle.rounds.specs.Remaining.{StopIn, WaitsIn, keepsBack, blockedMark, placeAfter}
 use Rattle.rounds.proofs.Extra.{any-none, any-hit, any-miss}
 
 -- the waits name stops, and none of them a stop 0 to be entered
-pub laid-formed : (own off last : ℕ → ℕ) (drones n : ℕ) (from into : ℕ → ℕ) (m : ℕ) → Laid own off last drones n from into m → Formed (flatPlan own off last drones from into m)
-laid-formed own off last drones n from into m laid k l = record {
-  waiter-in = laid .own-in (into k) (laid .into-in k l);
-  stop-pos = omega (arith, laid .into-later k l);
-  stop-in = omega (arith, laid .number-in (into k) (laid .into-in k l));
-  awaited-in = laid .own-in (from k) (laid .from-in k l);
-  until-in = omega (arith, laid .number-in (from k) (laid .from-in k l));
+pub placed-formed : (own off last : ℕ → ℕ) (drones n : ℕ) (from into : ℕ → ℕ) (m : ℕ) → PlacedWaits own off last drones n from into m → Formed (flatPlan own off last drones from into m)
+placed-formed own off last drones n from into m placed k l = record {
+  waiter-in = placed .shape .own-in (into k) (placed .into-in k l);
+  stop-pos = omega (arith, placed .into-later k l);
+  stop-in = omega (arith, placed .shape .number-in (into k) (placed .into-in k l));
+  awaited-in = placed .shape .own-in (from k) (placed .from-in k l);
+  until-in = omega (arith, placed .shape .number-in (from k) (placed .from-in k l));
 }
 
 -- a marked place and an unmarked one, after a round
@@ -147,9 +147,9 @@ module _ (L : Limits) (owners : List ℕ) (off : ℕ → ℕ) (v : ℕ) (there :
   read-past d f ed ef = rw (ef, ed, eb) (there .past)
 
 -- every stop and every wait of laid tables is one
-module _ (L : Limits) (owners : List ℕ) (off last : ℕ → ℕ) (drones n : ℕ) (from into : ℕ → ℕ) (m : ℕ) (laid : Laid (at owners) off last drones n from into m) (has-owners : n ≤ length owners) (few-stops : n ≤ L .stops) (few-drones : drones ≤ L .drones) where
+module _ (L : Limits) (owners : List ℕ) (off last : ℕ → ℕ) (drones n : ℕ) (from into : ℕ → ℕ) (m : ℕ) (placed : PlacedWaits (at owners) off last drones n from into m) (has-owners : n ≤ length owners) (few-stops : n ≤ L .stops) (few-drones : drones ≤ L .drones) where
   pub stops-in : (v : ℕ) → v < n → StopIn L owners off v
-  stops-in v l = record { stop-in = omega arith; owned = omega arith; owner-in = omega (arith, laid .own-in v l); past = laid .off-le v l }
+  stops-in v l = record { stop-in = omega arith; owned = omega arith; owner-in = omega (arith, placed .shape .own-in v l); past = placed .shape .off-le v l }
 
   pub waits-in : m ≤ L .dependencies → WaitsIn L owners off from into m
-  waits-in few = record { few = few; from-in = λ k l. stops-in (from k) (laid .from-in k l); into-in = λ k l. stops-in (into k) (laid .into-in k l) }
+  waits-in few = record { few = few; from-in = λ k l. stops-in (from k) (placed .from-in k l); into-in = λ k l. stops-in (into k) (placed .into-in k l) }

@@ -152,7 +152,7 @@ pub fn play_rounds(
     m: usize,
     visited: &[u16],
 ) -> Played
-    requires { ⌜ Ready limits (now owners) (now starts) (now lasts) drones n (now from) (now into) m (now visited) ⌝ }
+    requires { ⌜ Ready (now owners) (now starts) (now lasts) drones n (now from) (now into) m (now visited) ⌝ }
     ensures { λ r. ⌜ (r .rounds ≡ roundsLeft (flatPlan (at (now (owners .entry))) (at (now (starts .entry))) (at (now (lasts .entry))) drones (at (now (from .entry))) (at (now (into .entry))) m) (at (now (visited .entry)))) × (r .cost ≡ cost (flatPlan (at (now (owners .entry))) (at (now (starts .entry))) (at (now (lasts .entry))) drones (at (now (from .entry))) (at (now (into .entry))) m) (at (now (visited .entry)))) ⌝ }
 {
     let mut places = [0u16; 32];

@@ -10,7 +10,7 @@ use Rattle.rounds.specs.FlatPlan.{flatPlan}
 use Rattle.rounds.specs.Remaining.{Ready}
 use Rattle.rounds.proofs.Extra.{copied-long, copied-at}
 use Rattle.rounds.proofs.PlayingLoop.{Playing, playing-start, playing-end, playing-early, playing-small, playing-round, playing-less}
-use Rattle.rounds.proofs.Readiness.{ready-formed, ready-acyclic, ready-waits, ready-rounds, cost-at-most}
+use Rattle.rounds.proofs.Readiness.{ready-formed, ready-acyclic, ready-waits, ready-rounds, ready-cost}
 use Rattle.rounds.proofs.playing.play_rounds.Statement.{statement}
 use Rattle.rounds.proofs.playing.play_rounds.Tie as tie
 use Rattle.rounds.proofs.playing.play_rounds.Reads as reads
@@ -27,39 +27,39 @@ abbrev μ-loop : tie.MeasureT-loop
 
 -- src/playing.rt:159:5
 copy-places-requires : tie.Need-copy-places-requires Inv-loop μ-loop
-copy-places-requires c κs = (c .before .before .before .pre .few-drones, c .before .before .before .pre .has-visited, refl)
+copy-places-requires c κs = (c .before .before .before .pre .tables .few-drones, c .before .before .before .pre .has-visited, refl)
 
 -- src/playing.rt:162:9
 loop-holds : tie.Need-loop-holds Inv-loop μ-loop
-loop-holds c = playing-start _ (ready-formed _ _ _ _ _ _ _ _ _ _ (c .before .before .before .before .pre)) (ready-acyclic _ _ _ _ _ _ _ _ _ _ (c .before .before .before .before .pre)) _ 32 _ (copied-long _ _ _ _ (c .copy-places .ensures) ∙ refl) (copied-at _ _ _ _ (c .copy-places .ensures) (c .before .before .before .before .pre .few-drones))
+loop-holds c = playing-start _ (ready-formed _ _ _ _ _ _ _ _ _ (c .before .before .before .before .pre)) (ready-acyclic _ _ _ _ _ _ _ _ _ (c .before .before .before .before .pre)) _ 32 _ (copied-long _ _ _ _ (c .copy-places .ensures) ∙ refl) (copied-at _ _ _ _ (c .copy-places .ensures) (c .before .before .before .before .pre .tables .few-drones))
 
 -- src/playing.rt:163:13
 unfinished-requires : tie.Need-unfinished-requires Inv-loop μ-loop
-unfinished-requires c κs = c .before .before .before .before .before .before .pre .few-drones
+unfinished-requires c κs = c .before .before .before .before .before .before .pre .tables .few-drones
 
 -- src/playing.rt:167:9
 add-cost : tie.Need-add-cost Inv-loop μ-loop
-add-cost c = omega (arith, playing-small _ (ready-formed _ _ _ _ _ _ _ _ _ _ (c .before .before .before .before .before .before .before .before .pre)) (ready-acyclic _ _ _ _ _ _ _ _ _ _ (c .before .before .before .before .before .before .before .before .pre)) _ (c .before .before .before .loop .inv) (c .before .unfinished .ensures .0) (c .if1 .left), cost-at-most _ _ _ _ _ _ _ _ _ (c .before .before .before .before .before .before .before .before .pre))
+add-cost c = omega (arith, playing-small _ (ready-formed _ _ _ _ _ _ _ _ _ (c .before .before .before .before .before .before .before .before .pre)) (ready-acyclic _ _ _ _ _ _ _ _ _ (c .before .before .before .before .before .before .before .before .pre)) _ (c .before .before .before .loop .inv) (c .before .unfinished .ensures .0) (c .if1 .left), ready-cost _ _ _ _ _ _ _ _ _ (c .before .before .before .before .before .before .before .before .pre))
 
 -- src/playing.rt:168:9
 play-round-requires : tie.Need-play-round-requires Inv-loop μ-loop
-play-round-requires c κs = (ready-waits _ _ _ _ _ _ _ _ _ _ (c .before .before .before .before .before .before .before .before .before .pre), c .before .before .before .before .before .before .before .before .before .pre .few-drones, c .before .before .before .before .loop .inv .long)
+play-round-requires c κs = (ready-waits _ _ _ _ _ _ _ _ _ (c .before .before .before .before .before .before .before .before .before .pre), c .before .before .before .before .before .before .before .before .before .pre .tables .few-drones, c .before .before .before .before .loop .inv .long)
 
 -- src/playing.rt:169:9
 add-k : tie.Need-add-k Inv-loop μ-loop
-add-k c = omega (arith, playing-early _ (ready-formed _ _ _ _ _ _ _ _ _ _ (c .before .before .before .before .before .before .before .before .before .before .pre)) (ready-acyclic _ _ _ _ _ _ _ _ _ _ (c .before .before .before .before .before .before .before .before .before .before .pre)) _ (c .before .before .before .before .before .loop .inv) (c .before .before .before .unfinished .ensures .0) (c .before .before .if1 .left), ready-rounds _ _ _ _ _ _ _ _ _ _ (c .before .before .before .before .before .before .before .before .before .before .pre))
+add-k c = omega (arith, playing-early _ (ready-formed _ _ _ _ _ _ _ _ _ (c .before .before .before .before .before .before .before .before .before .before .pre)) (ready-acyclic _ _ _ _ _ _ _ _ _ (c .before .before .before .before .before .before .before .before .before .before .pre)) _ (c .before .before .before .before .before .loop .inv) (c .before .before .before .unfinished .ensures .0) (c .before .before .if1 .left), ready-rounds _ _ _ _ _ _ _ _ _ (c .before .before .before .before .before .before .before .before .before .before .pre))
 
 -- src/playing.rt:162:9
 loop-less : tie.Need-loop-less Inv-loop μ-loop
-loop-less c = playing-less _ (ready-formed _ _ _ _ _ _ _ _ _ _ (c .before .before .before .before .before .before .before .before .before .before .pre)) (ready-acyclic _ _ _ _ _ _ _ _ _ _ (c .before .before .before .before .before .before .before .before .before .before .pre)) _ (c .before .before .before .before .before .loop .inv) (c .before .before .before .unfinished .ensures .0) (c .before .before .if1 .left) (c .play-round .last .1 .1 .1 .1 .1 .1 .1 .0) (c .play-round .ensures .0) (c .play-round .ensures .1)
+loop-less c = playing-less _ (ready-formed _ _ _ _ _ _ _ _ _ (c .before .before .before .before .before .before .before .before .before .before .pre)) (ready-acyclic _ _ _ _ _ _ _ _ _ (c .before .before .before .before .before .before .before .before .before .before .pre)) _ (c .before .before .before .before .before .loop .inv) (c .before .before .before .unfinished .ensures .0) (c .before .before .if1 .left) (c .play-round .last .1 .1 .1 .1 .1 .1 .1 .0) (c .play-round .ensures .0) (c .play-round .ensures .1)
 
 -- src/playing.rt:162:9
 loop-again : tie.Need-loop-again Inv-loop μ-loop
-loop-again c = playing-round _ (ready-formed _ _ _ _ _ _ _ _ _ _ (c .before .before .before .before .before .before .before .before .before .before .pre)) (ready-acyclic _ _ _ _ _ _ _ _ _ _ (c .before .before .before .before .before .before .before .before .before .before .pre)) _ (c .before .before .before .before .before .loop .inv) (c .before .before .before .unfinished .ensures .0) (c .before .before .if1 .left) _ (c .play-round .ensures .0) (c .play-round .ensures .1)
+loop-again c = playing-round _ (ready-formed _ _ _ _ _ _ _ _ _ (c .before .before .before .before .before .before .before .before .before .before .pre)) (ready-acyclic _ _ _ _ _ _ _ _ _ (c .before .before .before .before .before .before .before .before .before .before .pre)) _ (c .before .before .before .before .before .loop .inv) (c .before .before .before .unfinished .ensures .0) (c .before .before .if1 .left) _ (c .play-round .ensures .0) (c .play-round .ensures .1)
 
 -- src/playing.rt:144:1
 returns : tie.Need-returns Inv-loop μ-loop
-returns c = playing-end _ (ready-formed _ _ _ _ _ _ _ _ _ _ (c .before .before .before .before .before .before .before .before .pre)) (ready-acyclic _ _ _ _ _ _ _ _ _ _ (c .before .before .before .before .before .before .before .before .pre)) _ (c .before .before .before .loop .inv) (c .before .unfinished .ensures .0) (c .if1 .taken)
+returns c = playing-end _ (ready-formed _ _ _ _ _ _ _ _ _ (c .before .before .before .before .before .before .before .before .pre)) (ready-acyclic _ _ _ _ _ _ _ _ _ (c .before .before .before .before .before .before .before .before .pre)) _ (c .before .before .before .loop .inv) (c .before .unfinished .ensures .0) (c .if1 .taken)
 
 pub play-rounds-spec : {M : Type 1} → statement M
 play-rounds-spec =
