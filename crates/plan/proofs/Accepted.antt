@@ -170,6 +170,10 @@ module _ (own num off last loc time : ℕ → ℕ) (drones n count : ℕ) (depen
     secondStop = N .place-number (x .second) (x .secondStop) (m .second-in) (m .second-stop-in) i;
   }
 
+  fixed-pair : (v w : ℕ) → w < n → isFixed own num n v w ≡ eqb (num v) 0 || eqb (num w) (last (own w))
+  unfolding isFixed
+  fixed-pair v w l = ap (λ (b : Bool). eqb (num v) 0 || b) (last-is N w l)
+
   -- the table holds, at k, a pair of stops of which the second follows the first
   abbrev Entry : ℕ → Type 0
   Entry k = (v : ℕ) × (w : ℕ) × (v < n) × (w < n) × (follows own loc time v w ≡ true) × (rank (follows own loc time) n v w ≡ k) × (dependency k ≡ pair own num v w)
@@ -219,11 +223,11 @@ module _ (own num off last loc time : ℕ → ℕ) (drones n count : ℕ) (depen
 
     -- the flag byte of a new dependency has bit 1 where the plan says "fixed"
     pub flag-is : (k : ℕ) → k < count → at (column own loc time n (flagOf own num n)) k ≡ cond (fixed plan k) 2 0
-    unfolding flagOf isFixed
+    unfolding flagOf
     flag-is k l =
         let (v, w, a, b, e, r, q) = entry k l in
         let h : at (column own loc time n (flagOf own num n)) k ≡ flagOf own num n v w = rw r at (listed-at (follows own loc time) n (flagOf own num n) v w a b e) in
-        h ∙ rw (q, last-is N w b) refl
+        h ∙ ap (λ (f : Bool). cond f 2 0) (fixed-pair v w b ∙ ap (λ (x : Dependency). eqb (x .firstStop) 0 || eqb (x .secondStop) (last (x .second))) (sym q))
 
 -- ---- the plan in the tables
 

@@ -6,3 +6,4 @@ pub mod Accepted
 pub mod Exact
 pub mod Definition1
 pub mod Claims
+pub mod CheckLaws

@@ -22,3 +22,14 @@ pub record StopsRoom (drones : ℕ) (counts : List ℕ) (n : ℕ) (owners number
   pub has-numbers : n ≤ length numbers
   pub owned : n ≤ start counts drones
   pub stops-fit : n ≤ 65536
+
+-- tables of n stops: each stop's drone, location and time
+pub record VisitsRoom (n : ℕ) (owners locations times : List ℕ) : Type 0 where
+  pub has-owners : n ≤ length owners
+  pub has-locations : n ≤ length locations
+  pub has-times : n ≤ length times
+
+-- the same with each stop's number in its drone
+pub record PlanRoom (n : ℕ) (owners numbers locations times : List ℕ) : Type 0 where
+  pub visits : VisitsRoom n owners locations times
+  pub has-numbers : n ≤ length numbers

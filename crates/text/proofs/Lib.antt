@@ -1,0 +1,5 @@
+pub mod DroneCases
+pub mod Rows
+pub mod DroneLoop
+pub mod Fits
+pub mod TextCases
