@@ -36,6 +36,7 @@ flip-twice t w v = by-cases (eqb v w) (λ e. rw e (not-not (t v))) (λ e. rw e r
 
 pub turn-rules : (F : FieldPlan) (t : ℕ → Bool) (w : ℕ) → TurnRules F t w
 turn-rules F t w = record {
+  planned-rule = λ e. ap (λ (b : Bool). waitOf (inForce b (F .dependency w))) e;
   turned-rule = λ e. ap (λ (b : Bool). waitOf (inForce b (F .dependency w))) (flip-same t w ∙ ap not e);
   other-rules = λ v n. ap (λ (b : Bool). waitOf (inForce b (F .dependency v))) (flip-other t w v n);
   turned-twice = ap (graph F) (fun-ext (flip-twice t w));

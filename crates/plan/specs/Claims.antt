@@ -155,7 +155,7 @@ module _ (F : FieldPlan) where
     pub j-to-i : location j (suc stop-of-j) ≡ location i stop-of-i
     pub together : time i (suc stop-of-i) ≡ time j (suc stop-of-j)
 
-  -- no two different drones do so
+  -- no two different drones do so, in either order
   abbrev pub Never : (ℕ → ℕ → Type 0) → Type 0
   Never C = (i j : ℕ) → i < drones → j < drones → i ≢ j → C i j → ⊥
 
@@ -177,8 +177,10 @@ unturned w = false
 module _ (F : FieldPlan) where
   open FieldPlan F using (count, dependency)
 
-  -- what a turn of dependency w does to the rules
+  -- the rule of dependency w, and what a turn of it does to the rules
   pub record TurnRules (turned : ℕ → Bool) (w : ℕ) : Type 0 where
+    -- "If drone j is there first at its stop s and drone i later at its stop k, then i may enter stop k only after j has visited stop s+1"
+    pub planned-rule : turned w ≡ false → graph F turned .wait w ≡ record { waiter = dependency w .second; stop = dependency w .secondStop; awaited = dependency w .first; until = suc (dependency w .firstStop) }
     -- "Turning the dependency makes the rule: j may enter s only after i has visited k+1"
     pub turned-rule : turned w ≡ false → graph F (flip turned w) .wait w ≡ record { waiter = dependency w .first; stop = dependency w .firstStop; awaited = dependency w .second; until = suc (dependency w .secondStop) }
     -- every other dependency keeps its rule
@@ -207,6 +209,7 @@ module _ (F : FieldPlan) where
     pub is-theirs : Between d s e k (dependency index)
     pub no-other : (w : ℕ) → w < count → Between d s e k (dependency w) → w ≡ index
 
+-- the dependencies of an accepted plan, what a turn does, and the graph as planned
 pub record GraphClaims : Type 0 where
   pub one-dependency : (F : FieldPlan) → AcceptedPlan F → (d s e k : ℕ) → d < F .drones → s ≤ F .last d → e < F .drones → k ≤ F .last e → d ≢ e → F .location d s ≡ F .location e k → OneDependency F d s e k
   pub turn-rules : (F : FieldPlan) (turned : ℕ → Bool) (w : ℕ) → TurnRules F turned w
