@@ -13,3 +13,6 @@ pub mod Exactly
 pub mod Costs
 pub mod Claims
 pub mod Meaning
+pub mod Flights
+pub mod Read
+pub mod Wrong

@@ -2,3 +2,5 @@ pub mod CallLog
 pub mod Calls
 pub mod Demand
 pub mod Claims
+pub mod Flights
+pub mod Wrong
