@@ -2,3 +2,4 @@ pub mod Reading
 pub mod TextRead
 pub mod Written
 pub mod Claims
+pub mod Examples

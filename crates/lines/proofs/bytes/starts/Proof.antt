@@ -1,8 +1,7 @@
 -- The bytes of the key that are left stand at the next position exactly when the whole key stands at the first.
-use borrow.Author.Needs.{needs}
 use native.Mathlib.Omega.{arith}
-use Prim.Native.Nat.{ℕ, _+_, _-_, _≤_, _<_}
-use mathlib.Core.Path.{_≡_, refl, sym, _∙_, ap}
+use Prim.Native.Nat.{_-_, _≤_}
+use mathlib.Core.Path.{_≡_, refl, sym, _∙_}
 use lib.ListN.{length, drop}
 use Rattle.lines.proofs.bytes.starts.Statement.{statement}
 use Rattle.lines.proofs.bytes.starts.Tie as tie
