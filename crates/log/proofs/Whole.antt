@@ -10,15 +10,15 @@ use Rattle.tables.specs.Limits.{Limits}
 use Rattle.tables.specs.Tables.{PlanLists, Tables, drones, fullSize}
 use Rattle.plan.specs.Field.{FieldPlan, AcceptedPlan, planOf}
 use Rattle.sound.specs.Sound.{sound}
-use Rattle.conductor.specs.CallLog.{Call, grant, arrive, turn, Reply, isAccepted, Entry, entry, statusOf, acceptedCalls, replyBy, logFrom, logOf}
-use Rattle.conductor.specs.Calls.{Answer, granted, arrived, flipped, grantStep, arriveStep, turnStep, step, recorded, tablesAfter, Answered, Ran, none, next, AsRead}
-use Rattle.conductor.specs.Demand.{Found, Demand3, Demand3OfContracts}
-use Rattle.conductor.proofs.Checks.{grant-passed, arrive-passed, turn-passed}
-use Rattle.conductor.specs.Claims.{MayGo, MayArrive}
-use Rattle.conductor.proofs.Log.{arrivals, grants, turns, Counts, counts-refused, counts-grant, counts-arrive, counts-turn, GoodLog, good-empty, idle-same, good-more, good-calls}
-use Rattle.conductor.proofs.SoundParts.{accepted-plan}
-use Rattle.conductor.proofs.Shown.{SamePlan, full-same, Kept, kept-grant, kept-arrive, kept-turn, kept-status, kept-sound, kept-reply, kept-start}
-use Rattle.conductor.proofs.Found.{log-held, log-goes-on, log-finishes}
+use Rattle.log.specs.CallLog.{Call, grant, arrive, turn, Reply, isAccepted, Entry, entry, statusOf, acceptedCalls, replyBy, logFrom, logOf}
+use Rattle.log.specs.Calls.{Answer, granted, arrived, flipped, grantStep, arriveStep, turnStep, step, recorded, tablesAfter, Answered, Ran, none, next, AsRead}
+use Rattle.log.specs.Demand.{Found, Demand3, Demand3OfContracts}
+use Rattle.log.proofs.Checks.{grant-passed, arrive-passed, turn-passed}
+use Rattle.log.specs.Claims.{MayGo, MayArrive}
+use Rattle.log.proofs.Log.{arrivals, grants, turns, Counts, counts-refused, counts-grant, counts-arrive, counts-turn, GoodLog, good-empty, idle-same, good-more, good-calls}
+use Rattle.log.proofs.SoundParts.{accepted-plan}
+use Rattle.log.proofs.Shown.{SamePlan, full-same, Kept, kept-grant, kept-arrive, kept-turn, kept-status, kept-sound, kept-reply, kept-start}
+use Rattle.log.proofs.Found.{log-held, log-goes-on, log-finishes}
 
 module _ (L : Limits) (lists : PlanLists) (t₀ : Tables) (read : AsRead L lists t₀) where
   abbrev F : FieldPlan

@@ -15,8 +15,8 @@ use Rattle.precedence.specs.Graph.{blocks, free, cyclic}
 use Rattle.precedence.proofs.Rounds.{blocks-true, blocks-open, free-if, free-open, free-unfinished}
 use Rattle.plan.specs.Field.{FieldPlan, inForce, flip, graph, fixed}
 use Rattle.plan.specs.Status.{Status, entered, unmet, now, waitsKept}
-use Rattle.conductor.specs.CallLog.{grant, arrive, turn, Reply, accepted, refused, mustWait, number, isAccepted, Check, firstThatHolds, refusals, replyIn}
-use Rattle.conductor.specs.Claims.{IntoNext, Met, Waiting, MayGo, MustWait, MayArrive, Unentered, Turnable}
+use Rattle.log.specs.CallLog.{grant, arrive, turn, Reply, accepted, refused, mustWait, number, isAccepted, Check, firstThatHolds, refusals, replyIn}
+use Rattle.log.specs.Claims.{IntoNext, Met, Waiting, MayGo, MustWait, MayArrive, Unentered, Turnable}
 
 -- ---- replies
 

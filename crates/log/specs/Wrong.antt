@@ -7,10 +7,10 @@ use Rattle.below.specs.Below.{at}
 use Rattle.tables.specs.Tables.{Tables}
 use Rattle.plan.specs.Field.{FieldPlan, planOf}
 use Rattle.plan.specs.Status.{statusIn}
-use Rattle.conductor.specs.CallLog.{Call, grant, arrive, turn, Reply, accepted, refused, mustWait, replyIn}
-use Rattle.conductor.specs.Calls.{Answer, answer, granted, arriveStep, turnStep, step}
-use Rattle.conductor.specs.Demand.{Demand3Of}
-use Rattle.conductor.specs.Flights.{Visit, small, Q, P}
+use Rattle.log.specs.CallLog.{Call, grant, arrive, turn, Reply, accepted, refused, mustWait, replyIn}
+use Rattle.log.specs.Calls.{Answer, answer, granted, arriveStep, turnStep, step}
+use Rattle.log.specs.Demand.{Demand3Of}
+use Rattle.log.specs.Flights.{Visit, small, Q, P}
 
 -- ---- the programs
 

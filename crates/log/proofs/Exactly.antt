@@ -15,11 +15,11 @@ use Rattle.plan.specs.Status.{Status, statusIn, fixedUnturned}
 use Rattle.plan.specs.Claims.{Unfixed}
 use Rattle.plan.proofs.Turns.{flip-elim, graph-formed}
 use Rattle.sound.specs.Sound.{sound}
-use Rattle.conductor.specs.CallLog.{Call, grant, arrive, turn, Reply, accepted, refused, mustWait, number, replyIn}
-use Rattle.conductor.specs.Calls.{replyOf, grantStep, arriveStep, turnStep}
-use Rattle.conductor.specs.Claims.{Usable, MayGo, MustWait, MayArrive, Turnable, TurnedCycle, GrantedExactly, WaitsExactly, ArrivedExactly, Never33, TurnedExactly, CycleExactly}
-use Rattle.conductor.proofs.SoundParts.{sound-says, accepted-plan}
-use Rattle.conductor.proofs.Checks.{differ, unfixed-is, grant-accepted, grant-waits, arrive-accepted, turn-accepted, turn-cycle, turn-33}
+use Rattle.log.specs.CallLog.{Call, grant, arrive, turn, Reply, accepted, refused, mustWait, number, replyIn}
+use Rattle.log.specs.Calls.{replyOf, grantStep, arriveStep, turnStep}
+use Rattle.log.specs.Claims.{Usable, MayGo, MustWait, MayArrive, Turnable, TurnedCycle, GrantedExactly, WaitsExactly, ArrivedExactly, Never33, TurnedExactly, CycleExactly}
+use Rattle.log.proofs.SoundParts.{sound-says, accepted-plan}
+use Rattle.log.proofs.Checks.{differ, unfixed-is, grant-accepted, grant-waits, arrive-accepted, turn-accepted, turn-cycle, turn-33}
 
 -- none of the fixed ones is turned, as a test and as a law
 pub unfixed-says : (F : FieldPlan) (s : Status) → fixedUnturned F s ≡ true → Unfixed F (s .turned)

@@ -10,8 +10,8 @@ use Rattle.precedence.specs.Graph.{Cycle, Longest, remaining}
 use Rattle.plan.specs.Field.{FieldPlan, planOf, flip, graph}
 use Rattle.plan.specs.Status.{Status, statusIn, now}
 use Rattle.sound.specs.Sound.{sound}
-use Rattle.conductor.specs.CallLog.{Reply, accepted, refused, mustWait}
-use Rattle.conductor.specs.Calls.{grantStep, arriveStep, turnStep, costs, costReply}
+use Rattle.log.specs.CallLog.{Reply, accepted, refused, mustWait}
+use Rattle.log.specs.Calls.{grantStep, arriveStep, turnStep, costs, costReply}
 
 -- no lent table is below full size, and the tables are sound
 abbrev pub Usable : Limits → Tables → Type 0

@@ -17,12 +17,12 @@ use Rattle.plan.specs.Dependencies.{follows, isLast, isFixed, flagOf}
 use Rattle.plan.specs.Field.{planOf}
 use Rattle.plan.specs.Status.{fixedUnturned, withinStops, waitsKept}
 use Rattle.sound.specs.Sound.{zeroFrom, nameLength, nameSound, sameName, namesDiffer, inRange, namesSound, checked, planAccepted, dependenciesSound, planUnused, flagsSound, droneFlagsSound, progressUnused, sound}
-use Rattle.conductor.specs.CallLog.{number as numberOf, Entry, replyIn, acceptedCalls, logFrom, logOf}
-use Rattle.conductor.specs.Calls.{replyOf, grantStep, arriveStep, turnStep, recorded}
-use Rattle.conductor.specs.Demand.{Demand3Of}
-use Rattle.conductor.specs.Flights.{small, planBy, tablesBy}
-use Rattle.conductor.specs.Wrong.{Wrong, refuseAll, idle, honestOnce, sooner, visitOnly, noCycles, never34, wrongs, AllFalse, WrongsFalse}
-use Rattle.conductor.proofs.Read.{isRead, as-read}
+use Rattle.log.specs.CallLog.{number as numberOf, Entry, replyIn, acceptedCalls, logFrom, logOf}
+use Rattle.log.specs.Calls.{replyOf, grantStep, arriveStep, turnStep, recorded}
+use Rattle.log.specs.Demand.{Demand3Of}
+use Rattle.log.specs.Flights.{small, planBy, tablesBy}
+use Rattle.log.specs.Wrong.{Wrong, refuseAll, idle, honestOnce, sooner, visitOnly, noCycles, never34, wrongs, AllFalse, WrongsFalse}
+use Rattle.log.proofs.Read.{isRead, as-read}
 
 -- the numbers of all replies, added up
 numbers : List Entry → ℕ

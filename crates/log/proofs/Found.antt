@@ -9,10 +9,10 @@ use lib.Dec.{eqb, ltb, leb}
 use borrow.Author.Tests.{ltb-true, eqb-true, eqb-false, leb-true, leb-false}
 use Rattle.below.proofs.Tests.{by-cases, and-left, and-right}
 use Rattle.below.specs.Below.{firstBelow}
-use Rattle.conductor.proofs.Checks.{grant-accepted, free-goes}
-use Rattle.conductor.proofs.Log.{arrivals, grants, turns, GoodLog}
-use Rattle.conductor.specs.CallLog.{Entry, statusOf, holdsLocation, short}
-use Rattle.conductor.specs.Demand.{HeldByOne, GoesOn, Finishes}
+use Rattle.log.proofs.Checks.{grant-accepted, free-goes}
+use Rattle.log.proofs.Log.{arrivals, grants, turns, GoodLog}
+use Rattle.log.specs.CallLog.{Entry, statusOf, holdsLocation, short}
+use Rattle.log.specs.Demand.{HeldByOne, GoesOn, Finishes}
 use Rattle.plan.proofs.Turns.{graph-formed}
 use Rattle.plan.specs.Field.{Dependency, FieldPlan, inForce, waitOf, graph, AcceptedPlan}
 use Rattle.precedence.proofs.Rounds.{finished-at, somebody-free, rounds-finish}

@@ -1,7 +1,7 @@
 -- Demand 2, its parts gathered. Assumes nothing.
-use Rattle.conductor.specs.Claims.{Demand2}
-use Rattle.conductor.proofs.Exactly.{granted-exactly, waits-exactly, arrived-exactly, never-33, turned-exactly, cycle-exactly}
-use Rattle.conductor.proofs.Costs.{cost-means, cost-bounded, cost-limit}
+use Rattle.log.specs.Claims.{Demand2}
+use Rattle.log.proofs.Exactly.{granted-exactly, waits-exactly, arrived-exactly, never-33, turned-exactly, cycle-exactly}
+use Rattle.log.proofs.Costs.{cost-means, cost-bounded, cost-limit}
 
 pub demand2 : Demand2
 demand2 = record {

@@ -9,8 +9,8 @@ use Rattle.tables.specs.Tables.{PlanLists, Tables}
 use Rattle.precedence.specs.Graph.{play, finished, unvisited}
 use Rattle.plan.specs.Field.{FieldPlan, graph, planOf}
 use Rattle.plan.specs.Status.{Status, statusIn}
-use Rattle.conductor.specs.CallLog.{Call, grant, accepted, statusOf, Entry, replyBy, logOf, holdsLocation, short}
-use Rattle.conductor.specs.Calls.{Answer, step, AsRead, recorded, tablesAfter, Ran}
+use Rattle.log.specs.CallLog.{Call, grant, accepted, statusOf, Entry, replyBy, logOf, holdsLocation, short}
+use Rattle.log.specs.Calls.{Answer, step, AsRead, recorded, tablesAfter, Ran}
 
 -- two statuses agree on every drone and every dependency of the plan
 pub record Agree (F : FieldPlan) (s s′ : Status) : Type 0 where

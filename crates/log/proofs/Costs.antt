@@ -19,10 +19,10 @@ use Rattle.plan.proofs.Turns.{graph-formed}
 use Rattle.plan.specs.Field.{FieldPlan, planOf, graph}
 use Rattle.plan.specs.Status.{Status, statusIn, waitsKept}
 use Rattle.sound.specs.Sound.{sound}
-use Rattle.conductor.specs.Calls.{CostReply, costs, costRefused, costReply}
-use Rattle.conductor.specs.Claims.{CostMeans, CostBounded, CostLimit}
-use Rattle.conductor.proofs.SoundParts.{Sound, sound-says, drones-in, stops-in, have-stops, accepted-plan}
-use Rattle.conductor.proofs.Exactly.{unfixed-says}
+use Rattle.log.specs.Calls.{CostReply, costs, costRefused, costReply}
+use Rattle.log.specs.Claims.{CostMeans, CostBounded, CostLimit}
+use Rattle.log.proofs.SoundParts.{Sound, sound-says, drones-in, stops-in, have-stops, accepted-plan}
+use Rattle.log.proofs.Exactly.{unfixed-says}
 
 -- ---- the bound
 

@@ -9,9 +9,9 @@ use borrow.Author.Tests.{ltb-true, ltb-false}
 use Rattle.below.proofs.Index.{put-elim}
 use Rattle.below.proofs.Tests.{by-cases}
 use Rattle.below.specs.Below.{put}
-use Rattle.conductor.specs.Claims.{MayGo, MayArrive, Unentered, Turnable}
-use Rattle.conductor.proofs.Checks.{unfixed-is, go-free}
-use Rattle.conductor.proofs.Running.{Running, grant-running, arrive-running}
+use Rattle.log.specs.Claims.{MayGo, MayArrive, Unentered, Turnable}
+use Rattle.log.proofs.Checks.{unfixed-is, go-free}
+use Rattle.log.proofs.Running.{Running, grant-running, arrive-running}
 use Rattle.plan.specs.Field.{FieldPlan, inForce, waitOf, flip, graph, fixed, AcceptedPlan}
 use Rattle.plan.specs.Claims.{unturned, Unfixed}
 use Rattle.plan.proofs.Turns.{flip-elim, graph-formed, none-unfixed, planned-acyclic}

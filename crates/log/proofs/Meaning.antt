@@ -7,8 +7,8 @@ use native.Mathlib.Omega.{arith}
 use lib.Dec.{eqb}
 use Rattle.plan.specs.Field.{FieldPlan}
 use Rattle.plan.specs.Status.{Status}
-use Rattle.conductor.specs.CallLog.{Call, grant, arrive, turn, Reply, accepted, refused, mustWait, number, Check, firstThatHolds, refusals, replyIn, Entry, entry, replyBy, logFrom}
-use Rattle.conductor.proofs.Checks.{carried}
+use Rattle.log.specs.CallLog.{Call, grant, arrive, turn, Reply, accepted, refused, mustWait, number, Check, firstThatHolds, refusals, replyIn, Entry, entry, replyBy, logFrom}
+use Rattle.log.proofs.Checks.{carried}
 
 -- ---- replies
 

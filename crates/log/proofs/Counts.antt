@@ -8,7 +8,7 @@ use lib.Dec.{eqb}
 use borrow.Author.Tests.{eqb-true, eqb-false, eq-eqb, ne-eqb}
 use Rattle.below.proofs.Tests.{by-cases}
 use Rattle.below.specs.Below.{pick}
-use Rattle.conductor.specs.CallLog.{Call, Entry, isAccepted, acceptedCalls, isOdd}
+use Rattle.log.specs.CallLog.{Call, Entry, isAccepted, acceptedCalls, isOdd}
 
 pub counted-more : (f : Call → Bool) (log : List Entry) (e : Entry) → acceptedCalls f (log ++ (e ∷ [])) ≡ pick (isAccepted (e .reply) && f (e .call)) (suc (acceptedCalls f log)) (acceptedCalls f log)
 unfolding acceptedCalls

@@ -13,8 +13,8 @@ use Rattle.precedence.specs.Graph.{blocks, cyclic, cost}
 use Rattle.plan.specs.Field.{FieldPlan, planOf, flip, graph, fixed}
 use Rattle.plan.specs.Status.{Status, statusIn, entered, now}
 use Rattle.sound.specs.Sound.{sound}
-use Rattle.conductor.specs.CallLog.{Call, grant, arrive, turn, Reply, accepted, refused, mustWait, replyIn}
-use Rattle.conductor.specs.Calls.{Answer, granted, arrived, flipped, replyOf, grantStep, arriveStep, turnStep, step, costs, costRefused, costReply}
+use Rattle.log.specs.CallLog.{Call, grant, arrive, turn, Reply, accepted, refused, mustWait, replyIn}
+use Rattle.log.specs.Calls.{Answer, granted, arrived, flipped, replyOf, grantStep, arriveStep, turnStep, step, costs, costRefused, costReply}
 
 -- a refusal: the tables are unchanged
 abbrev pub refusal : Tables → Reply → Answer

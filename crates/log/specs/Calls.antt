@@ -12,7 +12,7 @@ use Rattle.precedence.specs.Graph.{cost}
 use Rattle.plan.specs.Field.{planOf, graph, fixed}
 use Rattle.plan.specs.Status.{Status, statusIn}
 use Rattle.sound.specs.Sound.{sound, planAccepted, dependenciesSound, planUnused}
-use Rattle.conductor.specs.CallLog.{Call, grant, arrive, turn, Reply, refused, isAccepted, replyIn, Entry, entry}
+use Rattle.log.specs.CallLog.{Call, grant, arrive, turn, Reply, refused, isAccepted, replyIn, Entry, entry}
 
 -- a reply and the tables afterwards
 pub record Answer : Type 0 where

@@ -22,12 +22,12 @@ use Rattle.plan.specs.Field.{FieldPlan, flip, graph, fixed, AcceptedPlan, planO
 use Rattle.plan.specs.Claims.{unturned}
 use Rattle.plan.specs.Status.{statusIn, entered, fixedUnturned, withinStops, waitsKept}
 use Rattle.sound.specs.Sound.{planAccepted, dependenciesSound, planUnused, flagsSound, droneFlagsSound, progressUnused, sound}
-use Rattle.conductor.specs.CallLog.{Call, replyIn}
-use Rattle.conductor.specs.Calls.{granted, arrived, flipped, replyOf, AsRead}
-use Rattle.conductor.specs.Demand.{Agree}
-use Rattle.conductor.proofs.SoundParts.{says-sound, zero-from, drones-in, dependencies-in, Room, full-room}
-use Rattle.conductor.proofs.Agree.{cyclic-same, reply-same, unturned-same, within-same, waits-same}
-use Rattle.conductor.proofs.Good.{Good, statusBy}
+use Rattle.log.specs.CallLog.{Call, replyIn}
+use Rattle.log.specs.Calls.{granted, arrived, flipped, replyOf, AsRead}
+use Rattle.log.specs.Demand.{Agree}
+use Rattle.log.proofs.SoundParts.{says-sound, zero-from, drones-in, dependencies-in, Room, full-room}
+use Rattle.log.proofs.Agree.{cyclic-same, reply-same, unturned-same, within-same, waits-same}
+use Rattle.log.proofs.Good.{Good, statusBy}
 
 -- ---- progress by counts is sound
 

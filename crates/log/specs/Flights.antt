@@ -15,8 +15,8 @@ use Rattle.plan.specs.Claims.{stopTotal, ownerIn, numberIn, locationIn, timeIn,
 use Rattle.plan.specs.Dependencies.{dependencyTotal, column, flagOf}
 use Rattle.plan.specs.Field.{planOf, graph}
 use Rattle.sound.specs.Sound.{sound}
-use Rattle.conductor.specs.CallLog.{Call, grant, arrive, turn, Reply, accepted, refused, mustWait, statusOf, Entry, entry, replyBy}
-use Rattle.conductor.specs.Calls.{step, CostReply, costs, costRefused, costReply}
+use Rattle.log.specs.CallLog.{Call, grant, arrive, turn, Reply, accepted, refused, mustWait, statusOf, Entry, entry, replyBy}
+use Rattle.log.specs.Calls.{step, CostReply, costs, costRefused, costReply}
 
 -- ---- plans by routes
 

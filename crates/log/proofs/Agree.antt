@@ -10,8 +10,8 @@ use Rattle.below.proofs.Every.{allBelow-ext}
 use Rattle.precedence.specs.Graph.{Wait, blocks, free, round, play, finished, unvisited, atStart, cyclic}
 use Rattle.plan.specs.Field.{Dependency, FieldPlan, inForce, waitOf, flip, graph, fixed, AcceptedPlan}
 use Rattle.plan.specs.Status.{Status, entered, unmet, now, fixedUnturned, withinStops, waitsKept}
-use Rattle.conductor.specs.CallLog.{Call, grant, arrive, turn, replyIn}
-use Rattle.conductor.specs.Demand.{Agree}
+use Rattle.log.specs.CallLog.{Call, grant, arrive, turn, replyIn}
+use Rattle.log.specs.Demand.{Agree}
 
 -- ---- a plan's rounds from the start look at its own waits only
 

@@ -8,11 +8,11 @@ use lib.Dec.{eqb, ltb}
 use borrow.Author.Tests.{ltb-false, eqb-true}
 use Rattle.below.proofs.Tests.{by-cases}
 use Rattle.below.specs.Below.{pick, put}
-use Rattle.conductor.proofs.Checks.{grant-passed, arrive-passed, turn-passed}
-use Rattle.conductor.specs.Claims.{MayGo}
-use Rattle.conductor.proofs.Counts.{counted-more, isOdd-suc}
-use Rattle.conductor.proofs.Good.{Good, good-start, good-grant, good-arrive, good-turn}
-use Rattle.conductor.specs.CallLog.{Call, grant, arrive, turn, Reply, isAccepted, Entry, entry, isGrant, isArrival, isTurn, acceptedCalls, isOdd, statusOf, replyBy, logFrom}
+use Rattle.log.proofs.Checks.{grant-passed, arrive-passed, turn-passed}
+use Rattle.log.specs.Claims.{MayGo}
+use Rattle.log.proofs.Counts.{counted-more, isOdd-suc}
+use Rattle.log.proofs.Good.{Good, good-start, good-grant, good-arrive, good-turn}
+use Rattle.log.specs.CallLog.{Call, grant, arrive, turn, Reply, isAccepted, Entry, entry, isGrant, isArrival, isTurn, acceptedCalls, isOdd, statusOf, replyBy, logFrom}
 use Rattle.plan.specs.Field.{FieldPlan, flip, AcceptedPlan}
 
 abbrev pub arrivals : List Entry → ℕ → ℕ
