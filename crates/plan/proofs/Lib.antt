@@ -1,2 +1,3 @@
 pub mod StopsLaws
 pub mod CheckLaws
+pub mod ColumnsLaws
