@@ -6,3 +6,4 @@ pub mod Columns
 pub mod Room
 pub mod Field
 pub mod Status
+pub mod Claims

@@ -1,0 +1,5 @@
+pub mod Reading
+pub mod TextRead
+pub mod Written
+pub mod Claims
+pub mod Examples
