@@ -1,0 +1,1 @@
+// The conductor's calls and the claims about them.
