@@ -1,0 +1,62 @@
+-- Remaining rounds over stops that are numbered through: those of drone 0 first, from `off 0` on, then those of drone 1, and so on; `own` is a stop's drone.
+-- Wait k lets nobody into stop `into k` before stop `from k` is visited. A drone's remaining rounds and the cost are those of crate `precedence`.
+-- (document 01, "The calls".) Assumes nothing.
+use mathlib.Core.Path.{_≡_}
+use mathlib.Core.Bool.{Bool, false, _&&_}
+use mathlib.Core.List.{List}
+use Prim.Native.Nat.{ℕ, suc, _-_, _≤_, _<_}
+use lib.Dec.{ltb, eqb}
+use lib.ListN.{length}
+use Rattle.below.specs.Below.{pick, anyBelow, maxBelow, listBelow, at}
+use Rattle.tables.specs.Limits.{Limits}
+use Rattle.precedence.specs.Graph.{Plan, Kept, reached, remaining, cyclic}
+use Rattle.rounds.specs.FlatPlan.{flatPlan, FlatTables}
+
+-- "rounds are played until every drone stands at its last stop": as many as the drone has left that finishes last
+unfoldable pub roundsLeft : Plan → (ℕ → ℕ) → ℕ
+roundsLeft P p = maxBelow (P .drones) (remaining P p)
+
+-- the round in which stop v is visited, 0 if it is visited at first
+unfoldable pub stopRound : (own off last : ℕ → ℕ) (drones : ℕ) (from into : ℕ → ℕ) (m : ℕ) → (ℕ → ℕ) → ℕ → ℕ
+stopRound own off last drones from into m p v = reached (flatPlan own off last drones from into m) p (own v) (v - off (own v))
+
+-- "each stop's round in a local table": entry v is the round of stop v; the entries past the n stops are 0
+unfoldable pub stopRounds : (L : Limits) (own off last : ℕ → ℕ) (drones n : ℕ) (from into : ℕ → ℕ) (m : ℕ) → (ℕ → ℕ) → List ℕ
+stopRounds L own off last drones n from into m p = listBelow (L .stops) (λ v. pick (ltb v n) (stopRound own off last drones from into m p v) 0)
+
+-- what remaining rounds are counted from: tables of sound size whose waits name stops, a graph without a cycle, nobody past a last stop, and "for every
+-- dependency whose waiting stop is visited .., the stop it waits for is visited"
+pub record Ready (owners starts lasts : List ℕ) (drones n : ℕ) (from into : List ℕ) (m : ℕ) (visited : List ℕ) : Type 0 where
+  pub tables : FlatTables owners starts lasts drones n from into m
+  pub has-visited : drones ≤ length visited
+  pub acyclic : cyclic (flatPlan (at owners) (at starts) (at lasts) drones (at from) (at into) m) ≡ false
+  pub kept : Kept (flatPlan (at owners) (at starts) (at lasts) drones (at from) (at into) m) (at visited)
+  pub within : (d : ℕ) → d < drones → at visited d ≤ at lasts d
+
+-- stop v has an owner, which is a drone of the tables, and is no earlier than that drone's first stop
+pub record StopIn (L : Limits) (owners : List ℕ) (off : ℕ → ℕ) (v : ℕ) : Type 0 where
+  pub stop-in : v < L .stops
+  pub owned : v < length owners
+  pub owner-in : at owners v < L .drones
+  pub past : off (at owners v) ≤ v
+
+-- both stops of each wait are such stops
+pub record WaitsIn (L : Limits) (owners : List ℕ) (off from into : ℕ → ℕ) (m : ℕ) : Type 0 where
+  pub few : m ≤ L .dependencies
+  pub from-in : (k : ℕ) → k < m → StopIn L owners off (from k)
+  pub into-in : (k : ℕ) → k < m → StopIn L owners off (into k)
+
+-- ---- one round
+
+module _ (own off from into : ℕ → ℕ) (p : ℕ → ℕ) where
+  -- wait k is into the next stop of drone d, and the awaited stop is not visited
+  unfoldable pub keepsBack : ℕ → ℕ → Bool
+  keepsBack d k = eqb (own (into k)) d && eqb (into k - off (own (into k))) (suc (p d)) && ltb (p (own (from k))) (from k - off (own (from k)))
+
+  -- 1 if one of the first m waits keeps drone d back
+  unfoldable pub blockedMark : ℕ → ℕ → ℕ
+  blockedMark m d = pick (anyBelow m (keepsBack d)) 1 0
+
+-- a drone's place after a round, from its mark, its place before it and its last stop
+unfoldable pub placeAfter : ℕ → ℕ → ℕ → ℕ
+placeAfter mark place last = pick (eqb mark 0 && ltb place last) (suc place) place
