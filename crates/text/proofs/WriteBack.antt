@@ -4,12 +4,13 @@ use native.Mathlib.Nat.{zero-add}
 use native.Mathlib.Omega.{arith}
 use mathlib.Core.Path.{_≡_, refl, sym, _∙_, ap}
 use mathlib.Core.List.{List, [], _∷_, _++_, append-assoc}
-use lib.ListN.{length, drop, replicate, length-append, length-replicate}
+use lib.ListN.{length, drop, length-append}
 use lib.Seq.{sets-eq, take-at, drop-at}
 use borrow.Author.Tests.{le-ltb}
 use Rattle.below.specs.Below.{sumBelow, at as entry}
 use Rattle.tables.specs.Limits.{Limits}
 use Rattle.tables.specs.Zero.{zeroed}
+use Rattle.tables.proofs.Zero.{zeroed-length}
 use Rattle.lines.proofs.NameRoundTrip.{row-long}
 use Rattle.lines.specs.Names.{rowOf}
 use Rattle.text.specs.declared.reader.Answer.{Answer}
@@ -73,23 +74,23 @@ found-held L f ds q v n m a b c e = rw (q, ← m) (text-held L ds v a b c e)
 
 -- ---- the tables that reading fills
 
-table-taken : (L : Limits) (text : List ℕ) (n full : ℕ) (values t : List ℕ) → length text ≤ L .text → linesAt L text .answer ≡ Plan n → length values ≤ full
+table-taken : (L : Limits) (text : List ℕ) (n full : ℕ) (values t : List ℕ) → length text ≤ L .text → linesAt L text .answer ≡ Plan n → length values ≤ full → full ≤ length t
     → tableAfter L text full values t ≡ values ++ drop (length values) (zeroed full t)
 unfolding tableAfter
-table-taken L text n full values t short taken h =
+table-taken L text n full values t short taken h k =
     rw (le-ltb (L .text) (length text) short, taken)
-    (sets-eq values (zeroed full t) 0 (omega (arith, h, length-append (replicate {A = ℕ} full 0) (drop full t), length-replicate {A = ℕ} full 0)) ∙ rw zero-add)
+    (sets-eq values (zeroed full t) 0 (omega (arith, h, k, zeroed-length full t)) ∙ rw zero-add)
 
 pub written-back : (L : Limits) → WrittenBack L
-written-back L text n names counts locations times h =
+written-back L text n names counts locations times h kn kc kl kt =
     let s = taken-within L text n h in
     let t = text-taken L text n (s .1) in
     let f = lines-fit L text in
     let w = linesAt L text in
     rw (
-      table-taken L text n (L .drones * L .name) (flat (w .rows)) names (s .0) (s .1) (f .rows),
-      table-taken L text n (L .drones) (w .counts) counts (s .0) (s .1) (f .counts),
-      table-taken L text n (L .stops) (w .locations) locations (s .0) (s .1) (f .locations),
-      table-taken L text n (L .stops) (w .times) times (s .0) (s .1) (f .times),
+      table-taken L text n (L .drones * L .name) (flat (w .rows)) names (s .0) (s .1) (f .rows) kn,
+      table-taken L text n (L .drones) (w .counts) counts (s .0) (s .1) (f .counts) kc,
+      table-taken L text n (L .stops) (w .locations) locations (s .0) (s .1) (f .locations) kl,
+      table-taken L text n (L .stops) (w .times) times (s .0) (s .1) (f .times) kt,
     )
     (found-held L w (t .routes) (t .read) (t .valid) n (t .many) _ _ _ _ ∙ sym (t .written))

@@ -66,11 +66,12 @@ pub record TextWritten (text before after : List ℕ) (r : WriteAnswer) : Type 0
   pub answer-is : r ≡ writeAnswer before text
   pub buffer-is : after ≡ bufferAfter before text
 
--- ---- the claim: the tables that reading fills, whatever they held before, are written as the text that was read
+-- ---- the claim: tables of full size that reading fills, whatever they held before, are written as the text that was read
 
 abbrev pub WrittenBack : Limits → Type 0
 WrittenBack L =
     (text : List ℕ) (n : ℕ) (names counts locations times : List ℕ) → answerOf L text ≡ Plan n
+    → L .drones * L .name ≤ length names → L .drones ≤ length counts → L .stops ≤ length locations → L .stops ≤ length times
     → tablesText L n
     (tableAfter L text (L .drones * L .name) (flat (linesAt L text .rows)) names)
     (tableAfter L text (L .drones) (linesAt L text .counts) counts)
