@@ -8,3 +8,6 @@ pub mod TakenIsWritten
 pub mod WrittenIsRead
 pub mod RoundTrips
 pub mod Flights
+pub mod NameInRow
+pub mod WriteLoop
+pub mod WriteWhole

@@ -3,3 +3,4 @@ pub mod TextRead
 pub mod Written
 pub mod Claims
 pub mod Examples
+pub mod TextWritten
