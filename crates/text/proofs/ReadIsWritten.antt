@@ -20,6 +20,7 @@ use Rattle.text.proofs.RoundTrips.{same-text}
 use Rattle.text.proofs.DroneTaken.{range-long}
 use Rattle.text.specs.TextWritten.{rowsIn, tablesText}
 use Rattle.tables.proofs.Zero.{zeroed-length}
+use Rattle.text.specs.Claims.{ReadAndWritten}
 use Rattle.below.specs.Below.{sumBelow, at as entry}
 use Rattle.text.specs.declared.reader.Answer.{Answer}
 use Rattle.text.specs.declared.reader.Answer.the-variants.{Taken as Plan}
@@ -123,3 +124,6 @@ read-is-written L n {text} {dc} {ns} {cs} {ls} {ts} {dc′} {ns′} {cs′} {ls�
     )
     (kept-by L text n (linesAt L text) (t .routes) (t .many) (t .valid) (t .read) (t .written) (zeroed F ns) (zeroed (L .drones) cs) (zeroed (L .stops) ls) (zeroed (L .stops) ts)
     (omega (arith, a, zeroed-length F ns)) (omega (arith, b, zeroed-length (L .drones) cs)) (omega (arith, c, zeroed-length (L .stops) ls)) (omega (arith, d, zeroed-length (L .stops) ts)))
+
+pub read-and-written : (L : Limits) → ReadAndWritten L
+read-and-written L = record { text-kept = λ n text dc ns cs ls ts dc′ ns′ cs′ ls′ ts′ r a b c d. read-is-written L n r a b c d }
