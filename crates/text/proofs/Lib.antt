@@ -12,3 +12,4 @@ pub mod NameInRow
 pub mod WriteLoop
 pub mod WriteWhole
 pub mod WriteBack
+pub mod ReadIsWritten
