@@ -5,7 +5,7 @@ pub mod Good
 pub mod Log
 pub mod Found
 pub mod SoundParts
-pub mod Agree
+pub mod SameStatus
 pub mod Shown
 pub mod Whole
 pub mod Steps
@@ -16,3 +16,4 @@ pub mod Meaning
 pub mod Flights
 pub mod Read
 pub mod Wrong
+pub mod Bounds

@@ -26,7 +26,7 @@ use Rattle.conductor.specs.CallLog.{Call, replyIn}
 use Rattle.conductor.specs.Calls.{granted, arrived, flipped, replyOf, AsRead}
 use Rattle.conductor.specs.Demand.{Agree}
 use Rattle.conductor.proofs.SoundParts.{says-sound, zero-from, drones-in, dependencies-in, Room, full-room}
-use Rattle.conductor.proofs.Agree.{cyclic-same, reply-same, unturned-same, within-same, waits-same}
+use Rattle.conductor.proofs.SameStatus.{cyclic-same, reply-same, unturned-same, within-same, waits-same}
 use Rattle.conductor.proofs.Good.{Good, statusBy}
 
 -- ---- progress by counts is sound
