@@ -1,2 +1,7 @@
 pub mod Extra
-pub mod Playing
+pub mod PlayingLoop
+pub mod OneRound
+pub mod Bounds
+pub mod Readiness
+pub mod Passes
+pub mod ChainRounds

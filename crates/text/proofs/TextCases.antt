@@ -1,13 +1,14 @@
 -- The whole text: which case of the definitions holds, by what was read; and the tables afterwards.
-use Prim.Native.Nat.{ℕ, suc, _+_, _*_, _≤_, _<_}
+use Prim.Native.Nat.{ℕ, _+_, _*_, _≤_, _<_}
 use native.Mathlib.Omega.{arith}
 use mathlib.Core.Path.{_≡_, refl, sym, ap, _∙_}
-use mathlib.Core.List.{List, [], _∷_}
+use mathlib.Core.List.{List, []}
 use mathlib.Core.Bool.{Bool, true, false, cond}
 use lib.Dec.{eqb}
 use borrow.Author.Tests.{lt-ltb, le-ltb, eq-eqb, ne-eqb}
-use lib.ListN.{length, drop, set, replicate, length-replicate}
-use lib.Seq.{sets, drop-at, drop-set-lt}
+use lib.ListN.{length, set}
+use lib.Seq.{sets}
+use Rattle.tables.proofs.Zero.{zeroed-sets, zeroed-twice}
 use Rattle.tables.specs.Limits.{Limits}
 use native.Mathlib.Nat.{zero-mul}
 use Rattle.lines.specs.Bytes.{isAt}
@@ -90,12 +91,8 @@ text-long L text dc ns cs ls ts h =
     record { answer-is = rw t; count-is = rw t; names-are = rw t; counts-are = rw t; locations-are = rw t; times-are = rw t }
 
 -- a table that was zeroed, filled and zeroed again
-drop-sets : (n : ℕ) (l : List ℕ) (i : ℕ) (x : List ℕ) → i + length x ≤ n → drop n (sets l i x) ≡ drop n l
-drop-sets n l i [] h = refl
-drop-sets n l i (a ∷ x) h = drop-sets n (set l i a) (suc i) x (omega arith) ∙ drop-set-lt n l i a (omega arith)
-
 pub again : (full : ℕ) (t values : List ℕ) → length values ≤ full → zeroed full (sets (zeroed full t) 0 values) ≡ zeroed full t
-again full t values k = rw (drop-sets full (zeroed full t) 0 values (omega arith), drop-at (replicate full 0) (drop full t) full (length-replicate full 0))
+again full t values k = zeroed-sets full (zeroed full t) values k ∙ zeroed-twice full t
 
 -- the drone count is one number at most
 count-one : (a : Answer) → length (droneCount a) ≤ 1
