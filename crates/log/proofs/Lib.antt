@@ -16,4 +16,3 @@ pub mod Meaning
 pub mod Flights
 pub mod Read
 pub mod Wrong
-pub mod Bounds
