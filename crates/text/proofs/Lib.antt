@@ -11,3 +11,4 @@ pub mod Flights
 pub mod NameInRow
 pub mod WriteLoop
 pub mod WriteWhole
+pub mod WriteBack
