@@ -3,3 +3,5 @@ pub mod PlayingLoop
 pub mod OneRound
 pub mod Bounds
 pub mod Readiness
+pub mod Passes
+pub mod ChainRounds

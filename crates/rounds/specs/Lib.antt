@@ -1,2 +1,3 @@
 pub mod FlatPlan
 pub mod Remaining
+pub mod StopTable

@@ -4,84 +4,49 @@ use native.Mathlib.Nat.{zero-add, sub-zero, add-mul, one-mul}
 use native.Mathlib.Omega.{arith}
 use mathlib.Core.Path.{_≡_, refl, sym, ap, _∙_}
 use mathlib.Core.List.{List, [], _∷_, _++_, append-nil}
-use mathlib.Core.Bool.{Bool, true, false, cond}
-use lib.Dec.{ltb}
-use borrow.Author.Tests.{ltb-false}
+use mathlib.Core.Bool.{Bool, true}
 use lib.ListN.{length, length-append}
 use lib.Seq.{sets}
 use Rattle.tables.specs.Limits.{Limits}
 use Rattle.lines.specs.Bytes.{isAt}
-use Rattle.lines.specs.Keys.{stopsKey}
-use Rattle.lines.specs.Stops.{stopsAt, countAt}
 use Rattle.lines.specs.Names.{part, nameAt, rowOf, among}
 use Rattle.lines.proofs.ByteLaws.{isAt-append, small}
 use Rattle.lines.proofs.WriteLaws.{sets-append}
-use Rattle.lines.proofs.StopRoundTrip.{stops-many}
 use Rattle.lines.proofs.NameRoundTrip.{row-long}
-use Rattle.text.specs.Reading.{Found, nothing, stopsEnd, stopsOf, stopsRead, withRow, droneOf, droneAt, elem, joined, dronesAt, flat, Stored}
+use Rattle.text.specs.Reading.{Found, droneOf, droneAt, elem, joined, dronesAt, flat, Stored}
 use Rattle.text.proofs.DroneCases.{whole-none}
 use Rattle.text.proofs.Rows.{AllLong, flat-long, flat-append, long-snoc, among-elem, isAt-below, isAt-here, row-fits}
-use Rattle.lines.specs.declared.stops.Count.{Count}
-use Rattle.lines.specs.declared.stops.GoLines.{GoLines}
+use Rattle.text.proofs.DroneTaken.{drone-taken, range-long}
 use Rattle.lines.specs.declared.names.NameSpan.{NameSpan}
 use Rattle.lines.specs.declared.refusal.Refusal.{Refusal}
 use Rattle.text.specs.declared.reader.DroneLines.{DroneLines}
-use Rattle.lines.specs.declared.refusal.Refusal.the-variants.{Total, Same}
-use Rattle.lines.specs.declared.stops.Count.the-variants.{Is, Refused as NoCount}
-use Rattle.lines.specs.declared.stops.GoLines.the-variants.{Taken as StopsTaken, Refused as NoStops}
 use Rattle.lines.specs.declared.names.NameSpan.the-variants.{Is as NameIs, Refused as NoName}
 use Rattle.text.specs.declared.reader.DroneLines.the-variants.{Taken, Refused}
 
-pub record StopsAdded (L : Limits) (f : Found DroneLines) (total t : ℕ) : Type 0 where
-  pub one : length (f .counts) ≡ 1
-  pub places : total + length (f .locations) ≡ t
-  pub moments : total + length (f .times) ≡ t
-  pub bounded : total ≤ L .stops → t ≤ L .stops
-
-stops-added : (L : Limits) (text : List ℕ) (at total e t : ℕ) → stopsRead L text at total .answer ≡ Taken e t → StopsAdded L (stopsRead L text at total) total t
-unfolding stopsRead
-stops-added L text at total e t h = by-count (countAt text at stopsKey (L .stops)) h
-  where
-    by-lines : (m p : ℕ) → m ≤ L .stops - total → (x : GoLines) → stopsAt L m text p .answer ≡ x → stopsEnd (total + m) x ≡ Taken e t
-        → StopsAdded L (record { rows = []; counts = m ∷ []; locations = stopsAt L m text p .locations; times = stopsAt L m text p .times; answer = stopsEnd (total + m) (stopsAt L m text p .answer) }) total t
-    by-lines m p b (StopsTaken q) x h =
-        let w = stops-many L m text p q x in
-        let et : total + m ≡ t = cc h in
-        record { one = refl; places = ap (λ (n : ℕ). total + n) (w .0) ∙ et; moments = ap (λ (n : ℕ). total + n) (w .1) ∙ et; bounded = λ k. omega arith }
-    by-lines m p b (NoStops r) x h = absurd (let z : _≡_ {A = ℕ} 0 1 = cc h in omega arith)
-
-    by-test : (m p : ℕ) (b : Bool) → ltb (L .stops - total) m ≡ b
-        → cond b (nothing (Refused (Total at))) (record { rows = []; counts = m ∷ []; locations = stopsAt L m text p .locations; times = stopsAt L m text p .times; answer = stopsEnd (total + m) (stopsAt L m text p .answer) }) .answer ≡ Taken e t
-        → StopsAdded L (cond b (nothing (Refused (Total at))) (record { rows = []; counts = m ∷ []; locations = stopsAt L m text p .locations; times = stopsAt L m text p .times; answer = stopsEnd (total + m) (stopsAt L m text p .answer) })) total t
-    by-test m p true b h = absurd (let z : _≡_ {A = ℕ} 0 1 = cc h in omega arith)
-    by-test m p false b h = by-lines m p (ltb-false _ _ b) (stopsAt L m text p .answer) refl h
-
-    by-count : (n : Count) → stopsOf L text at total n .answer ≡ Taken e t → StopsAdded L (stopsOf L text at total n) total t
-    by-count (NoCount r) h = absurd (let z : _≡_ {A = ℕ} 0 1 = cc h in omega arith)
-    by-count (Is m p) h = by-test m p (ltb (L .stops - total) m) refl h
-
+-- what a drone that was taken adds to the tables
 pub record DroneAdded (L : Limits) (f : Found DroneLines) (total t : ℕ) : Type 0 where
   pub row : List ℕ
   pub rows-are : f .rows ≡ row ∷ []
   pub long : length row ≡ L .name
-  pub stops : StopsAdded L f total t
+  pub one : length (f .counts) ≡ 1
+  pub places : total + length (f .locations) ≡ t
+  pub moments : total + length (f .times) ≡ t
+  pub within : t ≤ L .stops
 
 pub drone-added : (L : Limits) (text : List ℕ) (at total : ℕ) (taken : List ℕ → Bool) (e t : ℕ) → droneAt L text at total taken .answer ≡ Taken e t → DroneAdded L (droneAt L text at total taken) total t
-unfolding droneAt
-drone-added L text at total taken e t h = by-name (nameAt L text at) h
-  where
-    by-test : (row : List ℕ) (p : ℕ) → length row ≡ L .name → (b : Bool) → cond b (nothing (Refused (Same at))) (withRow row (stopsRead L text (p + 1) total)) .answer ≡ Taken e t
-        → DroneAdded L (cond b (nothing (Refused (Same at))) (withRow row (stopsRead L text (p + 1) total))) total t
-    by-test row p l true h = absurd (let z : _≡_ {A = ℕ} 0 1 = cc h in omega arith)
-    by-test row p l false h =
-        let s = stops-added L text (p + 1) total e t h in
-        record { row = row; rows-are = refl; long = l; stops = record { one = s .one; places = s .places; moments = s .moments; bounded = s .bounded } }
+drone-added L text at total taken e t h =
+    let d = drone-taken L text at total taken e t h in
+    record {
+      row = rowOf L (d .route .name);
+      rows-are = d .rows-are;
+      long = row-long L (d .route .name);
+      one = ap length (d .counts-are);
+      places = ap (λ (l : List ℕ). total + length l) (d .locations-are) ∙ sym (d .total-is);
+      moments = ap (λ (l : List ℕ). total + length l) (d .times-are) ∙ ap (λ (k : ℕ). total + k) (range-long L (d .route .locations) (d .route .times) (d .range)) ∙ sym (d .total-is);
+      within = rw (d .total-is) (d .within);
+    }
 
-    by-name : (n : NameSpan) → droneOf L text at total taken n .answer ≡ Taken e t → DroneAdded L (droneOf L text at total taken n) total t
-    by-name (NoName r) h = absurd (let z : _≡_ {A = ℕ} 0 1 = cc h in omega arith)
-    by-name (NameIs s p) h = by-test (rowOf L (part text s p)) p (row-long L (part text s p)) (taken (rowOf L (part text s p))) h
-
--- only what `taken` says of rows of (L .name) bytes matters
+-- only what `taken` says of rows as long as the longest name matters
 pub drone-by : (L : Limits) (text : List ℕ) (at total : ℕ) (t u : List ℕ → Bool) → ((row : List ℕ) → length row ≡ L .name → t row ≡ u row) → droneAt L text at total t ≡ droneAt L text at total u
 unfolding droneAt
 drone-by L text at total t u h = by-name (nameAt L text at)
@@ -169,9 +134,9 @@ module _ {L : Limits} {n : ℕ} {text : List ℕ} {whole : Found DroneLines} {d 
         going = record {
           answers = v .answers;
           names = shift ns ns′ (flat (f .rows)) _ _ (d * L .name) ((d + 1) * L .name) en (flat-one f a) (rw flat-append at (v .names));
-          counts = shift cs cs′ (f .counts) _ _ d (d + 1) ec (omega (arith, a .stops .one)) (v .counts);
-          locations = shift ls ls′ (f .locations) _ _ total t el (a .stops .places) (v .locations);
-          times = shift ts ts′ (f .times) _ _ total t et (a .stops .moments) (v .times);
+          counts = shift cs cs′ (f .counts) _ _ d (d + 1) ec (omega (arith, a .one)) (v .counts);
+          locations = shift ls ls′ (f .locations) _ _ total t el (a .places) (v .locations);
+          times = shift ts ts′ (f .times) _ _ total t et (a .moments) (v .times);
         };
       }
 
@@ -210,5 +175,5 @@ module _ {L : Limits} {n : ℕ} {text : List ℕ} {whole : Found DroneLines} {d 
   pub turn-on : (e t : ℕ) → r ≡ Taken e t → d < L .drones → L .drones * L .name ≤ length ns → Going L n text whole (d + 1) e t ns′ cs′ ls′ ts′ ns₀ cs₀ ls₀ ts₀
   turn-on e t q small room = reading-on g more _ e t ns′ cs′ ls′ ts′ refl (sym (s .answer-is) ∙ q) small room (s .names-are) (s .counts-are) (s .locations-are) (s .times-are)
 
-  pub turn-total : (e t : ℕ) → r ≡ Taken e t → total ≤ L .stops → t ≤ L .stops
-  turn-total e t q h = drone-added L text here total (among L d ns 0) e t (sym (s .answer-is) ∙ q) .stops .bounded h
+  pub turn-total : (e t : ℕ) → r ≡ Taken e t → t ≤ L .stops
+  turn-total e t q = drone-added L text here total (among L d ns 0) e t (sym (s .answer-is) ∙ q) .within

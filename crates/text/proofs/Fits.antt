@@ -82,12 +82,12 @@ drones-fit L (suc n) text at earlier total h =
     by-answer f w a (Refused x) q ih = record { rows = omega (arith, w .rows, suc-mul n (L .name)); counts = omega (arith, w .counts); locations = w .locations; times = w .times }
     by-answer f w a (Taken e t) q ih =
         let d = a e t q in
-        let g = ih e t (d .stops .bounded h) in
+        let g = ih e t (d .within) in
         record {
           rows = rw flat-append (simp length-append (omega (arith, w .rows, g .rows, suc-mul n (L .name))));
           counts = simp length-append (omega (arith, w .counts, g .counts));
-          locations = simp length-append (omega (arith, d .stops .places, g .locations));
-          times = simp length-append (omega (arith, d .stops .moments, g .times));
+          locations = simp length-append (omega (arith, d .places, g .locations));
+          times = simp length-append (omega (arith, d .moments, g .times));
         }
 
 -- all that was read fits the tables

@@ -1,4 +1,5 @@
 pub mod DroneCases
+pub mod DroneTaken
 pub mod Rows
 pub mod DroneLoop
 pub mod Fits
@@ -6,3 +7,7 @@ pub mod TextCases
 pub mod TakenIsWritten
 pub mod WrittenIsRead
 pub mod RoundTrips
+pub mod Flights
+pub mod NameInRow
+pub mod WriteLoop
+pub mod WriteWhole

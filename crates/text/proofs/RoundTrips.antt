@@ -1,5 +1,5 @@
 -- Texts that are taken and valid plans correspond one to one, and a plan's text has a bounded length: the claims of specs/Claims.
-use Prim.Native.Nat.{ℕ, suc, _+_, _*_, _≤_}
+use Prim.Native.Nat.{ℕ, _+_, _*_, _≤_}
 use native.Mathlib.Nat.{le-trans, mul-le-mul-right, suc-mul, zero-mul}
 use native.Mathlib.Omega.{arith}
 use mathlib.Core.Path.{_≡_, refl, sym, ap, _∙_}
@@ -10,7 +10,7 @@ use lib.ListN.{length, drop, take, length-append}
 use lib.Seq.{take-at, drop-at}
 use Rattle.tables.specs.Limits.{Limits, limits}
 use Rattle.lines.specs.Numbers.{SevenDigits}
-use Rattle.lines.specs.Stops.{stopLine, stopLines, InRange}
+use Rattle.lines.specs.Stops.{stopLine, stopLines}
 use Rattle.lines.specs.Names.{goodName, rowOf, nameOf}
 use Rattle.lines.proofs.NumberCases.{digits-length}
 use Rattle.lines.proofs.StopCases.{stop-short}
@@ -22,14 +22,8 @@ use Rattle.lines.proofs.NumberRoundTrip.{limits-seven}
 use Rattle.text.specs.Claims.{textBound, RoundTrip}
 use Rattle.text.proofs.TakenIsWritten.{text-taken, taken-within}
 use Rattle.text.proofs.WrittenIsRead.{written-read-back}
+use Rattle.text.proofs.DroneTaken.{range-long}
 use Rattle.text.specs.declared.reader.Answer.{Answer}
-
--- as many times as locations
-range-long : (L : Limits) (ls ts : List ℕ) → InRange L ls ts → length ts ≡ length ls
-range-long L [] [] r = refl
-range-long L [] (t ∷ ts) r = absurd r
-range-long L (l ∷ ls) [] r = absurd r
-range-long L (l ∷ ls) (t ∷ ts) r = ap suc (range-long L ls ts (r .2))
 
 -- ---- the two ways to write a valid plan agree: by drones, and by what the tables hold
 

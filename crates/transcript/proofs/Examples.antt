@@ -10,7 +10,7 @@ use Rattle.lines.specs.Bytes.{byteAt, isAt}
 use Rattle.lines.specs.Names.{nameLine}
 use Rattle.lines.specs.Numbers.{isDigit, digitsFrom, numberAt, fieldAt, digits}
 use Rattle.lines.specs.Stops.{stopLine, countLine}
-use Rattle.conductor.specs.CallLog.{Call, grant, arrive, turn, acceptedCalls, replyIn}
+use Rattle.log.specs.CallLog.{Call, grant, arrive, turn, acceptedCalls, replyIn}
 use Rattle.transcript.specs.Keys.{grantKey, arriveKey, turnKey, costKey}
 use Rattle.transcript.specs.Input.{startsLine, endsPlan, planEnd, mostOf, callAt, linesAt, requestsAt, call, cost as costRequest, RequestList}
 use Rattle.transcript.specs.Output.{replyText, valueText, answerLine, answerLines, answersBy, outputOf, Reading}

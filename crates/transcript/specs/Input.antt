@@ -12,7 +12,7 @@ use Rattle.lines.specs.Bytes.{byteAt, isAt}
 use Rattle.lines.specs.Numbers.{fieldAt}
 use Rattle.lines.specs.declared.numbers.Number.{Number}
 use Rattle.lines.specs.declared.numbers.Number.the-variants.{Value, Malformed as NoNumber}
-use Rattle.conductor.specs.CallLog.{Call, grant, arrive, turn}
+use Rattle.log.specs.CallLog.{Call, grant, arrive, turn}
 use Rattle.transcript.specs.Keys.{costKind, keyOf}
 use Rattle.transcript.specs.declared.requests.CallLine.{CallLine}
 use Rattle.transcript.specs.declared.requests.CallLine.the-variants.{Is, Malformed, OutOfRange}

@@ -9,7 +9,7 @@ use Rattle.precedence.specs.Graph.{cost as costOf}
 use Rattle.plan.specs.Field.{FieldPlan, graph}
 use Rattle.lines.specs.Keys.{lineFeed}
 use Rattle.lines.specs.Numbers.{digitsOf, field}
-use Rattle.conductor.specs.CallLog.{Reply, accepted, refused, mustWait, number as replyNumber, Entry, entry, statusOf, replyBy}
+use Rattle.log.specs.CallLog.{Reply, accepted, refused, mustWait, number as replyNumber, Entry, entry, statusOf, replyBy}
 use Rattle.transcript.specs.Keys.{colon, planKey, endLine, malformedLine, rangeLine, costKind, keyOf}
 use Rattle.transcript.specs.Input.{inputLimit, planEnd, Request, call, cost, kindOf, RequestList, requestsAt}
 use Rattle.transcript.specs.declared.requests.Ending.{Ending}

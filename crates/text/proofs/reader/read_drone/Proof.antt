@@ -1,9 +1,7 @@
 -- One law for each return: the name's line, a name that is there already, and the stops.
 use native.Mathlib.Omega.{arith}
-use mathlib.Core.Path.{_≡_, refl, sym, _∙_, ap}
+use mathlib.Core.Path.{sym, _∙_}
 use denote.Ref.{now}
-use Prim.Native.Nat.{_+_, _-_}
-use lib.ListN.{length, take, drop}
 use borrow.Author.Needs.{needs}
 use Rattle.text.proofs.reader.read_drone.Statement.{statement}
 use Rattle.text.proofs.reader.read_drone.Tie as tie

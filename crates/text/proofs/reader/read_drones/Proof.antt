@@ -1,16 +1,14 @@
 -- The drones that are left, read and stored from here on, give what all of them give from the start.
 use borrow.Author.Needs.{needs}
 use native.Mathlib.Omega.{arith}
-use mathlib.Core.Path.{_≡_, refl, sym, _∙_, ap}
+use mathlib.Core.Path.{refl, _∙_}
 use mathlib.Core.List.{[]}
-use denote.Ref.{now}
-use Prim.Native.Nat.{_+_, _-_, _≤_, _<_}
-use lib.ListN.{length}
+use Prim.Native.Nat.{_-_, _≤_}
 use Rattle.text.proofs.reader.read_drones.Statement.{statement}
 use Rattle.text.proofs.reader.read_drones.Tie as tie
 use Rattle.text.proofs.reader.read_drone.Reads as read-drone-reads
 use Rattle.text.proofs.DroneLoop.{Going, Lengths, reading-end, reading-start, turn-bad, turn-on, turn-total}
-use Rattle.text.specs.Reading.{Stored, dronesAt}
+use Rattle.text.specs.Reading.{dronesAt}
 use Rattle.tables.specs.Limits.{limits}
 
 abbrev Inv-loop : tie.InvT-loop
@@ -67,7 +65,7 @@ loop-again c =
     let p = c .before .before .before .before .before .before .before .before .before .before .before .before .before .before .before .before .before .before .before .before .before .before .before .pre in
     let l = v .2 in (
       omega (arith, w),
-      turn-total (v .3) w (c .before .before .before .before .before .before .before .before .before .before .before .read-drone .ensures) _ _ (c .before .read2 .given .1) (v .1),
+      turn-total (v .3) w (c .before .before .before .before .before .before .before .before .before .before .before .read-drone .ensures) _ _ (c .before .read2 .given .1),
       record { names = k .1 .1 .1 .1 .0 ∙ l .names; counts = k .1 .1 .1 .1 .1 .0 ∙ l .counts; locations = k .1 .1 .1 .1 .1 .1 .0 ∙ l .locations; times = k .1 .1 .1 .1 .1 .1 .1 .0 ∙ l .times },
       turn-on (v .3) w (c .before .before .before .before .before .before .before .before .before .before .before .read-drone .ensures) _ _ (c .before .read2 .given .1) (omega (arith, w, p)) (omega (arith, p, l .names)),
     )

@@ -1,10 +1,9 @@
 -- One law for each return: the first line, the number of drones, their lines, the last line and what follows it.
 use native.Mathlib.Omega.{arith}
-use mathlib.Core.Path.{_≡_, refl, sym, _∙_, ap}
+use mathlib.Core.Path.{_≡_, refl, sym, _∙_}
 use mathlib.Core.Bool.{true}
 use borrow.Author.Tests.{not-true, not-false}
 use denote.Ref.{now}
-use Prim.Native.Nat.{_+_}
 use Rattle.tables.specs.Limits.{limits}
 use Rattle.lines.specs.Keys.{planLine, endLine}
 use Rattle.lines.specs.Bytes.{isAt}

@@ -1,8 +1,6 @@
 -- One law for each case of the count line, with what the lines `go=` stored.
-use native.Mathlib.Omega.{arith}
-use mathlib.Core.Path.{_≡_, refl, sym, _∙_, ap}
+use mathlib.Core.Path.{refl, sym, _∙_, ap}
 use denote.Ref.{now}
-use Prim.Native.Nat.{_+_}
 use borrow.Author.Needs.{needs}
 use Rattle.text.proofs.reader.read_stops.Statement.{statement}
 use Rattle.text.proofs.reader.read_stops.Tie as tie

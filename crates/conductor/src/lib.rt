@@ -1,1 +1,0 @@
-// The conductor's calls and the claims about them.
