@@ -4,18 +4,17 @@ use mathlib.Core.Path.{_≡_, refl}
 use mathlib.Core.List.{List, [], _∷_, _++_}
 use Rattle.below.specs.Below.{firstBelow, allBelow, sumBelow}
 use Rattle.precedence.specs.Graph.{blocks, free, round, play, finished, unvisited, reached, remaining, cost, cyclic}
-use Rattle.plan.specs.Field.{FieldPlan}
 use Rattle.lines.specs.Keys.{planLine, agentsKey, stopsKey, endLine}
 use Rattle.lines.specs.Bytes.{byteAt, isAt}
 use Rattle.lines.specs.Names.{nameLine}
 use Rattle.lines.specs.Numbers.{isDigit, digitsFrom, numberAt, fieldAt, digits}
 use Rattle.lines.specs.Stops.{stopLine, countLine}
-use Rattle.log.specs.CallLog.{Call, grant, arrive, turn, acceptedCalls, replyIn}
+use Rattle.log.specs.CallLog.{acceptedCalls, replyIn}
 use Rattle.transcript.specs.Keys.{grantKey, arriveKey, turnKey, costKey}
-use Rattle.transcript.specs.Input.{startsLine, endsPlan, planEnd, mostOf, callAt, linesAt, requestsAt, call, cost as costRequest, RequestList}
+use Rattle.transcript.specs.Input.{startsLine, endsPlan, planEnd, mostOf, callAt, linesAt, requestsAt, cost as costRequest}
 use Rattle.transcript.specs.Output.{replyText, valueText, answerLine, answerLines, answersBy, outputOf, Reading}
 use Rattle.transcript.specs.declared.requests.CallLine.the-variants.{Is, Malformed, OutOfRange}
-use Rattle.transcript.specs.declared.requests.Ending.the-variants.{Done, FormFault, RangeFault}
+use Rattle.transcript.specs.declared.requests.Ending.the-variants.{RangeFault}
 
 -- ---- flight Q
 
@@ -57,10 +56,77 @@ outputQ =
     97 ∷ 114 ∷ 114 ∷ 105 ∷ 118 ∷ 101 ∷ 61 ∷ 50 ∷ 52 ∷ 10 ∷
     101 ∷ 110 ∷ 100 ∷ 61 ∷ 99 ∷ 97 ∷ 108 ∷ 108 ∷ 115 ∷ 10 ∷ []
 
+-- the plan is the bytes through `end=plan`
 plan-ends : planEnd (planQ ++ callsQ) ≡ 138
 unfolding planEnd firstBelow endsPlan startsLine byteAt isAt digits
 plan-ends = refl
 
+-- document 01's output
 flight-Q : outputOf (λ text. readingQ) (planQ ++ callsQ) ≡ outputQ
 unfolding outputOf planEnd firstBelow endsPlan startsLine byteAt isAt digits linesAt callAt mostOf fieldAt numberAt digitsFrom isDigit answersBy answerLines answerLine valueText replyText acceptedCalls replyIn blocks free round play finished unvisited reached remaining cost cyclic allBelow sumBelow
 flight-Q = refl
+
+-- ---- call lines
+
+-- `grant=65535`
+greatest : callAt (103 ∷ 114 ∷ 97 ∷ 110 ∷ 116 ∷ 61 ∷ 54 ∷ 53 ∷ 53 ∷ 51 ∷ 53 ∷ 10 ∷ []) 0 ≡ Is 0 65535 12
+unfolding callAt mostOf isAt byteAt fieldAt numberAt digitsFrom isDigit
+greatest = refl
+
+-- `grant=65536`
+beyond : callAt (103 ∷ 114 ∷ 97 ∷ 110 ∷ 116 ∷ 61 ∷ 54 ∷ 53 ∷ 53 ∷ 51 ∷ 54 ∷ 10 ∷ []) 0 ≡ OutOfRange
+unfolding callAt mostOf isAt byteAt fieldAt numberAt digitsFrom isDigit
+beyond = refl
+
+-- `cost=1`: any but 0
+beyond-cost : callAt (99 ∷ 111 ∷ 115 ∷ 116 ∷ 61 ∷ 49 ∷ 10 ∷ []) 0 ≡ OutOfRange
+unfolding callAt mostOf isAt byteAt fieldAt numberAt digitsFrom isDigit
+beyond-cost = refl
+
+-- `arrive=0` without its line feed
+no-feed : callAt (97 ∷ 114 ∷ 114 ∷ 105 ∷ 118 ∷ 101 ∷ 61 ∷ 48 ∷ []) 0 ≡ Malformed
+unfolding callAt mostOf isAt byteAt fieldAt numberAt digitsFrom isDigit
+no-feed = refl
+
+-- `turn=65536` without its line feed: the form is judged before the range
+form-first : callAt (116 ∷ 117 ∷ 114 ∷ 110 ∷ 61 ∷ 54 ∷ 53 ∷ 53 ∷ 51 ∷ 54 ∷ []) 0 ≡ Malformed
+unfolding callAt mostOf isAt byteAt fieldAt numberAt digitsFrom isDigit
+form-first = refl
+
+-- `turn=00`
+leading-zero : callAt (116 ∷ 117 ∷ 114 ∷ 110 ∷ 61 ∷ 48 ∷ 48 ∷ 10 ∷ []) 0 ≡ Malformed
+unfolding callAt mostOf isAt byteAt fieldAt numberAt digitsFrom isDigit
+leading-zero = refl
+
+-- `Grant=0`
+capital : callAt (71 ∷ 114 ∷ 97 ∷ 110 ∷ 116 ∷ 61 ∷ 48 ∷ 10 ∷ []) 0 ≡ Malformed
+unfolding callAt mostOf isAt byteAt fieldAt numberAt digitsFrom isDigit
+capital = refl
+
+-- an empty line
+empty-line : callAt (10 ∷ []) 0 ≡ Malformed
+unfolding callAt mostOf isAt byteAt fieldAt numberAt digitsFrom isDigit
+empty-line = refl
+
+-- nothing is read after the first fault
+up-to-fault : requestsAt (countLine costKey 0 ++ countLine costKey 1 ++ countLine grantKey 0) 0 ≡ record { requests = costRequest ∷ []; ending = RangeFault }
+unfolding linesAt callAt mostOf isAt byteAt fieldAt numberAt digitsFrom isDigit digits
+up-to-fault = refl
+
+-- ---- the plan's bytes
+
+-- `end=plan` in the middle of a line ends nothing: here the line is `xend=plan`, and all bytes are the plan
+inside-line : planEnd (120 ∷ endLine ++ countLine costKey 0) ≡ 17
+unfolding planEnd firstBelow endsPlan startsLine byteAt isAt digits
+inside-line = refl
+
+-- the first such line counts
+first-end : planEnd (10 ∷ endLine ++ endLine) ≡ 10
+unfolding planEnd firstBelow endsPlan startsLine byteAt isAt
+first-end = refl
+
+-- ---- a refused plan prints nothing more: `plan=2`
+
+refused-plan : outputOf (λ text. record { number = 2; plan = readingQ .plan }) (countLine costKey 0) ≡ 112 ∷ 108 ∷ 97 ∷ 110 ∷ 61 ∷ 50 ∷ 10 ∷ []
+unfolding outputOf planEnd firstBelow endsPlan startsLine byteAt isAt digits
+refused-plan = refl

@@ -1,32 +1,26 @@
+-- Three pieces, one after the other.
 use native.Mathlib.Omega.{arith}
 use Rattle.lines.proofs.WriteLaws.{put-put}
 use Rattle.transcript.proofs.ReplyCases.{key-short, value-short, answer-is}
 use borrow.Author.Needs.{needs}
 use Rattle.transcript.proofs.replies.put_answer.Statement.{statement}
 use Rattle.transcript.proofs.replies.put_answer.Tie as tie
-use Rattle.transcript.proofs.replies.put_answer.Reads as reads
-use Rattle.transcript.proofs.replies.put_answer.Lts as lts
 use Rattle.lines.proofs.bytes.put_byte.Reads as put-byte-reads
 use Rattle.transcript.proofs.replies.put_key.Reads as put-key-reads
 use Rattle.transcript.proofs.replies.put_value.Reads as put-value-reads
 
--- src/replies.rt:71:9
 put-key-requires : tie.Need-put-key-requires
 put-key-requires c κs = search needs
 
--- src/replies.rt:72:9
 put-value-requires : tie.Need-put-value-requires
 put-value-requires c κs = omega (arith, c .before .before .before .put-key .ensures .next-is, key-short (c .before .before .before .before .before .before .args .kind), c .before .before .before .before .before .before .pre)
 
--- src/replies.rt:73:5
 put-byte-requires : tie.Need-put-byte-requires
 put-byte-requires c κs = omega (arith, c .before .before .before .put-value .ensures .next-is, value-short (c .before .before .before .before .before .before .before .before .before .before .args .kind) (c .before .before .before .before .before .before .before .before .before .before .args .number) (c .before .before .before .before .before .before .before .before .before .before .args .detail), c .before .before .before .before .before .before .before .put-key .ensures .next-is, key-short (c .before .before .before .before .before .before .before .before .before .before .args .kind), c .before .before .before .before .before .before .before .before .before .before .pre)
 
--- src/replies.rt:67:1
 same-length : tie.Need-same-length
 same-length c = search needs
 
--- src/replies.rt:67:1
 returns : tie.Need-returns
 returns c = rw answer-is (put-put (put-put (c .before .before .before .before .before .before .before .before .before .before .put-key .ensures) (c .before .before .before .before .before .before .put-value .ensures)) (c .before .before .put-byte .ensures))
 

@@ -1,3 +1,4 @@
+-- The lines of the entries below i are written; a turn adds one.
 use native.Mathlib.Omega.{arith}
 use Prim.Native.Nat.{_+_, _*_, _≤_, _-_}
 use mathlib.Core.Path.{_≡_, refl, _∙_}
@@ -9,8 +10,6 @@ use Rattle.transcript.specs.Output.{linesIn}
 use Rattle.transcript.proofs.ReplyCases.{lines-start, lines-step, lines-all, answer-short}
 use Rattle.transcript.proofs.replies.put_answers.Statement.{statement}
 use Rattle.transcript.proofs.replies.put_answers.Tie as tie
-use Rattle.transcript.proofs.replies.put_answers.Reads as reads
-use Rattle.transcript.proofs.replies.put_answers.Lts as lts
 use Rattle.transcript.proofs.replies.put_answer.Reads as put-answer-reads
 
 abbrev Inv-loop : tie.InvT-loop
@@ -19,43 +18,33 @@ Inv-loop buf₀ at count kinds numbers details i₀ next₀ buf i next = (i ≤ 
 abbrev μ-loop : tie.MeasureT-loop
 μ-loop buf₀ at count kinds numbers details i₀ next₀ buf i next = count - i
 
--- src/replies.rt:102:5
 loop-holds : tie.Need-loop-holds Inv-loop μ-loop
 loop-holds c = (omega arith, omega arith, refl, rw lines-start (put-none _ _))
 
--- src/replies.rt:103:38
 shared-slice-read-put-answer : tie.Need-shared-slice-read-put-answer Inv-loop μ-loop
 shared-slice-read-put-answer c = omega arith
 
--- src/replies.rt:103:48
 mul-put-answer : tie.Need-mul-put-answer Inv-loop μ-loop
 mul-put-answer c = omega arith
 
--- src/replies.rt:103:48
 shared-slice-read-put-answer-2 : tie.Need-shared-slice-read-put-answer-2 Inv-loop μ-loop
 shared-slice-read-put-answer-2 c = omega arith
 
--- src/replies.rt:103:60
 mul-put-answer-2 : tie.Need-mul-put-answer-2 Inv-loop μ-loop
 mul-put-answer-2 c = omega arith
 
--- src/replies.rt:103:60
 shared-slice-read-put-answer-3 : tie.Need-shared-slice-read-put-answer-3 Inv-loop μ-loop
 shared-slice-read-put-answer-3 c = omega arith
 
--- src/replies.rt:103:9
 put-answer-requires : tie.Need-put-answer-requires Inv-loop μ-loop
 put-answer-requires c κs = omega (arith, c .before .before .before .before .before .loop .inv .1, c .before .before .before .before .before .before .before .before .before .before .pre)
 
--- src/replies.rt:104:9
 add-i : tie.Need-add-i Inv-loop μ-loop
 add-i c = omega (arith, c .before .before .before .before .before .before .before .loop-test .taken, c .before .before .before .before .before .before .before .before .before .before .before .before .before .pre)
 
--- src/replies.rt:102:5
 loop-less : tie.Need-loop-less Inv-loop μ-loop
 loop-less c = omega (arith, c .before .before .before .before .before .before .before .loop-test .taken)
 
--- src/replies.rt:102:5
 loop-again : tie.Need-loop-again Inv-loop μ-loop
 loop-again c =
     let l = c .before .before .before .before .before .before .before .before .loop in
@@ -68,11 +57,9 @@ loop-again c =
       rw lines-step (put-put (l .inv .3) (p .ensures)),
     )
 
--- src/replies.rt:89:1
 same-length : tie.Need-same-length Inv-loop μ-loop
 same-length c = c .before .loop .inv .2
 
--- src/replies.rt:89:1
 returns : tie.Need-returns Inv-loop μ-loop
 returns c =
     let l = c .before .loop in

@@ -1,72 +1,55 @@
+-- One law for each kind.
 use Rattle.transcript.proofs.ReplyCases.{key-grant, key-arrive, key-turn, key-cost}
 use borrow.Author.Needs.{needs}
 use Rattle.transcript.proofs.replies.put_key.Statement.{statement}
 use Rattle.transcript.proofs.replies.put_key.Tie as tie
-use Rattle.transcript.proofs.replies.put_key.Reads as reads
-use Rattle.transcript.proofs.replies.put_key.Lts as lts
 use Rattle.lines.proofs.bytes.put_bytes.Reads as put-bytes-reads
 
--- src/replies.rt:31:42
 slice-aggregate-put-bytes : tie.Need-slice-aggregate-put-bytes
 slice-aggregate-put-bytes c = search needs
 
--- src/replies.rt:31:9
 put-bytes-requires : tie.Need-put-bytes-requires
 put-bytes-requires c κs = search needs
 
--- src/replies.rt:31:9
 same-length : tie.Need-same-length
 same-length c = search needs
 
--- src/replies.rt:31:9
 returns : tie.Need-returns
 returns c = rw (key-grant _ (c .before .before .before .before .before .if1 .taken)) (c .before .before .put-bytes .ensures)
 
--- src/replies.rt:34:42
 slice-aggregate-put-bytes-2 : tie.Need-slice-aggregate-put-bytes-2
 slice-aggregate-put-bytes-2 c = search needs
 
--- src/replies.rt:34:9
 put-bytes-requires-2 : tie.Need-put-bytes-requires-2
 put-bytes-requires-2 c κs = search needs
 
--- src/replies.rt:34:9
 same-length-2 : tie.Need-same-length-2
 same-length-2 c = search needs
 
--- src/replies.rt:34:9
 returns-2 : tie.Need-returns-2
 returns-2 c = rw (key-arrive _ (c .before .before .before .before .before .if2 .taken)) (c .before .before .put-bytes2 .ensures)
 
--- src/replies.rt:37:42
 slice-aggregate-put-bytes-3 : tie.Need-slice-aggregate-put-bytes-3
 slice-aggregate-put-bytes-3 c = search needs
 
--- src/replies.rt:37:9
 put-bytes-requires-3 : tie.Need-put-bytes-requires-3
 put-bytes-requires-3 c κs = search needs
 
--- src/replies.rt:37:9
 same-length-3 : tie.Need-same-length-3
 same-length-3 c = search needs
 
--- src/replies.rt:37:9
 returns-3 : tie.Need-returns-3
 returns-3 c = rw (key-turn _ (c .before .before .before .before .before .if3 .taken)) (c .before .before .put-bytes3 .ensures)
 
--- src/replies.rt:39:31
 slice-aggregate-put-bytes-4 : tie.Need-slice-aggregate-put-bytes-4
 slice-aggregate-put-bytes-4 c = search needs
 
--- src/replies.rt:39:5
 put-bytes-requires-4 : tie.Need-put-bytes-requires-4
 put-bytes-requires-4 c κs = search needs
 
--- src/replies.rt:26:1
 same-length-4 : tie.Need-same-length-4
 same-length-4 c = search needs
 
--- src/replies.rt:26:1
 returns-4 : tie.Need-returns-4
 returns-4 c = rw (key-cost _ (c .before .before .before .before .before .before .before .if1 .left) (c .before .before .before .before .before .before .if2 .left) (c .before .before .before .before .before .if3 .left)) (c .before .before .put-bytes4 .ensures)
 

@@ -1,3 +1,4 @@
+-- One law for each key, after the ones before it.
 use native.Mathlib.Omega.{arith}
 use mathlib.Core.Path.{_≡_, refl, sym, _∙_}
 use Rattle.lines.proofs.ByteLaws.{isAt-in}
@@ -5,92 +6,69 @@ use Rattle.transcript.proofs.CallCases.{call-grant, call-arrive, call-t
 use borrow.Author.Needs.{needs}
 use Rattle.transcript.proofs.requests.call_line.Statement.{statement}
 use Rattle.transcript.proofs.requests.call_line.Tie as tie
-use Rattle.transcript.proofs.requests.call_line.Reads as reads
-use Rattle.transcript.proofs.requests.call_line.Lts as lts
 use Rattle.lines.proofs.bytes.starts.Reads as starts-reads
 use Rattle.transcript.proofs.requests.in_range.Reads as in-range-reads
 
--- src/requests.rt:85:32
 slice-aggregate-starts : tie.Need-slice-aggregate-starts
 slice-aggregate-starts c = search needs
 
--- src/requests.rt:85:8
 starts-requires : tie.Need-starts-requires
 starts-requires c κs = search needs
 
--- src/requests.rt:86:31
 add-in-range : tie.Need-add-in-range
 add-in-range c = let h = isAt-in _ (c .before .before .before .before .args .at) _ _ (sym (c .before .starts .ensures) ∙ c .if1 .taken) refl in omega arith
 
--- src/requests.rt:86:9
 in-range-requires : tie.Need-in-range-requires
 in-range-requires c κs = search needs
 
--- src/requests.rt:86:9
 returns : tie.Need-returns
 returns c = call-grant _ _ _ (sym (c .before .before .starts .ensures) ∙ c .before .if1 .taken) (c .in-range .ensures)
 
--- src/requests.rt:88:32
 slice-aggregate-starts-2 : tie.Need-slice-aggregate-starts-2
 slice-aggregate-starts-2 c = search needs
 
--- src/requests.rt:88:8
 starts-requires-2 : tie.Need-starts-requires-2
 starts-requires-2 c κs = search needs
 
--- src/requests.rt:89:31
 add-in-range-2 : tie.Need-add-in-range-2
 add-in-range-2 c = let h = isAt-in _ (c .before .before .before .before .before .before .before .args .at) _ _ (sym (c .before .starts2 .ensures) ∙ c .if2 .taken) refl in omega arith
 
--- src/requests.rt:89:9
 in-range-requires-2 : tie.Need-in-range-requires-2
 in-range-requires-2 c κs = search needs
 
--- src/requests.rt:89:9
 returns-2 : tie.Need-returns-2
 returns-2 c = call-arrive _ _ _ (sym (c .before .before .before .before .before .starts .ensures) ∙ c .before .before .before .before .if1 .left) (sym (c .before .before .starts2 .ensures) ∙ c .before .if2 .taken) (c .in-range2 .ensures)
 
--- src/requests.rt:91:32
 slice-aggregate-starts-3 : tie.Need-slice-aggregate-starts-3
 slice-aggregate-starts-3 c = search needs
 
--- src/requests.rt:91:8
 starts-requires-3 : tie.Need-starts-requires-3
 starts-requires-3 c κs = search needs
 
--- src/requests.rt:92:31
 add-in-range-3 : tie.Need-add-in-range-3
 add-in-range-3 c = let h = isAt-in _ (c .before .before .before .before .before .before .before .before .before .before .args .at) _ _ (sym (c .before .starts3 .ensures) ∙ c .if3 .taken) refl in omega arith
 
--- src/requests.rt:92:9
 in-range-requires-3 : tie.Need-in-range-requires-3
 in-range-requires-3 c κs = search needs
 
--- src/requests.rt:92:9
 returns-3 : tie.Need-returns-3
 returns-3 c = call-turn _ _ _ (sym (c .before .before .before .before .before .before .before .before .starts .ensures) ∙ c .before .before .before .before .before .before .before .if1 .left) (sym (c .before .before .before .before .before .starts2 .ensures) ∙ c .before .before .before .before .if2 .left) (sym (c .before .before .starts3 .ensures) ∙ c .before .if3 .taken) (c .in-range3 .ensures)
 
--- src/requests.rt:94:32
 slice-aggregate-starts-4 : tie.Need-slice-aggregate-starts-4
 slice-aggregate-starts-4 c = search needs
 
--- src/requests.rt:94:8
 starts-requires-4 : tie.Need-starts-requires-4
 starts-requires-4 c κs = search needs
 
--- src/requests.rt:95:31
 add-in-range-4 : tie.Need-add-in-range-4
 add-in-range-4 c = let h = isAt-in _ (c .before .before .before .before .before .before .before .before .before .before .before .before .before .args .at) _ _ (sym (c .before .starts4 .ensures) ∙ c .if4 .taken) refl in omega arith
 
--- src/requests.rt:95:9
 in-range-requires-4 : tie.Need-in-range-requires-4
 in-range-requires-4 c κs = search needs
 
--- src/requests.rt:95:9
 returns-4 : tie.Need-returns-4
 returns-4 c = call-cost _ _ _ (sym (c .before .before .before .before .before .before .before .before .before .before .before .starts .ensures) ∙ c .before .before .before .before .before .before .before .before .before .before .if1 .left) (sym (c .before .before .before .before .before .before .before .before .starts2 .ensures) ∙ c .before .before .before .before .before .before .before .if2 .left) (sym (c .before .before .before .before .before .starts3 .ensures) ∙ c .before .before .before .before .if3 .left) (sym (c .before .before .starts4 .ensures) ∙ c .before .if4 .taken) (c .in-range4 .ensures)
 
--- src/requests.rt:82:1
 returns-5 : tie.Need-returns-5
 returns-5 c = call-none _ _ (sym (c .before .before .before .before .before .before .before .before .before .before .starts .ensures) ∙ c .before .before .before .before .before .before .before .before .before .if1 .left) (sym (c .before .before .before .before .before .before .before .starts2 .ensures) ∙ c .before .before .before .before .before .before .if2 .left) (sym (c .before .before .before .before .starts3 .ensures) ∙ c .before .before .before .if3 .left) (sym (c .before .starts4 .ensures) ∙ c .if4 .left)
 

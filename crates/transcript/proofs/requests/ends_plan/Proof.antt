@@ -1,31 +1,25 @@
+-- The byte string counts only at the start of a line.
 use mathlib.Core.Path.{sym, _∙_}
 use borrow.Author.Tests.{not-true, not-false}
 use Rattle.transcript.proofs.PlanEnd.{ends-inside, ends-here}
 use borrow.Author.Needs.{needs}
 use Rattle.transcript.proofs.requests.ends_plan.Statement.{statement}
 use Rattle.transcript.proofs.requests.ends_plan.Tie as tie
-use Rattle.transcript.proofs.requests.ends_plan.Reads as reads
-use Rattle.transcript.proofs.requests.ends_plan.Lts as lts
 use Rattle.lines.proofs.bytes.starts.Reads as starts-reads
 use Rattle.transcript.proofs.requests.starts_line.Reads as starts-line-reads
 
--- src/requests.rt:28:9
 starts-line-requires : tie.Need-starts-line-requires
 starts-line-requires c κs = search needs
 
--- src/requests.rt:29:9
 returns : tie.Need-returns
 returns c = sym (ends-inside _ _ (sym (c .before .starts-line .ensures) ∙ not-true _ (c .if1 .taken)))
 
--- src/requests.rt:31:29
 slice-aggregate-starts : tie.Need-slice-aggregate-starts
 slice-aggregate-starts c = search needs
 
--- src/requests.rt:31:5
 starts-requires : tie.Need-starts-requires
 starts-requires c κs = search needs
 
--- src/requests.rt:25:1
 returns-2 : tie.Need-returns-2
 returns-2 c = c .starts .ensures ∙ sym (ends-here _ _ (sym (c .before .before .before .starts-line .ensures) ∙ not-false _ (c .before .before .if1 .left)))
 

@@ -1,42 +1,33 @@
+-- One law for each return: the form, the range.
 use native.Mathlib.Omega.{arith}
 use Rattle.transcript.proofs.CallCases.{range-form, range-far, range-in, most-small}
 use borrow.Author.Needs.{needs}
 use Rattle.transcript.proofs.requests.in_range.Statement.{statement}
 use Rattle.transcript.proofs.requests.in_range.Tie as tie
-use Rattle.transcript.proofs.requests.in_range.Reads as reads
-use Rattle.transcript.proofs.requests.in_range.Lts as lts
 use Rattle.lines.proofs.numbers.field.Reads as field-reads
 use Rattle.transcript.proofs.requests.most_of.Reads as most-of-reads
 
--- src/requests.rt:69:41
 field-requires : tie.Need-field-requires
 field-requires c κs = search needs
 
--- src/requests.rt:69:25
 enum-known-value : tie.Need-enum-known-value
 enum-known-value c = search needs
 
--- src/requests.rt:70:9
 enum-told : tie.Need-enum-told
 enum-told c = search needs
 
--- src/requests.rt:70:9
 returns : tie.Need-returns
 returns c = range-form _ _ _ _ (c .before .before .field .ensures) (c .enum-told .given .1)
 
--- src/requests.rt:72:8
 most-of-requires : tie.Need-most-of-requires
 most-of-requires c κs = search needs
 
--- src/requests.rt:73:9
 returns-2 : tie.Need-returns-2
 returns-2 c = range-far _ _ _ _ (c .before .before .before .before .before .field .ensures) _ _ _ (c .before .before .before .value .given .1) (c .before .most-of .ensures) (c .if1 .taken)
 
--- src/requests.rt:77:17
 cast-t9 : tie.Need-cast-t9
 cast-t9 c = omega (arith, most-small (c .before .before .before .before .before .before .before .args .kind))
 
--- src/requests.rt:66:1
 returns-3 : tie.Need-returns-3
 returns-3 c = range-in _ _ _ _ (c .before .before .before .before .before .field .ensures) _ _ _ (c .before .before .before .value .given .1) (c .before .most-of .ensures) (c .if1 .left)
 

@@ -1,14 +1,11 @@
+-- Cost has a range of its own.
 use Rattle.transcript.proofs.CallCases.{most-cost, most-other}
 use Rattle.transcript.proofs.requests.most_of.Statement.{statement}
 use Rattle.transcript.proofs.requests.most_of.Tie as tie
-use Rattle.transcript.proofs.requests.most_of.Reads as reads
-use Rattle.transcript.proofs.requests.most_of.Lts as lts
 
--- src/requests.rt:60:9
 returns : tie.Need-returns
 returns c = most-cost _ (c .if1 .taken)
 
--- src/requests.rt:56:1
 returns-2 : tie.Need-returns-2
 returns-2 c = most-other _ (c .if1 .left)
 

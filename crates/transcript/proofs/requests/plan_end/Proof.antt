@@ -1,3 +1,4 @@
+-- A search: nothing below the position ends the plan.
 use borrow.Author.Needs.{needs}
 use native.Mathlib.Omega.{arith}
 use Prim.Native.Nat.{_≤_, _-_}
@@ -9,8 +10,6 @@ use Rattle.transcript.specs.Input.{endsPlan}
 use Rattle.transcript.proofs.PlanEnd.{ends-within, plan-found, plan-whole}
 use Rattle.transcript.proofs.requests.plan_end.Statement.{statement}
 use Rattle.transcript.proofs.requests.plan_end.Tie as tie
-use Rattle.transcript.proofs.requests.plan_end.Reads as reads
-use Rattle.transcript.proofs.requests.plan_end.Lts as lts
 use Rattle.transcript.proofs.requests.ends_plan.Reads as ends-plan-reads
 
 abbrev Inv-loop : tie.InvT-loop
@@ -19,35 +18,27 @@ Inv-loop text at₀ at = (at ≤ length text) × (firstBelow at (endsPlan text) 
 abbrev μ-loop : tie.MeasureT-loop
 μ-loop text at₀ at = length text - at
 
--- src/requests.rt:39:5
 loop-holds : tie.Need-loop-holds Inv-loop μ-loop
 loop-holds c = (omega arith, first-none _)
 
--- src/requests.rt:40:12
 ends-plan-requires : tie.Need-ends-plan-requires Inv-loop μ-loop
 ends-plan-requires c κs = search needs
 
--- src/requests.rt:41:20
 add-result : tie.Need-add-result Inv-loop μ-loop
 add-result c = let h = ends-within _ _ (sym (c .before .ends-plan .ensures) ∙ c .if1 .taken) in omega arith
 
--- src/requests.rt:41:13
 returns : tie.Need-returns Inv-loop μ-loop
 returns c = plan-found _ _ (c .before .before .loop-test .taken) (c .before .before .before .loop .inv .1) (sym (c .before .ends-plan .ensures) ∙ c .if1 .taken)
 
--- src/requests.rt:43:9
 add-at : tie.Need-add-at Inv-loop μ-loop
 add-at c = omega arith
 
--- src/requests.rt:39:5
 loop-less : tie.Need-loop-less Inv-loop μ-loop
 loop-less c = omega arith
 
--- src/requests.rt:39:5
 loop-again : tie.Need-loop-again Inv-loop μ-loop
 loop-again c = (omega arith, first-more _ _ (c .before .before .before .loop .inv .1) (sym (c .before .ends-plan .ensures) ∙ c .if1 .left))
 
--- src/requests.rt:35:1
 returns-2 : tie.Need-returns-2 Inv-loop μ-loop
 returns-2 c = plan-whole _ _ (c .before .loop .inv .0) (omega arith) (c .before .loop .inv .1)
 

@@ -1,3 +1,4 @@
+-- The lines that are left, stored from here on, give what all of them give from the start.
 use borrow.Author.Needs.{needs}
 use native.Mathlib.Omega.{arith}
 use Prim.Native.Nat.{_+_, _*_, _≤_, _-_}
@@ -10,8 +11,6 @@ use Rattle.transcript.proofs.CallCases.{CallRead, call-read}
 use Rattle.transcript.proofs.RequestLoop.{Going, going-start, going-on, lines-none, lines-form, lines-range}
 use Rattle.transcript.proofs.requests.read_requests.Statement.{statement}
 use Rattle.transcript.proofs.requests.read_requests.Tie as tie
-use Rattle.transcript.proofs.requests.read_requests.Reads as reads
-use Rattle.transcript.proofs.requests.read_requests.Lts as lts
 use Rattle.transcript.proofs.requests.call_line.Reads as call-line-reads
 
 abbrev Inv-loop : tie.InvT-loop
@@ -24,27 +23,21 @@ abbrev μ-loop : tie.MeasureT-loop
 readHere : (c : tie.After-known-told Inv-loop μ-loop) → CallRead (now (c .before .before .before .before .before .before .before .before .before .args .text)) (c .before .before .before .before .before .loop .here) (c .before .line .given .0 .0) (c .before .line .given .0 .1 .0) (c .before .line .given .0 .1 .1 .0)
 readHere c = call-read _ _ _ _ _ (sym (c .before .before .before .call-line .ensures) ∙ c .before .line .given .1)
 
--- src/requests.rt:119:5
 loop-holds : tie.Need-loop-holds Inv-loop μ-loop
 loop-holds c = (refl, refl, omega arith, c .before .before .before .pre .0, rw sub-zero (going-start _ _ _))
 
--- src/requests.rt:120:13
 call-line-requires : tie.Need-call-line-requires Inv-loop μ-loop
 call-line-requires c κs = search needs
 
--- src/requests.rt:125:29
 enum-told : tie.Need-enum-told Inv-loop μ-loop
 enum-told c = search needs
 
--- src/requests.rt:123:17
 same-length : tie.Need-same-length Inv-loop μ-loop
 same-length c = c .before .before .before .before .loop .inv .0
 
--- src/requests.rt:123:17
 same-length-2 : tie.Need-same-length-2 Inv-loop μ-loop
 same-length-2 c = c .before .before .before .before .loop .inv .1
 
--- src/requests.rt:123:17
 returns : tie.Need-returns Inv-loop μ-loop
 returns c =
     let l = c .before .before .before .before .loop in
@@ -52,19 +45,15 @@ returns c =
     let m = lines-form (now (a .text)) (l .here) _ (c .before .before .before .loop-test .taken) (c .before .before .call-line .ensures) (length (now (a .text)) - l .i) (omega arith) (c .enum-told .given .1) in
     record { count-is = omega (arith, rw m at (l .inv .4 .count)); ending-is = rw m at (l .inv .4 .endings); kinds-are = rw m at (l .inv .4 .kinds); numbers-are = rw m at (l .inv .4 .numbers) }
 
--- src/requests.rt:131:29
 enum-told-2 : tie.Need-enum-told-2 Inv-loop μ-loop
 enum-told-2 c = search needs
 
--- src/requests.rt:129:17
 same-length-3 : tie.Need-same-length-3 Inv-loop μ-loop
 same-length-3 c = c .before .before .before .before .loop .inv .0
 
--- src/requests.rt:129:17
 same-length-4 : tie.Need-same-length-4 Inv-loop μ-loop
 same-length-4 c = c .before .before .before .before .loop .inv .1
 
--- src/requests.rt:129:17
 returns-2 : tie.Need-returns-2 Inv-loop μ-loop
 returns-2 c =
     let l = c .before .before .before .before .loop in
@@ -72,31 +61,24 @@ returns-2 c =
     let m = lines-range (now (a .text)) (l .here) _ (c .before .before .before .loop-test .taken) (c .before .before .call-line .ensures) (length (now (a .text)) - l .i) (omega arith) (c .enum-told2 .given .1) in
     record { count-is = omega (arith, rw m at (l .inv .4 .count)); ending-is = rw m at (l .inv .4 .endings); kinds-are = rw m at (l .inv .4 .kinds); numbers-are = rw m at (l .inv .4 .numbers) }
 
--- src/requests.rt:134:28
 enum-known-line : tie.Need-enum-known-line Inv-loop μ-loop
 enum-known-line c = search needs
 
--- src/requests.rt:135:17
 slice-write-kinds : tie.Need-slice-write-kinds Inv-loop μ-loop
 slice-write-kinds c = let r = readHere c in omega arith
 
--- src/requests.rt:136:17
 mul-numbers : tie.Need-mul-numbers Inv-loop μ-loop
 mul-numbers c = let r = readHere c in omega arith
 
--- src/requests.rt:136:17
 slice-write-numbers : tie.Need-slice-write-numbers Inv-loop μ-loop
 slice-write-numbers c = let r = readHere c in omega arith
 
--- src/requests.rt:140:9
 add-i : tie.Need-add-i Inv-loop μ-loop
 add-i c = let r = readHere c in omega arith
 
--- src/requests.rt:119:5
 loop-less : tie.Need-loop-less Inv-loop μ-loop
 loop-less c = let r = readHere c in omega arith
 
--- src/requests.rt:119:5
 loop-again : tie.Need-loop-again Inv-loop μ-loop
 loop-again c =
     let r = readHere c in
@@ -108,15 +90,12 @@ loop-again c =
       going-on _ _ _ _ _ _ _ _ _ _ _ _ _ (omega arith) (c .before .before .before .before .loop-test .taken) (c .before .before .before .call-line .ensures) (c .before .line .given .1) (l .inv .4),
     )
 
--- src/requests.rt:113:1
 same-length-5 : tie.Need-same-length-5 Inv-loop μ-loop
 same-length-5 c = c .before .loop .inv .0
 
--- src/requests.rt:113:1
 same-length-6 : tie.Need-same-length-6 Inv-loop μ-loop
 same-length-6 c = c .before .loop .inv .1
 
--- src/requests.rt:113:1
 returns-3 : tie.Need-returns-3 Inv-loop μ-loop
 returns-3 c =
     let l = c .before .loop in
