@@ -5,3 +5,4 @@ pub mod ReplyCases
 pub mod Examples
 pub mod CostAgrees
 pub mod RunLaws
+pub mod InTables

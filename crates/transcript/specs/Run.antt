@@ -44,6 +44,10 @@ module _ (L : Limits) where
 abbrev pub requestsIn : ℕ → List ℕ → List ℕ → List Request
 requestsIn n kinds numbers = listBelow n (λ i. requestOf (at kinds i) (at numbers i))
 
+abbrev pub kindsIn : List Answer → List ℕ
+kindsIn [] = []
+kindsIn (a ∷ rest) = a .kind ∷ kindsIn rest
+
 abbrev pub numbersIn : List Answer → List ℕ
 numbersIn [] = []
 numbersIn (a ∷ rest) = a .number ∷ numbersIn rest
