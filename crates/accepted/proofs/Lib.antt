@@ -3,3 +3,4 @@ pub mod Extra
 pub mod Routes
 pub mod RowNames
 pub mod PlanHeld
+pub mod ReadCases
