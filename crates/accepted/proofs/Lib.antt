@@ -4,3 +4,4 @@ pub mod Routes
 pub mod RowNames
 pub mod PlanHeld
 pub mod ReadCases
+pub mod Built
