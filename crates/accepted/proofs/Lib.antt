@@ -5,3 +5,4 @@ pub mod RowNames
 pub mod PlanHeld
 pub mod ReadCases
 pub mod Built
+pub mod ReadSound
