@@ -38,7 +38,7 @@ pub record HoldsRoutes (L : Limits) (ds : List Route) (p : PlanLists) : Type 0 w
   pub times-are : (i : ℕ) → i < L .stops → at (p .times) i ≡ at (timesOf ds) i
 
 -- the first entries of one table are the list's, the others 0
-zero-past : (used full : ℕ) (l xs : List ℕ) → length xs ≡ used → ((i : ℕ) → i < full → at l i ≡ at xs i) → zeroFrom used full l ≡ true
+pub zero-past : (used full : ℕ) (l xs : List ℕ) → length xs ≡ used → ((i : ℕ) → i < full → at l i ≡ at xs i) → zeroFrom used full l ≡ true
 zero-past used full l xs e h = zero-from used full l (λ i a b. h i b ∙ at-past xs i (omega arith))
 
 -- ---- a name in its row
