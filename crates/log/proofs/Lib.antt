@@ -5,7 +5,7 @@ pub mod Good
 pub mod Log
 pub mod Found
 pub mod SoundParts
-pub mod Agree
+pub mod SameStatus
 pub mod Shown
 pub mod Whole
 pub mod Steps

@@ -14,7 +14,8 @@ use Rattle.below.proofs.Tests.{by-cases, true-or-false, and-left, and-right, an
 use Rattle.below.proofs.Every.{allBelow-all}
 use Rattle.below.proofs.Index.{put-same, put-other, put-elim, at-set}
 use Rattle.tables.specs.Limits.{Limits}
-use Rattle.tables.specs.Tables.{PlanLists, Tables, drones, dependencies, fullSize}
+use Rattle.tables.specs.Tables.{PlanLists, Tables, drones, dependencies, fullSize, Sizes}
+use Rattle.tables.proofs.SizeLaws.{full-sizes}
 use Rattle.tables.specs.Flags.{turnedBit, flipBit, fixedFlag, underWayBit, onlyOneBit, setUnderWay, clearUnderWay}
 use Rattle.tables.proofs.FlagLaws.{flip-turned, flip-half, new-turned}
 use Rattle.precedence.specs.Graph.{cyclic}
@@ -25,8 +26,8 @@ use Rattle.sound.specs.Sound.{planAccepted, dependenciesSound, planUnused, flag
 use Rattle.log.specs.CallLog.{Call, replyIn}
 use Rattle.log.specs.Calls.{granted, arrived, flipped, replyOf, AsRead}
 use Rattle.log.specs.Demand.{Agree}
-use Rattle.log.proofs.SoundParts.{says-sound, zero-from, drones-in, dependencies-in, Room, full-room}
-use Rattle.log.proofs.Agree.{cyclic-same, reply-same, unturned-same, within-same, waits-same}
+use Rattle.log.proofs.SoundParts.{says-sound, zero-from, drones-in, dependencies-in}
+use Rattle.log.proofs.SameStatus.{cyclic-same, reply-same, unturned-same, within-same, waits-same}
 use Rattle.log.proofs.Good.{Good, statusBy}
 
 -- ---- progress by counts is sound
@@ -149,8 +150,8 @@ module _ (L : Limits) (lists : PlanLists) (t₀ : Tables) (read : AsRead L lists
   count-room : dependencies lists ≤ L .dependencies
   count-room = dependencies-in L lists (read .plan-accepted) (read .dependencies-own)
 
-  room : Room L t₀
-  room = full-room L t₀ (read .full)
+  room : Sizes L t₀
+  room = full-sizes L t₀ (read .full)
 
   module _ (p e : ℕ → ℕ) (u : ℕ → Bool) (t : Tables) (k : Kept lists t₀ p e u t) where
     plan-kept : t .plan ≡ lists
@@ -176,7 +177,7 @@ module _ (L : Limits) (lists : PlanLists) (t₀ : Tables) (read : AsRead L lists
         flags-unused = λ w h. refl;
       });
       visited-is = k .visited-is;
-      droneFlags-are = λ c m. at-set (t .droneFlags) d (setUnderWay (at (t .droneFlags) d)) (omega (arith, k .same .droneFlags-length, room .droneFlags-room, drones-room)) c
+      droneFlags-are = λ c m. at-set (t .droneFlags) d (setUnderWay (at (t .droneFlags) d)) (omega (arith, k .same .droneFlags-length, room .drone-flags, drones-room)) c
           ∙ put-elim (λ c z. c < drones lists → put (at (t .droneFlags)) d (setUnderWay (at (t .droneFlags) d)) c ≡ bit (ltb (p c) z)) e d (suc (p d))
           (λ m. put-same (at (t .droneFlags)) d _ ∙ ap setUnderWay (k .droneFlags-are d l) ∙ set-bit (ltb (p d) (e d)) ∙ sym (ap bit (lt-ltb (p d) (suc (p d)) (omega arith))))
           (λ c n m. put-other (at (t .droneFlags)) d _ c n ∙ k .droneFlags-are c m) c m;
@@ -195,11 +196,11 @@ module _ (L : Limits) (lists : PlanLists) (t₀ : Tables) (read : AsRead L lists
         droneFlags-unused = stored (t .droneFlags) d _ (drones (t .plan)) (omega (arith, drones-are));
         flags-unused = λ w h. refl;
       });
-      visited-is = λ c m. at-set (t .visited) d (at (t .visited) d + 1) (omega (arith, k .same .visited-length, room .visited-room, drones-room)) c
+      visited-is = λ c m. at-set (t .visited) d (at (t .visited) d + 1) (omega (arith, k .same .visited-length, room .visited, drones-room)) c
           ∙ put-elim (λ c z. c < drones lists → put (at (t .visited)) d (at (t .visited) d + 1) c ≡ z) p d (suc (p d))
           (λ m. put-same (at (t .visited)) d _ ∙ omega (arith, k .visited-is d l))
           (λ c n m. put-other (at (t .visited)) d _ c n ∙ k .visited-is c m) c m;
-      droneFlags-are = λ c m. at-set (t .droneFlags) d (clearUnderWay (at (t .droneFlags) d)) (omega (arith, k .same .droneFlags-length, room .droneFlags-room, drones-room)) c
+      droneFlags-are = λ c m. at-set (t .droneFlags) d (clearUnderWay (at (t .droneFlags) d)) (omega (arith, k .same .droneFlags-length, room .drone-flags, drones-room)) c
           ∙ put-elim (λ c z. c < drones lists → put (at (t .droneFlags)) d (clearUnderWay (at (t .droneFlags) d)) c ≡ bit (ltb z (e c))) p d (suc (p d))
           (λ m. put-same (at (t .droneFlags)) d _ ∙ ap clearUnderWay (k .droneFlags-are d l) ∙ clear-bit (ltb (p d) (e d)) ∙ sym (ap bit (le-ltb (suc (p d)) (e d) h)))
           (λ c n m. put-other (at (t .droneFlags)) d _ c n ∙ k .droneFlags-are c m) c m;
@@ -229,7 +230,7 @@ module _ (L : Limits) (lists : PlanLists) (t₀ : Tables) (read : AsRead L lists
     }
       where
         after : (v : ℕ) → at (set (t .flags) w (flipBit (at (t .flags) w))) v ≡ put (at (t .flags)) w (flipBit (at (t .flags) w)) v
-        after = at-set (t .flags) w (flipBit (at (t .flags) w)) (omega (arith, k .same .flags-length, room .flags-room, count-room))
+        after = at-set (t .flags) w (flipBit (at (t .flags) w)) (omega (arith, k .same .flags-length, room .flags, count-room))
 
     -- ---- the tables show the counts, and are sound when those are good
 

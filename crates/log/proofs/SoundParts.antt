@@ -1,23 +1,23 @@
 -- Sound, part by part: the conjunction taken apart and put together again, and what its parts say of the counts. Assumes nothing.
-use mathlib.Core.Path.{_≡_, refl}
-use mathlib.Core.Bool.{true, false, not, _&&_}
+use mathlib.Core.Path.{_≡_, refl, ap, _∙_}
+use mathlib.Core.Bool.{Bool, true, false, not, _&&_}
 use mathlib.Core.List.{List}
-use Prim.Native.Nat.{ℕ, _*_, _≤_, _<_}
+use Prim.Native.Nat.{ℕ, _/_, _%_, _≤_, _<_}
 use native.Mathlib.Omega.{arith}
 use lib.Dec.{ltb, leb, eqb}
-use lib.ListN.{length}
 use borrow.Author.Tests.{ltb-false, leb-true, eqb-true, not-true}
-use Rattle.below.specs.Below.{at, allBelow}
+use Rattle.below.specs.Below.{pick, at, allBelow}
 use Rattle.below.proofs.Tests.{by-cases, and-left, and-right}
 use Rattle.below.proofs.Every.{allBelow-at, allBelow-all}
 use Rattle.tables.specs.Limits.{Limits}
-use Rattle.tables.specs.Tables.{PlanLists, Tables, drones, dependencies, fullSize}
+use Rattle.tables.specs.Tables.{PlanLists, Tables, drones, dependencies}
+use Rattle.tables.specs.Flags.{fixedBit, onlyOneBit}
 use Rattle.precedence.specs.Graph.{cyclic}
 use Rattle.plan.specs.Dependencies.{dependencyTotal}
 use Rattle.plan.specs.Check.{firstFault}
 use Rattle.plan.specs.Claims.{HaveStops, NoFault, NoCollision, HoldsPlanned}
 use Rattle.plan.proofs.Claims.{accepted-claims}
-use Rattle.plan.specs.Field.{AcceptedPlan, planOf, graph}
+use Rattle.plan.specs.Field.{AcceptedPlan, planOf, graph, fixed}
 use Rattle.plan.specs.Status.{statusIn, fixedUnturned, withinStops, waitsKept}
 use Rattle.sound.specs.Sound.{zeroFrom, own, num, planned, stopTotal, inRange, namesSound, checked, planAccepted, dependenciesSound, planUnused, flagsSound, droneFlagsSound, progressUnused, sound}
 
@@ -129,28 +129,18 @@ pub zero-from : (used full : ℕ) (l : List ℕ) → ((i : ℕ) → used ≤ i �
 unfolding zeroFrom
 zero-from used full l zero-at = allBelow-all full _ (λ i h. by-cases (ltb i used) (λ e. rw e refl) (λ e. rw (e, zero-at i (ltb-false i used e) h) refl))
 
--- ---- the tables that calls write have room for the limits
-pub record Room (L : Limits) (t : Tables) : Type 0 where
-  pub visited-room : L .drones ≤ length (t .visited)
-  pub droneFlags-room : L .drones ≤ length (t .droneFlags)
-  pub flags-room : L .dependencies ≤ length (t .flags)
+-- ---- the flag bytes
 
-pub full-room : (L : Limits) (t : Tables) → fullSize L t ≡ true → Room L t
-unfolding fullSize
-full-room L t h =
-    let h₁ = and-right (leb 1 (length (t .plan .droneCount))) _ h in
-    let h₂ = and-right (leb 1 (length (t .plan .dependencyCount))) _ h₁ in
-    let h₃ = and-right (leb (L .drones * L .name) (length (t .plan .names))) _ h₂ in
-    let h₄ = and-right (leb (L .drones) (length (t .plan .stopCounts))) _ h₃ in
-    let h₅ = and-right (leb (L .stops) (length (t .plan .locations))) _ h₄ in
-    let h₆ = and-right (leb (L .stops) (length (t .plan .times))) _ h₅ in
-    let h₇ = and-right (leb (L .dependencies) (length (t .plan .firstDrones))) _ h₆ in
-    let h₈ = and-right (leb (L .dependencies) (length (t .plan .firstStops))) _ h₇ in
-    let h₉ = and-right (leb (L .dependencies) (length (t .plan .secondDrones))) _ h₈ in
-    let h₁₀ = and-right (leb (L .dependencies) (length (t .plan .secondStops))) _ h₉ in
-    let h₁₁ = and-right (leb (L .drones) (length (t .visited))) _ h₁₀ in
-    record {
-      visited-room = leb-true _ _ (and-left _ _ h₁₀);
-      droneFlags-room = leb-true _ _ (and-left _ _ h₁₁);
-      flags-room = leb-true _ _ (and-right (leb (L .drones) (length (t .droneFlags))) _ h₁₁);
-    }
+module _ (L : Limits) (t : Tables) (s : Sound L t) where
+  pub one-bit : (d : ℕ) → d < drones (t .plan) → onlyOneBit (at (t .droneFlags) d) ≡ true
+  unfolding droneFlagsSound
+  one-bit d l = allBelow-at (drones (t .plan)) _ (s .drone-flags) d l
+
+  -- "bit 1 is fixed": 31 is seen by the flag byte
+  pub fixed-bit : (w : ℕ) → w < dependencies (t .plan) → fixedBit (at (t .flags) w) ≡ fixed (planOf (t .plan)) w
+  unfolding fixedBit flagsSound
+  fixed-bit w l = ap (λ (x : ℕ). eqb (x % 2) 1) (eqb-true (at (t .flags) w / 2) _ (allBelow-at (dependencies (t .plan)) _ (s .flags-right) w l)) ∙ bit (fixed (planOf (t .plan)) w)
+    where
+      bit : (b : Bool) → eqb (pick b 1 0 % 2) 1 ≡ b
+      bit true = refl
+      bit false = refl

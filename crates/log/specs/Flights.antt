@@ -10,7 +10,7 @@ use Rattle.below.specs.Below.{listBelow}
 use Rattle.tables.specs.Limits.{Limits}
 use Rattle.tables.specs.Tables.{PlanLists, Tables, dependencies}
 use Rattle.precedence.specs.Graph.{cost}
-use Rattle.plan.specs.Check.{partner}
+use Rattle.plan.specs.Check.{firstFault, partner}
 use Rattle.plan.specs.Claims.{stopTotal, ownerIn, numberIn, locationIn, timeIn, colliderIn}
 use Rattle.plan.specs.Dependencies.{dependencyTotal, column, flagOf}
 use Rattle.plan.specs.Field.{planOf, graph}
@@ -130,7 +130,8 @@ holds f = elim (f .outcome) [
       let p = routesOnly (f .routes) in
       let v = colliderIn p in
       let w = partner (ownerIn p) (locationIn p) (timeIn p) (stopTotal p) v in
-      eqb (ownerIn p v) d && (eqb (numberIn p v) s && (eqb (ownerIn p w) e && eqb (numberIn p w) k))
+      eqb (firstFault (numberIn p) (locationIn p) (timeIn p) (stopTotal p)) (stopTotal p)
+      && (eqb (ownerIn p v) d && (eqb (numberIn p v) s && (eqb (ownerIn p w) e && eqb (numberIn p w) k)))
 ]
 
 unfoldable pub allHold : List Flight → Bool
@@ -145,6 +146,10 @@ Q t = (go 1 0 ∷ go 6 1 ∷ go 5 2 ∷ go 2 3 ∷ []) ∷ (go 3 0 ∷ go 5 t �
 
 abbrev pub P : List (List Visit)
 P = (go 10 0 ∷ go 20 1 ∷ go 30 2 ∷ go 40 3 ∷ []) ∷ (go 11 0 ∷ go 20 3 ∷ go 30 4 ∷ go 41 5 ∷ []) ∷ []
+
+-- three drones, each of which meets the two others
+abbrev pub ring : List (List Visit)
+ring = (go 1 0 ∷ go 30 1 ∷ go 10 2 ∷ go 2 3 ∷ []) ∷ (go 3 0 ∷ go 10 4 ∷ go 20 5 ∷ go 4 6 ∷ []) ∷ (go 5 0 ∷ go 20 7 ∷ go 30 8 ∷ go 6 9 ∷ []) ∷ []
 
 -- the starred flights
 abbrev pub starred : List Flight
@@ -165,15 +170,15 @@ starred =
     ∷ flight ((go 7 0 ∷ []) ∷ []) (taken 0 (costsNow 0 ∷ says (grant 0) (refused 21) ∷ []))
     ∷ []
 
--- flights against the slips
+-- flights against the slips, and turns in both directions
 abbrev pub slips : List Flight
 slips =
     -- "Waiting for the leader's visit and not for its departure"; "Counting cost from the start and not from progress"
     flight (Q 4) (taken 1 (says (grant 0) accepted ∷ says (arrive 0) accepted ∷ costsNow 6 ∷ says (grant 0) accepted ∷ says (arrive 0) accepted ∷ says (grant 1) (mustWait 0) ∷ says (grant 0) accepted ∷ says (arrive 0) accepted ∷ says (grant 1) accepted ∷ costsNow 2 ∷ []))
+    -- "Turning twice gives the first rule again"
+    ∷ flight (Q 4) (taken 1 (says (turn 0) accepted ∷ says (turn 0) accepted ∷ costsNow 8 ∷ says (grant 1) (mustWait 0) ∷ []))
     -- "Looking for a cycle between the two drones only; three can wait in a ring"
-    ∷ flight
-    ((go 1 0 ∷ go 30 1 ∷ go 10 2 ∷ go 2 3 ∷ []) ∷ (go 3 0 ∷ go 10 4 ∷ go 20 5 ∷ go 4 6 ∷ []) ∷ (go 5 0 ∷ go 20 7 ∷ go 30 8 ∷ go 6 9 ∷ []) ∷ [])
-    (taken 3 (says (turn 0) (refused 34) ∷ []))
+    ∷ flight ring (taken 3 (says (turn 0) (refused 34) ∷ []))
     ∷ []
 
 -- the claim: every flight of the table is as it says

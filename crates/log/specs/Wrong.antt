@@ -28,7 +28,14 @@ honestOnce t c = cond (eqb (at (t .visited) 0) 0) (step small t c) (record { rep
 
 -- waits for the leader's visit and not for its departure
 unfoldable pub sooner : FieldPlan → FieldPlan
-sooner F = record { drones = F .drones; last = F .last; location = F .location; time = F .time; count = F .count; dependency = λ w. record { first = F .dependency w .first; firstStop = F .dependency w .firstStop - 1; second = F .dependency w .second; secondStop = F .dependency w .secondStop } }
+sooner F = record {
+  drones = F .drones;
+  last = F .last;
+  location = F .location;
+  time = F .time;
+  count = F .count;
+  dependency = λ w. let x = F .dependency w in record { first = x .first; firstStop = x .firstStop - 1; second = x .second; secondStop = x .secondStop };
+}
 
 unfoldable pub visitOnly : Tables → Call → Answer
 visitOnly t (grant d) = answer t (replyIn (sooner (planOf (t .plan))) (statusIn t) (grant d)) (granted t d)
@@ -43,6 +50,12 @@ noCycles (mustWait w) = mustWait w
 
 unfoldable pub never34 : Tables → Call → Answer
 never34 t c = record { reply = noCycles (step small t c .reply); tables = step small t c .tables }
+
+-- grants without a test, and says 34 without one
+unfoldable pub untested : Tables → Call → Answer
+untested t (grant d) = answer t accepted (granted t d)
+untested t (arrive d) = arriveStep small t d
+untested t (turn w) = answer t (refused 34) t
 
 -- ---- the flights that refute them
 
@@ -61,6 +74,8 @@ wrongs =
     ∷ wrong honestOnce (Q 4) (grant 0 ∷ arrive 0 ∷ grant 0 ∷ [])
     ∷ wrong visitOnly (Q 4) (grant 0 ∷ arrive 0 ∷ grant 0 ∷ arrive 0 ∷ grant 1 ∷ [])
     ∷ wrong never34 P (turn 0 ∷ [])
+    ∷ wrong untested (Q 4) (grant 1 ∷ [])
+    ∷ wrong untested (Q 4) (turn 0 ∷ [])
     ∷ []
 
 -- the claim

@@ -8,3 +8,4 @@ pub mod Definition1
 pub mod Claims
 pub mod CheckLaws
 pub mod ColumnsLaws
+pub mod WaitsLaws

@@ -6,4 +6,5 @@ pub mod Columns
 pub mod Room
 pub mod Field
 pub mod Status
+pub mod Waits
 pub mod Claims

@@ -2,6 +2,7 @@
 use mathlib.Core.List.{List}
 use Prim.Native.Nat.{ℕ, _≤_, _<_}
 use lib.ListN.{length}
+use Rattle.below.specs.Below.{at}
 use Rattle.plan.specs.Stops.{start}
 use Rattle.plan.specs.Columns.{Columns}
 
@@ -44,3 +45,10 @@ pub record ColumnsRoom (m : ℕ) (c : Columns) : Type 0 where
   pub has-second-stops : m ≤ length (c .secondStops)
   pub has-flags : m ≤ length (c .flags)
   pub dependencies-fit : m ≤ 65536
+
+-- m dependencies whose drones, as drone d, have a last visited stop
+pub record WaitsRoom (m : ℕ) (c : Columns) (visited : List ℕ) (d : ℕ) : Type 0 where
+  pub entries : ColumnsRoom m c
+  pub first-in : (w : ℕ) → w < m → at (c .firstDrones) w < length visited
+  pub second-in : (w : ℕ) → w < m → at (c .secondDrones) w < length visited
+  pub drone-in : d < length visited

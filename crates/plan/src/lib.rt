@@ -2,3 +2,4 @@
 pub mod check;
 pub mod dependencies;
 pub mod stops;
+pub mod waits;

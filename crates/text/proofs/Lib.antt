@@ -11,3 +11,5 @@ pub mod Flights
 pub mod NameInRow
 pub mod WriteLoop
 pub mod WriteWhole
+pub mod WriteBack
+pub mod ReadIsWritten

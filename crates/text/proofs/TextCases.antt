@@ -1,10 +1,9 @@
 -- The whole text: which case of the definitions holds, by what was read; and the tables afterwards.
 use Prim.Native.Nat.{ℕ, _+_, _*_, _≤_, _<_}
 use native.Mathlib.Omega.{arith}
-use mathlib.Core.Path.{_≡_, refl, sym, ap, _∙_}
+use mathlib.Core.Path.{_≡_, sym, ap, _∙_}
 use mathlib.Core.List.{List, []}
-use mathlib.Core.Bool.{Bool, true, false, cond}
-use lib.Dec.{eqb}
+use mathlib.Core.Bool.{true, false}
 use borrow.Author.Tests.{lt-ltb, le-ltb, eq-eqb, ne-eqb}
 use lib.ListN.{length, set}
 use lib.Seq.{sets}
@@ -14,11 +13,11 @@ use native.Mathlib.Nat.{zero-mul}
 use Rattle.lines.specs.Bytes.{isAt}
 use Rattle.lines.specs.Keys.{planLine, agentsKey, endLine}
 use Rattle.lines.specs.Stops.{countAt}
-use Rattle.lines.proofs.StopCases.{count-range}
-use Rattle.text.specs.Reading.{Found, nothing, dronesAt, ending, finish, agentsOf, linesAt, flat, Stored}
+use Rattle.text.specs.Reading.{Found, nothing, dronesAt, ending, finish, linesAt, flat, Stored}
 use Rattle.text.specs.TextRead.{answerOf, tableAfter, droneCount, TextRead, Zeroed}
 use Rattle.tables.specs.Zero.{zeroed}
 use Rattle.text.proofs.Fits.{lines-fit}
+use Rattle.text.proofs.TakenIsWritten.{text-taken}
 use Rattle.lines.specs.declared.stops.Count.{Count}
 use Rattle.lines.specs.declared.refusal.Refusal.{Refusal}
 use Rattle.text.specs.declared.reader.DroneLines.{DroneLines}
@@ -62,25 +61,9 @@ end-refused text v x r k = rw k
 
 -- a plan that was taken has drones up to the limit
 pub taken-range : (L : Limits) (text : List ℕ) (n : ℕ) → linesAt L text .answer ≡ Plan n → (1 ≤ n) × (n ≤ L .drones)
-unfolding linesAt
-taken-range L text n h = by-key (isAt text 0 planLine) h
-  where
-    by-end : (v : ℕ) → (1 ≤ v) × (v ≤ L .drones) → (e : ℕ) (a b : Bool) → cond a (cond b (Plan v) (NoPlan (Form (e + 9)))) (NoPlan (Form e)) ≡ Plan n → (1 ≤ n) × (n ≤ L .drones)
-    by-end v q e true true h = let ev : v ≡ n = cc h in rw ev at q
-    by-end v q e true false h = absurd (let z : _≡_ {A = ℕ} 0 1 = cc h in omega arith)
-    by-end v q e false b h = absurd (let z : _≡_ {A = ℕ} 0 1 = cc h in omega arith)
-
-    by-drones : (v : ℕ) → (1 ≤ v) × (v ≤ L .drones) → (r : DroneLines) → ending text v r ≡ Plan n → (1 ≤ n) × (n ≤ L .drones)
-    by-drones v q (Refused x) h = absurd (let z : _≡_ {A = ℕ} 0 1 = cc h in omega arith)
-    by-drones v q (Taken e t) h = by-end v q e (isAt text e endLine) (eqb (e + 9) (length text)) h
-
-    by-count : (c : Count) → countAt text 7 agentsKey (L .drones) ≡ c → agentsOf L text c .answer ≡ Plan n → (1 ≤ n) × (n ≤ L .drones)
-    by-count (NoCount r) c h = absurd (let z : _≡_ {A = ℕ} 0 1 = cc h in omega arith)
-    by-count (Is v p) c h = by-drones v (count-range text 7 agentsKey (L .drones) v p c) (dronesAt L v text p [] 0 .answer) h
-
-    by-key : (b : Bool) → cond b (agentsOf L text (countAt text 7 agentsKey (L .drones))) (nothing (NoPlan (Form 0))) .answer ≡ Plan n → (1 ≤ n) × (n ≤ L .drones)
-    by-key true h = by-count (countAt text 7 agentsKey (L .drones)) refl h
-    by-key false h = absurd (let z : _≡_ {A = ℕ} 0 1 = cc h in omega arith)
+taken-range L text n h =
+    let t = text-taken L text n h in
+    (rw (t .many) at (t .valid .0), rw (t .many) at (t .valid .1))
 
 -- ---- the tables afterwards
 

@@ -6,7 +6,8 @@ use lib.ListN.{length}
 use Rattle.tables.specs.Limits.{Limits}
 use Rattle.text.specs.declared.reader.Answer.the-variants.{Taken as Plan}
 use Rattle.text.specs.Reading.{linesAt}
-use Rattle.text.specs.TextRead.{answerOf}
+use Rattle.text.specs.TextRead.{answerOf, TextRead}
+use Rattle.text.specs.TextWritten.{tablesText}
 use Rattle.text.specs.Written.{planText, Route, routesText, foundOf, Valid}
 
 -- the plan of n drones that a text was taken for: it is valid, it is what was read, and its text is that text
@@ -36,3 +37,8 @@ pub record RoundTrip (L : Limits) : Type 0 where
   -- the text of a valid plan is bounded by the other limits; where the bound is within the limit of the text, every valid plan's text is taken
   pub written-bound : (ds : List Route) → Valid L ds → length (routesText ds) ≤ textBound L
   pub written-taken : textBound L ≤ L .text → (ds : List Route) → Valid L ds → answerOf L (routesText ds) ≡ Plan (length ds)
+
+-- what a reading that was taken left in tables of full size is written as the text that was read
+pub record ReadAndWritten (L : Limits) : Type 0 where
+  pub text-kept : (n : ℕ) (text dc ns cs ls ts dc′ ns′ cs′ ls′ ts′ : List ℕ) → TextRead L text dc ns cs ls ts dc′ ns′ cs′ ls′ ts′ (Plan n)
+      → L .drones * L .name ≤ length ns → L .drones ≤ length cs → L .stops ≤ length ls → L .stops ≤ length ts → tablesText L n ns′ cs′ ls′ ts′ ≡ text

@@ -181,7 +181,6 @@ pub fn zero_all(
     locations: &mut [u16],
     times: &mut [u32],
 )
-    requires { ⌜ (1 ≤ length (now count)) × (limits .drones * limits .name ≤ length (now names)) × (limits .drones ≤ length (now counts)) × (limits .stops ≤ length (now locations)) × (limits .stops ≤ length (now times)) ⌝ }
     ensures { λ _. ⌜ Zeroed limits
         (now (count .entry)) (now (names .entry)) (now (counts .entry)) (now (locations .entry)) (now (times .entry))
         (now (count .exit)) (now (names .exit)) (now (counts .exit)) (now (locations .exit)) (now (times .exit)) ⌝ }

@@ -8,14 +8,13 @@ ghost use mathlib.Core.Path.{_≡_};
 ghost use mathlib.Core.List.{_++_};
 ghost use Prim.Native.Nat.{_+_, _*_, _<_, _≤_, _^_};
 ghost use lib.ListN.{length, take, drop};
-ghost use Rattle.below.specs.Below.{sumBelow, at as entry};
 ghost use Rattle.tables.specs.Limits.{limits};
 ghost use Rattle.lines.specs.Keys.{stopsKey};
 ghost use Rattle.lines.specs.Bytes.{Put};
 ghost use Rattle.lines.specs.Stops.{countLine, stopLines};
 ghost use Rattle.lines.specs.Names.{nameLine, nameOf};
 ghost use Rattle.text.specs.Written.{droneLines};
-ghost use Rattle.text.specs.TextWritten.{droneText, rowsIn, tablesText, TextWritten};
+ghost use Rattle.text.specs.TextWritten.{droneText, rowsIn, tablesText, Writable, TextWritten};
 
 // How many bytes of a row stand before its first zero.
 pub fn name_len(names: &[u8], row: usize) -> usize
@@ -101,9 +100,7 @@ pub fn put_drones(
     locations: &[u16],
     times: &[u32],
 ) -> usize
-    requires { ⌜ (at < 2 ^ 27) × (drones ≤ limits .drones) × (drones * limits .name ≤ length (now names)) × (drones ≤ length (now counts))
-        × (sumBelow drones (entry (now counts)) ≤ limits .stops)
-        × (limits .stops ≤ length (now locations)) × (limits .stops ≤ length (now times)) ⌝ }
+    requires { ⌜ (at < 2 ^ 27) × Writable limits drones (now names) (now counts) (now locations) (now times) ⌝ }
     ensures { λ r. ⌜ Put (now (buf .entry)) at
         (droneLines (rowsIn limits drones (now (names .entry))) (take drones (now (counts .entry))) (now (locations .entry)) (now (times .entry)))
         (now (buf .exit)) r ⌝ }
@@ -138,9 +135,7 @@ pub fn put_text(
     locations: &[u16],
     times: &[u32],
 ) -> usize
-    requires { ⌜ (drones ≤ limits .drones) × (drones * limits .name ≤ length (now names)) × (drones ≤ length (now counts))
-        × (sumBelow drones (entry (now counts)) ≤ limits .stops)
-        × (limits .stops ≤ length (now locations)) × (limits .stops ≤ length (now times)) ⌝ }
+    requires { ⌜ Writable limits drones (now names) (now counts) (now locations) (now times) ⌝ }
     ensures { λ r. ⌜ Put (now (buf .entry)) 0
         (tablesText limits drones (now (names .entry)) (now (counts .entry)) (now (locations .entry)) (now (times .entry)))
         (now (buf .exit)) r ⌝ }
@@ -166,9 +161,7 @@ pub fn write_text(
     locations: &[u16],
     times: &[u32],
 ) -> WriteAnswer
-    requires { ⌜ (drones ≤ limits .drones) × (drones * limits .name ≤ length (now names)) × (drones ≤ length (now counts))
-        × (sumBelow drones (entry (now counts)) ≤ limits .stops)
-        × (limits .stops ≤ length (now locations)) × (limits .stops ≤ length (now times)) ⌝ }
+    requires { ⌜ Writable limits drones (now names) (now counts) (now locations) (now times) ⌝ }
     ensures { λ r. ⌜ TextWritten
         (tablesText limits drones (now (names .entry)) (now (counts .entry)) (now (locations .entry)) (now (times .entry)))
         (now (buf .entry)) (now (buf .exit)) r ⌝ }

@@ -4,11 +4,6 @@ use Rattle.lines.proofs.NumberCases.{digits-length}
 use borrow.Author.Needs.{needs}
 use Rattle.text.proofs.writer.put_count.Statement.{statement}
 use Rattle.text.proofs.writer.put_count.Tie as tie
-use Rattle.text.proofs.writer.put_count.Reads as reads
-use Rattle.text.proofs.writer.put_count.Lts as lts
-use Rattle.lines.proofs.bytes.put_byte.Reads as put-byte-reads
-use Rattle.lines.proofs.bytes.put_bytes.Reads as put-bytes-reads
-use Rattle.lines.proofs.numbers.put_number.Reads as put-number-reads
 
 -- src/writer.rt:51:9
 put-bytes-requires : tie.Need-put-bytes-requires

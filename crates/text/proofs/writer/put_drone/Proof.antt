@@ -7,10 +7,6 @@ use Rattle.text.proofs.WriteLoop.{name-near}
 use borrow.Author.Needs.{needs}
 use Rattle.text.proofs.writer.put_drone.Statement.{statement}
 use Rattle.text.proofs.writer.put_drone.Tie as tie
-use Rattle.text.proofs.writer.put_drone.Reads as reads
-use Rattle.text.proofs.writer.put_drone.Lts as lts
-use Rattle.text.proofs.writer.put_name.Reads as put-name-reads
-use Rattle.text.proofs.writer.put_stop_lines.Reads as put-stop-lines-reads
 
 -- src/writer.rt:90:9
 put-name-requires : tie.Need-put-name-requires

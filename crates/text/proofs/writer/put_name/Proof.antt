@@ -6,11 +6,6 @@ use Rattle.text.proofs.NameInRow.{name-within, part-within, name-put}
 use borrow.Author.Needs.{needs}
 use Rattle.text.proofs.writer.put_name.Statement.{statement}
 use Rattle.text.proofs.writer.put_name.Tie as tie
-use Rattle.text.proofs.writer.put_name.Reads as reads
-use Rattle.text.proofs.writer.put_name.Lts as lts
-use Rattle.lines.proofs.bytes.put_byte.Reads as put-byte-reads
-use Rattle.lines.proofs.bytes.put_bytes.Reads as put-bytes-reads
-use Rattle.text.proofs.writer.name_len.Reads as name-len-reads
 
 -- src/writer.rt:40:21
 name-len-requires : tie.Need-name-len-requires

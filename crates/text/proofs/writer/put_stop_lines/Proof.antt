@@ -5,10 +5,6 @@ use Rattle.text.proofs.WriteLoop.{count-near}
 use borrow.Author.Needs.{needs}
 use Rattle.text.proofs.writer.put_stop_lines.Statement.{statement}
 use Rattle.text.proofs.writer.put_stop_lines.Tie as tie
-use Rattle.text.proofs.writer.put_stop_lines.Reads as reads
-use Rattle.text.proofs.writer.put_stop_lines.Lts as lts
-use Rattle.lines.proofs.stops.put_stops.Reads as put-stops-reads
-use Rattle.text.proofs.writer.put_count.Reads as put-count-reads
 
 -- src/writer.rt:70:36
 slice-aggregate-put-count : tie.Need-slice-aggregate-put-count

@@ -4,9 +4,6 @@ use Rattle.text.proofs.WriteWhole.{says-short, says-length}
 use borrow.Author.Needs.{needs}
 use Rattle.text.proofs.writer.write_text.Statement.{statement}
 use Rattle.text.proofs.writer.write_text.Tie as tie
-use Rattle.text.proofs.writer.write_text.Reads as reads
-use Rattle.text.proofs.writer.write_text.Lts as lts
-use Rattle.text.proofs.writer.put_text.Reads as put-text-reads
 
 -- src/writer.rt:176:27
 sub-put-text : tie.Need-sub-put-text

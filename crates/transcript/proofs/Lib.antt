@@ -1,0 +1,5 @@
+pub mod PlanEnd
+pub mod CallCases
+pub mod RequestLoop
+pub mod ReplyCases
+pub mod Examples
