@@ -1,0 +1,5 @@
+pub mod Stored
+pub mod Extra
+pub mod Routes
+pub mod RowNames
+pub mod PlanHeld
