@@ -16,3 +16,10 @@ pub enum ArriveReply {
     NoDrone,
     NotUnderWay,
 }
+
+pub enum WriteReply {
+    Written(usize),
+    TablesTooSmall,
+    NotSound,
+    BufferTooShort,
+}
