@@ -1,0 +1,3 @@
+// The conductor's public calls over lent tables.
+pub mod cores;
+pub mod replies;
