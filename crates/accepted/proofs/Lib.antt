@@ -6,3 +6,4 @@ pub mod PlanHeld
 pub mod ReadCases
 pub mod Built
 pub mod ReadSound
+pub mod Examples
