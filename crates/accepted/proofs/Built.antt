@@ -1,29 +1,27 @@
 -- The dependencies laid into tables whose dependency entries are zero: they are the plan's own, with right flag bytes, and zero past the last.
-use mathlib.Core.Path.{_≡_, refl, sym, ap, _∙_}
-use mathlib.Core.Bool.{Bool, true, cond, _&&_}
+use mathlib.Core.Path.{_≡_, refl, sym, _∙_}
+use mathlib.Core.Bool.{true}
 use mathlib.Core.List.{List, [], _∷_}
-use Prim.Native.Nat.{ℕ, _+_, _*_, _≤_, _<_}
+use Prim.Native.Nat.{ℕ, _≤_, _<_}
 use native.Mathlib.Omega.{arith}
-use lib.Dec.{leb, eqb}
 use borrow.Author.Tests.{le-leb, eq-eqb}
-use lib.ListN.{length, getD, set}
-use lib.Seq.{sets, length-sets, getD-set-same}
-use Rattle.below.specs.Below.{at, laid, allBelow}
+use lib.ListN.{length}
+use lib.Seq.{length-sets, getD-set-same}
+use Rattle.below.specs.Below.{at, laid}
 use Rattle.below.proofs.Tests.{and-both}
 use Rattle.below.proofs.Every.{allBelow-all}
 use Rattle.below.proofs.Picks.{laid-length}
 use Rattle.below.proofs.Pairs.{length-listed}
 use Rattle.tables.specs.Limits.{Limits}
-use Rattle.tables.specs.Tables.{PlanLists, Tables, drones, dependencies, fullSize, Sizes}
+use Rattle.tables.specs.Tables.{PlanLists, Tables, drones, dependencies, Sizes}
 use Rattle.tables.specs.Flags.{fixedFlag}
 use Rattle.tables.proofs.SizeLaws.{SameLengths, fullSize-lengths, sizes-full}
 use Rattle.text.specs.Written.{Route, Valid}
-use Rattle.plan.specs.Dependencies.{follows, flagOf, dependencyTotal}
-use Rattle.plan.specs.Check.{firstFault, apart}
+use Rattle.plan.specs.Dependencies.{follows, flagOf}
 use Rattle.plan.specs.Field.{planOf, fixed}
-use Rattle.plan.specs.Claims.{ownerIn, numberIn, locationIn, timeIn, stopTotal, HaveStops, NoFault, NoCollision, HoldsPlanned}
+use Rattle.plan.specs.Claims.{ownerIn, numberIn, locationIn, timeIn, stopTotal, HoldsPlanned}
 use Rattle.plan.proofs.Claims.{accepted-claims}
-use Rattle.sound.specs.Sound.{zeroFrom, inRange, namesSound, checked as checkedSound, planAccepted, dependenciesSound, planUnused}
+use Rattle.sound.specs.Sound.{zeroFrom, checked as checkedSound, planAccepted, dependenciesSound, planUnused}
 use Rattle.log.specs.Calls.{AsRead}
 use Rattle.reading.specs.Reading.{withDependencies, total, plannedList, checkIn}
 use Rattle.reading.specs.declared.replies.Reading.the-variants.{Taken}

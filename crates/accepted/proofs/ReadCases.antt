@@ -1,11 +1,11 @@
 -- A reading that is accepted went through every place of the table of refusals: full sizes, text, plan check, building.
-use mathlib.Core.Path.{_≡_, refl, sym, _∙_}
+use mathlib.Core.Path.{_≡_, refl}
 use mathlib.Core.Bool.{Bool, true, false, cond}
 use mathlib.Core.List.{List}
-use Prim.Native.Nat.{ℕ, _≤_, _<_}
+use Prim.Native.Nat.{ℕ, _≤_}
 use native.Mathlib.Omega.{arith}
 use lib.Dec.{ltb, leb, eqb}
-use borrow.Author.Tests.{ltb-false, leb-true, eq-eqb}
+use borrow.Author.Tests.{ltb-false, leb-true}
 use lib.ListN.{length}
 use Rattle.below.specs.Below.{firstBelow}
 use Rattle.below.proofs.Search.{firstBelow-first}
@@ -16,17 +16,16 @@ use Rattle.text.specs.Reading.{Found, linesAt}
 use Rattle.text.specs.declared.reader.Answer.{Answer}
 use Rattle.text.specs.declared.reader.Answer.the-variants as text
 use Rattle.plan.specs.declared.check.StopAt.{StopAt}
-use Rattle.plan.specs.declared.check.PlanCheck.{PlanCheck}
 use Rattle.plan.specs.declared.check.PlanCheck.the-variants as check
 use Rattle.plan.specs.Answers.{pickCheck, faultCase, checkOf}
 use Rattle.plan.specs.Check.{firstFault, collider}
 use Rattle.plan.specs.Claims.{stopTotal, ownerIn, numberIn, locationIn, timeIn, NoFault, NoCollision}
 use Rattle.plan.proofs.Claims.{accepted-claims}
-use Rattle.reading.specs.Replies.{ofText, ofCheck}
+use Rattle.reading.specs.Replies.{ofCheck}
 use Rattle.reading.specs.declared.replies.Refusal.the-variants.{TablesTooSmall, TooLong, TooManyDependencies}
 use Rattle.reading.specs.declared.replies.Reading.{Reading}
 use Rattle.reading.specs.declared.replies.Reading.the-variants.{Taken, Refused}
-use Rattle.reading.specs.Reading.{Answered, answered, withText, withDependencies, total, checkIn, built, checked, fromLines, readPlan}
+use Rattle.reading.specs.Reading.{Answered, answered, withText, withDependencies, total, checkIn, checked, fromLines, readPlan}
 
 -- ---- the plan check
 

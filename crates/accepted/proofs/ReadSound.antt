@@ -1,13 +1,13 @@
 -- An accepted reading leaves the tables as the calls ask for them: the text's values stand in zeroed tables, the plan check passed, and the dependencies were
 -- laid.
-use mathlib.Core.Path.{_≡_, refl, sym, ap, _∙_, subst}
+use mathlib.Core.Path.{_≡_, sym, ap, _∙_, subst}
 use mathlib.Core.Bool.{true}
 use mathlib.Core.List.{List, [], _∷_}
 use Prim.Native.Nat.{ℕ, _*_, _≤_, _<_}
 use native.Mathlib.Nat.{mul-le-mul-right}
 use native.Mathlib.Omega.{arith}
 use lib.ListN.{length}
-use lib.Seq.{sets, length-sets, getD-set-same}
+use lib.Seq.{sets, length-sets}
 use Rattle.below.specs.Below.{at}
 use Rattle.tables.specs.Limits.{Limits}
 use Rattle.tables.specs.Tables.{Tables, fullSize, Sizes}
@@ -20,14 +20,14 @@ use Rattle.text.specs.Written.{Route, rowsOf, countsOf, locationsOf, timesOf, f
 use Rattle.text.proofs.TakenIsWritten.{TextTaken, text-taken}
 use Rattle.log.specs.Calls.{AsRead}
 use Rattle.log.proofs.Whole.{demand3-of-contracts}
-use Rattle.reading.specs.Reading.{withText, withDependencies, total, checkIn, readPlan}
+use Rattle.reading.specs.Reading.{withText, withDependencies, total, checkIn}
 use Rattle.reading.specs.declared.replies.Reading.the-variants.{Taken}
 use Rattle.accepted.specs.Claims.{ReadIsSound, Demand3OfTexts}
 use Rattle.accepted.proofs.Stored.{stored-at}
 use Rattle.accepted.proofs.Extra.{names-many, counts-many, stops-within}
 use Rattle.accepted.proofs.Routes.{times-many}
 use Rattle.accepted.proofs.PlanHeld.{HoldsRoutes}
-use Rattle.accepted.proofs.ReadCases.{ReadTaken, read-taken}
+use Rattle.accepted.proofs.ReadCases.{read-taken}
 use Rattle.accepted.proofs.Built.{Blank, built-as-read}
 
 -- stored values that are known by an equation
