@@ -18,11 +18,11 @@ use Rattle.text.specs.Reading.{Found, linesAt, flat}
 use Rattle.text.specs.declared.reader.Answer.{Answer}
 use Rattle.text.specs.Written.{Route, rowsOf, countsOf, locationsOf, timesOf, foundOf, Valid}
 use Rattle.text.proofs.TakenIsWritten.{TextTaken, text-taken}
-use Rattle.log.specs.Calls.{AsRead}
-use Rattle.log.proofs.Whole.{demand3-of-contracts}
+use Rattle.log.specs.Calls.{AsRead, tablesAfter}
+use Rattle.log.proofs.Whole.{stays-sound, demand3-of-contracts}
 use Rattle.reading.specs.Reading.{withText, withDependencies, total, checkIn}
 use Rattle.reading.specs.declared.replies.Reading.the-variants.{Taken}
-use Rattle.accepted.specs.Claims.{ReadIsSound, Demand3OfTexts}
+use Rattle.accepted.specs.Claims.{ReadIsSound, TablesSound, Demand3OfTexts}
 use Rattle.accepted.proofs.Stored.{stored-at}
 use Rattle.accepted.proofs.Extra.{names-many, counts-many, stops-within}
 use Rattle.accepted.proofs.Routes.{times-many}
@@ -99,6 +99,10 @@ read-is-sound L text t h =
     let (full, r) = read-taken L text t h in
     let w : TextTaken L text (r .number) (linesAt L text) = text-taken L text (r .number) (r .lines-taken) in
     subst (λ (x : Tables). AsRead L (x .plan) x) (sym (r .tables-are)) (stored-as-read L t full (linesAt L text) (r .number) (w .routes) (w .many) (w .valid) (w .read) (r .check-passed) (r .room))
+
+pub tables-sound : (L : Limits) → TablesSound L
+unfolding tablesAfter
+tables-sound L text t h = stays-sound L _ _ (read-is-sound L text t h) []
 
 pub demand3-of-texts : (L : Limits) → Demand3OfTexts L
 demand3-of-texts L text t calls got t′ h ran = demand3-of-contracts L _ _ calls got t′ (read-is-sound L text t h) ran
