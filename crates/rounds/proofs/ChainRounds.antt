@@ -9,7 +9,7 @@ use lib.Dec.{ltb, leb, eqb}
 use lib.ListN.{length}
 use borrow.Author.Tests.{leb-true, leb-false, eqb-true, eq-eqb, lt-ltb, le-ltb}
 use Rattle.below.proofs.Greatest.{max-ext}
-use Rattle.below.proofs.Index.{listBelow-is}
+use Rattle.below.proofs.Index.{listBelow-is, getD-listBelow}
 use Rattle.below.proofs.Sum.{sum-ext}
 use Rattle.below.proofs.Tests.{by-cases, and-left, and-right, and-both, same-test}
 use Rattle.below.specs.Below.{pick, maxBelow, sumBelow, at}
@@ -94,6 +94,10 @@ module _ (own off last : ℕ → ℕ) (drones n : ℕ) (from into : ℕ → ℕ)
       each v l = by-cases (leb n v)
           (λ c. rw (le-ltb v n (leb-true _ _ c)) (past v (leb-true _ _ c)))
           (λ c. rw (lt-ltb v n (leb-false _ _ c)) (here v (leb-false _ _ c)))
+
+  pub table-at : (L : Limits) → n ≤ L .stops → (v : ℕ) → v < n → at (stopRounds L own off last drones n from into m p) v ≡ R v
+  unfolding stopRounds
+  table-at L few v l = getD-listBelow (L .stops) (λ v. pick (ltb v n) (R v) 0) 0 v (omega arith) ∙ rw (lt-ltb v n l) refl
 
   -- the entries at the last stops are the remaining rounds
   pub sum-is : (t : ℕ → ℕ) → ((v : ℕ) → v < n → t v ≡ R v) → sumBelow drones (λ d. t (off d + last d)) ≡ cost P p

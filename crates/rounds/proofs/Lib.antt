@@ -4,4 +4,5 @@ pub mod OneRound
 pub mod Bounds
 pub mod Readiness
 pub mod Passes
+pub mod Awaited
 pub mod ChainRounds
