@@ -24,6 +24,13 @@ stopRound own off last drones from into m p v = reached (flatPlan own off last d
 unfoldable pub stopRounds : (L : Limits) (own off last : ℕ → ℕ) (drones n : ℕ) (from into : ℕ → ℕ) (m : ℕ) → (ℕ → ℕ) → List ℕ
 stopRounds L own off last drones n from into m p = listBelow (L .stops) (λ v. pick (ltb v n) (stopRound own off last drones from into m p v) 0)
 
+-- P and Q have the same drones, last stops and waits
+pub record SamePlan (P Q : Plan) : Type 0 where
+  pub drones-same : Q .drones ≡ P .drones
+  pub last-same : (d : ℕ) → d < P .drones → Q .last d ≡ P .last d
+  pub count-same : Q .count ≡ P .count
+  pub wait-same : (w : ℕ) → w < P .count → Q .wait w ≡ P .wait w
+
 -- what remaining rounds are counted from: tables of sound size whose waits name stops, a graph without a cycle, nobody past a last stop, and "for every
 -- dependency whose waiting stop is visited .., the stop it waits for is visited"
 pub record Ready (owners starts lasts : List ℕ) (drones n : ℕ) (from into : List ℕ) (m : ℕ) (visited : List ℕ) : Type 0 where
