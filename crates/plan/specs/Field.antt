@@ -8,7 +8,7 @@ use lib.Dec.{ltb, eqb}
 use Rattle.below.specs.Below.{at}
 use Rattle.tables.specs.Tables.{PlanLists, drones as droneCountOf, dependencies as dependencyCountOf}
 use Rattle.plan.specs.Stops.{start}
-use Rattle.precedence.specs.Graph.{Wait, Plan}
+use Rattle.precedence.specs.Graph.{Wait, departure, Plan}
 
 -- "drone j is there first at its stop s and drone i later at its stop k": first = j, firstStop = s, second = i, secondStop = k
 pub record Dependency : Type 0 where
@@ -33,7 +33,7 @@ inForce true e = record { first = e .second; firstStop = e .secondStop; second =
 
 -- "i may enter stop k only after j has visited stop s+1"
 abbrev pub waitOf : Dependency → Wait
-waitOf e = record { waiter = e .second; stop = e .secondStop; awaited = e .first; until = suc (e .firstStop) }
+waitOf e = departure (e .first) (e .firstStop) (e .second) (e .secondStop)
 
 -- "Turn: flips bit 0 of one dependency": what is turned after a turn of dependency w
 abbrev pub flip : (ℕ → Bool) → ℕ → ℕ → Bool

@@ -5,3 +5,5 @@ pub mod Ahead
 pub mod Held
 pub mod Lists
 pub mod Flat
+pub mod Theorems
+pub mod Flights

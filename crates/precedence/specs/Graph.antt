@@ -10,12 +10,16 @@ use lib.Dec.{ltb, leb, eqb}
 use lib.ListN.{length}
 use Rattle.below.specs.Below.{pick, firstBelow, allBelow, anyBelow, countBelow, sumBelow, maxBelow, listBelow, at}
 
--- "i may enter stop k only after j has visited stop s+1": waiter = i, stop = k, awaited = j, until = s + 1. A wait until stop 0 counts for nothing
+-- a wait: drone `waiter` may enter its stop `stop` only after drone `awaited` has visited its stop `until`. A wait until stop 0 counts for nothing
 pub record Wait : Type 0 where
   pub waiter : ℕ
   pub stop : ℕ
   pub awaited : ℕ
   pub until : ℕ
+
+-- "If drone j is there first at its stop s and drone i later at its stop k, then i may enter stop k only after j has visited stop s+1"
+abbrev pub departure : (j s i k : ℕ) → Wait
+departure j s i k = record { waiter = i; stop = k; awaited = j; until = suc s }
 
 -- "Drones, stops and dependencies are numbered from 0": drones 0 to drones - 1, drone d with the stops 0 to last d; waits 0 to count - 1
 pub record Plan : Type 0 where

@@ -1,1 +1,3 @@
 pub mod Graph
+pub mod Theorems
+pub mod Flights

@@ -1,7 +1,7 @@
 -- The lent tables as lists: what contracts speak of (document 01, "Tables and what is sound"). Assumes nothing.
 use mathlib.Core.Bool.{Bool, _&&_}
 use mathlib.Core.List.{List}
-use Prim.Native.Nat.{ℕ, _*_}
+use Prim.Native.Nat.{ℕ, _*_, _≤_}
 use lib.Dec.{leb}
 use lib.ListN.{length, getD}
 use Rattle.tables.specs.Limits.{Limits}
@@ -27,6 +27,27 @@ pub record Tables : Type 0 where
   pub droneFlags : List ℕ
   pub flags : List ℕ
 
+-- the tables that hold these lists
+abbrev pub tablesOf :
+    List ℕ → List ℕ → List ℕ → List ℕ → List ℕ → List ℕ → List ℕ → List ℕ → List ℕ → List ℕ → List ℕ → List ℕ → List ℕ → Tables
+tablesOf droneCount dependencyCount names stopCounts locations times visited droneFlags firstDrones firstStops secondDrones secondStops flags = record {
+  plan = record {
+    droneCount = droneCount;
+    dependencyCount = dependencyCount;
+    names = names;
+    stopCounts = stopCounts;
+    locations = locations;
+    times = times;
+    firstDrones = firstDrones;
+    firstStops = firstStops;
+    secondDrones = secondDrones;
+    secondStops = secondStops;
+  };
+  visited = visited;
+  droneFlags = droneFlags;
+  flags = flags;
+}
+
 -- a count stands alone in its table
 abbrev pub drones : PlanLists → ℕ
 drones p = getD (p .droneCount) 0 0
@@ -50,3 +71,19 @@ fullSize L t =
     && (leb (L .drones) (length (t .visited))
     && (leb (L .drones) (length (t .droneFlags))
     && leb (L .dependencies) (length (t .flags)))))))))))))
+
+-- the same as facts
+pub record Sizes (L : Limits) (t : Tables) : Type 0 where
+  pub drone-count : 1 ≤ length (t .plan .droneCount)
+  pub dependency-count : 1 ≤ length (t .plan .dependencyCount)
+  pub names : L .drones * L .name ≤ length (t .plan .names)
+  pub stop-counts : L .drones ≤ length (t .plan .stopCounts)
+  pub locations : L .stops ≤ length (t .plan .locations)
+  pub times : L .stops ≤ length (t .plan .times)
+  pub first-drones : L .dependencies ≤ length (t .plan .firstDrones)
+  pub first-stops : L .dependencies ≤ length (t .plan .firstStops)
+  pub second-drones : L .dependencies ≤ length (t .plan .secondDrones)
+  pub second-stops : L .dependencies ≤ length (t .plan .secondStops)
+  pub visited : L .drones ≤ length (t .visited)
+  pub drone-flags : L .drones ≤ length (t .droneFlags)
+  pub flags : L .dependencies ≤ length (t .flags)

@@ -68,6 +68,8 @@ impl Drone {
     pub const FULL: usize = 32;
     // The bytes of a name, which are those of its row in the table of names.
     pub const NAME: usize = 24;
+    // The table of names.
+    pub const NAMES: usize = Self::FULL * Self::NAME;
     // The mask of the flag byte's bit 0.
     pub const UNDER_WAY: u8 = 1;
 
@@ -92,11 +94,10 @@ impl Drone {
         Self::NAME
     }
 
-    // The full size of the table of names.
     pub fn names_size() -> usize
         ensures { λ r. ⌜ r ≡ limits .drones * limits .name ⌝ }
     {
-        Self::FULL * Self::NAME
+        Self::NAMES
     }
 }
 

@@ -1,0 +1,106 @@
+-- The waits of a right dependency table, some dependencies turned, are between stops and none is into a stop 0: what the test for a cycle asks. Assumes nothing.
+use mathlib.Core.Path.{_≡_, refl, sym, ap, _∙_}
+use mathlib.Core.Logic.{_≢_, inr}
+use mathlib.Core.List.{List}
+use mathlib.Core.Bool.{Bool, true, false, not}
+use Prim.Native.Nat.{ℕ, _+_, _<_}
+use native.Mathlib.Omega.{arith}
+use lib.ListN.{length, set, length-set}
+use Rattle.below.specs.Below.{at, pick}
+use Rattle.below.proofs.Tests.{by-cases, true-or-false}
+use Rattle.below.proofs.Index.{fill-more}
+use Rattle.tables.specs.Limits.{limits}
+use Rattle.precedence.specs.Graph.{Fewer, cyclic}
+use Rattle.precedence.proofs.Ahead.{cyclic-fewer}
+use Rattle.cycles.specs.Flat.{flatPlan, Shape, PlacedWaits, FlatTables}
+use Rattle.cycles.specs.Waits.{fromOf, intoOf, turnedIn, Edges, Unfixed, graphSound, Given}
+use Rattle.plan.specs.Dependencies.{right}
+use Rattle.meetings.specs.Meetings.{Steady}
+use Rattle.meetings.proofs.Right.{Entry, right-entry}
+use Rattle.cycles.proofs.Certified.{formed}
+
+module _ (own off last loc time : ℕ → ℕ) (drones n m : ℕ) (xs ys : ℕ → ℕ) (turned : ℕ → Bool) where
+  pub right-placed : Shape own off last drones n → Steady own loc time n → ((v : ℕ) → v < n → v ≡ off (own v) → time v ≡ 0) → right own loc time n m xs ys ≡ true → Unfixed own off last loc time drones n m xs ys turned
+      → PlacedWaits own off last drones n (fromOf xs ys turned) (intoOf xs ys turned) m
+  right-placed shape steady zero-time e unfixed = record {
+    shape = shape;
+    from-in = λ k l. by-cases (turned k) (λ t. rw t (unfixed k l t .1)) (λ t. rw t (entry k l .next-in));
+    into-in = λ k l. by-cases (turned k) (λ t. rw t (entry k l .first-in)) (λ t. rw t (entry k l .second-in));
+    into-later = λ k l. by-cases (turned k)
+        (λ t. let ne : xs k ≢ off (own (xs k)) = unfixed k l t .0 in rw t (omega (arith, shape .off-le (xs k) (entry k l .first-in))))
+        (λ t. let ne : ys k ≢ off (own (ys k)) = λ q. omega (arith, entry k l .later, zero-time (ys k) (entry k l .second-in) q) in rw t (omega (arith, shape .off-le (ys k) (entry k l .second-in))));
+  }
+    where
+      entry : (k : ℕ) → k < m → Entry own loc time n steady m xs ys k
+      entry k l = right-entry own loc time n steady m xs ys e k l
+
+pub edges-none : (firsts seconds flags from into : List ℕ) → length from ≡ limits .dependencies → length into ≡ limits .dependencies → Edges firsts seconds flags 0 from into
+edges-none firsts seconds flags from into a b = record { from-size = a; into-size = b; from-is = λ j l. absurd (omega arith); into-is = λ j l. absurd (omega arith) }
+
+pub edges-more : (firsts seconds flags : List ℕ) (k : ℕ) (from into : List ℕ) (t : Bool) (x y : ℕ) → Edges firsts seconds flags k from into → k < limits .dependencies → t ≡ turnedIn flags k
+    → x ≡ pick t (at seconds k + 1) (at firsts k + 1) → y ≡ pick t (at firsts k) (at seconds k) → Edges firsts seconds flags (k + 1) (set from k x) (set into k y)
+edges-more firsts seconds flags k from into t x y E l e ex ey = record {
+  from-size = length-set from k x ∙ E .from-size;
+  into-size = length-set into k y ∙ E .into-size;
+  from-is = fill-more from k x 0 (fromOf (at firsts) (at seconds) (turnedIn flags)) (omega (arith, E .from-size)) (E .from-is) (ex ∙ ap (λ (b : Bool). pick b (at seconds k + 1) (at firsts k + 1)) e);
+  into-is = fill-more into k y 0 (intoOf (at firsts) (at seconds) (turnedIn flags)) (omega (arith, E .into-size)) (E .into-is) (ey ∙ ap (λ (b : Bool). pick b (at firsts k) (at seconds k)) e);
+}
+
+-- two tables of the same waits
+module _ (own off last : ℕ → ℕ) (drones n m : ℕ) (from into from′ into′ : ℕ → ℕ) (ef : (k : ℕ) → k < m → from k ≡ from′ k) (ei : (k : ℕ) → k < m → into k ≡ into′ k) where
+  same-wait : (k : ℕ) → k < m → flatPlan own off last drones from into m .wait k ≡ flatPlan own off last drones from′ into′ m .wait k
+  same-wait k l = rw (ef k l, ei k l) refl
+
+  pub same-fewer : Fewer (flatPlan own off last drones from into m) (flatPlan own off last drones from′ into′ m)
+  same-fewer = record { drones-same = refl; last-same = λ d. refl; waits-in = λ k l. inr (k, l, same-wait k l) }
+
+  pub same-placed : PlacedWaits own off last drones n from′ into′ m → PlacedWaits own off last drones n from into m
+  same-placed placed = record {
+    shape = placed .shape;
+    from-in = λ k l. rw (ef k l) (placed .from-in k l);
+    into-in = λ k l. rw (ei k l) (placed .into-in k l);
+    into-later = λ k l. rw (ei k l) (placed .into-later k l);
+  }
+
+  pub same-cyclic : PlacedWaits own off last drones n from′ into′ m → cyclic (flatPlan own off last drones from into m) ≡ cyclic (flatPlan own off last drones from′ into′ m)
+  same-cyclic placed = by-cases (cyclic (flatPlan own off last drones from′ into′ m))
+      (λ e. by-cases (cyclic (flatPlan own off last drones from into m)) (λ h. h ∙ sym e) (λ h. true-or-false e (cyclic-fewer _ _ (formed own off last drones n from into m (same-placed placed)) same-fewer h)))
+      (λ e. cyclic-fewer _ _ (formed own off last drones n from′ into′ m placed) back e ∙ sym e)
+    where
+      back : Fewer (flatPlan own off last drones from′ into′ m) (flatPlan own off last drones from into m)
+      back = record { drones-same = refl; last-same = λ d. refl; waits-in = λ k l. inr (k, l, sym (same-wait k l)) }
+
+module _ (own off last loc time : ℕ → ℕ) (drones n m : ℕ) (xs ys : ℕ → ℕ) (turned : ℕ → Bool) where
+  pub graph-wrong : right own loc time n m xs ys ≡ false → false ≡ graphSound own off last loc time drones n m xs ys turned
+  unfolding graphSound
+  graph-wrong e = rw e refl
+
+  pub graph-right : (c : Bool) → right own loc time n m xs ys ≡ true → c ≡ cyclic (flatPlan own off last drones (fromOf xs ys turned) (intoOf xs ys turned) m) → not c ≡ graphSound own off last loc time drones n m xs ys turned
+  unfolding graphSound
+  graph-right c e q = rw (e, q) refl
+
+module _ (owners locations times starts lasts firsts seconds flags : List ℕ) (drones n m : ℕ) (G : Given owners locations times starts lasts firsts seconds flags drones n m) (e : right (at owners) (at locations) (at times) n m (at firsts) (at seconds) ≡ true) where
+  given-entry : (k : ℕ) → k < m → Entry (at owners) (at locations) (at times) n (G .stops .steady) m (at firsts) (at seconds) k
+  given-entry k l = right-entry (at owners) (at locations) (at times) n (G .stops .steady) m (at firsts) (at seconds) e k l
+
+  pub given-first : (k : ℕ) → k < m → at firsts k < limits .stops
+  given-first k l = omega (arith, given-entry k l .first-in, G .stops .few)
+
+  pub given-second : (k : ℕ) → k < m → at seconds k < limits .stops
+  given-second k l = omega (arith, given-entry k l .second-in, G .stops .few)
+
+  given-placed : PlacedWaits (at owners) (at starts) (at lasts) drones n (fromOf (at firsts) (at seconds) (turnedIn flags)) (intoOf (at firsts) (at seconds) (turnedIn flags)) m
+  given-placed = right-placed (at owners) (at starts) (at lasts) (at locations) (at times) drones n m (at firsts) (at seconds) (turnedIn flags) (G .shape) (G .stops .steady) (G .zero-time) e (G .unfixed)
+
+  module _ (from into : List ℕ) (E : Edges firsts seconds flags m from into) where
+    pub given-tables : FlatTables owners starts lasts drones n from into m
+    given-tables = record {
+      placed = same-placed (at owners) (at starts) (at lasts) drones n m (at from) (at into) _ _ (E .from-is) (E .into-is) given-placed;
+      has-owners = G .stops .has-owners;
+      few-stops = G .stops .few;
+      few-waits = G .few-waits;
+      few-drones = G .few-drones;
+    }
+
+    pub given-cyclic : cyclic (flatPlan (at owners) (at starts) (at lasts) drones (at from) (at into) m) ≡ cyclic (flatPlan (at owners) (at starts) (at lasts) drones (fromOf (at firsts) (at seconds) (turnedIn flags)) (intoOf (at firsts) (at seconds) (turnedIn flags)) m)
+    given-cyclic = same-cyclic (at owners) (at starts) (at lasts) drones n m (at from) (at into) _ _ (E .from-is) (E .into-is) given-placed

@@ -1,0 +1,4 @@
+pub mod Certified
+pub mod Asking
+pub mod Moved
+pub mod Directed

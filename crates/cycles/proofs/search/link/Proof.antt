@@ -1,0 +1,68 @@
+use Prim.Native.Nat.{_≤_, _-_}
+use borrow.Author.Needs.{needs}
+use Rattle.cycles.proofs.search.link.Statement.{statement}
+use Rattle.cycles.proofs.search.link.Tie as tie
+use Rattle.cycles.proofs.search.link.Reads as reads
+use Rattle.cycles.proofs.search.link.Lts as lts
+use Rattle.cycles.proofs.search.edge.Reads as edge-reads
+use Rattle.cycles.proofs.search.get.Reads as get-reads
+use Rattle.cycles.proofs.search.put.Reads as put-reads
+use Rattle.cycles.proofs.search.put_edge.Reads as put-edge-reads
+use Rattle.cycles.proofs.search.raise.Reads as raise-reads
+
+abbrev Inv-loop : tie.InvT-loop
+Inv-loop from into m need₀ head₀ next₀ k₀ need head next k = k ≤ m
+
+abbrev μ-loop : tie.MeasureT-loop
+μ-loop from into m need₀ head₀ next₀ k₀ need head next k = m - k
+
+loop-holds : tie.Need-loop-holds Inv-loop μ-loop
+loop-holds c = search needs
+
+edge-requires : tie.Need-edge-requires Inv-loop μ-loop
+edge-requires c κs = search needs
+
+edge-requires-2 : tie.Need-edge-requires-2 Inv-loop μ-loop
+edge-requires-2 c κs = search needs
+
+raise-requires : tie.Need-raise-requires Inv-loop μ-loop
+raise-requires c κs = search needs
+
+get-requires : tie.Need-get-requires Inv-loop μ-loop
+get-requires c κs = search needs
+
+put-edge-requires : tie.Need-put-edge-requires Inv-loop μ-loop
+put-edge-requires c κs = search needs
+
+add-k : tie.Need-add-k Inv-loop μ-loop
+add-k c = search needs
+
+put-requires : tie.Need-put-requires Inv-loop μ-loop
+put-requires c κs = search needs
+
+loop-less : tie.Need-loop-less Inv-loop μ-loop
+loop-less c = search needs
+
+loop-again : tie.Need-loop-again Inv-loop μ-loop
+loop-again c = search needs
+
+returns : tie.Need-returns Inv-loop μ-loop
+returns c = search needs
+
+pub link-spec : {M : Type 1} → statement M
+link-spec =
+    tie.close
+    (tie.spec
+    Inv-loop
+    μ-loop
+    loop-holds
+    edge-requires
+    edge-requires-2
+    raise-requires
+    get-requires
+    put-edge-requires
+    add-k
+    put-requires
+    loop-less
+    loop-again
+    returns)

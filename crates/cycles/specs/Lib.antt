@@ -1,0 +1,4 @@
+pub mod Flat
+pub mod Certificates
+pub mod Moves
+pub mod Waits

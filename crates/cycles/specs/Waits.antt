@@ -1,0 +1,53 @@
+-- The waits of a dependency table in the direction now in force, and the test of the table and of its graph. Dependency k has the first stop xs k and the second
+-- stop ys k. Assumes nothing.
+use mathlib.Core.Path.{_≡_}
+use mathlib.Core.Logic.{_≢_}
+use mathlib.Core.Bool.{Bool, true, not, _&&_}
+use mathlib.Core.List.{List}
+use Prim.Native.Nat.{ℕ, _+_, _≤_, _<_}
+use lib.ListN.{length}
+use Rattle.below.specs.Below.{at, pick}
+use Rattle.tables.specs.Limits.{limits}
+use Rattle.tables.specs.Flags.{turnedBit}
+use Rattle.precedence.specs.Graph.{cyclic}
+use Rattle.plan.specs.Dependencies.{right}
+use Rattle.meetings.specs.Asked.{Stops, Table}
+use Rattle.cycles.specs.Flat.{flatPlan, Shape}
+
+-- nobody enters stop `intoOf` before stop `fromOf` is visited. Turned, the first stop waits for the departure from the second
+abbrev pub fromOf : (xs ys : ℕ → ℕ) (turned : ℕ → Bool) → ℕ → ℕ
+fromOf xs ys turned k = pick (turned k) (ys k + 1) (xs k + 1)
+
+abbrev pub intoOf : (xs ys : ℕ → ℕ) (turned : ℕ → Bool) → ℕ → ℕ
+intoOf xs ys turned k = pick (turned k) (xs k) (ys k)
+
+-- bit 0 of a flag byte
+abbrev pub turnedIn : List ℕ → ℕ → Bool
+turnedIn flags k = turnedBit (at flags k)
+
+-- from and into hold the waits of the first k dependencies
+pub record Edges (firsts seconds flags : List ℕ) (k : ℕ) (from into : List ℕ) : Type 0 where
+  pub from-size : length from ≡ limits .dependencies
+  pub into-size : length into ≡ limits .dependencies
+  pub from-is : (j : ℕ) → j < k → at from j ≡ fromOf (at firsts) (at seconds) (turnedIn flags) j
+  pub into-is : (j : ℕ) → j < k → at into j ≡ intoOf (at firsts) (at seconds) (turnedIn flags) j
+
+module _ (own off last loc time : ℕ → ℕ) (drones n m : ℕ) (xs ys : ℕ → ℕ) (turned : ℕ → Bool) where
+  -- a turned dependency is not fixed: its first stop is no stop 0, its second not the last of its drone
+  abbrev pub Unfixed : Type 0
+  Unfixed = (k : ℕ) → k < m → turned k ≡ true → (xs k ≢ off (own (xs k))) × (ys k + 1 < n)
+
+  -- the table is right, and its graph, with the turns in force, has no cycle
+  unfoldable pub graphSound : Bool
+  graphSound = right own loc time n m xs ys && not (cyclic (flatPlan own off last drones (fromOf xs ys turned) (intoOf xs ys turned) m))
+
+-- what the two checks ask of the tables, all of it known from the tests of single stops and of flag bytes
+pub record Given (owners locations times starts lasts firsts seconds flags : List ℕ) (drones n m : ℕ) : Type 0 where
+  pub stops : Stops n owners locations times
+  pub table : Table m firsts seconds
+  pub shape : Shape (at owners) (at starts) (at lasts) drones n
+  pub zero-time : (v : ℕ) → v < n → v ≡ at starts (at owners v) → at times v ≡ 0
+  pub unfixed : Unfixed (at owners) (at starts) (at lasts) (at locations) (at times) drones n m (at firsts) (at seconds) (turnedIn flags)
+  pub has-flags : m ≤ length flags
+  pub few-drones : drones ≤ limits .drones
+  pub few-waits : m ≤ limits .dependencies

@@ -1,0 +1,44 @@
+// The waits of a dependency table in the direction now in force.
+ghost use mathlib.Core.Path.{_≡_};
+ghost use Prim.Native.Nat.{ℕ, _≤_, _<_};
+ghost use lib.ListN.{length};
+ghost use Rattle.below.specs.Below.{at, pick};
+ghost use Rattle.tables.specs.Limits.{limits};
+ghost use Rattle.cycles.specs.Waits.{turnedIn, Edges};
+
+fn turned_at(flags: &[u8], k: usize) -> bool
+    requires { ⌜ k < length (now flags) ⌝ }
+    ensures { λ r. ⌜ r ≡ turnedIn (now (flags .entry)) k ⌝ }
+{
+    tables::flags::is_turned(flags[k])
+}
+
+fn pick16(b: bool, x: u16, y: u16) -> u16
+    ensures { λ r. ⌜ r ≡ pick b x y ⌝ }
+{
+    if b { x } else { y }
+}
+
+// The waits of the first m dependencies, in the direction now in force.
+pub fn fill(
+    firsts: &[u16],
+    seconds: &[u16],
+    flags: &[u8],
+    m: usize,
+    from: &mut [u16; 2048],
+    into: &mut [u16; 2048],
+)
+    requires { ⌜ (m ≤ length (now firsts)) × (m ≤ length (now seconds)) × (m ≤ length (now flags)) × (m ≤ limits .dependencies) × ((k : ℕ) → k < m → at (now firsts) k < limits .stops) × ((k : ℕ) → k < m → at (now seconds) k < limits .stops) ⌝ }
+    requires { ⌜ (length (now from) ≡ limits .dependencies) × (length (now into) ≡ limits .dependencies) ⌝ }
+    ensures { λ _. ⌜ Edges (now (firsts .entry)) (now (seconds .entry)) (now (flags .entry)) m (now (from .exit)) (now (into .exit)) ⌝ }
+{
+    let mut k = 0;
+    while k < m {
+        let t = turned_at(flags, k);
+        let v = firsts[k];
+        let w = seconds[k];
+        from[k] = pick16(t, w + 1, v + 1);
+        into[k] = pick16(t, v, w);
+        k += 1;
+    }
+}

@@ -1,0 +1,28 @@
+-- One store, or none where the buffer ends before the position.
+use mathlib.Core.Path.{sym, refl}
+use lib.Seq.{set-out}
+use borrow.Author.Needs.{needs}
+use Rattle.lines.proofs.bytes.put_byte.Statement.{statement}
+use Rattle.lines.proofs.bytes.put_byte.Tie as tie
+
+add-result : tie.Need-add-result
+add-result c = search needs
+
+returns : tie.Need-returns
+returns c = record { next-is = refl; written = sym (set-out _ _ _ (c .if1 .taken)) }
+
+slice-write-buf : tie.Need-slice-write-buf
+slice-write-buf c = search needs
+
+add-result-2 : tie.Need-add-result-2
+add-result-2 c = search needs
+
+same-length : tie.Need-same-length
+same-length c = search needs
+
+returns-2 : tie.Need-returns-2
+returns-2 c = record { next-is = refl; written = refl }
+
+pub put-byte-spec : {M : Type 1} → statement M
+put-byte-spec =
+    tie.close (tie.spec add-result returns slice-write-buf add-result-2 same-length returns-2)

@@ -1,0 +1,6 @@
+pub mod Keys
+pub mod Bytes
+pub mod Numbers
+pub mod Refusals
+pub mod Stops
+pub mod Names

@@ -1,0 +1,102 @@
+// The line of a drone's name, and the table of names: a row for each drone, zero after the name.
+use crate::bytes;
+use crate::keys;
+use crate::refusal::Refusal;
+use tables::entries::Drone;
+ghost use mathlib.Core.Path.{_≡_};
+ghost use Prim.Native.Nat.{_≤_};
+ghost use Rattle.tables.specs.Limits.{limits};
+ghost use Rattle.lines.specs.Names.{lineEnd, isNameByte, nameBytes, goodName, nameAt, among};
+
+// The position of the first line feed at or after a position; where there is none, the text's end or the position, whichever is later.
+pub fn line_end(text: &[u8], at: usize) -> usize
+    ensures { λ r. ⌜ r ≡ lineEnd (now (text .entry)) at ⌝ }
+{
+    let mut i = at;
+    while i < text.len() {
+        if text[i] == keys::LINE_FEED {
+            return i;
+        }
+        i += 1;
+    }
+    i
+}
+
+// a-z, 0-9 or hyphen
+pub fn is_name_byte(byte: u8) -> bool
+    ensures { λ r. ⌜ r ≡ isNameByte byte ⌝ }
+{
+    if 97 <= byte {
+        return byte <= 122;
+    }
+    if 48 <= byte {
+        return byte <= 57;
+    }
+    byte == 45
+}
+
+pub fn name_bytes(name: &[u8]) -> bool
+    ensures { λ r. ⌜ r ≡ nameBytes (now (name .entry)) ⌝ }
+{
+    let mut i = 0;
+    while i < name.len() {
+        if !is_name_byte(name[i]) {
+            return false;
+        }
+        i += 1;
+    }
+    true
+}
+
+// A name has 1 to 24 bytes.
+pub fn good_name(name: &[u8]) -> bool
+    ensures { λ r. ⌜ r ≡ goodName limits (now (name .entry)) ⌝ }
+{
+    if name.len() == 0 {
+        return false;
+    }
+    if Drone::NAME < name.len() {
+        return false;
+    }
+    name_bytes(name)
+}
+
+// A line `name=TEXT`: where its text starts and ends.
+pub enum NameSpan {
+    Is { start: usize, end: usize },
+    Refused(Refusal),
+}
+
+pub fn name_line(text: &[u8], at: usize) -> NameSpan
+    ensures { λ r. ⌜ r ≡ nameAt limits (now (text .entry)) at ⌝ }
+{
+    if !bytes::starts(text, at, &keys::NAME) {
+        return NameSpan::Refused(Refusal::Form(at));
+    }
+    let start = at + keys::NAME.len();
+    let end = line_end(text, start);
+    if end == text.len() {
+        return NameSpan::Refused(Refusal::Form(at));
+    }
+    if !good_name(&text[start..end]) {
+        return NameSpan::Refused(Refusal::Name(at));
+    }
+    NameSpan::Is { start, end }
+}
+
+// Whether one of the first rows of the table is this row, over all its bytes.
+pub fn row_among(names: &[u8], rows: usize, row: &[u8; Drone::NAME]) -> bool
+    requires { ⌜ rows ≤ limits .drones ⌝ }
+    ensures { λ r. ⌜ r ≡ among limits rows (now (names .entry)) 0 (now (row .entry)) ⌝ }
+{
+    let mut k = 0;
+    let mut at = 0;
+    while k < rows {
+        if bytes::starts(names, at, row) {
+            return true;
+        }
+        at += Drone::NAME;
+        k += 1;
+    }
+    false
+}

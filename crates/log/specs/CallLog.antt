@@ -1,0 +1,141 @@
+-- The calls, their refusals in one table, and the call log (document 01, "The call log" and "Where each refusal is checked"). Assumes nothing.
+use mathlib.Core.Bool.{Bool, true, false, not, _&&_, _||_}
+use mathlib.Core.List.{List, [], _∷_, _++_}
+use Prim.Native.Nat.{ℕ, suc, _%_}
+use lib.Dec.{ltb, leb, eqb}
+use Rattle.below.specs.Below.{pick}
+use Rattle.precedence.specs.Graph.{cyclic}
+use Rattle.plan.specs.Field.{FieldPlan, flip, graph, fixed}
+use Rattle.plan.specs.Status.{Status, entered, unmet, now}
+
+-- a call and the number that it names: a drone for grant and arrive, a dependency for turn
+pub data Call : Type 0 where
+  grant : ℕ → Call
+  arrive : ℕ → Call
+  turn : ℕ → Call
+
+-- a reply: accepted, a refusal by its number, or 23 with the lowest dependency unmet
+pub data Reply : Type 0 where
+  accepted : Reply
+  refused : ℕ → Reply
+  mustWait : ℕ → Reply
+
+-- the document's number of a reply
+abbrev pub number : Reply → ℕ
+number accepted = 0
+number (refused n) = n
+number (mustWait w) = 23
+
+-- every other reply is a refusal
+abbrev pub isAccepted : Reply → Bool
+isAccepted accepted = true
+isAccepted (refused n) = false
+isAccepted (mustWait w) = false
+
+-- ---- the table of refusals, by where the drones are and what is turned
+
+-- one refusal of a call: its condition, and what the call replies when it holds
+pub record Check : Type 0 where
+  pub holds : Bool
+  pub reply : Reply
+
+abbrev pub when : Bool → Reply → Check
+when b r = record { holds = b; reply = r }
+
+-- "A call gets the first of its refusals in the table below that holds; if none holds, it is accepted"
+abbrev pub firstThatHolds : List Check → Reply
+firstThatHolds [] = accepted
+firstThatHolds (c ∷ cs) = elim (c .holds) [ true ↦ c .reply | false ↦ firstThatHolds cs ]
+
+module _ (F : FieldPlan) (s : Status) where
+  open FieldPlan F using (drones, last, location, count)
+  open Status s using (place, underWay, turned)
+
+  -- the rows of "Where each refusal is checked" for grant, arrive and turn, without 41 and 40
+  abbrev pub refusals : Call → List Check
+  refusals (grant d) =
+      when (leb drones d) (refused 20)
+      ∷ when (leb (last d) (place d)) (refused 21)
+      ∷ when (underWay d) (refused 22)
+      ∷ when (ltb (unmet F s d) count) (mustWait (unmet F s d))
+      ∷ []
+  refusals (arrive d) =
+      when (leb drones d) (refused 20)
+      ∷ when (not (underWay d)) (refused 24)
+      ∷ []
+  refusals (turn w) =
+      when (leb count w) (refused 30)
+      ∷ when (fixed F w) (refused 31)
+      ∷ when (entered F s (now F s w .first) (now F s w .firstStop)) (refused 32)
+      ∷ when (entered F s (now F s w .second) (now F s w .secondStop)) (refused 33)
+      ∷ when (cyclic (graph F (flip turned w))) (refused 34)
+      ∷ []
+
+  -- the reply of a call, by the first refusal that holds
+  unfoldable pub replyIn : Call → Reply
+  replyIn c = firstThatHolds (refusals c)
+
+  -- "It holds the location of its place and, when under way, that of its next stop"
+  unfoldable pub holdsLocation : ℕ → ℕ → Bool
+  holdsLocation d l = eqb l (location d (place d)) || underWay d && eqb l (location d (suc (place d)))
+
+  -- "It is short of its last stop when it has an unvisited one"
+  unfoldable pub short : ℕ → Bool
+  short d = ltb (place d) (last d)
+
+-- ---- the log
+
+-- "each call, the number it named, and its reply"
+pub record Entry : Type 0 where
+  pub call : Call
+  pub reply : Reply
+
+abbrev pub entry : Call → Reply → Entry
+entry c r = record { call = c; reply = r }
+
+-- a grant of drone d; an arrival of drone d; a turn of dependency w
+abbrev pub isGrant : ℕ → Call → Bool
+isGrant d (grant e) = eqb d e
+isGrant d (arrive e) = false
+isGrant d (turn w) = false
+
+abbrev pub isArrival : ℕ → Call → Bool
+isArrival d (grant e) = false
+isArrival d (arrive e) = eqb d e
+isArrival d (turn w) = false
+
+abbrev pub isTurn : ℕ → Call → Bool
+isTurn w (grant d) = false
+isTurn w (arrive d) = false
+isTurn w (turn v) = eqb w v
+
+-- how many accepted calls of the log pass the test
+unfoldable pub acceptedCalls : (Call → Bool) → List Entry → ℕ
+acceptedCalls f [] = 0
+acceptedCalls f (e ∷ es) = pick (isAccepted (e .reply) && f (e .call)) (suc (acceptedCalls f es)) (acceptedCalls f es)
+
+abbrev pub isOdd : ℕ → Bool
+isOdd n = eqb (n % 2) 1
+
+-- "With n arrivals of a drone accepted .. its place is stop n"; "It is under way when more grants than arrivals of it were accepted";
+-- "A dependency is turned when an odd number of accepted turns named it"
+abbrev pub statusOf : List Entry → Status
+statusOf log = record {
+  place = λ d. acceptedCalls (isArrival d) log;
+  underWay = λ d. ltb (acceptedCalls (isArrival d) log) (acceptedCalls (isGrant d) log);
+  turned = λ w. isOdd (acceptedCalls (isTurn w) log);
+}
+
+module _ (F : FieldPlan) where
+  -- "the first of its refusals in the table below that holds by the log before it (40 and 41 never do)"
+  abbrev pub replyBy : List Entry → Call → Reply
+  replyBy log c = replyIn F (statusOf log) c
+
+  -- the log goes on with calls
+  unfoldable pub logFrom : List Entry → List Call → List Entry
+  logFrom log [] = log
+  logFrom log (c ∷ cs) = logFrom (log ++ (entry c (replyBy log c) ∷ [])) cs
+
+  -- "It is empty after the reading and is fed with the calls alone"
+  abbrev pub logOf : List Call → List Entry
+  logOf cs = logFrom [] cs

@@ -1,0 +1,295 @@
+-- A table whose entries are clear pairs of stops in rising order, as many as there are meetings, is the list of the plan's dependencies, and nothing collides; and the
+-- other way round. Every clear pair follows, every pair that follows is a meeting; so equal counts make the three one. Assumes nothing.
+use mathlib.Core.Path.{_≡_, refl, sym, ap, _∙_, subst}
+use mathlib.Core.Logic.{_≢_, _⊎_, inl, inr}
+use mathlib.Core.Bool.{Bool, true, false, not, _&&_, _||_, false≢true}
+use Prim.Native.Nat.{ℕ, zero, suc, _+_, _-_, _≤_, _<_}
+use native.Mathlib.Omega.{arith}
+use lib.Dec.{ltb, eqb}
+use lib.ListN.{getD}
+use borrow.Author.Tests.{ltb-true, ltb-false, eqb-true, eqb-false, lt-ltb, eq-eqb, ne-eqb, not-true}
+use Rattle.below.specs.Below.{pick, allBelow, countBelow, sumBelow, pairsOf, listed, before, triangle}
+use Rattle.below.proofs.Tests.{by-cases, true-or-false, and-left, and-right, and-both, same-test}
+use Rattle.below.proofs.Every.{allBelow-at, allBelow-all}
+use Rattle.below.proofs.Sum.{sum-ext, count-sum}
+use Rattle.below.proofs.Pairs.{Climbs, climbs-few, climbs-all, all-climbs}
+use Rattle.below.proofs.Triangle.{pairs-triangle, triangle-mono, triangle-ext, triangle-same}
+use Rattle.plan.specs.Check.{over, collide, apart}
+use Rattle.plan.specs.Dependencies.{follows, exact, right}
+use Rattle.meetings.specs.Meetings.{meeting, meetingTotal, clear, entryRight, Steady}
+
+-- a test as a summand
+abbrev one : Bool → ℕ
+one b = pick b 1 0
+
+-- what the code tests
+unfoldable pub quick : (own loc time : ℕ → ℕ) (n m : ℕ) (xs ys : ℕ → ℕ) → Bool
+quick own loc time n m xs ys = eqb m (meetingTotal own loc n) && allBelow m (entryRight own loc time n xs ys)
+
+module _ (own loc time : ℕ → ℕ) (n : ℕ) where
+  -- ---- what the tests say
+  pub record Follows (v w : ℕ) : Type 0 where
+    pub others : own v ≢ own w
+    pub place : loc v ≡ loc w
+    pub earlier : time v < time w
+
+  follows-says : (v w : ℕ) → follows own loc time v w ≡ true → Follows v w
+  unfolding follows
+  follows-says v w e =
+      let r : (eqb (loc v) (loc w) && ltb (time v) (time w)) ≡ true = and-right (not (eqb (own v) (own w))) _ e in
+      record { others = eqb-false _ _ (not-true _ (and-left _ _ e)); place = eqb-true _ _ (and-left _ _ r); earlier = ltb-true _ _ (and-right (eqb (loc v) (loc w)) _ r) }
+
+  says-follows : (v w : ℕ) → Follows v w → follows own loc time v w ≡ true
+  unfolding follows
+  says-follows v w f = rw (ne-eqb (own v) (own w) (f .others), eq-eqb (loc v) (loc w) (f .place), lt-ltb (time v) (time w) (f .earlier)) refl
+
+  follows-self : (v : ℕ) → follows own loc time v v ≡ false
+  unfolding follows
+  follows-self v = rw (eq-eqb (own v) (own v) refl) refl
+
+  pub record Over (v t : ℕ) : Type 0 where
+    pub next : v + 1 < n
+    pub same-drone : own (v + 1) ≡ own v
+    pub leaves : time (v + 1) < t
+
+  over-says : (v t : ℕ) → over own time n v t ≡ true → Over v t
+  unfolding over
+  over-says v t e =
+      let r : (eqb (own (v + 1)) (own v) && ltb (time (v + 1)) t) ≡ true = and-right (ltb (v + 1) n) _ e in
+      record { next = ltb-true _ _ (and-left _ _ e); same-drone = eqb-true _ _ (and-left _ _ r); leaves = ltb-true _ _ (and-right (eqb (own (v + 1)) (own v)) _ r) }
+
+  pub record Meeting (v w : ℕ) : Type 0 where
+    pub others : own v ≢ own w
+    pub place : loc v ≡ loc w
+
+  meeting-says : (v w : ℕ) → meeting own loc v w ≡ true → Meeting v w
+  unfolding meeting
+  meeting-says v w e = record { others = eqb-false _ _ (not-true _ (and-left _ _ e)); place = eqb-true _ _ (and-right (not (eqb (own v) (own w))) _ e) }
+
+  says-meeting : (v w : ℕ) → own v ≢ own w → loc v ≡ loc w → meeting own loc v w ≡ true
+  unfolding meeting
+  says-meeting v w a b = rw (ne-eqb (own v) (own w) a, eq-eqb (loc v) (loc w) b) refl
+
+  pub record Clear (v w : ℕ) : Type 0 where
+    pub others : own v ≢ own w
+    pub place : loc v ≡ loc w
+    pub gone : over own time n v (time w) ≡ true
+
+  clear-says : (v w : ℕ) → clear own loc time n v w ≡ true → Clear v w
+  unfolding clear
+  clear-says v w e =
+      let r : (eqb (loc v) (loc w) && over own time n v (time w)) ≡ true = and-right (not (eqb (own v) (own w))) _ e in
+      record { others = eqb-false _ _ (not-true _ (and-left _ _ e)); place = eqb-true _ _ (and-left _ _ r); gone = and-right (eqb (loc v) (loc w)) _ r }
+
+  says-clear : (v w : ℕ) → Clear v w → clear own loc time n v w ≡ true
+  unfolding clear
+  says-clear v w c = rw (ne-eqb (own v) (own w) (c .others), eq-eqb (loc v) (loc w) (c .place), c .gone) refl
+
+  clear-self : (v : ℕ) → clear own loc time n v v ≡ false
+  unfolding clear
+  clear-self v = rw (eq-eqb (own v) (own v) refl) refl
+
+  -- two that meeting and do not collide, in either order: one is over before the other
+  apart-over : (v w : ℕ) → apart own loc time n ≡ true → v < n → w < n → meeting own loc v w ≡ true → (over own time n v (time w) ≡ true) ⊎ (over own time n w (time v) ≡ true)
+  unfolding apart collide
+  apart-over v w e l k m =
+      let q : Meeting v w = meeting-says v w m in
+      let first-lower : (x y : ℕ) → x < n → y < n → own x < own y → loc x ≡ loc y → (over own time n x (time y) ≡ true) ⊎ (over own time n y (time x) ≡ true) =
+      λ x y a b o p. by-cases (over own time n x (time y)) (λ h. inl h) (λ h. by-cases (over own time n y (time x)) (λ g. inr g) (λ g.
+      let all : not (collide own loc time n x y) ≡ true = allBelow-at n (λ w. not (collide own loc time n x w)) (allBelow-at n (λ v. allBelow n (λ w. not (collide own loc time n v w))) e x a) y b in
+      absurd (false≢true (rw (lt-ltb (own x) (own y) o, eq-eqb (loc x) (loc y) p, h, g) at all)))) in
+      by-cases (ltb (own v) (own w))
+      (λ h. first-lower v w l k (ltb-true _ _ h) (q .place))
+      (λ h. elim (first-lower w v k l (omega (arith, ltb-false (own v) (own w) h, q .others)) (sym (q .place))) [ inl a ↦ inr a | inr a ↦ inl a ])
+
+  pub record Collide (v w : ℕ) : Type 0 where
+    pub lower : own v < own w
+    pub place : loc v ≡ loc w
+    pub stays : over own time n v (time w) ≡ false
+    pub stays-too : over own time n w (time v) ≡ false
+
+  collide-says : (v w : ℕ) → collide own loc time n v w ≡ true → Collide v w
+  unfolding collide
+  collide-says v w e =
+      let r = and-right (ltb (own v) (own w)) _ e in
+      let s = and-right (eqb (loc v) (loc w)) _ r in
+      record { lower = ltb-true _ _ (and-left _ _ e); place = eqb-true _ _ (and-left _ _ r); stays = not-true _ (and-left _ _ s); stays-too = not-true _ (and-right (not (over own time n v (time w))) _ s) }
+
+  not-over : (v w : ℕ) → over own time n v (time w) ≡ false → clear own loc time n v w ≡ false
+  not-over v w e = by-cases (clear own loc time n v w) (λ h. true-or-false (clear-says v w h .gone) e) (λ h. h)
+
+  -- ---- the entries of a table
+  module _ (m : ℕ) (xs ys : ℕ → ℕ) where
+    entries-climb : ((k : ℕ) → k < m → entryRight own loc time n xs ys k ≡ true) → Climbs (clear own loc time n) n m xs ys
+    unfolding entryRight
+    entries-climb h =
+        record {
+          first-in = λ k l. ltb-true _ _ (and-left _ _ (h k l));
+          second-in = λ k l. ltb-true _ _ (and-left _ _ (rest k l));
+          passes = λ k l. and-left _ _ (last k l);
+          rises = λ k l.
+              let r : (eqb (suc k) 0 || before (xs (suc k - 1)) (ys (suc k - 1)) (xs (suc k)) (ys (suc k))) ≡ true = and-right (clear own loc time n (xs (suc k)) (ys (suc k))) _ (last (suc k) l) in
+              let q : suc k - 1 ≡ k = omega arith in
+              rw (ne-eqb (suc k) 0 (λ z. omega arith), q) at r;
+        }
+      where
+        rest : (k : ℕ) → k < m → (ltb (ys k) n && (clear own loc time n (xs k) (ys k) && (eqb k 0 || before (xs (k - 1)) (ys (k - 1)) (xs k) (ys k)))) ≡ true
+        rest k l = and-right (ltb (xs k) n) _ (h k l)
+
+        last : (k : ℕ) → k < m → (clear own loc time n (xs k) (ys k) && (eqb k 0 || before (xs (k - 1)) (ys (k - 1)) (xs k) (ys k))) ≡ true
+        last k l = and-right (ltb (ys k) n) _ (rest k l)
+
+    climb-entries : Climbs (clear own loc time n) n m xs ys → (k : ℕ) → k < m → entryRight own loc time n xs ys k ≡ true
+    unfolding entryRight
+    climb-entries c k l = rw (lt-ltb (xs k) n (c .first-in k l), lt-ltb (ys k) n (c .second-in k l), c .passes k l) (go k l)
+      where
+        go : (k : ℕ) → k < m → (eqb k 0 || before (xs (k - 1)) (ys (k - 1)) (xs k) (ys k)) ≡ true
+        go zero l = refl
+        go (suc k) l = let q : suc k - 1 ≡ k = omega arith in rw (ne-eqb (suc k) 0 (λ z. omega arith), q) (c .rises k l)
+
+  module _ (steady : Steady own loc time n) where
+    over-earlier : (v t : ℕ) → over own time n v t ≡ true → time v < t
+    over-earlier v t e = let o : Over v t = over-says v t e in omega (arith, steady v (o .next) (o .same-drone), o .leaves)
+
+    clear-follows : (v w : ℕ) → clear own loc time n v w ≡ true → follows own loc time v w ≡ true
+    clear-follows v w e = let c : Clear v w = clear-says v w e in says-follows v w (record { others = c .others; place = c .place; earlier = over-earlier v (time w) (c .gone) })
+
+    -- two stops of which one follows the other, in either order, meeting, and only one follows
+    once : (v w : ℕ) → one (follows own loc time v w) + one (follows own loc time w v) ≤ one (meeting own loc v w)
+    once v w = by-cases (follows own loc time v w)
+        (λ e. let f : Follows v w = follows-says v w e in by-cases (follows own loc time w v)
+        (λ g. absurd (omega (arith, f .earlier, follows-says w v g .earlier)))
+        (λ g. rw (e, g, says-meeting v w (f .others) (f .place)) (omega arith)))
+        (λ e. by-cases (follows own loc time w v)
+        (λ g. let f : Follows w v = follows-says w v g in rw (e, g, says-meeting v w (λ q. f .others (sym q)) (sym (f .place))) (omega arith))
+        (λ g. rw (e, g) (omega arith)))
+
+    clear-less : (v w : ℕ) → one (clear own loc time n v w) ≤ one (follows own loc time v w)
+    clear-less v w = by-cases (clear own loc time n v w) (λ e. rw (e, clear-follows v w e) (omega arith)) (λ e. rw e (omega arith))
+
+    total-triangle : meetingTotal own loc n ≡ triangle n (λ v w. one (meeting own loc v w))
+    unfolding meetingTotal triangle
+    total-triangle = sum-ext n (λ w. countBelow w (λ v. meeting own loc v w)) (λ w. sumBelow w (λ v. one (meeting own loc v w))) (λ w l. count-sum w (λ v. meeting own loc v w))
+
+    follows-total : pairsOf (follows own loc time) n ≤ meetingTotal own loc n
+    follows-total = rw (total-triangle, pairs-triangle (follows own loc time) follows-self n) (triangle-mono n _ _ (λ v w k l. once v w))
+
+    -- nothing collides: of two that meeting one is clear of the other, and the follower is the one that comes later
+    apart-follows : apart own loc time n ≡ true → pairsOf (follows own loc time) n ≡ meetingTotal own loc n
+    apart-follows a = rw (total-triangle, pairs-triangle (follows own loc time) follows-self n) (triangle-ext n _ _ (λ v w k l. each v w (omega arith) l))
+      where
+        each : (v w : ℕ) → v < n → w < n → one (follows own loc time v w) + one (follows own loc time w v) ≡ one (meeting own loc v w)
+        each v w l k = by-cases (meeting own loc v w)
+            (λ e. let q : Meeting v w = meeting-says v w e in
+            let some : 1 ≤ one (follows own loc time v w) + one (follows own loc time w v) =
+            elim (apart-over v w a l k e) [
+              | inl o ↦ rw (says-follows v w (record { others = q .others; place = q .place; earlier = over-earlier v (time w) o })) (omega arith)
+              | inr o ↦ rw (says-follows w v (record { others = λ z. q .others (sym z); place = sym (q .place); earlier = over-earlier w (time v) o })) (omega arith)
+            ] in
+            let most : one (follows own loc time v w) + one (follows own loc time w v) ≤ 1 = rw e at (once v w) in
+            rw e (omega arith))
+            (λ e. let most : one (follows own loc time v w) + one (follows own loc time w v) ≤ 0 = rw e at (once v w) in rw e (omega arith))
+
+    apart-clear : apart own loc time n ≡ true → (v w : ℕ) → v < n → w < n → follows own loc time v w ≡ true → clear own loc time n v w ≡ true
+    apart-clear a v w l k e =
+        let f : Follows v w = follows-says v w e in
+        elim (apart-over v w a l k (says-meeting v w (f .others) (f .place))) [
+          | inl o ↦ says-clear v w (record { others = f .others; place = f .place; gone = o })
+          | inr o ↦ absurd (omega (arith, over-earlier w (time v) o, f .earlier))
+        ]
+
+    -- as many clear pairs as meeting: nothing collides
+    clear-apart : meetingTotal own loc n ≤ pairsOf (clear own loc time n) n → apart own loc time n ≡ true
+    unfolding apart
+    clear-apart h = allBelow-all n _ (λ v l. allBelow-all n _ (λ w k. not-collide v w l k))
+      where
+        all : (v w : ℕ) → v < w → w < n → one (clear own loc time n v w) + one (clear own loc time n w v) ≡ one (meeting own loc v w)
+        all = triangle-same n (λ v w. one (clear own loc time n v w) + one (clear own loc time n w v)) (λ v w. one (meeting own loc v w))
+            (λ v w k l. omega (arith, clear-less v w, clear-less w v, once v w))
+            (rw (total-triangle, pairs-triangle (clear own loc time n) clear-self n) at h)
+
+        not-collide : (v w : ℕ) → v < n → w < n → not (collide own loc time n v w) ≡ true
+        not-collide v w l k = by-cases (collide own loc time n v w)
+            (λ e. let c : Collide v w = collide-says v w e in
+            let o : own v ≢ own w = omega (arith, c .lower) in
+            let a : clear own loc time n v w ≡ false = not-over v w (c .stays) in
+            let b : clear own loc time n w v ≡ false = not-over w v (c .stays-too) in
+            by-cases (ltb v w)
+            (λ t. absurd (omega (arith, rw (a, b, says-meeting v w o (c .place)) at (all v w (ltb-true v w t) k))))
+            (λ t. let ne : v ≢ w = λ z. o (ap own z) in
+            absurd (omega (arith, rw (a, b, says-meeting w v (λ z. o (sym z)) (sym (c .place))) at (all w v (omega (arith, ltb-false v w t)) l)))))
+            (λ e. rw e refl)
+
+    -- ---- the two tests are one
+    quick-right : (m : ℕ) (xs ys : ℕ → ℕ) → quick own loc time n m xs ys ≡ true → right own loc time n m xs ys ≡ true
+    unfolding quick right exact
+    quick-right m xs ys e = and-both _ _ (clear-apart (omega (arith, many, climbs-few (clear own loc time n) n climbs))) (and-both _ _ (eq-eqb _ _ total) (allBelow-all m _ (λ k l.
+        and-both _ _
+        (eq-eqb _ _ (sym (climbs-all (follows own loc time) n climbs-follows total (λ v w. v) k l)))
+        (eq-eqb _ _ (sym (climbs-all (follows own loc time) n climbs-follows total (λ v w. w) k l))))))
+      where
+        many : m ≡ meetingTotal own loc n
+        many = eqb-true _ _ (and-left _ _ e)
+
+        climbs : Climbs (clear own loc time n) n m xs ys
+        climbs = entries-climb m xs ys (allBelow-at m (entryRight own loc time n xs ys) (and-right (eqb m (meetingTotal own loc n)) _ e))
+
+        climbs-follows : Climbs (follows own loc time) n m xs ys
+        climbs-follows = record { first-in = climbs .first-in; second-in = climbs .second-in; passes = λ k l. clear-follows _ _ (climbs .passes k l); rises = climbs .rises }
+
+        total : m ≡ pairsOf (follows own loc time) n
+        total = omega (arith, many, follows-total, climbs-few (follows own loc time) n climbs-follows)
+
+    right-quick : (m : ℕ) (xs ys : ℕ → ℕ) → right own loc time n m xs ys ≡ true → quick own loc time n m xs ys ≡ true
+    unfolding quick right exact
+    right-quick m xs ys e = and-both _ _ (eq-eqb _ _ (total ∙ apart-follows free)) (allBelow-all m _ (climb-entries m xs ys (record { first-in = climbs .first-in; second-in = climbs .second-in; passes = λ k l. apart-clear free _ _ (climbs .first-in k l) (climbs .second-in k l) (climbs .passes k l); rises = climbs .rises })))
+      where
+        free : apart own loc time n ≡ true
+        free = and-left _ _ e
+
+        listed-right : exact own loc time n m xs ys ≡ true
+        listed-right = and-right (apart own loc time n) _ e
+
+        total : m ≡ pairsOf (follows own loc time) n
+        total = eqb-true _ _ (and-left _ _ listed-right)
+
+        entry : (k : ℕ) → k < m → (xs k ≡ getD (listed (follows own loc time) n (λ v w. v)) k 0) × (ys k ≡ getD (listed (follows own loc time) n (λ v w. w)) k 0)
+        entry k l = let q = allBelow-at m _ (and-right (eqb m (pairsOf (follows own loc time) n)) _ listed-right) k l in (eqb-true _ _ (and-left _ _ q), eqb-true _ _ (and-right (eqb (xs k) (getD (listed (follows own loc time) n (λ v w. v)) k 0)) _ q))
+
+        climbs : Climbs (follows own loc time) n m xs ys
+        climbs = subst (λ (z : ℕ). Climbs (follows own loc time) n z xs ys) (sym total) (all-climbs (follows own loc time) n xs ys (λ k l. entry k (omega (arith, total)) .0) (λ k l. entry k (omega (arith, total)) .1))
+
+    -- the quick test answers what the definition says
+    pub quick-is : (m : ℕ) (xs ys : ℕ → ℕ) → quick own loc time n m xs ys ≡ right own loc time n m xs ys
+    quick-is m xs ys = same-test _ _ (quick-right m xs ys) (right-quick m xs ys)
+
+    -- .. as the code asks it
+    module _ (m : ℕ) (xs ys : ℕ → ℕ) where
+      pub right-not : allBelow m (entryRight own loc time n xs ys) ≡ false → false ≡ right own loc time n m xs ys
+      unfolding quick
+      right-not e = by-cases (eqb m (meetingTotal own loc n)) (λ h. rw (h, e) at (quick-is m xs ys)) (λ h. rw h at (quick-is m xs ys))
+
+      pub right-count : (k : ℕ) → allBelow m (entryRight own loc time n xs ys) ≡ true → k ≡ meetingTotal own loc n → eqb k m ≡ right own loc time n m xs ys
+      unfolding quick
+      right-count k e q = by-cases (eqb k m)
+          (λ h. rw h (rw (eq-eqb m (meetingTotal own loc n) (sym (eqb-true k m h) ∙ q), e) at (quick-is m xs ys)))
+          (λ h. rw h (rw (ne-eqb m (meetingTotal own loc n) (λ z. eqb-false k m h (q ∙ sym z))) at (quick-is m xs ys)))
+
+      -- what a right table says of each entry
+      pub record Entry (k : ℕ) : Type 0 where
+        pub first-in : xs k < n
+        pub second-in : ys k < n
+        pub others : own (xs k) ≢ own (ys k)
+        pub place : loc (xs k) ≡ loc (ys k)
+        pub next-in : xs k + 1 < n
+        pub next-own : own (xs k + 1) ≡ own (xs k)
+        pub leaves : time (xs k + 1) < time (ys k)
+        pub later : time (xs k) < time (ys k)
+
+      pub right-entry : right own loc time n m xs ys ≡ true → (k : ℕ) → k < m → Entry k
+      unfolding quick
+      right-entry e k l =
+          let c : Climbs (clear own loc time n) n m xs ys = entries-climb m xs ys (allBelow-at m (entryRight own loc time n xs ys) (and-right (eqb m (meetingTotal own loc n)) _ (right-quick m xs ys e))) in
+          let q : Clear (xs k) (ys k) = clear-says (xs k) (ys k) (c .passes k l) in
+          let o : Over (xs k) (time (ys k)) = over-says (xs k) (time (ys k)) (q .gone) in
+          record { first-in = c .first-in k l; second-in = c .second-in k l; others = q .others; place = q .place; next-in = o .next; next-own = o .same-drone; leaves = o .leaves; later = over-earlier (xs k) (time (ys k)) (q .gone) }

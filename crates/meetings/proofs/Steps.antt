@@ -1,0 +1,71 @@
+-- The tests of one entry, as the code asks them: a law for each return. Assumes nothing.
+use mathlib.Core.Path.{_≡_, refl}
+use mathlib.Core.Logic.{_≢_}
+use mathlib.Core.Bool.{true, false}
+use Prim.Native.Nat.{ℕ, _+_, _-_, _≤_, _<_}
+use native.Mathlib.Omega.{arith}
+use lib.Dec.{ltb}
+use borrow.Author.Tests.{lt-ltb, le-ltb, eq-eqb, ne-eqb}
+use Rattle.below.specs.Below.{before}
+use Rattle.plan.specs.Check.{over}
+use Rattle.meetings.specs.Meetings.{clear, entryRight}
+
+module _ (v w x y : ℕ) where
+  pub before-lower : v < x → true ≡ before v w x y
+  unfolding before
+  before-lower h = rw (lt-ltb v x h) refl
+
+  pub before-higher : x ≤ v → v ≢ x → false ≡ before v w x y
+  unfolding before
+  before-higher h e = rw (le-ltb v x h, ne-eqb v x e) refl
+
+  pub before-same : v ≡ x → ltb w y ≡ before v w x y
+  unfolding before
+  before-same e = rw (le-ltb v x (omega arith), eq-eqb v x e) refl
+
+module _ (own time : ℕ → ℕ) (n v t : ℕ) where
+  pub over-end : n ≤ v + 1 → false ≡ over own time n v t
+  unfolding over
+  over-end h = rw (le-ltb (v + 1) n h) refl
+
+  pub over-other : v + 1 < n → own (v + 1) ≢ own v → false ≡ over own time n v t
+  unfolding over
+  over-other h e = rw (lt-ltb (v + 1) n h, ne-eqb (own (v + 1)) (own v) e) refl
+
+  pub over-next : v + 1 < n → own (v + 1) ≡ own v → ltb (time (v + 1)) t ≡ over own time n v t
+  unfolding over
+  over-next h e = rw (lt-ltb (v + 1) n h, eq-eqb (own (v + 1)) (own v) e) refl
+
+module _ (own loc time : ℕ → ℕ) (n v w : ℕ) where
+  pub clear-same : own v ≡ own w → false ≡ clear own loc time n v w
+  unfolding clear
+  clear-same e = rw (eq-eqb (own v) (own w) e) refl
+
+  pub clear-elsewhere : own v ≢ own w → loc v ≢ loc w → false ≡ clear own loc time n v w
+  unfolding clear
+  clear-elsewhere a b = rw (ne-eqb (own v) (own w) a, ne-eqb (loc v) (loc w) b) refl
+
+  pub clear-over : own v ≢ own w → loc v ≡ loc w → over own time n v (time w) ≡ clear own loc time n v w
+  unfolding clear
+  clear-over a b = rw (ne-eqb (own v) (own w) a, eq-eqb (loc v) (loc w) b) refl
+
+module _ (own loc time : ℕ → ℕ) (n : ℕ) (xs ys : ℕ → ℕ) (k : ℕ) where
+  pub entry-first : n ≤ xs k → false ≡ entryRight own loc time n xs ys k
+  unfolding entryRight
+  entry-first h = rw (le-ltb (xs k) n h) refl
+
+  pub entry-second : xs k < n → n ≤ ys k → false ≡ entryRight own loc time n xs ys k
+  unfolding entryRight
+  entry-second a h = rw (lt-ltb (xs k) n a, le-ltb (ys k) n h) refl
+
+  pub entry-unclear : xs k < n → ys k < n → clear own loc time n (xs k) (ys k) ≡ false → false ≡ entryRight own loc time n xs ys k
+  unfolding entryRight
+  entry-unclear a b h = rw (lt-ltb (xs k) n a, lt-ltb (ys k) n b, h) refl
+
+  pub entry-zero : xs k < n → ys k < n → clear own loc time n (xs k) (ys k) ≡ true → k ≡ 0 → true ≡ entryRight own loc time n xs ys k
+  unfolding entryRight
+  entry-zero a b h z = rw (lt-ltb (xs k) n a, lt-ltb (ys k) n b, h, eq-eqb k 0 z) refl
+
+  pub entry-after : xs k < n → ys k < n → clear own loc time n (xs k) (ys k) ≡ true → k ≢ 0 → before (xs (k - 1)) (ys (k - 1)) (xs k) (ys k) ≡ entryRight own loc time n xs ys k
+  unfolding entryRight
+  entry-after a b h z = rw (lt-ltb (xs k) n a, lt-ltb (ys k) n b, h, ne-eqb k 0 z) refl

@@ -1,0 +1,104 @@
+// The entries of a dependency table, tested one by one.
+ghost use mathlib.Core.Path.{_≡_};
+ghost use Prim.Native.Nat.{_≤_, _<_};
+ghost use lib.ListN.{length};
+ghost use Rattle.below.specs.Below.{at, allBelow, before};
+ghost use Rattle.plan.specs.Check.{over};
+ghost use Rattle.meetings.specs.Meetings.{clear, entryRight};
+ghost use Rattle.meetings.specs.Asked.{Stops, Table};
+
+// Whether v's span is over before the time t. A drone's last span never is.
+fn is_over(owners: &[u8], times: &[u32], n: usize, v: usize, t: u32) -> bool
+    requires { ⌜ (n ≤ length (now owners)) × (n ≤ length (now times)) × (v < n) ⌝ }
+    ensures { λ r. ⌜ r ≡ over (at (now (owners .entry))) (at (now (times .entry))) n v t ⌝ }
+{
+    let next = v + 1;
+    if n <= next {
+        return false;
+    }
+    if owners[next] != owners[v] {
+        return false;
+    }
+    times[next] < t
+}
+
+// Whether v and w are visits of one location by different drones, and v is over before w begins.
+fn is_clear(owners: &[u8], locations: &[u16], times: &[u32], n: usize, v: usize, w: usize) -> bool
+    requires { ⌜ (n ≤ length (now owners)) × (n ≤ length (now locations)) × (n ≤ length (now times)) × (v < n) × (w < n) ⌝ }
+    ensures { λ r. ⌜ r ≡ clear (at (now (owners .entry))) (at (now (locations .entry))) (at (now (times .entry))) n v w ⌝ }
+{
+    if owners[v] == owners[w] {
+        return false;
+    }
+    if locations[v] != locations[w] {
+        return false;
+    }
+    is_over(owners, times, n, v, times[w])
+}
+
+// Whether (v, w) comes before (x, y).
+fn is_before(v: u16, w: u16, x: u16, y: u16) -> bool
+    ensures { λ r. ⌜ r ≡ before v w x y ⌝ }
+{
+    if v < x {
+        return true;
+    }
+    if v != x {
+        return false;
+    }
+    w < y
+}
+
+// Whether entry k holds two stops, the first clear of the second, and comes after entry k - 1.
+fn is_right(
+    owners: &[u8],
+    locations: &[u16],
+    times: &[u32],
+    n: usize,
+    firsts: &[u16],
+    seconds: &[u16],
+    k: usize,
+) -> bool
+    requires { ⌜ Stops n (now owners) (now locations) (now times) × (k < length (now firsts)) × (k < length (now seconds)) ⌝ }
+    ensures { λ r. ⌜ r ≡ entryRight (at (now (owners .entry))) (at (now (locations .entry))) (at (now (times .entry))) n (at (now (firsts .entry))) (at (now (seconds .entry))) k ⌝ }
+{
+    let v = firsts[k] as usize;
+    if n <= v {
+        return false;
+    }
+    let w = seconds[k] as usize;
+    if n <= w {
+        return false;
+    }
+    if !is_clear(owners, locations, times, n, v, w) {
+        return false;
+    }
+    if k == 0 {
+        return true;
+    }
+    let j = k - 1;
+    is_before(firsts[j], seconds[j], firsts[k], seconds[k])
+}
+
+// Whether each of the first m entries is right.
+pub fn are_right(
+    owners: &[u8],
+    locations: &[u16],
+    times: &[u32],
+    n: usize,
+    firsts: &[u16],
+    seconds: &[u16],
+    m: usize,
+) -> bool
+    requires { ⌜ Stops n (now owners) (now locations) (now times) × Table m (now firsts) (now seconds) ⌝ }
+    ensures { λ r. ⌜ r ≡ allBelow m (entryRight (at (now (owners .entry))) (at (now (locations .entry))) (at (now (times .entry))) n (at (now (firsts .entry))) (at (now (seconds .entry)))) ⌝ }
+{
+    let mut k = 0;
+    while k < m {
+        if !is_right(owners, locations, times, n, firsts, seconds, k) {
+            return false;
+        }
+        k += 1;
+    }
+    true
+}

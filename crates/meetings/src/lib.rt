@@ -1,0 +1,30 @@
+// The test of a dependency table in near-linear time, over stops that are numbered through; a dependency is a pair of stops. That the entries are clear pairs in rising
+// order is tested entry by entry; that none is missing, and that nothing collides, by counting the meetings.
+mod entries;
+mod histogram;
+
+ghost use mathlib.Core.Path.{_≡_};
+ghost use Rattle.below.specs.Below.{at};
+ghost use Rattle.plan.specs.Dependencies.{right};
+ghost use Rattle.meetings.specs.Asked.{Stops, Table};
+
+// Whether no two drones collide and the table is the list of the plan's dependencies, in order.
+pub fn dependencies_right(
+    owners: &[u8],
+    locations: &[u16],
+    times: &[u32],
+    n: usize,
+    firsts: &[u16],
+    seconds: &[u16],
+    m: usize,
+) -> bool
+    requires { ⌜ Stops n (now owners) (now locations) (now times) × Table m (now firsts) (now seconds) ⌝ }
+    ensures { λ r. ⌜ r ≡ right (at (now (owners .entry))) (at (now (locations .entry))) (at (now (times .entry))) n m (at (now (firsts .entry))) (at (now (seconds .entry))) ⌝ }
+{
+    if !entries::are_right(owners, locations, times, n, firsts, seconds, m) {
+        return false;
+    }
+    let mut counts = [0u16; 65536];
+    histogram::clear_counts(locations, n, &mut counts);
+    histogram::count_meetings(owners, locations, n, &mut counts) == m
+}

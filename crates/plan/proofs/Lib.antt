@@ -1,0 +1,10 @@
+pub mod StopsLaws
+pub mod Numbering
+pub mod Turns
+pub mod Conditions
+pub mod Accepted
+pub mod Exact
+pub mod Definition1
+pub mod Claims
+pub mod CheckLaws
+pub mod ColumnsLaws

@@ -1,0 +1,94 @@
+-- The graph of an accepted plan, with some dependencies turned. Of two drones at one location the first is gone before the second comes, so planned times
+-- rise along every edge and the planned graph has no cycle. Assumes nothing.
+use mathlib.Core.Path.{_≡_, refl, sym, ap, _∙_, subst, fun-ext}
+use mathlib.Core.Logic.{_≢_, inl, inr}
+use mathlib.Core.Bool.{Bool, true, false, not}
+use Prim.Native.Nat.{ℕ, _<_}
+use native.Mathlib.Omega.{arith}
+use lib.Dec.{eqb}
+use borrow.Author.Tests.{eqb-true, eqb-false, eq-eqb, ne-eqb}
+use Rattle.below.proofs.Tests.{by-cases, true-or-false, or-left, or-right}
+use Rattle.precedence.specs.Graph.{FormedWait, Formed, cyclic, Cycle, Rising}
+use Rattle.precedence.proofs.Visits.{rising-acyclic, acyclic-iff}
+use Rattle.plan.specs.Field.{Dependency, FieldPlan, inForce, waitOf, flip, graph, fixed, GoneBefore, Checked, Meeting, AcceptedPlan}
+use Rattle.plan.specs.Claims.{unturned, TurnRules, Unfixed, PlannedGraph}
+
+-- ---- what a turn changes
+
+-- what holds of dependency w either way and of every other as it was holds of all
+pub flip-elim {ℓ} : (C : ℕ → Bool → Type ℓ) (t : ℕ → Bool) (w : ℕ) → ((b : Bool) → C w b) → ((v : ℕ) → C v (t v)) → (v : ℕ) → C v (flip t w v)
+flip-elim C t w h g v = by-cases (eqb v w)
+    (λ e. rw e (subst (λ (x : ℕ). C x (not (t v))) (sym (eqb-true v w e)) (h (not (t v)))))
+    (λ e. rw e (g v))
+
+pub flip-same : (t : ℕ → Bool) (w : ℕ) → flip t w w ≡ not (t w)
+flip-same t w = rw (eq-eqb w w refl) refl
+
+pub flip-other : (t : ℕ → Bool) (w v : ℕ) → v ≢ w → flip t w v ≡ t v
+flip-other t w v n = rw (ne-eqb v w n) refl
+
+not-not : (b : Bool) → not (not b) ≡ b
+not-not true = refl
+not-not false = refl
+
+pub flip-twice : (t : ℕ → Bool) (w v : ℕ) → flip (flip t w) w v ≡ t v
+flip-twice t w v = by-cases (eqb v w) (λ e. rw e (not-not (t v))) (λ e. rw e refl)
+
+pub turn-rules : (F : FieldPlan) (t : ℕ → Bool) (w : ℕ) → TurnRules F t w
+turn-rules F t w = record {
+  planned-rule = λ e. ap (λ (b : Bool). waitOf (inForce b (F .dependency w))) e;
+  turned-rule = λ e. ap (λ (b : Bool). waitOf (inForce b (F .dependency w))) (flip-same t w ∙ ap not e);
+  other-rules = λ v n. ap (λ (b : Bool). waitOf (inForce b (F .dependency v))) (flip-other t w v n);
+  turned-twice = ap (graph F) (fun-ext (flip-twice t w));
+}
+
+-- ---- plans that pass the check
+
+module _ (F : FieldPlan) (checked : Checked F) where
+  -- of two drones at one location the one that is there first goes on before the other comes
+  pub gone-before : (x : Dependency) → Meeting F x → GoneBefore F (x .first) (x .firstStop) (x .second) (x .secondStop)
+  gone-before x m = elim (checked .no-collision (x .first) (x .firstStop) (x .second) (x .secondStop) (m .first-in) (m .first-stop-in) (m .second-in) (m .second-stop-in) (m .different) (m .one-location)) [
+    | inl g ↦ g
+    | inr g ↦ absurd (omega (arith, checked .rises (x .second) (x .secondStop) (m .second-in) (g .goes-on), g .in-time, m .there-first))
+  ]
+
+-- ---- accepted plans
+
+module _ (F : FieldPlan) (accepted : AcceptedPlan F) where
+  open FieldPlan F using (drones, last, location, time, count, dependency)
+
+  -- the second comes from another stop
+  pub second-comes : (x : Dependency) → Meeting F x → 0 < x .secondStop
+  second-comes x m = by-cases (eqb (x .secondStop) 0)
+      (λ e. let z : time (x .second) (x .secondStop) ≡ 0 = rw (eqb-true (x .secondStop) 0 e) (accepted .checked .starts (x .second) (m .second-in)) in absurd (omega (arith, gone-before F (accepted .checked) x m .in-time)))
+      (λ e. let n : x .secondStop ≢ 0 = eqb-false (x .secondStop) 0 e in omega arith)
+
+  formed-either : (w : ℕ) → w < count → (b : Bool) → (b ≡ true → fixed F w ≡ false) → (t : ℕ → Bool) → FormedWait (graph F t) (waitOf (inForce b (dependency w)))
+  formed-either w l false u t =
+      let m : Meeting F (dependency w) = accepted .each w l in
+      record { waiter-in = m .second-in; stop-pos = second-comes (dependency w) m; stop-in = m .second-stop-in; awaited-in = m .first-in; until-in = gone-before F (accepted .checked) (dependency w) m .goes-on }
+  formed-either w l true u t =
+      let m : Meeting F (dependency w) = accepted .each w l in
+      let f : fixed F w ≡ false = u refl in
+      let z : dependency w .firstStop ≢ 0 = eqb-false _ _ (or-left _ _ f) in
+      let n : dependency w .secondStop ≢ last (dependency w .second) = eqb-false _ _ (or-right (eqb (dependency w .firstStop) 0) _ f) in
+      record { waiter-in = m .first-in; stop-pos = omega arith; stop-in = m .first-stop-in; awaited-in = m .second-in; until-in = omega (arith, m .second-stop-in) }
+
+  pub graph-formed : (t : ℕ → Bool) → Unfixed F t → Formed (graph F t)
+  graph-formed t u w l = formed-either w l (t w) (u w l) t
+
+  pub none-unfixed : Unfixed F unturned
+  none-unfixed w l e = true-or-false e refl
+
+  -- planned times rise along every edge
+  pub planned-rising : Rising (graph F unturned) time
+  planned-rising = record { own-rises = accepted .checked .rises; wait-rises = λ w l. gone-before F (accepted .checked) (dependency w) (accepted .each w l) .in-time }
+
+  pub planned-no-cycle : Cycle (graph F unturned) → ⊥
+  planned-no-cycle = rising-acyclic (graph F unturned) planned-rising
+
+  pub planned-acyclic : cyclic (graph F unturned) ≡ false
+  planned-acyclic = acyclic-iff (graph F unturned) (graph-formed unturned none-unfixed) .1 planned-no-cycle
+
+  pub planned-graph : PlannedGraph F
+  planned-graph = record { formed = graph-formed; no-cycle = planned-no-cycle; acyclic = planned-acyclic }

@@ -1,0 +1,28 @@
+-- The table of flights holds, by computation; and the theorems' hypotheses are met: flight Q is formed, has no cycle and keeps its waits at first, so its
+-- remaining rounds are longest chains. Assumes nothing.
+use mathlib.Core.Path.{_≡_, refl, sym, _∙_}
+use mathlib.Core.Bool.{true, false}
+use Prim.Native.Nat.{ℕ, zero, suc}
+use native.Mathlib.Omega.{arith}
+use lib.Dec.{T, lit<, lit≤}
+use Rattle.below.specs.Below.{firstBelow, allBelow, sumBelow, listBelow}
+use Rattle.precedence.specs.Graph.{Formed, Cycle, Longest, atStart, remaining, cyclicList, blocks, free, round, finished, unvisited, roundList, playList}
+use Rattle.precedence.specs.Flights.{flights, allHold, flightQ}
+use Rattle.precedence.proofs.Visits.{acyclic-iff, kept-start}
+use Rattle.precedence.proofs.Lists.{cyclicList-is}
+use Rattle.precedence.proofs.Theorems.{remaining-is-longest}
+
+pub flights-hold : T (allHold flights)
+unfolding allHold
+flights-hold = tt
+
+formed : Formed (flightQ false)
+formed zero l = record { waiter-in = lit< tt; stop-pos = lit< tt; stop-in = lit≤ tt; awaited-in = lit< tt; until-in = lit≤ tt }
+formed (suc w) l = absurd (omega arith)
+
+no-cycle : Cycle (flightQ false) → ⊥
+unfolding cyclicList finished sumBelow playList roundList listBelow round free blocks allBelow unvisited
+no-cycle = acyclic-iff (flightQ false) formed .0 (sym (cyclicList-is (flightQ false) formed) ∙ refl)
+
+pub longest-is-met : Longest (flightQ false) atStart 1 (remaining (flightQ false) atStart 1)
+longest-is-met = remaining-is-longest (flightQ false) formed no-cycle atStart (kept-start (flightQ false) formed) 1 (lit< tt) (lit< tt)

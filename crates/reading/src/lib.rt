@@ -1,0 +1,2 @@
+// Reading a plan text into lent tables.
+pub mod replies;

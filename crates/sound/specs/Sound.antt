@@ -1,0 +1,133 @@
+-- When lent tables are sound: the clauses of document 01, "Tables and what is sound", in its order. Assumes nothing.
+use mathlib.Core.Bool.{Bool, cond, not, _&&_, _||_}
+use mathlib.Core.List.{List}
+use Prim.Native.Nat.{ℕ, _+_, _*_, _/_}
+use lib.Dec.{ltb, leb, eqb}
+use lib.ListN.{getD}
+use Rattle.below.specs.Below.{firstBelow, allBelow, at, pick}
+use Rattle.tables.specs.Limits.{Limits}
+use Rattle.tables.specs.Tables.{PlanLists, Tables, drones, dependencies}
+use Rattle.tables.specs.Flags.{onlyOneBit}
+use Rattle.lines.specs.Names.{isNameByte}
+use Rattle.precedence.specs.Graph.{cyclic}
+use Rattle.plan.specs.Stops.{start, owner, number}
+use Rattle.plan.specs.Check.{firstFault, apart}
+use Rattle.plan.specs.Dependencies.{dependencyTotal, column, isFixed}
+use Rattle.plan.specs.Field.{planOf, graph, fixed}
+use Rattle.plan.specs.Status.{Status, statusIn, fixedUnturned, withinStops, waitsKept}
+
+-- the entries from `used` on, up to the full size, are zero
+unfoldable pub zeroFrom : ℕ → ℕ → List ℕ → Bool
+zeroFrom used full l = allBelow full (λ i. ltb i used || eqb (at l i) 0)
+
+-- ---- names
+
+module _ (L : Limits) (names : List ℕ) where
+  -- byte i of the row of drone d
+  abbrev pub nameByte : ℕ → ℕ → ℕ
+  nameByte d i = at names (d * L .name + i)
+
+  -- how many bytes stand before the first zero
+  unfoldable pub nameLength : ℕ → ℕ
+  nameLength d = firstBelow (L .name) (λ i. eqb (nameByte d i) 0)
+
+  -- "name: 1 to 24 bytes from a-z, 0-9, hyphen", and zeros after it
+  unfoldable pub nameSound : ℕ → Bool
+  nameSound d = leb 1 (nameLength d) && allBelow (L .name) (λ i. cond (ltb i (nameLength d)) (isNameByte (nameByte d i)) (eqb (nameByte d i) 0))
+
+  -- "Names are compared over all their bytes"
+  unfoldable pub sameName : ℕ → ℕ → Bool
+  sameName d e = allBelow (L .name) (λ i. eqb (nameByte d i) (nameByte e i))
+
+  -- "name equal to an earlier one": none of n is
+  unfoldable pub namesDiffer : ℕ → Bool
+  namesDiffer n = allBelow n (λ d. allBelow d (λ e. not (sameName d e)))
+
+-- ---- the plan in the tables
+
+module _ (L : Limits) (p : PlanLists) where
+  -- the number of stops of all drones, and each stop's drone, number, location and time
+  abbrev pub stopTotal : ℕ
+  stopTotal = start (p .stopCounts) (drones p)
+
+  abbrev pub own : ℕ → ℕ
+  own = owner (drones p) (p .stopCounts)
+
+  abbrev pub num : ℕ → ℕ
+  num = number (drones p) (p .stopCounts)
+
+  -- every number is in its range
+  unfoldable pub inRange : Bool
+  inRange =
+      (leb 1 (drones p) && leb (drones p) (L .drones))
+      && (allBelow (drones p) (λ d. leb 1 (at (p .stopCounts) d))
+      && (leb stopTotal (L .stops)
+      && allBelow stopTotal (λ v. leb (at (p .locations) v) (L .location) && leb (at (p .times) v) (L .time))))
+
+  -- the names are names, each of one drone
+  unfoldable pub namesSound : Bool
+  namesSound = allBelow (drones p) (nameSound L (p .names)) && namesDiffer L (p .names) (drones p)
+
+  -- the plan check finds nothing
+  unfoldable pub checked : Bool
+  checked = eqb (firstFault num (at (p .locations)) (at (p .times)) stopTotal) stopTotal && apart own (at (p .locations)) (at (p .times)) stopTotal
+
+  -- "the plan in them would be accepted"
+  unfoldable pub planAccepted : Bool
+  planAccepted = inRange && (namesSound && (checked && leb (dependencyTotal own (at (p .locations)) (at (p .times)) stopTotal) (L .dependencies)))
+
+  -- f of each dependency of the plan, in order
+  abbrev pub planned : (ℕ → ℕ → ℕ) → List ℕ
+  planned f = column own (at (p .locations)) (at (p .times)) stopTotal f
+
+  -- "the dependencies are exactly its own, in order"
+  unfoldable pub dependenciesSound : Bool
+  dependenciesSound =
+      eqb (dependencies p) (dependencyTotal own (at (p .locations)) (at (p .times)) stopTotal)
+      && allBelow (dependencies p) (λ k.
+      eqb (at (p .firstDrones) k) (getD (planned (λ v w. own v)) k 0)
+      && (eqb (at (p .firstStops) k) (getD (planned (λ v w. num v)) k 0)
+      && (eqb (at (p .secondDrones) k) (getD (planned (λ v w. own w)) k 0)
+      && eqb (at (p .secondStops) k) (getD (planned (λ v w. num w)) k 0))))
+
+  -- "unused entries are zero", of the tables that no call writes
+  unfoldable pub planUnused : Bool
+  planUnused =
+      zeroFrom (drones p * L .name) (L .drones * L .name) (p .names)
+      && (zeroFrom (drones p) (L .drones) (p .stopCounts)
+      && (zeroFrom stopTotal (L .stops) (p .locations)
+      && (zeroFrom stopTotal (L .stops) (p .times)
+      && (zeroFrom (dependencies p) (L .dependencies) (p .firstDrones)
+      && (zeroFrom (dependencies p) (L .dependencies) (p .firstStops)
+      && (zeroFrom (dependencies p) (L .dependencies) (p .secondDrones)
+      && zeroFrom (dependencies p) (L .dependencies) (p .secondStops)))))))
+
+-- ---- the tables
+
+module _ (L : Limits) (t : Tables) where
+  -- "with right fixed bits", and "the other six bits are zero": a flag byte less its bit 0
+  unfoldable pub flagsSound : Bool
+  flagsSound = allBelow (dependencies (t .plan)) (λ k. eqb (at (t .flags) k / 2) (pick (fixed (planOf (t .plan)) k) 1 0))
+
+  -- a drone's flag byte has no bit but bit 0
+  unfoldable pub droneFlagsSound : Bool
+  droneFlagsSound = allBelow (drones (t .plan)) (λ d. onlyOneBit (at (t .droneFlags) d))
+
+  -- "unused entries are zero", of the tables that calls write
+  unfoldable pub progressUnused : Bool
+  progressUnused =
+      zeroFrom (drones (t .plan)) (L .drones) (t .visited)
+      && (zeroFrom (drones (t .plan)) (L .drones) (t .droneFlags) && zeroFrom (dependencies (t .plan)) (L .dependencies) (t .flags))
+
+  -- "Tables are sound when: .."
+  unfoldable pub sound : Bool
+  sound =
+      planAccepted L (t .plan)
+      && (dependenciesSound L (t .plan)
+      && (flagsSound
+      && (fixedUnturned (planOf (t .plan)) (statusIn t)
+      && (not (cyclic (graph (planOf (t .plan)) (statusIn t .turned)))
+      && (droneFlagsSound
+      && (withinStops (planOf (t .plan)) (statusIn t)
+      && (waitsKept (planOf (t .plan)) (statusIn t)
+      && (planUnused L (t .plan) && progressUnused))))))))
