@@ -8,10 +8,11 @@ use Rattle.below.specs.Below.{sumBelow, at}
 use Rattle.tables.specs.Limits.{limits}
 use Rattle.precedence.specs.Graph.{Plan, Formed, Cycle, unvisited, cost}
 use Rattle.precedence.proofs.Visits.{acyclic-iff}
-use Rattle.rounds.specs.FlatPlan.{flatPlan}
+use Rattle.cycles.proofs.Certified.{formed}
+use Rattle.cycles.specs.Flat.{flatPlan}
 use Rattle.rounds.specs.Remaining.{Ready, WaitsIn, StopIn, roundsLeft, stopRound, stopRounds}
 use Rattle.rounds.specs.StopTable.{Solution, Solved, Passable}
-use Rattle.rounds.proofs.OneRound.{placed-formed, stops-in, waits-in}
+use Rattle.rounds.proofs.OneRound.{stops-in, waits-in}
 use Rattle.rounds.proofs.PlayingLoop.{rounds-bound}
 use Rattle.rounds.proofs.Bounds.{unvisited-bound, cost-limit}
 use Rattle.rounds.proofs.ChainRounds.{rounds-solve, table-is, table-at, sum-is}
@@ -21,7 +22,7 @@ module _ (owners starts lasts : List ℕ) (drones n : ℕ) (from into : List ℕ
   P = flatPlan (at owners) (at starts) (at lasts) drones (at from) (at into) m
 
   pub ready-formed : Formed P
-  ready-formed = placed-formed (at owners) (at starts) (at lasts) drones n (at from) (at into) m (ready .tables .placed)
+  ready-formed = formed (at owners) (at starts) (at lasts) drones n (at from) (at into) m (ready .tables .placed)
 
   pub ready-acyclic : Cycle P → ⊥
   ready-acyclic = acyclic-iff P ready-formed .0 (ready .acyclic)

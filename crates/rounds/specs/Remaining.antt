@@ -10,7 +10,7 @@ use lib.ListN.{length}
 use Rattle.below.specs.Below.{pick, anyBelow, maxBelow, listBelow, at}
 use Rattle.tables.specs.Limits.{Limits}
 use Rattle.precedence.specs.Graph.{Plan, Kept, reached, remaining, cyclic}
-use Rattle.rounds.specs.FlatPlan.{flatPlan, FlatTables}
+use Rattle.cycles.specs.Flat.{flatPlan, FlatTables}
 
 -- "rounds are played until every drone stands at its last stop": as many as the drone has left that finishes last
 unfoldable pub roundsLeft : Plan → (ℕ → ℕ) → ℕ

@@ -6,7 +6,7 @@ ghost use lib.ListN.{length};
 ghost use Rattle.below.specs.Below.{sumBelow, at};
 ghost use Rattle.tables.specs.Limits.{limits};
 ghost use Rattle.precedence.specs.Graph.{cost};
-ghost use Rattle.rounds.specs.FlatPlan.{flatPlan};
+ghost use Rattle.cycles.specs.Flat.{flatPlan};
 ghost use Rattle.rounds.specs.Remaining.{Ready, StopIn, WaitsIn, stopRounds};
 ghost use Rattle.rounds.specs.StopTable.{latestAwaited, roundAfter, Passable, Passed, Solved};
 use crate::widths::wide;
