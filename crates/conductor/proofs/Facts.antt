@@ -1,25 +1,22 @@
 -- What tables of full size that are sound give to code that reads them: room for each index, and numbers that stay small. Assumes nothing.
-use mathlib.Core.Path.{_≡_, sym, _∙_}
-use mathlib.Core.Bool.{Bool, true, false, not, _&&_}
+use mathlib.Core.Path.{_≡_}
+use mathlib.Core.Bool.{true, not, _&&_}
 use Prim.Native.Nat.{ℕ, suc, _+_, _-_, _≤_, _<_}
 use native.Mathlib.Omega.{arith}
-use lib.Dec.{leb, eqb}
-use lib.ListN.{length}
-use borrow.Author.Tests.{leb-true, leb-false, not-true, not-false}
+use lib.Dec.{leb}
+use borrow.Author.Tests.{leb-true, leb-false, not-true}
 use Rattle.below.specs.Below.{at}
 use Rattle.below.proofs.Tests.{and-left, and-right}
 use Rattle.below.proofs.Every.{allBelow-at}
 use Rattle.tables.specs.Limits.{Limits}
-use Rattle.tables.specs.Tables.{Tables, drones, dependencies, fullSize, Sizes}
+use Rattle.tables.specs.Tables.{Tables, drones, dependencies, Sizes}
 use Rattle.tables.specs.Flags.{underWayBit}
 use Rattle.tables.proofs.SizeLaws.{full-sizes}
-use Rattle.plan.specs.Stops.{start}
-use Rattle.plan.specs.Field.{planOf, AcceptedPlan, Meeting}
-use Rattle.plan.specs.Status.{statusIn, withinStops}
+use Rattle.plan.specs.Field.{planOf, Meeting}
+use Rattle.plan.specs.Status.{withinStops}
 use Rattle.plan.specs.Columns.{Columns, columns}
 use Rattle.plan.specs.Room.{WaitsRoom}
 use Rattle.plan.proofs.Numbering.{start-suc, start-mono}
-use Rattle.sound.specs.Sound.{sound}
 use Rattle.log.specs.Claims.{Usable}
 use Rattle.log.proofs.SoundParts.{Sound, sound-says, drones-in, have-stops, stops-in, dependencies-in, accepted-plan}
 

@@ -1,16 +1,20 @@
 // The calls on tables that are of full size and sound.
 use crate::replies::ArriveReply;
 use crate::replies::GrantReply;
+use crate::replies::WriteReply;
 use plan::waits::first_unmet;
 use tables::flags::is_under_way;
 use tables::flags::with_under_way;
 use tables::flags::without_under_way;
+use text::writer::WriteAnswer;
+use text::writer::write_text;
 ghost use Rattle.tables.specs.Limits.{limits};
 ghost use Rattle.tables.specs.Tables.{tablesOf};
 ghost use Rattle.log.specs.CallLog.{grant, arrive};
 ghost use Rattle.log.specs.Calls.{step, Answered};
 ghost use Rattle.log.specs.Claims.{Usable};
 ghost use Rattle.conductor.specs.Replies.{grantMeant, arriveMeant};
+ghost use Rattle.conductor.specs.Writing.{writeMeant, PlanWritten};
 
 // "the drone becomes under way when every dependency into its next stop has the awaited stop visited".
 pub fn grant_sound(
@@ -129,4 +133,46 @@ pub fn arrive_sound(
     visited[drone] += 1;
     drone_flags[drone] = without_under_way(flag);
     ArriveReply::Arrived
+}
+
+// Writes the text of the plan that the tables hold, if the buffer is long enough.
+pub fn write_sound(
+    buf: &mut [u8],
+    drone_count: &[u16],
+    dependency_count: &[u16],
+    names: &[u8],
+    stop_counts: &[u16],
+    locations: &[u16],
+    times: &[u32],
+    visited: &[u16],
+    drone_flags: &[u8],
+    first_drones: &[u8],
+    first_stops: &[u16],
+    second_drones: &[u8],
+    second_stops: &[u16],
+    flags: &[u8],
+) -> WriteReply
+    requires { ⌜
+        Usable limits (tablesOf
+        (now «drone_count») (now «dependency_count») (now names) (now «stop_counts»)
+        (now locations) (now times) (now visited) (now «drone_flags»)
+        (now «first_drones») (now «first_stops») (now «second_drones») (now «second_stops»)
+        (now flags))
+        ⌝ }
+    ensures { λ r.
+        ⌜
+        PlanWritten limits (tablesOf
+        (now («drone_count» .entry)) (now («dependency_count» .entry)) (now (names .entry)) (now («stop_counts» .entry))
+        (now (locations .entry)) (now (times .entry)) (now (visited .entry)) (now («drone_flags» .entry))
+        (now («first_drones» .entry)) (now («first_stops» .entry)) (now («second_drones» .entry)) (now («second_stops» .entry))
+        (now (flags .entry)))
+        (now (buf .entry)) (now (buf .exit)) (writeMeant r)
+        ⌝ }
+{
+    let drones = drone_count[0] as usize;
+    let answer = write_text(buf, drones, names, stop_counts, locations, times);
+    match answer {
+        WriteAnswer::Length(length) => WriteReply::Written(length),
+        WriteAnswer::Short => WriteReply::BufferTooShort,
+    }
 }
