@@ -7,3 +7,4 @@ pub mod Exact
 pub mod Definition1
 pub mod Claims
 pub mod CheckLaws
+pub mod ColumnsLaws

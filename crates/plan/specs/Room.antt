@@ -3,6 +3,7 @@ use mathlib.Core.List.{List}
 use Prim.Native.Nat.{ℕ, _≤_, _<_}
 use lib.ListN.{length}
 use Rattle.plan.specs.Stops.{start}
+use Rattle.plan.specs.Columns.{Columns}
 
 -- each drone's M is there, and a drone's number is a byte
 pub record Counts (drones : ℕ) (counts : List ℕ) : Type 0 where
@@ -28,8 +29,18 @@ pub record VisitsRoom (n : ℕ) (owners locations times : List ℕ) : Type 0 whe
   pub has-owners : n ≤ length owners
   pub has-locations : n ≤ length locations
   pub has-times : n ≤ length times
+  pub stops-fit : n ≤ 65536
 
 -- the same with each stop's number in its drone
 pub record PlanRoom (n : ℕ) (owners numbers locations times : List ℕ) : Type 0 where
   pub visits : VisitsRoom n owners locations times
   pub has-numbers : n ≤ length numbers
+
+-- m dependencies have room in the five columns, and their numbers are of 16 bits
+pub record ColumnsRoom (m : ℕ) (c : Columns) : Type 0 where
+  pub has-first-drones : m ≤ length (c .firstDrones)
+  pub has-first-stops : m ≤ length (c .firstStops)
+  pub has-second-drones : m ≤ length (c .secondDrones)
+  pub has-second-stops : m ≤ length (c .secondStops)
+  pub has-flags : m ≤ length (c .flags)
+  pub dependencies-fit : m ≤ 65536

@@ -1,6 +1,6 @@
 // The plan check over stops that are numbered through: each stop by itself, then collisions.
 ghost use mathlib.Core.Path.{_≡_};
-ghost use Prim.Native.Nat.{ℕ, _-_, _≤_, _<_};
+ghost use Prim.Native.Nat.{_-_, _≤_, _<_};
 ghost use lib.ListN.{length};
 ghost use Rattle.below.specs.Below.{at};
 ghost use Rattle.plan.specs.Check.{faultAt, firstFault, over, collide, partner, collider};

@@ -1,3 +1,4 @@
 // The plan check and the dependencies of a plan.
 pub mod check;
+pub mod dependencies;
 pub mod stops;
