@@ -1,2 +1,3 @@
 // Reading a plan text into lent tables.
 pub mod replies;
+mod storing;
