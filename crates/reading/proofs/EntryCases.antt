@@ -50,7 +50,7 @@ module _ (L : Limits) (text : List ℕ) (t : Tables) where
     text-long l = answered-as (readPlan L text t) (Refused (TooLong (L .text))) t t (rw (f, lt-ltb (L .text) (length text) l) refl) refl
 
     module _ (short : length text ≤ L .text) (z : Tables) (e : z ≡ zeroedTables L t) where
-      pub is-zeroed : IsZeroed L z
+      is-zeroed : IsZeroed L z
       is-zeroed = subst (IsZeroed L) (sym e) (zeroed-again L t)
 
       pub lines-asked : L .dependencies ≤ 65536 → LinesAsked L text (z .plan .droneCount) (z .plan .dependencyCount) (z .plan .names) (z .plan .stopCounts) (z .plan .locations) (z .plan .times) (columnsOf z)
@@ -74,8 +74,8 @@ module _ (L : Limits) (text : List ℕ) (t : Tables) where
             };
           }
 
-      pub lines-read : (r : Reading) (t′ : Tables) → AnsweredAs (readLines L text z) r t′ → AnsweredAs (readPlan L text t) r t′
+      pub lines-read : (r : Reading) (t′ : Tables) → (IsZeroed L z → AnsweredAs (readLines L text z) r t′) → AnsweredAs (readPlan L text t) r t′
       unfolding readPlan
       lines-read r t′ a =
           let k : readPlan L text t ≡ readLines L text z = rw (f, le-ltb (L .text) (length text) short) (ap (readLines L text) (sym e)) in
-          subst (λ (x : Answered). AnsweredAs x r t′) (sym k) a
+          subst (λ (x : Answered). AnsweredAs x r t′) (sym k) (a is-zeroed)

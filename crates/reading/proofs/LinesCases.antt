@@ -150,15 +150,18 @@ module _ (L : Limits) (text : List ℕ) (z : Tables) (short : length text ≤ L 
     stored-is : (r : Reading) (t′ : Tables) → AnsweredAs (stored L (reread z dc ns cs ls ts)) r t′ → AnsweredAs (stored L (withText (linesAt L text) n z)) r t′
     stored-is r t′ s = subst (λ (t : Tables). AnsweredAs (stored L t) r t′) filled s
 
-    pub lines-taken : (t′ : Tables) → AnsweredAs (stored L (reread z dc ns cs ls ts)) Taken t′ → AnsweredAs (readLines L text z) Taken t′
-    lines-taken t′ s = subst (λ (a : Answered). AnsweredAs a Taken t′) (sym from-is) (stored-taken L z (withText (linesAt L text) n z) t′ (stored-is Taken t′ s))
+    pub lines-taken : (r : Reading) → r ≡ Taken → (t′ : Tables) → AnsweredAs (stored L (reread z dc ns cs ls ts)) r t′ → AnsweredAs (readLines L text z) Taken t′
+    lines-taken r er t′ s =
+        let s′ = subst (λ (r : Reading). AnsweredAs (stored L (withText (linesAt L text) n z)) r t′) er (stored-is r t′ s) in
+        subst (λ (a : Answered). AnsweredAs a Taken t′) (sym from-is) (stored-taken L z (withText (linesAt L text) n z) t′ s′)
 
     -- a refused plan: what the text had stored is zeroed
-    pub plan-refused : (x : Refusal) (t′ : Tables) → AnsweredAs (stored L (reread z dc ns cs ls ts)) (Refused x) t′ → {dc′ ns′ cs′ ls′ ts′ : List ℕ}
+    pub plan-refused : (x : Refusal) (r : Reading) → r ≡ Refused x → (t′ : Tables) → AnsweredAs (stored L (reread z dc ns cs ls ts)) r t′ → {dc′ ns′ cs′ ls′ ts′ : List ℕ}
         → Zeroed L (t′ .plan .droneCount) (t′ .plan .names) (t′ .plan .stopCounts) (t′ .plan .locations) (t′ .plan .times) dc′ ns′ cs′ ls′ ts′
         → AnsweredAs (readLines L text z) (Refused x) (reread t′ dc′ ns′ cs′ ls′ ts′)
-    plan-refused x t′ s {dc′} {ns′} {cs′} {ls′} {ts′} o =
-        let q = stored-refused L z (withText (linesAt L text) n z) x t′ (stored-is (Refused x) t′ s) in
+    plan-refused x r er t′ s {dc′} {ns′} {cs′} {ls′} {ts′} o =
+        let s′ = subst (λ (r : Reading). AnsweredAs (stored L (withText (linesAt L text) n z)) r t′) er (stored-is r t′ s) in
+        let q = stored-refused L z (withText (linesAt L text) n z) x t′ s′ in
         let fit = lines-fit L text in
         let part : reread t′ dc′ ns′ cs′ ls′ ts′ ≡ reread z dc′ ns′ cs′ ls′ ts′ = ap (λ (t : Tables). reread t dc′ ns′ cs′ ls′ ts′) (q .1) in
         answered-as (readLines L text z) (Refused x) z _ (from-is ∙ q .0)
