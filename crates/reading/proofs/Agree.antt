@@ -1,11 +1,9 @@
 -- The plan check and the dependencies of n stops look at these n stops alone, so functions that agree below n have the same. Assumes nothing.
-use mathlib.Core.Path.{_≡_, refl, sym, ap, _∙_}
-use mathlib.Core.Bool.{Bool, true, false, not}
+use mathlib.Core.Path.{_≡_, refl, ap}
+use mathlib.Core.Bool.{not}
 use Prim.Native.Nat.{ℕ, _+_, _-_, _<_}
-use native.Mathlib.Omega.{arith}
 use lib.Dec.{ltb, eqb}
 use borrow.Author.Tests.{ltb-true}
-use Rattle.below.specs.Below.{firstBelow}
 use Rattle.below.proofs.Tests.{by-cases}
 use Rattle.below.proofs.Search.{firstBelow-first, firstBelow-ext}
 use Rattle.plan.specs.Check.{faultAt, firstFault, over, collide, partner, collider}

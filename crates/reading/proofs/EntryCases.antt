@@ -1,19 +1,17 @@
 -- The entry, case by case: the tests in the order of the definition, and tables that were zeroed are zeroed. Assumes nothing.
 use mathlib.Core.Path.{_≡_, refl, sym, ap, subst, _∙_}
-use mathlib.Core.Bool.{Bool, true, false, cond}
+use mathlib.Core.Bool.{true, false}
 use mathlib.Core.List.{List}
 use Prim.Native.Nat.{ℕ, _*_, _≤_, _<_}
-use native.Mathlib.Omega.{arith}
-use lib.Dec.{ltb}
 use lib.ListN.{length}
 use borrow.Author.Tests.{lt-ltb, le-ltb}
 use Rattle.tables.specs.Limits.{Limits}
-use Rattle.tables.specs.Tables.{PlanLists, Tables, fullSize, Sizes}
-use Rattle.tables.specs.Zero.{zeroed, zeroedTables}
+use Rattle.tables.specs.Tables.{Tables, fullSize, Sizes}
+use Rattle.tables.specs.Zero.{zeroedTables}
 use Rattle.tables.proofs.Zero.{zeroed-twice}
 use Rattle.tables.proofs.SizeLaws.{full-sizes}
 use Rattle.tables.proofs.ZeroTables.{each-zeroed, zeroed-fullSize}
-use Rattle.reading.specs.Reading.{Answered, answered, AnsweredAs, readLines, readPlan}
+use Rattle.reading.specs.Reading.{Answered, AnsweredAs, readLines, readPlan}
 use Rattle.reading.specs.Asked.{LinesAsked}
 use Rattle.reading.specs.declared.replies.Refusal.the-variants.{TablesTooSmall, TooLong}
 use Rattle.reading.specs.declared.replies.Reading.{Reading}

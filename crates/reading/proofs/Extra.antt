@@ -1,7 +1,7 @@
 -- Counts, picks and rows of tests and values that agree below n are the same, and a sum may take its first summand apart. Assumes nothing.
 use mathlib.Core.Path.{_≡_, refl}
 use mathlib.Core.Bool.{Bool}
-use mathlib.Core.List.{List, [], _∷_, _++_}
+use mathlib.Core.List.{List}
 use Prim.Native.Nat.{ℕ, zero, suc, _+_, _<_}
 use native.Mathlib.Omega.{arith}
 use Rattle.below.specs.Below.{countBelow, sumBelow, picks, rowsBelow, pairsOf, listed}

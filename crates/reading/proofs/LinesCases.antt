@@ -1,36 +1,33 @@
 -- Reading the lines into zeroed tables, case by case: zeroed again they are the same, and zeroing takes away what a refused plan has left. Assumes nothing.
 use mathlib.Core.Path.{_≡_, refl, sym, ap, subst, _∙_}
-use mathlib.Core.Bool.{Bool, true, false, cond}
 use mathlib.Core.List.{List, [], _∷_}
-use Prim.Native.Nat.{ℕ, _*_, _≤_, _<_}
+use Prim.Native.Nat.{ℕ, _*_, _≤_}
 use native.Mathlib.Omega.{arith}
-use lib.Dec.{ltb, leb}
+use lib.Dec.{leb}
 use lib.ListN.{length}
 use lib.Seq.{sets, length-sets, getD-set-same}
 use borrow.Author.Tests.{le-ltb}
 use Rattle.below.specs.Below.{at}
 use Rattle.below.proofs.Tests.{by-cases}
 use Rattle.tables.specs.Limits.{Limits}
-use Rattle.tables.specs.Tables.{PlanLists, Tables, tablesOf}
+use Rattle.tables.specs.Tables.{Tables, tablesOf}
 use Rattle.tables.specs.Zero.{zeroed, zeroedTables}
 use Rattle.tables.proofs.Zero.{zeroed-length, zeroed-sets}
 use Rattle.lines.specs.declared.refusal.Refusal.{Refusal as TextRefusal}
-use Rattle.text.specs.Reading.{Found, linesAt, flat}
+use Rattle.text.specs.Reading.{linesAt, flat}
 use Rattle.text.specs.TextRead.{answerOf, filledTable, tableAfter, droneCount, TextRead, Zeroed}
 use Rattle.text.specs.declared.reader.Answer.{Answer}
 use Rattle.text.specs.declared.reader.Answer.the-variants.{Taken as Plan, Refused as NoPlan}
 use Rattle.text.proofs.Fits.{lines-fit}
-use Rattle.plan.specs.Stops.{start}
 use Rattle.plan.specs.Columns.{Columns}
 use Rattle.reading.specs.Replies.{ofText}
-use Rattle.reading.specs.Reading.{Answered, answered, AnsweredAs, withText, total, withDependencies, checkIn, checked, stored, fromLines, readLines}
+use Rattle.reading.specs.Reading.{Answered, answered, AnsweredAs, withText, total, checkIn, checked, stored, fromLines, readLines}
 use Rattle.reading.specs.Asked.{PlanAsked, LinesAsked}
 use Rattle.reading.specs.declared.replies.Refusal.{Refusal}
-use Rattle.reading.specs.declared.replies.Refusal.the-variants.{TooManyDependencies}
 use Rattle.reading.specs.declared.replies.Reading.{Reading}
 use Rattle.reading.specs.declared.replies.Reading.the-variants.{Taken, Refused}
 use Rattle.reading.proofs.TakenText.{drones-in, stops-in}
-use Rattle.reading.proofs.StoredPlan.{answered-as, checked-refused, checked-many, checked-taken}
+use Rattle.reading.proofs.StoredPlan.{answered-as, checked-many, checked-taken}
 
 -- the tables with another text's values
 abbrev pub reread : Tables → (dc ns cs ls ts : List ℕ) → Tables

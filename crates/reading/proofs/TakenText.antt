@@ -1,15 +1,14 @@
 -- The tables with the values of a text that is taken: the plan in them keeps the limits, since the text is that of a valid plan. Assumes nothing.
-use mathlib.Core.Path.{_≡_, refl, sym, ap, _∙_}
+use mathlib.Core.Path.{_≡_, refl, ap}
 use mathlib.Core.List.{List, [], _∷_, _++_}
-use Prim.Native.Nat.{ℕ, suc, _+_, _≤_, _<_}
+use Prim.Native.Nat.{ℕ, suc, _+_, _≤_}
 use native.Mathlib.Omega.{arith}
 use lib.ListN.{length}
-use lib.Seq.{sets, getD-set-same}
+use lib.Seq.{sets}
 use Rattle.below.specs.Below.{sumBelow, at, laid}
 use Rattle.below.proofs.Sum.{sum-none, sum-ext}
 use Rattle.below.proofs.Picks.{getD-laid}
 use Rattle.tables.specs.Limits.{Limits}
-use Rattle.tables.specs.Tables.{PlanLists, Tables, drones}
 use Rattle.lines.specs.Names.{rowOf}
 use Rattle.text.specs.Reading.{Found, linesAt}
 use Rattle.text.specs.Written.{Route, countsOf, foundOf, ValidFrom, Valid}

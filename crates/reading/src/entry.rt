@@ -115,8 +115,19 @@ pub fn read_plan(
         ⌝ }
 {
     if !sizes::full_size(
-        drone_count, dependency_count, names, stop_counts, locations, times, visited, drone_flags, first_drones, first_stops,
-        second_drones, second_stops, flags,
+        drone_count,
+        dependency_count,
+        names,
+        stop_counts,
+        locations,
+        times,
+        visited,
+        drone_flags,
+        first_drones,
+        first_stops,
+        second_drones,
+        second_stops,
+        flags,
     ) {
         return Reading::Refused(Refusal::TablesTooSmall);
     }
@@ -124,11 +135,32 @@ pub fn read_plan(
         return Reading::Refused(Refusal::TooLong(Text::FULL));
     }
     zeroing::zero_all(
-        drone_count, dependency_count, names, stop_counts, locations, times, visited, drone_flags, first_drones, first_stops,
-        second_drones, second_stops, flags,
+        drone_count,
+        dependency_count,
+        names,
+        stop_counts,
+        locations,
+        times,
+        visited,
+        drone_flags,
+        first_drones,
+        first_stops,
+        second_drones,
+        second_stops,
+        flags,
     );
     read_lines(
-        text, drone_count, dependency_count, names, stop_counts, locations, times, first_drones, first_stops, second_drones, second_stops,
+        text,
+        drone_count,
+        dependency_count,
+        names,
+        stop_counts,
+        locations,
+        times,
+        first_drones,
+        first_stops,
+        second_drones,
+        second_stops,
         flags,
     )
 }

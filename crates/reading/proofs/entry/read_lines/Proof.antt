@@ -1,4 +1,5 @@
-use mathlib.Core.Path.{_≡_, sym, _∙_}
+-- A law for each return; a plan that was taken from the text keeps the limits that storing it asks. Assumes nothing.
+use mathlib.Core.Path.{_∙_}
 use native.Mathlib.Omega.{arith}
 use Rattle.tables.specs.Limits.{limits}
 use Rattle.reading.proofs.LinesCases.{plan-asked, lines-refused, lines-taken, plan-refused}

@@ -1,6 +1,5 @@
 -- The local tables are filled before they are asked; a law for each return. Assumes nothing.
 use mathlib.Core.List.{[]}
-use mathlib.Core.Path.{_≡_, sym, _∙_}
 use native.Mathlib.Omega.{arith}
 use Rattle.tables.specs.Limits.{limits}
 use Rattle.reading.proofs.StoredPlan.{fills, built-within, store-refused, store-many, store-taken}
