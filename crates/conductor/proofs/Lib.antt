@@ -1,10 +1,3 @@
-pub mod Counts
-pub mod Checks
-pub mod Running
-pub mod Good
-pub mod Log
-pub mod Found
-pub mod SoundParts
-pub mod Agree
-pub mod Shown
-pub mod Whole
+pub mod Facts
+pub mod Answers
+pub mod WritingLaws

@@ -1,3 +1,2 @@
-pub mod CallLog
-pub mod Calls
-pub mod Demand
+pub mod Replies
+pub mod Writing

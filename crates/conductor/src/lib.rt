@@ -1,1 +1,3 @@
-// The conductor's calls and the claims about them.
+// The conductor's public calls over lent tables.
+pub mod cores;
+pub mod replies;

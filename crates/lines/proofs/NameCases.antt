@@ -8,7 +8,7 @@ use mathlib.Core.List.{List, [], _∷_}
 use mathlib.Core.Bool.{Bool, true, false, cond}
 use lib.Dec.{eqb}
 use borrow.Author.Tests.{eq-eqb, ne-eqb}
-use lib.ListN.{length, getD, drop, length-drop}
+use lib.ListN.{length, getD, drop, length-drop, drop-of-length-le}
 use lib.Seq.{drop-cons, drop-length}
 use Rattle.tables.specs.Limits.{Limits}
 use Rattle.lines.specs.Bytes.{isAt}
@@ -26,9 +26,9 @@ pub end-on : (text : List ℕ) (i : ℕ) → i < length text → (getD text i 0 
 unfolding lineEnd untilFeed
 end-on text i h e = rw (drop-cons text i 0, ne-eqb (getD text i 0) 10 e, add-one, add-suc, ← suc-add)
 
-pub end-none : (text : List ℕ) (i : ℕ) → i ≡ length text → lineEnd text i ≡ i
+pub end-none : (text : List ℕ) (i : ℕ) → length text ≤ i → lineEnd text i ≡ i
 unfolding lineEnd untilFeed
-end-none text i e = rw (e, drop-length, add-zero)
+end-none text i h = rw (drop-of-length-le text h, add-zero)
 
 -- the bytes of a name from index i on
 pub bytes-bad : (s : List ℕ) (i : ℕ) → i < length s → isNameByte (getD s i 0) ≡ false → nameBytes (drop i s) ≡ false

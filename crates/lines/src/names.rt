@@ -5,13 +5,11 @@ use crate::refusal::Refusal;
 use tables::entries::Drone;
 ghost use mathlib.Core.Path.{_≡_};
 ghost use Prim.Native.Nat.{_≤_};
-ghost use lib.ListN.{length};
 ghost use Rattle.tables.specs.Limits.{limits};
 ghost use Rattle.lines.specs.Names.{lineEnd, isNameByte, nameBytes, goodName, nameAt, among};
 
-// The position of the first line feed at or after a position, or the text's length.
+// The position of the first line feed at or after a position; where there is none, the text's end or the position, whichever is later.
 pub fn line_end(text: &[u8], at: usize) -> usize
-    requires { ⌜ at ≤ length (now text) ⌝ }
     ensures { λ r. ⌜ r ≡ lineEnd (now (text .entry)) at ⌝ }
 {
     let mut i = at;

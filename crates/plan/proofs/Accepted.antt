@@ -11,11 +11,12 @@ use Rattle.below.specs.Below.{at, rank, before as pairBefore}
 use Rattle.below.proofs.Tests.{by-cases, and-left, and-right}
 use Rattle.below.proofs.Pairs.{listed-at, rank-below, rank-find, rank-order}
 use Rattle.tables.specs.Tables.{PlanLists, drones, dependencies}
+use Rattle.precedence.proofs.Flat.{Layout}
 use Rattle.plan.specs.Stops.{start}
 use Rattle.plan.specs.Check.{firstFault, apart}
 use Rattle.plan.specs.Dependencies.{follows, isFixed, flagOf, dependencyTotal, column}
-use Rattle.plan.specs.Field.{Dependency, FieldPlan, before, fixed, GoneBefore, Checked, Meeting, AcceptedPlan, planOf}
-use Rattle.plan.specs.Claims.{Numbered, ownerIn, numberIn, stopTotal, HaveStops, NothingFound, planned, HoldsPlanned, AcceptedClaims}
+use Rattle.plan.specs.Field.{Dependency, FieldPlan, before, graph, fixed, GoneBefore, Checked, Meeting, AcceptedPlan, planOf}
+use Rattle.plan.specs.Claims.{Numbered, pair, ownerIn, numberIn, stopTotal, HaveStops, NoFault, NoCollision, planned, HoldsPlanned, StopsChecked}
 use Rattle.plan.proofs.Numbering.{numbered, goes-on, stays, last-is, order-number}
 use Rattle.plan.proofs.Conditions.{Passes, firstFault-says, says-firstFault, Over, apart-says, says-apart, Follows, follows-says, says-follows}
 use Rattle.plan.proofs.Turns.{gone-before}
@@ -41,10 +42,26 @@ before-second x y a b c = by-rest (x .first) (y .first) _ a (by-rest (x .firstSt
 before-last : (x y : Dependency) → x .first ≡ y .first → x .firstStop ≡ y .firstStop → x .second ≡ y .second → x .secondStop < y .secondStop → before x y ≡ true
 before-last x y a b c d = by-rest (x .first) (y .first) _ a (by-rest (x .firstStop) (y .firstStop) _ b (by-rest (x .second) (y .second) _ c (lt-ltb (x .secondStop) (y .secondStop) d)))
 
+module _ {own num off last : ℕ → ℕ} {drones n : ℕ} (N : Numbered own num off last drones n) where
+  -- the order of the pairs of stops is that of their dependencies
+  pub pair-order : (v w x y : ℕ) → v < n → w < n → x < n → y < n → pairBefore v w x y ≡ true → before (pair own num v w) (pair own num x y) ≡ true
+  unfolding pairBefore
+  pair-order v w x y a b c d e = by-cases (ltb v x) (λ h. first (ltb-true v x h)) (λ h. let t : (eqb v x && ltb w y) ≡ true = rw h at e in second (eqb-true v x (and-left _ _ t)) (ltb-true w y (and-right (eqb v x) _ t)))
+    where
+      first : v < x → before (pair own num v w) (pair own num x y) ≡ true
+      first l = by-cases (eqb (own v) (own x))
+          (λ h. let q : own v ≡ own x = eqb-true _ _ h in before-stop (pair own num v w) (pair own num x y) q (order-number N v x a c q l))
+          (λ h. let q : own v ≢ own x = eqb-false _ _ h in before-drone (pair own num v w) (pair own num x y) (omega (arith, N .grouped v x (omega arith) c)))
+
+      second : v ≡ x → w < y → before (pair own num v w) (pair own num x y) ≡ true
+      second s l = by-cases (eqb (own w) (own y))
+          (λ h. let q : own w ≡ own y = eqb-true _ _ h in before-last (pair own num v w) (pair own num x y) (ap own s) (ap num s) q (order-number N w y b d q l))
+          (λ h. let q : own w ≢ own y = eqb-false _ _ h in before-second (pair own num v w) (pair own num x y) (ap own s) (ap num s) (omega (arith, N .grouped w y (omega arith) d)))
+
 -- ---- a plan whose stops are numbered through
 
 module _ (own num off last loc time : ℕ → ℕ) (drones n count : ℕ) (dependency : ℕ → Dependency) (N : Numbered own num off last drones n) where
-  abbrev plan : FieldPlan
+  abbrev pub plan : FieldPlan
   plan = record { drones = drones; last = last; location = λ d s. loc (off d + s); time = λ d s. time (off d + s); count = count; dependency = dependency }
 
   -- stop v as its drone's
@@ -66,15 +83,11 @@ module _ (own num off last loc time : ℕ → ℕ) (drones n count : ℕ) (depen
       let q : off d + s + 1 ≡ off d + suc s = omega arith in
       record { next = rw q (N .place-in d (suc s) l k); same-drone = rw q (N .place-own d (suc s) l k ∙ sym (N .place-own d s l (omega arith))); leaves = rw q h }
 
-  pub passes-checked : firstFault num loc time n ≡ n → apart own loc time n ≡ true → Checked plan
-  passes-checked e a = record {
+  pub passes-stops : firstFault num loc time n ≡ n → StopsChecked plan
+  passes-stops e = record {
     starts = λ d l. passes (off d + 0) (N .place-in d 0 l (omega arith)) .starts (N .place-number d 0 l (omega arith));
     rises = λ d s l k. rw (back d s) at (later d s l k .0);
-    moves = λ d s l k. λ q. rw (back d s) at (later d s l k .1) (sym q);
-    no-collision = λ d s f k l m x y ne q. elim (apart-says own loc time n a (off d + s) (off f + k) (N .place-in d s l m) (N .place-in f k x y) (λ z. ne (sym (N .place-own d s l m) ∙ z ∙ N .place-own f k x y)) q) [
-      | inl o ↦ let g = over-gone d s _ l m o in inl (record { goes-on = g .0; in-time = g .1 })
-      | inr o ↦ let g = over-gone f k _ x y o in inr (record { goes-on = g .0; in-time = g .1 })
-    ];
+    moves = λ d s l k q. rw (back d s) at (later d s l k .1) (sym q);
   }
     where
       passes : (v : ℕ) → v < n → Passes num loc time v
@@ -88,6 +101,19 @@ module _ (own num off last loc time : ℕ → ℕ) (drones n count : ℕ) (depen
           let ne : num (off d + suc s) ≢ 0 = λ z. omega (arith, N .place-number d (suc s) l k) in
           let h = passes (off d + suc s) (N .place-in d (suc s) l k) in
           (h .rises ne, h .moves ne)
+
+  pub passes-checked : firstFault num loc time n ≡ n → apart own loc time n ≡ true → Checked plan
+  passes-checked e a =
+      let c : StopsChecked plan = passes-stops e in
+      record {
+        starts = c .starts;
+        rises = c .rises;
+        moves = c .moves;
+        no-collision = λ d s f k l m x y ne q. elim (apart-says own loc time n a (off d + s) (off f + k) (N .place-in d s l m) (N .place-in f k x y) (λ z. ne (sym (N .place-own d s l m) ∙ z ∙ N .place-own f k x y)) q) [
+          | inl o ↦ let g = over-gone d s _ l m o in inl (record { goes-on = g .0; in-time = g .1 })
+          | inr o ↦ let g = over-gone f k _ x y o in inr (record { goes-on = g .0; in-time = g .1 })
+        ];
+      }
 
   -- the other way round
   pub checked-passes : Checked plan → firstFault num loc time n ≡ n
@@ -113,11 +139,7 @@ module _ (own num off last loc time : ℕ → ℕ) (drones n count : ℕ) (depen
 
   -- ---- the dependencies
 
-  -- the dependency of the stops v and w
-  abbrev pair : ℕ → ℕ → Dependency
-  pair v w = record { first = own v; firstStop = num v; second = own w; secondStop = num w }
-
-  meeting-if : (v w : ℕ) → v < n → w < n → follows own loc time v w ≡ true → Meeting plan (pair v w)
+  pub meeting-if : (v w : ℕ) → v < n → w < n → follows own loc time v w ≡ true → Meeting plan (pair own num v w)
   meeting-if v w l k e =
       let f : Follows own loc time v w = follows-says own loc time v w e in
       record {
@@ -131,7 +153,7 @@ module _ (own num off last loc time : ℕ → ℕ) (drones n count : ℕ) (depen
       }
 
   -- the first is gone before the second comes, so their times differ
-  meeting-follows : Checked plan → (x : Dependency) → Meeting plan x → follows own loc time (off (x .first) + x .firstStop) (off (x .second) + x .secondStop) ≡ true
+  pub meeting-follows : Checked plan → (x : Dependency) → Meeting plan x → follows own loc time (off (x .first) + x .firstStop) (off (x .second) + x .secondStop) ≡ true
   meeting-follows c x m =
       let g : GoneBefore plan (x .first) (x .firstStop) (x .second) (x .secondStop) = gone-before plan c x m in
       says-follows own loc time _ _ (record {
@@ -140,7 +162,7 @@ module _ (own num off last loc time : ℕ → ℕ) (drones n count : ℕ) (depen
         earlier = omega (arith, c .rises (x .first) (x .firstStop) (m .first-in) (g .goes-on), g .in-time);
       })
 
-  pair-place : (x : Dependency) → Meeting plan x → pair (off (x .first) + x .firstStop) (off (x .second) + x .secondStop) ≡ x
+  pub pair-place : (x : Dependency) → Meeting plan x → pair own num (off (x .first) + x .firstStop) (off (x .second) + x .secondStop) ≡ x
   pair-place x m = λ i. record {
     first = N .place-own (x .first) (x .firstStop) (m .first-in) (m .first-stop-in) i;
     firstStop = N .place-number (x .first) (x .firstStop) (m .first-in) (m .first-stop-in) i;
@@ -148,23 +170,13 @@ module _ (own num off last loc time : ℕ → ℕ) (drones n count : ℕ) (depen
     secondStop = N .place-number (x .second) (x .secondStop) (m .second-in) (m .second-stop-in) i;
   }
 
-  pair-order : (v w x y : ℕ) → v < n → w < n → x < n → y < n → pairBefore v w x y ≡ true → before (pair v w) (pair x y) ≡ true
-  unfolding pairBefore
-  pair-order v w x y a b c d e = by-cases (ltb v x) (λ h. first (ltb-true v x h)) (λ h. let t : (eqb v x && ltb w y) ≡ true = rw h at e in second (eqb-true v x (and-left _ _ t)) (ltb-true w y (and-right (eqb v x) _ t)))
-    where
-      first : v < x → before (pair v w) (pair x y) ≡ true
-      first l = by-cases (eqb (own v) (own x))
-          (λ h. let q : own v ≡ own x = eqb-true _ _ h in before-stop (pair v w) (pair x y) q (order-number N v x a c q l))
-          (λ h. let q : own v ≢ own x = eqb-false _ _ h in before-drone (pair v w) (pair x y) (omega (arith, N .grouped v x (omega arith) c)))
-
-      second : v ≡ x → w < y → before (pair v w) (pair x y) ≡ true
-      second s l = by-cases (eqb (own w) (own y))
-          (λ h. let q : own w ≡ own y = eqb-true _ _ h in before-last (pair v w) (pair x y) (ap own s) (ap num s) q (order-number N w y b d q l))
-          (λ h. let q : own w ≢ own y = eqb-false _ _ h in before-second (pair v w) (pair x y) (ap own s) (ap num s) (omega (arith, N .grouped w y (omega arith) d)))
+  fixed-pair : (v w : ℕ) → w < n → isFixed own num n v w ≡ eqb (num v) 0 || eqb (num w) (last (own w))
+  unfolding isFixed
+  fixed-pair v w l = ap (λ (b : Bool). eqb (num v) 0 || b) (last-is N w l)
 
   -- the table holds, at k, a pair of stops of which the second follows the first
   abbrev Entry : ℕ → Type 0
-  Entry k = (v : ℕ) × (w : ℕ) × (v < n) × (w < n) × (follows own loc time v w ≡ true) × (rank (follows own loc time) n v w ≡ k) × (dependency k ≡ pair v w)
+  Entry k = (v : ℕ) × (w : ℕ) × (v < n) × (w < n) × (follows own loc time v w ≡ true) × (rank (follows own loc time) n v w ≡ k) × (dependency k ≡ pair own num v w)
 
   -- the four columns of the table are the plan's
   module _ (total : count ≡ dependencyTotal own loc time n)
@@ -173,7 +185,7 @@ module _ (own num off last loc time : ℕ → ℕ) (drones n count : ℕ) (depen
       (second-drones : (k : ℕ) → k < count → dependency k .second ≡ at (column own loc time n (λ v w. own w)) k)
       (second-stops : (k : ℕ) → k < count → dependency k .secondStop ≡ at (column own loc time n (λ v w. num w)) k) where
     -- a pair stands at its rank
-    stands : (v w : ℕ) → v < n → w < n → follows own loc time v w ≡ true → (rank (follows own loc time) n v w < count) × (dependency (rank (follows own loc time) n v w) ≡ pair v w)
+    stands : (v w : ℕ) → v < n → w < n → follows own loc time v w ≡ true → (rank (follows own loc time) n v w < count) × (dependency (rank (follows own loc time) n v w) ≡ pair own num v w)
     stands v w a b e =
         let l : rank (follows own loc time) n v w < count = rw total (rank-below (follows own loc time) n v w a b e) in
         let column-at : (f : ℕ → ℕ → ℕ) → at (column own loc time n f) (rank (follows own loc time) n v w) ≡ f v w = λ f. listed-at (follows own loc time) n f v w a b e in (
@@ -189,7 +201,7 @@ module _ (own num off last loc time : ℕ → ℕ) (drones n count : ℕ) (depen
     entry : (k : ℕ) → k < count → Entry k
     entry k l =
         let (v, w, a, b, e, r) = rank-find (follows own loc time) n k (omega arith) in
-        (v, w, a, b, e, r, subst (λ (k : ℕ). dependency k ≡ pair v w) r (stands v w a b e .1))
+        (v, w, a, b, e, r, subst (λ (k : ℕ). dependency k ≡ pair own num v w) r (stands v w a b e .1))
 
     pub accepted-if : Checked plan → AcceptedPlan plan
     accepted-if c = record {
@@ -199,7 +211,7 @@ module _ (own num off last loc time : ℕ → ℕ) (drones n count : ℕ) (depen
       ordered = λ i j l k.
           let (v, w, a, b, e, r, q) = entry i (omega arith) in
           let (x, y, f, g, h, s, t) = entry j k in
-          rw (q, t) (pair-order v w x y a b f g (rank-order (follows own loc time) n v w x y a b f g e h (omega arith)));
+          rw (q, t) (pair-order N v w x y a b f g (rank-order (follows own loc time) n v w x y a b f g e h (omega arith)));
     }
       where
         every : (x : Dependency) → Meeting plan x → (k : ℕ) × (k < count) × (dependency k ≡ x)
@@ -211,28 +223,38 @@ module _ (own num off last loc time : ℕ → ℕ) (drones n count : ℕ) (depen
 
     -- the flag byte of a new dependency has bit 1 where the plan says "fixed"
     pub flag-is : (k : ℕ) → k < count → at (column own loc time n (flagOf own num n)) k ≡ cond (fixed plan k) 2 0
-    unfolding flagOf isFixed
+    unfolding flagOf
     flag-is k l =
         let (v, w, a, b, e, r, q) = entry k l in
         let h : at (column own loc time n (flagOf own num n)) k ≡ flagOf own num n v w = rw r at (listed-at (follows own loc time) n (flagOf own num n) v w a b e) in
-        h ∙ rw (q, last-is N w b) refl
+        h ∙ ap (λ (f : Bool). cond f 2 0) (fixed-pair v w b ∙ ap (λ (x : Dependency). eqb (x .firstStop) 0 || eqb (x .secondStop) (last (x .second))) (sym q))
 
 -- ---- the plan in the tables
 
 module _ (p : PlanLists) (have : HaveStops p) where
-  stops-numbered : Numbered (ownerIn p) (numberIn p) (start (p .stopCounts)) (planOf p .last) (drones p) (stopTotal p)
+  pub stops-numbered : Numbered (ownerIn p) (numberIn p) (start (p .stopCounts)) (planOf p .last) (drones p) (stopTotal p)
   stops-numbered = numbered (drones p) (p .stopCounts) have
 
-  pub taken-exactly : NothingFound p ↔ Checked (planOf p)
+  -- where the stops lie, for tables of a number for each stop
+  pub layout : (turned : ℕ → Bool) → Layout (graph (planOf p) turned) (start (p .stopCounts)) (ownerIn p) (numberIn p) (stopTotal p)
+  layout turned = record {
+    owner-in = stops-numbered .own-in;
+    number-in = stops-numbered .number-in;
+    place-in = stops-numbered .place-in;
+    place-owner = stops-numbered .place-own;
+    place-number = stops-numbered .place-number;
+  }
+
+  pub stops-checked : NoFault p → StopsChecked (planOf p)
+  stops-checked = passes-stops _ _ _ _ _ _ _ _ _ _ stops-numbered
+
+  pub taken-exactly : (NoFault p × NoCollision p) ↔ Checked (planOf p)
   taken-exactly = (λ (e, a). passes-checked _ _ _ _ _ _ _ _ _ _ stops-numbered e a, λ c. (checked-passes _ _ _ _ _ _ _ _ _ _ stops-numbered c, checked-apart _ _ _ _ _ _ _ _ _ _ stops-numbered c))
 
   module _ (holds : HoldsPlanned p) where
-    pub accepted : NothingFound p → AcceptedPlan (planOf p)
-    accepted found = accepted-if _ _ _ _ _ _ _ _ _ _ stops-numbered (holds .total) (holds .first-drones) (holds .first-stops) (holds .second-drones) (holds .second-stops) (taken-exactly .0 found)
+    pub accepted : NoFault p → NoCollision p → AcceptedPlan (planOf p)
+    accepted e a = accepted-if _ _ _ _ _ _ _ _ _ _ stops-numbered (holds .total) (holds .first-drones) (holds .first-stops) (holds .second-drones) (holds .second-stops) (taken-exactly .0 (e, a))
 
     -- the flag byte that is planned for dependency k
     pub right-flag : (k : ℕ) → k < dependencies p → planned p (flagOf (ownerIn p) (numberIn p) (stopTotal p)) k ≡ cond (fixed (planOf p) k) 2 0
     right-flag = flag-is _ _ _ _ _ _ _ _ _ _ stops-numbered (holds .total) (holds .first-drones) (holds .first-stops) (holds .second-drones) (holds .second-stops)
-
-pub accepted-claims : AcceptedClaims
-accepted-claims = record { taken-exactly = taken-exactly; accepted = λ p have found holds. accepted p have holds found; right-flags = right-flag }

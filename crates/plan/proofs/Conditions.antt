@@ -1,16 +1,16 @@
 -- The tests of the plan check and of the dependencies as the conditions that they stand for, in both directions: no other proof opens them. Assumes nothing.
-use mathlib.Core.Path.{_≡_, refl, sym}
+use mathlib.Core.Path.{_≡_, refl, sym, ap, _∙_}
 use mathlib.Core.Logic.{_≢_, _⊎_, inl, inr}
 use mathlib.Core.Bool.{Bool, true, false, cond, not, _&&_, false≢true}
-use Prim.Native.Nat.{ℕ, _+_, _-_, _<_}
+use Prim.Native.Nat.{ℕ, _+_, _-_, _≤_, _<_}
 use native.Mathlib.Omega.{arith}
 use lib.Dec.{ltb, leb, eqb}
 use borrow.Author.Tests.{ltb-true, ltb-false, lt-ltb, leb-false, lt-leb, eqb-true, eqb-false, eq-eqb, ne-eqb, not-true, not-false}
-use Rattle.below.specs.Below.{allBelow}
+use Rattle.below.specs.Below.{allBelow, before}
 use Rattle.below.proofs.Tests.{by-cases, and-left, and-right}
-use Rattle.below.proofs.Search.{firstBelow-first, first-all}
-use Rattle.below.proofs.Every.{allBelow-at, allBelow-all}
-use Rattle.plan.specs.Check.{faultAt, firstFault, over, collide, apart}
+use Rattle.below.proofs.Search.{firstBelow-first, first-all, first-low}
+use Rattle.below.proofs.Every.{allBelow-at, allBelow-all, allBelow-ext, allBelow-search}
+use Rattle.plan.specs.Check.{faultAt, firstFault, over, collide, partner, collider, apart}
 use Rattle.plan.specs.Dependencies.{follows}
 
 -- ---- stop by stop
@@ -108,6 +108,37 @@ module _ (own loc time : ℕ → ℕ) (n : ℕ) where
   pub says-apart : ((v w : ℕ) → v < n → w < n → own v ≢ own w → loc v ≡ loc w → OneOver v w) → apart own loc time n ≡ true
   unfolding apart
   says-apart h = allBelow-all n (λ v. allBelow n (λ w. not (collide own loc time n v w))) (λ v l. allBelow-all n (λ w. not (collide own loc time n v w)) (λ w k. rw (not-collide v w (λ o p. h v w l k (λ q. omega arith) p)) refl))
+
+  -- the search finds a collision exactly when there is one
+  pub apart-search : apart own loc time n ≡ eqb (collider own loc time n) n
+  unfolding apart collider
+  apart-search = allBelow-ext n (λ v. allBelow n (λ w. not (collide own loc time n v w))) (λ v. not (ltb (partner own loc time n v) n)) (λ v l. allBelow-search n (collide own loc time n v) ∙ at-end (partner own loc time n v) (firstBelow-first n (collide own loc time n v) .within)) ∙ allBelow-search n (λ v. ltb (partner own loc time n v) n)
+    where
+      at-end : (r : ℕ) → r ≤ n → eqb r n ≡ not (ltb r n)
+      at-end r l = by-cases (ltb r n) (λ h. rw (h, ne-eqb r n (λ q. omega (arith, ltb-true r n h))) refl) (λ h. rw (h, eq-eqb r n (omega (arith, ltb-false r n h))) refl)
+
+  -- the pair that is found collides, and no colliding pair stands before it
+  pub collider-first : collider own loc time n < n → (partner own loc time n (collider own loc time n) < n) × (collide own loc time n (collider own loc time n) (partner own loc time n (collider own loc time n)) ≡ true)
+  unfolding collider
+  collider-first l =
+      let m : partner own loc time n (collider own loc time n) < n = ltb-true _ _ (firstBelow-first n (λ v. ltb (partner own loc time n v) n) .found l) in
+      (m, firstBelow-first n (collide own loc time n (collider own loc time n)) .found m)
+
+  pub collider-least : (x y : ℕ) → x < n → y < n → collide own loc time n x y ≡ true → ((collider own loc time n ≡ x) × (partner own loc time n (collider own loc time n) ≡ y)) ⊎ (before (collider own loc time n) (partner own loc time n (collider own loc time n)) x y ≡ true)
+  unfolding collider before
+  collider-least x y l k e = by-cases (ltb (collider own loc time n) x)
+      (λ h. inr (rw h refl))
+      (λ h. let same : collider own loc time n ≡ x = omega (arith, low, ltb-false (collider own loc time n) x h) in
+      let s : partner own loc time n (collider own loc time n) ≡ partner own loc time n x = ap (partner own loc time n) same in
+      by-cases (ltb (partner own loc time n (collider own loc time n)) y)
+      (λ g. inr (rw (h, eq-eqb (collider own loc time n) x same, g) refl))
+      (λ g. inl (same, omega (arith, next, ltb-false (partner own loc time n (collider own loc time n)) y g))))
+    where
+      next : partner own loc time n x ≤ y
+      next = first-low (collide own loc time n x) y n e
+
+      low : collider own loc time n ≤ x
+      low = first-low (λ v. ltb (partner own loc time n v) n) x n (lt-ltb (partner own loc time n x) n (omega (arith, next)))
 
 -- ---- dependencies
 

@@ -1,5 +1,11 @@
+pub mod StopsLaws
 pub mod Numbering
 pub mod Turns
 pub mod Conditions
 pub mod Accepted
-pub mod StopsLaws
+pub mod Exact
+pub mod Definition1
+pub mod Claims
+pub mod CheckLaws
+pub mod ColumnsLaws
+pub mod WaitsLaws

@@ -9,7 +9,7 @@ use native.Mathlib.Omega.{arith}
 use lib.Dec.{ltb, eqb}
 use borrow.Author.Tests.{ltb-true, ltb-false, lt-ltb, le-ltb, eqb-true, eqb-false, eq-eqb}
 use Rattle.below.specs.Below.{First, at}
-use Rattle.below.proofs.Tests.{by-cases, true-or-false, and-left, and-right}
+use Rattle.below.proofs.Tests.{by-cases, true-or-false, and-left, and-right, same-test}
 use Rattle.below.proofs.Search.{firstBelow-first, first-is, first-low}
 use Rattle.below.proofs.Sum.{sum-none, sum-suc, sum-more, sum-upto}
 use Rattle.plan.specs.Stops.{start, owner, number}
@@ -165,3 +165,15 @@ module _ {own num off last : ℕ → ℕ} {drones n : ℕ} (N : Numbered own num
 
   pub order-number : (v w : ℕ) → v < n → w < n → own v ≡ own w → v < w → num v < num w
   order-number v w l k e h = let q : off (own v) ≡ off (own w) = rw e refl in omega (arith, N .number-is v l, N .number-is w k)
+
+-- the last stop of a drone is one less than its count
+pub last-number : (drones : ℕ) (counts : List ℕ) → ((d : ℕ) → d < drones → 1 ≤ at counts d) → (v : ℕ) → v < start counts drones → isLast (owner drones counts) (start counts drones) v ≡ eqb (number drones counts v + 1) (at counts (owner drones counts v))
+last-number drones counts some v l = last-is (numbered drones counts some) v l ∙ same-test (eqb k (m - 1)) (eqb (k + 1) m)
+    (λ e. eq-eqb (k + 1) m (omega (arith, number-in drones counts v l, eqb-true k (m - 1) e)))
+    (λ e. eq-eqb k (m - 1) (omega (arith, eqb-true (k + 1) m e)))
+  where
+    k : ℕ
+    k = number drones counts v
+
+    m : ℕ
+    m = at counts (owner drones counts v)

@@ -11,7 +11,7 @@ use Rattle.below.proofs.Tests.{by-cases, true-or-false, or-left, or-right}
 use Rattle.precedence.specs.Graph.{FormedWait, Formed, cyclic, Cycle, Rising}
 use Rattle.precedence.proofs.Visits.{rising-acyclic, acyclic-iff}
 use Rattle.plan.specs.Field.{Dependency, FieldPlan, inForce, waitOf, flip, graph, fixed, GoneBefore, Checked, Meeting, AcceptedPlan}
-use Rattle.plan.specs.Claims.{unturned, TurnRules, Unfixed, PlannedGraph, TurnClaims}
+use Rattle.plan.specs.Claims.{unturned, TurnRules, Unfixed, PlannedGraph}
 
 -- ---- what a turn changes
 
@@ -36,6 +36,7 @@ flip-twice t w v = by-cases (eqb v w) (λ e. rw e (not-not (t v))) (λ e. rw e r
 
 pub turn-rules : (F : FieldPlan) (t : ℕ → Bool) (w : ℕ) → TurnRules F t w
 turn-rules F t w = record {
+  planned-rule = λ e. ap (λ (b : Bool). waitOf (inForce b (F .dependency w))) e;
   turned-rule = λ e. ap (λ (b : Bool). waitOf (inForce b (F .dependency w))) (flip-same t w ∙ ap not e);
   other-rules = λ v n. ap (λ (b : Bool). waitOf (inForce b (F .dependency v))) (flip-other t w v n);
   turned-twice = ap (graph F) (fun-ext (flip-twice t w));
@@ -51,21 +52,21 @@ module _ (F : FieldPlan) (checked : Checked F) where
     | inr g ↦ absurd (omega (arith, checked .rises (x .second) (x .secondStop) (m .second-in) (g .goes-on), g .in-time, m .there-first))
   ]
 
-  -- the second comes from another stop
-  pub second-comes : (x : Dependency) → Meeting F x → 0 < x .secondStop
-  second-comes x m = by-cases (eqb (x .secondStop) 0)
-      (λ e. let z : F .time (x .second) (x .secondStop) ≡ 0 = rw (eqb-true (x .secondStop) 0 e) (checked .starts (x .second) (m .second-in)) in absurd (omega (arith, gone-before x m .in-time)))
-      (λ e. let n : x .secondStop ≢ 0 = eqb-false (x .secondStop) 0 e in omega arith)
-
 -- ---- accepted plans
 
 module _ (F : FieldPlan) (accepted : AcceptedPlan F) where
   open FieldPlan F using (drones, last, location, time, count, dependency)
 
+  -- the second comes from another stop
+  pub second-comes : (x : Dependency) → Meeting F x → 0 < x .secondStop
+  second-comes x m = by-cases (eqb (x .secondStop) 0)
+      (λ e. let z : time (x .second) (x .secondStop) ≡ 0 = rw (eqb-true (x .secondStop) 0 e) (accepted .checked .starts (x .second) (m .second-in)) in absurd (omega (arith, gone-before F (accepted .checked) x m .in-time)))
+      (λ e. let n : x .secondStop ≢ 0 = eqb-false (x .secondStop) 0 e in omega arith)
+
   formed-either : (w : ℕ) → w < count → (b : Bool) → (b ≡ true → fixed F w ≡ false) → (t : ℕ → Bool) → FormedWait (graph F t) (waitOf (inForce b (dependency w)))
   formed-either w l false u t =
       let m : Meeting F (dependency w) = accepted .each w l in
-      record { waiter-in = m .second-in; stop-pos = second-comes F (accepted .checked) (dependency w) m; stop-in = m .second-stop-in; awaited-in = m .first-in; until-in = gone-before F (accepted .checked) (dependency w) m .goes-on }
+      record { waiter-in = m .second-in; stop-pos = second-comes (dependency w) m; stop-in = m .second-stop-in; awaited-in = m .first-in; until-in = gone-before F (accepted .checked) (dependency w) m .goes-on }
   formed-either w l true u t =
       let m : Meeting F (dependency w) = accepted .each w l in
       let f : fixed F w ≡ false = u refl in
@@ -91,6 +92,3 @@ module _ (F : FieldPlan) (accepted : AcceptedPlan F) where
 
   pub planned-graph : PlannedGraph F
   planned-graph = record { formed = graph-formed; no-cycle = planned-no-cycle; acyclic = planned-acyclic }
-
-pub turn-claims : TurnClaims
-turn-claims = record { turn-rules = turn-rules; planned-graph = planned-graph }

@@ -1,15 +1,15 @@
 -- What is claimed of the numbering of the stops, the plan check and the graph of an accepted plan; the proofs are in proofs/. Assumes nothing.
 use mathlib.Core.Path.{_≡_}
-use mathlib.Core.Logic.{_≢_, _↔_}
+use mathlib.Core.Logic.{_≢_, _⊎_, _↔_}
 use mathlib.Core.Bool.{Bool, true, false, cond}
 use Prim.Native.Nat.{ℕ, suc, _+_, _≤_, _<_}
 use Rattle.below.specs.Below.{at}
 use Rattle.tables.specs.Tables.{PlanLists, drones, dependencies}
 use Rattle.precedence.specs.Graph.{Formed, cyclic, Cycle}
 use Rattle.plan.specs.Stops.{start, owner, number}
-use Rattle.plan.specs.Check.{firstFault, apart}
+use Rattle.plan.specs.Check.{firstFault, collide, partner, collider, apart}
 use Rattle.plan.specs.Dependencies.{dependencyTotal, column, flagOf}
-use Rattle.plan.specs.Field.{FieldPlan, flip, graph, fixed, Checked, AcceptedPlan, planOf}
+use Rattle.plan.specs.Field.{Dependency, FieldPlan, before, flip, graph, fixed, Checked, AcceptedPlan, planOf}
 
 -- ---- the stops of all drones, numbered through
 
@@ -21,8 +21,12 @@ pub record Numbered (own num off last : ℕ → ℕ) (drones n : ℕ) : Type 0 w
   pub place-in : (d s : ℕ) → d < drones → s ≤ last d → off d + s < n
   pub place-own : (d s : ℕ) → d < drones → s ≤ last d → own (off d + s) ≡ d
   pub place-number : (d s : ℕ) → d < drones → s ≤ last d → num (off d + s) ≡ s
-  -- "the stops of drone 0 first": owners never fall
+  -- the stops of drone 0 stand first: owners never fall
   pub grouped : (v w : ℕ) → v ≤ w → w < n → own v ≤ own w
+
+-- two stops, each as a drone and its stop
+abbrev pub pair : (own num : ℕ → ℕ) → ℕ → ℕ → Dependency
+pair own num v w = record { first = own v; firstStop = num v; second = own w; secondStop = num w }
 
 -- ---- the plan in the tables
 
@@ -47,9 +51,25 @@ module _ (p : PlanLists) where
   abbrev pub HaveStops : Type 0
   HaveStops = (d : ℕ) → d < drones p → 1 ≤ at (p .stopCounts) d
 
-  -- the plan check finds nothing: no stop is at fault (7, 8, 9), and no two drones collide (10)
-  abbrev pub NothingFound : Type 0
-  NothingFound = (firstFault numberIn locationIn timeIn stopTotal ≡ stopTotal) × (apart ownerIn locationIn timeIn stopTotal ≡ true)
+  -- no stop is at fault: 7, 8 and 9 are not said
+  abbrev pub NoFault : Type 0
+  NoFault = firstFault numberIn locationIn timeIn stopTotal ≡ stopTotal
+
+  -- no two drones collide: 10 is not said
+  abbrev pub NoCollision : Type 0
+  NoCollision = apart ownerIn locationIn timeIn stopTotal ≡ true
+
+  -- the stop that a collision is reported at, or the number of stops
+  abbrev pub colliderIn : ℕ
+  colliderIn = collider ownerIn locationIn timeIn stopTotal
+
+  -- the two stops of a collision that is reported: "10 gives two of each, the pair with the lowest lower-numbered drone, then its stop, then the other drone,
+  -- then its stop"
+  pub record Reported (v w : ℕ) : Type 0 where
+    pub first-in : v < stopTotal
+    pub second-in : w < stopTotal
+    pub collision : collide ownerIn locationIn timeIn stopTotal v w ≡ true
+    pub lowest : (x y : ℕ) → x < stopTotal → y < stopTotal → collide ownerIn locationIn timeIn stopTotal x y ≡ true → ((v ≡ x) × (w ≡ y)) ⊎ (before (pair ownerIn numberIn v w) (pair ownerIn numberIn x y) ≡ true)
 
   -- f of the plan's dependency k, (v, w) being its two stops
   abbrev pub planned : (ℕ → ℕ → ℕ) → ℕ → ℕ
@@ -63,14 +83,92 @@ module _ (p : PlanLists) where
     pub second-drones : (k : ℕ) → k < dependencies p → at (p .secondDrones) k ≡ planned (λ v w. ownerIn w) k
     pub second-stops : (k : ℕ) → k < dependencies p → at (p .secondStops) k ≡ planned (λ v w. numberIn w) k
 
--- the computed check finds nothing exactly when the plan is as document 01 asks; with the plan's own dependencies the tables hold an accepted plan
+-- the computed check finds nothing exactly when the plan is as document 01 asks, and the tables hold an accepted plan exactly when they hold the plan's own
+-- dependencies too
 pub record AcceptedClaims : Type 0 where
-  pub taken-exactly : (p : PlanLists) → HaveStops p → NothingFound p ↔ Checked (planOf p)
-  pub accepted : (p : PlanLists) → HaveStops p → NothingFound p → HoldsPlanned p → AcceptedPlan (planOf p)
+  pub taken-exactly : (p : PlanLists) → HaveStops p → (NoFault p × NoCollision p) ↔ Checked (planOf p)
+  pub accepted-exactly : (p : PlanLists) → HaveStops p → (NoFault p × NoCollision p × HoldsPlanned p) ↔ AcceptedPlan (planOf p)
+  -- a collision is reported exactly when there is one, and it is the lowest
+  pub reported-exactly : (p : PlanLists) → NoCollision p ↔ (colliderIn p ≡ stopTotal p)
+  pub reported : (p : PlanLists) → HaveStops p → colliderIn p < stopTotal p → Reported p (colliderIn p) (partner (ownerIn p) (locationIn p) (timeIn p) (stopTotal p) (colliderIn p))
   -- the flag byte that is planned for a dependency is right
   pub right-flags : (p : PlanLists) → HaveStops p → HoldsPlanned p → (k : ℕ) → k < dependencies p → planned p (flagOf (ownerIn p) (numberIn p) (stopTotal p)) k ≡ cond (fixed (planOf p) k) 2 0
 
--- ---- turning
+-- ---- collisions by timesteps (source document 004, Definition 1 and Assumption 1)
+
+module _ (F : FieldPlan) where
+  open FieldPlan F using (drones, last, location, time)
+
+  -- the plan check stop by stop: what refusals 7, 8 and 9 ask
+  pub record StopsChecked : Type 0 where
+    pub starts : (d : ℕ) → d < drones → time d 0 ≡ 0
+    pub rises : (d s : ℕ) → d < drones → s < last d → time d s < time d (suc s)
+    pub moves : (d s : ℕ) → d < drones → s < last d → location d s ≢ location d (suc s)
+
+  -- at timestep t drone d is at location l: it has moved there by its stop's time and moves on later, if at all. (004: a tuple "indicates that agent i is
+  -- planned to perform a move action into the location .. at timestep" its time; "a wait action is implicitly defined between two consecutive tuples")
+  pub record IsAt (d l t : ℕ) : Type 0 where
+    pub stop : ℕ
+    pub stop-in : stop ≤ last d
+    pub here : location d stop ≡ l
+    pub since : time d stop ≤ t
+    pub until : stop < last d → t < time d (suc stop)
+
+  -- at timestep t drone d moves away from location l
+  pub record Leaves (d l t : ℕ) : Type 0 where
+    pub stop : ℕ
+    pub goes-on : stop < last d
+    pub here : location d stop ≡ l
+    pub then : time d (suc stop) ≡ t
+
+  -- at timestep t drone d moves into location l
+  pub record Enters (d l t : ℕ) : Type 0 where
+    pub stop : ℕ
+    pub goes-on : stop < last d
+    pub here : location d (suc stop) ≡ l
+    pub then : time d (suc stop) ≡ t
+
+  -- 004, Definition 1: "We say two agents i, j collide if either of the following happens: 1. i and j are at the same location at the same timestep.
+  -- 2. i leaves a location l at a timestep t and j enters the same location l at the timestep t."
+  abbrev pub Collides : ℕ → ℕ → Type 0
+  Collides i j = (l : ℕ) × (t : ℕ) × ((IsAt i l t × IsAt j l t) ⊎ (Leaves i l t × Enters j l t))
+
+  -- "A drone occupies a stop's location from its time to the time of its next stop, both included. It occupies its last location for ever."
+  pub record Occupies (d l t : ℕ) : Type 0 where
+    pub stop : ℕ
+    pub stop-in : stop ≤ last d
+    pub here : location d stop ≡ l
+    pub since : time d stop ≤ t
+    pub until : stop < last d → t ≤ time d (suc stop)
+
+  -- "two such spans at one location share a timestep"
+  abbrev pub SpansShare : ℕ → ℕ → Type 0
+  SpansShare i j = (l : ℕ) × (t : ℕ) × Occupies i l t × Occupies j l t
+
+  -- in one timestep two drones move each to the location of the other
+  pub record Swaps (i j : ℕ) : Type 0 where
+    pub stop-of-i : ℕ
+    pub stop-of-j : ℕ
+    pub i-goes-on : stop-of-i < last i
+    pub j-goes-on : stop-of-j < last j
+    pub i-to-j : location i (suc stop-of-i) ≡ location j stop-of-j
+    pub j-to-i : location j (suc stop-of-j) ≡ location i stop-of-i
+    pub together : time i (suc stop-of-i) ≡ time j (suc stop-of-j)
+
+  -- no two different drones do so, in either order
+  abbrev pub Never : (ℕ → ℕ → Type 0) → Type 0
+  Never C = (i j : ℕ) → i < drones → j < drones → i ≢ j → C i j → ⊥
+
+-- of a plan whose single stops pass, the test of collisions says exactly what 004 says, and what document 01 says of spans. "This covers equal place and time, and
+-- leaving a location in the timestep in which another enters it. A swap is covered too."
+pub record Definition1 : Type 0 where
+  pub collisions : (p : PlanLists) → HaveStops p → NoFault p → NoCollision p ↔ Never (planOf p) (Collides (planOf p))
+  pub spans : (p : PlanLists) → HaveStops p → NoFault p → NoCollision p ↔ Never (planOf p) (SpansShare (planOf p))
+  -- in each timestep a drone is at one location
+  pub one-location : (F : FieldPlan) → StopsChecked F → (d t : ℕ) → d < F .drones → (l : ℕ) × IsAt F d l t × ((m : ℕ) → IsAt F d m t → l ≡ m)
+  pub swap-covered : (F : FieldPlan) (i j : ℕ) → Swaps F i j → Collides F i j
+
+-- ---- the graph
 
 -- "nothing is turned"
 abbrev pub unturned : ℕ → Bool
@@ -79,14 +177,20 @@ unturned w = false
 module _ (F : FieldPlan) where
   open FieldPlan F using (count, dependency)
 
-  -- what a turn of dependency w does to the rules
+  -- the rule of dependency w, and what a turn of it does to the rules
   pub record TurnRules (turned : ℕ → Bool) (w : ℕ) : Type 0 where
+    -- "If drone j is there first at its stop s and drone i later at its stop k, then i may enter stop k only after j has visited stop s+1"
+    pub planned-rule : turned w ≡ false → graph F turned .wait w ≡ record { waiter = dependency w .second; stop = dependency w .secondStop; awaited = dependency w .first; until = suc (dependency w .firstStop) }
     -- "Turning the dependency makes the rule: j may enter s only after i has visited k+1"
     pub turned-rule : turned w ≡ false → graph F (flip turned w) .wait w ≡ record { waiter = dependency w .first; stop = dependency w .firstStop; awaited = dependency w .second; until = suc (dependency w .secondStop) }
     -- every other dependency keeps its rule
     pub other-rules : (v : ℕ) → v ≢ w → graph F (flip turned w) .wait v ≡ graph F turned .wait v
     -- "Turning twice gives the first rule again"
     pub turned-twice : graph F (flip (flip turned w) w) ≡ graph F turned
+
+  -- a dependency of the stop s of drone d and the stop k of drone e, whichever is there first
+  abbrev pub Between : ℕ → ℕ → ℕ → ℕ → Dependency → Type 0
+  Between d s e k x = (x ≡ record { first = d; firstStop = s; second = e; secondStop = k }) ⊎ (x ≡ record { first = e; firstStop = k; second = d; secondStop = s })
 
   -- "none of the fixed ones turned"
   abbrev pub Unfixed : (ℕ → Bool) → Type 0
@@ -98,7 +202,15 @@ module _ (F : FieldPlan) where
     pub no-cycle : Cycle (graph F unturned) → ⊥
     pub acyclic : cyclic (graph F unturned) ≡ false
 
--- both hold of every plan that is accepted
-pub record TurnClaims : Type 0 where
+  -- "Two visits of one location by different drones make exactly one dependency"
+  pub record OneDependency (d s e k : ℕ) : Type 0 where
+    pub index : ℕ
+    pub index-in : index < count
+    pub is-theirs : Between d s e k (dependency index)
+    pub no-other : (w : ℕ) → w < count → Between d s e k (dependency w) → w ≡ index
+
+-- the dependencies of an accepted plan, what a turn does, and the graph as planned
+pub record GraphClaims : Type 0 where
+  pub one-dependency : (F : FieldPlan) → AcceptedPlan F → (d s e k : ℕ) → d < F .drones → s ≤ F .last d → e < F .drones → k ≤ F .last e → d ≢ e → F .location d s ≡ F .location e k → OneDependency F d s e k
   pub turn-rules : (F : FieldPlan) (turned : ℕ → Bool) (w : ℕ) → TurnRules F turned w
   pub planned-graph : (F : FieldPlan) → AcceptedPlan F → PlannedGraph F

@@ -1,7 +1,10 @@
 pub mod Stops
-pub mod Room
 pub mod Check
+pub mod Answers
 pub mod Dependencies
+pub mod Columns
+pub mod Room
 pub mod Field
 pub mod Status
+pub mod Waits
 pub mod Claims

@@ -1,2 +1,5 @@
 // The plan check and the dependencies of a plan.
+pub mod check;
+pub mod dependencies;
 pub mod stops;
+pub mod waits;

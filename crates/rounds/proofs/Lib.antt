@@ -1,2 +1,10 @@
 pub mod Extra
-pub mod Playing
+pub mod PlayingLoop
+pub mod OneRound
+pub mod Bounds
+pub mod Readiness
+pub mod SamePlans
+pub mod Agree
+pub mod Passes
+pub mod Awaited
+pub mod ChainRounds

@@ -1,2 +1,2 @@
-pub mod FlatPlan
 pub mod Remaining
+pub mod StopTable

@@ -4,34 +4,54 @@
 use mathlib.Core.Path.{_≡_}
 use mathlib.Core.Bool.{Bool, false, _&&_}
 use mathlib.Core.List.{List}
-use Prim.Native.Nat.{ℕ, suc, _-_, _≤_, _<_, max}
-use lib.Dec.{ltb, leb, eqb}
+use Prim.Native.Nat.{ℕ, suc, _-_, _≤_, _<_}
+use lib.Dec.{ltb, eqb}
 use lib.ListN.{length}
 use Rattle.below.specs.Below.{pick, anyBelow, maxBelow, listBelow, at}
 use Rattle.tables.specs.Limits.{Limits}
 use Rattle.precedence.specs.Graph.{Plan, Kept, reached, remaining, cyclic}
-use Rattle.rounds.specs.FlatPlan.{flatPlan, Laid}
+use Rattle.cycles.specs.Flat.{flatPlan, FlatTables}
 
 -- "rounds are played until every drone stands at its last stop": as many as the drone has left that finishes last
 unfoldable pub roundsLeft : Plan → (ℕ → ℕ) → ℕ
 roundsLeft P p = maxBelow (P .drones) (remaining P p)
 
--- "each stop's round in a local table": entry v is the round in which stop v is visited, 0 if it is visited at first; the entries past the n stops are 0
+-- the round in which stop v is visited, 0 if it is visited at first
+unfoldable pub stopRound : (own off last : ℕ → ℕ) (drones : ℕ) (from into : ℕ → ℕ) (m : ℕ) → (ℕ → ℕ) → ℕ → ℕ
+stopRound own off last drones from into m p v = reached (flatPlan own off last drones from into m) p (own v) (v - off (own v))
+
+-- "each stop's round in a local table": entry v is the round of stop v; the entries past the n stops are 0
 unfoldable pub stopRounds : (L : Limits) (own off last : ℕ → ℕ) (drones n : ℕ) (from into : ℕ → ℕ) (m : ℕ) → (ℕ → ℕ) → List ℕ
-stopRounds L own off last drones n from into m p = listBelow (L .stops) (λ v. pick (ltb v n) (reached (flatPlan own off last drones from into m) p (own v) (v - off (own v))) 0)
+stopRounds L own off last drones n from into m p = listBelow (L .stops) (λ v. pick (ltb v n) (stopRound own off last drones from into m p v) 0)
+
+-- P and Q have the same drones, last stops and waits
+pub record SamePlan (P Q : Plan) : Type 0 where
+  pub drones-same : Q .drones ≡ P .drones
+  pub last-same : (d : ℕ) → d < P .drones → Q .last d ≡ P .last d
+  pub count-same : Q .count ≡ P .count
+  pub wait-same : (w : ℕ) → w < P .count → Q .wait w ≡ P .wait w
 
 -- what remaining rounds are counted from: tables of sound size whose waits name stops, a graph without a cycle, nobody past a last stop, and "for every
 -- dependency whose waiting stop is visited .., the stop it waits for is visited"
-pub record Ready (L : Limits) (owners starts lasts : List ℕ) (drones n : ℕ) (from into : List ℕ) (m : ℕ) (visited : List ℕ) : Type 0 where
-  pub laid : Laid (at owners) (at starts) (at lasts) drones n (at from) (at into) m
-  pub has-owners : n ≤ length owners
+pub record Ready (owners starts lasts : List ℕ) (drones n : ℕ) (from into : List ℕ) (m : ℕ) (visited : List ℕ) : Type 0 where
+  pub tables : FlatTables owners starts lasts drones n from into m
   pub has-visited : drones ≤ length visited
-  pub few-stops : n ≤ L .stops
-  pub few-waits : m ≤ L .dependencies
-  pub few-drones : drones ≤ L .drones
   pub acyclic : cyclic (flatPlan (at owners) (at starts) (at lasts) drones (at from) (at into) m) ≡ false
   pub kept : Kept (flatPlan (at owners) (at starts) (at lasts) drones (at from) (at into) m) (at visited)
   pub within : (d : ℕ) → d < drones → at visited d ≤ at lasts d
+
+-- stop v has an owner, which is a drone of the tables, and is no earlier than that drone's first stop
+pub record StopIn (L : Limits) (owners : List ℕ) (off : ℕ → ℕ) (v : ℕ) : Type 0 where
+  pub stop-in : v < L .stops
+  pub owned : v < length owners
+  pub owner-in : at owners v < L .drones
+  pub past : off (at owners v) ≤ v
+
+-- both stops of each wait are such stops
+pub record WaitsIn (L : Limits) (owners : List ℕ) (off from into : ℕ → ℕ) (m : ℕ) : Type 0 where
+  pub few : m ≤ L .dependencies
+  pub from-in : (k : ℕ) → k < m → StopIn L owners off (from k)
+  pub into-in : (k : ℕ) → k < m → StopIn L owners off (into k)
 
 -- ---- one round
 
@@ -47,14 +67,3 @@ module _ (own off from into : ℕ → ℕ) (p : ℕ → ℕ) where
 -- a drone's place after a round, from its mark, its place before it and its last stop
 unfoldable pub placeAfter : ℕ → ℕ → ℕ → ℕ
 placeAfter mark place last = pick (eqb mark 0 && ltb place last) (suc place) place
-
--- ---- the table of rounds
-
--- the greatest entry of t among the stops that the first m waits into stop v await
-unfoldable pub latestAwaited : (from into : ℕ → ℕ) (t : ℕ → ℕ) → ℕ → ℕ → ℕ
-latestAwaited from into t m v = maxBelow m (λ k. pick (eqb (into k) v) (t (from k)) 0)
-
--- the entry of stop v by those of what it awaits: 0 if it is visited, or else 1 more than the greater of `before`, the entry of the drone's own stop before
--- it, and `awaited`, the greatest among the waits
-unfoldable pub roundAfter : (number place before awaited : ℕ) → ℕ
-roundAfter number place before awaited = pick (leb number place) 0 (suc (max before awaited))

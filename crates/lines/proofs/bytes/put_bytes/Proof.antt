@@ -1,9 +1,9 @@
 -- The bytes that are left, written from here on, give what all of them give from the start.
 use native.Mathlib.Nat.{add-zero}
 use borrow.Author.Needs.{needs}
-use Prim.Native.Nat.{ℕ, _+_, _-_, _≤_, _<_}
+use Prim.Native.Nat.{_+_, _-_, _≤_}
 use native.Mathlib.Omega.{arith}
-use mathlib.Core.Path.{_≡_, refl, sym, _∙_, ap}
+use mathlib.Core.Path.{_≡_, refl, sym, _∙_}
 use lib.ListN.{length, drop}
 use lib.Seq.{sets}
 use Rattle.lines.proofs.bytes.put_bytes.Statement.{statement}

@@ -1,8 +1,7 @@
 -- The bytes of the key that are left stand at the next position exactly when the whole key stands at the first.
-use borrow.Author.Needs.{needs}
 use native.Mathlib.Omega.{arith}
-use Prim.Native.Nat.{ℕ, _+_, _-_, _≤_, _<_}
-use mathlib.Core.Path.{_≡_, refl, sym, _∙_, ap}
+use Prim.Native.Nat.{_-_, _≤_, _<_}
+use mathlib.Core.Path.{_≡_, refl, sym, _∙_}
 use lib.ListN.{length, drop}
 use Rattle.lines.proofs.bytes.starts.Statement.{statement}
 use Rattle.lines.proofs.bytes.starts.Tie as tie
@@ -24,7 +23,8 @@ shared-slice-read-byte c = omega arith
 returns : tie.Need-returns Inv-loop μ-loop
 returns c =
     let l = c .before .before .before .loop in
-    sym (l .inv .1 ∙ key-none _ _ _ _ (c .before .shared-slice-known .given (l .i) .fits) (c .before .before .loop-test .taken) (c .if1 .taken))
+    let h : l .i < length (c .before .before .before .before .args .key .now) = omega arith in
+    sym (l .inv .1 ∙ key-none _ _ _ _ (c .before .shared-slice-known .given (l .i) .fits) h (c .if1 .taken))
 
 shared-slice-read-if2 : tie.Need-shared-slice-read-if2 Inv-loop μ-loop
 shared-slice-read-if2 c = omega arith
@@ -32,7 +32,8 @@ shared-slice-read-if2 c = omega arith
 returns-2 : tie.Need-returns-2 Inv-loop μ-loop
 returns-2 c =
     let l = c .before .before .before .before .before .loop in
-    sym (l .inv .1 ∙ key-other _ _ _ _ (c .before .before .before .before .loop-test .taken) (c .before .before .if1 .left) (c .if2 .taken))
+    let h : l .i < length (c .before .before .before .before .before .before .args .key .now) = omega arith in
+    sym (l .inv .1 ∙ key-other _ _ _ _ h (c .before .before .if1 .left) (c .if2 .taken))
 
 add-next : tie.Need-add-next Inv-loop μ-loop
 add-next c = omega arith
@@ -46,7 +47,8 @@ loop-less c = omega arith
 loop-again : tie.Need-loop-again Inv-loop μ-loop
 loop-again c =
     let l = c .before .before .before .before .before .loop in
-    (omega arith, l .inv .1 ∙ key-same _ _ _ _ (c .before .before .before .before .loop-test .taken) (c .before .before .if1 .left) (c .if2 .left))
+    let h : l .i < length (c .before .before .before .before .before .before .args .key .now) = omega arith in
+    (omega arith, l .inv .1 ∙ key-same _ _ _ _ h (c .before .before .if1 .left) (c .if2 .left))
 
 returns-3 : tie.Need-returns-3 Inv-loop μ-loop
 returns-3 c =

@@ -1,5 +1,4 @@
 -- The comparisons of the definition, in its order.
-use mathlib.Core.Path.{_≡_, refl, sym, _∙_}
 use borrow.Author.Tests.{le-leb, lt-leb}
 use Rattle.lines.proofs.names.is_name_byte.Statement.{statement}
 use Rattle.lines.proofs.names.is_name_byte.Tie as tie

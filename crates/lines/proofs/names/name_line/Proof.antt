@@ -1,6 +1,6 @@
 -- One law for each return: the key, the line feed, the name.
 use native.Mathlib.Omega.{arith}
-use mathlib.Core.Path.{_≡_, refl, sym, _∙_, ap}
+use mathlib.Core.Path.{_≡_, refl, sym, _∙_}
 use mathlib.Core.Bool.{true}
 use borrow.Author.Tests.{not-true, not-false}
 use denote.Ref.{now}
@@ -40,7 +40,7 @@ add-start : tie.Need-add-start
 add-start c = let h = within c in omega arith
 
 line-end-requires : tie.Need-line-end-requires
-line-end-requires c κs = within c
+line-end-requires c κs = search needs
 
 returns-2 : tie.Need-returns-2
 returns-2 c = sym (name-open _ _ _ _ (keyed (c .before .before)) (c .before .line-end .ensures) (c .if2 .taken))

@@ -1,5 +1,4 @@
 -- By the number of digits left: the digits of the number without its last, and then the last.
-use borrow.Author.Needs.{needs}
 use native.Mathlib.Omega.{arith}
 use mathlib.Core.Path.{_∙_}
 use Rattle.lines.proofs.WriteLaws.{put-put, put-none}

@@ -1,6 +1,6 @@
 -- The cases of the number that was read, and of the byte after it.
 use native.Mathlib.Omega.{arith}
-use mathlib.Core.Path.{_≡_, refl, sym, _∙_, ap}
+use mathlib.Core.Path.{sym, _∙_}
 use borrow.Author.Needs.{needs}
 use Rattle.lines.proofs.numbers.field.Statement.{statement}
 use Rattle.lines.proofs.numbers.field.Tie as tie

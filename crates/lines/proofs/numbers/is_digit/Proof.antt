@@ -1,6 +1,5 @@
 -- The two comparisons of the definition.
 use borrow.Author.Tests.{le-leb, lt-leb}
-use mathlib.Core.Path.{_≡_, refl, sym, _∙_, ap}
 use Rattle.lines.proofs.numbers.is_digit.Statement.{statement}
 use Rattle.lines.proofs.numbers.is_digit.Tie as tie
 use Rattle.lines.specs.Numbers.{isDigit}

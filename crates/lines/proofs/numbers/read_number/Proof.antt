@@ -1,19 +1,15 @@
 -- The digits that are left, read from here on, give the number that the whole gives; seven digits stay below ten million.
 use borrow.Author.Needs.{needs}
-use Prim.Native.Nat.{ℕ, _+_, _-_, _*_, _^_, _≤_, _<_}
+use Prim.Native.Nat.{_+_, _*_, _^_, _≤_}
 use native.Mathlib.Omega.{arith}
-use mathlib.Core.Path.{_≡_, refl, sym, _∙_, ap}
-use mathlib.Core.Bool.{true, false}
-use borrow.Author.Tests.{eq-eqb, ne-eqb, not-true, not-false}
-use denote.Ref.{now}
-use lib.ListN.{length}
+use mathlib.Core.Path.{_≡_, sym, _∙_, ap}
+use mathlib.Core.Bool.{true}
+use borrow.Author.Tests.{not-true, not-false}
 use Rattle.lines.proofs.numbers.read_number.Statement.{statement}
 use Rattle.lines.proofs.numbers.read_number.Tie as tie
 use Rattle.lines.proofs.bytes.byte_at.Reads as byte-at-reads
 use Rattle.lines.proofs.numbers.is_digit.Reads as is-digit-reads
-use Rattle.lines.specs.declared.numbers.Number.the-variants.{Value, Malformed}
 use Rattle.lines.proofs.NumberCases.{bound-more, bound-now, digit-in, digit-range, from-done, from-more, from-stop, number-more, number-none, number-zero}
-use Rattle.lines.specs.Bytes.{byteAt}
 use Rattle.lines.specs.Numbers.{digitsFrom, isDigit, numberAt}
 
 abbrev Inv-loop : tie.InvT-loop

@@ -1,16 +1,15 @@
 -- One law for each return: the key, the form of both numbers, their ranges.
 use denote.Ref.{now}
 use mathlib.Core.Bool.{true}
-use mathlib.Core.List.{[], _∷_}
 use native.Mathlib.Omega.{arith}
-use mathlib.Core.Path.{_≡_, refl, sym, _∙_, ap}
+use mathlib.Core.Path.{_≡_, refl, sym, _∙_}
 use borrow.Author.Tests.{not-true, not-false}
 use borrow.Author.Needs.{needs}
 use Rattle.lines.proofs.stops.go_line.Statement.{statement}
 use Rattle.lines.proofs.stops.go_line.Tie as tie
 use Rattle.lines.proofs.bytes.starts.Reads as starts-reads
 use Rattle.lines.proofs.numbers.field.Reads as field-reads
-use Rattle.lines.proofs.ByteLaws.{byteAt-in, isAt-in}
+use Rattle.lines.proofs.ByteLaws.{isAt-in}
 use Rattle.lines.proofs.StopCases.{go-far, go-first, go-in, go-late, go-none, go-second}
 use Rattle.lines.specs.Bytes.{isAt}
 use Rattle.lines.specs.Keys.{goKey}

@@ -1,17 +1,17 @@
 -- The stops that are left, stored from here on, give what all of them give from the start.
 use borrow.Author.Needs.{needs}
-use Prim.Native.Nat.{ℕ, _+_, _-_, _≤_, _<_}
+use Prim.Native.Nat.{_+_, _-_, _≤_}
 use native.Mathlib.Omega.{arith}
 use Rattle.tables.specs.Limits.{limits}
-use mathlib.Core.Path.{_≡_, refl, sym, _∙_, ap}
+use mathlib.Core.Path.{_≡_, refl, sym, _∙_}
 use native.Mathlib.Nat.{sub-zero}
 use denote.Ref.{now}
 use lib.ListN.{length, length-set}
 use Rattle.lines.proofs.stops.go_lines.Statement.{statement}
 use Rattle.lines.proofs.stops.go_lines.Tie as tie
 use Rattle.lines.proofs.stops.go_line.Reads as go-line-reads
-use Rattle.lines.proofs.StopCases.{Going, go-read, going-on, going-start, stops-bad, stops-more, stops-none}
-use Rattle.lines.specs.Stops.{StopsRead, stopsAt}
+use Rattle.lines.proofs.StopCases.{Going, go-read, going-on, going-start, stops-bad, stops-none}
+use Rattle.lines.specs.Stops.{stopsAt}
 
 abbrev Inv-loop : tie.InvT-loop
 Inv-loop text at count from locations₀ times₀ i₀ here₀ locations times i here = (i ≤ count) × (length locations ≡ length locations₀) × (length times ≡ length times₀) × Going (stopsAt limits (count - i) text here) (stopsAt limits count text at) (from + i) from locations times locations₀ times₀

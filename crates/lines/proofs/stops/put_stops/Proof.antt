@@ -1,17 +1,16 @@
 -- The lines that are left, written from here on, give what all of them give from the start.
-use borrow.Author.Needs.{needs}
-use Prim.Native.Nat.{ℕ, _+_, _*_, _-_, _≤_, _<_}
+use Prim.Native.Nat.{_+_, _*_, _-_, _≤_}
 use native.Mathlib.Omega.{arith}
-use mathlib.Core.Path.{_≡_, refl, sym, _∙_, ap}
+use mathlib.Core.Path.{_≡_, refl, _∙_}
 use denote.Ref.{now}
 use lib.ListN.{length, take, drop, getD}
 use native.Mathlib.Nat.{add-zero, sub-zero}
 use Rattle.lines.proofs.stops.put_stops.Statement.{statement}
 use Rattle.lines.proofs.stops.put_stops.Tie as tie
 use Rattle.lines.proofs.stops.put_stop.Reads as put-stop-reads
-use Rattle.lines.proofs.StopCases.{lines-done, lines-step, part-cons, stop-short}
+use Rattle.lines.proofs.StopCases.{lines-done, lines-step, stop-short}
 use Rattle.lines.proofs.WriteLaws.{Rest, rest-end, rest-start, rest-step}
-use Rattle.lines.specs.Stops.{stopLine, stopLines}
+use Rattle.lines.specs.Stops.{stopLines}
 
 abbrev Inv-loop : tie.InvT-loop
 Inv-loop buf₀ at count from locations times i₀ next₀ buf i next = (i ≤ count) × (next ≤ at + 19 * i) × (length buf ≡ length buf₀) × Rest buf next (stopLines (take (count - i) (drop (from + i) locations)) (take (count - i) (drop (from + i) times))) buf₀ at (stopLines (take count (drop from locations)) (take count (drop from times)))

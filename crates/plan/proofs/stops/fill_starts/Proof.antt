@@ -6,7 +6,9 @@ use native.Mathlib.Omega.{arith}
 use Rattle.below.specs.Below.{fillBelow}
 use Rattle.below.proofs.Fill.{fill-store, fill-length, fill-end}
 use Rattle.plan.specs.Stops.{start}
-use Rattle.plan.proofs.StopsLaws.{start-none, start-turn, start-next}
+use Rattle.plan.proofs.StopsLaws.{start-turn, start-next}
+use Rattle.plan.proofs.Numbering.{start-none}
+use mathlib.Core.Path.{sym}
 use Rattle.plan.proofs.stops.fill_starts.Statement.{statement}
 use Rattle.plan.proofs.stops.fill_starts.Tie as tie
 use Rattle.plan.proofs.stops.fill_starts.Reads as reads
@@ -21,7 +23,7 @@ abbrev μ-loop : tie.MeasureT-loop
 -- src/stops.rt:28:5
 loop-holds : tie.Need-loop-holds Inv-loop μ-loop
 unfolding fillBelow
-loop-holds c = (search needs, start-none _, refl)
+loop-holds c = (search needs, sym (start-none _), refl)
 
 -- src/stops.rt:29:9
 mul-starts : tie.Need-mul-starts Inv-loop μ-loop
@@ -41,7 +43,7 @@ shared-slice-read-next c = search needs
 
 -- src/stops.rt:30:9
 add-next : tie.Need-add-next Inv-loop μ-loop
-add-next c = omega (arith, start-next (c .before .before .before .args .counts .now) (c .before .before .loop .d) (c .before .before .before .args .drones) (c .before .before .loop .next) (c .before .before .loop .inv .1) (c .before .loop-test .taken))
+add-next c = omega (arith, start-next (c .before .before .before .args .counts .now) (c .before .before .loop .d) (c .before .before .loop .next) (c .before .before .loop .inv .1) (c .before .before .before .args .drones) (c .before .loop-test .taken))
 
 -- src/stops.rt:31:9
 add-d : tie.Need-add-d Inv-loop μ-loop

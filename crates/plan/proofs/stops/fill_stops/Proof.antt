@@ -6,7 +6,9 @@ use native.Mathlib.Omega.{arith}
 use Rattle.below.specs.Below.{fillBelow}
 use Rattle.below.proofs.Fill.{fill-store, fill-length, fill-end}
 use Rattle.plan.specs.Stops.{start, owner, number}
-use Rattle.plan.proofs.StopsLaws.{start-none, start-turn, start-below, owner-is, number-is}
+use Rattle.plan.proofs.StopsLaws.{start-turn, start-below, cursor-owner, cursor-number}
+use Rattle.plan.proofs.Numbering.{start-none}
+use mathlib.Core.Path.{sym}
 use Rattle.plan.proofs.stops.fill_stops.Statement.{statement}
 use Rattle.plan.proofs.stops.fill_stops.Tie as tie
 use Rattle.plan.proofs.stops.fill_stops.Reads as reads
@@ -20,12 +22,12 @@ abbrev μ-loop : tie.MeasureT-loop
 
 -- the loop goes on, so the drone is one of the drones
 in-drones : (c : tie.In-loop Inv-loop μ-loop) → c .before .loop .d < c .before .before .args .drones
-in-drones c = start-below (c .before .before .args .counts .now) _ _ _ (c .before .loop .v) (c .before .loop .inv .1) (c .before .loop .inv .2) (omega (arith, c .before .before .pre .owned, c .loop-test .taken))
+in-drones c = start-below (c .before .before .args .counts .now) _ _ (c .before .loop .inv .1) _ (c .before .loop .v) (c .before .loop .inv .2) (omega (arith, c .before .before .pre .owned, c .loop-test .taken))
 
 -- src/stops.rt:50:5
 loop-holds : tie.Need-loop-holds Inv-loop μ-loop
 unfolding fillBelow
-loop-holds c = (search needs, start-none _, search needs, refl, refl)
+loop-holds c = (search needs, sym (start-none _), search needs, refl, refl)
 
 -- src/stops.rt:51:28
 mul-next : tie.Need-mul-next Inv-loop μ-loop
@@ -93,8 +95,8 @@ loop-again-2 c = (
   omega arith,
   c .before .before .before .loop .inv .1,
   omega arith,
-  fill-store _ _ _ _ (c .before .before .before .loop .inv .3) _ (owner-is _ _ _ _ _ (c .before .before .before .loop .inv .1) (in-drones (c .before .before)) (c .before .before .before .loop .inv .2) (c .if1 .left)),
-  fill-store _ _ _ _ (c .before .before .before .loop .inv .4) _ (number-is _ _ _ _ _ (c .before .before .before .loop .inv .1) (in-drones (c .before .before)) (c .before .before .before .loop .inv .2) (c .if1 .left)),
+  fill-store _ _ _ _ (c .before .before .before .loop .inv .3) _ (cursor-owner _ _ _ (c .before .before .before .loop .inv .1) _ _ (in-drones (c .before .before)) (c .before .before .before .loop .inv .2) (c .if1 .left)),
+  fill-store _ _ _ _ (c .before .before .before .loop .inv .4) _ (cursor-number _ _ _ (c .before .before .before .loop .inv .1) _ _ (in-drones (c .before .before)) (c .before .before .before .loop .inv .2) (c .if1 .left)),
 )
 
 -- src/stops.rt:36:1

@@ -4,7 +4,9 @@ use Prim.Native.Nat.{_*_, _-_, _≤_}
 use mathlib.Core.Path.{_≡_}
 use native.Mathlib.Omega.{arith}
 use Rattle.plan.specs.Stops.{start}
-use Rattle.plan.proofs.StopsLaws.{start-none, start-turn, start-end}
+use Rattle.plan.proofs.StopsLaws.{start-turn, start-end}
+use Rattle.plan.proofs.Numbering.{start-none}
+use mathlib.Core.Path.{sym}
 use Rattle.plan.proofs.stops.stop_total.Statement.{statement}
 use Rattle.plan.proofs.stops.stop_total.Tie as tie
 use Rattle.plan.proofs.stops.stop_total.Reads as reads
@@ -18,7 +20,7 @@ abbrev μ-loop : tie.MeasureT-loop
 
 -- src/stops.rt:14:5
 loop-holds : tie.Need-loop-holds Inv-loop μ-loop
-loop-holds c = (search needs, start-none _, search needs)
+loop-holds c = (search needs, sym (start-none _), search needs)
 
 -- src/stops.rt:15:18
 mul-total : tie.Need-mul-total Inv-loop μ-loop
@@ -50,7 +52,7 @@ loop-again c = (omega arith, start-turn _ _ _ (c .before .before .loop .inv .1),
 
 -- src/stops.rt:8:1
 returns : tie.Need-returns Inv-loop μ-loop
-returns c = start-end _ _ _ _ (c .before .loop .inv .0) (c .loop-test .left) (c .before .loop .inv .1)
+returns c = start-end _ _ _ (c .before .loop .inv .1) _ (c .before .loop .inv .0) (c .loop-test .left)
 
 pub stop-total-spec : {M : Type 1} → statement M
 stop-total-spec =

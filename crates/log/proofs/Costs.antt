@@ -1,0 +1,116 @@
+-- The cost: a sum of longest chains, each no longer than there are unvisited stops, of which there are at most all stops but the first ones. Assumes nothing.
+use mathlib.Core.Path.{_≡_, refl, ap, subst}
+use mathlib.Core.Bool.{Bool, true, false, cond}
+use Prim.Native.Nat.{ℕ, zero, suc, _+_, _-_, _*_, _≤_, _<_}
+use native.Mathlib.Nat.{mul-comm, mul-add, add-mul, mul-le-mul-left, le-trans}
+use native.Mathlib.Omega.{arith}
+use borrow.Author.Tests.{leb-true, le-leb}
+use Rattle.below.specs.Below.{at, sumBelow}
+use Rattle.below.proofs.Search.{firstBelow-first}
+use Rattle.below.proofs.Sum.{sum-mono, sum-bound}
+use Rattle.below.proofs.Every.{allBelow-at}
+use Rattle.tables.specs.Limits.{Limits, limits}
+use Rattle.tables.specs.Tables.{PlanLists, Tables, drones, fullSize}
+use Rattle.precedence.specs.Graph.{Plan, Formed, Cycle, Kept, Longest, unvisited, reached, remaining, cost}
+use Rattle.precedence.proofs.Visits.{acyclic-iff, longest-chain, no-longer-chain, remaining-none}
+use Rattle.plan.specs.Stops.{start}
+use Rattle.plan.specs.Claims.{HaveStops}
+use Rattle.plan.proofs.Turns.{graph-formed}
+use Rattle.plan.specs.Field.{FieldPlan, planOf, graph}
+use Rattle.plan.specs.Status.{Status, statusIn, waitsKept}
+use Rattle.sound.specs.Sound.{sound}
+use Rattle.log.specs.Calls.{CostReply, costs, costRefused, costReply}
+use Rattle.log.specs.Claims.{CostMeans, CostBounded, CostLimit}
+use Rattle.log.proofs.SoundParts.{Sound, sound-says, drones-in, stops-in, have-stops, accepted-plan}
+use Rattle.log.proofs.Exactly.{unfixed-says}
+
+-- ---- the bound
+
+-- a drone's remaining rounds are no more than there are unvisited stops
+cost-rounds : (P : Plan) (p : ℕ → ℕ) → cost P p ≤ P .drones * unvisited P p
+unfolding cost remaining reached
+cost-rounds P p = sum-bound (P .drones) _ (unvisited P p) (λ d l. firstBelow-first (unvisited P p) _ .within)
+
+-- n numbers that are not 0, each less one
+sum-less-one : (n : ℕ) (f : ℕ → ℕ) → ((i : ℕ) → i < n → 1 ≤ f i) → sumBelow n (λ i. f i - 1) + n ≡ sumBelow n f
+unfolding sumBelow
+sum-less-one zero f h = refl
+sum-less-one (suc n) f h = omega (arith, sum-less-one n f (λ i l. h i (omega arith)), h n (omega arith))
+
+-- the unvisited stops and the first ones are no more than all
+unvisited-stops : (p : PlanLists) (turned : ℕ → Bool) (place : ℕ → ℕ) → HaveStops p → unvisited (graph (planOf p) turned) place + drones p ≤ start (p .stopCounts) (drones p)
+unfolding unvisited start
+unvisited-stops p turned place have = omega (arith, sum-mono (drones p) (λ d. at (p .stopCounts) d - 1 - place d) (λ d. at (p .stopCounts) d - 1) (λ d l. omega arith), sum-less-one (drones p) (at (p .stopCounts)) have)
+
+-- a drone in place of a stop makes the product no less, as long as there are as many stops besides
+more-drones : (d k m : ℕ) → d ≤ m → d * (m + k) ≤ (d + k) * m
+more-drones d k m h = let less : k * d ≤ k * m = mul-le-mul-left k h in omega (arith, mul-add d m k, add-mul d k m, mul-comm d k)
+
+-- d drones and n stops at most, of them D drones
+drones-bound : (D u d n : ℕ) → D ≤ d → 2 * d ≤ n → u + D ≤ n → D * u ≤ d * (n - d)
+drones-bound D u d n a b c =
+    let most : D * u ≤ D * ((n - d) + (d - D)) = mul-le-mul-left D (omega arith) in
+    let same : D + (d - D) ≡ d = omega arith in
+    le-trans most (subst (λ (x : ℕ). D * ((n - d) + (d - D)) ≤ x * (n - d)) same (more-drones D (d - D) (n - d) (omega arith)))
+
+module _ (L : Limits) (t : Tables) where
+  abbrev F : FieldPlan
+  F = planOf (t .plan)
+
+  abbrev S : Status
+  S = statusIn t
+
+  abbrev G : Plan
+  G = graph F (S .turned)
+
+  -- the cost of a reply
+  abbrev costIn : CostReply → ℕ
+  costIn (costs n) = n
+  costIn (costRefused n) = 0
+
+  sound-bound : Sound L t → 2 * L .drones ≤ L .stops → cost G (S .place) ≤ L .drones * (L .stops - L .drones)
+  sound-bound s h =
+      let stops : unvisited G (S .place) + drones (t .plan) ≤ start (t .plan .stopCounts) (drones (t .plan)) = unvisited-stops (t .plan) (S .turned) (S .place) (have-stops L (t .plan) (s .accepted)) in
+      le-trans (cost-rounds G (S .place)) (drones-bound (drones (t .plan)) (unvisited G (S .place)) (L .drones) (L .stops) (drones-in L (t .plan) (s .accepted)) h (omega (arith, stops-in L (t .plan) (s .accepted))))
+
+  pub cost-bound : (n : ℕ) → 2 * L .drones ≤ L .stops → costReply L t ≡ costs n → n ≤ L .drones * (L .stops - L .drones)
+  unfolding costReply
+  cost-bound n h e = go (fullSize L t) (sound L t) refl e
+    where
+      go : (a b : Bool) → sound L t ≡ b → cond a (cond b (costs (cost G (S .place))) (costRefused 40)) (costRefused 41) ≡ costs n → n ≤ L .drones * (L .stops - L .drones)
+      go true true s e = omega (arith, ap costIn e, sound-bound (sound-says L t s) h)
+      go true false s e = omega (arith, ap costIn e)
+      go false b s e = omega (arith, ap costIn e)
+
+  -- ---- chains
+
+  kept : waitsKept F S ≡ true → Kept G (S .place)
+  unfolding waitsKept
+  kept k w l h = leb-true _ _ (rw (le-leb (G .wait w .stop) (S .place (G .wait w .waiter)) h) at (allBelow-at (F .count) _ k w l))
+
+  module _ (s : Sound L t) where
+    formed : Formed G
+    formed = graph-formed F (accepted-plan L (t .plan) (s .accepted) (s .dependencies-own)) (S .turned) (unfixed-says F S (s .fixed-unturned))
+
+    acyclic : Cycle G → ⊥
+    acyclic = acyclic-iff G formed .0 (s .no-cycle)
+
+    longest : (d : ℕ) → d < F .drones → S .place d < F .last d → Longest G (S .place) d (remaining G (S .place) d)
+    longest d l o = record { chain = longest-chain G formed acyclic (S .place) d l o; none-longer = no-longer-chain G formed acyclic (S .place) (kept (s .waits-kept)) d l }
+
+    none-left : (d : ℕ) → F .last d ≤ S .place d → remaining G (S .place) d ≡ 0
+    none-left d h = remaining-none G formed acyclic (S .place) d h
+
+  pub cost-means : CostMeans L t
+  unfolding costReply cost
+  cost-means = record {
+    is-sum = λ (f, s). rw (f, s) refl;
+    is-longest = λ (f, s). longest (sound-says L t s);
+    is-none = λ (f, s) d l. none-left (sound-says L t s) d;
+  }
+
+pub cost-bounded : CostBounded
+cost-bounded L t n h e = cost-bound L t n h e
+
+pub cost-limit : CostLimit
+cost-limit t n e = cost-bound limits t n (omega arith) e

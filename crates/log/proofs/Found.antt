@@ -1,0 +1,96 @@
+-- What is found by the log after any list of calls: nobody holds a location of another, somebody can go on, rounds finish. Assumes nothing.
+use mathlib.Core.Path.{_≡_, sym, ap, _∙_, subst}
+use mathlib.Core.Logic.{_≢_, inl, inr}
+use mathlib.Core.Bool.{Bool, true, false, _&&_, _||_}
+use mathlib.Core.List.{List}
+use Prim.Native.Nat.{ℕ, suc, _≤_, _<_}
+use native.Mathlib.Omega.{arith}
+use lib.Dec.{eqb, ltb, leb}
+use borrow.Author.Tests.{ltb-true, eqb-true, eqb-false, leb-true, leb-false}
+use Rattle.below.proofs.Tests.{by-cases, and-left, and-right}
+use Rattle.below.specs.Below.{firstBelow}
+use Rattle.log.proofs.Checks.{grant-accepted, free-goes}
+use Rattle.log.proofs.Log.{arrivals, grants, turns, GoodLog}
+use Rattle.log.specs.CallLog.{Entry, statusOf, holdsLocation, short}
+use Rattle.log.specs.Demand.{HeldByOne, GoesOn, Finishes}
+use Rattle.plan.proofs.Turns.{graph-formed}
+use Rattle.plan.specs.Field.{Dependency, FieldPlan, inForce, waitOf, graph, AcceptedPlan}
+use Rattle.precedence.proofs.Rounds.{finished-at, somebody-free, rounds-finish}
+use Rattle.precedence.proofs.Visits.{acyclic-iff}
+use Rattle.precedence.specs.Graph.{Cycle, free, finished, unvisited}
+
+module _ (F : FieldPlan) (plan : AcceptedPlan F) (log : List Entry) (good : GoodLog F log) where
+  open FieldPlan F using (drones, last, location, count, dependency)
+
+  no-cycle : Cycle (graph F (turns log)) → ⊥
+  no-cycle = acyclic-iff (graph F (turns log)) (graph-formed F plan (turns log) (good .unfixed)) .0 (good .acyclic)
+
+  pub log-finishes : Finishes F log
+  log-finishes = (unvisited (graph F (turns log)) (arrivals log), omega arith, rounds-finish (graph F (turns log)) (graph-formed F plan (turns log) (good .unfixed)) no-cycle (arrivals log))
+
+  pub log-goes-on : GoesOn F log
+  unfolding short
+  log-goes-on d l s = by-cases (ltb (arrivals log free-one) (grants log free-one))
+      (λ u. inl (free-one, is-free .0, u))
+      (λ u. inr (free-one, is-free .0, grant-accepted F (statusOf log) free-one .1 (free-goes F (statusOf log) free-one (is-free .0) (is-free .1) u)))
+    where
+      free-one : ℕ
+      free-one = firstBelow drones (free (graph F (turns log)) (arrivals log))
+
+      unfinished : finished (graph F (turns log)) (arrivals log) ≡ false
+      unfinished = by-cases (finished (graph F (turns log)) (arrivals log))
+          (λ e. absurd (omega (arith, finished-at (graph F (turns log)) (arrivals log) e d l, ltb-true (arrivals log d) (last d) s)))
+          (λ e. e)
+
+      is-free : (free-one < drones) × (free (graph F (turns log)) (arrivals log) free-one ≡ true)
+      is-free = somebody-free (graph F (turns log)) (graph-formed F plan (turns log) (good .unfixed)) (arrivals log) no-cycle unfinished
+
+  -- drone d holds the location l at its stop s
+  record HoldsAt (d l s : ℕ) : Type 0 where
+    here : location d s ≡ l
+    since : s ≤ grants log d
+    still : arrivals log d ≤ s
+
+  holds-at : (d l : ℕ) → holdsLocation F (statusOf log) d l ≡ true → (s : ℕ) × HoldsAt d l s
+  unfolding holdsLocation
+  holds-at d l h = by-cases (eqb l (location d (arrivals log d)))
+      (λ e. (arrivals log d, record { here = sym (eqb-true _ _ e); since = good .running .behind d; still = omega arith }))
+      (λ e. let m : ltb (arrivals log d) (grants log d) && eqb l (location d (suc (arrivals log d))) ≡ true = sym (ap (λ (b : Bool). b || ltb (arrivals log d) (grants log d) && eqb l (location d (suc (arrivals log d)))) e) ∙ h in
+      (suc (arrivals log d), record { here = sym (eqb-true _ _ (and-right (ltb (arrivals log d) (grants log d)) _ m)); since = ltb-true _ _ (and-left _ _ m); still = omega arith }))
+
+  -- the two stops of a dependency are never held together
+  never-both : (x : Dependency) (w : ℕ) → w < count → dependency w ≡ x → x .firstStop ≤ grants log (x .first) → arrivals log (x .first) ≤ x .firstStop → x .secondStop ≤ grants log (x .second) → arrivals log (x .second) ≤ x .secondStop → ⊥
+  never-both x w l q a b c d = go (turns log w) (subst (λ (z : Dependency). waitOf (inForce (turns log w) z) .stop ≤ grants log (waitOf (inForce (turns log w) z) .waiter) → waitOf (inForce (turns log w) z) .until ≤ arrivals log (waitOf (inForce (turns log w) z) .awaited)) q (good .running .over w l))
+    where
+      go : (t : Bool) → (waitOf (inForce t x) .stop ≤ grants log (waitOf (inForce t x) .waiter) → waitOf (inForce t x) .until ≤ arrivals log (waitOf (inForce t x) .awaited)) → ⊥
+      go false k = omega (arith, k c)
+      go true k = omega (arith, k a)
+
+  -- drone d at its stop s and drone e at its stop k make a dependency, in one order or the other
+  meet : (d e l s k : ℕ) → d < drones → e < drones → d ≢ e → HoldsAt d l s → HoldsAt e l k → ⊥
+  meet d e l s k dl el n a b = by-cases (leb (time d s) (time e k))
+      (λ t. let (w, wl, q) = plan .every x (record { first-in = dl; first-stop-in = s-in; second-in = el; second-stop-in = k-in; different = n; one-location = one; there-first = leb-true (time d s) (time e k) t }) in
+      never-both x w wl q (a .since) (a .still) (b .since) (b .still))
+      (λ t. let (w, wl, q) = plan .every y (record { first-in = el; first-stop-in = k-in; second-in = dl; second-stop-in = s-in; different = λ z. n (sym z); one-location = sym one; there-first = omega (arith, leb-false (time d s) (time e k) t) }) in
+      never-both y w wl q (b .since) (b .still) (a .since) (a .still))
+    where
+      time : ℕ → ℕ → ℕ
+      time = F .time
+
+      x : Dependency
+      x = record { first = d; firstStop = s; second = e; secondStop = k }
+
+      y : Dependency
+      y = record { first = e; firstStop = k; second = d; secondStop = s }
+
+      s-in : s ≤ last d
+      s-in = omega (arith, a .since, good .within d dl)
+
+      k-in : k ≤ last e
+      k-in = omega (arith, b .since, good .within e el)
+
+      one : location d s ≡ location e k
+      one = a .here ∙ sym (b .here)
+
+  pub log-held : HeldByOne F log
+  log-held d e l dl el a b = by-cases (eqb d e) (λ q. eqb-true d e q) (λ q. let (s, x) = holds-at d l a in let (k, y) = holds-at e l b in absurd (meet d e l s k dl el (eqb-false d e q) x y))

@@ -1,0 +1,81 @@
+-- What every list of calls keeps, over plain functions: p counts the accepted arrivals of each drone, e its accepted grants, t says what is turned. Each accepted call
+-- changes one of the three at one index. Assumes nothing.
+use mathlib.Core.Path.{_≡_}
+use mathlib.Core.Bool.{Bool, true, false}
+use Prim.Native.Nat.{ℕ, suc, _≤_, _<_}
+use native.Mathlib.Omega.{arith}
+use lib.Dec.{ltb}
+use borrow.Author.Tests.{ltb-true, ltb-false}
+use Rattle.below.proofs.Index.{put-elim}
+use Rattle.below.proofs.Tests.{by-cases}
+use Rattle.below.specs.Below.{put}
+use Rattle.log.specs.Claims.{MayGo, MayArrive, Unentered, Turnable}
+use Rattle.log.proofs.Checks.{unfixed-is, go-free}
+use Rattle.log.proofs.Running.{Running, grant-running, arrive-running}
+use Rattle.plan.specs.Field.{FieldPlan, inForce, waitOf, flip, graph, fixed, AcceptedPlan}
+use Rattle.plan.specs.Claims.{unturned, Unfixed}
+use Rattle.plan.proofs.Turns.{flip-elim, graph-formed, none-unfixed, planned-acyclic}
+use Rattle.plan.specs.Status.{Status}
+use Rattle.precedence.specs.Graph.{cyclic}
+
+module _ (F : FieldPlan) where
+  open FieldPlan F using (drones, last, location, time, count, dependency)
+
+  -- p: accepted arrivals, that is the last visited stop; e: accepted grants, that is the last entered stop; t: what is turned
+  pub record Good (p e : ℕ → ℕ) (t : ℕ → Bool) : Type 0 where
+    pub running : Running (graph F t) p e
+    pub within : (d : ℕ) → d < drones → e d ≤ last d
+    pub unfixed : Unfixed F t
+    pub acyclic : cyclic (graph F t) ≡ false
+
+  pub good-start : AcceptedPlan F → Good (λ d. 0) (λ d. 0) unturned
+  good-start accepted = record {
+    running = record { behind = λ d. omega arith; ahead = λ d. omega arith; over = λ w l h. absurd (omega (arith, graph-formed F accepted unturned (none-unfixed F accepted) w l .stop-pos)) };
+    within = λ d l. omega arith;
+    unfixed = none-unfixed F accepted;
+    acyclic = planned-acyclic F accepted;
+  }
+
+  -- ---- the three calls, when accepted. The status of counts p, e, t
+
+  abbrev pub statusBy : (ℕ → ℕ) → (ℕ → ℕ) → (ℕ → Bool) → Status
+  statusBy p e t = record { place = p; underWay = λ d. ltb (p d) (e d); turned = t }
+
+  pub good-grant : (p e : ℕ → ℕ) (t : ℕ → Bool) → Good p e t → (d : ℕ) → MayGo F (statusBy p e t) d → Good p (put e d (suc (p d))) t
+  good-grant p e t g d c = record {
+    running = grant-running (graph F t) p e (g .running) d (go-free F (statusBy p e t) d c);
+    within = put-elim (λ c z. c < drones → z ≤ last c) e d (suc (p d)) (λ l. c .waiting .unfinished) (λ c n. g .within c);
+    unfixed = g .unfixed;
+    acyclic = g .acyclic;
+  }
+
+  pub good-arrive : (p e : ℕ → ℕ) (t : ℕ → Bool) → Good p e t → (d : ℕ) → MayArrive F (statusBy p e t) d → Good (put p d (suc (p d))) e t
+  good-arrive p e t g d c = record {
+    running = arrive-running (graph F t) p e (g .running) d (omega (arith, g .running .ahead d, ltb-true (p d) (e d) (c .under-way)));
+    within = g .within;
+    unfixed = g .unfixed;
+    acyclic = g .acyclic;
+  }
+
+  -- a stop that is not entered is past the last entered one
+  not-entered : (p e : ℕ → ℕ) (t : ℕ → Bool) → Good p e t → (d k : ℕ) → Unentered F (statusBy p e t) d k → e d < k
+  not-entered p e t g d k (past, ahead) = by-cases (ltb (p d) (e d))
+      (λ u. omega (arith, ahead u, g .running .ahead d))
+      (λ u. omega (arith, ltb-false (p d) (e d) u))
+
+  pub good-turn : (p e : ℕ → ℕ) (t : ℕ → Bool) → Good p e t → (w : ℕ) → Turnable F (statusBy p e t) w → cyclic (graph F (flip t w)) ≡ false → Good p e (flip t w)
+  good-turn p e t g w c no-cycle = record {
+    running = record {
+      behind = g .running .behind;
+      ahead = g .running .ahead;
+      over = flip-elim (λ v b. v < count → waitOf (inForce b (dependency v)) .stop ≤ e (waitOf (inForce b (dependency v)) .waiter) → waitOf (inForce b (dependency v)) .until ≤ p (waitOf (inForce b (dependency v)) .awaited)) t w unentered (λ v. g .running .over v);
+    };
+    within = g .within;
+    unfixed = flip-elim (λ v b. v < count → b ≡ true → fixed F v ≡ false) t w (λ b l u. unfixed-is F (statusBy p e t) (c .not-first) (c .not-last)) (λ v. g .unfixed v);
+    acyclic = no-cycle;
+  }
+    where
+      -- nobody has entered the stops of a dependency that may be turned, so nothing is asked of it
+      unentered : (b : Bool) → w < count → waitOf (inForce b (dependency w)) .stop ≤ e (waitOf (inForce b (dependency w)) .waiter) → waitOf (inForce b (dependency w)) .until ≤ p (waitOf (inForce b (dependency w)) .awaited)
+      unentered false l h = absurd (omega (arith, not-entered p e t g (dependency w .second) (dependency w .secondStop) (c .second-before)))
+      unentered true l h = absurd (omega (arith, not-entered p e t g (dependency w .first) (dependency w .firstStop) (c .first-before)))

@@ -1,0 +1,94 @@
+-- The invariant of the log: what every list of calls keeps, by counts of accepted calls. Assumes nothing.
+use mathlib.Core.Path.{_≡_, sym, ap, _∙_, subst, fun-ext}
+use mathlib.Core.Bool.{Bool, true, false}
+use mathlib.Core.List.{List, [], _∷_, _++_}
+use Prim.Native.Nat.{ℕ, suc}
+use native.Mathlib.Omega.{arith}
+use lib.Dec.{eqb, ltb}
+use borrow.Author.Tests.{ltb-false, eqb-true}
+use Rattle.below.proofs.Tests.{by-cases}
+use Rattle.below.specs.Below.{pick, put}
+use Rattle.log.proofs.Checks.{grant-passed, arrive-passed, turn-passed}
+use Rattle.log.specs.Claims.{MayGo}
+use Rattle.log.proofs.Counts.{counted-more, isOdd-suc}
+use Rattle.log.proofs.Good.{Good, good-start, good-grant, good-arrive, good-turn}
+use Rattle.log.specs.CallLog.{Call, grant, arrive, turn, Reply, isAccepted, Entry, entry, isGrant, isArrival, isTurn, acceptedCalls, isOdd, statusOf, replyBy, logFrom}
+use Rattle.plan.specs.Field.{FieldPlan, flip, AcceptedPlan}
+
+abbrev pub arrivals : List Entry → ℕ → ℕ
+arrivals log d = acceptedCalls (isArrival d) log
+
+abbrev pub grants : List Entry → ℕ → ℕ
+grants log d = acceptedCalls (isGrant d) log
+
+abbrev pub turns : List Entry → ℕ → Bool
+turns log w = isOdd (acceptedCalls (isTurn w) log)
+
+-- the log has these counts
+pub record Counts (log : List Entry) (p e : ℕ → ℕ) (t : ℕ → Bool) : Type 0 where
+  pub arrivals-are : (d : ℕ) → arrivals log d ≡ p d
+  pub grants-are : (d : ℕ) → grants log d ≡ e d
+  pub turns-are : (w : ℕ) → turns log w ≡ t w
+
+module _ (log : List Entry) (c : Call) (r : Reply) where
+  more-no : isAccepted r ≡ false → (f : Call → Bool) → acceptedCalls f (log ++ (entry c r ∷ [])) ≡ acceptedCalls f log
+  more-no e f = counted-more f log (entry c r) ∙ rw e
+
+  more-yes : isAccepted r ≡ true → (f : Call → Bool) → acceptedCalls f (log ++ (entry c r ∷ [])) ≡ pick (f c) (suc (acceptedCalls f log)) (acceptedCalls f log)
+  more-yes e f = counted-more f log (entry c r) ∙ rw e
+
+module _ (log : List Entry) (r : Reply) where
+  pub counts-refused : (c : Call) → isAccepted r ≡ false → Counts (log ++ (entry c r ∷ [])) (arrivals log) (grants log) (turns log)
+  counts-refused c e = record { arrivals-are = λ d. more-no log c r e (isArrival d); grants-are = λ d. more-no log c r e (isGrant d); turns-are = λ w. ap isOdd (more-no log c r e (isTurn w)) }
+
+  pub counts-grant : (d : ℕ) → isAccepted r ≡ true → grants log d ≡ arrivals log d → Counts (log ++ (entry (grant d) r ∷ [])) (arrivals log) (put (grants log) d (suc (arrivals log d))) (turns log)
+  counts-grant d e same = record {
+    arrivals-are = λ c. more-yes log (grant d) r e (isArrival c);
+    grants-are = λ c. more-yes log (grant d) r e (isGrant c) ∙ by-cases (eqb c d) (λ q. rw q (ap suc (rw (eqb-true c d q) same))) (λ q. rw q);
+    turns-are = λ w. ap isOdd (more-yes log (grant d) r e (isTurn w));
+  }
+
+  pub counts-arrive : (d : ℕ) → isAccepted r ≡ true → Counts (log ++ (entry (arrive d) r ∷ [])) (put (arrivals log) d (suc (arrivals log d))) (grants log) (turns log)
+  counts-arrive d e = record {
+    arrivals-are = λ c. more-yes log (arrive d) r e (isArrival c) ∙ by-cases (eqb c d) (λ q. rw q (ap suc (rw (eqb-true c d q)))) (λ q. rw q);
+    grants-are = λ c. more-yes log (arrive d) r e (isGrant c);
+    turns-are = λ w. ap isOdd (more-yes log (arrive d) r e (isTurn w));
+  }
+
+  pub counts-turn : (w : ℕ) → isAccepted r ≡ true → Counts (log ++ (entry (turn w) r ∷ [])) (arrivals log) (grants log) (flip (turns log) w)
+  counts-turn w e = record {
+    arrivals-are = λ d. more-yes log (turn w) r e (isArrival d);
+    grants-are = λ d. more-yes log (turn w) r e (isGrant d);
+    turns-are = λ v. ap isOdd (more-yes log (turn w) r e (isTurn v)) ∙ by-cases (eqb v w) (λ q. rw q (isOdd-suc (acceptedCalls (isTurn v) log))) (λ q. rw q);
+  }
+
+module _ (F : FieldPlan) where
+  abbrev pub GoodLog : List Entry → Type 0
+  GoodLog log = Good F (arrivals log) (grants log) (turns log)
+
+  good-counts : (log : List Entry) (p e : ℕ → ℕ) (t : ℕ → Bool) → Counts log p e t → Good F p e t → GoodLog log
+  good-counts log p e t c g =
+      subst (λ (x : ℕ → ℕ). Good F x (grants log) (turns log)) (sym (fun-ext (c .arrivals-are)))
+      (subst (λ (x : ℕ → ℕ). Good F p x (turns log)) (sym (fun-ext (c .grants-are)))
+      (subst (λ (x : ℕ → Bool). Good F p e x) (sym (fun-ext (c .turns-are))) g))
+
+  pub good-empty : AcceptedPlan F → GoodLog []
+  unfolding acceptedCalls
+  good-empty a = good-start F a
+
+  -- a drone that is not under way has as many grants as arrivals
+  pub idle-same : (log : List Entry) → GoodLog log → (d : ℕ) → ltb (arrivals log d) (grants log d) ≡ false → grants log d ≡ arrivals log d
+  idle-same log g d e = omega (arith, g .running .behind d, ltb-false (arrivals log d) (grants log d) e)
+
+  pub good-more : (log : List Entry) → GoodLog log → (c : Call) → GoodLog (log ++ (entry c (replyBy F log c) ∷ []))
+  good-more log g c = by-cases (isAccepted (replyBy F log c)) (yes′ c) (λ e. good-counts _ _ _ _ (counts-refused log (replyBy F log c) c e) g)
+    where
+      yes′ : (c : Call) → isAccepted (replyBy F log c) ≡ true → GoodLog (log ++ (entry c (replyBy F log c) ∷ []))
+      yes′ (grant d) e = let q : MayGo F (statusOf log) d = grant-passed F (statusOf log) d e in good-counts _ _ _ _ (counts-grant log _ d e (idle-same log g d (q .waiting .idle))) (good-grant F _ _ _ g d q)
+      yes′ (arrive d) e = good-counts _ _ _ _ (counts-arrive log _ d e) (good-arrive F _ _ _ g d (arrive-passed F (statusOf log) d e))
+      yes′ (turn w) e = let q = turn-passed F (statusOf log) w e in good-counts _ _ _ _ (counts-turn log _ w e) (good-turn F _ _ _ g w (q .0) (q .1))
+
+  pub good-calls : (cs : List Call) (log : List Entry) → GoodLog log → GoodLog (logFrom F log cs)
+  unfolding logFrom
+  good-calls [] log g = g
+  good-calls (c ∷ cs) log g = good-calls cs (log ++ (entry c (replyBy F log c) ∷ [])) (good-more log g c)

@@ -1,0 +1,286 @@
+-- The tables along a list of calls: they show the log's counts, stay sound, and so reply as the log does. Assumes nothing.
+use mathlib.Core.Path.{_≡_, refl, sym, ap, _∙_}
+use mathlib.Core.Logic.{_≢_}
+use mathlib.Core.Bool.{Bool, true, false, not, _&&_, _||_}
+use mathlib.Core.List.{List}
+use Prim.Native.Nat.{ℕ, suc, _+_, _/_, _≤_, _<_}
+use native.Mathlib.Omega.{arith}
+use lib.ListN.{length, set, length-set}
+use lib.Seq.{getD-set-other}
+use lib.Dec.{eqb, ltb, leb}
+use borrow.Author.Tests.{ltb-true, eqb-true, leb-true, lt-ltb, le-ltb, le-leb, lt-leb, eq-eqb}
+use Rattle.below.specs.Below.{pick, at, put}
+use Rattle.below.proofs.Tests.{by-cases, true-or-false, and-left, and-right, and-both}
+use Rattle.below.proofs.Every.{allBelow-all}
+use Rattle.below.proofs.Index.{put-same, put-other, put-elim, at-set}
+use Rattle.tables.specs.Limits.{Limits}
+use Rattle.tables.specs.Tables.{PlanLists, Tables, drones, dependencies, fullSize, Sizes}
+use Rattle.tables.proofs.SizeLaws.{full-sizes}
+use Rattle.tables.specs.Flags.{turnedBit, flipBit, fixedFlag, underWayBit, onlyOneBit, setUnderWay, clearUnderWay}
+use Rattle.tables.proofs.FlagLaws.{flip-turned, flip-half, new-turned}
+use Rattle.precedence.specs.Graph.{cyclic}
+use Rattle.plan.specs.Field.{FieldPlan, flip, graph, fixed, AcceptedPlan, planOf}
+use Rattle.plan.specs.Claims.{unturned}
+use Rattle.plan.specs.Status.{statusIn, entered, fixedUnturned, withinStops, waitsKept}
+use Rattle.sound.specs.Sound.{planAccepted, dependenciesSound, planUnused, flagsSound, droneFlagsSound, progressUnused, sound}
+use Rattle.log.specs.CallLog.{Call, replyIn}
+use Rattle.log.specs.Calls.{granted, arrived, flipped, replyOf, AsRead}
+use Rattle.log.specs.Demand.{Agree}
+use Rattle.log.proofs.SoundParts.{says-sound, zero-from, drones-in, dependencies-in}
+use Rattle.log.proofs.SameStatus.{cyclic-same, reply-same, unturned-same, within-same, waits-same}
+use Rattle.log.proofs.Good.{Good, statusBy}
+
+-- ---- progress by counts is sound
+
+module _ (F : FieldPlan) (p e : ℕ → ℕ) (t : ℕ → Bool) (good : Good F p e t) where
+  open FieldPlan F using (drones, last, count)
+
+  -- an entered stop is at most the last entered one
+  pub entered-in : (d k : ℕ) → entered F (statusBy F p e t) d k ≡ true → k ≤ e d
+  entered-in d k h = by-cases (leb k (p d))
+      (λ a. omega (arith, leb-true k (p d) a, good .running .behind d))
+      (λ a. let m : ltb (p d) (e d) && eqb k (suc (p d)) ≡ true = sym (ap (λ (b : Bool). b || ltb (p d) (e d) && eqb k (suc (p d))) a) ∙ h in
+      omega (arith, ltb-true (p d) (e d) (and-left _ _ m), eqb-true k (suc (p d)) (and-right (ltb (p d) (e d)) _ m)))
+
+  good-within : withinStops F (statusBy F p e t) ≡ true
+  unfolding withinStops
+  good-within = allBelow-all drones _ (λ d l. and-both (leb (p d) (last d)) _
+      (le-leb (p d) (last d) (omega (arith, good .running .behind d, good .within d l)))
+      (by-cases (ltb (p d) (e d))
+      (λ u. rw (u, lt-leb (last d) (p d) (omega (arith, ltb-true (p d) (e d) u, good .within d l))))
+      (λ u. rw u)))
+
+  good-waits : waitsKept F (statusBy F p e t) ≡ true
+  unfolding waitsKept
+  good-waits = allBelow-all count _ (λ w l. by-cases (entered F (statusBy F p e t) (graph F t .wait w .waiter) (graph F t .wait w .stop))
+      (λ h. or-second (entered F (statusBy F p e t) (graph F t .wait w .waiter) (graph F t .wait w .stop)) _ h (le-leb _ _ (good .running .over w l (entered-in _ _ h))))
+      (λ h. or-first _ _ h))
+    where
+      or-second : (a b : Bool) → a ≡ true → b ≡ true → not a || b ≡ true
+      or-second true b x y = y
+      or-second false b x y = refl
+
+      or-first : (a b : Bool) → a ≡ false → not a || b ≡ true
+      or-first true b x = true-or-false refl x
+      or-first false b x = refl
+
+  good-unturned : fixedUnturned F (statusBy F p e t) ≡ true
+  unfolding fixedUnturned
+  good-unturned = allBelow-all count _ (λ w l. by-cases (t w) (λ u. rw (u, good .unfixed w l u)) (λ u. rw u))
+
+-- ---- tables that differ in used progress and flags only
+
+-- t′ differs from t at most in the progress of the drones and the flags of the dependencies that the plan has
+pub record SamePlan (t t′ : Tables) : Type 0 where
+  pub plan-same : t′ .plan ≡ t .plan
+  pub visited-length : length (t′ .visited) ≡ length (t .visited)
+  pub droneFlags-length : length (t′ .droneFlags) ≡ length (t .droneFlags)
+  pub flags-length : length (t′ .flags) ≡ length (t .flags)
+  pub visited-unused : (d : ℕ) → drones (t .plan) ≤ d → at (t′ .visited) d ≡ at (t .visited) d
+  pub droneFlags-unused : (d : ℕ) → drones (t .plan) ≤ d → at (t′ .droneFlags) d ≡ at (t .droneFlags) d
+  pub flags-unused : (w : ℕ) → dependencies (t .plan) ≤ w → at (t′ .flags) w ≡ at (t .flags) w
+
+same-self : (t : Tables) → SamePlan t t
+same-self t = record { plan-same = refl; visited-length = refl; droneFlags-length = refl; flags-length = refl; visited-unused = λ d l. refl; droneFlags-unused = λ d l. refl; flags-unused = λ w l. refl }
+
+same-then : (a b c : Tables) → SamePlan a b → SamePlan b c → SamePlan a c
+same-then a b c x y =
+    let drones-same : drones (b .plan) ≡ drones (a .plan) = ap drones (x .plan-same) in
+    let count-same : dependencies (b .plan) ≡ dependencies (a .plan) = ap dependencies (x .plan-same) in
+    record {
+      plan-same = y .plan-same ∙ x .plan-same;
+      visited-length = y .visited-length ∙ x .visited-length;
+      droneFlags-length = y .droneFlags-length ∙ x .droneFlags-length;
+      flags-length = y .flags-length ∙ x .flags-length;
+      visited-unused = λ d l. y .visited-unused d (omega arith) ∙ x .visited-unused d l;
+      droneFlags-unused = λ d l. y .droneFlags-unused d (omega arith) ∙ x .droneFlags-unused d l;
+      flags-unused = λ w l. y .flags-unused w (omega arith) ∙ x .flags-unused w l;
+    }
+
+pub full-same : (L : Limits) (t t′ : Tables) → SamePlan t t′ → fullSize L t ≡ true → fullSize L t′ ≡ true
+unfolding fullSize
+full-same L t t′ s h = rw (s .plan-same, s .visited-length, s .droneFlags-length, s .flags-length) h
+
+-- a store to a used entry
+stored : (l : List ℕ) (i x n : ℕ) → i < n → (c : ℕ) → n ≤ c → at (set l i x) c ≡ at l c
+stored l i x n h c k = getD-set-other l i c x 0 (let ne : c ≢ i = omega arith in ne)
+
+-- ---- a drone's flag byte, known by its bit
+
+abbrev bit : Bool → ℕ
+bit b = pick b 1 0
+
+set-bit : (b : Bool) → setUnderWay (bit b) ≡ 1
+unfolding setUnderWay
+set-bit true = refl
+set-bit false = refl
+
+clear-bit : (b : Bool) → clearUnderWay (bit b) ≡ 0
+unfolding clearUnderWay
+clear-bit true = refl
+clear-bit false = refl
+
+bit-test : (b : Bool) → underWayBit (bit b) ≡ b
+unfolding underWayBit
+bit-test true = refl
+bit-test false = refl
+
+bit-only : (b : Bool) → onlyOneBit (bit b) ≡ true
+unfolding onlyOneBit
+bit-only true = refl
+bit-only false = refl
+
+fixed-half : (b : Bool) → fixedFlag b / 2 ≡ bit b
+unfolding fixedFlag
+fixed-half true = refl
+fixed-half false = refl
+
+-- the tables t hold the counts p, e and the turns u; t₀ are the tables as they were read
+pub record Kept (lists : PlanLists) (t₀ : Tables) (p e : ℕ → ℕ) (u : ℕ → Bool) (t : Tables) : Type 0 where
+  pub same : SamePlan t₀ t
+  pub visited-is : (d : ℕ) → d < drones lists → at (t .visited) d ≡ p d
+  pub droneFlags-are : (d : ℕ) → d < drones lists → at (t .droneFlags) d ≡ bit (ltb (p d) (e d))
+  pub turned-are : (w : ℕ) → w < dependencies lists → turnedBit (at (t .flags) w) ≡ u w
+  pub halves-are : (w : ℕ) → w < dependencies lists → at (t .flags) w / 2 ≡ bit (fixed (planOf lists) w)
+
+module _ (L : Limits) (lists : PlanLists) (t₀ : Tables) (read : AsRead L lists t₀) where
+  drones-room : drones lists ≤ L .drones
+  drones-room = drones-in L lists (read .plan-accepted)
+
+  count-room : dependencies lists ≤ L .dependencies
+  count-room = dependencies-in L lists (read .plan-accepted) (read .dependencies-own)
+
+  room : Sizes L t₀
+  room = full-sizes L t₀ (read .full)
+
+  module _ (p e : ℕ → ℕ) (u : ℕ → Bool) (t : Tables) (k : Kept lists t₀ p e u t) where
+    plan-kept : t .plan ≡ lists
+    plan-kept = k .same .plan-same ∙ read .plan-read
+
+    drones-are : drones (t .plan) ≡ drones lists
+    drones-are = ap drones plan-kept
+
+    count-is : dependencies (t .plan) ≡ dependencies lists
+    count-is = ap dependencies plan-kept
+
+    -- ---- what an accepted call leaves
+
+    pub kept-grant : (d : ℕ) → d < drones lists → Kept lists t₀ p (put e d (suc (p d))) u (granted t d)
+    kept-grant d l = record {
+      same = same-then t₀ t (granted t d) (k .same) (record {
+        plan-same = refl;
+        visited-length = refl;
+        droneFlags-length = length-set (t .droneFlags) d _;
+        flags-length = refl;
+        visited-unused = λ c h. refl;
+        droneFlags-unused = stored (t .droneFlags) d _ (drones (t .plan)) (omega (arith, drones-are));
+        flags-unused = λ w h. refl;
+      });
+      visited-is = k .visited-is;
+      droneFlags-are = λ c m. at-set (t .droneFlags) d (setUnderWay (at (t .droneFlags) d)) (omega (arith, k .same .droneFlags-length, room .drone-flags, drones-room)) c
+          ∙ put-elim (λ c z. c < drones lists → put (at (t .droneFlags)) d (setUnderWay (at (t .droneFlags) d)) c ≡ bit (ltb (p c) z)) e d (suc (p d))
+          (λ m. put-same (at (t .droneFlags)) d _ ∙ ap setUnderWay (k .droneFlags-are d l) ∙ set-bit (ltb (p d) (e d)) ∙ sym (ap bit (lt-ltb (p d) (suc (p d)) (omega arith))))
+          (λ c n m. put-other (at (t .droneFlags)) d _ c n ∙ k .droneFlags-are c m) c m;
+      turned-are = k .turned-are;
+      halves-are = k .halves-are;
+    }
+
+    pub kept-arrive : (d : ℕ) → d < drones lists → e d ≤ suc (p d) → Kept lists t₀ (put p d (suc (p d))) e u (arrived t d)
+    kept-arrive d l h = record {
+      same = same-then t₀ t (arrived t d) (k .same) (record {
+        plan-same = refl;
+        visited-length = length-set (t .visited) d _;
+        droneFlags-length = length-set (t .droneFlags) d _;
+        flags-length = refl;
+        visited-unused = stored (t .visited) d _ (drones (t .plan)) (omega (arith, drones-are));
+        droneFlags-unused = stored (t .droneFlags) d _ (drones (t .plan)) (omega (arith, drones-are));
+        flags-unused = λ w h. refl;
+      });
+      visited-is = λ c m. at-set (t .visited) d (at (t .visited) d + 1) (omega (arith, k .same .visited-length, room .visited, drones-room)) c
+          ∙ put-elim (λ c z. c < drones lists → put (at (t .visited)) d (at (t .visited) d + 1) c ≡ z) p d (suc (p d))
+          (λ m. put-same (at (t .visited)) d _ ∙ omega (arith, k .visited-is d l))
+          (λ c n m. put-other (at (t .visited)) d _ c n ∙ k .visited-is c m) c m;
+      droneFlags-are = λ c m. at-set (t .droneFlags) d (clearUnderWay (at (t .droneFlags) d)) (omega (arith, k .same .droneFlags-length, room .drone-flags, drones-room)) c
+          ∙ put-elim (λ c z. c < drones lists → put (at (t .droneFlags)) d (clearUnderWay (at (t .droneFlags) d)) c ≡ bit (ltb z (e c))) p d (suc (p d))
+          (λ m. put-same (at (t .droneFlags)) d _ ∙ ap clearUnderWay (k .droneFlags-are d l) ∙ clear-bit (ltb (p d) (e d)) ∙ sym (ap bit (le-ltb (suc (p d)) (e d) h)))
+          (λ c n m. put-other (at (t .droneFlags)) d _ c n ∙ k .droneFlags-are c m) c m;
+      turned-are = k .turned-are;
+      halves-are = k .halves-are;
+    }
+
+    pub kept-turn : (w : ℕ) → w < dependencies lists → Kept lists t₀ p e (flip u w) (flipped t w)
+    kept-turn w l = record {
+      same = same-then t₀ t (flipped t w) (k .same) (record {
+        plan-same = refl;
+        visited-length = refl;
+        droneFlags-length = refl;
+        flags-length = length-set (t .flags) w _;
+        visited-unused = λ c h. refl;
+        droneFlags-unused = λ c h. refl;
+        flags-unused = stored (t .flags) w _ (dependencies (t .plan)) (omega (arith, count-is));
+      });
+      visited-is = k .visited-is;
+      droneFlags-are = k .droneFlags-are;
+      turned-are = λ v m. ap turnedBit (after v) ∙ by-cases (eqb v w)
+          (λ q. rw q (flip-turned (at (t .flags) w) ∙ ap not (k .turned-are w l ∙ ap u (sym (eqb-true v w q)))))
+          (λ q. rw q (k .turned-are v m));
+      halves-are = λ v m. ap (λ (z : ℕ). z / 2) (after v) ∙ by-cases (eqb v w)
+          (λ q. rw q (flip-half (at (t .flags) w) ∙ ap (λ (x : ℕ). at (t .flags) x / 2) (sym (eqb-true v w q)) ∙ k .halves-are v m))
+          (λ q. rw q (k .halves-are v m));
+    }
+      where
+        after : (v : ℕ) → at (set (t .flags) w (flipBit (at (t .flags) w))) v ≡ put (at (t .flags)) w (flipBit (at (t .flags) w)) v
+        after = at-set (t .flags) w (flipBit (at (t .flags) w)) (omega (arith, k .same .flags-length, room .flags, count-room))
+
+    -- ---- the tables show the counts, and are sound when those are good
+
+    pub kept-status : Agree (planOf lists) (statusIn t) (statusBy (planOf lists) p e u)
+    kept-status = record { places = k .visited-is; underWays = λ d l. ap underWayBit (k .droneFlags-are d l) ∙ bit-test (ltb (p d) (e d)); turns = k .turned-are }
+
+    kept-flags : flagsSound L t ≡ true
+    unfolding flagsSound
+    kept-flags = allBelow-all (dependencies (t .plan)) _ (λ w l. eq-eqb (at (t .flags) w / 2) _ (k .halves-are w (omega (arith, count-is)) ∙ ap (λ (z : PlanLists). bit (fixed (planOf z) w)) (sym plan-kept)))
+
+    kept-drone-flags : droneFlagsSound L t ≡ true
+    unfolding droneFlagsSound
+    kept-drone-flags = allBelow-all (drones (t .plan)) _ (λ d l. ap onlyOneBit (k .droneFlags-are d (omega (arith, drones-are))) ∙ bit-only (ltb (p d) (e d)))
+
+    kept-unused : progressUnused L t ≡ true
+    unfolding progressUnused
+    kept-unused =
+        let drones-read : drones (t₀ .plan) ≡ drones lists = ap drones (read .plan-read) in
+        let count-read : dependencies (t₀ .plan) ≡ dependencies lists = ap dependencies (read .plan-read) in
+        and-both _ _
+        (zero-from (drones (t .plan)) (L .drones) (t .visited) (λ d m h. k .same .visited-unused d (omega (arith, drones-are)) ∙ read .visited-zero d h))
+        (and-both _ _
+        (zero-from (drones (t .plan)) (L .drones) (t .droneFlags) (λ d m h. k .same .droneFlags-unused d (omega (arith, drones-are)) ∙ read .droneFlags-zero d h))
+        (zero-from (dependencies (t .plan)) (L .dependencies) (t .flags) (λ w m h. k .same .flags-unused w (omega (arith, count-is)) ∙ read .flags-zero w (omega (arith, count-is)) h)))
+
+    module _ (plan : AcceptedPlan (planOf lists)) (g : Good (planOf lists) p e u) where
+      pub kept-sound : sound L t ≡ true
+      kept-sound = says-sound L t (record {
+        accepted = ap (planAccepted L) plan-kept ∙ read .plan-accepted;
+        dependencies-own = ap (dependenciesSound L) plan-kept ∙ read .dependencies-own;
+        flags-right = kept-flags;
+        fixed-unturned = ap (λ (z : PlanLists). fixedUnturned (planOf z) (statusIn t)) plan-kept ∙ unturned-same (planOf lists) plan _ _ kept-status ∙ good-unturned (planOf lists) p e u g;
+        no-cycle = ap (λ (z : PlanLists). cyclic (graph (planOf z) (statusIn t .turned))) plan-kept ∙ cyclic-same (planOf lists) (statusIn t .turned) u (k .turned-are) ∙ g .acyclic;
+        drone-flags = kept-drone-flags;
+        within = ap (λ (z : PlanLists). withinStops (planOf z) (statusIn t)) plan-kept ∙ within-same (planOf lists) plan _ _ kept-status ∙ good-within (planOf lists) p e u g;
+        waits-kept = ap (λ (z : PlanLists). waitsKept (planOf z) (statusIn t)) plan-kept ∙ waits-same (planOf lists) plan _ _ kept-status ∙ good-waits (planOf lists) p e u g;
+        plan-unused = ap (planUnused L) plan-kept ∙ read .plan-unused;
+        progress-unused = kept-unused;
+      })
+
+      -- so 41 and 40 never come, and the reply is that of the counts
+      pub kept-reply : (c : Call) → replyOf L t c ≡ replyIn (planOf lists) (statusBy (planOf lists) p e u) c
+      unfolding replyOf
+      kept-reply c = rw (full-same L t₀ t (k .same) (read .full), kept-sound) (ap (λ (z : PlanLists). replyIn (planOf z) (statusIn t) c) plan-kept ∙ reply-same (planOf lists) plan _ _ kept-status c)
+
+  pub kept-start : Kept lists t₀ (λ d. 0) (λ d. 0) unturned t₀
+  kept-start = record {
+    same = same-self t₀;
+    visited-is = λ d l. read .visited-zero d (omega (arith, drones-room));
+    droneFlags-are = λ d l. read .droneFlags-zero d (omega (arith, drones-room));
+    turned-are = λ w l. ap turnedBit (read .flags-fixed w l) ∙ new-turned (fixed (planOf lists) w);
+    halves-are = λ w l. ap (λ (z : ℕ). z / 2) (read .flags-fixed w l) ∙ fixed-half (fixed (planOf lists) w);
+  }

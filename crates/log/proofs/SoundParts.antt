@@ -1,0 +1,146 @@
+-- Sound, part by part: the conjunction taken apart and put together again, and what its parts say of the counts. Assumes nothing.
+use mathlib.Core.Path.{_≡_, refl, ap, _∙_}
+use mathlib.Core.Bool.{Bool, true, false, not, _&&_}
+use mathlib.Core.List.{List}
+use Prim.Native.Nat.{ℕ, _/_, _%_, _≤_, _<_}
+use native.Mathlib.Omega.{arith}
+use lib.Dec.{ltb, leb, eqb}
+use borrow.Author.Tests.{ltb-false, leb-true, eqb-true, not-true}
+use Rattle.below.specs.Below.{pick, at, allBelow}
+use Rattle.below.proofs.Tests.{by-cases, and-left, and-right}
+use Rattle.below.proofs.Every.{allBelow-at, allBelow-all}
+use Rattle.tables.specs.Limits.{Limits}
+use Rattle.tables.specs.Tables.{PlanLists, Tables, drones, dependencies}
+use Rattle.tables.specs.Flags.{fixedBit, onlyOneBit}
+use Rattle.precedence.specs.Graph.{cyclic}
+use Rattle.plan.specs.Dependencies.{dependencyTotal}
+use Rattle.plan.specs.Check.{firstFault}
+use Rattle.plan.specs.Claims.{HaveStops, NoFault, NoCollision, HoldsPlanned}
+use Rattle.plan.proofs.Claims.{accepted-claims}
+use Rattle.plan.specs.Field.{AcceptedPlan, planOf, graph, fixed}
+use Rattle.plan.specs.Status.{statusIn, fixedUnturned, withinStops, waitsKept}
+use Rattle.sound.specs.Sound.{zeroFrom, own, num, planned, stopTotal, inRange, namesSound, checked, planAccepted, dependenciesSound, planUnused, flagsSound, droneFlagsSound, progressUnused, sound}
+
+-- the clauses of "sound"
+pub record Sound (L : Limits) (t : Tables) : Type 0 where
+  pub accepted : planAccepted L (t .plan) ≡ true
+  pub dependencies-own : dependenciesSound L (t .plan) ≡ true
+  pub flags-right : flagsSound L t ≡ true
+  pub fixed-unturned : fixedUnturned (planOf (t .plan)) (statusIn t) ≡ true
+  pub no-cycle : cyclic (graph (planOf (t .plan)) (statusIn t .turned)) ≡ false
+  pub drone-flags : droneFlagsSound L t ≡ true
+  pub within : withinStops (planOf (t .plan)) (statusIn t) ≡ true
+  pub waits-kept : waitsKept (planOf (t .plan)) (statusIn t) ≡ true
+  pub plan-unused : planUnused L (t .plan) ≡ true
+  pub progress-unused : progressUnused L t ≡ true
+
+module _ (L : Limits) (t : Tables) where
+  pub sound-says : sound L t ≡ true → Sound L t
+  unfolding sound
+  sound-says h =
+      let h₁ = and-right (planAccepted L (t .plan)) _ h in
+      let h₂ = and-right (dependenciesSound L (t .plan)) _ h₁ in
+      let h₃ = and-right (flagsSound L t) _ h₂ in
+      let h₄ = and-right (fixedUnturned (planOf (t .plan)) (statusIn t)) _ h₃ in
+      let h₅ = and-right (not (cyclic (graph (planOf (t .plan)) (statusIn t .turned)))) _ h₄ in
+      let h₆ = and-right (droneFlagsSound L t) _ h₅ in
+      let h₇ = and-right (withinStops (planOf (t .plan)) (statusIn t)) _ h₆ in
+      let h₈ = and-right (waitsKept (planOf (t .plan)) (statusIn t)) _ h₇ in
+      record {
+        accepted = and-left _ _ h;
+        dependencies-own = and-left _ _ h₁;
+        flags-right = and-left _ _ h₂;
+        fixed-unturned = and-left _ _ h₃;
+        no-cycle = not-true (cyclic (graph (planOf (t .plan)) (statusIn t .turned))) (and-left _ _ h₄);
+        drone-flags = and-left _ _ h₅;
+        within = and-left _ _ h₆;
+        waits-kept = and-left _ _ h₇;
+        plan-unused = and-left _ _ h₈;
+        progress-unused = and-right (planUnused L (t .plan)) _ h₈;
+      }
+
+  pub says-sound : Sound L t → sound L t ≡ true
+  unfolding sound
+  says-sound s = rw (s .accepted, s .dependencies-own, s .flags-right, s .fixed-unturned, s .no-cycle, s .drone-flags, s .within, s .waits-kept, s .plan-unused, s .progress-unused) refl
+
+-- ---- the plan in the tables
+
+module _ (L : Limits) (p : PlanLists) (accepted : planAccepted L p ≡ true) where
+  in-range : inRange L p ≡ true
+  unfolding planAccepted
+  in-range = and-left _ _ accepted
+
+  after-range : namesSound L p && (checked L p && leb (dependencyTotal (own L p) (at (p .locations)) (at (p .times)) (stopTotal L p)) (L .dependencies)) ≡ true
+  unfolding planAccepted
+  after-range = and-right (inRange L p) _ accepted
+
+  pub drones-in : drones p ≤ L .drones
+  unfolding inRange
+  drones-in = leb-true (drones p) (L .drones) (and-right (leb 1 (drones p)) _ (and-left (leb 1 (drones p) && leb (drones p) (L .drones)) _ in-range))
+
+  pub have-stops : HaveStops p
+  unfolding inRange
+  have-stops d l = leb-true 1 (at (p .stopCounts) d) (allBelow-at (drones p) _ (and-left _ _ (and-right (leb 1 (drones p) && leb (drones p) (L .drones)) _ in-range)) d l)
+
+  pub stops-in : stopTotal L p ≤ L .stops
+  unfolding inRange
+  stops-in = leb-true (stopTotal L p) (L .stops) (and-left _ _ (and-right (allBelow (drones p) (λ d. leb 1 (at (p .stopCounts) d))) _ (and-right (leb 1 (drones p) && leb (drones p) (L .drones)) _ in-range)))
+
+  check-passes : checked L p ≡ true
+  check-passes = and-left _ _ (and-right (namesSound L p) _ after-range)
+
+  no-fault : NoFault p
+  unfolding checked
+  no-fault = eqb-true _ _ (and-left _ _ check-passes)
+
+  no-collision : NoCollision p
+  unfolding checked
+  no-collision = and-right (eqb (firstFault (num L p) (at (p .locations)) (at (p .times)) (stopTotal L p)) (stopTotal L p)) _ check-passes
+
+  module _ (own-ones : dependenciesSound L p ≡ true) where
+    total-is : dependencies p ≡ dependencyTotal (own L p) (at (p .locations)) (at (p .times)) (stopTotal L p)
+    unfolding dependenciesSound
+    total-is = eqb-true _ _ (and-left _ _ own-ones)
+
+    pub dependencies-in : dependencies p ≤ L .dependencies
+    dependencies-in =
+        let room = leb-true (dependencyTotal (own L p) (at (p .locations)) (at (p .times)) (stopTotal L p)) (L .dependencies) (and-right (checked L p) _ (and-right (namesSound L p) _ after-range)) in
+        omega (arith, total-is)
+
+    -- the four numbers of dependency k are the planned ones
+    numbers-are : (k : ℕ) → k < dependencies p → (at (p .firstDrones) k ≡ at (planned L p (λ v w. own L p v)) k) × (at (p .firstStops) k ≡ at (planned L p (λ v w. num L p v)) k) × (at (p .secondDrones) k ≡ at (planned L p (λ v w. own L p w)) k) × (at (p .secondStops) k ≡ at (planned L p (λ v w. num L p w)) k)
+    unfolding dependenciesSound
+    numbers-are k l =
+        let h = allBelow-at (dependencies p) _ (and-right (eqb (dependencies p) (dependencyTotal (own L p) (at (p .locations)) (at (p .times)) (stopTotal L p))) _ own-ones) k l in
+        let h₁ = and-right (eqb (at (p .firstDrones) k) _) _ h in
+        let h₂ = and-right (eqb (at (p .firstStops) k) _) _ h₁ in
+        let h₃ = and-right (eqb (at (p .secondDrones) k) _) _ h₂ in
+        (eqb-true _ _ (and-left _ _ h), eqb-true _ _ (and-left _ _ h₁), eqb-true _ _ (and-left _ _ h₂), eqb-true _ _ h₃)
+
+    holds-planned : HoldsPlanned p
+    holds-planned = record { total = total-is; first-drones = λ k l. numbers-are k l .0; first-stops = λ k l. numbers-are k l .1; second-drones = λ k l. numbers-are k l .2; second-stops = λ k l. numbers-are k l .3 }
+
+    -- "the plan in them would be accepted; the dependencies are exactly its own"
+    pub accepted-plan : AcceptedPlan (planOf p)
+    accepted-plan = accepted-claims .accepted-exactly p have-stops .0 (no-fault, no-collision, holds-planned)
+
+-- unused entries that are zero, as the test has it
+pub zero-from : (used full : ℕ) (l : List ℕ) → ((i : ℕ) → used ≤ i → i < full → at l i ≡ 0) → zeroFrom used full l ≡ true
+unfolding zeroFrom
+zero-from used full l zero-at = allBelow-all full _ (λ i h. by-cases (ltb i used) (λ e. rw e refl) (λ e. rw (e, zero-at i (ltb-false i used e) h) refl))
+
+-- ---- the flag bytes
+
+module _ (L : Limits) (t : Tables) (s : Sound L t) where
+  pub one-bit : (d : ℕ) → d < drones (t .plan) → onlyOneBit (at (t .droneFlags) d) ≡ true
+  unfolding droneFlagsSound
+  one-bit d l = allBelow-at (drones (t .plan)) _ (s .drone-flags) d l
+
+  -- "bit 1 is fixed": 31 is seen by the flag byte
+  pub fixed-bit : (w : ℕ) → w < dependencies (t .plan) → fixedBit (at (t .flags) w) ≡ fixed (planOf (t .plan)) w
+  unfolding fixedBit flagsSound
+  fixed-bit w l = ap (λ (x : ℕ). eqb (x % 2) 1) (eqb-true (at (t .flags) w / 2) _ (allBelow-at (dependencies (t .plan)) _ (s .flags-right) w l)) ∙ bit (fixed (planOf (t .plan)) w)
+    where
+      bit : (b : Bool) → eqb (pick b 1 0 % 2) 1 ≡ b
+      bit true = refl
+      bit false = refl

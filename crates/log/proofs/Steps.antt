@@ -1,0 +1,132 @@
+-- The calls by the ways through their code: one law for each return, in the order in which the code asks its tests. Assumes nothing.
+use mathlib.Core.Path.{_≡_, refl}
+use mathlib.Core.Bool.{true, false}
+use Prim.Native.Nat.{ℕ, _≤_, _<_}
+use native.Mathlib.Omega.{arith}
+use borrow.Author.Tests.{le-leb, lt-leb, lt-ltb, le-ltb}
+use Rattle.below.specs.Below.{at, First}
+use Rattle.below.proofs.Search.{firstBelow-is}
+use Rattle.tables.specs.Limits.{Limits}
+use Rattle.tables.specs.Tables.{Tables, drones, dependencies, fullSize}
+use Rattle.tables.specs.Flags.{underWayBit}
+use Rattle.precedence.specs.Graph.{blocks, cyclic, cost}
+use Rattle.plan.specs.Field.{FieldPlan, planOf, flip, graph, fixed}
+use Rattle.plan.specs.Status.{Status, statusIn, entered, now}
+use Rattle.sound.specs.Sound.{sound}
+use Rattle.log.specs.CallLog.{Call, grant, arrive, turn, Reply, accepted, refused, mustWait, replyIn}
+use Rattle.log.specs.Calls.{Answer, granted, arrived, flipped, replyOf, grantStep, arriveStep, turnStep, step, costs, costRefused, costReply}
+
+-- a refusal: the tables are unchanged
+abbrev pub refusal : Tables → Reply → Answer
+refusal t r = record { reply = r; tables = t }
+
+-- an acceptance with the tables that it leaves
+abbrev pub acceptance : Tables → Answer
+acceptance t = record { reply = accepted; tables = t }
+
+module _ (L : Limits) (t : Tables) where
+  abbrev P : FieldPlan
+  P = planOf (t .plan)
+
+  abbrev S : Status
+  S = statusIn t
+
+  -- ---- 41 and 40, for every call
+
+  pub step-41 : fullSize L t ≡ false → (c : Call) → step L t c ≡ refusal t (refused 41)
+  unfolding grantStep arriveStep turnStep replyOf
+  step-41 e (grant d) = rw e
+  step-41 e (arrive d) = rw e
+  step-41 e (turn w) = rw e
+
+  pub step-40 : fullSize L t ≡ true → sound L t ≡ false → (c : Call) → step L t c ≡ refusal t (refused 40)
+  unfolding grantStep arriveStep turnStep replyOf
+  step-40 f e (grant d) = rw (f, e)
+  step-40 f e (arrive d) = rw (f, e)
+  step-40 f e (turn w) = rw (f, e)
+
+  pub cost-41 : fullSize L t ≡ false → costReply L t ≡ costRefused 41
+  unfolding costReply
+  cost-41 e = rw e refl
+
+  pub cost-40 : fullSize L t ≡ true → sound L t ≡ false → costReply L t ≡ costRefused 40
+  unfolding costReply
+  cost-40 f e = rw (f, e) refl
+
+  module _ (full : fullSize L t ≡ true) (sound-now : sound L t ≡ true) where
+    pub reply : (c : Call) → replyOf L t c ≡ replyIn P S c
+    unfolding replyOf
+    reply c = rw (full, sound-now)
+
+    pub cost-0 : costReply L t ≡ costs (cost (graph P (S .turned)) (at (t .visited)))
+    unfolding costReply
+    cost-0 = rw (full, sound-now) refl
+
+    -- ---- grant
+
+    pub grant-20 : (d : ℕ) → drones (t .plan) ≤ d → grantStep L t d ≡ refusal t (refused 20)
+    unfolding grantStep replyIn
+    grant-20 d a = rw (reply (grant d), le-leb (drones (t .plan)) d a)
+
+    pub grant-21 : (d : ℕ) → d < drones (t .plan) → P .last d ≤ at (t .visited) d → grantStep L t d ≡ refusal t (refused 21)
+    unfolding grantStep replyIn
+    grant-21 d a b = rw (reply (grant d), lt-leb (drones (t .plan)) d a, le-leb (P .last d) (at (t .visited) d) b)
+
+    module _ (d : ℕ) (a : d < drones (t .plan)) (b : at (t .visited) d < P .last d) where
+      pub grant-22 : underWayBit (at (t .droneFlags) d) ≡ true → grantStep L t d ≡ refusal t (refused 22)
+      unfolding grantStep replyIn
+      grant-22 c = rw (reply (grant d), lt-leb (drones (t .plan)) d a, lt-leb (P .last d) (at (t .visited) d) b, c)
+
+      -- w is what the search for an unmet dependency ends with
+      module _ (c : underWayBit (at (t .droneFlags) d) ≡ false) (w : ℕ) (first : First (dependencies (t .plan)) (blocks (graph P (S .turned)) (at (t .visited)) d) w) where
+        pub grant-23 : w < dependencies (t .plan) → grantStep L t d ≡ refusal t (mustWait w)
+        unfolding grantStep replyIn
+        grant-23 l = rw (reply (grant d), lt-leb (drones (t .plan)) d a, lt-leb (P .last d) (at (t .visited) d) b, c, firstBelow-is first, lt-ltb w (dependencies (t .plan)) l)
+
+        pub grant-0 : w ≡ dependencies (t .plan) → grantStep L t d ≡ acceptance (granted t d)
+        unfolding grantStep replyIn
+        grant-0 l = rw (reply (grant d), lt-leb (drones (t .plan)) d a, lt-leb (P .last d) (at (t .visited) d) b, c, firstBelow-is first, le-ltb w (dependencies (t .plan)) (omega arith))
+
+    -- ---- arrive
+
+    pub arrive-20 : (d : ℕ) → drones (t .plan) ≤ d → arriveStep L t d ≡ refusal t (refused 20)
+    unfolding arriveStep replyIn
+    arrive-20 d a = rw (reply (arrive d), le-leb (drones (t .plan)) d a)
+
+    pub arrive-24 : (d : ℕ) → d < drones (t .plan) → underWayBit (at (t .droneFlags) d) ≡ false → arriveStep L t d ≡ refusal t (refused 24)
+    unfolding arriveStep replyIn
+    arrive-24 d a b = rw (reply (arrive d), lt-leb (drones (t .plan)) d a, b)
+
+    pub arrive-0 : (d : ℕ) → d < drones (t .plan) → underWayBit (at (t .droneFlags) d) ≡ true → arriveStep L t d ≡ acceptance (arrived t d)
+    unfolding arriveStep replyIn
+    arrive-0 d a b = rw (reply (arrive d), lt-leb (drones (t .plan)) d a, b)
+
+    -- ---- turn
+
+    pub turn-30 : (w : ℕ) → dependencies (t .plan) ≤ w → turnStep L t w ≡ refusal t (refused 30)
+    unfolding turnStep replyIn
+    turn-30 w a = rw (reply (turn w), le-leb (dependencies (t .plan)) w a)
+
+    module _ (w : ℕ) (a : w < dependencies (t .plan)) where
+      pub turn-31 : fixed P w ≡ true → turnStep L t w ≡ refusal t (refused 31)
+      unfolding turnStep replyIn
+      turn-31 b = rw (reply (turn w), lt-leb (dependencies (t .plan)) w a, b)
+
+      module _ (b : fixed P w ≡ false) where
+        pub turn-32 : entered P S (now P S w .first) (now P S w .firstStop) ≡ true → turnStep L t w ≡ refusal t (refused 32)
+        unfolding turnStep replyIn
+        turn-32 c = rw (reply (turn w), lt-leb (dependencies (t .plan)) w a, b, c)
+
+        module _ (c : entered P S (now P S w .first) (now P S w .firstStop) ≡ false) where
+          pub turn-33 : entered P S (now P S w .second) (now P S w .secondStop) ≡ true → turnStep L t w ≡ refusal t (refused 33)
+          unfolding turnStep replyIn
+          turn-33 d = rw (reply (turn w), lt-leb (dependencies (t .plan)) w a, b, c, d)
+
+          module _ (d : entered P S (now P S w .second) (now P S w .secondStop) ≡ false) where
+            pub turn-34 : cyclic (graph P (flip (S .turned) w)) ≡ true → turnStep L t w ≡ refusal t (refused 34)
+            unfolding turnStep replyIn
+            turn-34 e = rw (reply (turn w), lt-leb (dependencies (t .plan)) w a, b, c, d, e)
+
+            pub turn-0 : cyclic (graph P (flip (S .turned) w)) ≡ false → turnStep L t w ≡ acceptance (flipped t w)
+            unfolding turnStep replyIn
+            turn-0 e = rw (reply (turn w), lt-leb (dependencies (t .plan)) w a, b, c, d, e)

@@ -1,0 +1,148 @@
+-- Demand 3, proved: call by call the tables show the log, so every reply is the log's, and what is found by the log holds. Assumes nothing.
+use mathlib.Core.Path.{_≡_, refl, sym, ap, _∙_, subst, fun-ext}
+use mathlib.Core.Bool.{Bool, true, cond}
+use mathlib.Core.List.{List, [], _∷_, _++_, append-assoc, append-nil}
+use Prim.Native.Nat.{ℕ, _≤_, _<_}
+use native.Mathlib.Omega.{arith}
+use Rattle.below.specs.Below.{at}
+use Rattle.below.proofs.Tests.{by-cases}
+use Rattle.tables.specs.Limits.{Limits}
+use Rattle.tables.specs.Tables.{PlanLists, Tables, drones, fullSize}
+use Rattle.plan.specs.Field.{FieldPlan, AcceptedPlan, planOf}
+use Rattle.sound.specs.Sound.{sound}
+use Rattle.log.specs.CallLog.{Call, grant, arrive, turn, Reply, isAccepted, Entry, entry, statusOf, acceptedCalls, replyBy, logFrom, logOf}
+use Rattle.log.specs.Calls.{Answer, granted, arrived, flipped, grantStep, arriveStep, turnStep, step, recorded, tablesAfter, Answered, Ran, none, next, AsRead}
+use Rattle.log.specs.Demand.{Found, Demand3, Demand3OfContracts}
+use Rattle.log.proofs.Checks.{grant-passed, arrive-passed, turn-passed}
+use Rattle.log.specs.Claims.{MayGo, MayArrive}
+use Rattle.log.proofs.Log.{arrivals, grants, turns, Counts, counts-refused, counts-grant, counts-arrive, counts-turn, GoodLog, good-empty, idle-same, good-more, good-calls}
+use Rattle.log.proofs.SoundParts.{accepted-plan}
+use Rattle.log.proofs.Shown.{SamePlan, full-same, Kept, kept-grant, kept-arrive, kept-turn, kept-status, kept-sound, kept-reply, kept-start}
+use Rattle.log.proofs.Found.{log-held, log-goes-on, log-finishes}
+
+module _ (L : Limits) (lists : PlanLists) (t₀ : Tables) (read : AsRead L lists t₀) where
+  abbrev F : FieldPlan
+  F = planOf lists
+
+  plan : AcceptedPlan F
+  plan = accepted-plan L lists (read .plan-accepted) (read .dependencies-own)
+
+  -- the tables show the log, entry by entry
+  abbrev KeptLog : List Entry → Tables → Type 0
+  KeptLog log t = Kept lists t₀ (arrivals log) (grants log) (turns log) t
+
+  kept-counts : (log : List Entry) (p e : ℕ → ℕ) (u : ℕ → Bool) (t : Tables) → Counts log p e u → Kept lists t₀ p e u t → KeptLog log t
+  kept-counts log p e u t c k =
+      subst (λ (x : ℕ → ℕ). Kept lists t₀ x (grants log) (turns log) t) (sym (fun-ext (c .arrivals-are)))
+      (subst (λ (x : ℕ → ℕ). Kept lists t₀ p x (turns log) t) (sym (fun-ext (c .grants-are)))
+      (subst (λ (x : ℕ → Bool). Kept lists t₀ p e x t) (sym (fun-ext (c .turns-are))) k))
+
+  module _ (log : List Entry) (good : GoodLog F log) (t : Tables) (kept : KeptLog log t) where
+    -- the call gets the reply of the log
+    same-reply : (c : Call) → step L t c .reply ≡ replyBy F log c
+    unfolding grantStep arriveStep turnStep
+    same-reply (grant d) = kept-reply L lists t₀ read _ _ _ t kept plan good (grant d)
+    same-reply (arrive d) = kept-reply L lists t₀ read _ _ _ t kept plan good (arrive d)
+    same-reply (turn w) = kept-reply L lists t₀ read _ _ _ t kept plan good (turn w)
+
+    -- what an accepted call leaves
+    left : Call → Tables
+    left (grant d) = granted t d
+    left (arrive d) = arrived t d
+    left (turn w) = flipped t w
+
+    same-left : (c : Call) → step L t c .tables ≡ cond (isAccepted (replyBy F log c)) (left c) t
+    unfolding grantStep arriveStep turnStep left
+    same-left (grant d) = ap (λ (r : Reply). cond (isAccepted r) (left (grant d)) t) (kept-reply L lists t₀ read _ _ _ t kept plan good (grant d))
+    same-left (arrive d) = ap (λ (r : Reply). cond (isAccepted r) (left (arrive d)) t) (kept-reply L lists t₀ read _ _ _ t kept plan good (arrive d))
+    same-left (turn w) = ap (λ (r : Reply). cond (isAccepted r) (left (turn w)) t) (kept-reply L lists t₀ read _ _ _ t kept plan good (turn w))
+
+    kept-left : (c : Call) → isAccepted (replyBy F log c) ≡ true → KeptLog (log ++ (entry c (replyBy F log c) ∷ [])) (left c)
+    unfolding left
+    kept-left (grant d) e =
+        let q : MayGo F (statusOf log) d = grant-passed F (statusOf log) d e in
+        kept-counts _ _ _ _ _ (counts-grant log _ d e (idle-same F log good d (q .waiting .idle))) (kept-grant L lists t₀ read _ _ _ t kept d (q .waiting .exists))
+    kept-left (arrive d) e =
+        let q : MayArrive F (statusOf log) d = arrive-passed F (statusOf log) d e in
+        kept-counts _ _ _ _ _ (counts-arrive log _ d e) (kept-arrive L lists t₀ read _ _ _ t kept d (q .exists) (good .running .ahead d))
+    kept-left (turn w) e =
+        let q = turn-passed F (statusOf log) w e in
+        kept-counts _ _ _ _ _ (counts-turn log _ w e) (kept-turn L lists t₀ read _ _ _ t kept w (q .0 .exists))
+
+    kept-more : (c : Call) → KeptLog (log ++ (entry c (replyBy F log c) ∷ [])) (step L t c .tables)
+    kept-more c = by-cases (isAccepted (replyBy F log c))
+        (λ e. rw (same-left c, e) (kept-left c e))
+        (λ e. rw (same-left c, e) (kept-counts _ _ _ _ _ (counts-refused log (replyBy F log c) c e) kept))
+
+  -- the whole list
+  replies-same : (cs : List Call) (log : List Entry) → GoodLog F log → (t : Tables) → KeptLog log t → log ++ recorded (step L) t cs ≡ logFrom F log cs
+  unfolding recorded logFrom
+  replies-same [] log g t k = append-nil log
+  replies-same (c ∷ cs) log g t k =
+      rw (same-reply log g t k c) (sym (append-assoc log (entry c (replyBy F log c) ∷ []) (recorded (step L) (step L t c .tables) cs))
+      ∙ replies-same cs (log ++ (entry c (replyBy F log c) ∷ [])) (good-more F log g c) (step L t c .tables) (kept-more log g t k c))
+
+  kept-calls : (cs : List Call) (log : List Entry) → GoodLog F log → (t : Tables) → KeptLog log t → KeptLog (logFrom F log cs) (tablesAfter (step L) t cs)
+  unfolding tablesAfter logFrom
+  kept-calls [] log g t k = k
+  kept-calls (c ∷ cs) log g t k = kept-calls cs (log ++ (entry c (replyBy F log c) ∷ [])) (good-more F log g c) (step L t c .tables) (kept-more log g t k c)
+
+  kept-empty : KeptLog [] t₀
+  unfolding acceptedCalls
+  kept-empty = kept-start L lists t₀ read
+
+  found : (calls : List Call) → Found lists calls (recorded (step L) t₀ calls) (tablesAfter (step L) t₀ calls)
+  found calls = record {
+    replies = replies-same calls [] (good-empty F plan) t₀ kept-empty;
+    shown = kept-status L lists t₀ read _ _ _ (tablesAfter (step L) t₀ calls) after;
+    held = log-held F plan (logOf F calls) good;
+    goes-on = log-goes-on F plan (logOf F calls) good;
+    finishes = log-finishes F plan (logOf F calls) good;
+  }
+    where
+      good : GoodLog F (logOf F calls)
+      good = good-calls F calls [] (good-empty F plan)
+
+      after : KeptLog (logOf F calls) (tablesAfter (step L) t₀ calls)
+      after = kept-calls calls [] (good-empty F plan) t₀ kept-empty
+
+  -- besides: the tables stay sound, and all but progress and bit 0 stays as it was read
+  pub stays-sound : (calls : List Call) → sound L (tablesAfter (step L) t₀ calls) ≡ true
+  stays-sound calls = kept-sound L lists t₀ read _ _ _ (tablesAfter (step L) t₀ calls) (kept-calls calls [] (good-empty F plan) t₀ kept-empty) plan (good-calls F calls [] (good-empty F plan))
+
+  pub stays-same : (calls : List Call) → SamePlan t₀ (tablesAfter (step L) t₀ calls)
+  stays-same calls = kept-calls calls [] (good-empty F plan) t₀ kept-empty .same
+
+  pub stays-full : (calls : List Call) → fullSize L (tablesAfter (step L) t₀ calls) ≡ true
+  stays-full calls = full-same L t₀ (tablesAfter (step L) t₀ calls) (stays-same calls) (read .full)
+
+  pub stays-within : (calls : List Call) (d : ℕ) → d < drones lists → at (tablesAfter (step L) t₀ calls .visited) d ≤ planOf lists .last d
+  stays-within calls d l = omega (arith, kept-calls calls [] (good-empty F plan) t₀ kept-empty .visited-is d l, good-calls F calls [] (good-empty F plan) .running .behind d, good-calls F calls [] (good-empty F plan) .within d l)
+
+pub demand3 : Demand3
+demand3 L lists t calls read = found L lists t read calls
+
+-- a run by contracts is the run of the step functions
+pub replies-of : (L : Limits) {t t′ : Tables} {cs : List Call} {es : List Entry} → Ran (step L) t cs es t′ → es ≡ recorded (step L) t cs
+unfolding recorded
+replies-of L none = refl
+replies-of L (next {c = c} {cs = cs} a r) = rw (replies-of L r, a .replied, a .left)
+
+pub tables-of : (L : Limits) {t t′ : Tables} {cs : List Call} {es : List Entry} → Ran (step L) t cs es t′ → t′ ≡ tablesAfter (step L) t cs
+unfolding tablesAfter
+tables-of L none = refl
+tables-of L (next {cs = cs} a r) = tables-of L r ∙ ap (λ (t : Tables). tablesAfter (step L) t cs) (a .left)
+
+pub demand3-of-contracts : Demand3OfContracts
+demand3-of-contracts L lists t calls got t′ read ran = rw (replies-of L ran, tables-of L ran) (demand3 L lists t calls read)
+
+-- every list of calls has such a run
+pub ran : (L : Limits) (cs : List Call) (t : Tables) → Ran (step L) t cs (recorded (step L) t cs) (tablesAfter (step L) t cs)
+unfolding recorded tablesAfter
+ran L [] t = none
+ran L (c ∷ cs) t = next (record { replied = refl; left = refl }) (ran L cs (step L t c .tables))
+
+-- one call more at the end of a run, as a loop makes it
+pub ran-more : {program : Tables → Call → Answer} {t t′ t″ : Tables} {c : Call} {r : Reply} {cs : List Call} {es : List Entry} → Ran program t cs es t′ → Answered program t′ c r t″ → Ran program t (cs ++ (c ∷ [])) (es ++ (entry c r ∷ [])) t″
+ran-more none a = next a none
+ran-more (next b r) a = next b (ran-more r a)

@@ -1,0 +1,129 @@
+-- Demand 2: when each call is accepted, in plain terms, what 23 and 34 say, that 33 never comes, and what the cost is. Assumes nothing.
+use mathlib.Core.Path.{_≡_}
+use mathlib.Core.Logic.{_≢_, _↔_}
+use mathlib.Core.Bool.{true, false}
+use Prim.Native.Nat.{ℕ, suc, _-_, _*_, _≤_, _<_}
+use Rattle.below.specs.Below.{sumBelow}
+use Rattle.tables.specs.Limits.{Limits, limits}
+use Rattle.tables.specs.Tables.{Tables, fullSize}
+use Rattle.precedence.specs.Graph.{Cycle, Longest, remaining}
+use Rattle.plan.specs.Field.{FieldPlan, planOf, flip, graph}
+use Rattle.plan.specs.Status.{Status, statusIn, now}
+use Rattle.sound.specs.Sound.{sound}
+use Rattle.log.specs.CallLog.{Reply, accepted, refused, mustWait}
+use Rattle.log.specs.Calls.{grantStep, arriveStep, turnStep, costs, costReply}
+
+-- no lent table is below full size, and the tables are sound
+abbrev pub Usable : Limits → Tables → Type 0
+Usable L t = (fullSize L t ≡ true) × (sound L t ≡ true)
+
+module _ (F : FieldPlan) (s : Status) where
+  open FieldPlan F using (drones, last, count, dependency)
+  open Status s using (place, underWay, turned)
+
+  -- ---- grant
+
+  -- dependency w is one into the next stop of drone d
+  abbrev pub IntoNext : ℕ → ℕ → Type 0
+  IntoNext d w = (w < count) × (now F s w .second ≡ d) × (now F s w .secondStop ≡ suc (place d))
+
+  -- "i may enter stop k only after j has visited stop s+1": the stop that dependency w waits for is visited
+  abbrev pub Met : ℕ → Type 0
+  Met w = suc (now F s w .firstStop) ≤ place (now F s w .first)
+
+  -- the drone exists, has an unvisited stop and is not under way
+  pub record Waiting (d : ℕ) : Type 0 where
+    pub exists : d < drones
+    pub unfinished : place d < last d
+    pub idle : underWay d ≡ false
+
+  -- "the drone becomes under way when every dependency into its next stop has the awaited stop visited"
+  pub record MayGo (d : ℕ) : Type 0 where
+    pub waiting : Waiting d
+    pub met : (w : ℕ) → IntoNext d w → Met w
+
+  -- "23 must wait, with the lowest dependency unmet"
+  pub record MustWait (d w : ℕ) : Type 0 where
+    pub waiting : Waiting d
+    pub into-next : IntoNext d w
+    pub unmet : Met w → ⊥
+    pub lowest : (v : ℕ) → v < w → IntoNext d v → Met v
+
+  -- ---- arrive
+
+  -- "a drone under way"
+  pub record MayArrive (d : ℕ) : Type 0 where
+    pub exists : d < drones
+    pub under-way : underWay d ≡ true
+
+  -- ---- turn
+
+  -- drone d has not visited its stop k and is not under way to it
+  abbrev pub Unentered : ℕ → ℕ → Type 0
+  Unentered d k = (place d < k) × (underWay d ≡ true → suc (place d) < k)
+
+  -- the dependency exists, is not fixed, and neither drone has entered its stop
+  pub record Turnable (w : ℕ) : Type 0 where
+    pub exists : w < count
+    pub not-first : dependency w .firstStop ≢ 0
+    pub not-last : dependency w .secondStop ≢ last (dependency w .second)
+    pub first-before : Unentered (dependency w .first) (dependency w .firstStop)
+    pub second-before : Unentered (dependency w .second) (dependency w .secondStop)
+
+  -- the graph with dependency w turned has a cycle
+  abbrev pub TurnedCycle : ℕ → Type 0
+  TurnedCycle w = Cycle (graph F (flip turned w))
+
+module _ (L : Limits) (t : Tables) where
+  abbrev F : FieldPlan
+  F = planOf (t .plan)
+
+  abbrev S : Status
+  S = statusIn t
+
+  abbrev pub GrantedExactly : Type 0
+  GrantedExactly = (d : ℕ) → (grantStep L t d .reply ≡ accepted) ↔ (Usable L t × MayGo F S d)
+
+  abbrev pub WaitsExactly : Type 0
+  WaitsExactly = (d w : ℕ) → (grantStep L t d .reply ≡ mustWait w) ↔ (Usable L t × MustWait F S d w)
+
+  abbrev pub ArrivedExactly : Type 0
+  ArrivedExactly = (d : ℕ) → (arriveStep L t d .reply ≡ accepted) ↔ (Usable L t × MayArrive F S d)
+
+  -- 33's condition may hold, but 32's then holds before it
+  abbrev pub Never33 : Type 0
+  Never33 = (w : ℕ) → turnStep L t w .reply ≢ refused 33
+
+  abbrev pub TurnedExactly : Type 0
+  TurnedExactly = (w : ℕ) → (turnStep L t w .reply ≡ accepted) ↔ (Usable L t × (Turnable F S w × (TurnedCycle F S w → ⊥)))
+
+  -- "34 the turned graph has a cycle"
+  abbrev pub CycleExactly : Type 0
+  CycleExactly = (w : ℕ) → (turnStep L t w .reply ≡ refused 34) ↔ (Usable L t × (Turnable F S w × TurnedCycle F S w))
+
+  -- "A drone's remaining rounds are those until it finishes, 0 if finished. Remaining cost is their sum"; they "are also the number of stops in the longest
+  -- chain of unvisited stops that ends at its last stop"
+  pub record CostMeans : Type 0 where
+    pub is-sum : Usable L t → costReply L t ≡ costs (sumBelow (F .drones) (remaining (graph F (S .turned)) (S .place)))
+    pub is-longest : Usable L t → (d : ℕ) → d < F .drones → S .place d < F .last d → Longest (graph F (S .turned)) (S .place) d (remaining (graph F (S .turned)) (S .place) d)
+    pub is-none : Usable L t → (d : ℕ) → d < F .drones → F .last d ≤ S .place d → remaining (graph F (S .turned)) (S .place) d ≡ 0
+
+-- the greatest cost: every drone waits for every stop but the first ones
+abbrev pub CostBounded : Type 0
+CostBounded = (L : Limits) (t : Tables) (n : ℕ) → 2 * L .drones ≤ L .stops → costReply L t ≡ costs n → n ≤ L .drones * (L .stops - L .drones)
+
+-- "at most 31,744"
+abbrev pub CostLimit : Type 0
+CostLimit = (t : Tables) (n : ℕ) → costReply limits t ≡ costs n → n ≤ 31744
+
+-- of all tables
+pub record Demand2 : Type 0 where
+  pub granted-exactly : (L : Limits) (t : Tables) → GrantedExactly L t
+  pub waits-exactly : (L : Limits) (t : Tables) → WaitsExactly L t
+  pub arrived-exactly : (L : Limits) (t : Tables) → ArrivedExactly L t
+  pub never-33 : (L : Limits) (t : Tables) → Never33 L t
+  pub turned-exactly : (L : Limits) (t : Tables) → TurnedExactly L t
+  pub cycle-exactly : (L : Limits) (t : Tables) → CycleExactly L t
+  pub cost-means : (L : Limits) (t : Tables) → CostMeans L t
+  pub cost-bounded : CostBounded
+  pub cost-limit : CostLimit

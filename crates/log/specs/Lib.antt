@@ -1,0 +1,6 @@
+pub mod CallLog
+pub mod Calls
+pub mod Demand
+pub mod Claims
+pub mod Flights
+pub mod Wrong

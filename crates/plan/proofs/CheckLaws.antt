@@ -1,0 +1,50 @@
+-- The plan check's two searches as loops make them, and its answers by what the searches found. Assumes nothing.
+use mathlib.Core.Path.{_≡_, refl, sym, ap, _∙_, subst}
+use mathlib.Core.Bool.{true, false, not}
+use Prim.Native.Nat.{ℕ, _≤_, _<_}
+use lib.Dec.{ltb, eqb}
+use borrow.Author.Tests.{lt-ltb, le-ltb, ltb-true, eq-eqb, ne-eqb}
+use Rattle.below.proofs.Search.{firstBelow-first}
+use Rattle.plan.specs.declared.check.StopAt.{StopAt}
+use Rattle.plan.specs.declared.check.PlanCheck.{PlanCheck}
+use Rattle.plan.specs.declared.check.PlanCheck.the-variants.{Fine, Collision}
+use Rattle.plan.specs.Check.{faultAt, firstFault, partner, collider}
+use Rattle.plan.specs.Answers.{stopAt, faultCase, checkOf}
+
+-- ---- stop by stop: f is the number at stop v
+module _ (num loc time : ℕ → ℕ) (v f : ℕ) (e : f ≡ faultAt num loc time v) where
+  pub at-fault : (f ≡ 0 → ⊥) → not (eqb (faultAt num loc time v) 0) ≡ true
+  at-fault h = ap not (ne-eqb (faultAt num loc time v) 0 (λ z. h (e ∙ z)))
+
+  pub no-fault : f ≡ 0 → not (eqb (faultAt num loc time v) 0) ≡ false
+  no-fault z = ap not (eq-eqb (faultAt num loc time v) 0 (sym e ∙ z))
+
+-- ---- collisions: w is the partner of v
+module _ (own loc time : ℕ → ℕ) (n v w : ℕ) (e : w ≡ partner own loc time n v) where
+  pub has-partner : w < n → ltb (partner own loc time n v) n ≡ true
+  has-partner h = lt-ltb (partner own loc time n v) n (subst (λ (k : ℕ). k < n) e h)
+
+  pub no-partner : n ≤ w → ltb (partner own loc time n v) n ≡ false
+  no-partner h = le-ltb (partner own loc time n v) n (subst (λ (k : ℕ). n ≤ k) e h)
+
+-- the partner of the first stop that has one is a stop
+pub partner-in : (own loc time : ℕ → ℕ) (n v w : ℕ) → v ≡ collider own loc time n → v < n → w ≡ partner own loc time n v → w < n
+unfolding collider
+partner-in own loc time n v w e l p =
+    subst (λ (k : ℕ). k < n) (sym p) (ltb-true (partner own loc time n v) n
+    (subst (λ (k : ℕ). ltb (partner own loc time n k) n ≡ true) (sym e) (firstBelow-first n (λ v. ltb (partner own loc time n v) n) .found (subst (λ (k : ℕ). k < n) e l))))
+
+-- ---- the three answers; v is what the first search found, w what the second
+module _ (own num loc time : ℕ → ℕ) (n v : ℕ) (e : v ≡ firstFault num loc time n) where
+  pub check-fault : (r : PlanCheck) (f : ℕ) (s : StopAt) → v < n → f ≡ faultAt num loc time v → s ≡ stopAt own num v → r ≡ faultCase f s → r ≡ checkOf own num loc time n
+  unfolding checkOf
+  check-fault r f s l ef es h = rw (← e, lt-ltb v n l, ← ef, ← es) h
+
+  module _ (none : n ≤ v) (w : ℕ) (c : w ≡ collider own loc time n) where
+    pub check-collision : (x : ℕ) (a b : StopAt) → w < n → x ≡ partner own loc time n w → a ≡ stopAt own num w → b ≡ stopAt own num x → Collision a b ≡ checkOf own num loc time n
+    unfolding checkOf
+    check-collision x a b l p ea eb = rw (← e, le-ltb v n none, ← c, lt-ltb w n l, ← p, ea, eb) refl
+
+    pub check-fine : n ≤ w → Fine ≡ checkOf own num loc time n
+    unfolding checkOf
+    check-fine l = rw (← e, le-ltb v n none, ← c, le-ltb w n l) refl

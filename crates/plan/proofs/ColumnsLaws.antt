@@ -1,0 +1,165 @@
+-- The five columns as the building's loops write them: a turn of a row adds an entry or skips it, a turn of the outer loop adds a row. Assumes nothing.
+use mathlib.Core.Path.{_≡_, refl, sym, ap, _∙_, subst}
+use mathlib.Core.List.{List}
+use mathlib.Core.Bool.{Bool, true, false}
+use Prim.Native.Nat.{ℕ, _+_, _≤_, _<_}
+use native.Mathlib.Nat.{le-antisymm}
+use native.Mathlib.Omega.{arith}
+use lib.ListN.{length, set}
+use borrow.Author.Tests.{le-leb, lt-leb}
+use Rattle.below.specs.Below.{countBelow, sumBelow, picks, rowsBelow}
+use Rattle.below.proofs.Count.{count-le, count-start, count-yes, count-no, count-past}
+use Rattle.below.proofs.Sum.{sum-past, sum-turn}
+use Rattle.below.proofs.Picks.{length-picks, length-rows, laid-none, laid-length, pick-store, pick-skip, row-store}
+use Rattle.plan.specs.declared.dependencies.Built.the-variants.{Count, TooMany}
+use Rattle.plan.specs.Dependencies.{follows, flagOf, dependencyTotal, column}
+use Rattle.plan.specs.Columns.{Columns, columns, written, rowWritten, rowsWritten, builtOf, builtIn}
+use Rattle.plan.specs.Room.{ColumnsRoom}
+
+columns-same : {fd fs sd ss fl fd′ fs′ sd′ ss′ fl′ : List ℕ} → fd ≡ fd′ → fs ≡ fs′ → sd ≡ sd′ → ss ≡ ss′ → fl ≡ fl′ → columns fd fs sd ss fl ≡ columns fd′ fs′ sd′ ss′ fl′
+columns-same a b c d e = rw (a, b, c, d, e) refl
+
+-- the columns keep their lengths
+pub record SameLengths (c c₀ : Columns) : Type 0 where
+  pub same-first-drones : length (c .firstDrones) ≡ length (c₀ .firstDrones)
+  pub same-first-stops : length (c .firstStops) ≡ length (c₀ .firstStops)
+  pub same-second-drones : length (c .secondDrones) ≡ length (c₀ .secondDrones)
+  pub same-second-stops : length (c .secondStops) ≡ length (c₀ .secondStops)
+  pub same-flags : length (c .flags) ≡ length (c₀ .flags)
+
+written-lengths : (own num : ℕ → ℕ) (n : ℕ) (list : (ℕ → ℕ → ℕ) → List ℕ) (k : ℕ) (c c₀ : Columns) → c ≡ written own num n list k c₀ → SameLengths c c₀
+written-lengths own num n list k c c₀ e =
+    record {
+      same-first-drones = laid-length _ _ _ _ (ap (λ (x : Columns). x .firstDrones) e);
+      same-first-stops = laid-length _ _ _ _ (ap (λ (x : Columns). x .firstStops) e);
+      same-second-drones = laid-length _ _ _ _ (ap (λ (x : Columns). x .secondDrones) e);
+      same-second-stops = laid-length _ _ _ _ (ap (λ (x : Columns). x .secondStops) e);
+      same-flags = laid-length _ _ _ _ (ap (λ (x : Columns). x .flags) e);
+    }
+
+room-in : (m m₀ : ℕ) (c c₀ : Columns) → SameLengths c c₀ → m ≤ m₀ → ColumnsRoom m₀ c₀ → ColumnsRoom m c
+room-in m m₀ c c₀ s l r =
+    record {
+      has-first-drones = omega (arith, s .same-first-drones, r .has-first-drones);
+      has-first-stops = omega (arith, s .same-first-stops, r .has-first-stops);
+      has-second-drones = omega (arith, s .same-second-drones, r .has-second-drones);
+      has-second-stops = omega (arith, s .same-second-stops, r .has-second-stops);
+      has-flags = omega (arith, s .same-flags, r .has-flags);
+      dependencies-fit = omega (arith, r .dependencies-fit);
+    }
+
+-- a row is no longer than the stops
+pub row-few : (n : ℕ) (f : ℕ → Bool) (r : ℕ) → r ≡ countBelow n f → r ≤ n
+row-few n f r e = omega (arith, count-le n f)
+
+-- ---- the cursor k, where those of a row that pass q are written from the entry c on
+module _ (q : ℕ → Bool) (c : ℕ) where
+  pub cursor-none : c ≡ c + countBelow 0 q
+  cursor-none = omega (arith, count-start q)
+
+  module _ (w k : ℕ) (e : k ≡ c + countBelow w q) where
+    pub cursor-skip : q w ≡ false → k ≡ c + countBelow (w + 1) q
+    cursor-skip h = omega (arith, count-no w q h)
+
+    pub cursor-take : q w ≡ true → k + 1 ≡ c + countBelow (w + 1) q
+    cursor-take h = omega (arith, count-yes w q h)
+
+    pub cursor-end : (n : ℕ) → w ≤ n → n ≤ w → k ≡ c + countBelow n q
+    cursor-end n a b = subst (λ (m : ℕ). k ≡ c + countBelow m q) (le-antisymm a b) e
+
+-- ---- the row of the first stop v, written from the entry c on
+module _ (own num loc time : ℕ → ℕ) (n v c : ℕ) (c₀ : Columns) where
+  abbrev q : ℕ → Bool
+  q = follows own loc time v
+
+  pub row-none : c₀ ≡ rowWritten own num loc time n v 0 c c₀
+  unfolding rowWritten picks
+  row-none = columns-same (laid-none _ _) (laid-none _ _) (laid-none _ _) (laid-none _ _) (laid-none _ _)
+
+  module _ (w : ℕ) (fd fs sd ss fl : List ℕ) (e : columns fd fs sd ss fl ≡ rowWritten own num loc time n v w c c₀) where
+    pub row-skip : q w ≡ false → columns fd fs sd ss fl ≡ rowWritten own num loc time n v (w + 1) c c₀
+    unfolding rowWritten
+    row-skip h =
+        columns-same
+        (pick-skip q w _ _ _ _ (ap (λ (x : Columns). x .firstDrones) e) h)
+        (pick-skip q w _ _ _ _ (ap (λ (x : Columns). x .firstStops) e) h)
+        (pick-skip q w _ _ _ _ (ap (λ (x : Columns). x .secondDrones) e) h)
+        (pick-skip q w _ _ _ _ (ap (λ (x : Columns). x .secondStops) e) h)
+        (pick-skip q w _ _ _ _ (ap (λ (x : Columns). x .flags) e) h)
+
+    pub row-lengths : SameLengths (columns fd fs sd ss fl) c₀
+    unfolding rowWritten
+    row-lengths = written-lengths own num n (λ f. picks w (follows own loc time v) (f v)) c _ c₀ e
+
+    pub row-end : w ≤ n → n ≤ w → columns fd fs sd ss fl ≡ rowWritten own num loc time n v n c c₀
+    row-end a b = subst (λ (m : ℕ). columns fd fs sd ss fl ≡ rowWritten own num loc time n v m c c₀) (le-antisymm a b) e
+
+    module _ (k : ℕ) (ek : k ≡ c + countBelow w q) where
+      pub row-take : (flag : ℕ) → q w ≡ true → flag ≡ flagOf own num n v w
+          → columns (set fd k (own v)) (set fs k (num v)) (set sd k (own w)) (set ss k (num w)) (set fl k flag) ≡ rowWritten own num loc time n v (w + 1) c c₀
+      unfolding rowWritten
+      row-take flag h ef =
+          columns-same
+          (pick-store q w _ _ _ _ (ap (λ (x : Columns). x .firstDrones) e) k _ h ek refl)
+          (pick-store q w _ _ _ _ (ap (λ (x : Columns). x .firstStops) e) k _ h ek refl)
+          (pick-store q w _ _ _ _ (ap (λ (x : Columns). x .secondDrones) e) k _ h ek refl)
+          (pick-store q w _ _ _ _ (ap (λ (x : Columns). x .secondStops) e) k _ h ek refl)
+          (pick-store q w _ _ _ _ (ap (λ (x : Columns). x .flags) e) k _ h ek ef)
+
+      -- where w follows v, the cursor is within the columns
+      pub row-room : q w ≡ true → w < n → ColumnsRoom (c + countBelow n q) c₀ → ColumnsRoom (k + 1) (columns fd fs sd ss fl)
+      row-room h l r = room-in (k + 1) (c + countBelow n q) _ c₀ row-lengths (omega (arith, count-past w n q l h)) r
+
+-- ---- the rows of all first stops
+module _ (own num loc time : ℕ → ℕ) (n : ℕ) (c₀ : Columns) where
+  abbrev inRow : ℕ → ℕ
+  inRow u = countBelow n (follows own loc time u)
+
+  pub rows-none : c₀ ≡ rowsWritten own num loc time n 0 c₀
+  unfolding rowsWritten rowsBelow
+  rows-none = columns-same (laid-none _ _) (laid-none _ _) (laid-none _ _) (laid-none _ _) (laid-none _ _)
+
+  module _ (v : ℕ) (c : Columns) (e : c ≡ rowsWritten own num loc time n v c₀) where
+    pub rows-lengths : SameLengths c c₀
+    unfolding rowsWritten
+    rows-lengths = written-lengths own num n (λ f. rowsBelow v (λ u. picks n (follows own loc time u) (f u))) 0 c c₀ e
+
+    pub rows-end : v ≤ n → n ≤ v → c ≡ rowsWritten own num loc time n n c₀
+    rows-end a b = subst (λ (m : ℕ). c ≡ rowsWritten own num loc time n m c₀) (le-antisymm a b) e
+
+    module _ (k : ℕ) (ek : k ≡ sumBelow v inRow) where
+      -- the cursor is the length of what was written
+      at-end : (f : ℕ → ℕ → ℕ) → k ≡ length (rowsBelow v (λ u. picks n (follows own loc time u) (f u)))
+      at-end f = ek ∙ sym (length-rows _ inRow (λ u. length-picks _ (f u) n) v)
+
+      pub rows-more : (fd fs sd ss fl : List ℕ) → columns fd fs sd ss fl ≡ rowWritten own num loc time n v n k c → columns fd fs sd ss fl ≡ rowsWritten own num loc time n (v + 1) c₀
+      unfolding rowWritten rowsWritten
+      rows-more fd fs sd ss fl r =
+          columns-same
+          (row-store _ _ _ _ _ _ (ap (λ (x : Columns). x .firstDrones) e) (at-end (λ v w. own v)) (ap (λ (x : Columns). x .firstDrones) r))
+          (row-store _ _ _ _ _ _ (ap (λ (x : Columns). x .firstStops) e) (at-end (λ v w. num v)) (ap (λ (x : Columns). x .firstStops) r))
+          (row-store _ _ _ _ _ _ (ap (λ (x : Columns). x .secondDrones) e) (at-end (λ v w. own w)) (ap (λ (x : Columns). x .secondDrones) r))
+          (row-store _ _ _ _ _ _ (ap (λ (x : Columns). x .secondStops) e) (at-end (λ v w. num w)) (ap (λ (x : Columns). x .secondStops) r))
+          (row-store _ _ _ _ _ _ (ap (λ (x : Columns). x .flags) e) (at-end (flagOf own num n)) (ap (λ (x : Columns). x .flags) r))
+
+      pub rows-cursor : (k′ : ℕ) → k′ ≡ k + inRow v → k′ ≡ sumBelow (v + 1) inRow
+      rows-cursor k′ r = r ∙ sum-turn inRow v k (inRow v) ek refl
+
+      -- the row of v is within the columns
+      pub rows-room : v < n → ColumnsRoom (sumBelow n inRow) c₀ → ColumnsRoom (k + inRow v) c
+      rows-room l r = room-in (k + inRow v) (sumBelow n inRow) c c₀ rows-lengths (omega (arith, sum-past v n inRow l)) r
+
+-- ---- the building's two answers; m is the count
+module _ (limit : ℕ) (own num loc time : ℕ → ℕ) (n m : ℕ) (c₀ : Columns) (e : m ≡ dependencyTotal own loc time n) where
+  pub built-refused : limit < m → (TooMany ≡ builtOf limit own loc time n) × (c₀ ≡ builtIn limit own num loc time n c₀)
+  unfolding builtOf builtIn
+  built-refused h = (rw (← e, lt-leb m limit h) refl, rw (← e, lt-leb m limit h) refl)
+
+  pub built-done : (c : Columns) → m ≤ limit → c ≡ rowsWritten own num loc time n n c₀ → (Count m ≡ builtOf limit own loc time n) × (c ≡ builtIn limit own num loc time n c₀)
+  unfolding builtOf builtIn rowsWritten
+  built-done c h r = (rw (← e, le-leb m limit h) refl, rw (← e, le-leb m limit h) r)
+
+-- what the columns hold where the dependencies fit
+pub built-taken : (limit : ℕ) (own num loc time : ℕ → ℕ) (n : ℕ) (c c₀ : Columns) → dependencyTotal own loc time n ≤ limit → c ≡ builtIn limit own num loc time n c₀ → c ≡ written own num n (column own loc time n) 0 c₀
+unfolding builtIn
+built-taken limit own num loc time n c c₀ h e = rw (le-leb (dependencyTotal own loc time n) limit h) at e

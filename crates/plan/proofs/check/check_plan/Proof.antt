@@ -1,0 +1,74 @@
+-- What the two searches found chooses the answer.
+use native.Mathlib.Omega.{arith}
+use Rattle.plan.proofs.CheckLaws.{partner-in, check-fault, check-collision, check-fine}
+use borrow.Author.Needs.{needs}
+use Rattle.plan.proofs.check.check_plan.Statement.{statement}
+use Rattle.plan.proofs.check.check_plan.Tie as tie
+use Rattle.plan.proofs.check.check_plan.Reads as reads
+use Rattle.plan.proofs.check.check_plan.Lts as lts
+use Rattle.plan.proofs.check.fault_at.Reads as fault-at-reads
+use Rattle.plan.proofs.check.fault_case.Reads as fault-case-reads
+use Rattle.plan.proofs.check.first_collider.Reads as first-collider-reads
+use Rattle.plan.proofs.check.first_fault.Reads as first-fault-reads
+use Rattle.plan.proofs.check.partner_of.Reads as partner-of-reads
+use Rattle.plan.proofs.check.stop_at.Reads as stop-at-reads
+
+-- src/check.rt:165:9
+first-fault-requires : tie.Need-first-fault-requires
+first-fault-requires c κs = search needs
+
+-- src/check.rt:167:27
+fault-at-requires : tie.Need-fault-at-requires
+fault-at-requires c κs = search needs
+
+-- src/check.rt:167:67
+stop-at-requires : tie.Need-stop-at-requires
+stop-at-requires c κs = search needs
+
+-- src/check.rt:167:9
+fault-case-requires : tie.Need-fault-case-requires
+fault-case-requires c κs = search needs
+
+-- src/check.rt:167:9
+returns : tie.Need-returns
+returns c = check-fault _ _ _ _ _ _ (c .before .before .before .before .first-fault .ensures) _ _ _ (c .before .before .before .if1 .taken) (c .before .before .fault-at .ensures) (c .before .stop-at .ensures) (c .fault-case .ensures)
+
+-- src/check.rt:169:9
+first-collider-requires : tie.Need-first-collider-requires
+first-collider-requires c κs = search needs
+
+-- src/check.rt:171:13
+partner-of-requires : tie.Need-partner-of-requires
+partner-of-requires c κs = search needs
+
+-- src/check.rt:172:37
+stop-at-requires-2 : tie.Need-stop-at-requires-2
+stop-at-requires-2 c κs = search needs
+
+-- src/check.rt:172:66
+stop-at-requires-3 : tie.Need-stop-at-requires-3
+stop-at-requires-3 c κs = omega (arith, partner-in _ _ _ _ _ _ (c .before .before .before .first-collider .ensures) (c .before .before .if2 .taken) (c .before .partner-of .ensures))
+
+-- src/check.rt:172:9
+returns-2 : tie.Need-returns-2
+returns-2 c = check-collision _ _ _ _ _ _ (c .before .before .before .before .before .before .first-fault .ensures) (c .before .before .before .before .before .if1 .left) _ (c .before .before .before .before .first-collider .ensures) _ _ _ (c .before .before .before .if2 .taken) (c .before .before .partner-of .ensures) (c .before .stop-at2 .ensures) (c .stop-at3 .ensures)
+
+-- src/check.rt:155:1
+returns-3 : tie.Need-returns-3
+returns-3 c = check-fine _ _ _ _ _ _ (c .before .before .before .first-fault .ensures) (c .before .before .if1 .left) _ (c .before .first-collider .ensures) (c .if2 .left)
+
+pub check-plan-spec : {M : Type 1} → statement M
+check-plan-spec =
+    tie.close
+    (tie.spec
+    first-fault-requires
+    fault-at-requires
+    stop-at-requires
+    fault-case-requires
+    returns
+    first-collider-requires
+    partner-of-requires
+    stop-at-requires-2
+    stop-at-requires-3
+    returns-2
+    returns-3)

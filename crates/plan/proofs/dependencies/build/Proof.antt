@@ -1,0 +1,59 @@
+-- The count chooses the answer; where it is within the full size there is room for all rows.
+use Rattle.plan.proofs.ColumnsLaws.{built-refused, built-done}
+use borrow.Author.Needs.{needs}
+use Rattle.plan.proofs.dependencies.build.Statement.{statement}
+use Rattle.plan.proofs.dependencies.build.Tie as tie
+use Rattle.plan.proofs.dependencies.build.Reads as reads
+use Rattle.plan.proofs.dependencies.build.Lts as lts
+use Rattle.plan.proofs.dependencies.count_dependencies.Reads as count-dependencies-reads
+use Rattle.plan.proofs.dependencies.fill_rows.Reads as fill-rows-reads
+
+-- src/dependencies.rt:189:9
+count-dependencies-requires : tie.Need-count-dependencies-requires
+count-dependencies-requires c κs = search needs
+
+-- src/dependencies.rt:191:9
+returns : tie.Need-returns
+returns c = built-refused _ _ _ _ _ _ _ _ (c .before .count-dependencies .ensures) (c .if1 .taken)
+
+-- src/dependencies.rt:193:5
+fill-rows-requires : tie.Need-fill-rows-requires
+fill-rows-requires c κs = search needs
+
+-- src/dependencies.rt:172:1
+same-length : tie.Need-same-length
+same-length c = search needs
+
+-- src/dependencies.rt:172:1
+same-length-2 : tie.Need-same-length-2
+same-length-2 c = search needs
+
+-- src/dependencies.rt:172:1
+same-length-3 : tie.Need-same-length-3
+same-length-3 c = search needs
+
+-- src/dependencies.rt:172:1
+same-length-4 : tie.Need-same-length-4
+same-length-4 c = search needs
+
+-- src/dependencies.rt:172:1
+same-length-5 : tie.Need-same-length-5
+same-length-5 c = search needs
+
+-- src/dependencies.rt:172:1
+returns-2 : tie.Need-returns-2
+returns-2 c = built-done _ _ _ _ _ _ _ _ (c .before .before .before .before .before .before .before .before .before .before .before .before .before .before .before .before .before .count-dependencies .ensures) _ (c .before .before .before .before .before .before .before .before .before .before .before .before .before .before .before .before .if1 .left) (c .before .before .before .before .before .before .before .before .before .before .fill-rows .ensures)
+
+pub build-spec : {M : Type 1} → statement M
+build-spec =
+    tie.close
+    (tie.spec
+    count-dependencies-requires
+    returns
+    fill-rows-requires
+    same-length
+    same-length-2
+    same-length-3
+    same-length-4
+    same-length-5
+    returns-2)

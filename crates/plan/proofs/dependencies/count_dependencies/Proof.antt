@@ -1,0 +1,62 @@
+-- The counter is the number of dependencies with a first stop before v.
+use borrow.Author.Needs.{needs}
+use Prim.Native.Nat.{_*_, _-_, _≤_}
+use mathlib.Core.Path.{_≡_}
+use native.Mathlib.Omega.{arith}
+use Rattle.below.specs.Below.{countBelow, sumBelow, at}
+use Rattle.below.proofs.Sum.{sum-none, sum-turn, sum-end}
+use Rattle.plan.specs.Dependencies.{follows}
+use Rattle.plan.proofs.ColumnsLaws.{row-few}
+use Rattle.plan.proofs.dependencies.count_dependencies.Statement.{statement}
+use Rattle.plan.proofs.dependencies.count_dependencies.Tie as tie
+use Rattle.plan.proofs.dependencies.count_dependencies.Reads as reads
+use Rattle.plan.proofs.dependencies.count_dependencies.Lts as lts
+use Rattle.plan.proofs.dependencies.count_row.Reads as count-row-reads
+
+abbrev Inv-loop : tie.InvT-loop
+Inv-loop owners locations times n c₀ v₀ c v = (v ≤ n) × (c ≡ sumBelow v (λ u. countBelow n (follows (at owners) (at locations) (at times) u))) × (c ≤ 65536 * v)
+
+abbrev μ-loop : tie.MeasureT-loop
+μ-loop owners locations times n c₀ v₀ c v = n - v
+
+-- src/dependencies.rt:82:5
+loop-holds : tie.Need-loop-holds Inv-loop μ-loop
+loop-holds c = (search needs, sum-none _ 0, search needs)
+
+-- src/dependencies.rt:83:14
+count-row-requires : tie.Need-count-row-requires Inv-loop μ-loop
+count-row-requires c κs = search needs
+
+-- src/dependencies.rt:83:9
+add-c : tie.Need-add-c Inv-loop μ-loop
+add-c c = omega (arith, row-few _ _ _ (c .count-row .ensures), c .before .before .before .before .before .before .pre)
+
+-- src/dependencies.rt:84:9
+add-v : tie.Need-add-v Inv-loop μ-loop
+add-v c = search needs
+
+-- src/dependencies.rt:82:5
+loop-less : tie.Need-loop-less Inv-loop μ-loop
+loop-less c = search needs
+
+-- src/dependencies.rt:82:5
+loop-again : tie.Need-loop-again Inv-loop μ-loop
+loop-again c = (omega arith, sum-turn _ _ _ _ (c .before .before .loop .inv .1) (c .count-row .ensures), omega (arith, row-few _ _ _ (c .count-row .ensures), c .before .before .before .before .before .before .pre))
+
+-- src/dependencies.rt:76:1
+returns : tie.Need-returns Inv-loop μ-loop
+returns c = sum-end _ _ _ _ (c .before .loop .inv .0) (c .loop-test .left) (c .before .loop .inv .1)
+
+pub count-dependencies-spec : {M : Type 1} → statement M
+count-dependencies-spec =
+    tie.close
+    (tie.spec
+    Inv-loop
+    μ-loop
+    loop-holds
+    count-row-requires
+    add-c
+    add-v
+    loop-less
+    loop-again
+    returns)

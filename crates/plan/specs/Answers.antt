@@ -1,0 +1,38 @@
+-- The plan check's answer, and this paper's number for each case (document 01, "Where each refusal is checked"). Assumes nothing.
+use mathlib.Core.Bool.{Bool, true, false}
+use Prim.Native.Nat.{ℕ}
+use lib.Dec.{ltb, eqb}
+use Rattle.plan.specs.declared.check.StopAt.{StopAt}
+use Rattle.plan.specs.declared.check.PlanCheck.{PlanCheck}
+use Rattle.plan.specs.declared.check.PlanCheck.the-variants.{Fine, StartsLate, NotRising, SameLocation, Collision}
+use Rattle.plan.specs.Check.{faultAt, firstFault, collider, partner}
+
+-- "7 stop 0 not at time 0; 8 time not above the one before; 9 same location as the one before", "10 collision"; 0 where the plan passes
+abbrev pub checkNumber : PlanCheck → ℕ
+checkNumber Fine = 0
+checkNumber (StartsLate s) = 7
+checkNumber (NotRising s) = 8
+checkNumber (SameLocation s) = 9
+checkNumber (Collision s t) = 10
+
+-- the choice of an answer by a test
+abbrev pub pickCheck : Bool → PlanCheck → PlanCheck → PlanCheck
+pickCheck true a b = a
+pickCheck false a b = b
+
+-- "A refusal from the plan check says which drone and stop is at fault": stop v by its drone and its number there
+abbrev pub stopAt : (own num : ℕ → ℕ) → ℕ → StopAt
+stopAt own num v = record { drone = own v; stop = num v }
+
+-- the answer for a stop whose refusal has a number
+unfoldable pub faultCase : ℕ → StopAt → PlanCheck
+faultCase number s = pickCheck (eqb number 7) (StartsLate s) (pickCheck (eqb number 8) (NotRising s) (SameLocation s))
+
+module _ (own num loc time : ℕ → ℕ) (n : ℕ) where
+  -- "plan check, stop by stop": the first stop at fault; "plan check, after all stops": the pair that collides
+  unfoldable pub checkOf : PlanCheck
+  checkOf =
+      let v = firstFault num loc time n in
+      let w = collider own loc time n in
+      pickCheck (ltb v n) (faultCase (faultAt num loc time v) (stopAt own num v))
+      (pickCheck (ltb w n) (Collision (stopAt own num w) (stopAt own num (partner own loc time n w))) Fine)

@@ -1,0 +1,206 @@
+// The dependencies of a plan, counted, and written into a slice for each field of their records.
+use tables::entries::Dependency;
+use tables::flags::fixed_flag;
+ghost use mathlib.Core.Path.{_≡_};
+ghost use Prim.Native.Nat.{_+_, _≤_, _<_};
+ghost use lib.ListN.{length};
+ghost use Rattle.below.specs.Below.{at, countBelow};
+ghost use Rattle.tables.specs.Limits.{limits};
+ghost use Rattle.plan.specs.Dependencies.{follows, isLast, isFixed, flagOf, dependencyTotal};
+ghost use Rattle.plan.specs.Columns.{columns, rowWritten, rowsWritten, builtOf, builtIn};
+ghost use Rattle.plan.specs.Room.{VisitsRoom, PlanRoom, ColumnsRoom};
+
+// Whether v and w are visits of one location by different drones, v earlier.
+fn follows_at(owners: &[u8], locations: &[u16], times: &[u32], v: usize, w: usize) -> bool
+    requires { ⌜ (v < length (now owners)) × (v < length (now locations)) × (v < length (now times)) ⌝ }
+    requires { ⌜ (w < length (now owners)) × (w < length (now locations)) × (w < length (now times)) ⌝ }
+    ensures { λ r. ⌜ r ≡ follows (at (now (owners .entry))) (at (now (locations .entry))) (at (now (times .entry))) v w ⌝ }
+{
+    if owners[v] == owners[w] {
+        return false;
+    }
+    if locations[v] != locations[w] {
+        return false;
+    }
+    times[v] < times[w]
+}
+
+// Whether w is the last stop of its drone, of n stops.
+fn is_last(owners: &[u8], n: usize, w: usize) -> bool
+    requires { ⌜ (n ≤ length (now owners)) × (w < n) ⌝ }
+    ensures { λ r. ⌜ r ≡ isLast (at (now (owners .entry))) n w ⌝ }
+{
+    let next = w + 1;
+    if n <= next {
+        return true;
+    }
+    owners[next] != owners[w]
+}
+
+// Whether the dependency of v and w is fixed.
+fn is_fixed(owners: &[u8], numbers: &[u16], n: usize, v: usize, w: usize) -> bool
+    requires { ⌜ (n ≤ length (now owners)) × (n ≤ length (now numbers)) × (v < n) × (w < n) ⌝ }
+    ensures { λ r. ⌜ r ≡ isFixed (at (now (owners .entry))) (at (now (numbers .entry))) n v w ⌝ }
+{
+    if numbers[v] == 0 {
+        return true;
+    }
+    is_last(owners, n, w)
+}
+
+// The flag byte of the dependency of v and w, which is not turned.
+fn flag_of(owners: &[u8], numbers: &[u16], n: usize, v: usize, w: usize) -> u8
+    requires { ⌜ (n ≤ length (now owners)) × (n ≤ length (now numbers)) × (v < n) × (w < n) ⌝ }
+    ensures { λ r. ⌜ r ≡ flagOf (at (now (owners .entry))) (at (now (numbers .entry))) n v w ⌝ }
+{
+    fixed_flag(is_fixed(owners, numbers, n, v, w))
+}
+
+// How many dependencies have the first stop v.
+fn count_row(owners: &[u8], locations: &[u16], times: &[u32], n: usize, v: usize) -> usize
+    requires { ⌜ VisitsRoom n (now owners) (now locations) (now times) × (v < n) ⌝ }
+    ensures { λ r. ⌜ r ≡ countBelow n (follows (at (now (owners .entry))) (at (now (locations .entry))) (at (now (times .entry))) v) ⌝ }
+{
+    let mut c: usize = 0;
+    let mut w = 0;
+    while w < n {
+        if follows_at(owners, locations, times, v, w) {
+            c += 1;
+        }
+        w += 1;
+    }
+    c
+}
+
+// How many dependencies there are.
+pub fn count_dependencies(owners: &[u8], locations: &[u16], times: &[u32], n: usize) -> usize
+    requires { ⌜ VisitsRoom n (now owners) (now locations) (now times) ⌝ }
+    ensures { λ r. ⌜ r ≡ dependencyTotal (at (now (owners .entry))) (at (now (locations .entry))) (at (now (times .entry))) n ⌝ }
+{
+    let mut c: usize = 0;
+    let mut v = 0;
+    while v < n {
+        c += count_row(owners, locations, times, n, v);
+        v += 1;
+    }
+    c
+}
+
+// Writes the dependencies with the first stop v from the entry c on, and answers the entry after them.
+fn fill_row(
+    owners: &[u8],
+    numbers: &[u16],
+    locations: &[u16],
+    times: &[u32],
+    n: usize,
+    v: usize,
+    c: usize,
+    first_drones: &mut [u8],
+    first_stops: &mut [u16],
+    second_drones: &mut [u8],
+    second_stops: &mut [u16],
+    flags: &mut [u8],
+) -> usize
+    requires { ⌜ PlanRoom n (now owners) (now numbers) (now locations) (now times) × (v < n) ⌝ }
+    requires { ⌜ ColumnsRoom (c + countBelow n (follows (at (now owners)) (at (now locations)) (at (now times)) v)) (columns (now «first_drones») (now «first_stops») (now «second_drones») (now «second_stops») (now flags)) ⌝ }
+    ensures answer { λ r. ⌜ r ≡ c + countBelow n (follows (at (now (owners .entry))) (at (now (locations .entry))) (at (now (times .entry))) v) ⌝ }
+    ensures written { λ _. ⌜ columns (now («first_drones» .exit)) (now («first_stops» .exit)) (now («second_drones» .exit)) (now («second_stops» .exit)) (now (flags .exit)) ≡ rowWritten (at (now (owners .entry))) (at (now (numbers .entry))) (at (now (locations .entry))) (at (now (times .entry))) n v n c (columns (now («first_drones» .entry)) (now («first_stops» .entry)) (now («second_drones» .entry)) (now («second_stops» .entry)) (now (flags .entry))) ⌝ }
+{
+    let mut k = c;
+    let mut w = 0;
+    while w < n {
+        if !follows_at(owners, locations, times, v, w) {
+            w += 1;
+            continue;
+        }
+        first_drones[k] = owners[v];
+        first_stops[k] = numbers[v];
+        second_drones[k] = owners[w];
+        second_stops[k] = numbers[w];
+        flags[k] = flag_of(owners, numbers, n, v, w);
+        k += 1;
+        w += 1;
+    }
+    k
+}
+
+// Writes all the dependencies, from the first entry on.
+fn fill_rows(
+    owners: &[u8],
+    numbers: &[u16],
+    locations: &[u16],
+    times: &[u32],
+    n: usize,
+    first_drones: &mut [u8],
+    first_stops: &mut [u16],
+    second_drones: &mut [u8],
+    second_stops: &mut [u16],
+    flags: &mut [u8],
+)
+    requires { ⌜ PlanRoom n (now owners) (now numbers) (now locations) (now times) ⌝ }
+    requires { ⌜ ColumnsRoom (dependencyTotal (at (now owners)) (at (now locations)) (at (now times)) n) (columns (now «first_drones») (now «first_stops») (now «second_drones») (now «second_stops») (now flags)) ⌝ }
+    ensures { λ _. ⌜ columns (now («first_drones» .exit)) (now («first_stops» .exit)) (now («second_drones» .exit)) (now («second_stops» .exit)) (now (flags .exit)) ≡ rowsWritten (at (now (owners .entry))) (at (now (numbers .entry))) (at (now (locations .entry))) (at (now (times .entry))) n n (columns (now («first_drones» .entry)) (now («first_stops» .entry)) (now («second_drones» .entry)) (now («second_stops» .entry)) (now (flags .entry))) ⌝ }
+{
+    let mut k = 0;
+    let mut v = 0;
+    while v < n {
+        k = fill_row(
+            owners,
+            numbers,
+            locations,
+            times,
+            n,
+            v,
+            k,
+            first_drones,
+            first_stops,
+            second_drones,
+            second_stops,
+            flags,
+        );
+        v += 1;
+    }
+}
+
+// The building's answer: how many dependencies were written, or that there are more than the table's full size.
+pub enum Built {
+    Count(usize),
+    TooMany,
+}
+
+// Writes the plan's dependencies from the first entry on. Where they are too many, the slices stay as they were.
+pub fn build(
+    owners: &[u8],
+    numbers: &[u16],
+    locations: &[u16],
+    times: &[u32],
+    n: usize,
+    first_drones: &mut [u8],
+    first_stops: &mut [u16],
+    second_drones: &mut [u8],
+    second_stops: &mut [u16],
+    flags: &mut [u8],
+) -> Built
+    requires { ⌜ PlanRoom n (now owners) (now numbers) (now locations) (now times) ⌝ }
+    requires { ⌜ ColumnsRoom (limits .dependencies) (columns (now «first_drones») (now «first_stops») (now «second_drones») (now «second_stops») (now flags)) ⌝ }
+    ensures answer { λ r. ⌜ r ≡ builtOf (limits .dependencies) (at (now (owners .entry))) (at (now (locations .entry))) (at (now (times .entry))) n ⌝ }
+    ensures written { λ _. ⌜ columns (now («first_drones» .exit)) (now («first_stops» .exit)) (now («second_drones» .exit)) (now («second_stops» .exit)) (now (flags .exit)) ≡ builtIn (limits .dependencies) (at (now (owners .entry))) (at (now (numbers .entry))) (at (now (locations .entry))) (at (now (times .entry))) n (columns (now («first_drones» .entry)) (now («first_stops» .entry)) (now («second_drones» .entry)) (now («second_stops» .entry)) (now (flags .entry))) ⌝ }
+{
+    let count = count_dependencies(owners, locations, times, n);
+    if Dependency::FULL < count {
+        return Built::TooMany;
+    }
+    fill_rows(
+        owners,
+        numbers,
+        locations,
+        times,
+        n,
+        first_drones,
+        first_stops,
+        second_drones,
+        second_stops,
+        flags,
+    );
+    Built::Count(count)
+}

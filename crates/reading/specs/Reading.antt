@@ -1,0 +1,118 @@
+-- Reading a plan: the reply, and every lent table afterwards, for any text and any tables (document 01, "Where each refusal is checked": every entry, reading, plan
+-- check, building). Assumes nothing.
+use mathlib.Core.Path.{_≡_}
+use mathlib.Core.Bool.{cond}
+use mathlib.Core.List.{List, [], _∷_}
+use Prim.Native.Nat.{ℕ}
+use lib.Dec.{ltb, leb}
+use lib.ListN.{length}
+use lib.Seq.{sets}
+use Rattle.below.specs.Below.{laid}
+use Rattle.tables.specs.Limits.{Limits}
+use Rattle.tables.specs.Tables.{PlanLists, Tables, fullSize}
+use Rattle.tables.specs.Zero.{zeroedTables}
+use Rattle.text.specs.Reading.{Found, linesAt, flat}
+use Rattle.text.specs.declared.reader.Answer.{Answer}
+use Rattle.text.specs.declared.reader.Answer.the-variants as text
+use Rattle.plan.specs.Dependencies.{dependencyTotal, column, flagOf}
+use Rattle.plan.specs.Answers.{checkOf}
+use Rattle.plan.specs.Claims.{stopTotal, ownerIn, numberIn, locationIn, timeIn}
+use Rattle.reading.specs.Replies.{ofText, ofCheck}
+use Rattle.reading.specs.declared.replies.Refusal.the-variants.{TablesTooSmall, TooLong, TooManyDependencies}
+use Rattle.reading.specs.declared.replies.Reading.{Reading}
+use Rattle.reading.specs.declared.replies.Reading.the-variants.{Taken, Refused}
+
+-- the reply and the tables afterwards
+pub record Answered : Type 0 where
+  pub reply : Reading
+  pub tables : Tables
+
+abbrev pub answered : Reading → Tables → Answered
+answered r t = record { reply = r; tables = t }
+
+-- a reply and the tables that are left are those of an answer
+pub record AnsweredAs (a : Answered) (r : Reading) (t : Tables) : Type 0 where
+  pub replied : r ≡ a .reply
+  pub left : t ≡ a .tables
+
+-- zeroed tables with the values of a text that has n drones: "exactly the plan's values with unused entries zero"
+abbrev pub withText : Found Answer → ℕ → Tables → Tables
+withText f n t = record {
+  plan = record {
+    droneCount = sets (t .plan .droneCount) 0 (n ∷ []);
+    dependencyCount = t .plan .dependencyCount;
+    names = sets (t .plan .names) 0 (flat (f .rows));
+    stopCounts = sets (t .plan .stopCounts) 0 (f .counts);
+    locations = sets (t .plan .locations) 0 (f .locations);
+    times = sets (t .plan .times) 0 (f .times);
+    firstDrones = t .plan .firstDrones;
+    firstStops = t .plan .firstStops;
+    secondDrones = t .plan .secondDrones;
+    secondStops = t .plan .secondStops;
+  };
+  visited = t .visited;
+  droneFlags = t .droneFlags;
+  flags = t .flags;
+}
+
+module _ (p : PlanLists) where
+  -- how many dependencies the plan in the lists has, and f of each of them, in order
+  abbrev pub total : ℕ
+  total = dependencyTotal (ownerIn p) (locationIn p) (timeIn p) (stopTotal p)
+
+  abbrev pub plannedList : (ℕ → ℕ → ℕ) → List ℕ
+  plannedList f = column (ownerIn p) (locationIn p) (timeIn p) (stopTotal p) f
+
+-- the tables with the dependencies of their plan, each with its fixed bit and none turned
+abbrev pub withDependencies : Tables → Tables
+withDependencies t = record {
+  plan = record {
+    droneCount = t .plan .droneCount;
+    dependencyCount = sets (t .plan .dependencyCount) 0 (total (t .plan) ∷ []);
+    names = t .plan .names;
+    stopCounts = t .plan .stopCounts;
+    locations = t .plan .locations;
+    times = t .plan .times;
+    firstDrones = laid (t .plan .firstDrones) 0 (plannedList (t .plan) (λ v w. ownerIn (t .plan) v));
+    firstStops = laid (t .plan .firstStops) 0 (plannedList (t .plan) (λ v w. numberIn (t .plan) v));
+    secondDrones = laid (t .plan .secondDrones) 0 (plannedList (t .plan) (λ v w. ownerIn (t .plan) w));
+    secondStops = laid (t .plan .secondStops) 0 (plannedList (t .plan) (λ v w. numberIn (t .plan) w));
+  };
+  visited = t .visited;
+  droneFlags = t .droneFlags;
+  flags = laid (t .flags) 0 (plannedList (t .plan) (flagOf (ownerIn (t .plan)) (numberIn (t .plan)) (stopTotal (t .plan))));
+}
+
+-- what the plan check says of the plan in the lists
+abbrev pub checkIn : PlanLists → Reading
+checkIn p = ofCheck (checkOf (ownerIn p) (numberIn p) (locationIn p) (timeIn p) (stopTotal p))
+
+module _ (L : Limits) where
+  -- "building: 11 too many dependencies: zeroed". z is the zeroed tables, t the tables with the text's values
+  abbrev pub built : Tables → Tables → Answered
+  built z t = cond (leb (total (t .plan)) (L .dependencies)) (answered Taken (withDependencies t)) (answered (Refused TooManyDependencies) z)
+
+  -- "plan check: zeroed"
+  abbrev pub checked : Tables → Tables → Reading → Answered
+  checked z t Taken = built z t
+  checked z t (Refused r) = answered (Refused r) z
+
+  -- plan check and building on tables with the text's values, which a refusal leaves as they were
+  unfoldable pub stored : Tables → Answered
+  stored t = checked t t (checkIn (t .plan))
+
+  -- "reading, line by line: full sizes zeroed"
+  abbrev pub fromLines : Tables → Found Answer → Answer → Answered
+  fromLines z f (text.Refused r) = answered (Refused (ofText r)) z
+  fromLines z f (text.Taken n) = checked z (withText f n z) (checkIn (withText f n z .plan))
+
+  -- reading a text that is not too long into tables that are zeroed
+  unfoldable pub readLines : List ℕ → Tables → Answered
+  readLines text z = fromLines z (linesAt L text) (linesAt L text .answer)
+
+  -- "every entry, first: 41: unchanged"; "reading, before any line: 1 text too long: unchanged"
+  unfoldable pub readPlan : List ℕ → Tables → Answered
+  readPlan text t =
+      cond (fullSize L t)
+      (cond (ltb (L .text) (length text)) (answered (Refused (TooLong (L .text))) t) (readLines text (zeroedTables L t)))
+      (answered (Refused TablesTooSmall) t)

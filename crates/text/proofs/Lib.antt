@@ -1,0 +1,15 @@
+pub mod DroneCases
+pub mod DroneTaken
+pub mod Rows
+pub mod DroneLoop
+pub mod Fits
+pub mod TextCases
+pub mod TakenIsWritten
+pub mod WrittenIsRead
+pub mod RoundTrips
+pub mod Flights
+pub mod NameInRow
+pub mod WriteLoop
+pub mod WriteWhole
+pub mod WriteBack
+pub mod ReadIsWritten

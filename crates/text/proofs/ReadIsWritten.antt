@@ -1,0 +1,129 @@
+-- The plan that a reading left in the tables is written as the text that was read.
+use Prim.Native.Nat.{ℕ, zero, suc, _+_, _*_, _≤_}
+use native.Mathlib.Nat.{mul-le-mul-right}
+use native.Mathlib.Omega.{arith}
+use mathlib.Core.Path.{_≡_, refl, sym, ap, _∙_}
+use mathlib.Core.List.{List, [], _∷_, _++_, append-assoc}
+use borrow.Author.Tests.{le-ltb}
+use lib.ListN.{length, drop, length-append}
+use lib.Seq.{sets, sets-eq, take-at, drop-at}
+use Rattle.tables.specs.Limits.{Limits}
+use Rattle.lines.specs.Names.{rowOf}
+use Rattle.lines.proofs.NameRoundTrip.{row-long}
+use Rattle.text.specs.Reading.{Found, linesAt, flat}
+use Rattle.text.specs.TextRead.{tableAfter, TextRead}
+use Rattle.text.specs.Written.{Route, routesText, rowsOf, countsOf, locationsOf, timesOf, foundOf, ValidFrom, Valid}
+use Rattle.tables.specs.Zero.{zeroed}
+use Rattle.text.proofs.Rows.{AllLong, flat-long}
+use Rattle.text.proofs.TakenIsWritten.{text-taken, taken-within}
+use Rattle.text.proofs.RoundTrips.{same-text}
+use Rattle.text.proofs.DroneTaken.{range-long}
+use Rattle.text.specs.TextWritten.{rowsIn, tablesText}
+use Rattle.tables.proofs.Zero.{zeroed-length}
+use Rattle.text.specs.Claims.{ReadAndWritten}
+use Rattle.below.specs.Below.{sumBelow, at as entry}
+use Rattle.text.specs.declared.reader.Answer.{Answer}
+use Rattle.text.specs.declared.reader.Answer.the-variants.{Taken as Plan}
+
+-- ---- tables that hold a plan's values from their first entry on
+
+first-of : (l x : List ℕ) → length x ≤ length l → sets l 0 x ≡ x ++ drop (0 + length x) l
+first-of l x h = sets-eq x l 0 (omega arith)
+
+-- the rows of a table that begins with rows
+rows-back : (L : Limits) (rs : List (List ℕ)) → AllLong L rs → (rest : List ℕ) → rowsIn L (length rs) (flat rs ++ rest) ≡ rs
+unfolding rowsIn
+rows-back L [] a rest = refl
+rows-back L (r ∷ rs) a rest =
+    rw (append-assoc r (flat rs) rest, take-at r (flat rs ++ rest) (L .name) (a .0), drop-at r (flat rs ++ rest) (L .name) (a .0), rows-back L rs (a .1) rest)
+
+rows-long : (L : Limits) (ds : List Route) → AllLong L (rowsOf L ds)
+rows-long L [] = tt
+rows-long L (d ∷ ds) = (row-long L (d .name), rows-long L ds)
+
+rows-many : (L : Limits) (ds : List Route) → length (rowsOf L ds) ≡ length ds
+rows-many L [] = refl
+rows-many L (d ∷ ds) = ap suc (rows-many L ds)
+
+counts-many : (ds : List Route) → length (countsOf ds) ≡ length ds
+counts-many [] = refl
+counts-many (d ∷ ds) = ap suc (counts-many ds)
+
+-- the counts add up to the stops of all drones
+sum-head : (n : ℕ) (f : ℕ → ℕ) → sumBelow (suc n) f ≡ f 0 + sumBelow n (λ i. f (suc i))
+unfolding sumBelow
+sum-head zero f = omega arith
+sum-head (suc n) f = let ih = sum-head n f in omega (arith, ih)
+
+counts-total : (ds : List Route) (rest : List ℕ) → sumBelow (length ds) (entry (countsOf ds ++ rest)) ≡ length (locationsOf ds)
+unfolding sumBelow
+counts-total [] rest = refl
+counts-total (d ∷ ds) rest =
+    sum-head (length ds) (entry (length (d .locations) ∷ countsOf ds ++ rest))
+    ∙ (ap (λ (k : ℕ). length (d .locations) + k) (counts-total ds rest) ∙ sym (length-append (d .locations) (locationsOf ds)))
+
+stops-within : (L : Limits) (ds : List Route) (earlier : List (List ℕ)) (total : ℕ) → ValidFrom L earlier total ds → total ≤ L .stops → total + length (locationsOf ds) ≤ L .stops
+stops-within L [] earlier total v h = omega arith
+stops-within L (d ∷ ds) earlier total v h =
+    let ih = stops-within L ds (earlier ++ rowOf L (d .name) ∷ []) (total + length (d .locations)) (v .5) (v .3) in
+    rw (length-append (d .locations) (locationsOf ds)) (omega (arith, ih))
+
+times-many : (L : Limits) (ds : List Route) (earlier : List (List ℕ)) (total : ℕ) → ValidFrom L earlier total ds → length (timesOf ds) ≡ length (locationsOf ds)
+times-many L [] earlier total v = refl
+times-many L (d ∷ ds) earlier total v =
+    let ih = times-many L ds (earlier ++ rowOf L (d .name) ∷ []) (total + length (d .locations)) (v .5) in
+    length-append (d .times) (timesOf ds) ∙ omega (arith, ih, range-long L (d .locations) (d .times) (v .4), length-append (d .locations) (locationsOf ds))
+
+-- ---- the text of such tables
+
+module _ (L : Limits) (ds : List Route) (v : Valid L ds) (ns cs ls ts : List ℕ) where
+  pub tables-kept : L .drones * L .name ≤ length ns → L .drones ≤ length cs → L .stops ≤ length ls → L .stops ≤ length ts
+      → tablesText L (length ds) (sets ns 0 (flat (rowsOf L ds))) (sets cs 0 (countsOf ds)) (sets ls 0 (locationsOf ds)) (sets ts 0 (timesOf ds)) ≡ routesText ds
+  unfolding tablesText
+  tables-kept a b c d =
+      let many = rows-many L ds in
+      let long : length (flat (rowsOf L ds)) ≡ length ds * L .name = flat-long L (rowsOf L ds) (rows-long L ds) ∙ ap (λ (k : ℕ). k * L .name) many in
+      let within = stops-within L ds [] 0 (v .2) (omega arith) in
+      let times = times-many L ds [] 0 (v .2) in
+      let back : rowsIn L (length ds) (flat (rowsOf L ds) ++ drop (0 + length (flat (rowsOf L ds))) ns) ≡ rowsOf L ds = rw (← many) (rows-back L (rowsOf L ds) (rows-long L ds) _) in
+      rw (
+        first-of ns (flat (rowsOf L ds)) (omega (arith, long, a, mul-le-mul-right (L .name) (v .1))),
+        first-of cs (countsOf ds) (omega (arith, counts-many ds, v .1)),
+        first-of ls (locationsOf ds) (omega (arith, within)),
+        first-of ts (timesOf ds) (omega (arith, within, times)),
+        back,
+        counts-total ds (drop (0 + length (countsOf ds)) cs),
+        take-at (countsOf ds) (drop (0 + length (countsOf ds)) cs) (length ds) (counts-many ds),
+        take-at (locationsOf ds) (drop (0 + length (locationsOf ds)) ls) (length (locationsOf ds)) refl,
+        take-at (timesOf ds) (drop (0 + length (timesOf ds)) ts) (length (locationsOf ds)) times,
+      )
+      (same-text L ds v)
+
+-- ---- the text of the tables after a reading
+
+table-taken : (L : Limits) (text : List ℕ) (n full : ℕ) (values t t′ : List ℕ) → length text ≤ L .text → linesAt L text .answer ≡ Plan n → t′ ≡ tableAfter L text full values t → t′ ≡ sets (zeroed full t) 0 values
+unfolding tableAfter
+table-taken L text n full values t t′ short h e = rw (le-ltb (L .text) (length text) short, h) at e
+
+kept-by : (L : Limits) (text : List ℕ) (n : ℕ) (w : Found Answer) (ds : List Route) → length ds ≡ n → Valid L ds → w ≡ foundOf L ds → text ≡ routesText ds
+    → (ns cs ls ts : List ℕ) → L .drones * L .name ≤ length ns → L .drones ≤ length cs → L .stops ≤ length ls → L .stops ≤ length ts
+    → tablesText L n (sets ns 0 (flat (w .rows))) (sets cs 0 (w .counts)) (sets ls 0 (w .locations)) (sets ts 0 (w .times)) ≡ text
+kept-by L text n w ds m v r t ns cs ls ts a b c d = rw (r, ← m, t) (tables-kept L ds v ns cs ls ts a b c d)
+
+pub read-is-written : (L : Limits) (n : ℕ) {text dc ns cs ls ts dc′ ns′ cs′ ls′ ts′ : List ℕ} → TextRead L text dc ns cs ls ts dc′ ns′ cs′ ls′ ts′ (Plan n)
+    → L .drones * L .name ≤ length ns → L .drones ≤ length cs → L .stops ≤ length ls → L .stops ≤ length ts → tablesText L n ns′ cs′ ls′ ts′ ≡ text
+read-is-written L n {text} {dc} {ns} {cs} {ls} {ts} {dc′} {ns′} {cs′} {ls′} {ts′} r a b c d =
+    let k = taken-within L text n (sym (r .answer-is)) in
+    let t = text-taken L text n (k .1) in
+    let F = L .drones * L .name in
+    rw (
+      table-taken L text n F (flat (linesAt L text .rows)) ns ns′ (k .0) (k .1) (r .names-are),
+      table-taken L text n (L .drones) (linesAt L text .counts) cs cs′ (k .0) (k .1) (r .counts-are),
+      table-taken L text n (L .stops) (linesAt L text .locations) ls ls′ (k .0) (k .1) (r .locations-are),
+      table-taken L text n (L .stops) (linesAt L text .times) ts ts′ (k .0) (k .1) (r .times-are),
+    )
+    (kept-by L text n (linesAt L text) (t .routes) (t .many) (t .valid) (t .read) (t .written) (zeroed F ns) (zeroed (L .drones) cs) (zeroed (L .stops) ls) (zeroed (L .stops) ts)
+    (omega (arith, a, zeroed-length F ns)) (omega (arith, b, zeroed-length (L .drones) cs)) (omega (arith, c, zeroed-length (L .stops) ls)) (omega (arith, d, zeroed-length (L .stops) ts)))
+
+pub read-and-written : (L : Limits) → ReadAndWritten L
+read-and-written L = record { text-kept = λ n text dc ns cs ls ts dc′ ns′ cs′ ls′ ts′ r a b c d. read-is-written L n r a b c d }

@@ -1,0 +1,95 @@
+-- The text of a valid plan is read back as that plan: line by line, each piece where the one before it ends.
+use Prim.Native.Nat.{ℕ, _+_, _≤_}
+use native.Mathlib.Nat.{add-zero}
+use native.Mathlib.Omega.{arith}
+use mathlib.Core.Path.{_≡_, refl, sym, ap, _∙_}
+use mathlib.Core.List.{List, [], _∷_, _++_}
+use mathlib.Core.Bool.{Bool, true, false}
+use borrow.Author.Tests.{eq-eqb}
+use lib.ListN.{length, length-append}
+use lib.Seq.{take-length}
+use Rattle.tables.specs.Limits.{Limits}
+use Rattle.lines.specs.Bytes.{isAt}
+use Rattle.lines.specs.Numbers.{SevenDigits}
+use Rattle.lines.specs.Keys.{stopsKey, planLine, agentsKey, endLine}
+use Rattle.lines.specs.Stops.{stopLines, countAt, countLine, InRange}
+use Rattle.lines.specs.Names.{goodName, nameLine, rowOf}
+use Rattle.lines.proofs.ByteLaws.{stands-parts, part-at}
+use Rattle.lines.proofs.StopRoundTrip.{stops-back, count-back}
+use Rattle.lines.proofs.NameRoundTrip.{name-back}
+use Rattle.text.specs.Reading.{stopsRead, droneAt, elem, dronesAt, linesAt}
+use Rattle.text.specs.Written.{Route, routeLine, routeLines, routesText, rowsOf, countsOf, locationsOf, timesOf, foundOf, ValidFrom, Valid}
+use Rattle.text.proofs.DroneCases.{stops-in, drone-in}
+use Rattle.lines.specs.declared.stops.Count.the-variants.{Is}
+use Rattle.text.specs.declared.reader.DroneLines.the-variants.{Taken}
+
+-- the stops of one drone
+stops-read-back : (L : Limits) (ls ts text : List ℕ) (at total : ℕ) → SevenDigits L → 1 ≤ length ls → total + length ls ≤ L .stops → InRange L ls ts → isAt text at (countLine stopsKey (length ls) ++ stopLines ls ts) ≡ true
+    → stopsRead L text at total ≡ record { rows = []; counts = length ls ∷ []; locations = ls; times = ts; answer = Taken (at + length (countLine stopsKey (length ls) ++ stopLines ls ts)) (total + length ls) }
+stops-read-back L ls ts text at total u a b r h =
+    let w = stands-parts text at (countLine stopsKey (length ls)) (stopLines ls ts) h in
+    let c = count-back text at stopsKey (L .stops) (length ls) a (omega arith) (omega (arith, u .stops)) (w .0) in
+    let s = stops-back L ls ts text (at + length (countLine stopsKey (length ls))) u r (w .1) in
+    let m : at + length (countLine stopsKey (length ls)) + length (stopLines ls ts) ≡ at + length (countLine stopsKey (length ls) ++ stopLines ls ts) = simp length-append (omega arith) in
+    stops-in L text at total _ refl (length ls) (at + length (countLine stopsKey (length ls))) c (omega arith) ∙ rw (s, m)
+
+-- one drone
+drone-back : (L : Limits) (d : Route) (text : List ℕ) (at total : ℕ) (taken : List ℕ → Bool) → SevenDigits L → goodName L (d .name) ≡ true → taken (rowOf L (d .name)) ≡ false → 1 ≤ length (d .locations)
+    → total + length (d .locations) ≤ L .stops → InRange L (d .locations) (d .times) → isAt text at (routeLine d) ≡ true
+    → droneAt L text at total taken ≡ record {
+      rows = rowOf L (d .name) ∷ [];
+      counts = length (d .locations) ∷ [];
+      locations = d .locations;
+      times = d .times;
+      answer = Taken (at + length (routeLine d)) (total + length (d .locations));
+    }
+drone-back L d text at total taken u g f a b r h =
+    let rest : List ℕ = countLine stopsKey (length (d .locations)) ++ stopLines (d .locations) (d .times) in
+    let w = stands-parts text at (nameLine (d .name)) rest h in
+    let n = name-back L text at (d .name) g (w .0) in
+    let p : at + length (nameLine (d .name)) ≡ at + 5 + length (d .name) + 1 = simp length-append (omega arith) in
+    let s = stops-read-back L (d .locations) (d .times) text (at + 5 + length (d .name) + 1) total u a b r (rw p at (w .1)) in
+    let m : at + 5 + length (d .name) + 1 + length rest ≡ at + length (nameLine (d .name) ++ rest) = simp length-append (omega arith) in
+    drone-in L text at total taken _ refl (at + 5) (at + 5 + length (d .name)) (rowOf L (d .name)) (n .0) (rw (n .1)) f ∙ rw (s, m)
+
+-- all drones
+abbrev totalOf : ℕ → List Route → ℕ
+totalOf total [] = total
+totalOf total (d ∷ ds) = totalOf (total + length (d .locations)) ds
+
+drones-back : (L : Limits) (ds : List Route) (text : List ℕ) (at : ℕ) (earlier : List (List ℕ)) (total : ℕ) → SevenDigits L → ValidFrom L earlier total ds → isAt text at (routeLines ds) ≡ true
+    → dronesAt L (length ds) text at earlier total
+    ≡ record { rows = rowsOf L ds; counts = countsOf ds; locations = locationsOf ds; times = timesOf ds; answer = Taken (at + length (routeLines ds)) (totalOf total ds) }
+unfolding dronesAt routeLines
+drones-back L [] text at earlier total u v h = rw add-zero
+drones-back L (d ∷ ds) text at earlier total u v h =
+    let w = stands-parts text at (routeLine d) (routeLines ds) h in
+    let f = drone-back L d text at total (elem earlier) u (v .0) (v .1) (v .2) (v .3) (v .4) (w .0) in
+    let g = drones-back L ds text (at + length (routeLine d)) (earlier ++ rowOf L (d .name) ∷ []) (total + length (d .locations)) u (v .5) (w .1) in
+    let m : at + length (routeLine d) + length (routeLines ds) ≡ at + length (routeLine d ++ routeLines ds) = simp length-append (omega arith) in
+    rw (f, g, m)
+
+lines-back : (L : Limits) (ds : List Route) (text C : List ℕ) → SevenDigits L → C ≡ countLine agentsKey (length ds) → Valid L ds → isAt text 0 planLine ≡ true → isAt text 7 C ≡ true
+    → isAt text (7 + length C) (routeLines ds) ≡ true → isAt text (7 + length C + length (routeLines ds)) endLine ≡ true → 7 + length C + length (routeLines ds) + 9 ≡ length text
+    → linesAt L text ≡ foundOf L ds
+unfolding linesAt
+lines-back L ds text C u q v k c r e l =
+    let n : countAt text 7 agentsKey (L .drones) ≡ Is (length ds) (7 + length C) = count-back text 7 agentsKey (L .drones) (length ds) (v .0) (v .1) (omega (arith, u .drones, v .1)) (rw q at c) ∙ rw q in
+    let g = drones-back L ds text (7 + length C) [] 0 u (v .2) r in
+    rw (k, n, g, e, eq-eqb _ _ l)
+
+-- the law: a valid plan's text is read back as that plan
+pub written-read-back : (L : Limits) → SevenDigits L → (ds : List Route) → Valid L ds → linesAt L (routesText ds) ≡ foundOf L ds
+written-read-back L u ds v = go (routesText ds) (countLine agentsKey (length ds)) refl refl
+  where
+    go : (text C : List ℕ) → text ≡ planLine ++ C ++ routeLines ds ++ endLine → C ≡ countLine agentsKey (length ds) → linesAt L text ≡ foundOf L ds
+    go text C t q =
+        let i : isAt text 0 text ≡ true = rw take-length at (part-at text 0 (length text) (omega arith)) in
+        let j : isAt text 0 (planLine ++ C ++ routeLines ds ++ endLine) ≡ true = ap (isAt text 0) (sym t) ∙ i in
+        let w = stands-parts text 0 (planLine ++ C ++ routeLines ds) endLine j in
+        let y = stands-parts text 0 (planLine ++ C) (routeLines ds) (w .0) in
+        let k = stands-parts text 0 planLine C (y .0) in
+        let m : 0 + length (planLine ++ C) ≡ 7 + length C = simp length-append (omega arith) in
+        let o : 0 + length (planLine ++ C ++ routeLines ds) ≡ 7 + length C + length (routeLines ds) = simp length-append (omega arith) in
+        let l : 7 + length C + length (routeLines ds) + 9 ≡ length text = rw t (simp length-append (omega arith)) in
+        lines-back L ds text C u q v (k .0) (k .1) (rw m at (y .1)) (rw o at (w .1)) l

@@ -1,0 +1,119 @@
+-- One law for each return: the name's line, a name that is there already, and the stops.
+use native.Mathlib.Omega.{arith}
+use mathlib.Core.Path.{sym, _∙_}
+use denote.Ref.{now}
+use borrow.Author.Needs.{needs}
+use Rattle.text.proofs.reader.read_drone.Statement.{statement}
+use Rattle.text.proofs.reader.read_drone.Tie as tie
+use Rattle.lines.proofs.bytes.put_bytes.Reads as put-bytes-reads
+use Rattle.lines.proofs.names.name_line.Reads as name-line-reads
+use Rattle.lines.proofs.names.row_among.Reads as row-among-reads
+use Rattle.text.proofs.reader.read_stops.Reads as read-stops-reads
+use Rattle.lines.proofs.NameRoundTrip.{NameWithin, name-read, name-within}
+use Rattle.lines.specs.Names.{among}
+use Rattle.text.proofs.DroneCases.{drone-in, drone-same, drone-unnamed, one-row, part-short, whole-none}
+use Rattle.tables.specs.Limits.{limits}
+
+name-line-requires : tie.Need-name-line-requires
+name-line-requires c κs = search needs
+
+enum-known-line : tie.Need-enum-known-line
+enum-known-line c = search needs
+
+enum-known-line-2 : tie.Need-enum-known-line-2
+enum-known-line-2 c = search needs
+
+slice-aggregate-put-bytes : tie.Need-slice-aggregate-put-bytes
+slice-aggregate-put-bytes c = search needs
+
+-- where the name stands
+read : (c : tie.After-row) → NameWithin limits (now (c .before .before .before .before .before .before .before .before .before .before .args .text)) (c .before .before .line2 .given .0 .0) (c .before .before .line2 .given .0 .1 .0)
+read c = name-within _ _ _ _ _ (name-read _ _ _ _ _ (sym (c .before .before .before .before .name-line .ensures) ∙ c .before .before .line2 .given .1))
+
+sub-put-bytes : tie.Need-sub-put-bytes
+sub-put-bytes c = read c .forward
+
+part-put-bytes-start : tie.Need-part-put-bytes-start
+part-put-bytes-start c = read c .forward
+
+part-put-bytes-end : tie.Need-part-put-bytes-end
+part-put-bytes-end c = let r = read c in omega arith
+
+put-bytes-requires : tie.Need-put-bytes-requires
+put-bytes-requires c κs = part-short limits _ _ _ (omega arith) (read (c .before) .short)
+
+row-among-requires : tie.Need-row-among-requires
+row-among-requires c κs = search needs
+
+same-length : tie.Need-same-length
+same-length c = search needs
+
+returns : tie.Need-returns
+returns c =
+    let a = c .before .before .before .before .before .before .before .before .before .before .before .before .before .before .before .before .before .args in
+    rw (drone-same limits (now (a .text)) (a .at) (a .total) (among limits (a .drone) (now (a .names)) 0) _ (c .before .before .before .before .before .before .before .before .before .before .before .name-line .ensures) _ _ _ (c .before .before .before .before .before .before .before .before .before .line2 .given .1) (c .before .before .before .before .before .put-bytes .ensures .written) (sym (c .before .row-among .ensures) ∙ c .if1 .taken))
+    (whole-none limits _ _ _ _ _ _ _)
+
+mul-put-bytes : tie.Need-mul-put-bytes
+mul-put-bytes c = search needs
+
+slice-aggregate-put-bytes-2 : tie.Need-slice-aggregate-put-bytes-2
+slice-aggregate-put-bytes-2 c = search needs
+
+put-bytes-requires-2 : tie.Need-put-bytes-requires-2
+put-bytes-requires-2 c κs = search needs
+
+add-read-stops : tie.Need-add-read-stops
+add-read-stops c = let r = read (c .before .before .before .before .before .before .before .before .before .before .before .before) in omega arith
+
+read-stops-requires : tie.Need-read-stops-requires
+read-stops-requires c κs = search needs
+
+returns-2 : tie.Need-returns-2
+returns-2 c = rw (drone-unnamed limits _ _ _ _ _ (c .before .before .before .name-line .ensures) _ (c .before .line .given .1)) (whole-none limits _ _ _ _ _ _ _)
+
+same-length-2 : tie.Need-same-length-2
+same-length-2 c = search needs
+
+same-length-3 : tie.Need-same-length-3
+same-length-3 c = search needs
+
+same-length-4 : tie.Need-same-length-4
+same-length-4 c = search needs
+
+same-length-5 : tie.Need-same-length-5
+same-length-5 c = search needs
+
+returns-3 : tie.Need-returns-3
+returns-3 c =
+    let a = c .before .before .before .before .before .before .before .before .before .before .before .before .before .before .before .before .before .before .before .before .before .before .before .before .before .before .before .before .before .before .before .before .args in
+    let g = c .before .before .before .before .before .before .read-stops .ensures in
+    rw (drone-in limits (now (a .text)) (a .at) (a .total) (among limits (a .drone) (now (a .names)) 0) _ (c .before .before .before .before .before .before .before .before .before .before .before .before .before .before .before .before .before .before .before .before .before .before .before .before .before .before .name-line .ensures) _ _ _ (c .before .before .before .before .before .before .before .before .before .before .before .before .before .before .before .before .before .before .before .before .before .before .before .before .line2 .given .1) (c .before .before .before .before .before .before .before .before .before .before .before .before .before .before .before .before .before .before .before .before .put-bytes .ensures .written) (sym (c .before .before .before .before .before .before .before .before .before .before .before .before .before .before .before .before .row-among .ensures) ∙ c .before .before .before .before .before .before .before .before .before .before .before .before .before .before .before .if1 .left))
+    (record { answer-is = g .answer-is; names-are = one-row (c .before .before .before .before .before .before .before .before .before .before .before .before .put-bytes2 .ensures); counts-are = g .counts-are; locations-are = g .locations-are; times-are = g .times-are })
+
+pub read-drone-spec : {M : Type 1} → statement M
+read-drone-spec =
+    tie.close
+    (tie.spec
+    name-line-requires
+    enum-known-line
+    enum-known-line-2
+    slice-aggregate-put-bytes
+    sub-put-bytes
+    part-put-bytes-start
+    part-put-bytes-end
+    put-bytes-requires
+    row-among-requires
+    same-length
+    returns
+    mul-put-bytes
+    slice-aggregate-put-bytes-2
+    put-bytes-requires-2
+    add-read-stops
+    read-stops-requires
+    returns-2
+    same-length-2
+    same-length-3
+    same-length-4
+    same-length-5
+    returns-3)

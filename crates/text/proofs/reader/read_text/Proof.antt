@@ -1,0 +1,95 @@
+-- Zeroed and filled when taken; zeroed, filled and zeroed again when refused; unchanged when too long.
+use native.Mathlib.Omega.{arith}
+use mathlib.Core.Path.{sym, _∙_}
+use Rattle.tables.specs.Limits.{limits}
+use Rattle.text.proofs.TextCases.{text-long, text-in, text-out, taken-range}
+use borrow.Author.Needs.{needs}
+use Rattle.text.proofs.reader.read_text.Statement.{statement}
+use Rattle.text.proofs.reader.read_text.Tie as tie
+use Rattle.text.proofs.reader.read_lines.Reads as read-lines-reads
+use Rattle.text.proofs.reader.zero_all.Reads as zero-all-reads
+
+returns : tie.Need-returns
+returns c = text-long limits _ _ _ _ _ _ (c .if1 .taken)
+
+zero-all-requires : tie.Need-zero-all-requires
+zero-all-requires c κs = search needs
+
+read-lines-requires : tie.Need-read-lines-requires
+read-lines-requires c κs = search needs
+
+enum-known-answer : tie.Need-enum-known-answer
+enum-known-answer c = search needs
+
+cast-count : tie.Need-cast-count
+cast-count c = let r = taken-range limits _ _ (sym (c .before .before .before .before .before .before .before .before .before .before .before .read-lines .ensures .answer-is) ∙ c .before .answer .given .1) in omega (arith, r .1)
+
+slice-write-count : tie.Need-slice-write-count
+slice-write-count c = search needs
+
+enum-known-answer-2 : tie.Need-enum-known-answer-2
+enum-known-answer-2 c = search needs
+
+zero-all-requires-2 : tie.Need-zero-all-requires-2
+zero-all-requires-2 c κs = search needs
+
+same-length : tie.Need-same-length
+same-length c = search needs
+
+same-length-2 : tie.Need-same-length-2
+same-length-2 c = search needs
+
+same-length-3 : tie.Need-same-length-3
+same-length-3 c = search needs
+
+same-length-4 : tie.Need-same-length-4
+same-length-4 c = search needs
+
+same-length-5 : tie.Need-same-length-5
+same-length-5 c = search needs
+
+returns-2 : tie.Need-returns-2
+returns-2 c = text-in limits _ (c .before .before .before .before .before .before .before .before .before .before .before .before .before .before .before .before .before .before .before .before .before .before .before .before .before .before .before .before .before .before .before .before .if1 .left) (c .before .before .before .before .before .before .before .before .before .before .before .before .before .before .before .before .before .before .before .before .before .before .before .before .before .before .zero-all .ensures) (c .before .before .before .before .before .before .before .before .before .before .before .read-lines .ensures) _ (c .before .answer .given .1)
+
+same-length-6 : tie.Need-same-length-6
+same-length-6 c = search needs
+
+same-length-7 : tie.Need-same-length-7
+same-length-7 c = search needs
+
+same-length-8 : tie.Need-same-length-8
+same-length-8 c = search needs
+
+same-length-9 : tie.Need-same-length-9
+same-length-9 c = search needs
+
+same-length-10 : tie.Need-same-length-10
+same-length-10 c = search needs
+
+returns-3 : tie.Need-returns-3
+returns-3 c = text-out limits _ (c .before .before .before .before .before .before .before .before .before .before .before .before .before .before .before .before .before .before .before .before .before .before .before .before .before .before .before .before .before .before .before .before .before .before .before .before .before .before .before .before .before .before .before .before .before .before .before .before .if1 .left) (c .before .before .before .before .before .before .before .before .before .before .before .before .before .before .before .before .before .before .before .before .before .before .before .before .before .before .before .before .before .before .before .before .before .before .before .before .before .before .before .before .before .before .zero-all .ensures) (c .before .before .before .before .before .before .before .before .before .before .before .before .before .before .before .before .before .before .before .before .before .before .before .before .before .before .before .read-lines .ensures) (c .before .before .before .before .before .before .before .before .before .before .zero-all2 .ensures) _ (c .before .before .before .before .before .before .before .before .before .before .before .before .before .before .before .before .before .answer2 .given .1)
+
+pub read-text-spec : {M : Type 1} → statement M
+read-text-spec =
+    tie.close
+    (tie.spec
+    returns
+    zero-all-requires
+    read-lines-requires
+    enum-known-answer
+    cast-count
+    slice-write-count
+    enum-known-answer-2
+    zero-all-requires-2
+    same-length
+    same-length-2
+    same-length-3
+    same-length-4
+    same-length-5
+    returns-2
+    same-length-6
+    same-length-7
+    same-length-8
+    same-length-9
+    same-length-10
+    returns-3)

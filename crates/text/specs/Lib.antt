@@ -1,0 +1,6 @@
+pub mod Reading
+pub mod TextRead
+pub mod Written
+pub mod Claims
+pub mod Examples
+pub mod TextWritten

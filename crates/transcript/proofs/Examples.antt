@@ -1,0 +1,132 @@
+-- Document 01's example and the faults of call lines, by computation from the definitions.
+use Prim.Native.Nat.{ℕ, _-_}
+use mathlib.Core.Path.{_≡_, refl}
+use mathlib.Core.List.{List, [], _∷_, _++_}
+use Rattle.below.specs.Below.{firstBelow, allBelow, sumBelow}
+use Rattle.precedence.specs.Graph.{blocks, free, round, play, finished, unvisited, reached, remaining, cost, cyclic}
+use Rattle.lines.specs.Keys.{planLine, agentsKey, stopsKey, endLine}
+use Rattle.lines.specs.Bytes.{byteAt, isAt}
+use Rattle.lines.specs.Names.{nameLine}
+use Rattle.lines.specs.Numbers.{isDigit, digitsFrom, numberAt, fieldAt, digits}
+use Rattle.lines.specs.Stops.{stopLine, countLine}
+use Rattle.log.specs.CallLog.{acceptedCalls, replyIn}
+use Rattle.transcript.specs.Keys.{grantKey, arriveKey, turnKey, costKey}
+use Rattle.transcript.specs.Input.{startsLine, endsPlan, planEnd, mostOf, callAt, linesAt, requestsAt, cost as costRequest}
+use Rattle.transcript.specs.Output.{replyText, valueText, answerLine, answerLines, answersBy, outputOf, Reading}
+use Rattle.transcript.specs.declared.requests.CallLine.the-variants.{Is, Malformed, OutOfRange}
+use Rattle.transcript.specs.declared.requests.Ending.the-variants.{RangeFault}
+
+-- ---- flight Q
+
+abbrev planQ : List ℕ
+planQ =
+    planLine ++ countLine agentsKey 2
+    ++ nameLine (115 ∷ 117 ∷ 114 ∷ 118 ∷ 101 ∷ 121 ∷ 45 ∷ 113 ∷ 117 ∷ 97 ∷ 100 ∷ 45 ∷ 101 ∷ 97 ∷ 115 ∷ 116 ∷ 45 ∷ 49 ∷ []) ++ countLine stopsKey 4 ++ stopLine 1 0 ++ stopLine 6 1 ++ stopLine 5 2 ++ stopLine 2 3
+    ++ nameLine (115 ∷ 117 ∷ 114 ∷ 118 ∷ 101 ∷ 121 ∷ 45 ∷ 113 ∷ 117 ∷ 97 ∷ 100 ∷ 45 ∷ 101 ∷ 97 ∷ 115 ∷ 116 ∷ 45 ∷ 50 ∷ []) ++ countLine stopsKey 3 ++ stopLine 3 0 ++ stopLine 5 4 ++ stopLine 4 5
+    ++ endLine
+
+abbrev callsQ : List ℕ
+callsQ = countLine costKey 0 ++ countLine grantKey 1 ++ countLine turnKey 0 ++ countLine costKey 0 ++ countLine grantKey 1 ++ countLine grantKey 0 ++ countLine arriveKey 1 ++ countLine arriveKey 1
+
+-- what reading it gives: drone 0 at 1 6 5 2, drone 1 at 3 5 4, and one dependency, drone 0 at its stop 2 before drone 1 at its stop 1
+abbrev readingQ : Reading
+readingQ = record {
+  number = 0;
+  plan = record {
+    drones = 2;
+    last = λ d. 3 - d;
+    location = λ d s. 0;
+    time = λ d s. 0;
+    count = 1;
+    dependency = λ w. record { first = 0; firstStop = 2; second = 1; secondStop = 1 };
+  };
+}
+
+-- plan=0 cost=8 grant=23:0 turn=0 cost=6 grant=0 grant=0 arrive=0 arrive=24 end=calls
+abbrev outputQ : List ℕ
+outputQ =
+    112 ∷ 108 ∷ 97 ∷ 110 ∷ 61 ∷ 48 ∷ 10 ∷
+    99 ∷ 111 ∷ 115 ∷ 116 ∷ 61 ∷ 56 ∷ 10 ∷
+    103 ∷ 114 ∷ 97 ∷ 110 ∷ 116 ∷ 61 ∷ 50 ∷ 51 ∷ 58 ∷ 48 ∷ 10 ∷
+    116 ∷ 117 ∷ 114 ∷ 110 ∷ 61 ∷ 48 ∷ 10 ∷
+    99 ∷ 111 ∷ 115 ∷ 116 ∷ 61 ∷ 54 ∷ 10 ∷
+    103 ∷ 114 ∷ 97 ∷ 110 ∷ 116 ∷ 61 ∷ 48 ∷ 10 ∷
+    103 ∷ 114 ∷ 97 ∷ 110 ∷ 116 ∷ 61 ∷ 48 ∷ 10 ∷
+    97 ∷ 114 ∷ 114 ∷ 105 ∷ 118 ∷ 101 ∷ 61 ∷ 48 ∷ 10 ∷
+    97 ∷ 114 ∷ 114 ∷ 105 ∷ 118 ∷ 101 ∷ 61 ∷ 50 ∷ 52 ∷ 10 ∷
+    101 ∷ 110 ∷ 100 ∷ 61 ∷ 99 ∷ 97 ∷ 108 ∷ 108 ∷ 115 ∷ 10 ∷ []
+
+-- the plan is the bytes through `end=plan`
+plan-ends : planEnd (planQ ++ callsQ) ≡ 138
+unfolding planEnd firstBelow endsPlan startsLine byteAt isAt digits
+plan-ends = refl
+
+-- document 01's output
+flight-Q : outputOf (λ text. readingQ) (planQ ++ callsQ) ≡ outputQ
+unfolding outputOf planEnd firstBelow endsPlan startsLine byteAt isAt digits linesAt callAt mostOf fieldAt numberAt digitsFrom isDigit answersBy answerLines answerLine valueText replyText acceptedCalls replyIn blocks free round play finished unvisited reached remaining cost cyclic allBelow sumBelow
+flight-Q = refl
+
+-- ---- call lines
+
+-- `grant=65535`
+greatest : callAt (103 ∷ 114 ∷ 97 ∷ 110 ∷ 116 ∷ 61 ∷ 54 ∷ 53 ∷ 53 ∷ 51 ∷ 53 ∷ 10 ∷ []) 0 ≡ Is 0 65535 12
+unfolding callAt mostOf isAt byteAt fieldAt numberAt digitsFrom isDigit
+greatest = refl
+
+-- `grant=65536`
+beyond : callAt (103 ∷ 114 ∷ 97 ∷ 110 ∷ 116 ∷ 61 ∷ 54 ∷ 53 ∷ 53 ∷ 51 ∷ 54 ∷ 10 ∷ []) 0 ≡ OutOfRange
+unfolding callAt mostOf isAt byteAt fieldAt numberAt digitsFrom isDigit
+beyond = refl
+
+-- `cost=1`: any but 0
+beyond-cost : callAt (99 ∷ 111 ∷ 115 ∷ 116 ∷ 61 ∷ 49 ∷ 10 ∷ []) 0 ≡ OutOfRange
+unfolding callAt mostOf isAt byteAt fieldAt numberAt digitsFrom isDigit
+beyond-cost = refl
+
+-- `arrive=0` without its line feed
+no-feed : callAt (97 ∷ 114 ∷ 114 ∷ 105 ∷ 118 ∷ 101 ∷ 61 ∷ 48 ∷ []) 0 ≡ Malformed
+unfolding callAt mostOf isAt byteAt fieldAt numberAt digitsFrom isDigit
+no-feed = refl
+
+-- `turn=65536` without its line feed: the form is judged before the range
+form-first : callAt (116 ∷ 117 ∷ 114 ∷ 110 ∷ 61 ∷ 54 ∷ 53 ∷ 53 ∷ 51 ∷ 54 ∷ []) 0 ≡ Malformed
+unfolding callAt mostOf isAt byteAt fieldAt numberAt digitsFrom isDigit
+form-first = refl
+
+-- `turn=00`
+leading-zero : callAt (116 ∷ 117 ∷ 114 ∷ 110 ∷ 61 ∷ 48 ∷ 48 ∷ 10 ∷ []) 0 ≡ Malformed
+unfolding callAt mostOf isAt byteAt fieldAt numberAt digitsFrom isDigit
+leading-zero = refl
+
+-- `Grant=0`
+capital : callAt (71 ∷ 114 ∷ 97 ∷ 110 ∷ 116 ∷ 61 ∷ 48 ∷ 10 ∷ []) 0 ≡ Malformed
+unfolding callAt mostOf isAt byteAt fieldAt numberAt digitsFrom isDigit
+capital = refl
+
+-- an empty line
+empty-line : callAt (10 ∷ []) 0 ≡ Malformed
+unfolding callAt mostOf isAt byteAt fieldAt numberAt digitsFrom isDigit
+empty-line = refl
+
+-- nothing is read after the first fault
+up-to-fault : requestsAt (countLine costKey 0 ++ countLine costKey 1 ++ countLine grantKey 0) 0 ≡ record { requests = costRequest ∷ []; ending = RangeFault }
+unfolding linesAt callAt mostOf isAt byteAt fieldAt numberAt digitsFrom isDigit digits
+up-to-fault = refl
+
+-- ---- the plan's bytes
+
+-- `end=plan` in the middle of a line ends nothing: here the line is `xend=plan`, and all bytes are the plan
+inside-line : planEnd (120 ∷ endLine ++ countLine costKey 0) ≡ 17
+unfolding planEnd firstBelow endsPlan startsLine byteAt isAt digits
+inside-line = refl
+
+-- the first such line counts
+first-end : planEnd (10 ∷ endLine ++ endLine) ≡ 10
+unfolding planEnd firstBelow endsPlan startsLine byteAt isAt
+first-end = refl
+
+-- ---- a refused plan prints nothing more: `plan=2`
+
+refused-plan : outputOf (λ text. record { number = 2; plan = readingQ .plan }) (countLine costKey 0) ≡ 112 ∷ 108 ∷ 97 ∷ 110 ∷ 61 ∷ 50 ∷ 10 ∷ []
+unfolding outputOf planEnd firstBelow endsPlan startsLine byteAt isAt digits
+refused-plan = refl

@@ -1,0 +1,8 @@
+pub mod PlanEnd
+pub mod CallCases
+pub mod RequestLoop
+pub mod ReplyCases
+pub mod Examples
+pub mod CostAgrees
+pub mod RunLaws
+pub mod InTables

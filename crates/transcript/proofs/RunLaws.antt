@@ -1,0 +1,67 @@
+-- After an accepted reading the tables answer every request as the log does: call by call they show the log, and they stay sound.
+use Prim.Native.Nat.{ℕ}
+use mathlib.Core.Path.{_≡_, refl, sym, ap, _∙_}
+use mathlib.Core.List.{List, [], _∷_, _++_}
+use Rattle.tables.specs.Limits.{Limits}
+use Rattle.tables.specs.Tables.{PlanLists, Tables, fullSize}
+use Rattle.precedence.specs.Graph.{cost as costOf}
+use Rattle.plan.specs.Field.{FieldPlan, AcceptedPlan, planOf, graph}
+use Rattle.plan.specs.Status.{statusIn}
+use Rattle.sound.specs.Sound.{sound}
+use Rattle.log.specs.CallLog.{Call, Reply, number as replyNumber, Entry, entry, statusOf, replyBy, logFrom, logOf}
+use Rattle.log.specs.Calls.{step, AsRead, recorded, tablesAfter, costs, costReply}
+use Rattle.log.specs.Demand.{Shows}
+use Rattle.log.proofs.Whole.{demand3, replies-of, tables-of, ran, ran-more, stays-sound, stays-full, stays-same}
+use Rattle.log.proofs.Meaning.{log-joins}
+use Rattle.log.proofs.Steps.{cost-0}
+use Rattle.log.proofs.SoundParts.{accepted-plan}
+use Rattle.transcript.specs.Input.{Request, call, cost, kindOf}
+use Rattle.transcript.specs.Output.{Answer, awaited, answerBy, logAfter, answersBy}
+use Rattle.transcript.specs.Run.{costNumber, costDetail, answerOn, tablesOn, answersOn}
+use Rattle.transcript.proofs.CostAgrees.{cost-same}
+
+-- the last of two lists that are else the same
+last-same : (xs : List Entry) (a b : Entry) → xs ++ (a ∷ []) ≡ xs ++ (b ∷ []) → a ≡ b
+last-same [] a b e = cc
+last-same (x ∷ xs) a b e = last-same xs a b (cc)
+
+module _ (L : Limits) (lists : PlanLists) (t : Tables) (read : AsRead L lists t) where
+  abbrev F : FieldPlan
+  F = planOf lists
+
+  -- the tables and the log after some calls
+  abbrev after : List Call → Tables
+  after cs = tablesAfter (step L) t cs
+
+  -- one call more
+  log-more : (cs : List Call) (c : Call) → logOf F (cs ++ (c ∷ [])) ≡ logOf F cs ++ (entry c (replyBy F (logOf F cs) c) ∷ [])
+  unfolding logFrom
+  log-more cs c = log-joins F cs (c ∷ []) []
+
+  after-more : (cs : List Call) (c : Call) → step L (after cs) c .tables ≡ after (cs ++ (c ∷ []))
+  after-more cs c = tables-of L (ran-more (ran L cs t) (record { replied = refl; left = refl }))
+
+  same-reply : (cs : List Call) (c : Call) → step L (after cs) c .reply ≡ replyBy F (logOf F cs) c
+  same-reply cs c =
+      let now : recorded (step L) t cs ++ (entry c (step L (after cs) c .reply) ∷ []) ≡ recorded (step L) t (cs ++ (c ∷ [])) = replies-of L (ran-more (ran L cs t) (record { replied = refl; left = refl })) in
+      let both = now ∙ demand3 L lists t (cs ++ (c ∷ [])) read .replies ∙ log-more cs c in
+      ap (λ (e : Entry). e .reply) (last-same (logOf F cs) _ _ (rw (demand3 L lists t cs read .replies) at both))
+
+  -- the cost is that of the log
+  same-cost : (cs : List Call) → costReply L (after cs) ≡ costs (costOf (graph F (statusOf (logOf F cs) .turned)) (statusOf (logOf F cs) .place))
+  same-cost cs =
+      let s : Shows F (logOf F cs) (after cs) = demand3 L lists t cs read .shown in
+      let p : after cs .plan ≡ lists = stays-same L lists t read cs .plan-same ∙ read .plan-read in
+      cost-0 L (after cs) (stays-full L lists t read cs) (stays-sound L lists t read cs)
+      ∙ ap (λ (l : PlanLists). costs (costOf (graph (planOf l) (statusIn (after cs) .turned)) (statusIn (after cs) .place))) p
+      ∙ ap costs (cost-same F (accepted-plan L lists (read .plan-accepted) (read .dependencies-own)) (statusIn (after cs) .turned) (statusOf (logOf F cs) .turned) (s .turns) (statusIn (after cs) .place) (statusOf (logOf F cs) .place) (s .places))
+
+  answers-from : (qs : List Request) (cs : List Call) → answersOn L (after cs) qs ≡ answersBy F (logOf F cs) qs
+  unfolding answersOn answersBy
+  answers-from [] cs = refl
+  answers-from (call c ∷ qs) cs = rw (same-reply cs c, after-more cs c, ← log-more cs c, answers-from qs (cs ++ (c ∷ [])))
+  answers-from (cost ∷ qs) cs = rw (same-cost cs, answers-from qs cs)
+
+  pub same-answers : (qs : List Request) → answersOn L t qs ≡ answersBy F [] qs
+  unfolding tablesAfter logFrom
+  same-answers qs = answers-from qs []

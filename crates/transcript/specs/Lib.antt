@@ -1,0 +1,4 @@
+pub mod Keys
+pub mod Input
+pub mod Output
+pub mod Run
