@@ -1,23 +1,22 @@
 -- Tables that hold a valid plan's values, entry by entry, are in range, have good names, and are zero past the plan.
-use mathlib.Core.Path.{_≡_, refl, sym, ap, _∙_}
-use mathlib.Core.Bool.{Bool, true, false, cond, not, _&&_}
+use mathlib.Core.Path.{_≡_, sym, ap, _∙_}
+use mathlib.Core.Bool.{true, false, cond, not}
 use mathlib.Core.List.{List, []}
-use Prim.Native.Nat.{ℕ, _+_, _*_, _≤_, _<_}
-use native.Mathlib.Nat.{mul-le-mul-right}
+use Prim.Native.Nat.{ℕ, _+_, _*_, _<_}
 use native.Mathlib.Omega.{arith}
 use lib.Dec.{ltb, leb, eqb}
-use borrow.Author.Tests.{ltb-true, ltb-false, lt-ltb, le-ltb, le-leb, eqb-true, eq-eqb}
+use borrow.Author.Tests.{ltb-true, ltb-false, le-leb, eqb-true, eq-eqb}
 use lib.ListN.{length, getD}
-use Rattle.below.specs.Below.{at, sumBelow, allBelow, firstBelow}
+use Rattle.below.specs.Below.{at, sumBelow, allBelow}
 use Rattle.below.proofs.Tests.{by-cases, true-or-false, and-both}
 use Rattle.below.proofs.Every.{allBelow-at, allBelow-all}
 use Rattle.below.proofs.Search.{firstBelow-is}
 use Rattle.below.proofs.Sum.{sum-ext}
 use Rattle.tables.specs.Limits.{Limits}
 use Rattle.tables.specs.Tables.{PlanLists, drones}
-use Rattle.lines.specs.Names.{isNameByte, goodName, rowOf}
+use Rattle.lines.specs.Names.{isNameByte, goodName}
 use Rattle.lines.proofs.NameRoundTrip.{good-length, good-bytes, row-long}
-use Rattle.text.specs.Reading.{same, flat}
+use Rattle.text.specs.Reading.{flat}
 use Rattle.text.specs.Written.{Route, rowsOf, countsOf, locationsOf, timesOf, Valid}
 use Rattle.text.proofs.Rows.{row-fits}
 use Rattle.plan.specs.Stops.{start}
@@ -38,7 +37,7 @@ pub record HoldsRoutes (L : Limits) (ds : List Route) (p : PlanLists) : Type 0 w
   pub times-are : (i : ℕ) → i < L .stops → at (p .times) i ≡ at (timesOf ds) i
 
 -- the first entries of one table are the list's, the others 0
-zero-past : (used full : ℕ) (l xs : List ℕ) → length xs ≡ used → ((i : ℕ) → i < full → at l i ≡ at xs i) → zeroFrom used full l ≡ true
+pub zero-past : (used full : ℕ) (l xs : List ℕ) → length xs ≡ used → ((i : ℕ) → i < full → at l i ≡ at xs i) → zeroFrom used full l ≡ true
 zero-past used full l xs e h = zero-from used full l (λ i a b. h i b ∙ at-past xs i (omega arith))
 
 -- ---- a name in its row

@@ -1,14 +1,14 @@
 -- What a valid plan says of the numbers that stand in the tables: counts, locations and times are in range, by recursion over the drones.
-use mathlib.Core.Path.{_≡_, refl, sym, ap, _∙_}
+use mathlib.Core.Path.{_≡_}
 use mathlib.Core.List.{List, [], _∷_, _++_}
-use Prim.Native.Nat.{ℕ, zero, suc, _+_, _*_, _≤_, _<_}
+use Prim.Native.Nat.{ℕ, zero, suc, _+_, _≤_, _<_}
 use native.Mathlib.Omega.{arith}
-use lib.ListN.{length, length-append}
+use lib.ListN.{length}
 use Rattle.below.specs.Below.{at}
 use Rattle.tables.specs.Limits.{Limits}
 use Rattle.lines.specs.Names.{rowOf}
 use Rattle.lines.specs.Stops.{InRange}
-use Rattle.text.specs.Written.{Route, rowsOf, countsOf, locationsOf, timesOf, ValidFrom, Valid}
+use Rattle.text.specs.Written.{Route, countsOf, locationsOf, timesOf, ValidFrom, Valid}
 use Rattle.text.proofs.DroneTaken.{range-long}
 
 -- each drone has a stop

@@ -1,24 +1,22 @@
 -- The names of a valid plan, byte by byte in their rows: name bytes up to the name's length and zeros after it, and no two rows are equal.
-use mathlib.Core.Path.{_≡_, refl, sym, ap, _∙_, subst}
-use mathlib.Core.Bool.{Bool, true, false, cond, _&&_, _||_}
+use mathlib.Core.Path.{_≡_, refl, _∙_, subst}
+use mathlib.Core.Bool.{true, false}
 use mathlib.Core.List.{List, [], _∷_, _++_, append-assoc}
 use Prim.Native.Nat.{ℕ, zero, suc, _+_, _*_, _≤_, _<_}
 use native.Mathlib.Nat.{zero-mul, zero-add, suc-mul}
 use native.Mathlib.Omega.{arith}
-use lib.Dec.{ltb, leb, eqb}
-use borrow.Author.Tests.{ltb-true, ltb-false, eqb-true, eq-eqb, ne-eqb}
-use lib.ListN.{length, getD, replicate, length-append, length-replicate, getD-replicate, List·getD-append, List·getD-eq-default}
-use lib.Seq.{sets, getD-append-add}
+use lib.Dec.{ltb, eqb}
+use borrow.Author.Tests.{ltb-true, ltb-false, eq-eqb, ne-eqb}
+use lib.ListN.{length, getD, replicate, length-append, length-replicate, getD-replicate, List·getD-append}
+use lib.Seq.{getD-append-add}
 use Rattle.below.specs.Below.{at}
 use Rattle.below.proofs.Tests.{by-cases, and-left, and-right, and-both, or-left, or-right}
 use Rattle.tables.specs.Limits.{Limits}
 use Rattle.lines.specs.Names.{isNameByte, nameBytes, goodName, rowOf}
-use Rattle.lines.proofs.NameRoundTrip.{good-length, good-bytes, row-long}
 use Rattle.text.specs.Reading.{same, elem, flat}
 use Rattle.text.specs.Written.{Route, rowsOf, ValidFrom, Valid}
-use Rattle.text.proofs.Rows.{AllLong, row-fits}
+use Rattle.text.proofs.Rows.{AllLong}
 use Rattle.accepted.proofs.Stored.{sets-at, at-past}
-use Rattle.accepted.proofs.Extra.{rows-long, rows-many}
 
 -- ---- one row
 

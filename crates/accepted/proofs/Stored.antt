@@ -1,12 +1,12 @@
 -- A list that was stored at the start of a table of zeros: below the full size the table's entries are the list's, 0 past its end.
-use mathlib.Core.Path.{_≡_, refl, sym, ap, _∙_}
-use mathlib.Core.List.{List, [], _∷_, _++_}
-use Prim.Native.Nat.{ℕ, zero, suc, _+_, _≤_, _<_}
+use mathlib.Core.Path.{_≡_, refl, sym, _∙_}
+use mathlib.Core.List.{List, [], _∷_}
+use Prim.Native.Nat.{ℕ, suc, _+_, _≤_, _<_}
 use native.Mathlib.Omega.{arith}
 use lib.Dec.{ltb}
 use borrow.Author.Tests.{ltb-true, ltb-false}
-use lib.ListN.{length, getD, set, List·getD-eq-default}
-use lib.Seq.{sets, length-sets, getD-set-other}
+use lib.ListN.{length, set, List·getD-eq-default}
+use lib.Seq.{sets, getD-set-other}
 use Rattle.below.specs.Below.{at, laid}
 use Rattle.below.proofs.Tests.{by-cases}
 use Rattle.below.proofs.Picks.{getD-laid}

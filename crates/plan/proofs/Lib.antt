@@ -9,3 +9,4 @@ pub mod Claims
 pub mod CheckLaws
 pub mod ColumnsLaws
 pub mod WaitsLaws
+pub mod Flights

@@ -8,3 +8,4 @@ pub mod Field
 pub mod Status
 pub mod Waits
 pub mod Claims
+pub mod Flights

@@ -1,5 +1,6 @@
 -- Reading a plan: the reply, and every lent table afterwards, for any text and any tables (document 01, "Where each refusal is checked": every entry, reading, plan
 -- check, building). Assumes nothing.
+use mathlib.Core.Path.{_≡_}
 use mathlib.Core.Bool.{cond}
 use mathlib.Core.List.{List, [], _∷_}
 use Prim.Native.Nat.{ℕ}
@@ -28,6 +29,11 @@ pub record Answered : Type 0 where
 
 abbrev pub answered : Reading → Tables → Answered
 answered r t = record { reply = r; tables = t }
+
+-- a reply and the tables that are left are those of an answer
+pub record AnsweredAs (a : Answered) (r : Reading) (t : Tables) : Type 0 where
+  pub replied : r ≡ a .reply
+  pub left : t ≡ a .tables
 
 -- zeroed tables with the values of a text that has n drones: "exactly the plan's values with unused entries zero"
 abbrev pub withText : Found Answer → ℕ → Tables → Tables
@@ -91,14 +97,22 @@ module _ (L : Limits) where
   checked z t Taken = built z t
   checked z t (Refused r) = answered (Refused r) z
 
+  -- plan check and building on tables with the text's values, which a refusal leaves as they were
+  unfoldable pub stored : Tables → Answered
+  stored t = checked t t (checkIn (t .plan))
+
   -- "reading, line by line: full sizes zeroed"
   abbrev pub fromLines : Tables → Found Answer → Answer → Answered
   fromLines z f (text.Refused r) = answered (Refused (ofText r)) z
   fromLines z f (text.Taken n) = checked z (withText f n z) (checkIn (withText f n z .plan))
 
+  -- reading a text that is not too long into tables that are zeroed
+  unfoldable pub readLines : List ℕ → Tables → Answered
+  readLines text z = fromLines z (linesAt L text) (linesAt L text .answer)
+
   -- "every entry, first: 41: unchanged"; "reading, before any line: 1 text too long: unchanged"
   unfoldable pub readPlan : List ℕ → Tables → Answered
   readPlan text t =
       cond (fullSize L t)
-      (cond (ltb (L .text) (length text)) (answered (Refused (TooLong (L .text))) t) (fromLines (zeroedTables L t) (linesAt L text) (linesAt L text .answer)))
+      (cond (ltb (L .text) (length text)) (answered (Refused (TooLong (L .text))) t) (readLines text (zeroedTables L t)))
       (answered (Refused TablesTooSmall) t)

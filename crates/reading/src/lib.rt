@@ -1,2 +1,4 @@
 // Reading a plan text into lent tables.
+pub mod entry;
 pub mod replies;
+mod storing;

@@ -1,5 +1,9 @@
 // The reading's reply: taken, or a refusal with what it carries.
+use lines::refusal::Refusal as TextRefusal;
+use plan::check::PlanCheck;
 use plan::check::StopAt;
+ghost use mathlib.Core.Path.{_≡_};
+ghost use Rattle.reading.specs.Replies.{ofText, ofCheck};
 
 pub enum Refusal {
     // a lent table is below full size
@@ -23,4 +27,31 @@ pub enum Refusal {
 pub enum Reading {
     Taken,
     Refused(Refusal),
+}
+
+// A refusal of the text as one of the reading.
+pub fn of_text(refusal: TextRefusal) -> Refusal
+    ensures { λ r. ⌜ r ≡ ofText refusal ⌝ }
+{
+    match refusal {
+        TextRefusal::Long(offset) => Refusal::TooLong(offset),
+        TextRefusal::Form(offset) => Refusal::Form(offset),
+        TextRefusal::Range(offset) => Refusal::Range(offset),
+        TextRefusal::Name(offset) => Refusal::Name(offset),
+        TextRefusal::Same(offset) => Refusal::SameName(offset),
+        TextRefusal::Total(offset) => Refusal::TooManyStops(offset),
+    }
+}
+
+// The plan check's answer as one of the reading.
+pub fn of_check(answer: PlanCheck) -> Reading
+    ensures { λ r. ⌜ r ≡ ofCheck answer ⌝ }
+{
+    match answer {
+        PlanCheck::Fine => Reading::Taken,
+        PlanCheck::StartsLate(stop) => Reading::Refused(Refusal::StartsLate(stop)),
+        PlanCheck::NotRising(stop) => Reading::Refused(Refusal::NotRising(stop)),
+        PlanCheck::SameLocation(stop) => Reading::Refused(Refusal::SameLocation(stop)),
+        PlanCheck::Collision(stop, other) => Reading::Refused(Refusal::Collision(stop, other)),
+    }
 }

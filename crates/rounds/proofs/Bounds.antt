@@ -12,7 +12,7 @@ use Rattle.below.specs.Below.{pick, countBelow, sumBelow}
 use Rattle.tables.specs.Limits.{Limits}
 use Rattle.precedence.specs.Graph.{Plan, Formed, Cycle, unvisited, cost}
 use Rattle.precedence.proofs.Visits.{cost-bound}
-use Rattle.rounds.specs.FlatPlan.{flatPlan, Shape}
+use Rattle.cycles.specs.Flat.{flatPlan, Shape}
 
 -- a run of indices that all pass
 count-run : (f : ℕ → Bool) (a len : ℕ) → ((s : ℕ) → s < len → f (a + s) ≡ true) → countBelow a f + len ≤ countBelow (a + len) f

@@ -9,7 +9,7 @@ use lib.Dec.{ltb, leb, eqb}
 use lib.ListN.{length}
 use borrow.Author.Tests.{leb-true, leb-false, eqb-true, eq-eqb, lt-ltb, le-ltb}
 use Rattle.below.proofs.Greatest.{max-ext}
-use Rattle.below.proofs.Index.{listBelow-is}
+use Rattle.below.proofs.Index.{listBelow-is, getD-listBelow}
 use Rattle.below.proofs.Sum.{sum-ext}
 use Rattle.below.proofs.Tests.{by-cases, and-left, and-right, and-both, same-test}
 use Rattle.below.specs.Below.{pick, maxBelow, sumBelow, at}
@@ -17,10 +17,10 @@ use Rattle.tables.specs.Limits.{Limits}
 use Rattle.precedence.specs.Graph.{Plan, Formed, Cycle, Kept, Table, one, reached, remaining, cost, unvisited, into as intoStop, awaitedAt}
 use Rattle.precedence.proofs.Table.{latest-is, reached-table}
 use Rattle.precedence.proofs.Visits.{reached-bound}
-use Rattle.rounds.specs.FlatPlan.{flatPlan, PlacedWaits}
+use Rattle.cycles.proofs.Certified.{formed}
+use Rattle.cycles.specs.Flat.{flatPlan, PlacedWaits}
 use Rattle.rounds.specs.Remaining.{stopRound, stopRounds}
 use Rattle.rounds.specs.StopTable.{latestAwaited, entryBy, Solution}
-use Rattle.rounds.proofs.OneRound.{placed-formed}
 use Rattle.rounds.proofs.Passes.{after-visited, after-unvisited}
 
 module _ (own off last : ℕ → ℕ) (drones n : ℕ) (from into : ℕ → ℕ) (m : ℕ) (placed : PlacedWaits own off last drones n from into m) (p : ℕ → ℕ) where
@@ -59,14 +59,14 @@ module _ (own off last : ℕ → ℕ) (drones n : ℕ) (from into : ℕ → ℕ)
 
   module _ (acyclic : Cycle P → ⊥) (kept : Kept P p) where
     rounds : Table P one p (reached P p)
-    rounds = reached-table P p (placed-formed own off last drones n from into m placed) acyclic kept
+    rounds = reached-table P p (formed own off last drones n from into m placed) acyclic kept
 
     pub rounds-solve : (cap : ℕ) → ((v : ℕ) → v < n → unvisited P p < cap) → Solution cap own off from into m p n R
     unfolding entryBy stopRound
     rounds-solve cap big = record { small = small; solves = λ v l. by-cases (leb (v - off (own v)) (p (own v))) (λ e. visited v l (leb-true _ _ e)) (λ e. open-stop v l (leb-false _ _ e)) }
       where
         small : (v : ℕ) → v < n → R v < cap
-        small v l = omega (arith, big v l, reached-bound P (placed-formed own off last drones n from into m placed) acyclic p (own v) (v - off (own v)))
+        small v l = omega (arith, big v l, reached-bound P (formed own off last drones n from into m placed) acyclic p (own v) (v - off (own v)))
 
         number-in : (v : ℕ) → v < n → v - off (own v) ≤ last (own v)
         number-in v l = omega (arith, placed .shape .number-in v l)
@@ -94,6 +94,10 @@ module _ (own off last : ℕ → ℕ) (drones n : ℕ) (from into : ℕ → ℕ)
       each v l = by-cases (leb n v)
           (λ c. rw (le-ltb v n (leb-true _ _ c)) (past v (leb-true _ _ c)))
           (λ c. rw (lt-ltb v n (leb-false _ _ c)) (here v (leb-false _ _ c)))
+
+  pub table-at : (L : Limits) → n ≤ L .stops → (v : ℕ) → v < n → at (stopRounds L own off last drones n from into m p) v ≡ R v
+  unfolding stopRounds
+  table-at L few v l = getD-listBelow (L .stops) (λ v. pick (ltb v n) (R v) 0) 0 v (omega arith) ∙ rw (lt-ltb v n l) refl
 
   -- the entries at the last stops are the remaining rounds
   pub sum-is : (t : ℕ → ℕ) → ((v : ℕ) → v < n → t v ≡ R v) → sumBelow drones (λ d. t (off d + last d)) ≡ cost P p

@@ -7,7 +7,7 @@ use native.Mathlib.Numerals.{add-one}
 use native.Mathlib.Omega.{arith}
 use Rattle.below.specs.Below.{pick, allBelow, anyBelow, countBelow, fillBelow, at}
 use Rattle.below.proofs.Fill.{getD-fill, getD-unfilled, length-fill}
-use lib.ListN.{length}
+use lib.ListN.{length, replicate}
 
 pub any-none : (f : ℕ → Bool) → anyBelow 0 f ≡ false
 unfolding allBelow
@@ -45,3 +45,9 @@ module _ (f : ℕ → ℕ) (l₀ : List ℕ) (n : ℕ) (l : List ℕ) (e : l ≡
 
   pub copied-at : n ≤ length l₀ → (d : ℕ) → d < n → at l d ≡ f d
   copied-at h d k = ap (λ (x : List ℕ). at x d) e ∙ getD-fill f l₀ n d k h
+
+-- a list of zeros has no other entry, nor past its end
+pub zeros-at : (n v : ℕ) → at (replicate n 0) v ≡ 0
+zeros-at zero v = refl
+zeros-at (suc n) zero = refl
+zeros-at (suc n) (suc v) = zeros-at n v

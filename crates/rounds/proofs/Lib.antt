@@ -3,5 +3,8 @@ pub mod PlayingLoop
 pub mod OneRound
 pub mod Bounds
 pub mod Readiness
+pub mod SamePlans
+pub mod Agree
 pub mod Passes
+pub mod Awaited
 pub mod ChainRounds

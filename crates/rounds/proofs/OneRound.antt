@@ -9,25 +9,15 @@ use lib.Dec.{ltb, leb, eqb}
 use native.Mathlib.Nat.{le-antisymm}
 use lib.ListN.{length, set, length-set, replicate, length-replicate, getD-replicate}
 use lib.Seq.{getD-set-same, getD-set-other}
-use borrow.Author.Tests.{ltb-true, ltb-false, eqb-true, eqb-false, eq-eqb, ne-eqb, lt-ltb, le-ltb}
+use borrow.Author.Tests.{ltb-true, ltb-false, eqb-true, eqb-false, eq-eqb, ne-eqb, lt-ltb, le-ltb, le-leb, lt-leb}
 use Rattle.below.proofs.Tests.{by-cases}
 use Rattle.below.proofs.Fill.{length-fill, getD-fill}
 use Rattle.below.specs.Below.{pick, allBelow, anyBelow, fillBelow, at}
-use Rattle.precedence.specs.Graph.{Plan, Formed, blocks, free, round}
-use Rattle.rounds.specs.FlatPlan.{flatPlan, PlacedWaits}
+use Rattle.precedence.specs.Graph.{Plan, blocks, free, round}
+use Rattle.cycles.specs.Flat.{flatPlan, PlacedWaits}
 use Rattle.tables.specs.Limits.{Limits}
 use Rattle.rounds.specs.Remaining.{StopIn, WaitsIn, keepsBack, blockedMark, placeAfter}
 use Rattle.rounds.proofs.Extra.{any-none, any-hit, any-miss}
-
--- the waits name stops, and none of them a stop 0 to be entered
-pub placed-formed : (own off last : ℕ → ℕ) (drones n : ℕ) (from into : ℕ → ℕ) (m : ℕ) → PlacedWaits own off last drones n from into m → Formed (flatPlan own off last drones from into m)
-placed-formed own off last drones n from into m placed k l = record {
-  waiter-in = placed .shape .own-in (into k) (placed .into-in k l);
-  stop-pos = omega (arith, placed .into-later k l);
-  stop-in = omega (arith, placed .shape .number-in (into k) (placed .into-in k l));
-  awaited-in = placed .shape .own-in (from k) (placed .from-in k l);
-  until-in = omega (arith, placed .shape .number-in (from k) (placed .from-in k l));
-}
 
 -- a marked place and an unmarked one, after a round
 pub round-flat : (own off last : ℕ → ℕ) (drones : ℕ) (from into : ℕ → ℕ) (m : ℕ) (p : ℕ → ℕ) (d : ℕ) → placeAfter (blockedMark own off from into p m d) (p d) (last d) ≡ round (flatPlan own off last drones from into m) p d
@@ -59,6 +49,11 @@ after-finished mark place last h = simp (le-ltb place last h, and-false)
 pub after-moved : (mark place last : ℕ) → mark ≡ 0 → place < last → place + 1 ≡ placeAfter mark place last
 unfolding placeAfter
 after-moved mark place last e h = rw (eq-eqb mark 0 e, lt-ltb place last h) (omega arith)
+
+leb-next : (y u : ℕ) → leb (y + 1) u ≡ ltb y u
+leb-next y u = by-cases (ltb y u)
+    (λ e. le-leb (y + 1) u (omega (arith, ltb-true y u e)) ∙ sym e)
+    (λ e. lt-leb (y + 1) u (omega (arith, ltb-false y u e)) ∙ sym e)
 
 -- ---- the marks
 
@@ -125,11 +120,11 @@ module _ (own off from into : ℕ → ℕ) (p : ℕ → ℕ) where
     unfolding keepsBack
     keeps-elsewhere x ex n = simp (ne-eqb (into k - off (own (into k))) (suc (p (own (into k)))) (λ z. n (sym stop-is ∙ z ∙ ap (λ (c : ℕ). suc (p c)) waiter-is ∙ omega (arith, ex))), and-false)
 
-    pub keeps-next : (x y : ℕ) → x ≡ p d → y ≡ p e → b - f ≡ x + 1 → ltb y (a - g) ≡ keepsBack own off from into p (own (into k)) k
+    pub keeps-next : (x y : ℕ) → x ≡ p d → y ≡ p e → b - f ≡ x + 1 → leb (y + 1) (a - g) ≡ keepsBack own off from into p (own (into k)) k
     unfolding keepsBack
     keeps-next x y ex ey h =
         let next : into k - off (own (into k)) ≡ suc (p (own (into k))) = stop-is ∙ h ∙ omega (arith, ex) ∙ ap (λ (c : ℕ). suc (p c)) (sym waiter-is) in
-        rw (eq-eqb (own (into k)) (own (into k)) refl, eq-eqb (into k - off (own (into k))) (suc (p (own (into k)))) next, until-is, awaited-is, ← ey) refl
+        rw (eq-eqb (own (into k)) (own (into k)) refl, eq-eqb (into k - off (own (into k))) (suc (p (own (into k)))) next, until-is, awaited-is, ← ey) (leb-next y (a - g))
 
 -- ---- a stop that code has read
 

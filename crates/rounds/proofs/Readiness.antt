@@ -1,24 +1,28 @@
 -- What tables that are ready say of their plan: its waits are formed, its graph has no cycle, and rounds and cost stay small. Assumes nothing.
-use mathlib.Core.Path.{_≡_}
+use mathlib.Core.Path.{_≡_, ap, _∙_}
 use mathlib.Core.List.{List}
 use Prim.Native.Nat.{ℕ, _+_, _*_, _-_, _≤_, _<_}
 use native.Mathlib.Omega.{arith}
-use Rattle.below.specs.Below.{at}
+use lib.ListN.{length}
+use Rattle.below.specs.Below.{sumBelow, at}
 use Rattle.tables.specs.Limits.{limits}
 use Rattle.precedence.specs.Graph.{Plan, Formed, Cycle, unvisited, cost}
 use Rattle.precedence.proofs.Visits.{acyclic-iff}
-use Rattle.rounds.specs.FlatPlan.{flatPlan}
-use Rattle.rounds.specs.Remaining.{Ready, WaitsIn, StopIn, roundsLeft}
-use Rattle.rounds.proofs.OneRound.{placed-formed, stops-in, waits-in}
+use Rattle.cycles.proofs.Certified.{formed}
+use Rattle.cycles.specs.Flat.{flatPlan}
+use Rattle.rounds.specs.Remaining.{Ready, WaitsIn, StopIn, roundsLeft, stopRound, stopRounds}
+use Rattle.rounds.specs.StopTable.{Solution, Solved, Passable}
+use Rattle.rounds.proofs.OneRound.{stops-in, waits-in}
 use Rattle.rounds.proofs.PlayingLoop.{rounds-bound}
 use Rattle.rounds.proofs.Bounds.{unvisited-bound, cost-limit}
+use Rattle.rounds.proofs.ChainRounds.{rounds-solve, table-is, table-at, sum-is}
 
 module _ (owners starts lasts : List ℕ) (drones n : ℕ) (from into : List ℕ) (m : ℕ) (visited : List ℕ) (ready : Ready owners starts lasts drones n from into m visited) where
   abbrev P : Plan
   P = flatPlan (at owners) (at starts) (at lasts) drones (at from) (at into) m
 
   pub ready-formed : Formed P
-  ready-formed = placed-formed (at owners) (at starts) (at lasts) drones n (at from) (at into) m (ready .tables .placed)
+  ready-formed = formed (at owners) (at starts) (at lasts) drones n (at from) (at into) m (ready .tables .placed)
 
   pub ready-acyclic : Cycle P → ⊥
   ready-acyclic = acyclic-iff P ready-formed .0 (ready .acyclic)
@@ -38,3 +42,41 @@ module _ (owners starts lasts : List ℕ) (drones n : ℕ) (from into : List ℕ
   -- "at most 31,744"
   pub ready-cost : cost P (at visited) ≤ 31744
   ready-cost = cost-limit limits n P ready-formed ready-acyclic (at visited) (unvisited-bound (at owners) (at starts) (at lasts) drones n (at from) (at into) m (ready .tables .placed .shape) (at visited)) (ready .tables .few-stops) (ready .tables .few-drones) (omega arith)
+
+  -- ---- the table of rounds
+
+  abbrev R : ℕ → ℕ
+  R = stopRound (at owners) (at starts) (at lasts) drones (at from) (at into) m (at visited)
+
+  pub ready-passable : Passable limits owners (at starts) n (at from) (at into) m visited
+  ready-passable = record {
+    waits = ready-waits;
+    stops = ready-stops;
+    placed = λ v l. omega (arith, ready .tables .placed .shape .own-in v l, ready .has-visited);
+    awaited-in = ready .tables .placed .from-in;
+    few = ready .tables .few-stops;
+  }
+
+  ready-solution : Solution (limits .stops) (at owners) (at starts) (at from) (at into) m (at visited) n R
+  ready-solution = rounds-solve (at owners) (at starts) (at lasts) drones n (at from) (at into) m (ready .tables .placed) (at visited) ready-acyclic (ready .kept) (limits .stops) (λ v l. omega (arith, ready-unvisited, ready .tables .placed .shape .own-in v l))
+
+  -- what passes over a table of zeros end with
+  pub ready-table : (zeros t : List ℕ) → length zeros ≡ limits .stops → ((v : ℕ) → at zeros v ≡ 0) → Solved (limits .stops) (at owners) (at starts) (at from) (at into) m (at visited) n zeros t → t ≡ stopRounds limits (at owners) (at starts) (at lasts) drones n (at from) (at into) m (at visited)
+  ready-table zeros t long none solved =
+      table-is (at owners) (at starts) (at lasts) drones n (at from) (at into) m (ready .tables .placed) (at visited) limits (ready .tables .few-stops) t (solved .long ∙ long) (solved .solved R ready-solution) (λ v h. solved .past v h ∙ none v)
+
+  -- a table of the rounds
+  module _ (t : List ℕ) (e : t ≡ stopRounds limits (at owners) (at starts) (at lasts) drones n (at from) (at into) m (at visited)) where
+    entry-is : (v : ℕ) → v < n → at t v ≡ R v
+    entry-is v l = ap (λ (x : List ℕ). at x v) e ∙ table-at (at owners) (at starts) (at lasts) drones n (at from) (at into) m (ready .tables .placed) (at visited) limits (ready .tables .few-stops) v l
+
+    pub last-in : (d : ℕ) → d < drones → at starts d + at lasts d < limits .stops
+    last-in d l = omega (arith, ready .tables .placed .shape .place-in d (at lasts d) l (omega arith), ready .tables .few-stops)
+
+    pub last-small : (d : ℕ) → d < drones → at t (at starts d + at lasts d) ≤ limits .stops
+    last-small d l =
+        let v : at starts d + at lasts d < n = ready .tables .placed .shape .place-in d (at lasts d) l (omega arith) in
+        omega (arith, entry-is (at starts d + at lasts d) v, ready-solution .small (at starts d + at lasts d) v)
+
+    pub last-sum : sumBelow drones (λ d. at t (at starts d + at lasts d)) ≡ cost P (at visited)
+    last-sum = sum-is (at owners) (at starts) (at lasts) drones n (at from) (at into) m (ready .tables .placed) (at visited) (at t) entry-is

@@ -1,3 +1,2 @@
-pub mod FlatPlan
 pub mod Remaining
 pub mod StopTable

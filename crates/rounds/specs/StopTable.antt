@@ -7,6 +7,8 @@ use Prim.Native.Nat.{ℕ, suc, _-_, _≤_, _<_, max, min}
 use lib.Dec.{leb, eqb}
 use lib.ListN.{length}
 use Rattle.below.specs.Below.{pick, maxBelow, at}
+use Rattle.tables.specs.Limits.{Limits}
+use Rattle.rounds.specs.Remaining.{StopIn, WaitsIn}
 
 -- the greatest entry of t among the stops that the first k waits into stop v await
 unfoldable pub latestAwaited : (from into t : ℕ → ℕ) → ℕ → ℕ → ℕ
@@ -44,3 +46,11 @@ module _ (cap : ℕ) (own off from into : ℕ → ℕ) (m : ℕ) (p : ℕ → �
     pub long : length after ≡ length before
     pub past : (v : ℕ) → n ≤ v → at after v ≡ at before v
     pub solved : (r : ℕ → ℕ) → Solution cap own off from into m p n r → (v : ℕ) → v < n → at after v ≡ r v
+
+-- what a pass asks of the tables: every stop has a drone with a place, and every wait is between stops
+pub record Passable (L : Limits) (owners : List ℕ) (off : ℕ → ℕ) (n : ℕ) (from into : ℕ → ℕ) (m : ℕ) (visited : List ℕ) : Type 0 where
+  pub waits : WaitsIn L owners off from into m
+  pub stops : (v : ℕ) → v < n → StopIn L owners off v
+  pub placed : (v : ℕ) → v < n → at owners v < length visited
+  pub awaited-in : (k : ℕ) → k < m → from k < n
+  pub few : n ≤ L .stops

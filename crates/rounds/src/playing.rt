@@ -7,7 +7,7 @@ ghost use lib.Dec.{ltb};
 ghost use Rattle.below.specs.Below.{countBelow, fillBelow, at};
 ghost use Rattle.tables.specs.Limits.{limits};
 ghost use Rattle.precedence.specs.Graph.{round, cost};
-ghost use Rattle.rounds.specs.FlatPlan.{flatPlan};
+ghost use Rattle.cycles.specs.Flat.{flatPlan};
 ghost use Rattle.rounds.specs.Remaining.{Ready, WaitsIn, keepsBack, blockedMark, placeAfter, roundsLeft};
 use crate::widths::wide;
 use crate::widths::wide8;
@@ -18,7 +18,7 @@ pub struct Played {
     pub cost: usize,
 }
 
-// Whether wait k keeps its drone from the next stop.
+// Whether wait k keeps its drone from the next stop: the awaited stop is unvisited, so the awaited drone's next stop is not past it.
 fn keeps_back(
     owners: &[u8],
     starts: &[u16; 32],
@@ -40,7 +40,8 @@ fn keeps_back(
     if stop != wide(places[d]) + 1 {
         return false;
     }
-    wide(places[e]) < until
+    let next = wide(places[e]) + 1;
+    next <= until
 }
 
 // A mark for each drone that a wait keeps from its next stop.

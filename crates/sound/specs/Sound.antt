@@ -12,9 +12,9 @@ use Rattle.lines.specs.Names.{isNameByte}
 use Rattle.precedence.specs.Graph.{cyclic}
 use Rattle.plan.specs.Stops.{start, owner, number}
 use Rattle.plan.specs.Check.{firstFault, apart}
-use Rattle.plan.specs.Dependencies.{dependencyTotal, column, isFixed}
+use Rattle.plan.specs.Dependencies.{dependencyTotal, column}
 use Rattle.plan.specs.Field.{planOf, graph, fixed}
-use Rattle.plan.specs.Status.{Status, statusIn, fixedUnturned, withinStops, waitsKept}
+use Rattle.plan.specs.Status.{statusIn, fixedUnturned, withinStops, waitsKept}
 
 -- the entries from `used` on, up to the full size, are zero
 unfoldable pub zeroFrom : ℕ → ℕ → List ℕ → Bool

@@ -1,1 +1,104 @@
-// The sound test.
+// The sound test: whether lent tables are sound, whatever they hold. The counts are tested first, then names and stops, then the records, which then name stops; so no number is used as an
+// index before it is known to be one.
+mod counts;
+mod graph;
+mod names;
+mod progress;
+mod records;
+mod single;
+mod unused;
+
+ghost use mathlib.Core.Bool.{true};
+ghost use mathlib.Core.Path.{_≡_};
+ghost use Rattle.tables.specs.Limits.{limits};
+ghost use Rattle.tables.specs.Tables.{tablesOf, fullSize};
+ghost use Rattle.sound.specs.Sound.{sound};
+
+// Whether tables of full size are sound.
+pub fn is_sound(
+    drone_count: &[u16],
+    dependency_count: &[u16],
+    names: &[u8],
+    stop_counts: &[u16],
+    locations: &[u16],
+    times: &[u32],
+    visited: &[u16],
+    drone_flags: &[u8],
+    first_drones: &[u8],
+    first_stops: &[u16],
+    second_drones: &[u8],
+    second_stops: &[u16],
+    flags: &[u8],
+) -> bool
+    requires { ⌜
+        fullSize limits (tablesOf
+        (now «drone_count») (now «dependency_count») (now names) (now «stop_counts»)
+        (now locations) (now times) (now visited) (now «drone_flags»)
+        (now «first_drones») (now «first_stops») (now «second_drones») (now «second_stops»)
+        (now flags)) ≡ true
+        ⌝ }
+    ensures { λ r.
+        ⌜
+        r ≡ sound limits (tablesOf
+        (now («drone_count» .entry)) (now («dependency_count» .entry)) (now (names .entry)) (now («stop_counts» .entry))
+        (now (locations .entry)) (now (times .entry)) (now (visited .entry)) (now («drone_flags» .entry))
+        (now («first_drones» .entry)) (now («first_stops» .entry)) (now («second_drones» .entry)) (now («second_stops» .entry))
+        (now (flags .entry)))
+        ⌝ }
+{
+    let drones = drone_count[0] as usize;
+    let m = dependency_count[0] as usize;
+    if !counts::counts_sound(drones, stop_counts, m) {
+        return false;
+    }
+    let n = plan::stops::stop_total(drones, stop_counts);
+    if !names::names_sound(names, drones) {
+        return false;
+    }
+    if !graph::graph_sound(
+        drones,
+        n,
+        m,
+        stop_counts,
+        locations,
+        times,
+        first_drones,
+        first_stops,
+        second_drones,
+        second_stops,
+        flags,
+    ) {
+        return false;
+    }
+    if !progress::drones_sound(drones, stop_counts, visited, drone_flags) {
+        return false;
+    }
+    if !progress::waits_kept(
+        m,
+        visited,
+        drone_flags,
+        first_drones,
+        first_stops,
+        second_drones,
+        second_stops,
+        flags,
+    ) {
+        return false;
+    }
+    if !unused::plan_unused(
+        drones,
+        n,
+        m,
+        names,
+        stop_counts,
+        locations,
+        times,
+        first_drones,
+        first_stops,
+        second_drones,
+        second_stops,
+    ) {
+        return false;
+    }
+    unused::progress_unused(drones, m, visited, drone_flags, flags)
+}

@@ -43,7 +43,7 @@ partner-of-requires c κs = search needs
 
 -- src/check.rt:172:37
 stop-at-requires-2 : tie.Need-stop-at-requires-2
-stop-at-requires-2 c κs = search needs
+stop-at-requires-2 c κs = omega (arith, partner-in _ _ _ _ _ _ (c .before .before .first-collider .ensures) (c .before .if2 .taken) (c .partner-of .ensures))
 
 -- src/check.rt:172:66
 stop-at-requires-3 : tie.Need-stop-at-requires-3

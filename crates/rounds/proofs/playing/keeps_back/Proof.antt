@@ -102,17 +102,21 @@ add-if1 c = search needs
 returns : tie.Need-returns
 returns c = keeps-elsewhere (at (c .before .before .before .before .before .before .before .before .before .before .before .before .before .before .before .before .args .owners .now)) (at (c .before .before .before .before .before .before .before .before .before .before .before .before .before .before .before .before .args .starts .now)) (at (c .before .before .before .before .before .before .before .before .before .before .before .before .before .before .before .before .args .from .now)) (at (c .before .before .before .before .before .before .before .before .before .before .before .before .before .before .before .before .args .into .now)) (at (c .before .before .before .before .before .before .before .before .before .before .before .before .before .before .before .before .args .places .now)) _ _ _ _ _ _ _ (c .before .before .before .before .before .before .before .before .before .before .before .before .before .wide .ensures .0) (c .before .before .before .before .before .before .before .before .before .before .before .wide8 .ensures .0) (c .before .before .before .before .before .before .before .before .before .wide2 .ensures .0) (c .before .before .before .before .before .before .before .wide3 .ensures .0) (c .before .before .before .before .before .wide82 .ensures .0) (c .before .before .before .wide4 .ensures .0) _ (c .before .wide5 .ensures .0) (c .if1 .taken)
 
--- src/playing.rt:43:10
+-- src/playing.rt:43:21
 mul-wide-6 : tie.Need-mul-wide-6
 mul-wide-6 c = search needs
 
--- src/playing.rt:43:10
+-- src/playing.rt:43:21
 element-copy-out-wide-6 : tie.Need-element-copy-out-wide-6
 element-copy-out-wide-6 c = read-owner limits _ _ _ (c .before .before .before .before .before .before .before .before .before .before .before .before .before .before .before .before .pre .0 .from-in _ (c .before .before .before .before .before .before .before .before .before .before .before .before .before .before .before .before .pre .1)) _ (c .before .before .before .before .before .before .before .wide3 .ensures .0) _ (c .before .before .before .before .before .wide82 .ensures .0)
 
--- src/playing.rt:43:5
+-- src/playing.rt:43:16
 wide-requires-6 : tie.Need-wide-requires-6
 wide-requires-6 c κs = search needs
+
+-- src/playing.rt:43:16
+add-next : tie.Need-add-next
+add-next c = search needs
 
 -- src/playing.rt:22:1
 returns-2 : tie.Need-returns-2
@@ -148,4 +152,5 @@ keeps-back-spec =
     mul-wide-6
     element-copy-out-wide-6
     wide-requires-6
+    add-next
     returns-2)

@@ -6,7 +6,7 @@ use lib.ListN.{length, replicate, length-replicate}
 use Rattle.below.specs.Below.{at}
 use Rattle.tables.specs.Limits.{limits}
 use Rattle.precedence.specs.Graph.{unvisited}
-use Rattle.rounds.specs.FlatPlan.{flatPlan}
+use Rattle.cycles.specs.Flat.{flatPlan}
 use Rattle.rounds.specs.Remaining.{Ready}
 use Rattle.rounds.proofs.Extra.{copied-long, copied-at}
 use Rattle.rounds.proofs.PlayingLoop.{Playing, playing-start, playing-end, playing-early, playing-small, playing-round, playing-less}

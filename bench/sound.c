@@ -1,0 +1,96 @@
+// Nanoseconds for one sound test at full tables: 32 drones, 1,024 stops, about 1,900 dependencies. From the repository's root:
+// rt staticlib bench && clang -O3 bench/sound.c target/staticlib/libbench.a -o /tmp/sound && /tmp/sound
+#include <stdint.h>
+#include <stdio.h>
+#include <stdlib.h>
+#include <string.h>
+#include <time.h>
+
+extern uint8_t bench_sound(const uint16_t *, size_t, const uint16_t *, size_t, const uint8_t *, size_t, const uint16_t *, size_t,
+                           const uint16_t *, size_t, const uint32_t *, size_t, const uint16_t *, size_t, const uint8_t *, size_t,
+                           const uint8_t *, size_t, const uint16_t *, size_t, const uint8_t *, size_t, const uint16_t *, size_t,
+                           const uint8_t *, size_t);
+
+enum { DRONES = 32, STOPS = 1024, EACH = STOPS / DRONES, DEPENDENCIES = 2048, NAME = 24 };
+
+static uint16_t drone_count[1], dependency_count[1], stop_counts[DRONES], locations[STOPS], visited[DRONES];
+static uint16_t first_stops[DEPENDENCIES], second_stops[DEPENDENCIES];
+static uint32_t times[STOPS];
+static uint8_t names[DRONES * NAME], drone_flags[DRONES], first_drones[DEPENDENCIES], second_drones[DEPENDENCIES], flags[DEPENDENCIES];
+
+static uint64_t state = 12345;
+
+static uint32_t any(void) {
+    state = state * 6364136223846793005ull + 1442695040888963407ull;
+    return state >> 33;
+}
+
+static double now(void) {
+    struct timespec t;
+    clock_gettime(CLOCK_MONOTONIC, &t);
+    return t.tv_sec * 1e9 + t.tv_nsec;
+}
+
+// Every drone has a location of its own at each stop, but for some that five drones pass one after the other.
+static void plan(void) {
+    drone_count[0] = DRONES;
+    for (int d = 0; d < DRONES; d++) {
+        stop_counts[d] = EACH;
+        snprintf((char *)names + d * NAME, NAME, "survey-quad-%d", d);
+        for (int s = 0; s < EACH; s++) {
+            locations[d * EACH + s] = 40000 + d * EACH + s;
+            times[d * EACH + s] = s ? s * 1000 + any() % 900 : 0;
+        }
+    }
+    for (int a = 0; a < 6; a++)
+        for (int j = 0; j < 32; j++)
+            for (int i = 0; i < 5; i++)
+                locations[(j * 5 + 7 * i + a * 3) % 32 * EACH + a + 6 * i] = ((a * 32 + j) * 337 + 11) % 39000;
+    int m = 0;
+    for (int v = 0; v < STOPS; v++)
+        for (int w = 0; w < STOPS; w++)
+            if (v / EACH != w / EACH && locations[v] == locations[w] && times[v] < times[w]) {
+                if (m == DEPENDENCIES) abort();
+                first_drones[m] = v / EACH, first_stops[m] = v % EACH, second_drones[m] = w / EACH, second_stops[m] = w % EACH;
+                flags[m] = v % EACH == 0 || w % EACH == EACH - 1 ? 2 : 0;
+                m++;
+            }
+    dependency_count[0] = m;
+}
+
+static int sound(void) {
+    return bench_sound(drone_count, 1, dependency_count, 1, names, sizeof names, stop_counts, DRONES, locations, STOPS, times, STOPS, visited, DRONES,
+                       drone_flags, DRONES, first_drones, DEPENDENCIES, first_stops, DEPENDENCIES, second_drones, DEPENDENCIES, second_stops, DEPENDENCIES,
+                       flags, DEPENDENCIES);
+}
+
+static void measure(const char *what) {
+    double best = 1e18;
+    int answer = 0;
+    for (int t = 0; t < 9; t++) {
+        double start = now();
+        for (int i = 0; i < 2000; i++) {
+            __asm__ volatile("" ::: "memory");
+            answer = sound();
+        }
+        double each = (now() - start) / 2000;
+        if (each < best) best = each;
+    }
+    printf("%-40s %8.0f ns   sound %d\n", what, best, answer);
+}
+
+int main(void) {
+    plan();
+    printf("dependencies %d\n", dependency_count[0]);
+    measure("sound tables");
+    flags[dependency_count[0] - 1] ^= 2;
+    measure("last flag byte wrong");
+    flags[dependency_count[0] - 1] ^= 2;
+    visited[31] = EACH;
+    measure("last drone past its last stop");
+    visited[31] = 0;
+    // Content that no plan has: counts past the full sizes must be refused before anything is read by them.
+    memset(drone_count, 255, sizeof drone_count);
+    measure("drone count 65,535");
+    return 0;
+}

@@ -1,0 +1,33 @@
+-- The worked readings of specs/Examples, by computing; flight Q is accepted, so demand 3 holds of every list of calls after it.
+use mathlib.Core.Path.{_≡_, refl}
+use mathlib.Core.Bool.{true}
+use mathlib.Core.List.{List}
+use Rattle.below.specs.Below.{firstBelow, allBelow, countBelow, sumBelow}
+use Rattle.tables.specs.Limits.{limits}
+use Rattle.tables.specs.Tables.{Tables, fullSize}
+use Rattle.tables.specs.Zero.{zeroed}
+use Rattle.lines.specs.Bytes.{byteAt, isAt}
+use Rattle.lines.specs.Numbers.{isDigit, digitsFrom, numberAt, fieldAt}
+use Rattle.lines.specs.Stops.{goAt, stopsAt, countAt}
+use Rattle.lines.specs.Names.{untilFeed, lineEnd, isNameByte, nameBytes, goodName, nameAt}
+use Rattle.text.specs.Reading.{stopsRead, droneAt, same, elem, dronesAt, linesAt}
+use Rattle.text.specs.Examples.{bytes}
+use Rattle.plan.specs.Stops.{start, owner, number}
+use Rattle.plan.specs.Check.{faultAt, firstFault, over, collide, collider}
+use Rattle.plan.specs.Dependencies.{follows}
+use Rattle.plan.specs.Answers.{faultCase, checkOf}
+use Rattle.log.specs.CallLog.{Call, Entry}
+use Rattle.log.specs.Calls.{step, Ran}
+use Rattle.log.specs.Demand.{Found}
+use Rattle.reading.specs.Reading.{readPlan}
+use Rattle.reading.specs.declared.replies.Reading.the-variants.{Taken}
+use Rattle.accepted.specs.Examples.{sevens, flightQ, allHold, examples}
+use Rattle.accepted.proofs.ReadSound.{demand3-of-texts}
+
+pub examples-hold : (allHold examples ≡ true) × (readPlan limits (bytes flightQ) (sevens limits) .reply ≡ Taken)
+unfolding firstBelow allBelow countBelow sumBelow fullSize zeroed byteAt isAt isDigit digitsFrom numberAt fieldAt goAt stopsAt countAt untilFeed lineEnd isNameByte nameBytes goodName nameAt stopsRead droneAt same elem dronesAt linesAt start owner number faultAt firstFault over collide collider follows faultCase checkOf readPlan
+examples-hold = (refl, refl)
+
+-- demand 3 of flight Q, whatever is called after its reading
+pub flightQ-found : (calls : List Call) (got : List Entry) (t : Tables) → Ran (step limits) (readPlan limits (bytes flightQ) (sevens limits) .tables) calls got t → Found (readPlan limits (bytes flightQ) (sevens limits) .tables .plan) calls got t
+flightQ-found calls got t ran = demand3-of-texts limits (bytes flightQ) (sevens limits) calls got t (examples-hold .1) ran

@@ -1,0 +1,95 @@
+-- A reading that is accepted went through every place of the table of refusals: full sizes, text, plan check, building.
+use mathlib.Core.Path.{_≡_, refl}
+use mathlib.Core.Bool.{Bool, true, false, cond}
+use mathlib.Core.List.{List}
+use Prim.Native.Nat.{ℕ, _≤_}
+use native.Mathlib.Omega.{arith}
+use lib.Dec.{ltb, leb, eqb}
+use borrow.Author.Tests.{ltb-false, leb-true}
+use lib.ListN.{length}
+use Rattle.below.specs.Below.{firstBelow}
+use Rattle.below.proofs.Search.{firstBelow-first}
+use Rattle.tables.specs.Limits.{Limits}
+use Rattle.tables.specs.Tables.{PlanLists, Tables, fullSize}
+use Rattle.tables.specs.Zero.{zeroedTables}
+use Rattle.text.specs.Reading.{Found, linesAt}
+use Rattle.text.specs.declared.reader.Answer.{Answer}
+use Rattle.text.specs.declared.reader.Answer.the-variants as text
+use Rattle.plan.specs.declared.check.StopAt.{StopAt}
+use Rattle.plan.specs.declared.check.PlanCheck.the-variants as check
+use Rattle.plan.specs.Answers.{pickCheck, faultCase, checkOf}
+use Rattle.plan.specs.Check.{firstFault, collider}
+use Rattle.plan.specs.Claims.{stopTotal, ownerIn, numberIn, locationIn, timeIn, NoFault, NoCollision}
+use Rattle.plan.proofs.Claims.{accepted-claims}
+use Rattle.reading.specs.Replies.{ofCheck}
+use Rattle.reading.specs.declared.replies.Refusal.the-variants.{TablesTooSmall, TooLong, TooManyDependencies}
+use Rattle.reading.specs.declared.replies.Reading.{Reading}
+use Rattle.reading.specs.declared.replies.Reading.the-variants.{Taken, Refused}
+use Rattle.reading.specs.Reading.{Answered, answered, withText, withDependencies, total, checkIn, checked, fromLines, readPlan}
+
+-- ---- the plan check
+
+-- no fault's answer is taken
+fault-refused : (a b : Bool) (s : StopAt) → ofCheck (pickCheck a (check.StartsLate s) (pickCheck b (check.NotRising s) (check.SameLocation s))) ≡ Taken → ⊥
+fault-refused true b s h = let z : _≡_ {A = ℕ} 0 1 = cc h in omega arith
+fault-refused false true s h = let z : _≡_ {A = ℕ} 0 1 = cc h in omega arith
+fault-refused false false s h = let z : _≡_ {A = ℕ} 0 1 = cc h in omega arith
+
+passes : (a b : Bool) (k : ℕ) (s x y : StopAt) → ofCheck (pickCheck a (faultCase k s) (pickCheck b (check.Collision x y) check.Fine)) ≡ Taken → (a ≡ false) × (b ≡ false)
+unfolding faultCase
+passes true b k s x y h = absurd (fault-refused (eqb k 7) (eqb k 8) s h)
+passes false true k s x y h = absurd (let z : _≡_ {A = ℕ} 0 1 = cc h in omega arith)
+passes false false k s x y h = (refl, refl)
+
+search-end : (n : ℕ) (f : ℕ → Bool) → ltb (firstBelow n f) n ≡ false → firstBelow n f ≡ n
+search-end n f e = omega (arith, ltb-false (firstBelow n f) n e, firstBelow-first n f .within)
+
+module _ (p : PlanLists) (h : checkIn p ≡ Taken) where
+  nothing-found : (ltb (firstFault (numberIn p) (locationIn p) (timeIn p) (stopTotal p)) (stopTotal p) ≡ false) × (ltb (collider (ownerIn p) (locationIn p) (timeIn p) (stopTotal p)) (stopTotal p) ≡ false)
+  unfolding checkOf
+  nothing-found = passes _ _ _ _ _ _ h
+
+  pub no-fault : NoFault p
+  unfolding firstFault
+  no-fault = search-end (stopTotal p) _ (nothing-found .0)
+
+  pub no-collision : NoCollision p
+  unfolding collider
+  no-collision = accepted-claims .reported-exactly p .1 (search-end (stopTotal p) _ (nothing-found .1))
+
+-- ---- the whole reading
+
+-- what an accepted reading went through, where z is the zeroed tables, f what the text says and `after` the tables afterwards
+pub record ReadTaken (L : Limits) (z : Tables) (f : Found Answer) (answer : Answer) (after : Tables) : Type 0 where
+  pub number : ℕ
+  pub lines-taken : answer ≡ text.Taken number
+  pub check-passed : checkIn (withText f number z .plan) ≡ Taken
+  pub room : total (withText f number z .plan) ≤ L .dependencies
+  pub tables-are : after ≡ withDependencies (withText f number z)
+
+module _ (L : Limits) where
+  built-taken : (z t : Tables) (b : Bool) → leb (total (t .plan)) (L .dependencies) ≡ b → cond b (answered Taken (withDependencies t)) (answered (Refused TooManyDependencies) z) .reply ≡ Taken
+      → (total (t .plan) ≤ L .dependencies) × (cond b (answered Taken (withDependencies t)) (answered (Refused TooManyDependencies) z) .tables ≡ withDependencies t)
+  built-taken z t true e h = (leb-true _ _ e, refl)
+  built-taken z t false e h = absurd (let q : _≡_ {A = ℕ} 0 1 = cc h in omega arith)
+
+  checked-taken : (z t : Tables) (r : Reading) → checked L z t r .reply ≡ Taken → (r ≡ Taken) × (total (t .plan) ≤ L .dependencies) × (checked L z t r .tables ≡ withDependencies t)
+  checked-taken z t Taken h = let k = built-taken z t (leb (total (t .plan)) (L .dependencies)) refl h in (refl, k .0, k .1)
+  checked-taken z t (Refused x) h = absurd (let q : _≡_ {A = ℕ} 0 1 = cc h in omega arith)
+
+  lines-read : (z : Tables) (f : Found Answer) (a : Answer) → fromLines L z f a .reply ≡ Taken → ReadTaken L z f a (fromLines L z f a .tables)
+  lines-read z f (text.Refused x) h = absurd (let q : _≡_ {A = ℕ} 0 1 = cc h in omega arith)
+  lines-read z f (text.Taken n) h =
+      let k = checked-taken z (withText f n z) (checkIn (withText f n z .plan)) h in
+      record { number = n; lines-taken = refl; check-passed = k .0; room = k .1; tables-are = k .2 }
+
+  pub read-taken : (text : List ℕ) (t : Tables) → readPlan L text t .reply ≡ Taken → (fullSize L t ≡ true) × ReadTaken L (zeroedTables L t) (linesAt L text) (linesAt L text .answer) (readPlan L text t .tables)
+  unfolding readPlan
+  read-taken text t h = by-size (fullSize L t) refl (ltb (L .text) (length text)) (fromLines L (zeroedTables L t) (linesAt L text) (linesAt L text .answer)) (λ k. lines-read (zeroedTables L t) (linesAt L text) (linesAt L text .answer) k) h
+    where
+      by-size : (a : Bool) → fullSize L t ≡ a → (b : Bool) (r : Answered) → (r .reply ≡ Taken → ReadTaken L (zeroedTables L t) (linesAt L text) (linesAt L text .answer) (r .tables))
+          → cond a (cond b (answered (Refused (TooLong (L .text))) t) r) (answered (Refused TablesTooSmall) t) .reply ≡ Taken
+          → (fullSize L t ≡ true) × ReadTaken L (zeroedTables L t) (linesAt L text) (linesAt L text .answer) (cond a (cond b (answered (Refused (TooLong (L .text))) t) r) (answered (Refused TablesTooSmall) t) .tables)
+      by-size true e true r go h = absurd (let q : _≡_ {A = ℕ} 0 1 = cc h in omega arith)
+      by-size true e false r go h = (e, go h)
+      by-size false e b r go h = absurd (let q : _≡_ {A = ℕ} 0 1 = cc h in omega arith)

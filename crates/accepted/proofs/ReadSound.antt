@@ -1,0 +1,108 @@
+-- An accepted reading leaves the tables as the calls ask for them: the text's values stand in zeroed tables, the plan check passed, and the dependencies were
+-- laid.
+use mathlib.Core.Path.{_≡_, sym, ap, _∙_, subst}
+use mathlib.Core.Bool.{true}
+use mathlib.Core.List.{List, [], _∷_}
+use Prim.Native.Nat.{ℕ, _*_, _≤_, _<_}
+use native.Mathlib.Nat.{mul-le-mul-right}
+use native.Mathlib.Omega.{arith}
+use lib.ListN.{length}
+use lib.Seq.{sets, length-sets}
+use Rattle.below.specs.Below.{at}
+use Rattle.tables.specs.Limits.{Limits}
+use Rattle.tables.specs.Tables.{Tables, fullSize, Sizes}
+use Rattle.tables.specs.Zero.{zeroed, zeroedTables}
+use Rattle.tables.proofs.Zero.{zeroed-below, zeroed-length}
+use Rattle.tables.proofs.SizeLaws.{SameLengths, fullSize-lengths, full-sizes}
+use Rattle.text.specs.Reading.{Found, linesAt, flat}
+use Rattle.text.specs.declared.reader.Answer.{Answer}
+use Rattle.text.specs.Written.{Route, rowsOf, countsOf, locationsOf, timesOf, foundOf, Valid}
+use Rattle.text.proofs.TakenIsWritten.{TextTaken, text-taken}
+use Rattle.log.specs.Calls.{AsRead, tablesAfter}
+use Rattle.log.proofs.Whole.{stays-sound, demand3-of-contracts}
+use Rattle.reading.specs.Reading.{withText, withDependencies, total, checkIn}
+use Rattle.reading.specs.declared.replies.Reading.the-variants.{Taken}
+use Rattle.accepted.specs.Claims.{ReadIsSound, TablesSound, Demand3OfTexts}
+use Rattle.accepted.proofs.Stored.{stored-at}
+use Rattle.accepted.proofs.Extra.{names-many, counts-many, stops-within}
+use Rattle.accepted.proofs.Routes.{times-many}
+use Rattle.accepted.proofs.PlanHeld.{HoldsRoutes}
+use Rattle.accepted.proofs.ReadCases.{read-taken}
+use Rattle.accepted.proofs.Built.{Blank, built-as-read}
+
+-- stored values that are known by an equation
+stored-as : (full : ℕ) (t xs ys : List ℕ) → xs ≡ ys → length ys ≤ full → full ≤ length t → (i : ℕ) → i < full → at (sets (zeroed full t) 0 xs) i ≡ at ys i
+stored-as full t xs ys e h r i l = ap (λ (x : List ℕ). at (sets (zeroed full t) 0 x) i) e ∙ stored-at full t ys h r i l
+
+stored-long : (full : ℕ) (t xs : List ℕ) → length (sets (zeroed full t) 0 xs) ≡ length t
+stored-long full t xs = length-sets (zeroed full t) 0 xs ∙ zeroed-length full t
+
+module _ (L : Limits) (t : Tables) (full : fullSize L t ≡ true) (f : Found Answer) (n : ℕ) where
+  abbrev stored : Tables
+  stored = withText f n (zeroedTables L t)
+
+  -- the sizes of the tables before
+  before : Sizes L t
+  before = full-sizes L t full
+
+  same-lengths : SameLengths stored t
+  same-lengths = record {
+    drone-count = stored-long 1 (t .plan .droneCount) (n ∷ []);
+    dependency-count = zeroed-length 1 (t .plan .dependencyCount);
+    names = stored-long (L .drones * L .name) (t .plan .names) (flat (f .rows));
+    stop-counts = stored-long (L .drones) (t .plan .stopCounts) (f .counts);
+    locations = stored-long (L .stops) (t .plan .locations) (f .locations);
+    times = stored-long (L .stops) (t .plan .times) (f .times);
+    first-drones = zeroed-length (L .dependencies) (t .plan .firstDrones);
+    first-stops = zeroed-length (L .dependencies) (t .plan .firstStops);
+    second-drones = zeroed-length (L .dependencies) (t .plan .secondDrones);
+    second-stops = zeroed-length (L .dependencies) (t .plan .secondStops);
+    visited = zeroed-length (L .drones) (t .visited);
+    drone-flags = zeroed-length (L .drones) (t .droneFlags);
+    flags = zeroed-length (L .dependencies) (t .flags);
+  }
+
+  stored-sizes : Sizes L stored
+  stored-sizes = full-sizes L stored (fullSize-lengths L stored t same-lengths ∙ full)
+
+  stored-blank : Blank L stored
+  stored-blank = record {
+    first-drones = zeroed-below (L .dependencies) (t .plan .firstDrones);
+    first-stops = zeroed-below (L .dependencies) (t .plan .firstStops);
+    second-drones = zeroed-below (L .dependencies) (t .plan .secondDrones);
+    second-stops = zeroed-below (L .dependencies) (t .plan .secondStops);
+    flags = zeroed-below (L .dependencies) (t .flags);
+    visited = zeroed-below (L .drones) (t .visited);
+    drone-flags = zeroed-below (L .drones) (t .droneFlags);
+  }
+
+  module _ (ds : List Route) (many : length ds ≡ n) (v : Valid L ds) (read : f ≡ foundOf L ds) where
+    stored-holds : HoldsRoutes L ds (stored .plan)
+    stored-holds =
+        let names-fit : length (flat (rowsOf L ds)) ≤ L .drones * L .name = omega (arith, names-many L ds, mul-le-mul-right (L .name) (v .1)) in
+        let counts-fit : length (countsOf ds) ≤ L .drones = omega (arith, counts-many ds, v .1) in
+        let stops-fit : length (locationsOf ds) ≤ L .stops = stops-within L ds v in
+        let times-fit : length (timesOf ds) ≤ L .stops = omega (arith, times-many L ds v) in
+        record {
+          drones-are = stored-at 1 (t .plan .droneCount) (n ∷ []) (omega arith) (before .drone-count) 0 (omega arith) ∙ sym many;
+          names-are = stored-as (L .drones * L .name) (t .plan .names) (flat (f .rows)) (flat (rowsOf L ds)) (ap (λ (g : Found Answer). flat (g .rows)) read) names-fit (before .names);
+          counts-are = stored-as (L .drones) (t .plan .stopCounts) (f .counts) (countsOf ds) (ap (λ (g : Found Answer). g .counts) read) counts-fit (before .stop-counts);
+          locations-are = stored-as (L .stops) (t .plan .locations) (f .locations) (locationsOf ds) (ap (λ (g : Found Answer). g .locations) read) stops-fit (before .locations);
+          times-are = stored-as (L .stops) (t .plan .times) (f .times) (timesOf ds) (ap (λ (g : Found Answer). g .times) read) times-fit (before .times);
+        }
+
+    stored-as-read : checkIn (stored .plan) ≡ Taken → total (stored .plan) ≤ L .dependencies → AsRead L (withDependencies stored .plan) (withDependencies stored)
+    stored-as-read passed room = built-as-read L stored stored-sizes stored-blank room ds v stored-holds passed
+
+pub read-is-sound : (L : Limits) → ReadIsSound L
+read-is-sound L text t h =
+    let (full, r) = read-taken L text t h in
+    let w : TextTaken L text (r .number) (linesAt L text) = text-taken L text (r .number) (r .lines-taken) in
+    subst (λ (x : Tables). AsRead L (x .plan) x) (sym (r .tables-are)) (stored-as-read L t full (linesAt L text) (r .number) (w .routes) (w .many) (w .valid) (w .read) (r .check-passed) (r .room))
+
+pub tables-sound : (L : Limits) → TablesSound L
+unfolding tablesAfter
+tables-sound L text t h = stays-sound L _ _ (read-is-sound L text t h) []
+
+pub demand3-of-texts : (L : Limits) → Demand3OfTexts L
+demand3-of-texts L text t calls got t′ h ran = demand3-of-contracts L _ _ calls got t′ (read-is-sound L text t h) ran

@@ -1,0 +1,74 @@
+-- Flights of document 01 as texts, read into tables of full size that held something else before: the readings that the claims speak of do happen. Assumes nothing.
+use mathlib.Core.Bool.{Bool, true, _&&_}
+use mathlib.Core.List.{List, [], _∷_}
+use Prim.Native.Nat.{ℕ, _*_}
+use Prim.Native.String.{String}
+use lib.Dec.{eqb}
+use lib.ListN.{replicate}
+use Rattle.tables.specs.Limits.{Limits, limits}
+use Rattle.tables.specs.Tables.{Tables, tablesOf}
+use Rattle.text.specs.Examples.{bytes}
+use Rattle.reading.specs.Replies.{readingNumber}
+use Rattle.reading.specs.Reading.{readPlan}
+
+-- the product's limits, but for one dependency
+abbrev pub oneDependency : Limits
+oneDependency = record {
+  text = limits .text;
+  drones = limits .drones;
+  stops = limits .stops;
+  dependencies = 1;
+  name = limits .name;
+  location = limits .location;
+  time = limits .time;
+}
+
+-- tables of full size with 7 in every entry
+abbrev pub sevens : Limits → Tables
+sevens L =
+    tablesOf
+    (replicate 1 7)
+    (replicate 1 7)
+    (replicate (L .drones * L .name) 7)
+    (replicate (L .drones) 7)
+    (replicate (L .stops) 7)
+    (replicate (L .stops) 7)
+    (replicate (L .drones) 7)
+    (replicate (L .drones) 7)
+    (replicate (L .dependencies) 7)
+    (replicate (L .dependencies) 7)
+    (replicate (L .dependencies) 7)
+    (replicate (L .dependencies) 7)
+    (replicate (L .dependencies) 7)
+
+-- "Input Q"
+abbrev pub flightQ : String
+flightQ = "plan=1\nagents=2\nname=survey-quad-east-1\nstops=4\ngo=1@0\ngo=6@1\ngo=5@2\ngo=2@3\nname=survey-quad-east-2\nstops=3\ngo=3@0\ngo=5@4\ngo=4@5\nend=plan\n"
+
+-- flight P
+abbrev pub flightP : String
+flightP = "plan=1\nagents=2\nname=a\nstops=4\ngo=10@0\ngo=20@1\ngo=30@2\ngo=40@3\nname=b\nstops=4\ngo=11@0\ngo=20@3\ngo=30@4\ngo=41@5\nend=plan\n"
+
+-- a text that is read within some limits, and the number of the reply (0 where it is accepted)
+pub record Example : Type 0 where
+  pub within : Limits
+  pub text : String
+  pub number : ℕ
+
+abbrev pub holds : Example → Bool
+holds e = eqb (readingNumber (readPlan (e .within) (bytes (e .text)) (sevens (e .within)) .reply)) (e .number)
+
+abbrev pub allHold : List Example → Bool
+allHold [] = true
+allHold (e ∷ es) = holds e && allHold es
+
+abbrev pub examples : List Example
+examples =
+    -- "At 4: taken."
+    record { within = limits; text = flightQ; number = 0 }
+    -- "Q with the second drone's 5 at time 3: 10, since the first leaves in timestep 3."
+    ∷ record { within = limits; text = "plan=1\nagents=2\nname=survey-quad-east-1\nstops=4\ngo=1@0\ngo=6@1\ngo=5@2\ngo=2@3\nname=survey-quad-east-2\nstops=3\ngo=3@0\ngo=5@3\ngo=4@5\nend=plan\n"; number = 10 }
+    -- "P: .. two dependencies"
+    ∷ record { within = limits; text = flightP; number = 0 }
+    ∷ record { within = oneDependency; text = flightP; number = 11 }
+    ∷ []

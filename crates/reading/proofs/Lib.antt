@@ -1,0 +1,6 @@
+pub mod Extra
+pub mod Agree
+pub mod TakenText
+pub mod StoredPlan
+pub mod LinesCases
+pub mod EntryCases

@@ -1,0 +1,149 @@
+-- Storing a plan, case by case. The local tables hold the plan's own drones and numbers of the stops, so the plan check and the building answer as for the plan itself.
+-- Assumes nothing.
+use mathlib.Core.Path.{_≡_, refl, sym, ap, ap₂, _∙_}
+use mathlib.Core.Bool.{Bool, true, false, cond}
+use mathlib.Core.List.{List, [], _∷_}
+use Prim.Native.Nat.{ℕ, _≤_, _<_}
+use native.Mathlib.Omega.{arith}
+use lib.Dec.{leb}
+use lib.ListN.{length}
+use lib.Seq.{sets}
+use borrow.Author.Tests.{leb-true}
+use Rattle.below.specs.Below.{at, fillBelow}
+use Rattle.below.proofs.Fill.{getD-fill}
+use Rattle.tables.specs.Limits.{Limits}
+use Rattle.tables.specs.Tables.{PlanLists, Tables}
+use Rattle.plan.specs.Answers.{checkOf}
+use Rattle.plan.specs.Claims.{stopTotal, ownerIn, numberIn, locationIn, timeIn}
+use Rattle.plan.specs.Dependencies.{flagOf, dependencyTotal, column}
+use Rattle.plan.specs.Columns.{Columns, columns, written, pickColumns, pickBuilt, builtOf, builtIn}
+use Rattle.plan.specs.declared.check.PlanCheck.{PlanCheck}
+use Rattle.plan.specs.declared.dependencies.Built.{Built}
+use Rattle.plan.specs.declared.dependencies.Built.the-variants.{Count, TooMany}
+use Rattle.reading.specs.Replies.{ofCheck}
+use Rattle.reading.specs.Reading.{Answered, answered, AnsweredAs, total, withDependencies, checkIn, checked, stored}
+use Rattle.reading.specs.declared.replies.Refusal.{Refusal}
+use Rattle.reading.specs.declared.replies.Refusal.the-variants.{TooManyDependencies}
+use Rattle.reading.specs.declared.replies.Reading.{Reading}
+use Rattle.reading.specs.declared.replies.Reading.the-variants.{Taken, Refused}
+use Rattle.reading.proofs.Agree.{total-same, column-same, flag-same, check-same}
+
+-- ---- the local tables
+
+-- they hold the drone and the number of each of the plan's n stops
+pub record Filled (p : PlanLists) (n : ℕ) (os ns : List ℕ) : Type 0 where
+  pub total-is : n ≡ stopTotal p
+  pub owners : (v : ℕ) → v < n → at os v ≡ ownerIn p v
+  pub numbers : (v : ℕ) → v < n → at ns v ≡ numberIn p v
+
+pub fills : (p : PlanLists) (n : ℕ) (os ns os′ ns′ : List ℕ) → n ≡ stopTotal p → os′ ≡ fillBelow n (ownerIn p) os → ns′ ≡ fillBelow n (numberIn p) ns → n ≤ length os → n ≤ length ns
+    → Filled p n os′ ns′
+fills p n os ns os′ ns′ e eo en ro rn = record {
+  total-is = e;
+  owners = λ v l. rw eo (getD-fill (ownerIn p) os n v l ro);
+  numbers = λ v l. rw en (getD-fill (numberIn p) ns n v l rn);
+}
+
+module _ (p : PlanLists) {n : ℕ} {os ns : List ℕ} (f : Filled p n os ns) where
+  check-is : checkOf (at os) (at ns) (locationIn p) (timeIn p) n ≡ checkOf (ownerIn p) (numberIn p) (locationIn p) (timeIn p) (stopTotal p)
+  check-is =
+      check-same (at os) (ownerIn p) (locationIn p) (timeIn p) n (f .owners) (at ns) (numberIn p) (f .numbers)
+      ∙ ap (λ (k : ℕ). checkOf (ownerIn p) (numberIn p) (locationIn p) (timeIn p) k) (f .total-is)
+
+  count-is : dependencyTotal (at os) (locationIn p) (timeIn p) n ≡ total p
+  count-is =
+      total-same (at os) (ownerIn p) (locationIn p) (timeIn p) n (f .owners)
+      ∙ ap (λ (k : ℕ). dependencyTotal (ownerIn p) (locationIn p) (timeIn p) k) (f .total-is)
+
+  written-is : (c : Columns) → written (at os) (at ns) n (column (at os) (locationIn p) (timeIn p) n) 0 c ≡ written (ownerIn p) (numberIn p) (stopTotal p) (column (ownerIn p) (locationIn p) (timeIn p) (stopTotal p)) 0 c
+  written-is c =
+      let same = column-same (at os) (ownerIn p) (locationIn p) (timeIn p) n (f .owners) in
+      let fd = same (λ v w. at os v) (λ v w. ownerIn p v) (λ v w l k. f .owners v l) in
+      let fs = same (λ v w. at ns v) (λ v w. numberIn p v) (λ v w l k. f .numbers v l) in
+      let sd = same (λ v w. at os w) (λ v w. ownerIn p w) (λ v w l k. f .owners w k) in
+      let ss = same (λ v w. at ns w) (λ v w. numberIn p w) (λ v w l k. f .numbers w k) in
+      let fl = same (flagOf (at os) (at ns) n) (flagOf (ownerIn p) (numberIn p) n) (flag-same (at os) (ownerIn p) (locationIn p) (timeIn p) n (f .owners) (at ns) (numberIn p) (f .numbers)) in
+      rw (fd, fs, sd, ss, fl) (ap (λ (k : ℕ). written (ownerIn p) (numberIn p) k (column (ownerIn p) (locationIn p) (timeIn p) k) 0 c) (f .total-is))
+
+-- ---- the building's answer
+
+built-many : (m : ℕ) (b : Bool) → pickBuilt b (Count m) TooMany ≡ TooMany → b ≡ false
+built-many m true h = absurd (let z : _≡_ {A = ℕ} 0 1 = cc h in omega arith)
+built-many m false h = refl
+
+built-some : (m k : ℕ) (b : Bool) → pickBuilt b (Count m) TooMany ≡ Count k → (b ≡ true) × (k ≡ m)
+built-some m k true h = (refl, cc h)
+built-some m k false h = absurd (let z : _≡_ {A = ℕ} 0 1 = cc h in omega arith)
+
+-- a count that was built is within the limit
+pub built-within : (limit : ℕ) (own loc time : ℕ → ℕ) (n : ℕ) (b : Built) → b ≡ builtOf limit own loc time n → (m : ℕ) → b ≡ Count m → m ≤ limit
+unfolding builtOf
+built-within limit own loc time n b e m h =
+    let (o, em) = built-some (dependencyTotal own loc time n) m (leb (dependencyTotal own loc time n) limit) (sym e ∙ h) in
+    rw em (leb-true (dependencyTotal own loc time n) limit o)
+
+-- ---- the answer of storing
+
+pub answered-as : (a : Answered) (r : Reading) (t t′ : Tables) → a ≡ answered r t → t′ ≡ t → AnsweredAs a r t′
+answered-as a r t t′ e h = record { replied = sym (ap (λ (x : Answered). x .reply) e); left = h ∙ sym (ap (λ (x : Answered). x .tables) e) }
+
+module _ (L : Limits) (z t : Tables) (k : Reading) where
+  pub checked-refused : (x : Refusal) → k ≡ Refused x → checked L z t k ≡ answered (Refused x) z
+  checked-refused x h = ap (checked L z t) h
+
+  pub checked-many : k ≡ Taken → leb (total (t .plan)) (L .dependencies) ≡ false → checked L z t k ≡ answered (Refused TooManyDependencies) z
+  checked-many h o = ap (checked L z t) h ∙ ap (λ (q : Bool). cond q (answered Taken (withDependencies t)) (answered (Refused TooManyDependencies) z)) o
+
+  pub checked-taken : k ≡ Taken → leb (total (t .plan)) (L .dependencies) ≡ true → checked L z t k ≡ answered Taken (withDependencies t)
+  checked-taken h o = ap (checked L z t) h ∙ ap (λ (q : Bool). cond q (answered Taken (withDependencies t)) (answered (Refused TooManyDependencies) z)) o
+
+-- ---- the tables with other dependencies
+
+abbrev pub columnsOf : Tables → Columns
+columnsOf t = columns (t .plan .firstDrones) (t .plan .firstStops) (t .plan .secondDrones) (t .plan .secondStops) (t .flags)
+
+abbrev pub withColumns : Tables → List ℕ → Columns → Tables
+withColumns t count c = record {
+  plan = record {
+    droneCount = t .plan .droneCount;
+    dependencyCount = count;
+    names = t .plan .names;
+    stopCounts = t .plan .stopCounts;
+    locations = t .plan .locations;
+    times = t .plan .times;
+    firstDrones = c .firstDrones;
+    firstStops = c .firstStops;
+    secondDrones = c .secondDrones;
+    secondStops = c .secondStops;
+  };
+  visited = t .visited;
+  droneFlags = t .droneFlags;
+  flags = c .flags;
+}
+
+module _ (L : Limits) (t : Tables) {n : ℕ} {os ns : List ℕ} (f : Filled (t .plan) n os ns) (answer : PlanCheck) (ea : answer ≡ checkOf (at os) (at ns) (locationIn (t .plan)) (timeIn (t .plan)) n) (r : Reading) (er : r ≡ ofCheck answer) where
+  reply-is : r ≡ checkIn (t .plan)
+  reply-is = er ∙ ap ofCheck (ea ∙ check-is (t .plan) f)
+
+  pub store-refused : (x : Refusal) → r ≡ Refused x → AnsweredAs (stored L t) (Refused x) t
+  unfolding stored
+  store-refused x h = answered-as (stored L t) (Refused x) t t (checked-refused L t t (checkIn (t .plan)) x (sym reply-is ∙ h)) refl
+
+  module _ (h : r ≡ Taken) (b : Built) (eb : b ≡ builtOf (L .dependencies) (at os) (locationIn (t .plan)) (timeIn (t .plan)) n)
+      (c : Columns) (ec : c ≡ builtIn (L .dependencies) (at os) (at ns) (locationIn (t .plan)) (timeIn (t .plan)) n (columnsOf t)) where
+    pub store-many : b ≡ TooMany → AnsweredAs (stored L t) (Refused TooManyDependencies) (withColumns t (t .plan .dependencyCount) c)
+    unfolding stored builtOf builtIn
+    store-many k =
+        let o : leb (dependencyTotal (at os) (locationIn (t .plan)) (timeIn (t .plan)) n) (L .dependencies) ≡ false = built-many _ _ (sym eb ∙ k) in
+        let e : c ≡ columnsOf t = ec ∙ ap (λ (q : Bool). pickColumns q (written (at os) (at ns) n (column (at os) (locationIn (t .plan)) (timeIn (t .plan)) n) 0 (columnsOf t)) (columnsOf t)) o in
+        let o′ : leb (total (t .plan)) (L .dependencies) ≡ false = ap (λ (m : ℕ). leb m (L .dependencies)) (sym (count-is (t .plan) f)) ∙ o in
+        answered-as (stored L t) (Refused TooManyDependencies) t _ (checked-many L t t (checkIn (t .plan)) (sym reply-is ∙ h) o′) (ap (withColumns t (t .plan .dependencyCount)) e)
+
+    pub store-taken : (m : ℕ) → b ≡ Count m → AnsweredAs (stored L t) Taken (withColumns t (sets (t .plan .dependencyCount) 0 (m ∷ [])) c)
+    unfolding stored builtOf builtIn
+    store-taken m k =
+        let (o, em) = built-some (dependencyTotal (at os) (locationIn (t .plan)) (timeIn (t .plan)) n) m (leb (dependencyTotal (at os) (locationIn (t .plan)) (timeIn (t .plan)) n) (L .dependencies)) (sym eb ∙ k) in
+        let e = ec ∙ ap (λ (q : Bool). pickColumns q (written (at os) (at ns) n (column (at os) (locationIn (t .plan)) (timeIn (t .plan)) n) 0 (columnsOf t)) (columnsOf t)) o ∙ written-is (t .plan) f (columnsOf t) in
+        let o′ : leb (total (t .plan)) (L .dependencies) ≡ true = ap (λ (m : ℕ). leb m (L .dependencies)) (sym (count-is (t .plan) f)) ∙ o in
+        answered-as (stored L t) Taken (withDependencies t) _ (checked-taken L t t (checkIn (t .plan)) (sym reply-is ∙ h) o′)
+        (ap₂ (λ (m : ℕ) (c : Columns). withColumns t (sets (t .plan .dependencyCount) 0 (m ∷ [])) c) (em ∙ count-is (t .plan) f) e)

@@ -1,0 +1,52 @@
+-- The tables with the values of a text that is taken: the plan in them keeps the limits, since the text is that of a valid plan. Assumes nothing.
+use mathlib.Core.Path.{_≡_, refl, ap}
+use mathlib.Core.List.{List, [], _∷_, _++_}
+use Prim.Native.Nat.{ℕ, suc, _+_, _≤_}
+use native.Mathlib.Omega.{arith}
+use lib.ListN.{length}
+use lib.Seq.{sets}
+use Rattle.below.specs.Below.{sumBelow, at, laid}
+use Rattle.below.proofs.Sum.{sum-none, sum-ext}
+use Rattle.below.proofs.Picks.{getD-laid}
+use Rattle.tables.specs.Limits.{Limits}
+use Rattle.lines.specs.Names.{rowOf}
+use Rattle.text.specs.Reading.{Found, linesAt}
+use Rattle.text.specs.Written.{Route, countsOf, foundOf, ValidFrom, Valid}
+use Rattle.text.specs.declared.reader.Answer.{Answer}
+use Rattle.text.specs.declared.reader.Answer.the-variants.{Taken as Plan}
+use Rattle.text.proofs.TakenIsWritten.{text-taken}
+use Rattle.text.proofs.TextCases.{taken-range}
+use Rattle.plan.specs.Stops.{start}
+use Rattle.reading.proofs.Extra.{sum-first}
+
+-- the stops of some drones and of the earlier ones
+counts-within : (L : Limits) (earlier : List (List ℕ)) (total : ℕ) (ds : List Route) → total ≤ L .stops → ValidFrom L earlier total ds → total + sumBelow (length ds) (at (countsOf ds)) ≤ L .stops
+counts-within L earlier total [] h v = omega (arith, sum-none (at []) 0)
+counts-within L earlier total (d ∷ ds) h v =
+    let s : sumBelow (suc (length ds)) (at (countsOf (d ∷ ds))) ≡ length (d .locations) + sumBelow (length ds) (at (countsOf ds)) = sum-first (length ds) (at (countsOf (d ∷ ds))) in
+    omega (arith, s, counts-within L (earlier ++ rowOf L (d .name) ∷ []) (total + length (d .locations)) ds (v .3) (v .5))
+
+counts-many : (ds : List Route) → length (countsOf ds) ≡ length ds
+counts-many [] = refl
+counts-many (d ∷ ds) = ap suc (counts-many ds)
+
+-- the counts in their table
+start-sets : (l counts : List ℕ) → length counts ≤ length l → start (sets l 0 counts) (length counts) ≡ sumBelow (length counts) (at counts)
+unfolding start laid
+start-sets l counts h = sum-ext (length counts) (at (sets l 0 counts)) (at counts) (λ i k. getD-laid l counts i k h)
+
+total-within : (L : Limits) (l : List ℕ) (ds : List Route) → L .drones ≤ length l → Valid L ds → start (sets l 0 (countsOf ds)) (length ds) ≤ L .stops
+total-within L l ds h v =
+    let m = counts-many ds in
+    let s : start (sets l 0 (countsOf ds)) (length ds) ≡ sumBelow (length ds) (at (countsOf ds)) = rw m at (start-sets l (countsOf ds) (omega (arith, m, h, v .1))) in
+    omega (arith, s, counts-within L [] 0 ds (omega arith) (v .2))
+
+found-within : (L : Limits) (l : List ℕ) (n : ℕ) (f : Found Answer) (ds : List Route) → f ≡ foundOf L ds → length ds ≡ n → L .drones ≤ length l → Valid L ds → start (sets l 0 (f .counts)) n ≤ L .stops
+found-within L l n f ds r m h v = rw (r, ← m) (total-within L l ds h v)
+
+module _ (L : Limits) (text : List ℕ) (n : ℕ) (h : linesAt L text .answer ≡ Plan n) where
+  pub drones-in : n ≤ L .drones
+  drones-in = taken-range L text n h .1
+
+  pub stops-in : (l : List ℕ) → L .drones ≤ length l → start (sets l 0 (linesAt L text .counts)) n ≤ L .stops
+  stops-in l k = let w = text-taken L text n h in found-within L l n (linesAt L text) (w .routes) (w .read) (w .many) k (w .valid)

@@ -1,0 +1,166 @@
+// The entry: a plan text read into the lent tables.
+use crate::replies;
+use crate::replies::Reading;
+use crate::replies::Refusal;
+use crate::storing;
+use tables::entries::Text;
+use tables::sizes;
+use tables::zeroing;
+use text::reader;
+use text::reader::Answer;
+ghost use mathlib.Core.Path.{_≡_};
+ghost use mathlib.Core.List.{List};
+ghost use Prim.Native.Nat.{ℕ};
+ghost use Rattle.tables.specs.Limits.{limits};
+ghost use Rattle.tables.specs.Tables.{tablesOf};
+ghost use Rattle.tables.specs.Zero.{zeroedTables};
+ghost use Rattle.plan.specs.Columns.{columns};
+ghost use Rattle.reading.specs.Reading.{AnsweredAs, readLines, readPlan};
+ghost use Rattle.reading.specs.Asked.{LinesAsked};
+
+// Reads a text that is not too long into zeroed tables. A refusal leaves them zeroed. The drones' progress is not touched, whatever it is.
+fn read_lines(
+    text: &[u8],
+    drone_count: &mut [u16],
+    dependency_count: &mut [u16],
+    names: &mut [u8],
+    stop_counts: &mut [u16],
+    locations: &mut [u16],
+    times: &mut [u32],
+    first_drones: &mut [u8],
+    first_stops: &mut [u16],
+    second_drones: &mut [u8],
+    second_stops: &mut [u16],
+    flags: &mut [u8],
+) -> Reading
+    requires { ⌜ LinesAsked limits (now text) (now «drone_count») (now «dependency_count») (now names) (now «stop_counts») (now locations) (now times) (columns (now «first_drones») (now «first_stops») (now «second_drones») (now «second_stops») (now flags)) ⌝ }
+    ensures { λ r.
+        ⌜
+        ((visited droneFlags : List ℕ)
+        → zeroedTables limits (tablesOf
+        (now («drone_count» .entry)) (now («dependency_count» .entry)) (now (names .entry)) (now («stop_counts» .entry))
+        (now (locations .entry)) (now (times .entry)) visited droneFlags
+        (now («first_drones» .entry)) (now («first_stops» .entry)) (now («second_drones» .entry)) (now («second_stops» .entry))
+        (now (flags .entry))) ≡ tablesOf
+        (now («drone_count» .entry)) (now («dependency_count» .entry)) (now (names .entry)) (now («stop_counts» .entry))
+        (now (locations .entry)) (now (times .entry)) visited droneFlags
+        (now («first_drones» .entry)) (now («first_stops» .entry)) (now («second_drones» .entry)) (now («second_stops» .entry))
+        (now (flags .entry))
+        → AnsweredAs (readLines limits (now (text .entry)) (tablesOf
+        (now («drone_count» .entry)) (now («dependency_count» .entry)) (now (names .entry)) (now («stop_counts» .entry))
+        (now (locations .entry)) (now (times .entry)) visited droneFlags
+        (now («first_drones» .entry)) (now («first_stops» .entry)) (now («second_drones» .entry)) (now («second_stops» .entry))
+        (now (flags .entry)))) r (tablesOf
+        (now («drone_count» .exit)) (now («dependency_count» .exit)) (now (names .exit)) (now («stop_counts» .exit))
+        (now (locations .exit)) (now (times .exit)) visited droneFlags
+        (now («first_drones» .exit)) (now («first_stops» .exit)) (now («second_drones» .exit)) (now («second_stops» .exit))
+        (now (flags .exit))))
+        ⌝ }
+{
+    let answer = reader::read_text(text, drone_count, names, stop_counts, locations, times);
+    match answer {
+        Answer::Refused(refusal) => Reading::Refused(replies::of_text(refusal)),
+        Answer::Taken { drones: _ } => {
+            let reading = storing::store_plan(
+                drone_count,
+                dependency_count,
+                stop_counts,
+                locations,
+                times,
+                first_drones,
+                first_stops,
+                second_drones,
+                second_stops,
+                flags,
+            );
+            match reading {
+                Reading::Taken => Reading::Taken,
+                Reading::Refused(refusal) => {
+                    reader::zero_all(drone_count, names, stop_counts, locations, times);
+                    Reading::Refused(refusal)
+                }
+            }
+        }
+    }
+}
+
+// Reads a plan text into the tables. Tables below full size and a text that is too long change nothing, and after any other refusal the tables are zeroed.
+pub fn read_plan(
+    text: &[u8],
+    drone_count: &mut [u16],
+    dependency_count: &mut [u16],
+    names: &mut [u8],
+    stop_counts: &mut [u16],
+    locations: &mut [u16],
+    times: &mut [u32],
+    visited: &mut [u16],
+    drone_flags: &mut [u8],
+    first_drones: &mut [u8],
+    first_stops: &mut [u16],
+    second_drones: &mut [u8],
+    second_stops: &mut [u16],
+    flags: &mut [u8],
+) -> Reading
+    ensures { λ r.
+        ⌜
+        AnsweredAs (readPlan limits (now (text .entry)) (tablesOf
+        (now («drone_count» .entry)) (now («dependency_count» .entry)) (now (names .entry)) (now («stop_counts» .entry))
+        (now (locations .entry)) (now (times .entry)) (now (visited .entry)) (now («drone_flags» .entry))
+        (now («first_drones» .entry)) (now («first_stops» .entry)) (now («second_drones» .entry)) (now («second_stops» .entry))
+        (now (flags .entry)))) r (tablesOf
+        (now («drone_count» .exit)) (now («dependency_count» .exit)) (now (names .exit)) (now («stop_counts» .exit))
+        (now (locations .exit)) (now (times .exit)) (now (visited .exit)) (now («drone_flags» .exit))
+        (now («first_drones» .exit)) (now («first_stops» .exit)) (now («second_drones» .exit)) (now («second_stops» .exit))
+        (now (flags .exit)))
+        ⌝ }
+{
+    if !sizes::full_size(
+        drone_count,
+        dependency_count,
+        names,
+        stop_counts,
+        locations,
+        times,
+        visited,
+        drone_flags,
+        first_drones,
+        first_stops,
+        second_drones,
+        second_stops,
+        flags,
+    ) {
+        return Reading::Refused(Refusal::TablesTooSmall);
+    }
+    if Text::FULL < text.len() {
+        return Reading::Refused(Refusal::TooLong(Text::FULL));
+    }
+    zeroing::zero_all(
+        drone_count,
+        dependency_count,
+        names,
+        stop_counts,
+        locations,
+        times,
+        visited,
+        drone_flags,
+        first_drones,
+        first_stops,
+        second_drones,
+        second_stops,
+        flags,
+    );
+    read_lines(
+        text,
+        drone_count,
+        dependency_count,
+        names,
+        stop_counts,
+        locations,
+        times,
+        first_drones,
+        first_stops,
+        second_drones,
+        second_stops,
+        flags,
+    )
+}

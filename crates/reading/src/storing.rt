@@ -1,0 +1,75 @@
+// The plan check and the building of the dependencies, on tables that hold a text's values.
+use crate::replies;
+use crate::replies::Reading;
+use crate::replies::Refusal;
+use plan::check;
+use plan::dependencies;
+use plan::dependencies::Built;
+use plan::stops;
+use tables::entries::Stop;
+ghost use mathlib.Core.List.{List};
+ghost use Prim.Native.Nat.{ℕ};
+ghost use Rattle.tables.specs.Limits.{limits};
+ghost use Rattle.tables.specs.Tables.{tablesOf};
+ghost use Rattle.plan.specs.Columns.{columns};
+ghost use Rattle.reading.specs.Reading.{AnsweredAs, stored};
+ghost use Rattle.reading.specs.Asked.{PlanAsked};
+
+// Checks the plan and writes its dependencies with their count. A refusal leaves the tables as they were, and the other tables are not touched, whatever they hold.
+pub fn store_plan(
+    drone_count: &[u16],
+    dependency_count: &mut [u16],
+    stop_counts: &[u16],
+    locations: &[u16],
+    times: &[u32],
+    first_drones: &mut [u8],
+    first_stops: &mut [u16],
+    second_drones: &mut [u8],
+    second_stops: &mut [u16],
+    flags: &mut [u8],
+) -> Reading
+    requires { ⌜ PlanAsked limits (now «drone_count») (now «dependency_count») (now «stop_counts») (now locations) (now times) (columns (now «first_drones») (now «first_stops») (now «second_drones») (now «second_stops») (now flags)) ⌝ }
+    ensures { λ r.
+        ⌜
+        ((names visited droneFlags : List ℕ) → AnsweredAs (stored limits (tablesOf
+        (now («drone_count» .entry)) (now («dependency_count» .entry)) names (now («stop_counts» .entry))
+        (now (locations .entry)) (now (times .entry)) visited droneFlags
+        (now («first_drones» .entry)) (now («first_stops» .entry)) (now («second_drones» .entry)) (now («second_stops» .entry))
+        (now (flags .entry)))) r (tablesOf
+        (now («drone_count» .entry)) (now («dependency_count» .exit)) names (now («stop_counts» .entry))
+        (now (locations .entry)) (now (times .entry)) visited droneFlags
+        (now («first_drones» .exit)) (now («first_stops» .exit)) (now («second_drones» .exit)) (now («second_stops» .exit))
+        (now (flags .exit))))
+        ⌝ }
+{
+    let drones = drone_count[0] as usize;
+    let n = stops::stop_total(drones, stop_counts);
+    let mut owners = [0u8; Stop::FULL];
+    let mut numbers = [0u16; Stop::FULL];
+    stops::fill_stops(drones, stop_counts, n, &mut owners, &mut numbers);
+    let checked = replies::of_check(check::check_plan(&owners, &numbers, locations, times, n));
+    match checked {
+        Reading::Refused(refusal) => Reading::Refused(refusal),
+        Reading::Taken => {
+            let built = dependencies::build(
+                &owners,
+                &numbers,
+                locations,
+                times,
+                n,
+                first_drones,
+                first_stops,
+                second_drones,
+                second_stops,
+                flags,
+            );
+            match built {
+                Built::TooMany => Reading::Refused(Refusal::TooManyDependencies),
+                Built::Count(count) => {
+                    dependency_count[0] = count as u16;
+                    Reading::Taken
+                }
+            }
+        }
+    }
+}

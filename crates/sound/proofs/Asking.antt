@@ -1,0 +1,271 @@
+-- The parts of the sound test in the order in which the code asks them: a law for each return. Assumes nothing.
+use mathlib.Core.Path.{_≡_, refl, sym, _∙_}
+use mathlib.Core.Logic.{_≢_}
+use mathlib.Core.List.{List}
+use mathlib.Core.Bool.{Bool, true, false, not, cond, _&&_, _||_}
+use Prim.Native.Nat.{ℕ, zero, suc, _+_, _-_, _*_, _/_, _≤_, _<_}
+use native.Mathlib.Omega.{arith}
+use lib.Dec.{ltb, leb, eqb}
+use borrow.Author.Tests.{ltb-true, ltb-false, leb-true, eqb-true, lt-ltb, le-ltb, le-leb, lt-leb, eq-eqb, ne-eqb}
+use Rattle.below.specs.Below.{allBelow, firstBelow, fillBelow, at, pick}
+use Rattle.below.proofs.Tests.{by-cases, and-left, and-right, same-test}
+use Rattle.below.proofs.Every.{allBelow-all, all-miss}
+use Rattle.tables.specs.Limits.{Limits}
+use Rattle.tables.specs.Flags.{turnedBit, fixedBit, onlyTwoBits, underWayBit, onlyOneBit}
+use Rattle.lines.specs.Names.{isNameByte}
+use Rattle.plan.specs.Stops.{start}
+use Rattle.plan.specs.Check.{faultAt}
+use Rattle.sound.specs.Sound.{zeroFrom, nameLength, nameSound, sameName, namesDiffer}
+use Rattle.sound.specs.Parts.{countsSound, stopSound, stopIn, flagRight, fixedAt, droneSound, enteredBy, waitKept, keptAt}
+
+-- ---- counts
+
+module _ (L : Limits) (drones : ℕ) (counts : List ℕ) (m : ℕ) where
+  pub counts-none : drones < 1 → false ≡ countsSound L drones counts m
+  unfolding countsSound
+  counts-none h = rw (lt-leb 1 drones h) refl
+
+  module _ (some : 1 ≤ drones) where
+    pub counts-many : L .drones < drones → false ≡ countsSound L drones counts m
+    unfolding countsSound
+    counts-many h = rw (le-leb 1 drones some, lt-leb drones (L .drones) h) refl
+
+    module _ (few : drones ≤ L .drones) where
+      pub counts-dependencies : L .dependencies < m → false ≡ countsSound L drones counts m
+      unfolding countsSound
+      counts-dependencies h = rw (le-leb 1 drones some, le-leb drones (L .drones) few, lt-leb m (L .dependencies) h) refl
+
+      module _ (room : m ≤ L .dependencies) where
+        pub counts-empty : allBelow drones (λ d. leb 1 (at counts d)) ≡ false → false ≡ countsSound L drones counts m
+        unfolding countsSound
+        counts-empty h = rw (le-leb 1 drones some, le-leb drones (L .drones) few, le-leb m (L .dependencies) room, h) refl
+
+        pub counts-total : (n : ℕ) → allBelow drones (λ d. leb 1 (at counts d)) ≡ true → n ≡ start counts drones → leb n (L .stops) ≡ countsSound L drones counts m
+        unfolding countsSound
+        counts-total n h e = rw (le-leb 1 drones some, le-leb drones (L .drones) few, le-leb m (L .dependencies) room, h, e) refl
+
+-- ---- names
+
+module _ (L : Limits) (names : List ℕ) (d row : ℕ) (e : row ≡ d * L .name) where
+  pub length-is : firstBelow (L .name) (λ i. eqb (at names (row + i)) 0) ≡ nameLength L names d
+  unfolding nameLength
+  length-is = rw e refl
+
+  -- byte i of a row with `used` bytes of name
+  abbrev pub byteSound : ℕ → ℕ → Bool
+  byteSound used i = cond (ltb i used) (isNameByte (at names (row + i))) (eqb (at names (row + i)) 0)
+
+  pub name-bytes : (used : ℕ) → used ≡ nameLength L names d → 1 ≤ used → allBelow (L .name) (byteSound used) ≡ nameSound L names d
+  unfolding nameSound
+  name-bytes used q h = rw (← q, le-leb 1 used h, e) refl
+
+  pub same-is : (c other : ℕ) → other ≡ c * L .name → allBelow (L .name) (λ i. eqb (at names (row + i)) (at names (other + i))) ≡ sameName L names d c
+  unfolding sameName
+  same-is c other q = rw (e, q) refl
+
+pub name-empty : (L : Limits) (names : List ℕ) (d used : ℕ) → used ≡ nameLength L names d → used < 1 → false ≡ nameSound L names d
+unfolding nameSound
+name-empty L names d used e h = rw (← e, lt-leb 1 used h) refl
+
+pub differ-is : (L : Limits) (names : List ℕ) (n : ℕ) → allBelow n (λ d. allBelow d (λ e. not (sameName L names d e))) ≡ namesDiffer L names n
+unfolding namesDiffer
+differ-is L names n = refl
+
+pub byte-within : (within : Bool) (b : ℕ) (r : Bool) → within ≡ true → r ≡ isNameByte b → r ≡ cond within (isNameByte b) (eqb b 0)
+byte-within within b r e h = rw e h
+
+pub byte-after : (within : Bool) (b : ℕ) → within ≡ false → eqb b 0 ≡ cond within (isNameByte b) (eqb b 0)
+byte-after within b e = rw e refl
+
+-- ---- a stop by itself
+
+module _ (L : Limits) (num loc time : ℕ → ℕ) (v : ℕ) where
+  pub stop-place : L .location < loc v → false ≡ stopSound L num loc time v
+  unfolding stopSound
+  stop-place h = rw (lt-leb (loc v) (L .location) h) refl
+
+  module _ (placed : loc v ≤ L .location) where
+    pub stop-time : L .time < time v → false ≡ stopSound L num loc time v
+    unfolding stopSound
+    stop-time h = rw (le-leb (loc v) (L .location) placed, lt-leb (time v) (L .time) h) refl
+
+    module _ (timed : time v ≤ L .time) where
+      pub stop-first : num v ≡ 0 → eqb (time v) 0 ≡ stopSound L num loc time v
+      unfolding stopSound faultAt
+      stop-first e = rw (le-leb (loc v) (L .location) placed, le-leb (time v) (L .time) timed, eq-eqb (num v) 0 e) (by-cases (eqb (time v) 0) (λ h. rw h refl) (λ h. rw h refl))
+
+      module _ (later : num v ≢ 0) where
+        pub stop-early : time v ≤ time (v - 1) → false ≡ stopSound L num loc time v
+        unfolding stopSound faultAt
+        stop-early h = rw (le-leb (loc v) (L .location) placed, le-leb (time v) (L .time) timed, ne-eqb (num v) 0 later, le-leb (time v) (time (v - 1)) h) refl
+
+        pub stop-moves : time (v - 1) < time v → not (eqb (loc v) (loc (v - 1))) ≡ stopSound L num loc time v
+        unfolding stopSound faultAt
+        stop-moves h = rw (le-leb (loc v) (L .location) placed, le-leb (time v) (L .time) timed, ne-eqb (num v) 0 later, lt-leb (time v) (time (v - 1)) h) (by-cases (eqb (loc v) (loc (v - 1))) (λ q. rw q refl) (λ q. rw q refl))
+
+-- a stop that is no stop 0 is not the first of all
+pub stop-has-before : (num : ℕ → ℕ) (v : ℕ) → num 0 ≡ 0 → num v ≢ 0 → 1 ≤ v
+stop-has-before num zero e h = absurd (h e)
+stop-has-before num (suc v) e h = omega arith
+
+-- ---- records
+
+module _ (drones : ℕ) (counts : List ℕ) (ds ss : ℕ → ℕ) (k : ℕ) where
+  pub stop-none : drones ≤ ds k → false ≡ stopIn drones counts ds ss k
+  unfolding stopIn
+  stop-none h = rw (le-ltb (ds k) drones h) refl
+
+  pub stop-of : ds k < drones → ltb (ss k) (at counts (ds k)) ≡ stopIn drones counts ds ss k
+  unfolding stopIn
+  stop-of h = rw (lt-ltb (ds k) drones h) refl
+
+module _ (drones : ℕ) (counts : List ℕ) (ds ss : ℕ → ℕ) (k : ℕ) (h : stopIn drones counts ds ss k ≡ true) where
+  pub stop-drone : ds k < drones
+  unfolding stopIn
+  stop-drone = ltb-true _ _ (and-left _ _ h)
+
+  pub stop-number : ss k < at counts (ds k)
+  unfolding stopIn
+  stop-number = ltb-true _ _ (and-right (ltb (ds k) drones) _ h)
+
+module _ (last firstStop second secondStop : ℕ → ℕ) (k : ℕ) where
+  pub fixed-first : firstStop k ≡ 0 → true ≡ fixedAt last firstStop second secondStop k
+  unfolding fixedAt
+  fixed-first e = rw (eq-eqb (firstStop k) 0 e) refl
+
+  pub fixed-last : firstStop k ≢ 0 → eqb (secondStop k) (last (second k)) ≡ fixedAt last firstStop second secondStop k
+  unfolding fixedAt
+  fixed-last e = rw (ne-eqb (firstStop k) 0 e) refl
+
+below-four : (C : ℕ → Type 0) → C 0 → C 1 → C 2 → C 3 → (f : ℕ) → f < 4 → C f
+below-four C a b c d zero l = a
+below-four C a b c d (suc zero) l = b
+below-four C a b c d (suc (suc zero)) l = c
+below-four C a b c d (suc (suc (suc zero))) l = d
+below-four C a b c d (suc (suc (suc (suc f)))) l = absurd (omega arith)
+
+-- a flag byte by its bits
+pub flag-bits : (b : Bool) (f : ℕ) → onlyTwoBits f ≡ true → flagRight b f ≡ cond b (fixedBit f && not (turnedBit f)) (not (fixedBit f))
+unfolding onlyTwoBits flagRight fixedBit turnedBit
+flag-bits b f h = below-four (λ f. flagRight b f ≡ cond b (fixedBit f && not (turnedBit f)) (not (fixedBit f)))
+    (by-cases b (λ e. rw e refl) (λ e. rw e refl))
+    (by-cases b (λ e. rw e refl) (λ e. rw e refl))
+    (by-cases b (λ e. rw e refl) (λ e. rw e refl))
+    (by-cases b (λ e. rw e refl) (λ e. rw e refl))
+    f (ltb-true f 4 h)
+
+pub flag-more : (b : Bool) (f : ℕ) → onlyTwoBits f ≡ false → false ≡ flagRight b f
+unfolding onlyTwoBits flagRight
+flag-more b f h = rw (ne-eqb (f / 2) (pick b 1 0) (by-cases b (λ e. rw e (λ q. omega (arith, ltb-false f 4 h))) (λ e. rw e (λ q. omega (arith, ltb-false f 4 h))))) refl
+
+module _ (b : Bool) (f : ℕ) (two : onlyTwoBits f ≡ true) where
+  pub flag-unmarked : (x : Bool) → b ≡ true → x ≡ fixedBit f → x ≡ false → x ≡ flagRight b f
+  flag-unmarked x e h q = rw (flag-bits b f two, e, ← h, q) refl
+
+  pub flag-marked : (t : Bool) → b ≡ true → fixedBit f ≡ true → t ≡ turnedBit f → not t ≡ flagRight b f
+  flag-marked t e h q = rw (flag-bits b f two, e, h, q) refl
+
+  pub flag-free : (x : Bool) → b ≡ false → x ≡ fixedBit f → not x ≡ flagRight b f
+  flag-free x e h = rw (flag-bits b f two, e, h) refl
+
+-- .. with the value that the code has read
+pub flag-read : (b f r : Bool) (flag : ℕ) {x : Bool} → b ≡ f → r ≡ flagRight b flag → r ≡ x → flagRight f flag ≡ x
+flag-read b f r flag e h q = rw (← e) (sym h ∙ q)
+
+-- ---- progress
+
+module _ (last place flag : ℕ) where
+  pub drone-bits : onlyOneBit flag ≡ false → false ≡ droneSound last place flag
+  unfolding droneSound
+  drone-bits h = rw h refl
+
+  module _ (one : onlyOneBit flag ≡ true) where
+    pub drone-past : last < place → false ≡ droneSound last place flag
+    unfolding droneSound
+    drone-past h = rw (one, lt-leb place last h) refl
+
+    module _ (within : place ≤ last) where
+      pub drone-going : underWayBit flag ≡ true → ltb place last ≡ droneSound last place flag
+      unfolding droneSound
+      drone-going h = rw (one, le-leb place last within, h) (by-cases (ltb place last)
+          (λ e. rw (e, lt-leb last place (ltb-true place last e)) refl)
+          (λ e. rw (e, le-leb last place (ltb-false place last e)) refl))
+
+      pub drone-still : underWayBit flag ≡ false → true ≡ droneSound last place flag
+      unfolding droneSound
+      drone-still h = rw (one, le-leb place last within, h) refl
+
+module _ (place flag k : ℕ) where
+  pub entered-visited : k ≤ place → true ≡ enteredBy place flag k
+  unfolding enteredBy
+  entered-visited h = rw (le-leb k place h) refl
+
+  pub entered-still : place < k → underWayBit flag ≡ false → false ≡ enteredBy place flag k
+  unfolding enteredBy
+  entered-still h e = rw (lt-leb k place h, e) refl
+
+  pub entered-next : place < k → underWayBit flag ≡ true → eqb (k - place) 1 ≡ enteredBy place flag k
+  unfolding enteredBy
+  entered-next h e = rw (lt-leb k place h, e) (same-test _ _
+      (λ q. eq-eqb k (suc place) (omega (arith, eqb-true (k - place) 1 q)))
+      (λ q. eq-eqb (k - place) 1 (omega (arith, eqb-true k (suc place) q))))
+
+module _ (visited droneFlags : List ℕ) (waiter stop awaited s : ℕ) where
+  pub kept-open : enteredBy (at visited waiter) (at droneFlags waiter) stop ≡ false → true ≡ waitKept visited droneFlags waiter stop awaited s
+  unfolding waitKept
+  kept-open h = rw h refl
+
+  pub kept-left : enteredBy (at visited waiter) (at droneFlags waiter) stop ≡ true → ltb s (at visited awaited) ≡ waitKept visited droneFlags waiter stop awaited s
+  unfolding waitKept
+  kept-left h = rw h (same-test _ _
+      (λ q. le-leb (suc s) (at visited awaited) (ltb-true s (at visited awaited) q))
+      (λ q. lt-ltb s (at visited awaited) (leb-true (suc s) (at visited awaited) q)))
+
+module _ (visited droneFlags firstDrones firstStops secondDrones secondStops flags : List ℕ) (k : ℕ) where
+  pub kept-turned : (r : Bool) → turnedBit (at flags k) ≡ true → r ≡ waitKept visited droneFlags (at firstDrones k) (at firstStops k) (at secondDrones k) (at secondStops k)
+      → r ≡ keptAt visited droneFlags firstDrones firstStops secondDrones secondStops flags k
+  unfolding keptAt
+  kept-turned r h e = rw h e
+
+  pub kept-planned : (r : Bool) → turnedBit (at flags k) ≡ false → r ≡ waitKept visited droneFlags (at secondDrones k) (at secondStops k) (at firstDrones k) (at firstStops k)
+      → r ≡ keptAt visited droneFlags firstDrones firstStops secondDrones secondStops flags k
+  unfolding keptAt
+  kept-planned r h e = rw h e
+
+-- ---- unused entries
+
+module _ (used full : ℕ) (l : List ℕ) where
+  abbrev zeroAt : ℕ → Bool
+  zeroAt i = ltb i used || eqb (at l i) 0
+
+  -- no entry below i is used and not zero; i may be past the full size
+  abbrev pub ZeroTo : ℕ → Type 0
+  ZeroTo i = (j : ℕ) → j < i → j < full → zeroAt j ≡ true
+
+  pub zero-start : ZeroTo used
+  zero-start j h k = rw (lt-ltb j used h) refl
+
+  pub zero-more : (i : ℕ) → used ≤ i → ZeroTo i → at l i ≡ 0 → ZeroTo (i + 1)
+  zero-more i h z e j k f = by-cases (ltb j i)
+      (λ q. z j (ltb-true j i q) f)
+      (λ q. let same : j ≡ i = omega (arith, ltb-false j i q) in rw (same, le-ltb i used h, eq-eqb (at l i) 0 e) refl)
+
+  pub zero-end : (i : ℕ) → full ≤ i → ZeroTo i → true ≡ zeroFrom used full l
+  unfolding zeroFrom
+  zero-end i h z = sym (allBelow-all full zeroAt (λ j k. z j (omega arith) k))
+
+  pub zero-not : (i : ℕ) → used ≤ i → i < full → at l i ≢ 0 → false ≡ zeroFrom used full l
+  unfolding zeroFrom
+  zero-not i h k e = all-miss zeroAt i full k (rw (le-ltb i used h, ne-eqb (at l i) 0 e) refl)
+
+-- ---- filling begins
+pub fill-none : (f : ℕ → ℕ) (l : List ℕ) → l ≡ fillBelow 0 f l
+unfolding fillBelow
+fill-none f l = refl
+
+-- two tests one after the other
+pub and-no : (a b : Bool) → a ≡ false → false ≡ (a && b)
+and-no a b e = rw e refl
+
+pub and-yes : (a b r : Bool) → a ≡ true → r ≡ b → r ≡ (a && b)
+and-yes a b r e h = rw e h

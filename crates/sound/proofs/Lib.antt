@@ -1,0 +1,8 @@
+pub mod Extra
+pub mod Agreement
+pub mod Columns
+pub mod SameGraph
+pub mod Asking
+pub mod Local
+pub mod Clauses
+pub mod Whole

@@ -1,0 +1,63 @@
+use borrow.Author.Needs.{needs}
+use Prim.Native.Nat.{_-_, _≤_}
+use mathlib.Core.Path.{_≡_, sym, _∙_}
+use mathlib.Core.Bool.{true}
+use native.Mathlib.Omega.{arith}
+use borrow.Author.Tests.{not-true, not-false}
+use Rattle.below.specs.Below.{at, allBelow}
+use Rattle.below.proofs.Every.{all-none, all-more, all-miss, all-end}
+use Rattle.tables.specs.Limits.{limits}
+use Rattle.sound.specs.Parts.{stopSound}
+use Rattle.sound.proofs.single.stops_sound.Statement.{statement}
+use Rattle.sound.proofs.single.stops_sound.Tie as tie
+use Rattle.sound.proofs.single.stops_sound.Reads as reads
+use Rattle.sound.proofs.single.stops_sound.Lts as lts
+use Rattle.sound.proofs.single.stop_sound.Reads as stop-sound-reads
+
+abbrev Inv-loop : tie.InvT-loop
+Inv-loop numbers locations times n v₀ v = (v ≤ n) × (allBelow v (stopSound limits (at numbers) (at locations) (at times)) ≡ true)
+
+abbrev μ-loop : tie.MeasureT-loop
+μ-loop numbers locations times n v₀ v = n - v
+
+-- src/single.rt:36:5
+loop-holds : tie.Need-loop-holds Inv-loop μ-loop
+loop-holds c = (omega arith, all-none _)
+
+-- src/single.rt:37:13
+stop-sound-requires : tie.Need-stop-sound-requires Inv-loop μ-loop
+stop-sound-requires c κs = search needs
+
+-- src/single.rt:38:13
+returns : tie.Need-returns Inv-loop μ-loop
+returns c = all-miss _ _ _ (omega arith) (sym (c .before .stop-sound .ensures) ∙ not-true _ (c .if1 .taken))
+
+-- src/single.rt:40:9
+add-v : tie.Need-add-v Inv-loop μ-loop
+add-v c = search needs
+
+-- src/single.rt:36:5
+loop-less : tie.Need-loop-less Inv-loop μ-loop
+loop-less c = search needs
+
+-- src/single.rt:36:5
+loop-again : tie.Need-loop-again Inv-loop μ-loop
+loop-again c = (omega arith, all-more _ _ (c .before .before .before .loop .inv .1) (sym (c .before .stop-sound .ensures) ∙ not-false _ (c .if1 .left)))
+
+-- src/single.rt:31:1
+returns-2 : tie.Need-returns-2 Inv-loop μ-loop
+returns-2 c = all-end _ _ _ (omega arith) (omega arith) (c .before .loop .inv .1)
+
+pub stops-sound-spec : {M : Type 1} → statement M
+stops-sound-spec =
+    tie.close
+    (tie.spec
+    Inv-loop
+    μ-loop
+    loop-holds
+    stop-sound-requires
+    returns
+    add-v
+    loop-less
+    loop-again
+    returns-2)

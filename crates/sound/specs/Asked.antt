@@ -1,0 +1,47 @@
+-- What the functions ask of counts and lists, and what they leave in local tables. Assumes nothing.
+use mathlib.Core.Path.{_≡_}
+use mathlib.Core.List.{List}
+use Prim.Native.Nat.{ℕ, _+_, _-_, _≤_, _<_}
+use lib.ListN.{length}
+use Rattle.below.specs.Below.{at}
+use Rattle.tables.specs.Limits.{limits}
+use Rattle.plan.specs.Stops.{start, owner, number}
+
+-- counts that are in their ranges, and n stops in all
+pub record Counted (drones n m : ℕ) (counts : List ℕ) : Type 0 where
+  pub has-counts : limits .drones ≤ length counts
+  pub some-drone : 1 ≤ drones
+  pub few-drones : drones ≤ limits .drones
+  pub few-dependencies : m ≤ limits .dependencies
+  pub have-stops : (d : ℕ) → d < drones → 1 ≤ at counts d
+  pub total : n ≡ start counts drones
+  pub few-stops : n ≤ limits .stops
+
+-- the columns of the dependencies have room for m entries
+pub record Columns (m : ℕ) (firstDrones firstStops secondDrones secondStops flags : List ℕ) : Type 0 where
+  pub has-first-drones : m ≤ length firstDrones
+  pub has-first-stops : m ≤ length firstStops
+  pub has-second-drones : m ≤ length secondDrones
+  pub has-second-stops : m ≤ length secondStops
+  pub has-flags : m ≤ length flags
+
+-- the local tables hold each stop's drone and its number there, and each drone's first and last stop
+pub record Numbers (drones n : ℕ) (counts owners numbers starts lasts : List ℕ) : Type 0 where
+  pub owners-size : length owners ≡ limits .stops
+  pub numbers-size : length numbers ≡ limits .stops
+  pub owners-are : (v : ℕ) → v < n → at owners v ≡ owner drones counts v
+  pub numbers-are : (v : ℕ) → v < n → at numbers v ≡ number drones counts v
+  pub starts-are : (d : ℕ) → d < drones → at starts d ≡ start counts d
+  pub lasts-are : (d : ℕ) → d < drones → at lasts d ≡ at counts d - 1
+
+-- room for them
+pub record Scratch (owners numbers starts lasts : List ℕ) : Type 0 where
+  pub owners-room : length owners ≡ limits .stops
+  pub numbers-room : length numbers ≡ limits .stops
+  pub starts-room : length starts ≡ limits .drones
+  pub lasts-room : length lasts ≡ limits .drones
+
+-- flat holds the first m stops of two columns, drones and stops, numbered through
+pub record Through (starts of stops : List ℕ) (m : ℕ) (flat : List ℕ) : Type 0 where
+  pub size : length flat ≡ limits .dependencies
+  pub are : (k : ℕ) → k < m → at flat k ≡ at starts (at of k) + at stops k

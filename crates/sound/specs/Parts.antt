@@ -1,0 +1,85 @@
+-- The parts into which the code takes the sound test apart. Each is a test of the lists and numbers that it is given, in an order in which every read is safe.
+-- Assumes nothing.
+use mathlib.Core.Bool.{Bool, not, cond, _&&_, _||_}
+use mathlib.Core.List.{List, [], _∷_}
+use Prim.Native.Nat.{ℕ, suc, _+_, _/_}
+use lib.Dec.{ltb, leb, eqb}
+use Rattle.below.specs.Below.{allBelow, at, pick}
+use Rattle.tables.specs.Limits.{Limits}
+use Rattle.tables.specs.Flags.{turnedBit, underWayBit, onlyOneBit}
+use Rattle.precedence.specs.Graph.{cyclic}
+use Rattle.plan.specs.Stops.{start, owner, number}
+use Rattle.plan.specs.Check.{faultAt}
+use Rattle.plan.specs.Dependencies.{right}
+use Rattle.plan.specs.Field.{FieldPlan, planOf, graph, fixed}
+
+-- the counts are in their ranges: with them the stops are numbered
+unfoldable pub countsSound : (L : Limits) (drones : ℕ) (counts : List ℕ) (m : ℕ) → Bool
+countsSound L drones counts m =
+    leb 1 drones
+    && (leb drones (L .drones)
+    && (leb m (L .dependencies)
+    && (allBelow drones (λ d. leb 1 (at counts d))
+    && leb (start counts drones) (L .stops))))
+
+-- stop v's location and time are in their ranges, and the plan check finds nothing at it
+unfoldable pub stopSound : (L : Limits) (num loc time : ℕ → ℕ) → ℕ → Bool
+stopSound L num loc time v = leb (loc v) (L .location) && (leb (time v) (L .time) && eqb (faultAt num loc time v) 0)
+
+-- entry k of two columns, drones and stops, names a stop
+unfoldable pub stopIn : (drones : ℕ) (counts : List ℕ) (ds ss : ℕ → ℕ) → ℕ → Bool
+stopIn drones counts ds ss k = ltb (ds k) drones && ltb (ss k) (at counts (ds k))
+
+-- a flag byte less its bit 0 is right, and a fixed one is not turned
+unfoldable pub flagRight : (isFixed : Bool) (flag : ℕ) → Bool
+flagRight isFixed flag = eqb (flag / 2) (pick isFixed 1 0) && not (turnedBit flag && isFixed)
+
+-- dependency k is fixed; `last` is each drone's last stop
+unfoldable pub fixedAt : (last firstStop second secondStop : ℕ → ℕ) → ℕ → Bool
+fixedAt last firstStop second secondStop k = eqb (firstStop k) 0 || eqb (secondStop k) (last (second k))
+
+-- a drone's flag byte has no bit but bit 0, and the drone is not past nor under way beyond its last stop
+unfoldable pub droneSound : (last place flag : ℕ) → Bool
+droneSound last place flag = onlyOneBit flag && (leb place last && not (underWayBit flag && leb last place))
+
+-- a drone with that place and flag byte has visited stop k or is under way to it
+unfoldable pub enteredBy : (place flag k : ℕ) → Bool
+enteredBy place flag k = leb k place || underWayBit flag && eqb k (suc place)
+
+-- the waiter has not entered its stop, or the awaited drone has left the stop s
+unfoldable pub waitKept : (visited droneFlags : List ℕ) (waiter stop awaited s : ℕ) → Bool
+waitKept visited droneFlags waiter stop awaited s = not (enteredBy (at visited waiter) (at droneFlags waiter) stop) || leb (suc s) (at visited awaited)
+
+-- dependency k is kept in the order now in force
+unfoldable pub keptAt : (visited droneFlags firstDrones firstStops secondDrones secondStops flags : List ℕ) → ℕ → Bool
+keptAt visited droneFlags firstDrones firstStops secondDrones secondStops flags k =
+    cond (turnedBit (at flags k))
+    (waitKept visited droneFlags (at firstDrones k) (at firstStops k) (at secondDrones k) (at secondStops k))
+    (waitKept visited droneFlags (at secondDrones k) (at secondStops k) (at firstDrones k) (at firstStops k))
+
+-- the plan by its counts and columns
+module _ (drones n m : ℕ) (counts locations times firstDrones firstStops secondDrones secondStops : List ℕ) where
+  abbrev pub fieldOf : FieldPlan
+  fieldOf = planOf (record {
+    droneCount = drones ∷ [];
+    dependencyCount = m ∷ [];
+    names = [];
+    stopCounts = counts;
+    locations = locations;
+    times = times;
+    firstDrones = firstDrones;
+    firstStops = firstStops;
+    secondDrones = secondDrones;
+    secondStops = secondStops;
+  })
+
+  -- every stop is sound, every record names two stops, every flag byte is right, nothing collides, the records are the plan's dependencies, and the graph now in
+  -- force has no cycle
+  unfoldable pub graphPart : (L : Limits) (flags : List ℕ) → Bool
+  graphPart L flags =
+      allBelow n (stopSound L (number drones counts) (at locations) (at times))
+      && (allBelow m (stopIn drones counts (at firstDrones) (at firstStops))
+      && (allBelow m (stopIn drones counts (at secondDrones) (at secondStops))
+      && (allBelow m (λ k. flagRight (fixed fieldOf k) (at flags k))
+      && (right (owner drones counts) (at locations) (at times) n m (λ k. start counts (at firstDrones k) + at firstStops k) (λ k. start counts (at secondDrones k) + at secondStops k)
+      && not (cyclic (graph fieldOf (λ k. turnedBit (at flags k))))))))

@@ -1,0 +1,107 @@
+// The stops, the records and the graph of the tables, over stops that are numbered through.
+use crate::records;
+use crate::single;
+ghost use mathlib.Core.Path.{_≡_};
+ghost use Prim.Native.Nat.{ℕ, _-_, _≤_, _<_};
+ghost use lib.ListN.{length};
+ghost use Rattle.below.specs.Below.{at, fillBelow};
+ghost use Rattle.tables.specs.Limits.{limits};
+ghost use Rattle.sound.specs.Parts.{graphPart};
+ghost use Rattle.sound.specs.Asked.{Counted, Columns, Numbers, Scratch};
+
+// Each drone's last stop.
+fn fill_lasts(drones: usize, stop_counts: &[u16], lasts: &mut [u16])
+    requires { ⌜ (drones ≤ length (now «stop_counts»)) × (drones ≤ length (now lasts)) × ((d : ℕ) → d < drones → 1 ≤ at (now «stop_counts») d) ⌝ }
+    ensures { λ _. ⌜ now (lasts .exit) ≡ fillBelow drones (λ d. at (now («stop_counts» .entry)) d - 1) (now (lasts .entry)) ⌝ }
+{
+    let mut d = 0;
+    while d < drones {
+        lasts[d] = stop_counts[d] - 1;
+        d += 1;
+    }
+}
+
+// The local tables of the numbering.
+fn fill_tables(
+    drones: usize,
+    n: usize,
+    m: usize,
+    stop_counts: &[u16],
+    owners: &mut [u8],
+    numbers: &mut [u16],
+    starts: &mut [u16],
+    lasts: &mut [u16],
+)
+    requires { ⌜ Counted drones n m (now «stop_counts») × Scratch (now owners) (now numbers) (now starts) (now lasts) ⌝ }
+    ensures { λ _. ⌜ Numbers drones n (now («stop_counts» .entry)) (now (owners .exit)) (now (numbers .exit)) (now (starts .exit)) (now (lasts .exit)) ⌝ }
+{
+    plan::stops::fill_stops(drones, stop_counts, n, owners, numbers);
+    plan::stops::fill_starts(drones, stop_counts, starts);
+    fill_lasts(drones, stop_counts, lasts);
+}
+
+// Whether the stops are sound, the records are the plan's dependencies with right flag bytes, nothing collides, and the graph now in force has no cycle.
+pub fn graph_sound(
+    drones: usize,
+    n: usize,
+    m: usize,
+    stop_counts: &[u16],
+    locations: &[u16],
+    times: &[u32],
+    first_drones: &[u8],
+    first_stops: &[u16],
+    second_drones: &[u8],
+    second_stops: &[u16],
+    flags: &[u8],
+) -> bool
+    requires { ⌜ Counted drones n m (now «stop_counts») × (n ≤ length (now locations)) × (n ≤ length (now times)) × Columns m (now «first_drones») (now «first_stops») (now «second_drones») (now «second_stops») (now flags) ⌝ }
+    ensures { λ r. ⌜ r ≡ graphPart drones n m (now («stop_counts» .entry)) (now (locations .entry)) (now (times .entry)) (now («first_drones» .entry)) (now («first_stops» .entry)) (now («second_drones» .entry)) (now («second_stops» .entry)) limits (now (flags .entry)) ⌝ }
+{
+    let mut owners = [0u8; 1024];
+    let mut numbers = [0u16; 1024];
+    let mut starts = [0u16; 32];
+    let mut lasts = [0u16; 32];
+    fill_tables(
+        drones,
+        n,
+        m,
+        stop_counts,
+        &mut owners,
+        &mut numbers,
+        &mut starts,
+        &mut lasts,
+    );
+    if !single::stops_sound(&numbers, locations, times, n) {
+        return false;
+    }
+    if !records::records_sound(
+        drones,
+        m,
+        stop_counts,
+        &lasts,
+        first_drones,
+        first_stops,
+        second_drones,
+        second_stops,
+        flags,
+    ) {
+        return false;
+    }
+    let mut firsts = [0u16; 2048];
+    let mut seconds = [0u16; 2048];
+    records::number_through(&starts, first_drones, first_stops, m, &mut firsts);
+    records::number_through(&starts, second_drones, second_stops, m, &mut seconds);
+    cycles::graph_sound(
+        &owners,
+        locations,
+        times,
+        &starts,
+        &lasts,
+        drones,
+        n,
+        &firsts,
+        &seconds,
+        flags,
+        m,
+    )
+}

@@ -1,0 +1,126 @@
+// The table of names: each drone's row is a name with zeros after it, and no two names are equal.
+use tables::entries::Drone;
+ghost use mathlib.Core.Bool.{not, cond, _&&_};
+ghost use mathlib.Core.Path.{_≡_};
+ghost use Prim.Native.Nat.{_*_, _≤_, _<_};
+ghost use lib.Dec.{eqb};
+ghost use lib.ListN.{length};
+ghost use Rattle.below.specs.Below.{allBelow};
+ghost use Rattle.tables.specs.Limits.{limits};
+ghost use Rattle.lines.specs.Names.{isNameByte};
+ghost use Rattle.sound.specs.Sound.{nameLength, nameSound, sameName, namesDiffer};
+
+// How many bytes of drone d's row stand before the first zero.
+fn name_length(names: &[u8], d: usize) -> usize
+    requires { ⌜ (limits .drones * limits .name ≤ length (now names)) × (d < limits .drones) ⌝ }
+    ensures { λ r. ⌜ r ≡ nameLength limits (now (names .entry)) d ⌝ }
+{
+    let row = d * Drone::NAME;
+    let mut i = 0;
+    while i < Drone::NAME {
+        if names[row + i] == 0 {
+            return i;
+        }
+        i += 1;
+    }
+    i
+}
+
+// A byte within a name is one of a name's bytes, one after it is zero.
+fn byte_sound(within: bool, byte: u8) -> bool
+    ensures { λ r. ⌜ r ≡ cond within (isNameByte byte) (eqb byte 0) ⌝ }
+{
+    if within {
+        return lines::names::is_name_byte(byte);
+    }
+    byte == 0
+}
+
+fn name_sound(names: &[u8], d: usize) -> bool
+    requires { ⌜ (limits .drones * limits .name ≤ length (now names)) × (d < limits .drones) ⌝ }
+    ensures { λ r. ⌜ r ≡ nameSound limits (now (names .entry)) d ⌝ }
+{
+    let used = name_length(names, d);
+    if used < 1 {
+        return false;
+    }
+    let row = d * Drone::NAME;
+    let mut i = 0;
+    while i < Drone::NAME {
+        if !byte_sound(i < used, names[row + i]) {
+            return false;
+        }
+        i += 1;
+    }
+    true
+}
+
+// Names are compared over all their bytes.
+fn same_name(names: &[u8], d: usize, e: usize) -> bool
+    requires { ⌜ (limits .drones * limits .name ≤ length (now names)) × (d < limits .drones) × (e < limits .drones) ⌝ }
+    ensures { λ r. ⌜ r ≡ sameName limits (now (names .entry)) d e ⌝ }
+{
+    let row = d * Drone::NAME;
+    let other = e * Drone::NAME;
+    let mut i = 0;
+    while i < Drone::NAME {
+        if names[row + i] != names[other + i] {
+            return false;
+        }
+        i += 1;
+    }
+    true
+}
+
+// Whether no earlier drone has drone d's name.
+fn is_new(names: &[u8], d: usize) -> bool
+    requires { ⌜ (limits .drones * limits .name ≤ length (now names)) × (d < limits .drones) ⌝ }
+    ensures { λ r. ⌜ r ≡ allBelow d (λ e. not (sameName limits (now (names .entry)) d e)) ⌝ }
+{
+    let mut e = 0;
+    while e < d {
+        if same_name(names, d, e) {
+            return false;
+        }
+        e += 1;
+    }
+    true
+}
+
+fn names_differ(names: &[u8], drones: usize) -> bool
+    requires { ⌜ (limits .drones * limits .name ≤ length (now names)) × (drones ≤ limits .drones) ⌝ }
+    ensures { λ r. ⌜ r ≡ namesDiffer limits (now (names .entry)) drones ⌝ }
+{
+    let mut d = 0;
+    while d < drones {
+        if !is_new(names, d) {
+            return false;
+        }
+        d += 1;
+    }
+    true
+}
+
+fn are_names(names: &[u8], drones: usize) -> bool
+    requires { ⌜ (limits .drones * limits .name ≤ length (now names)) × (drones ≤ limits .drones) ⌝ }
+    ensures { λ r. ⌜ r ≡ allBelow drones (nameSound limits (now (names .entry))) ⌝ }
+{
+    let mut d = 0;
+    while d < drones {
+        if !name_sound(names, d) {
+            return false;
+        }
+        d += 1;
+    }
+    true
+}
+
+pub fn names_sound(names: &[u8], drones: usize) -> bool
+    requires { ⌜ (limits .drones * limits .name ≤ length (now names)) × (drones ≤ limits .drones) ⌝ }
+    ensures { λ r. ⌜ r ≡ allBelow drones (nameSound limits (now (names .entry))) && namesDiffer limits (now (names .entry)) drones ⌝ }
+{
+    if !are_names(names, drones) {
+        return false;
+    }
+    names_differ(names, drones)
+}

@@ -1,0 +1,43 @@
+// The stops one by one: location and time in their ranges, and the plan check finds nothing at any of them.
+use tables::entries::Stop;
+ghost use mathlib.Core.Path.{_≡_};
+ghost use Prim.Native.Nat.{_≤_, _<_};
+ghost use lib.ListN.{length};
+ghost use Rattle.below.specs.Below.{at, allBelow};
+ghost use Rattle.tables.specs.Limits.{limits};
+ghost use Rattle.sound.specs.Parts.{stopSound};
+
+// The first of all stops is a stop 0, so a stop that is none has one before it.
+fn stop_sound(numbers: &[u16], locations: &[u16], times: &[u32], v: usize) -> bool
+    requires { ⌜ (v < length (now numbers)) × (v < length (now locations)) × (v < length (now times)) × (at (now numbers) 0 ≡ 0) ⌝ }
+    ensures { λ r. ⌜ r ≡ stopSound limits (at (now (numbers .entry))) (at (now (locations .entry))) (at (now (times .entry))) v ⌝ }
+{
+    if Stop::MAX_LOCATION < locations[v] as usize {
+        return false;
+    }
+    if Stop::MAX_TIME < times[v] as usize {
+        return false;
+    }
+    if numbers[v] == 0 {
+        return times[v] == 0;
+    }
+    let before = v - 1;
+    if times[v] <= times[before] {
+        return false;
+    }
+    locations[v] != locations[before]
+}
+
+pub fn stops_sound(numbers: &[u16], locations: &[u16], times: &[u32], n: usize) -> bool
+    requires { ⌜ (n ≤ length (now numbers)) × (n ≤ length (now locations)) × (n ≤ length (now times)) × (at (now numbers) 0 ≡ 0) ⌝ }
+    ensures { λ r. ⌜ r ≡ allBelow n (stopSound limits (at (now (numbers .entry))) (at (now (locations .entry))) (at (now (times .entry)))) ⌝ }
+{
+    let mut v = 0;
+    while v < n {
+        if !stop_sound(numbers, locations, times, v) {
+            return false;
+        }
+        v += 1;
+    }
+    true
+}
