@@ -1,3 +1,4 @@
 pub mod Facts
 pub mod Answers
 pub mod WritingLaws
+pub mod CheckLaws

@@ -35,6 +35,6 @@ module _ (L : Limits) (t : Tables) where
   unfolding writes bufferLeft
   writes-41 e buffer = record { replied = rw e refl; left = rw e refl }
 
-  pub writes-40 : fullSize L t ≡ true → sound L t ≡ false → (buffer : List ℕ) → PlanWritten L t buffer buffer (writeRefused 40)
+  pub writes-40 : (fullSize L t ≡ true) × (sound L t ≡ false) → (buffer : List ℕ) → PlanWritten L t buffer buffer (writeRefused 40)
   unfolding writes bufferLeft
-  writes-40 f e buffer = record { replied = rw (f, e) refl; left = rw (f, e) refl }
+  writes-40 k buffer = record { replied = rw (k .0, k .1) refl; left = rw (k .0, k .1) refl }

@@ -1,3 +1,4 @@
 // The conductor's public calls over lent tables.
+pub mod calls;
 pub mod cores;
 pub mod replies;
