@@ -19,13 +19,13 @@ use Rattle.plan.specs.Answers.{faultCase, checkOf}
 use Rattle.log.specs.CallLog.{Call, Entry}
 use Rattle.log.specs.Calls.{step, Ran}
 use Rattle.log.specs.Demand.{Found}
-use Rattle.reading.specs.Reading.{readPlan}
+use Rattle.reading.specs.Reading.{readPlan, readLines}
 use Rattle.reading.specs.declared.replies.Reading.the-variants.{Taken}
 use Rattle.accepted.specs.Examples.{sevens, flightQ, allHold, examples}
 use Rattle.accepted.proofs.ReadSound.{demand3-of-texts}
 
 pub examples-hold : (allHold examples ≡ true) × (readPlan limits (bytes flightQ) (sevens limits) .reply ≡ Taken)
-unfolding firstBelow allBelow countBelow sumBelow fullSize zeroed byteAt isAt isDigit digitsFrom numberAt fieldAt goAt stopsAt countAt untilFeed lineEnd isNameByte nameBytes goodName nameAt stopsRead droneAt same elem dronesAt linesAt start owner number faultAt firstFault over collide collider follows faultCase checkOf readPlan
+unfolding firstBelow allBelow countBelow sumBelow fullSize zeroed byteAt isAt isDigit digitsFrom numberAt fieldAt goAt stopsAt countAt untilFeed lineEnd isNameByte nameBytes goodName nameAt stopsRead droneAt same elem dronesAt linesAt start owner number faultAt firstFault over collide collider follows faultCase checkOf readPlan readLines
 examples-hold = (refl, refl)
 
 -- demand 3 of flight Q, whatever is called after its reading

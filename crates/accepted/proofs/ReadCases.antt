@@ -25,7 +25,7 @@ use Rattle.reading.specs.Replies.{ofCheck}
 use Rattle.reading.specs.declared.replies.Refusal.the-variants.{TablesTooSmall, TooLong, TooManyDependencies}
 use Rattle.reading.specs.declared.replies.Reading.{Reading}
 use Rattle.reading.specs.declared.replies.Reading.the-variants.{Taken, Refused}
-use Rattle.reading.specs.Reading.{Answered, answered, withText, withDependencies, total, checkIn, checked, fromLines, readPlan}
+use Rattle.reading.specs.Reading.{Answered, answered, withText, withDependencies, total, checkIn, checked, fromLines, readPlan, readLines}
 
 -- ---- the plan check
 
@@ -84,7 +84,7 @@ module _ (L : Limits) where
       record { number = n; lines-taken = refl; check-passed = k .0; room = k .1; tables-are = k .2 }
 
   pub read-taken : (text : List ℕ) (t : Tables) → readPlan L text t .reply ≡ Taken → (fullSize L t ≡ true) × ReadTaken L (zeroedTables L t) (linesAt L text) (linesAt L text .answer) (readPlan L text t .tables)
-  unfolding readPlan
+  unfolding readPlan readLines
   read-taken text t h = by-size (fullSize L t) refl (ltb (L .text) (length text)) (fromLines L (zeroedTables L t) (linesAt L text) (linesAt L text .answer)) (λ k. lines-read (zeroedTables L t) (linesAt L text) (linesAt L text .answer) k) h
     where
       by-size : (a : Bool) → fullSize L t ≡ a → (b : Bool) (r : Answered) → (r .reply ≡ Taken → ReadTaken L (zeroedTables L t) (linesAt L text) (linesAt L text .answer) (r .tables))
