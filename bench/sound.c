@@ -1,5 +1,6 @@
-// Nanoseconds for one sound test at full tables: 32 drones, 1,024 stops, about 1,900 dependencies. From the repository's root:
-// rt staticlib bench && clang -O3 bench/sound.c target/staticlib/libbench.a -o /tmp/sound && /tmp/sound
+// Nanoseconds for one sound test at full tables: 32 drones, 1,024 stops, about 1,900 dependencies; beside it two of its clauses (no collision, exact
+// dependencies) by all pairs in C. From the repository's root:
+// rt staticlib bench && cc -O3 bench/sound.c target/staticlib/libbench.a -o /tmp/sound && /tmp/sound
 #include <stdint.h>
 #include <stdio.h>
 #include <stdlib.h>
@@ -64,25 +65,45 @@ static int sound(void) {
                        flags, DEPENDENCIES);
 }
 
-static void measure(const char *what) {
+static int over(int v, uint32_t t) { return v % EACH != EACH - 1 && times[v + 1] < t; }
+
+// No collision, and the dependencies exactly those of the plan, as the definitions say it.
+static int all_pairs(void) {
+    int k = 0, m = dependency_count[0];
+    for (int v = 0; v < STOPS; v++)
+        for (int w = 0; w < STOPS; w++)
+            if (v / EACH < w / EACH && locations[v] == locations[w] && !over(v, times[w]) && !over(w, times[v])) return 0;
+    for (int v = 0; v < STOPS; v++)
+        for (int w = 0; w < STOPS; w++)
+            if (v / EACH != w / EACH && locations[v] == locations[w] && times[v] < times[w]) {
+                if (k == m || first_drones[k] != v / EACH || first_stops[k] != v % EACH || second_drones[k] != w / EACH || second_stops[k] != w % EACH) return 0;
+                k++;
+            }
+    return k == m;
+}
+
+static void measure_by(const char *what, int reps, int (*test)(void)) {
     double best = 1e18;
     int answer = 0;
     for (int t = 0; t < 9; t++) {
         double start = now();
-        for (int i = 0; i < 2000; i++) {
+        for (int i = 0; i < reps; i++) {
             __asm__ volatile("" ::: "memory");
-            answer = sound();
+            answer = test();
         }
-        double each = (now() - start) / 2000;
+        double each = (now() - start) / reps;
         if (each < best) best = each;
     }
-    printf("%-40s %8.0f ns   sound %d\n", what, best, answer);
+    printf("%-40s %8.0f ns   answer %d\n", what, best, answer);
 }
+
+static void measure(const char *what) { measure_by(what, 2000, sound); }
 
 int main(void) {
     plan();
     printf("dependencies %d\n", dependency_count[0]);
     measure("sound tables");
+    measure_by("all pairs in C, two clauses", 50, all_pairs);
     flags[dependency_count[0] - 1] ^= 2;
     measure("last flag byte wrong");
     flags[dependency_count[0] - 1] ^= 2;
