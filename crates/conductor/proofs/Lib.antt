@@ -1,3 +1,5 @@
 pub mod Facts
 pub mod Answers
 pub mod WritingLaws
+pub mod Turned
+pub mod TurnAnswers

@@ -1,2 +1,4 @@
 pub mod Replies
 pub mod Writing
+pub mod TurnReplies
+pub mod Entering

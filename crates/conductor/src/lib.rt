@@ -1,3 +1,5 @@
 // The conductor's public calls over lent tables.
 pub mod cores;
 pub mod replies;
+pub mod turn_replies;
+pub mod turning;
