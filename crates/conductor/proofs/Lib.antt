@@ -2,3 +2,5 @@ pub mod Facts
 pub mod Answers
 pub mod WritingLaws
 pub mod CheckLaws
+pub mod Turned
+pub mod TurnAnswers

@@ -1,3 +1,5 @@
 pub mod Replies
 pub mod Checking
 pub mod Writing
+pub mod TurnReplies
+pub mod Entering

@@ -2,3 +2,5 @@
 pub mod calls;
 pub mod cores;
 pub mod replies;
+pub mod turn_replies;
+pub mod turning;
