@@ -1,17 +1,17 @@
 -- Turn on usable tables by the ways through its code: one law for each return, with the results of the tests as the code has them. Assumes nothing.
-use mathlib.Core.Path.{_≡_, refl, sym, ap, _∙_, subst}
-use mathlib.Core.Bool.{Bool, true, false, not, cond, _&&_, _||_}
+use mathlib.Core.Path.{_≡_, refl, sym, ap, _∙_}
+use mathlib.Core.Bool.{Bool, true, false, cond}
 use mathlib.Core.List.{List}
-use Prim.Native.Nat.{ℕ, suc, _+_, _-_, _≤_, _<_}
+use Prim.Native.Nat.{ℕ, suc, _-_, _≤_, _<_}
 use native.Mathlib.Omega.{arith}
-use lib.Dec.{leb, eqb}
-use lib.ListN.{length, set, length-set}
-use lib.Seq.{set-set, set-getD, getD-set-other}
-use borrow.Author.Tests.{le-leb, lt-leb, eqb-true, eq-eqb, ne-eqb, not-true, not-false}
+use lib.Dec.{eqb}
+use lib.ListN.{length, set}
+use lib.Seq.{set-set, set-getD}
+use borrow.Author.Tests.{le-leb, lt-leb, eqb-true, eq-eqb}
 use Rattle.below.specs.Below.{at}
-use Rattle.below.proofs.Tests.{by-cases, same-test}
+use Rattle.below.proofs.Tests.{same-test}
 use Rattle.tables.specs.Limits.{Limits}
-use Rattle.tables.specs.Tables.{Tables, dependencies, fullSize}
+use Rattle.tables.specs.Tables.{Tables, dependencies}
 use Rattle.tables.specs.Flags.{turnedBit, fixedBit, flipBit, underWayBit}
 use Rattle.plan.specs.Field.{FieldPlan, planOf, Dependency, inForce, fixed}
 use Rattle.plan.specs.Status.{Status, statusIn, entered, now}
@@ -20,10 +20,8 @@ use Rattle.log.specs.CallLog.{turn, accepted, refused}
 use Rattle.log.specs.Calls.{step, flipped, Answered}
 use Rattle.log.specs.Claims.{Usable}
 use Rattle.log.proofs.SoundParts.{sound-says, fixed-bit}
-use Rattle.log.proofs.Shown.{full-same}
 use Rattle.log.proofs.Steps.{turn-30, turn-31, turn-32, turn-33, turn-34, turn-0}
 use Rattle.conductor.specs.Entering.{enteredBy}
-use Rattle.conductor.proofs.Facts.{facts}
 use Rattle.conductor.proofs.Answers.{answered}
 use Rattle.conductor.proofs.Turned.{cycle-when-not-sound, no-cycle-when-sound}
 
@@ -45,17 +43,6 @@ module _ (place flag stop : ℕ) where
 -- the tables with other flag bytes of the dependencies
 abbrev pub withFlags : Tables → List ℕ → Tables
 withFlags t flags = record { plan = t .plan; visited = t .visited; droneFlags = t .droneFlags; flags = flags }
-
-pub full-turn : (L : Limits) (t : Tables) (w x : ℕ) → w < dependencies (t .plan) → fullSize L t ≡ true → fullSize L (withFlags t (set (t .flags) w x)) ≡ true
-full-turn L t w x l full = full-same L t (withFlags t (set (t .flags) w x)) (record {
-  plan-same = refl;
-  visited-length = refl;
-  droneFlags-length = refl;
-  flags-length = length-set (t .flags) w x;
-  visited-unused = λ d h. refl;
-  droneFlags-unused = λ d h. refl;
-  flags-unused = λ v h. getD-set-other (t .flags) w v x 0 (λ e. omega arith);
-}) full
 
 -- the sides of a dependency that are entered, in the order now in force
 module _ (F : FieldPlan) (s : Status) (x : Dependency) where

@@ -1,10 +1,10 @@
 -- A turn of a dependency that is not fixed, and that the first drone has not entered, leaves sound tables just where the turned graph has no cycle. Assumes nothing.
 use mathlib.Core.Path.{_≡_, refl, sym, ap, _∙_, subst}
 use mathlib.Core.Bool.{Bool, true, false, not, _&&_, _||_}
-use Prim.Native.Nat.{ℕ, _/_, _≤_, _<_}
+use Prim.Native.Nat.{ℕ, _/_, _<_}
 use native.Mathlib.Omega.{arith}
 use lib.Dec.{eqb, ltb}
-use lib.ListN.{length, set, length-set}
+use lib.ListN.{length, set}
 use lib.Seq.{getD-set-other}
 use borrow.Author.Tests.{eqb-true, eq-eqb, ltb-false}
 use Rattle.below.specs.Below.{at, put}
@@ -21,7 +21,7 @@ use Rattle.plan.specs.Status.{Status, statusIn, entered, now, fixedUnturned, wi
 use Rattle.sound.specs.Sound.{zeroFrom, flagsSound, droneFlagsSound, progressUnused, sound}
 use Rattle.log.specs.Calls.{flipped}
 use Rattle.log.specs.Demand.{Agree}
-use Rattle.log.proofs.SoundParts.{Sound, sound-says, says-sound, zero-from, accepted-plan}
+use Rattle.log.proofs.SoundParts.{Sound, sound-says, says-sound, accepted-plan}
 use Rattle.log.proofs.SameStatus.{cyclic-same, unturned-same, waits-same}
 
 not-both : (a b : Bool) → b ≡ false → not (a && b) ≡ true
