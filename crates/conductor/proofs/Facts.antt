@@ -18,7 +18,8 @@ use Rattle.plan.specs.Columns.{Columns, columns}
 use Rattle.plan.specs.Room.{WaitsRoom}
 use Rattle.plan.proofs.Numbering.{start-suc, start-mono}
 use Rattle.log.specs.Claims.{Usable}
-use Rattle.log.proofs.SoundParts.{Sound, sound-says, drones-in, have-stops, stops-in, dependencies-in, accepted-plan}
+use Rattle.sound.proofs.Clauses.{Sound, sound-says}
+use Rattle.log.proofs.SoundParts.{drones-in, have-stops, stops-in, dependencies-in, accepted-plan}
 
 pub record Facts (L : Limits) (t : Tables) : Type 0 where
   pub sizes : Sizes L t

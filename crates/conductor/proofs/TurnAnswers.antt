@@ -19,7 +19,8 @@ use Rattle.sound.specs.Sound.{sound}
 use Rattle.log.specs.CallLog.{turn, accepted, refused}
 use Rattle.log.specs.Calls.{step, flipped, Answered}
 use Rattle.log.specs.Claims.{Usable}
-use Rattle.log.proofs.SoundParts.{sound-says, fixed-bit}
+use Rattle.sound.proofs.Clauses.{sound-says}
+use Rattle.log.proofs.SoundParts.{fixed-bit}
 use Rattle.log.proofs.Shown.{full-same}
 use Rattle.log.proofs.Steps.{turn-30, turn-31, turn-32, turn-33, turn-34, turn-0}
 use Rattle.conductor.specs.Entering.{enteredBy}

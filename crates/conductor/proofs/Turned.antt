@@ -21,7 +21,8 @@ use Rattle.plan.specs.Status.{Status, statusIn, entered, now, fixedUnturned, wi
 use Rattle.sound.specs.Sound.{zeroFrom, flagsSound, droneFlagsSound, progressUnused, sound}
 use Rattle.log.specs.Calls.{flipped}
 use Rattle.log.specs.Demand.{Agree}
-use Rattle.log.proofs.SoundParts.{Sound, sound-says, says-sound, accepted-plan}
+use Rattle.sound.proofs.Clauses.{Sound, sound-says, says-sound}
+use Rattle.log.proofs.SoundParts.{accepted-plan}
 use Rattle.log.proofs.SameStatus.{cyclic-same, unturned-same, waits-same}
 
 not-both : (a b : Bool) → b ≡ false → not (a && b) ≡ true

@@ -10,7 +10,8 @@ use Rattle.sound.specs.Sound.{sound}
 use Rattle.text.specs.TextWritten.{Writable, TextWritten}
 use Rattle.text.specs.declared.writer.WriteAnswer.{WriteAnswer}
 use Rattle.log.specs.Claims.{Usable}
-use Rattle.log.proofs.SoundParts.{sound-says, stops-in}
+use Rattle.sound.proofs.Clauses.{sound-says}
+use Rattle.log.proofs.SoundParts.{stops-in}
 use Rattle.conductor.specs.Writing.{writeRefused, textMeant, textIn, writes, bufferLeft, PlanWritten}
 use Rattle.conductor.proofs.Facts.{facts}
 

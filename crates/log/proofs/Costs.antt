@@ -21,7 +21,8 @@ use Rattle.plan.specs.Status.{Status, statusIn, waitsKept}
 use Rattle.sound.specs.Sound.{sound}
 use Rattle.log.specs.Calls.{CostReply, costs, costRefused, costReply}
 use Rattle.log.specs.Claims.{CostMeans, CostBounded, CostLimit}
-use Rattle.log.proofs.SoundParts.{Sound, sound-says, drones-in, stops-in, have-stops, accepted-plan}
+use Rattle.sound.proofs.Clauses.{Sound, sound-says}
+use Rattle.log.proofs.SoundParts.{drones-in, stops-in, have-stops, accepted-plan}
 use Rattle.log.proofs.Exactly.{unfixed-says}
 
 -- ---- the bound

@@ -18,7 +18,8 @@ use Rattle.sound.specs.Sound.{sound}
 use Rattle.log.specs.CallLog.{Call, grant, arrive, turn, Reply, accepted, refused, mustWait, number, replyIn}
 use Rattle.log.specs.Calls.{replyOf, grantStep, arriveStep, turnStep}
 use Rattle.log.specs.Claims.{Usable, MayGo, MustWait, MayArrive, Turnable, TurnedCycle, GrantedExactly, WaitsExactly, ArrivedExactly, Never33, TurnedExactly, CycleExactly}
-use Rattle.log.proofs.SoundParts.{sound-says, accepted-plan}
+use Rattle.sound.proofs.Clauses.{sound-says}
+use Rattle.log.proofs.SoundParts.{accepted-plan}
 use Rattle.log.proofs.Checks.{differ, unfixed-is, grant-accepted, grant-waits, arrive-accepted, turn-accepted, turn-cycle, turn-33}
 
 -- none of the fixed ones is turned, as a test and as a law

@@ -14,7 +14,8 @@ use Rattle.tables.specs.Flags.{fixedFlag}
 use Rattle.plan.specs.Field.{planOf, fixed}
 use Rattle.sound.specs.Sound.{sound}
 use Rattle.log.specs.Calls.{AsRead}
-use Rattle.log.proofs.SoundParts.{Sound, sound-says, dependencies-in}
+use Rattle.sound.proofs.Clauses.{Sound, sound-says}
+use Rattle.log.proofs.SoundParts.{dependencies-in}
 
 module _ (L : Limits) (t : Tables) where
   -- the flag byte that an accepted reading leaves

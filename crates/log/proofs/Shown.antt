@@ -26,7 +26,8 @@ use Rattle.sound.specs.Sound.{planAccepted, dependenciesSound, planUnused, flag
 use Rattle.log.specs.CallLog.{Call, replyIn}
 use Rattle.log.specs.Calls.{granted, arrived, flipped, replyOf, AsRead}
 use Rattle.log.specs.Demand.{Agree}
-use Rattle.log.proofs.SoundParts.{says-sound, zero-from, drones-in, dependencies-in}
+use Rattle.sound.proofs.Clauses.{says-sound}
+use Rattle.log.proofs.SoundParts.{zero-from, drones-in, dependencies-in}
 use Rattle.log.proofs.SameStatus.{cyclic-same, reply-same, unturned-same, within-same, waits-same}
 use Rattle.log.proofs.Good.{Good, statusBy}
 

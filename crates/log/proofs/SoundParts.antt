@@ -1,67 +1,24 @@
--- Sound, part by part: the conjunction taken apart and put together again, and what its parts say of the counts. Assumes nothing.
+-- What the clauses of "sound" say of the counts, the flag bytes and the unused entries. Assumes nothing.
 use mathlib.Core.Path.{_≡_, refl, ap, _∙_}
-use mathlib.Core.Bool.{Bool, true, false, not, _&&_}
+use mathlib.Core.Bool.{Bool, true, false, _&&_}
 use mathlib.Core.List.{List}
 use Prim.Native.Nat.{ℕ, _/_, _%_, _≤_, _<_}
 use native.Mathlib.Omega.{arith}
 use lib.Dec.{ltb, leb, eqb}
-use borrow.Author.Tests.{ltb-false, leb-true, eqb-true, not-true}
+use borrow.Author.Tests.{ltb-false, leb-true, eqb-true}
 use Rattle.below.specs.Below.{pick, at, allBelow}
 use Rattle.below.proofs.Tests.{by-cases, and-left, and-right}
 use Rattle.below.proofs.Every.{allBelow-at, allBelow-all}
 use Rattle.tables.specs.Limits.{Limits}
 use Rattle.tables.specs.Tables.{PlanLists, Tables, drones, dependencies}
 use Rattle.tables.specs.Flags.{fixedBit, onlyOneBit}
-use Rattle.precedence.specs.Graph.{cyclic}
 use Rattle.plan.specs.Dependencies.{dependencyTotal}
 use Rattle.plan.specs.Check.{firstFault}
 use Rattle.plan.specs.Claims.{HaveStops, NoFault, NoCollision, HoldsPlanned}
 use Rattle.plan.proofs.Claims.{accepted-claims}
-use Rattle.plan.specs.Field.{AcceptedPlan, planOf, graph, fixed}
-use Rattle.plan.specs.Status.{statusIn, fixedUnturned, withinStops, waitsKept}
-use Rattle.sound.specs.Sound.{zeroFrom, own, num, planned, stopTotal, inRange, namesSound, checked, planAccepted, dependenciesSound, planUnused, flagsSound, droneFlagsSound, progressUnused, sound}
-
--- the clauses of "sound"
-pub record Sound (L : Limits) (t : Tables) : Type 0 where
-  pub accepted : planAccepted L (t .plan) ≡ true
-  pub dependencies-own : dependenciesSound L (t .plan) ≡ true
-  pub flags-right : flagsSound L t ≡ true
-  pub fixed-unturned : fixedUnturned (planOf (t .plan)) (statusIn t) ≡ true
-  pub no-cycle : cyclic (graph (planOf (t .plan)) (statusIn t .turned)) ≡ false
-  pub drone-flags : droneFlagsSound L t ≡ true
-  pub within : withinStops (planOf (t .plan)) (statusIn t) ≡ true
-  pub waits-kept : waitsKept (planOf (t .plan)) (statusIn t) ≡ true
-  pub plan-unused : planUnused L (t .plan) ≡ true
-  pub progress-unused : progressUnused L t ≡ true
-
-module _ (L : Limits) (t : Tables) where
-  pub sound-says : sound L t ≡ true → Sound L t
-  unfolding sound
-  sound-says h =
-      let h₁ = and-right (planAccepted L (t .plan)) _ h in
-      let h₂ = and-right (dependenciesSound L (t .plan)) _ h₁ in
-      let h₃ = and-right (flagsSound L t) _ h₂ in
-      let h₄ = and-right (fixedUnturned (planOf (t .plan)) (statusIn t)) _ h₃ in
-      let h₅ = and-right (not (cyclic (graph (planOf (t .plan)) (statusIn t .turned)))) _ h₄ in
-      let h₆ = and-right (droneFlagsSound L t) _ h₅ in
-      let h₇ = and-right (withinStops (planOf (t .plan)) (statusIn t)) _ h₆ in
-      let h₈ = and-right (waitsKept (planOf (t .plan)) (statusIn t)) _ h₇ in
-      record {
-        accepted = and-left _ _ h;
-        dependencies-own = and-left _ _ h₁;
-        flags-right = and-left _ _ h₂;
-        fixed-unturned = and-left _ _ h₃;
-        no-cycle = not-true (cyclic (graph (planOf (t .plan)) (statusIn t .turned))) (and-left _ _ h₄);
-        drone-flags = and-left _ _ h₅;
-        within = and-left _ _ h₆;
-        waits-kept = and-left _ _ h₇;
-        plan-unused = and-left _ _ h₈;
-        progress-unused = and-right (planUnused L (t .plan)) _ h₈;
-      }
-
-  pub says-sound : Sound L t → sound L t ≡ true
-  unfolding sound
-  says-sound s = rw (s .accepted, s .dependencies-own, s .flags-right, s .fixed-unturned, s .no-cycle, s .drone-flags, s .within, s .waits-kept, s .plan-unused, s .progress-unused) refl
+use Rattle.plan.specs.Field.{AcceptedPlan, planOf, fixed}
+use Rattle.sound.specs.Sound.{zeroFrom, own, num, planned, stopTotal, inRange, namesSound, checked, planAccepted, dependenciesSound, flagsSound, droneFlagsSound}
+use Rattle.sound.proofs.Clauses.{Sound}
 
 -- ---- the plan in the tables
 
