@@ -24,8 +24,8 @@ use Rattle.plan.specs.Claims.{HaveStops}
 use Rattle.sound.specs.Sound.{zeroFrom, nameByte, nameLength, nameSound, sameName, namesDiffer, stopTotal, inRange, namesSound}
 use Rattle.log.proofs.SoundParts.{zero-from}
 use Rattle.accepted.proofs.Stored.{at-past}
-use Rattle.accepted.proofs.Extra.{rows-long, rows-many, names-many, counts-many, counts-total, stops-within}
-use Rattle.accepted.proofs.Routes.{counts-some, stops-in-range, times-many}
+use Rattle.text.proofs.Sizes.{rows-long, rows-many, names-many, counts-many, counts-total, stops-within, times-many}
+use Rattle.accepted.proofs.Routes.{counts-some, stops-in-range}
 use Rattle.accepted.proofs.RowNames.{row-at, name-byte, byte-some, flat-at, GoodRow, good-rows, rows-differ, same-all}
 
 -- up to the full sizes the tables hold the plan's values, and 0 past them

@@ -24,8 +24,7 @@ use Rattle.reading.specs.Reading.{withText, withDependencies, total, checkIn}
 use Rattle.reading.specs.declared.replies.Reading.the-variants.{Taken}
 use Rattle.accepted.specs.Claims.{ReadIsSound, TablesSound, Demand3OfTexts}
 use Rattle.accepted.proofs.Stored.{stored-at}
-use Rattle.accepted.proofs.Extra.{names-many, counts-many, stops-within}
-use Rattle.accepted.proofs.Routes.{times-many}
+use Rattle.text.proofs.Sizes.{names-many, counts-many, stops-within, times-many}
 use Rattle.accepted.proofs.PlanHeld.{HoldsRoutes}
 use Rattle.accepted.proofs.ReadCases.{read-taken}
 use Rattle.accepted.proofs.Built.{Blank, built-as-read}

@@ -1,5 +1,4 @@
 -- What a valid plan says of the numbers that stand in the tables: counts, locations and times are in range, by recursion over the drones.
-use mathlib.Core.Path.{_≡_}
 use mathlib.Core.List.{List, [], _∷_, _++_}
 use Prim.Native.Nat.{ℕ, zero, suc, _+_, _≤_, _<_}
 use native.Mathlib.Omega.{arith}
@@ -9,7 +8,6 @@ use Rattle.tables.specs.Limits.{Limits}
 use Rattle.lines.specs.Names.{rowOf}
 use Rattle.lines.specs.Stops.{InRange}
 use Rattle.text.specs.Written.{Route, countsOf, locationsOf, timesOf, ValidFrom, Valid}
-use Rattle.text.proofs.DroneTaken.{range-long}
 
 -- each drone has a stop
 pub counts-some : (L : Limits) (ds : List Route) (earlier : List (List ℕ)) (total : ℕ) → ValidFrom L earlier total ds → (d : ℕ) → d < length ds → 1 ≤ at (countsOf ds) d
@@ -38,6 +36,3 @@ range-at L (x ∷ ls) (t ∷ ts) a (suc i) l = range-at L ls ts (a .2) i (omega 
 
 pub stops-in-range : (L : Limits) (ds : List Route) → Valid L ds → (i : ℕ) → i < length (locationsOf ds) → (at (locationsOf ds) i ≤ L .location) × (at (timesOf ds) i ≤ L .time)
 stops-in-range L ds v i l = range-at L (locationsOf ds) (timesOf ds) (range-all L ds [] 0 (v .2)) i l
-
-pub times-many : (L : Limits) (ds : List Route) → Valid L ds → length (timesOf ds) ≡ length (locationsOf ds)
-times-many L ds v = range-long L (locationsOf ds) (timesOf ds) (range-all L ds [] 0 (v .2))

@@ -8,7 +8,7 @@ use native.Mathlib.Numerals.{add-one}
 use native.Mathlib.Omega.{arith}
 use lib.ListN.{length, getD, set, length-set}
 use lib.Seq.{ext-getD, getD-set-same, getD-set-other}
-use Rattle.below.specs.Below.{fillBelow}
+use Rattle.below.specs.Below.{fillBelow, at}
 use Rattle.below.proofs.Tests.{below-cases}
 
 pub fillBelow-more : (f : ℕ → ℕ) (l : List ℕ) (i : ℕ) → fillBelow (i + 1) f l ≡ set (fillBelow i f l) i (f i)
@@ -34,6 +34,10 @@ unfolding fillBelow
 getD-unfilled f l zero k h = refl
 getD-unfilled f l (suc n) k h = getD-set-other (fillBelow n f l) n k (f n) 0 (omega arith) ∙ getD-unfilled f l n k (omega arith)
 
+pub fill-none : (f : ℕ → ℕ) (l : List ℕ) → l ≡ fillBelow 0 f l
+unfolding fillBelow
+fill-none f l = refl
+
 -- the same as a filling loop wants them: l is the list now, l₀ the list where the loop begins
 module _ (f : ℕ → ℕ) (l₀ : List ℕ) (i : ℕ) (l : List ℕ) (e : l ≡ fillBelow i f l₀) where
   pub fill-store : (x : ℕ) → x ≡ f i → set l i x ≡ fillBelow (i + 1) f l₀
@@ -41,6 +45,13 @@ module _ (f : ℕ → ℕ) (l₀ : List ℕ) (i : ℕ) (l : List ℕ) (e : l ≡
 
   pub fill-length : length l ≡ length l₀
   fill-length = ap length e ∙ length-fill f l₀ i
+
+  -- an entry that is not filled yet is as it was
+  pub fill-unread : at l i ≡ at l₀ i
+  fill-unread = ap (λ (x : List ℕ). at x i) e ∙ getD-unfilled f l₀ i i (omega arith)
+
+  pub fill-at : i ≤ length l₀ → (d : ℕ) → d < i → at l d ≡ f d
+  fill-at h d k = ap (λ (x : List ℕ). at x d) e ∙ getD-fill f l₀ i d k h
 
   pub fill-end : (n : ℕ) → i ≤ n → n ≤ i → l ≡ fillBelow n f l₀
   fill-end n a b = e ∙ ap (λ (k : ℕ). fillBelow k f l₀) (le-antisymm a b)

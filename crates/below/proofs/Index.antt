@@ -6,7 +6,7 @@ use Prim.Native.Nat.{ℕ, zero, suc, _+_, _<_}
 use native.Mathlib.Omega.{arith}
 use lib.Dec.{eqb}
 use borrow.Author.Tests.{eqb-true, eqb-false, eq-eqb, ne-eqb}
-use lib.ListN.{length, getD, set}
+use lib.ListN.{length, getD, set, replicate}
 use lib.Seq.{ext-getD, getD-set-same, getD-set-other}
 use Rattle.below.specs.Below.{at, listBelow, put}
 use Rattle.below.proofs.Tests.{by-cases}
@@ -52,3 +52,9 @@ pub at-set : (ps : List ℕ) (d x : ℕ) → d < length ps → (c : ℕ) → at 
 at-set ps d x l c = by-cases (eqb c d)
     (λ e. let q : c ≡ d = eqb-true c d e in rw e (rw q (getD-set-same ps d x 0 l)))
     (λ e. rw e (getD-set-other ps d c x 0 (eqb-false c d e)))
+
+-- a list of zeros has no other entry, nor past its end
+pub zeros-at : (n v : ℕ) → at (replicate n 0) v ≡ 0
+zeros-at zero v = refl
+zeros-at (suc n) zero = refl
+zeros-at (suc n) (suc v) = zeros-at n v

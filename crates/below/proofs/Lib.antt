@@ -9,3 +9,4 @@ pub mod Fill
 pub mod Picks
 pub mod Pairs
 pub mod Triangle
+pub mod Same

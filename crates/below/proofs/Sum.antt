@@ -120,3 +120,9 @@ module _ (f : ℕ → ℕ) (i : ℕ) where
 
   pub sum-end : (k n : ℕ) → i ≤ n → n ≤ i → k ≡ sumBelow i f → k ≡ sumBelow n f
   sum-end k n a b e = subst (λ (m : ℕ). k ≡ sumBelow m f) (le-antisymm a b) e
+
+-- the first summand taken apart
+pub sum-first : (n : ℕ) (f : ℕ → ℕ) → sumBelow (suc n) f ≡ f 0 + sumBelow n (λ i. f (suc i))
+unfolding sumBelow
+sum-first zero f = omega arith
+sum-first (suc n) f = omega (arith, sum-first n f)

@@ -10,3 +10,4 @@ pub mod CheckLaws
 pub mod ColumnsLaws
 pub mod WaitsLaws
 pub mod Flights
+pub mod Agree

@@ -1,5 +1,3 @@
-pub mod Extra
-pub mod Agree
 pub mod TakenText
 pub mod StoredPlan
 pub mod LinesCases

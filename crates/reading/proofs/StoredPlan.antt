@@ -26,7 +26,7 @@ use Rattle.reading.specs.declared.replies.Refusal.{Refusal}
 use Rattle.reading.specs.declared.replies.Refusal.the-variants.{TooManyDependencies}
 use Rattle.reading.specs.declared.replies.Reading.{Reading}
 use Rattle.reading.specs.declared.replies.Reading.the-variants.{Taken, Refused}
-use Rattle.reading.proofs.Agree.{total-same, column-same, flag-same, check-same}
+use Rattle.plan.proofs.Agree.{total-same, column-same, flag-same, check-same}
 
 -- ---- the local tables
 

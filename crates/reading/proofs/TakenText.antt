@@ -17,7 +17,7 @@ use Rattle.text.specs.declared.reader.Answer.the-variants.{Taken as Plan}
 use Rattle.text.proofs.TakenIsWritten.{text-taken}
 use Rattle.text.proofs.TextCases.{taken-range}
 use Rattle.plan.specs.Stops.{start}
-use Rattle.reading.proofs.Extra.{sum-first}
+use Rattle.below.proofs.Sum.{sum-first}
 
 -- the stops of some drones and of the earlier ones
 counts-within : (L : Limits) (earlier : List (List ℕ)) (total : ℕ) (ds : List Route) → total ≤ L .stops → ValidFrom L earlier total ds → total + sumBelow (length ds) (at (countsOf ds)) ≤ L .stops

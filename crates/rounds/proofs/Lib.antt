@@ -1,4 +1,3 @@
-pub mod Extra
 pub mod PlayingLoop
 pub mod OneRound
 pub mod Bounds

@@ -17,7 +17,7 @@ use Rattle.precedence.specs.Graph.{Plan, blocks, free, round}
 use Rattle.cycles.specs.Flat.{flatPlan, PlacedWaits}
 use Rattle.tables.specs.Limits.{Limits}
 use Rattle.rounds.specs.Remaining.{StopIn, WaitsIn, keepsBack, blockedMark, placeAfter}
-use Rattle.rounds.proofs.Extra.{any-none, any-hit, any-miss}
+use Rattle.below.proofs.Every.{any-none, any-hit, any-miss}
 
 -- a marked place and an unmarked one, after a round
 pub round-flat : (own off last : ℕ → ℕ) (drones : ℕ) (from into : ℕ → ℕ) (m : ℕ) (p : ℕ → ℕ) (d : ℕ) → placeAfter (blockedMark own off from into p m d) (p d) (last d) ≡ round (flatPlan own off last drones from into m) p d

@@ -20,7 +20,7 @@ use Rattle.precedence.proofs.Lists.{round-same, unvisited-same}
 use Rattle.precedence.proofs.Rounds.{finished-at, finished-if, somebody-free, unvisited-falls}
 use Rattle.precedence.proofs.Visits.{finished-iff, cost-round, cost-finished, cost-bound, reached-bound}
 use Rattle.rounds.specs.Remaining.{roundsLeft}
-use Rattle.rounds.proofs.Extra.{count-ext}
+use Rattle.below.proofs.Same.{count-ext}
 
 -- how many drones are short of their last stop
 abbrev pub unfinished : Plan → (ℕ → ℕ) → ℕ

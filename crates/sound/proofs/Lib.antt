@@ -1,5 +1,3 @@
-pub mod Extra
-pub mod Agreement
 pub mod Columns
 pub mod SameGraph
 pub mod Asking

@@ -32,7 +32,7 @@ use Rattle.cycles.proofs.Directed.{right-placed}
 use Rattle.sound.specs.Parts.{stopSound, stopIn, flagRight, fixedAt, fieldOf, graphPart}
 use Rattle.sound.specs.Asked.{Counted, Columns, Numbers, Scratch, Through}
 use Rattle.sound.proofs.Asking.{stop-drone, stop-number}
-use Rattle.sound.proofs.Agreement.{right-same}
+use Rattle.plan.proofs.Agree.{right-same}
 use Rattle.sound.proofs.SameGraph.{cyclic-same}
 
 -- a table that was filled holds the function

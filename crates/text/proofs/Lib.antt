@@ -12,4 +12,5 @@ pub mod NameInRow
 pub mod WriteLoop
 pub mod WriteWhole
 pub mod WriteBack
+pub mod Sizes
 pub mod ReadIsWritten

@@ -1,27 +1,24 @@
 -- The plan that a reading left in the tables is written as the text that was read.
-use Prim.Native.Nat.{ℕ, zero, suc, _+_, _*_, _≤_}
+use Prim.Native.Nat.{ℕ, _+_, _*_, _≤_}
 use native.Mathlib.Nat.{mul-le-mul-right}
 use native.Mathlib.Omega.{arith}
-use mathlib.Core.Path.{_≡_, refl, sym, ap, _∙_}
+use mathlib.Core.Path.{_≡_, refl, sym}
 use mathlib.Core.List.{List, [], _∷_, _++_, append-assoc}
 use borrow.Author.Tests.{le-ltb}
-use lib.ListN.{length, drop, length-append}
+use lib.ListN.{length, drop}
 use lib.Seq.{sets, sets-eq, take-at, drop-at}
 use Rattle.tables.specs.Limits.{Limits}
-use Rattle.lines.specs.Names.{rowOf}
-use Rattle.lines.proofs.NameRoundTrip.{row-long}
 use Rattle.text.specs.Reading.{Found, linesAt, flat}
 use Rattle.text.specs.TextRead.{tableAfter, TextRead}
-use Rattle.text.specs.Written.{Route, routesText, rowsOf, countsOf, locationsOf, timesOf, foundOf, ValidFrom, Valid}
+use Rattle.text.specs.Written.{Route, routesText, rowsOf, countsOf, locationsOf, timesOf, foundOf, Valid}
 use Rattle.tables.specs.Zero.{zeroed}
-use Rattle.text.proofs.Rows.{AllLong, flat-long}
+use Rattle.text.proofs.Rows.{AllLong}
+use Rattle.text.proofs.Sizes.{rows-long, rows-many, names-many, counts-many, counts-begin, stops-within, times-many}
 use Rattle.text.proofs.TakenIsWritten.{text-taken, taken-within}
 use Rattle.text.proofs.RoundTrips.{same-text}
-use Rattle.text.proofs.DroneTaken.{range-long}
 use Rattle.text.specs.TextWritten.{rowsIn, tablesText}
 use Rattle.tables.proofs.Zero.{zeroed-length}
 use Rattle.text.specs.Claims.{ReadAndWritten}
-use Rattle.below.specs.Below.{sumBelow, at as entry}
 use Rattle.text.specs.declared.reader.Answer.{Answer}
 use Rattle.text.specs.declared.reader.Answer.the-variants.{Taken as Plan}
 
@@ -37,43 +34,6 @@ rows-back L [] a rest = refl
 rows-back L (r ∷ rs) a rest =
     rw (append-assoc r (flat rs) rest, take-at r (flat rs ++ rest) (L .name) (a .0), drop-at r (flat rs ++ rest) (L .name) (a .0), rows-back L rs (a .1) rest)
 
-rows-long : (L : Limits) (ds : List Route) → AllLong L (rowsOf L ds)
-rows-long L [] = tt
-rows-long L (d ∷ ds) = (row-long L (d .name), rows-long L ds)
-
-rows-many : (L : Limits) (ds : List Route) → length (rowsOf L ds) ≡ length ds
-rows-many L [] = refl
-rows-many L (d ∷ ds) = ap suc (rows-many L ds)
-
-counts-many : (ds : List Route) → length (countsOf ds) ≡ length ds
-counts-many [] = refl
-counts-many (d ∷ ds) = ap suc (counts-many ds)
-
--- the counts add up to the stops of all drones
-sum-head : (n : ℕ) (f : ℕ → ℕ) → sumBelow (suc n) f ≡ f 0 + sumBelow n (λ i. f (suc i))
-unfolding sumBelow
-sum-head zero f = omega arith
-sum-head (suc n) f = let ih = sum-head n f in omega (arith, ih)
-
-counts-total : (ds : List Route) (rest : List ℕ) → sumBelow (length ds) (entry (countsOf ds ++ rest)) ≡ length (locationsOf ds)
-unfolding sumBelow
-counts-total [] rest = refl
-counts-total (d ∷ ds) rest =
-    sum-head (length ds) (entry (length (d .locations) ∷ countsOf ds ++ rest))
-    ∙ (ap (λ (k : ℕ). length (d .locations) + k) (counts-total ds rest) ∙ sym (length-append (d .locations) (locationsOf ds)))
-
-stops-within : (L : Limits) (ds : List Route) (earlier : List (List ℕ)) (total : ℕ) → ValidFrom L earlier total ds → total ≤ L .stops → total + length (locationsOf ds) ≤ L .stops
-stops-within L [] earlier total v h = omega arith
-stops-within L (d ∷ ds) earlier total v h =
-    let ih = stops-within L ds (earlier ++ rowOf L (d .name) ∷ []) (total + length (d .locations)) (v .5) (v .3) in
-    rw (length-append (d .locations) (locationsOf ds)) (omega (arith, ih))
-
-times-many : (L : Limits) (ds : List Route) (earlier : List (List ℕ)) (total : ℕ) → ValidFrom L earlier total ds → length (timesOf ds) ≡ length (locationsOf ds)
-times-many L [] earlier total v = refl
-times-many L (d ∷ ds) earlier total v =
-    let ih = times-many L ds (earlier ++ rowOf L (d .name) ∷ []) (total + length (d .locations)) (v .5) in
-    length-append (d .times) (timesOf ds) ∙ omega (arith, ih, range-long L (d .locations) (d .times) (v .4), length-append (d .locations) (locationsOf ds))
-
 -- ---- the text of such tables
 
 module _ (L : Limits) (ds : List Route) (v : Valid L ds) (ns cs ls ts : List ℕ) where
@@ -82,9 +42,9 @@ module _ (L : Limits) (ds : List Route) (v : Valid L ds) (ns cs ls ts : List ℕ
   unfolding tablesText
   tables-kept a b c d =
       let many = rows-many L ds in
-      let long : length (flat (rowsOf L ds)) ≡ length ds * L .name = flat-long L (rowsOf L ds) (rows-long L ds) ∙ ap (λ (k : ℕ). k * L .name) many in
-      let within = stops-within L ds [] 0 (v .2) (omega arith) in
-      let times = times-many L ds [] 0 (v .2) in
+      let long : length (flat (rowsOf L ds)) ≡ length ds * L .name = names-many L ds in
+      let within = stops-within L ds v in
+      let times = times-many L ds v in
       let back : rowsIn L (length ds) (flat (rowsOf L ds) ++ drop (0 + length (flat (rowsOf L ds))) ns) ≡ rowsOf L ds = rw (← many) (rows-back L (rowsOf L ds) (rows-long L ds) _) in
       rw (
         first-of ns (flat (rowsOf L ds)) (omega (arith, long, a, mul-le-mul-right (L .name) (v .1))),
@@ -92,7 +52,7 @@ module _ (L : Limits) (ds : List Route) (v : Valid L ds) (ns cs ls ts : List ℕ
         first-of ls (locationsOf ds) (omega (arith, within)),
         first-of ts (timesOf ds) (omega (arith, within, times)),
         back,
-        counts-total ds (drop (0 + length (countsOf ds)) cs),
+        counts-begin ds (drop (0 + length (countsOf ds)) cs),
         take-at (countsOf ds) (drop (0 + length (countsOf ds)) cs) (length ds) (counts-many ds),
         take-at (locationsOf ds) (drop (0 + length (locationsOf ds)) ls) (length (locationsOf ds)) refl,
         take-at (timesOf ds) (drop (0 + length (timesOf ds)) ts) (length (locationsOf ds)) times,

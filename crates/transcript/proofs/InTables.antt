@@ -9,6 +9,7 @@ use lib.Seq.{sets}
 use Rattle.below.specs.Below.{at, rowsBelow, listBelow, laid}
 use Rattle.below.proofs.Index.{listBelow-is}
 use Rattle.below.proofs.Picks.{getD-laid}
+use Rattle.below.proofs.Same.{rows-ext}
 use Rattle.tables.specs.Limits.{Limits}
 use Rattle.tables.specs.Tables.{Tables}
 use Rattle.log.specs.CallLog.{grant, arrive, turn}
@@ -65,11 +66,6 @@ rows-front : (n : ℕ) (g : ℕ → List ℕ) → rowsBelow (suc n) g ≡ g 0 ++
 unfolding rowsBelow
 rows-front zero g = sym (append-nil (g 0))
 rows-front (suc n) g = ap (λ (l : List ℕ). l ++ g (suc n)) (rows-front n g) ∙ append-assoc (g 0) (rowsBelow n (λ i. g (suc i))) (g (suc n))
-
-rows-ext : (n : ℕ) (f g : ℕ → List ℕ) → ((i : ℕ) → i < n → f i ≡ g i) → rowsBelow n f ≡ rowsBelow n g
-unfolding rowsBelow
-rows-ext zero f g h = refl
-rows-ext (suc n) f g h = ap₂ (λ (l r : List ℕ). l ++ r) (rows-ext n f g (λ i l. h i (omega arith))) (h n (omega arith))
 
 lines-back : (answers : List Answer) → linesIn (length answers) (kindsIn answers) (numbersIn answers) (detailsIn answers) ≡ answerLines answers
 unfolding linesIn answerLines rowsBelow

@@ -1,6 +1,6 @@
 use mathlib.Core.Path.{refl}
 use lib.ListN.{replicate}
-use Rattle.rounds.proofs.Extra.{zeros-at}
+use Rattle.below.proofs.Index.{zeros-at}
 use Rattle.rounds.proofs.Readiness.{ready-passable, ready-table}
 use Rattle.rounds.proofs.chains.stop_rounds.Statement.{statement}
 use Rattle.rounds.proofs.chains.stop_rounds.Tie as tie

@@ -3,9 +3,8 @@ use Prim.Native.Nat.{ℕ, _-_, _≤_}
 use mathlib.Core.Path.{_≡_, refl, sym, ap, _∙_}
 use native.Mathlib.Omega.{arith}
 use Rattle.below.specs.Below.{fillBelow, at}
-use Rattle.below.proofs.Fill.{fill-store, fill-length, fill-end}
+use Rattle.below.proofs.Fill.{fill-none, fill-store, fill-length, fill-unread, fill-end}
 use Rattle.rounds.specs.Remaining.{placeAfter}
-use Rattle.rounds.proofs.Extra.{fill-none, fill-unread}
 use Rattle.rounds.proofs.playing.advance.Statement.{statement}
 use Rattle.rounds.proofs.playing.advance.Tie as tie
 use Rattle.rounds.proofs.playing.advance.Reads as reads

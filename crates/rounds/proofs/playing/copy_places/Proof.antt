@@ -3,8 +3,7 @@ use Prim.Native.Nat.{_-_, _≤_}
 use mathlib.Core.Path.{_≡_, refl, sym}
 use native.Mathlib.Omega.{arith}
 use Rattle.below.specs.Below.{fillBelow, at}
-use Rattle.below.proofs.Fill.{fill-store, fill-length, fill-end}
-use Rattle.rounds.proofs.Extra.{fill-none}
+use Rattle.below.proofs.Fill.{fill-none, fill-store, fill-length, fill-end}
 use Rattle.rounds.proofs.playing.copy_places.Statement.{statement}
 use Rattle.rounds.proofs.playing.copy_places.Tie as tie
 use Rattle.rounds.proofs.playing.copy_places.Reads as reads

@@ -8,7 +8,7 @@ use Rattle.tables.specs.Limits.{limits}
 use Rattle.precedence.specs.Graph.{unvisited}
 use Rattle.cycles.specs.Flat.{flatPlan}
 use Rattle.rounds.specs.Remaining.{Ready}
-use Rattle.rounds.proofs.Extra.{copied-long, copied-at}
+use Rattle.below.proofs.Fill.{fill-length, fill-at}
 use Rattle.rounds.proofs.PlayingLoop.{Playing, playing-start, playing-end, playing-early, playing-small, playing-round, playing-less}
 use Rattle.rounds.proofs.Readiness.{ready-formed, ready-acyclic, ready-waits, ready-rounds, ready-cost}
 use Rattle.rounds.proofs.playing.play_rounds.Statement.{statement}
@@ -31,7 +31,7 @@ copy-places-requires c κs = (c .before .before .before .pre .tables .few-drones
 
 -- src/playing.rt:162:9
 loop-holds : tie.Need-loop-holds Inv-loop μ-loop
-loop-holds c = playing-start _ (ready-formed _ _ _ _ _ _ _ _ _ (c .before .before .before .before .pre)) (ready-acyclic _ _ _ _ _ _ _ _ _ (c .before .before .before .before .pre)) _ 32 _ (copied-long _ _ _ _ (c .copy-places .ensures) ∙ refl) (copied-at _ _ _ _ (c .copy-places .ensures) (c .before .before .before .before .pre .tables .few-drones))
+loop-holds c = playing-start _ (ready-formed _ _ _ _ _ _ _ _ _ (c .before .before .before .before .pre)) (ready-acyclic _ _ _ _ _ _ _ _ _ (c .before .before .before .before .pre)) _ 32 _ (fill-length _ _ _ _ (c .copy-places .ensures) ∙ refl) (fill-at _ _ _ _ (c .copy-places .ensures) (c .before .before .before .before .pre .tables .few-drones))
 
 -- src/playing.rt:163:13
 unfinished-requires : tie.Need-unfinished-requires Inv-loop μ-loop

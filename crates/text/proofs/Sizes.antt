@@ -1,16 +1,18 @@
 -- How many numbers a plan by drones lays into each table, by recursion over the drones.
 use mathlib.Core.Path.{_≡_, refl, sym, ap, _∙_}
-use mathlib.Core.List.{List, [], _∷_, _++_}
-use Prim.Native.Nat.{ℕ, zero, suc, _+_, _*_, _≤_}
+use mathlib.Core.List.{List, [], _∷_, _++_, append-nil}
+use Prim.Native.Nat.{ℕ, suc, _+_, _*_, _≤_}
 use native.Mathlib.Omega.{arith}
 use lib.ListN.{length, length-append}
 use Rattle.below.specs.Below.{at, sumBelow}
+use Rattle.below.proofs.Sum.{sum-first}
 use Rattle.tables.specs.Limits.{Limits}
 use Rattle.lines.specs.Names.{rowOf}
 use Rattle.lines.proofs.NameRoundTrip.{row-long}
 use Rattle.text.specs.Reading.{flat}
-use Rattle.text.specs.Written.{Route, rowsOf, countsOf, locationsOf, ValidFrom, Valid}
+use Rattle.text.specs.Written.{Route, rowsOf, countsOf, locationsOf, timesOf, ValidFrom, Valid}
 use Rattle.text.proofs.Rows.{AllLong, flat-long}
+use Rattle.text.proofs.DroneTaken.{range-long}
 
 pub rows-long : (L : Limits) (ds : List Route) → AllLong L (rowsOf L ds)
 rows-long L [] = tt
@@ -27,18 +29,16 @@ pub counts-many : (ds : List Route) → length (countsOf ds) ≡ length ds
 counts-many [] = refl
 counts-many (d ∷ ds) = ap suc (counts-many ds)
 
--- the counts add up to the stops of all drones
-sum-head : (n : ℕ) (f : ℕ → ℕ) → sumBelow (suc n) f ≡ f 0 + sumBelow n (λ i. f (suc i))
+-- the counts, whatever stands behind them, add up to the stops of all drones
+pub counts-begin : (ds : List Route) (rest : List ℕ) → sumBelow (length ds) (at (countsOf ds ++ rest)) ≡ length (locationsOf ds)
 unfolding sumBelow
-sum-head zero f = omega arith
-sum-head (suc n) f = let ih = sum-head n f in omega (arith, ih)
+counts-begin [] rest = refl
+counts-begin (d ∷ ds) rest =
+    sum-first (length ds) (at (length (d .locations) ∷ countsOf ds ++ rest))
+    ∙ (ap (λ (k : ℕ). length (d .locations) + k) (counts-begin ds rest) ∙ sym (length-append (d .locations) (locationsOf ds)))
 
 pub counts-total : (ds : List Route) → sumBelow (length ds) (at (countsOf ds)) ≡ length (locationsOf ds)
-unfolding sumBelow
-counts-total [] = refl
-counts-total (d ∷ ds) =
-    sum-head (length ds) (at (length (d .locations) ∷ countsOf ds))
-    ∙ (ap (λ (k : ℕ). length (d .locations) + k) (counts-total ds) ∙ sym (length-append (d .locations) (locationsOf ds)))
+counts-total ds = ap (λ (l : List ℕ). sumBelow (length ds) (at l)) (sym (append-nil (countsOf ds))) ∙ counts-begin ds []
 
 within : (L : Limits) (ds : List Route) (earlier : List (List ℕ)) (total : ℕ) → ValidFrom L earlier total ds → total ≤ L .stops → total + length (locationsOf ds) ≤ L .stops
 within L [] earlier total v h = omega arith
@@ -48,3 +48,12 @@ within L (d ∷ ds) earlier total v h =
 
 pub stops-within : (L : Limits) (ds : List Route) → Valid L ds → length (locationsOf ds) ≤ L .stops
 stops-within L ds v = omega (arith, within L ds [] 0 (v .2) (omega arith))
+
+same-many : (L : Limits) (ds : List Route) (earlier : List (List ℕ)) (total : ℕ) → ValidFrom L earlier total ds → length (timesOf ds) ≡ length (locationsOf ds)
+same-many L [] earlier total v = refl
+same-many L (d ∷ ds) earlier total v =
+    let ih = same-many L ds (earlier ++ rowOf L (d .name) ∷ []) (total + length (d .locations)) (v .5) in
+    length-append (d .times) (timesOf ds) ∙ omega (arith, ih, range-long L (d .locations) (d .times) (v .4), length-append (d .locations) (locationsOf ds))
+
+pub times-many : (L : Limits) (ds : List Route) → Valid L ds → length (timesOf ds) ≡ length (locationsOf ds)
+times-many L ds v = same-many L ds [] 0 (v .2)

@@ -1,15 +1,16 @@
--- The plan check and the dependencies of n stops look at these n stops alone, so functions that agree below n have the same. Assumes nothing.
+-- The plan check and the dependencies of n stops look at these n stops alone, and whether a table of m dependencies is right at its m entries too, so functions that agree there have the same. Assumes nothing.
 use mathlib.Core.Path.{_≡_, refl, ap}
-use mathlib.Core.Bool.{not}
+use mathlib.Core.Bool.{Bool, not, _&&_}
 use Prim.Native.Nat.{ℕ, _+_, _-_, _<_}
 use lib.Dec.{ltb, eqb}
 use borrow.Author.Tests.{ltb-true}
 use Rattle.below.proofs.Tests.{by-cases}
 use Rattle.below.proofs.Search.{firstBelow-first, firstBelow-ext}
-use Rattle.plan.specs.Check.{faultAt, firstFault, over, collide, partner, collider}
+use Rattle.below.proofs.Every.{allBelow-ext}
+use Rattle.below.proofs.Same.{pairs-ext, listed-ext}
+use Rattle.plan.specs.Check.{faultAt, firstFault, over, collide, apart, partner, collider}
 use Rattle.plan.specs.Answers.{checkOf}
-use Rattle.plan.specs.Dependencies.{follows, isLast, isFixed, flagOf, dependencyTotal, column}
-use Rattle.reading.proofs.Extra.{pairs-ext, listed-ext}
+use Rattle.plan.specs.Dependencies.{follows, isLast, isFixed, flagOf, dependencyTotal, column, exact, right}
 
 module _ (own own′ loc time : ℕ → ℕ) (n : ℕ) (owners : (v : ℕ) → v < n → own v ≡ own′ v) where
   over-same : (v t : ℕ) → v < n → over own time n v t ≡ over own′ time n v t
@@ -19,6 +20,10 @@ module _ (own own′ loc time : ℕ → ℕ) (n : ℕ) (owners : (v : ℕ) → v
   collide-same : (v w : ℕ) → v < n → w < n → collide own loc time n v w ≡ collide own′ loc time n v w
   unfolding collide
   collide-same v w l k = rw (owners v l, owners w k, over-same v (time w) l, over-same w (time v) k) refl
+
+  apart-same : apart own loc time n ≡ apart own′ loc time n
+  unfolding apart
+  apart-same = allBelow-ext n _ _ (λ v l. allBelow-ext n _ _ (λ w k. ap not (collide-same v w l k)))
 
   partner-same : (v : ℕ) → v < n → partner own loc time n v ≡ partner own′ loc time n v
   partner-same v l = firstBelow-ext n (collide own loc time n v) (collide own′ loc time n v) (λ w k. collide-same v w l k)
@@ -36,6 +41,15 @@ module _ (own own′ loc time : ℕ → ℕ) (n : ℕ) (owners : (v : ℕ) → v
 
   pub column-same : (f g : ℕ → ℕ → ℕ) → ((v w : ℕ) → v < n → w < n → f v w ≡ g v w) → column own loc time n f ≡ column own′ loc time n g
   column-same f g e = listed-ext (follows own loc time) (follows own′ loc time) n follows-same f g e
+
+  module _ (m : ℕ) (xs xs′ ys ys′ : ℕ → ℕ) (first : (k : ℕ) → k < m → xs k ≡ xs′ k) (second : (k : ℕ) → k < m → ys k ≡ ys′ k) where
+    exact-same : exact own loc time n m xs ys ≡ exact own′ loc time n m xs′ ys′
+    unfolding exact
+    exact-same = rw (total-same, column-same (λ v w. v) (λ v w. v) (λ v w l k. refl), column-same (λ v w. w) (λ v w. w) (λ v w l k. refl)) (ap (λ (b : Bool). eqb m (dependencyTotal own′ loc time n) && b) (allBelow-ext m _ _ (λ k l. rw (first k l, second k l) refl)))
+
+    pub right-same : right own loc time n m xs ys ≡ right own′ loc time n m xs′ ys′
+    unfolding right
+    right-same = rw (apart-same, exact-same) refl
 
   -- the stop that a collision is reported with is one of the n
   partner-in : collider own loc time n < n → partner own loc time n (collider own loc time n) < n

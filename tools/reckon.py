@@ -1,0 +1,323 @@
+#!/usr/bin/env python3
+"""An independent reckoning of the program `field`, written from document 01 alone: plain, slow, unproved.
+
+  tools/reckon.py < INPUT            prints what `field` must print
+  tools/reckon.py --against PROGRAM [COUNT [SEED]]
+                                     makes COUNT inputs, valid and damaged, and compares the program's output with the reckoning
+"""
+import random
+import subprocess
+import sys
+
+TEXT, DRONES, STOPS, NAME, LOCATION, TIME, DEPENDENCIES, INPUT = 32768, 32, 1024, 24, 65535, 1000000, 2048, 65536
+LETTERS = set(b"abcdefghijklmnopqrstuvwxyz0123456789-")
+
+
+class Refused(Exception):
+    def __init__(self, number):
+        self.number = number
+
+
+def number(field):
+    """A decimal of one to seven digits without sign or leading zero."""
+    if not 1 <= len(field) <= 7 or any(not 48 <= b <= 57 for b in field) or (len(field) > 1 and field[0] == 48):
+        raise Refused(2)
+    return int(field)
+
+
+class Lines:
+    def __init__(self, text):
+        self.text, self.at = text, 0
+
+    def next(self, key):
+        end = self.text.find(b"\n", self.at)
+        if end < 0 or not self.text[self.at:end].startswith(key):
+            raise Refused(2)
+        body = self.text[self.at + len(key):end]
+        self.at = end + 1
+        return body
+
+
+def within(n, low, high):
+    if not low <= n <= high:
+        raise Refused(4)
+    return n
+
+
+def read(text):
+    """The routes of a plan text, or its refusal."""
+    if len(text) > TEXT:
+        raise Refused(1)
+    lines = Lines(text)
+    if lines.next(b"plan=") != b"1":
+        raise Refused(2)
+    drones = within(number(lines.next(b"agents=")), 1, DRONES)
+    names, routes, total = [], [], 0
+    for _ in range(drones):
+        name = lines.next(b"name=")
+        if not 1 <= len(name) <= NAME or any(b not in LETTERS for b in name):
+            raise Refused(3)
+        if name in names:
+            raise Refused(5)
+        names.append(name)
+        stops = within(number(lines.next(b"stops=")), 1, STOPS)
+        total += stops
+        if total > STOPS:
+            raise Refused(6)
+        route = []
+        for _ in range(stops):
+            body = lines.next(b"go=")
+            if body.count(b"@") != 1:
+                raise Refused(2)
+            place, time = (number(x) for x in body.split(b"@"))
+            route.append((within(place, 0, LOCATION), within(time, 0, TIME)))
+        routes.append(route)
+    if lines.next(b"end=plan") != b"" or lines.at != len(text):
+        raise Refused(2)
+    return routes
+
+
+def check(routes):
+    for route in routes:
+        for k, (place, time) in enumerate(route):
+            if k == 0:
+                if time != 0:
+                    raise Refused(7)
+            elif time <= route[k - 1][1]:
+                raise Refused(8)
+            elif place == route[k - 1][0]:
+                raise Refused(9)
+    visits = [(d, k, place, time, route[k + 1][1] if k + 1 < len(route) else float("inf")) for d, route in enumerate(routes) for k, (place, time) in enumerate(route)]
+    by_place = {}
+    for v in visits:
+        by_place.setdefault(v[2], []).append(v)
+    waits = []
+    for here in by_place.values():
+        for a in here:
+            for b in here:
+                if a[0] < b[0] and a[3] <= b[4] and b[3] <= a[4]:
+                    raise Refused(10)
+                if a[0] != b[0] and a[3] < b[3]:
+                    waits.append((a[0], a[1], b[0], b[1]))
+    if len(waits) > DEPENDENCIES:
+        raise Refused(11)
+    return sorted(waits)
+
+
+class Field:
+    def __init__(self, routes, dependencies):
+        self.last = [len(r) - 1 for r in routes]
+        self.dependencies = dependencies
+        self.place = [0] * len(routes)
+        self.under_way = [False] * len(routes)
+        self.turned = [False] * len(dependencies)
+
+    def in_force(self, w, turned):
+        a, s, b, k = self.dependencies[w]
+        return (b, k, a, s) if turned[w] else (a, s, b, k)
+
+    def unmet(self, d, place):
+        """The dependencies into the drone's next stop whose awaited stop is not visited."""
+        for w in range(len(self.dependencies)):
+            a, s, b, k = self.in_force(w, self.turned)
+            if b == d and k == place[d] + 1 and place[a] < s + 1:
+                yield w
+
+    def entered(self, d, k):
+        return k <= self.place[d] or (self.under_way[d] and k == self.place[d] + 1)
+
+    def grant(self, d):
+        if d >= len(self.last):
+            return "20"
+        if self.place[d] >= self.last[d]:
+            return "21"
+        if self.under_way[d]:
+            return "22"
+        for w in self.unmet(d, self.place):
+            return "23:%d" % w
+        self.under_way[d] = True
+        return "0"
+
+    def arrive(self, d):
+        if d >= len(self.last):
+            return "20"
+        if not self.under_way[d]:
+            return "24"
+        self.place[d] += 1
+        self.under_way[d] = False
+        return "0"
+
+    def cyclic(self, turned):
+        """Stops are removed once nothing that they await is left."""
+        awaits = {(d, k): set() for d, last in enumerate(self.last) for k in range(last + 1)}
+        for (d, k), before in awaits.items():
+            if k:
+                before.add((d, k - 1))
+        for w in range(len(self.dependencies)):
+            a, s, b, k = self.in_force(w, turned)
+            awaits[(b, k)].add((a, s + 1))
+        while True:
+            free = [v for v, before in awaits.items() if not before]
+            if not free:
+                return bool(awaits)
+            for v in free:
+                del awaits[v]
+            for before in awaits.values():
+                before.difference_update(free)
+
+    def turn(self, w):
+        if w >= len(self.dependencies):
+            return "30"
+        a, s, b, k = self.dependencies[w]
+        if s == 0 or k == self.last[b]:
+            return "31"
+        first, first_stop, second, second_stop = self.in_force(w, self.turned)
+        if self.entered(first, first_stop):
+            return "32"
+        if self.entered(second, second_stop):
+            return "33"
+        turned = self.turned[:]
+        turned[w] = not turned[w]
+        if self.cyclic(turned):
+            return "34"
+        self.turned = turned
+        return "0"
+
+    def cost(self, _):
+        place, total = self.place[:], 0
+        while True:
+            left = [d for d, last in enumerate(self.last) if place[d] < last]
+            if not left:
+                return str(total)
+            total += len(left)
+            goers = [d for d in left if not any(True for _ in self.unmet(d, place))]
+            for d in goers:
+                place[d] += 1
+
+
+def reckon(data):
+    if len(data) > INPUT:
+        return b"plan=1\n"
+    at = 0
+    while not data.startswith(b"end=plan\n", at):
+        at = data.find(b"\n", at) + 1
+        if at == 0:
+            at = len(data)
+            break
+    else:
+        at += len(b"end=plan\n")
+    try:
+        routes = read(data[:at])
+        field = Field(routes, check(routes))
+    except Refused as refused:
+        return b"plan=%d\n" % refused.number
+    out = [b"plan=0\n"]
+    calls = {b"grant": field.grant, b"arrive": field.arrive, b"turn": field.turn, b"cost": field.cost}
+    while at < len(data):
+        end = data.find(b"\n", at)
+        key, sep, digits = data[at:end].partition(b"=") if end >= 0 else (b"", b"", b"")
+        if key not in calls or not sep:
+            return b"".join(out) + b"call=2\n"
+        try:
+            n = number(digits)
+        except Refused:
+            return b"".join(out) + b"call=2\n"
+        if n > (0 if key == b"cost" else 65535):
+            return b"".join(out) + b"call=4\n"
+        out.append(key + b"=" + calls[key](n).encode() + b"\n")
+        at = end + 1
+    return b"".join(out) + b"end=calls\n"
+
+
+# ---- inputs of our own
+
+def plan(rng):
+    """Routes over few locations; a stop that would collide is put off or left out."""
+    drones = rng.choice([1, 2, 2, 3, 4, 6, 12])
+    places = rng.choice([3, 6, 10, 40])
+    spans, routes = [], []
+    for d in range(drones):
+        route, time = [], 0
+        for k in range(rng.randint(1, rng.choice([3, 6, 12]))):
+            place = rng.randrange(places) if k else 100 + d
+            if route and place == route[-1][0]:
+                continue
+            route.append((place, time))
+            time += rng.randint(1, 9)
+        while route:
+            mine = [(p, t, route[k + 1][1] if k + 1 < len(route) else float("inf")) for k, (p, t) in enumerate(route)]
+            clash = [k for k, (p, t, e) in enumerate(mine) if any(p == q and t <= f and u <= e for q, u, f in spans)]
+            if not clash or rng.random() < 0.01:
+                break
+            k = clash[0]
+            if k and rng.random() < 0.7:
+                shift = rng.randint(1, 30)
+                route = route[:k] + [(p, t + shift) for p, t in route[k:]]
+            else:
+                route = route[:max(k, 1)] if k else route[:1]
+            if max(t for _, t in route) > 2000:
+                route = route[:1]
+        spans += [(p, t, route[k + 1][1] if k + 1 < len(route) else float("inf")) for k, (p, t) in enumerate(route)]
+        routes.append(route)
+    return routes
+
+
+def text_of(rng, routes):
+    lines = ["plan=1", "agents=%d" % len(routes)]
+    for d, route in enumerate(routes):
+        lines += ["name=survey-quad-east-%d" % d if rng.random() < 0.98 else "name=survey", "stops=%d" % len(route)]
+        lines += ["go=%d@%d" % stop for stop in route]
+    return "\n".join(lines + ["end=plan", ""]).encode()
+
+
+def calls_of(rng, routes):
+    lines = []
+    for _ in range(rng.randint(0, 80)):
+        kind = rng.choice(["grant", "grant", "grant", "arrive", "arrive", "turn", "cost"])
+        lines.append("%s=%d" % (kind, 0 if kind == "cost" else rng.randrange(12) if kind == "turn" else rng.randrange(len(routes) + (rng.random() < 0.1))))
+    if rng.random() < 0.1:
+        lines.append(rng.choice(["grant=65536", "cost=1", "grant=01", "Grant=0", "turn=", "cost=0 ", "grant=99999999"]))
+    return "".join(line + "\n" for line in lines).encode()
+
+
+def damaged(rng, data):
+    data = bytearray(data)
+    for _ in range(rng.randint(1, 2)):
+        i = rng.randrange(len(data))
+        what = rng.randrange(4)
+        if what == 0:
+            del data[i]
+        elif what == 1:
+            data[i] = rng.choice(b"0123456789=@\na-zA ")
+        elif what == 2:
+            data.insert(i, rng.choice(b"0123456789=@\na-z"))
+        else:
+            del data[i:]
+        if not data:
+            break
+    return bytes(data)
+
+
+def against(program, count, seed):
+    rng, seen = random.Random(seed), {}
+    for i in range(count):
+        routes = plan(rng)
+        data = text_of(rng, routes) + calls_of(rng, routes)
+        if rng.random() < 0.3:
+            data = damaged(rng, data)
+        got, want = subprocess.run([program], input=data, capture_output=True).stdout, reckon(data)
+        if got != want:
+            sys.exit("input %d of seed %d differs:\n%s--- printed\n%s--- reckoned\n%s" % (i, seed, data.decode("latin1"), got.decode("latin1"), want.decode("latin1")))
+        for line in want.split(b"\n"):
+            key = line.split(b":")[0] if not line.startswith(b"cost") else b"cost"
+            seen[key] = seen.get(key, 0) + 1
+    print("%d inputs agree; lines seen: %s" % (count, ", ".join("%s %d" % (k.decode(), n) for k, n in sorted(seen.items()) if k)))
+
+
+if __name__ == "__main__":
+    if len(sys.argv) > 2 and sys.argv[1] == "--against":
+        against(sys.argv[2], int(sys.argv[3]) if len(sys.argv) > 3 else 1000, int(sys.argv[4]) if len(sys.argv) > 4 else 1)
+    elif len(sys.argv) == 1:
+        sys.stdout.buffer.write(reckon(sys.stdin.buffer.read(INPUT + 1)))
+    else:
+        sys.exit(__doc__)
