@@ -2,38 +2,48 @@
 use mathlib.Core.Path.{_≡_, refl, sym, ap, _∙_, subst}
 use mathlib.Core.Bool.{Bool, true, false}
 use mathlib.Core.List.{List}
-use Prim.Native.Nat.{ℕ, _+_, _-_, _≤_, _<_}
+use Prim.Native.Nat.{ℕ, _+_, _≤_, _<_}
 use native.Mathlib.Omega.{arith}
-use lib.ListN.{length}
 use borrow.Author.Tests.{not-true}
 use Rattle.below.specs.Below.{allBelow, at}
 use Rattle.below.proofs.Tests.{and-left, and-right}
-use Rattle.tables.specs.Limits.{limits}
-use Rattle.tables.specs.Tables.{PlanLists, Tables, drones, dependencies, Sizes}
-use Rattle.tables.proofs.SizeLaws.{full-sizes}
+use Rattle.tables.specs.Limits.{Limits, limits}
+use Rattle.tables.specs.Tables.{PlanLists, Tables, drones, dependencies, fullSize}
 use Rattle.precedence.specs.Graph.{Plan, Wait, Kept, cyclic, cost}
-use Rattle.plan.specs.Stops.{start, owner, number}
+use Rattle.plan.specs.Stops.{start, number}
 use Rattle.plan.specs.Room.{Counts}
 use Rattle.plan.specs.Dependencies.{right}
-use Rattle.plan.specs.Field.{planOf, graph, fixed}
+use Rattle.plan.specs.Field.{planOf, graph}
 use Rattle.plan.specs.Status.{statusIn}
 use Rattle.cycles.specs.Flat.{flatPlan}
 use Rattle.cycles.specs.Waits.{fromOf, intoOf, turnedIn, Given, graphSound}
 use Rattle.cycles.proofs.Directed.{same-wait as flat-wait, given-tables, given-cyclic}
+use Rattle.sound.specs.Sound.{sound}
 use Rattle.sound.specs.Asked.{Counted, Columns, Numbers, Through}
-use Rattle.sound.specs.Parts.{stopSound, stopIn, flagRight, graphPart}
+use Rattle.sound.specs.Parts.{stopSound, stopIn, graphPart}
 use Rattle.sound.proofs.Clauses.{sound-says}
 use Rattle.sound.proofs.Whole.{Parts, sound-parts, counted}
 use Rattle.sound.proofs.Local.{Known, first-limit, second-limit, first-number, second-number, code-given, code-graph, same-wait}
 use Rattle.rounds.specs.Remaining.{SamePlan, Ready}
 use Rattle.rounds.proofs.SamePlans.{same-cost}
 use Rattle.rounds.proofs.Readiness.{ready-formed}
-use Rattle.log.specs.Calls.{costs, costReply}
+use Rattle.log.specs.Calls.{costs, costRefused, costReply}
 use Rattle.log.specs.Claims.{Usable}
 use Rattle.log.proofs.Costs.{kept}
-use Rattle.log.proofs.Steps.{cost-0}
+use Rattle.log.proofs.Steps.{cost-41, cost-40, cost-0}
 use Rattle.conductor.specs.InForce.{Numberable, WaitsInForce}
 use Rattle.conductor.proofs.Facts.{Facts, facts}
+
+-- ---- 41 and 40
+
+module _ (L : Limits) (t : Tables) where
+  pub costs-41 : fullSize L t ≡ false → costRefused 41 ≡ costReply L t
+  costs-41 e = sym (cost-41 L t e)
+
+  pub costs-40 : (fullSize L t ≡ true) × (sound L t ≡ false) → costRefused 40 ≡ costReply L t
+  costs-40 (f, e) = sym (cost-40 L t f e)
+
+-- ---- the cost of usable tables
 
 -- a side that is numbered through stays within the limits
 pub side-small : (starts of stops : List ℕ) (m : ℕ) (flat : List ℕ) → Through starts of stops m flat → ((k : ℕ) → k < m → at starts (at of k) + at stops k < limits .stops) → (k : ℕ) → k < m → at flat k < limits .stops
