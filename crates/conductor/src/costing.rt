@@ -72,7 +72,7 @@ pub fn cost_sound(
     let mut owners = [0u8; 1024];
     let mut numbers = [0u16; 1024];
     let mut starts = [0u16; 32];
-    let mut lasts = [0u16; 32];
+    let mut ends = [0u16; 32];
     fill_tables(
         drones,
         n,
@@ -81,7 +81,7 @@ pub fn cost_sound(
         &mut owners,
         &mut numbers,
         &mut starts,
-        &mut lasts,
+        &mut ends,
     );
     let mut from = [0u16; 2048];
     let mut into = [0u16; 2048];
@@ -96,7 +96,5 @@ pub fn cost_sound(
         &mut from,
         &mut into,
     );
-    remaining_cost(
-        &owners, &starts, &lasts, drones, n, &from, &into, m, visited,
-    )
+    remaining_cost(&owners, &starts, &ends, drones, n, &from, &into, m, visited)
 }
