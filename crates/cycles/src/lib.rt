@@ -3,7 +3,7 @@
 mod casts;
 mod certificates;
 mod moves;
-mod search;
+pub mod search;
 pub mod waits;
 
 ghost use mathlib.Core.Path.{_≡_};

@@ -5,13 +5,13 @@ use crate::casts::wide8;
 ghost use Prim.Native.Nat.{_≤_, _<_};
 ghost use Rattle.tables.specs.Limits.{limits};
 
-fn get(s: &[u16; 1024], i: usize) -> usize
+pub fn get(s: &[u16; 1024], i: usize) -> usize
     ensures { λ r. ⌜ r < 65536 ⌝ }
 {
     if i < 1024 { wide(s[i]) } else { 0 }
 }
 
-fn put(s: &mut [u16; 1024], i: usize, x: usize) {
+pub fn put(s: &mut [u16; 1024], i: usize, x: usize) {
     if i < 1024 {
         if x < 65536 {
             s[i] = x as u16;
@@ -19,7 +19,7 @@ fn put(s: &mut [u16; 1024], i: usize, x: usize) {
     }
 }
 
-fn edge(s: &[u16; 2048], k: usize) -> usize
+pub fn edge(s: &[u16; 2048], k: usize) -> usize
     ensures { λ r. ⌜ r < 65536 ⌝ }
 {
     if k < 2048 { wide(s[k]) } else { 0 }

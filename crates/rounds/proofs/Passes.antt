@@ -13,7 +13,7 @@ use borrow.Author.Tests.{leb-true, leb-false, eqb-true, eqb-false, le-leb, lt-le
 use Rattle.below.proofs.Greatest.{max-at, max-ext}
 use Rattle.below.proofs.Tests.{by-cases, true-or-false}
 use Rattle.below.specs.Below.{pick, maxBelow, at}
-use Rattle.rounds.specs.StopTable.{latestAwaited, roundAfter, entryBy, Solution, Settled, Passed, Solved}
+use Rattle.rounds.specs.StopTable.{latestAwaited, roundAfter, entryBy, Solution, Settled, Passed, Solved, SamePast}
 
 -- the entry by the order in which code asks
 module _ (cap number place before awaited : ℕ) where
@@ -132,6 +132,14 @@ module _ (cap : ℕ) (own off from into : ℕ → ℕ) (m : ℕ) (p : ℕ → �
     better = λ r s k b v l c. passing .done r s k b v l (omega arith) c;
     solved = λ e r s v l. ap (λ (y : List ℕ). at y v) (passing .same e .0) ∙ certificate r s (at before) (λ v l. passing .same e .1 v (omega arith)) v l;
   }
+
+-- ---- the table that passes begin with
+
+pub same-past : (n : ℕ) (t : List ℕ) → SamePast n t t
+same-past n t = record { long = refl; past = λ v h. refl }
+
+pub same-past-set : (n : ℕ) (before t : List ℕ) (i x : ℕ) → SamePast n before t → i < n → SamePast n before (set t i x)
+same-past-set n before t i x same l = record { long = length-set t i x ∙ same .long; past = λ v h. getD-set-other t i v x 0 (λ e. omega arith) ∙ same .past v h }
 
 -- ---- pass after pass
 

@@ -60,10 +60,10 @@ module _ (owners starts lasts : List ℕ) (drones n : ℕ) (from into : List ℕ
   ready-solution : Solution (limits .stops) (at owners) (at starts) (at from) (at into) m (at visited) n R
   ready-solution = rounds-solve (at owners) (at starts) (at lasts) drones n (at from) (at into) m (ready .tables .placed) (at visited) ready-acyclic (ready .kept) (limits .stops) (λ v l. omega (arith, ready-unvisited, ready .tables .placed .shape .own-in v l))
 
-  -- what passes over a table of zeros end with
-  pub ready-table : (zeros t : List ℕ) → length zeros ≡ limits .stops → ((v : ℕ) → at zeros v ≡ 0) → Solved (limits .stops) (at owners) (at starts) (at from) (at into) m (at visited) n zeros t → t ≡ stopRounds limits (at owners) (at starts) (at lasts) drones n (at from) (at into) m (at visited)
-  ready-table zeros t long none solved =
-      table-is (at owners) (at starts) (at lasts) drones n (at from) (at into) m (ready .tables .placed) (at visited) limits (ready .tables .few-stops) t (solved .long ∙ long) (solved .solved R ready-solution) (λ v h. solved .past v h ∙ none v)
+  -- what passes end with, whatever the first n entries are at first
+  pub ready-table : (first t : List ℕ) → length first ≡ limits .stops → ((v : ℕ) → n ≤ v → at first v ≡ 0) → Solved (limits .stops) (at owners) (at starts) (at from) (at into) m (at visited) n first t → t ≡ stopRounds limits (at owners) (at starts) (at lasts) drones n (at from) (at into) m (at visited)
+  ready-table first t long none solved =
+      table-is (at owners) (at starts) (at lasts) drones n (at from) (at into) m (ready .tables .placed) (at visited) limits (ready .tables .few-stops) t (solved .long ∙ long) (solved .solved R ready-solution) (λ v h. solved .past v h ∙ none v h)
 
   -- a table of the rounds
   module _ (t : List ℕ) (e : t ≡ stopRounds limits (at owners) (at starts) (at lasts) drones n (at from) (at into) m (at visited)) where

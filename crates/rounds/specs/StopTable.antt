@@ -47,6 +47,11 @@ module _ (cap : ℕ) (own off from into : ℕ → ℕ) (m : ℕ) (p : ℕ → �
     pub past : (v : ℕ) → n ≤ v → at after v ≡ at before v
     pub solved : (r : ℕ → ℕ) → Solution cap own off from into m p n r → (v : ℕ) → v < n → at after v ≡ r v
 
+-- the tables are the same but for the first n entries
+pub record SamePast (n : ℕ) (before after : List ℕ) : Type 0 where
+  pub long : length after ≡ length before
+  pub past : (v : ℕ) → n ≤ v → at after v ≡ at before v
+
 -- what a pass asks of the tables: every stop has a drone with a place, and every wait is between stops
 pub record Passable (L : Limits) (owners : List ℕ) (off : ℕ → ℕ) (n : ℕ) (from into : ℕ → ℕ) (m : ℕ) (visited : List ℕ) : Type 0 where
   pub waits : WaitsIn L owners off from into m

@@ -1,5 +1,6 @@
-// Each stop's round in a local table of 64-bit numbers: the number of stops in the longest chain of unvisited stops that ends there. Passes over the table
-// recompute every entry from those of what its stop awaits, until a pass changes nothing; whatever the table was at first, it then holds the rounds.
+// Each stop's round in a local table of 64-bit numbers: the number of stops in the longest chain of unvisited stops that ends there. The table is first filled in
+// an order in which each stop comes after what it awaits. Passes over it then recompute every entry from those of what its stop awaits, until a pass changes
+// nothing; whatever the table was at first, it then holds the rounds. Where the order is right the first pass changes nothing.
 ghost use mathlib.Core.Path.{_≡_};
 ghost use Prim.Native.Nat.{ℕ, _+_, _-_, _≤_, _<_, max, min};
 ghost use lib.ListN.{length};
@@ -8,9 +9,12 @@ ghost use Rattle.tables.specs.Limits.{limits};
 ghost use Rattle.precedence.specs.Graph.{cost};
 ghost use Rattle.cycles.specs.Flat.{flatPlan};
 ghost use Rattle.rounds.specs.Remaining.{Ready, StopIn, WaitsIn, stopRounds};
-ghost use Rattle.rounds.specs.StopTable.{latestAwaited, roundAfter, Passable, Passed, Solved};
+ghost use Rattle.rounds.specs.StopTable.{latestAwaited, roundAfter, Passable, Passed, SamePast, Solved};
+use crate::order::stop_order;
 use crate::widths::wide;
 use crate::widths::wide8;
+use cycles::search::edge;
+use cycles::search::get;
 
 // For each stop the greatest entry among those that its waits await.
 fn latest_awaited(
@@ -121,6 +125,96 @@ fn settle(
     }
 }
 
+// Stop x awaits a stop with that entry.
+fn raise(latest: &mut [u64; 1024], x: usize, entry: u64) {
+    if x < 1024 {
+        latest[x] = greater(latest[x], entry);
+    }
+}
+
+// The stops that await a stop with that entry: its first wait is first - 1, the one after wait k is next[k] - 1.
+fn raise_all(
+    into: &[u16; 2048],
+    m: usize,
+    next: &[u16; 2048],
+    latest: &mut [u64; 1024],
+    first: usize,
+    entry: u64,
+) {
+    let mut k = first;
+    let mut left = m;
+    while 0 < left {
+        if k == 0 {
+            return;
+        }
+        raise(latest, edge(into, k - 1), entry);
+        k = edge(next, k - 1);
+        left -= 1;
+    }
+}
+
+// Fills the table in that order of the stops.
+fn fill_in_order(
+    owners: &[u8],
+    starts: &[u16; 32],
+    n: usize,
+    into: &[u16; 2048],
+    m: usize,
+    visited: &[u16],
+    order: &[u16; 1024],
+    head: &[u16; 1024],
+    next: &[u16; 2048],
+    table: &mut [u64; 1024],
+)
+    requires { ⌜ (n ≤ limits .stops) × ((v : ℕ) → v < n → StopIn limits (now owners) (at (now starts)) v) × ((v : ℕ) → v < n → at (now owners) v < length (now visited)) × (length (now table) ≡ 1024) ⌝ }
+    ensures { λ _. ⌜ SamePast n (now (table .entry)) (now (table .exit)) ⌝ }
+{
+    let mut latest = [0u64; 1024];
+    let mut i = 0;
+    while i < n {
+        let v = wide(order[i]);
+        if n <= v {
+            return;
+        }
+        let entry = entry_of(owners, starts, visited, &latest, table, v);
+        table[v] = entry;
+        raise_all(into, m, next, &mut latest, get(head, v), entry);
+        i += 1;
+    }
+}
+
+// The table that passes begin with: the entries past the n stops are 0.
+fn first_table(
+    owners: &[u8],
+    starts: &[u16; 32],
+    n: usize,
+    from: &[u16; 2048],
+    into: &[u16; 2048],
+    m: usize,
+    visited: &[u16],
+) -> [u64; 1024]
+    requires { ⌜ Passable limits (now owners) (at (now starts)) n (at (now from)) (at (now into)) m (now visited) ⌝ }
+    ensures { λ r. ⌜ (length r ≡ 1024) × ((v : ℕ) → n ≤ v → at r v ≡ 0) ⌝ }
+{
+    let mut head = [0u16; 1024];
+    let mut next = [0u16; 2048];
+    let order = stop_order(owners, n, from, into, m, &mut head, &mut next);
+    let mut table = [0u64; 1024];
+    fill_in_order(
+        owners,
+        starts,
+        n,
+        into,
+        m,
+        visited,
+        &order,
+        &head,
+        &next,
+        &mut table,
+    );
+    table
+}
+
 // Each stop's round.
 pub fn stop_rounds(
     owners: &[u8],
@@ -136,7 +230,7 @@ pub fn stop_rounds(
     requires { ⌜ Ready (now owners) (now starts) (now lasts) drones n (now from) (now into) m (now visited) ⌝ }
     ensures { λ r. ⌜ r ≡ stopRounds limits (at (now (owners .entry))) (at (now (starts .entry))) (at (now (lasts .entry))) drones n (at (now (from .entry))) (at (now (into .entry))) m (at (now (visited .entry))) ⌝ }
 {
-    let mut table = [0u64; 1024];
+    let mut table = first_table(owners, starts, n, from, into, m, visited);
     settle(owners, starts, n, from, into, m, visited, &mut table);
     table
 }
