@@ -2,12 +2,16 @@
 use mathlib.Core.Path.{_≡_, refl, sym, ap, _∙_}
 use mathlib.Core.Logic.{_≢_, inr}
 use mathlib.Core.List.{List}
-use mathlib.Core.Bool.{Bool, true, false, not}
+use mathlib.Core.Bool.{Bool, true, false, not, _&&_, _||_}
 use Prim.Native.Nat.{ℕ, _+_, _<_}
 use native.Mathlib.Omega.{arith}
+use lib.Dec.{ltb, eqb}
 use lib.ListN.{length, set, length-set}
-use Rattle.below.specs.Below.{at, pick}
-use Rattle.below.proofs.Tests.{by-cases, true-or-false}
+use borrow.Author.Tests.{lt-ltb, ltb-true, eqb-true}
+use Rattle.below.specs.Below.{at, pick, countBelow}
+use Rattle.below.proofs.Tests.{by-cases, true-or-false, and-both}
+use Rattle.below.proofs.Every.{allBelow-all}
+use Rattle.below.proofs.Count.{count-yes, count-no, count-none}
 use Rattle.below.proofs.Index.{fill-more}
 use Rattle.tables.specs.Limits.{limits}
 use Rattle.precedence.specs.Graph.{Fewer, cyclic}
@@ -17,7 +21,14 @@ use Rattle.cycles.specs.Waits.{fromOf, intoOf, turnedIn, Edges, Unfixed,
 use Rattle.plan.specs.Dependencies.{right}
 use Rattle.meetings.specs.Meetings.{Steady}
 use Rattle.meetings.proofs.Right.{Entry, right-entry}
-use Rattle.cycles.proofs.Certified.{formed}
+use Rattle.cycles.specs.Certificates.{stepRises, waitRises, ordered}
+use Rattle.cycles.proofs.Certified.{formed, ordered-acyclic}
+
+-- a running count of the turned ones
+pub turned-more : (f : ℕ → Bool) (k c x : ℕ) (t : Bool) → c ≡ countBelow k f → t ≡ f k → x ≡ pick t 1 0 → c + x ≡ countBelow (k + 1) f
+turned-more f k c x t e q p = by-cases (f k)
+    (λ h. rw (count-yes k f h) (let z : x ≡ 1 = rw (q, h) at p in omega arith))
+    (λ h. rw (count-no k f h) (let z : x ≡ 0 = rw (q, h) at p in omega arith))
 
 module _ (own off last loc time : ℕ → ℕ) (drones n m : ℕ) (xs ys : ℕ → ℕ) (turned : ℕ → Bool) where
   pub right-placed : Shape own off last drones n → Steady own loc time n → ((v : ℕ) → v < n → v ≡ off (own v) → time v ≡ 0) → right own loc time n m xs ys ≡ true → Unfixed own off last loc time drones n m xs ys turned
@@ -91,6 +102,22 @@ module _ (owners locations times starts lasts firsts seconds flags : List ℕ) (
 
   given-placed : PlacedWaits (at owners) (at starts) (at lasts) drones n (fromOf (at firsts) (at seconds) (turnedIn flags)) (intoOf (at firsts) (at seconds) (turnedIn flags)) m
   given-placed = right-placed (at owners) (at starts) (at lasts) (at locations) (at times) drones n m (at firsts) (at seconds) (turnedIn flags) (G .shape) (G .stops .steady) (G .zero-time) e (G .unfixed)
+
+  -- nothing is turned: the planned times rise along every edge
+  unturned-ordered : ((k : ℕ) → k < m → turnedIn flags k ≡ false) → ordered (at owners) n (fromOf (at firsts) (at seconds) (turnedIn flags)) (intoOf (at firsts) (at seconds) (turnedIn flags)) m (at times) ≡ true
+  unfolding ordered stepRises waitRises
+  unturned-ordered h = and-both _ _ (allBelow-all n _ step) (allBelow-all m _ (λ k l. rw (h k l) (lt-ltb _ _ (given-entry k l .leaves))))
+    where
+      step : (v : ℕ) → v < n → (not (ltb (v + 1) n && eqb (at owners (v + 1)) (at owners v)) || ltb (at times v) (at times (v + 1))) ≡ true
+      step v l = by-cases (ltb (v + 1) n)
+          (λ a. by-cases (eqb (at owners (v + 1)) (at owners v))
+          (λ b. rw (a, b) (lt-ltb _ _ (G .stops .steady v (ltb-true (v + 1) n a) (eqb-true _ _ b))))
+          (λ b. rw (a, b) refl))
+          (λ a. rw a refl)
+
+  pub given-unturned : (t : ℕ) → t ≡ countBelow m (turnedIn flags) → t ≡ 0 → true ≡ graphSound (at owners) (at starts) (at lasts) (at locations) (at times) drones n m (at firsts) (at seconds) (turnedIn flags)
+  given-unturned t q z = graph-right (at owners) (at starts) (at lasts) (at locations) (at times) drones n m (at firsts) (at seconds) (turnedIn flags) false e
+      (sym (ordered-acyclic (at owners) (at starts) (at lasts) drones n _ _ m given-placed (at times) (unturned-ordered (count-none m (turnedIn flags) (sym q ∙ z)))))
 
   module _ (from into : List ℕ) (E : Edges firsts seconds flags m from into) where
     pub given-tables : FlatTables owners starts lasts drones n from into m

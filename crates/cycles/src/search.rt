@@ -1,5 +1,5 @@
 // The search for a certificate: the stops are taken in topological order (Kahn's algorithm). Nothing is proved of it but that it is safe and ends; what it finds is tested
-// by the certificates. Every access has a bound test, so that no invariant of the search is needed.
+// by the certificates. Every index is taken modulo the table's size, so that no invariant of the search is needed and no access has a branch.
 use crate::casts::wide;
 use crate::casts::wide8;
 ghost use Prim.Native.Nat.{_≤_, _<_};
@@ -8,43 +8,31 @@ ghost use Rattle.tables.specs.Limits.{limits};
 pub fn get(s: &[u16; 1024], i: usize) -> usize
     ensures { λ r. ⌜ r < 65536 ⌝ }
 {
-    if i < 1024 { wide(s[i]) } else { 0 }
+    wide(s[i % 1024])
 }
 
-pub fn put(s: &mut [u16; 1024], i: usize, x: usize) {
-    if i < 1024 {
-        if x < 65536 {
-            s[i] = x as u16;
-        }
-    }
+fn put(s: &mut [u16; 1024], i: usize, x: usize) {
+    s[i % 1024] = (x % 65536) as u16;
 }
 
 pub fn edge(s: &[u16; 2048], k: usize) -> usize
     ensures { λ r. ⌜ r < 65536 ⌝ }
 {
-    if k < 2048 { wide(s[k]) } else { 0 }
+    wide(s[k % 2048])
 }
 
 fn put_edge(s: &mut [u16; 2048], k: usize, x: usize) {
-    if k < 2048 {
-        if x < 65536 {
-            s[k] = x as u16;
-        }
-    }
+    s[k % 2048] = (x % 65536) as u16;
 }
 
 fn drone(s: &[u16; 32], d: usize) -> usize
     ensures { λ r. ⌜ r < 65536 ⌝ }
 {
-    if d < 32 { wide(s[d]) } else { 0 }
+    wide(s[d % 32])
 }
 
 fn put_drone(s: &mut [u16; 32], d: usize, x: usize) {
-    if d < 32 {
-        if x < 65536 {
-            s[d] = x as u16;
-        }
-    }
+    s[d % 32] = (x % 65536) as u16;
 }
 
 fn owner(owners: &[u8], v: usize) -> usize {
@@ -55,32 +43,21 @@ fn owner(owners: &[u8], v: usize) -> usize {
     }
 }
 
-// One wait more into the stop x.
-fn raise(need: &mut [u16; 1024], x: usize) {
-    let c = get(need, x);
-    if c < 65535 {
-        put(need, x, c + 1);
-    }
+fn one(b: bool) -> usize
+    ensures { λ r. ⌜ r ≤ 1 ⌝ }
+{
+    if b { 1 } else { 0 }
 }
 
-// One wait less into the stop x. The last one puts it on the stack; answers the stack's new height.
-fn release(need: &mut [u16; 1024], stack: &mut [u16; 1024], top: usize, x: usize) -> usize
-    requires { ⌜ top ≤ limits .stops ⌝ }
-    ensures { λ r. ⌜ r ≤ limits .stops ⌝ }
+// One wait less into the stop x. The last one puts it at the queue's end; answers the new end. The entry at the end is written in any case, so that there is no branch.
+fn release(need: &mut [u16; 1024], queue: &mut [u16; 1024], end: usize, x: usize) -> usize
+    requires { ⌜ end < 65536 ⌝ }
+    ensures { λ r. ⌜ r < 65536 ⌝ }
 {
     let c = get(need, x);
-    if c == 0 {
-        return top;
-    }
-    put(need, x, c - 1);
-    if c != 1 {
-        return top;
-    }
-    if 1024 <= top {
-        return top;
-    }
-    put(stack, top, x);
-    top + 1
+    put(need, x, c + 65535);
+    put(queue, end, x);
+    (end + one(c == 1)) % 65536
 }
 
 // Counts the waits into each stop, and links those out of each stop: head[a] is one more than the first of them, next[k] than the one after k.
@@ -98,7 +75,8 @@ pub fn link(
     while k < m {
         let a = edge(from, k);
         let b = edge(into, k);
-        raise(need, b);
+        let c = get(need, b);
+        put(need, b, c + 1);
         let h = get(head, a);
         put_edge(next, k, h);
         k += 1;
@@ -106,24 +84,17 @@ pub fn link(
     }
 }
 
-// The first stops go on the stack, every other stop waits for the one before it.
-pub fn seed(owners: &[u8], n: usize, need: &mut [u16; 1024], stack: &mut [u16; 1024]) -> usize
-    requires { ⌜ n ≤ limits .stops ⌝ }
-    ensures { λ r. ⌜ r ≤ limits .stops ⌝ }
+// The first stops stand in the queue and wait for nothing.
+pub fn seed(starts: &[u16; 32], drones: usize, need: &mut [u16; 1024], queue: &mut [u16; 1024])
+    requires { ⌜ drones ≤ limits .drones ⌝ }
 {
-    let mut top = 0;
-    let mut last = 256;
-    let mut v = 0;
-    while v < n {
-        let o = owner(owners, v);
-        raise(need, v);
-        if o != last {
-            top = release(need, stack, top, v);
-        }
-        last = o;
-        v += 1;
+    let mut d = 0;
+    while d < drones {
+        let v = drone(starts, d);
+        put(need, v, 0);
+        put(queue, d, v);
+        d += 1;
     }
-    top
 }
 
 // Releases the stops that wait for a, whose first wait is k - 1.
@@ -132,14 +103,14 @@ fn release_all(
     m: usize,
     next: &[u16; 2048],
     need: &mut [u16; 1024],
-    stack: &mut [u16; 1024],
-    top: usize,
+    queue: &mut [u16; 1024],
+    end: usize,
     first: usize,
 ) -> usize
-    requires { ⌜ (m ≤ limits .dependencies) × (top ≤ limits .stops) ⌝ }
-    ensures { λ r. ⌜ r ≤ limits .stops ⌝ }
+    requires { ⌜ (m ≤ limits .dependencies) × (end < 65536) ⌝ }
+    ensures { λ r. ⌜ r < 65536 ⌝ }
 {
-    let mut t = top;
+    let mut t = end;
     let mut k = first;
     let mut left = m;
     while 0 < left {
@@ -147,67 +118,54 @@ fn release_all(
             return t;
         }
         let x = edge(into, k - 1);
-        t = release(need, stack, t, x);
+        t = release(need, queue, t, x);
         k = edge(next, k - 1);
         left -= 1;
     }
     t
 }
 
-// Releases the stop after v, if it is of v's drone o.
-fn release_next(
-    owners: &[u8],
-    n: usize,
-    need: &mut [u16; 1024],
-    stack: &mut [u16; 1024],
-    top: usize,
-    v: usize,
-    o: usize,
-) -> usize
-    requires { ⌜ (top ≤ limits .stops) × (v < 65536) ⌝ }
-    ensures { λ r. ⌜ r ≤ limits .stops ⌝ }
-{
-    let x = v + 1;
-    if n <= x {
-        return top;
-    }
-    if owner(owners, x) != o {
-        return top;
-    }
-    release(need, stack, top, x)
-}
-
-// Takes the stops off the stack one by one, numbers them in pos and releases those that wait for them. cur is each drone's last numbered stop.
+// Takes the stops from the queue one by one, numbers them in pos and releases those that wait for them: the stop after it, which waits for nothing more if it is the first of
+// the next drone, and those of its waits. Answers how many were taken.
 pub fn number(
-    owners: &[u8],
     n: usize,
     into: &[u16; 2048],
     m: usize,
     head: &[u16; 1024],
     next: &[u16; 2048],
     need: &mut [u16; 1024],
-    stack: &mut [u16; 1024],
-    top: usize,
+    queue: &mut [u16; 1024],
+    drones: usize,
     pos: &mut [u16; 1024],
-    cur: &mut [u16; 32],
-)
-    requires { ⌜ (m ≤ limits .dependencies) × (n ≤ limits .stops) × (top ≤ limits .stops) ⌝ }
+) -> usize
+    requires { ⌜ (m ≤ limits .dependencies) × (n ≤ limits .stops) × (drones ≤ limits .drones) ⌝ }
+    ensures { λ r. ⌜ r ≤ n ⌝ }
 {
-    let mut t = top;
+    let mut end = drones;
     let mut count = 0;
     while count < n {
-        if t == 0 {
-            return;
+        if end <= count {
+            return count;
         }
-        t -= 1;
-        let v = get(stack, t);
+        let v = get(queue, count);
         count += 1;
         put(pos, v, count);
-        let o = owner(owners, v);
-        put_drone(cur, o, v);
-        t = release_next(owners, n, need, stack, t, v, o);
+        end = release(need, queue, end, v + 1);
         let h = get(head, v);
-        t = release_all(into, m, next, need, stack, t, h);
+        end = release_all(into, m, next, need, queue, end, h);
+    }
+    count
+}
+
+// Each drone's last numbered stop.
+pub fn reach(owners: &[u8], queue: &[u16; 1024], count: usize, cur: &mut [u16; 32])
+    requires { ⌜ count ≤ limits .stops ⌝ }
+{
+    let mut i = 0;
+    while i < count {
+        let v = get(queue, i);
+        put_drone(cur, owner(owners, v), v);
+        i += 1;
     }
 }
 

@@ -2,7 +2,7 @@
 ghost use mathlib.Core.Path.{_≡_};
 ghost use Prim.Native.Nat.{ℕ, _≤_, _<_};
 ghost use lib.ListN.{length};
-ghost use Rattle.below.specs.Below.{at, pick};
+ghost use Rattle.below.specs.Below.{at, pick, countBelow};
 ghost use Rattle.tables.specs.Limits.{limits};
 ghost use Rattle.cycles.specs.Waits.{turnedIn, Edges};
 
@@ -17,6 +17,26 @@ fn pick16(b: bool, x: u16, y: u16) -> u16
     ensures { λ r. ⌜ r ≡ pick b x y ⌝ }
 {
     if b { x } else { y }
+}
+
+fn one(b: bool) -> u16
+    ensures { λ r. ⌜ (r ≡ pick b 1 0) × (r ≤ 1) ⌝ }
+{
+    if b { 1 } else { 0 }
+}
+
+// How many of the first m dependencies are turned. The loop has no early end, so that many bytes are taken at a time.
+pub fn turned_total(flags: &[u8], m: usize) -> u16
+    requires { ⌜ (m ≤ length (now flags)) × (m ≤ limits .dependencies) ⌝ }
+    ensures { λ r. ⌜ r ≡ countBelow m (turnedIn (now (flags .entry))) ⌝ }
+{
+    let mut total: u16 = 0;
+    let mut k = 0;
+    while k < m {
+        total += one(turned_at(flags, k));
+        k += 1;
+    }
+    total
 }
 
 // The waits of the first m dependencies, in the direction now in force.

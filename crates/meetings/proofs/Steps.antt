@@ -2,26 +2,25 @@
 use mathlib.Core.Path.{_≡_, refl}
 use mathlib.Core.Logic.{_≢_}
 use mathlib.Core.Bool.{true, false}
-use Prim.Native.Nat.{ℕ, _+_, _-_, _≤_, _<_}
+use Prim.Native.Nat.{ℕ, _+_, _-_, _*_, _≤_, _<_}
 use native.Mathlib.Omega.{arith}
-use lib.Dec.{ltb}
-use borrow.Author.Tests.{lt-ltb, le-ltb, eq-eqb, ne-eqb}
+use lib.Dec.{ltb, eqb}
+use borrow.Author.Tests.{ltb-true, ltb-false, eqb-true, eqb-false, lt-ltb, le-ltb, eq-eqb, ne-eqb}
 use Rattle.below.specs.Below.{before}
+use Rattle.below.proofs.Tests.{by-cases, same-test}
 use Rattle.plan.specs.Check.{over}
 use Rattle.meetings.specs.Meetings.{clear, entryRight}
 
 module _ (v w x y : ℕ) where
-  pub before-lower : v < x → true ≡ before v w x y
+  pub before-key : w < 65536 → y < 65536 → ltb (v * 65536 + w) (x * 65536 + y) ≡ before v w x y
   unfolding before
-  before-lower h = rw (lt-ltb v x h) refl
-
-  pub before-higher : x ≤ v → v ≢ x → false ≡ before v w x y
-  unfolding before
-  before-higher h e = rw (le-ltb v x h, ne-eqb v x e) refl
-
-  pub before-same : v ≡ x → ltb w y ≡ before v w x y
-  unfolding before
-  before-same e = rw (le-ltb v x (omega arith), eq-eqb v x e) refl
+  before-key a b = by-cases (ltb v x)
+      (λ h. rw (h, lt-ltb (v * 65536 + w) (x * 65536 + y) (omega (arith, ltb-true v x h))) refl)
+      (λ h. by-cases (eqb v x)
+      (λ e. rw (h, e) (same-test _ _
+      (λ q. lt-ltb w y (omega (arith, eqb-true v x e, ltb-true (v * 65536 + w) (x * 65536 + y) q)))
+      (λ q. lt-ltb (v * 65536 + w) (x * 65536 + y) (omega (arith, eqb-true v x e, ltb-true w y q)))))
+      (λ e. let ne : v ≢ x = eqb-false v x e in rw (h, e, le-ltb (v * 65536 + w) (x * 65536 + y) (omega (arith, ltb-false v x h))) refl))
 
 module _ (own time : ℕ → ℕ) (n v t : ℕ) where
   pub over-end : n ≤ v + 1 → false ≡ over own time n v t

@@ -36,17 +36,13 @@ fn is_clear(owners: &[u8], locations: &[u16], times: &[u32], n: usize, v: usize,
     is_over(owners, times, n, v, times[w])
 }
 
-// Whether (v, w) comes before (x, y).
+// Whether (v, w) comes before (x, y). One comparison, for which of two would decide is hard to foresee.
 fn is_before(v: u16, w: u16, x: u16, y: u16) -> bool
     ensures { λ r. ⌜ r ≡ before v w x y ⌝ }
 {
-    if v < x {
-        return true;
-    }
-    if v != x {
-        return false;
-    }
-    w < y
+    let earlier = v as usize * 65536 + w as usize;
+    let later = x as usize * 65536 + y as usize;
+    earlier < later
 }
 
 // Whether entry k holds two stops, the first clear of the second, and comes after entry k - 1.

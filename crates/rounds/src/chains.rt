@@ -187,18 +187,19 @@ fn fill_in_order(
 fn first_table(
     owners: &[u8],
     starts: &[u16; 32],
+    drones: usize,
     n: usize,
     from: &[u16; 2048],
     into: &[u16; 2048],
     m: usize,
     visited: &[u16],
 ) -> [u64; 1024]
-    requires { ⌜ Passable limits (now owners) (at (now starts)) n (at (now from)) (at (now into)) m (now visited) ⌝ }
+    requires { ⌜ Passable limits (now owners) (at (now starts)) n (at (now from)) (at (now into)) m (now visited) × (drones ≤ limits .drones) ⌝ }
     ensures { λ r. ⌜ (length r ≡ 1024) × ((v : ℕ) → n ≤ v → at r v ≡ 0) ⌝ }
 {
     let mut head = [0u16; 1024];
     let mut next = [0u16; 2048];
-    let order = stop_order(owners, n, from, into, m, &mut head, &mut next);
+    let order = stop_order(starts, drones, n, from, into, m, &mut head, &mut next);
     let mut table = [0u64; 1024];
     fill_in_order(
         owners,
@@ -230,7 +231,7 @@ pub fn stop_rounds(
     requires { ⌜ Ready (now owners) (now starts) (now lasts) drones n (now from) (now into) m (now visited) ⌝ }
     ensures { λ r. ⌜ r ≡ stopRounds limits (at (now (owners .entry))) (at (now (starts .entry))) (at (now (lasts .entry))) drones n (at (now (from .entry))) (at (now (into .entry))) m (at (now (visited .entry))) ⌝ }
 {
-    let mut table = first_table(owners, starts, n, from, into, m, visited);
+    let mut table = first_table(owners, starts, drones, n, from, into, m, visited);
     settle(owners, starts, n, from, into, m, visited, &mut table);
     table
 }

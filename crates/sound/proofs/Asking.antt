@@ -1,5 +1,5 @@
 -- The parts of the sound test in the order in which the code asks them: a law for each return. Assumes nothing.
-use mathlib.Core.Path.{_≡_, refl, sym, _∙_}
+use mathlib.Core.Path.{_≡_, refl, sym, ap, _∙_}
 use mathlib.Core.Logic.{_≢_}
 use mathlib.Core.List.{List}
 use mathlib.Core.Bool.{Bool, true, false, not, cond, _&&_, _||_}
@@ -16,7 +16,7 @@ use Rattle.lines.specs.Names.{isNameByte}
 use Rattle.plan.specs.Stops.{start}
 use Rattle.plan.specs.Check.{faultAt}
 use Rattle.sound.specs.Sound.{zeroFrom, nameLength, nameSound, sameName, namesDiffer}
-use Rattle.sound.specs.Parts.{countsSound, stopSound, stopIn, flagRight, fixedAt, droneSound, enteredBy, waitKept, keptAt}
+use Rattle.sound.specs.Parts.{countsSound, stopSound, stopIn, flagRight, fixedAt, recordRight, droneSound, enteredBy, waitKept, keptAt}
 
 -- ---- counts
 
@@ -110,6 +110,18 @@ stop-has-before num (suc v) e h = omega arith
 
 -- ---- records
 
+and-swap : (a b x y : Bool) → ((a && b) && (x && y)) ≡ ((a && x) && (b && y))
+and-swap true true x y = refl
+and-swap true false true y = refl
+and-swap true false false y = refl
+and-swap false b x y = refl
+
+-- two tests of every index, in one pass
+pub all-and : (n : ℕ) (f g : ℕ → Bool) → allBelow n (λ k. f k && g k) ≡ (allBelow n f && allBelow n g)
+unfolding allBelow
+all-and zero f g = refl
+all-and (suc n) f g = rw (all-and n f g) (and-swap (allBelow n f) (allBelow n g) (f n) (g n))
+
 module _ (drones : ℕ) (counts : List ℕ) (ds ss : ℕ → ℕ) (k : ℕ) where
   pub stop-none : drones ≤ ds k → false ≡ stopIn drones counts ds ss k
   unfolding stopIn
@@ -168,9 +180,29 @@ module _ (b : Bool) (f : ℕ) (two : onlyTwoBits f ≡ true) where
   pub flag-free : (x : Bool) → b ≡ false → x ≡ fixedBit f → not x ≡ flagRight b f
   flag-free x e h = rw (flag-bits b f two, e, h) refl
 
--- .. with the value that the code has read
-pub flag-read : (b f r : Bool) (flag : ℕ) {x : Bool} → b ≡ f → r ≡ flagRight b flag → r ≡ x → flagRight f flag ≡ x
-flag-read b f r flag e h q = rw (← e) (sym h ∙ q)
+-- a record by its tests, and every record
+module _ (drones : ℕ) (counts lasts firstDrones firstStops secondDrones secondStops flags : List ℕ) where
+  module _ (k : ℕ) where
+    pub record-first : stopIn drones counts (at firstDrones) (at firstStops) k ≡ false → false ≡ recordRight drones counts lasts firstDrones firstStops secondDrones secondStops flags k
+    unfolding recordRight
+    record-first h = rw h refl
+
+    module _ (first : stopIn drones counts (at firstDrones) (at firstStops) k ≡ true) where
+      pub record-second : stopIn drones counts (at secondDrones) (at secondStops) k ≡ false → false ≡ recordRight drones counts lasts firstDrones firstStops secondDrones secondStops flags k
+      unfolding recordRight
+      record-second h = rw (first, h) refl
+
+      pub record-flag : stopIn drones counts (at secondDrones) (at secondStops) k ≡ true → (b r : Bool) → b ≡ fixedAt (at lasts) (at firstStops) (at secondDrones) (at secondStops) k → r ≡ flagRight b (at flags k)
+          → r ≡ recordRight drones counts lasts firstDrones firstStops secondDrones secondStops flags k
+      unfolding recordRight
+      record-flag h b r e q = rw (first, h, ← e) q
+
+  pub records-all : (m : ℕ) → allBelow m (recordRight drones counts lasts firstDrones firstStops secondDrones secondStops flags)
+      ≡ (allBelow m (stopIn drones counts (at firstDrones) (at firstStops))
+      && (allBelow m (stopIn drones counts (at secondDrones) (at secondStops))
+      && allBelow m (λ k. flagRight (fixedAt (at lasts) (at firstStops) (at secondDrones) (at secondStops) k) (at flags k))))
+  unfolding recordRight
+  records-all m = all-and m _ _ ∙ ap (λ (b : Bool). allBelow m (stopIn drones counts (at firstDrones) (at firstStops)) && b) (all-and m _ _)
 
 -- ---- progress
 

@@ -38,6 +38,13 @@ flagRight isFixed flag = eqb (flag / 2) (pick isFixed 1 0) && not (turnedBit fla
 unfoldable pub fixedAt : (last firstStop second secondStop : ℕ → ℕ) → ℕ → Bool
 fixedAt last firstStop second secondStop k = eqb (firstStop k) 0 || eqb (secondStop k) (last (second k))
 
+-- record k names two stops, and its flag byte is right
+unfoldable pub recordRight : (drones : ℕ) (counts lasts firstDrones firstStops secondDrones secondStops flags : List ℕ) → ℕ → Bool
+recordRight drones counts lasts firstDrones firstStops secondDrones secondStops flags k =
+    stopIn drones counts (at firstDrones) (at firstStops) k
+    && (stopIn drones counts (at secondDrones) (at secondStops) k
+    && flagRight (fixedAt (at lasts) (at firstStops) (at secondDrones) (at secondStops) k) (at flags k))
+
 -- a drone's flag byte has no bit but bit 0, and the drone is not past nor under way beyond its last stop
 unfoldable pub droneSound : (last place flag : ℕ) → Bool
 droneSound last place flag = onlyOneBit flag && (leb place last && not (underWayBit flag && leb last place))

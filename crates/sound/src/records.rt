@@ -5,7 +5,7 @@ ghost use Prim.Native.Nat.{ℕ, _+_, _≤_, _<_};
 ghost use lib.ListN.{length};
 ghost use Rattle.below.specs.Below.{at, allBelow};
 ghost use Rattle.tables.specs.Limits.{limits};
-ghost use Rattle.sound.specs.Parts.{stopIn, flagRight, fixedAt};
+ghost use Rattle.sound.specs.Parts.{stopIn, flagRight, fixedAt, recordRight};
 ghost use Rattle.sound.specs.Asked.{Columns, Through};
 
 // Whether entry k names a stop.
@@ -18,20 +18,6 @@ fn is_stop(drones: usize, stop_counts: &[u16], of: &[u8], stops: &[u16], k: usiz
         return false;
     }
     stops[k] < stop_counts[d]
-}
-
-fn are_stops(drones: usize, stop_counts: &[u16], of: &[u8], stops: &[u16], m: usize) -> bool
-    requires { ⌜ (drones ≤ length (now «stop_counts»)) × (m ≤ length (now of)) × (m ≤ length (now stops)) ⌝ }
-    ensures { λ r. ⌜ r ≡ allBelow m (stopIn drones (now («stop_counts» .entry)) (at (now (of .entry))) (at (now (stops .entry)))) ⌝ }
-{
-    let mut k = 0;
-    while k < m {
-        if !is_stop(drones, stop_counts, of, stops, k) {
-            return false;
-        }
-        k += 1;
-    }
-    true
 }
 
 // The stops of a column, numbered through.
@@ -77,28 +63,68 @@ fn is_fixed(
     requires { ⌜ (k < length (now «first_stops»)) × (k < length (now «second_drones»)) × (k < length (now «second_stops»)) × (at (now «second_drones») k < limits .drones) ⌝ }
     ensures { λ r. ⌜ r ≡ fixedAt (at (now (lasts .entry))) (at (now («first_stops» .entry))) (at (now («second_drones» .entry))) (at (now («second_stops» .entry))) k ⌝ }
 {
-    if first_stops[k] == 0 {
+    let first = first_stops[k];
+    let d = second_drones[k] as usize;
+    let second = second_stops[k];
+    let last = lasts[d];
+    if first == 0 {
         return true;
     }
-    let d = second_drones[k] as usize;
-    second_stops[k] == lasts[d]
+    second == last
 }
 
-fn flags_right(
+// Whether record k names two stops and its flag byte is right.
+fn is_right(
+    drones: usize,
+    stop_counts: &[u16],
     lasts: &[u16; 32],
+    first_drones: &[u8],
     first_stops: &[u16],
     second_drones: &[u8],
     second_stops: &[u16],
     flags: &[u8],
-    m: usize,
+    k: usize,
 ) -> bool
-    requires { ⌜ (m ≤ length (now «first_stops»)) × (m ≤ length (now «second_drones»)) × (m ≤ length (now «second_stops»)) × (m ≤ length (now flags)) × ((k : ℕ) → k < m → at (now «second_drones») k < limits .drones) ⌝ }
-    ensures { λ r. ⌜ r ≡ allBelow m (λ k. flagRight (fixedAt (at (now (lasts .entry))) (at (now («first_stops» .entry))) (at (now («second_drones» .entry))) (at (now («second_stops» .entry))) k) (at (now (flags .entry)) k)) ⌝ }
+    requires { ⌜ (drones ≤ limits .drones) × (limits .drones ≤ length (now «stop_counts»)) × (k < length (now «first_drones»)) × (k < length (now «first_stops»)) × (k < length (now «second_drones»)) × (k < length (now «second_stops»)) × (k < length (now flags)) ⌝ }
+    ensures { λ r. ⌜ r ≡ recordRight drones (now («stop_counts» .entry)) (now (lasts .entry)) (now («first_drones» .entry)) (now («first_stops» .entry)) (now («second_drones» .entry)) (now («second_stops» .entry)) (now (flags .entry)) k ⌝ }
+{
+    if !is_stop(drones, stop_counts, first_drones, first_stops, k) {
+        return false;
+    }
+    if !is_stop(drones, stop_counts, second_drones, second_stops, k) {
+        return false;
+    }
+    let fixed = is_fixed(lasts, first_stops, second_drones, second_stops, k);
+    flag_right(fixed, flags[k])
+}
+
+fn are_right(
+    drones: usize,
+    m: usize,
+    stop_counts: &[u16],
+    lasts: &[u16; 32],
+    first_drones: &[u8],
+    first_stops: &[u16],
+    second_drones: &[u8],
+    second_stops: &[u16],
+    flags: &[u8],
+) -> bool
+    requires { ⌜ (drones ≤ limits .drones) × (limits .drones ≤ length (now «stop_counts»)) × Columns m (now «first_drones») (now «first_stops») (now «second_drones») (now «second_stops») (now flags) ⌝ }
+    ensures { λ r. ⌜ r ≡ allBelow m (recordRight drones (now («stop_counts» .entry)) (now (lasts .entry)) (now («first_drones» .entry)) (now («first_stops» .entry)) (now («second_drones» .entry)) (now («second_stops» .entry)) (now (flags .entry))) ⌝ }
 {
     let mut k = 0;
     while k < m {
-        let fixed = is_fixed(lasts, first_stops, second_drones, second_stops, k);
-        if !flag_right(fixed, flags[k]) {
+        if !is_right(
+            drones,
+            stop_counts,
+            lasts,
+            first_drones,
+            first_stops,
+            second_drones,
+            second_stops,
+            flags,
+            k,
+        ) {
             return false;
         }
         k += 1;
@@ -121,11 +147,15 @@ pub fn records_sound(
     requires { ⌜ (drones ≤ limits .drones) × (limits .drones ≤ length (now «stop_counts»)) × Columns m (now «first_drones») (now «first_stops») (now «second_drones») (now «second_stops») (now flags) ⌝ }
     ensures { λ r. ⌜ r ≡ allBelow m (stopIn drones (now («stop_counts» .entry)) (at (now («first_drones» .entry))) (at (now («first_stops» .entry)))) && (allBelow m (stopIn drones (now («stop_counts» .entry)) (at (now («second_drones» .entry))) (at (now («second_stops» .entry)))) && allBelow m (λ k. flagRight (fixedAt (at (now (lasts .entry))) (at (now («first_stops» .entry))) (at (now («second_drones» .entry))) (at (now («second_stops» .entry))) k) (at (now (flags .entry)) k))) ⌝ }
 {
-    if !are_stops(drones, stop_counts, first_drones, first_stops, m) {
-        return false;
-    }
-    if !are_stops(drones, stop_counts, second_drones, second_stops, m) {
-        return false;
-    }
-    flags_right(lasts, first_stops, second_drones, second_stops, flags, m)
+    are_right(
+        drones,
+        m,
+        stop_counts,
+        lasts,
+        first_drones,
+        first_stops,
+        second_drones,
+        second_stops,
+        flags,
+    )
 }

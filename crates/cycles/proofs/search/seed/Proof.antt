@@ -1,42 +1,47 @@
-use Prim.Native.Nat.{_≤_, _-_}
-use native.Mathlib.Omega.{arith}
-use mathlib.Core.Logic.{⊎-elim}
 use borrow.Author.Needs.{needs}
+use Prim.Native.Nat.{_≤_, _<_, _-_}
 use Rattle.cycles.proofs.search.seed.Statement.{statement}
 use Rattle.cycles.proofs.search.seed.Tie as tie
 use Rattle.cycles.proofs.search.seed.Reads as reads
 use Rattle.cycles.proofs.search.seed.Lts as lts
-use Rattle.cycles.proofs.search.owner.Reads as owner-reads
-use Rattle.cycles.proofs.search.raise.Reads as raise-reads
-use Rattle.cycles.proofs.search.release.Reads as release-reads
+use Rattle.cycles.proofs.search.drone.Reads as drone-reads
+use Rattle.cycles.proofs.search.put.Reads as put-reads
 
 abbrev Inv-loop : tie.InvT-loop
-Inv-loop owners n need₀ stack₀ top₀ last₀ v₀ need stack top last v = (v ≤ n) × (top ≤ 1024)
+Inv-loop starts drones need₀ queue₀ d₀ need queue d = d ≤ drones
 
 abbrev μ-loop : tie.MeasureT-loop
-μ-loop owners n need₀ stack₀ top₀ last₀ v₀ need stack top last v = n - v
+μ-loop starts drones need₀ queue₀ d₀ need queue d = drones - d
 
+-- src/search.rt:92:5
 loop-holds : tie.Need-loop-holds Inv-loop μ-loop
 loop-holds c = search needs
 
-owner-requires : tie.Need-owner-requires Inv-loop μ-loop
-owner-requires c κs = search needs
+-- src/search.rt:93:13
+drone-requires : tie.Need-drone-requires Inv-loop μ-loop
+drone-requires c κs = search needs
 
-raise-requires : tie.Need-raise-requires Inv-loop μ-loop
-raise-requires c κs = search needs
+-- src/search.rt:94:9
+put-requires : tie.Need-put-requires Inv-loop μ-loop
+put-requires c κs = search needs
 
-release-requires : tie.Need-release-requires Inv-loop μ-loop
-release-requires c κs = search needs
+-- src/search.rt:95:9
+put-requires-2 : tie.Need-put-requires-2 Inv-loop μ-loop
+put-requires-2 c κs = search needs
 
-add-v : tie.Need-add-v Inv-loop μ-loop
-add-v c = search needs
+-- src/search.rt:96:9
+add-d : tie.Need-add-d Inv-loop μ-loop
+add-d c = search needs
 
+-- src/search.rt:92:5
 loop-less : tie.Need-loop-less Inv-loop μ-loop
 loop-less c = search needs
 
+-- src/search.rt:92:5
 loop-again : tie.Need-loop-again Inv-loop μ-loop
-loop-again c = (omega arith, ⊎-elim (λ w. omega arith) (λ w. omega arith) (c .if1 .came))
+loop-again c = search needs
 
+-- src/search.rt:88:1
 returns : tie.Need-returns Inv-loop μ-loop
 returns c = search needs
 
@@ -47,10 +52,10 @@ seed-spec =
     Inv-loop
     μ-loop
     loop-holds
-    owner-requires
-    raise-requires
-    release-requires
-    add-v
+    drone-requires
+    put-requires
+    put-requires-2
+    add-d
     loop-less
     loop-again
     returns)

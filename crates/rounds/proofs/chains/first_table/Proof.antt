@@ -1,6 +1,6 @@
 -- Past the stops the table is left as it was made, of zeros.
 use mathlib.Core.Path.{refl, _∙_}
-use Rattle.rounds.proofs.Extra.{zeros-at}
+use Rattle.below.proofs.Index.{zeros-at}
 use borrow.Author.Needs.{needs}
 use Rattle.rounds.proofs.chains.first_table.Statement.{statement}
 use Rattle.rounds.proofs.chains.first_table.Tie as tie

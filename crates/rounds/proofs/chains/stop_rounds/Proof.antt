@@ -9,7 +9,7 @@ use Rattle.rounds.proofs.chains.settle.Reads as settle-reads
 
 -- src/chains.rt:224:21
 first-table-requires : tie.Need-first-table-requires
-first-table-requires c κs = ready-passable _ _ _ _ _ _ _ _ _ (c .before .before .pre)
+first-table-requires c κs = (ready-passable _ _ _ _ _ _ _ _ _ (c .before .before .pre), c .before .before .pre .tables .few-drones)
 
 -- src/chains.rt:225:5
 settle-requires : tie.Need-settle-requires

@@ -1,0 +1,62 @@
+use borrow.Author.Needs.{needs}
+use Prim.Native.Nat.{_-_, _≤_}
+use mathlib.Core.Path.{_≡_, sym, _∙_}
+use mathlib.Core.Bool.{true}
+use native.Mathlib.Omega.{arith}
+use borrow.Author.Tests.{not-true, not-false}
+use Rattle.below.specs.Below.{allBelow}
+use Rattle.below.proofs.Every.{all-none, all-more, all-miss, all-end}
+use Rattle.sound.specs.Parts.{recordRight}
+use Rattle.sound.proofs.records.are_right.Statement.{statement}
+use Rattle.sound.proofs.records.are_right.Tie as tie
+use Rattle.sound.proofs.records.are_right.Reads as reads
+use Rattle.sound.proofs.records.are_right.Lts as lts
+use Rattle.sound.proofs.records.is_right.Reads as is-right-reads
+
+abbrev Inv-loop : tie.InvT-loop
+Inv-loop drones m stop-counts lasts first-drones first-stops second-drones second-stops flags k₀ k = (k ≤ m) × (allBelow k (recordRight drones stop-counts lasts first-drones first-stops second-drones second-stops flags) ≡ true)
+
+abbrev μ-loop : tie.MeasureT-loop
+μ-loop drones m stop-counts lasts first-drones first-stops second-drones second-stops flags k₀ k = m - k
+
+-- src/records.rt:116:5
+loop-holds : tie.Need-loop-holds Inv-loop μ-loop
+loop-holds c = (omega arith, all-none _)
+
+-- src/records.rt:117:13
+is-right-requires : tie.Need-is-right-requires Inv-loop μ-loop
+is-right-requires c κs = search needs
+
+-- src/records.rt:128:13
+returns : tie.Need-returns Inv-loop μ-loop
+returns c = all-miss _ _ _ (omega arith) (sym (c .before .is-right .ensures) ∙ not-true _ (c .if1 .taken))
+
+-- src/records.rt:130:9
+add-k : tie.Need-add-k Inv-loop μ-loop
+add-k c = search needs
+
+-- src/records.rt:116:5
+loop-less : tie.Need-loop-less Inv-loop μ-loop
+loop-less c = search needs
+
+-- src/records.rt:116:5
+loop-again : tie.Need-loop-again Inv-loop μ-loop
+loop-again c = (omega arith, all-more _ _ (c .before .before .before .loop .inv .1) (sym (c .before .is-right .ensures) ∙ not-false _ (c .if1 .left)))
+
+-- src/records.rt:101:1
+returns-2 : tie.Need-returns-2 Inv-loop μ-loop
+returns-2 c = all-end _ _ _ (omega arith) (omega arith) (c .before .loop .inv .1)
+
+pub are-right-spec : {M : Type 1} → statement M
+are-right-spec =
+    tie.close
+    (tie.spec
+    Inv-loop
+    μ-loop
+    loop-holds
+    is-right-requires
+    returns
+    add-k
+    loop-less
+    loop-again
+    returns-2)
