@@ -1,2 +1,3 @@
 pub mod MakeLaws
 pub mod ListLaws
+pub mod ProgramLaws
