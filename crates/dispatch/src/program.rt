@@ -3,6 +3,9 @@ use crate::requests;
 use reading::entry;
 use reading::replies::Reading;
 use reading::replies::Refusal;
+use tables::entries::Dependency;
+use tables::entries::Drone;
+use tables::entries::Stop;
 use transcript::replies;
 use transcript::requests as input_requests;
 ghost use mathlib.Core.Path.{_≡_};
@@ -16,13 +19,13 @@ ghost use Rattle.transcript.specs.Input.{inputLimit, requestsAt};
 ghost use Rattle.transcript.specs.Output.{outputOf};
 ghost use Rattle.dispatch.specs.Transcribing.{readingIn, callsOn, RequestRoom, Transcribed};
 
-// The bytes of the input at most.
+// The input has so many bytes at most.
 pub const INPUT: usize = 65536;
 
-// The entries of the tables of requests: a call line has seven bytes at least.
-pub const REQUESTS: usize = 9363;
+// A call line has seven bytes at least, so there are no more requests.
+const REQUESTS: usize = 9363;
 
-// The bytes of a buffer that holds every output.
+// A buffer of so many bytes holds every output.
 pub const OUTPUT: usize = 262144;
 
 // The number of a refusal.
@@ -207,21 +210,21 @@ pub fn transcript(input: &[u8], output: &mut [u8]) -> usize
 {
     let mut drone_count = [0u16; 1];
     let mut dependency_count = [0u16; 1];
-    let mut names = [0u8; 768];
-    let mut stop_counts = [0u16; 32];
-    let mut locations = [0u16; 1024];
-    let mut times = [0u32; 1024];
-    let mut visited = [0u16; 32];
-    let mut drone_flags = [0u8; 32];
-    let mut first_drones = [0u8; 2048];
-    let mut first_stops = [0u16; 2048];
-    let mut second_drones = [0u8; 2048];
-    let mut second_stops = [0u16; 2048];
-    let mut flags = [0u8; 2048];
-    let mut kinds = [0u8; 9363];
-    let mut numbers = [0u16; 9363];
-    let mut replies = [0u16; 9363];
-    let mut details = [0u32; 9363];
+    let mut names = [0u8; Drone::NAMES];
+    let mut stop_counts = [0u16; Drone::FULL];
+    let mut locations = [0u16; Stop::FULL];
+    let mut times = [0u32; Stop::FULL];
+    let mut visited = [0u16; Drone::FULL];
+    let mut drone_flags = [0u8; Drone::FULL];
+    let mut first_drones = [0u8; Dependency::FULL];
+    let mut first_stops = [0u16; Dependency::FULL];
+    let mut second_drones = [0u8; Dependency::FULL];
+    let mut second_stops = [0u16; Dependency::FULL];
+    let mut flags = [0u8; Dependency::FULL];
+    let mut kinds = [0u8; REQUESTS];
+    let mut numbers = [0u16; REQUESTS];
+    let mut replies = [0u16; REQUESTS];
+    let mut details = [0u32; REQUESTS];
     play(
         input,
         output,
