@@ -76,11 +76,11 @@ kinds-in-length : (answers : List Answer) → length (kindsIn answers) ≡ lengt
 kinds-in-length [] = refl
 kinds-in-length (a ∷ rest) = ap suc (kinds-in-length rest)
 
-numbers-in-length : (answers : List Answer) → length (numbersIn answers) ≡ length answers
+pub numbers-in-length : (answers : List Answer) → length (numbersIn answers) ≡ length answers
 numbers-in-length [] = refl
 numbers-in-length (a ∷ rest) = ap suc (numbers-in-length rest)
 
-details-in-length : (answers : List Answer) → length (detailsIn answers) ≡ length answers
+pub details-in-length : (answers : List Answer) → length (detailsIn answers) ≡ length answers
 details-in-length [] = refl
 details-in-length (a ∷ rest) = ap suc (details-in-length rest)
 

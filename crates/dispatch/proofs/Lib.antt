@@ -1,0 +1,3 @@
+pub mod MakeLaws
+pub mod ListLaws
+pub mod ProgramLaws

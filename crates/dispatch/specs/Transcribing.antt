@@ -1,0 +1,75 @@
+-- The whole way from the input of the program `field` to its output (document 01, "The program `field`"). Assumes nothing.
+use Prim.Native.Nat.{ℕ, _*_, _≤_}
+use mathlib.Core.Path.{_≡_}
+use mathlib.Core.List.{List, _++_}
+use lib.ListN.{length, drop, replicate}
+use Rattle.tables.specs.Limits.{Limits, limits}
+use Rattle.tables.specs.Tables.{Tables, tablesOf}
+use Rattle.plan.specs.Field.{planOf}
+use Rattle.lines.specs.Bytes.{Put}
+use Rattle.reading.specs.Replies.{readingNumber}
+use Rattle.reading.specs.Reading.{readPlan}
+use Rattle.transcript.specs.Input.{inputLimit, RequestList}
+use Rattle.transcript.specs.Output.{Reading, answerLines, endingLine, outputOf}
+use Rattle.transcript.specs.Run.{answersOn}
+
+-- ---- reading
+
+module _ (L : Limits) where
+  -- what reading a plan text into the tables t answers, and the plan that stands in them then
+  abbrev pub readingIn : Tables → List ℕ → Reading
+  readingIn t text = record { number = readingNumber (readPlan L text t .reply); plan = planOf (readPlan L text t .tables .plan) }
+
+  -- tables of full size, every entry zero
+  unfoldable pub zeroTables : Tables
+  zeroTables =
+      tablesOf
+      (replicate 1 0)
+      (replicate 1 0)
+      (replicate (L .drones * L .name) 0)
+      (replicate (L .drones) 0)
+      (replicate (L .stops) 0)
+      (replicate (L .stops) 0)
+      (replicate (L .drones) 0)
+      (replicate (L .drones) 0)
+      (replicate (L .dependencies) 0)
+      (replicate (L .dependencies) 0)
+      (replicate (L .dependencies) 0)
+      (replicate (L .dependencies) 0)
+      (replicate (L .dependencies) 0)
+
+  -- the lines after a plan that was taken, where the requests are made on the tables t
+  abbrev pub callsOn : Tables → RequestList → List ℕ
+  callsOn t r = answerLines (answersOn L t (r .requests)) ++ endingLine (r .ending)
+
+-- the program's reading
+abbrev pub readingOf : List ℕ → Reading
+readingOf text = readingIn limits (zeroTables limits) text
+
+-- ---- room
+
+-- a call line has seven bytes at least, and the input 65,536 at most
+abbrev pub requestLimit : ℕ
+requestLimit = 9363
+
+-- what the tables of requests and answers must hold
+pub record RequestRoom (kinds numbers replies details : List ℕ) : Type 0 where
+  pub has-kinds : requestLimit ≤ length kinds
+  pub has-numbers : requestLimit ≤ length numbers
+  pub has-replies : requestLimit ≤ length replies
+  pub has-details : requestLimit ≤ length details
+
+-- a line of the output has 23 bytes at most
+abbrev pub outputLimit : ℕ
+outputLimit = 262144
+
+-- a buffer of this size holds the output of every input
+abbrev pub OutputFits : Type 0
+OutputFits = (reading : List ℕ → Reading) (input : List ℕ) → length (outputOf reading input) ≤ outputLimit
+
+-- ---- the output
+
+-- the buffer holds the output as far as it reaches, by the log alone; a buffer of `outputLimit` bytes holds it whole, and its other bytes are as they were
+pub record Transcribed (input before after : List ℕ) (next : ℕ) : Type 0 where
+  pub put : Put before 0 (outputOf readingOf input) after next
+  pub whole : outputLimit ≤ length before → after ≡ outputOf readingOf input ++ drop next before

@@ -1,0 +1,83 @@
+// The replies of the calls as the output's tables hold them: a number, and what goes with it.
+use conductor::replies::ArriveReply;
+use conductor::replies::GrantReply;
+use conductor::turn_replies::CostAnswer;
+use conductor::turn_replies::TurnReply;
+ghost use mathlib.Core.Path.{_≡_};
+ghost use Prim.Native.Nat.{_<_, _^_};
+ghost use Rattle.transcript.specs.Output.{awaited};
+ghost use Rattle.transcript.specs.Run.{costNumber, costDetail};
+ghost use Rattle.conductor.specs.Replies.{grantMeant, arriveMeant};
+ghost use Rattle.conductor.specs.TurnReplies.{turnMeant, costMeant};
+ghost use Rattle.dispatch.specs.Making.{Tells};
+
+// The number of the reply, and the dependency of a 23 or the cost.
+pub struct Answered {
+    pub number: u16,
+    pub detail: u32,
+}
+
+pub fn numbered(number: u16) -> Answered
+    ensures { λ r. ⌜ (r .number ≡ number) × (r .detail ≡ 0) ⌝ }
+{
+    Answered { number, detail: 0 }
+}
+
+pub fn of_grant(reply: GrantReply) -> Answered
+    requires { ⌜ awaited (grantMeant reply) < 2 ^ 32 ⌝ }
+    ensures { λ r. ⌜ Tells (grantMeant reply) (r .number) (r .detail) ⌝ }
+{
+    match reply {
+        GrantReply::Granted => numbered(0),
+        GrantReply::TablesTooSmall => numbered(41),
+        GrantReply::NotSound => numbered(40),
+        GrantReply::NoDrone => numbered(20),
+        GrantReply::Finished => numbered(21),
+        GrantReply::UnderWay => numbered(22),
+        GrantReply::MustWait(dependency) => Answered {
+            number: 23,
+            detail: dependency as u32,
+        },
+    }
+}
+
+pub fn of_arrive(reply: ArriveReply) -> Answered
+    ensures { λ r. ⌜ Tells (arriveMeant reply) (r .number) (r .detail) ⌝ }
+{
+    match reply {
+        ArriveReply::Arrived => numbered(0),
+        ArriveReply::TablesTooSmall => numbered(41),
+        ArriveReply::NotSound => numbered(40),
+        ArriveReply::NoDrone => numbered(20),
+        ArriveReply::NotUnderWay => numbered(24),
+    }
+}
+
+pub fn of_turn(reply: TurnReply) -> Answered
+    ensures { λ r. ⌜ Tells (turnMeant reply) (r .number) (r .detail) ⌝ }
+{
+    match reply {
+        TurnReply::Turned => numbered(0),
+        TurnReply::TablesTooSmall => numbered(41),
+        TurnReply::NotSound => numbered(40),
+        TurnReply::NoDependency => numbered(30),
+        TurnReply::Fixed => numbered(31),
+        TurnReply::FirstEntered => numbered(32),
+        TurnReply::SecondEntered => numbered(33),
+        TurnReply::Cycle => numbered(34),
+    }
+}
+
+pub fn of_cost(answer: CostAnswer) -> Answered
+    requires { ⌜ costDetail (costMeant answer) < 2 ^ 32 ⌝ }
+    ensures { λ r. ⌜ (r .number ≡ costNumber (costMeant answer)) × (r .detail ≡ costDetail (costMeant answer)) ⌝ }
+{
+    match answer {
+        CostAnswer::TablesTooSmall => numbered(41),
+        CostAnswer::NotSound => numbered(40),
+        CostAnswer::Cost(cost) => Answered {
+            number: 0,
+            detail: cost as u32,
+        },
+    }
+}
