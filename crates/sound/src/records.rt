@@ -1,4 +1,5 @@
 // The records of the dependencies: they name stops, their flag bytes are right, and each side of them as a column of stops that are numbered through.
+use tables::entries::Dependency;
 ghost use mathlib.Core.Bool.{_&&_};
 ghost use mathlib.Core.Path.{_≡_};
 ghost use Prim.Native.Nat.{ℕ, _+_, _≤_, _<_};
@@ -40,16 +41,14 @@ pub fn number_through(
     }
 }
 
+// A fixed one's byte has bit 1 alone, another's has no bit but bit 0.
 fn flag_right(fixed: bool, flag: u8) -> bool
     ensures { λ r. ⌜ r ≡ flagRight fixed flag ⌝ }
 {
-    if !tables::flags::has_only_two_bits(flag) {
-        return false;
-    }
     if fixed {
-        return tables::flags::is_fixed(flag) && !tables::flags::is_turned(flag);
+        return flag == Dependency::FIXED;
     }
-    !tables::flags::is_fixed(flag)
+    tables::flags::has_only_one_bit(flag)
 }
 
 // Whether dependency k is fixed.
@@ -67,10 +66,7 @@ fn is_fixed(
     let d = second_drones[k] as usize;
     let second = second_stops[k];
     let last = lasts[d];
-    if first == 0 {
-        return true;
-    }
-    second == last
+    (first == 0) | (second == last)
 }
 
 // Whether record k names two stops and its flag byte is right.
