@@ -1,0 +1,4 @@
+pub mod Row
+pub mod Derived
+pub mod Overlaid
+pub mod Copies
