@@ -2,3 +2,4 @@ pub mod Row
 pub mod Derived
 pub mod Overlaid
 pub mod Copies
+pub mod Seen

@@ -7,6 +7,7 @@ use Prim.Native.Nat.{ℕ, min}
 use lib.ListN.{length, getD, set, take, drop, replicate}
 use Rattle.below.specs.Below.{at, listBelow}
 use Rattle.tables.specs.Limits.{Limits}
+use Rattle.tables.specs.Tables.{Tables, tablesOf}
 use Rattle.tables.specs.Entries.{zeroDependency, flipDependency}
 use Rattle.tables.specs.declared.entries.Dependency.{Dependency}
 
@@ -56,6 +57,14 @@ pub record ColumnSizes (L : Limits) (firstDrones firstStops secondDrones secondS
   pub second-stops : length secondStops ≡ L .dependencies
   pub flag-bytes : length flags ≡ L .dependencies
 
+-- the columns of these records
+pub record ColumnsOf (ds : List Dependency) (firstDrones firstStops secondDrones secondStops flags : List ℕ) : Type 0 where
+  pub first-drones : firstDrones ≡ firstDronesOf ds
+  pub first-stops : firstStops ≡ firstStopsOf ds
+  pub second-drones : secondDrones ≡ secondDronesOf ds
+  pub second-stops : secondStops ≡ secondStopsOf ds
+  pub flag-bytes : flags ≡ flagsOf ds
+
 -- the record whose fields stand at i of the columns, and the table of them
 abbrev pub recordOf : (firstDrones firstStops secondDrones secondStops flags : List ℕ) → ℕ → Dependency
 recordOf firstDrones firstStops secondDrones secondStops flags i = record {
@@ -68,3 +77,18 @@ recordOf firstDrones firstStops secondDrones secondStops flags i = record {
 
 unfoldable pub gathered : Limits → (firstDrones firstStops secondDrones secondStops flags : List ℕ) → List Dependency
 gathered L firstDrones firstStops secondDrones secondStops flags = listBelow (L .dependencies) (recordOf firstDrones firstStops secondDrones secondStops flags)
+
+-- ---- the tables with the dependencies lent as records
+
+-- "Entries past a full size are never read or written": the records that a call sees
+unfoldable pub seen : Limits → List Dependency → List Dependency
+seen L ds = take (L .dependencies) ds
+
+abbrev pub tablesOfRecords : Limits → (droneCount dependencyCount names stopCounts locations times visited droneFlags : List ℕ) → List Dependency → Tables
+tablesOfRecords L droneCount dependencyCount names stopCounts locations times visited droneFlags ds =
+    tablesOf droneCount dependencyCount names stopCounts locations times visited droneFlags
+    (firstDronesOf (seen L ds))
+    (firstStopsOf (seen L ds))
+    (secondDronesOf (seen L ds))
+    (secondStopsOf (seen L ds))
+    (flagsOf (seen L ds))

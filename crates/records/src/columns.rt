@@ -3,7 +3,7 @@ use tables::entries::Dependency;
 ghost use mathlib.Core.Path.{_≡_};
 ghost use lib.ListN.{length};
 ghost use Rattle.tables.specs.Limits.{limits};
-ghost use Rattle.records.specs.Records.{firstDronesOf, firstStopsOf, secondDronesOf, secondStopsOf, flagsOf, gathered, ColumnSizes};
+ghost use Rattle.records.specs.Records.{ColumnSizes, ColumnsOf, gathered};
 
 // Each field of the records into its own column.
 pub fn spread(
@@ -15,11 +15,8 @@ pub fn spread(
     flags: &mut [u8; 2048],
 )
     requires { ⌜ ColumnSizes limits (now «first_drones») (now «first_stops») (now «second_drones») (now «second_stops») (now flags) ⌝ }
-    ensures { λ _. ⌜ now («first_drones» .exit) ≡ firstDronesOf table ⌝ }
-    ensures { λ _. ⌜ now («first_stops» .exit) ≡ firstStopsOf table ⌝ }
-    ensures { λ _. ⌜ now («second_drones» .exit) ≡ secondDronesOf table ⌝ }
-    ensures { λ _. ⌜ now («second_stops» .exit) ≡ secondStopsOf table ⌝ }
-    ensures { λ _. ⌜ now (flags .exit) ≡ flagsOf table ⌝ }
+    ensures { λ _. ⌜ ColumnsOf table (now («first_drones» .exit)) (now («first_stops» .exit)) (now («second_drones» .exit)) (now («second_stops» .exit)) (now (flags .exit)) ⌝ }
+    ensures { λ _. ⌜ ColumnSizes limits (now («first_drones» .exit)) (now («first_stops» .exit)) (now («second_drones» .exit)) (now («second_stops» .exit)) (now (flags .exit)) ⌝ }
 {
     let mut i: usize = 0;
     while i < Dependency::FULL {

@@ -83,8 +83,18 @@ loop-again c =
 returns : tie.Need-returns Inv-loop μ-loop
 returns c =
     let s = c .before .before in
+    let l = c .before .loop in
     let size : length (s .args .t1) ≡ 2048 = good-length Rec.elem 2048 (s .args .t1) _ (s .good .0) in
-    (column-whole (λ (d : Dependency). d .«first_drone») (s .args .t1) (s .args .first-drones .now) _ (c .before .loop .i) (omega (arith, size)) (omega (arith, s .pre .first-drones)) (c .before .loop .inv .2), (column-whole (λ (d : Dependency). d .«first_stop») (s .args .t1) (s .args .first-stops .now) _ (c .before .loop .i) (omega (arith, size)) (omega (arith, s .pre .first-stops)) (c .before .loop .inv .3), (column-whole (λ (d : Dependency). d .«second_drone») (s .args .t1) (s .args .second-drones .now) _ (c .before .loop .i) (omega (arith, size)) (omega (arith, s .pre .second-drones)) (c .before .loop .inv .4), (column-whole (λ (d : Dependency). d .«second_stop») (s .args .t1) (s .args .second-stops .now) _ (c .before .loop .i) (omega (arith, size)) (omega (arith, s .pre .second-stops)) (c .before .loop .inv .5), column-whole (λ (d : Dependency). d .flags) (s .args .t1) (s .args .flags .now) _ (c .before .loop .i) (omega (arith, size)) (omega (arith, s .pre .flag-bytes)) (c .before .loop .inv .6)))))
+    (
+      record {
+        first-drones = column-whole (λ (d : Dependency). d .«first_drone») (s .args .t1) (s .args .first-drones .now) _ (l .i) (omega (arith, size)) (omega (arith, s .pre .first-drones)) (l .inv .2);
+        first-stops = column-whole (λ (d : Dependency). d .«first_stop») (s .args .t1) (s .args .first-stops .now) _ (l .i) (omega (arith, size)) (omega (arith, s .pre .first-stops)) (l .inv .3);
+        second-drones = column-whole (λ (d : Dependency). d .«second_drone») (s .args .t1) (s .args .second-drones .now) _ (l .i) (omega (arith, size)) (omega (arith, s .pre .second-drones)) (l .inv .4);
+        second-stops = column-whole (λ (d : Dependency). d .«second_stop») (s .args .t1) (s .args .second-stops .now) _ (l .i) (omega (arith, size)) (omega (arith, s .pre .second-stops)) (l .inv .5);
+        flag-bytes = column-whole (λ (d : Dependency). d .flags) (s .args .t1) (s .args .flags .now) _ (l .i) (omega (arith, size)) (omega (arith, s .pre .flag-bytes)) (l .inv .6);
+      },
+      l .inv .1,
+    )
 
 pub spread-spec : {M : Type 1} → statement M
 spread-spec =

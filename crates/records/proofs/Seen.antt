@@ -1,0 +1,71 @@
+-- The tables that a call sees: of a copy of the lent records, of the columns of that copy, and of a lent table that is too short.
+--     copied-seen, tables-copied    a copy of the records, as many as there are, shows what the records show
+--     seen-whole, tables-spread     a whole copy is seen whole, and its columns are the tables' own
+--     tables-short                  a lent table below its full size makes the tables too small
+-- Assumes nothing.
+use mathlib.Core.Path.{_≡_, refl, sym, ap, _∙_}
+use mathlib.Core.Bool.{Bool, true, false}
+use mathlib.Core.List.{List, _++_, append-nil}
+use Prim.Native.Nat.{ℕ, _≤_, _<_, min}
+use native.Mathlib.Nat.{le-refl, le-of-lt}
+use native.Mathlib.Omega.{arith}
+use lib.Dec.{leb}
+use lib.ListN.{length, take, drop, replicate, length-map, length-take, length-replicate, drop-of-length-le}
+use lib.Seq.{take-all, take-at, take-take, take-length, length-take-le}
+use borrow.Author.Tests.{leb-true, leb-false}
+use Rattle.below.proofs.Tests.{by-cases}
+use Rattle.tables.specs.Limits.{Limits}
+use Rattle.tables.specs.Tables.{Tables, tablesOf, fullSize, Sizes}
+use Rattle.tables.specs.Entries.{zeroDependency}
+use Rattle.tables.specs.declared.entries.Dependency.{Dependency}
+use Rattle.tables.proofs.SizeLaws.{full-sizes}
+use Rattle.records.specs.Records.{overlaid, copied, ColumnsOf, seen, tablesOfRecords, flagsOf}
+use Rattle.records.proofs.Overlaid.{overlaid-whole}
+
+module _ (L : Limits) where
+  -- a table that is not longer than its full size is copied whole
+  copied-short : (ds : List Dependency) → length ds ≤ L .dependencies → take (length ds) (copied L ds) ≡ ds
+  unfolding copied overlaid
+  copied-short ds l =
+      let m : min (L .dependencies) (length ds) ≡ length ds = omega arith in
+      ap (λ (k : ℕ). take (length ds) (take k ds ++ drop k (replicate (L .dependencies) zeroDependency))) m
+      ∙ take-at (take (length ds) ds) (drop (length ds) (replicate (L .dependencies) zeroDependency)) (length ds) (length-take-le (length ds) ds (le-refl (length ds)))
+      ∙ take-length ds
+
+  -- of a longer one the copy is what is seen
+  copied-long : (ds : List Dependency) → L .dependencies ≤ length ds → copied L ds ≡ seen L ds
+  unfolding copied seen
+  copied-long ds l =
+      let m : min (L .dependencies) (length ds) ≡ L .dependencies = omega arith in
+      ap (λ (k : ℕ). overlaid k ds (replicate (L .dependencies) zeroDependency)) m
+      ∙ overlaid-whole ds (replicate (L .dependencies) zeroDependency) (L .dependencies) (omega (arith, length-replicate (L .dependencies) zeroDependency))
+
+  seen-all : (ds : List Dependency) (n : ℕ) → L .dependencies ≤ n → seen L (take n (seen L ds)) ≡ seen L ds
+  unfolding seen
+  seen-all ds n l =
+      ap (take (L .dependencies)) (take-all n (take (L .dependencies) ds) (omega (arith, length-take (L .dependencies) ds)))
+      ∙ take-take (L .dependencies) (L .dependencies) ds (le-refl (L .dependencies))
+
+  pub copied-seen : (ds : List Dependency) → seen L (take (length ds) (copied L ds)) ≡ seen L ds
+  copied-seen ds = by-cases (leb (length ds) (L .dependencies))
+      (λ e. ap (seen L) (copied-short ds (leb-true (length ds) (L .dependencies) e)))
+      (λ e. let l : L .dependencies < length ds = leb-false (length ds) (L .dependencies) e in
+      ap (λ (t : List Dependency). seen L (take (length ds) t)) (copied-long ds (le-of-lt l)) ∙ seen-all ds (length ds) (le-of-lt l))
+
+  pub seen-whole : (table : List Dependency) (n : ℕ) → length table ≡ L .dependencies → L .dependencies ≤ n → seen L (take n table) ≡ table
+  unfolding seen
+  seen-whole table n e l = ap (take (L .dependencies)) (take-all n table (omega arith)) ∙ take-all (L .dependencies) table (omega arith)
+
+  seen-short : (ds : List Dependency) → length ds < L .dependencies → length (flagsOf (seen L ds)) < L .dependencies
+  unfolding seen
+  seen-short ds l = omega (arith, length-map (take (L .dependencies) ds) (λ (d : Dependency). d .flags), length-take (L .dependencies) ds)
+
+  pub tables-short : (t : Tables) (ds : List Dependency) → t .flags ≡ flagsOf (seen L ds) → length ds < L .dependencies → fullSize L t ≡ false
+  tables-short t ds e l = by-cases (fullSize L t) (λ f. absurd (omega (arith, seen-short ds l, ap length e, full-sizes L t f .flags))) (λ f. f)
+
+  module _ {droneCount dependencyCount names stopCounts locations times visited droneFlags : List ℕ} where
+    pub tables-copied : (ds table : List Dependency) (n : ℕ) → n ≡ length ds → table ≡ copied L ds → tablesOfRecords L droneCount dependencyCount names stopCounts locations times visited droneFlags (take n table) ≡ tablesOfRecords L droneCount dependencyCount names stopCounts locations times visited droneFlags ds
+    tables-copied ds table n e w = rw (e, w, copied-seen ds) refl
+
+    pub tables-spread : {firstDrones firstStops secondDrones secondStops flags : List ℕ} (table : List Dependency) (n : ℕ) → ColumnsOf table firstDrones firstStops secondDrones secondStops flags → length table ≡ L .dependencies → L .dependencies ≤ n → tablesOf droneCount dependencyCount names stopCounts locations times visited droneFlags firstDrones firstStops secondDrones secondStops flags ≡ tablesOfRecords L droneCount dependencyCount names stopCounts locations times visited droneFlags (take n table)
+    tables-spread table n c e l = rw (seen-whole table n e l, c .first-drones, c .first-stops, c .second-drones, c .second-stops, c .flag-bytes) refl
