@@ -46,13 +46,13 @@ def shape(text):  # contracts keep their number and kind, and say nothing
 
 def source(name, module):
     text = open(f"crates/{name}/src/{module}.rt").read()
-    return shape(re.sub(r"^ghost use .*?;\n", "", text, flags=re.M)).replace(HOME, f"type {RECORD} = {ARRAY};")
+    return shape(re.sub(r"^ghost use .*?;\n|//.*", "", text, flags=re.M)).replace(HOME, f"type {RECORD} = {ARRAY};")
 
-first = {}  # the first variant of each enum, which a stub returns
+first = {}  # of each enum the first variant that holds nothing, which a stub returns
 
 def enums(text):
-    for m in re.finditer(r"\benum (\w+)\s*\{\s*(\w+)", text):
-        first[m.group(1)] = f"{m.group(1)}::{m.group(2)}"
+    for m in re.finditer(r"\benum (\w+)\s*\{(.*?)\n\}", text, re.S):
+        first[m.group(1)] = f"{m.group(1)}::" + re.search(r"^\s*(\w+),", m.group(2), re.M).group(1)
 
 def stubbed(text, keep):  # every function but `keep` returns at once
     out, i = "", 0
@@ -174,8 +174,8 @@ def carry(text, where):
     for a, b in subs:
         text = re.sub(a, b, text)
     for left in (arr, f"{elem} 4", f"({K}.eInt {S}.w16)"):
-        for m in re.finditer(flex(left), text):
-            print("left over:", where, re.sub(r"\s+", " ", text[max(0, m.start() - 80):m.end()]), file=sys.stderr)
+        for m in re.finditer(r"(?<!\.pShrS )(?<!\.pMutS )" + flex(left), re.sub(r"\s+", " ", text)):
+            print("left over:", where, m.string[max(0, m.start() - 80):m.end()], file=sys.stderr)
     # the modules: those of the functions carried over stand below Derived
     for f in listed:
         for part in ("Kinds", "Reads", "Lts"):

@@ -84,8 +84,7 @@ returns : tie.Need-returns Inv-loop μ-loop
 returns c =
     let s = c .before .before in
     let l = c .before .loop in
-    let size : length (s .args .t1) ≡ 2048 = good-length Rec.elem 2048 (s .args .t1) _ (s .good .0) in
-    (
+    let size : length (s .args .t1) ≡ 2048 = good-length Rec.elem 2048 (s .args .t1) _ (s .good .0) in (
       record {
         first-drones = column-whole (λ (d : Dependency). d .«first_drone») (s .args .t1) (s .args .first-drones .now) _ (l .i) (omega (arith, size)) (omega (arith, s .pre .first-drones)) (l .inv .2);
         first-stops = column-whole (λ (d : Dependency). d .«first_stop») (s .args .t1) (s .args .first-stops .now) _ (l .i) (omega (arith, size)) (omega (arith, s .pre .first-stops)) (l .inv .3);

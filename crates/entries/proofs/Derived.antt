@@ -1,0 +1,3 @@
+pub mod arrive
+pub mod grant
+pub mod write_plan
