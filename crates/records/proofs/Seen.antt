@@ -1,17 +1,18 @@
 -- The tables that a call sees: of a copy of the lent records, of the columns of that copy, and of a lent table that is too short.
 --     copied-seen, tables-copied    a copy of the records, as many as there are, shows what the records show
 --     seen-whole, tables-spread     a whole copy is seen whole, and its columns are the tables' own
+--     stored-seen, stored-rest      a table that was stored back is seen, and what lies past the full size is as it was
 --     tables-short                  a lent table below its full size makes the tables too small
 -- Assumes nothing.
 use mathlib.Core.Path.{_≡_, refl, sym, ap, _∙_}
 use mathlib.Core.Bool.{Bool, true, false}
-use mathlib.Core.List.{List, _++_, append-nil}
+use mathlib.Core.List.{List, [], _++_, append-nil}
 use Prim.Native.Nat.{ℕ, _≤_, _<_, min}
 use native.Mathlib.Nat.{le-refl, le-of-lt}
 use native.Mathlib.Omega.{arith}
 use lib.Dec.{leb}
-use lib.ListN.{length, take, drop, replicate, length-map, length-take, length-replicate, drop-of-length-le}
-use lib.Seq.{take-all, take-at, take-take, take-length, length-take-le}
+use lib.ListN.{length, take, drop, replicate, length-map, length-take, length-replicate, length-append, drop-of-length-le}
+use lib.Seq.{take-all, take-at, drop-at, take-take, take-length, drop-length, length-take-le}
 use borrow.Author.Tests.{leb-true, leb-false}
 use Rattle.below.proofs.Tests.{by-cases}
 use Rattle.tables.specs.Limits.{Limits}
@@ -19,7 +20,7 @@ use Rattle.tables.specs.Tables.{Tables, tablesOf, fullSize, Sizes}
 use Rattle.tables.specs.Entries.{zeroDependency}
 use Rattle.tables.specs.declared.entries.Dependency.{Dependency}
 use Rattle.tables.proofs.SizeLaws.{full-sizes}
-use Rattle.records.specs.Records.{overlaid, copied, ColumnsOf, seen, tablesOfRecords, flagsOf}
+use Rattle.records.specs.Records.{overlaid, copied, stored, ColumnsOf, seen, tablesOfRecords, flagsOf}
 use Rattle.records.proofs.Overlaid.{overlaid-whole}
 
 module _ (L : Limits) where
@@ -56,6 +57,34 @@ module _ (L : Limits) where
   unfolding seen
   seen-whole table n e l = ap (take (L .dependencies)) (take-all n table (omega arith)) ∙ take-all (L .dependencies) table (omega arith)
 
+  pub stored-seen : (table ds : List Dependency) → length table ≡ L .dependencies → seen L (stored L table ds) ≡ seen L (take (length ds) table)
+  unfolding stored overlaid seen
+  stored-seen table ds e = by-cases (leb (length ds) (L .dependencies))
+      (λ b. let l : length ds ≤ L .dependencies = leb-true (length ds) (L .dependencies) b in
+      let m : min (L .dependencies) (length ds) ≡ length ds = omega arith in
+      ap (λ (k : ℕ). take (L .dependencies) (take k table ++ drop k ds)) m
+      ∙ ap (λ (u : List Dependency). take (L .dependencies) (take (length ds) table ++ u)) (drop-length ds)
+      ∙ ap (take (L .dependencies)) (append-nil (take (length ds) table)))
+      (λ b. let l : L .dependencies < length ds = leb-false (length ds) (L .dependencies) b in
+      let m : min (L .dependencies) (length ds) ≡ L .dependencies = omega arith in
+      ap (λ (k : ℕ). take (L .dependencies) (take k table ++ drop k ds)) m
+      ∙ take-at (take (L .dependencies) table) (drop (L .dependencies) ds) (L .dependencies) (length-take-le (L .dependencies) table (omega arith))
+      ∙ sym (take-take (L .dependencies) (length ds) table (le-of-lt l)))
+
+  pub stored-rest : (table ds : List Dependency) → length table ≡ L .dependencies → drop (L .dependencies) (stored L table ds) ≡ drop (L .dependencies) ds
+  unfolding stored overlaid
+  stored-rest table ds e = by-cases (leb (length ds) (L .dependencies))
+      (λ b. let l : length ds ≤ L .dependencies = leb-true (length ds) (L .dependencies) b in
+      let m : min (L .dependencies) (length ds) ≡ length ds = omega arith in
+      ap (λ (k : ℕ). drop (L .dependencies) (take k table ++ drop k ds)) m
+      ∙ ap (λ (u : List Dependency). drop (L .dependencies) (take (length ds) table ++ u)) (drop-length ds)
+      ∙ drop-of-length-le (take (length ds) table ++ []) {i = L .dependencies} (omega (arith, length-append (take (length ds) table) [], length-take (length ds) table))
+      ∙ sym (drop-of-length-le ds l))
+      (λ b. let l : L .dependencies < length ds = leb-false (length ds) (L .dependencies) b in
+      let m : min (L .dependencies) (length ds) ≡ L .dependencies = omega arith in
+      ap (λ (k : ℕ). drop (L .dependencies) (take k table ++ drop k ds)) m
+      ∙ drop-at (take (L .dependencies) table) (drop (L .dependencies) ds) (L .dependencies) (length-take-le (L .dependencies) table (omega arith)))
+
   seen-short : (ds : List Dependency) → length ds < L .dependencies → length (flagsOf (seen L ds)) < L .dependencies
   unfolding seen
   seen-short ds l = omega (arith, length-map (take (L .dependencies) ds) (λ (d : Dependency). d .flags), length-take (L .dependencies) ds)
@@ -69,3 +98,6 @@ module _ (L : Limits) where
 
     pub tables-spread : {firstDrones firstStops secondDrones secondStops flags : List ℕ} (table : List Dependency) (n : ℕ) → ColumnsOf table firstDrones firstStops secondDrones secondStops flags → length table ≡ L .dependencies → L .dependencies ≤ n → tablesOf droneCount dependencyCount names stopCounts locations times visited droneFlags firstDrones firstStops secondDrones secondStops flags ≡ tablesOfRecords L droneCount dependencyCount names stopCounts locations times visited droneFlags (take n table)
     tables-spread table n c e l = rw (seen-whole table n e l, c .first-drones, c .first-stops, c .second-drones, c .second-stops, c .flag-bytes) refl
+
+    pub tables-stored : (table ds : List Dependency) (n : ℕ) → n ≡ length ds → length table ≡ L .dependencies → tablesOfRecords L droneCount dependencyCount names stopCounts locations times visited droneFlags (take n table) ≡ tablesOfRecords L droneCount dependencyCount names stopCounts locations times visited droneFlags (stored L table ds)
+    tables-stored table ds n e l = rw (e, stored-seen table ds l) refl
