@@ -48,13 +48,29 @@ def source(name, module):
     text = open(f"crates/{name}/src/{module}.rt").read()
     return shape(re.sub(r"^ghost use .*?;\n|//.*", "", text, flags=re.M)).replace(HOME, f"type {RECORD} = {ARRAY};")
 
-first = {}  # of each enum the first variant that holds nothing, which a stub returns
+first = {}  # of each enum a variant, one that holds nothing if there is one, and the types that it holds
+fields = {}  # of each struct its fields
 
-def enums(text):
+def types(text):
     for m in re.finditer(r"\benum (\w+)\s*\{(.*?)\n\}", text, re.S):
-        first[m.group(1)] = f"{m.group(1)}::" + re.search(r"^\s*(\w+),", m.group(2), re.M).group(1)
+        v = re.search(r"^\s*(\w+),()", m.group(2), re.M) or re.search(r"^\s*(\w+)\((.*)\),", m.group(2), re.M)
+        first[m.group(1)] = (f"{m.group(1)}::{v.group(1)}", v.group(2).split(", ") if v.group(2) else [])
+    for m in re.finditer(r"\bstruct (\w+)\s*\{(.*?)\n\}", text, re.S):
+        fields[m.group(1)] = re.findall(r"(\w+): ([^,]+),", m.group(2))
+
+def value(ty):  # what a stub returns
+    array = re.fullmatch(r"\[(.*); (\w+)\]", ty)
+    if array:
+        return f"[{value(array.group(1))}; {array.group(2)}]"
+    if ty in fields:
+        return ty + " { " + ", ".join(f"{f}: {value(t)}" for f, t in fields[ty]) + " }"
+    if ty in first:
+        name, held = first[ty]
+        return name + ("(%s)" % ", ".join(value(t) for t in held) if held else "")
+    return {"bool": "false", RECORD: ZERO}.get(ty, "0")
 
 def stubbed(text, keep):  # every function but `keep` returns at once
+    types(text)  # a module's own names come before those of others
     out, i = "", 0
     for m in re.finditer(r"^(?:pub )?fn (\w+)", text, re.M):
         at = text.index("(", m.end())
@@ -77,7 +93,7 @@ def stubbed(text, keep):  # every function but `keep` returns at once
         k = text.index("{", k)
         end = braces(text, k)
         if m.group(1) != keep:
-            body = {"": "{}", "bool": "{ false }", RECORD: f"{{ {ZERO} }}", f"[{RECORD}; 2048]": f"{{ [{ZERO}; 2048] }}"}.get(ty, "{ %s }" % first.get(ty.split("::")[-1], "0"))
+            body = "{ %s }" % value(ty) if ty else "{}"
             out += text[i:k] + body
             i = end
     return out + text[i:]
@@ -95,7 +111,7 @@ def modules(f):  # the twin's texts by crate and module: what the function uses,
         if (name, module) in texts:
             continue
         raw = source(name, module)
-        enums(raw)
+        types(raw)
         texts[name, module] = raw
         kept = pruned(stubbed(raw, f if (name, module) == (crate, mod) else None))
         for m in re.finditer(r"^use (\w+)::(\w+)", kept, re.M):
@@ -106,7 +122,8 @@ def twin(f):  # the twin for one function: what it calls is stubbed, so that the
     shutil.rmtree(work, ignore_errors=True)
     texts = modules(f)
     names = sorted({n for n, _ in texts})
-    stands = {n: sorted({m for k, t in texts.items() if k[0] == n for m in re.findall(r"^use (\w+)::", t, re.M)} - {"crate"}) for n in names}
+    listed = dict(re.findall(r"^(\w+):(.*)$", open("crates.txt").read(), re.M))
+    stands = {n: [m for m in listed[n].split() if m in names] for n in names}
     os.makedirs(work)
     open(f"{work}/crates.txt", "w").write("".join(f"{n}: {' '.join(stands[n])}\n" for n in sorted(names, key=lambda n: (n == crate, len(stands[n])))))
     for n in names:

@@ -1,7 +1,8 @@
 -- The tables that a call sees: of a copy of the lent records, of the columns of that copy, and of a lent table that is too short.
 --     copied-seen, tables-copied    a copy of the records, as many as there are, shows what the records show
 --     seen-whole, tables-spread     a whole copy is seen whole, and its columns are the tables' own
---     stored-seen, stored-rest      a table that was stored back is seen, and what lies past the full size is as it was
+--     tables-gathered               records that were made of columns
+--     stored-seen, stored-rest, stored-after      a table that was stored back is seen, and what lies past the full size is as it was
 --     tables-short                  a lent table below its full size makes the tables too small
 -- Assumes nothing.
 use mathlib.Core.Path.{_≡_, refl, sym, ap, _∙_}
@@ -20,7 +21,8 @@ use Rattle.tables.specs.Tables.{Tables, tablesOf, fullSize, Sizes}
 use Rattle.tables.specs.Entries.{zeroDependency}
 use Rattle.tables.specs.declared.entries.Dependency.{Dependency}
 use Rattle.tables.proofs.SizeLaws.{full-sizes}
-use Rattle.records.specs.Records.{overlaid, copied, stored, ColumnsOf, seen, tablesOfRecords, flagsOf}
+use Rattle.records.specs.Records.{overlaid, copied, stored, ColumnSizes, ColumnsOf, gathered, seen, tablesOfRecords, flagsOf}
+use Rattle.records.proofs.Copies.{gathered-length, gathered-columns}
 use Rattle.records.proofs.Overlaid.{overlaid-whole}
 
 module _ (L : Limits) where
@@ -85,6 +87,9 @@ module _ (L : Limits) where
       ap (λ (k : ℕ). drop (L .dependencies) (take k table ++ drop k ds)) m
       ∙ drop-at (take (L .dependencies) table) (drop (L .dependencies) ds) (L .dependencies) (length-take-le (L .dependencies) table (omega arith)))
 
+  pub stored-after : (made table ds after : List Dependency) → table ≡ made → length made ≡ L .dependencies → after ≡ stored L table ds → drop (L .dependencies) after ≡ drop (L .dependencies) ds
+  stored-after made table ds after same l is = rw (is, same) (stored-rest made ds l)
+
   seen-short : (ds : List Dependency) → length ds < L .dependencies → length (flagsOf (seen L ds)) < L .dependencies
   unfolding seen
   seen-short ds l = omega (arith, length-map (take (L .dependencies) ds) (λ (d : Dependency). d .flags), length-take (L .dependencies) ds)
@@ -99,5 +104,12 @@ module _ (L : Limits) where
     pub tables-spread : {firstDrones firstStops secondDrones secondStops flags : List ℕ} (table : List Dependency) (n : ℕ) → ColumnsOf table firstDrones firstStops secondDrones secondStops flags → length table ≡ L .dependencies → L .dependencies ≤ n → tablesOf droneCount dependencyCount names stopCounts locations times visited droneFlags firstDrones firstStops secondDrones secondStops flags ≡ tablesOfRecords L droneCount dependencyCount names stopCounts locations times visited droneFlags (take n table)
     tables-spread table n c e l = rw (seen-whole table n e l, c .first-drones, c .first-stops, c .second-drones, c .second-stops, c .flag-bytes) refl
 
-    pub tables-stored : (table ds : List Dependency) (n : ℕ) → n ≡ length ds → length table ≡ L .dependencies → tablesOfRecords L droneCount dependencyCount names stopCounts locations times visited droneFlags (take n table) ≡ tablesOfRecords L droneCount dependencyCount names stopCounts locations times visited droneFlags (stored L table ds)
-    tables-stored table ds n e l = rw (e, stored-seen table ds l) refl
+    pub tables-made : {ds es : List Dependency} (n : ℕ) → ds ≡ es → tablesOfRecords L droneCount dependencyCount names stopCounts locations times visited droneFlags (take n ds) ≡ tablesOfRecords L droneCount dependencyCount names stopCounts locations times visited droneFlags (take n es)
+    tables-made n e = ap (λ (x : List Dependency). tablesOfRecords L droneCount dependencyCount names stopCounts locations times visited droneFlags (take n x)) e
+
+    pub tables-gathered : {firstDrones firstStops secondDrones secondStops flags : List ℕ} (table : List Dependency) (n : ℕ) → ColumnSizes L firstDrones firstStops secondDrones secondStops flags → table ≡ gathered L firstDrones firstStops secondDrones secondStops flags → L .dependencies ≤ n → tablesOf droneCount dependencyCount names stopCounts locations times visited droneFlags firstDrones firstStops secondDrones secondStops flags ≡ tablesOfRecords L droneCount dependencyCount names stopCounts locations times visited droneFlags (take n table)
+    tables-gathered {firstDrones} {firstStops} {secondDrones} {secondStops} {flags} table n s e l =
+        rw e (tables-spread (gathered L firstDrones firstStops secondDrones secondStops flags) n (gathered-columns L firstDrones firstStops secondDrones secondStops flags s) (gathered-length L firstDrones firstStops secondDrones secondStops flags) l)
+
+    pub tables-stored : (made table ds after : List Dependency) (n : ℕ) → n ≡ length ds → table ≡ made → length made ≡ L .dependencies → after ≡ stored L table ds → tablesOfRecords L droneCount dependencyCount names stopCounts locations times visited droneFlags (take n made) ≡ tablesOfRecords L droneCount dependencyCount names stopCounts locations times visited droneFlags after
+    tables-stored made table ds after n e same l is = rw (e, is, same, stored-seen made ds l) refl
