@@ -4,3 +4,4 @@ pub mod WritingLaws
 pub mod CheckLaws
 pub mod Turned
 pub mod TurnAnswers
+pub mod CostLaws

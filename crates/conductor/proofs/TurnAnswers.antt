@@ -5,13 +5,13 @@ use mathlib.Core.List.{List}
 use Prim.Native.Nat.{ℕ, suc, _-_, _≤_, _<_}
 use native.Mathlib.Omega.{arith}
 use lib.Dec.{eqb}
-use lib.ListN.{length, set}
-use lib.Seq.{set-set, set-getD}
+use lib.ListN.{length, set, length-set}
+use lib.Seq.{set-set, set-getD, getD-set-other}
 use borrow.Author.Tests.{le-leb, lt-leb, eqb-true, eq-eqb}
 use Rattle.below.specs.Below.{at}
 use Rattle.below.proofs.Tests.{same-test}
 use Rattle.tables.specs.Limits.{Limits}
-use Rattle.tables.specs.Tables.{Tables, dependencies}
+use Rattle.tables.specs.Tables.{Tables, dependencies, fullSize}
 use Rattle.tables.specs.Flags.{turnedBit, fixedBit, flipBit, underWayBit}
 use Rattle.plan.specs.Field.{FieldPlan, planOf, Dependency, inForce, fixed}
 use Rattle.plan.specs.Status.{Status, statusIn, entered, now}
@@ -20,6 +20,7 @@ use Rattle.log.specs.CallLog.{turn, accepted, refused}
 use Rattle.log.specs.Calls.{step, flipped, Answered}
 use Rattle.log.specs.Claims.{Usable}
 use Rattle.log.proofs.SoundParts.{sound-says, fixed-bit}
+use Rattle.log.proofs.Shown.{full-same}
 use Rattle.log.proofs.Steps.{turn-30, turn-31, turn-32, turn-33, turn-34, turn-0}
 use Rattle.conductor.specs.Entering.{enteredBy}
 use Rattle.conductor.proofs.Answers.{answered}
@@ -43,6 +44,18 @@ module _ (place flag stop : ℕ) where
 -- the tables with other flag bytes of the dependencies
 abbrev pub withFlags : Tables → List ℕ → Tables
 withFlags t flags = record { plan = t .plan; visited = t .visited; droneFlags = t .droneFlags; flags = flags }
+
+-- a turn keeps every size
+pub full-turn : (L : Limits) (t : Tables) (w x : ℕ) → w < dependencies (t .plan) → fullSize L t ≡ true → fullSize L (withFlags t (set (t .flags) w x)) ≡ true
+full-turn L t w x l full = full-same L t (withFlags t (set (t .flags) w x)) (record {
+  plan-same = refl;
+  visited-length = refl;
+  droneFlags-length = refl;
+  flags-length = length-set (t .flags) w x;
+  visited-unused = λ d h. refl;
+  droneFlags-unused = λ d h. refl;
+  flags-unused = λ v h. getD-set-other (t .flags) w v x 0 (λ e. omega arith);
+}) full
 
 -- the sides of a dependency that are entered, in the order now in force
 module _ (F : FieldPlan) (s : Status) (x : Dependency) where

@@ -3,3 +3,4 @@ pub mod Checking
 pub mod Writing
 pub mod TurnReplies
 pub mod Entering
+pub mod InForce

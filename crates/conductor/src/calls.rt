@@ -2,17 +2,22 @@
 use crate::cores::arrive_sound;
 use crate::cores::grant_sound;
 use crate::cores::write_sound;
+use crate::costing::cost_sound;
 use crate::replies::ArriveReply;
 use crate::replies::GrantReply;
 use crate::replies::WriteReply;
+use crate::turn_replies::CostAnswer;
+use crate::turn_replies::TurnReply;
+use crate::turning::turn_sound;
 use sound::is_sound;
 use tables::sizes::full_size;
 ghost use mathlib.Core.Path.{_≡_};
 ghost use Rattle.tables.specs.Limits.{limits};
 ghost use Rattle.tables.specs.Tables.{tablesOf};
-ghost use Rattle.log.specs.CallLog.{grant as grantOf, arrive as arriveOf};
-ghost use Rattle.log.specs.Calls.{step, Answered};
+ghost use Rattle.log.specs.CallLog.{grant as grantOf, arrive as arriveOf, turn as turnOf};
+ghost use Rattle.log.specs.Calls.{step, Answered, costReply};
 ghost use Rattle.conductor.specs.Replies.{grantMeant, arriveMeant};
+ghost use Rattle.conductor.specs.TurnReplies.{turnMeant, costMeant};
 ghost use Rattle.conductor.specs.Checking.{checkOf};
 ghost use Rattle.conductor.specs.Writing.{writeMeant, PlanWritten};
 
@@ -221,6 +226,74 @@ pub fn arrive(
     }
 }
 
+// "Turn: flips bit 0 of one dependency".
+pub fn turn(
+    drone_count: &[u16],
+    dependency_count: &[u16],
+    names: &[u8],
+    stop_counts: &[u16],
+    locations: &[u16],
+    times: &[u32],
+    visited: &[u16],
+    drone_flags: &[u8],
+    first_drones: &[u8],
+    first_stops: &[u16],
+    second_drones: &[u8],
+    second_stops: &[u16],
+    flags: &mut [u8],
+    dependency: usize,
+) -> TurnReply
+    ensures { λ r.
+        ⌜
+        Answered (step limits) (tablesOf
+        (now («drone_count» .entry)) (now («dependency_count» .entry)) (now (names .entry)) (now («stop_counts» .entry))
+        (now (locations .entry)) (now (times .entry)) (now (visited .entry)) (now («drone_flags» .entry))
+        (now («first_drones» .entry)) (now («first_stops» .entry)) (now («second_drones» .entry)) (now («second_stops» .entry))
+        (now (flags .entry)))
+        (turnOf dependency) (turnMeant r) (tablesOf
+        (now («drone_count» .entry)) (now («dependency_count» .entry)) (now (names .entry)) (now («stop_counts» .entry))
+        (now (locations .entry)) (now (times .entry)) (now (visited .entry)) (now («drone_flags» .entry))
+        (now («first_drones» .entry)) (now («first_stops» .entry)) (now («second_drones» .entry)) (now («second_stops» .entry))
+        (now (flags .exit)))
+        ⌝ }
+{
+    let check = check_tables(
+        drone_count,
+        dependency_count,
+        names,
+        stop_counts,
+        locations,
+        times,
+        visited,
+        drone_flags,
+        first_drones,
+        first_stops,
+        second_drones,
+        second_stops,
+        flags,
+    );
+    match check {
+        TablesCheck::TooSmall => TurnReply::TablesTooSmall,
+        TablesCheck::NotSound => TurnReply::NotSound,
+        TablesCheck::Usable => turn_sound(
+            drone_count,
+            dependency_count,
+            names,
+            stop_counts,
+            locations,
+            times,
+            visited,
+            drone_flags,
+            first_drones,
+            first_stops,
+            second_drones,
+            second_stops,
+            flags,
+            dependency,
+        ),
+    }
+}
+
 // Writes the text of the plan that the tables hold: "42 buffer shorter than the text".
 pub fn write_plan(
     buf: &mut [u8],
@@ -282,5 +355,66 @@ pub fn write_plan(
             second_stops,
             flags,
         ),
+    }
+}
+
+// "Remaining cost is their sum": of the drones' remaining rounds, with the order now in force. It changes nothing.
+pub fn cost(
+    drone_count: &[u16],
+    dependency_count: &[u16],
+    names: &[u8],
+    stop_counts: &[u16],
+    locations: &[u16],
+    times: &[u32],
+    visited: &[u16],
+    drone_flags: &[u8],
+    first_drones: &[u8],
+    first_stops: &[u16],
+    second_drones: &[u8],
+    second_stops: &[u16],
+    flags: &[u8],
+) -> CostAnswer
+    ensures { λ r.
+        ⌜
+        costMeant r ≡ costReply limits (tablesOf
+        (now («drone_count» .entry)) (now («dependency_count» .entry)) (now (names .entry)) (now («stop_counts» .entry))
+        (now (locations .entry)) (now (times .entry)) (now (visited .entry)) (now («drone_flags» .entry))
+        (now («first_drones» .entry)) (now («first_stops» .entry)) (now («second_drones» .entry)) (now («second_stops» .entry))
+        (now (flags .entry)))
+        ⌝ }
+{
+    let check = check_tables(
+        drone_count,
+        dependency_count,
+        names,
+        stop_counts,
+        locations,
+        times,
+        visited,
+        drone_flags,
+        first_drones,
+        first_stops,
+        second_drones,
+        second_stops,
+        flags,
+    );
+    match check {
+        TablesCheck::TooSmall => CostAnswer::TablesTooSmall,
+        TablesCheck::NotSound => CostAnswer::NotSound,
+        TablesCheck::Usable => CostAnswer::Cost(cost_sound(
+            drone_count,
+            dependency_count,
+            names,
+            stop_counts,
+            locations,
+            times,
+            visited,
+            drone_flags,
+            first_drones,
+            first_stops,
+            second_drones,
+            second_stops,
+            flags,
+        )),
     }
 }

@@ -48,7 +48,7 @@ edges-more firsts seconds flags k from into t x y E l e ex ey = record {
 
 -- two tables of the same waits
 module _ (own off last : ℕ → ℕ) (drones n m : ℕ) (from into from′ into′ : ℕ → ℕ) (ef : (k : ℕ) → k < m → from k ≡ from′ k) (ei : (k : ℕ) → k < m → into k ≡ into′ k) where
-  same-wait : (k : ℕ) → k < m → flatPlan own off last drones from into m .wait k ≡ flatPlan own off last drones from′ into′ m .wait k
+  pub same-wait : (k : ℕ) → k < m → flatPlan own off last drones from into m .wait k ≡ flatPlan own off last drones from′ into′ m .wait k
   same-wait k l = rw (ef k l, ei k l) refl
 
   pub same-fewer : Fewer (flatPlan own off last drones from into m) (flatPlan own off last drones from′ into′ m)

@@ -84,7 +84,7 @@ module _ (L : Limits) (t : Tables) where
 
   -- ---- chains
 
-  kept : waitsKept F S ≡ true → Kept G (S .place)
+  pub kept : waitsKept F S ≡ true → Kept G (S .place)
   unfolding waitsKept
   kept k w l h = leb-true _ _ (rw (le-leb (G .wait w .stop) (S .place (G .wait w .waiter)) h) at (allBelow-at (F .count) _ k w l))
 

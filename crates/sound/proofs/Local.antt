@@ -214,7 +214,7 @@ module _ (drones n m : ℕ) (counts locations times firstDrones firstStops secon
             let s : num (xs k) < last (own (xs k)) = stays N (xs k) (rw q (entry k l .next-in)) o in
             rw (N .place-own (at firstDrones k) (at firstStops k) (first-drone k l) (first-stop k l), N .place-number (at firstDrones k) (at firstStops k) (first-drone k l) (first-stop k l)) at s
 
-        same-wait : (k : ℕ) → k < m → Q .wait k ≡ graph F turned .wait k
+        pub same-wait : (k : ℕ) → k < m → Q .wait k ≡ graph F turned .wait k
         same-wait k l = by-cases (turned k)
             (λ t. let (a, b) = unfixed k l t in
             let f : at seconds k + 1 ≡ start counts (at secondDrones k) + suc (at secondStops k) = omega (arith, second-is k l) in

@@ -288,7 +288,7 @@ module _ (L : Limits) (t : Tables) where
       no-cycle = S .no-cycle;
     }
 
-    sound-parts : Parts
+    pub sound-parts : Parts
     sound-parts = record {
       counts-part = say-counts L D counts M sound-counts;
       names-sound = names-same ∙ and-left _ _ rest;

@@ -22,7 +22,7 @@ fn fill_lasts(drones: usize, stop_counts: &[u16], lasts: &mut [u16])
 }
 
 // The local tables of the numbering.
-fn fill_tables(
+pub fn fill_tables(
     drones: usize,
     n: usize,
     m: usize,
