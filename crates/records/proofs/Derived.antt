@@ -1,0 +1,4 @@
+pub mod flip_if
+pub mod record_count
+pub mod records
+pub mod store_all

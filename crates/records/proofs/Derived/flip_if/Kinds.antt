@@ -1,0 +1,14 @@
+-- `records::lent::flip_if`: Kinds, carried over by tools/lend.py. Assumes nothing.
+use Rattle.records.proofs.Row as Rec
+use borrow.Fn.Kinds
+use borrow.Kind.MutSlice
+use borrow.Table.Referent
+use denote.Array
+use mathlib.Core.List
+use mir.Syntax
+
+abbrev pub ps : List.List (Kinds.PK 1)
+ps = List._∷_ (MutSlice.pMutS Rec.rt 0 tt) (List._∷_ (Kinds.pNum Syntax.w64) (List._∷_ Kinds.pBool List.[]))
+
+abbrev pub r : Kinds.RK 1
+r = Kinds.rUnit

@@ -1,0 +1,15 @@
+-- `records::lent::records`: Kinds, carried over by tools/lend.py. Assumes nothing.
+use Rattle.records.proofs.Row as Rec
+use borrow.Fn.Kinds
+use borrow.Kind.Array
+use borrow.Kind.ShrSlice
+use borrow.Table.Referent
+use denote.Array as Array'
+use mathlib.Core.List
+use mir.Syntax
+
+abbrev pub ps : List.List (Kinds.PK 1)
+ps = List._∷_ (ShrSlice.pShrS Rec.rt 0 tt) List.[]
+
+abbrev pub r : Kinds.RK 1
+r = Array.rArr Rec.elem Rec.elem-laws 2048

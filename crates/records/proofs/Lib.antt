@@ -1,0 +1,5 @@
+pub mod Row
+pub mod Derived
+pub mod Overlaid
+pub mod Copies
+pub mod Seen

@@ -1,0 +1,323 @@
+#!/usr/bin/env python3
+"""Carries the borrow checker's derivation of a twin over to functions on a lent slice of dependency records.
+
+The borrow checker covers `&[[u16; 4]]` and does not cover `&[Dependency]`, though its rules hold at any row. The twin is the crate
+itself with `Dependency` an array of the same size and alignment (so the same MIR but for the type), its contracts cut down to their
+shape, and every function but the one at hand stubbed; of other crates it has the modules that are used, stubbed too. Every name stays,
+so every symbol is the same. `rt dev --generated` writes the twin's Kinds, Reads, Lts and Tie. This rewrites the array's row in them to
+the record's (crates/records/proofs/Row.antt) and lays the lines out wide. antt checks the result as any proof: this program is trusted
+with nothing.
+
+Usage: tools/lend.py CRATE [FN..]      from the repository's root; the functions are CRATE::MODULE::FN, and without one named, all that
+have been carried. MODULE is the crate's in CARRIERS below.
+Writes crates/CRATE/proofs/Derived/FN/{Kinds,Reads,Lts}.antt and crates/CRATE/proofs/MODULE/FN/Proof/Tie.antt,
+and, where there is none, a first crates/CRATE/proofs/MODULE/FN/Proof.antt.
+"""
+import os, re, shutil, subprocess, sys
+
+CARRIERS = {"records": "lent", "entries": "calls"}  # the crates with functions over the lent slice, and the module of each
+crate, fns = sys.argv[1], sys.argv[2:]
+mod = CARRIERS[crate]
+work = os.path.abspath("target/lend")
+root = f"crates/{crate}/proofs"
+RECORD, ARRAY, ZERO = "Dependency", "[u16; 4]", "[0; 4]"
+HOME = "use tables::entries::Dependency;"  # where the record is declared: its users get the array's name instead
+ROW = "Rattle.records.proofs.Row" if crate == "records" else "Rattle.records.proofs.Row"
+
+# ---- the twin crate
+
+def braces(text, at):  # the end of the group that opens at `at`
+    depth = 0
+    for i in range(at, len(text)):
+        depth += {"{": 1, "}": -1}.get(text[i], 0)
+        if depth == 0:
+            return i + 1
+    raise SystemExit("unbalanced braces")
+
+def shape(text):  # contracts keep their number and kind, and say nothing
+    out, i = "", 0
+    for m in re.finditer(r"\b(requires|ensures)\b(\s+\w+)?\s*\{", text):
+        if m.start() < i:
+            continue
+        end = braces(text, m.end() - 1)
+        out += text[i:m.start()] + m.group(1) + (m.group(2) or "") + (" { ⌜ (⊥ → ⊥) ⌝ }" if m.group(1) == "requires" else " { λ _. ⌜ (⊥ → ⊥) ⌝ }")
+        i = end
+    return out + text[i:]
+
+def source(name, module):
+    text = open(f"crates/{name}/src/{module}.rt").read()
+    return shape(re.sub(r"^ghost use .*?;\n|//.*", "", text, flags=re.M)).replace(HOME, f"type {RECORD} = {ARRAY};")
+
+first = {}  # of each enum a variant, one that holds nothing if there is one, and the types that it holds
+fields = {}  # of each struct its fields
+
+def types(text):
+    for m in re.finditer(r"\benum (\w+)\s*\{(.*?)\n\}", text, re.S):
+        v = re.search(r"^\s*(\w+),()", m.group(2), re.M) or re.search(r"^\s*(\w+)\((.*)\),", m.group(2), re.M)
+        first[m.group(1)] = (f"{m.group(1)}::{v.group(1)}", v.group(2).split(", ") if v.group(2) else [])
+    for m in re.finditer(r"\bstruct (\w+)\s*\{(.*?)\n\}", text, re.S):
+        fields[m.group(1)] = re.findall(r"(\w+): ([^,]+),", m.group(2))
+
+def value(ty):  # what a stub returns
+    array = re.fullmatch(r"\[(.*); (\w+)\]", ty)
+    if array:
+        return f"[{value(array.group(1))}; {array.group(2)}]"
+    if ty in fields:
+        return ty + " { " + ", ".join(f"{f}: {value(t)}" for f, t in fields[ty]) + " }"
+    if ty in first:
+        name, held = first[ty]
+        return name + ("(%s)" % ", ".join(value(t) for t in held) if held else "")
+    return {"bool": "false", RECORD: ZERO}.get(ty, "0")
+
+def stubbed(text, keep):  # every function but `keep` returns at once
+    types(text)  # a module's own names come before those of others
+    out, i = "", 0
+    for m in re.finditer(r"^(?:pub )?fn (\w+)", text, re.M):
+        at = text.index("(", m.end())
+        depth = 0
+        while True:
+            depth += {"(": 1, ")": -1}.get(text[at], 0)
+            at += 1
+            if depth == 0:
+                break
+        head = text[at:]
+        r = re.match(r"\s*->\s*([^{]*?)\s*(?=requires|ensures|\{)", head)
+        ty = r.group(1).strip() if r else ""
+        # the body opens after the clauses
+        k = at + (r.end() if r else 0)
+        while True:
+            c = re.match(r"\s*(requires|ensures)(\s+\w+)?\s*\{", text[k:])
+            if not c:
+                break
+            k = braces(text, k + c.end() - 1)
+        k = text.index("{", k)
+        end = braces(text, k)
+        if m.group(1) != keep:
+            body = "{ %s }" % value(ty) if ty else "{}"
+            out += text[i:k] + body
+            i = end
+    return out + text[i:]
+
+def pruned(text):  # without the `use` lines of names that are not used any more
+    lines = text.split("\n")
+    rest = "\n".join(l for l in lines if not l.startswith("use "))
+    last = re.compile(r"(\w+);")
+    return "\n".join(l for l in lines if not l.startswith("use ") or re.search(r"\b" + last.search(l).group(1) + r"\b", rest))
+
+def modules(f):  # the twin's texts by crate and module: what the function uses, and what that uses
+    texts, todo = {}, [(crate, mod)]
+    while todo:
+        name, module = todo.pop()
+        if (name, module) in texts:
+            continue
+        raw = source(name, module)
+        types(raw)
+        texts[name, module] = raw
+        kept = pruned(stubbed(raw, f if (name, module) == (crate, mod) else None))
+        for m in re.finditer(r"^use (\w+)::(\w+)", kept, re.M):
+            todo.append((name if m.group(1) == "crate" else m.group(1), m.group(2)))
+    return {k: pruned(stubbed(t, f if k == (crate, mod) else None)) for k, t in texts.items()}
+
+def twin(f):  # the twin for one function: what it calls is stubbed, so that the check is quick and needs no proof
+    shutil.rmtree(work, ignore_errors=True)
+    texts = modules(f)
+    names = sorted({n for n, _ in texts})
+    listed = dict(re.findall(r"^(\w+):(.*)$", open("crates.txt").read(), re.M))
+    stands = {n: [m for m in listed[n].split() if m in names] for n in names}
+    os.makedirs(work)
+    open(f"{work}/crates.txt", "w").write("".join(f"{n}: {' '.join(stands[n])}\n" for n in sorted(names, key=lambda n: (n == crate, len(stands[n])))))
+    for n in names:
+        os.makedirs(f"{work}/crates/{n}/src")
+        open(f"{work}/crates/{n}/src/lib.rt", "w").write("".join(f"pub mod {m};\n" for k, m in sorted(texts) if k == n))
+    for (n, m), text in texts.items():
+        open(f"{work}/crates/{n}/src/{m}.rt", "w").write(text)
+    def run(*words):
+        return subprocess.run(["rt", "dev", crate, *words], cwd=work, stdout=subprocess.PIPE, stderr=subprocess.STDOUT, text=True, env=dict(os.environ, RT_CUT="0")).stdout
+    log = run("--generated", f"{work}/gen")
+    open(f"{work}/log", "w").write(log)
+    return run()
+
+src = f"{work}/gen/Rattle.{crate}.proofs/proofs"
+
+# ---- from the array's row to the record's
+
+def aliases(text):
+    out = {}
+    for m in re.finditer(r"^use (\S+)(?: as (\S+))?$", text, re.M):
+        path = re.sub(r"^package\.", "", m.group(1))
+        out[path] = m.group(2) or path.split(".")[-1]
+    return out
+
+def flex(s):  # a text whose spaces may be any white space
+    return re.sub(r"(\\ |\s)+", r"\\s+", re.escape(s))
+
+def carry(text, where):
+    al = aliases(text)
+    S = al.get("mir.Syntax", "Syntax")
+    P = al.get("mathlib.Core.Path", "Path")
+    ref = al.get("borrow.Table.Referent", "Referent")
+    elem = f"({ref}.rtF ({ref}.fInt {S}.w16))"
+    arr = f"{S}.tyArray ({S}.tyInt {S}.w16) 4"
+    loc = al.get("borrow.Rule.Local", "Loc")
+    subs = []
+    def sub(a, b):
+        subs.append((rf"\({flex(a)}\)", b if " " not in b else f"({b})"))
+        subs.append((flex(a), b))
+    # behind a reference the record is its bare name
+    subs.append((rf"({re.escape(S)}\.tyRef\s+(?:\([^()]*\)|\S+)\s+{re.escape(S)}\.(?:imm|mut)\s+)\({flex(arr)}\)", r"\1Rec.behind"))
+    subs.append((rf"({re.escape(S)}\.tyRef\s+(?:\([^()]*\)|\S+)\s+{re.escape(S)}\.(?:imm|mut)\s+\({re.escape(S)}\.tyArray\s+)\({flex(arr)}\)", r"\1Rec.behind"))
+    sub(arr, "Rec.mir")
+    A = al.get("denote.Array", "Array")
+    sub(f"{A}.Array {elem} 4", "Rec.rt")
+    C = al.get("borrow.Table.Copies", "Copies")
+    sub(f"{C}.cArr {elem} ({C}.cRf ({ref}.fInt {S}.w16)) 4", "Rec.cp")
+    R = al.get("borrow.Rule.Array.Rows", "Rows")
+    sub(f"{R}.arrF {elem} 4 0", "Rec.row")
+    I = al.get("borrow.Rule.Array.Init", "Init")
+    sub(f"{I}.room-arr 𝓤 H A W {elem} 4 0 4 {P}.refl", f"{loc}.room-whole 𝓤 H A W Rec.rt Rec.mir {P}.refl")
+    Wh = al.get("borrow.Rule.Array.Whole", "Whole")
+    subs.append((flex(f"{Wh}.mem-arr 𝓤 H A W {elem} 4"), f"{loc}.mem-whole 𝓤 H A W Rec.rt"))
+    subs.append((flex(f"{Wh}.arr-mem 𝓤 H A W {elem} 4 tt"), f"{loc}.whole-mem 𝓤 H A W Rec.rt"))
+    # what a read past the end gives
+    subs.append((r"(\(λ x\. x\)\s+)List\.\[\](\s+\(λ x\. Unit\))", r"\1Rec.default\2"))
+    K = al.get("borrow.Kind.Array", "Array")
+    sub(f"{K}.eArr ({K}.eInt {S}.w16) 4", "Rec.elem")
+    sub(f"{K}.eArr-laws ({K}.eInt {S}.w16) ({K}.eInt-laws {S}.w16) 4", "Rec.elem-laws")
+    for kind, name in (("pArr", "param"), ("rArr", "result")):
+        sub(f"{K}.{kind} ({K}.eInt {S}.w16) ({K}.eInt-laws {S}.w16) 4", f"Rec.{name}")
+    subs.append((flex(f"{A}.array-lawful 𝓤 H A W {elem} (") + r"\S+" + flex(f".uint-lawful 𝓤 H A W {S}.w16) 4"), "Rec.lawful 𝓤 H A W"))
+    subs.append((flex(f"{K}.arr-reads 𝓤 H A W ({K}.eInt {S}.w16) ({K}.eInt-laws {S}.w16) 4"), "Rec.reads 𝓤 H A W"))
+    subs.append((flex(f"{K}.arr-yields 𝓤 H A W ({K}.eInt {S}.w16) ({K}.eInt-laws {S}.w16) 4"), "Rec.yields 𝓤 H A W"))
+    for a, b in subs:
+        text = re.sub(a, b, text)
+    for left in (arr, f"{elem} 4", f"({K}.eInt {S}.w16)"):
+        for m in re.finditer(r"(?<!\.pShrS )(?<!\.pMutS )" + flex(left), re.sub(r"\s+", " ", text)):
+            print("left over:", where, m.string[max(0, m.start() - 80):m.end()], file=sys.stderr)
+    # the modules: those of the functions carried over stand below Derived
+    for f in listed:
+        for part in ("Kinds", "Reads", "Lts"):
+            text = re.sub(rf"Rattle\.{crate}\.proofs\.{mod}\.{f}\.{part}\b", f"Rattle.{crate}.proofs.Derived.{f}.{part}", text)
+    for name, module in CARRIERS.items():
+        text = re.sub(rf"Rattle\.{name}\.proofs\.{module}\.(\w+)\.(Kinds|Reads|Lts)\b", rf"Rattle.{name}.proofs.Derived.\1.\2", text)
+    uses = f"use {ROW} as Rec\n" if "Rec." in text else ""
+    return uses + ("use borrow.Rule.Local as Loc\n" if "Loc." in text else "") + text
+
+# ---- closed terms that come again are named once
+
+def closed(term):
+    return not re.search(r"[λ{}]", term) and all(re.fullmatch(r"[(),]|\d+|tt|[A-Z][\w'·]*\.\S+", w) for w in re.findall(r"[(),]|[^\s(),]+", term))
+
+def tidy(term):
+    return re.sub(r"\s+", " ", term).replace("( ", "(").replace(" )", ")").replace(", )", ")").replace(",)", ")")
+
+def named(text):
+    al = aliases(text)
+    S, Row, RT = al.get("mir.Syntax"), al.get("borrow.Table.Row"), al.get("denote.RattleType")
+    head, body = re.match(r"(?s)((?:--[^\n]*\n|use [^\n]*\n)*)(.*)", text).groups()
+    if not S or not Row:
+        return text
+    defs = []
+    def name(kind, heads, ty):
+        nonlocal body
+        while True:
+            seen = {}
+            for m in re.finditer(r"\((?=\s*(?:" + heads + r")\b)", body):
+                depth = 0
+                for i in range(m.start(), len(body)):
+                    depth += {"(": 1, ")": -1}.get(body[i], 0)
+                    if depth == 0:
+                        break
+                raw = body[m.start():i + 1]
+                term = tidy(raw)
+                if len(term) > 40 and closed(term):
+                    seen.setdefault(term, [0, set()])
+                    seen[term][0] += 1
+                    seen[term][1].add(raw)
+            # the shortest first, so that longer ones cite it
+            todo = sorted((t for t, (n, _) in seen.items() if n > 2 and (n - 1) * (len(t) - 4) > 120), key=len)
+            if not todo:
+                return
+            t = todo[0]
+            x = f"{kind}{len([d for d in defs if d[0].startswith(kind)])}"
+            for raw in seen[t][1]:
+                body = body.replace(raw, x)
+            defs.append((x, ty, t[1:-1].strip()))
+    name("ty·", re.escape(S) + r"\.ty\w+", f"{S}.Ty")
+    # the rows of the tables: (place, row)
+    rows = {}
+    def entry(m):
+        k, r = m.group(1), tidy(m.group(2)).rstrip(", ")
+        if len(r) < 16 or not closed(r.replace("ty·", "X.")):
+            return m.group(0)
+        rows.setdefault(r, f"row·{len(rows)}")
+        return f"({k}, {rows[r]})"
+    def table(m):
+        t, out, i = m.group(0), "", 0
+        for e in re.finditer(r"\(\s*(\d+),", t):
+            if e.start() < i:
+                continue
+            depth = 0
+            for j in range(e.start(), len(t)):
+                depth += {"(": 1, ")": -1}.get(t[j], 0)
+                if depth == 0:
+                    break
+            inner = re.match(r"(?s)\(\s*(\d+),(.*)\)$", t[e.start():j + 1])
+            out += t[i:e.start()] + entry(inner)
+            i = j + 1
+        return re.sub(r"\s+", " ", out + t[i:]).replace("List._∷_ (", "List._∷_ (")
+    body = re.sub(r"(?ms)^t\d+ = .*?(?=\n\n)", table, body)
+    rowdefs = "".join(f"abbrev {x} : {Row}.Row\n{x} = {r}\n\n" for r, x in rows.items())
+    return head + "\n" + "".join(f"abbrev {x} : {t}\n{x} = {d}\n\n" for x, t, d in defs) + rowdefs + body.lstrip("\n")
+
+# ---- the lines, wide: a declaration's own text goes on as few lines as its layout lets it
+
+def wide(text, width=360):
+    out, base = [], None  # base: the indent of the line that the next ones go on
+    for line in text.split("\n"):
+        word = line.strip()
+        pad = len(line) - len(line.lstrip())
+        opens = re.match(r"(abbrev|pub|unfoldable|module|use|mod|open|record|unfolding)\b|--", word)
+        if not word or base is None or pad <= base or (opens and not re.match(r"record \{", word)):
+            out.append(line)
+            block = re.match(r"(pub )?record\b", word) or word.endswith(" where") or word.startswith(("use ", "mod ", "--")) or re.match(r"pub \S+ :$", word)
+            base = None if not word else (pad if not (block and word.endswith("where")) else None)
+            continue
+        if len(out[-1]) + len(word) < width:
+            out[-1] = out[-1].rstrip() + " " + word
+        else:
+            out.append(" " * (base + 4) + word)
+        if word.endswith(" where"):
+            base = None
+    return "\n".join(out)
+
+os.makedirs(f"{root}/Derived", exist_ok=True)
+carried = {d[:-5] for d in os.listdir(f"{root}/Derived") if d.endswith(".antt")}
+fns = fns or sorted(carried)
+listed = sorted(set(fns) | carried)
+for f in fns:
+    offered = twin(f)
+    if not all(os.path.exists(f"{src}/{mod}/{f}/{part}.antt") for part in ("Lts", "Tie")):
+        raise SystemExit(f"{f}: the twin has no derivation: see {work}/log")
+    os.makedirs(f"{root}/Derived/{f}", exist_ok=True)
+    os.makedirs(f"{root}/{mod}/{f}/Proof", exist_ok=True)
+    for part, path in [(p, f"{root}/Derived/{f}/{p}.antt") for p in ("Kinds", "Reads", "Lts")] + [("Tie", f"{root}/{mod}/{f}/Proof/Tie.antt")]:
+        text = open(f"{src}/{mod}/{f}/{part}.antt").read().split("\n", 1)[1]
+        head = f"-- `{crate}::{mod}::{f}`: {part}, carried over by tools/lend.py. Assumes nothing.\n"
+        open(path, "w").write(head + wide(named(carry(text, f"{f}/{part}")) if part == "Lts" else carry(text, f"{f}/{part}")))
+    open(f"{root}/Derived/{f}.antt", "w").write("pub mod Kinds\npub mod Reads\npub mod Lts\n")
+    proof = f"{root}/{mod}/{f}/Proof.antt"
+    # the file to start from, as the check of the twin prints it
+    m = re.search(rf"^help: write \S*/{mod}/{f}/Proof\.antt with these lines.*?\n((?:    .*\n)+)", offered, re.M)
+    made = f"{src}/{mod}/{f}/Proof.antt"
+    if not os.path.exists(proof):
+        text = re.sub(r"^    ", "", m.group(1), flags=re.M) if m else open(made).read()
+        text = text.replace("use borrow.Author.Needs.{needs}\n", "").replace(f"{mod}.{f}.Tie as", f"{mod}.{f}.Proof.Tie as")
+        for g in listed:
+            for part in ("Reads", "Lts"):
+                text = text.replace(f"proofs.proofs.{mod}.{g}.{part} as", f"proofs.proofs.Derived.{g}.{part} as")
+        for name, module in CARRIERS.items():
+            text = re.sub(rf"Rattle\.{name}\.proofs\.{module}\.(\w+)\.(Reads|Lts) as", rf"Rattle.{name}.proofs.Derived.\1.\2 as", text)
+        text = re.sub(r"^-- src/.*\n", "", text, flags=re.M).replace(" = ?", " = search needs").replace("=\n    ?", "=\n    ?")
+        open(proof, "w").write(f"-- `{crate}::{mod}::{f}` meets its contract: the needs that the derivation of Derived.{f} leaves. Assumes nothing.\nmod Tie\nuse borrow.Author.Needs.{{needs}}\n" + text)
+have = sorted(d[:-5] for d in os.listdir(f"{root}/Derived") if d.endswith(".antt"))
+open(f"{root}/Derived.antt", "w").write("".join(f"pub mod {d}\n" for d in have))
