@@ -1,22 +1,25 @@
 -- The parts of the sound test in the order in which the code asks them: a law for each return. Assumes nothing.
-use mathlib.Core.Path.{_≡_, refl, sym, ap, _∙_}
+use mathlib.Core.Path.{_≡_, refl, sym, ap, _∙_, subst}
 use mathlib.Core.Logic.{_≢_}
 use mathlib.Core.List.{List}
 use mathlib.Core.Bool.{Bool, true, false, not, cond, _&&_, _||_}
 use Prim.Native.Nat.{ℕ, zero, suc, _+_, _-_, _*_, _/_, _%_, _≤_, _<_}
+use native.Mathlib.Nat.{le-antisymm}
+use native.Mathlib.Numerals.{add-one}
 use native.Mathlib.Omega.{arith}
 use lib.Dec.{ltb, leb, eqb}
 use borrow.Author.Tests.{ltb-true, ltb-false, leb-true, eqb-true, eqb-false, lt-ltb, le-ltb, le-leb, lt-leb, eq-eqb, ne-eqb, not-true}
-use Rattle.below.specs.Below.{allBelow, firstBelow, fillBelow, at, pick}
+use Rattle.below.specs.Below.{allBelow, firstBelow, fillBelow, sumBelow, at, pick}
 use Rattle.below.proofs.Tests.{by-cases, and-left, and-right, same-test}
-use Rattle.below.proofs.Every.{allBelow-all, all-miss}
+use Rattle.below.proofs.Every.{allBelow-at, allBelow-all, all-miss}
+use Rattle.below.proofs.Sum.{sum-ext}
 use Rattle.tables.specs.Limits.{Limits}
 use Rattle.tables.specs.Flags.{turnedBit, underWayBit, onlyOneBit}
 use Rattle.lines.specs.Names.{isNameByte}
 use Rattle.plan.specs.Stops.{start}
 use Rattle.plan.specs.Check.{faultAt}
 use Rattle.sound.specs.Sound.{zeroFrom, nameLength, nameSound, sameName, namesDiffer}
-use Rattle.sound.specs.Parts.{countsSound, stopSound, stopIn, flagRight, fixedAt, recordRight, droneSound, enteredBy, waitKept, keptAt}
+use Rattle.sound.specs.Parts.{countsSound, nameKey, stopSound, stopIn, flagRight, fixedAt, recordRight, droneSound, enteredBy, waitKept, keptAt}
 
 -- ---- counts
 
@@ -62,6 +65,28 @@ module _ (L : Limits) (names : List ℕ) (d row : ℕ) (e : row ≡ d * L .name)
   pub same-is : (c other : ℕ) → other ≡ c * L .name → allBelow (L .name) (λ i. eqb (at names (row + i)) (at names (other + i))) ≡ sameName L names d c
   unfolding sameName
   same-is c other q = rw (e, q) refl
+
+  pub key-is : sumBelow (L .name) (λ i. at names (row + i)) ≡ nameKey L names d
+  unfolding nameKey
+  key-is = rw e refl
+
+-- equal names have equal sums
+pub keys-differ : (L : Limits) (names : List ℕ) (d e x y : ℕ) → x ≡ nameKey L names d → y ≡ nameKey L names e → x ≢ y → false ≡ sameName L names d e
+unfolding nameKey sameName
+keys-differ L names d e x y p q ne = by-cases (sameName L names d e)
+    (λ h. absurd (ne (p ∙ sum-ext (L .name) _ _ (λ i l. eqb-true _ _ (allBelow-at (L .name) _ h i l)) ∙ sym q)))
+    (λ h. sym h)
+
+pub sum-start : (f : ℕ → ℕ) → sumBelow 0 f ≡ 0
+unfolding sumBelow
+sum-start f = refl
+
+pub sum-more : (f : ℕ → ℕ) (i s x : ℕ) → s ≡ sumBelow i f → x ≡ f i → s + x ≡ sumBelow (i + 1) f
+unfolding sumBelow
+sum-more f i s x e q = rw (add-one, e, q) refl
+
+pub sum-end : (f : ℕ → ℕ) (i n : ℕ) {s : ℕ} → i ≤ n → n ≤ i → s ≡ sumBelow i f → s ≡ sumBelow n f
+sum-end f i n {s} a b e = subst (λ (k : ℕ). s ≡ sumBelow k f) (le-antisymm a b) e
 
 pub name-empty : (L : Limits) (names : List ℕ) (d used : ℕ) → used ≡ nameLength L names d → used < 1 → false ≡ nameSound L names d
 unfolding nameSound

@@ -6,6 +6,7 @@ use lib.ListN.{length}
 use Rattle.below.specs.Below.{at}
 use Rattle.tables.specs.Limits.{limits}
 use Rattle.plan.specs.Stops.{start, owner, number}
+use Rattle.sound.specs.Parts.{nameKey}
 
 -- counts that are in their ranges, and n stops in all
 pub record Counted (drones n m : ℕ) (counts : List ℕ) : Type 0 where
@@ -45,3 +46,7 @@ pub record Scratch (owners numbers starts lasts : List ℕ) : Type 0 where
 pub record Through (starts of stops : List ℕ) (m : ℕ) (flat : List ℕ) : Type 0 where
   pub size : length flat ≡ limits .dependencies
   pub are : (k : ℕ) → k < m → at flat k ≡ at starts (at of k) + at stops k
+
+-- keys holds the sums of the first n names' bytes
+abbrev pub Keyed : (names keys : List ℕ) → ℕ → Type 0
+Keyed names keys n = (d : ℕ) → d < n → at keys d ≡ nameKey limits names d

@@ -2,9 +2,9 @@
 -- Assumes nothing.
 use mathlib.Core.Bool.{Bool, not, cond, _&&_, _||_}
 use mathlib.Core.List.{List, [], _∷_}
-use Prim.Native.Nat.{ℕ, suc, _+_, _/_}
+use Prim.Native.Nat.{ℕ, suc, _+_, _*_, _/_}
 use lib.Dec.{ltb, leb, eqb}
-use Rattle.below.specs.Below.{allBelow, at, pick}
+use Rattle.below.specs.Below.{allBelow, sumBelow, at, pick}
 use Rattle.tables.specs.Limits.{Limits}
 use Rattle.tables.specs.Flags.{turnedBit, underWayBit, onlyOneBit}
 use Rattle.precedence.specs.Graph.{cyclic}
@@ -21,6 +21,10 @@ countsSound L drones counts m =
     && (leb m (L .dependencies)
     && (allBelow drones (λ d. leb 1 (at counts d))
     && leb (start counts drones) (L .stops))))
+
+-- the sum of the bytes of a drone's row of the table of names: equal names have equal ones
+unfoldable pub nameKey : (L : Limits) (names : List ℕ) → ℕ → ℕ
+nameKey L names d = sumBelow (L .name) (λ i. at names (d * L .name + i))
 
 -- stop v's location and time are in their ranges, and the plan check finds nothing at it
 unfoldable pub stopSound : (L : Limits) (num loc time : ℕ → ℕ) → ℕ → Bool

@@ -2,13 +2,15 @@
 use tables::entries::Drone;
 ghost use mathlib.Core.Bool.{not, cond, _&&_};
 ghost use mathlib.Core.Path.{_≡_};
-ghost use Prim.Native.Nat.{_*_, _≤_, _<_};
+ghost use Prim.Native.Nat.{_+_, _*_, _≤_, _<_};
 ghost use lib.Dec.{eqb};
 ghost use lib.ListN.{length};
 ghost use Rattle.below.specs.Below.{allBelow};
 ghost use Rattle.tables.specs.Limits.{limits};
 ghost use Rattle.lines.specs.Names.{isNameByte};
 ghost use Rattle.sound.specs.Sound.{nameLength, nameSound, sameName, namesDiffer};
+ghost use Rattle.sound.specs.Parts.{nameKey};
+ghost use Rattle.sound.specs.Asked.{Keyed};
 
 // How many bytes of drone d's row stand before the first zero.
 fn name_length(names: &[u8], d: usize) -> usize
@@ -72,17 +74,74 @@ fn same_name(names: &[u8], d: usize, e: usize) -> bool
     true
 }
 
-// Whether no earlier drone has drone d's name.
-fn is_new(names: &[u8], d: usize) -> bool
+fn wide(byte: u8) -> u16
+    ensures { λ r. ⌜ (r ≡ byte) × (r ≤ 255) ⌝ }
+{
+    byte as u16
+}
+
+// The sum of the bytes of drone d's row.
+fn name_key(names: &[u8], d: usize) -> u16
     requires { ⌜ (limits .drones * limits .name ≤ length (now names)) × (d < limits .drones) ⌝ }
+    ensures { λ r. ⌜ r ≡ nameKey limits (now (names .entry)) d ⌝ }
+{
+    let row = d * Drone::NAME;
+    let mut key: u16 = 0;
+    let mut i = 0;
+    while i < Drone::NAME {
+        key += wide(names[row + i]);
+        i += 1;
+    }
+    key
+}
+
+fn fill_keys(names: &[u8], drones: usize, keys: &mut [u16; 32])
+    requires { ⌜ (limits .drones * limits .name ≤ length (now names)) × (drones ≤ limits .drones) × (length (now keys) ≡ limits .drones) ⌝ }
+    ensures { λ _. ⌜ Keyed (now (names .entry)) (now (keys .exit)) drones ⌝ }
+{
+    let mut d = 0;
+    while d < drones {
+        keys[d] = name_key(names, d);
+        d += 1;
+    }
+}
+
+// Names are compared where their sums are equal.
+fn is_same(names: &[u8], keys: &[u16; 32], d: usize, e: usize) -> bool
+    requires { ⌜ (limits .drones * limits .name ≤ length (now names)) × (d < limits .drones) × (e < limits .drones) × Keyed (now names) (now keys) (d + 1) × (e < d) ⌝ }
+    ensures { λ r. ⌜ r ≡ sameName limits (now (names .entry)) d e ⌝ }
+{
+    if keys[d] != keys[e] {
+        return false;
+    }
+    same_name(names, d, e)
+}
+
+// Whether no earlier drone has drone d's name.
+fn is_new(names: &[u8], keys: &[u16; 32], d: usize) -> bool
+    requires { ⌜ (limits .drones * limits .name ≤ length (now names)) × (d < limits .drones) × Keyed (now names) (now keys) (d + 1) ⌝ }
     ensures { λ r. ⌜ r ≡ allBelow d (λ e. not (sameName limits (now (names .entry)) d e)) ⌝ }
 {
     let mut e = 0;
     while e < d {
-        if same_name(names, d, e) {
+        if is_same(names, keys, d, e) {
             return false;
         }
         e += 1;
+    }
+    true
+}
+
+fn are_new(names: &[u8], keys: &[u16; 32], drones: usize) -> bool
+    requires { ⌜ (limits .drones * limits .name ≤ length (now names)) × (drones ≤ limits .drones) × Keyed (now names) (now keys) drones ⌝ }
+    ensures { λ r. ⌜ r ≡ namesDiffer limits (now (names .entry)) drones ⌝ }
+{
+    let mut d = 0;
+    while d < drones {
+        if !is_new(names, keys, d) {
+            return false;
+        }
+        d += 1;
     }
     true
 }
@@ -91,14 +150,9 @@ fn names_differ(names: &[u8], drones: usize) -> bool
     requires { ⌜ (limits .drones * limits .name ≤ length (now names)) × (drones ≤ limits .drones) ⌝ }
     ensures { λ r. ⌜ r ≡ namesDiffer limits (now (names .entry)) drones ⌝ }
 {
-    let mut d = 0;
-    while d < drones {
-        if !is_new(names, d) {
-            return false;
-        }
-        d += 1;
-    }
-    true
+    let mut keys = [0u16; 32];
+    fill_keys(names, drones, &mut keys);
+    are_new(names, &keys, drones)
 }
 
 fn are_names(names: &[u8], drones: usize) -> bool

@@ -11,25 +11,25 @@ use Rattle.sound.proofs.names.is_new.Statement.{statement}
 use Rattle.sound.proofs.names.is_new.Tie as tie
 use Rattle.sound.proofs.names.is_new.Reads as reads
 use Rattle.sound.proofs.names.is_new.Lts as lts
-use Rattle.sound.proofs.names.same_name.Reads as same-name-reads
+use Rattle.sound.proofs.names.is_same.Reads as is-same-reads
 
 abbrev Inv-loop : tie.InvT-loop
-Inv-loop names d e₀ e = (e ≤ d) × (allBelow e (λ e. not (sameName limits names d e)) ≡ true)
+Inv-loop names keys d e₀ e = (e ≤ d) × (allBelow e (λ e. not (sameName limits names d e)) ≡ true)
 
 abbrev μ-loop : tie.MeasureT-loop
-μ-loop names d e₀ e = d - e
+μ-loop names keys d e₀ e = d - e
 
 -- src/names.rt:81:5
 loop-holds : tie.Need-loop-holds Inv-loop μ-loop
 loop-holds c = (omega arith, all-none _)
 
 -- src/names.rt:82:12
-same-name-requires : tie.Need-same-name-requires Inv-loop μ-loop
-same-name-requires c κs = search needs
+is-same-requires : tie.Need-is-same-requires Inv-loop μ-loop
+is-same-requires c κs = search needs
 
 -- src/names.rt:83:13
 returns : tie.Need-returns Inv-loop μ-loop
-returns c = all-miss _ _ _ (omega arith) (ap not (sym (c .before .same-name .ensures) ∙ c .if1 .taken))
+returns c = all-miss _ _ _ (omega arith) (ap not (sym (c .before .is-same .ensures) ∙ c .if1 .taken))
 
 -- src/names.rt:85:9
 add-e : tie.Need-add-e Inv-loop μ-loop
@@ -41,7 +41,7 @@ loop-less c = search needs
 
 -- src/names.rt:81:5
 loop-again : tie.Need-loop-again Inv-loop μ-loop
-loop-again c = (omega arith, all-more _ _ (c .before .before .before .loop .inv .1) (ap not (sym (c .before .same-name .ensures) ∙ c .if1 .left)))
+loop-again c = (omega arith, all-more _ _ (c .before .before .before .loop .inv .1) (ap not (sym (c .before .is-same .ensures) ∙ c .if1 .left)))
 
 -- src/names.rt:76:1
 returns-2 : tie.Need-returns-2 Inv-loop μ-loop
@@ -54,7 +54,7 @@ is-new-spec =
     Inv-loop
     μ-loop
     loop-holds
-    same-name-requires
+    is-same-requires
     returns
     add-e
     loop-less

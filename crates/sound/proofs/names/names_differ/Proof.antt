@@ -1,64 +1,22 @@
 use borrow.Author.Needs.{needs}
-use Prim.Native.Nat.{_-_, _≤_}
-use mathlib.Core.Path.{_≡_, sym, _∙_}
-use mathlib.Core.Bool.{true, not}
-use native.Mathlib.Omega.{arith}
-use borrow.Author.Tests.{not-true, not-false}
-use Rattle.below.specs.Below.{allBelow}
-use Rattle.below.proofs.Every.{all-none, all-more, all-miss, all-end}
-use Rattle.tables.specs.Limits.{limits}
-use Rattle.sound.specs.Sound.{sameName}
-use Rattle.sound.proofs.Asking.{differ-is}
 use Rattle.sound.proofs.names.names_differ.Statement.{statement}
 use Rattle.sound.proofs.names.names_differ.Tie as tie
 use Rattle.sound.proofs.names.names_differ.Reads as reads
 use Rattle.sound.proofs.names.names_differ.Lts as lts
-use Rattle.sound.proofs.names.is_new.Reads as is-new-reads
+use Rattle.sound.proofs.names.are_new.Reads as are-new-reads
+use Rattle.sound.proofs.names.fill_keys.Reads as fill-keys-reads
 
-abbrev Inv-loop : tie.InvT-loop
-Inv-loop names drones d₀ d = (d ≤ drones) × (allBelow d (λ d. allBelow d (λ e. not (sameName limits names d e))) ≡ true)
+-- src/names.rt:154:5
+fill-keys-requires : tie.Need-fill-keys-requires
+fill-keys-requires c κs = search needs
 
-abbrev μ-loop : tie.MeasureT-loop
-μ-loop names drones d₀ d = drones - d
+-- src/names.rt:155:5
+are-new-requires : tie.Need-are-new-requires
+are-new-requires c κs = (c .before .before .before .before .pre .0, c .before .before .before .before .pre .1, c .before .fill-keys .ensures)
 
--- src/names.rt:95:5
-loop-holds : tie.Need-loop-holds Inv-loop μ-loop
-loop-holds c = (omega arith, all-none _)
-
--- src/names.rt:96:13
-is-new-requires : tie.Need-is-new-requires Inv-loop μ-loop
-is-new-requires c κs = search needs
-
--- src/names.rt:97:13
-returns : tie.Need-returns Inv-loop μ-loop
-returns c = all-miss _ _ _ (omega arith) (sym (c .before .is-new .ensures) ∙ not-true _ (c .if1 .taken)) ∙ differ-is _ _ _
-
--- src/names.rt:99:9
-add-d : tie.Need-add-d Inv-loop μ-loop
-add-d c = search needs
-
--- src/names.rt:95:5
-loop-less : tie.Need-loop-less Inv-loop μ-loop
-loop-less c = search needs
-
--- src/names.rt:95:5
-loop-again : tie.Need-loop-again Inv-loop μ-loop
-loop-again c = (omega arith, all-more _ _ (c .before .before .before .loop .inv .1) (sym (c .before .is-new .ensures) ∙ not-false _ (c .if1 .left)))
-
--- src/names.rt:90:1
-returns-2 : tie.Need-returns-2 Inv-loop μ-loop
-returns-2 c = all-end _ _ _ (omega arith) (omega arith) (c .before .loop .inv .1) ∙ differ-is _ _ _
+-- src/names.rt:149:1
+returns : tie.Need-returns
+returns c = c .are-new .ensures
 
 pub names-differ-spec : {M : Type 1} → statement M
-names-differ-spec =
-    tie.close
-    (tie.spec
-    Inv-loop
-    μ-loop
-    loop-holds
-    is-new-requires
-    returns
-    add-d
-    loop-less
-    loop-again
-    returns-2)
+names-differ-spec = tie.close (tie.spec fill-keys-requires are-new-requires returns)
