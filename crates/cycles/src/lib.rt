@@ -1,9 +1,10 @@
 // Whether the plan graph has a cycle, in time linear in stops and waits. A search finds a certificate, the certificate is tested, and its test is proved to decide. In
 // practice the search always finds one; that it does is not proved, so what it leaves open is decided by `moves`, which makes the answer exact.
-mod casts;
+pub mod casts;
 mod certificates;
 mod moves;
-pub mod search;
+pub mod order;
+mod search;
 pub mod waits;
 
 ghost use mathlib.Core.Path.{_≡_};

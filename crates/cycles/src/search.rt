@@ -1,24 +1,14 @@
 // The search for a certificate: the stops are taken in topological order (Kahn's algorithm). Nothing is proved of it but that it is safe and ends; what it finds is tested
 // by the certificates. Every index is taken modulo the table's size, so that no invariant of the search is needed and no access has a branch.
+use crate::casts::edge;
+use crate::casts::get;
 use crate::casts::wide;
 use crate::casts::wide8;
 ghost use Prim.Native.Nat.{_≤_, _<_};
 ghost use Rattle.tables.specs.Limits.{limits};
 
-pub fn get(s: &[u16; 1024], i: usize) -> usize
-    ensures { λ r. ⌜ r < 65536 ⌝ }
-{
-    wide(s[i % 1024])
-}
-
 fn put(s: &mut [u16; 1024], i: usize, x: usize) {
     s[i % 1024] = (x % 65536) as u16;
-}
-
-pub fn edge(s: &[u16; 2048], k: usize) -> usize
-    ensures { λ r. ⌜ r < 65536 ⌝ }
-{
-    wide(s[k % 2048])
 }
 
 fn put_edge(s: &mut [u16; 2048], k: usize, x: usize) {

@@ -10,11 +10,11 @@ ghost use Rattle.precedence.specs.Graph.{cost};
 ghost use Rattle.cycles.specs.Flat.{flatPlan};
 ghost use Rattle.rounds.specs.Remaining.{Ready, StopIn, WaitsIn, stopRounds};
 ghost use Rattle.rounds.specs.StopTable.{latestAwaited, roundAfter, Passable, Passed, SamePast, Solved};
-use crate::order::stop_order;
-use crate::widths::wide;
-use crate::widths::wide8;
-use cycles::search::edge;
-use cycles::search::get;
+use cycles::order::stop_order;
+use cycles::casts::wide;
+use cycles::casts::wide8;
+use cycles::casts::edge;
+use cycles::casts::get;
 
 // For each stop the greatest entry among those that its waits await.
 fn latest_awaited(
@@ -158,6 +158,7 @@ fn fill_in_order(
     owners: &[u8],
     starts: &[u16; 32],
     n: usize,
+    count: usize,
     into: &[u16; 2048],
     m: usize,
     visited: &[u16],
@@ -166,12 +167,12 @@ fn fill_in_order(
     next: &[u16; 2048],
     table: &mut [u64; 1024],
 )
-    requires { ⌜ (n ≤ limits .stops) × ((v : ℕ) → v < n → StopIn limits (now owners) (at (now starts)) v) × ((v : ℕ) → v < n → at (now owners) v < length (now visited)) × (length (now table) ≡ 1024) ⌝ }
+    requires { ⌜ (n ≤ limits .stops) × (count ≤ n) × ((v : ℕ) → v < n → StopIn limits (now owners) (at (now starts)) v) × ((v : ℕ) → v < n → at (now owners) v < length (now visited)) × (length (now table) ≡ 1024) ⌝ }
     ensures { λ _. ⌜ SamePast n (now (table .entry)) (now (table .exit)) ⌝ }
 {
     let mut latest = [0u64; 1024];
     let mut i = 0;
-    while i < n {
+    while i < count {
         let v = wide(order[i]);
         if n <= v {
             return;
@@ -199,12 +200,16 @@ fn first_table(
 {
     let mut head = [0u16; 1024];
     let mut next = [0u16; 2048];
-    let order = stop_order(starts, drones, n, from, into, m, &mut head, &mut next);
+    let mut order = [0u16; 1024];
+    let count = stop_order(
+        starts, drones, n, from, into, m, &mut order, &mut head, &mut next,
+    );
     let mut table = [0u64; 1024];
     fill_in_order(
         owners,
         starts,
         n,
+        count,
         into,
         m,
         visited,

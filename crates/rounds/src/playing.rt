@@ -9,8 +9,8 @@ ghost use Rattle.tables.specs.Limits.{limits};
 ghost use Rattle.precedence.specs.Graph.{round, cost};
 ghost use Rattle.cycles.specs.Flat.{flatPlan};
 ghost use Rattle.rounds.specs.Remaining.{Ready, WaitsIn, keepsBack, blockedMark, placeAfter, roundsLeft};
-use crate::widths::wide;
-use crate::widths::wide8;
+use cycles::casts::wide;
+use cycles::casts::wide8;
 
 // The rounds until every drone stands at its last stop, and the sum of the drones' remaining rounds.
 pub struct Played {

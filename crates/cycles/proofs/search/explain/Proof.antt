@@ -5,7 +5,7 @@ use Rattle.cycles.proofs.search.explain.Tie as tie
 use Rattle.cycles.proofs.search.explain.Reads as reads
 use Rattle.cycles.proofs.search.explain.Lts as lts
 use Rattle.cycles.proofs.search.drone.Reads as drone-reads
-use Rattle.cycles.proofs.search.edge.Reads as edge-reads
+use Rattle.cycles.proofs.casts.edge.Reads as edge-reads
 use Rattle.cycles.proofs.search.owner.Reads as owner-reads
 use Rattle.cycles.proofs.search.put_drone.Reads as put-drone-reads
 

@@ -4,8 +4,8 @@ use Rattle.cycles.proofs.search.link.Statement.{statement}
 use Rattle.cycles.proofs.search.link.Tie as tie
 use Rattle.cycles.proofs.search.link.Reads as reads
 use Rattle.cycles.proofs.search.link.Lts as lts
-use Rattle.cycles.proofs.search.edge.Reads as edge-reads
-use Rattle.cycles.proofs.search.get.Reads as get-reads
+use Rattle.cycles.proofs.casts.edge.Reads as edge-reads
+use Rattle.cycles.proofs.casts.get.Reads as get-reads
 use Rattle.cycles.proofs.search.put.Reads as put-reads
 use Rattle.cycles.proofs.search.put_edge.Reads as put-edge-reads
 

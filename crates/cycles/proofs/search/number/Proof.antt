@@ -4,7 +4,7 @@ use Rattle.cycles.proofs.search.number.Statement.{statement}
 use Rattle.cycles.proofs.search.number.Tie as tie
 use Rattle.cycles.proofs.search.number.Reads as reads
 use Rattle.cycles.proofs.search.number.Lts as lts
-use Rattle.cycles.proofs.search.get.Reads as get-reads
+use Rattle.cycles.proofs.casts.get.Reads as get-reads
 use Rattle.cycles.proofs.search.put.Reads as put-reads
 use Rattle.cycles.proofs.search.release.Reads as release-reads
 use Rattle.cycles.proofs.search.release_all.Reads as release-all-reads

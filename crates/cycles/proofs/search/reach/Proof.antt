@@ -4,7 +4,7 @@ use Rattle.cycles.proofs.search.reach.Statement.{statement}
 use Rattle.cycles.proofs.search.reach.Tie as tie
 use Rattle.cycles.proofs.search.reach.Reads as reads
 use Rattle.cycles.proofs.search.reach.Lts as lts
-use Rattle.cycles.proofs.search.get.Reads as get-reads
+use Rattle.cycles.proofs.casts.get.Reads as get-reads
 use Rattle.cycles.proofs.search.owner.Reads as owner-reads
 use Rattle.cycles.proofs.search.put_drone.Reads as put-drone-reads
 

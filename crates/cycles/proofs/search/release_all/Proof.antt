@@ -4,7 +4,7 @@ use Rattle.cycles.proofs.search.release_all.Statement.{statement}
 use Rattle.cycles.proofs.search.release_all.Tie as tie
 use Rattle.cycles.proofs.search.release_all.Reads as reads
 use Rattle.cycles.proofs.search.release_all.Lts as lts
-use Rattle.cycles.proofs.search.edge.Reads as edge-reads
+use Rattle.cycles.proofs.casts.edge.Reads as edge-reads
 use Rattle.cycles.proofs.search.release.Reads as release-reads
 
 abbrev Inv-loop : tie.InvT-loop

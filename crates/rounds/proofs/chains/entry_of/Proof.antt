@@ -11,8 +11,8 @@ use Rattle.rounds.proofs.chains.entry_of.Reads as reads
 use Rattle.rounds.proofs.chains.entry_of.Lts as lts
 use Rattle.rounds.proofs.chains.greater.Reads as greater-reads
 use Rattle.rounds.proofs.chains.one_more.Reads as one-more-reads
-use Rattle.rounds.proofs.widths.wide.Reads as wide-reads
-use Rattle.rounds.proofs.widths.wide8.Reads as wide8-reads
+use Rattle.cycles.proofs.casts.wide.Reads as wide-reads
+use Rattle.cycles.proofs.casts.wide8.Reads as wide8-reads
 
 -- src/chains.rt:63:19
 shared-slice-read-wide8 : tie.Need-shared-slice-read-wide8

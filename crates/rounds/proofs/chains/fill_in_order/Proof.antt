@@ -1,5 +1,5 @@
-use borrow.Author.Needs.{needs}
 -- Stores below n leave the rest of the table as it was.
+use borrow.Author.Needs.{needs}
 use Prim.Native.Nat.{_-_, _≤_}
 use mathlib.Core.Path.{_∙_}
 use native.Mathlib.Omega.{arith}
@@ -9,16 +9,16 @@ use Rattle.rounds.proofs.chains.fill_in_order.Statement.{statement}
 use Rattle.rounds.proofs.chains.fill_in_order.Tie as tie
 use Rattle.rounds.proofs.chains.fill_in_order.Reads as reads
 use Rattle.rounds.proofs.chains.fill_in_order.Lts as lts
-use Rattle.cycles.proofs.search.get.Reads as get-reads
+use Rattle.cycles.proofs.casts.get.Reads as get-reads
 use Rattle.rounds.proofs.chains.entry_of.Reads as entry-of-reads
 use Rattle.rounds.proofs.chains.raise_all.Reads as raise-all-reads
-use Rattle.rounds.proofs.widths.wide.Reads as wide-reads
+use Rattle.cycles.proofs.casts.wide.Reads as wide-reads
 
 abbrev Inv-loop : tie.InvT-loop
-Inv-loop owners starts n into m visited order head next table₀ latest₀ i₀ table latest i = (i ≤ n) × SamePast n table₀ table
+Inv-loop owners starts n count into m visited order head next table₀ latest₀ i₀ table latest i = (i ≤ count) × SamePast n table₀ table
 
 abbrev μ-loop : tie.MeasureT-loop
-μ-loop owners starts n into m visited order head next table₀ latest₀ i₀ table latest i = n - i
+μ-loop owners starts n count into m visited order head next table₀ latest₀ i₀ table latest i = count - i
 
 -- src/chains.rt:174:5
 loop-holds : tie.Need-loop-holds Inv-loop μ-loop
@@ -30,7 +30,7 @@ mul-wide c = search needs
 
 -- src/chains.rt:175:22
 element-copy-out-wide : tie.Need-element-copy-out-wide Inv-loop μ-loop
-element-copy-out-wide c = omega (arith, c .before .before .before .before .pre .0)
+element-copy-out-wide c = omega (arith, c .before .before .before .before .pre .0, c .before .before .before .before .pre .1)
 
 -- src/chains.rt:175:13
 wide-requires : tie.Need-wide-requires Inv-loop μ-loop
@@ -42,7 +42,7 @@ returns c = c .before .before .before .before .loop .inv .1
 
 -- src/chains.rt:179:13
 entry-of-requires : tie.Need-entry-of-requires Inv-loop μ-loop
-entry-of-requires c κs = (c .before .before .before .before .before .before .before .before .before .pre .1 _ (c .before .before .if1 .left), c .before .before .before .before .before .before .before .before .before .pre .2 _ (c .before .before .if1 .left))
+entry-of-requires c κs = (c .before .before .before .before .before .before .before .before .before .pre .2 _ (c .before .before .if1 .left), c .before .before .before .before .before .before .before .before .before .pre .3 _ (c .before .before .if1 .left))
 
 -- src/chains.rt:180:9
 mul-table : tie.Need-mul-table Inv-loop μ-loop
@@ -50,7 +50,7 @@ mul-table c = search needs
 
 -- src/chains.rt:180:9
 element-write-table : tie.Need-element-write-table Inv-loop μ-loop
-element-write-table c = omega (arith, c .before .before .before .before .before .before .before .before .before .before .pre .0, c .before .before .before .if1 .left, c .before .before .before .before .before .before .before .loop .inv .1 .long, c .before .before .before .before .before .before .before .before .before .before .pre .3)
+element-write-table c = omega (arith, c .before .before .before .before .before .before .before .before .before .before .pre .0, c .before .before .before .if1 .left, c .before .before .before .before .before .before .before .loop .inv .1 .long, c .before .before .before .before .before .before .before .before .before .before .pre .4)
 
 -- src/chains.rt:181:47
 get-requires : tie.Need-get-requires Inv-loop μ-loop

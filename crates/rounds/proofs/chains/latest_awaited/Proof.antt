@@ -10,7 +10,7 @@ use Rattle.rounds.proofs.chains.latest_awaited.Tie as tie
 use Rattle.rounds.proofs.chains.latest_awaited.Reads as reads
 use Rattle.rounds.proofs.chains.latest_awaited.Lts as lts
 use Rattle.rounds.proofs.chains.greater.Reads as greater-reads
-use Rattle.rounds.proofs.widths.wide.Reads as wide-reads
+use Rattle.cycles.proofs.casts.wide.Reads as wide-reads
 
 abbrev Inv-loop : tie.InvT-loop
 Inv-loop owners starts from into m table latest₀ k₀ latest k = (k ≤ m) × Latest (at from) (at into) (at table) 1024 k latest

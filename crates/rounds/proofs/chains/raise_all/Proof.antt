@@ -4,7 +4,7 @@ use Rattle.rounds.proofs.chains.raise_all.Statement.{statement}
 use Rattle.rounds.proofs.chains.raise_all.Tie as tie
 use Rattle.rounds.proofs.chains.raise_all.Reads as reads
 use Rattle.rounds.proofs.chains.raise_all.Lts as lts
-use Rattle.cycles.proofs.search.edge.Reads as edge-reads
+use Rattle.cycles.proofs.casts.edge.Reads as edge-reads
 use Rattle.rounds.proofs.chains.raise.Reads as raise-reads
 
 abbrev Inv-loop : tie.InvT-loop

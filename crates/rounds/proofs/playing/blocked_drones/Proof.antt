@@ -12,8 +12,8 @@ use Rattle.rounds.proofs.playing.blocked_drones.Tie as tie
 use Rattle.rounds.proofs.playing.blocked_drones.Reads as reads
 use Rattle.rounds.proofs.playing.blocked_drones.Lts as lts
 use Rattle.rounds.proofs.playing.keeps_back.Reads as keeps-back-reads
-use Rattle.rounds.proofs.widths.wide.Reads as wide-reads
-use Rattle.rounds.proofs.widths.wide8.Reads as wide8-reads
+use Rattle.cycles.proofs.casts.wide.Reads as wide-reads
+use Rattle.cycles.proofs.casts.wide8.Reads as wide8-reads
 
 abbrev Inv-loop : tie.InvT-loop
 Inv-loop owners starts from into m places blocked₀ k₀ blocked k = (k ≤ m) × Marks (at owners) (at starts) (at from) (at into) (at places) 32 k blocked

@@ -7,8 +7,8 @@ use Rattle.rounds.proofs.playing.keeps_back.Statement.{statement}
 use Rattle.rounds.proofs.playing.keeps_back.Tie as tie
 use Rattle.rounds.proofs.playing.keeps_back.Reads as reads
 use Rattle.rounds.proofs.playing.keeps_back.Lts as lts
-use Rattle.rounds.proofs.widths.wide.Reads as wide-reads
-use Rattle.rounds.proofs.widths.wide8.Reads as wide8-reads
+use Rattle.cycles.proofs.casts.wide.Reads as wide-reads
+use Rattle.cycles.proofs.casts.wide8.Reads as wide8-reads
 
 -- src/playing.rt:34:18
 mul-wide : tie.Need-mul-wide
