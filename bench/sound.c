@@ -32,6 +32,20 @@ static double now(void) {
     return t.tv_sec * 1e9 + t.tv_nsec;
 }
 
+// The dependencies of the plan, by all pairs.
+static void depend(void) {
+    int m = 0;
+    for (int v = 0; v < STOPS; v++)
+        for (int w = 0; w < STOPS; w++)
+            if (v / EACH != w / EACH && locations[v] == locations[w] && times[v] < times[w]) {
+                if (m == DEPENDENCIES) abort();
+                first_drones[m] = v / EACH, first_stops[m] = v % EACH, second_drones[m] = w / EACH, second_stops[m] = w % EACH;
+                flags[m] = v % EACH == 0 || w % EACH == EACH - 1 ? 2 : 0;
+                m++;
+            }
+    dependency_count[0] = m;
+}
+
 // Every drone has a location of its own at each stop, but for some that five drones pass one after the other.
 static void plan(void) {
     drone_count[0] = DRONES;
@@ -47,16 +61,19 @@ static void plan(void) {
         for (int j = 0; j < 32; j++)
             for (int i = 0; i < 5; i++)
                 locations[(j * 5 + 7 * i + a * 3) % 32 * EACH + a + 6 * i] = ((a * 32 + j) * 337 + 11) % 39000;
-    int m = 0;
-    for (int v = 0; v < STOPS; v++)
-        for (int w = 0; w < STOPS; w++)
-            if (v / EACH != w / EACH && locations[v] == locations[w] && times[v] < times[w]) {
-                if (m == DEPENDENCIES) abort();
-                first_drones[m] = v / EACH, first_stops[m] = v % EACH, second_drones[m] = w / EACH, second_stops[m] = w % EACH;
-                flags[m] = v % EACH == 0 || w % EACH == EACH - 1 ? 2 : 0;
-                m++;
-            }
-    dependency_count[0] = m;
+    depend();
+}
+
+// All drones pass the same four locations one after the other, every second one turned with the one after it.
+static void crossings(void) {
+    for (int d = 0; d < DRONES; d++)
+        for (int s = 0; s < EACH; s++) {
+            locations[d * EACH + s] = s % 7 == 5 ? s : 40000 + d * EACH + s;
+            times[d * EACH + s] = s ? d * 20000 + s * 10000 + any() % 900 : 0;
+        }
+    depend();
+    for (int k = 0; k < dependency_count[0]; k++)
+        if (first_drones[k] % 2 == 0 && second_drones[k] == first_drones[k] + 1) flags[k] ^= 1;
 }
 
 static int sound(void) {
@@ -110,6 +127,9 @@ int main(void) {
     visited[31] = EACH;
     measure("last drone past its last stop");
     visited[31] = 0;
+    crossings();
+    printf("dependencies %d, 64 turned\n", dependency_count[0]);
+    measure("sound tables, some turned");
     // Content that no plan has: counts past the full sizes must be refused before anything is read by them.
     memset(drone_count, 255, sizeof drone_count);
     measure("drone count 65,535");

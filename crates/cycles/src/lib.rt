@@ -41,6 +41,7 @@ fn certify(
     search::seed(starts, drones, &mut need, &mut queue);
     let count = search::number(
         n,
+        from,
         into,
         m,
         &head,

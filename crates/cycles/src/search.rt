@@ -87,17 +87,30 @@ pub fn seed(starts: &[u16; 32], drones: usize, need: &mut [u16; 1024], queue: &m
     }
 }
 
-// Releases the stops that wait for a, whose first wait is k - 1.
+// The wait after k - 1 of those out of the stop a. Mostly it is the one before it in the table, which is found without waiting for the link.
+fn after(from: &[u16; 2048], next: &[u16; 2048], k: usize, a: usize) -> usize
+    requires { ⌜ (1 ≤ k) × (k < 65536) ⌝ }
+    ensures { λ r. ⌜ r < 65536 ⌝ }
+{
+    if edge(from, k + 2046) == a {
+        return k - 1;
+    }
+    edge(next, k - 1)
+}
+
+// Releases the stops that wait for a, the first by the wait first - 1.
 fn release_all(
+    from: &[u16; 2048],
     into: &[u16; 2048],
     m: usize,
     next: &[u16; 2048],
     need: &mut [u16; 1024],
     queue: &mut [u16; 1024],
     end: usize,
+    a: usize,
     first: usize,
 ) -> usize
-    requires { ⌜ (m ≤ limits .dependencies) × (end < 65536) ⌝ }
+    requires { ⌜ (m ≤ limits .dependencies) × (end < 65536) × (first < 65536) ⌝ }
     ensures { λ r. ⌜ r < 65536 ⌝ }
 {
     let mut t = end;
@@ -109,7 +122,7 @@ fn release_all(
         }
         let x = edge(into, k - 1);
         t = release(need, queue, t, x);
-        k = edge(next, k - 1);
+        k = after(from, next, k, a);
         left -= 1;
     }
     t
@@ -119,6 +132,7 @@ fn release_all(
 // the next drone, and those of its waits. Answers how many were taken.
 pub fn number(
     n: usize,
+    from: &[u16; 2048],
     into: &[u16; 2048],
     m: usize,
     head: &[u16; 1024],
@@ -142,7 +156,7 @@ pub fn number(
         put(pos, v, count);
         end = release(need, queue, end, v + 1);
         let h = get(head, v);
-        end = release_all(into, m, next, need, queue, end, h);
+        end = release_all(from, into, m, next, need, queue, end, v, h);
     }
     count
 }

@@ -10,56 +10,56 @@ use Rattle.cycles.proofs.search.release.Reads as release-reads
 use Rattle.cycles.proofs.search.release_all.Reads as release-all-reads
 
 abbrev Inv-loop : tie.InvT-loop
-Inv-loop n into m head next need₀ queue₀ drones pos₀ end₀ count₀ need queue pos end count = (count ≤ n) × (end < 65536)
+Inv-loop n from into m head next need₀ queue₀ drones pos₀ end₀ count₀ need queue pos end count = (count ≤ n) × (end < 65536)
 
 abbrev μ-loop : tie.MeasureT-loop
-μ-loop n into m head next need₀ queue₀ drones pos₀ end₀ count₀ need queue pos end count = n - count
+μ-loop n from into m head next need₀ queue₀ drones pos₀ end₀ count₀ need queue pos end count = n - count
 
--- src/search.rt:146:5
+-- src/search.rt:160:5
 loop-holds : tie.Need-loop-holds Inv-loop μ-loop
 loop-holds c = search needs
 
--- src/search.rt:148:13
+-- src/search.rt:162:13
 returns : tie.Need-returns Inv-loop μ-loop
 returns c = search needs
 
--- src/search.rt:150:13
+-- src/search.rt:164:13
 get-requires : tie.Need-get-requires Inv-loop μ-loop
 get-requires c κs = search needs
 
--- src/search.rt:151:9
+-- src/search.rt:165:9
 add-count : tie.Need-add-count Inv-loop μ-loop
 add-count c = search needs
 
--- src/search.rt:152:9
+-- src/search.rt:166:9
 put-requires : tie.Need-put-requires Inv-loop μ-loop
 put-requires c κs = search needs
 
--- src/search.rt:153:41
+-- src/search.rt:167:41
 add-release : tie.Need-add-release Inv-loop μ-loop
 add-release c = search needs
 
--- src/search.rt:153:9
+-- src/search.rt:167:9
 release-requires : tie.Need-release-requires Inv-loop μ-loop
 release-requires c κs = search needs
 
--- src/search.rt:154:13
+-- src/search.rt:168:13
 get-requires-2 : tie.Need-get-requires-2 Inv-loop μ-loop
 get-requires-2 c κs = search needs
 
--- src/search.rt:155:9
+-- src/search.rt:169:9
 release-all-requires : tie.Need-release-all-requires Inv-loop μ-loop
 release-all-requires c κs = search needs
 
--- src/search.rt:146:5
+-- src/search.rt:160:5
 loop-less : tie.Need-loop-less Inv-loop μ-loop
 loop-less c = search needs
 
--- src/search.rt:146:5
+-- src/search.rt:160:5
 loop-again : tie.Need-loop-again Inv-loop μ-loop
 loop-again c = search needs
 
--- src/search.rt:130:1
+-- src/search.rt:143:1
 returns-2 : tie.Need-returns-2 Inv-loop μ-loop
 returns-2 c = search needs
 
