@@ -1,8 +1,8 @@
 -- `entries::calls::read_plan`: Lts, carried over by tools/lend.py. Assumes nothing.
 use Rattle.records.proofs.Row as Rec
 use Prim.Native.Nat
-use Rattle.entries.proofs.cores.ColumnsRead
-use Rattle.entries.proofs.cores.ColumnsRead.Laws
+use Rattle.entries.proofs.reads.ColumnsRead
+use Rattle.entries.proofs.reads.ColumnsRead.Laws
 use Rattle.reading.proofs.replies.Reading
 use Rattle.reading.proofs.replies.Reading.Laws as Laws'
 use borrow.Author.Called
@@ -146,7 +146,7 @@ abbrev row·11 : Row.Row
 row·11 = Rows'.any-gone (Syntax.tyInt Syntax.w64)
 
 abbrev row·12 : Row.Row
-row·12 = Rows'.any-gone (Syntax.tyStruct (List._∷_ 101 (List._∷_ 110 (List._∷_ 116 (List._∷_ 114 (List._∷_ 105 (List._∷_ 101 (List._∷_ 115 (List._∷_ 58 (List._∷_ 58 (List._∷_ 99 (List._∷_ 111 (List._∷_ 114 (List._∷_ 101 (List._∷_ 115 (List._∷_ 58 (List._∷_ 58 (List._∷_ 67 (List._∷_ 111 (List._∷_ 108 (List._∷_ 117 (List._∷_ 109 (List._∷_ 110 (List._∷_ 115 (List._∷_ 82 (List._∷_ 101 (List._∷_ 97 (List._∷_ 100 List.[]))))))))))))))))))))))))))) (Syntax.tcons (Syntax.tyEnum (List._∷_ 114 (List._∷_ 101 (List._∷_ 97 (List._∷_ 100 (List._∷_ 105 (List._∷_ 110 (List._∷_ 103 (List._∷_ 58 (List._∷_ 58 (List._∷_ 114 (List._∷_ 101 (List._∷_ 112 (List._∷_ 108 (List._∷_ 105 (List._∷_ 101 (List._∷_ 115 (List._∷_ 58 (List._∷_ 58 (List._∷_ 82 (List._∷_ 101 (List._∷_ 97 (List._∷_ 100 (List._∷_ 105 (List._∷_ 110 (List._∷_ 103 List.[]))))))))))))))))))))))))) (Syntax.ttcons Syntax.tnil (Syntax.ttcons (Syntax.tcons (Syntax.tyEnum (List._∷_ 114 (List._∷_ 101 (List._∷_ 97 (List._∷_ 100 (List._∷_ 105 (List._∷_ 110 (List._∷_ 103 (List._∷_ 58 (List._∷_ 58 (List._∷_ 114 (List._∷_ 101 (List._∷_ 112 (List._∷_ 108 (List._∷_ 105 (List._∷_ 101 (List._∷_ 115 (List._∷_ 58 (List._∷_ 58 (List._∷_ 82 (List._∷_ 101 (List._∷_ 102 (List._∷_ 117 (List._∷_ 115 (List._∷_ 97 (List._∷_ 108 List.[]))))))))))))))))))))))))) (Syntax.ttcons Syntax.tnil (Syntax.ttcons (Syntax.tcons (Syntax.tyInt Syntax.w64) Syntax.tnil) (Syntax.ttcons (Syntax.tcons (Syntax.tyInt Syntax.w64) Syntax.tnil) (Syntax.ttcons (Syntax.tcons (Syntax.tyInt Syntax.w64) Syntax.tnil) (Syntax.ttcons (Syntax.tcons (Syntax.tyInt Syntax.w64) Syntax.tnil) (Syntax.ttcons (Syntax.tcons (Syntax.tyInt Syntax.w64) Syntax.tnil) (Syntax.ttcons (Syntax.tcons (Syntax.tyInt Syntax.w64) Syntax.tnil) (Syntax.ttcons (Syntax.tcons ty·17 Syntax.tnil) (Syntax.ttcons (Syntax.tcons ty·17 Syntax.tnil) (Syntax.ttcons (Syntax.tcons ty·17 Syntax.tnil) (Syntax.ttcons (Syntax.tcons ty·17 (Syntax.tcons ty·17 Syntax.tnil)) (Syntax.ttcons Syntax.tnil Syntax.ttnil))))))))))))) Syntax.tnil) Syntax.ttnil))) (Syntax.tcons ty·0 (Syntax.tcons ty·1 (Syntax.tcons ty·0 (Syntax.tcons ty·1 (Syntax.tcons ty·0 Syntax.tnil)))))))
+row·12 = Rows'.any-gone (Syntax.tyStruct (List._∷_ 101 (List._∷_ 110 (List._∷_ 116 (List._∷_ 114 (List._∷_ 105 (List._∷_ 101 (List._∷_ 115 (List._∷_ 58 (List._∷_ 58 (List._∷_ 114 (List._∷_ 101 (List._∷_ 97 (List._∷_ 100 (List._∷_ 115 (List._∷_ 58 (List._∷_ 58 (List._∷_ 67 (List._∷_ 111 (List._∷_ 108 (List._∷_ 117 (List._∷_ 109 (List._∷_ 110 (List._∷_ 115 (List._∷_ 82 (List._∷_ 101 (List._∷_ 97 (List._∷_ 100 List.[]))))))))))))))))))))))))))) (Syntax.tcons (Syntax.tyEnum (List._∷_ 114 (List._∷_ 101 (List._∷_ 97 (List._∷_ 100 (List._∷_ 105 (List._∷_ 110 (List._∷_ 103 (List._∷_ 58 (List._∷_ 58 (List._∷_ 114 (List._∷_ 101 (List._∷_ 112 (List._∷_ 108 (List._∷_ 105 (List._∷_ 101 (List._∷_ 115 (List._∷_ 58 (List._∷_ 58 (List._∷_ 82 (List._∷_ 101 (List._∷_ 97 (List._∷_ 100 (List._∷_ 105 (List._∷_ 110 (List._∷_ 103 List.[]))))))))))))))))))))))))) (Syntax.ttcons Syntax.tnil (Syntax.ttcons (Syntax.tcons (Syntax.tyEnum (List._∷_ 114 (List._∷_ 101 (List._∷_ 97 (List._∷_ 100 (List._∷_ 105 (List._∷_ 110 (List._∷_ 103 (List._∷_ 58 (List._∷_ 58 (List._∷_ 114 (List._∷_ 101 (List._∷_ 112 (List._∷_ 108 (List._∷_ 105 (List._∷_ 101 (List._∷_ 115 (List._∷_ 58 (List._∷_ 58 (List._∷_ 82 (List._∷_ 101 (List._∷_ 102 (List._∷_ 117 (List._∷_ 115 (List._∷_ 97 (List._∷_ 108 List.[]))))))))))))))))))))))))) (Syntax.ttcons Syntax.tnil (Syntax.ttcons (Syntax.tcons (Syntax.tyInt Syntax.w64) Syntax.tnil) (Syntax.ttcons (Syntax.tcons (Syntax.tyInt Syntax.w64) Syntax.tnil) (Syntax.ttcons (Syntax.tcons (Syntax.tyInt Syntax.w64) Syntax.tnil) (Syntax.ttcons (Syntax.tcons (Syntax.tyInt Syntax.w64) Syntax.tnil) (Syntax.ttcons (Syntax.tcons (Syntax.tyInt Syntax.w64) Syntax.tnil) (Syntax.ttcons (Syntax.tcons (Syntax.tyInt Syntax.w64) Syntax.tnil) (Syntax.ttcons (Syntax.tcons ty·17 Syntax.tnil) (Syntax.ttcons (Syntax.tcons ty·17 Syntax.tnil) (Syntax.ttcons (Syntax.tcons ty·17 Syntax.tnil) (Syntax.ttcons (Syntax.tcons ty·17 (Syntax.tcons ty·17 Syntax.tnil)) (Syntax.ttcons Syntax.tnil Syntax.ttnil))))))))))))) Syntax.tnil) Syntax.ttnil))) (Syntax.tcons ty·0 (Syntax.tcons ty·1 (Syntax.tcons ty·0 (Syntax.tcons ty·1 (Syntax.tcons ty·0 Syntax.tnil)))))))
 
 abbrev row·13 : Row.Row
 row·13 = Rows'.any-gone (Syntax.tyArray Rec.mir 2048)
@@ -325,7 +325,7 @@ r = Value.rVal record {
 }
 
 abbrev pub xs : List.List Syntax.Ty
-xs = List._∷_ (Syntax.tyInt Syntax.w64) (List._∷_ (Syntax.tyStruct (List._∷_ 101 (List._∷_ 110 (List._∷_ 116 (List._∷_ 114 (List._∷_ 105 (List._∷_ 101 (List._∷_ 115 (List._∷_ 58 (List._∷_ 58 (List._∷_ 99 (List._∷_ 111 (List._∷_ 114 (List._∷_ 101 (List._∷_ 115 (List._∷_ 58 (List._∷_ 58 (List._∷_ 67 (List._∷_ 111 (List._∷_ 108 (List._∷_ 117 (List._∷_ 109
+xs = List._∷_ (Syntax.tyInt Syntax.w64) (List._∷_ (Syntax.tyStruct (List._∷_ 101 (List._∷_ 110 (List._∷_ 116 (List._∷_ 114 (List._∷_ 105 (List._∷_ 101 (List._∷_ 115 (List._∷_ 58 (List._∷_ 58 (List._∷_ 114 (List._∷_ 101 (List._∷_ 97 (List._∷_ 100 (List._∷_ 115 (List._∷_ 58 (List._∷_ 58 (List._∷_ 67 (List._∷_ 111 (List._∷_ 108 (List._∷_ 117 (List._∷_ 109
     (List._∷_ 110 (List._∷_ 115 (List._∷_ 82 (List._∷_ 101 (List._∷_ 97 (List._∷_ 100 List.[]))))))))))))))))))))))))))) (Syntax.tcons (Syntax.tyEnum (List._∷_ 114 (List._∷_ 101 (List._∷_ 97 (List._∷_ 100 (List._∷_ 105 (List._∷_ 110 (List._∷_ 103 (List._∷_ 58 (List._∷_ 58 (List._∷_ 114 (List._∷_ 101 (List._∷_ 112 (List._∷_ 108 (List._∷_ 105 (List._∷_ 101
     (List._∷_ 115 (List._∷_ 58 (List._∷_ 58 (List._∷_ 82 (List._∷_ 101 (List._∷_ 97 (List._∷_ 100 (List._∷_ 105 (List._∷_ 110 (List._∷_ 103 List.[]))))))))))))))))))))))))) (Syntax.ttcons Syntax.tnil (Syntax.ttcons (Syntax.tcons (Syntax.tyEnum (List._∷_ 114 (List._∷_ 101 (List._∷_ 97 (List._∷_ 100 (List._∷_ 105 (List._∷_ 110 (List._∷_ 103 (List._∷_ 58
     (List._∷_ 58 (List._∷_ 114 (List._∷_ 101 (List._∷_ 112 (List._∷_ 108 (List._∷_ 105 (List._∷_ 101 (List._∷_ 115 (List._∷_ 58 (List._∷_ 58 (List._∷_ 82 (List._∷_ 101 (List._∷_ 102 (List._∷_ 117 (List._∷_ 115 (List._∷_ 97 (List._∷_ 108 List.[]))))))))))))))))))))))))) (Syntax.ttcons Syntax.tnil (Syntax.ttcons
@@ -499,7 +499,7 @@ abbrev b19 : Syntax.Body
 b19 = Syntax.assign (Syntax.place 31 List.[]) (Syntax.aggregate (List._∷_ (Syntax.copy (Syntax.place 30 List.[])) (List._∷_ (Syntax.copy (Syntax.place 9 (List._∷_ (Syntax.field 1) List.[]))) List.[])))
 
 abbrev b20 : Syntax.Body
-b20 = Syntax.call "entries::cores::read_records" (List._∷_ (Syntax.copy (Syntax.place 13 List.[])) (List._∷_ (Syntax.copy (Syntax.place 11 List.[])) (List._∷_ (Syntax.copy (Syntax.place 1 List.[])) (List._∷_ (Syntax.copy (Syntax.place 17 List.[])) (List._∷_ (Syntax.copy (Syntax.place 19 List.[])) (List._∷_ (Syntax.copy (Syntax.place 21 List.[])) (List._∷_
+b20 = Syntax.call "entries::reads::read_records" (List._∷_ (Syntax.copy (Syntax.place 13 List.[])) (List._∷_ (Syntax.copy (Syntax.place 11 List.[])) (List._∷_ (Syntax.copy (Syntax.place 1 List.[])) (List._∷_ (Syntax.copy (Syntax.place 17 List.[])) (List._∷_ (Syntax.copy (Syntax.place 19 List.[])) (List._∷_ (Syntax.copy (Syntax.place 21 List.[])) (List._∷_
     (Syntax.copy (Syntax.place 23 List.[])) (List._∷_ (Syntax.copy (Syntax.place 25 List.[])) (List._∷_ (Syntax.copy (Syntax.place 27 List.[])) (List._∷_ (Syntax.copy (Syntax.place 29 List.[])) (List._∷_ (Syntax.copy (Syntax.place 31 List.[])) List.[]))))))))))) (Syntax.place 12 List.[])
 
 abbrev b21 : Syntax.Body
@@ -509,13 +509,13 @@ abbrev b22 : Syntax.Body
 b22 = Syntax.assign (Syntax.place 34 List.[]) (Syntax.aggregate (List._∷_ (Syntax.copy (Syntax.place 33 List.[])) (List._∷_ (Syntax.copy (Syntax.place 10 (List._∷_ (Syntax.field 1) List.[]))) List.[])))
 
 abbrev b23 : Syntax.Body
-b23 = Syntax.call "entries::cores::records_of" (List._∷_ (Syntax.copy (Syntax.place 12 List.[])) List.[]) (Syntax.place 13 List.[])
+b23 = Syntax.call "entries::reads::records_of" (List._∷_ (Syntax.copy (Syntax.place 12 List.[])) List.[]) (Syntax.place 13 List.[])
 
 abbrev b24 : Syntax.Body
 b24 = Syntax.call "records::lent::store_all" (List._∷_ (Syntax.copy (Syntax.place 34 List.[])) (List._∷_ (Syntax.copy (Syntax.place 13 List.[])) List.[])) (Syntax.place 32 List.[])
 
 abbrev b25 : Syntax.Body
-b25 = Syntax.call "entries::cores::reading_of" (List._∷_ (Syntax.copy (Syntax.place 12 List.[])) List.[]) (Syntax.place 0 List.[])
+b25 = Syntax.call "entries::reads::reading_of" (List._∷_ (Syntax.copy (Syntax.place 12 List.[])) List.[]) (Syntax.place 0 List.[])
 
 abbrev b26 : Syntax.Body
 b26 = Syntax.return
@@ -1109,7 +1109,7 @@ module _ (claims· : Claims) where
         ),
       ),
     ),
-  ) 12 (List._∷_ 0 (List._∷_ 11 (List._∷_ 12 (List._∷_ 13 (List._∷_ 14 (List._∷_ 15 (List._∷_ 16 (List._∷_ 17 (List._∷_ 18 List.[]))))))))) (Syntax.tyStruct (List._∷_ 101 (List._∷_ 110 (List._∷_ 116 (List._∷_ 114 (List._∷_ 105 (List._∷_ 101 (List._∷_ 115 (List._∷_ 58 (List._∷_ 58 (List._∷_ 99 (List._∷_ 111 (List._∷_ 114 (List._∷_ 101 (List._∷_ 115 (List._∷_
+  ) 12 (List._∷_ 0 (List._∷_ 11 (List._∷_ 12 (List._∷_ 13 (List._∷_ 14 (List._∷_ 15 (List._∷_ 16 (List._∷_ 17 (List._∷_ 18 List.[]))))))))) (Syntax.tyStruct (List._∷_ 101 (List._∷_ 110 (List._∷_ 116 (List._∷_ 114 (List._∷_ 105 (List._∷_ 101 (List._∷_ 115 (List._∷_ 58 (List._∷_ 58 (List._∷_ 114 (List._∷_ 101 (List._∷_ 97 (List._∷_ 100 (List._∷_ 115 (List._∷_
       58 (List._∷_ 58 (List._∷_ 67 (List._∷_ 111 (List._∷_ 108 (List._∷_ 117 (List._∷_ 109 (List._∷_ 110 (List._∷_ 115 (List._∷_ 82 (List._∷_ 101 (List._∷_ 97 (List._∷_ 100 List.[]))))))))))))))))))))))))))) (Syntax.tcons (Syntax.tyEnum (List._∷_ 114 (List._∷_ 101 (List._∷_ 97 (List._∷_ 100 (List._∷_ 105 (List._∷_ 110 (List._∷_ 103 (List._∷_ 58 (List._∷_ 58
       (List._∷_ 114 (List._∷_ 101 (List._∷_ 112 (List._∷_ 108 (List._∷_ 105 (List._∷_ 101 (List._∷_ 115 (List._∷_ 58 (List._∷_ 58 (List._∷_ 82 (List._∷_ 101 (List._∷_ 97 (List._∷_ 100 (List._∷_ 105 (List._∷_ 110 (List._∷_ 103 List.[]))))))))))))))))))))))))) (Syntax.ttcons Syntax.tnil (Syntax.ttcons (Syntax.tcons (Syntax.tyEnum (List._∷_ 114 (List._∷_ 101
       (List._∷_ 97 (List._∷_ 100 (List._∷_ 105 (List._∷_ 110 (List._∷_ 103 (List._∷_ 58 (List._∷_ 58 (List._∷_ 114 (List._∷_ 101 (List._∷_ 112 (List._∷_ 108 (List._∷_ 105 (List._∷_ 101 (List._∷_ 115 (List._∷_ 58 (List._∷_ 58 (List._∷_ 82 (List._∷_ 101 (List._∷_ 102 (List._∷_ 117 (List._∷_ 115 (List._∷_ 97 (List._∷_ 108 List.[])))))))))))))))))))))))))
@@ -1209,7 +1209,7 @@ module _ (claims· : Claims) where
   s87 = Scalar.n-room T88 11 (Syntax.tyInt Syntax.w64)
 
   abbrev s88 : Typed.Mo T89 → Typed.Mo T90
-  s88 = Scalar.n-room T89 12 (Syntax.tyStruct (List._∷_ 101 (List._∷_ 110 (List._∷_ 116 (List._∷_ 114 (List._∷_ 105 (List._∷_ 101 (List._∷_ 115 (List._∷_ 58 (List._∷_ 58 (List._∷_ 99 (List._∷_ 111 (List._∷_ 114 (List._∷_ 101 (List._∷_ 115 (List._∷_ 58 (List._∷_ 58 (List._∷_ 67 (List._∷_ 111 (List._∷_ 108 (List._∷_ 117 (List._∷_ 109 (List._∷_ 110 (List._∷_
+  s88 = Scalar.n-room T89 12 (Syntax.tyStruct (List._∷_ 101 (List._∷_ 110 (List._∷_ 116 (List._∷_ 114 (List._∷_ 105 (List._∷_ 101 (List._∷_ 115 (List._∷_ 58 (List._∷_ 58 (List._∷_ 114 (List._∷_ 101 (List._∷_ 97 (List._∷_ 100 (List._∷_ 115 (List._∷_ 58 (List._∷_ 58 (List._∷_ 67 (List._∷_ 111 (List._∷_ 108 (List._∷_ 117 (List._∷_ 109 (List._∷_ 110 (List._∷_
       115 (List._∷_ 82 (List._∷_ 101 (List._∷_ 97 (List._∷_ 100 List.[]))))))))))))))))))))))))))) (Syntax.tcons (Syntax.tyEnum (List._∷_ 114 (List._∷_ 101 (List._∷_ 97 (List._∷_ 100 (List._∷_ 105 (List._∷_ 110 (List._∷_ 103 (List._∷_ 58 (List._∷_ 58 (List._∷_ 114 (List._∷_ 101 (List._∷_ 112 (List._∷_ 108 (List._∷_ 105 (List._∷_ 101 (List._∷_ 115 (List._∷_
       58 (List._∷_ 58 (List._∷_ 82 (List._∷_ 101 (List._∷_ 97 (List._∷_ 100 (List._∷_ 105 (List._∷_ 110 (List._∷_ 103 List.[]))))))))))))))))))))))))) (Syntax.ttcons Syntax.tnil (Syntax.ttcons (Syntax.tcons (Syntax.tyEnum (List._∷_ 114 (List._∷_ 101 (List._∷_ 97 (List._∷_ 100 (List._∷_ 105 (List._∷_ 110 (List._∷_ 103 (List._∷_ 58 (List._∷_ 58 (List._∷_ 114
       (List._∷_ 101 (List._∷_ 112 (List._∷_ 108 (List._∷_ 105 (List._∷_ 101 (List._∷_ 115 (List._∷_ 58 (List._∷_ 58 (List._∷_ 82 (List._∷_ 101 (List._∷_ 102 (List._∷_ 117 (List._∷_ 115 (List._∷_ 97 (List._∷_ 108 List.[]))))))))))))))))))))))))) (Syntax.ttcons Syntax.tnil (Syntax.ttcons (Syntax.tcons (Syntax.tyInt Syntax.w64) Syntax.tnil) (Syntax.ttcons
@@ -1220,8 +1220,8 @@ module _ (claims· : Claims) where
   module _ (Pre· : (κs : Lifetimes.Lfts 10) → Kinds.Dens κs ps → Type 0) (Post· : (κs : Lifetimes.Lfts 10) → (a : Kinds.Dens κs ps) → Kinds.Plain 10 ps r κs) where
     module _ (M : Type 1) where
       abbrev pub Closed : Type 2
-      Closed = (𝓤 : URA.URA M) (H : Wp.Heap 𝓤) (A : Atoms.Atoms 𝓤) (W : Kit.Given 𝓤 H A) (𝓣 : Wp.Tables 𝓤 H) (known0 : Plain.Known 𝓤 H A W 𝓣 1 ps·0 r·0 (claims· .0) (claims· .1) "records::lent::records") (known1 : Plain.Known 𝓤 H A W 𝓣 9 ps·1 r·1 (claims· .2) (claims· .3) "entries::cores::read_records") (known2 : Plain.Known 𝓤 H A W 𝓣 0 ps·2 r·2
-          (claims· .4) (claims· .5) "entries::cores::records_of") (known3 : Plain.Known 𝓤 H A W 𝓣 1 ps·3 r·3 (claims· .6) (claims· .7) "records::lent::store_all") (known4 : Plain.Known 𝓤 H A W 𝓣 0 ps·4 r·4 (claims· .8) (claims· .9) "entries::cores::reading_of") → Statement.Triple 𝓤 (Wp.WpFn 𝓤 H (𝓣 .C) (𝓣 .Λ) (Function.fnOf 10 ps r xs m hs body))
+      Closed = (𝓤 : URA.URA M) (H : Wp.Heap 𝓤) (A : Atoms.Atoms 𝓤) (W : Kit.Given 𝓤 H A) (𝓣 : Wp.Tables 𝓤 H) (known0 : Plain.Known 𝓤 H A W 𝓣 1 ps·0 r·0 (claims· .0) (claims· .1) "records::lent::records") (known1 : Plain.Known 𝓤 H A W 𝓣 9 ps·1 r·1 (claims· .2) (claims· .3) "entries::reads::read_records") (known2 : Plain.Known 𝓤 H A W 𝓣 0 ps·2 r·2
+          (claims· .4) (claims· .5) "entries::reads::records_of") (known3 : Plain.Known 𝓤 H A W 𝓣 1 ps·3 r·3 (claims· .6) (claims· .7) "records::lent::store_all") (known4 : Plain.Known 𝓤 H A W 𝓣 0 ps·4 r·4 (claims· .8) (claims· .9) "entries::reads::reading_of") → Statement.Triple 𝓤 (Wp.WpFn 𝓤 H (𝓣 .C) (𝓣 .Λ) (Function.fnOf 10 ps r xs m hs body))
           (Function.plainOf 𝓤 H A 10 ps r Pre· Post·)
 
     module _ where
@@ -1500,8 +1500,8 @@ module _ (claims· : Claims) where
 
       module _ {M : Type 1} (𝓤 : URA.URA M) (H : Wp.Heap 𝓤) (A : Atoms.Atoms 𝓤) (W : Kit.Given 𝓤 H A) (𝓣 : Wp.Tables 𝓤 H) where
         abbrev Knowns : Type 1
-        Knowns = Plain.Known 𝓤 H A W 𝓣 1 ps·0 r·0 (claims· .0) (claims· .1) "records::lent::records" × Plain.Known 𝓤 H A W 𝓣 9 ps·1 r·1 (claims· .2) (claims· .3) "entries::cores::read_records" × Plain.Known 𝓤 H A W 𝓣 0 ps·2 r·2 (claims· .4) (claims· .5) "entries::cores::records_of" ×
-            Plain.Known 𝓤 H A W 𝓣 1 ps·3 r·3 (claims· .6) (claims· .7) "records::lent::store_all" × Plain.Known 𝓤 H A W 𝓣 0 ps·4 r·4 (claims· .8) (claims· .9) "entries::cores::reading_of"
+        Knowns = Plain.Known 𝓤 H A W 𝓣 1 ps·0 r·0 (claims· .0) (claims· .1) "records::lent::records" × Plain.Known 𝓤 H A W 𝓣 9 ps·1 r·1 (claims· .2) (claims· .3) "entries::reads::read_records" × Plain.Known 𝓤 H A W 𝓣 0 ps·2 r·2 (claims· .4) (claims· .5) "entries::reads::records_of" ×
+            Plain.Known 𝓤 H A W 𝓣 1 ps·3 r·3 (claims· .6) (claims· .7) "records::lent::store_all" × Plain.Known 𝓤 H A W 𝓣 0 ps·4 r·4 (claims· .8) (claims· .9) "entries::reads::reading_of"
 
       module _ (κs : Lifetimes.Lfts 10) (qs : Lifetimes.Shares 10) where
         abbrev g5 : List.List Row.Entry
@@ -1544,7 +1544,7 @@ module _ (claims· : Claims) where
           Reshare.mslice-owedS Rec.rt ty·4 9 10 (Row.lease (κs .1 .1 .1 .1 .1 .1 .1 .1 .1 .0) (qs .1 .1 .1 .1 .1 .1 .1 .1 .1 .0)),
         ) (List._∷_ (11, Rows'.sc-here (Row.sInt Syntax.w64)) (List._∷_ (
           12,
-          Rows'.any-gone (Syntax.tyStruct (List._∷_ 101 (List._∷_ 110 (List._∷_ 116 (List._∷_ 114 (List._∷_ 105 (List._∷_ 101 (List._∷_ 115 (List._∷_ 58 (List._∷_ 58 (List._∷_ 99 (List._∷_ 111 (List._∷_ 114 (List._∷_ 101 (List._∷_ 115 (List._∷_ 58 (List._∷_ 58 (List._∷_ 67 (List._∷_ 111
+          Rows'.any-gone (Syntax.tyStruct (List._∷_ 101 (List._∷_ 110 (List._∷_ 116 (List._∷_ 114 (List._∷_ 105 (List._∷_ 101 (List._∷_ 115 (List._∷_ 58 (List._∷_ 58 (List._∷_ 114 (List._∷_ 101 (List._∷_ 97 (List._∷_ 100 (List._∷_ 115 (List._∷_ 58 (List._∷_ 58 (List._∷_ 67 (List._∷_ 111
               (List._∷_ 108 (List._∷_ 117 (List._∷_ 109 (List._∷_ 110 (List._∷_ 115 (List._∷_ 82 (List._∷_ 101 (List._∷_ 97 (List._∷_ 100 List.[]))))))))))))))))))))))))))) (Syntax.tcons (Syntax.tyEnum (List._∷_ 114 (List._∷_ 101 (List._∷_ 97 (List._∷_ 100 (List._∷_ 105 (List._∷_ 110 (List._∷_ 103 (List._∷_ 58 (List._∷_ 58 (List._∷_ 114 (List._∷_ 101 (List._∷_
               112 (List._∷_ 108 (List._∷_ 105 (List._∷_ 101 (List._∷_ 115 (List._∷_ 58 (List._∷_ 58 (List._∷_ 82 (List._∷_ 101 (List._∷_ 97 (List._∷_ 100 (List._∷_ 105 (List._∷_ 110 (List._∷_ 103 List.[]))))))))))))))))))))))))) (Syntax.ttcons Syntax.tnil (Syntax.ttcons (Syntax.tcons (Syntax.tyEnum (List._∷_ 114 (List._∷_ 101 (List._∷_ 97 (List._∷_ 100
               (List._∷_ 105 (List._∷_ 110 (List._∷_ 103 (List._∷_ 58 (List._∷_ 58 (List._∷_ 114 (List._∷_ 101 (List._∷_ 112 (List._∷_ 108 (List._∷_ 105 (List._∷_ 101 (List._∷_ 115 (List._∷_ 58 (List._∷_ 58 (List._∷_ 82 (List._∷_ 101 (List._∷_ 102 (List._∷_ 117 (List._∷_ 115 (List._∷_ 97 (List._∷_ 108 List.[]))))))))))))))))))))))))) (Syntax.ttcons Syntax.tnil
@@ -1602,7 +1602,7 @@ module _ (claims· : Claims) where
           Reshare.mslice-owedS Rec.rt ty·4 9 10 (Row.lease (κs .1 .1 .1 .1 .1 .1 .1 .1 .1 .0) (qs .1 .1 .1 .1 .1 .1 .1 .1 .1 .0)),
         ) (List._∷_ (11, Rows'.sc-here (Row.sInt Syntax.w64)) (List._∷_ (
           12,
-          Rows'.any-gone (Syntax.tyStruct (List._∷_ 101 (List._∷_ 110 (List._∷_ 116 (List._∷_ 114 (List._∷_ 105 (List._∷_ 101 (List._∷_ 115 (List._∷_ 58 (List._∷_ 58 (List._∷_ 99 (List._∷_ 111 (List._∷_ 114 (List._∷_ 101 (List._∷_ 115 (List._∷_ 58 (List._∷_ 58 (List._∷_ 67 (List._∷_ 111
+          Rows'.any-gone (Syntax.tyStruct (List._∷_ 101 (List._∷_ 110 (List._∷_ 116 (List._∷_ 114 (List._∷_ 105 (List._∷_ 101 (List._∷_ 115 (List._∷_ 58 (List._∷_ 58 (List._∷_ 114 (List._∷_ 101 (List._∷_ 97 (List._∷_ 100 (List._∷_ 115 (List._∷_ 58 (List._∷_ 58 (List._∷_ 67 (List._∷_ 111
               (List._∷_ 108 (List._∷_ 117 (List._∷_ 109 (List._∷_ 110 (List._∷_ 115 (List._∷_ 82 (List._∷_ 101 (List._∷_ 97 (List._∷_ 100 List.[]))))))))))))))))))))))))))) (Syntax.tcons (Syntax.tyEnum (List._∷_ 114 (List._∷_ 101 (List._∷_ 97 (List._∷_ 100 (List._∷_ 105 (List._∷_ 110 (List._∷_ 103 (List._∷_ 58 (List._∷_ 58 (List._∷_ 114 (List._∷_ 101 (List._∷_
               112 (List._∷_ 108 (List._∷_ 105 (List._∷_ 101 (List._∷_ 115 (List._∷_ 58 (List._∷_ 58 (List._∷_ 82 (List._∷_ 101 (List._∷_ 97 (List._∷_ 100 (List._∷_ 105 (List._∷_ 110 (List._∷_ 103 List.[]))))))))))))))))))))))))) (Syntax.ttcons Syntax.tnil (Syntax.ttcons (Syntax.tcons (Syntax.tyEnum (List._∷_ 114 (List._∷_ 101 (List._∷_ 97 (List._∷_ 100
               (List._∷_ 105 (List._∷_ 110 (List._∷_ 103 (List._∷_ 58 (List._∷_ 58 (List._∷_ 114 (List._∷_ 101 (List._∷_ 112 (List._∷_ 108 (List._∷_ 105 (List._∷_ 101 (List._∷_ 115 (List._∷_ 58 (List._∷_ 58 (List._∷_ 82 (List._∷_ 101 (List._∷_ 102 (List._∷_ 117 (List._∷_ 115 (List._∷_ 97 (List._∷_ 108 List.[]))))))))))))))))))))))))) (Syntax.ttcons Syntax.tnil
@@ -1660,7 +1660,7 @@ module _ (claims· : Claims) where
           Reshare.mslice-owedS Rec.rt ty·4 9 10 (Row.lease (κs .1 .1 .1 .1 .1 .1 .1 .1 .1 .0) (qs .1 .1 .1 .1 .1 .1 .1 .1 .1 .0)),
         ) (List._∷_ (11, Rows'.sc-here (Row.sInt Syntax.w64)) (List._∷_ (
           12,
-          Rows'.any-gone (Syntax.tyStruct (List._∷_ 101 (List._∷_ 110 (List._∷_ 116 (List._∷_ 114 (List._∷_ 105 (List._∷_ 101 (List._∷_ 115 (List._∷_ 58 (List._∷_ 58 (List._∷_ 99 (List._∷_ 111 (List._∷_ 114 (List._∷_ 101 (List._∷_ 115 (List._∷_ 58 (List._∷_ 58 (List._∷_ 67 (List._∷_ 111
+          Rows'.any-gone (Syntax.tyStruct (List._∷_ 101 (List._∷_ 110 (List._∷_ 116 (List._∷_ 114 (List._∷_ 105 (List._∷_ 101 (List._∷_ 115 (List._∷_ 58 (List._∷_ 58 (List._∷_ 114 (List._∷_ 101 (List._∷_ 97 (List._∷_ 100 (List._∷_ 115 (List._∷_ 58 (List._∷_ 58 (List._∷_ 67 (List._∷_ 111
               (List._∷_ 108 (List._∷_ 117 (List._∷_ 109 (List._∷_ 110 (List._∷_ 115 (List._∷_ 82 (List._∷_ 101 (List._∷_ 97 (List._∷_ 100 List.[]))))))))))))))))))))))))))) (Syntax.tcons (Syntax.tyEnum (List._∷_ 114 (List._∷_ 101 (List._∷_ 97 (List._∷_ 100 (List._∷_ 105 (List._∷_ 110 (List._∷_ 103 (List._∷_ 58 (List._∷_ 58 (List._∷_ 114 (List._∷_ 101 (List._∷_
               112 (List._∷_ 108 (List._∷_ 105 (List._∷_ 101 (List._∷_ 115 (List._∷_ 58 (List._∷_ 58 (List._∷_ 82 (List._∷_ 101 (List._∷_ 97 (List._∷_ 100 (List._∷_ 105 (List._∷_ 110 (List._∷_ 103 List.[]))))))))))))))))))))))))) (Syntax.ttcons Syntax.tnil (Syntax.ttcons (Syntax.tcons (Syntax.tyEnum (List._∷_ 114 (List._∷_ 101 (List._∷_ 97 (List._∷_ 100
               (List._∷_ 105 (List._∷_ 110 (List._∷_ 103 (List._∷_ 58 (List._∷_ 58 (List._∷_ 114 (List._∷_ 101 (List._∷_ 112 (List._∷_ 108 (List._∷_ 105 (List._∷_ 101 (List._∷_ 115 (List._∷_ 58 (List._∷_ 58 (List._∷_ 82 (List._∷_ 101 (List._∷_ 102 (List._∷_ 117 (List._∷_ 115 (List._∷_ 97 (List._∷_ 108 List.[]))))))))))))))))))))))))) (Syntax.ttcons Syntax.tnil
@@ -1718,7 +1718,7 @@ module _ (claims· : Claims) where
           Reshare.mslice-owedS Rec.rt ty·4 9 10 (Row.lease (κs .1 .1 .1 .1 .1 .1 .1 .1 .1 .0) (qs .1 .1 .1 .1 .1 .1 .1 .1 .1 .0)),
         ) (List._∷_ (11, Rows'.sc-here (Row.sInt Syntax.w64)) (List._∷_ (
           12,
-          Rows'.any-gone (Syntax.tyStruct (List._∷_ 101 (List._∷_ 110 (List._∷_ 116 (List._∷_ 114 (List._∷_ 105 (List._∷_ 101 (List._∷_ 115 (List._∷_ 58 (List._∷_ 58 (List._∷_ 99 (List._∷_ 111 (List._∷_ 114 (List._∷_ 101 (List._∷_ 115 (List._∷_ 58 (List._∷_ 58 (List._∷_ 67 (List._∷_ 111
+          Rows'.any-gone (Syntax.tyStruct (List._∷_ 101 (List._∷_ 110 (List._∷_ 116 (List._∷_ 114 (List._∷_ 105 (List._∷_ 101 (List._∷_ 115 (List._∷_ 58 (List._∷_ 58 (List._∷_ 114 (List._∷_ 101 (List._∷_ 97 (List._∷_ 100 (List._∷_ 115 (List._∷_ 58 (List._∷_ 58 (List._∷_ 67 (List._∷_ 111
               (List._∷_ 108 (List._∷_ 117 (List._∷_ 109 (List._∷_ 110 (List._∷_ 115 (List._∷_ 82 (List._∷_ 101 (List._∷_ 97 (List._∷_ 100 List.[]))))))))))))))))))))))))))) (Syntax.tcons (Syntax.tyEnum (List._∷_ 114 (List._∷_ 101 (List._∷_ 97 (List._∷_ 100 (List._∷_ 105 (List._∷_ 110 (List._∷_ 103 (List._∷_ 58 (List._∷_ 58 (List._∷_ 114 (List._∷_ 101 (List._∷_
               112 (List._∷_ 108 (List._∷_ 105 (List._∷_ 101 (List._∷_ 115 (List._∷_ 58 (List._∷_ 58 (List._∷_ 82 (List._∷_ 101 (List._∷_ 97 (List._∷_ 100 (List._∷_ 105 (List._∷_ 110 (List._∷_ 103 List.[]))))))))))))))))))))))))) (Syntax.ttcons Syntax.tnil (Syntax.ttcons (Syntax.tcons (Syntax.tyEnum (List._∷_ 114 (List._∷_ 101 (List._∷_ 97 (List._∷_ 100
               (List._∷_ 105 (List._∷_ 110 (List._∷_ 103 (List._∷_ 58 (List._∷_ 58 (List._∷_ 114 (List._∷_ 101 (List._∷_ 112 (List._∷_ 108 (List._∷_ 105 (List._∷_ 101 (List._∷_ 115 (List._∷_ 58 (List._∷_ 58 (List._∷_ 82 (List._∷_ 101 (List._∷_ 102 (List._∷_ 117 (List._∷_ 115 (List._∷_ 97 (List._∷_ 108 List.[]))))))))))))))))))))))))) (Syntax.ttcons Syntax.tnil
@@ -1776,7 +1776,7 @@ module _ (claims· : Claims) where
           Mut.mslice Rec.rt ty·4 9,
         ) (List._∷_ (11, Rows'.sc-here (Row.sInt Syntax.w64)) (List._∷_ (
           12,
-          Rows'.any-gone (Syntax.tyStruct (List._∷_ 101 (List._∷_ 110 (List._∷_ 116 (List._∷_ 114 (List._∷_ 105 (List._∷_ 101 (List._∷_ 115 (List._∷_ 58 (List._∷_ 58 (List._∷_ 99 (List._∷_ 111 (List._∷_ 114 (List._∷_ 101 (List._∷_ 115 (List._∷_ 58 (List._∷_ 58 (List._∷_ 67 (List._∷_ 111
+          Rows'.any-gone (Syntax.tyStruct (List._∷_ 101 (List._∷_ 110 (List._∷_ 116 (List._∷_ 114 (List._∷_ 105 (List._∷_ 101 (List._∷_ 115 (List._∷_ 58 (List._∷_ 58 (List._∷_ 114 (List._∷_ 101 (List._∷_ 97 (List._∷_ 100 (List._∷_ 115 (List._∷_ 58 (List._∷_ 58 (List._∷_ 67 (List._∷_ 111
               (List._∷_ 108 (List._∷_ 117 (List._∷_ 109 (List._∷_ 110 (List._∷_ 115 (List._∷_ 82 (List._∷_ 101 (List._∷_ 97 (List._∷_ 100 List.[]))))))))))))))))))))))))))) (Syntax.tcons (Syntax.tyEnum (List._∷_ 114 (List._∷_ 101 (List._∷_ 97 (List._∷_ 100 (List._∷_ 105 (List._∷_ 110 (List._∷_ 103 (List._∷_ 58 (List._∷_ 58 (List._∷_ 114 (List._∷_ 101 (List._∷_
               112 (List._∷_ 108 (List._∷_ 105 (List._∷_ 101 (List._∷_ 115 (List._∷_ 58 (List._∷_ 58 (List._∷_ 82 (List._∷_ 101 (List._∷_ 97 (List._∷_ 100 (List._∷_ 105 (List._∷_ 110 (List._∷_ 103 List.[]))))))))))))))))))))))))) (Syntax.ttcons Syntax.tnil (Syntax.ttcons (Syntax.tcons (Syntax.tyEnum (List._∷_ 114 (List._∷_ 101 (List._∷_ 97 (List._∷_ 100
               (List._∷_ 105 (List._∷_ 110 (List._∷_ 103 (List._∷_ 58 (List._∷_ 58 (List._∷_ 114 (List._∷_ 101 (List._∷_ 112 (List._∷_ 108 (List._∷_ 105 (List._∷_ 101 (List._∷_ 115 (List._∷_ 58 (List._∷_ 58 (List._∷_ 82 (List._∷_ 101 (List._∷_ 102 (List._∷_ 117 (List._∷_ 115 (List._∷_ 97 (List._∷_ 108 List.[]))))))))))))))))))))))))) (Syntax.ttcons Syntax.tnil
@@ -1834,7 +1834,7 @@ module _ (claims· : Claims) where
           Mut.mslice Rec.rt ty·4 9,
         ) (List._∷_ (11, Rows'.sc-here (Row.sInt Syntax.w64)) (List._∷_ (
           12,
-          Rows'.any-gone (Syntax.tyStruct (List._∷_ 101 (List._∷_ 110 (List._∷_ 116 (List._∷_ 114 (List._∷_ 105 (List._∷_ 101 (List._∷_ 115 (List._∷_ 58 (List._∷_ 58 (List._∷_ 99 (List._∷_ 111 (List._∷_ 114 (List._∷_ 101 (List._∷_ 115 (List._∷_ 58 (List._∷_ 58 (List._∷_ 67 (List._∷_ 111
+          Rows'.any-gone (Syntax.tyStruct (List._∷_ 101 (List._∷_ 110 (List._∷_ 116 (List._∷_ 114 (List._∷_ 105 (List._∷_ 101 (List._∷_ 115 (List._∷_ 58 (List._∷_ 58 (List._∷_ 114 (List._∷_ 101 (List._∷_ 97 (List._∷_ 100 (List._∷_ 115 (List._∷_ 58 (List._∷_ 58 (List._∷_ 67 (List._∷_ 111
               (List._∷_ 108 (List._∷_ 117 (List._∷_ 109 (List._∷_ 110 (List._∷_ 115 (List._∷_ 82 (List._∷_ 101 (List._∷_ 97 (List._∷_ 100 List.[]))))))))))))))))))))))))))) (Syntax.tcons (Syntax.tyEnum (List._∷_ 114 (List._∷_ 101 (List._∷_ 97 (List._∷_ 100 (List._∷_ 105 (List._∷_ 110 (List._∷_ 103 (List._∷_ 58 (List._∷_ 58 (List._∷_ 114 (List._∷_ 101 (List._∷_
               112 (List._∷_ 108 (List._∷_ 105 (List._∷_ 101 (List._∷_ 115 (List._∷_ 58 (List._∷_ 58 (List._∷_ 82 (List._∷_ 101 (List._∷_ 97 (List._∷_ 100 (List._∷_ 105 (List._∷_ 110 (List._∷_ 103 List.[]))))))))))))))))))))))))) (Syntax.ttcons Syntax.tnil (Syntax.ttcons (Syntax.tcons (Syntax.tyEnum (List._∷_ 114 (List._∷_ 101 (List._∷_ 97 (List._∷_ 100
               (List._∷_ 105 (List._∷_ 110 (List._∷_ 103 (List._∷_ 58 (List._∷_ 58 (List._∷_ 114 (List._∷_ 101 (List._∷_ 112 (List._∷_ 108 (List._∷_ 105 (List._∷_ 101 (List._∷_ 115 (List._∷_ 58 (List._∷_ 58 (List._∷_ 82 (List._∷_ 101 (List._∷_ 102 (List._∷_ 117 (List._∷_ 115 (List._∷_ 97 (List._∷_ 108 List.[]))))))))))))))))))))))))) (Syntax.ttcons Syntax.tnil
@@ -1892,7 +1892,7 @@ module _ (claims· : Claims) where
           Mut.mslice Rec.rt ty·4 9,
         ) (List._∷_ (11, Rows'.sc-here (Row.sInt Syntax.w64)) (List._∷_ (
           12,
-          Rows'.any-gone (Syntax.tyStruct (List._∷_ 101 (List._∷_ 110 (List._∷_ 116 (List._∷_ 114 (List._∷_ 105 (List._∷_ 101 (List._∷_ 115 (List._∷_ 58 (List._∷_ 58 (List._∷_ 99 (List._∷_ 111 (List._∷_ 114 (List._∷_ 101 (List._∷_ 115 (List._∷_ 58 (List._∷_ 58 (List._∷_ 67 (List._∷_ 111
+          Rows'.any-gone (Syntax.tyStruct (List._∷_ 101 (List._∷_ 110 (List._∷_ 116 (List._∷_ 114 (List._∷_ 105 (List._∷_ 101 (List._∷_ 115 (List._∷_ 58 (List._∷_ 58 (List._∷_ 114 (List._∷_ 101 (List._∷_ 97 (List._∷_ 100 (List._∷_ 115 (List._∷_ 58 (List._∷_ 58 (List._∷_ 67 (List._∷_ 111
               (List._∷_ 108 (List._∷_ 117 (List._∷_ 109 (List._∷_ 110 (List._∷_ 115 (List._∷_ 82 (List._∷_ 101 (List._∷_ 97 (List._∷_ 100 List.[]))))))))))))))))))))))))))) (Syntax.tcons (Syntax.tyEnum (List._∷_ 114 (List._∷_ 101 (List._∷_ 97 (List._∷_ 100 (List._∷_ 105 (List._∷_ 110 (List._∷_ 103 (List._∷_ 58 (List._∷_ 58 (List._∷_ 114 (List._∷_ 101 (List._∷_
               112 (List._∷_ 108 (List._∷_ 105 (List._∷_ 101 (List._∷_ 115 (List._∷_ 58 (List._∷_ 58 (List._∷_ 82 (List._∷_ 101 (List._∷_ 97 (List._∷_ 100 (List._∷_ 105 (List._∷_ 110 (List._∷_ 103 List.[]))))))))))))))))))))))))) (Syntax.ttcons Syntax.tnil (Syntax.ttcons (Syntax.tcons (Syntax.tyEnum (List._∷_ 114 (List._∷_ 101 (List._∷_ 97 (List._∷_ 100
               (List._∷_ 105 (List._∷_ 110 (List._∷_ 103 (List._∷_ 58 (List._∷_ 58 (List._∷_ 114 (List._∷_ 101 (List._∷_ 112 (List._∷_ 108 (List._∷_ 105 (List._∷_ 101 (List._∷_ 115 (List._∷_ 58 (List._∷_ 58 (List._∷_ 82 (List._∷_ 101 (List._∷_ 102 (List._∷_ 117 (List._∷_ 115 (List._∷_ 97 (List._∷_ 108 List.[]))))))))))))))))))))))))) (Syntax.ttcons Syntax.tnil
@@ -1950,7 +1950,7 @@ module _ (claims· : Claims) where
           Mut.mslice Rec.rt ty·4 9,
         ) (List._∷_ (11, Rows'.sc-here (Row.sInt Syntax.w64)) (List._∷_ (
           12,
-          Rows'.any-gone (Syntax.tyStruct (List._∷_ 101 (List._∷_ 110 (List._∷_ 116 (List._∷_ 114 (List._∷_ 105 (List._∷_ 101 (List._∷_ 115 (List._∷_ 58 (List._∷_ 58 (List._∷_ 99 (List._∷_ 111 (List._∷_ 114 (List._∷_ 101 (List._∷_ 115 (List._∷_ 58 (List._∷_ 58 (List._∷_ 67 (List._∷_ 111
+          Rows'.any-gone (Syntax.tyStruct (List._∷_ 101 (List._∷_ 110 (List._∷_ 116 (List._∷_ 114 (List._∷_ 105 (List._∷_ 101 (List._∷_ 115 (List._∷_ 58 (List._∷_ 58 (List._∷_ 114 (List._∷_ 101 (List._∷_ 97 (List._∷_ 100 (List._∷_ 115 (List._∷_ 58 (List._∷_ 58 (List._∷_ 67 (List._∷_ 111
               (List._∷_ 108 (List._∷_ 117 (List._∷_ 109 (List._∷_ 110 (List._∷_ 115 (List._∷_ 82 (List._∷_ 101 (List._∷_ 97 (List._∷_ 100 List.[]))))))))))))))))))))))))))) (Syntax.tcons (Syntax.tyEnum (List._∷_ 114 (List._∷_ 101 (List._∷_ 97 (List._∷_ 100 (List._∷_ 105 (List._∷_ 110 (List._∷_ 103 (List._∷_ 58 (List._∷_ 58 (List._∷_ 114 (List._∷_ 101 (List._∷_
               112 (List._∷_ 108 (List._∷_ 105 (List._∷_ 101 (List._∷_ 115 (List._∷_ 58 (List._∷_ 58 (List._∷_ 82 (List._∷_ 101 (List._∷_ 97 (List._∷_ 100 (List._∷_ 105 (List._∷_ 110 (List._∷_ 103 List.[]))))))))))))))))))))))))) (Syntax.ttcons Syntax.tnil (Syntax.ttcons (Syntax.tcons (Syntax.tyEnum (List._∷_ 114 (List._∷_ 101 (List._∷_ 97 (List._∷_ 100
               (List._∷_ 105 (List._∷_ 110 (List._∷_ 103 (List._∷_ 58 (List._∷_ 58 (List._∷_ 114 (List._∷_ 101 (List._∷_ 112 (List._∷_ 108 (List._∷_ 105 (List._∷_ 101 (List._∷_ 115 (List._∷_ 58 (List._∷_ 58 (List._∷_ 82 (List._∷_ 101 (List._∷_ 102 (List._∷_ 117 (List._∷_ 115 (List._∷_ 97 (List._∷_ 108 List.[]))))))))))))))))))))))))) (Syntax.ttcons Syntax.tnil
@@ -2008,7 +2008,7 @@ module _ (claims· : Claims) where
           Mut.mslice Rec.rt ty·4 9,
         ) (List._∷_ (11, Rows'.sc-here (Row.sInt Syntax.w64)) (List._∷_ (
           12,
-          Rows'.any-gone (Syntax.tyStruct (List._∷_ 101 (List._∷_ 110 (List._∷_ 116 (List._∷_ 114 (List._∷_ 105 (List._∷_ 101 (List._∷_ 115 (List._∷_ 58 (List._∷_ 58 (List._∷_ 99 (List._∷_ 111 (List._∷_ 114 (List._∷_ 101 (List._∷_ 115 (List._∷_ 58 (List._∷_ 58 (List._∷_ 67 (List._∷_ 111
+          Rows'.any-gone (Syntax.tyStruct (List._∷_ 101 (List._∷_ 110 (List._∷_ 116 (List._∷_ 114 (List._∷_ 105 (List._∷_ 101 (List._∷_ 115 (List._∷_ 58 (List._∷_ 58 (List._∷_ 114 (List._∷_ 101 (List._∷_ 97 (List._∷_ 100 (List._∷_ 115 (List._∷_ 58 (List._∷_ 58 (List._∷_ 67 (List._∷_ 111
               (List._∷_ 108 (List._∷_ 117 (List._∷_ 109 (List._∷_ 110 (List._∷_ 115 (List._∷_ 82 (List._∷_ 101 (List._∷_ 97 (List._∷_ 100 List.[]))))))))))))))))))))))))))) (Syntax.tcons (Syntax.tyEnum (List._∷_ 114 (List._∷_ 101 (List._∷_ 97 (List._∷_ 100 (List._∷_ 105 (List._∷_ 110 (List._∷_ 103 (List._∷_ 58 (List._∷_ 58 (List._∷_ 114 (List._∷_ 101 (List._∷_
               112 (List._∷_ 108 (List._∷_ 105 (List._∷_ 101 (List._∷_ 115 (List._∷_ 58 (List._∷_ 58 (List._∷_ 82 (List._∷_ 101 (List._∷_ 97 (List._∷_ 100 (List._∷_ 105 (List._∷_ 110 (List._∷_ 103 List.[]))))))))))))))))))))))))) (Syntax.ttcons Syntax.tnil (Syntax.ttcons (Syntax.tcons (Syntax.tyEnum (List._∷_ 114 (List._∷_ 101 (List._∷_ 97 (List._∷_ 100
               (List._∷_ 105 (List._∷_ 110 (List._∷_ 103 (List._∷_ 58 (List._∷_ 58 (List._∷_ 114 (List._∷_ 101 (List._∷_ 112 (List._∷_ 108 (List._∷_ 105 (List._∷_ 101 (List._∷_ 115 (List._∷_ 58 (List._∷_ 58 (List._∷_ 82 (List._∷_ 101 (List._∷_ 102 (List._∷_ 117 (List._∷_ 115 (List._∷_ 97 (List._∷_ 108 List.[]))))))))))))))))))))))))) (Syntax.ttcons Syntax.tnil
@@ -2066,7 +2066,7 @@ module _ (claims· : Claims) where
           Mut.mslice Rec.rt ty·4 9,
         ) (List._∷_ (11, Rows'.sc-here (Row.sInt Syntax.w64)) (List._∷_ (
           12,
-          Rows'.any-gone (Syntax.tyStruct (List._∷_ 101 (List._∷_ 110 (List._∷_ 116 (List._∷_ 114 (List._∷_ 105 (List._∷_ 101 (List._∷_ 115 (List._∷_ 58 (List._∷_ 58 (List._∷_ 99 (List._∷_ 111 (List._∷_ 114 (List._∷_ 101 (List._∷_ 115 (List._∷_ 58 (List._∷_ 58 (List._∷_ 67 (List._∷_ 111
+          Rows'.any-gone (Syntax.tyStruct (List._∷_ 101 (List._∷_ 110 (List._∷_ 116 (List._∷_ 114 (List._∷_ 105 (List._∷_ 101 (List._∷_ 115 (List._∷_ 58 (List._∷_ 58 (List._∷_ 114 (List._∷_ 101 (List._∷_ 97 (List._∷_ 100 (List._∷_ 115 (List._∷_ 58 (List._∷_ 58 (List._∷_ 67 (List._∷_ 111
               (List._∷_ 108 (List._∷_ 117 (List._∷_ 109 (List._∷_ 110 (List._∷_ 115 (List._∷_ 82 (List._∷_ 101 (List._∷_ 97 (List._∷_ 100 List.[]))))))))))))))))))))))))))) (Syntax.tcons (Syntax.tyEnum (List._∷_ 114 (List._∷_ 101 (List._∷_ 97 (List._∷_ 100 (List._∷_ 105 (List._∷_ 110 (List._∷_ 103 (List._∷_ 58 (List._∷_ 58 (List._∷_ 114 (List._∷_ 101 (List._∷_
               112 (List._∷_ 108 (List._∷_ 105 (List._∷_ 101 (List._∷_ 115 (List._∷_ 58 (List._∷_ 58 (List._∷_ 82 (List._∷_ 101 (List._∷_ 97 (List._∷_ 100 (List._∷_ 105 (List._∷_ 110 (List._∷_ 103 List.[]))))))))))))))))))))))))) (Syntax.ttcons Syntax.tnil (Syntax.ttcons (Syntax.tcons (Syntax.tyEnum (List._∷_ 114 (List._∷_ 101 (List._∷_ 97 (List._∷_ 100
               (List._∷_ 105 (List._∷_ 110 (List._∷_ 103 (List._∷_ 58 (List._∷_ 58 (List._∷_ 114 (List._∷_ 101 (List._∷_ 112 (List._∷_ 108 (List._∷_ 105 (List._∷_ 101 (List._∷_ 115 (List._∷_ 58 (List._∷_ 58 (List._∷_ 82 (List._∷_ 101 (List._∷_ 102 (List._∷_ 117 (List._∷_ 115 (List._∷_ 97 (List._∷_ 108 List.[]))))))))))))))))))))))))) (Syntax.ttcons Syntax.tnil
@@ -2124,7 +2124,7 @@ module _ (claims· : Claims) where
           Mut.mslice Rec.rt ty·4 9,
         ) (List._∷_ (11, Rows'.sc-here (Row.sInt Syntax.w64)) (List._∷_ (
           12,
-          Rows'.any-gone (Syntax.tyStruct (List._∷_ 101 (List._∷_ 110 (List._∷_ 116 (List._∷_ 114 (List._∷_ 105 (List._∷_ 101 (List._∷_ 115 (List._∷_ 58 (List._∷_ 58 (List._∷_ 99 (List._∷_ 111 (List._∷_ 114 (List._∷_ 101 (List._∷_ 115 (List._∷_ 58 (List._∷_ 58 (List._∷_ 67 (List._∷_ 111
+          Rows'.any-gone (Syntax.tyStruct (List._∷_ 101 (List._∷_ 110 (List._∷_ 116 (List._∷_ 114 (List._∷_ 105 (List._∷_ 101 (List._∷_ 115 (List._∷_ 58 (List._∷_ 58 (List._∷_ 114 (List._∷_ 101 (List._∷_ 97 (List._∷_ 100 (List._∷_ 115 (List._∷_ 58 (List._∷_ 58 (List._∷_ 67 (List._∷_ 111
               (List._∷_ 108 (List._∷_ 117 (List._∷_ 109 (List._∷_ 110 (List._∷_ 115 (List._∷_ 82 (List._∷_ 101 (List._∷_ 97 (List._∷_ 100 List.[]))))))))))))))))))))))))))) (Syntax.tcons (Syntax.tyEnum (List._∷_ 114 (List._∷_ 101 (List._∷_ 97 (List._∷_ 100 (List._∷_ 105 (List._∷_ 110 (List._∷_ 103 (List._∷_ 58 (List._∷_ 58 (List._∷_ 114 (List._∷_ 101 (List._∷_
               112 (List._∷_ 108 (List._∷_ 105 (List._∷_ 101 (List._∷_ 115 (List._∷_ 58 (List._∷_ 58 (List._∷_ 82 (List._∷_ 101 (List._∷_ 97 (List._∷_ 100 (List._∷_ 105 (List._∷_ 110 (List._∷_ 103 List.[]))))))))))))))))))))))))) (Syntax.ttcons Syntax.tnil (Syntax.ttcons (Syntax.tcons (Syntax.tyEnum (List._∷_ 114 (List._∷_ 101 (List._∷_ 97 (List._∷_ 100
               (List._∷_ 105 (List._∷_ 110 (List._∷_ 103 (List._∷_ 58 (List._∷_ 58 (List._∷_ 114 (List._∷_ 101 (List._∷_ 112 (List._∷_ 108 (List._∷_ 105 (List._∷_ 101 (List._∷_ 115 (List._∷_ 58 (List._∷_ 58 (List._∷_ 82 (List._∷_ 101 (List._∷_ 102 (List._∷_ 117 (List._∷_ 115 (List._∷_ 97 (List._∷_ 108 List.[]))))))))))))))))))))))))) (Syntax.ttcons Syntax.tnil
@@ -2182,7 +2182,7 @@ module _ (claims· : Claims) where
           Mut.mslice Rec.rt ty·4 9,
         ) (List._∷_ (11, Rows'.sc-here (Row.sInt Syntax.w64)) (List._∷_ (
           12,
-          Rows'.any-gone (Syntax.tyStruct (List._∷_ 101 (List._∷_ 110 (List._∷_ 116 (List._∷_ 114 (List._∷_ 105 (List._∷_ 101 (List._∷_ 115 (List._∷_ 58 (List._∷_ 58 (List._∷_ 99 (List._∷_ 111 (List._∷_ 114 (List._∷_ 101 (List._∷_ 115 (List._∷_ 58 (List._∷_ 58 (List._∷_ 67 (List._∷_ 111
+          Rows'.any-gone (Syntax.tyStruct (List._∷_ 101 (List._∷_ 110 (List._∷_ 116 (List._∷_ 114 (List._∷_ 105 (List._∷_ 101 (List._∷_ 115 (List._∷_ 58 (List._∷_ 58 (List._∷_ 114 (List._∷_ 101 (List._∷_ 97 (List._∷_ 100 (List._∷_ 115 (List._∷_ 58 (List._∷_ 58 (List._∷_ 67 (List._∷_ 111
               (List._∷_ 108 (List._∷_ 117 (List._∷_ 109 (List._∷_ 110 (List._∷_ 115 (List._∷_ 82 (List._∷_ 101 (List._∷_ 97 (List._∷_ 100 List.[]))))))))))))))))))))))))))) (Syntax.tcons (Syntax.tyEnum (List._∷_ 114 (List._∷_ 101 (List._∷_ 97 (List._∷_ 100 (List._∷_ 105 (List._∷_ 110 (List._∷_ 103 (List._∷_ 58 (List._∷_ 58 (List._∷_ 114 (List._∷_ 101 (List._∷_
               112 (List._∷_ 108 (List._∷_ 105 (List._∷_ 101 (List._∷_ 115 (List._∷_ 58 (List._∷_ 58 (List._∷_ 82 (List._∷_ 101 (List._∷_ 97 (List._∷_ 100 (List._∷_ 105 (List._∷_ 110 (List._∷_ 103 List.[]))))))))))))))))))))))))) (Syntax.ttcons Syntax.tnil (Syntax.ttcons (Syntax.tcons (Syntax.tyEnum (List._∷_ 114 (List._∷_ 101 (List._∷_ 97 (List._∷_ 100
               (List._∷_ 105 (List._∷_ 110 (List._∷_ 103 (List._∷_ 58 (List._∷_ 58 (List._∷_ 114 (List._∷_ 101 (List._∷_ 112 (List._∷_ 108 (List._∷_ 105 (List._∷_ 101 (List._∷_ 115 (List._∷_ 58 (List._∷_ 58 (List._∷_ 82 (List._∷_ 101 (List._∷_ 102 (List._∷_ 117 (List._∷_ 115 (List._∷_ 97 (List._∷_ 108 List.[]))))))))))))))))))))))))) (Syntax.ttcons Syntax.tnil
@@ -3487,14 +3487,14 @@ module _ (claims· : Claims) where
           d0 = Typed.t-return 𝓤 H A W 𝓣 E Δ0 tt
 
           d1 : Typed.Typed 𝓤 H A 𝓣 E G89 b26 Δ0 at1
-          d1 = Typed.g-pre 𝓤 H A W 𝓣 E G89 G90 b26 Δ0 (Typed.pass T89 T90 s88) at0 (Scalar.g-room 𝓤 H A W E G89 12 (Syntax.tyStruct (List._∷_ 101 (List._∷_ 110 (List._∷_ 116 (List._∷_ 114 (List._∷_ 105 (List._∷_ 101 (List._∷_ 115 (List._∷_ 58 (List._∷_ 58 (List._∷_ 99 (List._∷_ 111 (List._∷_ 114 (List._∷_ 101 (List._∷_ 115 (List._∷_ 58 (List._∷_ 58 (List._∷_
+          d1 = Typed.g-pre 𝓤 H A W 𝓣 E G89 G90 b26 Δ0 (Typed.pass T89 T90 s88) at0 (Scalar.g-room 𝓤 H A W E G89 12 (Syntax.tyStruct (List._∷_ 101 (List._∷_ 110 (List._∷_ 116 (List._∷_ 114 (List._∷_ 105 (List._∷_ 101 (List._∷_ 115 (List._∷_ 58 (List._∷_ 58 (List._∷_ 114 (List._∷_ 101 (List._∷_ 97 (List._∷_ 100 (List._∷_ 115 (List._∷_ 58 (List._∷_ 58 (List._∷_
               67 (List._∷_ 111 (List._∷_ 108 (List._∷_ 117 (List._∷_ 109 (List._∷_ 110 (List._∷_ 115 (List._∷_ 82 (List._∷_ 101 (List._∷_ 97 (List._∷_ 100 List.[]))))))))))))))))))))))))))) (Syntax.tcons (Syntax.tyEnum (List._∷_ 114 (List._∷_ 101 (List._∷_ 97 (List._∷_ 100 (List._∷_ 105 (List._∷_ 110 (List._∷_ 103 (List._∷_ 58 (List._∷_ 58 (List._∷_ 114
               (List._∷_ 101 (List._∷_ 112 (List._∷_ 108 (List._∷_ 105 (List._∷_ 101 (List._∷_ 115 (List._∷_ 58 (List._∷_ 58 (List._∷_ 82 (List._∷_ 101 (List._∷_ 97 (List._∷_ 100 (List._∷_ 105 (List._∷_ 110 (List._∷_ 103 List.[]))))))))))))))))))))))))) (Syntax.ttcons Syntax.tnil (Syntax.ttcons (Syntax.tcons (Syntax.tyEnum (List._∷_ 114 (List._∷_ 101
               (List._∷_ 97 (List._∷_ 100 (List._∷_ 105 (List._∷_ 110 (List._∷_ 103 (List._∷_ 58 (List._∷_ 58 (List._∷_ 114 (List._∷_ 101 (List._∷_ 112 (List._∷_ 108 (List._∷_ 105 (List._∷_ 101 (List._∷_ 115 (List._∷_ 58 (List._∷_ 58 (List._∷_ 82 (List._∷_ 101 (List._∷_ 102 (List._∷_ 117
               (List._∷_ 115 (List._∷_ 97 (List._∷_ 108 List.[]))))))))))))))))))))))))) (Syntax.ttcons Syntax.tnil (Syntax.ttcons (Syntax.tcons (Syntax.tyInt Syntax.w64) Syntax.tnil) (Syntax.ttcons (Syntax.tcons (Syntax.tyInt Syntax.w64) Syntax.tnil) (Syntax.ttcons (Syntax.tcons (Syntax.tyInt Syntax.w64) Syntax.tnil) (Syntax.ttcons
               (Syntax.tcons (Syntax.tyInt Syntax.w64) Syntax.tnil) (Syntax.ttcons (Syntax.tcons (Syntax.tyInt Syntax.w64) Syntax.tnil) (Syntax.ttcons (Syntax.tcons (Syntax.tyInt Syntax.w64) Syntax.tnil) (Syntax.ttcons (Syntax.tcons ty·17 Syntax.tnil) (Syntax.ttcons (Syntax.tcons ty·17 Syntax.tnil) (Syntax.ttcons (Syntax.tcons ty·17 Syntax.tnil)
               (Syntax.ttcons (Syntax.tcons ty·17 (Syntax.tcons ty·17 Syntax.tnil)) (Syntax.ttcons Syntax.tnil Syntax.ttnil))))))))))))) Syntax.tnil) Syntax.ttnil))) (Syntax.tcons ty·0 (Syntax.tcons ty·1 (Syntax.tcons ty·0 (Syntax.tcons ty·1 (Syntax.tcons ty·0 Syntax.tnil))))))) (Local.room-whole 𝓤 H A W (Declared'.row ColumnsRead.the-type) (Syntax.tyStruct
-              (List._∷_ 101 (List._∷_ 110 (List._∷_ 116 (List._∷_ 114 (List._∷_ 105 (List._∷_ 101 (List._∷_ 115 (List._∷_ 58 (List._∷_ 58 (List._∷_ 99 (List._∷_ 111 (List._∷_ 114 (List._∷_ 101 (List._∷_ 115 (List._∷_ 58 (List._∷_ 58 (List._∷_ 67 (List._∷_ 111 (List._∷_ 108 (List._∷_ 117 (List._∷_ 109 (List._∷_ 110 (List._∷_ 115 (List._∷_ 82
+              (List._∷_ 101 (List._∷_ 110 (List._∷_ 116 (List._∷_ 114 (List._∷_ 105 (List._∷_ 101 (List._∷_ 115 (List._∷_ 58 (List._∷_ 58 (List._∷_ 114 (List._∷_ 101 (List._∷_ 97 (List._∷_ 100 (List._∷_ 115 (List._∷_ 58 (List._∷_ 58 (List._∷_ 67 (List._∷_ 111 (List._∷_ 108 (List._∷_ 117 (List._∷_ 109 (List._∷_ 110 (List._∷_ 115 (List._∷_ 82
               (List._∷_ 101 (List._∷_ 97 (List._∷_ 100 List.[]))))))))))))))))))))))))))) (Syntax.tcons (Syntax.tyEnum (List._∷_ 114 (List._∷_ 101 (List._∷_ 97 (List._∷_ 100 (List._∷_ 105 (List._∷_ 110 (List._∷_ 103 (List._∷_ 58 (List._∷_ 58 (List._∷_ 114 (List._∷_ 101 (List._∷_ 112 (List._∷_ 108 (List._∷_ 105 (List._∷_ 101 (List._∷_ 115 (List._∷_ 58
               (List._∷_ 58 (List._∷_ 82 (List._∷_ 101 (List._∷_ 97 (List._∷_ 100 (List._∷_ 105 (List._∷_ 110 (List._∷_ 103 List.[]))))))))))))))))))))))))) (Syntax.ttcons Syntax.tnil (Syntax.ttcons (Syntax.tcons (Syntax.tyEnum (List._∷_ 114 (List._∷_ 101 (List._∷_ 97 (List._∷_ 100 (List._∷_ 105 (List._∷_ 110 (List._∷_ 103 (List._∷_ 58 (List._∷_ 58 (List._∷_
               114 (List._∷_ 101 (List._∷_ 112 (List._∷_ 108 (List._∷_ 105 (List._∷_ 101 (List._∷_ 115 (List._∷_ 58 (List._∷_ 58 (List._∷_ 82 (List._∷_ 101 (List._∷_ 102 (List._∷_ 117 (List._∷_ 115 (List._∷_ 97 (List._∷_ 108 List.[]))))))))))))))))))))))))) (Syntax.ttcons Syntax.tnil (Syntax.ttcons (Syntax.tcons (Syntax.tyInt Syntax.w64) Syntax.tnil)
@@ -3506,7 +3506,7 @@ module _ (claims· : Claims) where
           d2 = Typed.g-pre 𝓤 H A W 𝓣 E G88 G89 b26 Δ0 (Typed.pass T88 T89 s87) at1 (Scalar.g-room 𝓤 H A W E G88 11 (Syntax.tyInt Syntax.w64) (Scalar.room-sc 𝓤 H A W (Row.sInt Syntax.w64))) d1
 
           d3 : Typed.Typed 𝓤 H A 𝓣 E G87 b27 Δ0 at3
-          d3 = Typed.s-seq 𝓤 H A W 𝓣 E G87 G88 b25 b26 Δ0 (Typed.both s86) at2 (Plain.t-call-plain 𝓤 H A W 𝓣 0 ps·4 r·4 (claims· .8) (claims· .9) "entries::cores::reading_of" (known .4) E (λ pos β. β) G87 (record { pos = 12; st = List.[]; d = 0; at = λ x. x }, tt) 0 List.[] (Call.sub-id 𝓤 H A W (G87 .slots)) (
+          d3 = Typed.s-seq 𝓤 H A W 𝓣 E G87 G88 b25 b26 Δ0 (Typed.both s86) at2 (Plain.t-call-plain 𝓤 H A W 𝓣 0 ps·4 r·4 (claims· .8) (claims· .9) "entries::reads::reading_of" (known .4) E (λ pos β. β) G87 (record { pos = 12; st = List.[]; d = 0; at = λ x. x }, tt) 0 List.[] (Call.sub-id 𝓤 H A W (G87 .slots)) (
             (
               Yields.yields-copy 𝓤 H A W (λ ρ. Unit)
                   (Declared'.row ColumnsRead.the-type) Path'.refl (Copies.cStruct ColumnsRead.the-type Laws.the-laws Laws.the-copy .copy 𝓤 H A W) (Rows'.whole (Declared'.row ColumnsRead.the-type)) (λ x. x) (λ x. x) (λ ρ told. Local.mem-whole 𝓤 H A W (Declared'.row ColumnsRead.the-type) ρ) λ ρ told. Local.whole-mem 𝓤 H A W (Declared'.row ColumnsRead.the-type) ρ,
@@ -3540,7 +3540,7 @@ module _ (claims· : Claims) where
               32 (List._∷_ 19 List.[]) (Call.sub-id 𝓤 H A W (G81 .slots)) (Reads.as-is 𝓤 H A (Mut.mslice Rec.rt ty·3 19), Mut.reads-mslice 𝓤 H A W Rec.rt ty·3 19, Path'.refl, ((Array.arr-yields 𝓤 H A W Rec.elem Rec.elem-laws 2048, Path'.refl), tt)) (Reads.room-gone 𝓤 H A Syntax.tyUnit) (tt, tt) Path'.refl) d8
 
           d10 : Typed.Typed 𝓤 H A 𝓣 E G80 b29 Δ0 at10
-          d10 = Typed.s-seq 𝓤 H A W 𝓣 E G80 G81 b23 b28 Δ0 (Typed.both s79) at9 (Plain.t-call-plain 𝓤 H A W 𝓣 0 ps·2 r·2 (claims· .4) (claims· .5) "entries::cores::records_of" (known .2) E (λ pos β. β) G80 (record { pos = 12; st = List.[]; d = 0; at = λ x. x }, tt) 13 List.[] (Call.sub-id 𝓤 H A W (G80 .slots)) (
+          d10 = Typed.s-seq 𝓤 H A W 𝓣 E G80 G81 b23 b28 Δ0 (Typed.both s79) at9 (Plain.t-call-plain 𝓤 H A W 𝓣 0 ps·2 r·2 (claims· .4) (claims· .5) "entries::reads::records_of" (known .2) E (λ pos β. β) G80 (record { pos = 12; st = List.[]; d = 0; at = λ x. x }, tt) 13 List.[] (Call.sub-id 𝓤 H A W (G80 .slots)) (
             (
               Yields.yields-copy 𝓤 H A W (λ ρ. Unit)
                   (Declared'.row ColumnsRead.the-type) Path'.refl (Copies.cStruct ColumnsRead.the-type Laws.the-laws Laws.the-copy .copy 𝓤 H A W) (Rows'.whole (Declared'.row ColumnsRead.the-type)) (λ x. x) (λ x. x) (λ ρ told. Local.mem-whole 𝓤 H A W (Declared'.row ColumnsRead.the-type) ρ) λ ρ told. Local.whole-mem 𝓤 H A W (Declared'.row ColumnsRead.the-type) ρ,
@@ -3726,7 +3726,7 @@ module _ (claims· : Claims) where
           d46 = Typed.g-pre 𝓤 H A W 𝓣 E G44 G45 b31 Δ0 (Typed.pass T44 T45 s43) at45 (Scalar.g-room 𝓤 H A W E G44 13 (Syntax.tyArray Rec.mir 2048) (Init.room-arr 𝓤 H A W Rec.rt 2048 0 2048 Path'.refl)) d45
 
           d47 : Typed.Typed 𝓤 H A 𝓣 E G43 b32 Δ0 at47
-          d47 = Typed.s-seq 𝓤 H A W 𝓣 E G43 G44 b20 b31 Δ0 (Typed.both s42) at46 (Plain.t-call-plain 𝓤 H A W 𝓣 9 ps·1 r·1 (claims· .2) (claims· .3) "entries::cores::read_records" (known .1) E (λ pos β. β) G43 (
+          d47 = Typed.s-seq 𝓤 H A W 𝓣 E G43 G44 b20 b31 Δ0 (Typed.both s42) at46 (Plain.t-call-plain 𝓤 H A W 𝓣 9 ps·1 r·1 (claims· .2) (claims· .3) "entries::reads::read_records" (known .1) E (λ pos β. β) G43 (
             record { pos = 13; st = List.[]; d = 0; at = λ x. x },
             (
               Num.vAt 11 λ x. x,
@@ -3824,7 +3824,7 @@ module _ (claims· : Claims) where
                   ),
                 ),
               ) (Reads.room-gone 𝓤 H A (Syntax.tyStruct (List._∷_ 101 (List._∷_ 110 (List._∷_ 116 (List._∷_ 114 (List._∷_ 105 (List._∷_ 101 (List._∷_ 115 (List._∷_ 58 (List._∷_ 58
-              (List._∷_ 99 (List._∷_ 111 (List._∷_ 114 (List._∷_ 101 (List._∷_ 115 (List._∷_ 58 (List._∷_ 58 (List._∷_ 67 (List._∷_ 111 (List._∷_ 108 (List._∷_ 117 (List._∷_ 109 (List._∷_ 110 (List._∷_ 115 (List._∷_ 82 (List._∷_ 101 (List._∷_ 97 (List._∷_ 100 List.[]))))))))))))))))))))))))))) (Syntax.tcons (Syntax.tyEnum (List._∷_ 114 (List._∷_ 101
+              (List._∷_ 114 (List._∷_ 101 (List._∷_ 97 (List._∷_ 100 (List._∷_ 115 (List._∷_ 58 (List._∷_ 58 (List._∷_ 67 (List._∷_ 111 (List._∷_ 108 (List._∷_ 117 (List._∷_ 109 (List._∷_ 110 (List._∷_ 115 (List._∷_ 82 (List._∷_ 101 (List._∷_ 97 (List._∷_ 100 List.[]))))))))))))))))))))))))))) (Syntax.tcons (Syntax.tyEnum (List._∷_ 114 (List._∷_ 101
               (List._∷_ 97 (List._∷_ 100 (List._∷_ 105 (List._∷_ 110 (List._∷_ 103 (List._∷_ 58 (List._∷_ 58 (List._∷_ 114 (List._∷_ 101 (List._∷_ 112 (List._∷_ 108 (List._∷_ 105 (List._∷_ 101 (List._∷_ 115 (List._∷_ 58 (List._∷_ 58 (List._∷_ 82 (List._∷_ 101 (List._∷_ 97 (List._∷_ 100
               (List._∷_ 105 (List._∷_ 110 (List._∷_ 103 List.[]))))))))))))))))))))))))) (Syntax.ttcons Syntax.tnil (Syntax.ttcons (Syntax.tcons (Syntax.tyEnum (List._∷_ 114 (List._∷_ 101 (List._∷_ 97 (List._∷_ 100 (List._∷_ 105 (List._∷_ 110 (List._∷_ 103 (List._∷_ 58 (List._∷_ 58 (List._∷_ 114 (List._∷_ 101 (List._∷_ 112 (List._∷_ 108 (List._∷_ 105
               (List._∷_ 101 (List._∷_ 115 (List._∷_ 58 (List._∷_ 58 (List._∷_ 82 (List._∷_ 101 (List._∷_ 102 (List._∷_ 117 (List._∷_ 115 (List._∷_ 97 (List._∷_ 108 List.[]))))))))))))))))))))))))) (Syntax.ttcons Syntax.tnil (Syntax.ttcons (Syntax.tcons (Syntax.tyInt Syntax.w64) Syntax.tnil) (Syntax.ttcons (Syntax.tcons (Syntax.tyInt Syntax.w64) Syntax.tnil)
@@ -5875,7 +5875,7 @@ module _ (claims· : Claims) where
             pre = pre;
           }
 
-        module _ {M : Type 1} (𝓤 : URA.URA M) (H : Wp.Heap 𝓤) (A : Atoms.Atoms 𝓤) (W : Kit.Given 𝓤 H A) (𝓣 : Wp.Tables 𝓤 H) (known0 : Plain.Known 𝓤 H A W 𝓣 1 ps·0 r·0 (claims· .0) (claims· .1) "records::lent::records") (known1 : Plain.Known 𝓤 H A W 𝓣 9 ps·1 r·1 (claims· .2) (claims· .3) "entries::cores::read_records") (known2 : Plain.Known 𝓤 H A W 𝓣 0 ps·2
-            r·2 (claims· .4) (claims· .5) "entries::cores::records_of") (known3 : Plain.Known 𝓤 H A W 𝓣 1 ps·3 r·3 (claims· .6) (claims· .7) "records::lent::store_all") (known4 : Plain.Known 𝓤 H A W 𝓣 0 ps·4 r·4 (claims· .8) (claims· .9) "entries::cores::reading_of") where
+        module _ {M : Type 1} (𝓤 : URA.URA M) (H : Wp.Heap 𝓤) (A : Atoms.Atoms 𝓤) (W : Kit.Given 𝓤 H A) (𝓣 : Wp.Tables 𝓤 H) (known0 : Plain.Known 𝓤 H A W 𝓣 1 ps·0 r·0 (claims· .0) (claims· .1) "records::lent::records") (known1 : Plain.Known 𝓤 H A W 𝓣 9 ps·1 r·1 (claims· .2) (claims· .3) "entries::reads::read_records") (known2 : Plain.Known 𝓤 H A W 𝓣 0 ps·2
+            r·2 (claims· .4) (claims· .5) "entries::reads::records_of") (known3 : Plain.Known 𝓤 H A W 𝓣 1 ps·3 r·3 (claims· .6) (claims· .7) "records::lent::store_all") (known4 : Plain.Known 𝓤 H A W 𝓣 0 ps·4 r·4 (claims· .8) (claims· .9) "entries::reads::reading_of") where
           pub spec : Statement.Triple 𝓤 (Wp.WpFn 𝓤 H (𝓣 .C) (𝓣 .Λ) (Function.fnOf 10 ps r xs m hs body)) (Function.plainOf 𝓤 H A 10 ps r Pre· Post·)
           spec = Plain.t-fn-plain 𝓤 H A W 𝓣 10 ps r xs m hs body (λ κs qs bs. Φ) (λ κs qs bs bd. typed κs qs 𝓤 H A W 𝓣 (known0, known1, known2, known3, known4) bs bd) Pre· Post· asked

@@ -5,15 +5,15 @@ use Rattle.entries.proofs.Derived.read_plan.Kinds
 use Rattle.entries.proofs.Derived.read_plan.Lts
 use Rattle.entries.proofs.Derived.read_plan.Reads
 use Rattle.entries.proofs.calls.read_plan.Statement
-use Rattle.entries.proofs.cores.read_records.Met
-use Rattle.entries.proofs.cores.read_records.Reads as Reads'
-use Rattle.entries.proofs.cores.read_records.Symbol
-use Rattle.entries.proofs.cores.reading_of.Met as Met'
-use Rattle.entries.proofs.cores.reading_of.Reads as Reads''
-use Rattle.entries.proofs.cores.reading_of.Symbol as Symbol'
-use Rattle.entries.proofs.cores.records_of.Met as Met''
-use Rattle.entries.proofs.cores.records_of.Reads as Reads'3
-use Rattle.entries.proofs.cores.records_of.Symbol as Symbol''
+use Rattle.entries.proofs.reads.read_records.Met
+use Rattle.entries.proofs.reads.read_records.Reads as Reads'
+use Rattle.entries.proofs.reads.read_records.Symbol
+use Rattle.entries.proofs.reads.reading_of.Met as Met'
+use Rattle.entries.proofs.reads.reading_of.Reads as Reads''
+use Rattle.entries.proofs.reads.reading_of.Symbol as Symbol'
+use Rattle.entries.proofs.reads.records_of.Met as Met''
+use Rattle.entries.proofs.reads.records_of.Reads as Reads'3
+use Rattle.entries.proofs.reads.records_of.Symbol as Symbol''
 use Rattle.records.proofs.lent.records.Met as Met'3
 use Rattle.records.proofs.Derived.records.Reads as Reads'4
 use Rattle.records.proofs.lent.records.Symbol as Symbol'3
@@ -843,5 +843,5 @@ module _ {M : Type 1} where
   unfolding Code.routine Running.tablesOf
   close = λ closed 𝓤 H 𝓜 𝓖 𝓡. Written.close 10 Kinds.ps Kinds.r Reads.Ghost Reads.requires Reads.ensures Reads.pre-read Reads.Pinned Reads.Owned Reads.post-read record { M = M; 𝓤 = 𝓤; H = H; 𝓜 = 𝓜; 𝓖 = 𝓖; 𝓡 = 𝓡 } Code.env Key.name Code.function (Code.unfolded 𝓤 H 𝓜 𝓡) (λ κs a g. tt) (λ κs. Reads.owns κs record { M = M; 𝓤 = 𝓤; H = H; 𝓜 = 𝓜; 𝓖 = 𝓖; 𝓡 = 𝓡 })
       (Reads.passes record { M = M; 𝓤 = 𝓤; H = H; 𝓜 = 𝓜; 𝓖 = 𝓖; 𝓡 = 𝓡 }) λ g. closed 𝓤 H (𝓖 .A) (Running.givenOf 𝓤 H 𝓜 𝓖) (Run.Over 𝓤 H 𝓜 𝓖 𝓡 Code.env) (Reads'4.known record { M = M; 𝓤 = 𝓤; H = H; 𝓜 = 𝓜; 𝓖 = 𝓖; 𝓡 = 𝓡 } Code.env Symbol'3.name Symbol'3.routine Code.calls-records·lent·records (Met'3.met 𝓤 H 𝓜 𝓖 𝓡)) (Reads'.known
-      record { M = M; 𝓤 = 𝓤; H = H; 𝓜 = 𝓜; 𝓖 = 𝓖; 𝓡 = 𝓡 } Code.env Symbol.name Symbol.routine Code.calls-entries·cores·read-records (Met.met 𝓤 H 𝓜 𝓖 𝓡)) (Reads'3.known record { M = M; 𝓤 = 𝓤; H = H; 𝓜 = 𝓜; 𝓖 = 𝓖; 𝓡 = 𝓡 } Code.env Symbol''.name Symbol''.routine Code.calls-entries·cores·records-of (Met''.met 𝓤 H 𝓜 𝓖 𝓡)) (Reads'5.known
-      record { M = M; 𝓤 = 𝓤; H = H; 𝓜 = 𝓜; 𝓖 = 𝓖; 𝓡 = 𝓡 } Code.env Symbol'4.name Symbol'4.routine Code.calls-records·lent·store-all (Met'4.met 𝓤 H 𝓜 𝓖 𝓡)) (Reads''.known record { M = M; 𝓤 = 𝓤; H = H; 𝓜 = 𝓜; 𝓖 = 𝓖; 𝓡 = 𝓡 } Code.env Symbol'.name Symbol'.routine Code.calls-entries·cores·reading-of (Met'.met 𝓤 H 𝓜 𝓖 𝓡))
+      record { M = M; 𝓤 = 𝓤; H = H; 𝓜 = 𝓜; 𝓖 = 𝓖; 𝓡 = 𝓡 } Code.env Symbol.name Symbol.routine Code.calls-entries·reads·read-records (Met.met 𝓤 H 𝓜 𝓖 𝓡)) (Reads'3.known record { M = M; 𝓤 = 𝓤; H = H; 𝓜 = 𝓜; 𝓖 = 𝓖; 𝓡 = 𝓡 } Code.env Symbol''.name Symbol''.routine Code.calls-entries·reads·records-of (Met''.met 𝓤 H 𝓜 𝓖 𝓡)) (Reads'5.known
+      record { M = M; 𝓤 = 𝓤; H = H; 𝓜 = 𝓜; 𝓖 = 𝓖; 𝓡 = 𝓡 } Code.env Symbol'4.name Symbol'4.routine Code.calls-records·lent·store-all (Met'4.met 𝓤 H 𝓜 𝓖 𝓡)) (Reads''.known record { M = M; 𝓤 = 𝓤; H = H; 𝓜 = 𝓜; 𝓖 = 𝓖; 𝓡 = 𝓡 } Code.env Symbol'.name Symbol'.routine Code.calls-entries·reads·reading-of (Met'.met 𝓤 H 𝓜 𝓖 𝓡))

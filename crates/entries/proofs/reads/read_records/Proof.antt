@@ -1,4 +1,4 @@
--- `entries::cores::read_records` meets its contract: the columns before the reading are those of the records, and the columns after it are those of the records that are made of them. Assumes nothing.
+-- `entries::reads::read_records` meets its contract: the columns before the reading are those of the records, and the columns after it are those of the records that are made of them. Assumes nothing.
 use mathlib.Core.Path.{_≡_, refl}
 use Prim.Native.Nat.{_≤_}
 use native.Mathlib.Omega.{arith}
@@ -11,10 +11,10 @@ use Rattle.records.proofs.Copies.{gathered-spread}
 use Rattle.records.proofs.Seen.{tables-spread, tables-gathered, tables-made}
 use Rattle.entries.proofs.Over.{read-over, short-read}
 use borrow.Author.Needs.{needs}
-use Rattle.entries.proofs.cores.read_records.Statement.{statement}
-use Rattle.entries.proofs.cores.read_records.Tie as tie
-use Rattle.entries.proofs.cores.read_records.Reads as reads
-use Rattle.entries.proofs.cores.read_records.Lts as lts
+use Rattle.entries.proofs.reads.read_records.Statement.{statement}
+use Rattle.entries.proofs.reads.read_records.Tie as tie
+use Rattle.entries.proofs.reads.read_records.Reads as reads
+use Rattle.entries.proofs.reads.read_records.Lts as lts
 use Rattle.reading.proofs.entry.read_plan.Reads as read-plan-reads
 use Rattle.records.proofs.columns.spread.Reads as spread-reads
 
