@@ -4,6 +4,7 @@
   tools/reckon.py < INPUT            prints what `field` must print
   tools/reckon.py --against PROGRAM [COUNT [SEED]]
                                      makes COUNT inputs, valid and damaged, and compares the program's output with the reckoning
+  tools/reckon.py --full             prints an input of full size: 32 drones of 32 stops, 1,984 dependencies, call lines up to 65,536 bytes
 """
 import random
 import subprocess
@@ -298,6 +299,25 @@ def damaged(rng, data):
     return bytes(data)
 
 
+def full():
+    """Four locations that every drone crosses, each drone three timesteps after the one before; its other stops are its own."""
+    routes = []
+    for d in range(DRONES):
+        route = []
+        for k in range(STOPS // DRONES):
+            crossing, rest = divmod(k, 8)
+            route.append((crossing if rest == 4 else 100 + 32 * d + k, 0 if k == 0 else 2000 * crossing + 3 * d + (801 if rest == 5 else 200 * rest)))
+        routes.append(route)
+    data = text_of(random.Random(0), routes).replace(b"name=survey\n", b"name=survey-quad\n")
+    d = 0
+    while True:
+        more = b"grant=%d\narrive=%d\n" % (d, d) + (b"cost=0\n" if d == 31 else b"")
+        if len(data) + len(more) > INPUT:
+            return data
+        data += more
+        d = (d + 1) % DRONES
+
+
 def against(program, count, seed):
     rng, seen = random.Random(seed), {}
     for i in range(count):
@@ -317,6 +337,8 @@ def against(program, count, seed):
 if __name__ == "__main__":
     if len(sys.argv) > 2 and sys.argv[1] == "--against":
         against(sys.argv[2], int(sys.argv[3]) if len(sys.argv) > 3 else 1000, int(sys.argv[4]) if len(sys.argv) > 4 else 1)
+    elif sys.argv[1:] == ["--full"]:
+        sys.stdout.buffer.write(full())
     elif len(sys.argv) == 1:
         sys.stdout.buffer.write(reckon(sys.stdin.buffer.read(INPUT + 1)))
     else:
