@@ -3,18 +3,18 @@ use mathlib.Core.Path.{_≡_, refl, sym, ap, _∙_, subst}
 use mathlib.Core.Logic.{_≢_}
 use mathlib.Core.List.{List}
 use mathlib.Core.Bool.{Bool, true, false, not, cond, _&&_, _||_}
-use Prim.Native.Nat.{ℕ, zero, suc, _+_, _-_, _*_, _/_, _%_, _≤_, _<_}
+use Prim.Native.Nat.{ℕ, zero, suc, _+_, _-_, _*_, _/_, _≤_, _<_}
 use native.Mathlib.Nat.{le-antisymm}
 use native.Mathlib.Numerals.{add-one}
 use native.Mathlib.Omega.{arith}
 use lib.Dec.{ltb, leb, eqb}
-use borrow.Author.Tests.{ltb-true, ltb-false, leb-true, eqb-true, eqb-false, lt-ltb, le-ltb, le-leb, lt-leb, eq-eqb, ne-eqb, not-true}
+use borrow.Author.Tests.{ltb-true, ltb-false, leb-true, eqb-true, lt-ltb, le-ltb, le-leb, lt-leb, eq-eqb, ne-eqb}
 use Rattle.below.specs.Below.{allBelow, firstBelow, fillBelow, sumBelow, at, pick}
 use Rattle.below.proofs.Tests.{by-cases, and-left, and-right, same-test}
 use Rattle.below.proofs.Every.{allBelow-at, allBelow-all, all-miss}
 use Rattle.below.proofs.Sum.{sum-ext}
 use Rattle.tables.specs.Limits.{Limits}
-use Rattle.tables.specs.Flags.{turnedBit, underWayBit, onlyOneBit}
+use Rattle.tables.specs.Flags.{turnedBit, fixedBit, onlyTwoBits, underWayBit, onlyOneBit}
 use Rattle.lines.specs.Names.{isNameByte}
 use Rattle.plan.specs.Stops.{start}
 use Rattle.plan.specs.Check.{faultAt}
@@ -135,10 +135,6 @@ stop-has-before num (suc v) e h = omega arith
 
 -- ---- records
 
-and-true-false : (a : Bool) → (a && true) ≡ false → a ≡ false
-and-true-false true e = e
-and-true-false false e = refl
-
 and-swap : (a b x y : Bool) → ((a && b) && (x && y)) ≡ ((a && x) && (b && y))
 and-swap true true x y = refl
 and-swap true false true y = refl
@@ -174,22 +170,36 @@ module _ (last firstStop second secondStop : ℕ → ℕ) (k : ℕ) where
   unfolding fixedAt
   fixed-is = refl
 
--- a flag byte: of a fixed one 2, of another 0 or 1
-pub flag-fixed : (b : Bool) (f : ℕ) → b ≡ true → eqb f 2 ≡ flagRight b f
-unfolding flagRight turnedBit
-flag-fixed b f e = rw e (same-test _ _
-    (λ q. rw (eqb-true f 2 q) refl)
-    (λ q. let z : eqb (f % 2) 1 ≡ false = and-true-false _ (not-true _ (and-right (eqb (f / 2) 1) _ q)) in
-    eq-eqb f 2 (let ne : f % 2 ≢ 1 = eqb-false (f % 2) 1 z in omega (arith, eqb-true (f / 2) 1 (and-left _ _ q)))))
+below-four : (C : ℕ → Type 0) → C 0 → C 1 → C 2 → C 3 → (f : ℕ) → f < 4 → C f
+below-four C a b c d zero l = a
+below-four C a b c d (suc zero) l = b
+below-four C a b c d (suc (suc zero)) l = c
+below-four C a b c d (suc (suc (suc zero))) l = d
+below-four C a b c d (suc (suc (suc (suc f)))) l = absurd (omega arith)
 
-pub flag-free : (b : Bool) (f : ℕ) (r : Bool) → b ≡ false → r ≡ onlyOneBit f → r ≡ flagRight b f
-unfolding flagRight turnedBit onlyOneBit
-flag-free b f r e h = rw (h, e) (by-cases (eqb (f % 2) 1) (λ t. rw t small) (λ t. rw t small))
-  where
-    small : ltb f 2 ≡ (eqb (f / 2) 0 && true)
-    small = same-test _ _
-        (λ q. rw (eq-eqb (f / 2) 0 (omega (arith, ltb-true f 2 q))) refl)
-        (λ q. lt-ltb f 2 (omega (arith, eqb-true (f / 2) 0 (and-left _ _ q))))
+-- a flag byte by its bits
+pub flag-bits : (b : Bool) (f : ℕ) → onlyTwoBits f ≡ true → flagRight b f ≡ cond b (fixedBit f && not (turnedBit f)) (not (fixedBit f))
+unfolding onlyTwoBits flagRight fixedBit turnedBit
+flag-bits b f h = below-four (λ f. flagRight b f ≡ cond b (fixedBit f && not (turnedBit f)) (not (fixedBit f)))
+    (by-cases b (λ e. rw e refl) (λ e. rw e refl))
+    (by-cases b (λ e. rw e refl) (λ e. rw e refl))
+    (by-cases b (λ e. rw e refl) (λ e. rw e refl))
+    (by-cases b (λ e. rw e refl) (λ e. rw e refl))
+    f (ltb-true f 4 h)
+
+pub flag-more : (b : Bool) (f : ℕ) → onlyTwoBits f ≡ false → false ≡ flagRight b f
+unfolding onlyTwoBits flagRight
+flag-more b f h = rw (ne-eqb (f / 2) (pick b 1 0) (by-cases b (λ e. rw e (λ q. omega (arith, ltb-false f 4 h))) (λ e. rw e (λ q. omega (arith, ltb-false f 4 h))))) refl
+
+module _ (b : Bool) (f : ℕ) (two : onlyTwoBits f ≡ true) where
+  pub flag-unmarked : (x : Bool) → b ≡ true → x ≡ fixedBit f → x ≡ false → x ≡ flagRight b f
+  flag-unmarked x e h q = rw (flag-bits b f two, e, ← h, q) refl
+
+  pub flag-marked : (t : Bool) → b ≡ true → fixedBit f ≡ true → t ≡ turnedBit f → not t ≡ flagRight b f
+  flag-marked t e h q = rw (flag-bits b f two, e, h, q) refl
+
+  pub flag-free : (x : Bool) → b ≡ false → x ≡ fixedBit f → not x ≡ flagRight b f
+  flag-free x e h = rw (flag-bits b f two, e, h) refl
 
 -- a record by its tests, and every record
 module _ (drones : ℕ) (counts lasts firstDrones firstStops secondDrones secondStops flags : List ℕ) where

@@ -1,5 +1,4 @@
 // The records of the dependencies: they name stops, their flag bytes are right, and each side of them as a column of stops that are numbered through.
-use tables::entries::Dependency;
 ghost use mathlib.Core.Bool.{_&&_};
 ghost use mathlib.Core.Path.{_≡_};
 ghost use Prim.Native.Nat.{ℕ, _+_, _≤_, _<_};
@@ -41,14 +40,16 @@ pub fn number_through(
     }
 }
 
-// A fixed one's byte has bit 1 alone, another's has no bit but bit 0.
 fn flag_right(fixed: bool, flag: u8) -> bool
     ensures { λ r. ⌜ r ≡ flagRight fixed flag ⌝ }
 {
-    if fixed {
-        return flag == Dependency::FIXED;
+    if !tables::flags::has_only_two_bits(flag) {
+        return false;
     }
-    tables::flags::has_only_one_bit(flag)
+    if fixed {
+        return tables::flags::is_fixed(flag) && !tables::flags::is_turned(flag);
+    }
+    !tables::flags::is_fixed(flag)
 }
 
 // Whether dependency k is fixed.
