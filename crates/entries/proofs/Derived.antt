@@ -1,4 +1,6 @@
 pub mod arrive
+pub mod cost
 pub mod grant
 pub mod read_plan
+pub mod turn
 pub mod write_plan

@@ -1,26 +1,33 @@
 // The public calls over the lent slice of dependency records. Each is one call of its core with a copy of the records; the derivations are carried (docs/DERIVATIONS.md).
 use crate::cores::arrive_records;
+use crate::cores::cost_records;
 use crate::cores::grant_records;
+use crate::cores::is_turned;
 use crate::cores::read_records;
 use crate::cores::reading_of;
 use crate::cores::records_of;
+use crate::cores::turn_records;
 use crate::cores::write_records;
 use conductor::replies::ArriveReply;
 use conductor::replies::GrantReply;
 use conductor::replies::WriteReply;
+use conductor::turn_replies::CostAnswer;
+use conductor::turn_replies::TurnReply;
 use reading::replies::Reading;
+use records::lent::flip_if;
 use records::lent::records;
 use records::lent::store_all;
 use tables::entries::Dependency;
 ghost use mathlib.Core.Path.{_≡_};
 ghost use lib.ListN.{drop};
 ghost use Rattle.tables.specs.Limits.{limits};
-ghost use Rattle.log.specs.CallLog.{grant as grantOf, arrive as arriveOf};
-ghost use Rattle.log.specs.Calls.{step, Answered};
+ghost use Rattle.log.specs.CallLog.{grant as grantOf, arrive as arriveOf, turn as turnOf, isAccepted};
+ghost use Rattle.log.specs.Calls.{step, Answered, costReply};
 ghost use Rattle.reading.specs.Reading.{AnsweredAs, readPlan};
 ghost use Rattle.conductor.specs.Replies.{grantMeant, arriveMeant};
+ghost use Rattle.conductor.specs.TurnReplies.{turnMeant, costMeant};
 ghost use Rattle.conductor.specs.Writing.{writeMeant, PlanWritten};
-ghost use Rattle.records.specs.Records.{tablesOfRecords};
+ghost use Rattle.records.specs.Records.{flipIf, tablesOfRecords};
 
 // "Grant: the drone becomes under way when every dependency into its next stop has the awaited stop visited".
 pub fn grant(
@@ -99,6 +106,81 @@ pub fn arrive(
         visited,
         drone_flags,
         drone,
+    )
+}
+
+// "Turn: flips bit 0 of one dependency".
+pub fn turn(
+    drone_count: &[u16],
+    dependency_count: &[u16],
+    names: &[u8],
+    stop_counts: &[u16],
+    locations: &[u16],
+    times: &[u32],
+    visited: &[u16],
+    drone_flags: &[u8],
+    dependencies: &mut [Dependency],
+    dependency: usize,
+) -> TurnReply
+    ensures { λ r.
+        ⌜
+        Answered (step limits) (tablesOfRecords limits
+        (now («drone_count» .entry)) (now («dependency_count» .entry)) (now (names .entry)) (now («stop_counts» .entry))
+        (now (locations .entry)) (now (times .entry)) (now (visited .entry)) (now («drone_flags» .entry))
+        (now (dependencies .entry)))
+        (turnOf dependency) (turnMeant r) (tablesOfRecords limits
+        (now («drone_count» .entry)) (now («dependency_count» .entry)) (now (names .entry)) (now («stop_counts» .entry))
+        (now (locations .entry)) (now (times .entry)) (now (visited .entry)) (now («drone_flags» .entry))
+        (now (dependencies .exit)))
+        ⌝ }
+    ensures { λ r. ⌜ now (dependencies .exit) ≡ flipIf (isAccepted (turnMeant r)) dependency (now (dependencies .entry)) ⌝ }
+{
+    let n = dependencies.len();
+    let reply = turn_records(
+        records(dependencies),
+        n,
+        drone_count,
+        dependency_count,
+        names,
+        stop_counts,
+        locations,
+        times,
+        visited,
+        drone_flags,
+        dependency,
+    );
+    flip_if(dependencies, dependency, is_turned(reply));
+    reply
+}
+
+// "Remaining cost is their sum": of the drones' remaining rounds, with the order now in force. It changes nothing.
+pub fn cost(
+    drone_count: &[u16],
+    dependency_count: &[u16],
+    names: &[u8],
+    stop_counts: &[u16],
+    locations: &[u16],
+    times: &[u32],
+    visited: &[u16],
+    drone_flags: &[u8],
+    dependencies: &[Dependency],
+) -> CostAnswer
+    ensures { λ r. ⌜ costMeant r ≡ costReply limits (tablesOfRecords limits
+        (now («drone_count» .entry)) (now («dependency_count» .entry)) (now (names .entry)) (now («stop_counts» .entry))
+        (now (locations .entry)) (now (times .entry)) (now (visited .entry)) (now («drone_flags» .entry))
+        (now (dependencies .entry))) ⌝ }
+{
+    cost_records(
+        records(dependencies),
+        dependencies.len(),
+        drone_count,
+        dependency_count,
+        names,
+        stop_counts,
+        locations,
+        times,
+        visited,
+        drone_flags,
     )
 }
 

@@ -3,6 +3,7 @@
 --     gathered-is    every record was made of the columns
 --     gathered-length, gathered-columns    the records that are made of columns have those columns
 --     gathered-spread    records are made of their own columns
+--     column-entry    an entry of a column
 --     flip-here, flip-past, flip-none    a flip, one past the end, and none
 -- Assumes nothing.
 use mathlib.Core.Path.{_≡_, refl, sym, ap, _∙_}
@@ -19,6 +20,10 @@ use Rattle.tables.specs.Entries.{zeroDependency, flipDependency}
 use Rattle.tables.specs.declared.entries.Dependency.{Dependency}
 use Rattle.records.specs.Records.{recordAt, overlaid, copied, stored, flipIf, ColumnSizes, ColumnsOf, recordOf, gathered}
 
+-- entry k of a column is the field of record k
+pub column-entry : (f : Dependency → ℕ) (ds : List Dependency) (k : ℕ) → f zeroDependency ≡ 0 → at (map f ds) k ≡ f (recordAt ds k)
+column-entry f ds k z = ap (λ (d : ℕ). getD (map f ds) k d) (sym z) ∙ List·getD-map f ds k zeroDependency
+
 module _ (L : Limits) where
   pub copied-is : (ds out : List Dependency) (z : Dependency) (n i : ℕ) → z ≡ zeroDependency → n ≡ min (L .dependencies) (length ds) → i ≡ n → out ≡ overlaid i ds (replicate (L .dependencies) z) → out ≡ copied L ds
   unfolding copied
@@ -32,16 +37,12 @@ module _ (L : Limits) where
   unfolding gathered
   gathered-is firstDrones firstStops secondDrones secondStops flags out e h = listBelow-is (L .dependencies) (recordOf firstDrones firstStops secondDrones secondStops flags) zeroDependency out e h
 
-  -- entry k of a column is the field of record k
-  entry : (f : Dependency → ℕ) (ds : List Dependency) (k : ℕ) → f zeroDependency ≡ 0 → at (map f ds) k ≡ f (recordAt ds k)
-  entry f ds k z = ap (λ (d : ℕ). getD (map f ds) k d) (sym z) ∙ List·getD-map f ds k zeroDependency
-
   -- field f of the records that are made of columns is the column that it was taken from
   field : (f : Dependency → ℕ) (of : ℕ → Dependency) (column : List ℕ) → length column ≡ L .dependencies → ((k : ℕ) → f (of k) ≡ at column k) → f zeroDependency ≡ 0 → column ≡ map f (listBelow (L .dependencies) of)
   field f of column e h z =
       let made : List Dependency = listBelow (L .dependencies) of in
       ext-getD 0 column (map f made) (e ∙ sym (length-map made f ∙ length-listBelow (L .dependencies) of))
-      (λ k l. sym (entry f made k z ∙ ap f (getD-listBelow (L .dependencies) of zeroDependency k (omega arith)) ∙ h k))
+      (λ k l. sym (column-entry f made k z ∙ ap f (getD-listBelow (L .dependencies) of zeroDependency k (omega arith)) ∙ h k))
 
   module _ (firstDrones firstStops secondDrones secondStops flags : List ℕ) where
     pub gathered-length : length (gathered L firstDrones firstStops secondDrones secondStops flags) ≡ L .dependencies
@@ -63,7 +64,7 @@ module _ (L : Limits) where
     pub gathered-spread : (ds : List Dependency) → length ds ≡ L .dependencies → ColumnsOf ds firstDrones firstStops secondDrones secondStops flags → ds ≡ gathered L firstDrones firstStops secondDrones secondStops flags
     gathered-spread ds e c =
         gathered-is firstDrones firstStops secondDrones secondStops flags ds e
-        (λ k l. rw (c .first-drones, c .first-stops, c .second-drones, c .second-stops, c .flag-bytes, entry (λ (d : Dependency). d .«first_drone») ds k refl, entry (λ (d : Dependency). d .«first_stop») ds k refl, entry (λ (d : Dependency). d .«second_drone») ds k refl, entry (λ (d : Dependency). d .«second_stop») ds k refl, entry (λ (d : Dependency). d .flags) ds k refl) refl)
+        (λ k l. rw (c .first-drones, c .first-stops, c .second-drones, c .second-stops, c .flag-bytes, column-entry (λ (d : Dependency). d .«first_drone») ds k refl, column-entry (λ (d : Dependency). d .«first_stop») ds k refl, column-entry (λ (d : Dependency). d .«second_drone») ds k refl, column-entry (λ (d : Dependency). d .«second_stop») ds k refl, column-entry (λ (d : Dependency). d .flags) ds k refl) refl)
 
 pub flip-here : (turns : Bool) (i : ℕ) (ds : List Dependency) (d : Dependency) → turns ≡ true → d ≡ flipDependency (recordAt ds i) → set ds i d ≡ flipIf turns i ds
 flip-here turns i ds d t e = rw (t, e)

@@ -3,3 +3,4 @@ pub mod Derived
 pub mod Overlaid
 pub mod Copies
 pub mod Seen
+pub mod Flips
