@@ -239,6 +239,7 @@ output-fits reading input = go (ltb inputLimit (length input)) refl
 pub transcribed : (input before after : List ℕ) (next : ℕ) → Put before 0 (outputOf readingOf input) after next → Transcribed input before after next
 transcribed input before after next p = record {
   put = p;
+  fits = omega (arith, p .next-is, output-fits readingOf input);
   whole = λ h.
       let fits = output-fits readingOf input in
       let n : next ≡ length (outputOf readingOf input) = omega (arith, p .next-is) in

@@ -81,4 +81,5 @@ OutputFits = (reading : List ℕ → Reading) (input : List ℕ) → length (out
 -- the buffer holds the output as far as it reaches, by the log alone; a buffer of `outputLimit` bytes holds it whole, and its other bytes are as they were
 pub record Transcribed (input before after : List ℕ) (next : ℕ) : Type 0 where
   pub put : Put before 0 (outputOf readingOf input) after next
+  pub fits : next ≤ outputLimit
   pub whole : outputLimit ≤ length before → after ≡ outputOf readingOf input ++ drop next before
