@@ -15,7 +15,7 @@ and, where there is none, a first crates/CRATE/proofs/MODULE/FN/Proof.antt.
 """
 import os, re, shutil, subprocess, sys
 
-CARRIERS = {"records": "lent", "entries": "calls"}  # the crates with functions over the lent slice, and the module of each
+CARRIERS = {"records": "lent", "entries": "calls", "dispatch": "requests"}  # the crates with functions over the lent slice, and the module of each
 crate, fns = sys.argv[1], sys.argv[2:]
 mod = CARRIERS[crate]
 work = os.path.abspath("target/lend")
@@ -62,12 +62,14 @@ def value(ty):  # what a stub returns
     array = re.fullmatch(r"\[(.*); (\w+)\]", ty)
     if array:
         return f"[{value(array.group(1))}; {array.group(2)}]"
+    if ty == RECORD:
+        return ZERO
     if ty in fields:
         return ty + " { " + ", ".join(f"{f}: {value(t)}" for f, t in fields[ty]) + " }"
     if ty in first:
         name, held = first[ty]
         return name + ("(%s)" % ", ".join(value(t) for t in held) if held else "")
-    return {"bool": "false", RECORD: ZERO}.get(ty, "0")
+    return {"bool": "false"}.get(ty, "0")
 
 def stubbed(text, keep):  # every function but `keep` returns at once
     types(text)  # a module's own names come before those of others
@@ -114,8 +116,9 @@ def modules(f):  # the twin's texts by crate and module: what the function uses,
         types(raw)
         texts[name, module] = raw
         kept = pruned(stubbed(raw, f if (name, module) == (crate, mod) else None))
-        for m in re.finditer(r"^use (\w+)::(\w+)", kept, re.M):
-            todo.append((name if m.group(1) == "crate" else m.group(1), m.group(2)))
+        for m in re.finditer(r"^use (\w+)::(\w+)|\b(crate)::(\w+)::", kept, re.M):
+            used, part = m.group(1) or m.group(3), m.group(2) or m.group(4)
+            todo.append((name if used == "crate" else used, part))
     return {k: pruned(stubbed(t, f if k == (crate, mod) else None)) for k, t in texts.items()}
 
 def twin(f):  # the twin for one function: what it calls is stubbed, so that the check is quick and needs no proof

@@ -69,13 +69,13 @@ module _ (L : Limits) (t : Tables) (rs ds : List ℕ) (t′ : Tables) (rs′ ds�
   one-more qs q i n w t″ e m r = record {
     tables-are = r .tables-are ∙ ap (λ (x : Tables). tablesOn L x q) (m .tables-are) ∙ sym (tables-more L qs q t);
     replies-are =
-      ap₂ (λ (l : List ℕ) (x : ℕ). set l i x) (m .replies-are) (r .number-is ∙ ap (λ (x : Tables). answerOn L x q .number) (m .tables-are))
-      ∙ store-more rs (numbersIn (answersOn L t qs)) i _ (e ∙ sym (numbers-in-length (answersOn L t qs) ∙ answers-length L qs t))
-      ∙ sym (ap (λ (l : List Answer). sets rs 0 (numbersIn l)) (answers-more L qs q t) ∙ ap (λ (l : List ℕ). sets rs 0 l) (numbers-more (answersOn L t qs) (answerOn L (tablesLeft L t qs) q)));
+        ap₂ (λ (l : List ℕ) (x : ℕ). set l i x) (m .replies-are) (r .number-is ∙ ap (λ (x : Tables). answerOn L x q .number) (m .tables-are))
+        ∙ store-more rs (numbersIn (answersOn L t qs)) i _ (e ∙ sym (numbers-in-length (answersOn L t qs) ∙ answers-length L qs t))
+        ∙ sym (ap (λ (l : List Answer). sets rs 0 (numbersIn l)) (answers-more L qs q t) ∙ ap (λ (l : List ℕ). sets rs 0 l) (numbers-more (answersOn L t qs) (answerOn L (tablesLeft L t qs) q)));
     details-are =
-      ap₂ (λ (l : List ℕ) (x : ℕ). set l i x) (m .details-are) (r .detail-is ∙ ap (λ (x : Tables). answerOn L x q .detail) (m .tables-are))
-      ∙ store-more ds (detailsIn (answersOn L t qs)) i _ (e ∙ sym (details-in-length (answersOn L t qs) ∙ answers-length L qs t))
-      ∙ sym (ap (λ (l : List Answer). sets ds 0 (detailsIn l)) (answers-more L qs q t) ∙ ap (λ (l : List ℕ). sets ds 0 l) (details-more (answersOn L t qs) (answerOn L (tablesLeft L t qs) q)));
+        ap₂ (λ (l : List ℕ) (x : ℕ). set l i x) (m .details-are) (r .detail-is ∙ ap (λ (x : Tables). answerOn L x q .detail) (m .tables-are))
+        ∙ store-more ds (detailsIn (answersOn L t qs)) i _ (e ∙ sym (details-in-length (answersOn L t qs) ∙ answers-length L qs t))
+        ∙ sym (ap (λ (l : List Answer). sets ds 0 (detailsIn l)) (answers-more L qs q t) ∙ ap (λ (l : List ℕ). sets ds 0 l) (details-more (answersOn L t qs) (answerOn L (tablesLeft L t qs) q)));
   }
 
   pub made-more : (ks ns : List ℕ) (i n w : ℕ) (t″ : Tables) → Made L (requestsIn i ks ns) t rs ds t′ rs′ ds′ → RequestMade L t′ (requestOf (at ks i) (at ns i)) n w t″ → Made L (requestsIn (i + 1) ks ns) t rs ds t″ (set rs′ i n) (set ds′ i w)

@@ -100,15 +100,17 @@ module _ (L : Limits) (input : List ℕ) (start : ℕ) (ks ns ks′ ns′ : List
     module _ (t : Tables) (rs ds : List ℕ) (t′ : Tables) (rs′ ds′ : List ℕ) (made : RequestsMade L (requestsIn count ks′ ns′) t rs ds t′ rs′ ds′) (room-rs : count ≤ length rs) (room-ds : count ≤ length ds) where
       same-lines : linesIn count ks′ rs′ ds′ ≡ answerLines (answersOn L t qs)
       same-lines =
-          rw (read .kinds-are ∙ ap (λ (l : List ℕ). sets ks 0 l) (kinds-answered L qs t),
-          made .made .replies-are ∙ ap (λ (l : List Request). sets rs 0 (numbersIn (answersOn L t l))) same-requests,
-          made .made .details-are ∙ ap (λ (l : List Request). sets ds 0 (detailsIn (answersOn L t l))) same-requests)
+          rw (
+            read .kinds-are ∙ ap (λ (l : List ℕ). sets ks 0 l) (kinds-answered L qs t),
+            made .made .replies-are ∙ ap (λ (l : List Request). sets rs 0 (numbersIn (answersOn L t l))) same-requests,
+            made .made .details-are ∙ ap (λ (l : List Request). sets ds 0 (detailsIn (answersOn L t l))) same-requests,
+          )
           (lines-stored (answersOn L t qs) count ks rs ds (read .count-is ∙ sym (answers-length L qs t)) room-ks room-rs room-ds)
 
       calls-put : {b b₁ b₂ : List ℕ} {next n₁ n₂ : ℕ} → Put b next (linesIn count ks′ rs′ ds′) b₁ n₁ → Put b₁ n₁ (endingLine ending) b₂ n₂ → Put b next (callsOn L t (requestsAt input start)) b₂ n₂
       calls-put {b} {b₁} {b₂} {next} {n₁} {n₂} p q = put-put (rw same-lines at p) (rw (read .ending-is) at q)
 
--- what the calls of `play_calls` ask, and what it has written
+-- what the calls of `play` ask, and what it has written
 module _ (L : Limits) (input : List ℕ) (start : ℕ) (ks ns ks′ ns′ : List ℕ) (count : ℕ) (ending : Ending) (read : RequestsRead (requestsAt input start) ks ns ks′ ns′ count ending)
     (rs ds : List ℕ) (inside : start ≤ length input) (short : length input ≤ inputLimit) (room : RequestRoom ks ns rs ds) where
   count-few : count < requestLimit
@@ -157,7 +159,7 @@ refusal-some (refusal.SameLocation s) e = omega arith
 refusal-some (refusal.Collision s t) e = omega arith
 refusal-some refusal.TooManyDependencies e = omega arith
 
-taken-by-0 : (r : Read) → readingNumber r ≡ 0 → r ≡ Taken
+pub taken-by-0 : (r : Read) → readingNumber r ≡ 0 → r ≡ Taken
 taken-by-0 Taken e = refl
 taken-by-0 (Refused r) e = absurd (refusal-some r e)
 
@@ -239,7 +241,7 @@ transcribed input before after next p = record {
   put = p;
   fits = omega (arith, p .next-is, output-fits readingOf input);
   whole = λ h.
-    let fits = output-fits readingOf input in
-    let n : next ≡ length (outputOf readingOf input) = omega (arith, p .next-is) in
-    p .written ∙ sets-eq (outputOf readingOf input) before 0 (omega arith) ∙ rw (zero-add, n) refl;
+      let fits = output-fits readingOf input in
+      let n : next ≡ length (outputOf readingOf input) = omega (arith, p .next-is) in
+      p .written ∙ sets-eq (outputOf readingOf input) before 0 (omega arith) ∙ rw (zero-add, n) refl;
 }

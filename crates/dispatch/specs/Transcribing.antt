@@ -9,9 +9,12 @@ use Rattle.plan.specs.Field.{planOf}
 use Rattle.lines.specs.Bytes.{Put}
 use Rattle.reading.specs.Replies.{readingNumber}
 use Rattle.reading.specs.Reading.{readPlan}
-use Rattle.transcript.specs.Input.{inputLimit, RequestList}
+use Rattle.reading.specs.declared.replies.Reading.{Reading as Read}
+use Rattle.reading.specs.declared.replies.Reading.the-variants.{Taken}
+use Rattle.transcript.specs.Input.{inputLimit, Request, RequestList}
 use Rattle.transcript.specs.Output.{Reading, answerLines, endingLine, outputOf}
 use Rattle.transcript.specs.Run.{answersOn}
+use Rattle.dispatch.specs.Making.{RequestsMade}
 
 -- ---- reading
 
@@ -37,6 +40,12 @@ module _ (L : Limits) where
       (replicate (L .dependencies) 0)
       (replicate (L .dependencies) 0)
       (replicate (L .dependencies) 0)
+
+  -- the plan of the text was read into tables of its own, zero before, and answered by r; if it was taken, the requests were made on these tables, and if not, no answer was written
+  pub record PlanRun (text : List ℕ) (requests : List Request) (replies details : List ℕ) (r : Read) (replies′ details′ : List ℕ) : Type 0 where
+    pub replied : r ≡ readPlan L text zeroTables .reply
+    pub taken : r ≡ Taken → (t′ : Tables) × RequestsMade L requests (readPlan L text zeroTables .tables) replies details t′ replies′ details′
+    pub refused : (r ≡ Taken → ⊥) → (replies′ ≡ replies) × (details′ ≡ details)
 
   -- the lines after a plan that was taken, where the requests are made on the tables t
   abbrev pub callsOn : Tables → RequestList → List ℕ

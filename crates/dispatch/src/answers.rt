@@ -1,12 +1,15 @@
-// The replies of the calls as the output's tables hold them: a number, and what goes with it.
+// The replies of the calls as the output's tables hold them: a number, and what goes with it; and the number of a reading.
 use conductor::replies::ArriveReply;
 use conductor::replies::GrantReply;
 use conductor::turn_replies::CostAnswer;
 use conductor::turn_replies::TurnReply;
+use reading::replies::Reading;
+use reading::replies::Refusal;
 ghost use mathlib.Core.Path.{_≡_};
 ghost use Prim.Native.Nat.{_<_, _^_};
 ghost use Rattle.transcript.specs.Output.{awaited};
 ghost use Rattle.transcript.specs.Run.{costNumber, costDetail};
+ghost use Rattle.reading.specs.Replies.{refusalNumber, readingNumber};
 ghost use Rattle.conductor.specs.Replies.{grantMeant, arriveMeant};
 ghost use Rattle.conductor.specs.TurnReplies.{turnMeant, costMeant};
 ghost use Rattle.dispatch.specs.Making.{Tells};
@@ -79,5 +82,35 @@ pub fn of_cost(answer: CostAnswer) -> Answered
             number: 0,
             detail: cost as u32,
         },
+    }
+}
+
+// The number of a refusal.
+fn refusal_number(refusal: Refusal) -> usize
+    ensures { λ r. ⌜ r ≡ refusalNumber refusal ⌝ }
+{
+    match refusal {
+        Refusal::TablesTooSmall => 41,
+        Refusal::TooLong(_) => 1,
+        Refusal::Form(_) => 2,
+        Refusal::Name(_) => 3,
+        Refusal::Range(_) => 4,
+        Refusal::SameName(_) => 5,
+        Refusal::TooManyStops(_) => 6,
+        Refusal::StartsLate(_) => 7,
+        Refusal::NotRising(_) => 8,
+        Refusal::SameLocation(_) => 9,
+        Refusal::Collision(_, _) => 10,
+        Refusal::TooManyDependencies => 11,
+    }
+}
+
+// The number of a reading: 0 for a plan that is taken.
+pub fn reading_number(reading: Reading) -> usize
+    ensures { λ r. ⌜ r ≡ readingNumber reading ⌝ }
+{
+    match reading {
+        Reading::Taken => 0,
+        Reading::Refused(refusal) => refusal_number(refusal),
     }
 }

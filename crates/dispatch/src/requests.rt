@@ -1,214 +1,21 @@
-// Requests made as calls on lent tables.
+// Requests made as calls on lent tables, and the run of a plan on tables of its own. The dependencies are records: the derivations are carried (docs/DERIVATIONS.md).
 use crate::answers;
 use crate::answers::Answered;
-use conductor::calls;
+use entries::calls;
+use reading::replies::Reading;
+use records::record;
+use tables::entries::Dependency;
+use tables::entries::Drone;
+use tables::entries::Stop;
 use transcript::keys;
 ghost use Prim.Native.Nat.{_≤_, _<_, _^_};
 ghost use lib.ListN.{length};
 ghost use Rattle.tables.specs.Limits.{limits};
-ghost use Rattle.tables.specs.Tables.{tablesOf};
-ghost use Rattle.log.specs.CallLog.{grant as grantOf, arrive as arriveOf, turn as turnOf};
-ghost use Rattle.transcript.specs.Input.{call, cost as costOf, requestOf};
+ghost use Rattle.records.specs.Records.{tablesOfRecords};
+ghost use Rattle.transcript.specs.Input.{requestOf};
 ghost use Rattle.transcript.specs.Run.{requestsIn};
 ghost use Rattle.dispatch.specs.Making.{RequestMade, RequestsMade};
-
-// Grants the drone of this number.
-pub fn make_grant(
-    drone_count: &[u16],
-    dependency_count: &[u16],
-    names: &[u8],
-    stop_counts: &[u16],
-    locations: &[u16],
-    times: &[u32],
-    visited: &[u16],
-    drone_flags: &mut [u8],
-    first_drones: &[u8],
-    first_stops: &[u16],
-    second_drones: &[u8],
-    second_stops: &[u16],
-    flags: &[u8],
-    number: u16,
-) -> Answered
-    ensures { λ r.
-        ⌜
-        RequestMade limits (tablesOf
-        (now («drone_count» .entry)) (now («dependency_count» .entry)) (now (names .entry)) (now («stop_counts» .entry))
-        (now (locations .entry)) (now (times .entry)) (now (visited .entry)) (now («drone_flags» .entry))
-        (now («first_drones» .entry)) (now («first_stops» .entry)) (now («second_drones» .entry)) (now («second_stops» .entry))
-        (now (flags .entry)))
-        (call (grantOf number)) (r .number) (r .detail) (tablesOf
-        (now («drone_count» .entry)) (now («dependency_count» .entry)) (now (names .entry)) (now («stop_counts» .entry))
-        (now (locations .entry)) (now (times .entry)) (now (visited .entry)) (now («drone_flags» .exit))
-        (now («first_drones» .entry)) (now («first_stops» .entry)) (now («second_drones» .entry)) (now («second_stops» .entry))
-        (now (flags .entry)))
-        ⌝ }
-{
-    let reply = calls::grant(
-        drone_count,
-        dependency_count,
-        names,
-        stop_counts,
-        locations,
-        times,
-        visited,
-        drone_flags,
-        first_drones,
-        first_stops,
-        second_drones,
-        second_stops,
-        flags,
-        number as usize,
-    );
-    answers::of_grant(reply)
-}
-
-// Lets the drone of this number arrive.
-pub fn make_arrive(
-    drone_count: &[u16],
-    dependency_count: &[u16],
-    names: &[u8],
-    stop_counts: &[u16],
-    locations: &[u16],
-    times: &[u32],
-    visited: &mut [u16],
-    drone_flags: &mut [u8],
-    first_drones: &[u8],
-    first_stops: &[u16],
-    second_drones: &[u8],
-    second_stops: &[u16],
-    flags: &[u8],
-    number: u16,
-) -> Answered
-    ensures { λ r.
-        ⌜
-        RequestMade limits (tablesOf
-        (now («drone_count» .entry)) (now («dependency_count» .entry)) (now (names .entry)) (now («stop_counts» .entry))
-        (now (locations .entry)) (now (times .entry)) (now (visited .entry)) (now («drone_flags» .entry))
-        (now («first_drones» .entry)) (now («first_stops» .entry)) (now («second_drones» .entry)) (now («second_stops» .entry))
-        (now (flags .entry)))
-        (call (arriveOf number)) (r .number) (r .detail) (tablesOf
-        (now («drone_count» .entry)) (now («dependency_count» .entry)) (now (names .entry)) (now («stop_counts» .entry))
-        (now (locations .entry)) (now (times .entry)) (now (visited .exit)) (now («drone_flags» .exit))
-        (now («first_drones» .entry)) (now («first_stops» .entry)) (now («second_drones» .entry)) (now («second_stops» .entry))
-        (now (flags .entry)))
-        ⌝ }
-{
-    let reply = calls::arrive(
-        drone_count,
-        dependency_count,
-        names,
-        stop_counts,
-        locations,
-        times,
-        visited,
-        drone_flags,
-        first_drones,
-        first_stops,
-        second_drones,
-        second_stops,
-        flags,
-        number as usize,
-    );
-    answers::of_arrive(reply)
-}
-
-// Turns the dependency of this number.
-pub fn make_turn(
-    drone_count: &[u16],
-    dependency_count: &[u16],
-    names: &[u8],
-    stop_counts: &[u16],
-    locations: &[u16],
-    times: &[u32],
-    visited: &[u16],
-    drone_flags: &[u8],
-    first_drones: &[u8],
-    first_stops: &[u16],
-    second_drones: &[u8],
-    second_stops: &[u16],
-    flags: &mut [u8],
-    number: u16,
-) -> Answered
-    ensures { λ r.
-        ⌜
-        RequestMade limits (tablesOf
-        (now («drone_count» .entry)) (now («dependency_count» .entry)) (now (names .entry)) (now («stop_counts» .entry))
-        (now (locations .entry)) (now (times .entry)) (now (visited .entry)) (now («drone_flags» .entry))
-        (now («first_drones» .entry)) (now («first_stops» .entry)) (now («second_drones» .entry)) (now («second_stops» .entry))
-        (now (flags .entry)))
-        (call (turnOf number)) (r .number) (r .detail) (tablesOf
-        (now («drone_count» .entry)) (now («dependency_count» .entry)) (now (names .entry)) (now («stop_counts» .entry))
-        (now (locations .entry)) (now (times .entry)) (now (visited .entry)) (now («drone_flags» .entry))
-        (now («first_drones» .entry)) (now («first_stops» .entry)) (now («second_drones» .entry)) (now («second_stops» .entry))
-        (now (flags .exit)))
-        ⌝ }
-{
-    let reply = calls::turn(
-        drone_count,
-        dependency_count,
-        names,
-        stop_counts,
-        locations,
-        times,
-        visited,
-        drone_flags,
-        first_drones,
-        first_stops,
-        second_drones,
-        second_stops,
-        flags,
-        number as usize,
-    );
-    answers::of_turn(reply)
-}
-
-// Finds the remaining cost.
-pub fn make_cost(
-    drone_count: &[u16],
-    dependency_count: &[u16],
-    names: &[u8],
-    stop_counts: &[u16],
-    locations: &[u16],
-    times: &[u32],
-    visited: &[u16],
-    drone_flags: &[u8],
-    first_drones: &[u8],
-    first_stops: &[u16],
-    second_drones: &[u8],
-    second_stops: &[u16],
-    flags: &[u8],
-) -> Answered
-    ensures { λ r.
-        ⌜
-        RequestMade limits (tablesOf
-        (now («drone_count» .entry)) (now («dependency_count» .entry)) (now (names .entry)) (now («stop_counts» .entry))
-        (now (locations .entry)) (now (times .entry)) (now (visited .entry)) (now («drone_flags» .entry))
-        (now («first_drones» .entry)) (now («first_stops» .entry)) (now («second_drones» .entry)) (now («second_stops» .entry))
-        (now (flags .entry)))
-        costOf (r .number) (r .detail) (tablesOf
-        (now («drone_count» .entry)) (now («dependency_count» .entry)) (now (names .entry)) (now («stop_counts» .entry))
-        (now (locations .entry)) (now (times .entry)) (now (visited .entry)) (now («drone_flags» .entry))
-        (now («first_drones» .entry)) (now («first_stops» .entry)) (now («second_drones» .entry)) (now («second_stops» .entry))
-        (now (flags .entry)))
-        ⌝ }
-{
-    let answer = calls::cost(
-        drone_count,
-        dependency_count,
-        names,
-        stop_counts,
-        locations,
-        times,
-        visited,
-        drone_flags,
-        first_drones,
-        first_stops,
-        second_drones,
-        second_stops,
-        flags,
-    );
-    answers::of_cost(answer)
-}
+ghost use Rattle.dispatch.specs.Transcribing.{PlanRun};
 
 // Makes the request of this kind and number.
 pub fn make_request(
@@ -220,30 +27,24 @@ pub fn make_request(
     times: &[u32],
     visited: &mut [u16],
     drone_flags: &mut [u8],
-    first_drones: &[u8],
-    first_stops: &[u16],
-    second_drones: &[u8],
-    second_stops: &[u16],
-    flags: &mut [u8],
+    dependencies: &mut [Dependency],
     kind: u8,
     number: u16,
 ) -> Answered
     ensures { λ r.
         ⌜
-        RequestMade limits (tablesOf
+        RequestMade limits (tablesOfRecords limits
         (now («drone_count» .entry)) (now («dependency_count» .entry)) (now (names .entry)) (now («stop_counts» .entry))
         (now (locations .entry)) (now (times .entry)) (now (visited .entry)) (now («drone_flags» .entry))
-        (now («first_drones» .entry)) (now («first_stops» .entry)) (now («second_drones» .entry)) (now («second_stops» .entry))
-        (now (flags .entry)))
-        (requestOf kind number) (r .number) (r .detail) (tablesOf
+        (now (dependencies .entry)))
+        (requestOf kind number) (r .number) (r .detail) (tablesOfRecords limits
         (now («drone_count» .entry)) (now («dependency_count» .entry)) (now (names .entry)) (now («stop_counts» .entry))
         (now (locations .entry)) (now (times .entry)) (now (visited .exit)) (now («drone_flags» .exit))
-        (now («first_drones» .entry)) (now («first_stops» .entry)) (now («second_drones» .entry)) (now («second_stops» .entry))
-        (now (flags .exit)))
+        (now (dependencies .exit)))
         ⌝ }
 {
     if kind == keys::GRANT_KIND {
-        return make_grant(
+        let reply = calls::grant(
             drone_count,
             dependency_count,
             names,
@@ -252,16 +53,13 @@ pub fn make_request(
             times,
             visited,
             drone_flags,
-            first_drones,
-            first_stops,
-            second_drones,
-            second_stops,
-            flags,
-            number,
+            dependencies,
+            number as usize,
         );
+        return answers::of_grant(reply);
     }
     if kind == keys::ARRIVE_KIND {
-        return make_arrive(
+        let reply = calls::arrive(
             drone_count,
             dependency_count,
             names,
@@ -270,16 +68,13 @@ pub fn make_request(
             times,
             visited,
             drone_flags,
-            first_drones,
-            first_stops,
-            second_drones,
-            second_stops,
-            flags,
-            number,
+            dependencies,
+            number as usize,
         );
+        return answers::of_arrive(reply);
     }
     if kind == keys::TURN_KIND {
-        return make_turn(
+        let reply = calls::turn(
             drone_count,
             dependency_count,
             names,
@@ -288,15 +83,12 @@ pub fn make_request(
             times,
             visited,
             drone_flags,
-            first_drones,
-            first_stops,
-            second_drones,
-            second_stops,
-            flags,
-            number,
+            dependencies,
+            number as usize,
         );
+        return answers::of_turn(reply);
     }
-    make_cost(
+    let answer = calls::cost(
         drone_count,
         dependency_count,
         names,
@@ -305,12 +97,9 @@ pub fn make_request(
         times,
         visited,
         drone_flags,
-        first_drones,
-        first_stops,
-        second_drones,
-        second_stops,
-        flags,
-    )
+        dependencies,
+    );
+    answers::of_cost(answer)
 }
 
 // Makes the requests of the first `count` entries, one after another, each on the tables as the one before left them.
@@ -323,11 +112,7 @@ pub fn make_requests(
     times: &[u32],
     visited: &mut [u16],
     drone_flags: &mut [u8],
-    first_drones: &[u8],
-    first_stops: &[u16],
-    second_drones: &[u8],
-    second_stops: &[u16],
-    flags: &mut [u8],
+    dependencies: &mut [Dependency],
     count: usize,
     kinds: &[u8],
     numbers: &[u16],
@@ -337,16 +122,14 @@ pub fn make_requests(
     requires { ⌜ (count < 2 ^ 24) × (count ≤ length (now kinds)) × (count ≤ length (now numbers)) × (count ≤ length (now replies)) × (count ≤ length (now details)) ⌝ }
     ensures { λ _.
         ⌜
-        RequestsMade limits (requestsIn count (now (kinds .entry)) (now (numbers .entry))) (tablesOf
+        RequestsMade limits (requestsIn count (now (kinds .entry)) (now (numbers .entry))) (tablesOfRecords limits
         (now («drone_count» .entry)) (now («dependency_count» .entry)) (now (names .entry)) (now («stop_counts» .entry))
         (now (locations .entry)) (now (times .entry)) (now (visited .entry)) (now («drone_flags» .entry))
-        (now («first_drones» .entry)) (now («first_stops» .entry)) (now («second_drones» .entry)) (now («second_stops» .entry))
-        (now (flags .entry)))
-        (now (replies .entry)) (now (details .entry)) (tablesOf
+        (now (dependencies .entry)))
+        (now (replies .entry)) (now (details .entry)) (tablesOfRecords limits
         (now («drone_count» .entry)) (now («dependency_count» .entry)) (now (names .entry)) (now («stop_counts» .entry))
         (now (locations .entry)) (now (times .entry)) (now (visited .exit)) (now («drone_flags» .exit))
-        (now («first_drones» .entry)) (now («first_stops» .entry)) (now («second_drones» .entry)) (now («second_stops» .entry))
-        (now (flags .exit)))
+        (now (dependencies .exit)))
         (now (replies .exit)) (now (details .exit))
         ⌝ }
 {
@@ -361,11 +144,7 @@ pub fn make_requests(
             times,
             visited,
             drone_flags,
-            first_drones,
-            first_stops,
-            second_drones,
-            second_stops,
-            flags,
+            dependencies,
             kinds[i],
             numbers[i],
         );
@@ -373,4 +152,63 @@ pub fn make_requests(
         details[i] = answer.detail;
         i += 1;
     }
+}
+
+// Reads the plan into tables of its own, and makes the requests on them if it is taken.
+pub fn run(
+    text: &[u8],
+    count: usize,
+    kinds: &[u8],
+    numbers: &[u16],
+    replies: &mut [u16],
+    details: &mut [u32],
+) -> Reading
+    requires { ⌜ (count < 2 ^ 24) × (count ≤ length (now kinds)) × (count ≤ length (now numbers)) × (count ≤ length (now replies)) × (count ≤ length (now details)) ⌝ }
+    ensures { λ r.
+        ⌜
+        PlanRun limits (now (text .entry)) (requestsIn count (now (kinds .entry)) (now (numbers .entry)))
+        (now (replies .entry)) (now (details .entry)) r (now (replies .exit)) (now (details .exit))
+        ⌝ }
+{
+    let mut drone_count = [0u16; 1];
+    let mut dependency_count = [0u16; 1];
+    let mut names = [0u8; Drone::NAMES];
+    let mut stop_counts = [0u16; Drone::FULL];
+    let mut locations = [0u16; Stop::FULL];
+    let mut times = [0u32; Stop::FULL];
+    let mut visited = [0u16; Drone::FULL];
+    let mut drone_flags = [0u8; Drone::FULL];
+    let mut dependencies = [record::zero_record(); 2048];
+    let reading = calls::read_plan(
+        text,
+        &mut drone_count,
+        &mut dependency_count,
+        &mut names,
+        &mut stop_counts,
+        &mut locations,
+        &mut times,
+        &mut visited,
+        &mut drone_flags,
+        &mut dependencies,
+    );
+    if answers::reading_number(reading) != 0 {
+        return reading;
+    }
+    make_requests(
+        &drone_count,
+        &dependency_count,
+        &names,
+        &stop_counts,
+        &locations,
+        &times,
+        &mut visited,
+        &mut drone_flags,
+        &mut dependencies,
+        count,
+        kinds,
+        numbers,
+        replies,
+        details,
+    );
+    reading
 }

@@ -1,120 +1,104 @@
+-- `dispatch::requests::make_requests` meets its contract: the needs that the derivation of Derived.make_requests leaves. Assumes nothing.
 -- The requests of the entries below i are made; a turn makes one more.
+mod Tie
 use native.Mathlib.Omega.{arith}
-use borrow.Author.Needs.{needs}
 use Prim.Native.Nat.{_≤_, _-_}
 use mathlib.Core.Path.{_≡_, refl, _∙_}
 use lib.ListN.{length, length-set}
 use Rattle.tables.specs.Limits.{limits}
-use Rattle.tables.specs.Tables.{tablesOf}
+use Rattle.records.specs.Records.{tablesOfRecords}
 use Rattle.transcript.specs.Run.{requestsIn, Made}
 use Rattle.dispatch.proofs.ListLaws.{made-none, made-more, requests-found}
+use borrow.Author.Needs.{needs}
 use Rattle.dispatch.proofs.requests.make_requests.Statement.{statement}
-use Rattle.dispatch.proofs.requests.make_requests.Tie as tie
-use Rattle.dispatch.proofs.requests.make_requests.Reads as reads
-use Rattle.dispatch.proofs.requests.make_requests.Lts as lts
-use Rattle.dispatch.proofs.requests.make_request.Reads as make-request-reads
+use Rattle.dispatch.proofs.requests.make_requests.Proof.Tie as tie
+use Rattle.dispatch.proofs.Derived.make_requests.Reads as reads
+use Rattle.dispatch.proofs.Derived.make_requests.Lts as lts
+use Rattle.dispatch.proofs.Derived.make_request.Reads as make-request-reads
 
 abbrev Inv-loop : tie.InvT-loop
-Inv-loop drone-count dependency-count names stop-counts locations times visited₀ drone-flags₀ first-drones first-stops second-drones second-stops flags₀ count kinds numbers replies₀ details₀ i₀ visited drone-flags flags replies details i =
+Inv-loop drone-count dependency-count names stop-counts locations times visited₀ drone-flags₀ dependencies₀ count kinds numbers replies₀ details₀ i₀ visited drone-flags dependencies replies details i =
     (i ≤ count)
     × (length visited ≡ length visited₀)
     × (length drone-flags ≡ length drone-flags₀)
-    × (length flags ≡ length flags₀)
+    × (length dependencies ≡ length dependencies₀)
     × (length replies ≡ length replies₀)
     × (length details ≡ length details₀)
     × Made limits (requestsIn i kinds numbers)
-      (tablesOf drone-count dependency-count names stop-counts locations times visited₀ drone-flags₀ first-drones first-stops second-drones second-stops flags₀) replies₀ details₀
-      (tablesOf drone-count dependency-count names stop-counts locations times visited drone-flags first-drones first-stops second-drones second-stops flags) replies details
+    (tablesOfRecords limits drone-count dependency-count names stop-counts locations times visited₀ drone-flags₀ dependencies₀) replies₀ details₀
+    (tablesOfRecords limits drone-count dependency-count names stop-counts locations times visited drone-flags dependencies) replies details
 
 abbrev μ-loop : tie.MeasureT-loop
-μ-loop drone-count dependency-count names stop-counts locations times visited₀ drone-flags₀ first-drones first-stops second-drones second-stops flags₀ count kinds numbers replies₀ details₀ i₀ visited drone-flags flags replies details i =
+μ-loop drone-count dependency-count names stop-counts locations times visited₀ drone-flags₀ dependencies₀ count kinds numbers replies₀ details₀ i₀ visited drone-flags dependencies replies details i =
     count - i
 
--- src/requests.rt:354:5
 loop-holds : tie.Need-loop-holds Inv-loop μ-loop
-loop-holds c = (omega arith, refl, refl, refl, refl, refl, made-none limits (c .before .before .before .before .before .before .before .before .before .before .before .before .before .before .before .before .before .args .kinds .now) (c .before .before .before .before .before .before .before .before .before .before .before .before .before .before .before .before .before .args .numbers .now) _ _ _)
+loop-holds c = (omega arith, refl, refl, refl, refl, refl, made-none limits (c .before .before .before .before .before .before .before .before .before .before .before .before .args .kinds .now) (c .before .before .before .before .before .before .before .before .before .before .before .before .args .numbers .now) _ _ _)
 
--- src/requests.rt:369:13
 shared-slice-read-make-request : tie.Need-shared-slice-read-make-request Inv-loop μ-loop
-shared-slice-read-make-request c = omega (arith, c .before .before .before .before .loop-test .taken, c .before .before .before .before .before .before .before .before .before .before .before .before .before .before .before .before .before .before .before .before .before .before .before .pre)
+shared-slice-read-make-request c = omega (arith, c .before .before .before .before .loop-test .taken, c .before .before .before .before .before .before .before .before .before .before .before .before .before .before .before .before .before .before .pre)
 
--- src/requests.rt:370:13
 mul-make-request : tie.Need-mul-make-request Inv-loop μ-loop
-mul-make-request c = omega (arith, c .before .before .before .before .loop-test .taken, c .before .before .before .before .before .before .before .before .before .before .before .before .before .before .before .before .before .before .before .before .before .before .before .pre)
+mul-make-request c = omega (arith, c .before .before .before .before .loop-test .taken, c .before .before .before .before .before .before .before .before .before .before .before .before .before .before .before .before .before .before .pre)
 
--- src/requests.rt:370:13
 shared-slice-read-make-request-2 : tie.Need-shared-slice-read-make-request-2 Inv-loop μ-loop
-shared-slice-read-make-request-2 c = omega (arith, c .before .before .before .before .before .loop-test .taken, c .before .before .before .before .before .before .before .before .before .before .before .before .before .before .before .before .before .before .before .before .before .before .before .before .pre)
+shared-slice-read-make-request-2 c = omega (arith, c .before .before .before .before .before .loop-test .taken, c .before .before .before .before .before .before .before .before .before .before .before .before .before .before .before .before .before .before .before .pre)
 
--- src/requests.rt:355:13
 make-request-requires : tie.Need-make-request-requires Inv-loop μ-loop
 make-request-requires c κs = search needs
 
--- src/requests.rt:372:9
 mul-replies : tie.Need-mul-replies Inv-loop μ-loop
-mul-replies c = omega (arith, c .before .before .before .before .before .before .before .before .before .before .before .before .loop-test .taken, c .before .before .before .before .before .before .before .before .before .before .before .before .before .before .before .before .before .before .before .before .before .before .before .before .before .before .before .before .before .before .before .pre)
+mul-replies c = omega (arith, c .before .before .before .before .before .before .before .before .before .before .before .loop-test .taken, c .before .before .before .before .before .before .before .before .before .before .before .before .before .before .before .before .before .before .before .before .before .before .before .before .before .pre)
 
--- src/requests.rt:372:9
 slice-write-replies : tie.Need-slice-write-replies Inv-loop μ-loop
-slice-write-replies c = omega (arith, c .before .before .before .before .before .before .before .before .before .before .before .before .loop-test .taken, c .before .before .before .before .before .before .before .before .before .before .before .before .before .before .before .before .before .before .before .before .before .before .before .before .before .before .before .before .before .before .before .pre, c .before .before .before .before .before .before .before .before .before .before .before .before .before .loop .inv .4)
+slice-write-replies c = omega (arith, c .before .before .before .before .before .before .before .before .before .before .before .loop-test .taken, c .before .before .before .before .before .before .before .before .before .before .before .before .before .before .before .before .before .before .before .before .before .before .before .before .before .pre, c .before .before .before .before .before .before .before .before .before .before .before .before .loop .inv .4)
 
--- src/requests.rt:373:9
 mul-details : tie.Need-mul-details Inv-loop μ-loop
-mul-details c = omega (arith, c .before .before .before .before .before .before .before .before .before .before .before .before .loop-test .taken, c .before .before .before .before .before .before .before .before .before .before .before .before .before .before .before .before .before .before .before .before .before .before .before .before .before .before .before .before .before .before .before .pre)
+mul-details c = omega (arith, c .before .before .before .before .before .before .before .before .before .before .before .loop-test .taken, c .before .before .before .before .before .before .before .before .before .before .before .before .before .before .before .before .before .before .before .before .before .before .before .before .before .pre)
 
--- src/requests.rt:373:9
 slice-write-details : tie.Need-slice-write-details Inv-loop μ-loop
-slice-write-details c = omega (arith, c .before .before .before .before .before .before .before .before .before .before .before .before .loop-test .taken, c .before .before .before .before .before .before .before .before .before .before .before .before .before .before .before .before .before .before .before .before .before .before .before .before .before .before .before .before .before .before .before .pre, c .before .before .before .before .before .before .before .before .before .before .before .before .before .loop .inv .5)
+slice-write-details c = omega (arith, c .before .before .before .before .before .before .before .before .before .before .before .loop-test .taken, c .before .before .before .before .before .before .before .before .before .before .before .before .before .before .before .before .before .before .before .before .before .before .before .before .before .pre, c .before .before .before .before .before .before .before .before .before .before .before .before .loop .inv .5)
 
--- src/requests.rt:374:9
 add-i : tie.Need-add-i Inv-loop μ-loop
-add-i c = omega (arith, c .before .before .before .before .before .before .before .before .before .before .before .before .loop-test .taken, c .before .before .before .before .before .before .before .before .before .before .before .before .before .before .before .before .before .before .before .before .before .before .before .before .before .before .before .before .before .before .before .pre)
+add-i c = omega (arith, c .before .before .before .before .before .before .before .before .before .before .before .loop-test .taken, c .before .before .before .before .before .before .before .before .before .before .before .before .before .before .before .before .before .before .before .before .before .before .before .before .before .pre)
 
--- src/requests.rt:354:5
 loop-less : tie.Need-loop-less Inv-loop μ-loop
-loop-less c = omega (arith, c .before .before .before .before .before .before .before .before .before .before .before .before .loop-test .taken)
+loop-less c = omega (arith, c .before .before .before .before .before .before .before .before .before .before .before .loop-test .taken)
 
--- src/requests.rt:354:5
 loop-again : tie.Need-loop-again Inv-loop μ-loop
 loop-again c =
-    let l = c .before .before .before .before .before .before .before .before .before .before .before .before .before .loop in
-    let a = c .before .before .before .before .before .before .before .before .before .before .before .before .before .before .before .before .before .before .before .before .before .before .before .before .before .before .before .before .before .before .before .args in
-    let p = c .before .before .before .before .before .before .make-request in (
-      omega (arith, c .before .before .before .before .before .before .before .before .before .before .before .before .loop-test .taken),
+    let l = c .before .before .before .before .before .before .before .before .before .before .before .before .loop in
+    let a = c .before .before .before .before .before .before .before .before .before .before .before .before .before .before .before .before .before .before .before .before .before .before .before .before .before .args in
+    let p = c .before .before .before .before .before .make-request in (
+      omega (arith, c .before .before .before .before .before .before .before .before .before .before .before .loop-test .taken),
       p .kept .1 .1 .1 .1 .1 .1 .0 ∙ l .inv .1,
       p .kept .1 .1 .1 .1 .1 .1 .1 .0 ∙ l .inv .2,
-      p .kept .1 .1 .1 .1 .1 .1 .1 .1 .1 .1 .1 .1 .0 ∙ l .inv .3,
+      p .kept .1 .1 .1 .1 .1 .1 .1 .1 .0 ∙ l .inv .3,
       length-set (l .replies) _ _ ∙ l .inv .4,
       length-set (l .details) _ _ ∙ l .inv .5,
       made-more limits _ _ _ _ _ _ (a .kinds .now) (a .numbers .now) _ _ _ _ (l .inv .6) (p .ensures),
     )
 
--- src/requests.rt:317:1
 same-length : tie.Need-same-length Inv-loop μ-loop
 same-length c = c .before .loop .inv .1
 
--- src/requests.rt:317:1
 same-length-2 : tie.Need-same-length-2 Inv-loop μ-loop
 same-length-2 c = c .before .loop .inv .2
 
--- src/requests.rt:317:1
 same-length-3 : tie.Need-same-length-3 Inv-loop μ-loop
 same-length-3 c = c .before .loop .inv .3
 
--- src/requests.rt:317:1
 same-length-4 : tie.Need-same-length-4 Inv-loop μ-loop
 same-length-4 c = c .before .loop .inv .4
 
--- src/requests.rt:317:1
 same-length-5 : tie.Need-same-length-5 Inv-loop μ-loop
 same-length-5 c = c .before .loop .inv .5
 
--- src/requests.rt:317:1
 returns : tie.Need-returns Inv-loop μ-loop
 returns c =
     let l = c .before .loop in
-    let a = c .before .before .before .before .before .before .before .before .before .before .before .before .before .before .before .before .before .before .before .args in
-    requests-found limits (l .i) _ (a .kinds .now) (a .numbers .now) _ _ _ _ _ _ (omega arith) (c .before .before .before .before .before .before .before .before .before .before .before .before .before .before .before .before .before .before .before .pre .3) (c .before .before .before .before .before .before .before .before .before .before .before .before .before .before .before .before .before .before .before .pre .4) (l .inv .6)
+    let a = c .before .before .before .before .before .before .before .before .before .before .before .before .before .before .args in
+    requests-found limits (l .i) _ (a .kinds .now) (a .numbers .now) _ _ _ _ _ _ (omega arith) (c .before .before .before .before .before .before .before .before .before .before .before .before .before .before .pre .3) (c .before .before .before .before .before .before .before .before .before .before .before .before .before .before .pre .4) (l .inv .6)
 
 pub make-requests-spec : {M : Type 1} → statement M
 make-requests-spec =

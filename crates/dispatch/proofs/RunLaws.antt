@@ -1,0 +1,72 @@
+-- The run of a plan on tables of its own: they are zero, and it is taken or not. Assumes nothing.
+use Prim.Native.Nat.{ℕ, zero, suc, _*_}
+use native.Mathlib.Omega.{arith}
+use mathlib.Core.Path.{_≡_, refl, sym, ap, _∙_}
+use mathlib.Core.List.{List, _∷_, map}
+use lib.ListN.{length, replicate, length-replicate}
+use lib.Seq.{take-all}
+use Rattle.tables.specs.Limits.{Limits}
+use Rattle.tables.specs.Tables.{Tables}
+use Rattle.tables.specs.Entries.{zeroDependency}
+use Rattle.tables.specs.declared.entries.Dependency.{Dependency}
+use Rattle.records.specs.Records.{seen, tablesOfRecords}
+use Rattle.reading.specs.Replies.{readingNumber}
+use Rattle.reading.specs.Reading.{AnsweredAs, readPlan}
+use Rattle.reading.specs.declared.replies.Reading.{Reading as Read}
+use Rattle.reading.specs.declared.replies.Reading.the-variants.{Taken}
+use Rattle.transcript.specs.Input.{Request}
+use Rattle.dispatch.specs.Making.{RequestsMade}
+use Rattle.dispatch.specs.Transcribing.{zeroTables, PlanRun}
+use Rattle.dispatch.proofs.ProgramLaws.{taken-by-0}
+
+-- ---- the tables at the start
+
+column : (f : Dependency → ℕ) (n : ℕ) (d : Dependency) → map f (replicate n d) ≡ replicate n (f d)
+column f zero d = refl
+column f (suc n) d = ap (λ (l : List ℕ). f d ∷ l) (column f n d)
+
+module _ (L : Limits) where
+  all-seen : (d : Dependency) → seen L (replicate (L .dependencies) d) ≡ replicate (L .dependencies) d
+  unfolding seen
+  all-seen d = take-all (L .dependencies) (replicate (L .dependencies) d) (omega (arith, length-replicate (L .dependencies) d))
+
+  seen-column : (f : Dependency → ℕ) → map f (seen L (replicate (L .dependencies) zeroDependency)) ≡ replicate (L .dependencies) (f zeroDependency)
+  seen-column f = ap (map f) (all-seen zeroDependency) ∙ column f (L .dependencies) zeroDependency
+
+  pub zero-tables : (d : Dependency) → d ≡ zeroDependency
+      → tablesOfRecords L (replicate 1 0) (replicate 1 0) (replicate (L .drones * L .name) 0) (replicate (L .drones) 0) (replicate (L .stops) 0) (replicate (L .stops) 0) (replicate (L .drones) 0) (replicate (L .drones) 0) (replicate (L .dependencies) d) ≡ zeroTables L
+  unfolding zeroTables
+  zero-tables d e =
+      rw (
+        e,
+        seen-column (λ (x : Dependency). x .«first_drone»),
+        seen-column (λ (x : Dependency). x .«first_stop»),
+        seen-column (λ (x : Dependency). x .«second_drone»),
+        seen-column (λ (x : Dependency). x .«second_stop»),
+        seen-column (λ (x : Dependency). x .flags),
+      )
+      refl
+
+-- ---- taken or not
+
+module _ (L : Limits) (text : List ℕ) (qs : List Request) (rs ds : List ℕ) (t : Tables) (fresh : t ≡ zeroTables L) (r : Read) (t′ : Tables) (read : AnsweredAs (readPlan L text t) r t′) (n : ℕ) (is-n : n ≡ readingNumber r) where
+  same-reply : r ≡ readPlan L text (zeroTables L) .reply
+  same-reply = read .replied ∙ ap (λ (x : Tables). readPlan L text x .reply) fresh
+
+  pub run-refused : (n ≡ 0 → ⊥) → PlanRun L text qs rs ds r rs ds
+  run-refused h = record { replied = same-reply; taken = λ e. absurd (h (is-n ∙ ap readingNumber e)); refused = λ k. (refl, refl) }
+
+  pub run-taken : n ≡ 0 → (t″ : Tables) (rs′ ds′ : List ℕ) → RequestsMade L qs t′ rs ds t″ rs′ ds′ → PlanRun L text qs rs ds r rs′ ds′
+  run-taken z t″ rs′ ds′ m = record {
+    replied = same-reply;
+    taken = λ e. (t″, rw (read .left ∙ ap (λ (x : Tables). readPlan L text x .tables) fresh) at m);
+    refused = λ k. absurd (k (taken-by-0 r (sym is-n ∙ z)));
+  }
+
+-- what a run says of its reading
+module _ (L : Limits) (text : List ℕ) (qs : List Request) (rs ds : List ℕ) (r : Read) (rs′ ds′ : List ℕ) (ran : PlanRun L text qs rs ds r rs′ ds′) where
+  pub run-read : AnsweredAs (readPlan L text (zeroTables L)) r (readPlan L text (zeroTables L) .tables)
+  run-read = record { replied = ran .replied; left = refl }
+
+  pub run-made : (n : ℕ) → n ≡ readingNumber r → n ≡ 0 → (t′ : Tables) × RequestsMade L qs (readPlan L text (zeroTables L) .tables) rs ds t′ rs′ ds′
+  run-made n is-n z = ran .taken (taken-by-0 r (sym is-n ∙ z))
