@@ -1,7 +1,2 @@
-pub mod Facts
-pub mod Answers
-pub mod WritingLaws
-pub mod CheckLaws
-pub mod Turned
-pub mod TurnAnswers
-pub mod CostLaws
+pub mod Over
+pub mod Derived

@@ -1,94 +1,33 @@
-// The public calls: 41 a lent table is below full size, then 40 not sound, then the call itself.
-use crate::cores::arrive_sound;
-use crate::cores::grant_sound;
-use crate::cores::write_sound;
-use crate::costing::cost_sound;
-use crate::replies::ArriveReply;
-use crate::replies::GrantReply;
-use crate::replies::WriteReply;
-use crate::turn_replies::CostAnswer;
-use crate::turn_replies::TurnReply;
-use crate::turning::turn_sound;
-use sound::is_sound;
-use tables::sizes::full_size;
+// The public calls over the lent slice of dependency records. Each is one call of its core with a copy of the records; the derivations are carried (docs/DERIVATIONS.md).
+use crate::cores::arrive_records;
+use crate::cores::cost_records;
+use crate::cores::grant_records;
+use crate::cores::is_turned;
+use crate::cores::turn_records;
+use crate::cores::write_records;
+use crate::reads::read_records;
+use crate::reads::reading_of;
+use crate::reads::records_of;
+use flat::replies::ArriveReply;
+use flat::replies::GrantReply;
+use flat::replies::WriteReply;
+use flat::turn_replies::CostAnswer;
+use flat::turn_replies::TurnReply;
+use reading::replies::Reading;
+use records::lent::flip_if;
+use records::lent::records;
+use records::lent::store_all;
+use tables::entries::Dependency;
 ghost use mathlib.Core.Path.{_≡_};
+ghost use lib.ListN.{drop};
 ghost use Rattle.tables.specs.Limits.{limits};
-ghost use Rattle.tables.specs.Tables.{tablesOf};
-ghost use Rattle.log.specs.CallLog.{grant as grantOf, arrive as arriveOf, turn as turnOf};
+ghost use Rattle.log.specs.CallLog.{grant as grantOf, arrive as arriveOf, turn as turnOf, isAccepted};
 ghost use Rattle.log.specs.Calls.{step, Answered, costReply};
-ghost use Rattle.conductor.specs.Replies.{grantMeant, arriveMeant};
-ghost use Rattle.conductor.specs.TurnReplies.{turnMeant, costMeant};
-ghost use Rattle.conductor.specs.Checking.{checkOf};
-ghost use Rattle.conductor.specs.Writing.{writeMeant, PlanWritten};
-
-// What every call but the reading asks first.
-pub enum TablesCheck {
-    Usable,
-    TooSmall,
-    NotSound,
-}
-
-// "41 a lent table is below full size", then "40 not sound".
-pub fn check_tables(
-    drone_count: &[u16],
-    dependency_count: &[u16],
-    names: &[u8],
-    stop_counts: &[u16],
-    locations: &[u16],
-    times: &[u32],
-    visited: &[u16],
-    drone_flags: &[u8],
-    first_drones: &[u8],
-    first_stops: &[u16],
-    second_drones: &[u8],
-    second_stops: &[u16],
-    flags: &[u8],
-) -> TablesCheck
-    ensures { λ r.
-        ⌜
-        r ≡ checkOf limits (tablesOf
-        (now («drone_count» .entry)) (now («dependency_count» .entry)) (now (names .entry)) (now («stop_counts» .entry))
-        (now (locations .entry)) (now (times .entry)) (now (visited .entry)) (now («drone_flags» .entry))
-        (now («first_drones» .entry)) (now («first_stops» .entry)) (now («second_drones» .entry)) (now («second_stops» .entry))
-        (now (flags .entry)))
-        ⌝ }
-{
-    if !full_size(
-        drone_count,
-        dependency_count,
-        names,
-        stop_counts,
-        locations,
-        times,
-        visited,
-        drone_flags,
-        first_drones,
-        first_stops,
-        second_drones,
-        second_stops,
-        flags,
-    ) {
-        return TablesCheck::TooSmall;
-    }
-    if !is_sound(
-        drone_count,
-        dependency_count,
-        names,
-        stop_counts,
-        locations,
-        times,
-        visited,
-        drone_flags,
-        first_drones,
-        first_stops,
-        second_drones,
-        second_stops,
-        flags,
-    ) {
-        return TablesCheck::NotSound;
-    }
-    TablesCheck::Usable
-}
+ghost use Rattle.reading.specs.Reading.{AnsweredAs, readPlan};
+ghost use Rattle.flat.specs.Replies.{grantMeant, arriveMeant};
+ghost use Rattle.flat.specs.TurnReplies.{turnMeant, costMeant};
+ghost use Rattle.flat.specs.Writing.{writeMeant, PlanWritten};
+ghost use Rattle.records.specs.Records.{flipIf, tablesOfRecords};
 
 // "Grant: the drone becomes under way when every dependency into its next stop has the awaited stop visited".
 pub fn grant(
@@ -100,28 +39,24 @@ pub fn grant(
     times: &[u32],
     visited: &[u16],
     drone_flags: &mut [u8],
-    first_drones: &[u8],
-    first_stops: &[u16],
-    second_drones: &[u8],
-    second_stops: &[u16],
-    flags: &[u8],
+    dependencies: &[Dependency],
     drone: usize,
 ) -> GrantReply
     ensures { λ r.
         ⌜
-        Answered (step limits) (tablesOf
+        Answered (step limits) (tablesOfRecords limits
         (now («drone_count» .entry)) (now («dependency_count» .entry)) (now (names .entry)) (now («stop_counts» .entry))
         (now (locations .entry)) (now (times .entry)) (now (visited .entry)) (now («drone_flags» .entry))
-        (now («first_drones» .entry)) (now («first_stops» .entry)) (now («second_drones» .entry)) (now («second_stops» .entry))
-        (now (flags .entry)))
-        (grantOf drone) (grantMeant r) (tablesOf
+        (now (dependencies .entry)))
+        (grantOf drone) (grantMeant r) (tablesOfRecords limits
         (now («drone_count» .entry)) (now («dependency_count» .entry)) (now (names .entry)) (now («stop_counts» .entry))
         (now (locations .entry)) (now (times .entry)) (now (visited .entry)) (now («drone_flags» .exit))
-        (now («first_drones» .entry)) (now («first_stops» .entry)) (now («second_drones» .entry)) (now («second_stops» .entry))
-        (now (flags .entry)))
+        (now (dependencies .entry)))
         ⌝ }
 {
-    let check = check_tables(
+    grant_records(
+        records(dependencies),
+        dependencies.len(),
         drone_count,
         dependency_count,
         names,
@@ -130,32 +65,8 @@ pub fn grant(
         times,
         visited,
         drone_flags,
-        first_drones,
-        first_stops,
-        second_drones,
-        second_stops,
-        flags,
-    );
-    match check {
-        TablesCheck::TooSmall => GrantReply::TablesTooSmall,
-        TablesCheck::NotSound => GrantReply::NotSound,
-        TablesCheck::Usable => grant_sound(
-            drone_count,
-            dependency_count,
-            names,
-            stop_counts,
-            locations,
-            times,
-            visited,
-            drone_flags,
-            first_drones,
-            first_stops,
-            second_drones,
-            second_stops,
-            flags,
-            drone,
-        ),
-    }
+        drone,
+    )
 }
 
 // "Arrive: a drone under way has visited its next stop and is no longer under way".
@@ -168,28 +79,24 @@ pub fn arrive(
     times: &[u32],
     visited: &mut [u16],
     drone_flags: &mut [u8],
-    first_drones: &[u8],
-    first_stops: &[u16],
-    second_drones: &[u8],
-    second_stops: &[u16],
-    flags: &[u8],
+    dependencies: &[Dependency],
     drone: usize,
 ) -> ArriveReply
     ensures { λ r.
         ⌜
-        Answered (step limits) (tablesOf
+        Answered (step limits) (tablesOfRecords limits
         (now («drone_count» .entry)) (now («dependency_count» .entry)) (now (names .entry)) (now («stop_counts» .entry))
         (now (locations .entry)) (now (times .entry)) (now (visited .entry)) (now («drone_flags» .entry))
-        (now («first_drones» .entry)) (now («first_stops» .entry)) (now («second_drones» .entry)) (now («second_stops» .entry))
-        (now (flags .entry)))
-        (arriveOf drone) (arriveMeant r) (tablesOf
+        (now (dependencies .entry)))
+        (arriveOf drone) (arriveMeant r) (tablesOfRecords limits
         (now («drone_count» .entry)) (now («dependency_count» .entry)) (now (names .entry)) (now («stop_counts» .entry))
         (now (locations .entry)) (now (times .entry)) (now (visited .exit)) (now («drone_flags» .exit))
-        (now («first_drones» .entry)) (now («first_stops» .entry)) (now («second_drones» .entry)) (now («second_stops» .entry))
-        (now (flags .entry)))
+        (now (dependencies .entry)))
         ⌝ }
 {
-    let check = check_tables(
+    arrive_records(
+        records(dependencies),
+        dependencies.len(),
         drone_count,
         dependency_count,
         names,
@@ -198,32 +105,8 @@ pub fn arrive(
         times,
         visited,
         drone_flags,
-        first_drones,
-        first_stops,
-        second_drones,
-        second_stops,
-        flags,
-    );
-    match check {
-        TablesCheck::TooSmall => ArriveReply::TablesTooSmall,
-        TablesCheck::NotSound => ArriveReply::NotSound,
-        TablesCheck::Usable => arrive_sound(
-            drone_count,
-            dependency_count,
-            names,
-            stop_counts,
-            locations,
-            times,
-            visited,
-            drone_flags,
-            first_drones,
-            first_stops,
-            second_drones,
-            second_stops,
-            flags,
-            drone,
-        ),
-    }
+        drone,
+    )
 }
 
 // "Turn: flips bit 0 of one dependency".
@@ -236,28 +119,26 @@ pub fn turn(
     times: &[u32],
     visited: &[u16],
     drone_flags: &[u8],
-    first_drones: &[u8],
-    first_stops: &[u16],
-    second_drones: &[u8],
-    second_stops: &[u16],
-    flags: &mut [u8],
+    dependencies: &mut [Dependency],
     dependency: usize,
 ) -> TurnReply
     ensures { λ r.
         ⌜
-        Answered (step limits) (tablesOf
+        Answered (step limits) (tablesOfRecords limits
         (now («drone_count» .entry)) (now («dependency_count» .entry)) (now (names .entry)) (now («stop_counts» .entry))
         (now (locations .entry)) (now (times .entry)) (now (visited .entry)) (now («drone_flags» .entry))
-        (now («first_drones» .entry)) (now («first_stops» .entry)) (now («second_drones» .entry)) (now («second_stops» .entry))
-        (now (flags .entry)))
-        (turnOf dependency) (turnMeant r) (tablesOf
+        (now (dependencies .entry)))
+        (turnOf dependency) (turnMeant r) (tablesOfRecords limits
         (now («drone_count» .entry)) (now («dependency_count» .entry)) (now (names .entry)) (now («stop_counts» .entry))
         (now (locations .entry)) (now (times .entry)) (now (visited .entry)) (now («drone_flags» .entry))
-        (now («first_drones» .entry)) (now («first_stops» .entry)) (now («second_drones» .entry)) (now («second_stops» .entry))
-        (now (flags .exit)))
+        (now (dependencies .exit)))
         ⌝ }
+    ensures { λ r. ⌜ now (dependencies .exit) ≡ flipIf (isAccepted (turnMeant r)) dependency (now (dependencies .entry)) ⌝ }
 {
-    let check = check_tables(
+    let n = dependencies.len();
+    let reply = turn_records(
+        records(dependencies),
+        n,
         drone_count,
         dependency_count,
         names,
@@ -266,32 +147,41 @@ pub fn turn(
         times,
         visited,
         drone_flags,
-        first_drones,
-        first_stops,
-        second_drones,
-        second_stops,
-        flags,
+        dependency,
     );
-    match check {
-        TablesCheck::TooSmall => TurnReply::TablesTooSmall,
-        TablesCheck::NotSound => TurnReply::NotSound,
-        TablesCheck::Usable => turn_sound(
-            drone_count,
-            dependency_count,
-            names,
-            stop_counts,
-            locations,
-            times,
-            visited,
-            drone_flags,
-            first_drones,
-            first_stops,
-            second_drones,
-            second_stops,
-            flags,
-            dependency,
-        ),
-    }
+    flip_if(dependencies, dependency, is_turned(reply));
+    reply
+}
+
+// "Remaining cost is their sum": of the drones' remaining rounds, with the order now in force. It changes nothing.
+pub fn cost(
+    drone_count: &[u16],
+    dependency_count: &[u16],
+    names: &[u8],
+    stop_counts: &[u16],
+    locations: &[u16],
+    times: &[u32],
+    visited: &[u16],
+    drone_flags: &[u8],
+    dependencies: &[Dependency],
+) -> CostAnswer
+    ensures { λ r. ⌜ costMeant r ≡ costReply limits (tablesOfRecords limits
+        (now («drone_count» .entry)) (now («dependency_count» .entry)) (now (names .entry)) (now («stop_counts» .entry))
+        (now (locations .entry)) (now (times .entry)) (now (visited .entry)) (now («drone_flags» .entry))
+        (now (dependencies .entry))) ⌝ }
+{
+    cost_records(
+        records(dependencies),
+        dependencies.len(),
+        drone_count,
+        dependency_count,
+        names,
+        stop_counts,
+        locations,
+        times,
+        visited,
+        drone_flags,
+    )
 }
 
 // Writes the text of the plan that the tables hold: "42 buffer shorter than the text".
@@ -305,23 +195,21 @@ pub fn write_plan(
     times: &[u32],
     visited: &[u16],
     drone_flags: &[u8],
-    first_drones: &[u8],
-    first_stops: &[u16],
-    second_drones: &[u8],
-    second_stops: &[u16],
-    flags: &[u8],
+    dependencies: &[Dependency],
 ) -> WriteReply
     ensures { λ r.
         ⌜
-        PlanWritten limits (tablesOf
+        PlanWritten limits (tablesOfRecords limits
         (now («drone_count» .entry)) (now («dependency_count» .entry)) (now (names .entry)) (now («stop_counts» .entry))
         (now (locations .entry)) (now (times .entry)) (now (visited .entry)) (now («drone_flags» .entry))
-        (now («first_drones» .entry)) (now («first_stops» .entry)) (now («second_drones» .entry)) (now («second_stops» .entry))
-        (now (flags .entry)))
+        (now (dependencies .entry)))
         (now (buf .entry)) (now (buf .exit)) (writeMeant r)
         ⌝ }
 {
-    let check = check_tables(
+    write_records(
+        records(dependencies),
+        dependencies.len(),
+        buf,
         drone_count,
         dependency_count,
         names,
@@ -330,60 +218,40 @@ pub fn write_plan(
         times,
         visited,
         drone_flags,
-        first_drones,
-        first_stops,
-        second_drones,
-        second_stops,
-        flags,
-    );
-    match check {
-        TablesCheck::TooSmall => WriteReply::TablesTooSmall,
-        TablesCheck::NotSound => WriteReply::NotSound,
-        TablesCheck::Usable => write_sound(
-            buf,
-            drone_count,
-            dependency_count,
-            names,
-            stop_counts,
-            locations,
-            times,
-            visited,
-            drone_flags,
-            first_drones,
-            first_stops,
-            second_drones,
-            second_stops,
-            flags,
-        ),
-    }
+    )
 }
 
-// "Remaining cost is their sum": of the drones' remaining rounds, with the order now in force. It changes nothing.
-pub fn cost(
-    drone_count: &[u16],
-    dependency_count: &[u16],
-    names: &[u8],
-    stop_counts: &[u16],
-    locations: &[u16],
-    times: &[u32],
-    visited: &[u16],
-    drone_flags: &[u8],
-    first_drones: &[u8],
-    first_stops: &[u16],
-    second_drones: &[u8],
-    second_stops: &[u16],
-    flags: &[u8],
-) -> CostAnswer
+// Reads a plan text into the tables. Tables below full size and a text that is too long change nothing, and after any other refusal the tables are zeroed.
+pub fn read_plan(
+    text: &[u8],
+    drone_count: &mut [u16],
+    dependency_count: &mut [u16],
+    names: &mut [u8],
+    stop_counts: &mut [u16],
+    locations: &mut [u16],
+    times: &mut [u32],
+    visited: &mut [u16],
+    drone_flags: &mut [u8],
+    dependencies: &mut [Dependency],
+) -> Reading
     ensures { λ r.
         ⌜
-        costMeant r ≡ costReply limits (tablesOf
+        AnsweredAs (readPlan limits (now (text .entry)) (tablesOfRecords limits
         (now («drone_count» .entry)) (now («dependency_count» .entry)) (now (names .entry)) (now («stop_counts» .entry))
         (now (locations .entry)) (now (times .entry)) (now (visited .entry)) (now («drone_flags» .entry))
-        (now («first_drones» .entry)) (now («first_stops» .entry)) (now («second_drones» .entry)) (now («second_stops» .entry))
-        (now (flags .entry)))
+        (now (dependencies .entry))))
+        r (tablesOfRecords limits
+        (now («drone_count» .exit)) (now («dependency_count» .exit)) (now (names .exit)) (now («stop_counts» .exit))
+        (now (locations .exit)) (now (times .exit)) (now (visited .exit)) (now («drone_flags» .exit))
+        (now (dependencies .exit)))
         ⌝ }
+    ensures { λ _. ⌜ drop (limits .dependencies) (now (dependencies .exit)) ≡ drop (limits .dependencies) (now (dependencies .entry)) ⌝ }
 {
-    let check = check_tables(
+    let n = dependencies.len();
+    let read = read_records(
+        records(dependencies),
+        n,
+        text,
         drone_count,
         dependency_count,
         names,
@@ -392,29 +260,7 @@ pub fn cost(
         times,
         visited,
         drone_flags,
-        first_drones,
-        first_stops,
-        second_drones,
-        second_stops,
-        flags,
     );
-    match check {
-        TablesCheck::TooSmall => CostAnswer::TablesTooSmall,
-        TablesCheck::NotSound => CostAnswer::NotSound,
-        TablesCheck::Usable => CostAnswer::Cost(cost_sound(
-            drone_count,
-            dependency_count,
-            names,
-            stop_counts,
-            locations,
-            times,
-            visited,
-            drone_flags,
-            first_drones,
-            first_stops,
-            second_drones,
-            second_stops,
-            flags,
-        )),
-    }
+    store_all(dependencies, records_of(read));
+    reading_of(read)
 }

@@ -1,23 +1,25 @@
-// The calls on tables that are of full size and sound.
-use crate::replies::ArriveReply;
-use crate::replies::GrantReply;
-use crate::replies::WriteReply;
-use plan::waits::first_unmet;
-use tables::flags::is_under_way;
-use tables::flags::with_under_way;
-use tables::flags::without_under_way;
-use text::writer::WriteAnswer;
-use text::writer::write_text;
+// The calls over a table of records by value: n is the length of the lent table that it was copied from.
+use flat::calls;
+use flat::replies::ArriveReply;
+use flat::replies::GrantReply;
+use flat::replies::WriteReply;
+use flat::turn_replies::CostAnswer;
+use flat::turn_replies::TurnReply;
+use records::columns::spread;
+use tables::entries::Dependency;
+ghost use mathlib.Core.Path.{_≡_};
+ghost use lib.ListN.{take};
 ghost use Rattle.tables.specs.Limits.{limits};
-ghost use Rattle.tables.specs.Tables.{tablesOf};
-ghost use Rattle.log.specs.CallLog.{grant, arrive};
-ghost use Rattle.log.specs.Calls.{step, Answered};
-ghost use Rattle.log.specs.Claims.{Usable};
-ghost use Rattle.conductor.specs.Replies.{grantMeant, arriveMeant};
-ghost use Rattle.conductor.specs.Writing.{writeMeant, PlanWritten};
+ghost use Rattle.log.specs.CallLog.{grant as grantOf, arrive as arriveOf, turn as turnOf, isAccepted};
+ghost use Rattle.log.specs.Calls.{step, Answered, costReply};
+ghost use Rattle.flat.specs.Replies.{grantMeant, arriveMeant};
+ghost use Rattle.flat.specs.TurnReplies.{turnMeant, costMeant};
+ghost use Rattle.flat.specs.Writing.{writeMeant, PlanWritten};
+ghost use Rattle.records.specs.Records.{tablesOfRecords};
 
-// "the drone becomes under way when every dependency into its next stop has the awaited stop visited".
-pub fn grant_sound(
+pub fn grant_records(
+    table: [Dependency; 2048],
+    n: usize,
     drone_count: &[u16],
     dependency_count: &[u16],
     names: &[u8],
@@ -26,66 +28,57 @@ pub fn grant_sound(
     times: &[u32],
     visited: &[u16],
     drone_flags: &mut [u8],
-    first_drones: &[u8],
-    first_stops: &[u16],
-    second_drones: &[u8],
-    second_stops: &[u16],
-    flags: &[u8],
     drone: usize,
 ) -> GrantReply
-    requires { ⌜
-        Usable limits (tablesOf
-        (now «drone_count») (now «dependency_count») (now names) (now «stop_counts»)
-        (now locations) (now times) (now visited) (now «drone_flags»)
-        (now «first_drones») (now «first_stops») (now «second_drones») (now «second_stops»)
-        (now flags))
-        ⌝ }
     ensures { λ r.
         ⌜
-        Answered (step limits) (tablesOf
+        Answered (step limits) (tablesOfRecords limits
         (now («drone_count» .entry)) (now («dependency_count» .entry)) (now (names .entry)) (now («stop_counts» .entry))
         (now (locations .entry)) (now (times .entry)) (now (visited .entry)) (now («drone_flags» .entry))
-        (now («first_drones» .entry)) (now («first_stops» .entry)) (now («second_drones» .entry)) (now («second_stops» .entry))
-        (now (flags .entry)))
-        (grant drone) (grantMeant r) (tablesOf
+        (take n table))
+        (grantOf drone) (grantMeant r) (tablesOfRecords limits
         (now («drone_count» .entry)) (now («dependency_count» .entry)) (now (names .entry)) (now («stop_counts» .entry))
         (now (locations .entry)) (now (times .entry)) (now (visited .entry)) (now («drone_flags» .exit))
-        (now («first_drones» .entry)) (now («first_stops» .entry)) (now («second_drones» .entry)) (now («second_stops» .entry))
-        (now (flags .entry)))
+        (take n table))
         ⌝ }
 {
-    let drones = drone_count[0] as usize;
-    if drones <= drone {
-        return GrantReply::NoDrone;
+    if n < Dependency::FULL {
+        return GrantReply::TablesTooSmall;
     }
-    let last = stop_counts[drone] - 1;
-    if last <= visited[drone] {
-        return GrantReply::Finished;
-    }
-    let flag = drone_flags[drone];
-    if is_under_way(flag) {
-        return GrantReply::UnderWay;
-    }
-    let count = dependency_count[0] as usize;
-    let unmet = first_unmet(
-        count,
-        first_drones,
-        first_stops,
-        second_drones,
-        second_stops,
-        flags,
-        visited,
-        drone,
+    let mut first_drones = [0u8; 2048];
+    let mut first_stops = [0u16; 2048];
+    let mut second_drones = [0u8; 2048];
+    let mut second_stops = [0u16; 2048];
+    let mut flags = [0u8; 2048];
+    spread(
+        table,
+        &mut first_drones,
+        &mut first_stops,
+        &mut second_drones,
+        &mut second_stops,
+        &mut flags,
     );
-    if unmet < count {
-        return GrantReply::MustWait(unmet);
-    }
-    drone_flags[drone] = with_under_way(flag);
-    GrantReply::Granted
+    calls::grant(
+        drone_count,
+        dependency_count,
+        names,
+        stop_counts,
+        locations,
+        times,
+        visited,
+        drone_flags,
+        &first_drones,
+        &first_stops,
+        &second_drones,
+        &second_stops,
+        &flags,
+        drone,
+    )
 }
 
-// "a drone under way has visited its next stop and is no longer under way".
-pub fn arrive_sound(
+pub fn arrive_records(
+    table: [Dependency; 2048],
+    n: usize,
     drone_count: &[u16],
     dependency_count: &[u16],
     names: &[u8],
@@ -94,49 +87,175 @@ pub fn arrive_sound(
     times: &[u32],
     visited: &mut [u16],
     drone_flags: &mut [u8],
-    first_drones: &[u8],
-    first_stops: &[u16],
-    second_drones: &[u8],
-    second_stops: &[u16],
-    flags: &[u8],
     drone: usize,
 ) -> ArriveReply
-    requires { ⌜
-        Usable limits (tablesOf
-        (now «drone_count») (now «dependency_count») (now names) (now «stop_counts»)
-        (now locations) (now times) (now visited) (now «drone_flags»)
-        (now «first_drones») (now «first_stops») (now «second_drones») (now «second_stops»)
-        (now flags))
-        ⌝ }
     ensures { λ r.
         ⌜
-        Answered (step limits) (tablesOf
+        Answered (step limits) (tablesOfRecords limits
         (now («drone_count» .entry)) (now («dependency_count» .entry)) (now (names .entry)) (now («stop_counts» .entry))
         (now (locations .entry)) (now (times .entry)) (now (visited .entry)) (now («drone_flags» .entry))
-        (now («first_drones» .entry)) (now («first_stops» .entry)) (now («second_drones» .entry)) (now («second_stops» .entry))
-        (now (flags .entry)))
-        (arrive drone) (arriveMeant r) (tablesOf
+        (take n table))
+        (arriveOf drone) (arriveMeant r) (tablesOfRecords limits
         (now («drone_count» .entry)) (now («dependency_count» .entry)) (now (names .entry)) (now («stop_counts» .entry))
         (now (locations .entry)) (now (times .entry)) (now (visited .exit)) (now («drone_flags» .exit))
-        (now («first_drones» .entry)) (now («first_stops» .entry)) (now («second_drones» .entry)) (now («second_stops» .entry))
-        (now (flags .entry)))
+        (take n table))
         ⌝ }
 {
-    let drones = drone_count[0] as usize;
-    if drones <= drone {
-        return ArriveReply::NoDrone;
+    if n < Dependency::FULL {
+        return ArriveReply::TablesTooSmall;
     }
-    let flag = drone_flags[drone];
-    if !is_under_way(flag) {
-        return ArriveReply::NotUnderWay;
-    }
-    visited[drone] += 1;
-    drone_flags[drone] = without_under_way(flag);
-    ArriveReply::Arrived
+    let mut first_drones = [0u8; 2048];
+    let mut first_stops = [0u16; 2048];
+    let mut second_drones = [0u8; 2048];
+    let mut second_stops = [0u16; 2048];
+    let mut flags = [0u8; 2048];
+    spread(
+        table,
+        &mut first_drones,
+        &mut first_stops,
+        &mut second_drones,
+        &mut second_stops,
+        &mut flags,
+    );
+    calls::arrive(
+        drone_count,
+        dependency_count,
+        names,
+        stop_counts,
+        locations,
+        times,
+        visited,
+        drone_flags,
+        &first_drones,
+        &first_stops,
+        &second_drones,
+        &second_stops,
+        &flags,
+        drone,
+    )
 }
 
-// Writes the text of the plan that the tables hold, if the buffer is long enough.
-pub fn write_sound(
+// The reply alone: the records themselves are flipped where they lie.
+pub fn turn_records(
+    table: [Dependency; 2048],
+    n: usize,
+    drone_count: &[u16],
+    dependency_count: &[u16],
+    names: &[u8],
+    stop_counts: &[u16],
+    locations: &[u16],
+    times: &[u32],
+    visited: &[u16],
+    drone_flags: &[u8],
+    dependency: usize,
+) -> TurnReply
+    ensures { λ r. ⌜ turnMeant r ≡ step limits (tablesOfRecords limits
+        (now («drone_count» .entry)) (now («dependency_count» .entry)) (now (names .entry)) (now («stop_counts» .entry))
+        (now (locations .entry)) (now (times .entry)) (now (visited .entry)) (now («drone_flags» .entry))
+        (take n table)) (turnOf dependency) .reply ⌝ }
+{
+    if n < Dependency::FULL {
+        return TurnReply::TablesTooSmall;
+    }
+    let mut first_drones = [0u8; 2048];
+    let mut first_stops = [0u16; 2048];
+    let mut second_drones = [0u8; 2048];
+    let mut second_stops = [0u16; 2048];
+    let mut flags = [0u8; 2048];
+    spread(
+        table,
+        &mut first_drones,
+        &mut first_stops,
+        &mut second_drones,
+        &mut second_stops,
+        &mut flags,
+    );
+    calls::turn(
+        drone_count,
+        dependency_count,
+        names,
+        stop_counts,
+        locations,
+        times,
+        visited,
+        drone_flags,
+        &first_drones,
+        &first_stops,
+        &second_drones,
+        &second_stops,
+        &mut flags,
+        dependency,
+    )
+}
+
+pub fn is_turned(reply: TurnReply) -> bool
+    ensures { λ r. ⌜ r ≡ isAccepted (turnMeant reply) ⌝ }
+{
+    match reply {
+        TurnReply::Turned => true,
+        TurnReply::TablesTooSmall => false,
+        TurnReply::NotSound => false,
+        TurnReply::NoDependency => false,
+        TurnReply::Fixed => false,
+        TurnReply::FirstEntered => false,
+        TurnReply::SecondEntered => false,
+        TurnReply::Cycle => false,
+    }
+}
+
+pub fn cost_records(
+    table: [Dependency; 2048],
+    n: usize,
+    drone_count: &[u16],
+    dependency_count: &[u16],
+    names: &[u8],
+    stop_counts: &[u16],
+    locations: &[u16],
+    times: &[u32],
+    visited: &[u16],
+    drone_flags: &[u8],
+) -> CostAnswer
+    ensures { λ r. ⌜ costMeant r ≡ costReply limits (tablesOfRecords limits
+        (now («drone_count» .entry)) (now («dependency_count» .entry)) (now (names .entry)) (now («stop_counts» .entry))
+        (now (locations .entry)) (now (times .entry)) (now (visited .entry)) (now («drone_flags» .entry))
+        (take n table)) ⌝ }
+{
+    if n < Dependency::FULL {
+        return CostAnswer::TablesTooSmall;
+    }
+    let mut first_drones = [0u8; 2048];
+    let mut first_stops = [0u16; 2048];
+    let mut second_drones = [0u8; 2048];
+    let mut second_stops = [0u16; 2048];
+    let mut flags = [0u8; 2048];
+    spread(
+        table,
+        &mut first_drones,
+        &mut first_stops,
+        &mut second_drones,
+        &mut second_stops,
+        &mut flags,
+    );
+    calls::cost(
+        drone_count,
+        dependency_count,
+        names,
+        stop_counts,
+        locations,
+        times,
+        visited,
+        drone_flags,
+        &first_drones,
+        &first_stops,
+        &second_drones,
+        &second_stops,
+        &flags,
+    )
+}
+
+pub fn write_records(
+    table: [Dependency; 2048],
+    n: usize,
     buf: &mut [u8],
     drone_count: &[u16],
     dependency_count: &[u16],
@@ -146,33 +265,46 @@ pub fn write_sound(
     times: &[u32],
     visited: &[u16],
     drone_flags: &[u8],
-    first_drones: &[u8],
-    first_stops: &[u16],
-    second_drones: &[u8],
-    second_stops: &[u16],
-    flags: &[u8],
 ) -> WriteReply
-    requires { ⌜
-        Usable limits (tablesOf
-        (now «drone_count») (now «dependency_count») (now names) (now «stop_counts»)
-        (now locations) (now times) (now visited) (now «drone_flags»)
-        (now «first_drones») (now «first_stops») (now «second_drones») (now «second_stops»)
-        (now flags))
-        ⌝ }
     ensures { λ r.
         ⌜
-        PlanWritten limits (tablesOf
+        PlanWritten limits (tablesOfRecords limits
         (now («drone_count» .entry)) (now («dependency_count» .entry)) (now (names .entry)) (now («stop_counts» .entry))
         (now (locations .entry)) (now (times .entry)) (now (visited .entry)) (now («drone_flags» .entry))
-        (now («first_drones» .entry)) (now («first_stops» .entry)) (now («second_drones» .entry)) (now («second_stops» .entry))
-        (now (flags .entry)))
+        (take n table))
         (now (buf .entry)) (now (buf .exit)) (writeMeant r)
         ⌝ }
 {
-    let drones = drone_count[0] as usize;
-    let answer = write_text(buf, drones, names, stop_counts, locations, times);
-    match answer {
-        WriteAnswer::Length(length) => WriteReply::Written(length),
-        WriteAnswer::Short => WriteReply::BufferTooShort,
+    if n < Dependency::FULL {
+        return WriteReply::TablesTooSmall;
     }
+    let mut first_drones = [0u8; 2048];
+    let mut first_stops = [0u16; 2048];
+    let mut second_drones = [0u8; 2048];
+    let mut second_stops = [0u16; 2048];
+    let mut flags = [0u8; 2048];
+    spread(
+        table,
+        &mut first_drones,
+        &mut first_stops,
+        &mut second_drones,
+        &mut second_stops,
+        &mut flags,
+    );
+    calls::write_plan(
+        buf,
+        drone_count,
+        dependency_count,
+        names,
+        stop_counts,
+        locations,
+        times,
+        visited,
+        drone_flags,
+        &first_drones,
+        &first_stops,
+        &second_drones,
+        &second_stops,
+        &flags,
+    )
 }

@@ -1,7 +1,4 @@
-// The conductor's public calls over lent tables.
+// The public calls over lent tables whose dependencies are a slice of records.
 pub mod calls;
 pub mod cores;
-pub mod costing;
-pub mod replies;
-pub mod turn_replies;
-pub mod turning;
+pub mod reads;

@@ -15,16 +15,16 @@ use Rattle.sound.specs.Sound.{sound}
 use Rattle.log.specs.CallLog.{Call, grant, arrive, turn, Reply, accepted, refused, mustWait, number as replyNumber, when, firstThatHolds, replyIn}
 use Rattle.log.specs.Calls.{step, replyOf, grantStep, Answered, CostReply, costs, costRefused, costReply}
 use Rattle.log.proofs.Costs.{cost-limit}
-use Rattle.conductor.proofs.Facts.{facts}
+use Rattle.flat.proofs.Facts.{facts}
 use Rattle.transcript.specs.Input.{Request, call, cost, requestOf}
 use Rattle.transcript.specs.Output.{awaited}
 use Rattle.transcript.specs.Run.{costNumber, costDetail}
-use Rattle.conductor.specs.Replies.{grantMeant}
-use Rattle.conductor.specs.TurnReplies.{costMeant}
-use Rattle.conductor.specs.declared.replies.GrantReply.{GrantReply}
-use Rattle.conductor.specs.declared.replies.GrantReply.the-variants.{MustWait}
-use Rattle.conductor.specs.declared.turn_replies.CostAnswer.{CostAnswer}
-use Rattle.conductor.specs.declared.turn_replies.CostAnswer.the-variants.{Cost}
+use Rattle.flat.specs.Replies.{grantMeant}
+use Rattle.flat.specs.TurnReplies.{costMeant}
+use Rattle.flat.specs.declared.replies.GrantReply.{GrantReply}
+use Rattle.flat.specs.declared.replies.GrantReply.the-variants.{MustWait}
+use Rattle.flat.specs.declared.turn_replies.CostAnswer.{CostAnswer}
+use Rattle.flat.specs.declared.turn_replies.CostAnswer.the-variants.{Cost}
 use Rattle.dispatch.specs.Making.{Tells, RequestMade}
 
 -- ---- the detail fits

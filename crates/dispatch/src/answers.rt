@@ -1,8 +1,8 @@
 // The replies of the calls as the output's tables hold them: a number, and what goes with it; and the number of a reading.
-use conductor::replies::ArriveReply;
-use conductor::replies::GrantReply;
-use conductor::turn_replies::CostAnswer;
-use conductor::turn_replies::TurnReply;
+use flat::replies::ArriveReply;
+use flat::replies::GrantReply;
+use flat::turn_replies::CostAnswer;
+use flat::turn_replies::TurnReply;
 use reading::replies::Reading;
 use reading::replies::Refusal;
 ghost use mathlib.Core.Path.{_≡_};
@@ -10,8 +10,8 @@ ghost use Prim.Native.Nat.{_<_, _^_};
 ghost use Rattle.transcript.specs.Output.{awaited};
 ghost use Rattle.transcript.specs.Run.{costNumber, costDetail};
 ghost use Rattle.reading.specs.Replies.{refusalNumber, readingNumber};
-ghost use Rattle.conductor.specs.Replies.{grantMeant, arriveMeant};
-ghost use Rattle.conductor.specs.TurnReplies.{turnMeant, costMeant};
+ghost use Rattle.flat.specs.Replies.{grantMeant, arriveMeant};
+ghost use Rattle.flat.specs.TurnReplies.{turnMeant, costMeant};
 ghost use Rattle.dispatch.specs.Making.{Tells};
 
 // The number of the reply, and the dependency of a 23 or the cost.

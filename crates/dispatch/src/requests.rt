@@ -1,7 +1,7 @@
 // Requests made as calls on lent tables, and the run of a plan on tables of its own. The dependencies are records: the derivations are carried (docs/DERIVATIONS.md).
 use crate::answers;
 use crate::answers::Answered;
-use entries::calls;
+use conductor::calls;
 use reading::replies::Reading;
 use records::record;
 use tables::entries::Dependency;

@@ -1,85 +1,33 @@
--- Past 41 and 40 the tables can be used, and the answer is that of the call on such tables.
+-- `conductor::calls::arrive` meets its contract: the needs that the derivation of Derived.arrive leaves. Assumes nothing.
+mod Tie
+use mathlib.Core.Path.{refl}
 use Rattle.tables.specs.Limits.{limits}
-use Rattle.conductor.proofs.CheckLaws.{says-usable, refused-41, refused-40}
+use Rattle.records.proofs.Seen.{tables-copied}
+use Rattle.conductor.proofs.Over.{answered-over}
 use borrow.Author.Needs.{needs}
 use Rattle.conductor.proofs.calls.arrive.Statement.{statement}
-use Rattle.conductor.proofs.calls.arrive.Tie as tie
-use Rattle.conductor.proofs.calls.arrive.Reads as reads
-use Rattle.conductor.proofs.calls.arrive.Lts as lts
-use Rattle.conductor.proofs.calls.check_tables.Reads as check-tables-reads
-use Rattle.conductor.proofs.cores.arrive_sound.Reads as arrive-sound-reads
+use Rattle.conductor.proofs.calls.arrive.Proof.Tie as tie
+use Rattle.conductor.proofs.Derived.arrive.Reads as reads
+use Rattle.conductor.proofs.Derived.arrive.Lts as lts
 
--- src/calls.rt:187:9
-check-tables-requires : tie.Need-check-tables-requires
-check-tables-requires c κs = search needs
+records-requires : tie.Need-records-requires
+records-requires c κs = search needs
 
--- src/calls.rt:203:34
-enum-told : tie.Need-enum-told
-enum-told c = search needs
+arrive-records-requires : tie.Need-arrive-records-requires
+arrive-records-requires c κs = search needs
 
--- src/calls.rt:204:34
-enum-told-2 : tie.Need-enum-told-2
-enum-told-2 c = search needs
-
--- src/calls.rt:212:13
-enum-told-3 : tie.Need-enum-told-3
-enum-told-3 c = search needs
-
--- src/calls.rt:205:32
-arrive-sound-requires : tie.Need-arrive-sound-requires
-arrive-sound-requires c κs = says-usable limits _ _ (c .before .before .before .before .check-tables .ensures) (c .before .before .enum-told3 .given .1)
-
--- src/calls.rt:157:1
 same-length : tie.Need-same-length
 same-length c = search needs
 
--- src/calls.rt:157:1
 same-length-2 : tie.Need-same-length-2
 same-length-2 c = search needs
 
--- src/calls.rt:157:1
 returns : tie.Need-returns
-returns c = refused-41 limits _ _ (c .before .before .check-tables .ensures) (c .enum-told .given .1) _
-
--- src/calls.rt:157:1
-same-length-3 : tie.Need-same-length-3
-same-length-3 c = search needs
-
--- src/calls.rt:157:1
-same-length-4 : tie.Need-same-length-4
-same-length-4 c = search needs
-
--- src/calls.rt:157:1
-returns-2 : tie.Need-returns-2
-returns-2 c = refused-40 limits _ _ (c .before .before .check-tables .ensures) (c .enum-told2 .given .1) _
-
--- src/calls.rt:157:1
-same-length-5 : tie.Need-same-length-5
-same-length-5 c = search needs
-
--- src/calls.rt:157:1
-same-length-6 : tie.Need-same-length-6
-same-length-6 c = search needs
-
--- src/calls.rt:157:1
-returns-3 : tie.Need-returns-3
-returns-3 c = search needs
+returns c =
+    let s = c .before .before .before .before .before .before .before .before .before .before .before .before .before .before .before .before in
+    let copy = c .before .before .before .before .before .before .before .records .ensures in
+    answered-over (tables-copied limits (s .args .dependencies .now) _ _ refl copy) (tables-copied limits (s .args .dependencies .now) _ _ refl copy) (c .before .before .before .before .arrive-records .ensures)
 
 pub arrive-spec : {M : Type 1} → statement M
 arrive-spec =
-    tie.close
-    (tie.spec
-    check-tables-requires
-    enum-told
-    enum-told-2
-    enum-told-3
-    arrive-sound-requires
-    same-length
-    same-length-2
-    returns
-    same-length-3
-    same-length-4
-    returns-2
-    same-length-5
-    same-length-6
-    returns-3)
+    tie.close (tie.spec records-requires arrive-records-requires same-length same-length-2 returns)

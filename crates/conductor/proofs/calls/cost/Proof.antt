@@ -1,56 +1,25 @@
--- Past 41 and 40 the tables can be used, and the answer is the cost of such tables.
+-- `conductor::calls::cost` meets its contract: the needs that the derivation of Derived.cost leaves. Assumes nothing.
+mod Tie
+use mathlib.Core.Path.{refl}
 use Rattle.tables.specs.Limits.{limits}
-use Rattle.conductor.proofs.CostLaws.{costs-41, costs-40}
-use Rattle.conductor.proofs.CheckLaws.{says-usable, says-too-small, says-not-sound}
+use Rattle.records.proofs.Seen.{tables-copied}
+use Rattle.conductor.proofs.Over.{cost-over}
 use borrow.Author.Needs.{needs}
 use Rattle.conductor.proofs.calls.cost.Statement.{statement}
-use Rattle.conductor.proofs.calls.cost.Tie as tie
-use Rattle.conductor.proofs.calls.cost.Reads as reads
-use Rattle.conductor.proofs.calls.cost.Lts as lts
-use Rattle.conductor.proofs.calls.check_tables.Reads as check-tables-reads
-use Rattle.conductor.proofs.costing.cost_sound.Reads as cost-sound-reads
+use Rattle.conductor.proofs.calls.cost.Proof.Tie as tie
+use Rattle.conductor.proofs.Derived.cost.Reads as reads
+use Rattle.conductor.proofs.Derived.cost.Lts as lts
 
--- src/calls.rt:316:9
-check-tables-requires : tie.Need-check-tables-requires
-check-tables-requires c κs = search needs
+records-requires : tie.Need-records-requires
+records-requires c κs = search needs
 
--- src/calls.rt:332:34
-enum-told : tie.Need-enum-told
-enum-told c = search needs
+cost-records-requires : tie.Need-cost-records-requires
+cost-records-requires c κs = search needs
 
--- src/calls.rt:333:34
-enum-told-2 : tie.Need-enum-told-2
-enum-told-2 c = search needs
-
--- src/calls.rt:334:49
-enum-told-3 : tie.Need-enum-told-3
-enum-told-3 c = search needs
-
--- src/calls.rt:334:49
-cost-sound-requires : tie.Need-cost-sound-requires
-cost-sound-requires c κs = says-usable limits _ _ (c .before .before .check-tables .ensures) (c .enum-told3 .given .1)
-
--- src/calls.rt:292:1
 returns : tie.Need-returns
-returns c = costs-41 limits _ (says-too-small limits _ _ (c .before .before .check-tables .ensures) (c .enum-told .given .1))
-
--- src/calls.rt:292:1
-returns-2 : tie.Need-returns-2
-returns-2 c = costs-40 limits _ (says-not-sound limits _ _ (c .before .before .check-tables .ensures) (c .enum-told2 .given .1))
-
--- src/calls.rt:292:1
-returns-3 : tie.Need-returns-3
-returns-3 c = search needs
+returns c =
+    let s = c .before .before .before .before .before .before .before .before .before .before in
+    cost-over limits (tables-copied limits (s .args .dependencies .now) _ _ refl (c .before .records .ensures)) (c .cost-records .ensures)
 
 pub cost-spec : {M : Type 1} → statement M
-cost-spec =
-    tie.close
-    (tie.spec
-    check-tables-requires
-    enum-told
-    enum-told-2
-    enum-told-3
-    cost-sound-requires
-    returns
-    returns-2
-    returns-3)
+cost-spec = tie.close (tie.spec records-requires cost-records-requires returns)

@@ -1,70 +1,49 @@
--- Past 41 and 40 the tables can be used, and the answer is that of the call on such tables.
+-- `conductor::calls::turn` meets its contract: the needs that the derivation of Derived.turn leaves. Assumes nothing.
+mod Tie
+use mathlib.Core.Path.{refl, ap, _∙_}
+use mathlib.Core.Bool.{Bool}
 use Rattle.tables.specs.Limits.{limits}
-use Rattle.conductor.proofs.CheckLaws.{says-usable, refused-41, refused-40}
+use Rattle.flat.specs.TurnReplies.{turnMeant}
+use Rattle.records.specs.Records.{flipIf}
+use Rattle.records.proofs.Seen.{tables-copied}
+use Rattle.conductor.proofs.Over.{turn-over, turn-answered}
 use borrow.Author.Needs.{needs}
 use Rattle.conductor.proofs.calls.turn.Statement.{statement}
-use Rattle.conductor.proofs.calls.turn.Tie as tie
-use Rattle.conductor.proofs.calls.turn.Reads as reads
-use Rattle.conductor.proofs.calls.turn.Lts as lts
-use Rattle.conductor.proofs.calls.check_tables.Reads as check-tables-reads
-use Rattle.conductor.proofs.turning.turn_sound.Reads as turn-sound-reads
+use Rattle.conductor.proofs.calls.turn.Proof.Tie as tie
+use Rattle.conductor.proofs.Derived.turn.Reads as reads
+use Rattle.conductor.proofs.Derived.turn.Lts as lts
 
--- src/calls.rt:119:9
-check-tables-requires : tie.Need-check-tables-requires
-check-tables-requires c κs = search needs
+records-requires : tie.Need-records-requires
+records-requires c κs = search needs
 
--- src/calls.rt:135:34
-enum-told : tie.Need-enum-told
-enum-told c = search needs
+turn-records-requires : tie.Need-turn-records-requires
+turn-records-requires c κs = search needs
 
--- src/calls.rt:136:34
-enum-told-2 : tie.Need-enum-told-2
-enum-told-2 c = search needs
+is-turned-requires : tie.Need-is-turned-requires
+is-turned-requires c κs = search needs
 
--- src/calls.rt:145:13
-enum-told-3 : tie.Need-enum-told-3
-enum-told-3 c = search needs
+flip-if-requires : tie.Need-flip-if-requires
+flip-if-requires c κs = search needs
 
--- src/calls.rt:137:32
-turn-sound-requires : tie.Need-turn-sound-requires
-turn-sound-requires c κs = says-usable limits _ _ (c .before .before .before .check-tables .ensures) (c .before .enum-told3 .given .1)
-
--- src/calls.rt:89:1
 same-length : tie.Need-same-length
 same-length c = search needs
 
--- src/calls.rt:89:1
 returns : tie.Need-returns
-returns c = refused-41 limits _ _ (c .before .before .check-tables .ensures) (c .enum-told .given .1) _
-
--- src/calls.rt:89:1
-same-length-2 : tie.Need-same-length-2
-same-length-2 c = search needs
-
--- src/calls.rt:89:1
-returns-2 : tie.Need-returns-2
-returns-2 c = refused-40 limits _ _ (c .before .before .check-tables .ensures) (c .enum-told2 .given .1) _
-
--- src/calls.rt:89:1
-same-length-3 : tie.Need-same-length-3
-same-length-3 c = search needs
-
--- src/calls.rt:89:1
-returns-3 : tie.Need-returns-3
-returns-3 c = search needs
+returns c =
+    let s = c .before .before .before .before .before .before .before .before .before .before .before .before .before .before .before in
+    let reply = c .before .before .before .before .turn-records in
+    let turns = c .before .before .is-turned in
+    let replied = turn-over limits (s .args .dependency) (tables-copied limits (s .args .dependencies .now) _ _ refl (c .before .before .before .before .before .records .ensures)) (reply .ensures) in
+    let flipped = c .before .flip-if .ensures ∙ ap (λ (b : Bool). flipIf b (s .args .dependency) (s .args .dependencies .now)) (turns .ensures) in
+    (turn-answered limits (s .args .dependencies .now) _ (s .args .dependency) (turnMeant (reply .result)) replied flipped, flipped)
 
 pub turn-spec : {M : Type 1} → statement M
 turn-spec =
     tie.close
     (tie.spec
-    check-tables-requires
-    enum-told
-    enum-told-2
-    enum-told-3
-    turn-sound-requires
+    records-requires
+    turn-records-requires
+    is-turned-requires
+    flip-if-requires
     same-length
-    returns
-    same-length-2
-    returns-2
-    same-length-3
-    returns-3)
+    returns)

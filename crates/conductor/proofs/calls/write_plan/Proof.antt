@@ -1,61 +1,29 @@
--- Past 41 and 40 the tables can be used, and the answer is that of the writer on such tables.
+-- `conductor::calls::write_plan` meets its contract: the needs that the derivation of Derived.write_plan leaves. Assumes nothing.
+mod Tie
+use mathlib.Core.Path.{refl}
 use Rattle.tables.specs.Limits.{limits}
-use Rattle.conductor.proofs.CheckLaws.{says-usable, says-too-small, says-not-sound}
-use Rattle.conductor.proofs.WritingLaws.{writes-41, writes-40}
+use Rattle.records.proofs.Seen.{tables-copied}
+use Rattle.conductor.proofs.Over.{written-over}
 use borrow.Author.Needs.{needs}
 use Rattle.conductor.proofs.calls.write_plan.Statement.{statement}
-use Rattle.conductor.proofs.calls.write_plan.Tie as tie
-use Rattle.conductor.proofs.calls.write_plan.Reads as reads
-use Rattle.conductor.proofs.calls.write_plan.Lts as lts
-use Rattle.conductor.proofs.calls.check_tables.Reads as check-tables-reads
-use Rattle.conductor.proofs.cores.write_sound.Reads as write-sound-reads
+use Rattle.conductor.proofs.calls.write_plan.Proof.Tie as tie
+use Rattle.conductor.proofs.Derived.write_plan.Reads as reads
+use Rattle.conductor.proofs.Derived.write_plan.Lts as lts
 
--- src/calls.rt:251:9
-check-tables-requires : tie.Need-check-tables-requires
-check-tables-requires c κs = search needs
+records-requires : tie.Need-records-requires
+records-requires c κs = search needs
 
--- src/calls.rt:267:34
-enum-told : tie.Need-enum-told
-enum-told c = search needs
+write-records-requires : tie.Need-write-records-requires
+write-records-requires c κs = search needs
 
--- src/calls.rt:268:34
-enum-told-2 : tie.Need-enum-told-2
-enum-told-2 c = search needs
-
--- src/calls.rt:270:13
-enum-told-3 : tie.Need-enum-told-3
-enum-told-3 c = search needs
-
--- src/calls.rt:269:32
-write-sound-requires : tie.Need-write-sound-requires
-write-sound-requires c κs = says-usable limits _ _ (c .before .before .before .check-tables .ensures) (c .before .enum-told3 .given .1)
-
--- src/calls.rt:225:1
-returns : tie.Need-returns
-returns c = writes-41 limits _ (says-too-small limits _ _ (c .before .before .check-tables .ensures) (c .enum-told .given .1)) _
-
--- src/calls.rt:225:1
-returns-2 : tie.Need-returns-2
-returns-2 c = writes-40 limits _ (says-not-sound limits _ _ (c .before .before .check-tables .ensures) (c .enum-told2 .given .1)) _
-
--- src/calls.rt:225:1
 same-length : tie.Need-same-length
 same-length c = search needs
 
--- src/calls.rt:225:1
-returns-3 : tie.Need-returns-3
-returns-3 c = search needs
+returns : tie.Need-returns
+returns c =
+    let s = c .before .before .before .before .before .before .before .before .before .before .before .before .before .before in
+    let copy = c .before .before .before .before .records .ensures in
+    written-over limits (tables-copied limits (s .args .dependencies .now) _ _ refl copy) (c .before .before .write-records .ensures)
 
 pub write-plan-spec : {M : Type 1} → statement M
-write-plan-spec =
-    tie.close
-    (tie.spec
-    check-tables-requires
-    enum-told
-    enum-told-2
-    enum-told-3
-    write-sound-requires
-    returns
-    returns-2
-    same-length
-    returns-3)
+write-plan-spec = tie.close (tie.spec records-requires write-records-requires same-length returns)

@@ -1,14 +1,14 @@
 -- `dispatch::requests::make_request`: Lts, carried over by tools/lend.py. Assumes nothing.
 use Rattle.records.proofs.Row as Rec
 use Prim.Native.Nat
-use Rattle.conductor.proofs.replies.ArriveReply
-use Rattle.conductor.proofs.replies.ArriveReply.Laws
-use Rattle.conductor.proofs.replies.GrantReply
-use Rattle.conductor.proofs.replies.GrantReply.Laws as Laws'
-use Rattle.conductor.proofs.turn_replies.CostAnswer
-use Rattle.conductor.proofs.turn_replies.CostAnswer.Laws as Laws''
-use Rattle.conductor.proofs.turn_replies.TurnReply
-use Rattle.conductor.proofs.turn_replies.TurnReply.Laws as Laws'3
+use Rattle.flat.proofs.replies.ArriveReply
+use Rattle.flat.proofs.replies.ArriveReply.Laws
+use Rattle.flat.proofs.replies.GrantReply
+use Rattle.flat.proofs.replies.GrantReply.Laws as Laws'
+use Rattle.flat.proofs.turn_replies.CostAnswer
+use Rattle.flat.proofs.turn_replies.CostAnswer.Laws as Laws''
+use Rattle.flat.proofs.turn_replies.TurnReply
+use Rattle.flat.proofs.turn_replies.TurnReply.Laws as Laws'3
 use Rattle.dispatch.proofs.answers.Answered
 use Rattle.dispatch.proofs.answers.Answered.Laws as Laws'4
 use borrow.Author.Called
@@ -655,7 +655,7 @@ abbrev b7 : Syntax.Body
 b7 = Syntax.assign (Syntax.place 23 List.[]) (Syntax.op1 (Syntax.cast Syntax.unsigned Syntax.unsigned Syntax.w64) (Syntax.copy (Syntax.place 11 List.[])))
 
 abbrev b8 : Syntax.Body
-b8 = Syntax.call "entries::calls::grant" (List._∷_ (Syntax.copy (Syntax.place 1 List.[])) (List._∷_ (Syntax.copy (Syntax.place 2 List.[])) (List._∷_ (Syntax.copy (Syntax.place 3 List.[])) (List._∷_ (Syntax.copy (Syntax.place 4 List.[])) (List._∷_ (Syntax.copy (Syntax.place 5 List.[])) (List._∷_ (Syntax.copy (Syntax.place 6 List.[])) (List._∷_
+b8 = Syntax.call "conductor::calls::grant" (List._∷_ (Syntax.copy (Syntax.place 1 List.[])) (List._∷_ (Syntax.copy (Syntax.place 2 List.[])) (List._∷_ (Syntax.copy (Syntax.place 3 List.[])) (List._∷_ (Syntax.copy (Syntax.place 4 List.[])) (List._∷_ (Syntax.copy (Syntax.place 5 List.[])) (List._∷_ (Syntax.copy (Syntax.place 6 List.[])) (List._∷_
     (Syntax.copy (Syntax.place 18 List.[])) (List._∷_ (Syntax.copy (Syntax.place 20 List.[])) (List._∷_ (Syntax.copy (Syntax.place 22 List.[])) (List._∷_ (Syntax.copy (Syntax.place 23 List.[])) List.[])))))))))) (Syntax.place 12 List.[])
 
 abbrev b9 : Syntax.Body
@@ -722,7 +722,7 @@ abbrev b29 : Syntax.Body
 b29 = Syntax.assign (Syntax.place 30 List.[]) (Syntax.op1 (Syntax.cast Syntax.unsigned Syntax.unsigned Syntax.w64) (Syntax.copy (Syntax.place 11 List.[])))
 
 abbrev b30 : Syntax.Body
-b30 = Syntax.call "entries::calls::arrive" (List._∷_ (Syntax.copy (Syntax.place 1 List.[])) (List._∷_ (Syntax.copy (Syntax.place 2 List.[])) (List._∷_ (Syntax.copy (Syntax.place 3 List.[])) (List._∷_ (Syntax.copy (Syntax.place 4 List.[])) (List._∷_ (Syntax.copy (Syntax.place 5 List.[])) (List._∷_ (Syntax.copy (Syntax.place 6 List.[])) (List._∷_
+b30 = Syntax.call "conductor::calls::arrive" (List._∷_ (Syntax.copy (Syntax.place 1 List.[])) (List._∷_ (Syntax.copy (Syntax.place 2 List.[])) (List._∷_ (Syntax.copy (Syntax.place 3 List.[])) (List._∷_ (Syntax.copy (Syntax.place 4 List.[])) (List._∷_ (Syntax.copy (Syntax.place 5 List.[])) (List._∷_ (Syntax.copy (Syntax.place 6 List.[])) (List._∷_
     (Syntax.copy (Syntax.place 25 List.[])) (List._∷_ (Syntax.copy (Syntax.place 27 List.[])) (List._∷_ (Syntax.copy (Syntax.place 29 List.[])) (List._∷_ (Syntax.copy (Syntax.place 30 List.[])) List.[])))))))))) (Syntax.place 13 List.[])
 
 abbrev b31 : Syntax.Body
@@ -789,7 +789,7 @@ abbrev b51 : Syntax.Body
 b51 = Syntax.assign (Syntax.place 37 List.[]) (Syntax.op1 (Syntax.cast Syntax.unsigned Syntax.unsigned Syntax.w64) (Syntax.copy (Syntax.place 11 List.[])))
 
 abbrev b52 : Syntax.Body
-b52 = Syntax.call "entries::calls::turn" (List._∷_ (Syntax.copy (Syntax.place 1 List.[])) (List._∷_ (Syntax.copy (Syntax.place 2 List.[])) (List._∷_ (Syntax.copy (Syntax.place 3 List.[])) (List._∷_ (Syntax.copy (Syntax.place 4 List.[])) (List._∷_ (Syntax.copy (Syntax.place 5 List.[])) (List._∷_ (Syntax.copy (Syntax.place 6 List.[])) (List._∷_
+b52 = Syntax.call "conductor::calls::turn" (List._∷_ (Syntax.copy (Syntax.place 1 List.[])) (List._∷_ (Syntax.copy (Syntax.place 2 List.[])) (List._∷_ (Syntax.copy (Syntax.place 3 List.[])) (List._∷_ (Syntax.copy (Syntax.place 4 List.[])) (List._∷_ (Syntax.copy (Syntax.place 5 List.[])) (List._∷_ (Syntax.copy (Syntax.place 6 List.[])) (List._∷_
     (Syntax.copy (Syntax.place 32 List.[])) (List._∷_ (Syntax.copy (Syntax.place 34 List.[])) (List._∷_ (Syntax.copy (Syntax.place 36 List.[])) (List._∷_ (Syntax.copy (Syntax.place 37 List.[])) List.[])))))))))) (Syntax.place 14 List.[])
 
 abbrev b53 : Syntax.Body
@@ -850,7 +850,7 @@ abbrev b71 : Syntax.Body
 b71 = Syntax.assign (Syntax.place 43 List.[]) (Syntax.aggregate (List._∷_ (Syntax.copy (Syntax.place 42 List.[])) (List._∷_ (Syntax.copy (Syntax.place 9 (List._∷_ (Syntax.field 1) List.[]))) List.[])))
 
 abbrev b72 : Syntax.Body
-b72 = Syntax.call "entries::calls::cost" (List._∷_ (Syntax.copy (Syntax.place 1 List.[])) (List._∷_ (Syntax.copy (Syntax.place 2 List.[])) (List._∷_ (Syntax.copy (Syntax.place 3 List.[])) (List._∷_ (Syntax.copy (Syntax.place 4 List.[])) (List._∷_ (Syntax.copy (Syntax.place 5 List.[])) (List._∷_ (Syntax.copy (Syntax.place 6 List.[])) (List._∷_
+b72 = Syntax.call "conductor::calls::cost" (List._∷_ (Syntax.copy (Syntax.place 1 List.[])) (List._∷_ (Syntax.copy (Syntax.place 2 List.[])) (List._∷_ (Syntax.copy (Syntax.place 3 List.[])) (List._∷_ (Syntax.copy (Syntax.place 4 List.[])) (List._∷_ (Syntax.copy (Syntax.place 5 List.[])) (List._∷_ (Syntax.copy (Syntax.place 6 List.[])) (List._∷_
     (Syntax.copy (Syntax.place 39 List.[])) (List._∷_ (Syntax.copy (Syntax.place 41 List.[])) (List._∷_ (Syntax.copy (Syntax.place 43 List.[])) List.[]))))))))) (Syntax.place 15 List.[])
 
 abbrev b73 : Syntax.Body
@@ -1890,9 +1890,9 @@ module _ (claims· : Claims) where
   module _ (Pre· : (κs : Lifetimes.Lfts 9) → Kinds.Dens κs ps → Type 0) (Post· : (κs : Lifetimes.Lfts 9) → (a : Kinds.Dens κs ps) → Kinds.Plain 9 ps r κs) where
     module _ (M : Type 1) where
       abbrev pub Closed : Type 2
-      Closed = (𝓤 : URA.URA M) (H : Wp.Heap 𝓤) (A : Atoms.Atoms 𝓤) (W : Kit.Given 𝓤 H A) (𝓣 : Wp.Tables 𝓤 H) (known0 : Plain.Known 𝓤 H A W 𝓣 9 ps·0 r·0 (claims· .0) (claims· .1) "entries::calls::grant") (known1 : Plain.Known 𝓤 H A W 𝓣 0 ps·1 r·1 (claims· .2) (claims· .3) "dispatch::answers::of_grant") (known2 : Plain.Known 𝓤 H A W 𝓣 9 ps·2 r·2
-          (claims· .4) (claims· .5) "entries::calls::arrive") (known3 : Plain.Known 𝓤 H A W 𝓣 0 ps·3 r·3 (claims· .6) (claims· .7) "dispatch::answers::of_arrive") (known4 : Plain.Known 𝓤 H A W 𝓣 9 ps·4 r·4 (claims· .8) (claims· .9) "entries::calls::turn") (known5 : Plain.Known 𝓤 H A W 𝓣 0 ps·5 r·5 (claims· .10)
-          (claims· .11) "dispatch::answers::of_turn") (known6 : Plain.Known 𝓤 H A W 𝓣 9 ps·6 r·6 (claims· .12) (claims· .13) "entries::calls::cost") (known7 : Plain.Known 𝓤 H A W 𝓣 0 ps·7 r·7 (claims· .14) (claims· .15) "dispatch::answers::of_cost") → Statement.Triple 𝓤 (Wp.WpFn 𝓤 H (𝓣 .C) (𝓣 .Λ) (Function.fnOf 9 ps r xs m hs body)) (Function.plainOf 𝓤 H A 9
+      Closed = (𝓤 : URA.URA M) (H : Wp.Heap 𝓤) (A : Atoms.Atoms 𝓤) (W : Kit.Given 𝓤 H A) (𝓣 : Wp.Tables 𝓤 H) (known0 : Plain.Known 𝓤 H A W 𝓣 9 ps·0 r·0 (claims· .0) (claims· .1) "conductor::calls::grant") (known1 : Plain.Known 𝓤 H A W 𝓣 0 ps·1 r·1 (claims· .2) (claims· .3) "dispatch::answers::of_grant") (known2 : Plain.Known 𝓤 H A W 𝓣 9 ps·2 r·2
+          (claims· .4) (claims· .5) "conductor::calls::arrive") (known3 : Plain.Known 𝓤 H A W 𝓣 0 ps·3 r·3 (claims· .6) (claims· .7) "dispatch::answers::of_arrive") (known4 : Plain.Known 𝓤 H A W 𝓣 9 ps·4 r·4 (claims· .8) (claims· .9) "conductor::calls::turn") (known5 : Plain.Known 𝓤 H A W 𝓣 0 ps·5 r·5 (claims· .10)
+          (claims· .11) "dispatch::answers::of_turn") (known6 : Plain.Known 𝓤 H A W 𝓣 9 ps·6 r·6 (claims· .12) (claims· .13) "conductor::calls::cost") (known7 : Plain.Known 𝓤 H A W 𝓣 0 ps·7 r·7 (claims· .14) (claims· .15) "dispatch::answers::of_cost") → Statement.Triple 𝓤 (Wp.WpFn 𝓤 H (𝓣 .C) (𝓣 .Λ) (Function.fnOf 9 ps r xs m hs body)) (Function.plainOf 𝓤 H A 9
           ps r Pre· Post·)
 
     module _ where
@@ -2318,8 +2318,8 @@ module _ (claims· : Claims) where
 
       module _ {M : Type 1} (𝓤 : URA.URA M) (H : Wp.Heap 𝓤) (A : Atoms.Atoms 𝓤) (W : Kit.Given 𝓤 H A) (𝓣 : Wp.Tables 𝓤 H) where
         abbrev Knowns : Type 1
-        Knowns = Plain.Known 𝓤 H A W 𝓣 9 ps·0 r·0 (claims· .0) (claims· .1) "entries::calls::grant" × Plain.Known 𝓤 H A W 𝓣 0 ps·1 r·1 (claims· .2) (claims· .3) "dispatch::answers::of_grant" × Plain.Known 𝓤 H A W 𝓣 9 ps·2 r·2 (claims· .4) (claims· .5) "entries::calls::arrive" × Plain.Known 𝓤 H A W 𝓣 0 ps·3 r·3 (claims· .6) (claims· .7)
-            "dispatch::answers::of_arrive" × Plain.Known 𝓤 H A W 𝓣 9 ps·4 r·4 (claims· .8) (claims· .9) "entries::calls::turn" × Plain.Known 𝓤 H A W 𝓣 0 ps·5 r·5 (claims· .10) (claims· .11) "dispatch::answers::of_turn" × Plain.Known 𝓤 H A W 𝓣 9 ps·6 r·6 (claims· .12) (claims· .13) "entries::calls::cost" × Plain.Known 𝓤 H A W 𝓣 0 ps·7 r·7 (claims· .14)
+        Knowns = Plain.Known 𝓤 H A W 𝓣 9 ps·0 r·0 (claims· .0) (claims· .1) "conductor::calls::grant" × Plain.Known 𝓤 H A W 𝓣 0 ps·1 r·1 (claims· .2) (claims· .3) "dispatch::answers::of_grant" × Plain.Known 𝓤 H A W 𝓣 9 ps·2 r·2 (claims· .4) (claims· .5) "conductor::calls::arrive" × Plain.Known 𝓤 H A W 𝓣 0 ps·3 r·3 (claims· .6) (claims· .7)
+            "dispatch::answers::of_arrive" × Plain.Known 𝓤 H A W 𝓣 9 ps·4 r·4 (claims· .8) (claims· .9) "conductor::calls::turn" × Plain.Known 𝓤 H A W 𝓣 0 ps·5 r·5 (claims· .10) (claims· .11) "dispatch::answers::of_turn" × Plain.Known 𝓤 H A W 𝓣 9 ps·6 r·6 (claims· .12) (claims· .13) "conductor::calls::cost" × Plain.Known 𝓤 H A W 𝓣 0 ps·7 r·7 (claims· .14)
             (claims· .15) "dispatch::answers::of_cost"
 
       module _ (κs : Lifetimes.Lfts 9) (qs : Lifetimes.Shares 9) where
@@ -4568,7 +4568,7 @@ module _ (claims· : Claims) where
           d17 = Typed.g-pre 𝓤 H A W 𝓣 E G23 G24 b11 Δ1 (Typed.pass T23 T24 s21) at16 (Scalar.g-room 𝓤 H A W E G23 18 (Syntax.tyStruct (List._∷_ 38 (List._∷_ 91 (List._∷_ 93 List.[]))) (Syntax.tcons ty·5 (Syntax.tcons (Syntax.tyInt Syntax.w64) Syntax.tnil))) (Shared.room-sslice 𝓤 H A W (Referent.rtF (Referent.fInt Syntax.w16)) ty·5 9)) d16
 
           d18 : Typed.Typed 𝓤 H A 𝓣 E G22 b12 Δ1 at18
-          d18 = Typed.s-seq 𝓤 H A W 𝓣 E G22 G23 b8 b11 Δ1 (Typed.both s20) at17 (Plain.t-call-plain 𝓤 H A W 𝓣 9 ps·0 r·0 (claims· .0) (claims· .1) "entries::calls::grant" (known .0) E (λ pos β. β) G22 (
+          d18 = Typed.s-seq 𝓤 H A W 𝓣 E G22 G23 b8 b11 Δ1 (Typed.both s20) at17 (Plain.t-call-plain 𝓤 H A W 𝓣 9 ps·0 r·0 (claims· .0) (claims· .1) "conductor::calls::grant" (known .0) E (λ pos β. β) G22 (
             record { pos = 1; ty = Syntax.tyRef (Syntax.named 0) Syntax.imm (Syntax.tyInt Syntax.w16); ref = λ x. x },
             (
               record {
@@ -5153,7 +5153,7 @@ module _ (claims· : Claims) where
           d50 = Typed.g-pre 𝓤 H A W 𝓣 E G55 G56 b33 Δ2 (Typed.pass T55 T56 s52) at49 (Scalar.g-room 𝓤 H A W E G55 29 (Syntax.tyStruct (List._∷_ 38 (List._∷_ 91 (List._∷_ 93 List.[]))) (Syntax.tcons ty·0 (Syntax.tcons (Syntax.tyInt Syntax.w64) Syntax.tnil))) (Shared.room-sslice 𝓤 H A W Rec.rt ty·0 14)) d49
 
           d51 : Typed.Typed 𝓤 H A 𝓣 E G54 b34 Δ2 at51
-          d51 = Typed.s-seq 𝓤 H A W 𝓣 E G54 G55 b30 b33 Δ2 (Typed.both s51) at50 (Plain.t-call-plain 𝓤 H A W 𝓣 9 ps·2 r·2 (claims· .4) (claims· .5) "entries::calls::arrive" (known .2) E (λ pos β. β) G54 (
+          d51 = Typed.s-seq 𝓤 H A W 𝓣 E G54 G55 b30 b33 Δ2 (Typed.both s51) at50 (Plain.t-call-plain 𝓤 H A W 𝓣 9 ps·2 r·2 (claims· .4) (claims· .5) "conductor::calls::arrive" (known .2) E (λ pos β. β) G54 (
             record { pos = 1; ty = Syntax.tyRef (Syntax.named 0) Syntax.imm (Syntax.tyInt Syntax.w16); ref = λ x. x },
             (
               record {
@@ -5735,7 +5735,7 @@ module _ (claims· : Claims) where
           d82 = Typed.g-pre 𝓤 H A W 𝓣 E G87 G88 b55 Δ3 (Typed.pass T87 T88 s83) at81 (Scalar.g-room 𝓤 H A W E G87 32 (Syntax.tyStruct (List._∷_ 38 (List._∷_ 91 (List._∷_ 93 List.[]))) (Syntax.tcons ty·5 (Syntax.tcons (Syntax.tyInt Syntax.w64) Syntax.tnil))) (Shared.room-sslice 𝓤 H A W (Referent.rtF (Referent.fInt Syntax.w16)) ty·5 15)) d81
 
           d83 : Typed.Typed 𝓤 H A 𝓣 E G86 b56 Δ3 at83
-          d83 = Typed.s-seq 𝓤 H A W 𝓣 E G86 G87 b52 b55 Δ3 (Typed.both s82) at82 (Plain.t-call-plain 𝓤 H A W 𝓣 9 ps·4 r·4 (claims· .8) (claims· .9) "entries::calls::turn" (known .4) E (λ pos β. β) G86 (
+          d83 = Typed.s-seq 𝓤 H A W 𝓣 E G86 G87 b52 b55 Δ3 (Typed.both s82) at82 (Plain.t-call-plain 𝓤 H A W 𝓣 9 ps·4 r·4 (claims· .8) (claims· .9) "conductor::calls::turn" (known .4) E (λ pos β. β) G86 (
             record { pos = 1; ty = Syntax.tyRef (Syntax.named 0) Syntax.imm (Syntax.tyInt Syntax.w16); ref = λ x. x },
             (
               record {
@@ -6318,7 +6318,7 @@ module _ (claims· : Claims) where
           d114 = Typed.g-pre 𝓤 H A W 𝓣 E G114 G115 b75 Δ0 (Typed.pass T114 T115 s110) at113 (Scalar.g-room 𝓤 H A W E G114 39 (Syntax.tyStruct (List._∷_ 38 (List._∷_ 91 (List._∷_ 93 List.[]))) (Syntax.tcons ty·5 (Syntax.tcons (Syntax.tyInt Syntax.w64) Syntax.tnil))) (Shared.room-sslice 𝓤 H A W (Referent.rtF (Referent.fInt Syntax.w16)) ty·5 18)) d113
 
           d115 : Typed.Typed 𝓤 H A 𝓣 E G113 b76 Δ0 at115
-          d115 = Typed.s-seq 𝓤 H A W 𝓣 E G113 G114 b72 b75 Δ0 (Typed.both s109) at114 (Plain.t-call-plain 𝓤 H A W 𝓣 9 ps·6 r·6 (claims· .12) (claims· .13) "entries::calls::cost" (known .6) E (λ pos β. β) G113 (
+          d115 = Typed.s-seq 𝓤 H A W 𝓣 E G113 G114 b72 b75 Δ0 (Typed.both s109) at114 (Plain.t-call-plain 𝓤 H A W 𝓣 9 ps·6 r·6 (claims· .12) (claims· .13) "conductor::calls::cost" (known .6) E (λ pos β. β) G113 (
             record { pos = 1; ty = Syntax.tyRef (Syntax.named 0) Syntax.imm (Syntax.tyInt Syntax.w16); ref = λ x. x },
             (
               record {
@@ -8623,8 +8623,8 @@ module _ (claims· : Claims) where
             pre = pre;
           }
 
-        module _ {M : Type 1} (𝓤 : URA.URA M) (H : Wp.Heap 𝓤) (A : Atoms.Atoms 𝓤) (W : Kit.Given 𝓤 H A) (𝓣 : Wp.Tables 𝓤 H) (known0 : Plain.Known 𝓤 H A W 𝓣 9 ps·0 r·0 (claims· .0) (claims· .1) "entries::calls::grant") (known1 : Plain.Known 𝓤 H A W 𝓣 0 ps·1 r·1 (claims· .2) (claims· .3) "dispatch::answers::of_grant") (known2 : Plain.Known 𝓤 H A W 𝓣 9 ps·2 r·2
-            (claims· .4) (claims· .5) "entries::calls::arrive") (known3 : Plain.Known 𝓤 H A W 𝓣 0 ps·3 r·3 (claims· .6) (claims· .7) "dispatch::answers::of_arrive") (known4 : Plain.Known 𝓤 H A W 𝓣 9 ps·4 r·4 (claims· .8) (claims· .9) "entries::calls::turn") (known5 : Plain.Known 𝓤 H A W 𝓣 0 ps·5 r·5 (claims· .10) (claims· .11) "dispatch::answers::of_turn")
-            (known6 : Plain.Known 𝓤 H A W 𝓣 9 ps·6 r·6 (claims· .12) (claims· .13) "entries::calls::cost") (known7 : Plain.Known 𝓤 H A W 𝓣 0 ps·7 r·7 (claims· .14) (claims· .15) "dispatch::answers::of_cost") where
+        module _ {M : Type 1} (𝓤 : URA.URA M) (H : Wp.Heap 𝓤) (A : Atoms.Atoms 𝓤) (W : Kit.Given 𝓤 H A) (𝓣 : Wp.Tables 𝓤 H) (known0 : Plain.Known 𝓤 H A W 𝓣 9 ps·0 r·0 (claims· .0) (claims· .1) "conductor::calls::grant") (known1 : Plain.Known 𝓤 H A W 𝓣 0 ps·1 r·1 (claims· .2) (claims· .3) "dispatch::answers::of_grant") (known2 : Plain.Known 𝓤 H A W 𝓣 9 ps·2 r·2
+            (claims· .4) (claims· .5) "conductor::calls::arrive") (known3 : Plain.Known 𝓤 H A W 𝓣 0 ps·3 r·3 (claims· .6) (claims· .7) "dispatch::answers::of_arrive") (known4 : Plain.Known 𝓤 H A W 𝓣 9 ps·4 r·4 (claims· .8) (claims· .9) "conductor::calls::turn") (known5 : Plain.Known 𝓤 H A W 𝓣 0 ps·5 r·5 (claims· .10) (claims· .11) "dispatch::answers::of_turn")
+            (known6 : Plain.Known 𝓤 H A W 𝓣 9 ps·6 r·6 (claims· .12) (claims· .13) "conductor::calls::cost") (known7 : Plain.Known 𝓤 H A W 𝓣 0 ps·7 r·7 (claims· .14) (claims· .15) "dispatch::answers::of_cost") where
           pub spec : Statement.Triple 𝓤 (Wp.WpFn 𝓤 H (𝓣 .C) (𝓣 .Λ) (Function.fnOf 9 ps r xs m hs body)) (Function.plainOf 𝓤 H A 9 ps r Pre· Post·)
           spec = Plain.t-fn-plain 𝓤 H A W 𝓣 9 ps r xs m hs body (λ κs qs bs. Φ) (λ κs qs bs bd. typed κs qs 𝓤 H A W 𝓣 (known0, known1, known2, known3, known4, known5, known6, known7) bs bd) Pre· Post· asked

@@ -678,7 +678,7 @@ abbrev b27 : Syntax.Body
 b27 = Syntax.assign (Syntax.place 35 List.[]) (Syntax.aggregate (List._∷_ (Syntax.copy (Syntax.place 34 List.[])) (List._∷_ (Syntax.intBig Syntax.w64 2048) List.[])))
 
 abbrev b28 : Syntax.Body
-b28 = Syntax.call "entries::calls::read_plan" (List._∷_ (Syntax.copy (Syntax.place 1 List.[])) (List._∷_ (Syntax.copy (Syntax.place 19 List.[])) (List._∷_ (Syntax.copy (Syntax.place 21 List.[])) (List._∷_ (Syntax.copy (Syntax.place 23 List.[])) (List._∷_ (Syntax.copy (Syntax.place 25 List.[])) (List._∷_ (Syntax.copy (Syntax.place 27 List.[])) (List._∷_
+b28 = Syntax.call "conductor::calls::read_plan" (List._∷_ (Syntax.copy (Syntax.place 1 List.[])) (List._∷_ (Syntax.copy (Syntax.place 19 List.[])) (List._∷_ (Syntax.copy (Syntax.place 21 List.[])) (List._∷_ (Syntax.copy (Syntax.place 23 List.[])) (List._∷_ (Syntax.copy (Syntax.place 25 List.[])) (List._∷_ (Syntax.copy (Syntax.place 27 List.[])) (List._∷_
     (Syntax.copy (Syntax.place 29 List.[])) (List._∷_ (Syntax.copy (Syntax.place 31 List.[])) (List._∷_ (Syntax.copy (Syntax.place 33 List.[])) (List._∷_ (Syntax.copy (Syntax.place 35 List.[])) List.[])))))))))) (Syntax.place 16 List.[])
 
 abbrev b29 : Syntax.Body
@@ -2267,7 +2267,7 @@ module _ (claims· : Claims) where
   module _ (Pre· : (κs : Lifetimes.Lfts 5) → Kinds.Dens κs ps → Type 0) (Post· : (κs : Lifetimes.Lfts 5) → (a : Kinds.Dens κs ps) → Kinds.Plain 5 ps r κs) where
     module _ (M : Type 1) where
       abbrev pub Closed : Type 2
-      Closed = (𝓤 : URA.URA M) (H : Wp.Heap 𝓤) (A : Atoms.Atoms 𝓤) (W : Kit.Given 𝓤 H A) (𝓣 : Wp.Tables 𝓤 H) (known0 : Plain.Known 𝓤 H A W 𝓣 0 ps·0 r·0 (claims· .0) (claims· .1) "records::record::zero_record") (known1 : Plain.Known 𝓤 H A W 𝓣 10 ps·1 r·1 (claims· .2) (claims· .3) "entries::calls::read_plan") (known2 : Plain.Known 𝓤 H A W 𝓣 0 ps·2 r·2
+      Closed = (𝓤 : URA.URA M) (H : Wp.Heap 𝓤) (A : Atoms.Atoms 𝓤) (W : Kit.Given 𝓤 H A) (𝓣 : Wp.Tables 𝓤 H) (known0 : Plain.Known 𝓤 H A W 𝓣 0 ps·0 r·0 (claims· .0) (claims· .1) "records::record::zero_record") (known1 : Plain.Known 𝓤 H A W 𝓣 10 ps·1 r·1 (claims· .2) (claims· .3) "conductor::calls::read_plan") (known2 : Plain.Known 𝓤 H A W 𝓣 0 ps·2 r·2
           (claims· .4) (claims· .5) "dispatch::answers::reading_number") (known3 : Plain.Known 𝓤 H A W 𝓣 13 ps·3 r·3 (claims· .6) (claims· .7) "dispatch::requests::make_requests") → Statement.Triple 𝓤 (Wp.WpFn 𝓤 H (𝓣 .C) (𝓣 .Λ) (Function.fnOf 5 ps r xs m hs body)) (Function.plainOf 𝓤 H A 5 ps r Pre· Post·)
 
     module _ where
@@ -2846,7 +2846,7 @@ module _ (claims· : Claims) where
 
       module _ {M : Type 1} (𝓤 : URA.URA M) (H : Wp.Heap 𝓤) (A : Atoms.Atoms 𝓤) (W : Kit.Given 𝓤 H A) (𝓣 : Wp.Tables 𝓤 H) where
         abbrev Knowns : Type 1
-        Knowns = Plain.Known 𝓤 H A W 𝓣 0 ps·0 r·0 (claims· .0) (claims· .1) "records::record::zero_record" × Plain.Known 𝓤 H A W 𝓣 10 ps·1 r·1 (claims· .2) (claims· .3) "entries::calls::read_plan" × Plain.Known 𝓤 H A W 𝓣 0 ps·2 r·2 (claims· .4) (claims· .5) "dispatch::answers::reading_number" × Plain.Known 𝓤 H A W 𝓣 13 ps·3 r·3 (claims· .6) (claims· .7)
+        Knowns = Plain.Known 𝓤 H A W 𝓣 0 ps·0 r·0 (claims· .0) (claims· .1) "records::record::zero_record" × Plain.Known 𝓤 H A W 𝓣 10 ps·1 r·1 (claims· .2) (claims· .3) "conductor::calls::read_plan" × Plain.Known 𝓤 H A W 𝓣 0 ps·2 r·2 (claims· .4) (claims· .5) "dispatch::answers::reading_number" × Plain.Known 𝓤 H A W 𝓣 13 ps·3 r·3 (claims· .6) (claims· .7)
             "dispatch::requests::make_requests"
 
       module _ (κs : Lifetimes.Lfts 5) (qs : Lifetimes.Shares 5) where
@@ -7025,7 +7025,7 @@ module _ (claims· : Claims) where
           d136 = Typed.g-pre 𝓤 H A W 𝓣 E G54 G55 b87 Δ0 (λ Ψ. Ψ) (at135 bs) (Lifetime.g-end 𝓤 H A W E G54 5 Path'.refl) d135
 
           d137 : Typed.Typed 𝓤 H A 𝓣 E G53 b88 Δ0 (at137 bs)
-          d137 = Typed.s-seq 𝓤 H A W 𝓣 E G53 G54 b28 b87 Δ0 (Typed.both (s52 bs)) (at136 bs) (Plain.t-call-plain 𝓤 H A W 𝓣 10 ps·1 r·1 (claims· .2) (claims· .3) "entries::calls::read_plan" (known .1) E (λ pos β. β) G53 (
+          d137 = Typed.s-seq 𝓤 H A W 𝓣 E G53 G54 b28 b87 Δ0 (Typed.both (s52 bs)) (at136 bs) (Plain.t-call-plain 𝓤 H A W 𝓣 10 ps·1 r·1 (claims· .2) (claims· .3) "conductor::calls::read_plan" (known .1) E (λ pos β. β) G53 (
             record { pos = 1; ty = Syntax.tyRef (Syntax.named 0) Syntax.imm (Syntax.tyInt Syntax.w8); ref = λ x. x },
             (
               record {
@@ -10674,7 +10674,7 @@ module _ (claims· : Claims) where
             pre = pre;
           }
 
-        module _ {M : Type 1} (𝓤 : URA.URA M) (H : Wp.Heap 𝓤) (A : Atoms.Atoms 𝓤) (W : Kit.Given 𝓤 H A) (𝓣 : Wp.Tables 𝓤 H) (known0 : Plain.Known 𝓤 H A W 𝓣 0 ps·0 r·0 (claims· .0) (claims· .1) "records::record::zero_record") (known1 : Plain.Known 𝓤 H A W 𝓣 10 ps·1 r·1 (claims· .2) (claims· .3) "entries::calls::read_plan") (known2 : Plain.Known 𝓤 H A W 𝓣 0
+        module _ {M : Type 1} (𝓤 : URA.URA M) (H : Wp.Heap 𝓤) (A : Atoms.Atoms 𝓤) (W : Kit.Given 𝓤 H A) (𝓣 : Wp.Tables 𝓤 H) (known0 : Plain.Known 𝓤 H A W 𝓣 0 ps·0 r·0 (claims· .0) (claims· .1) "records::record::zero_record") (known1 : Plain.Known 𝓤 H A W 𝓣 10 ps·1 r·1 (claims· .2) (claims· .3) "conductor::calls::read_plan") (known2 : Plain.Known 𝓤 H A W 𝓣 0
             ps·2 r·2 (claims· .4) (claims· .5) "dispatch::answers::reading_number") (known3 : Plain.Known 𝓤 H A W 𝓣 13 ps·3 r·3 (claims· .6) (claims· .7) "dispatch::requests::make_requests") where
           pub spec : Statement.Triple 𝓤 (Wp.WpFn 𝓤 H (𝓣 .C) (𝓣 .Λ) (Function.fnOf 5 ps r xs m hs body)) (Function.plainOf 𝓤 H A 5 ps r Pre· Post·)
           spec = Plain.t-fn-plain 𝓤 H A W 𝓣 5 ps r xs m hs body (λ κs qs bs. Φ bs) (λ κs qs bs bd. typed κs qs 𝓤 H A W 𝓣 (known0, known1, known2, known3) bs bd) Pre· Post· asked

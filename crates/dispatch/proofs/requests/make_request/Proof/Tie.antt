@@ -17,18 +17,18 @@ use Rattle.dispatch.proofs.Derived.make_request.Kinds
 use Rattle.dispatch.proofs.Derived.make_request.Lts
 use Rattle.dispatch.proofs.Derived.make_request.Reads as Reads'4
 use Rattle.dispatch.proofs.requests.make_request.Statement
-use Rattle.entries.proofs.calls.arrive.Met as Met'4
-use Rattle.entries.proofs.Derived.arrive.Reads as Reads'5
-use Rattle.entries.proofs.calls.arrive.Symbol as Symbol'4
-use Rattle.entries.proofs.calls.cost.Met as Met'5
-use Rattle.entries.proofs.Derived.cost.Reads as Reads'6
-use Rattle.entries.proofs.calls.cost.Symbol as Symbol'5
-use Rattle.entries.proofs.calls.grant.Met as Met'6
-use Rattle.entries.proofs.Derived.grant.Reads as Reads'7
-use Rattle.entries.proofs.calls.grant.Symbol as Symbol'6
-use Rattle.entries.proofs.calls.turn.Met as Met'7
-use Rattle.entries.proofs.Derived.turn.Reads as Reads'8
-use Rattle.entries.proofs.calls.turn.Symbol as Symbol'7
+use Rattle.conductor.proofs.calls.arrive.Met as Met'4
+use Rattle.conductor.proofs.Derived.arrive.Reads as Reads'5
+use Rattle.conductor.proofs.calls.arrive.Symbol as Symbol'4
+use Rattle.conductor.proofs.calls.cost.Met as Met'5
+use Rattle.conductor.proofs.Derived.cost.Reads as Reads'6
+use Rattle.conductor.proofs.calls.cost.Symbol as Symbol'5
+use Rattle.conductor.proofs.calls.grant.Met as Met'6
+use Rattle.conductor.proofs.Derived.grant.Reads as Reads'7
+use Rattle.conductor.proofs.calls.grant.Symbol as Symbol'6
+use Rattle.conductor.proofs.calls.turn.Met as Met'7
+use Rattle.conductor.proofs.Derived.turn.Reads as Reads'8
+use Rattle.conductor.proofs.calls.turn.Symbol as Symbol'7
 use borrow.Fn.Run
 use borrow.Fn.Written
 use contract.Running
@@ -1415,7 +1415,7 @@ module _ {M : Type 1} where
   unfolding Code.routine Running.tablesOf
   close = λ closed 𝓤 H 𝓜 𝓖 𝓡. Written.close 9 Kinds.ps Kinds.r Reads'4.Ghost Reads'4.requires Reads'4.ensures Reads'4.pre-read Reads'4.Pinned Reads'4.Owned Reads'4.post-read record { M = M; 𝓤 = 𝓤; H = H; 𝓜 = 𝓜; 𝓖 = 𝓖; 𝓡 = 𝓡 } Code.env Key.name Code.function (Code.unfolded 𝓤 H 𝓜 𝓡) (λ κs a g. tt)
       (λ κs. Reads'4.owns κs record { M = M; 𝓤 = 𝓤; H = H; 𝓜 = 𝓜; 𝓖 = 𝓖; 𝓡 = 𝓡 }) (Reads'4.passes record { M = M; 𝓤 = 𝓤; H = H; 𝓜 = 𝓜; 𝓖 = 𝓖; 𝓡 = 𝓡 }) λ g. closed 𝓤 H (𝓖 .A) (Running.givenOf 𝓤 H 𝓜 𝓖) (Run.Over 𝓤 H 𝓜 𝓖 𝓡 Code.env) (Reads'7.known record { M = M; 𝓤 = 𝓤; H = H; 𝓜 = 𝓜; 𝓖 = 𝓖; 𝓡 = 𝓡 } Code.env Symbol'6.name Symbol'6.routine
-      Code.calls-entries·calls·grant (Met'6.met 𝓤 H 𝓜 𝓖 𝓡)) (Reads''.known record { M = M; 𝓤 = 𝓤; H = H; 𝓜 = 𝓜; 𝓖 = 𝓖; 𝓡 = 𝓡 } Code.env Symbol''.name Symbol''.routine Code.calls-dispatch·answers·of-grant (Met''.met 𝓤 H 𝓜 𝓖 𝓡)) (Reads'5.known record { M = M; 𝓤 = 𝓤; H = H; 𝓜 = 𝓜; 𝓖 = 𝓖; 𝓡 = 𝓡 } Code.env Symbol'4.name Symbol'4.routine
-      Code.calls-entries·calls·arrive (Met'4.met 𝓤 H 𝓜 𝓖 𝓡)) (Reads.known record { M = M; 𝓤 = 𝓤; H = H; 𝓜 = 𝓜; 𝓖 = 𝓖; 𝓡 = 𝓡 } Code.env Symbol.name Symbol.routine Code.calls-dispatch·answers·of-arrive (Met.met 𝓤 H 𝓜 𝓖 𝓡)) (Reads'8.known record { M = M; 𝓤 = 𝓤; H = H; 𝓜 = 𝓜; 𝓖 = 𝓖; 𝓡 = 𝓡 } Code.env Symbol'7.name Symbol'7.routine Code.calls-entries·calls·turn
-      (Met'7.met 𝓤 H 𝓜 𝓖 𝓡)) (Reads'3.known record { M = M; 𝓤 = 𝓤; H = H; 𝓜 = 𝓜; 𝓖 = 𝓖; 𝓡 = 𝓡 } Code.env Symbol'3.name Symbol'3.routine Code.calls-dispatch·answers·of-turn (Met'3.met 𝓤 H 𝓜 𝓖 𝓡)) (Reads'6.known record { M = M; 𝓤 = 𝓤; H = H; 𝓜 = 𝓜; 𝓖 = 𝓖; 𝓡 = 𝓡 } Code.env Symbol'5.name Symbol'5.routine Code.calls-entries·calls·cost (Met'5.met 𝓤 H 𝓜 𝓖 𝓡))
+      Code.calls-conductor·calls·grant (Met'6.met 𝓤 H 𝓜 𝓖 𝓡)) (Reads''.known record { M = M; 𝓤 = 𝓤; H = H; 𝓜 = 𝓜; 𝓖 = 𝓖; 𝓡 = 𝓡 } Code.env Symbol''.name Symbol''.routine Code.calls-dispatch·answers·of-grant (Met''.met 𝓤 H 𝓜 𝓖 𝓡)) (Reads'5.known record { M = M; 𝓤 = 𝓤; H = H; 𝓜 = 𝓜; 𝓖 = 𝓖; 𝓡 = 𝓡 } Code.env Symbol'4.name Symbol'4.routine
+      Code.calls-conductor·calls·arrive (Met'4.met 𝓤 H 𝓜 𝓖 𝓡)) (Reads.known record { M = M; 𝓤 = 𝓤; H = H; 𝓜 = 𝓜; 𝓖 = 𝓖; 𝓡 = 𝓡 } Code.env Symbol.name Symbol.routine Code.calls-dispatch·answers·of-arrive (Met.met 𝓤 H 𝓜 𝓖 𝓡)) (Reads'8.known record { M = M; 𝓤 = 𝓤; H = H; 𝓜 = 𝓜; 𝓖 = 𝓖; 𝓡 = 𝓡 } Code.env Symbol'7.name Symbol'7.routine Code.calls-conductor·calls·turn
+      (Met'7.met 𝓤 H 𝓜 𝓖 𝓡)) (Reads'3.known record { M = M; 𝓤 = 𝓤; H = H; 𝓜 = 𝓜; 𝓖 = 𝓖; 𝓡 = 𝓡 } Code.env Symbol'3.name Symbol'3.routine Code.calls-dispatch·answers·of-turn (Met'3.met 𝓤 H 𝓜 𝓖 𝓡)) (Reads'6.known record { M = M; 𝓤 = 𝓤; H = H; 𝓜 = 𝓜; 𝓖 = 𝓖; 𝓡 = 𝓡 } Code.env Symbol'5.name Symbol'5.routine Code.calls-conductor·calls·cost (Met'5.met 𝓤 H 𝓜 𝓖 𝓡))
       (Reads'.known record { M = M; 𝓤 = 𝓤; H = H; 𝓜 = 𝓜; 𝓖 = 𝓖; 𝓡 = 𝓡 } Code.env Symbol'.name Symbol'.routine Code.calls-dispatch·answers·of-cost (Met'.met 𝓤 H 𝓜 𝓖 𝓡))

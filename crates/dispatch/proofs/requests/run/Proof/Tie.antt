@@ -11,9 +11,9 @@ use Rattle.dispatch.proofs.Derived.run.Kinds
 use Rattle.dispatch.proofs.Derived.run.Lts
 use Rattle.dispatch.proofs.Derived.run.Reads as Reads''
 use Rattle.dispatch.proofs.requests.run.Statement
-use Rattle.entries.proofs.calls.read_plan.Met as Met''
-use Rattle.entries.proofs.Derived.read_plan.Reads as Reads'3
-use Rattle.entries.proofs.calls.read_plan.Symbol as Symbol''
+use Rattle.conductor.proofs.calls.read_plan.Met as Met''
+use Rattle.conductor.proofs.Derived.read_plan.Reads as Reads'3
+use Rattle.conductor.proofs.calls.read_plan.Symbol as Symbol''
 use Rattle.records.proofs.record.zero_record.Met as Met'3
 use Rattle.records.proofs.record.zero_record.Reads as Reads'4
 use Rattle.records.proofs.record.zero_record.Symbol as Symbol'3
@@ -938,5 +938,5 @@ module _ {M : Type 1} where
   unfolding Code.routine Running.tablesOf
   close = λ closed 𝓤 H 𝓜 𝓖 𝓡. Written.close 5 Kinds.ps Kinds.r Reads''.Ghost Reads''.requires Reads''.ensures Reads''.pre-read Reads''.Pinned Reads''.Owned Reads''.post-read record { M = M; 𝓤 = 𝓤; H = H; 𝓜 = 𝓜; 𝓖 = 𝓖; 𝓡 = 𝓡 } Code.env Key.name Code.function (Code.unfolded 𝓤 H 𝓜 𝓡) (λ κs a g. tt)
       (λ κs. Reads''.owns κs record { M = M; 𝓤 = 𝓤; H = H; 𝓜 = 𝓜; 𝓖 = 𝓖; 𝓡 = 𝓡 }) (Reads''.passes record { M = M; 𝓤 = 𝓤; H = H; 𝓜 = 𝓜; 𝓖 = 𝓖; 𝓡 = 𝓡 }) λ g. closed 𝓤 H (𝓖 .A) (Running.givenOf 𝓤 H 𝓜 𝓖) (Run.Over 𝓤 H 𝓜 𝓖 𝓡 Code.env) (Reads'4.known record { M = M; 𝓤 = 𝓤; H = H; 𝓜 = 𝓜; 𝓖 = 𝓖; 𝓡 = 𝓡 } Code.env Symbol'3.name Symbol'3.routine
-      Code.calls-records·record·zero-record (Met'3.met 𝓤 H 𝓜 𝓖 𝓡)) (Reads'3.known record { M = M; 𝓤 = 𝓤; H = H; 𝓜 = 𝓜; 𝓖 = 𝓖; 𝓡 = 𝓡 } Code.env Symbol''.name Symbol''.routine Code.calls-entries·calls·read-plan (Met''.met 𝓤 H 𝓜 𝓖 𝓡)) (Reads.known record { M = M; 𝓤 = 𝓤; H = H; 𝓜 = 𝓜; 𝓖 = 𝓖; 𝓡 = 𝓡 } Code.env Symbol.name Symbol.routine
+      Code.calls-records·record·zero-record (Met'3.met 𝓤 H 𝓜 𝓖 𝓡)) (Reads'3.known record { M = M; 𝓤 = 𝓤; H = H; 𝓜 = 𝓜; 𝓖 = 𝓖; 𝓡 = 𝓡 } Code.env Symbol''.name Symbol''.routine Code.calls-conductor·calls·read-plan (Met''.met 𝓤 H 𝓜 𝓖 𝓡)) (Reads.known record { M = M; 𝓤 = 𝓤; H = H; 𝓜 = 𝓜; 𝓖 = 𝓖; 𝓡 = 𝓡 } Code.env Symbol.name Symbol.routine
       Code.calls-dispatch·answers·reading-number (Met.met 𝓤 H 𝓜 𝓖 𝓡)) (Reads'.known record { M = M; 𝓤 = 𝓤; H = H; 𝓜 = 𝓜; 𝓖 = 𝓖; 𝓡 = 𝓡 } Code.env Symbol'.name Symbol'.routine Code.calls-dispatch·requests·make-requests (Met'.met 𝓤 H 𝓜 𝓖 𝓡))

@@ -1,0 +1,187 @@
+-- `conductor::calls::arrive`: Tie, carried over by tools/lend.py. Assumes nothing.
+use Rattle.conductor.proofs.calls.arrive.Code
+use Rattle.conductor.proofs.calls.arrive.Key
+use Rattle.conductor.proofs.Derived.arrive.Kinds
+use Rattle.conductor.proofs.Derived.arrive.Lts
+use Rattle.conductor.proofs.Derived.arrive.Reads
+use Rattle.conductor.proofs.calls.arrive.Statement
+use Rattle.conductor.proofs.cores.arrive_records.Met
+use Rattle.conductor.proofs.cores.arrive_records.Reads as Reads'
+use Rattle.conductor.proofs.cores.arrive_records.Symbol
+use Rattle.records.proofs.lent.records.Met as Met'
+use Rattle.records.proofs.Derived.records.Reads as Reads''
+use Rattle.records.proofs.lent.records.Symbol as Symbol'
+use borrow.Fn.Run
+use borrow.Fn.Written
+use contract.Running
+
+abbrev pub Start : Type 0
+Start = Lts.Start (Reads''.Asked, Reads''.Learnt, Reads'.Asked, Reads'.Learnt) Reads.Pre Reads.Post
+
+abbrev pub After-shared-slice-known : Type 0
+After-shared-slice-known = Lts.After-shared-slice-known (
+  Reads''.Asked,
+  Reads''.Learnt,
+  Reads'.Asked,
+  Reads'.Learnt,
+) Reads.Pre Reads.Post
+
+abbrev pub After-shared-slice-known2 : Type 0
+After-shared-slice-known2 = Lts.After-shared-slice-known2 (
+  Reads''.Asked,
+  Reads''.Learnt,
+  Reads'.Asked,
+  Reads'.Learnt,
+) Reads.Pre Reads.Post
+
+abbrev pub After-shared-slice-known3 : Type 0
+After-shared-slice-known3 = Lts.After-shared-slice-known3 (
+  Reads''.Asked,
+  Reads''.Learnt,
+  Reads'.Asked,
+  Reads'.Learnt,
+) Reads.Pre Reads.Post
+
+abbrev pub After-shared-slice-known4 : Type 0
+After-shared-slice-known4 = Lts.After-shared-slice-known4 (
+  Reads''.Asked,
+  Reads''.Learnt,
+  Reads'.Asked,
+  Reads'.Learnt,
+) Reads.Pre Reads.Post
+
+abbrev pub After-shared-slice-known5 : Type 0
+After-shared-slice-known5 = Lts.After-shared-slice-known5 (
+  Reads''.Asked,
+  Reads''.Learnt,
+  Reads'.Asked,
+  Reads'.Learnt,
+) Reads.Pre Reads.Post
+
+abbrev pub After-shared-slice-known6 : Type 0
+After-shared-slice-known6 = Lts.After-shared-slice-known6 (
+  Reads''.Asked,
+  Reads''.Learnt,
+  Reads'.Asked,
+  Reads'.Learnt,
+) Reads.Pre Reads.Post
+
+abbrev pub After-slice-known : Type 0
+After-slice-known = Lts.After-slice-known (
+  Reads''.Asked,
+  Reads''.Learnt,
+  Reads'.Asked,
+  Reads'.Learnt,
+) Reads.Pre Reads.Post
+
+abbrev pub After-slice-known2 : Type 0
+After-slice-known2 = Lts.After-slice-known2 (
+  Reads''.Asked,
+  Reads''.Learnt,
+  Reads'.Asked,
+  Reads'.Learnt,
+) Reads.Pre Reads.Post
+
+abbrev pub After-records : Type 0
+After-records = Lts.After-records (Reads''.Asked, Reads''.Learnt, Reads'.Asked, Reads'.Learnt) Reads.Pre Reads.Post
+
+abbrev pub After-arrive-records-arg : Type 0
+After-arrive-records-arg = Lts.After-arrive-records-arg (
+  Reads''.Asked,
+  Reads''.Learnt,
+  Reads'.Asked,
+  Reads'.Learnt,
+) Reads.Pre Reads.Post
+
+abbrev pub After-arrive-records-arg2 : Type 0
+After-arrive-records-arg2 = Lts.After-arrive-records-arg2 (
+  Reads''.Asked,
+  Reads''.Learnt,
+  Reads'.Asked,
+  Reads'.Learnt,
+) Reads.Pre Reads.Post
+
+abbrev pub After-arrive-records : Type 0
+After-arrive-records = Lts.After-arrive-records (
+  Reads''.Asked,
+  Reads''.Learnt,
+  Reads'.Asked,
+  Reads'.Learnt,
+) Reads.Pre Reads.Post
+
+abbrev pub After-visited : Type 0
+After-visited = Lts.After-visited (Reads''.Asked, Reads''.Learnt, Reads'.Asked, Reads'.Learnt) Reads.Pre Reads.Post
+
+abbrev pub After-slice-known3 : Type 0
+After-slice-known3 = Lts.After-slice-known3 (
+  Reads''.Asked,
+  Reads''.Learnt,
+  Reads'.Asked,
+  Reads'.Learnt,
+) Reads.Pre Reads.Post
+
+abbrev pub After-drone-flags : Type 0
+After-drone-flags = Lts.After-drone-flags (
+  Reads''.Asked,
+  Reads''.Learnt,
+  Reads'.Asked,
+  Reads'.Learnt,
+) Reads.Pre Reads.Post
+
+abbrev pub After-slice-known4 : Type 0
+After-slice-known4 = Lts.After-slice-known4 (
+  Reads''.Asked,
+  Reads''.Learnt,
+  Reads'.Asked,
+  Reads'.Learnt,
+) Reads.Pre Reads.Post
+
+abbrev pub Need-records-requires : Type 0
+Need-records-requires = Lts.Need-records-requires (
+  Reads''.Asked,
+  Reads''.Learnt,
+  Reads'.Asked,
+  Reads'.Learnt,
+) Reads.Pre Reads.Post
+
+abbrev pub Need-arrive-records-requires : Type 0
+Need-arrive-records-requires = Lts.Need-arrive-records-requires (
+  Reads''.Asked,
+  Reads''.Learnt,
+  Reads'.Asked,
+  Reads'.Learnt,
+) Reads.Pre Reads.Post
+
+abbrev pub Need-same-length : Type 0
+Need-same-length = Lts.Need-same-length (
+  Reads''.Asked,
+  Reads''.Learnt,
+  Reads'.Asked,
+  Reads'.Learnt,
+) Reads.Pre Reads.Post
+
+abbrev pub Need-same-length-2 : Type 0
+Need-same-length-2 = Lts.Need-same-length-2 (
+  Reads''.Asked,
+  Reads''.Learnt,
+  Reads'.Asked,
+  Reads'.Learnt,
+) Reads.Pre Reads.Post
+
+abbrev pub Need-returns : Type 0
+Need-returns = Lts.Need-returns (Reads''.Asked, Reads''.Learnt, Reads'.Asked, Reads'.Learnt) Reads.Pre Reads.Post
+
+module _ {M : Type 1} where
+  pub spec : (answer : Need-records-requires) → (answer : Need-arrive-records-requires) → (answer : Need-same-length) → (answer : Need-same-length-2) → (answer : Need-returns) → Lts.Closed (Reads''.Asked, Reads''.Learnt, Reads'.Asked, Reads'.Learnt) Reads.Pre Reads.Post M
+  spec = λ answer answer' answer'' answer'3 answer'4. Lts.spec (
+    Reads''.Asked,
+    Reads''.Learnt,
+    Reads'.Asked,
+    Reads'.Learnt,
+  ) Reads.Pre Reads.Post answer answer' answer'' answer'3 answer'4
+
+  pub close : Lts.Closed (Reads''.Asked, Reads''.Learnt, Reads'.Asked, Reads'.Learnt) Reads.Pre Reads.Post M → Statement.statement M
+  unfolding Code.routine Running.tablesOf
+  close = λ closed 𝓤 H 𝓜 𝓖 𝓡. Written.close 9 Kinds.ps Kinds.r Reads.Ghost Reads.requires Reads.ensures Reads.pre-read Reads.Pinned Reads.Owned Reads.post-read record { M = M; 𝓤 = 𝓤; H = H; 𝓜 = 𝓜; 𝓖 = 𝓖; 𝓡 = 𝓡 } Code.env Key.name Code.function (Code.unfolded 𝓤 H 𝓜 𝓡) (λ κs a g. tt) (λ κs. Reads.owns κs record { M = M; 𝓤 = 𝓤; H = H; 𝓜 = 𝓜; 𝓖 = 𝓖; 𝓡 = 𝓡 })
+      (Reads.passes record { M = M; 𝓤 = 𝓤; H = H; 𝓜 = 𝓜; 𝓖 = 𝓖; 𝓡 = 𝓡 }) λ g. closed 𝓤 H (𝓖 .A) (Running.givenOf 𝓤 H 𝓜 𝓖) (Run.Over 𝓤 H 𝓜 𝓖 𝓡 Code.env) (Reads''.known record { M = M; 𝓤 = 𝓤; H = H; 𝓜 = 𝓜; 𝓖 = 𝓖; 𝓡 = 𝓡 } Code.env Symbol'.name Symbol'.routine Code.calls-records·lent·records (Met'.met 𝓤 H 𝓜 𝓖 𝓡)) (Reads'.known
+      record { M = M; 𝓤 = 𝓤; H = H; 𝓜 = 𝓜; 𝓖 = 𝓖; 𝓡 = 𝓡 } Code.env Symbol.name Symbol.routine Code.calls-conductor·cores·arrive-records (Met.met 𝓤 H 𝓜 𝓖 𝓡))

@@ -1,0 +1,324 @@
+-- `conductor::calls::turn`: Tie, carried over by tools/lend.py. Assumes nothing.
+use Rattle.conductor.proofs.calls.turn.Code
+use Rattle.conductor.proofs.calls.turn.Key
+use Rattle.conductor.proofs.Derived.turn.Kinds
+use Rattle.conductor.proofs.Derived.turn.Lts
+use Rattle.conductor.proofs.Derived.turn.Reads
+use Rattle.conductor.proofs.calls.turn.Statement
+use Rattle.conductor.proofs.cores.is_turned.Met
+use Rattle.conductor.proofs.cores.is_turned.Reads as Reads'
+use Rattle.conductor.proofs.cores.is_turned.Symbol
+use Rattle.conductor.proofs.cores.turn_records.Met as Met'
+use Rattle.conductor.proofs.cores.turn_records.Reads as Reads''
+use Rattle.conductor.proofs.cores.turn_records.Symbol as Symbol'
+use Rattle.records.proofs.lent.flip_if.Met as Met''
+use Rattle.records.proofs.Derived.flip_if.Reads as Reads'3
+use Rattle.records.proofs.lent.flip_if.Symbol as Symbol''
+use Rattle.records.proofs.lent.records.Met as Met'3
+use Rattle.records.proofs.Derived.records.Reads as Reads'4
+use Rattle.records.proofs.lent.records.Symbol as Symbol'3
+use borrow.Fn.Run
+use borrow.Fn.Written
+use contract.Running
+
+abbrev pub Start : Type 0
+Start = Lts.Start (
+  Reads'4.Asked,
+  Reads'4.Learnt,
+  Reads''.Asked,
+  Reads''.Learnt,
+  Reads'.Asked,
+  Reads'.Learnt,
+  Reads'3.Asked,
+  Reads'3.Learnt,
+) Reads.Pre Reads.Post
+
+abbrev pub After-shared-slice-known : Type 0
+After-shared-slice-known = Lts.After-shared-slice-known (
+  Reads'4.Asked,
+  Reads'4.Learnt,
+  Reads''.Asked,
+  Reads''.Learnt,
+  Reads'.Asked,
+  Reads'.Learnt,
+  Reads'3.Asked,
+  Reads'3.Learnt,
+) Reads.Pre Reads.Post
+
+abbrev pub After-shared-slice-known2 : Type 0
+After-shared-slice-known2 = Lts.After-shared-slice-known2 (
+  Reads'4.Asked,
+  Reads'4.Learnt,
+  Reads''.Asked,
+  Reads''.Learnt,
+  Reads'.Asked,
+  Reads'.Learnt,
+  Reads'3.Asked,
+  Reads'3.Learnt,
+) Reads.Pre Reads.Post
+
+abbrev pub After-shared-slice-known3 : Type 0
+After-shared-slice-known3 = Lts.After-shared-slice-known3 (
+  Reads'4.Asked,
+  Reads'4.Learnt,
+  Reads''.Asked,
+  Reads''.Learnt,
+  Reads'.Asked,
+  Reads'.Learnt,
+  Reads'3.Asked,
+  Reads'3.Learnt,
+) Reads.Pre Reads.Post
+
+abbrev pub After-shared-slice-known4 : Type 0
+After-shared-slice-known4 = Lts.After-shared-slice-known4 (
+  Reads'4.Asked,
+  Reads'4.Learnt,
+  Reads''.Asked,
+  Reads''.Learnt,
+  Reads'.Asked,
+  Reads'.Learnt,
+  Reads'3.Asked,
+  Reads'3.Learnt,
+) Reads.Pre Reads.Post
+
+abbrev pub After-shared-slice-known5 : Type 0
+After-shared-slice-known5 = Lts.After-shared-slice-known5 (
+  Reads'4.Asked,
+  Reads'4.Learnt,
+  Reads''.Asked,
+  Reads''.Learnt,
+  Reads'.Asked,
+  Reads'.Learnt,
+  Reads'3.Asked,
+  Reads'3.Learnt,
+) Reads.Pre Reads.Post
+
+abbrev pub After-shared-slice-known6 : Type 0
+After-shared-slice-known6 = Lts.After-shared-slice-known6 (
+  Reads'4.Asked,
+  Reads'4.Learnt,
+  Reads''.Asked,
+  Reads''.Learnt,
+  Reads'.Asked,
+  Reads'.Learnt,
+  Reads'3.Asked,
+  Reads'3.Learnt,
+) Reads.Pre Reads.Post
+
+abbrev pub After-shared-slice-known7 : Type 0
+After-shared-slice-known7 = Lts.After-shared-slice-known7 (
+  Reads'4.Asked,
+  Reads'4.Learnt,
+  Reads''.Asked,
+  Reads''.Learnt,
+  Reads'.Asked,
+  Reads'.Learnt,
+  Reads'3.Asked,
+  Reads'3.Learnt,
+) Reads.Pre Reads.Post
+
+abbrev pub After-shared-slice-known8 : Type 0
+After-shared-slice-known8 = Lts.After-shared-slice-known8 (
+  Reads'4.Asked,
+  Reads'4.Learnt,
+  Reads''.Asked,
+  Reads''.Learnt,
+  Reads'.Asked,
+  Reads'.Learnt,
+  Reads'3.Asked,
+  Reads'3.Learnt,
+) Reads.Pre Reads.Post
+
+abbrev pub After-records-arg : Type 0
+After-records-arg = Lts.After-records-arg (
+  Reads'4.Asked,
+  Reads'4.Learnt,
+  Reads''.Asked,
+  Reads''.Learnt,
+  Reads'.Asked,
+  Reads'.Learnt,
+  Reads'3.Asked,
+  Reads'3.Learnt,
+) Reads.Pre Reads.Post
+
+abbrev pub After-records : Type 0
+After-records = Lts.After-records (
+  Reads'4.Asked,
+  Reads'4.Learnt,
+  Reads''.Asked,
+  Reads''.Learnt,
+  Reads'.Asked,
+  Reads'.Learnt,
+  Reads'3.Asked,
+  Reads'3.Learnt,
+) Reads.Pre Reads.Post
+
+abbrev pub After-turn-records : Type 0
+After-turn-records = Lts.After-turn-records (
+  Reads'4.Asked,
+  Reads'4.Learnt,
+  Reads''.Asked,
+  Reads''.Learnt,
+  Reads'.Asked,
+  Reads'.Learnt,
+  Reads'3.Asked,
+  Reads'3.Learnt,
+) Reads.Pre Reads.Post
+
+abbrev pub After-flip-if-arg : Type 0
+After-flip-if-arg = Lts.After-flip-if-arg (
+  Reads'4.Asked,
+  Reads'4.Learnt,
+  Reads''.Asked,
+  Reads''.Learnt,
+  Reads'.Asked,
+  Reads'.Learnt,
+  Reads'3.Asked,
+  Reads'3.Learnt,
+) Reads.Pre Reads.Post
+
+abbrev pub After-is-turned : Type 0
+After-is-turned = Lts.After-is-turned (
+  Reads'4.Asked,
+  Reads'4.Learnt,
+  Reads''.Asked,
+  Reads''.Learnt,
+  Reads'.Asked,
+  Reads'.Learnt,
+  Reads'3.Asked,
+  Reads'3.Learnt,
+) Reads.Pre Reads.Post
+
+abbrev pub After-flip-if : Type 0
+After-flip-if = Lts.After-flip-if (
+  Reads'4.Asked,
+  Reads'4.Learnt,
+  Reads''.Asked,
+  Reads''.Learnt,
+  Reads'.Asked,
+  Reads'.Learnt,
+  Reads'3.Asked,
+  Reads'3.Learnt,
+) Reads.Pre Reads.Post
+
+abbrev pub After-dependencies : Type 0
+After-dependencies = Lts.After-dependencies (
+  Reads'4.Asked,
+  Reads'4.Learnt,
+  Reads''.Asked,
+  Reads''.Learnt,
+  Reads'.Asked,
+  Reads'.Learnt,
+  Reads'3.Asked,
+  Reads'3.Learnt,
+) Reads.Pre Reads.Post
+
+abbrev pub Need-records-requires : Type 0
+Need-records-requires = Lts.Need-records-requires (
+  Reads'4.Asked,
+  Reads'4.Learnt,
+  Reads''.Asked,
+  Reads''.Learnt,
+  Reads'.Asked,
+  Reads'.Learnt,
+  Reads'3.Asked,
+  Reads'3.Learnt,
+) Reads.Pre Reads.Post
+
+abbrev pub Need-turn-records-requires : Type 0
+Need-turn-records-requires = Lts.Need-turn-records-requires (
+  Reads'4.Asked,
+  Reads'4.Learnt,
+  Reads''.Asked,
+  Reads''.Learnt,
+  Reads'.Asked,
+  Reads'.Learnt,
+  Reads'3.Asked,
+  Reads'3.Learnt,
+) Reads.Pre Reads.Post
+
+abbrev pub Need-is-turned-requires : Type 0
+Need-is-turned-requires = Lts.Need-is-turned-requires (
+  Reads'4.Asked,
+  Reads'4.Learnt,
+  Reads''.Asked,
+  Reads''.Learnt,
+  Reads'.Asked,
+  Reads'.Learnt,
+  Reads'3.Asked,
+  Reads'3.Learnt,
+) Reads.Pre Reads.Post
+
+abbrev pub Need-flip-if-requires : Type 0
+Need-flip-if-requires = Lts.Need-flip-if-requires (
+  Reads'4.Asked,
+  Reads'4.Learnt,
+  Reads''.Asked,
+  Reads''.Learnt,
+  Reads'.Asked,
+  Reads'.Learnt,
+  Reads'3.Asked,
+  Reads'3.Learnt,
+) Reads.Pre Reads.Post
+
+abbrev pub Need-same-length : Type 0
+Need-same-length = Lts.Need-same-length (
+  Reads'4.Asked,
+  Reads'4.Learnt,
+  Reads''.Asked,
+  Reads''.Learnt,
+  Reads'.Asked,
+  Reads'.Learnt,
+  Reads'3.Asked,
+  Reads'3.Learnt,
+) Reads.Pre Reads.Post
+
+abbrev pub Need-returns : Type 0
+Need-returns = Lts.Need-returns (
+  Reads'4.Asked,
+  Reads'4.Learnt,
+  Reads''.Asked,
+  Reads''.Learnt,
+  Reads'.Asked,
+  Reads'.Learnt,
+  Reads'3.Asked,
+  Reads'3.Learnt,
+) Reads.Pre Reads.Post
+
+module _ {M : Type 1} where
+  pub spec : (answer : Need-records-requires) → (answer : Need-turn-records-requires) → (answer : Need-is-turned-requires) → (answer : Need-flip-if-requires) → (answer : Need-same-length) → (answer : Need-returns) → Lts.Closed (
+    Reads'4.Asked,
+    Reads'4.Learnt,
+    Reads''.Asked,
+    Reads''.Learnt,
+    Reads'.Asked,
+    Reads'.Learnt,
+    Reads'3.Asked,
+    Reads'3.Learnt,
+  ) Reads.Pre Reads.Post M
+  spec = λ answer answer' answer'' answer'3 answer'4 answer'5. Lts.spec (
+    Reads'4.Asked,
+    Reads'4.Learnt,
+    Reads''.Asked,
+    Reads''.Learnt,
+    Reads'.Asked,
+    Reads'.Learnt,
+    Reads'3.Asked,
+    Reads'3.Learnt,
+  ) Reads.Pre Reads.Post answer answer' answer'' answer'3 answer'4 answer'5
+
+  pub close : Lts.Closed (
+    Reads'4.Asked,
+    Reads'4.Learnt,
+    Reads''.Asked,
+    Reads''.Learnt,
+    Reads'.Asked,
+    Reads'.Learnt,
+    Reads'3.Asked,
+    Reads'3.Learnt,
+  ) Reads.Pre Reads.Post M → Statement.statement M
+  unfolding Code.routine Running.tablesOf
+  close = λ closed 𝓤 H 𝓜 𝓖 𝓡. Written.close 9 Kinds.ps Kinds.r Reads.Ghost Reads.requires Reads.ensures Reads.pre-read Reads.Pinned Reads.Owned Reads.post-read record { M = M; 𝓤 = 𝓤; H = H; 𝓜 = 𝓜; 𝓖 = 𝓖; 𝓡 = 𝓡 } Code.env Key.name Code.function (Code.unfolded 𝓤 H 𝓜 𝓡) (λ κs a g. tt) (λ κs. Reads.owns κs record { M = M; 𝓤 = 𝓤; H = H; 𝓜 = 𝓜; 𝓖 = 𝓖; 𝓡 = 𝓡 })
+      (Reads.passes record { M = M; 𝓤 = 𝓤; H = H; 𝓜 = 𝓜; 𝓖 = 𝓖; 𝓡 = 𝓡 }) λ g. closed 𝓤 H (𝓖 .A) (Running.givenOf 𝓤 H 𝓜 𝓖) (Run.Over 𝓤 H 𝓜 𝓖 𝓡 Code.env) (Reads'4.known record { M = M; 𝓤 = 𝓤; H = H; 𝓜 = 𝓜; 𝓖 = 𝓖; 𝓡 = 𝓡 } Code.env Symbol'3.name Symbol'3.routine Code.calls-records·lent·records (Met'3.met 𝓤 H 𝓜 𝓖 𝓡)) (Reads''.known
+      record { M = M; 𝓤 = 𝓤; H = H; 𝓜 = 𝓜; 𝓖 = 𝓖; 𝓡 = 𝓡 } Code.env Symbol'.name Symbol'.routine Code.calls-conductor·cores·turn-records (Met'.met 𝓤 H 𝓜 𝓖 𝓡)) (Reads'.known record { M = M; 𝓤 = 𝓤; H = H; 𝓜 = 𝓜; 𝓖 = 𝓖; 𝓡 = 𝓡 } Code.env Symbol.name Symbol.routine Code.calls-conductor·cores·is-turned (Met.met 𝓤 H 𝓜 𝓖 𝓡)) (Reads'3.known
+      record { M = M; 𝓤 = 𝓤; H = H; 𝓜 = 𝓜; 𝓖 = 𝓖; 𝓡 = 𝓡 } Code.env Symbol''.name Symbol''.routine Code.calls-records·lent·flip-if (Met''.met 𝓤 H 𝓜 𝓖 𝓡))

@@ -1,0 +1,63 @@
+-- `conductor::cores::cost_records` meets its contract: its columns are those of the records, so the tables are the same. Assumes nothing.
+use mathlib.Core.Path.{_≡_, refl}
+use Prim.Native.Nat.{_≤_}
+use native.Mathlib.Omega.{arith}
+use lib.ListN.{length}
+use borrow.Kind.Array.{good-length}
+use Rattle.tables.specs.Limits.{limits}
+use Rattle.records.proofs.Row as Rec
+use Rattle.records.proofs.Seen.{tables-spread}
+use Rattle.conductor.proofs.Over.{cost-over, short-cost}
+use borrow.Author.Needs.{needs}
+use Rattle.conductor.proofs.cores.cost_records.Statement.{statement}
+use Rattle.conductor.proofs.cores.cost_records.Tie as tie
+use Rattle.conductor.proofs.cores.cost_records.Reads as reads
+use Rattle.conductor.proofs.cores.cost_records.Lts as lts
+use Rattle.flat.proofs.calls.cost.Reads as cost-reads
+use Rattle.records.proofs.columns.spread.Reads as spread-reads
+
+returns : tie.Need-returns
+returns c = short-cost limits _ (c .before .before .before .before .before .before .before .before .before .args .table) (c .before .before .before .before .before .before .before .before .before .args .n) refl (omega arith)
+
+spread-requires : tie.Need-spread-requires
+spread-requires c κs = search needs
+
+slice-aggregate-cost : tie.Need-slice-aggregate-cost
+slice-aggregate-cost c = search needs
+
+slice-aggregate-cost-2 : tie.Need-slice-aggregate-cost-2
+slice-aggregate-cost-2 c = search needs
+
+slice-aggregate-cost-3 : tie.Need-slice-aggregate-cost-3
+slice-aggregate-cost-3 c = search needs
+
+slice-aggregate-cost-4 : tie.Need-slice-aggregate-cost-4
+slice-aggregate-cost-4 c = search needs
+
+slice-aggregate-cost-5 : tie.Need-slice-aggregate-cost-5
+slice-aggregate-cost-5 c = search needs
+
+cost-requires : tie.Need-cost-requires
+cost-requires c κs = search needs
+
+returns-2 : tie.Need-returns-2
+returns-2 c =
+    let s = c .before .before .before .before .before .before .before .before .before .before .before .before .before .before .before .before .before .before .before .before .before in
+    let size : length (s .args .table) ≡ 2048 = good-length Rec.elem 2048 (s .args .table) _ (s .good .0) in
+    let columns = c .before .before .before .before .before .before .spread .ensures .0 in
+    let full : 2048 ≤ s .args .n = c .before .before .before .before .before .before .before .before .before .before .before .before .if1 .left in
+    cost-over limits (tables-spread limits (s .args .table) (s .args .n) columns size full) (c .cost .ensures)
+
+pub cost-records-spec : {M : Type 1} → statement M
+cost-records-spec =
+    tie.close
+    (tie.spec
+    returns
+    spread-requires
+    slice-aggregate-cost
+    slice-aggregate-cost-2
+    slice-aggregate-cost-3
+    slice-aggregate-cost-4
+    slice-aggregate-cost-5
+    cost-requires
+    returns-2)

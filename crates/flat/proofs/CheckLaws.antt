@@ -1,0 +1,77 @@
+-- The first two refusals by the ways through their code, and what a call then knows: that a table is too small, that the tables are not sound, or that they can be used. Assumes nothing.
+use mathlib.Core.Path.{_≡_, refl, sym, ap, _∙_}
+use mathlib.Core.Bool.{Bool, true, false, not}
+use Prim.Native.Nat.{ℕ}
+use native.Mathlib.Omega.{arith}
+use borrow.Author.Tests.{not-true, not-false}
+use Rattle.below.proofs.Tests.{by-cases}
+use Rattle.tables.specs.Limits.{Limits}
+use Rattle.tables.specs.Tables.{Tables, fullSize}
+use Rattle.sound.specs.Sound.{sound}
+use Rattle.log.specs.CallLog.{Call, refused}
+use Rattle.log.specs.Calls.{step, Answered}
+use Rattle.log.specs.Claims.{Usable}
+use Rattle.log.proofs.Steps.{step-41, step-40}
+use Rattle.flat.specs.declared.calls.TablesCheck.{TablesCheck}
+use Rattle.flat.specs.declared.calls.TablesCheck.the-variants.{Usable as CanBeUsed, TooSmall, NotSound}
+use Rattle.flat.specs.Checking.{checkOf, checkNumber}
+use Rattle.flat.proofs.Answers.{answered}
+
+module _ (L : Limits) (t : Tables) where
+  -- ---- the check's returns
+
+  module _ (f : Bool) (is-f : f ≡ fullSize L t) where
+    pub too-small : not f ≡ true → TooSmall ≡ checkOf L t
+    unfolding checkOf
+    too-small e = rw (sym is-f ∙ not-true f e) refl
+
+    pub full-now : not f ≡ false → fullSize L t ≡ true
+    full-now e = sym is-f ∙ not-false f e
+
+    module _ (s : Bool) (is-s : s ≡ sound L t) where
+      pub not-sound : not f ≡ false → not s ≡ true → NotSound ≡ checkOf L t
+      unfolding checkOf
+      not-sound e k = rw (sym is-f ∙ not-false f e, sym is-s ∙ not-true s k) refl
+
+      pub usable-now : not f ≡ false → not s ≡ false → CanBeUsed ≡ checkOf L t
+      unfolding checkOf
+      usable-now e k = rw (sym is-f ∙ not-false f e, sym is-s ∙ not-false s k) refl
+
+  -- ---- what the check's answer says
+
+  -- an answer that another one would be
+  clash : (x y : TablesCheck) (m n : ℕ) → checkNumber x ≡ m → checkNumber y ≡ n → (m ≡ n → ⊥) → x ≡ y → ⊥
+  clash x y m n p q d e = d (sym p ∙ ap checkNumber e ∙ q)
+
+  module _ (r : TablesCheck) (is-r : r ≡ checkOf L t) where
+    pub says-too-small : r ≡ TooSmall → fullSize L t ≡ false
+    unfolding checkOf
+    says-too-small e = by-cases (fullSize L t)
+        (λ f. by-cases (sound L t)
+        (λ s. absurd (clash TooSmall CanBeUsed 41 0 refl refl (λ z. omega (arith, z)) (sym e ∙ is-r ∙ rw (f, s) refl)))
+        (λ s. absurd (clash TooSmall NotSound 41 40 refl refl (λ z. omega (arith, z)) (sym e ∙ is-r ∙ rw (f, s) refl))))
+        (λ f. f)
+
+    pub says-not-sound : r ≡ NotSound → (fullSize L t ≡ true) × (sound L t ≡ false)
+    unfolding checkOf
+    says-not-sound e = by-cases (fullSize L t)
+        (λ f. by-cases (sound L t)
+        (λ s. absurd (clash NotSound CanBeUsed 40 0 refl refl (λ z. omega (arith, z)) (sym e ∙ is-r ∙ rw (f, s) refl)))
+        (λ s. (f, s)))
+        (λ f. absurd (clash NotSound TooSmall 40 41 refl refl (λ z. omega (arith, z)) (sym e ∙ is-r ∙ rw f refl)))
+
+    pub says-usable : r ≡ CanBeUsed → Usable L t
+    unfolding checkOf
+    says-usable e = by-cases (fullSize L t)
+        (λ f. by-cases (sound L t)
+        (λ s. (f, s))
+        (λ s. absurd (clash CanBeUsed NotSound 0 40 refl refl (λ z. omega (arith, z)) (sym e ∙ is-r ∙ rw (f, s) refl))))
+        (λ f. absurd (clash CanBeUsed TooSmall 0 41 refl refl (λ z. omega (arith, z)) (sym e ∙ is-r ∙ rw f refl)))
+
+    -- ---- the calls that are refused by it
+
+    pub refused-41 : r ≡ TooSmall → (c : Call) → Answered (step L) t c (refused 41) t
+    refused-41 e c = answered (step L) t c (refused 41) t (step-41 L t (says-too-small e) c)
+
+    pub refused-40 : r ≡ NotSound → (c : Call) → Answered (step L) t c (refused 40) t
+    refused-40 e c = let (f, s) = says-not-sound e in answered (step L) t c (refused 40) t (step-40 L t f s c)

@@ -1,0 +1,7 @@
+pub mod Facts
+pub mod Answers
+pub mod WritingLaws
+pub mod CheckLaws
+pub mod Turned
+pub mod TurnAnswers
+pub mod CostLaws

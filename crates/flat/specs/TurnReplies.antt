@@ -1,0 +1,22 @@
+-- Document 01's reply for each case of the answers of turn and cost ("Where each refusal is checked"). Assumes nothing.
+use Rattle.log.specs.CallLog.{Reply, accepted, refused}
+use Rattle.log.specs.Calls.{CostReply, costs, costRefused}
+use Rattle.flat.specs.declared.turn_replies.TurnReply.{TurnReply}
+use Rattle.flat.specs.declared.turn_replies.TurnReply.the-variants as turn
+use Rattle.flat.specs.declared.turn_replies.CostAnswer.{CostAnswer}
+use Rattle.flat.specs.declared.turn_replies.CostAnswer.the-variants as cost
+
+abbrev pub turnMeant : TurnReply → Reply
+turnMeant turn.Turned = accepted
+turnMeant turn.TablesTooSmall = refused 41
+turnMeant turn.NotSound = refused 40
+turnMeant turn.NoDependency = refused 30
+turnMeant turn.Fixed = refused 31
+turnMeant turn.FirstEntered = refused 32
+turnMeant turn.SecondEntered = refused 33
+turnMeant turn.Cycle = refused 34
+
+abbrev pub costMeant : CostAnswer → CostReply
+costMeant (cost.Cost n) = costs n
+costMeant cost.TablesTooSmall = costRefused 41
+costMeant cost.NotSound = costRefused 40

@@ -1,0 +1,420 @@
+// The public calls: 41 a lent table is below full size, then 40 not sound, then the call itself.
+use crate::cores::arrive_sound;
+use crate::cores::grant_sound;
+use crate::cores::write_sound;
+use crate::costing::cost_sound;
+use crate::replies::ArriveReply;
+use crate::replies::GrantReply;
+use crate::replies::WriteReply;
+use crate::turn_replies::CostAnswer;
+use crate::turn_replies::TurnReply;
+use crate::turning::turn_sound;
+use sound::is_sound;
+use tables::sizes::full_size;
+ghost use mathlib.Core.Path.{_≡_};
+ghost use Rattle.tables.specs.Limits.{limits};
+ghost use Rattle.tables.specs.Tables.{tablesOf};
+ghost use Rattle.log.specs.CallLog.{grant as grantOf, arrive as arriveOf, turn as turnOf};
+ghost use Rattle.log.specs.Calls.{step, Answered, costReply};
+ghost use Rattle.flat.specs.Replies.{grantMeant, arriveMeant};
+ghost use Rattle.flat.specs.TurnReplies.{turnMeant, costMeant};
+ghost use Rattle.flat.specs.Checking.{checkOf};
+ghost use Rattle.flat.specs.Writing.{writeMeant, PlanWritten};
+
+// What every call but the reading asks first.
+pub enum TablesCheck {
+    Usable,
+    TooSmall,
+    NotSound,
+}
+
+// "41 a lent table is below full size", then "40 not sound".
+pub fn check_tables(
+    drone_count: &[u16],
+    dependency_count: &[u16],
+    names: &[u8],
+    stop_counts: &[u16],
+    locations: &[u16],
+    times: &[u32],
+    visited: &[u16],
+    drone_flags: &[u8],
+    first_drones: &[u8],
+    first_stops: &[u16],
+    second_drones: &[u8],
+    second_stops: &[u16],
+    flags: &[u8],
+) -> TablesCheck
+    ensures { λ r.
+        ⌜
+        r ≡ checkOf limits (tablesOf
+        (now («drone_count» .entry)) (now («dependency_count» .entry)) (now (names .entry)) (now («stop_counts» .entry))
+        (now (locations .entry)) (now (times .entry)) (now (visited .entry)) (now («drone_flags» .entry))
+        (now («first_drones» .entry)) (now («first_stops» .entry)) (now («second_drones» .entry)) (now («second_stops» .entry))
+        (now (flags .entry)))
+        ⌝ }
+{
+    if !full_size(
+        drone_count,
+        dependency_count,
+        names,
+        stop_counts,
+        locations,
+        times,
+        visited,
+        drone_flags,
+        first_drones,
+        first_stops,
+        second_drones,
+        second_stops,
+        flags,
+    ) {
+        return TablesCheck::TooSmall;
+    }
+    if !is_sound(
+        drone_count,
+        dependency_count,
+        names,
+        stop_counts,
+        locations,
+        times,
+        visited,
+        drone_flags,
+        first_drones,
+        first_stops,
+        second_drones,
+        second_stops,
+        flags,
+    ) {
+        return TablesCheck::NotSound;
+    }
+    TablesCheck::Usable
+}
+
+// "Grant: the drone becomes under way when every dependency into its next stop has the awaited stop visited".
+pub fn grant(
+    drone_count: &[u16],
+    dependency_count: &[u16],
+    names: &[u8],
+    stop_counts: &[u16],
+    locations: &[u16],
+    times: &[u32],
+    visited: &[u16],
+    drone_flags: &mut [u8],
+    first_drones: &[u8],
+    first_stops: &[u16],
+    second_drones: &[u8],
+    second_stops: &[u16],
+    flags: &[u8],
+    drone: usize,
+) -> GrantReply
+    ensures { λ r.
+        ⌜
+        Answered (step limits) (tablesOf
+        (now («drone_count» .entry)) (now («dependency_count» .entry)) (now (names .entry)) (now («stop_counts» .entry))
+        (now (locations .entry)) (now (times .entry)) (now (visited .entry)) (now («drone_flags» .entry))
+        (now («first_drones» .entry)) (now («first_stops» .entry)) (now («second_drones» .entry)) (now («second_stops» .entry))
+        (now (flags .entry)))
+        (grantOf drone) (grantMeant r) (tablesOf
+        (now («drone_count» .entry)) (now («dependency_count» .entry)) (now (names .entry)) (now («stop_counts» .entry))
+        (now (locations .entry)) (now (times .entry)) (now (visited .entry)) (now («drone_flags» .exit))
+        (now («first_drones» .entry)) (now («first_stops» .entry)) (now («second_drones» .entry)) (now («second_stops» .entry))
+        (now (flags .entry)))
+        ⌝ }
+{
+    let check = check_tables(
+        drone_count,
+        dependency_count,
+        names,
+        stop_counts,
+        locations,
+        times,
+        visited,
+        drone_flags,
+        first_drones,
+        first_stops,
+        second_drones,
+        second_stops,
+        flags,
+    );
+    match check {
+        TablesCheck::TooSmall => GrantReply::TablesTooSmall,
+        TablesCheck::NotSound => GrantReply::NotSound,
+        TablesCheck::Usable => grant_sound(
+            drone_count,
+            dependency_count,
+            names,
+            stop_counts,
+            locations,
+            times,
+            visited,
+            drone_flags,
+            first_drones,
+            first_stops,
+            second_drones,
+            second_stops,
+            flags,
+            drone,
+        ),
+    }
+}
+
+// "Arrive: a drone under way has visited its next stop and is no longer under way".
+pub fn arrive(
+    drone_count: &[u16],
+    dependency_count: &[u16],
+    names: &[u8],
+    stop_counts: &[u16],
+    locations: &[u16],
+    times: &[u32],
+    visited: &mut [u16],
+    drone_flags: &mut [u8],
+    first_drones: &[u8],
+    first_stops: &[u16],
+    second_drones: &[u8],
+    second_stops: &[u16],
+    flags: &[u8],
+    drone: usize,
+) -> ArriveReply
+    ensures { λ r.
+        ⌜
+        Answered (step limits) (tablesOf
+        (now («drone_count» .entry)) (now («dependency_count» .entry)) (now (names .entry)) (now («stop_counts» .entry))
+        (now (locations .entry)) (now (times .entry)) (now (visited .entry)) (now («drone_flags» .entry))
+        (now («first_drones» .entry)) (now («first_stops» .entry)) (now («second_drones» .entry)) (now («second_stops» .entry))
+        (now (flags .entry)))
+        (arriveOf drone) (arriveMeant r) (tablesOf
+        (now («drone_count» .entry)) (now («dependency_count» .entry)) (now (names .entry)) (now («stop_counts» .entry))
+        (now (locations .entry)) (now (times .entry)) (now (visited .exit)) (now («drone_flags» .exit))
+        (now («first_drones» .entry)) (now («first_stops» .entry)) (now («second_drones» .entry)) (now («second_stops» .entry))
+        (now (flags .entry)))
+        ⌝ }
+{
+    let check = check_tables(
+        drone_count,
+        dependency_count,
+        names,
+        stop_counts,
+        locations,
+        times,
+        visited,
+        drone_flags,
+        first_drones,
+        first_stops,
+        second_drones,
+        second_stops,
+        flags,
+    );
+    match check {
+        TablesCheck::TooSmall => ArriveReply::TablesTooSmall,
+        TablesCheck::NotSound => ArriveReply::NotSound,
+        TablesCheck::Usable => arrive_sound(
+            drone_count,
+            dependency_count,
+            names,
+            stop_counts,
+            locations,
+            times,
+            visited,
+            drone_flags,
+            first_drones,
+            first_stops,
+            second_drones,
+            second_stops,
+            flags,
+            drone,
+        ),
+    }
+}
+
+// "Turn: flips bit 0 of one dependency".
+pub fn turn(
+    drone_count: &[u16],
+    dependency_count: &[u16],
+    names: &[u8],
+    stop_counts: &[u16],
+    locations: &[u16],
+    times: &[u32],
+    visited: &[u16],
+    drone_flags: &[u8],
+    first_drones: &[u8],
+    first_stops: &[u16],
+    second_drones: &[u8],
+    second_stops: &[u16],
+    flags: &mut [u8],
+    dependency: usize,
+) -> TurnReply
+    ensures { λ r.
+        ⌜
+        Answered (step limits) (tablesOf
+        (now («drone_count» .entry)) (now («dependency_count» .entry)) (now (names .entry)) (now («stop_counts» .entry))
+        (now (locations .entry)) (now (times .entry)) (now (visited .entry)) (now («drone_flags» .entry))
+        (now («first_drones» .entry)) (now («first_stops» .entry)) (now («second_drones» .entry)) (now («second_stops» .entry))
+        (now (flags .entry)))
+        (turnOf dependency) (turnMeant r) (tablesOf
+        (now («drone_count» .entry)) (now («dependency_count» .entry)) (now (names .entry)) (now («stop_counts» .entry))
+        (now (locations .entry)) (now (times .entry)) (now (visited .entry)) (now («drone_flags» .entry))
+        (now («first_drones» .entry)) (now («first_stops» .entry)) (now («second_drones» .entry)) (now («second_stops» .entry))
+        (now (flags .exit)))
+        ⌝ }
+{
+    let check = check_tables(
+        drone_count,
+        dependency_count,
+        names,
+        stop_counts,
+        locations,
+        times,
+        visited,
+        drone_flags,
+        first_drones,
+        first_stops,
+        second_drones,
+        second_stops,
+        flags,
+    );
+    match check {
+        TablesCheck::TooSmall => TurnReply::TablesTooSmall,
+        TablesCheck::NotSound => TurnReply::NotSound,
+        TablesCheck::Usable => turn_sound(
+            drone_count,
+            dependency_count,
+            names,
+            stop_counts,
+            locations,
+            times,
+            visited,
+            drone_flags,
+            first_drones,
+            first_stops,
+            second_drones,
+            second_stops,
+            flags,
+            dependency,
+        ),
+    }
+}
+
+// Writes the text of the plan that the tables hold: "42 buffer shorter than the text".
+pub fn write_plan(
+    buf: &mut [u8],
+    drone_count: &[u16],
+    dependency_count: &[u16],
+    names: &[u8],
+    stop_counts: &[u16],
+    locations: &[u16],
+    times: &[u32],
+    visited: &[u16],
+    drone_flags: &[u8],
+    first_drones: &[u8],
+    first_stops: &[u16],
+    second_drones: &[u8],
+    second_stops: &[u16],
+    flags: &[u8],
+) -> WriteReply
+    ensures { λ r.
+        ⌜
+        PlanWritten limits (tablesOf
+        (now («drone_count» .entry)) (now («dependency_count» .entry)) (now (names .entry)) (now («stop_counts» .entry))
+        (now (locations .entry)) (now (times .entry)) (now (visited .entry)) (now («drone_flags» .entry))
+        (now («first_drones» .entry)) (now («first_stops» .entry)) (now («second_drones» .entry)) (now («second_stops» .entry))
+        (now (flags .entry)))
+        (now (buf .entry)) (now (buf .exit)) (writeMeant r)
+        ⌝ }
+{
+    let check = check_tables(
+        drone_count,
+        dependency_count,
+        names,
+        stop_counts,
+        locations,
+        times,
+        visited,
+        drone_flags,
+        first_drones,
+        first_stops,
+        second_drones,
+        second_stops,
+        flags,
+    );
+    match check {
+        TablesCheck::TooSmall => WriteReply::TablesTooSmall,
+        TablesCheck::NotSound => WriteReply::NotSound,
+        TablesCheck::Usable => write_sound(
+            buf,
+            drone_count,
+            dependency_count,
+            names,
+            stop_counts,
+            locations,
+            times,
+            visited,
+            drone_flags,
+            first_drones,
+            first_stops,
+            second_drones,
+            second_stops,
+            flags,
+        ),
+    }
+}
+
+// "Remaining cost is their sum": of the drones' remaining rounds, with the order now in force. It changes nothing.
+pub fn cost(
+    drone_count: &[u16],
+    dependency_count: &[u16],
+    names: &[u8],
+    stop_counts: &[u16],
+    locations: &[u16],
+    times: &[u32],
+    visited: &[u16],
+    drone_flags: &[u8],
+    first_drones: &[u8],
+    first_stops: &[u16],
+    second_drones: &[u8],
+    second_stops: &[u16],
+    flags: &[u8],
+) -> CostAnswer
+    ensures { λ r.
+        ⌜
+        costMeant r ≡ costReply limits (tablesOf
+        (now («drone_count» .entry)) (now («dependency_count» .entry)) (now (names .entry)) (now («stop_counts» .entry))
+        (now (locations .entry)) (now (times .entry)) (now (visited .entry)) (now («drone_flags» .entry))
+        (now («first_drones» .entry)) (now («first_stops» .entry)) (now («second_drones» .entry)) (now («second_stops» .entry))
+        (now (flags .entry)))
+        ⌝ }
+{
+    let check = check_tables(
+        drone_count,
+        dependency_count,
+        names,
+        stop_counts,
+        locations,
+        times,
+        visited,
+        drone_flags,
+        first_drones,
+        first_stops,
+        second_drones,
+        second_stops,
+        flags,
+    );
+    match check {
+        TablesCheck::TooSmall => CostAnswer::TablesTooSmall,
+        TablesCheck::NotSound => CostAnswer::NotSound,
+        TablesCheck::Usable => CostAnswer::Cost(cost_sound(
+            drone_count,
+            dependency_count,
+            names,
+            stop_counts,
+            locations,
+            times,
+            visited,
+            drone_flags,
+            first_drones,
+            first_stops,
+            second_drones,
+            second_stops,
+            flags,
+        )),
+    }
+}
