@@ -1,30 +1,37 @@
 -- Answers carried from tables to equal ones, and the refusal of a lent table of records that is too short.
 --     answered-over, written-over, read-over, turn-over, cost-over    the same answer over equal tables
 --     short-answered, short-written, short-read, short-turn, short-cost    41 of a table of fewer than the full number of records
---     turn-answered    a turn that flips its record where it lies
+--     turn-answered, turn-rest    a turn that flips its record where it lies, and nothing past the full size
 -- Assumes nothing.
 use mathlib.Core.Path.{_≡_, refl, sym, ap, _∙_}
-use mathlib.Core.Bool.{Bool, true, false, cond}
+use mathlib.Core.Bool.{Bool, true, false, cond, false≢true}
 use mathlib.Core.List.{List}
 use Prim.Native.Nat.{ℕ, _<_}
 use native.Mathlib.Omega.{arith}
-use lib.ListN.{take, length-take}
+use lib.Dec.{leb}
+use lib.ListN.{take, drop, length-take}
+use lib.Seq.{drop-set-lt}
+use borrow.Author.Tests.{leb-true, leb-false}
+use Rattle.below.proofs.Tests.{by-cases}
 use Rattle.tables.specs.Limits.{Limits}
-use Rattle.tables.specs.Tables.{Tables}
+use Rattle.tables.specs.Tables.{Tables, dependencies, fullSize}
+use Rattle.tables.specs.Entries.{flipDependency}
 use Rattle.tables.specs.declared.entries.Dependency.{Dependency}
+use Rattle.sound.specs.Sound.{sound}
 use Rattle.log.specs.CallLog.{Call, turn, Reply, refused, isAccepted}
 use Rattle.log.specs.Calls.{Answer, step, turnStep, flipped, Answered, CostReply, costRefused, costReply}
-use Rattle.log.proofs.Steps.{step-41}
+use Rattle.log.proofs.Steps.{step-41, step-40, turn-30}
 use Rattle.reading.specs.Reading.{AnsweredAs, readPlan}
 use Rattle.reading.specs.declared.replies.Reading.{Reading}
 use Rattle.reading.specs.declared.replies.Reading.the-variants.{Refused}
 use Rattle.reading.specs.declared.replies.Refusal.the-variants.{TablesTooSmall}
 use Rattle.reading.proofs.EntryCases.{tables-small}
 use Rattle.flat.specs.Writing.{Writing, writeRefused, writes, bufferLeft, PlanWritten}
+use Rattle.flat.proofs.Facts.{facts}
 use Rattle.flat.proofs.Answers.{answered}
 use Rattle.flat.proofs.CostLaws.{costs-41}
 use Rattle.flat.proofs.WritingLaws.{writes-41}
-use Rattle.records.specs.Records.{seen, flagsOf, flipIf, tablesOfRecords}
+use Rattle.records.specs.Records.{recordAt, seen, flagsOf, flipIf, tablesOfRecords}
 use Rattle.records.proofs.Flips.{seen-flip, field-stays, flags-flip}
 use Rattle.records.proofs.Seen.{tables-short}
 
@@ -88,3 +95,23 @@ module _ (L : Limits) where
     pub turn-answered : (ds after : List Dependency) (w : ℕ) (r : Reply) → r ≡ step L (tablesOfRecords L droneCount dependencyCount names stopCounts locations times visited droneFlags ds) (turn w) .reply → after ≡ flipIf (isAccepted r) w ds → Answered (step L) (tablesOfRecords L droneCount dependencyCount names stopCounts locations times visited droneFlags ds) (turn w) r (tablesOfRecords L droneCount dependencyCount names stopCounts locations times visited droneFlags after)
     unfolding turnStep
     turn-answered ds after w r e f = record { replied = e; left = rw f (flip-left (isAccepted r) ds w ∙ rw e refl) }
+
+  -- a reply that is not accepted does not say that it is
+  clash : (t : Tables) (c : Call) (n : ℕ) → step L t c ≡ record { reply = refused n; tables = t } → isAccepted (step L t c .reply) ≡ true → ⊥
+  clash t c n e a = false≢true (sym (ap (λ (x : Answer). isAccepted (x .reply)) e) ∙ a)
+
+  -- a turn that is accepted names a dependency below the full size
+  pub turn-within : (t : Tables) (w : ℕ) → isAccepted (step L t (turn w) .reply) ≡ true → w < L .dependencies
+  turn-within t w a = by-cases (fullSize L t)
+      (λ f. by-cases (sound L t)
+      (λ s. by-cases (leb (dependencies (t .plan)) w)
+      (λ b. absurd (clash t (turn w) 30 (turn-30 L t f s w (leb-true (dependencies (t .plan)) w b)) a))
+      (λ b. let l : w < dependencies (t .plan) = leb-false (dependencies (t .plan)) w b in omega (arith, l, facts L t (f, s) .dependencies-few)))
+      (λ s. absurd (clash t (turn w) 40 (step-40 L t f s (turn w)) a)))
+      (λ f. absurd (clash t (turn w) 41 (step-41 L t f (turn w)) a))
+
+  -- so nothing past the full size changes
+  pub turn-rest : (t : Tables) (ds after : List Dependency) (w : ℕ) (r : Reply) → r ≡ step L t (turn w) .reply → after ≡ flipIf (isAccepted r) w ds → drop (L .dependencies) after ≡ drop (L .dependencies) ds
+  turn-rest t ds after w r e f = by-cases (isAccepted r)
+      (λ b. ap (drop (L .dependencies)) (f ∙ ap (λ (x : Bool). flipIf x w ds) b) ∙ drop-set-lt (L .dependencies) ds w (flipDependency (recordAt ds w)) (turn-within t w (sym (ap isAccepted e) ∙ b)))
+      (λ b. ap (drop (L .dependencies)) (f ∙ ap (λ (x : Bool). flipIf x w ds) b))

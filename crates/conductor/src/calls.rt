@@ -134,6 +134,7 @@ pub fn turn(
         (now (dependencies .exit)))
         ⌝ }
     ensures { λ r. ⌜ now (dependencies .exit) ≡ flipIf (isAccepted (turnMeant r)) dependency (now (dependencies .entry)) ⌝ }
+    ensures { λ _. ⌜ drop (limits .dependencies) (now (dependencies .exit)) ≡ drop (limits .dependencies) (now (dependencies .entry)) ⌝ }
 {
     let n = dependencies.len();
     let reply = turn_records(

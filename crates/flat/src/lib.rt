@@ -1,4 +1,4 @@
-// The conductor's public calls over lent tables.
+// The calls' core: over lent tables whose dependencies are flat columns of numbers.
 pub mod calls;
 pub mod cores;
 pub mod costing;

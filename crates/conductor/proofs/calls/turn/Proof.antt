@@ -6,7 +6,7 @@ use Rattle.tables.specs.Limits.{limits}
 use Rattle.flat.specs.TurnReplies.{turnMeant}
 use Rattle.records.specs.Records.{flipIf}
 use Rattle.records.proofs.Seen.{tables-copied}
-use Rattle.conductor.proofs.Over.{turn-over, turn-answered}
+use Rattle.conductor.proofs.Over.{turn-over, turn-answered, turn-rest}
 use borrow.Author.Needs.{needs}
 use Rattle.conductor.proofs.calls.turn.Statement.{statement}
 use Rattle.conductor.proofs.calls.turn.Proof.Tie as tie
@@ -34,8 +34,10 @@ returns c =
     let reply = c .before .before .before .before .turn-records in
     let turns = c .before .before .is-turned in
     let replied = turn-over limits (s .args .dependency) (tables-copied limits (s .args .dependencies .now) _ _ refl (c .before .before .before .before .before .records .ensures)) (reply .ensures) in
-    let flipped = c .before .flip-if .ensures ∙ ap (λ (b : Bool). flipIf b (s .args .dependency) (s .args .dependencies .now)) (turns .ensures) in
-    (turn-answered limits (s .args .dependencies .now) _ (s .args .dependency) (turnMeant (reply .result)) replied flipped, flipped)
+    let flipped = c .before .flip-if .ensures ∙ ap (λ (b : Bool). flipIf b (s .args .dependency) (s .args .dependencies .now)) (turns .ensures) in (
+      turn-answered limits (s .args .dependencies .now) _ (s .args .dependency) (turnMeant (reply .result)) replied flipped,
+      (flipped, turn-rest limits _ (s .args .dependencies .now) _ (s .args .dependency) (turnMeant (reply .result)) replied flipped),
+    )
 
 pub turn-spec : {M : Type 1} → statement M
 turn-spec =
