@@ -1,3 +1,4 @@
+-- What the answer holds fits, since it was asked.
 use native.Mathlib.Omega.{arith}
 use Rattle.dispatch.proofs.MakeLaws.{value-fits}
 use borrow.Author.Needs.{needs}

@@ -1,3 +1,4 @@
+-- What the reply holds fits, since it was asked.
 use native.Mathlib.Omega.{arith}
 use Rattle.dispatch.proofs.MakeLaws.{dependency-fits}
 use borrow.Author.Needs.{needs}

@@ -1,3 +1,4 @@
+-- The tables of requests and answers have the room that is asked.
 use Rattle.dispatch.proofs.ProgramLaws.{transcribed}
 use borrow.Author.Needs.{needs}
 use Rattle.dispatch.proofs.program.transcript.Statement.{statement}
