@@ -24,5 +24,16 @@ pub fn stop_order(
     let mut pos = [0u16; 1024];
     link(from, into, m, &mut need, head, next);
     seed(starts, drones, &mut need, order);
-    number(n, from, into, m, head, next, &mut need, order, drones, &mut pos)
+    number(
+        n,
+        from,
+        into,
+        m,
+        head,
+        next,
+        &mut need,
+        order,
+        drones,
+        &mut pos,
+    )
 }

@@ -6,19 +6,23 @@ pub const EMPTY: [u8; 0] = [];
 
 pub const DRONES_32_TITLE: [u8; 9] = *b"32 drones";
 
-pub const DRONES_32: [u8; 752] = *b"plan=1\nagents=32\nname=a\nstops=1\ngo=0@0\nname=b\nstops=1\ngo=1@0\nname=c\nstops=1\ngo=2@0\nname=d\nstops=1\ngo=3@0\nname=e\nstops=1\ngo=4@0\nname=f\nstops=1\ngo=5@0\nname=g\nstops=1\ngo=6@0\nname=h\nstops=1\ngo=7@0\nname=i\nstops=1\ngo=8@0\nname=j\nstops=1\ngo=9@0\nname=k\nstops=1\ngo=10@0\nname=l\nstops=1\ngo=11@0\nname=m\nstops=1\ngo=12@0\nname=n\nstops=1\ngo=13@0\nname=o\nstops=1\ngo=14@0\nname=p\nstops=1\ngo=15@0\nname=q\nstops=1\ngo=16@0\nname=r\nstops=1\ngo=17@0\nname=s\nstops=1\ngo=18@0\nname=t\nstops=1\ngo=19@0\nname=u\nstops=1\ngo=20@0\nname=v\nstops=1\ngo=21@0\nname=w\nstops=1\ngo=22@0\nname=x\nstops=1\ngo=23@0\nname=y\nstops=1\ngo=24@0\nname=z\nstops=1\ngo=25@0\nname=0\nstops=1\ngo=26@0\nname=1\nstops=1\ngo=27@0\nname=2\nstops=1\ngo=28@0\nname=3\nstops=1\ngo=29@0\nname=4\nstops=1\ngo=30@0\nname=5\nstops=1\ngo=31@0\nend=plan\n";
+pub const DRONES_32: [u8; 752] =
+    *b"plan=1\nagents=32\nname=a\nstops=1\ngo=0@0\nname=b\nstops=1\ngo=1@0\nname=c\nstops=1\ngo=2@0\nname=d\nstops=1\ngo=3@0\nname=e\nstops=1\ngo=4@0\nname=f\nstops=1\ngo=5@0\nname=g\nstops=1\ngo=6@0\nname=h\nstops=1\ngo=7@0\nname=i\nstops=1\ngo=8@0\nname=j\nstops=1\ngo=9@0\nname=k\nstops=1\ngo=10@0\nname=l\nstops=1\ngo=11@0\nname=m\nstops=1\ngo=12@0\nname=n\nstops=1\ngo=13@0\nname=o\nstops=1\ngo=14@0\nname=p\nstops=1\ngo=15@0\nname=q\nstops=1\ngo=16@0\nname=r\nstops=1\ngo=17@0\nname=s\nstops=1\ngo=18@0\nname=t\nstops=1\ngo=19@0\nname=u\nstops=1\ngo=20@0\nname=v\nstops=1\ngo=21@0\nname=w\nstops=1\ngo=22@0\nname=x\nstops=1\ngo=23@0\nname=y\nstops=1\ngo=24@0\nname=z\nstops=1\ngo=25@0\nname=0\nstops=1\ngo=26@0\nname=1\nstops=1\ngo=27@0\nname=2\nstops=1\ngo=28@0\nname=3\nstops=1\ngo=29@0\nname=4\nstops=1\ngo=30@0\nname=5\nstops=1\ngo=31@0\nend=plan\n";
 
 pub const DRONES_33_TITLE: [u8; 9] = *b"33 drones";
 
-pub const DRONES_33: [u8; 775] = *b"plan=1\nagents=33\nname=a\nstops=1\ngo=0@0\nname=b\nstops=1\ngo=1@0\nname=c\nstops=1\ngo=2@0\nname=d\nstops=1\ngo=3@0\nname=e\nstops=1\ngo=4@0\nname=f\nstops=1\ngo=5@0\nname=g\nstops=1\ngo=6@0\nname=h\nstops=1\ngo=7@0\nname=i\nstops=1\ngo=8@0\nname=j\nstops=1\ngo=9@0\nname=k\nstops=1\ngo=10@0\nname=l\nstops=1\ngo=11@0\nname=m\nstops=1\ngo=12@0\nname=n\nstops=1\ngo=13@0\nname=o\nstops=1\ngo=14@0\nname=p\nstops=1\ngo=15@0\nname=q\nstops=1\ngo=16@0\nname=r\nstops=1\ngo=17@0\nname=s\nstops=1\ngo=18@0\nname=t\nstops=1\ngo=19@0\nname=u\nstops=1\ngo=20@0\nname=v\nstops=1\ngo=21@0\nname=w\nstops=1\ngo=22@0\nname=x\nstops=1\ngo=23@0\nname=y\nstops=1\ngo=24@0\nname=z\nstops=1\ngo=25@0\nname=0\nstops=1\ngo=26@0\nname=1\nstops=1\ngo=27@0\nname=2\nstops=1\ngo=28@0\nname=3\nstops=1\ngo=29@0\nname=4\nstops=1\ngo=30@0\nname=5\nstops=1\ngo=31@0\nname=6\nstops=1\ngo=32@0\nend=plan\n";
+pub const DRONES_33: [u8; 775] =
+    *b"plan=1\nagents=33\nname=a\nstops=1\ngo=0@0\nname=b\nstops=1\ngo=1@0\nname=c\nstops=1\ngo=2@0\nname=d\nstops=1\ngo=3@0\nname=e\nstops=1\ngo=4@0\nname=f\nstops=1\ngo=5@0\nname=g\nstops=1\ngo=6@0\nname=h\nstops=1\ngo=7@0\nname=i\nstops=1\ngo=8@0\nname=j\nstops=1\ngo=9@0\nname=k\nstops=1\ngo=10@0\nname=l\nstops=1\ngo=11@0\nname=m\nstops=1\ngo=12@0\nname=n\nstops=1\ngo=13@0\nname=o\nstops=1\ngo=14@0\nname=p\nstops=1\ngo=15@0\nname=q\nstops=1\ngo=16@0\nname=r\nstops=1\ngo=17@0\nname=s\nstops=1\ngo=18@0\nname=t\nstops=1\ngo=19@0\nname=u\nstops=1\ngo=20@0\nname=v\nstops=1\ngo=21@0\nname=w\nstops=1\ngo=22@0\nname=x\nstops=1\ngo=23@0\nname=y\nstops=1\ngo=24@0\nname=z\nstops=1\ngo=25@0\nname=0\nstops=1\ngo=26@0\nname=1\nstops=1\ngo=27@0\nname=2\nstops=1\ngo=28@0\nname=3\nstops=1\ngo=29@0\nname=4\nstops=1\ngo=30@0\nname=5\nstops=1\ngo=31@0\nname=6\nstops=1\ngo=32@0\nend=plan\n";
 
 pub const NAME_24_TITLE: [u8; 16] = *b"name of 24 bytes";
 
-pub const NAME_24: [u8; 70] = *b"plan=1\nagents=1\nname=survey-quad-east-0000001\nstops=1\ngo=1@0\nend=plan\n";
+pub const NAME_24: [u8; 70] =
+    *b"plan=1\nagents=1\nname=survey-quad-east-0000001\nstops=1\ngo=1@0\nend=plan\n";
 
 pub const NAME_25_TITLE: [u8; 16] = *b"name of 25 bytes";
 
-pub const NAME_25: [u8; 71] = *b"plan=1\nagents=1\nname=survey-quad-east-00000012\nstops=1\ngo=1@0\nend=plan\n";
+pub const NAME_25: [u8; 71] =
+    *b"plan=1\nagents=1\nname=survey-quad-east-00000012\nstops=1\ngo=1@0\nend=plan\n";
 
 pub const LOCATION_TOP_TITLE: [u8; 14] = *b"location 65535";
 
@@ -30,14 +34,17 @@ pub const LOCATION_OVER: [u8; 51] = *b"plan=1\nagents=1\nname=a\nstops=1\ngo=655
 
 pub const TIME_TOP_TITLE: [u8; 12] = *b"time 1000000";
 
-pub const TIME_TOP: [u8; 60] = *b"plan=1\nagents=1\nname=a\nstops=2\ngo=1@0\ngo=2@1000000\nend=plan\n";
+pub const TIME_TOP: [u8; 60] =
+    *b"plan=1\nagents=1\nname=a\nstops=2\ngo=1@0\ngo=2@1000000\nend=plan\n";
 
 pub const TIME_OVER_TITLE: [u8; 12] = *b"time 1000001";
 
-pub const TIME_OVER: [u8; 60] = *b"plan=1\nagents=1\nname=a\nstops=2\ngo=1@0\ngo=2@1000001\nend=plan\n";
+pub const TIME_OVER: [u8; 60] =
+    *b"plan=1\nagents=1\nname=a\nstops=2\ngo=1@0\ngo=2@1000001\nend=plan\n";
 
 pub const EIGHTEENTH_TITLE: [u8; 40] = *b"names that differ in the eighteenth byte";
 
-pub const EIGHTEENTH: [u8; 103] = *b"plan=1\nagents=2\nname=survey-quad-east-1\nstops=1\ngo=1@0\nname=survey-quad-east-2\nstops=1\ngo=2@0\nend=plan\n";
+pub const EIGHTEENTH: [u8; 103] =
+    *b"plan=1\nagents=2\nname=survey-quad-east-1\nstops=1\ngo=1@0\nname=survey-quad-east-2\nstops=1\ngo=2@0\nend=plan\n";
 
 pub const LONG_TITLE: [u8; 19] = *b"text of 32769 bytes";

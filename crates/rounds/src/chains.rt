@@ -10,11 +10,11 @@ ghost use Rattle.precedence.specs.Graph.{cost};
 ghost use Rattle.cycles.specs.Flat.{flatPlan};
 ghost use Rattle.rounds.specs.Remaining.{Ready, StopIn, WaitsIn, stopRounds};
 ghost use Rattle.rounds.specs.StopTable.{latestAwaited, roundAfter, Passable, Passed, SamePast, Solved};
-use cycles::order::stop_order;
-use cycles::casts::wide;
-use cycles::casts::wide8;
 use cycles::casts::edge;
 use cycles::casts::get;
+use cycles::casts::wide;
+use cycles::casts::wide8;
+use cycles::order::stop_order;
 
 // For each stop the greatest entry among those that its waits await.
 fn latest_awaited(
@@ -202,7 +202,15 @@ fn first_table(
     let mut next = [0u16; 2048];
     let mut order = [0u16; 1024];
     let count = stop_order(
-        starts, drones, n, from, into, m, &mut order, &mut head, &mut next,
+        starts,
+        drones,
+        n,
+        from,
+        into,
+        m,
+        &mut order,
+        &mut head,
+        &mut next,
     );
     let mut table = [0u64; 1024];
     fill_in_order(

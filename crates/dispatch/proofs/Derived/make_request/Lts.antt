@@ -1,16 +1,16 @@
 -- `dispatch::requests::make_request`: Lts, carried over by tools/lend.py. Assumes nothing.
 use Rattle.records.proofs.Row as Rec
 use Prim.Native.Nat
-use Rattle.flat.proofs.replies.ArriveReply
-use Rattle.flat.proofs.replies.ArriveReply.Laws
-use Rattle.flat.proofs.replies.GrantReply
-use Rattle.flat.proofs.replies.GrantReply.Laws as Laws'
-use Rattle.flat.proofs.turn_replies.CostAnswer
-use Rattle.flat.proofs.turn_replies.CostAnswer.Laws as Laws''
-use Rattle.flat.proofs.turn_replies.TurnReply
-use Rattle.flat.proofs.turn_replies.TurnReply.Laws as Laws'3
 use Rattle.dispatch.proofs.answers.Answered
-use Rattle.dispatch.proofs.answers.Answered.Laws as Laws'4
+use Rattle.dispatch.proofs.answers.Answered.Laws
+use Rattle.flat.proofs.replies.ArriveReply
+use Rattle.flat.proofs.replies.ArriveReply.Laws as Laws'
+use Rattle.flat.proofs.replies.GrantReply
+use Rattle.flat.proofs.replies.GrantReply.Laws as Laws''
+use Rattle.flat.proofs.turn_replies.CostAnswer
+use Rattle.flat.proofs.turn_replies.CostAnswer.Laws as Laws'3
+use Rattle.flat.proofs.turn_replies.TurnReply
+use Rattle.flat.proofs.turn_replies.TurnReply.Laws as Laws'4
 use borrow.Author.Called
 use borrow.Author.Tests
 use borrow.Fn.Any
@@ -109,16 +109,16 @@ abbrev ty·15 : Syntax.Ty
 ty·15 = Syntax.tyStruct (List._∷_ 100 (List._∷_ 105 (List._∷_ 115 (List._∷_ 112 (List._∷_ 97 (List._∷_ 116 (List._∷_ 99 (List._∷_ 104 (List._∷_ 58 (List._∷_ 58 (List._∷_ 97 (List._∷_ 110 (List._∷_ 115 (List._∷_ 119 (List._∷_ 101 (List._∷_ 114 (List._∷_ 115 (List._∷_ 58 (List._∷_ 58 (List._∷_ 65 (List._∷_ 110 (List._∷_ 115 (List._∷_ 119 (List._∷_ 101 (List._∷_ 114 (List._∷_ 101 (List._∷_ 100 List.[]))))))))))))))))))))))))))) (Syntax.tcons (Syntax.tyInt Syntax.w16) (Syntax.tcons (Syntax.tyInt Syntax.w32) Syntax.tnil))
 
 abbrev ty·16 : Syntax.Ty
-ty·16 = Syntax.tyEnum (List._∷_ 99 (List._∷_ 111 (List._∷_ 110 (List._∷_ 100 (List._∷_ 117 (List._∷_ 99 (List._∷_ 116 (List._∷_ 111 (List._∷_ 114 (List._∷_ 58 (List._∷_ 58 (List._∷_ 114 (List._∷_ 101 (List._∷_ 112 (List._∷_ 108 (List._∷_ 105 (List._∷_ 101 (List._∷_ 115 (List._∷_ 58 (List._∷_ 58 (List._∷_ 65 (List._∷_ 114 (List._∷_ 114 (List._∷_ 105 (List._∷_ 118 (List._∷_ 101 (List._∷_ 82 (List._∷_ 101 (List._∷_ 112 (List._∷_ 108 (List._∷_ 121 List.[]))))))))))))))))))))))))))))))) (Syntax.ttcons Syntax.tnil (Syntax.ttcons Syntax.tnil (Syntax.ttcons Syntax.tnil (Syntax.ttcons Syntax.tnil (Syntax.ttcons Syntax.tnil Syntax.ttnil)))))
+ty·16 = Syntax.tyEnum (List._∷_ 102 (List._∷_ 108 (List._∷_ 97 (List._∷_ 116 (List._∷_ 58 (List._∷_ 58 (List._∷_ 114 (List._∷_ 101 (List._∷_ 112 (List._∷_ 108 (List._∷_ 105 (List._∷_ 101 (List._∷_ 115 (List._∷_ 58 (List._∷_ 58 (List._∷_ 65 (List._∷_ 114 (List._∷_ 114 (List._∷_ 105 (List._∷_ 118 (List._∷_ 101 (List._∷_ 82 (List._∷_ 101 (List._∷_ 112 (List._∷_ 108 (List._∷_ 121 List.[])))))))))))))))))))))))))) (Syntax.ttcons Syntax.tnil (Syntax.ttcons Syntax.tnil (Syntax.ttcons Syntax.tnil (Syntax.ttcons Syntax.tnil (Syntax.ttcons Syntax.tnil Syntax.ttnil)))))
 
 abbrev ty·17 : Syntax.Ty
-ty·17 = Syntax.tyEnum (List._∷_ 99 (List._∷_ 111 (List._∷_ 110 (List._∷_ 100 (List._∷_ 117 (List._∷_ 99 (List._∷_ 116 (List._∷_ 111 (List._∷_ 114 (List._∷_ 58 (List._∷_ 58 (List._∷_ 116 (List._∷_ 117 (List._∷_ 114 (List._∷_ 110 (List._∷_ 95 (List._∷_ 114 (List._∷_ 101 (List._∷_ 112 (List._∷_ 108 (List._∷_ 105 (List._∷_ 101 (List._∷_ 115 (List._∷_ 58 (List._∷_ 58 (List._∷_ 67 (List._∷_ 111 (List._∷_ 115 (List._∷_ 116 (List._∷_ 65 (List._∷_ 110 (List._∷_ 115 (List._∷_ 119 (List._∷_ 101 (List._∷_ 114 List.[]))))))))))))))))))))))))))))))))))) (Syntax.ttcons (Syntax.tcons (Syntax.tyInt Syntax.w64) Syntax.tnil) (Syntax.ttcons Syntax.tnil (Syntax.ttcons Syntax.tnil Syntax.ttnil)))
+ty·17 = Syntax.tyEnum (List._∷_ 102 (List._∷_ 108 (List._∷_ 97 (List._∷_ 116 (List._∷_ 58 (List._∷_ 58 (List._∷_ 116 (List._∷_ 117 (List._∷_ 114 (List._∷_ 110 (List._∷_ 95 (List._∷_ 114 (List._∷_ 101 (List._∷_ 112 (List._∷_ 108 (List._∷_ 105 (List._∷_ 101 (List._∷_ 115 (List._∷_ 58 (List._∷_ 58 (List._∷_ 67 (List._∷_ 111 (List._∷_ 115 (List._∷_ 116 (List._∷_ 65 (List._∷_ 110 (List._∷_ 115 (List._∷_ 119 (List._∷_ 101 (List._∷_ 114 List.[])))))))))))))))))))))))))))))) (Syntax.ttcons (Syntax.tcons (Syntax.tyInt Syntax.w64) Syntax.tnil) (Syntax.ttcons Syntax.tnil (Syntax.ttcons Syntax.tnil Syntax.ttnil)))
 
 abbrev ty·18 : Syntax.Ty
-ty·18 = Syntax.tyEnum (List._∷_ 99 (List._∷_ 111 (List._∷_ 110 (List._∷_ 100 (List._∷_ 117 (List._∷_ 99 (List._∷_ 116 (List._∷_ 111 (List._∷_ 114 (List._∷_ 58 (List._∷_ 58 (List._∷_ 114 (List._∷_ 101 (List._∷_ 112 (List._∷_ 108 (List._∷_ 105 (List._∷_ 101 (List._∷_ 115 (List._∷_ 58 (List._∷_ 58 (List._∷_ 71 (List._∷_ 114 (List._∷_ 97 (List._∷_ 110 (List._∷_ 116 (List._∷_ 82 (List._∷_ 101 (List._∷_ 112 (List._∷_ 108 (List._∷_ 121 List.[])))))))))))))))))))))))))))))) (Syntax.ttcons Syntax.tnil (Syntax.ttcons Syntax.tnil (Syntax.ttcons Syntax.tnil (Syntax.ttcons Syntax.tnil (Syntax.ttcons Syntax.tnil (Syntax.ttcons Syntax.tnil (Syntax.ttcons (Syntax.tcons (Syntax.tyInt Syntax.w64) Syntax.tnil) Syntax.ttnil)))))))
+ty·18 = Syntax.tyEnum (List._∷_ 102 (List._∷_ 108 (List._∷_ 97 (List._∷_ 116 (List._∷_ 58 (List._∷_ 58 (List._∷_ 114 (List._∷_ 101 (List._∷_ 112 (List._∷_ 108 (List._∷_ 105 (List._∷_ 101 (List._∷_ 115 (List._∷_ 58 (List._∷_ 58 (List._∷_ 71 (List._∷_ 114 (List._∷_ 97 (List._∷_ 110 (List._∷_ 116 (List._∷_ 82 (List._∷_ 101 (List._∷_ 112 (List._∷_ 108 (List._∷_ 121 List.[]))))))))))))))))))))))))) (Syntax.ttcons Syntax.tnil (Syntax.ttcons Syntax.tnil (Syntax.ttcons Syntax.tnil (Syntax.ttcons Syntax.tnil (Syntax.ttcons Syntax.tnil (Syntax.ttcons Syntax.tnil (Syntax.ttcons (Syntax.tcons (Syntax.tyInt Syntax.w64) Syntax.tnil) Syntax.ttnil)))))))
 
 abbrev ty·19 : Syntax.Ty
-ty·19 = Syntax.tyEnum (List._∷_ 99 (List._∷_ 111 (List._∷_ 110 (List._∷_ 100 (List._∷_ 117 (List._∷_ 99 (List._∷_ 116 (List._∷_ 111 (List._∷_ 114 (List._∷_ 58 (List._∷_ 58 (List._∷_ 116 (List._∷_ 117 (List._∷_ 114 (List._∷_ 110 (List._∷_ 95 (List._∷_ 114 (List._∷_ 101 (List._∷_ 112 (List._∷_ 108 (List._∷_ 105 (List._∷_ 101 (List._∷_ 115 (List._∷_ 58 (List._∷_ 58 (List._∷_ 84 (List._∷_ 117 (List._∷_ 114 (List._∷_ 110 (List._∷_ 82 (List._∷_ 101 (List._∷_ 112 (List._∷_ 108 (List._∷_ 121 List.[])))))))))))))))))))))))))))))))))) (Syntax.ttcons Syntax.tnil (Syntax.ttcons Syntax.tnil (Syntax.ttcons Syntax.tnil (Syntax.ttcons Syntax.tnil (Syntax.ttcons Syntax.tnil (Syntax.ttcons Syntax.tnil (Syntax.ttcons Syntax.tnil (Syntax.ttcons Syntax.tnil Syntax.ttnil))))))))
+ty·19 = Syntax.tyEnum (List._∷_ 102 (List._∷_ 108 (List._∷_ 97 (List._∷_ 116 (List._∷_ 58 (List._∷_ 58 (List._∷_ 116 (List._∷_ 117 (List._∷_ 114 (List._∷_ 110 (List._∷_ 95 (List._∷_ 114 (List._∷_ 101 (List._∷_ 112 (List._∷_ 108 (List._∷_ 105 (List._∷_ 101 (List._∷_ 115 (List._∷_ 58 (List._∷_ 58 (List._∷_ 84 (List._∷_ 117 (List._∷_ 114 (List._∷_ 110 (List._∷_ 82 (List._∷_ 101 (List._∷_ 112 (List._∷_ 108 (List._∷_ 121 List.[]))))))))))))))))))))))))))))) (Syntax.ttcons Syntax.tnil (Syntax.ttcons Syntax.tnil (Syntax.ttcons Syntax.tnil (Syntax.ttcons Syntax.tnil (Syntax.ttcons Syntax.tnil (Syntax.ttcons Syntax.tnil (Syntax.ttcons Syntax.tnil (Syntax.ttcons Syntax.tnil Syntax.ttnil))))))))
 
 abbrev row·0 : Row.Row
 row·0 = Rows.any-gone ty·15
@@ -363,16 +363,16 @@ abbrev pub r : Kinds.RK 9
 r = Value.rVal record {
   ty = Declared'.row Answered.the-type;
   one = Path'.refl;
-  val = Laws'6.val Answered.the-type Laws'4.the-laws;
-  tells = Laws'6.tells Answered.the-type Laws'4.the-laws;
-  still = Laws'6.still Answered.the-type Laws'4.the-copy Exit.yes;
+  val = Laws'6.val Answered.the-type Laws.the-laws;
+  tells = Laws'6.tells Answered.the-type Laws.the-laws;
+  still = Laws'6.still Answered.the-type Laws.the-copy Exit.yes;
   row = Rows.whole (Declared'.row Answered.the-type);
   rd = λ x. x;
   mk = λ x. x;
 } λ M 𝓤 H A W. record {
-  copies = Laws'6.copy Answered.the-type Laws'4.the-copy 𝓤 H A W;
-  lawful = Laws'6.lawful Answered.the-type Laws'4.the-laws 𝓤 H A W;
-  makes = Laws'6.makes Answered.the-type Laws'4.the-plain 𝓤 H A;
+  copies = Laws'6.copy Answered.the-type Laws.the-copy 𝓤 H A W;
+  lawful = Laws'6.lawful Answered.the-type Laws.the-laws 𝓤 H A W;
+  makes = Laws'6.makes Answered.the-type Laws.the-plain 𝓤 H A;
   in-mem = Local.mem-whole 𝓤 H A W (Declared'.row Answered.the-type);
   of-mem = Local.whole-mem 𝓤 H A W (Declared'.row Answered.the-type);
 }
@@ -398,16 +398,16 @@ abbrev pub r·0 : Kinds.RK 9
 r·0 = Value.rVal record {
   ty = Declared.row GrantReply.the-type;
   one = Path'.refl;
-  val = Laws'5.val GrantReply.the-type Laws'.the-laws;
-  tells = Laws'5.tells GrantReply.the-type Laws'.the-laws;
-  still = Laws'5.still GrantReply.the-type Laws'.the-copy Exit.yes;
+  val = Laws'5.val GrantReply.the-type Laws''.the-laws;
+  tells = Laws'5.tells GrantReply.the-type Laws''.the-laws;
+  still = Laws'5.still GrantReply.the-type Laws''.the-copy Exit.yes;
   row = Rows.whole (Declared.row GrantReply.the-type);
   rd = λ x. x;
   mk = λ x. x;
 } λ M 𝓤 H A W. record {
-  copies = Laws'5.copy GrantReply.the-type Laws'.the-copy 𝓤 H A W;
-  lawful = Laws'5.lawful GrantReply.the-type Laws'.the-laws 𝓤 H A W tt;
-  makes = Laws'5.makes GrantReply.the-type Laws'.the-plain 𝓤 H A;
+  copies = Laws'5.copy GrantReply.the-type Laws''.the-copy 𝓤 H A W;
+  lawful = Laws'5.lawful GrantReply.the-type Laws''.the-laws 𝓤 H A W tt;
+  makes = Laws'5.makes GrantReply.the-type Laws''.the-plain 𝓤 H A;
   in-mem = Local.mem-whole 𝓤 H A W (Declared.row GrantReply.the-type);
   of-mem = Local.whole-mem 𝓤 H A W (Declared.row GrantReply.the-type);
 }
@@ -416,16 +416,16 @@ abbrev pub ps·1 : List.List (Kinds.PK 0)
 ps·1 = List._∷_ (Value.pVal record {
   ty = Declared.row GrantReply.the-type;
   one = Path'.refl;
-  val = Laws'5.val GrantReply.the-type Laws'.the-laws;
-  tells = Laws'5.tells GrantReply.the-type Laws'.the-laws;
-  still = Laws'5.still GrantReply.the-type Laws'.the-copy Exit.yes;
+  val = Laws'5.val GrantReply.the-type Laws''.the-laws;
+  tells = Laws'5.tells GrantReply.the-type Laws''.the-laws;
+  still = Laws'5.still GrantReply.the-type Laws''.the-copy Exit.yes;
   row = Rows.whole (Declared.row GrantReply.the-type);
   rd = λ x. x;
   mk = λ x. x;
 } λ M 𝓤 H A W. record {
-  copies = Laws'5.copy GrantReply.the-type Laws'.the-copy 𝓤 H A W;
-  lawful = Laws'5.lawful GrantReply.the-type Laws'.the-laws 𝓤 H A W tt;
-  makes = Laws'5.makes GrantReply.the-type Laws'.the-plain 𝓤 H A;
+  copies = Laws'5.copy GrantReply.the-type Laws''.the-copy 𝓤 H A W;
+  lawful = Laws'5.lawful GrantReply.the-type Laws''.the-laws 𝓤 H A W tt;
+  makes = Laws'5.makes GrantReply.the-type Laws''.the-plain 𝓤 H A;
   in-mem = Local.mem-whole 𝓤 H A W (Declared.row GrantReply.the-type);
   of-mem = Local.whole-mem 𝓤 H A W (Declared.row GrantReply.the-type);
 }) List.[]
@@ -434,16 +434,16 @@ abbrev pub r·1 : Kinds.RK 0
 r·1 = Value.rVal record {
   ty = Declared'.row Answered.the-type;
   one = Path'.refl;
-  val = Laws'6.val Answered.the-type Laws'4.the-laws;
-  tells = Laws'6.tells Answered.the-type Laws'4.the-laws;
-  still = Laws'6.still Answered.the-type Laws'4.the-copy Exit.yes;
+  val = Laws'6.val Answered.the-type Laws.the-laws;
+  tells = Laws'6.tells Answered.the-type Laws.the-laws;
+  still = Laws'6.still Answered.the-type Laws.the-copy Exit.yes;
   row = Rows.whole (Declared'.row Answered.the-type);
   rd = λ x. x;
   mk = λ x. x;
 } λ M 𝓤 H A W. record {
-  copies = Laws'6.copy Answered.the-type Laws'4.the-copy 𝓤 H A W;
-  lawful = Laws'6.lawful Answered.the-type Laws'4.the-laws 𝓤 H A W;
-  makes = Laws'6.makes Answered.the-type Laws'4.the-plain 𝓤 H A;
+  copies = Laws'6.copy Answered.the-type Laws.the-copy 𝓤 H A W;
+  lawful = Laws'6.lawful Answered.the-type Laws.the-laws 𝓤 H A W;
+  makes = Laws'6.makes Answered.the-type Laws.the-plain 𝓤 H A;
   in-mem = Local.mem-whole 𝓤 H A W (Declared'.row Answered.the-type);
   of-mem = Local.whole-mem 𝓤 H A W (Declared'.row Answered.the-type);
 }
@@ -457,16 +457,16 @@ abbrev pub r·2 : Kinds.RK 9
 r·2 = Value.rVal record {
   ty = Declared.row ArriveReply.the-type;
   one = Path'.refl;
-  val = Laws'5.val ArriveReply.the-type Laws.the-laws;
-  tells = Laws'5.tells ArriveReply.the-type Laws.the-laws;
-  still = Laws'5.still ArriveReply.the-type Laws.the-copy Exit.yes;
+  val = Laws'5.val ArriveReply.the-type Laws'.the-laws;
+  tells = Laws'5.tells ArriveReply.the-type Laws'.the-laws;
+  still = Laws'5.still ArriveReply.the-type Laws'.the-copy Exit.yes;
   row = Rows.whole (Declared.row ArriveReply.the-type);
   rd = λ x. x;
   mk = λ x. x;
 } λ M 𝓤 H A W. record {
-  copies = Laws'5.copy ArriveReply.the-type Laws.the-copy 𝓤 H A W;
-  lawful = Laws'5.lawful ArriveReply.the-type Laws.the-laws 𝓤 H A W tt;
-  makes = Laws'5.makes ArriveReply.the-type Laws.the-plain 𝓤 H A;
+  copies = Laws'5.copy ArriveReply.the-type Laws'.the-copy 𝓤 H A W;
+  lawful = Laws'5.lawful ArriveReply.the-type Laws'.the-laws 𝓤 H A W tt;
+  makes = Laws'5.makes ArriveReply.the-type Laws'.the-plain 𝓤 H A;
   in-mem = Local.mem-whole 𝓤 H A W (Declared.row ArriveReply.the-type);
   of-mem = Local.whole-mem 𝓤 H A W (Declared.row ArriveReply.the-type);
 }
@@ -475,16 +475,16 @@ abbrev pub ps·3 : List.List (Kinds.PK 0)
 ps·3 = List._∷_ (Value.pVal record {
   ty = Declared.row ArriveReply.the-type;
   one = Path'.refl;
-  val = Laws'5.val ArriveReply.the-type Laws.the-laws;
-  tells = Laws'5.tells ArriveReply.the-type Laws.the-laws;
-  still = Laws'5.still ArriveReply.the-type Laws.the-copy Exit.yes;
+  val = Laws'5.val ArriveReply.the-type Laws'.the-laws;
+  tells = Laws'5.tells ArriveReply.the-type Laws'.the-laws;
+  still = Laws'5.still ArriveReply.the-type Laws'.the-copy Exit.yes;
   row = Rows.whole (Declared.row ArriveReply.the-type);
   rd = λ x. x;
   mk = λ x. x;
 } λ M 𝓤 H A W. record {
-  copies = Laws'5.copy ArriveReply.the-type Laws.the-copy 𝓤 H A W;
-  lawful = Laws'5.lawful ArriveReply.the-type Laws.the-laws 𝓤 H A W tt;
-  makes = Laws'5.makes ArriveReply.the-type Laws.the-plain 𝓤 H A;
+  copies = Laws'5.copy ArriveReply.the-type Laws'.the-copy 𝓤 H A W;
+  lawful = Laws'5.lawful ArriveReply.the-type Laws'.the-laws 𝓤 H A W tt;
+  makes = Laws'5.makes ArriveReply.the-type Laws'.the-plain 𝓤 H A;
   in-mem = Local.mem-whole 𝓤 H A W (Declared.row ArriveReply.the-type);
   of-mem = Local.whole-mem 𝓤 H A W (Declared.row ArriveReply.the-type);
 }) List.[]
@@ -493,16 +493,16 @@ abbrev pub r·3 : Kinds.RK 0
 r·3 = Value.rVal record {
   ty = Declared'.row Answered.the-type;
   one = Path'.refl;
-  val = Laws'6.val Answered.the-type Laws'4.the-laws;
-  tells = Laws'6.tells Answered.the-type Laws'4.the-laws;
-  still = Laws'6.still Answered.the-type Laws'4.the-copy Exit.yes;
+  val = Laws'6.val Answered.the-type Laws.the-laws;
+  tells = Laws'6.tells Answered.the-type Laws.the-laws;
+  still = Laws'6.still Answered.the-type Laws.the-copy Exit.yes;
   row = Rows.whole (Declared'.row Answered.the-type);
   rd = λ x. x;
   mk = λ x. x;
 } λ M 𝓤 H A W. record {
-  copies = Laws'6.copy Answered.the-type Laws'4.the-copy 𝓤 H A W;
-  lawful = Laws'6.lawful Answered.the-type Laws'4.the-laws 𝓤 H A W;
-  makes = Laws'6.makes Answered.the-type Laws'4.the-plain 𝓤 H A;
+  copies = Laws'6.copy Answered.the-type Laws.the-copy 𝓤 H A W;
+  lawful = Laws'6.lawful Answered.the-type Laws.the-laws 𝓤 H A W;
+  makes = Laws'6.makes Answered.the-type Laws.the-plain 𝓤 H A;
   in-mem = Local.mem-whole 𝓤 H A W (Declared'.row Answered.the-type);
   of-mem = Local.whole-mem 𝓤 H A W (Declared'.row Answered.the-type);
 }
@@ -516,16 +516,16 @@ abbrev pub r·4 : Kinds.RK 9
 r·4 = Value.rVal record {
   ty = Declared.row TurnReply.the-type;
   one = Path'.refl;
-  val = Laws'5.val TurnReply.the-type Laws'3.the-laws;
-  tells = Laws'5.tells TurnReply.the-type Laws'3.the-laws;
-  still = Laws'5.still TurnReply.the-type Laws'3.the-copy Exit.yes;
+  val = Laws'5.val TurnReply.the-type Laws'4.the-laws;
+  tells = Laws'5.tells TurnReply.the-type Laws'4.the-laws;
+  still = Laws'5.still TurnReply.the-type Laws'4.the-copy Exit.yes;
   row = Rows.whole (Declared.row TurnReply.the-type);
   rd = λ x. x;
   mk = λ x. x;
 } λ M 𝓤 H A W. record {
-  copies = Laws'5.copy TurnReply.the-type Laws'3.the-copy 𝓤 H A W;
-  lawful = Laws'5.lawful TurnReply.the-type Laws'3.the-laws 𝓤 H A W tt;
-  makes = Laws'5.makes TurnReply.the-type Laws'3.the-plain 𝓤 H A;
+  copies = Laws'5.copy TurnReply.the-type Laws'4.the-copy 𝓤 H A W;
+  lawful = Laws'5.lawful TurnReply.the-type Laws'4.the-laws 𝓤 H A W tt;
+  makes = Laws'5.makes TurnReply.the-type Laws'4.the-plain 𝓤 H A;
   in-mem = Local.mem-whole 𝓤 H A W (Declared.row TurnReply.the-type);
   of-mem = Local.whole-mem 𝓤 H A W (Declared.row TurnReply.the-type);
 }
@@ -534,16 +534,16 @@ abbrev pub ps·5 : List.List (Kinds.PK 0)
 ps·5 = List._∷_ (Value.pVal record {
   ty = Declared.row TurnReply.the-type;
   one = Path'.refl;
-  val = Laws'5.val TurnReply.the-type Laws'3.the-laws;
-  tells = Laws'5.tells TurnReply.the-type Laws'3.the-laws;
-  still = Laws'5.still TurnReply.the-type Laws'3.the-copy Exit.yes;
+  val = Laws'5.val TurnReply.the-type Laws'4.the-laws;
+  tells = Laws'5.tells TurnReply.the-type Laws'4.the-laws;
+  still = Laws'5.still TurnReply.the-type Laws'4.the-copy Exit.yes;
   row = Rows.whole (Declared.row TurnReply.the-type);
   rd = λ x. x;
   mk = λ x. x;
 } λ M 𝓤 H A W. record {
-  copies = Laws'5.copy TurnReply.the-type Laws'3.the-copy 𝓤 H A W;
-  lawful = Laws'5.lawful TurnReply.the-type Laws'3.the-laws 𝓤 H A W tt;
-  makes = Laws'5.makes TurnReply.the-type Laws'3.the-plain 𝓤 H A;
+  copies = Laws'5.copy TurnReply.the-type Laws'4.the-copy 𝓤 H A W;
+  lawful = Laws'5.lawful TurnReply.the-type Laws'4.the-laws 𝓤 H A W tt;
+  makes = Laws'5.makes TurnReply.the-type Laws'4.the-plain 𝓤 H A;
   in-mem = Local.mem-whole 𝓤 H A W (Declared.row TurnReply.the-type);
   of-mem = Local.whole-mem 𝓤 H A W (Declared.row TurnReply.the-type);
 }) List.[]
@@ -552,16 +552,16 @@ abbrev pub r·5 : Kinds.RK 0
 r·5 = Value.rVal record {
   ty = Declared'.row Answered.the-type;
   one = Path'.refl;
-  val = Laws'6.val Answered.the-type Laws'4.the-laws;
-  tells = Laws'6.tells Answered.the-type Laws'4.the-laws;
-  still = Laws'6.still Answered.the-type Laws'4.the-copy Exit.yes;
+  val = Laws'6.val Answered.the-type Laws.the-laws;
+  tells = Laws'6.tells Answered.the-type Laws.the-laws;
+  still = Laws'6.still Answered.the-type Laws.the-copy Exit.yes;
   row = Rows.whole (Declared'.row Answered.the-type);
   rd = λ x. x;
   mk = λ x. x;
 } λ M 𝓤 H A W. record {
-  copies = Laws'6.copy Answered.the-type Laws'4.the-copy 𝓤 H A W;
-  lawful = Laws'6.lawful Answered.the-type Laws'4.the-laws 𝓤 H A W;
-  makes = Laws'6.makes Answered.the-type Laws'4.the-plain 𝓤 H A;
+  copies = Laws'6.copy Answered.the-type Laws.the-copy 𝓤 H A W;
+  lawful = Laws'6.lawful Answered.the-type Laws.the-laws 𝓤 H A W;
+  makes = Laws'6.makes Answered.the-type Laws.the-plain 𝓤 H A;
   in-mem = Local.mem-whole 𝓤 H A W (Declared'.row Answered.the-type);
   of-mem = Local.whole-mem 𝓤 H A W (Declared'.row Answered.the-type);
 }
@@ -574,16 +574,16 @@ abbrev pub r·6 : Kinds.RK 9
 r·6 = Value.rVal record {
   ty = Declared.row CostAnswer.the-type;
   one = Path'.refl;
-  val = Laws'5.val CostAnswer.the-type Laws''.the-laws;
-  tells = Laws'5.tells CostAnswer.the-type Laws''.the-laws;
-  still = Laws'5.still CostAnswer.the-type Laws''.the-copy Exit.yes;
+  val = Laws'5.val CostAnswer.the-type Laws'3.the-laws;
+  tells = Laws'5.tells CostAnswer.the-type Laws'3.the-laws;
+  still = Laws'5.still CostAnswer.the-type Laws'3.the-copy Exit.yes;
   row = Rows.whole (Declared.row CostAnswer.the-type);
   rd = λ x. x;
   mk = λ x. x;
 } λ M 𝓤 H A W. record {
-  copies = Laws'5.copy CostAnswer.the-type Laws''.the-copy 𝓤 H A W;
-  lawful = Laws'5.lawful CostAnswer.the-type Laws''.the-laws 𝓤 H A W tt;
-  makes = Laws'5.makes CostAnswer.the-type Laws''.the-plain 𝓤 H A;
+  copies = Laws'5.copy CostAnswer.the-type Laws'3.the-copy 𝓤 H A W;
+  lawful = Laws'5.lawful CostAnswer.the-type Laws'3.the-laws 𝓤 H A W tt;
+  makes = Laws'5.makes CostAnswer.the-type Laws'3.the-plain 𝓤 H A;
   in-mem = Local.mem-whole 𝓤 H A W (Declared.row CostAnswer.the-type);
   of-mem = Local.whole-mem 𝓤 H A W (Declared.row CostAnswer.the-type);
 }
@@ -592,16 +592,16 @@ abbrev pub ps·7 : List.List (Kinds.PK 0)
 ps·7 = List._∷_ (Value.pVal record {
   ty = Declared.row CostAnswer.the-type;
   one = Path'.refl;
-  val = Laws'5.val CostAnswer.the-type Laws''.the-laws;
-  tells = Laws'5.tells CostAnswer.the-type Laws''.the-laws;
-  still = Laws'5.still CostAnswer.the-type Laws''.the-copy Exit.yes;
+  val = Laws'5.val CostAnswer.the-type Laws'3.the-laws;
+  tells = Laws'5.tells CostAnswer.the-type Laws'3.the-laws;
+  still = Laws'5.still CostAnswer.the-type Laws'3.the-copy Exit.yes;
   row = Rows.whole (Declared.row CostAnswer.the-type);
   rd = λ x. x;
   mk = λ x. x;
 } λ M 𝓤 H A W. record {
-  copies = Laws'5.copy CostAnswer.the-type Laws''.the-copy 𝓤 H A W;
-  lawful = Laws'5.lawful CostAnswer.the-type Laws''.the-laws 𝓤 H A W tt;
-  makes = Laws'5.makes CostAnswer.the-type Laws''.the-plain 𝓤 H A;
+  copies = Laws'5.copy CostAnswer.the-type Laws'3.the-copy 𝓤 H A W;
+  lawful = Laws'5.lawful CostAnswer.the-type Laws'3.the-laws 𝓤 H A W tt;
+  makes = Laws'5.makes CostAnswer.the-type Laws'3.the-plain 𝓤 H A;
   in-mem = Local.mem-whole 𝓤 H A W (Declared.row CostAnswer.the-type);
   of-mem = Local.whole-mem 𝓤 H A W (Declared.row CostAnswer.the-type);
 }) List.[]
@@ -610,16 +610,16 @@ abbrev pub r·7 : Kinds.RK 0
 r·7 = Value.rVal record {
   ty = Declared'.row Answered.the-type;
   one = Path'.refl;
-  val = Laws'6.val Answered.the-type Laws'4.the-laws;
-  tells = Laws'6.tells Answered.the-type Laws'4.the-laws;
-  still = Laws'6.still Answered.the-type Laws'4.the-copy Exit.yes;
+  val = Laws'6.val Answered.the-type Laws.the-laws;
+  tells = Laws'6.tells Answered.the-type Laws.the-laws;
+  still = Laws'6.still Answered.the-type Laws.the-copy Exit.yes;
   row = Rows.whole (Declared'.row Answered.the-type);
   rd = λ x. x;
   mk = λ x. x;
 } λ M 𝓤 H A W. record {
-  copies = Laws'6.copy Answered.the-type Laws'4.the-copy 𝓤 H A W;
-  lawful = Laws'6.lawful Answered.the-type Laws'4.the-laws 𝓤 H A W;
-  makes = Laws'6.makes Answered.the-type Laws'4.the-plain 𝓤 H A;
+  copies = Laws'6.copy Answered.the-type Laws.the-copy 𝓤 H A W;
+  lawful = Laws'6.lawful Answered.the-type Laws.the-laws 𝓤 H A W;
+  makes = Laws'6.makes Answered.the-type Laws.the-plain 𝓤 H A;
   in-mem = Local.mem-whole 𝓤 H A W (Declared'.row Answered.the-type);
   of-mem = Local.whole-mem 𝓤 H A W (Declared'.row Answered.the-type);
 }
@@ -1892,8 +1892,8 @@ module _ (claims· : Claims) where
       abbrev pub Closed : Type 2
       Closed = (𝓤 : URA.URA M) (H : Wp.Heap 𝓤) (A : Atoms.Atoms 𝓤) (W : Kit.Given 𝓤 H A) (𝓣 : Wp.Tables 𝓤 H) (known0 : Plain.Known 𝓤 H A W 𝓣 9 ps·0 r·0 (claims· .0) (claims· .1) "conductor::calls::grant") (known1 : Plain.Known 𝓤 H A W 𝓣 0 ps·1 r·1 (claims· .2) (claims· .3) "dispatch::answers::of_grant") (known2 : Plain.Known 𝓤 H A W 𝓣 9 ps·2 r·2
           (claims· .4) (claims· .5) "conductor::calls::arrive") (known3 : Plain.Known 𝓤 H A W 𝓣 0 ps·3 r·3 (claims· .6) (claims· .7) "dispatch::answers::of_arrive") (known4 : Plain.Known 𝓤 H A W 𝓣 9 ps·4 r·4 (claims· .8) (claims· .9) "conductor::calls::turn") (known5 : Plain.Known 𝓤 H A W 𝓣 0 ps·5 r·5 (claims· .10)
-          (claims· .11) "dispatch::answers::of_turn") (known6 : Plain.Known 𝓤 H A W 𝓣 9 ps·6 r·6 (claims· .12) (claims· .13) "conductor::calls::cost") (known7 : Plain.Known 𝓤 H A W 𝓣 0 ps·7 r·7 (claims· .14) (claims· .15) "dispatch::answers::of_cost") → Statement.Triple 𝓤 (Wp.WpFn 𝓤 H (𝓣 .C) (𝓣 .Λ) (Function.fnOf 9 ps r xs m hs body)) (Function.plainOf 𝓤 H A 9
-          ps r Pre· Post·)
+          (claims· .11) "dispatch::answers::of_turn") (known6 : Plain.Known 𝓤 H A W 𝓣 9 ps·6 r·6 (claims· .12) (claims· .13) "conductor::calls::cost") (known7 : Plain.Known 𝓤 H A W 𝓣 0 ps·7 r·7 (claims· .14) (claims· .15) "dispatch::answers::of_cost") → Statement.Triple 𝓤
+          (Wp.WpFn 𝓤 H (𝓣 .C) (𝓣 .Λ) (Function.fnOf 9 ps r xs m hs body)) (Function.plainOf 𝓤 H A 9 ps r Pre· Post·)
 
     module _ where
       abbrev at0 : Typed.TF T40 O1
@@ -4519,7 +4519,7 @@ module _ (claims· : Claims) where
           d4 = Typed.s-seq 𝓤 H A W 𝓣 E G36 G37 b9 b10 Δ1 (Typed.both s34) at3 (Plain.t-call-plain 𝓤 H A W 𝓣 0 ps·1 r·1 (claims· .2) (claims· .3) "dispatch::answers::of_grant" (known .1) E (λ pos β. β) G36 (record { pos = 12; st = List.[]; d = 0; at = λ x. x }, tt) 0 List.[] (Call.sub-id 𝓤 H A W (G36 .slots)) (
             (
               Yields.yields-copy 𝓤 H A W (λ ρ. Unit)
-                  (Declared.row GrantReply.the-type) Path'.refl (Copies.cEnum GrantReply.the-type Laws'.the-laws Laws'.the-copy .copy 𝓤 H A W) (Rows.whole (Declared.row GrantReply.the-type)) (λ x. x) (λ x. x) (λ ρ told. Local.mem-whole 𝓤 H A W (Declared.row GrantReply.the-type) ρ) λ ρ told. Local.whole-mem 𝓤 H A W (Declared.row GrantReply.the-type) ρ,
+                  (Declared.row GrantReply.the-type) Path'.refl (Copies.cEnum GrantReply.the-type Laws''.the-laws Laws''.the-copy .copy 𝓤 H A W) (Rows.whole (Declared.row GrantReply.the-type)) (λ x. x) (λ x. x) (λ ρ told. Local.mem-whole 𝓤 H A W (Declared.row GrantReply.the-type) ρ) λ ρ told. Local.whole-mem 𝓤 H A W (Declared.row GrantReply.the-type) ρ,
               Path'.refl,
             ),
             tt,
@@ -5104,7 +5104,7 @@ module _ (claims· : Claims) where
           d37 = Typed.s-seq 𝓤 H A W 𝓣 E G68 G69 b31 b32 Δ2 (Typed.both s65) at36 (Plain.t-call-plain 𝓤 H A W 𝓣 0 ps·3 r·3 (claims· .6) (claims· .7) "dispatch::answers::of_arrive" (known .3) E (λ pos β. β) G68 (record { pos = 13; st = List.[]; d = 0; at = λ x. x }, tt) 0 List.[] (Call.sub-id 𝓤 H A W (G68 .slots)) (
             (
               Yields.yields-copy 𝓤 H A W (λ ρ. Unit)
-                  (Declared.row ArriveReply.the-type) Path'.refl (Copies.cEnum ArriveReply.the-type Laws.the-laws Laws.the-copy .copy 𝓤 H A W) (Rows.whole (Declared.row ArriveReply.the-type)) (λ x. x) (λ x. x) (λ ρ told. Local.mem-whole 𝓤 H A W (Declared.row ArriveReply.the-type) ρ) λ ρ told. Local.whole-mem 𝓤 H A W (Declared.row ArriveReply.the-type) ρ,
+                  (Declared.row ArriveReply.the-type) Path'.refl (Copies.cEnum ArriveReply.the-type Laws'.the-laws Laws'.the-copy .copy 𝓤 H A W) (Rows.whole (Declared.row ArriveReply.the-type)) (λ x. x) (λ x. x) (λ ρ told. Local.mem-whole 𝓤 H A W (Declared.row ArriveReply.the-type) ρ) λ ρ told. Local.whole-mem 𝓤 H A W (Declared.row ArriveReply.the-type) ρ,
               Path'.refl,
             ),
             tt,
@@ -5689,7 +5689,7 @@ module _ (claims· : Claims) where
           d70 = Typed.s-seq 𝓤 H A W 𝓣 E G99 G100 b53 b54 Δ3 (Typed.both s95) at69 (Plain.t-call-plain 𝓤 H A W 𝓣 0 ps·5 r·5 (claims· .10) (claims· .11) "dispatch::answers::of_turn" (known .5) E (λ pos β. β) G99 (record { pos = 14; st = List.[]; d = 0; at = λ x. x }, tt) 0 List.[] (Call.sub-id 𝓤 H A W (G99 .slots)) (
             (
               Yields.yields-copy 𝓤 H A W (λ ρ. Unit)
-                  (Declared.row TurnReply.the-type) Path'.refl (Copies.cEnum TurnReply.the-type Laws'3.the-laws Laws'3.the-copy .copy 𝓤 H A W) (Rows.whole (Declared.row TurnReply.the-type)) (λ x. x) (λ x. x) (λ ρ told. Local.mem-whole 𝓤 H A W (Declared.row TurnReply.the-type) ρ) λ ρ told. Local.whole-mem 𝓤 H A W (Declared.row TurnReply.the-type) ρ,
+                  (Declared.row TurnReply.the-type) Path'.refl (Copies.cEnum TurnReply.the-type Laws'4.the-laws Laws'4.the-copy .copy 𝓤 H A W) (Rows.whole (Declared.row TurnReply.the-type)) (λ x. x) (λ x. x) (λ ρ told. Local.mem-whole 𝓤 H A W (Declared.row TurnReply.the-type) ρ) λ ρ told. Local.whole-mem 𝓤 H A W (Declared.row TurnReply.the-type) ρ,
               Path'.refl,
             ),
             tt,
@@ -6271,7 +6271,7 @@ module _ (claims· : Claims) where
           d102 = Typed.s-seq 𝓤 H A W 𝓣 E G126 G127 b73 b74 Δ0 (Typed.both s122) at101 (Plain.t-call-plain 𝓤 H A W 𝓣 0 ps·7 r·7 (claims· .14) (claims· .15) "dispatch::answers::of_cost" (known .7) E (λ pos β. β) G126 (record { pos = 15; st = List.[]; d = 0; at = λ x. x }, tt) 0 List.[] (Call.sub-id 𝓤 H A W (G126 .slots)) (
             (
               Yields.yields-copy 𝓤 H A W
-                  (λ ρ. Unit) (Declared.row CostAnswer.the-type) Path'.refl (Copies.cEnum CostAnswer.the-type Laws''.the-laws Laws''.the-copy .copy 𝓤 H A W) (Rows.whole (Declared.row CostAnswer.the-type)) (λ x. x) (λ x. x) (λ ρ told. Local.mem-whole 𝓤 H A W (Declared.row CostAnswer.the-type) ρ) λ ρ told. Local.whole-mem 𝓤 H A W (Declared.row CostAnswer.the-type)
+                  (λ ρ. Unit) (Declared.row CostAnswer.the-type) Path'.refl (Copies.cEnum CostAnswer.the-type Laws'3.the-laws Laws'3.the-copy .copy 𝓤 H A W) (Rows.whole (Declared.row CostAnswer.the-type)) (λ x. x) (λ x. x) (λ ρ told. Local.mem-whole 𝓤 H A W (Declared.row CostAnswer.the-type) ρ) λ ρ told. Local.whole-mem 𝓤 H A W (Declared.row CostAnswer.the-type)
                   ρ,
               Path'.refl,
             ),
@@ -8623,8 +8623,8 @@ module _ (claims· : Claims) where
             pre = pre;
           }
 
-        module _ {M : Type 1} (𝓤 : URA.URA M) (H : Wp.Heap 𝓤) (A : Atoms.Atoms 𝓤) (W : Kit.Given 𝓤 H A) (𝓣 : Wp.Tables 𝓤 H) (known0 : Plain.Known 𝓤 H A W 𝓣 9 ps·0 r·0 (claims· .0) (claims· .1) "conductor::calls::grant") (known1 : Plain.Known 𝓤 H A W 𝓣 0 ps·1 r·1 (claims· .2) (claims· .3) "dispatch::answers::of_grant") (known2 : Plain.Known 𝓤 H A W 𝓣 9 ps·2 r·2
-            (claims· .4) (claims· .5) "conductor::calls::arrive") (known3 : Plain.Known 𝓤 H A W 𝓣 0 ps·3 r·3 (claims· .6) (claims· .7) "dispatch::answers::of_arrive") (known4 : Plain.Known 𝓤 H A W 𝓣 9 ps·4 r·4 (claims· .8) (claims· .9) "conductor::calls::turn") (known5 : Plain.Known 𝓤 H A W 𝓣 0 ps·5 r·5 (claims· .10) (claims· .11) "dispatch::answers::of_turn")
-            (known6 : Plain.Known 𝓤 H A W 𝓣 9 ps·6 r·6 (claims· .12) (claims· .13) "conductor::calls::cost") (known7 : Plain.Known 𝓤 H A W 𝓣 0 ps·7 r·7 (claims· .14) (claims· .15) "dispatch::answers::of_cost") where
+        module _ {M : Type 1} (𝓤 : URA.URA M) (H : Wp.Heap 𝓤) (A : Atoms.Atoms 𝓤) (W : Kit.Given 𝓤 H A) (𝓣 : Wp.Tables 𝓤 H) (known0 : Plain.Known 𝓤 H A W 𝓣 9 ps·0 r·0 (claims· .0) (claims· .1) "conductor::calls::grant") (known1 : Plain.Known 𝓤 H A W 𝓣 0 ps·1 r·1 (claims· .2) (claims· .3) "dispatch::answers::of_grant") (known2 : Plain.Known 𝓤 H A W 𝓣 9 ps·2
+            r·2 (claims· .4) (claims· .5) "conductor::calls::arrive") (known3 : Plain.Known 𝓤 H A W 𝓣 0 ps·3 r·3 (claims· .6) (claims· .7) "dispatch::answers::of_arrive") (known4 : Plain.Known 𝓤 H A W 𝓣 9 ps·4 r·4 (claims· .8) (claims· .9) "conductor::calls::turn") (known5 : Plain.Known 𝓤 H A W 𝓣 0 ps·5 r·5 (claims· .10) (claims· .11)
+            "dispatch::answers::of_turn") (known6 : Plain.Known 𝓤 H A W 𝓣 9 ps·6 r·6 (claims· .12) (claims· .13) "conductor::calls::cost") (known7 : Plain.Known 𝓤 H A W 𝓣 0 ps·7 r·7 (claims· .14) (claims· .15) "dispatch::answers::of_cost") where
           pub spec : Statement.Triple 𝓤 (Wp.WpFn 𝓤 H (𝓣 .C) (𝓣 .Λ) (Function.fnOf 9 ps r xs m hs body)) (Function.plainOf 𝓤 H A 9 ps r Pre· Post·)
           spec = Plain.t-fn-plain 𝓤 H A W 𝓣 9 ps r xs m hs body (λ κs qs bs. Φ) (λ κs qs bs bd. typed κs qs 𝓤 H A W 𝓣 (known0, known1, known2, known3, known4, known5, known6, known7) bs bd) Pre· Post· asked
