@@ -6,3 +6,4 @@ pub mod ReadCases
 pub mod Built
 pub mod ReadSound
 pub mod Examples
+pub mod Taken

@@ -93,3 +93,13 @@ module _ (L : Limits) where
       by-size true e true r go h = absurd (let q : _≡_ {A = ℕ} 0 1 = cc h in omega arith)
       by-size true e false r go h = (e, go h)
       by-size false e b r go h = absurd (let q : _≡_ {A = ℕ} 0 1 = cc h in omega arith)
+
+  -- .. and its text is not too long
+  pub read-short : (text : List ℕ) (t : Tables) → readPlan L text t .reply ≡ Taken → length text ≤ L .text
+  unfolding readPlan
+  read-short text t h = ltb-false _ _ (by-size (fullSize L t) (ltb (L .text) (length text)) (readLines L text (zeroedTables L t)) h)
+    where
+      by-size : (a b : Bool) (r : Answered) → cond a (cond b (answered (Refused (TooLong (L .text))) t) r) (answered (Refused TablesTooSmall) t) .reply ≡ Taken → b ≡ false
+      by-size a false r h = refl
+      by-size true true r h = absurd (let q : _≡_ {A = ℕ} 0 1 = cc h in omega arith)
+      by-size false true r h = absurd (let q : _≡_ {A = ℕ} 0 1 = cc h in omega arith)

@@ -41,7 +41,7 @@ module _ (L : Limits) (t : Tables) (full : fullSize L t ≡ true) (f : Found Ans
   stored = withText f n (zeroedTables L t)
 
   -- the sizes of the tables before
-  before : Sizes L t
+  pub before : Sizes L t
   before = full-sizes L t full
 
   same-lengths : SameLengths stored t
@@ -76,7 +76,7 @@ module _ (L : Limits) (t : Tables) (full : fullSize L t ≡ true) (f : Found Ans
   }
 
   module _ (ds : List Route) (many : length ds ≡ n) (v : Valid L ds) (read : f ≡ foundOf L ds) where
-    stored-holds : HoldsRoutes L ds (stored .plan)
+    pub stored-holds : HoldsRoutes L ds (stored .plan)
     stored-holds =
         let names-fit : length (flat (rowsOf L ds)) ≤ L .drones * L .name = omega (arith, names-many L ds, mul-le-mul-right (L .name) (v .1)) in
         let counts-fit : length (countsOf ds) ≤ L .drones = omega (arith, counts-many ds, v .1) in

@@ -1,11 +1,16 @@
 // The whole way from the input of `field` to its output.
 use crate::answers;
 use crate::requests;
+use reading::replies::Reading;
 use transcript::replies;
 use transcript::requests as input_requests;
+ghost use mathlib.Core.Path.{_≡_};
+ghost use Rattle.tables.specs.Limits.{limits};
 ghost use Rattle.lines.specs.Bytes.{Put};
+ghost use Rattle.reading.specs.Replies.{readingNumber};
+ghost use Rattle.reading.specs.Reading.{readPlan};
 ghost use Rattle.transcript.specs.Output.{outputOf};
-ghost use Rattle.dispatch.specs.Transcribing.{readingOf, RequestRoom, Transcribed};
+ghost use Rattle.dispatch.specs.Transcribing.{zeroTables, readingOf, RequestRoom, Transcribed};
 
 // The input has so many bytes at most.
 pub const INPUT: usize = 65536;
@@ -62,4 +67,22 @@ pub fn transcript(input: &[u8], output: &mut [u8]) -> usize
         &mut replies,
         &mut details,
     )
+}
+
+// What reading a plan text answers, on tables of its own.
+pub fn read_text(text: &[u8]) -> Reading
+    ensures { λ r. ⌜ r ≡ readPlan limits (now (text .entry)) (zeroTables limits) .reply ⌝ }
+{
+    let kinds = [0u8; 1];
+    let numbers = [0u16; 1];
+    let mut replies = [0u16; 1];
+    let mut details = [0u32; 1];
+    requests::run(text, 0, &kinds, &numbers, &mut replies, &mut details)
+}
+
+// The number of a reading: 0 for a plan that is taken.
+pub fn number_of(reading: Reading) -> usize
+    ensures { λ r. ⌜ r ≡ readingNumber reading ⌝ }
+{
+    answers::reading_number(reading)
 }

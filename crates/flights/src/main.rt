@@ -2,8 +2,7 @@
 // offset of the line at fault.
 mod texts;
 
-use dispatch::answers;
-use dispatch::requests;
+use dispatch::program;
 use libc::STDOUT_FILENO;
 use reading::replies::Reading;
 use reading::replies::Refusal;
@@ -33,14 +32,10 @@ fn print_where(refusal: Refusal) {
 
 // Reads a plan text and prints the flight's line.
 fn fly(title: &[u8], text: &[u8]) {
-    let kinds = [0u8; 1];
-    let numbers = [0u16; 1];
-    let mut replies = [0u16; 1];
-    let mut details = [0u32; 1];
-    let reading = requests::run(text, 0, &kinds, &numbers, &mut replies, &mut details);
+    let reading = program::read_text(text);
     io::write_all(STDOUT_FILENO, title);
     io::write_all(STDOUT_FILENO, &COLON);
-    io::print_decimal(STDOUT_FILENO, answers::reading_number(reading) as u64);
+    io::print_decimal(STDOUT_FILENO, program::number_of(reading) as u64);
     match reading {
         Reading::Taken => {}
         Reading::Refused(refusal) => print_where(refusal),
