@@ -62,15 +62,17 @@ module _ (L : Limits) (trip : RoundTrip L) (text : List ℕ) (t : Tables) where
   follows h =
       let (full, r) = read-taken L text t h in
       let w : TextTaken L text (r .number) (linesAt L text) = text-taken L text (r .number) (r .lines-taken) in
-      let same : withText (linesAt L text) (r .number) (zeroedTables L t) .plan ≡ laidOut L t (w .routes) = same-laid L t (linesAt L text) (r .number) (w .routes) (w .read) (w .many) in
-      (full, record {
-        routes = w .routes;
-        valid = w .valid;
-        written = w .written;
-        short = read-short L text t h;
-        checked = laid-checked L t full (w .routes) (w .valid) (subst (λ (p : PlanLists). checkIn p ≡ Taken) same (r .check-passed));
-        few = subst (λ (p : PlanLists). total p ≤ L .dependencies) same (r .room);
-      })
+      let same : withText (linesAt L text) (r .number) (zeroedTables L t) .plan ≡ laidOut L t (w .routes) = same-laid L t (linesAt L text) (r .number) (w .routes) (w .read) (w .many) in (
+        full,
+        record {
+          routes = w .routes;
+          valid = w .valid;
+          written = w .written;
+          short = read-short L text t h;
+          checked = laid-checked L t full (w .routes) (w .valid) (subst (λ (p : PlanLists). checkIn p ≡ Taken) same (r .check-passed));
+          few = subst (λ (p : PlanLists). total p ≤ L .dependencies) same (r .room);
+        },
+      )
 
   taken : (fullSize L t ≡ true) × PlanFollows L t text → readPlan L text t .reply ≡ Taken
   unfolding readPlan readLines
