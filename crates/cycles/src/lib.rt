@@ -3,8 +3,7 @@
 pub mod casts;
 mod certificates;
 mod moves;
-pub mod order;
-mod search;
+pub mod search;
 pub mod waits;
 
 ghost use mathlib.Core.Path.{_≡_};
@@ -14,55 +13,7 @@ ghost use Rattle.below.specs.Below.{at};
 ghost use Rattle.tables.specs.Limits.{limits};
 ghost use Rattle.precedence.specs.Graph.{cyclic};
 ghost use Rattle.cycles.specs.Flat.{flatPlan, FlatTables};
-ghost use Rattle.cycles.specs.Certificates.{Verdict};
 ghost use Rattle.cycles.specs.Waits.{turnedIn, Given, graphSound};
-
-// What the certificates say: 0 there is no cycle, 1 there is one, 2 neither was found.
-fn certify(
-    owners: &[u8],
-    starts: &[u16; 32],
-    lasts: &[u16; 32],
-    drones: usize,
-    n: usize,
-    from: &[u16; 2048],
-    into: &[u16; 2048],
-    m: usize,
-) -> u8
-    requires { ⌜ FlatTables (now owners) (now starts) (now lasts) drones n (now from) (now into) m ⌝ }
-    ensures { λ r. ⌜ Verdict (flatPlan (at (now (owners .entry))) (at (now (starts .entry))) (at (now (lasts .entry))) drones (at (now (from .entry))) (at (now (into .entry))) m) r ⌝ }
-{
-    // every stop but a first one waits for the one before it
-    let mut need = [1u16; 1024];
-    let mut head = [0u16; 1024];
-    let mut next = [0u16; 2048];
-    let mut queue = [0u16; 1024];
-    let mut pos = [0u16; 1024];
-    search::link(from, into, m, &mut need, &mut head, &mut next);
-    search::seed(starts, drones, &mut need, &mut queue);
-    let count = search::number(
-        n,
-        from,
-        into,
-        m,
-        &head,
-        &next,
-        &mut need,
-        &mut queue,
-        drones,
-        &mut pos,
-    );
-    if certificates::is_ordered(owners, n, from, into, m, &pos) {
-        return 0;
-    }
-    let mut cur = [0u16; 32];
-    let mut why = [0u16; 32];
-    search::reach(owners, &queue, count, &mut cur);
-    search::explain(owners, from, into, m, &cur, &mut why);
-    if certificates::is_stuck(owners, starts, lasts, drones, from, into, m, &cur, &why) {
-        return 1;
-    }
-    2
-}
 
 // Whether the plan graph has a cycle.
 pub fn has_cycle(
@@ -78,7 +29,7 @@ pub fn has_cycle(
     requires { ⌜ FlatTables (now owners) (now starts) (now lasts) drones n (now from) (now into) m ⌝ }
     ensures { λ r. ⌜ r ≡ cyclic (flatPlan (at (now (owners .entry))) (at (now (starts .entry))) (at (now (lasts .entry))) drones (at (now (from .entry))) (at (now (into .entry))) m) ⌝ }
 {
-    let t = certify(owners, starts, lasts, drones, n, from, into, m);
+    let t = search::certify(owners, starts, lasts, drones, n, from, into, m);
     if t == 0 {
         return false;
     }

@@ -4,8 +4,12 @@ use crate::casts::edge;
 use crate::casts::get;
 use crate::casts::wide;
 use crate::casts::wide8;
+use crate::certificates;
 ghost use Prim.Native.Nat.{_≤_, _<_};
+ghost use Rattle.below.specs.Below.{at};
 ghost use Rattle.tables.specs.Limits.{limits};
+ghost use Rattle.cycles.specs.Flat.{flatPlan, FlatTables};
+ghost use Rattle.cycles.specs.Certificates.{Verdict};
 
 fn put(s: &mut [u16; 1024], i: usize, x: usize) {
     s[i % 1024] = (x % 65536) as u16;
@@ -51,7 +55,7 @@ fn release(need: &mut [u16; 1024], queue: &mut [u16; 1024], end: usize, x: usize
 }
 
 // Counts the waits into each stop, and links those out of each stop: head[a] is one more than the first of them, next[k] than the one after k.
-pub fn link(
+fn link(
     from: &[u16; 2048],
     into: &[u16; 2048],
     m: usize,
@@ -75,7 +79,7 @@ pub fn link(
 }
 
 // The first stops stand in the queue and wait for nothing.
-pub fn seed(starts: &[u16; 32], drones: usize, need: &mut [u16; 1024], queue: &mut [u16; 1024])
+fn seed(starts: &[u16; 32], drones: usize, need: &mut [u16; 1024], queue: &mut [u16; 1024])
     requires { ⌜ drones ≤ limits .drones ⌝ }
 {
     let mut d = 0;
@@ -130,7 +134,7 @@ fn release_all(
 
 // Takes the stops from the queue one by one, numbers them in pos and releases those that wait for them: the stop after it, which waits for nothing more if it is the first of
 // the next drone, and those of its waits. Answers how many were taken.
-pub fn number(
+fn number(
     n: usize,
     from: &[u16; 2048],
     into: &[u16; 2048],
@@ -162,7 +166,7 @@ pub fn number(
 }
 
 // Each drone's last numbered stop.
-pub fn reach(owners: &[u8], queue: &[u16; 1024], count: usize, cur: &mut [u16; 32])
+fn reach(owners: &[u8], queue: &[u16; 1024], count: usize, cur: &mut [u16; 32])
     requires { ⌜ count ≤ limits .stops ⌝ }
 {
     let mut i = 0;
@@ -174,7 +178,7 @@ pub fn reach(owners: &[u8], queue: &[u16; 1024], count: usize, cur: &mut [u16; 3
 }
 
 // For each drone a wait that keeps it from its next stop, if there is one.
-pub fn explain(
+fn explain(
     owners: &[u8],
     from: &[u16; 2048],
     into: &[u16; 2048],
@@ -196,4 +200,85 @@ pub fn explain(
         }
         k += 1;
     }
+}
+
+// What the certificates say: 0 there is no cycle, 1 there is one, 2 neither was found.
+pub fn certify(
+    owners: &[u8],
+    starts: &[u16; 32],
+    lasts: &[u16; 32],
+    drones: usize,
+    n: usize,
+    from: &[u16; 2048],
+    into: &[u16; 2048],
+    m: usize,
+) -> u8
+    requires { ⌜ FlatTables (now owners) (now starts) (now lasts) drones n (now from) (now into) m ⌝ }
+    ensures { λ r. ⌜ Verdict (flatPlan (at (now (owners .entry))) (at (now (starts .entry))) (at (now (lasts .entry))) drones (at (now (from .entry))) (at (now (into .entry))) m) r ⌝ }
+{
+    // every stop but a first one waits for the one before it
+    let mut need = [1u16; 1024];
+    let mut head = [0u16; 1024];
+    let mut next = [0u16; 2048];
+    let mut queue = [0u16; 1024];
+    let mut pos = [0u16; 1024];
+    link(from, into, m, &mut need, &mut head, &mut next);
+    seed(starts, drones, &mut need, &mut queue);
+    let count = number(
+        n,
+        from,
+        into,
+        m,
+        &head,
+        &next,
+        &mut need,
+        &mut queue,
+        drones,
+        &mut pos,
+    );
+    if certificates::is_ordered(owners, n, from, into, m, &pos) {
+        return 0;
+    }
+    let mut cur = [0u16; 32];
+    let mut why = [0u16; 32];
+    reach(owners, &queue, count, &mut cur);
+    explain(owners, from, into, m, &cur, &mut why);
+    if certificates::is_stuck(owners, starts, lasts, drones, from, into, m, &cur, &why) {
+        return 1;
+    }
+    2
+}
+
+// Leaves the stops in `order`, each after what it awaits, and in head and next the waits out of each stop, as the search links them. Answers how many stops were taken. Nothing else
+// is promised of the order: what is found by it is tested afterwards.
+pub fn stop_order(
+    starts: &[u16; 32],
+    drones: usize,
+    n: usize,
+    from: &[u16; 2048],
+    into: &[u16; 2048],
+    m: usize,
+    order: &mut [u16; 1024],
+    head: &mut [u16; 1024],
+    next: &mut [u16; 2048],
+) -> usize
+    requires { ⌜ (drones ≤ limits .drones) × (n ≤ limits .stops) × (m ≤ limits .dependencies) ⌝ }
+    ensures { λ r. ⌜ r ≤ n ⌝ }
+{
+    let mut need = [1u16; 1024];
+    let mut pos = [0u16; 1024];
+    link(from, into, m, &mut need, head, next);
+    seed(starts, drones, &mut need, order);
+    number(
+        n,
+        from,
+        into,
+        m,
+        head,
+        next,
+        &mut need,
+        order,
+        drones,
+        &mut pos,
+    )
 }

@@ -14,7 +14,7 @@ use cycles::casts::edge;
 use cycles::casts::get;
 use cycles::casts::wide;
 use cycles::casts::wide8;
-use cycles::order::stop_order;
+use cycles::search::stop_order;
 
 // For each stop the greatest entry among those that its waits await.
 fn latest_awaited(

@@ -7,7 +7,7 @@ use Rattle.cycles.proofs.has_cycle.Tie as tie
 use Rattle.cycles.proofs.has_cycle.Reads as reads
 use Rattle.cycles.proofs.has_cycle.Lts as lts
 use Rattle.cycles.proofs.moves.copy_starts.Reads as copy-starts-reads
-use Rattle.cycles.proofs.certify.Reads as certify-reads
+use Rattle.cycles.proofs.search.certify.Reads as certify-reads
 use Rattle.cycles.proofs.moves.decide.Reads as decide-reads
 
 certify-requires : tie.Need-certify-requires

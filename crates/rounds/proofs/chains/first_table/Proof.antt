@@ -7,7 +7,7 @@ use Rattle.rounds.proofs.chains.first_table.Tie as tie
 use Rattle.rounds.proofs.chains.first_table.Reads as reads
 use Rattle.rounds.proofs.chains.first_table.Lts as lts
 use Rattle.rounds.proofs.chains.fill_in_order.Reads as fill-in-order-reads
-use Rattle.cycles.proofs.order.stop_order.Reads as stop-order-reads
+use Rattle.cycles.proofs.search.stop_order.Reads as stop-order-reads
 
 -- src/chains.rt:201:17
 stop-order-requires : tie.Need-stop-order-requires
