@@ -10,3 +10,5 @@ pub mod Picks
 pub mod Pairs
 pub mod Triangle
 pub mod Same
+pub mod Changes
+pub mod Links

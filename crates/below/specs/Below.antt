@@ -5,7 +5,7 @@ use mathlib.Core.Bool.{Bool, true, false, cond, not, _&&_, _||_}
 use mathlib.Core.List.{List, [], _∷_, _++_}
 use Prim.Native.Nat.{ℕ, zero, suc, _+_, _≤_, _<_, max}
 use lib.Dec.{ltb, eqb}
-use lib.ListN.{getD, set}
+use lib.ListN.{length, getD, set}
 use lib.Seq.{sets}
 
 -- the choice of a number by a test
@@ -19,6 +19,11 @@ pick false a b = b
 unfoldable pub firstBelow : ℕ → (ℕ → Bool) → ℕ
 firstBelow zero f = zero
 firstBelow (suc n) f = let r = firstBelow n f in pick (ltb r n) r (pick (f n) n (suc n))
+
+-- one more than the greatest i < n with f i, 0 if there is none
+unfoldable pub lastBelow : ℕ → (ℕ → Bool) → ℕ
+lastBelow zero f = zero
+lastBelow (suc n) f = pick (f n) (suc n) (lastBelow n f)
 
 -- r is the least index below n that passes f, or n: what a search loop ends with
 pub record First (n : ℕ) (f : ℕ → Bool) (r : ℕ) : Type 0 where
@@ -73,6 +78,14 @@ listBelow (suc n) f = f zero ∷ listBelow n (λ i. f (suc i))
 unfoldable pub fillBelow : ℕ → (ℕ → ℕ) → List ℕ → List ℕ
 fillBelow zero f l = l
 fillBelow (suc n) f l = set (fillBelow n f l) n (f n)
+
+-- the first m items linked by their kinds, the greatest first: `head` has the greatest item of each kind, `next` the greatest below an item that is of its kind. Each
+-- is written as one more than the item's number, and 0 is none. There are `kinds` entries for kinds and `room` for items.
+pub record Linked (kinds room : ℕ) (kind : ℕ → ℕ) (m : ℕ) (head next : List ℕ) : Type 0 where
+  pub head-size : length head ≡ kinds
+  pub next-size : length next ≡ room
+  pub heads : (v : ℕ) → v < kinds → at head v ≡ lastBelow m (λ k. eqb (kind k) v)
+  pub nexts : (k : ℕ) → k < m → at next k ≡ lastBelow k (λ j. eqb (kind j) (kind k))
 
 -- the function p with the entry of d replaced
 abbrev pub put : (ℕ → ℕ) → ℕ → ℕ → ℕ → ℕ

@@ -2,27 +2,24 @@
 use mathlib.Core.Path.{_≡_, refl, sym, ap, _∙_}
 use mathlib.Core.Logic.{_≢_, inr}
 use mathlib.Core.List.{List}
-use mathlib.Core.Bool.{Bool, true, false, not, _&&_, _||_}
-use Prim.Native.Nat.{ℕ, _+_, _<_}
+use mathlib.Core.Bool.{Bool, true, false, not}
+use Prim.Native.Nat.{ℕ, suc, _+_, _-_, _<_}
 use native.Mathlib.Omega.{arith}
-use lib.Dec.{ltb, eqb}
 use lib.ListN.{length, set, length-set}
-use borrow.Author.Tests.{lt-ltb, ltb-true, eqb-true}
 use Rattle.below.specs.Below.{at, pick, countBelow}
-use Rattle.below.proofs.Tests.{by-cases, true-or-false, and-both}
-use Rattle.below.proofs.Every.{allBelow-all}
+use Rattle.below.proofs.Tests.{by-cases, true-or-false}
 use Rattle.below.proofs.Count.{count-yes, count-no, count-none}
 use Rattle.below.proofs.Index.{fill-more}
 use Rattle.tables.specs.Limits.{limits}
-use Rattle.precedence.specs.Graph.{Fewer, cyclic}
+use Rattle.precedence.specs.Graph.{Fewer, Rising, cyclic}
 use Rattle.precedence.proofs.Ahead.{cyclic-fewer}
+use Rattle.precedence.proofs.Visits.{rising-acyclic, acyclic-iff}
 use Rattle.cycles.specs.Flat.{flatPlan, Shape, PlacedWaits, FlatTables}
 use Rattle.cycles.specs.Waits.{fromOf, intoOf, turnedIn, Edges, Unfixed, graphSound, Given}
 use Rattle.plan.specs.Dependencies.{right}
 use Rattle.meetings.specs.Meetings.{Steady}
 use Rattle.meetings.proofs.Right.{Entry, right-entry}
-use Rattle.cycles.specs.Certificates.{stepRises, waitRises, ordered}
-use Rattle.cycles.proofs.Certified.{formed, ordered-acyclic}
+use Rattle.cycles.proofs.Placed.{formed}
 
 -- a running count of the turned ones
 pub turned-more : (f : ℕ → Bool) (k c x : ℕ) (t : Bool) → c ≡ countBelow k f → t ≡ f k → x ≡ pick t 1 0 → c + x ≡ countBelow (k + 1) f
@@ -104,20 +101,26 @@ module _ (owners locations times starts lasts firsts seconds flags : List ℕ) (
   given-placed = right-placed (at owners) (at starts) (at lasts) (at locations) (at times) drones n m (at firsts) (at seconds) (turnedIn flags) (G .shape) (G .stops .steady) (G .zero-time) e (G .unfixed)
 
   -- nothing is turned: the planned times rise along every edge
-  unturned-ordered : ((k : ℕ) → k < m → turnedIn flags k ≡ false) → ordered (at owners) n (fromOf (at firsts) (at seconds) (turnedIn flags)) (intoOf (at firsts) (at seconds) (turnedIn flags)) m (at times) ≡ true
-  unfolding ordered stepRises waitRises
-  unturned-ordered h = and-both _ _ (allBelow-all n _ step) (allBelow-all m _ (λ k l. rw (h k l) (lt-ltb _ _ (given-entry k l .leaves))))
+  unturned-rising : ((k : ℕ) → k < m → turnedIn flags k ≡ false) → Rising (flatPlan (at owners) (at starts) (at lasts) drones (fromOf (at firsts) (at seconds) (turnedIn flags)) (intoOf (at firsts) (at seconds) (turnedIn flags)) m) (λ d s. at times (at starts d + s))
+  unturned-rising h = record { own-rises = along; wait-rises = across }
     where
-      step : (v : ℕ) → v < n → (not (ltb (v + 1) n && eqb (at owners (v + 1)) (at owners v)) || ltb (at times v) (at times (v + 1))) ≡ true
-      step v l = by-cases (ltb (v + 1) n)
-          (λ a. by-cases (eqb (at owners (v + 1)) (at owners v))
-          (λ b. rw (a, b) (lt-ltb _ _ (G .stops .steady v (ltb-true (v + 1) n a) (eqb-true _ _ b))))
-          (λ b. rw (a, b) refl))
-          (λ a. rw a refl)
+      along : (d s : ℕ) → d < drones → s < at lasts d → at times (at starts d + s) < at times (at starts d + suc s)
+      along d s l k =
+          let a : at owners (at starts d + s) ≡ d = G .shape .place-own d s l (omega arith) in
+          let b : at owners (at starts d + suc s) ≡ d = G .shape .place-own d (suc s) l (omega arith) in
+          let q : at starts d + s + 1 ≡ at starts d + suc s = omega arith in
+          rw q at (G .stops .steady (at starts d + s) (omega (arith, G .shape .place-in d (suc s) l (omega arith))) (rw q (b ∙ sym a)))
+
+      back : (v : ℕ) → v < n → at starts (at owners v) + (v - at starts (at owners v)) ≡ v
+      back v l = omega (arith, G .shape .off-le v l)
+
+      across : (k : ℕ) → k < m → at times (at starts (at owners (fromOf (at firsts) (at seconds) (turnedIn flags) k)) + (fromOf (at firsts) (at seconds) (turnedIn flags) k - at starts (at owners (fromOf (at firsts) (at seconds) (turnedIn flags) k))))
+          < at times (at starts (at owners (intoOf (at firsts) (at seconds) (turnedIn flags) k)) + (intoOf (at firsts) (at seconds) (turnedIn flags) k - at starts (at owners (intoOf (at firsts) (at seconds) (turnedIn flags) k))))
+      across k l = rw (h k l) (rw (back (at firsts k + 1) (given-entry k l .next-in), back (at seconds k) (given-entry k l .second-in)) (given-entry k l .leaves))
 
   pub given-unturned : (t : ℕ) → t ≡ countBelow m (turnedIn flags) → t ≡ 0 → true ≡ graphSound (at owners) (at starts) (at lasts) (at locations) (at times) drones n m (at firsts) (at seconds) (turnedIn flags)
   given-unturned t q z = graph-right (at owners) (at starts) (at lasts) (at locations) (at times) drones n m (at firsts) (at seconds) (turnedIn flags) false e
-      (sym (ordered-acyclic (at owners) (at starts) (at lasts) drones n _ _ m given-placed (at times) (unturned-ordered (count-none m (turnedIn flags) (sym q ∙ z)))))
+      (sym (acyclic-iff _ (formed (at owners) (at starts) (at lasts) drones n _ _ m given-placed) .1 (rising-acyclic _ (unturned-rising (count-none m (turnedIn flags) (sym q ∙ z))))))
 
   module _ (from into : List ℕ) (E : Edges firsts seconds flags m from into) where
     pub given-tables : FlatTables owners starts lasts drones n from into m

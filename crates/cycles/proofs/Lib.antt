@@ -1,4 +1,10 @@
-pub mod Certified
-pub mod Asking
-pub mod Moved
+pub mod Placed
+pub mod Fits
+pub mod StackLaws
+pub mod MetLaws
+pub mod NeedLaws
+pub mod MeetLaws
+pub mod WalkLaws
+pub mod StepLaws
+pub mod CycleLaws
 pub mod Directed

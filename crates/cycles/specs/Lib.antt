@@ -1,4 +1,4 @@
 pub mod Flat
-pub mod Certificates
-pub mod Moves
 pub mod Waits
+pub mod Links
+pub mod Walk

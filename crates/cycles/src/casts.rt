@@ -13,16 +13,3 @@ pub fn wide8(x: u8) -> usize
 {
     x as usize
 }
-
-// An entry by an index that is taken modulo the table's size.
-pub fn get(s: &[u16; 1024], i: usize) -> usize
-    ensures { λ r. ⌜ r < 65536 ⌝ }
-{
-    wide(s[i % 1024])
-}
-
-pub fn edge(s: &[u16; 2048], k: usize) -> usize
-    ensures { λ r. ⌜ r < 65536 ⌝ }
-{
-    wide(s[k % 2048])
-}

@@ -79,8 +79,8 @@ module _ (t : Tables) (u : Usable limits t) where
     graph-true : graphPart D n M (p .stopCounts) (p .locations) (p .times) (p .firstDrones) (p .firstStops) (p .secondDrones) (p .secondStops) limits (t .flags) ≡ true
     graph-true = rw total (parts .graph-sound)
 
-    columns : Columns M (p .firstDrones) (p .firstStops) (p .secondDrones) (p .secondStops) (t .flags)
-    columns = record {
+    pub cost-columns : Columns M (p .firstDrones) (p .firstStops) (p .secondDrones) (p .secondStops) (t .flags)
+    cost-columns = record {
       has-first-drones = omega (arith, F .dependencies-few, F .sizes .first-drones);
       has-first-stops = omega (arith, F .dependencies-few, F .sizes .first-stops);
       has-second-drones = omega (arith, F .dependencies-few, F .sizes .second-drones);
@@ -90,9 +90,9 @@ module _ (t : Tables) (u : Usable limits t) where
 
     -- the local tables of the numbering
     module _ (owners numbers starts lasts : List ℕ) (T : Numbers D n (p .stopCounts) owners numbers starts lasts) where
-      known : Known D n M (p .stopCounts) (p .locations) (p .times) (p .firstDrones) (p .firstStops) (p .secondDrones) (p .secondStops) (t .flags) cost-counted owners numbers starts lasts T
+      pub cost-known : Known D n M (p .stopCounts) (p .locations) (p .times) (p .firstDrones) (p .firstStops) (p .secondDrones) (p .secondStops) (t .flags) cost-counted owners numbers starts lasts T
       unfolding graphPart
-      known =
+      cost-known =
           let a = and-right (allBelow n (stopSound limits (number D (p .stopCounts)) (at (p .locations)) (at (p .times)))) _ graph-true in
           let b = and-right (allBelow M (stopIn D (p .stopCounts) (at (p .firstDrones)) (at (p .firstStops)))) _ a in
           let c = and-right (allBelow M (stopIn D (p .stopCounts) (at (p .secondDrones)) (at (p .secondStops)))) _ b in
@@ -100,12 +100,12 @@ module _ (t : Tables) (u : Usable limits t) where
 
       pub cost-numberable : Numberable starts (p .firstDrones) (p .firstStops) (p .secondDrones) (p .secondStops) (t .flags) M
       cost-numberable = record {
-        columns = columns;
+        columns = cost-columns;
         few = F .dependencies-few;
-        first-drone = first-limit D n M _ _ _ _ _ _ _ _ cost-counted owners numbers starts lasts T known;
-        first-stop = first-number D n M _ _ _ _ _ _ _ _ cost-counted owners numbers starts lasts T known;
-        second-drone = second-limit D n M _ _ _ _ _ _ _ _ cost-counted owners numbers starts lasts T known;
-        second-stop = second-number D n M _ _ _ _ _ _ _ _ cost-counted owners numbers starts lasts T known;
+        first-drone = first-limit D n M _ _ _ _ _ _ _ _ cost-counted owners numbers starts lasts T cost-known;
+        first-stop = first-number D n M _ _ _ _ _ _ _ _ cost-counted owners numbers starts lasts T cost-known;
+        second-drone = second-limit D n M _ _ _ _ _ _ _ _ cost-counted owners numbers starts lasts T cost-known;
+        second-stop = second-number D n M _ _ _ _ _ _ _ _ cost-counted owners numbers starts lasts T cost-known;
       }
 
       -- the waits over them
@@ -120,14 +120,14 @@ module _ (t : Tables) (u : Usable limits t) where
         right-now = right (at owners) (at (p .locations)) (at (p .times)) n M (at (W .firsts)) (at (W .seconds))
 
         given : Given owners (p .locations) (p .times) starts lasts (W .firsts) (W .seconds) (t .flags) D n M
-        given = code-given D n M _ _ _ _ _ _ _ _ cost-counted owners numbers starts lasts T known (W .firsts) (W .seconds) (W .first-side) (W .second-side) (omega (arith, cost-counted .few-stops, F .sizes .locations)) (omega (arith, cost-counted .few-stops, F .sizes .times)) columns
+        given = code-given D n M _ _ _ _ _ _ _ _ cost-counted owners numbers starts lasts T cost-known (W .firsts) (W .seconds) (W .first-side) (W .second-side) (omega (arith, cost-counted .few-stops, F .sizes .locations)) (omega (arith, cost-counted .few-stops, F .sizes .times)) cost-columns
 
         local-sound : graphSound (at owners) (at starts) (at lasts) (at (p .locations)) (at (p .times)) D n M (at (W .firsts)) (at (W .seconds)) (turnedIn (t .flags)) ≡ true
-        local-sound = code-graph D n M _ _ _ _ _ _ _ _ cost-counted owners numbers starts lasts T known (W .firsts) (W .seconds) (W .first-side) (W .second-side) _ refl ∙ graph-true
+        local-sound = code-graph D n M _ _ _ _ _ _ _ _ cost-counted owners numbers starts lasts T cost-known (W .firsts) (W .seconds) (W .first-side) (W .second-side) _ refl ∙ graph-true
 
-        is-right : right-now ≡ true
+        pub cost-right : right-now ≡ true
         unfolding graphSound
-        is-right = and-left _ _ local-sound
+        cost-right = and-left _ _ local-sound
 
         no-cycle : cyclic Q ≡ false
         unfolding graphSound
@@ -135,16 +135,16 @@ module _ (t : Tables) (u : Usable limits t) where
 
         waits-are : (k : ℕ) → k < M → P .wait k ≡ G .wait k
         waits-are k l = flat-wait (at owners) (at starts) (at lasts) D n M (at from) (at into) _ _ (W .edges .from-is) (W .edges .into-is) k l
-            ∙ same-wait D n M (p .stopCounts) (p .locations) (p .times) (p .firstDrones) (p .firstStops) (p .secondDrones) (p .secondStops) (t .flags) cost-counted (known .stops-fine) (known .both-sides .firsts-in) (known .both-sides .seconds-in) (known .both-sides .flags-fine) owners numbers starts lasts (W .firsts) (W .seconds) T (W .first-side) (W .second-side) is-right k l
+            ∙ same-wait D n M (p .stopCounts) (p .locations) (p .times) (p .firstDrones) (p .firstStops) (p .secondDrones) (p .secondStops) (t .flags) cost-counted (cost-known .stops-fine) (cost-known .both-sides .firsts-in) (cost-known .both-sides .seconds-in) (cost-known .both-sides .flags-fine) owners numbers starts lasts (W .firsts) (W .seconds) T (W .first-side) (W .second-side) cost-right k l
 
         waits-kept : Kept P (at (t .visited))
         waits-kept k l = subst (λ (z : Wait). z .stop ≤ at (t .visited) (z .waiter) → z .until ≤ at (t .visited) (z .awaited)) (sym (waits-are k l)) (kept limits t (sound-says limits t (u .1) .waits-kept) k l)
 
         pub cost-ready : Ready owners starts lasts D n from into M (t .visited)
         cost-ready = record {
-          tables = given-tables _ _ _ _ _ _ _ _ _ _ _ given is-right from into (W .edges);
+          tables = given-tables _ _ _ _ _ _ _ _ _ _ _ given cost-right from into (W .edges);
           has-visited = omega (arith, F .drones-few, F .sizes .visited);
-          acyclic = given-cyclic _ _ _ _ _ _ _ _ _ _ _ given is-right from into (W .edges) ∙ no-cycle;
+          acyclic = given-cyclic _ _ _ _ _ _ _ _ _ _ _ given cost-right from into (W .edges) ∙ no-cycle;
           kept = waits-kept;
           within = λ d l. omega (arith, T .lasts-are d l, F .place-in d l);
         }

@@ -2,6 +2,6 @@ pub mod Facts
 pub mod Answers
 pub mod WritingLaws
 pub mod CheckLaws
+pub mod CostLaws
 pub mod Turned
 pub mod TurnAnswers
-pub mod CostLaws

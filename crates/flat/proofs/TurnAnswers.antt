@@ -1,31 +1,28 @@
 -- Turn on usable tables by the ways through its code: one law for each return, with the results of the tests as the code has them. Assumes nothing.
-use mathlib.Core.Path.{_≡_, refl, sym, ap, _∙_}
+use mathlib.Core.Path.{_≡_, refl, sym, _∙_}
 use mathlib.Core.Bool.{Bool, true, false, cond}
 use mathlib.Core.List.{List}
 use Prim.Native.Nat.{ℕ, suc, _-_, _≤_, _<_}
 use native.Mathlib.Omega.{arith}
 use lib.Dec.{eqb}
-use lib.ListN.{length, set, length-set}
-use lib.Seq.{set-set, set-getD, getD-set-other}
+use lib.ListN.{set}
 use borrow.Author.Tests.{le-leb, lt-leb, eqb-true, eq-eqb}
 use Rattle.below.specs.Below.{at}
 use Rattle.below.proofs.Tests.{same-test}
 use Rattle.tables.specs.Limits.{Limits}
-use Rattle.tables.specs.Tables.{Tables, dependencies, fullSize}
+use Rattle.tables.specs.Tables.{Tables, dependencies}
 use Rattle.tables.specs.Flags.{turnedBit, fixedBit, flipBit, underWayBit}
 use Rattle.plan.specs.Field.{FieldPlan, planOf, Dependency, inForce, fixed}
 use Rattle.plan.specs.Status.{Status, statusIn, entered, now}
-use Rattle.sound.specs.Sound.{sound}
 use Rattle.log.specs.CallLog.{turn, accepted, refused}
 use Rattle.log.specs.Calls.{step, flipped, Answered}
 use Rattle.log.specs.Claims.{Usable}
 use Rattle.sound.proofs.Clauses.{sound-says}
 use Rattle.log.proofs.SoundParts.{fixed-bit}
-use Rattle.log.proofs.Shown.{full-same}
 use Rattle.log.proofs.Steps.{turn-30, turn-31, turn-32, turn-33, turn-34, turn-0}
 use Rattle.flat.specs.Entering.{enteredBy}
+use Rattle.flat.specs.InForce.{turnedCyclic}
 use Rattle.flat.proofs.Answers.{answered}
-use Rattle.flat.proofs.Turned.{cycle-when-not-sound, no-cycle-when-sound}
 
 -- ---- has a drone entered a stop
 
@@ -45,18 +42,6 @@ module _ (place flag stop : ℕ) where
 -- the tables with other flag bytes of the dependencies
 abbrev pub withFlags : Tables → List ℕ → Tables
 withFlags t flags = record { plan = t .plan; visited = t .visited; droneFlags = t .droneFlags; flags = flags }
-
--- a turn keeps every size
-pub full-turn : (L : Limits) (t : Tables) (w x : ℕ) → w < dependencies (t .plan) → fullSize L t ≡ true → fullSize L (withFlags t (set (t .flags) w x)) ≡ true
-full-turn L t w x l full = full-same L t (withFlags t (set (t .flags) w x)) (record {
-  plan-same = refl;
-  visited-length = refl;
-  droneFlags-length = refl;
-  flags-length = length-set (t .flags) w x;
-  visited-unused = λ d h. refl;
-  droneFlags-unused = λ d h. refl;
-  flags-unused = λ v h. getD-set-other (t .flags) w v x 0 (λ e. omega arith);
-}) full
 
 -- the sides of a dependency that are entered, in the order now in force
 module _ (F : FieldPlan) (s : Status) (x : Dependency) where
@@ -106,15 +91,11 @@ module _ (L : Limits) (t : Tables) (u : Usable L t) (w : ℕ) where
         pub turns-33 : y ≡ true → Answered (step L) t (turn w) (refused 33) t
         turns-33 e = answered (step L) t (turn w) (refused 33) t (turn-33 L t (u .0) (u .1) w a unfixed (sym x-is ∙ outside) (sym y-is ∙ e))
 
-        -- v: the flag byte after the turn; r: the tables are sound with it
-        module _ (outside-too : y ≡ false) (room : w < length (t .flags)) (v : ℕ) (is-v : v ≡ flipBit (at (t .flags) w)) (r : Bool) (is-r : r ≡ sound L (withFlags t (set (t .flags) w v))) where
-          turned-sound : r ≡ sound L (flipped t w)
-          turned-sound = is-r ∙ ap (λ (z : ℕ). sound L (withFlags t (set (t .flags) w z))) is-v
+        -- r: the turned graph has a cycle
+        module _ (outside-too : y ≡ false) (r : Bool) (is-r : r ≡ turnedCyclic t w) where
+          pub turns-34 : r ≡ true → Answered (step L) t (turn w) (refused 34) t
+          turns-34 e = answered (step L) t (turn w) (refused 34) t (turn-34 L t (u .0) (u .1) w a unfixed (sym x-is ∙ outside) (sym y-is ∙ outside-too) (sym is-r ∙ e))
 
-          pub turns-34 : r ≡ false → Answered (step L) t (turn w) (refused 34) (withFlags t (set (set (t .flags) w v) w (at (t .flags) w)))
-          turns-34 e = rw (set-set (t .flags) w v (at (t .flags) w), set-getD (t .flags) w 0) (answered (step L) t (turn w) (refused 34) t
-              (turn-34 L t (u .0) (u .1) w a unfixed (sym x-is ∙ outside) (sym y-is ∙ outside-too) (cycle-when-not-sound L t (sound-says L t (u .1)) w a room unfixed (sym x-is ∙ outside) (sym turned-sound ∙ e))))
-
-          pub turns-0 : r ≡ true → Answered (step L) t (turn w) accepted (withFlags t (set (t .flags) w v))
-          turns-0 e = rw is-v (answered (step L) t (turn w) accepted (flipped t w)
-              (turn-0 L t (u .0) (u .1) w a unfixed (sym x-is ∙ outside) (sym y-is ∙ outside-too) (no-cycle-when-sound L t (sound-says L t (u .1)) w a room unfixed (sym x-is ∙ outside) (sym turned-sound ∙ e))))
+          -- v: the flag byte after the turn
+          pub turns-0 : (v : ℕ) → v ≡ flipBit (at (t .flags) w) → r ≡ false → Answered (step L) t (turn w) accepted (withFlags t (set (t .flags) w v))
+          turns-0 v is-v e = rw is-v (answered (step L) t (turn w) accepted (flipped t w) (turn-0 L t (u .0) (u .1) w a unfixed (sym x-is ∙ outside) (sym y-is ∙ outside-too) (sym is-r ∙ e)))

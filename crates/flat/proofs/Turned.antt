@@ -1,133 +1,191 @@
--- A turn of a dependency that is not fixed, and that the first drone has not entered, leaves sound tables just where the turned graph has no cycle. Assumes nothing.
+-- The waits with one dependency turned, as the code makes them of the waits now in force: they are those of the turned graph, so a cycle of theirs is one of that. Assumes nothing.
 use mathlib.Core.Path.{_≡_, refl, sym, ap, _∙_, subst}
-use mathlib.Core.Bool.{Bool, true, false, not, _&&_, _||_}
-use Prim.Native.Nat.{ℕ, _/_, _<_}
+use mathlib.Core.Logic.{_≢_}
+use mathlib.Core.Bool.{Bool, true, false, not, _&&_}
+use mathlib.Core.List.{List}
+use Prim.Native.Nat.{ℕ, _+_, _-_, _/_, _≤_, _<_}
 use native.Mathlib.Omega.{arith}
-use lib.Dec.{eqb, ltb}
-use lib.ListN.{length, set}
-use lib.Seq.{getD-set-other}
-use borrow.Author.Tests.{eqb-true, eq-eqb, ltb-false}
-use Rattle.below.specs.Below.{at, put}
-use Rattle.below.proofs.Tests.{by-cases, true-or-false}
-use Rattle.below.proofs.Every.{allBelow-at, allBelow-all, allBelow-ext}
-use Rattle.below.proofs.Index.{at-set}
-use Rattle.tables.specs.Limits.{Limits}
-use Rattle.tables.specs.Tables.{Tables, dependencies}
-use Rattle.tables.specs.Flags.{turnedBit, flipBit}
+use lib.Dec.{eqb}
+use lib.ListN.{length, set, length-set}
+use lib.Seq.{getD-set-same, getD-set-other}
+use borrow.Author.Tests.{eqb-true, eqb-false, eq-eqb}
+use Rattle.below.specs.Below.{allBelow, at, pick}
+use Rattle.below.proofs.Tests.{by-cases, and-left, and-both}
+use Rattle.below.proofs.Every.{allBelow-at, allBelow-all}
+use Rattle.tables.specs.Limits.{limits}
+use Rattle.tables.specs.Tables.{PlanLists, Tables, drones, dependencies}
+use Rattle.tables.specs.Flags.{turnedBit, fixedBit, flipBit}
 use Rattle.tables.proofs.FlagLaws.{flip-turned, flip-half}
-use Rattle.precedence.specs.Graph.{cyclic}
-use Rattle.plan.specs.Field.{FieldPlan, planOf, inForce, waitOf, flip, graph, fixed, AcceptedPlan}
-use Rattle.plan.specs.Status.{Status, statusIn, entered, now, fixedUnturned, withinStops, waitsKept}
-use Rattle.sound.specs.Sound.{zeroFrom, flagsSound, droneFlagsSound, progressUnused, sound}
+use Rattle.precedence.specs.Graph.{Plan, cyclic}
+use Rattle.plan.specs.Stops.{start}
+use Rattle.plan.specs.Field.{planOf, flip, graph, fixed}
+use Rattle.plan.specs.Status.{statusIn}
+use Rattle.cycles.specs.Flat.{flatPlan, FlatTables}
+use Rattle.cycles.specs.Waits.{fromOf, intoOf, turnedIn, Edges, Given}
+use Rattle.cycles.proofs.Placed.{formed}
+use Rattle.cycles.proofs.Directed.{same-wait as flat-wait, given-tables}
+use Rattle.sound.specs.Asked.{Columns, Numbers}
+use Rattle.sound.specs.Parts.{flagRight}
+use Rattle.sound.proofs.Clauses.{sound-says}
+use Rattle.sound.proofs.Local.{Known, code-given, same-wait}
+use Rattle.sound.proofs.SameGraph.{cyclic-same as alike-cyclic}
+use Rattle.log.specs.Claims.{Usable}
 use Rattle.log.specs.Calls.{flipped}
-use Rattle.log.specs.Demand.{Agree}
-use Rattle.sound.proofs.Clauses.{Sound, sound-says, says-sound}
-use Rattle.log.proofs.SoundParts.{accepted-plan}
-use Rattle.log.proofs.SameStatus.{cyclic-same, unturned-same, waits-same}
+use Rattle.log.proofs.SameStatus.{cyclic-same}
+use Rattle.log.proofs.SoundParts.{fixed-bit}
+use Rattle.flat.specs.InForce.{WaitsInForce, turnedCyclic}
+use Rattle.flat.proofs.Facts.{Facts, facts}
+use Rattle.flat.proofs.CostLaws.{cost-counted, cost-columns, cost-known, cost-right, cost-ready}
 
-not-both : (a b : Bool) → b ≡ false → not (a && b) ≡ true
-not-both true b e = rw e refl
-not-both false b e = refl
+-- ---- one wait the other way round
 
-not-or : (a b : Bool) → a ≡ false → not a || b ≡ true
-not-or a b e = rw e refl
+-- where the first stop x and the second stop y make a wait, turned or not
+exchange-from : (b : Bool) (x y i : ℕ) → i ≡ pick b x y → i + 1 ≡ pick (not b) (y + 1) (x + 1)
+exchange-from true x y i e = omega (arith, e)
+exchange-from false x y i e = omega (arith, e)
 
--- ---- the clauses of "sound" that speak of turns
+exchange-into : (b : Bool) (x y f : ℕ) → f ≡ pick b (y + 1) (x + 1) → f - 1 ≡ pick (not b) x y
+exchange-into true x y f e = omega (arith, e)
+exchange-into false x y f e = omega (arith, e)
 
-module _ (F : FieldPlan) (s : Status) (w : ℕ) where
-  open FieldPlan F using (count, dependency)
+from-some : (b : Bool) (x y f : ℕ) → f ≡ pick b (y + 1) (x + 1) → 1 ≤ f
+from-some true x y f e = omega (arith, e)
+from-some false x y f e = omega (arith, e)
 
-  -- the status after the turn
-  abbrev pub turnedStatus : Status
-  turnedStatus = record { place = s .place; underWay = s .underWay; turned = flip (s .turned) w }
+module _ (flags : List ℕ) (w : ℕ) (room : w < length flags) where
+  -- the flag bytes after the turn
+  abbrev pub flagsAfter : List ℕ
+  flagsAfter = set flags w (flipBit (at flags w))
 
-  unturned-turn : fixed F w ≡ false → fixedUnturned F s ≡ true → fixedUnturned F turnedStatus ≡ true
-  unfolding fixedUnturned
-  unturned-turn e h = allBelow-all count _ (λ v l. by-cases (eqb v w)
-      (λ q. not-both (flip (s .turned) w v) (fixed F v) (ap (fixed F) (eqb-true v w q) ∙ e))
-      (λ q. rw q (allBelow-at count _ h v l)))
+  turned-here : turnedIn flagsAfter w ≡ not (turnedIn flags w)
+  turned-here = ap turnedBit (getD-set-same flags w (flipBit (at flags w)) 0 room) ∙ flip-turned (at flags w)
 
-  -- the drone that waits after the turn is the one that was first
-  waiter-turned : (v : ℕ) (b : Bool) → entered F s (inForce b (dependency v) .first) (inForce b (dependency v) .firstStop) ≡ false
-      → entered F s (waitOf (inForce (not b) (dependency v)) .waiter) (waitOf (inForce (not b) (dependency v)) .stop) ≡ false
-  waiter-turned v true e = e
-  waiter-turned v false e = e
+  turned-other : (j : ℕ) → j ≢ w → turnedIn flagsAfter j ≡ turnedIn flags j
+  turned-other j ne = ap turnedBit (getD-set-other flags w j (flipBit (at flags w)) 0 ne)
 
-  waits-turn : entered F s (now F s w .first) (now F s w .firstStop) ≡ false → waitsKept F s ≡ true → waitsKept F turnedStatus ≡ true
-  unfolding waitsKept
-  waits-turn e h = allBelow-all count _ (λ v l. by-cases (eqb v w)
-      (λ q. rw q (not-or _ _ (waiter-turned v (s .turned v) (subst (λ (z : ℕ). entered F s (now F s z .first) (now F s z .firstStop) ≡ false) (sym (eqb-true v w q)) e))))
-      (λ q. rw q (allBelow-at count _ h v l)))
+  turned-after : (j : ℕ) → turnedIn flagsAfter j ≡ flip (turnedIn flags) w j
+  turned-after j = by-cases (eqb j w)
+      (λ q. let s : j ≡ w = eqb-true j w q in rw q (ap (turnedIn flagsAfter) s ∙ turned-here ∙ ap (λ (z : ℕ). not (turnedIn flags z)) (sym s)))
+      (λ q. rw q (turned-other j (eqb-false j w q)))
 
--- ---- the tables
+  half-after : (j : ℕ) → at flagsAfter j / 2 ≡ at flags j / 2
+  half-after j = by-cases (eqb j w)
+      (λ q. let s : j ≡ w = eqb-true j w q in ap (λ (z : ℕ). at flagsAfter z / 2) s ∙ ap (λ (z : ℕ). z / 2) (getD-set-same flags w (flipBit (at flags w)) 0 room) ∙ flip-half (at flags w) ∙ ap (λ (z : ℕ). at flags z / 2) (sym s))
+      (λ q. ap (λ (z : ℕ). z / 2) (getD-set-other flags w j (flipBit (at flags w)) 0 (eqb-false j w q)))
 
-module _ (L : Limits) (t : Tables) (parts : Sound L t) (w : ℕ) (l : w < dependencies (t .plan)) (room : w < length (t .flags)) where
-  abbrev F : FieldPlan
-  F = planOf (t .plan)
+  module _ (firsts seconds : List ℕ) (m : ℕ) (from into : List ℕ) (E : Edges firsts seconds flags m from into) (l : w < m) (few : m ≤ limits .dependencies) where
+    abbrev f : ℕ
+    f = at into w + 1
 
-  abbrev S : Status
-  S = statusIn t
+    abbrev i : ℕ
+    i = at from w - 1
 
-  plan : AcceptedPlan F
-  plan = accepted-plan L (t .plan) (parts .accepted) (parts .dependencies-own)
+    edges-turned : Edges firsts seconds flagsAfter m (set from w f) (set into w i)
+    edges-turned = record {
+      from-size = length-set from w f ∙ E .from-size;
+      into-size = length-set into w i ∙ E .into-size;
+      from-is = λ j h. by-cases (eqb j w)
+          (λ q. subst (λ (z : ℕ). at (set from w f) z ≡ fromOf (at firsts) (at seconds) (turnedIn flagsAfter) z) (sym (eqb-true j w q))
+          (getD-set-same from w f 0 (omega (arith, E .from-size)) ∙ exchange-from (turnedIn flags w) (at firsts w) (at seconds w) (at into w) (E .into-is w l) ∙ ap (λ (b : Bool). pick b (at seconds w + 1) (at firsts w + 1)) (sym turned-here)))
+          (λ q. getD-set-other from w j f 0 (eqb-false j w q) ∙ E .from-is j h ∙ ap (λ (b : Bool). pick b (at seconds j + 1) (at firsts j + 1)) (sym (turned-other j (eqb-false j w q))));
+      into-is = λ j h. by-cases (eqb j w)
+          (λ q. subst (λ (z : ℕ). at (set into w i) z ≡ intoOf (at firsts) (at seconds) (turnedIn flagsAfter) z) (sym (eqb-true j w q))
+          (getD-set-same into w i 0 (omega (arith, E .into-size)) ∙ exchange-into (turnedIn flags w) (at firsts w) (at seconds w) (at from w) (E .from-is w l) ∙ ap (λ (b : Bool). pick b (at firsts w) (at seconds w)) (sym turned-here)))
+          (λ q. getD-set-other into w j i 0 (eqb-false j w q) ∙ E .into-is j h ∙ ap (λ (b : Bool). pick b (at firsts j) (at seconds j)) (sym (turned-other j (eqb-false j w q))));
+    }
 
-  flag-after : (v : ℕ) → at (set (t .flags) w (flipBit (at (t .flags) w))) v ≡ put (at (t .flags)) w (flipBit (at (t .flags) w)) v
-  flag-after = at-set (t .flags) w (flipBit (at (t .flags) w)) room
+-- a flag byte with the same bits but bit 0 is right too where the dependency is not fixed
+flag-turned : (b : Bool) (f g : ℕ) → b ≡ false → g / 2 ≡ f / 2 → flagRight b f ≡ true → flagRight b g ≡ true
+unfolding flagRight
+flag-turned b f g e h r = and-both (eqb (g / 2) (pick b 1 0)) (not (turnedBit g && b)) (rw h (and-left (eqb (f / 2) (pick b 1 0)) (not (turnedBit f && b)) r)) (rw e (not-both (turnedBit g)))
+  where
+    not-both : (a : Bool) → not (a && false) ≡ true
+    not-both true = refl
+    not-both false = refl
 
-  turn-after : (v : ℕ) → statusIn (flipped t w) .turned v ≡ flip (S .turned) w v
-  turn-after v = ap turnedBit (flag-after v) ∙ by-cases (eqb v w)
-      (λ q. rw q (flip-turned (at (t .flags) w) ∙ ap (λ (x : ℕ). not (turnedBit (at (t .flags) x))) (sym (eqb-true v w q))))
-      (λ q. rw q refl)
+-- ---- the graph of usable tables with one dependency turned
 
-  agree : Agree F (statusIn (flipped t w)) (turnedStatus F S w)
-  agree = record { places = λ d h. refl; underWays = λ d h. refl; turns = λ v h. turn-after v }
+module _ (t : Tables) (u : Usable limits t) (w : ℕ) (l : w < dependencies (t .plan)) (loose : fixedBit (at (t .flags) w) ≡ false) where
+  abbrev p : PlanLists
+  p = t .plan
 
-  half-after : (v : ℕ) → at (flipped t w .flags) v / 2 ≡ at (t .flags) v / 2
-  half-after v = ap (λ (z : ℕ). z / 2) (flag-after v) ∙ by-cases (eqb v w)
-      (λ q. rw q (flip-half (at (t .flags) w) ∙ ap (λ (x : ℕ). at (t .flags) x / 2) (sym (eqb-true v w q))))
-      (λ q. rw q refl)
+  abbrev D : ℕ
+  D = drones p
 
-  flags-turn : flagsSound L (flipped t w) ≡ true
-  unfolding flagsSound
-  flags-turn = allBelow-all (dependencies (t .plan)) _ (λ v h. eq-eqb _ _ (half-after v ∙ eqb-true (at (t .flags) v / 2) _ (allBelow-at (dependencies (t .plan)) _ (parts .flags-right) v h)))
+  abbrev M : ℕ
+  M = dependencies p
 
-  drone-flags-turn : droneFlagsSound L (flipped t w) ≡ true
-  unfolding droneFlagsSound
-  drone-flags-turn = parts .drone-flags
+  F : Facts limits t
+  F = facts limits t u
 
-  within-turn : withinStops F (statusIn (flipped t w)) ≡ true
-  unfolding withinStops
-  within-turn = parts .within
+  room : w < length (t .flags)
+  room = omega (arith, F .dependencies-few, F .sizes .flags)
 
-  -- the flag that is turned is no unused one
-  zero-turn : zeroFrom (dependencies (t .plan)) (L .dependencies) (flipped t w .flags) ≡ zeroFrom (dependencies (t .plan)) (L .dependencies) (t .flags)
-  unfolding zeroFrom
-  zero-turn = allBelow-ext (L .dependencies) _ _ (λ v h. by-cases (ltb v (dependencies (t .plan)))
-      (λ q. rw q refl)
-      (λ q. ap (λ (z : ℕ). ltb v (dependencies (t .plan)) || eqb z 0) (getD-set-other (t .flags) w v _ 0 (λ e. omega (arith, ltb-false v (dependencies (t .plan)) q)))))
+  abbrev after : List ℕ
+  after = flagsAfter (t .flags) w room
 
-  unused-turn : progressUnused L (flipped t w) ≡ true
-  unfolding progressUnused
-  unused-turn = rw zero-turn (parts .progress-unused)
+  free : fixed (planOf p) w ≡ false
+  free = sym (fixed-bit limits t (sound-says limits t (u .1)) w l) ∙ loose
 
-  module _ (free : fixed F w ≡ false) (outside : entered F S (now F S w .first) (now F S w .firstStop) ≡ false) where
-    sound-turn : cyclic (graph F (flip (S .turned) w)) ≡ false → sound L (flipped t w) ≡ true
-    sound-turn e = says-sound L (flipped t w) (record {
-      accepted = parts .accepted;
-      dependencies-own = parts .dependencies-own;
-      flags-right = flags-turn;
-      fixed-unturned = unturned-same F plan _ _ agree ∙ unturned-turn F S w free (parts .fixed-unturned);
-      no-cycle = cyclic-same F (statusIn (flipped t w) .turned) (flip (S .turned) w) (λ v h. turn-after v) ∙ e;
-      drone-flags = drone-flags-turn;
-      within = within-turn;
-      waits-kept = waits-same F plan _ _ agree ∙ waits-turn F S w outside (parts .waits-kept);
-      plan-unused = parts .plan-unused;
-      progress-unused = unused-turn;
-    })
+  module _ (n : ℕ) (total : n ≡ start (p .stopCounts) D) (owners numbers starts lasts : List ℕ) (T : Numbers D n (p .stopCounts) owners numbers starts lasts) where
+    before : Known D n M (p .stopCounts) (p .locations) (p .times) (p .firstDrones) (p .firstStops) (p .secondDrones) (p .secondStops) (t .flags) (cost-counted t u n total) owners numbers starts lasts T
+    before = cost-known t u n total owners numbers starts lasts T
 
-    -- so the sound test of the turned tables tells whether there is a cycle
-    pub cycle-when-not-sound : sound L (flipped t w) ≡ false → cyclic (graph F (flip (S .turned) w)) ≡ true
-    cycle-when-not-sound h = by-cases (cyclic (graph F (flip (S .turned) w))) (λ e. e) (λ e. true-or-false (sound-turn e) h)
+    known : Known D n M (p .stopCounts) (p .locations) (p .times) (p .firstDrones) (p .firstStops) (p .secondDrones) (p .secondStops) after (cost-counted t u n total) owners numbers starts lasts T
+    known = record {
+      stops-fine = before .stops-fine;
+      both-sides = record {
+        firsts-in = before .both-sides .firsts-in;
+        seconds-in = before .both-sides .seconds-in;
+        flags-fine = allBelow-all M (λ k. flagRight (fixed (planOf p) k) (at after k)) (λ k h. by-cases (eqb k w)
+            (λ q. flag-turned (fixed (planOf p) k) (at (t .flags) k) (at after k) (ap (fixed (planOf p)) (eqb-true k w q) ∙ free) (half-after (t .flags) w room k) (was k h))
+            (λ q. subst (λ (z : ℕ). flagRight (fixed (planOf p) k) z ≡ true) (sym (getD-set-other (t .flags) w k (flipBit (at (t .flags) w)) 0 (eqb-false k w q))) (was k h)));
+      };
+    }
+      where
+        was : (k : ℕ) → k < M → flagRight (fixed (planOf p) k) (at (t .flags) k) ≡ true
+        was k h = allBelow-at M (λ k. flagRight (fixed (planOf p) k) (at (t .flags) k)) (before .both-sides .flags-fine) k h
 
-    pub no-cycle-when-sound : sound L (flipped t w) ≡ true → cyclic (graph F (flip (S .turned) w)) ≡ false
-    no-cycle-when-sound h = sym (cyclic-same F (statusIn (flipped t w) .turned) (flip (S .turned) w) (λ v k. turn-after v)) ∙ sound-says L (flipped t w) h .no-cycle
+    columns : Columns M (p .firstDrones) (p .firstStops) (p .secondDrones) (p .secondStops) after
+    columns =
+        let c : Columns M (p .firstDrones) (p .firstStops) (p .secondDrones) (p .secondStops) (t .flags) = cost-columns t u n total in
+        record {
+          has-first-drones = c .has-first-drones;
+          has-first-stops = c .has-first-stops;
+          has-second-drones = c .has-second-drones;
+          has-second-stops = c .has-second-stops;
+          has-flags = omega (arith, c .has-flags, length-set (t .flags) w (flipBit (at (t .flags) w)));
+        }
+
+    -- the waits now in force
+    module _ (from into : List ℕ) (W : WaitsInForce starts (p .firstDrones) (p .firstStops) (p .secondDrones) (p .secondStops) (t .flags) M from into) where
+      pub turn-from : 1 ≤ at from w
+      turn-from = from-some (turnedIn (t .flags) w) (at (W .firsts) w) (at (W .seconds) w) (at from w) (W .edges .from-is w l)
+
+      pub turn-into : at into w < limits .stops
+      turn-into = omega (arith, cost-ready t u n total owners numbers starts lasts T from into W .tables .placed .into-in w l, cost-counted t u n total .few-stops)
+
+      given : Given owners (p .locations) (p .times) starts lasts (W .firsts) (W .seconds) after D n M
+      given = code-given D n M _ _ _ _ _ _ _ _ (cost-counted t u n total) owners numbers starts lasts T known (W .firsts) (W .seconds) (W .first-side) (W .second-side) (omega (arith, cost-counted t u n total .few-stops, F .sizes .locations)) (omega (arith, cost-counted t u n total .few-stops, F .sizes .times)) columns
+
+      -- .. and with the dependency turned
+      module _ (from′ into′ : List ℕ) (ef : from′ ≡ set from w (at into w + 1)) (ei : into′ ≡ set into w (at from w - 1)) where
+        edges : Edges (W .firsts) (W .seconds) after M from′ into′
+        edges = rw (ef, ei) (edges-turned (t .flags) w room (W .firsts) (W .seconds) M from into (W .edges) l (F .dependencies-few))
+
+        pub turn-tables : FlatTables owners starts lasts D n from′ into′ M
+        turn-tables = given-tables _ _ _ _ _ _ _ _ _ _ _ given (cost-right t u n total owners numbers starts lasts T from into W) from′ into′ edges
+
+        abbrev P : Plan
+        P = flatPlan (at owners) (at starts) (at lasts) D (at from′) (at into′) M
+
+        abbrev G : Plan
+        G = graph (planOf p) (turnedIn after)
+
+        waits-are : (k : ℕ) → k < M → P .wait k ≡ G .wait k
+        waits-are k h = flat-wait (at owners) (at starts) (at lasts) D n M (at from′) (at into′) _ _ (edges .from-is) (edges .into-is) k h
+            ∙ same-wait D n M (p .stopCounts) (p .locations) (p .times) (p .firstDrones) (p .firstStops) (p .secondDrones) (p .secondStops) after (cost-counted t u n total) (known .stops-fine) (known .both-sides .firsts-in) (known .both-sides .seconds-in) (known .both-sides .flags-fine) owners numbers starts lasts (W .firsts) (W .seconds) T (W .first-side) (W .second-side) (cost-right t u n total owners numbers starts lasts T from into W) k h
+
+        pub turn-cyclic : (r : Bool) → r ≡ cyclic P → r ≡ turnedCyclic t w
+        turn-cyclic r e = e ∙ sym (alike-cyclic G P (formed (at owners) (at starts) (at lasts) D n (at from′) (at into′) M (turn-tables .placed)) (record { drones-same = refl; last-same = T .lasts-are; count-same = refl; wait-same = waits-are }))
+            ∙ cyclic-same (planOf p) (turnedIn after) (flip (statusIn t .turned) w) (λ v h. turned-after (t .flags) w room v)

@@ -1,8 +1,13 @@
 -- The waits of the dependencies in the order now in force, over stops that are numbered through. Assumes nothing.
+use mathlib.Core.Bool.{Bool}
 use mathlib.Core.List.{List}
 use Prim.Native.Nat.{ℕ, _+_, _≤_, _<_}
 use Rattle.below.specs.Below.{at}
 use Rattle.tables.specs.Limits.{limits}
+use Rattle.tables.specs.Tables.{Tables}
+use Rattle.precedence.specs.Graph.{cyclic}
+use Rattle.plan.specs.Field.{planOf, flip, graph}
+use Rattle.plan.specs.Status.{statusIn}
 use Rattle.cycles.specs.Waits.{Edges}
 use Rattle.sound.specs.Asked.{Columns, Through}
 
@@ -23,3 +28,7 @@ module _ (starts firstDrones firstStops secondDrones secondStops flags : List �
     pub first-side : Through starts firstDrones firstStops m firsts
     pub second-side : Through starts secondDrones secondStops m seconds
     pub edges : Edges firsts seconds flags m from into
+
+-- the graph now in force, with dependency w turned, has a cycle
+abbrev pub turnedCyclic : Tables → ℕ → Bool
+turnedCyclic t w = cyclic (graph (planOf (t .plan)) (flip (statusIn t .turned) w))

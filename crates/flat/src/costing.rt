@@ -13,7 +13,7 @@ ghost use Rattle.log.specs.Claims.{Usable};
 ghost use Rattle.flat.specs.InForce.{Numberable, WaitsInForce};
 
 // The waits of the first m dependencies in the order now in force.
-fn fill_waits(
+pub fn fill_waits(
     starts: &[u16; 32],
     first_drones: &[u8],
     first_stops: &[u16],

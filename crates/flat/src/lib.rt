@@ -2,6 +2,7 @@
 pub mod calls;
 pub mod cores;
 pub mod costing;
+pub mod exchanging;
 pub mod replies;
 pub mod turn_replies;
 pub mod turning;

@@ -1,6 +1,6 @@
 // Turn on tables that are of full size and sound.
+use crate::exchanging::turn_cycles;
 use crate::turn_replies::TurnReply;
-use sound::is_sound;
 use tables::flags::flipped;
 use tables::flags::is_fixed;
 use tables::flags::is_turned;
@@ -53,7 +53,7 @@ fn in_force(turned: bool, planned: bool, other: bool) -> bool
     if turned { other } else { planned }
 }
 
-// "flips bit 0 of one dependency". The bit is flipped in place, and back when the turned tables are not sound, which is when their graph has a cycle.
+// "flips bit 0 of one dependency", where the graph has no cycle with it.
 pub fn turn_sound(
     drone_count: &[u16],
     dependency_count: &[u16],
@@ -114,8 +114,7 @@ pub fn turn_sound(
     if in_force(turned, second, first) {
         return TurnReply::SecondEntered;
     }
-    flags[dependency] = flipped(flag);
-    if is_sound(
+    if turn_cycles(
         drone_count,
         dependency_count,
         names,
@@ -129,9 +128,10 @@ pub fn turn_sound(
         second_drones,
         second_stops,
         flags,
+        dependency,
     ) {
-        return TurnReply::Turned;
+        return TurnReply::Cycle;
     }
-    flags[dependency] = flag;
-    TurnReply::Cycle
+    flags[dependency] = flipped(flag);
+    TurnReply::Turned
 }

@@ -1,3 +1,3 @@
 pub mod Right
-pub mod Tallies
+pub mod ChainLaws
 pub mod Steps

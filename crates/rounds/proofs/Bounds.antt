@@ -1,67 +1,17 @@
 -- How great remaining rounds and cost can be: the stops of different drones lie apart, so that the unvisited ones are at most the stops that are no drone's
 -- first. Assumes nothing.
-use mathlib.Core.Path.{_≡_, refl}
-use mathlib.Core.Bool.{Bool, true, false}
-use Prim.Native.Nat.{ℕ, zero, suc, _+_, _*_, _-_, _≤_, _<_}
-use native.Mathlib.Nat.{add-suc, mul-le-mul-left, mul-le-mul-right, mul-comm, mul-add, le-trans}
+use mathlib.Core.Path.{_≡_}
+use Prim.Native.Nat.{ℕ, zero, suc, _+_, _*_, _-_, _≤_}
+use native.Mathlib.Nat.{mul-le-mul-left, mul-le-mul-right, mul-comm, mul-add, le-trans}
 use native.Mathlib.Omega.{arith}
-use lib.Dec.{ltb, eqb}
-use borrow.Author.Tests.{ltb-true, ltb-false, eqb-true, eq-eqb}
-use Rattle.below.proofs.Count.{count-le, count-mono}
-use Rattle.below.specs.Below.{pick, countBelow, sumBelow}
+use Rattle.below.specs.Below.{sumBelow}
 use Rattle.tables.specs.Limits.{Limits}
 use Rattle.precedence.specs.Graph.{Plan, Formed, Cycle, unvisited, cost}
 use Rattle.precedence.proofs.Visits.{cost-bound}
 use Rattle.cycles.specs.Flat.{flatPlan, Shape}
-
--- a run of indices that all pass
-count-run : (f : ℕ → Bool) (a len : ℕ) → ((s : ℕ) → s < len → f (a + s) ≡ true) → countBelow a f + len ≤ countBelow (a + len) f
-unfolding countBelow
-count-run f a zero h = let e : a + 0 ≡ a = omega arith in rw e (omega arith)
-count-run f a (suc len) h = rw (add-suc a len, h len (omega arith)) (omega (arith, count-run f a len (λ s l. h s (omega arith))))
-
--- those below e and those at e are below e + 1
-count-split : (g : ℕ → ℕ) (e n : ℕ) → countBelow n (λ v. ltb (g v) e) + countBelow n (λ v. eqb (g v) e) ≤ countBelow n (λ v. ltb (g v) (suc e))
-unfolding countBelow
-count-split g e zero = omega arith
-count-split g e (suc n) = go (ltb (g n) e) (eqb (g n) e) (ltb (g n) (suc e)) refl refl refl (count-split g e n)
-  where
-    A : ℕ
-    A = countBelow n (λ v. ltb (g v) e)
-
-    B : ℕ
-    B = countBelow n (λ v. eqb (g v) e)
-
-    C : ℕ
-    C = countBelow n (λ v. ltb (g v) (suc e))
-
-    go : (a b c : Bool) → ltb (g n) e ≡ a → eqb (g n) e ≡ b → ltb (g n) (suc e) ≡ c → A + B ≤ C → pick a (suc A) A + pick b (suc B) B ≤ pick c (suc C) C
-    go true true c x y z h = absurd (omega (arith, ltb-true (g n) e x, eqb-true (g n) e y))
-    go true false true x y z h = omega arith
-    go true false false x y z h = absurd (omega (arith, ltb-true (g n) e x, ltb-false (g n) (suc e) z))
-    go false true true x y z h = omega arith
-    go false true false x y z h = absurd (omega (arith, eqb-true (g n) e y, ltb-false (g n) (suc e) z))
-    go false false true x y z h = omega arith
-    go false false false x y z h = h
+use Rattle.cycles.proofs.Fits.{stops-fit}
 
 module _ (own off last : ℕ → ℕ) (drones n : ℕ) (from into : ℕ → ℕ) (m : ℕ) (shape : Shape own off last drones n) where
-  -- a drone has as many stops as it owns, or fewer
-  owned : (d : ℕ) → d < drones → suc (last d) ≤ countBelow n (λ v. eqb (own v) d)
-  owned d l = omega (
-    arith,
-    count-run (λ v. eqb (own v) d) (off d) (suc (last d)) (λ s h. eq-eqb _ _ (shape .place-own d s l (omega arith))),
-    count-mono (off d + suc (last d)) n (λ v. eqb (own v) d) (omega (arith, shape .place-in d (last d) l (omega arith))),
-  )
-
-  stops-below : (e : ℕ) → e ≤ drones → sumBelow e (λ d. suc (last d)) ≤ countBelow n (λ v. ltb (own v) e)
-  unfolding sumBelow
-  stops-below zero l = omega arith
-  stops-below (suc e) l = omega (arith, stops-below e (omega arith), owned e l, count-split own e n)
-
-  -- the stops of all drones
-  pub stops-fit : sumBelow drones (λ d. suc (last d)) ≤ n
-  stops-fit = omega (arith, stops-below drones (omega arith), count-le n (λ v. ltb (own v) drones))
-
   gaps : (p : ℕ → ℕ) (e : ℕ) → sumBelow e (λ d. last d - p d) + e ≤ sumBelow e (λ d. suc (last d))
   unfolding sumBelow
   gaps p zero = omega arith
@@ -70,7 +20,7 @@ module _ (own off last : ℕ → ℕ) (drones n : ℕ) (from into : ℕ → ℕ)
   -- a first stop is never unvisited
   pub unvisited-bound : (p : ℕ → ℕ) → unvisited (flatPlan own off last drones from into m) p + drones ≤ n
   unfolding unvisited
-  unvisited-bound p = omega (arith, gaps p drones, stops-fit)
+  unvisited-bound p = omega (arith, gaps p drones, stops-fit own off last drones n shape)
 
 -- d (s - d) rises with d up to the half of s
 product-rises : (d e s : ℕ) → d ≤ e → e + e ≤ s → d * (s - d) ≤ e * (s - e)

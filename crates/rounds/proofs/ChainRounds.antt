@@ -1,9 +1,9 @@
--- The rounds in which the stops are visited solve the equations of the flat table, by the recurrence of `reached` (`reached-table`); so the table that passes
--- end with is that of the rounds, and its entries at the last stops add up to the cost. Assumes nothing.
-use mathlib.Core.Path.{_≡_, refl, sym, ap, _∙_, subst}
+-- The table that a walk leaves is the table of rounds of the plan, with any legs, where the graph has no cycle; with legs of one its entries are the rounds in which the stops are
+-- visited (`reached-table`), and those at the last stops add up to the cost. Assumes nothing.
+use mathlib.Core.Path.{_≡_, refl, ap, _∙_, subst}
 use mathlib.Core.List.{List}
-use mathlib.Core.Bool.{Bool, true, false, _&&_}
-use Prim.Native.Nat.{ℕ, suc, _+_, _-_, _≤_, _<_, max, min}
+use mathlib.Core.Bool.{false}
+use Prim.Native.Nat.{ℕ, _+_, _-_, _≤_, _<_}
 use native.Mathlib.Omega.{arith}
 use lib.Dec.{ltb, leb, eqb}
 use lib.ListN.{length}
@@ -14,14 +14,93 @@ use Rattle.below.proofs.Sum.{sum-ext}
 use Rattle.below.proofs.Tests.{by-cases, and-left, and-right, and-both, same-test}
 use Rattle.below.specs.Below.{pick, maxBelow, sumBelow, at}
 use Rattle.tables.specs.Limits.{Limits}
-use Rattle.precedence.specs.Graph.{Plan, Formed, Cycle, Kept, Table, one, reached, remaining, cost, unvisited, into as intoStop, awaitedAt}
-use Rattle.precedence.proofs.Table.{latest-is, reached-table}
-use Rattle.precedence.proofs.Visits.{reached-bound}
-use Rattle.cycles.proofs.Certified.{formed}
+use Rattle.precedence.specs.Graph.{Plan, Formed, Cycle, Kept, Table, arrival, one, reached, remaining, cost, cyclic, into as intoStop, awaitedAt}
+use Rattle.precedence.proofs.Table.{latest-is, latest-ext, arrival-table, reached-table}
+use Rattle.precedence.proofs.Visits.{left, acyclic-iff}
+use Rattle.cycles.proofs.Placed.{formed}
+use Rattle.cycles.proofs.CycleLaws.{walked-all}
 use Rattle.cycles.specs.Flat.{flatPlan, PlacedWaits}
+use Rattle.cycles.specs.Walk.{Course, planOf, RoundTable, Walked}
 use Rattle.rounds.specs.Remaining.{stopRound, stopRounds}
-use Rattle.rounds.specs.StopTable.{latestAwaited, entryBy, Solution}
-use Rattle.rounds.proofs.Passes.{after-visited, after-unvisited}
+
+module _ (C : Course) (placed : PlacedWaits (C .own) (C .off) (C .last) (C .drones) (C .stops) (C .from) (C .into) (C .waits)) where
+  open Course C using (own, off, last, drones, stops, from, into, waits)
+
+  -- a table of the drones' stops, by the stops' flat numbers
+  abbrev pub flat : (ℕ → ℕ → ℕ) → ℕ → ℕ
+  flat t v = t (own v) (v - off (own v))
+
+  number-in : (v : ℕ) → v < stops → v - off (own v) ≤ last (own v)
+  number-in v l = omega (arith, placed .shape .number-in v l)
+
+  -- a wait into stop v, by its drone and number
+  into-flat : (v w : ℕ) → v < stops → w < waits → intoStop (planOf C) (own v) (v - off (own v)) w ≡ eqb (into w) v
+  unfolding intoStop
+  into-flat v w l k = same-test _ _
+      (λ e. let a : own (into w) ≡ own v = eqb-true _ _ (and-left _ _ e) in
+      let b : into w - off (own (into w)) ≡ v - off (own v) = eqb-true _ _ (and-right (eqb (own (into w)) (own v)) _ e) in
+      eq-eqb (into w) v (omega (arith, ap off a, placed .shape .off-le v l, placed .into-later w k)))
+      (λ e. let q : into w ≡ v = eqb-true (into w) v e in and-both _ _ (eq-eqb _ _ (ap own q)) (eq-eqb _ _ (ap (λ (u : ℕ). u - off (own u)) q)))
+
+  awaited-flat : (t : ℕ → ℕ → ℕ) (v : ℕ) → v < stops → maxBelow waits (awaitedAt (planOf C) t (own v) (v - off (own v))) ≡ maxBelow waits (λ w. pick (eqb (into w) v) (flat t (from w)) 0)
+  unfolding awaitedAt
+  awaited-flat t v l = max-ext waits (awaitedAt (planOf C) t (own v) (v - off (own v))) (λ w. pick (eqb (into w) v) (flat t (from w)) 0) (λ w k. rw (into-flat v w l k) refl)
+
+  -- the stop s of drone d
+  pub flat-at : (t : ℕ → ℕ → ℕ) (d s : ℕ) → d < drones → s ≤ last d → flat t (off d + s) ≡ t d s
+  flat-at t d s l h =
+      let e : off d + s - off d ≡ s = omega arith in
+      rw (placed .shape .place-own d s l h, e) refl
+
+  -- the own stop before
+  flat-before : (t : ℕ → ℕ → ℕ) (v : ℕ) → v < stops → off (own v) < v → flat t (v - 1) ≡ t (own v) (v - off (own v) - 1)
+  flat-before t v l h =
+      let e : off (own v) + (v - off (own v) - 1) ≡ v - 1 = omega arith in
+      subst (λ (u : ℕ). flat t u ≡ t (own v) (v - off (own v) - 1)) e (flat-at t (own v) (v - off (own v) - 1) (placed .shape .own-in v l) (omega (arith, placed .shape .number-in v l)))
+
+  -- the drones stand at their visited stops p
+  module _ (leg : ℕ → ℕ → ℕ) (p start : ℕ → ℕ) (stands : (d : ℕ) → d < drones → start d ≡ off d + p d) where
+    pub flat-table : {t : ℕ → ℕ → ℕ} → Table (planOf C) leg p t → RoundTable C (flat leg) start (flat t)
+    flat-table {t} table = record {
+      at-visited = λ v l h. table .at-visited (own v) (v - off (own v)) (placed .shape .own-in v l) (number-in v l) (omega (arith, stands (own v) (placed .shape .own-in v l)));
+      at-unvisited = λ v l h.
+          let o : p (own v) < v - off (own v) = omega (arith, stands (own v) (placed .shape .own-in v l)) in
+          omega (
+            arith,
+            table .at-unvisited (own v) (v - off (own v)) (placed .shape .own-in v l) (number-in v l) o,
+            latest-is (planOf C) t (own v) (v - off (own v)),
+            flat-before t v l (omega arith),
+            awaited-flat t v l,
+          );
+    }
+
+  -- a walk that has ended leaves the table of rounds, whatever the legs
+  module _ (leg : ℕ → ℕ → ℕ) (p : ℕ → ℕ) (start : List ℕ) (stands : (d : ℕ) → d < drones → at start d ≡ off d + p d) {b : ℕ} {cur tab : List ℕ} (W : Walked C (flat leg) b start cur tab) (acyclic : cyclic (planOf C) ≡ false) where
+    pub walked-is : {t : ℕ → ℕ → ℕ} → Table (planOf C) leg p t → (v : ℕ) → v < stops → at tab v ≡ flat t v
+    walked-is {t} table v l = W .visited (flat t) (flat-table leg p (at start) stands table) v l (walked-all C placed W acyclic v l)
+
+    abbrev P-formed : Formed (planOf C)
+    P-formed = formed own off last drones stops from into waits placed
+
+    P-acyclic : Cycle (planOf C) → ⊥
+    P-acyclic = acyclic-iff (planOf C) P-formed .0 acyclic
+
+    pub walked-table : Kept (planOf C) p → Table (planOf C) leg p (λ d s. at tab (off d + s))
+    walked-table kept = record {
+      at-visited = λ d s l h o. same d s l h ∙ A .at-visited d s l h o;
+      at-unvisited = λ d s l h o. omega (
+        arith,
+        same d s l h,
+        A .at-unvisited d s l h o,
+        latest-ext (planOf C) (λ d s. at tab (off d + s)) (arrival (planOf C) leg p) d s l (omega arith) h (λ u e. same (u .drone) (u .stop) (left (planOf C) P-formed e .0) (left (planOf C) P-formed e .1)),
+      );
+    }
+      where
+        A : Table (planOf C) leg p (arrival (planOf C) leg p)
+        A = arrival-table (planOf C) leg p P-formed P-acyclic kept
+
+        same : (d s : ℕ) → d < drones → s ≤ last d → at tab (off d + s) ≡ arrival (planOf C) leg p d s
+        same d s l h = walked-is A (off d + s) (placed .shape .place-in d s l h) ∙ flat-at (arrival (planOf C) leg p) d s l h
 
 module _ (own off last : ℕ → ℕ) (drones n : ℕ) (from into : ℕ → ℕ) (m : ℕ) (placed : PlacedWaits own off last drones n from into m) (p : ℕ → ℕ) where
   abbrev P : Plan
@@ -30,20 +109,6 @@ module _ (own off last : ℕ → ℕ) (drones n : ℕ) (from into : ℕ → ℕ)
   abbrev R : ℕ → ℕ
   R = stopRound own off last drones from into m p
 
-  -- a wait into stop v, by its drone and number
-  into-flat : (v w : ℕ) → v < n → w < m → intoStop P (own v) (v - off (own v)) w ≡ eqb (into w) v
-  unfolding intoStop
-  into-flat v w l k = same-test _ _
-      (λ e. let a : own (into w) ≡ own v = eqb-true _ _ (and-left _ _ e) in
-      let b : into w - off (own (into w)) ≡ v - off (own v) = eqb-true _ _ (and-right (eqb (own (into w)) (own v)) _ e) in
-      eq-eqb (into w) v (omega (arith, ap off a, placed .shape .off-le v l, placed .into-later w k)))
-      (λ e. let q : into w ≡ v = eqb-true (into w) v e in and-both _ _ (eq-eqb _ _ (ap own q)) (eq-eqb _ _ (ap (λ (u : ℕ). u - off (own u)) q)))
-
-  -- the awaited rounds, by waits
-  awaited-flat : (v : ℕ) → v < n → maxBelow m (awaitedAt P (reached P p) (own v) (v - off (own v))) ≡ latestAwaited from into R m v
-  unfolding awaitedAt latestAwaited stopRound
-  awaited-flat v l = max-ext m (awaitedAt P (reached P p) (own v) (v - off (own v))) (λ w. pick (eqb (into w) v) (R (from w)) 0) (λ w k. rw (into-flat v w l k) refl)
-
   -- the stop s of drone d
   pub round-at : (d s : ℕ) → d < drones → s ≤ last d → R (off d + s) ≡ reached P p d s
   unfolding stopRound
@@ -51,39 +116,9 @@ module _ (own off last : ℕ → ℕ) (drones n : ℕ) (from into : ℕ → ℕ)
       let e : off d + s - off d ≡ s = omega arith in
       rw (placed .shape .place-own d s l h, e) refl
 
-  -- the own stop before
-  before-flat : (v : ℕ) → v < n → off (own v) < v → R (v - 1) ≡ reached P p (own v) (v - off (own v) - 1)
-  before-flat v l h =
-      let e : off (own v) + (v - off (own v) - 1) ≡ v - 1 = omega arith in
-      subst (λ (u : ℕ). R u ≡ reached P p (own v) (v - off (own v) - 1)) e (round-at (own v) (v - off (own v) - 1) (placed .shape .own-in v l) (omega (arith, placed .shape .number-in v l)))
-
-  module _ (acyclic : Cycle P → ⊥) (kept : Kept P p) where
-    rounds : Table P one p (reached P p)
-    rounds = reached-table P p (formed own off last drones n from into m placed) acyclic kept
-
-    pub rounds-solve : (cap : ℕ) → ((v : ℕ) → v < n → unvisited P p < cap) → Solution cap own off from into m p n R
-    unfolding entryBy stopRound
-    rounds-solve cap big = record { small = small; solves = λ v l. by-cases (leb (v - off (own v)) (p (own v))) (λ e. visited v l (leb-true _ _ e)) (λ e. open-stop v l (leb-false _ _ e)) }
-      where
-        small : (v : ℕ) → v < n → R v < cap
-        small v l = omega (arith, big v l, reached-bound P (formed own off last drones n from into m placed) acyclic p (own v) (v - off (own v)))
-
-        number-in : (v : ℕ) → v < n → v - off (own v) ≤ last (own v)
-        number-in v l = omega (arith, placed .shape .number-in v l)
-
-        visited : (v : ℕ) → v < n → v - off (own v) ≤ p (own v) → R v ≡ entryBy cap own off from into m p R v
-        visited v l h = rounds .at-visited (own v) (v - off (own v)) (placed .shape .own-in v l) (number-in v l) h ∙ after-visited cap (v - off (own v)) (p (own v)) (R (v - 1)) (latestAwaited from into R m v) h
-
-        open-stop : (v : ℕ) → v < n → p (own v) < v - off (own v) → R v ≡ entryBy cap own off from into m p R v
-        open-stop v l h = omega (
-          arith,
-          rounds .at-unvisited (own v) (v - off (own v)) (placed .shape .own-in v l) (number-in v l) h,
-          latest-is P (reached P p) (own v) (v - off (own v)),
-          before-flat v l (omega arith),
-          awaited-flat v l,
-          small v l,
-          after-unvisited cap (v - off (own v)) (p (own v)) (R (v - 1)) (latestAwaited from into R m v) h,
-        )
+  pub round-is : (v : ℕ) → R v ≡ reached P p (own v) (v - off (own v))
+  unfolding stopRound
+  round-is v = refl
 
   -- a table of these entries
   pub table-is : (L : Limits) → n ≤ L .stops → (t : List ℕ) → length t ≡ L .stops → ((v : ℕ) → v < n → at t v ≡ R v) → ((v : ℕ) → n ≤ v → at t v ≡ 0) → t ≡ stopRounds L own off last drones n from into m p

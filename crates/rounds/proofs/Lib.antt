@@ -4,6 +4,4 @@ pub mod Bounds
 pub mod Readiness
 pub mod SamePlans
 pub mod Agree
-pub mod Passes
-pub mod Awaited
 pub mod ChainRounds

@@ -1,21 +1,23 @@
 -- What tables that are ready say of their plan: its waits are formed, its graph has no cycle, and rounds and cost stay small. Assumes nothing.
-use mathlib.Core.Path.{_≡_, ap, _∙_}
+use mathlib.Core.Path.{_≡_, sym, ap, _∙_}
 use mathlib.Core.List.{List}
-use Prim.Native.Nat.{ℕ, _+_, _*_, _-_, _≤_, _<_}
+use Prim.Native.Nat.{ℕ, _+_, _≤_, _<_}
 use native.Mathlib.Omega.{arith}
 use lib.ListN.{length}
 use Rattle.below.specs.Below.{sumBelow, at}
 use Rattle.tables.specs.Limits.{limits}
-use Rattle.precedence.specs.Graph.{Plan, Formed, Cycle, unvisited, cost}
-use Rattle.precedence.proofs.Visits.{acyclic-iff}
-use Rattle.cycles.proofs.Certified.{formed}
+use Rattle.precedence.specs.Graph.{Plan, Formed, Cycle, one, unvisited, cost}
+use Rattle.precedence.proofs.Table.{reached-table}
+use Rattle.precedence.proofs.Visits.{acyclic-iff, reached-bound}
+use Rattle.cycles.proofs.Placed.{formed}
+use Rattle.cycles.proofs.MetLaws.{met-is}
 use Rattle.cycles.specs.Flat.{flatPlan}
+use Rattle.cycles.specs.Walk.{course, legOfOne, Begun, Walked}
 use Rattle.rounds.specs.Remaining.{Ready, WaitsIn, StopIn, roundsLeft, stopRound, stopRounds}
-use Rattle.rounds.specs.StopTable.{Solution, Solved, Passable}
 use Rattle.rounds.proofs.OneRound.{stops-in, waits-in}
 use Rattle.rounds.proofs.PlayingLoop.{rounds-bound}
 use Rattle.rounds.proofs.Bounds.{unvisited-bound, cost-limit}
-use Rattle.rounds.proofs.ChainRounds.{rounds-solve, table-is, table-at, sum-is}
+use Rattle.rounds.proofs.ChainRounds.{walked-is, round-at, round-is, table-is, table-at, sum-is}
 
 module _ (owners starts lasts : List ℕ) (drones n : ℕ) (from into : List ℕ) (m : ℕ) (visited : List ℕ) (ready : Ready owners starts lasts drones n from into m visited) where
   abbrev P : Plan
@@ -48,22 +50,29 @@ module _ (owners starts lasts : List ℕ) (drones n : ℕ) (from into : List ℕ
   abbrev R : ℕ → ℕ
   R = stopRound (at owners) (at starts) (at lasts) drones (at from) (at into) m (at visited)
 
-  pub ready-passable : Passable limits owners (at starts) n (at from) (at into) m visited
-  ready-passable = record {
-    waits = ready-waits;
-    stops = ready-stops;
-    placed = λ v l. omega (arith, ready .tables .placed .shape .own-in v l, ready .has-visited);
-    awaited-in = ready .tables .placed .from-in;
-    few = ready .tables .few-stops;
-  }
+  -- where the drones stand
+  pub ready-stand : (d : ℕ) → d < drones → at starts d + at visited d < limits .stops
+  ready-stand d l = omega (arith, ready .within d l, ready .tables .placed .shape .place-in d (at lasts d) l (omega arith), ready .tables .few-stops)
 
-  ready-solution : Solution (limits .stops) (at owners) (at starts) (at from) (at into) m (at visited) n R
-  ready-solution = rounds-solve (at owners) (at starts) (at lasts) drones n (at from) (at into) m (ready .tables .placed) (at visited) ready-acyclic (ready .kept) (limits .stops) (λ v l. omega (arith, ready-unvisited, ready .tables .placed .shape .own-in v l))
+  module _ (start : List ℕ) (size : length start ≡ limits .drones) (stands : (d : ℕ) → d < drones → at start d ≡ at starts d + at visited d) where
+    pub ready-begun : Begun (course owners starts lasts drones n from into m) start
+    ready-begun = record {
+      size = size;
+      low = λ d l. omega (arith, stands d l);
+      high = λ d l. omega (arith, stands d l, ready .within d l);
+      kept = λ k l h.
+          let a : at into k < n = ready .tables .placed .into-in k l in
+          let b : at from k < n = ready .tables .placed .from-in k l in
+          let oa : at owners (at into k) < drones = ready .tables .placed .shape .own-in (at into k) a in
+          let ob : at owners (at from k) < drones = ready .tables .placed .shape .own-in (at from k) b in
+          met-is (course owners starts lasts drones n from into m) (at start) k (omega (arith, stands (at owners (at from k)) ob, ready .kept k l (omega (arith, stands (at owners (at into k)) oa))));
+    }
 
-  -- what passes end with, whatever the first n entries are at first
-  pub ready-table : (first t : List ℕ) → length first ≡ limits .stops → ((v : ℕ) → n ≤ v → at first v ≡ 0) → Solved (limits .stops) (at owners) (at starts) (at from) (at into) m (at visited) n first t → t ≡ stopRounds limits (at owners) (at starts) (at lasts) drones n (at from) (at into) m (at visited)
-  ready-table first t long none solved =
-      table-is (at owners) (at starts) (at lasts) drones n (at from) (at into) m (ready .tables .placed) (at visited) limits (ready .tables .few-stops) t (solved .long ∙ long) (solved .solved R ready-solution) (λ v h. solved .past v h ∙ none v h)
+    pub ready-table : (b : ℕ) (cur t : List ℕ) → Walked (course owners starts lasts drones n from into m) legOfOne b start cur t → t ≡ stopRounds limits (at owners) (at starts) (at lasts) drones n (at from) (at into) m (at visited)
+    ready-table b cur t W =
+        table-is (at owners) (at starts) (at lasts) drones n (at from) (at into) m (ready .tables .placed) (at visited) limits (ready .tables .few-stops) t (W .size)
+        (λ v l. walked-is (course owners starts lasts drones n from into m) (ready .tables .placed) one (at visited) start stands W (ready .acyclic) (reached-table P (at visited) ready-formed ready-acyclic (ready .kept)) v l ∙ sym (round-is (at owners) (at starts) (at lasts) drones n (at from) (at into) m (ready .tables .placed) (at visited) v))
+        (W .past)
 
   -- a table of the rounds
   module _ (t : List ℕ) (e : t ≡ stopRounds limits (at owners) (at starts) (at lasts) drones n (at from) (at into) m (at visited)) where
@@ -76,7 +85,7 @@ module _ (owners starts lasts : List ℕ) (drones n : ℕ) (from into : List ℕ
     pub last-small : (d : ℕ) → d < drones → at t (at starts d + at lasts d) ≤ limits .stops
     last-small d l =
         let v : at starts d + at lasts d < n = ready .tables .placed .shape .place-in d (at lasts d) l (omega arith) in
-        omega (arith, entry-is (at starts d + at lasts d) v, ready-solution .small (at starts d + at lasts d) v)
+        omega (arith, entry-is (at starts d + at lasts d) v, round-at (at owners) (at starts) (at lasts) drones n (at from) (at into) m (ready .tables .placed) (at visited) d (at lasts d) l (omega arith), reached-bound P ready-formed ready-acyclic (at visited) d (at lasts d), ready-unvisited)
 
     pub last-sum : sumBelow drones (λ d. at t (at starts d + at lasts d)) ≡ cost P (at visited)
     last-sum = sum-is (at owners) (at starts) (at lasts) drones n (at from) (at into) m (ready .tables .placed) (at visited) (at t) entry-is

@@ -27,7 +27,7 @@ use Rattle.meetings.specs.Meetings.{Steady}
 use Rattle.meetings.proofs.Right.{Entry, right-entry}
 use Rattle.cycles.specs.Flat.{flatPlan, Shape}
 use Rattle.cycles.specs.Waits.{fromOf, intoOf, turnedIn, Unfixed, Given, graphSound}
-use Rattle.cycles.proofs.Certified.{formed}
+use Rattle.cycles.proofs.Placed.{formed}
 use Rattle.cycles.proofs.Directed.{right-placed}
 use Rattle.sound.specs.Parts.{stopSound, stopIn, flagRight, fixedAt, fieldOf, graphPart}
 use Rattle.sound.specs.Asked.{Counted, Columns, Numbers, Scratch, Through}

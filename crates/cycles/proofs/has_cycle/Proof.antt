@@ -1,34 +1,34 @@
-use mathlib.Core.Path.{sym}
+use mathlib.Core.Path.{ap, _∙_}
+use mathlib.Core.Bool.{not}
+use Prim.Native.Nat.{ℕ}
 use native.Mathlib.Omega.{arith}
-use Rattle.cycles.proofs.Moved.{standing-start}
+use lib.ListN.{length-replicate}
+use Rattle.below.proofs.Index.{zeros-at}
+use Rattle.cycles.proofs.CycleLaws.{begun-first, walked-cyclic}
 use borrow.Author.Needs.{needs}
 use Rattle.cycles.proofs.has_cycle.Statement.{statement}
 use Rattle.cycles.proofs.has_cycle.Tie as tie
 use Rattle.cycles.proofs.has_cycle.Reads as reads
 use Rattle.cycles.proofs.has_cycle.Lts as lts
-use Rattle.cycles.proofs.moves.copy_starts.Reads as copy-starts-reads
-use Rattle.cycles.proofs.search.certify.Reads as certify-reads
-use Rattle.cycles.proofs.moves.decide.Reads as decide-reads
+use Rattle.cycles.proofs.walk.all_last.Reads as all-last-reads
+use Rattle.cycles.proofs.walk.at_first.Reads as at-first-reads
+use Rattle.cycles.proofs.walk.walk.Reads as walk-reads
 
-certify-requires : tie.Need-certify-requires
-certify-requires c κs = search needs
+-- src/lib.rt:34:5
+at-first-requires : tie.Need-at-first-requires
+at-first-requires c κs = length-replicate {A = ℕ} 32 0
 
+-- src/lib.rt:36:5
+walk-requires : tie.Need-walk-requires
+walk-requires c κs = ((c .before .before .before .before .before .pre, begun-first _ (c .before .before .before .before .before .pre .placed) _ (c .before .before .at-first .ensures .0) (λ d l. c .before .before .at-first .ensures .1 d (omega (arith, c .before .before .before .before .before .pre .few-drones)))), (length-replicate {A = ℕ} 1024 0, zeros-at 1024))
+
+-- src/lib.rt:37:6
+all-last-requires : tie.Need-all-last-requires
+all-last-requires c κs = search needs
+
+-- src/lib.rt:20:1
 returns : tie.Need-returns
-returns c = sym (c .before .certify .ensures .no (c .if1 .taken))
-
-returns-2 : tie.Need-returns-2
-returns-2 c = sym (c .before .before .certify .ensures .yes (c .if2 .taken))
-
-copy-starts-requires : tie.Need-copy-starts-requires
-copy-starts-requires c κs = search needs
-
-decide-requires : tie.Need-decide-requires
-decide-requires c κs = (c .before .before .before .before .before .before .before .pre, standing-start _ _ _ _ _ _ _ _ (c .before .before .before .before .before .before .before .pre .placed) _ (c .before .copy-starts .ensures .0) (λ d l. c .before .copy-starts .ensures .1 d (omega (arith, c .before .before .before .before .before .before .before .pre .few-drones))))
-
-returns-3 : tie.Need-returns-3
-returns-3 c = search needs
+returns c = ap not (c .all-last .ensures) ∙ walked-cyclic _ (c .before .before .before .before .before .before .before .before .pre .placed) (c .before .before .walk .ensures) (λ d l. c .before .before .before .before .before .at-first .ensures .1 d (omega (arith, c .before .before .before .before .before .before .before .before .pre .few-drones)))
 
 pub has-cycle-spec : {M : Type 1} → statement M
-has-cycle-spec =
-    tie.close
-    (tie.spec certify-requires returns returns-2 copy-starts-requires decide-requires returns-3)
+has-cycle-spec = tie.close (tie.spec at-first-requires walk-requires all-last-requires returns)

@@ -1,7 +1,6 @@
-use mathlib.Core.Path.{_∙_}
-use native.Mathlib.Omega.{arith}
+use mathlib.Core.Path.{ap, _∙_}
+use Prim.Native.Nat.{ℕ, _+_}
 use Rattle.below.specs.Below.{at}
-use Rattle.rounds.proofs.Awaited.{entry-last}
 use borrow.Author.Needs.{needs}
 use Rattle.rounds.proofs.chains.last_round.Statement.{statement}
 use Rattle.rounds.proofs.chains.last_round.Tie as tie
@@ -9,45 +8,49 @@ use Rattle.rounds.proofs.chains.last_round.Reads as reads
 use Rattle.rounds.proofs.chains.last_round.Lts as lts
 use Rattle.cycles.proofs.casts.wide.Reads as wide-reads
 
--- src/chains.rt:149:18
+-- src/chains.rt:61:18
 mul-wide : tie.Need-mul-wide
 mul-wide c = search needs
 
--- src/chains.rt:149:18
+-- src/chains.rt:61:18
 element-copy-out-wide : tie.Need-element-copy-out-wide
 element-copy-out-wide c = search needs
 
--- src/chains.rt:149:13
+-- src/chains.rt:61:13
 wide-requires : tie.Need-wide-requires
 wide-requires c κs = search needs
 
--- src/chains.rt:149:36
+-- src/chains.rt:61:36
 mul-wide-2 : tie.Need-mul-wide-2
 mul-wide-2 c = search needs
 
--- src/chains.rt:149:36
+-- src/chains.rt:61:36
 element-copy-out-wide-2 : tie.Need-element-copy-out-wide-2
 element-copy-out-wide-2 c = search needs
 
--- src/chains.rt:149:31
+-- src/chains.rt:61:31
 wide-requires-2 : tie.Need-wide-requires-2
 wide-requires-2 c κs = search needs
 
--- src/chains.rt:149:13
+-- src/chains.rt:61:13
 add-v : tie.Need-add-v
 add-v c = search needs
 
--- src/chains.rt:150:5
-mul-result : tie.Need-mul-result
-mul-result c = search needs
+-- src/chains.rt:62:10
+mul-wide-3 : tie.Need-mul-wide-3
+mul-wide-3 c = search needs
 
--- src/chains.rt:150:5
-element-copy-out-result : tie.Need-element-copy-out-result
-element-copy-out-result c = search needs
+-- src/chains.rt:62:10
+element-copy-out-wide-3 : tie.Need-element-copy-out-wide-3
+element-copy-out-wide-3 c = search needs
 
--- src/chains.rt:145:1
+-- src/chains.rt:62:5
+wide-requires-3 : tie.Need-wide-requires-3
+wide-requires-3 c κs = search needs
+
+-- src/chains.rt:57:1
 returns : tie.Need-returns
-returns c = entry-last (at (c .before .before .before .before .before .args .starts .now)) (at (c .before .before .before .before .before .args .lasts .now)) 1024 _ (c .before .before .before .before .before .pre .1) _ _ (c .before .before .before .wide .ensures .0) (c .before .wide2 .ensures .0) (at (c .before .before .before .before .before .args .table .now))
+returns c = c .wide3 .ensures .0 ∙ ap (at (c .before .before .before .before .before .before .args .table .now)) (ap (λ (x : ℕ). x + c .before .before .wide2 .result) (c .before .before .before .before .wide .ensures .0) ∙ ap (λ (x : ℕ). at (c .before .before .before .before .before .before .args .starts .now) (c .before .before .before .before .before .before .args .d) + x) (c .before .before .wide2 .ensures .0))
 
 pub last-round-spec : {M : Type 1} → statement M
 last-round-spec =
@@ -60,6 +63,7 @@ last-round-spec =
     element-copy-out-wide-2
     wide-requires-2
     add-v
-    mul-result
-    element-copy-out-result
+    mul-wide-3
+    element-copy-out-wide-3
+    wide-requires-3
     returns)

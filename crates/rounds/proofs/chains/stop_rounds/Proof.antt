@@ -1,23 +1,25 @@
--- Whatever the first table is, passes end with the rounds.
-use Rattle.rounds.proofs.Readiness.{ready-passable, ready-table}
+use Prim.Native.Nat.{ℕ}
+use lib.ListN.{length-replicate}
+use Rattle.below.proofs.Index.{zeros-at}
+use Rattle.rounds.proofs.Readiness.{ready-stand, ready-begun, ready-table}
 use Rattle.rounds.proofs.chains.stop_rounds.Statement.{statement}
 use Rattle.rounds.proofs.chains.stop_rounds.Tie as tie
 use Rattle.rounds.proofs.chains.stop_rounds.Reads as reads
 use Rattle.rounds.proofs.chains.stop_rounds.Lts as lts
-use Rattle.rounds.proofs.chains.first_table.Reads as first-table-reads
-use Rattle.rounds.proofs.chains.settle.Reads as settle-reads
+use Rattle.cycles.proofs.walk.walk.Reads as walk-reads
+use Rattle.rounds.proofs.chains.at_visited.Reads as at-visited-reads
 
--- src/chains.rt:224:21
-first-table-requires : tie.Need-first-table-requires
-first-table-requires c κs = (ready-passable _ _ _ _ _ _ _ _ _ (c .before .before .pre), c .before .before .pre .tables .few-drones)
+-- src/chains.rt:50:5
+at-visited-requires : tie.Need-at-visited-requires
+at-visited-requires c κs = (c .before .before .before .pre .tables .few-drones, c .before .before .before .pre .has-visited, ready-stand _ _ _ _ _ _ _ _ _ (c .before .before .before .pre), length-replicate {A = ℕ} 32 0)
 
--- src/chains.rt:225:5
-settle-requires : tie.Need-settle-requires
-settle-requires c κs = (ready-passable _ _ _ _ _ _ _ _ _ (c .before .before .before .before .pre), c .before .first-table .ensures .0)
+-- src/chains.rt:52:5
+walk-requires : tie.Need-walk-requires
+walk-requires c κs = ((c .before .before .before .before .before .before .pre .tables, ready-begun _ _ _ _ _ _ _ _ _ (c .before .before .before .before .before .before .pre) _ (c .before .before .at-visited .ensures .0) (c .before .before .at-visited .ensures .1)), (length-replicate {A = ℕ} 1024 0, zeros-at 1024))
 
--- src/chains.rt:210:1
+-- src/chains.rt:35:1
 returns : tie.Need-returns
-returns c = ready-table _ _ _ _ _ _ _ _ _ (c .before .before .before .before .before .pre) _ _ (c .before .before .first-table .ensures .0) (c .before .before .first-table .ensures .1) (c .settle .ensures)
+returns c = ready-table _ _ _ _ _ _ _ _ _ (c .before .before .before .before .before .before .before .pre) _ (c .before .before .before .at-visited .ensures .0) (c .before .before .before .at-visited .ensures .1) _ _ _ (c .walk .ensures)
 
 pub stop-rounds-spec : {M : Type 1} → statement M
-stop-rounds-spec = tie.close (tie.spec first-table-requires settle-requires returns)
+stop-rounds-spec = tie.close (tie.spec at-visited-requires walk-requires returns)
