@@ -21,13 +21,13 @@ use Rattle.log.specs.Calls.{step, Ran}
 use Rattle.log.specs.Demand.{Found}
 use Rattle.reading.specs.Reading.{readPlan, readLines}
 use Rattle.reading.specs.declared.replies.Reading.the-variants.{Taken}
-use Rattle.accepted.specs.Examples.{sevens, flightQ, allHold, examples}
+use Rattle.accepted.specs.Examples.{filled, flightQ, allHold, examples}
 use Rattle.accepted.proofs.ReadSound.{demand3-of-texts}
 
-pub examples-hold : (allHold examples ≡ true) × (readPlan limits (bytes flightQ) (sevens limits) .reply ≡ Taken)
+pub examples-hold : (allHold examples ≡ true) × (readPlan limits (bytes flightQ) (filled 7 limits) .reply ≡ Taken)
 unfolding firstBelow allBelow countBelow sumBelow fullSize zeroed byteAt isAt isDigit digitsFrom numberAt fieldAt goAt stopsAt countAt untilFeed lineEnd isNameByte nameBytes goodName nameAt stopsRead droneAt same elem dronesAt linesAt start owner number faultAt firstFault over collide collider follows faultCase checkOf readPlan readLines
 examples-hold = (refl, refl)
 
 -- demand 3 of flight Q, whatever is called after its reading
-pub flightQ-found : (calls : List Call) (got : List Entry) (t : Tables) → Ran (step limits) (readPlan limits (bytes flightQ) (sevens limits) .tables) calls got t → Found (readPlan limits (bytes flightQ) (sevens limits) .tables .plan) calls got t
-flightQ-found calls got t ran = demand3-of-texts limits (bytes flightQ) (sevens limits) calls got t (examples-hold .1) ran
+pub flightQ-found : (calls : List Call) (got : List Entry) (t : Tables) → Ran (step limits) (readPlan limits (bytes flightQ) (filled 7 limits) .tables) calls got t → Found (readPlan limits (bytes flightQ) (filled 7 limits) .tables .plan) calls got t
+flightQ-found calls got t ran = demand3-of-texts limits (bytes flightQ) (filled 7 limits) calls got t (examples-hold .1) ran

@@ -23,23 +23,23 @@ oneDependency = record {
   time = limits .time;
 }
 
--- tables of full size with 7 in every entry
-abbrev pub sevens : Limits → Tables
-sevens L =
+-- tables of full size with x in every entry
+abbrev pub filled : ℕ → Limits → Tables
+filled x L =
     tablesOf
-    (replicate 1 7)
-    (replicate 1 7)
-    (replicate (L .drones * L .name) 7)
-    (replicate (L .drones) 7)
-    (replicate (L .stops) 7)
-    (replicate (L .stops) 7)
-    (replicate (L .drones) 7)
-    (replicate (L .drones) 7)
-    (replicate (L .dependencies) 7)
-    (replicate (L .dependencies) 7)
-    (replicate (L .dependencies) 7)
-    (replicate (L .dependencies) 7)
-    (replicate (L .dependencies) 7)
+    (replicate 1 x)
+    (replicate 1 x)
+    (replicate (L .drones * L .name) x)
+    (replicate (L .drones) x)
+    (replicate (L .stops) x)
+    (replicate (L .stops) x)
+    (replicate (L .drones) x)
+    (replicate (L .drones) x)
+    (replicate (L .dependencies) x)
+    (replicate (L .dependencies) x)
+    (replicate (L .dependencies) x)
+    (replicate (L .dependencies) x)
+    (replicate (L .dependencies) x)
 
 -- "Input Q"
 abbrev pub flightQ : String
@@ -56,7 +56,7 @@ pub record Example : Type 0 where
   pub number : ℕ
 
 abbrev pub holds : Example → Bool
-holds e = eqb (readingNumber (readPlan (e .within) (bytes (e .text)) (sevens (e .within)) .reply)) (e .number)
+holds e = eqb (readingNumber (readPlan (e .within) (bytes (e .text)) (filled 7 (e .within)) .reply)) (e .number)
 
 abbrev pub allHold : List Example → Bool
 allHold [] = true

@@ -1,0 +1,9 @@
+pub mod Lists
+pub mod Figures
+pub mod Checking
+pub mod Accepting
+pub mod Filtered
+pub mod Listed
+pub mod Ordered
+pub mod Claims
+pub mod Writing

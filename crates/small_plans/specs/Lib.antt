@@ -1,0 +1,5 @@
+pub mod Routes
+pub mod Plans
+pub mod Check
+pub mod Claims
+pub mod Asked

@@ -1,0 +1,48 @@
+-- Every small plan that the conductor accepts, in order. Assumes nothing.
+use mathlib.Core.Bool.{Bool, _&&_, _||_}
+use mathlib.Core.List.{List, [], _∷_}
+use Prim.Native.Nat.{ℕ}
+use lib.ListN.{getD}
+use Rattle.tables.specs.Limits.{limits}
+use Rattle.text.specs.Written.{Route, routesText}
+use Rattle.reading.specs.Replies.{isTaken}
+use Rattle.reading.specs.Reading.{readPlan}
+use Rattle.accepted.specs.Examples.{filled}
+use Rattle.small_plans.specs.Routes.{map, flatMap, filter, SmallRoute, route, smallRoutes, routeBefore, sameRoute}
+
+-- ---- a plan of two drones
+
+-- the first drone's route and the second's
+pub record SmallPlan : Type 0 where
+  pub first : SmallRoute
+  pub second : SmallRoute
+
+abbrev pub plan : SmallRoute → SmallRoute → SmallPlan
+plan x y = record { first = x; second = y }
+
+-- "two drones named a and b"
+abbrev pub routes : SmallPlan → List Route
+routes p =
+    record { name = 97 ∷ []; locations = p .first .locations; times = p .first .times }
+    ∷ record { name = 98 ∷ []; locations = p .second .locations; times = p .second .times }
+    ∷ []
+
+-- its text
+unfoldable pub text : SmallPlan → List ℕ
+text p = routesText (routes p)
+
+-- ---- all of them
+
+-- "that the conductor would accept without a site text": reading its text takes it
+unfoldable pub accepted : SmallPlan → Bool
+accepted p = isTaken (readPlan limits (text p) (filled 0 limits) .reply)
+
+-- "Plans are ordered by the first drone's route, then the second's. Plans are numbered from 0"
+unfoldable pub smallPlans : List SmallPlan
+smallPlans = flatMap smallRoutes (λ x. filter accepted (map (λ y. plan x y) smallRoutes))
+
+abbrev pub planAt : ℕ → SmallPlan
+planAt k = getD smallPlans k (plan (route [] []) (route [] []))
+
+unfoldable pub planBefore : SmallPlan → SmallPlan → Bool
+planBefore p q = routeBefore (p .first) (q .first) || (sameRoute (p .first) (q .first) && routeBefore (p .second) (q .second))

@@ -1,0 +1,109 @@
+// Every small plan for the bench: a plan asked for by its number, written as text into a lent buffer. The tables hold the plans as pairs of route numbers,
+// and the routes that pass the plan check by themselves, three stops to a route; their rules are proved once, over the whole tables.
+mod entries;
+
+use lines::bytes;
+use lines::keys;
+use text::writer;
+ghost use mathlib.Core.Path.{_≡_};
+ghost use mathlib.Core.List.{_++_};
+ghost use Prim.Native.Nat.{_+_, _*_, _<_, _≤_, _^_};
+ghost use lib.ListN.{length};
+ghost use Rattle.lines.specs.Bytes.{Put};
+ghost use Rattle.small_plans.specs.Plans.{plan, text, planAt};
+ghost use Rattle.small_plans.specs.Check.{stopCount, routeAt};
+ghost use Rattle.small_plans.specs.Asked.{stopText, PlanGiven};
+
+// The length of the text; or 15, no such plan; or 42, the buffer is shorter than the text.
+pub enum PlanAnswer {
+    Length(usize),
+    NoSuchPlan,
+    Short,
+}
+
+pub const PLANS: usize = 378;
+
+const FIRST_NAME: [u8; 7] = *b"name=a\n";
+
+const SECOND_NAME: [u8; 7] = *b"name=b\n";
+
+fn wide(x: u8) -> usize
+    ensures { λ r. ⌜ r ≡ x ⌝ }
+{
+    x as usize
+}
+
+// The route of the first drone of a plan.
+fn first_of(number: usize) -> usize
+    requires { ⌜ number < 378 ⌝ }
+    ensures { λ r. ⌜ (r < 99) × (planAt number .first ≡ routeAt r) ⌝ }
+{
+    wide(entries::FIRSTS[number])
+}
+
+// The route of the second drone of a plan.
+fn second_of(number: usize) -> usize
+    requires { ⌜ number < 378 ⌝ }
+    ensures { λ r. ⌜ (r < 99) × (planAt number .second ≡ routeAt r) ⌝ }
+{
+    wide(entries::SECONDS[number])
+}
+
+// The number of stops of a route: 3 routes have one, 24 have two, the others three.
+fn stop_count(route: usize) -> usize
+    ensures { λ r. ⌜ r ≡ stopCount route ⌝ }
+{
+    if route < 3 {
+        return 1;
+    }
+    if route < 27 {
+        return 2;
+    }
+    3
+}
+
+// Writes the lines of a drone, whose line `name=TEXT` is given.
+fn put_route(buf: &mut [u8], at: usize, name: &[u8], route: usize) -> usize
+    requires { ⌜ (at < 2 ^ 28) × (length (now name) ≡ 7) × (route < 99) ⌝ }
+    ensures { λ r. ⌜ Put (now (buf .entry)) at (now (name .entry) ++ stopText (routeAt route)) (now (buf .exit)) r ⌝ }
+{
+    let next = bytes::put_bytes(buf, at, name);
+    let count = stop_count(route);
+    writer::put_stop_lines(
+        buf,
+        next,
+        count,
+        3 * route,
+        &entries::PLACES,
+        &entries::MOMENTS,
+    )
+}
+
+// Writes the text of the plan of two routes, as far as the buffer reaches, and gives the text's length.
+fn put_plan(buf: &mut [u8], first: usize, second: usize) -> usize
+    requires { ⌜ (first < 99) × (second < 99) ⌝ }
+    ensures { λ r. ⌜ Put (now (buf .entry)) 0 (text (plan (routeAt first) (routeAt second))) (now (buf .exit)) r ⌝ }
+{
+    let agents = bytes::put_bytes(buf, 0, &keys::PLAN_LINE);
+    let drones = writer::put_count(buf, agents, &keys::AGENTS, 2);
+    let other = put_route(buf, drones, &FIRST_NAME, first);
+    let last = put_route(buf, other, &SECOND_NAME, second);
+    bytes::put_bytes(buf, last, &keys::END_LINE)
+}
+
+// Writes a small plan, if there is one of this number and the buffer is long enough. The first writing writes nothing and gives the length.
+pub fn small_plan(number: usize, buf: &mut [u8]) -> PlanAnswer
+    ensures { λ r. ⌜ PlanGiven number (now (buf .entry)) (now (buf .exit)) r ⌝ }
+{
+    if PLANS <= number {
+        return PlanAnswer::NoSuchPlan;
+    }
+    let first = first_of(number);
+    let second = second_of(number);
+    let length = put_plan(&mut buf[0..0], first, second);
+    if buf.len() < length {
+        return PlanAnswer::Short;
+    }
+    put_plan(buf, first, second);
+    PlanAnswer::Length(length)
+}
