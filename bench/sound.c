@@ -76,6 +76,19 @@ static void crossings(void) {
         if (first_drones[k] % 2 == 0 && second_drones[k] == first_drones[k] + 1) flags[k] ^= 1;
 }
 
+// One drone visits the 64 locations of one tree (plan/src/sharing.rt), and then the two that stand deepest in it again and again.
+static void alike(void) {
+    memset(first_drones, 0, sizeof first_drones), memset(first_stops, 0, sizeof first_stops), memset(second_drones, 0, sizeof second_drones);
+    memset(second_stops, 0, sizeof second_stops), memset(flags, 0, sizeof flags), memset(stop_counts, 0, sizeof stop_counts);
+    memset(names + NAME, 0, sizeof names - NAME);
+    drone_count[0] = 1, stop_counts[0] = STOPS, dependency_count[0] = 0;
+    for (int s = 0; s < STOPS; s++) {
+        int high = s < 64 ? s : 62 + s % 2;
+        locations[s] = 1024 * high + (1024 * 17 - 17 * high) % 1024;
+        times[s] = s * 10;
+    }
+}
+
 static int sound(void) {
     return bench_sound(drone_count, 1, dependency_count, 1, names, sizeof names, stop_counts, DRONES, locations, STOPS, times, STOPS, visited, DRONES,
                        drone_flags, DRONES, first_drones, DEPENDENCIES, first_stops, DEPENDENCIES, second_drones, DEPENDENCIES, second_stops, DEPENDENCIES,
@@ -130,6 +143,8 @@ int main(void) {
     crossings();
     printf("dependencies %d, 64 turned\n", dependency_count[0]);
     measure("sound tables, some turned");
+    alike();
+    measure("64 locations of one tree");
     // Content that no plan has: counts past the full sizes must be refused before anything is read by them.
     memset(drone_count, 255, sizeof drone_count);
     measure("drone count 65,535");

@@ -15,12 +15,12 @@ and, where there is none, a first crates/CRATE/proofs/MODULE/FN/Proof.antt.
 """
 import os, re, shutil, subprocess, sys
 
-CARRIERS = {"records": "lent", "conductor": "calls", "dispatch": "requests"}  # the crates with functions over the lent slice, and the module of each
+CARRIERS = {"records": "lent", "conductor": "calls", "dispatch": "requests", "board": "exports"}  # the crates with functions over the lent slice, and the module of each
 crate, fns = sys.argv[1], sys.argv[2:]
 mod = CARRIERS[crate]
 work = os.path.abspath("target/lend")
 root = f"crates/{crate}/proofs"
-RECORD, ARRAY, ZERO = "Dependency", "[u16; 4]", "[0; 4]"
+RECORD, ARRAY, ZERO, FULL = "Dependency", "[u16; 4]", "[0; 4]", "2048"
 HOME = "use tables::entries::Dependency;"  # where the record is declared: its users get the array's name instead
 ROW = "Rattle.records.proofs.Row" if crate == "records" else "Rattle.records.proofs.Row"
 
@@ -46,7 +46,7 @@ def shape(text):  # contracts keep their number and kind, and say nothing
 
 def source(name, module):
     text = open(f"crates/{name}/src/{module}.rt").read()
-    return shape(re.sub(r"^ghost use .*?;\n|//.*", "", text, flags=re.M)).replace(HOME, f"type {RECORD} = {ARRAY};")
+    return shape(re.sub(r"^ghost use .*?;\n|//.*", "", text, flags=re.M)).replace(HOME, f"type {RECORD} = {ARRAY};").replace(f"{RECORD}::FULL", FULL)
 
 first = {}  # of each enum a variant, one that holds nothing if there is one, and the types that it holds
 fields = {}  # of each struct its fields
@@ -74,7 +74,7 @@ def value(ty):  # what a stub returns
 def stubbed(text, keep):  # every function but `keep` returns at once
     types(text)  # a module's own names come before those of others
     out, i = "", 0
-    for m in re.finditer(r"^(?:pub )?fn (\w+)", text, re.M):
+    for m in re.finditer(r"^(?:pub )?(?:extern \"C\" )?fn (\w+)", text, re.M):
         at = text.index("(", m.end())
         depth = 0
         while True:

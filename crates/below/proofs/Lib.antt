@@ -12,3 +12,4 @@ pub mod Triangle
 pub mod Same
 pub mod Changes
 pub mod Links
+pub mod Gaps

@@ -2,7 +2,7 @@
 use mathlib.Core.Path.{_≡_, refl, sym, ap, _∙_}
 use mathlib.Core.Logic.{_≢_}
 use mathlib.Core.List.{List}
-use mathlib.Core.Bool.{Bool, true, false, _&&_}
+use mathlib.Core.Bool.{Bool, true, false}
 use Prim.Native.Nat.{ℕ, zero, suc, _+_, _≤_, _<_}
 use native.Mathlib.Numerals.{add-one}
 use native.Mathlib.Omega.{arith}
@@ -10,7 +10,7 @@ use lib.Dec.{eqb}
 use lib.ListN.{length, set, length-set}
 use lib.Seq.{getD-set-same, getD-set-other}
 use borrow.Author.Tests.{eqb-true, eqb-false, eq-eqb, ne-eqb}
-use Rattle.below.specs.Below.{at, countBelow, lastBelow, Linked}
+use Rattle.below.specs.Below.{at, lastBelow, Linked}
 use Rattle.below.proofs.Tests.{by-cases, below-suc}
 use Rattle.below.proofs.Index.{fill-more}
 
@@ -44,14 +44,6 @@ last-above zero f i h l = absurd (omega arith)
 last-above (suc n) f i h l = by-cases (f n)
     (λ t. let q : suc n ≤ i = rw t at h in absurd (omega arith))
     (λ t. let q : lastBelow n f ≤ i = rw t at h in below-suc (λ i. lastBelow n f ≤ i → f i ≡ false) (λ i k q. last-above n f i q k) (λ q. t) i l q)
-
--- what passes both tests is counted below the last that passes one of them
-pub count-last : (n : ℕ) (f g : ℕ → Bool) → countBelow n (λ i. f i && g i) ≡ countBelow (lastBelow n f) (λ i. f i && g i)
-unfolding lastBelow countBelow
-count-last zero f g = refl
-count-last (suc n) f g = by-cases (f n)
-    (λ e. let q : lastBelow (suc n) f ≡ suc n = rw e refl in ap (λ (k : ℕ). countBelow k (λ i. f i && g i)) (sym q))
-    (λ e. rw e (count-last n f g))
 
 module _ (kinds room : ℕ) (kind : ℕ → ℕ) where
   pub linked-none : (head next : List ℕ) → length head ≡ kinds → length next ≡ room → ((v : ℕ) → at head v ≡ 0) → Linked kinds room kind 0 head next

@@ -2,5 +2,6 @@ pub mod arrive
 pub mod cost
 pub mod grant
 pub mod read_plan
+pub mod rounds
 pub mod turn
 pub mod write_plan

@@ -1,2 +1,5 @@
+pub mod Unsound
+pub mod Written
 pub mod Over
+pub mod ReadLaws
 pub mod Derived

@@ -1,31 +1,31 @@
-// The public calls over the lent slice of dependency records. Each is one call of its core with a copy of the records; the derivations are carried (docs/DERIVATIONS.md).
-use crate::cores::arrive_records;
-use crate::cores::cost_records;
-use crate::cores::grant_records;
-use crate::cores::is_turned;
-use crate::cores::turn_records;
-use crate::cores::write_records;
-use crate::reads::read_records;
-use crate::reads::reading_of;
-use crate::reads::records_of;
+// The public calls over the lent slice of dependency records: the used records are spread into columns, the call is made over these, and an accepted turn or reading
+// changes the records where they lie. The derivations are carried (docs/DERIVATIONS.md).
+use crate::changes::is_turned;
+use crate::changes::is_written;
+use flat::calls;
 use flat::replies::ArriveReply;
 use flat::replies::GrantReply;
 use flat::replies::WriteReply;
 use flat::turn_replies::CostAnswer;
+use flat::turn_replies::RoundsAnswer;
 use flat::turn_replies::TurnReply;
+use reading::entry;
 use reading::replies::Reading;
+use reading::replies::Refusal;
+use records::columns::Spread;
 use records::lent::flip_if;
-use records::lent::records;
-use records::lent::store_all;
+use records::lent::spread;
+use records::lent::store_if;
+use records::record::below_full;
 use tables::entries::Dependency;
 ghost use mathlib.Core.Path.{_≡_};
 ghost use lib.ListN.{drop};
 ghost use Rattle.tables.specs.Limits.{limits};
 ghost use Rattle.log.specs.CallLog.{grant as grantOf, arrive as arriveOf, turn as turnOf, isAccepted};
-ghost use Rattle.log.specs.Calls.{step, Answered, costReply};
+ghost use Rattle.log.specs.Calls.{step, Answered, costReply, roundsReply};
 ghost use Rattle.reading.specs.Reading.{AnsweredAs, readPlan};
 ghost use Rattle.flat.specs.Replies.{grantMeant, arriveMeant};
-ghost use Rattle.flat.specs.TurnReplies.{turnMeant, costMeant};
+ghost use Rattle.flat.specs.TurnReplies.{turnMeant, costMeant, roundsMeant};
 ghost use Rattle.flat.specs.Writing.{writeMeant, PlanWritten};
 ghost use Rattle.records.specs.Records.{flipIf, tablesOfRecords};
 
@@ -54,9 +54,12 @@ pub fn grant(
         (now (dependencies .entry)))
         ⌝ }
 {
-    grant_records(
-        records(dependencies),
-        dependencies.len(),
+    let mut first_drones = [0u8; Dependency::FULL];
+    let mut first_stops = [0u16; Dependency::FULL];
+    let mut second_drones = [0u8; Dependency::FULL];
+    let mut second_stops = [0u16; Dependency::FULL];
+    let mut flags = [0u8; Dependency::FULL];
+    match spread(
         drone_count,
         dependency_count,
         names,
@@ -65,8 +68,32 @@ pub fn grant(
         times,
         visited,
         drone_flags,
-        drone,
-    )
+        dependencies,
+        &mut first_drones,
+        &mut first_stops,
+        &mut second_drones,
+        &mut second_stops,
+        &mut flags,
+    ) {
+        Spread::TooSmall => GrantReply::TablesTooSmall,
+        Spread::UnusedNotZero => GrantReply::NotSound,
+        Spread::Whole => calls::grant(
+            drone_count,
+            dependency_count,
+            names,
+            stop_counts,
+            locations,
+            times,
+            visited,
+            drone_flags,
+            &first_drones,
+            &first_stops,
+            &second_drones,
+            &second_stops,
+            &flags,
+            drone,
+        ),
+    }
 }
 
 // "Arrive: a drone under way has visited its next stop and is no longer under way".
@@ -94,9 +121,12 @@ pub fn arrive(
         (now (dependencies .entry)))
         ⌝ }
 {
-    arrive_records(
-        records(dependencies),
-        dependencies.len(),
+    let mut first_drones = [0u8; Dependency::FULL];
+    let mut first_stops = [0u16; Dependency::FULL];
+    let mut second_drones = [0u8; Dependency::FULL];
+    let mut second_stops = [0u16; Dependency::FULL];
+    let mut flags = [0u8; Dependency::FULL];
+    match spread(
         drone_count,
         dependency_count,
         names,
@@ -105,8 +135,32 @@ pub fn arrive(
         times,
         visited,
         drone_flags,
-        drone,
-    )
+        dependencies,
+        &mut first_drones,
+        &mut first_stops,
+        &mut second_drones,
+        &mut second_stops,
+        &mut flags,
+    ) {
+        Spread::TooSmall => ArriveReply::TablesTooSmall,
+        Spread::UnusedNotZero => ArriveReply::NotSound,
+        Spread::Whole => calls::arrive(
+            drone_count,
+            dependency_count,
+            names,
+            stop_counts,
+            locations,
+            times,
+            visited,
+            drone_flags,
+            &first_drones,
+            &first_stops,
+            &second_drones,
+            &second_stops,
+            &flags,
+            drone,
+        ),
+    }
 }
 
 // "Turn: flips bit 0 of one dependency".
@@ -136,10 +190,12 @@ pub fn turn(
     ensures { λ r. ⌜ now (dependencies .exit) ≡ flipIf (isAccepted (turnMeant r)) dependency (now (dependencies .entry)) ⌝ }
     ensures { λ _. ⌜ drop (limits .dependencies) (now (dependencies .exit)) ≡ drop (limits .dependencies) (now (dependencies .entry)) ⌝ }
 {
-    let n = dependencies.len();
-    let reply = turn_records(
-        records(dependencies),
-        n,
+    let mut first_drones = [0u8; Dependency::FULL];
+    let mut first_stops = [0u16; Dependency::FULL];
+    let mut second_drones = [0u8; Dependency::FULL];
+    let mut second_stops = [0u16; Dependency::FULL];
+    let mut flags = [0u8; Dependency::FULL];
+    let reply = match spread(
         drone_count,
         dependency_count,
         names,
@@ -148,8 +204,32 @@ pub fn turn(
         times,
         visited,
         drone_flags,
-        dependency,
-    );
+        dependencies,
+        &mut first_drones,
+        &mut first_stops,
+        &mut second_drones,
+        &mut second_stops,
+        &mut flags,
+    ) {
+        Spread::TooSmall => TurnReply::TablesTooSmall,
+        Spread::UnusedNotZero => TurnReply::NotSound,
+        Spread::Whole => calls::turn(
+            drone_count,
+            dependency_count,
+            names,
+            stop_counts,
+            locations,
+            times,
+            visited,
+            drone_flags,
+            &first_drones,
+            &first_stops,
+            &second_drones,
+            &second_stops,
+            &mut flags,
+            dependency,
+        ),
+    };
     flip_if(dependencies, dependency, is_turned(reply));
     reply
 }
@@ -171,9 +251,12 @@ pub fn cost(
         (now (locations .entry)) (now (times .entry)) (now (visited .entry)) (now («drone_flags» .entry))
         (now (dependencies .entry))) ⌝ }
 {
-    cost_records(
-        records(dependencies),
-        dependencies.len(),
+    let mut first_drones = [0u8; Dependency::FULL];
+    let mut first_stops = [0u16; Dependency::FULL];
+    let mut second_drones = [0u8; Dependency::FULL];
+    let mut second_stops = [0u16; Dependency::FULL];
+    let mut flags = [0u8; Dependency::FULL];
+    match spread(
         drone_count,
         dependency_count,
         names,
@@ -182,7 +265,89 @@ pub fn cost(
         times,
         visited,
         drone_flags,
-    )
+        dependencies,
+        &mut first_drones,
+        &mut first_stops,
+        &mut second_drones,
+        &mut second_stops,
+        &mut flags,
+    ) {
+        Spread::TooSmall => CostAnswer::TablesTooSmall,
+        Spread::UnusedNotZero => CostAnswer::NotSound,
+        Spread::Whole => calls::cost(
+            drone_count,
+            dependency_count,
+            names,
+            stop_counts,
+            locations,
+            times,
+            visited,
+            drone_flags,
+            &first_drones,
+            &first_stops,
+            &second_drones,
+            &second_stops,
+            &flags,
+        ),
+    }
+}
+
+// The undelayed rounds until everybody has landed, with the order now in force. It changes nothing.
+pub fn rounds(
+    drone_count: &[u16],
+    dependency_count: &[u16],
+    names: &[u8],
+    stop_counts: &[u16],
+    locations: &[u16],
+    times: &[u32],
+    visited: &[u16],
+    drone_flags: &[u8],
+    dependencies: &[Dependency],
+) -> RoundsAnswer
+    ensures { λ r. ⌜ roundsMeant r ≡ roundsReply limits (tablesOfRecords limits
+        (now («drone_count» .entry)) (now («dependency_count» .entry)) (now (names .entry)) (now («stop_counts» .entry))
+        (now (locations .entry)) (now (times .entry)) (now (visited .entry)) (now («drone_flags» .entry))
+        (now (dependencies .entry))) ⌝ }
+{
+    let mut first_drones = [0u8; Dependency::FULL];
+    let mut first_stops = [0u16; Dependency::FULL];
+    let mut second_drones = [0u8; Dependency::FULL];
+    let mut second_stops = [0u16; Dependency::FULL];
+    let mut flags = [0u8; Dependency::FULL];
+    match spread(
+        drone_count,
+        dependency_count,
+        names,
+        stop_counts,
+        locations,
+        times,
+        visited,
+        drone_flags,
+        dependencies,
+        &mut first_drones,
+        &mut first_stops,
+        &mut second_drones,
+        &mut second_stops,
+        &mut flags,
+    ) {
+        Spread::TooSmall => RoundsAnswer::TablesTooSmall,
+        Spread::UnusedNotZero => RoundsAnswer::NotSound,
+        Spread::Whole => calls::rounds(
+            drone_count,
+            dependency_count,
+            names,
+            stop_counts,
+            locations,
+            times,
+            visited,
+            drone_flags,
+            &first_drones,
+            &first_stops,
+            &second_drones,
+            &second_stops,
+            &flags,
+        ),
+    }
 }
 
 // Writes the text of the plan that the tables hold: "42 buffer shorter than the text".
@@ -207,10 +372,12 @@ pub fn write_plan(
         (now (buf .entry)) (now (buf .exit)) (writeMeant r)
         ⌝ }
 {
-    write_records(
-        records(dependencies),
-        dependencies.len(),
-        buf,
+    let mut first_drones = [0u8; Dependency::FULL];
+    let mut first_stops = [0u16; Dependency::FULL];
+    let mut second_drones = [0u8; Dependency::FULL];
+    let mut second_stops = [0u16; Dependency::FULL];
+    let mut flags = [0u8; Dependency::FULL];
+    match spread(
         drone_count,
         dependency_count,
         names,
@@ -219,7 +386,32 @@ pub fn write_plan(
         times,
         visited,
         drone_flags,
-    )
+        dependencies,
+        &mut first_drones,
+        &mut first_stops,
+        &mut second_drones,
+        &mut second_stops,
+        &mut flags,
+    ) {
+        Spread::TooSmall => WriteReply::TablesTooSmall,
+        Spread::UnusedNotZero => WriteReply::NotSound,
+        Spread::Whole => calls::write_plan(
+            buf,
+            drone_count,
+            dependency_count,
+            names,
+            stop_counts,
+            locations,
+            times,
+            visited,
+            drone_flags,
+            &first_drones,
+            &first_stops,
+            &second_drones,
+            &second_stops,
+            &flags,
+        ),
+    }
 }
 
 // Reads a plan text into the tables. Tables below full size and a text that is too long change nothing, and after any other refusal the tables are zeroed.
@@ -248,10 +440,15 @@ pub fn read_plan(
         ⌝ }
     ensures { λ _. ⌜ drop (limits .dependencies) (now (dependencies .exit)) ≡ drop (limits .dependencies) (now (dependencies .entry)) ⌝ }
 {
-    let n = dependencies.len();
-    let read = read_records(
-        records(dependencies),
-        n,
+    if below_full(dependencies.len()) {
+        return Reading::Refused(Refusal::TablesTooSmall);
+    }
+    let mut first_drones = [0u8; Dependency::FULL];
+    let mut first_stops = [0u16; Dependency::FULL];
+    let mut second_drones = [0u8; Dependency::FULL];
+    let mut second_stops = [0u16; Dependency::FULL];
+    let mut flags = [0u8; Dependency::FULL];
+    let reading = entry::read_plan(
         text,
         drone_count,
         dependency_count,
@@ -261,7 +458,20 @@ pub fn read_plan(
         times,
         visited,
         drone_flags,
+        &mut first_drones,
+        &mut first_stops,
+        &mut second_drones,
+        &mut second_stops,
+        &mut flags,
     );
-    store_all(dependencies, records_of(read));
-    reading_of(read)
+    store_if(
+        dependencies,
+        is_written(reading, text.len()),
+        &first_drones,
+        &first_stops,
+        &second_drones,
+        &second_stops,
+        &flags,
+    );
+    reading
 }

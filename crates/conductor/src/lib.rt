@@ -1,4 +1,3 @@
 // The public calls over lent tables whose dependencies are a slice of records.
 pub mod calls;
-pub mod cores;
-pub mod reads;
+pub mod changes;

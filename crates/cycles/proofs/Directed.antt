@@ -3,9 +3,10 @@ use mathlib.Core.Path.{_≡_, refl, sym, ap, _∙_}
 use mathlib.Core.Logic.{_≢_, inr}
 use mathlib.Core.List.{List}
 use mathlib.Core.Bool.{Bool, true, false, not}
-use Prim.Native.Nat.{ℕ, suc, _+_, _-_, _<_}
+use Prim.Native.Nat.{ℕ, suc, _+_, _-_, _≤_, _<_}
 use native.Mathlib.Omega.{arith}
 use lib.ListN.{length, set, length-set}
+use lib.Seq.{getD-set-other}
 use Rattle.below.specs.Below.{at, pick, countBelow}
 use Rattle.below.proofs.Tests.{by-cases, true-or-false}
 use Rattle.below.proofs.Count.{count-yes, count-no, count-none}
@@ -53,6 +54,10 @@ edges-more firsts seconds flags k from into t x y E l e ex ey = record {
   from-is = fill-more from k x 0 (fromOf (at firsts) (at seconds) (turnedIn flags)) (omega (arith, E .from-size)) (E .from-is) (ex ∙ ap (λ (b : Bool). pick b (at seconds k + 1) (at firsts k + 1)) e);
   into-is = fill-more into k y 0 (intoOf (at firsts) (at seconds) (turnedIn flags)) (omega (arith, E .into-size)) (E .into-is) (ey ∙ ap (λ (b : Bool). pick b (at firsts k) (at seconds k)) e);
 }
+
+-- the entries that are still as they were
+pub rest-more : (l l₀ : List ℕ) (k x : ℕ) → ((j : ℕ) → k ≤ j → at l j ≡ at l₀ j) → (j : ℕ) → k + 1 ≤ j → at (set l k x) j ≡ at l₀ j
+rest-more l l₀ k x r j h = getD-set-other l k j x 0 (λ e. omega arith) ∙ r j (omega arith)
 
 -- two tables of the same waits
 module _ (own off last : ℕ → ℕ) (drones n m : ℕ) (from into from′ into′ : ℕ → ℕ) (ef : (k : ℕ) → k < m → from k ≡ from′ k) (ei : (k : ℕ) → k < m → into k ≡ into′ k) where

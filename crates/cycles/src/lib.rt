@@ -1,17 +1,20 @@
 // Whether the plan graph has a cycle, in time linear in stops and waits: a walk from the first stops comes to everybody's last stop exactly where there is none.
 pub mod casts;
-mod linking;
+pub mod linking;
 pub mod waits;
 pub mod walk;
 
 use tables::entries::Dependency;
 use tables::entries::Drone;
 use tables::entries::Stop;
+ghost use mathlib.Core.Bool.{true};
 ghost use mathlib.Core.Path.{_≡_};
+ghost use lib.ListN.{length};
 ghost use Rattle.below.specs.Below.{at};
+ghost use Rattle.tables.specs.Limits.{limits};
 ghost use Rattle.precedence.specs.Graph.{cyclic};
 ghost use Rattle.cycles.specs.Flat.{flatPlan, FlatTables};
-ghost use Rattle.cycles.specs.Waits.{turnedIn, Given, graphSound};
+ghost use Rattle.cycles.specs.Waits.{turnedIn, Edges, Given, graphSound};
 
 // Whether the plan graph has a cycle.
 pub fn has_cycle(
@@ -29,7 +32,7 @@ pub fn has_cycle(
 {
     let mut cur = [0u16; Drone::FULL];
     walk::at_first(starts, &mut cur);
-    let mut table = [0u16; Stop::FULL];
+    let mut table = [0u64; Stop::FULL];
     walk::walk(
         owners,
         starts,
@@ -46,7 +49,7 @@ pub fn has_cycle(
 }
 
 // Whether no two drones collide, the table is the list of the plan's dependencies, and the graph with its turns has no cycle. Where nothing is turned, the planned times
-// rise along every edge, so there is none.
+// rise along every edge, so there is none. `from` and `into` hold the dependencies' first and second stops at first; where all is well they hold the waits in force afterwards.
 pub fn graph_sound(
     owners: &[u8],
     locations: &[u16],
@@ -55,22 +58,20 @@ pub fn graph_sound(
     lasts: &[u16; Drone::FULL],
     drones: usize,
     n: usize,
-    firsts: &[u16],
-    seconds: &[u16],
     flags: &[u8],
     m: usize,
+    from: &mut [u16; Dependency::FULL],
+    into: &mut [u16; Dependency::FULL],
 ) -> bool
-    requires { ⌜ Given (now owners) (now locations) (now times) (now starts) (now lasts) (now firsts) (now seconds) (now flags) drones n m ⌝ }
-    ensures { λ r. ⌜ r ≡ graphSound (at (now (owners .entry))) (at (now (starts .entry))) (at (now (lasts .entry))) (at (now (locations .entry))) (at (now (times .entry))) drones n m (at (now (firsts .entry))) (at (now (seconds .entry))) (turnedIn (now (flags .entry))) ⌝ }
+    requires { ⌜ Given (now owners) (now locations) (now times) (now starts) (now lasts) (now from) (now into) (now flags) drones n m × (length (now from) ≡ limits .dependencies) × (length (now into) ≡ limits .dependencies) ⌝ }
+    ensures { λ r. ⌜ (r ≡ graphSound (at (now (owners .entry))) (at (now (starts .entry))) (at (now (lasts .entry))) (at (now (locations .entry))) (at (now (times .entry))) drones n m (at (now (from .entry))) (at (now (into .entry))) (turnedIn (now (flags .entry)))) × (r ≡ true → Edges (now (from .entry)) (now (into .entry)) (now (flags .entry)) m (now (from .exit)) (now (into .exit))) ⌝ }
 {
-    if !meetings::dependencies_right(owners, locations, times, n, firsts, seconds, m) {
+    if !meetings::dependencies_right(owners, locations, times, n, from, into, m) {
         return false;
     }
+    waits::make_waits(flags, m, from, into);
     if waits::turned_total(flags, m) == 0 {
         return true;
     }
-    let mut from = [0u16; Dependency::FULL];
-    let mut into = [0u16; Dependency::FULL];
-    waits::fill(firsts, seconds, flags, m, &mut from, &mut into);
-    !has_cycle(owners, starts, lasts, drones, n, &from, &into, m)
+    !has_cycle(owners, starts, lasts, drones, n, from, into, m)
 }

@@ -1,4 +1,4 @@
-// The waits out of each stop, linked through arrays.
+// Waits linked through arrays by one of their two stops.
 use crate::casts::wide;
 use tables::entries::Dependency;
 use tables::entries::Stop;
@@ -9,7 +9,7 @@ ghost use Rattle.below.specs.Below.{at};
 ghost use Rattle.tables.specs.Limits.{limits};
 ghost use Rattle.cycles.specs.Links.{Linked};
 
-// head[v] becomes one more than the greatest wait for stop v, next[k] one more than the greatest below k that is for the same stop as k; 0 is none.
+// head[v] becomes one more than the greatest wait whose entry of `from` is v, next[k] one more than the greatest below k with the same entry as k; 0 is none.
 pub fn link(
     from: &[u16; Dependency::FULL],
     m: usize,

@@ -1,4 +1,5 @@
 // The waits of a dependency table in the direction now in force.
+use tables::entries::Dependency;
 ghost use mathlib.Core.Path.{_≡_};
 ghost use Prim.Native.Nat.{ℕ, _≤_, _<_};
 ghost use lib.ListN.{length};
@@ -39,24 +40,22 @@ pub fn turned_total(flags: &[u8], m: usize) -> u16
     total
 }
 
-// The waits of the first m dependencies, in the direction now in force.
-pub fn fill(
-    firsts: &[u16],
-    seconds: &[u16],
+// Makes the waits of the first m dependencies, in the direction now in force, of their first and second stops: those are in `from` and `into` at first.
+pub fn make_waits(
     flags: &[u8],
     m: usize,
-    from: &mut [u16; 2048],
-    into: &mut [u16; 2048],
+    from: &mut [u16; Dependency::FULL],
+    into: &mut [u16; Dependency::FULL],
 )
-    requires { ⌜ (m ≤ length (now firsts)) × (m ≤ length (now seconds)) × (m ≤ length (now flags)) × (m ≤ limits .dependencies) × ((k : ℕ) → k < m → at (now firsts) k < limits .stops) × ((k : ℕ) → k < m → at (now seconds) k < limits .stops) ⌝ }
+    requires { ⌜ (m ≤ length (now flags)) × (m ≤ limits .dependencies) × ((k : ℕ) → k < m → at (now from) k < limits .stops) × ((k : ℕ) → k < m → at (now into) k < limits .stops) ⌝ }
     requires { ⌜ (length (now from) ≡ limits .dependencies) × (length (now into) ≡ limits .dependencies) ⌝ }
-    ensures { λ _. ⌜ Edges (now (firsts .entry)) (now (seconds .entry)) (now (flags .entry)) m (now (from .exit)) (now (into .exit)) ⌝ }
+    ensures { λ _. ⌜ Edges (now (from .entry)) (now (into .entry)) (now (flags .entry)) m (now (from .exit)) (now (into .exit)) ⌝ }
 {
     let mut k = 0;
     while k < m {
         let t = turned_at(flags, k);
-        let v = firsts[k];
-        let w = seconds[k];
+        let v = from[k];
+        let w = into[k];
         from[k] = pick16(t, w + 1, v + 1);
         into[k] = pick16(t, v, w);
         k += 1;

@@ -17,6 +17,16 @@ use Rattle.flat.specs.declared.calls.TablesCheck.the-variants.{Usable as
 use Rattle.flat.specs.Checking.{checkOf, checkNumber}
 use Rattle.flat.proofs.Answers.{answered}
 
+-- an answer that another one would be
+clash : (x y : TablesCheck) (m n : ℕ) → checkNumber x ≡ m → checkNumber y ≡ n → (m ≡ n → ⊥) → x ≡ y → ⊥
+clash x y m n p q d e = d (sym p ∙ ap checkNumber e ∙ q)
+
+pub small-unusable : TooSmall ≡ CanBeUsed → ⊥
+small-unusable = clash TooSmall CanBeUsed 41 0 refl refl (λ z. omega (arith, z))
+
+pub unsound-unusable : NotSound ≡ CanBeUsed → ⊥
+unsound-unusable = clash NotSound CanBeUsed 40 0 refl refl (λ z. omega (arith, z))
+
 module _ (L : Limits) (t : Tables) where
   -- ---- the check's returns
 
@@ -39,16 +49,12 @@ module _ (L : Limits) (t : Tables) where
 
   -- ---- what the check's answer says
 
-  -- an answer that another one would be
-  clash : (x y : TablesCheck) (m n : ℕ) → checkNumber x ≡ m → checkNumber y ≡ n → (m ≡ n → ⊥) → x ≡ y → ⊥
-  clash x y m n p q d e = d (sym p ∙ ap checkNumber e ∙ q)
-
   module _ (r : TablesCheck) (is-r : r ≡ checkOf L t) where
     pub says-too-small : r ≡ TooSmall → fullSize L t ≡ false
     unfolding checkOf
     says-too-small e = by-cases (fullSize L t)
         (λ f. by-cases (sound L t)
-        (λ s. absurd (clash TooSmall CanBeUsed 41 0 refl refl (λ z. omega (arith, z)) (sym e ∙ is-r ∙ rw (f, s) refl)))
+        (λ s. absurd (small-unusable (sym e ∙ is-r ∙ rw (f, s) refl)))
         (λ s. absurd (clash TooSmall NotSound 41 40 refl refl (λ z. omega (arith, z)) (sym e ∙ is-r ∙ rw (f, s) refl))))
         (λ f. f)
 
@@ -56,7 +62,7 @@ module _ (L : Limits) (t : Tables) where
     unfolding checkOf
     says-not-sound e = by-cases (fullSize L t)
         (λ f. by-cases (sound L t)
-        (λ s. absurd (clash NotSound CanBeUsed 40 0 refl refl (λ z. omega (arith, z)) (sym e ∙ is-r ∙ rw (f, s) refl)))
+        (λ s. absurd (unsound-unusable (sym e ∙ is-r ∙ rw (f, s) refl)))
         (λ s. (f, s)))
         (λ f. absurd (clash NotSound TooSmall 40 41 refl refl (λ z. omega (arith, z)) (sym e ∙ is-r ∙ rw f refl)))
 

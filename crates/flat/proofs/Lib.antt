@@ -3,5 +3,5 @@ pub mod Answers
 pub mod WritingLaws
 pub mod CheckLaws
 pub mod CostLaws
-pub mod Turned
+pub mod GraphLaws
 pub mod TurnAnswers

@@ -1,10 +1,12 @@
--- Document 01's reply for each case of the answers of turn and cost ("Where each refusal is checked"). Assumes nothing.
+-- Document 01's reply for each case of the answers of turn, cost and rounds ("Where each refusal is checked"). Assumes nothing.
 use Rattle.log.specs.CallLog.{Reply, accepted, refused}
-use Rattle.log.specs.Calls.{CostReply, costs, costRefused}
+use Rattle.log.specs.Calls.{CostReply, costs, costRefused, RoundsReply, rounds, roundsRefused}
 use Rattle.flat.specs.declared.turn_replies.TurnReply.{TurnReply}
 use Rattle.flat.specs.declared.turn_replies.TurnReply.the-variants as turn
 use Rattle.flat.specs.declared.turn_replies.CostAnswer.{CostAnswer}
 use Rattle.flat.specs.declared.turn_replies.CostAnswer.the-variants as cost
+use Rattle.flat.specs.declared.turn_replies.RoundsAnswer.{RoundsAnswer}
+use Rattle.flat.specs.declared.turn_replies.RoundsAnswer.the-variants as landed
 
 abbrev pub turnMeant : TurnReply → Reply
 turnMeant turn.Turned = accepted
@@ -20,3 +22,8 @@ abbrev pub costMeant : CostAnswer → CostReply
 costMeant (cost.Cost n) = costs n
 costMeant cost.TablesTooSmall = costRefused 41
 costMeant cost.NotSound = costRefused 40
+
+abbrev pub roundsMeant : RoundsAnswer → RoundsReply
+roundsMeant (landed.Rounds n) = rounds n
+roundsMeant landed.TablesTooSmall = roundsRefused 41
+roundsMeant landed.NotSound = roundsRefused 40

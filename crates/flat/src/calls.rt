@@ -3,21 +3,28 @@ use crate::cores::arrive_sound;
 use crate::cores::grant_sound;
 use crate::cores::write_sound;
 use crate::costing::cost_sound;
+use crate::costing::rounds_sound;
 use crate::replies::ArriveReply;
 use crate::replies::GrantReply;
 use crate::replies::WriteReply;
 use crate::turn_replies::CostAnswer;
+use crate::turn_replies::RoundsAnswer;
 use crate::turn_replies::TurnReply;
 use crate::turning::turn_sound;
-use sound::is_sound;
+use sound::check;
+use tables::entries::Dependency;
+use tables::entries::Drone;
+use tables::entries::Stop;
 use tables::sizes::full_size;
 ghost use mathlib.Core.Path.{_≡_};
 ghost use Rattle.tables.specs.Limits.{limits};
 ghost use Rattle.tables.specs.Tables.{tablesOf};
+ghost use Rattle.sound.specs.Asked.{InForce, Room};
 ghost use Rattle.log.specs.CallLog.{grant as grantOf, arrive as arriveOf, turn as turnOf};
-ghost use Rattle.log.specs.Calls.{step, Answered, costReply};
+ghost use Rattle.log.specs.Calls.{step, Answered, costReply, roundsReply};
 ghost use Rattle.flat.specs.Replies.{grantMeant, arriveMeant};
-ghost use Rattle.flat.specs.TurnReplies.{turnMeant, costMeant};
+ghost use Rattle.flat.specs.TurnReplies.{turnMeant, costMeant, roundsMeant};
+ghost use Rattle.flat.specs.declared.calls.TablesCheck.the-variants.{Usable as CanBeUsed};
 ghost use Rattle.flat.specs.Checking.{checkOf};
 ghost use Rattle.flat.specs.Writing.{writeMeant, PlanWritten};
 
@@ -26,6 +33,85 @@ pub enum TablesCheck {
     Usable,
     TooSmall,
     NotSound,
+}
+
+// "41 a lent table is below full size", then "40 not sound". Of tables that can be used it leaves the graph now in force in the last five tables.
+pub fn check_graph(
+    drone_count: &[u16],
+    dependency_count: &[u16],
+    names: &[u8],
+    stop_counts: &[u16],
+    locations: &[u16],
+    times: &[u32],
+    visited: &[u16],
+    drone_flags: &[u8],
+    first_drones: &[u8],
+    first_stops: &[u16],
+    second_drones: &[u8],
+    second_stops: &[u16],
+    flags: &[u8],
+    owners: &mut [u8; Stop::FULL],
+    starts: &mut [u16; Drone::FULL],
+    lasts: &mut [u16; Drone::FULL],
+    from: &mut [u16; Dependency::FULL],
+    into: &mut [u16; Dependency::FULL],
+) -> TablesCheck
+    requires { ⌜ Room (now owners) (now starts) (now lasts) (now from) (now into) ⌝ }
+    ensures { λ r.
+        ⌜
+        (r ≡ checkOf limits (tablesOf
+        (now («drone_count» .entry)) (now («dependency_count» .entry)) (now (names .entry)) (now («stop_counts» .entry))
+        (now (locations .entry)) (now (times .entry)) (now (visited .entry)) (now («drone_flags» .entry))
+        (now («first_drones» .entry)) (now («first_stops» .entry)) (now («second_drones» .entry)) (now («second_stops» .entry))
+        (now (flags .entry))))
+        × (r ≡ CanBeUsed → InForce (tablesOf
+        (now («drone_count» .entry)) (now («dependency_count» .entry)) (now (names .entry)) (now («stop_counts» .entry))
+        (now (locations .entry)) (now (times .entry)) (now (visited .entry)) (now («drone_flags» .entry))
+        (now («first_drones» .entry)) (now («first_stops» .entry)) (now («second_drones» .entry)) (now («second_stops» .entry))
+        (now (flags .entry)))
+        (now (owners .exit)) (now (starts .exit)) (now (lasts .exit)) (now (from .exit)) (now (into .exit)))
+        ⌝ }
+{
+    if !full_size(
+        drone_count,
+        dependency_count,
+        names,
+        stop_counts,
+        locations,
+        times,
+        visited,
+        drone_flags,
+        first_drones,
+        first_stops,
+        second_drones,
+        second_stops,
+        flags,
+    ) {
+        return TablesCheck::TooSmall;
+    }
+    if !check(
+        drone_count,
+        dependency_count,
+        names,
+        stop_counts,
+        locations,
+        times,
+        visited,
+        drone_flags,
+        first_drones,
+        first_stops,
+        second_drones,
+        second_stops,
+        flags,
+        owners,
+        starts,
+        lasts,
+        from,
+        into,
+    ) {
+        return TablesCheck::NotSound;
+    }
+    TablesCheck::Usable
 }
 
 // "41 a lent table is below full size", then "40 not sound".
@@ -53,7 +139,12 @@ pub fn check_tables(
         (now (flags .entry)))
         ⌝ }
 {
-    if !full_size(
+    let mut owners = [0u8; Stop::FULL];
+    let mut starts = [0u16; Drone::FULL];
+    let mut lasts = [0u16; Drone::FULL];
+    let mut from = [0u16; Dependency::FULL];
+    let mut into = [0u16; Dependency::FULL];
+    check_graph(
         drone_count,
         dependency_count,
         names,
@@ -67,27 +158,12 @@ pub fn check_tables(
         second_drones,
         second_stops,
         flags,
-    ) {
-        return TablesCheck::TooSmall;
-    }
-    if !is_sound(
-        drone_count,
-        dependency_count,
-        names,
-        stop_counts,
-        locations,
-        times,
-        visited,
-        drone_flags,
-        first_drones,
-        first_stops,
-        second_drones,
-        second_stops,
-        flags,
-    ) {
-        return TablesCheck::NotSound;
-    }
-    TablesCheck::Usable
+        &mut owners,
+        &mut starts,
+        &mut lasts,
+        &mut from,
+        &mut into,
+    )
 }
 
 // "Grant: the drone becomes under way when every dependency into its next stop has the awaited stop visited".
@@ -257,7 +333,12 @@ pub fn turn(
         (now (flags .exit)))
         ⌝ }
 {
-    let check = check_tables(
+    let mut owners = [0u8; Stop::FULL];
+    let mut starts = [0u16; Drone::FULL];
+    let mut lasts = [0u16; Drone::FULL];
+    let mut from = [0u16; Dependency::FULL];
+    let mut into = [0u16; Dependency::FULL];
+    let check = check_graph(
         drone_count,
         dependency_count,
         names,
@@ -271,6 +352,11 @@ pub fn turn(
         second_drones,
         second_stops,
         flags,
+        &mut owners,
+        &mut starts,
+        &mut lasts,
+        &mut from,
+        &mut into,
     );
     match check {
         TablesCheck::TooSmall => TurnReply::TablesTooSmall,
@@ -290,6 +376,11 @@ pub fn turn(
             second_stops,
             flags,
             dependency,
+            &owners,
+            &starts,
+            &lasts,
+            &mut from,
+            &mut into,
         ),
     }
 }
@@ -383,7 +474,12 @@ pub fn cost(
         (now (flags .entry)))
         ⌝ }
 {
-    let check = check_tables(
+    let mut owners = [0u8; Stop::FULL];
+    let mut starts = [0u16; Drone::FULL];
+    let mut lasts = [0u16; Drone::FULL];
+    let mut from = [0u16; Dependency::FULL];
+    let mut into = [0u16; Dependency::FULL];
+    let check = check_graph(
         drone_count,
         dependency_count,
         names,
@@ -397,6 +493,11 @@ pub fn cost(
         second_drones,
         second_stops,
         flags,
+        &mut owners,
+        &mut starts,
+        &mut lasts,
+        &mut from,
+        &mut into,
     );
     match check {
         TablesCheck::TooSmall => CostAnswer::TablesTooSmall,
@@ -415,6 +516,87 @@ pub fn cost(
             second_drones,
             second_stops,
             flags,
+            &owners,
+            &starts,
+            &lasts,
+            &from,
+            &into,
+        )),
+    }
+}
+
+// "the undelayed rounds until everybody has landed", with the order now in force. It changes nothing.
+pub fn rounds(
+    drone_count: &[u16],
+    dependency_count: &[u16],
+    names: &[u8],
+    stop_counts: &[u16],
+    locations: &[u16],
+    times: &[u32],
+    visited: &[u16],
+    drone_flags: &[u8],
+    first_drones: &[u8],
+    first_stops: &[u16],
+    second_drones: &[u8],
+    second_stops: &[u16],
+    flags: &[u8],
+) -> RoundsAnswer
+    ensures { λ r.
+        ⌜
+        roundsMeant r ≡ roundsReply limits (tablesOf
+        (now («drone_count» .entry)) (now («dependency_count» .entry)) (now (names .entry)) (now («stop_counts» .entry))
+        (now (locations .entry)) (now (times .entry)) (now (visited .entry)) (now («drone_flags» .entry))
+        (now («first_drones» .entry)) (now («first_stops» .entry)) (now («second_drones» .entry)) (now («second_stops» .entry))
+        (now (flags .entry)))
+        ⌝ }
+{
+    let mut owners = [0u8; Stop::FULL];
+    let mut starts = [0u16; Drone::FULL];
+    let mut lasts = [0u16; Drone::FULL];
+    let mut from = [0u16; Dependency::FULL];
+    let mut into = [0u16; Dependency::FULL];
+    let check = check_graph(
+        drone_count,
+        dependency_count,
+        names,
+        stop_counts,
+        locations,
+        times,
+        visited,
+        drone_flags,
+        first_drones,
+        first_stops,
+        second_drones,
+        second_stops,
+        flags,
+        &mut owners,
+        &mut starts,
+        &mut lasts,
+        &mut from,
+        &mut into,
+    );
+    match check {
+        TablesCheck::TooSmall => RoundsAnswer::TablesTooSmall,
+        TablesCheck::NotSound => RoundsAnswer::NotSound,
+        TablesCheck::Usable => RoundsAnswer::Rounds(rounds_sound(
+            drone_count,
+            dependency_count,
+            names,
+            stop_counts,
+            locations,
+            times,
+            visited,
+            drone_flags,
+            first_drones,
+            first_stops,
+            second_drones,
+            second_stops,
+            flags,
+            &owners,
+            &starts,
+            &lasts,
+            &from,
+            &into,
         )),
     }
 }

@@ -1,4 +1,4 @@
-// What turn and cost reply; a definition of specs/ gives document 01's reply for each case.
+// What turn, cost and rounds reply; a definition of specs/ gives document 01's reply for each case.
 pub enum TurnReply {
     Turned,
     TablesTooSmall,
@@ -12,6 +12,12 @@ pub enum TurnReply {
 
 pub enum CostAnswer {
     Cost(usize),
+    TablesTooSmall,
+    NotSound,
+}
+
+pub enum RoundsAnswer {
+    Rounds(usize),
     TablesTooSmall,
     NotSound,
 }

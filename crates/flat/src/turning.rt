@@ -1,6 +1,11 @@
 // Turn on tables that are of full size and sound.
-use crate::exchanging::turn_cycles;
+use crate::exchanging::exchange;
 use crate::turn_replies::TurnReply;
+use cycles::has_cycle;
+use plan::stops::stop_total;
+use tables::entries::Dependency;
+use tables::entries::Drone;
+use tables::entries::Stop;
 use tables::flags::flipped;
 use tables::flags::is_fixed;
 use tables::flags::is_turned;
@@ -12,6 +17,7 @@ ghost use lib.ListN.{length};
 ghost use Rattle.below.specs.Below.{at};
 ghost use Rattle.tables.specs.Limits.{limits};
 ghost use Rattle.tables.specs.Tables.{tablesOf};
+ghost use Rattle.sound.specs.Asked.{InForce};
 ghost use Rattle.log.specs.CallLog.{turn};
 ghost use Rattle.log.specs.Calls.{step, Answered};
 ghost use Rattle.log.specs.Claims.{Usable};
@@ -53,7 +59,7 @@ fn in_force(turned: bool, planned: bool, other: bool) -> bool
     if turned { other } else { planned }
 }
 
-// "flips bit 0 of one dependency", where the graph has no cycle with it.
+// "flips bit 0 of one dependency", where the graph, which is in the last five tables, has no cycle with it.
 pub fn turn_sound(
     drone_count: &[u16],
     dependency_count: &[u16],
@@ -69,6 +75,11 @@ pub fn turn_sound(
     second_stops: &[u16],
     flags: &mut [u8],
     dependency: usize,
+    owners: &[u8; Stop::FULL],
+    starts: &[u16; Drone::FULL],
+    lasts: &[u16; Drone::FULL],
+    from: &mut [u16; Dependency::FULL],
+    into: &mut [u16; Dependency::FULL],
 ) -> TurnReply
     requires { ⌜
         Usable limits (tablesOf
@@ -76,6 +87,12 @@ pub fn turn_sound(
         (now locations) (now times) (now visited) (now «drone_flags»)
         (now «first_drones») (now «first_stops») (now «second_drones») (now «second_stops»)
         (now flags))
+        × InForce (tablesOf
+        (now «drone_count») (now «dependency_count») (now names) (now «stop_counts»)
+        (now locations) (now times) (now visited) (now «drone_flags»)
+        (now «first_drones») (now «first_stops») (now «second_drones») (now «second_stops»)
+        (now flags))
+        (now owners) (now starts) (now lasts) (now from) (now into)
         ⌝ }
     ensures { λ r.
         ⌜
@@ -114,22 +131,10 @@ pub fn turn_sound(
     if in_force(turned, second, first) {
         return TurnReply::SecondEntered;
     }
-    if turn_cycles(
-        drone_count,
-        dependency_count,
-        names,
-        stop_counts,
-        locations,
-        times,
-        visited,
-        drone_flags,
-        first_drones,
-        first_stops,
-        second_drones,
-        second_stops,
-        flags,
-        dependency,
-    ) {
+    exchange(from, into, dependency);
+    let drones = drone_count[0] as usize;
+    let n = stop_total(drones, stop_counts);
+    if has_cycle(owners, starts, lasts, drones, n, from, into, count) {
         return TurnReply::Cycle;
     }
     flags[dependency] = flipped(flag);

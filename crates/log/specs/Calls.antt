@@ -8,7 +8,7 @@ use Rattle.below.specs.Below.{at}
 use Rattle.tables.specs.Limits.{Limits}
 use Rattle.tables.specs.Tables.{PlanLists, Tables, dependencies, fullSize}
 use Rattle.tables.specs.Flags.{flipBit, fixedFlag, setUnderWay, clearUnderWay}
-use Rattle.precedence.specs.Graph.{cost}
+use Rattle.precedence.specs.Graph.{cost, makespan}
 use Rattle.plan.specs.Field.{planOf, graph, fixed}
 use Rattle.plan.specs.Status.{Status, statusIn}
 use Rattle.sound.specs.Sound.{sound, planAccepted, dependenciesSound, planUnused}
@@ -40,6 +40,11 @@ pub data CostReply : Type 0 where
   costs : ℕ → CostReply
   costRefused : ℕ → CostReply
 
+-- the rounds until everybody has landed, or the refusal of the call
+pub data RoundsReply : Type 0 where
+  rounds : ℕ → RoundsReply
+  roundsRefused : ℕ → RoundsReply
+
 module _ (L : Limits) where
   -- 41, then 40, then the first of the table's refusals that holds in the tables
   unfoldable pub replyOf : Tables → Call → Reply
@@ -63,6 +68,10 @@ module _ (L : Limits) where
   -- "Remaining cost": from the drones' progress, with the order now in force. It changes nothing
   unfoldable pub costReply : Tables → CostReply
   costReply t = cond (fullSize L t) (cond (sound L t) (costs (cost (graph (planOf (t .plan)) (statusIn t .turned)) (statusIn t .place))) (costRefused 40)) (costRefused 41)
+
+  -- "the undelayed rounds until everybody has landed": from the drones' progress, with the order now in force. It changes nothing
+  unfoldable pub roundsReply : Tables → RoundsReply
+  roundsReply t = cond (fullSize L t) (cond (sound L t) (rounds (makespan (graph (planOf (t .plan)) (statusIn t .turned)) (statusIn t .place))) (roundsRefused 40)) (roundsRefused 41)
 
   -- the tables as an accepted reading of the plan left them: the plan and its dependencies stand in them, everybody is at stop 0, "nobody is under way and
   -- nothing is turned", the fixed bits are right, and unused entries up to the full sizes are zero

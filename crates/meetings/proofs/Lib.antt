@@ -1,3 +1,3 @@
 pub mod Right
-pub mod ChainLaws
+pub mod Tallies
 pub mod Steps

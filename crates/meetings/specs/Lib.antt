@@ -1,3 +1,3 @@
 pub mod Meetings
-pub mod Chains
+pub mod Histogram
 pub mod Asked

@@ -1,8 +1,9 @@
 // The test of a dependency table in near-linear time, over stops that are numbered through; a dependency is a pair of stops. That the entries are clear pairs in rising
 // order is tested entry by entry; that none is missing, and that nothing collides, by counting the meetings.
-mod chains;
 mod entries;
+mod histogram;
 
+use plan::sharing;
 use tables::entries::Stop;
 ghost use mathlib.Core.Path.{_≡_};
 ghost use Rattle.below.specs.Below.{at};
@@ -25,7 +26,7 @@ pub fn dependencies_right(
     if !entries::are_right(owners, locations, times, n, firsts, seconds, m) {
         return false;
     }
-    let mut head = [0u16; chains::BUCKETS];
-    let mut prev = [0u16; Stop::FULL];
-    chains::count_meetings(owners, locations, n, &mut head, &mut prev) == m
+    let mut first = [0u16; Stop::FULL];
+    sharing::fill_firsts(locations, n, &mut first);
+    histogram::count_meetings(owners, &first, n) == m
 }

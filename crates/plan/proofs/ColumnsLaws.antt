@@ -1,20 +1,25 @@
 -- The five columns as the building's loops write them: a turn of a row adds an entry or skips it, a turn of the outer loop adds a row. Assumes nothing.
 use mathlib.Core.Path.{_≡_, refl, sym, ap, _∙_, subst}
+use mathlib.Core.Logic.{_≢_}
 use mathlib.Core.List.{List}
 use mathlib.Core.Bool.{Bool, true, false}
 use Prim.Native.Nat.{ℕ, _+_, _≤_, _<_}
 use native.Mathlib.Nat.{le-antisymm}
 use native.Mathlib.Omega.{arith}
 use lib.ListN.{length, set}
-use borrow.Author.Tests.{le-leb, lt-leb}
-use Rattle.below.specs.Below.{countBelow, sumBelow, picks, rowsBelow}
-use Rattle.below.proofs.Count.{count-le, count-start, count-yes, count-no, count-past}
+use lib.Dec.{eqb}
+use borrow.Author.Tests.{le-leb, lt-leb, ne-eqb}
+use Rattle.below.specs.Below.{at, countBelow, sumBelow, picks, rowsBelow}
+use Rattle.below.proofs.Tests.{by-cases}
+use Rattle.below.proofs.Count.{count-le, count-start, count-yes, count-no, count-past, count-miss}
 use Rattle.below.proofs.Sum.{sum-past, sum-turn}
 use Rattle.below.proofs.Picks.{length-picks, length-rows, laid-none, laid-length, pick-store, pick-skip, row-store}
 use Rattle.plan.specs.declared.dependencies.Built.the-variants.{Count, TooMany}
 use Rattle.plan.specs.Dependencies.{follows, flagOf, dependencyTotal, column}
 use Rattle.plan.specs.Columns.{Columns, columns, written, rowWritten, rowsWritten, builtOf, builtIn}
 use Rattle.plan.specs.Room.{ColumnsRoom}
+use Rattle.plan.specs.Sharing.{Groups}
+use Rattle.plan.proofs.SharingLaws.{walk-start, walk-more}
 
 columns-same : {fd fs sd ss fl fd′ fs′ sd′ ss′ fl′ : List ℕ} → fd ≡ fd′ → fs ≡ fs′ → sd ≡ sd′ → ss ≡ ss′ → fl ≡ fl′ → columns fd fs sd ss fl ≡ columns fd′ fs′ sd′ ss′ fl′
 columns-same a b c d e = rw (a, b, c, d, e) refl
@@ -109,6 +114,39 @@ module _ (own num loc time : ℕ → ℕ) (n v c : ℕ) (c₀ : Columns) where
       -- where w follows v, the cursor is within the columns
       pub row-room : q w ≡ true → w < n → ColumnsRoom (c + countBelow n q) c₀ → ColumnsRoom (k + 1) (columns fd fs sd ss fl)
       row-room h l r = room-in (k + 1) (c + countBelow n q) _ c₀ row-lengths (omega (arith, count-past w n q l h)) r
+
+-- ---- the walk of a row, which passes over the stops at other locations
+
+follows-elsewhere : (own loc time : ℕ → ℕ) (v u : ℕ) → loc u ≢ loc v → follows own loc time v u ≡ false
+unfolding follows
+follows-elsewhere own loc time v u ne = by-cases (eqb (own v) (own u)) (λ e. rw e refl) (λ e. rw (e, ne-eqb (loc v) (loc u) (λ s. ne (sym s))) refl)
+
+module _ (own loc time : ℕ → ℕ) (n v : ℕ) (first next : List ℕ) (G : Groups loc n first next) where
+  abbrev after : ℕ → Bool
+  after = follows own loc time v
+
+  pub count-start-at : (w : ℕ) → v < n → w ≡ at first v → (w ≤ n) × (0 ≡ countBelow w after) × (w < n → loc w ≡ loc v)
+  count-start-at w l e = walk-start loc n first next G (λ w. 0 ≡ countBelow w after) v w l (λ u ne h. count-miss after u 0 h (follows-elsewhere own loc time v u ne)) (sym (count-start after)) e
+
+  pub count-more-at : (w k x : ℕ) → w < n → loc w ≡ loc v → k ≡ countBelow (w + 1) after → x ≡ at next w → (x ≤ n) × (k ≡ countBelow x after) × (x < n → loc x ≡ loc v)
+  count-more-at w k x l s h e = walk-more loc n first next G (λ w. k ≡ countBelow w after) v w x l s (λ u ne h. count-miss after u k h (follows-elsewhere own loc time v u ne)) h e
+
+module _ (own num loc time : ℕ → ℕ) (n v c : ℕ) (c₀ : Columns) (k : ℕ) (fd fs sd ss fl : List ℕ) where
+  -- the cursor and the columns with the dependencies of v whose second stop is below w
+  abbrev pub RowTo : ℕ → Type 0
+  RowTo w = (k ≡ c + countBelow w (follows own loc time v)) × (columns fd fs sd ss fl ≡ rowWritten own num loc time n v w c c₀)
+
+  row-over : (u : ℕ) → loc u ≢ loc v → RowTo u → RowTo (u + 1)
+  row-over u ne (a, b) =
+      let no : follows own loc time v u ≡ false = follows-elsewhere own loc time v u ne in
+      (cursor-skip (follows own loc time v) c u k a no, row-skip own num loc time n v c c₀ u fd fs sd ss fl b no)
+
+  module _ (first next : List ℕ) (G : Groups loc n first next) where
+    pub row-start-at : (w : ℕ) → v < n → RowTo 0 → w ≡ at first v → (w ≤ n) × RowTo w × (w < n → loc w ≡ loc v)
+    row-start-at w l h e = walk-start loc n first next G RowTo v w l row-over h e
+
+    pub row-more-at : (w x : ℕ) → w < n → loc w ≡ loc v → RowTo (w + 1) → x ≡ at next w → (x ≤ n) × RowTo x × (x < n → loc x ≡ loc v)
+    row-more-at w x l s h e = walk-more loc n first next G RowTo v w x l s row-over h e
 
 -- ---- the rows of all first stops
 module _ (own num loc time : ℕ → ℕ) (n : ℕ) (c₀ : Columns) where

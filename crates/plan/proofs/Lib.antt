@@ -6,6 +6,7 @@ pub mod Accepted
 pub mod Exact
 pub mod Definition1
 pub mod Claims
+pub mod SharingLaws
 pub mod CheckLaws
 pub mod ColumnsLaws
 pub mod WaitsLaws

@@ -1,5 +1,6 @@
 pub mod Stops
 pub mod Check
+pub mod Sharing
 pub mod Answers
 pub mod Dependencies
 pub mod Columns

@@ -3,6 +3,7 @@ use mathlib.Core.List.{List}
 use Prim.Native.Nat.{ℕ, _≤_, _<_}
 use lib.ListN.{length}
 use Rattle.below.specs.Below.{at}
+use Rattle.tables.specs.Limits.{limits}
 use Rattle.plan.specs.Stops.{start}
 use Rattle.plan.specs.Columns.{Columns}
 
@@ -25,12 +26,12 @@ pub record StopsRoom (drones : ℕ) (counts : List ℕ) (n : ℕ) (owners number
   pub owned : n ≤ start counts drones
   pub stops-fit : n ≤ 65536
 
--- tables of n stops: each stop's drone, location and time
+-- tables of n stops, no more than the full size: each stop's drone, location and time
 pub record VisitsRoom (n : ℕ) (owners locations times : List ℕ) : Type 0 where
   pub has-owners : n ≤ length owners
   pub has-locations : n ≤ length locations
   pub has-times : n ≤ length times
-  pub stops-fit : n ≤ 65536
+  pub few : n ≤ limits .stops
 
 -- the same with each stop's number in its drone
 pub record PlanRoom (n : ℕ) (owners numbers locations times : List ℕ) : Type 0 where

@@ -1,9 +1,12 @@
-// The plan check over stops that are numbered through: each stop by itself, then collisions.
+// The plan check over stops that are numbered through: each stop by itself, then collisions, for which only the stops at one location are compared.
+use crate::sharing;
+use tables::entries::Stop;
 ghost use mathlib.Core.Path.{_≡_};
 ghost use Prim.Native.Nat.{_-_, _≤_, _<_};
 ghost use lib.ListN.{length};
 ghost use Rattle.below.specs.Below.{at};
 ghost use Rattle.plan.specs.Check.{faultAt, firstFault, over, collide, partner, collider};
+ghost use Rattle.plan.specs.Sharing.{Groups};
 ghost use Rattle.plan.specs.Answers.{stopAt, faultCase, checkOf};
 ghost use Rattle.plan.specs.Room.{VisitsRoom, PlanRoom};
 
@@ -98,28 +101,43 @@ fn collide_at(owners: &[u8], locations: &[u16], times: &[u32], n: usize, v: usiz
 }
 
 // The first stop that collides with v, or n.
-fn partner_of(owners: &[u8], locations: &[u16], times: &[u32], n: usize, v: usize) -> usize
-    requires { ⌜ VisitsRoom n (now owners) (now locations) (now times) × (v < n) ⌝ }
+fn partner_of(
+    owners: &[u8],
+    locations: &[u16],
+    times: &[u32],
+    n: usize,
+    first: &[u16; Stop::FULL],
+    next: &[u16; Stop::FULL],
+    v: usize,
+) -> usize
+    requires { ⌜ VisitsRoom n (now owners) (now locations) (now times) × Groups (at (now locations)) n (now first) (now next) × (v < n) ⌝ }
     ensures { λ r. ⌜ r ≡ partner (at (now (owners .entry))) (at (now (locations .entry))) (at (now (times .entry))) n v ⌝ }
 {
-    let mut w = 0;
+    let mut w = first[v] as usize;
     while w < n {
         if collide_at(owners, locations, times, n, v, w) {
             return w;
         }
-        w += 1;
+        w = next[w] as usize;
     }
     w
 }
 
 // The first stop that collides with one of a higher drone, or n.
-fn first_collider(owners: &[u8], locations: &[u16], times: &[u32], n: usize) -> usize
-    requires { ⌜ VisitsRoom n (now owners) (now locations) (now times) ⌝ }
+fn first_collider(
+    owners: &[u8],
+    locations: &[u16],
+    times: &[u32],
+    n: usize,
+    first: &[u16; Stop::FULL],
+    next: &[u16; Stop::FULL],
+) -> usize
+    requires { ⌜ VisitsRoom n (now owners) (now locations) (now times) × Groups (at (now locations)) n (now first) (now next) ⌝ }
     ensures { λ r. ⌜ r ≡ collider (at (now (owners .entry))) (at (now (locations .entry))) (at (now (times .entry))) n ⌝ }
 {
     let mut v = 0;
     while v < n {
-        if partner_of(owners, locations, times, n, v) < n {
+        if partner_of(owners, locations, times, n, first, next, v) < n {
             return v;
         }
         v += 1;
@@ -169,9 +187,12 @@ pub fn check_plan(
             stop_at(owners, numbers, v),
         );
     }
-    let v = first_collider(owners, locations, times, n);
+    let mut first = [0u16; Stop::FULL];
+    let mut next = [0u16; Stop::FULL];
+    sharing::fill_groups(locations, n, &mut first, &mut next);
+    let v = first_collider(owners, locations, times, n, &first, &next);
     if v < n {
-        let w = partner_of(owners, locations, times, n, v);
+        let w = partner_of(owners, locations, times, n, &first, &next, v);
         return PlanCheck::Collision(stop_at(owners, numbers, v), stop_at(owners, numbers, w));
     }
     PlanCheck::Fine

@@ -1,11 +1,14 @@
-// The dependencies of a plan, counted, and written into a slice for each field of their records.
+// The dependencies of a plan, counted, and written into a slice for each field of their records. Only the stops at one location are compared.
+use crate::sharing;
 use tables::entries::Dependency;
+use tables::entries::Stop;
 use tables::flags::fixed_flag;
 ghost use mathlib.Core.Path.{_≡_};
 ghost use Prim.Native.Nat.{_+_, _≤_, _<_};
 ghost use lib.ListN.{length};
 ghost use Rattle.below.specs.Below.{at, countBelow};
 ghost use Rattle.tables.specs.Limits.{limits};
+ghost use Rattle.plan.specs.Sharing.{Groups};
 ghost use Rattle.plan.specs.Dependencies.{follows, isLast, isFixed, flagOf, dependencyTotal};
 ghost use Rattle.plan.specs.Columns.{columns, rowWritten, rowsWritten, builtOf, builtIn};
 ghost use Rattle.plan.specs.Room.{VisitsRoom, PlanRoom, ColumnsRoom};
@@ -57,30 +60,45 @@ fn flag_of(owners: &[u8], numbers: &[u16], n: usize, v: usize, w: usize) -> u8
 }
 
 // How many dependencies have the first stop v.
-fn count_row(owners: &[u8], locations: &[u16], times: &[u32], n: usize, v: usize) -> usize
-    requires { ⌜ VisitsRoom n (now owners) (now locations) (now times) × (v < n) ⌝ }
+fn count_row(
+    owners: &[u8],
+    locations: &[u16],
+    times: &[u32],
+    n: usize,
+    first: &[u16; Stop::FULL],
+    next: &[u16; Stop::FULL],
+    v: usize,
+) -> usize
+    requires { ⌜ VisitsRoom n (now owners) (now locations) (now times) × Groups (at (now locations)) n (now first) (now next) × (v < n) ⌝ }
     ensures { λ r. ⌜ r ≡ countBelow n (follows (at (now (owners .entry))) (at (now (locations .entry))) (at (now (times .entry))) v) ⌝ }
 {
     let mut c: usize = 0;
-    let mut w = 0;
+    let mut w = first[v] as usize;
     while w < n {
         if follows_at(owners, locations, times, v, w) {
             c += 1;
         }
-        w += 1;
+        w = next[w] as usize;
     }
     c
 }
 
 // How many dependencies there are.
-pub fn count_dependencies(owners: &[u8], locations: &[u16], times: &[u32], n: usize) -> usize
-    requires { ⌜ VisitsRoom n (now owners) (now locations) (now times) ⌝ }
+fn count_dependencies(
+    owners: &[u8],
+    locations: &[u16],
+    times: &[u32],
+    n: usize,
+    first: &[u16; Stop::FULL],
+    next: &[u16; Stop::FULL],
+) -> usize
+    requires { ⌜ VisitsRoom n (now owners) (now locations) (now times) × Groups (at (now locations)) n (now first) (now next) ⌝ }
     ensures { λ r. ⌜ r ≡ dependencyTotal (at (now (owners .entry))) (at (now (locations .entry))) (at (now (times .entry))) n ⌝ }
 {
     let mut c: usize = 0;
     let mut v = 0;
     while v < n {
-        c += count_row(owners, locations, times, n, v);
+        c += count_row(owners, locations, times, n, first, next, v);
         v += 1;
     }
     c
@@ -93,6 +111,8 @@ fn fill_row(
     locations: &[u16],
     times: &[u32],
     n: usize,
+    first: &[u16; Stop::FULL],
+    next: &[u16; Stop::FULL],
     v: usize,
     c: usize,
     first_drones: &mut [u8],
@@ -101,16 +121,16 @@ fn fill_row(
     second_stops: &mut [u16],
     flags: &mut [u8],
 ) -> usize
-    requires { ⌜ PlanRoom n (now owners) (now numbers) (now locations) (now times) × (v < n) ⌝ }
+    requires { ⌜ PlanRoom n (now owners) (now numbers) (now locations) (now times) × Groups (at (now locations)) n (now first) (now next) × (v < n) ⌝ }
     requires { ⌜ ColumnsRoom (c + countBelow n (follows (at (now owners)) (at (now locations)) (at (now times)) v)) (columns (now «first_drones») (now «first_stops») (now «second_drones») (now «second_stops») (now flags)) ⌝ }
     ensures answer { λ r. ⌜ r ≡ c + countBelow n (follows (at (now (owners .entry))) (at (now (locations .entry))) (at (now (times .entry))) v) ⌝ }
     ensures written { λ _. ⌜ columns (now («first_drones» .exit)) (now («first_stops» .exit)) (now («second_drones» .exit)) (now («second_stops» .exit)) (now (flags .exit)) ≡ rowWritten (at (now (owners .entry))) (at (now (numbers .entry))) (at (now (locations .entry))) (at (now (times .entry))) n v n c (columns (now («first_drones» .entry)) (now («first_stops» .entry)) (now («second_drones» .entry)) (now («second_stops» .entry)) (now (flags .entry))) ⌝ }
 {
     let mut k = c;
-    let mut w = 0;
+    let mut w = first[v] as usize;
     while w < n {
         if !follows_at(owners, locations, times, v, w) {
-            w += 1;
+            w = next[w] as usize;
             continue;
         }
         first_drones[k] = owners[v];
@@ -119,7 +139,7 @@ fn fill_row(
         second_stops[k] = numbers[w];
         flags[k] = flag_of(owners, numbers, n, v, w);
         k += 1;
-        w += 1;
+        w = next[w] as usize;
     }
     k
 }
@@ -131,13 +151,15 @@ fn fill_rows(
     locations: &[u16],
     times: &[u32],
     n: usize,
+    first: &[u16; Stop::FULL],
+    next: &[u16; Stop::FULL],
     first_drones: &mut [u8],
     first_stops: &mut [u16],
     second_drones: &mut [u8],
     second_stops: &mut [u16],
     flags: &mut [u8],
 )
-    requires { ⌜ PlanRoom n (now owners) (now numbers) (now locations) (now times) ⌝ }
+    requires { ⌜ PlanRoom n (now owners) (now numbers) (now locations) (now times) × Groups (at (now locations)) n (now first) (now next) ⌝ }
     requires { ⌜ ColumnsRoom (dependencyTotal (at (now owners)) (at (now locations)) (at (now times)) n) (columns (now «first_drones») (now «first_stops») (now «second_drones») (now «second_stops») (now flags)) ⌝ }
     ensures { λ _. ⌜ columns (now («first_drones» .exit)) (now («first_stops» .exit)) (now («second_drones» .exit)) (now («second_stops» .exit)) (now (flags .exit)) ≡ rowsWritten (at (now (owners .entry))) (at (now (numbers .entry))) (at (now (locations .entry))) (at (now (times .entry))) n n (columns (now («first_drones» .entry)) (now («first_stops» .entry)) (now («second_drones» .entry)) (now («second_stops» .entry)) (now (flags .entry))) ⌝ }
 {
@@ -150,6 +172,8 @@ fn fill_rows(
             locations,
             times,
             n,
+            first,
+            next,
             v,
             k,
             first_drones,
@@ -186,7 +210,10 @@ pub fn build(
     ensures answer { λ r. ⌜ r ≡ builtOf (limits .dependencies) (at (now (owners .entry))) (at (now (locations .entry))) (at (now (times .entry))) n ⌝ }
     ensures written { λ _. ⌜ columns (now («first_drones» .exit)) (now («first_stops» .exit)) (now («second_drones» .exit)) (now («second_stops» .exit)) (now (flags .exit)) ≡ builtIn (limits .dependencies) (at (now (owners .entry))) (at (now (numbers .entry))) (at (now (locations .entry))) (at (now (times .entry))) n (columns (now («first_drones» .entry)) (now («first_stops» .entry)) (now («second_drones» .entry)) (now («second_stops» .entry)) (now (flags .entry))) ⌝ }
 {
-    let count = count_dependencies(owners, locations, times, n);
+    let mut first = [0u16; Stop::FULL];
+    let mut next = [0u16; Stop::FULL];
+    sharing::fill_groups(locations, n, &mut first, &mut next);
+    let count = count_dependencies(owners, locations, times, n, &first, &next);
     if Dependency::FULL < count {
         return Built::TooMany;
     }
@@ -196,6 +223,8 @@ pub fn build(
         locations,
         times,
         n,
+        &first,
+        &next,
         first_drones,
         first_stops,
         second_drones,

@@ -1,5 +1,6 @@
 // The plan check and the dependencies of a plan.
 pub mod check;
 pub mod dependencies;
+pub mod sharing;
 pub mod stops;
 pub mod waits;

@@ -3,9 +3,9 @@ use mathlib.Core.Path.{_≡_}
 use Prim.Native.Nat.{ℕ, suc, _≤_, _<_}
 use native.Mathlib.Omega.{arith}
 use Rattle.precedence.specs.Graph.{Plan, vertex, play, remaining, Chain, link, on}
-use Rattle.precedence.specs.Theorems.{NobodyStuck, RoundsFinish, CyclicIsCycle, RisingNoCycle, RemainingIsLongest, FinishedHasNone, RoundsTable, CostBound, HeldRoundRaisesNone, HeldRoundsFinish, LegTables, LegsOfOne, FewerWaits}
+use Rattle.precedence.specs.Theorems.{NobodyStuck, RoundsFinish, CyclicIsCycle, RisingNoCycle, RemainingIsLongest, FinishedHasNone, RoundsTable, CostBound, MakespanIsLargest, HeldRoundRaisesNone, HeldRoundsFinish, LegTables, LegsOfOne, FewerWaits}
 use Rattle.precedence.proofs.Rounds.{somebody-free, rounds-finish}
-use Rattle.precedence.proofs.Visits.{rising-acyclic, cyclic-iff, acyclic-iff, longest-chain, no-longer-chain, cost-bound, reached-le}
+use Rattle.precedence.proofs.Visits.{rising-acyclic, cyclic-iff, acyclic-iff, longest-chain, no-longer-chain, cost-bound, makespan-is, reached-le}
 use Rattle.precedence.proofs.Table.{arrival-table, table-unique, leg-chain, leg-chain-le, entry-bound, reached-table, arrival-one}
 use Rattle.precedence.proofs.Ahead.{cyclic-fewer, remaining-ahead}
 use Rattle.precedence.proofs.Held.{held-remaining, held-finish}
@@ -41,6 +41,9 @@ module _ (P : Plan) where
 
   pub cost-is-bounded : CostBound P
   cost-is-bounded formed acyclic p = cost-bound P formed acyclic p
+
+  pub makespan-is-largest : MakespanIsLargest P
+  makespan-is-largest formed acyclic p = makespan-is P formed acyclic p
 
   pub held-raises-none : HeldRoundRaisesNone P
   held-raises-none formed acyclic h p d l = held-remaining P formed acyclic h p d l

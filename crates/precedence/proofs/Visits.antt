@@ -13,7 +13,7 @@ use Rattle.below.proofs.Sum.{sum-count, sum-bound}
 use Rattle.below.proofs.Tests.{by-cases, true-or-false}
 use Rattle.below.specs.Below.{pick, firstBelow, First, maxBelow, countBelow}
 use Rattle.precedence.proofs.Rounds.{blocked, free-open, round-free, round-stays, round-le, round-suc, finished-at, finished-if, dep-at, cycle-or-finish, rounds-finish}
-use Rattle.precedence.specs.Graph.{Plan, Vertex, vertex, FormedWait, Formed, free, round, play, finished, unvisited, reached, remaining, atStart, cyclic, Edge, own, dep, Walk, edge, step, Cycle, Kept, kept, cost, Chain, link, on}
+use Rattle.precedence.specs.Graph.{Plan, Vertex, vertex, FormedWait, Formed, free, round, play, finished, unvisited, reached, remaining, atStart, cyclic, Edge, own, dep, Walk, edge, step, Cycle, Kept, kept, cost, makespan, Chain, link, on}
 use Rattle.precedence.specs.Graph.{Rising}
 
 module _ (P : Plan) where
@@ -275,6 +275,27 @@ module _ (P : Plan) where
       λ e. max-least drones (remaining P p) k (λ d l. remaining-finished d k l .0 (finished-at P _ e d l)),
       λ h. finished-if P _ (λ d l. remaining-finished d k l .1 (omega (arith, max-at drones (remaining P p) d l))),
     )
+
+    -- the first of them
+    makespan-first : First (unvisited P p) (λ k. finished P (play P p k)) (makespan P p)
+    unfolding makespan
+    makespan-first = firstBelow-first (unvisited P p) (λ k. finished P (play P p k))
+
+    pub makespan-bound : makespan P p ≤ unvisited P p
+    makespan-bound = makespan-first .within
+
+    pub makespan-is : makespan P p ≡ maxBelow drones (remaining P p)
+    makespan-is = by-cases (ltb (makespan P p) (maxBelow drones (remaining P p)))
+        (λ e. absurd (omega (arith, ltb-true (makespan P p) (maxBelow drones (remaining P p)) e, finished-iff (makespan P p) .0 (late (ltb-true _ _ e)))))
+        (λ e. by-cases (ltb (maxBelow drones (remaining P p)) (makespan P p))
+        (λ h. true-or-false (finished-iff (maxBelow drones (remaining P p)) .1 (omega arith)) (makespan-first .skipped (maxBelow drones (remaining P p)) (ltb-true _ _ h)))
+        (λ h. omega (arith, ltb-false (makespan P p) (maxBelow drones (remaining P p)) e, ltb-false (maxBelow drones (remaining P p)) (makespan P p) h)))
+      where
+        late : makespan P p < maxBelow drones (remaining P p) → finished P (play P p (makespan P p)) ≡ true
+        late l = makespan-first .found (omega (arith, finished-iff (unvisited P p) .0 (rounds-finish P formed acyclic p)))
+
+    pub makespan-iff : (k : ℕ) → (finished P (play P p k) ≡ true) ↔ (makespan P p ≤ k)
+    makespan-iff k = (λ e. omega (arith, makespan-is, finished-iff k .0 e), λ h. finished-iff k .1 (omega (arith, makespan-is)))
 
     -- what a loop adds in one round: one for each unfinished drone
     pub cost-round : cost P p ≡ countBelow drones (λ d. ltb (p d) (last d)) + cost P (round P p)

@@ -95,6 +95,10 @@ module _ (P : Plan) where
   unfoldable pub cost : (ℕ → ℕ) → ℕ
   cost p = sumBelow drones (remaining p)
 
+  -- "the undelayed rounds until everybody has landed": the least number of rounds after which every drone stands at its last stop
+  unfoldable pub makespan : (ℕ → ℕ) → ℕ
+  makespan p = firstBelow (unvisited p) (λ k. finished (play p k))
+
   -- wait w is one into the stop s of drone d
   unfoldable pub into : ℕ → ℕ → ℕ → Bool
   into d s w = eqb (wait w .waiter) d && eqb (wait w .stop) s

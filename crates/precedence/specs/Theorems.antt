@@ -5,7 +5,7 @@ use mathlib.Core.Logic.{_↔_}
 use mathlib.Core.Bool.{Bool, true, false}
 use Prim.Native.Nat.{ℕ, _+_, _*_, _≤_, _<_}
 use Rattle.below.specs.Below.{firstBelow, maxBelow}
-use Rattle.precedence.specs.Graph.{Plan, Vertex, vertex, Formed, free, play, finished, unvisited, reached, remaining, cost, cyclic, Cycle, Kept, Chain, Longest, Rising, Table, arrival, LegChain, legsLeft, one, heldRound, heldPlay, heldRounds, Ahead, Fewer}
+use Rattle.precedence.specs.Graph.{Plan, Vertex, vertex, Formed, free, play, finished, unvisited, reached, remaining, cost, makespan, cyclic, Cycle, Kept, Chain, Longest, Rising, Table, arrival, LegChain, legsLeft, one, heldRound, heldPlay, heldRounds, Ahead, Fewer}
 
 -- ---- for any plan
 module _ (P : Plan) where
@@ -42,6 +42,10 @@ module _ (P : Plan) where
   -- the cost is at most the unvisited stops for each drone
   abbrev pub CostBound : Type 0
   CostBound = Formed P → (Cycle P → ⊥) → (p : ℕ → ℕ) → cost P p ≤ drones * unvisited P p
+
+  -- everybody has landed when the drone has that has the most rounds left
+  abbrev pub MakespanIsLargest : Type 0
+  MakespanIsLargest = Formed P → (Cycle P → ⊥) → (p : ℕ → ℕ) → makespan P p ≡ maxBelow drones (remaining P p)
 
   -- a round in which some drones are held raises nobody's remaining rounds
   abbrev pub HeldRoundRaisesNone : Type 0

@@ -1,4 +1,5 @@
 pub mod flip_if
-pub mod record_count
-pub mod records
-pub mod store_all
+pub mod spread
+pub mod spread_used
+pub mod store_if
+pub mod unused_zero

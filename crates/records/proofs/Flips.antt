@@ -1,14 +1,15 @@
--- The columns of a table with one record flipped: its flag byte is flipped in its column, and the other columns stay.
+-- One record flipped: its flag byte is flipped in its column, and the other columns stay.
+--     flip-here, flip-past, flip-none    a flip, one past the end, and none
 --     seen-flip    what is seen of the flipped table is the flip of what was seen
 --     field-stays, flags-flip    the columns
 -- Assumes nothing.
 use mathlib.Core.Path.{_≡_, refl, sym, ap, _∙_}
-use mathlib.Core.Bool.{true}
-use mathlib.Core.List.{List, [], _∷_, map}
-use Prim.Native.Nat.{ℕ, zero, suc, _≤_, _<_}
+use mathlib.Core.Bool.{Bool, true, false}
+use mathlib.Core.List.{List, map}
+use Prim.Native.Nat.{ℕ, _≤_, _<_}
 use native.Mathlib.Omega.{arith}
 use lib.Dec.{leb}
-use lib.ListN.{length, getD, set, take, length-take}
+use lib.ListN.{length, set, take, length-take}
 use lib.Seq.{take-set-lt, take-set-le, set-out, getD-take, map-set-same}
 use borrow.Author.Tests.{leb-true, leb-false}
 use Rattle.below.specs.Below.{at}
@@ -18,12 +19,16 @@ use Rattle.tables.specs.Flags.{flipBit}
 use Rattle.tables.specs.Entries.{zeroDependency, flipDependency}
 use Rattle.tables.specs.declared.entries.Dependency.{Dependency}
 use Rattle.records.specs.Records.{recordAt, flipIf, flagsOf, seen}
-use Rattle.records.proofs.Copies.{column-entry}
+use Rattle.records.proofs.ColumnLaws.{column-entry, map-set}
 
-map-set {ℓ} : {A : Type ℓ} (f : A → ℕ) (l : List A) (i : ℕ) (y : A) → map f (set l i y) ≡ set (map f l) i (f y)
-map-set f [] i y = refl
-map-set f (x ∷ l) zero y = refl
-map-set f (x ∷ l) (suc i) y = ap (λ (u : List ℕ). f x ∷ u) (map-set f l i y)
+pub flip-here : (turns : Bool) (i : ℕ) (ds : List Dependency) (d : Dependency) → turns ≡ true → d ≡ flipDependency (recordAt ds i) → set ds i d ≡ flipIf turns i ds
+flip-here turns i ds d t e = rw (t, e)
+
+pub flip-past : (turns : Bool) (i : ℕ) (ds : List Dependency) → turns ≡ true → length ds ≤ i → ds ≡ flipIf turns i ds
+flip-past turns i ds t l = rw t (sym (set-out ds i _ l))
+
+pub flip-none : (turns : Bool) (i : ℕ) (ds : List Dependency) → turns ≡ false → ds ≡ flipIf turns i ds
+flip-none turns i ds t = rw t
 
 -- a field that a flip keeps
 pub field-stays : (f : Dependency → ℕ) → ((d : Dependency) → f (flipDependency d) ≡ f d) → (ds : List Dependency) (w : ℕ) → map f (flipIf true w ds) ≡ map f ds

@@ -1,6 +1,7 @@
 pub mod Row
 pub mod Derived
 pub mod Overlaid
-pub mod Copies
+pub mod ColumnLaws
+pub mod Unused
 pub mod Seen
 pub mod Flips

@@ -1,16 +1,16 @@
 -- A list whose first entries are stored one after the other from another list.
 --     overlaid-none, overlaid-more    no entry, and one entry more
 --     overlaid-length    the length stays
---     overlaid-whole    nothing is left of what was there
+--     overlaid-below, overlaid-above    its entries
 -- Assumes nothing.
 use mathlib.Core.Path.{_≡_, refl, sym, ap, _∙_}
-use mathlib.Core.List.{List, [], _∷_, _++_, map, append-nil}
-use Prim.Native.Nat.{ℕ, suc, _+_, _≤_, _<_}
+use mathlib.Core.List.{List, [], _∷_, _++_}
+use Prim.Native.Nat.{ℕ, zero, suc, _+_, _-_, _≤_, _<_}
 use native.Mathlib.Nat.{le-of-lt}
 use native.Mathlib.Numerals.{add-one}
 use native.Mathlib.Omega.{arith}
-use lib.ListN.{length, set, take, drop, getD, length-append, length-drop, length-map, drop-of-length-le, List·getD-map}
-use lib.Seq.{drop-cons, set-at, append-snoc, take-suc, take-all, length-take-le}
+use lib.ListN.{length, set, take, drop, getD, length-append, length-drop}
+use lib.Seq.{drop-cons, set-at, append-snoc, take-suc, length-take-le, getD-take, getD-drop, getD-append-add}
 use Rattle.records.specs.Records.{overlaid}
 
 module _ {ℓ} {A : Type ℓ} where
@@ -29,18 +29,25 @@ module _ {ℓ} {A : Type ℓ} where
   pub overlaid-more : (xs t out : List A) (k : ℕ) (v d : A) → k < length xs → k < length t → out ≡ overlaid k xs t → v ≡ getD xs k d → set out k v ≡ overlaid (k + 1) xs t
   overlaid-more xs t out k v d l m e w = rw (e, w, add-one) (overlaid-suc xs t k d l m)
 
-  pub overlaid-length : (xs t out : List A) (k : ℕ) → k ≤ length xs → k ≤ length t → out ≡ overlaid k xs t → length out ≡ length t
+  pub overlaid-length : (xs t : List A) (k : ℕ) → k ≤ length xs → k ≤ length t → length (overlaid k xs t) ≡ length t
   unfolding overlaid
-  overlaid-length xs t out k l m e = ap length e ∙ length-append (take k xs) (drop k t) ∙ rw (length-take-le k xs l, length-drop) (omega arith)
+  overlaid-length xs t k l m = length-append (take k xs) (drop k t) ∙ rw (length-take-le k xs l, length-drop) (omega arith)
 
-  pub overlaid-whole : (xs t : List A) (k : ℕ) → length t ≤ k → overlaid k xs t ≡ take k xs
+  -- an entry of the first of two lists
+  entry-left : (xs ys : List A) (i : ℕ) (d : A) → i < length xs → getD (xs ++ ys) i d ≡ getD xs i d
+  entry-left [] ys i d h = absurd (omega arith)
+  entry-left (x ∷ xs) ys zero d h = refl
+  entry-left (x ∷ xs) ys (suc i) d h = entry-left xs ys i d (omega arith)
+
+  pub overlaid-below : (xs t : List A) (k i : ℕ) (d : A) → k ≤ length xs → i < k → getD (overlaid k xs t) i d ≡ getD xs i d
   unfolding overlaid
-  overlaid-whole xs t k l = ap (λ (u : List A). take k xs ++ u) (drop-of-length-le t l) ∙ append-nil _
+  overlaid-below xs t k i d l h = entry-left (take k xs) (drop k t) i d (omega (arith, length-take-le k xs l)) ∙ getD-take k xs i d h
 
--- one more entry of a column: field f of record k
-pub column-more {ℓ} : {A : Type ℓ} (f : A → ℕ) (ds : List A) (t out : List ℕ) (k : ℕ) (d : A) → k < length ds → k < length t → out ≡ overlaid k (map f ds) t → set out k (f (getD ds k d)) ≡ overlaid (k + 1) (map f ds) t
-column-more f ds t out k d l m e = overlaid-more (map f ds) t out k (f (getD ds k d)) (f d) (rw (length-map ds f) l) m e (sym (List·getD-map f ds k d))
-
--- the column is whole
-pub column-whole {ℓ} : {A : Type ℓ} (f : A → ℕ) (ds : List A) (t out : List ℕ) (k : ℕ) → length ds ≤ k → length t ≤ k → out ≡ overlaid k (map f ds) t → out ≡ map f ds
-column-whole f ds t out k l m e = e ∙ overlaid-whole (map f ds) t k m ∙ take-all k (map f ds) (rw (length-map ds f) l)
+  pub overlaid-above : (xs t : List A) (k i : ℕ) (d : A) → k ≤ length xs → k ≤ i → getD (overlaid k xs t) i d ≡ getD t i d
+  unfolding overlaid
+  overlaid-above xs t k i d l h =
+      let j : length (take k xs) + (i - k) ≡ i = omega (arith, length-take-le k xs l) in
+      ap (λ (x : ℕ). getD (take k xs ++ drop k t) x d) (sym j)
+      ∙ getD-append-add (take k xs) (drop k t) (i - k) d
+      ∙ getD-drop k t (i - k) d
+      ∙ ap (λ (x : ℕ). getD t x d) (omega arith)

@@ -1,15 +1,17 @@
--- The lent table of dependency records as a list: what is copied out of it and stored back, and its columns (document 01, "Tables and what is sound"). Assumes
--- nothing.
+-- The lent table of dependency records as a list: what is spread out of it into columns and stored back (document 01, "Tables and what is sound"). Assumes nothing.
 use mathlib.Core.Path.{_≡_}
-use mathlib.Core.Bool.{Bool, true, false}
+use mathlib.Core.Bool.{Bool, true, false, _||_}
 use mathlib.Core.List.{List, _++_, map}
-use Prim.Native.Nat.{ℕ, min}
+use Prim.Native.Nat.{ℕ, _+_, min}
+use lib.Dec.{ltb, eqb}
 use lib.ListN.{length, getD, set, take, drop, replicate}
-use Rattle.below.specs.Below.{at, listBelow}
+use Rattle.below.specs.Below.{at, allBelow, listBelow}
 use Rattle.tables.specs.Limits.{Limits}
-use Rattle.tables.specs.Tables.{Tables, tablesOf}
+use Rattle.tables.specs.Tables.{Tables, tablesOf, dependencies, fullSize}
 use Rattle.tables.specs.Entries.{zeroDependency, flipDependency}
 use Rattle.tables.specs.declared.entries.Dependency.{Dependency}
+use Rattle.records.specs.declared.columns.Spread.{Spread}
+use Rattle.records.specs.declared.columns.Spread.the-variants.{Whole, TooSmall, UnusedNotZero}
 
 -- record i, the zero record past the end
 abbrev pub recordAt : List Dependency → ℕ → Dependency
@@ -18,14 +20,6 @@ recordAt ds i = getD ds i zeroDependency
 -- the first k entries of xs, and after them those of t
 unfoldable pub overlaid {ℓ} : {A : Type ℓ} → ℕ → (xs t : List A) → List A
 overlaid k xs t = take k xs ++ drop k t
-
--- "Entries past a full size are never read or written": a copy of the records up to the full size, zero records past the end of a short table
-unfoldable pub copied : Limits → List Dependency → List Dependency
-copied L ds = overlaid (min (L .dependencies) (length ds)) ds (replicate (L .dependencies) zeroDependency)
-
--- the records after a copy of them was stored back
-unfoldable pub stored : Limits → (table ds : List Dependency) → List Dependency
-stored L table ds = overlaid (min (L .dependencies) (length ds)) table ds
 
 -- "Turn: flips bit 0 of one dependency"
 abbrev pub flipIf : Bool → ℕ → List Dependency → List Dependency
@@ -65,7 +59,7 @@ pub record ColumnsOf (ds : List Dependency) (firstDrones firstStops secondDrones
   pub second-stops : secondStops ≡ secondStopsOf ds
   pub flag-bytes : flags ≡ flagsOf ds
 
--- the record whose fields stand at i of the columns, and the table of them
+-- the record whose fields stand at i of the columns, and the table of them: a record that is made has no reserved bit set
 abbrev pub recordOf : (firstDrones firstStops secondDrones secondStops flags : List ℕ) → ℕ → Dependency
 recordOf firstDrones firstStops secondDrones secondStops flags i = record {
   «first_stop» = at firstStops i;
@@ -73,10 +67,34 @@ recordOf firstDrones firstStops secondDrones secondStops flags i = record {
   «first_drone» = at firstDrones i;
   «second_drone» = at secondDrones i;
   flags = at flags i;
+  reserved = 0;
 }
 
 unfoldable pub gathered : Limits → (firstDrones firstStops secondDrones secondStops flags : List ℕ) → List Dependency
 gathered L firstDrones firstStops secondDrones secondStops flags = listBelow (L .dependencies) (recordOf firstDrones firstStops secondDrones secondStops flags)
+
+-- the records after a table of the full size was stored into them, where `stores` says so: "Entries past a full size are never read or written"
+unfoldable pub storeIf : Limits → (stores : Bool) → (table ds : List Dependency) → List Dependency
+storeIf L true table ds = overlaid (min (L .dependencies) (length ds)) table ds
+storeIf L false table ds = ds
+
+-- ---- used and unused records
+
+-- the full size of zero records: the columns of these are zeroed columns
+unfoldable pub zeroRecords : Limits → List Dependency
+zeroRecords L = replicate (L .dependencies) zeroDependency
+
+-- the first `used` records, at most the full size, and zero records after them
+unfoldable pub usedRecords : Limits → (used : ℕ) → List Dependency → List Dependency
+usedRecords L used ds = overlaid (min used (min (L .dependencies) (length ds))) ds (zeroRecords L)
+
+-- the sum of a record's five fields: 0 just where each of them is. The reserved byte is no part of document 01's tables
+abbrev pub fieldSum : Dependency → ℕ
+fieldSum d = d .«first_stop» + d .«second_stop» + d .«first_drone» + d .«second_drone» + d .flags
+
+-- "unused entries are zero": the records from `used` on, up to the full size
+unfoldable pub unusedZero : Limits → (used : ℕ) → List Dependency → Bool
+unusedZero L used ds = allBelow (L .dependencies) (λ i. ltb i used || eqb (fieldSum (recordAt ds i)) 0)
 
 -- ---- the tables with the dependencies lent as records
 
@@ -92,3 +110,15 @@ tablesOfRecords L droneCount dependencyCount names stopCounts locations times vi
     (secondDronesOf (seen L ds))
     (secondStopsOf (seen L ds))
     (flagsOf (seen L ds))
+
+-- what a spreading of the records ds tells of the tables t that hold them
+abbrev pub SpreadAs : Limits → Tables → List Dependency → Spread → Type 0
+SpreadAs L t ds TooSmall = fullSize L t ≡ false
+SpreadAs L t ds UnusedNotZero = (fullSize L t ≡ true) × (unusedZero L (dependencies (t .plan)) ds ≡ false)
+SpreadAs L t ds Whole = (fullSize L t ≡ true) × (unusedZero L (dependencies (t .plan)) ds ≡ true)
+
+-- whose columns it leaves: of the records that a call sees, or as they came
+abbrev pub spreadRecords : Limits → List Dependency → Spread → List Dependency
+spreadRecords L ds TooSmall = zeroRecords L
+spreadRecords L ds UnusedNotZero = zeroRecords L
+spreadRecords L ds Whole = seen L ds

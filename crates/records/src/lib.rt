@@ -1,4 +1,4 @@
-// The lent table of dependency records: copied out of its slice and stored back, and taken apart into columns.
+// The lent table of dependency records: spread into columns, stored from them, and one record flipped.
 pub mod columns;
 pub mod lent;
 pub mod record;

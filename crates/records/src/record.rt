@@ -1,9 +1,12 @@
 // A dependency record by value, for the functions over the lent slice: they use a record only whole.
 use tables::entries::Dependency;
 ghost use mathlib.Core.Path.{_≡_};
-ghost use Prim.Native.Nat.{min};
+ghost use Prim.Native.Nat.{_≤_, min};
+ghost use lib.Dec.{ltb};
+ghost use Rattle.below.specs.Below.{pick};
 ghost use Rattle.tables.specs.Limits.{limits};
 ghost use Rattle.tables.specs.Entries.{zeroDependency, flipDependency};
+ghost use Rattle.records.specs.Records.{fieldSum};
 
 pub fn zero_record() -> Dependency
     ensures { λ r. ⌜ r ≡ zeroDependency ⌝ }
@@ -18,6 +21,25 @@ pub fn flip(d: Dependency) -> Dependency
     d.flip()
 }
 
+// The sum of the fields, which is 0 just where each of them is: a sum over many records asks no question of a single one.
+pub fn field_sum(d: Dependency) -> u32
+    ensures { λ r. ⌜ r ≡ fieldSum d ⌝ }
+    ensures { λ r. ⌜ r ≤ 131835 ⌝ }
+{
+    d.first_stop as u32
+        + d.second_stop as u32
+        + d.first_drone as u32
+        + d.second_drone as u32
+        + d.flags as u32
+}
+
+// A table of n records is below its full size.
+pub fn below_full(n: usize) -> bool
+    ensures { λ r. ⌜ r ≡ ltb n (limits .dependencies) ⌝ }
+{
+    n < Dependency::FULL
+}
+
 // How many of n lent records are read and written: "Entries past a full size are never read or written".
 pub fn within_full(n: usize) -> usize
     ensures { λ r. ⌜ r ≡ min (limits .dependencies) n ⌝ }
@@ -27,4 +49,20 @@ pub fn within_full(n: usize) -> usize
     } else {
         Dependency::FULL
     }
+}
+
+// How many of n lent records are used, where so many are said to be.
+pub fn within_used(used: usize, n: usize) -> usize
+    ensures { λ r. ⌜ r ≡ min used (min (limits .dependencies) n) ⌝ }
+{
+    let full = within_full(n);
+    if used < full { used } else { full }
+}
+
+// How many of n lent records are stored.
+pub fn stored_count(stores: bool, n: usize) -> usize
+    ensures { λ r. ⌜ r ≡ pick stores (min (limits .dependencies) n) 0 ⌝ }
+    ensures { λ r. ⌜ r ≤ min (limits .dependencies) n ⌝ }
+{
+    if stores { within_full(n) } else { 0 }
 }

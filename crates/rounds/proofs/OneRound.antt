@@ -1,150 +1,132 @@
--- One round on flat tables: first each drone that a wait keeps back is marked, then the unmarked and unfinished ones go on by one stop. Assumes nothing.
+-- One round on flat tables: a drone goes on where it is short of its last stop and the waits into its next stop, gone through by their links, are met. Assumes nothing.
 use mathlib.Core.Path.{_≡_, refl, sym, ap, _∙_, subst}
 use mathlib.Core.Logic.{_≢_}
 use mathlib.Core.List.{List}
-use mathlib.Core.Bool.{Bool, true, false, not, _&&_, and-false}
+use mathlib.Core.Bool.{true, false}
 use Prim.Native.Nat.{ℕ, suc, _+_, _-_, _≤_, _<_}
 use native.Mathlib.Omega.{arith}
 use lib.Dec.{ltb, leb, eqb}
-use native.Mathlib.Nat.{le-antisymm}
-use lib.ListN.{length, set, length-set, replicate, length-replicate, getD-replicate}
-use lib.Seq.{getD-set-same, getD-set-other}
-use borrow.Author.Tests.{ltb-true, ltb-false, eqb-true, eqb-false, eq-eqb, ne-eqb, lt-ltb, le-ltb, le-leb, lt-leb}
-use Rattle.below.proofs.Tests.{by-cases}
+use lib.ListN.{length}
+use borrow.Author.Tests.{ltb-true, ltb-false, leb-true, eqb-true, eqb-false, le-leb, lt-ltb}
+use Rattle.below.proofs.Tests.{by-cases, same-test}
 use Rattle.below.proofs.Fill.{length-fill, getD-fill}
-use Rattle.below.specs.Below.{pick, allBelow, anyBelow, fillBelow, at}
-use Rattle.precedence.specs.Graph.{Plan, blocks, free, round}
-use Rattle.cycles.specs.Flat.{flatPlan, PlacedWaits}
-use Rattle.tables.specs.Limits.{Limits}
-use Rattle.rounds.specs.Remaining.{StopIn, WaitsIn, keepsBack, blockedMark, placeAfter}
-use Rattle.below.proofs.Every.{any-none, any-hit, any-miss}
+use Rattle.below.proofs.Links.{last-le, last-found, last-above}
+use Rattle.below.specs.Below.{pick, fillBelow, lastBelow, at}
+use Rattle.precedence.specs.Graph.{Plan, free, round}
+use Rattle.precedence.proofs.Rounds.{free-open, free-if, free-finished, free-unfinished, round-free, round-stays}
+use Rattle.cycles.specs.Flat.{flatPlan, FlatTables}
+use Rattle.cycles.specs.Links.{Linked}
+use Rattle.tables.specs.Limits.{limits}
+use Rattle.rounds.specs.Remaining.{StopIn}
 
--- a marked place and an unmarked one, after a round
-pub round-flat : (own off last : ℕ → ℕ) (drones : ℕ) (from into : ℕ → ℕ) (m : ℕ) (p : ℕ → ℕ) (d : ℕ) → placeAfter (blockedMark own off from into p m d) (p d) (last d) ≡ round (flatPlan own off last drones from into m) p d
-unfolding placeAfter blockedMark round free keepsBack blocks
-round-flat own off last drones from into m p d = go (allBelow m (λ w. not (blocks (flatPlan own off last drones from into m) p d w))) (ltb (p d) (last d))
-  where
-    go : (a b : Bool) → pick (eqb (pick (not a) 1 0) 0 && b) (suc (p d)) (p d) ≡ pick (b && a) (suc (p d)) (p d)
-    go true true = refl
-    go true false = refl
-    go false true = refl
-    go false false = refl
+-- the owner of a stop that code has read
+pub read-owner : (owners : List ℕ) (v b d : ℕ) → at owners v < limits .drones → b ≡ v → d ≡ at owners b → d < limits .drones
+read-owner owners v b d h eb ed = rw (ed, eb) h
 
--- what marking and then moving makes
-pub round-end : (own off last : ℕ → ℕ) (drones : ℕ) (from into : ℕ → ℕ) (m size : ℕ) (places blocked after : List ℕ) → drones ≤ size → length places ≡ size → ((d : ℕ) → d < size → at blocked d ≡ blockedMark own off from into (at places) m d) → after ≡ fillBelow drones (λ d. placeAfter (at blocked d) (at places d) (last d)) places → (length after ≡ size) × ((d : ℕ) → d < drones → at after d ≡ round (flatPlan own off last drones from into m) (at places) d)
-round-end own off last drones from into m size places blocked after few long marked e = (
-  ap length e ∙ length-fill (λ d. placeAfter (at blocked d) (at places d) (last d)) places drones ∙ long,
-  λ d l. ap (λ (x : List ℕ). at x d) e ∙ getD-fill (λ d. placeAfter (at blocked d) (at places d) (last d)) places drones d l (omega arith) ∙ ap (λ (x : ℕ). placeAfter x (at places d) (last d)) (marked d (omega arith)) ∙ round-flat own off last drones from into m (at places) d,
-)
+-- whether the stop that wait k awaits is visited, with the values that code has read
+pub met-read : (own off from p : ℕ → ℕ) (k a e s x : ℕ) → a ≡ from k → e ≡ own a → s ≡ off e → x ≡ p e → off (own (from k)) ≤ from k → ltb a (s + x + 1) ≡ leb (from k - off (own (from k))) (p (own (from k)))
+met-read own off from p k a e s x ea ee es ex past =
+    let o : own (from k) ≡ e = sym (ee ∙ ap own ea) in
+    let f : off (own (from k)) ≡ s = ap off o ∙ sym es in
+    let q : p (own (from k)) ≡ x = ap p o ∙ sym ex in
+    same-test _ _
+    (λ h. le-leb (from k - off (own (from k))) (p (own (from k))) (omega (arith, f, q, ea, ltb-true a (s + x + 1) h)))
+    (λ h. lt-ltb a (s + x + 1) (omega (arith, f, q, ea, past, leb-true (from k - off (own (from k))) (p (own (from k))) h)))
 
--- the place after a round by the order in which code asks
-pub after-marked : (mark place last : ℕ) → mark ≢ 0 → place ≡ placeAfter mark place last
-unfolding placeAfter
-after-marked mark place last n = rw (ne-eqb mark 0 n) refl
+-- the waits into the next stop v of drone d are gone through by their links: those from wait `link` on are met; `link` is one more than the next of them, 0 if there is none
+pub record Scanning (P : Plan) (into : ℕ → ℕ) (p : ℕ → ℕ) (d v link : ℕ) : Type 0 where
+  pub within : link ≤ P .count
+  pub found : (j : ℕ) → link ≡ j + 1 → into j ≡ v
+  pub met : (w : ℕ) → link ≤ w → w < P .count → P .wait w .waiter ≡ d → P .wait w .stop ≡ suc (p d) → P .wait w .until ≤ p (P .wait w .awaited)
 
-pub after-finished : (mark place last : ℕ) → last ≤ place → place ≡ placeAfter mark place last
-unfolding placeAfter
-after-finished mark place last h = simp (le-ltb place last h, and-false)
+module _ (owners starts lasts : List ℕ) (drones n : ℕ) (from into : List ℕ) (m : ℕ) (T : FlatTables owners starts lasts drones n from into m) where
+  abbrev P : Plan
+  P = flatPlan (at owners) (at starts) (at lasts) drones (at from) (at into) m
 
-pub after-moved : (mark place last : ℕ) → mark ≡ 0 → place < last → place + 1 ≡ placeAfter mark place last
-unfolding placeAfter
-after-moved mark place last e h = rw (eq-eqb mark 0 e, lt-ltb place last h) (omega arith)
+  pub stop-in : (v : ℕ) → v < n → StopIn limits owners (at starts) v
+  stop-in v l = record { stop-in = omega (arith, T .few-stops); owned = omega (arith, T .has-owners); owner-in = omega (arith, T .placed .shape .own-in v l, T .few-drones); past = T .placed .shape .off-le v l }
 
-leb-next : (y u : ℕ) → leb (y + 1) u ≡ ltb y u
-leb-next y u = by-cases (ltb y u)
-    (λ e. le-leb (y + 1) u (omega (arith, ltb-true y u e)) ∙ sym e)
-    (λ e. lt-leb (y + 1) u (omega (arith, ltb-false y u e)) ∙ sym e)
+  pub await-in : (k : ℕ) → k < m → StopIn limits owners (at starts) (at from k)
+  await-in k l = stop-in (at from k) (T .placed .from-in k l)
 
--- ---- the marks
+  module _ (p : ℕ → ℕ) where
+    -- a drone at its last stop does not go on
+    pub stays-last : (d : ℕ) → at lasts d ≤ p d → false ≡ free P p d
+    stays-last d h = sym (free-finished P p d h)
 
-module _ (own off from into : ℕ → ℕ) (p : ℕ → ℕ) where
-  -- the marks of the first k waits
-  pub record Marks (size : ℕ) (k : ℕ) (marks : List ℕ) : Type 0 where
-    pub long : length marks ≡ size
-    pub mark : (d : ℕ) → d < size → at marks d ≡ blockedMark own off from into p k d
+    -- ---- the waits into the next stop v of drone d
 
-  pub mark-none : (d : ℕ) → blockedMark own off from into p 0 d ≡ 0
-  unfolding blockedMark
-  mark-none d = rw (any-none (keepsBack own off from into p d)) refl
+    module _ (d : ℕ) (l : d < drones) (short : p d < at lasts d) (v : ℕ) (ev : v ≡ at starts d + p d + 1) where
+      pub next-in : v < n
+      next-in = omega (arith, ev, T .placed .shape .place-in d (p d + 1) l (omega arith))
 
-  mark-miss : (k d : ℕ) → keepsBack own off from into p d k ≡ false → blockedMark own off from into p (k + 1) d ≡ blockedMark own off from into p k d
-  unfolding blockedMark
-  mark-miss k d h = rw (any-miss (keepsBack own off from into p d) k h) refl
+      next-own : at owners v ≡ d
+      next-own = let q : v ≡ at starts d + (p d + 1) = omega (arith, ev) in ap (at owners) q ∙ T .placed .shape .place-own d (p d + 1) l (omega arith)
 
-  mark-hit : (k d : ℕ) → keepsBack own off from into p d k ≡ true → blockedMark own off from into p (k + 1) d ≡ 1
-  unfolding blockedMark
-  mark-hit k d h = rw (any-hit (keepsBack own off from into p d) k h) refl
+      -- a wait into another stop is none of them
+      other : (w : ℕ) → w < m → at into w ≢ v → P .wait w .waiter ≡ d → P .wait w .stop ≡ suc (p d) → P .wait w .until ≤ p (P .wait w .awaited)
+      other w h ne a b = absurd (ne (omega (arith, ev, ap (at starts) a, b, T .placed .shape .off-le (at into w) (T .placed .into-in w h))))
 
-  -- no wait, no mark
-  pub marks-start : (size : ℕ) → Marks size 0 (replicate size 0)
-  marks-start size = record { long = length-replicate size 0; mark = λ d l. getD-replicate size d 0 0 l ∙ sym (mark-none d) }
+      module _ (head next : List ℕ) (L : Linked (at into) m head next) where
+        pub scan-start : (x : ℕ) → x ≡ at head v → Scanning P (at into) p d v x
+        scan-start x ex =
+            let q : x ≡ lastBelow m (λ k. eqb (at into k) v) = ex ∙ L .heads v (omega (arith, next-in, T .few-stops)) in
+            record {
+              within = omega (arith, q, last-le m (λ k. eqb (at into k) v));
+              found = λ j e. eqb-true (at into j) v (last-found m (λ k. eqb (at into k) v) j (sym q ∙ e));
+              met = λ w a b. other w b (eqb-false (at into w) v (last-above m (λ k. eqb (at into k) v) w (omega (arith, q)) b));
+            }
 
-  pub marks-end : {size k : ℕ} {marks : List ℕ} (m : ℕ) → k ≤ m → m ≤ k → Marks size k marks → (length marks ≡ size) × ((d : ℕ) → d < size → at marks d ≡ blockedMark own off from into p m d)
-  marks-end {size} {k} {marks} m a b all = (all .long, λ d l. all .mark d l ∙ ap (λ (j : ℕ). blockedMark own off from into p j d) (le-antisymm a b))
+        module _ (x j : ℕ) (ex : x ≡ j + 1) (S : Scanning P (at into) p d v x) where
+          pub scan-in : j < m
+          scan-in = omega (arith, S .within, ex)
 
-  -- a wait keeps nobody back but its waiter
-  keeps-other : (k d : ℕ) → own (into k) ≢ d → keepsBack own off from into p d k ≡ false
-  unfolding keepsBack
-  keeps-other k d n = rw (ne-eqb (own (into k)) d n) refl
+          next-is : at next j ≡ lastBelow j (λ i. eqb (at into i) (at into j))
+          next-is = L .nexts j scan-in
 
-  module _ {size k : ℕ} {marks : List ℕ} (so-far : Marks size k marks) where
-    pub marks-skip : keepsBack own off from into p (own (into k)) k ≡ false → Marks size (k + 1) marks
-    marks-skip h = record {
-      long = so-far .long;
-      mark = λ d l. so-far .mark d l ∙ sym (mark-miss k d (by-cases (eqb (own (into k)) d) (λ e. subst (λ (c : ℕ). keepsBack own off from into p c k ≡ false) (eqb-true (own (into k)) d e) h) (λ e. keeps-other k d (eqb-false _ _ e))));
-    }
+          pub scan-falls : (y : ℕ) → y ≡ at next j → y < x
+          scan-falls y ey = omega (arith, ex, ey, next-is, last-le j (λ i. eqb (at into i) (at into j)))
 
-    pub marks-set : (v b : ℕ) → v ≡ into k → b ≡ own v → b < size → keepsBack own off from into p (own (into k)) k ≡ true → Marks size (k + 1) (set marks b 1)
-    marks-set v b ev eb i h = let w : b ≡ own (into k) = eb ∙ ap own ev in record {
-      long = length-set marks b 1 ∙ so-far .long;
-      mark = λ d l. by-cases (eqb b d)
-          (λ e. let q : b ≡ d = eqb-true b d e in rw (← q) (getD-set-same marks b 1 0 (omega (arith, so-far .long)) ∙ sym (mark-hit k b (rw w h))))
-          (λ e. let q : b ≢ d = eqb-false b d e in getD-set-other marks b d 1 0 (λ z. q (sym z)) ∙ so-far .mark d l ∙ sym (mark-miss k d (keeps-other k d (λ z. q (w ∙ z)))));
-    }
+          pub scan-more : (y : ℕ) → y ≡ at next j → at from j - at starts (at owners (at from j)) ≤ p (at owners (at from j)) → Scanning P (at into) p d v y
+          scan-more y ey over = record {
+            within = omega (arith, scan-falls y ey, S .within);
+            found = λ i e. eqb-true (at into i) (at into j) (last-found j (λ i. eqb (at into i) (at into j)) i (sym next-is ∙ sym ey ∙ e)) ∙ S .found j ex;
+            met = λ w a b. by-cases (ltb w j)
+                (λ q. other w b (λ z. eqb-false (at into w) (at into j) (last-above j (λ i. eqb (at into i) (at into j)) w (omega (arith, ey, next-is)) (ltb-true w j q)) (z ∙ sym (S .found j ex))))
+                (λ q. by-cases (eqb w j)
+                (λ r. subst (λ (k : ℕ). P .wait k .waiter ≡ d → P .wait k .stop ≡ suc (p d) → P .wait k .until ≤ p (P .wait k .awaited)) (sym (eqb-true w j r)) (λ e f. over))
+                (λ r. let ne : w ≢ j = eqb-false w j r in S .met w (omega (arith, ex, ltb-false w j q)) b));
+          }
 
-  -- whether wait k keeps its waiter back, with the values that code has read
-  module _ (k b d f a e g : ℕ) (eb : b ≡ into k) (ed : d ≡ own b) (ef : f ≡ off d) (ea : a ≡ from k) (ee : e ≡ own a) (eg : g ≡ off e) where
-    waiter-is : own (into k) ≡ d
-    waiter-is = sym (ed ∙ ap own eb)
+          pub scan-hit : p (at owners (at from j)) < at from j - at starts (at owners (at from j)) → false ≡ free P p d
+          scan-hit shut = by-cases (free P p d)
+              (λ e. absurd (omega (arith, free-open P p d e j scan-in is-waiter is-stop)))
+              (λ e. sym e)
+            where
+              is-waiter : at owners (at into j) ≡ d
+              is-waiter = ap (at owners) (S .found j ex) ∙ next-own
 
-    awaited-is : own (from k) ≡ e
-    awaited-is = sym (ee ∙ ap own ea)
+              is-stop : at into j - at starts (at owners (at into j)) ≡ suc (p d)
+              is-stop = omega (arith, S .found j ex, ap (at starts) is-waiter, ev)
 
-    stop-is : into k - off (own (into k)) ≡ b - f
-    stop-is = rw (waiter-is, ← ef, ← eb) refl
+      pub scan-end : (x : ℕ) → x ≡ 0 → Scanning P (at into) p d v x → true ≡ free P p d
+      scan-end x e S = sym (free-if P p d short (λ w h. S .met w (omega (arith, e)) h))
 
-    until-is : from k - off (own (from k)) ≡ a - g
-    until-is = rw (awaited-is, ← eg, ← ea) refl
+  -- ---- the drones that can go on, and their places after it
 
-    pub keeps-elsewhere : (x : ℕ) → x ≡ p d → b - f ≢ x + 1 → false ≡ keepsBack own off from into p (own (into k)) k
-    unfolding keepsBack
-    keeps-elsewhere x ex n = simp (ne-eqb (into k - off (own (into k))) (suc (p (own (into k)))) (λ z. n (sym stop-is ∙ z ∙ ap (λ (c : ℕ). suc (p c)) waiter-is ∙ omega (arith, ex))), and-false)
+  module _ (places moves : List ℕ) (marked : (d : ℕ) → d < drones → at moves d ≡ pick (free P (at places) d) 1 0) where
+    pub moved-small : (d : ℕ) → d < drones → at moves d ≢ 0 → at places d < limits .stops
+    moved-small d l ne = by-cases (free P (at places) d)
+        (λ e. omega (arith, free-unfinished P (at places) d e, T .placed .shape .place-in d (at lasts d) l (omega arith), T .few-stops))
+        (λ e. absurd (ne (marked d l ∙ rw e refl)))
 
-    pub keeps-next : (x y : ℕ) → x ≡ p d → y ≡ p e → b - f ≡ x + 1 → leb (y + 1) (a - g) ≡ keepsBack own off from into p (own (into k)) k
-    unfolding keepsBack
-    keeps-next x y ex ey h =
-        let next : into k - off (own (into k)) ≡ suc (p (own (into k))) = stop-is ∙ h ∙ omega (arith, ex) ∙ ap (λ (c : ℕ). suc (p c)) (sym waiter-is) in
-        rw (eq-eqb (own (into k)) (own (into k)) refl, eq-eqb (into k - off (own (into k))) (suc (p (own (into k)))) next, until-is, awaited-is, ← ey) (leb-next y (a - g))
+    moved : (d : ℕ) → d < drones → pick (eqb (at moves d) 0) (at places d) (at places d + 1) ≡ round P (at places) d
+    moved d l = by-cases (free P (at places) d)
+        (λ e. rw (marked d l, e) (omega (arith, round-free P (at places) d e)))
+        (λ e. rw (marked d l, e) (sym (round-stays P (at places) d e)))
 
--- ---- a stop that code has read
-
-module _ (L : Limits) (owners : List ℕ) (off : ℕ → ℕ) (v : ℕ) (there : StopIn L owners off v) (b : ℕ) (eb : b ≡ v) where
-  pub read-stop : b < L .stops
-  read-stop = omega (arith, there .stop-in)
-
-  pub read-owned : b < length owners
-  read-owned = omega (arith, there .owned)
-
-  pub read-owner : (d : ℕ) → d ≡ at owners b → d < L .drones
-  read-owner d ed = rw (ed, eb) (there .owner-in)
-
-  pub read-past : (d f : ℕ) → d ≡ at owners b → f ≡ off d → f ≤ b
-  read-past d f ed ef = rw (ef, ed, eb) (there .past)
-
--- every stop and every wait of laid tables is one
-module _ (L : Limits) (owners : List ℕ) (off last : ℕ → ℕ) (drones n : ℕ) (from into : ℕ → ℕ) (m : ℕ) (placed : PlacedWaits (at owners) off last drones n from into m) (has-owners : n ≤ length owners) (few-stops : n ≤ L .stops) (few-drones : drones ≤ L .drones) where
-  pub stops-in : (v : ℕ) → v < n → StopIn L owners off v
-  stops-in v l = record { stop-in = omega arith; owned = omega arith; owner-in = omega (arith, placed .shape .own-in v l); past = placed .shape .off-le v l }
-
-  pub waits-in : m ≤ L .dependencies → WaitsIn L owners off from into m
-  waits-in few = record { few = few; from-in = λ k l. stops-in (from k) (placed .from-in k l); into-in = λ k l. stops-in (into k) (placed .into-in k l) }
+    pub round-end : (size : ℕ) (after : List ℕ) → drones ≤ size → length places ≡ size → after ≡ fillBelow drones (λ d. pick (eqb (at moves d) 0) (at places d) (at places d + 1)) places → (length after ≡ size) × ((d : ℕ) → d < drones → at after d ≡ round P (at places) d)
+    round-end size after few long e = (
+      ap length e ∙ length-fill (λ d. pick (eqb (at moves d) 0) (at places d) (at places d + 1)) places drones ∙ long,
+      λ d l. ap (λ (x : List ℕ). at x d) e ∙ getD-fill (λ d. pick (eqb (at moves d) 0) (at places d) (at places d + 1)) places drones d l (omega arith) ∙ moved d l,
+    )

@@ -1,4 +1,4 @@
--- A loop that plays rounds on a list: the list stands where k rounds lead, what was added up and what is left make the cost, and by `finished-iff` it
+-- A loop that plays rounds on a list: the list stands where k rounds lead, what was added up and what is left make the cost, and by `makespan-iff` it
 -- ends in the round in which the last drone finishes. Assumes nothing.
 use mathlib.Core.Path.{_≡_, refl, sym, ap, _∙_}
 use mathlib.Core.Logic.{_≢_}
@@ -11,15 +11,12 @@ use lib.Dec.{ltb, leb}
 use lib.ListN.{length}
 use borrow.Author.Tests.{ltb-true, ltb-false, leb-true, leb-false, le-ltb}
 use Rattle.below.proofs.Count.{count-none, count-zero, count-le}
-use Rattle.below.proofs.Greatest.{max-least}
-use Rattle.below.proofs.Sum.{sum-bound}
 use Rattle.below.proofs.Tests.{by-cases, true-or-false}
 use Rattle.below.specs.Below.{countBelow, firstBelow, at}
-use Rattle.precedence.specs.Graph.{Plan, Formed, Cycle, free, round, play, finished, unvisited, remaining, cost}
+use Rattle.precedence.specs.Graph.{Plan, Formed, Cycle, free, round, play, finished, unvisited, cost, makespan}
 use Rattle.precedence.proofs.Lists.{round-same, unvisited-same}
 use Rattle.precedence.proofs.Rounds.{finished-at, finished-if, somebody-free, unvisited-falls}
-use Rattle.precedence.proofs.Visits.{finished-iff, cost-round, cost-finished, cost-bound, reached-bound}
-use Rattle.rounds.specs.Remaining.{roundsLeft}
+use Rattle.precedence.proofs.Visits.{makespan-iff, cost-round, cost-finished}
 use Rattle.below.proofs.Same.{count-ext}
 
 -- how many drones are short of their last stop
@@ -30,7 +27,7 @@ unfinished P p = countBelow (P .drones) (λ d. ltb (p d) (P .last d))
 pub record Playing (P : Plan) (p : ℕ → ℕ) (size : ℕ) (places : List ℕ) (k total : ℕ) : Type 0 where
   pub long : length places ≡ size
   pub stands : (d : ℕ) → d < P .drones → at places d ≡ play P p k d
-  pub early : k ≤ roundsLeft P p
+  pub early : k ≤ makespan P p
   pub sum : total + cost P (play P p k) ≡ cost P p
 
 module _ (P : Plan) (formed : Formed P) (acyclic : Cycle P → ⊥) (p : ℕ → ℕ) where
@@ -39,11 +36,6 @@ module _ (P : Plan) (formed : Formed P) (acyclic : Cycle P → ⊥) (p : ℕ →
   pub playing-start : (size : ℕ) (places : List ℕ) → length places ≡ size → ((d : ℕ) → d < drones → at places d ≡ p d) → Playing P p size places 0 0
   unfolding play
   playing-start size places e s = record { long = e; stands = s; early = omega arith; sum = omega arith }
-
-  -- no more rounds than unvisited stops, and no more cost than that for each drone
-  pub rounds-bound : roundsLeft P p ≤ unvisited P p
-  unfolding roundsLeft remaining
-  rounds-bound = max-least drones (remaining P p) (unvisited P p) (λ d l. reached-bound P formed acyclic p d (last d))
 
   module _ {size : ℕ} {places : List ℕ} {k total : ℕ} (playing : Playing P p size places k total) where
     -- everybody is finished where nobody is counted
@@ -59,19 +51,17 @@ module _ (P : Plan) (formed : Formed P) (acyclic : Cycle P → ⊥) (p : ℕ →
       counted-played : left ≡ unfinished P (play P p k)
       counted-played = counted ∙ count-ext drones _ _ (λ d l. ap (λ (x : ℕ). ltb x (last d)) (playing .stands d l))
 
-      pub playing-end : left ≡ 0 → (k ≡ roundsLeft P p) × (total ≡ cost P p)
-      unfolding roundsLeft
+      pub playing-end : left ≡ 0 → (k ≡ makespan P p) × (total ≡ cost P p)
       playing-end z =
           let f : finished P (play P p k) ≡ true = none-left (sym counted-played ∙ z) in
-          (omega (arith, playing .early, finished-iff P formed acyclic p k .0 f), omega (arith, playing .sum, cost-finished P formed acyclic (play P p k) f))
+          (omega (arith, playing .early, makespan-iff P formed acyclic p k .0 f), omega (arith, playing .sum, cost-finished P formed acyclic (play P p k) f))
 
       module _ (some : left ≢ 0) where
         going : finished P (play P p k) ≡ false
         going = some-left (λ z. some (counted-played ∙ z))
 
-        pub playing-early : k < roundsLeft P p
-        unfolding roundsLeft
-        playing-early = by-cases (ltb k (roundsLeft P p)) (λ e. ltb-true _ _ e) (λ e. true-or-false (finished-iff P formed acyclic p k .1 (ltb-false _ _ e)) going)
+        pub playing-early : k < makespan P p
+        playing-early = by-cases (ltb k (makespan P p)) (λ e. ltb-true _ _ e) (λ e. true-or-false (makespan-iff P formed acyclic p k .1 (ltb-false _ _ e)) going)
 
         cost-left : cost P (play P p k) ≡ left + cost P (round P (play P p k))
         cost-left = cost-round P formed acyclic (play P p k) ∙ ap (λ (x : ℕ). x + cost P (round P (play P p k))) (sym counted-played)

@@ -6,16 +6,14 @@ use native.Mathlib.Omega.{arith}
 use lib.ListN.{length}
 use Rattle.below.specs.Below.{sumBelow, at}
 use Rattle.tables.specs.Limits.{limits}
-use Rattle.precedence.specs.Graph.{Plan, Formed, Cycle, one, unvisited, cost}
+use Rattle.precedence.specs.Graph.{Plan, Formed, Cycle, one, unvisited, cost, makespan}
 use Rattle.precedence.proofs.Table.{reached-table}
-use Rattle.precedence.proofs.Visits.{acyclic-iff, reached-bound}
+use Rattle.precedence.proofs.Visits.{acyclic-iff, makespan-bound, reached-bound}
 use Rattle.cycles.proofs.Placed.{formed}
 use Rattle.cycles.proofs.MetLaws.{met-is}
 use Rattle.cycles.specs.Flat.{flatPlan}
 use Rattle.cycles.specs.Walk.{course, legOfOne, Begun, Walked}
-use Rattle.rounds.specs.Remaining.{Ready, WaitsIn, StopIn, roundsLeft, stopRound, stopRounds}
-use Rattle.rounds.proofs.OneRound.{stops-in, waits-in}
-use Rattle.rounds.proofs.PlayingLoop.{rounds-bound}
+use Rattle.rounds.specs.Remaining.{Ready, stopRound, stopRounds}
 use Rattle.rounds.proofs.Bounds.{unvisited-bound, cost-limit}
 use Rattle.rounds.proofs.ChainRounds.{walked-is, round-at, round-is, table-is, table-at, sum-is}
 
@@ -29,17 +27,11 @@ module _ (owners starts lasts : List ℕ) (drones n : ℕ) (from into : List ℕ
   pub ready-acyclic : Cycle P → ⊥
   ready-acyclic = acyclic-iff P ready-formed .0 (ready .acyclic)
 
-  pub ready-stops : (v : ℕ) → v < n → StopIn limits owners (at starts) v
-  ready-stops = stops-in limits owners (at starts) (at lasts) drones n (at from) (at into) m (ready .tables .placed) (ready .tables .has-owners) (ready .tables .few-stops) (ready .tables .few-drones)
-
-  pub ready-waits : WaitsIn limits owners (at starts) (at from) (at into) m
-  ready-waits = waits-in limits owners (at starts) (at lasts) drones n (at from) (at into) m (ready .tables .placed) (ready .tables .has-owners) (ready .tables .few-stops) (ready .tables .few-drones) (ready .tables .few-waits)
-
   pub ready-unvisited : unvisited P (at visited) + drones ≤ limits .stops
   ready-unvisited = omega (arith, unvisited-bound (at owners) (at starts) (at lasts) drones n (at from) (at into) m (ready .tables .placed .shape) (at visited), ready .tables .few-stops)
 
-  pub ready-rounds : roundsLeft P (at visited) ≤ limits .stops
-  ready-rounds = omega (arith, rounds-bound P ready-formed ready-acyclic (at visited), ready-unvisited)
+  pub ready-rounds : makespan P (at visited) ≤ limits .stops
+  ready-rounds = omega (arith, makespan-bound P ready-formed ready-acyclic (at visited), ready-unvisited)
 
   -- "at most 31,744"
   pub ready-cost : cost P (at visited) ≤ 31744

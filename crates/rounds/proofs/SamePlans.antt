@@ -4,14 +4,14 @@ use mathlib.Core.Bool.{true}
 use Prim.Native.Nat.{ℕ, zero, suc, _-_, _≤_, _<_}
 use native.Mathlib.Omega.{arith}
 use lib.Dec.{leb}
-use Rattle.below.proofs.Greatest.{max-ext}
+use Rattle.below.proofs.Every.{allBelow-ext}
 use Rattle.below.proofs.Search.{firstBelow-ext}
 use Rattle.below.proofs.Sum.{sum-ext}
 use Rattle.below.proofs.Tests.{same-test}
-use Rattle.below.specs.Below.{maxBelow, sumBelow}
-use Rattle.precedence.specs.Graph.{Wait, Plan, Formed, free, round, play, unvisited, reached, remaining, cost}
+use Rattle.below.specs.Below.{allBelow, sumBelow}
+use Rattle.precedence.specs.Graph.{Wait, Plan, Formed, free, round, play, finished, unvisited, reached, remaining, cost, makespan}
 use Rattle.precedence.proofs.Rounds.{free-unfinished, free-open, free-if, round-is}
-use Rattle.rounds.specs.Remaining.{SamePlan, roundsLeft}
+use Rattle.rounds.specs.Remaining.{SamePlan}
 
 pub same-back : (P Q : Plan) → SamePlan P Q → SamePlan Q P
 same-back P Q same = record {
@@ -78,6 +78,10 @@ module _ (P Q : Plan) (same : SamePlan P Q) (formed : Formed P) where
     unfolding cost
     same-cost = sum-ext (P .drones) (remaining P p) (remaining Q q) same-remaining ∙ ap (λ (n : ℕ). sumBelow n (remaining Q q)) (sym (same .drones-same))
 
-    pub same-rounds : roundsLeft P p ≡ roundsLeft Q q
-    unfolding roundsLeft
-    same-rounds = max-ext (P .drones) (remaining P p) (remaining Q q) same-remaining ∙ ap (λ (n : ℕ). maxBelow n (remaining Q q)) (sym (same .drones-same))
+    pub same-finished : (k : ℕ) → finished P (play P p k) ≡ finished Q (play Q q k)
+    unfolding finished
+    same-finished k = allBelow-ext (P .drones) (λ d. leb (P .last d) (play P p k d)) (λ d. leb (Q .last d) (play Q q k d)) (λ d l. rw (same-play k d l, same .last-same d l) refl) ∙ ap (λ (n : ℕ). allBelow n (λ d. leb (Q .last d) (play Q q k d))) (sym (same .drones-same))
+
+    pub same-makespan : makespan P p ≡ makespan Q q
+    unfolding makespan
+    same-makespan = rw same-unvisited (firstBelow-ext (unvisited Q q) (λ k. finished P (play P p k)) (λ k. finished Q (play Q q k)) (λ k h. same-finished k))

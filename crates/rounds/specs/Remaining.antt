@@ -2,19 +2,15 @@
 -- Wait k lets nobody into stop `into k` before stop `from k` is visited. A drone's remaining rounds and the cost are those of crate `precedence`.
 -- (document 01, "The calls".) Assumes nothing.
 use mathlib.Core.Path.{_≡_}
-use mathlib.Core.Bool.{Bool, false, _&&_}
+use mathlib.Core.Bool.{false}
 use mathlib.Core.List.{List}
-use Prim.Native.Nat.{ℕ, suc, _-_, _≤_, _<_}
-use lib.Dec.{ltb, eqb}
+use Prim.Native.Nat.{ℕ, _-_, _≤_, _<_}
+use lib.Dec.{ltb}
 use lib.ListN.{length}
-use Rattle.below.specs.Below.{pick, anyBelow, maxBelow, listBelow, at}
+use Rattle.below.specs.Below.{pick, listBelow, at}
 use Rattle.tables.specs.Limits.{Limits}
-use Rattle.precedence.specs.Graph.{Plan, Kept, reached, remaining, cyclic}
+use Rattle.precedence.specs.Graph.{Plan, Kept, reached, cyclic}
 use Rattle.cycles.specs.Flat.{flatPlan, FlatTables}
-
--- "rounds are played until every drone stands at its last stop": as many as the drone has left that finishes last
-unfoldable pub roundsLeft : Plan → (ℕ → ℕ) → ℕ
-roundsLeft P p = maxBelow (P .drones) (remaining P p)
 
 -- the round in which stop v is visited, 0 if it is visited at first
 unfoldable pub stopRound : (own off last : ℕ → ℕ) (drones : ℕ) (from into : ℕ → ℕ) (m : ℕ) → (ℕ → ℕ) → ℕ → ℕ
@@ -46,24 +42,3 @@ pub record StopIn (L : Limits) (owners : List ℕ) (off : ℕ → ℕ) (v : ℕ)
   pub owned : v < length owners
   pub owner-in : at owners v < L .drones
   pub past : off (at owners v) ≤ v
-
--- both stops of each wait are such stops
-pub record WaitsIn (L : Limits) (owners : List ℕ) (off from into : ℕ → ℕ) (m : ℕ) : Type 0 where
-  pub few : m ≤ L .dependencies
-  pub from-in : (k : ℕ) → k < m → StopIn L owners off (from k)
-  pub into-in : (k : ℕ) → k < m → StopIn L owners off (into k)
-
--- ---- one round
-
-module _ (own off from into : ℕ → ℕ) (p : ℕ → ℕ) where
-  -- wait k is into the next stop of drone d, and the awaited stop is not visited
-  unfoldable pub keepsBack : ℕ → ℕ → Bool
-  keepsBack d k = eqb (own (into k)) d && eqb (into k - off (own (into k))) (suc (p d)) && ltb (p (own (from k))) (from k - off (own (from k)))
-
-  -- 1 if one of the first m waits keeps drone d back
-  unfoldable pub blockedMark : ℕ → ℕ → ℕ
-  blockedMark m d = pick (anyBelow m (keepsBack d)) 1 0
-
--- a drone's place after a round, from its mark, its place before it and its last stop
-unfoldable pub placeAfter : ℕ → ℕ → ℕ → ℕ
-placeAfter mark place last = pick (eqb mark 0 && ltb place last) (suc place) place

@@ -31,7 +31,7 @@ fn at_visited(
     }
 }
 
-// Each stop's round.
+// Fills a table that is 0 at first with each stop's round.
 pub fn stop_rounds(
     owners: &[u8],
     starts: &[u16; Drone::FULL],
@@ -42,13 +42,14 @@ pub fn stop_rounds(
     into: &[u16; Dependency::FULL],
     m: usize,
     visited: &[u16],
-) -> [u16; Stop::FULL]
+    table: &mut [u64; Stop::FULL],
+)
     requires { ⌜ Ready (now owners) (now starts) (now lasts) drones n (now from) (now into) m (now visited) ⌝ }
-    ensures { λ r. ⌜ r ≡ stopRounds limits (at (now (owners .entry))) (at (now (starts .entry))) (at (now (lasts .entry))) drones n (at (now (from .entry))) (at (now (into .entry))) m (at (now (visited .entry))) ⌝ }
+    requires { ⌜ (length (now table) ≡ limits .stops) × ((v : ℕ) → at (now table) v ≡ 0) ⌝ }
+    ensures { λ _. ⌜ now (table .exit) ≡ stopRounds limits (at (now (owners .entry))) (at (now (starts .entry))) (at (now (lasts .entry))) drones n (at (now (from .entry))) (at (now (into .entry))) m (at (now (visited .entry))) ⌝ }
 {
     let mut cur = [0u16; Drone::FULL];
     at_visited(starts, visited, drones, &mut cur);
-    let mut table = [0u16; Stop::FULL];
     walk(
         owners,
         starts,
@@ -59,23 +60,22 @@ pub fn stop_rounds(
         into,
         m,
         &mut cur,
-        &mut table,
+        table,
     );
-    table
 }
 
 // A drone's remaining rounds: the entry at its last stop.
 fn last_round(
     starts: &[u16; Drone::FULL],
     lasts: &[u16; Drone::FULL],
-    table: &[u16; Stop::FULL],
+    table: &[u64; Stop::FULL],
     d: usize,
 ) -> usize
     requires { ⌜ (d < 32) × (at (now starts) d + at (now lasts) d < 1024) ⌝ }
     ensures { λ r. ⌜ r ≡ at (now (table .entry)) (at (now (starts .entry)) d + at (now (lasts .entry)) d) ⌝ }
 {
     let v = wide(starts[d]) + wide(lasts[d]);
-    wide(table[v])
+    table[v] as usize
 }
 
 // The sum of the entries at the drones' last stops.
@@ -83,7 +83,7 @@ fn last_rounds(
     starts: &[u16; Drone::FULL],
     lasts: &[u16; Drone::FULL],
     drones: usize,
-    table: &[u16; Stop::FULL],
+    table: &[u64; Stop::FULL],
 ) -> usize
     requires { ⌜ (drones ≤ 32) × ((d : ℕ) → d < drones → at (now starts) d + at (now lasts) d < 1024) × ((d : ℕ) → d < drones → at (now table) (at (now starts) d + at (now lasts) d) ≤ 1024) ⌝ }
     ensures { λ r. ⌜ r ≡ sumBelow drones (λ d. at (now (table .entry)) (at (now (starts .entry)) d + at (now (lasts .entry)) d)) ⌝ }
@@ -112,6 +112,18 @@ pub fn remaining_cost(
     requires { ⌜ Ready (now owners) (now starts) (now lasts) drones n (now from) (now into) m (now visited) ⌝ }
     ensures { λ r. ⌜ r ≡ cost (flatPlan (at (now (owners .entry))) (at (now (starts .entry))) (at (now (lasts .entry))) drones (at (now (from .entry))) (at (now (into .entry))) m) (at (now (visited .entry))) ⌝ }
 {
-    let table = stop_rounds(owners, starts, lasts, drones, n, from, into, m, visited);
+    let mut table = [0u64; Stop::FULL];
+    stop_rounds(
+        owners,
+        starts,
+        lasts,
+        drones,
+        n,
+        from,
+        into,
+        m,
+        visited,
+        &mut table,
+    );
     last_rounds(starts, lasts, drones, &table)
 }

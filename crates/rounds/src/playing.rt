@@ -1,16 +1,22 @@
-// Rounds played on a copy of the drones' places until every drone stands at its last stop. Each round takes time linear in drones and waits: one loop
-// over the waits marks the drones that are kept back, judged by the places at the round's start, and one over the drones moves the others.
-ghost use mathlib.Core.Path.{_≡_};
-ghost use Prim.Native.Nat.{ℕ, _≤_, _<_};
-ghost use lib.ListN.{length};
-ghost use lib.Dec.{ltb};
-ghost use Rattle.below.specs.Below.{countBelow, fillBelow, at};
-ghost use Rattle.tables.specs.Limits.{limits};
-ghost use Rattle.precedence.specs.Graph.{round, cost};
-ghost use Rattle.cycles.specs.Flat.{flatPlan};
-ghost use Rattle.rounds.specs.Remaining.{Ready, WaitsIn, keepsBack, blockedMark, placeAfter, roundsLeft};
+// Rounds played on a copy of the drones' places until every drone stands at its last stop. The waits are linked by the stop that they are into, so that a round takes time linear in the
+// drones and the waits into their next stops. First the drones that can go on are marked, judged by the places at the round's start, then these go on.
 use cycles::casts::wide;
 use cycles::casts::wide8;
+use cycles::linking::link;
+use tables::entries::Dependency;
+use tables::entries::Drone;
+use tables::entries::Stop;
+ghost use mathlib.Core.Path.{_≡_};
+ghost use mathlib.Core.Logic.{_≢_};
+ghost use Prim.Native.Nat.{ℕ, _+_, _-_, _≤_, _<_};
+ghost use lib.ListN.{length};
+ghost use lib.Dec.{ltb, leb, eqb};
+ghost use Rattle.below.specs.Below.{pick, countBelow, fillBelow, at};
+ghost use Rattle.tables.specs.Limits.{limits};
+ghost use Rattle.precedence.specs.Graph.{free, round, cost, makespan};
+ghost use Rattle.cycles.specs.Flat.{flatPlan, FlatTables};
+ghost use Rattle.cycles.specs.Links.{Linked};
+ghost use Rattle.rounds.specs.Remaining.{Ready, StopIn};
 
 // The rounds until every drone stands at its last stop, and the sum of the drones' remaining rounds.
 pub struct Played {
@@ -18,103 +24,160 @@ pub struct Played {
     pub cost: usize,
 }
 
-// Whether wait k keeps its drone from the next stop: the awaited stop is unvisited, so the awaited drone's next stop is not past it.
-fn keeps_back(
+// Whether the stop that wait k awaits is visited.
+fn is_met(
     owners: &[u8],
-    starts: &[u16; 32],
-    from: &[u16; 2048],
-    into: &[u16; 2048],
-    m: usize,
+    starts: &[u16; Drone::FULL],
+    from: &[u16; Dependency::FULL],
+    places: &[u16; Drone::FULL],
     k: usize,
-    places: &[u16; 32],
 ) -> bool
-    requires { ⌜ WaitsIn limits (now owners) (at (now starts)) (at (now from)) (at (now into)) m × (k < m) ⌝ }
-    ensures { λ r. ⌜ r ≡ keepsBack (at (now (owners .entry))) (at (now (starts .entry))) (at (now (from .entry))) (at (now (into .entry))) (at (now (places .entry))) (at (now (owners .entry)) (at (now (into .entry)) k)) k ⌝ }
+    requires { ⌜ (k < limits .dependencies) × StopIn limits (now owners) (at (now starts)) (at (now from) k) ⌝ }
+    ensures { λ r. ⌜ r ≡ leb (at (now (from .entry)) k - at (now (starts .entry)) (at (now (owners .entry)) (at (now (from .entry)) k))) (at (now (places .entry)) (at (now (owners .entry)) (at (now (from .entry)) k))) ⌝ }
 {
-    let b = wide(into[k]);
-    let d = wide8(owners[b]);
-    let stop = b - wide(starts[d]);
     let a = wide(from[k]);
     let e = wide8(owners[a]);
-    let until = a - wide(starts[e]);
-    if stop != wide(places[d]) + 1 {
-        return false;
-    }
-    let next = wide(places[e]) + 1;
-    next <= until
+    let past = wide(starts[e]) + wide(places[e]) + 1;
+    a < past
 }
 
-// A mark for each drone that a wait keeps from its next stop.
-fn blocked_drones(
+// Whether drone d is short of its last stop and the waits into its next stop are met. They are gone through by their links.
+fn can_go_on(
     owners: &[u8],
-    starts: &[u16; 32],
-    from: &[u16; 2048],
-    into: &[u16; 2048],
+    starts: &[u16; Drone::FULL],
+    lasts: &[u16; Drone::FULL],
+    drones: usize,
+    n: usize,
+    from: &[u16; Dependency::FULL],
+    into: &[u16; Dependency::FULL],
     m: usize,
-    places: &[u16; 32],
-) -> [u8; 32]
-    requires { ⌜ WaitsIn limits (now owners) (at (now starts)) (at (now from)) (at (now into)) m ⌝ }
-    ensures { λ r. ⌜ (length r ≡ 32) × ((d : ℕ) → d < 32 → at r d ≡ blockedMark (at (now (owners .entry))) (at (now (starts .entry))) (at (now (from .entry))) (at (now (into .entry))) (at (now (places .entry))) m d) ⌝ }
+    head: &[u16; Stop::FULL],
+    next: &[u16; Dependency::FULL],
+    places: &[u16; Drone::FULL],
+    d: usize,
+) -> bool
+    requires { ⌜ FlatTables (now owners) (now starts) (now lasts) drones n (now from) (now into) m × Linked (at (now into)) m (now head) (now next) × (d < drones) ⌝ }
+    ensures { λ r. ⌜ r ≡ free (flatPlan (at (now (owners .entry))) (at (now (starts .entry))) (at (now (lasts .entry))) drones (at (now (from .entry))) (at (now (into .entry))) m) (at (now (places .entry))) d ⌝ }
 {
-    let mut blocked = [0u8; 32];
-    let mut k = 0;
-    while k < m {
-        if !keeps_back(owners, starts, from, into, m, k, places) {
-            k += 1;
-            continue;
-        }
-        let d = wide8(owners[wide(into[k])]);
-        blocked[d] = 1;
-        k += 1;
+    let place = wide(places[d]);
+    if wide(lasts[d]) <= place {
+        return false;
     }
-    blocked
+    let v = wide(starts[d]) + place + 1;
+    let mut wait = wide(head[v]);
+    while 0 < wait {
+        if !is_met(owners, starts, from, places, wait - 1) {
+            return false;
+        }
+        wait = wide(next[wait - 1]);
+    }
+    true
+}
+
+fn one(b: bool) -> u8
+    ensures { λ r. ⌜ r ≡ pick b 1 0 ⌝ }
+{
+    if b { 1 } else { 0 }
+}
+
+// Marks the drones that can go on with 1, the others with 0.
+fn mark_movers(
+    owners: &[u8],
+    starts: &[u16; Drone::FULL],
+    lasts: &[u16; Drone::FULL],
+    drones: usize,
+    n: usize,
+    from: &[u16; Dependency::FULL],
+    into: &[u16; Dependency::FULL],
+    m: usize,
+    head: &[u16; Stop::FULL],
+    next: &[u16; Dependency::FULL],
+    places: &[u16; Drone::FULL],
+    moves: &mut [u8; Drone::FULL],
+)
+    requires { ⌜ FlatTables (now owners) (now starts) (now lasts) drones n (now from) (now into) m × Linked (at (now into)) m (now head) (now next) × (length (now moves) ≡ limits .drones) ⌝ }
+    ensures { λ _. ⌜ ((d : ℕ) → d < drones → at (now (moves .exit)) d ≡ pick (free (flatPlan (at (now (owners .entry))) (at (now (starts .entry))) (at (now (lasts .entry))) drones (at (now (from .entry))) (at (now (into .entry))) m) (at (now (places .entry))) d) 1 0) ⌝ }
+{
+    let mut d = 0;
+    while d < drones {
+        moves[d] = one(can_go_on(
+            owners,
+            starts,
+            lasts,
+            drones,
+            n,
+            from,
+            into,
+            m,
+            head,
+            next,
+            places,
+            d,
+        ));
+        d += 1;
+    }
 }
 
 // A drone's place after a round.
-fn place_after(blocked: u8, place: u16, last: u16) -> u16
-    ensures { λ r. ⌜ r ≡ placeAfter blocked place last ⌝ }
+fn place_after(moves: u8, place: u16) -> u16
+    requires { ⌜ (moves ≢ 0 → place < limits .stops) ⌝ }
+    ensures { λ r. ⌜ r ≡ pick (eqb moves 0) place (place + 1) ⌝ }
 {
-    if blocked != 0 {
-        return place;
-    }
-    if last <= place {
+    if moves == 0 {
         return place;
     }
     place + 1
 }
 
-// The drones that are neither marked nor at their last stop go on by one stop.
-fn advance(lasts: &[u16; 32], drones: usize, blocked: &[u8; 32], places: &mut [u16; 32])
-    requires { ⌜ (drones ≤ 32) × (length (now places) ≡ 32) ⌝ }
-    ensures { λ _. ⌜ now (places .exit) ≡ fillBelow drones (λ d. placeAfter (at (now (blocked .entry)) d) (at (now (places .entry)) d) (at (now (lasts .entry)) d)) (now (places .entry)) ⌝ }
+// The marked drones go on by one stop.
+fn advance(drones: usize, moves: &[u8; Drone::FULL], places: &mut [u16; Drone::FULL])
+    requires { ⌜ (drones ≤ limits .drones) × (length (now places) ≡ limits .drones) × ((d : ℕ) → d < drones → at (now moves) d ≢ 0 → at (now places) d < limits .stops) ⌝ }
+    ensures { λ _. ⌜ now (places .exit) ≡ fillBelow drones (λ d. pick (eqb (at (now (moves .entry)) d) 0) (at (now (places .entry)) d) (at (now (places .entry)) d + 1)) (now (places .entry)) ⌝ }
 {
     let mut d = 0;
     while d < drones {
-        places[d] = place_after(blocked[d], places[d], lasts[d]);
+        places[d] = place_after(moves[d], places[d]);
         d += 1;
     }
 }
 
-// One round.
+// One round: who goes on is judged by the places at its start.
 fn play_round(
     owners: &[u8],
-    starts: &[u16; 32],
-    lasts: &[u16; 32],
+    starts: &[u16; Drone::FULL],
+    lasts: &[u16; Drone::FULL],
     drones: usize,
-    from: &[u16; 2048],
-    into: &[u16; 2048],
+    n: usize,
+    from: &[u16; Dependency::FULL],
+    into: &[u16; Dependency::FULL],
     m: usize,
-    places: &mut [u16; 32],
+    head: &[u16; Stop::FULL],
+    next: &[u16; Dependency::FULL],
+    places: &mut [u16; Drone::FULL],
 )
-    requires { ⌜ WaitsIn limits (now owners) (at (now starts)) (at (now from)) (at (now into)) m × (drones ≤ 32) × (length (now places) ≡ 32) ⌝ }
-    ensures { λ _. ⌜ (length (now (places .exit)) ≡ 32) × ((d : ℕ) → d < drones → at (now (places .exit)) d ≡ round (flatPlan (at (now (owners .entry))) (at (now (starts .entry))) (at (now (lasts .entry))) drones (at (now (from .entry))) (at (now (into .entry))) m) (at (now (places .entry))) d) ⌝ }
+    requires { ⌜ FlatTables (now owners) (now starts) (now lasts) drones n (now from) (now into) m × Linked (at (now into)) m (now head) (now next) × (length (now places) ≡ limits .drones) ⌝ }
+    ensures { λ _. ⌜ (length (now (places .exit)) ≡ limits .drones) × ((d : ℕ) → d < drones → at (now (places .exit)) d ≡ round (flatPlan (at (now (owners .entry))) (at (now (starts .entry))) (at (now (lasts .entry))) drones (at (now (from .entry))) (at (now (into .entry))) m) (at (now (places .entry))) d) ⌝ }
 {
-    let blocked = blocked_drones(owners, starts, from, into, m, places);
-    advance(lasts, drones, &blocked, places);
+    let mut moves = [0u8; Drone::FULL];
+    mark_movers(
+        owners,
+        starts,
+        lasts,
+        drones,
+        n,
+        from,
+        into,
+        m,
+        head,
+        next,
+        places,
+        &mut moves,
+    );
+    advance(drones, &moves, places);
 }
 
 // How many drones are short of their last stop.
-fn unfinished(lasts: &[u16; 32], drones: usize, places: &[u16; 32]) -> usize
+fn unfinished(lasts: &[u16; Drone::FULL], drones: usize, places: &[u16; Drone::FULL]) -> usize
     requires { ⌜ drones ≤ 32 ⌝ }
     ensures { λ r. ⌜ (r ≡ countBelow drones (λ d. ltb (at (now (places .entry)) d) (at (now (lasts .entry)) d))) × (r ≤ drones) ⌝ }
 {
@@ -130,7 +193,7 @@ fn unfinished(lasts: &[u16; 32], drones: usize, places: &[u16; 32]) -> usize
 }
 
 // The drones' places, copied.
-fn copy_places(visited: &[u16], drones: usize, places: &mut [u16; 32])
+fn copy_places(visited: &[u16], drones: usize, places: &mut [u16; Drone::FULL])
     requires { ⌜ (drones ≤ 32) × (drones ≤ length (now visited)) × (length (now places) ≡ 32) ⌝ }
     ensures { λ _. ⌜ now (places .exit) ≡ fillBelow drones (at (now (visited .entry))) (now (places .entry)) ⌝ }
 {
@@ -144,19 +207,22 @@ fn copy_places(visited: &[u16], drones: usize, places: &mut [u16; 32])
 // Plays the remaining rounds on a copy.
 pub fn play_rounds(
     owners: &[u8],
-    starts: &[u16; 32],
-    lasts: &[u16; 32],
+    starts: &[u16; Drone::FULL],
+    lasts: &[u16; Drone::FULL],
     drones: usize,
     n: usize,
-    from: &[u16; 2048],
-    into: &[u16; 2048],
+    from: &[u16; Dependency::FULL],
+    into: &[u16; Dependency::FULL],
     m: usize,
     visited: &[u16],
 ) -> Played
     requires { ⌜ Ready (now owners) (now starts) (now lasts) drones n (now from) (now into) m (now visited) ⌝ }
-    ensures { λ r. ⌜ (r .rounds ≡ roundsLeft (flatPlan (at (now (owners .entry))) (at (now (starts .entry))) (at (now (lasts .entry))) drones (at (now (from .entry))) (at (now (into .entry))) m) (at (now (visited .entry)))) × (r .cost ≡ cost (flatPlan (at (now (owners .entry))) (at (now (starts .entry))) (at (now (lasts .entry))) drones (at (now (from .entry))) (at (now (into .entry))) m) (at (now (visited .entry)))) ⌝ }
+    ensures { λ r. ⌜ (r .rounds ≡ makespan (flatPlan (at (now (owners .entry))) (at (now (starts .entry))) (at (now (lasts .entry))) drones (at (now (from .entry))) (at (now (into .entry))) m) (at (now (visited .entry)))) × (r .cost ≡ cost (flatPlan (at (now (owners .entry))) (at (now (starts .entry))) (at (now (lasts .entry))) drones (at (now (from .entry))) (at (now (into .entry))) m) (at (now (visited .entry)))) ⌝ }
 {
-    let mut places = [0u16; 32];
+    let mut head = [0u16; Stop::FULL];
+    let mut next = [0u16; Dependency::FULL];
+    link(into, m, &mut head, &mut next);
+    let mut places = [0u16; Drone::FULL];
     copy_places(visited, drones, &mut places);
     let mut k: usize = 0;
     let mut cost: usize = 0;
@@ -166,7 +232,19 @@ pub fn play_rounds(
             break k;
         }
         cost += left;
-        play_round(owners, starts, lasts, drones, from, into, m, &mut places);
+        play_round(
+            owners,
+            starts,
+            lasts,
+            drones,
+            n,
+            from,
+            into,
+            m,
+            &head,
+            &next,
+            &mut places,
+        );
         k += 1;
     };
     Played { rounds, cost }

@@ -8,7 +8,7 @@ use native.Mathlib.Nat.{le-antisymm}
 use native.Mathlib.Numerals.{add-one}
 use native.Mathlib.Omega.{arith}
 use lib.Dec.{ltb, leb, eqb}
-use borrow.Author.Tests.{ltb-true, ltb-false, leb-true, eqb-true, lt-ltb, le-ltb, le-leb, lt-leb, eq-eqb, ne-eqb}
+use borrow.Author.Tests.{ltb-true, ltb-false, leb-true, eqb-true, eqb-false, lt-ltb, le-ltb, le-leb, lt-leb, eq-eqb, ne-eqb}
 use Rattle.below.specs.Below.{allBelow, firstBelow, fillBelow, sumBelow, at, pick}
 use Rattle.below.proofs.Tests.{by-cases, and-left, and-right, same-test}
 use Rattle.below.proofs.Every.{allBelow-at, allBelow-all, all-miss}
@@ -292,24 +292,51 @@ module _ (used full : ℕ) (l : List ℕ) where
   zeroAt i = ltb i used || eqb (at l i) 0
 
   -- no entry below i is used and not zero; i may be past the full size
-  abbrev pub ZeroTo : ℕ → Type 0
+  abbrev ZeroTo : ℕ → Type 0
   ZeroTo i = (j : ℕ) → j < i → j < full → zeroAt j ≡ true
 
-  pub zero-start : ZeroTo used
+  zero-start : ZeroTo used
   zero-start j h k = rw (lt-ltb j used h) refl
 
-  pub zero-more : (i : ℕ) → used ≤ i → ZeroTo i → at l i ≡ 0 → ZeroTo (i + 1)
+  zero-more : (i : ℕ) → used ≤ i → ZeroTo i → at l i ≡ 0 → ZeroTo (i + 1)
   zero-more i h z e j k f = by-cases (ltb j i)
       (λ q. z j (ltb-true j i q) f)
       (λ q. let same : j ≡ i = omega (arith, ltb-false j i q) in rw (same, le-ltb i used h, eq-eqb (at l i) 0 e) refl)
 
-  pub zero-end : (i : ℕ) → full ≤ i → ZeroTo i → true ≡ zeroFrom used full l
+  zero-end : (i : ℕ) → full ≤ i → ZeroTo i → true ≡ zeroFrom used full l
   unfolding zeroFrom
   zero-end i h z = sym (allBelow-all full zeroAt (λ j k. z j (omega arith) k))
 
-  pub zero-not : (i : ℕ) → used ≤ i → i < full → at l i ≢ 0 → false ≡ zeroFrom used full l
+  zero-not : (i : ℕ) → used ≤ i → i < full → at l i ≢ 0 → false ≡ zeroFrom used full l
   unfolding zeroFrom
   zero-not i h k e = all-miss zeroAt i full k (rw (le-ltb i used h, ne-eqb (at l i) 0 e) refl)
+
+  -- `total` of the entries from `used` to i are not zero
+  pub record NonZero (i total : ℕ) : Type 0 where
+    pub none : total ≡ 0 → ZeroTo i
+    pub some : total ≢ 0 → false ≡ zeroFrom used full l
+    pub small : total + used ≤ i
+
+  pub nonzero-start : NonZero used 0
+  nonzero-start = record { none = λ e. zero-start; some = λ n. absurd (n refl); small = omega arith }
+
+  pub nonzero-more : (i total x : ℕ) (b : Bool) → i < full → NonZero i total → b ≡ not (eqb (at l i) 0) → x ≡ pick b 1 0 → NonZero (i + 1) (total + x)
+  nonzero-more i total x b k c eb ex = by-cases (eqb (at l i) 0)
+      (λ e. let z : x ≡ 0 = ex ∙ rw (eb, e) refl in record {
+        none = λ h. zero-more i (omega (arith, c .small)) (c .none (omega (arith, z))) (eqb-true (at l i) 0 e);
+        some = λ n. c .some (λ h. n (omega (arith, z)));
+        small = omega (arith, c .small, z);
+      })
+      (λ e. let o : x ≡ 1 = ex ∙ rw (eb, e) refl in record {
+        none = λ h. absurd (omega (arith, o));
+        some = λ n. zero-not i (omega (arith, c .small)) k (eqb-false (at l i) 0 e);
+        small = omega (arith, c .small, o);
+      })
+
+  pub nonzero-end : (i total : ℕ) → full ≤ i → NonZero i total → eqb total 0 ≡ zeroFrom used full l
+  nonzero-end i total h c = by-cases (eqb total 0)
+      (λ e. e ∙ zero-end i h (c .none (eqb-true total 0 e)))
+      (λ e. e ∙ c .some (eqb-false total 0 e))
 
 -- ---- filling begins
 pub fill-none : (f : ℕ → ℕ) (l : List ℕ) → l ≡ fillBelow 0 f l

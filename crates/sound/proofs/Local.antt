@@ -19,18 +19,18 @@ use Rattle.precedence.specs.Graph.{Plan, Wait, cyclic}
 use Rattle.plan.specs.Stops.{start, owner, number}
 use Rattle.plan.specs.Check.{faultAt}
 use Rattle.plan.specs.Dependencies.{right}
-use Rattle.plan.specs.Field.{FieldPlan, graph, fixed}
+use Rattle.plan.specs.Field.{Dependency, FieldPlan, inForce, waitOf, graph, fixed}
 use Rattle.plan.specs.Claims.{Numbered}
 use Rattle.plan.proofs.Numbering.{numbered, next-number, stays}
 use Rattle.plan.proofs.Conditions.{Passes, fault-says}
 use Rattle.meetings.specs.Meetings.{Steady}
 use Rattle.meetings.proofs.Right.{Entry, right-entry}
 use Rattle.cycles.specs.Flat.{flatPlan, Shape}
-use Rattle.cycles.specs.Waits.{fromOf, intoOf, turnedIn, Unfixed, Given, graphSound}
+use Rattle.cycles.specs.Waits.{fromOf, intoOf, turnedIn, Edges, Unfixed, Given, graphSound}
 use Rattle.cycles.proofs.Placed.{formed}
 use Rattle.cycles.proofs.Directed.{right-placed}
 use Rattle.sound.specs.Parts.{stopSound, stopIn, flagRight, fixedAt, fieldOf, graphPart}
-use Rattle.sound.specs.Asked.{Counted, Columns, Numbers, Scratch, Through}
+use Rattle.sound.specs.Asked.{Counted, Columns, Numbers, GraphTables, Scratch, Through}
 use Rattle.sound.proofs.Asking.{stop-drone, stop-number}
 use Rattle.plan.proofs.Agree.{right-same}
 use Rattle.sound.proofs.SameGraph.{cyclic-same}
@@ -60,6 +60,15 @@ flag-unfixed b f h t = by-cases b (λ e. true-or-false (and-right (eqb (f / 2) (
 
 pub wait-is : {a b c d a′ b′ c′ d′ : ℕ} → a ≡ a′ → b ≡ b′ → c ≡ c′ → d ≡ d′ → _≡_ {A = Wait} (record { waiter = a; stop = b; awaited = c; until = d }) (record { waiter = a′; stop = b′; awaited = c′; until = d′ })
 wait-is p q r s = rw (p, q, r, s) refl
+
+-- the two stops of a dependency's wait, numbered through
+from-side : (counts : List ℕ) (b : Bool) (e : Dependency) → pick b (start counts (e .second) + e .secondStop + 1) (start counts (e .first) + e .firstStop + 1) ≡ start counts (waitOf (inForce b e) .awaited) + waitOf (inForce b e) .until
+from-side counts true e = omega arith
+from-side counts false e = omega arith
+
+into-side : (counts : List ℕ) (b : Bool) (e : Dependency) → pick b (start counts (e .first) + e .firstStop) (start counts (e .second) + e .secondStop) ≡ start counts (waitOf (inForce b e) .waiter) + waitOf (inForce b e) .stop
+into-side counts true e = refl
+into-side counts false e = refl
 
 module _ (drones n m : ℕ) (counts locations times firstDrones firstStops secondDrones secondStops flags : List ℕ) (C : Counted drones n m counts) where
   abbrev own : ℕ → ℕ
@@ -196,6 +205,18 @@ module _ (drones n m : ℕ) (counts locations times firstDrones firstStops secon
         few-waits = C .few-dependencies;
       }
 
+      pub laid : (from into : List ℕ) → Edges firsts seconds flags m from into → GraphTables counts (graph F turned) owners starts lasts from into
+      laid from into E = record {
+        owners-size = T .owners-size;
+        from-size = E .from-size;
+        into-size = E .into-size;
+        owners-are = λ v l. T .owners-are v (omega (arith, C .total));
+        starts-are = T .starts-are;
+        lasts-are = T .lasts-are;
+        from-are = λ k l. E .from-is k l ∙ ap (λ (z : ℕ). pick (turned k) (z + 1) (at firsts k + 1)) (second-is k l) ∙ ap (λ (z : ℕ). pick (turned k) (ys k + 1) (z + 1)) (first-is k l) ∙ from-side counts (turned k) (F .dependency k);
+        into-are = λ k l. E .into-is k l ∙ ap (λ (z : ℕ). pick (turned k) z (at seconds k)) (first-is k l) ∙ ap (λ (z : ℕ). pick (turned k) (xs k) z) (second-is k l) ∙ into-side counts (turned k) (F .dependency k);
+      }
+
       abbrev local-right : Bool
       local-right = right (at owners) (at locations) (at times) n m (at firsts) (at seconds)
 
@@ -325,3 +346,6 @@ module _ (drones n m : ℕ) (counts locations times firstDrones firstStops secon
 
         pub code-graph : (r : Bool) → r ≡ graphSound (at owners) (at starts) (at lasts) (at locations) (at times) drones n m (at firsts) (at seconds) (turnedIn flags) → r ≡ graphPart drones n m counts locations times firstDrones firstStops secondDrones secondStops limits flags
         code-graph r e = part-graph r (K .stops-fine) (K .both-sides) (e ∙ graph-same (K .stops-fine) (K .both-sides .firsts-in) (K .both-sides .seconds-in) (K .both-sides .flags-fine) owners numbers starts lasts firsts seconds T A B)
+
+        pub code-laid : (from into : List ℕ) → Edges firsts seconds flags m from into → GraphTables counts (graph F turned) owners starts lasts from into
+        code-laid = laid (K .stops-fine) (K .both-sides .firsts-in) (K .both-sides .seconds-in) (K .both-sides .flags-fine) owners numbers starts lasts firsts seconds T A B

@@ -5,7 +5,11 @@ use Prim.Native.Nat.{ℕ, _+_, _-_, _≤_, _<_}
 use lib.ListN.{length}
 use Rattle.below.specs.Below.{at}
 use Rattle.tables.specs.Limits.{limits}
+use Rattle.tables.specs.Tables.{Tables}
+use Rattle.precedence.specs.Graph.{Plan}
 use Rattle.plan.specs.Stops.{start, owner, number}
+use Rattle.plan.specs.Field.{planOf, graph}
+use Rattle.plan.specs.Status.{statusIn}
 use Rattle.sound.specs.Parts.{nameKey}
 
 -- counts that are in their ranges, and n stops in all
@@ -35,7 +39,31 @@ pub record Numbers (drones n : ℕ) (counts owners numbers starts lasts : List �
   pub starts-are : (d : ℕ) → d < drones → at starts d ≡ start counts d
   pub lasts-are : (d : ℕ) → d < drones → at lasts d ≡ at counts d - 1
 
--- room for them
+-- the tables hold the graph G of a plan whose drone d has `at counts d` stops, over stops that are numbered through: each stop's drone, each drone's first and last
+-- stop, and of each wait the stop that nobody enters (`into`) before another is visited (`from`)
+pub record GraphTables (counts : List ℕ) (G : Plan) (owners starts lasts from into : List ℕ) : Type 0 where
+  pub owners-size : length owners ≡ limits .stops
+  pub from-size : length from ≡ limits .dependencies
+  pub into-size : length into ≡ limits .dependencies
+  pub owners-are : (v : ℕ) → v < start counts (G .drones) → at owners v ≡ owner (G .drones) counts v
+  pub starts-are : (d : ℕ) → d < G .drones → at starts d ≡ start counts d
+  pub lasts-are : (d : ℕ) → d < G .drones → at lasts d ≡ G .last d
+  pub from-are : (k : ℕ) → k < G .count → at from k ≡ start counts (G .wait k .awaited) + G .wait k .until
+  pub into-are : (k : ℕ) → k < G .count → at into k ≡ start counts (G .wait k .waiter) + G .wait k .stop
+
+-- .. the graph of lent tables with the order now in force
+abbrev pub InForce : (t : Tables) (owners starts lasts from into : List ℕ) → Type 0
+InForce t = GraphTables (t .plan .stopCounts) (graph (planOf (t .plan)) (statusIn t .turned))
+
+-- room for that
+pub record Room (owners starts lasts from into : List ℕ) : Type 0 where
+  pub owners-room : length owners ≡ limits .stops
+  pub starts-room : length starts ≡ limits .drones
+  pub lasts-room : length lasts ≡ limits .drones
+  pub from-room : length from ≡ limits .dependencies
+  pub into-room : length into ≡ limits .dependencies
+
+-- room for the numbering
 pub record Scratch (owners numbers starts lasts : List ℕ) : Type 0 where
   pub owners-room : length owners ≡ limits .stops
   pub numbers-room : length numbers ≡ limits .stops

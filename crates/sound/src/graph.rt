@@ -1,13 +1,19 @@
 // The stops, the records and the graph of the tables, over stops that are numbered through.
 use crate::records;
 use crate::single;
+use tables::entries::Dependency;
+use tables::entries::Drone;
+use tables::entries::Stop;
+ghost use mathlib.Core.Bool.{true};
 ghost use mathlib.Core.Path.{_≡_};
 ghost use Prim.Native.Nat.{ℕ, _-_, _≤_, _<_};
 ghost use lib.ListN.{length};
 ghost use Rattle.below.specs.Below.{at, fillBelow};
 ghost use Rattle.tables.specs.Limits.{limits};
-ghost use Rattle.sound.specs.Parts.{graphPart};
-ghost use Rattle.sound.specs.Asked.{Counted, Columns, Numbers, Scratch};
+ghost use Rattle.plan.specs.Field.{graph};
+ghost use Rattle.cycles.specs.Waits.{turnedIn};
+ghost use Rattle.sound.specs.Parts.{fieldOf, graphPart};
+ghost use Rattle.sound.specs.Asked.{Counted, Columns, Numbers, GraphTables, Room, Scratch};
 
 // Each drone's last stop.
 fn fill_lasts(drones: usize, stop_counts: &[u16], lasts: &mut [u16])
@@ -40,7 +46,8 @@ pub fn fill_tables(
     fill_lasts(drones, stop_counts, lasts);
 }
 
-// Whether the stops are sound, the records are the plan's dependencies with right flag bytes, nothing collides, and the graph now in force has no cycle.
+// Whether the stops are sound, the records are the plan's dependencies with right flag bytes, nothing collides, and the graph now in force has no cycle. If so, it leaves that graph in
+// the last five tables.
 pub fn graph_sound(
     drones: usize,
     n: usize,
@@ -53,23 +60,25 @@ pub fn graph_sound(
     second_drones: &[u8],
     second_stops: &[u16],
     flags: &[u8],
+    owners: &mut [u8; Stop::FULL],
+    starts: &mut [u16; Drone::FULL],
+    lasts: &mut [u16; Drone::FULL],
+    from: &mut [u16; Dependency::FULL],
+    into: &mut [u16; Dependency::FULL],
 ) -> bool
-    requires { ⌜ Counted drones n m (now «stop_counts») × (n ≤ length (now locations)) × (n ≤ length (now times)) × Columns m (now «first_drones») (now «first_stops») (now «second_drones») (now «second_stops») (now flags) ⌝ }
-    ensures { λ r. ⌜ r ≡ graphPart drones n m (now («stop_counts» .entry)) (now (locations .entry)) (now (times .entry)) (now («first_drones» .entry)) (now («first_stops» .entry)) (now («second_drones» .entry)) (now («second_stops» .entry)) limits (now (flags .entry)) ⌝ }
+    requires { ⌜ Counted drones n m (now «stop_counts») × (n ≤ length (now locations)) × (n ≤ length (now times)) × Columns m (now «first_drones») (now «first_stops») (now «second_drones») (now «second_stops») (now flags) × Room (now owners) (now starts) (now lasts) (now from) (now into) ⌝ }
+    ensures { λ r. ⌜ (r ≡ graphPart drones n m (now («stop_counts» .entry)) (now (locations .entry)) (now (times .entry)) (now («first_drones» .entry)) (now («first_stops» .entry)) (now («second_drones» .entry)) (now («second_stops» .entry)) limits (now (flags .entry))) × (r ≡ true → GraphTables (now («stop_counts» .entry)) (graph (fieldOf drones n m (now («stop_counts» .entry)) (now (locations .entry)) (now (times .entry)) (now («first_drones» .entry)) (now («first_stops» .entry)) (now («second_drones» .entry)) (now («second_stops» .entry))) (turnedIn (now (flags .entry)))) (now (owners .exit)) (now (starts .exit)) (now (lasts .exit)) (now (from .exit)) (now (into .exit))) ⌝ }
 {
-    let mut owners = [0u8; 1024];
-    let mut numbers = [0u16; 1024];
-    let mut starts = [0u16; 32];
-    let mut lasts = [0u16; 32];
+    let mut numbers = [0u16; Stop::FULL];
     fill_tables(
         drones,
         n,
         m,
         stop_counts,
-        &mut owners,
+        owners,
         &mut numbers,
-        &mut starts,
-        &mut lasts,
+        starts,
+        lasts,
     );
     if !single::stops_sound(&numbers, locations, times, n) {
         return false;
@@ -78,7 +87,7 @@ pub fn graph_sound(
         drones,
         m,
         stop_counts,
-        &lasts,
+        lasts,
         first_drones,
         first_stops,
         second_drones,
@@ -87,21 +96,19 @@ pub fn graph_sound(
     ) {
         return false;
     }
-    let mut firsts = [0u16; 2048];
-    let mut seconds = [0u16; 2048];
-    records::number_through(&starts, first_drones, first_stops, m, &mut firsts);
-    records::number_through(&starts, second_drones, second_stops, m, &mut seconds);
+    records::number_through(starts, first_drones, first_stops, m, from);
+    records::number_through(starts, second_drones, second_stops, m, into);
     cycles::graph_sound(
-        &owners,
+        owners,
         locations,
         times,
-        &starts,
-        &lasts,
+        starts,
+        lasts,
         drones,
         n,
-        &firsts,
-        &seconds,
         flags,
         m,
+        from,
+        into,
     )
 }

@@ -8,14 +8,18 @@ pub mod records;
 mod single;
 mod unused;
 
+use tables::entries::Dependency;
+use tables::entries::Drone;
+use tables::entries::Stop;
 ghost use mathlib.Core.Bool.{true};
 ghost use mathlib.Core.Path.{_≡_};
 ghost use Rattle.tables.specs.Limits.{limits};
 ghost use Rattle.tables.specs.Tables.{tablesOf, fullSize};
 ghost use Rattle.sound.specs.Sound.{sound};
+ghost use Rattle.sound.specs.Asked.{InForce, Room};
 
-// Whether tables of full size are sound.
-pub fn is_sound(
+// Whether tables of full size are sound. If so, it leaves the graph now in force in the last five tables.
+pub fn check(
     drone_count: &[u16],
     dependency_count: &[u16],
     names: &[u8],
@@ -29,6 +33,11 @@ pub fn is_sound(
     second_drones: &[u8],
     second_stops: &[u16],
     flags: &[u8],
+    owners: &mut [u8; Stop::FULL],
+    starts: &mut [u16; Drone::FULL],
+    lasts: &mut [u16; Drone::FULL],
+    from: &mut [u16; Dependency::FULL],
+    into: &mut [u16; Dependency::FULL],
 ) -> bool
     requires { ⌜
         fullSize limits (tablesOf
@@ -37,13 +46,20 @@ pub fn is_sound(
         (now «first_drones») (now «first_stops») (now «second_drones») (now «second_stops»)
         (now flags)) ≡ true
         ⌝ }
+    requires { ⌜ Room (now owners) (now starts) (now lasts) (now from) (now into) ⌝ }
     ensures { λ r.
         ⌜
-        r ≡ sound limits (tablesOf
+        (r ≡ sound limits (tablesOf
+        (now («drone_count» .entry)) (now («dependency_count» .entry)) (now (names .entry)) (now («stop_counts» .entry))
+        (now (locations .entry)) (now (times .entry)) (now (visited .entry)) (now («drone_flags» .entry))
+        (now («first_drones» .entry)) (now («first_stops» .entry)) (now («second_drones» .entry)) (now («second_stops» .entry))
+        (now (flags .entry))))
+        × (r ≡ true → InForce (tablesOf
         (now («drone_count» .entry)) (now («dependency_count» .entry)) (now (names .entry)) (now («stop_counts» .entry))
         (now (locations .entry)) (now (times .entry)) (now (visited .entry)) (now («drone_flags» .entry))
         (now («first_drones» .entry)) (now («first_stops» .entry)) (now («second_drones» .entry)) (now («second_stops» .entry))
         (now (flags .entry)))
+        (now (owners .exit)) (now (starts .exit)) (now (lasts .exit)) (now (from .exit)) (now (into .exit)))
         ⌝ }
 {
     let drones = drone_count[0] as usize;
@@ -67,6 +83,11 @@ pub fn is_sound(
         second_drones,
         second_stops,
         flags,
+        owners,
+        starts,
+        lasts,
+        from,
+        into,
     ) {
         return false;
     }
@@ -101,4 +122,63 @@ pub fn is_sound(
         return false;
     }
     unused::progress_unused(drones, m, visited, drone_flags, flags)
+}
+
+// Whether tables of full size are sound.
+pub fn is_sound(
+    drone_count: &[u16],
+    dependency_count: &[u16],
+    names: &[u8],
+    stop_counts: &[u16],
+    locations: &[u16],
+    times: &[u32],
+    visited: &[u16],
+    drone_flags: &[u8],
+    first_drones: &[u8],
+    first_stops: &[u16],
+    second_drones: &[u8],
+    second_stops: &[u16],
+    flags: &[u8],
+) -> bool
+    requires { ⌜
+        fullSize limits (tablesOf
+        (now «drone_count») (now «dependency_count») (now names) (now «stop_counts»)
+        (now locations) (now times) (now visited) (now «drone_flags»)
+        (now «first_drones») (now «first_stops») (now «second_drones») (now «second_stops»)
+        (now flags)) ≡ true
+        ⌝ }
+    ensures { λ r.
+        ⌜
+        r ≡ sound limits (tablesOf
+        (now («drone_count» .entry)) (now («dependency_count» .entry)) (now (names .entry)) (now («stop_counts» .entry))
+        (now (locations .entry)) (now (times .entry)) (now (visited .entry)) (now («drone_flags» .entry))
+        (now («first_drones» .entry)) (now («first_stops» .entry)) (now («second_drones» .entry)) (now («second_stops» .entry))
+        (now (flags .entry)))
+        ⌝ }
+{
+    let mut owners = [0u8; Stop::FULL];
+    let mut starts = [0u16; Drone::FULL];
+    let mut lasts = [0u16; Drone::FULL];
+    let mut from = [0u16; Dependency::FULL];
+    let mut into = [0u16; Dependency::FULL];
+    check(
+        drone_count,
+        dependency_count,
+        names,
+        stop_counts,
+        locations,
+        times,
+        visited,
+        drone_flags,
+        first_drones,
+        first_stops,
+        second_drones,
+        second_stops,
+        flags,
+        &mut owners,
+        &mut starts,
+        &mut lasts,
+        &mut from,
+        &mut into,
+    )
 }

@@ -1,4 +1,4 @@
-// Unused entries are zero: those from the number in use on, up to the full size.
+// Unused entries are zero: those from the number in use on, up to the full size. The loops count those that are not and have no early end, so that many entries are taken at a time.
 use tables::entries::Dependency;
 use tables::entries::Drone;
 use tables::entries::Stop;
@@ -6,49 +6,53 @@ ghost use mathlib.Core.Bool.{_&&_};
 ghost use mathlib.Core.Path.{_≡_};
 ghost use Prim.Native.Nat.{_*_, _≤_};
 ghost use lib.ListN.{length};
+ghost use Rattle.below.specs.Below.{pick};
 ghost use Rattle.tables.specs.Limits.{limits};
 ghost use Rattle.sound.specs.Sound.{zeroFrom};
 
+fn one(b: bool) -> u16
+    ensures { λ r. ⌜ (r ≡ pick b 1 0) × (r ≤ 1) ⌝ }
+{
+    if b { 1 } else { 0 }
+}
+
 fn zero_u8(used: usize, full: usize, table: &[u8]) -> bool
-    requires { ⌜ full ≤ length (now table) ⌝ }
+    requires { ⌜ (full ≤ length (now table)) × (full ≤ 65535) ⌝ }
     ensures { λ r. ⌜ r ≡ zeroFrom used full (now (table .entry)) ⌝ }
 {
+    let mut total: u16 = 0;
     let mut i = used;
     while i < full {
-        if table[i] != 0 {
-            return false;
-        }
+        total += one(table[i] != 0);
         i += 1;
     }
-    true
+    total == 0
 }
 
 fn zero_u16(used: usize, full: usize, table: &[u16]) -> bool
-    requires { ⌜ full ≤ length (now table) ⌝ }
+    requires { ⌜ (full ≤ length (now table)) × (full ≤ 65535) ⌝ }
     ensures { λ r. ⌜ r ≡ zeroFrom used full (now (table .entry)) ⌝ }
 {
+    let mut total: u16 = 0;
     let mut i = used;
     while i < full {
-        if table[i] != 0 {
-            return false;
-        }
+        total += one(table[i] != 0);
         i += 1;
     }
-    true
+    total == 0
 }
 
 fn zero_u32(used: usize, full: usize, table: &[u32]) -> bool
-    requires { ⌜ full ≤ length (now table) ⌝ }
+    requires { ⌜ (full ≤ length (now table)) × (full ≤ 65535) ⌝ }
     ensures { λ r. ⌜ r ≡ zeroFrom used full (now (table .entry)) ⌝ }
 {
+    let mut total: u16 = 0;
     let mut i = used;
     while i < full {
-        if table[i] != 0 {
-            return false;
-        }
+        total += one(table[i] != 0);
         i += 1;
     }
-    true
+    total == 0
 }
 
 fn stops_unused(

@@ -11,7 +11,7 @@ abbrev pub zeroDrone : Drone
 zeroDrone = record { visited = 0; flags = 0 }
 
 abbrev pub zeroDependency : Dependency
-zeroDependency = record { «first_stop» = 0; «second_stop» = 0; «first_drone» = 0; «second_drone» = 0; flags = 0 }
+zeroDependency = record { «first_stop» = 0; «second_stop» = 0; «first_drone» = 0; «second_drone» = 0; flags = 0; reserved = 0 }
 
 -- "Turn: flips bit 0 of one dependency"
 abbrev pub flipDependency : Dependency → Dependency
@@ -21,4 +21,5 @@ flipDependency d = record {
   «first_drone» = d .«first_drone»;
   «second_drone» = d .«second_drone»;
   flags = flipBit (d .flags);
+  reserved = d .reserved;
 }

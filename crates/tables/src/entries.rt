@@ -16,13 +16,16 @@ pub struct Drone {
     pub flags: u8,
 }
 
-// The planned first drone and its stop, the planned second drone and its stop, and the flag byte.
+// The planned first drone and its stop, the planned second drone and its stop, and the flag byte. The reserved byte fills the record to eight, so that a record
+// that is stored whole writes no byte beyond its fields; no call looks at it.
+#[repr(C)]
 pub struct Dependency {
     pub first_stop: u16,
     pub second_stop: u16,
     pub first_drone: u8,
     pub second_drone: u8,
     pub flags: u8,
+    pub reserved: u8,
 }
 
 // The plan's text is no table of entries, but it has a full size too.
@@ -117,6 +120,7 @@ impl Dependency {
             first_drone: 0,
             second_drone: 0,
             flags: 0,
+            reserved: 0,
         }
     }
 
@@ -136,6 +140,7 @@ impl Dependency {
             first_drone: self.first_drone,
             second_drone: self.second_drone,
             flags: crate::flags::flipped(self.flags),
+            reserved: self.reserved,
         }
     }
 }

@@ -1,47 +1,62 @@
-use mathlib.Core.Path.{sym, _∙_}
+use mathlib.Core.Path.{refl, sym, _∙_}
 use borrow.Author.Tests.{not-true, not-false}
 use Rattle.below.specs.Below.{at}
+use Rattle.below.proofs.Tests.{true-or-false}
 use Rattle.cycles.proofs.Directed.{graph-wrong, graph-right, given-first, given-second, given-unturned, given-tables, given-cyclic}
 use borrow.Author.Needs.{needs}
 use Rattle.cycles.proofs.graph_sound.Statement.{statement}
 use Rattle.cycles.proofs.graph_sound.Tie as tie
 use Rattle.cycles.proofs.graph_sound.Reads as reads
 use Rattle.cycles.proofs.graph_sound.Lts as lts
-use Rattle.meetings.proofs.dependencies_right.Reads as dependencies-right-reads
-use Rattle.cycles.proofs.waits.turned_total.Reads as turned-total-reads
-use Rattle.cycles.proofs.waits.fill.Reads as fill-reads
 use Rattle.cycles.proofs.has_cycle.Reads as has-cycle-reads
+use Rattle.cycles.proofs.waits.make_waits.Reads as make-waits-reads
+use Rattle.cycles.proofs.waits.turned_total.Reads as turned-total-reads
+use Rattle.meetings.proofs.dependencies_right.Reads as dependencies-right-reads
 
+-- src/lib.rt:69:9
 dependencies-right-requires : tie.Need-dependencies-right-requires
 dependencies-right-requires c κs = search needs
 
+-- src/lib.rt:70:9
 returns : tie.Need-returns
-returns c = graph-wrong _ (at (c .before .before .before .before .before .before .before .before .args .starts .now)) (at (c .before .before .before .before .before .before .before .before .args .lasts .now)) _ _ _ _ _ _ _ _ (sym (c .before .dependencies-right .ensures) ∙ not-true _ (c .if1 .taken))
+returns c = (graph-wrong _ (at (c .before .before .before .before .before .before .before .before .before .before .args .starts .now)) (at (c .before .before .before .before .before .before .before .before .before .before .args .lasts .now)) _ _ _ _ _ _ _ _ (sym (c .before .dependencies-right .ensures) ∙ not-true _ (c .if1 .taken)), λ e. true-or-false e refl)
 
+-- src/lib.rt:72:5
+make-waits-requires : tie.Need-make-waits-requires
+make-waits-requires c κs =
+    let e = sym (c .before .before .before .dependencies-right .ensures) ∙ not-false _ (c .before .before .if1 .left) in
+    ((c .before .before .before .before .before .before .before .before .before .before .before .before .pre .0 .has-flags, c .before .before .before .before .before .before .before .before .before .before .before .before .pre .0 .few-waits, given-first _ _ _ _ _ _ _ _ _ _ _ (c .before .before .before .before .before .before .before .before .before .before .before .before .pre .0) e, given-second _ _ _ _ _ _ _ _ _ _ _ (c .before .before .before .before .before .before .before .before .before .before .before .before .pre .0) e), (c .before .before .before .before .before .before .before .before .before .before .before .before .pre .1, c .before .before .before .before .before .before .before .before .before .before .before .before .pre .2))
+
+-- src/lib.rt:73:8
 turned-total-requires : tie.Need-turned-total-requires
-turned-total-requires c κs = (c .before .before .before .before .before .before .before .before .pre .has-flags, c .before .before .before .before .before .before .before .before .pre .few-waits)
+turned-total-requires c κs = (c .before .before .before .before .before .before .before .before .before .before .before .before .before .pre .0 .has-flags, c .before .before .before .before .before .before .before .before .before .before .before .before .before .pre .0 .few-waits)
 
+-- src/lib.rt:74:9
 returns-2 : tie.Need-returns-2
 returns-2 c =
-    let e = sym (c .before .before .before .dependencies-right .ensures) ∙ not-false _ (c .before .before .if1 .left) in
-    given-unturned _ _ _ _ _ _ _ _ _ _ _ (c .before .before .before .before .before .before .before .before .before .before .pre) e _ (c .before .turned-total .ensures) (c .if2 .taken)
+    let e = sym (c .before .before .before .before .before .before .dependencies-right .ensures) ∙ not-false _ (c .before .before .before .before .before .if1 .left) in
+    (given-unturned _ _ _ _ _ _ _ _ _ _ _ (c .before .before .before .before .before .before .before .before .before .before .before .before .before .before .before .pre .0) e _ (c .before .turned-total .ensures) (c .if2 .taken), λ h. c .before .before .make-waits .ensures)
 
-fill-requires : tie.Need-fill-requires
-fill-requires c κs =
-    let e = sym (c .before .before .before .before .before .dependencies-right .ensures) ∙ not-false _ (c .before .before .before .before .if1 .left) in
-    ((c .before .before .before .before .before .before .before .before .before .before .before .before .pre .table .has-firsts, c .before .before .before .before .before .before .before .before .before .before .before .before .pre .table .has-seconds, c .before .before .before .before .before .before .before .before .before .before .before .before .pre .has-flags, c .before .before .before .before .before .before .before .before .before .before .before .before .pre .few-waits, given-first _ _ _ _ _ _ _ _ _ _ _ (c .before .before .before .before .before .before .before .before .before .before .before .before .pre) e, given-second _ _ _ _ _ _ _ _ _ _ _ (c .before .before .before .before .before .before .before .before .before .before .before .before .pre) e), search needs)
-
+-- src/lib.rt:76:6
 has-cycle-requires : tie.Need-has-cycle-requires
 has-cycle-requires c κs =
     let e = sym (c .before .before .before .before .before .before .before .before .dependencies-right .ensures) ∙ not-false _ (c .before .before .before .before .before .before .before .if1 .left) in
-    given-tables _ _ _ _ _ _ _ _ _ _ _ (c .before .before .before .before .before .before .before .before .before .before .before .before .before .before .before .pre) e _ _ (c .before .before .fill .ensures)
+    given-tables _ _ _ _ _ _ _ _ _ _ _ (c .before .before .before .before .before .before .before .before .before .before .before .before .before .before .before .before .before .pre .0) e _ _ (c .before .before .before .before .make-waits .ensures)
 
+-- src/lib.rt:53:1
 returns-3 : tie.Need-returns-3
 returns-3 c =
     let e = sym (c .before .before .before .before .before .before .before .before .before .dependencies-right .ensures) ∙ not-false _ (c .before .before .before .before .before .before .before .before .if1 .left) in
-    graph-right _ (at (c .before .before .before .before .before .before .before .before .before .before .before .before .before .before .before .before .args .starts .now)) (at (c .before .before .before .before .before .before .before .before .before .before .before .before .before .before .before .before .args .lasts .now)) _ _ _ _ _ _ _ _ _ e (c .has-cycle .ensures ∙ given-cyclic _ _ _ _ _ _ _ _ _ _ _ (c .before .before .before .before .before .before .before .before .before .before .before .before .before .before .before .before .pre) e _ _ (c .before .before .before .fill .ensures))
+    (graph-right _ (at (c .before .before .before .before .before .before .before .before .before .before .before .before .before .before .before .before .before .before .args .starts .now)) (at (c .before .before .before .before .before .before .before .before .before .before .before .before .before .before .before .before .before .before .args .lasts .now)) _ _ _ _ _ _ _ _ _ e (c .has-cycle .ensures ∙ given-cyclic _ _ _ _ _ _ _ _ _ _ _ (c .before .before .before .before .before .before .before .before .before .before .before .before .before .before .before .before .before .before .pre .0) e _ _ (c .before .before .before .before .before .make-waits .ensures)), λ h. c .before .before .before .before .before .make-waits .ensures)
 
 pub graph-sound-spec : {M : Type 1} → statement M
 graph-sound-spec =
     tie.close
-    (tie.spec dependencies-right-requires returns turned-total-requires returns-2 fill-requires has-cycle-requires returns-3)
+    (tie.spec
+    dependencies-right-requires
+    returns
+    make-waits-requires
+    turned-total-requires
+    returns-2
+    has-cycle-requires
+    returns-3)

@@ -1,30 +1,46 @@
--- `conductor::calls::read_plan` meets its contract: the needs that the derivation of Derived.read_plan leaves. Assumes nothing.
+-- `conductor::calls::read_plan` meets its contract: what a reading into zeroed columns writes does not depend on the records, and where it writes nothing they stay. Assumes nothing.
 mod Tie
-use mathlib.Core.Path.{refl, _∙_}
+use mathlib.Core.Path.{refl, sym, _∙_}
+use borrow.Author.Tests.{ltb-true, ltb-false}
 use Rattle.tables.specs.Limits.{limits}
-use Rattle.records.proofs.Copies.{gathered-length}
-use Rattle.records.proofs.Seen.{tables-copied, tables-stored, stored-after}
-use Rattle.conductor.proofs.Over.{read-over}
+use Rattle.records.proofs.ColumnLaws.{zero-columns, gathered-length}
+use Rattle.records.proofs.Seen.{stored-rest}
+use Rattle.conductor.proofs.ReadLaws.{read-short, read-stored}
 use borrow.Author.Needs.{needs}
 use Rattle.conductor.proofs.calls.read_plan.Statement.{statement}
 use Rattle.conductor.proofs.calls.read_plan.Proof.Tie as tie
 use Rattle.conductor.proofs.Derived.read_plan.Reads as reads
 use Rattle.conductor.proofs.Derived.read_plan.Lts as lts
 
-records-requires : tie.Need-records-requires
-records-requires c κs = search needs
+below-full-requires : tie.Need-below-full-requires
+below-full-requires c κs = search needs
 
-read-records-requires : tie.Need-read-records-requires
-read-records-requires c κs = search needs
+returns : tie.Need-returns
+returns c = (read-short limits _ _ _ _ _ _ _ _ (c .before .before .before .before .before .before .before .before .before .before .before .args .text .now) (c .before .before .before .before .before .before .before .before .before .before .before .args .dependencies .now) (ltb-true _ _ (sym (c .before .below-full .ensures) ∙ c .if1 .taken)), refl)
 
-records-of-requires : tie.Need-records-of-requires
-records-of-requires c κs = search needs
+slice-aggregate-read-plan : tie.Need-slice-aggregate-read-plan
+slice-aggregate-read-plan c = search needs
 
-store-all-requires : tie.Need-store-all-requires
-store-all-requires c κs = search needs
+slice-aggregate-read-plan-2 : tie.Need-slice-aggregate-read-plan-2
+slice-aggregate-read-plan-2 c = search needs
 
-reading-of-requires : tie.Need-reading-of-requires
-reading-of-requires c κs = search needs
+slice-aggregate-read-plan-3 : tie.Need-slice-aggregate-read-plan-3
+slice-aggregate-read-plan-3 c = search needs
+
+slice-aggregate-read-plan-4 : tie.Need-slice-aggregate-read-plan-4
+slice-aggregate-read-plan-4 c = search needs
+
+slice-aggregate-read-plan-5 : tie.Need-slice-aggregate-read-plan-5
+slice-aggregate-read-plan-5 c = search needs
+
+read-plan-requires : tie.Need-read-plan-requires
+read-plan-requires c κs = search needs
+
+is-written-requires : tie.Need-is-written-requires
+is-written-requires c κs = search needs
+
+store-if-requires : tie.Need-store-if-requires
+store-if-requires c κs = search needs
 
 same-length : tie.Need-same-length
 same-length c = search needs
@@ -53,29 +69,32 @@ same-length-8 c = search needs
 same-length-9 : tie.Need-same-length-9
 same-length-9 c = search needs
 
-returns : tie.Need-returns
-returns c =
-    let s = c .before .before .before .before .before .before .before .before .before .before .before .before .before .before .before .before .before .before .before .before .before .before .before .before .before .before .before .before .before .before .before .before .before .before .before .before .before .before .before .before .before in
-    let read = c .before .before .before .before .before .before .before .before .before .before .before .before .before .before .before .before .before .before .before .before .before .read-records in
-    let table = c .before .before .before .records-of in
-    let size = gathered-length limits (read .result .«first_drones») (read .result .«first_stops») (read .result .«second_drones») (read .result .«second_stops») (read .result .flags) in
-    let answer = read-over limits (s .args .text .now)
-    (tables-copied limits (s .args .dependencies .now) _ _ refl (c .before .before .before .before .before .before .before .before .before .before .before .before .before .before .before .before .before .before .before .before .before .before .before .before .before .before .before .before .before .before .records .ensures))
-    (tables-stored limits _ (table .result) (s .args .dependencies .now) _ _ refl (table .ensures) size (c .before .before .store-all .ensures))
-    (read .ensures) in (
-      record { replied = c .reading-of .ensures ∙ answer .replied; left = answer .left },
-      stored-after limits _ (table .result) (s .args .dependencies .now) _ (table .ensures) size (c .before .before .store-all .ensures),
+returns-2 : tie.Need-returns-2
+returns-2 c =
+    let a = c .before .before .before .before .before .before .before .before .before .before .before .before .before .before .before .before .before .before .before .before .before .before .before .before .before .before .before .before .before .before .before .before .before .before .before .before .before .before .before .before .before .before .before .before .before .before .before .before .before .before .before .before .before .before .before .args in
+    let read = c .before .before .before .before .before .before .before .before .before .before .before .before .before .before .before .before .before .before .before .before .before .before .before .before .before .before .before .before .before .before .read-plan in
+    let written = c .before .before .before .before .before .before .before .is-written in
+    let stored = c .before .store-if .ensures in (
+      read-stored limits _ _ _ _ _ _ _ _ (a .text .now) (a .dependencies .now) _ _ _ _ _ (ltb-false _ _ (sym (c .before .before .before .before .before .before .before .before .before .before .before .before .before .before .before .before .before .before .before .before .before .before .before .before .before .before .before .before .before .before .before .before .before .before .before .before .before .before .before .before .before .before .before .before .before .below-full .ensures) ∙ c .before .before .before .before .before .before .before .before .before .before .before .before .before .before .before .before .before .before .before .before .before .before .before .before .before .before .before .before .before .before .before .before .before .before .before .before .before .before .before .before .before .before .before .before .if1 .left)) (zero-columns limits) (read .result) _ _ _ _ _ _ _ _ _ _ _ _ _ _ (written .result)
+          (record { first-drones = search needs; first-stops = search needs; second-drones = search needs; second-stops = search needs; flag-bytes = search needs })
+          (read .ensures) (written .ensures) stored,
+      stored-rest limits (written .result) _ (a .dependencies .now) _ (gathered-length limits _ _ _ _ _) stored,
     )
 
 pub read-plan-spec : {M : Type 1} → statement M
 read-plan-spec =
     tie.close
     (tie.spec
-    records-requires
-    read-records-requires
-    records-of-requires
-    store-all-requires
-    reading-of-requires
+    below-full-requires
+    returns
+    slice-aggregate-read-plan
+    slice-aggregate-read-plan-2
+    slice-aggregate-read-plan-3
+    slice-aggregate-read-plan-4
+    slice-aggregate-read-plan-5
+    read-plan-requires
+    is-written-requires
+    store-if-requires
     same-length
     same-length-2
     same-length-3
@@ -85,4 +104,4 @@ read-plan-spec =
     same-length-7
     same-length-8
     same-length-9
-    returns)
+    returns-2)

@@ -1,4 +1,3 @@
--- Past 41 and 40 the tables can be used, and the answer is the cost of such tables.
 use Rattle.tables.specs.Limits.{limits}
 use Rattle.flat.proofs.CostLaws.{costs-41, costs-40}
 use Rattle.flat.proofs.CheckLaws.{says-usable, says-too-small, says-not-sound}
@@ -7,38 +6,38 @@ use Rattle.flat.proofs.calls.cost.Statement.{statement}
 use Rattle.flat.proofs.calls.cost.Tie as tie
 use Rattle.flat.proofs.calls.cost.Reads as reads
 use Rattle.flat.proofs.calls.cost.Lts as lts
-use Rattle.flat.proofs.calls.check_tables.Reads as check-tables-reads
+use Rattle.flat.proofs.calls.check_graph.Reads as check-graph-reads
 use Rattle.flat.proofs.costing.cost_sound.Reads as cost-sound-reads
 
--- src/calls.rt:316:9
-check-tables-requires : tie.Need-check-tables-requires
-check-tables-requires c κs = search needs
+-- src/calls.rt:482:9
+check-graph-requires : tie.Need-check-graph-requires
+check-graph-requires c κs = search needs
 
--- src/calls.rt:332:34
+-- src/calls.rt:503:34
 enum-told : tie.Need-enum-told
 enum-told c = search needs
 
--- src/calls.rt:333:34
+-- src/calls.rt:504:34
 enum-told-2 : tie.Need-enum-told-2
 enum-told-2 c = search needs
 
--- src/calls.rt:334:49
+-- src/calls.rt:519:13
 enum-told-3 : tie.Need-enum-told-3
 enum-told-3 c = search needs
 
--- src/calls.rt:334:49
+-- src/calls.rt:505:49
 cost-sound-requires : tie.Need-cost-sound-requires
-cost-sound-requires c κs = says-usable limits _ _ (c .before .before .check-tables .ensures) (c .enum-told3 .given .1)
+cost-sound-requires c κs = (says-usable limits _ _ (c .before .before .before .before .before .before .before .check-graph .ensures .0) (c .before .before .before .before .before .enum-told3 .given .1), c .before .before .before .before .before .before .before .check-graph .ensures .1 (c .before .before .before .before .before .enum-told3 .given .1))
 
--- src/calls.rt:292:1
+-- src/calls.rt:453:1
 returns : tie.Need-returns
-returns c = costs-41 limits _ (says-too-small limits _ _ (c .before .before .check-tables .ensures) (c .enum-told .given .1))
+returns c = costs-41 limits _ (says-too-small limits _ _ (c .before .before .check-graph .ensures .0) (c .enum-told .given .1))
 
--- src/calls.rt:292:1
+-- src/calls.rt:453:1
 returns-2 : tie.Need-returns-2
-returns-2 c = costs-40 limits _ (says-not-sound limits _ _ (c .before .before .check-tables .ensures) (c .enum-told2 .given .1))
+returns-2 c = costs-40 limits _ (says-not-sound limits _ _ (c .before .before .check-graph .ensures .0) (c .enum-told2 .given .1))
 
--- src/calls.rt:292:1
+-- src/calls.rt:453:1
 returns-3 : tie.Need-returns-3
 returns-3 c = search needs
 
@@ -46,7 +45,7 @@ pub cost-spec : {M : Type 1} → statement M
 cost-spec =
     tie.close
     (tie.spec
-    check-tables-requires
+    check-graph-requires
     enum-told
     enum-told-2
     enum-told-3

@@ -1,4 +1,3 @@
--- Past 41 and 40 the tables can be used, and the answer is that of the call on such tables.
 use Rattle.tables.specs.Limits.{limits}
 use Rattle.flat.proofs.CheckLaws.{says-usable, refused-41, refused-40}
 use borrow.Author.Needs.{needs}
@@ -6,50 +5,50 @@ use Rattle.flat.proofs.calls.turn.Statement.{statement}
 use Rattle.flat.proofs.calls.turn.Tie as tie
 use Rattle.flat.proofs.calls.turn.Reads as reads
 use Rattle.flat.proofs.calls.turn.Lts as lts
-use Rattle.flat.proofs.calls.check_tables.Reads as check-tables-reads
+use Rattle.flat.proofs.calls.check_graph.Reads as check-graph-reads
 use Rattle.flat.proofs.turning.turn_sound.Reads as turn-sound-reads
 
--- src/calls.rt:119:9
-check-tables-requires : tie.Need-check-tables-requires
-check-tables-requires c κs = search needs
+-- src/calls.rt:341:9
+check-graph-requires : tie.Need-check-graph-requires
+check-graph-requires c κs = search needs
 
--- src/calls.rt:135:34
+-- src/calls.rt:362:34
 enum-told : tie.Need-enum-told
 enum-told c = search needs
 
--- src/calls.rt:136:34
+-- src/calls.rt:363:34
 enum-told-2 : tie.Need-enum-told-2
 enum-told-2 c = search needs
 
--- src/calls.rt:145:13
+-- src/calls.rt:377:13
 enum-told-3 : tie.Need-enum-told-3
 enum-told-3 c = search needs
 
--- src/calls.rt:137:32
+-- src/calls.rt:364:32
 turn-sound-requires : tie.Need-turn-sound-requires
-turn-sound-requires c κs = says-usable limits _ _ (c .before .before .before .check-tables .ensures) (c .before .enum-told3 .given .1)
+turn-sound-requires c κs = (says-usable limits _ _ (c .before .before .before .before .before .before .before .before .check-graph .ensures .0) (c .before .before .before .before .before .before .enum-told3 .given .1), c .before .before .before .before .before .before .before .before .check-graph .ensures .1 (c .before .before .before .before .before .before .enum-told3 .given .1))
 
--- src/calls.rt:89:1
+-- src/calls.rt:306:1
 same-length : tie.Need-same-length
 same-length c = search needs
 
--- src/calls.rt:89:1
+-- src/calls.rt:306:1
 returns : tie.Need-returns
-returns c = refused-41 limits _ _ (c .before .before .check-tables .ensures) (c .enum-told .given .1) _
+returns c = refused-41 limits _ _ (c .before .before .check-graph .ensures .0) (c .enum-told .given .1) _
 
--- src/calls.rt:89:1
+-- src/calls.rt:306:1
 same-length-2 : tie.Need-same-length-2
 same-length-2 c = search needs
 
--- src/calls.rt:89:1
+-- src/calls.rt:306:1
 returns-2 : tie.Need-returns-2
-returns-2 c = refused-40 limits _ _ (c .before .before .check-tables .ensures) (c .enum-told2 .given .1) _
+returns-2 c = refused-40 limits _ _ (c .before .before .check-graph .ensures .0) (c .enum-told2 .given .1) _
 
--- src/calls.rt:89:1
+-- src/calls.rt:306:1
 same-length-3 : tie.Need-same-length-3
 same-length-3 c = search needs
 
--- src/calls.rt:89:1
+-- src/calls.rt:306:1
 returns-3 : tie.Need-returns-3
 returns-3 c = search needs
 
@@ -57,7 +56,7 @@ pub turn-spec : {M : Type 1} → statement M
 turn-spec =
     tie.close
     (tie.spec
-    check-tables-requires
+    check-graph-requires
     enum-told
     enum-told-2
     enum-told-3

@@ -1,4 +1,7 @@
 -- What the two searches found chooses the answer.
+use Prim.Native.Nat.{ℕ}
+use lib.ListN.{length-replicate}
+use Rattle.plan.proofs.SharingLaws.{groups-filled}
 use native.Mathlib.Omega.{arith}
 use Rattle.plan.proofs.CheckLaws.{partner-in, check-fault, check-collision, check-fine}
 use borrow.Author.Needs.{needs}
@@ -12,50 +15,55 @@ use Rattle.plan.proofs.check.first_collider.Reads as first-collider-rea
 use Rattle.plan.proofs.check.first_fault.Reads as first-fault-reads
 use Rattle.plan.proofs.check.partner_of.Reads as partner-of-reads
 use Rattle.plan.proofs.check.stop_at.Reads as stop-at-reads
+use Rattle.plan.proofs.sharing.fill_groups.Reads as fill-groups-reads
 
--- src/check.rt:165:9
+-- src/check.rt:183:9
 first-fault-requires : tie.Need-first-fault-requires
 first-fault-requires c κs = search needs
 
--- src/check.rt:167:27
+-- src/check.rt:186:13
 fault-at-requires : tie.Need-fault-at-requires
 fault-at-requires c κs = search needs
 
--- src/check.rt:167:67
+-- src/check.rt:187:13
 stop-at-requires : tie.Need-stop-at-requires
 stop-at-requires c κs = search needs
 
--- src/check.rt:167:9
+-- src/check.rt:185:9
 fault-case-requires : tie.Need-fault-case-requires
 fault-case-requires c κs = search needs
 
--- src/check.rt:167:9
+-- src/check.rt:185:9
 returns : tie.Need-returns
 returns c = check-fault _ _ _ _ _ _ (c .before .before .before .before .first-fault .ensures) _ _ _ (c .before .before .before .if1 .taken) (c .before .before .fault-at .ensures) (c .before .stop-at .ensures) (c .fault-case .ensures)
 
--- src/check.rt:169:9
+-- src/check.rt:192:5
+fill-groups-requires : tie.Need-fill-groups-requires
+fill-groups-requires c κs = search needs
+
+-- src/check.rt:193:9
 first-collider-requires : tie.Need-first-collider-requires
-first-collider-requires c κs = search needs
+first-collider-requires c κs = (c .before .before .before .before .before .before .before .before .before .before .before .pre .visits, groups-filled _ _ _ _ (omega (arith, length-replicate {A = ℕ} 1024 0, c .before .before .before .before .before .before .before .before .before .before .before .pre .visits .few)) (c .before .before .fill-groups .ensures .0) _ _ (omega (arith, length-replicate {A = ℕ} 1024 0, c .before .before .before .before .before .before .before .before .before .before .before .pre .visits .few)) (c .before .before .fill-groups .ensures .1))
 
--- src/check.rt:171:13
+-- src/check.rt:195:13
 partner-of-requires : tie.Need-partner-of-requires
-partner-of-requires c κs = search needs
+partner-of-requires c κs = (c .before .before .before .before .before .before .before .before .before .before .before .before .before .before .before .pre .visits, groups-filled _ _ _ _ (omega (arith, length-replicate {A = ℕ} 1024 0, c .before .before .before .before .before .before .before .before .before .before .before .before .before .before .before .pre .visits .few)) (c .before .before .before .before .before .before .fill-groups .ensures .0) _ _ (omega (arith, length-replicate {A = ℕ} 1024 0, c .before .before .before .before .before .before .before .before .before .before .before .before .before .before .before .pre .visits .few)) (c .before .before .before .before .before .before .fill-groups .ensures .1), c .before .before .if2 .taken)
 
--- src/check.rt:172:37
+-- src/check.rt:196:37
 stop-at-requires-2 : tie.Need-stop-at-requires-2
-stop-at-requires-2 c κs = omega (arith, partner-in _ _ _ _ _ _ (c .before .before .first-collider .ensures) (c .before .if2 .taken) (c .partner-of .ensures))
+stop-at-requires-2 c κs = omega (arith, partner-in _ _ _ _ _ _ (c .before .before .before .before .first-collider .ensures) (c .before .before .before .if2 .taken) (c .partner-of .ensures), c .before .before .before .before .before .before .before .before .before .before .before .before .before .before .before .before .pre)
 
--- src/check.rt:172:66
+-- src/check.rt:196:66
 stop-at-requires-3 : tie.Need-stop-at-requires-3
-stop-at-requires-3 c κs = omega (arith, partner-in _ _ _ _ _ _ (c .before .before .before .first-collider .ensures) (c .before .before .if2 .taken) (c .before .partner-of .ensures))
+stop-at-requires-3 c κs = omega (arith, partner-in _ _ _ _ _ _ (c .before .before .before .before .before .first-collider .ensures) (c .before .before .before .before .if2 .taken) (c .before .partner-of .ensures), c .before .before .before .before .before .before .before .before .before .before .before .before .before .before .before .before .before .pre)
 
--- src/check.rt:172:9
+-- src/check.rt:196:9
 returns-2 : tie.Need-returns-2
-returns-2 c = check-collision _ _ _ _ _ _ (c .before .before .before .before .before .before .first-fault .ensures) (c .before .before .before .before .before .if1 .left) _ (c .before .before .before .before .first-collider .ensures) _ _ _ (c .before .before .before .if2 .taken) (c .before .before .partner-of .ensures) (c .before .stop-at2 .ensures) (c .stop-at3 .ensures)
+returns-2 c = check-collision _ _ _ _ _ _ (c .before .before .before .before .before .before .before .before .before .before .before .before .before .first-fault .ensures) (c .before .before .before .before .before .before .before .before .before .before .before .before .if1 .left) _ (c .before .before .before .before .before .before .first-collider .ensures) _ _ _ (c .before .before .before .before .before .if2 .taken) (c .before .before .partner-of .ensures) (c .before .stop-at2 .ensures) (c .stop-at3 .ensures)
 
--- src/check.rt:155:1
+-- src/check.rt:173:1
 returns-3 : tie.Need-returns-3
-returns-3 c = check-fine _ _ _ _ _ _ (c .before .before .before .first-fault .ensures) (c .before .before .if1 .left) _ (c .before .first-collider .ensures) (c .if2 .left)
+returns-3 c = check-fine _ _ _ _ _ _ (c .before .before .before .before .before .before .before .before .first-fault .ensures) (c .before .before .before .before .before .before .before .if1 .left) _ (c .before .first-collider .ensures) (c .if2 .left)
 
 pub check-plan-spec : {M : Type 1} → statement M
 check-plan-spec =
@@ -66,6 +74,7 @@ check-plan-spec =
     stop-at-requires
     fault-case-requires
     returns
+    fill-groups-requires
     first-collider-requires
     partner-of-requires
     stop-at-requires-2

@@ -1,4 +1,8 @@
 -- The count chooses the answer; where it is within the full size there is room for all rows.
+use Prim.Native.Nat.{ℕ}
+use native.Mathlib.Omega.{arith}
+use lib.ListN.{length-replicate}
+use Rattle.plan.proofs.SharingLaws.{groups-filled}
 use Rattle.plan.proofs.ColumnsLaws.{built-refused, built-done}
 use borrow.Author.Needs.{needs}
 use Rattle.plan.proofs.dependencies.build.Statement.{statement}
@@ -7,47 +11,53 @@ use Rattle.plan.proofs.dependencies.build.Reads as reads
 use Rattle.plan.proofs.dependencies.build.Lts as lts
 use Rattle.plan.proofs.dependencies.count_dependencies.Reads as count-dependencies-reads
 use Rattle.plan.proofs.dependencies.fill_rows.Reads as fill-rows-reads
+use Rattle.plan.proofs.sharing.fill_groups.Reads as fill-groups-reads
 
--- src/dependencies.rt:189:9
+-- src/dependencies.rt:215:5
+fill-groups-requires : tie.Need-fill-groups-requires
+fill-groups-requires c κs = search needs
+
+-- src/dependencies.rt:216:9
 count-dependencies-requires : tie.Need-count-dependencies-requires
-count-dependencies-requires c κs = search needs
+count-dependencies-requires c κs = (c .before .before .before .before .before .before .before .before .before .before .before .before .before .before .pre .0 .visits, groups-filled _ _ _ _ (omega (arith, length-replicate {A = ℕ} 1024 0, c .before .before .before .before .before .before .before .before .before .before .before .before .before .before .pre .0 .visits .few)) (c .before .before .fill-groups .ensures .0) _ _ (omega (arith, length-replicate {A = ℕ} 1024 0, c .before .before .before .before .before .before .before .before .before .before .before .before .before .before .pre .0 .visits .few)) (c .before .before .fill-groups .ensures .1))
 
--- src/dependencies.rt:191:9
+-- src/dependencies.rt:218:9
 returns : tie.Need-returns
 returns c = built-refused _ _ _ _ _ _ _ _ (c .before .count-dependencies .ensures) (c .if1 .taken)
 
--- src/dependencies.rt:193:5
+-- src/dependencies.rt:220:5
 fill-rows-requires : tie.Need-fill-rows-requires
-fill-rows-requires c κs = search needs
+fill-rows-requires c κs = ((c .before .before .before .before .before .before .before .before .before .before .before .before .before .before .before .before .before .before .before .before .before .before .before .pre .0, groups-filled _ _ _ _ (omega (arith, length-replicate {A = ℕ} 1024 0, c .before .before .before .before .before .before .before .before .before .before .before .before .before .before .before .before .before .before .before .before .before .before .before .pre .0 .visits .few)) (c .before .before .before .before .before .before .before .before .before .before .before .fill-groups .ensures .0) _ _ (omega (arith, length-replicate {A = ℕ} 1024 0, c .before .before .before .before .before .before .before .before .before .before .before .before .before .before .before .before .before .before .before .before .before .before .before .pre .0 .visits .few)) (c .before .before .before .before .before .before .before .before .before .before .before .fill-groups .ensures .1)), search needs)
 
--- src/dependencies.rt:172:1
+-- src/dependencies.rt:196:1
 same-length : tie.Need-same-length
 same-length c = search needs
 
--- src/dependencies.rt:172:1
+-- src/dependencies.rt:196:1
 same-length-2 : tie.Need-same-length-2
 same-length-2 c = search needs
 
--- src/dependencies.rt:172:1
+-- src/dependencies.rt:196:1
 same-length-3 : tie.Need-same-length-3
 same-length-3 c = search needs
 
--- src/dependencies.rt:172:1
+-- src/dependencies.rt:196:1
 same-length-4 : tie.Need-same-length-4
 same-length-4 c = search needs
 
--- src/dependencies.rt:172:1
+-- src/dependencies.rt:196:1
 same-length-5 : tie.Need-same-length-5
 same-length-5 c = search needs
 
--- src/dependencies.rt:172:1
+-- src/dependencies.rt:196:1
 returns-2 : tie.Need-returns-2
-returns-2 c = built-done _ _ _ _ _ _ _ _ (c .before .before .before .before .before .before .before .before .before .before .before .before .before .before .before .before .before .count-dependencies .ensures) _ (c .before .before .before .before .before .before .before .before .before .before .before .before .before .before .before .before .if1 .left) (c .before .before .before .before .before .before .before .before .before .before .fill-rows .ensures)
+returns-2 c = built-done _ _ _ _ _ _ _ _ (c .before .before .before .before .before .before .before .before .before .before .before .before .before .before .before .before .before .before .before .count-dependencies .ensures) _ (c .before .before .before .before .before .before .before .before .before .before .before .before .before .before .before .before .before .before .if1 .left) (c .before .before .before .before .before .before .before .before .before .before .fill-rows .ensures)
 
 pub build-spec : {M : Type 1} → statement M
 build-spec =
     tie.close
     (tie.spec
+    fill-groups-requires
     count-dependencies-requires
     returns
     fill-rows-requires

@@ -1,12 +1,14 @@
 -- The counter is the number of stops before w that follow v.
 use borrow.Author.Needs.{needs}
-use Prim.Native.Nat.{_-_, _≤_}
-use mathlib.Core.Path.{_≡_, sym, _∙_}
+use Prim.Native.Nat.{_-_, _≤_, _<_}
+use mathlib.Core.Path.{_≡_, refl, sym, _∙_}
 use mathlib.Core.Logic.{⊎-elim}
 use native.Mathlib.Omega.{arith}
 use Rattle.below.specs.Below.{countBelow, at}
-use Rattle.below.proofs.Count.{count-start, count-hit, count-miss, count-end}
+use Rattle.below.proofs.Count.{count-hit, count-miss, count-end}
 use Rattle.plan.specs.Dependencies.{follows}
+use Rattle.plan.proofs.SharingLaws.{walk-from, walk-within, walk-past}
+use Rattle.plan.proofs.ColumnsLaws.{row-few, count-start-at, count-more-at}
 use Rattle.plan.proofs.dependencies.count_row.Statement.{statement}
 use Rattle.plan.proofs.dependencies.count_row.Tie as tie
 use Rattle.plan.proofs.dependencies.count_row.Reads as reads
@@ -14,40 +16,60 @@ use Rattle.plan.proofs.dependencies.count_row.Lts as lts
 use Rattle.plan.proofs.dependencies.follows_at.Reads as follows-at-reads
 
 abbrev Inv-loop : tie.InvT-loop
-Inv-loop owners locations times n v c₀ w₀ c w = (w ≤ n) × (c ≡ countBelow w (follows (at owners) (at locations) (at times) v)) × (c ≤ w)
+Inv-loop owners locations times n first next v c₀ w₀ c w = (w ≤ n) × (c ≡ countBelow w (follows (at owners) (at locations) (at times) v)) × (w < n → at locations w ≡ at locations v)
 
 abbrev μ-loop : tie.MeasureT-loop
-μ-loop owners locations times n v c₀ w₀ c w = n - w
+μ-loop owners locations times n first next v c₀ w₀ c w = n - w
 
--- src/dependencies.rt:66:5
+-- src/dependencies.rt:76:17
+mul-w : tie.Need-mul-w Inv-loop μ-loop
+mul-w c = omega (arith, c .before .before .before .pre .0 .few)
+
+-- src/dependencies.rt:76:17
+element-copy-out-w : tie.Need-element-copy-out-w Inv-loop μ-loop
+element-copy-out-w c = omega (arith, c .before .before .before .pre .0 .few)
+
+-- src/dependencies.rt:76:17
+cast-w : tie.Need-cast-w Inv-loop μ-loop
+cast-w c = omega (arith, c .before .before .before .before .pre .0 .few, walk-from _ _ _ _ (c .before .before .before .before .pre .1) (c .before .before .before .before .args .v) (c .before .before .before .before .pre .2))
+
+-- src/dependencies.rt:77:5
 loop-holds : tie.Need-loop-holds Inv-loop μ-loop
-loop-holds c = (search needs, sym (count-start _), search needs)
+loop-holds c = count-start-at _ _ _ _ _ _ _ (c .before .before .before .before .pre .1) _ (c .before .before .before .before .pre .2) refl
 
--- src/dependencies.rt:67:12
+-- src/dependencies.rt:78:12
 follows-at-requires : tie.Need-follows-at-requires Inv-loop μ-loop
 follows-at-requires c κs = search needs
 
--- src/dependencies.rt:68:13
+-- src/dependencies.rt:79:13
 add-c : tie.Need-add-c Inv-loop μ-loop
-add-c c = search needs
+add-c c = omega (arith, row-few _ _ _ (c .before .before .before .loop .inv .1), c .before .before .before .before .before .before .before .before .pre .0 .few)
 
--- src/dependencies.rt:70:9
-add-w : tie.Need-add-w Inv-loop μ-loop
-add-w c = search needs
+-- src/dependencies.rt:81:13
+mul-w-2 : tie.Need-mul-w-2 Inv-loop μ-loop
+mul-w-2 c = omega (arith, c .before .before .before .before .before .before .before .before .pre .0 .few)
 
--- src/dependencies.rt:66:5
+-- src/dependencies.rt:81:13
+element-copy-out-w-2 : tie.Need-element-copy-out-w-2 Inv-loop μ-loop
+element-copy-out-w-2 c = omega (arith, c .before .before .before .before .before .before .before .before .pre .0 .few)
+
+-- src/dependencies.rt:81:13
+cast-w-2 : tie.Need-cast-w-2 Inv-loop μ-loop
+cast-w-2 c = omega (arith, c .before .before .before .before .before .before .before .before .before .pre .0 .few, walk-within _ _ _ _ (c .before .before .before .before .before .before .before .before .before .pre .1) (c .before .before .before .before .loop .w) (c .before .before .before .loop-test .taken))
+
+-- src/dependencies.rt:77:5
 loop-less : tie.Need-loop-less Inv-loop μ-loop
-loop-less c = search needs
+loop-less c = omega (arith, walk-past _ _ _ _ (c .before .before .before .before .before .before .before .before .before .pre .1) (c .before .before .before .before .loop .w) _ (c .before .before .before .loop-test .taken) refl, c .before .before .before .loop-test .taken)
 
--- src/dependencies.rt:66:5
+-- src/dependencies.rt:77:5
 loop-again : tie.Need-loop-again Inv-loop μ-loop
-loop-again c =
-    ⊎-elim
-    (λ w. (omega arith, w .1 ∙ count-hit _ _ _ (c .before .before .before .loop .inv .1) (sym (c .before .follows-at .ensures) ∙ w .0 .taken), omega arith))
-    (λ w. (omega arith, w .1 ∙ count-miss _ _ _ (c .before .before .before .loop .inv .1) (sym (c .before .follows-at .ensures) ∙ w .0 .left), omega arith))
-    (c .if1 .came)
+loop-again c = count-more-at _ _ _ _ _ _ _ (c .before .before .before .before .before .before .before .before .before .pre .1) _ _ _ (c .before .before .before .loop-test .taken) (c .before .before .before .before .loop .inv .2 (c .before .before .before .loop-test .taken))
+    (⊎-elim
+    (λ w. w .1 ∙ count-hit _ _ _ (c .before .before .before .before .loop .inv .1) (sym (c .before .before .follows-at .ensures) ∙ w .0 .taken))
+    (λ w. w .1 ∙ count-miss _ _ _ (c .before .before .before .before .loop .inv .1) (sym (c .before .before .follows-at .ensures) ∙ w .0 .left))
+    (c .before .if1 .came)) refl
 
--- src/dependencies.rt:60:1
+-- src/dependencies.rt:63:1
 returns : tie.Need-returns Inv-loop μ-loop
 returns c = count-end _ _ _ _ (c .before .loop .inv .0) (c .loop-test .left) (c .before .loop .inv .1)
 
@@ -57,10 +79,15 @@ count-row-spec =
     (tie.spec
     Inv-loop
     μ-loop
+    mul-w
+    element-copy-out-w
+    cast-w
     loop-holds
     follows-at-requires
     add-c
-    add-w
+    mul-w-2
+    element-copy-out-w-2
+    cast-w-2
     loop-less
     loop-again
     returns)

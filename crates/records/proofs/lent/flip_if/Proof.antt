@@ -1,7 +1,7 @@
 -- `records::lent::flip_if` meets its contract: the needs that the derivation of Derived.flip_if leaves. Assumes nothing.
 mod Tie
 use native.Mathlib.Omega.{arith}
-use Rattle.records.proofs.Copies.{flip-here, flip-past, flip-none}
+use Rattle.records.proofs.Flips.{flip-here, flip-past, flip-none}
 use borrow.Author.Needs.{needs}
 use Rattle.records.proofs.lent.flip_if.Statement.{statement}
 use Rattle.records.proofs.lent.flip_if.Proof.Tie as tie

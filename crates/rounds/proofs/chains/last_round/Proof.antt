@@ -37,20 +37,16 @@ add-v : tie.Need-add-v
 add-v c = search needs
 
 -- src/chains.rt:62:10
-mul-wide-3 : tie.Need-mul-wide-3
-mul-wide-3 c = search needs
+mul-result : tie.Need-mul-result
+mul-result c = search needs
 
 -- src/chains.rt:62:10
-element-copy-out-wide-3 : tie.Need-element-copy-out-wide-3
-element-copy-out-wide-3 c = search needs
-
--- src/chains.rt:62:5
-wide-requires-3 : tie.Need-wide-requires-3
-wide-requires-3 c κs = search needs
+element-copy-out-result : tie.Need-element-copy-out-result
+element-copy-out-result c = search needs
 
 -- src/chains.rt:57:1
 returns : tie.Need-returns
-returns c = c .wide3 .ensures .0 ∙ ap (at (c .before .before .before .before .before .before .args .table .now)) (ap (λ (x : ℕ). x + c .before .before .wide2 .result) (c .before .before .before .before .wide .ensures .0) ∙ ap (λ (x : ℕ). at (c .before .before .before .before .before .before .args .starts .now) (c .before .before .before .before .before .before .args .d) + x) (c .before .before .wide2 .ensures .0))
+returns c = ap (at (c .before .before .before .before .before .args .table .now)) (ap (λ (x : ℕ). x + c .before .wide2 .result) (c .before .before .before .wide .ensures .0) ∙ ap (λ (x : ℕ). at (c .before .before .before .before .before .args .starts .now) (c .before .before .before .before .before .args .d) + x) (c .before .wide2 .ensures .0))
 
 pub last-round-spec : {M : Type 1} → statement M
 last-round-spec =
@@ -63,7 +59,6 @@ last-round-spec =
     element-copy-out-wide-2
     wide-requires-2
     add-v
-    mul-wide-3
-    element-copy-out-wide-3
-    wide-requires-3
+    mul-result
+    element-copy-out-result
     returns)

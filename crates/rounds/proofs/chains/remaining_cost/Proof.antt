@@ -1,6 +1,8 @@
+use Prim.Native.Nat.{ℕ}
+use lib.ListN.{length-replicate}
+use Rattle.below.proofs.Index.{zeros-at}
 use mathlib.Core.Path.{refl, _∙_}
 use Rattle.rounds.proofs.Readiness.{last-in, last-small, last-sum}
-use borrow.Author.Needs.{needs}
 use Rattle.rounds.proofs.chains.remaining_cost.Statement.{statement}
 use Rattle.rounds.proofs.chains.remaining_cost.Tie as tie
 use Rattle.rounds.proofs.chains.remaining_cost.Reads as reads
@@ -10,15 +12,15 @@ use Rattle.rounds.proofs.chains.stop_rounds.Reads as stop-rounds-reads
 
 -- src/chains.rt:182:17
 stop-rounds-requires : tie.Need-stop-rounds-requires
-stop-rounds-requires c κs = search needs
+stop-rounds-requires c κs = (c .before .before .before .pre, (length-replicate {A = ℕ} 1024 0, zeros-at 1024))
 
 -- src/chains.rt:183:5
 last-rounds-requires : tie.Need-last-rounds-requires
-last-rounds-requires c κs = (c .before .before .before .before .pre .tables .few-drones, last-in _ _ _ _ _ _ _ _ _ (c .before .before .before .before .pre) _ (c .before .stop-rounds .ensures), last-small _ _ _ _ _ _ _ _ _ (c .before .before .before .before .pre) _ (c .before .stop-rounds .ensures))
+last-rounds-requires c κs = (c .before .before .before .before .before .pre .tables .few-drones, last-in _ _ _ _ _ _ _ _ _ (c .before .before .before .before .before .pre) _ (c .before .stop-rounds .ensures), last-small _ _ _ _ _ _ _ _ _ (c .before .before .before .before .before .pre) _ (c .before .stop-rounds .ensures))
 
 -- src/chains.rt:168:1
 returns : tie.Need-returns
-returns c = c .last-rounds .ensures ∙ last-sum _ _ _ _ _ _ _ _ _ (c .before .before .before .before .before .pre) _ (c .before .before .stop-rounds .ensures)
+returns c = c .last-rounds .ensures ∙ last-sum _ _ _ _ _ _ _ _ _ (c .before .before .before .before .before .before .pre) _ (c .before .before .stop-rounds .ensures)
 
 pub remaining-cost-spec : {M : Type 1} → statement M
 remaining-cost-spec = tie.close (tie.spec stop-rounds-requires last-rounds-requires returns)

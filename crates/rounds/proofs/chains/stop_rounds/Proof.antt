@@ -1,6 +1,5 @@
 use Prim.Native.Nat.{ℕ}
 use lib.ListN.{length-replicate}
-use Rattle.below.proofs.Index.{zeros-at}
 use Rattle.rounds.proofs.Readiness.{ready-stand, ready-begun, ready-table}
 use Rattle.rounds.proofs.chains.stop_rounds.Statement.{statement}
 use Rattle.rounds.proofs.chains.stop_rounds.Tie as tie
@@ -11,15 +10,15 @@ use Rattle.rounds.proofs.chains.at_visited.Reads as at-visited-reads
 
 -- src/chains.rt:50:5
 at-visited-requires : tie.Need-at-visited-requires
-at-visited-requires c κs = (c .before .before .before .pre .tables .few-drones, c .before .before .before .pre .has-visited, ready-stand _ _ _ _ _ _ _ _ _ (c .before .before .before .pre), length-replicate {A = ℕ} 32 0)
+at-visited-requires c κs = (c .before .before .before .pre .0 .tables .few-drones, c .before .before .before .pre .0 .has-visited, ready-stand _ _ _ _ _ _ _ _ _ (c .before .before .before .pre .0), length-replicate {A = ℕ} 32 0)
 
 -- src/chains.rt:52:5
 walk-requires : tie.Need-walk-requires
-walk-requires c κs = ((c .before .before .before .before .before .before .pre .tables, ready-begun _ _ _ _ _ _ _ _ _ (c .before .before .before .before .before .before .pre) _ (c .before .before .at-visited .ensures .0) (c .before .before .at-visited .ensures .1)), (length-replicate {A = ℕ} 1024 0, zeros-at 1024))
+walk-requires c κs = ((c .before .before .before .before .before .before .pre .0 .tables, ready-begun _ _ _ _ _ _ _ _ _ (c .before .before .before .before .before .before .pre .0) _ (c .before .before .at-visited .ensures .0) (c .before .before .at-visited .ensures .1)), c .before .before .before .before .before .before .pre .1)
 
 -- src/chains.rt:35:1
 returns : tie.Need-returns
-returns c = ready-table _ _ _ _ _ _ _ _ _ (c .before .before .before .before .before .before .before .pre) _ (c .before .before .before .at-visited .ensures .0) (c .before .before .before .at-visited .ensures .1) _ _ _ (c .walk .ensures)
+returns c = ready-table _ _ _ _ _ _ _ _ _ (c .before .before .before .before .before .before .before .pre .0) _ (c .before .before .before .at-visited .ensures .0) (c .before .before .before .at-visited .ensures .1) _ _ _ (c .walk .ensures)
 
 pub stop-rounds-spec : {M : Type 1} → statement M
 stop-rounds-spec = tie.close (tie.spec at-visited-requires walk-requires returns)

@@ -1,26 +1,25 @@
+use Prim.Native.Nat.{_+_}
+use mathlib.Core.Path.{sym, ap}
+use mathlib.Core.Bool.{Bool}
 use native.Mathlib.Omega.{arith}
-use Rattle.rounds.proofs.OneRound.{after-marked, after-finished, after-moved}
-use borrow.Author.Needs.{needs}
+use borrow.Author.Tests.{eq-eqb, ne-eqb}
+use Rattle.below.specs.Below.{pick}
 use Rattle.rounds.proofs.playing.place_after.Statement.{statement}
 use Rattle.rounds.proofs.playing.place_after.Tie as tie
 use Rattle.rounds.proofs.playing.place_after.Reads as reads
 use Rattle.rounds.proofs.playing.place_after.Lts as lts
 
--- src/playing.rt:77:9
+-- src/playing.rt:116:9
 returns : tie.Need-returns
-returns c = after-marked _ _ _ (c .if1 .taken)
+returns c = sym (ap (λ (b : Bool). pick b (c .before .args .place) (c .before .args .place + 1)) (eq-eqb (c .before .args .moves) 0 (c .if1 .taken)))
 
--- src/playing.rt:80:9
-returns-2 : tie.Need-returns-2
-returns-2 c = after-finished _ _ _ (c .if2 .taken)
-
--- src/playing.rt:82:5
+-- src/playing.rt:118:5
 add-result : tie.Need-add-result
-add-result c = search needs
+add-result c = omega (arith, c .before .pre (c .if1 .left))
 
--- src/playing.rt:73:1
-returns-3 : tie.Need-returns-3
-returns-3 c = after-moved _ _ _ (c .before .if1 .left) (c .if2 .left)
+-- src/playing.rt:111:1
+returns-2 : tie.Need-returns-2
+returns-2 c = sym (ap (λ (b : Bool). pick b (c .before .args .place) (c .before .args .place + 1)) (ne-eqb (c .before .args .moves) 0 (c .if1 .left)))
 
 pub place-after-spec : {M : Type 1} → statement M
-place-after-spec = tie.close (tie.spec returns returns-2 add-result returns-3)
+place-after-spec = tie.close (tie.spec returns add-result returns-2)

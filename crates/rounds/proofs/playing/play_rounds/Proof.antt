@@ -1,65 +1,68 @@
-use Prim.Native.Nat.{ℕ, _-_, _≤_}
-use mathlib.Core.Path.{_≡_, refl, sym, ap, _∙_}
-use mathlib.Core.List.{List}
+use Prim.Native.Nat.{ℕ}
+use mathlib.Core.Path.{refl, _∙_}
 use native.Mathlib.Omega.{arith}
-use lib.ListN.{length, replicate, length-replicate}
+use lib.ListN.{length-replicate}
 use Rattle.below.specs.Below.{at}
-use Rattle.tables.specs.Limits.{limits}
+use Rattle.below.proofs.Fill.{fill-length, fill-at}
+use Rattle.below.proofs.Index.{zeros-at}
 use Rattle.precedence.specs.Graph.{unvisited}
 use Rattle.cycles.specs.Flat.{flatPlan}
-use Rattle.rounds.specs.Remaining.{Ready}
-use Rattle.below.proofs.Fill.{fill-length, fill-at}
 use Rattle.rounds.proofs.PlayingLoop.{Playing, playing-start, playing-end, playing-early, playing-small, playing-round, playing-less}
-use Rattle.rounds.proofs.Readiness.{ready-formed, ready-acyclic, ready-waits, ready-rounds, ready-cost}
+use Rattle.rounds.proofs.Readiness.{ready-formed, ready-acyclic, ready-rounds, ready-cost}
 use Rattle.rounds.proofs.playing.play_rounds.Statement.{statement}
 use Rattle.rounds.proofs.playing.play_rounds.Tie as tie
 use Rattle.rounds.proofs.playing.play_rounds.Reads as reads
 use Rattle.rounds.proofs.playing.play_rounds.Lts as lts
+use Rattle.cycles.proofs.linking.link.Reads as link-reads
 use Rattle.rounds.proofs.playing.copy_places.Reads as copy-places-reads
 use Rattle.rounds.proofs.playing.play_round.Reads as play-round-reads
 use Rattle.rounds.proofs.playing.unfinished.Reads as unfinished-reads
 
 abbrev Inv-loop : tie.InvT-loop
-Inv-loop owners starts lasts drones n from into m visited places₀ k₀ cost₀ places k cost = Playing (flatPlan (at owners) (at starts) (at lasts) drones (at from) (at into) m) (at visited) 32 places k cost
+Inv-loop owners starts lasts drones n from into m visited head next places₀ k₀ cost₀ places k cost = Playing (flatPlan (at owners) (at starts) (at lasts) drones (at from) (at into) m) (at visited) 32 places k cost
 
 abbrev μ-loop : tie.MeasureT-loop
-μ-loop owners starts lasts drones n from into m visited places₀ k₀ cost₀ places k cost = unvisited (flatPlan (at owners) (at starts) (at lasts) drones (at from) (at into) m) (at places)
+μ-loop owners starts lasts drones n from into m visited head next places₀ k₀ cost₀ places k cost = unvisited (flatPlan (at owners) (at starts) (at lasts) drones (at from) (at into) m) (at places)
 
--- src/playing.rt:159:5
+-- src/playing.rt:202:5
+link-requires : tie.Need-link-requires Inv-loop μ-loop
+link-requires c κs = ((c .before .before .before .before .pre .tables .few-waits, λ k l. omega (arith, c .before .before .before .before .pre .tables .placed .into-in k l, c .before .before .before .before .pre .tables .few-stops)), (length-replicate {A = ℕ} 1024 0, length-replicate {A = ℕ} 2048 0, zeros-at 1024))
+
+-- src/playing.rt:204:5
 copy-places-requires : tie.Need-copy-places-requires Inv-loop μ-loop
-copy-places-requires c κs = (c .before .before .before .pre .tables .few-drones, c .before .before .before .pre .has-visited, refl)
+copy-places-requires c κs = (c .before .before .before .before .before .before .pre .tables .few-drones, c .before .before .before .before .before .before .pre .has-visited, refl)
 
--- src/playing.rt:162:9
+-- src/playing.rt:207:9
 loop-holds : tie.Need-loop-holds Inv-loop μ-loop
-loop-holds c = playing-start _ (ready-formed _ _ _ _ _ _ _ _ _ (c .before .before .before .before .pre)) (ready-acyclic _ _ _ _ _ _ _ _ _ (c .before .before .before .before .pre)) _ 32 _ (fill-length _ _ _ _ (c .copy-places .ensures) ∙ refl) (fill-at _ _ _ _ (c .copy-places .ensures) (c .before .before .before .before .pre .tables .few-drones))
+loop-holds c = playing-start _ (ready-formed _ _ _ _ _ _ _ _ _ (c .before .before .before .before .before .before .before .pre)) (ready-acyclic _ _ _ _ _ _ _ _ _ (c .before .before .before .before .before .before .before .pre)) _ 32 _ (fill-length _ _ _ _ (c .copy-places .ensures) ∙ refl) (fill-at _ _ _ _ (c .copy-places .ensures) (c .before .before .before .before .before .before .before .pre .tables .few-drones))
 
--- src/playing.rt:163:13
+-- src/playing.rt:208:13
 unfinished-requires : tie.Need-unfinished-requires Inv-loop μ-loop
-unfinished-requires c κs = c .before .before .before .before .before .before .pre .tables .few-drones
+unfinished-requires c κs = c .before .before .before .before .before .before .before .before .before .pre .tables .few-drones
 
--- src/playing.rt:167:9
+-- src/playing.rt:212:9
 add-cost : tie.Need-add-cost Inv-loop μ-loop
-add-cost c = omega (arith, playing-small _ (ready-formed _ _ _ _ _ _ _ _ _ (c .before .before .before .before .before .before .before .before .pre)) (ready-acyclic _ _ _ _ _ _ _ _ _ (c .before .before .before .before .before .before .before .before .pre)) _ (c .before .before .before .loop .inv) (c .before .unfinished .ensures .0) (c .if1 .left), ready-cost _ _ _ _ _ _ _ _ _ (c .before .before .before .before .before .before .before .before .pre))
+add-cost c = omega (arith, playing-small _ (ready-formed _ _ _ _ _ _ _ _ _ (c .before .before .before .before .before .before .before .before .before .before .before .pre)) (ready-acyclic _ _ _ _ _ _ _ _ _ (c .before .before .before .before .before .before .before .before .before .before .before .pre)) _ (c .before .before .before .loop .inv) (c .before .unfinished .ensures .0) (c .if1 .left), ready-cost _ _ _ _ _ _ _ _ _ (c .before .before .before .before .before .before .before .before .before .before .before .pre))
 
--- src/playing.rt:168:9
+-- src/playing.rt:213:9
 play-round-requires : tie.Need-play-round-requires Inv-loop μ-loop
-play-round-requires c κs = (ready-waits _ _ _ _ _ _ _ _ _ (c .before .before .before .before .before .before .before .before .before .pre), c .before .before .before .before .before .before .before .before .before .pre .tables .few-drones, c .before .before .before .before .loop .inv .long)
+play-round-requires c κs = (c .before .before .before .before .before .before .before .before .before .before .before .before .before .before .pre .tables, c .before .before .before .before .before .before .before .before .before .link .ensures, c .before .before .before .before .before .before .loop .inv .long)
 
--- src/playing.rt:169:9
+-- src/playing.rt:216:9
 add-k : tie.Need-add-k Inv-loop μ-loop
-add-k c = omega (arith, playing-early _ (ready-formed _ _ _ _ _ _ _ _ _ (c .before .before .before .before .before .before .before .before .before .before .pre)) (ready-acyclic _ _ _ _ _ _ _ _ _ (c .before .before .before .before .before .before .before .before .before .before .pre)) _ (c .before .before .before .before .before .loop .inv) (c .before .before .before .unfinished .ensures .0) (c .before .before .if1 .left), ready-rounds _ _ _ _ _ _ _ _ _ (c .before .before .before .before .before .before .before .before .before .before .pre))
+add-k c = omega (arith, playing-early _ (ready-formed _ _ _ _ _ _ _ _ _ (c .before .before .before .before .before .before .before .before .before .before .before .before .before .before .before .pre)) (ready-acyclic _ _ _ _ _ _ _ _ _ (c .before .before .before .before .before .before .before .before .before .before .before .before .before .before .before .pre)) _ (c .before .before .before .before .before .before .before .loop .inv) (c .before .before .before .before .before .unfinished .ensures .0) (c .before .before .before .before .if1 .left), ready-rounds _ _ _ _ _ _ _ _ _ (c .before .before .before .before .before .before .before .before .before .before .before .before .before .before .before .pre))
 
--- src/playing.rt:162:9
+-- src/playing.rt:207:9
 loop-less : tie.Need-loop-less Inv-loop μ-loop
-loop-less c = playing-less _ (ready-formed _ _ _ _ _ _ _ _ _ (c .before .before .before .before .before .before .before .before .before .before .pre)) (ready-acyclic _ _ _ _ _ _ _ _ _ (c .before .before .before .before .before .before .before .before .before .before .pre)) _ (c .before .before .before .before .before .loop .inv) (c .before .before .before .unfinished .ensures .0) (c .before .before .if1 .left) (c .play-round .last .1 .1 .1 .1 .1 .1 .1 .0) (c .play-round .ensures .0) (c .play-round .ensures .1)
+loop-less c = playing-less _ (ready-formed _ _ _ _ _ _ _ _ _ (c .before .before .before .before .before .before .before .before .before .before .before .before .before .before .before .pre)) (ready-acyclic _ _ _ _ _ _ _ _ _ (c .before .before .before .before .before .before .before .before .before .before .before .before .before .before .before .pre)) _ (c .before .before .before .before .before .before .before .loop .inv) (c .before .before .before .before .before .unfinished .ensures .0) (c .before .before .before .before .if1 .left) (c .play-round .last .1 .1 .1 .1 .1 .1 .1 .1 .1 .1 .0) (c .play-round .ensures .0) (c .play-round .ensures .1)
 
--- src/playing.rt:162:9
+-- src/playing.rt:207:9
 loop-again : tie.Need-loop-again Inv-loop μ-loop
-loop-again c = playing-round _ (ready-formed _ _ _ _ _ _ _ _ _ (c .before .before .before .before .before .before .before .before .before .before .pre)) (ready-acyclic _ _ _ _ _ _ _ _ _ (c .before .before .before .before .before .before .before .before .before .before .pre)) _ (c .before .before .before .before .before .loop .inv) (c .before .before .before .unfinished .ensures .0) (c .before .before .if1 .left) _ (c .play-round .ensures .0) (c .play-round .ensures .1)
+loop-again c = playing-round _ (ready-formed _ _ _ _ _ _ _ _ _ (c .before .before .before .before .before .before .before .before .before .before .before .before .before .before .before .pre)) (ready-acyclic _ _ _ _ _ _ _ _ _ (c .before .before .before .before .before .before .before .before .before .before .before .before .before .before .before .pre)) _ (c .before .before .before .before .before .before .before .loop .inv) (c .before .before .before .before .before .unfinished .ensures .0) (c .before .before .before .before .if1 .left) _ (c .play-round .ensures .0) (c .play-round .ensures .1)
 
--- src/playing.rt:144:1
+-- src/playing.rt:186:1
 returns : tie.Need-returns Inv-loop μ-loop
-returns c = playing-end _ (ready-formed _ _ _ _ _ _ _ _ _ (c .before .before .before .before .before .before .before .before .pre)) (ready-acyclic _ _ _ _ _ _ _ _ _ (c .before .before .before .before .before .before .before .before .pre)) _ (c .before .before .before .loop .inv) (c .before .unfinished .ensures .0) (c .if1 .taken)
+returns c = playing-end _ (ready-formed _ _ _ _ _ _ _ _ _ (c .before .before .before .before .before .before .before .before .before .before .before .pre)) (ready-acyclic _ _ _ _ _ _ _ _ _ (c .before .before .before .before .before .before .before .before .before .before .before .pre)) _ (c .before .before .before .loop .inv) (c .before .unfinished .ensures .0) (c .if1 .taken)
 
 pub play-rounds-spec : {M : Type 1} → statement M
 play-rounds-spec =
@@ -67,6 +70,7 @@ play-rounds-spec =
     (tie.spec
     Inv-loop
     μ-loop
+    link-requires
     copy-places-requires
     loop-holds
     unfinished-requires

@@ -1,51 +1,55 @@
-use Prim.Native.Nat.{_-_, _≤_}
-use Rattle.sound.proofs.Asking.{ZeroTo, zero-start, zero-more, zero-end, zero-not}
 use borrow.Author.Needs.{needs}
-use Prim.Native.Nat.{_-_, _≤_}
+use Prim.Native.Nat.{_-_}
+use mathlib.Core.Path.{refl}
 use native.Mathlib.Omega.{arith}
-use Rattle.sound.proofs.Asking.{ZeroTo, zero-start, zero-more, zero-end, zero-not}
+use Rattle.sound.proofs.Asking.{NonZero, nonzero-start, nonzero-more, nonzero-end}
 use Rattle.sound.proofs.unused.zero_u32.Statement.{statement}
 use Rattle.sound.proofs.unused.zero_u32.Tie as tie
 use Rattle.sound.proofs.unused.zero_u32.Reads as reads
 use Rattle.sound.proofs.unused.zero_u32.Lts as lts
+use Rattle.sound.proofs.unused.one.Reads as one-reads
 
 abbrev Inv-loop : tie.InvT-loop
-Inv-loop used full table i₀ i = (used ≤ i) × ZeroTo used full table i
+Inv-loop used full table total₀ i₀ total i = NonZero used full table i total
 
 abbrev μ-loop : tie.MeasureT-loop
-μ-loop used full table i₀ i = full - i
+μ-loop used full table total₀ i₀ total i = full - i
 
--- src/unused.rt:45:5
+-- src/unused.rt:51:5
 loop-holds : tie.Need-loop-holds Inv-loop μ-loop
-loop-holds c = (omega arith, zero-start _ _ (c .args .table .now))
+loop-holds c = nonzero-start _ _ (c .before .args .table .now)
 
--- src/unused.rt:46:12
-mul-if1 : tie.Need-mul-if1 Inv-loop μ-loop
-mul-if1 c = search needs
+-- src/unused.rt:52:22
+mul-one : tie.Need-mul-one Inv-loop μ-loop
+mul-one c = search needs
 
--- src/unused.rt:46:12
-shared-slice-read-if1 : tie.Need-shared-slice-read-if1 Inv-loop μ-loop
-shared-slice-read-if1 c = search needs
+-- src/unused.rt:52:22
+shared-slice-read-one : tie.Need-shared-slice-read-one Inv-loop μ-loop
+shared-slice-read-one c = search needs
 
--- src/unused.rt:47:13
-returns : tie.Need-returns Inv-loop μ-loop
-returns c = zero-not _ _ _ _ (c .before .before .before .loop .inv .0) (omega arith) (c .if1 .taken)
+-- src/unused.rt:52:18
+one-requires : tie.Need-one-requires Inv-loop μ-loop
+one-requires c κs = search needs
 
--- src/unused.rt:49:9
+-- src/unused.rt:52:9
+add-total : tie.Need-add-total Inv-loop μ-loop
+add-total c = omega (arith, c .one .ensures .1, c .before .before .before .loop .inv .small, c .before .before .before .before .before .pre .1)
+
+-- src/unused.rt:53:9
 add-i : tie.Need-add-i Inv-loop μ-loop
 add-i c = search needs
 
--- src/unused.rt:45:5
+-- src/unused.rt:51:5
 loop-less : tie.Need-loop-less Inv-loop μ-loop
 loop-less c = search needs
 
--- src/unused.rt:45:5
+-- src/unused.rt:51:5
 loop-again : tie.Need-loop-again Inv-loop μ-loop
-loop-again c = (omega arith, zero-more _ _ (c .before .before .before .before .args .table .now) _ (c .before .before .before .loop .inv .0) (c .before .before .before .loop .inv .1) (c .if1 .left))
+loop-again c = nonzero-more _ _ (c .before .before .before .before .before .args .table .now) _ _ _ _ (c .before .before .loop-test .taken) (c .before .before .before .loop .inv) refl (c .one .ensures .0)
 
--- src/unused.rt:40:1
-returns-2 : tie.Need-returns-2 Inv-loop μ-loop
-returns-2 c = zero-end _ _ _ _ (omega arith) (c .before .loop .inv .1)
+-- src/unused.rt:45:1
+returns : tie.Need-returns Inv-loop μ-loop
+returns c = nonzero-end _ _ (c .before .before .before .args .table .now) _ _ (omega arith) (c .before .loop .inv)
 
 pub zero-u32-spec : {M : Type 1} → statement M
 zero-u32-spec =
@@ -54,10 +58,11 @@ zero-u32-spec =
     Inv-loop
     μ-loop
     loop-holds
-    mul-if1
-    shared-slice-read-if1
-    returns
+    mul-one
+    shared-slice-read-one
+    one-requires
+    add-total
     add-i
     loop-less
     loop-again
-    returns-2)
+    returns)

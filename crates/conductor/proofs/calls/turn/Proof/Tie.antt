@@ -5,18 +5,18 @@ use Rattle.conductor.proofs.Derived.turn.Kinds
 use Rattle.conductor.proofs.Derived.turn.Lts
 use Rattle.conductor.proofs.Derived.turn.Reads
 use Rattle.conductor.proofs.calls.turn.Statement
-use Rattle.conductor.proofs.cores.is_turned.Met
-use Rattle.conductor.proofs.cores.is_turned.Reads as Reads'
-use Rattle.conductor.proofs.cores.is_turned.Symbol
-use Rattle.conductor.proofs.cores.turn_records.Met as Met'
-use Rattle.conductor.proofs.cores.turn_records.Reads as Reads''
-use Rattle.conductor.proofs.cores.turn_records.Symbol as Symbol'
+use Rattle.conductor.proofs.changes.is_turned.Met
+use Rattle.conductor.proofs.changes.is_turned.Reads as Reads'
+use Rattle.conductor.proofs.changes.is_turned.Symbol
+use Rattle.flat.proofs.calls.turn.Met as Met'
+use Rattle.flat.proofs.calls.turn.Reads as Reads''
+use Rattle.flat.proofs.calls.turn.Symbol as Symbol'
 use Rattle.records.proofs.lent.flip_if.Met as Met''
 use Rattle.records.proofs.Derived.flip_if.Reads as Reads'3
 use Rattle.records.proofs.lent.flip_if.Symbol as Symbol''
-use Rattle.records.proofs.lent.records.Met as Met'3
-use Rattle.records.proofs.Derived.records.Reads as Reads'4
-use Rattle.records.proofs.lent.records.Symbol as Symbol'3
+use Rattle.records.proofs.lent.spread.Met as Met'3
+use Rattle.records.proofs.Derived.spread.Reads as Reads'4
+use Rattle.records.proofs.lent.spread.Symbol as Symbol'3
 use borrow.Fn.Run
 use borrow.Fn.Written
 use contract.Running
@@ -129,8 +129,8 @@ After-shared-slice-known8 = Lts.After-shared-slice-known8 (
   Reads'3.Learnt,
 ) Reads.Pre Reads.Post
 
-abbrev pub After-records-arg : Type 0
-After-records-arg = Lts.After-records-arg (
+abbrev pub After-spread-arg : Type 0
+After-spread-arg = Lts.After-spread-arg (
   Reads'4.Asked,
   Reads'4.Learnt,
   Reads''.Asked,
@@ -141,8 +141,8 @@ After-records-arg = Lts.After-records-arg (
   Reads'3.Learnt,
 ) Reads.Pre Reads.Post
 
-abbrev pub After-records : Type 0
-After-records = Lts.After-records (
+abbrev pub After-first-drones : Type 0
+After-first-drones = Lts.After-first-drones (
   Reads'4.Asked,
   Reads'4.Learnt,
   Reads''.Asked,
@@ -153,8 +153,224 @@ After-records = Lts.After-records (
   Reads'3.Learnt,
 ) Reads.Pre Reads.Post
 
-abbrev pub After-turn-records : Type 0
-After-turn-records = Lts.After-turn-records (
+abbrev pub After-first-stops : Type 0
+After-first-stops = Lts.After-first-stops (
+  Reads'4.Asked,
+  Reads'4.Learnt,
+  Reads''.Asked,
+  Reads''.Learnt,
+  Reads'.Asked,
+  Reads'.Learnt,
+  Reads'3.Asked,
+  Reads'3.Learnt,
+) Reads.Pre Reads.Post
+
+abbrev pub After-second-drones : Type 0
+After-second-drones = Lts.After-second-drones (
+  Reads'4.Asked,
+  Reads'4.Learnt,
+  Reads''.Asked,
+  Reads''.Learnt,
+  Reads'.Asked,
+  Reads'.Learnt,
+  Reads'3.Asked,
+  Reads'3.Learnt,
+) Reads.Pre Reads.Post
+
+abbrev pub After-second-stops : Type 0
+After-second-stops = Lts.After-second-stops (
+  Reads'4.Asked,
+  Reads'4.Learnt,
+  Reads''.Asked,
+  Reads''.Learnt,
+  Reads'.Asked,
+  Reads'.Learnt,
+  Reads'3.Asked,
+  Reads'3.Learnt,
+) Reads.Pre Reads.Post
+
+abbrev pub After-flags : Type 0
+After-flags = Lts.After-flags (
+  Reads'4.Asked,
+  Reads'4.Learnt,
+  Reads''.Asked,
+  Reads''.Learnt,
+  Reads'.Asked,
+  Reads'.Learnt,
+  Reads'3.Asked,
+  Reads'3.Learnt,
+) Reads.Pre Reads.Post
+
+abbrev pub After-spread : Type 0
+After-spread = Lts.After-spread (
+  Reads'4.Asked,
+  Reads'4.Learnt,
+  Reads''.Asked,
+  Reads''.Learnt,
+  Reads'.Asked,
+  Reads'.Learnt,
+  Reads'3.Asked,
+  Reads'3.Learnt,
+) Reads.Pre Reads.Post
+
+abbrev pub At-match-keys1 : Type 0
+At-match-keys1 = Lts.At-match-keys1 (
+  Reads'4.Asked,
+  Reads'4.Learnt,
+  Reads''.Asked,
+  Reads''.Learnt,
+  Reads'.Asked,
+  Reads'.Learnt,
+  Reads'3.Asked,
+  Reads'3.Learnt,
+) Reads.Pre Reads.Post
+
+abbrev pub After-enum-told : Type 0
+After-enum-told = Lts.After-enum-told (
+  Reads'4.Asked,
+  Reads'4.Learnt,
+  Reads''.Asked,
+  Reads''.Learnt,
+  Reads'.Asked,
+  Reads'.Learnt,
+  Reads'3.Asked,
+  Reads'3.Learnt,
+) Reads.Pre Reads.Post
+
+abbrev pub At-match-keys2 : Type 0
+At-match-keys2 = Lts.At-match-keys2 (
+  Reads'4.Asked,
+  Reads'4.Learnt,
+  Reads''.Asked,
+  Reads''.Learnt,
+  Reads'.Asked,
+  Reads'.Learnt,
+  Reads'3.Asked,
+  Reads'3.Learnt,
+) Reads.Pre Reads.Post
+
+abbrev pub After-enum-told2 : Type 0
+After-enum-told2 = Lts.After-enum-told2 (
+  Reads'4.Asked,
+  Reads'4.Learnt,
+  Reads''.Asked,
+  Reads''.Learnt,
+  Reads'.Asked,
+  Reads'.Learnt,
+  Reads'3.Asked,
+  Reads'3.Learnt,
+) Reads.Pre Reads.Post
+
+abbrev pub At-match-keys3 : Type 0
+At-match-keys3 = Lts.At-match-keys3 (
+  Reads'4.Asked,
+  Reads'4.Learnt,
+  Reads''.Asked,
+  Reads''.Learnt,
+  Reads'.Asked,
+  Reads'.Learnt,
+  Reads'3.Asked,
+  Reads'3.Learnt,
+) Reads.Pre Reads.Post
+
+abbrev pub After-enum-told3 : Type 0
+After-enum-told3 = Lts.After-enum-told3 (
+  Reads'4.Asked,
+  Reads'4.Learnt,
+  Reads''.Asked,
+  Reads''.Learnt,
+  Reads'.Asked,
+  Reads'.Learnt,
+  Reads'3.Asked,
+  Reads'3.Learnt,
+) Reads.Pre Reads.Post
+
+abbrev pub After-first-drones2 : Type 0
+After-first-drones2 = Lts.After-first-drones2 (
+  Reads'4.Asked,
+  Reads'4.Learnt,
+  Reads''.Asked,
+  Reads''.Learnt,
+  Reads'.Asked,
+  Reads'.Learnt,
+  Reads'3.Asked,
+  Reads'3.Learnt,
+) Reads.Pre Reads.Post
+
+abbrev pub After-first-stops2 : Type 0
+After-first-stops2 = Lts.After-first-stops2 (
+  Reads'4.Asked,
+  Reads'4.Learnt,
+  Reads''.Asked,
+  Reads''.Learnt,
+  Reads'.Asked,
+  Reads'.Learnt,
+  Reads'3.Asked,
+  Reads'3.Learnt,
+) Reads.Pre Reads.Post
+
+abbrev pub After-second-drones2 : Type 0
+After-second-drones2 = Lts.After-second-drones2 (
+  Reads'4.Asked,
+  Reads'4.Learnt,
+  Reads''.Asked,
+  Reads''.Learnt,
+  Reads'.Asked,
+  Reads'.Learnt,
+  Reads'3.Asked,
+  Reads'3.Learnt,
+) Reads.Pre Reads.Post
+
+abbrev pub After-second-stops2 : Type 0
+After-second-stops2 = Lts.After-second-stops2 (
+  Reads'4.Asked,
+  Reads'4.Learnt,
+  Reads''.Asked,
+  Reads''.Learnt,
+  Reads'.Asked,
+  Reads'.Learnt,
+  Reads'3.Asked,
+  Reads'3.Learnt,
+) Reads.Pre Reads.Post
+
+abbrev pub After-flags2 : Type 0
+After-flags2 = Lts.After-flags2 (
+  Reads'4.Asked,
+  Reads'4.Learnt,
+  Reads''.Asked,
+  Reads''.Learnt,
+  Reads'.Asked,
+  Reads'.Learnt,
+  Reads'3.Asked,
+  Reads'3.Learnt,
+) Reads.Pre Reads.Post
+
+abbrev pub After-turn : Type 0
+After-turn = Lts.After-turn (
+  Reads'4.Asked,
+  Reads'4.Learnt,
+  Reads''.Asked,
+  Reads''.Learnt,
+  Reads'.Asked,
+  Reads'.Learnt,
+  Reads'3.Asked,
+  Reads'3.Learnt,
+) Reads.Pre Reads.Post
+
+abbrev pub After-flags3 : Type 0
+After-flags3 = Lts.After-flags3 (
+  Reads'4.Asked,
+  Reads'4.Learnt,
+  Reads''.Asked,
+  Reads''.Learnt,
+  Reads'.Asked,
+  Reads'.Learnt,
+  Reads'3.Asked,
+  Reads'3.Learnt,
+) Reads.Pre Reads.Post
+
+abbrev pub At-match-came : Type 0
+At-match-came = Lts.At-match-came (
   Reads'4.Asked,
   Reads'4.Learnt,
   Reads''.Asked,
@@ -213,8 +429,8 @@ After-dependencies = Lts.After-dependencies (
   Reads'3.Learnt,
 ) Reads.Pre Reads.Post
 
-abbrev pub Need-records-requires : Type 0
-Need-records-requires = Lts.Need-records-requires (
+abbrev pub Need-spread-requires : Type 0
+Need-spread-requires = Lts.Need-spread-requires (
   Reads'4.Asked,
   Reads'4.Learnt,
   Reads''.Asked,
@@ -225,8 +441,104 @@ Need-records-requires = Lts.Need-records-requires (
   Reads'3.Learnt,
 ) Reads.Pre Reads.Post
 
-abbrev pub Need-turn-records-requires : Type 0
-Need-turn-records-requires = Lts.Need-turn-records-requires (
+abbrev pub Need-enum-told : Type 0
+Need-enum-told = Lts.Need-enum-told (
+  Reads'4.Asked,
+  Reads'4.Learnt,
+  Reads''.Asked,
+  Reads''.Learnt,
+  Reads'.Asked,
+  Reads'.Learnt,
+  Reads'3.Asked,
+  Reads'3.Learnt,
+) Reads.Pre Reads.Post
+
+abbrev pub Need-enum-told-2 : Type 0
+Need-enum-told-2 = Lts.Need-enum-told-2 (
+  Reads'4.Asked,
+  Reads'4.Learnt,
+  Reads''.Asked,
+  Reads''.Learnt,
+  Reads'.Asked,
+  Reads'.Learnt,
+  Reads'3.Asked,
+  Reads'3.Learnt,
+) Reads.Pre Reads.Post
+
+abbrev pub Need-enum-told-3 : Type 0
+Need-enum-told-3 = Lts.Need-enum-told-3 (
+  Reads'4.Asked,
+  Reads'4.Learnt,
+  Reads''.Asked,
+  Reads''.Learnt,
+  Reads'.Asked,
+  Reads'.Learnt,
+  Reads'3.Asked,
+  Reads'3.Learnt,
+) Reads.Pre Reads.Post
+
+abbrev pub Need-slice-aggregate-turn : Type 0
+Need-slice-aggregate-turn = Lts.Need-slice-aggregate-turn (
+  Reads'4.Asked,
+  Reads'4.Learnt,
+  Reads''.Asked,
+  Reads''.Learnt,
+  Reads'.Asked,
+  Reads'.Learnt,
+  Reads'3.Asked,
+  Reads'3.Learnt,
+) Reads.Pre Reads.Post
+
+abbrev pub Need-slice-aggregate-turn-2 : Type 0
+Need-slice-aggregate-turn-2 = Lts.Need-slice-aggregate-turn-2 (
+  Reads'4.Asked,
+  Reads'4.Learnt,
+  Reads''.Asked,
+  Reads''.Learnt,
+  Reads'.Asked,
+  Reads'.Learnt,
+  Reads'3.Asked,
+  Reads'3.Learnt,
+) Reads.Pre Reads.Post
+
+abbrev pub Need-slice-aggregate-turn-3 : Type 0
+Need-slice-aggregate-turn-3 = Lts.Need-slice-aggregate-turn-3 (
+  Reads'4.Asked,
+  Reads'4.Learnt,
+  Reads''.Asked,
+  Reads''.Learnt,
+  Reads'.Asked,
+  Reads'.Learnt,
+  Reads'3.Asked,
+  Reads'3.Learnt,
+) Reads.Pre Reads.Post
+
+abbrev pub Need-slice-aggregate-turn-4 : Type 0
+Need-slice-aggregate-turn-4 = Lts.Need-slice-aggregate-turn-4 (
+  Reads'4.Asked,
+  Reads'4.Learnt,
+  Reads''.Asked,
+  Reads''.Learnt,
+  Reads'.Asked,
+  Reads'.Learnt,
+  Reads'3.Asked,
+  Reads'3.Learnt,
+) Reads.Pre Reads.Post
+
+abbrev pub Need-slice-aggregate-turn-5 : Type 0
+Need-slice-aggregate-turn-5 = Lts.Need-slice-aggregate-turn-5 (
+  Reads'4.Asked,
+  Reads'4.Learnt,
+  Reads''.Asked,
+  Reads''.Learnt,
+  Reads'.Asked,
+  Reads'.Learnt,
+  Reads'3.Asked,
+  Reads'3.Learnt,
+) Reads.Pre Reads.Post
+
+abbrev pub Need-turn-requires : Type 0
+Need-turn-requires = Lts.Need-turn-requires (
   Reads'4.Asked,
   Reads'4.Learnt,
   Reads''.Asked,
@@ -286,26 +598,10 @@ Need-returns = Lts.Need-returns (
 ) Reads.Pre Reads.Post
 
 module _ {M : Type 1} where
-  pub spec : (answer : Need-records-requires) → (answer : Need-turn-records-requires) → (answer : Need-is-turned-requires) → (answer : Need-flip-if-requires) → (answer : Need-same-length) → (answer : Need-returns) → Lts.Closed (
-    Reads'4.Asked,
-    Reads'4.Learnt,
-    Reads''.Asked,
-    Reads''.Learnt,
-    Reads'.Asked,
-    Reads'.Learnt,
-    Reads'3.Asked,
-    Reads'3.Learnt,
-  ) Reads.Pre Reads.Post M
-  spec = λ answer answer' answer'' answer'3 answer'4 answer'5. Lts.spec (
-    Reads'4.Asked,
-    Reads'4.Learnt,
-    Reads''.Asked,
-    Reads''.Learnt,
-    Reads'.Asked,
-    Reads'.Learnt,
-    Reads'3.Asked,
-    Reads'3.Learnt,
-  ) Reads.Pre Reads.Post answer answer' answer'' answer'3 answer'4 answer'5
+  pub spec : (answer : Need-spread-requires) → (answer : Need-enum-told) → (answer : Need-enum-told-2) → (answer : Need-enum-told-3) → (answer : Need-slice-aggregate-turn) → (answer : Need-slice-aggregate-turn-2) → (answer : Need-slice-aggregate-turn-3) → (answer : Need-slice-aggregate-turn-4) → (answer : Need-slice-aggregate-turn-5) →
+      (answer : Need-turn-requires) → (answer : Need-is-turned-requires) → (answer : Need-flip-if-requires) → (answer : Need-same-length) → (answer : Need-returns) → Lts.Closed (Reads'4.Asked, Reads'4.Learnt, Reads''.Asked, Reads''.Learnt, Reads'.Asked, Reads'.Learnt, Reads'3.Asked, Reads'3.Learnt) Reads.Pre Reads.Post M
+  spec = λ answer answer' answer'' answer'3 answer'4 answer'5 answer'6 answer'7 answer'8 answer'9 answer'10 answer'11 answer'12 answer'13. Lts.spec (Reads'4.Asked, Reads'4.Learnt, Reads''.Asked, Reads''.Learnt, Reads'.Asked, Reads'.Learnt, Reads'3.Asked, Reads'3.Learnt) Reads.Pre Reads.Post answer answer' answer'' answer'3 answer'4 answer'5 answer'6
+      answer'7 answer'8 answer'9 answer'10 answer'11 answer'12 answer'13
 
   pub close : Lts.Closed (
     Reads'4.Asked,
@@ -319,6 +615,6 @@ module _ {M : Type 1} where
   ) Reads.Pre Reads.Post M → Statement.statement M
   unfolding Code.routine Running.tablesOf
   close = λ closed 𝓤 H 𝓜 𝓖 𝓡. Written.close 9 Kinds.ps Kinds.r Reads.Ghost Reads.requires Reads.ensures Reads.pre-read Reads.Pinned Reads.Owned Reads.post-read record { M = M; 𝓤 = 𝓤; H = H; 𝓜 = 𝓜; 𝓖 = 𝓖; 𝓡 = 𝓡 } Code.env Key.name Code.function (Code.unfolded 𝓤 H 𝓜 𝓡) (λ κs a g. tt) (λ κs. Reads.owns κs record { M = M; 𝓤 = 𝓤; H = H; 𝓜 = 𝓜; 𝓖 = 𝓖; 𝓡 = 𝓡 })
-      (Reads.passes record { M = M; 𝓤 = 𝓤; H = H; 𝓜 = 𝓜; 𝓖 = 𝓖; 𝓡 = 𝓡 }) λ g. closed 𝓤 H (𝓖 .A) (Running.givenOf 𝓤 H 𝓜 𝓖) (Run.Over 𝓤 H 𝓜 𝓖 𝓡 Code.env) (Reads'4.known record { M = M; 𝓤 = 𝓤; H = H; 𝓜 = 𝓜; 𝓖 = 𝓖; 𝓡 = 𝓡 } Code.env Symbol'3.name Symbol'3.routine Code.calls-records·lent·records (Met'3.met 𝓤 H 𝓜 𝓖 𝓡)) (Reads''.known
-      record { M = M; 𝓤 = 𝓤; H = H; 𝓜 = 𝓜; 𝓖 = 𝓖; 𝓡 = 𝓡 } Code.env Symbol'.name Symbol'.routine Code.calls-conductor·cores·turn-records (Met'.met 𝓤 H 𝓜 𝓖 𝓡)) (Reads'.known record { M = M; 𝓤 = 𝓤; H = H; 𝓜 = 𝓜; 𝓖 = 𝓖; 𝓡 = 𝓡 } Code.env Symbol.name Symbol.routine Code.calls-conductor·cores·is-turned (Met.met 𝓤 H 𝓜 𝓖 𝓡)) (Reads'3.known
+      (Reads.passes record { M = M; 𝓤 = 𝓤; H = H; 𝓜 = 𝓜; 𝓖 = 𝓖; 𝓡 = 𝓡 }) λ g. closed 𝓤 H (𝓖 .A) (Running.givenOf 𝓤 H 𝓜 𝓖) (Run.Over 𝓤 H 𝓜 𝓖 𝓡 Code.env) (Reads'4.known record { M = M; 𝓤 = 𝓤; H = H; 𝓜 = 𝓜; 𝓖 = 𝓖; 𝓡 = 𝓡 } Code.env Symbol'3.name Symbol'3.routine Code.calls-records·lent·spread (Met'3.met 𝓤 H 𝓜 𝓖 𝓡)) (Reads''.known
+      record { M = M; 𝓤 = 𝓤; H = H; 𝓜 = 𝓜; 𝓖 = 𝓖; 𝓡 = 𝓡 } Code.env Symbol'.name Symbol'.routine Code.calls-flat·calls·turn (Met'.met 𝓤 H 𝓜 𝓖 𝓡)) (Reads'.known record { M = M; 𝓤 = 𝓤; H = H; 𝓜 = 𝓜; 𝓖 = 𝓖; 𝓡 = 𝓡 } Code.env Symbol.name Symbol.routine Code.calls-conductor·changes·is-turned (Met.met 𝓤 H 𝓜 𝓖 𝓡)) (Reads'3.known
       record { M = M; 𝓤 = 𝓤; H = H; 𝓜 = 𝓜; 𝓖 = 𝓖; 𝓡 = 𝓡 } Code.env Symbol''.name Symbol''.routine Code.calls-records·lent·flip-if (Met''.met 𝓤 H 𝓜 𝓖 𝓡))

@@ -1,0 +1,48 @@
+#!/usr/bin/env python3
+"""Large inputs of `field` for measuring: bench/inputs.py STOPS prints one with 32 drones of STOPS stops each.
+
+In every eight stops there is one crossing that all drones pass, each some time after the one before. Where the first crossing can be turned between two neighbouring drones it is turned, so that
+the test of a cycle has work to do; then come grants and arrivals of every drone in turn, and costs, until the input is full."""
+import sys
+
+DRONES, INPUT = 32, 65536
+
+
+def routes(stops):
+    for d in range(DRONES):
+        route = []
+        for k in range(stops):
+            crossing, rest = divmod(k, 8)
+            shared = rest == 4 and k < stops - 1
+            route.append((crossing if shared else 100 + 32 * d + k, 0 if k == 0 else 2000 * crossing + 3 * d + (801 if rest == 5 else 200 * rest)))
+        yield route
+
+
+def dependencies(plan):
+    """The pairs of visits of one location, the earlier first, in the order of the table."""
+    visits = [(d, s, l, t) for d, route in enumerate(plan) for s, (l, t) in enumerate(route)]
+    return [(a, b) for a in visits for b in visits if a[0] != b[0] and a[2] == b[2] and a[3] < b[3]]
+
+
+def main(stops):
+    plan = list(routes(stops))
+    text = "plan=1\nagents=%d\n" % DRONES
+    for d, route in enumerate(plan):
+        text += "name=survey-quad-%d\nstops=%d\n" % (d, stops) + "".join("go=%d@%d\n" % visit for visit in route)
+    text += "end=plan\n"
+    for w, (a, b) in enumerate(dependencies(plan)):
+        if a[1] == 4 and a[0] % 2 == 0 and b[0] == a[0] + 1:
+            text += "turn=%d\n" % w
+    d = 0
+    while True:
+        more = "grant=%d\narrive=%d\n" % (d, d) + ("cost=0\n" if d == DRONES - 1 else "")
+        if len(text) + len(more) > INPUT:
+            return text
+        text += more
+        d = (d + 1) % DRONES
+
+
+if __name__ == "__main__":
+    if len(sys.argv) != 2:
+        sys.exit(__doc__)
+    sys.stdout.write(main(int(sys.argv[1])))

@@ -1,0 +1,76 @@
+/* The field conductor for C and C++: the proved calls of crate `board`, linked from libboard.a (`rt staticlib board`).
+ *
+ * Every table is a pointer and a number of entries. A call asks for no more than this: each pointer is valid for its number of
+ * entries, and no two tables overlap. Tables may be longer than their full size; entries past it are neither read nor written.
+ * Nothing is kept between calls, and no call allocates. docs/REFUSALS.md says what each number means. */
+#ifndef CONDUCTOR_H
+#define CONDUCTOR_H
+#include <stddef.h>
+#include <stdint.h>
+#ifdef __cplusplus
+extern "C" {
+#endif
+
+/* full sizes: a table with fewer entries is refused by 41 */
+enum {
+    CONDUCTOR_DRONES = 32,
+    CONDUCTOR_NAME = 24,
+    CONDUCTOR_NAMES = 768, /* 32 names of 24 bytes, zeros after a name */
+    CONDUCTOR_STOPS = 1024,
+    CONDUCTOR_DEPENDENCIES = 2048,
+    CONDUCTOR_TEXT = 32768
+};
+
+/* a dependency: planned first drone and its stop, planned second drone and its stop; flags: 1 turned, 2 fixed. `reserved` is zero
+ * after a reading; no call looks at it */
+typedef struct {
+    uint16_t first_stop, second_stop;
+    uint8_t first_drone, second_drone, flags, reserved;
+} conductor_dependency;
+
+/* number 0: done. detail: the dependency of a 23, the cost, the rounds, the length of the text; else 0 */
+typedef struct {
+    size_t number, detail;
+} conductor_answer;
+
+/* number 0: taken. 1 to 6 come with an offset, 7 to 9 with a drone and its stop, 10 with two of each; the rest is 0 */
+typedef struct {
+    size_t number, offset, drone, stop, other_drone, other_stop;
+} conductor_read_answer;
+
+/* the nine lent tables, in one order everywhere: drone_count 1 entry, dependency_count 1, names 768, stop_counts 32, locations 1,024,
+ * times 1,024, visited 32, drone_flags 32 (1 under way), dependencies 2,048. C1 to C4: what the call only reads */
+#define CONDUCTOR_TABLES(C1, C2, C3, C4)                                                                                                   \
+    C1 uint16_t *drone_count, size_t drone_count_n, C1 uint16_t *dependency_count, size_t dependency_count_n, C1 uint8_t *names,           \
+        size_t names_n, C1 uint16_t *stop_counts, size_t stop_counts_n, C1 uint16_t *locations, size_t locations_n, C1 uint32_t *times,    \
+        size_t times_n, C2 uint16_t *visited, size_t visited_n, C3 uint8_t *drone_flags, size_t drone_flags_n,                             \
+        C4 conductor_dependency *dependencies, size_t dependencies_n
+#define CONDUCTOR_NOTHING
+
+/* Reads a plan text. 41; 1; 2, 4, 3, 5, 6 by line; 7, 8, 9 by stop; 10; 11. After 41 and 1 the tables are as before, after any other
+ * refusal their full sizes are zeroed */
+conductor_read_answer board_read(const uint8_t *text, size_t text_n,
+                                 CONDUCTOR_TABLES(CONDUCTOR_NOTHING, CONDUCTOR_NOTHING, CONDUCTOR_NOTHING, CONDUCTOR_NOTHING));
+
+/* Writes the plan's text; detail is its length, bytes past it are as before. 41, 40, 42 (buffer unchanged) */
+conductor_answer board_write(uint8_t *buffer, size_t buffer_n, CONDUCTOR_TABLES(const, const, const, const));
+
+/* The drone becomes under way to its next stop. 41, 40, 20, 21, 22, 23 (detail: the lowest dependency unmet) */
+conductor_answer board_grant(CONDUCTOR_TABLES(const, const, CONDUCTOR_NOTHING, const), size_t drone);
+
+/* The drone has come to its next stop. 41, 40, 20, 24 */
+conductor_answer board_arrive(CONDUCTOR_TABLES(const, CONDUCTOR_NOTHING, CONDUCTOR_NOTHING, const), size_t drone);
+
+/* The order of a dependency's two drones is turned round. 41, 40, 30, 31, 32, 34 */
+conductor_answer board_turn(CONDUCTOR_TABLES(const, const, const, CONDUCTOR_NOTHING), size_t dependency);
+
+/* Detail: the drones' remaining rounds, added up. 41, 40 */
+conductor_answer board_cost(CONDUCTOR_TABLES(const, const, const, const));
+
+/* Detail: the undelayed rounds until every drone stands at its last stop. 41, 40 */
+conductor_answer board_rounds(CONDUCTOR_TABLES(const, const, const, const));
+
+#ifdef __cplusplus
+}
+#endif
+#endif

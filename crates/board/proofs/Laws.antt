@@ -1,0 +1,36 @@
+-- From what the wrapped calls say to what C is told. Assumes nothing.
+use mathlib.Core.Path.{_≡_, refl}
+use mathlib.Core.List.{List}
+use Prim.Native.Nat.{ℕ}
+use Rattle.tables.specs.Limits.{Limits}
+use Rattle.tables.specs.Tables.{Tables}
+use Rattle.log.specs.CallLog.{Call, Reply}
+use Rattle.log.specs.Calls.{step, Answered}
+use Rattle.flat.specs.Writing.{Writing, PlanWritten}
+use Rattle.reading.specs.Reading.{AnsweredAs}
+use Rattle.reading.specs.Reading as reading
+use Rattle.reading.specs.declared.replies.Reading.{Reading}
+use Rattle.reading.specs.declared.replies.Reading.the-variants.{Refused}
+use Rattle.reading.specs.declared.replies.Refusal.{Refusal}
+use Rattle.board.specs.declared.answers.Answer.{Answer}
+use Rattle.board.specs.declared.answers.ReadAnswer.{ReadAnswer}
+use Rattle.board.specs.Told.{Says, SaysOfRead, CallTold, PlanTold, ReadTold, answerOf, writeAnswer, refusalAnswer, readAnswer}
+
+pub call-told : (L : Limits) (t : Tables) (c : Call) (m : Reply) (r : Answer) (t′ : Tables) → Answered (step L) t c m t′ → Says r (answerOf m) → CallTold L t c r t′
+call-told L t c m r t′ a e = record { told = rw (a .replied) at e; left = a .left }
+
+-- what a figure's answer says of the call's own is what it says of the definition
+pub figure-told : {A : Type 0} (told : A → Answer) (m n : A) (r : Answer) → m ≡ n → Says r (told m) → Says r (told n)
+figure-told told m n r a e = rw a at e
+
+pub plan-told : (L : Limits) (t : Tables) (before after : List ℕ) (m : Writing) (r : Answer) → PlanWritten L t before after m → Says r (writeAnswer m) → PlanTold L t before after r
+plan-told L t before after m r a e = record { told = rw (a .replied) at e; left = a .left }
+
+pub read-told : (a : reading.Answered) (m : Reading) (r : ReadAnswer) (t : Tables) → AnsweredAs a m t → SaysOfRead r (readAnswer m) → ReadTold a r t
+read-told a m r t s e = record { told = rw (s .replied) at e; left = s .left }
+
+pub refused-told : (x : Reading) (f : Refusal) (r : ReadAnswer) → x ≡ Refused f → SaysOfRead r (refusalAnswer f) → SaysOfRead r (readAnswer x)
+refused-told x f r e s = rw e s
+
+pub same-told : (x y : Refusal) → x ≡ y → SaysOfRead (refusalAnswer y) (refusalAnswer x)
+same-told x y e = rw e record { number-is = refl; offset-is = refl; drone-is = refl; stop-is = refl; other-drone-is = refl; other-stop-is = refl }

@@ -1,0 +1,88 @@
+-- The replies as C gets them, and what the contracts of the exported calls say. Assumes nothing.
+use mathlib.Core.Path.{_≡_}
+use mathlib.Core.List.{List}
+use Prim.Native.Nat.{ℕ}
+use Rattle.tables.specs.Limits.{Limits}
+use Rattle.tables.specs.Tables.{Tables}
+use Rattle.log.specs.CallLog.{Call, Reply, accepted, refused, mustWait}
+use Rattle.log.specs.Calls.{step, CostReply, costs, costRefused, RoundsReply, rounds, roundsRefused}
+use Rattle.flat.specs.Writing.{Writing, wrote, writeRefused, writes, bufferLeft}
+use Rattle.reading.specs.Reading.{Answered}
+use Rattle.reading.specs.declared.replies.Refusal.{Refusal}
+use Rattle.reading.specs.declared.replies.Refusal.the-variants.{TablesTooSmall, TooLong, Form, Range, Name, SameName, TooManyStops, StartsLate, NotRising, SameLocation, Collision, TooManyDependencies}
+use Rattle.reading.specs.declared.replies.Reading.{Reading}
+use Rattle.reading.specs.declared.replies.Reading.the-variants.{Taken, Refused}
+use Rattle.board.specs.declared.answers.Answer.{Answer}
+use Rattle.board.specs.declared.answers.ReadAnswer.{ReadAnswer}
+
+abbrev pub answer : ℕ → ℕ → Answer
+answer n w = record { number = n; detail = w }
+
+-- "Of the others only 23 carries anything"
+abbrev pub answerOf : Reply → Answer
+answerOf accepted = answer 0 0
+answerOf (refused n) = answer n 0
+answerOf (mustWait w) = answer 23 w
+
+abbrev pub costAnswer : CostReply → Answer
+costAnswer (costs n) = answer 0 n
+costAnswer (costRefused n) = answer n 0
+
+abbrev pub roundsAnswer : RoundsReply → Answer
+roundsAnswer (rounds n) = answer 0 n
+roundsAnswer (roundsRefused n) = answer n 0
+
+abbrev pub writeAnswer : Writing → Answer
+writeAnswer (wrote n) = answer 0 n
+writeAnswer (writeRefused n) = answer n 0
+
+abbrev pub atOffset : ℕ → ℕ → ReadAnswer
+atOffset n o = record { number = n; offset = o; drone = 0; stop = 0; «other_drone» = 0; «other_stop» = 0 }
+
+abbrev pub atStops : ℕ → ℕ → ℕ → ℕ → ℕ → ReadAnswer
+atStops n d k e l = record { number = n; offset = 0; drone = d; stop = k; «other_drone» = e; «other_stop» = l }
+
+abbrev pub refusalAnswer : Refusal → ReadAnswer
+refusalAnswer TablesTooSmall = atOffset 41 0
+refusalAnswer (TooLong o) = atOffset 1 o
+refusalAnswer (Form o) = atOffset 2 o
+refusalAnswer (Name o) = atOffset 3 o
+refusalAnswer (Range o) = atOffset 4 o
+refusalAnswer (SameName o) = atOffset 5 o
+refusalAnswer (TooManyStops o) = atOffset 6 o
+refusalAnswer (StartsLate s) = atStops 7 (s .drone) (s .stop) 0 0
+refusalAnswer (NotRising s) = atStops 8 (s .drone) (s .stop) 0 0
+refusalAnswer (SameLocation s) = atStops 9 (s .drone) (s .stop) 0 0
+refusalAnswer (Collision s t) = atStops 10 (s .drone) (s .stop) (t .drone) (t .stop)
+refusalAnswer TooManyDependencies = atOffset 11 0
+
+abbrev pub readAnswer : Reading → ReadAnswer
+readAnswer Taken = atOffset 0 0
+readAnswer (Refused r) = refusalAnswer r
+
+-- an answer, field by field
+pub record Says (r w : Answer) : Type 0 where
+  pub number-is : r .number ≡ w .number
+  pub detail-is : r .detail ≡ w .detail
+
+pub record SaysOfRead (r w : ReadAnswer) : Type 0 where
+  pub number-is : r .number ≡ w .number
+  pub offset-is : r .offset ≡ w .offset
+  pub drone-is : r .drone ≡ w .drone
+  pub stop-is : r .stop ≡ w .stop
+  pub other-drone-is : r .«other_drone» ≡ w .«other_drone»
+  pub other-stop-is : r .«other_stop» ≡ w .«other_stop»
+
+-- on the tables t the call c was answered by r, and left the tables t′
+pub record CallTold (L : Limits) (t : Tables) (c : Call) (r : Answer) (t′ : Tables) : Type 0 where
+  pub told : Says r (answerOf (step L t c .reply))
+  pub left : t′ ≡ step L t c .tables
+
+-- the writer replied r and left the buffer `after`
+pub record PlanTold (L : Limits) (t : Tables) (before after : List ℕ) (r : Answer) : Type 0 where
+  pub told : Says r (writeAnswer (writes L t before))
+  pub left : after ≡ bufferLeft L t before
+
+pub record ReadTold (a : Answered) (r : ReadAnswer) (t : Tables) : Type 0 where
+  pub told : SaysOfRead r (readAnswer (a .reply))
+  pub left : t ≡ a .tables

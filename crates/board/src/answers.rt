@@ -1,0 +1,312 @@
+// The replies as C gets them: document 01's number, and what goes with it.
+use flat::replies::ArriveReply;
+use flat::replies::GrantReply;
+use flat::replies::WriteReply;
+use flat::turn_replies::CostAnswer;
+use flat::turn_replies::RoundsAnswer;
+use flat::turn_replies::TurnReply;
+use reading::replies::Reading;
+use reading::replies::Refusal;
+ghost use Rattle.flat.specs.Replies.{grantMeant, arriveMeant};
+ghost use Rattle.flat.specs.TurnReplies.{turnMeant, costMeant, roundsMeant};
+ghost use Rattle.flat.specs.Writing.{writeMeant};
+ghost use Rattle.board.specs.Told.{Says, SaysOfRead, answerOf, costAnswer, roundsAnswer, writeAnswer, refusalAnswer, readAnswer};
+
+// The detail: the dependency of a 23, the cost, the rounds, the length of the text; 0 with every other reply.
+#[repr(C)]
+pub struct Answer {
+    pub number: usize,
+    pub detail: usize,
+}
+
+// The offset with 1 to 6, a drone and its stop with 7 to 9, two of each with 10; the rest is 0.
+#[repr(C)]
+pub struct ReadAnswer {
+    pub number: usize,
+    pub offset: usize,
+    pub drone: usize,
+    pub stop: usize,
+    pub other_drone: usize,
+    pub other_stop: usize,
+}
+
+pub fn of_grant(reply: GrantReply) -> Answer
+    ensures { λ r. ⌜ Says r (answerOf (grantMeant reply)) ⌝ }
+{
+    match reply {
+        GrantReply::Granted => Answer {
+            number: 0,
+            detail: 0,
+        },
+        GrantReply::TablesTooSmall => Answer {
+            number: 41,
+            detail: 0,
+        },
+        GrantReply::NotSound => Answer {
+            number: 40,
+            detail: 0,
+        },
+        GrantReply::NoDrone => Answer {
+            number: 20,
+            detail: 0,
+        },
+        GrantReply::Finished => Answer {
+            number: 21,
+            detail: 0,
+        },
+        GrantReply::UnderWay => Answer {
+            number: 22,
+            detail: 0,
+        },
+        GrantReply::MustWait(dependency) => Answer {
+            number: 23,
+            detail: dependency,
+        },
+    }
+}
+
+pub fn of_arrive(reply: ArriveReply) -> Answer
+    ensures { λ r. ⌜ Says r (answerOf (arriveMeant reply)) ⌝ }
+{
+    match reply {
+        ArriveReply::Arrived => Answer {
+            number: 0,
+            detail: 0,
+        },
+        ArriveReply::TablesTooSmall => Answer {
+            number: 41,
+            detail: 0,
+        },
+        ArriveReply::NotSound => Answer {
+            number: 40,
+            detail: 0,
+        },
+        ArriveReply::NoDrone => Answer {
+            number: 20,
+            detail: 0,
+        },
+        ArriveReply::NotUnderWay => Answer {
+            number: 24,
+            detail: 0,
+        },
+    }
+}
+
+pub fn of_turn(reply: TurnReply) -> Answer
+    ensures { λ r. ⌜ Says r (answerOf (turnMeant reply)) ⌝ }
+{
+    match reply {
+        TurnReply::Turned => Answer {
+            number: 0,
+            detail: 0,
+        },
+        TurnReply::TablesTooSmall => Answer {
+            number: 41,
+            detail: 0,
+        },
+        TurnReply::NotSound => Answer {
+            number: 40,
+            detail: 0,
+        },
+        TurnReply::NoDependency => Answer {
+            number: 30,
+            detail: 0,
+        },
+        TurnReply::Fixed => Answer {
+            number: 31,
+            detail: 0,
+        },
+        TurnReply::FirstEntered => Answer {
+            number: 32,
+            detail: 0,
+        },
+        TurnReply::SecondEntered => Answer {
+            number: 33,
+            detail: 0,
+        },
+        TurnReply::Cycle => Answer {
+            number: 34,
+            detail: 0,
+        },
+    }
+}
+
+pub fn of_cost(reply: CostAnswer) -> Answer
+    ensures { λ r. ⌜ Says r (costAnswer (costMeant reply)) ⌝ }
+{
+    match reply {
+        CostAnswer::TablesTooSmall => Answer {
+            number: 41,
+            detail: 0,
+        },
+        CostAnswer::NotSound => Answer {
+            number: 40,
+            detail: 0,
+        },
+        CostAnswer::Cost(cost) => Answer {
+            number: 0,
+            detail: cost,
+        },
+    }
+}
+
+pub fn of_rounds(reply: RoundsAnswer) -> Answer
+    ensures { λ r. ⌜ Says r (roundsAnswer (roundsMeant reply)) ⌝ }
+{
+    match reply {
+        RoundsAnswer::TablesTooSmall => Answer {
+            number: 41,
+            detail: 0,
+        },
+        RoundsAnswer::NotSound => Answer {
+            number: 40,
+            detail: 0,
+        },
+        RoundsAnswer::Rounds(rounds) => Answer {
+            number: 0,
+            detail: rounds,
+        },
+    }
+}
+
+pub fn of_write(reply: WriteReply) -> Answer
+    ensures { λ r. ⌜ Says r (writeAnswer (writeMeant reply)) ⌝ }
+{
+    match reply {
+        WriteReply::TablesTooSmall => Answer {
+            number: 41,
+            detail: 0,
+        },
+        WriteReply::NotSound => Answer {
+            number: 40,
+            detail: 0,
+        },
+        WriteReply::BufferTooShort => Answer {
+            number: 42,
+            detail: 0,
+        },
+        WriteReply::Written(length) => Answer {
+            number: 0,
+            detail: length,
+        },
+    }
+}
+
+fn of_refusal(refusal: Refusal) -> ReadAnswer
+    ensures { λ r. ⌜ SaysOfRead r (refusalAnswer refusal) ⌝ }
+{
+    match refusal {
+        Refusal::TablesTooSmall => ReadAnswer {
+            number: 41,
+            offset: 0,
+            drone: 0,
+            stop: 0,
+            other_drone: 0,
+            other_stop: 0,
+        },
+        Refusal::TooLong(offset) => ReadAnswer {
+            number: 1,
+            offset: offset,
+            drone: 0,
+            stop: 0,
+            other_drone: 0,
+            other_stop: 0,
+        },
+        Refusal::Form(offset) => ReadAnswer {
+            number: 2,
+            offset: offset,
+            drone: 0,
+            stop: 0,
+            other_drone: 0,
+            other_stop: 0,
+        },
+        Refusal::Name(offset) => ReadAnswer {
+            number: 3,
+            offset: offset,
+            drone: 0,
+            stop: 0,
+            other_drone: 0,
+            other_stop: 0,
+        },
+        Refusal::Range(offset) => ReadAnswer {
+            number: 4,
+            offset: offset,
+            drone: 0,
+            stop: 0,
+            other_drone: 0,
+            other_stop: 0,
+        },
+        Refusal::SameName(offset) => ReadAnswer {
+            number: 5,
+            offset: offset,
+            drone: 0,
+            stop: 0,
+            other_drone: 0,
+            other_stop: 0,
+        },
+        Refusal::TooManyStops(offset) => ReadAnswer {
+            number: 6,
+            offset: offset,
+            drone: 0,
+            stop: 0,
+            other_drone: 0,
+            other_stop: 0,
+        },
+        Refusal::StartsLate(s) => ReadAnswer {
+            number: 7,
+            offset: 0,
+            drone: s.drone,
+            stop: s.stop,
+            other_drone: 0,
+            other_stop: 0,
+        },
+        Refusal::NotRising(s) => ReadAnswer {
+            number: 8,
+            offset: 0,
+            drone: s.drone,
+            stop: s.stop,
+            other_drone: 0,
+            other_stop: 0,
+        },
+        Refusal::SameLocation(s) => ReadAnswer {
+            number: 9,
+            offset: 0,
+            drone: s.drone,
+            stop: s.stop,
+            other_drone: 0,
+            other_stop: 0,
+        },
+        Refusal::Collision(s, t) => ReadAnswer {
+            number: 10,
+            offset: 0,
+            drone: s.drone,
+            stop: s.stop,
+            other_drone: t.drone,
+            other_stop: t.stop,
+        },
+        Refusal::TooManyDependencies => ReadAnswer {
+            number: 11,
+            offset: 0,
+            drone: 0,
+            stop: 0,
+            other_drone: 0,
+            other_stop: 0,
+        },
+    }
+}
+
+pub fn of_reading(reading: Reading) -> ReadAnswer
+    ensures { λ r. ⌜ SaysOfRead r (readAnswer reading) ⌝ }
+{
+    match reading {
+        Reading::Taken => ReadAnswer {
+            number: 0,
+            offset: 0,
+            drone: 0,
+            stop: 0,
+            other_drone: 0,
+            other_stop: 0,
+        },
+        Reading::Refused(refusal) => of_refusal(refusal),
+    }
+}

@@ -1,0 +1,262 @@
+// The public calls for C, Rust and Python to link. The dependencies are records: the derivations are carried (docs/DERIVATIONS.md).
+use crate::answers;
+use crate::answers::Answer;
+use crate::answers::ReadAnswer;
+use conductor::calls;
+use tables::entries::Dependency;
+ghost use mathlib.Core.Path.{_≡_};
+ghost use lib.ListN.{drop};
+ghost use Rattle.tables.specs.Limits.{limits};
+ghost use Rattle.log.specs.CallLog.{grant as grantOf, arrive as arriveOf, turn as turnOf};
+ghost use Rattle.log.specs.Calls.{costReply, roundsReply};
+ghost use Rattle.reading.specs.Reading.{readPlan};
+ghost use Rattle.records.specs.Records.{tablesOfRecords};
+ghost use Rattle.board.specs.Told.{CallTold, PlanTold, ReadTold, Says, costAnswer, roundsAnswer};
+
+// "Grant: the drone becomes under way when every dependency into its next stop has the awaited stop visited".
+#[no_mangle]
+pub extern "C" fn board_grant(
+    drone_count: &[u16],
+    dependency_count: &[u16],
+    names: &[u8],
+    stop_counts: &[u16],
+    locations: &[u16],
+    times: &[u32],
+    visited: &[u16],
+    drone_flags: &mut [u8],
+    dependencies: &[Dependency],
+    drone: usize,
+) -> Answer
+    ensures { λ r. ⌜ CallTold limits (tablesOfRecords limits
+        (now («drone_count» .entry)) (now («dependency_count» .entry)) (now (names .entry)) (now («stop_counts» .entry))
+        (now (locations .entry)) (now (times .entry)) (now (visited .entry)) (now («drone_flags» .entry))
+        (now (dependencies .entry))) (grantOf drone) r (tablesOfRecords limits
+        (now («drone_count» .entry)) (now («dependency_count» .entry)) (now (names .entry)) (now («stop_counts» .entry))
+        (now (locations .entry)) (now (times .entry)) (now (visited .entry)) (now («drone_flags» .exit))
+        (now (dependencies .entry))) ⌝ }
+{
+    let reply = calls::grant(
+        drone_count,
+        dependency_count,
+        names,
+        stop_counts,
+        locations,
+        times,
+        visited,
+        drone_flags,
+        dependencies,
+        drone,
+    );
+    answers::of_grant(reply)
+}
+
+// "Arrive: a drone under way has visited its next stop and is no longer under way".
+#[no_mangle]
+pub extern "C" fn board_arrive(
+    drone_count: &[u16],
+    dependency_count: &[u16],
+    names: &[u8],
+    stop_counts: &[u16],
+    locations: &[u16],
+    times: &[u32],
+    visited: &mut [u16],
+    drone_flags: &mut [u8],
+    dependencies: &[Dependency],
+    drone: usize,
+) -> Answer
+    ensures { λ r. ⌜ CallTold limits (tablesOfRecords limits
+        (now («drone_count» .entry)) (now («dependency_count» .entry)) (now (names .entry)) (now («stop_counts» .entry))
+        (now (locations .entry)) (now (times .entry)) (now (visited .entry)) (now («drone_flags» .entry))
+        (now (dependencies .entry))) (arriveOf drone) r (tablesOfRecords limits
+        (now («drone_count» .entry)) (now («dependency_count» .entry)) (now (names .entry)) (now («stop_counts» .entry))
+        (now (locations .entry)) (now (times .entry)) (now (visited .exit)) (now («drone_flags» .exit))
+        (now (dependencies .entry))) ⌝ }
+{
+    let reply = calls::arrive(
+        drone_count,
+        dependency_count,
+        names,
+        stop_counts,
+        locations,
+        times,
+        visited,
+        drone_flags,
+        dependencies,
+        drone,
+    );
+    answers::of_arrive(reply)
+}
+
+// "Turn: flips bit 0 of one dependency".
+#[no_mangle]
+pub extern "C" fn board_turn(
+    drone_count: &[u16],
+    dependency_count: &[u16],
+    names: &[u8],
+    stop_counts: &[u16],
+    locations: &[u16],
+    times: &[u32],
+    visited: &[u16],
+    drone_flags: &[u8],
+    dependencies: &mut [Dependency],
+    dependency: usize,
+) -> Answer
+    ensures { λ r. ⌜ CallTold limits (tablesOfRecords limits
+        (now («drone_count» .entry)) (now («dependency_count» .entry)) (now (names .entry)) (now («stop_counts» .entry))
+        (now (locations .entry)) (now (times .entry)) (now (visited .entry)) (now («drone_flags» .entry))
+        (now (dependencies .entry))) (turnOf dependency) r (tablesOfRecords limits
+        (now («drone_count» .entry)) (now («dependency_count» .entry)) (now (names .entry)) (now («stop_counts» .entry))
+        (now (locations .entry)) (now (times .entry)) (now (visited .entry)) (now («drone_flags» .entry))
+        (now (dependencies .exit))) ⌝ }
+    ensures { λ _. ⌜ drop (limits .dependencies) (now (dependencies .exit)) ≡ drop (limits .dependencies) (now (dependencies .entry)) ⌝ }
+{
+    let reply = calls::turn(
+        drone_count,
+        dependency_count,
+        names,
+        stop_counts,
+        locations,
+        times,
+        visited,
+        drone_flags,
+        dependencies,
+        dependency,
+    );
+    answers::of_turn(reply)
+}
+
+// The remaining cost: its detail at number 0.
+#[no_mangle]
+pub extern "C" fn board_cost(
+    drone_count: &[u16],
+    dependency_count: &[u16],
+    names: &[u8],
+    stop_counts: &[u16],
+    locations: &[u16],
+    times: &[u32],
+    visited: &[u16],
+    drone_flags: &[u8],
+    dependencies: &[Dependency],
+) -> Answer
+    ensures { λ r. ⌜ Says r (costAnswer (costReply limits (tablesOfRecords limits
+        (now («drone_count» .entry)) (now («dependency_count» .entry)) (now (names .entry)) (now («stop_counts» .entry))
+        (now (locations .entry)) (now (times .entry)) (now (visited .entry)) (now («drone_flags» .entry))
+        (now (dependencies .entry))))) ⌝ }
+{
+    let reply = calls::cost(
+        drone_count,
+        dependency_count,
+        names,
+        stop_counts,
+        locations,
+        times,
+        visited,
+        drone_flags,
+        dependencies,
+    );
+    answers::of_cost(reply)
+}
+
+// The undelayed rounds until everybody has landed, with the order now in force. It changes nothing.
+#[no_mangle]
+pub extern "C" fn board_rounds(
+    drone_count: &[u16],
+    dependency_count: &[u16],
+    names: &[u8],
+    stop_counts: &[u16],
+    locations: &[u16],
+    times: &[u32],
+    visited: &[u16],
+    drone_flags: &[u8],
+    dependencies: &[Dependency],
+) -> Answer
+    ensures { λ r. ⌜ Says r (roundsAnswer (roundsReply limits (tablesOfRecords limits
+        (now («drone_count» .entry)) (now («dependency_count» .entry)) (now (names .entry)) (now («stop_counts» .entry))
+        (now (locations .entry)) (now (times .entry)) (now (visited .entry)) (now («drone_flags» .entry))
+        (now (dependencies .entry))))) ⌝ }
+{
+    let reply = calls::rounds(
+        drone_count,
+        dependency_count,
+        names,
+        stop_counts,
+        locations,
+        times,
+        visited,
+        drone_flags,
+        dependencies,
+    );
+    answers::of_rounds(reply)
+}
+
+// Writes the text of the plan that the tables hold: its length is the detail at number 0.
+#[no_mangle]
+pub extern "C" fn board_write(
+    buf: &mut [u8],
+    drone_count: &[u16],
+    dependency_count: &[u16],
+    names: &[u8],
+    stop_counts: &[u16],
+    locations: &[u16],
+    times: &[u32],
+    visited: &[u16],
+    drone_flags: &[u8],
+    dependencies: &[Dependency],
+) -> Answer
+    ensures { λ r. ⌜ PlanTold limits (tablesOfRecords limits
+        (now («drone_count» .entry)) (now («dependency_count» .entry)) (now (names .entry)) (now («stop_counts» .entry))
+        (now (locations .entry)) (now (times .entry)) (now (visited .entry)) (now («drone_flags» .entry))
+        (now (dependencies .entry))) (now (buf .entry)) (now (buf .exit)) r ⌝ }
+{
+    let reply = calls::write_plan(
+        buf,
+        drone_count,
+        dependency_count,
+        names,
+        stop_counts,
+        locations,
+        times,
+        visited,
+        drone_flags,
+        dependencies,
+    );
+    answers::of_write(reply)
+}
+
+// Reads a plan text into the tables.
+#[no_mangle]
+pub extern "C" fn board_read(
+    text: &[u8],
+    drone_count: &mut [u16],
+    dependency_count: &mut [u16],
+    names: &mut [u8],
+    stop_counts: &mut [u16],
+    locations: &mut [u16],
+    times: &mut [u32],
+    visited: &mut [u16],
+    drone_flags: &mut [u8],
+    dependencies: &mut [Dependency],
+) -> ReadAnswer
+    ensures { λ r. ⌜ ReadTold (readPlan limits (now (text .entry)) (tablesOfRecords limits
+        (now («drone_count» .entry)) (now («dependency_count» .entry)) (now (names .entry)) (now («stop_counts» .entry))
+        (now (locations .entry)) (now (times .entry)) (now (visited .entry)) (now («drone_flags» .entry))
+        (now (dependencies .entry)))) r (tablesOfRecords limits
+        (now («drone_count» .exit)) (now («dependency_count» .exit)) (now (names .exit)) (now («stop_counts» .exit))
+        (now (locations .exit)) (now (times .exit)) (now (visited .exit)) (now («drone_flags» .exit))
+        (now (dependencies .exit))) ⌝ }
+    ensures { λ _. ⌜ drop (limits .dependencies) (now (dependencies .exit)) ≡ drop (limits .dependencies) (now (dependencies .entry)) ⌝ }
+{
+    let reply = calls::read_plan(
+        text,
+        drone_count,
+        dependency_count,
+        names,
+        stop_counts,
+        locations,
+        times,
+        visited,
+        drone_flags,
+        dependencies,
+    );
+    answers::of_reading(reply)
+}

@@ -1,0 +1,177 @@
+-- A reading whose columns came in zeroed: what it writes does not depend on what the records held, and where it writes nothing the records stay.
+--     read-stored    the answer over the lent records
+-- Assumes nothing.
+use mathlib.Core.Path.{_≡_, refl, sym, ap, _∙_}
+use mathlib.Core.Bool.{Bool, true, false, cond}
+use mathlib.Core.List.{List, map}
+use Prim.Native.Nat.{ℕ, _≤_, _<_}
+use native.Mathlib.Omega.{arith}
+use lib.Dec.{ltb, leb, eqb}
+use lib.ListN.{length, take, length-map, length-take, drop-of-length-le}
+use Rattle.below.proofs.Tests.{by-cases, true-or-false}
+use Rattle.tables.specs.Limits.{Limits}
+use Rattle.tables.specs.Tables.{Tables, tablesOf, fullSize}
+use Rattle.tables.specs.Zero.{zeroed, zeroedTables}
+use Rattle.tables.specs.declared.entries.Dependency.{Dependency}
+use Rattle.tables.proofs.Zero.{zeroed-same}
+use Rattle.text.specs.Reading.{Found, linesAt}
+use Rattle.text.specs.declared.reader.Answer.{Answer}
+use Rattle.text.specs.declared.reader.Answer.the-variants as text
+use Rattle.lines.specs.declared.refusal.Refusal.{Refusal as TextRefusal}
+use Rattle.lines.specs.declared.refusal.Refusal.the-variants as line
+use Rattle.plan.specs.declared.check.PlanCheck.{PlanCheck}
+use Rattle.plan.specs.declared.check.PlanCheck.the-variants as check
+use Rattle.plan.specs.Answers.{checkOf}
+use Rattle.plan.specs.Claims.{stopTotal, ownerIn, numberIn, locationIn, timeIn}
+use Rattle.reading.specs.Replies.{readingNumber, refusalNumber, ofText, ofCheck}
+use Rattle.reading.specs.Reading.{Answered, AnsweredAs, answered, total, withText, withDependencies, checked, fromLines, readLines, readPlan}
+use Rattle.reading.specs.declared.replies.Refusal.the-variants.{TablesTooSmall, TooManyDependencies}
+use Rattle.reading.specs.declared.replies.Reading.{Reading}
+use Rattle.reading.specs.declared.replies.Reading.the-variants.{Taken, Refused}
+use Rattle.reading.proofs.EntryCases.{tables-small}
+use Rattle.records.specs.Records.{ColumnSizes, ColumnsOf, gathered, storeIf, zeroRecords, seen, tablesOfRecords}
+use Rattle.records.proofs.ColumnLaws.{zero-length, column-sizes}
+use Rattle.records.proofs.Seen.{full-spread, tables-short, tables-stored}
+use Rattle.conductor.specs.Changes.{isWritten}
+
+-- ---- no line and no plan check answers 41
+
+abbrev is-41 : Answered → Bool
+is-41 a = eqb (readingNumber (a .reply)) 41
+
+text-not-41 : (r : TextRefusal) → eqb (refusalNumber (ofText r)) 41 ≡ false
+text-not-41 (line.Long o) = refl
+text-not-41 (line.Form o) = refl
+text-not-41 (line.Name o) = refl
+text-not-41 (line.Range o) = refl
+text-not-41 (line.Same o) = refl
+text-not-41 (line.Total o) = refl
+
+module _ (L : Limits) where
+  built-not-41 : (z t : Tables) (b : Bool) → is-41 (cond b (answered Taken (withDependencies t)) (answered (Refused TooManyDependencies) z)) ≡ false
+  built-not-41 z t true = refl
+  built-not-41 z t false = refl
+
+  check-not-41 : (z t : Tables) (k : PlanCheck) → is-41 (checked L z t (ofCheck k)) ≡ false
+  check-not-41 z t check.Fine = built-not-41 z t (leb (total (t .plan)) (L .dependencies))
+  check-not-41 z t (check.StartsLate s) = refl
+  check-not-41 z t (check.NotRising s) = refl
+  check-not-41 z t (check.SameLocation s) = refl
+  check-not-41 z t (check.Collision s o) = refl
+
+  lines-not-41 : (z : Tables) (f : Found Answer) (a : Answer) → is-41 (fromLines L z f a) ≡ false
+  lines-not-41 z f (text.Refused r) = text-not-41 r
+  lines-not-41 z f (text.Taken n) =
+      let p = withText f n z .plan in
+      check-not-41 z (withText f n z) (checkOf (ownerIn p) (numberIn p) (locationIn p) (timeIn p) (stopTotal p))
+
+  read-not-41 : (bytes : List ℕ) (z : Tables) → is-41 (readLines L bytes z) ≡ false
+  unfolding readLines
+  read-not-41 bytes z = lines-not-41 z (linesAt L bytes) (linesAt L bytes .answer)
+
+  -- ---- two readings that differ only in what is zeroed
+
+  module _ (bytes : List ℕ) (t t₀ : Tables) (full : fullSize L t₀ ≡ fullSize L t) (same : zeroedTables L t₀ ≡ zeroedTables L t) where
+    -- written: the same answer; not written: each as it was
+    record Twice (written : Bool) : Type 0 where
+      answer : written ≡ true → readPlan L bytes t₀ ≡ readPlan L bytes t
+      reply : readPlan L bytes t₀ .reply ≡ readPlan L bytes t .reply
+      kept : written ≡ false → (readPlan L bytes t₀ .tables ≡ t₀) × (readPlan L bytes t .tables ≡ t)
+
+    abbrev Written : Bool
+    Written = isWritten L (length bytes) (readPlan L bytes t₀ .reply)
+
+    small : fullSize L t₀ ≡ false → Twice Written
+    unfolding readPlan
+    small f = record {
+      answer = λ w. true-or-false w (rw f (by-cases (ltb (L .text) (length bytes)) (λ e. rw e refl) (λ e. rw e refl)));
+      reply = rw (f, sym full ∙ f) refl;
+      kept = λ w. (rw f refl, rw (sym full ∙ f) refl);
+    }
+
+    long : fullSize L t₀ ≡ true → ltb (L .text) (length bytes) ≡ true → Twice Written
+    unfolding readPlan
+    long f l = record {
+      answer = λ w. true-or-false w (rw l refl);
+      reply = rw (f, sym full ∙ f, l) refl;
+      kept = λ w. (rw (f, l) refl, rw (sym full ∙ f, l) refl);
+    }
+
+    whole : fullSize L t₀ ≡ true → ltb (L .text) (length bytes) ≡ false → readPlan L bytes t₀ ≡ readLines L bytes (zeroedTables L t₀)
+    unfolding readPlan
+    whole f l = rw (f, l) refl
+
+    whole-same : fullSize L t₀ ≡ true → ltb (L .text) (length bytes) ≡ false → readPlan L bytes t₀ ≡ readPlan L bytes t
+    unfolding readPlan
+    whole-same f l = rw (f, sym full ∙ f, l, same) refl
+
+    read : fullSize L t₀ ≡ true → ltb (L .text) (length bytes) ≡ false → Twice Written
+    read f l =
+        let not-41 : is-41 (readPlan L bytes t₀) ≡ false = ap is-41 (whole f l) ∙ read-not-41 bytes (zeroedTables L t₀) in
+        record {
+          answer = λ w. whole-same f l;
+          reply = ap (λ (a : Answered). a .reply) (whole-same f l);
+          kept = λ w. true-or-false (rw (l, not-41) refl) w;
+        }
+
+    twice : Twice Written
+    twice = by-cases (fullSize L t₀) (λ f. by-cases (ltb (L .text) (length bytes)) (long f) (read f)) small
+
+  -- ---- the columns that came in zeroed, and those of the records
+
+  seen-zeroed : (f : Dependency → ℕ) (ds : List Dependency) (column : List ℕ) → L .dependencies ≤ length ds → length column ≡ L .dependencies → zeroed (L .dependencies) column ≡ zeroed (L .dependencies) (map f (seen L ds))
+  unfolding seen
+  seen-zeroed f ds column l e =
+      let s : length (map f (take (L .dependencies) ds)) ≡ L .dependencies = length-map (take (L .dependencies) ds) f ∙ length-take (L .dependencies) ds ∙ omega arith in
+      zeroed-same (L .dependencies) column (map f (take (L .dependencies) ds)) (e ∙ sym s)
+      (drop-of-length-le column {i = L .dependencies} (omega arith) ∙ sym (drop-of-length-le (map f (take (L .dependencies) ds)) {i = L .dependencies} (omega (arith, s))))
+
+  module _ (droneCount dependencyCount names stopCounts locations times visited droneFlags : List ℕ) (bytes : List ℕ) (ds : List Dependency) where
+    abbrev Lent : Tables
+    Lent = tablesOfRecords L droneCount dependencyCount names stopCounts locations times visited droneFlags ds
+
+    pub read-short : length ds < L .dependencies → AnsweredAs (readPlan L bytes Lent) (Refused TablesTooSmall) Lent
+    read-short l = tables-small L bytes Lent (tables-short L Lent ds refl l)
+
+    module _ (firstDrones firstStops secondDrones secondStops flags : List ℕ) (l : L .dependencies ≤ length ds) (z : ColumnsOf (zeroRecords L) firstDrones firstStops secondDrones secondStops flags) where
+      abbrev Zeroed : Tables
+      Zeroed = tablesOf droneCount dependencyCount names stopCounts locations times visited droneFlags firstDrones firstStops secondDrones secondStops flags
+
+      same-zeroed : zeroedTables L Zeroed ≡ zeroedTables L Lent
+      same-zeroed =
+          let s = column-sizes L (zeroRecords L) (zero-length L) z in
+          rw (
+            seen-zeroed (λ (d : Dependency). d .«first_drone») ds firstDrones l (s .first-drones),
+            seen-zeroed (λ (d : Dependency). d .«first_stop») ds firstStops l (s .first-stops),
+            seen-zeroed (λ (d : Dependency). d .«second_drone») ds secondDrones l (s .second-drones),
+            seen-zeroed (λ (d : Dependency). d .«second_stop») ds secondStops l (s .second-stops),
+            seen-zeroed (λ (d : Dependency). d .flags) ds flags l (s .flag-bytes),
+          ) refl
+
+      both : Twice bytes Lent Zeroed (full-spread L droneCount dependencyCount names stopCounts locations times visited droneFlags ds l z) same-zeroed (isWritten L (length bytes) (readPlan L bytes Zeroed .reply))
+      both = twice bytes Lent Zeroed (full-spread L droneCount dependencyCount names stopCounts locations times visited droneFlags ds l z) same-zeroed
+
+      -- the other tables of u, with the records
+      abbrev withRecords : Tables → Tables
+      withRecords u = tablesOfRecords L (u .plan .droneCount) (u .plan .dependencyCount) (u .plan .names) (u .plan .stopCounts) (u .plan .locations) (u .plan .times) (u .visited) (u .droneFlags) ds
+
+      module _ (r : Reading) (droneCount′ dependencyCount′ names′ stopCounts′ locations′ times′ visited′ droneFlags′ firstDrones′ firstStops′ secondDrones′ secondStops′ flags′ : List ℕ) (after : List Dependency) where
+        abbrev Left : Tables
+        Left = tablesOf droneCount′ dependencyCount′ names′ stopCounts′ locations′ times′ visited′ droneFlags′ firstDrones′ firstStops′ secondDrones′ secondStops′ flags′
+
+        abbrev After : Tables
+        After = tablesOfRecords L droneCount′ dependencyCount′ names′ stopCounts′ locations′ times′ visited′ droneFlags′ after
+
+        -- by whether it writes
+        left-is : (b : Bool) → ColumnSizes L firstDrones′ firstStops′ secondDrones′ secondStops′ flags′ → AnsweredAs (readPlan L bytes Zeroed) r Left → b ≡ isWritten L (length bytes) (readPlan L bytes Zeroed .reply) → after ≡ storeIf L b (gathered L firstDrones′ firstStops′ secondDrones′ secondStops′ flags′) ds → After ≡ readPlan L bytes Lent .tables
+        unfolding storeIf
+        left-is true s a w is = sym (tables-stored L ds after s l is) ∙ a .left ∙ ap (λ (x : Answered). x .tables) (both .answer (sym w))
+        left-is false s a w is =
+            let kept = both .kept (sym w) in
+            ap (λ (x : List Dependency). tablesOfRecords L droneCount′ dependencyCount′ names′ stopCounts′ locations′ times′ visited′ droneFlags′ x) is ∙ ap withRecords (a .left ∙ kept .0) ∙ sym (kept .1)
+
+        pub read-stored : (b : Bool) → ColumnSizes L firstDrones′ firstStops′ secondDrones′ secondStops′ flags′ → AnsweredAs (readPlan L bytes Zeroed) r Left → b ≡ isWritten L (length bytes) r → after ≡ storeIf L b (gathered L firstDrones′ firstStops′ secondDrones′ secondStops′ flags′) ds → AnsweredAs (readPlan L bytes Lent) r After
+        read-stored b s a w is = record {
+          replied = a .replied ∙ both .reply;
+          left = left-is b s a (w ∙ ap (isWritten L (length bytes)) (a .replied)) is;
+        }

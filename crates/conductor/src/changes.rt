@@ -1,0 +1,41 @@
+// Which replies change the lent records.
+use flat::turn_replies::TurnReply;
+use reading::replies::Reading;
+use reading::replies::Refusal;
+use tables::entries::Text;
+ghost use mathlib.Core.Path.{_≡_};
+ghost use Rattle.tables.specs.Limits.{limits};
+ghost use Rattle.log.specs.CallLog.{isAccepted};
+ghost use Rattle.flat.specs.TurnReplies.{turnMeant};
+ghost use Rattle.conductor.specs.Changes.{isWritten};
+
+pub fn is_turned(reply: TurnReply) -> bool
+    ensures { λ r. ⌜ r ≡ isAccepted (turnMeant reply) ⌝ }
+{
+    match reply {
+        TurnReply::Turned => true,
+        TurnReply::TablesTooSmall => false,
+        TurnReply::NotSound => false,
+        TurnReply::NoDependency => false,
+        TurnReply::Fixed => false,
+        TurnReply::FirstEntered => false,
+        TurnReply::SecondEntered => false,
+        TurnReply::Cycle => false,
+    }
+}
+
+// A reading refused by 41 or 1 writes nothing.
+pub fn is_written(reading: Reading, length: usize) -> bool
+    ensures { λ r. ⌜ r ≡ isWritten limits length reading ⌝ }
+{
+    if Text::FULL < length {
+        return false;
+    }
+    match reading {
+        Reading::Taken => true,
+        Reading::Refused(refusal) => match refusal {
+            Refusal::TablesTooSmall => false,
+            _ => true,
+        },
+    }
+}

@@ -1,0 +1,265 @@
+-- Local tables that hold the graph of usable tables: they are what the test for a cycle and the rounds ask for, and with one wait exchanged they hold the graph with that dependency
+-- turned. Assumes nothing.
+use mathlib.Core.Path.{_≡_, refl, sym, ap, _∙_, subst}
+use mathlib.Core.Bool.{Bool, true, false, not, cond}
+use mathlib.Core.List.{List}
+use Prim.Native.Nat.{ℕ, _+_, _-_, _≤_, _<_}
+use native.Mathlib.Omega.{arith}
+use lib.Dec.{eqb}
+use lib.ListN.{length, set, length-set}
+use lib.Seq.{getD-set-same, getD-set-other}
+use borrow.Author.Tests.{eqb-true, eqb-false, eq-eqb}
+use Rattle.below.specs.Below.{at}
+use Rattle.below.proofs.Tests.{by-cases}
+use Rattle.tables.specs.Limits.{limits}
+use Rattle.tables.specs.Tables.{PlanLists, Tables, drones, dependencies}
+use Rattle.tables.specs.Flags.{fixedBit}
+use Rattle.precedence.specs.Graph.{Plan, Wait, Formed, Kept, cyclic, cost, makespan}
+use Rattle.plan.specs.Stops.{start, owner, number}
+use Rattle.plan.specs.Room.{Counts}
+use Rattle.plan.specs.Claims.{Numbered, Unfixed}
+use Rattle.plan.specs.Field.{Dependency, FieldPlan, inForce, waitOf, flip, planOf, graph, fixed, AcceptedPlan}
+use Rattle.plan.specs.Status.{statusIn}
+use Rattle.plan.proofs.Numbering.{numbered}
+use Rattle.plan.proofs.Turns.{graph-formed}
+use Rattle.cycles.specs.Flat.{flatPlan, Shape, PlacedWaits, FlatTables}
+use Rattle.cycles.proofs.Placed.{formed as flat-formed}
+use Rattle.sound.specs.Asked.{GraphTables, InForce}
+use Rattle.sound.proofs.Clauses.{Sound, sound-says}
+use Rattle.sound.proofs.Local.{wait-is}
+use Rattle.sound.proofs.SameGraph.{cyclic-same}
+use Rattle.rounds.specs.Remaining.{SamePlan, Ready}
+use Rattle.rounds.proofs.SamePlans.{same-cost, same-makespan}
+use Rattle.log.specs.Claims.{Usable}
+use Rattle.log.specs.Calls.{costs, costReply, rounds, roundsReply}
+use Rattle.log.proofs.Costs.{kept}
+use Rattle.log.proofs.Exactly.{unfixed-says}
+use Rattle.log.proofs.SoundParts.{accepted-plan, have-stops, stops-in, fixed-bit}
+use Rattle.log.proofs.Steps.{cost-0}
+use Rattle.flat.specs.InForce.{turnedCyclic}
+use Rattle.flat.proofs.Facts.{Facts, facts}
+use Rattle.flat.proofs.CostLaws.{rounds-0}
+
+-- ---- the tables of a graph
+
+module _ (counts : List ℕ) (G : Plan) (owners starts lasts from into : List ℕ) (T : GraphTables counts G owners starts lasts from into) (G-formed : Formed G)
+    (last-is : (d : ℕ) → d < G .drones → G .last d ≡ at counts d - 1) (have : (d : ℕ) → d < G .drones → 1 ≤ at counts d) where
+  abbrev D : ℕ
+  D = G .drones
+
+  abbrev own : ℕ → ℕ
+  own = owner D counts
+
+  abbrev n : ℕ
+  n = start counts D
+
+  N : Numbered own (number D counts) (start counts) (λ d. at counts d - 1) D n
+  N = numbered D counts have
+
+  -- stop s of drone d, numbered through
+  module _ (d s x : ℕ) (l : d < D) (h : s ≤ G .last d) (e : x ≡ start counts d + s) where
+    spot-in : x < n
+    spot-in = rw e (N .place-in d s l (omega (arith, last-is d l)))
+
+    spot-owner : at owners x ≡ d
+    spot-owner = T .owners-are x spot-in ∙ ap own e ∙ N .place-own d s l (omega (arith, last-is d l))
+
+    spot-start : at starts (at owners x) ≡ start counts d
+    spot-start = ap (at starts) spot-owner ∙ T .starts-are d l
+
+    spot-number : x - at starts (at owners x) ≡ s
+    spot-number = omega (arith, spot-start, e)
+
+  shape : Shape (at owners) (at starts) (at lasts) D n
+  shape = record {
+    own-in = λ v l. rw (T .owners-are v l) (N .own-in v l);
+    off-le = λ v l. rw (T .owners-are v l, T .starts-are (own v) (N .own-in v l)) (omega (arith, N .number-is v l));
+    number-in = λ v l. rw (T .owners-are v l, T .starts-are (own v) (N .own-in v l), T .lasts-are (own v) (N .own-in v l)) (omega (arith, N .number-is v l, N .number-in v l, last-is (own v) (N .own-in v l)));
+    place-in = λ d s l h. spot-in d s (at starts d + s) l (omega (arith, T .lasts-are d l)) (omega (arith, T .starts-are d l));
+    place-own = λ d s l h. spot-owner d s (at starts d + s) l (omega (arith, T .lasts-are d l)) (omega (arith, T .starts-are d l));
+  }
+
+  placed : PlacedWaits (at owners) (at starts) (at lasts) D n (at from) (at into) (G .count)
+  placed = record {
+    shape = shape;
+    from-in = λ k l. spot-in (G .wait k .awaited) (G .wait k .until) (at from k) (G-formed k l .awaited-in) (G-formed k l .until-in) (T .from-are k l);
+    into-in = λ k l. spot-in (G .wait k .waiter) (G .wait k .stop) (at into k) (G-formed k l .waiter-in) (G-formed k l .stop-in) (T .into-are k l);
+    into-later = λ k l. omega (arith, T .into-are k l, G-formed k l .stop-pos, spot-start (G .wait k .waiter) (G .wait k .stop) (at into k) (G-formed k l .waiter-in) (G-formed k l .stop-in) (T .into-are k l));
+  }
+
+  abbrev P : Plan
+  P = flatPlan (at owners) (at starts) (at lasts) D (at from) (at into) (G .count)
+
+  P-formed : Formed P
+  P-formed = flat-formed (at owners) (at starts) (at lasts) D n (at from) (at into) (G .count) placed
+
+  waits-are : (k : ℕ) → k < G .count → P .wait k ≡ G .wait k
+  waits-are k l = wait-is
+      (spot-owner (G .wait k .waiter) (G .wait k .stop) (at into k) (G-formed k l .waiter-in) (G-formed k l .stop-in) (T .into-are k l))
+      (spot-number (G .wait k .waiter) (G .wait k .stop) (at into k) (G-formed k l .waiter-in) (G-formed k l .stop-in) (T .into-are k l))
+      (spot-owner (G .wait k .awaited) (G .wait k .until) (at from k) (G-formed k l .awaited-in) (G-formed k l .until-in) (T .from-are k l))
+      (spot-number (G .wait k .awaited) (G .wait k .until) (at from k) (G-formed k l .awaited-in) (G-formed k l .until-in) (T .from-are k l))
+
+  pub laid-tables : n ≤ limits .stops → G .count ≤ limits .dependencies → D ≤ limits .drones → FlatTables owners starts lasts D n from into (G .count)
+  laid-tables a b c = record { placed = placed; has-owners = omega (arith, T .owners-size); few-stops = a; few-waits = b; few-drones = c }
+
+  pub laid-cyclic : cyclic P ≡ cyclic G
+  laid-cyclic = sym (cyclic-same G P P-formed (record { drones-same = refl; last-same = T .lasts-are; count-same = refl; wait-same = waits-are }))
+
+  pub laid-kept : (visited : List ℕ) → Kept G (at visited) → Kept P (at visited)
+  laid-kept visited K k l = subst (λ (z : Wait). z .stop ≤ at visited (z .waiter) → z .until ≤ at visited (z .awaited)) (sym (waits-are k l)) (K k l)
+
+  pub laid-same : SamePlan P G
+  laid-same = record { drones-same = refl; last-same = λ d l. sym (T .lasts-are d l); count-same = refl; wait-same = λ k l. sym (waits-are k l) }
+
+  pub laid-formed : Formed P
+  laid-formed = P-formed
+
+-- ---- one wait exchanged
+
+-- a dependency's wait the other way round
+swap-from : (counts : List ℕ) (b : Bool) (e : Dependency) (i : ℕ) → i ≡ start counts (waitOf (inForce b e) .waiter) + waitOf (inForce b e) .stop → i + 1 ≡ start counts (waitOf (inForce (not b) e) .awaited) + waitOf (inForce (not b) e) .until
+swap-from counts true e i q = omega (arith, q)
+swap-from counts false e i q = omega (arith, q)
+
+swap-into : (counts : List ℕ) (b : Bool) (e : Dependency) (f : ℕ) → f ≡ start counts (waitOf (inForce b e) .awaited) + waitOf (inForce b e) .until → f - 1 ≡ start counts (waitOf (inForce (not b) e) .waiter) + waitOf (inForce (not b) e) .stop
+swap-into counts true e f q = omega (arith, q)
+swap-into counts false e f q = omega (arith, q)
+
+until-some : (b : Bool) (e : Dependency) → 1 ≤ waitOf (inForce b e) .until
+until-some true e = omega arith
+until-some false e = omega arith
+
+module _ (turned : ℕ → Bool) (w : ℕ) where
+  flip-here : flip turned w w ≡ not (turned w)
+  flip-here = rw (eq-eqb w w refl) refl
+
+  flip-other : (k : ℕ) → eqb k w ≡ false → flip turned w k ≡ turned k
+  flip-other k q = rw q refl
+
+module _ (counts : List ℕ) (F : FieldPlan) (turned : ℕ → Bool) (owners starts lasts from into : List ℕ) (T : GraphTables counts (graph F turned) owners starts lasts from into) (w : ℕ) (l : w < F .count) (few : F .count ≤ limits .dependencies) where
+  abbrev awaitedBy : Bool → ℕ → ℕ
+  awaitedBy b k = start counts (waitOf (inForce b (F .dependency k)) .awaited) + waitOf (inForce b (F .dependency k)) .until
+
+  abbrev waitingBy : Bool → ℕ → ℕ
+  waitingBy b k = start counts (waitOf (inForce b (F .dependency k)) .waiter) + waitOf (inForce b (F .dependency k)) .stop
+
+  pub from-some : 1 ≤ at from w
+  from-some = omega (arith, T .from-are w l, until-some (turned w) (F .dependency w))
+
+  -- the tables then hold the graph with dependency w turned
+  pub exchanged : (from′ into′ : List ℕ) → from′ ≡ set from w (at into w + 1) → into′ ≡ set into w (at from w - 1) → GraphTables counts (graph F (flip turned w)) owners starts lasts from′ into′
+  exchanged from′ into′ ef ei = record {
+    owners-size = T .owners-size;
+    from-size = ap length ef ∙ length-set from w (at into w + 1) ∙ T .from-size;
+    into-size = ap length ei ∙ length-set into w (at from w - 1) ∙ T .into-size;
+    owners-are = T .owners-are;
+    starts-are = T .starts-are;
+    lasts-are = T .lasts-are;
+    from-are = λ k h. ap (λ (z : List ℕ). at z k) ef ∙ by-cases (eqb k w)
+        (λ q. subst (λ (z : ℕ). at (set from w (at into w + 1)) z ≡ awaitedBy (flip turned w z) z) (sym (eqb-true k w q))
+        (getD-set-same from w (at into w + 1) 0 (omega (arith, T .from-size)) ∙ swap-from counts (turned w) (F .dependency w) (at into w) (T .into-are w l) ∙ ap (λ (b : Bool). awaitedBy b w) (sym (flip-here turned w))))
+        (λ q. getD-set-other from w k (at into w + 1) 0 (eqb-false k w q) ∙ T .from-are k h ∙ ap (λ (b : Bool). awaitedBy b k) (sym (flip-other turned w k q)));
+    into-are = λ k h. ap (λ (z : List ℕ). at z k) ei ∙ by-cases (eqb k w)
+        (λ q. subst (λ (z : ℕ). at (set into w (at from w - 1)) z ≡ waitingBy (flip turned w z) z) (sym (eqb-true k w q))
+        (getD-set-same into w (at from w - 1) 0 (omega (arith, T .into-size)) ∙ swap-into counts (turned w) (F .dependency w) (at from w) (T .from-are w l) ∙ ap (λ (b : Bool). waitingBy b w) (sym (flip-here turned w))))
+        (λ q. getD-set-other into w k (at from w - 1) 0 (eqb-false k w q) ∙ T .into-are k h ∙ ap (λ (b : Bool). waitingBy b k) (sym (flip-other turned w k q)));
+  }
+
+-- ---- usable tables
+
+module _ (t : Tables) (u : Usable limits t) where
+  abbrev p : PlanLists
+  p = t .plan
+
+  S : Sound limits t
+  S = sound-says limits t (u .1)
+
+  facts-now : Facts limits t
+  facts-now = facts limits t u
+
+  accepted : AcceptedPlan (planOf p)
+  accepted = accepted-plan limits p (S .accepted) (S .dependencies-own)
+
+  unfixed-now : Unfixed (planOf p) (statusIn t .turned)
+  unfixed-now = unfixed-says (planOf p) (statusIn t) (S .fixed-unturned)
+
+  pub usable-counts : Counts (drones p) (p .stopCounts)
+  usable-counts = record { has-counts = omega (arith, facts-now .drones-few, facts-now .sizes .stop-counts); drones-fit = omega (arith, facts-now .drones-few) }
+
+  -- the graph with any order in which no fixed dependency is turned, in local tables; n stops in all
+  module _ (turned : ℕ → Bool) (unfixed : Unfixed (planOf p) turned) (n : ℕ) (total : n ≡ start (p .stopCounts) (drones p)) (owners starts lasts from into : List ℕ) (T : GraphTables (p .stopCounts) (graph (planOf p) turned) owners starts lasts from into) where
+    abbrev ordered : Plan
+    ordered = graph (planOf p) turned
+
+    abbrev laidPlan : Plan
+    laidPlan = flatPlan (at owners) (at starts) (at lasts) (drones p) (at from) (at into) (dependencies p)
+
+    pub order-formed : Formed ordered
+    order-formed = graph-formed (planOf p) accepted turned unfixed
+
+    pub order-tables : FlatTables owners starts lasts (drones p) n from into (dependencies p)
+    order-tables = subst (λ (z : ℕ). FlatTables owners starts lasts (drones p) z from into (dependencies p)) (sym total)
+        (laid-tables (p .stopCounts) ordered owners starts lasts from into T order-formed (λ d l. refl) (have-stops limits p (S .accepted)) (stops-in limits p (S .accepted)) (facts-now .dependencies-few) (facts-now .drones-few))
+
+    pub order-cyclic : cyclic laidPlan ≡ cyclic ordered
+    order-cyclic = laid-cyclic (p .stopCounts) ordered owners starts lasts from into T order-formed (λ d l. refl) (have-stops limits p (S .accepted))
+
+    -- where it has no cycle and its waits are kept, rounds can be counted
+    module _ (acyclic : cyclic ordered ≡ false) (waits : Kept ordered (at (t .visited))) where
+      pub order-ready : Ready owners starts lasts (drones p) n from into (dependencies p) (t .visited)
+      order-ready = record {
+        tables = order-tables;
+        has-visited = omega (arith, facts-now .drones-few, facts-now .sizes .visited);
+        acyclic = order-cyclic ∙ acyclic;
+        kept = laid-kept (p .stopCounts) ordered owners starts lasts from into T order-formed (λ d l. refl) (have-stops limits p (S .accepted)) (t .visited) waits;
+        within = λ d l. omega (arith, T .lasts-are d l, facts-now .place-in d l);
+      }
+
+    flat-same : SamePlan laidPlan ordered
+    flat-same = laid-same (p .stopCounts) ordered owners starts lasts from into T order-formed (λ d l. refl) (have-stops limits p (S .accepted))
+
+    laid-plan-formed : Formed laidPlan
+    laid-plan-formed = laid-formed (p .stopCounts) ordered owners starts lasts from into T order-formed (λ d l. refl) (have-stops limits p (S .accepted))
+
+    pub order-cost : cost laidPlan (at (t .visited)) ≡ cost ordered (at (t .visited))
+    order-cost = same-cost laidPlan ordered flat-same laid-plan-formed (at (t .visited)) (at (t .visited)) (λ d l. refl)
+
+    pub order-makespan : makespan laidPlan (at (t .visited)) ≡ makespan ordered (at (t .visited))
+    order-makespan = same-makespan laidPlan ordered flat-same laid-plan-formed (at (t .visited)) (at (t .visited)) (λ d l. refl)
+
+  -- ---- the order now in force
+
+  module _ (n : ℕ) (total : n ≡ start (p .stopCounts) (drones p)) (owners starts lasts from into : List ℕ) (T : InForce t owners starts lasts from into) where
+    pub now-ready : Ready owners starts lasts (drones p) n from into (dependencies p) (t .visited)
+    now-ready = order-ready (statusIn t .turned) unfixed-now n total owners starts lasts from into T (S .no-cycle) (kept limits t (S .waits-kept))
+
+    pub now-cost : (r : ℕ) → r ≡ cost (flatPlan (at owners) (at starts) (at lasts) (drones p) (at from) (at into) (dependencies p)) (at (t .visited)) → costs r ≡ costReply limits t
+    now-cost r e = ap costs (e ∙ order-cost (statusIn t .turned) unfixed-now n total owners starts lasts from into T) ∙ sym (cost-0 limits t (u .0) (u .1))
+
+    pub now-makespan : (r : ℕ) → r ≡ makespan (flatPlan (at owners) (at starts) (at lasts) (drones p) (at from) (at into) (dependencies p)) (at (t .visited)) → rounds r ≡ roundsReply limits t
+    now-makespan r e = ap rounds (e ∙ order-makespan (statusIn t .turned) unfixed-now n total owners starts lasts from into T) ∙ rounds-0 limits t u
+
+    -- ---- .. and with one dependency turned that is not fixed
+
+    module _ (w : ℕ) (l : w < dependencies p) (loose : fixedBit (at (t .flags) w) ≡ false) where
+      pub turn-from : 1 ≤ at from w
+      turn-from = from-some (p .stopCounts) (planOf p) (statusIn t .turned) owners starts lasts from into T w l (facts-now .dependencies-few)
+
+      pub turn-into : at into w < limits .stops
+      turn-into = omega (arith, now-ready .tables .placed .into-in w l, now-ready .tables .few-stops)
+
+      unfixed-turned : Unfixed (planOf p) (flip (statusIn t .turned) w)
+      unfixed-turned k h e = by-cases (eqb k w)
+          (λ q. ap (fixed (planOf p)) (eqb-true k w q) ∙ sym (fixed-bit limits t S w l) ∙ loose)
+          (λ q. unfixed-now k h (sym (flip-other (statusIn t .turned) w k q) ∙ e))
+
+      module _ (from′ into′ : List ℕ) (ef : from′ ≡ set from w (at into w + 1)) (ei : into′ ≡ set into w (at from w - 1)) where
+        after : GraphTables (p .stopCounts) (graph (planOf p) (flip (statusIn t .turned) w)) owners starts lasts from′ into′
+        after = exchanged (p .stopCounts) (planOf p) (statusIn t .turned) owners starts lasts from into T w l (facts-now .dependencies-few) from′ into′ ef ei
+
+        pub turn-tables : FlatTables owners starts lasts (drones p) n from′ into′ (dependencies p)
+        turn-tables = order-tables (flip (statusIn t .turned) w) unfixed-turned n total owners starts lasts from′ into′ after
+
+        pub turn-cyclic : (r : Bool) → r ≡ cyclic (flatPlan (at owners) (at starts) (at lasts) (drones p) (at from′) (at into′) (dependencies p)) → r ≡ turnedCyclic t w
+        turn-cyclic r e = e ∙ order-cyclic (flip (statusIn t .turned) w) unfixed-turned n total owners starts lasts from′ into′ after

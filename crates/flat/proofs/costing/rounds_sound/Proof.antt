@@ -1,0 +1,57 @@
+use native.Mathlib.Omega.{arith}
+use Rattle.tables.specs.Limits.{limits}
+use Rattle.tables.specs.Tables.{Tables, tablesOf}
+use Rattle.flat.proofs.Facts.{Facts, facts}
+use Rattle.flat.proofs.GraphLaws.{usable-counts, now-ready, now-makespan}
+use Rattle.flat.proofs.costing.rounds_sound.Statement.{statement}
+use Rattle.flat.proofs.costing.rounds_sound.Tie as tie
+use Rattle.flat.proofs.costing.rounds_sound.Reads as reads
+use Rattle.flat.proofs.costing.rounds_sound.Lts as lts
+use Rattle.plan.proofs.stops.stop_total.Reads as stop-total-reads
+use Rattle.rounds.proofs.playing.play_rounds.Reads as play-rounds-reads
+
+abbrev lent : tie.Start → Tables
+lent c = tablesOf (c .args .drone-count .now) (c .args .dependency-count .now) (c .args .names .now) (c .args .stop-counts .now) (c .args .locations .now) (c .args .times .now) (c .args .visited .now) (c .args .drone-flags .now) (c .args .first-drones .now) (c .args .first-stops .now) (c .args .second-drones .now) (c .args .second-stops .now) (c .args .flags .now)
+
+known : (c : tie.Start) → Facts limits (lent c)
+known c = facts limits (lent c) (c .pre .0)
+
+-- src/costing.rt:107:18
+shared-slice-read-drones : tie.Need-shared-slice-read-drones
+shared-slice-read-drones c = omega (arith, known (c .before .before .before .before .before .before .before .before .before .before .before .before .before .before) .sizes .drone-count)
+
+-- src/costing.rt:107:18
+cast-drones : tie.Need-cast-drones
+cast-drones c = omega (arith, known (c .before .before .before .before .before .before .before .before .before .before .before .before .before .before) .drones-few)
+
+-- src/costing.rt:108:13
+shared-slice-read-m : tie.Need-shared-slice-read-m
+shared-slice-read-m c = omega (arith, known (c .before .before .before .before .before .before .before .before .before .before .before .before .before .before .before) .sizes .dependency-count)
+
+-- src/costing.rt:108:13
+cast-m : tie.Need-cast-m
+cast-m c = omega (arith, known (c .before .before .before .before .before .before .before .before .before .before .before .before .before .before .before) .dependencies-few)
+
+-- src/costing.rt:109:9
+stop-total-requires : tie.Need-stop-total-requires
+stop-total-requires c κs = usable-counts (lent (c .before .before .before .before .before .before .before .before .before .before .before .before .before .before .before)) (c .before .before .before .before .before .before .before .before .before .before .before .before .before .before .before .pre .0)
+
+-- src/costing.rt:110:9
+play-rounds-requires : tie.Need-play-rounds-requires
+play-rounds-requires c κs = now-ready (lent (c .before .before .before .before .before .before .before .before .before .before .before .before .before .before .before .before .before)) (c .before .before .before .before .before .before .before .before .before .before .before .before .before .before .before .before .before .pre .0) _ (c .before .stop-total .ensures) _ _ _ _ _ (c .before .before .before .before .before .before .before .before .before .before .before .before .before .before .before .before .before .pre .1)
+
+-- src/costing.rt:65:1
+returns : tie.Need-returns
+returns c = now-makespan (lent (c .before .before .before .before .before .before .before .before .before .before .before .before .before .before .before .before .before .before)) (c .before .before .before .before .before .before .before .before .before .before .before .before .before .before .before .before .before .before .pre .0) _ (c .before .before .stop-total .ensures) _ _ _ _ _ (c .before .before .before .before .before .before .before .before .before .before .before .before .before .before .before .before .before .before .pre .1) _ (c .play-rounds .ensures .0)
+
+pub rounds-sound-spec : {M : Type 1} → statement M
+rounds-sound-spec =
+    tie.close
+    (tie.spec
+    shared-slice-read-drones
+    cast-drones
+    shared-slice-read-m
+    cast-m
+    stop-total-requires
+    play-rounds-requires
+    returns)

@@ -1,0 +1,59 @@
+-- Stops that share a location: the first of them, and the next. The first is found through trees of first stops; a location's low digits say which way to go, so no
+-- plan makes a way long. `loc` is a stop's location. Assumes nothing.
+use mathlib.Core.Path.{_≡_}
+use mathlib.Core.Logic.{_≢_}
+use mathlib.Core.Bool.{_&&_}
+use mathlib.Core.List.{List}
+use Prim.Native.Nat.{ℕ, _+_, _*_, _/_, _%_, _<_}
+use lib.Dec.{ltb}
+use lib.ListN.{length}
+use Rattle.below.specs.Below.{at, firstBelow}
+use Rattle.tables.specs.Limits.{limits}
+use Rattle.plan.specs.Check.{meets}
+
+-- how many trees there are, and how many slots: a root for each tree and two branches for each stop
+abbrev pub roots : ℕ
+roots = 1024
+
+abbrev pub slots : ℕ
+slots = roots + 2 * limits .stops
+
+-- the tree of a location: any function would do. This one keeps locations in a row apart, and those that lie a power of two apart; the 64 locations of a tree differ in
+-- `l / roots`, so no way from its root is longer than seven stops
+unfoldable pub rootOf : ℕ → ℕ
+rootOf l = (l + l / roots * 17) % roots
+
+-- the slot to which a search goes on from stop x, by the digits that are left
+abbrev pub branch : (x digits : ℕ) → ℕ
+branch x digits = roots + 2 * x + digits % 2
+
+module _ (loc : ℕ → ℕ) where
+  -- the first stop at the location of v
+  unfoldable pub firstAt : ℕ → ℕ
+  firstAt v = firstBelow v (λ u. meets (loc u) (loc v))
+
+  -- the search of location l leads from a slot to stop u. `links` has at each slot one more than the number of the stop there, and 0 is none
+  pub data Leads (links : List ℕ) (l : ℕ) : (slot digits u : ℕ) → Type 0 where
+    here : {slot digits u : ℕ} → at links slot ≡ u + 1 → Leads links l slot digits u
+    onward : {slot digits u x : ℕ} → at links slot ≡ x + 1 → loc x ≢ l → Leads links l (branch x digits) (digits / 2) u → Leads links l slot digits u
+
+  -- stop x, which is at the slot, is before m, the first at its location, and later than the stop whose branch the slot is
+  pub record Node (m slot x : ℕ) : Type 0 where
+    pub later : slot < roots + 2 * x
+    pub known : x < m
+    pub foremost : firstAt x ≡ x
+
+  -- the trees hold the first stops of all locations of the first m stops, each where a search finds it
+  pub record Trees (m : ℕ) (links : List ℕ) : Type 0 where
+    pub size : length links ≡ slots
+    pub node : (slot x : ℕ) → at links slot ≡ x + 1 → Node m slot x
+    pub leads : (u : ℕ) → u < m → firstAt u ≡ u → Leads links (loc u) (rootOf (loc u)) (loc u / roots) u
+
+  -- the next stop at the location of v, of n stops; n if there is none
+  unfoldable pub nextAt : ℕ → ℕ → ℕ
+  nextAt n v = firstBelow n (λ u. ltb v u && meets (loc u) (loc v))
+
+  -- `first` has the first stop at the location of each of n stops, `next` the next one there
+  pub record Groups (n : ℕ) (first next : List ℕ) : Type 0 where
+    pub firsts : (v : ℕ) → v < n → at first v ≡ firstAt v
+    pub nexts : (v : ℕ) → v < n → at next v ≡ nextAt n v

@@ -1,0 +1,91 @@
+// Stops that share a location. The first stops of all locations stand in trees, so that each stop finds the first at its own in a few steps, whatever the plan.
+use tables::entries::Stop;
+ghost use mathlib.Core.Path.{_≡_};
+ghost use Prim.Native.Nat.{ℕ, _+_, _≤_, _<_};
+ghost use lib.ListN.{length};
+ghost use Rattle.below.specs.Below.{at, fillBelow};
+ghost use Rattle.tables.specs.Limits.{limits};
+ghost use Rattle.plan.specs.Sharing.{roots, rootOf, firstAt, Trees, nextAt};
+
+// How many trees there are, and how many slots: a root for each tree and two branches for each stop.
+const ROOTS: usize = 1024;
+
+const SLOTS: usize = ROOTS + 2 * Stop::FULL;
+
+fn wide(x: u16) -> usize
+    ensures { λ r. ⌜ (r ≡ x) × (r < 65536) ⌝ }
+{
+    x as usize
+}
+
+// The root of a location's tree. Locations in a row have trees of their own, and so have those that lie a power of two apart.
+fn root(l: usize) -> usize
+    requires { ⌜ l < 65536 ⌝ }
+    ensures { λ r. ⌜ (r ≡ rootOf l) × (r < roots) ⌝ }
+{
+    (l + l / ROOTS * 17) % ROOTS
+}
+
+// The first stop at the location of w, where the trees hold the stops before w. If it is w itself, w joins its tree.
+fn enter(locations: &[u16], links: &mut [u16; SLOTS], w: usize) -> usize
+    requires { ⌜ Trees (at (now locations)) w (now links) × (w < length (now locations)) × (w < limits .stops) ⌝ }
+    ensures { λ r. ⌜ (r ≡ firstAt (at (now (locations .entry))) w) × Trees (at (now (locations .entry))) (w + 1) (now (links .exit)) ⌝ }
+{
+    let l = wide(locations[w]);
+    let mut slot = root(l);
+    let mut digits = l / ROOTS;
+    while links[slot] != 0 {
+        let u = wide(links[slot]) - 1;
+        if locations[u] == locations[w] {
+            return u;
+        }
+        slot = ROOTS + 2 * u + digits % 2;
+        digits = digits / 2;
+    }
+    links[slot] = w as u16 + 1;
+    w
+}
+
+// The first stop at the location of each of n stops.
+pub fn fill_firsts(locations: &[u16], n: usize, first: &mut [u16; Stop::FULL])
+    requires { ⌜ (n ≤ length (now locations)) × (n ≤ limits .stops) ⌝ }
+    ensures { λ _. ⌜ now (first .exit) ≡ fillBelow n (firstAt (at (now (locations .entry)))) (now (first .entry)) ⌝ }
+{
+    let mut links = [0u16; SLOTS];
+    let mut w = 0;
+    while w < n {
+        let f = enter(locations, &mut links, w);
+        first[w] = f as u16;
+        w += 1;
+    }
+}
+
+// The next stop at the location of each of n stops, n where there is none; `first` has the first stop at each one's location.
+fn fill_nexts(first: &[u16; Stop::FULL], n: usize, next: &mut [u16; Stop::FULL])
+    requires { ⌜ (n ≤ limits .stops) × (length (now next) ≡ limits .stops) × ((v : ℕ) → v < n → at (now first) v ≤ v) ⌝ }
+    ensures { λ _. ⌜ now (next .exit) ≡ fillBelow n (nextAt (at (now (first .entry))) n) (now (next .entry)) ⌝ }
+{
+    let mut latest = [n as u16; Stop::FULL];
+    let mut w = n;
+    while 0 < w {
+        w -= 1;
+        let f = first[w] as usize;
+        next[w] = latest[f];
+        latest[f] = w as u16;
+    }
+}
+
+// The stops by their locations: the first and the next at the location of each of n stops.
+pub fn fill_groups(
+    locations: &[u16],
+    n: usize,
+    first: &mut [u16; Stop::FULL],
+    next: &mut [u16; Stop::FULL],
+)
+    requires { ⌜ (n ≤ length (now locations)) × (n ≤ limits .stops) × (length (now first) ≡ limits .stops) × (length (now next) ≡ limits .stops) ⌝ }
+    ensures firsts { λ _. ⌜ now (first .exit) ≡ fillBelow n (firstAt (at (now (locations .entry)))) (now (first .entry)) ⌝ }
+    ensures nexts { λ _. ⌜ now (next .exit) ≡ fillBelow n (nextAt (at (now (locations .entry))) n) (now (next .entry)) ⌝ }
+{
+    fill_firsts(locations, n, first);
+    fill_nexts(first, n, next);
+}
