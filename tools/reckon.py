@@ -172,11 +172,9 @@ class Field:
         a, s, b, k = self.dependencies[w]
         if s == 0 or k == self.last[b]:
             return "31"
-        first, first_stop, second, second_stop = self.in_force(w, self.turned)
+        first, first_stop, _, _ = self.in_force(w, self.turned)
         if self.entered(first, first_stop):
             return "32"
-        if self.entered(second, second_stop):
-            return "33"
         turned = self.turned[:]
         turned[w] = not turned[w]
         if self.cyclic(turned):

@@ -120,10 +120,6 @@ pub fn of_turn(reply: TurnReply) -> Answer
             number: 32,
             detail: 0,
         },
-        TurnReply::SecondEntered => Answer {
-            number: 33,
-            detail: 0,
-        },
         TurnReply::Cycle => Answer {
             number: 34,
             detail: 0,

@@ -19,7 +19,6 @@ pub fn is_turned(reply: TurnReply) -> bool
         TurnReply::NoDependency => false,
         TurnReply::Fixed => false,
         TurnReply::FirstEntered => false,
-        TurnReply::SecondEntered => false,
         TurnReply::Cycle => false,
     }
 }

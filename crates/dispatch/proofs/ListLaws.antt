@@ -101,20 +101,19 @@ arrive-means true b = refl
 arrive-means false true = refl
 arrive-means false false = refl
 
-turn-means : (a b c d e : Bool) → Means (firstThatHolds (when a (refused 30) ∷ when b (refused 31) ∷ when c (refused 32) ∷ when d (refused 33) ∷ when e (refused 34) ∷ []))
+turn-means : (a b c d : Bool) → Means (firstThatHolds (when a (refused 30) ∷ when b (refused 31) ∷ when c (refused 32) ∷ when d (refused 34) ∷ []))
 unfolding replyFrom
-turn-means true b c d e = refl
-turn-means false true c d e = refl
-turn-means false false true d e = refl
-turn-means false false false true e = refl
-turn-means false false false false true = refl
-turn-means false false false false false = refl
+turn-means true b c d = refl
+turn-means false true c d = refl
+turn-means false false true d = refl
+turn-means false false false true = refl
+turn-means false false false false = refl
 
 means-in : (F : FieldPlan) (s : Status) (c : Call) → Means (replyIn F s c)
 unfolding replyIn
 means-in F s (grant d) = grant-means (leb (F .drones) d) (leb (F .last d) (s .place d)) (s .underWay d) (ltb (unmet F s d) (F .count)) (unmet F s d)
 means-in F s (arrive d) = arrive-means (leb (F .drones) d) (not (s .underWay d))
-means-in F s (turn w) = turn-means (leb (F .count) w) (fixed F w) (entered F s (now F s w .first) (now F s w .firstStop)) (entered F s (now F s w .second) (now F s w .secondStop)) (cyclic (graph F (flip (s .turned) w)))
+means-in F s (turn w) = turn-means (leb (F .count) w) (fixed F w) (entered F s (now F s w .first) (now F s w .firstStop)) (cyclic (graph F (flip (s .turned) w)))
 
 means-refused : (a b : Bool) (r : Reply) → Means r → Means (cond a (cond b r (refused 40)) (refused 41))
 unfolding replyFrom

@@ -66,7 +66,6 @@ pub fn of_turn(reply: TurnReply) -> Answered
         TurnReply::NoDependency => numbered(30),
         TurnReply::Fixed => numbered(31),
         TurnReply::FirstEntered => numbered(32),
-        TurnReply::SecondEntered => numbered(33),
         TurnReply::Cycle => numbered(34),
     }
 }

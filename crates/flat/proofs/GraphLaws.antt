@@ -8,12 +8,11 @@ use native.Mathlib.Omega.{arith}
 use lib.Dec.{eqb}
 use lib.ListN.{length, set, length-set}
 use lib.Seq.{getD-set-same, getD-set-other}
-use borrow.Author.Tests.{eqb-true, eqb-false, eq-eqb}
+use borrow.Author.Tests.{leb-false, eqb-true, eqb-false, eq-eqb}
 use Rattle.below.specs.Below.{at}
 use Rattle.below.proofs.Tests.{by-cases}
 use Rattle.tables.specs.Limits.{limits}
 use Rattle.tables.specs.Tables.{PlanLists, Tables, drones, dependencies}
-use Rattle.tables.specs.Flags.{fixedBit}
 use Rattle.precedence.specs.Graph.{Plan, Wait, Formed, Kept, cyclic, cost, makespan}
 use Rattle.plan.specs.Stops.{start, owner, number}
 use Rattle.plan.specs.Room.{Counts}
@@ -32,9 +31,10 @@ use Rattle.rounds.specs.Remaining.{SamePlan, Ready}
 use Rattle.rounds.proofs.SamePlans.{same-cost, same-makespan}
 use Rattle.log.specs.Claims.{Usable}
 use Rattle.log.specs.Calls.{costs, costReply, rounds, roundsReply}
+use Rattle.log.proofs.Checks.{Passes}
 use Rattle.log.proofs.Costs.{kept}
 use Rattle.log.proofs.Exactly.{unfixed-says}
-use Rattle.log.proofs.SoundParts.{accepted-plan, have-stops, stops-in, fixed-bit}
+use Rattle.log.proofs.SoundParts.{accepted-plan, have-stops, stops-in}
 use Rattle.log.proofs.Steps.{cost-0}
 use Rattle.flat.specs.InForce.{turnedCyclic}
 use Rattle.flat.proofs.Facts.{Facts, facts}
@@ -240,23 +240,29 @@ module _ (t : Tables) (u : Usable limits t) where
     pub now-makespan : (r : ℕ) → r ≡ makespan (flatPlan (at owners) (at starts) (at lasts) (drones p) (at from) (at into) (dependencies p)) (at (t .visited)) → rounds r ≡ roundsReply limits t
     now-makespan r e = ap rounds (e ∙ order-makespan (statusIn t .turned) unfixed-now n total owners starts lasts from into T) ∙ rounds-0 limits t u
 
-    -- ---- .. and with one dependency turned that is not fixed
+    -- ---- .. and with one dependency turned that passes 30 to 32
 
-    module _ (w : ℕ) (l : w < dependencies p) (loose : fixedBit (at (t .flags) w) ≡ false) where
+    module _ (w : ℕ) (passes : Passes (planOf p) (statusIn t) w) where
+      exists : w < dependencies p
+      exists = leb-false (dependencies p) w (passes .0)
+
+      pub turn-in : w < limits .dependencies
+      turn-in = omega (arith, exists, facts-now .dependencies-few)
+
       pub turn-from : 1 ≤ at from w
-      turn-from = from-some (p .stopCounts) (planOf p) (statusIn t .turned) owners starts lasts from into T w l (facts-now .dependencies-few)
+      turn-from = from-some (p .stopCounts) (planOf p) (statusIn t .turned) owners starts lasts from into T w exists (facts-now .dependencies-few)
 
       pub turn-into : at into w < limits .stops
-      turn-into = omega (arith, now-ready .tables .placed .into-in w l, now-ready .tables .few-stops)
+      turn-into = omega (arith, now-ready .tables .placed .into-in w exists, now-ready .tables .few-stops)
 
       unfixed-turned : Unfixed (planOf p) (flip (statusIn t .turned) w)
       unfixed-turned k h e = by-cases (eqb k w)
-          (λ q. ap (fixed (planOf p)) (eqb-true k w q) ∙ sym (fixed-bit limits t S w l) ∙ loose)
+          (λ q. ap (fixed (planOf p)) (eqb-true k w q) ∙ passes .1)
           (λ q. unfixed-now k h (sym (flip-other (statusIn t .turned) w k q) ∙ e))
 
       module _ (from′ into′ : List ℕ) (ef : from′ ≡ set from w (at into w + 1)) (ei : into′ ≡ set into w (at from w - 1)) where
         after : GraphTables (p .stopCounts) (graph (planOf p) (flip (statusIn t .turned) w)) owners starts lasts from′ into′
-        after = exchanged (p .stopCounts) (planOf p) (statusIn t .turned) owners starts lasts from into T w l (facts-now .dependencies-few) from′ into′ ef ei
+        after = exchanged (p .stopCounts) (planOf p) (statusIn t .turned) owners starts lasts from into T w exists (facts-now .dependencies-few) from′ into′ ef ei
 
         pub turn-tables : FlatTables owners starts lasts (drones p) n from′ into′ (dependencies p)
         turn-tables = order-tables (flip (statusIn t .turned) w) unfixed-turned n total owners starts lasts from′ into′ after

@@ -4,4 +4,5 @@ pub mod WritingLaws
 pub mod CheckLaws
 pub mod CostLaws
 pub mod GraphLaws
+pub mod TestLaws
 pub mod TurnAnswers

@@ -2,5 +2,6 @@ pub mod Replies
 pub mod Checking
 pub mod Writing
 pub mod TurnReplies
+pub mod TurnTests
 pub mod Entering
 pub mod InForce

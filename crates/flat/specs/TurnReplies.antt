@@ -15,7 +15,6 @@ turnMeant turn.NotSound = refused 40
 turnMeant turn.NoDependency = refused 30
 turnMeant turn.Fixed = refused 31
 turnMeant turn.FirstEntered = refused 32
-turnMeant turn.SecondEntered = refused 33
 turnMeant turn.Cycle = refused 34
 
 abbrev pub costMeant : CostAnswer → CostReply

@@ -5,4 +5,5 @@ pub mod costing;
 pub mod exchanging;
 pub mod replies;
 pub mod turn_replies;
+pub mod turn_tests;
 pub mod turning;

@@ -6,7 +6,6 @@ pub enum TurnReply {
     NoDependency,
     Fixed,
     FirstEntered,
-    SecondEntered,
     Cycle,
 }
 

@@ -1,63 +1,21 @@
 // Turn on tables that are of full size and sound.
 use crate::exchanging::exchange;
 use crate::turn_replies::TurnReply;
+use crate::turn_tests::TurnTest;
+use crate::turn_tests::turn_test;
 use cycles::has_cycle;
 use plan::stops::stop_total;
 use tables::entries::Dependency;
 use tables::entries::Drone;
 use tables::entries::Stop;
 use tables::flags::flipped;
-use tables::flags::is_fixed;
-use tables::flags::is_turned;
-use tables::flags::is_under_way;
-ghost use mathlib.Core.Path.{_≡_};
-ghost use mathlib.Core.Bool.{cond};
-ghost use Prim.Native.Nat.{_<_};
-ghost use lib.ListN.{length};
-ghost use Rattle.below.specs.Below.{at};
 ghost use Rattle.tables.specs.Limits.{limits};
 ghost use Rattle.tables.specs.Tables.{tablesOf};
 ghost use Rattle.sound.specs.Asked.{InForce};
 ghost use Rattle.log.specs.CallLog.{turn};
 ghost use Rattle.log.specs.Calls.{step, Answered};
 ghost use Rattle.log.specs.Claims.{Usable};
-ghost use Rattle.flat.specs.Entering.{enteredBy};
 ghost use Rattle.flat.specs.TurnReplies.{turnMeant};
-
-// Whether a drone has visited a stop or is under way to it.
-fn has_entered(place: u16, flag: u8, stop: u16) -> bool
-    ensures { λ r. ⌜ r ≡ enteredBy place flag stop ⌝ }
-{
-    if stop <= place {
-        return true;
-    }
-    if !is_under_way(flag) {
-        return false;
-    }
-    stop - place == 1
-}
-
-// Whether one side of a dependency, a drone and its stop, is entered.
-fn side_entered(
-    visited: &[u16],
-    drone_flags: &[u8],
-    drones: &[u8],
-    stops: &[u16],
-    dependency: usize,
-) -> bool
-    requires { ⌜ (dependency < length (now drones)) × (dependency < length (now stops)) × (at (now drones) dependency < length (now visited)) × (at (now drones) dependency < length (now «drone_flags»)) ⌝ }
-    ensures { λ r. ⌜ r ≡ enteredBy (at (now (visited .entry)) (at (now (drones .entry)) dependency)) (at (now («drone_flags» .entry)) (at (now (drones .entry)) dependency)) (at (now (stops .entry)) dependency) ⌝ }
-{
-    let drone = drones[dependency] as usize;
-    has_entered(visited[drone], drone_flags[drone], stops[dependency])
-}
-
-// What holds of a side in the order now in force: of the other side when the dependency is turned.
-fn in_force(turned: bool, planned: bool, other: bool) -> bool
-    ensures { λ r. ⌜ r ≡ cond turned other planned ⌝ }
-{
-    if turned { other } else { planned }
-}
 
 // "flips bit 0 of one dependency", where the graph, which is in the last five tables, has no cycle with it.
 pub fn turn_sound(
@@ -108,35 +66,35 @@ pub fn turn_sound(
         (now (flags .exit)))
         ⌝ }
 {
-    let count = dependency_count[0] as usize;
-    if count <= dependency {
-        return TurnReply::NoDependency;
-    }
-    let flag = flags[dependency];
-    if is_fixed(flag) {
-        return TurnReply::Fixed;
-    }
-    let first = side_entered(visited, drone_flags, first_drones, first_stops, dependency);
-    let second = side_entered(
+    let test = turn_test(
+        drone_count,
+        dependency_count,
+        names,
+        stop_counts,
+        locations,
+        times,
         visited,
         drone_flags,
+        first_drones,
+        first_stops,
         second_drones,
         second_stops,
+        flags,
         dependency,
     );
-    let turned = is_turned(flag);
-    if in_force(turned, first, second) {
-        return TurnReply::FirstEntered;
-    }
-    if in_force(turned, second, first) {
-        return TurnReply::SecondEntered;
+    match test {
+        TurnTest::NoDependency => return TurnReply::NoDependency,
+        TurnTest::Fixed => return TurnReply::Fixed,
+        TurnTest::FirstEntered => return TurnReply::FirstEntered,
+        TurnTest::Passes => {}
     }
     exchange(from, into, dependency);
     let drones = drone_count[0] as usize;
+    let count = dependency_count[0] as usize;
     let n = stop_total(drones, stop_counts);
     if has_cycle(owners, starts, lasts, drones, n, from, into, count) {
         return TurnReply::Cycle;
     }
-    flags[dependency] = flipped(flag);
+    flags[dependency] = flipped(flags[dependency]);
     TurnReply::Turned
 }

@@ -167,59 +167,6 @@ module _ (F : FieldPlan) (s : Status) where
   pub unfixed-is : {w : ℕ} → dependency w .firstStop ≢ 0 → dependency w .secondStop ≢ last (dependency w .second) → fixed F w ≡ false
   unfixed-is {w} a b = rw (ne-eqb (dependency w .firstStop) 0 a, ne-eqb (dependency w .secondStop) (last (dependency w .second)) b) refl
 
-  -- the order in force or the planned one: the two drones are the same
-  turnable : {w : ℕ} (t : Bool) → leb count w ≡ false → fixed F w ≡ false → entered F s (inForce t (dependency w) .first) (inForce t (dependency w) .firstStop) ≡ false → entered F s (inForce t (dependency w) .second) (inForce t (dependency w) .secondStop) ≡ false → Turnable F s w
-  turnable {w} t a b c d = record {
-    exists = leb-false count w a;
-    not-first = eqb-false _ _ (or-left _ _ b);
-    not-last = eqb-false _ _ (or-right (eqb (dependency w .firstStop) 0) _ b);
-    first-before = planned t c d .0;
-    second-before = planned t c d .1;
-  }
-    where
-      planned : (t : Bool) → entered F s (inForce t (dependency w) .first) (inForce t (dependency w) .firstStop) ≡ false → entered F s (inForce t (dependency w) .second) (inForce t (dependency w) .secondStop) ≡ false → Unentered F s (dependency w .first) (dependency w .firstStop) × Unentered F s (dependency w .second) (dependency w .secondStop)
-      planned false c d = (unentered c, unentered d)
-      planned true c d = (unentered d, unentered c)
-
-  first-unentered : {w : ℕ} (t : Bool) → Turnable F s w → entered F s (inForce t (dependency w) .first) (inForce t (dependency w) .firstStop) ≡ false
-  first-unentered true m = unentered-is (m .second-before)
-  first-unentered false m = unentered-is (m .first-before)
-
-  second-unentered : {w : ℕ} (t : Bool) → Turnable F s w → entered F s (inForce t (dependency w) .second) (inForce t (dependency w) .secondStop) ≡ false
-  second-unentered true m = unentered-is (m .first-before)
-  second-unentered false m = unentered-is (m .second-before)
-
-  pub turn-accepted : (w : ℕ) → (replyIn F s (turn w) ≡ accepted) ↔ (Turnable F s w × (cyclic (graph F (flip turned w)) ≡ false))
-  unfolding replyIn
-  turn-accepted w = (to, from)
-    where
-      to : firstThatHolds (refusals F s (turn w)) ≡ accepted → Turnable F s w × (cyclic (graph F (flip turned w)) ≡ false)
-      to e =
-          let (a, r) = further (said (refusals F s (turn w)) accepted e) (omega arith) in
-          let (b, r) = further r (omega arith) in
-          let (c, r) = further r (omega arith) in
-          let (d, r) = further r (omega arith) in
-          let (f, r) = further r (omega arith) in
-          (turnable (turned w) a b c d, f)
-
-      from : Turnable F s w × (cyclic (graph F (flip turned w)) ≡ false) → firstThatHolds (refusals F s (turn w)) ≡ accepted
-      from (m, f) = rw (lt-leb count w (m .exists), unfixed-is (m .not-first) (m .not-last), first-unentered (turned w) m, second-unentered (turned w) m, f) refl
-
-  pub turn-cycle : (w : ℕ) → (replyIn F s (turn w) ≡ refused 34) ↔ (Turnable F s w × (cyclic (graph F (flip turned w)) ≡ true))
-  unfolding replyIn
-  turn-cycle w = (to, from)
-    where
-      to : firstThatHolds (refusals F s (turn w)) ≡ refused 34 → Turnable F s w × (cyclic (graph F (flip turned w)) ≡ true)
-      to e =
-          let (a, r) = further (said (refusals F s (turn w)) (refused 34) e) (omega arith) in
-          let (b, r) = further r (omega arith) in
-          let (c, r) = further r (omega arith) in
-          let (d, r) = further r (omega arith) in
-          elim r [ inl (f, q) ↦ (turnable (turned w) a b c d, f) | inr (f, q) ↦ differ q (omega arith) ]
-
-      from : Turnable F s w × (cyclic (graph F (flip turned w)) ≡ true) → firstThatHolds (refusals F s (turn w)) ≡ refused 34
-      from (m, f) = rw (lt-leb count w (m .exists), unfixed-is (m .not-first) (m .not-last), first-unentered (turned w) m, second-unentered (turned w) m, f) refl
-
   -- where the second drone has entered its stop, the first has left its own
   second-then-first : waitsKept F s ≡ true → (w : ℕ) → w < count → entered F s (now F s w .second) (now F s w .secondStop) ≡ true → entered F s (now F s w .first) (now F s w .firstStop) ≡ true
   unfolding waitsKept
@@ -227,17 +174,69 @@ module _ (F : FieldPlan) (s : Status) where
       let left : suc (now F s w .firstStop) ≤ place (now F s w .first) = leb-true _ _ (rw h at (allBelow-at count _ k w l)) in
       rw (le-leb (now F s w .firstStop) (place (now F s w .first)) (omega arith)) refl
 
-  -- so 32 comes before 33
-  pub turn-33 : waitsKept F s ≡ true → (w : ℕ) → replyIn F s (turn w) ≢ refused 33
+  -- so a test of the first is one of both
+  second-too : waitsKept F s ≡ true → (w : ℕ) → w < count → entered F s (now F s w .first) (now F s w .firstStop) ≡ false → entered F s (now F s w .second) (now F s w .secondStop) ≡ false
+  second-too k w l f = by-cases (entered F s (now F s w .second) (now F s w .secondStop)) (λ e. true-or-false (second-then-first k w l e) f) (λ e. e)
+
+  pub second-unentered : waitsKept F s ≡ true → (w : ℕ) → w < count → Unentered F s (now F s w .first) (now F s w .firstStop) → Unentered F s (now F s w .second) (now F s w .secondStop)
+  second-unentered k w l u = unentered (second-too k w l (unentered-is u))
+
+  -- dependency w passes 30 to 32
+  abbrev pub Passes : ℕ → Type 0
+  Passes w = (leb count w ≡ false) × (fixed F w ≡ false) × (entered F s (now F s w .first) (now F s w .firstStop) ≡ false)
+
+  -- the order in force or the planned one: the two drones are the same
+  pub turnable : waitsKept F s ≡ true → {w : ℕ} → Passes w → Turnable F s w
+  turnable k {w} (a, b, c) = record {
+    exists = leb-false count w a;
+    not-first = eqb-false _ _ (or-left _ _ b);
+    not-last = eqb-false _ _ (or-right (eqb (dependency w .firstStop) 0) _ b);
+    first-before = both .0;
+    second-before = both .1;
+  }
+    where
+      planned : (t : Bool) → entered F s (inForce t (dependency w) .first) (inForce t (dependency w) .firstStop) ≡ false → entered F s (inForce t (dependency w) .second) (inForce t (dependency w) .secondStop) ≡ false → Unentered F s (dependency w .first) (dependency w .firstStop) × Unentered F s (dependency w .second) (dependency w .secondStop)
+      planned false c d = (unentered c, unentered d)
+      planned true c d = (unentered d, unentered c)
+
+      both : Unentered F s (dependency w .first) (dependency w .firstStop) × Unentered F s (dependency w .second) (dependency w .secondStop)
+      both = planned (turned w) c (second-too k w (leb-false count w a) c)
+
+  first-unentered : {w : ℕ} (t : Bool) → Turnable F s w → entered F s (inForce t (dependency w) .first) (inForce t (dependency w) .firstStop) ≡ false
+  first-unentered true m = unentered-is (m .second-before)
+  first-unentered false m = unentered-is (m .first-before)
+
+  pub passes : {w : ℕ} → Turnable F s w → Passes w
+  passes {w} m = (lt-leb count w (m .exists), unfixed-is (m .not-first) (m .not-last), first-unentered (turned w) m)
+
+  pub turn-accepted : waitsKept F s ≡ true → (w : ℕ) → (replyIn F s (turn w) ≡ accepted) ↔ (Turnable F s w × (cyclic (graph F (flip turned w)) ≡ false))
   unfolding replyIn
-  turn-33 k w e =
-      let (a, r) = further (said (refusals F s (turn w)) (refused 33) e) (omega arith) in
-      let (b, r) = further r (omega arith) in
-      let (c, r) = further r (omega arith) in
-      elim r [
-        | inl (d, q) ↦ true-or-false (second-then-first k w (leb-false count w a) d) c
-        | inr (d, r) ↦ elim r [ inl (f, q) ↦ differ q (omega arith) | inr (f, q) ↦ differ q (omega arith) ]
-      ]
+  turn-accepted k w = (to, from)
+    where
+      to : firstThatHolds (refusals F s (turn w)) ≡ accepted → Turnable F s w × (cyclic (graph F (flip turned w)) ≡ false)
+      to e =
+          let (a, r) = further (said (refusals F s (turn w)) accepted e) (omega arith) in
+          let (b, r) = further r (omega arith) in
+          let (c, r) = further r (omega arith) in
+          let (f, r) = further r (omega arith) in
+          (turnable k (a, b, c), f)
+
+      from : Turnable F s w × (cyclic (graph F (flip turned w)) ≡ false) → firstThatHolds (refusals F s (turn w)) ≡ accepted
+      from (m, f) = let (a, b, c) = passes m in rw (a, b, c, f) refl
+
+  pub turn-cycle : waitsKept F s ≡ true → (w : ℕ) → (replyIn F s (turn w) ≡ refused 34) ↔ (Turnable F s w × (cyclic (graph F (flip turned w)) ≡ true))
+  unfolding replyIn
+  turn-cycle k w = (to, from)
+    where
+      to : firstThatHolds (refusals F s (turn w)) ≡ refused 34 → Turnable F s w × (cyclic (graph F (flip turned w)) ≡ true)
+      to e =
+          let (a, r) = further (said (refusals F s (turn w)) (refused 34) e) (omega arith) in
+          let (b, r) = further r (omega arith) in
+          let (c, r) = further r (omega arith) in
+          elim r [ inl (f, q) ↦ (turnable k (a, b, c), f) | inr (f, q) ↦ differ q (omega arith) ]
+
+      from : Turnable F s w × (cyclic (graph F (flip turned w)) ≡ true) → firstThatHolds (refusals F s (turn w)) ≡ refused 34
+      from (m, f) = let (a, b, c) = passes m in rw (a, b, c, f) refl
 
   -- ---- what an accepted call passed
 
@@ -247,5 +246,5 @@ module _ (F : FieldPlan) (s : Status) where
   pub arrive-passed : (d : ℕ) → isAccepted (replyIn F s (arrive d)) ≡ true → MayArrive F s d
   arrive-passed d e = arrive-accepted d .0 (is-accepted _ e)
 
-  pub turn-passed : (w : ℕ) → isAccepted (replyIn F s (turn w)) ≡ true → Turnable F s w × (cyclic (graph F (flip turned w)) ≡ false)
-  turn-passed w e = turn-accepted w .0 (is-accepted _ e)
+  pub turn-passed : waitsKept F s ≡ true → (w : ℕ) → isAccepted (replyIn F s (turn w)) ≡ true → Turnable F s w × (cyclic (graph F (flip turned w)) ≡ false)
+  turn-passed k w e = turn-accepted k w .0 (is-accepted _ e)

@@ -1,6 +1,6 @@
 -- Demand 2, its parts gathered. Assumes nothing.
 use Rattle.log.specs.Claims.{Demand2}
-use Rattle.log.proofs.Exactly.{granted-exactly, waits-exactly, arrived-exactly, never-33, turned-exactly, cycle-exactly}
+use Rattle.log.proofs.Exactly.{granted-exactly, waits-exactly, arrived-exactly, second-after-first, turned-exactly, cycle-exactly}
 use Rattle.log.proofs.Costs.{cost-means, cost-bounded, cost-limit}
 
 pub demand2 : Demand2
@@ -8,7 +8,7 @@ demand2 = record {
   granted-exactly = granted-exactly;
   waits-exactly = waits-exactly;
   arrived-exactly = arrived-exactly;
-  never-33 = never-33;
+  second-after-first = second-after-first;
   turned-exactly = turned-exactly;
   cycle-exactly = cycle-exactly;
   cost-means = cost-means;

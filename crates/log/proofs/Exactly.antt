@@ -11,16 +11,16 @@ use Rattle.tables.specs.Tables.{Tables, fullSize}
 use Rattle.precedence.specs.Graph.{Formed}
 use Rattle.precedence.proofs.Visits.{cyclic-iff, acyclic-iff}
 use Rattle.plan.specs.Field.{FieldPlan, AcceptedPlan, planOf, flip, graph, fixed}
-use Rattle.plan.specs.Status.{Status, statusIn, fixedUnturned}
+use Rattle.plan.specs.Status.{Status, statusIn, fixedUnturned, waitsKept}
 use Rattle.plan.specs.Claims.{Unfixed}
 use Rattle.plan.proofs.Turns.{flip-elim, graph-formed}
 use Rattle.sound.specs.Sound.{sound}
 use Rattle.log.specs.CallLog.{Call, grant, arrive, turn, Reply, accepted, refused, mustWait, number, replyIn}
 use Rattle.log.specs.Calls.{replyOf, grantStep, arriveStep, turnStep}
-use Rattle.log.specs.Claims.{Usable, MayGo, MustWait, MayArrive, Turnable, TurnedCycle, GrantedExactly, WaitsExactly, ArrivedExactly, Never33, TurnedExactly, CycleExactly}
+use Rattle.log.specs.Claims.{Usable, MayGo, MustWait, MayArrive, Turnable, TurnedCycle, GrantedExactly, WaitsExactly, ArrivedExactly, SecondAfterFirst, TurnedExactly, CycleExactly}
 use Rattle.sound.proofs.Clauses.{sound-says}
 use Rattle.log.proofs.SoundParts.{accepted-plan}
-use Rattle.log.proofs.Checks.{differ, unfixed-is, grant-accepted, grant-waits, arrive-accepted, turn-accepted, turn-cycle, turn-33}
+use Rattle.log.proofs.Checks.{differ, unfixed-is, grant-accepted, grant-waits, arrive-accepted, turn-accepted, turn-cycle, second-unentered}
 
 -- none of the fixed ones is turned, as a test and as a law
 pub unfixed-says : (F : FieldPlan) (s : Status) → fixedUnturned F s ≡ true → Unfixed F (s .turned)
@@ -69,9 +69,11 @@ module _ (L : Limits) (t : Tables) where
   unfolding arriveStep
   arrived-exactly d = exactly (MayArrive F S d) (arrive d) accepted (omega arith) (λ s. arrive-accepted F S d)
 
-  pub never-33 : Never33 L t
-  unfolding turnStep
-  never-33 w e = let (u, q) = passed (turn w) (refused 33) (omega arith) e in turn-33 F S (sound-says L t (u .1) .waits-kept) w q
+  waits : sound L t ≡ true → waitsKept F S ≡ true
+  waits s = sound-says L t s .waits-kept
+
+  pub second-after-first : SecondAfterFirst L t
+  second-after-first s w l u = second-unentered F S (waits s) w l u
 
   formed : sound L t ≡ true → (w : ℕ) → Turnable F S w → Formed (graph F (flip (S .turned) w))
   formed s = let x = sound-says L t s in turned-formed F S (accepted-plan L (t .plan) (x .accepted) (x .dependencies-own)) (x .fixed-unturned)
@@ -79,13 +81,13 @@ module _ (L : Limits) (t : Tables) where
   pub turned-exactly : TurnedExactly L t
   unfolding turnStep
   turned-exactly w = exactly (Turnable F S w × (TurnedCycle F S w → ⊥)) (turn w) accepted (omega arith) (λ s. (
-    λ e. let (m, q) = turn-accepted F S w .0 e in (m, acyclic-iff (graph F (flip (S .turned) w)) (formed s w m) .0 q),
-    λ (m, q). turn-accepted F S w .1 (m, acyclic-iff (graph F (flip (S .turned) w)) (formed s w m) .1 q),
+    λ e. let (m, q) = turn-accepted F S (waits s) w .0 e in (m, acyclic-iff (graph F (flip (S .turned) w)) (formed s w m) .0 q),
+    λ (m, q). turn-accepted F S (waits s) w .1 (m, acyclic-iff (graph F (flip (S .turned) w)) (formed s w m) .1 q),
   ))
 
   pub cycle-exactly : CycleExactly L t
   unfolding turnStep
   cycle-exactly w = exactly (Turnable F S w × TurnedCycle F S w) (turn w) (refused 34) (omega arith) (λ s. (
-    λ e. let (m, q) = turn-cycle F S w .0 e in (m, cyclic-iff (graph F (flip (S .turned) w)) (formed s w m) .0 q),
-    λ (m, q). turn-cycle F S w .1 (m, cyclic-iff (graph F (flip (S .turned) w)) (formed s w m) .1 q),
+    λ e. let (m, q) = turn-cycle F S (waits s) w .0 e in (m, cyclic-iff (graph F (flip (S .turned) w)) (formed s w m) .0 q),
+    λ (m, q). turn-cycle F S (waits s) w .1 (m, cyclic-iff (graph F (flip (S .turned) w)) (formed s w m) .1 q),
   ))

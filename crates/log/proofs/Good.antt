@@ -1,13 +1,14 @@
 -- What every list of calls keeps, over plain functions: p counts the accepted arrivals of each drone, e its accepted grants, t says what is turned. Each accepted call
 -- changes one of the three at one index. Assumes nothing.
-use mathlib.Core.Path.{_≡_}
-use mathlib.Core.Bool.{Bool, true, false}
+use mathlib.Core.Path.{_≡_, refl, sym, ap, _∙_}
+use mathlib.Core.Bool.{Bool, true, false, not, _&&_, _||_}
 use Prim.Native.Nat.{ℕ, suc, _≤_, _<_}
 use native.Mathlib.Omega.{arith}
-use lib.Dec.{ltb}
-use borrow.Author.Tests.{ltb-true, ltb-false}
+use lib.Dec.{eqb, ltb, leb}
+use borrow.Author.Tests.{ltb-true, ltb-false, eqb-true, leb-true, le-leb, lt-leb}
 use Rattle.below.proofs.Index.{put-elim}
-use Rattle.below.proofs.Tests.{by-cases}
+use Rattle.below.proofs.Tests.{by-cases, true-or-false, and-left, and-right, and-both}
+use Rattle.below.proofs.Every.{allBelow-all}
 use Rattle.below.specs.Below.{put}
 use Rattle.log.specs.Claims.{MayGo, MayArrive, Unentered, Turnable}
 use Rattle.log.proofs.Checks.{unfixed-is, go-free}
@@ -15,7 +16,7 @@ use Rattle.log.proofs.Running.{Running, grant-running, arrive-running}
 use Rattle.plan.specs.Field.{FieldPlan, inForce, waitOf, flip, graph, fixed, AcceptedPlan}
 use Rattle.plan.specs.Claims.{unturned, Unfixed}
 use Rattle.plan.proofs.Turns.{flip-elim, graph-formed, none-unfixed, planned-acyclic}
-use Rattle.plan.specs.Status.{Status}
+use Rattle.plan.specs.Status.{Status, entered, fixedUnturned, withinStops, waitsKept}
 use Rattle.precedence.specs.Graph.{cyclic}
 
 module _ (F : FieldPlan) where
@@ -79,3 +80,41 @@ module _ (F : FieldPlan) where
       unentered : (b : Bool) → w < count → waitOf (inForce b (dependency w)) .stop ≤ e (waitOf (inForce b (dependency w)) .waiter) → waitOf (inForce b (dependency w)) .until ≤ p (waitOf (inForce b (dependency w)) .awaited)
       unentered false l h = absurd (omega (arith, not-entered p e t g (dependency w .second) (dependency w .secondStop) (c .second-before)))
       unentered true l h = absurd (omega (arith, not-entered p e t g (dependency w .first) (dependency w .firstStop) (c .first-before)))
+
+-- ---- progress by counts is sound
+
+module _ (F : FieldPlan) (p e : ℕ → ℕ) (t : ℕ → Bool) (good : Good F p e t) where
+  open FieldPlan F using (drones, last, count)
+
+  -- an entered stop is at most the last entered one
+  pub entered-in : (d k : ℕ) → entered F (statusBy F p e t) d k ≡ true → k ≤ e d
+  entered-in d k h = by-cases (leb k (p d))
+      (λ a. omega (arith, leb-true k (p d) a, good .running .behind d))
+      (λ a. let m : ltb (p d) (e d) && eqb k (suc (p d)) ≡ true = sym (ap (λ (b : Bool). b || ltb (p d) (e d) && eqb k (suc (p d))) a) ∙ h in
+      omega (arith, ltb-true (p d) (e d) (and-left _ _ m), eqb-true k (suc (p d)) (and-right (ltb (p d) (e d)) _ m)))
+
+  pub good-within : withinStops F (statusBy F p e t) ≡ true
+  unfolding withinStops
+  good-within = allBelow-all drones _ (λ d l. and-both (leb (p d) (last d)) _
+      (le-leb (p d) (last d) (omega (arith, good .running .behind d, good .within d l)))
+      (by-cases (ltb (p d) (e d))
+      (λ u. rw (u, lt-leb (last d) (p d) (omega (arith, ltb-true (p d) (e d) u, good .within d l))))
+      (λ u. rw u)))
+
+  pub good-waits : waitsKept F (statusBy F p e t) ≡ true
+  unfolding waitsKept
+  good-waits = allBelow-all count _ (λ w l. by-cases (entered F (statusBy F p e t) (graph F t .wait w .waiter) (graph F t .wait w .stop))
+      (λ h. or-second (entered F (statusBy F p e t) (graph F t .wait w .waiter) (graph F t .wait w .stop)) _ h (le-leb _ _ (good .running .over w l (entered-in _ _ h))))
+      (λ h. or-first _ _ h))
+    where
+      or-second : (a b : Bool) → a ≡ true → b ≡ true → not a || b ≡ true
+      or-second true b x y = y
+      or-second false b x y = refl
+
+      or-first : (a b : Bool) → a ≡ false → not a || b ≡ true
+      or-first true b x = true-or-false refl x
+      or-first false b x = refl
+
+  pub good-unturned : fixedUnturned F (statusBy F p e t) ≡ true
+  unfolding fixedUnturned
+  good-unturned = allBelow-all count _ (λ w l. by-cases (t w) (λ u. rw (u, good .unfixed w l u)) (λ u. rw u))

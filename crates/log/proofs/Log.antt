@@ -11,7 +11,7 @@ use Rattle.below.specs.Below.{pick, put}
 use Rattle.log.proofs.Checks.{grant-passed, arrive-passed, turn-passed}
 use Rattle.log.specs.Claims.{MayGo}
 use Rattle.log.proofs.Counts.{counted-more, isOdd-suc}
-use Rattle.log.proofs.Good.{Good, good-start, good-grant, good-arrive, good-turn}
+use Rattle.log.proofs.Good.{Good, good-start, good-grant, good-arrive, good-turn, good-waits}
 use Rattle.log.specs.CallLog.{Call, grant, arrive, turn, Reply, isAccepted, Entry, entry, isGrant, isArrival, isTurn, acceptedCalls, isOdd, statusOf, replyBy, logFrom}
 use Rattle.plan.specs.Field.{FieldPlan, flip, AcceptedPlan}
 
@@ -86,7 +86,7 @@ module _ (F : FieldPlan) where
       yes′ : (c : Call) → isAccepted (replyBy F log c) ≡ true → GoodLog (log ++ (entry c (replyBy F log c) ∷ []))
       yes′ (grant d) e = let q : MayGo F (statusOf log) d = grant-passed F (statusOf log) d e in good-counts _ _ _ _ (counts-grant log _ d e (idle-same log g d (q .waiting .idle))) (good-grant F _ _ _ g d q)
       yes′ (arrive d) e = good-counts _ _ _ _ (counts-arrive log _ d e) (good-arrive F _ _ _ g d (arrive-passed F (statusOf log) d e))
-      yes′ (turn w) e = let q = turn-passed F (statusOf log) w e in good-counts _ _ _ _ (counts-turn log _ w e) (good-turn F _ _ _ g w (q .0) (q .1))
+      yes′ (turn w) e = let q = turn-passed F (statusOf log) (good-waits F _ _ _ g) w e in good-counts _ _ _ _ (counts-turn log _ w e) (good-turn F _ _ _ g w (q .0) (q .1))
 
   pub good-calls : (cs : List Call) (log : List Entry) → GoodLog log → GoodLog (logFrom F log cs)
   unfolding logFrom

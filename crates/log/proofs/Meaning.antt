@@ -35,14 +35,14 @@ module _ (F : FieldPlan) (s : Status) where
   unfolding replyIn
   never-40 (grant d) = of-rows (λ r. number r < 35) (refusals F s (grant d)) (omega arith, (omega arith, (omega arith, (omega arith, omega arith))))
   never-40 (arrive d) = of-rows (λ r. number r < 35) (refusals F s (arrive d)) (omega arith, (omega arith, omega arith))
-  never-40 (turn w) = of-rows (λ r. number r < 35) (refusals F s (turn w)) (omega arith, (omega arith, (omega arith, (omega arith, (omega arith, omega arith)))))
+  never-40 (turn w) = of-rows (λ r. number r < 35) (refusals F s (turn w)) (omega arith, (omega arith, (omega arith, (omega arith, omega arith))))
 
   -- a reply is known by its number and what it carries: numbers in a slice, or printed, are the replies
   pub read-back : (c : Call) → replyRead (number (replyIn F s c)) (carried (replyIn F s c)) ≡ replyIn F s c
   unfolding replyIn
   read-back (grant d) = of-rows (λ r. replyRead (number r) (carried r) ≡ r) (refusals F s (grant d)) (refl, (refl, (refl, (refl, refl))))
   read-back (arrive d) = of-rows (λ r. replyRead (number r) (carried r) ≡ r) (refusals F s (arrive d)) (refl, (refl, refl))
-  read-back (turn w) = of-rows (λ r. replyRead (number r) (carried r) ≡ r) (refusals F s (turn w)) (refl, (refl, (refl, (refl, (refl, refl)))))
+  read-back (turn w) = of-rows (λ r. replyRead (number r) (carried r) ≡ r) (refusals F s (turn w)) (refl, (refl, (refl, (refl, refl))))
 
 -- ---- the list of the calls
 

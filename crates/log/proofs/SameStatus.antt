@@ -89,7 +89,7 @@ module _ (F : FieldPlan) (accepted : AcceptedPlan F) (s s′ : Status) (agree : 
   turn-same : (w : ℕ) → (b : Bool) → leb count w ≡ b → replyIn F s (turn w) ≡ replyIn F s′ (turn w)
   unfolding replyIn
   turn-same w true e = rw e refl
-  turn-same w false e = let l = leb-false count w e in rw (entered-first w l, entered-second w l, cyclic-same F (flip (s .turned) w) (flip (s′ .turned) w) (flip-same w)) refl
+  turn-same w false e = let l = leb-false count w e in rw (entered-first w l, cyclic-same F (flip (s .turned) w) (flip (s′ .turned) w) (flip-same w)) refl
 
   pub reply-same : (c : Call) → replyIn F s c ≡ replyIn F s′ c
   reply-same (grant d) = grant-same d (leb drones d) refl

@@ -1,16 +1,16 @@
 -- The tables along a list of calls: they show the log's counts, stay sound, and so reply as the log does. Assumes nothing.
 use mathlib.Core.Path.{_≡_, refl, sym, ap, _∙_}
 use mathlib.Core.Logic.{_≢_}
-use mathlib.Core.Bool.{Bool, true, false, not, _&&_, _||_}
+use mathlib.Core.Bool.{Bool, true, false, not}
 use mathlib.Core.List.{List}
 use Prim.Native.Nat.{ℕ, suc, _+_, _/_, _≤_, _<_}
 use native.Mathlib.Omega.{arith}
 use lib.ListN.{length, set, length-set}
 use lib.Seq.{getD-set-other}
-use lib.Dec.{eqb, ltb, leb}
-use borrow.Author.Tests.{ltb-true, eqb-true, leb-true, lt-ltb, le-ltb, le-leb, lt-leb, eq-eqb}
+use lib.Dec.{eqb, ltb}
+use borrow.Author.Tests.{eqb-true, lt-ltb, le-ltb, eq-eqb}
 use Rattle.below.specs.Below.{pick, at, put}
-use Rattle.below.proofs.Tests.{by-cases, true-or-false, and-left, and-right, and-both}
+use Rattle.below.proofs.Tests.{by-cases, and-both}
 use Rattle.below.proofs.Every.{allBelow-all}
 use Rattle.below.proofs.Index.{put-same, put-other, put-elim, at-set}
 use Rattle.tables.specs.Limits.{Limits}
@@ -19,9 +19,9 @@ use Rattle.tables.proofs.SizeLaws.{full-sizes}
 use Rattle.tables.specs.Flags.{turnedBit, flipBit, fixedFlag, underWayBit, onlyOneBit, setUnderWay, clearUnderWay}
 use Rattle.tables.proofs.FlagLaws.{flip-turned, flip-half, new-turned}
 use Rattle.precedence.specs.Graph.{cyclic}
-use Rattle.plan.specs.Field.{FieldPlan, flip, graph, fixed, AcceptedPlan, planOf}
+use Rattle.plan.specs.Field.{flip, graph, fixed, AcceptedPlan, planOf}
 use Rattle.plan.specs.Claims.{unturned}
-use Rattle.plan.specs.Status.{statusIn, entered, fixedUnturned, withinStops, waitsKept}
+use Rattle.plan.specs.Status.{statusIn, fixedUnturned, withinStops, waitsKept}
 use Rattle.sound.specs.Sound.{planAccepted, dependenciesSound, planUnused, flagsSound, droneFlagsSound, progressUnused, sound}
 use Rattle.log.specs.CallLog.{Call, replyIn}
 use Rattle.log.specs.Calls.{granted, arrived, flipped, replyOf, AsRead}
@@ -29,45 +29,7 @@ use Rattle.log.specs.Demand.{Agree}
 use Rattle.sound.proofs.Clauses.{says-sound}
 use Rattle.log.proofs.SoundParts.{zero-from, drones-in, dependencies-in}
 use Rattle.log.proofs.SameStatus.{cyclic-same, reply-same, unturned-same, within-same, waits-same}
-use Rattle.log.proofs.Good.{Good, statusBy}
-
--- ---- progress by counts is sound
-
-module _ (F : FieldPlan) (p e : ℕ → ℕ) (t : ℕ → Bool) (good : Good F p e t) where
-  open FieldPlan F using (drones, last, count)
-
-  -- an entered stop is at most the last entered one
-  pub entered-in : (d k : ℕ) → entered F (statusBy F p e t) d k ≡ true → k ≤ e d
-  entered-in d k h = by-cases (leb k (p d))
-      (λ a. omega (arith, leb-true k (p d) a, good .running .behind d))
-      (λ a. let m : ltb (p d) (e d) && eqb k (suc (p d)) ≡ true = sym (ap (λ (b : Bool). b || ltb (p d) (e d) && eqb k (suc (p d))) a) ∙ h in
-      omega (arith, ltb-true (p d) (e d) (and-left _ _ m), eqb-true k (suc (p d)) (and-right (ltb (p d) (e d)) _ m)))
-
-  good-within : withinStops F (statusBy F p e t) ≡ true
-  unfolding withinStops
-  good-within = allBelow-all drones _ (λ d l. and-both (leb (p d) (last d)) _
-      (le-leb (p d) (last d) (omega (arith, good .running .behind d, good .within d l)))
-      (by-cases (ltb (p d) (e d))
-      (λ u. rw (u, lt-leb (last d) (p d) (omega (arith, ltb-true (p d) (e d) u, good .within d l))))
-      (λ u. rw u)))
-
-  good-waits : waitsKept F (statusBy F p e t) ≡ true
-  unfolding waitsKept
-  good-waits = allBelow-all count _ (λ w l. by-cases (entered F (statusBy F p e t) (graph F t .wait w .waiter) (graph F t .wait w .stop))
-      (λ h. or-second (entered F (statusBy F p e t) (graph F t .wait w .waiter) (graph F t .wait w .stop)) _ h (le-leb _ _ (good .running .over w l (entered-in _ _ h))))
-      (λ h. or-first _ _ h))
-    where
-      or-second : (a b : Bool) → a ≡ true → b ≡ true → not a || b ≡ true
-      or-second true b x y = y
-      or-second false b x y = refl
-
-      or-first : (a b : Bool) → a ≡ false → not a || b ≡ true
-      or-first true b x = true-or-false refl x
-      or-first false b x = refl
-
-  good-unturned : fixedUnturned F (statusBy F p e t) ≡ true
-  unfolding fixedUnturned
-  good-unturned = allBelow-all count _ (λ w l. by-cases (t w) (λ u. rw (u, good .unfixed w l u)) (λ u. rw u))
+use Rattle.log.proofs.Good.{Good, statusBy, good-within, good-waits, good-unturned}
 
 -- ---- tables that differ in used progress and flags only
 

@@ -118,15 +118,10 @@ module _ (L : Limits) (t : Tables) where
         turn-32 c = rw (reply (turn w), lt-leb (dependencies (t .plan)) w a, b, c)
 
         module _ (c : entered P S (now P S w .first) (now P S w .firstStop) ≡ false) where
-          pub turn-33 : entered P S (now P S w .second) (now P S w .secondStop) ≡ true → turnStep L t w ≡ refusal t (refused 33)
+          pub turn-34 : cyclic (graph P (flip (S .turned) w)) ≡ true → turnStep L t w ≡ refusal t (refused 34)
           unfolding turnStep replyIn
-          turn-33 d = rw (reply (turn w), lt-leb (dependencies (t .plan)) w a, b, c, d)
+          turn-34 e = rw (reply (turn w), lt-leb (dependencies (t .plan)) w a, b, c, e)
 
-          module _ (d : entered P S (now P S w .second) (now P S w .secondStop) ≡ false) where
-            pub turn-34 : cyclic (graph P (flip (S .turned) w)) ≡ true → turnStep L t w ≡ refusal t (refused 34)
-            unfolding turnStep replyIn
-            turn-34 e = rw (reply (turn w), lt-leb (dependencies (t .plan)) w a, b, c, d, e)
-
-            pub turn-0 : cyclic (graph P (flip (S .turned) w)) ≡ false → turnStep L t w ≡ acceptance (flipped t w)
-            unfolding turnStep replyIn
-            turn-0 e = rw (reply (turn w), lt-leb (dependencies (t .plan)) w a, b, c, d, e)
+          pub turn-0 : cyclic (graph P (flip (S .turned) w)) ≡ false → turnStep L t w ≡ acceptance (flipped t w)
+          unfolding turnStep replyIn
+          turn-0 e = rw (reply (turn w), lt-leb (dependencies (t .plan)) w a, b, c, e)

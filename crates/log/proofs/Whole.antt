@@ -16,6 +16,7 @@ use Rattle.log.specs.Demand.{Found, Demand3, Demand3OfContracts}
 use Rattle.log.proofs.Checks.{grant-passed, arrive-passed, turn-passed}
 use Rattle.log.specs.Claims.{MayGo, MayArrive}
 use Rattle.log.proofs.Log.{arrivals, grants, turns, Counts, counts-refused, counts-grant, counts-arrive, counts-turn, GoodLog, good-empty, idle-same, good-more, good-calls}
+use Rattle.log.proofs.Good.{good-waits}
 use Rattle.log.proofs.SoundParts.{accepted-plan}
 use Rattle.log.proofs.Shown.{SamePlan, full-same, Kept, kept-grant, kept-arrive, kept-turn, kept-status, kept-sound, kept-reply, kept-start}
 use Rattle.log.proofs.Found.{log-held, log-goes-on, log-finishes}
@@ -66,7 +67,7 @@ module _ (L : Limits) (lists : PlanLists) (t₀ : Tables) (read : AsRead L lists
         let q : MayArrive F (statusOf log) d = arrive-passed F (statusOf log) d e in
         kept-counts _ _ _ _ _ (counts-arrive log _ d e) (kept-arrive L lists t₀ read _ _ _ t kept d (q .exists) (good .running .ahead d))
     kept-left (turn w) e =
-        let q = turn-passed F (statusOf log) w e in
+        let q = turn-passed F (statusOf log) (good-waits F _ _ _ good) w e in
         kept-counts _ _ _ _ _ (counts-turn log _ w e) (kept-turn L lists t₀ read _ _ _ t kept w (q .0 .exists))
 
     kept-more : (c : Call) → KeptLog (log ++ (entry c (replyBy F log c) ∷ [])) (step L t c .tables)

@@ -67,7 +67,6 @@ module _ (F : FieldPlan) (s : Status) where
       when (leb count w) (refused 30)
       ∷ when (fixed F w) (refused 31)
       ∷ when (entered F s (now F s w .first) (now F s w .firstStop)) (refused 32)
-      ∷ when (entered F s (now F s w .second) (now F s w .secondStop)) (refused 33)
       ∷ when (cyclic (graph F (flip turned w))) (refused 34)
       ∷ []
 

@@ -1,4 +1,4 @@
--- Demand 2: when each call is accepted, in plain terms, what 23 and 34 say, that 33 never comes, and what the cost is. Assumes nothing.
+-- Demand 2: when each call is accepted, in plain terms, what 23 and 34 say, that the second drone never enters before the first, and what the cost is. Assumes nothing.
 use mathlib.Core.Path.{_≡_}
 use mathlib.Core.Logic.{_≢_, _↔_}
 use mathlib.Core.Bool.{true, false}
@@ -10,7 +10,7 @@ use Rattle.precedence.specs.Graph.{Cycle, Longest, remaining}
 use Rattle.plan.specs.Field.{FieldPlan, planOf, flip, graph}
 use Rattle.plan.specs.Status.{Status, statusIn, now}
 use Rattle.sound.specs.Sound.{sound}
-use Rattle.log.specs.CallLog.{Reply, accepted, refused, mustWait}
+use Rattle.log.specs.CallLog.{accepted, refused, mustWait}
 use Rattle.log.specs.Calls.{grantStep, arriveStep, turnStep, costs, costReply}
 
 -- no lent table is below full size, and the tables are sound
@@ -90,9 +90,10 @@ module _ (L : Limits) (t : Tables) where
   abbrev pub ArrivedExactly : Type 0
   ArrivedExactly = (d : ℕ) → (arriveStep L t d .reply ≡ accepted) ↔ (Usable L t × MayArrive F S d)
 
-  -- 33's condition may hold, but 32's then holds before it
-  abbrev pub Never33 : Type 0
-  Never33 = (w : ℕ) → turnStep L t w .reply ≢ refused 33
+  -- why 33 ("the second drone has") is no refusal any more: "If the second drone had entered, the first would be beyond its stop and 32 would have been said".
+  -- In sound tables, where the first drone of a dependency, in the order now in force, has not entered its stop, the second has not entered its own
+  abbrev pub SecondAfterFirst : Type 0
+  SecondAfterFirst = sound L t ≡ true → (w : ℕ) → w < F .count → Unentered F S (now F S w .first) (now F S w .firstStop) → Unentered F S (now F S w .second) (now F S w .secondStop)
 
   abbrev pub TurnedExactly : Type 0
   TurnedExactly = (w : ℕ) → (turnStep L t w .reply ≡ accepted) ↔ (Usable L t × (Turnable F S w × (TurnedCycle F S w → ⊥)))
@@ -121,7 +122,7 @@ pub record Demand2 : Type 0 where
   pub granted-exactly : (L : Limits) (t : Tables) → GrantedExactly L t
   pub waits-exactly : (L : Limits) (t : Tables) → WaitsExactly L t
   pub arrived-exactly : (L : Limits) (t : Tables) → ArrivedExactly L t
-  pub never-33 : (L : Limits) (t : Tables) → Never33 L t
+  pub second-after-first : (L : Limits) (t : Tables) → SecondAfterFirst L t
   pub turned-exactly : (L : Limits) (t : Tables) → TurnedExactly L t
   pub cycle-exactly : (L : Limits) (t : Tables) → CycleExactly L t
   pub cost-means : (L : Limits) (t : Tables) → CostMeans L t

@@ -1,11 +1,11 @@
 use mathlib.Core.Path.{sym, _∙_}
 use borrow.Author.Tests.{not-true, not-false}
-use Rattle.flat.proofs.TurnAnswers.{entered-visited, entered-still, entered-next}
+use Rattle.flat.proofs.TestLaws.{entered-visited, entered-still, entered-next}
 use borrow.Author.Needs.{needs}
-use Rattle.flat.proofs.turning.has_entered.Statement.{statement}
-use Rattle.flat.proofs.turning.has_entered.Tie as tie
-use Rattle.flat.proofs.turning.has_entered.Reads as reads
-use Rattle.flat.proofs.turning.has_entered.Lts as lts
+use Rattle.flat.proofs.turn_tests.has_entered.Statement.{statement}
+use Rattle.flat.proofs.turn_tests.has_entered.Tie as tie
+use Rattle.flat.proofs.turn_tests.has_entered.Reads as reads
+use Rattle.flat.proofs.turn_tests.has_entered.Lts as lts
 use Rattle.tables.proofs.flags.is_under_way.Reads as is-under-way-reads
 
 -- src/turning.rt:25:9

@@ -1,0 +1,100 @@
+-- The tests of one dependency before it is turned: by the ways through their code, and what their result says. Assumes nothing.
+use mathlib.Core.Path.{_≡_, refl, sym, _∙_, subst}
+use mathlib.Core.Bool.{Bool, true, false, cond}
+use Prim.Native.Nat.{ℕ, suc, _-_, _≤_, _<_}
+use native.Mathlib.Omega.{arith}
+use lib.Dec.{leb, eqb}
+use borrow.Author.Tests.{le-leb, lt-leb, eqb-true, eq-eqb}
+use Rattle.below.specs.Below.{at}
+use Rattle.below.proofs.Tests.{same-test}
+use Rattle.tables.specs.Limits.{Limits}
+use Rattle.tables.specs.Tables.{Tables, dependencies}
+use Rattle.tables.specs.Flags.{turnedBit, fixedBit, underWayBit}
+use Rattle.plan.specs.Field.{FieldPlan, planOf, Dependency, inForce, fixed}
+use Rattle.plan.specs.Status.{Status, statusIn, entered, now}
+use Rattle.log.specs.Claims.{Usable}
+use Rattle.sound.proofs.Clauses.{sound-says}
+use Rattle.log.proofs.SoundParts.{fixed-bit}
+use Rattle.flat.specs.declared.turn_tests.TurnTest.{TurnTest}
+use Rattle.flat.specs.declared.turn_tests.TurnTest.the-variants.{Passes, NoDependency, Fixed, FirstEntered}
+use Rattle.flat.specs.Entering.{enteredBy}
+use Rattle.flat.specs.TurnTests.{firstOf, testOf}
+
+-- ---- has a drone entered a stop
+
+module _ (place flag stop : ℕ) where
+  pub entered-visited : stop ≤ place → true ≡ enteredBy place flag stop
+  entered-visited h = rw (le-leb stop place h) refl
+
+  module _ (h : place < stop) where
+    pub entered-still : underWayBit flag ≡ false → false ≡ enteredBy place flag stop
+    entered-still e = rw (lt-leb stop place h, e) refl
+
+    pub entered-next : underWayBit flag ≡ true → eqb (stop - place) 1 ≡ enteredBy place flag stop
+    entered-next e = rw (lt-leb stop place h, e) (same-test (eqb (stop - place) 1) (eqb stop (suc place))
+        (λ q. eq-eqb stop (suc place) (omega (arith, eqb-true (stop - place) 1 q)))
+        (λ q. eq-eqb (stop - place) 1 (omega (arith, eqb-true stop (suc place) q))))
+
+-- the first side of a dependency is entered, in the order now in force
+first-entered : (F : FieldPlan) (s : Status) (x : Dependency) (b : Bool) → cond b (entered F s (x .second) (x .secondStop)) (entered F s (x .first) (x .firstStop)) ≡ entered F s (inForce b x .first) (inForce b x .firstStop)
+first-entered F s x true = refl
+first-entered F s x false = refl
+
+-- what each result says of the three tests
+abbrev pub Said : (none fixed entered : Bool) → TurnTest → Type 0
+Said a b c NoDependency = a ≡ true
+Said a b c Fixed = (a ≡ false) × (b ≡ true)
+Said a b c FirstEntered = (a ≡ false) × (b ≡ false) × (c ≡ true)
+Said a b c Passes = (a ≡ false) × (b ≡ false) × (c ≡ false)
+
+first-said : (a b c : Bool) → Said a b c (firstOf a b c)
+first-said true b c = refl
+first-said false true c = (refl, refl)
+first-said false false true = (refl, refl, refl)
+first-said false false false = (refl, refl, refl)
+
+module _ (L : Limits) (t : Tables) (u : Usable L t) (w : ℕ) where
+  abbrev F : FieldPlan
+  F = planOf (t .plan)
+
+  abbrev S : Status
+  S = statusIn t
+
+  -- ---- the tests' returns
+
+  pub test-30 : dependencies (t .plan) ≤ w → NoDependency ≡ testOf t w
+  unfolding testOf
+  test-30 a = rw (le-leb (dependencies (t .plan)) w a) refl
+
+  module _ (a : w < dependencies (t .plan)) (f : Bool) (is-f : f ≡ fixedBit (at (t .flags) w)) where
+    is-fixed : f ≡ fixed F w
+    is-fixed = is-f ∙ fixed-bit L t (sound-says L t (u .1)) w a
+
+    pub test-31 : f ≡ true → Fixed ≡ testOf t w
+    unfolding testOf
+    test-31 e = rw (lt-leb (dependencies (t .plan)) w a, sym is-fixed ∙ e) refl
+
+    -- p and q: the planned first and second side are entered; x: the first side in force is
+    module _ (free : f ≡ false) (p q b x : Bool)
+        (is-p : p ≡ enteredBy (at (t .visited) (at (t .plan .firstDrones) w)) (at (t .droneFlags) (at (t .plan .firstDrones) w)) (at (t .plan .firstStops) w))
+        (is-q : q ≡ enteredBy (at (t .visited) (at (t .plan .secondDrones) w)) (at (t .droneFlags) (at (t .plan .secondDrones) w)) (at (t .plan .secondStops) w))
+        (is-b : b ≡ turnedBit (at (t .flags) w)) (is-x : x ≡ cond b q p) where
+      x-is : x ≡ entered F S (now F S w .first) (now F S w .firstStop)
+      x-is = is-x ∙ rw (is-b, is-p, is-q) (first-entered F S (F .dependency w) (turnedBit (at (t .flags) w)))
+
+      pub test-32 : x ≡ true → FirstEntered ≡ testOf t w
+      unfolding testOf
+      test-32 e = rw (lt-leb (dependencies (t .plan)) w a, sym is-fixed ∙ free, sym x-is ∙ e) refl
+
+      pub test-passes : x ≡ false → Passes ≡ testOf t w
+      unfolding testOf
+      test-passes e = rw (lt-leb (dependencies (t .plan)) w a, sym is-fixed ∙ free, sym x-is ∙ e) refl
+
+-- ---- what the result says
+
+abbrev pub SaidOf : Tables → ℕ → TurnTest → Type 0
+SaidOf t w r = Said (leb (dependencies (t .plan)) w) (fixed (planOf (t .plan)) w) (entered (planOf (t .plan)) (statusIn t) (now (planOf (t .plan)) (statusIn t) w .first) (now (planOf (t .plan)) (statusIn t) w .firstStop)) r
+
+pub test-said : (t : Tables) (w : ℕ) (r x : TurnTest) → r ≡ testOf t w → r ≡ x → SaidOf t w x
+unfolding testOf
+test-said t w r x e h = subst (SaidOf t w) (sym e ∙ h) (first-said (leb (dependencies (t .plan)) w) (fixed (planOf (t .plan)) w) (entered (planOf (t .plan)) (statusIn t) (now (planOf (t .plan)) (statusIn t) w .first) (now (planOf (t .plan)) (statusIn t) w .firstStop)))

@@ -1,0 +1,23 @@
+-- What is asked of one dependency before it is turned (document 01, "Where each refusal is checked"). Assumes nothing.
+use mathlib.Core.Bool.{Bool, true, false}
+use Prim.Native.Nat.{ℕ}
+use lib.Dec.{leb}
+use Rattle.tables.specs.Tables.{Tables}
+use Rattle.plan.specs.Field.{FieldPlan, planOf, fixed}
+use Rattle.plan.specs.Status.{Status, statusIn, entered, now}
+use Rattle.flat.specs.declared.turn_tests.TurnTest.{TurnTest}
+use Rattle.flat.specs.declared.turn_tests.TurnTest.the-variants.{Passes, NoDependency, Fixed, FirstEntered}
+
+-- the first that holds
+abbrev pub firstOf : (none fixed entered : Bool) → TurnTest
+firstOf true f e = NoDependency
+firstOf false true e = Fixed
+firstOf false false true = FirstEntered
+firstOf false false false = Passes
+
+abbrev pub testIn : FieldPlan → Status → ℕ → TurnTest
+testIn F s w = firstOf (leb (F .count) w) (fixed F w) (entered F s (now F s w .first) (now F s w .firstStop))
+
+-- "30 no such dependency; 31 fixed; 32 the first drone has visited or is under way to its stop", with the order now in force
+unfoldable pub testOf : Tables → ℕ → TurnTest
+testOf t w = testIn (planOf (t .plan)) (statusIn t) w
