@@ -7,7 +7,6 @@ use native.Mathlib.Omega.{arith}
 use lib.Dec.{ltb, eqb}
 use borrow.Author.Tests.{ltb-true, ltb-false, eqb-true, eq-eqb}
 use Rattle.below.proofs.Count.{count-le, count-mono}
-use Rattle.below.proofs.Sum.{sum-mono}
 use Rattle.below.specs.Below.{pick, countBelow, sumBelow}
 use Rattle.cycles.specs.Flat.{Shape}
 
@@ -41,6 +40,12 @@ count-split g e (suc n) = go (ltb (g n) e) (eqb (g n) e) (ltb (g n) (suc e)) ref
     go false false true x y z h = omega arith
     go false false false x y z h = h
 
+-- a sum with one to spare for each term is less than the limit, or there is no term
+one-less : (e limit : ℕ) (f : ℕ → ℕ) → sumBelow e f + e ≤ limit → sumBelow e f ≤ limit - 1
+unfolding sumBelow
+one-less zero limit f h = omega arith
+one-less (suc e) limit f h = omega arith
+
 module _ (own off last : ℕ → ℕ) (drones n : ℕ) (shape : Shape own off last drones n) where
   -- a drone has as many stops as it owns, or fewer
   owned : (d : ℕ) → d < drones → suc (last d) ≤ countBelow n (λ v. eqb (own v) d)
@@ -59,6 +64,12 @@ module _ (own off last : ℕ → ℕ) (drones n : ℕ) (shape : Shape own off la
   pub stops-fit : sumBelow drones (λ d. suc (last d)) ≤ n
   stops-fit = omega (arith, stops-below drones (omega arith), count-le n (λ v. ltb (own v) drones))
 
-  -- .. and no drones that stand at stops of theirs have more before them
-  pub left-fits : (cur : ℕ → ℕ) → ((d : ℕ) → d < drones → off d ≤ cur d) → sumBelow drones (λ d. off d + last d - cur d) ≤ n
-  left-fits cur low = omega (arith, stops-fit, sum-mono drones (λ d. off d + last d - cur d) (λ d. suc (last d)) (λ d l. omega (arith, low d l)))
+  -- .. so drones that stand at stops of theirs have at most the stops before them that are nobody's first
+  before-last : (cur : ℕ → ℕ) → ((d : ℕ) → d < drones → off d ≤ cur d) → (e : ℕ) → e ≤ drones → sumBelow e (λ d. off d + last d - cur d) + e ≤ sumBelow e (λ d. suc (last d))
+  unfolding sumBelow
+  before-last cur low zero l = omega arith
+  before-last cur low (suc e) l = omega (arith, before-last cur low e (omega arith), low e (omega arith))
+
+  -- "no entry passes 1,023": one less than the limit for all stops
+  pub left-fits : (cur : ℕ → ℕ) → ((d : ℕ) → d < drones → off d ≤ cur d) → (limit : ℕ) → n ≤ limit → sumBelow drones (λ d. off d + last d - cur d) ≤ limit - 1
+  left-fits cur low limit few = one-less drones limit (λ d. off d + last d - cur d) (omega (arith, stops-fit, before-last cur low drones (omega arith)))

@@ -32,7 +32,7 @@ pub fn has_cycle(
 {
     let mut cur = [0u16; Drone::FULL];
     walk::at_first(starts, &mut cur);
-    let mut table = [0u64; Stop::FULL];
+    let mut table = [0u16; Stop::FULL];
     walk::walk(
         owners,
         starts,

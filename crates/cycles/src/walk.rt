@@ -16,7 +16,7 @@ ghost use Rattle.cycles.specs.Flat.{FlatTables};
 ghost use Rattle.cycles.specs.Walk.{metAt, unmet, canMove, Stacked, Ends, Advanced, Wakes, Met, course, Begun, Walked, legOfOne};
 
 // The rounds that it takes to fly to a stop from the one before it.
-const LEG: u64 = 1;
+const LEG: u16 = 1;
 
 // 1 for a wait that is not met, 0 for one that is: the stop that it awaits is visited.
 fn unmet_one(
@@ -98,14 +98,14 @@ fn stack_movers(
     top
 }
 
-fn greater(x: u64, y: u64) -> u64
+fn greater(x: u16, y: u16) -> u16
     ensures { λ r. ⌜ r ≡ max x y ⌝ }
 {
     if x < y { y } else { x }
 }
 
 // Drone d moves on to its next stop, which is visited its leg after the latest of what it awaits: the table has the latest of its waits, and the entry of the stop before it. Answers the stop.
-fn advance(d: usize, cur: &mut [u16; Drone::FULL], table: &mut [u64; Stop::FULL]) -> usize
+fn advance(d: usize, cur: &mut [u16; Drone::FULL], table: &mut [u16; Stop::FULL]) -> usize
     requires { ⌜ (d < limits .drones) × (length (now cur) ≡ limits .drones) × (length (now table) ≡ limits .stops) ⌝ }
     requires { ⌜ (at (now cur) d + 1 < limits .stops) × ((v : ℕ) → at (now table) v < 65535) ⌝ }
     ensures { λ r. ⌜ Advanced legOfOne d (now (cur .entry)) (now (cur .exit)) (now (table .entry)) (now (table .exit)) r ⌝ }
@@ -140,11 +140,11 @@ fn meet(
     owners: &[u8],
     cur: &[u16; Drone::FULL],
     w: usize,
-    entry: u64,
+    entry: u16,
     need: &mut [u16; Stop::FULL],
     stack: &mut [u8; Drone::FULL],
     top: usize,
-    table: &mut [u64; Stop::FULL],
+    table: &mut [u16; Stop::FULL],
 ) -> usize
     requires { ⌜ (w < limits .stops) × (w < length (now owners)) × (at (now owners) w < limits .drones) × (1 ≤ at (now need) w) × (Wakes (now owners) (now cur) (now need) w → top < limits .drones) ⌝ }
     requires { ⌜ (length (now need) ≡ limits .stops) × (length (now stack) ≡ limits .drones) × (length (now table) ≡ limits .stops) ⌝ }
@@ -175,11 +175,11 @@ pub fn walk(
     into: &[u16; Dependency::FULL],
     m: usize,
     cur: &mut [u16; Drone::FULL],
-    table: &mut [u64; Stop::FULL],
+    table: &mut [u16; Stop::FULL],
 )
     requires { ⌜ FlatTables (now owners) (now starts) (now lasts) drones n (now from) (now into) m × Begun (course (now owners) (now starts) (now lasts) drones n (now from) (now into) m) (now cur) ⌝ }
     requires { ⌜ (length (now table) ≡ limits .stops) × ((v : ℕ) → at (now table) v ≡ 0) ⌝ }
-    ensures { λ _. ⌜ Walked (course (now (owners .entry)) (now (starts .entry)) (now (lasts .entry)) drones n (now (from .entry)) (now (into .entry)) m) legOfOne (limits .stops) (now (cur .entry)) (now (cur .exit)) (now (table .exit)) ⌝ }
+    ensures { λ _. ⌜ Walked (course (now (owners .entry)) (now (starts .entry)) (now (lasts .entry)) drones n (now (from .entry)) (now (into .entry)) m) legOfOne (limits .stops - 1) (now (cur .entry)) (now (cur .exit)) (now (table .exit)) ⌝ }
 {
     let mut head = [0u16; Stop::FULL];
     let mut next = [0u16; Dependency::FULL];

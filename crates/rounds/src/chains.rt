@@ -42,7 +42,7 @@ pub fn stop_rounds(
     into: &[u16; Dependency::FULL],
     m: usize,
     visited: &[u16],
-    table: &mut [u64; Stop::FULL],
+    table: &mut [u16; Stop::FULL],
 )
     requires { ⌜ Ready (now owners) (now starts) (now lasts) drones n (now from) (now into) m (now visited) ⌝ }
     requires { ⌜ (length (now table) ≡ limits .stops) × ((v : ℕ) → at (now table) v ≡ 0) ⌝ }
@@ -68,14 +68,14 @@ pub fn stop_rounds(
 fn last_round(
     starts: &[u16; Drone::FULL],
     lasts: &[u16; Drone::FULL],
-    table: &[u64; Stop::FULL],
+    table: &[u16; Stop::FULL],
     d: usize,
 ) -> usize
     requires { ⌜ (d < 32) × (at (now starts) d + at (now lasts) d < 1024) ⌝ }
     ensures { λ r. ⌜ r ≡ at (now (table .entry)) (at (now (starts .entry)) d + at (now (lasts .entry)) d) ⌝ }
 {
     let v = wide(starts[d]) + wide(lasts[d]);
-    table[v] as usize
+    wide(table[v])
 }
 
 // The sum of the entries at the drones' last stops.
@@ -83,7 +83,7 @@ fn last_rounds(
     starts: &[u16; Drone::FULL],
     lasts: &[u16; Drone::FULL],
     drones: usize,
-    table: &[u64; Stop::FULL],
+    table: &[u16; Stop::FULL],
 ) -> usize
     requires { ⌜ (drones ≤ 32) × ((d : ℕ) → d < drones → at (now starts) d + at (now lasts) d < 1024) × ((d : ℕ) → d < drones → at (now table) (at (now starts) d + at (now lasts) d) ≤ 1024) ⌝ }
     ensures { λ r. ⌜ r ≡ sumBelow drones (λ d. at (now (table .entry)) (at (now (starts .entry)) d + at (now (lasts .entry)) d)) ⌝ }
@@ -112,7 +112,7 @@ pub fn remaining_cost(
     requires { ⌜ Ready (now owners) (now starts) (now lasts) drones n (now from) (now into) m (now visited) ⌝ }
     ensures { λ r. ⌜ r ≡ cost (flatPlan (at (now (owners .entry))) (at (now (starts .entry))) (at (now (lasts .entry))) drones (at (now (from .entry))) (at (now (into .entry))) m) (at (now (visited .entry))) ⌝ }
 {
-    let mut table = [0u64; Stop::FULL];
+    let mut table = [0u16; Stop::FULL];
     stop_rounds(
         owners,
         starts,

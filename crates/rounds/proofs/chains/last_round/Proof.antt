@@ -37,16 +37,20 @@ add-v : tie.Need-add-v
 add-v c = search needs
 
 -- src/chains.rt:62:10
-mul-result : tie.Need-mul-result
-mul-result c = search needs
+mul-wide-3 : tie.Need-mul-wide-3
+mul-wide-3 c = search needs
 
 -- src/chains.rt:62:10
-element-copy-out-result : tie.Need-element-copy-out-result
-element-copy-out-result c = search needs
+element-copy-out-wide-3 : tie.Need-element-copy-out-wide-3
+element-copy-out-wide-3 c = search needs
+
+-- src/chains.rt:62:5
+wide-requires-3 : tie.Need-wide-requires-3
+wide-requires-3 c κs = search needs
 
 -- src/chains.rt:57:1
 returns : tie.Need-returns
-returns c = ap (at (c .before .before .before .before .before .args .table .now)) (ap (λ (x : ℕ). x + c .before .wide2 .result) (c .before .before .before .wide .ensures .0) ∙ ap (λ (x : ℕ). at (c .before .before .before .before .before .args .starts .now) (c .before .before .before .before .before .args .d) + x) (c .before .wide2 .ensures .0))
+returns c = c .wide3 .ensures .0 ∙ ap (at (c .before .before .before .before .before .before .args .table .now)) (ap (λ (x : ℕ). x + c .before .before .wide2 .result) (c .before .before .before .before .wide .ensures .0) ∙ ap (λ (x : ℕ). at (c .before .before .before .before .before .before .args .starts .now) (c .before .before .before .before .before .before .args .d) + x) (c .before .before .wide2 .ensures .0))
 
 pub last-round-spec : {M : Type 1} → statement M
 last-round-spec =
@@ -59,6 +63,7 @@ last-round-spec =
     element-copy-out-wide-2
     wide-requires-2
     add-v
-    mul-result
-    element-copy-out-result
+    mul-wide-3
+    element-copy-out-wide-3
+    wide-requires-3
     returns)
