@@ -69,6 +69,11 @@ maxBelow (suc n) f = max (maxBelow n f) (f n)
 abbrev pub at : List ℕ → ℕ → ℕ
 at l i = getD l i 0
 
+-- a number stands in a list
+unfoldable pub isIn : ℕ → List ℕ → Bool
+isIn v [] = false
+isIn v (w ∷ ws) = isIn v ws || eqb v w
+
 -- the list of f 0 to f (n - 1)
 unfoldable pub listBelow {ℓ} : {A : Type ℓ} → ℕ → (ℕ → A) → List A
 listBelow zero f = []

@@ -90,10 +90,10 @@ module _ (L : Limits) (t : Tables) where
   kept k w l h = leb-true _ _ (rw (le-leb (G .wait w .stop) (S .place (G .wait w .waiter)) h) at (allBelow-at (F .count) _ k w l))
 
   module _ (s : Sound L t) where
-    formed : Formed G
+    pub formed : Formed G
     formed = graph-formed F (accepted-plan L (t .plan) (s .accepted) (s .dependencies-own)) (S .turned) (unfixed-says F S (s .fixed-unturned))
 
-    acyclic : Cycle G → ⊥
+    pub acyclic : Cycle G → ⊥
     acyclic = acyclic-iff G formed .0 (s .no-cycle)
 
     longest : (d : ℕ) → d < F .drones → S .place d < F .last d → Longest G (S .place) d (remaining G (S .place) d)

@@ -16,3 +16,4 @@ pub mod Meaning
 pub mod Flights
 pub mod Read
 pub mod Wrong
+pub mod Delays

@@ -4,3 +4,4 @@ pub mod Demand
 pub mod Claims
 pub mod Flights
 pub mod Wrong
+pub mod Delays

@@ -1,0 +1,108 @@
+-- Rounds in which some drones are held, as a list: they are those of the plan graph's theorems, each given by its index. Assumes nothing.
+use mathlib.Core.Path.{_≡_, refl, sym, ap, _∙_}
+use mathlib.Core.Bool.{Bool, true, false, not}
+use mathlib.Core.List.{List, [], _∷_}
+use Prim.Native.Nat.{ℕ, zero, suc, _+_, _≤_}
+use native.Mathlib.Omega.{arith}
+use lib.ListN.{length, getD}
+use Rattle.below.specs.Below.{pick, isIn, allBelow, anyBelow, countBelow, maxBelow, firstBelow, sumBelow, listBelow, picks, rowsBelow}
+use Rattle.below.proofs.Every.{allBelow-all}
+use Rattle.tables.specs.Limits.{Limits}
+use Rattle.tables.specs.Tables.{PlanLists, Tables, fullSize}
+use Rattle.precedence.specs.Graph.{Plan, finished, remaining, heldRound, heldPlay, heldRounds, blocks, free, round, play, unvisited, reached, cyclic}
+use Rattle.precedence.proofs.Held.{held-remaining, held-finish}
+use Rattle.precedence.proofs.Visits.{makespan-is}
+use Rattle.log.specs.CallLog.{Call}
+use Rattle.log.specs.Calls.{step, AsRead, tablesAfter, roundsReply, rounds as landsAfter}
+use Rattle.log.specs.Claims.{Usable}
+use Rattle.log.specs.Delays.{playHeld, delays, inForceNow, mostRemaining, AllFinish, NoneRaised, DelayClaims, isShort}
+use Rattle.tables.specs.Flags.{turnedBit, underWayBit, onlyOneBit}
+use Rattle.lines.specs.Names.{isNameByte}
+use Rattle.plan.specs.Stops.{start, owner, number}
+use Rattle.plan.specs.Check.{faultAt, firstFault, over, collide, apart}
+use Rattle.plan.specs.Dependencies.{follows, isLast, isFixed, flagOf}
+use Rattle.plan.specs.Status.{fixedUnturned, withinStops, waitsKept, statusIn}
+use Rattle.sound.specs.Sound.{zeroFrom, nameLength, nameSound, sameName, namesDiffer, inRange, namesSound, checked, planAccepted, dependenciesSound, planUnused, flagsSound, droneFlagsSound, progressUnused, sound}
+use Rattle.sound.proofs.Clauses.{sound-says}
+use Rattle.log.proofs.Costs.{formed, acyclic}
+use Rattle.log.proofs.Whole.{stays-sound, stays-full}
+
+-- the drones held in round i
+abbrev named : List (List ℕ) → ℕ → ℕ → Bool
+named rounds i d = isIn d (getD rounds i [])
+
+-- the first item of a count
+count-front : (n : ℕ) (f : ℕ → Bool) → countBelow (suc n) f ≡ pick (f 0) 1 0 + countBelow n (λ i. f (suc i))
+unfolding countBelow
+count-front zero f = go (f 0)
+  where
+    go : (b : Bool) → pick b 1 0 ≡ pick b 1 0 + 0
+    go true = refl
+    go false = refl
+count-front (suc n) f = go (f (suc n)) (count-front n f)
+  where
+    go : (b : Bool) → countBelow (suc n) f ≡ pick (f 0) 1 0 + countBelow n (λ i. f (suc i)) → pick b (suc (countBelow (suc n) f)) (countBelow (suc n) f) ≡ pick (f 0) 1 0 + pick b (suc (countBelow n (λ i. f (suc i)))) (countBelow n (λ i. f (suc i)))
+    go true h = omega arith
+    go false h = h
+
+module _ (P : Plan) where
+  -- the first round in front
+  held-shift : (held : ℕ → ℕ → Bool) (p : ℕ → ℕ) (k : ℕ) → heldPlay P held p (suc k) ≡ heldPlay P (λ i. held (suc i)) (heldRound P (held 0) p) k
+  unfolding heldPlay
+  held-shift held p zero = refl
+  held-shift held p (suc k) = ap (heldRound P (held (suc k))) (held-shift held p k)
+
+  played : (rounds : List (List ℕ)) (p : ℕ → ℕ) → playHeld P p rounds ≡ heldPlay P (named rounds) p (length rounds)
+  unfolding playHeld heldPlay
+  played [] p = refl
+  played (held ∷ rounds) p = played rounds (heldRound P (λ d. isIn d held) p) ∙ sym (held-shift (named (held ∷ rounds)) p (length rounds))
+
+  nobody : anyBelow (P .drones) (λ d. isIn d []) ≡ false
+  unfolding isIn
+  nobody = ap not (allBelow-all (P .drones) (λ d. true) (λ d l. refl))
+
+  -- rounds that hold a drone of the plan name somebody
+  counted : (rounds : List (List ℕ)) → heldRounds P (named rounds) (length rounds) ≤ delays rounds
+  unfolding heldRounds delays countBelow
+  counted [] = omega arith
+  counted ([] ∷ rounds) = rw (count-front (length rounds) (λ i. anyBelow (P .drones) (named ([] ∷ rounds) i)), nobody) (omega (arith, counted rounds))
+  counted ((d ∷ ds) ∷ rounds) = omega (arith, count-front (length rounds) (λ i. anyBelow (P .drones) (named ((d ∷ ds) ∷ rounds) i)), at-most (anyBelow (P .drones) (λ e. isIn e (d ∷ ds))), counted rounds)
+    where
+      at-most : (b : Bool) → pick b 1 0 ≤ 1
+      at-most true = omega arith
+      at-most false = omega arith
+
+module _ (L : Limits) (t : Tables) (u : Usable L t) where
+  pub all-finish : AllFinish t
+  unfolding mostRemaining
+  all-finish rounds h =
+      let s = sound-says L t (u .1) in
+      ap (finished (inForceNow t)) (played (inForceNow t) rounds (statusIn t .place))
+      ∙ held-finish (inForceNow t) (formed L t s) (acyclic L t s) (named rounds) (statusIn t .place) (length rounds) (omega (arith, counted (inForceNow t) rounds))
+
+  pub none-raised : NoneRaised t
+  none-raised rounds held d l =
+      let s = sound-says L t (u .1) in
+      held-remaining (inForceNow t) (formed L t s) (acyclic L t s) (λ e. isIn e held) (playHeld (inForceNow t) (statusIn t .place) rounds) d l
+
+  pub rounds-told : roundsReply L t ≡ landsAfter (mostRemaining t)
+  unfolding roundsReply mostRemaining
+  rounds-told =
+      let s = sound-says L t (u .1) in
+      rw (u .0, u .1) (ap landsAfter (makespan-is (inForceNow t) (formed L t s) (acyclic L t s) (statusIn t .place)))
+
+usable-after : (L : Limits) (lists : PlanLists) (t : Tables) (calls : List Call) → AsRead L lists t → Usable L (tablesAfter (step L) t calls)
+usable-after L lists t calls read = (stays-full L lists t read calls, stays-sound L lists t read calls)
+
+pub delay-claims : DelayClaims
+unfolding isShort mostRemaining playHeld delays heldRound isIn maxBelow sound zeroFrom nameLength nameSound sameName namesDiffer inRange namesSound checked planAccepted dependenciesSound planUnused flagsSound droneFlagsSound progressUnused fixedUnturned withinStops waitsKept follows isLast isFixed flagOf faultAt firstFault over collide apart start owner number blocks free round play finished unvisited reached remaining cyclic isNameByte turnedBit underWayBit onlyOneBit fullSize firstBelow allBelow countBelow sumBelow listBelow picks rowsBelow
+delay-claims = record {
+  all-finish = all-finish;
+  none-raised = none-raised;
+  calls-finish = λ L lists t calls read. all-finish L (tablesAfter (step L) t calls) (usable-after L lists t calls read);
+  calls-none-raised = λ L lists t calls read. none-raised L (tablesAfter (step L) t calls) (usable-after L lists t calls read);
+  rounds-told = rounds-told;
+  sharp = refl;
+  sharp-once = refl;
+  sharp-twice = refl;
+}

@@ -1,0 +1,68 @@
+-- How late the last drone lands: rounds in which some drones are held (document 02, point 13). Legs are of one round. Assumes nothing.
+use mathlib.Core.Path.{_≡_}
+use mathlib.Core.Bool.{Bool, true, not, _&&_}
+use mathlib.Core.List.{List, [], _∷_}
+use Prim.Native.Nat.{ℕ, suc, _+_, _≤_, _<_}
+use lib.Dec.{eqb}
+use lib.ListN.{length}
+use Rattle.below.specs.Below.{isIn, maxBelow}
+use Rattle.tables.specs.Limits.{Limits}
+use Rattle.tables.specs.Tables.{PlanLists, Tables, fullSize}
+use Rattle.precedence.specs.Graph.{Plan, finished, remaining, heldRound}
+use Rattle.plan.specs.Field.{planOf, graph}
+use Rattle.plan.specs.Status.{statusIn}
+use Rattle.sound.specs.Sound.{sound}
+use Rattle.log.specs.CallLog.{Call}
+use Rattle.log.specs.Calls.{step, AsRead, tablesAfter, roundsReply, rounds as landsAfter}
+use Rattle.log.specs.Claims.{Usable}
+use Rattle.log.specs.Flights.{small, tablesBy, Q}
+
+-- "Let a round name some drones as held; these neither depart nor arrive in it": the rounds are played from the places p, one after the other
+unfoldable pub playHeld : Plan → (ℕ → ℕ) → List (List ℕ) → ℕ → ℕ
+playHeld P p [] = p
+playHeld P p (held ∷ rounds) = playHeld P (heldRound P (λ d. isIn d held) p) rounds
+
+-- D, "the number of rounds in the list with somebody held": a round counts when it names a drone, also one that is not there or has finished
+unfoldable pub delays : List (List ℕ) → ℕ
+delays [] = 0
+delays ([] ∷ rounds) = delays rounds
+delays ((d ∷ ds) ∷ rounds) = suc (delays rounds)
+
+module _ (t : Tables) where
+  -- the graph in the order now in force; "with no turns and no withdrawals in between" it stays
+  abbrev pub inForceNow : Plan
+  inForceNow = graph (planOf (t .plan)) (statusIn t .turned)
+
+  -- R, "the largest number of remaining rounds at the start"
+  unfoldable pub mostRemaining : ℕ
+  mostRemaining = maxBelow (inForceNow .drones) (remaining inForceNow (statusIn t .place))
+
+  -- the places after these rounds
+  abbrev pub placesAfter : List (List ℕ) → ℕ → ℕ
+  placesAfter rounds = playHeld inForceNow (statusIn t .place) rounds
+
+  -- "any list of at least R + D rounds finishes all"
+  abbrev pub AllFinish : Type 0
+  AllFinish = (rounds : List (List ℕ)) → mostRemaining + delays rounds ≤ length rounds → finished inForceNow (placesAfter rounds) ≡ true
+
+  -- "A held round never raises anybody's remaining rounds", whatever rounds came before it
+  abbrev pub NoneRaised : Type 0
+  NoneRaised = (rounds : List (List ℕ)) (held : List ℕ) (d : ℕ) → d < inForceNow .drones → remaining inForceNow (heldRound inForceNow (λ e. isIn e held) (placesAfter rounds)) d ≤ remaining inForceNow (placesAfter rounds) d
+
+  -- R + D is sharp: these rounds are one fewer, and not everybody has finished
+  unfoldable pub isShort : List (List ℕ) → Bool
+  isShort rounds = fullSize small t && (sound small t && (eqb (suc (length rounds)) (mostRemaining + delays rounds) && not (finished inForceNow (placesAfter rounds))))
+
+pub record DelayClaims : Type 0 where
+  -- of any sound tables
+  pub all-finish : (L : Limits) (t : Tables) → Usable L t → AllFinish t
+  pub none-raised : (L : Limits) (t : Tables) → Usable L t → NoneRaised t
+  -- and so after any accepted plan and any list of calls
+  pub calls-finish : (L : Limits) (lists : PlanLists) (t : Tables) (calls : List Call) → AsRead L lists t → AllFinish (tablesAfter (step L) t calls)
+  pub calls-none-raised : (L : Limits) (lists : PlanLists) (t : Tables) (calls : List Call) → AsRead L lists t → NoneRaised (tablesAfter (step L) t calls)
+  -- R is what the call `rounds` answers
+  pub rounds-told : (L : Limits) (t : Tables) → Usable L t → roundsReply L t ≡ landsAfter (mostRemaining t)
+  -- sharp. Q lands after 5 rounds: 4 are too few, 5 with drone 0 held once, 6 with both held one after the other
+  pub sharp : isShort (tablesBy (Q 4)) ([] ∷ [] ∷ [] ∷ [] ∷ []) ≡ true
+  pub sharp-once : isShort (tablesBy (Q 4)) ((0 ∷ []) ∷ [] ∷ [] ∷ [] ∷ [] ∷ []) ≡ true
+  pub sharp-twice : isShort (tablesBy (Q 4)) ((0 ∷ []) ∷ [] ∷ [] ∷ [] ∷ (1 ∷ []) ∷ [] ∷ []) ≡ true
