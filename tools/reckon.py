@@ -7,11 +7,12 @@
   tools/reckon.py --full             prints an input of full size: 32 drones of 32 stops, 1,984 dependencies, call lines up to 65,536 bytes
 """
 import random
+import re
 import subprocess
 import sys
 
 TEXT, DRONES, STOPS, NAME, LOCATION, TIME, DEPENDENCIES, INPUT = 32768, 32, 1024, 24, 65535, 1000000, 2048, 65536
-LETTERS = set(b"abcdefghijklmnopqrstuvwxyz0123456789-")
+LETTERS = set(b"abcdefghijklmnopqrstuvwxyzABCDEFGHIJKLMNOPQRSTUVWXYZ0123456789-")
 
 
 class Refused(Exception):
@@ -58,9 +59,9 @@ def read(text):
         name = lines.next(b"name=")
         if not 1 <= len(name) <= NAME or any(b not in LETTERS for b in name):
             raise Refused(3)
-        if name in names:
+        if name.lower() in names:
             raise Refused(5)
-        names.append(name)
+        names.append(name.lower())
         stops = within(number(lines.next(b"stops=")), 1, STOPS)
         total += stops
         if total > STOPS:
@@ -269,6 +270,11 @@ def text_of(rng, routes):
     return "\n".join(lines + ["end=plan", ""]).encode()
 
 
+def spelled(rng, data):
+    """Some of the names with capitals."""
+    return re.sub(rb"name=([^\n]*)", lambda m: b"name=" + rng.choice([m[1], m[1], m[1].upper(), m[1].title()]), data)
+
+
 def calls_of(rng, routes):
     lines = []
     for _ in range(rng.randint(0, 80)):
@@ -287,7 +293,7 @@ def damaged(rng, data):
         if what == 0:
             del data[i]
         elif what == 1:
-            data[i] = rng.choice(b"0123456789=@\na-zA ")
+            data[i] = rng.choice(b"0123456789=@\na-zAZ[ ")
         elif what == 2:
             data.insert(i, rng.choice(b"0123456789=@\na-z"))
         else:
@@ -320,7 +326,7 @@ def against(program, count, seed):
     rng, seen = random.Random(seed), {}
     for i in range(count):
         routes = plan(rng)
-        data = text_of(rng, routes) + calls_of(rng, routes)
+        data = spelled(rng, text_of(rng, routes)) + calls_of(rng, routes)
         if rng.random() < 0.3:
             data = damaged(rng, data)
         got, want = subprocess.run([program], input=data, capture_output=True).stdout, reckon(data)

@@ -9,7 +9,7 @@ use Rattle.tables.specs.Zero.{zeroed}
 use Rattle.lines.specs.Bytes.{byteAt, isAt}
 use Rattle.lines.specs.Numbers.{isDigit, digitsFrom, numberAt, fieldAt}
 use Rattle.lines.specs.Stops.{goAt, stopsAt, countAt}
-use Rattle.lines.specs.Names.{untilFeed, lineEnd, isNameByte, nameBytes, goodName, nameAt}
+use Rattle.lines.specs.Names.{untilFeed, lineEnd, isCapital, smallByte, smallForm, isNameByte, isTextByte, textBytes, textName, nameAt}
 use Rattle.text.specs.Reading.{stopsRead, droneAt, same, elem, dronesAt, linesAt}
 use Rattle.text.specs.Examples.{bytes}
 use Rattle.plan.specs.Stops.{start, owner, number}
@@ -25,7 +25,7 @@ use Rattle.accepted.specs.Examples.{filled, flightQ, allHold, examples}
 use Rattle.accepted.proofs.ReadSound.{demand3-of-texts}
 
 pub examples-hold : (allHold examples ≡ true) × (readPlan limits (bytes flightQ) (filled 7 limits) .reply ≡ Taken)
-unfolding firstBelow allBelow countBelow sumBelow fullSize zeroed byteAt isAt isDigit digitsFrom numberAt fieldAt goAt stopsAt countAt untilFeed lineEnd isNameByte nameBytes goodName nameAt stopsRead droneAt same elem dronesAt linesAt start owner number faultAt firstFault over collide collider follows faultCase checkOf readPlan readLines
+unfolding firstBelow allBelow countBelow sumBelow fullSize zeroed byteAt isAt isDigit digitsFrom numberAt fieldAt goAt stopsAt countAt untilFeed lineEnd isCapital smallByte smallForm isNameByte isTextByte textBytes textName nameAt stopsRead droneAt same elem dronesAt linesAt start owner number faultAt firstFault over collide collider follows faultCase checkOf readPlan readLines
 examples-hold = (refl, refl)
 
 -- demand 3 of flight Q, whatever is called after its reading

@@ -12,10 +12,13 @@ use Rattle.tables.specs.Zero.{zeroed, zeroedTables}
 use Rattle.tables.proofs.Zero.{zeroed-length}
 use Rattle.text.specs.Reading.{Found, linesAt}
 use Rattle.text.specs.declared.reader.Answer.{Answer}
-use Rattle.text.specs.Written.{Route, routesText, foundOf, Valid}
+use Rattle.text.specs.Written.{Route, routesText, smallNames, foundOf, Valid}
 use Rattle.text.specs.TextWritten.{tablesText}
-use Rattle.text.specs.Claims.{RoundTrip}
+use Rattle.text.specs.Claims.{PlanTaken, RoundTrip}
+use Rattle.text.proofs.Capitals.{names-many}
 use Rattle.text.proofs.TakenIsWritten.{TextTaken, text-taken}
+use Rattle.text.proofs.LineStarts.{named-length}
+use Rattle.text.proofs.SmallTexts.{lines-alike}
 use Rattle.text.proofs.ReadIsWritten.{tables-kept}
 use Rattle.text.proofs.RoundTrips.{limits-round-trip}
 use Rattle.plan.specs.Field.{Checked, planOf}
@@ -28,7 +31,7 @@ use Rattle.log.proofs.Whole.{stays-same}
 use Rattle.log.proofs.SoundParts.{have-stops as accepted-stops, accepted-plan}
 use Rattle.reading.specs.Reading.{withText, total, checkIn, readPlan, readLines}
 use Rattle.reading.specs.declared.replies.Reading.the-variants.{Taken}
-use Rattle.accepted.specs.Claims.{laidOut, PlanFollows, TakenExactly, NoneCollide, WrittenBack}
+use Rattle.accepted.specs.Claims.{laidOut, PlanFollows, TakenExactly, NoneCollide, WrittenBack, ReadAlike}
 use Rattle.accepted.proofs.PlanHeld.{HoldsRoutes, have-stops}
 use Rattle.accepted.proofs.ReadCases.{no-fault, no-collision, read-taken, read-short}
 use Rattle.accepted.proofs.ReadSound.{before, stored-holds, read-is-sound}
@@ -61,15 +64,16 @@ module _ (L : Limits) (trip : RoundTrip L) (text : List ℕ) (t : Tables) where
   follows : readPlan L text t .reply ≡ Taken → (fullSize L t ≡ true) × PlanFollows L t text
   follows h =
       let (full, r) = read-taken L text t h in
-      let w : TextTaken L text (r .number) (linesAt L text) = text-taken L text (r .number) (r .lines-taken) in
-      let same : withText (linesAt L text) (r .number) (zeroedTables L t) .plan ≡ laidOut L t (w .routes) = same-laid L t (linesAt L text) (r .number) (w .routes) (w .read) (w .many) in (
+      let w : PlanTaken L text (r .number) = trip .taken-is-written text (r .number) (r .lines-taken) in
+      let ds : List Route = smallNames (w .typed) in
+      let same : withText (linesAt L text) (r .number) (zeroedTables L t) .plan ≡ laidOut L t ds = same-laid L t (linesAt L text) (r .number) ds (w .read) (names-many (w .typed) ∙ w .many) in (
         full,
         record {
-          routes = w .routes;
+          typed = w .typed;
+          as-typed = w .as-typed;
           valid = w .valid;
-          written = w .written;
           short = read-short L text t h;
-          checked = laid-checked L t full (w .routes) (w .valid) (subst (λ (p : PlanLists). checkIn p ≡ Taken) same (r .check-passed));
+          checked = laid-checked L t full ds (w .valid) (subst (λ (p : PlanLists). checkIn p ≡ Taken) same (r .check-passed));
           few = subst (λ (p : PlanLists). total p ≤ L .dependencies) same (r .room);
         },
       )
@@ -77,8 +81,9 @@ module _ (L : Limits) (trip : RoundTrip L) (text : List ℕ) (t : Tables) where
   taken : (fullSize L t ≡ true) × PlanFollows L t text → readPlan L text t .reply ≡ Taken
   unfolding readPlan readLines
   taken (full, q) =
-      let found : linesAt L text ≡ foundOf L (q .routes) = ap (linesAt L) (q .written) ∙ trip .written-is-read (q .routes) (q .valid) in
-      rw (full, le-ltb (L .text) (length text) (q .short), found, laid-passes L t full (q .routes) (q .valid) (q .checked), le-leb (total (laidOut L t (q .routes))) (L .dependencies) (q .few)) refl
+      let ds : List Route = smallNames (q .typed) in
+      let found : linesAt L text ≡ foundOf L ds = ap (linesAt L) (q .as-typed) ∙ trip .capitals-are-read (q .typed) (q .valid) in
+      rw (full, le-ltb (L .text) (length text) (q .short), found, laid-passes L t full ds (q .valid) (q .checked), le-leb (total (laidOut L t ds)) (L .dependencies) (q .few)) refl
 
 pub taken-exactly : (L : Limits) → RoundTrip L → TakenExactly L
 taken-exactly L trip text t = (follows L trip text t, taken L trip text t)
@@ -118,3 +123,7 @@ written-back L text t calls h =
     ∙ ap (textOf L) same
     ∙ laid-text L t full (w .routes) (w .valid)
     ∙ sym (w .written)
+
+pub read-alike : (L : Limits) → ReadAlike L
+unfolding readPlan readLines
+read-alike L text t = rw (named-length text, lines-alike L text) refl

@@ -9,7 +9,9 @@ use lib.ListN.{length}
 use Rattle.tables.specs.Limits.{Limits}
 use Rattle.tables.specs.Tables.{PlanLists, Tables, drones, fullSize}
 use Rattle.tables.specs.Zero.{zeroedTables}
-use Rattle.text.specs.Written.{Route, routesText, foundOf, Valid}
+use Rattle.lines.specs.Names.{smallForm}
+use Rattle.text.specs.Written.{Route, routesText, smallNames, foundOf, Valid}
+use Rattle.text.specs.Names.{namesSmall}
 use Rattle.text.specs.TextWritten.{tablesText}
 use Rattle.plan.specs.Field.{Checked, planOf}
 use Rattle.plan.specs.Claims.{Collides, Never}
@@ -28,16 +30,17 @@ laidOut L t routes = withText (foundOf L routes) (length routes) (zeroedTables L
 
 -- what document 01 asks of a plan text
 pub record PlanFollows (L : Limits) (t : Tables) (text : List ℕ) : Type 0 where
-  pub routes : List Route
-  -- "Plan text": the lines in this order, and names, numbers of stops, locations and times in their ranges
-  pub valid : Valid L routes
-  pub written : text ≡ routesText routes
+  -- "Plan text": the lines of a plan in this order
+  pub typed : List Route
+  pub as-typed : text ≡ routesText typed
+  -- with its names in small letters: names, numbers of stops, locations and times in their ranges
+  pub valid : Valid L (smallNames typed)
   -- "text: at most 32,768 bytes"
   pub short : length text ≤ L .text
   -- "The plan check"
-  pub checked : Checked (planOf (laidOut L t routes))
+  pub checked : Checked (planOf (laidOut L t (smallNames typed)))
   -- "dependencies: at most 2,048"
-  pub few : total (laidOut L t routes) ≤ L .dependencies
+  pub few : total (laidOut L t (smallNames typed)) ≤ L .dependencies
 
 -- taken exactly when the text follows the document
 abbrev pub TakenExactly : Limits → Type 0
@@ -49,11 +52,15 @@ NoneCollide L = (text : List ℕ) (t : Tables) → readPlan L text t .reply ≡ 
 
 -- ---- the text written out again
 
--- a taken plan written out is its text again, after any list of calls
+-- "Writing out a taken plan therefore gives its text with the names in small letters", after any list of calls
 abbrev pub WrittenBack : Limits → Type 0
 WrittenBack L =
     (text : List ℕ) (t : Tables) (calls : List Call) → readPlan L text t .reply ≡ Taken
-    → let p = tablesAfter (step L) (readPlan L text t .tables) calls .plan in tablesText L (drones p) (p .names) (p .stopCounts) (p .locations) (p .times) ≡ text
+    → let p = tablesAfter (step L) (readPlan L text t .tables) calls .plan in tablesText L (drones p) (p .names) (p .stopCounts) (p .locations) (p .times) ≡ smallForm text
+
+-- "a capital is the same letter as its small form": a text and the same with its names in small letters get the same reply and leave the same tables
+abbrev pub ReadAlike : Limits → Type 0
+ReadAlike L = (text : List ℕ) (t : Tables) → readPlan L (namesSmall text) t ≡ readPlan L text t
 
 -- ---- the tables afterwards
 

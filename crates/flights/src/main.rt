@@ -1,4 +1,4 @@
-// Runs the flights of document 01 that are not in the proved set. Each plan text is read; printed are the number of the answer and, of a refusal by the text, the byte
+// Runs the flights of document 01 that are not in the proved set, and names with capitals. Each plan text is read; printed are the number of the answer and, of a refusal by the text, the byte
 // offset of the line at fault.
 mod texts;
 
@@ -54,6 +54,11 @@ fn main() {
     fly(&texts::TIME_TOP_TITLE, &texts::TIME_TOP);
     fly(&texts::TIME_OVER_TITLE, &texts::TIME_OVER);
     fly(&texts::EIGHTEENTH_TITLE, &texts::EIGHTEENTH);
+    fly(&texts::CAPITALS_TITLE, &texts::CAPITALS);
+    fly(&texts::EIGHTEENTH_CAPITAL_TITLE, &texts::EIGHTEENTH_CAPITAL);
+    fly(&texts::CAPITAL_KEY_TITLE, &texts::CAPITAL_KEY);
+    fly(&texts::CAPITALS_24_TITLE, &texts::CAPITALS_24);
+    fly(&texts::BRACKET_TITLE, &texts::BRACKET);
     let long = [b'a'; 32769];
     fly(&texts::LONG_TITLE, &long);
 }

@@ -47,4 +47,27 @@ pub const EIGHTEENTH_TITLE: [u8; 40] = *b"names that differ in the eighteenth by
 pub const EIGHTEENTH: [u8; 103] =
     *b"plan=1\nagents=2\nname=survey-quad-east-1\nstops=1\ngo=1@0\nname=survey-quad-east-2\nstops=1\ngo=2@0\nend=plan\n";
 
+pub const CAPITALS_TITLE: [u8; 22] = *b"equal but for capitals";
+
+pub const CAPITALS: [u8; 103] =
+    *b"plan=1\nagents=2\nname=Survey-Quad-East-1\nstops=1\ngo=1@0\nname=survey-quad-east-1\nstops=1\ngo=2@0\nend=plan\n";
+
+pub const EIGHTEENTH_CAPITAL_TITLE: [u8; 46] = *b"equal but for a capital in the eighteenth byte";
+
+pub const EIGHTEENTH_CAPITAL: [u8; 103] =
+    *b"plan=1\nagents=2\nname=survey-quad-east-a\nstops=1\ngo=1@0\nname=survey-quad-east-A\nstops=1\ngo=2@0\nend=plan\n";
+
+pub const CAPITAL_KEY_TITLE: [u8; 18] = *b"key with a capital";
+
+pub const CAPITAL_KEY: [u8; 47] = *b"plan=1\nagents=1\nName=a\nstops=1\ngo=1@0\nend=plan\n";
+
+pub const CAPITALS_24_TITLE: [u8; 19] = *b"name of 24 capitals";
+
+pub const CAPITALS_24: [u8; 70] =
+    *b"plan=1\nagents=1\nname=SURVEYQUADEASTABCDEFGHIJ\nstops=1\ngo=1@0\nend=plan\n";
+
+pub const BRACKET_TITLE: [u8; 19] = *b"name with a bracket";
+
+pub const BRACKET: [u8; 48] = *b"plan=1\nagents=1\nname=a[\nstops=1\ngo=1@0\nend=plan\n";
+
 pub const LONG_TITLE: [u8; 19] = *b"text of 32769 bytes";

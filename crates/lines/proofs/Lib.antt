@@ -1,5 +1,8 @@
 pub mod ByteLaws
 pub mod WriteLaws
+pub mod Letters
+pub mod SmallLines
+pub mod SmallReads
 pub mod NumberCases
 pub mod NumberRoundTrip
 pub mod StopCases

@@ -13,7 +13,7 @@ use lib.Seq.{drop-cons, drop-length}
 use Rattle.tables.specs.Limits.{Limits}
 use Rattle.lines.specs.Bytes.{isAt}
 use Rattle.lines.specs.Keys.{nameKey}
-use Rattle.lines.specs.Names.{untilFeed, lineEnd, part, isNameByte, nameBytes, goodName, nameAt, among}
+use Rattle.lines.specs.Names.{untilFeed, lineEnd, part, isTextByte, textBytes, textName, nameAt, among}
 use Rattle.lines.specs.declared.refusal.Refusal.the-variants.{Form, Name}
 use Rattle.lines.specs.declared.names.NameSpan.the-variants.{Refused, Is}
 
@@ -31,16 +31,16 @@ unfolding lineEnd untilFeed
 end-none text i h = rw (drop-of-length-le text h, add-zero)
 
 -- the bytes of a name from index i on
-pub bytes-bad : (s : List ℕ) (i : ℕ) → i < length s → isNameByte (getD s i 0) ≡ false → nameBytes (drop i s) ≡ false
-unfolding nameBytes
+pub bytes-bad : (s : List ℕ) (i : ℕ) → i < length s → isTextByte (getD s i 0) ≡ false → textBytes (drop i s) ≡ false
+unfolding textBytes
 bytes-bad s i h e = rw (drop-cons s i 0, e)
 
-pub bytes-on : (s : List ℕ) (i : ℕ) → i < length s → isNameByte (getD s i 0) ≡ true → nameBytes (drop i s) ≡ nameBytes (drop (i + 1) s)
-unfolding nameBytes
+pub bytes-on : (s : List ℕ) (i : ℕ) → i < length s → isTextByte (getD s i 0) ≡ true → textBytes (drop i s) ≡ textBytes (drop (i + 1) s)
+unfolding textBytes
 bytes-on s i h e = rw (drop-cons s i 0, e, add-one)
 
-pub bytes-end : (s : List ℕ) (i : ℕ) → i ≡ length s → nameBytes (drop i s) ≡ true
-unfolding nameBytes
+pub bytes-end : (s : List ℕ) (i : ℕ) → i ≡ length s → textBytes (drop i s) ≡ true
+unfolding textBytes
 bytes-end s i e = rw (e, drop-length)
 
 -- the rows that are left
@@ -69,11 +69,11 @@ module _ (L : Limits) (text : List ℕ) (at e : ℕ) (h : isAt text at nameKey �
   unfolding nameAt
   name-open k = rw (h, ← f, eq-eqb e (length text) k)
 
-  pub name-bad : (e ≡ length text → ⊥) → goodName L (part text (at + 5) e) ≡ false → nameAt L text at ≡ Refused (Name at)
+  pub name-bad : (e ≡ length text → ⊥) → textName L (part text (at + 5) e) ≡ false → nameAt L text at ≡ Refused (Name at)
   unfolding nameAt
   name-bad k g = rw (h, ← f, ne-eqb e (length text) k, g)
 
-  pub name-is : (e ≡ length text → ⊥) → goodName L (part text (at + 5) e) ≡ true → nameAt L text at ≡ Is (at + 5) e
+  pub name-is : (e ≡ length text → ⊥) → textName L (part text (at + 5) e) ≡ true → nameAt L text at ≡ Is (at + 5) e
   unfolding nameAt
   name-is k g = rw (h, ← f, ne-eqb e (length text) k, g)
 

@@ -5,7 +5,7 @@ use native.Mathlib.Numerals.{add-one}
 use native.Mathlib.Omega.{arith}
 use mathlib.Core.Path.{_≡_, refl, sym, _∙_}
 use mathlib.Core.List.{List, [], _∷_, _++_}
-use mathlib.Core.Bool.{Bool, true, false, cond, _&&_, false≢true}
+use mathlib.Core.Bool.{Bool, true, false, cond, _&&_, _||_, false≢true}
 use lib.Dec.{leb, ltb, eqb}
 use borrow.Author.Tests.{leb-true, leb-false, ltb-true, lt-ltb, eqb-true, eqb-false, ne-eqb}
 use lib.ListN.{length, getD, drop, take, replicate, length-drop, length-replicate}
@@ -13,8 +13,9 @@ use lib.Seq.{drop-cons, sets-eq, length-sets, getD-drop, length-take-le}
 use Rattle.tables.specs.Limits.{Limits}
 use Rattle.lines.specs.Bytes.{byteAt, isAt}
 use Rattle.lines.specs.Keys.{nameKey}
-use Rattle.lines.specs.Names.{untilFeed, lineEnd, part, isNameByte, nameBytes, goodName, nameAt, nameLine, rowOf, nameOf}
+use Rattle.lines.specs.Names.{untilFeed, lineEnd, part, isCapital, smallForm, isNameByte, nameBytes, goodName, isTextByte, textBytes, textName, nameAt, nameLine, rowOf, nameOf}
 use Rattle.lines.proofs.ByteLaws.{both, isAt-append, small, isAt-in, one-at, Stands, stands-join, stands-byte, stands-parts, stands-head, part-at, byte-here}
+use Rattle.lines.proofs.Letters.{capital-range, small-length, text-name}
 use Rattle.lines.proofs.NameCases.{end-here, end-on, name-is, end-within}
 use Rattle.lines.specs.declared.refusal.Refusal.the-variants.{Form, Name}
 use Rattle.lines.specs.declared.names.NameSpan.the-variants.{Refused, Is}
@@ -25,10 +26,10 @@ pub record NameRead (L : Limits) (text : List ℕ) (at s e : ℕ) : Type 0 where
   pub start-is : s ≡ at + 5
   pub end-is : e ≡ lineEnd text (at + 5)
   pub closed : e ≡ length text → ⊥
-  pub good : goodName L (part text s e) ≡ true
+  pub good : textName L (part text s e) ≡ true
 
 module _ (L : Limits) (text : List ℕ) (at s e : ℕ) where
-  inv-good : isAt text at nameKey ≡ true → eqb (lineEnd text (at + 5)) (length text) ≡ false → (g : Bool) → goodName L (part text (at + 5) (lineEnd text (at + 5))) ≡ g
+  inv-good : isAt text at nameKey ≡ true → eqb (lineEnd text (at + 5)) (length text) ≡ false → (g : Bool) → textName L (part text (at + 5) (lineEnd text (at + 5))) ≡ g
       → cond g (Is (at + 5) (lineEnd text (at + 5))) (Refused (Name at)) ≡ Is s e → NameRead L text at s e
   inv-good k c true g h =
       let es : at + 5 ≡ s = cc h in
@@ -37,12 +38,12 @@ module _ (L : Limits) (text : List ℕ) (at s e : ℕ) where
   inv-good k c false g h = absurd (let z : _≡_ {A = ℕ} 0 1 = cc h in omega arith)
 
   inv-end : isAt text at nameKey ≡ true → (c : Bool) → eqb (lineEnd text (at + 5)) (length text) ≡ c
-      → cond c (Refused (Form at)) (cond (goodName L (part text (at + 5) (lineEnd text (at + 5)))) (Is (at + 5) (lineEnd text (at + 5))) (Refused (Name at))) ≡ Is s e → NameRead L text at s e
+      → cond c (Refused (Form at)) (cond (textName L (part text (at + 5) (lineEnd text (at + 5)))) (Is (at + 5) (lineEnd text (at + 5))) (Refused (Name at))) ≡ Is s e → NameRead L text at s e
   inv-end k true c h = absurd (let z : _≡_ {A = ℕ} 0 1 = cc h in omega arith)
-  inv-end k false c h = inv-good k c (goodName L (part text (at + 5) (lineEnd text (at + 5)))) refl h
+  inv-end k false c h = inv-good k c (textName L (part text (at + 5) (lineEnd text (at + 5)))) refl h
 
   inv-key : (k : Bool) → isAt text at nameKey ≡ k
-      → cond k (cond (eqb (lineEnd text (at + 5)) (length text)) (Refused (Form at)) (cond (goodName L (part text (at + 5) (lineEnd text (at + 5)))) (Is (at + 5) (lineEnd text (at + 5))) (Refused (Name at)))) (Refused (Form at)) ≡ Is s e → NameRead L text at s e
+      → cond k (cond (eqb (lineEnd text (at + 5)) (length text)) (Refused (Form at)) (cond (textName L (part text (at + 5) (lineEnd text (at + 5)))) (Is (at + 5) (lineEnd text (at + 5))) (Refused (Name at)))) (Refused (Form at)) ≡ Is s e → NameRead L text at s e
   inv-key true k h = inv-end k (eqb (lineEnd text (at + 5)) (length text)) refl h
   inv-key false k h = absurd (let z : _≡_ {A = ℕ} 0 1 = cc h in omega arith)
 
@@ -58,6 +59,11 @@ good-length L x h =
     let q = both (leb (length x) (L .name)) (nameBytes x) (p .1) in
     (leb-true 1 (length x) (p .0), leb-true (length x) (L .name) (q .0))
 
+pub text-length : (L : Limits) (x : List ℕ) → textName L x ≡ true → (1 ≤ length x) × (length x ≤ L .name)
+text-length L x h =
+    let w = good-length L (smallForm x) (sym (text-name L x) ∙ h) in
+    (omega (arith, w .0, small-length x), omega (arith, w .1, small-length x))
+
 -- where a name that was read stands
 pub record NameWithin (L : Limits) (text : List ℕ) (s e : ℕ) : Type 0 where
   pub forward : s ≤ e
@@ -72,7 +78,7 @@ name-within L text at s e r =
     let c : (e ≡ length text → ⊥) = r .closed in
     let i : (s ≤ e) × (e < length text) = omega (arith, b .0, b .1, r .end-is, r .start-is) in
     let l : length (part text s e) ≡ e - s = length-take-le (e - s) (drop s text) (omega (arith, length-drop s text, i .0, i .1)) in
-    let g = good-length L (part text s e) (r .good) in
+    let g = text-length L (part text s e) (r .good) in
     record { forward = i .0; inside = i .1; short = omega (arith, g .1, l); some = omega (arith, g .0, l) }
 
 -- a line feed stands where the search ended, unless the text ended
@@ -99,26 +105,35 @@ name-stands L text at s e r =
     (stands-byte 10 (sym b))
 
 -- a name that was written is read back
-name-byte : (b : ℕ) → isNameByte b ≡ true → b ≡ 10 → ⊥
-unfolding isNameByte
+name-byte : (b : ℕ) → isTextByte b ≡ true → b ≡ 10 → ⊥
+unfolding isTextByte isCapital isNameByte
 name-byte b h e = false≢true (rw e at h)
 
-name-small : (b : ℕ) → isNameByte b ≡ true → b < 256
+-- a byte of a name in the tables, and in a text, is a byte
+table-small : (b : ℕ) → isNameByte b ≡ true → b < 256
 unfolding isNameByte
-name-small b h = go (leb 97 b) refl h
+table-small b h = go (leb 97 b) refl h
   where
     go : (t : Bool) → leb 97 b ≡ t → cond t (leb b 122) (cond (leb 48 b) (leb b 57) (eqb b 45)) ≡ true → b < 256
     go true t h = let k = leb-true b 122 h in omega arith
     go false t h = let k = leb-false 97 b t in omega arith
 
-end-back : (text : List ℕ) (p : ℕ) (x : List ℕ) → nameBytes x ≡ true → isAt text p (x ++ 10 ∷ []) ≡ true → lineEnd text p ≡ p + length x
-unfolding nameBytes
+name-small : (b : ℕ) → isTextByte b ≡ true → b < 256
+unfolding isTextByte
+name-small b h = go (isCapital b) refl h
+  where
+    go : (t : Bool) → isCapital b ≡ t → t || isNameByte b ≡ true → b < 256
+    go true t h = omega (arith, capital-range b t .1)
+    go false t h = table-small b h
+
+end-back : (text : List ℕ) (p : ℕ) (x : List ℕ) → textBytes x ≡ true → isAt text p (x ++ 10 ∷ []) ≡ true → lineEnd text p ≡ p + length x
+unfolding textBytes
 end-back text p [] g h =
     let e = byte-here text p 10 (stands-head text p 10 [] h .0) (omega arith) in
     end-here text p (e .0) (e .1) ∙ sym (add-zero p)
 end-back text p (b ∷ x) g h =
     let w = stands-head text p b (x ++ 10 ∷ []) h in
-    let k = both (isNameByte b) (nameBytes x) g in
+    let k = both (isTextByte b) (textBytes x) g in
     let e = byte-here text p b (w .0) (name-small b (k .0)) in
     end-on text p (e .0) (λ q. name-byte b (k .0) (sym (e .1) ∙ q)) ∙ end-back text (p + 1) x (k .1) (w .1) ∙ omega arith
 
@@ -131,18 +146,22 @@ part-back text p (b ∷ x) s h =
     let e = byte-here text p b (eqb-true _ _ (w .0)) (ltb-true _ _ (k .0)) in
     rw (drop-cons text p 0 (e .0), e .1, ← add-one p, part-back text (p + 1) x (k .1) (w .1))
 
-name-bytes-small : (x : List ℕ) → nameBytes x ≡ true → small x ≡ true
-unfolding nameBytes
+name-bytes-small : (x : List ℕ) → textBytes x ≡ true → small x ≡ true
+unfolding textBytes
 name-bytes-small [] g = refl
 name-bytes-small (b ∷ x) g =
-    let k = both (isNameByte b) (nameBytes x) g in
+    let k = both (isTextByte b) (textBytes x) g in
     rw (lt-ltb b 256 (name-small b (k .0)), name-bytes-small x (k .1))
 
 pub good-bytes : (L : Limits) (x : List ℕ) → goodName L x ≡ true → nameBytes x ≡ true
 unfolding goodName
 good-bytes L x h = both (leb (length x) (L .name)) (nameBytes x) (both (leb 1 (length x)) (leb (length x) (L .name) && nameBytes x) h .1) .1
 
-pub name-back : (L : Limits) (text : List ℕ) (at : ℕ) (x : List ℕ) → goodName L x ≡ true → isAt text at (nameLine x) ≡ true
+text-bytes : (L : Limits) (x : List ℕ) → textName L x ≡ true → textBytes x ≡ true
+unfolding textName
+text-bytes L x h = both (leb (length x) (L .name)) (textBytes x) (both (leb 1 (length x)) (leb (length x) (L .name) && textBytes x) h .1) .1
+
+pub name-back : (L : Limits) (text : List ℕ) (at : ℕ) (x : List ℕ) → textName L x ≡ true → isAt text at (nameLine x) ≡ true
     → (nameAt L text at ≡ Is (at + 5) (at + 5 + length x)) × (part text (at + 5) (at + 5 + length x) ≡ x)
 name-back L text at x g h =
     let w = stands-parts text at (nameKey ++ x) (10 ∷ []) h in
@@ -151,9 +170,9 @@ name-back L text at x g h =
     let f = stands-head text (at + 5 + length x) 10 [] (rw m at (w .1)) .0 in
     let i = byte-here text (at + 5 + length x) 10 f (omega arith) .0 in
     let t : isAt text (at + 5) (x ++ 10 ∷ []) ≡ true = rw (isAt-append, k .1) (one-at text (at + 5 + length x) 10 (sym f)) in
-    let e = end-back text (at + 5) x (good-bytes L x g) t in
+    let e = end-back text (at + 5) x (text-bytes L x g) t in
     let d : at + 5 + length x - (at + 5) ≡ length x = omega arith in
-    let q : part text (at + 5) (at + 5 + length x) ≡ x = rw d (part-back text (at + 5) x (name-bytes-small x (good-bytes L x g)) (k .1)) in
+    let q : part text (at + 5) (at + 5 + length x) ≡ x = rw d (part-back text (at + 5) x (name-bytes-small x (text-bytes L x g)) (k .1)) in
     (name-is L text at (at + 5 + length x) (k .0) (sym e) (λ (z : at + 5 + length x ≡ length text). omega (arith, i)) (rw q g), q)
 
 -- ---- rows

@@ -1,4 +1,5 @@
--- The line `name=TEXT`, and the rows of the table of names. "name: 1 to 24 bytes from a-z, 0-9, hyphen"; "Names are compared over all their bytes." Assumes nothing.
+-- The line `name=TEXT`, and the rows of the table of names. "name: 1 to 24 bytes from a-z, 0-9, hyphen"; "Names are compared over all their bytes." "Capitals A to Z are to
+-- be allowed, and a capital is the same letter as its small form everywhere names are compared. The tables hold the small form." Assumes nothing.
 use Prim.Native.Nat.{ℕ, zero, suc, _+_, _-_}
 use mathlib.Core.List.{List, [], _∷_, _++_}
 use mathlib.Core.Bool.{Bool, true, false, cond, _&&_, _||_}
@@ -25,7 +26,24 @@ lineEnd text at = at + untilFeed (drop at text)
 abbrev pub part : List ℕ → ℕ → ℕ → List ℕ
 part text start end = take (end - start) (drop start text)
 
--- a-z, 0-9, hyphen
+-- ---- letters
+
+-- A to Z
+unfoldable pub isCapital : ℕ → Bool
+isCapital b = leb 65 b && leb b 90
+
+-- the small form of a byte: a capital's small letter, any other byte itself
+unfoldable pub smallByte : ℕ → ℕ
+smallByte b = cond (isCapital b) (b + 32) b
+
+-- .. and of a text
+unfoldable pub smallForm : List ℕ → List ℕ
+smallForm [] = []
+smallForm (b ∷ s) = smallByte b ∷ smallForm s
+
+-- ---- names
+
+-- a byte of a name in the tables: a-z, 0-9, hyphen
 unfoldable pub isNameByte : ℕ → Bool
 isNameByte b = cond (leb 97 b) (leb b 122) (cond (leb 48 b) (leb b 57) (eqb b 45))
 
@@ -36,14 +54,28 @@ nameBytes (b ∷ s) = isNameByte b && nameBytes s
 unfoldable pub goodName : Limits → List ℕ → Bool
 goodName L s = leb 1 (length s) && (leb (length s) (L .name) && nameBytes s)
 
--- a line `name=TEXT`: where its text starts and ends. A line without its line feed is no line
-unfoldable pub nameAt : Limits → List ℕ → ℕ → NameSpan
-nameAt L text at =
+-- a byte of a name in a text: A-Z too
+unfoldable pub isTextByte : ℕ → Bool
+isTextByte b = isCapital b || isNameByte b
+
+unfoldable pub textBytes : List ℕ → Bool
+textBytes [] = true
+textBytes (b ∷ s) = isTextByte b && textBytes s
+
+unfoldable pub textName : Limits → List ℕ → Bool
+textName L s = leb 1 (length s) && (leb (length s) (L .name) && textBytes s)
+
+-- a line `name=TEXT` whose text passes a test: where the text starts and ends. A line without its line feed is no line
+abbrev pub namedAt : (List ℕ → Bool) → List ℕ → ℕ → NameSpan
+namedAt good text at =
     let start = at + length nameKey in
     let end = lineEnd text start in
     cond (isAt text at nameKey)
-    (cond (eqb end (length text)) (Refused (Form at)) (cond (goodName L (part text start end)) (Is start end) (Refused (Name at))))
+    (cond (eqb end (length text)) (Refused (Form at)) (cond (good (part text start end)) (Is start end) (Refused (Name at))))
     (Refused (Form at))
+
+unfoldable pub nameAt : Limits → List ℕ → ℕ → NameSpan
+nameAt L text at = namedAt (textName L) text at
 
 abbrev pub nameLine : List ℕ → List ℕ
 nameLine name = nameKey ++ name ++ lineFeed ∷ []

@@ -4,9 +4,11 @@ use crate::keys;
 use crate::refusal::Refusal;
 use tables::entries::Drone;
 ghost use mathlib.Core.Path.{_≡_};
-ghost use Prim.Native.Nat.{_≤_};
+ghost use Prim.Native.Nat.{_+_, _≤_, _<_, _^_};
 ghost use Rattle.tables.specs.Limits.{limits};
-ghost use Rattle.lines.specs.Names.{lineEnd, isNameByte, nameBytes, goodName, nameAt, among};
+ghost use lib.ListN.{length};
+ghost use Rattle.lines.specs.Bytes.{Put};
+ghost use Rattle.lines.specs.Names.{lineEnd, isCapital, smallByte, smallForm, isNameByte, isTextByte, textBytes, textName, nameAt, among};
 
 // The position of the first line feed at or after a position; where there is none, the text's end or the position, whichever is later.
 pub fn line_end(text: &[u8], at: usize) -> usize
@@ -22,7 +24,40 @@ pub fn line_end(text: &[u8], at: usize) -> usize
     i
 }
 
-// a-z, 0-9 or hyphen
+// A to Z
+pub fn is_capital(byte: u8) -> bool
+    ensures { λ r. ⌜ r ≡ isCapital byte ⌝ }
+{
+    if byte < 65 {
+        return false;
+    }
+    byte <= 90
+}
+
+// A capital's small letter, any other byte itself.
+pub fn small_byte(byte: u8) -> u8
+    ensures { λ r. ⌜ r ≡ smallByte byte ⌝ }
+{
+    if is_capital(byte) {
+        return byte + 32;
+    }
+    byte
+}
+
+// Writes the small form of some bytes at a position.
+pub fn put_small(buf: &mut [u8], at: usize, name: &[u8]) -> usize
+    requires { ⌜ at + length (now name) < 2 ^ 32 ⌝ }
+    ensures { λ r. ⌜ Put (now (buf .entry)) at (smallForm (now (name .entry))) (now (buf .exit)) r ⌝ }
+{
+    let mut i = 0;
+    while i < name.len() {
+        bytes::put_byte(buf, at + i, small_byte(name[i]));
+        i += 1;
+    }
+    at + i
+}
+
+// In the tables: a-z, 0-9 or hyphen.
 pub fn is_name_byte(byte: u8) -> bool
     ensures { λ r. ⌜ r ≡ isNameByte byte ⌝ }
 {
@@ -35,12 +70,22 @@ pub fn is_name_byte(byte: u8) -> bool
     byte == 45
 }
 
-pub fn name_bytes(name: &[u8]) -> bool
-    ensures { λ r. ⌜ r ≡ nameBytes (now (name .entry)) ⌝ }
+// In a text: A to Z too.
+pub fn is_text_byte(byte: u8) -> bool
+    ensures { λ r. ⌜ r ≡ isTextByte byte ⌝ }
+{
+    if is_capital(byte) {
+        return true;
+    }
+    is_name_byte(byte)
+}
+
+pub fn text_bytes(name: &[u8]) -> bool
+    ensures { λ r. ⌜ r ≡ textBytes (now (name .entry)) ⌝ }
 {
     let mut i = 0;
     while i < name.len() {
-        if !is_name_byte(name[i]) {
+        if !is_text_byte(name[i]) {
             return false;
         }
         i += 1;
@@ -49,8 +94,8 @@ pub fn name_bytes(name: &[u8]) -> bool
 }
 
 // A name has 1 to 24 bytes.
-pub fn good_name(name: &[u8]) -> bool
-    ensures { λ r. ⌜ r ≡ goodName limits (now (name .entry)) ⌝ }
+pub fn text_name(name: &[u8]) -> bool
+    ensures { λ r. ⌜ r ≡ textName limits (now (name .entry)) ⌝ }
 {
     if name.len() == 0 {
         return false;
@@ -58,7 +103,7 @@ pub fn good_name(name: &[u8]) -> bool
     if Drone::NAME < name.len() {
         return false;
     }
-    name_bytes(name)
+    text_bytes(name)
 }
 
 // A line `name=TEXT`: where its text starts and ends.
@@ -78,7 +123,7 @@ pub fn name_line(text: &[u8], at: usize) -> NameSpan
     if end == text.len() {
         return NameSpan::Refused(Refusal::Form(at));
     }
-    if !good_name(&text[start..end]) {
+    if !text_name(&text[start..end]) {
         return NameSpan::Refused(Refusal::Name(at));
     }
     NameSpan::Is { start, end }

@@ -14,10 +14,10 @@ use Rattle.below.proofs.Count.{count-le}
 use Rattle.below.proofs.Sum.{sum-bound}
 use Rattle.tables.specs.Limits.{limits}
 use Rattle.tables.specs.Tables.{PlanLists, Tables, fullSize}
-use Rattle.lines.specs.Names.{isNameByte, nameBytes, goodName}
+use Rattle.lines.specs.Names.{smallForm, isNameByte, nameBytes, goodName}
 use Rattle.lines.specs.Stops.{InRange}
 use Rattle.text.specs.Reading.{same, elem}
-use Rattle.text.specs.Written.{Route, routesText, foundOf, Valid}
+use Rattle.text.specs.Written.{Route, routesText, smallNames, foundOf, Valid}
 use Rattle.text.proofs.RoundTrips.{limits-round-trip}
 use Rattle.plan.specs.Stops.{start}
 use Rattle.plan.specs.Field.{Checked, planOf}
@@ -68,6 +68,10 @@ module _ (x y : SmallRoute) (wx : Within x) (wy : Within y) where
           (refl, refl, wy .some, omega arith, stops-in-range (y .locations) (y .times) (wy .timed) (wy .places) (wy .early), tt),
         ),
       )
+
+  -- its names have no capitals
+  own : smallNames ds ≡ ds
+  own = limits-round-trip .no-capitals ds valid
 
   short : length (routesText ds) ≤ 32768
   short = omega (arith, limits-round-trip .written-bound ds valid)
@@ -133,19 +137,21 @@ module _ (x y : SmallRoute) (wx : Within x) (wy : Within y) where
         said : readPlan limits (routesText ds) t .reply ≡ Taken → planChecked x y ≡ true
         said h =
             let q = limits-taken-exactly (routesText ds) t .0 h .1 in
-            let e : q .routes ≡ ds = limits-round-trip .one-plan (q .routes) ds (q .valid) valid (sym (q .written)) in
+            let texts : routesText (smallNames (q .typed)) ≡ routesText ds =
+            sym (limits-round-trip .names-alone (q .typed)) ∙ (ap smallForm (sym (q .as-typed)) ∙ (limits-round-trip .names-alone ds ∙ ap routesText own)) in
+            let e : smallNames (q .typed) ≡ ds = limits-round-trip .one-plan (smallNames (q .typed)) ds (q .valid) valid texts in
             plan-said (planOf p) x y (holds .drones-are) first-flies second-flies (subst (λ (r : List Route). Checked (planOf (laidOut limits t r))) e (q .checked))
 
         says : planChecked x y ≡ true → readPlan limits (routesText ds) t .reply ≡ Taken
         says h = limits-taken-exactly (routesText ds) t .1 (
           full,
           record {
-            routes = ds;
-            valid = valid;
-            written = refl;
+            typed = ds;
+            as-typed = refl;
+            valid = subst (Valid limits) (sym own) valid;
             short = short;
-            checked = says-checked (planOf p) x y (holds .drones-are) first-flies second-flies h;
-            few = few-dependencies;
+            checked = subst (λ (r : List Route). Checked (planOf (laidOut limits t r))) (sym own) (says-checked (planOf p) x y (holds .drones-are) first-flies second-flies h);
+            few = subst (λ (r : List Route). total (laidOut limits t r) ≤ limits .dependencies) (sym own) few-dependencies;
           },
         )
 

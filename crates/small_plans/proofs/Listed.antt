@@ -9,6 +9,7 @@ use lib.ListN.{length, getD, take, drop}
 use borrow.Author.Tests.{ltb-true, eqb-true}
 use Rattle.below.specs.Below.{at, allBelow, listBelow}
 use Rattle.below.proofs.Every.{allBelow-at}
+use Rattle.below.proofs.Index.{getD-listBelow}
 use Rattle.small_plans.specs.Routes.{map, flatMap, filter, tuples, SmallRoute, route, stops, smallRoutes}
 use Rattle.small_plans.specs.Plans.{SmallPlan, plan, smallPlans, planAt}
 use Rattle.small_plans.specs.Check.{routeChecked, gone, apart, checkedRoutes, routeAt, stopCount}
@@ -74,15 +75,9 @@ routes-right : checkedRoutes ≡ listBelow 99 tableRoute
 unfolding checkedRoutes smallRoutes flatMap map tuples filter routeChecked allBelow listBelow tableRoute stopCount places moments
 routes-right = refl
 
-list-at : {A : Type 0} (n : ℕ) (f : ℕ → A) (d : A) (k : ℕ) → k < n → getD (listBelow n f) k d ≡ f k
-unfolding listBelow
-list-at zero f d k h = absurd (omega arith)
-list-at (suc n) f d zero h = refl
-list-at (suc n) f d (suc k) h = list-at n (λ i. f (suc i)) d k (omega arith)
-
 pub route-is : (r : ℕ) → r < 99 → routeAt r ≡ tableRoute r
 unfolding routeAt
-route-is r h = ap (λ (l : List SmallRoute). getD l r (route [] [])) routes-right ∙ list-at 99 tableRoute (route [] []) r h
+route-is r h = ap (λ (l : List SmallRoute). getD l r (route [] [])) routes-right ∙ getD-listBelow 99 tableRoute (route [] []) r h
 
 -- ---- plans
 

@@ -4,3 +4,4 @@ pub mod Asking
 pub mod Local
 pub mod Clauses
 pub mod Whole
+pub mod Capitals

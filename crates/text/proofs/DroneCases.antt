@@ -11,7 +11,7 @@ use Rattle.tables.specs.Limits.{Limits}
 use Rattle.lines.specs.Bytes.{Put}
 use Rattle.lines.specs.Keys.{stopsKey}
 use Rattle.lines.specs.Stops.{stopsAt, countAt}
-use Rattle.lines.specs.Names.{part, nameAt, rowOf}
+use Rattle.lines.specs.Names.{smallForm, part, nameAt, rowOf}
 use Rattle.text.specs.Reading.{nothing, stopsEnd, stopsRead, withRow, droneAt, flat, StopsStored, Stored}
 use Rattle.lines.specs.declared.stops.Count.{Count}
 use Rattle.lines.specs.declared.names.NameSpan.{NameSpan}
@@ -50,11 +50,11 @@ module _ (L : Limits) (text : List ℕ) (at total : ℕ) (taken : List ℕ → B
   unfolding droneAt
   drone-unnamed r k = rw (← e, k)
 
-  pub drone-same : (s p : ℕ) (row : List ℕ) → n ≡ NameIs s p → row ≡ rowOf L (part text s p) → taken row ≡ true → droneAt L text at total taken ≡ nothing (Refused (Same at))
+  pub drone-same : (s p : ℕ) (row : List ℕ) → n ≡ NameIs s p → row ≡ rowOf L (smallForm (part text s p)) → taken row ≡ true → droneAt L text at total taken ≡ nothing (Refused (Same at))
   unfolding droneAt
   drone-same s p row k q t = rw (← e, k, ← q, t)
 
-  pub drone-in : (s p : ℕ) (row : List ℕ) → n ≡ NameIs s p → row ≡ rowOf L (part text s p) → taken row ≡ false → droneAt L text at total taken ≡ withRow row (stopsRead L text (p + 1) total)
+  pub drone-in : (s p : ℕ) (row : List ℕ) → n ≡ NameIs s p → row ≡ rowOf L (smallForm (part text s p)) → taken row ≡ false → droneAt L text at total taken ≡ withRow row (stopsRead L text (p + 1) total)
   unfolding droneAt
   drone-in s p row k q t = rw (← e, k, ← q, t)
 

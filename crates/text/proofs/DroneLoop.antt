@@ -9,7 +9,7 @@ use lib.ListN.{length, length-append}
 use lib.Seq.{sets}
 use Rattle.tables.specs.Limits.{Limits}
 use Rattle.lines.specs.Bytes.{isAt}
-use Rattle.lines.specs.Names.{part, nameAt, rowOf, among}
+use Rattle.lines.specs.Names.{smallForm, part, nameAt, rowOf, among}
 use Rattle.lines.proofs.ByteLaws.{isAt-append, small}
 use Rattle.lines.proofs.WriteLaws.{sets-append}
 use Rattle.lines.proofs.NameRoundTrip.{row-long}
@@ -37,9 +37,9 @@ pub drone-added : (L : Limits) (text : List ℕ) (at total : ℕ) (taken : List 
 drone-added L text at total taken e t h =
     let d = drone-taken L text at total taken e t h in
     record {
-      row = rowOf L (d .route .name);
+      row = rowOf L (smallForm (d .route .name));
       rows-are = d .rows-are;
-      long = row-long L (d .route .name);
+      long = row-long L (smallForm (d .route .name));
       one = ap length (d .counts-are);
       places = ap (λ (l : List ℕ). total + length l) (d .locations-are) ∙ sym (d .total-is);
       moments = ap (λ (l : List ℕ). total + length l) (d .times-are) ∙ ap (λ (k : ℕ). total + k) (range-long L (d .route .locations) (d .route .times) (d .range)) ∙ sym (d .total-is);
@@ -53,7 +53,7 @@ drone-by L text at total t u h = by-name (nameAt L text at)
   where
     by-name : (n : NameSpan) → droneOf L text at total t n ≡ droneOf L text at total u n
     by-name (NoName r) = refl
-    by-name (NameIs s p) = rw (h (rowOf L (part text s p)) (row-long L (part text s p)))
+    by-name (NameIs s p) = rw (h (rowOf L (smallForm (part text s p))) (row-long L (smallForm (part text s p))))
 
 -- one line of drones further
 drones-bad : (L : Limits) (k : ℕ) (text : List ℕ) (at : ℕ) (earlier : List (List ℕ)) (total : ℕ) (f : Found DroneLines) (r : Refusal) → f ≡ droneAt L text at total (elem earlier) → f .answer ≡ Refused r → dronesAt L (suc k) text at earlier total ≡ f

@@ -1,7 +1,7 @@
 -- The lines of a drone that were taken give a route: in range, and standing there as it would be written.
 use Prim.Native.Nat.{ℕ, zero, suc, _+_, _-_, _≤_}
 use native.Mathlib.Omega.{arith}
-use mathlib.Core.Path.{_≡_, refl, sym, ap}
+use mathlib.Core.Path.{_≡_, refl, sym, ap, _∙_}
 use mathlib.Core.List.{List, [], _∷_, _++_}
 use mathlib.Core.Bool.{Bool, true, false, cond}
 use lib.Dec.{ltb}
@@ -10,10 +10,11 @@ use lib.ListN.{length}
 use Rattle.tables.specs.Limits.{Limits}
 use Rattle.lines.specs.Keys.{stopsKey}
 use Rattle.lines.specs.Stops.{goAt, stopsFrom, stopsAt, stopLines, countAt, countLine, InRange}
-use Rattle.lines.specs.Names.{part, goodName, nameAt, rowOf}
+use Rattle.lines.specs.Names.{smallForm, part, goodName, nameAt, rowOf}
 use Rattle.lines.proofs.ByteLaws.{Stands, stands-join}
 use Rattle.lines.proofs.StopCases.{go-read, count-range}
 use Rattle.lines.proofs.StopRoundTrip.{stops-stand, stops-many, count-stands}
+use Rattle.lines.proofs.Letters.{text-name}
 use Rattle.lines.proofs.NameRoundTrip.{name-read, name-stands}
 use Rattle.text.specs.Reading.{Found, nothing, stopsEnd, stopsOf, stopsRead, withRow, droneOf, droneAt}
 use Rattle.text.specs.Written.{Route, routeLine}
@@ -89,17 +90,17 @@ stops-taken L text at total e t h = by-count (countAt text at stopsKey (L .stops
     by-count (NoCount r) c h = absurd (let z : _≡_ {A = ℕ} 0 1 = cc h in omega arith)
     by-count (Is m p) c h = by-test m p c (ltb (L .stops - total) m) refl h
 
--- ---- one drone
+-- ---- one drone: the route as its lines have it, its name perhaps with capitals
 
 pub record DroneTake (L : Limits) (text : List ℕ) (at e total t : ℕ) (taken : List ℕ → Bool) (f : Found DroneLines) : Type 0 where
   pub route : Route
-  pub rows-are : f .rows ≡ rowOf L (route .name) ∷ []
+  pub rows-are : f .rows ≡ rowOf L (smallForm (route .name)) ∷ []
   pub counts-are : f .counts ≡ length (route .locations) ∷ []
   pub locations-are : f .locations ≡ route .locations
   pub times-are : f .times ≡ route .times
   pub total-is : t ≡ total + length (route .locations)
-  pub good : goodName L (route .name) ≡ true
-  pub new : taken (rowOf L (route .name)) ≡ false
+  pub good : goodName L (smallForm (route .name)) ≡ true
+  pub new : taken (rowOf L (smallForm (route .name))) ≡ false
   pub some : 1 ≤ length (route .locations)
   pub within : total + length (route .locations) ≤ L .stops
   pub range : InRange L (route .locations) (route .times)
@@ -109,8 +110,8 @@ pub drone-taken : (L : Limits) (text : List ℕ) (at total : ℕ) (taken : List 
 unfolding droneAt
 drone-taken L text at total taken e t h = by-name (nameAt L text at) refl h
   where
-    by-test : (s p : ℕ) → nameAt L text at ≡ NameIs s p → (b : Bool) → taken (rowOf L (part text s p)) ≡ b → cond b (nothing (Refused (Same at))) (withRow (rowOf L (part text s p)) (stopsRead L text (p + 1) total)) .answer ≡ Taken e t
-        → DroneTake L text at e total t taken (cond b (nothing (Refused (Same at))) (withRow (rowOf L (part text s p)) (stopsRead L text (p + 1) total)))
+    by-test : (s p : ℕ) → nameAt L text at ≡ NameIs s p → (b : Bool) → taken (rowOf L (smallForm (part text s p))) ≡ b → cond b (nothing (Refused (Same at))) (withRow (rowOf L (smallForm (part text s p))) (stopsRead L text (p + 1) total)) .answer ≡ Taken e t
+        → DroneTake L text at e total t taken (cond b (nothing (Refused (Same at))) (withRow (rowOf L (smallForm (part text s p))) (stopsRead L text (p + 1) total)))
     by-test s p q true u h = absurd (let z : _≡_ {A = ℕ} 0 1 = cc h in omega arith)
     by-test s p q false u h =
         let r = name-read L text at s p q in
@@ -122,7 +123,7 @@ drone-taken L text at total taken e t h = by-name (nameAt L text at) refl h
           locations-are = refl;
           times-are = refl;
           total-is = k .total-is;
-          good = r .good;
+          good = sym (text-name L (part text s p)) ∙ r .good;
           new = u;
           some = k .some;
           within = k .within;
@@ -132,4 +133,4 @@ drone-taken L text at total taken e t h = by-name (nameAt L text at) refl h
 
     by-name : (n : NameSpan) → nameAt L text at ≡ n → droneOf L text at total taken n .answer ≡ Taken e t → DroneTake L text at e total t taken (droneOf L text at total taken n)
     by-name (NoName r) q h = absurd (let z : _≡_ {A = ℕ} 0 1 = cc h in omega arith)
-    by-name (NameIs s p) q h = by-test s p q (taken (rowOf L (part text s p))) refl h
+    by-name (NameIs s p) q h = by-test s p q (taken (rowOf L (smallForm (part text s p)))) refl h

@@ -12,7 +12,7 @@ use Rattle.tables.specs.Limits.{Limits}
 use Rattle.lines.specs.Bytes.{isAt}
 use Rattle.lines.specs.Keys.{stopsKey, planLine, agentsKey}
 use Rattle.lines.specs.Stops.{stopsAt, countAt}
-use Rattle.lines.specs.Names.{part, nameAt, rowOf}
+use Rattle.lines.specs.Names.{smallForm, part, nameAt, rowOf}
 use Rattle.lines.proofs.StopCases.{count-range}
 use Rattle.lines.proofs.StopRoundTrip.{stops-most}
 use Rattle.lines.proofs.NameRoundTrip.{row-long}
@@ -68,7 +68,7 @@ drone-fits L text at total taken h = by-name (nameAt L text at)
 
     by-name : (n : NameSpan) → Fits L (droneOf L text at total taken n) 1 total
     by-name (NoName r) = fits-none L _ 1 total h
-    by-name (NameIs s p) = by-test (rowOf L (part text s p)) p (row-long L (part text s p)) (taken (rowOf L (part text s p)))
+    by-name (NameIs s p) = by-test (rowOf L (smallForm (part text s p))) p (row-long L (smallForm (part text s p))) (taken (rowOf L (smallForm (part text s p))))
 
 pub drones-fit : (L : Limits) (n : ℕ) (text : List ℕ) (at : ℕ) (earlier : List (List ℕ)) (total : ℕ) → total ≤ L .stops → Fits L (dronesAt L n text at earlier total) n total
 unfolding dronesAt

@@ -5,18 +5,26 @@ use mathlib.Core.List.{List, [], _∷_}
 use Prim.Native.Nat.{ℕ}
 use Rattle.lines.specs.Keys.{planLine, agentsKey, nameKey, stopsKey, goKey, endLine}
 use Rattle.lines.specs.Bytes.{byteAt, isAt}
-use Rattle.lines.specs.Numbers.{isDigit, digitsFrom, numberAt, fieldAt}
-use Rattle.lines.specs.Stops.{goAt, stopsAt, countAt}
-use Rattle.lines.specs.Names.{untilFeed, lineEnd, isNameByte, nameBytes, goodName, nameAt}
+use Rattle.tables.specs.Limits.{limits}
+use Rattle.lines.specs.Numbers.{isDigit, digitsFrom, numberAt, fieldAt, digits}
+use Rattle.lines.specs.Stops.{goAt, stopsAt, stopLines, countAt}
+use Rattle.lines.specs.Names.{untilFeed, lineEnd, isCapital, smallByte, smallForm, isNameByte, isTextByte, textBytes, textName, nameAt, nameOf}
 use Rattle.text.specs.Reading.{stopsRead, droneAt, same, elem, dronesAt, linesAt}
 use Rattle.text.specs.TextRead.{answerOf}
-use Rattle.text.specs.Examples.{bytes, allHold, examples}
+use Rattle.text.specs.Written.{droneLines, planText}
+use Rattle.text.specs.Examples.{bytes, single, allHold, examples}
 
 pub examples-hold : allHold examples ≡ true
-unfolding byteAt isAt isDigit digitsFrom numberAt fieldAt goAt stopsAt countAt untilFeed lineEnd isNameByte nameBytes goodName nameAt stopsRead droneAt same elem dronesAt linesAt answerOf
+unfolding byteAt isAt isDigit digitsFrom numberAt fieldAt goAt stopsAt countAt untilFeed lineEnd isCapital smallByte smallForm isNameByte isTextByte textBytes textName nameAt stopsRead droneAt same elem dronesAt linesAt answerOf
 examples-hold = refl
 
 -- the keys are the bytes of their texts
 pub keys-hold : _≡_ {A = List (List ℕ)} (planLine ∷ agentsKey ∷ nameKey ∷ stopsKey ∷ goKey ∷ endLine ∷ [])
     (bytes "plan=1\n" ∷ bytes "agents=" ∷ bytes "name=" ∷ bytes "stops=" ∷ bytes "go=" ∷ bytes "end=plan\n" ∷ [])
 keys-hold = refl
+
+-- a name of 24 capitals is written small
+pub capitals-written :
+    let w = linesAt limits (bytes (single "ABCDEFGHIJKLMNOPQRSTUVWX" "0@0")) in planText 1 (w .rows) (w .counts) (w .locations) (w .times) ≡ bytes (single "abcdefghijklmnopqrstuvwx" "0@0")
+unfolding byteAt isAt isDigit digitsFrom numberAt fieldAt goAt stopsAt countAt untilFeed lineEnd isCapital smallByte smallForm isNameByte isTextByte textBytes textName nameAt stopsRead droneAt same elem dronesAt linesAt droneLines nameOf digits stopLines
+capitals-written = refl

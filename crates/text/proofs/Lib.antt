@@ -1,3 +1,5 @@
+pub mod Capitals
+pub mod LineStarts
 pub mod DroneCases
 pub mod DroneTaken
 pub mod Rows
@@ -6,7 +8,9 @@ pub mod Fits
 pub mod TextCases
 pub mod TakenIsWritten
 pub mod WrittenIsRead
+pub mod SmallTexts
 pub mod RoundTrips
+pub mod WithoutCapitals
 pub mod Flights
 pub mod NameInRow
 pub mod WriteLoop

@@ -1,4 +1,4 @@
--- The plan that a reading left in the tables is written as the text that was read.
+-- The plan that a reading left in the tables is written as the small form of the text that was read.
 use Prim.Native.Nat.{ℕ, _+_, _*_, _≤_}
 use native.Mathlib.Nat.{mul-le-mul-right}
 use native.Mathlib.Omega.{arith}
@@ -11,6 +11,7 @@ use Rattle.tables.specs.Limits.{Limits}
 use Rattle.text.specs.Reading.{Found, linesAt, flat}
 use Rattle.text.specs.TextRead.{tableAfter, TextRead}
 use Rattle.text.specs.Written.{Route, routesText, rowsOf, countsOf, locationsOf, timesOf, foundOf, Valid}
+use Rattle.lines.specs.Names.{smallForm}
 use Rattle.tables.specs.Zero.{zeroed}
 use Rattle.text.proofs.Rows.{AllLong}
 use Rattle.text.proofs.Sizes.{rows-long, rows-many, names-many, counts-many, counts-begin, stops-within, times-many}
@@ -65,13 +66,13 @@ table-taken : (L : Limits) (text : List ℕ) (n full : ℕ) (values t t′ : Lis
 unfolding tableAfter
 table-taken L text n full values t t′ short h e = rw (le-ltb (L .text) (length text) short, h) at e
 
-kept-by : (L : Limits) (text : List ℕ) (n : ℕ) (w : Found Answer) (ds : List Route) → length ds ≡ n → Valid L ds → w ≡ foundOf L ds → text ≡ routesText ds
+kept-by : (L : Limits) (text : List ℕ) (n : ℕ) (w : Found Answer) (ds : List Route) → length ds ≡ n → Valid L ds → w ≡ foundOf L ds → smallForm text ≡ routesText ds
     → (ns cs ls ts : List ℕ) → L .drones * L .name ≤ length ns → L .drones ≤ length cs → L .stops ≤ length ls → L .stops ≤ length ts
-    → tablesText L n (sets ns 0 (flat (w .rows))) (sets cs 0 (w .counts)) (sets ls 0 (w .locations)) (sets ts 0 (w .times)) ≡ text
+    → tablesText L n (sets ns 0 (flat (w .rows))) (sets cs 0 (w .counts)) (sets ls 0 (w .locations)) (sets ts 0 (w .times)) ≡ smallForm text
 kept-by L text n w ds m v r t ns cs ls ts a b c d = rw (r, ← m, t) (tables-kept L ds v ns cs ls ts a b c d)
 
 pub read-is-written : (L : Limits) (n : ℕ) {text dc ns cs ls ts dc′ ns′ cs′ ls′ ts′ : List ℕ} → TextRead L text dc ns cs ls ts dc′ ns′ cs′ ls′ ts′ (Plan n)
-    → L .drones * L .name ≤ length ns → L .drones ≤ length cs → L .stops ≤ length ls → L .stops ≤ length ts → tablesText L n ns′ cs′ ls′ ts′ ≡ text
+    → L .drones * L .name ≤ length ns → L .drones ≤ length cs → L .stops ≤ length ls → L .stops ≤ length ts → tablesText L n ns′ cs′ ls′ ts′ ≡ smallForm text
 read-is-written L n {text} {dc} {ns} {cs} {ls} {ts} {dc′} {ns′} {cs′} {ls′} {ts′} r a b c d =
     let k = taken-within L text n (sym (r .answer-is)) in
     let t = text-taken L text n (k .1) in

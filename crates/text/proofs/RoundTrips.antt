@@ -2,7 +2,7 @@
 use Prim.Native.Nat.{ℕ, _+_, _*_, _≤_}
 use native.Mathlib.Nat.{le-trans, mul-le-mul-right, suc-mul, zero-mul}
 use native.Mathlib.Omega.{arith}
-use mathlib.Core.Path.{_≡_, refl, sym, ap, _∙_}
+use mathlib.Core.Path.{_≡_, refl, sym, ap, _∙_, subst}
 use mathlib.Core.List.{List, [], _∷_, _++_}
 use mathlib.Core.Bool.{true}
 use borrow.Author.Tests.{le-ltb}
@@ -11,17 +11,18 @@ use lib.Seq.{take-at, drop-at}
 use Rattle.tables.specs.Limits.{Limits, limits}
 use Rattle.lines.specs.Numbers.{SevenDigits}
 use Rattle.lines.specs.Stops.{stopLine, stopLines}
-use Rattle.lines.specs.Names.{goodName, rowOf, nameOf}
+use Rattle.lines.specs.Names.{smallForm, goodName, rowOf, nameOf}
 use Rattle.lines.proofs.NumberCases.{digits-length}
 use Rattle.lines.proofs.StopCases.{stop-short}
 use Rattle.lines.proofs.NameRoundTrip.{good-length, name-of-row}
 use Rattle.text.specs.Reading.{Found, linesAt}
 use Rattle.text.specs.TextRead.{answerOf}
-use Rattle.text.specs.Written.{droneLines, planText, Route, routeLine, routeLines, routesText, rowsOf, countsOf, locationsOf, timesOf, foundOf, ValidFrom, Valid}
+use Rattle.text.specs.Written.{droneLines, planText, Route, routeLine, routeLines, routesText, smallNames, rowsOf, countsOf, locationsOf, timesOf, foundOf, ValidFrom, Valid}
 use Rattle.lines.proofs.NumberRoundTrip.{limits-seven}
-use Rattle.text.specs.Claims.{textBound, RoundTrip}
-use Rattle.text.proofs.TakenIsWritten.{text-taken, taken-within}
+use Rattle.text.specs.Claims.{PlanTaken, textBound, RoundTrip}
+use Rattle.text.proofs.TakenIsWritten.{TextTaken, text-taken, taken-within}
 use Rattle.text.proofs.WrittenIsRead.{written-read-back}
+use Rattle.text.proofs.Capitals.{names-many, text-small, valid-own}
 use Rattle.text.proofs.DroneTaken.{range-long}
 use Rattle.text.specs.declared.reader.Answer.{Answer}
 
@@ -44,8 +45,8 @@ same-lines L (d ∷ ds) earlier total v =
 pub same-text : (L : Limits) (ds : List Route) → Valid L ds → planText (length ds) (rowsOf L ds) (countsOf ds) (locationsOf ds) (timesOf ds) ≡ routesText ds
 same-text L ds v = rw (same-lines L ds [] 0 (v .2))
 
-tables-written : (L : Limits) (text : List ℕ) (n : ℕ) (w : Found Answer) (ds : List Route) → length ds ≡ n → Valid L ds → w ≡ foundOf L ds → text ≡ routesText ds
-    → text ≡ planText n (w .rows) (w .counts) (w .locations) (w .times)
+tables-written : (L : Limits) (text : List ℕ) (n : ℕ) (w : Found Answer) (ds : List Route) → length ds ≡ n → Valid L ds → w ≡ foundOf L ds → smallForm text ≡ routesText ds
+    → smallForm text ≡ planText n (w .rows) (w .counts) (w .locations) (w .times)
 tables-written L text n w ds m v r t = rw (r, ← m) (t ∙ sym (same-text L ds v))
 
 -- ---- a valid plan is known by what the tables hold of it
@@ -108,13 +109,33 @@ text-bound L ds v =
 
 -- ---- the claim
 
+valid-read-back : (L : Limits) → SevenDigits L → (ds : List Route) → Valid L ds → linesAt L (routesText ds) ≡ foundOf L ds
+valid-read-back L u ds v =
+    let e : smallNames ds ≡ ds = valid-own L ds v in
+    written-read-back L u ds (subst (Valid L) (sym e) v) ∙ ap (foundOf L) e
+
+plan-taken : (L : Limits) (text : List ℕ) (n : ℕ) → TextTaken L text n (linesAt L text) → PlanTaken L text n
+plan-taken L text n t =
+    let e = t .routes-are in
+    record {
+      typed = t .typed;
+      as-typed = t .as-typed;
+      many = sym (names-many (t .typed)) ∙ ap length (sym e) ∙ t .many;
+      valid = subst (Valid L) e (t .valid);
+      read = t .read ∙ ap (foundOf L) e;
+    }
+
 pub round-trip : (L : Limits) → SevenDigits L → RoundTrip L
 unfolding answerOf
 round-trip L u = record {
-  written-is-read = written-read-back L u;
-  taken-is-written = λ text n h. let t = text-taken L text n h in record { routes = t .routes; many = t .many; valid = t .valid; read = t .read; written = t .written };
+  written-is-read = valid-read-back L u;
+  no-capitals = valid-own L;
+  capitals-are-read = written-read-back L u;
+  taken-is-written = λ text n h. let t = text-taken L text n h in plan-taken L text n t;
+  names-alone = text-small;
+  read-alike = λ text n h. let t = text-taken L text n h in ap (linesAt L) (t .written) ∙ valid-read-back L u (t .routes) (t .valid) ∙ sym (t .read);
   tables-text = λ text n h. let t = text-taken L text n h in tables-written L text n _ (t .routes) (t .many) (t .valid) (t .read) (t .written);
-  one-plan = λ ds es v w h. found-same L ds es v w (sym (written-read-back L u ds v) ∙ ap (linesAt L) h ∙ written-read-back L u es w);
+  one-plan = λ ds es v w h. found-same L ds es v w (sym (valid-read-back L u ds v) ∙ ap (linesAt L) h ∙ valid-read-back L u es w);
   one-text = λ a b n h e.
       let s = text-taken L a n h in
       let t = text-taken L b n (ap (λ (f : Found Answer). f .answer) (sym e) ∙ h) in
@@ -122,7 +143,7 @@ round-trip L u = record {
       s .written ∙ ap routesText d ∙ sym (t .written);
   taken-short = taken-within L;
   written-bound = text-bound L;
-  written-taken = λ room ds v. rw (le-ltb (L .text) (length (routesText ds)) (le-trans (text-bound L ds v) room), written-read-back L u ds v);
+  written-taken = λ room ds v. rw (le-ltb (L .text) (length (routesText ds)) (le-trans (text-bound L ds v) room), valid-read-back L u ds v);
 }
 
 pub limits-round-trip : RoundTrip limits

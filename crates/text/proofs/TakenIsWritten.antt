@@ -1,4 +1,4 @@
--- A text that is taken is the text of the plan that was read, and that plan is valid: the routes of its drones, one after the other.
+-- A text that is taken is the text of a plan, which is valid and was read with its names in small letters: the routes of its drones, one after the other.
 use Prim.Native.Nat.{ℕ, zero, suc, _+_, _≤_, _<_}
 use native.Mathlib.Nat.{add-zero}
 use native.Mathlib.Numerals.{add-one}
@@ -14,12 +14,14 @@ use Rattle.tables.specs.Limits.{Limits}
 use Rattle.lines.specs.Bytes.{byteAt, isAt}
 use Rattle.lines.specs.Keys.{planLine, agentsKey, endLine}
 use Rattle.lines.specs.Stops.{countAt, countLine}
+use Rattle.lines.specs.Names.{smallForm}
 use Rattle.lines.proofs.ByteLaws.{getD-in, both, Stands, stands-join}
 use Rattle.lines.proofs.StopCases.{count-range}
 use Rattle.lines.proofs.StopRoundTrip.{count-stands}
 use Rattle.text.specs.Reading.{Found, nothing, droneAt, elem, joined, andThen, dronesAt, ending, agentsOf, linesAt}
 use Rattle.text.specs.TextRead.{answerOf}
-use Rattle.text.specs.Written.{Route, routeLines, routesText, rowsOf, countsOf, locationsOf, timesOf, foundOf, ValidFrom, Valid}
+use Rattle.text.specs.Written.{Route, routeLines, routesText, smallNames, rowsOf, countsOf, locationsOf, timesOf, foundOf, ValidFrom, Valid}
+use Rattle.text.proofs.Capitals.{names-many, text-small}
 use Rattle.text.proofs.DroneTaken.{DroneTake, drone-taken}
 use Rattle.lines.specs.declared.stops.Count.{Count}
 use Rattle.text.specs.declared.reader.DroneLines.{DroneLines}
@@ -34,11 +36,11 @@ use Rattle.text.specs.declared.reader.Answer.the-variants.{Taken as Plan
 record DronesTake (L : Limits) (text : List ℕ) (at e total n : ℕ) (earlier : List (List ℕ)) (f : Found DroneLines) : Type 0 where
   pub routes : List Route
   pub many : length routes ≡ n
-  pub rows-are : f .rows ≡ rowsOf L routes
-  pub counts-are : f .counts ≡ countsOf routes
-  pub locations-are : f .locations ≡ locationsOf routes
-  pub times-are : f .times ≡ timesOf routes
-  pub valid : ValidFrom L earlier total routes
+  pub rows-are : f .rows ≡ rowsOf L (smallNames routes)
+  pub counts-are : f .counts ≡ countsOf (smallNames routes)
+  pub locations-are : f .locations ≡ locationsOf (smallNames routes)
+  pub times-are : f .times ≡ timesOf (smallNames routes)
+  pub valid : ValidFrom L earlier total (smallNames routes)
   pub there : Stands text at (routeLines routes) e
 
 one-more : (L : Limits) (n : ℕ) (text : List ℕ) (at e e′ total t : ℕ) (earlier : List (List ℕ)) (f g : Found DroneLines) → DroneTake L text at e total t (elem earlier) f
@@ -91,13 +93,16 @@ whole-from text p (b ∷ x) h l =
     let e : getD text p 0 ≡ b = getD-in text p 0 256 i ∙ eqb-true _ _ (w .0) in
     rw (drop-cons text p 0 i, e, ← add-one p, whole-from text (p + 1) x (w .1) (omega arith))
 
--- the text of a plan that was taken, where `w` is what reading gave
+-- the text of a plan that was taken, where `w` is what reading gave: the plan as the text has it, and the one that was read
 pub record TextTaken (L : Limits) (text : List ℕ) (n : ℕ) (w : Found Answer) : Type 0 where
   pub routes : List Route
   pub many : length routes ≡ n
   pub valid : Valid L routes
   pub read : w ≡ foundOf L routes
-  pub written : text ≡ routesText routes
+  pub typed : List Route
+  pub routes-are : routes ≡ smallNames typed
+  pub as-typed : text ≡ routesText typed
+  pub written : smallForm text ≡ routesText routes
 
 take-end : (L : Limits) (text : List ℕ) (n v p e : ℕ) (f : Found DroneLines) → isAt text 0 planLine ≡ true → countAt text 7 agentsKey (L .drones) ≡ Is v p → DronesTake L text p e 0 v [] f
     → (a : Bool) → isAt text e endLine ≡ a → (b : Bool) → eqb (e + 9) (length text) ≡ b → cond a (cond b (Plan v) (NoPlan (Form (e + 9)))) (NoPlan (Form e)) ≡ Plan n
@@ -108,12 +113,17 @@ take-end L text n v p e f k c s true a true b h =
     let w : Stands text 0 (planLine ++ countLine agentsKey v ++ routeLines (s .routes) ++ endLine) (e + 9) =
     stands-join (stands-join (stands-join (record { there = k; next-is = refl }) (count-stands text 7 agentsKey (L .drones) v p c)) (s .there)) (record { there = a; next-is = refl }) in
     let l : e + 9 ≡ length text = eqb-true _ _ b in
+    let m : length (smallNames (s .routes)) ≡ v = names-many (s .routes) ∙ s .many in
+    let typed : text ≡ routesText (s .routes) = rw (s .many) (whole-from text 0 (planLine ++ countLine agentsKey v ++ routeLines (s .routes) ++ endLine) (w .there) (sym l ∙ w .next-is)) in
     record {
-      routes = s .routes;
-      many = s .many ∙ ev;
-      valid = (rw (s .many) (r .0), rw (s .many) (r .1), s .valid);
-      read = rw (s .rows-are, s .counts-are, s .locations-are, s .times-are, s .many);
-      written = rw (s .many) (whole-from text 0 (planLine ++ countLine agentsKey v ++ routeLines (s .routes) ++ endLine) (w .there) (sym l ∙ w .next-is));
+      routes = smallNames (s .routes);
+      many = m ∙ ev;
+      valid = (rw m (r .0), rw m (r .1), s .valid);
+      read = rw (s .rows-are, s .counts-are, s .locations-are, s .times-are, m);
+      typed = s .routes;
+      routes-are = refl;
+      as-typed = typed;
+      written = ap smallForm typed ∙ text-small (s .routes);
     }
 take-end L text n v p e f k c s true a false b h = absurd (let z : _≡_ {A = ℕ} 0 1 = cc h in omega arith)
 take-end L text n v p e f k c s false a b b′ h = absurd (let z : _≡_ {A = ℕ} 0 1 = cc h in omega arith)

@@ -1,4 +1,4 @@
--- The text of a valid plan is read back as that plan: line by line, each piece where the one before it ends.
+-- The text of a plan that is valid with its names in small letters is read back as that: line by line, each piece where the one before it ends.
 use Prim.Native.Nat.{ℕ, _+_, _≤_}
 use native.Mathlib.Nat.{add-zero}
 use native.Mathlib.Omega.{arith}
@@ -13,12 +13,14 @@ use Rattle.lines.specs.Bytes.{isAt}
 use Rattle.lines.specs.Numbers.{SevenDigits}
 use Rattle.lines.specs.Keys.{stopsKey, planLine, agentsKey, endLine}
 use Rattle.lines.specs.Stops.{stopLines, countAt, countLine, InRange}
-use Rattle.lines.specs.Names.{goodName, nameLine, rowOf}
+use Rattle.lines.specs.Names.{smallForm, goodName, nameLine, rowOf}
 use Rattle.lines.proofs.ByteLaws.{stands-parts, part-at}
 use Rattle.lines.proofs.StopRoundTrip.{stops-back, count-back}
+use Rattle.lines.proofs.Letters.{text-name}
 use Rattle.lines.proofs.NameRoundTrip.{name-back}
 use Rattle.text.specs.Reading.{stopsRead, droneAt, elem, dronesAt, linesAt}
-use Rattle.text.specs.Written.{Route, routeLine, routeLines, routesText, rowsOf, countsOf, locationsOf, timesOf, foundOf, ValidFrom, Valid}
+use Rattle.text.specs.Written.{Route, routeLine, routeLines, routesText, smallNames, rowsOf, countsOf, locationsOf, timesOf, foundOf, ValidFrom, Valid}
+use Rattle.text.proofs.Capitals.{names-many}
 use Rattle.text.proofs.DroneCases.{stops-in, drone-in}
 use Rattle.lines.specs.declared.stops.Count.the-variants.{Is}
 use Rattle.text.specs.declared.reader.DroneLines.the-variants.{Taken}
@@ -34,10 +36,10 @@ stops-read-back L ls ts text at total u a b r h =
     stops-in L text at total _ refl (length ls) (at + length (countLine stopsKey (length ls))) c (omega arith) ∙ rw (s, m)
 
 -- one drone
-drone-back : (L : Limits) (d : Route) (text : List ℕ) (at total : ℕ) (taken : List ℕ → Bool) → SevenDigits L → goodName L (d .name) ≡ true → taken (rowOf L (d .name)) ≡ false → 1 ≤ length (d .locations)
+drone-back : (L : Limits) (d : Route) (text : List ℕ) (at total : ℕ) (taken : List ℕ → Bool) → SevenDigits L → goodName L (smallForm (d .name)) ≡ true → taken (rowOf L (smallForm (d .name))) ≡ false → 1 ≤ length (d .locations)
     → total + length (d .locations) ≤ L .stops → InRange L (d .locations) (d .times) → isAt text at (routeLine d) ≡ true
     → droneAt L text at total taken ≡ record {
-      rows = rowOf L (d .name) ∷ [];
+      rows = rowOf L (smallForm (d .name)) ∷ [];
       counts = length (d .locations) ∷ [];
       locations = d .locations;
       times = d .times;
@@ -46,43 +48,46 @@ drone-back : (L : Limits) (d : Route) (text : List ℕ) (at total : ℕ) (taken 
 drone-back L d text at total taken u g f a b r h =
     let rest : List ℕ = countLine stopsKey (length (d .locations)) ++ stopLines (d .locations) (d .times) in
     let w = stands-parts text at (nameLine (d .name)) rest h in
-    let n = name-back L text at (d .name) g (w .0) in
+    let n = name-back L text at (d .name) (text-name L (d .name) ∙ g) (w .0) in
     let p : at + length (nameLine (d .name)) ≡ at + 5 + length (d .name) + 1 = simp length-append (omega arith) in
     let s = stops-read-back L (d .locations) (d .times) text (at + 5 + length (d .name) + 1) total u a b r (rw p at (w .1)) in
     let m : at + 5 + length (d .name) + 1 + length rest ≡ at + length (nameLine (d .name) ++ rest) = simp length-append (omega arith) in
-    drone-in L text at total taken _ refl (at + 5) (at + 5 + length (d .name)) (rowOf L (d .name)) (n .0) (rw (n .1)) f ∙ rw (s, m)
+    drone-in L text at total taken _ refl (at + 5) (at + 5 + length (d .name)) (rowOf L (smallForm (d .name))) (n .0) (rw (n .1)) f ∙ rw (s, m)
 
 -- all drones
 abbrev totalOf : ℕ → List Route → ℕ
 totalOf total [] = total
 totalOf total (d ∷ ds) = totalOf (total + length (d .locations)) ds
 
-drones-back : (L : Limits) (ds : List Route) (text : List ℕ) (at : ℕ) (earlier : List (List ℕ)) (total : ℕ) → SevenDigits L → ValidFrom L earlier total ds → isAt text at (routeLines ds) ≡ true
+drones-back : (L : Limits) (ds : List Route) (text : List ℕ) (at : ℕ) (earlier : List (List ℕ)) (total : ℕ) → SevenDigits L → ValidFrom L earlier total (smallNames ds) → isAt text at (routeLines ds) ≡ true
     → dronesAt L (length ds) text at earlier total
-    ≡ record { rows = rowsOf L ds; counts = countsOf ds; locations = locationsOf ds; times = timesOf ds; answer = Taken (at + length (routeLines ds)) (totalOf total ds) }
+    ≡ record { rows = rowsOf L (smallNames ds); counts = countsOf (smallNames ds); locations = locationsOf (smallNames ds); times = timesOf (smallNames ds); answer = Taken (at + length (routeLines ds)) (totalOf total ds) }
 unfolding dronesAt routeLines
 drones-back L [] text at earlier total u v h = rw add-zero
 drones-back L (d ∷ ds) text at earlier total u v h =
     let w = stands-parts text at (routeLine d) (routeLines ds) h in
     let f = drone-back L d text at total (elem earlier) u (v .0) (v .1) (v .2) (v .3) (v .4) (w .0) in
-    let g = drones-back L ds text (at + length (routeLine d)) (earlier ++ rowOf L (d .name) ∷ []) (total + length (d .locations)) u (v .5) (w .1) in
+    let g = drones-back L ds text (at + length (routeLine d)) (earlier ++ rowOf L (smallForm (d .name)) ∷ []) (total + length (d .locations)) u (v .5) (w .1) in
     let m : at + length (routeLine d) + length (routeLines ds) ≡ at + length (routeLine d ++ routeLines ds) = simp length-append (omega arith) in
     rw (f, g, m)
 
-lines-back : (L : Limits) (ds : List Route) (text C : List ℕ) → SevenDigits L → C ≡ countLine agentsKey (length ds) → Valid L ds → isAt text 0 planLine ≡ true → isAt text 7 C ≡ true
+lines-back : (L : Limits) (ds : List Route) (text C : List ℕ) → SevenDigits L → C ≡ countLine agentsKey (length ds) → Valid L (smallNames ds) → isAt text 0 planLine ≡ true → isAt text 7 C ≡ true
     → isAt text (7 + length C) (routeLines ds) ≡ true → isAt text (7 + length C + length (routeLines ds)) endLine ≡ true → 7 + length C + length (routeLines ds) + 9 ≡ length text
-    → linesAt L text ≡ foundOf L ds
+    → linesAt L text ≡ foundOf L (smallNames ds)
 unfolding linesAt
 lines-back L ds text C u q v k c r e l =
-    let n : countAt text 7 agentsKey (L .drones) ≡ Is (length ds) (7 + length C) = count-back text 7 agentsKey (L .drones) (length ds) (v .0) (v .1) (omega (arith, u .drones, v .1)) (rw q at c) ∙ rw q in
+    let m = names-many ds in
+    let low : 1 ≤ length ds = omega (arith, m, v .0) in
+    let high : length ds ≤ L .drones = omega (arith, m, v .1) in
+    let n : countAt text 7 agentsKey (L .drones) ≡ Is (length ds) (7 + length C) = count-back text 7 agentsKey (L .drones) (length ds) low high (omega (arith, u .drones, high)) (rw q at c) ∙ rw q in
     let g = drones-back L ds text (7 + length C) [] 0 u (v .2) r in
-    rw (k, n, g, e, eq-eqb _ _ l)
+    rw (k, n, g, e, eq-eqb _ _ l, m)
 
--- the law: a valid plan's text is read back as that plan
-pub written-read-back : (L : Limits) → SevenDigits L → (ds : List Route) → Valid L ds → linesAt L (routesText ds) ≡ foundOf L ds
+-- the law: the text is read back as the plan with its names in small letters
+pub written-read-back : (L : Limits) → SevenDigits L → (ds : List Route) → Valid L (smallNames ds) → linesAt L (routesText ds) ≡ foundOf L (smallNames ds)
 written-read-back L u ds v = go (routesText ds) (countLine agentsKey (length ds)) refl refl
   where
-    go : (text C : List ℕ) → text ≡ planLine ++ C ++ routeLines ds ++ endLine → C ≡ countLine agentsKey (length ds) → linesAt L text ≡ foundOf L ds
+    go : (text C : List ℕ) → text ≡ planLine ++ C ++ routeLines ds ++ endLine → C ≡ countLine agentsKey (length ds) → linesAt L text ≡ foundOf L (smallNames ds)
     go text C t q =
         let i : isAt text 0 text ≡ true = rw take-length at (part-at text 0 (length text) (omega arith)) in
         let j : isAt text 0 (planLine ++ C ++ routeLines ds ++ endLine) ≡ true = ap (isAt text 0) (sym t) ∙ i in

@@ -58,7 +58,11 @@ examples =
     ∷ record { text = single "abcdefghijklmnopqrstuvwx" "0@0"; number = 0; value = 1 }
     ∷ record { text = single "abcdefghijklmnopqrstuvwxy" "0@0"; number = 3; value = 16 }
     ∷ record { text = single "" "0@0"; number = 3; value = 16 }
-    ∷ record { text = single "Quad" "0@0"; number = 3; value = 16 }
+    -- capitals in a name, and bytes beside them; a key with a capital
+    ∷ record { text = single "ABCDEFGHIJKLMNOPQRSTUVWX" "0@0"; number = 0; value = 1 }
+    ∷ record { text = single "AZ@" "0@0"; number = 3; value = 16 }
+    ∷ record { text = single "AZ[" "0@0"; number = 3; value = 16 }
+    ∷ record { text = "plan=1\nagents=1\nName=a\nstops=1\ngo=0@0\nend=plan\n"; number = 2; value = 16 }
     -- "Location 65,536: 4. Time 1,000,000 taken."
     ∷ record { text = single "a" "65536@0"; number = 4; value = 31 }
     ∷ record { text = single "a" "65535@1000000"; number = 0; value = 1 }
@@ -72,6 +76,9 @@ examples =
     -- a name equal to an earlier one, and one that differs only at its end
     ∷ record { text = "plan=1\nagents=2\nname=survey-quad-east-1\nstops=1\ngo=1@0\nname=survey-quad-east-1\nstops=1\ngo=2@0\nend=plan\n"; number = 5; value = 55 }
     ∷ record { text = "plan=1\nagents=2\nname=survey-quad-east-1\nstops=1\ngo=1@0\nname=survey-quad-east-10\nstops=1\ngo=2@0\nend=plan\n"; number = 0; value = 2 }
+    -- names that are equal but for capitals, the first's in three places, the second's in the eighteenth byte alone
+    ∷ record { text = "plan=1\nagents=2\nname=Survey-Quad-East-1\nstops=1\ngo=1@0\nname=survey-quad-east-1\nstops=1\ngo=2@0\nend=plan\n"; number = 5; value = 55 }
+    ∷ record { text = "plan=1\nagents=2\nname=survey-quad-east-a\nstops=1\ngo=1@0\nname=survey-quad-east-A\nstops=1\ngo=2@0\nend=plan\n"; number = 5; value = 55 }
     -- "stops of all drones: at most 1,024"
     ∷ record { text = "plan=1\nagents=2\nname=a\nstops=1\ngo=1@0\nname=b\nstops=1024\n"; number = 6; value = 45 }
     ∷ record { text = "plan=1\nagents=2\nname=a\nstops=1025\n"; number = 4; value = 23 }

@@ -1,4 +1,5 @@
 pub mod Reading
+pub mod Names
 pub mod TextRead
 pub mod Written
 pub mod Claims

@@ -10,7 +10,7 @@ use Rattle.tables.specs.Limits.{Limits}
 use Rattle.lines.specs.Keys.{planLine, agentsKey, stopsKey, endLine}
 use Rattle.lines.specs.Bytes.{isAt}
 use Rattle.lines.specs.Stops.{countAt, stopsAt}
-use Rattle.lines.specs.Names.{part, nameAt, rowOf}
+use Rattle.lines.specs.Names.{smallForm, part, nameAt, rowOf}
 use Rattle.lines.specs.declared.refusal.Refusal.the-variants.{Form, Total, Same}
 use Rattle.lines.specs.declared.stops.Count.{Count}
 use Rattle.lines.specs.declared.stops.Count.the-variants.{Is, Refused as NoCount}
@@ -55,11 +55,11 @@ stopsRead L text at total = stopsOf L text at total (countAt text at stopsKey (L
 abbrev pub withRow : List ℕ → Found DroneLines → Found DroneLines
 withRow row f = record { rows = row ∷ []; counts = f .counts; locations = f .locations; times = f .times; answer = f .answer }
 
--- "5 name equal to an earlier one"
+-- "5 name equal to an earlier one"; "The tables hold the small form", and "the rule of one name for one drone follows the new comparison"
 abbrev pub droneOf : Limits → List ℕ → ℕ → ℕ → (List ℕ → Bool) → NameSpan → Found DroneLines
 droneOf L text at total taken (NoName r) = nothing (Refused r)
 droneOf L text at total taken (NameIs s e) =
-    cond (taken (rowOf L (part text s e))) (nothing (Refused (Same at))) (withRow (rowOf L (part text s e)) (stopsRead L text (e + 1) total))
+    cond (taken (rowOf L (smallForm (part text s e)))) (nothing (Refused (Same at))) (withRow (rowOf L (smallForm (part text s e))) (stopsRead L text (e + 1) total))
 
 unfoldable pub droneAt : Limits → List ℕ → ℕ → ℕ → (List ℕ → Bool) → Found DroneLines
 droneAt L text at total taken = droneOf L text at total taken (nameAt L text at)

@@ -9,7 +9,7 @@ use Rattle.below.specs.Below.{sumBelow, at as entry}
 use Rattle.tables.specs.Limits.{Limits}
 use Rattle.lines.specs.Keys.{stopsKey}
 use Rattle.lines.specs.Stops.{countLine, stopLines}
-use Rattle.lines.specs.Names.{nameLine, nameOf}
+use Rattle.lines.specs.Names.{smallForm, nameLine, nameOf}
 use Rattle.text.specs.Reading.{linesAt, flat}
 use Rattle.text.specs.TextRead.{answerOf, tableAfter}
 use Rattle.text.specs.Written.{planText}
@@ -66,7 +66,7 @@ pub record TextWritten (text before after : List ℕ) (r : WriteAnswer) : Type 0
   pub answer-is : r ≡ writeAnswer before text
   pub buffer-is : after ≡ bufferAfter before text
 
--- ---- the claim: tables of full size that reading fills, whatever they held before, are written as the text that was read
+-- ---- the claim: tables of full size that reading fills, whatever they held before, are written as the small form of the text that was read
 
 abbrev pub WrittenBack : Limits → Type 0
 WrittenBack L =
@@ -77,4 +77,4 @@ WrittenBack L =
     (tableAfter L text (L .drones) (linesAt L text .counts) counts)
     (tableAfter L text (L .stops) (linesAt L text .locations) locations)
     (tableAfter L text (L .stops) (linesAt L text .times) times)
-    ≡ text
+    ≡ smallForm text

@@ -7,7 +7,7 @@ use lib.ListN.{length, take, drop}
 use Rattle.tables.specs.Limits.{Limits}
 use Rattle.lines.specs.Keys.{planLine, agentsKey, stopsKey, endLine}
 use Rattle.lines.specs.Stops.{countLine, stopLines, InRange}
-use Rattle.lines.specs.Names.{nameLine, goodName, rowOf, nameOf}
+use Rattle.lines.specs.Names.{smallForm, nameLine, goodName, rowOf, nameOf}
 use Rattle.text.specs.declared.reader.Answer.{Answer}
 use Rattle.text.specs.declared.reader.Answer.the-variants.{Taken as Plan}
 use Rattle.text.specs.Reading.{Found, elem}
@@ -40,6 +40,14 @@ routeLines (d ∷ ds) = routeLine d ++ routeLines ds
 
 abbrev pub routesText : List Route → List ℕ
 routesText ds = planLine ++ countLine agentsKey (length ds) ++ routeLines ds ++ endLine
+
+-- the plan with its names in small letters
+abbrev pub smallNamed : Route → Route
+smallNamed d = record { name = smallForm (d .name); locations = d .locations; times = d .times }
+
+abbrev pub smallNames : List Route → List Route
+smallNames [] = []
+smallNames (d ∷ ds) = smallNamed d ∷ smallNames ds
 
 -- what the tables hold of it
 abbrev pub rowsOf : Limits → List Route → List (List ℕ)

@@ -82,7 +82,7 @@ pub fn read_drone(
         NameSpan::Refused(refusal) => DroneLines::Refused(refusal),
         NameSpan::Is { start, end } => {
             let mut row = [0u8; Drone::NAME];
-            bytes::put_bytes(&mut row, 0, &text[start..end]);
+            names::put_small(&mut row, 0, &text[start..end]);
             if names::row_among(names, drone, &row) {
                 return DroneLines::Refused(Refusal::Same(at));
             }

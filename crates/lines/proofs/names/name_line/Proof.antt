@@ -10,7 +10,7 @@ use borrow.Author.Needs.{needs}
 use Rattle.lines.proofs.names.name_line.Statement.{statement}
 use Rattle.lines.proofs.names.name_line.Tie as tie
 use Rattle.lines.proofs.bytes.starts.Reads as starts-reads
-use Rattle.lines.proofs.names.good_name.Reads as good-name-reads
+use Rattle.lines.proofs.names.text_name.Reads as text-name-reads
 use Rattle.lines.proofs.names.line_end.Reads as line-end-reads
 use Rattle.lines.proofs.ByteLaws.{isAt-in}
 use Rattle.lines.proofs.NameCases.{end-within, name-bad, name-is, name-none, name-open}
@@ -45,23 +45,23 @@ line-end-requires c κs = search needs
 returns-2 : tie.Need-returns-2
 returns-2 c = sym (name-open _ _ _ _ (keyed (c .before .before)) (c .before .line-end .ensures) (c .if2 .taken))
 
-sub-good-name : tie.Need-sub-good-name
-sub-good-name c = ends c .0
+sub-text-name : tie.Need-sub-text-name
+sub-text-name c = ends c .0
 
-part-good-name-start : tie.Need-part-good-name-start
-part-good-name-start c = ends c .0
+part-text-name-start : tie.Need-part-text-name-start
+part-text-name-start c = ends c .0
 
-part-good-name-end : tie.Need-part-good-name-end
-part-good-name-end c = ends c .1
+part-text-name-end : tie.Need-part-text-name-end
+part-text-name-end c = ends c .1
 
-good-name-requires : tie.Need-good-name-requires
-good-name-requires c κs = search needs
+text-name-requires : tie.Need-text-name-requires
+text-name-requires c κs = search needs
 
 returns-3 : tie.Need-returns-3
-returns-3 c = sym (name-bad _ _ _ _ (keyed (c .before .before .before .before .before)) (c .before .before .before .before .line-end .ensures) (c .before .before .before .if2 .left) (sym (c .before .good-name .ensures) ∙ not-true _ (c .if3 .taken)))
+returns-3 c = sym (name-bad _ _ _ _ (keyed (c .before .before .before .before .before)) (c .before .before .before .before .line-end .ensures) (c .before .before .before .if2 .left) (sym (c .before .text-name .ensures) ∙ not-true _ (c .if3 .taken)))
 
 returns-4 : tie.Need-returns-4
-returns-4 c = sym (name-is _ _ _ _ (keyed (c .before .before .before .before .before)) (c .before .before .before .before .line-end .ensures) (c .before .before .before .if2 .left) (sym (c .before .good-name .ensures) ∙ not-false _ (c .if3 .left)))
+returns-4 c = sym (name-is _ _ _ _ (keyed (c .before .before .before .before .before)) (c .before .before .before .before .line-end .ensures) (c .before .before .before .if2 .left) (sym (c .before .text-name .ensures) ∙ not-false _ (c .if3 .left)))
 
 pub name-line-spec : {M : Type 1} → statement M
 name-line-spec =
@@ -73,9 +73,9 @@ name-line-spec =
     add-start
     line-end-requires
     returns-2
-    sub-good-name
-    part-good-name-start
-    part-good-name-end
-    good-name-requires
+    sub-text-name
+    part-text-name-start
+    part-text-name-end
+    text-name-requires
     returns-3
     returns-4)

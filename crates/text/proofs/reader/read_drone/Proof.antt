@@ -6,6 +6,7 @@ use borrow.Author.Needs.{needs}
 use Rattle.text.proofs.reader.read_drone.Statement.{statement}
 use Rattle.text.proofs.reader.read_drone.Tie as tie
 use Rattle.lines.proofs.bytes.put_bytes.Reads as put-bytes-reads
+use Rattle.lines.proofs.names.put_small.Reads as put-small-reads
 use Rattle.lines.proofs.names.name_line.Reads as name-line-reads
 use Rattle.lines.proofs.names.row_among.Reads as row-among-reads
 use Rattle.text.proofs.reader.read_stops.Reads as read-stops-reads
@@ -23,24 +24,24 @@ enum-known-line c = search needs
 enum-known-line-2 : tie.Need-enum-known-line-2
 enum-known-line-2 c = search needs
 
-slice-aggregate-put-bytes : tie.Need-slice-aggregate-put-bytes
-slice-aggregate-put-bytes c = search needs
+slice-aggregate-put-small : tie.Need-slice-aggregate-put-small
+slice-aggregate-put-small c = search needs
 
 -- where the name stands
 read : (c : tie.After-row) → NameWithin limits (now (c .before .before .before .before .before .before .before .before .before .before .args .text)) (c .before .before .line2 .given .0 .0) (c .before .before .line2 .given .0 .1 .0)
 read c = name-within _ _ _ _ _ (name-read _ _ _ _ _ (sym (c .before .before .before .before .name-line .ensures) ∙ c .before .before .line2 .given .1))
 
-sub-put-bytes : tie.Need-sub-put-bytes
-sub-put-bytes c = read c .forward
+sub-put-small : tie.Need-sub-put-small
+sub-put-small c = read c .forward
 
-part-put-bytes-start : tie.Need-part-put-bytes-start
-part-put-bytes-start c = read c .forward
+part-put-small-start : tie.Need-part-put-small-start
+part-put-small-start c = read c .forward
 
-part-put-bytes-end : tie.Need-part-put-bytes-end
-part-put-bytes-end c = let r = read c in omega arith
+part-put-small-end : tie.Need-part-put-small-end
+part-put-small-end c = let r = read c in omega arith
 
-put-bytes-requires : tie.Need-put-bytes-requires
-put-bytes-requires c κs = part-short limits _ _ _ (omega arith) (read (c .before) .short)
+put-small-requires : tie.Need-put-small-requires
+put-small-requires c κs = part-short limits _ _ _ (omega arith) (read (c .before) .short)
 
 row-among-requires : tie.Need-row-among-requires
 row-among-requires c κs = search needs
@@ -51,17 +52,17 @@ same-length c = search needs
 returns : tie.Need-returns
 returns c =
     let a = c .before .before .before .before .before .before .before .before .before .before .before .before .before .before .before .before .before .args in
-    rw (drone-same limits (now (a .text)) (a .at) (a .total) (among limits (a .drone) (now (a .names)) 0) _ (c .before .before .before .before .before .before .before .before .before .before .before .name-line .ensures) _ _ _ (c .before .before .before .before .before .before .before .before .before .line2 .given .1) (c .before .before .before .before .before .put-bytes .ensures .written) (sym (c .before .row-among .ensures) ∙ c .if1 .taken))
+    rw (drone-same limits (now (a .text)) (a .at) (a .total) (among limits (a .drone) (now (a .names)) 0) _ (c .before .before .before .before .before .before .before .before .before .before .before .name-line .ensures) _ _ _ (c .before .before .before .before .before .before .before .before .before .line2 .given .1) (c .before .before .before .before .before .put-small .ensures .written) (sym (c .before .row-among .ensures) ∙ c .if1 .taken))
     (whole-none limits _ _ _ _ _ _ _)
 
 mul-put-bytes : tie.Need-mul-put-bytes
 mul-put-bytes c = search needs
 
-slice-aggregate-put-bytes-2 : tie.Need-slice-aggregate-put-bytes-2
-slice-aggregate-put-bytes-2 c = search needs
+slice-aggregate-put-bytes : tie.Need-slice-aggregate-put-bytes
+slice-aggregate-put-bytes c = search needs
 
-put-bytes-requires-2 : tie.Need-put-bytes-requires-2
-put-bytes-requires-2 c κs = search needs
+put-bytes-requires : tie.Need-put-bytes-requires
+put-bytes-requires c κs = search needs
 
 add-read-stops : tie.Need-add-read-stops
 add-read-stops c = let r = read (c .before .before .before .before .before .before .before .before .before .before .before .before) in omega arith
@@ -88,8 +89,8 @@ returns-3 : tie.Need-returns-3
 returns-3 c =
     let a = c .before .before .before .before .before .before .before .before .before .before .before .before .before .before .before .before .before .before .before .before .before .before .before .before .before .before .before .before .before .before .before .before .args in
     let g = c .before .before .before .before .before .before .read-stops .ensures in
-    rw (drone-in limits (now (a .text)) (a .at) (a .total) (among limits (a .drone) (now (a .names)) 0) _ (c .before .before .before .before .before .before .before .before .before .before .before .before .before .before .before .before .before .before .before .before .before .before .before .before .before .before .name-line .ensures) _ _ _ (c .before .before .before .before .before .before .before .before .before .before .before .before .before .before .before .before .before .before .before .before .before .before .before .before .line2 .given .1) (c .before .before .before .before .before .before .before .before .before .before .before .before .before .before .before .before .before .before .before .before .put-bytes .ensures .written) (sym (c .before .before .before .before .before .before .before .before .before .before .before .before .before .before .before .before .row-among .ensures) ∙ c .before .before .before .before .before .before .before .before .before .before .before .before .before .before .before .if1 .left))
-    (record { answer-is = g .answer-is; names-are = one-row (c .before .before .before .before .before .before .before .before .before .before .before .before .put-bytes2 .ensures); counts-are = g .counts-are; locations-are = g .locations-are; times-are = g .times-are })
+    rw (drone-in limits (now (a .text)) (a .at) (a .total) (among limits (a .drone) (now (a .names)) 0) _ (c .before .before .before .before .before .before .before .before .before .before .before .before .before .before .before .before .before .before .before .before .before .before .before .before .before .before .name-line .ensures) _ _ _ (c .before .before .before .before .before .before .before .before .before .before .before .before .before .before .before .before .before .before .before .before .before .before .before .before .line2 .given .1) (c .before .before .before .before .before .before .before .before .before .before .before .before .before .before .before .before .before .before .before .before .put-small .ensures .written) (sym (c .before .before .before .before .before .before .before .before .before .before .before .before .before .before .before .before .row-among .ensures) ∙ c .before .before .before .before .before .before .before .before .before .before .before .before .before .before .before .if1 .left))
+    (record { answer-is = g .answer-is; names-are = one-row (c .before .before .before .before .before .before .before .before .before .before .before .before .put-bytes .ensures); counts-are = g .counts-are; locations-are = g .locations-are; times-are = g .times-are })
 
 pub read-drone-spec : {M : Type 1} → statement M
 read-drone-spec =
@@ -98,17 +99,17 @@ read-drone-spec =
     name-line-requires
     enum-known-line
     enum-known-line-2
-    slice-aggregate-put-bytes
-    sub-put-bytes
-    part-put-bytes-start
-    part-put-bytes-end
-    put-bytes-requires
+    slice-aggregate-put-small
+    sub-put-small
+    part-put-small-start
+    part-put-small-end
+    put-small-requires
     row-among-requires
     same-length
     returns
     mul-put-bytes
-    slice-aggregate-put-bytes-2
-    put-bytes-requires-2
+    slice-aggregate-put-bytes
+    put-bytes-requires
     add-read-stops
     read-stops-requires
     returns-2

@@ -1,0 +1,205 @@
+-- A text and the same with its names in small letters are read alike, whatever the answer: line by line, each where the one before it ends.
+use Prim.Native.Nat.{ℕ, zero, suc, _+_, _-_, _<_}
+use native.Mathlib.Omega.{arith}
+use mathlib.Core.Path.{_≡_, refl, ap, _∙_, subst}
+use mathlib.Core.List.{List, [], _∷_, _++_}
+use mathlib.Core.Bool.{Bool, true, false, cond}
+use lib.Dec.{ltb}
+use lib.ListN.{length}
+use Rattle.tables.specs.Limits.{Limits}
+use Rattle.lines.specs.Keys.{atSign, planLine, agentsKey, nameKey, stopsKey, goKey, endLine}
+use Rattle.lines.specs.Bytes.{isAt}
+use Rattle.lines.specs.Numbers.{digitsOf, field, fieldAt}
+use Rattle.lines.specs.Stops.{goPlace, goAt, stopsFrom, stopsAt, countAt}
+use Rattle.lines.specs.Names.{smallForm, lineEnd, part, nameAt, rowOf}
+use Rattle.lines.specs.declared.refusal.Refusal.the-variants.{Form, Total, Same}
+use Rattle.lines.specs.declared.numbers.Number.{Number}
+use Rattle.lines.specs.declared.numbers.Number.the-variants.{Value, Malformed}
+use Rattle.lines.specs.declared.stops.Count.{Count}
+use Rattle.lines.specs.declared.stops.Count.the-variants.{Is, Refused as NoCount}
+use Rattle.lines.specs.declared.stops.GoLine.{GoLine}
+use Rattle.lines.specs.declared.stops.GoLine.the-variants.{At, Refused as NoStop}
+use Rattle.lines.specs.declared.stops.GoLines.{GoLines}
+use Rattle.lines.specs.declared.stops.GoLines.the-variants.{Taken as StopsTaken, Refused as NoStops}
+use Rattle.lines.specs.declared.names.NameSpan.{NameSpan}
+use Rattle.lines.specs.declared.names.NameSpan.the-variants.{Is as NameIs, Refused as NoName}
+use Rattle.lines.proofs.SmallReads.{same-length, same-field, same-end, same-part, same-name}
+use Rattle.lines.proofs.StopRoundTrip.{go-stands, count-stands}
+use Rattle.lines.proofs.NameRoundTrip.{name-read, name-stands}
+use Rattle.text.specs.Reading.{Found, nothing, stopsEnd, stopsOf, stopsRead, withRow, droneOf, droneAt, elem, joined, andThen, dronesAt, ending, finish, agentsOf, linesAt}
+use Rattle.text.specs.Names.{namesSmall}
+use Rattle.text.specs.declared.reader.DroneLines.{DroneLines}
+use Rattle.text.specs.declared.reader.DroneLines.the-variants.{Taken, Refused}
+use Rattle.text.specs.declared.reader.Answer.{Answer}
+use Rattle.text.specs.declared.reader.Answer.the-variants.{Refused as NoPlan}
+use Rattle.text.proofs.LineStarts.{Begins, begins-first, begins-next, begins-line, one-small-form, name-kept, key-kept}
+
+-- a stop was read up to the start of a line; so were a count and a name
+go-next : (L : Limits) (text : List ℕ) (at l t e : ℕ) → goAt L text at ≡ At l t e → Begins text e
+go-next L text at l t e h = begins-line text at e (goKey ++ field l atSign) (digitsOf t) (go-stands L text at l t e h)
+
+count-next : (text : List ℕ) (at : ℕ) (key : List ℕ) (most v e : ℕ) → countAt text at key most ≡ Is v e → Begins text e
+count-next text at key most v e h = begins-line text at e key (digitsOf v) (count-stands text at key most v e h)
+
+name-next : (L : Limits) (text : List ℕ) (at s e : ℕ) → nameAt L text at ≡ NameIs s e → Begins text (e + 1)
+name-next L text at s e h = begins-next text at (e + 1) (nameKey ++ part text s e) (name-stands L text at s e (name-read L text at s e h))
+
+stops-next : (L : Limits) (n : ℕ) (text : List ℕ) (at e : ℕ) → Begins text at → stopsAt L n text at .answer ≡ StopsTaken e → Begins text e
+unfolding stopsAt
+stops-next L zero text at e b h = let q : at ≡ e = cc h in subst (Begins text) q b
+stops-next L (suc n) text at e b h = by-line (goAt L text at) refl h (λ e′ b′ h′. stops-next L n text e′ e b′ h′)
+  where
+    by-line : (s : GoLine) → goAt L text at ≡ s → stopsFrom s (λ e′. stopsAt L n text e′) .answer ≡ StopsTaken e
+        → ((e′ : ℕ) → Begins text e′ → stopsAt L n text e′ .answer ≡ StopsTaken e → Begins text e) → Begins text e
+    by-line (At l t e′) f h more = more e′ (go-next L text at l t e′ f) h
+    by-line (NoStop r) f h more = absurd (let z : _≡_ {A = ℕ} 0 1 = cc h in omega arith)
+
+read-next : (L : Limits) (text : List ℕ) (at total e t : ℕ) → stopsRead L text at total .answer ≡ Taken e t → Begins text e
+unfolding stopsRead
+read-next L text at total e t h = by-count (countAt text at stopsKey (L .stops)) refl h
+  where
+    by-lines : (m p : ℕ) → Begins text p → (x : GoLines) → stopsAt L m text p .answer ≡ x → stopsEnd (total + m) x ≡ Taken e t → Begins text e
+    by-lines m p b (StopsTaken q) x h = let w : q ≡ e = cc h in stops-next L m text p e b (x ∙ ap StopsTaken w)
+    by-lines m p b (NoStops r) x h = absurd (let z : _≡_ {A = ℕ} 0 1 = cc h in omega arith)
+
+    by-test : (m p : ℕ) → Begins text p → (c : Bool)
+        → cond c (nothing (Refused (Total at))) (record { rows = []; counts = m ∷ []; locations = stopsAt L m text p .locations; times = stopsAt L m text p .times; answer = stopsEnd (total + m) (stopsAt L m text p .answer) }) .answer ≡ Taken e t
+        → Begins text e
+    by-test m p b true h = absurd (let z : _≡_ {A = ℕ} 0 1 = cc h in omega arith)
+    by-test m p b false h = by-lines m p b (stopsAt L m text p .answer) refl h
+
+    by-count : (c : Count) → countAt text at stopsKey (L .stops) ≡ c → stopsOf L text at total c .answer ≡ Taken e t → Begins text e
+    by-count (NoCount r) f h = absurd (let z : _≡_ {A = ℕ} 0 1 = cc h in omega arith)
+    by-count (Is m p) f h = by-test m p (count-next text at stopsKey (L .stops) m p f) (ltb (L .stops - total) m) h
+
+drone-next : (L : Limits) (text : List ℕ) (at total : ℕ) (taken : List ℕ → Bool) (e t : ℕ) → droneAt L text at total taken .answer ≡ Taken e t → Begins text e
+unfolding droneAt
+drone-next L text at total taken e t h = by-name (nameAt L text at) h
+  where
+    by-test : (row : List ℕ) (p : ℕ) (c : Bool) → cond c (nothing (Refused (Same at))) (withRow row (stopsRead L text (p + 1) total)) .answer ≡ Taken e t → Begins text e
+    by-test row p true h = absurd (let z : _≡_ {A = ℕ} 0 1 = cc h in omega arith)
+    by-test row p false h = read-next L text (p + 1) total e t h
+
+    by-name : (n : NameSpan) → droneOf L text at total taken n .answer ≡ Taken e t → Begins text e
+    by-name (NoName r) h = absurd (let z : _≡_ {A = ℕ} 0 1 = cc h in omega arith)
+    by-name (NameIs s p) h = by-test _ p (taken (rowOf L (smallForm (part text s p)))) h
+
+drones-next : (L : Limits) (n : ℕ) (text : List ℕ) (at : ℕ) (earlier : List (List ℕ)) (total e t : ℕ) → Begins text at → dronesAt L n text at earlier total .answer ≡ Taken e t → Begins text e
+unfolding dronesAt
+drones-next L zero text at earlier total e t b h = let q : at ≡ e = cc h in subst (Begins text) q b
+drones-next L (suc n) text at earlier total e t b h =
+    by-answer (droneAt L text at total (elem earlier)) (λ e′ t′ q. drone-next L text at total (elem earlier) e′ t′ q) (droneAt L text at total (elem earlier) .answer) refl
+    (λ e′ t′. dronesAt L n text e′ (earlier ++ droneAt L text at total (elem earlier) .rows) t′) h
+    (λ e′ t′ b′ q. drones-next L n text e′ (earlier ++ droneAt L text at total (elem earlier) .rows) t′ e t b′ q)
+  where
+    by-answer : (f : Found DroneLines) → ((e′ t′ : ℕ) → f .answer ≡ Taken e′ t′ → Begins text e′) → (r : DroneLines) → f .answer ≡ r → (more : ℕ → ℕ → Found DroneLines)
+        → andThen f r more .answer ≡ Taken e t → ((e′ t′ : ℕ) → Begins text e′ → more e′ t′ .answer ≡ Taken e t → Begins text e) → Begins text e
+    by-answer f d (Taken e′ t′) q more h ih = ih e′ t′ (d e′ t′ q) h
+    by-answer f d (Refused x) q more h ih = absurd (let z : _≡_ {A = ℕ} 0 1 = cc (q, h) in omega arith)
+
+-- ---- the two texts
+
+module _ (L : Limits) (text : List ℕ) where
+  abbrev small : List ℕ
+  small = namesSmall text
+
+  field-alike : (at b : ℕ) → b < 65 → fieldAt small at b ≡ fieldAt text at b
+  field-alike = same-field small text (one-small-form text)
+
+  count-alike : (at : ℕ) (key : List ℕ) (most : ℕ) → isAt small at key ≡ isAt text at key → countAt small at key most ≡ countAt text at key most
+  unfolding countAt
+  count-alike at key most k = rw (k, field-alike (at + length key) 10 (omega arith)) refl
+
+  -- ---- stops
+
+  place-alike : (at : ℕ) (m : Number) → goPlace L small at m ≡ goPlace L text at m
+  place-alike at Malformed = refl
+  place-alike at (Value l e) = rw (field-alike e 10 (omega arith)) refl
+
+  go-alike : (at : ℕ) → Begins text at → goAt L small at ≡ goAt L text at
+  unfolding goAt
+  go-alike at b =
+      let k : isAt small at goKey ≡ isAt text at goKey = key-kept text at b 103 (111 ∷ 61 ∷ []) (λ z. omega (arith, z)) refl in
+      rw (k, field-alike (at + 3) 64 (omega arith), place-alike at (fieldAt text (at + 3) 64)) refl
+
+  stops-alike : (n at : ℕ) → Begins text at → stopsAt L n small at ≡ stopsAt L n text at
+  unfolding stopsAt
+  stops-alike zero at b = refl
+  stops-alike (suc n) at b = rw (go-alike at b) (by-line (goAt L text at) refl (λ e b′. stops-alike n e b′))
+    where
+      by-line : (s : GoLine) → goAt L text at ≡ s → ((e : ℕ) → Begins text e → stopsAt L n small e ≡ stopsAt L n text e) → stopsFrom s (λ e. stopsAt L n small e) ≡ stopsFrom s (λ e. stopsAt L n text e)
+      by-line (At l t e) f more = rw (more e (go-next L text at l t e f)) refl
+      by-line (NoStop r) f more = refl
+
+  read-alike : (at total : ℕ) → Begins text at → stopsRead L small at total ≡ stopsRead L text at total
+  unfolding stopsRead
+  read-alike at total b =
+      let k : isAt small at stopsKey ≡ isAt text at stopsKey = key-kept text at b 115 (116 ∷ 111 ∷ 112 ∷ 115 ∷ 61 ∷ []) (λ z. omega (arith, z)) refl in
+      rw (count-alike at stopsKey (L .stops) k) (by-count (countAt text at stopsKey (L .stops)) refl)
+    where
+      by-count : (c : Count) → countAt text at stopsKey (L .stops) ≡ c → stopsOf L small at total c ≡ stopsOf L text at total c
+      by-count (NoCount r) f = refl
+      by-count (Is m e) f = rw (stops-alike m e (count-next text at stopsKey (L .stops) m e f)) refl
+
+  -- ---- drones
+
+  name-alike : (at : ℕ) → Begins text at → nameAt L small at ≡ nameAt L text at
+  unfolding nameAt
+  name-alike at b =
+      let e = one-small-form text in
+      rw (name-kept text at b, same-end small text e (at + 5), same-length small text e, same-name small text e L (at + 5) (lineEnd text (at + 5))) refl
+
+  drone-alike : (at total : ℕ) (taken : List ℕ → Bool) → Begins text at → droneAt L small at total taken ≡ droneAt L text at total taken
+  unfolding droneAt
+  drone-alike at total taken b = rw (name-alike at b) (by-name (nameAt L text at) refl)
+    where
+      by-name : (n : NameSpan) → nameAt L text at ≡ n → droneOf L small at total taken n ≡ droneOf L text at total taken n
+      by-name (NoName r) f = refl
+      by-name (NameIs s e) f = rw (same-part small text (one-small-form text) s e, read-alike (e + 1) total (name-next L text at s e f)) refl
+
+  drones-alike : (n at : ℕ) (earlier : List (List ℕ)) (total : ℕ) → Begins text at → dronesAt L n small at earlier total ≡ dronesAt L n text at earlier total
+  unfolding dronesAt
+  drones-alike zero at earlier total b = refl
+  drones-alike (suc n) at earlier total b =
+      let f = droneAt L text at total (elem earlier) in
+      rw (drone-alike at total (elem earlier) b)
+      (by-answer f (λ e t q. drone-next L text at total (elem earlier) e t q) (f .answer) refl (λ e t b′. drones-alike n e (earlier ++ f .rows) t b′))
+    where
+      by-answer : (f : Found DroneLines) → ((e t : ℕ) → f .answer ≡ Taken e t → Begins text e) → (r : DroneLines) → f .answer ≡ r → {more less : ℕ → ℕ → Found DroneLines}
+          → ((e t : ℕ) → Begins text e → more e t ≡ less e t) → andThen f r more ≡ andThen f r less
+      by-answer f d (Taken e t) q h = ap (joined f) (h e t (d e t q))
+      by-answer f d (Refused x) q h = refl
+
+  -- ---- the whole text
+
+  ending-alike : (n : ℕ) (r : DroneLines) → ((e t : ℕ) → r ≡ Taken e t → Begins text e) → ending small n r ≡ ending text n r
+  ending-alike n (Refused x) h = refl
+  ending-alike n (Taken e t) h =
+      let k : isAt small e endLine ≡ isAt text e endLine = key-kept text e (h e t refl) 101 (110 ∷ 100 ∷ 61 ∷ 112 ∷ 108 ∷ 97 ∷ 110 ∷ 10 ∷ []) (λ z. omega (arith, z)) refl in
+      rw (k, same-length small text (one-small-form text)) refl
+
+  finish-alike : (n : ℕ) (f g : Found DroneLines) → f ≡ g → ending small n (g .answer) ≡ ending text n (g .answer) → finish small n f ≡ finish text n g
+  finish-alike n f g e h = ap (finish small n) e ∙ ap (λ (a : Answer). record { rows = g .rows; counts = g .counts; locations = g .locations; times = g .times; answer = a }) h
+
+  agents-alike : (c : Count) → ((n e : ℕ) → c ≡ Is n e → Begins text e) → agentsOf L small c ≡ agentsOf L text c
+  agents-alike (NoCount r) b = refl
+  agents-alike (Is n e) b =
+      finish-alike n (dronesAt L n small e [] 0) (dronesAt L n text e [] 0) (drones-alike n e [] 0 (b n e refl))
+      (ending-alike n (dronesAt L n text e [] 0 .answer) (λ e′ t q. drones-next L n text e [] 0 e′ t (b n e refl) q))
+
+  pub lines-alike : linesAt L small ≡ linesAt L text
+  unfolding linesAt
+  lines-alike = rw k (by-key (isAt text 0 planLine) refl)
+    where
+      k : isAt small 0 planLine ≡ isAt text 0 planLine
+      k = key-kept text 0 (begins-first text) 112 (108 ∷ 97 ∷ 110 ∷ 61 ∷ 49 ∷ 10 ∷ []) (λ z. omega (arith, z)) refl
+
+      begins : isAt text 0 planLine ≡ true → Begins text 7
+      begins h = begins-next text 0 7 (112 ∷ 108 ∷ 97 ∷ 110 ∷ 61 ∷ 49 ∷ []) (record { there = h; next-is = refl })
+
+      by-key : (c : Bool) → isAt text 0 planLine ≡ c
+          → cond c (agentsOf L small (countAt small 7 agentsKey (L .drones))) (nothing (NoPlan (Form 0))) ≡ cond c (agentsOf L text (countAt text 7 agentsKey (L .drones))) (nothing (NoPlan (Form 0)))
+      by-key true h =
+          ap (agentsOf L small) (count-alike 7 agentsKey (L .drones) (key-kept text 7 (begins h) 97 (103 ∷ 101 ∷ 110 ∷ 116 ∷ 115 ∷ 61 ∷ []) (λ z. omega (arith, z)) refl))
+          ∙ agents-alike (countAt text 7 agentsKey (L .drones)) (λ n e q. count-next text 7 agentsKey (L .drones) n e q)
+      by-key false h = refl
