@@ -99,6 +99,7 @@ static void write_plan(void) { number = board_write(buffer, BUFFER, TABLES).numb
 static void grant(void) { number = board_grant(TABLES, free_drone).number; }
 static void arrive(void) { number = board_arrive(TABLES, free_drone).number; }
 static void turn(void) { number = board_turn(TABLES, free_dependency).number; }
+static void preview(void) { number = board_preview(TABLES, free_dependency).number; }
 static void cost(void) { number = board_cost(TABLES).number; }
 static void rounds(void) { number = board_rounds(TABLES).number; }
 static void nothing(void) {}
@@ -106,7 +107,7 @@ static void nothing(void) {}
 static const struct {
     const char *name;
     void (*call)(void);
-} CALLS[] = {{"read", read_plan}, {"write", write_plan}, {"grant", grant}, {"arrive", arrive}, {"turn", turn}, {"cost", cost}, {"rounds", rounds}};
+} CALLS[] = {{"read", read_plan}, {"write", write_plan}, {"grant", grant}, {"arrive", arrive}, {"turn", turn}, {"preview", preview}, {"cost", cost}, {"rounds", rounds}};
 enum { KINDS = sizeof CALLS / sizeof *CALLS };
 
 // A grant that was given is taken back, so that each repeat does the same.

@@ -33,6 +33,12 @@ typedef struct {
     size_t number, detail;
 } conductor_answer;
 
+/* number 0: the turn would be done, and change is the cost after it less the cost now, from -31,744 to 31,744; else change is 0 */
+typedef struct {
+    size_t number;
+    int64_t change;
+} conductor_change_answer;
+
 /* number 0: taken. 1 to 6 come with an offset, 7 to 9 with a drone and its stop, 10 with two of each; the rest is 0 */
 typedef struct {
     size_t number, offset, drone, stop, other_drone, other_stop;
@@ -63,6 +69,9 @@ conductor_answer board_arrive(CONDUCTOR_TABLES(const, CONDUCTOR_NOTHING, CONDUCT
 
 /* The order of a dependency's two drones is turned round. 41, 40, 30, 31, 32, 34 */
 conductor_answer board_turn(CONDUCTOR_TABLES(const, const, const, CONDUCTOR_NOTHING), size_t dependency);
+
+/* What board_turn would answer, and by how much the cost would change. No table changes. 41, 40, 30, 31, 32, 34 */
+conductor_change_answer board_preview(CONDUCTOR_TABLES(const, const, const, const), size_t dependency);
 
 /* Detail: the drones' remaining rounds, added up. 41, 40 */
 conductor_answer board_cost(CONDUCTOR_TABLES(const, const, const, const));

@@ -1,11 +1,20 @@
 -- From what the wrapped calls say to what C is told. Assumes nothing.
-use mathlib.Core.Path.{_≡_, refl}
+use mathlib.Core.Path.{_≡_, refl, sym, subst, _∙_}
 use mathlib.Core.List.{List}
-use Prim.Native.Nat.{ℕ}
+use Prim.Native.Nat.{ℕ, _^_, _<_}
+use lib.IntN.{ℤ}
+use lib.Signed.{mag}
+use mir.Syntax.{w32, w64}
+use mir.Val.{toZ, ofZ, SFits}
+use mir.Facts.{sfits-widen, toZ-ofZ}
 use Rattle.tables.specs.Limits.{Limits}
 use Rattle.tables.specs.Tables.{Tables}
 use Rattle.log.specs.CallLog.{Call, Reply}
 use Rattle.log.specs.Calls.{step, Answered}
+use Rattle.log.specs.Preview as log
+use Rattle.flat.specs.TurnReplies.{previewMeant}
+use Rattle.flat.specs.declared.turn_replies.PreviewReply.{PreviewReply}
+use Rattle.flat.specs.declared.turn_replies.PreviewReply.the-variants as preview
 use Rattle.flat.specs.Writing.{Writing, PlanWritten}
 use Rattle.reading.specs.Reading.{AnsweredAs}
 use Rattle.reading.specs.Reading as reading
@@ -13,8 +22,9 @@ use Rattle.reading.specs.declared.replies.Reading.{Reading}
 use Rattle.reading.specs.declared.replies.Reading.the-variants.{Refused}
 use Rattle.reading.specs.declared.replies.Refusal.{Refusal}
 use Rattle.board.specs.declared.answers.Answer.{Answer}
+use Rattle.board.specs.declared.answers.ChangeAnswer.{ChangeAnswer}
 use Rattle.board.specs.declared.answers.ReadAnswer.{ReadAnswer}
-use Rattle.board.specs.Told.{Says, SaysOfRead, CallTold, PlanTold, ReadTold, answerOf, writeAnswer, refusalAnswer, readAnswer}
+use Rattle.board.specs.Told.{Says, SaysOfChange, SaysOfRead, CallTold, PlanTold, ReadTold, answerOf, changeAnswer, writeAnswer, refusalAnswer, readAnswer}
 
 pub call-told : (L : Limits) (t : Tables) (c : Call) (m : Reply) (r : Answer) (t′ : Tables) → Answered (step L) t c m t′ → Says r (answerOf m) → CallTold L t c r t′
 call-told L t c m r t′ a e = record { told = rw (a .replied) at e; left = a .left }
@@ -22,6 +32,20 @@ call-told L t c m r t′ a e = record { told = rw (a .replied) at e; left = a .l
 -- what a figure's answer says of the call's own is what it says of the definition
 pub figure-told : {A : Type 0} (told : A → Answer) (m n : A) (r : Answer) → m ≡ n → Says r (told m) → Says r (told n)
 figure-told told m n r a e = rw a at e
+
+pub change-told : (m n : log.PreviewReply) (r : ChangeAnswer) → m ≡ n → SaysOfChange r (changeAnswer m) → SaysOfChange r (changeAnswer n)
+change-told m n r a e = rw a at e
+
+-- a change of 32 bits is handed over in 64, and is the same number
+module _ (z : ℤ) (l : mag z < 2 ^ 31) where
+  in-32 : SFits w32 z
+  in-32 = record { sfits = l }
+
+  pub widened-fits : SFits w64 (toZ w32 (ofZ w32 z))
+  widened-fits = subst (SFits w64) (sym (toZ-ofZ in-32)) (sfits-widen tt in-32)
+
+  pub widened-told : (x : PreviewReply) → x ≡ preview.Change z → SaysOfChange record { number = 0; change = toZ w64 (ofZ w64 (toZ w32 (ofZ w32 z))) } (changeAnswer (previewMeant x))
+  widened-told x e = rw e record { number-is = refl; change-is = toZ-ofZ widened-fits ∙ toZ-ofZ in-32 }
 
 pub plan-told : (L : Limits) (t : Tables) (before after : List ℕ) (m : Writing) (r : Answer) → PlanWritten L t before after m → Says r (writeAnswer m) → PlanTold L t before after r
 plan-told L t before after m r a e = record { told = rw (a .replied) at e; left = a .left }

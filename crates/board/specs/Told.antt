@@ -2,10 +2,12 @@
 use mathlib.Core.Path.{_≡_}
 use mathlib.Core.List.{List}
 use Prim.Native.Nat.{ℕ}
+use lib.IntN.{pos}
 use Rattle.tables.specs.Limits.{Limits}
 use Rattle.tables.specs.Tables.{Tables}
 use Rattle.log.specs.CallLog.{Call, Reply, accepted, refused, mustWait}
 use Rattle.log.specs.Calls.{step, CostReply, costs, costRefused, RoundsReply, rounds, roundsRefused}
+use Rattle.log.specs.Preview.{PreviewReply, wouldTurn, wouldRefuse}
 use Rattle.flat.specs.Writing.{Writing, wrote, writeRefused, writes, bufferLeft}
 use Rattle.reading.specs.Reading.{Answered}
 use Rattle.reading.specs.declared.replies.Refusal.{Refusal}
@@ -13,6 +15,7 @@ use Rattle.reading.specs.declared.replies.Refusal.the-variants.{TablesTooSmall,
 use Rattle.reading.specs.declared.replies.Reading.{Reading}
 use Rattle.reading.specs.declared.replies.Reading.the-variants.{Taken, Refused}
 use Rattle.board.specs.declared.answers.Answer.{Answer}
+use Rattle.board.specs.declared.answers.ChangeAnswer.{ChangeAnswer}
 use Rattle.board.specs.declared.answers.ReadAnswer.{ReadAnswer}
 
 abbrev pub answer : ℕ → ℕ → Answer
@@ -23,6 +26,11 @@ abbrev pub answerOf : Reply → Answer
 answerOf accepted = answer 0 0
 answerOf (refused n) = answer n 0
 answerOf (mustWait w) = answer 23 w
+
+-- "When it would be done, it also gives the cost after it less the cost now": a refused preview carries the number alone
+abbrev pub changeAnswer : PreviewReply → ChangeAnswer
+changeAnswer (wouldTurn z) = record { number = 0; change = z }
+changeAnswer (wouldRefuse n) = record { number = n; change = pos 0 }
 
 abbrev pub costAnswer : CostReply → Answer
 costAnswer (costs n) = answer 0 n
@@ -64,6 +72,10 @@ readAnswer (Refused r) = refusalAnswer r
 pub record Says (r w : Answer) : Type 0 where
   pub number-is : r .number ≡ w .number
   pub detail-is : r .detail ≡ w .detail
+
+pub record SaysOfChange (r w : ChangeAnswer) : Type 0 where
+  pub number-is : r .number ≡ w .number
+  pub change-is : r .change ≡ w .change
 
 pub record SaysOfRead (r w : ReadAnswer) : Type 0 where
   pub number-is : r .number ≡ w .number

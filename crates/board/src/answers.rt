@@ -3,20 +3,28 @@ use flat::replies::ArriveReply;
 use flat::replies::GrantReply;
 use flat::replies::WriteReply;
 use flat::turn_replies::CostAnswer;
+use flat::turn_replies::PreviewReply;
 use flat::turn_replies::RoundsAnswer;
 use flat::turn_replies::TurnReply;
 use reading::replies::Reading;
 use reading::replies::Refusal;
 ghost use Rattle.flat.specs.Replies.{grantMeant, arriveMeant};
-ghost use Rattle.flat.specs.TurnReplies.{turnMeant, costMeant, roundsMeant};
+ghost use Rattle.flat.specs.TurnReplies.{turnMeant, previewMeant, costMeant, roundsMeant};
 ghost use Rattle.flat.specs.Writing.{writeMeant};
-ghost use Rattle.board.specs.Told.{Says, SaysOfRead, answerOf, costAnswer, roundsAnswer, writeAnswer, refusalAnswer, readAnswer};
+ghost use Rattle.board.specs.Told.{Says, SaysOfChange, SaysOfRead, answerOf, changeAnswer, costAnswer, roundsAnswer, writeAnswer, refusalAnswer, readAnswer};
 
 // The detail: the dependency of a 23, the cost, the rounds, the length of the text; 0 with every other reply.
 #[repr(C)]
 pub struct Answer {
     pub number: usize,
     pub detail: usize,
+}
+
+// The change of the cost at number 0; 0 with every other reply.
+#[repr(C)]
+pub struct ChangeAnswer {
+    pub number: usize,
+    pub change: i64,
 }
 
 // The offset with 1 to 6, a drone and its stop with 7 to 9, two of each with 10; the rest is 0.
@@ -123,6 +131,41 @@ pub fn of_turn(reply: TurnReply) -> Answer
         TurnReply::Cycle => Answer {
             number: 34,
             detail: 0,
+        },
+    }
+}
+
+pub fn of_preview(reply: PreviewReply) -> ChangeAnswer
+    ensures { λ r. ⌜ SaysOfChange r (changeAnswer (previewMeant reply)) ⌝ }
+{
+    match reply {
+        PreviewReply::Change(change) => ChangeAnswer {
+            number: 0,
+            change: change as i64,
+        },
+        PreviewReply::TablesTooSmall => ChangeAnswer {
+            number: 41,
+            change: 0,
+        },
+        PreviewReply::NotSound => ChangeAnswer {
+            number: 40,
+            change: 0,
+        },
+        PreviewReply::NoDependency => ChangeAnswer {
+            number: 30,
+            change: 0,
+        },
+        PreviewReply::Fixed => ChangeAnswer {
+            number: 31,
+            change: 0,
+        },
+        PreviewReply::FirstEntered => ChangeAnswer {
+            number: 32,
+            change: 0,
+        },
+        PreviewReply::Cycle => ChangeAnswer {
+            number: 34,
+            change: 0,
         },
     }
 }

@@ -1,6 +1,7 @@
 // The public calls for C, Rust and Python to link. The dependencies are records: the derivations are carried (docs/DERIVATIONS.md).
 use crate::answers;
 use crate::answers::Answer;
+use crate::answers::ChangeAnswer;
 use crate::answers::ReadAnswer;
 use conductor::calls;
 use tables::entries::Dependency;
@@ -9,9 +10,10 @@ ghost use lib.ListN.{drop};
 ghost use Rattle.tables.specs.Limits.{limits};
 ghost use Rattle.log.specs.CallLog.{grant as grantOf, arrive as arriveOf, turn as turnOf};
 ghost use Rattle.log.specs.Calls.{costReply, roundsReply};
+ghost use Rattle.log.specs.Preview.{preview};
 ghost use Rattle.reading.specs.Reading.{readPlan};
 ghost use Rattle.records.specs.Records.{tablesOfRecords};
-ghost use Rattle.board.specs.Told.{CallTold, PlanTold, ReadTold, Says, costAnswer, roundsAnswer};
+ghost use Rattle.board.specs.Told.{CallTold, PlanTold, ReadTold, Says, SaysOfChange, changeAnswer, costAnswer, roundsAnswer};
 
 // "Grant: the drone becomes under way when every dependency into its next stop has the awaited stop visited".
 #[no_mangle]
@@ -123,6 +125,40 @@ pub extern "C" fn board_turn(
         dependency,
     );
     answers::of_turn(reply)
+}
+
+// What the turn would reply; at number 0 with the cost after it less the cost now. It changes nothing.
+#[no_mangle]
+pub extern "C" fn board_preview(
+    drone_count: &[u16],
+    dependency_count: &[u16],
+    names: &[u8],
+    stop_counts: &[u16],
+    locations: &[u16],
+    times: &[u32],
+    visited: &[u16],
+    drone_flags: &[u8],
+    dependencies: &[Dependency],
+    dependency: usize,
+) -> ChangeAnswer
+    ensures { λ r. ⌜ SaysOfChange r (changeAnswer (preview limits (tablesOfRecords limits
+        (now («drone_count» .entry)) (now («dependency_count» .entry)) (now (names .entry)) (now («stop_counts» .entry))
+        (now (locations .entry)) (now (times .entry)) (now (visited .entry)) (now («drone_flags» .entry))
+        (now (dependencies .entry))) dependency)) ⌝ }
+{
+    let reply = calls::preview(
+        drone_count,
+        dependency_count,
+        names,
+        stop_counts,
+        locations,
+        times,
+        visited,
+        drone_flags,
+        dependencies,
+        dependency,
+    );
+    answers::of_preview(reply)
 }
 
 // The remaining cost: its detail at number 0.

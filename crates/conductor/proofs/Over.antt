@@ -1,6 +1,6 @@
 -- Answers carried from tables to equal ones, and the refusals before the columns of the records are there.
 --     answered-over, written-over, turn-over, told-over    the same answer over equal tables
---     answered-41, written-41, cost-41, rounds-refused-41, and the same with 40    the refusals that a spreading tells
+--     answered-41, written-41, preview-41, cost-41, rounds-refused-41, and the same with 40    the refusals that a spreading tells
 --     whole-columns    the columns that a whole spreading leaves
 --     turn-made    a turn that flips its record where it lies, and nothing past the full size
 -- Assumes nothing.
@@ -21,6 +21,8 @@ use Rattle.tables.specs.declared.entries.Dependency.{Dependency}
 use Rattle.sound.specs.Sound.{sound}
 use Rattle.log.specs.CallLog.{Call, turn, Reply, refused, isAccepted}
 use Rattle.log.specs.Calls.{Answer, step, turnStep, flipped, Answered, costRefused, costReply, roundsRefused, roundsReply}
+use Rattle.log.specs.Preview.{preview, wouldRefuse}
+use Rattle.log.proofs.Preview.{preview-refusal}
 use Rattle.log.proofs.Steps.{step-41, step-40, turn-30}
 use Rattle.flat.specs.Writing.{Writing, writeRefused, writes, bufferLeft, PlanWritten}
 use Rattle.flat.proofs.Facts.{facts}
@@ -60,6 +62,9 @@ module _ (L : Limits) where
       pub answered-41 : (c : Call) → Answered (step L) t c (refused 41) t
       answered-41 c = answered (step L) t c (refused 41) t (step-41 L t too-small c)
 
+      pub preview-41 : (w : ℕ) → wouldRefuse 41 ≡ preview L t w
+      preview-41 w = preview-refusal L t w t 41 (answered-41 (turn w))
+
       pub written-41 : (buffer : List ℕ) → PlanWritten L t buffer buffer (writeRefused 41)
       written-41 buffer = writes-41 L t too-small buffer
 
@@ -75,6 +80,9 @@ module _ (L : Limits) where
 
       pub answered-40 : (c : Call) → Answered (step L) t c (refused 40) t
       answered-40 c = answered (step L) t c (refused 40) t (step-40 L t (not-sound .0) (not-sound .1) c)
+
+      pub preview-40 : (w : ℕ) → wouldRefuse 40 ≡ preview L t w
+      preview-40 w = preview-refusal L t w t 40 (answered-40 (turn w))
 
       pub written-40 : (buffer : List ℕ) → PlanWritten L t buffer buffer (writeRefused 40)
       written-40 buffer = writes-40 L t not-sound buffer

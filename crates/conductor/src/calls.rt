@@ -7,6 +7,7 @@ use flat::replies::ArriveReply;
 use flat::replies::GrantReply;
 use flat::replies::WriteReply;
 use flat::turn_replies::CostAnswer;
+use flat::turn_replies::PreviewReply;
 use flat::turn_replies::RoundsAnswer;
 use flat::turn_replies::TurnReply;
 use reading::entry;
@@ -23,9 +24,10 @@ ghost use lib.ListN.{drop};
 ghost use Rattle.tables.specs.Limits.{limits};
 ghost use Rattle.log.specs.CallLog.{grant as grantOf, arrive as arriveOf, turn as turnOf, isAccepted};
 ghost use Rattle.log.specs.Calls.{step, Answered, costReply, roundsReply};
+ghost use Rattle.log.specs.Preview.{preview as previewOf};
 ghost use Rattle.reading.specs.Reading.{AnsweredAs, readPlan};
 ghost use Rattle.flat.specs.Replies.{grantMeant, arriveMeant};
-ghost use Rattle.flat.specs.TurnReplies.{turnMeant, costMeant, roundsMeant};
+ghost use Rattle.flat.specs.TurnReplies.{turnMeant, previewMeant, costMeant, roundsMeant};
 ghost use Rattle.flat.specs.Writing.{writeMeant, PlanWritten};
 ghost use Rattle.records.specs.Records.{flipIf, tablesOfRecords};
 
@@ -232,6 +234,66 @@ pub fn turn(
     };
     flip_if(dependencies, dependency, is_turned(reply));
     reply
+}
+
+// "The preview replies with what the turn would reply. When it would be done, it also gives the cost after it less the cost now". It changes nothing.
+pub fn preview(
+    drone_count: &[u16],
+    dependency_count: &[u16],
+    names: &[u8],
+    stop_counts: &[u16],
+    locations: &[u16],
+    times: &[u32],
+    visited: &[u16],
+    drone_flags: &[u8],
+    dependencies: &[Dependency],
+    dependency: usize,
+) -> PreviewReply
+    ensures { λ r. ⌜ previewMeant r ≡ previewOf limits (tablesOfRecords limits
+        (now («drone_count» .entry)) (now («dependency_count» .entry)) (now (names .entry)) (now («stop_counts» .entry))
+        (now (locations .entry)) (now (times .entry)) (now (visited .entry)) (now («drone_flags» .entry))
+        (now (dependencies .entry))) dependency ⌝ }
+{
+    let mut first_drones = [0u8; Dependency::FULL];
+    let mut first_stops = [0u16; Dependency::FULL];
+    let mut second_drones = [0u8; Dependency::FULL];
+    let mut second_stops = [0u16; Dependency::FULL];
+    let mut flags = [0u8; Dependency::FULL];
+    match spread(
+        drone_count,
+        dependency_count,
+        names,
+        stop_counts,
+        locations,
+        times,
+        visited,
+        drone_flags,
+        dependencies,
+        &mut first_drones,
+        &mut first_stops,
+        &mut second_drones,
+        &mut second_stops,
+        &mut flags,
+    ) {
+        Spread::TooSmall => PreviewReply::TablesTooSmall,
+        Spread::UnusedNotZero => PreviewReply::NotSound,
+        Spread::Whole => calls::preview(
+            drone_count,
+            dependency_count,
+            names,
+            stop_counts,
+            locations,
+            times,
+            visited,
+            drone_flags,
+            &first_drones,
+            &first_stops,
+            &second_drones,
+            &second_stops,
+            &flags,
+            dependency,
+        ),
+    }
 }
 
 // "Remaining cost is their sum": of the drones' remaining rounds, with the order now in force. It changes nothing.

@@ -1,6 +1,6 @@
 -- Local tables that hold the graph of usable tables: they are what the test for a cycle and the rounds ask for, and with one wait exchanged they hold the graph with that dependency
 -- turned. Assumes nothing.
-use mathlib.Core.Path.{_≡_, refl, sym, ap, _∙_, subst}
+use mathlib.Core.Path.{_≡_, refl, sym, ap, _∙_, subst, fun-ext}
 use mathlib.Core.Bool.{Bool, true, false, not, cond}
 use mathlib.Core.List.{List}
 use Prim.Native.Nat.{ℕ, _+_, _-_, _≤_, _<_}
@@ -13,6 +13,8 @@ use Rattle.below.specs.Below.{at}
 use Rattle.below.proofs.Tests.{by-cases}
 use Rattle.tables.specs.Limits.{limits}
 use Rattle.tables.specs.Tables.{PlanLists, Tables, drones, dependencies}
+use Rattle.tables.specs.Flags.{turnedBit, flipBit}
+use Rattle.tables.proofs.FlagLaws.{flip-turned}
 use Rattle.precedence.specs.Graph.{Plan, Wait, Formed, Kept, cyclic, cost, makespan}
 use Rattle.plan.specs.Stops.{start, owner, number}
 use Rattle.plan.specs.Room.{Counts}
@@ -30,7 +32,7 @@ use Rattle.sound.proofs.SameGraph.{cyclic-same}
 use Rattle.rounds.specs.Remaining.{SamePlan, Ready}
 use Rattle.rounds.proofs.SamePlans.{same-cost, same-makespan}
 use Rattle.log.specs.Claims.{Usable}
-use Rattle.log.specs.Calls.{costs, costReply, rounds, roundsReply}
+use Rattle.log.specs.Calls.{flipped, costs, costReply, rounds, roundsReply}
 use Rattle.log.proofs.Checks.{Passes}
 use Rattle.log.proofs.Costs.{kept}
 use Rattle.log.proofs.Exactly.{unfixed-says}
@@ -136,6 +138,12 @@ module _ (turned : ℕ → Bool) (w : ℕ) where
 
   flip-other : (k : ℕ) → eqb k w ≡ false → flip turned w k ≡ turned k
   flip-other k q = rw q refl
+
+-- the flag bytes after a turn show the order after it
+flipped-turned : (flags : List ℕ) (w : ℕ) → w < length flags → (λ (k : ℕ). turnedBit (at (set flags w (flipBit (at flags w))) k)) ≡ flip (λ k. turnedBit (at flags k)) w
+flipped-turned flags w l = fun-ext (λ k. by-cases (eqb k w)
+    (λ q. rw (q, eqb-true k w q, getD-set-same flags w (flipBit (at flags w)) 0 l) (flip-turned (at flags w)))
+    (λ q. rw q (ap turnedBit (getD-set-other flags w k (flipBit (at flags w)) 0 (eqb-false k w q)))))
 
 module _ (counts : List ℕ) (F : FieldPlan) (turned : ℕ → Bool) (owners starts lasts from into : List ℕ) (T : GraphTables counts (graph F turned) owners starts lasts from into) (w : ℕ) (l : w < F .count) (few : F .count ≤ limits .dependencies) where
   abbrev awaitedBy : Bool → ℕ → ℕ
@@ -269,3 +277,7 @@ module _ (t : Tables) (u : Usable limits t) where
 
         pub turn-cyclic : (r : Bool) → r ≡ cyclic (flatPlan (at owners) (at starts) (at lasts) (drones p) (at from′) (at into′) (dependencies p)) → r ≡ turnedCyclic t w
         turn-cyclic r e = e ∙ order-cyclic (flip (statusIn t .turned) w) unfixed-turned n total owners starts lasts from′ into′ after
+
+        -- the exchanged waits are those of the tables after the turn
+        pub turn-in-force : InForce (flipped t w) owners starts lasts from′ into′
+        turn-in-force = subst (λ (z : ℕ → Bool). GraphTables (p .stopCounts) (graph (planOf p) z) owners starts lasts from′ into′) (sym (flipped-turned (t .flags) w (omega (arith, exists, facts-now .dependencies-few, facts-now .sizes .flags)))) after

@@ -6,3 +6,5 @@ pub mod CostLaws
 pub mod GraphLaws
 pub mod TestLaws
 pub mod TurnAnswers
+pub mod SignedLaws
+pub mod PreviewLaws

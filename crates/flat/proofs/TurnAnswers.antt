@@ -53,6 +53,9 @@ module _ (L : Limits) (t : Tables) (u : Usable L t) (w : ℕ) (r : TurnTest) (is
       pub turns-34 : y ≡ true → Answered (step L) t (turn w) (refused 34) t
       turns-34 e = let (a, b, c) = passes-now in answered (step L) t (turn w) (refused 34) t (turn-34 L t (u .0) (u .1) w (leb-false (dependencies (t .plan)) w a) b c (sym is-y ∙ e))
 
+      pub turned-now : y ≡ false → Answered (step L) t (turn w) accepted (flipped t w)
+      turned-now e = let (a, b, c) = passes-now in answered (step L) t (turn w) accepted (flipped t w) (turn-0 L t (u .0) (u .1) w (leb-false (dependencies (t .plan)) w a) b c (sym is-y ∙ e))
+
       -- v: the flag byte after the turn
       pub turns-0 : (v : ℕ) → v ≡ flipBit (at (t .flags) w) → y ≡ false → Answered (step L) t (turn w) accepted (withFlags t (set (t .flags) w v))
-      turns-0 v is-v e = let (a, b, c) = passes-now in rw is-v (answered (step L) t (turn w) accepted (flipped t w) (turn-0 L t (u .0) (u .1) w (leb-false (dependencies (t .plan)) w a) b c (sym is-y ∙ e)))
+      turns-0 v is-v e = rw is-v (turned-now e)

@@ -1,8 +1,12 @@
--- Document 01's reply for each case of the answers of turn, cost and rounds ("Where each refusal is checked"). Assumes nothing.
+-- Document 01's reply for each case of the answers of turn, its preview, cost and rounds ("Where each refusal is checked"). Assumes nothing.
 use Rattle.log.specs.CallLog.{Reply, accepted, refused}
 use Rattle.log.specs.Calls.{CostReply, costs, costRefused, RoundsReply, rounds, roundsRefused}
 use Rattle.flat.specs.declared.turn_replies.TurnReply.{TurnReply}
 use Rattle.flat.specs.declared.turn_replies.TurnReply.the-variants as turn
+use Rattle.log.specs.Preview.{wouldTurn, wouldRefuse}
+use Rattle.log.specs.Preview as log
+use Rattle.flat.specs.declared.turn_replies.PreviewReply.{PreviewReply}
+use Rattle.flat.specs.declared.turn_replies.PreviewReply.the-variants as preview
 use Rattle.flat.specs.declared.turn_replies.CostAnswer.{CostAnswer}
 use Rattle.flat.specs.declared.turn_replies.CostAnswer.the-variants as cost
 use Rattle.flat.specs.declared.turn_replies.RoundsAnswer.{RoundsAnswer}
@@ -16,6 +20,16 @@ turnMeant turn.NoDependency = refused 30
 turnMeant turn.Fixed = refused 31
 turnMeant turn.FirstEntered = refused 32
 turnMeant turn.Cycle = refused 34
+
+-- "Refused: as for turn", or the change of the cost
+abbrev pub previewMeant : PreviewReply → log.PreviewReply
+previewMeant (preview.Change z) = wouldTurn z
+previewMeant preview.TablesTooSmall = wouldRefuse 41
+previewMeant preview.NotSound = wouldRefuse 40
+previewMeant preview.NoDependency = wouldRefuse 30
+previewMeant preview.Fixed = wouldRefuse 31
+previewMeant preview.FirstEntered = wouldRefuse 32
+previewMeant preview.Cycle = wouldRefuse 34
 
 abbrev pub costMeant : CostAnswer → CostReply
 costMeant (cost.Cost n) = costs n

@@ -1,6 +1,16 @@
-// What turn, cost and rounds reply; a definition of specs/ gives document 01's reply for each case.
+// What turn, its preview, cost and rounds reply; a definition of specs/ gives document 01's reply for each case.
 pub enum TurnReply {
     Turned,
+    TablesTooSmall,
+    NotSound,
+    NoDependency,
+    Fixed,
+    FirstEntered,
+    Cycle,
+}
+
+pub enum PreviewReply {
+    Change(i32),
     TablesTooSmall,
     NotSound,
     NoDependency,

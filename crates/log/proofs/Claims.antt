@@ -1,6 +1,7 @@
 -- Demand 2, its parts gathered. Assumes nothing.
 use Rattle.log.specs.Claims.{Demand2}
 use Rattle.log.proofs.Exactly.{granted-exactly, waits-exactly, arrived-exactly, second-after-first, turned-exactly, cycle-exactly}
+use Rattle.log.proofs.SoundKept.{stays-usable}
 use Rattle.log.proofs.Costs.{cost-means, cost-bounded, cost-limit}
 
 pub demand2 : Demand2
@@ -11,6 +12,7 @@ demand2 = record {
   second-after-first = second-after-first;
   turned-exactly = turned-exactly;
   cycle-exactly = cycle-exactly;
+  stays-usable = stays-usable;
   cost-means = cost-means;
   cost-bounded = cost-bounded;
   cost-limit = cost-limit;

@@ -12,8 +12,9 @@ use Rattle.plan.specs.Status.{fixedUnturned, withinStops, waitsKept}
 use Rattle.sound.specs.Sound.{zeroFrom, nameLength, nameSound, sameName, namesDiffer, inRange, namesSound, checked, planAccepted, dependenciesSound, planUnused, flagsSound, droneFlagsSound, progressUnused, sound}
 use Rattle.log.specs.CallLog.{replyIn, acceptedCalls}
 use Rattle.log.specs.Calls.{replyOf, grantStep, arriveStep, turnStep, costReply}
+use Rattle.log.specs.Preview.{preview}
 use Rattle.log.specs.Flights.{follow, holds, allHold, FlightsHold}
 
 pub flights-hold : FlightsHold
-unfolding allHold holds follow replyOf grantStep arriveStep turnStep costReply replyIn acceptedCalls sound zeroFrom nameLength nameSound sameName namesDiffer inRange namesSound checked planAccepted dependenciesSound planUnused flagsSound droneFlagsSound progressUnused fixedUnturned withinStops waitsKept follows isLast isFixed flagOf faultAt firstFault over collide collider apart start owner number blocks free round play finished unvisited reached remaining cost cyclic isNameByte turnedBit flipBit underWayBit onlyOneBit setUnderWay clearUnderWay fullSize firstBelow allBelow countBelow sumBelow listBelow picks rowsBelow
+unfolding allHold holds follow replyOf grantStep arriveStep turnStep costReply preview replyIn acceptedCalls sound zeroFrom nameLength nameSound sameName namesDiffer inRange namesSound checked planAccepted dependenciesSound planUnused flagsSound droneFlagsSound progressUnused fixedUnturned withinStops waitsKept follows isLast isFixed flagOf faultAt firstFault over collide collider apart start owner number blocks free round play finished unvisited reached remaining cost cyclic isNameByte turnedBit flipBit underWayBit onlyOneBit setUnderWay clearUnderWay fullSize firstBelow allBelow countBelow sumBelow listBelow picks rowsBelow
 flights-hold = refl

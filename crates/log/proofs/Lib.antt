@@ -10,9 +10,11 @@ pub mod Shown
 pub mod Whole
 pub mod Steps
 pub mod Exactly
+pub mod SoundKept
 pub mod Costs
 pub mod Claims
 pub mod Meaning
+pub mod Preview
 pub mod Flights
 pub mod Read
 pub mod Wrong

@@ -1,5 +1,6 @@
 -- The log is the list of the calls, in order, with replies that are known by their numbers; it never says 40 or 41. Assumes nothing.
 use mathlib.Core.Path.{_≡_, refl, sym, ap, _∙_}
+use mathlib.Core.Logic.{_≢_}
 use mathlib.Core.Bool.{Bool, true, false}
 use mathlib.Core.List.{List, [], _∷_, _++_, append-nil}
 use Prim.Native.Nat.{ℕ, _<_}
@@ -36,6 +37,11 @@ module _ (F : FieldPlan) (s : Status) where
   never-40 (grant d) = of-rows (λ r. number r < 35) (refusals F s (grant d)) (omega arith, (omega arith, (omega arith, (omega arith, omega arith))))
   never-40 (arrive d) = of-rows (λ r. number r < 35) (refusals F s (arrive d)) (omega arith, (omega arith, omega arith))
   never-40 (turn w) = of-rows (λ r. number r < 35) (refusals F s (turn w)) (omega arith, (omega arith, (omega arith, (omega arith, omega arith))))
+
+  -- nor does a turn say 23
+  pub turn-never-waits : (w : ℕ) → number (replyIn F s (turn w)) ≢ 23
+  unfolding replyIn
+  turn-never-waits w = of-rows (λ r. number r ≢ 23) (refusals F s (turn w)) (omega arith, (omega arith, (omega arith, (omega arith, omega arith))))
 
   -- a reply is known by its number and what it carries: numbers in a slice, or printed, are the replies
   pub read-back : (c : Call) → replyRead (number (replyIn F s c)) (carried (replyIn F s c)) ≡ replyIn F s c

@@ -43,7 +43,7 @@ pub record SamePlan (t t′ : Tables) : Type 0 where
   pub droneFlags-unused : (d : ℕ) → drones (t .plan) ≤ d → at (t′ .droneFlags) d ≡ at (t .droneFlags) d
   pub flags-unused : (w : ℕ) → dependencies (t .plan) ≤ w → at (t′ .flags) w ≡ at (t .flags) w
 
-same-self : (t : Tables) → SamePlan t t
+pub same-self : (t : Tables) → SamePlan t t
 same-self t = record { plan-same = refl; visited-length = refl; droneFlags-length = refl; flags-length = refl; visited-unused = λ d l. refl; droneFlags-unused = λ d l. refl; flags-unused = λ w l. refl }
 
 same-then : (a b c : Tables) → SamePlan a b → SamePlan b c → SamePlan a c
@@ -70,7 +70,7 @@ stored l i x n h c k = getD-set-other l i c x 0 (let ne : c ≢ i = omega arith 
 
 -- ---- a drone's flag byte, known by its bit
 
-abbrev bit : Bool → ℕ
+abbrev pub bit : Bool → ℕ
 bit b = pick b 1 0
 
 set-bit : (b : Bool) → setUnderWay (bit b) ≡ 1
@@ -106,7 +106,30 @@ pub record Kept (lists : PlanLists) (t₀ : Tables) (p e : ℕ → ℕ) (u : ℕ
   pub turned-are : (w : ℕ) → w < dependencies lists → turnedBit (at (t .flags) w) ≡ u w
   pub halves-are : (w : ℕ) → w < dependencies lists → at (t .flags) w / 2 ≡ bit (fixed (planOf lists) w)
 
-module _ (L : Limits) (lists : PlanLists) (t₀ : Tables) (read : AsRead L lists t₀) where
+-- what tables must have had at first for calls on them to keep them sound: full sizes, an accepted plan with its own dependencies, unused entries zero
+pub record Base (L : Limits) (lists : PlanLists) (t₀ : Tables) : Type 0 where
+  pub plan-read : t₀ .plan ≡ lists
+  pub full : fullSize L t₀ ≡ true
+  pub plan-accepted : planAccepted L lists ≡ true
+  pub dependencies-own : dependenciesSound L lists ≡ true
+  pub plan-unused : planUnused L lists ≡ true
+  pub visited-zero : (d : ℕ) → drones lists ≤ d → d < L .drones → at (t₀ .visited) d ≡ 0
+  pub droneFlags-zero : (d : ℕ) → drones lists ≤ d → d < L .drones → at (t₀ .droneFlags) d ≡ 0
+  pub flags-zero : (w : ℕ) → dependencies lists ≤ w → w < L .dependencies → at (t₀ .flags) w ≡ 0
+
+pub base-read : (L : Limits) (lists : PlanLists) (t₀ : Tables) → AsRead L lists t₀ → Base L lists t₀
+base-read L lists t₀ r = record {
+  plan-read = r .plan-read;
+  full = r .full;
+  plan-accepted = r .plan-accepted;
+  dependencies-own = r .dependencies-own;
+  plan-unused = r .plan-unused;
+  visited-zero = λ d m. r .visited-zero d;
+  droneFlags-zero = λ d m. r .droneFlags-zero d;
+  flags-zero = r .flags-zero;
+}
+
+module _ (L : Limits) (lists : PlanLists) (t₀ : Tables) (read : Base L lists t₀) where
   drones-room : drones lists ≤ L .drones
   drones-room = drones-in L lists (read .plan-accepted)
 
@@ -214,9 +237,9 @@ module _ (L : Limits) (lists : PlanLists) (t₀ : Tables) (read : AsRead L lists
         let drones-read : drones (t₀ .plan) ≡ drones lists = ap drones (read .plan-read) in
         let count-read : dependencies (t₀ .plan) ≡ dependencies lists = ap dependencies (read .plan-read) in
         and-both _ _
-        (zero-from (drones (t .plan)) (L .drones) (t .visited) (λ d m h. k .same .visited-unused d (omega (arith, drones-are)) ∙ read .visited-zero d h))
+        (zero-from (drones (t .plan)) (L .drones) (t .visited) (λ d m h. k .same .visited-unused d (omega (arith, drones-are)) ∙ read .visited-zero d (omega (arith, drones-are)) h))
         (and-both _ _
-        (zero-from (drones (t .plan)) (L .drones) (t .droneFlags) (λ d m h. k .same .droneFlags-unused d (omega (arith, drones-are)) ∙ read .droneFlags-zero d h))
+        (zero-from (drones (t .plan)) (L .drones) (t .droneFlags) (λ d m h. k .same .droneFlags-unused d (omega (arith, drones-are)) ∙ read .droneFlags-zero d (omega (arith, drones-are)) h))
         (zero-from (dependencies (t .plan)) (L .dependencies) (t .flags) (λ w m h. k .same .flags-unused w (omega (arith, count-is)) ∙ read .flags-zero w (omega (arith, count-is)) h)))
 
     module _ (plan : AcceptedPlan (planOf lists)) (g : Good (planOf lists) p e u) where
@@ -239,11 +262,12 @@ module _ (L : Limits) (lists : PlanLists) (t₀ : Tables) (read : AsRead L lists
       unfolding replyOf
       kept-reply c = rw (full-same L t₀ t (k .same) (read .full), kept-sound) (ap (λ (z : PlanLists). replyIn (planOf z) (statusIn t) c) plan-kept ∙ reply-same (planOf lists) plan _ _ kept-status c)
 
-  pub kept-start : Kept lists t₀ (λ d. 0) (λ d. 0) unturned t₀
-  kept-start = record {
-    same = same-self t₀;
-    visited-is = λ d l. read .visited-zero d (omega (arith, drones-room));
-    droneFlags-are = λ d l. read .droneFlags-zero d (omega (arith, drones-room));
-    turned-are = λ w l. ap turnedBit (read .flags-fixed w l) ∙ new-turned (fixed (planOf lists) w);
-    halves-are = λ w l. ap (λ (z : ℕ). z / 2) (read .flags-fixed w l) ∙ fixed-half (fixed (planOf lists) w);
-  }
+-- as they were read
+pub kept-start : (L : Limits) (lists : PlanLists) (t₀ : Tables) → AsRead L lists t₀ → Kept lists t₀ (λ d. 0) (λ d. 0) unturned t₀
+kept-start L lists t₀ read = record {
+  same = same-self t₀;
+  visited-is = λ d l. read .visited-zero d (omega (arith, drones-in L lists (read .plan-accepted)));
+  droneFlags-are = λ d l. read .droneFlags-zero d (omega (arith, drones-in L lists (read .plan-accepted)));
+  turned-are = λ w l. ap turnedBit (read .flags-fixed w l) ∙ new-turned (fixed (planOf lists) w);
+  halves-are = λ w l. ap (λ (z : ℕ). z / 2) (read .flags-fixed w l) ∙ fixed-half (fixed (planOf lists) w);
+}

@@ -18,7 +18,7 @@ use Rattle.log.specs.Claims.{MayGo, MayArrive}
 use Rattle.log.proofs.Log.{arrivals, grants, turns, Counts, counts-refused, counts-grant, counts-arrive, counts-turn, GoodLog, good-empty, idle-same, good-more, good-calls}
 use Rattle.log.proofs.Good.{good-waits}
 use Rattle.log.proofs.SoundParts.{accepted-plan}
-use Rattle.log.proofs.Shown.{SamePlan, full-same, Kept, kept-grant, kept-arrive, kept-turn, kept-status, kept-sound, kept-reply, kept-start}
+use Rattle.log.proofs.Shown.{SamePlan, full-same, Base, base-read, Kept, kept-grant, kept-arrive, kept-turn, kept-status, kept-sound, kept-reply, kept-start}
 use Rattle.log.proofs.Found.{log-held, log-goes-on, log-finishes}
 
 module _ (L : Limits) (lists : PlanLists) (t₀ : Tables) (read : AsRead L lists t₀) where
@@ -27,6 +27,9 @@ module _ (L : Limits) (lists : PlanLists) (t₀ : Tables) (read : AsRead L lists
 
   plan : AcceptedPlan F
   plan = accepted-plan L lists (read .plan-accepted) (read .dependencies-own)
+
+  base : Base L lists t₀
+  base = base-read L lists t₀ read
 
   -- the tables show the log, entry by entry
   abbrev KeptLog : List Entry → Tables → Type 0
@@ -42,9 +45,9 @@ module _ (L : Limits) (lists : PlanLists) (t₀ : Tables) (read : AsRead L lists
     -- the call gets the reply of the log
     same-reply : (c : Call) → step L t c .reply ≡ replyBy F log c
     unfolding grantStep arriveStep turnStep
-    same-reply (grant d) = kept-reply L lists t₀ read _ _ _ t kept plan good (grant d)
-    same-reply (arrive d) = kept-reply L lists t₀ read _ _ _ t kept plan good (arrive d)
-    same-reply (turn w) = kept-reply L lists t₀ read _ _ _ t kept plan good (turn w)
+    same-reply (grant d) = kept-reply L lists t₀ base _ _ _ t kept plan good (grant d)
+    same-reply (arrive d) = kept-reply L lists t₀ base _ _ _ t kept plan good (arrive d)
+    same-reply (turn w) = kept-reply L lists t₀ base _ _ _ t kept plan good (turn w)
 
     -- what an accepted call leaves
     left : Call → Tables
@@ -54,21 +57,21 @@ module _ (L : Limits) (lists : PlanLists) (t₀ : Tables) (read : AsRead L lists
 
     same-left : (c : Call) → step L t c .tables ≡ cond (isAccepted (replyBy F log c)) (left c) t
     unfolding grantStep arriveStep turnStep left
-    same-left (grant d) = ap (λ (r : Reply). cond (isAccepted r) (left (grant d)) t) (kept-reply L lists t₀ read _ _ _ t kept plan good (grant d))
-    same-left (arrive d) = ap (λ (r : Reply). cond (isAccepted r) (left (arrive d)) t) (kept-reply L lists t₀ read _ _ _ t kept plan good (arrive d))
-    same-left (turn w) = ap (λ (r : Reply). cond (isAccepted r) (left (turn w)) t) (kept-reply L lists t₀ read _ _ _ t kept plan good (turn w))
+    same-left (grant d) = ap (λ (r : Reply). cond (isAccepted r) (left (grant d)) t) (kept-reply L lists t₀ base _ _ _ t kept plan good (grant d))
+    same-left (arrive d) = ap (λ (r : Reply). cond (isAccepted r) (left (arrive d)) t) (kept-reply L lists t₀ base _ _ _ t kept plan good (arrive d))
+    same-left (turn w) = ap (λ (r : Reply). cond (isAccepted r) (left (turn w)) t) (kept-reply L lists t₀ base _ _ _ t kept plan good (turn w))
 
     kept-left : (c : Call) → isAccepted (replyBy F log c) ≡ true → KeptLog (log ++ (entry c (replyBy F log c) ∷ [])) (left c)
     unfolding left
     kept-left (grant d) e =
         let q : MayGo F (statusOf log) d = grant-passed F (statusOf log) d e in
-        kept-counts _ _ _ _ _ (counts-grant log _ d e (idle-same F log good d (q .waiting .idle))) (kept-grant L lists t₀ read _ _ _ t kept d (q .waiting .exists))
+        kept-counts _ _ _ _ _ (counts-grant log _ d e (idle-same F log good d (q .waiting .idle))) (kept-grant L lists t₀ base _ _ _ t kept d (q .waiting .exists))
     kept-left (arrive d) e =
         let q : MayArrive F (statusOf log) d = arrive-passed F (statusOf log) d e in
-        kept-counts _ _ _ _ _ (counts-arrive log _ d e) (kept-arrive L lists t₀ read _ _ _ t kept d (q .exists) (good .running .ahead d))
+        kept-counts _ _ _ _ _ (counts-arrive log _ d e) (kept-arrive L lists t₀ base _ _ _ t kept d (q .exists) (good .running .ahead d))
     kept-left (turn w) e =
         let q = turn-passed F (statusOf log) (good-waits F _ _ _ good) w e in
-        kept-counts _ _ _ _ _ (counts-turn log _ w e) (kept-turn L lists t₀ read _ _ _ t kept w (q .0 .exists))
+        kept-counts _ _ _ _ _ (counts-turn log _ w e) (kept-turn L lists t₀ base _ _ _ t kept w (q .0 .exists))
 
     kept-more : (c : Call) → KeptLog (log ++ (entry c (replyBy F log c) ∷ [])) (step L t c .tables)
     kept-more c = by-cases (isAccepted (replyBy F log c))
@@ -95,7 +98,7 @@ module _ (L : Limits) (lists : PlanLists) (t₀ : Tables) (read : AsRead L lists
   found : (calls : List Call) → Found lists calls (recorded (step L) t₀ calls) (tablesAfter (step L) t₀ calls)
   found calls = record {
     replies = replies-same calls [] (good-empty F plan) t₀ kept-empty;
-    shown = kept-status L lists t₀ read _ _ _ (tablesAfter (step L) t₀ calls) after;
+    shown = kept-status L lists t₀ base _ _ _ (tablesAfter (step L) t₀ calls) after;
     held = log-held F plan (logOf F calls) good;
     goes-on = log-goes-on F plan (logOf F calls) good;
     finishes = log-finishes F plan (logOf F calls) good;
@@ -109,7 +112,7 @@ module _ (L : Limits) (lists : PlanLists) (t₀ : Tables) (read : AsRead L lists
 
   -- besides: the tables stay sound, and all but progress and bit 0 stays as it was read
   pub stays-sound : (calls : List Call) → sound L (tablesAfter (step L) t₀ calls) ≡ true
-  stays-sound calls = kept-sound L lists t₀ read _ _ _ (tablesAfter (step L) t₀ calls) (kept-calls calls [] (good-empty F plan) t₀ kept-empty) plan (good-calls F calls [] (good-empty F plan))
+  stays-sound calls = kept-sound L lists t₀ base _ _ _ (tablesAfter (step L) t₀ calls) (kept-calls calls [] (good-empty F plan) t₀ kept-empty) plan (good-calls F calls [] (good-empty F plan))
 
   pub stays-same : (calls : List Call) → SamePlan t₀ (tablesAfter (step L) t₀ calls)
   stays-same calls = kept-calls calls [] (good-empty F plan) t₀ kept-empty .same

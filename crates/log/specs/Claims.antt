@@ -1,4 +1,4 @@
--- Demand 2: when each call is accepted, in plain terms, what 23 and 34 say, that the second drone never enters before the first, and what the cost is. Assumes nothing.
+-- Demand 2: when each call is accepted, in plain terms, what 23 and 34 say, that the second drone never enters before the first, that calls keep the tables sound, and what the cost is. Assumes nothing.
 use mathlib.Core.Path.{_≡_}
 use mathlib.Core.Logic.{_≢_, _↔_}
 use mathlib.Core.Bool.{true, false}
@@ -10,8 +10,8 @@ use Rattle.precedence.specs.Graph.{Cycle, Longest, remaining}
 use Rattle.plan.specs.Field.{FieldPlan, planOf, flip, graph}
 use Rattle.plan.specs.Status.{Status, statusIn, now}
 use Rattle.sound.specs.Sound.{sound}
-use Rattle.log.specs.CallLog.{accepted, refused, mustWait}
-use Rattle.log.specs.Calls.{grantStep, arriveStep, turnStep, costs, costReply}
+use Rattle.log.specs.CallLog.{Call, accepted, refused, mustWait}
+use Rattle.log.specs.Calls.{grantStep, arriveStep, turnStep, step, costs, costReply}
 
 -- no lent table is below full size, and the tables are sound
 abbrev pub Usable : Limits → Tables → Type 0
@@ -102,6 +102,10 @@ module _ (L : Limits) (t : Tables) where
   abbrev pub CycleExactly : Type 0
   CycleExactly = (w : ℕ) → (turnStep L t w .reply ≡ refused 34) ↔ (Usable L t × (Turnable F S w × TurnedCycle F S w))
 
+  -- whatever the call, tables that are of full size and sound stay so
+  abbrev pub StaysUsable : Type 0
+  StaysUsable = Usable L t → (c : Call) → Usable L (step L t c .tables)
+
   -- "A drone's remaining rounds are those until it finishes, 0 if finished. Remaining cost is their sum"; they "are also the number of stops in the longest
   -- chain of unvisited stops that ends at its last stop"
   pub record CostMeans : Type 0 where
@@ -125,6 +129,7 @@ pub record Demand2 : Type 0 where
   pub second-after-first : (L : Limits) (t : Tables) → SecondAfterFirst L t
   pub turned-exactly : (L : Limits) (t : Tables) → TurnedExactly L t
   pub cycle-exactly : (L : Limits) (t : Tables) → CycleExactly L t
+  pub stays-usable : (L : Limits) (t : Tables) → StaysUsable L t
   pub cost-means : (L : Limits) (t : Tables) → CostMeans L t
   pub cost-bounded : CostBounded
   pub cost-limit : CostLimit

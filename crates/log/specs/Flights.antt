@@ -5,6 +5,8 @@ use mathlib.Core.Bool.{Bool, true, false, _&&_}
 use mathlib.Core.List.{List, [], _∷_, _++_, map}
 use Prim.Native.Nat.{ℕ, _+_, _-_}
 use lib.Dec.{eqb}
+use lib.IntN.{pos, negℤ}
+use lib.Signed.{leZ}
 use lib.ListN.{length, replicate}
 use Rattle.below.specs.Below.{listBelow}
 use Rattle.tables.specs.Limits.{Limits}
@@ -16,6 +18,7 @@ use Rattle.plan.specs.Dependencies.{dependencyTotal, column, flagOf}
 use Rattle.plan.specs.Field.{planOf, graph}
 use Rattle.sound.specs.Sound.{sound}
 use Rattle.log.specs.CallLog.{Call, grant, arrive, turn, Reply, accepted, refused, mustWait, statusOf, Entry, entry, replyBy}
+use Rattle.log.specs.Preview.{PreviewReply, wouldTurn, wouldRefuse, preview}
 use Rattle.log.specs.Calls.{step, CostReply, costs, costRefused, costReply}
 
 -- ---- plans by routes
@@ -85,10 +88,11 @@ tablesBy rs = let p = planBy rs in record {
 
 -- ---- flights
 
--- a call with the reply that it must get, or `cost=0` with the cost
+-- a call with the reply that it must get, `cost=0` with the cost, or a turn looked at before it is made
 pub data Line : Type 0 where
   says : Call → Reply → Line
   costsNow : ℕ → Line
+  previews : ℕ → PreviewReply → Line
 
 -- the plan is taken with so many dependencies, and then the lines hold; or refusal 10 gives two drones, each with its stop
 pub data Outcome : Type 0 where
@@ -117,11 +121,18 @@ abbrev pub isCost : CostReply → ℕ → Bool
 isCost (costs m) n = eqb m n
 isCost (costRefused m) n = false
 
+abbrev pub samePreview : PreviewReply → PreviewReply → Bool
+samePreview (wouldTurn a) (wouldTurn b) = leZ a b && leZ b a
+samePreview (wouldTurn a) (wouldRefuse n) = false
+samePreview (wouldRefuse m) (wouldTurn b) = false
+samePreview (wouldRefuse m) (wouldRefuse n) = eqb m n
+
 -- each line holds of the tables that the line before it left, and of the log
 unfoldable pub follow : PlanLists → Tables → List Entry → List Line → Bool
 follow p t log [] = true
 follow p t log (says c r ∷ ls) = let by-log = replyBy (planOf p) log c in sameReply (step small t c .reply) r && (sameReply by-log r && follow p (step small t c .tables) (log ++ (entry c by-log ∷ [])) ls)
 follow p t log (costsNow n ∷ ls) = isCost (costReply small t) n && (eqb (cost (graph (planOf p) (statusOf log .turned)) (statusOf log .place)) n && follow p t log ls)
+follow p t log (previews w r ∷ ls) = samePreview (preview small t w) r && follow p t log ls
 
 unfoldable pub holds : Flight → Bool
 holds f = elim (f .outcome) [
@@ -181,6 +192,18 @@ slips =
     ∷ flight ring (taken 3 (says (turn 0) (refused 34) ∷ []))
     ∷ []
 
+-- turns looked at before they are made
+abbrev pub looks : List Flight
+looks =
+    -- "Flight Q gives -2", and the tables are untouched; once it is turned, turning it back costs 2. There is no dependency 1
+    flight (Q 4) (taken 1 (previews 0 (wouldTurn (negℤ (pos 2))) ∷ costsNow 8 ∷ says (turn 0) accepted ∷ costsNow 6 ∷ previews 0 (wouldTurn (pos 2)) ∷ previews 1 (wouldRefuse 30) ∷ []))
+    -- P: either alone has a cycle
+    ∷ flight P (taken 2 (previews 0 (wouldRefuse 34) ∷ previews 1 (wouldRefuse 34) ∷ []))
+    -- a fixed one; and one whose first drone is under way to its stop
+    ∷ flight ((go 5 0 ∷ go 6 1 ∷ []) ∷ (go 3 0 ∷ go 5 2 ∷ go 4 3 ∷ []) ∷ []) (taken 1 (previews 0 (wouldRefuse 31) ∷ []))
+    ∷ flight (Q 4) (taken 1 (says (grant 0) accepted ∷ says (arrive 0) accepted ∷ previews 0 (wouldTurn (pos 0)) ∷ says (grant 0) accepted ∷ previews 0 (wouldRefuse 32) ∷ []))
+    ∷ []
+
 -- the claim: every flight of the table is as it says
 abbrev pub FlightsHold : Type 0
-FlightsHold = allHold (starred ++ slips) ≡ true
+FlightsHold = allHold (starred ++ slips ++ looks) ≡ true

@@ -1,0 +1,66 @@
+-- The preview of a turn by the ways through its code: each is the turn's own way on a copy of the tables. Assumes nothing.
+use mathlib.Core.Path.{_≡_, sym, ap, _∙_}
+use mathlib.Core.Bool.{Bool, true, false}
+use Prim.Native.Nat.{ℕ, _^_, _<_}
+use native.Mathlib.Omega.{arith}
+use lib.IntN.{ℤ, subℕ}
+use mir.Syntax.{w32}
+use mir.Val.{toZ, ofZ}
+use mir.Facts.{toZ-ofZ}
+use Rattle.tables.specs.Limits.{limits}
+use Rattle.tables.specs.Tables.{Tables}
+use Rattle.log.specs.CallLog.{turn, accepted}
+use Rattle.log.specs.Calls.{flipped, costs, costReply}
+use Rattle.log.specs.Claims.{Usable}
+use Rattle.log.specs.Preview.{wouldTurn, wouldRefuse, preview}
+use Rattle.log.proofs.Costs.{cost-limit}
+use Rattle.log.proofs.Preview.{preview-turned, preview-refusal}
+use Rattle.log.proofs.SoundKept.{left-usable}
+use Rattle.flat.specs.declared.calls.TablesCheck.{TablesCheck}
+use Rattle.flat.specs.declared.calls.TablesCheck.the-variants.{TooSmall, NotSound}
+use Rattle.flat.specs.declared.turn_tests.TurnTest.{TurnTest}
+use Rattle.flat.specs.declared.turn_tests.TurnTest.the-variants as test
+use Rattle.flat.specs.Checking.{checkOf}
+use Rattle.flat.specs.InForce.{turnedCyclic}
+use Rattle.flat.specs.TurnTests.{testOf}
+use Rattle.flat.proofs.SignedLaws.{difference-fits}
+use Rattle.flat.proofs.CheckLaws.{refused-41, refused-40}
+use Rattle.flat.proofs.TurnAnswers.{turns-30, turns-31, turns-32, turns-34, turned-now}
+
+-- a cost is far below the greatest signed number
+pub cost-small : (t : Tables) (c : ℕ) → costs c ≡ costReply limits t → c < 2 ^ 31
+cost-small t c e = omega (arith, cost-limit t c (sym e))
+
+module _ (t : Tables) (w : ℕ) where
+  pub previews-41 : (r : TablesCheck) → r ≡ checkOf limits t → r ≡ TooSmall → wouldRefuse 41 ≡ preview limits t w
+  previews-41 r is-r e = preview-refusal limits t w t 41 (refused-41 limits t r is-r e (turn w))
+
+  pub previews-40 : (r : TablesCheck) → r ≡ checkOf limits t → r ≡ NotSound → wouldRefuse 40 ≡ preview limits t w
+  previews-40 r is-r e = preview-refusal limits t w t 40 (refused-40 limits t r is-r e (turn w))
+
+  -- r: the result of the tests
+  module _ (u : Usable limits t) (r : TurnTest) (is-r : r ≡ testOf t w) where
+    pub previews-30 : r ≡ test.NoDependency → wouldRefuse 30 ≡ preview limits t w
+    previews-30 h = preview-refusal limits t w t 30 (turns-30 limits t u w r is-r h)
+
+    pub previews-31 : r ≡ test.Fixed → wouldRefuse 31 ≡ preview limits t w
+    previews-31 h = preview-refusal limits t w t 31 (turns-31 limits t u w r is-r h)
+
+    pub previews-32 : r ≡ test.FirstEntered → wouldRefuse 32 ≡ preview limits t w
+    previews-32 h = preview-refusal limits t w t 32 (turns-32 limits t u w r is-r h)
+
+    -- y: the turned graph has a cycle
+    module _ (h : r ≡ test.Passes) (y : Bool) (is-y : y ≡ turnedCyclic t w) where
+      pub previews-34 : y ≡ true → wouldRefuse 34 ≡ preview limits t w
+      previews-34 e = preview-refusal limits t w t 34 (turns-34 limits t u w r is-r h y is-y e)
+
+      module _ (e : y ≡ false) where
+        pub usable-turned : Usable limits (flipped t w)
+        usable-turned = left-usable limits t (flipped t w) (turn w) accepted u (turned-now limits t u w r is-r h y is-y e)
+
+        -- a and b: the cost after the turn and before it; z: their difference, which is read back from its bits
+        pub previews-0 : (a b : ℕ) → costs a ≡ costReply limits (flipped t w) → costs b ≡ costReply limits t → (z : ℤ) → z ≡ subℕ a b → wouldTurn (toZ w32 (ofZ w32 z)) ≡ preview limits t w
+        previews-0 a b p q z is-z =
+            ap (λ (x : ℤ). wouldTurn (toZ w32 (ofZ w32 x))) is-z
+            ∙ ap wouldTurn (toZ-ofZ (difference-fits a b (cost-small (flipped t w) a p) (cost-small t b q)))
+            ∙ preview-turned limits t w (flipped t w) a b (turned-now limits t u w r is-r h y is-y e) p q

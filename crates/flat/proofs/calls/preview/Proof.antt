@@ -1,0 +1,55 @@
+use Rattle.tables.specs.Limits.{limits}
+use Rattle.flat.proofs.PreviewLaws.{previews-41, previews-40}
+use Rattle.flat.proofs.CheckLaws.{says-usable}
+use borrow.Author.Needs.{needs}
+use Rattle.flat.proofs.calls.preview.Statement.{statement}
+use Rattle.flat.proofs.calls.preview.Tie as tie
+use Rattle.flat.proofs.calls.preview.Reads as reads
+use Rattle.flat.proofs.calls.preview.Lts as lts
+use Rattle.flat.proofs.calls.check_graph.Reads as check-graph-reads
+use Rattle.flat.proofs.previewing.preview_sound.Reads as preview-sound-reads
+
+-- src/calls.rt:423:9
+check-graph-requires : tie.Need-check-graph-requires
+check-graph-requires c κs = search needs
+
+-- src/calls.rt:444:34
+enum-told : tie.Need-enum-told
+enum-told c = search needs
+
+-- src/calls.rt:445:34
+enum-told-2 : tie.Need-enum-told-2
+enum-told-2 c = search needs
+
+-- src/calls.rt:461:13
+enum-told-3 : tie.Need-enum-told-3
+enum-told-3 c = search needs
+
+-- src/calls.rt:446:32
+preview-sound-requires : tie.Need-preview-sound-requires
+preview-sound-requires c κs = (says-usable limits _ _ (c .before .before .before .before .before .before .before .check-graph .ensures .0) (c .before .before .before .before .before .enum-told3 .given .1), c .before .before .before .before .before .before .before .check-graph .ensures .1 (c .before .before .before .before .before .enum-told3 .given .1))
+
+-- src/calls.rt:392:1
+returns : tie.Need-returns
+returns c = previews-41 _ _ _ (c .before .before .check-graph .ensures .0) (c .enum-told .given .1)
+
+-- src/calls.rt:392:1
+returns-2 : tie.Need-returns-2
+returns-2 c = previews-40 _ _ _ (c .before .before .check-graph .ensures .0) (c .enum-told2 .given .1)
+
+-- src/calls.rt:392:1
+returns-3 : tie.Need-returns-3
+returns-3 c = search needs
+
+pub preview-spec : {M : Type 1} → statement M
+preview-spec =
+    tie.close
+    (tie.spec
+    check-graph-requires
+    enum-told
+    enum-told-2
+    enum-told-3
+    preview-sound-requires
+    returns
+    returns-2
+    returns-3)

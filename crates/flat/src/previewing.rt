@@ -1,0 +1,107 @@
+// The preview of a turn on tables that are of full size and sound: as the turn, but the waits are turned in local tables alone.
+use crate::exchanging::exchange;
+use crate::turn_replies::PreviewReply;
+use crate::turn_tests::TurnTest;
+use crate::turn_tests::turn_test;
+use cycles::has_cycle;
+use plan::stops::stop_total;
+use rounds::chains::remaining_cost;
+use tables::entries::Dependency;
+use tables::entries::Drone;
+use tables::entries::Stop;
+ghost use mathlib.Core.Path.{_≡_};
+ghost use Prim.Native.Nat.{_^_, _<_};
+ghost use lib.IntN.{subℕ};
+ghost use Rattle.tables.specs.Limits.{limits};
+ghost use Rattle.tables.specs.Tables.{tablesOf};
+ghost use Rattle.sound.specs.Asked.{InForce};
+ghost use Rattle.log.specs.Claims.{Usable};
+ghost use Rattle.log.specs.Preview.{preview};
+ghost use Rattle.flat.specs.TurnReplies.{previewMeant};
+
+// A number less another, which may be the greater one.
+fn difference(after: usize, before: usize) -> i32
+    requires { ⌜ (after < 2 ^ 31) × (before < 2 ^ 31) ⌝ }
+    ensures { λ r. ⌜ r ≡ subℕ after before ⌝ }
+{
+    after as i32 - before as i32
+}
+
+// "the cost after it less the cost now", or why the turn would be refused.
+pub fn preview_sound(
+    drone_count: &[u16],
+    dependency_count: &[u16],
+    names: &[u8],
+    stop_counts: &[u16],
+    locations: &[u16],
+    times: &[u32],
+    visited: &[u16],
+    drone_flags: &[u8],
+    first_drones: &[u8],
+    first_stops: &[u16],
+    second_drones: &[u8],
+    second_stops: &[u16],
+    flags: &[u8],
+    dependency: usize,
+    owners: &[u8; Stop::FULL],
+    starts: &[u16; Drone::FULL],
+    lasts: &[u16; Drone::FULL],
+    from: &mut [u16; Dependency::FULL],
+    into: &mut [u16; Dependency::FULL],
+) -> PreviewReply
+    requires { ⌜
+        Usable limits (tablesOf
+        (now «drone_count») (now «dependency_count») (now names) (now «stop_counts»)
+        (now locations) (now times) (now visited) (now «drone_flags»)
+        (now «first_drones») (now «first_stops») (now «second_drones») (now «second_stops»)
+        (now flags))
+        × InForce (tablesOf
+        (now «drone_count») (now «dependency_count») (now names) (now «stop_counts»)
+        (now locations) (now times) (now visited) (now «drone_flags»)
+        (now «first_drones») (now «first_stops») (now «second_drones») (now «second_stops»)
+        (now flags))
+        (now owners) (now starts) (now lasts) (now from) (now into)
+        ⌝ }
+    ensures { λ r.
+        ⌜
+        previewMeant r ≡ preview limits (tablesOf
+        (now («drone_count» .entry)) (now («dependency_count» .entry)) (now (names .entry)) (now («stop_counts» .entry))
+        (now (locations .entry)) (now (times .entry)) (now (visited .entry)) (now («drone_flags» .entry))
+        (now («first_drones» .entry)) (now («first_stops» .entry)) (now («second_drones» .entry)) (now («second_stops» .entry))
+        (now (flags .entry)))
+        dependency
+        ⌝ }
+{
+    let test = turn_test(
+        drone_count,
+        dependency_count,
+        names,
+        stop_counts,
+        locations,
+        times,
+        visited,
+        drone_flags,
+        first_drones,
+        first_stops,
+        second_drones,
+        second_stops,
+        flags,
+        dependency,
+    );
+    match test {
+        TurnTest::NoDependency => return PreviewReply::NoDependency,
+        TurnTest::Fixed => return PreviewReply::Fixed,
+        TurnTest::FirstEntered => return PreviewReply::FirstEntered,
+        TurnTest::Passes => {}
+    }
+    let drones = drone_count[0] as usize;
+    let count = dependency_count[0] as usize;
+    let n = stop_total(drones, stop_counts);
+    let before = remaining_cost(owners, starts, lasts, drones, n, from, into, count, visited);
+    exchange(from, into, dependency);
+    if has_cycle(owners, starts, lasts, drones, n, from, into, count) {
+        return PreviewReply::Cycle;
+    }
+    let after = remaining_cost(owners, starts, lasts, drones, n, from, into, count, visited);
+    PreviewReply::Change(difference(after, before))
+}

@@ -1,0 +1,157 @@
+-- The preview: an accepted turn leaves usable tables, so both costs are there; neither passes the greatest cost, so neither does their difference. Assumes nothing.
+use mathlib.Core.Path.{_≡_, refl, sym, ap, subst}
+use mathlib.Core.Logic.{_≢_, _↔_}
+use mathlib.Core.Bool.{Bool, true, false, cond}
+use Prim.Native.Nat.{ℕ, zero, suc, _-_, _*_, _≤_}
+use native.Mathlib.Omega.{arith}
+use lib.Dec.{ltb, le→leb}
+use lib.IntN.{ℤ, pos, negsuc, negℤ, subℕ}
+use lib.Signed.{leZ-yes, _≤ℤ_}
+use borrow.Author.Tests.{ltb-true}
+use Rattle.tables.specs.Limits.{Limits, limits}
+use Rattle.below.proofs.Tests.{true-or-false}
+use Rattle.tables.specs.Tables.{Tables, fullSize}
+use Rattle.sound.specs.Sound.{sound}
+use Rattle.plan.specs.Field.{planOf}
+use Rattle.plan.specs.Status.{statusIn}
+use Rattle.log.specs.CallLog.{Reply, accepted, refused, mustWait, number, isAccepted, Call, turn, replyIn}
+use Rattle.log.specs.Calls.{Answer, CostReply, costs, replyOf, costReply, turnStep, step, Answered}
+use Rattle.log.specs.Claims.{Usable}
+use Rattle.log.specs.Preview.{PreviewReply, wouldTurn, wouldRefuse, previewBy, previewOf, preview, RefusedAs, Change, DoneAs, Within, PreviewClaims}
+use Rattle.log.proofs.Exactly.{turned-exactly}
+use Rattle.log.proofs.SoundKept.{stays-usable}
+use Rattle.log.proofs.Steps.{cost-0}
+use Rattle.log.proofs.Costs.{cost-bounded, cost-limit}
+use Rattle.log.proofs.Meaning.{turn-never-waits}
+
+-- ---- answers taken apart
+
+-- the number of a refused preview, and one that no refusal has for the others
+abbrev refusedBy : PreviewReply → ℕ
+refusedBy (wouldTurn z) = 1000
+refusedBy (wouldRefuse n) = n
+
+abbrev isDone : PreviewReply → ℕ
+isDone (wouldTurn z) = 1
+isDone (wouldRefuse n) = 0
+
+abbrev changeIn : PreviewReply → ℤ
+changeIn (wouldTurn z) = z
+changeIn (wouldRefuse n) = pos 0
+
+-- ---- a difference between two numbers up to n
+
+abbrev FromTo : ℕ → ℤ → Type 0
+FromTo n z = (negℤ (pos n) ≤ℤ z) × (z ≤ℤ pos n)
+
+difference-between : (a b n : ℕ) → a ≤ n → b ≤ n → FromTo n (subℕ a b)
+difference-between a b n x y = go (ltb a b) refl n x y
+  where
+    low : (n m : ℕ) → negℤ (pos n) ≤ℤ pos m
+    low zero m = leZ-yes (le→leb 0 m (omega arith))
+    low (suc n) m = leZ-yes tt
+
+    go : (c : Bool) → ltb a b ≡ c → (n : ℕ) → a ≤ n → b ≤ n → FromTo n (cond c (negsuc (b - suc a)) (pos (a - b)))
+    go true e zero x y = absurd (omega (arith, ltb-true a b e))
+    go true e (suc n) x y = (leZ-yes (le→leb (b - suc a) n (omega (arith, ltb-true a b e))), leZ-yes tt)
+    go false e n x y = (low n (a - b), leZ-yes (le→leb (a - b) n (omega arith)))
+
+-- ---- by the reply of the turn
+
+-- both costs are there
+abbrev Known : CostReply → CostReply → Type 0
+Known x y = (a : ℕ) × (b : ℕ) × (x ≡ costs a) × (y ≡ costs b)
+
+done-by : (r : Reply) (x y : CostReply) → number r ≢ 23 → (r ≡ accepted → Known x y) → (z : ℤ) → (previewBy r x y ≡ wouldTurn z) ↔ ((r ≡ accepted) × Change x y z)
+done-by accepted x y n h z = (
+  λ e. let (a, b, p, q) = h refl in (refl, record { after = a; now = b; costs-after = p; costs-now = q; difference = sym (ap changeIn (rw (p, q) at e)) }),
+  λ (_, c). rw (c .costs-after, c .costs-now) (ap wouldTurn (sym (c .difference))),
+)
+done-by (refused m) x y n h z = (λ e. absurd (let q : _≡_ {A = ℕ} 0 1 = ap isDone e in omega arith), λ (a, c). true-or-false (ap isAccepted a) refl)
+done-by (mustWait w) x y n h z = absurd (n refl)
+
+refused-by : (r : Reply) (x y : CostReply) → number r ≢ 23 → (r ≡ accepted → Known x y) → (k : ℕ) → (previewBy r x y ≡ wouldRefuse k) ↔ (r ≡ refused k)
+refused-by accepted x y n h k = (
+  λ e. let (a, b, p, q) = h refl in absurd (let q : _≡_ {A = ℕ} 1 0 = ap isDone (rw (p, q) at e) in omega arith),
+  λ e. true-or-false refl (ap isAccepted e),
+)
+refused-by (refused m) x y n h k = (λ e. ap refused (ap refusedBy e), λ e. ap wouldRefuse (ap number e))
+refused-by (mustWait w) x y n h k = absurd (n refl)
+
+-- ---- a turn on a copy of the tables t, with its answer
+
+module _ (L : Limits) (t : Tables) (a : Answer) where
+  -- the turn does not say 23, and one that is accepted leaves both costs
+  pub record Turning : Type 0 where
+    pub never-waits : number (a .reply) ≢ 23
+    pub known : a .reply ≡ accepted → Known (costReply L (a .tables)) (costReply L t)
+
+  module _ (h : Turning) where
+    pub refused-as : RefusedAs (previewOf L t a) a
+    refused-as n = refused-by (a .reply) (costReply L (a .tables)) (costReply L t) (h .never-waits) (h .known) n
+
+    pub done-as : DoneAs L t (previewOf L t a) a
+    done-as z = done-by (a .reply) (costReply L (a .tables)) (costReply L t) (h .never-waits) (h .known) z
+
+    pub within : (n : ℕ) → ((t : Tables) (c : ℕ) → costReply L t ≡ costs c → c ≤ n) → Within n (previewOf L t a)
+    within n most z e =
+        let c = done-as z .0 e .1 in
+        subst (FromTo n) (sym (c .difference)) (difference-between (c .after) (c .now) n (most (a .tables) (c .after) (c .costs-after)) (most t (c .now) (c .costs-now)))
+
+-- ---- the same as code finds it, by the contract of the turn on a copy and the two costs
+
+module _ (L : Limits) (t : Tables) (c : Call) (t′ : Tables) where
+  call-turned : (a b : ℕ) → Answered (step L) t c accepted t′ → costs a ≡ costReply L t′ → costs b ≡ costReply L t → wouldTurn (subℕ a b) ≡ previewOf L t (step L t c)
+  call-turned a b h x y = rw (sym (h .replied), sym (h .left), sym x, sym y) refl
+
+  call-refused : (n : ℕ) → Answered (step L) t c (refused n) t′ → wouldRefuse n ≡ previewOf L t (step L t c)
+  call-refused n h = rw (sym (h .replied)) refl
+
+-- ---- the turn of one dependency
+
+module _ (L : Limits) (t : Tables) (w : ℕ) where
+  never-23 : number (turnStep L t w .reply) ≢ 23
+  unfolding turnStep replyOf
+  never-23 = go (fullSize L t) (sound L t) (turn-never-waits (planOf (t .plan)) (statusIn t) w)
+    where
+      go : (a b : Bool) → number (replyIn (planOf (t .plan)) (statusIn t) (turn w)) ≢ 23 → number (cond a (cond b (replyIn (planOf (t .plan)) (statusIn t) (turn w)) (refused 40)) (refused 41)) ≢ 23
+      go true true h = h
+      go true false h = omega arith
+      go false b h = omega arith
+
+  turning : Turning L t (turnStep L t w)
+  turning = record {
+    never-waits = never-23;
+    known = λ a.
+        let u : Usable L t = turned-exactly L t w .0 a .0 in
+        let u′ : Usable L (turnStep L t w .tables) = stays-usable L t u (turn w) in
+        (_, _, cost-0 L (turnStep L t w .tables) (u′ .0) (u′ .1), cost-0 L t (u .0) (u .1));
+  }
+
+  pub preview-refused : RefusedAs (preview L t w) (turnStep L t w)
+  unfolding preview
+  preview-refused = refused-as L t (turnStep L t w) turning
+
+  pub preview-done : DoneAs L t (preview L t w) (turnStep L t w)
+  unfolding preview
+  preview-done = done-as L t (turnStep L t w) turning
+
+  preview-within : (n : ℕ) → ((t : Tables) (c : ℕ) → costReply L t ≡ costs c → c ≤ n) → Within n (preview L t w)
+  unfolding preview
+  preview-within = within L t (turnStep L t w) turning
+
+  pub preview-turned : (t′ : Tables) (a b : ℕ) → Answered (step L) t (turn w) accepted t′ → costs a ≡ costReply L t′ → costs b ≡ costReply L t → wouldTurn (subℕ a b) ≡ preview L t w
+  unfolding preview
+  preview-turned = call-turned L t (turn w)
+
+  pub preview-refusal : (t′ : Tables) (n : ℕ) → Answered (step L) t (turn w) (refused n) t′ → wouldRefuse n ≡ preview L t w
+  unfolding preview
+  preview-refusal = call-refused L t (turn w)
+
+pub preview-claims : PreviewClaims
+preview-claims = record {
+  preview-refused = preview-refused;
+  preview-done = preview-done;
+  preview-bounded = λ L t w h. preview-within L t w (L .drones * (L .stops - L .drones)) (λ t c q. cost-bounded L t c h q);
+  preview-limit = λ t w. preview-within limits t w 31744 cost-limit;
+}

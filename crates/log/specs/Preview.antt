@@ -1,0 +1,64 @@
+-- A turn looked at before it is made: the reply that the turn would get and, when it would be done, the cost after it less the cost now (document 02, point 2).
+-- No table is in the answer: a preview changes none. Assumes nothing.
+use mathlib.Core.Path.{_≡_}
+use mathlib.Core.Logic.{_↔_}
+use Prim.Native.Nat.{ℕ, _-_, _*_, _≤_}
+use lib.IntN.{ℤ, pos, negℤ, subℕ}
+use lib.Signed.{_≤ℤ_}
+use Rattle.tables.specs.Limits.{Limits, limits}
+use Rattle.tables.specs.Tables.{Tables}
+use Rattle.log.specs.CallLog.{Reply, accepted, refused, mustWait}
+use Rattle.log.specs.Calls.{Answer, turnStep, CostReply, costs, costRefused, costReply}
+
+-- the turn would be done and change the cost by so much; or it would be refused with this number
+pub data PreviewReply : Type 0 where
+  wouldTurn : ℤ → PreviewReply
+  wouldRefuse : ℕ → PreviewReply
+
+-- by the reply of the turn, the cost of the tables that it leaves, and the cost now; `subℕ a b` is the integer a - b
+abbrev pub previewBy : Reply → CostReply → CostReply → PreviewReply
+previewBy accepted (costs after) (costs now) = wouldTurn (subℕ after now)
+previewBy accepted (costs after) (costRefused n) = wouldRefuse n
+previewBy accepted (costRefused n) now = wouldRefuse n
+previewBy (refused n) after now = wouldRefuse n
+previewBy (mustWait w) after now = wouldRefuse 23
+
+module _ (L : Limits) (t : Tables) where
+  -- a copy of the tables t was turned with this answer
+  abbrev pub previewOf : Answer → PreviewReply
+  previewOf a = previewBy (a .reply) (costReply L (a .tables)) (costReply L t)
+
+  -- "It equals doing the turn on a copy, and the tables are untouched"
+  unfoldable pub preview : ℕ → PreviewReply
+  preview w = previewOf (turnStep L t w)
+
+-- ---- what is claimed, of a preview p and the answer of the turn
+
+-- "Refused: as for turn": with the same numbers, and never because a cost is not there
+abbrev pub RefusedAs : PreviewReply → Answer → Type 0
+RefusedAs p a = (n : ℕ) → (p ≡ wouldRefuse n) ↔ (a .reply ≡ refused n)
+
+-- both costs are there, and z is the one after less the one now
+pub record Change (x y : CostReply) (z : ℤ) : Type 0 where
+  pub after : ℕ
+  pub now : ℕ
+  pub costs-after : x ≡ costs after
+  pub costs-now : y ≡ costs now
+  pub difference : z ≡ subℕ after now
+
+-- "When it would be done, it also gives the cost after it less the cost now"
+abbrev pub DoneAs : Limits → Tables → PreviewReply → Answer → Type 0
+DoneAs L t p a = (z : ℤ) → (p ≡ wouldTurn z) ↔ ((a .reply ≡ accepted) × Change (costReply L (a .tables)) (costReply L t) z)
+
+-- any change of the cost is from -n to n
+abbrev pub Within : ℕ → PreviewReply → Type 0
+Within n p = (z : ℤ) → p ≡ wouldTurn z → (negℤ (pos n) ≤ℤ z) × (z ≤ℤ pos n)
+
+-- of all tables and dependencies
+pub record PreviewClaims : Type 0 where
+  pub preview-refused : (L : Limits) (t : Tables) (w : ℕ) → RefusedAs (preview L t w) (turnStep L t w)
+  pub preview-done : (L : Limits) (t : Tables) (w : ℕ) → DoneAs L t (preview L t w) (turnStep L t w)
+  -- no greater than the greatest cost, either way
+  pub preview-bounded : (L : Limits) (t : Tables) (w : ℕ) → 2 * L .drones ≤ L .stops → Within (L .drones * (L .stops - L .drones)) (preview L t w)
+  -- "a signed number from -31,744 to 31,744"
+  pub preview-limit : (t : Tables) (w : ℕ) → Within 31744 (preview limits t w)
