@@ -15,7 +15,7 @@ and, where there is none, a first crates/CRATE/proofs/MODULE/FN/Proof.antt.
 """
 import os, re, shutil, subprocess, sys
 
-CARRIERS = {"records": "lent", "conductor": "calls", "dispatch": "requests", "board": "exports"}  # the crates with functions over the lent slice, and the module of each
+CARRIERS = {"records": "lent", "conductor": "calls", "dispatch": "requests", "board": "exports", "handset": "button", "presses": "runs"}  # the crates with functions over the lent slice, and the module of each
 crate, fns = sys.argv[1], sys.argv[2:]
 mod = CARRIERS[crate]
 work = os.path.abspath("target/lend")

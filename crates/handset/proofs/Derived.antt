@@ -1,0 +1,2 @@
+pub mod grant_all
+pub mod press

@@ -1,0 +1,176 @@
+-- The loop of the grants: what holds when the drones below n are asked. Assumes nothing.
+use mathlib.Core.Path.{_≡_, refl, sym, ap, _∙_, subst}
+use mathlib.Core.Logic.{_≢_}
+use mathlib.Core.Bool.{Bool, true, false, cond}
+use Prim.Native.Nat.{ℕ, zero, suc, _+_, _*_, _%_, _^_, _<_}
+use native.Mathlib.Omega.{arith}
+use lib.Dec.{ltb, leb}
+use lib.Pow.{shl-exact, pow-mono}
+use borrow.Author.Tests.{eq-eqb, ne-eqb}
+use Rattle.below.specs.Below.{at, pick, sumBelow}
+use Rattle.below.proofs.Tests.{by-cases, true-or-false}
+use Rattle.tables.specs.Limits.{Limits}
+use Rattle.tables.specs.Tables.{Tables, drones, dependencies, fullSize}
+use Rattle.tables.specs.Flags.{underWayBit}
+use Rattle.sound.specs.Sound.{sound}
+use Rattle.plan.specs.Field.{planOf}
+use Rattle.plan.specs.Status.{statusIn, unmet}
+use Rattle.log.specs.CallLog.{grant, arrive, Reply, accepted, refused, mustWait, number, isAccepted, replyIn}
+use Rattle.log.specs.Calls.{Answer, replyOf, grantStep, arriveStep, step, Answered}
+use Rattle.log.specs.Claims.{Usable}
+use Rattle.log.proofs.Steps.{step-41, step-40}
+use Rattle.handset.specs.Press.{PressOutcome, pressRefused, PressedAs, unusable, replyWith, afterGrants, replyAt, bitsBelow, grantAllStep, afterArrival, pressStep}
+use Rattle.handset.specs.Press as press
+use Rattle.flat.specs.Replies.{arriveMeant}
+use Rattle.flat.specs.declared.replies.ArriveReply.{ArriveReply}
+use Rattle.flat.specs.declared.replies.ArriveReply.the-variants as arrival
+use Rattle.handset.specs.declared.replies.Report.{Report}
+use Rattle.handset.specs.declared.replies.Report.the-variants.{Nothing, Arrived}
+use Rattle.handset.specs.Press.{isReported, droneOf}
+use Rattle.handset.proofs.Bits.{bits-low, power-suc}
+use Rattle.handset.proofs.Presses.{leaves-41, leaves-40, grants-unchanged}
+use Rattle.handset.proofs.Grants.{asked-below}
+
+-- ---- the parts of the reply
+
+-- "built by shifts": nothing is shifted out
+pub shifted : (d : ℕ) → d < 32 → (1 * 2 ^ d) % 2 ^ 32 ≡ 2 ^ d
+shifted d l = shl-exact 1 d 32 (omega arith) (omega arith) ∙ omega arith
+
+-- and the sum fits
+pub bit-fits : (b d : ℕ) → d < 32 → b < 2 ^ d → b + 2 ^ d < 2 ^ 32
+bit-fits b d l h = omega (arith, power-suc d, pow-mono {i = suc d} {j = 32} l)
+
+pub bit-yes : (b d : ℕ) (r : Reply) (g : Bool) → d < 32 → g ≡ isAccepted r → g ≡ true → b + (1 * 2 ^ d) % 2 ^ 32 ≡ b + pick (isAccepted r) (2 ^ d) 0
+bit-yes b d r g l e h = rw (sym e ∙ h, shifted d l) refl
+
+pub bit-no : (b d : ℕ) (r : Reply) (g : Bool) → g ≡ isAccepted r → g ≡ false → b ≡ b + pick (isAccepted r) (2 ^ d) 0
+bit-no b d r g e h = rw (sym e ∙ h) (omega arith)
+
+module _ (u b : ℕ) where
+  pub reply-41 : u ≡ 41 → pressRefused 41 ≡ replyWith u b
+  reply-41 e = rw (eq-eqb u 41 e) refl
+
+  pub reply-40 : u ≢ 41 → u ≡ 40 → pressRefused 40 ≡ replyWith u b
+  reply-40 n e = rw (ne-eqb u 41 n, eq-eqb u 40 e) refl
+
+  pub reply-0 : u ≢ 41 → u ≢ 40 → press.granted b ≡ replyWith u b
+  reply-0 n m = rw (ne-eqb u 41 n, ne-eqb u 40 m) refl
+
+-- the arrival's own number
+pub refused-by : (n k : ℕ) (r : Reply) → n ≡ number r → n ≡ k → pressRefused k ≡ pressRefused (number r)
+refused-by n k r e q = ap (λ (x : ℕ). pressRefused x) (sym q ∙ e)
+
+pub refused-24 : (x : ArriveReply) (n : ℕ) → n ≡ number (arriveMeant x) → isAccepted (arriveMeant x) ≡ false → n ≢ 41 → n ≢ 40 → n ≢ 20 → pressRefused 24 ≡ pressRefused (number (arriveMeant x))
+refused-24 arrival.Arrived n e f a b c = true-or-false refl f
+refused-24 arrival.TablesTooSmall n e f a b c = absurd (a e)
+refused-24 arrival.NotSound n e f a b c = absurd (b e)
+refused-24 arrival.NoDrone n e f a b c = absurd (c e)
+refused-24 arrival.NotUnderWay n e f a b c = refl
+
+-- ---- the loop
+
+-- the number that says whether the tables were usable, after n grants
+unfoldable pub unusableAt : Limits → Tables → ℕ → ℕ
+unusableAt L t zero = 0
+unusableAt L t (suc n) = unusable (replyAt L t n)
+
+pub record Granting (L : Limits) (t₀ : Tables) (n : ℕ) (t : Tables) (bits unusable-by : ℕ) : Type 0 where
+  pub tables-are : t ≡ afterGrants L t₀ n
+  pub bits-are : bits ≡ bitsBelow L t₀ n
+  pub unusable-is : unusable-by ≡ unusableAt L t₀ n
+
+module _ (L : Limits) (t₀ : Tables) where
+  pub granting-none : Granting L t₀ 0 t₀ 0 0
+  unfolding afterGrants bitsBelow sumBelow unusableAt
+  granting-none = record { tables-are = refl; bits-are = refl; unusable-is = refl }
+
+  pub granting-low : (n : ℕ) (t : Tables) (bits unusable-by : ℕ) → Granting L t₀ n t bits unusable-by → bits < 2 ^ n
+  unfolding bitsBelow
+  granting-low n t b u g = omega (arith, g .bits-are, bits-low (λ d. isAccepted (replyAt L t₀ d)) n)
+
+  granting-suc : (n : ℕ) (t : Tables) (b u : ℕ) (r : Reply) (t′ : Tables) (b′ u′ : ℕ) → Granting L t₀ n t b u → Answered (step L) t (grant n) r t′ → b′ ≡ b + pick (isAccepted r) (2 ^ n) 0 → u′ ≡ unusable r → Granting L t₀ (suc n) t′ b′ u′
+  unfolding afterGrants bitsBelow sumBelow unusableAt
+  granting-suc n t b u r t′ b′ u′ g a e f = record {
+    tables-are = a .left ∙ ap (λ (z : Tables). grantStep L z n .tables) (g .tables-are);
+    bits-are = e ∙ rw (g .bits-are, replied) refl;
+    unusable-is = f ∙ ap unusable replied;
+  }
+    where
+      replied : r ≡ replyAt L t₀ n
+      replied = a .replied ∙ ap (λ (z : Tables). grantStep L z n .reply) (g .tables-are)
+
+  pub granting-more : (n : ℕ) (t : Tables) (b u : ℕ) (r : Reply) (t′ : Tables) (b′ u′ : ℕ) → Granting L t₀ n t b u → Answered (step L) t (grant n) r t′ → b′ ≡ b + pick (isAccepted r) (2 ^ n) 0 → u′ ≡ unusable r → Granting L t₀ (n + 1) t′ b′ u′
+  granting-more n t b u r t′ b′ u′ g a e f = subst (λ (k : ℕ). Granting L t₀ k t′ b′ u′) (omega arith) (granting-suc n t b u r t′ b′ u′ g a e f)
+
+  -- 41, 40 or neither: the last grant tells as well as any
+  unusable-41 : fullSize L t₀ ≡ false → (n : ℕ) → unusableAt L t₀ (suc n) ≡ 41
+  unfolding unusableAt
+  unusable-41 e n = ap (λ (z : Tables). unusable (grantStep L z n .reply)) (grants-unchanged L t₀ (leaves-41 L t₀ e) n) ∙ ap (λ (a : Answer). unusable (a .reply)) (step-41 L t₀ e (grant n))
+
+  unusable-40 : fullSize L t₀ ≡ true → sound L t₀ ≡ false → (n : ℕ) → unusableAt L t₀ (suc n) ≡ 40
+  unfolding unusableAt
+  unusable-40 f e n = ap (λ (z : Tables). unusable (grantStep L z n .reply)) (grants-unchanged L t₀ (leaves-40 L t₀ f e) n) ∙ ap (λ (a : Answer). unusable (a .reply)) (step-40 L t₀ f e (grant n))
+
+-- a grant on usable tables is refused by neither
+usable-0 : (L : Limits) (t : Tables) → Usable L t → (d : ℕ) → unusable (grantStep L t d .reply) ≡ 0
+unfolding grantStep replyOf replyIn
+usable-0 L t u d = rw (u .0, u .1) (go (leb (drones (t .plan)) d) (leb (planOf (t .plan) .last d) (at (t .visited) d)) (underWayBit (at (t .droneFlags) d)) (ltb (unmet (planOf (t .plan)) (statusIn t) d) (dependencies (t .plan))) (unmet (planOf (t .plan)) (statusIn t) d))
+  where
+    go : (a b c e : Bool) (w : ℕ) → unusable (elim a [ true ↦ refused 20 | false ↦ elim b [ true ↦ refused 21 | false ↦ elim c [ true ↦ refused 22 | false ↦ elim e [ true ↦ mustWait w | false ↦ accepted ] ] ] ]) ≡ 0
+    go true b c e w = refl
+    go false true c e w = refl
+    go false false true e w = refl
+    go false false false true w = refl
+    go false false false false w = refl
+
+module _ (L : Limits) (t₀ : Tables) where
+  unusable-none : Usable L t₀ → (n : ℕ) → unusableAt L t₀ (suc n) ≡ 0
+  unfolding unusableAt
+  unusable-none u n = usable-0 L (afterGrants L t₀ n) (asked-below L t₀ u n .usable) n
+
+  reply-is : (n bits : ℕ) → replyWith (unusableAt L t₀ (suc n)) bits ≡ cond (fullSize L t₀) (cond (sound L t₀) (press.granted bits) (pressRefused 40)) (pressRefused 41)
+  reply-is n bits = by-cases (fullSize L t₀)
+      (λ f. by-cases (sound L t₀)
+      (λ s. rw (unusable-none (f, s) n, f, s) refl)
+      (λ s. rw (unusable-40 L t₀ f s n, f, s) refl))
+      (λ f. rw (unusable-41 L t₀ f n, f) refl)
+
+  pub granting-end : (n : ℕ) (t : Tables) (b u : ℕ) (m : PressOutcome) → Granting L t₀ n t b u → 0 < n → n ≡ L .drones → m ≡ replyWith u b → PressedAs (grantAllStep L t₀) m t
+  unfolding grantAllStep
+  granting-end zero t b u m g h e q = absurd (omega arith)
+  granting-end (suc n) t b u m g h e q = record {
+    replied = q ∙ ap (λ (x : ℕ). replyWith x b) (g .unusable-is) ∙ reply-is n b ∙ ap (λ (x : ℕ). cond (fullSize L t₀) (cond (sound L t₀) (press.granted x) (pressRefused 40)) (pressRefused 41)) (g .bits-are ∙ ap (bitsBelow L t₀) e);
+    left = g .tables-are ∙ ap (afterGrants L t₀) e;
+  }
+
+-- ---- a press
+
+module _ (L : Limits) (t : Tables) (report : Report) where
+  pub press-nothing : (m : PressOutcome) (t′ : Tables) → isReported report ≡ false → PressedAs (grantAllStep L t) m t′ → PressedAs (pressStep L t report) m t′
+  unfolding pressStep
+  press-nothing m t′ e a = go report e
+    where
+      go : (report : Report) → isReported report ≡ false → PressedAs (pressStep L t report) m t′
+      go Nothing e = a
+      go (Arrived d) e = true-or-false refl e
+
+  reported-is : isReported report ≡ true → pressStep L t report ≡ afterArrival L (arriveStep L t (droneOf report))
+  unfolding pressStep
+  reported-is e = go report e
+    where
+      go : (report : Report) → isReported report ≡ true → pressStep L t report ≡ afterArrival L (arriveStep L t (droneOf report))
+      go Nothing e = true-or-false e refl
+      go (Arrived d) e = refl
+
+  module _ (d : ℕ) (r : Reply) (t₁ : Tables) (reported : isReported report ≡ true) (drone : d ≡ droneOf report) (got : Answered (step L) t (arrive d) r t₁) where
+    a : Answered (step L) t (arrive (droneOf report)) r t₁
+    a = subst (λ (x : ℕ). Answered (step L) t (arrive x) r t₁) drone got
+
+    pub press-refused : (m : PressOutcome) → isAccepted r ≡ false → m ≡ pressRefused (number r) → PressedAs (pressStep L t report) m t₁
+    unfolding afterArrival
+    press-refused m e q = rw (reported-is reported, ap isAccepted (sym (a .replied)) ∙ e) (record { replied = q ∙ ap (λ (x : Reply). pressRefused (number x)) (a .replied); left = a .left })
+
+    pub press-arrived : (m : PressOutcome) (t′ : Tables) → isAccepted r ≡ true → PressedAs (grantAllStep L t₁) m t′ → PressedAs (pressStep L t report) m t′
+    unfolding afterArrival
+    press-arrived m t′ e p = rw (reported-is reported, ap isAccepted (sym (a .replied)) ∙ e, sym (a .left)) p

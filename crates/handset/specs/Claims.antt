@@ -1,0 +1,134 @@
+-- What is claimed of presses. Assumes nothing.
+use mathlib.Core.Path.{_≡_}
+use mathlib.Core.Logic.{_↔_}
+use mathlib.Core.Bool.{Bool, true, false, cond, not, _&&_, _||_}
+use mathlib.Core.List.{List, [], _∷_, _++_, map}
+use Prim.Native.Nat.{ℕ, zero, suc, _^_, _/_, _%_, _<_}
+use lib.Dec.{eqb, ltb}
+use Rattle.tables.specs.Limits.{Limits}
+use Rattle.tables.specs.Tables.{PlanLists, Tables, drones, fullSize}
+use Rattle.plan.specs.Field.{planOf}
+use Rattle.plan.specs.Status.{statusIn}
+use Rattle.sound.specs.Sound.{sound}
+use Rattle.log.specs.CallLog.{Call, grant, arrive, Reply, isAccepted, number, short}
+use Rattle.log.specs.Calls.{step, arriveStep, recorded, tablesAfter, Answered, AsRead}
+use Rattle.log.specs.Claims.{Usable, MayGo}
+use Rattle.log.specs.Demand.{Found}
+use Rattle.handset.specs.Press.{PressOutcome, granted, pressRefused, PressAnswer, PressedAs, grantAllStep, pressStep}
+use Rattle.handset.specs.declared.replies.Report.{Report}
+use Rattle.handset.specs.declared.replies.Report.the-variants.{Nothing, Arrived}
+
+-- ---- a press is a list of calls
+
+-- the grants of the drones below n, in order
+unfoldable pub grantsBelow : ℕ → List Call
+grantsBelow zero = []
+grantsBelow (suc n) = grantsBelow n ++ (grant n ∷ [])
+
+module _ (L : Limits) where
+  -- the calls that a press makes: "An arrival that is refused grants nothing"
+  abbrev pub callsOf : Tables → Report → List Call
+  callsOf t Nothing = grantsBelow (L .drones)
+  callsOf t (Arrived d) = arrive d ∷ cond (isAccepted (arriveStep L t d .reply)) (grantsBelow (L .drones)) []
+
+  abbrev pub PressIsCalls : Type 0
+  PressIsCalls = (t : Tables) (report : Report) → pressStep L t report .tables ≡ tablesAfter (step L) t (callsOf t report)
+
+-- a call made by itself, a turn among them, or a press
+pub data Action : Type 0 where
+  called : Call → Action
+  pressed : Report → Action
+
+module _ (L : Limits) where
+  abbrev pub callsOfAction : Tables → Action → List Call
+  callsOfAction t (called c) = c ∷ []
+  callsOfAction t (pressed report) = callsOf L t report
+
+  -- all the calls that the actions make, each on the tables as the one before left them
+  unfoldable pub callsOfAll : Tables → List Action → List Call
+  callsOfAll t [] = []
+  callsOfAll t (x ∷ xs) = callsOfAction t x ++ callsOfAll (tablesAfter (step L) t (callsOfAction t x)) xs
+
+  -- real calls and presses one after another, known by nothing but their contracts
+  pub data Performed : Tables → List Action → Tables → Type 0 where
+    none : {t : Tables} → Performed t [] t
+    next-call : {t t′ t″ : Tables} {c : Call} {r : Reply} {xs : List Action} → Answered (step L) t c r t′ → Performed t′ xs t″ → Performed t (called c ∷ xs) t″
+    next-press : {t t′ t″ : Tables} {report : Report} {r : PressOutcome} {xs : List Action} → PressedAs (pressStep L t report) r t′ → Performed t′ xs t″ → Performed t (pressed report ∷ xs) t″
+
+-- demand 3 of any list of presses, grants, arrivals and turns
+abbrev pub Demand3OfPresses : Type 0
+Demand3OfPresses = (L : Limits) (lists : PlanLists) (t : Tables) (actions : List Action) (t′ : Tables) → AsRead L lists t → Performed L t actions t′ → Found lists (callsOfAll L t actions) (recorded (step L) t (callsOfAll L t actions)) t′
+
+-- ---- the order
+
+-- the drone is one of those asked
+unfoldable pub isAsked : List ℕ → ℕ → Bool
+isAsked [] d = false
+isAsked (e ∷ es) d = eqb d e || isAsked es d
+
+module _ (L : Limits) (t : Tables) where
+  -- which drones are granted does not depend on the order in which they are asked, nor on how often
+  abbrev pub OrderFree : Type 0
+  OrderFree = (ds es : List ℕ) → ((d : ℕ) → isAsked ds d ≡ isAsked es d) → tablesAfter (step L) t (map grant ds) ≡ tablesAfter (step L) t (map grant es)
+
+  -- so the press might have asked in any other order
+  abbrev pub AnyOrder : Type 0
+  AnyOrder = (ds : List ℕ) → ((d : ℕ) → isAsked ds d ≡ ltb d (L .drones)) → grantAllStep L t .tables ≡ tablesAfter (step L) t (map grant ds)
+
+-- ---- what is replied
+
+-- "bit 0 stands for drone 0 and so on"
+abbrev pub bitSet : ℕ → ℕ → Bool
+bitSet bits d = eqb (bits / 2 ^ d % 2) 1
+
+-- the report is that the drone arrived
+abbrev pub isArrival : Report → ℕ → Bool
+isArrival Nothing d = false
+isArrival (Arrived e) d = eqb d e
+
+module _ (L : Limits) (t : Tables) (report : Report) where
+  -- the press's reply and the tables after it
+  abbrev pub after : PressAnswer
+  after = pressStep L t report
+
+  -- the tables when the arrival is taken, before any grant
+  abbrev pub atGrants : Tables
+  atGrants = elim report [ Nothing ↦ t | Arrived d ↦ arriveStep L t d .tables ]
+
+  -- "Refused: 41 and 40 first, then the arrival's own number"; else the press is accepted
+  pub record RefusedInOrder : Type 0 where
+    pub first-41 : fullSize L t ≡ false → after .reply ≡ pressRefused 41
+    pub then-40 : fullSize L t ≡ true → sound L t ≡ false → after .reply ≡ pressRefused 40
+    pub then-own : (d : ℕ) → report ≡ Arrived d → isAccepted (arriveStep L t d .reply) ≡ false → after .reply ≡ pressRefused (number (arriveStep L t d .reply))
+    pub else-none : Usable L t → ((d : ℕ) → report ≡ Arrived d → isAccepted (arriveStep L t d .reply) ≡ true) → (bits : ℕ) × (after .reply ≡ granted bits)
+
+  -- "An arrival that is refused grants nothing": whatever is refused leaves every table as it was
+  abbrev pub RefusedLeaves : Type 0
+  RefusedLeaves = (n : ℕ) → after .reply ≡ pressRefused n → after .tables ≡ t
+
+  -- ---- an accepted press
+
+  pub record AcceptedPress (bits : ℕ) : Type 0 where
+    -- "a 32-bit number"
+    pub fits : bits < 2 ^ L .drones
+    -- "one bit for each newly granted drone": those under way now that were not before the press, and the one that arrived in it, if it goes on at once
+    pub newly : (d : ℕ) → bitSet bits d ≡ (not (statusIn t .underWay d) || isArrival report d) && statusIn (after .tables) .underWay d
+    -- "grants every drone that may go", and no other
+    pub may-go : (d : ℕ) → (bitSet bits d ≡ true) ↔ MayGo (planOf (atGrants .plan)) (statusIn atGrants) d
+    -- "If a drone is still unfinished after an accepted press, somebody is under way"
+    pub somebody-under-way : (d : ℕ) → d < drones (after .tables .plan) → short (planOf (after .tables .plan)) (statusIn (after .tables)) d ≡ true → (e : ℕ) × (e < drones (after .tables .plan)) × (statusIn (after .tables) .underWay e ≡ true)
+    -- the tables are usable for the next press
+    pub stays-usable : Usable L (after .tables)
+
+  abbrev pub AcceptedMeans : Type 0
+  AcceptedMeans = (bits : ℕ) → after .reply ≡ granted bits → AcceptedPress bits
+
+-- of all tables and reports
+pub record PressClaims : Type 0 where
+  pub press-is-calls : (L : Limits) → PressIsCalls L
+  pub demand3-of-presses : Demand3OfPresses
+  pub order-free : (L : Limits) (t : Tables) → OrderFree L t
+  pub any-order : (L : Limits) (t : Tables) → AnyOrder L t
+  pub refused-in-order : (L : Limits) (t : Tables) (report : Report) → RefusedInOrder L t report
+  pub refused-leaves : (L : Limits) (t : Tables) (report : Report) → RefusedLeaves L t report
+  pub accepted-means : (L : Limits) (t : Tables) (report : Report) → AcceptedMeans L t report

@@ -1,0 +1,137 @@
+// What the handset is told and what it replies, and how the replies of the calls go into its own.
+use flat::replies::ArriveReply;
+use flat::replies::GrantReply;
+ghost use mathlib.Core.Path.{_≡_};
+ghost use mathlib.Core.Bool.{false};
+ghost use Prim.Native.Nat.{_+_, _^_, _<_};
+ghost use Rattle.below.specs.Below.{pick};
+ghost use Rattle.log.specs.CallLog.{isAccepted, number};
+ghost use Rattle.flat.specs.Replies.{grantMeant, arriveMeant};
+ghost use Rattle.handset.specs.Press.{isReported, droneOf, unusable, pressMeant, pressRefused, replyWith};
+
+// What was reported since the last press.
+pub enum Report {
+    Nothing,
+    Arrived(usize),
+}
+
+// The number has bit d set when drone d was newly granted.
+pub enum PressReply {
+    Granted(u32),
+    TablesTooSmall,
+    NotSound,
+    NoDrone,
+    NotUnderWay,
+}
+
+pub fn is_reported(report: Report) -> bool
+    ensures { λ r. ⌜ r ≡ isReported report ⌝ }
+{
+    match report {
+        Report::Nothing => false,
+        Report::Arrived(_) => true,
+    }
+}
+
+pub fn drone_of(report: Report) -> usize
+    ensures { λ r. ⌜ r ≡ droneOf report ⌝ }
+{
+    match report {
+        Report::Nothing => 0,
+        Report::Arrived(drone) => drone,
+    }
+}
+
+pub fn is_arrived(reply: ArriveReply) -> bool
+    ensures { λ r. ⌜ r ≡ isAccepted (arriveMeant reply) ⌝ }
+{
+    match reply {
+        ArriveReply::Arrived => true,
+        ArriveReply::TablesTooSmall => false,
+        ArriveReply::NotSound => false,
+        ArriveReply::NoDrone => false,
+        ArriveReply::NotUnderWay => false,
+    }
+}
+
+fn arrive_number(reply: ArriveReply) -> u8
+    ensures { λ r. ⌜ r ≡ number (arriveMeant reply) ⌝ }
+{
+    match reply {
+        ArriveReply::Arrived => 0,
+        ArriveReply::TablesTooSmall => 41,
+        ArriveReply::NotSound => 40,
+        ArriveReply::NoDrone => 20,
+        ArriveReply::NotUnderWay => 24,
+    }
+}
+
+// The arrival's own refusal.
+pub fn refusal_of(reply: ArriveReply) -> PressReply
+    requires { ⌜ isAccepted (arriveMeant reply) ≡ false ⌝ }
+    ensures { λ r. ⌜ pressMeant r ≡ pressRefused (number (arriveMeant reply)) ⌝ }
+{
+    let refused_by = arrive_number(reply);
+    if refused_by == 41 {
+        return PressReply::TablesTooSmall;
+    }
+    if refused_by == 40 {
+        return PressReply::NotSound;
+    }
+    if refused_by == 20 {
+        return PressReply::NoDrone;
+    }
+    PressReply::NotUnderWay
+}
+
+fn is_granted(reply: GrantReply) -> bool
+    ensures { λ r. ⌜ r ≡ isAccepted (grantMeant reply) ⌝ }
+{
+    match reply {
+        GrantReply::Granted => true,
+        GrantReply::TablesTooSmall => false,
+        GrantReply::NotSound => false,
+        GrantReply::NoDrone => false,
+        GrantReply::Finished => false,
+        GrantReply::UnderWay => false,
+        GrantReply::MustWait(_) => false,
+    }
+}
+
+// The number so far, with the drone's bit if this grant was accepted: bits of lower drones only stand in it before.
+pub fn with_bit(bits: u32, drone: usize, reply: GrantReply) -> u32
+    requires { ⌜ (drone < 32) × (bits < 2 ^ drone) ⌝ }
+    ensures { λ r. ⌜ r ≡ bits + pick (isAccepted (grantMeant reply)) (2 ^ drone) 0 ⌝ }
+{
+    if is_granted(reply) {
+        return bits + (1u32 << drone);
+    }
+    bits
+}
+
+// 41 or 40 if the tables are not usable for a grant, else 0.
+pub fn unusable_number(reply: GrantReply) -> u8
+    ensures { λ r. ⌜ r ≡ unusable (grantMeant reply) ⌝ }
+{
+    match reply {
+        GrantReply::Granted => 0,
+        GrantReply::TablesTooSmall => 41,
+        GrantReply::NotSound => 40,
+        GrantReply::NoDrone => 0,
+        GrantReply::Finished => 0,
+        GrantReply::UnderWay => 0,
+        GrantReply::MustWait(_) => 0,
+    }
+}
+
+pub fn reply_with(unusable_by: u8, bits: u32) -> PressReply
+    ensures { λ r. ⌜ pressMeant r ≡ replyWith «unusable_by» bits ⌝ }
+{
+    if unusable_by == 41 {
+        return PressReply::TablesTooSmall;
+    }
+    if unusable_by == 40 {
+        return PressReply::NotSound;
+    }
+    PressReply::Granted(bits)
+}

@@ -1,0 +1,2 @@
+pub mod press_each
+pub mod run_presses
