@@ -92,7 +92,8 @@ static void one_bucket(int drones, int stops) {
 
 // ---- the calls
 
-static size_t free_drone, free_dependency, number;
+static size_t free_drone, free_dependency, group_n, number;
+static uint16_t group[CONDUCTOR_DEPENDENCIES];
 
 static void read_plan(void) { number = board_read(text, text_length, TABLES).number; }
 static void write_plan(void) { number = board_write(buffer, BUFFER, TABLES).number; }
@@ -100,6 +101,8 @@ static void grant(void) { number = board_grant(TABLES, free_drone).number; }
 static void arrive(void) { number = board_arrive(TABLES, free_drone).number; }
 static void turn(void) { number = board_turn(TABLES, free_dependency).number; }
 static void preview(void) { number = board_preview(TABLES, free_dependency).number; }
+static void turn_all(void) { number = board_turn_all(TABLES, group, group_n).number; }
+static void preview_all(void) { number = board_preview_all(TABLES, group, group_n).number; }
 static void cost(void) { number = board_cost(TABLES).number; }
 static void rounds(void) { number = board_rounds(TABLES).number; }
 static void nothing(void) {}
@@ -107,7 +110,7 @@ static void nothing(void) {}
 static const struct {
     const char *name;
     void (*call)(void);
-} CALLS[] = {{"read", read_plan}, {"write", write_plan}, {"grant", grant}, {"arrive", arrive}, {"turn", turn}, {"preview", preview}, {"cost", cost}, {"rounds", rounds}};
+} CALLS[] = {{"read", read_plan}, {"write", write_plan}, {"grant", grant}, {"arrive", arrive}, {"turn", turn}, {"turn_all", turn_all}, {"preview", preview}, {"preview_all", preview_all}, {"cost", cost}, {"rounds", rounds}};
 enum { KINDS = sizeof CALLS / sizeof *CALLS };
 
 // A grant that was given is taken back, so that each repeat does the same.
@@ -161,7 +164,7 @@ static long stack_of(void (*call)(void)) {
 
 static long most[KINDS];
 
-// Turns up to `want` dependencies, then finds a drone that may go and a dependency that can be turned to and fro.
+// Turns up to `want` dependencies, then finds a drone that may go, a dependency that can be turned to and fro, and as long a list of them as one after the other gives.
 static int prepare(int want) {
     int turned = 0;
     for (size_t p = 0; p < dependency_count[0] && turned < want; p++)
@@ -172,6 +175,10 @@ static int prepare(int want) {
             board_turn(TABLES, free_dependency);
             break;
         }
+    group_n = 0;
+    for (size_t p = 0; p < dependency_count[0]; p++)
+        if (board_turn(TABLES, p).number == 0) group[group_n++] = p;
+    turn_all();
     for (free_drone = 0; free_drone < drone_count[0]; free_drone++)
         if (board_grant(TABLES, free_drone).number == 0) break;
     restore();
@@ -190,9 +197,10 @@ static void measure(const char *what, int want) {
     for (int k = KINDS - 1; k >= 0; k--) {
         if (k == 0 && turned) continue;
         printf(" %s %.1f", CALLS[k].name, best_time(CALLS[k].call, REPEATS));
-        if (CALLS[k].call == turn && REPEATS % 2) turn();
+        int flips = CALLS[k].call == turn || CALLS[k].call == turn_all;
+        if (flips && REPEATS % 2) CALLS[k].call();
         long s = stack_of(CALLS[k].call);
-        if (CALLS[k].call == turn) turn();
+        if (flips) CALLS[k].call();
         if (s > most[k]) most[k] = s;
     }
     printf("\n");
@@ -213,6 +221,6 @@ int main(void) {
     column(32, 32), measure("column", 0);
     one_bucket(32, 32), measure("bucket", 0);
     printf("bytes of stack, the most seen (the harness itself %ld)\n", stack_of(nothing));
-    for (int k = 0; k < KINDS; k++) printf("  %-8s %ld\n", CALLS[k].name, most[k]);
+    for (int k = 0; k < KINDS; k++) printf("  %-12s %ld\n", CALLS[k].name, most[k]);
     return 0;
 }

@@ -70,8 +70,15 @@ conductor_answer board_arrive(CONDUCTOR_TABLES(const, CONDUCTOR_NOTHING, CONDUCT
 /* The order of a dependency's two drones is turned round. 41, 40, 30, 31, 32, 34 */
 conductor_answer board_turn(CONDUCTOR_TABLES(const, const, const, CONDUCTOR_NOTHING), size_t dependency);
 
+/* A list of dependencies is turned all at once; the list strictly rises. 41, 40, 36 (empty or not rising), then 30, 31, 32 as the list is
+ * walked, then 34 */
+conductor_answer board_turn_all(CONDUCTOR_TABLES(const, const, const, CONDUCTOR_NOTHING), const uint16_t *list, size_t list_n);
+
 /* What board_turn would answer, and by how much the cost would change. No table changes. 41, 40, 30, 31, 32, 34 */
 conductor_change_answer board_preview(CONDUCTOR_TABLES(const, const, const, const), size_t dependency);
+
+/* What board_turn_all would answer, likewise */
+conductor_change_answer board_preview_all(CONDUCTOR_TABLES(const, const, const, const), const uint16_t *list, size_t list_n);
 
 /* Detail: the drones' remaining rounds, added up. 41, 40 */
 conductor_answer board_cost(CONDUCTOR_TABLES(const, const, const, const));

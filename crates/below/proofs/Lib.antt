@@ -5,6 +5,7 @@ pub mod Count
 pub mod Sum
 pub mod Greatest
 pub mod Index
+pub mod Members
 pub mod Fill
 pub mod Picks
 pub mod Pairs

@@ -11,10 +11,7 @@ use Rattle.tables.specs.Limits.{Limits}
 use Rattle.tables.specs.Tables.{Tables}
 use Rattle.log.specs.CallLog.{Call, Reply}
 use Rattle.log.specs.Calls.{step, Answered}
-use Rattle.log.specs.Preview as log
-use Rattle.flat.specs.TurnReplies.{previewMeant}
-use Rattle.flat.specs.declared.turn_replies.PreviewReply.{PreviewReply}
-use Rattle.flat.specs.declared.turn_replies.PreviewReply.the-variants as preview
+use Rattle.log.specs.Preview.{PreviewReply, wouldTurn}
 use Rattle.flat.specs.Writing.{Writing, PlanWritten}
 use Rattle.reading.specs.Reading.{AnsweredAs}
 use Rattle.reading.specs.Reading as reading
@@ -33,7 +30,7 @@ call-told L t c m r t′ a e = record { told = rw (a .replied) at e; left = a .l
 pub figure-told : {A : Type 0} (told : A → Answer) (m n : A) (r : Answer) → m ≡ n → Says r (told m) → Says r (told n)
 figure-told told m n r a e = rw a at e
 
-pub change-told : (m n : log.PreviewReply) (r : ChangeAnswer) → m ≡ n → SaysOfChange r (changeAnswer m) → SaysOfChange r (changeAnswer n)
+pub change-told : (m n : PreviewReply) (r : ChangeAnswer) → m ≡ n → SaysOfChange r (changeAnswer m) → SaysOfChange r (changeAnswer n)
 change-told m n r a e = rw a at e
 
 -- a change of 32 bits is handed over in 64, and is the same number
@@ -44,8 +41,8 @@ module _ (z : ℤ) (l : mag z < 2 ^ 31) where
   pub widened-fits : SFits w64 (toZ w32 (ofZ w32 z))
   widened-fits = subst (SFits w64) (sym (toZ-ofZ in-32)) (sfits-widen tt in-32)
 
-  pub widened-told : (x : PreviewReply) → x ≡ preview.Change z → SaysOfChange record { number = 0; change = toZ w64 (ofZ w64 (toZ w32 (ofZ w32 z))) } (changeAnswer (previewMeant x))
-  widened-told x e = rw e record { number-is = refl; change-is = toZ-ofZ widened-fits ∙ toZ-ofZ in-32 }
+  pub widened-told : (m : PreviewReply) → m ≡ wouldTurn z → SaysOfChange record { number = 0; change = toZ w64 (ofZ w64 (toZ w32 (ofZ w32 z))) } (changeAnswer m)
+  widened-told m e = rw e record { number-is = refl; change-is = toZ-ofZ widened-fits ∙ toZ-ofZ in-32 }
 
 pub plan-told : (L : Limits) (t : Tables) (before after : List ℕ) (m : Writing) (r : Answer) → PlanWritten L t before after m → Says r (writeAnswer m) → PlanTold L t before after r
 plan-told L t before after m r a e = record { told = rw (a .replied) at e; left = a .left }

@@ -3,13 +3,15 @@ use flat::replies::ArriveReply;
 use flat::replies::GrantReply;
 use flat::replies::WriteReply;
 use flat::turn_replies::CostAnswer;
+use flat::turn_replies::PreviewAllReply;
 use flat::turn_replies::PreviewReply;
 use flat::turn_replies::RoundsAnswer;
+use flat::turn_replies::TurnAllReply;
 use flat::turn_replies::TurnReply;
 use reading::replies::Reading;
 use reading::replies::Refusal;
 ghost use Rattle.flat.specs.Replies.{grantMeant, arriveMeant};
-ghost use Rattle.flat.specs.TurnReplies.{turnMeant, previewMeant, costMeant, roundsMeant};
+ghost use Rattle.flat.specs.TurnReplies.{turnMeant, turnAllMeant, previewMeant, previewAllMeant, costMeant, roundsMeant};
 ghost use Rattle.flat.specs.Writing.{writeMeant};
 ghost use Rattle.board.specs.Told.{Says, SaysOfChange, SaysOfRead, answerOf, changeAnswer, costAnswer, roundsAnswer, writeAnswer, refusalAnswer, readAnswer};
 
@@ -135,6 +137,45 @@ pub fn of_turn(reply: TurnReply) -> Answer
     }
 }
 
+pub fn of_turn_all(reply: TurnAllReply) -> Answer
+    ensures { λ r. ⌜ Says r (answerOf (turnAllMeant reply)) ⌝ }
+{
+    match reply {
+        TurnAllReply::Turned => Answer {
+            number: 0,
+            detail: 0,
+        },
+        TurnAllReply::TablesTooSmall => Answer {
+            number: 41,
+            detail: 0,
+        },
+        TurnAllReply::NotSound => Answer {
+            number: 40,
+            detail: 0,
+        },
+        TurnAllReply::NotRising => Answer {
+            number: 36,
+            detail: 0,
+        },
+        TurnAllReply::NoDependency => Answer {
+            number: 30,
+            detail: 0,
+        },
+        TurnAllReply::Fixed => Answer {
+            number: 31,
+            detail: 0,
+        },
+        TurnAllReply::FirstEntered => Answer {
+            number: 32,
+            detail: 0,
+        },
+        TurnAllReply::Cycle => Answer {
+            number: 34,
+            detail: 0,
+        },
+    }
+}
+
 pub fn of_preview(reply: PreviewReply) -> ChangeAnswer
     ensures { λ r. ⌜ SaysOfChange r (changeAnswer (previewMeant reply)) ⌝ }
 {
@@ -164,6 +205,45 @@ pub fn of_preview(reply: PreviewReply) -> ChangeAnswer
             change: 0,
         },
         PreviewReply::Cycle => ChangeAnswer {
+            number: 34,
+            change: 0,
+        },
+    }
+}
+
+pub fn of_preview_all(reply: PreviewAllReply) -> ChangeAnswer
+    ensures { λ r. ⌜ SaysOfChange r (changeAnswer (previewAllMeant reply)) ⌝ }
+{
+    match reply {
+        PreviewAllReply::Change(change) => ChangeAnswer {
+            number: 0,
+            change: change as i64,
+        },
+        PreviewAllReply::TablesTooSmall => ChangeAnswer {
+            number: 41,
+            change: 0,
+        },
+        PreviewAllReply::NotSound => ChangeAnswer {
+            number: 40,
+            change: 0,
+        },
+        PreviewAllReply::NotRising => ChangeAnswer {
+            number: 36,
+            change: 0,
+        },
+        PreviewAllReply::NoDependency => ChangeAnswer {
+            number: 30,
+            change: 0,
+        },
+        PreviewAllReply::Fixed => ChangeAnswer {
+            number: 31,
+            change: 0,
+        },
+        PreviewAllReply::FirstEntered => ChangeAnswer {
+            number: 32,
+            change: 0,
+        },
+        PreviewAllReply::Cycle => ChangeAnswer {
             number: 34,
             change: 0,
         },

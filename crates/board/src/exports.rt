@@ -8,9 +8,9 @@ use tables::entries::Dependency;
 ghost use mathlib.Core.Path.{_≡_};
 ghost use lib.ListN.{drop};
 ghost use Rattle.tables.specs.Limits.{limits};
-ghost use Rattle.log.specs.CallLog.{grant as grantOf, arrive as arriveOf, turn as turnOf};
+ghost use Rattle.log.specs.CallLog.{grant as grantOf, arrive as arriveOf, turn as turnOf, turnAll as turnAllOf};
 ghost use Rattle.log.specs.Calls.{costReply, roundsReply};
-ghost use Rattle.log.specs.Preview.{preview};
+ghost use Rattle.log.specs.Preview.{preview, previewAll};
 ghost use Rattle.reading.specs.Reading.{readPlan};
 ghost use Rattle.records.specs.Records.{tablesOfRecords};
 ghost use Rattle.board.specs.Told.{CallTold, PlanTold, ReadTold, Says, SaysOfChange, changeAnswer, costAnswer, roundsAnswer};
@@ -127,6 +127,44 @@ pub extern "C" fn board_turn(
     answers::of_turn(reply)
 }
 
+// "Give us a turn of a list of dependencies, all at once".
+#[no_mangle]
+pub extern "C" fn board_turn_all(
+    drone_count: &[u16],
+    dependency_count: &[u16],
+    names: &[u8],
+    stop_counts: &[u16],
+    locations: &[u16],
+    times: &[u32],
+    visited: &[u16],
+    drone_flags: &[u8],
+    dependencies: &mut [Dependency],
+    list: &[u16],
+) -> Answer
+    ensures { λ r. ⌜ CallTold limits (tablesOfRecords limits
+        (now («drone_count» .entry)) (now («dependency_count» .entry)) (now (names .entry)) (now («stop_counts» .entry))
+        (now (locations .entry)) (now (times .entry)) (now (visited .entry)) (now («drone_flags» .entry))
+        (now (dependencies .entry))) (turnAllOf (now (list .entry))) r (tablesOfRecords limits
+        (now («drone_count» .entry)) (now («dependency_count» .entry)) (now (names .entry)) (now («stop_counts» .entry))
+        (now (locations .entry)) (now (times .entry)) (now (visited .entry)) (now («drone_flags» .entry))
+        (now (dependencies .exit))) ⌝ }
+    ensures { λ _. ⌜ drop (limits .dependencies) (now (dependencies .exit)) ≡ drop (limits .dependencies) (now (dependencies .entry)) ⌝ }
+{
+    let reply = calls::turn_all(
+        drone_count,
+        dependency_count,
+        names,
+        stop_counts,
+        locations,
+        times,
+        visited,
+        drone_flags,
+        dependencies,
+        list,
+    );
+    answers::of_turn_all(reply)
+}
+
 // What the turn would reply; at number 0 with the cost after it less the cost now. It changes nothing.
 #[no_mangle]
 pub extern "C" fn board_preview(
@@ -159,6 +197,40 @@ pub extern "C" fn board_preview(
         dependency,
     );
     answers::of_preview(reply)
+}
+
+// What the turn of the list would reply; at number 0 with the cost after it less the cost now. It changes nothing.
+#[no_mangle]
+pub extern "C" fn board_preview_all(
+    drone_count: &[u16],
+    dependency_count: &[u16],
+    names: &[u8],
+    stop_counts: &[u16],
+    locations: &[u16],
+    times: &[u32],
+    visited: &[u16],
+    drone_flags: &[u8],
+    dependencies: &[Dependency],
+    list: &[u16],
+) -> ChangeAnswer
+    ensures { λ r. ⌜ SaysOfChange r (changeAnswer (previewAll limits (tablesOfRecords limits
+        (now («drone_count» .entry)) (now («dependency_count» .entry)) (now (names .entry)) (now («stop_counts» .entry))
+        (now (locations .entry)) (now (times .entry)) (now (visited .entry)) (now («drone_flags» .entry))
+        (now (dependencies .entry))) (now (list .entry)))) ⌝ }
+{
+    let reply = calls::preview_all(
+        drone_count,
+        dependency_count,
+        names,
+        stop_counts,
+        locations,
+        times,
+        visited,
+        drone_flags,
+        dependencies,
+        list,
+    );
+    answers::of_preview_all(reply)
 }
 
 // The remaining cost: its detail at number 0.

@@ -2,7 +2,9 @@ pub mod arrive
 pub mod cost
 pub mod grant
 pub mod preview
+pub mod preview_all
 pub mod read_plan
 pub mod rounds
 pub mod turn
+pub mod turn_all
 pub mod write_plan

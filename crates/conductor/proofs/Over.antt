@@ -1,38 +1,40 @@
 -- Answers carried from tables to equal ones, and the refusals before the columns of the records are there.
---     answered-over, written-over, turn-over, told-over    the same answer over equal tables
---     answered-41, written-41, preview-41, cost-41, rounds-refused-41, and the same with 40    the refusals that a spreading tells
+--     answered-over, written-over, told-over    the same answer over equal tables
+--     answered-41, written-41, preview-41, preview-all-41, cost-41, rounds-refused-41, and the same with 40    the refusals that a spreading tells
 --     whole-columns    the columns that a whole spreading leaves
---     turn-made    a turn that flips its record where it lies, and nothing past the full size
+--     group-made, turn-made    a turn of a list and of one that flips its records where they lie, and nothing past the full size
 -- Assumes nothing.
 use mathlib.Core.Path.{_≡_, refl, sym, ap, subst, _∙_}
-use mathlib.Core.Bool.{Bool, true, false, cond, false≢true}
-use mathlib.Core.List.{List}
+use mathlib.Core.Bool.{Bool, true, false, cond}
+use mathlib.Core.List.{List, [], _∷_}
 use Prim.Native.Nat.{ℕ, _<_}
 use native.Mathlib.Omega.{arith}
-use lib.Dec.{leb}
 use lib.ListN.{drop}
 use lib.Seq.{drop-set-lt}
-use borrow.Author.Tests.{leb-true, leb-false}
+use Rattle.below.specs.Below.{isIn}
 use Rattle.below.proofs.Tests.{by-cases}
+use Rattle.below.proofs.Members.{in-head, in-tail}
 use Rattle.tables.specs.Limits.{Limits}
 use Rattle.tables.specs.Tables.{Tables, dependencies, fullSize}
 use Rattle.tables.specs.Entries.{flipDependency}
 use Rattle.tables.specs.declared.entries.Dependency.{Dependency}
 use Rattle.sound.specs.Sound.{sound}
-use Rattle.log.specs.CallLog.{Call, turn, Reply, refused, isAccepted}
-use Rattle.log.specs.Calls.{Answer, step, turnStep, flipped, Answered, costRefused, costReply, roundsRefused, roundsReply}
-use Rattle.log.specs.Preview.{preview, wouldRefuse}
-use Rattle.log.proofs.Preview.{preview-refusal}
-use Rattle.log.proofs.Steps.{step-41, step-40, turn-30}
+use Rattle.log.specs.CallLog.{Call, turn, turnAll, Reply, refused, isAccepted}
+use Rattle.log.specs.Calls.{Answer, step, turnStep, turnAllStep, flipFlags, flipped, flippedAll, Answered, costRefused, costReply, roundsRefused, roundsReply}
+use Rattle.log.specs.Preview.{preview, previewAll, wouldRefuse}
+use Rattle.log.proofs.Checks.{is-accepted}
+use Rattle.log.proofs.Exactly.{group-exactly, turn-is-group}
+use Rattle.log.proofs.Preview.{preview-refusal, previewAll-refusal}
+use Rattle.log.proofs.Steps.{step-41, step-40}
 use Rattle.flat.specs.Writing.{Writing, writeRefused, writes, bufferLeft, PlanWritten}
 use Rattle.flat.proofs.Facts.{facts}
 use Rattle.flat.proofs.Answers.{answered}
 use Rattle.flat.proofs.CostLaws.{costs-41, costs-40, rounds-41, rounds-40}
 use Rattle.flat.proofs.WritingLaws.{writes-41, writes-40}
-use Rattle.records.specs.Records.{recordAt, flipIf, ColumnsOf, firstDronesOf, firstStopsOf, secondDronesOf, secondStopsOf, flagsOf, unusedZero, seen, tablesOfRecords, SpreadAs, spreadRecords}
+use Rattle.records.specs.Records.{recordAt, flipIf, flipAllIf, ColumnsOf, firstDronesOf, firstStopsOf, secondDronesOf, secondStopsOf, flagsOf, unusedZero, seen, tablesOfRecords, SpreadAs, spreadRecords}
 use Rattle.records.specs.declared.columns.Spread.{Spread}
 use Rattle.records.specs.declared.columns.Spread.the-variants.{Whole, TooSmall, UnusedNotZero}
-use Rattle.records.proofs.Flips.{seen-flip, field-stays, flags-flip}
+use Rattle.records.proofs.Flips.{seen-flip, field-stays, flags-flip, group-none}
 use Rattle.conductor.proofs.Unsound.{unused-unsound}
 
 pub answered-over : {program : Tables → Call → Answer} {t u t′ u′ : Tables} {c : Call} {r : Reply} → t ≡ t′ → u ≡ u′ → Answered program t c r u → Answered program t′ c r u′
@@ -44,10 +46,6 @@ answered-over {program} {t} {u} {t′} {u′} {c} e f a = record {
 module _ (L : Limits) where
   pub written-over : {t t′ : Tables} {before after : List ℕ} {r : Writing} → t ≡ t′ → PlanWritten L t before after r → PlanWritten L t′ before after r
   written-over {t} {t′} {before} e w = record { replied = w .replied ∙ ap (λ (x : Tables). writes L x before) e; left = w .left ∙ ap (λ (x : Tables). bufferLeft L x before) e }
-
-  -- a turn's reply over equal tables
-  pub turn-over : {t t′ : Tables} {r : Reply} (w : ℕ) → t ≡ t′ → r ≡ step L t (turn w) .reply → r ≡ step L t′ (turn w) .reply
-  turn-over w e a = a ∙ ap (λ (x : Tables). step L x (turn w) .reply) e
 
   -- what is told of tables is told of equal ones
   pub told-over : {A : Type 0} (told : Tables → A) {t t′ : Tables} {r : A} → t ≡ t′ → r ≡ told t → r ≡ told t′
@@ -64,6 +62,9 @@ module _ (L : Limits) where
 
       pub preview-41 : (w : ℕ) → wouldRefuse 41 ≡ preview L t w
       preview-41 w = preview-refusal L t w t 41 (answered-41 (turn w))
+
+      pub preview-all-41 : (ws : List ℕ) → wouldRefuse 41 ≡ previewAll L t ws
+      preview-all-41 ws = previewAll-refusal L t ws t 41 (answered-41 (turnAll ws))
 
       pub written-41 : (buffer : List ℕ) → PlanWritten L t buffer buffer (writeRefused 41)
       written-41 buffer = writes-41 L t too-small buffer
@@ -83,6 +84,9 @@ module _ (L : Limits) where
 
       pub preview-40 : (w : ℕ) → wouldRefuse 40 ≡ preview L t w
       preview-40 w = preview-refusal L t w t 40 (answered-40 (turn w))
+
+      pub preview-all-40 : (ws : List ℕ) → wouldRefuse 40 ≡ previewAll L t ws
+      preview-all-40 ws = previewAll-refusal L t ws t 40 (answered-40 (turnAll ws))
 
       pub written-40 : (buffer : List ℕ) → PlanWritten L t buffer buffer (writeRefused 40)
       written-40 buffer = writes-40 L t not-sound buffer
@@ -114,36 +118,45 @@ module _ (L : Limits) where
       flags-flip (seen L ds) w,
     ) refl
 
+    group-tables : (ws : List ℕ) (ds : List Dependency) → tablesOfRecords L droneCount dependencyCount names stopCounts locations times visited droneFlags (flipAllIf true ws ds) ≡ flippedAll (tablesOfRecords L droneCount dependencyCount names stopCounts locations times visited droneFlags ds) ws
+    unfolding flipAllIf flipFlags
+    group-tables [] ds = refl
+    group-tables (w ∷ ws) ds = group-tables ws (flipIf true w ds) ∙ ap (λ (t : Tables). flippedAll t ws) (flip-tables ds w)
+
     -- by the reply: flipped where it is accepted, as they were where it is not
-    flip-left : (b : Bool) (ds : List Dependency) (w : ℕ) → tablesOfRecords L droneCount dependencyCount names stopCounts locations times visited droneFlags (flipIf b w ds) ≡ cond b (flipped (tablesOfRecords L droneCount dependencyCount names stopCounts locations times visited droneFlags ds) w) (tablesOfRecords L droneCount dependencyCount names stopCounts locations times visited droneFlags ds)
-    flip-left true ds w = flip-tables ds w
-    flip-left false ds w = refl
+    group-left : (b : Bool) (ws : List ℕ) (ds : List Dependency) → tablesOfRecords L droneCount dependencyCount names stopCounts locations times visited droneFlags (flipAllIf b ws ds) ≡ cond b (flippedAll (tablesOfRecords L droneCount dependencyCount names stopCounts locations times visited droneFlags ds) ws) (tablesOfRecords L droneCount dependencyCount names stopCounts locations times visited droneFlags ds)
+    group-left true ws ds = group-tables ws ds
+    group-left false ws ds = ap (tablesOfRecords L droneCount dependencyCount names stopCounts locations times visited droneFlags) (sym (group-none false ws ds refl))
 
-    turn-answered : (ds after : List Dependency) (w : ℕ) (r : Reply) → r ≡ step L (tablesOfRecords L droneCount dependencyCount names stopCounts locations times visited droneFlags ds) (turn w) .reply → after ≡ flipIf (isAccepted r) w ds → Answered (step L) (tablesOfRecords L droneCount dependencyCount names stopCounts locations times visited droneFlags ds) (turn w) r (tablesOfRecords L droneCount dependencyCount names stopCounts locations times visited droneFlags after)
-    unfolding turnStep
-    turn-answered ds after w r e f = record { replied = e; left = rw f (flip-left (isAccepted r) ds w ∙ rw e refl) }
+    group-answered : (ds after : List Dependency) (ws : List ℕ) (r : Reply) → r ≡ step L (tablesOfRecords L droneCount dependencyCount names stopCounts locations times visited droneFlags ds) (turnAll ws) .reply → after ≡ flipAllIf (isAccepted r) ws ds → Answered (step L) (tablesOfRecords L droneCount dependencyCount names stopCounts locations times visited droneFlags ds) (turnAll ws) r (tablesOfRecords L droneCount dependencyCount names stopCounts locations times visited droneFlags after)
+    unfolding turnAllStep
+    group-answered ds after ws r e f = record { replied = e; left = rw f (group-left (isAccepted r) ws ds ∙ rw e refl) }
 
-  -- a reply that is not accepted does not say that it is
-  clash : (t : Tables) (c : Call) (n : ℕ) → step L t c ≡ record { reply = refused n; tables = t } → isAccepted (step L t c .reply) ≡ true → ⊥
-  clash t c n e a = false≢true (sym (ap (λ (x : Answer). isAccepted (x .reply)) e) ∙ a)
-
-  -- a turn that is accepted names a dependency below the full size
-  turn-within : (t : Tables) (w : ℕ) → isAccepted (step L t (turn w) .reply) ≡ true → w < L .dependencies
-  turn-within t w a = by-cases (fullSize L t)
-      (λ f. by-cases (sound L t)
-      (λ s. by-cases (leb (dependencies (t .plan)) w)
-      (λ b. absurd (clash t (turn w) 30 (turn-30 L t f s w (leb-true (dependencies (t .plan)) w b)) a))
-      (λ b. let l : w < dependencies (t .plan) = leb-false (dependencies (t .plan)) w b in omega (arith, l, facts L t (f, s) .dependencies-few)))
-      (λ s. absurd (clash t (turn w) 40 (step-40 L t f s (turn w)) a)))
-      (λ f. absurd (clash t (turn w) 41 (step-41 L t f (turn w)) a))
+  -- a turn that is accepted names dependencies below the full size
+  group-within : (t : Tables) (ws : List ℕ) → isAccepted (turnAllStep L t ws .reply) ≡ true → (w : ℕ) → isIn w ws ≡ true → w < L .dependencies
+  group-within t ws a w i =
+      let (u, (g, (all, acyclic))) = group-exactly L t ws .0 (is-accepted (turnAllStep L t ws .reply) a) in
+      let l : w < dependencies (t .plan) = all w i .exists in omega (arith, l, facts L t u .dependencies-few)
 
   -- so nothing past the full size changes
-  turn-rest : (t : Tables) (ds after : List Dependency) (w : ℕ) (r : Reply) → r ≡ step L t (turn w) .reply → after ≡ flipIf (isAccepted r) w ds → drop (L .dependencies) after ≡ drop (L .dependencies) ds
-  turn-rest t ds after w r e f = by-cases (isAccepted r)
-      (λ b. ap (drop (L .dependencies)) (f ∙ ap (λ (x : Bool). flipIf x w ds) b) ∙ drop-set-lt (L .dependencies) ds w (flipDependency (recordAt ds w)) (turn-within t w (sym (ap isAccepted e) ∙ b)))
-      (λ b. ap (drop (L .dependencies)) (f ∙ ap (λ (x : Bool). flipIf x w ds) b))
+  group-past : (n : ℕ) (ws : List ℕ) (ds : List Dependency) → ((w : ℕ) → isIn w ws ≡ true → w < n) → drop n (flipAllIf true ws ds) ≡ drop n ds
+  unfolding flipAllIf
+  group-past n [] ds within = refl
+  group-past n (w ∷ ws) ds within = group-past n ws (flipIf true w ds) (λ v i. within v (in-tail v w ws i)) ∙ drop-set-lt n ds w (flipDependency (recordAt ds w)) (within w (in-head w ws))
 
-  -- the whole contract of a turn
-  module _ {droneCount dependencyCount names stopCounts locations times visited droneFlags : List ℕ} where
-    pub turn-made : (ds after : List Dependency) (w : ℕ) (r : Reply) → r ≡ step L (tablesOfRecords L droneCount dependencyCount names stopCounts locations times visited droneFlags ds) (turn w) .reply → after ≡ flipIf (isAccepted r) w ds → Answered (step L) (tablesOfRecords L droneCount dependencyCount names stopCounts locations times visited droneFlags ds) (turn w) r (tablesOfRecords L droneCount dependencyCount names stopCounts locations times visited droneFlags after) × (after ≡ flipIf (isAccepted r) w ds) × (drop (L .dependencies) after ≡ drop (L .dependencies) ds)
-    turn-made ds after w r e f = (turn-answered ds after w r e f, f, turn-rest (tablesOfRecords L droneCount dependencyCount names stopCounts locations times visited droneFlags ds) ds after w r e f)
+  group-rest : (t : Tables) (ds after : List Dependency) (ws : List ℕ) (r : Reply) → r ≡ turnAllStep L t ws .reply → after ≡ flipAllIf (isAccepted r) ws ds → drop (L .dependencies) after ≡ drop (L .dependencies) ds
+  group-rest t ds after ws r e f = by-cases (isAccepted r)
+      (λ b. ap (drop (L .dependencies)) (f ∙ ap (λ (x : Bool). flipAllIf x ws ds) b) ∙ group-past (L .dependencies) ws ds (group-within t ws (sym (ap isAccepted e) ∙ b)))
+      (λ b. ap (drop (L .dependencies)) (f ∙ sym (group-none (isAccepted r) ws ds b)))
+
+  -- the whole contract of a turn, of a list and of one
+  module _ {droneCount dependencyCount names stopCounts locations times visited droneFlags : List ℕ} (ds after : List Dependency) where
+    pub group-made : (ws : List ℕ) (r : Reply) → r ≡ step L (tablesOfRecords L droneCount dependencyCount names stopCounts locations times visited droneFlags ds) (turnAll ws) .reply → after ≡ flipAllIf (isAccepted r) ws ds → Answered (step L) (tablesOfRecords L droneCount dependencyCount names stopCounts locations times visited droneFlags ds) (turnAll ws) r (tablesOfRecords L droneCount dependencyCount names stopCounts locations times visited droneFlags after) × (after ≡ flipAllIf (isAccepted r) ws ds) × (drop (L .dependencies) after ≡ drop (L .dependencies) ds)
+    group-made ws r e f = (group-answered ds after ws r e f, f, group-rest (tablesOfRecords L droneCount dependencyCount names stopCounts locations times visited droneFlags ds) ds after ws r e f)
+
+    pub turn-made : (w : ℕ) (r : Reply) → r ≡ step L (tablesOfRecords L droneCount dependencyCount names stopCounts locations times visited droneFlags ds) (turn w) .reply → after ≡ flipIf (isAccepted r) w ds → Answered (step L) (tablesOfRecords L droneCount dependencyCount names stopCounts locations times visited droneFlags ds) (turn w) r (tablesOfRecords L droneCount dependencyCount names stopCounts locations times visited droneFlags after) × (after ≡ flipIf (isAccepted r) w ds) × (drop (L .dependencies) after ≡ drop (L .dependencies) ds)
+    unfolding flipAllIf
+    turn-made w r e f =
+        let same : turnStep L (tablesOfRecords L droneCount dependencyCount names stopCounts locations times visited droneFlags ds) w ≡ turnAllStep L (tablesOfRecords L droneCount dependencyCount names stopCounts locations times visited droneFlags ds) (w ∷ []) = turn-is-group L (tablesOfRecords L droneCount dependencyCount names stopCounts locations times visited droneFlags ds) w in
+        let made = group-made (w ∷ []) r (e ∙ ap (λ (x : Answer). x .reply) same) f in
+        (record { replied = e; left = made .0 .left ∙ ap (λ (x : Answer). x .tables) (sym same) }, f, made .2)

@@ -1,5 +1,6 @@
 // The public calls over the lent slice of dependency records: the used records are spread into columns, the call is made over these, and an accepted turn or reading
 // changes the records where they lie. The derivations are carried (docs/DERIVATIONS.md).
+use crate::changes::are_turned;
 use crate::changes::is_turned;
 use crate::changes::is_written;
 use flat::calls;
@@ -7,13 +8,16 @@ use flat::replies::ArriveReply;
 use flat::replies::GrantReply;
 use flat::replies::WriteReply;
 use flat::turn_replies::CostAnswer;
+use flat::turn_replies::PreviewAllReply;
 use flat::turn_replies::PreviewReply;
 use flat::turn_replies::RoundsAnswer;
+use flat::turn_replies::TurnAllReply;
 use flat::turn_replies::TurnReply;
 use reading::entry;
 use reading::replies::Reading;
 use reading::replies::Refusal;
 use records::columns::Spread;
+use records::lent::flip_all;
 use records::lent::flip_if;
 use records::lent::spread;
 use records::lent::store_if;
@@ -22,14 +26,14 @@ use tables::entries::Dependency;
 ghost use mathlib.Core.Path.{_≡_};
 ghost use lib.ListN.{drop};
 ghost use Rattle.tables.specs.Limits.{limits};
-ghost use Rattle.log.specs.CallLog.{grant as grantOf, arrive as arriveOf, turn as turnOf, isAccepted};
+ghost use Rattle.log.specs.CallLog.{grant as grantOf, arrive as arriveOf, turn as turnOf, turnAll as turnAllOf, isAccepted};
 ghost use Rattle.log.specs.Calls.{step, Answered, costReply, roundsReply};
-ghost use Rattle.log.specs.Preview.{preview as previewOf};
+ghost use Rattle.log.specs.Preview.{preview as previewOf, previewAll as previewAllOf};
 ghost use Rattle.reading.specs.Reading.{AnsweredAs, readPlan};
 ghost use Rattle.flat.specs.Replies.{grantMeant, arriveMeant};
-ghost use Rattle.flat.specs.TurnReplies.{turnMeant, previewMeant, costMeant, roundsMeant};
+ghost use Rattle.flat.specs.TurnReplies.{turnMeant, turnAllMeant, previewMeant, previewAllMeant, costMeant, roundsMeant};
 ghost use Rattle.flat.specs.Writing.{writeMeant, PlanWritten};
-ghost use Rattle.records.specs.Records.{flipIf, tablesOfRecords};
+ghost use Rattle.records.specs.Records.{flipIf, flipAllIf, tablesOfRecords};
 
 // "Grant: the drone becomes under way when every dependency into its next stop has the awaited stop visited".
 pub fn grant(
@@ -236,6 +240,77 @@ pub fn turn(
     reply
 }
 
+// "Give us a turn of a list of dependencies, all at once".
+pub fn turn_all(
+    drone_count: &[u16],
+    dependency_count: &[u16],
+    names: &[u8],
+    stop_counts: &[u16],
+    locations: &[u16],
+    times: &[u32],
+    visited: &[u16],
+    drone_flags: &[u8],
+    dependencies: &mut [Dependency],
+    list: &[u16],
+) -> TurnAllReply
+    ensures { λ r.
+        ⌜
+        Answered (step limits) (tablesOfRecords limits
+        (now («drone_count» .entry)) (now («dependency_count» .entry)) (now (names .entry)) (now («stop_counts» .entry))
+        (now (locations .entry)) (now (times .entry)) (now (visited .entry)) (now («drone_flags» .entry))
+        (now (dependencies .entry)))
+        (turnAllOf (now (list .entry))) (turnAllMeant r) (tablesOfRecords limits
+        (now («drone_count» .entry)) (now («dependency_count» .entry)) (now (names .entry)) (now («stop_counts» .entry))
+        (now (locations .entry)) (now (times .entry)) (now (visited .entry)) (now («drone_flags» .entry))
+        (now (dependencies .exit)))
+        ⌝ }
+    ensures { λ r. ⌜ now (dependencies .exit) ≡ flipAllIf (isAccepted (turnAllMeant r)) (now (list .entry)) (now (dependencies .entry)) ⌝ }
+    ensures { λ _. ⌜ drop (limits .dependencies) (now (dependencies .exit)) ≡ drop (limits .dependencies) (now (dependencies .entry)) ⌝ }
+{
+    let mut first_drones = [0u8; Dependency::FULL];
+    let mut first_stops = [0u16; Dependency::FULL];
+    let mut second_drones = [0u8; Dependency::FULL];
+    let mut second_stops = [0u16; Dependency::FULL];
+    let mut flags = [0u8; Dependency::FULL];
+    let reply = match spread(
+        drone_count,
+        dependency_count,
+        names,
+        stop_counts,
+        locations,
+        times,
+        visited,
+        drone_flags,
+        dependencies,
+        &mut first_drones,
+        &mut first_stops,
+        &mut second_drones,
+        &mut second_stops,
+        &mut flags,
+    ) {
+        Spread::TooSmall => TurnAllReply::TablesTooSmall,
+        Spread::UnusedNotZero => TurnAllReply::NotSound,
+        Spread::Whole => calls::turn_all(
+            drone_count,
+            dependency_count,
+            names,
+            stop_counts,
+            locations,
+            times,
+            visited,
+            drone_flags,
+            &first_drones,
+            &first_stops,
+            &second_drones,
+            &second_stops,
+            &mut flags,
+            list,
+        ),
+    };
+    flip_all(dependencies, list, are_turned(reply));
+    reply
+}
+
 // "The preview replies with what the turn would reply. When it would be done, it also gives the cost after it less the cost now". It changes nothing.
 pub fn preview(
     drone_count: &[u16],
@@ -292,6 +367,66 @@ pub fn preview(
             &second_stops,
             &flags,
             dependency,
+        ),
+    }
+}
+
+// "The preview takes a list too". It changes nothing.
+pub fn preview_all(
+    drone_count: &[u16],
+    dependency_count: &[u16],
+    names: &[u8],
+    stop_counts: &[u16],
+    locations: &[u16],
+    times: &[u32],
+    visited: &[u16],
+    drone_flags: &[u8],
+    dependencies: &[Dependency],
+    list: &[u16],
+) -> PreviewAllReply
+    ensures { λ r. ⌜ previewAllMeant r ≡ previewAllOf limits (tablesOfRecords limits
+        (now («drone_count» .entry)) (now («dependency_count» .entry)) (now (names .entry)) (now («stop_counts» .entry))
+        (now (locations .entry)) (now (times .entry)) (now (visited .entry)) (now («drone_flags» .entry))
+        (now (dependencies .entry))) (now (list .entry)) ⌝ }
+{
+    let mut first_drones = [0u8; Dependency::FULL];
+    let mut first_stops = [0u16; Dependency::FULL];
+    let mut second_drones = [0u8; Dependency::FULL];
+    let mut second_stops = [0u16; Dependency::FULL];
+    let mut flags = [0u8; Dependency::FULL];
+    match spread(
+        drone_count,
+        dependency_count,
+        names,
+        stop_counts,
+        locations,
+        times,
+        visited,
+        drone_flags,
+        dependencies,
+        &mut first_drones,
+        &mut first_stops,
+        &mut second_drones,
+        &mut second_stops,
+        &mut flags,
+    ) {
+        Spread::TooSmall => PreviewAllReply::TablesTooSmall,
+        Spread::UnusedNotZero => PreviewAllReply::NotSound,
+        Spread::Whole => calls::preview_all(
+            drone_count,
+            dependency_count,
+            names,
+            stop_counts,
+            locations,
+            times,
+            visited,
+            drone_flags,
+            &first_drones,
+            &first_stops,
+            &second_drones,
+            &second_stops,
+            &flags,
+            list,
         ),
     }
 }

@@ -1,4 +1,5 @@
 // Which replies change the lent records.
+use flat::turn_replies::TurnAllReply;
 use flat::turn_replies::TurnReply;
 use reading::replies::Reading;
 use reading::replies::Refusal;
@@ -6,7 +7,7 @@ use tables::entries::Text;
 ghost use mathlib.Core.Path.{_≡_};
 ghost use Rattle.tables.specs.Limits.{limits};
 ghost use Rattle.log.specs.CallLog.{isAccepted};
-ghost use Rattle.flat.specs.TurnReplies.{turnMeant};
+ghost use Rattle.flat.specs.TurnReplies.{turnMeant, turnAllMeant};
 ghost use Rattle.conductor.specs.Changes.{isWritten};
 
 pub fn is_turned(reply: TurnReply) -> bool
@@ -20,6 +21,21 @@ pub fn is_turned(reply: TurnReply) -> bool
         TurnReply::Fixed => false,
         TurnReply::FirstEntered => false,
         TurnReply::Cycle => false,
+    }
+}
+
+pub fn are_turned(reply: TurnAllReply) -> bool
+    ensures { λ r. ⌜ r ≡ isAccepted (turnAllMeant reply) ⌝ }
+{
+    match reply {
+        TurnAllReply::Turned => true,
+        TurnAllReply::TablesTooSmall => false,
+        TurnAllReply::NotSound => false,
+        TurnAllReply::NotRising => false,
+        TurnAllReply::NoDependency => false,
+        TurnAllReply::Fixed => false,
+        TurnAllReply::FirstEntered => false,
+        TurnAllReply::Cycle => false,
     }
 }
 

@@ -14,15 +14,15 @@ use Rattle.below.proofs.Index.{length-listBelow}
 use Rattle.tables.specs.Limits.{Limits}
 use Rattle.tables.specs.Tables.{PlanLists, Tables, fullSize}
 use Rattle.precedence.specs.Graph.{cyclic}
-use Rattle.plan.specs.Field.{FieldPlan, flip, graph, fixed, planOf}
+use Rattle.plan.specs.Field.{FieldPlan, flipAll, graph, fixed, planOf}
 use Rattle.plan.specs.Status.{Status, statusIn, entered, unmet, now}
 use Rattle.sound.specs.Sound.{sound}
 use Rattle.lines.proofs.WriteLaws.{sets-append}
-use Rattle.log.specs.CallLog.{Call, grant, arrive, turn, Reply, accepted, refused, mustWait, number as replyNumber, Entry, entry, when, firstThatHolds, replyIn}
+use Rattle.log.specs.CallLog.{Reply, refused, mustWait, number as replyNumber, Entry, entry, when, firstThatHolds, replyIn}
 use Rattle.log.specs.Calls.{step, replyOf, grantStep, arriveStep, turnStep, AsRead, recorded, tablesAfter}
 use Rattle.log.specs.Demand.{Found}
 use Rattle.log.proofs.Whole.{demand3}
-use Rattle.transcript.specs.Input.{Request, call, cost, requestOf}
+use Rattle.transcript.specs.Input.{LineCall, grant, arrive, turn, callOf, Request, call, cost, requestOf}
 use Rattle.transcript.specs.Output.{Answer, awaited}
 use Rattle.transcript.specs.Run.{answerOn, tablesOn, answersOn, tablesLeft, requestsIn, numbersIn, detailsIn, Made}
 use Rattle.transcript.proofs.InTables.{stored-at, answers-length, numbers-in-length, details-in-length}
@@ -109,11 +109,11 @@ turn-means false false true d = refl
 turn-means false false false true = refl
 turn-means false false false false = refl
 
-means-in : (F : FieldPlan) (s : Status) (c : Call) → Means (replyIn F s c)
+means-in : (F : FieldPlan) (s : Status) (c : LineCall) → Means (replyIn F s (callOf c))
 unfolding replyIn
 means-in F s (grant d) = grant-means (leb (F .drones) d) (leb (F .last d) (s .place d)) (s .underWay d) (ltb (unmet F s d) (F .count)) (unmet F s d)
 means-in F s (arrive d) = arrive-means (leb (F .drones) d) (not (s .underWay d))
-means-in F s (turn w) = turn-means (leb (F .count) w) (fixed F w) (entered F s (now F s w .first) (now F s w .firstStop)) (cyclic (graph F (flip (s .turned) w)))
+means-in F s (turn w) = turn-means (leb (F .count) w) (fixed F w) (entered F s (now F s w .first) (now F s w .firstStop)) (cyclic (graph F (flipAll (s .turned) (w ∷ []))))
 
 means-refused : (a b : Bool) (r : Reply) → Means r → Means (cond a (cond b r (refused 40)) (refused 41))
 unfolding replyFrom
@@ -121,11 +121,11 @@ means-refused true true r m = m
 means-refused true false r m = refl
 means-refused false b r m = refl
 
-means-of : (L : Limits) (t : Tables) (c : Call) → Means (replyOf L t c)
+means-of : (L : Limits) (t : Tables) (c : LineCall) → Means (replyOf L t (callOf c))
 unfolding replyOf
 means-of L t c = means-refused (fullSize L t) (sound L t) _ (means-in (planOf (t .plan)) (statusIn t) c)
 
-means-step : (L : Limits) (t : Tables) (c : Call) → Means (step L t c .reply)
+means-step : (L : Limits) (t : Tables) (c : LineCall) → Means (step L t (callOf c) .reply)
 unfolding grantStep arriveStep turnStep
 means-step L t (grant d) = means-of L t (grant d)
 means-step L t (arrive d) = means-of L t (arrive d)
@@ -138,15 +138,15 @@ module _ (L : Limits) where
   unfolding gotBy recorded callsOf answersOn
   got-recorded [] t ns ws h g = refl
   got-recorded (call c ∷ qs) t ns ws h g =
-      ap₂ (λ (r : Reply) (es : List Entry). entry c r ∷ es)
+      ap₂ (λ (r : Reply) (es : List Entry). entry (callOf c) r ∷ es)
       (ap₂ replyFrom (h 0 (omega arith)) (g 0 (omega arith)) ∙ means-step L t c)
-      (got-recorded qs (step L t c .tables) (λ i. ns (suc i)) (λ i. ws (suc i)) (λ k l. h (suc k) (omega arith)) (λ k l. g (suc k) (omega arith)))
+      (got-recorded qs (step L t (callOf c) .tables) (λ i. ns (suc i)) (λ i. ws (suc i)) (λ k l. h (suc k) (omega arith)) (λ k l. g (suc k) (omega arith)))
   got-recorded (cost ∷ qs) t ns ws h g = got-recorded qs t (λ i. ns (suc i)) (λ i. ws (suc i)) (λ k l. h (suc k) (omega arith)) (λ k l. g (suc k) (omega arith))
 
   left-after : (qs : List Request) (t : Tables) → tablesLeft L t qs ≡ tablesAfter (step L) t (callsOf qs)
   unfolding tablesLeft tablesAfter callsOf
   left-after [] t = refl
-  left-after (call c ∷ qs) t = left-after qs (step L t c .tables)
+  left-after (call c ∷ qs) t = left-after qs (step L t (callOf c) .tables)
   left-after (cost ∷ qs) t = left-after qs t
 
 -- demand 3 of the requests that were made

@@ -12,11 +12,11 @@ use Rattle.tables.specs.Tables.{Tables, dependencies, fullSize}
 use Rattle.plan.specs.Field.{FieldPlan, planOf}
 use Rattle.plan.specs.Status.{Status, statusIn, unmet}
 use Rattle.sound.specs.Sound.{sound}
-use Rattle.log.specs.CallLog.{Call, grant, arrive, turn, Reply, accepted, refused, mustWait, number as replyNumber, when, firstThatHolds, replyIn}
+use Rattle.log.specs.CallLog.{grant as grantCall, Reply, refused, mustWait, number as replyNumber, when, firstThatHolds, replyIn}
 use Rattle.log.specs.Calls.{step, replyOf, grantStep, Answered, CostReply, costs, costRefused, costReply}
 use Rattle.log.proofs.Costs.{cost-limit}
 use Rattle.flat.proofs.Facts.{facts}
-use Rattle.transcript.specs.Input.{Request, call, cost, requestOf}
+use Rattle.transcript.specs.Input.{LineCall, grant, arrive, turn, callOf, call, cost, requestOf}
 use Rattle.transcript.specs.Output.{awaited}
 use Rattle.transcript.specs.Run.{costNumber, costDetail}
 use Rattle.flat.specs.Replies.{grantMeant}
@@ -30,7 +30,7 @@ use Rattle.dispatch.specs.Making.{Tells, RequestMade}
 -- ---- the detail fits
 
 -- a 23 names a dependency of the plan
-waits-in : (F : FieldPlan) (s : Status) (d : ℕ) → awaited (replyIn F s (grant d)) ≤ F .count
+waits-in : (F : FieldPlan) (s : Status) (d : ℕ) → awaited (replyIn F s (grantCall d)) ≤ F .count
 unfolding replyIn
 waits-in F s d = le-trans (four (leb (F .drones) d) (leb (F .last d) (s .place d)) (s .underWay d) (ltb (unmet F s d) (F .count)) (unmet F s d)) (firstBelow-first (F .count) _ .within)
   where
@@ -41,16 +41,16 @@ waits-in F s d = le-trans (four (leb (F .drones) d) (leb (F .last d) (s .place d
     four false false false true w = omega arith
     four false false false false w = omega arith
 
-waits-few : (L : Limits) (t : Tables) (d : ℕ) → awaited (step L t (grant d) .reply) ≤ L .dependencies
+waits-few : (L : Limits) (t : Tables) (d : ℕ) → awaited (step L t (grantCall d) .reply) ≤ L .dependencies
 unfolding grantStep replyOf
 waits-few L t d = go (fullSize L t) (sound L t) refl refl
   where
-    go : (a b : Bool) → fullSize L t ≡ a → sound L t ≡ b → awaited (cond a (cond b (replyIn (planOf (t .plan)) (statusIn t) (grant d)) (refused 40)) (refused 41)) ≤ L .dependencies
+    go : (a b : Bool) → fullSize L t ≡ a → sound L t ≡ b → awaited (cond a (cond b (replyIn (planOf (t .plan)) (statusIn t) (grantCall d)) (refused 40)) (refused 41)) ≤ L .dependencies
     go true true f s = omega (arith, waits-in (planOf (t .plan)) (statusIn t) d, facts L t (f, s) .dependencies-few)
     go true false f s = omega arith
     go false b f s = omega arith
 
-pub grant-fits : (t t′ : Tables) (d : ℕ) (r : Reply) → Answered (step limits) t (grant d) r t′ → awaited r < 2 ^ 32
+pub grant-fits : (t t′ : Tables) (d : ℕ) (r : Reply) → Answered (step limits) t (grantCall d) r t′ → awaited r < 2 ^ 32
 grant-fits t t′ d r a = omega (arith, ap awaited (a .replied), waits-few limits t d)
 
 pub cost-fits : (t : Tables) (r : CostReply) → r ≡ costReply limits t → costDetail r < 2 ^ 32
@@ -66,7 +66,7 @@ value-fits r n e h = rw e at h
 
 -- ---- the answer
 
-pub call-made : (L : Limits) (t : Tables) (c : Call) (r : Reply) (n w : ℕ) (t′ : Tables) → Answered (step L) t c r t′ → Tells r n w → RequestMade L t (call c) n w t′
+pub call-made : (L : Limits) (t : Tables) (c : LineCall) (r : Reply) (n w : ℕ) (t′ : Tables) → Answered (step L) t (callOf c) r t′ → Tells r n w → RequestMade L t (call c) n w t′
 call-made L t c r n w t′ a k = record { number-is = k .number-is ∙ ap replyNumber (a .replied); detail-is = k .detail-is ∙ ap awaited (a .replied); tables-are = a .left }
 
 pub cost-made : (L : Limits) (t : Tables) (r : CostReply) (n w : ℕ) → r ≡ costReply L t → n ≡ costNumber r → w ≡ costDetail r → RequestMade L t cost n w t

@@ -10,7 +10,7 @@ use Rattle.tables.specs.Tables.{PlanLists, Tables}
 use Rattle.log.specs.CallLog.{Call, Reply, accepted, refused, mustWait, number as replyNumber, Entry, entry}
 use Rattle.log.specs.Calls.{AsRead}
 use Rattle.log.specs.Demand.{Found}
-use Rattle.transcript.specs.Input.{Request, call, cost}
+use Rattle.transcript.specs.Input.{callOf, Request, call, cost}
 use Rattle.transcript.specs.Output.{awaited}
 use Rattle.transcript.specs.Run.{answerOn, tablesOn, Made}
 
@@ -32,7 +32,7 @@ pub record RequestMade (L : Limits) (t : Tables) (q : Request) (number detail : 
 -- the calls among them: a cost is no call
 unfoldable pub callsOf : List Request → List Call
 callsOf [] = []
-callsOf (call c ∷ qs) = c ∷ callsOf qs
+callsOf (call c ∷ qs) = callOf c ∷ callsOf qs
 callsOf (cost ∷ qs) = callsOf qs
 
 -- the reply that a number and a detail of the output's tables mean
@@ -42,7 +42,7 @@ replyFrom n w = cond (eqb n 0) accepted (cond (eqb n 23) (mustWait w) (refused n
 -- each call with the reply that the tables hold for it, by the numbers and the details from its entry on
 unfoldable pub gotBy : List Request → (ℕ → ℕ) → (ℕ → ℕ) → List Entry
 gotBy [] ns ws = []
-gotBy (call c ∷ qs) ns ws = entry c (replyFrom (ns 0) (ws 0)) ∷ gotBy qs (λ i. ns (suc i)) (λ i. ws (suc i))
+gotBy (call c ∷ qs) ns ws = entry (callOf c) (replyFrom (ns 0) (ws 0)) ∷ gotBy qs (λ i. ns (suc i)) (λ i. ws (suc i))
 gotBy (cost ∷ qs) ns ws = gotBy qs (λ i. ns (suc i)) (λ i. ws (suc i))
 
 -- the answers stand from the first entry on, the tables are those after the last request; and demand 3: if an accepted reading left the tables t, every call got the

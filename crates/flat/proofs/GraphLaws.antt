@@ -1,7 +1,7 @@
 -- Local tables that hold the graph of usable tables: they are what the test for a cycle and the rounds ask for, and with one wait exchanged they hold the graph with that dependency
 -- turned. Assumes nothing.
 use mathlib.Core.Path.{_≡_, refl, sym, ap, _∙_, subst, fun-ext}
-use mathlib.Core.Bool.{Bool, true, false, not, cond}
+use mathlib.Core.Bool.{Bool, true, false, not}
 use mathlib.Core.List.{List}
 use Prim.Native.Nat.{ℕ, _+_, _-_, _≤_, _<_}
 use native.Mathlib.Omega.{arith}
@@ -136,11 +136,11 @@ module _ (turned : ℕ → Bool) (w : ℕ) where
   flip-here : flip turned w w ≡ not (turned w)
   flip-here = rw (eq-eqb w w refl) refl
 
-  flip-other : (k : ℕ) → eqb k w ≡ false → flip turned w k ≡ turned k
+  pub flip-other : (k : ℕ) → eqb k w ≡ false → flip turned w k ≡ turned k
   flip-other k q = rw q refl
 
 -- the flag bytes after a turn show the order after it
-flipped-turned : (flags : List ℕ) (w : ℕ) → w < length flags → (λ (k : ℕ). turnedBit (at (set flags w (flipBit (at flags w))) k)) ≡ flip (λ k. turnedBit (at flags k)) w
+pub flipped-turned : (flags : List ℕ) (w : ℕ) → w < length flags → (λ (k : ℕ). turnedBit (at (set flags w (flipBit (at flags w))) k)) ≡ flip (λ k. turnedBit (at flags k)) w
 flipped-turned flags w l = fun-ext (λ k. by-cases (eqb k w)
     (λ q. rw (q, eqb-true k w q, getD-set-same flags w (flipBit (at flags w)) 0 l) (flip-turned (at flags w)))
     (λ q. rw q (ap turnedBit (getD-set-other flags w k (flipBit (at flags w)) 0 (eqb-false k w q)))))
@@ -189,7 +189,7 @@ module _ (t : Tables) (u : Usable limits t) where
   accepted : AcceptedPlan (planOf p)
   accepted = accepted-plan limits p (S .accepted) (S .dependencies-own)
 
-  unfixed-now : Unfixed (planOf p) (statusIn t .turned)
+  pub unfixed-now : Unfixed (planOf p) (statusIn t .turned)
   unfixed-now = unfixed-says (planOf p) (statusIn t) (S .fixed-unturned)
 
   pub usable-counts : Counts (drones p) (p .stopCounts)

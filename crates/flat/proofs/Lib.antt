@@ -8,3 +8,7 @@ pub mod TestLaws
 pub mod TurnAnswers
 pub mod SignedLaws
 pub mod PreviewLaws
+pub mod RisingLaws
+pub mod WalkLaws
+pub mod GroupLaws
+pub mod GroupAnswers

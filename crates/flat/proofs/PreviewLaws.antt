@@ -31,6 +31,10 @@ use Rattle.flat.proofs.TurnAnswers.{turns-30, turns-31, turns-32, turns
 pub cost-small : (t : Tables) (c : ℕ) → costs c ≡ costReply limits t → c < 2 ^ 31
 cost-small t c e = omega (arith, cost-limit t c (sym e))
 
+-- a and b: the cost after a turn and before it; z: their difference, which is read back from its bits
+pub change-read : (t t′ : Tables) (a b : ℕ) → costs a ≡ costReply limits t′ → costs b ≡ costReply limits t → (z : ℤ) → z ≡ subℕ a b → wouldTurn (toZ w32 (ofZ w32 z)) ≡ wouldTurn (subℕ a b)
+change-read t t′ a b p q z is-z = ap (λ (x : ℤ). wouldTurn (toZ w32 (ofZ w32 x))) is-z ∙ ap wouldTurn (toZ-ofZ (difference-fits a b (cost-small t′ a p) (cost-small t b q)))
+
 module _ (t : Tables) (w : ℕ) where
   pub previews-41 : (r : TablesCheck) → r ≡ checkOf limits t → r ≡ TooSmall → wouldRefuse 41 ≡ preview limits t w
   previews-41 r is-r e = preview-refusal limits t w t 41 (refused-41 limits t r is-r e (turn w))
@@ -58,9 +62,5 @@ module _ (t : Tables) (w : ℕ) where
         pub usable-turned : Usable limits (flipped t w)
         usable-turned = left-usable limits t (flipped t w) (turn w) accepted u (turned-now limits t u w r is-r h y is-y e)
 
-        -- a and b: the cost after the turn and before it; z: their difference, which is read back from its bits
         pub previews-0 : (a b : ℕ) → costs a ≡ costReply limits (flipped t w) → costs b ≡ costReply limits t → (z : ℤ) → z ≡ subℕ a b → wouldTurn (toZ w32 (ofZ w32 z)) ≡ preview limits t w
-        previews-0 a b p q z is-z =
-            ap (λ (x : ℤ). wouldTurn (toZ w32 (ofZ w32 x))) is-z
-            ∙ ap wouldTurn (toZ-ofZ (difference-fits a b (cost-small (flipped t w) a p) (cost-small t b q)))
-            ∙ preview-turned limits t w (flipped t w) a b (turned-now limits t u w r is-r h y is-y e) p q
+        previews-0 a b p q z is-z = change-read t (flipped t w) a b p q z is-z ∙ preview-turned limits t w (flipped t w) a b (turned-now limits t u w r is-r h y is-y e) p q

@@ -1,5 +1,6 @@
 -- What is asked of one dependency before it is turned (document 01, "Where each refusal is checked"). Assumes nothing.
 use mathlib.Core.Bool.{Bool, true, false}
+use mathlib.Core.List.{List, [], _∷_}
 use Prim.Native.Nat.{ℕ}
 use lib.Dec.{leb}
 use Rattle.tables.specs.Tables.{Tables}
@@ -21,3 +22,15 @@ testIn F s w = firstOf (leb (F .count) w) (fixed F w) (entered F s (now F s w .f
 -- "30 no such dependency; 31 fixed; 32 the first drone has visited or is under way to its stop", with the order now in force
 unfoldable pub testOf : Tables → ℕ → TurnTest
 testOf t w = testIn (planOf (t .plan)) (statusIn t) w
+
+-- a result that passes leaves the word to the next
+abbrev pub orElse : TurnTest → TurnTest → TurnTest
+orElse NoDependency next = NoDependency
+orElse Fixed next = Fixed
+orElse FirstEntered next = FirstEntered
+orElse Passes next = next
+
+-- "then 30 to 34 as the list is walked": the tests of each dependency of the list, the first that does not pass
+unfoldable pub walkOf : Tables → List ℕ → TurnTest
+walkOf t [] = Passes
+walkOf t (w ∷ ws) = orElse (testOf t w) (walkOf t ws)

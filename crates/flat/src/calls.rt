@@ -4,14 +4,18 @@ use crate::cores::grant_sound;
 use crate::cores::write_sound;
 use crate::costing::cost_sound;
 use crate::costing::rounds_sound;
+use crate::previewing::preview_all_sound;
 use crate::previewing::preview_sound;
 use crate::replies::ArriveReply;
 use crate::replies::GrantReply;
 use crate::replies::WriteReply;
 use crate::turn_replies::CostAnswer;
+use crate::turn_replies::PreviewAllReply;
 use crate::turn_replies::PreviewReply;
 use crate::turn_replies::RoundsAnswer;
+use crate::turn_replies::TurnAllReply;
 use crate::turn_replies::TurnReply;
+use crate::turning::turn_all_sound;
 use crate::turning::turn_sound;
 use sound::check;
 use tables::entries::Dependency;
@@ -22,11 +26,11 @@ ghost use mathlib.Core.Path.{_≡_};
 ghost use Rattle.tables.specs.Limits.{limits};
 ghost use Rattle.tables.specs.Tables.{tablesOf};
 ghost use Rattle.sound.specs.Asked.{InForce, Room};
-ghost use Rattle.log.specs.CallLog.{grant as grantOf, arrive as arriveOf, turn as turnOf};
+ghost use Rattle.log.specs.CallLog.{grant as grantOf, arrive as arriveOf, turn as turnOf, turnAll as turnAllOf};
 ghost use Rattle.log.specs.Calls.{step, Answered, costReply, roundsReply};
-ghost use Rattle.log.specs.Preview.{preview as previewOf};
+ghost use Rattle.log.specs.Preview.{preview as previewOf, previewAll as previewAllOf};
 ghost use Rattle.flat.specs.Replies.{grantMeant, arriveMeant};
-ghost use Rattle.flat.specs.TurnReplies.{turnMeant, previewMeant, costMeant, roundsMeant};
+ghost use Rattle.flat.specs.TurnReplies.{turnMeant, turnAllMeant, previewMeant, previewAllMeant, costMeant, roundsMeant};
 ghost use Rattle.flat.specs.declared.calls.TablesCheck.the-variants.{Usable as CanBeUsed};
 ghost use Rattle.flat.specs.Checking.{checkOf};
 ghost use Rattle.flat.specs.Writing.{writeMeant, PlanWritten};
@@ -388,6 +392,89 @@ pub fn turn(
     }
 }
 
+// "a turn of a list of dependencies, all at once".
+pub fn turn_all(
+    drone_count: &[u16],
+    dependency_count: &[u16],
+    names: &[u8],
+    stop_counts: &[u16],
+    locations: &[u16],
+    times: &[u32],
+    visited: &[u16],
+    drone_flags: &[u8],
+    first_drones: &[u8],
+    first_stops: &[u16],
+    second_drones: &[u8],
+    second_stops: &[u16],
+    flags: &mut [u8],
+    list: &[u16],
+) -> TurnAllReply
+    ensures { λ r.
+        ⌜
+        Answered (step limits) (tablesOf
+        (now («drone_count» .entry)) (now («dependency_count» .entry)) (now (names .entry)) (now («stop_counts» .entry))
+        (now (locations .entry)) (now (times .entry)) (now (visited .entry)) (now («drone_flags» .entry))
+        (now («first_drones» .entry)) (now («first_stops» .entry)) (now («second_drones» .entry)) (now («second_stops» .entry))
+        (now (flags .entry)))
+        (turnAllOf (now (list .entry))) (turnAllMeant r) (tablesOf
+        (now («drone_count» .entry)) (now («dependency_count» .entry)) (now (names .entry)) (now («stop_counts» .entry))
+        (now (locations .entry)) (now (times .entry)) (now (visited .entry)) (now («drone_flags» .entry))
+        (now («first_drones» .entry)) (now («first_stops» .entry)) (now («second_drones» .entry)) (now («second_stops» .entry))
+        (now (flags .exit)))
+        ⌝ }
+{
+    let mut owners = [0u8; Stop::FULL];
+    let mut starts = [0u16; Drone::FULL];
+    let mut lasts = [0u16; Drone::FULL];
+    let mut from = [0u16; Dependency::FULL];
+    let mut into = [0u16; Dependency::FULL];
+    let check = check_graph(
+        drone_count,
+        dependency_count,
+        names,
+        stop_counts,
+        locations,
+        times,
+        visited,
+        drone_flags,
+        first_drones,
+        first_stops,
+        second_drones,
+        second_stops,
+        flags,
+        &mut owners,
+        &mut starts,
+        &mut lasts,
+        &mut from,
+        &mut into,
+    );
+    match check {
+        TablesCheck::TooSmall => TurnAllReply::TablesTooSmall,
+        TablesCheck::NotSound => TurnAllReply::NotSound,
+        TablesCheck::Usable => turn_all_sound(
+            drone_count,
+            dependency_count,
+            names,
+            stop_counts,
+            locations,
+            times,
+            visited,
+            drone_flags,
+            first_drones,
+            first_stops,
+            second_drones,
+            second_stops,
+            flags,
+            list,
+            &owners,
+            &starts,
+            &lasts,
+            &mut from,
+            &mut into,
+        ),
+    }
+}
+
 // "The preview replies with what the turn would reply. When it would be done, it also gives the cost after it less the cost now".
 pub fn preview(
     drone_count: &[u16],
@@ -458,6 +545,85 @@ pub fn preview(
             second_stops,
             flags,
             dependency,
+            &owners,
+            &starts,
+            &lasts,
+            &mut from,
+            &mut into,
+        ),
+    }
+}
+
+// "The preview takes a list too".
+pub fn preview_all(
+    drone_count: &[u16],
+    dependency_count: &[u16],
+    names: &[u8],
+    stop_counts: &[u16],
+    locations: &[u16],
+    times: &[u32],
+    visited: &[u16],
+    drone_flags: &[u8],
+    first_drones: &[u8],
+    first_stops: &[u16],
+    second_drones: &[u8],
+    second_stops: &[u16],
+    flags: &[u8],
+    list: &[u16],
+) -> PreviewAllReply
+    ensures { λ r.
+        ⌜
+        previewAllMeant r ≡ previewAllOf limits (tablesOf
+        (now («drone_count» .entry)) (now («dependency_count» .entry)) (now (names .entry)) (now («stop_counts» .entry))
+        (now (locations .entry)) (now (times .entry)) (now (visited .entry)) (now («drone_flags» .entry))
+        (now («first_drones» .entry)) (now («first_stops» .entry)) (now («second_drones» .entry)) (now («second_stops» .entry))
+        (now (flags .entry)))
+        (now (list .entry))
+        ⌝ }
+{
+    let mut owners = [0u8; Stop::FULL];
+    let mut starts = [0u16; Drone::FULL];
+    let mut lasts = [0u16; Drone::FULL];
+    let mut from = [0u16; Dependency::FULL];
+    let mut into = [0u16; Dependency::FULL];
+    let check = check_graph(
+        drone_count,
+        dependency_count,
+        names,
+        stop_counts,
+        locations,
+        times,
+        visited,
+        drone_flags,
+        first_drones,
+        first_stops,
+        second_drones,
+        second_stops,
+        flags,
+        &mut owners,
+        &mut starts,
+        &mut lasts,
+        &mut from,
+        &mut into,
+    );
+    match check {
+        TablesCheck::TooSmall => PreviewAllReply::TablesTooSmall,
+        TablesCheck::NotSound => PreviewAllReply::NotSound,
+        TablesCheck::Usable => preview_all_sound(
+            drone_count,
+            dependency_count,
+            names,
+            stop_counts,
+            locations,
+            times,
+            visited,
+            drone_flags,
+            first_drones,
+            first_stops,
+            second_drones,
+            second_stops,
+            flags,
+            list,
             &owners,
             &starts,
             &lasts,

@@ -3,6 +3,7 @@ pub mod calls;
 pub mod cores;
 pub mod costing;
 pub mod exchanging;
+pub mod groups;
 pub mod previewing;
 pub mod replies;
 pub mod turn_replies;

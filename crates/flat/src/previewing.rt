@@ -1,5 +1,9 @@
-// The preview of a turn on tables that are of full size and sound: as the turn, but the waits are turned in local tables alone.
+// The preview of a turn, of one dependency and of a list at once, on tables that are of full size and sound: as the turn, but the waits are turned in local tables alone.
 use crate::exchanging::exchange;
+use crate::groups::exchange_all;
+use crate::groups::is_group;
+use crate::groups::list_test;
+use crate::turn_replies::PreviewAllReply;
 use crate::turn_replies::PreviewReply;
 use crate::turn_tests::TurnTest;
 use crate::turn_tests::turn_test;
@@ -16,8 +20,8 @@ ghost use Rattle.tables.specs.Limits.{limits};
 ghost use Rattle.tables.specs.Tables.{tablesOf};
 ghost use Rattle.sound.specs.Asked.{InForce};
 ghost use Rattle.log.specs.Claims.{Usable};
-ghost use Rattle.log.specs.Preview.{preview};
-ghost use Rattle.flat.specs.TurnReplies.{previewMeant};
+ghost use Rattle.log.specs.Preview.{preview, previewAll};
+ghost use Rattle.flat.specs.TurnReplies.{previewMeant, previewAllMeant};
 
 // A number less another, which may be the greater one.
 fn difference(after: usize, before: usize) -> i32
@@ -104,4 +108,86 @@ pub fn preview_sound(
     }
     let after = remaining_cost(owners, starts, lasts, drones, n, from, into, count, visited);
     PreviewReply::Change(difference(after, before))
+}
+
+// "The preview takes a list too".
+pub fn preview_all_sound(
+    drone_count: &[u16],
+    dependency_count: &[u16],
+    names: &[u8],
+    stop_counts: &[u16],
+    locations: &[u16],
+    times: &[u32],
+    visited: &[u16],
+    drone_flags: &[u8],
+    first_drones: &[u8],
+    first_stops: &[u16],
+    second_drones: &[u8],
+    second_stops: &[u16],
+    flags: &[u8],
+    list: &[u16],
+    owners: &[u8; Stop::FULL],
+    starts: &[u16; Drone::FULL],
+    lasts: &[u16; Drone::FULL],
+    from: &mut [u16; Dependency::FULL],
+    into: &mut [u16; Dependency::FULL],
+) -> PreviewAllReply
+    requires { ⌜
+        Usable limits (tablesOf
+        (now «drone_count») (now «dependency_count») (now names) (now «stop_counts»)
+        (now locations) (now times) (now visited) (now «drone_flags»)
+        (now «first_drones») (now «first_stops») (now «second_drones») (now «second_stops»)
+        (now flags))
+        × InForce (tablesOf
+        (now «drone_count») (now «dependency_count») (now names) (now «stop_counts»)
+        (now locations) (now times) (now visited) (now «drone_flags»)
+        (now «first_drones») (now «first_stops») (now «second_drones») (now «second_stops»)
+        (now flags))
+        (now owners) (now starts) (now lasts) (now from) (now into)
+        ⌝ }
+    ensures { λ r.
+        ⌜
+        previewAllMeant r ≡ previewAll limits (tablesOf
+        (now («drone_count» .entry)) (now («dependency_count» .entry)) (now (names .entry)) (now («stop_counts» .entry))
+        (now (locations .entry)) (now (times .entry)) (now (visited .entry)) (now («drone_flags» .entry))
+        (now («first_drones» .entry)) (now («first_stops» .entry)) (now («second_drones» .entry)) (now («second_stops» .entry))
+        (now (flags .entry)))
+        (now (list .entry))
+        ⌝ }
+{
+    if !is_group(list) {
+        return PreviewAllReply::NotRising;
+    }
+    let test = list_test(
+        drone_count,
+        dependency_count,
+        names,
+        stop_counts,
+        locations,
+        times,
+        visited,
+        drone_flags,
+        first_drones,
+        first_stops,
+        second_drones,
+        second_stops,
+        flags,
+        list,
+    );
+    match test {
+        TurnTest::NoDependency => return PreviewAllReply::NoDependency,
+        TurnTest::Fixed => return PreviewAllReply::Fixed,
+        TurnTest::FirstEntered => return PreviewAllReply::FirstEntered,
+        TurnTest::Passes => {}
+    }
+    let drones = drone_count[0] as usize;
+    let count = dependency_count[0] as usize;
+    let n = stop_total(drones, stop_counts);
+    let before = remaining_cost(owners, starts, lasts, drones, n, from, into, count, visited);
+    exchange_all(from, into, list);
+    if has_cycle(owners, starts, lasts, drones, n, from, into, count) {
+        return PreviewAllReply::Cycle;
+    }
+    let after = remaining_cost(owners, starts, lasts, drones, n, from, into, count, visited);
+    PreviewAllReply::Change(difference(after, before))
 }

@@ -9,10 +9,32 @@ pub enum TurnReply {
     Cycle,
 }
 
+pub enum TurnAllReply {
+    Turned,
+    TablesTooSmall,
+    NotSound,
+    NotRising,
+    NoDependency,
+    Fixed,
+    FirstEntered,
+    Cycle,
+}
+
 pub enum PreviewReply {
     Change(i32),
     TablesTooSmall,
     NotSound,
+    NoDependency,
+    Fixed,
+    FirstEntered,
+    Cycle,
+}
+
+pub enum PreviewAllReply {
+    Change(i32),
+    TablesTooSmall,
+    NotSound,
+    NotRising,
     NoDependency,
     Fixed,
     FirstEntered,

@@ -1,5 +1,10 @@
-// Turn on tables that are of full size and sound.
+// Turn, of one dependency and of a list at once, on tables that are of full size and sound.
 use crate::exchanging::exchange;
+use crate::groups::exchange_all;
+use crate::groups::flip_all;
+use crate::groups::is_group;
+use crate::groups::list_test;
+use crate::turn_replies::TurnAllReply;
 use crate::turn_replies::TurnReply;
 use crate::turn_tests::TurnTest;
 use crate::turn_tests::turn_test;
@@ -12,10 +17,10 @@ use tables::flags::flipped;
 ghost use Rattle.tables.specs.Limits.{limits};
 ghost use Rattle.tables.specs.Tables.{tablesOf};
 ghost use Rattle.sound.specs.Asked.{InForce};
-ghost use Rattle.log.specs.CallLog.{turn};
+ghost use Rattle.log.specs.CallLog.{turn, turnAll};
 ghost use Rattle.log.specs.Calls.{step, Answered};
 ghost use Rattle.log.specs.Claims.{Usable};
-ghost use Rattle.flat.specs.TurnReplies.{turnMeant};
+ghost use Rattle.flat.specs.TurnReplies.{turnMeant, turnAllMeant};
 
 // "flips bit 0 of one dependency", where the graph, which is in the last five tables, has no cycle with it.
 pub fn turn_sound(
@@ -97,4 +102,89 @@ pub fn turn_sound(
     }
     flags[dependency] = flipped(flags[dependency]);
     TurnReply::Turned
+}
+
+// "a turn of a list of dependencies, all at once", where the graph, which is in the last five tables, has no cycle with all of them turned.
+pub fn turn_all_sound(
+    drone_count: &[u16],
+    dependency_count: &[u16],
+    names: &[u8],
+    stop_counts: &[u16],
+    locations: &[u16],
+    times: &[u32],
+    visited: &[u16],
+    drone_flags: &[u8],
+    first_drones: &[u8],
+    first_stops: &[u16],
+    second_drones: &[u8],
+    second_stops: &[u16],
+    flags: &mut [u8],
+    list: &[u16],
+    owners: &[u8; Stop::FULL],
+    starts: &[u16; Drone::FULL],
+    lasts: &[u16; Drone::FULL],
+    from: &mut [u16; Dependency::FULL],
+    into: &mut [u16; Dependency::FULL],
+) -> TurnAllReply
+    requires { ⌜
+        Usable limits (tablesOf
+        (now «drone_count») (now «dependency_count») (now names) (now «stop_counts»)
+        (now locations) (now times) (now visited) (now «drone_flags»)
+        (now «first_drones») (now «first_stops») (now «second_drones») (now «second_stops»)
+        (now flags))
+        × InForce (tablesOf
+        (now «drone_count») (now «dependency_count») (now names) (now «stop_counts»)
+        (now locations) (now times) (now visited) (now «drone_flags»)
+        (now «first_drones») (now «first_stops») (now «second_drones») (now «second_stops»)
+        (now flags))
+        (now owners) (now starts) (now lasts) (now from) (now into)
+        ⌝ }
+    ensures { λ r.
+        ⌜
+        Answered (step limits) (tablesOf
+        (now («drone_count» .entry)) (now («dependency_count» .entry)) (now (names .entry)) (now («stop_counts» .entry))
+        (now (locations .entry)) (now (times .entry)) (now (visited .entry)) (now («drone_flags» .entry))
+        (now («first_drones» .entry)) (now («first_stops» .entry)) (now («second_drones» .entry)) (now («second_stops» .entry))
+        (now (flags .entry)))
+        (turnAll (now (list .entry))) (turnAllMeant r) (tablesOf
+        (now («drone_count» .entry)) (now («dependency_count» .entry)) (now (names .entry)) (now («stop_counts» .entry))
+        (now (locations .entry)) (now (times .entry)) (now (visited .entry)) (now («drone_flags» .entry))
+        (now («first_drones» .entry)) (now («first_stops» .entry)) (now («second_drones» .entry)) (now («second_stops» .entry))
+        (now (flags .exit)))
+        ⌝ }
+{
+    if !is_group(list) {
+        return TurnAllReply::NotRising;
+    }
+    let test = list_test(
+        drone_count,
+        dependency_count,
+        names,
+        stop_counts,
+        locations,
+        times,
+        visited,
+        drone_flags,
+        first_drones,
+        first_stops,
+        second_drones,
+        second_stops,
+        flags,
+        list,
+    );
+    match test {
+        TurnTest::NoDependency => return TurnAllReply::NoDependency,
+        TurnTest::Fixed => return TurnAllReply::Fixed,
+        TurnTest::FirstEntered => return TurnAllReply::FirstEntered,
+        TurnTest::Passes => {}
+    }
+    exchange_all(from, into, list);
+    let drones = drone_count[0] as usize;
+    let count = dependency_count[0] as usize;
+    let n = stop_total(drones, stop_counts);
+    if has_cycle(owners, starts, lasts, drones, n, from, into, count) {
+        return TurnAllReply::Cycle;
+    }
+    flip_all(flags, list);
+    TurnAllReply::Turned
 }

@@ -1,22 +1,25 @@
 -- Which reply a status gives, in plain terms: the table of refusals is read row by row, and each row's test is put into words. Assumes nothing.
-use mathlib.Core.Path.{_≡_, refl, sym, ap, _∙_}
+use mathlib.Core.Path.{_≡_, refl, sym, ap, _∙_, subst}
 use mathlib.Core.Logic.{_≢_, _↔_, _⊎_, inl, inr}
 use mathlib.Core.Bool.{Bool, true, false, _&&_}
 use mathlib.Core.List.{List, [], _∷_}
-use Prim.Native.Nat.{ℕ, suc, _≤_, _<_}
+use Prim.Native.Nat.{ℕ, zero, suc, _≤_, _<_}
 use native.Mathlib.Omega.{arith}
 use lib.Dec.{eqb, ltb, leb}
+use lib.ListN.{length}
 use borrow.Author.Tests.{ltb-true, ltb-false, leb-true, leb-false, eqb-false, ne-eqb, lt-ltb, le-ltb, le-leb, lt-leb, not-false}
-use Rattle.below.specs.Below.{First}
+use Rattle.below.specs.Below.{First, at, isIn}
+use Rattle.below.proofs.Members.{in-head, in-tail, each-more}
 use Rattle.below.proofs.Tests.{by-cases, true-or-false, or-left, or-right}
 use Rattle.below.proofs.Search.{firstBelow-first, first-is}
 use Rattle.below.proofs.Every.{allBelow-at}
 use Rattle.precedence.specs.Graph.{blocks, free, cyclic}
 use Rattle.precedence.proofs.Rounds.{blocks-true, blocks-open, free-if, free-open, free-unfinished}
-use Rattle.plan.specs.Field.{FieldPlan, inForce, flip, graph, fixed}
+use Rattle.plan.specs.Field.{FieldPlan, inForce, flipAll, graph, fixed}
 use Rattle.plan.specs.Status.{Status, entered, unmet, now, waitsKept}
-use Rattle.log.specs.CallLog.{grant, arrive, turn, Reply, accepted, refused, mustWait, number, isAccepted, Check, firstThatHolds, refusals, replyIn}
-use Rattle.log.specs.Claims.{IntoNext, Met, Waiting, MayGo, MustWait, MayArrive, Unentered, Turnable}
+use Rattle.log.specs.CallLog.{grant, arrive, turn, turnAll, Reply, accepted, refused, mustWait, number, isAccepted, Check, when, firstThatHolds, isGroup, walked, refusals, replyIn}
+use Rattle.log.specs.Claims.{IntoNext, Met, Waiting, MayGo, MustWait, MayArrive, Unentered, Turnable, Group, AllTurnable}
+use Rattle.log.proofs.Groups.{group-iff}
 
 -- ---- replies
 
@@ -209,34 +212,128 @@ module _ (F : FieldPlan) (s : Status) where
   pub passes : {w : ℕ} → Turnable F s w → Passes w
   passes {w} m = (lt-leb count w (m .exists), unfixed-is (m .not-first) (m .not-last), first-unentered (turned w) m)
 
-  pub turn-accepted : waitsKept F s ≡ true → (w : ℕ) → (replyIn F s (turn w) ≡ accepted) ↔ (Turnable F s w × (cyclic (graph F (flip turned w)) ≡ false))
+  -- ---- a list of dependencies, walked
+
+  -- a reply other than 30 to 32 comes from the rows after the walk, and each dependency of the list passed
+  walk-said : (ws : List ℕ) (after : List Check) (r : Reply) → 30 ≢ number r → 31 ≢ number r → 32 ≢ number r → Said (walked F s ws after) r → ((w : ℕ) → isIn w ws ≡ true → Passes w) × Said after r
+  unfolding isIn
+  walk-said [] after r x y z h = (λ w e. true-or-false e refl, h)
+  walk-said (w ∷ ws) after r x y z h =
+      let (a, h) = further h x in
+      let (b, h) = further h y in
+      let (c, h) = further h z in
+      let (each, h) = walk-said ws after r x y z h in
+      (each-more Passes w ws (a, b, c) each, h)
+
+  pub walk-passed : (ws : List ℕ) (after : List Check) → ((w : ℕ) → isIn w ws ≡ true → Passes w) → firstThatHolds (walked F s ws after) ≡ firstThatHolds after
+  walk-passed [] after h = refl
+  walk-passed (w ∷ ws) after h = let (a, b, c) = h w (in-head w ws) in rw (a, b, c) (walk-passed ws after (λ v e. h v (in-tail v w ws e)))
+
+  -- 34's row
+  abbrev pub cycleRow : List ℕ → List Check
+  cycleRow ws = when (cyclic (graph F (flipAll turned ws))) (refused 34) ∷ []
+
+  group-said : waitsKept F s ≡ true → (ws : List ℕ) (r : Reply) → 36 ≢ number r → 30 ≢ number r → 31 ≢ number r → 32 ≢ number r → replyIn F s (turnAll ws) ≡ r → Group ws × (AllTurnable F s ws × Said (cycleRow ws) r)
   unfolding replyIn
-  turn-accepted k w = (to, from)
-    where
-      to : firstThatHolds (refusals F s (turn w)) ≡ accepted → Turnable F s w × (cyclic (graph F (flip turned w)) ≡ false)
-      to e =
-          let (a, r) = further (said (refusals F s (turn w)) accepted e) (omega arith) in
-          let (b, r) = further r (omega arith) in
-          let (c, r) = further r (omega arith) in
-          let (f, r) = further r (omega arith) in
-          (turnable k (a, b, c), f)
+  group-said k ws r n x y z e =
+      let (a, h) = further (said (refusals F s (turnAll ws)) r e) n in
+      let (each, h) = walk-said ws (cycleRow ws) r x y z h in
+      (group-iff ws .0 (not-false (isGroup ws) a), (λ w i. turnable k (each w i), h))
 
-      from : Turnable F s w × (cyclic (graph F (flip turned w)) ≡ false) → firstThatHolds (refusals F s (turn w)) ≡ accepted
-      from (m, f) = let (a, b, c) = passes m in rw (a, b, c, f) refl
-
-  pub turn-cycle : waitsKept F s ≡ true → (w : ℕ) → (replyIn F s (turn w) ≡ refused 34) ↔ (Turnable F s w × (cyclic (graph F (flip turned w)) ≡ true))
+  group-from : (ws : List ℕ) → Group ws → AllTurnable F s ws → replyIn F s (turnAll ws) ≡ firstThatHolds (cycleRow ws)
   unfolding replyIn
-  turn-cycle k w = (to, from)
-    where
-      to : firstThatHolds (refusals F s (turn w)) ≡ refused 34 → Turnable F s w × (cyclic (graph F (flip turned w)) ≡ true)
-      to e =
-          let (a, r) = further (said (refusals F s (turn w)) (refused 34) e) (omega arith) in
-          let (b, r) = further r (omega arith) in
-          let (c, r) = further r (omega arith) in
-          elim r [ inl (f, q) ↦ (turnable k (a, b, c), f) | inr (f, q) ↦ differ q (omega arith) ]
+  group-from ws g m = rw (group-iff ws .1 g) (walk-passed ws (cycleRow ws) (λ w i. passes (m w i)))
 
-      from : Turnable F s w × (cyclic (graph F (flip turned w)) ≡ true) → firstThatHolds (refusals F s (turn w)) ≡ refused 34
-      from (m, f) = let (a, b, c) = passes m in rw (a, b, c, f) refl
+  pub group-accepted : waitsKept F s ≡ true → (ws : List ℕ) → (replyIn F s (turnAll ws) ≡ accepted) ↔ (Group ws × (AllTurnable F s ws × (cyclic (graph F (flipAll turned ws)) ≡ false)))
+  group-accepted k ws = (
+    λ e. let (g, x) = group-said k ws accepted (omega arith) (omega arith) (omega arith) (omega arith) e in (g, (x .0, further (x .1) (omega arith) .0)),
+    λ (g, x). group-from ws g (x .0) ∙ rw (x .1) refl,
+  )
+
+  pub group-cycle : waitsKept F s ≡ true → (ws : List ℕ) → (replyIn F s (turnAll ws) ≡ refused 34) ↔ (Group ws × (AllTurnable F s ws × (cyclic (graph F (flipAll turned ws)) ≡ true)))
+  group-cycle k ws = (
+    λ e. let (g, x) = group-said k ws (refused 34) (omega arith) (omega arith) (omega arith) (omega arith) e in (g, (x .0, elim (x .1) [ inl (f, q) ↦ f | inr (f, q) ↦ differ q (omega arith) ])),
+    λ (g, x). group-from ws g (x .0) ∙ rw (x .1) refl,
+  )
+
+  -- every row after 36's has another number
+  walk-other : (ws : List ℕ) (after : List Check) (n : ℕ) → n ≢ 30 → n ≢ 31 → n ≢ 32 → number (firstThatHolds after) ≢ n → number (firstThatHolds (walked F s ws after)) ≢ n
+  walk-other [] after n x y z h = h
+  walk-other (w ∷ ws) after n x y z h = go (leb count w) (fixed F w) (entered F s (now F s w .first) (now F s w .firstStop)) (walk-other ws after n x y z h)
+    where
+      go : (a b c : Bool) → number (firstThatHolds (walked F s ws after)) ≢ n → number (firstThatHolds (when a (refused 30) ∷ when b (refused 31) ∷ when c (refused 32) ∷ walked F s ws after)) ≢ n
+      go true b c k = λ e. omega arith
+      go false true c k = λ e. omega arith
+      go false false true k = λ e. omega arith
+      go false false false k = k
+
+  pub no-group : (ws : List ℕ) → (replyIn F s (turnAll ws) ≡ refused 36) ↔ (Group ws → ⊥)
+  unfolding replyIn
+  no-group ws = (
+    λ e g. walk-other ws (cycleRow ws) 36 (omega arith) (omega arith) (omega arith) (last-row (cyclic (graph F (flipAll turned ws)))) (ap number (rw (group-iff ws .1 g) at e)),
+    λ n. by-cases (isGroup ws) (λ q. absurd (n (group-iff ws .0 q))) (λ q. rw q refl),
+  )
+    where
+      last-row : (b : Bool) → number (firstThatHolds (when b (refused 34) ∷ [])) ≢ 36
+      last-row true = omega arith
+      last-row false = omega arith
+
+  -- which of 30 to 32 is said: that of the first dependency of the list that does not pass, whatever rows come after
+  pub record FirstStopped (ws : List ℕ) (n : ℕ) : Type 0 where
+    pub index : ℕ
+    pub index-in : index < length ws
+    pub stops : (rest : List Check) → firstThatHolds (walked F s (at ws index ∷ []) rest) ≡ refused n
+    pub passed-before : (j : ℕ) → j < index → Passes (at ws j)
+
+  pub walk-first : (ws : List ℕ) (after : List Check) (n : ℕ) → number (firstThatHolds after) ≢ n → firstThatHolds (walked F s ws after) ≡ refused n → FirstStopped ws n
+  walk-first [] after n h e = absurd (h (ap number e))
+  walk-first (w ∷ ws) after n h e = go (leb count w) refl (fixed F w) refl (entered F s (now F s w .first) (now F s w .firstStop)) refl e (walk-first ws after n h)
+    where
+      here : ((rest : List Check) → firstThatHolds (walked F s (w ∷ []) rest) ≡ refused n) → FirstStopped (w ∷ ws) n
+      here stops = record { index = 0; index-in = omega arith; stops = stops; passed-before = λ j l. absurd (omega arith) }
+
+      before : Passes w → (i : ℕ) → ((j : ℕ) → j < i → Passes (at ws j)) → (j : ℕ) → j < suc i → Passes (at (w ∷ ws) j)
+      before p i g zero l = p
+      before p i g (suc j) l = g j (omega arith)
+
+      go : (a : Bool) → leb count w ≡ a → (b : Bool) → fixed F w ≡ b → (c : Bool) → entered F s (now F s w .first) (now F s w .firstStop) ≡ c → firstThatHolds (when a (refused 30) ∷ when b (refused 31) ∷ when c (refused 32) ∷ walked F s ws after) ≡ refused n → (firstThatHolds (walked F s ws after) ≡ refused n → FirstStopped ws n) → FirstStopped (w ∷ ws) n
+      go true p b q c r e k = here (λ rest. rw p e)
+      go false p true q c r e k = here (λ rest. rw (p, q) e)
+      go false p false q true r e k = here (λ rest. rw (p, q, r) e)
+      go false p false q false r e k = let f = k e in record { index = suc (f .index); index-in = omega (arith, f .index-in); stops = f .stops; passed-before = before (p, q, r) (f .index) (f .passed-before) }
+
+  cycle-other : (ws : List ℕ) (n : ℕ) → 30 ≤ n → n ≤ 32 → number (firstThatHolds (cycleRow ws)) ≢ n
+  cycle-other ws n x y = go (cyclic (graph F (flipAll turned ws)))
+    where
+      go : (b : Bool) → number (firstThatHolds (when b (refused 34) ∷ [])) ≢ n
+      go true = λ e. omega arith
+      go false = λ e. omega arith
+
+  pub group-stopped : (ws : List ℕ) (n : ℕ) → 30 ≤ n → n ≤ 32 → replyIn F s (turnAll ws) ≡ refused n → Group ws × FirstStopped ws n
+  unfolding replyIn
+  group-stopped ws n x y e = by-cases (isGroup ws)
+      (λ g. (group-iff ws .0 g, walk-first ws (cycleRow ws) n (cycle-other ws n x y) (rw g at e)))
+      (λ g. absurd (let q : _≡_ {A = ℕ} 36 n = ap number (rw g at e) in omega arith))
+
+  -- ---- one turn is the list of length one
+
+  pub one-stopped : (w n : ℕ) → 30 ≤ n → n ≤ 32 → replyIn F s (turn w) ≡ refused n → (rest : List Check) → firstThatHolds (walked F s (w ∷ []) rest) ≡ refused n
+  unfolding replyIn
+  one-stopped w n x y e rest =
+      let f = walk-first (w ∷ []) (cycleRow (w ∷ [])) n (cycle-other (w ∷ []) n x y) e in
+      let first : f .index ≡ 0 = omega (arith, f .index-in) in
+      subst (λ (i : ℕ). firstThatHolds (walked F s (at (w ∷ []) i ∷ []) rest) ≡ refused n) first (f .stops rest)
+
+  pub one-reply : (w : ℕ) → replyIn F s (turn w) ≡ replyIn F s (turnAll (w ∷ []))
+  unfolding replyIn isIn
+  one-reply w = refl
+
+  pub one-group : (w : ℕ) → Group (w ∷ [])
+  one-group w = group-iff (w ∷ []) .0 refl
+
+  pub one-turnable : (w : ℕ) → AllTurnable F s (w ∷ []) ↔ Turnable F s w
+  unfolding isIn
+  one-turnable w = (λ m. m w (in-head w []), λ m. each-more (Turnable F s) w [] m (λ v e. true-or-false e refl))
 
   -- ---- what an accepted call passed
 
@@ -246,5 +343,5 @@ module _ (F : FieldPlan) (s : Status) where
   pub arrive-passed : (d : ℕ) → isAccepted (replyIn F s (arrive d)) ≡ true → MayArrive F s d
   arrive-passed d e = arrive-accepted d .0 (is-accepted _ e)
 
-  pub turn-passed : waitsKept F s ≡ true → (w : ℕ) → isAccepted (replyIn F s (turn w)) ≡ true → Turnable F s w × (cyclic (graph F (flip turned w)) ≡ false)
-  turn-passed k w e = turn-accepted k w .0 (is-accepted _ e)
+  pub group-passed : waitsKept F s ≡ true → (ws : List ℕ) → isAccepted (replyIn F s (turnAll ws)) ≡ true → Group ws × (AllTurnable F s ws × (cyclic (graph F (flipAll turned ws)) ≡ false))
+  group-passed k ws e = group-accepted k ws .0 (is-accepted _ e)

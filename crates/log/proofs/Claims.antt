@@ -1,6 +1,6 @@
 -- Demand 2, its parts gathered. Assumes nothing.
 use Rattle.log.specs.Claims.{Demand2}
-use Rattle.log.proofs.Exactly.{granted-exactly, waits-exactly, arrived-exactly, second-after-first, turned-exactly, cycle-exactly}
+use Rattle.log.proofs.Exactly.{granted-exactly, waits-exactly, arrived-exactly, second-after-first, turned-exactly, cycle-exactly, group-exactly, group-cycle-exactly, no-group-exactly, walked-exactly, turn-is-group, log-turn-is-group}
 use Rattle.log.proofs.SoundKept.{stays-usable}
 use Rattle.log.proofs.Costs.{cost-means, cost-bounded, cost-limit}
 
@@ -12,6 +12,12 @@ demand2 = record {
   second-after-first = second-after-first;
   turned-exactly = turned-exactly;
   cycle-exactly = cycle-exactly;
+  group-exactly = group-exactly;
+  group-cycle-exactly = group-cycle-exactly;
+  no-group-exactly = no-group-exactly;
+  walked-exactly = walked-exactly;
+  turn-is-group = turn-is-group;
+  log-turn-is-group = log-turn-is-group;
   stays-usable = stays-usable;
   cost-means = cost-means;
   cost-bounded = cost-bounded;

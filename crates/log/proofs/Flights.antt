@@ -1,6 +1,6 @@
 -- The flights, computed. Assumes nothing.
 use mathlib.Core.Path.{refl}
-use Rattle.below.specs.Below.{firstBelow, allBelow, countBelow, sumBelow, listBelow, picks, rowsBelow}
+use Rattle.below.specs.Below.{firstBelow, allBelow, countBelow, sumBelow, listBelow, picks, rowsBelow, isIn}
 use Rattle.tables.specs.Tables.{fullSize}
 use Rattle.tables.specs.Flags.{turnedBit, flipBit, underWayBit, onlyOneBit, setUnderWay, clearUnderWay}
 use Rattle.lines.specs.Names.{isNameByte}
@@ -11,10 +11,10 @@ use Rattle.plan.specs.Dependencies.{follows, isLast, isFixed, flagOf}
 use Rattle.plan.specs.Status.{fixedUnturned, withinStops, waitsKept}
 use Rattle.sound.specs.Sound.{zeroFrom, nameLength, nameSound, sameName, namesDiffer, inRange, namesSound, checked, planAccepted, dependenciesSound, planUnused, flagsSound, droneFlagsSound, progressUnused, sound}
 use Rattle.log.specs.CallLog.{replyIn, acceptedCalls}
-use Rattle.log.specs.Calls.{replyOf, grantStep, arriveStep, turnStep, costReply}
-use Rattle.log.specs.Preview.{preview}
+use Rattle.log.specs.Calls.{flipFlags, replyOf, grantStep, arriveStep, turnStep, turnAllStep, costReply}
+use Rattle.log.specs.Preview.{preview, previewAll}
 use Rattle.log.specs.Flights.{follow, holds, allHold, FlightsHold}
 
 pub flights-hold : FlightsHold
-unfolding allHold holds follow replyOf grantStep arriveStep turnStep costReply preview replyIn acceptedCalls sound zeroFrom nameLength nameSound sameName namesDiffer inRange namesSound checked planAccepted dependenciesSound planUnused flagsSound droneFlagsSound progressUnused fixedUnturned withinStops waitsKept follows isLast isFixed flagOf faultAt firstFault over collide collider apart start owner number blocks free round play finished unvisited reached remaining cost cyclic isNameByte turnedBit flipBit underWayBit onlyOneBit setUnderWay clearUnderWay fullSize firstBelow allBelow countBelow sumBelow listBelow picks rowsBelow
+unfolding allHold holds follow replyOf flipFlags isIn grantStep arriveStep turnStep turnAllStep costReply preview previewAll replyIn acceptedCalls sound zeroFrom nameLength nameSound sameName namesDiffer inRange namesSound checked planAccepted dependenciesSound planUnused flagsSound droneFlagsSound progressUnused fixedUnturned withinStops waitsKept follows isLast isFixed flagOf faultAt firstFault over collide collider apart start owner number blocks free round play finished unvisited reached remaining cost cyclic isNameByte turnedBit flipBit underWayBit onlyOneBit setUnderWay clearUnderWay fullSize firstBelow allBelow countBelow sumBelow listBelow picks rowsBelow
 flights-hold = refl

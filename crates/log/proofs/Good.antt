@@ -2,6 +2,7 @@
 -- changes one of the three at one index. Assumes nothing.
 use mathlib.Core.Path.{_≡_, refl, sym, ap, _∙_}
 use mathlib.Core.Bool.{Bool, true, false, not, _&&_, _||_}
+use mathlib.Core.List.{List}
 use Prim.Native.Nat.{ℕ, suc, _≤_, _<_}
 use native.Mathlib.Omega.{arith}
 use lib.Dec.{eqb, ltb, leb}
@@ -10,12 +11,12 @@ use Rattle.below.proofs.Index.{put-elim}
 use Rattle.below.proofs.Tests.{by-cases, true-or-false, and-left, and-right, and-both}
 use Rattle.below.proofs.Every.{allBelow-all}
 use Rattle.below.specs.Below.{put}
-use Rattle.log.specs.Claims.{MayGo, MayArrive, Unentered, Turnable}
+use Rattle.log.specs.Claims.{MayGo, MayArrive, Unentered, Turnable, AllTurnable}
 use Rattle.log.proofs.Checks.{unfixed-is, go-free}
 use Rattle.log.proofs.Running.{Running, grant-running, arrive-running}
-use Rattle.plan.specs.Field.{FieldPlan, inForce, waitOf, flip, graph, fixed, AcceptedPlan}
+use Rattle.plan.specs.Field.{FieldPlan, inForce, waitOf, flipAll, graph, fixed, AcceptedPlan}
 use Rattle.plan.specs.Claims.{unturned, Unfixed}
-use Rattle.plan.proofs.Turns.{flip-elim, graph-formed, none-unfixed, planned-acyclic}
+use Rattle.plan.proofs.Turns.{flipAll-elim, graph-formed, none-unfixed, planned-acyclic}
 use Rattle.plan.specs.Status.{Status, entered, fixedUnturned, withinStops, waitsKept}
 use Rattle.precedence.specs.Graph.{cyclic}
 
@@ -64,22 +65,23 @@ module _ (F : FieldPlan) where
       (λ u. omega (arith, ahead u, g .running .ahead d))
       (λ u. omega (arith, ltb-false (p d) (e d) u))
 
-  pub good-turn : (p e : ℕ → ℕ) (t : ℕ → Bool) → Good p e t → (w : ℕ) → Turnable F (statusBy p e t) w → cyclic (graph F (flip t w)) ≡ false → Good p e (flip t w)
-  good-turn p e t g w c no-cycle = record {
+  -- nobody has entered the stops of a dependency that may be turned, so nothing is asked of it
+  nothing-asked : (p e : ℕ → ℕ) (t : ℕ → Bool) → Good p e t → (w : ℕ) → Turnable F (statusBy p e t) w → (b : Bool) → w < count → waitOf (inForce b (dependency w)) .stop ≤ e (waitOf (inForce b (dependency w)) .waiter) → waitOf (inForce b (dependency w)) .until ≤ p (waitOf (inForce b (dependency w)) .awaited)
+  nothing-asked p e t g w c false l h = absurd (omega (arith, not-entered p e t g (dependency w .second) (dependency w .secondStop) (c .second-before)))
+  nothing-asked p e t g w c true l h = absurd (omega (arith, not-entered p e t g (dependency w .first) (dependency w .firstStop) (c .first-before)))
+
+  -- any list of dependencies none of which is fixed or entered, turned at once
+  pub good-turns : (p e : ℕ → ℕ) (t : ℕ → Bool) → Good p e t → (ws : List ℕ) → AllTurnable F (statusBy p e t) ws → cyclic (graph F (flipAll t ws)) ≡ false → Good p e (flipAll t ws)
+  good-turns p e t g ws c no-cycle = record {
     running = record {
       behind = g .running .behind;
       ahead = g .running .ahead;
-      over = flip-elim (λ v b. v < count → waitOf (inForce b (dependency v)) .stop ≤ e (waitOf (inForce b (dependency v)) .waiter) → waitOf (inForce b (dependency v)) .until ≤ p (waitOf (inForce b (dependency v)) .awaited)) t w unentered (λ v. g .running .over v);
+      over = flipAll-elim (λ v b. v < count → waitOf (inForce b (dependency v)) .stop ≤ e (waitOf (inForce b (dependency v)) .waiter) → waitOf (inForce b (dependency v)) .until ≤ p (waitOf (inForce b (dependency v)) .awaited)) t ws (λ w i. nothing-asked p e t g w (c w i)) (λ v. g .running .over v);
     };
     within = g .within;
-    unfixed = flip-elim (λ v b. v < count → b ≡ true → fixed F v ≡ false) t w (λ b l u. unfixed-is F (statusBy p e t) (c .not-first) (c .not-last)) (λ v. g .unfixed v);
+    unfixed = flipAll-elim (λ v b. v < count → b ≡ true → fixed F v ≡ false) t ws (λ w i b l u. unfixed-is F (statusBy p e t) (c w i .not-first) (c w i .not-last)) (λ v. g .unfixed v);
     acyclic = no-cycle;
   }
-    where
-      -- nobody has entered the stops of a dependency that may be turned, so nothing is asked of it
-      unentered : (b : Bool) → w < count → waitOf (inForce b (dependency w)) .stop ≤ e (waitOf (inForce b (dependency w)) .waiter) → waitOf (inForce b (dependency w)) .until ≤ p (waitOf (inForce b (dependency w)) .awaited)
-      unentered false l h = absurd (omega (arith, not-entered p e t g (dependency w .second) (dependency w .secondStop) (c .second-before)))
-      unentered true l h = absurd (omega (arith, not-entered p e t g (dependency w .first) (dependency w .firstStop) (c .first-before)))
 
 -- ---- progress by counts is sound
 

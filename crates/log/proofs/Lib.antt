@@ -1,10 +1,12 @@
 pub mod Counts
+pub mod Groups
 pub mod Checks
 pub mod Running
 pub mod Good
 pub mod Log
 pub mod Found
 pub mod SoundParts
+pub mod FlipLaws
 pub mod SameStatus
 pub mod Shown
 pub mod Whole
@@ -15,6 +17,7 @@ pub mod Costs
 pub mod Claims
 pub mod Meaning
 pub mod Preview
+pub mod TurnSteps
 pub mod Flights
 pub mod Read
 pub mod Wrong

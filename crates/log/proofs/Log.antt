@@ -1,5 +1,5 @@
 -- The invariant of the log: what every list of calls keeps, by counts of accepted calls. Assumes nothing.
-use mathlib.Core.Path.{_≡_, sym, ap, _∙_, subst, fun-ext}
+use mathlib.Core.Path.{_≡_, refl, sym, ap, _∙_, subst, fun-ext}
 use mathlib.Core.Bool.{Bool, true, false}
 use mathlib.Core.List.{List, [], _∷_, _++_}
 use Prim.Native.Nat.{ℕ, suc}
@@ -7,13 +7,13 @@ use native.Mathlib.Omega.{arith}
 use lib.Dec.{eqb, ltb}
 use borrow.Author.Tests.{ltb-false, eqb-true}
 use Rattle.below.proofs.Tests.{by-cases}
-use Rattle.below.specs.Below.{pick, put}
-use Rattle.log.proofs.Checks.{grant-passed, arrive-passed, turn-passed}
+use Rattle.below.specs.Below.{pick, put, isIn}
+use Rattle.log.proofs.Checks.{grant-passed, arrive-passed, group-passed, one-reply}
 use Rattle.log.specs.Claims.{MayGo}
 use Rattle.log.proofs.Counts.{counted-more, isOdd-suc}
-use Rattle.log.proofs.Good.{Good, good-start, good-grant, good-arrive, good-turn, good-waits}
-use Rattle.log.specs.CallLog.{Call, grant, arrive, turn, Reply, isAccepted, Entry, entry, isGrant, isArrival, isTurn, acceptedCalls, isOdd, statusOf, replyBy, logFrom}
-use Rattle.plan.specs.Field.{FieldPlan, flip, AcceptedPlan}
+use Rattle.log.proofs.Good.{Good, good-start, good-grant, good-arrive, good-turns, good-waits}
+use Rattle.log.specs.CallLog.{Call, grant, arrive, turn, turnAll, Reply, isAccepted, Entry, entry, isGrant, isArrival, isTurn, acceptedCalls, isOdd, statusOf, replyBy, logFrom}
+use Rattle.plan.specs.Field.{FieldPlan, flipAll, AcceptedPlan}
 
 abbrev pub arrivals : List Entry → ℕ → ℕ
 arrivals log d = acceptedCalls (isArrival d) log
@@ -29,6 +29,19 @@ pub record Counts (log : List Entry) (p e : ℕ → ℕ) (t : ℕ → Bool) : Ty
   pub arrivals-are : (d : ℕ) → arrivals log d ≡ p d
   pub grants-are : (d : ℕ) → grants log d ≡ e d
   pub turns-are : (w : ℕ) → turns log w ≡ t w
+
+-- the call is a turn that names the dependencies of the list
+pub record Names (c : Call) (ws : List ℕ) : Type 0 where
+  pub no-arrival : (d : ℕ) → isArrival d c ≡ false
+  pub no-grant : (d : ℕ) → isGrant d c ≡ false
+  pub named : (v : ℕ) → isTurn v c ≡ isIn v ws
+
+pub names-one : (w : ℕ) → Names (turn w) (w ∷ [])
+unfolding isIn
+names-one w = record { no-arrival = λ d. refl; no-grant = λ d. refl; named = λ v. refl }
+
+pub names-list : (ws : List ℕ) → Names (turnAll ws) ws
+names-list ws = record { no-arrival = λ d. refl; no-grant = λ d. refl; named = λ v. refl }
 
 module _ (log : List Entry) (c : Call) (r : Reply) where
   more-no : isAccepted r ≡ false → (f : Call → Bool) → acceptedCalls f (log ++ (entry c r ∷ [])) ≡ acceptedCalls f log
@@ -55,11 +68,11 @@ module _ (log : List Entry) (r : Reply) where
     turns-are = λ w. ap isOdd (more-yes log (arrive d) r e (isTurn w));
   }
 
-  pub counts-turn : (w : ℕ) → isAccepted r ≡ true → Counts (log ++ (entry (turn w) r ∷ [])) (arrivals log) (grants log) (flip (turns log) w)
-  counts-turn w e = record {
-    arrivals-are = λ d. more-yes log (turn w) r e (isArrival d);
-    grants-are = λ d. more-yes log (turn w) r e (isGrant d);
-    turns-are = λ v. ap isOdd (more-yes log (turn w) r e (isTurn v)) ∙ by-cases (eqb v w) (λ q. rw q (isOdd-suc (acceptedCalls (isTurn v) log))) (λ q. rw q);
+  pub counts-turns : (c : Call) (ws : List ℕ) → Names c ws → isAccepted r ≡ true → Counts (log ++ (entry c r ∷ [])) (arrivals log) (grants log) (flipAll (turns log) ws)
+  counts-turns c ws n e = record {
+    arrivals-are = λ d. more-yes log c r e (isArrival d) ∙ rw (n .no-arrival d);
+    grants-are = λ d. more-yes log c r e (isGrant d) ∙ rw (n .no-grant d);
+    turns-are = λ v. ap isOdd (more-yes log c r e (isTurn v)) ∙ rw (n .named v) (by-cases (isIn v ws) (λ q. rw q (isOdd-suc (acceptedCalls (isTurn v) log))) (λ q. rw q));
   }
 
 module _ (F : FieldPlan) where
@@ -83,10 +96,14 @@ module _ (F : FieldPlan) where
   pub good-more : (log : List Entry) → GoodLog log → (c : Call) → GoodLog (log ++ (entry c (replyBy F log c) ∷ []))
   good-more log g c = by-cases (isAccepted (replyBy F log c)) (yes′ c) (λ e. good-counts _ _ _ _ (counts-refused log (replyBy F log c) c e) g)
     where
+      turns′ : (c : Call) (ws : List ℕ) → Names c ws → replyBy F log c ≡ replyBy F log (turnAll ws) → isAccepted (replyBy F log c) ≡ true → GoodLog (log ++ (entry c (replyBy F log c) ∷ []))
+      turns′ c ws n s e = let q = group-passed F (statusOf log) (good-waits F _ _ _ g) ws (ap isAccepted (sym s) ∙ e) in good-counts _ _ _ _ (counts-turns log _ c ws n e) (good-turns F _ _ _ g ws (q .1 .0) (q .1 .1))
+
       yes′ : (c : Call) → isAccepted (replyBy F log c) ≡ true → GoodLog (log ++ (entry c (replyBy F log c) ∷ []))
       yes′ (grant d) e = let q : MayGo F (statusOf log) d = grant-passed F (statusOf log) d e in good-counts _ _ _ _ (counts-grant log _ d e (idle-same log g d (q .waiting .idle))) (good-grant F _ _ _ g d q)
       yes′ (arrive d) e = good-counts _ _ _ _ (counts-arrive log _ d e) (good-arrive F _ _ _ g d (arrive-passed F (statusOf log) d e))
-      yes′ (turn w) e = let q = turn-passed F (statusOf log) (good-waits F _ _ _ g) w e in good-counts _ _ _ _ (counts-turn log _ w e) (good-turn F _ _ _ g w (q .0) (q .1))
+      yes′ (turn w) e = turns′ (turn w) (w ∷ []) (names-one w) (one-reply F (statusOf log) w) e
+      yes′ (turnAll ws) e = turns′ (turnAll ws) ws (names-list ws) refl e
 
   pub good-calls : (cs : List Call) (log : List Entry) → GoodLog log → GoodLog (logFrom F log cs)
   unfolding logFrom

@@ -8,7 +8,7 @@ use native.Mathlib.Omega.{arith}
 use lib.Dec.{eqb}
 use Rattle.plan.specs.Field.{FieldPlan}
 use Rattle.plan.specs.Status.{Status}
-use Rattle.log.specs.CallLog.{Call, grant, arrive, turn, Reply, accepted, refused, mustWait, number, Check, firstThatHolds, refusals, replyIn, Entry, entry, replyBy, logFrom}
+use Rattle.log.specs.CallLog.{Call, grant, arrive, turn, turnAll, Reply, accepted, refused, mustWait, number, Check, firstThatHolds, walked, refusals, replyIn, Entry, entry, replyBy, logFrom}
 use Rattle.log.proofs.Checks.{carried}
 
 -- ---- replies
@@ -31,17 +31,23 @@ abbrev pub replyRead : ℕ → ℕ → Reply
 replyRead n w = elim (eqb n 0) [ true ↦ accepted | false ↦ elim (eqb n 23) [ true ↦ mustWait w | false ↦ refused n ] ]
 
 module _ (F : FieldPlan) (s : Status) where
+  -- the rows of a list that is walked
+  walk-rows : (C : Reply → Type 0) → C (refused 30) → C (refused 31) → C (refused 32) → (ws : List ℕ) (after : List Check) → AllRows C after → AllRows C (walked F s ws after)
+  walk-rows C x y z [] after h = h
+  walk-rows C x y z (w ∷ ws) after h = (x, (y, (z, walk-rows C x y z ws after h)))
+
   -- no row says 40 or 41
-  pub never-40 : (c : Call) → number (replyIn F s c) < 35
+  pub never-40 : (c : Call) → number (replyIn F s c) < 37
   unfolding replyIn
-  never-40 (grant d) = of-rows (λ r. number r < 35) (refusals F s (grant d)) (omega arith, (omega arith, (omega arith, (omega arith, omega arith))))
-  never-40 (arrive d) = of-rows (λ r. number r < 35) (refusals F s (arrive d)) (omega arith, (omega arith, omega arith))
-  never-40 (turn w) = of-rows (λ r. number r < 35) (refusals F s (turn w)) (omega arith, (omega arith, (omega arith, (omega arith, omega arith))))
+  never-40 (grant d) = of-rows (λ r. number r < 37) (refusals F s (grant d)) (omega arith, (omega arith, (omega arith, (omega arith, omega arith))))
+  never-40 (arrive d) = of-rows (λ r. number r < 37) (refusals F s (arrive d)) (omega arith, (omega arith, omega arith))
+  never-40 (turn w) = of-rows (λ r. number r < 37) (refusals F s (turn w)) (omega arith, (omega arith, (omega arith, (omega arith, omega arith))))
+  never-40 (turnAll ws) = of-rows (λ r. number r < 37) (refusals F s (turnAll ws)) (omega arith, walk-rows (λ r. number r < 37) (omega arith) (omega arith) (omega arith) ws _ (omega arith, omega arith))
 
   -- nor does a turn say 23
-  pub turn-never-waits : (w : ℕ) → number (replyIn F s (turn w)) ≢ 23
+  pub group-never-waits : (ws : List ℕ) → number (replyIn F s (turnAll ws)) ≢ 23
   unfolding replyIn
-  turn-never-waits w = of-rows (λ r. number r ≢ 23) (refusals F s (turn w)) (omega arith, (omega arith, (omega arith, (omega arith, omega arith))))
+  group-never-waits ws = of-rows (λ r. number r ≢ 23) (refusals F s (turnAll ws)) (omega arith, walk-rows (λ r. number r ≢ 23) (omega arith) (omega arith) (omega arith) ws _ (omega arith, omega arith))
 
   -- a reply is known by its number and what it carries: numbers in a slice, or printed, are the replies
   pub read-back : (c : Call) → replyRead (number (replyIn F s c)) (carried (replyIn F s c)) ≡ replyIn F s c
@@ -49,6 +55,7 @@ module _ (F : FieldPlan) (s : Status) where
   read-back (grant d) = of-rows (λ r. replyRead (number r) (carried r) ≡ r) (refusals F s (grant d)) (refl, (refl, (refl, (refl, refl))))
   read-back (arrive d) = of-rows (λ r. replyRead (number r) (carried r) ≡ r) (refusals F s (arrive d)) (refl, (refl, refl))
   read-back (turn w) = of-rows (λ r. replyRead (number r) (carried r) ≡ r) (refusals F s (turn w)) (refl, (refl, (refl, (refl, refl))))
+  read-back (turnAll ws) = of-rows (λ r. replyRead (number r) (carried r) ≡ r) (refusals F s (turnAll ws)) (refl, walk-rows (λ r. replyRead (number r) (carried r) ≡ r) refl refl refl ws _ (refl, refl))
 
 -- ---- the list of the calls
 

@@ -2,6 +2,7 @@
 use mathlib.Core.Path.{_≡_, refl, sym, ap, subst}
 use mathlib.Core.Logic.{_≢_, _↔_}
 use mathlib.Core.Bool.{Bool, true, false, cond}
+use mathlib.Core.List.{List, [], _∷_}
 use Prim.Native.Nat.{ℕ, zero, suc, _-_, _*_, _≤_}
 use native.Mathlib.Omega.{arith}
 use lib.Dec.{ltb, le→leb}
@@ -14,15 +15,15 @@ use Rattle.tables.specs.Tables.{Tables, fullSize}
 use Rattle.sound.specs.Sound.{sound}
 use Rattle.plan.specs.Field.{planOf}
 use Rattle.plan.specs.Status.{statusIn}
-use Rattle.log.specs.CallLog.{Reply, accepted, refused, mustWait, number, isAccepted, Call, turn, replyIn}
-use Rattle.log.specs.Calls.{Answer, CostReply, costs, replyOf, costReply, turnStep, step, Answered}
+use Rattle.log.specs.CallLog.{Reply, accepted, refused, mustWait, number, isAccepted, Call, turn, turnAll, replyIn}
+use Rattle.log.specs.Calls.{Answer, CostReply, costs, replyOf, costReply, turnStep, turnAllStep, step, Answered}
 use Rattle.log.specs.Claims.{Usable}
-use Rattle.log.specs.Preview.{PreviewReply, wouldTurn, wouldRefuse, previewBy, previewOf, preview, RefusedAs, Change, DoneAs, Within, PreviewClaims}
-use Rattle.log.proofs.Exactly.{turned-exactly}
+use Rattle.log.specs.Preview.{PreviewReply, wouldTurn, wouldRefuse, previewBy, previewOf, preview, previewAll, RefusedAs, Change, DoneAs, Within, PreviewClaims}
+use Rattle.log.proofs.Exactly.{group-exactly, turn-is-group}
 use Rattle.log.proofs.SoundKept.{stays-usable}
 use Rattle.log.proofs.Steps.{cost-0}
 use Rattle.log.proofs.Costs.{cost-bounded, cost-limit}
-use Rattle.log.proofs.Meaning.{turn-never-waits}
+use Rattle.log.proofs.Meaning.{group-never-waits}
 
 -- ---- answers taken apart
 
@@ -107,38 +108,65 @@ module _ (L : Limits) (t : Tables) (c : Call) (t′ : Tables) where
   call-refused : (n : ℕ) → Answered (step L) t c (refused n) t′ → wouldRefuse n ≡ previewOf L t (step L t c)
   call-refused n h = rw (sym (h .replied)) refl
 
--- ---- the turn of one dependency
+-- ---- the turn of a list
 
-module _ (L : Limits) (t : Tables) (w : ℕ) where
-  never-23 : number (turnStep L t w .reply) ≢ 23
-  unfolding turnStep replyOf
-  never-23 = go (fullSize L t) (sound L t) (turn-never-waits (planOf (t .plan)) (statusIn t) w)
+module _ (L : Limits) (t : Tables) (ws : List ℕ) where
+  never-23 : number (turnAllStep L t ws .reply) ≢ 23
+  unfolding turnAllStep replyOf
+  never-23 = go (fullSize L t) (sound L t) (group-never-waits (planOf (t .plan)) (statusIn t) ws)
     where
-      go : (a b : Bool) → number (replyIn (planOf (t .plan)) (statusIn t) (turn w)) ≢ 23 → number (cond a (cond b (replyIn (planOf (t .plan)) (statusIn t) (turn w)) (refused 40)) (refused 41)) ≢ 23
+      go : (a b : Bool) → number (replyIn (planOf (t .plan)) (statusIn t) (turnAll ws)) ≢ 23 → number (cond a (cond b (replyIn (planOf (t .plan)) (statusIn t) (turnAll ws)) (refused 40)) (refused 41)) ≢ 23
       go true true h = h
       go true false h = omega arith
       go false b h = omega arith
 
-  turning : Turning L t (turnStep L t w)
+  turning : Turning L t (turnAllStep L t ws)
   turning = record {
     never-waits = never-23;
     known = λ a.
-        let u : Usable L t = turned-exactly L t w .0 a .0 in
-        let u′ : Usable L (turnStep L t w .tables) = stays-usable L t u (turn w) in
-        (_, _, cost-0 L (turnStep L t w .tables) (u′ .0) (u′ .1), cost-0 L t (u .0) (u .1));
+        let u : Usable L t = group-exactly L t ws .0 a .0 in
+        let u′ : Usable L (turnAllStep L t ws .tables) = stays-usable L t u (turnAll ws) in
+        (_, _, cost-0 L (turnAllStep L t ws .tables) (u′ .0) (u′ .1), cost-0 L t (u .0) (u .1));
   }
 
+  pub previewAll-refused : RefusedAs (previewAll L t ws) (turnAllStep L t ws)
+  unfolding previewAll
+  previewAll-refused = refused-as L t (turnAllStep L t ws) turning
+
+  pub previewAll-done : DoneAs L t (previewAll L t ws) (turnAllStep L t ws)
+  unfolding previewAll
+  previewAll-done = done-as L t (turnAllStep L t ws) turning
+
+  previewAll-within : (n : ℕ) → ((t : Tables) (c : ℕ) → costReply L t ≡ costs c → c ≤ n) → Within n (previewAll L t ws)
+  unfolding previewAll
+  previewAll-within = within L t (turnAllStep L t ws) turning
+
+  pub previewAll-turned : (t′ : Tables) (a b : ℕ) → Answered (step L) t (turnAll ws) accepted t′ → costs a ≡ costReply L t′ → costs b ≡ costReply L t → wouldTurn (subℕ a b) ≡ previewAll L t ws
+  unfolding previewAll
+  previewAll-turned = call-turned L t (turnAll ws)
+
+  pub previewAll-refusal : (t′ : Tables) (n : ℕ) → Answered (step L) t (turnAll ws) (refused n) t′ → wouldRefuse n ≡ previewAll L t ws
+  unfolding previewAll
+  previewAll-refusal = call-refused L t (turnAll ws)
+
+previewAll-bounded : (L : Limits) (t : Tables) (ws : List ℕ) → 2 * L .drones ≤ L .stops → Within (L .drones * (L .stops - L .drones)) (previewAll L t ws)
+previewAll-bounded L t ws h = previewAll-within L t ws (L .drones * (L .stops - L .drones)) (λ t c q. cost-bounded L t c h q)
+
+previewAll-limit : (t : Tables) (ws : List ℕ) → Within 31744 (previewAll limits t ws)
+previewAll-limit t ws = previewAll-within limits t ws 31744 cost-limit
+
+-- ---- one turn is the list of length one
+
+pub preview-is-group : (L : Limits) (t : Tables) (w : ℕ) → preview L t w ≡ previewAll L t (w ∷ [])
+unfolding preview previewAll
+preview-is-group L t w = ap (previewOf L t) (turn-is-group L t w)
+
+module _ (L : Limits) (t : Tables) (w : ℕ) where
   pub preview-refused : RefusedAs (preview L t w) (turnStep L t w)
-  unfolding preview
-  preview-refused = refused-as L t (turnStep L t w) turning
+  preview-refused = rw (preview-is-group L t w, turn-is-group L t w) (previewAll-refused L t (w ∷ []))
 
   pub preview-done : DoneAs L t (preview L t w) (turnStep L t w)
-  unfolding preview
-  preview-done = done-as L t (turnStep L t w) turning
-
-  preview-within : (n : ℕ) → ((t : Tables) (c : ℕ) → costReply L t ≡ costs c → c ≤ n) → Within n (preview L t w)
-  unfolding preview
-  preview-within = within L t (turnStep L t w) turning
+  preview-done = rw (preview-is-group L t w, turn-is-group L t w) (previewAll-done L t (w ∷ []))
 
   pub preview-turned : (t′ : Tables) (a b : ℕ) → Answered (step L) t (turn w) accepted t′ → costs a ≡ costReply L t′ → costs b ≡ costReply L t → wouldTurn (subℕ a b) ≡ preview L t w
   unfolding preview
@@ -152,6 +180,11 @@ pub preview-claims : PreviewClaims
 preview-claims = record {
   preview-refused = preview-refused;
   preview-done = preview-done;
-  preview-bounded = λ L t w h. preview-within L t w (L .drones * (L .stops - L .drones)) (λ t c q. cost-bounded L t c h q);
-  preview-limit = λ t w. preview-within limits t w 31744 cost-limit;
+  preview-bounded = λ L t w h. rw (preview-is-group L t w) (previewAll-bounded L t (w ∷ []) h);
+  preview-limit = λ t w. rw (preview-is-group limits t w) (previewAll-limit t (w ∷ []));
+  previewAll-refused = previewAll-refused;
+  previewAll-done = previewAll-done;
+  previewAll-bounded = previewAll-bounded;
+  previewAll-limit = previewAll-limit;
+  preview-is-group = preview-is-group;
 }

@@ -1,7 +1,7 @@
 -- "As an accepted reading left them" as a test that computes, for flights. Assumes nothing.
 use mathlib.Core.Path.{_≡_, refl, _∙_}
-use mathlib.Core.Bool.{Bool, true, false, cond, _&&_}
-use Prim.Native.Nat.{ℕ, _≤_, _<_}
+use mathlib.Core.Bool.{Bool, true, cond, _&&_}
+use Prim.Native.Nat.{ℕ, _<_}
 use native.Mathlib.Omega.{arith}
 use lib.Dec.{ltb, eqb}
 use borrow.Author.Tests.{eqb-true, lt-ltb, le-ltb}
@@ -14,7 +14,7 @@ use Rattle.tables.specs.Flags.{fixedFlag}
 use Rattle.plan.specs.Field.{planOf, fixed}
 use Rattle.sound.specs.Sound.{sound}
 use Rattle.log.specs.Calls.{AsRead}
-use Rattle.sound.proofs.Clauses.{Sound, sound-says}
+use Rattle.sound.proofs.Clauses.{sound-says}
 use Rattle.log.proofs.SoundParts.{dependencies-in}
 
 module _ (L : Limits) (t : Tables) where

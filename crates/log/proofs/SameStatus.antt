@@ -1,17 +1,19 @@
 -- Statuses that agree on the plan's drones and dependencies get the same replies and are sound together: neither looks at anything else. Assumes nothing.
-use mathlib.Core.Path.{_≡_, refl, ap, ap₂, _∙_, fun-ext}
+use mathlib.Core.Path.{_≡_, refl, sym, ap, ap₂, _∙_, fun-ext}
 use mathlib.Core.Bool.{Bool, true, false, not, cond, _&&_, _||_}
+use mathlib.Core.List.{List, [], _∷_}
 use Prim.Native.Nat.{ℕ, zero, suc, _-_, _<_}
 use lib.Dec.{eqb, ltb, leb}
 use borrow.Author.Tests.{leb-false}
-use Rattle.below.specs.Below.{pick, allBelow, sumBelow}
+use Rattle.below.specs.Below.{pick, allBelow, sumBelow, isIn}
 use Rattle.below.proofs.Search.{firstBelow-ext}
 use Rattle.below.proofs.Every.{allBelow-ext}
 use Rattle.precedence.specs.Graph.{Wait, blocks, free, round, play, finished, unvisited, atStart, cyclic}
-use Rattle.plan.specs.Field.{Dependency, FieldPlan, inForce, waitOf, flip, graph, fixed, AcceptedPlan}
+use Rattle.plan.specs.Field.{Dependency, FieldPlan, inForce, waitOf, flipAll, graph, fixed, AcceptedPlan}
 use Rattle.plan.specs.Status.{Status, entered, unmet, now, fixedUnturned, withinStops, waitsKept}
-use Rattle.log.specs.CallLog.{Call, grant, arrive, turn, replyIn}
+use Rattle.log.specs.CallLog.{Call, grant, arrive, turn, turnAll, Reply, refused, Check, when, firstThatHolds, isGroup, walked, replyIn}
 use Rattle.log.specs.Demand.{Agree}
+use Rattle.log.proofs.Checks.{one-reply}
 
 -- ---- a plan's rounds from the start look at its own waits only
 
@@ -71,8 +73,8 @@ module _ (F : FieldPlan) (accepted : AcceptedPlan F) (s s′ : Status) (agree : 
   unmet-same : (d : ℕ) → d < drones → unmet F s d ≡ unmet F s′ d
   unmet-same d l = firstBelow-ext count _ _ (λ w h. blocks-same d w l h)
 
-  flip-same : (w v : ℕ) → v < count → flip (s .turned) w v ≡ flip (s′ .turned) w v
-  flip-same w v l = ap (λ (b : Bool). cond (eqb v w) (not b) b) (agree .turns v l)
+  flipAll-same : (ws : List ℕ) (v : ℕ) → v < count → flipAll (s .turned) ws v ≡ flipAll (s′ .turned) ws v
+  flipAll-same ws v l = ap (λ (b : Bool). cond (isIn v ws) (not b) b) (agree .turns v l)
 
   -- ---- so do the replies
 
@@ -86,15 +88,24 @@ module _ (F : FieldPlan) (accepted : AcceptedPlan F) (s s′ : Status) (agree : 
   arrive-same d true e = rw e refl
   arrive-same d false e = rw (agree .underWays d (leb-false drones d e)) refl
 
-  turn-same : (w : ℕ) → (b : Bool) → leb count w ≡ b → replyIn F s (turn w) ≡ replyIn F s′ (turn w)
+  walk-same : (ws : List ℕ) (after after′ : List Check) → firstThatHolds after ≡ firstThatHolds after′ → firstThatHolds (walked F s ws after) ≡ firstThatHolds (walked F s′ ws after′)
+  walk-same [] after after′ h = h
+  walk-same (w ∷ ws) after after′ h = go (leb count w) refl (walk-same ws after after′ h)
+    where
+      go : (b : Bool) → leb count w ≡ b → firstThatHolds (walked F s ws after) ≡ firstThatHolds (walked F s′ ws after′) → firstThatHolds (walked F s (w ∷ ws) after) ≡ firstThatHolds (walked F s′ (w ∷ ws) after′)
+      go true e k = rw e refl
+      go false e k = ap₂ (λ (b : Bool) (r : Reply). elim (leb count w) [ true ↦ refused 30 | false ↦ elim (fixed F w) [ true ↦ refused 31 | false ↦ elim b [ true ↦ refused 32 | false ↦ r ] ] ]) (entered-first w (leb-false count w e)) k
+
+  group-same : (ws : List ℕ) → replyIn F s (turnAll ws) ≡ replyIn F s′ (turnAll ws)
   unfolding replyIn
-  turn-same w true e = rw e refl
-  turn-same w false e = let l = leb-false count w e in rw (entered-first w l, cyclic-same F (flip (s .turned) w) (flip (s′ .turned) w) (flip-same w)) refl
+  group-same ws = ap (λ (r : Reply). elim (not (isGroup ws)) [ true ↦ refused 36 | false ↦ r ])
+      (walk-same ws _ _ (ap (λ (b : Bool). firstThatHolds (when b (refused 34) ∷ [])) (cyclic-same F (flipAll (s .turned) ws) (flipAll (s′ .turned) ws) (flipAll-same ws))))
 
   pub reply-same : (c : Call) → replyIn F s c ≡ replyIn F s′ c
   reply-same (grant d) = grant-same d (leb drones d) refl
   reply-same (arrive d) = arrive-same d (leb drones d) refl
-  reply-same (turn w) = turn-same w (leb count w) refl
+  reply-same (turn w) = one-reply F s w ∙ group-same (w ∷ []) ∙ sym (one-reply F s′ w)
+  reply-same (turnAll ws) = group-same ws
 
   -- ---- and the clauses of "sound"
 

@@ -1,15 +1,15 @@
 -- The tables along a list of calls: they show the log's counts, stay sound, and so reply as the log does. Assumes nothing.
 use mathlib.Core.Path.{_≡_, refl, sym, ap, _∙_}
 use mathlib.Core.Logic.{_≢_}
-use mathlib.Core.Bool.{Bool, true, false, not}
+use mathlib.Core.Bool.{Bool, true, false, not, cond}
 use mathlib.Core.List.{List}
 use Prim.Native.Nat.{ℕ, suc, _+_, _/_, _≤_, _<_}
 use native.Mathlib.Omega.{arith}
 use lib.ListN.{length, set, length-set}
 use lib.Seq.{getD-set-other}
-use lib.Dec.{eqb, ltb}
-use borrow.Author.Tests.{eqb-true, lt-ltb, le-ltb, eq-eqb}
-use Rattle.below.specs.Below.{pick, at, put}
+use lib.Dec.{ltb}
+use borrow.Author.Tests.{lt-ltb, le-ltb, eq-eqb}
+use Rattle.below.specs.Below.{pick, at, put, isIn}
 use Rattle.below.proofs.Tests.{by-cases, and-both}
 use Rattle.below.proofs.Every.{allBelow-all}
 use Rattle.below.proofs.Index.{put-same, put-other, put-elim, at-set}
@@ -19,15 +19,16 @@ use Rattle.tables.proofs.SizeLaws.{full-sizes}
 use Rattle.tables.specs.Flags.{turnedBit, flipBit, fixedFlag, underWayBit, onlyOneBit, setUnderWay, clearUnderWay}
 use Rattle.tables.proofs.FlagLaws.{flip-turned, flip-half, new-turned}
 use Rattle.precedence.specs.Graph.{cyclic}
-use Rattle.plan.specs.Field.{flip, graph, fixed, AcceptedPlan, planOf}
+use Rattle.plan.specs.Field.{flipAll, graph, fixed, AcceptedPlan, planOf}
 use Rattle.plan.specs.Claims.{unturned}
 use Rattle.plan.specs.Status.{statusIn, fixedUnturned, withinStops, waitsKept}
 use Rattle.sound.specs.Sound.{planAccepted, dependenciesSound, planUnused, flagsSound, droneFlagsSound, progressUnused, sound}
-use Rattle.log.specs.CallLog.{Call, replyIn}
-use Rattle.log.specs.Calls.{granted, arrived, flipped, replyOf, AsRead}
+use Rattle.log.specs.CallLog.{Call, isGroup, replyIn}
+use Rattle.log.specs.Calls.{granted, arrived, flipFlags, flippedAll, replyOf, AsRead}
 use Rattle.log.specs.Demand.{Agree}
 use Rattle.sound.proofs.Clauses.{says-sound}
 use Rattle.log.proofs.SoundParts.{zero-from, drones-in, dependencies-in}
+use Rattle.log.proofs.FlipLaws.{flips-length, flips-at}
 use Rattle.log.proofs.SameStatus.{cyclic-same, reply-same, unturned-same, within-same, waits-same}
 use Rattle.log.proofs.Good.{Good, statusBy, good-within, good-waits, good-unturned}
 
@@ -194,29 +195,30 @@ module _ (L : Limits) (lists : PlanLists) (t₀ : Tables) (read : Base L lists t
       halves-are = k .halves-are;
     }
 
-    pub kept-turn : (w : ℕ) → w < dependencies lists → Kept lists t₀ p e (flip u w) (flipped t w)
-    kept-turn w l = record {
-      same = same-then t₀ t (flipped t w) (k .same) (record {
+    -- a list of the plan's dependencies, strictly rising
+    pub kept-turns : (ws : List ℕ) → isGroup ws ≡ true → ((w : ℕ) → isIn w ws ≡ true → w < dependencies lists) → Kept lists t₀ p e (flipAll u ws) (flippedAll t ws)
+    kept-turns ws g within = record {
+      same = same-then t₀ t (flippedAll t ws) (k .same) (record {
         plan-same = refl;
         visited-length = refl;
         droneFlags-length = refl;
-        flags-length = length-set (t .flags) w _;
+        flags-length = flips-length ws (t .flags);
         visited-unused = λ c h. refl;
         droneFlags-unused = λ c h. refl;
-        flags-unused = stored (t .flags) w _ (dependencies (t .plan)) (omega (arith, count-is));
+        flags-unused = λ v h. after v ∙ by-cases (isIn v ws) (λ i. absurd (omega (arith, within v i, count-is))) (λ i. rw i refl);
       });
       visited-is = k .visited-is;
       droneFlags-are = k .droneFlags-are;
-      turned-are = λ v m. ap turnedBit (after v) ∙ by-cases (eqb v w)
-          (λ q. rw q (flip-turned (at (t .flags) w) ∙ ap not (k .turned-are w l ∙ ap u (sym (eqb-true v w q)))))
-          (λ q. rw q (k .turned-are v m));
-      halves-are = λ v m. ap (λ (z : ℕ). z / 2) (after v) ∙ by-cases (eqb v w)
-          (λ q. rw q (flip-half (at (t .flags) w) ∙ ap (λ (x : ℕ). at (t .flags) x / 2) (sym (eqb-true v w q)) ∙ k .halves-are v m))
-          (λ q. rw q (k .halves-are v m));
+      turned-are = λ v m. ap turnedBit (after v) ∙ by-cases (isIn v ws)
+          (λ i. rw i (flip-turned (at (t .flags) v) ∙ ap not (k .turned-are v m)))
+          (λ i. rw i (k .turned-are v m));
+      halves-are = λ v m. ap (λ (z : ℕ). z / 2) (after v) ∙ by-cases (isIn v ws)
+          (λ i. rw i (flip-half (at (t .flags) v) ∙ k .halves-are v m))
+          (λ i. rw i (k .halves-are v m));
     }
       where
-        after : (v : ℕ) → at (set (t .flags) w (flipBit (at (t .flags) w))) v ≡ put (at (t .flags)) w (flipBit (at (t .flags) w)) v
-        after = at-set (t .flags) w (flipBit (at (t .flags) w)) (omega (arith, k .same .flags-length, room .flags, count-room))
+        after : (v : ℕ) → at (flipFlags (t .flags) ws) v ≡ cond (isIn v ws) (flipBit (at (t .flags) v)) (at (t .flags) v)
+        after = flips-at ws (t .flags) g (λ w i. omega (arith, within w i, k .same .flags-length, room .flags, count-room))
 
     -- ---- the tables show the counts, and are sound when those are good
 

@@ -1,7 +1,7 @@
 -- Sound tables stay sound through every call: their progress is good counts, every accepted call keeps those, and the tables go on holding them. Assumes nothing.
 use mathlib.Core.Path.{_≡_, refl, sym, ap, _∙_, subst, fun-ext}
 use mathlib.Core.Bool.{Bool, true, false, not, cond, _&&_, _||_}
-use mathlib.Core.List.{List}
+use mathlib.Core.List.{List, [], _∷_}
 use Prim.Native.Nat.{ℕ, suc, _/_, _%_, _≤_, _<_}
 use native.Mathlib.Omega.{arith}
 use lib.Dec.{eqb, ltb, leb}
@@ -13,18 +13,19 @@ use Rattle.tables.specs.Limits.{Limits}
 use Rattle.tables.specs.Tables.{Tables, drones, dependencies, fullSize}
 use Rattle.tables.specs.Flags.{underWayBit, onlyOneBit}
 use Rattle.precedence.specs.Graph.{cyclic}
-use Rattle.plan.specs.Field.{FieldPlan, AcceptedPlan, planOf, flip, graph}
+use Rattle.plan.specs.Field.{FieldPlan, AcceptedPlan, planOf, flipAll, graph}
 use Rattle.plan.specs.Status.{Status, statusIn, withinStops, waitsKept}
 use Rattle.sound.specs.Sound.{zeroFrom, flagsSound, progressUnused, sound}
 use Rattle.sound.proofs.Clauses.{Sound, sound-says}
-use Rattle.log.specs.CallLog.{Call, grant, arrive, turn, Reply, isAccepted, replyIn}
-use Rattle.log.specs.Calls.{granted, arrived, flipped, replyOf, grantStep, arriveStep, turnStep, step, Answered}
-use Rattle.log.specs.Claims.{Usable, MayGo, MayArrive, Turnable, StaysUsable}
-use Rattle.log.proofs.Checks.{grant-passed, arrive-passed, turn-passed}
-use Rattle.log.proofs.Good.{Good, statusBy, good-grant, good-arrive, good-turn}
+use Rattle.log.specs.CallLog.{Call, grant, arrive, turn, turnAll, Reply, isAccepted, replyIn}
+use Rattle.log.specs.Calls.{granted, arrived, flippedAll, replyOf, grantStep, arriveStep, turnAllStep, step, Answered}
+use Rattle.log.specs.Claims.{Usable, MayGo, MayArrive, Group, AllTurnable, StaysUsable}
+use Rattle.log.proofs.Groups.{group-iff}
+use Rattle.log.proofs.Checks.{grant-passed, arrive-passed, group-passed}
+use Rattle.log.proofs.Good.{Good, statusBy, good-grant, good-arrive, good-turns}
 use Rattle.log.proofs.SoundParts.{one-bit, accepted-plan}
-use Rattle.log.proofs.Exactly.{unfixed-says}
-use Rattle.log.proofs.Shown.{same-self, full-same, bit, Base, Kept, kept-grant, kept-arrive, kept-turn, kept-sound}
+use Rattle.log.proofs.Exactly.{unfixed-says, turn-is-group}
+use Rattle.log.proofs.Shown.{same-self, full-same, bit, Base, Kept, kept-grant, kept-arrive, kept-turns, kept-sound}
 use Rattle.log.proofs.Steps.{reply}
 
 from-zero : (used full : ℕ) (l : List ℕ) → zeroFrom used full l ≡ true → (i : ℕ) → used ≤ i → i < full → at l i ≡ 0
@@ -144,18 +145,23 @@ module _ (L : Limits) (t : Tables) (full : fullSize L t ≡ true) (now-sound : s
   pub arrive-usable : (d : ℕ) → MayArrive F S d → Usable L (arrived t d)
   arrive-usable d m = usable-after _ _ _ (arrived t d) (kept-arrive L (t .plan) t base p e (S .turned) t kept d (m .exists) (good .running .ahead d)) (good-arrive F p e (S .turned) good d (subst (λ (x : Status). MayArrive F x d) (sym status-is) m))
 
-  pub turn-usable : (w : ℕ) → Turnable F S w → cyclic (graph F (flip (S .turned) w)) ≡ false → Usable L (flipped t w)
-  turn-usable w m c = usable-after _ _ _ (flipped t w) (kept-turn L (t .plan) t base p e (S .turned) t kept w (m .exists)) (good-turn F p e (S .turned) good w (subst (λ (x : Status). Turnable F x w) (sym status-is) m) c)
+  pub turns-usable : (ws : List ℕ) → Group ws → AllTurnable F S ws → cyclic (graph F (flipAll (S .turned) ws)) ≡ false → Usable L (flippedAll t ws)
+  turns-usable ws g m c = usable-after _ _ _ (flippedAll t ws) (kept-turns L (t .plan) t base p e (S .turned) t kept ws (group-iff ws .1 g) (λ w i. m w i .exists)) (good-turns F p e (S .turned) good ws (subst (λ (x : Status). AllTurnable F x ws) (sym status-is) m) c)
 
   -- what a call leaves
   after : (c : Call) (t′ : Tables) → (isAccepted (replyIn F S c) ≡ true → Usable L t′) → Usable L (cond (isAccepted (replyOf L t c)) t′ t)
   after c t′ h = rw (reply L t full now-sound c) (by-cases (isAccepted (replyIn F S c)) (λ a. rw a (h a)) (λ a. rw a (full, now-sound)))
 
+  pub group-usable : (ws : List ℕ) → Usable L (turnAllStep L t ws .tables)
+  unfolding turnAllStep
+  group-usable ws = after (turnAll ws) (flippedAll t ws) (λ a. let (g, x) = group-passed F S (s .waits-kept) ws a in turns-usable ws g (x .0) (x .1))
+
   pub call-usable : (c : Call) → Usable L (step L t c .tables)
-  unfolding grantStep arriveStep turnStep
+  unfolding grantStep arriveStep
   call-usable (grant d) = after (grant d) (granted t d) (λ a. grant-usable d (grant-passed F S d a))
   call-usable (arrive d) = after (arrive d) (arrived t d) (λ a. arrive-usable d (arrive-passed F S d a))
-  call-usable (turn w) = after (turn w) (flipped t w) (λ a. let (m, c) = turn-passed F S (s .waits-kept) w a in turn-usable w m c)
+  call-usable (turn w) = rw (turn-is-group L t w) (group-usable (w ∷ []))
+  call-usable (turnAll ws) = group-usable ws
 
 -- the same by the contract of a call
 pub left-usable : (L : Limits) (t t′ : Tables) (c : Call) (r : Reply) → Usable L t → Answered (step L) t c r t′ → Usable L t′

@@ -1,20 +1,41 @@
 -- The calls by the ways through their code: one law for each return, in the order in which the code asks its tests. Assumes nothing.
-use mathlib.Core.Path.{_≡_, refl}
+use mathlib.Core.Path.{_≡_, refl, subst}
 use mathlib.Core.Bool.{true, false}
-use Prim.Native.Nat.{ℕ, _≤_, _<_}
+use mathlib.Core.List.{List, [], _∷_}
+use Prim.Native.Nat.{ℕ, zero, suc, _≤_, _<_}
 use native.Mathlib.Omega.{arith}
+use lib.ListN.{length}
 use borrow.Author.Tests.{le-leb, lt-leb, lt-ltb, le-ltb}
-use Rattle.below.specs.Below.{at, First}
+use Rattle.below.specs.Below.{at, First, isIn}
 use Rattle.below.proofs.Search.{firstBelow-is}
 use Rattle.tables.specs.Limits.{Limits}
 use Rattle.tables.specs.Tables.{Tables, drones, dependencies, fullSize}
 use Rattle.tables.specs.Flags.{underWayBit}
 use Rattle.precedence.specs.Graph.{blocks, cyclic, cost}
-use Rattle.plan.specs.Field.{FieldPlan, planOf, flip, graph, fixed}
+use Rattle.plan.specs.Field.{FieldPlan, planOf, flip, flipAll, graph, fixed}
 use Rattle.plan.specs.Status.{Status, statusIn, entered, now}
 use Rattle.sound.specs.Sound.{sound}
-use Rattle.log.specs.CallLog.{Call, grant, arrive, turn, Reply, accepted, refused, mustWait, replyIn}
-use Rattle.log.specs.Calls.{Answer, granted, arrived, flipped, replyOf, grantStep, arriveStep, turnStep, step, costs, costRefused, costReply}
+use Rattle.log.specs.CallLog.{Call, grant, arrive, turn, turnAll, Reply, accepted, refused, mustWait, Check, firstThatHolds, isGroup, walked, replyIn}
+use Rattle.below.proofs.Members.{in-at}
+use Rattle.log.proofs.Checks.{Passes, walk-passed, cycleRow}
+use Rattle.log.specs.Calls.{Answer, granted, arrived, flipped, flippedAll, replyOf, grantStep, arriveStep, turnStep, turnAllStep, step, costs, costRefused, costReply}
+
+-- ---- a list that is walked, by its indexes
+
+module _ (F : FieldPlan) (s : Status) where
+  -- the first i dependencies pass 30 to 32
+  abbrev pub PassedTo : List ℕ → ℕ → Type 0
+  PassedTo ws i = (j : ℕ) → j < i → Passes F s (at ws j)
+
+  -- what the dependency at index i says first, the whole list says
+  pub walk-at : (ws : List ℕ) (after : List Check) (r : Reply) (i : ℕ) → i < length ws → PassedTo ws i → ((rest : List Check) → firstThatHolds (walked F s (at ws i ∷ []) rest) ≡ r) → firstThatHolds (walked F s ws after) ≡ r
+  walk-at [] after r i l p h = absurd (omega arith)
+  walk-at (w ∷ ws) after r zero l p h = h (walked F s ws after)
+  walk-at (w ∷ ws) after r (suc i) l p h = let (a, b, c) = p 0 (omega arith) in rw (a, b, c) (walk-at ws after r i (omega arith) (λ j m. p (suc j) (omega arith)) h)
+
+  -- all pass
+  pub passed-all : (ws : List ℕ) → PassedTo ws (length ws) → (w : ℕ) → isIn w ws ≡ true → Passes F s w
+  passed-all ws p w e = let (i, l, h) = in-at ws w e in subst (Passes F s) h (p i l)
 
 -- a refusal: the tables are unchanged
 abbrev pub refusal : Tables → Reply → Answer
@@ -34,16 +55,18 @@ module _ (L : Limits) (t : Tables) where
   -- ---- 41 and 40, for every call
 
   pub step-41 : fullSize L t ≡ false → (c : Call) → step L t c ≡ refusal t (refused 41)
-  unfolding grantStep arriveStep turnStep replyOf
+  unfolding grantStep arriveStep turnStep turnAllStep replyOf
   step-41 e (grant d) = rw e
   step-41 e (arrive d) = rw e
   step-41 e (turn w) = rw e
+  step-41 e (turnAll ws) = rw e
 
   pub step-40 : fullSize L t ≡ true → sound L t ≡ false → (c : Call) → step L t c ≡ refusal t (refused 40)
-  unfolding grantStep arriveStep turnStep replyOf
+  unfolding grantStep arriveStep turnStep turnAllStep replyOf
   step-40 f e (grant d) = rw (f, e)
   step-40 f e (arrive d) = rw (f, e)
   step-40 f e (turn w) = rw (f, e)
+  step-40 f e (turnAll ws) = rw (f, e)
 
   pub cost-41 : fullSize L t ≡ false → costReply L t ≡ costRefused 41
   unfolding costReply
@@ -119,9 +142,39 @@ module _ (L : Limits) (t : Tables) where
 
         module _ (c : entered P S (now P S w .first) (now P S w .firstStop) ≡ false) where
           pub turn-34 : cyclic (graph P (flip (S .turned) w)) ≡ true → turnStep L t w ≡ refusal t (refused 34)
-          unfolding turnStep replyIn
+          unfolding turnStep replyIn isIn
           turn-34 e = rw (reply (turn w), lt-leb (dependencies (t .plan)) w a, b, c, e)
 
           pub turn-0 : cyclic (graph P (flip (S .turned) w)) ≡ false → turnStep L t w ≡ acceptance (flipped t w)
-          unfolding turnStep replyIn
+          unfolding turnStep replyIn isIn
           turn-0 e = rw (reply (turn w), lt-leb (dependencies (t .plan)) w a, b, c, e)
+
+    -- ---- a turn of a list
+
+    pub group-36 : (ws : List ℕ) → isGroup ws ≡ false → turnAllStep L t ws ≡ refusal t (refused 36)
+    unfolding turnAllStep replyIn
+    group-36 ws a = rw (reply (turnAll ws), a)
+
+    module _ (ws : List ℕ) (g : isGroup ws ≡ true) where
+      -- the dependency at index i, those before it passed
+      module _ (i : ℕ) (l : i < length ws) (p : PassedTo P S ws i) where
+        pub group-30 : dependencies (t .plan) ≤ at ws i → turnAllStep L t ws ≡ refusal t (refused 30)
+        unfolding turnAllStep replyIn
+        group-30 a = rw (reply (turnAll ws), g, walk-at P S ws (cycleRow P S ws) (refused 30) i l p (λ rest. rw (le-leb (dependencies (t .plan)) (at ws i) a) refl))
+
+        pub group-31 : at ws i < dependencies (t .plan) → fixed P (at ws i) ≡ true → turnAllStep L t ws ≡ refusal t (refused 31)
+        unfolding turnAllStep replyIn
+        group-31 a b = rw (reply (turnAll ws), g, walk-at P S ws (cycleRow P S ws) (refused 31) i l p (λ rest. rw (lt-leb (dependencies (t .plan)) (at ws i) a, b) refl))
+
+        pub group-32 : at ws i < dependencies (t .plan) → fixed P (at ws i) ≡ false → entered P S (now P S (at ws i) .first) (now P S (at ws i) .firstStop) ≡ true → turnAllStep L t ws ≡ refusal t (refused 32)
+        unfolding turnAllStep replyIn
+        group-32 a b c = rw (reply (turnAll ws), g, walk-at P S ws (cycleRow P S ws) (refused 32) i l p (λ rest. rw (lt-leb (dependencies (t .plan)) (at ws i) a, b, c) refl))
+
+      module _ (p : PassedTo P S ws (length ws)) where
+        pub group-34 : cyclic (graph P (flipAll (S .turned) ws)) ≡ true → turnAllStep L t ws ≡ refusal t (refused 34)
+        unfolding turnAllStep replyIn
+        group-34 e = rw (reply (turnAll ws), g, walk-passed P S ws (cycleRow P S ws) (passed-all P S ws p), e)
+
+        pub group-0 : cyclic (graph P (flipAll (S .turned) ws)) ≡ false → turnAllStep L t ws ≡ acceptance (flippedAll t ws)
+        unfolding turnAllStep replyIn
+        group-0 e = rw (reply (turnAll ws), g, walk-passed P S ws (cycleRow P S ws) (passed-all P S ws p), e)

@@ -10,15 +10,16 @@ use Rattle.tables.specs.Limits.{Limits}
 use Rattle.tables.specs.Tables.{PlanLists, Tables, drones, fullSize}
 use Rattle.plan.specs.Field.{FieldPlan, AcceptedPlan, planOf}
 use Rattle.sound.specs.Sound.{sound}
-use Rattle.log.specs.CallLog.{Call, grant, arrive, turn, Reply, isAccepted, Entry, entry, statusOf, acceptedCalls, replyBy, logFrom, logOf}
-use Rattle.log.specs.Calls.{Answer, granted, arrived, flipped, grantStep, arriveStep, turnStep, step, recorded, tablesAfter, Answered, Ran, none, next, AsRead}
+use Rattle.log.specs.CallLog.{Call, grant, arrive, turn, turnAll, Reply, isAccepted, Entry, entry, statusOf, acceptedCalls, replyBy, logFrom, logOf}
+use Rattle.log.specs.Calls.{Answer, granted, arrived, flipped, flipFlags, flippedAll, grantStep, arriveStep, turnStep, turnAllStep, step, recorded, tablesAfter, Answered, Ran, none, next, AsRead}
 use Rattle.log.specs.Demand.{Found, Demand3, Demand3OfContracts}
-use Rattle.log.proofs.Checks.{grant-passed, arrive-passed, turn-passed}
+use Rattle.log.proofs.Groups.{group-iff}
+use Rattle.log.proofs.Checks.{grant-passed, arrive-passed, group-passed, one-reply}
 use Rattle.log.specs.Claims.{MayGo, MayArrive}
-use Rattle.log.proofs.Log.{arrivals, grants, turns, Counts, counts-refused, counts-grant, counts-arrive, counts-turn, GoodLog, good-empty, idle-same, good-more, good-calls}
+use Rattle.log.proofs.Log.{arrivals, grants, turns, Counts, counts-refused, counts-grant, counts-arrive, Names, names-one, names-list, counts-turns, GoodLog, good-empty, idle-same, good-more, good-calls}
 use Rattle.log.proofs.Good.{good-waits}
 use Rattle.log.proofs.SoundParts.{accepted-plan}
-use Rattle.log.proofs.Shown.{SamePlan, full-same, Base, base-read, Kept, kept-grant, kept-arrive, kept-turn, kept-status, kept-sound, kept-reply, kept-start}
+use Rattle.log.proofs.Shown.{SamePlan, full-same, base-read, Base, Kept, kept-grant, kept-arrive, kept-turns, kept-status, kept-sound, kept-reply, kept-start}
 use Rattle.log.proofs.Found.{log-held, log-goes-on, log-finishes}
 
 module _ (L : Limits) (lists : PlanLists) (t₀ : Tables) (read : AsRead L lists t₀) where
@@ -44,34 +45,41 @@ module _ (L : Limits) (lists : PlanLists) (t₀ : Tables) (read : AsRead L lists
   module _ (log : List Entry) (good : GoodLog F log) (t : Tables) (kept : KeptLog log t) where
     -- the call gets the reply of the log
     same-reply : (c : Call) → step L t c .reply ≡ replyBy F log c
-    unfolding grantStep arriveStep turnStep
+    unfolding grantStep arriveStep turnStep turnAllStep
     same-reply (grant d) = kept-reply L lists t₀ base _ _ _ t kept plan good (grant d)
     same-reply (arrive d) = kept-reply L lists t₀ base _ _ _ t kept plan good (arrive d)
     same-reply (turn w) = kept-reply L lists t₀ base _ _ _ t kept plan good (turn w)
+    same-reply (turnAll ws) = kept-reply L lists t₀ base _ _ _ t kept plan good (turnAll ws)
 
     -- what an accepted call leaves
     left : Call → Tables
     left (grant d) = granted t d
     left (arrive d) = arrived t d
     left (turn w) = flipped t w
+    left (turnAll ws) = flippedAll t ws
 
     same-left : (c : Call) → step L t c .tables ≡ cond (isAccepted (replyBy F log c)) (left c) t
-    unfolding grantStep arriveStep turnStep left
+    unfolding grantStep arriveStep turnStep turnAllStep left
     same-left (grant d) = ap (λ (r : Reply). cond (isAccepted r) (left (grant d)) t) (kept-reply L lists t₀ base _ _ _ t kept plan good (grant d))
     same-left (arrive d) = ap (λ (r : Reply). cond (isAccepted r) (left (arrive d)) t) (kept-reply L lists t₀ base _ _ _ t kept plan good (arrive d))
     same-left (turn w) = ap (λ (r : Reply). cond (isAccepted r) (left (turn w)) t) (kept-reply L lists t₀ base _ _ _ t kept plan good (turn w))
+    same-left (turnAll ws) = ap (λ (r : Reply). cond (isAccepted r) (left (turnAll ws)) t) (kept-reply L lists t₀ base _ _ _ t kept plan good (turnAll ws))
+
+    kept-group : (c : Call) (ws : List ℕ) → Names c ws → replyBy F log c ≡ replyBy F log (turnAll ws) → isAccepted (replyBy F log c) ≡ true → KeptLog (log ++ (entry c (replyBy F log c) ∷ [])) (flippedAll t ws)
+    kept-group c ws n s e =
+        let q = group-passed F (statusOf log) (good-waits F _ _ _ good) ws (ap isAccepted (sym s) ∙ e) in
+        kept-counts _ _ _ _ _ (counts-turns log _ c ws n e) (kept-turns L lists t₀ base _ _ _ t kept ws (group-iff ws .1 (q .0)) (λ w i. q .1 .0 w i .exists))
 
     kept-left : (c : Call) → isAccepted (replyBy F log c) ≡ true → KeptLog (log ++ (entry c (replyBy F log c) ∷ [])) (left c)
-    unfolding left
+    unfolding left flipFlags
     kept-left (grant d) e =
         let q : MayGo F (statusOf log) d = grant-passed F (statusOf log) d e in
         kept-counts _ _ _ _ _ (counts-grant log _ d e (idle-same F log good d (q .waiting .idle))) (kept-grant L lists t₀ base _ _ _ t kept d (q .waiting .exists))
     kept-left (arrive d) e =
         let q : MayArrive F (statusOf log) d = arrive-passed F (statusOf log) d e in
         kept-counts _ _ _ _ _ (counts-arrive log _ d e) (kept-arrive L lists t₀ base _ _ _ t kept d (q .exists) (good .running .ahead d))
-    kept-left (turn w) e =
-        let q = turn-passed F (statusOf log) (good-waits F _ _ _ good) w e in
-        kept-counts _ _ _ _ _ (counts-turn log _ w e) (kept-turn L lists t₀ base _ _ _ t kept w (q .0 .exists))
+    kept-left (turn w) e = kept-group (turn w) (w ∷ []) (names-one w) (one-reply F (statusOf log) w) e
+    kept-left (turnAll ws) e = kept-group (turnAll ws) ws (names-list ws) refl e
 
     kept-more : (c : Call) → KeptLog (log ++ (entry c (replyBy F log c) ∷ [])) (step L t c .tables)
     kept-more c = by-cases (isAccepted (replyBy F log c))

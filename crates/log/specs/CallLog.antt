@@ -3,16 +3,17 @@ use mathlib.Core.Bool.{Bool, true, false, not, _&&_, _||_}
 use mathlib.Core.List.{List, [], _∷_, _++_}
 use Prim.Native.Nat.{ℕ, suc, _%_}
 use lib.Dec.{ltb, leb, eqb}
-use Rattle.below.specs.Below.{pick}
+use Rattle.below.specs.Below.{pick, isIn}
 use Rattle.precedence.specs.Graph.{cyclic}
-use Rattle.plan.specs.Field.{FieldPlan, flip, graph, fixed}
+use Rattle.plan.specs.Field.{FieldPlan, flipAll, graph, fixed}
 use Rattle.plan.specs.Status.{Status, entered, unmet, now}
 
--- a call and the number that it names: a drone for grant and arrive, a dependency for turn
+-- a call and what it names: a drone for grant and arrive, a dependency for turn, a list of dependencies for a turn of them all at once
 pub data Call : Type 0 where
   grant : ℕ → Call
   arrive : ℕ → Call
   turn : ℕ → Call
+  turnAll : List ℕ → Call
 
 -- a reply: accepted, a refusal by its number, or 23 with the lowest dependency unmet
 pub data Reply : Type 0 where
@@ -47,9 +48,32 @@ abbrev pub firstThatHolds : List Check → Reply
 firstThatHolds [] = accepted
 firstThatHolds (c ∷ cs) = elim (c .holds) [ true ↦ c .reply | false ↦ firstThatHolds cs ]
 
+-- each number of the list is above the one before it, the first one above v
+abbrev pub risesFrom : ℕ → List ℕ → Bool
+risesFrom v [] = true
+risesFrom v (w ∷ ws) = ltb v w && risesFrom w ws
+
+-- a list that passes 36: it is not empty and strictly rises
+abbrev pub isGroup : List ℕ → Bool
+isGroup [] = false
+isGroup (w ∷ ws) = risesFrom w ws
+
 module _ (F : FieldPlan) (s : Status) where
   open FieldPlan F using (drones, last, location, count)
   open Status s using (place, underWay, turned)
+
+  -- "as the list is walked": 30 to 32 of each dependency of the list, and the rows after them
+  abbrev pub walked : List ℕ → List Check → List Check
+  walked [] after = after
+  walked (w ∷ ws) after =
+      when (leb count w) (refused 30)
+      ∷ when (fixed F w) (refused 31)
+      ∷ when (entered F s (now F s w .first) (now F s w .firstStop)) (refused 32)
+      ∷ walked ws after
+
+  -- "then 30 to 34 as the list is walked, with 34 last of all": the graph has all of the list turned
+  abbrev pub turnRows : List ℕ → List Check
+  turnRows ws = walked ws (when (cyclic (graph F (flipAll turned ws))) (refused 34) ∷ [])
 
   -- the rows of "Where each refusal is checked" for grant, arrive and turn, without 41 and 40
   abbrev pub refusals : Call → List Check
@@ -63,12 +87,8 @@ module _ (F : FieldPlan) (s : Status) where
       when (leb drones d) (refused 20)
       ∷ when (not (underWay d)) (refused 24)
       ∷ []
-  refusals (turn w) =
-      when (leb count w) (refused 30)
-      ∷ when (fixed F w) (refused 31)
-      ∷ when (entered F s (now F s w .first) (now F s w .firstStop)) (refused 32)
-      ∷ when (cyclic (graph F (flip turned w))) (refused 34)
-      ∷ []
+  refusals (turn w) = turnRows (w ∷ [])
+  refusals (turnAll ws) = when (not (isGroup ws)) (refused 36) ∷ turnRows ws
 
   -- the reply of a call, by the first refusal that holds
   unfoldable pub replyIn : Call → Reply
@@ -84,7 +104,7 @@ module _ (F : FieldPlan) (s : Status) where
 
 -- ---- the log
 
--- "each call, the number it named, and its reply"
+-- "each call, the number it named, and its reply"; "the log keeps such a call's list"
 pub record Entry : Type 0 where
   pub call : Call
   pub reply : Reply
@@ -92,21 +112,24 @@ pub record Entry : Type 0 where
 abbrev pub entry : Call → Reply → Entry
 entry c r = record { call = c; reply = r }
 
--- a grant of drone d; an arrival of drone d; a turn of dependency w
+-- a grant of drone d; an arrival of drone d; a turn that names dependency w, where "an accepted one names each dependency in it"
 abbrev pub isGrant : ℕ → Call → Bool
 isGrant d (grant e) = eqb d e
 isGrant d (arrive e) = false
 isGrant d (turn w) = false
+isGrant d (turnAll ws) = false
 
 abbrev pub isArrival : ℕ → Call → Bool
 isArrival d (grant e) = false
 isArrival d (arrive e) = eqb d e
 isArrival d (turn w) = false
+isArrival d (turnAll ws) = false
 
 abbrev pub isTurn : ℕ → Call → Bool
 isTurn w (grant d) = false
 isTurn w (arrive d) = false
 isTurn w (turn v) = eqb w v
+isTurn w (turnAll ws) = isIn w ws
 
 -- how many accepted calls of the log pass the test
 unfoldable pub acceptedCalls : (Call → Bool) → List Entry → ℕ

@@ -1,6 +1,6 @@
 -- The calls on lent tables: what each replies and leaves, and lists of calls (document 01, "The calls" and "Where each refusal is checked"). Assumes nothing.
 use mathlib.Core.Path.{_≡_}
-use mathlib.Core.Bool.{Bool, true, cond}
+use mathlib.Core.Bool.{true, cond}
 use mathlib.Core.List.{List, [], _∷_}
 use Prim.Native.Nat.{ℕ, _+_, _≤_, _<_}
 use lib.ListN.{set}
@@ -10,9 +10,9 @@ use Rattle.tables.specs.Tables.{PlanLists, Tables, dependencies, fullSize}
 use Rattle.tables.specs.Flags.{flipBit, fixedFlag, setUnderWay, clearUnderWay}
 use Rattle.precedence.specs.Graph.{cost, makespan}
 use Rattle.plan.specs.Field.{planOf, graph, fixed}
-use Rattle.plan.specs.Status.{Status, statusIn}
+use Rattle.plan.specs.Status.{statusIn}
 use Rattle.sound.specs.Sound.{sound, planAccepted, dependenciesSound, planUnused}
-use Rattle.log.specs.CallLog.{Call, grant, arrive, turn, Reply, refused, isAccepted, replyIn, Entry, entry}
+use Rattle.log.specs.CallLog.{Call, grant, arrive, turn, turnAll, Reply, refused, isAccepted, replyIn, Entry, entry}
 
 -- a reply and the tables afterwards
 pub record Answer : Type 0 where
@@ -31,9 +31,21 @@ granted t d = record { plan = t .plan; visited = t .visited; droneFlags = set (t
 abbrev pub arrived : Tables → ℕ → Tables
 arrived t d = record { plan = t .plan; visited = set (t .visited) d (at (t .visited) d + 1); droneFlags = set (t .droneFlags) d (clearUnderWay (at (t .droneFlags) d)); flags = t .flags }
 
+-- the flag bytes with bit 0 of a dependency flipped, and with bit 0 of each dependency of a list flipped
+abbrev pub flipFlag : List ℕ → ℕ → List ℕ
+flipFlag flags w = set flags w (flipBit (at flags w))
+
+unfoldable pub flipFlags : List ℕ → List ℕ → List ℕ
+flipFlags flags [] = flags
+flipFlags flags (w ∷ ws) = flipFlags (flipFlag flags w) ws
+
 -- "Turn: flips bit 0 of one dependency"
 abbrev pub flipped : Tables → ℕ → Tables
-flipped t w = record { plan = t .plan; visited = t .visited; droneFlags = t .droneFlags; flags = set (t .flags) w (flipBit (at (t .flags) w)) }
+flipped t w = record { plan = t .plan; visited = t .visited; droneFlags = t .droneFlags; flags = flipFlag (t .flags) w }
+
+-- "a turn of a list of dependencies, all at once"
+abbrev pub flippedAll : Tables → List ℕ → Tables
+flippedAll t ws = record { plan = t .plan; visited = t .visited; droneFlags = t .droneFlags; flags = flipFlags (t .flags) ws }
 
 -- a cost, or the refusal of the call
 pub data CostReply : Type 0 where
@@ -59,11 +71,15 @@ module _ (L : Limits) where
   unfoldable pub turnStep : Tables → ℕ → Answer
   turnStep t w = answer t (replyOf t (turn w)) (flipped t w)
 
-  -- any of the three
+  unfoldable pub turnAllStep : Tables → List ℕ → Answer
+  turnAllStep t ws = answer t (replyOf t (turnAll ws)) (flippedAll t ws)
+
+  -- any of the four
   abbrev pub step : Tables → Call → Answer
   step t (grant d) = grantStep t d
   step t (arrive d) = arriveStep t d
   step t (turn w) = turnStep t w
+  step t (turnAll ws) = turnAllStep t ws
 
   -- "Remaining cost": from the drones' progress, with the order now in force. It changes nothing
   unfoldable pub costReply : Tables → CostReply

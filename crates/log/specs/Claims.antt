@@ -2,20 +2,27 @@
 use mathlib.Core.Path.{_≡_}
 use mathlib.Core.Logic.{_≢_, _↔_}
 use mathlib.Core.Bool.{true, false}
+use mathlib.Core.List.{List, [], _∷_}
 use Prim.Native.Nat.{ℕ, suc, _-_, _*_, _≤_, _<_}
-use Rattle.below.specs.Below.{sumBelow}
+use lib.ListN.{length}
+use Rattle.below.specs.Below.{at, isIn, sumBelow}
 use Rattle.tables.specs.Limits.{Limits, limits}
 use Rattle.tables.specs.Tables.{Tables, fullSize}
 use Rattle.precedence.specs.Graph.{Cycle, Longest, remaining}
-use Rattle.plan.specs.Field.{FieldPlan, planOf, flip, graph}
+use Rattle.plan.specs.Field.{FieldPlan, planOf, flip, flipAll, graph}
 use Rattle.plan.specs.Status.{Status, statusIn, now}
 use Rattle.sound.specs.Sound.{sound}
-use Rattle.log.specs.CallLog.{Call, accepted, refused, mustWait}
-use Rattle.log.specs.Calls.{grantStep, arriveStep, turnStep, step, costs, costReply}
+use Rattle.log.specs.CallLog.{Call, turn, turnAll, accepted, refused, mustWait, Entry, isTurn, replyBy}
+use Rattle.log.specs.Calls.{grantStep, arriveStep, turnStep, turnAllStep, step, costs, costReply}
 
 -- no lent table is below full size, and the tables are sound
 abbrev pub Usable : Limits → Tables → Type 0
 Usable L t = (fullSize L t ≡ true) × (sound L t ≡ true)
+
+-- a list that passes 36: it is not empty and strictly rises
+pub record Group (ws : List ℕ) : Type 0 where
+  pub not-empty : 0 < length ws
+  pub rising : (i : ℕ) → suc i < length ws → at ws i < at ws (suc i)
 
 module _ (F : FieldPlan) (s : Status) where
   open FieldPlan F using (drones, last, count, dependency)
@@ -74,6 +81,16 @@ module _ (F : FieldPlan) (s : Status) where
   abbrev pub TurnedCycle : ℕ → Type 0
   TurnedCycle w = Cycle (graph F (flip turned w))
 
+  -- ---- a turn of a list
+
+  -- each dependency of the list may be turned by itself
+  abbrev pub AllTurnable : List ℕ → Type 0
+  AllTurnable ws = (w : ℕ) → isIn w ws ≡ true → Turnable w
+
+  -- the graph with all of them turned has a cycle
+  abbrev pub GroupCycle : List ℕ → Type 0
+  GroupCycle ws = Cycle (graph F (flipAll turned ws))
+
 module _ (L : Limits) (t : Tables) where
   abbrev F : FieldPlan
   F = planOf (t .plan)
@@ -102,6 +119,33 @@ module _ (L : Limits) (t : Tables) where
   abbrev pub CycleExactly : Type 0
   CycleExactly = (w : ℕ) → (turnStep L t w .reply ≡ refused 34) ↔ (Usable L t × (Turnable F S w × TurnedCycle F S w))
 
+  -- "It is accepted exactly when the list passes 36, each passes checks 30 to 33 by itself and the graph with all of them turned has no cycle" (33 has left the list)
+  abbrev pub GroupExactly : Type 0
+  GroupExactly = (ws : List ℕ) → (turnAllStep L t ws .reply ≡ accepted) ↔ (Usable L t × (Group ws × (AllTurnable F S ws × (GroupCycle F S ws → ⊥))))
+
+  -- "with 34 last of all"
+  abbrev pub GroupCycleExactly : Type 0
+  GroupCycleExactly = (ws : List ℕ) → (turnAllStep L t ws .reply ≡ refused 34) ↔ (Usable L t × (Group ws × (AllTurnable F S ws × GroupCycle F S ws)))
+
+  -- "36, an empty list or one not strictly rising, after 40 and before 30"
+  abbrev pub NoGroupExactly : Type 0
+  NoGroupExactly = (ws : List ℕ) → (turnAllStep L t ws .reply ≡ refused 36) ↔ (Usable L t × (Group ws → ⊥))
+
+  -- the first dependency of the list that by itself would be refused with n, those before it may be turned
+  pub record FirstRefused (ws : List ℕ) (n : ℕ) : Type 0 where
+    pub index : ℕ
+    pub index-in : index < length ws
+    pub refused-alone : turnStep L t (at ws index) .reply ≡ refused n
+    pub passed-before : (j : ℕ) → j < index → Turnable F S (at ws j)
+
+  -- "then 30 to 34 as the list is walked": which of 30, 31 and 32 is said
+  abbrev pub WalkedExactly : Type 0
+  WalkedExactly = (ws : List ℕ) (n : ℕ) → 30 ≤ n → n ≤ 32 → (turnAllStep L t ws .reply ≡ refused n) ↔ (Usable L t × (Group ws × FirstRefused ws n))
+
+  -- "The rules for one turn are proved as the list of length one": the same reply and the same tables
+  abbrev pub TurnIsGroup : Type 0
+  TurnIsGroup = (w : ℕ) → turnStep L t w ≡ turnAllStep L t (w ∷ [])
+
   -- whatever the call, tables that are of full size and sound stay so
   abbrev pub StaysUsable : Type 0
   StaysUsable = Usable L t → (c : Call) → Usable L (step L t c .tables)
@@ -121,6 +165,11 @@ CostBounded = (L : Limits) (t : Tables) (n : ℕ) → 2 * L .drones ≤ L .stops
 abbrev pub CostLimit : Type 0
 CostLimit = (t : Tables) (n : ℕ) → costReply limits t ≡ costs n → n ≤ 31744
 
+-- in the log too one turn is the list of length one: the same reply, and it names the same
+pub record LogTurnIsGroup (F : FieldPlan) (log : List Entry) (w : ℕ) : Type 0 where
+  pub same-reply : replyBy F log (turn w) ≡ replyBy F log (turnAll (w ∷ []))
+  pub same-named : (v : ℕ) → isTurn v (turn w) ≡ isTurn v (turnAll (w ∷ []))
+
 -- of all tables
 pub record Demand2 : Type 0 where
   pub granted-exactly : (L : Limits) (t : Tables) → GrantedExactly L t
@@ -129,6 +178,12 @@ pub record Demand2 : Type 0 where
   pub second-after-first : (L : Limits) (t : Tables) → SecondAfterFirst L t
   pub turned-exactly : (L : Limits) (t : Tables) → TurnedExactly L t
   pub cycle-exactly : (L : Limits) (t : Tables) → CycleExactly L t
+  pub group-exactly : (L : Limits) (t : Tables) → GroupExactly L t
+  pub group-cycle-exactly : (L : Limits) (t : Tables) → GroupCycleExactly L t
+  pub no-group-exactly : (L : Limits) (t : Tables) → NoGroupExactly L t
+  pub walked-exactly : (L : Limits) (t : Tables) → WalkedExactly L t
+  pub turn-is-group : (L : Limits) (t : Tables) → TurnIsGroup L t
+  pub log-turn-is-group : (F : FieldPlan) (log : List Entry) (w : ℕ) → LogTurnIsGroup F log w
   pub stays-usable : (L : Limits) (t : Tables) → StaysUsable L t
   pub cost-means : (L : Limits) (t : Tables) → CostMeans L t
   pub cost-bounded : CostBounded

@@ -1,7 +1,7 @@
 -- Demand 3: one claim about any list of calls after an accepted reading. Assumes nothing.
 use mathlib.Core.Path.{_≡_}
 use mathlib.Core.Logic.{_⊎_}
-use mathlib.Core.Bool.{Bool, true, false}
+use mathlib.Core.Bool.{true}
 use mathlib.Core.List.{List}
 use Prim.Native.Nat.{ℕ, _≤_, _<_}
 use Rattle.tables.specs.Limits.{Limits}
@@ -53,7 +53,7 @@ pub record Found (lists : PlanLists) (calls : List Call) (got : List Entry) (t�
   pub finishes : Finishes (planOf lists) (logOf (planOf lists) calls)
 
 -- what is claimed of a program: "any accepted plan, then every list of grants, arrivals and turns, of any length and order, whatever drone or
--- dependency each names, refused ones included"
+-- dependency each names, refused ones included"; "Demand 3 now allows group turns among the calls"
 abbrev pub Demand3Of : Limits → (Tables → Call → Answer) → Type 0
 Demand3Of L program = (lists : PlanLists) (t : Tables) (calls : List Call) → AsRead L lists t → Found lists calls (recorded program t calls) (tablesAfter program t calls)
 

@@ -17,8 +17,8 @@ use Rattle.plan.specs.Claims.{stopTotal, ownerIn, numberIn, locationIn, timeIn,
 use Rattle.plan.specs.Dependencies.{dependencyTotal, column, flagOf}
 use Rattle.plan.specs.Field.{planOf, graph}
 use Rattle.sound.specs.Sound.{sound}
-use Rattle.log.specs.CallLog.{Call, grant, arrive, turn, Reply, accepted, refused, mustWait, statusOf, Entry, entry, replyBy}
-use Rattle.log.specs.Preview.{PreviewReply, wouldTurn, wouldRefuse, preview}
+use Rattle.log.specs.CallLog.{Call, grant, arrive, turn, turnAll, Reply, accepted, refused, mustWait, statusOf, Entry, entry, replyBy}
+use Rattle.log.specs.Preview.{PreviewReply, wouldTurn, wouldRefuse, preview, previewAll}
 use Rattle.log.specs.Calls.{step, CostReply, costs, costRefused, costReply}
 
 -- ---- plans by routes
@@ -88,11 +88,12 @@ tablesBy rs = let p = planBy rs in record {
 
 -- ---- flights
 
--- a call with the reply that it must get, `cost=0` with the cost, or a turn looked at before it is made
+-- a call with the reply that it must get, `cost=0` with the cost, or a turn, of one or of a list, looked at before it is made
 pub data Line : Type 0 where
   says : Call → Reply → Line
   costsNow : ℕ → Line
   previews : ℕ → PreviewReply → Line
+  previewsAll : List ℕ → PreviewReply → Line
 
 -- the plan is taken with so many dependencies, and then the lines hold; or refusal 10 gives two drones, each with its stop
 pub data Outcome : Type 0 where
@@ -133,6 +134,7 @@ follow p t log [] = true
 follow p t log (says c r ∷ ls) = let by-log = replyBy (planOf p) log c in sameReply (step small t c .reply) r && (sameReply by-log r && follow p (step small t c .tables) (log ++ (entry c by-log ∷ [])) ls)
 follow p t log (costsNow n ∷ ls) = isCost (costReply small t) n && (eqb (cost (graph (planOf p) (statusOf log .turned)) (statusOf log .place)) n && follow p t log ls)
 follow p t log (previews w r ∷ ls) = samePreview (preview small t w) r && follow p t log ls
+follow p t log (previewsAll ws r ∷ ls) = samePreview (previewAll small t ws) r && follow p t log ls
 
 unfoldable pub holds : Flight → Bool
 holds f = elim (f .outcome) [
@@ -192,13 +194,26 @@ slips =
     ∷ flight ring (taken 3 (says (turn 0) (refused 34) ∷ []))
     ∷ []
 
+-- turns of a list
+abbrev pub groups : List Flight
+groups =
+    -- "Flight P with both turned is accepted and still costs 8"
+    flight P (taken 2 (says (turnAll (0 ∷ 1 ∷ [])) accepted ∷ costsNow 8 ∷ says (turnAll (0 ∷ 1 ∷ [])) accepted ∷ costsNow 8 ∷ []))
+    -- "36, an empty list or one not strictly rising, after 40 and before 30; then 30 to 34 as the list is walked, with 34 last of all"
+    ∷ flight P (taken 2 (says (turnAll (1 ∷ 0 ∷ [])) (refused 36) ∷ says (turnAll (7 ∷ 7 ∷ [])) (refused 36) ∷ says (turnAll []) (refused 36) ∷ says (turnAll (0 ∷ 7 ∷ [])) (refused 30) ∷ says (turnAll (0 ∷ [])) (refused 34) ∷ costsNow 8 ∷ []))
+    -- with a third drone that makes dependency 2, a fixed one: it is found though 0 alone would make a cycle. And 32 as drone 0 is under way to its stop 1
+    ∷ flight (P ++ ((go 12 0 ∷ go 11 5 ∷ go 13 6 ∷ []) ∷ [])) (taken 3 (says (turnAll (0 ∷ 2 ∷ [])) (refused 31) ∷ says (turnAll (0 ∷ [])) (refused 34) ∷ says (grant 0) accepted ∷ says (turnAll (0 ∷ 1 ∷ [])) (refused 32) ∷ []))
+    -- the list of length one: Q's dependency 0
+    ∷ flight (Q 4) (taken 1 (says (turnAll (0 ∷ [])) accepted ∷ costsNow 6 ∷ says (turn 0) accepted ∷ costsNow 8 ∷ []))
+    ∷ []
+
 -- turns looked at before they are made
 abbrev pub looks : List Flight
 looks =
     -- "Flight Q gives -2", and the tables are untouched; once it is turned, turning it back costs 2. There is no dependency 1
     flight (Q 4) (taken 1 (previews 0 (wouldTurn (negℤ (pos 2))) ∷ costsNow 8 ∷ says (turn 0) accepted ∷ costsNow 6 ∷ previews 0 (wouldTurn (pos 2)) ∷ previews 1 (wouldRefuse 30) ∷ []))
-    -- P: either alone has a cycle
-    ∷ flight P (taken 2 (previews 0 (wouldRefuse 34) ∷ previews 1 (wouldRefuse 34) ∷ []))
+    -- P: either alone has a cycle, both together cost the same
+    ∷ flight P (taken 2 (previews 0 (wouldRefuse 34) ∷ previews 1 (wouldRefuse 34) ∷ previewsAll (0 ∷ 1 ∷ []) (wouldTurn (pos 0)) ∷ previewsAll (1 ∷ 0 ∷ []) (wouldRefuse 36) ∷ previewsAll [] (wouldRefuse 36) ∷ []))
     -- a fixed one; and one whose first drone is under way to its stop
     ∷ flight ((go 5 0 ∷ go 6 1 ∷ []) ∷ (go 3 0 ∷ go 5 2 ∷ go 4 3 ∷ []) ∷ []) (taken 1 (previews 0 (wouldRefuse 31) ∷ []))
     ∷ flight (Q 4) (taken 1 (says (grant 0) accepted ∷ says (arrive 0) accepted ∷ previews 0 (wouldTurn (pos 0)) ∷ says (grant 0) accepted ∷ previews 0 (wouldRefuse 32) ∷ []))
@@ -206,4 +221,4 @@ looks =
 
 -- the claim: every flight of the table is as it says
 abbrev pub FlightsHold : Type 0
-FlightsHold = allHold (starred ++ slips ++ looks) ≡ true
+FlightsHold = allHold (starred ++ slips ++ groups ++ looks) ≡ true

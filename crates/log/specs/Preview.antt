@@ -1,14 +1,15 @@
--- A turn looked at before it is made: the reply that the turn would get and, when it would be done, the cost after it less the cost now (document 02, point 2).
--- No table is in the answer: a preview changes none. Assumes nothing.
+-- A turn looked at before it is made: the reply that the turn would get and, when it would be done, the cost after it less the cost now (document 02, point 2;
+-- of a list, point 4). No table is in the answer: a preview changes none. Assumes nothing.
 use mathlib.Core.Path.{_≡_}
 use mathlib.Core.Logic.{_↔_}
+use mathlib.Core.List.{List, [], _∷_}
 use Prim.Native.Nat.{ℕ, _-_, _*_, _≤_}
 use lib.IntN.{ℤ, pos, negℤ, subℕ}
 use lib.Signed.{_≤ℤ_}
 use Rattle.tables.specs.Limits.{Limits, limits}
 use Rattle.tables.specs.Tables.{Tables}
 use Rattle.log.specs.CallLog.{Reply, accepted, refused, mustWait}
-use Rattle.log.specs.Calls.{Answer, turnStep, CostReply, costs, costRefused, costReply}
+use Rattle.log.specs.Calls.{Answer, turnStep, turnAllStep, CostReply, costs, costRefused, costReply}
 
 -- the turn would be done and change the cost by so much; or it would be refused with this number
 pub data PreviewReply : Type 0 where
@@ -32,6 +33,10 @@ module _ (L : Limits) (t : Tables) where
   unfoldable pub preview : ℕ → PreviewReply
   preview w = previewOf (turnStep L t w)
 
+  -- "The preview takes a list too"
+  unfoldable pub previewAll : List ℕ → PreviewReply
+  previewAll ws = previewOf (turnAllStep L t ws)
+
 -- ---- what is claimed, of a preview p and the answer of the turn
 
 -- "Refused: as for turn": with the same numbers, and never because a cost is not there
@@ -54,7 +59,7 @@ DoneAs L t p a = (z : ℤ) → (p ≡ wouldTurn z) ↔ ((a .reply ≡ accepted) 
 abbrev pub Within : ℕ → PreviewReply → Type 0
 Within n p = (z : ℤ) → p ≡ wouldTurn z → (negℤ (pos n) ≤ℤ z) × (z ≤ℤ pos n)
 
--- of all tables and dependencies
+-- of all tables and dependencies, and of all lists
 pub record PreviewClaims : Type 0 where
   pub preview-refused : (L : Limits) (t : Tables) (w : ℕ) → RefusedAs (preview L t w) (turnStep L t w)
   pub preview-done : (L : Limits) (t : Tables) (w : ℕ) → DoneAs L t (preview L t w) (turnStep L t w)
@@ -62,3 +67,9 @@ pub record PreviewClaims : Type 0 where
   pub preview-bounded : (L : Limits) (t : Tables) (w : ℕ) → 2 * L .drones ≤ L .stops → Within (L .drones * (L .stops - L .drones)) (preview L t w)
   -- "a signed number from -31,744 to 31,744"
   pub preview-limit : (t : Tables) (w : ℕ) → Within 31744 (preview limits t w)
+  pub previewAll-refused : (L : Limits) (t : Tables) (ws : List ℕ) → RefusedAs (previewAll L t ws) (turnAllStep L t ws)
+  pub previewAll-done : (L : Limits) (t : Tables) (ws : List ℕ) → DoneAs L t (previewAll L t ws) (turnAllStep L t ws)
+  pub previewAll-bounded : (L : Limits) (t : Tables) (ws : List ℕ) → 2 * L .drones ≤ L .stops → Within (L .drones * (L .stops - L .drones)) (previewAll L t ws)
+  pub previewAll-limit : (t : Tables) (ws : List ℕ) → Within 31744 (previewAll limits t ws)
+  -- the preview of one turn is that of the list of length one
+  pub preview-is-group : (L : Limits) (t : Tables) (w : ℕ) → preview L t w ≡ previewAll L t (w ∷ [])

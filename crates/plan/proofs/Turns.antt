@@ -1,46 +1,58 @@
 -- The graph of an accepted plan, with some dependencies turned. Of two drones at one location the first is gone before the second comes, so planned times
 -- rise along every edge and the planned graph has no cycle. Assumes nothing.
-use mathlib.Core.Path.{_≡_, refl, sym, ap, _∙_, subst, fun-ext}
+use mathlib.Core.Path.{_≡_, refl, ap, _∙_, fun-ext}
 use mathlib.Core.Logic.{_≢_, inl, inr}
 use mathlib.Core.Bool.{Bool, true, false, not}
+use mathlib.Core.List.{List, [], _∷_}
 use Prim.Native.Nat.{ℕ, _<_}
 use native.Mathlib.Omega.{arith}
 use lib.Dec.{eqb}
-use borrow.Author.Tests.{eqb-true, eqb-false, eq-eqb, ne-eqb}
+use borrow.Author.Tests.{eqb-true, eqb-false, ne-eqb}
+use Rattle.below.specs.Below.{isIn}
+use Rattle.below.proofs.Members.{in-head}
 use Rattle.below.proofs.Tests.{by-cases, true-or-false, or-left, or-right}
 use Rattle.precedence.specs.Graph.{FormedWait, Formed, cyclic, Cycle, Rising}
 use Rattle.precedence.proofs.Visits.{rising-acyclic, acyclic-iff}
-use Rattle.plan.specs.Field.{Dependency, FieldPlan, inForce, waitOf, flip, graph, fixed, GoneBefore, Checked, Meeting, AcceptedPlan}
-use Rattle.plan.specs.Claims.{unturned, TurnRules, Unfixed, PlannedGraph}
+use Rattle.plan.specs.Field.{Dependency, FieldPlan, inForce, waitOf, flipAll, graph, fixed, GoneBefore, Checked, Meeting, AcceptedPlan}
+use Rattle.plan.specs.Claims.{unturned, TurnRules, GroupRules, Unfixed, PlannedGraph}
 
--- ---- what a turn changes
+-- ---- what a turn of a list changes
 
--- what holds of dependency w either way and of every other as it was holds of all
-pub flip-elim {ℓ} : (C : ℕ → Bool → Type ℓ) (t : ℕ → Bool) (w : ℕ) → ((b : Bool) → C w b) → ((v : ℕ) → C v (t v)) → (v : ℕ) → C v (flip t w v)
-flip-elim C t w h g v = by-cases (eqb v w)
-    (λ e. rw e (subst (λ (x : ℕ). C x (not (t v))) (sym (eqb-true v w e)) (h (not (t v)))))
-    (λ e. rw e (g v))
-
-pub flip-same : (t : ℕ → Bool) (w : ℕ) → flip t w w ≡ not (t w)
-flip-same t w = rw (eq-eqb w w refl) refl
-
-pub flip-other : (t : ℕ → Bool) (w v : ℕ) → v ≢ w → flip t w v ≡ t v
-flip-other t w v n = rw (ne-eqb v w n) refl
+-- what holds either way of each dependency of the list and of every other as it was holds of all
+pub flipAll-elim {ℓ} : (C : ℕ → Bool → Type ℓ) (t : ℕ → Bool) (ws : List ℕ) → ((w : ℕ) → isIn w ws ≡ true → (b : Bool) → C w b) → ((v : ℕ) → C v (t v)) → (v : ℕ) → C v (flipAll t ws v)
+flipAll-elim C t ws h g v = by-cases (isIn v ws) (λ e. rw e (h v e (not (t v)))) (λ e. rw e (g v))
 
 not-not : (b : Bool) → not (not b) ≡ b
 not-not true = refl
 not-not false = refl
 
-pub flip-twice : (t : ℕ → Bool) (w v : ℕ) → flip (flip t w) w v ≡ t v
-flip-twice t w v = by-cases (eqb v w) (λ e. rw e (not-not (t v))) (λ e. rw e refl)
+flipAll-twice : (t : ℕ → Bool) (ws : List ℕ) (v : ℕ) → flipAll (flipAll t ws) ws v ≡ t v
+flipAll-twice t ws v = by-cases (isIn v ws) (λ e. rw e (not-not (t v))) (λ e. rw e refl)
 
-pub turn-rules : (F : FieldPlan) (t : ℕ → Bool) (w : ℕ) → TurnRules F t w
-turn-rules F t w = record {
-  planned-rule = λ e. ap (λ (b : Bool). waitOf (inForce b (F .dependency w))) e;
-  turned-rule = λ e. ap (λ (b : Bool). waitOf (inForce b (F .dependency w))) (flip-same t w ∙ ap not e);
-  other-rules = λ v n. ap (λ (b : Bool). waitOf (inForce b (F .dependency v))) (flip-other t w v n);
-  turned-twice = ap (graph F) (fun-ext (flip-twice t w));
+pub group-rules : (F : FieldPlan) (t : ℕ → Bool) (ws : List ℕ) → GroupRules F t ws
+group-rules F t ws = record {
+  turned-rules = λ w i e. ap (λ (b : Bool). waitOf (inForce b (F .dependency w))) (named w i ∙ ap not e);
+  other-rules = λ v i. ap (λ (b : Bool). waitOf (inForce b (F .dependency v))) (other v i);
+  turned-twice = ap (graph F) (fun-ext (flipAll-twice t ws));
 }
+  where
+    named : (w : ℕ) → isIn w ws ≡ true → flipAll t ws w ≡ not (t w)
+    named w i = rw i refl
+
+    other : (v : ℕ) → isIn v ws ≡ false → flipAll t ws v ≡ t v
+    other v i = rw i refl
+
+-- one turn is the list of length one
+pub turn-rules : (F : FieldPlan) (t : ℕ → Bool) (w : ℕ) → TurnRules F t w
+unfolding isIn
+turn-rules F t w =
+    let g = group-rules F t (w ∷ []) in
+    record {
+      planned-rule = λ e. ap (λ (b : Bool). waitOf (inForce b (F .dependency w))) e;
+      turned-rule = g .turned-rules w (in-head w []);
+      other-rules = λ v n. g .other-rules v (ne-eqb v w n);
+      turned-twice = g .turned-twice;
+    }
 
 -- ---- plans that pass the check
 

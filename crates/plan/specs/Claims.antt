@@ -2,14 +2,15 @@
 use mathlib.Core.Path.{_≡_}
 use mathlib.Core.Logic.{_≢_, _⊎_, _↔_}
 use mathlib.Core.Bool.{Bool, true, false, cond}
+use mathlib.Core.List.{List}
 use Prim.Native.Nat.{ℕ, suc, _+_, _≤_, _<_}
-use Rattle.below.specs.Below.{at}
+use Rattle.below.specs.Below.{at, isIn}
 use Rattle.tables.specs.Tables.{PlanLists, drones, dependencies}
 use Rattle.precedence.specs.Graph.{Formed, cyclic, Cycle}
 use Rattle.plan.specs.Stops.{start, owner, number}
 use Rattle.plan.specs.Check.{firstFault, collide, partner, collider, apart}
 use Rattle.plan.specs.Dependencies.{dependencyTotal, column, flagOf}
-use Rattle.plan.specs.Field.{Dependency, FieldPlan, before, flip, graph, fixed, Checked, AcceptedPlan, planOf}
+use Rattle.plan.specs.Field.{Dependency, FieldPlan, before, flip, flipAll, graph, fixed, Checked, AcceptedPlan, planOf}
 
 -- ---- the stops of all drones, numbered through
 
@@ -188,6 +189,12 @@ module _ (F : FieldPlan) where
     -- "Turning twice gives the first rule again"
     pub turned-twice : graph F (flip (flip turned w) w) ≡ graph F turned
 
+  -- the same of a turn of a list, all at once
+  pub record GroupRules (turned : ℕ → Bool) (ws : List ℕ) : Type 0 where
+    pub turned-rules : (w : ℕ) → isIn w ws ≡ true → turned w ≡ false → graph F (flipAll turned ws) .wait w ≡ record { waiter = dependency w .first; stop = dependency w .firstStop; awaited = dependency w .second; until = suc (dependency w .secondStop) }
+    pub other-rules : (v : ℕ) → isIn v ws ≡ false → graph F (flipAll turned ws) .wait v ≡ graph F turned .wait v
+    pub turned-twice : graph F (flipAll (flipAll turned ws) ws) ≡ graph F turned
+
   -- a dependency of the stop s of drone d and the stop k of drone e, whichever is there first
   abbrev pub Between : ℕ → ℕ → ℕ → ℕ → Dependency → Type 0
   Between d s e k x = (x ≡ record { first = d; firstStop = s; second = e; secondStop = k }) ⊎ (x ≡ record { first = e; firstStop = k; second = d; secondStop = s })
@@ -213,4 +220,5 @@ module _ (F : FieldPlan) where
 pub record GraphClaims : Type 0 where
   pub one-dependency : (F : FieldPlan) → AcceptedPlan F → (d s e k : ℕ) → d < F .drones → s ≤ F .last d → e < F .drones → k ≤ F .last e → d ≢ e → F .location d s ≡ F .location e k → OneDependency F d s e k
   pub turn-rules : (F : FieldPlan) (turned : ℕ → Bool) (w : ℕ) → TurnRules F turned w
+  pub group-rules : (F : FieldPlan) (turned : ℕ → Bool) (ws : List ℕ) → GroupRules F turned ws
   pub planned-graph : (F : FieldPlan) → AcceptedPlan F → PlannedGraph F

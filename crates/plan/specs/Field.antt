@@ -3,9 +3,10 @@
 use mathlib.Core.Path.{_≡_}
 use mathlib.Core.Logic.{_≢_, _⊎_}
 use mathlib.Core.Bool.{Bool, true, false, not, cond, _&&_, _||_}
+use mathlib.Core.List.{List}
 use Prim.Native.Nat.{ℕ, suc, _+_, _-_, _≤_, _<_}
 use lib.Dec.{ltb, eqb}
-use Rattle.below.specs.Below.{at}
+use Rattle.below.specs.Below.{at, isIn}
 use Rattle.tables.specs.Tables.{PlanLists, drones as droneCountOf, dependencies as dependencyCountOf}
 use Rattle.plan.specs.Stops.{start}
 use Rattle.precedence.specs.Graph.{Wait, departure, Plan}
@@ -38,6 +39,10 @@ waitOf e = departure (e .first) (e .firstStop) (e .second) (e .secondStop)
 -- "Turn: flips bit 0 of one dependency": what is turned after a turn of dependency w
 abbrev pub flip : (ℕ → Bool) → ℕ → ℕ → Bool
 flip turned w v = cond (eqb v w) (not (turned v)) (turned v)
+
+-- "a turn of a list of dependencies, all at once": what is turned after it. A turn of one is that of the list of length one
+abbrev pub flipAll : (ℕ → Bool) → List ℕ → ℕ → Bool
+flipAll turned ws v = cond (isIn v ws) (not (turned v)) (turned v)
 
 -- "in rising order of planned first drone, its stop, planned second drone, its stop"
 abbrev pub before : Dependency → Dependency → Bool

@@ -1,3 +1,4 @@
+pub mod flip_all
 pub mod flip_if
 pub mod spread
 pub mod spread_used

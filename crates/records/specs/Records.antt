@@ -1,7 +1,7 @@
 -- The lent table of dependency records as a list: what is spread out of it into columns and stored back (document 01, "Tables and what is sound"). Assumes nothing.
 use mathlib.Core.Path.{_≡_}
 use mathlib.Core.Bool.{Bool, true, false, _||_}
-use mathlib.Core.List.{List, _++_, map}
+use mathlib.Core.List.{List, [], _∷_, _++_, map}
 use Prim.Native.Nat.{ℕ, _+_, min}
 use lib.Dec.{ltb, eqb}
 use lib.ListN.{length, getD, set, take, drop, replicate}
@@ -25,6 +25,11 @@ overlaid k xs t = take k xs ++ drop k t
 abbrev pub flipIf : Bool → ℕ → List Dependency → List Dependency
 flipIf true i ds = set ds i (flipDependency (recordAt ds i))
 flipIf false i ds = ds
+
+-- "a turn of a list of dependencies, all at once"
+unfoldable pub flipAllIf : Bool → List ℕ → List Dependency → List Dependency
+flipAllIf turns [] ds = ds
+flipAllIf turns (w ∷ ws) ds = flipAllIf turns ws (flipIf turns w ds)
 
 -- ---- the columns: "Each record holds these four and a flag byte"
 

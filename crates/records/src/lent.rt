@@ -7,7 +7,7 @@ use tables::entries::Dependency;
 use tables::sizes::full_size;
 ghost use mathlib.Core.Path.{_≡_};
 ghost use Rattle.tables.specs.Limits.{limits};
-ghost use Rattle.records.specs.Records.{ColumnSizes, ColumnsOf, zeroRecords, usedRecords, unusedZero, tablesOfRecords, SpreadAs, spreadRecords, gathered, storeIf, flipIf};
+ghost use Rattle.records.specs.Records.{ColumnSizes, ColumnsOf, zeroRecords, usedRecords, unusedZero, tablesOfRecords, SpreadAs, spreadRecords, gathered, storeIf, flipIf, flipAllIf};
 
 // The fields of the used records into zeroed columns.
 pub fn spread_used(
@@ -150,6 +150,19 @@ pub fn flip_if(deps: &mut [Dependency], i: usize, turns: bool)
     if turns {
         if i < deps.len() {
             deps[i] = record::flip(deps[i]);
+        }
+    }
+}
+
+// Flips bit 0 of each record of the list where `turns` says so.
+pub fn flip_all(deps: &mut [Dependency], list: &[u16], turns: bool)
+    ensures { λ _. ⌜ now (deps .exit) ≡ flipAllIf turns (now (list .entry)) (now (deps .entry)) ⌝ }
+{
+    if turns {
+        let mut k: usize = 0;
+        while k < list.len() {
+            flip_if(deps, list[k] as usize, true);
+            k += 1;
         }
     }
 }

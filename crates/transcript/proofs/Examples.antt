@@ -2,7 +2,7 @@
 use Prim.Native.Nat.{ℕ, _-_}
 use mathlib.Core.Path.{_≡_, refl}
 use mathlib.Core.List.{List, [], _∷_, _++_}
-use Rattle.below.specs.Below.{firstBelow, allBelow, sumBelow}
+use Rattle.below.specs.Below.{isIn, firstBelow, allBelow, sumBelow}
 use Rattle.precedence.specs.Graph.{blocks, free, round, play, finished, unvisited, reached, remaining, cost, cyclic}
 use Rattle.lines.specs.Keys.{planLine, agentsKey, stopsKey, endLine}
 use Rattle.lines.specs.Bytes.{byteAt, isAt}
@@ -63,7 +63,7 @@ plan-ends = refl
 
 -- document 01's output
 flight-Q : outputOf (λ text. readingQ) (planQ ++ callsQ) ≡ outputQ
-unfolding outputOf planEnd firstBelow endsPlan startsLine byteAt isAt digits linesAt callAt mostOf fieldAt numberAt digitsFrom isDigit answersBy answerLines answerLine valueText replyText acceptedCalls replyIn blocks free round play finished unvisited reached remaining cost cyclic allBelow sumBelow
+unfolding outputOf planEnd firstBelow endsPlan startsLine byteAt isAt digits linesAt callAt mostOf fieldAt numberAt digitsFrom isDigit answersBy answerLines answerLine valueText replyText acceptedCalls replyIn blocks free round play finished unvisited reached remaining cost cyclic isIn allBelow sumBelow
 flight-Q = refl
 
 -- ---- call lines

@@ -6,14 +6,13 @@ use mathlib.Core.Path.{_≡_, refl, sym, ap, ap₂, _∙_}
 use mathlib.Core.List.{List, [], _∷_, _++_, append-assoc, append-nil}
 use lib.ListN.{length, getD}
 use lib.Seq.{sets}
-use Rattle.below.specs.Below.{at, rowsBelow, listBelow, laid}
+use Rattle.below.specs.Below.{at, rowsBelow, laid}
 use Rattle.below.proofs.Index.{listBelow-is}
 use Rattle.below.proofs.Picks.{getD-laid}
 use Rattle.below.proofs.Same.{rows-ext}
 use Rattle.tables.specs.Limits.{Limits}
 use Rattle.tables.specs.Tables.{Tables}
-use Rattle.log.specs.CallLog.{grant, arrive, turn}
-use Rattle.transcript.specs.Input.{Request, call, cost, requestOf, kindOf, numberOf, kindsOf, numbersOf}
+use Rattle.transcript.specs.Input.{grant, arrive, turn, Request, call, cost, requestOf, kindOf, numberOf, kindsOf, numbersOf}
 use Rattle.transcript.specs.Output.{Answer, answerLine, answerLines, linesIn}
 use Rattle.transcript.specs.Run.{answersOn, tablesOn, requestsIn, kindsIn, numbersIn, detailsIn}
 

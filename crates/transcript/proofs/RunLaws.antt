@@ -1,23 +1,21 @@
 -- After an accepted reading the tables answer every request as the log does: call by call they show the log, and they stay sound.
-use Prim.Native.Nat.{ℕ}
-use mathlib.Core.Path.{_≡_, refl, sym, ap, _∙_}
+use mathlib.Core.Path.{_≡_, refl, ap, _∙_}
 use mathlib.Core.List.{List, [], _∷_, _++_}
 use Rattle.tables.specs.Limits.{Limits}
-use Rattle.tables.specs.Tables.{PlanLists, Tables, fullSize}
+use Rattle.tables.specs.Tables.{PlanLists, Tables}
 use Rattle.precedence.specs.Graph.{cost as costOf}
-use Rattle.plan.specs.Field.{FieldPlan, AcceptedPlan, planOf, graph}
+use Rattle.plan.specs.Field.{FieldPlan, planOf, graph}
 use Rattle.plan.specs.Status.{statusIn}
-use Rattle.sound.specs.Sound.{sound}
-use Rattle.log.specs.CallLog.{Call, Reply, number as replyNumber, Entry, entry, statusOf, replyBy, logFrom, logOf}
+use Rattle.log.specs.CallLog.{Call, Entry, entry, statusOf, replyBy, logFrom, logOf}
 use Rattle.log.specs.Calls.{step, AsRead, recorded, tablesAfter, costs, costReply}
 use Rattle.log.specs.Demand.{Shows}
 use Rattle.log.proofs.Whole.{demand3, replies-of, tables-of, ran, ran-more, stays-sound, stays-full, stays-same}
 use Rattle.log.proofs.Meaning.{log-joins}
 use Rattle.log.proofs.Steps.{cost-0}
 use Rattle.log.proofs.SoundParts.{accepted-plan}
-use Rattle.transcript.specs.Input.{Request, call, cost, kindOf}
-use Rattle.transcript.specs.Output.{Answer, awaited, answerBy, logAfter, answersBy}
-use Rattle.transcript.specs.Run.{costNumber, costDetail, answerOn, tablesOn, answersOn}
+use Rattle.transcript.specs.Input.{callOf, Request, call, cost}
+use Rattle.transcript.specs.Output.{answersBy}
+use Rattle.transcript.specs.Run.{answersOn}
 use Rattle.transcript.proofs.CostAgrees.{cost-same}
 
 -- the last of two lists that are else the same
@@ -59,7 +57,7 @@ module _ (L : Limits) (lists : PlanLists) (t : Tables) (read : AsRead L lists t)
   answers-from : (qs : List Request) (cs : List Call) → answersOn L (after cs) qs ≡ answersBy F (logOf F cs) qs
   unfolding answersOn answersBy
   answers-from [] cs = refl
-  answers-from (call c ∷ qs) cs = rw (same-reply cs c, after-more cs c, ← log-more cs c, answers-from qs (cs ++ (c ∷ [])))
+  answers-from (call c ∷ qs) cs = rw (same-reply cs (callOf c), after-more cs (callOf c), ← log-more cs (callOf c), answers-from qs (cs ++ (callOf c ∷ [])))
   answers-from (cost ∷ qs) cs = rw (same-cost cs, answers-from qs cs)
 
   pub same-answers : (qs : List Request) → answersOn L t qs ≡ answersBy F [] qs

@@ -12,7 +12,7 @@ use Rattle.lines.specs.Bytes.{byteAt, isAt}
 use Rattle.lines.specs.Numbers.{fieldAt}
 use Rattle.lines.specs.declared.numbers.Number.{Number}
 use Rattle.lines.specs.declared.numbers.Number.the-variants.{Value, Malformed as NoNumber}
-use Rattle.log.specs.CallLog.{Call, grant, arrive, turn}
+use Rattle.log.specs.CallLog.{Call, grant as grantCall, arrive as arriveCall, turn as turnCall}
 use Rattle.transcript.specs.Keys.{costKind, keyOf}
 use Rattle.transcript.specs.declared.requests.CallLine.{CallLine}
 use Rattle.transcript.specs.declared.requests.CallLine.the-variants.{Is, Malformed, OutOfRange}
@@ -62,8 +62,19 @@ callAt text at = lineOr 0 text at (lineOr 1 text at (lineOr 2 text at (lineOr 3 
 
 -- ---- the call lines from a position on
 
+-- the calls that lines can ask for: no line asks for a turn of a list
+pub data LineCall : Type 0 where
+  grant : ℕ → LineCall
+  arrive : ℕ → LineCall
+  turn : ℕ → LineCall
+
+abbrev pub callOf : LineCall → Call
+callOf (grant d) = grantCall d
+callOf (arrive d) = arriveCall d
+callOf (turn w) = turnCall w
+
 pub data Request : Type 0 where
-  call : Call → Request
+  call : LineCall → Request
   cost : Request
 
 abbrev pub requestOf : ℕ → ℕ → Request

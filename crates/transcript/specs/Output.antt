@@ -11,7 +11,7 @@ use Rattle.lines.specs.Keys.{lineFeed}
 use Rattle.lines.specs.Numbers.{digitsOf, field}
 use Rattle.log.specs.CallLog.{Reply, accepted, refused, mustWait, number as replyNumber, Entry, entry, statusOf, replyBy}
 use Rattle.transcript.specs.Keys.{colon, planKey, endLine, malformedLine, rangeLine, costKind, keyOf}
-use Rattle.transcript.specs.Input.{inputLimit, planEnd, Request, call, cost, kindOf, RequestList, requestsAt}
+use Rattle.transcript.specs.Input.{inputLimit, planEnd, callOf, Request, call, cost, kindOf, RequestList, requestsAt}
 use Rattle.transcript.specs.declared.requests.Ending.{Ending}
 use Rattle.transcript.specs.declared.requests.Ending.the-variants.{Done, FormFault, RangeFault}
 
@@ -60,12 +60,12 @@ awaited (mustWait w) = w
 module _ (F : FieldPlan) where
   -- the answer to a request by the log before it
   abbrev pub answerBy : List Entry → Request → Answer
-  answerBy log (call c) = record { kind = kindOf (call c); number = replyNumber (replyBy F log c); detail = awaited (replyBy F log c) }
+  answerBy log (call c) = record { kind = kindOf (call c); number = replyNumber (replyBy F log (callOf c)); detail = awaited (replyBy F log (callOf c)) }
   answerBy log cost = record { kind = kindOf cost; number = 0; detail = costOf (graph F (statusOf log .turned)) (statusOf log .place) }
 
   -- the log after it
   abbrev pub logAfter : List Entry → Request → List Entry
-  logAfter log (call c) = log ++ (entry c (replyBy F log c) ∷ [])
+  logAfter log (call c) = log ++ (entry (callOf c) (replyBy F log (callOf c)) ∷ [])
   logAfter log cost = log
 
   unfoldable pub answersBy : List Entry → List Request → List Answer

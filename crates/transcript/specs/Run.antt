@@ -8,7 +8,7 @@ use Rattle.tables.specs.Limits.{Limits}
 use Rattle.tables.specs.Tables.{Tables}
 use Rattle.log.specs.CallLog.{number as replyNumber}
 use Rattle.log.specs.Calls.{step, CostReply, costs, costRefused, costReply}
-use Rattle.transcript.specs.Input.{Request, call, cost, requestOf, kindOf}
+use Rattle.transcript.specs.Input.{callOf, Request, call, cost, requestOf, kindOf}
 use Rattle.transcript.specs.Output.{Answer, awaited}
 
 -- the number of a cost's refusal, and the cost
@@ -22,12 +22,12 @@ costDetail (costRefused n) = 0
 
 module _ (L : Limits) where
   abbrev pub answerOn : Tables → Request → Answer
-  answerOn t (call c) = record { kind = kindOf (call c); number = replyNumber (step L t c .reply); detail = awaited (step L t c .reply) }
+  answerOn t (call c) = record { kind = kindOf (call c); number = replyNumber (step L t (callOf c) .reply); detail = awaited (step L t (callOf c) .reply) }
   answerOn t cost = record { kind = kindOf cost; number = costNumber (costReply L t); detail = costDetail (costReply L t) }
 
   -- a cost changes nothing
   abbrev pub tablesOn : Tables → Request → Tables
-  tablesOn t (call c) = step L t c .tables
+  tablesOn t (call c) = step L t (callOf c) .tables
   tablesOn t cost = t
 
   unfoldable pub answersOn : Tables → List Request → List Answer

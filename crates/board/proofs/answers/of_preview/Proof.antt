@@ -1,4 +1,6 @@
+use mathlib.Core.Path.{ap}
 use borrow.Author.Needs.{needs}
+use Rattle.flat.specs.TurnReplies.{previewMeant}
 use Rattle.board.proofs.Laws.{widened-fits, widened-told}
 use Rattle.board.proofs.answers.of_preview.Statement.{statement}
 use Rattle.board.proofs.answers.of_preview.Tie as tie
@@ -30,7 +32,7 @@ enum-told-6 : tie.Need-enum-told-6
 enum-told-6 c = search needs
 
 returns : tie.Need-returns
-returns c = widened-told (c .before .reply .given .0 .0) (c .known-told .given .0 .1) _ (c .before .reply .given .1)
+returns c = widened-told (c .before .reply .given .0 .0) (c .known-told .given .0 .1) _ (ap previewMeant (c .before .reply .given .1))
 
 returns-2 : tie.Need-returns-2
 returns-2 c = search needs

@@ -5,11 +5,12 @@ use mathlib.Core.Bool.{Bool}
 use mathlib.Core.Logic.{⊎-elim}
 use Rattle.tables.specs.Limits.{limits}
 use Rattle.log.specs.CallLog.{turn as callOf}
+use Rattle.log.specs.Calls.{step}
 use Rattle.flat.specs.TurnReplies.{turnMeant}
 use Rattle.records.specs.Records.{flipIf}
 use Rattle.records.proofs.ColumnLaws.{zero-columns}
 use Rattle.records.proofs.Seen.{tables-spread}
-use Rattle.conductor.proofs.Over.{turn-over, turn-made, answered-41, answered-40, own-columns, whole-columns}
+use Rattle.conductor.proofs.Over.{told-over, turn-made, answered-41, answered-40, own-columns, whole-columns}
 use borrow.Author.Needs.{needs}
 use Rattle.conductor.proofs.calls.turn.Statement.{statement}
 use Rattle.conductor.proofs.calls.turn.Proof.Tie as tie
@@ -71,7 +72,7 @@ returns c =
     (λ w. ap turnMeant (w .2) ∙ answered-41 limits _ ds (told .0) (w .1 .given .1) (callOf (a .dependency)) .replied)
     (λ v. ⊎-elim
     (λ w. ap turnMeant (w .2) ∙ answered-40 limits _ ds (told .0) (own-columns limits ds) (w .1 .given .1) (callOf (a .dependency)) .replied)
-    (λ w. ap turnMeant (w .9) ∙ turn-over limits (a .dependency) (tables-spread limits ds (whole-columns limits ds (told .1 .0) (w .1 .given .1))) (w .7 .ensures .replied))
+    (λ w. ap turnMeant (w .9) ∙ told-over limits (λ t. step limits t (callOf (a .dependency)) .reply) (tables-spread limits ds (whole-columns limits ds (told .1 .0) (w .1 .given .1))) (w .7 .ensures .replied))
     v)
     (reply .came))
     (c .before .flip-if .ensures ∙ ap (λ (b : Bool). flipIf b (a .dependency) ds) turns) in

@@ -1,0 +1,155 @@
+use borrow.Author.Needs.{needs}
+use mathlib.Core.Path.{sym, _∙_}
+use native.Mathlib.Omega.{arith}
+use borrow.Author.Tests.{not-false}
+use Rattle.tables.specs.Limits.{limits}
+use Rattle.tables.specs.Tables.{Tables, tablesOf}
+use Rattle.flat.proofs.Facts.{Facts, facts}
+use Rattle.flat.proofs.GraphLaws.{usable-counts}
+use Rattle.flat.proofs.GroupLaws.{flag-in, can-exchange, group-tables, group-cyclic}
+use Rattle.flat.proofs.GroupAnswers.{lists-36, lists-30, lists-31, lists-32, all-pass, lists-34, lists-0}
+use Rattle.flat.proofs.turning.turn_all_sound.Statement.{statement}
+use Rattle.flat.proofs.turning.turn_all_sound.Tie as tie
+use Rattle.flat.proofs.turning.turn_all_sound.Reads as reads
+use Rattle.flat.proofs.turning.turn_all_sound.Lts as lts
+use Rattle.cycles.proofs.has_cycle.Reads as has-cycle-reads
+use Rattle.flat.proofs.groups.exchange_all.Reads as exchange-all-reads
+use Rattle.flat.proofs.groups.flip_all.Reads as flip-all-reads
+use Rattle.flat.proofs.groups.is_group.Reads as is-group-reads
+use Rattle.flat.proofs.groups.list_test.Reads as list-test-reads
+use Rattle.plan.proofs.stops.stop_total.Reads as stop-total-reads
+
+abbrev lent : tie.Start → Tables
+lent c = tablesOf (c .args .drone-count .now) (c .args .dependency-count .now) (c .args .names .now) (c .args .stop-counts .now) (c .args .locations .now) (c .args .times .now) (c .args .visited .now) (c .args .drone-flags .now) (c .args .first-drones .now) (c .args .first-stops .now) (c .args .second-drones .now) (c .args .second-stops .now) (c .args .flags .now)
+
+known : (c : tie.Start) → Facts limits (lent c)
+known c = facts limits (lent c) (c .pre .0)
+
+-- src/turning.rt:156:9
+is-group-requires : tie.Need-is-group-requires
+is-group-requires c κs = search needs
+
+-- src/turning.rt:157:9
+returns : tie.Need-returns
+returns c = lists-36 _ (c .before .before .before .before .before .before .before .before .before .before .before .before .before .before .before .before .pre .0) _ _ (c .before .is-group .ensures) (c .if1 .taken)
+
+-- src/turning.rt:159:9
+list-test-requires : tie.Need-list-test-requires
+list-test-requires c κs = c .before .before .before .before .before .before .before .before .before .before .before .before .before .before .before .before .before .pre .0
+
+-- src/turning.rt:176:35
+enum-told : tie.Need-enum-told
+enum-told c = search needs
+
+-- src/turning.rt:176:35
+same-length : tie.Need-same-length
+same-length c = search needs
+
+-- src/turning.rt:176:35
+returns-2 : tie.Need-returns-2
+returns-2 c = lists-30 _ (c .before .before .before .before .before .before .before .before .before .before .before .before .before .before .before .before .before .before .before .before .pre .0) _ (sym (c .before .before .before .before .before .is-group .ensures) ∙ not-false _ (c .before .before .before .before .if1 .left)) _ (c .before .before .list-test .ensures) (c .enum-told .given .1)
+
+-- src/turning.rt:177:28
+enum-told-2 : tie.Need-enum-told-2
+enum-told-2 c = search needs
+
+-- src/turning.rt:177:28
+same-length-2 : tie.Need-same-length-2
+same-length-2 c = search needs
+
+-- src/turning.rt:177:28
+returns-3 : tie.Need-returns-3
+returns-3 c = lists-31 _ (c .before .before .before .before .before .before .before .before .before .before .before .before .before .before .before .before .before .before .before .before .pre .0) _ (sym (c .before .before .before .before .before .is-group .ensures) ∙ not-false _ (c .before .before .before .before .if1 .left)) _ (c .before .before .list-test .ensures) (c .enum-told2 .given .1)
+
+-- src/turning.rt:178:35
+enum-told-3 : tie.Need-enum-told-3
+enum-told-3 c = search needs
+
+-- src/turning.rt:178:35
+same-length-3 : tie.Need-same-length-3
+same-length-3 c = search needs
+
+-- src/turning.rt:178:35
+returns-4 : tie.Need-returns-4
+returns-4 c = lists-32 _ (c .before .before .before .before .before .before .before .before .before .before .before .before .before .before .before .before .before .before .before .before .pre .0) _ (sym (c .before .before .before .before .before .is-group .ensures) ∙ not-false _ (c .before .before .before .before .if1 .left)) _ (c .before .before .list-test .ensures) (c .enum-told3 .given .1)
+
+enum-told-4 : tie.Need-enum-told-4
+enum-told-4 c = search needs
+
+-- src/turning.rt:181:5
+exchange-all-requires : tie.Need-exchange-all-requires
+exchange-all-requires c κs = (c .before .before .before .before .before .before .before .before .before .before .before .before .before .before .before .before .before .before .before .before .before .before .pre .1 .from-size, c .before .before .before .before .before .before .before .before .before .before .before .before .before .before .before .before .before .before .before .before .before .before .pre .1 .into-size, can-exchange (lent (c .before .before .before .before .before .before .before .before .before .before .before .before .before .before .before .before .before .before .before .before .before .before)) (c .before .before .before .before .before .before .before .before .before .before .before .before .before .before .before .before .before .before .before .before .before .before .pre .0) (c .before .before .before .before .before .before .before .before .before .before .before .before .before .before .before .before .before .before .before .before .before .before .args .list .now) (all-pass _ (c .before .before .before .before .before .before .before .before .before .before .before .before .before .before .before .before .before .before .before .before .before .before .pre .0) (c .before .before .before .before .before .before .before .before .before .before .before .before .before .before .before .before .before .before .before .before .before .before .args .list .now) (sym (c .before .before .before .before .before .before .before .is-group .ensures) ∙ not-false _ (c .before .before .before .before .before .before .if1 .left)) _ (c .before .before .before .before .list-test .ensures) (c .before .before .enum-told4 .given .1)) _ _ _ _ _ (c .before .before .before .before .before .before .before .before .before .before .before .before .before .before .before .before .before .before .before .before .before .before .pre .1))
+
+-- src/turning.rt:182:18
+shared-slice-read-drones : tie.Need-shared-slice-read-drones
+shared-slice-read-drones c = omega (arith, known (c .before .before .before .before .before .before .before .before .before .before .before .before .before .before .before .before .before .before .before .before .before .before .before .before) .sizes .drone-count)
+
+-- src/turning.rt:182:18
+cast-drones : tie.Need-cast-drones
+cast-drones c = omega (arith, known (c .before .before .before .before .before .before .before .before .before .before .before .before .before .before .before .before .before .before .before .before .before .before .before .before) .drones-few)
+
+-- src/turning.rt:183:17
+shared-slice-read-count : tie.Need-shared-slice-read-count
+shared-slice-read-count c = omega (arith, known (c .before .before .before .before .before .before .before .before .before .before .before .before .before .before .before .before .before .before .before .before .before .before .before .before .before) .sizes .dependency-count)
+
+-- src/turning.rt:183:17
+cast-count : tie.Need-cast-count
+cast-count c = omega (arith, known (c .before .before .before .before .before .before .before .before .before .before .before .before .before .before .before .before .before .before .before .before .before .before .before .before .before) .dependencies-few)
+
+-- src/turning.rt:184:9
+stop-total-requires : tie.Need-stop-total-requires
+stop-total-requires c κs = usable-counts (lent (c .before .before .before .before .before .before .before .before .before .before .before .before .before .before .before .before .before .before .before .before .before .before .before .before .before)) (c .before .before .before .before .before .before .before .before .before .before .before .before .before .before .before .before .before .before .before .before .before .before .before .before .before .pre .0)
+
+-- src/turning.rt:185:8
+has-cycle-requires : tie.Need-has-cycle-requires
+has-cycle-requires c κs = group-tables (lent (c .before .before .before .before .before .before .before .before .before .before .before .before .before .before .before .before .before .before .before .before .before .before .before .before .before .before .before .before .before)) (c .before .before .before .before .before .before .before .before .before .before .before .before .before .before .before .before .before .before .before .before .before .before .before .before .before .before .before .before .before .pre .0) (c .before .before .before .before .before .before .before .before .before .before .before .before .before .before .before .before .before .before .before .before .before .before .before .before .before .before .before .before .before .args .list .now) (all-pass _ (c .before .before .before .before .before .before .before .before .before .before .before .before .before .before .before .before .before .before .before .before .before .before .before .before .before .before .before .before .before .pre .0) (c .before .before .before .before .before .before .before .before .before .before .before .before .before .before .before .before .before .before .before .before .before .before .before .before .before .before .before .before .before .args .list .now) (sym (c .before .before .before .before .before .before .before .before .before .before .before .before .before .before .is-group .ensures) ∙ not-false _ (c .before .before .before .before .before .before .before .before .before .before .before .before .before .if1 .left)) _ (c .before .before .before .before .before .before .before .before .before .before .before .list-test .ensures) (c .before .before .before .before .before .before .before .before .before .enum-told4 .given .1)) _ _ _ _ _ (c .before .before .before .before .before .before .before .before .before .before .before .before .before .before .before .before .before .before .before .before .before .before .before .before .before .before .before .before .before .pre .1) _ _ (c .before .before .before .before .before .before .exchange-all .ensures) _ (c .before .before .before .stop-total .ensures)
+
+-- src/turning.rt:186:9
+same-length-4 : tie.Need-same-length-4
+same-length-4 c = search needs
+
+-- src/turning.rt:186:9
+returns-5 : tie.Need-returns-5
+returns-5 c = lists-34 _ (c .before .before .before .before .before .before .before .before .before .before .before .before .before .before .before .before .before .before .before .before .before .before .before .before .before .before .before .before .before .before .before .pre .0) _ (sym (c .before .before .before .before .before .before .before .before .before .before .before .before .before .before .before .before .is-group .ensures) ∙ not-false _ (c .before .before .before .before .before .before .before .before .before .before .before .before .before .before .before .if1 .left)) _ (c .before .before .before .before .before .before .before .before .before .before .before .before .before .list-test .ensures) (c .before .before .before .before .before .before .before .before .before .before .before .enum-told4 .given .1) _ (group-cyclic (lent (c .before .before .before .before .before .before .before .before .before .before .before .before .before .before .before .before .before .before .before .before .before .before .before .before .before .before .before .before .before .before .before)) (c .before .before .before .before .before .before .before .before .before .before .before .before .before .before .before .before .before .before .before .before .before .before .before .before .before .before .before .before .before .before .before .pre .0) (c .before .before .before .before .before .before .before .before .before .before .before .before .before .before .before .before .before .before .before .before .before .before .before .before .before .before .before .before .before .before .before .args .list .now) (all-pass _ (c .before .before .before .before .before .before .before .before .before .before .before .before .before .before .before .before .before .before .before .before .before .before .before .before .before .before .before .before .before .before .before .pre .0) (c .before .before .before .before .before .before .before .before .before .before .before .before .before .before .before .before .before .before .before .before .before .before .before .before .before .before .before .before .before .before .before .args .list .now) (sym (c .before .before .before .before .before .before .before .before .before .before .before .before .before .before .before .before .is-group .ensures) ∙ not-false _ (c .before .before .before .before .before .before .before .before .before .before .before .before .before .before .before .if1 .left)) _ (c .before .before .before .before .before .before .before .before .before .before .before .before .before .list-test .ensures) (c .before .before .before .before .before .before .before .before .before .before .before .enum-told4 .given .1)) _ _ _ _ _ (c .before .before .before .before .before .before .before .before .before .before .before .before .before .before .before .before .before .before .before .before .before .before .before .before .before .before .before .before .before .before .before .pre .1) _ _ (c .before .before .before .before .before .before .before .before .exchange-all .ensures) _ (c .before .before .before .before .before .stop-total .ensures) (sym (c .before .before .before .before .before .before .before .before .before .before .before .before .before .before .before .before .is-group .ensures) ∙ not-false _ (c .before .before .before .before .before .before .before .before .before .before .before .before .before .before .before .if1 .left)) _ (c .before .has-cycle .ensures)) (c .if2 .taken)
+
+-- src/turning.rt:188:5
+flip-all-requires : tie.Need-flip-all-requires
+flip-all-requires c κs = flag-in (lent (c .before .before .before .before .before .before .before .before .before .before .before .before .before .before .before .before .before .before .before .before .before .before .before .before .before .before .before .before .before .before .before .before)) (c .before .before .before .before .before .before .before .before .before .before .before .before .before .before .before .before .before .before .before .before .before .before .before .before .before .before .before .before .before .before .before .before .pre .0) (c .before .before .before .before .before .before .before .before .before .before .before .before .before .before .before .before .before .before .before .before .before .before .before .before .before .before .before .before .before .before .before .before .args .list .now) (all-pass _ (c .before .before .before .before .before .before .before .before .before .before .before .before .before .before .before .before .before .before .before .before .before .before .before .before .before .before .before .before .before .before .before .before .pre .0) (c .before .before .before .before .before .before .before .before .before .before .before .before .before .before .before .before .before .before .before .before .before .before .before .before .before .before .before .before .before .before .before .before .args .list .now) (sym (c .before .before .before .before .before .before .before .before .before .before .before .before .before .before .before .before .before .is-group .ensures) ∙ not-false _ (c .before .before .before .before .before .before .before .before .before .before .before .before .before .before .before .before .if1 .left)) _ (c .before .before .before .before .before .before .before .before .before .before .before .before .before .before .list-test .ensures) (c .before .before .before .before .before .before .before .before .before .before .before .before .enum-told4 .given .1))
+
+-- src/turning.rt:108:1
+same-length-5 : tie.Need-same-length-5
+same-length-5 c = search needs
+
+-- src/turning.rt:108:1
+returns-6 : tie.Need-returns-6
+returns-6 c = lists-0 _ (c .before .before .before .before .before .before .before .before .before .before .before .before .before .before .before .before .before .before .before .before .before .before .before .before .before .before .before .before .before .before .before .before .before .before .before .pre .0) _ (sym (c .before .before .before .before .before .before .before .before .before .before .before .before .before .before .before .before .before .before .before .before .is-group .ensures) ∙ not-false _ (c .before .before .before .before .before .before .before .before .before .before .before .before .before .before .before .before .before .before .before .if1 .left)) _ (c .before .before .before .before .before .before .before .before .before .before .before .before .before .before .before .before .before .list-test .ensures) (c .before .before .before .before .before .before .before .before .before .before .before .before .before .before .before .enum-told4 .given .1) _ (group-cyclic (lent (c .before .before .before .before .before .before .before .before .before .before .before .before .before .before .before .before .before .before .before .before .before .before .before .before .before .before .before .before .before .before .before .before .before .before .before)) (c .before .before .before .before .before .before .before .before .before .before .before .before .before .before .before .before .before .before .before .before .before .before .before .before .before .before .before .before .before .before .before .before .before .before .before .pre .0) (c .before .before .before .before .before .before .before .before .before .before .before .before .before .before .before .before .before .before .before .before .before .before .before .before .before .before .before .before .before .before .before .before .before .before .before .args .list .now) (all-pass _ (c .before .before .before .before .before .before .before .before .before .before .before .before .before .before .before .before .before .before .before .before .before .before .before .before .before .before .before .before .before .before .before .before .before .before .before .pre .0) (c .before .before .before .before .before .before .before .before .before .before .before .before .before .before .before .before .before .before .before .before .before .before .before .before .before .before .before .before .before .before .before .before .before .before .before .args .list .now) (sym (c .before .before .before .before .before .before .before .before .before .before .before .before .before .before .before .before .before .before .before .before .is-group .ensures) ∙ not-false _ (c .before .before .before .before .before .before .before .before .before .before .before .before .before .before .before .before .before .before .before .if1 .left)) _ (c .before .before .before .before .before .before .before .before .before .before .before .before .before .before .before .before .before .list-test .ensures) (c .before .before .before .before .before .before .before .before .before .before .before .before .before .before .before .enum-told4 .given .1)) _ _ _ _ _ (c .before .before .before .before .before .before .before .before .before .before .before .before .before .before .before .before .before .before .before .before .before .before .before .before .before .before .before .before .before .before .before .before .before .before .before .pre .1) _ _ (c .before .before .before .before .before .before .before .before .before .before .before .before .exchange-all .ensures) _ (c .before .before .before .before .before .before .before .before .before .stop-total .ensures) (sym (c .before .before .before .before .before .before .before .before .before .before .before .before .before .before .before .before .before .before .before .before .is-group .ensures) ∙ not-false _ (c .before .before .before .before .before .before .before .before .before .before .before .before .before .before .before .before .before .before .before .if1 .left)) _ (c .before .before .before .before .before .has-cycle .ensures)) (c .before .before .before .before .if2 .left) _ (c .before .before .flip-all .ensures)
+
+pub turn-all-sound-spec : {M : Type 1} → statement M
+turn-all-sound-spec =
+    tie.close
+    (tie.spec
+    is-group-requires
+    returns
+    list-test-requires
+    enum-told
+    same-length
+    returns-2
+    enum-told-2
+    same-length-2
+    returns-3
+    enum-told-3
+    same-length-3
+    returns-4
+    enum-told-4
+    exchange-all-requires
+    shared-slice-read-drones
+    cast-drones
+    shared-slice-read-count
+    cast-count
+    stop-total-requires
+    has-cycle-requires
+    same-length-4
+    returns-5
+    flip-all-requires
+    same-length-5
+    returns-6)
