@@ -105,12 +105,13 @@ static void turn_all(void) { number = board_turn_all(TABLES, group, group_n).num
 static void preview_all(void) { number = board_preview_all(TABLES, group, group_n).number; }
 static void cost(void) { number = board_cost(TABLES).number; }
 static void rounds(void) { number = board_rounds(TABLES).number; }
+static void press(void) { number = board_press(TABLES, 0, 0).number; }
 static void nothing(void) {}
 
 static const struct {
     const char *name;
     void (*call)(void);
-} CALLS[] = {{"read", read_plan}, {"write", write_plan}, {"grant", grant}, {"arrive", arrive}, {"turn", turn}, {"turn_all", turn_all}, {"preview", preview}, {"preview_all", preview_all}, {"cost", cost}, {"rounds", rounds}};
+} CALLS[] = {{"read", read_plan}, {"write", write_plan}, {"grant", grant}, {"arrive", arrive}, {"turn", turn}, {"turn_all", turn_all}, {"preview", preview}, {"preview_all", preview_all}, {"cost", cost}, {"rounds", rounds}, {"press", press}};
 enum { KINDS = sizeof CALLS / sizeof *CALLS };
 
 // A grant that was given is taken back, so that each repeat does the same.

@@ -28,7 +28,7 @@ typedef struct {
     uint8_t first_drone, second_drone, flags, reserved;
 } conductor_dependency;
 
-/* number 0: done. detail: the dependency of a 23, the cost, the rounds, the length of the text; else 0 */
+/* number 0: done. detail: the dependency of a 23, the cost, the rounds, the length of the text, the granted drones; else 0 */
 typedef struct {
     size_t number, detail;
 } conductor_answer;
@@ -85,6 +85,14 @@ conductor_answer board_cost(CONDUCTOR_TABLES(const, const, const, const));
 
 /* Detail: the undelayed rounds until every drone stands at its last stop. 41, 40 */
 conductor_answer board_rounds(CONDUCTOR_TABLES(const, const, const, const));
+
+/* One press of the handset: takes the arrival of a drone, if one was reported (reported is not 0), then grants every drone that may go.
+ * Detail: the granted drones, bit 0 for drone 0 and so on. 41, 40, then the arrival's own 20 or 24: nothing is granted then */
+conductor_answer board_press(CONDUCTOR_TABLES(const, CONDUCTOR_NOTHING, CONDUCTOR_NOTHING, const), size_t reported, size_t drone);
+
+/* Writes a small plan for the bench by its number, 0 to 377; detail is its length, bytes past it are as before. 15, 42 (buffer
+ * unchanged) */
+conductor_answer board_small_plan(size_t number, uint8_t *buffer, size_t buffer_n);
 
 #ifdef __cplusplus
 }

@@ -1,7 +1,8 @@
 -- From what the wrapped calls say to what C is told. Assumes nothing.
 use mathlib.Core.Path.{_≡_, refl, sym, subst, _∙_}
 use mathlib.Core.List.{List}
-use Prim.Native.Nat.{ℕ, _^_, _<_}
+use mathlib.Core.Logic.{_≢_}
+use Prim.Native.Nat.{ℕ, zero, suc, _^_, _<_}
 use lib.IntN.{ℤ}
 use lib.Signed.{mag}
 use mir.Syntax.{w32, w64}
@@ -18,10 +19,14 @@ use Rattle.reading.specs.Reading as reading
 use Rattle.reading.specs.declared.replies.Reading.{Reading}
 use Rattle.reading.specs.declared.replies.Reading.the-variants.{Refused}
 use Rattle.reading.specs.declared.replies.Refusal.{Refusal}
+use Rattle.handset.specs.Press.{PressOutcome, PressAnswer, PressedAs}
+use Rattle.handset.specs.declared.replies.Report.the-variants.{Arrived}
+use Rattle.small_plans.specs.Asked.{PlanGiven}
+use Rattle.small_plans.specs.declared.PlanAnswer.{PlanAnswer}
 use Rattle.board.specs.declared.answers.Answer.{Answer}
 use Rattle.board.specs.declared.answers.ChangeAnswer.{ChangeAnswer}
 use Rattle.board.specs.declared.answers.ReadAnswer.{ReadAnswer}
-use Rattle.board.specs.Told.{Says, SaysOfChange, SaysOfRead, CallTold, PlanTold, ReadTold, answerOf, changeAnswer, writeAnswer, refusalAnswer, readAnswer}
+use Rattle.board.specs.Told.{Says, SaysOfChange, SaysOfRead, CallTold, PlanTold, ReadTold, PressTold, SmallPlanTold, answerOf, pressAnswer, reportOf, planAnswerOf, changeAnswer, writeAnswer, refusalAnswer, readAnswer}
 
 pub call-told : (L : Limits) (t : Tables) (c : Call) (m : Reply) (r : Answer) (t′ : Tables) → Answered (step L) t c m t′ → Says r (answerOf m) → CallTold L t c r t′
 call-told L t c m r t′ a e = record { told = rw (a .replied) at e; left = a .left }
@@ -43,6 +48,17 @@ module _ (z : ℤ) (l : mag z < 2 ^ 31) where
 
   pub widened-told : (m : PreviewReply) → m ≡ wouldTurn z → SaysOfChange record { number = 0; change = toZ w64 (ofZ w64 (toZ w32 (ofZ w32 z))) } (changeAnswer m)
   widened-told m e = rw e record { number-is = refl; change-is = toZ-ofZ widened-fits ∙ toZ-ofZ in-32 }
+
+-- what is not 0 stands for a report
+pub reported-some : (n d : ℕ) → n ≢ 0 → Arrived d ≡ reportOf n d
+reported-some zero d h = absurd (h refl)
+reported-some (suc n) d h = refl
+
+pub press-told : (p q : PressAnswer) (m : PressOutcome) (r : Answer) (t′ : Tables) → PressedAs p m t′ → p ≡ q → Says r (pressAnswer m) → PressTold q r t′
+press-told p q m r t′ a e s = subst (λ (x : PressAnswer). PressTold x r t′) e (record { told = rw (a .replied) at s; left = a .left })
+
+pub small-plan-told : (k : ℕ) (before after : List ℕ) (m : PlanAnswer) (r : Answer) → PlanGiven k before after m → Says r (planAnswerOf m) → SmallPlanTold k before after r
+small-plan-told k before after m r a e = record { told = rw (a .answer-is) at e; left = a .buffer-is }
 
 pub plan-told : (L : Limits) (t : Tables) (before after : List ℕ) (m : Writing) (r : Answer) → PlanWritten L t before after m → Says r (writeAnswer m) → PlanTold L t before after r
 plan-told L t before after m r a e = record { told = rw (a .replied) at e; left = a .left }

@@ -1,7 +1,7 @@
 -- The replies as C gets them, and what the contracts of the exported calls say. Assumes nothing.
 use mathlib.Core.Path.{_≡_}
 use mathlib.Core.List.{List}
-use Prim.Native.Nat.{ℕ}
+use Prim.Native.Nat.{ℕ, zero, suc}
 use lib.IntN.{pos}
 use Rattle.tables.specs.Limits.{Limits}
 use Rattle.tables.specs.Tables.{Tables}
@@ -14,6 +14,12 @@ use Rattle.reading.specs.declared.replies.Refusal.{Refusal}
 use Rattle.reading.specs.declared.replies.Refusal.the-variants.{TablesTooSmall, TooLong, Form, Range, Name, SameName, TooManyStops, StartsLate, NotRising, SameLocation, Collision, TooManyDependencies}
 use Rattle.reading.specs.declared.replies.Reading.{Reading}
 use Rattle.reading.specs.declared.replies.Reading.the-variants.{Taken, Refused}
+use Rattle.handset.specs.Press.{PressOutcome, granted, pressRefused, PressAnswer}
+use Rattle.handset.specs.declared.replies.Report.{Report}
+use Rattle.handset.specs.declared.replies.Report.the-variants.{Nothing, Arrived}
+use Rattle.small_plans.specs.Asked.{planAnswer, bufferThen}
+use Rattle.small_plans.specs.declared.PlanAnswer.{PlanAnswer}
+use Rattle.small_plans.specs.declared.PlanAnswer.the-variants.{Length, NoSuchPlan, Short}
 use Rattle.board.specs.declared.answers.Answer.{Answer}
 use Rattle.board.specs.declared.answers.ChangeAnswer.{ChangeAnswer}
 use Rattle.board.specs.declared.answers.ReadAnswer.{ReadAnswer}
@@ -43,6 +49,22 @@ roundsAnswer (roundsRefused n) = answer n 0
 abbrev pub writeAnswer : Writing → Answer
 writeAnswer (wrote n) = answer 0 n
 writeAnswer (writeRefused n) = answer n 0
+
+-- "a 32-bit number in which bit 0 stands for drone 0 and so on"
+abbrev pub pressAnswer : PressOutcome → Answer
+pressAnswer (granted bits) = answer 0 bits
+pressAnswer (pressRefused n) = answer n 0
+
+-- "one arrival, if one was reported": 0 stands for nothing
+abbrev pub reportOf : ℕ → ℕ → Report
+reportOf zero d = Nothing
+reportOf (suc n) d = Arrived d
+
+-- "15, no such plan, then 42"
+abbrev pub planAnswerOf : PlanAnswer → Answer
+planAnswerOf (Length n) = answer 0 n
+planAnswerOf NoSuchPlan = answer 15 0
+planAnswerOf Short = answer 42 0
 
 abbrev pub atOffset : ℕ → ℕ → ReadAnswer
 atOffset n o = record { number = n; offset = o; drone = 0; stop = 0; «other_drone» = 0; «other_stop» = 0 }
@@ -98,3 +120,13 @@ pub record PlanTold (L : Limits) (t : Tables) (before after : List ℕ) (r : Ans
 pub record ReadTold (a : Answered) (r : ReadAnswer) (t : Tables) : Type 0 where
   pub told : SaysOfRead r (readAnswer (a .reply))
   pub left : t ≡ a .tables
+
+-- a press was answered by r and left the tables t′
+pub record PressTold (p : PressAnswer) (r : Answer) (t′ : Tables) : Type 0 where
+  pub told : Says r (pressAnswer (p .reply))
+  pub left : t′ ≡ p .tables
+
+-- small plan k was asked for with a buffer, answered by r, and the buffer left as `after`
+pub record SmallPlanTold (k : ℕ) (before after : List ℕ) (r : Answer) : Type 0 where
+  pub told : Says r (planAnswerOf (planAnswer k before))
+  pub left : after ≡ bufferThen k before

@@ -8,14 +8,18 @@ use flat::turn_replies::PreviewReply;
 use flat::turn_replies::RoundsAnswer;
 use flat::turn_replies::TurnAllReply;
 use flat::turn_replies::TurnReply;
+use handset::replies::PressReply;
+use handset::replies::Report;
 use reading::replies::Reading;
 use reading::replies::Refusal;
+ghost use mathlib.Core.Path.{_≡_};
 ghost use Rattle.flat.specs.Replies.{grantMeant, arriveMeant};
 ghost use Rattle.flat.specs.TurnReplies.{turnMeant, turnAllMeant, previewMeant, previewAllMeant, costMeant, roundsMeant};
 ghost use Rattle.flat.specs.Writing.{writeMeant};
-ghost use Rattle.board.specs.Told.{Says, SaysOfChange, SaysOfRead, answerOf, changeAnswer, costAnswer, roundsAnswer, writeAnswer, refusalAnswer, readAnswer};
+ghost use Rattle.handset.specs.Press.{pressMeant};
+ghost use Rattle.board.specs.Told.{pressAnswer, reportOf, Says, SaysOfChange, SaysOfRead, answerOf, changeAnswer, costAnswer, roundsAnswer, writeAnswer, refusalAnswer, readAnswer};
 
-// The detail: the dependency of a 23, the cost, the rounds, the length of the text; 0 with every other reply.
+// The detail: the dependency of a 23, the cost, the rounds, the length of the text, the granted drones of a press; 0 with every other reply.
 #[repr(C)]
 pub struct Answer {
     pub number: usize,
@@ -307,6 +311,43 @@ pub fn of_write(reply: WriteReply) -> Answer
         WriteReply::Written(length) => Answer {
             number: 0,
             detail: length,
+        },
+    }
+}
+
+// What was reported to the handset: an arrival of a drone, or nothing at 0.
+pub fn report_of(reported: usize, drone: usize) -> Report
+    ensures { λ r. ⌜ r ≡ reportOf reported drone ⌝ }
+{
+    if reported == 0 {
+        return Report::Nothing;
+    }
+    Report::Arrived(drone)
+}
+
+pub fn of_press(reply: PressReply) -> Answer
+    ensures { λ r. ⌜ Says r (pressAnswer (pressMeant reply)) ⌝ }
+{
+    match reply {
+        PressReply::Granted(bits) => Answer {
+            number: 0,
+            detail: bits as usize,
+        },
+        PressReply::TablesTooSmall => Answer {
+            number: 41,
+            detail: 0,
+        },
+        PressReply::NotSound => Answer {
+            number: 40,
+            detail: 0,
+        },
+        PressReply::NoDrone => Answer {
+            number: 20,
+            detail: 0,
+        },
+        PressReply::NotUnderWay => Answer {
+            number: 24,
+            detail: 0,
         },
     }
 }

@@ -4,6 +4,7 @@ use crate::answers::Answer;
 use crate::answers::ChangeAnswer;
 use crate::answers::ReadAnswer;
 use conductor::calls;
+use handset::button;
 use tables::entries::Dependency;
 ghost use mathlib.Core.Path.{_≡_};
 ghost use lib.ListN.{drop};
@@ -13,7 +14,8 @@ ghost use Rattle.log.specs.Calls.{costReply, roundsReply};
 ghost use Rattle.log.specs.Preview.{preview, previewAll};
 ghost use Rattle.reading.specs.Reading.{readPlan};
 ghost use Rattle.records.specs.Records.{tablesOfRecords};
-ghost use Rattle.board.specs.Told.{CallTold, PlanTold, ReadTold, Says, SaysOfChange, changeAnswer, costAnswer, roundsAnswer};
+ghost use Rattle.handset.specs.Press.{pressStep};
+ghost use Rattle.board.specs.Told.{CallTold, PlanTold, ReadTold, PressTold, reportOf, Says, SaysOfChange, changeAnswer, costAnswer, roundsAnswer};
 
 // "Grant: the drone becomes under way when every dependency into its next stop has the awaited stop visited".
 #[no_mangle]
@@ -295,6 +297,45 @@ pub extern "C" fn board_rounds(
         dependencies,
     );
     answers::of_rounds(reply)
+}
+
+// A press of the one-button handset: "takes one arrival, if one was reported, then grants every drone that may go". The detail is the number of the granted drones.
+#[no_mangle]
+pub extern "C" fn board_press(
+    drone_count: &[u16],
+    dependency_count: &[u16],
+    names: &[u8],
+    stop_counts: &[u16],
+    locations: &[u16],
+    times: &[u32],
+    visited: &mut [u16],
+    drone_flags: &mut [u8],
+    dependencies: &[Dependency],
+    reported: usize,
+    drone: usize,
+) -> Answer
+    ensures { λ r. ⌜ PressTold (pressStep limits (tablesOfRecords limits
+        (now («drone_count» .entry)) (now («dependency_count» .entry)) (now (names .entry)) (now («stop_counts» .entry))
+        (now (locations .entry)) (now (times .entry)) (now (visited .entry)) (now («drone_flags» .entry))
+        (now (dependencies .entry))) (reportOf reported drone)) r (tablesOfRecords limits
+        (now («drone_count» .entry)) (now («dependency_count» .entry)) (now (names .entry)) (now («stop_counts» .entry))
+        (now (locations .entry)) (now (times .entry)) (now (visited .exit)) (now («drone_flags» .exit))
+        (now (dependencies .entry))) ⌝ }
+{
+    let report = answers::report_of(reported, drone);
+    let reply = button::press(
+        drone_count,
+        dependency_count,
+        names,
+        stop_counts,
+        locations,
+        times,
+        visited,
+        drone_flags,
+        dependencies,
+        report,
+    );
+    answers::of_press(reply)
 }
 
 // Writes the text of the plan that the tables hold: its length is the detail at number 0.
