@@ -147,7 +147,9 @@ fn colour(drone: usize) -> (String, &'static str) {
     (format!("#{:02x}{:02x}{:02x}", channel(0.0), channel(8.0), channel(4.0)), ["#fff", "#000"][drone % 2])
 }
 
+/// The times that have room, above the rows and, where there are many rows, below them too.
 fn axis(svg: &mut String, scale: &Scale, y: f64, bottom: f64) -> std::fmt::Result {
+    let lines = if bottom - y > 600.0 { vec![y - 6.0, bottom + 12.0] } else { vec![y - 6.0] };
     let mut free = 0.0;
     for time in &scale.times {
         let (x, half) = (scale.at(*time), 3.6 * time.to_string().len() as f64);
@@ -155,13 +157,12 @@ fn axis(svg: &mut String, scale: &Scale, y: f64, bottom: f64) -> std::fmt::Resul
             continue;
         }
         free = x + half + 8.0;
-        writeln!(
-            svg,
-            r##"<line x1="{x:.1}" y1="{y:.1}" x2="{x:.1}" y2="{bottom:.1}" stroke="#e4e4e4"/><text x="{x:.1}" y="{:.1}" text-anchor="middle" fill="#555">{time}</text>"##,
-            y - 6.0
-        )?;
+        writeln!(svg, r##"<line x1="{x:.1}" y1="{y:.1}" x2="{x:.1}" y2="{bottom:.1}" stroke="#e4e4e4"/>"##)?;
+        for line in &lines {
+            writeln!(svg, r##"<text x="{x:.1}" y="{line:.1}" text-anchor="middle" fill="#555">{time}</text>"##)?;
+        }
     }
-    writeln!(svg, r##"<text x="{:.1}" y="{:.1}" text-anchor="end" fill="#555">time</text>"##, LEFT - 24.0, y - 6.0)
+    lines.iter().try_for_each(|line| writeln!(svg, r##"<text x="{:.1}" y="{line:.1}" text-anchor="end" fill="#555">time</text>"##, LEFT - 24.0))
 }
 
 fn bars(svg: &mut String, scale: &Scale, row: &Row, y: f64, drones: &[Drone]) -> std::fmt::Result {
@@ -229,45 +230,29 @@ fn arrows(svg: &mut String, scale: &Scale, row: &Row, y: f64, numbered: bool) ->
     Ok(())
 }
 
+fn columns(width: f64) -> usize {
+    ((width - 40.0) / 230.0).floor().max(1.0) as usize
+}
+
 fn legend(svg: &mut String, drones: &[Drone], width: f64, mut y: f64) -> std::fmt::Result {
-    let columns = ((width - 40.0) / 230.0).floor().max(1.0) as usize;
     for (i, drone) in drones.iter().enumerate() {
-        let (x, line) = (24.0 + 230.0 * (i % columns) as f64, y + 24.0 * (i / columns) as f64);
+        let (x, line) = (24.0 + 230.0 * (i % columns(width)) as f64, y + 24.0 * (i / columns(width)) as f64);
         let (fill, ink) = colour(i);
-        writeln!(
-            svg,
-            r#"<rect x="{x:.1}" y="{line:.1}" width="26" height="{BAR}" rx="3" fill="{fill}"/><text x="{:.1}" y="{:.1}" text-anchor="middle" fill="{ink}">{i}</text>"#,
-            x + 13.0,
-            line + 13.0
-        )?;
-        let state = if drone.finished() {
-            " ✓"
-        } else if drone.under_way {
-            " →"
-        } else {
-            ""
-        };
+        write!(svg, r#"<rect x="{x:.1}" y="{line:.1}" width="26" height="{BAR}" rx="3" fill="{fill}"/>"#)?;
+        writeln!(svg, r#"<text x="{:.1}" y="{:.1}" text-anchor="middle" fill="{ink}">{i}</text>"#, x + 13.0, line + 13.0)?;
+        let state = [["", " →"][usize::from(drone.under_way)], " ✓"][usize::from(drone.finished())];
         writeln!(svg, r#"<text x="{:.1}" y="{:.1}">{}{state}</text>"#, x + 33.0, line + 13.0, drone.name)?;
     }
-    y += 24.0 * drones.len().div_ceil(columns) as f64 + 20.0;
-    writeln!(svg, r##"<path d="M24 {0:.1}h28" stroke="#333" marker-end="url(#planned)"/><text x="62" y="{1:.1}">goes first → waits</text>"##, y - 4.0, y)?;
-    writeln!(
-        svg,
-        r##"<path d="M204 {0:.1}h28" stroke="#333" stroke-dasharray="3 3" marker-end="url(#planned)"/><text x="242" y="{1:.1}">fixed: cannot be turned</text>"##,
-        y - 4.0,
-        y
-    )?;
-    writeln!(
-        svg,
-        r##"<path d="M424 {0:.1}h28" stroke="#c00000" stroke-width="2.2" marker-end="url(#turned)"/><text x="462" y="{1:.1}">turned, below the row</text>"##,
-        y - 4.0,
-        y
-    )?;
-    writeln!(
-        svg,
-        r##"<rect x="628" y="{:.1}" width="26" height="14" rx="3" fill="#fff" stroke="#000" stroke-width="2.5"/><text x="662" y="{y:.1}">held now</text>"##,
-        y - 11.0
-    )
+    y += 24.0 * drones.len().div_ceil(columns(width)) as f64 + 20.0;
+    let mut arrow = |x: f64, look: &str, mark: &str, words: &str| {
+        writeln!(svg, r#"<path d="M{x} {:.1}h28" {look} marker-end="url(#{mark})"/><text x="{}" y="{y:.1}">{words}</text>"#, y - 4.0, x + 38.0)
+    };
+    arrow(24.0, r##"stroke="#333""##, "planned", "goes first → waits")?;
+    arrow(204.0, r##"stroke="#333" stroke-dasharray="3 3""##, "planned", "fixed: cannot be turned")?;
+    arrow(424.0, r##"stroke="#c00000" stroke-width="2.2""##, "turned", "turned, below the row")?;
+    y += 22.0;
+    write!(svg, r##"<rect x="24" y="{:.1}" width="26" height="14" rx="3" fill="#fff" stroke="#000" stroke-width="2.5"/>"##, y - 11.0)?;
+    writeln!(svg, r##"<text x="62" y="{y:.1}">held now</text><text x="204" y="{y:.1}">→ under way, ✓ at its last stop</text>"##)
 }
 
 fn marker(id: &str, fill: &str) -> String {
@@ -298,8 +283,7 @@ fn picture(field: &Conductor) -> Result<String, Box<dyn Error>> {
     }
     let width = (scale.end() + 24.0).max(760.0);
     let mut svg = String::new();
-    let columns = ((width - 40.0) / 230.0).floor().max(1.0) as usize;
-    let all = y + 24.0 + 24.0 * drones.len().div_ceil(columns) as f64 + 36.0;
+    let all = y + 24.0 + 24.0 * drones.len().div_ceil(columns(width)) as f64 + 58.0;
     writeln!(
         svg,
         r#"<svg xmlns="http://www.w3.org/2000/svg" width="{width:.0}" height="{all:.0}" viewBox="0 0 {width:.0} {all:.0}" font-family="DejaVu Sans, Verdana, sans-serif" font-size="12">"#
