@@ -2,7 +2,7 @@
  *
  * Every table is a pointer and a number of entries. A call asks for no more than this: each pointer is valid for its number of
  * entries, and no two tables overlap. Tables may be longer than their full size; entries past it are neither read nor written.
- * Nothing is kept between calls, no call allocates, and none uses more than 60,000 bytes of stack. Any content of the tables and any
+ * Nothing is kept between calls, no call allocates, and as measured none uses 60,000 bytes of stack. Any content of the tables and any
  * number is answered: what is wrong is refused by a number, and a refused call other than a reading changes nothing. docs/REFUSALS.md
  * says what each number means. */
 #ifndef CONDUCTOR_H

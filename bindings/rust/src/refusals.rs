@@ -49,7 +49,7 @@ pub fn meaning(number: usize) -> Option<&'static str> {
 }
 
 fn told(f: &mut fmt::Formatter, number: usize) -> fmt::Result {
-    write!(f, "refused with {number}: {}", meaning(number).unwrap_or("unknown"))
+    write!(f, "refused with {number}: {}", meaning(number).unwrap_or_default())
 }
 
 // The contracts leave no other number; a library that says one is not the proved one.
@@ -79,6 +79,11 @@ macro_rules! plain {
             /// The refusal's number.
             pub fn number(&self) -> usize {
                 *self as usize
+            }
+
+            /// What the number means.
+            pub fn meaning(&self) -> &'static str {
+                meaning(self.number()).unwrap_or_default()
             }
         }
 
@@ -160,6 +165,11 @@ impl GrantRefusal {
             GrantRefusal::MustWait(_) => 23,
         }
     }
+
+    /// What the number means.
+    pub fn meaning(&self) -> &'static str {
+        meaning(self.number()).unwrap_or_default()
+    }
 }
 
 impl fmt::Display for GrantRefusal {
@@ -229,6 +239,11 @@ impl ReadRefusal {
             ReadRefusal::Collision(..) => 10,
             ReadRefusal::TooManyDependencies => 11,
         }
+    }
+
+    /// What the number means.
+    pub fn meaning(&self) -> &'static str {
+        meaning(self.number()).unwrap_or_default()
     }
 
     /// The byte offset of the line at fault, with 1 to 6.

@@ -175,4 +175,5 @@ fn without_a_plan() {
 fn every_number_has_a_meaning() {
     let told: Vec<usize> = (0..64).filter(|n| meaning(*n).is_some()).collect();
     assert_eq!(told, [1, 2, 3, 4, 5, 6, 7, 8, 9, 10, 11, 15, 20, 21, 22, 23, 24, 30, 31, 32, 34, 36, 40, 41, 42]);
+    assert_eq!((TurnRefusal::Cycle.number(), TurnRefusal::Cycle.meaning()), (34, "drones would wait for each other in a ring"));
 }

@@ -244,7 +244,7 @@ fn shows(c: &Conductor, log: &Log) {
     }
 }
 
-/// "no two drones hold one location", and "if a grant would be accepted .." : nobody is stuck.
+/// No two drones hold one location; while a drone is unfinished somebody is under way or a grant would be accepted; and after a press somebody is under way.
 fn safe(c: &Conductor) {
     let mut held: Vec<u16> = c.drones().flat_map(|drone| drone.holds().collect::<Vec<_>>()).collect();
     held.sort();
@@ -252,6 +252,9 @@ fn safe(c: &Conductor) {
     let waiting = c.drones().any(|drone| !drone.finished());
     let moving = c.drones().any(|drone| drone.under_way) || (0..c.drone_count()).any(|d| c.clone().grant(d).is_ok());
     assert!(!waiting || moving, "nobody can go");
+    let mut pressed = c.clone();
+    pressed.press(None).expect("a press without a report is accepted");
+    assert!(!waiting || pressed.drones().any(|drone| drone.under_way), "nobody goes after a press");
 }
 
 #[test]
