@@ -3,8 +3,13 @@ mod inputs;
 mod reckoning;
 
 use conductor::Conductor;
-use inputs::{Random, Seen};
+use inputs::calls::{call as any_call, kind};
+use inputs::lent;
+use inputs::seen::Seen;
+use inputs::{plans, tables as altered, texts, Random};
 use reckoning::log::Log;
+use reckoning::plan::Plan;
+use reckoning::text::of as text_of;
 use reckoning::{Call, Reply, Tables, FULL};
 
 const READ: &[usize] = &[0, 2, 3, 4, 5, 6, 7, 8, 9, 10];
@@ -24,39 +29,39 @@ const SOUND: [(&str, &[usize]); 10] = [
     ("write", &[0, 42]),
 ];
 
-fn compare_reading(seen: &mut Seen, mut lent: Tables, text: &[u8]) -> (Tables, Reply) {
-    let mut reckoned = lent.clone();
-    let (got, want) = (inputs::read(&mut lent, text), reckoned.read(text));
+fn compare_reading(seen: &mut Seen, mut tables: Tables, text: &[u8]) -> (Tables, Reply) {
+    let mut reckoned = tables.clone();
+    let (got, want) = (lent::read(&mut tables, text), reckoned.read(text));
     assert_eq!(got, want, "reading {:?}", String::from_utf8_lossy(text));
-    assert!(lent == reckoned, "tables after reading {:?}", String::from_utf8_lossy(text));
+    assert!(tables == reckoned, "tables after reading {:?}", String::from_utf8_lossy(text));
     seen.reply("read", want.number);
-    (lent, want)
+    (tables, want)
 }
 
-fn compare_call(seen: &mut Seen, lent: &mut Tables, call: &Call, length: usize) -> Reply {
-    let mut reckoned = lent.clone();
+fn compare_call(seen: &mut Seen, tables: &mut Tables, call: &Call, length: usize) -> Reply {
+    let mut reckoned = tables.clone();
     let (mut buffer, mut reckoned_buffer) = (vec![0xa5; length], vec![0xa5; length]);
-    let got = inputs::make(lent, call, &mut buffer);
+    let got = lent::make(tables, call, &mut buffer);
     let (want, clause) = reckoned.call(call, &mut reckoned_buffer);
     assert_eq!(got, want, "{call:?}");
-    assert!(*lent == reckoned, "tables after {call:?}");
+    assert!(*tables == reckoned, "tables after {call:?}");
     assert!(buffer == reckoned_buffer, "buffer after {call:?}");
-    seen.reply(inputs::kind(call), want.number);
+    seen.reply(kind(call), want.number);
     clause.iter().for_each(|clause| seen.clause(clause));
     want
 }
 
 /// Buffers at the text's own length, one byte less, and others.
-fn buffer_length(r: &mut Random, call: &Call, plan: &reckoning::plan::Plan) -> usize {
-    let exact = if *call == Call::Write { reckoning::text::of(plan).len() } else { 0 };
+fn buffer_length(r: &mut Random, call: &Call, plan: &Plan) -> usize {
+    let exact = if *call == Call::Write { text_of(plan).len() } else { 0 };
     [exact, exact.saturating_sub(1), exact + r.below(9), 0][r.below(4)]
 }
 
 /// A plan that the reckoning takes.
-fn taken(r: &mut Random) -> reckoning::plan::Plan {
+fn taken(r: &mut Random) -> Plan {
     loop {
-        let text = inputs::text(&inputs::plan(r));
-        if let Ok(plan) = reckoning::text::read(&text).and_then(reckoning::plan::Plan::checked) {
+        let text = text_of(&plans::plan(r));
+        if let Ok(plan) = reckoning::text::read(&text).and_then(Plan::checked) {
             return plan;
         }
     }
@@ -67,14 +72,14 @@ fn texts_whole_and_damaged() {
     let (mut r, mut seen, cases) = (Random::seeded(), Seen::default(), 45_000);
     let seed = r.seed();
     for _ in 0..cases {
-        let mut text = inputs::text(&inputs::plan(&mut r));
+        let mut text = text_of(&plans::plan(&mut r));
         for _ in 0..r.below(3) {
             if !text.is_empty() {
-                inputs::damaged_text(&mut r, &mut text);
+                texts::damaged(&mut r, &mut text);
             }
         }
-        let mut tables = inputs::scrawled(&mut r);
-        inputs::lengthened(&mut r, &mut tables);
+        let mut tables = altered::scrawled(&mut r);
+        altered::lengthened(&mut r, &mut tables);
         compare_reading(&mut seen, tables, &text);
     }
     seen.report("texts_whole_and_damaged", seed, cases, &[("read", READ)]);
@@ -87,10 +92,10 @@ fn calls_on_tables() {
     for _ in 0..cases {
         let plan = taken(&mut r);
         let mut tables = Tables::zeroed(FULL);
-        inputs::lengthened(&mut r, &mut tables);
-        let (mut tables, _) = compare_reading(&mut seen, tables, &inputs::text(&plan));
+        altered::lengthened(&mut r, &mut tables);
+        let (mut tables, _) = compare_reading(&mut seen, tables, &text_of(&plan));
         for _ in 0..r.below(30) {
-            let call = inputs::call(&mut r, &plan);
+            let call = any_call(&mut r, &plan);
             let length = buffer_length(&mut r, &call, &plan);
             compare_call(&mut seen, &mut tables, &call, length);
         }
@@ -105,15 +110,15 @@ fn tables_damaged_in_one_entry() {
     for _ in 0..cases {
         let plan = taken(&mut r);
         let mut tables = Tables::zeroed(FULL);
-        inputs::lengthened(&mut r, &mut tables);
-        tables.read(&inputs::text(&plan));
+        altered::lengthened(&mut r, &mut tables);
+        tables.read(&text_of(&plan));
         for _ in 0..r.below(12) {
-            let call = inputs::call(&mut r, &plan);
+            let call = any_call(&mut r, &plan);
             tables.call(&call, &mut []);
         }
-        inputs::damaged_tables(&mut r, &mut tables);
+        altered::damaged(&mut r, &mut tables);
         for _ in 0..6 {
-            let call = inputs::call(&mut r, &plan);
+            let call = any_call(&mut r, &plan);
             let length = buffer_length(&mut r, &call, &plan);
             compare_call(&mut seen, &mut tables, &call, length);
         }
@@ -154,12 +159,12 @@ fn tables_too_short() {
     for _ in 0..cases {
         let plan = taken(&mut r);
         let mut tables = Tables::zeroed(FULL);
-        tables.read(&inputs::text(&plan));
-        inputs::shortened(&mut r, &mut tables);
-        let text = if r.one_in(4) { vec![b'a'; 32_769] } else { inputs::text(&plan) };
+        tables.read(&text_of(&plan));
+        altered::shortened(&mut r, &mut tables);
+        let text = if r.one_in(4) { vec![b'a'; 32_769] } else { text_of(&plan) };
         compare_reading(&mut seen, tables.clone(), &text);
         for _ in 0..4 {
-            let call = inputs::call(&mut r, &plan);
+            let call = any_call(&mut r, &plan);
             compare_call(&mut seen, &mut tables, &call, 64);
         }
     }
@@ -172,17 +177,18 @@ fn tables_too_short() {
 fn at_the_limits() {
     let (mut r, mut seen) = (Random::seeded(), Seen::default());
     let seed = r.seed();
-    let full = inputs::crossings(&[32, 32, 32, 32], 32, 32);
-    let at_most = inputs::crossings(&[32, 32, 32, 32, 11, 4, 3], 32, 16);
-    let one_more = inputs::crossings(&[32, 32, 32, 32, 11, 4, 3, 2], 32, 17);
+    let full = plans::crossings(&[32, 32, 32, 32], 32, 32);
+    let at_most = plans::crossings(&[32, 32, 32, 32, 11, 4, 3], 32, 16);
+    let one_more = plans::crossings(&[32, 32, 32, 32, 11, 4, 3, 2], 32, 17);
     let mut cases = 0;
     for (routes, number, count) in [(full, 0, 1984), (at_most, 0, 2048), (one_more, 11, 0)] {
-        let plan = inputs::plan_of(&mut r, routes);
-        let (mut tables, answer) = compare_reading(&mut seen, Tables::zeroed(FULL), &inputs::text(&plan));
+        let plan = plans::plan_of(&mut r, routes);
+        let (mut tables, answer) = compare_reading(&mut seen, Tables::zeroed(FULL), &text_of(&plan));
         assert_eq!((answer.number, usize::from(tables.dependency_count[0])), (number, count));
         let plan = plan.checked().unwrap_or_default();
-        for _ in 0..if number == 0 { 150 } else { 0 } {
-            let call = inputs::call(&mut r, &plan);
+        let long = [Call::TurnAll((0..=65535).collect()), Call::PreviewAll((0..=65535).collect()), Call::TurnAll((0..=65535).rev().collect())];
+        let calls = if number == 0 { 150 } else { 0 };
+        for call in (0..calls).map(|_| any_call(&mut r, &plan)).chain(long).collect::<Vec<_>>() {
             let length = buffer_length(&mut r, &call, &plan);
             compare_call(&mut seen, &mut tables, &call, length);
             cases += 1;
@@ -192,11 +198,40 @@ fn at_the_limits() {
         for beginning in [&b""[..], b"plan=1\nagents=1\nname=a\nstops=1\ngo=1@0\nend=plan\n"] {
             let mut text = beginning.to_vec();
             text.resize(length, b'\n');
-            compare_reading(&mut seen, inputs::scrawled(&mut r), &text);
+            compare_reading(&mut seen, altered::scrawled(&mut r), &text);
             cases += 1;
         }
     }
     seen.report("at_the_limits", seed, cases, &[("read", &[0, 1, 2, 11])]);
+}
+
+/// Plans flown to the end by presses, each of a drone that is under way, with turns between them; every press is compared.
+#[test]
+fn flown_by_presses() {
+    let (mut r, mut seen, cases) = (Random::seeded(), Seen::default(), 2_000);
+    let seed = r.seed();
+    for _ in 0..cases {
+        let plan = taken(&mut r);
+        let (mut tables, _) = compare_reading(&mut seen, Tables::zeroed(FULL), &text_of(&plan));
+        let mut reported = None;
+        let mut presses = 0;
+        loop {
+            if r.one_in(3) {
+                compare_call(&mut seen, &mut tables, &Call::Turn(r.below(plan.dependencies.len())), 0);
+            }
+            compare_call(&mut seen, &mut tables, &Call::Press(reported), 0);
+            presses += 1;
+            let under_way: Vec<usize> = (0..plan.routes.len()).filter(|d| tables.drone_flags[*d] == 1).collect();
+            if under_way.is_empty() {
+                break;
+            }
+            reported = Some(r.choice(&under_way));
+        }
+        let legs: usize = (0..plan.routes.len()).map(|d| plan.last(d)).sum();
+        assert_eq!(presses, legs + 1, "each press but the first takes one arrival, until nobody is left to arrive");
+        assert_eq!(compare_call(&mut seen, &mut tables, &Call::Rounds, 0), reckoning::accepted(0));
+    }
+    seen.report("flown_by_presses", seed, cases, &[("press", &[0]), ("turn", &[0, 30, 31, 32, 34])]);
 }
 
 // ---- whole lists of calls, through `Conductor` and by the log alone
@@ -264,13 +299,13 @@ fn lists_of_calls() {
     let mut c = Conductor::new();
     for case in 0..cases {
         let plan = taken(&mut r);
-        c.read(&inputs::text(&plan)).expect("a plan that the reckoning takes");
+        c.read(&text_of(&plan)).expect("a plan that the reckoning takes");
         let mut log = Log::new(plan);
-        let calls: Vec<Call> = (0..r.below(40)).map(|_| inputs::call(&mut r, &log.plan)).collect();
+        let calls: Vec<Call> = (0..r.below(40)).map(|_| any_call(&mut r, &log.plan)).collect();
         let replies: Vec<Reply> = calls.iter().map(|call| through(&mut c, call)).collect();
         let reckoned: Vec<Reply> = calls.iter().map(|call| log.call(call)).collect();
         assert_eq!(replies, reckoned, "{calls:?}");
-        calls.iter().zip(&reckoned).for_each(|(call, answer)| seen.reply(inputs::kind(call), answer.number));
+        calls.iter().zip(&reckoned).for_each(|(call, answer)| seen.reply(kind(call), answer.number));
         shows(&c, &log);
         if case % 10 == 0 {
             safe(&c);
