@@ -2,7 +2,7 @@
 //!
 //! Time goes to the right. A row for each crossing that is shared shows the stays of its drones; an arrow for each dependency goes from who goes first to who waits. After the plan's
 //! `end=plan` there may be call lines as `field` takes them (`grant=0`, `arrive=0`, `turn=0`; also `turn=0,1` for a list), which are made first.
-use conductor::{Conductor, Direction, Drone};
+use conductor::{Conductor, Drone, InForce};
 use std::collections::BTreeMap;
 use std::error::Error;
 use std::fmt::Write;
@@ -26,7 +26,7 @@ struct Stay {
 struct Row {
     location: u16,
     stays: Vec<Stay>,
-    dependencies: Vec<Direction>,
+    dependencies: Vec<InForce>,
 }
 
 impl Row {
@@ -35,7 +35,7 @@ impl Row {
     }
 
     // How many stays lie between the two of a dependency, and one more.
-    fn reach(&self, d: &Direction) -> usize {
+    fn reach(&self, d: &InForce) -> usize {
         self.index(d.first.drone, d.first.stop).abs_diff(self.index(d.waits.drone, d.waits.stop))
     }
 
@@ -198,10 +198,10 @@ fn bars(svg: &mut String, scale: &Scale, row: &Row, y: f64, drones: &[Drone]) ->
 
 /// Planned orders go above the row and to the right, turned ones below it and to the left.
 fn arrows(svg: &mut String, scale: &Scale, row: &Row, y: f64, numbered: bool) -> std::fmt::Result {
-    let mut order: Vec<&Direction> = row.dependencies.iter().collect();
+    let mut order: Vec<&InForce> = row.dependencies.iter().collect();
     order.sort_by_key(|d| (d.turned, std::cmp::Reverse(row.reach(d))));
     for d in order {
-        let end = |at: conductor::At| scale.middle(&row.stays[row.index(at.drone, at.stop)]);
+        let end = |at: conductor::Visit| scale.middle(&row.stays[row.index(at.drone, at.stop)]);
         let (x, z, reach) = (end(d.first), end(d.waits), row.reach(d));
         let (edge, way, mark) = if d.turned { (y + BAR + 1.0, 1.0, "turned") } else { (y - 1.0, -1.0, "planned") };
         let (stroke, width) = if d.turned { ("#c00000", 2.2) } else { ("#333", if reach > 3 { 0.7 } else { 1.1 }) };

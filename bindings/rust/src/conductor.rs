@@ -1,10 +1,10 @@
-use crate::ffi::{self, Blank, Dependency, Plan};
+use crate::ffi::{self, Dependency, PlanTables, Tables};
 use crate::refusals::*;
 use crate::{DEPENDENCIES, DRONES, NAME, STOPS, TEXT};
 
 // The tables that a reading alone writes.
 #[derive(Clone, PartialEq, Eq)]
-pub(crate) struct PlanTables {
+pub(crate) struct OwnPlan {
     pub(crate) drone_count: [u16; 1],
     pub(crate) dependency_count: [u16; 1],
     pub(crate) names: [u8; DRONES * NAME],
@@ -13,9 +13,9 @@ pub(crate) struct PlanTables {
     pub(crate) times: [u32; STOPS],
 }
 
-impl PlanTables {
-    fn lent(&self) -> Plan<'_> {
-        Plan {
+impl OwnPlan {
+    fn lent(&self) -> PlanTables<'_> {
+        PlanTables {
             drone_count: &self.drone_count,
             dependency_count: &self.dependency_count,
             names: &self.names,
@@ -29,7 +29,7 @@ impl PlanTables {
 /// The conductor with tables of its own, all at full size, so that 41 never comes. Before a plan is read, and after one is refused, every call but a reading answers 40.
 #[derive(Clone, PartialEq, Eq)]
 pub struct Conductor {
-    pub(crate) plan: PlanTables,
+    pub(crate) plan: OwnPlan,
     pub(crate) visited: [u16; DRONES],
     pub(crate) drone_flags: [u8; DRONES],
     pub(crate) dependencies: [Dependency; DEPENDENCIES],
@@ -57,7 +57,7 @@ impl Conductor {
     pub const fn new() -> Conductor {
         const UNUSED: Dependency = Dependency { first_stop: 0, second_stop: 0, first_drone: 0, second_drone: 0, flags: 0, reserved: 0 };
         Conductor {
-            plan: PlanTables {
+            plan: OwnPlan {
                 drone_count: [0],
                 dependency_count: [0],
                 names: [0; DRONES * NAME],
@@ -73,7 +73,7 @@ impl Conductor {
 
     /// Reads a plan text. The plan that was held before is gone, unless the text is too long.
     pub fn read(&mut self, text: &[u8]) -> Result<(), ReadRefusal> {
-        let tables = Blank {
+        let tables = Tables {
             drone_count: &mut self.plan.drone_count,
             dependency_count: &mut self.plan.dependency_count,
             names: &mut self.plan.names,

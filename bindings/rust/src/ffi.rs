@@ -2,10 +2,10 @@
 //!
 //! The library asks that each pointer is valid for its number of entries and that no table that it writes overlaps another. Slices and the rules of borrowing give both:
 //!
-//! ```compile_fail
-//! use conductor::ffi::{arrive, Plan};
+//! ```compile_fail,E0502
+//! use conductor::ffi::{arrive, PlanTables};
 //! let mut words = [0u16; 1024];
-//! let plan = Plan { drone_count: &words, dependency_count: &words, names: &[], stop_counts: &words, locations: &words, times: &[] };
+//! let plan = PlanTables { drone_count: &words, dependency_count: &words, names: &[], stop_counts: &words, locations: &words, times: &[] };
 //! arrive(plan, &mut words, &mut [], &[], 0); // the visited stops are lent for writing and for reading at once
 //! ```
 
@@ -59,7 +59,7 @@ const _: () = {
 
 /// The tables that a reading alone writes: full sizes 1, 1, 768, 32, 1,024 and 1,024.
 #[derive(Clone, Copy)]
-pub struct Plan<'a> {
+pub struct PlanTables<'a> {
     pub drone_count: &'a [u16],
     pub dependency_count: &'a [u16],
     pub names: &'a [u8],
@@ -69,7 +69,7 @@ pub struct Plan<'a> {
 }
 
 /// All nine tables, lent to a reading. The last three have full sizes 32, 32 and 2,048.
-pub struct Blank<'a> {
+pub struct Tables<'a> {
     pub drone_count: &'a mut [u16],
     pub dependency_count: &'a mut [u16],
     pub names: &'a mut [u8],
@@ -148,57 +148,57 @@ macro_rules! lend {
 }
 
 /// Reads a plan text. 41; 1; 2, 4, 3, 5, 6 by line; 7, 8, 9 by stop; 10; 11. After 41 and 1 the tables are as before, after any other refusal their full sizes are zeroed.
-pub fn read(text: &[u8], tables: Blank) -> ReadAnswer {
+pub fn read(text: &[u8], tables: Tables) -> ReadAnswer {
     lend!(board_read, (text.as_ptr(), text.len()), tables, tables.visited, tables.drone_flags, tables.dependencies, ())
 }
 
 /// Writes the plan's text; the detail is its length, bytes past it are as before. 41, 40, 42.
-pub fn write(buffer: &mut [u8], plan: Plan, visited: &[u16], drone_flags: &[u8], dependencies: &[Dependency]) -> Answer {
+pub fn write(buffer: &mut [u8], plan: PlanTables, visited: &[u16], drone_flags: &[u8], dependencies: &[Dependency]) -> Answer {
     lend!(board_write, (buffer.as_mut_ptr(), buffer.len()), plan, visited, drone_flags, dependencies, ())
 }
 
 /// The drone becomes under way to its next stop. 41, 40, 20, 21, 22, 23 with the lowest dependency unmet.
-pub fn grant(plan: Plan, visited: &[u16], drone_flags: &mut [u8], dependencies: &[Dependency], drone: usize) -> Answer {
+pub fn grant(plan: PlanTables, visited: &[u16], drone_flags: &mut [u8], dependencies: &[Dependency], drone: usize) -> Answer {
     lend!(board_grant, (), plan, visited, drone_flags, dependencies, (drone))
 }
 
 /// The drone has come to its next stop. 41, 40, 20, 24.
-pub fn arrive(plan: Plan, visited: &mut [u16], drone_flags: &mut [u8], dependencies: &[Dependency], drone: usize) -> Answer {
+pub fn arrive(plan: PlanTables, visited: &mut [u16], drone_flags: &mut [u8], dependencies: &[Dependency], drone: usize) -> Answer {
     lend!(board_arrive, (), plan, visited, drone_flags, dependencies, (drone))
 }
 
 /// The order of a dependency's two drones is turned round. 41, 40, 30, 31, 32, 34.
-pub fn turn(plan: Plan, visited: &[u16], drone_flags: &[u8], dependencies: &mut [Dependency], dependency: usize) -> Answer {
+pub fn turn(plan: PlanTables, visited: &[u16], drone_flags: &[u8], dependencies: &mut [Dependency], dependency: usize) -> Answer {
     lend!(board_turn, (), plan, visited, drone_flags, dependencies, (dependency))
 }
 
 /// A strictly rising list of dependencies is turned all at once. 41, 40, 36, then 30, 31, 32 as the list is walked, then 34.
-pub fn turn_all(plan: Plan, visited: &[u16], drone_flags: &[u8], dependencies: &mut [Dependency], list: &[u16]) -> Answer {
+pub fn turn_all(plan: PlanTables, visited: &[u16], drone_flags: &[u8], dependencies: &mut [Dependency], list: &[u16]) -> Answer {
     lend!(board_turn_all, (), plan, visited, drone_flags, dependencies, (list.as_ptr(), list.len()))
 }
 
 /// What [`turn`] would answer, and by how much the cost would change. No table changes.
-pub fn preview(plan: Plan, visited: &[u16], drone_flags: &[u8], dependencies: &[Dependency], dependency: usize) -> ChangeAnswer {
+pub fn preview(plan: PlanTables, visited: &[u16], drone_flags: &[u8], dependencies: &[Dependency], dependency: usize) -> ChangeAnswer {
     lend!(board_preview, (), plan, visited, drone_flags, dependencies, (dependency))
 }
 
 /// What [`turn_all`] would answer, likewise.
-pub fn preview_all(plan: Plan, visited: &[u16], drone_flags: &[u8], dependencies: &[Dependency], list: &[u16]) -> ChangeAnswer {
+pub fn preview_all(plan: PlanTables, visited: &[u16], drone_flags: &[u8], dependencies: &[Dependency], list: &[u16]) -> ChangeAnswer {
     lend!(board_preview_all, (), plan, visited, drone_flags, dependencies, (list.as_ptr(), list.len()))
 }
 
 /// The drones' remaining rounds, added up. 41, 40.
-pub fn cost(plan: Plan, visited: &[u16], drone_flags: &[u8], dependencies: &[Dependency]) -> Answer {
+pub fn cost(plan: PlanTables, visited: &[u16], drone_flags: &[u8], dependencies: &[Dependency]) -> Answer {
     lend!(board_cost, (), plan, visited, drone_flags, dependencies, ())
 }
 
 /// The undelayed rounds until every drone stands at its last stop. 41, 40.
-pub fn rounds(plan: Plan, visited: &[u16], drone_flags: &[u8], dependencies: &[Dependency]) -> Answer {
+pub fn rounds(plan: PlanTables, visited: &[u16], drone_flags: &[u8], dependencies: &[Dependency]) -> Answer {
     lend!(board_rounds, (), plan, visited, drone_flags, dependencies, ())
 }
 
 /// One press of the handset: the arrival of the drone that was reported, if one was, then a grant of every drone that may go. 41, 40, then the arrival's own 20 or 24.
-pub fn press(plan: Plan, visited: &mut [u16], drone_flags: &mut [u8], dependencies: &[Dependency], reported: Option<usize>) -> Answer {
+pub fn press(plan: PlanTables, visited: &mut [u16], drone_flags: &mut [u8], dependencies: &[Dependency], reported: Option<usize>) -> Answer {
     lend!(board_press, (), plan, visited, drone_flags, dependencies, (reported.is_some() as usize, reported.unwrap_or(0)))
 }
 

@@ -22,7 +22,7 @@ mod view;
 pub use conductor::{small_plan, Conductor, Granted};
 pub use ffi::Dependency;
 pub use refusals::*;
-pub use view::{Direction, Drone, Name, Stop};
+pub use view::{Drone, InForce, Name, Stop};
 
 /// Full size of the tables with an entry for each drone.
 pub const DRONES: usize = 32;

@@ -5,12 +5,12 @@ use std::fmt;
 
 /// One stop of one drone, both numbered from 0.
 #[derive(Clone, Copy, Debug, PartialEq, Eq, Hash)]
-pub struct At {
+pub struct Visit {
     pub drone: usize,
     pub stop: usize,
 }
 
-impl fmt::Display for At {
+impl fmt::Display for Visit {
     fn fmt(&self, f: &mut fmt::Formatter) -> fmt::Result {
         write!(f, "drone {} at its stop {}", self.drone, self.stop)
     }
@@ -194,17 +194,17 @@ pub enum ReadRefusal {
     Range { offset: usize },
     SameName { offset: usize },
     TooManyStops { offset: usize },
-    StartsLate(At),
-    NotRising(At),
-    SameLocation(At),
-    Collision(At, At),
+    StartsLate(Visit),
+    NotRising(Visit),
+    SameLocation(Visit),
+    Collision(Visit, Visit),
     TooManyDependencies,
 }
 
 impl ReadRefusal {
     /// The reply of an answer of the library.
     pub fn of(a: ReadAnswer) -> Result<(), ReadRefusal> {
-        let (offset, at) = (a.offset, At { drone: a.drone, stop: a.stop });
+        let (offset, at) = (a.offset, Visit { drone: a.drone, stop: a.stop });
         Err(match a.number {
             0 => return Ok(()),
             41 => ReadRefusal::TablesTooSmall,
@@ -217,7 +217,7 @@ impl ReadRefusal {
             7 => ReadRefusal::StartsLate(at),
             8 => ReadRefusal::NotRising(at),
             9 => ReadRefusal::SameLocation(at),
-            10 => ReadRefusal::Collision(at, At { drone: a.other_drone, stop: a.other_stop }),
+            10 => ReadRefusal::Collision(at, Visit { drone: a.other_drone, stop: a.other_stop }),
             11 => ReadRefusal::TooManyDependencies,
             other => unknown(other),
         })

@@ -1,6 +1,6 @@
 use crate::conductor::Conductor;
 use crate::ffi::Dependency;
-use crate::refusals::At;
+use crate::refusals::Visit;
 use crate::NAME;
 use std::fmt;
 
@@ -79,13 +79,13 @@ impl Drone {
 
 /// A dependency in the order now in force: the drone of `waits` may enter its stop only after the drone of `first` has visited the stop after that one.
 #[derive(Clone, Copy, Debug, PartialEq, Eq, Hash)]
-pub struct Direction {
+pub struct InForce {
     /// The dependency's number, from 0.
     pub number: usize,
     /// Who goes first, and at which stop.
-    pub first: At,
+    pub first: Visit,
     /// Who waits, and at which stop.
-    pub waits: At,
+    pub waits: Visit,
     /// The shared crossing.
     pub location: u16,
     /// Whether it is turned: planned the other way round.
@@ -144,13 +144,13 @@ impl Conductor {
     }
 
     /// The dependencies in the order now in force.
-    pub fn dependencies(&self) -> impl Iterator<Item = Direction> + '_ {
+    pub fn dependencies(&self) -> impl Iterator<Item = InForce> + '_ {
         self.records().iter().enumerate().map(|(number, record)| {
-            let planned_first = At { drone: record.first_drone.into(), stop: record.first_stop.into() };
-            let planned_second = At { drone: record.second_drone.into(), stop: record.second_stop.into() };
+            let planned_first = Visit { drone: record.first_drone.into(), stop: record.first_stop.into() };
+            let planned_second = Visit { drone: record.second_drone.into(), stop: record.second_stop.into() };
             let (first, waits) = if record.turned() { (planned_second, planned_first) } else { (planned_first, planned_second) };
             let location = self.plan.locations[self.route(first.drone).start + first.stop];
-            Direction { number, first, waits, location, turned: record.turned(), fixed: record.fixed() }
+            InForce { number, first, waits, location, turned: record.turned(), fixed: record.fixed() }
         })
     }
 

@@ -46,7 +46,7 @@ fn input_q() {
 #[test]
 fn q_and_a_collision() {
     let at_3 = Q.replace("go=5@4", "go=5@3");
-    assert_eq!(refusal(&at_3), ReadRefusal::Collision(At { drone: 0, stop: 2 }, At { drone: 1, stop: 1 }));
+    assert_eq!(refusal(&at_3), ReadRefusal::Collision(Visit { drone: 0, stop: 2 }, Visit { drone: 1, stop: 1 }));
     assert_eq!(refusal(&at_3).to_string(), "refused with 10: two drones collide: drone 0 at its stop 2, and drone 1 at its stop 1");
 }
 

@@ -2,8 +2,8 @@
 use crate::reckoning::{reply, Call, Reply, Tables};
 use conductor::ffi;
 
-fn lent(t: &Tables) -> ffi::Plan<'_> {
-    ffi::Plan {
+fn lent(t: &Tables) -> ffi::PlanTables<'_> {
+    ffi::PlanTables {
         drone_count: &t.drone_count,
         dependency_count: &t.dependency_count,
         names: &t.names,
@@ -23,7 +23,7 @@ fn change(a: ffi::ChangeAnswer) -> Reply {
 
 /// A reading by the library.
 pub fn read(t: &mut Tables, text: &[u8]) -> Reply {
-    let tables = ffi::Blank {
+    let tables = ffi::Tables {
         drone_count: &mut t.drone_count,
         dependency_count: &mut t.dependency_count,
         names: &mut t.names,
