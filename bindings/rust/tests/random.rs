@@ -172,37 +172,52 @@ fn tables_too_short() {
     seen.report("tables_too_short", seed, cases, &expected);
 }
 
-/// Plans at the limits: 1,024 stops; 2,048 dependencies and one more; texts of 32,768 bytes and one more.
+/// Groups of drones at crossings, the stops of each drone, the reply to the reading, and the dependencies: 1,024 stops; 2,045 to 2,048 dependencies, and one more.
+const LIMITS: [(&[usize], usize, usize, u16); 6] = [
+    (&[32, 32, 32, 32], 32, 0, 1984),
+    (&[32, 32, 32, 32, 11, 4], 20, 0, 2045),
+    (&[32, 32, 32, 32, 11, 4, 2], 20, 0, 2046),
+    (&[32, 32, 32, 32, 11, 4, 2, 2], 20, 0, 2047),
+    (&[32, 32, 32, 32, 11, 4, 3], 20, 0, 2048),
+    (&[32, 32, 32, 32, 11, 4, 3, 2], 20, 11, 0),
+];
+
 #[test]
 fn at_the_limits() {
     let (mut r, mut seen) = (Random::seeded(), Seen::default());
     let seed = r.seed();
-    let full = plans::crossings(&[32, 32, 32, 32], 32, 32);
-    let at_most = plans::crossings(&[32, 32, 32, 32, 11, 4, 3], 32, 16);
-    let one_more = plans::crossings(&[32, 32, 32, 32, 11, 4, 3, 2], 32, 17);
     let mut cases = 0;
-    for (routes, number, count) in [(full, 0, 1984), (at_most, 0, 2048), (one_more, 11, 0)] {
-        let plan = plans::plan_of(&mut r, routes);
+    for (groups, stops, number, count) in LIMITS {
+        let plan = plans::plan_of(&mut r, plans::crossings(groups, 32, stops));
         let (mut tables, answer) = compare_reading(&mut seen, Tables::zeroed(FULL), &text_of(&plan));
-        assert_eq!((answer.number, usize::from(tables.dependency_count[0])), (number, count));
+        assert_eq!((answer.number, tables.dependency_count[0]), (number, count));
         let plan = plan.checked().unwrap_or_default();
         let long = [Call::TurnAll((0..=65535).collect()), Call::PreviewAll((0..=65535).collect()), Call::TurnAll((0..=65535).rev().collect())];
-        let calls = if number == 0 { 150 } else { 0 };
+        let calls = if number == 0 { 60 } else { 0 };
         for call in (0..calls).map(|_| any_call(&mut r, &plan)).chain(long).collect::<Vec<_>>() {
             let length = buffer_length(&mut r, &call, &plan);
             compare_call(&mut seen, &mut tables, &call, length);
             cases += 1;
         }
     }
+    cases += texts_at_the_limits(&mut r, &mut seen);
+    seen.report("at_the_limits", seed, cases, &[("read", &[0, 1, 2, 6, 11])]);
+}
+
+/// 1,025 stops; texts of 32,768 bytes and of more.
+fn texts_at_the_limits(r: &mut Random, seen: &mut Seen) -> usize {
+    let mut routes = plans::crossings(&[32], 32, 32);
+    routes[31].push((60_000, 900_000));
+    let plan = plans::plan_of(r, routes);
+    compare_reading(seen, Tables::zeroed(FULL), &text_of(&plan));
     for length in [32_768, 32_769, 40_000] {
         for beginning in [&b""[..], b"plan=1\nagents=1\nname=a\nstops=1\ngo=1@0\nend=plan\n"] {
             let mut text = beginning.to_vec();
             text.resize(length, b'\n');
-            compare_reading(&mut seen, altered::scrawled(&mut r), &text);
-            cases += 1;
+            compare_reading(seen, altered::scrawled(r), &text);
         }
     }
-    seen.report("at_the_limits", seed, cases, &[("read", &[0, 1, 2, 11])]);
+    7
 }
 
 /// Plans flown to the end by presses, each of a drone that is under way, with turns between them; every press is compared.
