@@ -2,7 +2,9 @@
  *
  * Every table is a pointer and a number of entries. A call asks for no more than this: each pointer is valid for its number of
  * entries, and no two tables overlap. Tables may be longer than their full size; entries past it are neither read nor written.
- * Nothing is kept between calls, and no call allocates. docs/REFUSALS.md says what each number means. */
+ * Nothing is kept between calls, no call allocates, and as measured none uses 60,000 bytes of stack. Any content of the tables and any
+ * number is answered: what is wrong is refused by a number, and a refused call other than a reading changes nothing. docs/REFUSALS.md
+ * says what each number means. */
 #ifndef CONDUCTOR_H
 #define CONDUCTOR_H
 #include <stddef.h>
@@ -17,8 +19,17 @@ enum {
     CONDUCTOR_NAME = 24,
     CONDUCTOR_NAMES = 768, /* 32 names of 24 bytes, zeros after a name */
     CONDUCTOR_STOPS = 1024,
-    CONDUCTOR_DEPENDENCIES = 2048,
-    CONDUCTOR_TEXT = 32768
+    CONDUCTOR_DEPENDENCIES = 2048
+};
+
+/* what a plan and a reply may come to */
+enum {
+    CONDUCTOR_TEXT = 32768,       /* bytes of a plan text, and of every text that board_write writes */
+    CONDUCTOR_LOCATION = 65535,   /* locations from 0 */
+    CONDUCTOR_TIME = 1000000,     /* times from 0 */
+    CONDUCTOR_COST = 31744,       /* cost from 0; the change of a preview as far either way */
+    CONDUCTOR_SMALL_PLANS = 378,  /* small plans, numbered from 0 */
+    CONDUCTOR_SMALL_TEXT = 128    /* bytes that are enough for each of them */
 };
 
 /* a dependency: planned first drone and its stop, planned second drone and its stop; flags: 1 turned, 2 fixed. `reserved` is zero
@@ -53,6 +64,19 @@ typedef struct {
         C4 conductor_dependency *dependencies, size_t dependencies_n
 #define CONDUCTOR_NOTHING
 
+/* the nine tables at full size in one place, for a caller who wants them so: zeroed before the first reading, as static storage is;
+ * board_cost(CONDUCTOR_LEND(field)) lends those of a conductor_tables `field` */
+typedef struct {
+    uint16_t drone_count[1], dependency_count[1], stop_counts[CONDUCTOR_DRONES], locations[CONDUCTOR_STOPS], visited[CONDUCTOR_DRONES];
+    uint32_t times[CONDUCTOR_STOPS];
+    uint8_t names[CONDUCTOR_NAMES], drone_flags[CONDUCTOR_DRONES];
+    conductor_dependency dependencies[CONDUCTOR_DEPENDENCIES];
+} conductor_tables;
+#define CONDUCTOR_LEND(t)                                                                                                                  \
+    (t).drone_count, 1, (t).dependency_count, 1, (t).names, CONDUCTOR_NAMES, (t).stop_counts, CONDUCTOR_DRONES, (t).locations,             \
+        CONDUCTOR_STOPS, (t).times, CONDUCTOR_STOPS, (t).visited, CONDUCTOR_DRONES, (t).drone_flags, CONDUCTOR_DRONES, (t).dependencies,   \
+        CONDUCTOR_DEPENDENCIES
+
 /* Reads a plan text. 41; 1; 2, 4, 3, 5, 6 by line; 7, 8, 9 by stop; 10; 11. After 41 and 1 the tables are as before, after any other
  * refusal their full sizes are zeroed */
 conductor_read_answer board_read(const uint8_t *text, size_t text_n,
@@ -77,7 +101,7 @@ conductor_answer board_turn_all(CONDUCTOR_TABLES(const, const, const, CONDUCTOR_
 /* What board_turn would answer, and by how much the cost would change. No table changes. 41, 40, 30, 31, 32, 34 */
 conductor_change_answer board_preview(CONDUCTOR_TABLES(const, const, const, const), size_t dependency);
 
-/* What board_turn_all would answer, likewise */
+/* What board_turn_all would answer, likewise. 41, 40, 36, then 30, 31, 32 as the list is walked, then 34 */
 conductor_change_answer board_preview_all(CONDUCTOR_TABLES(const, const, const, const), const uint16_t *list, size_t list_n);
 
 /* Detail: the drones' remaining rounds, added up. 41, 40 */

@@ -1,0 +1,146 @@
+//! Time and stack of every call through the library: `cargo run --release --example bench`.
+//!
+//! Microseconds are the best of many. Stack is the most that a call wrote of a painted stack, the wrapper's own frames included.
+use conductor::{small_plan, Conductor};
+use std::fmt::Write;
+use std::hint::black_box;
+use std::time::Instant;
+
+const REPEATS: usize = 300;
+const CALLS: [&str; 12] = ["read", "write", "grant", "arrive", "turn", "turn_all", "preview", "preview_all", "cost", "rounds", "press", "small_plan"];
+
+/// A stack of our own, painted, on which a function is run.
+mod painted {
+    use std::arch::asm;
+    use std::ffi::c_void;
+
+    const PAINT: u8 = 0xc7;
+
+    extern "C" fn run<F: FnMut()>(f: *mut c_void) {
+        // SAFETY: `stack_of` passes a pointer to its own `f`, which outlives the call.
+        unsafe { (*f.cast::<F>())() }
+    }
+
+    /// The bytes that `f` writes below the place where it begins.
+    pub fn stack_of<F: FnMut()>(mut f: F) -> usize {
+        let mut stack = vec![PAINT; 1 << 20];
+        let top = (stack.as_mut_ptr() as usize + stack.len()) & !15;
+        // SAFETY: the new stack is a megabyte, aligned as a call wants it, and the old one is put back after the call; r12 is kept by every C function.
+        unsafe {
+            asm!("mov r12, rsp", "mov rsp, {top}", "call {run}", "mov rsp, r12",
+                top = in(reg) top, run = in(reg) run::<F> as *const (), in("rdi") std::ptr::from_mut(&mut f), out("r12") _, clobber_abi("C"));
+        }
+        let untouched = stack.iter().position(|byte| *byte != PAINT).unwrap_or(stack.len());
+        stack.len() - untouched
+    }
+}
+
+/// Every seventh stop is a crossing that all drones pass one after the other; the other stops are a drone's own.
+fn plan(drones: usize, stops: usize) -> String {
+    let (share, from) = if stops < 7 { (2, 1) } else { (7, 5) };
+    let mut text = format!("plan=1\nagents={drones}\n");
+    for d in 0..drones {
+        let _ = write!(text, "name=survey-quad-{d}\nstops={stops}\n");
+        for s in 0..stops {
+            let crossing = s % share == from && s < stops - 1;
+            let time = if s == 0 { 0 } else { 2 * d * 10_000 + s * 10_000 };
+            let _ = writeln!(text, "go={}@{time}", if crossing { s } else { 2000 + d * 1024 + s });
+        }
+    }
+    text + "end=plan\n"
+}
+
+struct Measured {
+    field: Conductor,
+    text: String,
+    drone: usize,
+    dependency: usize,
+    list: Vec<u16>,
+    buffer: Vec<u8>,
+}
+
+impl Measured {
+    /// The plan is read, up to `want` orders of neighbouring drones are turned, and what the calls name is looked for.
+    fn new(text: String, want: usize) -> Measured {
+        let mut field = Conductor::new();
+        field.read(text.as_bytes()).expect("taken");
+        let pairs: Vec<usize> = field.dependencies().filter(|d| d.first.drone % 2 == 0 && d.waits.drone == d.first.drone + 1).map(|d| d.number).collect();
+        pairs.into_iter().filter(|p| field.turn(*p).is_ok()).take(want).for_each(drop);
+        let dependency = (0..field.dependency_count()).rev().find(|p| field.preview(*p).is_ok()).unwrap_or(0);
+        let mut copy = field.clone();
+        let list = (0..field.dependency_count()).filter(|p| copy.turn(*p).is_ok()).map(|p| p as u16).collect();
+        let drone = (0..field.drone_count()).find(|d| field.clone().grant(*d).is_ok()).unwrap_or(0);
+        Measured { field, text, drone, dependency, list, buffer: vec![0; conductor::TEXT] }
+    }
+
+    /// One call, by its place in CALLS, on a copy: what it would be refused by makes no difference here.
+    fn call(&mut self, which: usize, on: &mut Conductor) {
+        let refused = match CALLS[which] {
+            "read" => on.read(self.text.as_bytes()).is_err(),
+            "write" => on.write(&mut self.buffer).is_err(),
+            "grant" => on.grant(self.drone).is_err(),
+            "arrive" => on.arrive(self.drone).is_err(),
+            "turn" => on.turn(self.dependency).is_err(),
+            "turn_all" => on.turn_all(&self.list).is_err(),
+            "preview" => on.preview(self.dependency).is_err(),
+            "preview_all" => on.preview_all(&self.list).is_err(),
+            "cost" => on.cost().is_err(),
+            "rounds" => on.rounds().is_err(),
+            "press" => on.press(None).is_err(),
+            _ => small_plan(377, &mut self.buffer).is_err(),
+        };
+        black_box(refused);
+    }
+
+    /// The conductor before a call: an arrival needs a drone that is under way.
+    fn before(&self, which: usize) -> Conductor {
+        let mut copy = self.field.clone();
+        if CALLS[which] == "arrive" {
+            let _ = copy.grant(self.drone);
+        }
+        copy
+    }
+
+    fn microseconds(&mut self, which: usize) -> f64 {
+        let before = self.before(which);
+        let mut copy = before.clone();
+        let mut best = f64::MAX;
+        for _ in 0..REPEATS {
+            copy.clone_from(&before);
+            let start = Instant::now();
+            self.call(which, &mut copy);
+            best = best.min(start.elapsed().as_secs_f64() * 1e6);
+        }
+        best
+    }
+
+    fn stack(&mut self, which: usize) -> usize {
+        let mut copy = self.before(which);
+        painted::stack_of(|| self.call(which, &mut copy))
+    }
+}
+
+fn main() {
+    let mut most = [0; CALLS.len()];
+    println!("microseconds, best of {REPEATS}");
+    println!("{:>6} {:>6} {:>6} {:>6} {}", "drones", "stops", "waits", "turned", CALLS.map(|name| format!("{name:>12}")).concat());
+    for (drones, stops) in [(1, 1), (8, 24), (32, 12), (32, 24), (32, 31), (32, 32)] {
+        for want in [0, 64] {
+            let mut measured = Measured::new(plan(drones, stops), want);
+            let turned = measured.field.dependencies().filter(|d| d.turned).count();
+            if want > 0 && turned == 0 {
+                continue;
+            }
+            print!("{drones:>6} {:>6} {:>6} {turned:>6} ", drones * stops, measured.field.dependency_count());
+            for which in 0..CALLS.len() {
+                print!("{:>12.1}", measured.microseconds(which));
+                most[which] = most[which].max(measured.stack(which));
+            }
+            println!();
+        }
+    }
+    println!("bytes of stack, the most seen (the harness itself {})", painted::stack_of(|| {}));
+    for (name, bytes) in CALLS.iter().zip(most) {
+        println!("  {name:<12}{bytes:>7}");
+    }
+}

@@ -1,0 +1,153 @@
+use crate::ffi::{self, Dependency, PlanTables, Tables};
+use crate::refusals::*;
+use crate::{DEPENDENCIES, DRONES, NAME, STOPS, TEXT};
+
+// The tables that a reading alone writes.
+#[derive(Clone, PartialEq, Eq)]
+pub(crate) struct OwnPlan {
+    pub(crate) drone_count: [u16; 1],
+    pub(crate) dependency_count: [u16; 1],
+    pub(crate) names: [u8; DRONES * NAME],
+    pub(crate) stop_counts: [u16; DRONES],
+    pub(crate) locations: [u16; STOPS],
+    pub(crate) times: [u32; STOPS],
+}
+
+impl OwnPlan {
+    fn lent(&self) -> PlanTables<'_> {
+        PlanTables {
+            drone_count: &self.drone_count,
+            dependency_count: &self.dependency_count,
+            names: &self.names,
+            stop_counts: &self.stop_counts,
+            locations: &self.locations,
+            times: &self.times,
+        }
+    }
+}
+
+/// The conductor with tables of its own, all at full size, so that 41 never comes. Before a plan is read, and after one is refused, every call but a reading answers 40.
+#[derive(Clone, PartialEq, Eq)]
+pub struct Conductor {
+    pub(crate) plan: OwnPlan,
+    pub(crate) visited: [u16; DRONES],
+    pub(crate) drone_flags: [u8; DRONES],
+    pub(crate) dependencies: [Dependency; DEPENDENCIES],
+}
+
+/// The drones that a press granted, one bit for each, bit 0 for drone 0.
+#[derive(Clone, Copy, Debug, PartialEq, Eq, Hash)]
+pub struct Granted(pub u32);
+
+impl Granted {
+    /// The granted drones, rising.
+    pub fn drones(self) -> impl Iterator<Item = usize> {
+        (0..DRONES).filter(move |d| self.0 >> d & 1 == 1)
+    }
+}
+
+impl Default for Conductor {
+    fn default() -> Conductor {
+        Conductor::new()
+    }
+}
+
+impl Conductor {
+    /// A conductor without a plan.
+    pub const fn new() -> Conductor {
+        const UNUSED: Dependency = Dependency { first_stop: 0, second_stop: 0, first_drone: 0, second_drone: 0, flags: 0, reserved: 0 };
+        Conductor {
+            plan: OwnPlan {
+                drone_count: [0],
+                dependency_count: [0],
+                names: [0; DRONES * NAME],
+                stop_counts: [0; DRONES],
+                locations: [0; STOPS],
+                times: [0; STOPS],
+            },
+            visited: [0; DRONES],
+            drone_flags: [0; DRONES],
+            dependencies: [UNUSED; DEPENDENCIES],
+        }
+    }
+
+    /// Reads a plan text. The plan that was held before is gone, unless the text is too long.
+    pub fn read(&mut self, text: &[u8]) -> Result<(), ReadRefusal> {
+        let tables = Tables {
+            drone_count: &mut self.plan.drone_count,
+            dependency_count: &mut self.plan.dependency_count,
+            names: &mut self.plan.names,
+            stop_counts: &mut self.plan.stop_counts,
+            locations: &mut self.plan.locations,
+            times: &mut self.plan.times,
+            visited: &mut self.visited,
+            drone_flags: &mut self.drone_flags,
+            dependencies: &mut self.dependencies,
+        };
+        ReadRefusal::of(ffi::read(text, tables))
+    }
+
+    /// Writes the plan's text, names in small letters, and returns its length; bytes past it are as before.
+    pub fn write(&self, buffer: &mut [u8]) -> Result<usize, WriteRefusal> {
+        detail(ffi::write(buffer, self.plan.lent(), &self.visited, &self.drone_flags, &self.dependencies), WriteRefusal::of)
+    }
+
+    /// The plan's text.
+    pub fn text(&self) -> Result<Vec<u8>, WriteRefusal> {
+        let mut text = vec![0; TEXT];
+        let length = self.write(&mut text)?;
+        text.truncate(length);
+        Ok(text)
+    }
+
+    /// The drone becomes under way to its next stop.
+    pub fn grant(&mut self, drone: usize) -> Result<(), GrantRefusal> {
+        GrantRefusal::of(ffi::grant(self.plan.lent(), &self.visited, &mut self.drone_flags, &self.dependencies, drone))
+    }
+
+    /// The drone has come to its next stop.
+    pub fn arrive(&mut self, drone: usize) -> Result<(), ArriveRefusal> {
+        ArriveRefusal::of(ffi::arrive(self.plan.lent(), &mut self.visited, &mut self.drone_flags, &self.dependencies, drone).number)
+    }
+
+    /// The order of a dependency's two drones is turned round.
+    pub fn turn(&mut self, dependency: usize) -> Result<(), TurnRefusal> {
+        TurnRefusal::of(ffi::turn(self.plan.lent(), &self.visited, &self.drone_flags, &mut self.dependencies, dependency).number)
+    }
+
+    /// A strictly rising list of dependencies is turned all at once.
+    pub fn turn_all(&mut self, list: &[u16]) -> Result<(), TurnAllRefusal> {
+        TurnAllRefusal::of(ffi::turn_all(self.plan.lent(), &self.visited, &self.drone_flags, &mut self.dependencies, list).number)
+    }
+
+    /// By how much a turn would change the cost (less is better), or what it would be refused by.
+    pub fn preview(&self, dependency: usize) -> Result<i64, TurnRefusal> {
+        change(ffi::preview(self.plan.lent(), &self.visited, &self.drone_flags, &self.dependencies, dependency), TurnRefusal::of)
+    }
+
+    /// The same of a list.
+    pub fn preview_all(&self, list: &[u16]) -> Result<i64, TurnAllRefusal> {
+        change(ffi::preview_all(self.plan.lent(), &self.visited, &self.drone_flags, &self.dependencies, list), TurnAllRefusal::of)
+    }
+
+    /// The drones' remaining rounds, added up.
+    pub fn cost(&self) -> Result<usize, CostRefusal> {
+        detail(ffi::cost(self.plan.lent(), &self.visited, &self.drone_flags, &self.dependencies), CostRefusal::of)
+    }
+
+    /// The undelayed rounds until every drone stands at its last stop.
+    pub fn rounds(&self) -> Result<usize, CostRefusal> {
+        detail(ffi::rounds(self.plan.lent(), &self.visited, &self.drone_flags, &self.dependencies), CostRefusal::of)
+    }
+
+    /// One press of the handset: takes the arrival that was reported, if one was, then grants every drone that may go.
+    pub fn press(&mut self, reported: Option<usize>) -> Result<Granted, ArriveRefusal> {
+        let answer = ffi::press(self.plan.lent(), &mut self.visited, &mut self.drone_flags, &self.dependencies, reported);
+        detail(answer, ArriveRefusal::of).map(|bits| Granted(bits as u32))
+    }
+}
+
+/// Writes a small plan for the bench by its number, 0 to 377, and returns its length; bytes past it are as before.
+pub fn small_plan(number: usize, buffer: &mut [u8]) -> Result<usize, SmallPlanRefusal> {
+    detail(ffi::small_plan(number, buffer), SmallPlanRefusal::of)
+}

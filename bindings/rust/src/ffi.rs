@@ -1,0 +1,209 @@
+//! The twelve calls over lent slices of any length, as `bindings/c/conductor.h` declares them: safe functions, and the only unsafe code of this crate.
+//!
+//! The library asks that each pointer is valid for its number of entries and that no table that it writes overlaps another. Slices and the rules of borrowing give both:
+//!
+//! ```compile_fail,E0502
+//! use conductor::ffi::{arrive, PlanTables};
+//! let mut words = [0u16; 1024];
+//! let plan = PlanTables { drone_count: &words, dependency_count: &words, names: &[], stop_counts: &words, locations: &words, times: &[] };
+//! arrive(plan, &mut words, &mut [], &[], 0); // the visited stops are lent for writing and for reading at once
+//! ```
+
+/// A dependency: the planned first drone and its stop, the planned second drone and its stop. `reserved` is zero after a reading, and no call looks at it.
+#[repr(C)]
+#[derive(Clone, Copy, Debug, Default, PartialEq, Eq, Hash)]
+pub struct Dependency {
+    pub first_stop: u16,
+    pub second_stop: u16,
+    pub first_drone: u8,
+    pub second_drone: u8,
+    pub flags: u8,
+    pub reserved: u8,
+}
+
+/// Number 0: done. The detail is the dependency of a 23, the cost, the rounds, the length of the text, the granted drones; else 0.
+#[repr(C)]
+#[derive(Clone, Copy, Debug, PartialEq, Eq)]
+pub struct Answer {
+    pub number: usize,
+    pub detail: usize,
+}
+
+/// Number 0: the turn would be done, and `change` is the cost after it less the cost now; else 0.
+#[repr(C)]
+#[derive(Clone, Copy, Debug, PartialEq, Eq)]
+pub struct ChangeAnswer {
+    pub number: usize,
+    pub change: i64,
+}
+
+/// Number 0: taken. 1 to 6 come with an offset, 7 to 9 with a drone and its stop, 10 with two of each; the rest is 0.
+#[repr(C)]
+#[derive(Clone, Copy, Debug, PartialEq, Eq)]
+pub struct ReadAnswer {
+    pub number: usize,
+    pub offset: usize,
+    pub drone: usize,
+    pub stop: usize,
+    pub other_drone: usize,
+    pub other_stop: usize,
+}
+
+const _: () = {
+    use core::mem::{align_of, offset_of, size_of};
+    assert!(size_of::<usize>() == 8);
+    assert!(size_of::<Dependency>() == 8 && align_of::<Dependency>() == 2);
+    assert!(offset_of!(Dependency, first_drone) == 4 && offset_of!(Dependency, flags) == 6);
+    assert!(size_of::<Answer>() == 16 && size_of::<ChangeAnswer>() == 16 && size_of::<ReadAnswer>() == 48);
+};
+
+/// The tables that a reading alone writes: full sizes 1, 1, 768, 32, 1,024 and 1,024.
+#[derive(Clone, Copy)]
+pub struct PlanTables<'a> {
+    pub drone_count: &'a [u16],
+    pub dependency_count: &'a [u16],
+    pub names: &'a [u8],
+    pub stop_counts: &'a [u16],
+    pub locations: &'a [u16],
+    pub times: &'a [u32],
+}
+
+/// All nine tables, lent to a reading. The last three have full sizes 32, 32 and 2,048.
+pub struct Tables<'a> {
+    pub drone_count: &'a mut [u16],
+    pub dependency_count: &'a mut [u16],
+    pub names: &'a mut [u8],
+    pub stop_counts: &'a mut [u16],
+    pub locations: &'a mut [u16],
+    pub times: &'a mut [u32],
+    pub visited: &'a mut [u16],
+    pub drone_flags: &'a mut [u8],
+    pub dependencies: &'a mut [Dependency],
+}
+
+// The four marks say, as the header does, which tables a call writes: those of the plan; visited; drone_flags; dependencies.
+macro_rules! declare {
+    ($(fn $call:ident($($before:ident: $B:ty),*; *$plan:tt *$visited:tt *$flags:tt *$dependencies:tt; $($after:ident: $A:ty),*) -> $Answer:ty;)*) => {
+        extern "C" {
+            $(fn $call(
+                $($before: $B,)*
+                drone_count: *$plan u16, drone_count_n: usize,
+                dependency_count: *$plan u16, dependency_count_n: usize,
+                names: *$plan u8, names_n: usize,
+                stop_counts: *$plan u16, stop_counts_n: usize,
+                locations: *$plan u16, locations_n: usize,
+                times: *$plan u32, times_n: usize,
+                visited: *$visited u16, visited_n: usize,
+                drone_flags: *$flags u8, drone_flags_n: usize,
+                dependencies: *$dependencies Dependency, dependencies_n: usize,
+                $($after: $A),*
+            ) -> $Answer;)*
+            fn board_small_plan(number: usize, buffer: *mut u8, buffer_n: usize) -> Answer;
+        }
+    };
+}
+
+declare! {
+    fn board_read(text: *const u8, text_n: usize; *mut *mut *mut *mut;) -> ReadAnswer;
+    fn board_write(buffer: *mut u8, buffer_n: usize; *const *const *const *const;) -> Answer;
+    fn board_grant(; *const *const *mut *const; drone: usize) -> Answer;
+    fn board_arrive(; *const *mut *mut *const; drone: usize) -> Answer;
+    fn board_turn(; *const *const *const *mut; dependency: usize) -> Answer;
+    fn board_turn_all(; *const *const *const *mut; list: *const u16, list_n: usize) -> Answer;
+    fn board_preview(; *const *const *const *const; dependency: usize) -> ChangeAnswer;
+    fn board_preview_all(; *const *const *const *const; list: *const u16, list_n: usize) -> ChangeAnswer;
+    fn board_cost(; *const *const *const *const;) -> Answer;
+    fn board_rounds(; *const *const *const *const;) -> Answer;
+    fn board_press(; *const *mut *mut *const; reported: usize, drone: usize) -> Answer;
+}
+
+// A slice as the library takes it: its pointer and its length.
+trait Lent {
+    type Pointer;
+    fn lent(self) -> (Self::Pointer, usize);
+}
+
+impl<T> Lent for &[T] {
+    type Pointer = *const T;
+    fn lent(self) -> (*const T, usize) {
+        (self.as_ptr(), self.len())
+    }
+}
+
+impl<T> Lent for &mut [T] {
+    type Pointer = *mut T;
+    fn lent(self) -> (*mut T, usize) {
+        (self.as_mut_ptr(), self.len())
+    }
+}
+
+macro_rules! lend {
+    ($call:ident, ($($before:expr),*), $plan:ident, $visited:expr, $flags:expr, $dependencies:expr, ($($after:expr),*)) => {{
+        let (a, b, c) = ($plan.drone_count.lent(), $plan.dependency_count.lent(), $plan.names.lent());
+        let (d, e, f) = ($plan.stop_counts.lent(), $plan.locations.lent(), $plan.times.lent());
+        let (g, h, i) = ($visited.lent(), $flags.lent(), $dependencies.lent());
+        // SAFETY: every pointer comes from a slice with that slice's length. What is written is borrowed for writing, so that nothing overlaps it; no pointer is kept.
+        unsafe { $call($($before,)* a.0, a.1, b.0, b.1, c.0, c.1, d.0, d.1, e.0, e.1, f.0, f.1, g.0, g.1, h.0, h.1, i.0, i.1, $($after),*) }
+    }};
+}
+
+/// Reads a plan text. 41; 1; 2, 4, 3, 5, 6 by line; 7, 8, 9 by stop; 10; 11. After 41 and 1 the tables are as before, after any other refusal their full sizes are zeroed.
+pub fn read(text: &[u8], tables: Tables) -> ReadAnswer {
+    lend!(board_read, (text.as_ptr(), text.len()), tables, tables.visited, tables.drone_flags, tables.dependencies, ())
+}
+
+/// Writes the plan's text; the detail is its length, bytes past it are as before. 41, 40, 42.
+pub fn write(buffer: &mut [u8], plan: PlanTables, visited: &[u16], drone_flags: &[u8], dependencies: &[Dependency]) -> Answer {
+    lend!(board_write, (buffer.as_mut_ptr(), buffer.len()), plan, visited, drone_flags, dependencies, ())
+}
+
+/// The drone becomes under way to its next stop. 41, 40, 20, 21, 22, 23 with the lowest dependency unmet.
+pub fn grant(plan: PlanTables, visited: &[u16], drone_flags: &mut [u8], dependencies: &[Dependency], drone: usize) -> Answer {
+    lend!(board_grant, (), plan, visited, drone_flags, dependencies, (drone))
+}
+
+/// The drone has come to its next stop. 41, 40, 20, 24.
+pub fn arrive(plan: PlanTables, visited: &mut [u16], drone_flags: &mut [u8], dependencies: &[Dependency], drone: usize) -> Answer {
+    lend!(board_arrive, (), plan, visited, drone_flags, dependencies, (drone))
+}
+
+/// The order of a dependency's two drones is turned round. 41, 40, 30, 31, 32, 34.
+pub fn turn(plan: PlanTables, visited: &[u16], drone_flags: &[u8], dependencies: &mut [Dependency], dependency: usize) -> Answer {
+    lend!(board_turn, (), plan, visited, drone_flags, dependencies, (dependency))
+}
+
+/// A strictly rising list of dependencies is turned all at once. 41, 40, 36, then 30, 31, 32 as the list is walked, then 34.
+pub fn turn_all(plan: PlanTables, visited: &[u16], drone_flags: &[u8], dependencies: &mut [Dependency], list: &[u16]) -> Answer {
+    lend!(board_turn_all, (), plan, visited, drone_flags, dependencies, (list.as_ptr(), list.len()))
+}
+
+/// What [`turn`] would answer, and by how much the cost would change. No table changes.
+pub fn preview(plan: PlanTables, visited: &[u16], drone_flags: &[u8], dependencies: &[Dependency], dependency: usize) -> ChangeAnswer {
+    lend!(board_preview, (), plan, visited, drone_flags, dependencies, (dependency))
+}
+
+/// What [`turn_all`] would answer, likewise.
+pub fn preview_all(plan: PlanTables, visited: &[u16], drone_flags: &[u8], dependencies: &[Dependency], list: &[u16]) -> ChangeAnswer {
+    lend!(board_preview_all, (), plan, visited, drone_flags, dependencies, (list.as_ptr(), list.len()))
+}
+
+/// The drones' remaining rounds, added up. 41, 40.
+pub fn cost(plan: PlanTables, visited: &[u16], drone_flags: &[u8], dependencies: &[Dependency]) -> Answer {
+    lend!(board_cost, (), plan, visited, drone_flags, dependencies, ())
+}
+
+/// The undelayed rounds until every drone stands at its last stop. 41, 40.
+pub fn rounds(plan: PlanTables, visited: &[u16], drone_flags: &[u8], dependencies: &[Dependency]) -> Answer {
+    lend!(board_rounds, (), plan, visited, drone_flags, dependencies, ())
+}
+
+/// One press of the handset: the arrival of the drone that was reported, if one was, then a grant of every drone that may go. 41, 40, then the arrival's own 20 or 24.
+pub fn press(plan: PlanTables, visited: &mut [u16], drone_flags: &mut [u8], dependencies: &[Dependency], reported: Option<usize>) -> Answer {
+    lend!(board_press, (), plan, visited, drone_flags, dependencies, (reported.is_some() as usize, reported.unwrap_or(0)))
+}
+
+/// Writes a small plan for the bench by its number, 0 to 377; the detail is its length, bytes past it are as before. 15, 42.
+pub fn small_plan(number: usize, buffer: &mut [u8]) -> Answer {
+    // SAFETY: pointer and length are those of one slice, borrowed for writing; the pointer is not kept.
+    unsafe { board_small_plan(number, buffer.as_mut_ptr(), buffer.len()) }
+}

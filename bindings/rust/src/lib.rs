@@ -1,0 +1,38 @@
+//! The field conductor for Rust: the proved calls of `libboard.a`, safe by their types.
+//!
+//! [`Conductor`] owns its tables and has a method for each call; a refusal is an enum with its number and plain words. [`ffi`] has the same calls over lent slices of any length.
+//!
+//! ```
+//! let text = "plan=1\nagents=2\nname=east\nstops=3\ngo=1@0\ngo=5@1\ngo=2@2\nname=west\nstops=3\ngo=3@0\ngo=5@4\ngo=4@5\nend=plan\n";
+//! let mut field = conductor::Conductor::new();
+//! field.read(text.as_bytes())?;
+//! assert_eq!(field.cost()?, 6);
+//! assert_eq!(field.grant(1).unwrap_err().to_string(), "refused with 23: the drone must wait: dependency 0 is not met");
+//! # Ok::<(), Box<dyn std::error::Error>>(())
+//! ```
+#![deny(unsafe_code, missing_docs)]
+
+mod conductor;
+#[allow(unsafe_code, missing_docs)]
+pub mod ffi;
+#[allow(missing_docs)]
+mod refusals;
+mod view;
+
+pub use conductor::{small_plan, Conductor, Granted};
+pub use ffi::Dependency;
+pub use refusals::*;
+pub use view::{Drone, InForce, Name, Stop};
+
+/// Full size of the tables with an entry for each drone.
+pub const DRONES: usize = 32;
+/// Bytes of one name in the table of names.
+pub const NAME: usize = 24;
+/// Full size of the tables with an entry for each stop.
+pub const STOPS: usize = 1024;
+/// Full size of the table of dependencies.
+pub const DEPENDENCIES: usize = 2048;
+/// The most bytes of a plan text.
+pub const TEXT: usize = 32768;
+/// The number of small plans for the bench.
+pub const SMALL_PLANS: usize = 378;

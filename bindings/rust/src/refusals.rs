@@ -1,0 +1,281 @@
+//! Why a call was refused: an enum for each kind of call, with document 01's number and, by `Display`, words for a pilot.
+use crate::ffi::{Answer, ChangeAnswer, ReadAnswer};
+use std::error::Error;
+use std::fmt;
+
+/// One stop of one drone, both numbered from 0.
+#[derive(Clone, Copy, Debug, PartialEq, Eq, Hash)]
+pub struct Visit {
+    pub drone: usize,
+    pub stop: usize,
+}
+
+impl fmt::Display for Visit {
+    fn fmt(&self, f: &mut fmt::Formatter) -> fmt::Result {
+        write!(f, "drone {} at its stop {}", self.drone, self.stop)
+    }
+}
+
+/// What a refusal number means, in the words of the pilots' page; none for a number that no call answers.
+pub fn meaning(number: usize) -> Option<&'static str> {
+    Some(match number {
+        1 => "the text is longer than 32,768 bytes",
+        2 => "a line is malformed, out of order, missing or surplus",
+        3 => "a name is not 1 to 24 letters, digits and hyphens",
+        4 => "a number is outside its range",
+        5 => "a name is that of an earlier drone",
+        6 => "the stops of all drones are more than 1,024",
+        7 => "a drone's first stop is not at time 0",
+        8 => "a stop's time is not after that of the stop before it",
+        9 => "a stop has the location of the stop before it",
+        10 => "two drones collide",
+        11 => "the plan has more than 2,048 dependencies",
+        15 => "there is no small plan of this number",
+        20 => "there is no such drone",
+        21 => "the drone stands at its last stop",
+        22 => "the drone is already under way",
+        23 => "the drone must wait",
+        24 => "the drone is not under way",
+        30 => "there is no such dependency",
+        31 => "the dependency is fixed: it begins at a first stop or ends at a last one",
+        32 => "the drone that goes first has already entered the crossing",
+        34 => "drones would wait for each other in a ring",
+        36 => "the list is empty or does not rise",
+        40 => "the tables hold no accepted plan",
+        41 => "a table is below its full size",
+        42 => "the buffer is shorter than the text",
+        _ => return None,
+    })
+}
+
+fn told(f: &mut fmt::Formatter, number: usize) -> fmt::Result {
+    write!(f, "refused with {number}: {}", meaning(number).unwrap_or_default())
+}
+
+// The contracts leave no other number; a library that says one is not the proved one.
+fn unknown(number: usize) -> ! {
+    panic!("libboard.a answered {number}, which this call never does")
+}
+
+// Refusals that carry nothing but their number.
+macro_rules! plain {
+    ($(#[$doc:meta])* $name:ident { $($case:ident = $number:literal),+ }) => {
+        $(#[$doc])*
+        #[derive(Clone, Copy, Debug, PartialEq, Eq, Hash)]
+        pub enum $name {
+            $($case = $number),+
+        }
+
+        impl $name {
+            /// The reply of a number that the library answered.
+            pub fn of(number: usize) -> Result<(), $name> {
+                match number {
+                    0 => Ok(()),
+                    $($number => Err($name::$case),)+
+                    other => unknown(other),
+                }
+            }
+
+            /// The refusal's number.
+            pub fn number(&self) -> usize {
+                *self as usize
+            }
+
+            /// What the number means.
+            pub fn meaning(&self) -> &'static str {
+                meaning(self.number()).unwrap_or_default()
+            }
+        }
+
+        impl fmt::Display for $name {
+            fn fmt(&self, f: &mut fmt::Formatter) -> fmt::Result {
+                told(f, self.number())
+            }
+        }
+
+        impl Error for $name {}
+    };
+}
+
+plain! {
+    /// Why an arrival, or a press of the handset, was refused.
+    ArriveRefusal { TablesTooSmall = 41, NotSound = 40, NoSuchDrone = 20, NotUnderWay = 24 }
+}
+
+plain! {
+    /// Why one dependency is not turned, or would not be.
+    TurnRefusal { TablesTooSmall = 41, NotSound = 40, NoSuchDependency = 30, Fixed = 31, Entered = 32, Cycle = 34 }
+}
+
+plain! {
+    /// Why a list of dependencies is not turned, or would not be.
+    TurnAllRefusal { TablesTooSmall = 41, NotSound = 40, ListNotRising = 36, NoSuchDependency = 30, Fixed = 31, Entered = 32, Cycle = 34 }
+}
+
+plain! {
+    /// Why there is no cost, and no number of rounds.
+    CostRefusal { TablesTooSmall = 41, NotSound = 40 }
+}
+
+plain! {
+    /// Why a plan was not written.
+    WriteRefusal { TablesTooSmall = 41, NotSound = 40, BufferTooShort = 42 }
+}
+
+plain! {
+    /// Why a small plan was not written.
+    SmallPlanRefusal { NoSuchPlan = 15, BufferTooShort = 42 }
+}
+
+/// Why a drone was not granted.
+#[derive(Clone, Copy, Debug, PartialEq, Eq, Hash)]
+pub enum GrantRefusal {
+    TablesTooSmall,
+    NotSound,
+    NoSuchDrone,
+    Finished,
+    UnderWay,
+    /// With the lowest dependency that is not met.
+    MustWait(usize),
+}
+
+impl GrantRefusal {
+    /// The reply of an answer of the library.
+    pub fn of(answer: Answer) -> Result<(), GrantRefusal> {
+        Err(match answer.number {
+            0 => return Ok(()),
+            41 => GrantRefusal::TablesTooSmall,
+            40 => GrantRefusal::NotSound,
+            20 => GrantRefusal::NoSuchDrone,
+            21 => GrantRefusal::Finished,
+            22 => GrantRefusal::UnderWay,
+            23 => GrantRefusal::MustWait(answer.detail),
+            other => unknown(other),
+        })
+    }
+
+    /// The refusal's number.
+    pub fn number(&self) -> usize {
+        match self {
+            GrantRefusal::TablesTooSmall => 41,
+            GrantRefusal::NotSound => 40,
+            GrantRefusal::NoSuchDrone => 20,
+            GrantRefusal::Finished => 21,
+            GrantRefusal::UnderWay => 22,
+            GrantRefusal::MustWait(_) => 23,
+        }
+    }
+
+    /// What the number means.
+    pub fn meaning(&self) -> &'static str {
+        meaning(self.number()).unwrap_or_default()
+    }
+}
+
+impl fmt::Display for GrantRefusal {
+    fn fmt(&self, f: &mut fmt::Formatter) -> fmt::Result {
+        told(f, self.number())?;
+        match self {
+            GrantRefusal::MustWait(dependency) => write!(f, ": dependency {dependency} is not met"),
+            _ => Ok(()),
+        }
+    }
+}
+
+impl Error for GrantRefusal {}
+
+/// Why a plan text was not taken. The offset is that of the line at fault, from the text's first byte.
+#[derive(Clone, Copy, Debug, PartialEq, Eq, Hash)]
+pub enum ReadRefusal {
+    TablesTooSmall,
+    TooLong { offset: usize },
+    Form { offset: usize },
+    Name { offset: usize },
+    Range { offset: usize },
+    SameName { offset: usize },
+    TooManyStops { offset: usize },
+    StartsLate(Visit),
+    NotRising(Visit),
+    SameLocation(Visit),
+    Collision(Visit, Visit),
+    TooManyDependencies,
+}
+
+impl ReadRefusal {
+    /// The reply of an answer of the library.
+    pub fn of(a: ReadAnswer) -> Result<(), ReadRefusal> {
+        let (offset, at) = (a.offset, Visit { drone: a.drone, stop: a.stop });
+        Err(match a.number {
+            0 => return Ok(()),
+            41 => ReadRefusal::TablesTooSmall,
+            1 => ReadRefusal::TooLong { offset },
+            2 => ReadRefusal::Form { offset },
+            3 => ReadRefusal::Name { offset },
+            4 => ReadRefusal::Range { offset },
+            5 => ReadRefusal::SameName { offset },
+            6 => ReadRefusal::TooManyStops { offset },
+            7 => ReadRefusal::StartsLate(at),
+            8 => ReadRefusal::NotRising(at),
+            9 => ReadRefusal::SameLocation(at),
+            10 => ReadRefusal::Collision(at, Visit { drone: a.other_drone, stop: a.other_stop }),
+            11 => ReadRefusal::TooManyDependencies,
+            other => unknown(other),
+        })
+    }
+
+    /// The refusal's number.
+    pub fn number(&self) -> usize {
+        match self {
+            ReadRefusal::TablesTooSmall => 41,
+            ReadRefusal::TooLong { .. } => 1,
+            ReadRefusal::Form { .. } => 2,
+            ReadRefusal::Name { .. } => 3,
+            ReadRefusal::Range { .. } => 4,
+            ReadRefusal::SameName { .. } => 5,
+            ReadRefusal::TooManyStops { .. } => 6,
+            ReadRefusal::StartsLate(_) => 7,
+            ReadRefusal::NotRising(_) => 8,
+            ReadRefusal::SameLocation(_) => 9,
+            ReadRefusal::Collision(..) => 10,
+            ReadRefusal::TooManyDependencies => 11,
+        }
+    }
+
+    /// What the number means.
+    pub fn meaning(&self) -> &'static str {
+        meaning(self.number()).unwrap_or_default()
+    }
+
+    /// The byte offset of the line at fault, with 1 to 6.
+    pub fn offset(&self) -> Option<usize> {
+        match *self {
+            ReadRefusal::TooLong { offset } | ReadRefusal::Form { offset } | ReadRefusal::Name { offset } => Some(offset),
+            ReadRefusal::Range { offset } | ReadRefusal::SameName { offset } | ReadRefusal::TooManyStops { offset } => Some(offset),
+            _ => None,
+        }
+    }
+}
+
+impl fmt::Display for ReadRefusal {
+    fn fmt(&self, f: &mut fmt::Formatter) -> fmt::Result {
+        told(f, self.number())?;
+        match self {
+            ReadRefusal::StartsLate(at) | ReadRefusal::NotRising(at) | ReadRefusal::SameLocation(at) => write!(f, ": {at}"),
+            ReadRefusal::Collision(at, other) => write!(f, ": {at}, and {other}"),
+            ReadRefusal::TooLong { .. } => Ok(()),
+            _ => self.offset().map_or(Ok(()), |offset| write!(f, ": the line at byte {offset}")),
+        }
+    }
+}
+
+impl Error for ReadRefusal {}
+
+/// What a preview replies: the change of the cost, or why the turn would be refused.
+pub(crate) fn change<R>(answer: ChangeAnswer, of: fn(usize) -> Result<(), R>) -> Result<i64, R> {
+    of(answer.number).map(|()| answer.change)
+}
+
+/// A reply with a value: the detail of an answer that is no refusal.
+pub(crate) fn detail<R>(answer: Answer, of: fn(usize) -> Result<(), R>) -> Result<usize, R> {
+    of(answer.number).map(|()| answer.detail)
+}

@@ -1,0 +1,169 @@
+use crate::conductor::Conductor;
+use crate::ffi::Dependency;
+use crate::refusals::Visit;
+use crate::NAME;
+use std::fmt;
+
+/// A drone's name as the tables hold it: small letters, zeros after the name. Names are compared over all their bytes.
+#[derive(Clone, Copy, PartialEq, Eq, PartialOrd, Ord, Hash)]
+pub struct Name([u8; NAME]);
+
+impl Name {
+    /// The name that a text spells, if it is one: 1 to 24 bytes from a-z, A-Z, 0-9 and hyphen. A capital is the same letter as its small form.
+    pub fn new(text: &str) -> Option<Name> {
+        let bytes = text.as_bytes();
+        let fits = (1..=NAME).contains(&bytes.len()) && bytes.iter().all(|b| b.is_ascii_alphanumeric() || *b == b'-');
+        fits.then(|| {
+            let mut name = [0; NAME];
+            name[..bytes.len()].copy_from_slice(bytes);
+            name.make_ascii_lowercase();
+            Name(name)
+        })
+    }
+
+    /// The name without the zeros after it.
+    pub fn as_str(&self) -> &str {
+        let length = self.0.iter().position(|b| *b == 0).unwrap_or(NAME);
+        std::str::from_utf8(&self.0[..length]).unwrap_or_default()
+    }
+}
+
+impl fmt::Display for Name {
+    fn fmt(&self, f: &mut fmt::Formatter) -> fmt::Result {
+        f.pad(self.as_str())
+    }
+}
+
+impl fmt::Debug for Name {
+    fn fmt(&self, f: &mut fmt::Formatter) -> fmt::Result {
+        fmt::Debug::fmt(self.as_str(), f)
+    }
+}
+
+/// One stop of a route.
+#[derive(Clone, Copy, Debug, PartialEq, Eq, Hash)]
+pub struct Stop {
+    /// The crossing.
+    pub location: u16,
+    /// The planned timestep.
+    pub time: u32,
+}
+
+/// A drone with its route and its progress.
+#[derive(Clone, Debug, PartialEq, Eq)]
+pub struct Drone {
+    /// Its number, from 0.
+    pub number: usize,
+    /// Its name.
+    pub name: Name,
+    /// Its stops in order.
+    pub stops: Vec<Stop>,
+    /// Its last visited stop, 0 at first.
+    pub visited: usize,
+    /// Whether it is under way to the stop after that.
+    pub under_way: bool,
+}
+
+impl Drone {
+    /// Whether it stands at its last stop.
+    pub fn finished(&self) -> bool {
+        self.visited + 1 >= self.stops.len()
+    }
+
+    /// The locations that it holds: that of its last visited stop and, when it is under way, the next one too.
+    pub fn holds(&self) -> impl Iterator<Item = u16> + '_ {
+        let end = self.visited + 1 + usize::from(self.under_way);
+        self.stops.iter().take(end).skip(self.visited).map(|stop| stop.location)
+    }
+}
+
+/// A dependency in the order now in force: the drone of `waits` may enter its stop only after the drone of `first` has visited the stop after that one.
+#[derive(Clone, Copy, Debug, PartialEq, Eq, Hash)]
+pub struct InForce {
+    /// The dependency's number, from 0.
+    pub number: usize,
+    /// Who goes first, and at which stop.
+    pub first: Visit,
+    /// Who waits, and at which stop.
+    pub waits: Visit,
+    /// The shared crossing.
+    pub location: u16,
+    /// Whether it is turned: planned the other way round.
+    pub turned: bool,
+    /// Whether it is fixed: it cannot be turned.
+    pub fixed: bool,
+}
+
+impl Dependency {
+    /// Bit 0 of the flags.
+    pub fn turned(&self) -> bool {
+        self.flags & 1 != 0
+    }
+
+    /// Bit 1 of the flags.
+    pub fn fixed(&self) -> bool {
+        self.flags & 2 != 0
+    }
+}
+
+impl Conductor {
+    /// How many drones the plan has; 0 without a plan.
+    pub fn drone_count(&self) -> usize {
+        usize::from(self.plan.drone_count[0])
+    }
+
+    /// How many dependencies the plan has.
+    pub fn dependency_count(&self) -> usize {
+        usize::from(self.plan.dependency_count[0])
+    }
+
+    /// The drones in the plan's order.
+    pub fn drones(&self) -> impl Iterator<Item = Drone> + '_ {
+        (0..self.drone_count()).filter_map(|number| self.drone(number))
+    }
+
+    /// A drone by its number.
+    pub fn drone(&self, number: usize) -> Option<Drone> {
+        (number < self.drone_count()).then(|| Drone {
+            number,
+            name: self.name(number),
+            stops: self.route(number).map(|stop| Stop { location: self.plan.locations[stop], time: self.plan.times[stop] }).collect(),
+            visited: usize::from(self.visited[number]),
+            under_way: self.drone_flags[number] & 1 != 0,
+        })
+    }
+
+    /// The number of the drone of this name.
+    pub fn drone_named(&self, name: Name) -> Option<usize> {
+        (0..self.drone_count()).find(|number| self.name(*number) == name)
+    }
+
+    /// The dependencies as the table holds them: in the planned order, with their flags.
+    pub fn records(&self) -> &[Dependency] {
+        &self.dependencies[..self.dependency_count()]
+    }
+
+    /// The dependencies in the order now in force.
+    pub fn dependencies(&self) -> impl Iterator<Item = InForce> + '_ {
+        self.records().iter().enumerate().map(|(number, record)| {
+            let planned_first = Visit { drone: record.first_drone.into(), stop: record.first_stop.into() };
+            let planned_second = Visit { drone: record.second_drone.into(), stop: record.second_stop.into() };
+            let (first, waits) = if record.turned() { (planned_second, planned_first) } else { (planned_first, planned_second) };
+            let location = self.plan.locations[self.route(first.drone).start + first.stop];
+            InForce { number, first, waits, location, turned: record.turned(), fixed: record.fixed() }
+        })
+    }
+
+    fn name(&self, number: usize) -> Name {
+        let mut name = [0; NAME];
+        name.copy_from_slice(&self.plan.names[number * NAME..(number + 1) * NAME]);
+        Name(name)
+    }
+
+    // A drone's stops in the tables of locations and times, in which the stops of all drones stand one after another.
+    fn route(&self, number: usize) -> std::ops::Range<usize> {
+        let count = |d: &u16| usize::from(*d);
+        let start = self.plan.stop_counts[..number].iter().map(count).sum();
+        start..start + usize::from(self.plan.stop_counts[number])
+    }
+}

@@ -1,0 +1,179 @@
+//! The customer's flights: document 01's "Flights to try" and those of the requests that have landed.
+use conductor::*;
+
+const Q: &str =
+    "plan=1\nagents=2\nname=survey-quad-east-1\nstops=4\ngo=1@0\ngo=6@1\ngo=5@2\ngo=2@3\nname=survey-quad-east-2\nstops=3\ngo=3@0\ngo=5@4\ngo=4@5\nend=plan\n";
+
+/// The text of drones named a, b, .. on these routes.
+fn text(routes: &[&[(u32, u32)]]) -> String {
+    let mut text = format!("plan=1\nagents={}\n", routes.len());
+    for (d, route) in routes.iter().enumerate() {
+        text += &format!("name=drone-{d}\nstops={}\n", route.len());
+        route.iter().for_each(|(location, time)| text += &format!("go={location}@{time}\n"));
+    }
+    text + "end=plan\n"
+}
+
+fn taken(text: &str) -> Conductor {
+    let mut c = Conductor::new();
+    c.read(text.as_bytes()).expect("taken");
+    c
+}
+
+fn refusal(text: &str) -> ReadRefusal {
+    let mut c = taken(Q);
+    let refusal = c.read(text.as_bytes()).expect_err("refused");
+    assert!(matches!(refusal, ReadRefusal::TooLong { .. }) || c == Conductor::new(), "the tables are zeroed");
+    refusal
+}
+
+fn p() -> Conductor {
+    taken(&text(&[&[(10, 0), (20, 1), (30, 2), (40, 3)], &[(11, 0), (20, 3), (30, 4), (41, 5)]]))
+}
+
+#[test]
+fn input_q() {
+    let mut c = taken(Q);
+    assert_eq!(c.cost(), Ok(8));
+    assert_eq!(c.grant(1), Err(GrantRefusal::MustWait(0)));
+    assert_eq!(c.turn(0), Ok(()));
+    assert_eq!(c.cost(), Ok(6));
+    assert_eq!((c.grant(1), c.grant(0)), (Ok(()), Ok(())));
+    assert_eq!(c.arrive(1), Ok(()));
+    assert_eq!(c.arrive(1), Err(ArriveRefusal::NotUnderWay));
+}
+
+#[test]
+fn q_and_a_collision() {
+    let at_3 = Q.replace("go=5@4", "go=5@3");
+    assert_eq!(refusal(&at_3), ReadRefusal::Collision(Visit { drone: 0, stop: 2 }, Visit { drone: 1, stop: 1 }));
+    assert_eq!(refusal(&at_3).to_string(), "refused with 10: two drones collide: drone 0 at its stop 2, and drone 1 at its stop 1");
+}
+
+#[test]
+fn p_alone_and_both_turned() {
+    let mut c = p();
+    assert_eq!((c.dependency_count(), c.cost()), (2, Ok(8)));
+    assert_eq!((c.turn(0), c.turn(1)), (Err(TurnRefusal::Cycle), Err(TurnRefusal::Cycle)));
+    assert_eq!(c.preview_all(&[0, 1]), Ok(0));
+    assert_eq!(c.turn_all(&[0, 1]), Ok(()));
+    assert_eq!(c.cost(), Ok(8));
+    assert!(c.dependencies().all(|d| d.turned && d.first.drone == 1));
+    assert_eq!(
+        (c.turn_all(&[]), c.turn_all(&[1, 0]), c.turn_all(&[0, 0])),
+        (Err(TurnAllRefusal::ListNotRising), Err(TurnAllRefusal::ListNotRising), Err(TurnAllRefusal::ListNotRising))
+    );
+    assert_eq!(c.turn_all(&[0, 2]), Err(TurnAllRefusal::NoSuchDependency));
+}
+
+#[test]
+fn fixed_dependencies() {
+    for routes in [[&[(5, 0), (6, 1)][..], &[(3, 0), (5, 2), (4, 3)]], [&[(1, 0), (5, 1), (2, 2)][..], &[(3, 0), (5, 3)]]] {
+        let mut c = taken(&text(&routes));
+        assert_eq!(c.turn(0), Err(TurnRefusal::Fixed));
+        assert!(c.dependencies().all(|d| d.fixed && !d.turned));
+    }
+}
+
+#[test]
+fn under_way_and_the_turn() {
+    let mut c = taken(Q);
+    c.grant(0).unwrap();
+    assert_eq!(c.clone().turn(0), Ok(()));
+    c.arrive(0).unwrap();
+    c.grant(0).unwrap();
+    assert_eq!(c.turn(0), Err(TurnRefusal::Entered));
+    assert_eq!(c.turn(0).unwrap_err().number(), 32);
+}
+
+#[test]
+fn one_drone_one_stop() {
+    let mut c = taken(&text(&[&[(7, 0)]]));
+    assert_eq!((c.cost(), c.rounds(), c.grant(0)), (Ok(0), Ok(0), Err(GrantRefusal::Finished)));
+}
+
+#[test]
+fn texts_at_their_limits() {
+    assert_eq!(refusal(""), ReadRefusal::Form { offset: 0 });
+    let many = |n: u32| text(&(0..n).map(|d| vec![(d, 0)]).collect::<Vec<_>>().iter().map(|r| &r[..]).collect::<Vec<_>>());
+    assert_eq!(taken(&many(32)).drone_count(), 32);
+    assert_eq!(refusal(&many(33)), ReadRefusal::Range { offset: 7 });
+    let named = |name: &str| format!("plan=1\nagents=1\nname={name}\nstops=1\ngo=0@0\nend=plan\n");
+    assert_eq!(taken(&named(&"a".repeat(24))).drone(0).unwrap().name.as_str().len(), 24);
+    assert_eq!(refusal(&named(&"a".repeat(25))), ReadRefusal::Name { offset: 16 });
+    let place_and_time = |line: &str| format!("plan=1\nagents=1\nname=a\nstops=2\ngo=0@0\ngo={line}\nend=plan\n");
+    assert_eq!(refusal(&place_and_time("65536@1")), ReadRefusal::Range { offset: 38 });
+    assert_eq!(taken(&place_and_time("65535@1000000")).drone(0).unwrap().stops[1], Stop { location: 65535, time: 1_000_000 });
+    assert_eq!(refusal(&" ".repeat(32_769)), ReadRefusal::TooLong { offset: 32_768 });
+}
+
+#[test]
+fn names_are_told_apart_by_all_their_bytes() {
+    let c = taken(Q);
+    let (east_1, east_2) = (Name::new("survey-quad-east-1").unwrap(), Name::new("Survey-QUAD-east-2").unwrap());
+    assert!(east_1 != east_2);
+    assert_eq!((c.drone_named(east_1), c.drone_named(east_2), c.drone_named(Name::new("survey-quad-east").unwrap())), (Some(0), Some(1), None));
+    assert_eq!((Name::new(""), Name::new(&"a".repeat(25)), Name::new("a_b")), (None, None, None));
+}
+
+#[test]
+fn request_2_preview() {
+    let c = taken(Q);
+    assert_eq!((c.preview(0), c.preview(1)), (Ok(-2), Err(TurnRefusal::NoSuchDependency)));
+    assert!(c == taken(Q), "nothing changes");
+}
+
+#[test]
+fn request_5_capitals() {
+    let capitals = Q.replace("survey-quad-east-2", "SURVEY-Quad-East-2");
+    assert_eq!(taken(&capitals).text().unwrap(), Q.as_bytes());
+    assert_eq!(refusal(&capitals.replace("East-2", "East-1")).number(), 5);
+    assert_eq!(refusal(&Q.replace("name=", "Name=")), ReadRefusal::Form { offset: 16 });
+    assert_eq!(taken(&Q.replace("survey-quad-east-1", "ABCDEFGHIJKLMNOPQRSTUVWX")).drone(0).unwrap().name.to_string(), "abcdefghijklmnopqrstuvwx");
+}
+
+#[test]
+fn request_8_handset() {
+    let mut c = taken(Q);
+    assert_eq!(c.press(Some(0)), Err(ArriveRefusal::NotUnderWay));
+    assert_eq!(c.press(Some(2)), Err(ArriveRefusal::NoSuchDrone));
+    let mut granted: Vec<usize> = c.press(None).unwrap().drones().collect();
+    let mut presses = 1;
+    assert_eq!(granted, [0]);
+    let under_way = |c: &Conductor| c.drones().find(|drone| drone.under_way).map(|drone| drone.number);
+    while let Some(drone) = under_way(&c) {
+        granted.extend(c.press(Some(drone)).unwrap().drones());
+        presses += 1;
+    }
+    assert_eq!((granted, presses), (vec![0, 0, 0, 1, 1], 6));
+    assert!(c.drones().all(|drone| drone.finished()));
+}
+
+#[test]
+fn request_9_small_plans() {
+    let mut buffer = [0; 128];
+    let length = small_plan(0, &mut buffer).unwrap();
+    assert_eq!(&buffer[..length], b"plan=1\nagents=2\nname=a\nstops=1\ngo=0@0\nname=b\nstops=1\ngo=1@0\nend=plan\n");
+    assert_eq!(small_plan(378, &mut buffer), Err(SmallPlanRefusal::NoSuchPlan));
+    assert_eq!(small_plan(377, &mut buffer[..9]), Err(SmallPlanRefusal::BufferTooShort));
+}
+
+#[test]
+fn request_13_rounds() {
+    assert_eq!(taken(Q).rounds(), Ok(5));
+}
+
+#[test]
+fn without_a_plan() {
+    let mut c = Conductor::new();
+    assert_eq!((c.cost(), c.grant(0), c.write(&mut [])), (Err(CostRefusal::NotSound), Err(GrantRefusal::NotSound), Err(WriteRefusal::NotSound)));
+    assert_eq!(c.grant(0).unwrap_err().to_string(), "refused with 40: the tables hold no accepted plan");
+    assert_eq!((c.drones().count(), c.dependencies().count()), (0, 0));
+}
+
+#[test]
+fn every_number_has_a_meaning() {
+    let told: Vec<usize> = (0..64).filter(|n| meaning(*n).is_some()).collect();
+    assert_eq!(told, [1, 2, 3, 4, 5, 6, 7, 8, 9, 10, 11, 15, 20, 21, 22, 23, 24, 30, 31, 32, 34, 36, 40, 41, 42]);
+    assert_eq!((TurnRefusal::Cycle.number(), TurnRefusal::Cycle.meaning()), (34, "drones would wait for each other in a ring"));
+}

@@ -1,0 +1,350 @@
+//! The library against the independent reckoning: every reply with its values, and every entry of every table afterwards, those past a full size too.
+mod inputs;
+mod reckoning;
+
+use conductor::Conductor;
+use inputs::calls::{call as any_call, kind};
+use inputs::lent;
+use inputs::seen::Seen;
+use inputs::{plans, tables as altered, texts, Random};
+use reckoning::log::Log;
+use reckoning::plan::Plan;
+use reckoning::text::of as text_of;
+use reckoning::{Call, Reply, Tables, FULL};
+
+const READ: &[usize] = &[0, 2, 3, 4, 5, 6, 7, 8, 9, 10];
+const EVERY: [&str; 10] = ["grant", "arrive", "turn", "turn_all", "preview", "preview_all", "cost", "rounds", "press", "write"];
+
+/// What each call replies on sound tables of full size.
+const SOUND: [(&str, &[usize]); 10] = [
+    ("grant", &[0, 20, 21, 22, 23]),
+    ("arrive", &[0, 20, 24]),
+    ("turn", &[0, 30, 31, 32, 34]),
+    ("turn_all", &[0, 30, 31, 32, 34, 36]),
+    ("preview", &[0, 30, 31, 32, 34]),
+    ("preview_all", &[0, 30, 31, 32, 34, 36]),
+    ("cost", &[0]),
+    ("rounds", &[0]),
+    ("press", &[0, 20, 24]),
+    ("write", &[0, 42]),
+];
+
+fn compare_reading(seen: &mut Seen, mut tables: Tables, text: &[u8]) -> (Tables, Reply) {
+    let mut reckoned = tables.clone();
+    let (got, want) = (lent::read(&mut tables, text), reckoned.read(text));
+    assert_eq!(got, want, "reading {:?}", String::from_utf8_lossy(text));
+    assert!(tables == reckoned, "tables after reading {:?}", String::from_utf8_lossy(text));
+    seen.reply("read", want.number);
+    (tables, want)
+}
+
+fn compare_call(seen: &mut Seen, tables: &mut Tables, call: &Call, length: usize) -> Reply {
+    let mut reckoned = tables.clone();
+    let (mut buffer, mut reckoned_buffer) = (vec![0xa5; length], vec![0xa5; length]);
+    let got = lent::make(tables, call, &mut buffer);
+    let (want, clause) = reckoned.call(call, &mut reckoned_buffer);
+    assert_eq!(got, want, "{call:?}");
+    assert!(*tables == reckoned, "tables after {call:?}");
+    assert!(buffer == reckoned_buffer, "buffer after {call:?}");
+    seen.reply(kind(call), want.number);
+    clause.iter().for_each(|clause| seen.clause(clause));
+    want
+}
+
+/// Buffers at the text's own length, one byte less, and others.
+fn buffer_length(r: &mut Random, call: &Call, plan: &Plan) -> usize {
+    let exact = if *call == Call::Write { text_of(plan).len() } else { 0 };
+    [exact, exact.saturating_sub(1), exact + r.below(9), 0][r.below(4)]
+}
+
+/// A plan that the reckoning takes.
+fn taken(r: &mut Random) -> Plan {
+    loop {
+        let text = text_of(&plans::plan(r));
+        if let Ok(plan) = reckoning::text::read(&text).and_then(Plan::checked) {
+            return plan;
+        }
+    }
+}
+
+#[test]
+fn texts_whole_and_damaged() {
+    let (mut r, mut seen, cases) = (Random::seeded(), Seen::default(), 45_000);
+    let seed = r.seed();
+    for _ in 0..cases {
+        let mut text = text_of(&plans::plan(&mut r));
+        for _ in 0..r.below(3) {
+            if !text.is_empty() {
+                texts::damaged(&mut r, &mut text);
+            }
+        }
+        let mut tables = altered::scrawled(&mut r);
+        altered::lengthened(&mut r, &mut tables);
+        compare_reading(&mut seen, tables, &text);
+    }
+    seen.report("texts_whole_and_damaged", seed, cases, &[("read", READ)]);
+}
+
+#[test]
+fn calls_on_tables() {
+    let (mut r, mut seen, cases) = (Random::seeded(), Seen::default(), 15_000);
+    let seed = r.seed();
+    for _ in 0..cases {
+        let plan = taken(&mut r);
+        let mut tables = Tables::zeroed(FULL);
+        altered::lengthened(&mut r, &mut tables);
+        let (mut tables, _) = compare_reading(&mut seen, tables, &text_of(&plan));
+        for _ in 0..r.below(30) {
+            let call = any_call(&mut r, &plan);
+            let length = buffer_length(&mut r, &call, &plan);
+            compare_call(&mut seen, &mut tables, &call, length);
+        }
+    }
+    seen.report("calls_on_tables", seed, cases, &SOUND);
+}
+
+#[test]
+fn tables_damaged_in_one_entry() {
+    let (mut r, mut seen, cases) = (Random::seeded(), Seen::default(), 30_000);
+    let seed = r.seed();
+    for _ in 0..cases {
+        let plan = taken(&mut r);
+        let mut tables = Tables::zeroed(FULL);
+        altered::lengthened(&mut r, &mut tables);
+        tables.read(&text_of(&plan));
+        for _ in 0..r.below(12) {
+            let call = any_call(&mut r, &plan);
+            tables.call(&call, &mut []);
+        }
+        altered::damaged(&mut r, &mut tables);
+        for _ in 0..6 {
+            let call = any_call(&mut r, &plan);
+            let length = buffer_length(&mut r, &call, &plan);
+            compare_call(&mut seen, &mut tables, &call, length);
+        }
+    }
+    let with_40: Vec<(&str, Vec<usize>)> = SOUND.iter().map(|(kind, numbers)| (*kind, [numbers, &[40][..]].concat())).collect();
+    let with_40: Vec<(&str, &[usize])> = with_40.iter().map(|(kind, numbers)| (*kind, &numbers[..])).collect();
+    seen.report("tables_damaged_in_one_entry", seed, cases, &with_40);
+    seen.all_clauses(&[
+        "drone count",
+        "name",
+        "same name",
+        "stop count",
+        "stops of all",
+        "time range",
+        "unused name",
+        "unused stop count",
+        "unused location",
+        "unused time",
+    ]);
+    seen.all_clauses(&[
+        "unused progress",
+        "unused drone flags",
+        "unused dependency",
+        "check 7",
+        "check 8",
+        "check 9",
+        "check 10",
+        "dependency count",
+        "dependency",
+    ]);
+    seen.all_clauses(&["other bits", "fixed bit", "fixed turned", "cycle", "drone flags", "past a last stop", "under way beyond a last stop", "wait kept"]);
+}
+
+#[test]
+fn tables_too_short() {
+    let (mut r, mut seen, cases) = (Random::seeded(), Seen::default(), 10_000);
+    let seed = r.seed();
+    for _ in 0..cases {
+        let plan = taken(&mut r);
+        let mut tables = Tables::zeroed(FULL);
+        tables.read(&text_of(&plan));
+        altered::shortened(&mut r, &mut tables);
+        let text = if r.one_in(4) { vec![b'a'; 32_769] } else { text_of(&plan) };
+        compare_reading(&mut seen, tables.clone(), &text);
+        for _ in 0..4 {
+            let call = any_call(&mut r, &plan);
+            compare_call(&mut seen, &mut tables, &call, 64);
+        }
+    }
+    let expected: Vec<(&str, &[usize])> = EVERY.iter().map(|kind| (*kind, &[41][..])).chain([("read", &[41][..])]).collect();
+    seen.report("tables_too_short", seed, cases, &expected);
+}
+
+/// Groups of drones at crossings, the stops of each drone, the reply to the reading, and the dependencies: 1,024 stops; 2,045 to 2,048 dependencies, and one more.
+const LIMITS: [(&[usize], usize, usize, u16); 6] = [
+    (&[32, 32, 32, 32], 32, 0, 1984),
+    (&[32, 32, 32, 32, 11, 4], 20, 0, 2045),
+    (&[32, 32, 32, 32, 11, 4, 2], 20, 0, 2046),
+    (&[32, 32, 32, 32, 11, 4, 2, 2], 20, 0, 2047),
+    (&[32, 32, 32, 32, 11, 4, 3], 20, 0, 2048),
+    (&[32, 32, 32, 32, 11, 4, 3, 2], 20, 11, 0),
+];
+
+#[test]
+fn at_the_limits() {
+    let (mut r, mut seen) = (Random::seeded(), Seen::default());
+    let seed = r.seed();
+    let mut cases = 0;
+    for (groups, stops, number, count) in LIMITS {
+        let plan = plans::plan_of(&mut r, plans::crossings(groups, 32, stops));
+        let (mut tables, answer) = compare_reading(&mut seen, Tables::zeroed(FULL), &text_of(&plan));
+        assert_eq!((answer.number, tables.dependency_count[0]), (number, count));
+        let plan = plan.checked().unwrap_or_default();
+        let long = [Call::TurnAll((0..=65535).collect()), Call::PreviewAll((0..=65535).collect()), Call::TurnAll((0..=65535).rev().collect())];
+        let calls = if number == 0 { 60 } else { 0 };
+        for call in (0..calls).map(|_| any_call(&mut r, &plan)).chain(long).collect::<Vec<_>>() {
+            let length = buffer_length(&mut r, &call, &plan);
+            compare_call(&mut seen, &mut tables, &call, length);
+            cases += 1;
+        }
+    }
+    cases += texts_at_the_limits(&mut r, &mut seen);
+    seen.report("at_the_limits", seed, cases, &[("read", &[0, 1, 2, 6, 11])]);
+}
+
+/// 1,025 stops; texts of 32,768 bytes and of more.
+fn texts_at_the_limits(r: &mut Random, seen: &mut Seen) -> usize {
+    let mut routes = plans::crossings(&[32], 32, 32);
+    routes[31].push((60_000, 900_000));
+    let plan = plans::plan_of(r, routes);
+    compare_reading(seen, Tables::zeroed(FULL), &text_of(&plan));
+    for length in [32_768, 32_769, 40_000] {
+        for beginning in [&b""[..], b"plan=1\nagents=1\nname=a\nstops=1\ngo=1@0\nend=plan\n"] {
+            let mut text = beginning.to_vec();
+            text.resize(length, b'\n');
+            compare_reading(seen, altered::scrawled(r), &text);
+        }
+    }
+    7
+}
+
+/// Plans flown to the end by presses, each of a drone that is under way, with turns between them; every press is compared.
+#[test]
+fn flown_by_presses() {
+    let (mut r, mut seen, cases) = (Random::seeded(), Seen::default(), 2_000);
+    let seed = r.seed();
+    for _ in 0..cases {
+        let plan = taken(&mut r);
+        let (mut tables, _) = compare_reading(&mut seen, Tables::zeroed(FULL), &text_of(&plan));
+        let mut reported = None;
+        let mut presses = 0;
+        loop {
+            if r.one_in(3) {
+                compare_call(&mut seen, &mut tables, &Call::Turn(r.below(plan.dependencies.len())), 0);
+            }
+            compare_call(&mut seen, &mut tables, &Call::Press(reported), 0);
+            presses += 1;
+            let under_way: Vec<usize> = (0..plan.routes.len()).filter(|d| tables.drone_flags[*d] == 1).collect();
+            if under_way.is_empty() {
+                break;
+            }
+            reported = Some(r.choice(&under_way));
+        }
+        let legs: usize = (0..plan.routes.len()).map(|d| plan.last(d)).sum();
+        assert_eq!(presses, legs + 1, "each press but the first takes one arrival, until nobody is left to arrive");
+        assert_eq!(compare_call(&mut seen, &mut tables, &Call::Rounds, 0), reckoning::accepted(0));
+    }
+    seen.report("flown_by_presses", seed, cases, &[("press", &[0]), ("turn", &[0, 30, 31, 32, 34])]);
+}
+
+// ---- whole lists of calls, through `Conductor` and by the log alone
+
+fn through(c: &mut Conductor, call: &Call) -> Reply {
+    fn all<T, R>(result: Result<T, R>, value: fn(T) -> i64, number: fn(&R) -> (usize, i64)) -> Reply {
+        let (number, value) = result.map_or_else(|refusal| number(&refusal), |done| (0, value(done)));
+        Reply { number, values: [value, 0, 0, 0, 0] }
+    }
+    let none = |()| 0;
+    let count = |n: usize| n as i64;
+    match call {
+        Call::Grant(d) => all(c.grant(*d), none, |e| match e {
+            conductor::GrantRefusal::MustWait(p) => (e.number(), *p as i64),
+            _ => (e.number(), 0),
+        }),
+        Call::Arrive(d) => all(c.arrive(*d), none, |e| (e.number(), 0)),
+        Call::Turn(p) => all(c.turn(*p), none, |e| (e.number(), 0)),
+        Call::TurnAll(list) => all(c.turn_all(list), none, |e| (e.number(), 0)),
+        Call::Preview(p) => all(c.preview(*p), |change| change, |e| (e.number(), 0)),
+        Call::PreviewAll(list) => all(c.preview_all(list), |change| change, |e| (e.number(), 0)),
+        Call::Cost => all(c.cost(), count, |e| (e.number(), 0)),
+        Call::Rounds => all(c.rounds(), count, |e| (e.number(), 0)),
+        Call::Press(reported) => all(c.press(*reported), |granted| granted.0.into(), |e| (e.number(), 0)),
+        Call::Write => all(c.text(), |text| text.len() as i64, |e| (e.number(), 0)),
+    }
+}
+
+/// What the conductor shows must be what the log says: places, who is under way, what is turned, who goes first.
+fn shows(c: &Conductor, log: &Log) {
+    let status = log.status();
+    for (d, drone) in c.drones().enumerate() {
+        assert_eq!((drone.number, drone.visited, drone.under_way), (d, status.place[d], status.under_way[d]));
+        assert_eq!(drone.name.as_str().as_bytes(), log.plan.names[d]);
+        assert_eq!(c.drone_named(drone.name), Some(d));
+        let stops: Vec<(usize, usize)> = drone.stops.iter().map(|stop| (stop.location.into(), stop.time as usize)).collect();
+        assert_eq!(stops, log.plan.routes[d]);
+    }
+    assert_eq!(c.dependency_count(), log.plan.dependencies.len());
+    for (p, dependency) in c.dependencies().enumerate() {
+        let [a, s, b, k] = reckoning::graph::in_force(&log.plan, &status.turned, p);
+        assert_eq!([dependency.first.drone, dependency.first.stop, dependency.waits.drone, dependency.waits.stop], [a, s, b, k]);
+        assert_eq!((dependency.number, dependency.turned, dependency.fixed), (p, status.turned[p], log.plan.fixed(p)));
+        assert_eq!(usize::from(dependency.location), log.plan.routes[a][s].0);
+    }
+}
+
+/// No two drones hold one location; while a drone is unfinished somebody is under way or a grant would be accepted; and after a press somebody is under way.
+fn safe(c: &Conductor) {
+    let mut held: Vec<u16> = c.drones().flat_map(|drone| drone.holds().collect::<Vec<_>>()).collect();
+    held.sort();
+    assert!(held.windows(2).all(|pair| pair[0] != pair[1]), "two drones hold one location");
+    let waiting = c.drones().any(|drone| !drone.finished());
+    let moving = c.drones().any(|drone| drone.under_way) || (0..c.drone_count()).any(|d| c.clone().grant(d).is_ok());
+    assert!(!waiting || moving, "nobody can go");
+    let mut pressed = c.clone();
+    pressed.press(None).expect("a press without a report is accepted");
+    assert!(!waiting || pressed.drones().any(|drone| drone.under_way), "nobody goes after a press");
+}
+
+#[test]
+fn lists_of_calls() {
+    let (mut r, mut seen, cases) = (Random::seeded(), Seen::default(), 10_000);
+    let seed = r.seed();
+    let mut c = Conductor::new();
+    for case in 0..cases {
+        let plan = taken(&mut r);
+        c.read(&text_of(&plan)).expect("a plan that the reckoning takes");
+        let mut log = Log::new(plan);
+        let calls: Vec<Call> = (0..r.below(40)).map(|_| any_call(&mut r, &log.plan)).collect();
+        let replies: Vec<Reply> = calls.iter().map(|call| through(&mut c, call)).collect();
+        let reckoned: Vec<Reply> = calls.iter().map(|call| log.call(call)).collect();
+        assert_eq!(replies, reckoned, "{calls:?}");
+        calls.iter().zip(&reckoned).for_each(|(call, answer)| seen.reply(kind(call), answer.number));
+        shows(&c, &log);
+        if case % 10 == 0 {
+            safe(&c);
+        }
+    }
+    let expected: Vec<(&str, &[usize])> = SOUND.iter().map(|(kind, n)| (*kind, if *kind == "write" { &[0][..] } else { n })).collect();
+    seen.report("lists_of_calls", seed, cases, &expected);
+}
+
+#[test]
+fn every_small_plan() {
+    let mut seen = Seen::default();
+    let texts = reckoning::small::every_small_plan();
+    assert_eq!(texts.len(), conductor::SMALL_PLANS);
+    let mut cases = 0;
+    for number in (0..texts.len() + 3).chain([65_536, 1 << 32, usize::MAX]) {
+        for length in [0, 1, 50, 128].into_iter().chain(texts.get(number).iter().flat_map(|text| [text.len() - 1, text.len(), text.len() + 1])) {
+            let (mut buffer, mut reckoned) = (vec![0xa5; length], vec![0xa5; length]);
+            let got = conductor::small_plan(number, &mut buffer).map_or_else(|e| reckoning::refused(e.number()), reckoning::accepted);
+            let want = texts.get(number).map_or(reckoning::refused(15), |text| reckoning::text::copied(text, &mut reckoned));
+            assert_eq!((got, &buffer), (want, &reckoned), "small plan {number} in {length} bytes");
+            seen.reply("small_plan", want.number);
+            cases += 1;
+        }
+    }
+    seen.report("every_small_plan", 0, cases, &[("small_plan", &[0, 15, 42])]);
+}

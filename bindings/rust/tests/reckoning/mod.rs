@@ -1,0 +1,173 @@
+//! An independent reckoning of every call, straight from documents 01 and 02: plain, slow, and nothing of it taken from the wrapper but the layout of a record.
+#![allow(dead_code)] // each test program uses its part
+pub mod graph;
+pub mod log;
+pub mod plan;
+pub mod small;
+pub mod sound;
+pub mod text;
+
+use conductor::Dependency;
+use graph::Status;
+
+/// "Each table carries its own full size as a fixed figure": in the order in which the tables are lent.
+pub const FULL: [usize; 9] = [1, 1, 32 * 24, 32, 1024, 1024, 32, 32, 2048];
+
+/// The nine lent tables, of any length.
+#[derive(Clone, PartialEq, Debug)]
+pub struct Tables {
+    pub drone_count: Vec<u16>,
+    pub dependency_count: Vec<u16>,
+    pub names: Vec<u8>,
+    pub stop_counts: Vec<u16>,
+    pub locations: Vec<u16>,
+    pub times: Vec<u32>,
+    pub visited: Vec<u16>,
+    pub drone_flags: Vec<u8>,
+    pub dependencies: Vec<Dependency>,
+}
+
+/// A reply: its number and what goes with it, in the order in which the header names it; the rest is 0.
+#[derive(Clone, Copy, PartialEq, Eq, Debug)]
+pub struct Reply {
+    pub number: usize,
+    pub values: [i64; 5],
+}
+
+pub fn reply(number: usize, values: &[usize]) -> Reply {
+    let mut all = [0; 5];
+    for (to, from) in all.iter_mut().zip(values) {
+        *to = *from as i64;
+    }
+    Reply { number, values: all }
+}
+
+pub fn accepted(value: usize) -> Reply {
+    reply(0, &[value])
+}
+
+pub fn refused(number: usize) -> Reply {
+    reply(number, &[])
+}
+
+/// A call, and what it names.
+#[derive(Clone, PartialEq, Debug)]
+pub enum Call {
+    Grant(usize),
+    Arrive(usize),
+    Turn(usize),
+    TurnAll(Vec<u16>),
+    Preview(usize),
+    PreviewAll(Vec<u16>),
+    Cost,
+    Rounds,
+    Press(Option<usize>),
+    Write,
+}
+
+impl Tables {
+    pub fn zeroed(lengths: [usize; 9]) -> Tables {
+        let [a, b, c, d, e, f, g, h, i] = lengths;
+        Tables {
+            drone_count: vec![0; a],
+            dependency_count: vec![0; b],
+            names: vec![0; c],
+            stop_counts: vec![0; d],
+            locations: vec![0; e],
+            times: vec![0; f],
+            visited: vec![0; g],
+            drone_flags: vec![0; h],
+            dependencies: vec![Dependency::default(); i],
+        }
+    }
+
+    pub fn lengths(&self) -> [usize; 9] {
+        let counts = [self.drone_count.len(), self.dependency_count.len(), self.names.len(), self.stop_counts.len()];
+        let stops = [self.locations.len(), self.times.len()];
+        let rest = [self.visited.len(), self.drone_flags.len(), self.dependencies.len()];
+        [counts[0], counts[1], counts[2], counts[3], stops[0], stops[1], rest[0], rest[1], rest[2]]
+    }
+
+    /// "41 a lent table is below full size"
+    pub fn too_small(&self) -> bool {
+        self.lengths().iter().zip(FULL).any(|(n, full)| *n < full)
+    }
+
+    /// "full sizes zeroed"
+    pub fn zero(&mut self) {
+        self.drone_count[..FULL[0]].fill(0);
+        self.dependency_count[..FULL[1]].fill(0);
+        self.names[..FULL[2]].fill(0);
+        self.stop_counts[..FULL[3]].fill(0);
+        self.locations[..FULL[4]].fill(0);
+        self.times[..FULL[5]].fill(0);
+        self.visited[..FULL[6]].fill(0);
+        self.drone_flags[..FULL[7]].fill(0);
+        self.dependencies[..FULL[8]].fill(Dependency::default());
+    }
+
+    /// "The tables show the log when each drone's progress and each dependency's bit 0 are as above."
+    pub fn show(&mut self, status: &Status) {
+        for (d, place) in status.place.iter().enumerate() {
+            self.visited[d] = *place as u16;
+            self.drone_flags[d] = status.under_way[d] as u8;
+        }
+        for (p, turned) in status.turned.iter().enumerate() {
+            self.dependencies[p].flags = self.dependencies[p].flags & !1 | *turned as u8;
+        }
+    }
+
+    /// The reading: its reply, and every table after it.
+    pub fn read(&mut self, given: &[u8]) -> Reply {
+        if self.too_small() {
+            return refused(41);
+        }
+        if given.len() > 32768 {
+            return reply(1, &[32768]);
+        }
+        self.zero();
+        let plan = match text::read(given).and_then(plan::Plan::checked) {
+            Ok(plan) => plan,
+            Err(refusal) => return refusal,
+        };
+        self.hold(&plan);
+        accepted(0)
+    }
+
+    fn hold(&mut self, plan: &plan::Plan) {
+        self.drone_count[0] = plan.routes.len() as u16;
+        self.dependency_count[0] = plan.dependencies.len() as u16;
+        let mut at = 0;
+        for (d, route) in plan.routes.iter().enumerate() {
+            self.names[24 * d..24 * d + plan.names[d].len()].copy_from_slice(&plan.names[d]);
+            self.stop_counts[d] = route.len() as u16;
+            for (location, time) in route {
+                self.locations[at] = *location as u16;
+                self.times[at] = *time as u32;
+                at += 1;
+            }
+        }
+        for (p, dependency) in plan.dependencies.iter().enumerate() {
+            let [j, s, i, k] = *dependency;
+            let flags = if plan.fixed(p) { 2 } else { 0 };
+            self.dependencies[p] = Dependency { first_stop: s as u16, second_stop: k as u16, first_drone: j as u8, second_drone: i as u8, flags, reserved: 0 };
+        }
+    }
+
+    /// Any other call: its reply, every table and the buffer after it. Of tables that are not sound it also says by which clause.
+    pub fn call(&mut self, call: &Call, buffer: &mut [u8]) -> (Reply, Option<&'static str>) {
+        if self.too_small() {
+            return (refused(41), None);
+        }
+        let (plan, mut status) = match sound::sound(self) {
+            Ok(found) => found,
+            Err(clause) => return (refused(40), Some(clause)),
+        };
+        if let Call::Write = call {
+            return (text::written(&plan, buffer), None);
+        }
+        let answer = status.call(&plan, call);
+        self.show(&status);
+        (answer, None)
+    }
+}

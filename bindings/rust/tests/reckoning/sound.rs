@@ -1,0 +1,106 @@
+//! When tables are sound, clause by clause.
+use super::graph::{has_cycle, in_force, Status};
+use super::plan::Plan;
+use super::text::is_name;
+use super::{Tables, FULL};
+
+type Clause = &'static str;
+
+fn holds(condition: bool, clause: Clause) -> Result<(), Clause> {
+    if condition {
+        Ok(())
+    } else {
+        Err(clause)
+    }
+}
+
+/// The plan and the status of sound tables of full size, or the first clause that fails.
+pub fn sound(t: &Tables) -> Result<(Plan, Status), Clause> {
+    let plan = plan_of(t)?;
+    unused_zero(t, &plan)?;
+    let plan = accepted_plan(plan)?;
+    let turned = dependencies(t, &plan)?;
+    holds(!has_cycle(&plan, &turned), "cycle")?;
+    let status = progress(t, &plan, turned)?;
+    for p in 0..status.turned.len() {
+        let [a, s, b, k] = in_force(&plan, &status.turned, p);
+        holds(!status.entered(b, k) || s < status.place[a], "wait kept")?;
+    }
+    Ok((plan, status))
+}
+
+/// What the tables hold as a plan: counts, names and stops in their ranges.
+fn plan_of(t: &Tables) -> Result<Plan, Clause> {
+    let drones = usize::from(t.drone_count[0]);
+    holds((1..=32).contains(&drones), "drone count")?;
+    let mut plan = Plan::default();
+    let mut at = 0;
+    for d in 0..drones {
+        let field = &t.names[24 * d..24 * d + 24];
+        let length = field.iter().position(|b| *b == 0).unwrap_or(24);
+        holds(is_name(&field[..length]) && field[length..].iter().all(|b| *b == 0), "name")?;
+        holds(!plan.names.iter().any(|name| name == &field[..length]), "same name")?;
+        plan.names.push(field[..length].to_vec());
+        let stops = usize::from(t.stop_counts[d]);
+        holds((1..=1024).contains(&stops), "stop count")?;
+        holds(at + stops <= 1024, "stops of all")?;
+        plan.routes.push((at..at + stops).map(|n| (usize::from(t.locations[n]), t.times[n] as usize)).collect());
+        at += stops;
+    }
+    holds(plan.routes.iter().flatten().all(|stop| stop.1 <= 1_000_000), "time range")?;
+    Ok(plan)
+}
+
+/// "unused entries are zero"
+fn unused_zero(t: &Tables, plan: &Plan) -> Result<(), Clause> {
+    let (n, stops) = (plan.routes.len(), plan.routes.iter().map(Vec::len).sum());
+    holds(t.names[24 * n..FULL[2]].iter().all(|b| *b == 0), "unused name")?;
+    holds(t.stop_counts[n..FULL[3]].iter().all(|m| *m == 0), "unused stop count")?;
+    holds(t.locations[stops..FULL[4]].iter().all(|l| *l == 0), "unused location")?;
+    holds(t.times[stops..FULL[5]].iter().all(|time| *time == 0), "unused time")?;
+    holds(t.visited[n..FULL[6]].iter().all(|v| *v == 0), "unused progress")?;
+    holds(t.drone_flags[n..FULL[7]].iter().all(|f| *f == 0), "unused drone flags")?;
+    let used = usize::from(t.dependency_count[0]).min(FULL[8]);
+    let zero = |r: &conductor::Dependency| r.first_stop == 0 && r.second_stop == 0 && r.first_drone == 0 && r.second_drone == 0 && r.flags == 0;
+    holds(t.dependencies[used..FULL[8]].iter().all(zero), "unused dependency")
+}
+
+/// "the plan in them would be accepted"
+fn accepted_plan(plan: Plan) -> Result<Plan, Clause> {
+    plan.checked().map_err(|refusal| match refusal.number {
+        7 => "check 7",
+        8 => "check 8",
+        9 => "check 9",
+        10 => "check 10",
+        _ => "check 11",
+    })
+}
+
+/// "the dependencies are exactly its own, in order, with right fixed bits and none of the fixed ones turned": which are turned.
+fn dependencies(t: &Tables, plan: &Plan) -> Result<Vec<bool>, Clause> {
+    holds(usize::from(t.dependency_count[0]) == plan.dependencies.len(), "dependency count")?;
+    let mut turned = Vec::new();
+    for (p, own) in plan.dependencies.iter().enumerate() {
+        let r = t.dependencies[p];
+        let held: [usize; 4] = [r.first_drone.into(), r.first_stop.into(), r.second_drone.into(), r.second_stop.into()];
+        holds(held == *own, "dependency")?;
+        holds(r.flags & !3 == 0, "other bits")?;
+        holds((r.flags & 2 != 0) == plan.fixed(p), "fixed bit")?;
+        holds(r.flags != 3, "fixed turned")?;
+        turned.push(r.flags & 1 != 0);
+    }
+    Ok(turned)
+}
+
+/// "nobody is past or under way beyond a last stop"
+fn progress(t: &Tables, plan: &Plan, turned: Vec<bool>) -> Result<Status, Clause> {
+    let mut status = Status { turned, ..Status::at_start(plan) };
+    for d in 0..plan.routes.len() {
+        holds(t.drone_flags[d] <= 1, "drone flags")?;
+        status.place[d] = t.visited[d].into();
+        status.under_way[d] = t.drone_flags[d] == 1;
+        holds(status.place[d] <= plan.last(d), "past a last stop")?;
+        holds(!status.under_way[d] || status.place[d] < plan.last(d), "under way beyond a last stop")?;
+    }
+    Ok(status)
+}

@@ -1,0 +1,124 @@
+//! The plan text, read and written.
+use super::plan::Plan;
+use super::{accepted, refused, reply, Reply};
+
+/// The lines of a text; `at` is the start of the line that is next.
+struct Lines<'a> {
+    text: &'a [u8],
+    at: usize,
+}
+
+impl<'a> Lines<'a> {
+    /// The next line with what follows its key, or 2 at its start. "Each closed by a line feed."
+    fn next(&mut self, key: &str) -> Result<(usize, &'a [u8]), Reply> {
+        let start = self.at;
+        let rest = &self.text[start..];
+        let length = rest.iter().position(|b| *b == b'\n').ok_or(reply(2, &[start]))?;
+        self.at = start + length + 1;
+        rest[..length].strip_prefix(key.as_bytes()).map(|body| (start, body)).ok_or(reply(2, &[start]))
+    }
+
+    fn exactly(&mut self, line: &str) -> Result<(), Reply> {
+        let (start, rest) = self.next(line)?;
+        if rest.is_empty() {
+            Ok(())
+        } else {
+            Err(reply(2, &[start]))
+        }
+    }
+
+    fn number(&mut self, key: &str, low: usize, high: usize) -> Result<(usize, usize), Reply> {
+        let (start, body) = self.next(key)?;
+        let n = number(body).ok_or(reply(2, &[start]))?;
+        if n < low || n > high {
+            Err(reply(4, &[start]))
+        } else {
+            Ok((start, n))
+        }
+    }
+
+    fn stop(&mut self) -> Result<(usize, usize), Reply> {
+        let (start, body) = self.next("go=")?;
+        let form = reply(2, &[start]);
+        let mut parts = body.split(|b| *b == b'@').map(number);
+        let (Some(Some(location)), Some(Some(time)), None) = (parts.next(), parts.next(), parts.next()) else { return Err(form) };
+        if location > 65535 || time > 1_000_000 {
+            Err(reply(4, &[start]))
+        } else {
+            Ok((location, time))
+        }
+    }
+}
+
+/// "Numbers are decimal, one to seven digits, without sign or leading zero (zero is `0`)."
+fn number(digits: &[u8]) -> Option<usize> {
+    let form = (1..=7).contains(&digits.len()) && digits.iter().all(u8::is_ascii_digit) && (digits.len() == 1 || digits[0] != b'0');
+    form.then(|| digits.iter().fold(0, |n, digit| 10 * n + usize::from(digit - b'0')))
+}
+
+/// "Capitals A to Z are to be allowed, and a capital is the same letter as its small form"
+fn small(name: &[u8]) -> Vec<u8> {
+    name.iter().map(|b| if (b'A'..=b'Z').contains(b) { b - b'A' + b'a' } else { *b }).collect()
+}
+
+pub fn is_name(name: &[u8]) -> bool {
+    (1..=24).contains(&name.len()) && name.iter().all(|b| b"abcdefghijklmnopqrstuvwxyz0123456789-".contains(b))
+}
+
+/// The plan of a text, unchecked, or its refusal from 2 to 6.
+pub fn read(text: &[u8]) -> Result<Plan, Reply> {
+    let mut lines = Lines { text, at: 0 };
+    lines.exactly("plan=1")?;
+    let (_, drones) = lines.number("agents=", 1, 32)?;
+    let mut plan = Plan::default();
+    let mut all = 0;
+    for _ in 0..drones {
+        let (start, spelled) = lines.next("name=")?;
+        let name = small(spelled);
+        if !is_name(&name) {
+            return Err(reply(3, &[start]));
+        }
+        if plan.names.contains(&name) {
+            return Err(reply(5, &[start]));
+        }
+        plan.names.push(name);
+        let (start, stops) = lines.number("stops=", 1, 1024)?;
+        all += stops;
+        if all > 1024 {
+            return Err(reply(6, &[start]));
+        }
+        plan.routes.push((0..stops).map(|_| lines.stop()).collect::<Result<_, _>>()?);
+    }
+    lines.exactly("end=plan")?;
+    if lines.at < text.len() {
+        Err(reply(2, &[lines.at]))
+    } else {
+        Ok(plan)
+    }
+}
+
+/// The text of a plan.
+pub fn of(plan: &Plan) -> Vec<u8> {
+    let mut text = format!("plan=1\nagents={}\n", plan.routes.len());
+    for (name, route) in plan.names.iter().zip(&plan.routes) {
+        text += &format!("name={}\nstops={}\n", String::from_utf8_lossy(name), route.len());
+        for (location, time) in route {
+            text += &format!("go={location}@{time}\n");
+        }
+    }
+    text += "end=plan\n";
+    text.into_bytes()
+}
+
+/// "The writer returns the length and leaves bytes past the text unchanged"; "42 buffer shorter than the text".
+pub fn written(plan: &Plan, buffer: &mut [u8]) -> Reply {
+    copied(&of(plan), buffer)
+}
+
+pub fn copied(text: &[u8], buffer: &mut [u8]) -> Reply {
+    if buffer.len() < text.len() {
+        return refused(42);
+    }
+    buffer[..text.len()].copy_from_slice(text);
+    accepted(text.len())
+}
