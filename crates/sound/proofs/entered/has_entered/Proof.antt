@@ -2,10 +2,10 @@ use mathlib.Core.Path.{sym, _∙_}
 use borrow.Author.Tests.{not-true, not-false}
 use Rattle.sound.proofs.Asking.{entered-visited, entered-still, entered-next}
 use borrow.Author.Needs.{needs}
-use Rattle.sound.proofs.progress.has_entered.Statement.{statement}
-use Rattle.sound.proofs.progress.has_entered.Tie as tie
-use Rattle.sound.proofs.progress.has_entered.Reads as reads
-use Rattle.sound.proofs.progress.has_entered.Lts as lts
+use Rattle.sound.proofs.entered.has_entered.Statement.{statement}
+use Rattle.sound.proofs.entered.has_entered.Tie as tie
+use Rattle.sound.proofs.entered.has_entered.Reads as reads
+use Rattle.sound.proofs.entered.has_entered.Lts as lts
 use Rattle.tables.proofs.flags.is_under_way.Reads as is-under-way-reads
 
 -- src/progress.rt:46:9
