@@ -2,8 +2,8 @@
 use native.Mathlib.Omega.{arith}
 use Rattle.transcript.proofs.CallCases.{range-form, range-far, range-in, most-small}
 use borrow.Author.Needs.{needs}
-use Rattle.transcript.proofs.requests.in_range.Statement.{statement}
-use Rattle.transcript.proofs.requests.in_range.Tie as tie
+use Rattle.transcript.proofs.requests.numbered_call.Statement.{statement}
+use Rattle.transcript.proofs.requests.numbered_call.Tie as tie
 use Rattle.lines.proofs.numbers.field.Reads as field-reads
 use Rattle.transcript.proofs.requests.most_of.Reads as most-of-reads
 
@@ -31,8 +31,8 @@ cast-t9 c = omega (arith, most-small (c .before .before .before .before .before 
 returns-3 : tie.Need-returns-3
 returns-3 c = range-in _ _ _ _ (c .before .before .before .before .before .field .ensures) _ _ _ (c .before .before .before .value .given .1) (c .before .most-of .ensures) (c .if1 .left)
 
-pub in-range-spec : {M : Type 1} → statement M
-in-range-spec =
+pub numbered-call-spec : {M : Type 1} → statement M
+numbered-call-spec =
     tie.close
     (tie.spec
     field-requires
