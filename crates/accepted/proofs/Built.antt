@@ -16,7 +16,7 @@ use Rattle.tables.specs.Limits.{Limits}
 use Rattle.tables.specs.Tables.{PlanLists, Tables, drones, dependencies, Sizes}
 use Rattle.tables.specs.Flags.{fixedFlag}
 use Rattle.tables.proofs.SizeLaws.{SameLengths, fullSize-lengths, sizes-full}
-use Rattle.text.specs.Written.{Route, Valid}
+use Rattle.text.specs.Written.{Route, InLimits}
 use Rattle.plan.specs.Dependencies.{follows, flagOf}
 use Rattle.plan.specs.Field.{planOf, fixed}
 use Rattle.plan.specs.Claims.{ownerIn, numberIn, locationIn, timeIn, stopTotal, HoldsPlanned}
@@ -24,7 +24,7 @@ use Rattle.plan.proofs.Claims.{accepted-claims}
 use Rattle.sound.specs.Sound.{zeroFrom, checked as checkedSound, planAccepted, dependenciesSound, planUnused}
 use Rattle.log.specs.Calls.{AsRead}
 use Rattle.reading.specs.Reading.{withDependencies, total, plannedList, checkIn}
-use Rattle.reading.specs.declared.replies.Reading.the-variants.{Taken}
+use Rattle.reading.specs.Replies.{taken as Taken}
 use Rattle.accepted.proofs.Stored.{at-past, laid-at}
 use Rattle.accepted.proofs.PlanHeld.{HoldsRoutes, zero-past, have-stops, in-range, names-sound, names-zero, counts-zero, locations-zero, times-zero}
 use Rattle.accepted.proofs.ReadCases.{no-fault, no-collision}
@@ -90,7 +90,7 @@ module _ (L : Limits) (t : Tables) (sizes : Sizes L t) (blank : Blank L t) (room
   in-room : (k : ℕ) → k < dependencies lists → k < L .dependencies
   in-room k l = omega (arith, count-is, room)
 
-  holds-planned : HoldsPlanned lists
+  pub holds-planned : HoldsPlanned lists
   holds-planned = record {
     total = count-is;
     first-drones = λ k l. column-at (t .plan .firstDrones) (sizes .first-drones) (blank .first-drones) _ k (in-room k l);
@@ -103,7 +103,7 @@ module _ (L : Limits) (t : Tables) (sizes : Sizes L t) (blank : Blank L t) (room
   abbrev flag : ℕ → ℕ → ℕ
   flag = flagOf (ownerIn (t .plan)) (numberIn (t .plan)) (stopTotal (t .plan))
 
-  module _ (ds : List Route) (v : Valid L ds) (holds : HoldsRoutes L ds (t .plan)) (passed : checkIn (t .plan) ≡ Taken) where
+  module _ (ds : List Route) (v : InLimits L ds) (holds : HoldsRoutes L ds (t .plan)) (passed : checkIn (t .plan) ≡ Taken) where
     -- the plan's values are not written by the building
     still-holds : HoldsRoutes L ds lists
     still-holds = record { drones-are = holds .drones-are; names-are = holds .names-are; counts-are = holds .counts-are; locations-are = holds .locations-are; times-are = holds .times-are }

@@ -10,7 +10,7 @@ use Rattle.lines.specs.Bytes.{byteAt, isAt}
 use Rattle.lines.specs.Numbers.{isDigit, digitsFrom, numberAt, fieldAt}
 use Rattle.lines.specs.Stops.{goAt, stopsAt, countAt}
 use Rattle.lines.specs.Names.{untilFeed, lineEnd, isCapital, smallByte, smallForm, isNameByte, isTextByte, textBytes, textName, nameAt}
-use Rattle.text.specs.Reading.{stopsRead, droneAt, same, elem, dronesAt, linesAt}
+use Rattle.text.specs.LinesRead.{stopsRead, droneAt, same, elem, dronesAt, linesAt}
 use Rattle.text.specs.Examples.{bytes}
 use Rattle.plan.specs.Stops.{start, owner, number}
 use Rattle.plan.specs.Check.{faultAt, firstFault, over, collide, collider}
@@ -20,14 +20,15 @@ use Rattle.log.specs.CallLog.{Call, Entry}
 use Rattle.log.specs.Calls.{step, Ran}
 use Rattle.log.specs.Demand.{Found}
 use Rattle.reading.specs.Reading.{readPlan, readLines}
-use Rattle.reading.specs.declared.replies.Reading.the-variants.{Taken}
+use Rattle.reading.specs.Replies.{taken as Taken}
 use Rattle.accepted.specs.Examples.{filled, flightQ, allHold, examples}
-use Rattle.accepted.proofs.ReadSound.{demand3-of-texts}
+use Rattle.accepted.specs.TextPlan.{textPlan}
+use Rattle.accepted.proofs.TextFound.{demand3-of-texts}
 
 pub examples-hold : (allHold examples ≡ true) × (readPlan limits (bytes flightQ) (filled 7 limits) .reply ≡ Taken)
 unfolding firstBelow allBelow countBelow sumBelow fullSize zeroed byteAt isAt isDigit digitsFrom numberAt fieldAt goAt stopsAt countAt untilFeed lineEnd isCapital smallByte smallForm isNameByte isTextByte textBytes textName nameAt stopsRead droneAt same elem dronesAt linesAt start owner number faultAt firstFault over collide collider follows faultCase checkOf readPlan readLines
 examples-hold = (refl, refl)
 
 -- demand 3 of flight Q, whatever is called after its reading
-pub flightQ-found : (calls : List Call) (got : List Entry) (t : Tables) → Ran (step limits) (readPlan limits (bytes flightQ) (filled 7 limits) .tables) calls got t → Found (readPlan limits (bytes flightQ) (filled 7 limits) .tables .plan) calls got t
-flightQ-found calls got t ran = demand3-of-texts limits (bytes flightQ) (filled 7 limits) calls got t (examples-hold .1) ran
+pub flightQ-found : (calls : List Call) (got : List Entry) (t : Tables) → Ran (step limits) (readPlan limits (bytes flightQ) (filled 7 limits) .tables) calls got t → Found (textPlan limits (bytes flightQ)) calls got t
+flightQ-found calls got t ran = demand3-of-texts limits (bytes flightQ) (filled 7 limits) _ _ calls got t (record { replied = refl; left = refl }) (examples-hold .1) ran

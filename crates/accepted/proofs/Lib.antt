@@ -3,7 +3,11 @@ pub mod Routes
 pub mod RowNames
 pub mod PlanHeld
 pub mod ReadCases
+pub mod RoutesPlan
 pub mod Built
 pub mod ReadSound
+pub mod TextFound
 pub mod Examples
 pub mod Taken
+pub mod TablesRoutes
+pub mod SoundAccepted

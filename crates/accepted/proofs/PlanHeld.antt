@@ -16,12 +16,12 @@ use Rattle.tables.specs.Limits.{Limits}
 use Rattle.tables.specs.Tables.{PlanLists, drones}
 use Rattle.lines.specs.Names.{isNameByte, goodName}
 use Rattle.lines.proofs.NameRoundTrip.{good-length, good-bytes, row-long}
-use Rattle.text.specs.Reading.{flat}
-use Rattle.text.specs.Written.{Route, rowsOf, countsOf, locationsOf, timesOf, Valid}
+use Rattle.text.specs.LinesRead.{flat}
+use Rattle.text.specs.Written.{Route, rowsOf, countsOf, locationsOf, timesOf, InLimits}
 use Rattle.text.proofs.Rows.{row-fits}
 use Rattle.plan.specs.Stops.{start}
-use Rattle.plan.specs.Claims.{HaveStops}
-use Rattle.sound.specs.Sound.{zeroFrom, nameByte, nameLength, nameSound, sameName, namesDiffer, stopTotal, inRange, namesSound}
+use Rattle.plan.specs.Claims.{HaveStops, stopTotal}
+use Rattle.sound.specs.Sound.{zeroFrom, nameByte, nameLength, nameSound, sameName, namesDiffer, inRange, namesSound}
 use Rattle.log.proofs.SoundParts.{zero-from}
 use Rattle.accepted.proofs.Stored.{at-past}
 use Rattle.text.proofs.Sizes.{rows-long, rows-many, names-many, counts-many, counts-total, stops-within, times-many}
@@ -62,14 +62,14 @@ module _ (L : Limits) (names : List ℕ) (d : ℕ) (x : List ℕ) (good : goodNa
 
 -- ---- the whole plan
 
-module _ (L : Limits) (ds : List Route) (v : Valid L ds) (p : PlanLists) (h : HoldsRoutes L ds p) where
+module _ (L : Limits) (ds : List Route) (v : InLimits L ds) (p : PlanLists) (h : HoldsRoutes L ds p) where
   pub have-stops : HaveStops p
   have-stops d l =
       let k : d < length ds = omega (arith, h .drones-are) in
       let c = counts-some L ds [] 0 (v .2) d k in
       omega (arith, c, h .counts-are d (omega (arith, v .1)))
 
-  pub total-is : stopTotal L p ≡ length (locationsOf ds)
+  pub total-is : stopTotal p ≡ length (locationsOf ds)
   unfolding start
   total-is = ap (λ (n : ℕ). sumBelow n (at (p .stopCounts))) (h .drones-are)
       ∙ (sum-ext (length ds) (at (p .stopCounts)) (at (countsOf ds)) (λ i l. h .counts-are i (omega (arith, v .1))) ∙ counts-total ds)
@@ -81,8 +81,8 @@ module _ (L : Limits) (ds : List Route) (v : Valid L ds) (p : PlanLists) (h : Ho
       let w = stops-within L ds v in
       and-both _ _ (and-both _ _ (le-leb 1 (drones p) (omega (arith, n, v .0))) (le-leb (drones p) (L .drones) (omega (arith, n, v .1))))
       (and-both _ _ (allBelow-all (drones p) _ (λ d l. le-leb 1 (at (p .stopCounts) d) (have-stops d l)))
-      (and-both _ _ (le-leb (stopTotal L p) (L .stops) (omega (arith, w, total-is)))
-      (allBelow-all (stopTotal L p) _ (λ i l.
+      (and-both _ _ (le-leb (stopTotal p) (L .stops) (omega (arith, w, total-is)))
+      (allBelow-all (stopTotal p) _ (λ i l.
       let k : i < length (locationsOf ds) = omega (arith, total-is) in
       let r = stops-in-range L ds v i k in
       and-both _ _
@@ -126,8 +126,8 @@ module _ (L : Limits) (ds : List Route) (v : Valid L ds) (p : PlanLists) (h : Ho
   pub counts-zero : zeroFrom (drones p) (L .drones) (p .stopCounts) ≡ true
   counts-zero = zero-past _ _ (p .stopCounts) (countsOf ds) (counts-many ds ∙ sym (h .drones-are)) (h .counts-are)
 
-  pub locations-zero : zeroFrom (stopTotal L p) (L .stops) (p .locations) ≡ true
+  pub locations-zero : zeroFrom (stopTotal p) (L .stops) (p .locations) ≡ true
   locations-zero = zero-past _ _ (p .locations) (locationsOf ds) (sym total-is) (h .locations-are)
 
-  pub times-zero : zeroFrom (stopTotal L p) (L .stops) (p .times) ≡ true
+  pub times-zero : zeroFrom (stopTotal p) (L .stops) (p .times) ≡ true
   times-zero = zero-past _ _ (p .times) (timesOf ds) (times-many L ds v ∙ sym total-is) (h .times-are)

@@ -14,20 +14,25 @@ use Rattle.tables.specs.Tables.{Tables, fullSize, Sizes}
 use Rattle.tables.specs.Zero.{zeroed, zeroedTables}
 use Rattle.tables.proofs.Zero.{zeroed-below, zeroed-length}
 use Rattle.tables.proofs.SizeLaws.{SameLengths, fullSize-lengths, full-sizes}
-use Rattle.text.specs.Reading.{Found, linesAt, flat}
-use Rattle.text.specs.declared.reader.Answer.{Answer}
-use Rattle.text.specs.Written.{Route, rowsOf, countsOf, locationsOf, timesOf, foundOf, Valid}
+use Rattle.text.specs.LinesRead.{LinesRead, linesAt, flat}
+use Rattle.text.specs.declared.reader.LinesAnswer.{LinesAnswer}
+use Rattle.text.specs.Written.{Route, rowsOf, countsOf, locationsOf, timesOf, linesOf, InLimits}
 use Rattle.text.proofs.TakenIsWritten.{TextTaken, text-taken}
+use Rattle.plan.specs.Field.{FieldPlan, PlansAgree, planOf}
+use Rattle.plan.proofs.PlansAgree.{agree-accepted}
 use Rattle.log.specs.Calls.{AsRead, tablesAfter}
-use Rattle.log.proofs.Whole.{stays-sound, demand3-of-contracts}
-use Rattle.reading.specs.Reading.{withText, withDependencies, total, checkIn}
-use Rattle.reading.specs.declared.replies.Reading.the-variants.{Taken}
-use Rattle.accepted.specs.Claims.{ReadIsSound, TablesSound, Demand3OfTexts}
+use Rattle.log.proofs.SoundParts.{accepted-plan}
+use Rattle.log.proofs.Whole.{stays-sound}
+use Rattle.reading.specs.Reading.{withText, withDependencies, total, checkIn, readPlan}
+use Rattle.reading.specs.Replies.{taken as Taken}
+use Rattle.accepted.specs.TextPlan.{routesPlan, textPlan}
+use Rattle.accepted.specs.Claims.{TablesHoldPlan, AcceptedText, ReadIsSound, TablesSound}
 use Rattle.accepted.proofs.Stored.{stored-at}
 use Rattle.text.proofs.Sizes.{names-many, counts-many, stops-within, times-many}
 use Rattle.accepted.proofs.PlanHeld.{HoldsRoutes}
 use Rattle.accepted.proofs.ReadCases.{read-taken}
-use Rattle.accepted.proofs.Built.{Blank, built-as-read}
+use Rattle.accepted.proofs.RoutesPlan.{HoldsStops, held-agree, routes-read}
+use Rattle.accepted.proofs.Built.{Blank, holds-planned, built-as-read}
 
 -- stored values that are known by an equation
 stored-as : (full : ℕ) (t xs ys : List ℕ) → xs ≡ ys → length ys ≤ full → full ≤ length t → (i : ℕ) → i < full → at (sets (zeroed full t) 0 xs) i ≡ at ys i
@@ -36,7 +41,7 @@ stored-as full t xs ys e h r i l = ap (λ (x : List ℕ). at (sets (zeroed full 
 stored-long : (full : ℕ) (t xs : List ℕ) → length (sets (zeroed full t) 0 xs) ≡ length t
 stored-long full t xs = length-sets (zeroed full t) 0 xs ∙ zeroed-length full t
 
-module _ (L : Limits) (t : Tables) (full : fullSize L t ≡ true) (f : Found Answer) (n : ℕ) where
+module _ (L : Limits) (t : Tables) (full : fullSize L t ≡ true) (f : LinesRead LinesAnswer) (n : ℕ) where
   abbrev stored : Tables
   stored = withText f n (zeroedTables L t)
 
@@ -75,7 +80,7 @@ module _ (L : Limits) (t : Tables) (full : fullSize L t ≡ true) (f : Found Ans
     drone-flags = zeroed-below (L .drones) (t .droneFlags);
   }
 
-  module _ (ds : List Route) (many : length ds ≡ n) (v : Valid L ds) (read : f ≡ foundOf L ds) where
+  module _ (ds : List Route) (many : length ds ≡ n) (v : InLimits L ds) (read : f ≡ linesOf L ds) where
     pub stored-holds : HoldsRoutes L ds (stored .plan)
     stored-holds =
         let names-fit : length (flat (rowsOf L ds)) ≤ L .drones * L .name = omega (arith, names-many L ds, mul-le-mul-right (L .name) (v .1)) in
@@ -84,11 +89,25 @@ module _ (L : Limits) (t : Tables) (full : fullSize L t ≡ true) (f : Found Ans
         let times-fit : length (timesOf ds) ≤ L .stops = omega (arith, times-many L ds v) in
         record {
           drones-are = stored-at 1 (t .plan .droneCount) (n ∷ []) (omega arith) (before .drone-count) 0 (omega arith) ∙ sym many;
-          names-are = stored-as (L .drones * L .name) (t .plan .names) (flat (f .rows)) (flat (rowsOf L ds)) (ap (λ (g : Found Answer). flat (g .rows)) read) names-fit (before .names);
-          counts-are = stored-as (L .drones) (t .plan .stopCounts) (f .counts) (countsOf ds) (ap (λ (g : Found Answer). g .counts) read) counts-fit (before .stop-counts);
-          locations-are = stored-as (L .stops) (t .plan .locations) (f .locations) (locationsOf ds) (ap (λ (g : Found Answer). g .locations) read) stops-fit (before .locations);
-          times-are = stored-as (L .stops) (t .plan .times) (f .times) (timesOf ds) (ap (λ (g : Found Answer). g .times) read) times-fit (before .times);
+          names-are = stored-as (L .drones * L .name) (t .plan .names) (flat (f .rows)) (flat (rowsOf L ds)) (ap (λ (g : LinesRead LinesAnswer). flat (g .rows)) read) names-fit (before .names);
+          counts-are = stored-as (L .drones) (t .plan .stopCounts) (f .counts) (countsOf ds) (ap (λ (g : LinesRead LinesAnswer). g .counts) read) counts-fit (before .stop-counts);
+          locations-are = stored-as (L .stops) (t .plan .locations) (f .locations) (locationsOf ds) (ap (λ (g : LinesRead LinesAnswer). g .locations) read) stops-fit (before .locations);
+          times-are = stored-as (L .stops) (t .plan .times) (f .times) (timesOf ds) (ap (λ (g : LinesRead LinesAnswer). g .times) read) times-fit (before .times);
         }
+
+    pub stored-stops : HoldsStops ds (stored .plan)
+    stored-stops = record {
+      drones-are = stored-holds .drones-are;
+      counts-are = λ d l. stored-holds .counts-are d (omega (arith, v .1));
+      locations-are = λ u l. stored-holds .locations-are u (omega (arith, stops-within L ds v));
+      times-are = λ u l. stored-holds .times-are u (omega (arith, stops-within L ds v));
+    }
+
+    -- with the dependencies laid, the plan in the tables is that of the routes
+    pub stored-agree : total (stored .plan) ≤ L .dependencies → PlansAgree (routesPlan ds) (planOf (withDependencies stored .plan))
+    stored-agree room =
+        let s = stored-stops in
+        held-agree L ds v (withDependencies stored .plan) (record { drones-are = s .drones-are; counts-are = s .counts-are; locations-are = s .locations-are; times-are = s .times-are }) (holds-planned L stored stored-sizes stored-blank room)
 
     stored-as-read : checkIn (stored .plan) ≡ Taken → total (stored .plan) ≤ L .dependencies → AsRead L (withDependencies stored .plan) (withDependencies stored)
     stored-as-read passed room = built-as-read L stored stored-sizes stored-blank room ds v stored-holds passed
@@ -103,5 +122,18 @@ pub tables-sound : (L : Limits) → TablesSound L
 unfolding tablesAfter
 tables-sound L text t h = stays-sound L _ _ (read-is-sound L text t h) []
 
-pub demand3-of-texts : (L : Limits) → Demand3OfTexts L
-demand3-of-texts L text t calls got t′ h ran = demand3-of-contracts L _ _ calls got t′ (read-is-sound L text t h) ran
+-- ---- the text's own plan
+
+pub tables-hold-plan : (L : Limits) → TablesHoldPlan L
+tables-hold-plan L text t h =
+    let (full, r) = read-taken L text t h in
+    let w : TextTaken L text (r .number) (linesAt L text) = text-taken L text (r .number) (r .lines-taken) in
+    let same : textPlan L text ≡ routesPlan (w .routes) = ap routesPlan (routes-read L text (w .routes) (w .valid) (w .read)) in
+    let agree = stored-agree L t full (linesAt L text) (r .number) (w .routes) (w .many) (w .valid) (w .read) (r .room) in
+    subst (λ (x : Tables). PlansAgree (textPlan L text) (planOf (x .plan))) (sym (r .tables-are)) (subst (λ (F : FieldPlan). PlansAgree F (planOf (withDependencies (withText (linesAt L text) (r .number) (zeroedTables L t)) .plan))) (sym same) agree)
+
+pub accepted-text : (L : Limits) → AcceptedText L
+accepted-text L text t h =
+    let r = read-is-sound L text t h in
+    let p = readPlan L text t .tables .plan in
+    agree-accepted (textPlan L text) (planOf p) (tables-hold-plan L text t h) (accepted-plan L p (r .plan-accepted) (r .dependencies-own))

@@ -13,8 +13,8 @@ use Rattle.below.specs.Below.{at}
 use Rattle.below.proofs.Tests.{by-cases, and-left, and-right, and-both, or-left, or-right}
 use Rattle.tables.specs.Limits.{Limits}
 use Rattle.lines.specs.Names.{isNameByte, nameBytes, goodName, rowOf}
-use Rattle.text.specs.Reading.{same, elem, flat}
-use Rattle.text.specs.Written.{Route, rowsOf, ValidFrom, Valid}
+use Rattle.text.specs.LinesRead.{same, elem, flat}
+use Rattle.text.specs.Written.{Route, rowsOf, InLimitsFrom, InLimits}
 use Rattle.text.proofs.Rows.{AllLong}
 use Rattle.accepted.proofs.Stored.{sets-at, at-past}
 
@@ -56,7 +56,7 @@ pub record GoodRow (L : Limits) (row : List ℕ) : Type 0 where
   pub row-is : row ≡ rowOf L name
   pub good : goodName L name ≡ true
 
-pub good-rows : (L : Limits) (ds : List Route) (earlier : List (List ℕ)) (total : ℕ) → ValidFrom L earlier total ds → (d : ℕ) → d < length ds → GoodRow L (getD (rowsOf L ds) d [])
+pub good-rows : (L : Limits) (ds : List Route) (earlier : List (List ℕ)) (total : ℕ) → InLimitsFrom L earlier total ds → (d : ℕ) → d < length ds → GoodRow L (getD (rowsOf L ds) d [])
 good-rows L [] earlier total v d l = absurd (omega arith)
 good-rows L (r ∷ ds) earlier total v zero l = record { name = r .name; row-is = refl; good = v .0 }
 good-rows L (r ∷ ds) earlier total v (suc d) l = good-rows L ds (earlier ++ rowOf L (r .name) ∷ []) (total + length (r .locations)) (v .5) d (omega arith)
@@ -70,7 +70,7 @@ elem-none (r ∷ rs) row h more zero l = or-left (same r row) (elem rs row) h
 elem-none (r ∷ rs) row h more (suc k) l = elem-none rs row (or-right (same r row) (elem rs row) h) more k (omega arith)
 
 -- the row of drone d is not among the earlier ones, those of the drones before it included
-rows-differ-from : (L : Limits) (ds : List Route) (earlier : List (List ℕ)) (total : ℕ) → ValidFrom L earlier total ds → (d k : ℕ) → d < length ds → k < length earlier + d
+rows-differ-from : (L : Limits) (ds : List Route) (earlier : List (List ℕ)) (total : ℕ) → InLimitsFrom L earlier total ds → (d k : ℕ) → d < length ds → k < length earlier + d
     → same (getD (earlier ++ rowsOf L ds) k []) (getD (rowsOf L ds) d []) ≡ false
 rows-differ-from L [] earlier total v d k l h = absurd (omega arith)
 rows-differ-from L (r ∷ ds) earlier total v zero k l h = elem-none earlier (rowOf L (r .name)) (v .1) (rowsOf L (r ∷ ds)) k (omega arith)
@@ -79,7 +79,7 @@ rows-differ-from L (r ∷ ds) earlier total v (suc d) k l h =
     let ih = rows-differ-from L ds (earlier ++ row ∷ []) (total + length (r .locations)) (v .5) d k (omega arith) (omega (arith, length-append earlier (row ∷ []))) in
     subst (λ (x : List (List ℕ)). same (getD x k []) (getD (rowsOf L ds) d []) ≡ false) (append-assoc earlier (row ∷ []) (rowsOf L ds)) ih
 
-pub rows-differ : (L : Limits) (ds : List Route) → Valid L ds → (d e : ℕ) → d < length ds → e < d → same (getD (rowsOf L ds) e []) (getD (rowsOf L ds) d []) ≡ false
+pub rows-differ : (L : Limits) (ds : List Route) → InLimits L ds → (d e : ℕ) → d < length ds → e < d → same (getD (rowsOf L ds) e []) (getD (rowsOf L ds) d []) ≡ false
 rows-differ L ds v d e l h = rows-differ-from L ds [] 0 (v .2) d e l (omega arith)
 
 -- lists of one length whose bytes are equal

@@ -10,31 +10,31 @@ use Rattle.tables.specs.Limits.{Limits, limits}
 use Rattle.tables.specs.Tables.{PlanLists, Tables, drones, fullSize}
 use Rattle.tables.specs.Zero.{zeroed, zeroedTables}
 use Rattle.tables.proofs.Zero.{zeroed-length}
-use Rattle.text.specs.Reading.{Found, linesAt}
-use Rattle.text.specs.declared.reader.Answer.{Answer}
-use Rattle.text.specs.Written.{Route, routesText, smallNames, foundOf, Valid}
+use Rattle.text.specs.LinesRead.{LinesRead, linesAt}
+use Rattle.text.specs.declared.reader.LinesAnswer.{LinesAnswer}
+use Rattle.text.specs.Written.{Route, routesText, smallNames, linesOf, InLimits}
 use Rattle.text.specs.TextWritten.{tablesText}
-use Rattle.text.specs.Claims.{PlanTaken, RoundTrip}
+use Rattle.text.specs.Claims.{PlanOfText, RoundTrip}
 use Rattle.text.proofs.Capitals.{names-many}
 use Rattle.text.proofs.TakenIsWritten.{TextTaken, text-taken}
 use Rattle.text.proofs.LineStarts.{named-length}
 use Rattle.text.proofs.SmallTexts.{lines-alike}
 use Rattle.text.proofs.ReadIsWritten.{tables-kept}
 use Rattle.text.proofs.RoundTrips.{limits-round-trip}
-use Rattle.plan.specs.Field.{Checked, planOf}
+use Rattle.plan.specs.Field.{PlansAgree, planOf}
 use Rattle.plan.specs.Check.{firstFault}
-use Rattle.plan.specs.Claims.{stopTotal, numberIn, locationIn, timeIn, colliderIn, HaveStops, NoFault, NoCollision}
+use Rattle.plan.specs.Claims.{stopTotal, numberIn, locationIn, timeIn, colliderIn, HaveStops, NoFault, NoCollision, StopsChecked, Collides, Never}
 use Rattle.plan.specs.Answers.{checkOf}
 use Rattle.plan.proofs.Claims.{accepted-claims}
-use Rattle.plan.proofs.Definition1.{definition-1}
+use Rattle.plan.proofs.PlansAgree.{agree-back, agree-stops, agree-never, passes-exactly}
 use Rattle.log.proofs.Whole.{stays-same}
-use Rattle.log.proofs.SoundParts.{have-stops as accepted-stops, accepted-plan}
-use Rattle.reading.specs.Reading.{withText, total, checkIn, readPlan, readLines}
-use Rattle.reading.specs.declared.replies.Reading.the-variants.{Taken}
-use Rattle.accepted.specs.Claims.{laidOut, PlanFollows, TakenExactly, NoneCollide, WrittenBack, ReadAlike}
-use Rattle.accepted.proofs.PlanHeld.{HoldsRoutes, have-stops}
+use Rattle.reading.specs.Reading.{withText, withDependencies, total, checkIn, readPlan, readLines}
+use Rattle.reading.specs.Replies.{taken as Taken}
+use Rattle.accepted.specs.TextPlan.{routesPlan}
+use Rattle.accepted.specs.Claims.{PlanFollows, TakenExactly, ownText, WrittenBack, ReadAlike}
 use Rattle.accepted.proofs.ReadCases.{no-fault, no-collision, read-taken, read-short}
-use Rattle.accepted.proofs.ReadSound.{before, stored-holds, read-is-sound}
+use Rattle.accepted.proofs.RoutesPlan.{held-stops, held-total}
+use Rattle.accepted.proofs.ReadSound.{before, stored-stops, stored-agree, read-is-sound}
 
 -- the plan check passes where it finds nothing
 check-fine : (p : PlanLists) → NoFault p → NoCollision p → checkIn p ≡ Taken
@@ -43,47 +43,64 @@ check-fine p e a =
     let c : colliderIn p ≡ stopTotal p = accepted-claims .reported-exactly p .0 a in
     rw (le-ltb (firstFault (numberIn p) (locationIn p) (timeIn p) (stopTotal p)) (stopTotal p) (omega (arith, e)), le-ltb (colliderIn p) (stopTotal p) (omega (arith, c))) refl
 
-module _ (L : Limits) (t : Tables) (full : fullSize L t ≡ true) (ds : List Route) (v : Valid L ds) where
-  laid-holds : HoldsRoutes L ds (laidOut L t ds)
-  laid-holds = stored-holds L t full (foundOf L ds) (length ds) ds refl v refl
+-- tables in which what was read of a text stands, f being the routes' values
+module _ (L : Limits) (t : Tables) (full : fullSize L t ≡ true) (f : LinesRead LinesAnswer) (n : ℕ) (ds : List Route) (many : length ds ≡ n) (v : InLimits L ds) (read : f ≡ linesOf L ds) where
+  abbrev laid : Tables
+  laid = withText f n (zeroedTables L t)
 
-  laid-stops : HaveStops (laidOut L t ds)
-  laid-stops = have-stops L ds v (laidOut L t ds) laid-holds
+  laid-have : HaveStops (laid .plan)
+  laid-have = held-stops L ds v (laid .plan) (stored-stops L t full f n ds many v read)
 
-  laid-checked : checkIn (laidOut L t ds) ≡ Taken → Checked (planOf (laidOut L t ds))
-  laid-checked h = accepted-claims .taken-exactly (laidOut L t ds) laid-stops .0 (no-fault (laidOut L t ds) h, no-collision (laidOut L t ds) h)
+  laid-total : total (laid .plan) ≡ routesPlan ds .count
+  laid-total = held-total L ds v (laid .plan) (stored-stops L t full f n ds many v read)
 
-  laid-passes : Checked (planOf (laidOut L t ds)) → checkIn (laidOut L t ds) ≡ Taken
-  laid-passes c = let (e, a) = accepted-claims .taken-exactly (laidOut L t ds) laid-stops .1 c in check-fine (laidOut L t ds) e a
+  -- with its dependencies the plan in them is that of the routes, and the check passes exactly where the routes keep the rules
+  module _ (room : total (laid .plan) ≤ L .dependencies) where
+    abbrev lists : PlanLists
+    lists = withDependencies laid .plan
 
--- what was read of a text is laid out as its routes
-same-laid : (L : Limits) (t : Tables) (f : Found Answer) (n : ℕ) (ds : List Route) → f ≡ foundOf L ds → length ds ≡ n → withText f n (zeroedTables L t) .plan ≡ laidOut L t ds
-same-laid L t f n ds e m = rw (e, ← m) refl
+    agree : PlansAgree (routesPlan ds) (planOf lists)
+    agree = stored-agree L t full f n ds many v read room
+
+    keeps : checkIn (laid .plan) ≡ Taken → StopsChecked (routesPlan ds) × Never (routesPlan ds) (Collides (routesPlan ds))
+    keeps h =
+        let (c, never) = passes-exactly lists laid-have .0 (no-fault (laid .plan) h, no-collision (laid .plan) h) in
+        (agree-stops (routesPlan ds) (planOf lists) agree c, agree-never (routesPlan ds) (planOf lists) agree never)
+
+    passes : StopsChecked (routesPlan ds) → Never (routesPlan ds) (Collides (routesPlan ds)) → checkIn (laid .plan) ≡ Taken
+    passes c never =
+        let back : PlansAgree (planOf lists) (routesPlan ds) = agree-back agree in
+        let (e, a) = passes-exactly lists laid-have .1 (agree-stops (planOf lists) (routesPlan ds) back c, agree-never (planOf lists) (routesPlan ds) back never) in
+        check-fine (laid .plan) e a
 
 module _ (L : Limits) (trip : RoundTrip L) (text : List ℕ) (t : Tables) where
-  follows : readPlan L text t .reply ≡ Taken → (fullSize L t ≡ true) × PlanFollows L t text
+  follows : readPlan L text t .reply ≡ Taken → (fullSize L t ≡ true) × PlanFollows L text
   follows h =
       let (full, r) = read-taken L text t h in
-      let w : PlanTaken L text (r .number) = trip .taken-is-written text (r .number) (r .lines-taken) in
+      let w : PlanOfText L text (r .number) = trip .well-formed-is-written text (r .number) (r .lines-taken) in
       let ds : List Route = smallNames (w .typed) in
-      let same : withText (linesAt L text) (r .number) (zeroedTables L t) .plan ≡ laidOut L t ds = same-laid L t (linesAt L text) (r .number) ds (w .read) (names-many (w .typed) ∙ w .many) in (
+      let many : length ds ≡ r .number = names-many (w .typed) ∙ w .many in
+      let (c, never) = keeps L t full (linesAt L text) (r .number) ds many (w .valid) (w .read) (r .room) (r .check-passed) in (
         full,
         record {
           typed = w .typed;
           as-typed = w .as-typed;
           valid = w .valid;
           short = read-short L text t h;
-          checked = laid-checked L t full ds (w .valid) (subst (λ (p : PlanLists). checkIn p ≡ Taken) same (r .check-passed));
-          few = subst (λ (p : PlanLists). total p ≤ L .dependencies) same (r .room);
+          stops = c;
+          apart = never;
+          few = omega (arith, laid-total L t full (linesAt L text) (r .number) ds many (w .valid) (w .read), r .room);
         },
       )
 
-  taken : (fullSize L t ≡ true) × PlanFollows L t text → readPlan L text t .reply ≡ Taken
+  taken : (fullSize L t ≡ true) × PlanFollows L text → readPlan L text t .reply ≡ Taken
   unfolding readPlan readLines
   taken (full, q) =
       let ds : List Route = smallNames (q .typed) in
-      let found : linesAt L text ≡ foundOf L ds = ap (linesAt L) (q .as-typed) ∙ trip .capitals-are-read (q .typed) (q .valid) in
-      rw (full, le-ltb (L .text) (length text) (q .short), found, laid-passes L t full ds (q .valid) (q .checked), le-leb (total (laidOut L t ds)) (L .dependencies) (q .few)) refl
+      let found : linesAt L text ≡ linesOf L ds = ap (linesAt L) (q .as-typed) ∙ trip .capitals-are-read (q .typed) (q .valid) in
+      let p : PlanLists = withText (linesOf L ds) (length ds) (zeroedTables L t) .plan in
+      let room : total p ≤ L .dependencies = omega (arith, laid-total L t full (linesOf L ds) (length ds) ds refl (q .valid) refl, q .few) in
+      rw (full, le-ltb (L .text) (length text) (q .short), found, passes L t full (linesOf L ds) (length ds) ds refl (q .valid) refl room (q .stops) (q .apart), le-leb (total p) (L .dependencies) room) refl
 
 pub taken-exactly : (L : Limits) → RoundTrip L → TakenExactly L
 taken-exactly L trip text t = (follows L trip text t, taken L trip text t)
@@ -91,36 +108,41 @@ taken-exactly L trip text t = (follows L trip text t, taken L trip text t)
 pub limits-taken-exactly : TakenExactly limits
 limits-taken-exactly = taken-exactly limits limits-round-trip
 
-pub none-collide : (L : Limits) → NoneCollide L
-none-collide L text t h =
-    let r = read-is-sound L text t h in
-    let p = readPlan L text t .tables .plan in
-    let have : HaveStops p = accepted-stops L p (r .plan-accepted) in
-    let (e, a) = accepted-claims .taken-exactly p have .1 (accepted-plan L p (r .plan-accepted) (r .dependencies-own) .checked) in
-    definition-1 .collisions p have e .0 a
+-- a text of routes whose names are in small letters
+pub follows-own : (L : Limits) (text : List ℕ) (ds : List Route) → smallNames ds ≡ ds → text ≡ routesText ds → InLimits L ds → length text ≤ L .text
+    → StopsChecked (routesPlan ds) × Never (routesPlan ds) (Collides (routesPlan ds)) → routesPlan ds .count ≤ L .dependencies → PlanFollows L text
+follows-own L text ds own e v short (c, never) few = record {
+  typed = ds;
+  as-typed = e;
+  valid = subst (InLimits L) (sym own) v;
+  short = short;
+  stops = subst (λ (x : List Route). StopsChecked (routesPlan x)) (sym own) c;
+  apart = subst (λ (x : List Route). Never (routesPlan x) (Collides (routesPlan x))) (sym own) never;
+  few = subst (λ (x : List Route). routesPlan x .count ≤ L .dependencies) (sym own) few;
+}
+
+-- ---- the text written out again
 
 -- the text of the tables in which a plan's values were laid
-laid-text : (L : Limits) (t : Tables) → fullSize L t ≡ true → (ds : List Route) → Valid L ds
-    → let p = laidOut L t ds in tablesText L (drones p) (p .names) (p .stopCounts) (p .locations) (p .times) ≡ routesText ds
+laid-text : (L : Limits) (t : Tables) → fullSize L t ≡ true → (ds : List Route) → InLimits L ds → ownText L (withText (linesOf L ds) (length ds) (zeroedTables L t)) ≡ routesText ds
 laid-text L t full ds v =
-    let sizes = before L t full (foundOf L ds) (length ds) in
+    let sizes = before L t full (linesOf L ds) (length ds) in
     let F = L .drones * L .name in
-    rw (laid-holds L t full ds v .drones-are) (tables-kept L ds v (zeroed F (t .plan .names)) (zeroed (L .drones) (t .plan .stopCounts)) (zeroed (L .stops) (t .plan .locations)) (zeroed (L .stops) (t .plan .times))
+    rw (stored-stops L t full (linesOf L ds) (length ds) ds refl v refl .drones-are) (tables-kept L ds v (zeroed F (t .plan .names)) (zeroed (L .drones) (t .plan .stopCounts)) (zeroed (L .stops) (t .plan .locations)) (zeroed (L .stops) (t .plan .times))
     (omega (arith, sizes .names, zeroed-length F (t .plan .names))) (omega (arith, sizes .stop-counts, zeroed-length (L .drones) (t .plan .stopCounts)))
     (omega (arith, sizes .locations, zeroed-length (L .stops) (t .plan .locations))) (omega (arith, sizes .times, zeroed-length (L .stops) (t .plan .times))))
 
--- the text of a plan in lists
-abbrev textOf : Limits → PlanLists → List ℕ
-textOf L p = tablesText L (drones p) (p .names) (p .stopCounts) (p .locations) (p .times)
+-- what was read of a text is laid as its routes
+same-laid : (L : Limits) (t : Tables) (f : LinesRead LinesAnswer) (n : ℕ) (ds : List Route) → f ≡ linesOf L ds → length ds ≡ n → withText f n (zeroedTables L t) ≡ withText (linesOf L ds) (length ds) (zeroedTables L t)
+same-laid L t f n ds e m = rw (e, ← m) refl
 
 pub written-back : (L : Limits) → WrittenBack L
 written-back L text t calls h =
     let (full, r) = read-taken L text t h in
     let w : TextTaken L text (r .number) (linesAt L text) = text-taken L text (r .number) (r .lines-taken) in
-    let same : withText (linesAt L text) (r .number) (zeroedTables L t) .plan ≡ laidOut L t (w .routes) = same-laid L t (linesAt L text) (r .number) (w .routes) (w .read) (w .many) in
-    ap (textOf L) (stays-same L _ _ (read-is-sound L text t h) calls .plan-same)
-    ∙ ap (λ (x : Tables). textOf L (x .plan)) (r .tables-are)
-    ∙ ap (textOf L) same
+    ap (λ (p : PlanLists). tablesText L (drones p) (p .names) (p .stopCounts) (p .locations) (p .times)) (stays-same L _ _ (read-is-sound L text t h) calls .plan-same)
+    ∙ ap (ownText L) (r .tables-are)
+    ∙ ap (ownText L) (same-laid L t (linesAt L text) (r .number) (w .routes) (w .read) (w .many))
     ∙ laid-text L t full (w .routes) (w .valid)
     ∙ sym (w .written)
 

@@ -1,5 +1,5 @@
--- What is claimed of an accepted reading: when a text is accepted; that the tables are left as every list of calls asks for them, so that demand 3 holds of every
--- text that is accepted; and that the text can be written out again. Assumes nothing.
+-- What is claimed of an accepted reading: when a text is accepted; that the tables hold the text's own plan; that they are left as every list of calls asks for them, so
+-- that demand 3 holds of every text that is accepted; and that the text can be written out again. Assumes nothing.
 use mathlib.Core.Path.{_≡_}
 use mathlib.Core.Logic.{_↔_}
 use mathlib.Core.Bool.{true}
@@ -7,56 +7,63 @@ use mathlib.Core.List.{List}
 use Prim.Native.Nat.{ℕ, _≤_}
 use lib.ListN.{length}
 use Rattle.tables.specs.Limits.{Limits}
-use Rattle.tables.specs.Tables.{PlanLists, Tables, drones, fullSize}
-use Rattle.tables.specs.Zero.{zeroedTables}
+use Rattle.tables.specs.Tables.{Tables, drones, fullSize}
 use Rattle.lines.specs.Names.{smallForm}
-use Rattle.text.specs.Written.{Route, routesText, smallNames, foundOf, Valid}
+use Rattle.text.specs.Written.{Route, routesText, smallNames, InLimits}
 use Rattle.text.specs.Names.{namesSmall}
 use Rattle.text.specs.TextWritten.{tablesText}
-use Rattle.plan.specs.Field.{Checked, planOf}
-use Rattle.plan.specs.Claims.{Collides, Never}
+use Rattle.plan.specs.Field.{AcceptedPlan, PlansAgree, planOf}
+use Rattle.plan.specs.Claims.{StopsChecked, Collides, Never}
 use Rattle.sound.specs.Sound.{sound}
 use Rattle.log.specs.CallLog.{Call, Entry}
 use Rattle.log.specs.Calls.{step, AsRead, tablesAfter, Ran}
 use Rattle.log.specs.Demand.{Found}
-use Rattle.reading.specs.Reading.{withText, total, readPlan}
-use Rattle.reading.specs.declared.replies.Reading.the-variants.{Taken}
+use Rattle.reading.specs.Reading.{AnsweredAs, readPlan}
+use Rattle.reading.specs.Replies.{ReadingReply, taken}
+use Rattle.accepted.specs.TextPlan.{routesPlan, textPlan}
 
 -- ---- when a text is accepted
 
--- the plan of these routes, laid into the zeroed tables
-abbrev pub laidOut : Limits → Tables → List Route → PlanLists
-laidOut L t routes = withText (foundOf L routes) (length routes) (zeroedTables L t) .plan
-
--- what document 01 asks of a plan text
-pub record PlanFollows (L : Limits) (t : Tables) (text : List ℕ) : Type 0 where
+-- what document 01 asks of a plan text, of the text alone
+pub record PlanFollows (L : Limits) (text : List ℕ) : Type 0 where
   -- "Plan text": the lines of a plan in this order
   pub typed : List Route
   pub as-typed : text ≡ routesText typed
   -- with its names in small letters: names, numbers of stops, locations and times in their ranges
-  pub valid : Valid L (smallNames typed)
+  pub valid : InLimits L (smallNames typed)
   -- "text: at most 32,768 bytes"
   pub short : length text ≤ L .text
-  -- "The plan check"
-  pub checked : Checked (planOf (laidOut L t (smallNames typed)))
+  -- "Stop 0 has time 0 and a drone's times strictly rise. Neighbouring stops of a drone have different locations."
+  pub stops : StopsChecked (routesPlan (smallNames typed))
+  -- no two drones collide, as source document 004 has it (Definition 1)
+  pub apart : Never (routesPlan (smallNames typed)) (Collides (routesPlan (smallNames typed)))
   -- "dependencies: at most 2,048"
-  pub few : total (laidOut L t (smallNames typed)) ≤ L .dependencies
+  pub few : routesPlan (smallNames typed) .count ≤ L .dependencies
 
--- taken exactly when the text follows the document
+-- taken exactly when the text follows the document, into any tables of full size
 abbrev pub TakenExactly : Limits → Type 0
-TakenExactly L = (text : List ℕ) (t : Tables) → (readPlan L text t .reply ≡ Taken) ↔ ((fullSize L t ≡ true) × PlanFollows L t text)
+TakenExactly L = (text : List ℕ) (t : Tables) → (readPlan L text t .reply ≡ taken) ↔ ((fullSize L t ≡ true) × PlanFollows L text)
 
--- .. and then no two drones collide as source document 004 has it
-abbrev pub NoneCollide : Limits → Type 0
-NoneCollide L = (text : List ℕ) (t : Tables) → readPlan L text t .reply ≡ Taken → Never (planOf (readPlan L text t .tables .plan)) (Collides (planOf (readPlan L text t .tables .plan)))
+-- ---- the plan of a text
+
+-- after an accepted reading the tables hold the text's own plan
+abbrev pub TablesHoldPlan : Limits → Type 0
+TablesHoldPlan L = (text : List ℕ) (t : Tables) → readPlan L text t .reply ≡ taken → PlansAgree (textPlan L text) (planOf (readPlan L text t .tables .plan))
+
+-- that plan passes the plan check, and its dependencies are exactly those that its stops make, in order: "Two visits of one location by different drones make exactly one
+-- dependency"
+abbrev pub AcceptedText : Limits → Type 0
+AcceptedText L = (text : List ℕ) (t : Tables) → readPlan L text t .reply ≡ taken → AcceptedPlan (textPlan L text)
 
 -- ---- the text written out again
 
+-- the text of the plan in the tables
+abbrev pub ownText : Limits → Tables → List ℕ
+ownText L t = tablesText L (drones (t .plan)) (t .plan .names) (t .plan .stopCounts) (t .plan .locations) (t .plan .times)
+
 -- "Writing out a taken plan therefore gives its text with the names in small letters", after any list of calls
 abbrev pub WrittenBack : Limits → Type 0
-WrittenBack L =
-    (text : List ℕ) (t : Tables) (calls : List Call) → readPlan L text t .reply ≡ Taken
-    → let p = tablesAfter (step L) (readPlan L text t .tables) calls .plan in tablesText L (drones p) (p .names) (p .stopCounts) (p .locations) (p .times) ≡ smallForm text
+WrittenBack L = (text : List ℕ) (t : Tables) (calls : List Call) → readPlan L text t .reply ≡ taken → ownText L (tablesAfter (step L) (readPlan L text t .tables) calls) ≡ smallForm text
 
 -- "a capital is the same letter as its small form": a text and the same with its names in small letters get the same reply and leave the same tables
 abbrev pub ReadAlike : Limits → Type 0
@@ -67,14 +74,21 @@ ReadAlike L = (text : List ℕ) (t : Tables) → readPlan L (namesSmall text) t 
 -- "After an accepted reading nobody is under way and nothing is turned": for any text and whatever the tables held before, the plan stands in them with its
 -- dependencies
 abbrev pub ReadIsSound : Limits → Type 0
-ReadIsSound L = (text : List ℕ) (t : Tables) → readPlan L text t .reply ≡ Taken → AsRead L (readPlan L text t .tables .plan) (readPlan L text t .tables)
+ReadIsSound L = (text : List ℕ) (t : Tables) → readPlan L text t .reply ≡ taken → AsRead L (readPlan L text t .tables .plan) (readPlan L text t .tables)
 
 -- so they are sound: no call after it is refused by 40
 abbrev pub TablesSound : Limits → Type 0
-TablesSound L = (text : List ℕ) (t : Tables) → readPlan L text t .reply ≡ Taken → sound L (readPlan L text t .tables) ≡ true
+TablesSound L = (text : List ℕ) (t : Tables) → readPlan L text t .reply ≡ taken → sound L (readPlan L text t .tables) ≡ true
 
--- demand 3: any text that is accepted, then every list of calls, known by their contracts alone
+-- "Tables are sound when: the plan in them would be accepted": the text of sound tables is accepted, into any tables of full size, and its plan is the one that they hold
+abbrev pub SoundMeansAccepted : Limits → Type 0
+SoundMeansAccepted L =
+    (t z : Tables) → fullSize L t ≡ true → sound L t ≡ true → fullSize L z ≡ true
+    → (readPlan L (ownText L t) z .reply ≡ taken) × PlansAgree (textPlan L (ownText L t)) (planOf (t .plan))
+
+-- demand 3: a reading of the text into any tables replied r and left the tables t₁; where r is `taken`, any list of calls on these, known by their contracts alone, is as the log of the
+-- text's own plan has it: nothing of the tables goes into that log
 abbrev pub Demand3OfTexts : Limits → Type 0
 Demand3OfTexts L =
-    (text : List ℕ) (t : Tables) (calls : List Call) (got : List Entry) (t′ : Tables) → readPlan L text t .reply ≡ Taken → Ran (step L) (readPlan L text t .tables) calls got t′
-    → Found (readPlan L text t .tables .plan) calls got t′
+    (text : List ℕ) (t : Tables) (r : ReadingReply) (t₁ : Tables) (calls : List Call) (got : List Entry) (t′ : Tables) → AnsweredAs (readPlan L text t) r t₁ → r ≡ taken → Ran (step L) t₁ calls got t′
+    → Found (textPlan L text) calls got t′

@@ -1,2 +1,3 @@
+pub mod TextPlan
 pub mod Claims
 pub mod Examples

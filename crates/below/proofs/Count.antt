@@ -76,3 +76,17 @@ module _ (f : ℕ → Bool) (i : ℕ) where
 
   pub count-end : (k n : ℕ) → i ≤ n → n ≤ i → k ≡ countBelow i f → k ≡ countBelow n f
   count-end k n a b e = subst (λ (m : ℕ). k ≡ countBelow m f) (le-antisymm a b) e
+
+-- the first item of a count
+pub count-front : (n : ℕ) (f : ℕ → Bool) → countBelow (suc n) f ≡ pick (f 0) 1 0 + countBelow n (λ i. f (suc i))
+unfolding countBelow
+count-front zero f = go (f 0)
+  where
+    go : (b : Bool) → pick b 1 0 ≡ pick b 1 0 + 0
+    go true = refl
+    go false = refl
+count-front (suc n) f = go (f (suc n)) (count-front n f)
+  where
+    go : (b : Bool) → countBelow (suc n) f ≡ pick (f 0) 1 0 + countBelow n (λ i. f (suc i)) → pick b (suc (countBelow (suc n) f)) (countBelow (suc n) f) ≡ pick (f 0) 1 0 + pick b (suc (countBelow n (λ i. f (suc i)))) (countBelow n (λ i. f (suc i)))
+    go true h = omega arith
+    go false h = h

@@ -9,7 +9,7 @@ use native.Mathlib.Omega.{arith}
 use lib.Dec.{ltb, eqb}
 use borrow.Author.Tests.{ltb-true, ltb-false, eqb-true, eqb-false, eq-eqb}
 use lib.ListN.{length, getD}
-use Rattle.below.specs.Below.{countBelow, picks, before, pairsOf, listed, rank}
+use Rattle.below.specs.Below.{countBelow, picks, pairBefore, pairsOf, listed, rank}
 use Rattle.below.proofs.Tests.{by-cases, and-left, and-right, or-left, or-right}
 use Rattle.below.proofs.Count.{count-past, count-find}
 use Rattle.below.proofs.Sum.{sum-past, sum-find}
@@ -42,8 +42,8 @@ module _ (m : ℕ) (j : ℕ → ℕ) (rises : (k : ℕ) → suc k < m → j k < 
 
 -- ---- pairs in order
 
-pub before-not : (v w x y : ℕ) → before v w x y ≡ false → (before x y v w ≡ true) ⊎ ((v ≡ x) × (w ≡ y))
-unfolding before
+pub before-not : (v w x y : ℕ) → pairBefore v w x y ≡ false → (pairBefore x y v w ≡ true) ⊎ ((v ≡ x) × (w ≡ y))
+unfolding pairBefore
 before-not v w x y e =
     let a : x ≤ v = ltb-false v x (or-left (ltb v x) _ e) in
     by-cases (ltb x v)
@@ -79,8 +79,8 @@ module _ (R : ℕ → ℕ → Bool) (n : ℕ) where
       let (w, d, e, f) = count-find n (R v) j b in
       (v, w, a, d, e, omega arith)
 
-  pub rank-rises : (v w x y : ℕ) → w < n → y ≤ n → R v w ≡ true → before v w x y ≡ true → rank R n v w < rank R n x y
-  unfolding rank before
+  pub rank-rises : (v w x y : ℕ) → w < n → y ≤ n → R v w ≡ true → pairBefore v w x y ≡ true → rank R n v w < rank R n x y
+  unfolding rank pairBefore
   rank-rises v w x y l m e b = by-cases (ltb v x)
       (λ h. omega (arith, count-past w n (R v) l e, sum-past v x inRow (ltb-true v x h)))
       (λ h. let t : (eqb v x && ltb w y) ≡ true = rw h at b in
@@ -88,8 +88,8 @@ module _ (R : ℕ → ℕ → Bool) (n : ℕ) where
       let c : w < y = ltb-true w y (and-right (eqb v x) _ t) in
       rw (← s) (omega (arith, count-past w y (R v) c e)))
 
-  pub rank-order : (v w x y : ℕ) → v < n → w < n → x < n → y < n → R v w ≡ true → R x y ≡ true → rank R n v w < rank R n x y → before v w x y ≡ true
-  rank-order v w x y a b c d e f l = by-cases (before v w x y) (λ h. h) (λ h. elim (before-not v w x y h) [
+  pub rank-order : (v w x y : ℕ) → v < n → w < n → x < n → y < n → R v w ≡ true → R x y ≡ true → rank R n v w < rank R n x y → pairBefore v w x y ≡ true
+  rank-order v w x y a b c d e f l = by-cases (pairBefore v w x y) (λ h. h) (λ h. elim (before-not v w x y h) [
     | inl t ↦ absurd (omega (arith, rank-rises x y v w d (omega arith) f t))
     | inr (s, t) ↦ absurd (let q : rank R n v w ≡ rank R n x y = rw (s, t) refl in omega arith)
   ])
@@ -99,7 +99,7 @@ module _ (R : ℕ → ℕ → Bool) (n : ℕ) where
     pub first-in : (k : ℕ) → k < m → xs k < n
     pub second-in : (k : ℕ) → k < m → ys k < n
     pub passes : (k : ℕ) → k < m → R (xs k) (ys k) ≡ true
-    pub rises : (k : ℕ) → suc k < m → before (xs k) (ys k) (xs (suc k)) (ys (suc k)) ≡ true
+    pub rises : (k : ℕ) → suc k < m → pairBefore (xs k) (ys k) (xs (suc k)) (ys (suc k)) ≡ true
 
   module _ {m : ℕ} {xs ys : ℕ → ℕ} (climbs : Climbs m xs ys) where
     ranks-rise : (k : ℕ) → suc k < m → rank R n (xs k) (ys k) < rank R n (xs (suc k)) (ys (suc k))

@@ -113,8 +113,8 @@ rowsBelow (suc n) g = rowsBelow n g ++ g n
 -- ---- pairs (v, w) of numbers below n that pass a test R, in rising order of v and then of w
 
 -- (v, w) comes before (x, y)
-unfoldable pub before : ℕ → ℕ → ℕ → ℕ → Bool
-before v w x y = ltb v x || (eqb v x && ltb w y)
+unfoldable pub pairBefore : ℕ → ℕ → ℕ → ℕ → Bool
+pairBefore v w x y = ltb v x || (eqb v x && ltb w y)
 
 module _ (R : ℕ → ℕ → Bool) (n : ℕ) where
   -- how many pairs there are

@@ -14,6 +14,7 @@ use Rattle.log.specs.CallLog.{Call, Reply}
 use Rattle.log.specs.Calls.{step, Answered}
 use Rattle.log.specs.Preview.{PreviewReply, wouldTurn}
 use Rattle.flat.specs.Writing.{Writing, PlanWritten}
+use Rattle.reading.specs.Replies.{ReadingReply, refusalMeant, readingMeant}
 use Rattle.reading.specs.Reading.{AnsweredAs}
 use Rattle.reading.specs.Reading as reading
 use Rattle.reading.specs.declared.replies.Reading.{Reading}
@@ -23,16 +24,16 @@ use Rattle.handset.specs.Press.{PressOutcome, PressAnswer, PressedAs}
 use Rattle.handset.specs.declared.replies.Report.the-variants.{Arrived}
 use Rattle.small_plans.specs.Asked.{PlanGiven}
 use Rattle.small_plans.specs.declared.PlanAnswer.{PlanAnswer}
-use Rattle.board.specs.declared.answers.Answer.{Answer}
+use Rattle.board.specs.declared.answers.CallAnswer.{CallAnswer}
 use Rattle.board.specs.declared.answers.ChangeAnswer.{ChangeAnswer}
 use Rattle.board.specs.declared.answers.ReadAnswer.{ReadAnswer}
-use Rattle.board.specs.Told.{Says, SaysOfChange, SaysOfRead, CallTold, PlanTold, ReadTold, PressTold, SmallPlanTold, answerOf, pressAnswer, reportOf, planAnswerOf, changeAnswer, writeAnswer, refusalAnswer, readAnswer}
+use Rattle.board.specs.Told.{Says, SaysOfChange, SaysOfRead, CallTold, PlanTold, ReadTold, PressTold, SmallPlanTold, answerOf, pressAnswer, reportOf, planAnswerOf, changeAnswer, writeAnswer, readAnswer}
 
-pub call-told : (L : Limits) (t : Tables) (c : Call) (m : Reply) (r : Answer) (t′ : Tables) → Answered (step L) t c m t′ → Says r (answerOf m) → CallTold L t c r t′
+pub call-told : (L : Limits) (t : Tables) (c : Call) (m : Reply) (r : CallAnswer) (t′ : Tables) → Answered (step L) t c m t′ → Says r (answerOf m) → CallTold L t c r t′
 call-told L t c m r t′ a e = record { told = rw (a .replied) at e; left = a .left }
 
 -- what a figure's answer says of the call's own is what it says of the definition
-pub figure-told : {A : Type 0} (told : A → Answer) (m n : A) (r : Answer) → m ≡ n → Says r (told m) → Says r (told n)
+pub figure-told : {A : Type 0} (told : A → CallAnswer) (m n : A) (r : CallAnswer) → m ≡ n → Says r (told m) → Says r (told n)
 figure-told told m n r a e = rw a at e
 
 pub change-told : (m n : PreviewReply) (r : ChangeAnswer) → m ≡ n → SaysOfChange r (changeAnswer m) → SaysOfChange r (changeAnswer n)
@@ -54,20 +55,20 @@ pub reported-some : (n d : ℕ) → n ≢ 0 → Arrived d ≡ reportOf n d
 reported-some zero d h = absurd (h refl)
 reported-some (suc n) d h = refl
 
-pub press-told : (p q : PressAnswer) (m : PressOutcome) (r : Answer) (t′ : Tables) → PressedAs p m t′ → p ≡ q → Says r (pressAnswer m) → PressTold q r t′
+pub press-told : (p q : PressAnswer) (m : PressOutcome) (r : CallAnswer) (t′ : Tables) → PressedAs p m t′ → p ≡ q → Says r (pressAnswer m) → PressTold q r t′
 press-told p q m r t′ a e s = subst (λ (x : PressAnswer). PressTold x r t′) e (record { told = rw (a .replied) at s; left = a .left })
 
-pub small-plan-told : (k : ℕ) (before after : List ℕ) (m : PlanAnswer) (r : Answer) → PlanGiven k before after m → Says r (planAnswerOf m) → SmallPlanTold k before after r
+pub small-plan-told : (k : ℕ) (before after : List ℕ) (m : PlanAnswer) (r : CallAnswer) → PlanGiven k before after m → Says r (planAnswerOf m) → SmallPlanTold k before after r
 small-plan-told k before after m r a e = record { told = rw (a .answer-is) at e; left = a .buffer-is }
 
-pub plan-told : (L : Limits) (t : Tables) (before after : List ℕ) (m : Writing) (r : Answer) → PlanWritten L t before after m → Says r (writeAnswer m) → PlanTold L t before after r
+pub plan-told : (L : Limits) (t : Tables) (before after : List ℕ) (m : Writing) (r : CallAnswer) → PlanWritten L t before after m → Says r (writeAnswer m) → PlanTold L t before after r
 plan-told L t before after m r a e = record { told = rw (a .replied) at e; left = a .left }
 
-pub read-told : (a : reading.Answered) (m : Reading) (r : ReadAnswer) (t : Tables) → AnsweredAs a m t → SaysOfRead r (readAnswer m) → ReadTold a r t
+pub read-told : (a : reading.ReadingAnswer) (m : ReadingReply) (r : ReadAnswer) (t : Tables) → AnsweredAs a m t → SaysOfRead r (readAnswer m) → ReadTold a r t
 read-told a m r t s e = record { told = rw (s .replied) at e; left = s .left }
 
-pub refused-told : (x : Reading) (f : Refusal) (r : ReadAnswer) → x ≡ Refused f → SaysOfRead r (refusalAnswer f) → SaysOfRead r (readAnswer x)
+pub refused-told : (x : Reading) (f : Refusal) (r : ReadAnswer) → x ≡ Refused f → SaysOfRead r (readAnswer (refusalMeant f)) → SaysOfRead r (readAnswer (readingMeant x))
 refused-told x f r e s = rw e s
 
-pub same-told : (x y : Refusal) → x ≡ y → SaysOfRead (refusalAnswer y) (refusalAnswer x)
+pub same-told : (x y : Refusal) → x ≡ y → SaysOfRead (readAnswer (refusalMeant y)) (readAnswer (refusalMeant x))
 same-told x y e = rw e record { number-is = refl; offset-is = refl; drone-is = refl; stop-is = refl; other-drone-is = refl; other-stop-is = refl }

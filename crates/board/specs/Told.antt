@@ -9,26 +9,23 @@ use Rattle.log.specs.CallLog.{Call, Reply, accepted, refused, mustWait}
 use Rattle.log.specs.Calls.{step, CostReply, costs, costRefused, RoundsReply, rounds, roundsRefused}
 use Rattle.log.specs.Preview.{PreviewReply, wouldTurn, wouldRefuse}
 use Rattle.flat.specs.Writing.{Writing, wrote, writeRefused, writes, bufferLeft}
-use Rattle.reading.specs.Reading.{Answered}
-use Rattle.reading.specs.declared.replies.Refusal.{Refusal}
-use Rattle.reading.specs.declared.replies.Refusal.the-variants.{TablesTooSmall, TooLong, Form, Range, Name, SameName, TooManyStops, StartsLate, NotRising, SameLocation, Collision, TooManyDependencies}
-use Rattle.reading.specs.declared.replies.Reading.{Reading}
-use Rattle.reading.specs.declared.replies.Reading.the-variants.{Taken, Refused}
+use Rattle.reading.specs.Replies.{ReadingReply, taken, refusedBy, refusedAt, refusedStop, refusedStops}
+use Rattle.reading.specs.Reading.{ReadingAnswer}
 use Rattle.handset.specs.Press.{PressOutcome, granted, pressRefused, PressAnswer}
 use Rattle.handset.specs.declared.replies.Report.{Report}
 use Rattle.handset.specs.declared.replies.Report.the-variants.{Nothing, Arrived}
 use Rattle.small_plans.specs.Asked.{planAnswer, bufferThen}
 use Rattle.small_plans.specs.declared.PlanAnswer.{PlanAnswer}
 use Rattle.small_plans.specs.declared.PlanAnswer.the-variants.{Length, NoSuchPlan, Short}
-use Rattle.board.specs.declared.answers.Answer.{Answer}
+use Rattle.board.specs.declared.answers.CallAnswer.{CallAnswer}
 use Rattle.board.specs.declared.answers.ChangeAnswer.{ChangeAnswer}
 use Rattle.board.specs.declared.answers.ReadAnswer.{ReadAnswer}
 
-abbrev pub answer : ℕ → ℕ → Answer
+abbrev pub answer : ℕ → ℕ → CallAnswer
 answer n w = record { number = n; detail = w }
 
 -- "Of the others only 23 carries anything"
-abbrev pub answerOf : Reply → Answer
+abbrev pub answerOf : Reply → CallAnswer
 answerOf accepted = answer 0 0
 answerOf (refused n) = answer n 0
 answerOf (mustWait w) = answer 23 w
@@ -38,20 +35,20 @@ abbrev pub changeAnswer : PreviewReply → ChangeAnswer
 changeAnswer (wouldTurn z) = record { number = 0; change = z }
 changeAnswer (wouldRefuse n) = record { number = n; change = pos 0 }
 
-abbrev pub costAnswer : CostReply → Answer
+abbrev pub costAnswer : CostReply → CallAnswer
 costAnswer (costs n) = answer 0 n
 costAnswer (costRefused n) = answer n 0
 
-abbrev pub roundsAnswer : RoundsReply → Answer
+abbrev pub roundsAnswer : RoundsReply → CallAnswer
 roundsAnswer (rounds n) = answer 0 n
 roundsAnswer (roundsRefused n) = answer n 0
 
-abbrev pub writeAnswer : Writing → Answer
+abbrev pub writeAnswer : Writing → CallAnswer
 writeAnswer (wrote n) = answer 0 n
 writeAnswer (writeRefused n) = answer n 0
 
 -- "a 32-bit number in which bit 0 stands for drone 0 and so on"
-abbrev pub pressAnswer : PressOutcome → Answer
+abbrev pub pressAnswer : PressOutcome → CallAnswer
 pressAnswer (granted bits) = answer 0 bits
 pressAnswer (pressRefused n) = answer n 0
 
@@ -61,7 +58,7 @@ reportOf zero d = Nothing
 reportOf (suc n) d = Arrived d
 
 -- "15, no such plan, then 42"
-abbrev pub planAnswerOf : PlanAnswer → Answer
+abbrev pub planAnswerOf : PlanAnswer → CallAnswer
 planAnswerOf (Length n) = answer 0 n
 planAnswerOf NoSuchPlan = answer 15 0
 planAnswerOf Short = answer 42 0
@@ -72,26 +69,16 @@ atOffset n o = record { number = n; offset = o; drone = 0; stop = 0; «other_dro
 abbrev pub atStops : ℕ → ℕ → ℕ → ℕ → ℕ → ReadAnswer
 atStops n d k e l = record { number = n; offset = 0; drone = d; stop = k; «other_drone» = e; «other_stop» = l }
 
-abbrev pub refusalAnswer : Refusal → ReadAnswer
-refusalAnswer TablesTooSmall = atOffset 41 0
-refusalAnswer (TooLong o) = atOffset 1 o
-refusalAnswer (Form o) = atOffset 2 o
-refusalAnswer (Name o) = atOffset 3 o
-refusalAnswer (Range o) = atOffset 4 o
-refusalAnswer (SameName o) = atOffset 5 o
-refusalAnswer (TooManyStops o) = atOffset 6 o
-refusalAnswer (StartsLate s) = atStops 7 (s .drone) (s .stop) 0 0
-refusalAnswer (NotRising s) = atStops 8 (s .drone) (s .stop) 0 0
-refusalAnswer (SameLocation s) = atStops 9 (s .drone) (s .stop) 0 0
-refusalAnswer (Collision s t) = atStops 10 (s .drone) (s .stop) (t .drone) (t .stop)
-refusalAnswer TooManyDependencies = atOffset 11 0
-
-abbrev pub readAnswer : Reading → ReadAnswer
-readAnswer Taken = atOffset 0 0
-readAnswer (Refused r) = refusalAnswer r
+-- "Refusals 1 to 6 carry a byte offset", "a refusal from the plan check says which drone and stop is at fault; 10 gives two of each"
+abbrev pub readAnswer : ReadingReply → ReadAnswer
+readAnswer taken = atOffset 0 0
+readAnswer (refusedBy n) = atOffset n 0
+readAnswer (refusedAt n o) = atOffset n o
+readAnswer (refusedStop n s) = atStops n (s .drone) (s .stop) 0 0
+readAnswer (refusedStops n s t) = atStops n (s .drone) (s .stop) (t .drone) (t .stop)
 
 -- an answer, field by field
-pub record Says (r w : Answer) : Type 0 where
+pub record Says (r w : CallAnswer) : Type 0 where
   pub number-is : r .number ≡ w .number
   pub detail-is : r .detail ≡ w .detail
 
@@ -108,25 +95,25 @@ pub record SaysOfRead (r w : ReadAnswer) : Type 0 where
   pub other-stop-is : r .«other_stop» ≡ w .«other_stop»
 
 -- on the tables t the call c was answered by r, and left the tables t′
-pub record CallTold (L : Limits) (t : Tables) (c : Call) (r : Answer) (t′ : Tables) : Type 0 where
+pub record CallTold (L : Limits) (t : Tables) (c : Call) (r : CallAnswer) (t′ : Tables) : Type 0 where
   pub told : Says r (answerOf (step L t c .reply))
   pub left : t′ ≡ step L t c .tables
 
 -- the writer replied r and left the buffer `after`
-pub record PlanTold (L : Limits) (t : Tables) (before after : List ℕ) (r : Answer) : Type 0 where
+pub record PlanTold (L : Limits) (t : Tables) (before after : List ℕ) (r : CallAnswer) : Type 0 where
   pub told : Says r (writeAnswer (writes L t before))
   pub left : after ≡ bufferLeft L t before
 
-pub record ReadTold (a : Answered) (r : ReadAnswer) (t : Tables) : Type 0 where
+pub record ReadTold (a : ReadingAnswer) (r : ReadAnswer) (t : Tables) : Type 0 where
   pub told : SaysOfRead r (readAnswer (a .reply))
   pub left : t ≡ a .tables
 
 -- a press was answered by r and left the tables t′
-pub record PressTold (p : PressAnswer) (r : Answer) (t′ : Tables) : Type 0 where
+pub record PressTold (p : PressAnswer) (r : CallAnswer) (t′ : Tables) : Type 0 where
   pub told : Says r (pressAnswer (p .reply))
   pub left : t′ ≡ p .tables
 
 -- small plan k was asked for with a buffer, answered by r, and the buffer left as `after`
-pub record SmallPlanTold (k : ℕ) (before after : List ℕ) (r : Answer) : Type 0 where
+pub record SmallPlanTold (k : ℕ) (before after : List ℕ) (r : CallAnswer) : Type 0 where
   pub told : Says r (planAnswerOf (planAnswer k before))
   pub left : after ≡ bufferThen k before

@@ -16,12 +16,13 @@ ghost use mathlib.Core.Path.{_≡_};
 ghost use Rattle.flat.specs.Replies.{grantMeant, arriveMeant};
 ghost use Rattle.flat.specs.TurnReplies.{turnMeant, turnAllMeant, previewMeant, previewAllMeant, costMeant, roundsMeant};
 ghost use Rattle.flat.specs.Writing.{writeMeant};
+ghost use Rattle.reading.specs.Replies.{refusalMeant, readingMeant};
 ghost use Rattle.handset.specs.Press.{pressMeant};
-ghost use Rattle.board.specs.Told.{pressAnswer, reportOf, Says, SaysOfChange, SaysOfRead, answerOf, changeAnswer, costAnswer, roundsAnswer, writeAnswer, refusalAnswer, readAnswer};
+ghost use Rattle.board.specs.Told.{pressAnswer, reportOf, Says, SaysOfChange, SaysOfRead, answerOf, changeAnswer, costAnswer, roundsAnswer, writeAnswer, readAnswer};
 
 // The detail: the dependency of a 23, the cost, the rounds, the length of the text, the granted drones of a press; 0 with every other reply.
 #[repr(C)]
-pub struct Answer {
+pub struct CallAnswer {
     pub number: usize,
     pub detail: usize,
 }
@@ -44,136 +45,136 @@ pub struct ReadAnswer {
     pub other_stop: usize,
 }
 
-pub fn of_grant(reply: GrantReply) -> Answer
+pub fn of_grant(reply: GrantReply) -> CallAnswer
     ensures { λ r. ⌜ Says r (answerOf (grantMeant reply)) ⌝ }
 {
     match reply {
-        GrantReply::Granted => Answer {
+        GrantReply::Granted => CallAnswer {
             number: 0,
             detail: 0,
         },
-        GrantReply::TablesTooSmall => Answer {
+        GrantReply::TablesTooSmall => CallAnswer {
             number: 41,
             detail: 0,
         },
-        GrantReply::NotSound => Answer {
+        GrantReply::NotSound => CallAnswer {
             number: 40,
             detail: 0,
         },
-        GrantReply::NoDrone => Answer {
+        GrantReply::NoDrone => CallAnswer {
             number: 20,
             detail: 0,
         },
-        GrantReply::Finished => Answer {
+        GrantReply::Finished => CallAnswer {
             number: 21,
             detail: 0,
         },
-        GrantReply::UnderWay => Answer {
+        GrantReply::UnderWay => CallAnswer {
             number: 22,
             detail: 0,
         },
-        GrantReply::MustWait(dependency) => Answer {
+        GrantReply::MustWait(dependency) => CallAnswer {
             number: 23,
             detail: dependency,
         },
     }
 }
 
-pub fn of_arrive(reply: ArriveReply) -> Answer
+pub fn of_arrive(reply: ArriveReply) -> CallAnswer
     ensures { λ r. ⌜ Says r (answerOf (arriveMeant reply)) ⌝ }
 {
     match reply {
-        ArriveReply::Arrived => Answer {
+        ArriveReply::Arrived => CallAnswer {
             number: 0,
             detail: 0,
         },
-        ArriveReply::TablesTooSmall => Answer {
+        ArriveReply::TablesTooSmall => CallAnswer {
             number: 41,
             detail: 0,
         },
-        ArriveReply::NotSound => Answer {
+        ArriveReply::NotSound => CallAnswer {
             number: 40,
             detail: 0,
         },
-        ArriveReply::NoDrone => Answer {
+        ArriveReply::NoDrone => CallAnswer {
             number: 20,
             detail: 0,
         },
-        ArriveReply::NotUnderWay => Answer {
+        ArriveReply::NotUnderWay => CallAnswer {
             number: 24,
             detail: 0,
         },
     }
 }
 
-pub fn of_turn(reply: TurnReply) -> Answer
+pub fn of_turn(reply: TurnReply) -> CallAnswer
     ensures { λ r. ⌜ Says r (answerOf (turnMeant reply)) ⌝ }
 {
     match reply {
-        TurnReply::Turned => Answer {
+        TurnReply::Turned => CallAnswer {
             number: 0,
             detail: 0,
         },
-        TurnReply::TablesTooSmall => Answer {
+        TurnReply::TablesTooSmall => CallAnswer {
             number: 41,
             detail: 0,
         },
-        TurnReply::NotSound => Answer {
+        TurnReply::NotSound => CallAnswer {
             number: 40,
             detail: 0,
         },
-        TurnReply::NoDependency => Answer {
+        TurnReply::NoDependency => CallAnswer {
             number: 30,
             detail: 0,
         },
-        TurnReply::Fixed => Answer {
+        TurnReply::Fixed => CallAnswer {
             number: 31,
             detail: 0,
         },
-        TurnReply::FirstEntered => Answer {
+        TurnReply::FirstEntered => CallAnswer {
             number: 32,
             detail: 0,
         },
-        TurnReply::Cycle => Answer {
+        TurnReply::Cycle => CallAnswer {
             number: 34,
             detail: 0,
         },
     }
 }
 
-pub fn of_turn_all(reply: TurnAllReply) -> Answer
+pub fn of_turn_all(reply: TurnAllReply) -> CallAnswer
     ensures { λ r. ⌜ Says r (answerOf (turnAllMeant reply)) ⌝ }
 {
     match reply {
-        TurnAllReply::Turned => Answer {
+        TurnAllReply::Turned => CallAnswer {
             number: 0,
             detail: 0,
         },
-        TurnAllReply::TablesTooSmall => Answer {
+        TurnAllReply::TablesTooSmall => CallAnswer {
             number: 41,
             detail: 0,
         },
-        TurnAllReply::NotSound => Answer {
+        TurnAllReply::NotSound => CallAnswer {
             number: 40,
             detail: 0,
         },
-        TurnAllReply::NotRising => Answer {
+        TurnAllReply::NotRising => CallAnswer {
             number: 36,
             detail: 0,
         },
-        TurnAllReply::NoDependency => Answer {
+        TurnAllReply::NoDependency => CallAnswer {
             number: 30,
             detail: 0,
         },
-        TurnAllReply::Fixed => Answer {
+        TurnAllReply::Fixed => CallAnswer {
             number: 31,
             detail: 0,
         },
-        TurnAllReply::FirstEntered => Answer {
+        TurnAllReply::FirstEntered => CallAnswer {
             number: 32,
             detail: 0,
         },
-        TurnAllReply::Cycle => Answer {
+        TurnAllReply::Cycle => CallAnswer {
             number: 34,
             detail: 0,
         },
@@ -254,61 +255,61 @@ pub fn of_preview_all(reply: PreviewAllReply) -> ChangeAnswer
     }
 }
 
-pub fn of_cost(reply: CostAnswer) -> Answer
+pub fn of_cost(reply: CostAnswer) -> CallAnswer
     ensures { λ r. ⌜ Says r (costAnswer (costMeant reply)) ⌝ }
 {
     match reply {
-        CostAnswer::TablesTooSmall => Answer {
+        CostAnswer::TablesTooSmall => CallAnswer {
             number: 41,
             detail: 0,
         },
-        CostAnswer::NotSound => Answer {
+        CostAnswer::NotSound => CallAnswer {
             number: 40,
             detail: 0,
         },
-        CostAnswer::Cost(cost) => Answer {
+        CostAnswer::Cost(cost) => CallAnswer {
             number: 0,
             detail: cost,
         },
     }
 }
 
-pub fn of_rounds(reply: RoundsAnswer) -> Answer
+pub fn of_rounds(reply: RoundsAnswer) -> CallAnswer
     ensures { λ r. ⌜ Says r (roundsAnswer (roundsMeant reply)) ⌝ }
 {
     match reply {
-        RoundsAnswer::TablesTooSmall => Answer {
+        RoundsAnswer::TablesTooSmall => CallAnswer {
             number: 41,
             detail: 0,
         },
-        RoundsAnswer::NotSound => Answer {
+        RoundsAnswer::NotSound => CallAnswer {
             number: 40,
             detail: 0,
         },
-        RoundsAnswer::Rounds(rounds) => Answer {
+        RoundsAnswer::Rounds(rounds) => CallAnswer {
             number: 0,
             detail: rounds,
         },
     }
 }
 
-pub fn of_write(reply: WriteReply) -> Answer
+pub fn of_write(reply: WriteReply) -> CallAnswer
     ensures { λ r. ⌜ Says r (writeAnswer (writeMeant reply)) ⌝ }
 {
     match reply {
-        WriteReply::TablesTooSmall => Answer {
+        WriteReply::TablesTooSmall => CallAnswer {
             number: 41,
             detail: 0,
         },
-        WriteReply::NotSound => Answer {
+        WriteReply::NotSound => CallAnswer {
             number: 40,
             detail: 0,
         },
-        WriteReply::BufferTooShort => Answer {
+        WriteReply::BufferTooShort => CallAnswer {
             number: 42,
             detail: 0,
         },
-        WriteReply::Written(length) => Answer {
+        WriteReply::Written(length) => CallAnswer {
             number: 0,
             detail: length,
         },
@@ -325,27 +326,27 @@ pub fn report_of(reported: usize, drone: usize) -> Report
     Report::Arrived(drone)
 }
 
-pub fn of_press(reply: PressReply) -> Answer
+pub fn of_press(reply: PressReply) -> CallAnswer
     ensures { λ r. ⌜ Says r (pressAnswer (pressMeant reply)) ⌝ }
 {
     match reply {
-        PressReply::Granted(bits) => Answer {
+        PressReply::Granted(bits) => CallAnswer {
             number: 0,
             detail: bits as usize,
         },
-        PressReply::TablesTooSmall => Answer {
+        PressReply::TablesTooSmall => CallAnswer {
             number: 41,
             detail: 0,
         },
-        PressReply::NotSound => Answer {
+        PressReply::NotSound => CallAnswer {
             number: 40,
             detail: 0,
         },
-        PressReply::NoDrone => Answer {
+        PressReply::NoDrone => CallAnswer {
             number: 20,
             detail: 0,
         },
-        PressReply::NotUnderWay => Answer {
+        PressReply::NotUnderWay => CallAnswer {
             number: 24,
             detail: 0,
         },
@@ -353,7 +354,7 @@ pub fn of_press(reply: PressReply) -> Answer
 }
 
 fn of_refusal(refusal: Refusal) -> ReadAnswer
-    ensures { λ r. ⌜ SaysOfRead r (refusalAnswer refusal) ⌝ }
+    ensures { λ r. ⌜ SaysOfRead r (readAnswer (refusalMeant refusal)) ⌝ }
 {
     match refusal {
         Refusal::TablesTooSmall => ReadAnswer {
@@ -456,7 +457,7 @@ fn of_refusal(refusal: Refusal) -> ReadAnswer
 }
 
 pub fn of_reading(reading: Reading) -> ReadAnswer
-    ensures { λ r. ⌜ SaysOfRead r (readAnswer reading) ⌝ }
+    ensures { λ r. ⌜ SaysOfRead r (readAnswer (readingMeant reading)) ⌝ }
 {
     match reading {
         Reading::Taken => ReadAnswer {

@@ -1,6 +1,6 @@
 // The public calls for C, Rust and Python to link. The dependencies are records: the derivations are carried (docs/DERIVATIONS.md).
 use crate::answers;
-use crate::answers::Answer;
+use crate::answers::CallAnswer;
 use crate::answers::ChangeAnswer;
 use crate::answers::ReadAnswer;
 use conductor::calls;
@@ -30,7 +30,7 @@ pub extern "C" fn board_grant(
     drone_flags: &mut [u8],
     dependencies: &[Dependency],
     drone: usize,
-) -> Answer
+) -> CallAnswer
     ensures { λ r. ⌜ CallTold limits (tablesOfRecords limits
         (now («drone_count» .entry)) (now («dependency_count» .entry)) (now (names .entry)) (now («stop_counts» .entry))
         (now (locations .entry)) (now (times .entry)) (now (visited .entry)) (now («drone_flags» .entry))
@@ -67,7 +67,7 @@ pub extern "C" fn board_arrive(
     drone_flags: &mut [u8],
     dependencies: &[Dependency],
     drone: usize,
-) -> Answer
+) -> CallAnswer
     ensures { λ r. ⌜ CallTold limits (tablesOfRecords limits
         (now («drone_count» .entry)) (now («dependency_count» .entry)) (now (names .entry)) (now («stop_counts» .entry))
         (now (locations .entry)) (now (times .entry)) (now (visited .entry)) (now («drone_flags» .entry))
@@ -104,7 +104,7 @@ pub extern "C" fn board_turn(
     drone_flags: &[u8],
     dependencies: &mut [Dependency],
     dependency: usize,
-) -> Answer
+) -> CallAnswer
     ensures { λ r. ⌜ CallTold limits (tablesOfRecords limits
         (now («drone_count» .entry)) (now («dependency_count» .entry)) (now (names .entry)) (now («stop_counts» .entry))
         (now (locations .entry)) (now (times .entry)) (now (visited .entry)) (now («drone_flags» .entry))
@@ -142,7 +142,7 @@ pub extern "C" fn board_turn_all(
     drone_flags: &[u8],
     dependencies: &mut [Dependency],
     list: &[u16],
-) -> Answer
+) -> CallAnswer
     ensures { λ r. ⌜ CallTold limits (tablesOfRecords limits
         (now («drone_count» .entry)) (now («dependency_count» .entry)) (now (names .entry)) (now («stop_counts» .entry))
         (now (locations .entry)) (now (times .entry)) (now (visited .entry)) (now («drone_flags» .entry))
@@ -247,7 +247,7 @@ pub extern "C" fn board_cost(
     visited: &[u16],
     drone_flags: &[u8],
     dependencies: &[Dependency],
-) -> Answer
+) -> CallAnswer
     ensures { λ r. ⌜ Says r (costAnswer (costReply limits (tablesOfRecords limits
         (now («drone_count» .entry)) (now («dependency_count» .entry)) (now (names .entry)) (now («stop_counts» .entry))
         (now (locations .entry)) (now (times .entry)) (now (visited .entry)) (now («drone_flags» .entry))
@@ -279,7 +279,7 @@ pub extern "C" fn board_rounds(
     visited: &[u16],
     drone_flags: &[u8],
     dependencies: &[Dependency],
-) -> Answer
+) -> CallAnswer
     ensures { λ r. ⌜ Says r (roundsAnswer (roundsReply limits (tablesOfRecords limits
         (now («drone_count» .entry)) (now («dependency_count» .entry)) (now (names .entry)) (now («stop_counts» .entry))
         (now (locations .entry)) (now (times .entry)) (now (visited .entry)) (now («drone_flags» .entry))
@@ -313,7 +313,7 @@ pub extern "C" fn board_press(
     dependencies: &[Dependency],
     reported: usize,
     drone: usize,
-) -> Answer
+) -> CallAnswer
     ensures { λ r. ⌜ PressTold (pressStep limits (tablesOfRecords limits
         (now («drone_count» .entry)) (now («dependency_count» .entry)) (now (names .entry)) (now («stop_counts» .entry))
         (now (locations .entry)) (now (times .entry)) (now (visited .entry)) (now («drone_flags» .entry))
@@ -351,7 +351,7 @@ pub extern "C" fn board_write(
     visited: &[u16],
     drone_flags: &[u8],
     dependencies: &[Dependency],
-) -> Answer
+) -> CallAnswer
     ensures { λ r. ⌜ PlanTold limits (tablesOfRecords limits
         (now («drone_count» .entry)) (now («dependency_count» .entry)) (now (names .entry)) (now («stop_counts» .entry))
         (now (locations .entry)) (now (times .entry)) (now (visited .entry)) (now («drone_flags» .entry))

@@ -1,22 +1,22 @@
 // A small plan for the bench, for C, Rust and Python to ask for by its number.
-use crate::answers::Answer;
+use crate::answers::CallAnswer;
 use small_plans::PlanAnswer;
 use small_plans::small_plan;
 ghost use Rattle.board.specs.Told.{Says, SmallPlanTold, planAnswerOf};
 
-fn of_plan(reply: PlanAnswer) -> Answer
+fn of_plan(reply: PlanAnswer) -> CallAnswer
     ensures { λ r. ⌜ Says r (planAnswerOf reply) ⌝ }
 {
     match reply {
-        PlanAnswer::Length(length) => Answer {
+        PlanAnswer::Length(length) => CallAnswer {
             number: 0,
             detail: length,
         },
-        PlanAnswer::NoSuchPlan => Answer {
+        PlanAnswer::NoSuchPlan => CallAnswer {
             number: 15,
             detail: 0,
         },
-        PlanAnswer::Short => Answer {
+        PlanAnswer::Short => CallAnswer {
             number: 42,
             detail: 0,
         },
@@ -25,7 +25,7 @@ fn of_plan(reply: PlanAnswer) -> Answer
 
 // The plan is written as text, its length is the detail at number 0.
 #[no_mangle]
-pub extern "C" fn board_small_plan(number: usize, buf: &mut [u8]) -> Answer
+pub extern "C" fn board_small_plan(number: usize, buf: &mut [u8]) -> CallAnswer
     ensures { λ r. ⌜ SmallPlanTold number (now (buf .entry)) (now (buf .exit)) r ⌝ }
 {
     let reply = small_plan(number, buf);

@@ -14,20 +14,17 @@ use Rattle.tables.specs.Tables.{Tables, tablesOf, fullSize}
 use Rattle.tables.specs.Zero.{zeroed, zeroedTables}
 use Rattle.tables.specs.declared.entries.Dependency.{Dependency}
 use Rattle.tables.proofs.Zero.{zeroed-same}
-use Rattle.text.specs.Reading.{Found, linesAt}
-use Rattle.text.specs.declared.reader.Answer.{Answer}
-use Rattle.text.specs.declared.reader.Answer.the-variants as text
-use Rattle.lines.specs.declared.refusal.Refusal.{Refusal as TextRefusal}
+use Rattle.text.specs.LinesRead.{LinesRead, linesAt}
+use Rattle.text.specs.declared.reader.LinesAnswer.{LinesAnswer}
+use Rattle.text.specs.declared.reader.LinesAnswer.the-variants as text
+use Rattle.lines.specs.declared.refusal.Refusal.{Refusal as LineRefusal}
 use Rattle.lines.specs.declared.refusal.Refusal.the-variants as line
 use Rattle.plan.specs.declared.check.PlanCheck.{PlanCheck}
 use Rattle.plan.specs.declared.check.PlanCheck.the-variants as check
 use Rattle.plan.specs.Answers.{checkOf}
 use Rattle.plan.specs.Claims.{stopTotal, ownerIn, numberIn, locationIn, timeIn}
-use Rattle.reading.specs.Replies.{readingNumber, refusalNumber, ofText, ofCheck}
-use Rattle.reading.specs.Reading.{Answered, AnsweredAs, answered, total, withText, withDependencies, checked, fromLines, readLines, readPlan}
-use Rattle.reading.specs.declared.replies.Refusal.the-variants.{TablesTooSmall, TooManyDependencies}
-use Rattle.reading.specs.declared.replies.Reading.{Reading}
-use Rattle.reading.specs.declared.replies.Reading.the-variants.{Taken, Refused}
+use Rattle.reading.specs.Replies.{ReadingReply, taken, refusedBy, readingNumber, lineMeant, checkMeant}
+use Rattle.reading.specs.Reading.{ReadingAnswer, AnsweredAs, withReply, total, withText, withDependencies, checked, fromLines, readLines, readPlan}
 use Rattle.reading.proofs.EntryCases.{tables-small}
 use Rattle.records.specs.Records.{ColumnSizes, ColumnsOf, gathered, storeIf, zeroRecords, seen, tablesOfRecords}
 use Rattle.records.proofs.ColumnLaws.{zero-length, column-sizes}
@@ -36,32 +33,31 @@ use Rattle.conductor.specs.Changes.{isWritten}
 
 -- ---- no line and no plan check answers 41
 
-abbrev is-41 : Answered → Bool
+abbrev is-41 : ReadingAnswer → Bool
 is-41 a = eqb (readingNumber (a .reply)) 41
 
-text-not-41 : (r : TextRefusal) → eqb (refusalNumber (ofText r)) 41 ≡ false
-text-not-41 (line.Long o) = refl
-text-not-41 (line.Form o) = refl
-text-not-41 (line.Name o) = refl
-text-not-41 (line.Range o) = refl
-text-not-41 (line.Same o) = refl
-text-not-41 (line.Total o) = refl
+line-not-41 : (r : LineRefusal) → eqb (readingNumber (lineMeant r)) 41 ≡ false
+line-not-41 (line.Form o) = refl
+line-not-41 (line.Name o) = refl
+line-not-41 (line.Range o) = refl
+line-not-41 (line.SameName o) = refl
+line-not-41 (line.TooManyStops o) = refl
 
 module _ (L : Limits) where
-  built-not-41 : (z t : Tables) (b : Bool) → is-41 (cond b (answered Taken (withDependencies t)) (answered (Refused TooManyDependencies) z)) ≡ false
+  built-not-41 : (z t : Tables) (b : Bool) → is-41 (cond b (withReply taken (withDependencies t)) (withReply (refusedBy 11) z)) ≡ false
   built-not-41 z t true = refl
   built-not-41 z t false = refl
 
-  check-not-41 : (z t : Tables) (k : PlanCheck) → is-41 (checked L z t (ofCheck k)) ≡ false
+  check-not-41 : (z t : Tables) (k : PlanCheck) → is-41 (checked L z t (checkMeant k)) ≡ false
   check-not-41 z t check.Fine = built-not-41 z t (leb (total (t .plan)) (L .dependencies))
   check-not-41 z t (check.StartsLate s) = refl
   check-not-41 z t (check.NotRising s) = refl
   check-not-41 z t (check.SameLocation s) = refl
   check-not-41 z t (check.Collision s o) = refl
 
-  lines-not-41 : (z : Tables) (f : Found Answer) (a : Answer) → is-41 (fromLines L z f a) ≡ false
-  lines-not-41 z f (text.Refused r) = text-not-41 r
-  lines-not-41 z f (text.Taken n) =
+  lines-not-41 : (z : Tables) (f : LinesRead LinesAnswer) (a : LinesAnswer) → is-41 (fromLines L z f a) ≡ false
+  lines-not-41 z f (text.Refused r) = line-not-41 r
+  lines-not-41 z f (text.WellFormed n) =
       let p = withText f n z .plan in
       check-not-41 z (withText f n z) (checkOf (ownerIn p) (numberIn p) (locationIn p) (timeIn p) (stopTotal p))
 
@@ -110,7 +106,7 @@ module _ (L : Limits) where
         let not-41 : is-41 (readPlan L bytes t₀) ≡ false = ap is-41 (whole f l) ∙ read-not-41 bytes (zeroedTables L t₀) in
         record {
           answer = λ w. whole-same f l;
-          reply = ap (λ (a : Answered). a .reply) (whole-same f l);
+          reply = ap (λ (a : ReadingAnswer). a .reply) (whole-same f l);
           kept = λ w. true-or-false (rw (l, not-41) refl) w;
         }
 
@@ -130,7 +126,7 @@ module _ (L : Limits) where
     abbrev Lent : Tables
     Lent = tablesOfRecords L droneCount dependencyCount names stopCounts locations times visited droneFlags ds
 
-    pub read-short : length ds < L .dependencies → AnsweredAs (readPlan L bytes Lent) (Refused TablesTooSmall) Lent
+    pub read-short : length ds < L .dependencies → AnsweredAs (readPlan L bytes Lent) (refusedBy 41) Lent
     read-short l = tables-small L bytes Lent (tables-short L Lent ds refl l)
 
     module _ (firstDrones firstStops secondDrones secondStops flags : List ℕ) (l : L .dependencies ≤ length ds) (z : ColumnsOf (zeroRecords L) firstDrones firstStops secondDrones secondStops flags) where
@@ -155,7 +151,7 @@ module _ (L : Limits) where
       abbrev withRecords : Tables → Tables
       withRecords u = tablesOfRecords L (u .plan .droneCount) (u .plan .dependencyCount) (u .plan .names) (u .plan .stopCounts) (u .plan .locations) (u .plan .times) (u .visited) (u .droneFlags) ds
 
-      module _ (r : Reading) (droneCount′ dependencyCount′ names′ stopCounts′ locations′ times′ visited′ droneFlags′ firstDrones′ firstStops′ secondDrones′ secondStops′ flags′ : List ℕ) (after : List Dependency) where
+      module _ (r : ReadingReply) (droneCount′ dependencyCount′ names′ stopCounts′ locations′ times′ visited′ droneFlags′ firstDrones′ firstStops′ secondDrones′ secondStops′ flags′ : List ℕ) (after : List Dependency) where
         abbrev Left : Tables
         Left = tablesOf droneCount′ dependencyCount′ names′ stopCounts′ locations′ times′ visited′ droneFlags′ firstDrones′ firstStops′ secondDrones′ secondStops′ flags′
 
@@ -165,7 +161,7 @@ module _ (L : Limits) where
         -- by whether it writes
         left-is : (b : Bool) → ColumnSizes L firstDrones′ firstStops′ secondDrones′ secondStops′ flags′ → AnsweredAs (readPlan L bytes Zeroed) r Left → b ≡ isWritten L (length bytes) (readPlan L bytes Zeroed .reply) → after ≡ storeIf L b (gathered L firstDrones′ firstStops′ secondDrones′ secondStops′ flags′) ds → After ≡ readPlan L bytes Lent .tables
         unfolding storeIf
-        left-is true s a w is = sym (tables-stored L ds after s l is) ∙ a .left ∙ ap (λ (x : Answered). x .tables) (both .answer (sym w))
+        left-is true s a w is = sym (tables-stored L ds after s l is) ∙ a .left ∙ ap (λ (x : ReadingAnswer). x .tables) (both .answer (sym w))
         left-is false s a w is =
             let kept = both .kept (sym w) in
             ap (λ (x : List Dependency). tablesOfRecords L droneCount′ dependencyCount′ names′ stopCounts′ locations′ times′ visited′ droneFlags′ x) is ∙ ap withRecords (a .left ∙ kept .0) ∙ sym (kept .1)

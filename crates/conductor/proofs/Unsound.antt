@@ -15,7 +15,8 @@ use Rattle.tables.specs.Limits.{Limits}
 use Rattle.tables.specs.Tables.{Tables, drones, dependencies}
 use Rattle.tables.specs.Entries.{zeroDependency}
 use Rattle.tables.specs.declared.entries.Dependency.{Dependency}
-use Rattle.sound.specs.Sound.{zeroFrom, stopTotal, planUnused, progressUnused, sound}
+use Rattle.plan.specs.Claims.{stopTotal}
+use Rattle.sound.specs.Sound.{zeroFrom, planUnused, progressUnused, sound}
 use Rattle.sound.proofs.Clauses.{Sound, sound-says}
 use Rattle.records.specs.Records.{recordAt, ColumnsOf, fieldSum, unusedZero, seen}
 use Rattle.records.proofs.ColumnLaws.{column-entry}
@@ -46,8 +47,8 @@ module _ (L : Limits) where
       let m = dependencies p in
       let h₁ = and-right (zeroFrom (drones p * L .name) (L .drones * L .name) (p .names)) _ (s .plan-unused) in
       let h₂ = and-right (zeroFrom (drones p) (L .drones) (p .stopCounts)) _ h₁ in
-      let h₃ = and-right (zeroFrom (stopTotal L p) (L .stops) (p .locations)) _ h₂ in
-      let h₄ = and-right (zeroFrom (stopTotal L p) (L .stops) (p .times)) _ h₃ in
+      let h₃ = and-right (zeroFrom (stopTotal p) (L .stops) (p .locations)) _ h₂ in
+      let h₄ = and-right (zeroFrom (stopTotal p) (L .stops) (p .times)) _ h₃ in
       let h₅ = and-right (zeroFrom m (L .dependencies) (p .firstDrones)) _ h₄ in
       let h₆ = and-right (zeroFrom m (L .dependencies) (p .firstStops)) _ h₅ in
       let k₁ = and-right (zeroFrom (drones p) (L .drones) (t .visited)) _ (s .progress-unused) in

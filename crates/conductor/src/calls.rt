@@ -29,6 +29,7 @@ ghost use Rattle.tables.specs.Limits.{limits};
 ghost use Rattle.log.specs.CallLog.{grant as grantOf, arrive as arriveOf, turn as turnOf, turnAll as turnAllOf, isAccepted};
 ghost use Rattle.log.specs.Calls.{step, Answered, costReply, roundsReply};
 ghost use Rattle.log.specs.Preview.{preview as previewOf, previewAll as previewAllOf};
+ghost use Rattle.reading.specs.Replies.{readingMeant};
 ghost use Rattle.reading.specs.Reading.{AnsweredAs, readPlan};
 ghost use Rattle.flat.specs.Replies.{grantMeant, arriveMeant};
 ghost use Rattle.flat.specs.TurnReplies.{turnMeant, turnAllMeant, previewMeant, previewAllMeant, costMeant, roundsMeant};
@@ -630,7 +631,7 @@ pub fn read_plan(
         (now («drone_count» .entry)) (now («dependency_count» .entry)) (now (names .entry)) (now («stop_counts» .entry))
         (now (locations .entry)) (now (times .entry)) (now (visited .entry)) (now («drone_flags» .entry))
         (now (dependencies .entry))))
-        r (tablesOfRecords limits
+        (readingMeant r) (tablesOfRecords limits
         (now («drone_count» .exit)) (now («dependency_count» .exit)) (now (names .exit)) (now («stop_counts» .exit))
         (now (locations .exit)) (now (times .exit)) (now (visited .exit)) (now («drone_flags» .exit))
         (now (dependencies .exit)))

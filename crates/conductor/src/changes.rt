@@ -8,6 +8,7 @@ ghost use mathlib.Core.Path.{_≡_};
 ghost use Rattle.tables.specs.Limits.{limits};
 ghost use Rattle.log.specs.CallLog.{isAccepted};
 ghost use Rattle.flat.specs.TurnReplies.{turnMeant, turnAllMeant};
+ghost use Rattle.reading.specs.Replies.{readingMeant};
 ghost use Rattle.conductor.specs.Changes.{isWritten};
 
 pub fn is_turned(reply: TurnReply) -> bool
@@ -41,7 +42,7 @@ pub fn are_turned(reply: TurnAllReply) -> bool
 
 // A reading refused by 41 or 1 writes nothing.
 pub fn is_written(reading: Reading, length: usize) -> bool
-    ensures { λ r. ⌜ r ≡ isWritten limits length reading ⌝ }
+    ensures { λ r. ⌜ r ≡ isWritten limits length (readingMeant reading) ⌝ }
 {
     if Text::FULL < length {
         return false;

@@ -15,7 +15,7 @@ use Rattle.below.proofs.Count.{count-start, count-yes, count-no, count-le}
 use Rattle.tables.specs.Limits.{limits}
 use Rattle.cycles.specs.Flat.{FlatTables}
 use Rattle.cycles.specs.Walk.{metAt, unmet, canMove, Stacked, Ends}
-use Rattle.cycles.proofs.StackLaws.{stacked-none, stacked-same, stacked-push, stacked-room}
+use Rattle.cycles.proofs.StackLaws.{stacked-none, stacked-same, stacked-push}
 
 pub flat-ends : (owners starts lasts : List ℕ) (drones n : ℕ) (from into : List ℕ) (m : ℕ) → FlatTables owners starts lasts drones n from into m → (k : ℕ) → k < m → Ends owners (at from k) (at into k)
 flat-ends owners starts lasts drones n from into m F k l =
@@ -84,9 +84,6 @@ module _ (drones : ℕ) (few : drones ≤ limits .drones) (can : ℕ → Bool) w
 
     pub below-skip : can e ≡ false → Stacked drones (below (e + 1)) stack top
     below-skip e0 = stacked-same drones _ _ (λ d k. by-cases (eqb d e) (λ s. rw (eqb-true d e s) (now-off ∙ sym (here ∙ e0))) (λ s. same d (eqb-false d e s))) S
-
-    pub below-room : top < drones
-    below-room = stacked-room drones S e l now-off
 
     pub below-push : can e ≡ true → Stacked drones (below (e + 1)) (set stack top e) (top + 1)
     below-push e1 = stacked-push drones S _ e few l now-off (here ∙ e1) (λ d k ne. same d ne)

@@ -18,7 +18,7 @@ use Rattle.tables.specs.Limits.{limits}
 use Rattle.cycles.specs.Walk.{Stacked}
 use Rattle.below.proofs.Same.{count-ext}
 
-pick-le : (b : Bool) → pick b 1 0 ≤ 1
+pub pick-le : (b : Bool) → pick b 1 0 ≤ 1
 pick-le true = omega arith
 pick-le false = omega arith
 

@@ -11,7 +11,7 @@ use Rattle.tables.specs.Limits.{limits}
 use Rattle.tables.specs.Flags.{turnedBit}
 use Rattle.precedence.specs.Graph.{cyclic}
 use Rattle.plan.specs.Dependencies.{right}
-use Rattle.meetings.specs.Asked.{Stops, Table}
+use Rattle.meetings.specs.Asked.{Stops, PairTable}
 use Rattle.cycles.specs.Flat.{flatPlan, Shape}
 
 -- nobody enters stop `intoOf` before stop `fromOf` is visited. Turned, the first stop waits for the departure from the second
@@ -33,7 +33,7 @@ pub record Edges (firsts seconds flags : List ℕ) (k : ℕ) (from into : List �
   pub into-is : (j : ℕ) → j < k → at into j ≡ intoOf (at firsts) (at seconds) (turnedIn flags) j
 
 module _ (own off last loc time : ℕ → ℕ) (drones n m : ℕ) (xs ys : ℕ → ℕ) (turned : ℕ → Bool) where
-  -- a turned dependency is not fixed: its first stop is no stop 0, its second not the last of its drone
+  -- of a turned dependency, which is not fixed, the waits need this much: its first stop is no stop 0, and its second is not the last of all n stops
   abbrev pub Unfixed : Type 0
   Unfixed = (k : ℕ) → k < m → turned k ≡ true → (xs k ≢ off (own (xs k))) × (ys k + 1 < n)
 
@@ -44,7 +44,7 @@ module _ (own off last loc time : ℕ → ℕ) (drones n m : ℕ) (xs ys : ℕ �
 -- what the two checks ask of the tables, all of it known from the tests of single stops and of flag bytes
 pub record Given (owners locations times starts lasts firsts seconds flags : List ℕ) (drones n m : ℕ) : Type 0 where
   pub stops : Stops n owners locations times
-  pub table : Table m firsts seconds
+  pub table : PairTable m firsts seconds
   pub shape : Shape (at owners) (at starts) (at lasts) drones n
   pub zero-time : (v : ℕ) → v < n → v ≡ at starts (at owners v) → at times v ≡ 0
   pub unfixed : Unfixed (at owners) (at starts) (at lasts) (at locations) (at times) drones n m (at firsts) (at seconds) (turnedIn flags)

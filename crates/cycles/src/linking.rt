@@ -1,5 +1,5 @@
 // Waits linked through arrays by one of their two stops.
-use crate::casts::wide;
+use tables::casts::wide;
 use tables::entries::Dependency;
 use tables::entries::Stop;
 ghost use mathlib.Core.Path.{_≡_};

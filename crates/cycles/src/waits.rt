@@ -20,12 +20,6 @@ fn pick16(b: bool, x: u16, y: u16) -> u16
     if b { x } else { y }
 }
 
-fn one(b: bool) -> u16
-    ensures { λ r. ⌜ (r ≡ pick b 1 0) × (r ≤ 1) ⌝ }
-{
-    if b { 1 } else { 0 }
-}
-
 // How many of the first m dependencies are turned. The loop has no early end, so that many bytes are taken at a time.
 pub fn turned_total(flags: &[u8], m: usize) -> u16
     requires { ⌜ (m ≤ length (now flags)) × (m ≤ limits .dependencies) ⌝ }
@@ -34,7 +28,7 @@ pub fn turned_total(flags: &[u8], m: usize) -> u16
     let mut total: u16 = 0;
     let mut k = 0;
     while k < m {
-        total += one(turned_at(flags, k));
+        total += pick16(turned_at(flags, k), 1, 0);
         k += 1;
     }
     total

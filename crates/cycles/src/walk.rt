@@ -1,8 +1,8 @@
 // A walk of the plan graph (Kahn's algorithm): a stack holds the drones that can move. One of them moves on to its next stop, and the waits for that stop are met; a drone whose next
 // stop then waits for nothing more goes on the stack. The walk ends when nobody can move. It takes time linear in stops and waits.
-use crate::casts::wide;
-use crate::casts::wide8;
 use crate::linking;
+use tables::casts::wide;
+use tables::casts::wide8;
 use tables::entries::Dependency;
 use tables::entries::Drone;
 use tables::entries::Stop;

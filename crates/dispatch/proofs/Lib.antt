@@ -1,5 +1,7 @@
 pub mod Derived
 pub mod MakeLaws
 pub mod ListLaws
+pub mod TextLaws
 pub mod ProgramLaws
 pub mod RunLaws
+pub mod StarredFlights

@@ -4,29 +4,27 @@ use native.Mathlib.Nat.{zero-add}
 use native.Mathlib.Numerals.{add-one}
 use native.Mathlib.Omega.{arith}
 use mathlib.Core.Path.{_≡_, refl, sym, ap, ap₂, _∙_}
-use mathlib.Core.Bool.{Bool, true, false, not, cond}
+use mathlib.Core.Bool.{Bool, true, false, cond}
 use mathlib.Core.List.{List, [], _∷_, _++_}
-use lib.Dec.{leb, ltb}
 use lib.ListN.{length, set}
 use lib.Seq.{sets}
 use Rattle.below.specs.Below.{at, listBelow}
 use Rattle.below.proofs.Index.{length-listBelow}
 use Rattle.tables.specs.Limits.{Limits}
-use Rattle.tables.specs.Tables.{PlanLists, Tables, fullSize}
-use Rattle.precedence.specs.Graph.{cyclic}
-use Rattle.plan.specs.Field.{FieldPlan, flipAll, graph, fixed, planOf}
-use Rattle.plan.specs.Status.{Status, statusIn, entered, unmet, now}
+use Rattle.tables.specs.Tables.{Tables, fullSize}
+use Rattle.plan.specs.Field.{planOf}
+use Rattle.plan.specs.Status.{statusIn}
 use Rattle.sound.specs.Sound.{sound}
 use Rattle.lines.proofs.WriteLaws.{sets-append}
-use Rattle.log.specs.CallLog.{Reply, refused, mustWait, number as replyNumber, Entry, entry, when, firstThatHolds, replyIn}
-use Rattle.log.specs.Calls.{step, replyOf, grantStep, arriveStep, turnStep, AsRead, recorded, tablesAfter}
-use Rattle.log.specs.Demand.{Found}
+use Rattle.log.specs.CallLog.{Reply, refused, replyNumber, awaited, replyFrom, Entry, entry}
+use Rattle.log.specs.Calls.{step, replyOf, grantStep, arriveStep, turnStep, recorded, tablesAfter}
 use Rattle.log.proofs.Whole.{demand3}
+use Rattle.log.proofs.Meaning.{read-back}
 use Rattle.transcript.specs.Input.{LineCall, grant, arrive, turn, callOf, Request, call, cost, requestOf}
-use Rattle.transcript.specs.Output.{Answer, awaited}
+use Rattle.transcript.specs.Output.{LineAnswer}
 use Rattle.transcript.specs.Run.{answerOn, tablesOn, answersOn, tablesLeft, requestsIn, numbersIn, detailsIn, Made}
 use Rattle.transcript.proofs.InTables.{stored-at, answers-length, numbers-in-length, details-in-length}
-use Rattle.dispatch.specs.Making.{RequestMade, callsOf, replyFrom, gotBy, RequestsMade}
+use Rattle.dispatch.specs.Making.{RequestMade, callsOf, gotBy, RequestsMade}
 
 -- ---- one request more
 
@@ -41,18 +39,18 @@ requests-more i ks ns = rw (add-one i) (list-more i (λ k. requestOf (at ks k) (
 answers-more : (L : Limits) (qs : List Request) (q : Request) (t : Tables) → answersOn L t (qs ++ (q ∷ [])) ≡ answersOn L t qs ++ (answerOn L (tablesLeft L t qs) q ∷ [])
 unfolding answersOn tablesLeft
 answers-more L [] q t = refl
-answers-more L (p ∷ qs) q t = ap (λ (l : List Answer). answerOn L t p ∷ l) (answers-more L qs q (tablesOn L t p))
+answers-more L (p ∷ qs) q t = ap (λ (l : List LineAnswer). answerOn L t p ∷ l) (answers-more L qs q (tablesOn L t p))
 
 tables-more : (L : Limits) (qs : List Request) (q : Request) (t : Tables) → tablesLeft L t (qs ++ (q ∷ [])) ≡ tablesOn L (tablesLeft L t qs) q
 unfolding tablesLeft
 tables-more L [] q t = refl
 tables-more L (p ∷ qs) q t = tables-more L qs q (tablesOn L t p)
 
-numbers-more : (l : List Answer) (a : Answer) → numbersIn (l ++ (a ∷ [])) ≡ numbersIn l ++ (a .number ∷ [])
+numbers-more : (l : List LineAnswer) (a : LineAnswer) → numbersIn (l ++ (a ∷ [])) ≡ numbersIn l ++ (a .number ∷ [])
 numbers-more [] a = refl
 numbers-more (b ∷ l) a = ap (λ (x : List ℕ). b .number ∷ x) (numbers-more l a)
 
-details-more : (l : List Answer) (a : Answer) → detailsIn (l ++ (a ∷ [])) ≡ detailsIn l ++ (a .detail ∷ [])
+details-more : (l : List LineAnswer) (a : LineAnswer) → detailsIn (l ++ (a ∷ [])) ≡ detailsIn l ++ (a .detail ∷ [])
 details-more [] a = refl
 details-more (b ∷ l) a = ap (λ (x : List ℕ). b .detail ∷ x) (details-more l a)
 
@@ -71,11 +69,11 @@ module _ (L : Limits) (t : Tables) (rs ds : List ℕ) (t′ : Tables) (rs′ ds�
     replies-are =
         ap₂ (λ (l : List ℕ) (x : ℕ). set l i x) (m .replies-are) (r .number-is ∙ ap (λ (x : Tables). answerOn L x q .number) (m .tables-are))
         ∙ store-more rs (numbersIn (answersOn L t qs)) i _ (e ∙ sym (numbers-in-length (answersOn L t qs) ∙ answers-length L qs t))
-        ∙ sym (ap (λ (l : List Answer). sets rs 0 (numbersIn l)) (answers-more L qs q t) ∙ ap (λ (l : List ℕ). sets rs 0 l) (numbers-more (answersOn L t qs) (answerOn L (tablesLeft L t qs) q)));
+        ∙ sym (ap (λ (l : List LineAnswer). sets rs 0 (numbersIn l)) (answers-more L qs q t) ∙ ap (λ (l : List ℕ). sets rs 0 l) (numbers-more (answersOn L t qs) (answerOn L (tablesLeft L t qs) q)));
     details-are =
         ap₂ (λ (l : List ℕ) (x : ℕ). set l i x) (m .details-are) (r .detail-is ∙ ap (λ (x : Tables). answerOn L x q .detail) (m .tables-are))
         ∙ store-more ds (detailsIn (answersOn L t qs)) i _ (e ∙ sym (details-in-length (answersOn L t qs) ∙ answers-length L qs t))
-        ∙ sym (ap (λ (l : List Answer). sets ds 0 (detailsIn l)) (answers-more L qs q t) ∙ ap (λ (l : List ℕ). sets ds 0 l) (details-more (answersOn L t qs) (answerOn L (tablesLeft L t qs) q)));
+        ∙ sym (ap (λ (l : List LineAnswer). sets ds 0 (detailsIn l)) (answers-more L qs q t) ∙ ap (λ (l : List ℕ). sets ds 0 l) (details-more (answersOn L t qs) (answerOn L (tablesLeft L t qs) q)));
   }
 
   pub made-more : (ks ns : List ℕ) (i n w : ℕ) (t″ : Tables) → Made L (requestsIn i ks ns) t rs ds t′ rs′ ds′ → RequestMade L t′ (requestOf (at ks i) (at ns i)) n w t″ → Made L (requestsIn (i + 1) ks ns) t rs ds t″ (set rs′ i n) (set ds′ i w)
@@ -87,34 +85,6 @@ module _ (L : Limits) (t : Tables) (rs ds : List ℕ) (t′ : Tables) (rs′ ds�
 abbrev Means : Reply → Type 0
 Means r = replyFrom (replyNumber r) (awaited r) ≡ r
 
-grant-means : (a b c e : Bool) (w : ℕ) → Means (firstThatHolds (when a (refused 20) ∷ when b (refused 21) ∷ when c (refused 22) ∷ when e (mustWait w) ∷ []))
-unfolding replyFrom
-grant-means true b c e w = refl
-grant-means false true c e w = refl
-grant-means false false true e w = refl
-grant-means false false false true w = refl
-grant-means false false false false w = refl
-
-arrive-means : (a b : Bool) → Means (firstThatHolds (when a (refused 20) ∷ when b (refused 24) ∷ []))
-unfolding replyFrom
-arrive-means true b = refl
-arrive-means false true = refl
-arrive-means false false = refl
-
-turn-means : (a b c d : Bool) → Means (firstThatHolds (when a (refused 30) ∷ when b (refused 31) ∷ when c (refused 32) ∷ when d (refused 34) ∷ []))
-unfolding replyFrom
-turn-means true b c d = refl
-turn-means false true c d = refl
-turn-means false false true d = refl
-turn-means false false false true = refl
-turn-means false false false false = refl
-
-means-in : (F : FieldPlan) (s : Status) (c : LineCall) → Means (replyIn F s (callOf c))
-unfolding replyIn
-means-in F s (grant d) = grant-means (leb (F .drones) d) (leb (F .last d) (s .place d)) (s .underWay d) (ltb (unmet F s d) (F .count)) (unmet F s d)
-means-in F s (arrive d) = arrive-means (leb (F .drones) d) (not (s .underWay d))
-means-in F s (turn w) = turn-means (leb (F .count) w) (fixed F w) (entered F s (now F s w .first) (now F s w .firstStop)) (cyclic (graph F (flipAll (s .turned) (w ∷ []))))
-
 means-refused : (a b : Bool) (r : Reply) → Means r → Means (cond a (cond b r (refused 40)) (refused 41))
 unfolding replyFrom
 means-refused true true r m = m
@@ -123,7 +93,7 @@ means-refused false b r m = refl
 
 means-of : (L : Limits) (t : Tables) (c : LineCall) → Means (replyOf L t (callOf c))
 unfolding replyOf
-means-of L t c = means-refused (fullSize L t) (sound L t) _ (means-in (planOf (t .plan)) (statusIn t) c)
+means-of L t c = means-refused (fullSize L t) (sound L t) _ (read-back (planOf (t .plan)) (statusIn t) (callOf c))
 
 means-step : (L : Limits) (t : Tables) (c : LineCall) → Means (step L t (callOf c) .reply)
 unfolding grantStep arriveStep turnStep

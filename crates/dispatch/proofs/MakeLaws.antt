@@ -12,12 +12,11 @@ use Rattle.tables.specs.Tables.{Tables, dependencies, fullSize}
 use Rattle.plan.specs.Field.{FieldPlan, planOf}
 use Rattle.plan.specs.Status.{Status, statusIn, unmet}
 use Rattle.sound.specs.Sound.{sound}
-use Rattle.log.specs.CallLog.{grant as grantCall, Reply, refused, mustWait, number as replyNumber, when, firstThatHolds, replyIn}
+use Rattle.log.specs.CallLog.{grant as grantCall, Reply, refused, mustWait, replyNumber, awaited, when, firstThatHolds, replyIn}
 use Rattle.log.specs.Calls.{step, replyOf, grantStep, Answered, CostReply, costs, costRefused, costReply}
 use Rattle.log.proofs.Costs.{cost-limit}
 use Rattle.flat.proofs.Facts.{facts}
 use Rattle.transcript.specs.Input.{LineCall, grant, arrive, turn, callOf, call, cost, requestOf}
-use Rattle.transcript.specs.Output.{awaited}
 use Rattle.transcript.specs.Run.{costNumber, costDetail}
 use Rattle.flat.specs.Replies.{grantMeant}
 use Rattle.flat.specs.TurnReplies.{costMeant}

@@ -2,33 +2,27 @@
 use Prim.Native.Nat.{ℕ, zero, suc, _+_, _-_, _*_, _≤_, _<_, _^_}
 use native.Mathlib.Omega.{arith}
 use native.Mathlib.Nat.{zero-add, sub-zero}
-use mathlib.Core.Path.{_≡_, refl, sym, ap, ap₂, _∙_}
+use mathlib.Core.Path.{_≡_, refl, sym, ap, _∙_}
 use mathlib.Core.Bool.{Bool, true, false, cond}
 use mathlib.Core.List.{List, [], _∷_, _++_, append-nil}
 use lib.Dec.{ltb, eqb}
 use lib.ListN.{length, length-append, take, drop}
 use lib.Seq.{sets, sets-eq, length-sets}
-use borrow.Author.Tests.{lt-ltb, le-ltb, leb-false, ltb-false, eq-eqb, ne-eqb}
+use borrow.Author.Tests.{lt-ltb, le-ltb, ltb-false, eq-eqb, ne-eqb}
 use Rattle.below.specs.Below.{at, rowsBelow}
-use Rattle.tables.specs.Limits.{Limits, limits}
+use Rattle.tables.specs.Limits.{Limits}
 use Rattle.tables.specs.Tables.{Tables}
-use Rattle.plan.specs.Field.{FieldPlan, planOf}
+use Rattle.plan.specs.Field.{FieldPlan}
 use Rattle.lines.specs.Bytes.{Put}
-use Rattle.lines.specs.Numbers.{digitsOf}
 use Rattle.lines.proofs.NumberCases.{digits-length}
 use Rattle.lines.proofs.WriteLaws.{put-put}
 use Rattle.log.specs.CallLog.{Entry}
-use Rattle.log.specs.Calls.{AsRead}
-use Rattle.reading.specs.Replies.{readingNumber}
-use Rattle.reading.specs.Reading.{Answered, AnsweredAs, readPlan}
-use Rattle.reading.specs.declared.replies.Refusal.{Refusal}
-use Rattle.reading.specs.declared.replies.Refusal.the-variants as refusal
-use Rattle.reading.specs.declared.replies.Reading.{Reading as Read}
-use Rattle.reading.specs.declared.replies.Reading.the-variants.{Taken, Refused}
-use Rattle.accepted.proofs.ReadSound.{read-is-sound}
-use Rattle.transcript.specs.Input.{inputLimit, planEnd, callAt, Request, RequestList, noRequests, linesAt, requestsFrom, requestsAt, kindsOf, numbersOf, RequestsRead}
-use Rattle.transcript.specs.Output.{planLine, Answer, answerLine, answerLines, endingLine, answersBy, answerBy, logAfter, callsOutput, Reading, afterReading, outputOf, linesIn}
-use Rattle.transcript.specs.Run.{answersOn, requestsIn, kindsIn, numbersIn, detailsIn}
+use Rattle.reading.specs.Replies.{ReadingReply as Read, taken as Taken, readingNumber}
+use Rattle.reading.proofs.ReplyLaws.{taken-by-0}
+use Rattle.reading.specs.Reading.{AnsweredAs, readPlan}
+use Rattle.transcript.specs.Input.{inputLimit, planEnd, callAt, Request, noRequests, callLinesAt, requestsFrom, requestsAt, kindsOf, numbersOf, RequestsRead}
+use Rattle.transcript.specs.Output.{planNumberLine, LineAnswer, answerLines, endingLine, answersBy, logAfter, callsOutput, PlanReading, afterReading, outputOf, linesIn}
+use Rattle.transcript.specs.Run.{answersOn, requestsIn, numbersIn, detailsIn, Made}
 use Rattle.transcript.specs.declared.requests.CallLine.{CallLine}
 use Rattle.transcript.specs.declared.requests.CallLine.the-variants.{Is, Malformed, OutOfRange}
 use Rattle.transcript.specs.declared.requests.Ending.{Ending}
@@ -36,21 +30,20 @@ use Rattle.transcript.specs.declared.requests.Ending.the-variants.{Done, FormFa
 use Rattle.transcript.proofs.CallCases.{CallRead, call-read}
 use Rattle.transcript.proofs.PlanEnd.{plan-within}
 use Rattle.transcript.proofs.ReplyCases.{answer-short}
-use Rattle.transcript.proofs.RunLaws.{same-answers}
 use Rattle.transcript.proofs.InTables.{requests-back, answers-length, kinds-answered, lines-stored}
-use Rattle.dispatch.specs.Making.{RequestsMade}
+use Rattle.dispatch.proofs.TextLaws.{text-answers}
 use Rattle.dispatch.specs.Transcribing.{readingIn, readingOf, callsOn, requestLimit, RequestRoom, outputLimit, OutputFits, Transcribed}
 
 -- ---- how many requests, how long the lines
 
 -- seven bytes for each request
-lines-few : (n : ℕ) (text : List ℕ) (at : ℕ) → at ≤ length text → at + 7 * length (linesAt n text at .requests) ≤ length text
-unfolding linesAt
+lines-few : (n : ℕ) (text : List ℕ) (at : ℕ) → at ≤ length text → at + 7 * length (callLinesAt n text at .requests) ≤ length text
+unfolding callLinesAt
 lines-few zero text at h = omega arith
 lines-few (suc n) text at h = go (ltb at (length text)) (callAt text at) refl (lines-few n text)
   where
-    go : (b : Bool) (s : CallLine) → callAt text at ≡ s → ((e : ℕ) → e ≤ length text → e + 7 * length (linesAt n text e .requests) ≤ length text)
-        → at + 7 * length (cond b (requestsFrom s (λ e. linesAt n text e)) (noRequests Done) .requests) ≤ length text
+    go : (b : Bool) (s : CallLine) → callAt text at ≡ s → ((e : ℕ) → e ≤ length text → e + 7 * length (callLinesAt n text e .requests) ≤ length text)
+        → at + 7 * length (cond b (requestsFrom s (λ e. callLinesAt n text e)) (noRequests Done) .requests) ≤ length text
     go false s e more = omega arith
     go true Malformed e more = omega arith
     go true OutOfRange e more = omega arith
@@ -68,12 +61,12 @@ pub lines-short : (n : ℕ) (ks ns ds : List ℕ) → length (linesIn n ks ns ds
 unfolding linesIn
 lines-short n ks ns ds = rows-short n _ (λ i. answer-short (at ks i) (at ns i) (at ds i))
 
-answers-short : (l : List Answer) → length (answerLines l) ≤ 23 * length l
+answers-short : (l : List LineAnswer) → length (answerLines l) ≤ 23 * length l
 unfolding answerLines
 answers-short [] = omega arith
 answers-short (a ∷ l) = simp length-append (omega (arith, answer-short (a .kind) (a .number) (a .detail), answers-short l))
 
-pub plan-short : (n : ℕ) → length (planLine n) ≤ 13
+pub plan-short : (n : ℕ) → length (planNumberLine n) ≤ 13
 plan-short n = simp length-append (omega (arith, digits-length 7 n))
 
 ending-short : (e : Ending) → length (endingLine e) ≤ 10
@@ -97,13 +90,13 @@ module _ (L : Limits) (input : List ℕ) (start : ℕ) (ks ns ks′ ns′ : List
     same-requests : requestsIn count ks′ ns′ ≡ qs
     same-requests = rw (read .count-is, read .kinds-are, read .numbers-are) (requests-back qs ks ns (omega (arith, read .count-is)) (omega (arith, read .count-is)))
 
-    module _ (t : Tables) (rs ds : List ℕ) (t′ : Tables) (rs′ ds′ : List ℕ) (made : RequestsMade L (requestsIn count ks′ ns′) t rs ds t′ rs′ ds′) (room-rs : count ≤ length rs) (room-ds : count ≤ length ds) where
+    module _ (t : Tables) (rs ds : List ℕ) (t′ : Tables) (rs′ ds′ : List ℕ) (made : Made L (requestsIn count ks′ ns′) t rs ds t′ rs′ ds′) (room-rs : count ≤ length rs) (room-ds : count ≤ length ds) where
       same-lines : linesIn count ks′ rs′ ds′ ≡ answerLines (answersOn L t qs)
       same-lines =
           rw (
             read .kinds-are ∙ ap (λ (l : List ℕ). sets ks 0 l) (kinds-answered L qs t),
-            made .made .replies-are ∙ ap (λ (l : List Request). sets rs 0 (numbersIn (answersOn L t l))) same-requests,
-            made .made .details-are ∙ ap (λ (l : List Request). sets ds 0 (detailsIn (answersOn L t l))) same-requests,
+            made .replies-are ∙ ap (λ (l : List Request). sets rs 0 (numbersIn (answersOn L t l))) same-requests,
+            made .details-are ∙ ap (λ (l : List Request). sets ds 0 (detailsIn (answersOn L t l))) same-requests,
           )
           (lines-stored (answersOn L t qs) count ks rs ds (read .count-is ∙ sym (answers-length L qs t)) room-ks room-rs room-ds)
 
@@ -125,12 +118,12 @@ module _ (L : Limits) (input : List ℕ) (start : ℕ) (ks ns ks′ ns′ : List
   pub requests-room : (count < 2 ^ 24) × (count ≤ length ks′) × (count ≤ length ns′) × (count ≤ length rs) × (count ≤ length ds)
   requests-room = (omega (arith, count-few), omega (arith, count-few, kinds-kept, room .has-kinds), omega (arith, count-few, numbers-kept, room .has-numbers), omega (arith, count-few, room .has-replies), omega (arith, count-few, room .has-details))
 
-  module _ (t t′ : Tables) (rs′ ds′ : List ℕ) (made : RequestsMade L (requestsIn count ks′ ns′) t rs ds t′ rs′ ds′) where
+  module _ (t t′ : Tables) (rs′ ds′ : List ℕ) (made : Made L (requestsIn count ks′ ns′) t rs ds t′ rs′ ds′) where
     replies-kept : length rs′ ≡ length rs
-    replies-kept = ap length (made .made .replies-are) ∙ length-sets rs 0 (numbersIn (answersOn L t (requestsIn count ks′ ns′)))
+    replies-kept = ap length (made .replies-are) ∙ length-sets rs 0 (numbersIn (answersOn L t (requestsIn count ks′ ns′)))
 
     details-kept : length ds′ ≡ length ds
-    details-kept = ap length (made .made .details-are) ∙ length-sets ds 0 (detailsIn (answersOn L t (requestsIn count ks′ ns′)))
+    details-kept = ap length (made .details-are) ∙ length-sets ds 0 (detailsIn (answersOn L t (requestsIn count ks′ ns′)))
 
     pub answers-room : (next : ℕ) → next < 2 ^ 20 → (next < 2 ^ 24) × (count < 2 ^ 24) × (count ≤ length ks′) × (count ≤ length rs′) × (count ≤ length ds′)
     answers-room next h = (omega arith, omega (arith, count-few), omega (arith, count-few, kinds-kept, room .has-kinds), omega (arith, count-few, replies-kept, room .has-replies), omega (arith, count-few, details-kept, room .has-details))
@@ -144,27 +137,8 @@ module _ (L : Limits) (input : List ℕ) (start : ℕ) (ks ns ks′ ns′ : List
 
 -- ---- the whole output, by its cases
 
--- a reading by 0 is one that was taken
-refusal-some : (r : Refusal) → readingNumber (Refused r) ≡ 0 → ⊥
-refusal-some refusal.TablesTooSmall e = omega arith
-refusal-some (refusal.TooLong o) e = omega arith
-refusal-some (refusal.Form o) e = omega arith
-refusal-some (refusal.Range o) e = omega arith
-refusal-some (refusal.Name o) e = omega arith
-refusal-some (refusal.SameName o) e = omega arith
-refusal-some (refusal.TooManyStops o) e = omega arith
-refusal-some (refusal.StartsLate s) e = omega arith
-refusal-some (refusal.NotRising s) e = omega arith
-refusal-some (refusal.SameLocation s) e = omega arith
-refusal-some (refusal.Collision s t) e = omega arith
-refusal-some refusal.TooManyDependencies e = omega arith
-
-pub taken-by-0 : (r : Read) → readingNumber r ≡ 0 → r ≡ Taken
-taken-by-0 Taken e = refl
-taken-by-0 (Refused r) e = absurd (refusal-some r e)
-
-module _ (reading : List ℕ → Reading) (input : List ℕ) where
-  pub output-long : inputLimit < length input → outputOf reading input ≡ planLine 1
+module _ (reading : List ℕ → PlanReading) (input : List ℕ) where
+  pub output-long : inputLimit < length input → outputOf reading input ≡ planNumberLine 1
   unfolding outputOf
   output-long h = rw (lt-ltb inputLimit (length input) h)
 
@@ -173,42 +147,33 @@ module _ (reading : List ℕ → Reading) (input : List ℕ) where
   output-read h = rw (le-ltb inputLimit (length input) h)
 
 module _ (L : Limits) (t : Tables) (input text : List ℕ) (short : length input ≤ inputLimit) (is-text : text ≡ take (planEnd input) input) (r : Read) (t′ : Tables) (read : AnsweredAs (readPlan L text t) r t′) (n : ℕ) (is-n : n ≡ readingNumber r) where
-  abbrev here : Reading
+  abbrev here : PlanReading
   here = readingIn L t (take (planEnd input) input)
 
   same-number : here .number ≡ n
   same-number = sym (is-n ∙ ap readingNumber (read .replied) ∙ ap (λ (x : List ℕ). readingNumber (readPlan L x t .reply)) is-text)
 
-  pub output-refused : (n ≡ 0 → ⊥) → outputOf (readingIn L t) input ≡ planLine n
+  pub output-refused : (n ≡ 0 → ⊥) → outputOf (readingIn L t) input ≡ planNumberLine n
   output-refused h =
       output-read (readingIn L t) input short
-      ∙ ap (λ (k : ℕ). planLine k ++ cond (eqb k 0) (callsOutput (here .plan) (requestsAt input (planEnd input))) []) same-number
-      ∙ rw (ne-eqb n 0 h) (append-nil (planLine n))
+      ∙ ap (λ (k : ℕ). planNumberLine k ++ cond (eqb k 0) (callsOutput (here .plan) (requestsAt input (planEnd input))) []) same-number
+      ∙ rw (ne-eqb n 0 h) (append-nil (planNumberLine n))
 
-  taken : n ≡ 0 → readPlan L text t .reply ≡ Taken
-  taken z = taken-by-0 (readPlan L text t .reply) (sym (ap readingNumber (read .replied)) ∙ sym is-n ∙ z)
-
-  left : n ≡ 0 → AsRead L (t′ .plan) t′
-  left z = rw (read .left) (read-is-sound L text t (taken z))
-
-  same-plan : here .plan ≡ planOf (t′ .plan)
-  same-plan = rw (← is-text, ← read .left)
-
-  pub output-taken : n ≡ 0 → outputOf (readingIn L t) input ≡ planLine n ++ callsOn L t′ (requestsAt input (planEnd input))
+  pub output-taken : n ≡ 0 → outputOf (readingIn L t) input ≡ planNumberLine n ++ callsOn L t′ (requestsAt input (planEnd input))
   output-taken z =
       output-read (readingIn L t) input short
-      ∙ ap (λ (k : ℕ). planLine k ++ cond (eqb k 0) (callsOutput (here .plan) (requestsAt input (planEnd input))) []) same-number
-      ∙ rw (eq-eqb n 0 z, same-plan, ← same-answers L (t′ .plan) t′ (left z) (requestsAt input (planEnd input) .requests)) refl
+      ∙ ap (λ (k : ℕ). planNumberLine k ++ cond (eqb k 0) (callsOutput (here .plan) (requestsAt input (planEnd input))) []) same-number
+      ∙ rw (eq-eqb n 0 z, ← is-text, ← text-answers L text t r t′ read (read .replied ∙ taken-by-0 L text t (sym (ap readingNumber (read .replied)) ∙ sym is-n ∙ z)) (requestsAt input (planEnd input) .requests)) refl
 
 -- the same of what was written
-pub long-written : (reading : List ℕ → Reading) (input : List ℕ) → inputLimit < length input → {b b₁ : List ℕ} {n : ℕ} → Put b 0 (planLine 1) b₁ n → Put b 0 (outputOf reading input) b₁ n
+pub long-written : (reading : List ℕ → PlanReading) (input : List ℕ) → inputLimit < length input → {b b₁ : List ℕ} {n : ℕ} → Put b 0 (planNumberLine 1) b₁ n → Put b 0 (outputOf reading input) b₁ n
 long-written reading input h {b} {b₁} {n} p = rw (output-long reading input h) p
 
 -- a part from the start to an end
 pub part-is : (l : List ℕ) (e k : ℕ) → e ≡ k → take (e - 0) (drop 0 l) ≡ take k l
 part-is l e k h = rw (sub-zero, h)
 
-module _ (L : Limits) (t : Tables) (input text : List ℕ) (short : length input ≤ inputLimit) (end : ℕ) (is-end : end ≡ planEnd input) (is-text : text ≡ take (planEnd input) input) (r : Read) (t′ : Tables) (read : AnsweredAs (readPlan L text t) r t′) (n : ℕ) (is-n : n ≡ readingNumber r) {b b₁ : List ℕ} {n₁ : ℕ} (plan : Put b 0 (planLine n) b₁ n₁) where
+module _ (L : Limits) (t : Tables) (input text : List ℕ) (short : length input ≤ inputLimit) (end : ℕ) (is-end : end ≡ planEnd input) (is-text : text ≡ take (planEnd input) input) (r : Read) (t′ : Tables) (read : AnsweredAs (readPlan L text t) r t′) (n : ℕ) (is-n : n ≡ readingNumber r) {b b₁ : List ℕ} {n₁ : ℕ} (plan : Put b 0 (planNumberLine n) b₁ n₁) where
   pub refused-written : (n ≡ 0 → ⊥) → Put b 0 (outputOf (readingIn L t) input) b₁ n₁
   refused-written h = rw (output-refused L t input text short is-text r t′ read n is-n h) plan
 
@@ -217,22 +182,22 @@ module _ (L : Limits) (t : Tables) (input text : List ℕ) (short : length input
 
 -- ---- the buffer's size
 
-after-fits : (reading : List ℕ → Reading) (input : List ℕ) (r : Reading) → length input ≤ inputLimit → length (afterReading reading input r) ≤ outputLimit
+after-fits : (reading : List ℕ → PlanReading) (input : List ℕ) (r : PlanReading) → length input ≤ inputLimit → length (afterReading reading input r) ≤ outputLimit
 after-fits reading input r h = go (eqb (r .number) 0)
   where
-    go : (b : Bool) → length (planLine (r .number) ++ cond b (callsOutput (r .plan) (requestsAt input (planEnd input))) []) ≤ outputLimit
+    go : (b : Bool) → length (planNumberLine (r .number) ++ cond b (callsOutput (r .plan) (requestsAt input (planEnd input))) []) ≤ outputLimit
     go true =
         let qs = requestsAt input (planEnd input) .requests in
         let l = answersBy (r .plan) [] qs in
         let e = requestsAt input (planEnd input) .ending in
-        omega (arith, length-append (planLine (r .number)) (callsOutput (r .plan) (requestsAt input (planEnd input))), length-append (answerLines l) (endingLine e), plan-short (r .number), answers-short l, by-length (r .plan) [] qs, requests-few input (planEnd input) (plan-within input), ending-short e)
-    go false = omega (arith, length-append (planLine (r .number)) [], plan-short (r .number))
+        omega (arith, length-append (planNumberLine (r .number)) (callsOutput (r .plan) (requestsAt input (planEnd input))), length-append (answerLines l) (endingLine e), plan-short (r .number), answers-short l, by-length (r .plan) [] qs, requests-few input (planEnd input) (plan-within input), ending-short e)
+    go false = omega (arith, length-append (planNumberLine (r .number)) [], plan-short (r .number))
 
 pub output-fits : OutputFits
 unfolding outputOf
 output-fits reading input = go (ltb inputLimit (length input)) refl
   where
-    go : (b : Bool) → ltb inputLimit (length input) ≡ b → length (cond b (planLine 1) (afterReading reading input (reading (take (planEnd input) input)))) ≤ outputLimit
+    go : (b : Bool) → ltb inputLimit (length input) ≡ b → length (cond b (planNumberLine 1) (afterReading reading input (reading (take (planEnd input) input)))) ≤ outputLimit
     go true e = omega (arith, plan-short 1)
     go false e = after-fits reading input (reading (take (planEnd input) input)) (ltb-false inputLimit (length input) e)
 

@@ -3,21 +3,22 @@ use Prim.Native.Nat.{ℕ, zero, suc, _*_}
 use native.Mathlib.Omega.{arith}
 use mathlib.Core.Path.{_≡_, refl, sym, ap, _∙_}
 use mathlib.Core.List.{List, _∷_, map}
-use lib.ListN.{length, replicate, length-replicate}
+use lib.ListN.{replicate, length-replicate}
 use lib.Seq.{take-all}
+use Rattle.below.specs.Below.{at}
 use Rattle.tables.specs.Limits.{Limits}
 use Rattle.tables.specs.Tables.{Tables}
 use Rattle.tables.specs.Entries.{zeroDependency}
 use Rattle.tables.specs.declared.entries.Dependency.{Dependency}
 use Rattle.records.specs.Records.{seen, tablesOfRecords}
-use Rattle.reading.specs.Replies.{readingNumber}
+use Rattle.reading.specs.Replies.{ReadingReply as Read, taken as Taken, readingNumber}
+use Rattle.reading.proofs.ReplyLaws.{taken-by-0}
 use Rattle.reading.specs.Reading.{AnsweredAs, readPlan}
-use Rattle.reading.specs.declared.replies.Reading.{Reading as Read}
-use Rattle.reading.specs.declared.replies.Reading.the-variants.{Taken}
 use Rattle.transcript.specs.Input.{Request}
-use Rattle.dispatch.specs.Making.{RequestsMade}
+use Rattle.transcript.specs.Run.{Made}
+use Rattle.dispatch.specs.Making.{callsOf, gotBy, RequestsMade}
 use Rattle.dispatch.specs.Transcribing.{zeroTables, PlanRun}
-use Rattle.dispatch.proofs.ProgramLaws.{taken-by-0}
+use Rattle.accepted.proofs.TextFound.{text-found}
 
 -- ---- the tables at the start
 
@@ -59,8 +60,12 @@ module _ (L : Limits) (text : List ℕ) (qs : List Request) (rs ds : List ℕ) (
   pub run-taken : n ≡ 0 → (t″ : Tables) (rs′ ds′ : List ℕ) → RequestsMade L qs t′ rs ds t″ rs′ ds′ → PlanRun L text qs rs ds r rs′ ds′
   run-taken z t″ rs′ ds′ m = record {
     replied = same-reply;
-    taken = λ e. (t″, rw (read .left ∙ ap (λ (x : Tables). readPlan L text x .tables) fresh) at m);
-    refused = λ k. absurd (k (taken-by-0 r (sym is-n ∙ z)));
+    taken = λ e. record {
+      tables-left = t″;
+      made = rw (read .left ∙ ap (λ (x : Tables). readPlan L text x .tables) fresh) at (m .made);
+      found = text-found L text t r t′ read e (callsOf qs) (gotBy qs (at rs′) (at ds′)) t″ (m .found (t′ .plan));
+    };
+    refused = λ k. absurd (k (same-reply ∙ taken-by-0 L text (zeroTables L) (sym (ap readingNumber same-reply) ∙ sym is-n ∙ z)));
   }
 
 -- what a run says of its reading
@@ -68,5 +73,5 @@ module _ (L : Limits) (text : List ℕ) (qs : List Request) (rs ds : List ℕ) (
   pub run-read : AnsweredAs (readPlan L text (zeroTables L)) r (readPlan L text (zeroTables L) .tables)
   run-read = record { replied = ran .replied; left = refl }
 
-  pub run-made : (n : ℕ) → n ≡ readingNumber r → n ≡ 0 → (t′ : Tables) × RequestsMade L qs (readPlan L text (zeroTables L) .tables) rs ds t′ rs′ ds′
-  run-made n is-n z = ran .taken (taken-by-0 r (sym is-n ∙ z))
+  pub run-made : (n : ℕ) → n ≡ readingNumber r → n ≡ 0 → (t′ : Tables) × Made L qs (readPlan L text (zeroTables L) .tables) rs ds t′ rs′ ds′
+  run-made n is-n z = let run = ran .taken (ran .replied ∙ taken-by-0 L text (zeroTables L) (sym (ap readingNumber (ran .replied)) ∙ sym is-n ∙ z)) in (run .tables-left, run .made)

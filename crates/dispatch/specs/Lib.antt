@@ -1,2 +1,3 @@
 pub mod Making
 pub mod Transcribing
+pub mod Flights

@@ -1,17 +1,15 @@
 -- Requests made on lent tables: what one leaves, and what is found after a list of them. Assumes nothing.
 use Prim.Native.Nat.{ℕ, suc}
 use mathlib.Core.Path.{_≡_}
-use mathlib.Core.Bool.{cond}
 use mathlib.Core.List.{List, [], _∷_}
-use lib.Dec.{eqb}
 use Rattle.below.specs.Below.{at}
 use Rattle.tables.specs.Limits.{Limits}
 use Rattle.tables.specs.Tables.{PlanLists, Tables}
-use Rattle.log.specs.CallLog.{Call, Reply, accepted, refused, mustWait, number as replyNumber, Entry, entry}
+use Rattle.plan.specs.Field.{planOf}
+use Rattle.log.specs.CallLog.{Call, Reply, replyNumber, awaited, replyFrom, Entry, entry}
 use Rattle.log.specs.Calls.{AsRead}
 use Rattle.log.specs.Demand.{Found}
 use Rattle.transcript.specs.Input.{callOf, Request, call, cost}
-use Rattle.transcript.specs.Output.{awaited}
 use Rattle.transcript.specs.Run.{answerOn, tablesOn, Made}
 
 -- ---- one request
@@ -35,10 +33,6 @@ callsOf [] = []
 callsOf (call c ∷ qs) = callOf c ∷ callsOf qs
 callsOf (cost ∷ qs) = callsOf qs
 
--- the reply that a number and a detail of the output's tables mean
-unfoldable pub replyFrom : ℕ → ℕ → Reply
-replyFrom n w = cond (eqb n 0) accepted (cond (eqb n 23) (mustWait w) (refused n))
-
 -- each call with the reply that the tables hold for it, by the numbers and the details from its entry on
 unfoldable pub gotBy : List Request → (ℕ → ℕ) → (ℕ → ℕ) → List Entry
 gotBy [] ns ws = []
@@ -49,4 +43,4 @@ gotBy (cost ∷ qs) ns ws = gotBy qs (λ i. ns (suc i)) (λ i. ws (suc i))
 -- reply of the call log, the tables show that log, and what is claimed of it holds
 pub record RequestsMade (L : Limits) (requests : List Request) (t : Tables) (replies details : List ℕ) (t′ : Tables) (replies′ details′ : List ℕ) : Type 0 where
   pub made : Made L requests t replies details t′ replies′ details′
-  pub found : (lists : PlanLists) → AsRead L lists t → Found lists (callsOf requests) (gotBy requests (at replies′) (at details′)) t′
+  pub found : (lists : PlanLists) → AsRead L lists t → Found (planOf lists) (callsOf requests) (gotBy requests (at replies′) (at details′)) t′

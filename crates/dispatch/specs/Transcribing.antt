@@ -3,25 +3,25 @@ use Prim.Native.Nat.{ℕ, _*_, _≤_}
 use mathlib.Core.Path.{_≡_}
 use mathlib.Core.List.{List, _++_}
 use lib.ListN.{length, drop, replicate}
+use Rattle.below.specs.Below.{at}
 use Rattle.tables.specs.Limits.{Limits, limits}
 use Rattle.tables.specs.Tables.{Tables, tablesOf}
-use Rattle.plan.specs.Field.{planOf}
 use Rattle.lines.specs.Bytes.{Put}
-use Rattle.reading.specs.Replies.{readingNumber}
+use Rattle.log.specs.Demand.{Found}
+use Rattle.reading.specs.Replies.{ReadingReply, taken as Taken, readingNumber}
 use Rattle.reading.specs.Reading.{readPlan}
-use Rattle.reading.specs.declared.replies.Reading.{Reading as Read}
-use Rattle.reading.specs.declared.replies.Reading.the-variants.{Taken}
-use Rattle.transcript.specs.Input.{inputLimit, Request, RequestList}
-use Rattle.transcript.specs.Output.{Reading, answerLines, endingLine, outputOf}
-use Rattle.transcript.specs.Run.{answersOn}
-use Rattle.dispatch.specs.Making.{RequestsMade}
+use Rattle.transcript.specs.Input.{Request, RequestList}
+use Rattle.transcript.specs.Output.{PlanReading, answerLines, endingLine, outputOf}
+use Rattle.transcript.specs.Run.{answersOn, Made}
+use Rattle.accepted.specs.TextPlan.{textPlan}
+use Rattle.dispatch.specs.Making.{callsOf, gotBy}
 
 -- ---- reading
 
 module _ (L : Limits) where
-  -- what reading a plan text into the tables t answers, and the plan that stands in them then
-  abbrev pub readingIn : Tables → List ℕ → Reading
-  readingIn t text = record { number = readingNumber (readPlan L text t .reply); plan = planOf (readPlan L text t .tables .plan) }
+  -- what reading a plan text into the tables t answers, and the text's own plan: "nothing from the tables or the conductor's replies" goes into the log
+  abbrev pub readingIn : Tables → List ℕ → PlanReading
+  readingIn t text = record { number = readingNumber (readPlan L text t .reply); plan = textPlan L text }
 
   -- tables of full size, every entry zero
   unfoldable pub zeroTables : Tables
@@ -41,10 +41,16 @@ module _ (L : Limits) where
       (replicate (L .dependencies) 0)
       (replicate (L .dependencies) 0)
 
+  -- the plan of the text was taken, and the requests were made on the tables that its reading left; and demand 3, by the log of the text's own plan
+  pub record TakenRun (text : List ℕ) (requests : List Request) (replies details replies′ details′ : List ℕ) : Type 0 where
+    pub tables-left : Tables
+    pub made : Made L requests (readPlan L text zeroTables .tables) replies details tables-left replies′ details′
+    pub found : Found (textPlan L text) (callsOf requests) (gotBy requests (at replies′) (at details′)) tables-left
+
   -- the plan of the text was read into tables of its own, zero before, and answered by r; if it was taken, the requests were made on these tables, and if not, no answer was written
-  pub record PlanRun (text : List ℕ) (requests : List Request) (replies details : List ℕ) (r : Read) (replies′ details′ : List ℕ) : Type 0 where
+  pub record PlanRun (text : List ℕ) (requests : List Request) (replies details : List ℕ) (r : ReadingReply) (replies′ details′ : List ℕ) : Type 0 where
     pub replied : r ≡ readPlan L text zeroTables .reply
-    pub taken : r ≡ Taken → (t′ : Tables) × RequestsMade L requests (readPlan L text zeroTables .tables) replies details t′ replies′ details′
+    pub taken : r ≡ Taken → TakenRun text requests replies details replies′ details′
     pub refused : (r ≡ Taken → ⊥) → (replies′ ≡ replies) × (details′ ≡ details)
 
   -- the lines after a plan that was taken, where the requests are made on the tables t
@@ -52,7 +58,7 @@ module _ (L : Limits) where
   callsOn t r = answerLines (answersOn L t (r .requests)) ++ endingLine (r .ending)
 
 -- the program's reading
-abbrev pub readingOf : List ℕ → Reading
+abbrev pub readingOf : List ℕ → PlanReading
 readingOf text = readingIn limits (zeroTables limits) text
 
 -- ---- room
@@ -74,7 +80,7 @@ outputLimit = 262144
 
 -- a buffer of this size holds the output of every input
 abbrev pub OutputFits : Type 0
-OutputFits = (reading : List ℕ → Reading) (input : List ℕ) → length (outputOf reading input) ≤ outputLimit
+OutputFits = (reading : List ℕ → PlanReading) (input : List ℕ) → length (outputOf reading input) ≤ outputLimit
 
 -- ---- the output
 

@@ -7,26 +7,26 @@ use reading::replies::Reading;
 use reading::replies::Refusal;
 ghost use mathlib.Core.Path.{_≡_};
 ghost use Prim.Native.Nat.{_<_, _^_};
-ghost use Rattle.transcript.specs.Output.{awaited};
+ghost use Rattle.log.specs.CallLog.{awaited};
 ghost use Rattle.transcript.specs.Run.{costNumber, costDetail};
-ghost use Rattle.reading.specs.Replies.{refusalNumber, readingNumber};
+ghost use Rattle.reading.specs.Replies.{readingNumber, refusalMeant, readingMeant};
 ghost use Rattle.flat.specs.Replies.{grantMeant, arriveMeant};
 ghost use Rattle.flat.specs.TurnReplies.{turnMeant, costMeant};
 ghost use Rattle.dispatch.specs.Making.{Tells};
 
 // The number of the reply, and the dependency of a 23 or the cost.
-pub struct Answered {
+pub struct NumberedReply {
     pub number: u16,
     pub detail: u32,
 }
 
-pub fn numbered(number: u16) -> Answered
+pub fn numbered(number: u16) -> NumberedReply
     ensures { λ r. ⌜ (r .number ≡ number) × (r .detail ≡ 0) ⌝ }
 {
-    Answered { number, detail: 0 }
+    NumberedReply { number, detail: 0 }
 }
 
-pub fn of_grant(reply: GrantReply) -> Answered
+pub fn of_grant(reply: GrantReply) -> NumberedReply
     requires { ⌜ awaited (grantMeant reply) < 2 ^ 32 ⌝ }
     ensures { λ r. ⌜ Tells (grantMeant reply) (r .number) (r .detail) ⌝ }
 {
@@ -37,14 +37,14 @@ pub fn of_grant(reply: GrantReply) -> Answered
         GrantReply::NoDrone => numbered(20),
         GrantReply::Finished => numbered(21),
         GrantReply::UnderWay => numbered(22),
-        GrantReply::MustWait(dependency) => Answered {
+        GrantReply::MustWait(dependency) => NumberedReply {
             number: 23,
             detail: dependency as u32,
         },
     }
 }
 
-pub fn of_arrive(reply: ArriveReply) -> Answered
+pub fn of_arrive(reply: ArriveReply) -> NumberedReply
     ensures { λ r. ⌜ Tells (arriveMeant reply) (r .number) (r .detail) ⌝ }
 {
     match reply {
@@ -56,7 +56,7 @@ pub fn of_arrive(reply: ArriveReply) -> Answered
     }
 }
 
-pub fn of_turn(reply: TurnReply) -> Answered
+pub fn of_turn(reply: TurnReply) -> NumberedReply
     ensures { λ r. ⌜ Tells (turnMeant reply) (r .number) (r .detail) ⌝ }
 {
     match reply {
@@ -70,14 +70,14 @@ pub fn of_turn(reply: TurnReply) -> Answered
     }
 }
 
-pub fn of_cost(answer: CostAnswer) -> Answered
+pub fn of_cost(answer: CostAnswer) -> NumberedReply
     requires { ⌜ costDetail (costMeant answer) < 2 ^ 32 ⌝ }
     ensures { λ r. ⌜ (r .number ≡ costNumber (costMeant answer)) × (r .detail ≡ costDetail (costMeant answer)) ⌝ }
 {
     match answer {
         CostAnswer::TablesTooSmall => numbered(41),
         CostAnswer::NotSound => numbered(40),
-        CostAnswer::Cost(cost) => Answered {
+        CostAnswer::Cost(cost) => NumberedReply {
             number: 0,
             detail: cost as u32,
         },
@@ -86,7 +86,7 @@ pub fn of_cost(answer: CostAnswer) -> Answered
 
 // The number of a refusal.
 fn refusal_number(refusal: Refusal) -> usize
-    ensures { λ r. ⌜ r ≡ refusalNumber refusal ⌝ }
+    ensures { λ r. ⌜ r ≡ readingNumber (refusalMeant refusal) ⌝ }
 {
     match refusal {
         Refusal::TablesTooSmall => 41,
@@ -106,7 +106,7 @@ fn refusal_number(refusal: Refusal) -> usize
 
 // The number of a reading: 0 for a plan that is taken.
 pub fn reading_number(reading: Reading) -> usize
-    ensures { λ r. ⌜ r ≡ readingNumber reading ⌝ }
+    ensures { λ r. ⌜ r ≡ readingNumber (readingMeant reading) ⌝ }
 {
     match reading {
         Reading::Taken => 0,

@@ -7,7 +7,7 @@ use transcript::requests as input_requests;
 ghost use mathlib.Core.Path.{_≡_};
 ghost use Rattle.tables.specs.Limits.{limits};
 ghost use Rattle.lines.specs.Bytes.{Put};
-ghost use Rattle.reading.specs.Replies.{readingNumber};
+ghost use Rattle.reading.specs.Replies.{readingNumber, readingMeant};
 ghost use Rattle.reading.specs.Reading.{readPlan};
 ghost use Rattle.transcript.specs.Output.{outputOf};
 ghost use Rattle.dispatch.specs.Transcribing.{zeroTables, readingOf, RequestRoom, Transcribed};
@@ -71,7 +71,7 @@ pub fn transcript(input: &[u8], output: &mut [u8]) -> usize
 
 // What reading a plan text answers, on tables of its own.
 pub fn read_text(text: &[u8]) -> Reading
-    ensures { λ r. ⌜ r ≡ readPlan limits (now (text .entry)) (zeroTables limits) .reply ⌝ }
+    ensures { λ r. ⌜ readingMeant r ≡ readPlan limits (now (text .entry)) (zeroTables limits) .reply ⌝ }
 {
     let kinds = [0u8; 1];
     let numbers = [0u16; 1];
@@ -82,7 +82,7 @@ pub fn read_text(text: &[u8]) -> Reading
 
 // The number of a reading: 0 for a plan that is taken.
 pub fn number_of(reading: Reading) -> usize
-    ensures { λ r. ⌜ r ≡ readingNumber reading ⌝ }
+    ensures { λ r. ⌜ r ≡ readingNumber (readingMeant reading) ⌝ }
 {
     answers::reading_number(reading)
 }

@@ -1,6 +1,6 @@
 // Requests made as calls on lent tables, and the run of a plan on tables of its own. The dependencies are records: the derivations are carried (docs/DERIVATIONS.md).
 use crate::answers;
-use crate::answers::Answered;
+use crate::answers::NumberedReply;
 use conductor::calls;
 use reading::replies::Reading;
 use records::record;
@@ -8,16 +8,18 @@ use tables::entries::Dependency;
 use tables::entries::Drone;
 use tables::entries::Stop;
 use transcript::keys;
+ghost use mathlib.Core.Path.{_≡_};
 ghost use Prim.Native.Nat.{_≤_, _<_, _^_};
-ghost use lib.ListN.{length};
+ghost use lib.ListN.{length, drop};
 ghost use Rattle.tables.specs.Limits.{limits};
 ghost use Rattle.records.specs.Records.{tablesOfRecords};
 ghost use Rattle.transcript.specs.Input.{requestOf};
 ghost use Rattle.transcript.specs.Run.{requestsIn};
 ghost use Rattle.dispatch.specs.Making.{RequestMade, RequestsMade};
+ghost use Rattle.reading.specs.Replies.{readingMeant};
 ghost use Rattle.dispatch.specs.Transcribing.{PlanRun};
 
-// Makes the request of this kind and number.
+// Makes the request of this kind and number. Records past the full size stay.
 pub fn make_request(
     drone_count: &[u16],
     dependency_count: &[u16],
@@ -30,7 +32,7 @@ pub fn make_request(
     dependencies: &mut [Dependency],
     kind: u8,
     number: u16,
-) -> Answered
+) -> NumberedReply
     ensures { λ r.
         ⌜
         RequestMade limits (tablesOfRecords limits
@@ -41,6 +43,7 @@ pub fn make_request(
         (now («drone_count» .entry)) (now («dependency_count» .entry)) (now (names .entry)) (now («stop_counts» .entry))
         (now (locations .entry)) (now (times .entry)) (now (visited .exit)) (now («drone_flags» .exit))
         (now (dependencies .exit)))
+        × (drop (limits .dependencies) (now (dependencies .exit)) ≡ drop (limits .dependencies) (now (dependencies .entry)))
         ⌝ }
 {
     if kind == keys::GRANT_KIND {
@@ -131,6 +134,7 @@ pub fn make_requests(
         (now (locations .entry)) (now (times .entry)) (now (visited .exit)) (now («drone_flags» .exit))
         (now (dependencies .exit)))
         (now (replies .exit)) (now (details .exit))
+        × (drop (limits .dependencies) (now (dependencies .exit)) ≡ drop (limits .dependencies) (now (dependencies .entry)))
         ⌝ }
 {
     let mut i = 0;
@@ -167,7 +171,7 @@ pub fn run(
     ensures { λ r.
         ⌜
         PlanRun limits (now (text .entry)) (requestsIn count (now (kinds .entry)) (now (numbers .entry)))
-        (now (replies .entry)) (now (details .entry)) r (now (replies .exit)) (now (details .exit))
+        (now (replies .entry)) (now (details .entry)) (readingMeant r) (now (replies .exit)) (now (details .exit))
         ⌝ }
 {
     let mut drone_count = [0u16; 1];

@@ -1,5 +1,5 @@
 -- The first two refusals by the ways through their code, and what a call then knows: that a table is too small, that the tables are not sound, or that they can be used. Assumes nothing.
-use mathlib.Core.Path.{_≡_, refl, sym, ap, _∙_}
+use mathlib.Core.Path.{_≡_, refl, sym, _∙_}
 use mathlib.Core.Bool.{Bool, true, false, not}
 use Prim.Native.Nat.{ℕ}
 use native.Mathlib.Omega.{arith}
@@ -14,18 +14,18 @@ use Rattle.log.specs.Claims.{Usable}
 use Rattle.log.proofs.Steps.{step-41, step-40}
 use Rattle.flat.specs.declared.calls.TablesCheck.{TablesCheck}
 use Rattle.flat.specs.declared.calls.TablesCheck.the-variants.{Usable as CanBeUsed, TooSmall, NotSound}
-use Rattle.flat.specs.Checking.{checkOf, checkNumber}
+use Rattle.flat.specs.Checking.{checkOf}
 use Rattle.flat.proofs.Answers.{answered}
 
--- an answer that another one would be
-clash : (x y : TablesCheck) (m n : ℕ) → checkNumber x ≡ m → checkNumber y ≡ n → (m ≡ n → ⊥) → x ≡ y → ⊥
-clash x y m n p q d e = d (sym p ∙ ap checkNumber e ∙ q)
-
+-- the three answers are different
 pub small-unusable : TooSmall ≡ CanBeUsed → ⊥
-small-unusable = clash TooSmall CanBeUsed 41 0 refl refl (λ z. omega (arith, z))
+small-unusable e = let z : _≡_ {A = ℕ} 0 1 = cc in omega arith
 
 pub unsound-unusable : NotSound ≡ CanBeUsed → ⊥
-unsound-unusable = clash NotSound CanBeUsed 40 0 refl refl (λ z. omega (arith, z))
+unsound-unusable e = let z : _≡_ {A = ℕ} 0 1 = cc in omega arith
+
+small-not-unsound : TooSmall ≡ NotSound → ⊥
+small-not-unsound e = let z : _≡_ {A = ℕ} 0 1 = cc in omega arith
 
 module _ (L : Limits) (t : Tables) where
   -- ---- the check's returns
@@ -55,7 +55,7 @@ module _ (L : Limits) (t : Tables) where
     says-too-small e = by-cases (fullSize L t)
         (λ f. by-cases (sound L t)
         (λ s. absurd (small-unusable (sym e ∙ is-r ∙ rw (f, s) refl)))
-        (λ s. absurd (clash TooSmall NotSound 41 40 refl refl (λ z. omega (arith, z)) (sym e ∙ is-r ∙ rw (f, s) refl))))
+        (λ s. absurd (small-not-unsound (sym e ∙ is-r ∙ rw (f, s) refl))))
         (λ f. f)
 
     pub says-not-sound : r ≡ NotSound → (fullSize L t ≡ true) × (sound L t ≡ false)
@@ -64,15 +64,15 @@ module _ (L : Limits) (t : Tables) where
         (λ f. by-cases (sound L t)
         (λ s. absurd (unsound-unusable (sym e ∙ is-r ∙ rw (f, s) refl)))
         (λ s. (f, s)))
-        (λ f. absurd (clash NotSound TooSmall 40 41 refl refl (λ z. omega (arith, z)) (sym e ∙ is-r ∙ rw f refl)))
+        (λ f. absurd (small-not-unsound (sym (sym e ∙ is-r ∙ rw f refl))))
 
     pub says-usable : r ≡ CanBeUsed → Usable L t
     unfolding checkOf
     says-usable e = by-cases (fullSize L t)
         (λ f. by-cases (sound L t)
         (λ s. (f, s))
-        (λ s. absurd (clash CanBeUsed NotSound 0 40 refl refl (λ z. omega (arith, z)) (sym e ∙ is-r ∙ rw (f, s) refl))))
-        (λ f. absurd (clash CanBeUsed TooSmall 0 41 refl refl (λ z. omega (arith, z)) (sym e ∙ is-r ∙ rw f refl)))
+        (λ s. absurd (unsound-unusable (sym (sym e ∙ is-r ∙ rw (f, s) refl)))))
+        (λ f. absurd (small-unusable (sym (sym e ∙ is-r ∙ rw f refl))))
 
     -- ---- the calls that are refused by it
 

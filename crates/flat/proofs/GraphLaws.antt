@@ -16,6 +16,7 @@ use Rattle.tables.specs.Tables.{PlanLists, Tables, drones, dependencies}
 use Rattle.tables.specs.Flags.{turnedBit, flipBit}
 use Rattle.tables.proofs.FlagLaws.{flip-turned}
 use Rattle.precedence.specs.Graph.{Plan, Wait, Formed, Kept, cyclic, cost, makespan}
+use Rattle.precedence.proofs.Agreement.{GraphsAgree, AwaitedIn, awaited-in, cyclic-agree, cost-agree, makespan-agree}
 use Rattle.plan.specs.Stops.{start, owner, number}
 use Rattle.plan.specs.Room.{Counts}
 use Rattle.plan.specs.Claims.{Numbered, Unfixed}
@@ -28,9 +29,7 @@ use Rattle.cycles.proofs.Placed.{formed as flat-formed}
 use Rattle.sound.specs.Asked.{GraphTables, InForce}
 use Rattle.sound.proofs.Clauses.{Sound, sound-says}
 use Rattle.sound.proofs.Local.{wait-is}
-use Rattle.sound.proofs.SameGraph.{cyclic-same}
-use Rattle.rounds.specs.Remaining.{SamePlan, Ready}
-use Rattle.rounds.proofs.SamePlans.{same-cost, same-makespan}
+use Rattle.rounds.specs.Remaining.{Ready}
 use Rattle.log.specs.Claims.{Usable}
 use Rattle.log.specs.Calls.{flipped, costs, costReply, rounds, roundsReply}
 use Rattle.log.proofs.Checks.{Passes}
@@ -105,17 +104,17 @@ module _ (counts : List ℕ) (G : Plan) (owners starts lasts from into : List �
   pub laid-tables : n ≤ limits .stops → G .count ≤ limits .dependencies → D ≤ limits .drones → FlatTables owners starts lasts D n from into (G .count)
   laid-tables a b c = record { placed = placed; has-owners = omega (arith, T .owners-size); few-stops = a; few-waits = b; few-drones = c }
 
+  pub laid-agree : GraphsAgree P G
+  laid-agree = record { drones-agree = refl; lasts-agree = T .lasts-are; counts-agree = refl; waits-agree = waits-are }
+
+  pub laid-in : AwaitedIn P
+  laid-in = awaited-in P P-formed
+
   pub laid-cyclic : cyclic P ≡ cyclic G
-  laid-cyclic = sym (cyclic-same G P P-formed (record { drones-same = refl; last-same = T .lasts-are; count-same = refl; wait-same = waits-are }))
+  laid-cyclic = cyclic-agree P G laid-agree laid-in
 
   pub laid-kept : (visited : List ℕ) → Kept G (at visited) → Kept P (at visited)
   laid-kept visited K k l = subst (λ (z : Wait). z .stop ≤ at visited (z .waiter) → z .until ≤ at visited (z .awaited)) (sym (waits-are k l)) (K k l)
-
-  pub laid-same : SamePlan P G
-  laid-same = record { drones-same = refl; last-same = λ d l. sym (T .lasts-are d l); count-same = refl; wait-same = λ k l. sym (waits-are k l) }
-
-  pub laid-formed : Formed P
-  laid-formed = P-formed
 
 -- ---- one wait exchanged
 
@@ -224,17 +223,17 @@ module _ (t : Tables) (u : Usable limits t) where
         within = λ d l. omega (arith, T .lasts-are d l, facts-now .place-in d l);
       }
 
-    flat-same : SamePlan laidPlan ordered
-    flat-same = laid-same (p .stopCounts) ordered owners starts lasts from into T order-formed (λ d l. refl) (have-stops limits p (S .accepted))
+    flat-agree : GraphsAgree laidPlan ordered
+    flat-agree = laid-agree (p .stopCounts) ordered owners starts lasts from into T order-formed (λ d l. refl) (have-stops limits p (S .accepted))
 
-    laid-plan-formed : Formed laidPlan
-    laid-plan-formed = laid-formed (p .stopCounts) ordered owners starts lasts from into T order-formed (λ d l. refl) (have-stops limits p (S .accepted))
+    flat-in : AwaitedIn laidPlan
+    flat-in = laid-in (p .stopCounts) ordered owners starts lasts from into T order-formed (λ d l. refl) (have-stops limits p (S .accepted))
 
     pub order-cost : cost laidPlan (at (t .visited)) ≡ cost ordered (at (t .visited))
-    order-cost = same-cost laidPlan ordered flat-same laid-plan-formed (at (t .visited)) (at (t .visited)) (λ d l. refl)
+    order-cost = cost-agree laidPlan ordered flat-agree flat-in (at (t .visited)) (at (t .visited)) (λ d l. refl)
 
     pub order-makespan : makespan laidPlan (at (t .visited)) ≡ makespan ordered (at (t .visited))
-    order-makespan = same-makespan laidPlan ordered flat-same laid-plan-formed (at (t .visited)) (at (t .visited)) (λ d l. refl)
+    order-makespan = makespan-agree laidPlan ordered flat-agree flat-in (at (t .visited)) (at (t .visited)) (λ d l. refl)
 
   -- ---- the order now in force
 

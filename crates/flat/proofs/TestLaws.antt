@@ -1,39 +1,22 @@
 -- The tests of one dependency before it is turned: by the ways through their code, and what their result says. Assumes nothing.
 use mathlib.Core.Path.{_≡_, refl, sym, _∙_, subst}
 use mathlib.Core.Bool.{Bool, true, false, cond}
-use Prim.Native.Nat.{ℕ, suc, _-_, _≤_, _<_}
-use native.Mathlib.Omega.{arith}
-use lib.Dec.{leb, eqb}
-use borrow.Author.Tests.{le-leb, lt-leb, eqb-true, eq-eqb}
+use Prim.Native.Nat.{ℕ, _≤_, _<_}
+use lib.Dec.{leb}
+use borrow.Author.Tests.{le-leb, lt-leb}
 use Rattle.below.specs.Below.{at}
-use Rattle.below.proofs.Tests.{same-test}
 use Rattle.tables.specs.Limits.{Limits}
 use Rattle.tables.specs.Tables.{Tables, dependencies}
-use Rattle.tables.specs.Flags.{turnedBit, fixedBit, underWayBit}
+use Rattle.tables.specs.Flags.{turnedBit, fixedBit}
 use Rattle.plan.specs.Field.{FieldPlan, planOf, Dependency, inForce, fixed}
 use Rattle.plan.specs.Status.{Status, statusIn, entered, now}
 use Rattle.log.specs.Claims.{Usable}
+use Rattle.sound.specs.Parts.{enteredBy}
 use Rattle.sound.proofs.Clauses.{sound-says}
 use Rattle.log.proofs.SoundParts.{fixed-bit}
 use Rattle.flat.specs.declared.turn_tests.TurnTest.{TurnTest}
 use Rattle.flat.specs.declared.turn_tests.TurnTest.the-variants.{Passes, NoDependency, Fixed, FirstEntered}
-use Rattle.flat.specs.Entering.{enteredBy}
 use Rattle.flat.specs.TurnTests.{firstOf, testOf}
-
--- ---- has a drone entered a stop
-
-module _ (place flag stop : ℕ) where
-  pub entered-visited : stop ≤ place → true ≡ enteredBy place flag stop
-  entered-visited h = rw (le-leb stop place h) refl
-
-  module _ (h : place < stop) where
-    pub entered-still : underWayBit flag ≡ false → false ≡ enteredBy place flag stop
-    entered-still e = rw (lt-leb stop place h, e) refl
-
-    pub entered-next : underWayBit flag ≡ true → eqb (stop - place) 1 ≡ enteredBy place flag stop
-    entered-next e = rw (lt-leb stop place h, e) (same-test (eqb (stop - place) 1) (eqb stop (suc place))
-        (λ q. eq-eqb stop (suc place) (omega (arith, eqb-true (stop - place) 1 q)))
-        (λ q. eq-eqb (stop - place) 1 (omega (arith, eqb-true stop (suc place) q))))
 
 -- the first side of a dependency is entered, in the order now in force
 first-entered : (F : FieldPlan) (s : Status) (x : Dependency) (b : Bool) → cond b (entered F s (x .second) (x .secondStop)) (entered F s (x .first) (x .firstStop)) ≡ entered F s (inForce b x .first) (inForce b x .firstStop)
@@ -80,6 +63,7 @@ module _ (L : Limits) (t : Tables) (u : Usable L t) (w : ℕ) where
         (is-q : q ≡ enteredBy (at (t .visited) (at (t .plan .secondDrones) w)) (at (t .droneFlags) (at (t .plan .secondDrones) w)) (at (t .plan .secondStops) w))
         (is-b : b ≡ turnedBit (at (t .flags) w)) (is-x : x ≡ cond b q p) where
       x-is : x ≡ entered F S (now F S w .first) (now F S w .firstStop)
+      unfolding enteredBy
       x-is = is-x ∙ rw (is-b, is-p, is-q) (first-entered F S (F .dependency w) (turnedBit (at (t .flags) w)))
 
       pub test-32 : x ≡ true → FirstEntered ≡ testOf t w

@@ -1,6 +1,5 @@
 -- What every call asks of the tables first (document 01, "Where each refusal is checked"). Assumes nothing.
 use mathlib.Core.Bool.{Bool, true, false}
-use Prim.Native.Nat.{ℕ}
 use Rattle.tables.specs.Limits.{Limits}
 use Rattle.tables.specs.Tables.{Tables, fullSize}
 use Rattle.sound.specs.Sound.{sound}
@@ -14,9 +13,3 @@ pickCheck false a b = b
 -- "41 a lent table is below full size", then "40 not sound"
 unfoldable pub checkOf : Limits → Tables → TablesCheck
 checkOf L t = pickCheck (fullSize L t) (pickCheck (sound L t) Usable NotSound) TooSmall
-
--- the document's number of the refusal, 0 for none
-abbrev pub checkNumber : TablesCheck → ℕ
-checkNumber Usable = 0
-checkNumber TooSmall = 41
-checkNumber NotSound = 40

@@ -3,6 +3,5 @@ pub mod Checking
 pub mod Writing
 pub mod TurnReplies
 pub mod TurnTests
-pub mod Entering
 pub mod InForce
 pub mod Exchanging

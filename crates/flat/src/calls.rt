@@ -36,14 +36,14 @@ ghost use Rattle.flat.specs.Checking.{checkOf};
 ghost use Rattle.flat.specs.Writing.{writeMeant, PlanWritten};
 
 // What every call but the reading asks first.
-pub enum TablesCheck {
+enum TablesCheck {
     Usable,
     TooSmall,
     NotSound,
 }
 
 // "41 a lent table is below full size", then "40 not sound". Of tables that can be used it leaves the graph now in force in the last five tables.
-pub fn check_graph(
+fn check_graph(
     drone_count: &[u16],
     dependency_count: &[u16],
     names: &[u8],
@@ -122,7 +122,7 @@ pub fn check_graph(
 }
 
 // "41 a lent table is below full size", then "40 not sound".
-pub fn check_tables(
+fn check_tables(
     drone_count: &[u16],
     dependency_count: &[u16],
     names: &[u8],

@@ -1,11 +1,11 @@
 // The calls' core: over lent tables whose dependencies are flat columns of numbers.
 pub mod calls;
-pub mod cores;
-pub mod costing;
-pub mod exchanging;
-pub mod groups;
-pub mod previewing;
+mod cores;
+mod costing;
+mod exchanging;
+mod groups;
+mod previewing;
 pub mod replies;
 pub mod turn_replies;
-pub mod turn_tests;
-pub mod turning;
+mod turn_tests;
+mod turning;

@@ -1,7 +1,7 @@
 // What is asked of one dependency before it is turned: 30, 31 and 32.
+use sound::entered::has_entered;
 use tables::flags::is_fixed;
 use tables::flags::is_turned;
-use tables::flags::is_under_way;
 ghost use mathlib.Core.Path.{_≡_};
 ghost use mathlib.Core.Bool.{cond};
 ghost use Prim.Native.Nat.{_<_};
@@ -9,8 +9,8 @@ ghost use lib.ListN.{length};
 ghost use Rattle.below.specs.Below.{at};
 ghost use Rattle.tables.specs.Limits.{limits};
 ghost use Rattle.tables.specs.Tables.{tablesOf};
+ghost use Rattle.sound.specs.Parts.{enteredBy};
 ghost use Rattle.log.specs.Claims.{Usable};
-ghost use Rattle.flat.specs.Entering.{enteredBy};
 ghost use Rattle.flat.specs.TurnTests.{testOf};
 
 // A dependency that may be turned if no cycle comes of it, or why it may not.
@@ -19,19 +19,6 @@ pub enum TurnTest {
     NoDependency,
     Fixed,
     FirstEntered,
-}
-
-// Whether a drone has visited a stop or is under way to it.
-fn has_entered(place: u16, flag: u8, stop: u16) -> bool
-    ensures { λ r. ⌜ r ≡ enteredBy place flag stop ⌝ }
-{
-    if stop <= place {
-        return true;
-    }
-    if !is_under_way(flag) {
-        return false;
-    }
-    stop - place == 1
 }
 
 // Whether one side of a dependency, a drone and its stop, is entered.

@@ -1,5 +1,5 @@
-// Runs the flights of document 01 that are not in the proved set, and names with capitals. Each plan text is read; printed are the number of the answer and, of a refusal by the text, the byte
-// offset of the line at fault.
+// Runs the flights of document 01 that are not in the proved set, names with capitals (document 02, point 5), and five readings of our own. Each plan text is read; printed are the number of the
+// answer and, of a refusal by the text, the byte offset of the line at fault.
 mod texts;
 
 use dispatch::program;
@@ -30,8 +30,8 @@ fn print_where(refusal: Refusal) {
     }
 }
 
-// Reads a plan text and prints the flight's line.
-fn fly(title: &[u8], text: &[u8]) {
+// Reads a plan text and prints the line of its reading.
+fn print_reading(title: &[u8], text: &[u8]) {
     let reading = program::read_text(text);
     io::write_all(STDOUT_FILENO, title);
     io::write_all(STDOUT_FILENO, &COLON);
@@ -44,21 +44,24 @@ fn fly(title: &[u8], text: &[u8]) {
 }
 
 fn main() {
-    fly(&texts::EMPTY_TITLE, &texts::EMPTY);
-    fly(&texts::DRONES_32_TITLE, &texts::DRONES_32);
-    fly(&texts::DRONES_33_TITLE, &texts::DRONES_33);
-    fly(&texts::NAME_24_TITLE, &texts::NAME_24);
-    fly(&texts::NAME_25_TITLE, &texts::NAME_25);
-    fly(&texts::LOCATION_TOP_TITLE, &texts::LOCATION_TOP);
-    fly(&texts::LOCATION_OVER_TITLE, &texts::LOCATION_OVER);
-    fly(&texts::TIME_TOP_TITLE, &texts::TIME_TOP);
-    fly(&texts::TIME_OVER_TITLE, &texts::TIME_OVER);
-    fly(&texts::EIGHTEENTH_TITLE, &texts::EIGHTEENTH);
-    fly(&texts::CAPITALS_TITLE, &texts::CAPITALS);
-    fly(&texts::EIGHTEENTH_CAPITAL_TITLE, &texts::EIGHTEENTH_CAPITAL);
-    fly(&texts::CAPITAL_KEY_TITLE, &texts::CAPITAL_KEY);
-    fly(&texts::CAPITALS_24_TITLE, &texts::CAPITALS_24);
-    fly(&texts::BRACKET_TITLE, &texts::BRACKET);
+    // "Flights to try"
+    print_reading(&texts::EMPTY_TITLE, &texts::EMPTY);
+    print_reading(&texts::DRONES_32_TITLE, &texts::DRONES_32);
+    print_reading(&texts::DRONES_33_TITLE, &texts::DRONES_33);
+    print_reading(&texts::NAME_24_TITLE, &texts::NAME_24);
+    print_reading(&texts::NAME_25_TITLE, &texts::NAME_25);
+    print_reading(&texts::LOCATION_OVER_TITLE, &texts::LOCATION_OVER);
+    print_reading(&texts::TIME_TOP_TITLE, &texts::TIME_TOP);
+    // names with capitals
+    print_reading(&texts::CAPITALS_TITLE, &texts::CAPITALS);
+    print_reading(&texts::EIGHTEENTH_CAPITAL_TITLE, &texts::EIGHTEENTH_CAPITAL);
+    print_reading(&texts::CAPITAL_KEY_TITLE, &texts::CAPITAL_KEY);
+    print_reading(&texts::CAPITALS_24_TITLE, &texts::CAPITALS_24);
+    // our own
+    print_reading(&texts::BRACKET_TITLE, &texts::BRACKET);
+    print_reading(&texts::LOCATION_TOP_TITLE, &texts::LOCATION_TOP);
+    print_reading(&texts::TIME_OVER_TITLE, &texts::TIME_OVER);
+    print_reading(&texts::EIGHTEENTH_TITLE, &texts::EIGHTEENTH);
     let long = [b'a'; 32769];
-    fly(&texts::LONG_TITLE, &long);
+    print_reading(&texts::LONG_TITLE, &long);
 }

@@ -20,7 +20,7 @@ use Rattle.plan.specs.Field.{FieldPlan, planOf, graph}
 use Rattle.plan.specs.Status.{Status, statusIn}
 use Rattle.plan.proofs.Turns.{graph-formed}
 use Rattle.sound.specs.Sound.{sound}
-use Rattle.log.specs.CallLog.{grant, arrive, Reply, accepted, isAccepted, number, short}
+use Rattle.log.specs.CallLog.{grant, arrive, Reply, accepted, isAccepted, replyNumber, short}
 use Rattle.log.specs.Calls.{arrived, replyOf, arriveStep}
 use Rattle.log.specs.Claims.{Usable, MayGo, MayArrive}
 use Rattle.log.proofs.Checks.{is-accepted, grant-accepted, grant-passed, free-goes}
@@ -216,7 +216,7 @@ module _ (L : Limits) (t : Tables) where
   then-40 f s Nothing = rw (f, s) refl
   then-40 f s (Arrived d) = rw (step-40 L t f s (arrive d)) refl
 
-  then-own : (report : Report) (d : ℕ) → report ≡ Arrived d → isAccepted (arriveStep L t d .reply) ≡ false → pressStep L t report .reply ≡ pressRefused (number (arriveStep L t d .reply))
+  then-own : (report : Report) (d : ℕ) → report ≡ Arrived d → isAccepted (arriveStep L t d .reply) ≡ false → pressStep L t report .reply ≡ pressRefused (replyNumber (arriveStep L t d .reply))
   unfolding pressStep afterArrival
   then-own report d e a = rw (e, a) refl
 

@@ -15,7 +15,7 @@ use Rattle.tables.specs.Flags.{underWayBit}
 use Rattle.sound.specs.Sound.{sound}
 use Rattle.plan.specs.Field.{planOf}
 use Rattle.plan.specs.Status.{statusIn, unmet}
-use Rattle.log.specs.CallLog.{grant, arrive, Reply, accepted, refused, mustWait, number, isAccepted, replyIn}
+use Rattle.log.specs.CallLog.{grant, arrive, Reply, accepted, refused, mustWait, replyNumber, isAccepted, replyIn}
 use Rattle.log.specs.Calls.{Answer, replyOf, grantStep, arriveStep, step, Answered}
 use Rattle.log.specs.Claims.{Usable}
 use Rattle.log.proofs.Steps.{step-41, step-40}
@@ -58,10 +58,10 @@ module _ (u b : ℕ) where
   reply-0 n m = rw (ne-eqb u 41 n, ne-eqb u 40 m) refl
 
 -- the arrival's own number
-pub refused-by : (n k : ℕ) (r : Reply) → n ≡ number r → n ≡ k → pressRefused k ≡ pressRefused (number r)
+pub refused-by : (n k : ℕ) (r : Reply) → n ≡ replyNumber r → n ≡ k → pressRefused k ≡ pressRefused (replyNumber r)
 refused-by n k r e q = ap (λ (x : ℕ). pressRefused x) (sym q ∙ e)
 
-pub refused-24 : (x : ArriveReply) (n : ℕ) → n ≡ number (arriveMeant x) → isAccepted (arriveMeant x) ≡ false → n ≢ 41 → n ≢ 40 → n ≢ 20 → pressRefused 24 ≡ pressRefused (number (arriveMeant x))
+pub refused-24 : (x : ArriveReply) (n : ℕ) → n ≡ replyNumber (arriveMeant x) → isAccepted (arriveMeant x) ≡ false → n ≢ 41 → n ≢ 40 → n ≢ 20 → pressRefused 24 ≡ pressRefused (replyNumber (arriveMeant x))
 refused-24 arrival.Arrived n e f a b c = true-or-false refl f
 refused-24 arrival.TablesTooSmall n e f a b c = absurd (a e)
 refused-24 arrival.NotSound n e f a b c = absurd (b e)
@@ -167,9 +167,9 @@ module _ (L : Limits) (t : Tables) (report : Report) where
     a : Answered (step L) t (arrive (droneOf report)) r t₁
     a = subst (λ (x : ℕ). Answered (step L) t (arrive x) r t₁) drone got
 
-    pub press-refused : (m : PressOutcome) → isAccepted r ≡ false → m ≡ pressRefused (number r) → PressedAs (pressStep L t report) m t₁
+    pub press-refused : (m : PressOutcome) → isAccepted r ≡ false → m ≡ pressRefused (replyNumber r) → PressedAs (pressStep L t report) m t₁
     unfolding afterArrival
-    press-refused m e q = rw (reported-is reported, ap isAccepted (sym (a .replied)) ∙ e) (record { replied = q ∙ ap (λ (x : Reply). pressRefused (number x)) (a .replied); left = a .left })
+    press-refused m e q = rw (reported-is reported, ap isAccepted (sym (a .replied)) ∙ e) (record { replied = q ∙ ap (λ (x : Reply). pressRefused (replyNumber x)) (a .replied); left = a .left })
 
     pub press-arrived : (m : PressOutcome) (t′ : Tables) → isAccepted r ≡ true → PressedAs (grantAllStep L t₁) m t′ → PressedAs (pressStep L t report) m t′
     unfolding afterArrival

@@ -9,6 +9,7 @@ use Rattle.tables.specs.Tables.{Tables, fullSize}
 use Rattle.sound.specs.Sound.{sound}
 use Rattle.log.specs.CallLog.{Call, grant, isAccepted}
 use Rattle.log.specs.Calls.{Answer, step, arriveStep, recorded, tablesAfter}
+use Rattle.plan.specs.Field.{planOf}
 use Rattle.log.specs.Demand.{Found}
 use Rattle.log.proofs.Steps.{step-41, step-40}
 use Rattle.log.proofs.Whole.{demand3}
@@ -59,4 +60,4 @@ module _ (L : Limits) where
       ∙ sym (after-both (step L) (callsOf L t report) _ t)
 
 pub demand3-of-presses : Demand3OfPresses
-demand3-of-presses L lists t actions t′ read performed = subst (λ (z : Tables). Found lists (callsOfAll L t actions) (recorded (step L) t (callsOfAll L t actions)) z) (sym (performed-calls L performed)) (demand3 L lists t (callsOfAll L t actions) read)
+demand3-of-presses L lists t actions t′ read performed = subst (λ (z : Tables). Found (planOf lists) (callsOfAll L t actions) (recorded (step L) t (callsOfAll L t actions)) z) (sym (performed-calls L performed)) (demand3 L lists t (callsOfAll L t actions) read)

@@ -10,7 +10,7 @@ use Rattle.tables.specs.Tables.{PlanLists, Tables, drones, fullSize}
 use Rattle.plan.specs.Field.{planOf}
 use Rattle.plan.specs.Status.{statusIn}
 use Rattle.sound.specs.Sound.{sound}
-use Rattle.log.specs.CallLog.{Call, grant, arrive, Reply, isAccepted, number, short}
+use Rattle.log.specs.CallLog.{Call, grant, arrive, Reply, isAccepted, replyNumber, short}
 use Rattle.log.specs.Calls.{step, arriveStep, recorded, tablesAfter, Answered, AsRead}
 use Rattle.log.specs.Claims.{Usable, MayGo}
 use Rattle.log.specs.Demand.{Found}
@@ -57,7 +57,7 @@ module _ (L : Limits) where
 
 -- demand 3 of any list of presses, grants, arrivals and turns
 abbrev pub Demand3OfPresses : Type 0
-Demand3OfPresses = (L : Limits) (lists : PlanLists) (t : Tables) (actions : List Action) (t′ : Tables) → AsRead L lists t → Performed L t actions t′ → Found lists (callsOfAll L t actions) (recorded (step L) t (callsOfAll L t actions)) t′
+Demand3OfPresses = (L : Limits) (lists : PlanLists) (t : Tables) (actions : List Action) (t′ : Tables) → AsRead L lists t → Performed L t actions t′ → Found (planOf lists) (callsOfAll L t actions) (recorded (step L) t (callsOfAll L t actions)) t′
 
 -- ---- the order
 
@@ -99,7 +99,7 @@ module _ (L : Limits) (t : Tables) (report : Report) where
   pub record RefusedInOrder : Type 0 where
     pub first-41 : fullSize L t ≡ false → after .reply ≡ pressRefused 41
     pub then-40 : fullSize L t ≡ true → sound L t ≡ false → after .reply ≡ pressRefused 40
-    pub then-own : (d : ℕ) → report ≡ Arrived d → isAccepted (arriveStep L t d .reply) ≡ false → after .reply ≡ pressRefused (number (arriveStep L t d .reply))
+    pub then-own : (d : ℕ) → report ≡ Arrived d → isAccepted (arriveStep L t d .reply) ≡ false → after .reply ≡ pressRefused (replyNumber (arriveStep L t d .reply))
     pub else-none : Usable L t → ((d : ℕ) → report ≡ Arrived d → isAccepted (arriveStep L t d .reply) ≡ true) → (bits : ℕ) × (after .reply ≡ granted bits)
 
   -- "An arrival that is refused grants nothing": whatever is refused leaves every table as it was

@@ -7,7 +7,7 @@ use Rattle.below.specs.Below.{pick, sumBelow}
 use Rattle.tables.specs.Limits.{Limits}
 use Rattle.tables.specs.Tables.{Tables, fullSize}
 use Rattle.sound.specs.Sound.{sound}
-use Rattle.log.specs.CallLog.{Reply, accepted, refused, mustWait, isAccepted, number}
+use Rattle.log.specs.CallLog.{Reply, accepted, refused, mustWait, isAccepted, replyNumber}
 use Rattle.log.specs.Calls.{Answer, grantStep, arriveStep}
 use Rattle.handset.specs.declared.replies.Report.{Report}
 use Rattle.handset.specs.declared.replies.Report.the-variants.{Nothing, Arrived}
@@ -83,7 +83,7 @@ module _ (L : Limits) where
 
   -- "An arrival that is refused grants nothing": the arrival's own number
   unfoldable pub afterArrival : Answer → PressAnswer
-  afterArrival a = cond (isAccepted (a .reply)) (grantAllStep (a .tables)) (record { reply = pressRefused (number (a .reply)); tables = a .tables })
+  afterArrival a = cond (isAccepted (a .reply)) (grantAllStep (a .tables)) (record { reply = pressRefused (replyNumber (a .reply)); tables = a .tables })
 
   -- "A press takes one arrival, if one was reported"
   unfoldable pub pressStep : Tables → Report → PressAnswer

@@ -5,7 +5,7 @@ ghost use mathlib.Core.Path.{_≡_};
 ghost use mathlib.Core.Bool.{false};
 ghost use Prim.Native.Nat.{_+_, _^_, _<_};
 ghost use Rattle.below.specs.Below.{pick};
-ghost use Rattle.log.specs.CallLog.{isAccepted, number};
+ghost use Rattle.log.specs.CallLog.{isAccepted, replyNumber};
 ghost use Rattle.flat.specs.Replies.{grantMeant, arriveMeant};
 ghost use Rattle.handset.specs.Press.{isReported, droneOf, unusable, pressMeant, pressRefused, replyWith};
 
@@ -55,7 +55,7 @@ pub fn is_arrived(reply: ArriveReply) -> bool
 }
 
 fn arrive_number(reply: ArriveReply) -> u8
-    ensures { λ r. ⌜ r ≡ number (arriveMeant reply) ⌝ }
+    ensures { λ r. ⌜ r ≡ replyNumber (arriveMeant reply) ⌝ }
 {
     match reply {
         ArriveReply::Arrived => 0,
@@ -69,7 +69,7 @@ fn arrive_number(reply: ArriveReply) -> u8
 // The arrival's own refusal.
 pub fn refusal_of(reply: ArriveReply) -> PressReply
     requires { ⌜ isAccepted (arriveMeant reply) ≡ false ⌝ }
-    ensures { λ r. ⌜ pressMeant r ≡ pressRefused (number (arriveMeant reply)) ⌝ }
+    ensures { λ r. ⌜ pressMeant r ≡ pressRefused (replyNumber (arriveMeant reply)) ⌝ }
 {
     let refused_by = arrive_number(reply);
     if refused_by == 41 {

@@ -3,7 +3,7 @@ use Prim.Native.Nat.{ℕ, zero, suc, _+_, _-_, _≤_, _<_}
 use native.Mathlib.Nat.{add-zero, not-suc-le-zero, le-of-suc-le-suc}
 use native.Mathlib.Numerals.{add-one}
 use native.Mathlib.Omega.{arith}
-use mathlib.Core.Path.{_≡_, refl, sym, _∙_}
+use mathlib.Core.Path.{_≡_, refl, sym, ap, _∙_}
 use mathlib.Core.List.{List, [], _∷_, _++_}
 use mathlib.Core.Bool.{Bool, true, false, cond, _&&_, _||_, false≢true}
 use lib.Dec.{leb, ltb, eqb}
@@ -13,7 +13,7 @@ use lib.Seq.{drop-cons, sets-eq, length-sets, getD-drop, length-take-le}
 use Rattle.tables.specs.Limits.{Limits}
 use Rattle.lines.specs.Bytes.{byteAt, isAt}
 use Rattle.lines.specs.Keys.{nameKey}
-use Rattle.lines.specs.Names.{untilFeed, lineEnd, part, isCapital, smallForm, isNameByte, nameBytes, goodName, isTextByte, textBytes, textName, nameAt, nameLine, rowOf, nameOf}
+use Rattle.lines.specs.Names.{untilFeed, lineEnd, part, isCapital, smallForm, isNameByte, nameBytes, goodName, isTextByte, textBytes, textName, nameAt, nameLine, rowOf, nameOf, RowsTellNames}
 use Rattle.lines.proofs.ByteLaws.{both, isAt-append, small, isAt-in, one-at, Stands, stands-join, stands-byte, stands-parts, stands-head, part-at, byte-here}
 use Rattle.lines.proofs.Letters.{capital-range, small-length, text-name}
 use Rattle.lines.proofs.NameCases.{end-here, end-on, name-is, end-within}
@@ -203,3 +203,6 @@ pub name-of-row : (L : Limits) (x : List ℕ) → goodName L x ≡ true → name
 name-of-row L x g =
     let l = good-length L x g in
     rw (sets-eq x (replicate (L .name) 0) 0 (omega (arith, l .1, length-replicate {A = ℕ} (L .name) 0))) (name-then x (drop (0 + length x) (replicate (L .name) 0)) (good-bytes L x g) (zeros (0 + length x) (L .name)))
+
+pub rows-tell-names : (L : Limits) → RowsTellNames L
+rows-tell-names L a b ga gb = (λ e. sym (name-of-row L a ga) ∙ ap nameOf e ∙ name-of-row L b gb, λ e. ap (rowOf L) e)

@@ -6,7 +6,7 @@ use mathlib.Core.List.{List, [], _∷_, _++_}
 use mathlib.Core.Bool.{Bool, true, false, cond}
 use lib.Dec.{ltb}
 use borrow.Author.Tests.{ltb-true}
-use Rattle.lines.specs.Keys.{lineFeed, atSign, planLine, agentsKey, nameKey, stopsKey, goKey, endLine}
+use Rattle.lines.specs.Keys.{lineFeed, atSign, firstLine, agentsKey, nameKey, stopsKey, goKey, lastLine}
 use Rattle.lines.specs.Numbers.{digits, digitsOf, field}
 use Rattle.lines.specs.Stops.{stopLine, stopLines, countLine}
 use Rattle.lines.specs.Names.{isCapital, smallByte, smallForm, nameLine}
@@ -22,7 +22,7 @@ small-parts x y e f = small-append x y ∙ rw (e, f) refl
 
 -- ---- the fixed bytes
 
-pub plan-own : smallForm planLine ≡ planLine
+pub plan-own : smallForm firstLine ≡ firstLine
 unfolding smallForm smallByte isCapital
 plan-own = refl
 
@@ -34,7 +34,7 @@ pub stops-key-own : smallForm stopsKey ≡ stopsKey
 unfolding smallForm smallByte isCapital
 stops-key-own = refl
 
-pub end-own : smallForm endLine ≡ endLine
+pub end-own : smallForm lastLine ≡ lastLine
 unfolding smallForm smallByte isCapital
 end-own = refl
 

@@ -22,7 +22,7 @@ use Rattle.lines.specs.declared.stops.GoLine.{GoLine}
 use Rattle.lines.specs.declared.numbers.Number.the-variants.{Value, Malformed}
 use Rattle.lines.specs.declared.refusal.Refusal.the-variants.{Form, Range}
 use Rattle.lines.specs.declared.stops.GoLine.the-variants.{At, Refused}
-use Rattle.lines.specs.declared.stops.GoLines.the-variants.{Taken, Refused as NotTaken}
+use Rattle.lines.specs.declared.stops.GoLines.the-variants.{Read, Refused as NotRead}
 use Rattle.lines.specs.declared.stops.Count.the-variants.{Refused as NoCount, Is}
 
 pub go-none : (L : Limits) (text : List ℕ) (at : ℕ) → isAt text at goKey ≡ false → goAt L text at ≡ Refused (Form at)
@@ -89,11 +89,11 @@ module _ (L : Limits) (text : List ℕ) (at l t e : ℕ) where
   go-read h = inv-key (isAt text at goKey) refl h
 
 -- the lines that are left: none, one at fault, one more
-pub stops-none : (L : Limits) (n : ℕ) (text : List ℕ) (at : ℕ) → n ≡ 0 → stopsAt L n text at ≡ record { locations = []; times = []; answer = Taken at }
+pub stops-none : (L : Limits) (n : ℕ) (text : List ℕ) (at : ℕ) → n ≡ 0 → stopsAt L n text at ≡ record { locations = []; times = []; answer = Read at }
 unfolding stopsAt
 stops-none L n text at e = rw e
 
-pub stops-bad : (L : Limits) (n : ℕ) (text : List ℕ) (at : ℕ) (s : GoLine) (r : Refusal) → 0 < n → s ≡ goAt L text at → s ≡ Refused r → stopsAt L n text at ≡ record { locations = []; times = []; answer = NotTaken r }
+pub stops-bad : (L : Limits) (n : ℕ) (text : List ℕ) (at : ℕ) (s : GoLine) (r : Refusal) → 0 < n → s ≡ goAt L text at → s ≡ Refused r → stopsAt L n text at ≡ record { locations = []; times = []; answer = NotRead r }
 unfolding stopsAt
 stops-bad L zero text at s r h e k = absurd (not-suc-le-zero h)
 stops-bad L (suc n) text at s r h e k = rw (← e, k)

@@ -11,7 +11,7 @@ use Rattle.tables.specs.Limits.{Limits}
 use Rattle.lines.specs.Bytes.{isAt}
 use Rattle.lines.specs.Numbers.{isDigit, fieldAt, field, SevenDigits}
 use Rattle.lines.specs.Keys.{goKey}
-use Rattle.lines.specs.Stops.{goAt, stopsFrom, stopsAt, stopLine, stopLines, countIn, countAt, countLine, InRange}
+use Rattle.lines.specs.Stops.{goAt, stopsFrom, stopsAt, stopLine, stopLines, countIn, countAt, countLine, StopsInRange}
 use Rattle.lines.proofs.ByteLaws.{Stands, stands-join, stands-parts}
 use Rattle.lines.proofs.NumberRoundTrip.{field-stands, field-back}
 use Rattle.lines.proofs.StopCases.{go-in, go-read, count-in}
@@ -20,7 +20,7 @@ use Rattle.lines.specs.declared.stops.GoLine.{GoLine}
 use Rattle.lines.specs.declared.numbers.Number.the-variants.{Value, Malformed}
 use Rattle.lines.specs.declared.refusal.Refusal.the-variants.{Form, Range}
 use Rattle.lines.specs.declared.stops.GoLine.the-variants.{At, Refused}
-use Rattle.lines.specs.declared.stops.GoLines.the-variants.{Taken}
+use Rattle.lines.specs.declared.stops.GoLines.the-variants.{Read}
 use Rattle.lines.specs.declared.stops.Count.the-variants.{Refused as NoCount, Is}
 
 -- a line `go=` that was read, and one that was written
@@ -40,20 +40,20 @@ go-back L text at l t u p q h =
     ∙ ap (At l t) (simp length-append (omega arith))
 
 -- the stops that were read
-pub stops-stand : (L : Limits) (n : ℕ) (text : List ℕ) (at e : ℕ) → stopsAt L n text at .answer ≡ Taken e → Stands text at (stopLines (stopsAt L n text at .locations) (stopsAt L n text at .times)) e
+pub stops-stand : (L : Limits) (n : ℕ) (text : List ℕ) (at e : ℕ) → stopsAt L n text at .answer ≡ Read e → Stands text at (stopLines (stopsAt L n text at .locations) (stopsAt L n text at .times)) e
 unfolding stopsAt stopLines isAt
 stops-stand L zero text at e h = let p : at ≡ e = cc h in rw (← p) (record { there = refl; next-is = sym (add-zero at) })
 stops-stand L (suc n) text at e h = by-line (goAt L text at) refl h (λ e′ h′. stops-stand L n text e′ e h′)
   where
-    by-line : (s : GoLine) → goAt L text at ≡ s → stopsFrom s (λ e′. stopsAt L n text e′) .answer ≡ Taken e
-        → ((e′ : ℕ) → stopsAt L n text e′ .answer ≡ Taken e → Stands text e′ (stopLines (stopsAt L n text e′ .locations) (stopsAt L n text e′ .times)) e)
+    by-line : (s : GoLine) → goAt L text at ≡ s → stopsFrom s (λ e′. stopsAt L n text e′) .answer ≡ Read e
+        → ((e′ : ℕ) → stopsAt L n text e′ .answer ≡ Read e → Stands text e′ (stopLines (stopsAt L n text e′ .locations) (stopsAt L n text e′ .times)) e)
         → Stands text at (stopLines (stopsFrom s (λ e′. stopsAt L n text e′) .locations) (stopsFrom s (λ e′. stopsAt L n text e′) .times)) e
     by-line (At l t e′) f h ih = stands-join (go-stands L text at l t e′ f) (ih e′ h)
     by-line (Refused r) f h ih = absurd (let z : _≡_ {A = ℕ} 0 1 = cc h in omega arith)
 
 -- stops that were written are read back
-pub stops-back : (L : Limits) (ls ts text : List ℕ) (at : ℕ) → SevenDigits L → InRange L ls ts → isAt text at (stopLines ls ts) ≡ true
-    → stopsAt L (length ls) text at ≡ record { locations = ls; times = ts; answer = Taken (at + length (stopLines ls ts)) }
+pub stops-back : (L : Limits) (ls ts text : List ℕ) (at : ℕ) → SevenDigits L → StopsInRange L ls ts → isAt text at (stopLines ls ts) ≡ true
+    → stopsAt L (length ls) text at ≡ record { locations = ls; times = ts; answer = Read (at + length (stopLines ls ts)) }
 unfolding stopsAt stopLines isAt
 stops-back L [] [] text at u r h = rw add-zero
 stops-back L [] (t ∷ ts) text at u r h = absurd r
@@ -65,13 +65,13 @@ stops-back L (l ∷ ls) (t ∷ ts) text at u r h =
     rw (g, stops-back L ls ts text (at + length (stopLine l t)) u (r .2) (w .1), m)
 
 -- as many stops as lines, if all were taken
-pub stops-many : (L : Limits) (n : ℕ) (text : List ℕ) (at e : ℕ) → stopsAt L n text at .answer ≡ Taken e → (length (stopsAt L n text at .locations) ≡ n) × (length (stopsAt L n text at .times) ≡ n)
+pub stops-many : (L : Limits) (n : ℕ) (text : List ℕ) (at e : ℕ) → stopsAt L n text at .answer ≡ Read e → (length (stopsAt L n text at .locations) ≡ n) × (length (stopsAt L n text at .times) ≡ n)
 unfolding stopsAt
 stops-many L zero text at e h = (refl, refl)
 stops-many L (suc n) text at e h = by-line (goAt L text at) h (λ e′ h′. stops-many L n text e′ e h′)
   where
-    by-line : (s : GoLine) → stopsFrom s (λ e′. stopsAt L n text e′) .answer ≡ Taken e
-        → ((e′ : ℕ) → stopsAt L n text e′ .answer ≡ Taken e → (length (stopsAt L n text e′ .locations) ≡ n) × (length (stopsAt L n text e′ .times) ≡ n))
+    by-line : (s : GoLine) → stopsFrom s (λ e′. stopsAt L n text e′) .answer ≡ Read e
+        → ((e′ : ℕ) → stopsAt L n text e′ .answer ≡ Read e → (length (stopsAt L n text e′ .locations) ≡ n) × (length (stopsAt L n text e′ .times) ≡ n))
         → (length (stopsFrom s (λ e′. stopsAt L n text e′) .locations) ≡ suc n) × (length (stopsFrom s (λ e′. stopsAt L n text e′) .times) ≡ suc n)
     by-line (At l t e′) h ih = let w = ih e′ h in (ap suc (w .0), ap suc (w .1))
     by-line (Refused r) h ih = absurd (let z : _≡_ {A = ℕ} 0 1 = cc h in omega arith)

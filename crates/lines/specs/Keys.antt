@@ -11,8 +11,8 @@ abbrev pub atSign : ℕ
 atSign = 64
 
 -- `plan=1` and its line feed
-abbrev pub planLine : List ℕ
-planLine = 112 ∷ 108 ∷ 97 ∷ 110 ∷ 61 ∷ 49 ∷ lineFeed ∷ []
+abbrev pub firstLine : List ℕ
+firstLine = 112 ∷ 108 ∷ 97 ∷ 110 ∷ 61 ∷ 49 ∷ lineFeed ∷ []
 
 -- `agents=`
 abbrev pub agentsKey : List ℕ
@@ -31,5 +31,5 @@ abbrev pub goKey : List ℕ
 goKey = 103 ∷ 111 ∷ 61 ∷ []
 
 -- `end=plan` and its line feed
-abbrev pub endLine : List ℕ
-endLine = 101 ∷ 110 ∷ 100 ∷ 61 ∷ 112 ∷ 108 ∷ 97 ∷ 110 ∷ lineFeed ∷ []
+abbrev pub lastLine : List ℕ
+lastLine = 101 ∷ 110 ∷ 100 ∷ 61 ∷ 112 ∷ 108 ∷ 97 ∷ 110 ∷ lineFeed ∷ []

@@ -1,6 +1,8 @@
 -- The line `name=TEXT`, and the rows of the table of names. "name: 1 to 24 bytes from a-z, 0-9, hyphen"; "Names are compared over all their bytes." "Capitals A to Z are to
 -- be allowed, and a capital is the same letter as its small form everywhere names are compared. The tables hold the small form." Assumes nothing.
 use Prim.Native.Nat.{ℕ, zero, suc, _+_, _-_}
+use mathlib.Core.Path.{_≡_}
+use mathlib.Core.Logic.{_↔_}
 use mathlib.Core.List.{List, [], _∷_, _++_}
 use mathlib.Core.Bool.{Bool, true, false, cond, _&&_, _||_}
 use lib.Dec.{leb, eqb}
@@ -90,6 +92,10 @@ rowOf L name = sets (replicate (L .name) 0) 0 name
 unfoldable pub nameOf : List ℕ → List ℕ
 nameOf [] = []
 nameOf (b ∷ row) = cond (eqb b 0) [] (b ∷ nameOf row)
+
+-- "Names are compared over all their bytes": names have equal rows exactly when they are equal, so comparing rows compares names
+abbrev pub RowsTellNames : Limits → Type 0
+RowsTellNames L = (a b : List ℕ) → goodName L a ≡ true → goodName L b ≡ true → (rowOf L a ≡ rowOf L b) ↔ (a ≡ b)
 
 -- one of the n rows from a position on is this row, over all its bytes
 unfoldable pub among : Limits → ℕ → List ℕ → ℕ → List ℕ → Bool

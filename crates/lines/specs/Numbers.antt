@@ -34,7 +34,7 @@ fieldAt text at b = closed text b (numberAt text at)
 
 -- ---- as written
 
--- the last `left` digits of a number, without leading zeros
+-- a number below 10^left, without leading zeros; a larger one is cut to its last `left` digits, zeros among them
 unfoldable pub digits : ℕ → ℕ → List ℕ
 digits zero n = []
 digits (suc left) n = cond (ltb n 10) ((48 + n) ∷ []) (digits left (n / 10) ++ (48 + n % 10) ∷ [])

@@ -17,7 +17,7 @@ use Rattle.lines.specs.declared.refusal.Refusal.the-variants.{Form, Rang
 use Rattle.lines.specs.declared.stops.GoLine.{GoLine}
 use Rattle.lines.specs.declared.stops.GoLine.the-variants.{At, Refused}
 use Rattle.lines.specs.declared.stops.GoLines.{GoLines}
-use Rattle.lines.specs.declared.stops.GoLines.the-variants.{Taken, Refused as NotTaken}
+use Rattle.lines.specs.declared.stops.GoLines.the-variants.{Read, Refused as NotRead}
 use Rattle.lines.specs.declared.stops.Count.{Count}
 use Rattle.lines.specs.declared.stops.Count.the-variants.{Is, Refused as NoCount}
 
@@ -49,10 +49,10 @@ pub record StopList : Type 0 where
 
 abbrev pub stopsFrom : GoLine → (ℕ → StopList) → StopList
 stopsFrom (At l t e) more = let r = more e in record { locations = l ∷ r .locations; times = t ∷ r .times; answer = r .answer }
-stopsFrom (Refused r) more = record { locations = []; times = []; answer = NotTaken r }
+stopsFrom (Refused r) more = record { locations = []; times = []; answer = NotRead r }
 
 unfoldable pub stopsAt : Limits → ℕ → List ℕ → ℕ → StopList
-stopsAt L zero text at = record { locations = []; times = []; answer = Taken at }
+stopsAt L zero text at = record { locations = []; times = []; answer = Read at }
 stopsAt L (suc n) text at = stopsFrom (goAt L text at) (λ e. stopsAt L n text e)
 
 -- the tables after the stops were stored from an entry on
@@ -81,8 +81,8 @@ countLine key n = key ++ field n lineFeed
 -- ---- stops that can be written and read back
 
 -- stops in range, as many locations as times
-abbrev pub InRange : Limits → List ℕ → List ℕ → Type 0
-InRange L [] [] = Unit {0}
-InRange L [] (t ∷ ts) = ⊥
-InRange L (l ∷ ls) [] = ⊥
-InRange L (l ∷ ls) (t ∷ ts) = (l ≤ L .location) × (t ≤ L .time) × InRange L ls ts
+abbrev pub StopsInRange : Limits → List ℕ → List ℕ → Type 0
+StopsInRange L [] [] = Unit {0}
+StopsInRange L [] (t ∷ ts) = ⊥
+StopsInRange L (l ∷ ls) [] = ⊥
+StopsInRange L (l ∷ ls) (t ∷ ts) = (l ≤ L .location) × (t ≤ L .time) × StopsInRange L ls ts

@@ -59,7 +59,7 @@ pub fn field(text: &[u8], at: usize, close: u8) -> Number
     Number::Malformed
 }
 
-// Writes the last `left` digits of a number, without leading zeros.
+// Writes a number below 10^left, without leading zeros; a larger one is cut to its last `left` digits.
 fn put_digits(buf: &mut [u8], at: usize, value: usize, left: usize) -> usize
     requires { ⌜ at + left < 2 ^ 32 ⌝ }
     ensures { λ r. ⌜ Put (now (buf .entry)) at (digits left value) (now (buf .exit)) r ⌝ }

@@ -1,10 +1,9 @@
-// Why a text is refused, with the offset of the line at fault.
+// Why a line is refused, with its offset.
 
 pub enum Refusal {
-    Long(usize),
     Form(usize),
-    Name(usize),
     Range(usize),
-    Same(usize),
-    Total(usize),
+    Name(usize),
+    SameName(usize),
+    TooManyStops(usize),
 }

@@ -23,7 +23,7 @@ pub enum GoLine {
 }
 
 // The form of both numbers is judged before the range of either.
-pub fn go_line(text: &[u8], at: usize) -> GoLine
+fn go_line(text: &[u8], at: usize) -> GoLine
     ensures { λ r. ⌜ r ≡ goAt limits (now (text .entry)) at ⌝ }
 {
     if !bytes::starts(text, at, &keys::GO) {
@@ -54,7 +54,7 @@ pub fn go_line(text: &[u8], at: usize) -> GoLine
 
 // The lines of one drone's stops.
 pub enum GoLines {
-    Taken { next: usize },
+    Read { next: usize },
     Refused(Refusal),
 }
 
@@ -90,7 +90,7 @@ pub fn go_lines(
         }
         i += 1;
     }
-    GoLines::Taken { next: here }
+    GoLines::Read { next: here }
 }
 
 // A line of a key, a number and a line feed: `agents=N`, `stops=M`.
@@ -119,7 +119,7 @@ pub fn count_line(text: &[u8], at: usize, key: &[u8], most: usize) -> Count
 }
 
 // Writes a line `go=LOCATION@TIME`.
-pub fn put_stop(buf: &mut [u8], at: usize, location: usize, time: usize) -> usize
+fn put_stop(buf: &mut [u8], at: usize, location: usize, time: usize) -> usize
     requires { ⌜ at < 2 ^ 31 ⌝ }
     ensures { λ r. ⌜ Put (now (buf .entry)) at (stopLine location time) (now (buf .exit)) r ⌝ }
 {

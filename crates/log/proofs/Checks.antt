@@ -17,7 +17,7 @@ use Rattle.precedence.specs.Graph.{blocks, free, cyclic}
 use Rattle.precedence.proofs.Rounds.{blocks-true, blocks-open, free-if, free-open, free-unfinished}
 use Rattle.plan.specs.Field.{FieldPlan, inForce, flipAll, graph, fixed}
 use Rattle.plan.specs.Status.{Status, entered, unmet, now, waitsKept}
-use Rattle.log.specs.CallLog.{grant, arrive, turn, turnAll, Reply, accepted, refused, mustWait, number, isAccepted, Check, when, firstThatHolds, isGroup, walked, refusals, replyIn}
+use Rattle.log.specs.CallLog.{grant, arrive, turn, turnAll, Reply, accepted, refused, mustWait, replyNumber, awaited, isAccepted, Check, when, firstThatHolds, isGroup, walked, refusals, replyIn}
 use Rattle.log.specs.Claims.{IntoNext, Met, Waiting, MayGo, MustWait, MayArrive, Unentered, Turnable, Group, AllTurnable}
 use Rattle.log.proofs.Groups.{group-iff}
 
@@ -29,14 +29,8 @@ is-accepted (refused n) e = true-or-false e refl
 is-accepted (mustWait w) e = true-or-false e refl
 
 -- replies with different numbers are different
-pub differ {ℓ} : {A : Type ℓ} {a b : Reply} → a ≡ b → number a ≢ number b → A
-differ e n = absurd (n (ap number e))
-
--- what a reply carries
-abbrev pub carried : Reply → ℕ
-carried accepted = 0
-carried (refused n) = 0
-carried (mustWait w) = w
+pub differ {ℓ} : {A : Type ℓ} {a b : Reply} → a ≡ b → replyNumber a ≢ replyNumber b → A
+differ e n = absurd (n (ap replyNumber e))
 
 -- ---- the table of refusals, row by row
 
@@ -54,7 +48,7 @@ said (c ∷ cs) r e = go (c .holds) refl e (said cs r)
     go false h e k = inr (h, k e)
 
 -- a row whose reply is another one does not hold, and the reply is found further down
-pub further : {b : Bool} {a r : Reply} {A : Type 0} → ((b ≡ true) × (a ≡ r)) ⊎ ((b ≡ false) × A) → number a ≢ number r → (b ≡ false) × A
+pub further : {b : Bool} {a r : Reply} {A : Type 0} → ((b ≡ true) × (a ≡ r)) ⊎ ((b ≡ false) × A) → replyNumber a ≢ replyNumber r → (b ≡ false) × A
 further (inl (h, e)) n = differ e n
 further (inr x) n = x
 
@@ -128,7 +122,7 @@ module _ (F : FieldPlan) (s : Status) where
           let (a, r) = further (said (refusals F s (grant d)) (mustWait w) e) (omega arith) in
           let (b, r) = further r (omega arith) in
           let (c, r) = further r (omega arith) in
-          elim r [ inl (u, q) ↦ waits (ap carried q) u (waiting-rows a b c) | inr (u, q) ↦ differ q (omega arith) ]
+          elim r [ inl (u, q) ↦ waits (ap awaited q) u (waiting-rows a b c) | inr (u, q) ↦ differ q (omega arith) ]
 
       from : MustWait F s d w → firstThatHolds (refusals F s (grant d)) ≡ mustWait w
       from m =
@@ -215,7 +209,7 @@ module _ (F : FieldPlan) (s : Status) where
   -- ---- a list of dependencies, walked
 
   -- a reply other than 30 to 32 comes from the rows after the walk, and each dependency of the list passed
-  walk-said : (ws : List ℕ) (after : List Check) (r : Reply) → 30 ≢ number r → 31 ≢ number r → 32 ≢ number r → Said (walked F s ws after) r → ((w : ℕ) → isIn w ws ≡ true → Passes w) × Said after r
+  walk-said : (ws : List ℕ) (after : List Check) (r : Reply) → 30 ≢ replyNumber r → 31 ≢ replyNumber r → 32 ≢ replyNumber r → Said (walked F s ws after) r → ((w : ℕ) → isIn w ws ≡ true → Passes w) × Said after r
   unfolding isIn
   walk-said [] after r x y z h = (λ w e. true-or-false e refl, h)
   walk-said (w ∷ ws) after r x y z h =
@@ -233,7 +227,7 @@ module _ (F : FieldPlan) (s : Status) where
   abbrev pub cycleRow : List ℕ → List Check
   cycleRow ws = when (cyclic (graph F (flipAll turned ws))) (refused 34) ∷ []
 
-  group-said : waitsKept F s ≡ true → (ws : List ℕ) (r : Reply) → 36 ≢ number r → 30 ≢ number r → 31 ≢ number r → 32 ≢ number r → replyIn F s (turnAll ws) ≡ r → Group ws × (AllTurnable F s ws × Said (cycleRow ws) r)
+  group-said : waitsKept F s ≡ true → (ws : List ℕ) (r : Reply) → 36 ≢ replyNumber r → 30 ≢ replyNumber r → 31 ≢ replyNumber r → 32 ≢ replyNumber r → replyIn F s (turnAll ws) ≡ r → Group ws × (AllTurnable F s ws × Said (cycleRow ws) r)
   unfolding replyIn
   group-said k ws r n x y z e =
       let (a, h) = further (said (refusals F s (turnAll ws)) r e) n in
@@ -257,11 +251,11 @@ module _ (F : FieldPlan) (s : Status) where
   )
 
   -- every row after 36's has another number
-  walk-other : (ws : List ℕ) (after : List Check) (n : ℕ) → n ≢ 30 → n ≢ 31 → n ≢ 32 → number (firstThatHolds after) ≢ n → number (firstThatHolds (walked F s ws after)) ≢ n
+  walk-other : (ws : List ℕ) (after : List Check) (n : ℕ) → n ≢ 30 → n ≢ 31 → n ≢ 32 → replyNumber (firstThatHolds after) ≢ n → replyNumber (firstThatHolds (walked F s ws after)) ≢ n
   walk-other [] after n x y z h = h
   walk-other (w ∷ ws) after n x y z h = go (leb count w) (fixed F w) (entered F s (now F s w .first) (now F s w .firstStop)) (walk-other ws after n x y z h)
     where
-      go : (a b c : Bool) → number (firstThatHolds (walked F s ws after)) ≢ n → number (firstThatHolds (when a (refused 30) ∷ when b (refused 31) ∷ when c (refused 32) ∷ walked F s ws after)) ≢ n
+      go : (a b c : Bool) → replyNumber (firstThatHolds (walked F s ws after)) ≢ n → replyNumber (firstThatHolds (when a (refused 30) ∷ when b (refused 31) ∷ when c (refused 32) ∷ walked F s ws after)) ≢ n
       go true b c k = λ e. omega arith
       go false true c k = λ e. omega arith
       go false false true k = λ e. omega arith
@@ -270,11 +264,11 @@ module _ (F : FieldPlan) (s : Status) where
   pub no-group : (ws : List ℕ) → (replyIn F s (turnAll ws) ≡ refused 36) ↔ (Group ws → ⊥)
   unfolding replyIn
   no-group ws = (
-    λ e g. walk-other ws (cycleRow ws) 36 (omega arith) (omega arith) (omega arith) (last-row (cyclic (graph F (flipAll turned ws)))) (ap number (rw (group-iff ws .1 g) at e)),
+    λ e g. walk-other ws (cycleRow ws) 36 (omega arith) (omega arith) (omega arith) (last-row (cyclic (graph F (flipAll turned ws)))) (ap replyNumber (rw (group-iff ws .1 g) at e)),
     λ n. by-cases (isGroup ws) (λ q. absurd (n (group-iff ws .0 q))) (λ q. rw q refl),
   )
     where
-      last-row : (b : Bool) → number (firstThatHolds (when b (refused 34) ∷ [])) ≢ 36
+      last-row : (b : Bool) → replyNumber (firstThatHolds (when b (refused 34) ∷ [])) ≢ 36
       last-row true = omega arith
       last-row false = omega arith
 
@@ -285,8 +279,8 @@ module _ (F : FieldPlan) (s : Status) where
     pub stops : (rest : List Check) → firstThatHolds (walked F s (at ws index ∷ []) rest) ≡ refused n
     pub passed-before : (j : ℕ) → j < index → Passes (at ws j)
 
-  pub walk-first : (ws : List ℕ) (after : List Check) (n : ℕ) → number (firstThatHolds after) ≢ n → firstThatHolds (walked F s ws after) ≡ refused n → FirstStopped ws n
-  walk-first [] after n h e = absurd (h (ap number e))
+  pub walk-first : (ws : List ℕ) (after : List Check) (n : ℕ) → replyNumber (firstThatHolds after) ≢ n → firstThatHolds (walked F s ws after) ≡ refused n → FirstStopped ws n
+  walk-first [] after n h e = absurd (h (ap replyNumber e))
   walk-first (w ∷ ws) after n h e = go (leb count w) refl (fixed F w) refl (entered F s (now F s w .first) (now F s w .firstStop)) refl e (walk-first ws after n h)
     where
       here : ((rest : List Check) → firstThatHolds (walked F s (w ∷ []) rest) ≡ refused n) → FirstStopped (w ∷ ws) n
@@ -302,10 +296,10 @@ module _ (F : FieldPlan) (s : Status) where
       go false p false q true r e k = here (λ rest. rw (p, q, r) e)
       go false p false q false r e k = let f = k e in record { index = suc (f .index); index-in = omega (arith, f .index-in); stops = f .stops; passed-before = before (p, q, r) (f .index) (f .passed-before) }
 
-  cycle-other : (ws : List ℕ) (n : ℕ) → 30 ≤ n → n ≤ 32 → number (firstThatHolds (cycleRow ws)) ≢ n
+  cycle-other : (ws : List ℕ) (n : ℕ) → 30 ≤ n → n ≤ 32 → replyNumber (firstThatHolds (cycleRow ws)) ≢ n
   cycle-other ws n x y = go (cyclic (graph F (flipAll turned ws)))
     where
-      go : (b : Bool) → number (firstThatHolds (when b (refused 34) ∷ [])) ≢ n
+      go : (b : Bool) → replyNumber (firstThatHolds (when b (refused 34) ∷ [])) ≢ n
       go true = λ e. omega arith
       go false = λ e. omega arith
 
@@ -313,7 +307,7 @@ module _ (F : FieldPlan) (s : Status) where
   unfolding replyIn
   group-stopped ws n x y e = by-cases (isGroup ws)
       (λ g. (group-iff ws .0 g, walk-first ws (cycleRow ws) n (cycle-other ws n x y) (rw g at e)))
-      (λ g. absurd (let q : _≡_ {A = ℕ} 36 n = ap number (rw g at e) in omega arith))
+      (λ g. absurd (let q : _≡_ {A = ℕ} 36 n = ap replyNumber (rw g at e) in omega arith))
 
   -- ---- one turn is the list of length one
 

@@ -2,9 +2,10 @@
 use mathlib.Core.Path.{_≡_, refl, sym, ap, _∙_}
 use mathlib.Core.Bool.{Bool, true, false, not}
 use mathlib.Core.List.{List, [], _∷_}
-use Prim.Native.Nat.{ℕ, zero, suc, _+_, _≤_}
+use Prim.Native.Nat.{ℕ, zero, suc, _≤_}
 use native.Mathlib.Omega.{arith}
 use lib.ListN.{length, getD}
+use Rattle.below.proofs.Count.{count-front}
 use Rattle.below.specs.Below.{pick, isIn, allBelow, anyBelow, countBelow, maxBelow, firstBelow, sumBelow, listBelow, picks, rowsBelow}
 use Rattle.below.proofs.Every.{allBelow-all}
 use Rattle.tables.specs.Limits.{Limits}
@@ -30,20 +31,6 @@ use Rattle.log.proofs.Whole.{stays-sound, stays-full}
 -- the drones held in round i
 abbrev named : List (List ℕ) → ℕ → ℕ → Bool
 named rounds i d = isIn d (getD rounds i [])
-
--- the first item of a count
-count-front : (n : ℕ) (f : ℕ → Bool) → countBelow (suc n) f ≡ pick (f 0) 1 0 + countBelow n (λ i. f (suc i))
-unfolding countBelow
-count-front zero f = go (f 0)
-  where
-    go : (b : Bool) → pick b 1 0 ≡ pick b 1 0 + 0
-    go true = refl
-    go false = refl
-count-front (suc n) f = go (f (suc n)) (count-front n f)
-  where
-    go : (b : Bool) → countBelow (suc n) f ≡ pick (f 0) 1 0 + countBelow n (λ i. f (suc i)) → pick b (suc (countBelow (suc n) f)) (countBelow (suc n) f) ≡ pick (f 0) 1 0 + pick b (suc (countBelow n (λ i. f (suc i)))) (countBelow n (λ i. f (suc i)))
-    go true h = omega arith
-    go false h = h
 
 module _ (P : Plan) where
   -- the first round in front

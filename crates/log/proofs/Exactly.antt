@@ -18,7 +18,7 @@ use Rattle.plan.specs.Status.{Status, statusIn, fixedUnturned, waitsKept}
 use Rattle.plan.specs.Claims.{Unfixed}
 use Rattle.plan.proofs.Turns.{flipAll-elim, graph-formed}
 use Rattle.sound.specs.Sound.{sound}
-use Rattle.log.specs.CallLog.{Call, grant, arrive, turn, turnAll, Check, firstThatHolds, walked, Reply, accepted, refused, mustWait, number, replyIn, Entry, statusOf}
+use Rattle.log.specs.CallLog.{Call, grant, arrive, turn, turnAll, Check, firstThatHolds, walked, Reply, accepted, refused, mustWait, replyNumber, replyIn, Entry, statusBy}
 use Rattle.log.specs.Calls.{Answer, flipFlags, replyOf, grantStep, arriveStep, turnStep, turnAllStep}
 use Rattle.log.specs.Claims.{Usable, MayGo, MustWait, MayArrive, Turnable, TurnedCycle, GrantedExactly, WaitsExactly, ArrivedExactly, SecondAfterFirst, TurnedExactly, CycleExactly, Group, AllTurnable, GroupCycle, GroupExactly, GroupCycleExactly, NoGroupExactly, FirstRefused, WalkedExactly, TurnIsGroup, LogTurnIsGroup}
 use Rattle.sound.proofs.Clauses.{sound-says}
@@ -46,7 +46,7 @@ module _ (L : Limits) (t : Tables) where
   S = statusIn t
 
   -- a reply that is neither 40 nor 41 is the status' own
-  passed : (c : Call) (r : Reply) → number r < 40 → replyOf L t c ≡ r → Usable L t × (replyIn F S c ≡ r)
+  passed : (c : Call) (r : Reply) → replyNumber r < 40 → replyOf L t c ≡ r → Usable L t × (replyIn F S c ≡ r)
   unfolding replyOf
   passed c r n e = go (fullSize L t) (sound L t) refl refl e
     where
@@ -55,7 +55,7 @@ module _ (L : Limits) (t : Tables) where
       go true false f s e = differ e (omega arith)
       go false b f s e = differ e (omega arith)
 
-  exactly : (A : Type 0) (c : Call) (r : Reply) → number r < 40 → (Usable L t → (replyIn F S c ≡ r) ↔ A) → (replyOf L t c ≡ r) ↔ (Usable L t × A)
+  exactly : (A : Type 0) (c : Call) (r : Reply) → replyNumber r < 40 → (Usable L t → (replyIn F S c ≡ r) ↔ A) → (replyOf L t c ≡ r) ↔ (Usable L t × A)
   unfolding replyOf
   exactly A c r n iff = (
     λ e. let (u, q) = passed c r n e in (u, iff u .0 q),
@@ -145,4 +145,4 @@ module _ (L : Limits) (t : Tables) where
 
 pub log-turn-is-group : (F : FieldPlan) (log : List Entry) (w : ℕ) → LogTurnIsGroup F log w
 unfolding isIn
-log-turn-is-group F log w = record { same-reply = one-reply F (statusOf log) w; same-named = λ v. refl }
+log-turn-is-group F log w = record { same-reply = one-reply F (statusBy log) w; same-named = λ v. refl }

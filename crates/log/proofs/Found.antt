@@ -11,7 +11,7 @@ use Rattle.below.proofs.Tests.{by-cases, and-left, and-right}
 use Rattle.below.specs.Below.{firstBelow}
 use Rattle.log.proofs.Checks.{grant-accepted, free-goes}
 use Rattle.log.proofs.Log.{arrivals, grants, turns, GoodLog}
-use Rattle.log.specs.CallLog.{Entry, statusOf, holdsLocation, short}
+use Rattle.log.specs.CallLog.{Entry, statusBy, holdsLocation, short}
 use Rattle.log.specs.Demand.{HeldByOne, GoesOn, Finishes}
 use Rattle.plan.proofs.Turns.{graph-formed}
 use Rattle.plan.specs.Field.{Dependency, FieldPlan, inForce, waitOf, graph, AcceptedPlan}
@@ -32,7 +32,7 @@ module _ (F : FieldPlan) (plan : AcceptedPlan F) (log : List Entry) (good : Good
   unfolding short
   log-goes-on d l s = by-cases (ltb (arrivals log free-one) (grants log free-one))
       (λ u. inl (free-one, is-free .0, u))
-      (λ u. inr (free-one, is-free .0, grant-accepted F (statusOf log) free-one .1 (free-goes F (statusOf log) free-one (is-free .0) (is-free .1) u)))
+      (λ u. inr (free-one, is-free .0, grant-accepted F (statusBy log) free-one .1 (free-goes F (statusBy log) free-one (is-free .0) (is-free .1) u)))
     where
       free-one : ℕ
       free-one = firstBelow drones (free (graph F (turns log)) (arrivals log))
@@ -51,7 +51,7 @@ module _ (F : FieldPlan) (plan : AcceptedPlan F) (log : List Entry) (good : Good
     since : s ≤ grants log d
     still : arrivals log d ≤ s
 
-  holds-at : (d l : ℕ) → holdsLocation F (statusOf log) d l ≡ true → (s : ℕ) × HoldsAt d l s
+  holds-at : (d l : ℕ) → holdsLocation F (statusBy log) d l ≡ true → (s : ℕ) × HoldsAt d l s
   unfolding holdsLocation
   holds-at d l h = by-cases (eqb l (location d (arrivals log d)))
       (λ e. (arrivals log d, record { here = sym (eqb-true _ _ e); since = good .running .behind d; still = omega arith }))

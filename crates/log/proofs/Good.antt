@@ -40,18 +40,18 @@ module _ (F : FieldPlan) where
 
   -- ---- the three calls, when accepted. The status of counts p, e, t
 
-  abbrev pub statusBy : (ℕ → ℕ) → (ℕ → ℕ) → (ℕ → Bool) → Status
-  statusBy p e t = record { place = p; underWay = λ d. ltb (p d) (e d); turned = t }
+  abbrev pub countedStatus : (ℕ → ℕ) → (ℕ → ℕ) → (ℕ → Bool) → Status
+  countedStatus p e t = record { place = p; underWay = λ d. ltb (p d) (e d); turned = t }
 
-  pub good-grant : (p e : ℕ → ℕ) (t : ℕ → Bool) → Good p e t → (d : ℕ) → MayGo F (statusBy p e t) d → Good p (put e d (suc (p d))) t
+  pub good-grant : (p e : ℕ → ℕ) (t : ℕ → Bool) → Good p e t → (d : ℕ) → MayGo F (countedStatus p e t) d → Good p (put e d (suc (p d))) t
   good-grant p e t g d c = record {
-    running = grant-running (graph F t) p e (g .running) d (go-free F (statusBy p e t) d c);
+    running = grant-running (graph F t) p e (g .running) d (go-free F (countedStatus p e t) d c);
     within = put-elim (λ c z. c < drones → z ≤ last c) e d (suc (p d)) (λ l. c .waiting .unfinished) (λ c n. g .within c);
     unfixed = g .unfixed;
     acyclic = g .acyclic;
   }
 
-  pub good-arrive : (p e : ℕ → ℕ) (t : ℕ → Bool) → Good p e t → (d : ℕ) → MayArrive F (statusBy p e t) d → Good (put p d (suc (p d))) e t
+  pub good-arrive : (p e : ℕ → ℕ) (t : ℕ → Bool) → Good p e t → (d : ℕ) → MayArrive F (countedStatus p e t) d → Good (put p d (suc (p d))) e t
   good-arrive p e t g d c = record {
     running = arrive-running (graph F t) p e (g .running) d (omega (arith, g .running .ahead d, ltb-true (p d) (e d) (c .under-way)));
     within = g .within;
@@ -60,18 +60,18 @@ module _ (F : FieldPlan) where
   }
 
   -- a stop that is not entered is past the last entered one
-  not-entered : (p e : ℕ → ℕ) (t : ℕ → Bool) → Good p e t → (d k : ℕ) → Unentered F (statusBy p e t) d k → e d < k
+  not-entered : (p e : ℕ → ℕ) (t : ℕ → Bool) → Good p e t → (d k : ℕ) → Unentered F (countedStatus p e t) d k → e d < k
   not-entered p e t g d k (past, ahead) = by-cases (ltb (p d) (e d))
       (λ u. omega (arith, ahead u, g .running .ahead d))
       (λ u. omega (arith, ltb-false (p d) (e d) u))
 
   -- nobody has entered the stops of a dependency that may be turned, so nothing is asked of it
-  nothing-asked : (p e : ℕ → ℕ) (t : ℕ → Bool) → Good p e t → (w : ℕ) → Turnable F (statusBy p e t) w → (b : Bool) → w < count → waitOf (inForce b (dependency w)) .stop ≤ e (waitOf (inForce b (dependency w)) .waiter) → waitOf (inForce b (dependency w)) .until ≤ p (waitOf (inForce b (dependency w)) .awaited)
+  nothing-asked : (p e : ℕ → ℕ) (t : ℕ → Bool) → Good p e t → (w : ℕ) → Turnable F (countedStatus p e t) w → (b : Bool) → w < count → waitOf (inForce b (dependency w)) .stop ≤ e (waitOf (inForce b (dependency w)) .waiter) → waitOf (inForce b (dependency w)) .until ≤ p (waitOf (inForce b (dependency w)) .awaited)
   nothing-asked p e t g w c false l h = absurd (omega (arith, not-entered p e t g (dependency w .second) (dependency w .secondStop) (c .second-before)))
   nothing-asked p e t g w c true l h = absurd (omega (arith, not-entered p e t g (dependency w .first) (dependency w .firstStop) (c .first-before)))
 
   -- any list of dependencies none of which is fixed or entered, turned at once
-  pub good-turns : (p e : ℕ → ℕ) (t : ℕ → Bool) → Good p e t → (ws : List ℕ) → AllTurnable F (statusBy p e t) ws → cyclic (graph F (flipAll t ws)) ≡ false → Good p e (flipAll t ws)
+  pub good-turns : (p e : ℕ → ℕ) (t : ℕ → Bool) → Good p e t → (ws : List ℕ) → AllTurnable F (countedStatus p e t) ws → cyclic (graph F (flipAll t ws)) ≡ false → Good p e (flipAll t ws)
   good-turns p e t g ws c no-cycle = record {
     running = record {
       behind = g .running .behind;
@@ -79,7 +79,7 @@ module _ (F : FieldPlan) where
       over = flipAll-elim (λ v b. v < count → waitOf (inForce b (dependency v)) .stop ≤ e (waitOf (inForce b (dependency v)) .waiter) → waitOf (inForce b (dependency v)) .until ≤ p (waitOf (inForce b (dependency v)) .awaited)) t ws (λ w i. nothing-asked p e t g w (c w i)) (λ v. g .running .over v);
     };
     within = g .within;
-    unfixed = flipAll-elim (λ v b. v < count → b ≡ true → fixed F v ≡ false) t ws (λ w i b l u. unfixed-is F (statusBy p e t) (c w i .not-first) (c w i .not-last)) (λ v. g .unfixed v);
+    unfixed = flipAll-elim (λ v b. v < count → b ≡ true → fixed F v ≡ false) t ws (λ w i b l u. unfixed-is F (countedStatus p e t) (c w i .not-first) (c w i .not-last)) (λ v. g .unfixed v);
     acyclic = no-cycle;
   }
 
@@ -89,13 +89,13 @@ module _ (F : FieldPlan) (p e : ℕ → ℕ) (t : ℕ → Bool) (good : Good F p
   open FieldPlan F using (drones, last, count)
 
   -- an entered stop is at most the last entered one
-  pub entered-in : (d k : ℕ) → entered F (statusBy F p e t) d k ≡ true → k ≤ e d
+  pub entered-in : (d k : ℕ) → entered F (countedStatus F p e t) d k ≡ true → k ≤ e d
   entered-in d k h = by-cases (leb k (p d))
       (λ a. omega (arith, leb-true k (p d) a, good .running .behind d))
       (λ a. let m : ltb (p d) (e d) && eqb k (suc (p d)) ≡ true = sym (ap (λ (b : Bool). b || ltb (p d) (e d) && eqb k (suc (p d))) a) ∙ h in
       omega (arith, ltb-true (p d) (e d) (and-left _ _ m), eqb-true k (suc (p d)) (and-right (ltb (p d) (e d)) _ m)))
 
-  pub good-within : withinStops F (statusBy F p e t) ≡ true
+  pub good-within : withinStops F (countedStatus F p e t) ≡ true
   unfolding withinStops
   good-within = allBelow-all drones _ (λ d l. and-both (leb (p d) (last d)) _
       (le-leb (p d) (last d) (omega (arith, good .running .behind d, good .within d l)))
@@ -103,10 +103,10 @@ module _ (F : FieldPlan) (p e : ℕ → ℕ) (t : ℕ → Bool) (good : Good F p
       (λ u. rw (u, lt-leb (last d) (p d) (omega (arith, ltb-true (p d) (e d) u, good .within d l))))
       (λ u. rw u)))
 
-  pub good-waits : waitsKept F (statusBy F p e t) ≡ true
+  pub good-waits : waitsKept F (countedStatus F p e t) ≡ true
   unfolding waitsKept
-  good-waits = allBelow-all count _ (λ w l. by-cases (entered F (statusBy F p e t) (graph F t .wait w .waiter) (graph F t .wait w .stop))
-      (λ h. or-second (entered F (statusBy F p e t) (graph F t .wait w .waiter) (graph F t .wait w .stop)) _ h (le-leb _ _ (good .running .over w l (entered-in _ _ h))))
+  good-waits = allBelow-all count _ (λ w l. by-cases (entered F (countedStatus F p e t) (graph F t .wait w .waiter) (graph F t .wait w .stop))
+      (λ h. or-second (entered F (countedStatus F p e t) (graph F t .wait w .waiter) (graph F t .wait w .stop)) _ h (le-leb _ _ (good .running .over w l (entered-in _ _ h))))
       (λ h. or-first _ _ h))
     where
       or-second : (a b : Bool) → a ≡ true → b ≡ true → not a || b ≡ true
@@ -117,6 +117,6 @@ module _ (F : FieldPlan) (p e : ℕ → ℕ) (t : ℕ → Bool) (good : Good F p
       or-first true b x = true-or-false refl x
       or-first false b x = refl
 
-  pub good-unturned : fixedUnturned F (statusBy F p e t) ≡ true
+  pub good-unturned : fixedUnturned F (countedStatus F p e t) ≡ true
   unfolding fixedUnturned
   good-unturned = allBelow-all count _ (λ w l. by-cases (t w) (λ u. rw (u, good .unfixed w l u)) (λ u. rw u))

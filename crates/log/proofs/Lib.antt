@@ -9,6 +9,7 @@ pub mod SoundParts
 pub mod FlipLaws
 pub mod SameStatus
 pub mod Shown
+pub mod PlanAgreement
 pub mod Whole
 pub mod Steps
 pub mod Exactly

@@ -12,7 +12,7 @@ use Rattle.log.proofs.Checks.{grant-passed, arrive-passed, group-passed
 use Rattle.log.specs.Claims.{MayGo}
 use Rattle.log.proofs.Counts.{counted-more, isOdd-suc}
 use Rattle.log.proofs.Good.{Good, good-start, good-grant, good-arrive, good-turns, good-waits}
-use Rattle.log.specs.CallLog.{Call, grant, arrive, turn, turnAll, Reply, isAccepted, Entry, entry, isGrant, isArrival, isTurn, acceptedCalls, isOdd, statusOf, replyBy, logFrom}
+use Rattle.log.specs.CallLog.{Call, grant, arrive, turn, turnAll, Reply, isAccepted, Entry, entry, isGrant, isArrival, isTurn, acceptedCalls, isOdd, statusBy, replyBy, logFrom}
 use Rattle.plan.specs.Field.{FieldPlan, flipAll, AcceptedPlan}
 
 abbrev pub arrivals : List Entry → ℕ → ℕ
@@ -97,12 +97,12 @@ module _ (F : FieldPlan) where
   good-more log g c = by-cases (isAccepted (replyBy F log c)) (yes′ c) (λ e. good-counts _ _ _ _ (counts-refused log (replyBy F log c) c e) g)
     where
       turns′ : (c : Call) (ws : List ℕ) → Names c ws → replyBy F log c ≡ replyBy F log (turnAll ws) → isAccepted (replyBy F log c) ≡ true → GoodLog (log ++ (entry c (replyBy F log c) ∷ []))
-      turns′ c ws n s e = let q = group-passed F (statusOf log) (good-waits F _ _ _ g) ws (ap isAccepted (sym s) ∙ e) in good-counts _ _ _ _ (counts-turns log _ c ws n e) (good-turns F _ _ _ g ws (q .1 .0) (q .1 .1))
+      turns′ c ws n s e = let q = group-passed F (statusBy log) (good-waits F _ _ _ g) ws (ap isAccepted (sym s) ∙ e) in good-counts _ _ _ _ (counts-turns log _ c ws n e) (good-turns F _ _ _ g ws (q .1 .0) (q .1 .1))
 
       yes′ : (c : Call) → isAccepted (replyBy F log c) ≡ true → GoodLog (log ++ (entry c (replyBy F log c) ∷ []))
-      yes′ (grant d) e = let q : MayGo F (statusOf log) d = grant-passed F (statusOf log) d e in good-counts _ _ _ _ (counts-grant log _ d e (idle-same log g d (q .waiting .idle))) (good-grant F _ _ _ g d q)
-      yes′ (arrive d) e = good-counts _ _ _ _ (counts-arrive log _ d e) (good-arrive F _ _ _ g d (arrive-passed F (statusOf log) d e))
-      yes′ (turn w) e = turns′ (turn w) (w ∷ []) (names-one w) (one-reply F (statusOf log) w) e
+      yes′ (grant d) e = let q : MayGo F (statusBy log) d = grant-passed F (statusBy log) d e in good-counts _ _ _ _ (counts-grant log _ d e (idle-same log g d (q .waiting .idle))) (good-grant F _ _ _ g d q)
+      yes′ (arrive d) e = good-counts _ _ _ _ (counts-arrive log _ d e) (good-arrive F _ _ _ g d (arrive-passed F (statusBy log) d e))
+      yes′ (turn w) e = turns′ (turn w) (w ∷ []) (names-one w) (one-reply F (statusBy log) w) e
       yes′ (turnAll ws) e = turns′ (turnAll ws) ws (names-list ws) refl e
 
   pub good-calls : (cs : List Call) (log : List Entry) → GoodLog log → GoodLog (logFrom F log cs)

@@ -15,7 +15,7 @@ use Rattle.tables.specs.Tables.{Tables, fullSize}
 use Rattle.sound.specs.Sound.{sound}
 use Rattle.plan.specs.Field.{planOf}
 use Rattle.plan.specs.Status.{statusIn}
-use Rattle.log.specs.CallLog.{Reply, accepted, refused, mustWait, number, isAccepted, Call, turn, turnAll, replyIn}
+use Rattle.log.specs.CallLog.{Reply, accepted, refused, mustWait, replyNumber, isAccepted, Call, turn, turnAll, replyIn}
 use Rattle.log.specs.Calls.{Answer, CostReply, costs, replyOf, costReply, turnStep, turnAllStep, step, Answered}
 use Rattle.log.specs.Claims.{Usable}
 use Rattle.log.specs.Preview.{PreviewReply, wouldTurn, wouldRefuse, previewBy, previewOf, preview, previewAll, RefusedAs, Change, DoneAs, Within, PreviewClaims}
@@ -63,7 +63,7 @@ difference-between a b n x y = go (ltb a b) refl n x y
 abbrev Known : CostReply → CostReply → Type 0
 Known x y = (a : ℕ) × (b : ℕ) × (x ≡ costs a) × (y ≡ costs b)
 
-done-by : (r : Reply) (x y : CostReply) → number r ≢ 23 → (r ≡ accepted → Known x y) → (z : ℤ) → (previewBy r x y ≡ wouldTurn z) ↔ ((r ≡ accepted) × Change x y z)
+done-by : (r : Reply) (x y : CostReply) → replyNumber r ≢ 23 → (r ≡ accepted → Known x y) → (z : ℤ) → (previewBy r x y ≡ wouldTurn z) ↔ ((r ≡ accepted) × Change x y z)
 done-by accepted x y n h z = (
   λ e. let (a, b, p, q) = h refl in (refl, record { after = a; now = b; costs-after = p; costs-now = q; difference = sym (ap changeIn (rw (p, q) at e)) }),
   λ (_, c). rw (c .costs-after, c .costs-now) (ap wouldTurn (sym (c .difference))),
@@ -71,12 +71,12 @@ done-by accepted x y n h z = (
 done-by (refused m) x y n h z = (λ e. absurd (let q : _≡_ {A = ℕ} 0 1 = ap isDone e in omega arith), λ (a, c). true-or-false (ap isAccepted a) refl)
 done-by (mustWait w) x y n h z = absurd (n refl)
 
-refused-by : (r : Reply) (x y : CostReply) → number r ≢ 23 → (r ≡ accepted → Known x y) → (k : ℕ) → (previewBy r x y ≡ wouldRefuse k) ↔ (r ≡ refused k)
+refused-by : (r : Reply) (x y : CostReply) → replyNumber r ≢ 23 → (r ≡ accepted → Known x y) → (k : ℕ) → (previewBy r x y ≡ wouldRefuse k) ↔ (r ≡ refused k)
 refused-by accepted x y n h k = (
   λ e. let (a, b, p, q) = h refl in absurd (let q : _≡_ {A = ℕ} 1 0 = ap isDone (rw (p, q) at e) in omega arith),
   λ e. true-or-false refl (ap isAccepted e),
 )
-refused-by (refused m) x y n h k = (λ e. ap refused (ap refusedBy e), λ e. ap wouldRefuse (ap number e))
+refused-by (refused m) x y n h k = (λ e. ap refused (ap refusedBy e), λ e. ap wouldRefuse (ap replyNumber e))
 refused-by (mustWait w) x y n h k = absurd (n refl)
 
 -- ---- a turn on a copy of the tables t, with its answer
@@ -84,7 +84,7 @@ refused-by (mustWait w) x y n h k = absurd (n refl)
 module _ (L : Limits) (t : Tables) (a : Answer) where
   -- the turn does not say 23, and one that is accepted leaves both costs
   pub record Turning : Type 0 where
-    pub never-waits : number (a .reply) ≢ 23
+    pub never-waits : replyNumber (a .reply) ≢ 23
     pub known : a .reply ≡ accepted → Known (costReply L (a .tables)) (costReply L t)
 
   module _ (h : Turning) where
@@ -111,11 +111,11 @@ module _ (L : Limits) (t : Tables) (c : Call) (t′ : Tables) where
 -- ---- the turn of a list
 
 module _ (L : Limits) (t : Tables) (ws : List ℕ) where
-  never-23 : number (turnAllStep L t ws .reply) ≢ 23
+  never-23 : replyNumber (turnAllStep L t ws .reply) ≢ 23
   unfolding turnAllStep replyOf
   never-23 = go (fullSize L t) (sound L t) (group-never-waits (planOf (t .plan)) (statusIn t) ws)
     where
-      go : (a b : Bool) → number (replyIn (planOf (t .plan)) (statusIn t) (turnAll ws)) ≢ 23 → number (cond a (cond b (replyIn (planOf (t .plan)) (statusIn t) (turnAll ws)) (refused 40)) (refused 41)) ≢ 23
+      go : (a b : Bool) → replyNumber (replyIn (planOf (t .plan)) (statusIn t) (turnAll ws)) ≢ 23 → replyNumber (cond a (cond b (replyIn (planOf (t .plan)) (statusIn t) (turnAll ws)) (refused 40)) (refused 41)) ≢ 23
       go true true h = h
       go true false h = omega arith
       go false b h = omega arith

@@ -5,7 +5,7 @@ use mathlib.Core.Bool.{Bool, true, false, not, cond}
 use mathlib.Core.List.{List}
 use Prim.Native.Nat.{ℕ, suc, _+_, _/_, _≤_, _<_}
 use native.Mathlib.Omega.{arith}
-use lib.ListN.{length, set, length-set}
+use lib.ListN.{set, length-set}
 use lib.Seq.{getD-set-other}
 use lib.Dec.{ltb}
 use borrow.Author.Tests.{lt-ltb, le-ltb, eq-eqb}
@@ -26,28 +26,19 @@ use Rattle.sound.specs.Sound.{planAccepted, dependenciesSound, planUnused, flag
 use Rattle.log.specs.CallLog.{Call, isGroup, replyIn}
 use Rattle.log.specs.Calls.{granted, arrived, flipFlags, flippedAll, replyOf, AsRead}
 use Rattle.log.specs.Demand.{Agree}
+use Rattle.log.specs.Claims.{ProgressOnly}
 use Rattle.sound.proofs.Clauses.{says-sound}
 use Rattle.log.proofs.SoundParts.{zero-from, drones-in, dependencies-in}
 use Rattle.log.proofs.FlipLaws.{flips-length, flips-at}
 use Rattle.log.proofs.SameStatus.{cyclic-same, reply-same, unturned-same, within-same, waits-same}
-use Rattle.log.proofs.Good.{Good, statusBy, good-within, good-waits, good-unturned}
+use Rattle.log.proofs.Good.{Good, countedStatus, good-within, good-waits, good-unturned}
 
 -- ---- tables that differ in used progress and flags only
 
--- t′ differs from t at most in the progress of the drones and the flags of the dependencies that the plan has
-pub record SamePlan (t t′ : Tables) : Type 0 where
-  pub plan-same : t′ .plan ≡ t .plan
-  pub visited-length : length (t′ .visited) ≡ length (t .visited)
-  pub droneFlags-length : length (t′ .droneFlags) ≡ length (t .droneFlags)
-  pub flags-length : length (t′ .flags) ≡ length (t .flags)
-  pub visited-unused : (d : ℕ) → drones (t .plan) ≤ d → at (t′ .visited) d ≡ at (t .visited) d
-  pub droneFlags-unused : (d : ℕ) → drones (t .plan) ≤ d → at (t′ .droneFlags) d ≡ at (t .droneFlags) d
-  pub flags-unused : (w : ℕ) → dependencies (t .plan) ≤ w → at (t′ .flags) w ≡ at (t .flags) w
-
-pub same-self : (t : Tables) → SamePlan t t
+pub same-self : (t : Tables) → ProgressOnly t t
 same-self t = record { plan-same = refl; visited-length = refl; droneFlags-length = refl; flags-length = refl; visited-unused = λ d l. refl; droneFlags-unused = λ d l. refl; flags-unused = λ w l. refl }
 
-same-then : (a b c : Tables) → SamePlan a b → SamePlan b c → SamePlan a c
+same-then : (a b c : Tables) → ProgressOnly a b → ProgressOnly b c → ProgressOnly a c
 same-then a b c x y =
     let drones-same : drones (b .plan) ≡ drones (a .plan) = ap drones (x .plan-same) in
     let count-same : dependencies (b .plan) ≡ dependencies (a .plan) = ap dependencies (x .plan-same) in
@@ -61,7 +52,7 @@ same-then a b c x y =
       flags-unused = λ w l. y .flags-unused w (omega arith) ∙ x .flags-unused w l;
     }
 
-pub full-same : (L : Limits) (t t′ : Tables) → SamePlan t t′ → fullSize L t ≡ true → fullSize L t′ ≡ true
+pub full-same : (L : Limits) (t t′ : Tables) → ProgressOnly t t′ → fullSize L t ≡ true → fullSize L t′ ≡ true
 unfolding fullSize
 full-same L t t′ s h = rw (s .plan-same, s .visited-length, s .droneFlags-length, s .flags-length) h
 
@@ -101,7 +92,7 @@ fixed-half false = refl
 
 -- the tables t hold the counts p, e and the turns u; t₀ are the tables as they were read
 pub record Kept (lists : PlanLists) (t₀ : Tables) (p e : ℕ → ℕ) (u : ℕ → Bool) (t : Tables) : Type 0 where
-  pub same : SamePlan t₀ t
+  pub same : ProgressOnly t₀ t
   pub visited-is : (d : ℕ) → d < drones lists → at (t .visited) d ≡ p d
   pub droneFlags-are : (d : ℕ) → d < drones lists → at (t .droneFlags) d ≡ bit (ltb (p d) (e d))
   pub turned-are : (w : ℕ) → w < dependencies lists → turnedBit (at (t .flags) w) ≡ u w
@@ -222,7 +213,7 @@ module _ (L : Limits) (lists : PlanLists) (t₀ : Tables) (read : Base L lists t
 
     -- ---- the tables show the counts, and are sound when those are good
 
-    pub kept-status : Agree (planOf lists) (statusIn t) (statusBy (planOf lists) p e u)
+    pub kept-status : Agree (planOf lists) (statusIn t) (countedStatus (planOf lists) p e u)
     kept-status = record { places = k .visited-is; underWays = λ d l. ap underWayBit (k .droneFlags-are d l) ∙ bit-test (ltb (p d) (e d)); turns = k .turned-are }
 
     kept-flags : flagsSound L t ≡ true
@@ -251,7 +242,7 @@ module _ (L : Limits) (lists : PlanLists) (t₀ : Tables) (read : Base L lists t
         dependencies-own = ap (dependenciesSound L) plan-kept ∙ read .dependencies-own;
         flags-right = kept-flags;
         fixed-unturned = ap (λ (z : PlanLists). fixedUnturned (planOf z) (statusIn t)) plan-kept ∙ unturned-same (planOf lists) plan _ _ kept-status ∙ good-unturned (planOf lists) p e u g;
-        no-cycle = ap (λ (z : PlanLists). cyclic (graph (planOf z) (statusIn t .turned))) plan-kept ∙ cyclic-same (planOf lists) (statusIn t .turned) u (k .turned-are) ∙ g .acyclic;
+        no-cycle = ap (λ (z : PlanLists). cyclic (graph (planOf z) (statusIn t .turned))) plan-kept ∙ cyclic-same (planOf lists) plan _ _ kept-status ∙ g .acyclic;
         drone-flags = kept-drone-flags;
         within = ap (λ (z : PlanLists). withinStops (planOf z) (statusIn t)) plan-kept ∙ within-same (planOf lists) plan _ _ kept-status ∙ good-within (planOf lists) p e u g;
         waits-kept = ap (λ (z : PlanLists). waitsKept (planOf z) (statusIn t)) plan-kept ∙ waits-same (planOf lists) plan _ _ kept-status ∙ good-waits (planOf lists) p e u g;
@@ -260,7 +251,7 @@ module _ (L : Limits) (lists : PlanLists) (t₀ : Tables) (read : Base L lists t
       })
 
       -- so 41 and 40 never come, and the reply is that of the counts
-      pub kept-reply : (c : Call) → replyOf L t c ≡ replyIn (planOf lists) (statusBy (planOf lists) p e u) c
+      pub kept-reply : (c : Call) → replyOf L t c ≡ replyIn (planOf lists) (countedStatus (planOf lists) p e u) c
       unfolding replyOf
       kept-reply c = rw (full-same L t₀ t (k .same) (read .full), kept-sound) (ap (λ (z : PlanLists). replyIn (planOf z) (statusIn t) c) plan-kept ∙ reply-same (planOf lists) plan _ _ kept-status c)
 

@@ -22,7 +22,7 @@ use Rattle.log.specs.Calls.{granted, arrived, flippedAll, replyOf, grant
 use Rattle.log.specs.Claims.{Usable, MayGo, MayArrive, Group, AllTurnable, StaysUsable}
 use Rattle.log.proofs.Groups.{group-iff}
 use Rattle.log.proofs.Checks.{grant-passed, arrive-passed, group-passed}
-use Rattle.log.proofs.Good.{Good, statusBy, good-grant, good-arrive, good-turns}
+use Rattle.log.proofs.Good.{Good, countedStatus, good-grant, good-arrive, good-turns}
 use Rattle.log.proofs.SoundParts.{one-bit, accepted-plan}
 use Rattle.log.proofs.Exactly.{unfixed-says, turn-is-group}
 use Rattle.log.proofs.Shown.{same-self, full-same, bit, Base, Kept, kept-grant, kept-arrive, kept-turns, kept-sound}
@@ -132,7 +132,7 @@ module _ (L : Limits) (t : Tables) (full : fullSize L t ≡ true) (now-sound : s
   withUnderWay u = record { place = at (t .visited); underWay = u; turned = S .turned }
 
   -- the counts' status is the tables' own
-  status-is : statusBy F p e (S .turned) ≡ S
+  status-is : countedStatus F p e (S .turned) ≡ S
   unfolding p e withUnderWay
   status-is = ap (λ (u : ℕ → Bool). withUnderWay u) (fun-ext (λ d. entered-less (S .underWay d) (at (t .visited) d)))
 

@@ -10,16 +10,16 @@ use Rattle.tables.specs.Limits.{Limits}
 use Rattle.tables.specs.Tables.{PlanLists, Tables, drones, fullSize}
 use Rattle.plan.specs.Field.{FieldPlan, AcceptedPlan, planOf}
 use Rattle.sound.specs.Sound.{sound}
-use Rattle.log.specs.CallLog.{Call, grant, arrive, turn, turnAll, Reply, isAccepted, Entry, entry, statusOf, acceptedCalls, replyBy, logFrom, logOf}
+use Rattle.log.specs.CallLog.{Call, grant, arrive, turn, turnAll, Reply, isAccepted, Entry, entry, statusBy, acceptedCalls, replyBy, logFrom, logOf}
 use Rattle.log.specs.Calls.{Answer, granted, arrived, flipped, flipFlags, flippedAll, grantStep, arriveStep, turnStep, turnAllStep, step, recorded, tablesAfter, Answered, Ran, none, next, AsRead}
 use Rattle.log.specs.Demand.{Found, Demand3, Demand3OfContracts}
 use Rattle.log.proofs.Groups.{group-iff}
 use Rattle.log.proofs.Checks.{grant-passed, arrive-passed, group-passed, one-reply}
-use Rattle.log.specs.Claims.{MayGo, MayArrive}
+use Rattle.log.specs.Claims.{MayGo, MayArrive, ProgressOnly, CallsKeep}
 use Rattle.log.proofs.Log.{arrivals, grants, turns, Counts, counts-refused, counts-grant, counts-arrive, Names, names-one, names-list, counts-turns, GoodLog, good-empty, idle-same, good-more, good-calls}
 use Rattle.log.proofs.Good.{good-waits}
 use Rattle.log.proofs.SoundParts.{accepted-plan}
-use Rattle.log.proofs.Shown.{SamePlan, full-same, base-read, Base, Kept, kept-grant, kept-arrive, kept-turns, kept-status, kept-sound, kept-reply, kept-start}
+use Rattle.log.proofs.Shown.{full-same, base-read, Base, Kept, kept-grant, kept-arrive, kept-turns, kept-status, kept-sound, kept-reply, kept-start}
 use Rattle.log.proofs.Found.{log-held, log-goes-on, log-finishes}
 
 module _ (L : Limits) (lists : PlanLists) (t₀ : Tables) (read : AsRead L lists t₀) where
@@ -67,18 +67,18 @@ module _ (L : Limits) (lists : PlanLists) (t₀ : Tables) (read : AsRead L lists
 
     kept-group : (c : Call) (ws : List ℕ) → Names c ws → replyBy F log c ≡ replyBy F log (turnAll ws) → isAccepted (replyBy F log c) ≡ true → KeptLog (log ++ (entry c (replyBy F log c) ∷ [])) (flippedAll t ws)
     kept-group c ws n s e =
-        let q = group-passed F (statusOf log) (good-waits F _ _ _ good) ws (ap isAccepted (sym s) ∙ e) in
+        let q = group-passed F (statusBy log) (good-waits F _ _ _ good) ws (ap isAccepted (sym s) ∙ e) in
         kept-counts _ _ _ _ _ (counts-turns log _ c ws n e) (kept-turns L lists t₀ base _ _ _ t kept ws (group-iff ws .1 (q .0)) (λ w i. q .1 .0 w i .exists))
 
     kept-left : (c : Call) → isAccepted (replyBy F log c) ≡ true → KeptLog (log ++ (entry c (replyBy F log c) ∷ [])) (left c)
     unfolding left flipFlags
     kept-left (grant d) e =
-        let q : MayGo F (statusOf log) d = grant-passed F (statusOf log) d e in
+        let q : MayGo F (statusBy log) d = grant-passed F (statusBy log) d e in
         kept-counts _ _ _ _ _ (counts-grant log _ d e (idle-same F log good d (q .waiting .idle))) (kept-grant L lists t₀ base _ _ _ t kept d (q .waiting .exists))
     kept-left (arrive d) e =
-        let q : MayArrive F (statusOf log) d = arrive-passed F (statusOf log) d e in
+        let q : MayArrive F (statusBy log) d = arrive-passed F (statusBy log) d e in
         kept-counts _ _ _ _ _ (counts-arrive log _ d e) (kept-arrive L lists t₀ base _ _ _ t kept d (q .exists) (good .running .ahead d))
-    kept-left (turn w) e = kept-group (turn w) (w ∷ []) (names-one w) (one-reply F (statusOf log) w) e
+    kept-left (turn w) e = kept-group (turn w) (w ∷ []) (names-one w) (one-reply F (statusBy log) w) e
     kept-left (turnAll ws) e = kept-group (turnAll ws) ws (names-list ws) refl e
 
     kept-more : (c : Call) → KeptLog (log ++ (entry c (replyBy F log c) ∷ [])) (step L t c .tables)
@@ -103,7 +103,7 @@ module _ (L : Limits) (lists : PlanLists) (t₀ : Tables) (read : AsRead L lists
   unfolding acceptedCalls
   kept-empty = kept-start L lists t₀ read
 
-  found : (calls : List Call) → Found lists calls (recorded (step L) t₀ calls) (tablesAfter (step L) t₀ calls)
+  found : (calls : List Call) → Found F calls (recorded (step L) t₀ calls) (tablesAfter (step L) t₀ calls)
   found calls = record {
     replies = replies-same calls [] (good-empty F plan) t₀ kept-empty;
     shown = kept-status L lists t₀ base _ _ _ (tablesAfter (step L) t₀ calls) after;
@@ -122,7 +122,7 @@ module _ (L : Limits) (lists : PlanLists) (t₀ : Tables) (read : AsRead L lists
   pub stays-sound : (calls : List Call) → sound L (tablesAfter (step L) t₀ calls) ≡ true
   stays-sound calls = kept-sound L lists t₀ base _ _ _ (tablesAfter (step L) t₀ calls) (kept-calls calls [] (good-empty F plan) t₀ kept-empty) plan (good-calls F calls [] (good-empty F plan))
 
-  pub stays-same : (calls : List Call) → SamePlan t₀ (tablesAfter (step L) t₀ calls)
+  pub stays-same : (calls : List Call) → ProgressOnly t₀ (tablesAfter (step L) t₀ calls)
   stays-same calls = kept-calls calls [] (good-empty F plan) t₀ kept-empty .same
 
   pub stays-full : (calls : List Call) → fullSize L (tablesAfter (step L) t₀ calls) ≡ true
@@ -130,6 +130,9 @@ module _ (L : Limits) (lists : PlanLists) (t₀ : Tables) (read : AsRead L lists
 
   pub stays-within : (calls : List Call) (d : ℕ) → d < drones lists → at (tablesAfter (step L) t₀ calls .visited) d ≤ planOf lists .last d
   stays-within calls d l = omega (arith, kept-calls calls [] (good-empty F plan) t₀ kept-empty .visited-is d l, good-calls F calls [] (good-empty F plan) .running .behind d, good-calls F calls [] (good-empty F plan) .within d l)
+
+pub calls-keep : CallsKeep
+calls-keep L lists t calls read = record { usable = (stays-full L lists t read calls, stays-sound L lists t read calls); within = stays-within L lists t read calls; changed = stays-same L lists t read calls }
 
 pub demand3 : Demand3
 demand3 L lists t calls read = found L lists t read calls

@@ -1,5 +1,5 @@
 -- The calls, their refusals in one table, and the call log (document 01, "The call log" and "Where each refusal is checked"). Assumes nothing.
-use mathlib.Core.Bool.{Bool, true, false, not, _&&_, _||_}
+use mathlib.Core.Bool.{Bool, true, false, not, cond, _&&_, _||_}
 use mathlib.Core.List.{List, [], _∷_, _++_}
 use Prim.Native.Nat.{ℕ, suc, _%_}
 use lib.Dec.{ltb, leb, eqb}
@@ -22,10 +22,20 @@ pub data Reply : Type 0 where
   mustWait : ℕ → Reply
 
 -- the document's number of a reply
-abbrev pub number : Reply → ℕ
-number accepted = 0
-number (refused n) = n
-number (mustWait w) = 23
+abbrev pub replyNumber : Reply → ℕ
+replyNumber accepted = 0
+replyNumber (refused n) = n
+replyNumber (mustWait w) = 23
+
+-- the dependency that goes with 23
+abbrev pub awaited : Reply → ℕ
+awaited accepted = 0
+awaited (refused n) = 0
+awaited (mustWait w) = w
+
+-- the reply that a number and what goes with it mean
+unfoldable pub replyFrom : ℕ → ℕ → Reply
+replyFrom n w = cond (eqb n 0) accepted (cond (eqb n 23) (mustWait w) (refused n))
 
 -- every other reply is a refusal
 abbrev pub isAccepted : Reply → Bool
@@ -141,8 +151,8 @@ isOdd n = eqb (n % 2) 1
 
 -- "With n arrivals of a drone accepted .. its place is stop n"; "It is under way when more grants than arrivals of it were accepted";
 -- "A dependency is turned when an odd number of accepted turns named it"
-abbrev pub statusOf : List Entry → Status
-statusOf log = record {
+abbrev pub statusBy : List Entry → Status
+statusBy log = record {
   place = λ d. acceptedCalls (isArrival d) log;
   underWay = λ d. ltb (acceptedCalls (isArrival d) log) (acceptedCalls (isGrant d) log);
   turned = λ w. isOdd (acceptedCalls (isTurn w) log);
@@ -151,7 +161,7 @@ statusOf log = record {
 module _ (F : FieldPlan) where
   -- "the first of its refusals in the table below that holds by the log before it (40 and 41 never do)"
   abbrev pub replyBy : List Entry → Call → Reply
-  replyBy log c = replyIn F (statusOf log) c
+  replyBy log c = replyIn F (statusBy log) c
 
   -- the log goes on with calls
   unfoldable pub logFrom : List Entry → List Call → List Entry

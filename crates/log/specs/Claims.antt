@@ -7,13 +7,13 @@ use Prim.Native.Nat.{ℕ, suc, _-_, _*_, _≤_, _<_}
 use lib.ListN.{length}
 use Rattle.below.specs.Below.{at, isIn, sumBelow}
 use Rattle.tables.specs.Limits.{Limits, limits}
-use Rattle.tables.specs.Tables.{Tables, fullSize}
+use Rattle.tables.specs.Tables.{PlanLists, Tables, drones, dependencies, fullSize}
 use Rattle.precedence.specs.Graph.{Cycle, Longest, remaining}
 use Rattle.plan.specs.Field.{FieldPlan, planOf, flip, flipAll, graph}
 use Rattle.plan.specs.Status.{Status, statusIn, now}
 use Rattle.sound.specs.Sound.{sound}
-use Rattle.log.specs.CallLog.{Call, turn, turnAll, accepted, refused, mustWait, Entry, isTurn, replyBy}
-use Rattle.log.specs.Calls.{grantStep, arriveStep, turnStep, turnAllStep, step, costs, costReply}
+use Rattle.log.specs.CallLog.{Call, turn, turnAll, accepted, refused, mustWait, replyNumber, Entry, isTurn, replyBy}
+use Rattle.log.specs.Calls.{grantStep, arriveStep, turnStep, turnAllStep, step, costs, costReply, AsRead, tablesAfter}
 
 -- no lent table is below full size, and the tables are sound
 abbrev pub Usable : Limits → Tables → Type 0
@@ -169,6 +169,32 @@ CostLimit = (t : Tables) (n : ℕ) → costReply limits t ≡ costs n → n ≤ 
 pub record LogTurnIsGroup (F : FieldPlan) (log : List Entry) (w : ℕ) : Type 0 where
   pub same-reply : replyBy F log (turn w) ≡ replyBy F log (turnAll (w ∷ []))
   pub same-named : (v : ℕ) → isTurn v (turn w) ≡ isTurn v (turnAll (w ∷ []))
+
+-- ---- every list of calls
+
+-- "(40 and 41 never do)": whatever the log before it, no call is refused by 40 or 41
+abbrev pub LogNever40Or41 : Type 0
+LogNever40Or41 = (F : FieldPlan) (log : List Entry) (c : Call) → (replyNumber (replyBy F log c) ≢ 40) × (replyNumber (replyBy F log c) ≢ 41)
+
+-- t′ differs from t at most in the progress of the drones and the flags of the dependencies that the plan has
+pub record ProgressOnly (t t′ : Tables) : Type 0 where
+  pub plan-same : t′ .plan ≡ t .plan
+  pub visited-length : length (t′ .visited) ≡ length (t .visited)
+  pub droneFlags-length : length (t′ .droneFlags) ≡ length (t .droneFlags)
+  pub flags-length : length (t′ .flags) ≡ length (t .flags)
+  pub visited-unused : (d : ℕ) → drones (t .plan) ≤ d → at (t′ .visited) d ≡ at (t .visited) d
+  pub droneFlags-unused : (d : ℕ) → drones (t .plan) ≤ d → at (t′ .droneFlags) d ≡ at (t .droneFlags) d
+  pub flags-unused : (w : ℕ) → dependencies (t .plan) ≤ w → at (t′ .flags) w ≡ at (t .flags) w
+
+-- after the calls the tables are of full size and sound, nobody is past a last stop, and nothing but progress and flags in use has changed
+pub record KeptByCalls (L : Limits) (lists : PlanLists) (t t′ : Tables) : Type 0 where
+  pub usable : Usable L t′
+  pub within : (d : ℕ) → d < drones lists → at (t′ .visited) d ≤ planOf lists .last d
+  pub changed : ProgressOnly t t′
+
+-- what stays after an accepted reading, whatever is called
+abbrev pub CallsKeep : Type 0
+CallsKeep = (L : Limits) (lists : PlanLists) (t : Tables) (calls : List Call) → AsRead L lists t → KeptByCalls L lists t (tablesAfter (step L) t calls)
 
 -- of all tables
 pub record Demand2 : Type 0 where

@@ -9,7 +9,7 @@ use Rattle.tables.specs.Tables.{PlanLists, Tables}
 use Rattle.precedence.specs.Graph.{play, finished, unvisited}
 use Rattle.plan.specs.Field.{FieldPlan, graph, planOf}
 use Rattle.plan.specs.Status.{Status, statusIn}
-use Rattle.log.specs.CallLog.{Call, grant, accepted, statusOf, Entry, replyBy, logOf, holdsLocation, short}
+use Rattle.log.specs.CallLog.{Call, grant, accepted, statusBy, Entry, replyBy, logOf, holdsLocation, short}
 use Rattle.log.specs.Calls.{Answer, step, AsRead, recorded, tablesAfter, Ran}
 
 -- two statuses agree on every drone and every dependency of the plan
@@ -20,42 +20,42 @@ pub record Agree (F : FieldPlan) (s s′ : Status) : Type 0 where
 
 -- "The tables show the log when each drone's progress and each dependency's bit 0 are as above"
 abbrev pub Shows : FieldPlan → List Entry → Tables → Type 0
-Shows F log t = Agree F (statusIn t) (statusOf log)
+Shows F log t = Agree F (statusIn t) (statusBy log)
 
 -- what is found by the log alone
 module _ (F : FieldPlan) (log : List Entry) where
   open FieldPlan F using (drones)
-  open Status (statusOf log) using (place, underWay, turned)
+  open Status (statusBy log) using (place, underWay, turned)
 
   -- two drones that hold one location are one drone
   abbrev pub HeldByOne : Type 0
-  HeldByOne = (d e l : ℕ) → d < drones → e < drones → holdsLocation F (statusOf log) d l ≡ true → holdsLocation F (statusOf log) e l ≡ true → d ≡ e
+  HeldByOne = (d e l : ℕ) → d < drones → e < drones → holdsLocation F (statusBy log) d l ≡ true → holdsLocation F (statusBy log) e l ≡ true → d ≡ e
 
   -- "A grant would be accepted when the log accepts a grant of some drone as the next call"
   abbrev pub GoesOn : Type 0
-  GoesOn = (d : ℕ) → d < drones → short F (statusOf log) d ≡ true → ((e : ℕ) × (e < drones) × (underWay e ≡ true)) ⊎ ((e : ℕ) × (e < drones) × (replyBy F log (grant e) ≡ accepted))
+  GoesOn = (d : ℕ) → d < drones → short F (statusBy log) d ≡ true → ((e : ℕ) × (e < drones) × (underWay e ≡ true)) ⊎ ((e : ℕ) × (e < drones) × (replyBy F log (grant e) ≡ accepted))
 
   -- "Undelayed rounds are the rounds above, played from these places with these turns until every drone is at its last stop"
   abbrev pub Finishes : Type 0
   Finishes = (rounds : ℕ) × (rounds ≤ unvisited (graph F turned) place) × (finished (graph F turned) (play (graph F turned) place rounds) ≡ true)
 
--- found after the calls: `got` is each call with the reply that it got, t′ the tables that the last call left
-pub record Found (lists : PlanLists) (calls : List Call) (got : List Entry) (t′ : Tables) : Type 0 where
+-- found after the calls, by the log of the plan F: `got` is each call with the reply that it got, t′ the tables that the last call left
+pub record Found (F : FieldPlan) (calls : List Call) (got : List Entry) (t′ : Tables) : Type 0 where
   -- "every call got the reply that document 01's call log gives"
-  pub replies : got ≡ logOf (planOf lists) calls
+  pub replies : got ≡ logOf F calls
   -- "the tables show the progress and turns of that log"
-  pub shown : Shows (planOf lists) (logOf (planOf lists) calls) t′
+  pub shown : Shows F (logOf F calls) t′
   -- "by it no crossing is held by two drones"
-  pub held : HeldByOne (planOf lists) (logOf (planOf lists) calls)
+  pub held : HeldByOne F (logOf F calls)
   -- "if some drone is short of its last stop, some drone is under way or a grant would now be accepted"
-  pub goes-on : GoesOn (planOf lists) (logOf (planOf lists) calls)
+  pub goes-on : GoesOn F (logOf F calls)
   -- "and undelayed rounds finish everybody in no more rounds than there are unvisited stops"
-  pub finishes : Finishes (planOf lists) (logOf (planOf lists) calls)
+  pub finishes : Finishes F (logOf F calls)
 
 -- what is claimed of a program: "any accepted plan, then every list of grants, arrivals and turns, of any length and order, whatever drone or
 -- dependency each names, refused ones included"; "Demand 3 now allows group turns among the calls"
 abbrev pub Demand3Of : Limits → (Tables → Call → Answer) → Type 0
-Demand3Of L program = (lists : PlanLists) (t : Tables) (calls : List Call) → AsRead L lists t → Found lists calls (recorded program t calls) (tablesAfter program t calls)
+Demand3Of L program = (lists : PlanLists) (t : Tables) (calls : List Call) → AsRead L lists t → Found (planOf lists) calls (recorded program t calls) (tablesAfter program t calls)
 
 -- demand 3 of the conductor's calls
 abbrev pub Demand3 : Type 0
@@ -63,4 +63,4 @@ Demand3 = (L : Limits) → Demand3Of L (step L)
 
 -- the same of any run of real calls, known by their contracts alone
 abbrev pub Demand3OfContracts : Type 0
-Demand3OfContracts = (L : Limits) (lists : PlanLists) (t : Tables) (calls : List Call) (got : List Entry) (t′ : Tables) → AsRead L lists t → Ran (step L) t calls got t′ → Found lists calls got t′
+Demand3OfContracts = (L : Limits) (lists : PlanLists) (t : Tables) (calls : List Call) (got : List Entry) (t′ : Tables) → AsRead L lists t → Ran (step L) t calls got t′ → Found (planOf lists) calls got t′

@@ -1,4 +1,5 @@
--- Flights: a plan given by its routes, the calls that are made, and what each must be answered (document 01, "Flights to try" and "Slips this trade has made").
+-- Flights: a plan given by its routes, the calls that are made, and what each must be answered (document 01, "Slips this trade has made"; document 02, points 2 and 4). The starred
+-- flights are read from their texts: dispatch/specs/Flights.antt.
 -- The dependencies are computed from the routes, the replies both by the calls on tables and by the call log. Assumes nothing.
 use mathlib.Core.Path.{_≡_}
 use mathlib.Core.Bool.{Bool, true, false, _&&_}
@@ -12,12 +13,11 @@ use Rattle.below.specs.Below.{listBelow}
 use Rattle.tables.specs.Limits.{Limits}
 use Rattle.tables.specs.Tables.{PlanLists, Tables, dependencies}
 use Rattle.precedence.specs.Graph.{cost}
-use Rattle.plan.specs.Check.{firstFault, partner}
 use Rattle.plan.specs.Claims.{stopTotal, ownerIn, numberIn, locationIn, timeIn, colliderIn}
 use Rattle.plan.specs.Dependencies.{dependencyTotal, column, flagOf}
-use Rattle.plan.specs.Field.{planOf, graph}
+use Rattle.plan.specs.Field.{FieldPlan, planOf, graph}
 use Rattle.sound.specs.Sound.{sound}
-use Rattle.log.specs.CallLog.{Call, grant, arrive, turn, turnAll, Reply, accepted, refused, mustWait, statusOf, Entry, entry, replyBy}
+use Rattle.log.specs.CallLog.{Call, grant, arrive, turn, turnAll, Reply, accepted, refused, mustWait, statusBy, Entry, entry, replyBy}
 use Rattle.log.specs.Preview.{PreviewReply, wouldTurn, wouldRefuse, preview, previewAll}
 use Rattle.log.specs.Calls.{step, CostReply, costs, costRefused, costReply}
 
@@ -95,17 +95,14 @@ pub data Line : Type 0 where
   previews : ℕ → PreviewReply → Line
   previewsAll : List ℕ → PreviewReply → Line
 
--- the plan is taken with so many dependencies, and then the lines hold; or refusal 10 gives two drones, each with its stop
-pub data Outcome : Type 0 where
-  taken : ℕ → List Line → Outcome
-  collides : (d s e k : ℕ) → Outcome
-
+-- the routes of a plan that is taken with so many dependencies, and the lines that hold then
 pub record Flight : Type 0 where
   pub routes : List (List Visit)
-  pub outcome : Outcome
+  pub count : ℕ
+  pub told : List Line
 
-abbrev pub flight : List (List Visit) → Outcome → Flight
-flight rs o = record { routes = rs; outcome = o }
+abbrev pub flight : List (List Visit) → ℕ → List Line → Flight
+flight rs n ls = record { routes = rs; count = n; told = ls }
 
 abbrev pub sameReply : Reply → Reply → Bool
 sameReply accepted accepted = true
@@ -128,24 +125,17 @@ samePreview (wouldTurn a) (wouldRefuse n) = false
 samePreview (wouldRefuse m) (wouldTurn b) = false
 samePreview (wouldRefuse m) (wouldRefuse n) = eqb m n
 
--- each line holds of the tables that the line before it left, and of the log
-unfoldable pub follow : PlanLists → Tables → List Entry → List Line → Bool
-follow p t log [] = true
-follow p t log (says c r ∷ ls) = let by-log = replyBy (planOf p) log c in sameReply (step small t c .reply) r && (sameReply by-log r && follow p (step small t c .tables) (log ++ (entry c by-log ∷ [])) ls)
-follow p t log (costsNow n ∷ ls) = isCost (costReply small t) n && (eqb (cost (graph (planOf p) (statusOf log .turned)) (statusOf log .place)) n && follow p t log ls)
-follow p t log (previews w r ∷ ls) = samePreview (preview small t w) r && follow p t log ls
-follow p t log (previewsAll ws r ∷ ls) = samePreview (previewAll small t ws) r && follow p t log ls
+-- each line holds of the tables that the line before it left, within the limits, and of the log of the plan
+module _ (L : Limits) (F : FieldPlan) where
+  unfoldable pub follow : Tables → List Entry → List Line → Bool
+  follow t log [] = true
+  follow t log (says c r ∷ ls) = let by-log = replyBy F log c in sameReply (step L t c .reply) r && (sameReply by-log r && follow (step L t c .tables) (log ++ (entry c by-log ∷ [])) ls)
+  follow t log (costsNow n ∷ ls) = isCost (costReply L t) n && (eqb (cost (graph F (statusBy log .turned)) (statusBy log .place)) n && follow t log ls)
+  follow t log (previews w r ∷ ls) = samePreview (preview L t w) r && follow t log ls
+  follow t log (previewsAll ws r ∷ ls) = samePreview (previewAll L t ws) r && follow t log ls
 
 unfoldable pub holds : Flight → Bool
-holds f = elim (f .outcome) [
-  | taken n ls ↦ let p = planBy (f .routes) in eqb (dependencies p) n && (eqb (colliderIn p) (stopTotal p) && (sound small (tablesBy (f .routes)) && follow p (tablesBy (f .routes)) [] ls))
-  | collides d s e k ↦
-      let p = routesOnly (f .routes) in
-      let v = colliderIn p in
-      let w = partner (ownerIn p) (locationIn p) (timeIn p) (stopTotal p) v in
-      eqb (firstFault (numberIn p) (locationIn p) (timeIn p) (stopTotal p)) (stopTotal p)
-      && (eqb (ownerIn p v) d && (eqb (numberIn p v) s && (eqb (ownerIn p w) e && eqb (numberIn p w) k)))
-]
+holds f = let p = planBy (f .routes) in eqb (dependencies p) (f .count) && (eqb (colliderIn p) (stopTotal p) && (sound small (tablesBy (f .routes)) && follow small (planOf p) (tablesBy (f .routes)) [] (f .told)))
 
 unfoldable pub allHold : List Flight → Bool
 allHold [] = true
@@ -164,61 +154,42 @@ P = (go 10 0 ∷ go 20 1 ∷ go 30 2 ∷ go 40 3 ∷ []) ∷ (go 11 0 ∷ go 20 
 abbrev pub ring : List (List Visit)
 ring = (go 1 0 ∷ go 30 1 ∷ go 10 2 ∷ go 2 3 ∷ []) ∷ (go 3 0 ∷ go 10 4 ∷ go 20 5 ∷ go 4 6 ∷ []) ∷ (go 5 0 ∷ go 20 7 ∷ go 30 8 ∷ go 6 9 ∷ []) ∷ []
 
--- the starred flights
-abbrev pub starred : List Flight
-starred =
-    -- "Q: cost 8 at first. 6 once dependency 0 is turned", with the output of "The program `field`". "At 4: taken"
-    flight (Q 4) (taken 1 (costsNow 8 ∷ says (grant 1) (mustWait 0) ∷ says (turn 0) accepted ∷ costsNow 6 ∷ says (grant 1) accepted ∷ says (grant 0) accepted ∷ says (arrive 1) accepted ∷ says (arrive 1) (refused 24) ∷ []))
-    -- "Q with the second drone's 5 at time 3: 10, since the first leaves in timestep 3"
-    ∷ flight (Q 3) (collides 0 2 1 1)
-    -- "P: .. two dependencies, cost 8. Turning either alone: 34"
-    ∷ flight P (taken 2 (costsNow 8 ∷ says (turn 0) (refused 34) ∷ says (turn 1) (refused 34) ∷ []))
-    -- "5@0, 6@1 with 3@0, 5@2, 4@3: turn gives 31. 1@0, 5@1, 2@2 with 3@0, 5@3: 31"
-    ∷ flight ((go 5 0 ∷ go 6 1 ∷ []) ∷ (go 3 0 ∷ go 5 2 ∷ go 4 3 ∷ []) ∷ []) (taken 1 (says (turn 0) (refused 31) ∷ []))
-    ∷ flight ((go 1 0 ∷ go 5 1 ∷ go 2 2 ∷ []) ∷ (go 3 0 ∷ go 5 3 ∷ []) ∷ []) (taken 1 (says (turn 0) (refused 31) ∷ []))
-    -- "Q, drone 0 under way to stop 1: turn accepted. Under way to stop 2: 32"
-    ∷ flight (Q 4) (taken 1 (says (grant 0) accepted ∷ says (turn 0) accepted ∷ []))
-    ∷ flight (Q 4) (taken 1 (says (grant 0) accepted ∷ says (arrive 0) accepted ∷ says (grant 0) accepted ∷ says (turn 0) (refused 32) ∷ []))
-    -- "One drone with one stop: cost 0, grant 21"
-    ∷ flight ((go 7 0 ∷ []) ∷ []) (taken 0 (costsNow 0 ∷ says (grant 0) (refused 21) ∷ []))
-    ∷ []
-
 -- flights against the slips, and turns in both directions
 abbrev pub slips : List Flight
 slips =
     -- "Waiting for the leader's visit and not for its departure"; "Counting cost from the start and not from progress"
-    flight (Q 4) (taken 1 (says (grant 0) accepted ∷ says (arrive 0) accepted ∷ costsNow 6 ∷ says (grant 0) accepted ∷ says (arrive 0) accepted ∷ says (grant 1) (mustWait 0) ∷ says (grant 0) accepted ∷ says (arrive 0) accepted ∷ says (grant 1) accepted ∷ costsNow 2 ∷ []))
+    flight (Q 4) 1 (says (grant 0) accepted ∷ says (arrive 0) accepted ∷ costsNow 6 ∷ says (grant 0) accepted ∷ says (arrive 0) accepted ∷ says (grant 1) (mustWait 0) ∷ says (grant 0) accepted ∷ says (arrive 0) accepted ∷ says (grant 1) accepted ∷ costsNow 2 ∷ [])
     -- "Turning twice gives the first rule again"
-    ∷ flight (Q 4) (taken 1 (says (turn 0) accepted ∷ says (turn 0) accepted ∷ costsNow 8 ∷ says (grant 1) (mustWait 0) ∷ []))
+    ∷ flight (Q 4) 1 (says (turn 0) accepted ∷ says (turn 0) accepted ∷ costsNow 8 ∷ says (grant 1) (mustWait 0) ∷ [])
     -- "Looking for a cycle between the two drones only; three can wait in a ring"
-    ∷ flight ring (taken 3 (says (turn 0) (refused 34) ∷ []))
+    ∷ flight ring 3 (says (turn 0) (refused 34) ∷ [])
     ∷ []
 
 -- turns of a list
 abbrev pub groups : List Flight
 groups =
     -- "Flight P with both turned is accepted and still costs 8"
-    flight P (taken 2 (says (turnAll (0 ∷ 1 ∷ [])) accepted ∷ costsNow 8 ∷ says (turnAll (0 ∷ 1 ∷ [])) accepted ∷ costsNow 8 ∷ []))
+    flight P 2 (says (turnAll (0 ∷ 1 ∷ [])) accepted ∷ costsNow 8 ∷ says (turnAll (0 ∷ 1 ∷ [])) accepted ∷ costsNow 8 ∷ [])
     -- "36, an empty list or one not strictly rising, after 40 and before 30; then 30 to 34 as the list is walked, with 34 last of all"
-    ∷ flight P (taken 2 (says (turnAll (1 ∷ 0 ∷ [])) (refused 36) ∷ says (turnAll (7 ∷ 7 ∷ [])) (refused 36) ∷ says (turnAll []) (refused 36) ∷ says (turnAll (0 ∷ 7 ∷ [])) (refused 30) ∷ says (turnAll (0 ∷ [])) (refused 34) ∷ costsNow 8 ∷ []))
+    ∷ flight P 2 (says (turnAll (1 ∷ 0 ∷ [])) (refused 36) ∷ says (turnAll (7 ∷ 7 ∷ [])) (refused 36) ∷ says (turnAll []) (refused 36) ∷ says (turnAll (0 ∷ 7 ∷ [])) (refused 30) ∷ says (turnAll (0 ∷ [])) (refused 34) ∷ costsNow 8 ∷ [])
     -- with a third drone that makes dependency 2, a fixed one: it is found though 0 alone would make a cycle. And 32 as drone 0 is under way to its stop 1
-    ∷ flight (P ++ ((go 12 0 ∷ go 11 5 ∷ go 13 6 ∷ []) ∷ [])) (taken 3 (says (turnAll (0 ∷ 2 ∷ [])) (refused 31) ∷ says (turnAll (0 ∷ [])) (refused 34) ∷ says (grant 0) accepted ∷ says (turnAll (0 ∷ 1 ∷ [])) (refused 32) ∷ []))
+    ∷ flight (P ++ ((go 12 0 ∷ go 11 5 ∷ go 13 6 ∷ []) ∷ [])) 3 (says (turnAll (0 ∷ 2 ∷ [])) (refused 31) ∷ says (turnAll (0 ∷ [])) (refused 34) ∷ says (grant 0) accepted ∷ says (turnAll (0 ∷ 1 ∷ [])) (refused 32) ∷ [])
     -- the list of length one: Q's dependency 0
-    ∷ flight (Q 4) (taken 1 (says (turnAll (0 ∷ [])) accepted ∷ costsNow 6 ∷ says (turn 0) accepted ∷ costsNow 8 ∷ []))
+    ∷ flight (Q 4) 1 (says (turnAll (0 ∷ [])) accepted ∷ costsNow 6 ∷ says (turn 0) accepted ∷ costsNow 8 ∷ [])
     ∷ []
 
 -- turns looked at before they are made
 abbrev pub looks : List Flight
 looks =
     -- "Flight Q gives -2", and the tables are untouched; once it is turned, turning it back costs 2. There is no dependency 1
-    flight (Q 4) (taken 1 (previews 0 (wouldTurn (negℤ (pos 2))) ∷ costsNow 8 ∷ says (turn 0) accepted ∷ costsNow 6 ∷ previews 0 (wouldTurn (pos 2)) ∷ previews 1 (wouldRefuse 30) ∷ []))
+    flight (Q 4) 1 (previews 0 (wouldTurn (negℤ (pos 2))) ∷ costsNow 8 ∷ says (turn 0) accepted ∷ costsNow 6 ∷ previews 0 (wouldTurn (pos 2)) ∷ previews 1 (wouldRefuse 30) ∷ [])
     -- P: either alone has a cycle, both together cost the same
-    ∷ flight P (taken 2 (previews 0 (wouldRefuse 34) ∷ previews 1 (wouldRefuse 34) ∷ previewsAll (0 ∷ 1 ∷ []) (wouldTurn (pos 0)) ∷ previewsAll (1 ∷ 0 ∷ []) (wouldRefuse 36) ∷ previewsAll [] (wouldRefuse 36) ∷ []))
+    ∷ flight P 2 (previews 0 (wouldRefuse 34) ∷ previews 1 (wouldRefuse 34) ∷ previewsAll (0 ∷ 1 ∷ []) (wouldTurn (pos 0)) ∷ previewsAll (1 ∷ 0 ∷ []) (wouldRefuse 36) ∷ previewsAll [] (wouldRefuse 36) ∷ [])
     -- a fixed one; and one whose first drone is under way to its stop
-    ∷ flight ((go 5 0 ∷ go 6 1 ∷ []) ∷ (go 3 0 ∷ go 5 2 ∷ go 4 3 ∷ []) ∷ []) (taken 1 (previews 0 (wouldRefuse 31) ∷ []))
-    ∷ flight (Q 4) (taken 1 (says (grant 0) accepted ∷ says (arrive 0) accepted ∷ previews 0 (wouldTurn (pos 0)) ∷ says (grant 0) accepted ∷ previews 0 (wouldRefuse 32) ∷ []))
+    ∷ flight ((go 5 0 ∷ go 6 1 ∷ []) ∷ (go 3 0 ∷ go 5 2 ∷ go 4 3 ∷ []) ∷ []) 1 (previews 0 (wouldRefuse 31) ∷ [])
+    ∷ flight (Q 4) 1 (says (grant 0) accepted ∷ says (arrive 0) accepted ∷ previews 0 (wouldTurn (pos 0)) ∷ says (grant 0) accepted ∷ previews 0 (wouldRefuse 32) ∷ [])
     ∷ []
 
 -- the claim: every flight of the table is as it says
 abbrev pub FlightsHold : Type 0
-FlightsHold = allHold (starred ++ slips ++ groups ++ looks) ≡ true
+FlightsHold = allHold (slips ++ groups ++ looks) ≡ true

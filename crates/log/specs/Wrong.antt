@@ -8,13 +8,13 @@ use Rattle.tables.specs.Tables.{Tables}
 use Rattle.plan.specs.Field.{FieldPlan, planOf}
 use Rattle.plan.specs.Status.{statusIn}
 use Rattle.log.specs.CallLog.{Call, grant, arrive, turn, turnAll, Reply, accepted, refused, mustWait, isAccepted, replyIn}
-use Rattle.log.specs.Calls.{Answer, answer, granted, flipped, arriveStep, turnStep, turnAllStep, step}
+use Rattle.log.specs.Calls.{Answer, answer, granted, flipped, grantStep, arriveStep, turnStep, turnAllStep, step}
 use Rattle.log.specs.Demand.{Demand3Of}
 use Rattle.log.specs.Flights.{Visit, small, Q, P}
 
 -- ---- the programs
 
--- refuses every call
+-- one fixed reply: refuses every call
 unfoldable pub refuseAll : Tables → Call → Answer
 refuseAll t c = record { reply = refused 22; tables = t }
 
@@ -25,6 +25,50 @@ idle t c = record { reply = step small t c .reply; tables = t }
 -- is honest until drone 0 has moved, and then refuses
 unfoldable pub honestOnce : Tables → Call → Answer
 honestOnce t c = cond (eqb (at (t .visited) 0) 0) (step small t c) (record { reply = refused 22; tables = t })
+
+-- never says 34
+unfoldable pub noCycles : Reply → Reply
+noCycles accepted = accepted
+noCycles (refused n) = cond (eqb n 34) accepted (refused n)
+noCycles (mustWait w) = mustWait w
+
+unfoldable pub never34 : Tables → Call → Answer
+never34 t c = record { reply = noCycles (step small t c .reply); tables = step small t c .tables }
+
+-- lets any list through 36
+unfoldable pub anyList : Reply → Reply
+anyList accepted = accepted
+anyList (refused n) = cond (eqb n 36) accepted (refused n)
+anyList (mustWait w) = mustWait w
+
+unfoldable pub never36 : Tables → Call → Answer
+never36 t c = record { reply = anyList (step small t c .reply); tables = step small t c .tables }
+
+-- ---- .. and calls of one kind, where those of the other kinds are as they should be
+
+abbrev pub grantsBy : (Tables → ℕ → Answer) → Tables → Call → Answer
+grantsBy f t (grant d) = f t d
+grantsBy f t (arrive d) = arriveStep small t d
+grantsBy f t (turn w) = turnStep small t w
+grantsBy f t (turnAll ws) = turnAllStep small t ws
+
+abbrev pub arrivalsBy : (Tables → ℕ → Answer) → Tables → Call → Answer
+arrivalsBy f t (grant d) = grantStep small t d
+arrivalsBy f t (arrive d) = f t d
+arrivalsBy f t (turn w) = turnStep small t w
+arrivalsBy f t (turnAll ws) = turnAllStep small t ws
+
+abbrev pub turnsBy : (Tables → ℕ → Answer) → Tables → Call → Answer
+turnsBy f t (grant d) = grantStep small t d
+turnsBy f t (arrive d) = arriveStep small t d
+turnsBy f t (turn w) = f t w
+turnsBy f t (turnAll ws) = turnAllStep small t ws
+
+abbrev pub listsBy : (Tables → List ℕ → Answer) → Tables → Call → Answer
+listsBy f t (grant d) = grantStep small t d
+listsBy f t (arrive d) = arriveStep small t d
+listsBy f t (turn w) = turnStep small t w
+listsBy f t (turnAll ws) = f t ws
 
 -- waits for the leader's visit and not for its departure
 unfoldable pub sooner : FieldPlan → FieldPlan
@@ -37,27 +81,23 @@ sooner F = record {
   dependency = λ w. let x = F .dependency w in record { first = x .first; firstStop = x .firstStop - 1; second = x .second; secondStop = x .secondStop };
 }
 
-unfoldable pub visitOnly : Tables → Call → Answer
-visitOnly t (grant d) = answer t (replyIn (sooner (planOf (t .plan))) (statusIn t) (grant d)) (granted t d)
-visitOnly t (arrive d) = arriveStep small t d
-visitOnly t (turn w) = turnStep small t w
-visitOnly t (turnAll ws) = turnAllStep small t ws
+unfoldable pub visitOnly : Tables → ℕ → Answer
+visitOnly t d = answer t (replyIn (sooner (planOf (t .plan))) (statusIn t) (grant d)) (granted t d)
 
--- never says 34
-unfoldable pub noCycles : Reply → Reply
-noCycles accepted = accepted
-noCycles (refused n) = cond (eqb n 34) accepted (refused n)
-noCycles (mustWait w) = mustWait w
+-- grants without a test
+unfoldable pub grantUntested : Tables → ℕ → Answer
+grantUntested t d = answer t accepted (granted t d)
 
-unfoldable pub never34 : Tables → Call → Answer
-never34 t c = record { reply = noCycles (step small t c .reply); tables = step small t c .tables }
+-- says 23 without a test
+unfoldable pub waitUntested : Tables → ℕ → Answer
+waitUntested t d = answer t (mustWait 0) t
 
--- grants without a test, and says 34 without one
-unfoldable pub untested : Tables → Call → Answer
-untested t (grant d) = answer t accepted (granted t d)
-untested t (arrive d) = arriveStep small t d
-untested t (turn w) = answer t (refused 34) t
-untested t (turnAll ws) = answer t (refused 34) t
+-- refuses every call of its kind with one number
+unfoldable pub refuseOne : ℕ → Tables → ℕ → Answer
+refuseOne n t d = answer t (refused n) t
+
+unfoldable pub refuseList : ℕ → Tables → List ℕ → Answer
+refuseList n t ws = answer t (refused n) t
 
 -- turns the dependencies of a list one after the other, each tested by itself
 unfoldable pub oneByOne : Tables → List ℕ → Answer
@@ -65,28 +105,10 @@ oneByOne t [] = answer t (refused 36) t
 oneByOne t (w ∷ []) = turnStep small t w
 oneByOne t (w ∷ v ∷ ws) = cond (isAccepted (turnStep small t w .reply)) (oneByOne (turnStep small t w .tables) (v ∷ ws)) (turnStep small t w)
 
-unfoldable pub inTurn : Tables → Call → Answer
-inTurn t (grant d) = step small t (grant d)
-inTurn t (arrive d) = step small t (arrive d)
-inTurn t (turn w) = step small t (turn w)
-inTurn t (turnAll ws) = oneByOne t ws
-
--- lets any list through 36
-unfoldable pub anyList : Reply → Reply
-anyList accepted = accepted
-anyList (refused n) = cond (eqb n 36) accepted (refused n)
-anyList (mustWait w) = mustWait w
-
-unfoldable pub never36 : Tables → Call → Answer
-never36 t c = record { reply = anyList (step small t c .reply); tables = step small t c .tables }
-
 -- leaves the first of a refused list turned
-unfoldable pub firstLeft : Tables → Call → Answer
-firstLeft t (grant d) = step small t (grant d)
-firstLeft t (arrive d) = step small t (arrive d)
-firstLeft t (turn w) = step small t (turn w)
-firstLeft t (turnAll []) = step small t (turnAll [])
-firstLeft t (turnAll (w ∷ ws)) = let a = step small t (turnAll (w ∷ ws)) in record { reply = a .reply; tables = cond (isAccepted (a .reply)) (a .tables) (flipped t w) }
+unfoldable pub firstLeft : Tables → List ℕ → Answer
+firstLeft t [] = turnAllStep small t []
+firstLeft t (w ∷ ws) = let a = turnAllStep small t (w ∷ ws) in record { reply = a .reply; tables = cond (isAccepted (a .reply)) (a .tables) (flipped t w) }
 
 -- ---- the flights that refute them
 
@@ -100,17 +122,29 @@ wrong p rs cs = record { program = p; routes = rs; calls = cs }
 
 abbrev pub wrongs : List Wrong
 wrongs =
+    -- "A grant, arrive or turn that refuses all, one fixed reply, and a call that changes nothing"
     wrong refuseAll (Q 4) (grant 0 ∷ [])
-    ∷ wrong idle (Q 4) (grant 0 ∷ grant 0 ∷ [])
-    ∷ wrong honestOnce (Q 4) (grant 0 ∷ arrive 0 ∷ grant 0 ∷ [])
-    ∷ wrong visitOnly (Q 4) (grant 0 ∷ arrive 0 ∷ grant 0 ∷ arrive 0 ∷ grant 1 ∷ [])
+    ∷ wrong (grantsBy (refuseOne 22)) (Q 4) (grant 0 ∷ [])
+    ∷ wrong (arrivalsBy (refuseOne 24)) (Q 4) (grant 0 ∷ arrive 0 ∷ [])
+    ∷ wrong (turnsBy (refuseOne 31)) (Q 4) (turn 0 ∷ [])
+    ∷ wrong (listsBy (refuseList 36)) P (turnAll (0 ∷ 1 ∷ []) ∷ [])
+    ∷ wrong (grantsBy (λ t d. idle t (grant d))) (Q 4) (grant 0 ∷ grant 0 ∷ [])
+    ∷ wrong (arrivalsBy (λ t d. idle t (arrive d))) (Q 4) (grant 0 ∷ arrive 0 ∷ arrive 0 ∷ [])
+    ∷ wrong (turnsBy (λ t w. idle t (turn w))) (Q 4) (turn 0 ∷ grant 1 ∷ [])
+    -- "So do 23 or 34 said untested"
+    ∷ wrong (grantsBy waitUntested) (Q 4) (grant 0 ∷ [])
+    ∷ wrong (grantsBy grantUntested) (Q 4) (grant 1 ∷ [])
+    ∷ wrong (turnsBy (refuseOne 34)) (Q 4) (turn 0 ∷ [])
+    ∷ wrong (listsBy (refuseList 34)) P (turnAll (0 ∷ 1 ∷ []) ∷ [])
     ∷ wrong never34 P (turn 0 ∷ [])
-    ∷ wrong untested (Q 4) (grant 1 ∷ [])
-    ∷ wrong untested (Q 4) (turn 0 ∷ [])
-    ∷ wrong untested P (turnAll (0 ∷ 1 ∷ []) ∷ [])
-    ∷ wrong inTurn P (turnAll (0 ∷ 1 ∷ []) ∷ [])
+    -- "Grants honest once and sham later"
+    ∷ wrong honestOnce (Q 4) (grant 0 ∷ arrive 0 ∷ grant 0 ∷ [])
+    -- "Waiting for the leader's visit and not for its departure"
+    ∷ wrong (grantsBy visitOnly) (Q 4) (grant 0 ∷ arrive 0 ∷ grant 0 ∷ arrive 0 ∷ grant 1 ∷ [])
+    -- lists: one after the other, any list at all, a part of a refused one
+    ∷ wrong (listsBy oneByOne) P (turnAll (0 ∷ 1 ∷ []) ∷ [])
     ∷ wrong never36 P (turnAll (1 ∷ 0 ∷ []) ∷ [])
-    ∷ wrong firstLeft P (turnAll (0 ∷ 7 ∷ []) ∷ grant 0 ∷ [])
+    ∷ wrong (listsBy firstLeft) P (turnAll (0 ∷ 7 ∷ []) ∷ grant 0 ∷ [])
     ∷ []
 
 -- the claim

@@ -8,7 +8,7 @@ use native.Mathlib.Omega.{arith}
 use lib.Dec.{ltb, eqb}
 use lib.ListN.{getD}
 use borrow.Author.Tests.{ltb-true, ltb-false, eqb-true, eqb-false, lt-ltb, eq-eqb, ne-eqb, not-true}
-use Rattle.below.specs.Below.{pick, allBelow, countBelow, sumBelow, pairsOf, listed, before, triangle}
+use Rattle.below.specs.Below.{pick, allBelow, countBelow, sumBelow, pairsOf, listed, pairBefore, triangle}
 use Rattle.below.proofs.Tests.{by-cases, true-or-false, and-left, and-right, and-both, same-test}
 use Rattle.below.proofs.Every.{allBelow-at, allBelow-all}
 use Rattle.below.proofs.Sum.{sum-ext, count-sum}
@@ -128,22 +128,22 @@ module _ (own loc time : ℕ → ℕ) (n : ℕ) where
           second-in = λ k l. ltb-true _ _ (and-left _ _ (rest k l));
           passes = λ k l. and-left _ _ (last k l);
           rises = λ k l.
-              let r : (eqb (suc k) 0 || before (xs (suc k - 1)) (ys (suc k - 1)) (xs (suc k)) (ys (suc k))) ≡ true = and-right (clear own loc time n (xs (suc k)) (ys (suc k))) _ (last (suc k) l) in
+              let r : (eqb (suc k) 0 || pairBefore (xs (suc k - 1)) (ys (suc k - 1)) (xs (suc k)) (ys (suc k))) ≡ true = and-right (clear own loc time n (xs (suc k)) (ys (suc k))) _ (last (suc k) l) in
               let q : suc k - 1 ≡ k = omega arith in
               rw (ne-eqb (suc k) 0 (λ z. omega arith), q) at r;
         }
       where
-        rest : (k : ℕ) → k < m → (ltb (ys k) n && (clear own loc time n (xs k) (ys k) && (eqb k 0 || before (xs (k - 1)) (ys (k - 1)) (xs k) (ys k)))) ≡ true
+        rest : (k : ℕ) → k < m → (ltb (ys k) n && (clear own loc time n (xs k) (ys k) && (eqb k 0 || pairBefore (xs (k - 1)) (ys (k - 1)) (xs k) (ys k)))) ≡ true
         rest k l = and-right (ltb (xs k) n) _ (h k l)
 
-        last : (k : ℕ) → k < m → (clear own loc time n (xs k) (ys k) && (eqb k 0 || before (xs (k - 1)) (ys (k - 1)) (xs k) (ys k))) ≡ true
+        last : (k : ℕ) → k < m → (clear own loc time n (xs k) (ys k) && (eqb k 0 || pairBefore (xs (k - 1)) (ys (k - 1)) (xs k) (ys k))) ≡ true
         last k l = and-right (ltb (ys k) n) _ (rest k l)
 
     climb-entries : Climbs (clear own loc time n) n m xs ys → (k : ℕ) → k < m → entryRight own loc time n xs ys k ≡ true
     unfolding entryRight
     climb-entries c k l = rw (lt-ltb (xs k) n (c .first-in k l), lt-ltb (ys k) n (c .second-in k l), c .passes k l) (go k l)
       where
-        go : (k : ℕ) → k < m → (eqb k 0 || before (xs (k - 1)) (ys (k - 1)) (xs k) (ys k)) ≡ true
+        go : (k : ℕ) → k < m → (eqb k 0 || pairBefore (xs (k - 1)) (ys (k - 1)) (xs k) (ys k)) ≡ true
         go zero l = refl
         go (suc k) l = let q : suc k - 1 ≡ k = omega arith in rw (ne-eqb (suc k) 0 (λ z. omega arith), q) (c .rises k l)
 

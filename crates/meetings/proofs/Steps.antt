@@ -6,14 +6,14 @@ use Prim.Native.Nat.{ℕ, _+_, _-_, _*_, _≤_, _<_}
 use native.Mathlib.Omega.{arith}
 use lib.Dec.{ltb, eqb}
 use borrow.Author.Tests.{ltb-true, ltb-false, eqb-true, eqb-false, lt-ltb, le-ltb, eq-eqb, ne-eqb}
-use Rattle.below.specs.Below.{before}
+use Rattle.below.specs.Below.{pairBefore}
 use Rattle.below.proofs.Tests.{by-cases, same-test}
 use Rattle.plan.specs.Check.{over}
 use Rattle.meetings.specs.Meetings.{clear, entryRight}
 
 module _ (v w x y : ℕ) where
-  pub before-key : w < 65536 → y < 65536 → ltb (v * 65536 + w) (x * 65536 + y) ≡ before v w x y
-  unfolding before
+  pub before-key : w < 65536 → y < 65536 → ltb (v * 65536 + w) (x * 65536 + y) ≡ pairBefore v w x y
+  unfolding pairBefore
   before-key a b = by-cases (ltb v x)
       (λ h. rw (h, lt-ltb (v * 65536 + w) (x * 65536 + y) (omega (arith, ltb-true v x h))) refl)
       (λ h. by-cases (eqb v x)
@@ -21,19 +21,6 @@ module _ (v w x y : ℕ) where
       (λ q. lt-ltb w y (omega (arith, eqb-true v x e, ltb-true (v * 65536 + w) (x * 65536 + y) q)))
       (λ q. lt-ltb (v * 65536 + w) (x * 65536 + y) (omega (arith, eqb-true v x e, ltb-true w y q)))))
       (λ e. let ne : v ≢ x = eqb-false v x e in rw (h, e, le-ltb (v * 65536 + w) (x * 65536 + y) (omega (arith, ltb-false v x h))) refl))
-
-module _ (own time : ℕ → ℕ) (n v t : ℕ) where
-  pub over-end : n ≤ v + 1 → false ≡ over own time n v t
-  unfolding over
-  over-end h = rw (le-ltb (v + 1) n h) refl
-
-  pub over-other : v + 1 < n → own (v + 1) ≢ own v → false ≡ over own time n v t
-  unfolding over
-  over-other h e = rw (lt-ltb (v + 1) n h, ne-eqb (own (v + 1)) (own v) e) refl
-
-  pub over-next : v + 1 < n → own (v + 1) ≡ own v → ltb (time (v + 1)) t ≡ over own time n v t
-  unfolding over
-  over-next h e = rw (lt-ltb (v + 1) n h, eq-eqb (own (v + 1)) (own v) e) refl
 
 module _ (own loc time : ℕ → ℕ) (n v w : ℕ) where
   pub clear-same : own v ≡ own w → false ≡ clear own loc time n v w
@@ -65,6 +52,6 @@ module _ (own loc time : ℕ → ℕ) (n : ℕ) (xs ys : ℕ → ℕ) (k : ℕ) 
   unfolding entryRight
   entry-zero a b h z = rw (lt-ltb (xs k) n a, lt-ltb (ys k) n b, h, eq-eqb k 0 z) refl
 
-  pub entry-after : xs k < n → ys k < n → clear own loc time n (xs k) (ys k) ≡ true → k ≢ 0 → before (xs (k - 1)) (ys (k - 1)) (xs k) (ys k) ≡ entryRight own loc time n xs ys k
+  pub entry-after : xs k < n → ys k < n → clear own loc time n (xs k) (ys k) ≡ true → k ≢ 0 → pairBefore (xs (k - 1)) (ys (k - 1)) (xs k) (ys k) ≡ entryRight own loc time n xs ys k
   unfolding entryRight
   entry-after a b h z = rw (lt-ltb (xs k) n a, lt-ltb (ys k) n b, h, ne-eqb k 0 z) refl

@@ -16,6 +16,6 @@ pub record Stops (n : ℕ) (owners locations times : List ℕ) : Type 0 where
   pub steady : Steady (at owners) (at locations) (at times) n
 
 -- m pairs
-pub record Table (m : ℕ) (firsts seconds : List ℕ) : Type 0 where
+pub record PairTable (m : ℕ) (firsts seconds : List ℕ) : Type 0 where
   pub has-firsts : m ≤ length firsts
   pub has-seconds : m ≤ length seconds

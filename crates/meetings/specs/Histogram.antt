@@ -3,10 +3,10 @@
 use mathlib.Core.Path.{_≡_}
 use mathlib.Core.List.{List}
 use Prim.Native.Nat.{ℕ, _+_, _≤_, _<_}
+use lib.Dec.{eqb}
 use lib.ListN.{length}
 use Rattle.below.specs.Below.{at, countBelow}
 use Rattle.tables.specs.Limits.{limits}
-use Rattle.plan.specs.Check.{meets}
 
 -- each of n stops has an entry, and none that is later than the stop
 pub record Indexed (firsts : List ℕ) (n : ℕ) : Type 0 where
@@ -17,7 +17,7 @@ pub record Indexed (firsts : List ℕ) (n : ℕ) : Type 0 where
 -- counts holds, at the first stop of each of n stops, how many of the first lo stops are there
 pub record Tally (firsts counts : List ℕ) (n lo : ℕ) : Type 0 where
   pub size : length counts ≡ limits .stops
-  pub here : (v : ℕ) → v < n → at counts (at firsts v) ≡ countBelow lo (λ u. meets (at firsts u) (at firsts v))
+  pub here : (v : ℕ) → v < n → at counts (at firsts v) ≡ countBelow lo (λ u. eqb (at firsts u) (at firsts v))
 
 -- the stops lo to w - 1 are of lo's drone, and those before lo of lower drones
 pub record Run (own : ℕ → ℕ) (lo w : ℕ) : Type 0 where

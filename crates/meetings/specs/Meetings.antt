@@ -4,7 +4,7 @@ use mathlib.Core.Path.{_≡_}
 use mathlib.Core.Bool.{Bool, not, _&&_, _||_}
 use Prim.Native.Nat.{ℕ, _+_, _-_, _≤_, _<_}
 use lib.Dec.{ltb, eqb}
-use Rattle.below.specs.Below.{countBelow, sumBelow, before}
+use Rattle.below.specs.Below.{countBelow, sumBelow, pairBefore}
 use Rattle.plan.specs.Check.{meets, over}
 
 -- v and w are visits of one location by different drones
@@ -22,7 +22,7 @@ module _ (own loc time : ℕ → ℕ) (n : ℕ) where
 
   -- entry k holds two stops, the first clear of the second, and comes after entry k - 1
   unfoldable pub entryRight : (xs ys : ℕ → ℕ) → ℕ → Bool
-  entryRight xs ys k = ltb (xs k) n && (ltb (ys k) n && (clear (xs k) (ys k) && (eqb k 0 || before (xs (k - 1)) (ys (k - 1)) (xs k) (ys k))))
+  entryRight xs ys k = ltb (xs k) n && (ltb (ys k) n && (clear (xs k) (ys k) && (eqb k 0 || pairBefore (xs (k - 1)) (ys (k - 1)) (xs k) (ys k))))
 
   -- "a drone's times strictly rise"
   abbrev pub Steady : Type 0

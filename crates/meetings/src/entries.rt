@@ -1,26 +1,11 @@
 // The entries of a dependency table, tested one by one.
+use plan::check::over_at;
 ghost use mathlib.Core.Path.{_≡_};
 ghost use Prim.Native.Nat.{_≤_, _<_};
 ghost use lib.ListN.{length};
-ghost use Rattle.below.specs.Below.{at, allBelow, before};
-ghost use Rattle.plan.specs.Check.{over};
+ghost use Rattle.below.specs.Below.{at, allBelow, pairBefore};
 ghost use Rattle.meetings.specs.Meetings.{clear, entryRight};
-ghost use Rattle.meetings.specs.Asked.{Stops, Table};
-
-// Whether v's span is over before the time t. A drone's last span never is.
-fn is_over(owners: &[u8], times: &[u32], n: usize, v: usize, t: u32) -> bool
-    requires { ⌜ (n ≤ length (now owners)) × (n ≤ length (now times)) × (v < n) ⌝ }
-    ensures { λ r. ⌜ r ≡ over (at (now (owners .entry))) (at (now (times .entry))) n v t ⌝ }
-{
-    let next = v + 1;
-    if n <= next {
-        return false;
-    }
-    if owners[next] != owners[v] {
-        return false;
-    }
-    times[next] < t
-}
+ghost use Rattle.meetings.specs.Asked.{Stops, PairTable};
 
 // Whether v and w are visits of one location by different drones, and v is over before w begins.
 fn is_clear(owners: &[u8], locations: &[u16], times: &[u32], n: usize, v: usize, w: usize) -> bool
@@ -33,12 +18,12 @@ fn is_clear(owners: &[u8], locations: &[u16], times: &[u32], n: usize, v: usize,
     if locations[v] != locations[w] {
         return false;
     }
-    is_over(owners, times, n, v, times[w])
+    over_at(owners, times, n, v, times[w])
 }
 
 // Whether (v, w) comes before (x, y). One comparison, for which of two would decide is hard to foresee.
 fn is_before(v: u16, w: u16, x: u16, y: u16) -> bool
-    ensures { λ r. ⌜ r ≡ before v w x y ⌝ }
+    ensures { λ r. ⌜ r ≡ pairBefore v w x y ⌝ }
 {
     let earlier = v as usize * 65536 + w as usize;
     let later = x as usize * 65536 + y as usize;
@@ -86,7 +71,7 @@ pub fn are_right(
     seconds: &[u16],
     m: usize,
 ) -> bool
-    requires { ⌜ Stops n (now owners) (now locations) (now times) × Table m (now firsts) (now seconds) ⌝ }
+    requires { ⌜ Stops n (now owners) (now locations) (now times) × PairTable m (now firsts) (now seconds) ⌝ }
     ensures { λ r. ⌜ r ≡ allBelow m (entryRight (at (now (owners .entry))) (at (now (locations .entry))) (at (now (times .entry))) n (at (now (firsts .entry))) (at (now (seconds .entry)))) ⌝ }
 {
     let mut k = 0;

@@ -8,7 +8,7 @@ use tables::entries::Stop;
 ghost use mathlib.Core.Path.{_≡_};
 ghost use Rattle.below.specs.Below.{at};
 ghost use Rattle.plan.specs.Dependencies.{right};
-ghost use Rattle.meetings.specs.Asked.{Stops, Table};
+ghost use Rattle.meetings.specs.Asked.{Stops, PairTable};
 
 // Whether no two drones collide and the table is the list of the plan's dependencies, in order.
 pub fn dependencies_right(
@@ -20,7 +20,7 @@ pub fn dependencies_right(
     seconds: &[u16],
     m: usize,
 ) -> bool
-    requires { ⌜ Stops n (now owners) (now locations) (now times) × Table m (now firsts) (now seconds) ⌝ }
+    requires { ⌜ Stops n (now owners) (now locations) (now times) × PairTable m (now firsts) (now seconds) ⌝ }
     ensures { λ r. ⌜ r ≡ right (at (now (owners .entry))) (at (now (locations .entry))) (at (now (times .entry))) n m (at (now (firsts .entry))) (at (now (seconds .entry))) ⌝ }
 {
     if !entries::are_right(owners, locations, times, n, firsts, seconds, m) {

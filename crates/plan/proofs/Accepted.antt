@@ -7,7 +7,7 @@ use Prim.Native.Nat.{ℕ, suc, _+_, _-_, _≤_, _<_}
 use native.Mathlib.Omega.{arith}
 use lib.Dec.{ltb, eqb}
 use borrow.Author.Tests.{ltb-true, lt-ltb, eqb-true, eqb-false, eq-eqb}
-use Rattle.below.specs.Below.{at, rank, before as pairBefore}
+use Rattle.below.specs.Below.{at, rank, pairBefore}
 use Rattle.below.proofs.Tests.{by-cases, and-left, and-right}
 use Rattle.below.proofs.Pairs.{listed-at, rank-below, rank-find, rank-order}
 use Rattle.tables.specs.Tables.{PlanLists, drones, dependencies}

@@ -6,7 +6,7 @@ use Prim.Native.Nat.{ℕ, _+_, _-_, _≤_, _<_}
 use native.Mathlib.Omega.{arith}
 use lib.Dec.{ltb, leb, eqb}
 use borrow.Author.Tests.{ltb-true, ltb-false, lt-ltb, leb-false, lt-leb, eqb-true, eqb-false, eq-eqb, ne-eqb, not-true, not-false}
-use Rattle.below.specs.Below.{allBelow, before}
+use Rattle.below.specs.Below.{allBelow, pairBefore}
 use Rattle.below.proofs.Tests.{by-cases, and-left, and-right}
 use Rattle.below.proofs.Search.{firstBelow-first, first-all, first-low}
 use Rattle.below.proofs.Every.{allBelow-at, allBelow-all, allBelow-ext, allBelow-search}
@@ -124,8 +124,8 @@ module _ (own loc time : ℕ → ℕ) (n : ℕ) where
       let m : partner own loc time n (collider own loc time n) < n = ltb-true _ _ (firstBelow-first n (λ v. ltb (partner own loc time n v) n) .found l) in
       (m, firstBelow-first n (collide own loc time n (collider own loc time n)) .found m)
 
-  pub collider-least : (x y : ℕ) → x < n → y < n → collide own loc time n x y ≡ true → ((collider own loc time n ≡ x) × (partner own loc time n (collider own loc time n) ≡ y)) ⊎ (before (collider own loc time n) (partner own loc time n (collider own loc time n)) x y ≡ true)
-  unfolding collider before
+  pub collider-least : (x y : ℕ) → x < n → y < n → collide own loc time n x y ≡ true → ((collider own loc time n ≡ x) × (partner own loc time n (collider own loc time n) ≡ y)) ⊎ (pairBefore (collider own loc time n) (partner own loc time n (collider own loc time n)) x y ≡ true)
+  unfolding collider pairBefore
   collider-least x y l k e = by-cases (ltb (collider own loc time n) x)
       (λ h. inr (rw h refl))
       (λ h. let same : collider own loc time n ≡ x = omega (arith, low, ltb-false (collider own loc time n) x h) in

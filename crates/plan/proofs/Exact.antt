@@ -7,7 +7,7 @@ use Prim.Native.Nat.{ℕ, suc, _+_, _≤_, _<_}
 use native.Mathlib.Omega.{arith}
 use lib.Dec.{ltb, eqb}
 use borrow.Author.Tests.{ltb-true, ltb-false, eqb-true, eq-eqb}
-use Rattle.below.specs.Below.{firstBelow, at, rank, before as pairBefore}
+use Rattle.below.specs.Below.{firstBelow, at, rank, pairBefore}
 use Rattle.below.proofs.Tests.{by-cases, and-left, and-right}
 use Rattle.below.proofs.Search.{firstBelow-first, first-low}
 use Rattle.below.proofs.Pairs.{before-not, rank-find, rank-rises, rising-fit, Climbs, climbs-few, climbs-all}

@@ -12,3 +12,5 @@ pub mod ColumnsLaws
 pub mod WaitsLaws
 pub mod Flights
 pub mod Agree
+pub mod PlansAgree
+pub mod Definition2

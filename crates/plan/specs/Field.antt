@@ -95,6 +95,15 @@ module _ (F : FieldPlan) where
     pub every : (x : Dependency) → Meeting x → (w : ℕ) × (w < count) × (dependency w ≡ x)
     pub ordered : (v w : ℕ) → v < w → w < count → before (dependency v) (dependency w) ≡ true
 
+-- two plans agree: the same drones, stops and dependencies, whatever their functions say of numbers that name none
+pub record PlansAgree (F G : FieldPlan) : Type 0 where
+  pub drones-agree : F .drones ≡ G .drones
+  pub lasts-agree : (d : ℕ) → d < F .drones → F .last d ≡ G .last d
+  pub locations-agree : (d s : ℕ) → d < F .drones → s ≤ F .last d → F .location d s ≡ G .location d s
+  pub times-agree : (d s : ℕ) → d < F .drones → s ≤ F .last d → F .time d s ≡ G .time d s
+  pub counts-agree : F .count ≡ G .count
+  pub dependencies-agree : (w : ℕ) → w < F .count → F .dependency w ≡ G .dependency w
+
 -- the plan that the lent lists hold
 abbrev pub planOf : PlanLists → FieldPlan
 planOf l = record {

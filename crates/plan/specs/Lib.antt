@@ -9,4 +9,5 @@ pub mod Field
 pub mod Status
 pub mod Waits
 pub mod Claims
+pub mod Definition2
 pub mod Flights

@@ -66,7 +66,7 @@ fn first_fault(numbers: &[u16], locations: &[u16], times: &[u32], n: usize) -> u
 }
 
 // Whether v's span is over before the time t. A drone's last span never is.
-fn over_at(owners: &[u8], times: &[u32], n: usize, v: usize, t: u32) -> bool
+pub fn over_at(owners: &[u8], times: &[u32], n: usize, v: usize, t: u32) -> bool
     requires { ⌜ (n ≤ length (now owners)) × (n ≤ length (now times)) × (v < n) ⌝ }
     ensures { λ r. ⌜ r ≡ over (at (now (owners .entry))) (at (now (times .entry))) n v t ⌝ }
 {

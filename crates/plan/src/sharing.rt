@@ -1,4 +1,5 @@
 // Stops that share a location. The first stops of all locations stand in trees, so that each stop finds the first at its own in a few steps, whatever the plan.
+use tables::casts::wide;
 use tables::entries::Stop;
 ghost use mathlib.Core.Path.{_≡_};
 ghost use Prim.Native.Nat.{ℕ, _+_, _≤_, _<_};
@@ -11,12 +12,6 @@ ghost use Rattle.plan.specs.Sharing.{roots, rootOf, firstAt, Trees, next
 const ROOTS: usize = 1024;
 
 const SLOTS: usize = ROOTS + 2 * Stop::FULL;
-
-fn wide(x: u16) -> usize
-    ensures { λ r. ⌜ (r ≡ x) × (r < 65536) ⌝ }
-{
-    x as usize
-}
 
 // The root of a location's tree. Locations in a row have trees of their own, and so have those that lie a power of two apart.
 fn root(l: usize) -> usize

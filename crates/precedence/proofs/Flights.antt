@@ -1,11 +1,11 @@
 -- The table of flights holds, by computation; and the theorems' hypotheses are met: flight Q is formed, has no cycle and keeps its waits at first, so its
 -- remaining rounds are longest chains. Assumes nothing.
-use mathlib.Core.Path.{_≡_, refl, sym, _∙_}
-use mathlib.Core.Bool.{true, false}
-use Prim.Native.Nat.{ℕ, zero, suc}
+use mathlib.Core.Path.{refl, sym, _∙_}
+use mathlib.Core.Bool.{false}
+use Prim.Native.Nat.{zero, suc}
 use native.Mathlib.Omega.{arith}
 use lib.Dec.{T, lit<, lit≤}
-use Rattle.below.specs.Below.{firstBelow, allBelow, sumBelow, listBelow}
+use Rattle.below.specs.Below.{allBelow, sumBelow, listBelow}
 use Rattle.precedence.specs.Graph.{Formed, Cycle, Longest, atStart, remaining, cyclicList, blocks, free, round, finished, unvisited, roundList, playList}
 use Rattle.precedence.specs.Flights.{flights, allHold, flightQ}
 use Rattle.precedence.proofs.Visits.{acyclic-iff, kept-start}

@@ -1,3 +1,4 @@
+pub mod Agreement
 pub mod Rounds
 pub mod Visits
 pub mod Table

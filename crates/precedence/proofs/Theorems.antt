@@ -1,6 +1,5 @@
 -- The theorems of specs/Theorems.antt, each from the law that has it. Assumes nothing.
-use mathlib.Core.Path.{_≡_}
-use Prim.Native.Nat.{ℕ, suc, _≤_, _<_}
+use Prim.Native.Nat.{ℕ, _≤_}
 use native.Mathlib.Omega.{arith}
 use Rattle.precedence.specs.Graph.{Plan, vertex, play, remaining, Chain, link, on}
 use Rattle.precedence.specs.Theorems.{NobodyStuck, RoundsFinish, CyclicIsCycle, RisingNoCycle, RemainingIsLongest, FinishedHasNone, RoundsTable, CostBound, MakespanIsLargest, HeldRoundRaisesNone, HeldRoundsFinish, LegTables, LegsOfOne, FewerWaits}

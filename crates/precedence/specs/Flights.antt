@@ -4,8 +4,8 @@ use mathlib.Core.Bool.{Bool, true, false, _&&_, _||_}
 use Prim.Native.Nat.{ℕ}
 use lib.Dec.{eqb}
 use lib.ListN.{length, getD}
-use Rattle.below.specs.Below.{firstBelow, allBelow, countBelow, sumBelow, listBelow, at}
-use Rattle.precedence.specs.Graph.{Wait, departure, Plan, blocks, free, round, finished, unvisited, roundList, playList, remainingList, unfinishedList, cyclicList}
+use Rattle.below.specs.Below.{firstBelow, allBelow, sumBelow, listBelow, at}
+use Rattle.precedence.specs.Graph.{Wait, departure, Plan, blocks, free, round, finished, unvisited, roundList, playList, remainingList, cyclicList}
 
 -- a plan from lists: each drone's last stop, and the waits
 abbrev pub fromLists : List ℕ → List Wait → Plan
@@ -56,7 +56,7 @@ same false false = true
 
 -- a flight is as the table says
 unfoldable pub holds : Flight → Bool
-unfolding firstBelow allBelow countBelow sumBelow listBelow blocks free round finished unvisited roundList playList remainingList unfinishedList cyclicList
+unfolding firstBelow allBelow sumBelow listBelow blocks free round finished unvisited roundList playList remainingList cyclicList
 holds f = same (cyclicList (f .plan)) (f .has-cycle) && (same (f .has-cycle) true || eqb (costList (f .plan) (f .places)) (f .costs))
 
 unfoldable pub allHold : List Flight → Bool

@@ -208,10 +208,6 @@ module _ (P : Plan) where
   unfoldable pub remainingList : List ℕ → ℕ → ℕ
   remainingList ps d = firstBelow (unvisited (at ps)) (λ k. leb (last d) (at (playList ps k) d))
 
-  -- how many drones are short of their last stop
-  unfoldable pub unfinishedList : List ℕ → ℕ
-  unfinishedList ps = countBelow drones (λ d. ltb (at ps d) (last d))
-
   -- the test of cycles on lists, for flights that are computed
   unfoldable pub cyclicList : Bool
   cyclicList = not (finished (at (playList (listBelow drones (λ d. 0)) (unvisited atStart))))

@@ -5,7 +5,7 @@ use mathlib.Core.Logic.{_↔_}
 use mathlib.Core.Bool.{Bool, true, false}
 use Prim.Native.Nat.{ℕ, _+_, _*_, _≤_, _<_}
 use Rattle.below.specs.Below.{firstBelow, maxBelow}
-use Rattle.precedence.specs.Graph.{Plan, Vertex, vertex, Formed, free, play, finished, unvisited, reached, remaining, cost, makespan, cyclic, Cycle, Kept, Chain, Longest, Rising, Table, arrival, LegChain, legsLeft, one, heldRound, heldPlay, heldRounds, Ahead, Fewer}
+use Rattle.precedence.specs.Graph.{Plan, vertex, Formed, free, play, finished, unvisited, reached, remaining, cost, makespan, cyclic, Cycle, Kept, Chain, Longest, Rising, Table, arrival, LegChain, legsLeft, one, heldRound, heldPlay, heldRounds, Ahead, Fewer}
 
 -- ---- for any plan
 module _ (P : Plan) where

@@ -7,9 +7,8 @@ use native.Mathlib.Omega.{arith}
 use borrow.Author.Tests.{eq-eqb, ne-eqb}
 use Rattle.tables.specs.Limits.{Limits}
 use Rattle.tables.specs.Tables.{Tables}
-use Rattle.reading.specs.Replies.{readingNumber}
+use Rattle.reading.specs.Replies.{ReadingReply as Read, readingNumber}
 use Rattle.reading.specs.Reading.{AnsweredAs, readPlan}
-use Rattle.reading.specs.declared.replies.Reading.{Reading as Read}
 use Rattle.dispatch.specs.Transcribing.{zeroTables}
 use Rattle.handset.specs.Press.{PressOutcome, PressedAs, pressStep}
 use Rattle.handset.specs.declared.replies.Report.{Report}

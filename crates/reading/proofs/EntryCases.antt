@@ -11,11 +11,9 @@ use Rattle.tables.specs.Zero.{zeroedTables}
 use Rattle.tables.proofs.Zero.{zeroed-twice}
 use Rattle.tables.proofs.SizeLaws.{full-sizes}
 use Rattle.tables.proofs.ZeroTables.{each-zeroed, zeroed-fullSize}
-use Rattle.reading.specs.Reading.{Answered, AnsweredAs, readLines, readPlan}
+use Rattle.reading.specs.Reading.{ReadingAnswer, AnsweredAs, readLines, readPlan}
 use Rattle.reading.specs.Asked.{LinesAsked}
-use Rattle.reading.specs.declared.replies.Refusal.the-variants.{TablesTooSmall, TooLong}
-use Rattle.reading.specs.declared.replies.Reading.{Reading}
-use Rattle.reading.specs.declared.replies.Reading.the-variants.{Refused}
+use Rattle.reading.specs.Replies.{ReadingReply, refusedBy, refusedAt}
 use Rattle.reading.proofs.StoredPlan.{answered-as, columnsOf}
 use Rattle.reading.proofs.LinesCases.{IsZeroed}
 
@@ -37,43 +35,43 @@ zeroed-again L t =
     (sym (zeroed-twice (L .dependencies) (t .plan .secondStops)))
     (sym (zeroed-twice (L .dependencies) (t .flags))))
 
+pub lines-asked : (L : Limits) (t : Tables) → fullSize L t ≡ true → (z : Tables) → z ≡ zeroedTables L t → L .dependencies ≤ 65536
+    → LinesAsked L (z .plan .droneCount) (z .plan .dependencyCount) (z .plan .names) (z .plan .stopCounts) (z .plan .locations) (z .plan .times) (columnsOf z)
+lines-asked L t f z e few =
+    let s : Sizes L z = full-sizes L z (ap (fullSize L) e ∙ zeroed-fullSize L t ∙ f) in
+    record {
+      has-drone-count = s .drone-count;
+      has-dependency-count = s .dependency-count;
+      has-names = s .names;
+      has-stop-counts = s .stop-counts;
+      has-locations = s .locations;
+      has-times = s .times;
+      has-columns = record {
+        has-first-drones = s .first-drones;
+        has-first-stops = s .first-stops;
+        has-second-drones = s .second-drones;
+        has-second-stops = s .second-stops;
+        has-flags = s .flags;
+        dependencies-fit = few;
+      };
+    }
+
 module _ (L : Limits) (text : List ℕ) (t : Tables) where
-  pub tables-small : fullSize L t ≡ false → AnsweredAs (readPlan L text t) (Refused TablesTooSmall) t
+  pub tables-small : fullSize L t ≡ false → AnsweredAs (readPlan L text t) (refusedBy 41) t
   unfolding readPlan
-  tables-small f = answered-as (readPlan L text t) (Refused TablesTooSmall) t t (rw f refl) refl
+  tables-small f = answered-as (readPlan L text t) (refusedBy 41) t t (rw f refl) refl
 
   module _ (f : fullSize L t ≡ true) where
-    pub text-long : L .text < length text → AnsweredAs (readPlan L text t) (Refused (TooLong (L .text))) t
+    pub text-long : L .text < length text → AnsweredAs (readPlan L text t) (refusedAt 1 (L .text)) t
     unfolding readPlan
-    text-long l = answered-as (readPlan L text t) (Refused (TooLong (L .text))) t t (rw (f, lt-ltb (L .text) (length text) l) refl) refl
+    text-long l = answered-as (readPlan L text t) (refusedAt 1 (L .text)) t t (rw (f, lt-ltb (L .text) (length text) l) refl) refl
 
     module _ (short : length text ≤ L .text) (z : Tables) (e : z ≡ zeroedTables L t) where
       is-zeroed : IsZeroed L z
       is-zeroed = subst (IsZeroed L) (sym e) (zeroed-again L t)
 
-      pub lines-asked : L .dependencies ≤ 65536 → LinesAsked L text (z .plan .droneCount) (z .plan .dependencyCount) (z .plan .names) (z .plan .stopCounts) (z .plan .locations) (z .plan .times) (columnsOf z)
-      lines-asked few =
-          let s : Sizes L z = full-sizes L z (ap (fullSize L) e ∙ zeroed-fullSize L t ∙ f) in
-          record {
-            short = short;
-            has-drone-count = s .drone-count;
-            has-dependency-count = s .dependency-count;
-            has-names = s .names;
-            has-stop-counts = s .stop-counts;
-            has-locations = s .locations;
-            has-times = s .times;
-            has-columns = record {
-              has-first-drones = s .first-drones;
-              has-first-stops = s .first-stops;
-              has-second-drones = s .second-drones;
-              has-second-stops = s .second-stops;
-              has-flags = s .flags;
-              dependencies-fit = few;
-            };
-          }
-
-      pub lines-read : (r : Reading) (t′ : Tables) → (IsZeroed L z → AnsweredAs (readLines L text z) r t′) → AnsweredAs (readPlan L text t) r t′
+      pub lines-read : (r : ReadingReply) (t′ : Tables) → (IsZeroed L z → AnsweredAs (readLines L text z) r t′) → AnsweredAs (readPlan L text t) r t′
       unfolding readPlan
       lines-read r t′ a =
           let k : readPlan L text t ≡ readLines L text z = rw (f, le-ltb (L .text) (length text) short) (ap (readLines L text) (sym e)) in
-          subst (λ (x : Answered). AnsweredAs x r t′) (sym k) (a is-zeroed)
+          subst (λ (x : ReadingAnswer). AnsweredAs x r t′) (sym k) (a is-zeroed)

@@ -1,3 +1,4 @@
+pub mod ReplyLaws
 pub mod TakenText
 pub mod StoredPlan
 pub mod LinesCases

@@ -1,33 +1,34 @@
 -- Reading the lines into zeroed tables, case by case: zeroed again they are the same, and zeroing takes away what a refused plan has left. Assumes nothing.
 use mathlib.Core.Path.{_≡_, refl, sym, ap, subst, _∙_}
+use mathlib.Core.Bool.{true, false}
 use mathlib.Core.List.{List, [], _∷_}
 use Prim.Native.Nat.{ℕ, _*_, _≤_}
 use native.Mathlib.Omega.{arith}
 use lib.Dec.{leb}
 use lib.ListN.{length}
 use lib.Seq.{sets, length-sets, getD-set-same}
-use borrow.Author.Tests.{le-ltb}
 use Rattle.below.specs.Below.{at}
-use Rattle.below.proofs.Tests.{by-cases}
+use Rattle.below.proofs.Tests.{by-cases, true-or-false}
 use Rattle.tables.specs.Limits.{Limits}
 use Rattle.tables.specs.Tables.{Tables, tablesOf}
 use Rattle.tables.specs.Zero.{zeroed, zeroedTables}
-use Rattle.tables.proofs.Zero.{zeroed-length, zeroed-sets}
-use Rattle.lines.specs.declared.refusal.Refusal.{Refusal as TextRefusal}
-use Rattle.text.specs.Reading.{linesAt, flat}
-use Rattle.text.specs.TextRead.{answerOf, filledTable, tableAfter, droneCount, TextRead, Zeroed}
-use Rattle.text.specs.declared.reader.Answer.{Answer}
-use Rattle.text.specs.declared.reader.Answer.the-variants.{Taken as Plan, Refused as NoPlan}
+use Rattle.tables.proofs.Zero.{zeroed-sets}
+use Rattle.lines.specs.declared.refusal.Refusal.{Refusal as LineRefusal}
+use Rattle.text.specs.LinesRead.{linesAt, flat}
+use Rattle.text.specs.TextRead.{tableAfter, droneCount, TextRead, TablesZeroed}
+use Rattle.text.specs.declared.reader.LinesAnswer.{LinesAnswer}
+use Rattle.text.specs.declared.reader.LinesAnswer.the-variants.{WellFormed, Refused as NotWellFormed}
 use Rattle.text.proofs.Fits.{lines-fit}
 use Rattle.plan.specs.Columns.{Columns}
-use Rattle.reading.specs.Replies.{ofText}
-use Rattle.reading.specs.Reading.{Answered, answered, AnsweredAs, withText, total, checkIn, checked, stored, fromLines, readLines}
+use Rattle.reading.specs.Replies.{ReadingReply, taken, refusedBy, isTaken, refusalMeant, readingMeant, lineMeant}
+use Rattle.reading.specs.Reading.{ReadingAnswer, withReply, AnsweredAs, withText, total, checkIn, checked, stored, fromLines, readLines}
 use Rattle.reading.specs.Asked.{PlanAsked, LinesAsked}
 use Rattle.reading.specs.declared.replies.Refusal.{Refusal}
 use Rattle.reading.specs.declared.replies.Reading.{Reading}
 use Rattle.reading.specs.declared.replies.Reading.the-variants.{Taken, Refused}
+use Rattle.reading.proofs.ReplyLaws.{refusal-not-taken}
 use Rattle.reading.proofs.TakenText.{drones-in, stops-in}
-use Rattle.reading.proofs.StoredPlan.{answered-as, checked-many, checked-taken}
+use Rattle.reading.proofs.StoredPlan.{answered-as, checked-refused, checked-many, checked-taken}
 
 -- the tables with another text's values
 abbrev pub reread : Tables → (dc ns cs ls ts : List ℕ) → Tables
@@ -39,23 +40,15 @@ reread-same t dc ns cs ls ts dc′ ns′ cs′ ls′ ts′ a b c d e = cc
 
 -- ---- what reading the text leaves, by its answer
 
-module _ (L : Limits) (text : List ℕ) (short : length text ≤ L .text) where
-  answer-short : answerOf L text ≡ linesAt L text .answer
-  unfolding answerOf
-  answer-short = rw (le-ltb (L .text) (length text) short)
+after-refused : (a : LinesAnswer) (x : LineRefusal) → a ≡ NotWellFormed x → (full : ℕ) (values t : List ℕ) → zeroed full t ≡ t → tableAfter a full values t ≡ t
+after-refused a x h full values t e = ap (λ (y : LinesAnswer). tableAfter y full values t) h ∙ e
 
-  after-short : (full : ℕ) (values t : List ℕ) → tableAfter L text full values t ≡ filledTable (linesAt L text .answer) full values t
-  unfolding tableAfter
-  after-short full values t = rw (le-ltb (L .text) (length text) short)
+after-read : (a : LinesAnswer) (n : ℕ) → a ≡ WellFormed n → (full : ℕ) (values t : List ℕ) → tableAfter a full values t ≡ sets t 0 values
+after-read a n h full values t = ap (λ (y : LinesAnswer). tableAfter y full values t) h
 
-  after-refused : (x : TextRefusal) → linesAt L text .answer ≡ NoPlan x → (full : ℕ) (values t : List ℕ) → zeroed full t ≡ t → tableAfter L text full values t ≡ t
-  after-refused x h full values t e = after-short full values t ∙ ap (λ (a : Answer). filledTable a full values t) h ∙ e
-
-  after-taken : (n : ℕ) → linesAt L text .answer ≡ Plan n → (full : ℕ) (values t : List ℕ) → tableAfter L text full values t ≡ sets (zeroed full t) 0 values
-  after-taken n h full values t = after-short full values t ∙ ap (λ (a : Answer). filledTable a full values t) h
-
-  after-again : (n : ℕ) → linesAt L text .answer ≡ Plan n → (full : ℕ) (values t : List ℕ) → zeroed full t ≡ t → tableAfter L text full values t ≡ sets t 0 values
-  after-again n h full values t e = after-taken n h full values t ∙ ap (λ (l : List ℕ). sets l 0 values) e
+-- the count of drones
+count-read : (a : LinesAnswer) (n : ℕ) → a ≡ WellFormed n → (t : List ℕ) → tableAfter a 1 (droneCount a) t ≡ sets t 0 (n ∷ [])
+count-read a n h t = ap (λ (y : LinesAnswer). tableAfter y 1 (droneCount y) t) h
 
 -- ---- a zeroed table is one that zeroing leaves
 
@@ -82,86 +75,87 @@ module _ (L : Limits) (z : Tables) (e : IsZeroed L z) where
 -- ---- the replies of storing, with zeroed tables in place of the filled ones
 
 module _ (L : Limits) (z t : Tables) where
-  by-check : (k : Reading) (r : Reading) → r ≡ checked L t t k .reply → (r ≡ Taken → checked L z t k ≡ checked L t t k) × ((x : Refusal) → r ≡ Refused x → (checked L z t k ≡ answered (Refused x) z) × (checked L t t k .tables ≡ t))
-  by-check Taken r h = by-cases (leb (total (t .plan)) (L .dependencies))
+  by-check : (k r : ReadingReply) → r ≡ checked L t t k .reply
+      → (r ≡ taken → checked L z t k ≡ checked L t t k) × (isTaken r ≡ false → (checked L z t k ≡ withReply r z) × (checked L t t k .tables ≡ t))
+  by-check k r h = by-cases (isTaken k)
+      (λ p. by-cases (leb (total (t .plan)) (L .dependencies))
       (λ o. (
-        λ e. checked-taken L z t Taken refl o ∙ sym (checked-taken L t t Taken refl o),
-        λ x e. absurd (let z : _≡_ {A = ℕ} 0 1 = cc (sym e ∙ h ∙ ap (λ (a : Answered). a .reply) (checked-taken L t t Taken refl o)) in omega arith),
+        λ e. checked-taken L z t k p o ∙ sym (checked-taken L t t k p o),
+        λ e. true-or-false (ap isTaken (h ∙ ap (λ (a : ReadingAnswer). a .reply) (checked-taken L t t k p o))) e,
       ))
-      (λ o. (
-        λ e. absurd (let z : _≡_ {A = ℕ} 0 1 = cc (sym e ∙ h ∙ ap (λ (a : Answered). a .reply) (checked-many L t t Taken refl o)) in omega arith),
-        λ x e. (
-          checked-many L z t Taken refl o ∙ ap (λ (r : Reading). answered r z) (sym (ap (λ (a : Answered). a .reply) (checked-many L t t Taken refl o)) ∙ sym h ∙ e),
-          ap (λ (a : Answered). a .tables) (checked-many L t t Taken refl o),
-        ),
+      (λ o.
+      let is : r ≡ refusedBy 11 = h ∙ ap (λ (a : ReadingAnswer). a .reply) (checked-many L t t k p o) in (
+        λ e. true-or-false (ap isTaken e) (ap isTaken is),
+        λ e. (checked-many L z t k p o ∙ ap (λ (y : ReadingReply). withReply y z) (sym is), ap (λ (a : ReadingAnswer). a .tables) (checked-many L t t k p o)),
+      )))
+      (λ p.
+      let is : r ≡ k = h ∙ ap (λ (a : ReadingAnswer). a .reply) (checked-refused L t t k p) in (
+        λ e. true-or-false (ap isTaken e) (ap isTaken is ∙ p),
+        λ e. (checked-refused L z t k p ∙ ap (λ (y : ReadingReply). withReply y z) (sym is), ap (λ (a : ReadingAnswer). a .tables) (checked-refused L t t k p)),
       ))
-  by-check (Refused y) r h = (λ e. absurd (let z : _≡_ {A = ℕ} 0 1 = cc (sym e ∙ h) in omega arith), λ x e. (ap (λ (r : Reading). answered r z) (sym h ∙ e), refl))
 
-  stored-taken : (t′ : Tables) → AnsweredAs (stored L t) Taken t′ → AnsweredAs (checked L z t (checkIn (t .plan))) Taken t′
+  stored-taken : (t′ : Tables) → AnsweredAs (stored L t) taken t′ → AnsweredAs (checked L z t (checkIn (t .plan))) taken t′
   unfolding stored
   stored-taken t′ a =
-      let e : checked L z t (checkIn (t .plan)) ≡ stored L t = by-check (checkIn (t .plan)) Taken (a .replied) .0 refl in
-      record { replied = a .replied ∙ sym (ap (λ (x : Answered). x .reply) e); left = a .left ∙ sym (ap (λ (x : Answered). x .tables) e) }
+      let e : checked L z t (checkIn (t .plan)) ≡ stored L t = by-check (checkIn (t .plan)) taken (a .replied) .0 refl in
+      record { replied = a .replied ∙ sym (ap (λ (x : ReadingAnswer). x .reply) e); left = a .left ∙ sym (ap (λ (x : ReadingAnswer). x .tables) e) }
 
-  stored-refused : (x : Refusal) (t′ : Tables) → AnsweredAs (stored L t) (Refused x) t′ → (checked L z t (checkIn (t .plan)) ≡ answered (Refused x) z) × (t′ ≡ t)
+  stored-refused : (x : ReadingReply) → isTaken x ≡ false → (t′ : Tables) → AnsweredAs (stored L t) x t′ → (checked L z t (checkIn (t .plan)) ≡ withReply x z) × (t′ ≡ t)
   unfolding stored
-  stored-refused x t′ a = let k = by-check (checkIn (t .plan)) (Refused x) (a .replied) .1 x refl in (k .0, a .left ∙ k .1)
+  stored-refused x h t′ a = let k = by-check (checkIn (t .plan)) x (a .replied) .1 h in (k .0, a .left ∙ k .1)
 
 -- ---- the cases
 
-module _ (L : Limits) (text : List ℕ) (z : Tables) (short : length text ≤ L .text) (zero : IsZeroed L z) {dc ns cs ls ts : List ℕ} {a : Answer}
+module _ (L : Limits) (text : List ℕ) (z : Tables) (zero : IsZeroed L z) {dc ns cs ls ts : List ℕ} {a : LinesAnswer}
     (w : TextRead L text (z .plan .droneCount) (z .plan .names) (z .plan .stopCounts) (z .plan .locations) (z .plan .times) dc ns cs ls ts a) where
-  answer-is : a ≡ linesAt L text .answer
-  answer-is = w .answer-is ∙ answer-short L text short
-
-  pub lines-refused : (x : TextRefusal) (r : Refusal) → a ≡ NoPlan x → r ≡ ofText x → AnsweredAs (readLines L text z) (Refused r) (reread z dc ns cs ls ts)
+  pub lines-refused : (x : LineRefusal) (r : ReadingReply) → a ≡ NotWellFormed x → r ≡ lineMeant x → AnsweredAs (readLines L text z) r (reread z dc ns cs ls ts)
   unfolding readLines
   lines-refused x r h er =
-      let k : linesAt L text .answer ≡ NoPlan x = sym answer-is ∙ h in
-      answered-as (readLines L text z) (Refused r) z _ (ap (fromLines L z (linesAt L text)) k ∙ ap (λ (y : Refusal). answered (Refused y) z) (sym er))
+      let k : linesAt L text .answer ≡ NotWellFormed x = sym (w .answer-is) ∙ h in
+      answered-as (readLines L text z) r z _ (ap (fromLines L z (linesAt L text)) k ∙ ap (λ (y : ReadingReply). withReply y z) (sym er))
       (reread-same z dc ns cs ls ts _ _ _ _ _
-      (w .count-is ∙ after-refused L text short x k 1 _ _ (zero-count L z zero))
-      (w .names-are ∙ after-refused L text short x k _ _ _ (zero-names L z zero))
-      (w .counts-are ∙ after-refused L text short x k _ _ _ (zero-counts L z zero))
-      (w .locations-are ∙ after-refused L text short x k _ _ _ (zero-locations L z zero))
-      (w .times-are ∙ after-refused L text short x k _ _ _ (zero-times L z zero)))
+      (w .count-is ∙ after-refused a x h 1 _ _ (zero-count L z zero))
+      (w .names-are ∙ after-refused a x h _ _ _ (zero-names L z zero))
+      (w .counts-are ∙ after-refused a x h _ _ _ (zero-counts L z zero))
+      (w .locations-are ∙ after-refused a x h _ _ _ (zero-locations L z zero))
+      (w .times-are ∙ after-refused a x h _ _ _ (zero-times L z zero)))
 
-  module _ (n : ℕ) (h : a ≡ Plan n) where
-    taken : linesAt L text .answer ≡ Plan n
-    taken = sym answer-is ∙ h
+  module _ (n : ℕ) (h : a ≡ WellFormed n) where
+    read : linesAt L text .answer ≡ WellFormed n
+    read = sym (w .answer-is) ∙ h
 
     -- the tables that the text was read into
     filled : reread z dc ns cs ls ts ≡ withText (linesAt L text) n z
     filled =
         reread-same z dc ns cs ls ts _ _ _ _ _
-        (w .count-is ∙ after-again L text short n taken 1 _ _ (zero-count L z zero) ∙ ap (λ (a : Answer). sets (z .plan .droneCount) 0 (droneCount a)) taken)
-        (w .names-are ∙ after-again L text short n taken _ _ _ (zero-names L z zero))
-        (w .counts-are ∙ after-again L text short n taken _ _ _ (zero-counts L z zero))
-        (w .locations-are ∙ after-again L text short n taken _ _ _ (zero-locations L z zero))
-        (w .times-are ∙ after-again L text short n taken _ _ _ (zero-times L z zero))
+        (w .count-is ∙ count-read a n h _)
+        (w .names-are ∙ after-read a n h _ _ _)
+        (w .counts-are ∙ after-read a n h _ _ _)
+        (w .locations-are ∙ after-read a n h _ _ _)
+        (w .times-are ∙ after-read a n h _ _ _)
 
     from-is : readLines L text z ≡ checked L z (withText (linesAt L text) n z) (checkIn (withText (linesAt L text) n z .plan))
     unfolding readLines
-    from-is = ap (fromLines L z (linesAt L text)) taken
+    from-is = ap (fromLines L z (linesAt L text)) read
 
-    stored-is : (r : Reading) (t′ : Tables) → AnsweredAs (stored L (reread z dc ns cs ls ts)) r t′ → AnsweredAs (stored L (withText (linesAt L text) n z)) r t′
+    stored-is : (r : ReadingReply) (t′ : Tables) → AnsweredAs (stored L (reread z dc ns cs ls ts)) r t′ → AnsweredAs (stored L (withText (linesAt L text) n z)) r t′
     stored-is r t′ s = subst (λ (t : Tables). AnsweredAs (stored L t) r t′) filled s
 
-    pub lines-taken : (r : Reading) → r ≡ Taken → (t′ : Tables) → AnsweredAs (stored L (reread z dc ns cs ls ts)) r t′ → AnsweredAs (readLines L text z) Taken t′
+    pub lines-taken : (r : Reading) → r ≡ Taken → (t′ : Tables) → AnsweredAs (stored L (reread z dc ns cs ls ts)) (readingMeant r) t′ → AnsweredAs (readLines L text z) taken t′
     lines-taken r er t′ s =
-        let s′ = subst (λ (r : Reading). AnsweredAs (stored L (withText (linesAt L text) n z)) r t′) er (stored-is r t′ s) in
-        subst (λ (a : Answered). AnsweredAs a Taken t′) (sym from-is) (stored-taken L z (withText (linesAt L text) n z) t′ s′)
+        let s′ = subst (λ (r : Reading). AnsweredAs (stored L (withText (linesAt L text) n z)) (readingMeant r) t′) er (stored-is (readingMeant r) t′ s) in
+        subst (λ (a : ReadingAnswer). AnsweredAs a taken t′) (sym from-is) (stored-taken L z (withText (linesAt L text) n z) t′ s′)
 
     -- a refused plan: what the text had stored is zeroed
-    pub plan-refused : (x : Refusal) (r : Reading) → r ≡ Refused x → (t′ : Tables) → AnsweredAs (stored L (reread z dc ns cs ls ts)) r t′ → {dc′ ns′ cs′ ls′ ts′ : List ℕ}
-        → Zeroed L (t′ .plan .droneCount) (t′ .plan .names) (t′ .plan .stopCounts) (t′ .plan .locations) (t′ .plan .times) dc′ ns′ cs′ ls′ ts′
-        → AnsweredAs (readLines L text z) (Refused x) (reread t′ dc′ ns′ cs′ ls′ ts′)
+    pub plan-refused : (x : Refusal) (r : Reading) → r ≡ Refused x → (t′ : Tables) → AnsweredAs (stored L (reread z dc ns cs ls ts)) (readingMeant r) t′ → {dc′ ns′ cs′ ls′ ts′ : List ℕ}
+        → TablesZeroed L (t′ .plan .droneCount) (t′ .plan .names) (t′ .plan .stopCounts) (t′ .plan .locations) (t′ .plan .times) dc′ ns′ cs′ ls′ ts′
+        → AnsweredAs (readLines L text z) (refusalMeant x) (reread t′ dc′ ns′ cs′ ls′ ts′)
     plan-refused x r er t′ s {dc′} {ns′} {cs′} {ls′} {ts′} o =
-        let s′ = subst (λ (r : Reading). AnsweredAs (stored L (withText (linesAt L text) n z)) r t′) er (stored-is r t′ s) in
-        let q = stored-refused L z (withText (linesAt L text) n z) x t′ s′ in
+        let s′ = subst (λ (r : Reading). AnsweredAs (stored L (withText (linesAt L text) n z)) (readingMeant r) t′) er (stored-is (readingMeant r) t′ s) in
+        let q = stored-refused L z (withText (linesAt L text) n z) (refusalMeant x) (refusal-not-taken x) t′ s′ in
         let fit = lines-fit L text in
         let part : reread t′ dc′ ns′ cs′ ls′ ts′ ≡ reread z dc′ ns′ cs′ ls′ ts′ = ap (λ (t : Tables). reread t dc′ ns′ cs′ ls′ ts′) (q .1) in
-        answered-as (readLines L text z) (Refused x) z _ (from-is ∙ q .0)
+        answered-as (readLines L text z) (refusalMeant x) z _ (from-is ∙ q .0)
         (part ∙ reread-same z dc′ ns′ cs′ ls′ ts′ _ _ _ _ _
         (o .count-is ∙ ap (λ (t : Tables). zeroed 1 (t .plan .droneCount)) (q .1) ∙ zeroed-sets 1 (z .plan .droneCount) (n ∷ []) (omega arith) ∙ zero-count L z zero)
         (o .names-are ∙ ap (λ (t : Tables). zeroed (L .drones * L .name) (t .plan .names)) (q .1) ∙ zeroed-sets _ (z .plan .names) (flat (linesAt L text .rows)) (fit .rows) ∙ zero-names L z zero)
@@ -169,29 +163,28 @@ module _ (L : Limits) (text : List ℕ) (z : Tables) (short : length text ≤ L 
         (o .locations-are ∙ ap (λ (t : Tables). zeroed (L .stops) (t .plan .locations)) (q .1) ∙ zeroed-sets _ (z .plan .locations) (linesAt L text .locations) (fit .locations) ∙ zero-locations L z zero)
         (o .times-are ∙ ap (λ (t : Tables). zeroed (L .stops) (t .plan .times)) (q .1) ∙ zeroed-sets _ (z .plan .times) (linesAt L text .times) (fit .times) ∙ zero-times L z zero))
 
--- ---- a plan that was taken keeps the limits
+-- ---- a plan that was read keeps the limits
 
-long : (full : ℕ) (values t t′ : List ℕ) → t′ ≡ sets (zeroed full t) 0 values → length t′ ≡ length t
-long full values t t′ e = ap length e ∙ length-sets (zeroed full t) 0 values ∙ zeroed-length full t
+long : (values t t′ : List ℕ) → t′ ≡ sets t 0 values → length t′ ≡ length t
+long values t t′ e = ap length e ∙ length-sets t 0 values
 
-pub plan-asked : (L : Limits) (text dc dpc ns cs ls ts : List ℕ) (c : Columns) → LinesAsked L text dc dpc ns cs ls ts c → {dc′ ns′ cs′ ls′ ts′ : List ℕ} {a : Answer}
-    → TextRead L text dc ns cs ls ts dc′ ns′ cs′ ls′ ts′ a → (n : ℕ) → a ≡ Plan n → PlanAsked L dc′ dpc cs′ ls′ ts′ c
-plan-asked L text dc dpc ns cs ls ts c q {dc′} {ns′} {cs′} {ls′} {ts′} w n h =
-    let taken : linesAt L text .answer ≡ Plan n = sym (w .answer-is ∙ answer-short L text (q .short)) ∙ h in
-    let ed : dc′ ≡ sets (zeroed 1 dc) 0 (n ∷ []) = w .count-is ∙ after-taken L text (q .short) n taken 1 _ dc ∙ ap (λ (a : Answer). sets (zeroed 1 dc) 0 (droneCount a)) taken in
-    let ec : cs′ ≡ sets (zeroed (L .drones) cs) 0 (linesAt L text .counts) = w .counts-are ∙ after-taken L text (q .short) n taken _ _ cs in
-    let el : ls′ ≡ sets (zeroed (L .stops) ls) 0 (linesAt L text .locations) = w .locations-are ∙ after-taken L text (q .short) n taken _ _ ls in
-    let et : ts′ ≡ sets (zeroed (L .stops) ts) 0 (linesAt L text .times) = w .times-are ∙ after-taken L text (q .short) n taken _ _ ts in
-    let z1 = zeroed-length 1 dc in
-    let d : at dc′ 0 ≡ n = rw ed (getD-set-same (zeroed 1 dc) 0 n 0 (omega (arith, z1, q .has-drone-count))) in
-    let in-drones = drones-in L text n taken in
+pub plan-asked : (L : Limits) (text dc dpc ns cs ls ts : List ℕ) (c : Columns) → LinesAsked L dc dpc ns cs ls ts c → {dc′ ns′ cs′ ls′ ts′ : List ℕ} {a : LinesAnswer}
+    → TextRead L text dc ns cs ls ts dc′ ns′ cs′ ls′ ts′ a → (n : ℕ) → a ≡ WellFormed n → PlanAsked L dc′ dpc cs′ ls′ ts′ c
+plan-asked L text dc dpc ns cs ls ts c q {dc′} {ns′} {cs′} {ls′} {ts′} {a} w n h =
+    let read : linesAt L text .answer ≡ WellFormed n = sym (w .answer-is) ∙ h in
+    let ed : dc′ ≡ sets dc 0 (n ∷ []) = w .count-is ∙ count-read a n h dc in
+    let ec : cs′ ≡ sets cs 0 (linesAt L text .counts) = w .counts-are ∙ after-read a n h _ _ cs in
+    let el : ls′ ≡ sets ls 0 (linesAt L text .locations) = w .locations-are ∙ after-read a n h _ _ ls in
+    let et : ts′ ≡ sets ts 0 (linesAt L text .times) = w .times-are ∙ after-read a n h _ _ ts in
+    let d : at dc′ 0 ≡ n = rw ed (getD-set-same dc 0 n 0 (omega (arith, q .has-drone-count))) in
+    let in-drones = drones-in L text n read in
     record {
-      has-drone-count = omega (arith, long 1 (n ∷ []) dc dc′ ed, q .has-drone-count);
+      has-drone-count = omega (arith, long (n ∷ []) dc dc′ ed, q .has-drone-count);
       has-dependency-count = q .has-dependency-count;
-      has-stop-counts = omega (arith, long (L .drones) (linesAt L text .counts) cs cs′ ec, q .has-stop-counts);
-      has-locations = omega (arith, long (L .stops) (linesAt L text .locations) ls ls′ el, q .has-locations);
-      has-times = omega (arith, long (L .stops) (linesAt L text .times) ts ts′ et, q .has-times);
+      has-stop-counts = omega (arith, long (linesAt L text .counts) cs cs′ ec, q .has-stop-counts);
+      has-locations = omega (arith, long (linesAt L text .locations) ls ls′ el, q .has-locations);
+      has-times = omega (arith, long (linesAt L text .times) ts ts′ et, q .has-times);
       has-columns = q .has-columns;
       drones-fit = rw d in-drones;
-      stops-fit = rw (d, ec) (stops-in L text n taken (zeroed (L .drones) cs) (omega (arith, zeroed-length (L .drones) cs, q .has-stop-counts)));
+      stops-fit = rw (d, ec) (stops-in L text n read cs (q .has-stop-counts));
     }

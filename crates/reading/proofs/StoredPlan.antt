@@ -20,12 +20,12 @@ use Rattle.plan.specs.Columns.{Columns, columns, written, pickColumns, pickBuil
 use Rattle.plan.specs.declared.check.PlanCheck.{PlanCheck}
 use Rattle.plan.specs.declared.dependencies.Built.{Built}
 use Rattle.plan.specs.declared.dependencies.Built.the-variants.{Count, TooMany}
-use Rattle.reading.specs.Replies.{ofCheck}
-use Rattle.reading.specs.Reading.{Answered, answered, AnsweredAs, total, withDependencies, checkIn, checked, stored}
+use Rattle.reading.specs.Replies.{ReadingReply, taken, refusedBy, isTaken, refusalMeant, readingMeant, checkMeant}
+use Rattle.reading.specs.Reading.{ReadingAnswer, withReply, AnsweredAs, total, withDependencies, checkIn, built, checked, stored}
 use Rattle.reading.specs.declared.replies.Refusal.{Refusal}
-use Rattle.reading.specs.declared.replies.Refusal.the-variants.{TooManyDependencies}
 use Rattle.reading.specs.declared.replies.Reading.{Reading}
 use Rattle.reading.specs.declared.replies.Reading.the-variants.{Taken, Refused}
+use Rattle.reading.proofs.ReplyLaws.{refusal-not-taken}
 use Rattle.plan.proofs.Agree.{total-same, column-same, flag-same, check-same}
 
 -- ---- the local tables
@@ -84,18 +84,18 @@ built-within limit own loc time n b e m h =
 
 -- ---- the answer of storing
 
-pub answered-as : (a : Answered) (r : Reading) (t t′ : Tables) → a ≡ answered r t → t′ ≡ t → AnsweredAs a r t′
-answered-as a r t t′ e h = record { replied = sym (ap (λ (x : Answered). x .reply) e); left = h ∙ sym (ap (λ (x : Answered). x .tables) e) }
+pub answered-as : (a : ReadingAnswer) (r : ReadingReply) (t t′ : Tables) → a ≡ withReply r t → t′ ≡ t → AnsweredAs a r t′
+answered-as a r t t′ e h = record { replied = sym (ap (λ (x : ReadingAnswer). x .reply) e); left = h ∙ sym (ap (λ (x : ReadingAnswer). x .tables) e) }
 
-module _ (L : Limits) (z t : Tables) (k : Reading) where
-  pub checked-refused : (x : Refusal) → k ≡ Refused x → checked L z t k ≡ answered (Refused x) z
-  checked-refused x h = ap (checked L z t) h
+module _ (L : Limits) (z t : Tables) (k : ReadingReply) where
+  pub checked-refused : isTaken k ≡ false → checked L z t k ≡ withReply k z
+  checked-refused h = ap (λ (b : Bool). cond b (built L z t) (withReply k z)) h
 
-  pub checked-many : k ≡ Taken → leb (total (t .plan)) (L .dependencies) ≡ false → checked L z t k ≡ answered (Refused TooManyDependencies) z
-  checked-many h o = ap (checked L z t) h ∙ ap (λ (q : Bool). cond q (answered Taken (withDependencies t)) (answered (Refused TooManyDependencies) z)) o
+  pub checked-many : isTaken k ≡ true → leb (total (t .plan)) (L .dependencies) ≡ false → checked L z t k ≡ withReply (refusedBy 11) z
+  checked-many h o = ap (λ (b : Bool). cond b (built L z t) (withReply k z)) h ∙ ap (λ (q : Bool). cond q (withReply taken (withDependencies t)) (withReply (refusedBy 11) z)) o
 
-  pub checked-taken : k ≡ Taken → leb (total (t .plan)) (L .dependencies) ≡ true → checked L z t k ≡ answered Taken (withDependencies t)
-  checked-taken h o = ap (checked L z t) h ∙ ap (λ (q : Bool). cond q (answered Taken (withDependencies t)) (answered (Refused TooManyDependencies) z)) o
+  pub checked-taken : isTaken k ≡ true → leb (total (t .plan)) (L .dependencies) ≡ true → checked L z t k ≡ withReply taken (withDependencies t)
+  checked-taken h o = ap (λ (b : Bool). cond b (built L z t) (withReply k z)) h ∙ ap (λ (q : Bool). cond q (withReply taken (withDependencies t)) (withReply (refusedBy 11) z)) o
 
 -- ---- the tables with other dependencies
 
@@ -121,29 +121,34 @@ withColumns t count c = record {
   flags = c .flags;
 }
 
-module _ (L : Limits) (t : Tables) {n : ℕ} {os ns : List ℕ} (f : Filled (t .plan) n os ns) (answer : PlanCheck) (ea : answer ≡ checkOf (at os) (at ns) (locationIn (t .plan)) (timeIn (t .plan)) n) (r : Reading) (er : r ≡ ofCheck answer) where
-  reply-is : r ≡ checkIn (t .plan)
-  reply-is = er ∙ ap ofCheck (ea ∙ check-is (t .plan) f)
+module _ (L : Limits) (t : Tables) {n : ℕ} {os ns : List ℕ} (f : Filled (t .plan) n os ns) (answer : PlanCheck) (ea : answer ≡ checkOf (at os) (at ns) (locationIn (t .plan)) (timeIn (t .plan)) n) (r : Reading) (er : readingMeant r ≡ checkMeant answer) where
+  reply-is : readingMeant r ≡ checkIn (t .plan)
+  reply-is = er ∙ ap checkMeant (ea ∙ check-is (t .plan) f)
 
-  pub store-refused : (x : Refusal) → r ≡ Refused x → AnsweredAs (stored L t) (Refused x) t
+  pub store-refused : (x : Refusal) → r ≡ Refused x → AnsweredAs (stored L t) (refusalMeant x) t
   unfolding stored
-  store-refused x h = answered-as (stored L t) (Refused x) t t (checked-refused L t t (checkIn (t .plan)) x (sym reply-is ∙ h)) refl
+  store-refused x h =
+      let k : checkIn (t .plan) ≡ refusalMeant x = sym reply-is ∙ ap readingMeant h in
+      answered-as (stored L t) (refusalMeant x) t t (checked-refused L t t (checkIn (t .plan)) (ap isTaken k ∙ refusal-not-taken x) ∙ ap (λ (y : ReadingReply). withReply y t) k) refl
+
+  passed : r ≡ Taken → isTaken (checkIn (t .plan)) ≡ true
+  passed h = ap isTaken (sym reply-is ∙ ap readingMeant h)
 
   module _ (h : r ≡ Taken) (b : Built) (eb : b ≡ builtOf (L .dependencies) (at os) (locationIn (t .plan)) (timeIn (t .plan)) n)
       (c : Columns) (ec : c ≡ builtIn (L .dependencies) (at os) (at ns) (locationIn (t .plan)) (timeIn (t .plan)) n (columnsOf t)) where
-    pub store-many : b ≡ TooMany → AnsweredAs (stored L t) (Refused TooManyDependencies) (withColumns t (t .plan .dependencyCount) c)
+    pub store-many : b ≡ TooMany → AnsweredAs (stored L t) (refusedBy 11) (withColumns t (t .plan .dependencyCount) c)
     unfolding stored builtOf builtIn
     store-many k =
         let o : leb (dependencyTotal (at os) (locationIn (t .plan)) (timeIn (t .plan)) n) (L .dependencies) ≡ false = built-many _ _ (sym eb ∙ k) in
         let e : c ≡ columnsOf t = ec ∙ ap (λ (q : Bool). pickColumns q (written (at os) (at ns) n (column (at os) (locationIn (t .plan)) (timeIn (t .plan)) n) 0 (columnsOf t)) (columnsOf t)) o in
         let o′ : leb (total (t .plan)) (L .dependencies) ≡ false = ap (λ (m : ℕ). leb m (L .dependencies)) (sym (count-is (t .plan) f)) ∙ o in
-        answered-as (stored L t) (Refused TooManyDependencies) t _ (checked-many L t t (checkIn (t .plan)) (sym reply-is ∙ h) o′) (ap (withColumns t (t .plan .dependencyCount)) e)
+        answered-as (stored L t) (refusedBy 11) t _ (checked-many L t t (checkIn (t .plan)) (passed h) o′) (ap (withColumns t (t .plan .dependencyCount)) e)
 
-    pub store-taken : (m : ℕ) → b ≡ Count m → AnsweredAs (stored L t) Taken (withColumns t (sets (t .plan .dependencyCount) 0 (m ∷ [])) c)
+    pub store-taken : (m : ℕ) → b ≡ Count m → AnsweredAs (stored L t) taken (withColumns t (sets (t .plan .dependencyCount) 0 (m ∷ [])) c)
     unfolding stored builtOf builtIn
     store-taken m k =
         let (o, em) = built-some (dependencyTotal (at os) (locationIn (t .plan)) (timeIn (t .plan)) n) m (leb (dependencyTotal (at os) (locationIn (t .plan)) (timeIn (t .plan)) n) (L .dependencies)) (sym eb ∙ k) in
         let e = ec ∙ ap (λ (q : Bool). pickColumns q (written (at os) (at ns) n (column (at os) (locationIn (t .plan)) (timeIn (t .plan)) n) 0 (columnsOf t)) (columnsOf t)) o ∙ written-is (t .plan) f (columnsOf t) in
         let o′ : leb (total (t .plan)) (L .dependencies) ≡ true = ap (λ (m : ℕ). leb m (L .dependencies)) (sym (count-is (t .plan) f)) ∙ o in
-        answered-as (stored L t) Taken (withDependencies t) _ (checked-taken L t t (checkIn (t .plan)) (sym reply-is ∙ h) o′)
+        answered-as (stored L t) taken (withDependencies t) _ (checked-taken L t t (checkIn (t .plan)) (passed h) o′)
         (ap₂ (λ (m : ℕ) (c : Columns). withColumns t (sets (t .plan .dependencyCount) 0 (m ∷ [])) c) (em ∙ count-is (t .plan) f) e)

@@ -10,17 +10,17 @@ use Rattle.below.proofs.Sum.{sum-none, sum-ext}
 use Rattle.below.proofs.Picks.{getD-laid}
 use Rattle.tables.specs.Limits.{Limits}
 use Rattle.lines.specs.Names.{rowOf}
-use Rattle.text.specs.Reading.{Found, linesAt}
-use Rattle.text.specs.Written.{Route, countsOf, foundOf, ValidFrom, Valid}
-use Rattle.text.specs.declared.reader.Answer.{Answer}
-use Rattle.text.specs.declared.reader.Answer.the-variants.{Taken as Plan}
+use Rattle.text.specs.LinesRead.{LinesRead, linesAt}
+use Rattle.text.specs.Written.{Route, countsOf, linesOf, InLimitsFrom, InLimits}
+use Rattle.text.specs.declared.reader.LinesAnswer.{LinesAnswer}
+use Rattle.text.specs.declared.reader.LinesAnswer.the-variants.{WellFormed}
 use Rattle.text.proofs.TakenIsWritten.{text-taken}
 use Rattle.text.proofs.TextCases.{taken-range}
 use Rattle.plan.specs.Stops.{start}
 use Rattle.below.proofs.Sum.{sum-first}
 
 -- the stops of some drones and of the earlier ones
-counts-within : (L : Limits) (earlier : List (List ℕ)) (total : ℕ) (ds : List Route) → total ≤ L .stops → ValidFrom L earlier total ds → total + sumBelow (length ds) (at (countsOf ds)) ≤ L .stops
+counts-within : (L : Limits) (earlier : List (List ℕ)) (total : ℕ) (ds : List Route) → total ≤ L .stops → InLimitsFrom L earlier total ds → total + sumBelow (length ds) (at (countsOf ds)) ≤ L .stops
 counts-within L earlier total [] h v = omega (arith, sum-none (at []) 0)
 counts-within L earlier total (d ∷ ds) h v =
     let s : sumBelow (suc (length ds)) (at (countsOf (d ∷ ds))) ≡ length (d .locations) + sumBelow (length ds) (at (countsOf ds)) = sum-first (length ds) (at (countsOf (d ∷ ds))) in
@@ -35,16 +35,16 @@ start-sets : (l counts : List ℕ) → length counts ≤ length l → start (set
 unfolding start laid
 start-sets l counts h = sum-ext (length counts) (at (sets l 0 counts)) (at counts) (λ i k. getD-laid l counts i k h)
 
-total-within : (L : Limits) (l : List ℕ) (ds : List Route) → L .drones ≤ length l → Valid L ds → start (sets l 0 (countsOf ds)) (length ds) ≤ L .stops
+total-within : (L : Limits) (l : List ℕ) (ds : List Route) → L .drones ≤ length l → InLimits L ds → start (sets l 0 (countsOf ds)) (length ds) ≤ L .stops
 total-within L l ds h v =
     let m = counts-many ds in
     let s : start (sets l 0 (countsOf ds)) (length ds) ≡ sumBelow (length ds) (at (countsOf ds)) = rw m at (start-sets l (countsOf ds) (omega (arith, m, h, v .1))) in
     omega (arith, s, counts-within L [] 0 ds (omega arith) (v .2))
 
-found-within : (L : Limits) (l : List ℕ) (n : ℕ) (f : Found Answer) (ds : List Route) → f ≡ foundOf L ds → length ds ≡ n → L .drones ≤ length l → Valid L ds → start (sets l 0 (f .counts)) n ≤ L .stops
+found-within : (L : Limits) (l : List ℕ) (n : ℕ) (f : LinesRead LinesAnswer) (ds : List Route) → f ≡ linesOf L ds → length ds ≡ n → L .drones ≤ length l → InLimits L ds → start (sets l 0 (f .counts)) n ≤ L .stops
 found-within L l n f ds r m h v = rw (r, ← m) (total-within L l ds h v)
 
-module _ (L : Limits) (text : List ℕ) (n : ℕ) (h : linesAt L text .answer ≡ Plan n) where
+module _ (L : Limits) (text : List ℕ) (n : ℕ) (h : linesAt L text .answer ≡ WellFormed n) where
   pub drones-in : n ≤ L .drones
   drones-in = taken-range L text n h .1
 

@@ -19,9 +19,8 @@ pub record PlanAsked (L : Limits) (droneCount dependencyCount stopCounts locatio
   pub drones-fit : at droneCount 0 ≤ L .drones
   pub stops-fit : start stopCounts (at droneCount 0) ≤ L .stops
 
--- of a text and the tables that its values are read into
-pub record LinesAsked (L : Limits) (text droneCount dependencyCount names stopCounts locations times : List ℕ) (c : Columns) : Type 0 where
-  pub short : length text ≤ L .text
+-- of the tables that a text's values are read into
+pub record LinesAsked (L : Limits) (droneCount dependencyCount names stopCounts locations times : List ℕ) (c : Columns) : Type 0 where
   pub has-drone-count : 1 ≤ length droneCount
   pub has-dependency-count : 1 ≤ length dependencyCount
   pub has-names : L .drones * L .name ≤ length names

@@ -11,32 +11,29 @@ use Rattle.below.specs.Below.{laid}
 use Rattle.tables.specs.Limits.{Limits}
 use Rattle.tables.specs.Tables.{PlanLists, Tables, fullSize}
 use Rattle.tables.specs.Zero.{zeroedTables}
-use Rattle.text.specs.Reading.{Found, linesAt, flat}
-use Rattle.text.specs.declared.reader.Answer.{Answer}
-use Rattle.text.specs.declared.reader.Answer.the-variants as text
+use Rattle.text.specs.LinesRead.{LinesRead, linesAt, flat}
+use Rattle.text.specs.declared.reader.LinesAnswer.{LinesAnswer}
+use Rattle.text.specs.declared.reader.LinesAnswer.the-variants as text
 use Rattle.plan.specs.Dependencies.{dependencyTotal, column, flagOf}
 use Rattle.plan.specs.Answers.{checkOf}
 use Rattle.plan.specs.Claims.{stopTotal, ownerIn, numberIn, locationIn, timeIn}
-use Rattle.reading.specs.Replies.{ofText, ofCheck}
-use Rattle.reading.specs.declared.replies.Refusal.the-variants.{TablesTooSmall, TooLong, TooManyDependencies}
-use Rattle.reading.specs.declared.replies.Reading.{Reading}
-use Rattle.reading.specs.declared.replies.Reading.the-variants.{Taken, Refused}
+use Rattle.reading.specs.Replies.{ReadingReply, taken, refusedBy, refusedAt, isTaken, lineMeant, checkMeant}
 
 -- the reply and the tables afterwards
-pub record Answered : Type 0 where
-  pub reply : Reading
+pub record ReadingAnswer : Type 0 where
+  pub reply : ReadingReply
   pub tables : Tables
 
-abbrev pub answered : Reading → Tables → Answered
-answered r t = record { reply = r; tables = t }
+abbrev pub withReply : ReadingReply → Tables → ReadingAnswer
+withReply r t = record { reply = r; tables = t }
 
 -- a reply and the tables that are left are those of an answer
-pub record AnsweredAs (a : Answered) (r : Reading) (t : Tables) : Type 0 where
+pub record AnsweredAs (a : ReadingAnswer) (r : ReadingReply) (t : Tables) : Type 0 where
   pub replied : r ≡ a .reply
   pub left : t ≡ a .tables
 
--- zeroed tables with the values of a text that has n drones: "exactly the plan's values with unused entries zero"
-abbrev pub withText : Found Answer → ℕ → Tables → Tables
+-- zeroed tables with the values of a text that has n drones, so "unused entries are zero"
+abbrev pub withText : LinesRead LinesAnswer → ℕ → Tables → Tables
 withText f n t = record {
   plan = record {
     droneCount = sets (t .plan .droneCount) 0 (n ∷ []);
@@ -84,35 +81,34 @@ withDependencies t = record {
 }
 
 -- what the plan check says of the plan in the lists
-abbrev pub checkIn : PlanLists → Reading
-checkIn p = ofCheck (checkOf (ownerIn p) (numberIn p) (locationIn p) (timeIn p) (stopTotal p))
+abbrev pub checkIn : PlanLists → ReadingReply
+checkIn p = checkMeant (checkOf (ownerIn p) (numberIn p) (locationIn p) (timeIn p) (stopTotal p))
 
 module _ (L : Limits) where
-  -- "building: 11 too many dependencies: zeroed". z is the zeroed tables, t the tables with the text's values
-  abbrev pub built : Tables → Tables → Answered
-  built z t = cond (leb (total (t .plan)) (L .dependencies)) (answered Taken (withDependencies t)) (answered (Refused TooManyDependencies) z)
+  -- "building: 11 too many dependencies: zeroed": z is the zeroed tables, t the tables with the text's values
+  abbrev pub built : Tables → Tables → ReadingAnswer
+  built z t = cond (leb (total (t .plan)) (L .dependencies)) (withReply taken (withDependencies t)) (withReply (refusedBy 11) z)
 
   -- "plan check: zeroed"
-  abbrev pub checked : Tables → Tables → Reading → Answered
-  checked z t Taken = built z t
-  checked z t (Refused r) = answered (Refused r) z
+  abbrev pub checked : Tables → Tables → ReadingReply → ReadingAnswer
+  checked z t r = cond (isTaken r) (built z t) (withReply r z)
 
   -- plan check and building on tables with the text's values, which a refusal leaves as they were
-  unfoldable pub stored : Tables → Answered
+  unfoldable pub stored : Tables → ReadingAnswer
   stored t = checked t t (checkIn (t .plan))
 
   -- "reading, line by line: full sizes zeroed"
-  abbrev pub fromLines : Tables → Found Answer → Answer → Answered
-  fromLines z f (text.Refused r) = answered (Refused (ofText r)) z
-  fromLines z f (text.Taken n) = checked z (withText f n z) (checkIn (withText f n z .plan))
+  abbrev pub fromLines : Tables → LinesRead LinesAnswer → LinesAnswer → ReadingAnswer
+  fromLines z f (text.Refused r) = withReply (lineMeant r) z
+  fromLines z f (text.WellFormed n) = checked z (withText f n z) (checkIn (withText f n z .plan))
 
   -- reading a text that is not too long into tables that are zeroed
-  unfoldable pub readLines : List ℕ → Tables → Answered
+  unfoldable pub readLines : List ℕ → Tables → ReadingAnswer
   readLines text z = fromLines z (linesAt L text) (linesAt L text .answer)
 
-  -- "every entry, first: 41: unchanged"; "reading, before any line: 1 text too long: unchanged"
-  unfoldable pub readPlan : List ℕ → Tables → Answered
+  -- "every entry, first: 41 a lent table is below full size: unchanged"; "reading, before any line: 1 text too long: unchanged", "Refusals 1 to 6 carry a byte offset: 32,768 for 1"
+  unfoldable pub readPlan : List ℕ → Tables → ReadingAnswer
   readPlan text t =
       cond (fullSize L t)
-      (cond (ltb (L .text) (length text)) (answered (Refused (TooLong (L .text))) t) (readLines text (zeroedTables L t)))
-      (answered (Refused TablesTooSmall) t)
+      (cond (ltb (L .text) (length text)) (withReply (refusedAt 1 (L .text)) t) (readLines text (zeroedTables L t)))
+      (withReply (refusedBy 41) t)

@@ -1,53 +1,69 @@
--- The reading's reply: document 01's number for each case, and the refusals of the text and of the plan check as the reading's own (document 01, "Where each
--- refusal is checked"). Assumes nothing.
+-- The reading's reply: document 01's number and values for each case (document 01, "Where each refusal is checked"). "For enum answers, a definition gives this paper's
+-- number and values for each case, and the promises use that definition." Assumes nothing.
 use mathlib.Core.Bool.{Bool, true, false}
 use Prim.Native.Nat.{ℕ}
-use Rattle.lines.specs.declared.refusal.Refusal.{Refusal as TextRefusal}
-use Rattle.lines.specs.declared.refusal.Refusal.the-variants as text
+use Rattle.lines.specs.declared.refusal.Refusal.{Refusal as LineRefusal}
+use Rattle.lines.specs.Refusals.{refusalNumber, refusalOffset}
+use Rattle.plan.specs.declared.check.StopAt.{StopAt}
 use Rattle.plan.specs.declared.check.PlanCheck.{PlanCheck}
 use Rattle.plan.specs.declared.check.PlanCheck.the-variants as check
+use Rattle.plan.specs.Answers.{checkNumber}
 use Rattle.reading.specs.declared.replies.Refusal.{Refusal}
 use Rattle.reading.specs.declared.replies.Refusal.the-variants.{TablesTooSmall, TooLong, Form, Range, Name, SameName, TooManyStops, StartsLate, NotRising, SameLocation, Collision, TooManyDependencies}
 use Rattle.reading.specs.declared.replies.Reading.{Reading}
 use Rattle.reading.specs.declared.replies.Reading.the-variants.{Taken, Refused}
 
--- the number of each refusal
-abbrev pub refusalNumber : Refusal → ℕ
-refusalNumber TablesTooSmall = 41
-refusalNumber (TooLong o) = 1
-refusalNumber (Form o) = 2
-refusalNumber (Name o) = 3
-refusalNumber (Range o) = 4
-refusalNumber (SameName o) = 5
-refusalNumber (TooManyStops o) = 6
-refusalNumber (StartsLate s) = 7
-refusalNumber (NotRising s) = 8
-refusalNumber (SameLocation s) = 9
-refusalNumber (Collision s t) = 10
-refusalNumber TooManyDependencies = 11
+-- the plan is taken, or a refusal by its number: alone, "1 to 6 carry a byte offset", "a refusal from the plan check says which drone and stop is at fault; 10 gives two of each"
+pub data ReadingReply : Type 0 where
+  taken : ReadingReply
+  refusedBy : ℕ → ReadingReply
+  refusedAt : ℕ → ℕ → ReadingReply
+  refusedStop : ℕ → StopAt → ReadingReply
+  refusedStops : ℕ → StopAt → StopAt → ReadingReply
 
--- 0 for a plan that is taken
-abbrev pub readingNumber : Reading → ℕ
-readingNumber Taken = 0
-readingNumber (Refused r) = refusalNumber r
+-- the number that `field` prints: "`plan=` and 0 or the refusal"
+abbrev pub readingNumber : ReadingReply → ℕ
+readingNumber taken = 0
+readingNumber (refusedBy n) = n
+readingNumber (refusedAt n o) = n
+readingNumber (refusedStop n s) = n
+readingNumber (refusedStops n s t) = n
 
-abbrev pub isTaken : Reading → Bool
-isTaken Taken = true
-isTaken (Refused r) = false
+abbrev pub isTaken : ReadingReply → Bool
+isTaken taken = true
+isTaken (refusedBy n) = false
+isTaken (refusedAt n o) = false
+isTaken (refusedStop n s) = false
+isTaken (refusedStops n s t) = false
 
--- a refusal of the text
-abbrev pub ofText : TextRefusal → Refusal
-ofText (text.Long o) = TooLong o
-ofText (text.Form o) = Form o
-ofText (text.Name o) = Name o
-ofText (text.Range o) = Range o
-ofText (text.Same o) = SameName o
-ofText (text.Total o) = TooManyStops o
+-- "41 a lent table is below full size", "1 text too long", "2 form, key, order or missing line; 4 number outside its range; 3 name; 5 name equal to an earlier one; 6 .. more
+-- than the limit for all drones", "7 stop 0 not at time 0; 8 time not above the one before; 9 same location as the one before", "10 collision", "11 too many dependencies"
+abbrev pub refusalMeant : Refusal → ReadingReply
+refusalMeant TablesTooSmall = refusedBy 41
+refusalMeant (TooLong o) = refusedAt 1 o
+refusalMeant (Form o) = refusedAt 2 o
+refusalMeant (Name o) = refusedAt 3 o
+refusalMeant (Range o) = refusedAt 4 o
+refusalMeant (SameName o) = refusedAt 5 o
+refusalMeant (TooManyStops o) = refusedAt 6 o
+refusalMeant (StartsLate s) = refusedStop 7 s
+refusalMeant (NotRising s) = refusedStop 8 s
+refusalMeant (SameLocation s) = refusedStop 9 s
+refusalMeant (Collision s t) = refusedStops 10 s t
+refusalMeant TooManyDependencies = refusedBy 11
 
--- the plan check's answer as a reply
-abbrev pub ofCheck : PlanCheck → Reading
-ofCheck check.Fine = Taken
-ofCheck (check.StartsLate s) = Refused (StartsLate s)
-ofCheck (check.NotRising s) = Refused (NotRising s)
-ofCheck (check.SameLocation s) = Refused (SameLocation s)
-ofCheck (check.Collision s t) = Refused (Collision s t)
+abbrev pub readingMeant : Reading → ReadingReply
+readingMeant Taken = taken
+readingMeant (Refused r) = refusalMeant r
+
+-- a refusal by a line of the text: its number and its byte offset
+abbrev pub lineMeant : LineRefusal → ReadingReply
+lineMeant r = refusedAt (refusalNumber r) (refusalOffset r)
+
+-- what the plan check says: its number, with a stop, or two of each where two drones collide
+abbrev pub checkMeant : PlanCheck → ReadingReply
+checkMeant check.Fine = taken
+checkMeant (check.StartsLate s) = refusedStop (checkNumber (check.StartsLate s)) s
+checkMeant (check.NotRising s) = refusedStop (checkNumber (check.NotRising s)) s
+checkMeant (check.SameLocation s) = refusedStop (checkNumber (check.SameLocation s)) s
+checkMeant (check.Collision s t) = refusedStops (checkNumber (check.Collision s t)) s t

@@ -7,7 +7,7 @@ use tables::entries::Text;
 use tables::sizes;
 use tables::zeroing;
 use text::reader;
-use text::reader::Answer;
+use text::reader::LinesAnswer;
 ghost use mathlib.Core.Path.{_≡_};
 ghost use mathlib.Core.List.{List};
 ghost use Prim.Native.Nat.{ℕ};
@@ -16,6 +16,7 @@ ghost use Rattle.tables.specs.Tables.{tablesOf};
 ghost use Rattle.tables.specs.Zero.{zeroedTables};
 ghost use Rattle.plan.specs.Columns.{columns};
 ghost use Rattle.reading.specs.Reading.{AnsweredAs, readLines, readPlan};
+ghost use Rattle.reading.specs.Replies.{readingMeant};
 ghost use Rattle.reading.specs.Asked.{LinesAsked};
 
 // Reads a text that is not too long into zeroed tables. A refusal leaves them zeroed. The drones' progress is not touched, whatever it is.
@@ -33,7 +34,7 @@ fn read_lines(
     second_stops: &mut [u16],
     flags: &mut [u8],
 ) -> Reading
-    requires { ⌜ LinesAsked limits (now text) (now «drone_count») (now «dependency_count») (now names) (now «stop_counts») (now locations) (now times) (columns (now «first_drones») (now «first_stops») (now «second_drones») (now «second_stops») (now flags)) ⌝ }
+    requires { ⌜ LinesAsked limits (now «drone_count») (now «dependency_count») (now names) (now «stop_counts») (now locations) (now times) (columns (now «first_drones») (now «first_stops») (now «second_drones») (now «second_stops») (now flags)) ⌝ }
     ensures { λ r.
         ⌜
         ((visited droneFlags : List ℕ)
@@ -50,7 +51,7 @@ fn read_lines(
         (now («drone_count» .entry)) (now («dependency_count» .entry)) (now (names .entry)) (now («stop_counts» .entry))
         (now (locations .entry)) (now (times .entry)) visited droneFlags
         (now («first_drones» .entry)) (now («first_stops» .entry)) (now («second_drones» .entry)) (now («second_stops» .entry))
-        (now (flags .entry)))) r (tablesOf
+        (now (flags .entry)))) (readingMeant r) (tablesOf
         (now («drone_count» .exit)) (now («dependency_count» .exit)) (now (names .exit)) (now («stop_counts» .exit))
         (now (locations .exit)) (now (times .exit)) visited droneFlags
         (now («first_drones» .exit)) (now («first_stops» .exit)) (now («second_drones» .exit)) (now («second_stops» .exit))
@@ -59,8 +60,8 @@ fn read_lines(
 {
     let answer = reader::read_text(text, drone_count, names, stop_counts, locations, times);
     match answer {
-        Answer::Refused(refusal) => Reading::Refused(replies::of_text(refusal)),
-        Answer::Taken { drones: _ } => {
+        LinesAnswer::Refused(refusal) => Reading::Refused(replies::of_line(refusal)),
+        LinesAnswer::WellFormed { drones: _ } => {
             let reading = storing::store_plan(
                 drone_count,
                 dependency_count,
@@ -107,7 +108,7 @@ pub fn read_plan(
         (now («drone_count» .entry)) (now («dependency_count» .entry)) (now (names .entry)) (now («stop_counts» .entry))
         (now (locations .entry)) (now (times .entry)) (now (visited .entry)) (now («drone_flags» .entry))
         (now («first_drones» .entry)) (now («first_stops» .entry)) (now («second_drones» .entry)) (now («second_stops» .entry))
-        (now (flags .entry)))) r (tablesOf
+        (now (flags .entry)))) (readingMeant r) (tablesOf
         (now («drone_count» .exit)) (now («dependency_count» .exit)) (now (names .exit)) (now («stop_counts» .exit))
         (now (locations .exit)) (now (times .exit)) (now (visited .exit)) (now («drone_flags» .exit))
         (now («first_drones» .exit)) (now («first_stops» .exit)) (now («second_drones» .exit)) (now («second_stops» .exit))

@@ -1,9 +1,9 @@
 // The reading's reply: taken, or a refusal with what it carries.
-use lines::refusal::Refusal as TextRefusal;
+use lines::refusal::Refusal as LineRefusal;
 use plan::check::PlanCheck;
 use plan::check::StopAt;
 ghost use mathlib.Core.Path.{_≡_};
-ghost use Rattle.reading.specs.Replies.{ofText, ofCheck};
+ghost use Rattle.reading.specs.Replies.{refusalMeant, readingMeant, lineMeant, checkMeant};
 
 pub enum Refusal {
     // a lent table is below full size
@@ -29,23 +29,22 @@ pub enum Reading {
     Refused(Refusal),
 }
 
-// A refusal of the text as one of the reading.
-pub fn of_text(refusal: TextRefusal) -> Refusal
-    ensures { λ r. ⌜ r ≡ ofText refusal ⌝ }
+// A refusal of a line as one of the reading.
+pub fn of_line(refusal: LineRefusal) -> Refusal
+    ensures { λ r. ⌜ refusalMeant r ≡ lineMeant refusal ⌝ }
 {
     match refusal {
-        TextRefusal::Long(offset) => Refusal::TooLong(offset),
-        TextRefusal::Form(offset) => Refusal::Form(offset),
-        TextRefusal::Range(offset) => Refusal::Range(offset),
-        TextRefusal::Name(offset) => Refusal::Name(offset),
-        TextRefusal::Same(offset) => Refusal::SameName(offset),
-        TextRefusal::Total(offset) => Refusal::TooManyStops(offset),
+        LineRefusal::Form(offset) => Refusal::Form(offset),
+        LineRefusal::Range(offset) => Refusal::Range(offset),
+        LineRefusal::Name(offset) => Refusal::Name(offset),
+        LineRefusal::SameName(offset) => Refusal::SameName(offset),
+        LineRefusal::TooManyStops(offset) => Refusal::TooManyStops(offset),
     }
 }
 
 // The plan check's answer as one of the reading.
 pub fn of_check(answer: PlanCheck) -> Reading
-    ensures { λ r. ⌜ r ≡ ofCheck answer ⌝ }
+    ensures { λ r. ⌜ readingMeant r ≡ checkMeant answer ⌝ }
 {
     match answer {
         PlanCheck::Fine => Reading::Taken,

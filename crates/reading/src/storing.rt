@@ -13,6 +13,7 @@ ghost use Rattle.tables.specs.Limits.{limits};
 ghost use Rattle.tables.specs.Tables.{tablesOf};
 ghost use Rattle.plan.specs.Columns.{columns};
 ghost use Rattle.reading.specs.Reading.{AnsweredAs, stored};
+ghost use Rattle.reading.specs.Replies.{readingMeant};
 ghost use Rattle.reading.specs.Asked.{PlanAsked};
 
 // Checks the plan and writes its dependencies with their count. A refusal leaves the tables as they were, and the other tables are not touched, whatever they hold.
@@ -35,7 +36,7 @@ pub fn store_plan(
         (now («drone_count» .entry)) (now («dependency_count» .entry)) names (now («stop_counts» .entry))
         (now (locations .entry)) (now (times .entry)) visited droneFlags
         (now («first_drones» .entry)) (now («first_stops» .entry)) (now («second_drones» .entry)) (now («second_stops» .entry))
-        (now (flags .entry)))) r (tablesOf
+        (now (flags .entry)))) (readingMeant r) (tablesOf
         (now («drone_count» .entry)) (now («dependency_count» .exit)) names (now («stop_counts» .entry))
         (now (locations .entry)) (now (times .entry)) visited droneFlags
         (now («first_drones» .exit)) (now («first_stops» .exit)) (now («second_drones» .exit)) (now («second_stops» .exit))

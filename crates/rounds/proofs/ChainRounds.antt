@@ -14,8 +14,8 @@ use Rattle.below.proofs.Sum.{sum-ext}
 use Rattle.below.proofs.Tests.{by-cases, and-left, and-right, and-both, same-test}
 use Rattle.below.specs.Below.{pick, maxBelow, sumBelow, at}
 use Rattle.tables.specs.Limits.{Limits}
-use Rattle.precedence.specs.Graph.{Plan, Formed, Cycle, Kept, Table, arrival, one, reached, remaining, cost, cyclic, into as intoStop, awaitedAt}
-use Rattle.precedence.proofs.Table.{latest-is, latest-ext, arrival-table, reached-table}
+use Rattle.precedence.specs.Graph.{Plan, Formed, Cycle, Kept, Table, arrival, reached, remaining, cost, cyclic, into as intoStop, awaitedAt}
+use Rattle.precedence.proofs.Table.{latest-is, latest-ext, arrival-table}
 use Rattle.precedence.proofs.Visits.{left, acyclic-iff}
 use Rattle.cycles.proofs.Placed.{formed}
 use Rattle.cycles.proofs.CycleLaws.{walked-all}

@@ -2,6 +2,5 @@ pub mod PlayingLoop
 pub mod OneRound
 pub mod Bounds
 pub mod Readiness
-pub mod SamePlans
 pub mod Agree
 pub mod ChainRounds

@@ -1,20 +1,20 @@
 -- A loop that plays rounds on a list: the list stands where k rounds lead, what was added up and what is left make the cost, and by `makespan-iff` it
 -- ends in the round in which the last drone finishes. Assumes nothing.
-use mathlib.Core.Path.{_≡_, refl, sym, ap, _∙_}
+use mathlib.Core.Path.{_≡_, sym, ap, _∙_}
 use mathlib.Core.Logic.{_≢_}
 use mathlib.Core.List.{List}
-use mathlib.Core.Bool.{Bool, true, false}
-use Prim.Native.Nat.{ℕ, suc, _+_, _*_, _-_, _≤_, _<_}
+use mathlib.Core.Bool.{true, false}
+use Prim.Native.Nat.{ℕ, _+_, _≤_, _<_}
 use native.Mathlib.Numerals.{add-one}
 use native.Mathlib.Omega.{arith}
-use lib.Dec.{ltb, leb}
+use lib.Dec.{ltb}
 use lib.ListN.{length}
-use borrow.Author.Tests.{ltb-true, ltb-false, leb-true, leb-false, le-ltb}
-use Rattle.below.proofs.Count.{count-none, count-zero, count-le}
+use borrow.Author.Tests.{ltb-true, ltb-false, le-ltb}
+use Rattle.below.proofs.Count.{count-none, count-zero}
 use Rattle.below.proofs.Tests.{by-cases, true-or-false}
 use Rattle.below.specs.Below.{countBelow, firstBelow, at}
 use Rattle.precedence.specs.Graph.{Plan, Formed, Cycle, free, round, play, finished, unvisited, cost, makespan}
-use Rattle.precedence.proofs.Lists.{round-same, unvisited-same}
+use Rattle.precedence.proofs.Agreement.{agree-self, awaited-in, round-agree, unvisited-agree}
 use Rattle.precedence.proofs.Rounds.{finished-at, finished-if, somebody-free, unvisited-falls}
 use Rattle.precedence.proofs.Visits.{makespan-iff, cost-round, cost-finished}
 use Rattle.below.proofs.Same.{count-ext}
@@ -74,7 +74,7 @@ module _ (P : Plan) (formed : Formed P) (acyclic : Cycle P → ⊥) (p : ℕ →
           unfolding play
           playing-round = record {
             long = long;
-            stands = λ d l. rw add-one (moved d l ∙ round-same P formed (at places) (play P p k) (playing .stands) d l);
+            stands = λ d l. rw add-one (moved d l ∙ round-agree P P (agree-self P) (awaited-in P formed) (at places) (play P p k) (playing .stands) d l);
             early = omega (arith, playing-early);
             sum = rw add-one (omega (arith, playing .sum, cost-left));
           }
@@ -85,7 +85,7 @@ module _ (P : Plan) (formed : Formed P) (acyclic : Cycle P → ⊥) (p : ℕ →
               let (l, f) = somebody-free P formed (play P p k) acyclic going in
               omega (
                 arith,
-                unvisited-same P formed (at places) (play P p k) (playing .stands),
-                unvisited-same P formed (at after) (round P (play P p k)) (λ d l. moved d l ∙ round-same P formed (at places) (play P p k) (playing .stands) d l),
+                unvisited-agree P P (agree-self P) (at places) (play P p k) (playing .stands),
+                unvisited-agree P P (agree-self P) (at after) (round P (play P p k)) (λ d l. moved d l ∙ round-agree P P (agree-self P) (awaited-in P formed) (at places) (play P p k) (playing .stands) d l),
                 unvisited-falls P (play P p k) (firstBelow drones (free P (play P p k))) l f,
               )

@@ -9,7 +9,7 @@ use lib.Dec.{ltb}
 use lib.ListN.{length}
 use Rattle.below.specs.Below.{pick, listBelow, at}
 use Rattle.tables.specs.Limits.{Limits}
-use Rattle.precedence.specs.Graph.{Plan, Kept, reached, cyclic}
+use Rattle.precedence.specs.Graph.{Kept, reached, cyclic}
 use Rattle.cycles.specs.Flat.{flatPlan, FlatTables}
 
 -- the round in which stop v is visited, 0 if it is visited at first
@@ -19,13 +19,6 @@ stopRound own off last drones from into m p v = reached (flatPlan own off last d
 -- "each stop's round in a local table": entry v is the round of stop v; the entries past the n stops are 0
 unfoldable pub stopRounds : (L : Limits) (own off last : ℕ → ℕ) (drones n : ℕ) (from into : ℕ → ℕ) (m : ℕ) → (ℕ → ℕ) → List ℕ
 stopRounds L own off last drones n from into m p = listBelow (L .stops) (λ v. pick (ltb v n) (stopRound own off last drones from into m p v) 0)
-
--- P and Q have the same drones, last stops and waits
-pub record SamePlan (P Q : Plan) : Type 0 where
-  pub drones-same : Q .drones ≡ P .drones
-  pub last-same : (d : ℕ) → d < P .drones → Q .last d ≡ P .last d
-  pub count-same : Q .count ≡ P .count
-  pub wait-same : (w : ℕ) → w < P .count → Q .wait w ≡ P .wait w
 
 -- what remaining rounds are counted from: tables of sound size whose waits name stops, a graph without a cycle, nobody past a last stop, and "for every
 -- dependency whose waiting stop is visited .., the stop it waits for is visited"

@@ -1,8 +1,8 @@
 // Rounds played on a copy of the drones' places until every drone stands at its last stop. The waits are linked by the stop that they are into, so that a round takes time linear in the
 // drones and the waits into their next stops. First the drones that can go on are marked, judged by the places at the round's start, then these go on.
-use cycles::casts::wide;
-use cycles::casts::wide8;
 use cycles::linking::link;
+use tables::casts::wide;
+use tables::casts::wide8;
 use tables::entries::Dependency;
 use tables::entries::Drone;
 use tables::entries::Stop;

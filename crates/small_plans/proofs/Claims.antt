@@ -7,7 +7,7 @@ use lib.ListN.{length}
 use Rattle.tables.specs.Limits.{limits}
 use Rattle.tables.specs.Tables.{Tables, fullSize}
 use Rattle.reading.specs.Reading.{readPlan}
-use Rattle.reading.specs.declared.replies.Reading.the-variants.{Taken}
+use Rattle.reading.specs.Replies.{taken}
 use Rattle.accepted.proofs.Taken.{limits-taken-exactly}
 use Rattle.small_plans.specs.Routes.{map, filter, SmallRoute, route, Within, smallRoutes}
 use Rattle.small_plans.specs.Plans.{SmallPlan, plan, text, accepted, smallPlans, planAt}
@@ -21,7 +21,7 @@ use Rattle.small_plans.proofs.Ordered.{plans-rise, plan-once}
 abbrev row : SmallRoute → List SmallPlan
 row x = filter accepted (map (λ y. plan x y) smallRoutes)
 
-in-list : (p : SmallPlan) (t : Tables) → Within (p .first) → Within (p .second) → readPlan limits (text p) t .reply ≡ Taken → Among p smallPlans
+in-list : (p : SmallPlan) (t : Tables) → Within (p .first) → Within (p .second) → readPlan limits (text p) t .reply ≡ taken → Among p smallPlans
 unfolding smallPlans
 in-list p t a b h =
     let x = p .first in

@@ -7,7 +7,7 @@ use native.Mathlib.Omega.{arith}
 use lib.Dec.{ltb, eqb}
 use lib.ListN.{length, getD}
 use borrow.Author.Tests.{le-ltb, ltb-true, ltb-false}
-use Rattle.text.specs.Reading.{same}
+use Rattle.text.specs.LinesRead.{same}
 use Rattle.below.proofs.Tests.{by-cases, and-left, and-right, true-or-false}
 use Rattle.small_plans.specs.Routes.{SmallRoute, route, stops, lower, routeBefore, sameRoute}
 use Rattle.small_plans.specs.Plans.{SmallPlan, plan, smallPlans, planAt, planBefore}

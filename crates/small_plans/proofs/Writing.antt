@@ -10,7 +10,7 @@ use lib.Seq.{length-take-le}
 use borrow.Author.Tests.{lt-ltb, le-ltb, leb-true}
 use Rattle.below.specs.Below.{allBelow}
 use Rattle.below.proofs.Every.{allBelow-at}
-use Rattle.lines.specs.Keys.{planLine, agentsKey, stopsKey, endLine}
+use Rattle.lines.specs.Keys.{firstLine, agentsKey, stopsKey, lastLine}
 use Rattle.lines.specs.Bytes.{Put}
 use Rattle.lines.specs.Numbers.{digits}
 use Rattle.lines.specs.Stops.{countLine, stopLines}
@@ -81,8 +81,8 @@ lines-are : (x y : SmallRoute) → (nameA ++ stopText x) ++ (nameB ++ stopText y
 unfolding routeLines
 lines-are x y = ap (λ (l : List ℕ). (nameA ++ stopText x) ++ l) (sym (append-nil (nameB ++ stopText y)))
 
-pub plan-put : (x y : SmallRoute) {b b₁ b₂ b₃ b₄ b₅ : List ℕ} {n₁ n₂ n₃ n₄ r : ℕ} → Put b 0 planLine b₁ n₁ → Put b₁ n₁ (countLine agentsKey 2) b₂ n₂
-    → Put b₂ n₂ (nameA ++ stopText x) b₃ n₃ → Put b₃ n₃ (nameB ++ stopText y) b₄ n₄ → Put b₄ n₄ endLine b₅ r → Put b 0 (text (plan x y)) b₅ r
+pub plan-put : (x y : SmallRoute) {b b₁ b₂ b₃ b₄ b₅ : List ℕ} {n₁ n₂ n₃ n₄ r : ℕ} → Put b 0 firstLine b₁ n₁ → Put b₁ n₁ (countLine agentsKey 2) b₂ n₂
+    → Put b₂ n₂ (nameA ++ stopText x) b₃ n₃ → Put b₃ n₃ (nameB ++ stopText y) b₄ n₄ → Put b₄ n₄ lastLine b₅ r → Put b 0 (text (plan x y)) b₅ r
 unfolding text
 plan-put x y {b} {b₁} {b₂} {b₃} {b₄} {b₅} {n₁} {n₂} {n₃} {n₄} {r} head agents one two end =
     let lines : Put b₂ n₂ (routeLines (routes (plan x y))) b₄ n₄ = subst (λ (l : List ℕ). Put b₂ n₂ l b₄ n₄) (lines-are x y) (put-put one two) in

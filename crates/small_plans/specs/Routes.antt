@@ -6,7 +6,7 @@ use Prim.Native.Nat.{ℕ, zero, suc, _≤_, _<_}
 use lib.Dec.{ltb, eqb}
 use lib.ListN.{length}
 use Rattle.below.specs.Below.{at}
-use Rattle.text.specs.Reading.{same}
+use Rattle.text.specs.LinesRead.{same}
 
 -- ---- lists
 

@@ -1,5 +1,4 @@
 pub mod Columns
-pub mod SameGraph
 pub mod Asking
 pub mod Local
 pub mod Clauses

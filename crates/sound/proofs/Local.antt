@@ -16,6 +16,7 @@ use Rattle.below.proofs.Fill.{getD-fill, fill-length}
 use Rattle.tables.specs.Limits.{limits}
 use Rattle.tables.specs.Flags.{turnedBit}
 use Rattle.precedence.specs.Graph.{Plan, Wait, cyclic}
+use Rattle.precedence.proofs.Agreement.{awaited-in, cyclic-agree}
 use Rattle.plan.specs.Stops.{start, owner, number}
 use Rattle.plan.specs.Check.{faultAt}
 use Rattle.plan.specs.Dependencies.{right}
@@ -30,10 +31,9 @@ use Rattle.cycles.specs.Waits.{fromOf, intoOf, turnedIn, Edges, Unfixed, Given,
 use Rattle.cycles.proofs.Placed.{formed}
 use Rattle.cycles.proofs.Directed.{right-placed}
 use Rattle.sound.specs.Parts.{stopSound, stopIn, flagRight, fixedAt, fieldOf, graphPart}
-use Rattle.sound.specs.Asked.{Counted, Columns, Numbers, GraphTables, Scratch, Through}
+use Rattle.sound.specs.Asked.{Counted, ColumnRoom, Numbers, GraphTables, Scratch, Through}
 use Rattle.sound.proofs.Asking.{stop-drone, stop-number}
 use Rattle.plan.proofs.Agree.{right-same}
-use Rattle.sound.proofs.SameGraph.{cyclic-same}
 
 -- a table that was filled holds the function
 pub filled-at : (n : ℕ) (f : ℕ → ℕ) (l l₀ : List ℕ) → l ≡ fillBelow n f l₀ → n ≤ length l₀ → (v : ℕ) → v < n → at l v ≡ f v
@@ -186,7 +186,7 @@ module _ (drones n m : ℕ) (counts locations times firstDrones firstStops secon
           let q : at starts (at owners (at firsts k)) ≡ start counts (at firstDrones k) = spot-start (at firstDrones k) (at firstStops k) (at firsts k) (first-drone k l) (first-stop k l) (first-is k l) in
           (λ z. a (omega (arith, first-is k l)), omega (arith, second-is k l, second-stop k l, N .place-in (at secondDrones k) (at secondStops k + 1) (second-drone k l) (omega (arith, second-stop k l, b))))
 
-      pub given : n ≤ length locations → n ≤ length times → Columns m firstDrones firstStops secondDrones secondStops flags → Given owners locations times starts lasts firsts seconds flags drones n m
+      pub given : n ≤ length locations → n ≤ length times → ColumnRoom m firstDrones firstStops secondDrones secondStops flags → Given owners locations times starts lasts firsts seconds flags drones n m
       given a b columns = record {
         stops = record {
           has-owners = omega (arith, T .owners-size, C .few-stops);
@@ -253,9 +253,8 @@ module _ (drones n m : ℕ) (counts locations times firstDrones firstStops secon
             (spot-number (at firstDrones k) (suc (at firstStops k)) (at firsts k + 1) (first-drone k l) (first-goes k l) f)))
 
         same-cyclic : cyclic Q ≡ cyclic (graph F turned)
-        same-cyclic = sym (cyclic-same (graph F turned) Q
-            (formed (at owners) (at starts) (at lasts) drones n (fromOf (at firsts) (at seconds) turned) (intoOf (at firsts) (at seconds) turned) m (right-placed (at owners) (at starts) (at lasts) (at locations) (at times) drones n m (at firsts) (at seconds) turned local-shape local-steady local-zero e local-unfixed))
-            (record { drones-same = refl; last-same = λ d l. T .lasts-are d l; count-same = refl; wait-same = same-wait }))
+        same-cyclic = cyclic-agree Q (graph F turned) (record { drones-agree = refl; lasts-agree = λ d l. T .lasts-are d l; counts-agree = refl; waits-agree = same-wait })
+            (awaited-in Q (formed (at owners) (at starts) (at lasts) drones n (fromOf (at firsts) (at seconds) turned) (intoOf (at firsts) (at seconds) turned) m (right-placed (at owners) (at starts) (at lasts) (at locations) (at times) drones n m (at firsts) (at seconds) turned local-shape local-steady local-zero e local-unfixed)))
 
       pub graph-same : graphSound (at owners) (at starts) (at lasts) (at locations) (at times) drones n m (at firsts) (at seconds) turned ≡ (right own (at locations) (at times) n m xs ys && not (cyclic (graph F turned)))
       unfolding graphSound
@@ -341,7 +340,7 @@ module _ (drones n m : ℕ) (counts locations times firstDrones firstStops secon
       second-number k l = rw (T .starts-are (at secondDrones k) (second-drone (K .stops-fine) (K .both-sides .firsts-in) (K .both-sides .seconds-in) (K .both-sides .flags-fine) k l)) (omega (arith, C .few-stops, second-flat (K .stops-fine) (K .both-sides .firsts-in) (K .both-sides .seconds-in) (K .both-sides .flags-fine) k l))
 
       module _ (firsts seconds : List ℕ) (A : Through starts firstDrones firstStops m firsts) (B : Through starts secondDrones secondStops m seconds) where
-        pub code-given : n ≤ length locations → n ≤ length times → Columns m firstDrones firstStops secondDrones secondStops flags → Given owners locations times starts lasts firsts seconds flags drones n m
+        pub code-given : n ≤ length locations → n ≤ length times → ColumnRoom m firstDrones firstStops secondDrones secondStops flags → Given owners locations times starts lasts firsts seconds flags drones n m
         code-given = given (K .stops-fine) (K .both-sides .firsts-in) (K .both-sides .seconds-in) (K .both-sides .flags-fine) owners numbers starts lasts firsts seconds T A B
 
         pub code-graph : (r : Bool) → r ≡ graphSound (at owners) (at starts) (at lasts) (at locations) (at times) drones n m (at firsts) (at seconds) (turnedIn flags) → r ≡ graphPart drones n m counts locations times firstDrones firstStops secondDrones secondStops limits flags

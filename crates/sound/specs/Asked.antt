@@ -23,7 +23,7 @@ pub record Counted (drones n m : ℕ) (counts : List ℕ) : Type 0 where
   pub few-stops : n ≤ limits .stops
 
 -- the columns of the dependencies have room for m entries
-pub record Columns (m : ℕ) (firstDrones firstStops secondDrones secondStops flags : List ℕ) : Type 0 where
+pub record ColumnRoom (m : ℕ) (firstDrones firstStops secondDrones secondStops flags : List ℕ) : Type 0 where
   pub has-first-drones : m ≤ length firstDrones
   pub has-first-stops : m ≤ length firstStops
   pub has-second-drones : m ≤ length secondDrones

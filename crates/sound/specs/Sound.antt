@@ -10,9 +10,9 @@ use Rattle.tables.specs.Tables.{PlanLists, Tables, drones, dependencies}
 use Rattle.tables.specs.Flags.{onlyOneBit}
 use Rattle.lines.specs.Names.{isNameByte}
 use Rattle.precedence.specs.Graph.{cyclic}
-use Rattle.plan.specs.Stops.{start, owner, number}
 use Rattle.plan.specs.Check.{firstFault, apart}
 use Rattle.plan.specs.Dependencies.{dependencyTotal, column}
+use Rattle.plan.specs.Claims.{stopTotal, ownerIn, numberIn}
 use Rattle.plan.specs.Field.{planOf, graph, fixed}
 use Rattle.plan.specs.Status.{statusIn, fixedUnturned, withinStops, waitsKept}
 
@@ -46,23 +46,13 @@ module _ (L : Limits) (names : List ℕ) where
 -- ---- the plan in the tables
 
 module _ (L : Limits) (p : PlanLists) where
-  -- the number of stops of all drones, and each stop's drone, number, location and time
-  abbrev pub stopTotal : ℕ
-  stopTotal = start (p .stopCounts) (drones p)
-
-  abbrev pub own : ℕ → ℕ
-  own = owner (drones p) (p .stopCounts)
-
-  abbrev pub num : ℕ → ℕ
-  num = number (drones p) (p .stopCounts)
-
   -- every number is in its range
   unfoldable pub inRange : Bool
   inRange =
       (leb 1 (drones p) && leb (drones p) (L .drones))
       && (allBelow (drones p) (λ d. leb 1 (at (p .stopCounts) d))
-      && (leb stopTotal (L .stops)
-      && allBelow stopTotal (λ v. leb (at (p .locations) v) (L .location) && leb (at (p .times) v) (L .time))))
+      && (leb (stopTotal p) (L .stops)
+      && allBelow (stopTotal p) (λ v. leb (at (p .locations) v) (L .location) && leb (at (p .times) v) (L .time))))
 
   -- the names are names, each of one drone
   unfoldable pub namesSound : Bool
@@ -70,33 +60,33 @@ module _ (L : Limits) (p : PlanLists) where
 
   -- the plan check finds nothing
   unfoldable pub checked : Bool
-  checked = eqb (firstFault num (at (p .locations)) (at (p .times)) stopTotal) stopTotal && apart own (at (p .locations)) (at (p .times)) stopTotal
+  checked = eqb (firstFault (numberIn p) (at (p .locations)) (at (p .times)) (stopTotal p)) (stopTotal p) && apart (ownerIn p) (at (p .locations)) (at (p .times)) (stopTotal p)
 
   -- "the plan in them would be accepted"
   unfoldable pub planAccepted : Bool
-  planAccepted = inRange && (namesSound && (checked && leb (dependencyTotal own (at (p .locations)) (at (p .times)) stopTotal) (L .dependencies)))
+  planAccepted = inRange && (namesSound && (checked && leb (dependencyTotal (ownerIn p) (at (p .locations)) (at (p .times)) (stopTotal p)) (L .dependencies)))
 
   -- f of each dependency of the plan, in order
   abbrev pub planned : (ℕ → ℕ → ℕ) → List ℕ
-  planned f = column own (at (p .locations)) (at (p .times)) stopTotal f
+  planned f = column (ownerIn p) (at (p .locations)) (at (p .times)) (stopTotal p) f
 
   -- "the dependencies are exactly its own, in order"
   unfoldable pub dependenciesSound : Bool
   dependenciesSound =
-      eqb (dependencies p) (dependencyTotal own (at (p .locations)) (at (p .times)) stopTotal)
+      eqb (dependencies p) (dependencyTotal (ownerIn p) (at (p .locations)) (at (p .times)) (stopTotal p))
       && allBelow (dependencies p) (λ k.
-      eqb (at (p .firstDrones) k) (getD (planned (λ v w. own v)) k 0)
-      && (eqb (at (p .firstStops) k) (getD (planned (λ v w. num v)) k 0)
-      && (eqb (at (p .secondDrones) k) (getD (planned (λ v w. own w)) k 0)
-      && eqb (at (p .secondStops) k) (getD (planned (λ v w. num w)) k 0))))
+      eqb (at (p .firstDrones) k) (getD (planned (λ v w. ownerIn p v)) k 0)
+      && (eqb (at (p .firstStops) k) (getD (planned (λ v w. numberIn p v)) k 0)
+      && (eqb (at (p .secondDrones) k) (getD (planned (λ v w. ownerIn p w)) k 0)
+      && eqb (at (p .secondStops) k) (getD (planned (λ v w. numberIn p w)) k 0))))
 
   -- "unused entries are zero", of the tables that no call writes
   unfoldable pub planUnused : Bool
   planUnused =
       zeroFrom (drones p * L .name) (L .drones * L .name) (p .names)
       && (zeroFrom (drones p) (L .drones) (p .stopCounts)
-      && (zeroFrom stopTotal (L .stops) (p .locations)
-      && (zeroFrom stopTotal (L .stops) (p .times)
+      && (zeroFrom (stopTotal p) (L .stops) (p .locations)
+      && (zeroFrom (stopTotal p) (L .stops) (p .times)
       && (zeroFrom (dependencies p) (L .dependencies) (p .firstDrones)
       && (zeroFrom (dependencies p) (L .dependencies) (p .firstStops)
       && (zeroFrom (dependencies p) (L .dependencies) (p .secondDrones)

@@ -13,7 +13,7 @@ ghost use Rattle.tables.specs.Limits.{limits};
 ghost use Rattle.plan.specs.Field.{graph};
 ghost use Rattle.cycles.specs.Waits.{turnedIn};
 ghost use Rattle.sound.specs.Parts.{fieldOf, graphPart};
-ghost use Rattle.sound.specs.Asked.{Counted, Columns, Numbers, GraphTables, Room, Scratch};
+ghost use Rattle.sound.specs.Asked.{Counted, ColumnRoom, Numbers, GraphTables, Room, Scratch};
 
 // Each drone's last stop.
 fn fill_lasts(drones: usize, stop_counts: &[u16], lasts: &mut [u16])
@@ -66,7 +66,7 @@ pub fn graph_sound(
     from: &mut [u16; Dependency::FULL],
     into: &mut [u16; Dependency::FULL],
 ) -> bool
-    requires { ⌜ Counted drones n m (now «stop_counts») × (n ≤ length (now locations)) × (n ≤ length (now times)) × Columns m (now «first_drones») (now «first_stops») (now «second_drones») (now «second_stops») (now flags) × Room (now owners) (now starts) (now lasts) (now from) (now into) ⌝ }
+    requires { ⌜ Counted drones n m (now «stop_counts») × (n ≤ length (now locations)) × (n ≤ length (now times)) × ColumnRoom m (now «first_drones») (now «first_stops») (now «second_drones») (now «second_stops») (now flags) × Room (now owners) (now starts) (now lasts) (now from) (now into) ⌝ }
     ensures { λ r. ⌜ (r ≡ graphPart drones n m (now («stop_counts» .entry)) (now (locations .entry)) (now (times .entry)) (now («first_drones» .entry)) (now («first_stops» .entry)) (now («second_drones» .entry)) (now («second_stops» .entry)) limits (now (flags .entry))) × (r ≡ true → GraphTables (now («stop_counts» .entry)) (graph (fieldOf drones n m (now («stop_counts» .entry)) (now (locations .entry)) (now (times .entry)) (now («first_drones» .entry)) (now («first_stops» .entry)) (now («second_drones» .entry)) (now («second_stops» .entry))) (turnedIn (now (flags .entry)))) (now (owners .exit)) (now (starts .exit)) (now (lasts .exit)) (now (from .exit)) (now (into .exit))) ⌝ }
 {
     let mut numbers = [0u16; Stop::FULL];

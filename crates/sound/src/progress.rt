@@ -1,4 +1,5 @@
 // The drones' progress: within their stops, and every wait of a stop that is visited or under way is over.
+use crate::entered::has_entered;
 ghost use mathlib.Core.Path.{_≡_};
 ghost use Prim.Native.Nat.{ℕ, _-_, _≤_, _<_};
 ghost use lib.ListN.{length};
@@ -36,19 +37,6 @@ pub fn drones_sound(drones: usize, stop_counts: &[u16], visited: &[u16], drone_f
         d += 1;
     }
     true
-}
-
-// Whether a drone has visited stop k or is under way to it.
-fn has_entered(place: u16, flag: u8, k: u16) -> bool
-    ensures { λ r. ⌜ r ≡ enteredBy place flag k ⌝ }
-{
-    if k <= place {
-        return true;
-    }
-    if !tables::flags::is_under_way(flag) {
-        return false;
-    }
-    k - place == 1
 }
 
 // Whether the waiter has not entered its stop, or the awaited drone has left the stop s.

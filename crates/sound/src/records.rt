@@ -6,7 +6,7 @@ ghost use lib.ListN.{length};
 ghost use Rattle.below.specs.Below.{at, allBelow};
 ghost use Rattle.tables.specs.Limits.{limits};
 ghost use Rattle.sound.specs.Parts.{stopIn, flagRight, fixedAt, recordRight};
-ghost use Rattle.sound.specs.Asked.{Columns, Through};
+ghost use Rattle.sound.specs.Asked.{ColumnRoom, Through};
 
 // Whether entry k names a stop.
 fn is_stop(drones: usize, stop_counts: &[u16], of: &[u8], stops: &[u16], k: usize) -> bool
@@ -106,7 +106,7 @@ fn are_right(
     second_stops: &[u16],
     flags: &[u8],
 ) -> bool
-    requires { ⌜ (drones ≤ limits .drones) × (limits .drones ≤ length (now «stop_counts»)) × Columns m (now «first_drones») (now «first_stops») (now «second_drones») (now «second_stops») (now flags) ⌝ }
+    requires { ⌜ (drones ≤ limits .drones) × (limits .drones ≤ length (now «stop_counts»)) × ColumnRoom m (now «first_drones») (now «first_stops») (now «second_drones») (now «second_stops») (now flags) ⌝ }
     ensures { λ r. ⌜ r ≡ allBelow m (recordRight drones (now («stop_counts» .entry)) (now (lasts .entry)) (now («first_drones» .entry)) (now («first_stops» .entry)) (now («second_drones» .entry)) (now («second_stops» .entry)) (now (flags .entry))) ⌝ }
 {
     let mut k = 0;
@@ -141,7 +141,7 @@ pub fn records_sound(
     second_stops: &[u16],
     flags: &[u8],
 ) -> bool
-    requires { ⌜ (drones ≤ limits .drones) × (limits .drones ≤ length (now «stop_counts»)) × Columns m (now «first_drones») (now «first_stops») (now «second_drones») (now «second_stops») (now flags) ⌝ }
+    requires { ⌜ (drones ≤ limits .drones) × (limits .drones ≤ length (now «stop_counts»)) × ColumnRoom m (now «first_drones») (now «first_stops») (now «second_drones») (now «second_stops») (now flags) ⌝ }
     ensures { λ r. ⌜ r ≡ allBelow m (stopIn drones (now («stop_counts» .entry)) (at (now («first_drones» .entry))) (at (now («first_stops» .entry)))) && (allBelow m (stopIn drones (now («stop_counts» .entry)) (at (now («second_drones» .entry))) (at (now («second_stops» .entry)))) && allBelow m (λ k. flagRight (fixedAt (at (now (lasts .entry))) (at (now («first_stops» .entry))) (at (now («second_drones» .entry))) (at (now («second_stops» .entry))) k) (at (now (flags .entry)) k))) ⌝ }
 {
     are_right(

@@ -16,8 +16,8 @@ pub struct Drone {
     pub flags: u8,
 }
 
-// The planned first drone and its stop, the planned second drone and its stop, and the flag byte. The reserved byte fills the record to eight, so that a record
-// that is stored whole writes no byte beyond its fields; no call looks at it.
+// The planned first stop and the planned second stop, the drone of each, and the flag byte. The reserved byte fills the record to eight, so that a record that is
+// stored whole writes no byte beyond its fields; no call looks at it.
 #[repr(C)]
 pub struct Dependency {
     pub first_stop: u16,
@@ -69,12 +69,16 @@ impl Stop {
 
 impl Drone {
     pub const FULL: usize = 32;
+    // The number of drones stands alone in its table.
+    pub const COUNT: usize = 1;
     // The bytes of a name, which are those of its row in the table of names.
     pub const NAME: usize = 24;
     // The table of names.
     pub const NAMES: usize = Self::FULL * Self::NAME;
-    // The mask of the flag byte's bit 0.
+    // The masks of the flag byte's bit 0, and of the others.
     pub const UNDER_WAY: u8 = 1;
+
+    pub const OTHER_BITS: u8 = 255 - Self::UNDER_WAY;
 
     pub fn zero() -> Self
         ensures { λ r. ⌜ r ≡ zeroDrone ⌝ }
@@ -106,10 +110,14 @@ impl Drone {
 
 impl Dependency {
     pub const FULL: usize = 2048;
-    // The masks of the flag byte's bits 0 and 1.
+    // The number of dependencies stands alone in its table.
+    pub const COUNT: usize = 1;
+    // The masks of the flag byte's bits 0 and 1, and of the others.
     pub const TURNED: u8 = 1;
 
     pub const FIXED: u8 = 2;
+
+    pub const OTHER_BITS: u8 = 255 - Self::TURNED - Self::FIXED;
 
     pub fn zero() -> Self
         ensures { λ r. ⌜ r ≡ zeroDependency ⌝ }

@@ -20,7 +20,7 @@ pub fn is_fixed(flags: u8) -> bool
 pub fn has_only_two_bits(flags: u8) -> bool
     ensures { λ r. ⌜ r ≡ onlyTwoBits flags ⌝ }
 {
-    flags & 0xFC == 0
+    flags & Dependency::OTHER_BITS == 0
 }
 
 pub fn flipped(flags: u8) -> u8
@@ -46,7 +46,7 @@ pub fn is_under_way(flags: u8) -> bool
 pub fn has_only_one_bit(flags: u8) -> bool
     ensures { λ r. ⌜ r ≡ onlyOneBit flags ⌝ }
 {
-    flags & 0xFE == 0
+    flags & Drone::OTHER_BITS == 0
 }
 
 pub fn with_under_way(flags: u8) -> u8
@@ -58,5 +58,5 @@ pub fn with_under_way(flags: u8) -> u8
 pub fn without_under_way(flags: u8) -> u8
     ensures { λ r. ⌜ r ≡ clearUnderWay flags ⌝ }
 {
-    flags & 0xFE
+    flags & Drone::OTHER_BITS
 }

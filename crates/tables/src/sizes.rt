@@ -31,7 +31,7 @@ pub fn full_size(
         (now (flags .entry)))
         ⌝ }
 {
-    if drone_count.len() < 1 || dependency_count.len() < 1 {
+    if drone_count.len() < Drone::COUNT || dependency_count.len() < Dependency::COUNT {
         return false;
     }
     if names.len() < Drone::NAMES || stop_counts.len() < Drone::FULL {

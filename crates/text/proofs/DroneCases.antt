@@ -12,12 +12,12 @@ use Rattle.lines.specs.Bytes.{Put}
 use Rattle.lines.specs.Keys.{stopsKey}
 use Rattle.lines.specs.Stops.{stopsAt, countAt}
 use Rattle.lines.specs.Names.{smallForm, part, nameAt, rowOf}
-use Rattle.text.specs.Reading.{nothing, stopsEnd, stopsRead, withRow, droneAt, flat, StopsStored, Stored}
+use Rattle.text.specs.LinesRead.{nothing, stopsEnd, stopsRead, withRow, droneAt, flat, StopsStored, LinesStored}
 use Rattle.lines.specs.declared.stops.Count.{Count}
 use Rattle.lines.specs.declared.names.NameSpan.{NameSpan}
 use Rattle.lines.specs.declared.refusal.Refusal.{Refusal}
 use Rattle.text.specs.declared.reader.DroneLines.{DroneLines}
-use Rattle.lines.specs.declared.refusal.Refusal.the-variants.{Total, Same}
+use Rattle.lines.specs.declared.refusal.Refusal.the-variants.{TooManyStops, SameName}
 use Rattle.lines.specs.declared.stops.Count.the-variants.{Is, Refused as NoCount}
 use Rattle.lines.specs.declared.names.NameSpan.the-variants.{Is as NameIs, Refused as NoName}
 use Rattle.text.specs.declared.reader.DroneLines.the-variants.{Refused}
@@ -31,18 +31,18 @@ module _ (L : Limits) (text : List ℕ) (at total : ℕ) (n : Count) (e : n ≡ 
   unfolding stopsRead
   stops-refused r k = rw (← e, k)
 
-  pub stops-over : (m p : ℕ) → n ≡ Is m p → L .stops - total < m → stopsRead L text at total ≡ nothing (Refused (Total at))
+  pub stops-over : (m p : ℕ) → n ≡ Is m p → L .stops - total < m → stopsRead L text at total ≡ nothing (Refused (TooManyStops at))
   unfolding stopsRead
-  stops-over m p k h = rw (← e, k, lt-ltb (L .stops - total) m h)
+  stops-over m p k h = rw (← e, k, lt-ltb (L .stops) (total + m) (omega (arith, h)))
 
-  pub stops-in : (m p : ℕ) → n ≡ Is m p → m ≤ L .stops - total → stopsRead L text at total
+  pub stops-in : (m p : ℕ) → n ≡ Is m p → total + m ≤ L .stops → stopsRead L text at total
       ≡ record { rows = []; counts = m ∷ []; locations = stopsAt L m text p .locations; times = stopsAt L m text p .times; answer = stopsEnd (total + m) (stopsAt L m text p .answer) }
   unfolding stopsRead
-  stops-in m p k h = rw (← e, k, le-ltb (L .stops - total) m h)
+  stops-in m p k h = rw (← e, k, le-ltb (L .stops) (total + m) h)
 
 -- ---- the lines of a drone
 
-pub whole-none : {A : Type 0} (L : Limits) (drone total : ℕ) (ns cs ls ts : List ℕ) (r : A) → Stored L (nothing r) drone total ns cs ls ts ns cs ls ts r
+pub whole-none : {A : Type 0} (L : Limits) (drone total : ℕ) (ns cs ls ts : List ℕ) (r : A) → LinesStored L (nothing r) drone total ns cs ls ts ns cs ls ts r
 whole-none L drone total ns cs ls ts r = record { answer-is = refl; names-are = refl; counts-are = refl; locations-are = refl; times-are = refl }
 
 module _ (L : Limits) (text : List ℕ) (at total : ℕ) (taken : List ℕ → Bool) (n : NameSpan) (e : n ≡ nameAt L text at) where
@@ -50,7 +50,7 @@ module _ (L : Limits) (text : List ℕ) (at total : ℕ) (taken : List ℕ → B
   unfolding droneAt
   drone-unnamed r k = rw (← e, k)
 
-  pub drone-same : (s p : ℕ) (row : List ℕ) → n ≡ NameIs s p → row ≡ rowOf L (smallForm (part text s p)) → taken row ≡ true → droneAt L text at total taken ≡ nothing (Refused (Same at))
+  pub drone-same : (s p : ℕ) (row : List ℕ) → n ≡ NameIs s p → row ≡ rowOf L (smallForm (part text s p)) → taken row ≡ true → droneAt L text at total taken ≡ nothing (Refused (SameName at))
   unfolding droneAt
   drone-same s p row k q t = rw (← e, k, ← q, t)
 

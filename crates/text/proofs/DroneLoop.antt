@@ -13,7 +13,7 @@ use Rattle.lines.specs.Names.{smallForm, part, nameAt, rowOf, among}
 use Rattle.lines.proofs.ByteLaws.{isAt-append, small}
 use Rattle.lines.proofs.WriteLaws.{sets-append}
 use Rattle.lines.proofs.NameRoundTrip.{row-long}
-use Rattle.text.specs.Reading.{Found, droneOf, droneAt, elem, joined, dronesAt, flat, Stored}
+use Rattle.text.specs.LinesRead.{LinesRead, droneOf, droneAt, elem, joined, dronesAt, flat, LinesStored}
 use Rattle.text.proofs.DroneCases.{whole-none}
 use Rattle.text.proofs.Rows.{AllLong, flat-long, flat-append, long-snoc, among-elem, isAt-below, isAt-here, row-fits}
 use Rattle.text.proofs.DroneTaken.{drone-taken, range-long}
@@ -21,10 +21,10 @@ use Rattle.lines.specs.declared.names.NameSpan.{NameSpan}
 use Rattle.lines.specs.declared.refusal.Refusal.{Refusal}
 use Rattle.text.specs.declared.reader.DroneLines.{DroneLines}
 use Rattle.lines.specs.declared.names.NameSpan.the-variants.{Is as NameIs, Refused as NoName}
-use Rattle.text.specs.declared.reader.DroneLines.the-variants.{Taken, Refused}
+use Rattle.text.specs.declared.reader.DroneLines.the-variants.{Read, Refused}
 
 -- what a drone that was taken adds to the tables
-pub record DroneAdded (L : Limits) (f : Found DroneLines) (total t : ℕ) : Type 0 where
+pub record DroneAdded (L : Limits) (f : LinesRead DroneLines) (total t : ℕ) : Type 0 where
   pub row : List ℕ
   pub rows-are : f .rows ≡ row ∷ []
   pub long : length row ≡ L .name
@@ -33,7 +33,7 @@ pub record DroneAdded (L : Limits) (f : Found DroneLines) (total t : ℕ) : Type
   pub moments : total + length (f .times) ≡ t
   pub within : t ≤ L .stops
 
-pub drone-added : (L : Limits) (text : List ℕ) (at total : ℕ) (taken : List ℕ → Bool) (e t : ℕ) → droneAt L text at total taken .answer ≡ Taken e t → DroneAdded L (droneAt L text at total taken) total t
+pub drone-added : (L : Limits) (text : List ℕ) (at total : ℕ) (taken : List ℕ → Bool) (e t : ℕ) → droneAt L text at total taken .answer ≡ Read e t → DroneAdded L (droneAt L text at total taken) total t
 drone-added L text at total taken e t h =
     let d = drone-taken L text at total taken e t h in
     record {
@@ -56,11 +56,11 @@ drone-by L text at total t u h = by-name (nameAt L text at)
     by-name (NameIs s p) = rw (h (rowOf L (smallForm (part text s p))) (row-long L (smallForm (part text s p))))
 
 -- one line of drones further
-drones-bad : (L : Limits) (k : ℕ) (text : List ℕ) (at : ℕ) (earlier : List (List ℕ)) (total : ℕ) (f : Found DroneLines) (r : Refusal) → f ≡ droneAt L text at total (elem earlier) → f .answer ≡ Refused r → dronesAt L (suc k) text at earlier total ≡ f
+drones-bad : (L : Limits) (k : ℕ) (text : List ℕ) (at : ℕ) (earlier : List (List ℕ)) (total : ℕ) (f : LinesRead DroneLines) (r : Refusal) → f ≡ droneAt L text at total (elem earlier) → f .answer ≡ Refused r → dronesAt L (suc k) text at earlier total ≡ f
 unfolding dronesAt
 drones-bad L k text at earlier total f r e h = rw (← e, h)
 
-drones-next : (L : Limits) (k : ℕ) (text : List ℕ) (at : ℕ) (earlier : List (List ℕ)) (total : ℕ) (f : Found DroneLines) (p t : ℕ) → f ≡ droneAt L text at total (elem earlier) → f .answer ≡ Taken p t
+drones-next : (L : Limits) (k : ℕ) (text : List ℕ) (at : ℕ) (earlier : List (List ℕ)) (total : ℕ) (f : LinesRead DroneLines) (p t : ℕ) → f ≡ droneAt L text at total (elem earlier) → f .answer ≡ Read p t
     → dronesAt L (suc k) text at earlier total ≡ joined f (dronesAt L k text p (earlier ++ f .rows) t)
 unfolding dronesAt
 drones-next L k text at earlier total f p t e h = rw (← e, h)
@@ -77,14 +77,14 @@ stand-more L ns d earlier row many long l small room h =
     let z : 0 + d * L .name ≡ d * L .name = zero-add (d * L .name) in
     rw (flat-append earlier (row ∷ []), append-nil row, isAt-append, isAt-below ns (d * L .name) row 0 (flat earlier) (omega (arith, f)), h, f, z) (isAt-here ns (d * L .name) row (omega (arith, l, row-fits d (L .drones) (L .name) small)))
 
-pub record Alike (L : Limits) (left whole : Found DroneLines) (d total : ℕ) (ns cs ls ts ns₀ cs₀ ls₀ ts₀ : List ℕ) : Type 0 where
+pub record Alike (L : Limits) (left whole : LinesRead DroneLines) (d total : ℕ) (ns cs ls ts ns₀ cs₀ ls₀ ts₀ : List ℕ) : Type 0 where
   pub answers : left .answer ≡ whole .answer
   pub names : sets ns (d * L .name) (flat (left .rows)) ≡ sets ns₀ (0 * L .name) (flat (whole .rows))
   pub counts : sets cs d (left .counts) ≡ sets cs₀ 0 (whole .counts)
   pub locations : sets ls total (left .locations) ≡ sets ls₀ 0 (whole .locations)
   pub times : sets ts total (left .times) ≡ sets ts₀ 0 (whole .times)
 
-pub record Going (L : Limits) (n : ℕ) (text : List ℕ) (whole : Found DroneLines) (d here total : ℕ) (ns cs ls ts ns₀ cs₀ ls₀ ts₀ : List ℕ) : Type 0 where
+pub record Going (L : Limits) (n : ℕ) (text : List ℕ) (whole : LinesRead DroneLines) (d here total : ℕ) (ns cs ls ts ns₀ cs₀ ls₀ ts₀ : List ℕ) : Type 0 where
   pub earlier : List (List ℕ)
   pub many : length earlier ≡ d
   pub long : AllLong L earlier
@@ -102,28 +102,28 @@ reading-start L n text at ns cs ls ts = record {
 }
 
 -- the drone that was read, told by the rows so far
-module _ {L : Limits} {n : ℕ} {text : List ℕ} {whole : Found DroneLines} {d here total : ℕ} {ns cs ls ts ns₀ cs₀ ls₀ ts₀ : List ℕ} (g : Going L n text whole d here total ns cs ls ts ns₀ cs₀ ls₀ ts₀) (more : d < n) where
+module _ {L : Limits} {n : ℕ} {text : List ℕ} {whole : LinesRead DroneLines} {d here total : ℕ} {ns cs ls ts ns₀ cs₀ ls₀ ts₀ : List ℕ} (g : Going L n text whole d here total ns cs ls ts ns₀ cs₀ ls₀ ts₀) (more : d < n) where
   drone-is : droneAt L text here total (among L d ns 0) ≡ droneAt L text here total (elem (g .earlier))
   drone-is = drone-by L text here total _ _ (λ row l. rw (← g .many) (among-elem L (g .earlier) ns 0 row (g .long) (g .stand) l))
 
   -- one was refused: nothing is left
-  pub reading-bad : (f : Found DroneLines) (r : Refusal) → f ≡ droneAt L text here total (among L d ns 0) → f .answer ≡ Refused r → Alike L f whole d total ns cs ls ts ns₀ cs₀ ls₀ ts₀
+  pub reading-bad : (f : LinesRead DroneLines) (r : Refusal) → f ≡ droneAt L text here total (among L d ns 0) → f .answer ≡ Refused r → Alike L f whole d total ns cs ls ts ns₀ cs₀ ls₀ ts₀
   reading-bad f r e h =
       let m : n - d ≡ suc (n - (d + 1)) = omega arith in
       let q : dronesAt L (n - d) text here (g .earlier) total ≡ f = rw m (drones-bad L (n - (d + 1)) text here (g .earlier) total f r (e ∙ drone-is) h) in
       rw (← q) (g .going)
 
-  flat-one : {total t : ℕ} (f : Found DroneLines) → DroneAdded L f total t → d * L .name + length (flat (f .rows)) ≡ (d + 1) * L .name
+  flat-one : {total t : ℕ} (f : LinesRead DroneLines) → DroneAdded L f total t → d * L .name + length (flat (f .rows)) ≡ (d + 1) * L .name
   flat-one f a = rw (a .rows-are, append-nil) (omega (arith, a .long, add-mul d 1 (L .name), one-mul (L .name)))
 
   -- one was taken
-  pub reading-on : (f : Found DroneLines) (e t : ℕ) (ns′ cs′ ls′ ts′ : List ℕ) → f ≡ droneAt L text here total (among L d ns 0) → f .answer ≡ Taken e t → d < L .drones → L .drones * L .name ≤ length ns
+  pub reading-on : (f : LinesRead DroneLines) (e t : ℕ) (ns′ cs′ ls′ ts′ : List ℕ) → f ≡ droneAt L text here total (among L d ns 0) → f .answer ≡ Read e t → d < L .drones → L .drones * L .name ≤ length ns
       → ns′ ≡ sets ns (d * L .name) (flat (f .rows)) → cs′ ≡ sets cs d (f .counts) → ls′ ≡ sets ls total (f .locations) → ts′ ≡ sets ts total (f .times)
       → Going L n text whole (d + 1) e t ns′ cs′ ls′ ts′ ns₀ cs₀ ls₀ ts₀
   reading-on f e t ns′ cs′ ls′ ts′ fe h small room en ec el et =
       let a : DroneAdded L f total t = rw fe (drone-added L text here total (among L d ns 0) e t (rw fe at h)) in
       let m : n - d ≡ suc (n - (d + 1)) = omega arith in
-      let rest : Found DroneLines = dronesAt L (n - (d + 1)) text e (g .earlier ++ f .rows) t in
+      let rest : LinesRead DroneLines = dronesAt L (n - (d + 1)) text e (g .earlier ++ f .rows) t in
       let q : dronesAt L (n - d) text here (g .earlier) total ≡ joined f rest = rw m (drones-next L (n - (d + 1)) text here (g .earlier) total f e t (fe ∙ drone-is) h) in
       let v = rw q at (g .going) in
       record {
@@ -141,8 +141,8 @@ module _ {L : Limits} {n : ℕ} {text : List ℕ} {whole : Found DroneLines} {d 
       }
 
 -- what was stored from here on is what the whole stores
-pub alike-stored : {L : Limits} {f whole : Found DroneLines} {d total : ℕ} {ns cs ls ts ns₀ cs₀ ls₀ ts₀ ns′ cs′ ls′ ts′ : List ℕ} {r : DroneLines}
-    → Alike L f whole d total ns cs ls ts ns₀ cs₀ ls₀ ts₀ → Stored L f d total ns cs ls ts ns′ cs′ ls′ ts′ r → Stored L whole 0 0 ns₀ cs₀ ls₀ ts₀ ns′ cs′ ls′ ts′ r
+pub alike-stored : {L : Limits} {f whole : LinesRead DroneLines} {d total : ℕ} {ns cs ls ts ns₀ cs₀ ls₀ ts₀ ns′ cs′ ls′ ts′ : List ℕ} {r : DroneLines}
+    → Alike L f whole d total ns cs ls ts ns₀ cs₀ ls₀ ts₀ → LinesStored L f d total ns cs ls ts ns′ cs′ ls′ ts′ r → LinesStored L whole 0 0 ns₀ cs₀ ls₀ ts₀ ns′ cs′ ls′ ts′ r
 alike-stored a s = record {
   answer-is = s .answer-is ∙ a .answers;
   names-are = s .names-are ∙ a .names;
@@ -152,8 +152,8 @@ alike-stored a s = record {
 }
 
 -- all were taken
-pub reading-end : {L : Limits} {n : ℕ} {text : List ℕ} {whole : Found DroneLines} {d here total : ℕ} {ns cs ls ts ns₀ cs₀ ls₀ ts₀ : List ℕ}
-    → Going L n text whole d here total ns cs ls ts ns₀ cs₀ ls₀ ts₀ → n ≤ d → Stored L whole 0 0 ns₀ cs₀ ls₀ ts₀ ns cs ls ts (Taken here total)
+pub reading-end : {L : Limits} {n : ℕ} {text : List ℕ} {whole : LinesRead DroneLines} {d here total : ℕ} {ns cs ls ts ns₀ cs₀ ls₀ ts₀ : List ℕ}
+    → Going L n text whole d here total ns cs ls ts ns₀ cs₀ ls₀ ts₀ → n ≤ d → LinesStored L whole 0 0 ns₀ cs₀ ls₀ ts₀ ns cs ls ts (Read here total)
 unfolding dronesAt
 reading-end {L} {n} {text} {whole} {d} {here} {total} g h =
     let m : n - d ≡ 0 = omega arith in
@@ -167,13 +167,13 @@ pub record Lengths (ns cs ls ts ns₀ cs₀ ls₀ ts₀ : List ℕ) : Type 0 whe
   pub times : length ts ≡ length ts₀
 
 -- the two ends of a turn
-module _ {L : Limits} {n : ℕ} {text : List ℕ} {whole : Found DroneLines} {d here total : ℕ} {ns cs ls ts ns₀ cs₀ ls₀ ts₀ ns′ cs′ ls′ ts′ : List ℕ} {r : DroneLines}
-    (g : Going L n text whole d here total ns cs ls ts ns₀ cs₀ ls₀ ts₀) (more : d < n) (s : Stored L (droneAt L text here total (among L d ns 0)) d total ns cs ls ts ns′ cs′ ls′ ts′ r) where
-  pub turn-bad : (x : Refusal) → r ≡ Refused x → Stored L whole 0 0 ns₀ cs₀ ls₀ ts₀ ns′ cs′ ls′ ts′ (Refused x)
+module _ {L : Limits} {n : ℕ} {text : List ℕ} {whole : LinesRead DroneLines} {d here total : ℕ} {ns cs ls ts ns₀ cs₀ ls₀ ts₀ ns′ cs′ ls′ ts′ : List ℕ} {r : DroneLines}
+    (g : Going L n text whole d here total ns cs ls ts ns₀ cs₀ ls₀ ts₀) (more : d < n) (s : LinesStored L (droneAt L text here total (among L d ns 0)) d total ns cs ls ts ns′ cs′ ls′ ts′ r) where
+  pub turn-bad : (x : Refusal) → r ≡ Refused x → LinesStored L whole 0 0 ns₀ cs₀ ls₀ ts₀ ns′ cs′ ls′ ts′ (Refused x)
   turn-bad x e = rw e at (alike-stored (reading-bad g more _ x refl (sym (s .answer-is) ∙ e)) s)
 
-  pub turn-on : (e t : ℕ) → r ≡ Taken e t → d < L .drones → L .drones * L .name ≤ length ns → Going L n text whole (d + 1) e t ns′ cs′ ls′ ts′ ns₀ cs₀ ls₀ ts₀
+  pub turn-on : (e t : ℕ) → r ≡ Read e t → d < L .drones → L .drones * L .name ≤ length ns → Going L n text whole (d + 1) e t ns′ cs′ ls′ ts′ ns₀ cs₀ ls₀ ts₀
   turn-on e t q small room = reading-on g more _ e t ns′ cs′ ls′ ts′ refl (sym (s .answer-is) ∙ q) small room (s .names-are) (s .counts-are) (s .locations-are) (s .times-are)
 
-  pub turn-total : (e t : ℕ) → r ≡ Taken e t → t ≤ L .stops
+  pub turn-total : (e t : ℕ) → r ≡ Read e t → t ≤ L .stops
   turn-total e t q = drone-added L text here total (among L d ns 0) e t (sym (s .answer-is) ∙ q) .within

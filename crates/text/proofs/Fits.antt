@@ -10,26 +10,26 @@ use borrow.Author.Tests.{ltb-false}
 use lib.ListN.{length, length-append}
 use Rattle.tables.specs.Limits.{Limits}
 use Rattle.lines.specs.Bytes.{isAt}
-use Rattle.lines.specs.Keys.{stopsKey, planLine, agentsKey}
+use Rattle.lines.specs.Keys.{stopsKey, firstLine, agentsKey}
 use Rattle.lines.specs.Stops.{stopsAt, countAt}
 use Rattle.lines.specs.Names.{smallForm, part, nameAt, rowOf}
 use Rattle.lines.proofs.StopCases.{count-range}
 use Rattle.lines.proofs.StopRoundTrip.{stops-most}
 use Rattle.lines.proofs.NameRoundTrip.{row-long}
-use Rattle.text.specs.Reading.{Found, nothing, stopsEnd, stopsOf, stopsRead, withRow, droneOf, droneAt, elem, andThen, dronesAt, agentsOf, linesAt, flat}
+use Rattle.text.specs.LinesRead.{LinesRead, nothing, stopsEnd, stopsOf, stopsRead, withRow, droneOf, droneAt, elem, andThen, dronesAt, agentsOf, linesAt, flat}
 use Rattle.text.proofs.Rows.{flat-append}
 use Rattle.text.proofs.DroneLoop.{DroneAdded, drone-added}
 use Rattle.lines.specs.declared.stops.Count.{Count}
 use Rattle.lines.specs.declared.names.NameSpan.{NameSpan}
 use Rattle.text.specs.declared.reader.DroneLines.{DroneLines}
-use Rattle.text.specs.declared.reader.Answer.{Answer}
-use Rattle.lines.specs.declared.refusal.Refusal.the-variants.{Form, Total, Same}
+use Rattle.text.specs.declared.reader.LinesAnswer.{LinesAnswer}
+use Rattle.lines.specs.declared.refusal.Refusal.the-variants.{Form, TooManyStops, SameName}
 use Rattle.lines.specs.declared.stops.Count.the-variants.{Is, Refused as NoCount}
 use Rattle.lines.specs.declared.names.NameSpan.the-variants.{Is as NameIs, Refused as NoName}
-use Rattle.text.specs.declared.reader.DroneLines.the-variants.{Taken, Refused}
-use Rattle.text.specs.declared.reader.Answer.the-variants.{Refused as NoPlan}
+use Rattle.text.specs.declared.reader.DroneLines.the-variants.{Read, Refused}
+use Rattle.text.specs.declared.reader.LinesAnswer.the-variants.{Refused as NotWellFormed}
 
-pub record Fits (L : Limits) (f : Found DroneLines) (n total : ℕ) : Type 0 where
+pub record Fits (L : Limits) (f : LinesRead DroneLines) (n total : ℕ) : Type 0 where
   pub rows : length (flat (f .rows)) ≤ n * L .name
   pub counts : length (f .counts) ≤ n
   pub locations : total + length (f .locations) ≤ L .stops
@@ -42,25 +42,25 @@ stops-fit : (L : Limits) (text : List ℕ) (at total : ℕ) → total ≤ L .sto
 unfolding stopsRead
 stops-fit L text at total h = by-count (countAt text at stopsKey (L .stops))
   where
-    by-test : (m p : ℕ) (b : Bool) → ltb (L .stops - total) m ≡ b
-        → Fits L (cond b (nothing (Refused (Total at))) (record { rows = []; counts = m ∷ []; locations = stopsAt L m text p .locations; times = stopsAt L m text p .times; answer = stopsEnd (total + m) (stopsAt L m text p .answer) })) 1 total
+    by-test : (m p : ℕ) (b : Bool) → ltb (L .stops) (total + m) ≡ b
+        → Fits L (cond b (nothing (Refused (TooManyStops at))) (record { rows = []; counts = m ∷ []; locations = stopsAt L m text p .locations; times = stopsAt L m text p .times; answer = stopsEnd (total + m) (stopsAt L m text p .answer) })) 1 total
     by-test m p true b = fits-none L _ 1 total h
     by-test m p false b =
         let w = stops-most L m text p in
-        let k = ltb-false (L .stops - total) m b in
+        let k = ltb-false (L .stops) (total + m) b in
         let lo : total + length (stopsAt L m text p .locations) ≤ L .stops = omega (arith, w .0) in
         let tm : total + length (stopsAt L m text p .times) ≤ L .stops = omega (arith, w .1) in
         record { rows = omega arith; counts = omega arith; locations = lo; times = tm }
 
     by-count : (n : Count) → Fits L (stopsOf L text at total n) 1 total
     by-count (NoCount r) = fits-none L _ 1 total h
-    by-count (Is m p) = by-test m p (ltb (L .stops - total) m) refl
+    by-count (Is m p) = by-test m p (ltb (L .stops) (total + m)) refl
 
 drone-fits : (L : Limits) (text : List ℕ) (at total : ℕ) (taken : List ℕ → Bool) → total ≤ L .stops → Fits L (droneAt L text at total taken) 1 total
 unfolding droneAt
 drone-fits L text at total taken h = by-name (nameAt L text at)
   where
-    by-test : (row : List ℕ) (p : ℕ) → length row ≡ L .name → (b : Bool) → Fits L (cond b (nothing (Refused (Same at))) (withRow row (stopsRead L text (p + 1) total))) 1 total
+    by-test : (row : List ℕ) (p : ℕ) → length row ≡ L .name → (b : Bool) → Fits L (cond b (nothing (Refused (SameName at))) (withRow row (stopsRead L text (p + 1) total))) 1 total
     by-test row p l true = fits-none L _ 1 total h
     by-test row p l false =
         let s = stops-fit L text (p + 1) total h in
@@ -77,10 +77,10 @@ drones-fit L (suc n) text at earlier total h =
     by-answer (droneAt L text at total (elem earlier)) (drone-fits L text at total (elem earlier) h) (λ e t q. drone-added L text at total (elem earlier) e t q)
     (droneAt L text at total (elem earlier) .answer) refl (λ e t k. drones-fit L n text e (earlier ++ droneAt L text at total (elem earlier) .rows) t k)
   where
-    by-answer : (f : Found DroneLines) → Fits L f 1 total → ((e t : ℕ) → f .answer ≡ Taken e t → DroneAdded L f total t) → (r : DroneLines) → f .answer ≡ r
-        → {more : ℕ → ℕ → Found DroneLines} → ((e t : ℕ) → t ≤ L .stops → Fits L (more e t) n t) → Fits L (andThen f r more) (suc n) total
+    by-answer : (f : LinesRead DroneLines) → Fits L f 1 total → ((e t : ℕ) → f .answer ≡ Read e t → DroneAdded L f total t) → (r : DroneLines) → f .answer ≡ r
+        → {more : ℕ → ℕ → LinesRead DroneLines} → ((e t : ℕ) → t ≤ L .stops → Fits L (more e t) n t) → Fits L (andThen f r more) (suc n) total
     by-answer f w a (Refused x) q ih = record { rows = omega (arith, w .rows, suc-mul n (L .name)); counts = omega (arith, w .counts); locations = w .locations; times = w .times }
-    by-answer f w a (Taken e t) q ih =
+    by-answer f w a (Read e t) q ih =
         let d = a e t q in
         let g = ih e t (d .within) in
         record {
@@ -91,7 +91,7 @@ drones-fit L (suc n) text at earlier total h =
         }
 
 -- all that was read fits the tables
-pub record FitsAll (L : Limits) (w : Found Answer) : Type 0 where
+pub record FitsAll (L : Limits) (w : LinesRead LinesAnswer) : Type 0 where
   pub rows : length (flat (w .rows)) ≤ L .drones * L .name
   pub counts : length (w .counts) ≤ L .drones
   pub locations : length (w .locations) ≤ L .stops
@@ -99,9 +99,9 @@ pub record FitsAll (L : Limits) (w : Found Answer) : Type 0 where
 
 pub lines-fit : (L : Limits) (text : List ℕ) → FitsAll L (linesAt L text)
 unfolding linesAt
-lines-fit L text = by-key (isAt text 0 planLine)
+lines-fit L text = by-key (isAt text 0 firstLine)
   where
-    small : (r : Answer) → FitsAll L (nothing r)
+    small : (r : LinesAnswer) → FitsAll L (nothing r)
     small r = record { rows = omega arith; counts = omega arith; locations = omega arith; times = omega arith }
 
     by-count : (n : Count) → countAt text 7 agentsKey (L .drones) ≡ n → FitsAll L (agentsOf L text n)
@@ -111,6 +111,6 @@ lines-fit L text = by-key (isAt text 0 planLine)
         let r = count-range text 7 agentsKey (L .drones) n p e .1 in
         record { rows = omega (arith, f .rows, mul-le-mul-right (L .name) r); counts = omega (arith, f .counts); locations = omega (arith, f .locations); times = omega (arith, f .times) }
 
-    by-key : (k : Bool) → FitsAll L (cond k (agentsOf L text (countAt text 7 agentsKey (L .drones))) (nothing (NoPlan (Form 0))))
+    by-key : (k : Bool) → FitsAll L (cond k (agentsOf L text (countAt text 7 agentsKey (L .drones))) (nothing (NotWellFormed (Form 0))))
     by-key true = by-count (countAt text 7 agentsKey (L .drones)) refl
     by-key false = small _

@@ -3,23 +3,22 @@ use mathlib.Core.Path.{_≡_, refl}
 use mathlib.Core.Bool.{true}
 use mathlib.Core.List.{List, [], _∷_}
 use Prim.Native.Nat.{ℕ}
-use Rattle.lines.specs.Keys.{planLine, agentsKey, nameKey, stopsKey, goKey, endLine}
+use Rattle.lines.specs.Keys.{firstLine, agentsKey, nameKey, stopsKey, goKey, lastLine}
 use Rattle.lines.specs.Bytes.{byteAt, isAt}
 use Rattle.tables.specs.Limits.{limits}
 use Rattle.lines.specs.Numbers.{isDigit, digitsFrom, numberAt, fieldAt, digits}
 use Rattle.lines.specs.Stops.{goAt, stopsAt, stopLines, countAt}
 use Rattle.lines.specs.Names.{untilFeed, lineEnd, isCapital, smallByte, smallForm, isNameByte, isTextByte, textBytes, textName, nameAt, nameOf}
-use Rattle.text.specs.Reading.{stopsRead, droneAt, same, elem, dronesAt, linesAt}
-use Rattle.text.specs.TextRead.{answerOf}
+use Rattle.text.specs.LinesRead.{stopsRead, droneAt, same, elem, dronesAt, linesAt}
 use Rattle.text.specs.Written.{droneLines, planText}
 use Rattle.text.specs.Examples.{bytes, single, allHold, examples}
 
 pub examples-hold : allHold examples ≡ true
-unfolding byteAt isAt isDigit digitsFrom numberAt fieldAt goAt stopsAt countAt untilFeed lineEnd isCapital smallByte smallForm isNameByte isTextByte textBytes textName nameAt stopsRead droneAt same elem dronesAt linesAt answerOf
+unfolding byteAt isAt isDigit digitsFrom numberAt fieldAt goAt stopsAt countAt untilFeed lineEnd isCapital smallByte smallForm isNameByte isTextByte textBytes textName nameAt stopsRead droneAt same elem dronesAt linesAt
 examples-hold = refl
 
 -- the keys are the bytes of their texts
-pub keys-hold : _≡_ {A = List (List ℕ)} (planLine ∷ agentsKey ∷ nameKey ∷ stopsKey ∷ goKey ∷ endLine ∷ [])
+pub keys-hold : _≡_ {A = List (List ℕ)} (firstLine ∷ agentsKey ∷ nameKey ∷ stopsKey ∷ goKey ∷ lastLine ∷ [])
     (bytes "plan=1\n" ∷ bytes "agents=" ∷ bytes "name=" ∷ bytes "stops=" ∷ bytes "go=" ∷ bytes "end=plan\n" ∷ [])
 keys-hold = refl
 

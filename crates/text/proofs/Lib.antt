@@ -15,6 +15,5 @@ pub mod Flights
 pub mod NameInRow
 pub mod WriteLoop
 pub mod WriteWhole
-pub mod WriteBack
 pub mod Sizes
 pub mod ReadIsWritten

@@ -4,24 +4,21 @@ use native.Mathlib.Nat.{mul-le-mul-right}
 use native.Mathlib.Omega.{arith}
 use mathlib.Core.Path.{_≡_, refl, sym}
 use mathlib.Core.List.{List, [], _∷_, _++_, append-assoc}
-use borrow.Author.Tests.{le-ltb}
 use lib.ListN.{length, drop}
 use lib.Seq.{sets, sets-eq, take-at, drop-at}
 use Rattle.tables.specs.Limits.{Limits}
-use Rattle.text.specs.Reading.{Found, linesAt, flat}
-use Rattle.text.specs.TextRead.{tableAfter, TextRead}
-use Rattle.text.specs.Written.{Route, routesText, rowsOf, countsOf, locationsOf, timesOf, foundOf, Valid}
+use Rattle.text.specs.LinesRead.{LinesRead, linesAt, flat}
+use Rattle.text.specs.TextRead.{TextRead}
+use Rattle.text.specs.Written.{Route, routesText, rowsOf, countsOf, locationsOf, timesOf, linesOf, InLimits}
 use Rattle.lines.specs.Names.{smallForm}
-use Rattle.tables.specs.Zero.{zeroed}
 use Rattle.text.proofs.Rows.{AllLong}
 use Rattle.text.proofs.Sizes.{rows-long, rows-many, names-many, counts-many, counts-begin, stops-within, times-many}
-use Rattle.text.proofs.TakenIsWritten.{text-taken, taken-within}
+use Rattle.text.proofs.TakenIsWritten.{text-taken}
 use Rattle.text.proofs.RoundTrips.{same-text}
 use Rattle.text.specs.TextWritten.{rowsIn, tablesText}
-use Rattle.tables.proofs.Zero.{zeroed-length}
 use Rattle.text.specs.Claims.{ReadAndWritten}
-use Rattle.text.specs.declared.reader.Answer.{Answer}
-use Rattle.text.specs.declared.reader.Answer.the-variants.{Taken as Plan}
+use Rattle.text.specs.declared.reader.LinesAnswer.{LinesAnswer}
+use Rattle.text.specs.declared.reader.LinesAnswer.the-variants.{WellFormed}
 
 -- ---- tables that hold a plan's values from their first entry on
 
@@ -37,7 +34,7 @@ rows-back L (r ∷ rs) a rest =
 
 -- ---- the text of such tables
 
-module _ (L : Limits) (ds : List Route) (v : Valid L ds) (ns cs ls ts : List ℕ) where
+module _ (L : Limits) (ds : List Route) (v : InLimits L ds) (ns cs ls ts : List ℕ) where
   pub tables-kept : L .drones * L .name ≤ length ns → L .drones ≤ length cs → L .stops ≤ length ls → L .stops ≤ length ts
       → tablesText L (length ds) (sets ns 0 (flat (rowsOf L ds))) (sets cs 0 (countsOf ds)) (sets ls 0 (locationsOf ds)) (sets ts 0 (timesOf ds)) ≡ routesText ds
   unfolding tablesText
@@ -62,29 +59,17 @@ module _ (L : Limits) (ds : List Route) (v : Valid L ds) (ns cs ls ts : List ℕ
 
 -- ---- the text of the tables after a reading
 
-table-taken : (L : Limits) (text : List ℕ) (n full : ℕ) (values t t′ : List ℕ) → length text ≤ L .text → linesAt L text .answer ≡ Plan n → t′ ≡ tableAfter L text full values t → t′ ≡ sets (zeroed full t) 0 values
-unfolding tableAfter
-table-taken L text n full values t t′ short h e = rw (le-ltb (L .text) (length text) short, h) at e
-
-kept-by : (L : Limits) (text : List ℕ) (n : ℕ) (w : Found Answer) (ds : List Route) → length ds ≡ n → Valid L ds → w ≡ foundOf L ds → smallForm text ≡ routesText ds
+kept-by : (L : Limits) (text : List ℕ) (n : ℕ) (w : LinesRead LinesAnswer) (ds : List Route) → length ds ≡ n → InLimits L ds → w ≡ linesOf L ds → smallForm text ≡ routesText ds
     → (ns cs ls ts : List ℕ) → L .drones * L .name ≤ length ns → L .drones ≤ length cs → L .stops ≤ length ls → L .stops ≤ length ts
     → tablesText L n (sets ns 0 (flat (w .rows))) (sets cs 0 (w .counts)) (sets ls 0 (w .locations)) (sets ts 0 (w .times)) ≡ smallForm text
 kept-by L text n w ds m v r t ns cs ls ts a b c d = rw (r, ← m, t) (tables-kept L ds v ns cs ls ts a b c d)
 
-pub read-is-written : (L : Limits) (n : ℕ) {text dc ns cs ls ts dc′ ns′ cs′ ls′ ts′ : List ℕ} → TextRead L text dc ns cs ls ts dc′ ns′ cs′ ls′ ts′ (Plan n)
+pub read-is-written : (L : Limits) (n : ℕ) {text dc ns cs ls ts dc′ ns′ cs′ ls′ ts′ : List ℕ} → TextRead L text dc ns cs ls ts dc′ ns′ cs′ ls′ ts′ (WellFormed n)
     → L .drones * L .name ≤ length ns → L .drones ≤ length cs → L .stops ≤ length ls → L .stops ≤ length ts → tablesText L n ns′ cs′ ls′ ts′ ≡ smallForm text
 read-is-written L n {text} {dc} {ns} {cs} {ls} {ts} {dc′} {ns′} {cs′} {ls′} {ts′} r a b c d =
-    let k = taken-within L text n (sym (r .answer-is)) in
-    let t = text-taken L text n (k .1) in
-    let F = L .drones * L .name in
-    rw (
-      table-taken L text n F (flat (linesAt L text .rows)) ns ns′ (k .0) (k .1) (r .names-are),
-      table-taken L text n (L .drones) (linesAt L text .counts) cs cs′ (k .0) (k .1) (r .counts-are),
-      table-taken L text n (L .stops) (linesAt L text .locations) ls ls′ (k .0) (k .1) (r .locations-are),
-      table-taken L text n (L .stops) (linesAt L text .times) ts ts′ (k .0) (k .1) (r .times-are),
-    )
-    (kept-by L text n (linesAt L text) (t .routes) (t .many) (t .valid) (t .read) (t .written) (zeroed F ns) (zeroed (L .drones) cs) (zeroed (L .stops) ls) (zeroed (L .stops) ts)
-    (omega (arith, a, zeroed-length F ns)) (omega (arith, b, zeroed-length (L .drones) cs)) (omega (arith, c, zeroed-length (L .stops) ls)) (omega (arith, d, zeroed-length (L .stops) ts)))
+    let t = text-taken L text n (sym (r .answer-is)) in
+    rw (r .names-are, r .counts-are, r .locations-are, r .times-are)
+    (kept-by L text n (linesAt L text) (t .routes) (t .many) (t .valid) (t .read) (t .written) ns cs ls ts a b c d)
 
 pub read-and-written : (L : Limits) → ReadAndWritten L
 read-and-written L = record { text-kept = λ n text dc ns cs ls ts dc′ ns′ cs′ ls′ ts′ r a b c d. read-is-written L n r a b c d }

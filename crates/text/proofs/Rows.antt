@@ -14,7 +14,7 @@ use Rattle.tables.specs.Limits.{Limits}
 use Rattle.lines.specs.Bytes.{byteAt, isAt}
 use Rattle.lines.specs.Names.{among}
 use Rattle.lines.proofs.ByteLaws.{both, stands-parts}
-use Rattle.text.specs.Reading.{same, elem, flat}
+use Rattle.text.specs.LinesRead.{same, elem, flat}
 
 -- rows of the length of the longest name
 abbrev pub AllLong : Limits → List (List ℕ) → Type 0

@@ -9,8 +9,8 @@ use Rattle.below.proofs.Sum.{sum-first}
 use Rattle.tables.specs.Limits.{Limits}
 use Rattle.lines.specs.Names.{rowOf}
 use Rattle.lines.proofs.NameRoundTrip.{row-long}
-use Rattle.text.specs.Reading.{flat}
-use Rattle.text.specs.Written.{Route, rowsOf, countsOf, locationsOf, timesOf, ValidFrom, Valid}
+use Rattle.text.specs.LinesRead.{flat}
+use Rattle.text.specs.Written.{Route, rowsOf, countsOf, locationsOf, timesOf, InLimitsFrom, InLimits}
 use Rattle.text.proofs.Rows.{AllLong, flat-long}
 use Rattle.text.proofs.DroneTaken.{range-long}
 
@@ -40,20 +40,20 @@ counts-begin (d ∷ ds) rest =
 pub counts-total : (ds : List Route) → sumBelow (length ds) (at (countsOf ds)) ≡ length (locationsOf ds)
 counts-total ds = ap (λ (l : List ℕ). sumBelow (length ds) (at l)) (sym (append-nil (countsOf ds))) ∙ counts-begin ds []
 
-within : (L : Limits) (ds : List Route) (earlier : List (List ℕ)) (total : ℕ) → ValidFrom L earlier total ds → total ≤ L .stops → total + length (locationsOf ds) ≤ L .stops
+within : (L : Limits) (ds : List Route) (earlier : List (List ℕ)) (total : ℕ) → InLimitsFrom L earlier total ds → total ≤ L .stops → total + length (locationsOf ds) ≤ L .stops
 within L [] earlier total v h = omega arith
 within L (d ∷ ds) earlier total v h =
     let ih = within L ds (earlier ++ rowOf L (d .name) ∷ []) (total + length (d .locations)) (v .5) (v .3) in
     rw (length-append (d .locations) (locationsOf ds)) (omega (arith, ih))
 
-pub stops-within : (L : Limits) (ds : List Route) → Valid L ds → length (locationsOf ds) ≤ L .stops
+pub stops-within : (L : Limits) (ds : List Route) → InLimits L ds → length (locationsOf ds) ≤ L .stops
 stops-within L ds v = omega (arith, within L ds [] 0 (v .2) (omega arith))
 
-same-many : (L : Limits) (ds : List Route) (earlier : List (List ℕ)) (total : ℕ) → ValidFrom L earlier total ds → length (timesOf ds) ≡ length (locationsOf ds)
+same-many : (L : Limits) (ds : List Route) (earlier : List (List ℕ)) (total : ℕ) → InLimitsFrom L earlier total ds → length (timesOf ds) ≡ length (locationsOf ds)
 same-many L [] earlier total v = refl
 same-many L (d ∷ ds) earlier total v =
     let ih = same-many L ds (earlier ++ rowOf L (d .name) ∷ []) (total + length (d .locations)) (v .5) in
     length-append (d .times) (timesOf ds) ∙ omega (arith, ih, range-long L (d .locations) (d .times) (v .4), length-append (d .locations) (locationsOf ds))
 
-pub times-many : (L : Limits) (ds : List Route) → Valid L ds → length (timesOf ds) ≡ length (locationsOf ds)
+pub times-many : (L : Limits) (ds : List Route) → InLimits L ds → length (timesOf ds) ≡ length (locationsOf ds)
 times-many L ds v = same-many L ds [] 0 (v .2)

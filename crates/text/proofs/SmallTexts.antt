@@ -7,12 +7,12 @@ use mathlib.Core.Bool.{Bool, true, false, cond}
 use lib.Dec.{ltb}
 use lib.ListN.{length}
 use Rattle.tables.specs.Limits.{Limits}
-use Rattle.lines.specs.Keys.{atSign, planLine, agentsKey, nameKey, stopsKey, goKey, endLine}
+use Rattle.lines.specs.Keys.{atSign, firstLine, agentsKey, nameKey, stopsKey, goKey, lastLine}
 use Rattle.lines.specs.Bytes.{isAt}
 use Rattle.lines.specs.Numbers.{digitsOf, field, fieldAt}
 use Rattle.lines.specs.Stops.{goPlace, goAt, stopsFrom, stopsAt, countAt}
 use Rattle.lines.specs.Names.{smallForm, lineEnd, part, nameAt, rowOf}
-use Rattle.lines.specs.declared.refusal.Refusal.the-variants.{Form, Total, Same}
+use Rattle.lines.specs.declared.refusal.Refusal.the-variants.{Form, TooManyStops, SameName}
 use Rattle.lines.specs.declared.numbers.Number.{Number}
 use Rattle.lines.specs.declared.numbers.Number.the-variants.{Value, Malformed}
 use Rattle.lines.specs.declared.stops.Count.{Count}
@@ -20,18 +20,18 @@ use Rattle.lines.specs.declared.stops.Count.the-variants.{Is, Refused as NoCoun
 use Rattle.lines.specs.declared.stops.GoLine.{GoLine}
 use Rattle.lines.specs.declared.stops.GoLine.the-variants.{At, Refused as NoStop}
 use Rattle.lines.specs.declared.stops.GoLines.{GoLines}
-use Rattle.lines.specs.declared.stops.GoLines.the-variants.{Taken as StopsTaken, Refused as NoStops}
+use Rattle.lines.specs.declared.stops.GoLines.the-variants.{Read as StopsAre, Refused as NoStops}
 use Rattle.lines.specs.declared.names.NameSpan.{NameSpan}
 use Rattle.lines.specs.declared.names.NameSpan.the-variants.{Is as NameIs, Refused as NoName}
 use Rattle.lines.proofs.SmallReads.{same-length, same-field, same-end, same-part, same-name}
 use Rattle.lines.proofs.StopRoundTrip.{go-stands, count-stands}
 use Rattle.lines.proofs.NameRoundTrip.{name-read, name-stands}
-use Rattle.text.specs.Reading.{Found, nothing, stopsEnd, stopsOf, stopsRead, withRow, droneOf, droneAt, elem, joined, andThen, dronesAt, ending, finish, agentsOf, linesAt}
+use Rattle.text.specs.LinesRead.{LinesRead, nothing, stopsEnd, stopsOf, stopsRead, withRow, droneOf, droneAt, elem, joined, andThen, dronesAt, ending, finish, agentsOf, linesAt}
 use Rattle.text.specs.Names.{namesSmall}
 use Rattle.text.specs.declared.reader.DroneLines.{DroneLines}
-use Rattle.text.specs.declared.reader.DroneLines.the-variants.{Taken, Refused}
-use Rattle.text.specs.declared.reader.Answer.{Answer}
-use Rattle.text.specs.declared.reader.Answer.the-variants.{Refused as NoPlan}
+use Rattle.text.specs.declared.reader.DroneLines.the-variants.{Read, Refused}
+use Rattle.text.specs.declared.reader.LinesAnswer.{LinesAnswer}
+use Rattle.text.specs.declared.reader.LinesAnswer.the-variants.{Refused as NotWellFormed}
 use Rattle.text.proofs.LineStarts.{Begins, begins-first, begins-next, begins-line, one-small-form, name-kept, key-kept}
 
 -- a stop was read up to the start of a line; so were a count and a name
@@ -44,47 +44,47 @@ count-next text at key most v e h = begins-line text at e key (digitsOf v) (coun
 name-next : (L : Limits) (text : List ℕ) (at s e : ℕ) → nameAt L text at ≡ NameIs s e → Begins text (e + 1)
 name-next L text at s e h = begins-next text at (e + 1) (nameKey ++ part text s e) (name-stands L text at s e (name-read L text at s e h))
 
-stops-next : (L : Limits) (n : ℕ) (text : List ℕ) (at e : ℕ) → Begins text at → stopsAt L n text at .answer ≡ StopsTaken e → Begins text e
+stops-next : (L : Limits) (n : ℕ) (text : List ℕ) (at e : ℕ) → Begins text at → stopsAt L n text at .answer ≡ StopsAre e → Begins text e
 unfolding stopsAt
 stops-next L zero text at e b h = let q : at ≡ e = cc h in subst (Begins text) q b
 stops-next L (suc n) text at e b h = by-line (goAt L text at) refl h (λ e′ b′ h′. stops-next L n text e′ e b′ h′)
   where
-    by-line : (s : GoLine) → goAt L text at ≡ s → stopsFrom s (λ e′. stopsAt L n text e′) .answer ≡ StopsTaken e
-        → ((e′ : ℕ) → Begins text e′ → stopsAt L n text e′ .answer ≡ StopsTaken e → Begins text e) → Begins text e
+    by-line : (s : GoLine) → goAt L text at ≡ s → stopsFrom s (λ e′. stopsAt L n text e′) .answer ≡ StopsAre e
+        → ((e′ : ℕ) → Begins text e′ → stopsAt L n text e′ .answer ≡ StopsAre e → Begins text e) → Begins text e
     by-line (At l t e′) f h more = more e′ (go-next L text at l t e′ f) h
     by-line (NoStop r) f h more = absurd (let z : _≡_ {A = ℕ} 0 1 = cc h in omega arith)
 
-read-next : (L : Limits) (text : List ℕ) (at total e t : ℕ) → stopsRead L text at total .answer ≡ Taken e t → Begins text e
+read-next : (L : Limits) (text : List ℕ) (at total e t : ℕ) → stopsRead L text at total .answer ≡ Read e t → Begins text e
 unfolding stopsRead
 read-next L text at total e t h = by-count (countAt text at stopsKey (L .stops)) refl h
   where
-    by-lines : (m p : ℕ) → Begins text p → (x : GoLines) → stopsAt L m text p .answer ≡ x → stopsEnd (total + m) x ≡ Taken e t → Begins text e
-    by-lines m p b (StopsTaken q) x h = let w : q ≡ e = cc h in stops-next L m text p e b (x ∙ ap StopsTaken w)
+    by-lines : (m p : ℕ) → Begins text p → (x : GoLines) → stopsAt L m text p .answer ≡ x → stopsEnd (total + m) x ≡ Read e t → Begins text e
+    by-lines m p b (StopsAre q) x h = let w : q ≡ e = cc h in stops-next L m text p e b (x ∙ ap StopsAre w)
     by-lines m p b (NoStops r) x h = absurd (let z : _≡_ {A = ℕ} 0 1 = cc h in omega arith)
 
     by-test : (m p : ℕ) → Begins text p → (c : Bool)
-        → cond c (nothing (Refused (Total at))) (record { rows = []; counts = m ∷ []; locations = stopsAt L m text p .locations; times = stopsAt L m text p .times; answer = stopsEnd (total + m) (stopsAt L m text p .answer) }) .answer ≡ Taken e t
+        → cond c (nothing (Refused (TooManyStops at))) (record { rows = []; counts = m ∷ []; locations = stopsAt L m text p .locations; times = stopsAt L m text p .times; answer = stopsEnd (total + m) (stopsAt L m text p .answer) }) .answer ≡ Read e t
         → Begins text e
     by-test m p b true h = absurd (let z : _≡_ {A = ℕ} 0 1 = cc h in omega arith)
     by-test m p b false h = by-lines m p b (stopsAt L m text p .answer) refl h
 
-    by-count : (c : Count) → countAt text at stopsKey (L .stops) ≡ c → stopsOf L text at total c .answer ≡ Taken e t → Begins text e
+    by-count : (c : Count) → countAt text at stopsKey (L .stops) ≡ c → stopsOf L text at total c .answer ≡ Read e t → Begins text e
     by-count (NoCount r) f h = absurd (let z : _≡_ {A = ℕ} 0 1 = cc h in omega arith)
-    by-count (Is m p) f h = by-test m p (count-next text at stopsKey (L .stops) m p f) (ltb (L .stops - total) m) h
+    by-count (Is m p) f h = by-test m p (count-next text at stopsKey (L .stops) m p f) (ltb (L .stops) (total + m)) h
 
-drone-next : (L : Limits) (text : List ℕ) (at total : ℕ) (taken : List ℕ → Bool) (e t : ℕ) → droneAt L text at total taken .answer ≡ Taken e t → Begins text e
+drone-next : (L : Limits) (text : List ℕ) (at total : ℕ) (taken : List ℕ → Bool) (e t : ℕ) → droneAt L text at total taken .answer ≡ Read e t → Begins text e
 unfolding droneAt
 drone-next L text at total taken e t h = by-name (nameAt L text at) h
   where
-    by-test : (row : List ℕ) (p : ℕ) (c : Bool) → cond c (nothing (Refused (Same at))) (withRow row (stopsRead L text (p + 1) total)) .answer ≡ Taken e t → Begins text e
+    by-test : (row : List ℕ) (p : ℕ) (c : Bool) → cond c (nothing (Refused (SameName at))) (withRow row (stopsRead L text (p + 1) total)) .answer ≡ Read e t → Begins text e
     by-test row p true h = absurd (let z : _≡_ {A = ℕ} 0 1 = cc h in omega arith)
     by-test row p false h = read-next L text (p + 1) total e t h
 
-    by-name : (n : NameSpan) → droneOf L text at total taken n .answer ≡ Taken e t → Begins text e
+    by-name : (n : NameSpan) → droneOf L text at total taken n .answer ≡ Read e t → Begins text e
     by-name (NoName r) h = absurd (let z : _≡_ {A = ℕ} 0 1 = cc h in omega arith)
     by-name (NameIs s p) h = by-test _ p (taken (rowOf L (smallForm (part text s p)))) h
 
-drones-next : (L : Limits) (n : ℕ) (text : List ℕ) (at : ℕ) (earlier : List (List ℕ)) (total e t : ℕ) → Begins text at → dronesAt L n text at earlier total .answer ≡ Taken e t → Begins text e
+drones-next : (L : Limits) (n : ℕ) (text : List ℕ) (at : ℕ) (earlier : List (List ℕ)) (total e t : ℕ) → Begins text at → dronesAt L n text at earlier total .answer ≡ Read e t → Begins text e
 unfolding dronesAt
 drones-next L zero text at earlier total e t b h = let q : at ≡ e = cc h in subst (Begins text) q b
 drones-next L (suc n) text at earlier total e t b h =
@@ -92,9 +92,9 @@ drones-next L (suc n) text at earlier total e t b h =
     (λ e′ t′. dronesAt L n text e′ (earlier ++ droneAt L text at total (elem earlier) .rows) t′) h
     (λ e′ t′ b′ q. drones-next L n text e′ (earlier ++ droneAt L text at total (elem earlier) .rows) t′ e t b′ q)
   where
-    by-answer : (f : Found DroneLines) → ((e′ t′ : ℕ) → f .answer ≡ Taken e′ t′ → Begins text e′) → (r : DroneLines) → f .answer ≡ r → (more : ℕ → ℕ → Found DroneLines)
-        → andThen f r more .answer ≡ Taken e t → ((e′ t′ : ℕ) → Begins text e′ → more e′ t′ .answer ≡ Taken e t → Begins text e) → Begins text e
-    by-answer f d (Taken e′ t′) q more h ih = ih e′ t′ (d e′ t′ q) h
+    by-answer : (f : LinesRead DroneLines) → ((e′ t′ : ℕ) → f .answer ≡ Read e′ t′ → Begins text e′) → (r : DroneLines) → f .answer ≡ r → (more : ℕ → ℕ → LinesRead DroneLines)
+        → andThen f r more .answer ≡ Read e t → ((e′ t′ : ℕ) → Begins text e′ → more e′ t′ .answer ≡ Read e t → Begins text e) → Begins text e
+    by-answer f d (Read e′ t′) q more h ih = ih e′ t′ (d e′ t′ q) h
     by-answer f d (Refused x) q more h ih = absurd (let z : _≡_ {A = ℕ} 0 1 = cc (q, h) in omega arith)
 
 -- ---- the two texts
@@ -165,21 +165,21 @@ module _ (L : Limits) (text : List ℕ) where
       rw (drone-alike at total (elem earlier) b)
       (by-answer f (λ e t q. drone-next L text at total (elem earlier) e t q) (f .answer) refl (λ e t b′. drones-alike n e (earlier ++ f .rows) t b′))
     where
-      by-answer : (f : Found DroneLines) → ((e t : ℕ) → f .answer ≡ Taken e t → Begins text e) → (r : DroneLines) → f .answer ≡ r → {more less : ℕ → ℕ → Found DroneLines}
+      by-answer : (f : LinesRead DroneLines) → ((e t : ℕ) → f .answer ≡ Read e t → Begins text e) → (r : DroneLines) → f .answer ≡ r → {more less : ℕ → ℕ → LinesRead DroneLines}
           → ((e t : ℕ) → Begins text e → more e t ≡ less e t) → andThen f r more ≡ andThen f r less
-      by-answer f d (Taken e t) q h = ap (joined f) (h e t (d e t q))
+      by-answer f d (Read e t) q h = ap (joined f) (h e t (d e t q))
       by-answer f d (Refused x) q h = refl
 
   -- ---- the whole text
 
-  ending-alike : (n : ℕ) (r : DroneLines) → ((e t : ℕ) → r ≡ Taken e t → Begins text e) → ending small n r ≡ ending text n r
+  ending-alike : (n : ℕ) (r : DroneLines) → ((e t : ℕ) → r ≡ Read e t → Begins text e) → ending small n r ≡ ending text n r
   ending-alike n (Refused x) h = refl
-  ending-alike n (Taken e t) h =
-      let k : isAt small e endLine ≡ isAt text e endLine = key-kept text e (h e t refl) 101 (110 ∷ 100 ∷ 61 ∷ 112 ∷ 108 ∷ 97 ∷ 110 ∷ 10 ∷ []) (λ z. omega (arith, z)) refl in
+  ending-alike n (Read e t) h =
+      let k : isAt small e lastLine ≡ isAt text e lastLine = key-kept text e (h e t refl) 101 (110 ∷ 100 ∷ 61 ∷ 112 ∷ 108 ∷ 97 ∷ 110 ∷ 10 ∷ []) (λ z. omega (arith, z)) refl in
       rw (k, same-length small text (one-small-form text)) refl
 
-  finish-alike : (n : ℕ) (f g : Found DroneLines) → f ≡ g → ending small n (g .answer) ≡ ending text n (g .answer) → finish small n f ≡ finish text n g
-  finish-alike n f g e h = ap (finish small n) e ∙ ap (λ (a : Answer). record { rows = g .rows; counts = g .counts; locations = g .locations; times = g .times; answer = a }) h
+  finish-alike : (n : ℕ) (f g : LinesRead DroneLines) → f ≡ g → ending small n (g .answer) ≡ ending text n (g .answer) → finish small n f ≡ finish text n g
+  finish-alike n f g e h = ap (finish small n) e ∙ ap (λ (a : LinesAnswer). record { rows = g .rows; counts = g .counts; locations = g .locations; times = g .times; answer = a }) h
 
   agents-alike : (c : Count) → ((n e : ℕ) → c ≡ Is n e → Begins text e) → agentsOf L small c ≡ agentsOf L text c
   agents-alike (NoCount r) b = refl
@@ -189,16 +189,16 @@ module _ (L : Limits) (text : List ℕ) where
 
   pub lines-alike : linesAt L small ≡ linesAt L text
   unfolding linesAt
-  lines-alike = rw k (by-key (isAt text 0 planLine) refl)
+  lines-alike = rw k (by-key (isAt text 0 firstLine) refl)
     where
-      k : isAt small 0 planLine ≡ isAt text 0 planLine
+      k : isAt small 0 firstLine ≡ isAt text 0 firstLine
       k = key-kept text 0 (begins-first text) 112 (108 ∷ 97 ∷ 110 ∷ 61 ∷ 49 ∷ 10 ∷ []) (λ z. omega (arith, z)) refl
 
-      begins : isAt text 0 planLine ≡ true → Begins text 7
+      begins : isAt text 0 firstLine ≡ true → Begins text 7
       begins h = begins-next text 0 7 (112 ∷ 108 ∷ 97 ∷ 110 ∷ 61 ∷ 49 ∷ []) (record { there = h; next-is = refl })
 
-      by-key : (c : Bool) → isAt text 0 planLine ≡ c
-          → cond c (agentsOf L small (countAt small 7 agentsKey (L .drones))) (nothing (NoPlan (Form 0))) ≡ cond c (agentsOf L text (countAt text 7 agentsKey (L .drones))) (nothing (NoPlan (Form 0)))
+      by-key : (c : Bool) → isAt text 0 firstLine ≡ c
+          → cond c (agentsOf L small (countAt small 7 agentsKey (L .drones))) (nothing (NotWellFormed (Form 0))) ≡ cond c (agentsOf L text (countAt text 7 agentsKey (L .drones))) (nothing (NotWellFormed (Form 0)))
       by-key true h =
           ap (agentsOf L small) (count-alike 7 agentsKey (L .drones) (key-kept text 7 (begins h) 97 (103 ∷ 101 ∷ 110 ∷ 116 ∷ 115 ∷ 61 ∷ []) (λ z. omega (arith, z)) refl))
           ∙ agents-alike (countAt text 7 agentsKey (L .drones)) (λ n e q. count-next text 7 agentsKey (L .drones) n e q)

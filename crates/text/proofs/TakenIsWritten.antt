@@ -12,38 +12,37 @@ use lib.ListN.{length, getD, drop, drop-of-length-le}
 use lib.Seq.{drop-cons}
 use Rattle.tables.specs.Limits.{Limits}
 use Rattle.lines.specs.Bytes.{byteAt, isAt}
-use Rattle.lines.specs.Keys.{planLine, agentsKey, endLine}
+use Rattle.lines.specs.Keys.{firstLine, agentsKey, lastLine}
 use Rattle.lines.specs.Stops.{countAt, countLine}
 use Rattle.lines.specs.Names.{smallForm}
 use Rattle.lines.proofs.ByteLaws.{getD-in, both, Stands, stands-join}
 use Rattle.lines.proofs.StopCases.{count-range}
 use Rattle.lines.proofs.StopRoundTrip.{count-stands}
-use Rattle.text.specs.Reading.{Found, nothing, droneAt, elem, joined, andThen, dronesAt, ending, agentsOf, linesAt}
-use Rattle.text.specs.TextRead.{answerOf}
-use Rattle.text.specs.Written.{Route, routeLines, routesText, smallNames, rowsOf, countsOf, locationsOf, timesOf, foundOf, ValidFrom, Valid}
+use Rattle.text.specs.LinesRead.{LinesRead, nothing, droneAt, elem, joined, andThen, dronesAt, ending, agentsOf, linesAt}
+use Rattle.text.specs.Written.{Route, routeLines, routesText, smallNames, rowsOf, countsOf, locationsOf, timesOf, linesOf, InLimitsFrom, InLimits}
 use Rattle.text.proofs.Capitals.{names-many, text-small}
 use Rattle.text.proofs.DroneTaken.{DroneTake, drone-taken}
 use Rattle.lines.specs.declared.stops.Count.{Count}
 use Rattle.text.specs.declared.reader.DroneLines.{DroneLines}
-use Rattle.text.specs.declared.reader.Answer.{Answer}
-use Rattle.lines.specs.declared.refusal.Refusal.the-variants.{Form, Long}
+use Rattle.text.specs.declared.reader.LinesAnswer.{LinesAnswer}
+use Rattle.lines.specs.declared.refusal.Refusal.the-variants.{Form}
 use Rattle.lines.specs.declared.stops.Count.the-variants.{Is, Refused as NoCount}
-use Rattle.text.specs.declared.reader.DroneLines.the-variants.{Taken, Refused}
-use Rattle.text.specs.declared.reader.Answer.the-variants.{Taken as Plan, Refused as NoPlan}
+use Rattle.text.specs.declared.reader.DroneLines.the-variants.{Read, Refused}
+use Rattle.text.specs.declared.reader.LinesAnswer.the-variants.{WellFormed, Refused as NotWellFormed}
 
 -- ---- all drones
 
-record DronesTake (L : Limits) (text : List ℕ) (at e total n : ℕ) (earlier : List (List ℕ)) (f : Found DroneLines) : Type 0 where
+record DronesTake (L : Limits) (text : List ℕ) (at e total n : ℕ) (earlier : List (List ℕ)) (f : LinesRead DroneLines) : Type 0 where
   pub routes : List Route
   pub many : length routes ≡ n
   pub rows-are : f .rows ≡ rowsOf L (smallNames routes)
   pub counts-are : f .counts ≡ countsOf (smallNames routes)
   pub locations-are : f .locations ≡ locationsOf (smallNames routes)
   pub times-are : f .times ≡ timesOf (smallNames routes)
-  pub valid : ValidFrom L earlier total (smallNames routes)
+  pub valid : InLimitsFrom L earlier total (smallNames routes)
   pub there : Stands text at (routeLines routes) e
 
-one-more : (L : Limits) (n : ℕ) (text : List ℕ) (at e e′ total t : ℕ) (earlier : List (List ℕ)) (f g : Found DroneLines) → DroneTake L text at e total t (elem earlier) f
+one-more : (L : Limits) (n : ℕ) (text : List ℕ) (at e e′ total t : ℕ) (earlier : List (List ℕ)) (f g : LinesRead DroneLines) → DroneTake L text at e total t (elem earlier) f
     → DronesTake L text e e′ t n (earlier ++ f .rows) g → DronesTake L text at e′ total (suc n) earlier (joined f g)
 unfolding routeLines
 one-more L n text at e e′ total t earlier f g d s = record {
@@ -57,7 +56,7 @@ one-more L n text at e e′ total t earlier f g d s = record {
   there = stands-join (d .there) (s .there);
 }
 
-drones-taken : (L : Limits) (n : ℕ) (text : List ℕ) (at : ℕ) (earlier : List (List ℕ)) (total e t : ℕ) → dronesAt L n text at earlier total .answer ≡ Taken e t
+drones-taken : (L : Limits) (n : ℕ) (text : List ℕ) (at : ℕ) (earlier : List (List ℕ)) (total e t : ℕ) → dronesAt L n text at earlier total .answer ≡ Read e t
     → DronesTake L text at e total n earlier (dronesAt L n text at earlier total)
 unfolding dronesAt routeLines isAt
 drones-taken L zero text at earlier total e t h = let p : at ≡ e = cc h in record {
@@ -75,10 +74,10 @@ drones-taken L (suc n) text at earlier total e t h =
     (λ e′ t′. dronesAt L n text e′ (earlier ++ droneAt L text at total (elem earlier) .rows) t′) h
     (λ e′ t′ q. drones-taken L n text e′ (earlier ++ droneAt L text at total (elem earlier) .rows) t′ e t q)
   where
-    by-answer : (f : Found DroneLines) → ((e′ t′ : ℕ) → f .answer ≡ Taken e′ t′ → DroneTake L text at e′ total t′ (elem earlier) f) → (r : DroneLines) → f .answer ≡ r → (more : ℕ → ℕ → Found DroneLines)
-        → andThen f r more .answer ≡ Taken e t → ((e′ t′ : ℕ) → more e′ t′ .answer ≡ Taken e t → DronesTake L text e′ e t′ n (earlier ++ f .rows) (more e′ t′))
+    by-answer : (f : LinesRead DroneLines) → ((e′ t′ : ℕ) → f .answer ≡ Read e′ t′ → DroneTake L text at e′ total t′ (elem earlier) f) → (r : DroneLines) → f .answer ≡ r → (more : ℕ → ℕ → LinesRead DroneLines)
+        → andThen f r more .answer ≡ Read e t → ((e′ t′ : ℕ) → more e′ t′ .answer ≡ Read e t → DronesTake L text e′ e t′ n (earlier ++ f .rows) (more e′ t′))
         → DronesTake L text at e total (suc n) earlier (andThen f r more)
-    by-answer f d (Taken e′ t′) q more h ih = one-more L n text at e′ e total t′ earlier f (more e′ t′) (d e′ t′ q) (ih e′ t′ h)
+    by-answer f d (Read e′ t′) q more h ih = one-more L n text at e′ e total t′ earlier f (more e′ t′) (d e′ t′ q) (ih e′ t′ h)
     by-answer f d (Refused x) q more h ih = absurd (let z : _≡_ {A = ℕ} 0 1 = cc (q, h) in omega arith)
 
 -- ---- the whole text
@@ -94,27 +93,27 @@ whole-from text p (b ∷ x) h l =
     rw (drop-cons text p 0 i, e, ← add-one p, whole-from text (p + 1) x (w .1) (omega arith))
 
 -- the text of a plan that was taken, where `w` is what reading gave: the plan as the text has it, and the one that was read
-pub record TextTaken (L : Limits) (text : List ℕ) (n : ℕ) (w : Found Answer) : Type 0 where
+pub record TextTaken (L : Limits) (text : List ℕ) (n : ℕ) (w : LinesRead LinesAnswer) : Type 0 where
   pub routes : List Route
   pub many : length routes ≡ n
-  pub valid : Valid L routes
-  pub read : w ≡ foundOf L routes
+  pub valid : InLimits L routes
+  pub read : w ≡ linesOf L routes
   pub typed : List Route
   pub routes-are : routes ≡ smallNames typed
   pub as-typed : text ≡ routesText typed
   pub written : smallForm text ≡ routesText routes
 
-take-end : (L : Limits) (text : List ℕ) (n v p e : ℕ) (f : Found DroneLines) → isAt text 0 planLine ≡ true → countAt text 7 agentsKey (L .drones) ≡ Is v p → DronesTake L text p e 0 v [] f
-    → (a : Bool) → isAt text e endLine ≡ a → (b : Bool) → eqb (e + 9) (length text) ≡ b → cond a (cond b (Plan v) (NoPlan (Form (e + 9)))) (NoPlan (Form e)) ≡ Plan n
-    → TextTaken L text n (record { rows = f .rows; counts = f .counts; locations = f .locations; times = f .times; answer = cond a (cond b (Plan v) (NoPlan (Form (e + 9)))) (NoPlan (Form e)) })
+take-end : (L : Limits) (text : List ℕ) (n v p e : ℕ) (f : LinesRead DroneLines) → isAt text 0 firstLine ≡ true → countAt text 7 agentsKey (L .drones) ≡ Is v p → DronesTake L text p e 0 v [] f
+    → (a : Bool) → isAt text e lastLine ≡ a → (b : Bool) → eqb (e + 9) (length text) ≡ b → cond a (cond b (WellFormed v) (NotWellFormed (Form (e + 9)))) (NotWellFormed (Form e)) ≡ WellFormed n
+    → TextTaken L text n (record { rows = f .rows; counts = f .counts; locations = f .locations; times = f .times; answer = cond a (cond b (WellFormed v) (NotWellFormed (Form (e + 9)))) (NotWellFormed (Form e)) })
 take-end L text n v p e f k c s true a true b h =
     let ev : v ≡ n = cc h in
     let r = count-range text 7 agentsKey (L .drones) v p c in
-    let w : Stands text 0 (planLine ++ countLine agentsKey v ++ routeLines (s .routes) ++ endLine) (e + 9) =
+    let w : Stands text 0 (firstLine ++ countLine agentsKey v ++ routeLines (s .routes) ++ lastLine) (e + 9) =
     stands-join (stands-join (stands-join (record { there = k; next-is = refl }) (count-stands text 7 agentsKey (L .drones) v p c)) (s .there)) (record { there = a; next-is = refl }) in
     let l : e + 9 ≡ length text = eqb-true _ _ b in
     let m : length (smallNames (s .routes)) ≡ v = names-many (s .routes) ∙ s .many in
-    let typed : text ≡ routesText (s .routes) = rw (s .many) (whole-from text 0 (planLine ++ countLine agentsKey v ++ routeLines (s .routes) ++ endLine) (w .there) (sym l ∙ w .next-is)) in
+    let typed : text ≡ routesText (s .routes) = rw (s .many) (whole-from text 0 (firstLine ++ countLine agentsKey v ++ routeLines (s .routes) ++ lastLine) (w .there) (sym l ∙ w .next-is)) in
     record {
       routes = smallNames (s .routes);
       many = m ∙ ev;
@@ -128,29 +127,20 @@ take-end L text n v p e f k c s true a true b h =
 take-end L text n v p e f k c s true a false b h = absurd (let z : _≡_ {A = ℕ} 0 1 = cc h in omega arith)
 take-end L text n v p e f k c s false a b b′ h = absurd (let z : _≡_ {A = ℕ} 0 1 = cc h in omega arith)
 
-pub text-taken : (L : Limits) (text : List ℕ) (n : ℕ) → linesAt L text .answer ≡ Plan n → TextTaken L text n (linesAt L text)
+pub text-taken : (L : Limits) (text : List ℕ) (n : ℕ) → linesAt L text .answer ≡ WellFormed n → TextTaken L text n (linesAt L text)
 unfolding linesAt
-text-taken L text n h = by-key (isAt text 0 planLine) refl h
+text-taken L text n h = by-key (isAt text 0 firstLine) refl h
   where
-    by-end : (v p : ℕ) (f : Found DroneLines) → isAt text 0 planLine ≡ true → countAt text 7 agentsKey (L .drones) ≡ Is v p → ((e t : ℕ) → f .answer ≡ Taken e t → DronesTake L text p e 0 v [] f)
-        → (r : DroneLines) → f .answer ≡ r → ending text v r ≡ Plan n → TextTaken L text n (record { rows = f .rows; counts = f .counts; locations = f .locations; times = f .times; answer = ending text v r })
+    by-end : (v p : ℕ) (f : LinesRead DroneLines) → isAt text 0 firstLine ≡ true → countAt text 7 agentsKey (L .drones) ≡ Is v p → ((e t : ℕ) → f .answer ≡ Read e t → DronesTake L text p e 0 v [] f)
+        → (r : DroneLines) → f .answer ≡ r → ending text v r ≡ WellFormed n → TextTaken L text n (record { rows = f .rows; counts = f .counts; locations = f .locations; times = f .times; answer = ending text v r })
     by-end v p f k c s (Refused x) q h = absurd (let z : _≡_ {A = ℕ} 0 1 = cc h in omega arith)
-    by-end v p f k c s (Taken e t) q h = take-end L text n v p e f k c (s e t q) (isAt text e endLine) refl (eqb (e + 9) (length text)) refl h
+    by-end v p f k c s (Read e t) q h = take-end L text n v p e f k c (s e t q) (isAt text e lastLine) refl (eqb (e + 9) (length text)) refl h
 
-    by-count : isAt text 0 planLine ≡ true → (c : Count) → countAt text 7 agentsKey (L .drones) ≡ c → agentsOf L text c .answer ≡ Plan n → TextTaken L text n (agentsOf L text c)
+    by-count : isAt text 0 firstLine ≡ true → (c : Count) → countAt text 7 agentsKey (L .drones) ≡ c → agentsOf L text c .answer ≡ WellFormed n → TextTaken L text n (agentsOf L text c)
     by-count k (NoCount r) c h = absurd (let z : _≡_ {A = ℕ} 0 1 = cc h in omega arith)
     by-count k (Is v p) c h = by-end v p (dronesAt L v text p [] 0) k c (λ e t q. drones-taken L v text p [] 0 e t q) (dronesAt L v text p [] 0 .answer) refl h
 
-    by-key : (b : Bool) → isAt text 0 planLine ≡ b → cond b (agentsOf L text (countAt text 7 agentsKey (L .drones))) (nothing (NoPlan (Form 0))) .answer ≡ Plan n
-        → TextTaken L text n (cond b (agentsOf L text (countAt text 7 agentsKey (L .drones))) (nothing (NoPlan (Form 0))))
+    by-key : (b : Bool) → isAt text 0 firstLine ≡ b → cond b (agentsOf L text (countAt text 7 agentsKey (L .drones))) (nothing (NotWellFormed (Form 0))) .answer ≡ WellFormed n
+        → TextTaken L text n (cond b (agentsOf L text (countAt text 7 agentsKey (L .drones))) (nothing (NotWellFormed (Form 0))))
     by-key true k h = by-count k (countAt text 7 agentsKey (L .drones)) refl h
     by-key false k h = absurd (let z : _≡_ {A = ℕ} 0 1 = cc h in omega arith)
-
--- a text that is taken is short enough, and its lines were taken
-pub taken-within : (L : Limits) (text : List ℕ) (n : ℕ) → answerOf L text ≡ Plan n → (length text ≤ L .text) × (linesAt L text .answer ≡ Plan n)
-unfolding answerOf
-taken-within L text n h = by-test (ltb (L .text) (length text)) refl h
-  where
-    by-test : (b : Bool) → ltb (L .text) (length text) ≡ b → cond b (NoPlan (Long (L .text))) (linesAt L text .answer) ≡ Plan n → (length text ≤ L .text) × (linesAt L text .answer ≡ Plan n)
-    by-test true e h = absurd (let z : _≡_ {A = ℕ} 0 1 = cc h in omega arith)
-    by-test false e h = (ltb-false _ _ e, h)

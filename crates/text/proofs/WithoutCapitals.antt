@@ -6,12 +6,12 @@ use Rattle.tables.specs.Limits.{Limits, limits}
 use Rattle.lines.specs.Names.{smallForm, lineEnd, part, goodName, textName, namedAt, nameAt}
 use Rattle.lines.proofs.Letters.{text-name}
 use Rattle.lines.proofs.SmallReads.{part-small}
-use Rattle.text.specs.Claims.{ReadAlike, RoundTrip, WithoutCapitals}
+use Rattle.text.specs.Claims.{LinesAlike, RoundTrip, WithoutCapitals}
 use Rattle.text.proofs.TakenIsWritten.{text-taken}
 use Rattle.text.proofs.SmallTexts.{lines-alike}
 use Rattle.text.proofs.RoundTrips.{limits-round-trip}
 
-pub read-alike : (L : Limits) → ReadAlike L
+pub read-alike : (L : Limits) → LinesAlike L
 read-alike L text = lines-alike L text
 
 part-own : (text : List ℕ) (s e : ℕ) → smallForm text ≡ text → smallForm (part text s e) ≡ part text s e
@@ -28,7 +28,7 @@ pub without-capitals : (L : Limits) → RoundTrip L → WithoutCapitals L
 without-capitals L trip = record {
   names-judged = name-plain L;
   names-stored = part-own;
-  taken-is-written = λ text n e h. let t = text-taken L text n h in (t .routes, t .many, t .valid, t .read, sym e ∙ t .written);
+  well-formed-is-written = λ text n e h. let t = text-taken L text n h in (t .routes, t .many, t .valid, t .read, sym e ∙ t .written);
   one-text = λ a b n e f h q. sym e ∙ trip .one-text a b n h q ∙ f;
 }
 

@@ -9,7 +9,7 @@ use lib.Seq.{sets, sets-eq, take-take, take-nil}
 use borrow.Author.Tests.{lt-ltb, le-ltb}
 use Rattle.below.specs.Below.{sumBelow, at as entry}
 use Rattle.tables.specs.Limits.{Limits}
-use Rattle.lines.specs.Keys.{planLine, agentsKey, endLine}
+use Rattle.lines.specs.Keys.{firstLine, agentsKey, lastLine}
 use Rattle.lines.specs.Bytes.{Put}
 use Rattle.lines.specs.Stops.{countLine}
 use Rattle.lines.proofs.WriteLaws.{put-put}
@@ -38,8 +38,8 @@ lines-taken (r ∷ rows) (suc n) (m ∷ counts) ls ts =
     rw (sum-front n m counts, take-take m (m + s) ls b, take-take m (m + s) ts b, drop-take m s ls, drop-take m s ts, lines-taken rows n counts (drop m ls) (drop m ts))
 
 -- the pieces of the text, written one after another
-pub text-put : (L : Limits) (n : ℕ) (names counts ls ts : List ℕ) {b b₁ b₂ b₃ b′ : List ℕ} {n₁ n₂ n₃ r : ℕ} → Put b 0 planLine b₁ n₁ → Put b₁ n₁ (countLine agentsKey n) b₂ n₂
-    → Put b₂ n₂ (droneLines (rowsIn L n names) (take n counts) ls ts) b₃ n₃ → Put b₃ n₃ endLine b′ r → Put b 0 (tablesText L n names counts ls ts) b′ r
+pub text-put : (L : Limits) (n : ℕ) (names counts ls ts : List ℕ) {b b₁ b₂ b₃ b′ : List ℕ} {n₁ n₂ n₃ r : ℕ} → Put b 0 firstLine b₁ n₁ → Put b₁ n₁ (countLine agentsKey n) b₂ n₂
+    → Put b₂ n₂ (droneLines (rowsIn L n names) (take n counts) ls ts) b₃ n₃ → Put b₃ n₃ lastLine b′ r → Put b 0 (tablesText L n names counts ls ts) b′ r
 unfolding tablesText
 text-put L n names counts ls ts head agents drones end = rw (lines-taken (rowsIn L n names) n counts ls ts) (put-put (put-put (put-put head agents) drones) end)
 

@@ -11,23 +11,23 @@ use lib.Seq.{take-length}
 use Rattle.tables.specs.Limits.{Limits}
 use Rattle.lines.specs.Bytes.{isAt}
 use Rattle.lines.specs.Numbers.{SevenDigits}
-use Rattle.lines.specs.Keys.{stopsKey, planLine, agentsKey, endLine}
-use Rattle.lines.specs.Stops.{stopLines, countAt, countLine, InRange}
+use Rattle.lines.specs.Keys.{stopsKey, firstLine, agentsKey, lastLine}
+use Rattle.lines.specs.Stops.{stopLines, countAt, countLine, StopsInRange}
 use Rattle.lines.specs.Names.{smallForm, goodName, nameLine, rowOf}
 use Rattle.lines.proofs.ByteLaws.{stands-parts, part-at}
 use Rattle.lines.proofs.StopRoundTrip.{stops-back, count-back}
 use Rattle.lines.proofs.Letters.{text-name}
 use Rattle.lines.proofs.NameRoundTrip.{name-back}
-use Rattle.text.specs.Reading.{stopsRead, droneAt, elem, dronesAt, linesAt}
-use Rattle.text.specs.Written.{Route, routeLine, routeLines, routesText, smallNames, rowsOf, countsOf, locationsOf, timesOf, foundOf, ValidFrom, Valid}
+use Rattle.text.specs.LinesRead.{stopsRead, droneAt, elem, dronesAt, linesAt}
+use Rattle.text.specs.Written.{Route, routeLine, routeLines, routesText, smallNames, rowsOf, countsOf, locationsOf, timesOf, linesOf, InLimitsFrom, InLimits}
 use Rattle.text.proofs.Capitals.{names-many}
 use Rattle.text.proofs.DroneCases.{stops-in, drone-in}
 use Rattle.lines.specs.declared.stops.Count.the-variants.{Is}
-use Rattle.text.specs.declared.reader.DroneLines.the-variants.{Taken}
+use Rattle.text.specs.declared.reader.DroneLines.the-variants.{Read}
 
 -- the stops of one drone
-stops-read-back : (L : Limits) (ls ts text : List ℕ) (at total : ℕ) → SevenDigits L → 1 ≤ length ls → total + length ls ≤ L .stops → InRange L ls ts → isAt text at (countLine stopsKey (length ls) ++ stopLines ls ts) ≡ true
-    → stopsRead L text at total ≡ record { rows = []; counts = length ls ∷ []; locations = ls; times = ts; answer = Taken (at + length (countLine stopsKey (length ls) ++ stopLines ls ts)) (total + length ls) }
+stops-read-back : (L : Limits) (ls ts text : List ℕ) (at total : ℕ) → SevenDigits L → 1 ≤ length ls → total + length ls ≤ L .stops → StopsInRange L ls ts → isAt text at (countLine stopsKey (length ls) ++ stopLines ls ts) ≡ true
+    → stopsRead L text at total ≡ record { rows = []; counts = length ls ∷ []; locations = ls; times = ts; answer = Read (at + length (countLine stopsKey (length ls) ++ stopLines ls ts)) (total + length ls) }
 stops-read-back L ls ts text at total u a b r h =
     let w = stands-parts text at (countLine stopsKey (length ls)) (stopLines ls ts) h in
     let c = count-back text at stopsKey (L .stops) (length ls) a (omega arith) (omega (arith, u .stops)) (w .0) in
@@ -37,13 +37,13 @@ stops-read-back L ls ts text at total u a b r h =
 
 -- one drone
 drone-back : (L : Limits) (d : Route) (text : List ℕ) (at total : ℕ) (taken : List ℕ → Bool) → SevenDigits L → goodName L (smallForm (d .name)) ≡ true → taken (rowOf L (smallForm (d .name))) ≡ false → 1 ≤ length (d .locations)
-    → total + length (d .locations) ≤ L .stops → InRange L (d .locations) (d .times) → isAt text at (routeLine d) ≡ true
+    → total + length (d .locations) ≤ L .stops → StopsInRange L (d .locations) (d .times) → isAt text at (routeLine d) ≡ true
     → droneAt L text at total taken ≡ record {
       rows = rowOf L (smallForm (d .name)) ∷ [];
       counts = length (d .locations) ∷ [];
       locations = d .locations;
       times = d .times;
-      answer = Taken (at + length (routeLine d)) (total + length (d .locations));
+      answer = Read (at + length (routeLine d)) (total + length (d .locations));
     }
 drone-back L d text at total taken u g f a b r h =
     let rest : List ℕ = countLine stopsKey (length (d .locations)) ++ stopLines (d .locations) (d .times) in
@@ -59,9 +59,9 @@ abbrev totalOf : ℕ → List Route → ℕ
 totalOf total [] = total
 totalOf total (d ∷ ds) = totalOf (total + length (d .locations)) ds
 
-drones-back : (L : Limits) (ds : List Route) (text : List ℕ) (at : ℕ) (earlier : List (List ℕ)) (total : ℕ) → SevenDigits L → ValidFrom L earlier total (smallNames ds) → isAt text at (routeLines ds) ≡ true
+drones-back : (L : Limits) (ds : List Route) (text : List ℕ) (at : ℕ) (earlier : List (List ℕ)) (total : ℕ) → SevenDigits L → InLimitsFrom L earlier total (smallNames ds) → isAt text at (routeLines ds) ≡ true
     → dronesAt L (length ds) text at earlier total
-    ≡ record { rows = rowsOf L (smallNames ds); counts = countsOf (smallNames ds); locations = locationsOf (smallNames ds); times = timesOf (smallNames ds); answer = Taken (at + length (routeLines ds)) (totalOf total ds) }
+    ≡ record { rows = rowsOf L (smallNames ds); counts = countsOf (smallNames ds); locations = locationsOf (smallNames ds); times = timesOf (smallNames ds); answer = Read (at + length (routeLines ds)) (totalOf total ds) }
 unfolding dronesAt routeLines
 drones-back L [] text at earlier total u v h = rw add-zero
 drones-back L (d ∷ ds) text at earlier total u v h =
@@ -71,9 +71,9 @@ drones-back L (d ∷ ds) text at earlier total u v h =
     let m : at + length (routeLine d) + length (routeLines ds) ≡ at + length (routeLine d ++ routeLines ds) = simp length-append (omega arith) in
     rw (f, g, m)
 
-lines-back : (L : Limits) (ds : List Route) (text C : List ℕ) → SevenDigits L → C ≡ countLine agentsKey (length ds) → Valid L (smallNames ds) → isAt text 0 planLine ≡ true → isAt text 7 C ≡ true
-    → isAt text (7 + length C) (routeLines ds) ≡ true → isAt text (7 + length C + length (routeLines ds)) endLine ≡ true → 7 + length C + length (routeLines ds) + 9 ≡ length text
-    → linesAt L text ≡ foundOf L (smallNames ds)
+lines-back : (L : Limits) (ds : List Route) (text C : List ℕ) → SevenDigits L → C ≡ countLine agentsKey (length ds) → InLimits L (smallNames ds) → isAt text 0 firstLine ≡ true → isAt text 7 C ≡ true
+    → isAt text (7 + length C) (routeLines ds) ≡ true → isAt text (7 + length C + length (routeLines ds)) lastLine ≡ true → 7 + length C + length (routeLines ds) + 9 ≡ length text
+    → linesAt L text ≡ linesOf L (smallNames ds)
 unfolding linesAt
 lines-back L ds text C u q v k c r e l =
     let m = names-many ds in
@@ -84,17 +84,17 @@ lines-back L ds text C u q v k c r e l =
     rw (k, n, g, e, eq-eqb _ _ l, m)
 
 -- the law: the text is read back as the plan with its names in small letters
-pub written-read-back : (L : Limits) → SevenDigits L → (ds : List Route) → Valid L (smallNames ds) → linesAt L (routesText ds) ≡ foundOf L (smallNames ds)
+pub written-read-back : (L : Limits) → SevenDigits L → (ds : List Route) → InLimits L (smallNames ds) → linesAt L (routesText ds) ≡ linesOf L (smallNames ds)
 written-read-back L u ds v = go (routesText ds) (countLine agentsKey (length ds)) refl refl
   where
-    go : (text C : List ℕ) → text ≡ planLine ++ C ++ routeLines ds ++ endLine → C ≡ countLine agentsKey (length ds) → linesAt L text ≡ foundOf L (smallNames ds)
+    go : (text C : List ℕ) → text ≡ firstLine ++ C ++ routeLines ds ++ lastLine → C ≡ countLine agentsKey (length ds) → linesAt L text ≡ linesOf L (smallNames ds)
     go text C t q =
         let i : isAt text 0 text ≡ true = rw take-length at (part-at text 0 (length text) (omega arith)) in
-        let j : isAt text 0 (planLine ++ C ++ routeLines ds ++ endLine) ≡ true = ap (isAt text 0) (sym t) ∙ i in
-        let w = stands-parts text 0 (planLine ++ C ++ routeLines ds) endLine j in
-        let y = stands-parts text 0 (planLine ++ C) (routeLines ds) (w .0) in
-        let k = stands-parts text 0 planLine C (y .0) in
-        let m : 0 + length (planLine ++ C) ≡ 7 + length C = simp length-append (omega arith) in
-        let o : 0 + length (planLine ++ C ++ routeLines ds) ≡ 7 + length C + length (routeLines ds) = simp length-append (omega arith) in
+        let j : isAt text 0 (firstLine ++ C ++ routeLines ds ++ lastLine) ≡ true = ap (isAt text 0) (sym t) ∙ i in
+        let w = stands-parts text 0 (firstLine ++ C ++ routeLines ds) lastLine j in
+        let y = stands-parts text 0 (firstLine ++ C) (routeLines ds) (w .0) in
+        let k = stands-parts text 0 firstLine C (y .0) in
+        let m : 0 + length (firstLine ++ C) ≡ 7 + length C = simp length-append (omega arith) in
+        let o : 0 + length (firstLine ++ C ++ routeLines ds) ≡ 7 + length C + length (routeLines ds) = simp length-append (omega arith) in
         let l : 7 + length C + length (routeLines ds) + 9 ≡ length text = rw t (simp length-append (omega arith)) in
         lines-back L ds text C u q v (k .0) (k .1) (rw m at (y .1)) (rw o at (w .1)) l

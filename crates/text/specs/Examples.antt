@@ -7,31 +7,31 @@ use mathlib.Core.List.{List, [], _∷_}
 use lib.Dec.{eqb}
 use Rattle.tables.specs.Limits.{limits}
 use Rattle.lines.specs.Refusals.{refusalNumber, refusalOffset}
-use Rattle.text.specs.declared.reader.Answer.{Answer}
-use Rattle.text.specs.declared.reader.Answer.the-variants.{Taken as Plan, Refused as NoPlan}
-use Rattle.text.specs.TextRead.{answerOf}
+use Rattle.text.specs.declared.reader.LinesAnswer.{LinesAnswer}
+use Rattle.text.specs.declared.reader.LinesAnswer.the-variants.{WellFormed, Refused as NotWellFormed}
+use Rattle.text.specs.LinesRead.{linesAt}
 
 -- the bytes of an ASCII text
 abbrev pub bytes : String → List ℕ
 bytes empty = []
 bytes (c before s) = code c ∷ bytes s
 
--- a text, the refusal's number (0 where it is taken), and its offset (where it is taken, how many drones the plan has)
+-- a text, the refusal's number (0 where its lines are well-formed), and its offset (where they are, how many drones the plan has)
 pub record Example : Type 0 where
   pub text : String
-  pub number : ℕ
+  pub refusal : ℕ
   pub value : ℕ
 
-abbrev pub numberOf : Answer → ℕ
-numberOf (Plan n) = 0
-numberOf (NoPlan r) = refusalNumber r
+abbrev pub numberOf : LinesAnswer → ℕ
+numberOf (WellFormed n) = 0
+numberOf (NotWellFormed r) = refusalNumber r
 
-abbrev pub valueOf : Answer → ℕ
-valueOf (Plan n) = n
-valueOf (NoPlan r) = refusalOffset r
+abbrev pub valueOf : LinesAnswer → ℕ
+valueOf (WellFormed n) = n
+valueOf (NotWellFormed r) = refusalOffset r
 
 abbrev pub holds : Example → Bool
-holds e = let a = answerOf limits (bytes (e .text)) in eqb (numberOf a) (e .number) && eqb (valueOf a) (e .value)
+holds e = let a = linesAt limits (bytes (e .text)) .answer in eqb (numberOf a) (e .refusal) && eqb (valueOf a) (e .value)
 
 abbrev pub allHold : List Example → Bool
 allHold [] = true
@@ -44,42 +44,42 @@ single name stop = "plan=1\nagents=1\nname=" then (name then ("\nstops=1\ngo=" t
 abbrev pub examples : List Example
 examples =
     -- flight Q
-    record { text = "plan=1\nagents=2\nname=survey-quad-east-1\nstops=4\ngo=1@0\ngo=6@1\ngo=5@2\ngo=2@3\nname=survey-quad-east-2\nstops=3\ngo=3@0\ngo=5@4\ngo=4@5\nend=plan\n"; number = 0; value = 2 }
+    record { text = "plan=1\nagents=2\nname=survey-quad-east-1\nstops=4\ngo=1@0\ngo=6@1\ngo=5@2\ngo=2@3\nname=survey-quad-east-2\nstops=3\ngo=3@0\ngo=5@4\ngo=4@5\nend=plan\n"; refusal = 0; value = 2 }
     -- "Empty text: 2 at offset 0."
-    ∷ record { text = ""; number = 2; value = 0 }
+    ∷ record { text = ""; refusal = 2; value = 0 }
     -- a capital, and a key without its `=`
-    ∷ record { text = "Plan=1\n"; number = 2; value = 0 }
-    ∷ record { text = "plan=1\nagents2\n"; number = 2; value = 7 }
+    ∷ record { text = "WellFormed=1\n"; refusal = 2; value = 0 }
+    ∷ record { text = "plan=1\nagents2\n"; refusal = 2; value = 7 }
     -- "33 give 4"
-    ∷ record { text = "plan=1\nagents=33\n"; number = 4; value = 7 }
+    ∷ record { text = "plan=1\nagents=33\n"; refusal = 4; value = 7 }
     -- a line that is absent, at the text's length
-    ∷ record { text = "plan=1\nagents=32\n"; number = 2; value = 17 }
+    ∷ record { text = "plan=1\nagents=32\n"; refusal = 2; value = 17 }
     -- "Name of 24 bytes taken, 25 gives 3."
-    ∷ record { text = single "abcdefghijklmnopqrstuvwx" "0@0"; number = 0; value = 1 }
-    ∷ record { text = single "abcdefghijklmnopqrstuvwxy" "0@0"; number = 3; value = 16 }
-    ∷ record { text = single "" "0@0"; number = 3; value = 16 }
+    ∷ record { text = single "abcdefghijklmnopqrstuvwx" "0@0"; refusal = 0; value = 1 }
+    ∷ record { text = single "abcdefghijklmnopqrstuvwxy" "0@0"; refusal = 3; value = 16 }
+    ∷ record { text = single "" "0@0"; refusal = 3; value = 16 }
     -- capitals in a name, and bytes beside them; a key with a capital
-    ∷ record { text = single "ABCDEFGHIJKLMNOPQRSTUVWX" "0@0"; number = 0; value = 1 }
-    ∷ record { text = single "AZ@" "0@0"; number = 3; value = 16 }
-    ∷ record { text = single "AZ[" "0@0"; number = 3; value = 16 }
-    ∷ record { text = "plan=1\nagents=1\nName=a\nstops=1\ngo=0@0\nend=plan\n"; number = 2; value = 16 }
+    ∷ record { text = single "ABCDEFGHIJKLMNOPQRSTUVWX" "0@0"; refusal = 0; value = 1 }
+    ∷ record { text = single "AZ@" "0@0"; refusal = 3; value = 16 }
+    ∷ record { text = single "AZ[" "0@0"; refusal = 3; value = 16 }
+    ∷ record { text = "plan=1\nagents=1\nName=a\nstops=1\ngo=0@0\nend=plan\n"; refusal = 2; value = 16 }
     -- "Location 65,536: 4. Time 1,000,000 taken."
-    ∷ record { text = single "a" "65536@0"; number = 4; value = 31 }
-    ∷ record { text = single "a" "65535@1000000"; number = 0; value = 1 }
-    ∷ record { text = single "a" "0@1000001"; number = 4; value = 31 }
+    ∷ record { text = single "a" "65536@0"; refusal = 4; value = 31 }
+    ∷ record { text = "plan=1\nagents=1\nname=a\nstops=2\ngo=0@0\ngo=65535@1000000\nend=plan\n"; refusal = 0; value = 1 }
+    ∷ record { text = single "a" "0@1000001"; refusal = 4; value = 31 }
     -- the form of both numbers comes before the range of either; a leading zero is no number
-    ∷ record { text = single "a" "65536@01"; number = 2; value = 31 }
-    ∷ record { text = single "a" "01@0"; number = 2; value = 31 }
-    ∷ record { text = single "a" "0@12345678"; number = 2; value = 31 }
+    ∷ record { text = single "a" "65536@01"; refusal = 2; value = 31 }
+    ∷ record { text = single "a" "01@0"; refusal = 2; value = 31 }
+    ∷ record { text = single "a" "0@12345678"; refusal = 2; value = 31 }
     -- a line after the last
-    ∷ record { text = single "a" "0@0" then "\n"; number = 2; value = 47 }
+    ∷ record { text = single "a" "0@0" then "\n"; refusal = 2; value = 47 }
     -- a name equal to an earlier one, and one that differs only at its end
-    ∷ record { text = "plan=1\nagents=2\nname=survey-quad-east-1\nstops=1\ngo=1@0\nname=survey-quad-east-1\nstops=1\ngo=2@0\nend=plan\n"; number = 5; value = 55 }
-    ∷ record { text = "plan=1\nagents=2\nname=survey-quad-east-1\nstops=1\ngo=1@0\nname=survey-quad-east-10\nstops=1\ngo=2@0\nend=plan\n"; number = 0; value = 2 }
+    ∷ record { text = "plan=1\nagents=2\nname=survey-quad-east-1\nstops=1\ngo=1@0\nname=survey-quad-east-1\nstops=1\ngo=2@0\nend=plan\n"; refusal = 5; value = 55 }
+    ∷ record { text = "plan=1\nagents=2\nname=survey-quad-east-1\nstops=1\ngo=1@0\nname=survey-quad-east-10\nstops=1\ngo=2@0\nend=plan\n"; refusal = 0; value = 2 }
     -- names that are equal but for capitals, the first's in three places, the second's in the eighteenth byte alone
-    ∷ record { text = "plan=1\nagents=2\nname=Survey-Quad-East-1\nstops=1\ngo=1@0\nname=survey-quad-east-1\nstops=1\ngo=2@0\nend=plan\n"; number = 5; value = 55 }
-    ∷ record { text = "plan=1\nagents=2\nname=survey-quad-east-a\nstops=1\ngo=1@0\nname=survey-quad-east-A\nstops=1\ngo=2@0\nend=plan\n"; number = 5; value = 55 }
+    ∷ record { text = "plan=1\nagents=2\nname=Survey-Quad-East-1\nstops=1\ngo=1@0\nname=survey-quad-east-1\nstops=1\ngo=2@0\nend=plan\n"; refusal = 5; value = 55 }
+    ∷ record { text = "plan=1\nagents=2\nname=survey-quad-east-a\nstops=1\ngo=1@0\nname=survey-quad-east-A\nstops=1\ngo=2@0\nend=plan\n"; refusal = 5; value = 55 }
     -- "stops of all drones: at most 1,024"
-    ∷ record { text = "plan=1\nagents=2\nname=a\nstops=1\ngo=1@0\nname=b\nstops=1024\n"; number = 6; value = 45 }
-    ∷ record { text = "plan=1\nagents=2\nname=a\nstops=1025\n"; number = 4; value = 23 }
+    ∷ record { text = "plan=1\nagents=2\nname=a\nstops=1\ngo=1@0\nname=b\nstops=1024\n"; refusal = 6; value = 45 }
+    ∷ record { text = "plan=1\nagents=2\nname=a\nstops=1025\n"; refusal = 4; value = 23 }
     ∷ []

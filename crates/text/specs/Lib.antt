@@ -1,4 +1,4 @@
-pub mod Reading
+pub mod LinesRead
 pub mod Names
 pub mod TextRead
 pub mod Written

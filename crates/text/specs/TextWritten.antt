@@ -9,11 +9,8 @@ use Rattle.below.specs.Below.{sumBelow, at as entry}
 use Rattle.tables.specs.Limits.{Limits}
 use Rattle.lines.specs.Keys.{stopsKey}
 use Rattle.lines.specs.Stops.{countLine, stopLines}
-use Rattle.lines.specs.Names.{smallForm, nameLine, nameOf}
-use Rattle.text.specs.Reading.{linesAt, flat}
-use Rattle.text.specs.TextRead.{answerOf, tableAfter}
+use Rattle.lines.specs.Names.{nameLine, nameOf}
 use Rattle.text.specs.Written.{planText}
-use Rattle.text.specs.declared.reader.Answer.the-variants.{Taken as Plan}
 use Rattle.text.specs.declared.writer.WriteAnswer.{WriteAnswer}
 use Rattle.text.specs.declared.writer.WriteAnswer.the-variants.{Length, Short}
 
@@ -57,24 +54,6 @@ writeAnswer buffer text = cond (isShort buffer text) Short (Length (length text)
 unfoldable pub bufferAfter : List ℕ → List ℕ → List ℕ
 bufferAfter buffer text = cond (isShort buffer text) buffer (text ++ drop (length text) buffer)
 
--- document 01's number of the answer, 0 for none
-abbrev pub writeNumber : WriteAnswer → ℕ
-writeNumber (Length n) = 0
-writeNumber Short = 42
-
 pub record TextWritten (text before after : List ℕ) (r : WriteAnswer) : Type 0 where
   pub answer-is : r ≡ writeAnswer before text
   pub buffer-is : after ≡ bufferAfter before text
-
--- ---- the claim: tables of full size that reading fills, whatever they held before, are written as the small form of the text that was read
-
-abbrev pub WrittenBack : Limits → Type 0
-WrittenBack L =
-    (text : List ℕ) (n : ℕ) (names counts locations times : List ℕ) → answerOf L text ≡ Plan n
-    → L .drones * L .name ≤ length names → L .drones ≤ length counts → L .stops ≤ length locations → L .stops ≤ length times
-    → tablesText L n
-    (tableAfter L text (L .drones * L .name) (flat (linesAt L text .rows)) names)
-    (tableAfter L text (L .drones) (linesAt L text .counts) counts)
-    (tableAfter L text (L .stops) (linesAt L text .locations) locations)
-    (tableAfter L text (L .stops) (linesAt L text .times) times)
-    ≡ smallForm text

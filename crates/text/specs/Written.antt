@@ -5,12 +5,12 @@ use mathlib.Core.List.{List, [], _∷_, _++_}
 use mathlib.Core.Bool.{true, false}
 use lib.ListN.{length, take, drop}
 use Rattle.tables.specs.Limits.{Limits}
-use Rattle.lines.specs.Keys.{planLine, agentsKey, stopsKey, endLine}
-use Rattle.lines.specs.Stops.{countLine, stopLines, InRange}
+use Rattle.lines.specs.Keys.{firstLine, agentsKey, stopsKey, lastLine}
+use Rattle.lines.specs.Stops.{countLine, stopLines, StopsInRange}
 use Rattle.lines.specs.Names.{smallForm, nameLine, goodName, rowOf, nameOf}
-use Rattle.text.specs.declared.reader.Answer.{Answer}
-use Rattle.text.specs.declared.reader.Answer.the-variants.{Taken as Plan}
-use Rattle.text.specs.Reading.{Found, elem}
+use Rattle.text.specs.declared.reader.LinesAnswer.{LinesAnswer}
+use Rattle.text.specs.declared.reader.LinesAnswer.the-variants.{WellFormed}
+use Rattle.text.specs.LinesRead.{LinesRead, elem}
 
 -- ---- from what the tables hold
 
@@ -22,7 +22,7 @@ droneLines (r ∷ rs) (m ∷ ms) ls ts = (nameLine (nameOf r) ++ (countLine stop
 
 -- "in this order: `plan=1`; `agents=N`; for each drone `name=TEXT`, `stops=M`, then M lines `go=LOCATION@TIME`; last `end=plan`"
 abbrev pub planText : ℕ → List (List ℕ) → List ℕ → List ℕ → List ℕ → List ℕ
-planText n rows counts locations times = planLine ++ countLine agentsKey n ++ droneLines rows counts locations times ++ endLine
+planText n rows counts locations times = firstLine ++ countLine agentsKey n ++ droneLines rows counts locations times ++ lastLine
 
 -- ---- a plan by drones
 
@@ -39,7 +39,7 @@ routeLines [] = []
 routeLines (d ∷ ds) = routeLine d ++ routeLines ds
 
 abbrev pub routesText : List Route → List ℕ
-routesText ds = planLine ++ countLine agentsKey (length ds) ++ routeLines ds ++ endLine
+routesText ds = firstLine ++ countLine agentsKey (length ds) ++ routeLines ds ++ lastLine
 
 -- the plan with its names in small letters
 abbrev pub smallNamed : Route → Route
@@ -67,17 +67,17 @@ timesOf [] = []
 timesOf (d ∷ ds) = d .times ++ timesOf ds
 
 -- what reading gives of it
-abbrev pub foundOf : Limits → List Route → Found Answer
-foundOf L ds = record { rows = rowsOf L ds; counts = countsOf ds; locations = locationsOf ds; times = timesOf ds; answer = Plan (length ds) }
+abbrev pub linesOf : Limits → List Route → LinesRead LinesAnswer
+linesOf L ds = record { rows = rowsOf L ds; counts = countsOf ds; locations = locationsOf ds; times = timesOf ds; answer = WellFormed (length ds) }
 
--- ---- valid plans: document 01's ranges
+-- ---- plans within the limits: document 01's ranges
 
 -- good names that differ from the earlier ones, at least one stop each, with the earlier ones at most the limit for all drones, stops in range
-abbrev pub ValidFrom : Limits → List (List ℕ) → ℕ → List Route → Type 0
-ValidFrom L earlier total [] = Unit {0}
-ValidFrom L earlier total (d ∷ ds) =
-    (goodName L (d .name) ≡ true) × (elem earlier (rowOf L (d .name)) ≡ false) × (1 ≤ length (d .locations)) × (total + length (d .locations) ≤ L .stops) × InRange L (d .locations) (d .times)
-    × ValidFrom L (earlier ++ rowOf L (d .name) ∷ []) (total + length (d .locations)) ds
+abbrev pub InLimitsFrom : Limits → List (List ℕ) → ℕ → List Route → Type 0
+InLimitsFrom L earlier total [] = Unit {0}
+InLimitsFrom L earlier total (d ∷ ds) =
+    (goodName L (d .name) ≡ true) × (elem earlier (rowOf L (d .name)) ≡ false) × (1 ≤ length (d .locations)) × (total + length (d .locations) ≤ L .stops) × StopsInRange L (d .locations) (d .times)
+    × InLimitsFrom L (earlier ++ rowOf L (d .name) ∷ []) (total + length (d .locations)) ds
 
-abbrev pub Valid : Limits → List Route → Type 0
-Valid L ds = (1 ≤ length ds) × (length ds ≤ L .drones) × ValidFrom L [] 0 ds
+abbrev pub InLimits : Limits → List Route → Type 0
+InLimits L ds = (1 ≤ length ds) × (length ds ≤ L .drones) × InLimitsFrom L [] 0 ds

@@ -9,7 +9,6 @@ use lines::stops::Count;
 use lines::stops::GoLines;
 use tables::entries::Drone;
 use tables::entries::Stop;
-use tables::entries::Text;
 use tables::zeroing;
 ghost use mathlib.Core.Path.{_≡_};
 ghost use Prim.Native.Nat.{_*_, _<_, _≤_};
@@ -17,17 +16,17 @@ ghost use lib.ListN.{length};
 ghost use mathlib.Core.List.{[]};
 ghost use Rattle.tables.specs.Limits.{limits};
 ghost use Rattle.lines.specs.Names.{among};
-ghost use Rattle.text.specs.Reading.{stopsRead, StopsStored, droneAt, dronesAt, Stored, linesAt};
-ghost use Rattle.text.specs.TextRead.{Zeroed, TextRead};
+ghost use Rattle.text.specs.LinesRead.{stopsRead, StopsStored, droneAt, dronesAt, LinesStored, linesAt};
+ghost use Rattle.text.specs.TextRead.{TablesZeroed, TextRead};
 
 // What the lines of drones gave: the position after them and the stops so far, or a refusal.
 pub enum DroneLines {
-    Taken { next: usize, total: usize },
+    Read { next: usize, total: usize },
     Refused(Refusal),
 }
 
 // The lines `stops=` and `go=` of a drone.
-pub fn read_stops(
+fn read_stops(
     text: &[u8],
     at: usize,
     drone: usize,
@@ -46,13 +45,13 @@ pub fn read_stops(
         Count::Refused(refusal) => DroneLines::Refused(refusal),
         Count::Is { value, next } => {
             if Stop::FULL - total < value {
-                return DroneLines::Refused(Refusal::Total(at));
+                return DroneLines::Refused(Refusal::TooManyStops(at));
             }
             counts[drone] = value as u16;
             let stops = stops::go_lines(text, next, value, total, locations, times);
             match stops {
                 GoLines::Refused(refusal) => DroneLines::Refused(refusal),
-                GoLines::Taken { next: after } => DroneLines::Taken {
+                GoLines::Read { next: after } => DroneLines::Read {
                     next: after,
                     total: total + value,
                 },
@@ -62,7 +61,7 @@ pub fn read_stops(
 }
 
 // The lines of one drone: its name, and its stops.
-pub fn read_drone(
+fn read_drone(
     text: &[u8],
     at: usize,
     drone: usize,
@@ -73,7 +72,7 @@ pub fn read_drone(
     times: &mut [u32],
 ) -> DroneLines
     requires { ⌜ (drone < limits .drones) × (total ≤ limits .stops) × (limits .drones * limits .name ≤ length (now names)) × (limits .drones ≤ length (now counts)) × (limits .stops ≤ length (now locations)) × (limits .stops ≤ length (now times)) ⌝ }
-    ensures { λ r. ⌜ Stored limits (droneAt limits (now (text .entry)) at total (among limits drone (now (names .entry)) 0)) drone total
+    ensures { λ r. ⌜ LinesStored limits (droneAt limits (now (text .entry)) at total (among limits drone (now (names .entry)) 0)) drone total
         (now (names .entry)) (now (counts .entry)) (now (locations .entry)) (now (times .entry))
         (now (names .exit)) (now (counts .exit)) (now (locations .exit)) (now (times .exit)) r ⌝ }
 {
@@ -84,7 +83,7 @@ pub fn read_drone(
             let mut row = [0u8; Drone::NAME];
             names::put_small(&mut row, 0, &text[start..end]);
             if names::row_among(names, drone, &row) {
-                return DroneLines::Refused(Refusal::Same(at));
+                return DroneLines::Refused(Refusal::SameName(at));
             }
             bytes::put_bytes(names, drone * Drone::NAME, &row);
             read_stops(text, end + 1, drone, total, counts, locations, times)
@@ -93,7 +92,7 @@ pub fn read_drone(
 }
 
 // The lines of all drones.
-pub fn read_drones(
+fn read_drones(
     text: &[u8],
     at: usize,
     drones: usize,
@@ -103,7 +102,7 @@ pub fn read_drones(
     times: &mut [u32],
 ) -> DroneLines
     requires { ⌜ (drones ≤ limits .drones) × (limits .drones * limits .name ≤ length (now names)) × (limits .drones ≤ length (now counts)) × (limits .stops ≤ length (now locations)) × (limits .stops ≤ length (now times)) ⌝ }
-    ensures { λ r. ⌜ Stored limits (dronesAt limits drones (now (text .entry)) at [] 0) 0 0
+    ensures { λ r. ⌜ LinesStored limits (dronesAt limits drones (now (text .entry)) at [] 0) 0 0
         (now (names .entry)) (now (counts .entry)) (now (locations .entry)) (now (times .entry))
         (now (names .exit)) (now (counts .exit)) (now (locations .exit)) (now (times .exit)) r ⌝ }
 {
@@ -116,57 +115,57 @@ pub fn read_drones(
             DroneLines::Refused(refusal) => {
                 return DroneLines::Refused(refusal);
             }
-            DroneLines::Taken { next, total: sum } => {
+            DroneLines::Read { next, total: sum } => {
                 here = next;
                 total = sum;
             }
         }
         drone += 1;
     }
-    DroneLines::Taken { next: here, total }
+    DroneLines::Read { next: here, total }
 }
 
 // The answer to a text: how many drones the plan has, or why it is refused.
-pub enum Answer {
-    Taken { drones: usize },
+pub enum LinesAnswer {
+    WellFormed { drones: usize },
     Refused(Refusal),
 }
 
 // All lines, stored into the tables.
-pub fn read_lines(
+fn read_lines(
     text: &[u8],
     names: &mut [u8],
     counts: &mut [u16],
     locations: &mut [u16],
     times: &mut [u32],
-) -> Answer
+) -> LinesAnswer
     requires { ⌜ (limits .drones * limits .name ≤ length (now names)) × (limits .drones ≤ length (now counts)) × (limits .stops ≤ length (now locations)) × (limits .stops ≤ length (now times)) ⌝ }
-    ensures { λ r. ⌜ Stored limits (linesAt limits (now (text .entry))) 0 0
+    ensures { λ r. ⌜ LinesStored limits (linesAt limits (now (text .entry))) 0 0
         (now (names .entry)) (now (counts .entry)) (now (locations .entry)) (now (times .entry))
         (now (names .exit)) (now (counts .exit)) (now (locations .exit)) (now (times .exit)) r ⌝ }
 {
     if !bytes::starts(text, 0, &keys::PLAN_LINE) {
-        return Answer::Refused(Refusal::Form(0));
+        return LinesAnswer::Refused(Refusal::Form(0));
     }
     let head = stops::count_line(text, keys::PLAN_LINE.len(), &keys::AGENTS, Drone::FULL);
     match head {
-        Count::Refused(refusal) => Answer::Refused(refusal),
+        Count::Refused(refusal) => LinesAnswer::Refused(refusal),
         Count::Is { value, next } => {
             let body = read_drones(text, next, value, names, counts, locations, times);
             match body {
-                DroneLines::Refused(refusal) => Answer::Refused(refusal),
-                DroneLines::Taken {
+                DroneLines::Refused(refusal) => LinesAnswer::Refused(refusal),
+                DroneLines::Read {
                     next: last,
                     total: _,
                 } => {
                     if !bytes::starts(text, last, &keys::END_LINE) {
-                        return Answer::Refused(Refusal::Form(last));
+                        return LinesAnswer::Refused(Refusal::Form(last));
                     }
                     let end = last + keys::END_LINE.len();
                     if end != text.len() {
-                        return Answer::Refused(Refusal::Form(end));
+                        return LinesAnswer::Refused(Refusal::Form(end));
                     }
-                    Answer::Taken { drones: value }
+                    LinesAnswer::WellFormed { drones: value }
                 }
             }
         }
@@ -181,19 +180,18 @@ pub fn zero_all(
     locations: &mut [u16],
     times: &mut [u32],
 )
-    ensures { λ _. ⌜ Zeroed limits
+    ensures { λ _. ⌜ TablesZeroed limits
         (now (count .entry)) (now (names .entry)) (now (counts .entry)) (now (locations .entry)) (now (times .entry))
         (now (count .exit)) (now (names .exit)) (now (counts .exit)) (now (locations .exit)) (now (times .exit)) ⌝ }
 {
     zeroing::zero_u16(count, 1);
-    zeroing::zero_u8(names, Drone::FULL * Drone::NAME);
+    zeroing::zero_u8(names, Drone::NAMES);
     zeroing::zero_u16(counts, Drone::FULL);
     zeroing::zero_u16(locations, Stop::FULL);
     zeroing::zero_u32(times, Stop::FULL);
 }
 
-// Reads a plan text into the tables: the number of drones, names, counts of stops, locations and times of stops. A text that is too long changes nothing, and without a
-// plan the tables are zero.
+// Reads a plan text into the tables: the number of drones, names, counts of stops, locations and times of stops. After a refusal the tables are zeroed.
 pub fn read_text(
     text: &[u8],
     count: &mut [u16],
@@ -201,25 +199,21 @@ pub fn read_text(
     counts: &mut [u16],
     locations: &mut [u16],
     times: &mut [u32],
-) -> Answer
+) -> LinesAnswer
     requires { ⌜ (1 ≤ length (now count)) × (limits .drones * limits .name ≤ length (now names)) × (limits .drones ≤ length (now counts)) × (limits .stops ≤ length (now locations)) × (limits .stops ≤ length (now times)) ⌝ }
     ensures { λ r. ⌜ TextRead limits (now (text .entry))
         (now (count .entry)) (now (names .entry)) (now (counts .entry)) (now (locations .entry)) (now (times .entry))
         (now (count .exit)) (now (names .exit)) (now (counts .exit)) (now (locations .exit)) (now (times .exit)) r ⌝ }
 {
-    if Text::FULL < text.len() {
-        return Answer::Refused(Refusal::Long(Text::FULL));
-    }
-    zero_all(count, names, counts, locations, times);
     let answer = read_lines(text, names, counts, locations, times);
     match answer {
-        Answer::Taken { drones } => {
+        LinesAnswer::WellFormed { drones } => {
             count[0] = drones as u16;
-            Answer::Taken { drones }
+            LinesAnswer::WellFormed { drones }
         }
-        Answer::Refused(refusal) => {
+        LinesAnswer::Refused(refusal) => {
             zero_all(count, names, counts, locations, times);
-            Answer::Refused(refusal)
+            LinesAnswer::Refused(refusal)
         }
     }
 }

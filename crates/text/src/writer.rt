@@ -17,7 +17,7 @@ ghost use Rattle.text.specs.Written.{droneLines};
 ghost use Rattle.text.specs.TextWritten.{droneText, rowsIn, tablesText, Writable, TextWritten};
 
 // How many bytes of a row stand before its first zero.
-pub fn name_len(names: &[u8], row: usize) -> usize
+fn name_len(names: &[u8], row: usize) -> usize
     requires { ⌜ row + limits .name ≤ length (now names) ⌝ }
     ensures { λ r. ⌜ r ≡ length (nameOf (take (limits .name) (drop row (now (names .entry))))) ⌝ }
 {
@@ -32,7 +32,7 @@ pub fn name_len(names: &[u8], row: usize) -> usize
 }
 
 // Writes the line `name=TEXT` of the name that stands in a row of the table.
-pub fn put_name(buf: &mut [u8], at: usize, names: &[u8], row: usize) -> usize
+fn put_name(buf: &mut [u8], at: usize, names: &[u8], row: usize) -> usize
     requires { ⌜ (at < 2 ^ 31) × (row + limits .name ≤ length (now names)) ⌝ }
     ensures { λ r. ⌜ Put (now (buf .entry)) at (nameLine (nameOf (take (limits .name) (drop row (now (names .entry)))))) (now (buf .exit)) r ⌝ }
 {
@@ -71,7 +71,7 @@ pub fn put_stop_lines(
 }
 
 // Writes the lines of one drone, whose name stands in a row of the table of names.
-pub fn put_drone(
+fn put_drone(
     buf: &mut [u8],
     at: usize,
     names: &[u8],
@@ -91,7 +91,7 @@ pub fn put_drone(
 }
 
 // Writes the lines of the first `drones` drones.
-pub fn put_drones(
+fn put_drones(
     buf: &mut [u8],
     at: usize,
     drones: usize,
@@ -127,7 +127,7 @@ pub fn put_drones(
 }
 
 // Writes the text of the plan that the tables hold, as far as the buffer reaches, and gives the text's length.
-pub fn put_text(
+fn put_text(
     buf: &mut [u8],
     drones: usize,
     names: &[u8],

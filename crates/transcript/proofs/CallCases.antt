@@ -1,22 +1,21 @@
 -- Which case of the definition of a call line holds, by what was read; and what a line that was read says.
-use Prim.Native.Nat.{ℕ, zero, suc, _+_, _≤_, _<_}
-use native.Mathlib.Nat.{not-suc-le-zero}
+use Prim.Native.Nat.{ℕ, _+_, _≤_, _<_}
 use native.Mathlib.Omega.{arith}
-use mathlib.Core.Path.{_≡_, refl, sym, _∙_}
-use mathlib.Core.List.{List, [], _∷_, _++_}
+use mathlib.Core.Path.{_≡_, refl}
+use mathlib.Core.List.{List, [], _∷_}
 use mathlib.Core.Bool.{Bool, true, false, cond}
 use lib.Dec.{leb, ltb, eqb}
 use borrow.Author.Tests.{leb-true, le-leb, lt-leb, ltb-true, ltb-false, eq-eqb, ne-eqb}
 use lib.ListN.{length, length-append}
 use Rattle.lines.specs.Bytes.{isAt}
-use Rattle.lines.specs.Numbers.{fieldAt, digits, digitsOf}
+use Rattle.lines.specs.Numbers.{fieldAt, digitsOf}
 use Rattle.lines.specs.declared.numbers.Number.{Number}
 use Rattle.lines.specs.declared.numbers.Number.the-variants.{Value, Malformed as NoNumber}
 use Rattle.lines.proofs.ByteLaws.{isAt-in, stands-parts}
 use Rattle.lines.proofs.NumberCases.{digits-one, digits-more}
 use Rattle.lines.proofs.NumberRoundTrip.{field-stands}
-use Rattle.transcript.specs.Keys.{keyOf, grantKey, arriveKey, turnKey, costKey}
-use Rattle.transcript.specs.Input.{mostOf, inRange, callAt}
+use Rattle.transcript.specs.Keys.{grantKey, arriveKey, turnKey, costKey}
+use Rattle.transcript.specs.Input.{mostOf, numberedCall, callAt}
 use Rattle.transcript.specs.declared.requests.CallLine.{CallLine}
 use Rattle.transcript.specs.declared.requests.CallLine.the-variants.{Is, Malformed, OutOfRange}
 
@@ -41,35 +40,35 @@ most-small kind = go (eqb kind 3)
 -- ---- the number of a line: no number, out of range, in range
 
 module _ (kind : ℕ) (text : List ℕ) (at : ℕ) (m : Number) (e : m ≡ fieldAt text at 10) where
-  pub range-form : m ≡ NoNumber → Malformed ≡ inRange kind (fieldAt text at 10)
+  pub range-form : m ≡ NoNumber → Malformed ≡ numberedCall kind (fieldAt text at 10)
   range-form k = rw (← e, k)
 
   module _ (n p most : ℕ) (k : m ≡ Value n p) (h : most ≡ mostOf kind) where
-    pub range-far : most < n → OutOfRange ≡ inRange kind (fieldAt text at 10)
+    pub range-far : most < n → OutOfRange ≡ numberedCall kind (fieldAt text at 10)
     range-far l = rw (← e, k, ← h, lt-leb n most l)
 
-    pub range-in : n ≤ most → Is kind n p ≡ inRange kind (fieldAt text at 10)
+    pub range-in : n ≤ most → Is kind n p ≡ numberedCall kind (fieldAt text at 10)
     range-in l = rw (← e, k, ← h, le-leb n most l)
 
 -- ---- the key of a line: each kind after the ones before it, and none
 
 module _ (text : List ℕ) (at : ℕ) (r : CallLine) where
-  pub call-grant : isAt text at grantKey ≡ true → r ≡ inRange 0 (fieldAt text (at + 6) 10) → r ≡ callAt text at
+  pub call-grant : isAt text at grantKey ≡ true → r ≡ numberedCall 0 (fieldAt text (at + 6) 10) → r ≡ callAt text at
   unfolding callAt
   call-grant h e = rw h e
 
   module _ (g : isAt text at grantKey ≡ false) where
-    pub call-arrive : isAt text at arriveKey ≡ true → r ≡ inRange 1 (fieldAt text (at + 7) 10) → r ≡ callAt text at
+    pub call-arrive : isAt text at arriveKey ≡ true → r ≡ numberedCall 1 (fieldAt text (at + 7) 10) → r ≡ callAt text at
     unfolding callAt
     call-arrive h e = rw (g, h) e
 
     module _ (a : isAt text at arriveKey ≡ false) where
-      pub call-turn : isAt text at turnKey ≡ true → r ≡ inRange 2 (fieldAt text (at + 5) 10) → r ≡ callAt text at
+      pub call-turn : isAt text at turnKey ≡ true → r ≡ numberedCall 2 (fieldAt text (at + 5) 10) → r ≡ callAt text at
       unfolding callAt
       call-turn h e = rw (g, a, h) e
 
       module _ (t : isAt text at turnKey ≡ false) where
-        pub call-cost : isAt text at costKey ≡ true → r ≡ inRange 3 (fieldAt text (at + 5) 10) → r ≡ callAt text at
+        pub call-cost : isAt text at costKey ≡ true → r ≡ numberedCall 3 (fieldAt text (at + 5) 10) → r ≡ callAt text at
         unfolding callAt
         call-cost h e = rw (g, a, t, h) e
 
@@ -111,12 +110,12 @@ module _ (text : List ℕ) (at k n e : ℕ) where
       rw (← ek, ← ev, ← ep) (record { kind-in = s; number-in = leb-true v (mostOf kind) t; enough = omega arith; within = w .1 })
   by-range kind s len l v p f false t h = absurd (let z : _≡_ {A = ℕ} 0 1 = cc h in omega arith)
 
-  by-number : (kind : ℕ) → kind ≤ 3 → (len : ℕ) → 5 ≤ len → (m : Number) → fieldAt text (at + len) 10 ≡ m → inRange kind m ≡ Is k n e → CallRead text at k n e
+  by-number : (kind : ℕ) → kind ≤ 3 → (len : ℕ) → 5 ≤ len → (m : Number) → fieldAt text (at + len) 10 ≡ m → numberedCall kind m ≡ Is k n e → CallRead text at k n e
   by-number kind s len l NoNumber f h = absurd (let z : _≡_ {A = ℕ} 0 1 = cc h in omega arith)
   by-number kind s len l (Value v p) f h = by-range kind s len l v p f (leb v (mostOf kind)) refl h
 
   -- of this kind, or of another
-  by-key : (kind : ℕ) → kind ≤ 3 → (len : ℕ) → 5 ≤ len → (b : Bool) (other : CallLine) → (other ≡ Is k n e → CallRead text at k n e) → cond b (inRange kind (fieldAt text (at + len) 10)) other ≡ Is k n e → CallRead text at k n e
+  by-key : (kind : ℕ) → kind ≤ 3 → (len : ℕ) → 5 ≤ len → (b : Bool) (other : CallLine) → (other ≡ Is k n e → CallRead text at k n e) → cond b (numberedCall kind (fieldAt text (at + len) 10)) other ≡ Is k n e → CallRead text at k n e
   by-key kind s len l true other rest h = by-number kind s len l (fieldAt text (at + len) 10) refl h
   by-key kind s len l false other rest h = rest h
 

@@ -4,15 +4,15 @@ use mathlib.Core.Path.{_≡_, refl}
 use mathlib.Core.List.{List, [], _∷_, _++_}
 use Rattle.below.specs.Below.{isIn, firstBelow, allBelow, sumBelow}
 use Rattle.precedence.specs.Graph.{blocks, free, round, play, finished, unvisited, reached, remaining, cost, cyclic}
-use Rattle.lines.specs.Keys.{planLine, agentsKey, stopsKey, endLine}
+use Rattle.lines.specs.Keys.{firstLine, agentsKey, stopsKey, lastLine}
 use Rattle.lines.specs.Bytes.{byteAt, isAt}
 use Rattle.lines.specs.Names.{nameLine}
 use Rattle.lines.specs.Numbers.{isDigit, digitsFrom, numberAt, fieldAt, digits}
 use Rattle.lines.specs.Stops.{stopLine, countLine}
 use Rattle.log.specs.CallLog.{acceptedCalls, replyIn}
 use Rattle.transcript.specs.Keys.{grantKey, arriveKey, turnKey, costKey}
-use Rattle.transcript.specs.Input.{startsLine, endsPlan, planEnd, mostOf, callAt, linesAt, requestsAt, cost as costRequest}
-use Rattle.transcript.specs.Output.{replyText, valueText, answerLine, answerLines, answersBy, outputOf, Reading}
+use Rattle.transcript.specs.Input.{startsLine, endsPlan, planEnd, mostOf, callAt, callLinesAt, requestsAt, cost as costRequest}
+use Rattle.transcript.specs.Output.{replyText, valueText, answerLine, answerLines, answersBy, outputOf, PlanReading}
 use Rattle.transcript.specs.declared.requests.CallLine.the-variants.{Is, Malformed, OutOfRange}
 use Rattle.transcript.specs.declared.requests.Ending.the-variants.{RangeFault}
 
@@ -20,16 +20,16 @@ use Rattle.transcript.specs.declared.requests.Ending.the-variants.{Range
 
 abbrev planQ : List ℕ
 planQ =
-    planLine ++ countLine agentsKey 2
+    firstLine ++ countLine agentsKey 2
     ++ nameLine (115 ∷ 117 ∷ 114 ∷ 118 ∷ 101 ∷ 121 ∷ 45 ∷ 113 ∷ 117 ∷ 97 ∷ 100 ∷ 45 ∷ 101 ∷ 97 ∷ 115 ∷ 116 ∷ 45 ∷ 49 ∷ []) ++ countLine stopsKey 4 ++ stopLine 1 0 ++ stopLine 6 1 ++ stopLine 5 2 ++ stopLine 2 3
     ++ nameLine (115 ∷ 117 ∷ 114 ∷ 118 ∷ 101 ∷ 121 ∷ 45 ∷ 113 ∷ 117 ∷ 97 ∷ 100 ∷ 45 ∷ 101 ∷ 97 ∷ 115 ∷ 116 ∷ 45 ∷ 50 ∷ []) ++ countLine stopsKey 3 ++ stopLine 3 0 ++ stopLine 5 4 ++ stopLine 4 5
-    ++ endLine
+    ++ lastLine
 
 abbrev callsQ : List ℕ
 callsQ = countLine costKey 0 ++ countLine grantKey 1 ++ countLine turnKey 0 ++ countLine costKey 0 ++ countLine grantKey 1 ++ countLine grantKey 0 ++ countLine arriveKey 1 ++ countLine arriveKey 1
 
 -- what reading it gives: drone 0 at 1 6 5 2, drone 1 at 3 5 4, and one dependency, drone 0 at its stop 2 before drone 1 at its stop 1
-abbrev readingQ : Reading
+abbrev readingQ : PlanReading
 readingQ = record {
   number = 0;
   plan = record {
@@ -63,7 +63,7 @@ plan-ends = refl
 
 -- document 01's output
 flight-Q : outputOf (λ text. readingQ) (planQ ++ callsQ) ≡ outputQ
-unfolding outputOf planEnd firstBelow endsPlan startsLine byteAt isAt digits linesAt callAt mostOf fieldAt numberAt digitsFrom isDigit answersBy answerLines answerLine valueText replyText acceptedCalls replyIn blocks free round play finished unvisited reached remaining cost cyclic isIn allBelow sumBelow
+unfolding outputOf planEnd firstBelow endsPlan startsLine byteAt isAt digits callLinesAt callAt mostOf fieldAt numberAt digitsFrom isDigit answersBy answerLines answerLine valueText replyText acceptedCalls replyIn blocks free round play finished unvisited reached remaining cost cyclic isIn allBelow sumBelow
 flight-Q = refl
 
 -- ---- call lines
@@ -110,18 +110,18 @@ empty-line = refl
 
 -- nothing is read after the first fault
 up-to-fault : requestsAt (countLine costKey 0 ++ countLine costKey 1 ++ countLine grantKey 0) 0 ≡ record { requests = costRequest ∷ []; ending = RangeFault }
-unfolding linesAt callAt mostOf isAt byteAt fieldAt numberAt digitsFrom isDigit digits
+unfolding callLinesAt callAt mostOf isAt byteAt fieldAt numberAt digitsFrom isDigit digits
 up-to-fault = refl
 
 -- ---- the plan's bytes
 
 -- `end=plan` in the middle of a line ends nothing: here the line is `xend=plan`, and all bytes are the plan
-inside-line : planEnd (120 ∷ endLine ++ countLine costKey 0) ≡ 17
+inside-line : planEnd (120 ∷ lastLine ++ countLine costKey 0) ≡ 17
 unfolding planEnd firstBelow endsPlan startsLine byteAt isAt digits
 inside-line = refl
 
 -- the first such line counts
-first-end : planEnd (10 ∷ endLine ++ endLine) ≡ 10
+first-end : planEnd (10 ∷ lastLine ++ lastLine) ≡ 10
 unfolding planEnd firstBelow endsPlan startsLine byteAt isAt
 first-end = refl
 

@@ -13,7 +13,7 @@ use Rattle.below.proofs.Same.{rows-ext}
 use Rattle.tables.specs.Limits.{Limits}
 use Rattle.tables.specs.Tables.{Tables}
 use Rattle.transcript.specs.Input.{grant, arrive, turn, Request, call, cost, requestOf, kindOf, numberOf, kindsOf, numbersOf}
-use Rattle.transcript.specs.Output.{Answer, answerLine, answerLines, linesIn}
+use Rattle.transcript.specs.Output.{LineAnswer, answerLine, answerLines, linesIn}
 use Rattle.transcript.specs.Run.{answersOn, tablesOn, requestsIn, kindsIn, numbersIn, detailsIn}
 
 -- an entry that was stored
@@ -66,25 +66,25 @@ unfolding rowsBelow
 rows-front zero g = sym (append-nil (g 0))
 rows-front (suc n) g = ap (λ (l : List ℕ). l ++ g (suc n)) (rows-front n g) ∙ append-assoc (g 0) (rowsBelow n (λ i. g (suc i))) (g (suc n))
 
-lines-back : (answers : List Answer) → linesIn (length answers) (kindsIn answers) (numbersIn answers) (detailsIn answers) ≡ answerLines answers
+lines-back : (answers : List LineAnswer) → linesIn (length answers) (kindsIn answers) (numbersIn answers) (detailsIn answers) ≡ answerLines answers
 unfolding linesIn answerLines rowsBelow
 lines-back [] = refl
 lines-back (a ∷ rest) = rows-front (length rest) _ ∙ ap (λ (l : List ℕ). answerLine (a .kind) (a .number) (a .detail) ++ l) (lines-back rest)
 
-kinds-in-length : (answers : List Answer) → length (kindsIn answers) ≡ length answers
+kinds-in-length : (answers : List LineAnswer) → length (kindsIn answers) ≡ length answers
 kinds-in-length [] = refl
 kinds-in-length (a ∷ rest) = ap suc (kinds-in-length rest)
 
-pub numbers-in-length : (answers : List Answer) → length (numbersIn answers) ≡ length answers
+pub numbers-in-length : (answers : List LineAnswer) → length (numbersIn answers) ≡ length answers
 numbers-in-length [] = refl
 numbers-in-length (a ∷ rest) = ap suc (numbers-in-length rest)
 
-pub details-in-length : (answers : List Answer) → length (detailsIn answers) ≡ length answers
+pub details-in-length : (answers : List LineAnswer) → length (detailsIn answers) ≡ length answers
 details-in-length [] = refl
 details-in-length (a ∷ rest) = ap suc (details-in-length rest)
 
 -- the lines of tables that hold these answers
-pub lines-stored : (answers : List Answer) (n : ℕ) (ks rs ds : List ℕ) → n ≡ length answers → n ≤ length ks → n ≤ length rs → n ≤ length ds
+pub lines-stored : (answers : List LineAnswer) (n : ℕ) (ks rs ds : List ℕ) → n ≡ length answers → n ≤ length ks → n ≤ length rs → n ≤ length ds
     → linesIn n (sets ks 0 (kindsIn answers)) (sets rs 0 (numbersIn answers)) (sets ds 0 (detailsIn answers)) ≡ answerLines answers
 unfolding linesIn
 lines-stored answers n ks rs ds e hk hr hd =

@@ -3,6 +3,5 @@ pub mod CallCases
 pub mod RequestLoop
 pub mod ReplyCases
 pub mod Examples
-pub mod CostAgrees
 pub mod RunLaws
 pub mod InTables

@@ -1,7 +1,7 @@
 -- The plan ends after the first place where its last line stands: which case holds, by what was found.
 use Prim.Native.Nat.{ℕ, _+_, _-_, _≤_, _<_}
 use native.Mathlib.Omega.{arith}
-use mathlib.Core.Path.{_≡_, refl, sym, _∙_}
+use mathlib.Core.Path.{_≡_, refl}
 use mathlib.Core.List.{List}
 use mathlib.Core.Bool.{Bool, true, false, cond}
 use lib.Dec.{ltb, eqb}
@@ -9,7 +9,7 @@ use borrow.Author.Tests.{lt-ltb, le-ltb, ltb-true, eq-eqb, ne-eqb}
 use lib.ListN.{length}
 use Rattle.below.specs.Below.{firstBelow}
 use Rattle.below.proofs.Search.{firstBelow-first, first-hit, first-end}
-use Rattle.lines.specs.Keys.{endLine}
+use Rattle.lines.specs.Keys.{lastLine}
 use Rattle.lines.specs.Bytes.{byteAt, isAt}
 use Rattle.lines.proofs.ByteLaws.{both, isAt-in}
 use Rattle.transcript.specs.Input.{startsLine, endsPlan, planEnd}
@@ -27,13 +27,13 @@ module _ (text : List ℕ) (at : ℕ) where
   unfolding endsPlan
   ends-inside h = rw h
 
-  pub ends-here : startsLine text at ≡ true → endsPlan text at ≡ isAt text at endLine
+  pub ends-here : startsLine text at ≡ true → endsPlan text at ≡ isAt text at lastLine
   unfolding endsPlan
   ends-here h = rw h
 
   pub ends-within : endsPlan text at ≡ true → at + 9 ≤ length text
   unfolding endsPlan
-  ends-within h = isAt-in text at 101 _ (both (startsLine text at) (isAt text at endLine) h .1) refl
+  ends-within h = isAt-in text at 101 _ (both (startsLine text at) (isAt text at lastLine) h .1) refl
 
   pub plan-found : at < length text → firstBelow at (endsPlan text) ≡ at → endsPlan text at ≡ true → at + 9 ≡ planEnd text
   unfolding planEnd

@@ -11,7 +11,7 @@ use lib.ListN.{length, length-append}
 use Rattle.below.specs.Below.{at, rowsBelow}
 use Rattle.lines.specs.Numbers.{digitsOf}
 use Rattle.lines.proofs.NumberCases.{digits-length}
-use Rattle.transcript.specs.Keys.{keyOf, grantKey, arriveKey, turnKey, costKey, endLine, malformedLine, rangeLine}
+use Rattle.transcript.specs.Keys.{keyOf, grantKey, arriveKey, turnKey, costKey, endCallsLine, malformedLine, rangeLine}
 use Rattle.transcript.specs.Output.{replyText, valueText, answerLine, endingLine, linesIn}
 use Rattle.transcript.specs.declared.requests.Ending.{Ending}
 use Rattle.transcript.specs.declared.requests.Ending.the-variants.{Done, FormFault, RangeFault}
@@ -99,7 +99,7 @@ lines-all ks ns ds i n e = rw e
 -- ---- the last line
 
 module _ (e : Ending) where
-  pub ending-done : e ≡ Done → endingLine e ≡ endLine
+  pub ending-done : e ≡ Done → endingLine e ≡ endCallsLine
   ending-done h = rw h
 
   pub ending-form : e ≡ FormFault → endingLine e ≡ malformedLine

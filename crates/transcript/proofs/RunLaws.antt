@@ -1,31 +1,48 @@
 -- After an accepted reading the tables answer every request as the log does: call by call they show the log, and they stay sound.
-use mathlib.Core.Path.{_≡_, refl, ap, _∙_}
+use mathlib.Core.Path.{_≡_, refl, sym, ap, ap₂, _∙_}
 use mathlib.Core.List.{List, [], _∷_, _++_}
 use Rattle.tables.specs.Limits.{Limits}
 use Rattle.tables.specs.Tables.{PlanLists, Tables}
 use Rattle.precedence.specs.Graph.{cost as costOf}
-use Rattle.plan.specs.Field.{FieldPlan, planOf, graph}
+use Rattle.precedence.proofs.Agreement.{cost-agree}
+use Rattle.plan.specs.Field.{FieldPlan, AcceptedPlan, PlansAgree, planOf, graph}
 use Rattle.plan.specs.Status.{statusIn}
-use Rattle.log.specs.CallLog.{Call, Entry, entry, statusOf, replyBy, logFrom, logOf}
+use Rattle.log.specs.CallLog.{Call, Reply, replyNumber, awaited, Entry, entry, statusBy, replyBy, logFrom, logOf}
 use Rattle.log.specs.Calls.{step, AsRead, recorded, tablesAfter, costs, costReply}
 use Rattle.log.specs.Demand.{Shows}
 use Rattle.log.proofs.Whole.{demand3, replies-of, tables-of, ran, ran-more, stays-sound, stays-full, stays-same}
 use Rattle.log.proofs.Meaning.{log-joins}
 use Rattle.log.proofs.Steps.{cost-0}
 use Rattle.log.proofs.SoundParts.{accepted-plan}
-use Rattle.transcript.specs.Input.{callOf, Request, call, cost}
-use Rattle.transcript.specs.Output.{answersBy}
+use Rattle.log.proofs.SameStatus.{plans-self, graphs-agree, graph-in}
+use Rattle.log.proofs.PlanAgreement.{reply-by-agrees, cost-by-agrees}
+use Rattle.plan.proofs.PlansAgree.{agree-accepted}
+use Rattle.transcript.specs.Input.{callOf, Request, call, cost, kindOf}
+use Rattle.transcript.specs.Output.{LineAnswer, answersBy}
 use Rattle.transcript.specs.Run.{answersOn}
-use Rattle.transcript.proofs.CostAgrees.{cost-same}
 
 -- the last of two lists that are else the same
 last-same : (xs : List Entry) (a b : Entry) → xs ++ (a ∷ []) ≡ xs ++ (b ∷ []) → a ≡ b
 last-same [] a b e = cc
 last-same (x ∷ xs) a b e = last-same xs a b (cc)
 
+-- plans that agree answer every request alike
+answers-agree : (F G : FieldPlan) → PlansAgree F G → AcceptedPlan F → (qs : List Request) (log : List Entry) → answersBy F log qs ≡ answersBy G log qs
+unfolding answersBy
+answers-agree F G agree plan [] log = refl
+answers-agree F G agree plan (call c ∷ qs) log =
+    let e = reply-by-agrees F G agree plan log (callOf c) in
+    ap₂ (λ (r : Reply) (l : List LineAnswer). record { kind = kindOf (call c); number = replyNumber r; detail = awaited r } ∷ l)
+    e
+    (answers-agree F G agree plan qs (log ++ (entry (callOf c) (replyBy F log (callOf c)) ∷ [])) ∙ ap (λ (r : Reply). answersBy G (log ++ (entry (callOf c) r ∷ [])) qs) e)
+answers-agree F G agree plan (cost ∷ qs) log = rw (cost-by-agrees F G agree plan log, answers-agree F G agree plan qs log) refl
+
 module _ (L : Limits) (lists : PlanLists) (t : Tables) (read : AsRead L lists t) where
   abbrev F : FieldPlan
   F = planOf lists
+
+  plan : AcceptedPlan F
+  plan = accepted-plan L lists (read .plan-accepted) (read .dependencies-own)
 
   -- the tables and the log after some calls
   abbrev after : List Call → Tables
@@ -46,13 +63,13 @@ module _ (L : Limits) (lists : PlanLists) (t : Tables) (read : AsRead L lists t)
       ap (λ (e : Entry). e .reply) (last-same (logOf F cs) _ _ (rw (demand3 L lists t cs read .replies) at both))
 
   -- the cost is that of the log
-  same-cost : (cs : List Call) → costReply L (after cs) ≡ costs (costOf (graph F (statusOf (logOf F cs) .turned)) (statusOf (logOf F cs) .place))
+  same-cost : (cs : List Call) → costReply L (after cs) ≡ costs (costOf (graph F (statusBy (logOf F cs) .turned)) (statusBy (logOf F cs) .place))
   same-cost cs =
       let s : Shows F (logOf F cs) (after cs) = demand3 L lists t cs read .shown in
       let p : after cs .plan ≡ lists = stays-same L lists t read cs .plan-same ∙ read .plan-read in
       cost-0 L (after cs) (stays-full L lists t read cs) (stays-sound L lists t read cs)
       ∙ ap (λ (l : PlanLists). costs (costOf (graph (planOf l) (statusIn (after cs) .turned)) (statusIn (after cs) .place))) p
-      ∙ ap costs (cost-same F (accepted-plan L lists (read .plan-accepted) (read .dependencies-own)) (statusIn (after cs) .turned) (statusOf (logOf F cs) .turned) (s .turns) (statusIn (after cs) .place) (statusOf (logOf F cs) .place) (s .places))
+      ∙ ap costs (cost-agree (graph F (statusIn (after cs) .turned)) (graph F (statusBy (logOf F cs) .turned)) (graphs-agree F F (plans-self F) (statusIn (after cs) .turned) (statusBy (logOf F cs) .turned) (s .turns)) (graph-in F plan (statusIn (after cs) .turned)) (statusIn (after cs) .place) (statusBy (logOf F cs) .place) (s .places))
 
   answers-from : (qs : List Request) (cs : List Call) → answersOn L (after cs) qs ≡ answersBy F (logOf F cs) qs
   unfolding answersOn answersBy
@@ -63,3 +80,7 @@ module _ (L : Limits) (lists : PlanLists) (t : Tables) (read : AsRead L lists t)
   pub same-answers : (qs : List Request) → answersOn L t qs ≡ answersBy F [] qs
   unfolding tablesAfter logFrom
   same-answers qs = answers-from qs []
+
+  -- .. of a plan that agrees with the one in the tables
+  pub plan-answers : (G : FieldPlan) → PlansAgree G F → (qs : List Request) → answersOn L t qs ≡ answersBy G [] qs
+  plan-answers G agree qs = same-answers qs ∙ sym (answers-agree G F agree (agree-accepted G F agree plan) qs [])

@@ -7,7 +7,7 @@ use lib.Dec.{leb, ltb, eqb}
 use lib.ListN.{length}
 use lib.Seq.{sets}
 use Rattle.below.specs.Below.{firstBelow}
-use Rattle.lines.specs.Keys.{lineFeed, endLine}
+use Rattle.lines.specs.Keys.{lineFeed, lastLine}
 use Rattle.lines.specs.Bytes.{byteAt, isAt}
 use Rattle.lines.specs.Numbers.{fieldAt}
 use Rattle.lines.specs.declared.numbers.Number.{Number}
@@ -35,11 +35,11 @@ startsLine text at = eqb at 0 || eqb (byteAt text (at - 1)) lineFeed
 
 -- the line `end=plan` stands here
 unfoldable pub endsPlan : List ℕ → ℕ → Bool
-endsPlan text at = startsLine text at && isAt text at endLine
+endsPlan text at = startsLine text at && isAt text at lastLine
 
 -- "The bytes through the first line `end=plan` are the plan, or all bytes if there is none": how many these are
 unfoldable pub planEnd : List ℕ → ℕ
-planEnd text = let last = firstBelow (length text) (endsPlan text) in cond (ltb last (length text)) (last + length endLine) (length text)
+planEnd text = let last = firstBelow (length text) (endsPlan text) in cond (ltb last (length text)) (last + length lastLine) (length text)
 
 -- ---- a call line
 
@@ -48,13 +48,13 @@ unfoldable pub mostOf : ℕ → ℕ
 mostOf kind = cond (eqb kind costKind) 0 numberLimit
 
 -- the form is judged before the range
-abbrev pub inRange : ℕ → Number → CallLine
-inRange kind NoNumber = Malformed
-inRange kind (Value n e) = cond (leb n (mostOf kind)) (Is kind n e) OutOfRange
+abbrev pub numberedCall : ℕ → Number → CallLine
+numberedCall kind NoNumber = Malformed
+numberedCall kind (Value n e) = cond (leb n (mostOf kind)) (Is kind n e) OutOfRange
 
 -- a line of this kind if its key stands here, or else what the other kinds make of it
 abbrev pub lineOr : ℕ → List ℕ → ℕ → CallLine → CallLine
-lineOr kind text at other = cond (isAt text at (keyOf kind)) (inRange kind (fieldAt text (at + length (keyOf kind)) lineFeed)) other
+lineOr kind text at other = cond (isAt text at (keyOf kind)) (numberedCall kind (fieldAt text (at + length (keyOf kind)) lineFeed)) other
 
 -- "call lines `grant=D`, `arrive=D`, `turn=P`, `cost=0`": the kind, the number and the position after the line. "A malformed call line (one without its line feed too)"
 unfoldable pub callAt : List ℕ → ℕ → CallLine
@@ -97,13 +97,13 @@ requestsFrom Malformed more = noRequests FormFault
 requestsFrom OutOfRange more = noRequests RangeFault
 
 -- at most so many lines
-unfoldable pub linesAt : ℕ → List ℕ → ℕ → RequestList
-linesAt zero text at = noRequests Done
-linesAt (suc n) text at = cond (ltb at (length text)) (requestsFrom (callAt text at) (λ e. linesAt n text e)) (noRequests Done)
+unfoldable pub callLinesAt : ℕ → List ℕ → ℕ → RequestList
+callLinesAt zero text at = noRequests Done
+callLinesAt (suc n) text at = cond (ltb at (length text)) (requestsFrom (callAt text at) (λ e. callLinesAt n text e)) (noRequests Done)
 
 -- each line has a byte at least, so the text's length is enough
 abbrev pub requestsAt : List ℕ → ℕ → RequestList
-requestsAt text at = linesAt (length text) text at
+requestsAt text at = callLinesAt (length text) text at
 
 -- ---- requests in tables
 

@@ -28,8 +28,8 @@ abbrev pub planKey : List ℕ
 planKey = 112 ∷ 108 ∷ 97 ∷ 110 ∷ 61 ∷ []
 
 -- `end=calls` and its line feed
-abbrev pub endLine : List ℕ
-endLine = 101 ∷ 110 ∷ 100 ∷ 61 ∷ 99 ∷ 97 ∷ 108 ∷ 108 ∷ 115 ∷ lineFeed ∷ []
+abbrev pub endCallsLine : List ℕ
+endCallsLine = 101 ∷ 110 ∷ 100 ∷ 61 ∷ 99 ∷ 97 ∷ 108 ∷ 108 ∷ 115 ∷ lineFeed ∷ []
 
 -- `call=2` and its line feed
 abbrev pub malformedLine : List ℕ

@@ -9,8 +9,8 @@ use Rattle.precedence.specs.Graph.{cost as costOf}
 use Rattle.plan.specs.Field.{FieldPlan, graph}
 use Rattle.lines.specs.Keys.{lineFeed}
 use Rattle.lines.specs.Numbers.{digitsOf, field}
-use Rattle.log.specs.CallLog.{Reply, accepted, refused, mustWait, number as replyNumber, Entry, entry, statusOf, replyBy}
-use Rattle.transcript.specs.Keys.{colon, planKey, endLine, malformedLine, rangeLine, costKind, keyOf}
+use Rattle.log.specs.CallLog.{replyNumber, awaited, Entry, entry, statusBy, replyBy}
+use Rattle.transcript.specs.Keys.{colon, planKey, endCallsLine, malformedLine, rangeLine, costKind, keyOf}
 use Rattle.transcript.specs.Input.{inputLimit, planEnd, callOf, Request, call, cost, kindOf, RequestList, requestsAt}
 use Rattle.transcript.specs.declared.requests.Ending.{Ending}
 use Rattle.transcript.specs.declared.requests.Ending.the-variants.{Done, FormFault, RangeFault}
@@ -18,11 +18,11 @@ use Rattle.transcript.specs.declared.requests.Ending.the-variants.{Done,
 -- ---- lines
 
 -- "Output: `plan=` and 0 or the refusal"
-abbrev pub planLine : ℕ → List ℕ
-planLine n = planKey ++ field n lineFeed
+abbrev pub planNumberLine : ℕ → List ℕ
+planNumberLine n = planKey ++ field n lineFeed
 
 -- an answer as tables hold it: the kind of its request, the number of the reply, and what goes with it, the dependency of a 23 or the cost
-pub record Answer : Type 0 where
+pub record LineAnswer : Type 0 where
   pub kind : ℕ
   pub number : ℕ
   pub detail : ℕ
@@ -39,36 +39,30 @@ valueText kind n w = cond (eqb kind costKind) (digitsOf w) (replyText n w)
 unfoldable pub answerLine : ℕ → ℕ → ℕ → List ℕ
 answerLine kind n w = keyOf kind ++ valueText kind n w ++ lineFeed ∷ []
 
-unfoldable pub answerLines : List Answer → List ℕ
+unfoldable pub answerLines : List LineAnswer → List ℕ
 answerLines [] = []
 answerLines (a ∷ rest) = answerLine (a .kind) (a .number) (a .detail) ++ answerLines rest
 
 -- "A malformed call line .. prints `call=2`, a number outside its range .. `call=4`, and ends the output. Otherwise `end=calls` is last"
 abbrev pub endingLine : Ending → List ℕ
-endingLine Done = endLine
+endingLine Done = endCallsLine
 endingLine FormFault = malformedLine
 endingLine RangeFault = rangeLine
 
 -- ---- answers by the log
 
--- the dependency that goes with 23
-abbrev pub awaited : Reply → ℕ
-awaited accepted = 0
-awaited (refused n) = 0
-awaited (mustWait w) = w
-
 module _ (F : FieldPlan) where
   -- the answer to a request by the log before it
-  abbrev pub answerBy : List Entry → Request → Answer
+  abbrev pub answerBy : List Entry → Request → LineAnswer
   answerBy log (call c) = record { kind = kindOf (call c); number = replyNumber (replyBy F log (callOf c)); detail = awaited (replyBy F log (callOf c)) }
-  answerBy log cost = record { kind = kindOf cost; number = 0; detail = costOf (graph F (statusOf log .turned)) (statusOf log .place) }
+  answerBy log cost = record { kind = kindOf cost; number = 0; detail = costOf (graph F (statusBy log .turned)) (statusBy log .place) }
 
   -- the log after it
   abbrev pub logAfter : List Entry → Request → List Entry
   logAfter log (call c) = log ++ (entry (callOf c) (replyBy F log (callOf c)) ∷ [])
   logAfter log cost = log
 
-  unfoldable pub answersBy : List Entry → List Request → List Answer
+  unfoldable pub answersBy : List Entry → List Request → List LineAnswer
   answersBy log [] = []
   answersBy log (q ∷ qs) = answerBy log q ∷ answersBy (logAfter log q) qs
 
@@ -79,18 +73,18 @@ module _ (F : FieldPlan) where
 -- ---- the whole output
 
 -- what reading a plan text answers: 0 or the number of the refusal, and the plan if it is taken
-pub record Reading : Type 0 where
+pub record PlanReading : Type 0 where
   pub number : ℕ
   pub plan : FieldPlan
 
-module _ (reading : List ℕ → Reading) where
+module _ (reading : List ℕ → PlanReading) where
   -- "after a refusal nothing more"
-  abbrev pub afterReading : List ℕ → Reading → List ℕ
-  afterReading input r = planLine (r .number) ++ cond (eqb (r .number) 0) (callsOutput (r .plan) (requestsAt input (planEnd input))) []
+  abbrev pub afterReading : List ℕ → PlanReading → List ℕ
+  afterReading input r = planNumberLine (r .number) ++ cond (eqb (r .number) 0) (callsOutput (r .plan) (requestsAt input (planEnd input))) []
 
   -- "at most 65,536 bytes (more prints `plan=1` alone)"
   unfoldable pub outputOf : List ℕ → List ℕ
-  outputOf input = cond (ltb inputLimit (length input)) (planLine 1) (afterReading input (reading (take (planEnd input) input)))
+  outputOf input = cond (ltb inputLimit (length input)) (planNumberLine 1) (afterReading input (reading (take (planEnd input) input)))
 
 -- ---- answers in tables
 

@@ -6,10 +6,10 @@ use lib.Seq.{sets}
 use Rattle.below.specs.Below.{at, listBelow}
 use Rattle.tables.specs.Limits.{Limits}
 use Rattle.tables.specs.Tables.{Tables}
-use Rattle.log.specs.CallLog.{number as replyNumber}
+use Rattle.log.specs.CallLog.{replyNumber, awaited}
 use Rattle.log.specs.Calls.{step, CostReply, costs, costRefused, costReply}
 use Rattle.transcript.specs.Input.{callOf, Request, call, cost, requestOf, kindOf}
-use Rattle.transcript.specs.Output.{Answer, awaited}
+use Rattle.transcript.specs.Output.{LineAnswer}
 
 -- the number of a cost's refusal, and the cost
 abbrev pub costNumber : CostReply → ℕ
@@ -21,7 +21,7 @@ costDetail (costs n) = n
 costDetail (costRefused n) = 0
 
 module _ (L : Limits) where
-  abbrev pub answerOn : Tables → Request → Answer
+  abbrev pub answerOn : Tables → Request → LineAnswer
   answerOn t (call c) = record { kind = kindOf (call c); number = replyNumber (step L t (callOf c) .reply); detail = awaited (step L t (callOf c) .reply) }
   answerOn t cost = record { kind = kindOf cost; number = costNumber (costReply L t); detail = costDetail (costReply L t) }
 
@@ -30,7 +30,7 @@ module _ (L : Limits) where
   tablesOn t (call c) = step L t (callOf c) .tables
   tablesOn t cost = t
 
-  unfoldable pub answersOn : Tables → List Request → List Answer
+  unfoldable pub answersOn : Tables → List Request → List LineAnswer
   answersOn t [] = []
   answersOn t (q ∷ qs) = answerOn t q ∷ answersOn (tablesOn t q) qs
 
@@ -44,15 +44,15 @@ module _ (L : Limits) where
 abbrev pub requestsIn : ℕ → List ℕ → List ℕ → List Request
 requestsIn n kinds numbers = listBelow n (λ i. requestOf (at kinds i) (at numbers i))
 
-abbrev pub kindsIn : List Answer → List ℕ
+abbrev pub kindsIn : List LineAnswer → List ℕ
 kindsIn [] = []
 kindsIn (a ∷ rest) = a .kind ∷ kindsIn rest
 
-abbrev pub numbersIn : List Answer → List ℕ
+abbrev pub numbersIn : List LineAnswer → List ℕ
 numbersIn [] = []
 numbersIn (a ∷ rest) = a .number ∷ numbersIn rest
 
-abbrev pub detailsIn : List Answer → List ℕ
+abbrev pub detailsIn : List LineAnswer → List ℕ
 detailsIn [] = []
 detailsIn (a ∷ rest) = a .detail ∷ detailsIn rest
 

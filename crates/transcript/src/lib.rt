@@ -1,4 +1,4 @@
-// The program `field` as a function from its input to its output: call lines read, answers written.
+// The parts of the program `field`: call lines read from its input, answers written to its output.
 pub mod keys;
 pub mod replies;
 pub mod requests;

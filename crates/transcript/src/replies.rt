@@ -10,12 +10,12 @@ ghost use Prim.Native.Nat.{_+_, _<_, _≤_, _^_};
 ghost use lib.ListN.{length};
 ghost use Rattle.lines.specs.Bytes.{Put};
 ghost use Rattle.transcript.specs.Keys.{keyOf};
-ghost use Rattle.transcript.specs.Output.{planLine, replyText, valueText, answerLine, endingLine, linesIn};
+ghost use Rattle.transcript.specs.Output.{planNumberLine, replyText, valueText, answerLine, endingLine, linesIn};
 
 // Writes the line of the plan: 0 or the number of the refusal.
 pub fn put_plan(buf: &mut [u8], at: usize, number: usize) -> usize
     requires { ⌜ at < 2 ^ 30 ⌝ }
-    ensures { λ r. ⌜ Put (now (buf .entry)) at (planLine number) (now (buf .exit)) r ⌝ }
+    ensures { λ r. ⌜ Put (now (buf .entry)) at (planNumberLine number) (now (buf .exit)) r ⌝ }
 {
     let a = bytes::put_bytes(buf, at, &keys::PLAN);
     let b = numbers::put_number(buf, a, number);
@@ -23,7 +23,7 @@ pub fn put_plan(buf: &mut [u8], at: usize, number: usize) -> usize
 }
 
 // Writes the key of a kind of call.
-pub fn put_key(buf: &mut [u8], at: usize, kind: u8) -> usize
+fn put_key(buf: &mut [u8], at: usize, kind: u8) -> usize
     requires { ⌜ at < 2 ^ 30 ⌝ }
     ensures { λ r. ⌜ Put (now (buf .entry)) at (keyOf kind) (now (buf .exit)) r ⌝ }
 {
@@ -40,7 +40,7 @@ pub fn put_key(buf: &mut [u8], at: usize, kind: u8) -> usize
 }
 
 // Writes a reply: its number, and after 23 the dependency.
-pub fn put_reply(buf: &mut [u8], at: usize, number: u16, dependency: u32) -> usize
+fn put_reply(buf: &mut [u8], at: usize, number: u16, dependency: u32) -> usize
     requires { ⌜ at < 2 ^ 30 ⌝ }
     ensures { λ r. ⌜ Put (now (buf .entry)) at (replyText number dependency) (now (buf .exit)) r ⌝ }
 {
@@ -53,7 +53,7 @@ pub fn put_reply(buf: &mut [u8], at: usize, number: u16, dependency: u32) -> usi
 }
 
 // Writes what stands after the key of an answer.
-pub fn put_value(buf: &mut [u8], at: usize, kind: u8, number: u16, detail: u32) -> usize
+fn put_value(buf: &mut [u8], at: usize, kind: u8, number: u16, detail: u32) -> usize
     requires { ⌜ at < 2 ^ 30 ⌝ }
     ensures { λ r. ⌜ Put (now (buf .entry)) at (valueText kind number detail) (now (buf .exit)) r ⌝ }
 {
@@ -64,7 +64,7 @@ pub fn put_value(buf: &mut [u8], at: usize, kind: u8, number: u16, detail: u32) 
 }
 
 // Writes the line of an answer.
-pub fn put_answer(buf: &mut [u8], at: usize, kind: u8, number: u16, detail: u32) -> usize
+fn put_answer(buf: &mut [u8], at: usize, kind: u8, number: u16, detail: u32) -> usize
     requires { ⌜ at < 2 ^ 29 ⌝ }
     ensures { λ r. ⌜ Put (now (buf .entry)) at (answerLine kind number detail) (now (buf .exit)) r ⌝ }
 {

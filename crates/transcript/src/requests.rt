@@ -9,10 +9,10 @@ ghost use Prim.Native.Nat.{_+_, _*_, _≤_};
 ghost use lib.ListN.{length};
 ghost use Rattle.lines.specs.Keys.{lineFeed};
 ghost use Rattle.lines.specs.Numbers.{fieldAt};
-ghost use Rattle.transcript.specs.Input.{startsLine, endsPlan, planEnd, mostOf, inRange, callAt, requestsAt, RequestsRead};
+ghost use Rattle.transcript.specs.Input.{startsLine, endsPlan, planEnd, mostOf, numberedCall, callAt, requestsAt, RequestsRead};
 
 // Whether a line starts at a position.
-pub fn starts_line(text: &[u8], at: usize) -> bool
+fn starts_line(text: &[u8], at: usize) -> bool
     ensures { λ r. ⌜ r ≡ startsLine (now (text .entry)) at ⌝ }
 {
     if at == 0 {
@@ -22,7 +22,7 @@ pub fn starts_line(text: &[u8], at: usize) -> bool
 }
 
 // Whether the line `end=plan` stands at a position.
-pub fn ends_plan(text: &[u8], at: usize) -> bool
+fn ends_plan(text: &[u8], at: usize) -> bool
     ensures { λ r. ⌜ r ≡ endsPlan (now (text .entry)) at ⌝ }
 {
     if !starts_line(text, at) {
@@ -52,19 +52,22 @@ pub enum CallLine {
     OutOfRange,
 }
 
+// A drone or a dependency is 0 to 65,535.
+const NUMBER_LIMIT: usize = 65_535;
+
 // The greatest number after the key of a kind.
-pub fn most_of(kind: u8) -> usize
+fn most_of(kind: u8) -> usize
     ensures { λ r. ⌜ r ≡ mostOf kind ⌝ }
 {
     if kind == keys::COST_KIND {
         return 0;
     }
-    65_535
+    NUMBER_LIMIT
 }
 
-// The number of a call line, past its key.
-pub fn in_range(text: &[u8], at: usize, kind: u8) -> CallLine
-    ensures { λ r. ⌜ r ≡ inRange kind (fieldAt (now (text .entry)) at lineFeed) ⌝ }
+// The call of a kind, read from the number past its key: the form is judged before the range.
+fn numbered_call(text: &[u8], at: usize, kind: u8) -> CallLine
+    ensures { λ r. ⌜ r ≡ numberedCall kind (fieldAt (now (text .entry)) at lineFeed) ⌝ }
 {
     let Number::Value { value, next } = numbers::field(text, at, plan_keys::LINE_FEED) else {
         return CallLine::Malformed;
@@ -79,20 +82,21 @@ pub fn in_range(text: &[u8], at: usize, kind: u8) -> CallLine
     }
 }
 
-pub fn call_line(text: &[u8], at: usize) -> CallLine
+// A call line of any kind.
+fn call_line(text: &[u8], at: usize) -> CallLine
     ensures { λ r. ⌜ r ≡ callAt (now (text .entry)) at ⌝ }
 {
     if bytes::starts(text, at, &keys::GRANT) {
-        return in_range(text, at + keys::GRANT.len(), keys::GRANT_KIND);
+        return numbered_call(text, at + keys::GRANT.len(), keys::GRANT_KIND);
     }
     if bytes::starts(text, at, &keys::ARRIVE) {
-        return in_range(text, at + keys::ARRIVE.len(), keys::ARRIVE_KIND);
+        return numbered_call(text, at + keys::ARRIVE.len(), keys::ARRIVE_KIND);
     }
     if bytes::starts(text, at, &keys::TURN) {
-        return in_range(text, at + keys::TURN.len(), keys::TURN_KIND);
+        return numbered_call(text, at + keys::TURN.len(), keys::TURN_KIND);
     }
     if bytes::starts(text, at, &keys::COST) {
-        return in_range(text, at + keys::COST.len(), keys::COST_KIND);
+        return numbered_call(text, at + keys::COST.len(), keys::COST_KIND);
     }
     CallLine::Malformed
 }

@@ -1,7 +1,7 @@
 -- `board::exports::board_cost`: Kinds, carried over by tools/lend.py. Assumes nothing.
 use Rattle.records.proofs.Row as Rec
-use Rattle.board.proofs.answers.Answer
-use Rattle.board.proofs.answers.Answer.Laws
+use Rattle.board.proofs.answers.CallAnswer
+use Rattle.board.proofs.answers.CallAnswer.Laws
 use borrow.Fn.Kinds
 use borrow.Kind.ShrSlice
 use borrow.Kind.Value
@@ -22,18 +22,18 @@ ps = List._∷_ (ShrSlice.pShrS (Referent.rtF (Referent.fInt Syntax.w16)) 0 tt) 
 
 abbrev pub r : Kinds.RK 9
 r = Value.rVal record {
-  ty = Declared.row Answer.the-type;
+  ty = Declared.row CallAnswer.the-type;
   one = Path'.refl;
-  val = Laws'.val Answer.the-type Laws.the-laws;
-  tells = Laws'.tells Answer.the-type Laws.the-laws;
-  still = Laws'.still Answer.the-type Laws.the-copy Exit.yes;
-  row = Rows.whole (Declared.row Answer.the-type);
+  val = Laws'.val CallAnswer.the-type Laws.the-laws;
+  tells = Laws'.tells CallAnswer.the-type Laws.the-laws;
+  still = Laws'.still CallAnswer.the-type Laws.the-copy Exit.yes;
+  row = Rows.whole (Declared.row CallAnswer.the-type);
   rd = λ x. x;
   mk = λ x. x;
 } λ M 𝓤 H A W. record {
-  copies = Laws'.copy Answer.the-type Laws.the-copy 𝓤 H A W;
-  lawful = Laws'.lawful Answer.the-type Laws.the-laws 𝓤 H A W;
-  makes = Laws'.makes Answer.the-type Laws.the-plain 𝓤 H A;
-  in-mem = Local.mem-whole 𝓤 H A W (Declared.row Answer.the-type);
-  of-mem = Local.whole-mem 𝓤 H A W (Declared.row Answer.the-type);
+  copies = Laws'.copy CallAnswer.the-type Laws.the-copy 𝓤 H A W;
+  lawful = Laws'.lawful CallAnswer.the-type Laws.the-laws 𝓤 H A W;
+  makes = Laws'.makes CallAnswer.the-type Laws.the-plain 𝓤 H A;
+  in-mem = Local.mem-whole 𝓤 H A W (Declared.row CallAnswer.the-type);
+  of-mem = Local.whole-mem 𝓤 H A W (Declared.row CallAnswer.the-type);
 }

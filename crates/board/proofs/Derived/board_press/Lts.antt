@@ -1,8 +1,8 @@
 -- `board::exports::board_press`: Lts, carried over by tools/lend.py. Assumes nothing.
 use Rattle.records.proofs.Row as Rec
 use Prim.Native.Nat
-use Rattle.board.proofs.answers.Answer
-use Rattle.board.proofs.answers.Answer.Laws
+use Rattle.board.proofs.answers.CallAnswer
+use Rattle.board.proofs.answers.CallAnswer.Laws
 use Rattle.handset.proofs.replies.PressReply
 use Rattle.handset.proofs.replies.PressReply.Laws as Laws'
 use Rattle.handset.proofs.replies.Report
@@ -87,16 +87,16 @@ abbrev ty·10 : Syntax.Ty
 ty·10 = Syntax.tyRef (Syntax.named 6) Syntax.mut (Syntax.tyInt Syntax.w16)
 
 abbrev ty·11 : Syntax.Ty
-ty·11 = Syntax.tyStruct (List._∷_ 98 (List._∷_ 111 (List._∷_ 97 (List._∷_ 114 (List._∷_ 100 (List._∷_ 58 (List._∷_ 58 (List._∷_ 97 (List._∷_ 110 (List._∷_ 115 (List._∷_ 119 (List._∷_ 101 (List._∷_ 114 (List._∷_ 115 (List._∷_ 58 (List._∷_ 58 (List._∷_ 65 (List._∷_ 110 (List._∷_ 115 (List._∷_ 119 (List._∷_ 101 (List._∷_ 114 List.[])))))))))))))))))))))) (Syntax.tcons (Syntax.tyInt Syntax.w64) (Syntax.tcons (Syntax.tyInt Syntax.w64) Syntax.tnil))
+ty·11 = Syntax.tyEnum (List._∷_ 104 (List._∷_ 97 (List._∷_ 110 (List._∷_ 100 (List._∷_ 115 (List._∷_ 101 (List._∷_ 116 (List._∷_ 58 (List._∷_ 58 (List._∷_ 114 (List._∷_ 101 (List._∷_ 112 (List._∷_ 108 (List._∷_ 105 (List._∷_ 101 (List._∷_ 115 (List._∷_ 58 (List._∷_ 58 (List._∷_ 82 (List._∷_ 101 (List._∷_ 112 (List._∷_ 111 (List._∷_ 114 (List._∷_ 116 List.[])))))))))))))))))))))))) (Syntax.ttcons Syntax.tnil (Syntax.ttcons (Syntax.tcons (Syntax.tyInt Syntax.w64) Syntax.tnil) Syntax.ttnil))
 
 abbrev ty·12 : Syntax.Ty
-ty·12 = Syntax.tyEnum (List._∷_ 104 (List._∷_ 97 (List._∷_ 110 (List._∷_ 100 (List._∷_ 115 (List._∷_ 101 (List._∷_ 116 (List._∷_ 58 (List._∷_ 58 (List._∷_ 114 (List._∷_ 101 (List._∷_ 112 (List._∷_ 108 (List._∷_ 105 (List._∷_ 101 (List._∷_ 115 (List._∷_ 58 (List._∷_ 58 (List._∷_ 82 (List._∷_ 101 (List._∷_ 112 (List._∷_ 111 (List._∷_ 114 (List._∷_ 116 List.[])))))))))))))))))))))))) (Syntax.ttcons Syntax.tnil (Syntax.ttcons (Syntax.tcons (Syntax.tyInt Syntax.w64) Syntax.tnil) Syntax.ttnil))
+ty·12 = Syntax.tyStruct (List._∷_ 98 (List._∷_ 111 (List._∷_ 97 (List._∷_ 114 (List._∷_ 100 (List._∷_ 58 (List._∷_ 58 (List._∷_ 97 (List._∷_ 110 (List._∷_ 115 (List._∷_ 119 (List._∷_ 101 (List._∷_ 114 (List._∷_ 115 (List._∷_ 58 (List._∷_ 58 (List._∷_ 67 (List._∷_ 97 (List._∷_ 108 (List._∷_ 108 (List._∷_ 65 (List._∷_ 110 (List._∷_ 115 (List._∷_ 119 (List._∷_ 101 (List._∷_ 114 List.[])))))))))))))))))))))))))) (Syntax.tcons (Syntax.tyInt Syntax.w64) (Syntax.tcons (Syntax.tyInt Syntax.w64) Syntax.tnil))
 
 abbrev ty·13 : Syntax.Ty
 ty·13 = Syntax.tyEnum (List._∷_ 104 (List._∷_ 97 (List._∷_ 110 (List._∷_ 100 (List._∷_ 115 (List._∷_ 101 (List._∷_ 116 (List._∷_ 58 (List._∷_ 58 (List._∷_ 114 (List._∷_ 101 (List._∷_ 112 (List._∷_ 108 (List._∷_ 105 (List._∷_ 101 (List._∷_ 115 (List._∷_ 58 (List._∷_ 58 (List._∷_ 80 (List._∷_ 114 (List._∷_ 101 (List._∷_ 115 (List._∷_ 115 (List._∷_ 82 (List._∷_ 101 (List._∷_ 112 (List._∷_ 108 (List._∷_ 121 List.[])))))))))))))))))))))))))))) (Syntax.ttcons (Syntax.tcons (Syntax.tyInt Syntax.w32) Syntax.tnil) (Syntax.ttcons Syntax.tnil (Syntax.ttcons Syntax.tnil (Syntax.ttcons Syntax.tnil (Syntax.ttcons Syntax.tnil Syntax.ttnil)))))
 
 abbrev row·0 : Row.Row
-row·0 = Rows.any-gone ty·11
+row·0 = Rows.any-gone ty·12
 
 abbrev row·1 : Row.Row
 row·1 = Rows.sslice (Referent.rtF (Referent.fInt Syntax.w16)) ty·5 0
@@ -129,7 +129,7 @@ abbrev row·10 : Row.Row
 row·10 = Rows.sc-here (Row.sInt Syntax.w64)
 
 abbrev row·11 : Row.Row
-row·11 = Rows.any-gone ty·12
+row·11 = Rows.any-gone ty·11
 
 abbrev row·12 : Row.Row
 row·12 = Rows.any-gone ty·13
@@ -141,7 +141,7 @@ abbrev row·14 : Row.Row
 row·14 = Rows.any-gone (Syntax.tyStruct (List._∷_ 38 (List._∷_ 91 (List._∷_ 93 List.[]))) (Syntax.tcons ty·2 (Syntax.tcons (Syntax.tyInt Syntax.w64) Syntax.tnil)))
 
 abbrev row·15 : Row.Row
-row·15 = Rows.whole (Declared'.row Answer.the-type)
+row·15 = Rows.whole (Declared'.row CallAnswer.the-type)
 
 abbrev row·16 : Row.Row
 row·16 = Rows.any-gone (Syntax.tyInt Syntax.w64)
@@ -186,24 +186,24 @@ ps = List._∷_ (ShrSlice.pShrS (Referent.rtF (Referent.fInt Syntax.w16)) 0 tt) 
 
 abbrev pub r : Kinds.RK 9
 r = Value.rVal record {
-  ty = Declared'.row Answer.the-type;
+  ty = Declared'.row CallAnswer.the-type;
   one = Path'.refl;
-  val = Laws'4.val Answer.the-type Laws.the-laws;
-  tells = Laws'4.tells Answer.the-type Laws.the-laws;
-  still = Laws'4.still Answer.the-type Laws.the-copy Exit.yes;
-  row = Rows.whole (Declared'.row Answer.the-type);
+  val = Laws'4.val CallAnswer.the-type Laws.the-laws;
+  tells = Laws'4.tells CallAnswer.the-type Laws.the-laws;
+  still = Laws'4.still CallAnswer.the-type Laws.the-copy Exit.yes;
+  row = Rows.whole (Declared'.row CallAnswer.the-type);
   rd = λ x. x;
   mk = λ x. x;
 } λ M 𝓤 H A W. record {
-  copies = Laws'4.copy Answer.the-type Laws.the-copy 𝓤 H A W;
-  lawful = Laws'4.lawful Answer.the-type Laws.the-laws 𝓤 H A W;
-  makes = Laws'4.makes Answer.the-type Laws.the-plain 𝓤 H A;
-  in-mem = Local.mem-whole 𝓤 H A W (Declared'.row Answer.the-type);
-  of-mem = Local.whole-mem 𝓤 H A W (Declared'.row Answer.the-type);
+  copies = Laws'4.copy CallAnswer.the-type Laws.the-copy 𝓤 H A W;
+  lawful = Laws'4.lawful CallAnswer.the-type Laws.the-laws 𝓤 H A W;
+  makes = Laws'4.makes CallAnswer.the-type Laws.the-plain 𝓤 H A;
+  in-mem = Local.mem-whole 𝓤 H A W (Declared'.row CallAnswer.the-type);
+  of-mem = Local.whole-mem 𝓤 H A W (Declared'.row CallAnswer.the-type);
 }
 
 abbrev pub xs : List.List Syntax.Ty
-xs = List._∷_ ty·12 (List._∷_ ty·13 (List._∷_ ty·2 (List._∷_ (Syntax.tyStruct (List._∷_ 38 (List._∷_ 91 (List._∷_ 93 List.[]))) (Syntax.tcons ty·2 (Syntax.tcons (Syntax.tyInt Syntax.w64) Syntax.tnil))) (List._∷_ ty·1 (List._∷_ (Syntax.tyStruct (List._∷_ 38 (List._∷_ 91 (List._∷_ 93 List.[]))) (Syntax.tcons ty·1
+xs = List._∷_ ty·11 (List._∷_ ty·13 (List._∷_ ty·2 (List._∷_ (Syntax.tyStruct (List._∷_ 38 (List._∷_ 91 (List._∷_ 93 List.[]))) (Syntax.tcons ty·2 (Syntax.tcons (Syntax.tyInt Syntax.w64) Syntax.tnil))) (List._∷_ ty·1 (List._∷_ (Syntax.tyStruct (List._∷_ 38 (List._∷_ 91 (List._∷_ 93 List.[]))) (Syntax.tcons ty·1
     (Syntax.tcons (Syntax.tyInt Syntax.w64) Syntax.tnil))) List.[])))))
 
 abbrev pub m : Nat.ℕ
@@ -287,20 +287,20 @@ ps·2 = List._∷_ (Value.pVal record {
 
 abbrev pub r·2 : Kinds.RK 0
 r·2 = Value.rVal record {
-  ty = Declared'.row Answer.the-type;
+  ty = Declared'.row CallAnswer.the-type;
   one = Path'.refl;
-  val = Laws'4.val Answer.the-type Laws.the-laws;
-  tells = Laws'4.tells Answer.the-type Laws.the-laws;
-  still = Laws'4.still Answer.the-type Laws.the-copy Exit.yes;
-  row = Rows.whole (Declared'.row Answer.the-type);
+  val = Laws'4.val CallAnswer.the-type Laws.the-laws;
+  tells = Laws'4.tells CallAnswer.the-type Laws.the-laws;
+  still = Laws'4.still CallAnswer.the-type Laws.the-copy Exit.yes;
+  row = Rows.whole (Declared'.row CallAnswer.the-type);
   rd = λ x. x;
   mk = λ x. x;
 } λ M 𝓤 H A W. record {
-  copies = Laws'4.copy Answer.the-type Laws.the-copy 𝓤 H A W;
-  lawful = Laws'4.lawful Answer.the-type Laws.the-laws 𝓤 H A W;
-  makes = Laws'4.makes Answer.the-type Laws.the-plain 𝓤 H A;
-  in-mem = Local.mem-whole 𝓤 H A W (Declared'.row Answer.the-type);
-  of-mem = Local.whole-mem 𝓤 H A W (Declared'.row Answer.the-type);
+  copies = Laws'4.copy CallAnswer.the-type Laws.the-copy 𝓤 H A W;
+  lawful = Laws'4.lawful CallAnswer.the-type Laws.the-laws 𝓤 H A W;
+  makes = Laws'4.makes CallAnswer.the-type Laws.the-plain 𝓤 H A;
+  in-mem = Local.mem-whole 𝓤 H A W (Declared'.row CallAnswer.the-type);
+  of-mem = Local.whole-mem 𝓤 H A W (Declared'.row CallAnswer.the-type);
 }
 
 abbrev pub hs : List.List Syntax.Home
@@ -517,7 +517,7 @@ module _ (claims· : Claims) where
   s8 = Call.callB ps·0 r·0 (claims· .0) (claims· .1) T9 (
     Num.vAt 10 λ x. x,
     (Num.vAt 11 λ x. x, tt),
-  ) 12 List.[] ty·12
+  ) 12 List.[] ty·11
 
   abbrev s10 : Typed.Gives T10 T12
   s10 = Relend.k-sl-relend (Referent.rtF (Referent.fInt Syntax.w16)) T10 7 14 6 9 ty·10 ty·2 Row.off λ x. x
@@ -575,7 +575,7 @@ module _ (claims· : Claims) where
   ) 13 (List._∷_ 0 (List._∷_ 1 (List._∷_ 2 (List._∷_ 3 (List._∷_ 4 (List._∷_ 5 (List._∷_ 9 (List._∷_ 10 (List._∷_ 8 List.[]))))))))) ty·13
 
   abbrev s16 : Typed.Mo T17 → Typed.Mo T18
-  s16 = Scalar.n-room T17 12 ty·12
+  s16 = Scalar.n-room T17 12 ty·11
 
   abbrev s18 : Typed.Both T18 T20
   s18 = Relend.k-back-sl (Referent.rtF (Referent.fInt Syntax.w16)) T18 15 7 6 9 ty·10 ty·2 Row.off (λ x. x) λ x. x
@@ -593,7 +593,7 @@ module _ (claims· : Claims) where
   s25 = Call.callB ps·2 r·2 (claims· .4) (claims· .5) T25 (
     record { pos = 13; st = List.[]; d = 0; at = λ x. x },
     tt,
-  ) 0 List.[] ty·11
+  ) 0 List.[] ty·12
 
   abbrev s26 : Typed.Mo T27 → Typed.Mo T28
   s26 = Scalar.n-room T27 13 ty·13
@@ -712,7 +712,7 @@ module _ (claims· : Claims) where
         abbrev g4 : List.List Row.Entry
         g4 = List._∷_ (
           0,
-          Rows.any-gone ty·11,
+          Rows.any-gone ty·12,
         ) (List._∷_ (
           1,
           Rows.sslice (Referent.rtF (Referent.fInt Syntax.w16)) ty·5 0,
@@ -757,7 +757,7 @@ module _ (claims· : Claims) where
         abbrev g5 : List.List Row.Entry
         g5 = List._∷_ (
           0,
-          Rows.any-gone ty·11,
+          Rows.any-gone ty·12,
         ) (List._∷_ (
           1,
           Rows.sslice (Referent.rtF (Referent.fInt Syntax.w16)) ty·5 0,
@@ -802,7 +802,7 @@ module _ (claims· : Claims) where
         abbrev g6 : List.List Row.Entry
         g6 = List._∷_ (
           0,
-          Rows.any-gone ty·11,
+          Rows.any-gone ty·12,
         ) (List._∷_ (
           1,
           Rows.sslice (Referent.rtF (Referent.fInt Syntax.w16)) ty·5 0,
@@ -847,7 +847,7 @@ module _ (claims· : Claims) where
         abbrev g9 : List.List Row.Entry
         g9 = List._∷_ (
           0,
-          Rows.any-gone ty·11,
+          Rows.any-gone ty·12,
         ) (List._∷_ (
           1,
           Rows.sslice (Referent.rtF (Referent.fInt Syntax.w16)) ty·5 0,
@@ -892,7 +892,7 @@ module _ (claims· : Claims) where
         abbrev g11 : List.List Row.Entry
         g11 = List._∷_ (
           0,
-          Rows.any-gone ty·11,
+          Rows.any-gone ty·12,
         ) (List._∷_ (
           1,
           Rows.sslice (Referent.rtF (Referent.fInt Syntax.w16)) ty·5 0,
@@ -925,7 +925,7 @@ module _ (claims· : Claims) where
           Rows.sc-here (Row.sInt Syntax.w64),
         ) (List._∷_ (
           12,
-          Rows.any-gone ty·12,
+          Rows.any-gone ty·11,
         ) (List._∷_ (13, Rows.whole (Declared.row PressReply.the-type)) (List._∷_ (
           14,
           Rows.any-gone ty·2,
@@ -937,7 +937,7 @@ module _ (claims· : Claims) where
         abbrev g12 : List.List Row.Entry
         g12 = List._∷_ (
           0,
-          Rows.any-gone ty·11,
+          Rows.any-gone ty·12,
         ) (List._∷_ (
           1,
           Rows.sslice (Referent.rtF (Referent.fInt Syntax.w16)) ty·5 0,
@@ -970,7 +970,7 @@ module _ (claims· : Claims) where
           Rows.sc-here (Row.sInt Syntax.w64),
         ) (List._∷_ (
           12,
-          Rows.any-gone ty·12,
+          Rows.any-gone ty·11,
         ) (List._∷_ (13, Rows.whole (Declared.row PressReply.the-type)) (List._∷_ (
           14,
           Rows.any-gone ty·2,
@@ -1242,7 +1242,7 @@ module _ (claims· : Claims) where
               Path'.refl,
             ),
             tt,
-          ) (Reads.room-gone 𝓤 H A ty·11) tt Path'.refl) d3
+          ) (Reads.room-gone 𝓤 H A ty·12) tt Path'.refl) d3
 
           d5 : Typed.Typed 𝓤 H A 𝓣 E G25 b8 Δ0 at5
           d5 = Typed.g-pre 𝓤 H A W 𝓣 E G25 G26 b8 Δ0 (λ Ψ. Ψ) at4 (Lifetime.g-forget 𝓤 H A W E G25 10 Row.dead Path'.refl) d4
@@ -1271,7 +1271,7 @@ module _ (claims· : Claims) where
           d12 = Typed.g-pre 𝓤 H A W 𝓣 E G18 G19 b8 Δ0 (λ Ψ. Ψ) at11 (Lifetime.g-end 𝓤 H A W E G18 9 Path'.refl) d11
 
           d13 : Typed.Typed 𝓤 H A 𝓣 E G17 b8 Δ0 at13
-          d13 = Typed.g-pre 𝓤 H A W 𝓣 E G17 G18 b8 Δ0 (Typed.pass T17 T18 s16) at12 (Scalar.g-room 𝓤 H A W E G17 12 ty·12 (Local.room-whole 𝓤 H A W (Declared.row Report.the-type) ty·12 Path'.refl)) d12
+          d13 = Typed.g-pre 𝓤 H A W 𝓣 E G17 G18 b8 Δ0 (Typed.pass T17 T18 s16) at12 (Scalar.g-room 𝓤 H A W E G17 12 ty·11 (Local.room-whole 𝓤 H A W (Declared.row Report.the-type) ty·11 Path'.refl)) d12
 
           d14 : Typed.Typed 𝓤 H A 𝓣 E G16 b9 Δ0 at14
           d14 = Typed.s-seq 𝓤 H A W 𝓣 E G16 G17 b5 b8 Δ0 (Typed.both s15) at13 (Plain.t-call-plain 𝓤 H A W 𝓣 9 ps·1 r·1 (claims· .2) (claims· .3) "handset::button::press" (known .1) E (λ pos β. β) G16 (
@@ -1405,7 +1405,7 @@ module _ (claims· : Claims) where
           d21 = Typed.s-seq 𝓤 H A W 𝓣 E G9 G10 b0 b13 Δ0 (Typed.both s8) at20 (Plain.t-call-plain 𝓤 H A W 𝓣 0 ps·0 r·0 (claims· .0) (claims· .1) "board::answers::report_of" (known .0) E (λ pos β. β) G9 (Num.vAt 10 λ x. x, (Num.vAt 11 λ x. x, tt)) 12 List.[] (Call.sub-id 𝓤 H A W (G9 .slots)) (
             (Scalar.reads-sc 𝓤 H A W (Row.sInt Syntax.w64), Path'.refl),
             ((Scalar.reads-sc 𝓤 H A W (Row.sInt Syntax.w64), Path'.refl), tt),
-          ) (Reads.room-gone 𝓤 H A ty·12) tt Path'.refl) d20
+          ) (Reads.room-gone 𝓤 H A ty·11) tt Path'.refl) d20
 
           d22 : Typed.Typed 𝓤 H A 𝓣 E G8 b14 Δ0 at22
           d22 = Typed.g-pre 𝓤 H A W 𝓣 E G8 G9 b14 Δ0 (Typed.give s7) at21 (Know.g-sl-known 𝓤 H A W (Referent.fInt Syntax.w8) E G8 8 7 ty·4 (Row.lease (κs .1 .1 .1 .1 .1 .1 .1 .0) (qs .1 .1 .1 .1 .1 .1 .1 .0)) 0 (λ x. x) record { fits = Dec'.lit< tt } (Reads.as-is 𝓤 H A (Mut.mslice (Referent.rtF (Referent.fInt Syntax.w8)) ty·4 7)) Path'.refl tt) d21

@@ -1,8 +1,8 @@
 -- `board::exports::board_turn`: Lts, carried over by tools/lend.py. Assumes nothing.
 use Rattle.records.proofs.Row as Rec
 use Prim.Native.Nat
-use Rattle.board.proofs.answers.Answer
-use Rattle.board.proofs.answers.Answer.Laws
+use Rattle.board.proofs.answers.CallAnswer
+use Rattle.board.proofs.answers.CallAnswer.Laws
 use Rattle.flat.proofs.turn_replies.TurnReply
 use Rattle.flat.proofs.turn_replies.TurnReply.Laws as Laws'
 use borrow.Author.Called
@@ -82,7 +82,7 @@ abbrev ty·9 : Syntax.Ty
 ty·9 = Syntax.tyRef (Syntax.named 6) Syntax.imm (Syntax.tyInt Syntax.w16)
 
 abbrev ty·10 : Syntax.Ty
-ty·10 = Syntax.tyStruct (List._∷_ 98 (List._∷_ 111 (List._∷_ 97 (List._∷_ 114 (List._∷_ 100 (List._∷_ 58 (List._∷_ 58 (List._∷_ 97 (List._∷_ 110 (List._∷_ 115 (List._∷_ 119 (List._∷_ 101 (List._∷_ 114 (List._∷_ 115 (List._∷_ 58 (List._∷_ 58 (List._∷_ 65 (List._∷_ 110 (List._∷_ 115 (List._∷_ 119 (List._∷_ 101 (List._∷_ 114 List.[])))))))))))))))))))))) (Syntax.tcons (Syntax.tyInt Syntax.w64) (Syntax.tcons (Syntax.tyInt Syntax.w64) Syntax.tnil))
+ty·10 = Syntax.tyStruct (List._∷_ 98 (List._∷_ 111 (List._∷_ 97 (List._∷_ 114 (List._∷_ 100 (List._∷_ 58 (List._∷_ 58 (List._∷_ 97 (List._∷_ 110 (List._∷_ 115 (List._∷_ 119 (List._∷_ 101 (List._∷_ 114 (List._∷_ 115 (List._∷_ 58 (List._∷_ 58 (List._∷_ 67 (List._∷_ 97 (List._∷_ 108 (List._∷_ 108 (List._∷_ 65 (List._∷_ 110 (List._∷_ 115 (List._∷_ 119 (List._∷_ 101 (List._∷_ 114 List.[])))))))))))))))))))))))))) (Syntax.tcons (Syntax.tyInt Syntax.w64) (Syntax.tcons (Syntax.tyInt Syntax.w64) Syntax.tnil))
 
 abbrev ty·11 : Syntax.Ty
 ty·11 = Syntax.tyEnum (List._∷_ 102 (List._∷_ 108 (List._∷_ 97 (List._∷_ 116 (List._∷_ 58 (List._∷_ 58 (List._∷_ 116 (List._∷_ 117 (List._∷_ 114 (List._∷_ 110 (List._∷_ 95 (List._∷_ 114 (List._∷_ 101 (List._∷_ 112 (List._∷_ 108 (List._∷_ 105 (List._∷_ 101 (List._∷_ 115 (List._∷_ 58 (List._∷_ 58 (List._∷_ 84 (List._∷_ 117 (List._∷_ 114 (List._∷_ 110 (List._∷_ 82 (List._∷_ 101 (List._∷_ 112 (List._∷_ 108 (List._∷_ 121 List.[]))))))))))))))))))))))))))))) (Syntax.ttcons Syntax.tnil (Syntax.ttcons Syntax.tnil (Syntax.ttcons Syntax.tnil (Syntax.ttcons Syntax.tnil (Syntax.ttcons Syntax.tnil (Syntax.ttcons Syntax.tnil (Syntax.ttcons Syntax.tnil Syntax.ttnil)))))))
@@ -130,7 +130,7 @@ abbrev row·13 : Row.Row
 row·13 = Rows.any-gone (Syntax.tyStruct (List._∷_ 38 (List._∷_ 91 (List._∷_ 93 List.[]))) (Syntax.tcons ty·0 (Syntax.tcons (Syntax.tyInt Syntax.w64) Syntax.tnil)))
 
 abbrev row·14 : Row.Row
-row·14 = Rows.whole (Declared'.row Answer.the-type)
+row·14 = Rows.whole (Declared'.row CallAnswer.the-type)
 
 abbrev row·15 : Row.Row
 row·15 = Rows.any-gone (Syntax.tyInt Syntax.w64)
@@ -157,20 +157,20 @@ ps = List._∷_ (ShrSlice.pShrS (Referent.rtF (Referent.fInt Syntax.w16)) 0 tt) 
 
 abbrev pub r : Kinds.RK 9
 r = Value.rVal record {
-  ty = Declared'.row Answer.the-type;
+  ty = Declared'.row CallAnswer.the-type;
   one = Path'.refl;
-  val = Laws'3.val Answer.the-type Laws.the-laws;
-  tells = Laws'3.tells Answer.the-type Laws.the-laws;
-  still = Laws'3.still Answer.the-type Laws.the-copy Exit.yes;
-  row = Rows.whole (Declared'.row Answer.the-type);
+  val = Laws'3.val CallAnswer.the-type Laws.the-laws;
+  tells = Laws'3.tells CallAnswer.the-type Laws.the-laws;
+  still = Laws'3.still CallAnswer.the-type Laws.the-copy Exit.yes;
+  row = Rows.whole (Declared'.row CallAnswer.the-type);
   rd = λ x. x;
   mk = λ x. x;
 } λ M 𝓤 H A W. record {
-  copies = Laws'3.copy Answer.the-type Laws.the-copy 𝓤 H A W;
-  lawful = Laws'3.lawful Answer.the-type Laws.the-laws 𝓤 H A W;
-  makes = Laws'3.makes Answer.the-type Laws.the-plain 𝓤 H A;
-  in-mem = Local.mem-whole 𝓤 H A W (Declared'.row Answer.the-type);
-  of-mem = Local.whole-mem 𝓤 H A W (Declared'.row Answer.the-type);
+  copies = Laws'3.copy CallAnswer.the-type Laws.the-copy 𝓤 H A W;
+  lawful = Laws'3.lawful CallAnswer.the-type Laws.the-laws 𝓤 H A W;
+  makes = Laws'3.makes CallAnswer.the-type Laws.the-plain 𝓤 H A;
+  in-mem = Local.mem-whole 𝓤 H A W (Declared'.row CallAnswer.the-type);
+  of-mem = Local.whole-mem 𝓤 H A W (Declared'.row CallAnswer.the-type);
 }
 
 abbrev pub xs : List.List Syntax.Ty
@@ -222,20 +222,20 @@ ps·1 = List._∷_ (Value.pVal record {
 
 abbrev pub r·1 : Kinds.RK 0
 r·1 = Value.rVal record {
-  ty = Declared'.row Answer.the-type;
+  ty = Declared'.row CallAnswer.the-type;
   one = Path'.refl;
-  val = Laws'3.val Answer.the-type Laws.the-laws;
-  tells = Laws'3.tells Answer.the-type Laws.the-laws;
-  still = Laws'3.still Answer.the-type Laws.the-copy Exit.yes;
-  row = Rows.whole (Declared'.row Answer.the-type);
+  val = Laws'3.val CallAnswer.the-type Laws.the-laws;
+  tells = Laws'3.tells CallAnswer.the-type Laws.the-laws;
+  still = Laws'3.still CallAnswer.the-type Laws.the-copy Exit.yes;
+  row = Rows.whole (Declared'.row CallAnswer.the-type);
   rd = λ x. x;
   mk = λ x. x;
 } λ M 𝓤 H A W. record {
-  copies = Laws'3.copy Answer.the-type Laws.the-copy 𝓤 H A W;
-  lawful = Laws'3.lawful Answer.the-type Laws.the-laws 𝓤 H A W;
-  makes = Laws'3.makes Answer.the-type Laws.the-plain 𝓤 H A;
-  in-mem = Local.mem-whole 𝓤 H A W (Declared'.row Answer.the-type);
-  of-mem = Local.whole-mem 𝓤 H A W (Declared'.row Answer.the-type);
+  copies = Laws'3.copy CallAnswer.the-type Laws.the-copy 𝓤 H A W;
+  lawful = Laws'3.lawful CallAnswer.the-type Laws.the-laws 𝓤 H A W;
+  makes = Laws'3.makes CallAnswer.the-type Laws.the-plain 𝓤 H A;
+  in-mem = Local.mem-whole 𝓤 H A W (Declared'.row CallAnswer.the-type);
+  of-mem = Local.whole-mem 𝓤 H A W (Declared'.row CallAnswer.the-type);
 }
 
 abbrev pub hs : List.List Syntax.Home

@@ -3,6 +3,7 @@ mod Tie
 use mathlib.Core.Path.{refl, sym, _∙_}
 use borrow.Author.Tests.{ltb-true, ltb-false}
 use Rattle.tables.specs.Limits.{limits}
+use Rattle.reading.specs.Replies.{readingMeant}
 use Rattle.records.proofs.ColumnLaws.{zero-columns, gathered-length}
 use Rattle.records.proofs.Seen.{stored-rest}
 use Rattle.conductor.proofs.ReadLaws.{read-short, read-stored}
@@ -75,7 +76,7 @@ returns-2 c =
     let read = c .before .before .before .before .before .before .before .before .before .before .before .before .before .before .before .before .before .before .before .before .before .before .before .before .before .before .before .before .before .before .read-plan in
     let written = c .before .before .before .before .before .before .before .is-written in
     let stored = c .before .store-if .ensures in (
-      read-stored limits _ _ _ _ _ _ _ _ (a .text .now) (a .dependencies .now) _ _ _ _ _ (ltb-false _ _ (sym (c .before .before .before .before .before .before .before .before .before .before .before .before .before .before .before .before .before .before .before .before .before .before .before .before .before .before .before .before .before .before .before .before .before .before .before .before .before .before .before .before .before .before .before .before .before .below-full .ensures) ∙ c .before .before .before .before .before .before .before .before .before .before .before .before .before .before .before .before .before .before .before .before .before .before .before .before .before .before .before .before .before .before .before .before .before .before .before .before .before .before .before .before .before .before .before .before .if1 .left)) (zero-columns limits) (read .result) _ _ _ _ _ _ _ _ _ _ _ _ _ _ (written .result)
+      read-stored limits _ _ _ _ _ _ _ _ (a .text .now) (a .dependencies .now) _ _ _ _ _ (ltb-false _ _ (sym (c .before .before .before .before .before .before .before .before .before .before .before .before .before .before .before .before .before .before .before .before .before .before .before .before .before .before .before .before .before .before .before .before .before .before .before .before .before .before .before .before .before .before .before .before .before .below-full .ensures) ∙ c .before .before .before .before .before .before .before .before .before .before .before .before .before .before .before .before .before .before .before .before .before .before .before .before .before .before .before .before .before .before .before .before .before .before .before .before .before .before .before .before .before .before .before .before .if1 .left)) (zero-columns limits) (readingMeant (read .result)) _ _ _ _ _ _ _ _ _ _ _ _ _ _ (written .result)
           (record { first-drones = search needs; first-stops = search needs; second-drones = search needs; second-stops = search needs; flag-bytes = search needs })
           (read .ensures) (written .ensures) stored,
       stored-rest limits (written .result) _ (a .dependencies .now) _ (gathered-length limits _ _ _ _ _) stored,

@@ -10,7 +10,7 @@ use Rattle.cycles.proofs.linking.link.Statement.{statement}
 use Rattle.cycles.proofs.linking.link.Tie as tie
 use Rattle.cycles.proofs.linking.link.Reads as reads
 use Rattle.cycles.proofs.linking.link.Lts as lts
-use Rattle.cycles.proofs.casts.wide.Reads as wide-reads
+use Rattle.tables.proofs.casts.wide.Reads as wide-reads
 
 abbrev Inv-loop : tie.InvT-loop
 Inv-loop from m head₀ next₀ k₀ head next k = (k ≤ m) × Linked (at from) k head next

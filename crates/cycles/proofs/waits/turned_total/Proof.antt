@@ -6,11 +6,12 @@ use Rattle.below.specs.Below.{countBelow}
 use Rattle.below.proofs.Count.{count-le, count-start, count-end}
 use Rattle.cycles.specs.Waits.{turnedIn}
 use Rattle.cycles.proofs.Directed.{turned-more}
+use Rattle.cycles.proofs.StackLaws.{pick-le}
 use Rattle.cycles.proofs.waits.turned_total.Statement.{statement}
 use Rattle.cycles.proofs.waits.turned_total.Tie as tie
 use Rattle.cycles.proofs.waits.turned_total.Reads as reads
 use Rattle.cycles.proofs.waits.turned_total.Lts as lts
-use Rattle.cycles.proofs.waits.one.Reads as one-reads
+use Rattle.cycles.proofs.waits.pick16.Reads as pick16-reads
 use Rattle.cycles.proofs.waits.turned_at.Reads as turned-at-reads
 
 abbrev Inv-loop : tie.InvT-loop
@@ -28,12 +29,12 @@ turned-at-requires : tie.Need-turned-at-requires Inv-loop μ-loop
 turned-at-requires c κs = search needs
 
 -- src/waits.rt:36:18
-one-requires : tie.Need-one-requires Inv-loop μ-loop
-one-requires c κs = search needs
+pick16-requires : tie.Need-pick16-requires Inv-loop μ-loop
+pick16-requires c κs = search needs
 
 -- src/waits.rt:36:9
 add-total : tie.Need-add-total Inv-loop μ-loop
-add-total c = omega (arith, c .before .before .before .loop .inv .1, count-le (c .before .before .before .loop .k) (turnedIn (c .before .before .before .before .before .args .flags .now)), c .one .ensures .1)
+add-total c = omega (arith, c .before .before .before .loop .inv .1, count-le (c .before .before .before .loop .k) (turnedIn (c .before .before .before .before .before .args .flags .now)), c .pick16 .ensures, pick-le (c .before .turned-at .result))
 
 -- src/waits.rt:37:9
 add-k : tie.Need-add-k Inv-loop μ-loop
@@ -45,7 +46,7 @@ loop-less c = search needs
 
 -- src/waits.rt:35:5
 loop-again : tie.Need-loop-again Inv-loop μ-loop
-loop-again c = (omega arith, turned-more _ _ _ _ _ (c .before .before .before .loop .inv .1) (c .before .turned-at .ensures) (c .one .ensures .0))
+loop-again c = (omega arith, turned-more _ _ _ _ _ (c .before .before .before .loop .inv .1) (c .before .turned-at .ensures) (c .pick16 .ensures))
 
 -- src/waits.rt:29:1
 returns : tie.Need-returns Inv-loop μ-loop
@@ -59,7 +60,7 @@ turned-total-spec =
     μ-loop
     loop-holds
     turned-at-requires
-    one-requires
+    pick16-requires
     add-total
     add-k
     loop-less

@@ -8,7 +8,7 @@ use Rattle.cycles.proofs.walk.advance.Statement.{statement}
 use Rattle.cycles.proofs.walk.advance.Tie as tie
 use Rattle.cycles.proofs.walk.advance.Reads as reads
 use Rattle.cycles.proofs.walk.advance.Lts as lts
-use Rattle.cycles.proofs.casts.wide.Reads as wide-reads
+use Rattle.tables.proofs.casts.wide.Reads as wide-reads
 use Rattle.cycles.proofs.walk.greater.Reads as greater-reads
 
 -- src/walk.rt:105:18

@@ -12,7 +12,7 @@ use Rattle.cycles.proofs.walk.all_last.Statement.{statement}
 use Rattle.cycles.proofs.walk.all_last.Tie as tie
 use Rattle.cycles.proofs.walk.all_last.Reads as reads
 use Rattle.cycles.proofs.walk.all_last.Lts as lts
-use Rattle.cycles.proofs.casts.wide.Reads as wide-reads
+use Rattle.tables.proofs.casts.wide.Reads as wide-reads
 
 abbrev Inv-loop : tie.InvT-loop
 Inv-loop starts lasts drones cur d₀ d = (d ≤ drones) × (allBelow d (λ d. leb (at starts d + at lasts d) (at cur d)) ≡ true)

@@ -5,7 +5,7 @@ use Rattle.cycles.proofs.walk.can_move.Statement.{statement}
 use Rattle.cycles.proofs.walk.can_move.Tie as tie
 use Rattle.cycles.proofs.walk.can_move.Reads as reads
 use Rattle.cycles.proofs.walk.can_move.Lts as lts
-use Rattle.cycles.proofs.casts.wide.Reads as wide-reads
+use Rattle.tables.proofs.casts.wide.Reads as wide-reads
 
 -- src/walk.rt:58:18
 mul-wide : tie.Need-mul-wide

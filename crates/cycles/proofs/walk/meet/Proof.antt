@@ -8,8 +8,8 @@ use Rattle.cycles.proofs.walk.meet.Statement.{statement}
 use Rattle.cycles.proofs.walk.meet.Tie as tie
 use Rattle.cycles.proofs.walk.meet.Reads as reads
 use Rattle.cycles.proofs.walk.meet.Lts as lts
-use Rattle.cycles.proofs.casts.wide.Reads as wide-reads
-use Rattle.cycles.proofs.casts.wide8.Reads as wide8-reads
+use Rattle.tables.proofs.casts.wide.Reads as wide-reads
+use Rattle.tables.proofs.casts.wide8.Reads as wide8-reads
 use Rattle.cycles.proofs.walk.greater.Reads as greater-reads
 
 -- src/walk.rt:141:24

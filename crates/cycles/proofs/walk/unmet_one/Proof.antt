@@ -7,8 +7,8 @@ use Rattle.cycles.proofs.walk.unmet_one.Statement.{statement}
 use Rattle.cycles.proofs.walk.unmet_one.Tie as tie
 use Rattle.cycles.proofs.walk.unmet_one.Reads as reads
 use Rattle.cycles.proofs.walk.unmet_one.Lts as lts
-use Rattle.cycles.proofs.casts.wide.Reads as wide-reads
-use Rattle.cycles.proofs.casts.wide8.Reads as wide8-reads
+use Rattle.tables.proofs.casts.wide.Reads as wide-reads
+use Rattle.tables.proofs.casts.wide8.Reads as wide8-reads
 
 -- src/walk.rt:21:18
 mul-wide : tie.Need-mul-wide

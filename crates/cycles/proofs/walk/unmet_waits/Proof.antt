@@ -12,7 +12,7 @@ use Rattle.cycles.proofs.walk.unmet_waits.Statement.{statement}
 use Rattle.cycles.proofs.walk.unmet_waits.Tie as tie
 use Rattle.cycles.proofs.walk.unmet_waits.Reads as reads
 use Rattle.cycles.proofs.walk.unmet_waits.Lts as lts
-use Rattle.cycles.proofs.casts.wide.Reads as wide-reads
+use Rattle.tables.proofs.casts.wide.Reads as wide-reads
 use Rattle.cycles.proofs.walk.unmet_one.Reads as unmet-one-reads
 
 abbrev Inv-loop : tie.InvT-loop

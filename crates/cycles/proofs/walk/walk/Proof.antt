@@ -16,8 +16,8 @@ use Rattle.cycles.proofs.walk.walk.Statement.{statement}
 use Rattle.cycles.proofs.walk.walk.Tie as tie
 use Rattle.cycles.proofs.walk.walk.Reads as reads
 use Rattle.cycles.proofs.walk.walk.Lts as lts
-use Rattle.cycles.proofs.casts.wide.Reads as wide-reads
-use Rattle.cycles.proofs.casts.wide8.Reads as wide8-reads
+use Rattle.tables.proofs.casts.wide.Reads as wide-reads
+use Rattle.tables.proofs.casts.wide8.Reads as wide8-reads
 use Rattle.cycles.proofs.linking.link.Reads as link-reads
 use Rattle.cycles.proofs.walk.advance.Reads as advance-reads
 use Rattle.cycles.proofs.walk.meet.Reads as meet-reads

@@ -1,7 +1,7 @@
 -- `dispatch::requests::make_request`: Kinds, carried over by tools/lend.py. Assumes nothing.
 use Rattle.records.proofs.Row as Rec
-use Rattle.dispatch.proofs.answers.Answered
-use Rattle.dispatch.proofs.answers.Answered.Laws
+use Rattle.dispatch.proofs.answers.NumberedReply
+use Rattle.dispatch.proofs.answers.NumberedReply.Laws
 use borrow.Fn.Kinds
 use borrow.Kind.MutSlice
 use borrow.Kind.ShrSlice
@@ -24,18 +24,18 @@ ps = List._∷_ (ShrSlice.pShrS (Referent.rtF (Referent.fInt Syntax.w16)) 0 tt) 
 
 abbrev pub r : Kinds.RK 9
 r = Value.rVal record {
-  ty = Declared.row Answered.the-type;
+  ty = Declared.row NumberedReply.the-type;
   one = Path'.refl;
-  val = Laws'.val Answered.the-type Laws.the-laws;
-  tells = Laws'.tells Answered.the-type Laws.the-laws;
-  still = Laws'.still Answered.the-type Laws.the-copy Exit.yes;
-  row = Rows.whole (Declared.row Answered.the-type);
+  val = Laws'.val NumberedReply.the-type Laws.the-laws;
+  tells = Laws'.tells NumberedReply.the-type Laws.the-laws;
+  still = Laws'.still NumberedReply.the-type Laws.the-copy Exit.yes;
+  row = Rows.whole (Declared.row NumberedReply.the-type);
   rd = λ x. x;
   mk = λ x. x;
 } λ M 𝓤 H A W. record {
-  copies = Laws'.copy Answered.the-type Laws.the-copy 𝓤 H A W;
-  lawful = Laws'.lawful Answered.the-type Laws.the-laws 𝓤 H A W;
-  makes = Laws'.makes Answered.the-type Laws.the-plain 𝓤 H A;
-  in-mem = Local.mem-whole 𝓤 H A W (Declared.row Answered.the-type);
-  of-mem = Local.whole-mem 𝓤 H A W (Declared.row Answered.the-type);
+  copies = Laws'.copy NumberedReply.the-type Laws.the-copy 𝓤 H A W;
+  lawful = Laws'.lawful NumberedReply.the-type Laws.the-laws 𝓤 H A W;
+  makes = Laws'.makes NumberedReply.the-type Laws.the-plain 𝓤 H A;
+  in-mem = Local.mem-whole 𝓤 H A W (Declared.row NumberedReply.the-type);
+  of-mem = Local.whole-mem 𝓤 H A W (Declared.row NumberedReply.the-type);
 }

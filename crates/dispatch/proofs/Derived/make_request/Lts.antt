@@ -1,8 +1,8 @@
 -- `dispatch::requests::make_request`: Lts, carried over by tools/lend.py. Assumes nothing.
 use Rattle.records.proofs.Row as Rec
 use Prim.Native.Nat
-use Rattle.dispatch.proofs.answers.Answered
-use Rattle.dispatch.proofs.answers.Answered.Laws
+use Rattle.dispatch.proofs.answers.NumberedReply
+use Rattle.dispatch.proofs.answers.NumberedReply.Laws
 use Rattle.flat.proofs.replies.ArriveReply
 use Rattle.flat.proofs.replies.ArriveReply.Laws as Laws'
 use Rattle.flat.proofs.replies.GrantReply
@@ -106,10 +106,10 @@ abbrev ty·14 : Syntax.Ty
 ty·14 = Syntax.tyRef (Syntax.named 6) Syntax.mut (Syntax.tyInt Syntax.w16)
 
 abbrev ty·15 : Syntax.Ty
-ty·15 = Syntax.tyStruct (List._∷_ 100 (List._∷_ 105 (List._∷_ 115 (List._∷_ 112 (List._∷_ 97 (List._∷_ 116 (List._∷_ 99 (List._∷_ 104 (List._∷_ 58 (List._∷_ 58 (List._∷_ 97 (List._∷_ 110 (List._∷_ 115 (List._∷_ 119 (List._∷_ 101 (List._∷_ 114 (List._∷_ 115 (List._∷_ 58 (List._∷_ 58 (List._∷_ 65 (List._∷_ 110 (List._∷_ 115 (List._∷_ 119 (List._∷_ 101 (List._∷_ 114 (List._∷_ 101 (List._∷_ 100 List.[]))))))))))))))))))))))))))) (Syntax.tcons (Syntax.tyInt Syntax.w16) (Syntax.tcons (Syntax.tyInt Syntax.w32) Syntax.tnil))
+ty·15 = Syntax.tyEnum (List._∷_ 102 (List._∷_ 108 (List._∷_ 97 (List._∷_ 116 (List._∷_ 58 (List._∷_ 58 (List._∷_ 114 (List._∷_ 101 (List._∷_ 112 (List._∷_ 108 (List._∷_ 105 (List._∷_ 101 (List._∷_ 115 (List._∷_ 58 (List._∷_ 58 (List._∷_ 65 (List._∷_ 114 (List._∷_ 114 (List._∷_ 105 (List._∷_ 118 (List._∷_ 101 (List._∷_ 82 (List._∷_ 101 (List._∷_ 112 (List._∷_ 108 (List._∷_ 121 List.[])))))))))))))))))))))))))) (Syntax.ttcons Syntax.tnil (Syntax.ttcons Syntax.tnil (Syntax.ttcons Syntax.tnil (Syntax.ttcons Syntax.tnil (Syntax.ttcons Syntax.tnil Syntax.ttnil)))))
 
 abbrev ty·16 : Syntax.Ty
-ty·16 = Syntax.tyEnum (List._∷_ 102 (List._∷_ 108 (List._∷_ 97 (List._∷_ 116 (List._∷_ 58 (List._∷_ 58 (List._∷_ 114 (List._∷_ 101 (List._∷_ 112 (List._∷_ 108 (List._∷_ 105 (List._∷_ 101 (List._∷_ 115 (List._∷_ 58 (List._∷_ 58 (List._∷_ 65 (List._∷_ 114 (List._∷_ 114 (List._∷_ 105 (List._∷_ 118 (List._∷_ 101 (List._∷_ 82 (List._∷_ 101 (List._∷_ 112 (List._∷_ 108 (List._∷_ 121 List.[])))))))))))))))))))))))))) (Syntax.ttcons Syntax.tnil (Syntax.ttcons Syntax.tnil (Syntax.ttcons Syntax.tnil (Syntax.ttcons Syntax.tnil (Syntax.ttcons Syntax.tnil Syntax.ttnil)))))
+ty·16 = Syntax.tyStruct (List._∷_ 100 (List._∷_ 105 (List._∷_ 115 (List._∷_ 112 (List._∷_ 97 (List._∷_ 116 (List._∷_ 99 (List._∷_ 104 (List._∷_ 58 (List._∷_ 58 (List._∷_ 97 (List._∷_ 110 (List._∷_ 115 (List._∷_ 119 (List._∷_ 101 (List._∷_ 114 (List._∷_ 115 (List._∷_ 58 (List._∷_ 58 (List._∷_ 78 (List._∷_ 117 (List._∷_ 109 (List._∷_ 98 (List._∷_ 101 (List._∷_ 114 (List._∷_ 101 (List._∷_ 100 (List._∷_ 82 (List._∷_ 101 (List._∷_ 112 (List._∷_ 108 (List._∷_ 121 List.[])))))))))))))))))))))))))))))))) (Syntax.tcons (Syntax.tyInt Syntax.w16) (Syntax.tcons (Syntax.tyInt Syntax.w32) Syntax.tnil))
 
 abbrev ty·17 : Syntax.Ty
 ty·17 = Syntax.tyEnum (List._∷_ 102 (List._∷_ 108 (List._∷_ 97 (List._∷_ 116 (List._∷_ 58 (List._∷_ 58 (List._∷_ 116 (List._∷_ 117 (List._∷_ 114 (List._∷_ 110 (List._∷_ 95 (List._∷_ 114 (List._∷_ 101 (List._∷_ 112 (List._∷_ 108 (List._∷_ 105 (List._∷_ 101 (List._∷_ 115 (List._∷_ 58 (List._∷_ 58 (List._∷_ 67 (List._∷_ 111 (List._∷_ 115 (List._∷_ 116 (List._∷_ 65 (List._∷_ 110 (List._∷_ 115 (List._∷_ 119 (List._∷_ 101 (List._∷_ 114 List.[])))))))))))))))))))))))))))))) (Syntax.ttcons (Syntax.tcons (Syntax.tyInt Syntax.w64) Syntax.tnil) (Syntax.ttcons Syntax.tnil (Syntax.ttcons Syntax.tnil Syntax.ttnil)))
@@ -121,7 +121,7 @@ abbrev ty·19 : Syntax.Ty
 ty·19 = Syntax.tyEnum (List._∷_ 102 (List._∷_ 108 (List._∷_ 97 (List._∷_ 116 (List._∷_ 58 (List._∷_ 58 (List._∷_ 116 (List._∷_ 117 (List._∷_ 114 (List._∷_ 110 (List._∷_ 95 (List._∷_ 114 (List._∷_ 101 (List._∷_ 112 (List._∷_ 108 (List._∷_ 105 (List._∷_ 101 (List._∷_ 115 (List._∷_ 58 (List._∷_ 58 (List._∷_ 84 (List._∷_ 117 (List._∷_ 114 (List._∷_ 110 (List._∷_ 82 (List._∷_ 101 (List._∷_ 112 (List._∷_ 108 (List._∷_ 121 List.[]))))))))))))))))))))))))))))) (Syntax.ttcons Syntax.tnil (Syntax.ttcons Syntax.tnil (Syntax.ttcons Syntax.tnil (Syntax.ttcons Syntax.tnil (Syntax.ttcons Syntax.tnil (Syntax.ttcons Syntax.tnil (Syntax.ttcons Syntax.tnil Syntax.ttnil)))))))
 
 abbrev row·0 : Row.Row
-row·0 = Rows.any-gone ty·15
+row·0 = Rows.any-gone ty·16
 
 abbrev row·1 : Row.Row
 row·1 = Rows.sslice (Referent.rtF (Referent.fInt Syntax.w16)) ty·9 0
@@ -160,7 +160,7 @@ abbrev row·12 : Row.Row
 row·12 = Rows.any-gone ty·18
 
 abbrev row·13 : Row.Row
-row·13 = Rows.any-gone ty·16
+row·13 = Rows.any-gone ty·15
 
 abbrev row·14 : Row.Row
 row·14 = Rows.any-gone ty·19
@@ -211,7 +211,7 @@ abbrev row·29 : Row.Row
 row·29 = Rows.any-gone (Syntax.tyStruct (List._∷_ 38 (List._∷_ 91 (List._∷_ 93 List.[]))) (Syntax.tcons ty·1 (Syntax.tcons (Syntax.tyInt Syntax.w64) Syntax.tnil)))
 
 abbrev row·30 : Row.Row
-row·30 = Rows.whole (Declared'.row Answered.the-type)
+row·30 = Rows.whole (Declared'.row NumberedReply.the-type)
 
 abbrev row·31 : Row.Row
 row·31 = Rows.any-gone (Syntax.tyInt Syntax.w8)
@@ -361,24 +361,24 @@ ps = List._∷_ (ShrSlice.pShrS (Referent.rtF (Referent.fInt Syntax.w16)) 0 tt) 
 
 abbrev pub r : Kinds.RK 9
 r = Value.rVal record {
-  ty = Declared'.row Answered.the-type;
+  ty = Declared'.row NumberedReply.the-type;
   one = Path'.refl;
-  val = Laws'6.val Answered.the-type Laws.the-laws;
-  tells = Laws'6.tells Answered.the-type Laws.the-laws;
-  still = Laws'6.still Answered.the-type Laws.the-copy Exit.yes;
-  row = Rows.whole (Declared'.row Answered.the-type);
+  val = Laws'6.val NumberedReply.the-type Laws.the-laws;
+  tells = Laws'6.tells NumberedReply.the-type Laws.the-laws;
+  still = Laws'6.still NumberedReply.the-type Laws.the-copy Exit.yes;
+  row = Rows.whole (Declared'.row NumberedReply.the-type);
   rd = λ x. x;
   mk = λ x. x;
 } λ M 𝓤 H A W. record {
-  copies = Laws'6.copy Answered.the-type Laws.the-copy 𝓤 H A W;
-  lawful = Laws'6.lawful Answered.the-type Laws.the-laws 𝓤 H A W;
-  makes = Laws'6.makes Answered.the-type Laws.the-plain 𝓤 H A;
-  in-mem = Local.mem-whole 𝓤 H A W (Declared'.row Answered.the-type);
-  of-mem = Local.whole-mem 𝓤 H A W (Declared'.row Answered.the-type);
+  copies = Laws'6.copy NumberedReply.the-type Laws.the-copy 𝓤 H A W;
+  lawful = Laws'6.lawful NumberedReply.the-type Laws.the-laws 𝓤 H A W;
+  makes = Laws'6.makes NumberedReply.the-type Laws.the-plain 𝓤 H A;
+  in-mem = Local.mem-whole 𝓤 H A W (Declared'.row NumberedReply.the-type);
+  of-mem = Local.whole-mem 𝓤 H A W (Declared'.row NumberedReply.the-type);
 }
 
 abbrev pub xs : List.List Syntax.Ty
-xs = List._∷_ ty·18 (List._∷_ ty·16 (List._∷_ ty·19 (List._∷_ ty·17 (List._∷_ Syntax.tyBool (List._∷_ ty·5 (List._∷_ (Syntax.tyStruct (List._∷_ 38 (List._∷_ 91 (List._∷_ 93 List.[]))) (Syntax.tcons ty·5 (Syntax.tcons (Syntax.tyInt Syntax.w64) Syntax.tnil))) (List._∷_ ty·3 (List._∷_ (Syntax.tyStruct (List._∷_ 38 (List._∷_ 91 (List._∷_ 93 List.[])))
+xs = List._∷_ ty·18 (List._∷_ ty·15 (List._∷_ ty·19 (List._∷_ ty·17 (List._∷_ Syntax.tyBool (List._∷_ ty·5 (List._∷_ (Syntax.tyStruct (List._∷_ 38 (List._∷_ 91 (List._∷_ 93 List.[]))) (Syntax.tcons ty·5 (Syntax.tcons (Syntax.tyInt Syntax.w64) Syntax.tnil))) (List._∷_ ty·3 (List._∷_ (Syntax.tyStruct (List._∷_ 38 (List._∷_ 91 (List._∷_ 93 List.[])))
     (Syntax.tcons ty·3 (Syntax.tcons (Syntax.tyInt Syntax.w64) Syntax.tnil))) (List._∷_ ty·0 (List._∷_ (Syntax.tyStruct (List._∷_ 38 (List._∷_ 91 (List._∷_ 93 List.[]))) (Syntax.tcons ty·0 (Syntax.tcons (Syntax.tyInt Syntax.w64) Syntax.tnil))) (List._∷_ (Syntax.tyInt Syntax.w64) (List._∷_ ty·6 (List._∷_ (Syntax.tyStruct
     (List._∷_ 38 (List._∷_ 91 (List._∷_ 93 List.[]))) (Syntax.tcons ty·6 (Syntax.tcons (Syntax.tyInt Syntax.w64) Syntax.tnil))) (List._∷_ ty·3 (List._∷_ (Syntax.tyStruct (List._∷_ 38 (List._∷_ 91 (List._∷_ 93 List.[]))) (Syntax.tcons ty·3 (Syntax.tcons (Syntax.tyInt Syntax.w64) Syntax.tnil))) (List._∷_ ty·0 (List._∷_ (Syntax.tyStruct
     (List._∷_ 38 (List._∷_ 91 (List._∷_ 93 List.[]))) (Syntax.tcons ty·0 (Syntax.tcons (Syntax.tyInt Syntax.w64) Syntax.tnil))) (List._∷_ (Syntax.tyInt Syntax.w64) (List._∷_ ty·5 (List._∷_ (Syntax.tyStruct (List._∷_ 38 (List._∷_ 91 (List._∷_ 93 List.[]))) (Syntax.tcons ty·5 (Syntax.tcons (Syntax.tyInt Syntax.w64) Syntax.tnil))) (List._∷_ ty·4 (List._∷_
@@ -432,20 +432,20 @@ ps·1 = List._∷_ (Value.pVal record {
 
 abbrev pub r·1 : Kinds.RK 0
 r·1 = Value.rVal record {
-  ty = Declared'.row Answered.the-type;
+  ty = Declared'.row NumberedReply.the-type;
   one = Path'.refl;
-  val = Laws'6.val Answered.the-type Laws.the-laws;
-  tells = Laws'6.tells Answered.the-type Laws.the-laws;
-  still = Laws'6.still Answered.the-type Laws.the-copy Exit.yes;
-  row = Rows.whole (Declared'.row Answered.the-type);
+  val = Laws'6.val NumberedReply.the-type Laws.the-laws;
+  tells = Laws'6.tells NumberedReply.the-type Laws.the-laws;
+  still = Laws'6.still NumberedReply.the-type Laws.the-copy Exit.yes;
+  row = Rows.whole (Declared'.row NumberedReply.the-type);
   rd = λ x. x;
   mk = λ x. x;
 } λ M 𝓤 H A W. record {
-  copies = Laws'6.copy Answered.the-type Laws.the-copy 𝓤 H A W;
-  lawful = Laws'6.lawful Answered.the-type Laws.the-laws 𝓤 H A W;
-  makes = Laws'6.makes Answered.the-type Laws.the-plain 𝓤 H A;
-  in-mem = Local.mem-whole 𝓤 H A W (Declared'.row Answered.the-type);
-  of-mem = Local.whole-mem 𝓤 H A W (Declared'.row Answered.the-type);
+  copies = Laws'6.copy NumberedReply.the-type Laws.the-copy 𝓤 H A W;
+  lawful = Laws'6.lawful NumberedReply.the-type Laws.the-laws 𝓤 H A W;
+  makes = Laws'6.makes NumberedReply.the-type Laws.the-plain 𝓤 H A;
+  in-mem = Local.mem-whole 𝓤 H A W (Declared'.row NumberedReply.the-type);
+  of-mem = Local.whole-mem 𝓤 H A W (Declared'.row NumberedReply.the-type);
 }
 
 abbrev pub ps·2 : List.List (Kinds.PK 9)
@@ -491,20 +491,20 @@ ps·3 = List._∷_ (Value.pVal record {
 
 abbrev pub r·3 : Kinds.RK 0
 r·3 = Value.rVal record {
-  ty = Declared'.row Answered.the-type;
+  ty = Declared'.row NumberedReply.the-type;
   one = Path'.refl;
-  val = Laws'6.val Answered.the-type Laws.the-laws;
-  tells = Laws'6.tells Answered.the-type Laws.the-laws;
-  still = Laws'6.still Answered.the-type Laws.the-copy Exit.yes;
-  row = Rows.whole (Declared'.row Answered.the-type);
+  val = Laws'6.val NumberedReply.the-type Laws.the-laws;
+  tells = Laws'6.tells NumberedReply.the-type Laws.the-laws;
+  still = Laws'6.still NumberedReply.the-type Laws.the-copy Exit.yes;
+  row = Rows.whole (Declared'.row NumberedReply.the-type);
   rd = λ x. x;
   mk = λ x. x;
 } λ M 𝓤 H A W. record {
-  copies = Laws'6.copy Answered.the-type Laws.the-copy 𝓤 H A W;
-  lawful = Laws'6.lawful Answered.the-type Laws.the-laws 𝓤 H A W;
-  makes = Laws'6.makes Answered.the-type Laws.the-plain 𝓤 H A;
-  in-mem = Local.mem-whole 𝓤 H A W (Declared'.row Answered.the-type);
-  of-mem = Local.whole-mem 𝓤 H A W (Declared'.row Answered.the-type);
+  copies = Laws'6.copy NumberedReply.the-type Laws.the-copy 𝓤 H A W;
+  lawful = Laws'6.lawful NumberedReply.the-type Laws.the-laws 𝓤 H A W;
+  makes = Laws'6.makes NumberedReply.the-type Laws.the-plain 𝓤 H A;
+  in-mem = Local.mem-whole 𝓤 H A W (Declared'.row NumberedReply.the-type);
+  of-mem = Local.whole-mem 𝓤 H A W (Declared'.row NumberedReply.the-type);
 }
 
 abbrev pub ps·4 : List.List (Kinds.PK 9)
@@ -550,20 +550,20 @@ ps·5 = List._∷_ (Value.pVal record {
 
 abbrev pub r·5 : Kinds.RK 0
 r·5 = Value.rVal record {
-  ty = Declared'.row Answered.the-type;
+  ty = Declared'.row NumberedReply.the-type;
   one = Path'.refl;
-  val = Laws'6.val Answered.the-type Laws.the-laws;
-  tells = Laws'6.tells Answered.the-type Laws.the-laws;
-  still = Laws'6.still Answered.the-type Laws.the-copy Exit.yes;
-  row = Rows.whole (Declared'.row Answered.the-type);
+  val = Laws'6.val NumberedReply.the-type Laws.the-laws;
+  tells = Laws'6.tells NumberedReply.the-type Laws.the-laws;
+  still = Laws'6.still NumberedReply.the-type Laws.the-copy Exit.yes;
+  row = Rows.whole (Declared'.row NumberedReply.the-type);
   rd = λ x. x;
   mk = λ x. x;
 } λ M 𝓤 H A W. record {
-  copies = Laws'6.copy Answered.the-type Laws.the-copy 𝓤 H A W;
-  lawful = Laws'6.lawful Answered.the-type Laws.the-laws 𝓤 H A W;
-  makes = Laws'6.makes Answered.the-type Laws.the-plain 𝓤 H A;
-  in-mem = Local.mem-whole 𝓤 H A W (Declared'.row Answered.the-type);
-  of-mem = Local.whole-mem 𝓤 H A W (Declared'.row Answered.the-type);
+  copies = Laws'6.copy NumberedReply.the-type Laws.the-copy 𝓤 H A W;
+  lawful = Laws'6.lawful NumberedReply.the-type Laws.the-laws 𝓤 H A W;
+  makes = Laws'6.makes NumberedReply.the-type Laws.the-plain 𝓤 H A;
+  in-mem = Local.mem-whole 𝓤 H A W (Declared'.row NumberedReply.the-type);
+  of-mem = Local.whole-mem 𝓤 H A W (Declared'.row NumberedReply.the-type);
 }
 
 abbrev pub ps·6 : List.List (Kinds.PK 9)
@@ -608,20 +608,20 @@ ps·7 = List._∷_ (Value.pVal record {
 
 abbrev pub r·7 : Kinds.RK 0
 r·7 = Value.rVal record {
-  ty = Declared'.row Answered.the-type;
+  ty = Declared'.row NumberedReply.the-type;
   one = Path'.refl;
-  val = Laws'6.val Answered.the-type Laws.the-laws;
-  tells = Laws'6.tells Answered.the-type Laws.the-laws;
-  still = Laws'6.still Answered.the-type Laws.the-copy Exit.yes;
-  row = Rows.whole (Declared'.row Answered.the-type);
+  val = Laws'6.val NumberedReply.the-type Laws.the-laws;
+  tells = Laws'6.tells NumberedReply.the-type Laws.the-laws;
+  still = Laws'6.still NumberedReply.the-type Laws.the-copy Exit.yes;
+  row = Rows.whole (Declared'.row NumberedReply.the-type);
   rd = λ x. x;
   mk = λ x. x;
 } λ M 𝓤 H A W. record {
-  copies = Laws'6.copy Answered.the-type Laws.the-copy 𝓤 H A W;
-  lawful = Laws'6.lawful Answered.the-type Laws.the-laws 𝓤 H A W;
-  makes = Laws'6.makes Answered.the-type Laws.the-plain 𝓤 H A;
-  in-mem = Local.mem-whole 𝓤 H A W (Declared'.row Answered.the-type);
-  of-mem = Local.whole-mem 𝓤 H A W (Declared'.row Answered.the-type);
+  copies = Laws'6.copy NumberedReply.the-type Laws.the-copy 𝓤 H A W;
+  lawful = Laws'6.lawful NumberedReply.the-type Laws.the-laws 𝓤 H A W;
+  makes = Laws'6.makes NumberedReply.the-type Laws.the-plain 𝓤 H A;
+  in-mem = Local.mem-whole 𝓤 H A W (Declared'.row NumberedReply.the-type);
+  of-mem = Local.whole-mem 𝓤 H A W (Declared'.row NumberedReply.the-type);
 }
 
 abbrev pub hs : List.List Syntax.Home
@@ -1564,7 +1564,7 @@ module _ (claims· : Claims) where
   s34 = Call.callB ps·1 r·1 (claims· .2) (claims· .3) T35 (
     record { pos = 12; st = List.[]; d = 0; at = λ x. x },
     tt,
-  ) 0 List.[] ty·15
+  ) 0 List.[] ty·16
 
   abbrev s35 : Typed.Mo T37 → Typed.Mo T38
   s35 = Scalar.n-room T37 12 ty·18
@@ -1646,7 +1646,7 @@ module _ (claims· : Claims) where
         ),
       ),
     ),
-  ) 13 (List._∷_ 0 (List._∷_ 1 (List._∷_ 2 (List._∷_ 3 (List._∷_ 4 (List._∷_ 5 (List._∷_ 12 (List._∷_ 13 (List._∷_ 14 List.[]))))))))) ty·16
+  ) 13 (List._∷_ 0 (List._∷_ 1 (List._∷_ 2 (List._∷_ 3 (List._∷_ 4 (List._∷_ 5 (List._∷_ 12 (List._∷_ 13 (List._∷_ 14 List.[]))))))))) ty·15
 
   abbrev s52 : Typed.Mo T55 → Typed.Mo T56
   s52 = Scalar.n-room T55 29 (Syntax.tyStruct (List._∷_ 38 (List._∷_ 91 (List._∷_ 93 List.[]))) (Syntax.tcons ty·0 (Syntax.tcons (Syntax.tyInt Syntax.w64) Syntax.tnil)))
@@ -1673,10 +1673,10 @@ module _ (claims· : Claims) where
   s65 = Call.callB ps·3 r·3 (claims· .6) (claims· .7) T67 (
     record { pos = 13; st = List.[]; d = 0; at = λ x. x },
     tt,
-  ) 0 List.[] ty·15
+  ) 0 List.[] ty·16
 
   abbrev s66 : Typed.Mo T69 → Typed.Mo T70
-  s66 = Scalar.n-room T69 13 ty·16
+  s66 = Scalar.n-room T69 13 ty·15
 
   abbrev s67 : Typed.Mo T70 → Typed.Mo T71
   s67 = Scalar.n-room T70 10 (Syntax.tyInt Syntax.w8)
@@ -1779,7 +1779,7 @@ module _ (claims· : Claims) where
   s95 = Call.callB ps·5 r·5 (claims· .10) (claims· .11) T98 (
     record { pos = 14; st = List.[]; d = 0; at = λ x. x },
     tt,
-  ) 0 List.[] ty·15
+  ) 0 List.[] ty·16
 
   abbrev s96 : Typed.Mo T100 → Typed.Mo T101
   s96 = Scalar.n-room T100 14 ty·19
@@ -1876,7 +1876,7 @@ module _ (claims· : Claims) where
   s122 = Call.callB ps·7 r·7 (claims· .14) (claims· .15) T125 (
     record { pos = 15; st = List.[]; d = 0; at = λ x. x },
     tt,
-  ) 0 List.[] ty·15
+  ) 0 List.[] ty·16
 
   abbrev s123 : Typed.Mo T127 → Typed.Mo T128
   s123 = Scalar.n-room T127 15 ty·17
@@ -2326,7 +2326,7 @@ module _ (claims· : Claims) where
         abbrev g5 : List.List Row.Entry
         g5 = List._∷_ (
           0,
-          Rows.any-gone ty·15,
+          Rows.any-gone ty·16,
         ) (List._∷_ (
           1,
           Rows.sslice (Referent.rtF (Referent.fInt Syntax.w16)) ty·9 0,
@@ -2362,7 +2362,7 @@ module _ (claims· : Claims) where
           Rows.any-gone ty·18,
         ) (List._∷_ (
           13,
-          Rows.any-gone ty·16,
+          Rows.any-gone ty·15,
         ) (List._∷_ (
           14,
           Rows.any-gone ty·19,
@@ -2374,7 +2374,7 @@ module _ (claims· : Claims) where
         abbrev g8 : List.List Row.Entry
         g8 = List._∷_ (
           0,
-          Rows.any-gone ty·15,
+          Rows.any-gone ty·16,
         ) (List._∷_ (
           1,
           Rows.sslice (Referent.rtF (Referent.fInt Syntax.w16)) ty·9 0,
@@ -2410,7 +2410,7 @@ module _ (claims· : Claims) where
           Rows.any-gone ty·18,
         ) (List._∷_ (
           13,
-          Rows.any-gone ty·16,
+          Rows.any-gone ty·15,
         ) (List._∷_ (
           14,
           Rows.any-gone ty·19,
@@ -2422,7 +2422,7 @@ module _ (claims· : Claims) where
         abbrev g11 : List.List Row.Entry
         g11 = List._∷_ (
           0,
-          Rows.any-gone ty·15,
+          Rows.any-gone ty·16,
         ) (List._∷_ (
           1,
           Rows.sslice (Referent.rtF (Referent.fInt Syntax.w16)) ty·9 0,
@@ -2458,7 +2458,7 @@ module _ (claims· : Claims) where
           Rows.any-gone ty·18,
         ) (List._∷_ (
           13,
-          Rows.any-gone ty·16,
+          Rows.any-gone ty·15,
         ) (List._∷_ (
           14,
           Rows.any-gone ty·19,
@@ -2470,7 +2470,7 @@ module _ (claims· : Claims) where
         abbrev g15 : List.List Row.Entry
         g15 = List._∷_ (
           0,
-          Rows.any-gone ty·15,
+          Rows.any-gone ty·16,
         ) (List._∷_ (
           1,
           Rows.sslice (Referent.rtF (Referent.fInt Syntax.w16)) ty·9 0,
@@ -2503,7 +2503,7 @@ module _ (claims· : Claims) where
           Rows.sc-here (Row.sInt Syntax.w16),
         ) (List._∷_ (12, Rows.whole (Declared.row GrantReply.the-type)) (List._∷_ (
           13,
-          Rows.any-gone ty·16,
+          Rows.any-gone ty·15,
         ) (List._∷_ (
           14,
           Rows.any-gone ty·19,
@@ -2515,7 +2515,7 @@ module _ (claims· : Claims) where
         abbrev g20 : List.List Row.Entry
         g20 = List._∷_ (
           0,
-          Rows.any-gone ty·15,
+          Rows.any-gone ty·16,
         ) (List._∷_ (
           1,
           Rows.sslice (Referent.rtF (Referent.fInt Syntax.w16)) ty·9 0,
@@ -2548,7 +2548,7 @@ module _ (claims· : Claims) where
           Rows.sc-here (Row.sInt Syntax.w16),
         ) (List._∷_ (12, Rows.whole (Declared.row GrantReply.the-type)) (List._∷_ (
           13,
-          Rows.any-gone ty·16,
+          Rows.any-gone ty·15,
         ) (List._∷_ (
           14,
           Rows.any-gone ty·19,
@@ -2560,7 +2560,7 @@ module _ (claims· : Claims) where
         abbrev g21 : List.List Row.Entry
         g21 = List._∷_ (
           0,
-          Rows.any-gone ty·15,
+          Rows.any-gone ty·16,
         ) (List._∷_ (
           1,
           Rows.sslice (Referent.rtF (Referent.fInt Syntax.w16)) ty·9 0,
@@ -2593,7 +2593,7 @@ module _ (claims· : Claims) where
           Rows.sc-here (Row.sInt Syntax.w16),
         ) (List._∷_ (12, Rows.whole (Declared.row GrantReply.the-type)) (List._∷_ (
           13,
-          Rows.any-gone ty·16,
+          Rows.any-gone ty·15,
         ) (List._∷_ (
           14,
           Rows.any-gone ty·19,
@@ -2605,7 +2605,7 @@ module _ (claims· : Claims) where
         abbrev g26 : List.List Row.Entry
         g26 = List._∷_ (
           0,
-          Rows.any-gone ty·15,
+          Rows.any-gone ty·16,
         ) (List._∷_ (
           1,
           Rows.sslice (Referent.rtF (Referent.fInt Syntax.w16)) ty·9 0,
@@ -2641,7 +2641,7 @@ module _ (claims· : Claims) where
           Rows.any-gone ty·18,
         ) (List._∷_ (
           13,
-          Rows.any-gone ty·16,
+          Rows.any-gone ty·15,
         ) (List._∷_ (
           14,
           Rows.any-gone ty·19,
@@ -2653,7 +2653,7 @@ module _ (claims· : Claims) where
         abbrev g29 : List.List Row.Entry
         g29 = List._∷_ (
           0,
-          Rows.any-gone ty·15,
+          Rows.any-gone ty·16,
         ) (List._∷_ (
           1,
           Rows.sslice (Referent.rtF (Referent.fInt Syntax.w16)) ty·9 0,
@@ -2689,7 +2689,7 @@ module _ (claims· : Claims) where
           Rows.any-gone ty·18,
         ) (List._∷_ (
           13,
-          Rows.any-gone ty·16,
+          Rows.any-gone ty·15,
         ) (List._∷_ (
           14,
           Rows.any-gone ty·19,
@@ -2701,7 +2701,7 @@ module _ (claims· : Claims) where
         abbrev g32 : List.List Row.Entry
         g32 = List._∷_ (
           0,
-          Rows.any-gone ty·15,
+          Rows.any-gone ty·16,
         ) (List._∷_ (
           1,
           Rows.sslice (Referent.rtF (Referent.fInt Syntax.w16)) ty·9 0,
@@ -2737,7 +2737,7 @@ module _ (claims· : Claims) where
           Rows.any-gone ty·18,
         ) (List._∷_ (
           13,
-          Rows.any-gone ty·16,
+          Rows.any-gone ty·15,
         ) (List._∷_ (
           14,
           Rows.any-gone ty·19,
@@ -2749,7 +2749,7 @@ module _ (claims· : Claims) where
         abbrev g36 : List.List Row.Entry
         g36 = List._∷_ (
           0,
-          Rows.any-gone ty·15,
+          Rows.any-gone ty·16,
         ) (List._∷_ (
           1,
           Rows.sslice (Referent.rtF (Referent.fInt Syntax.w16)) ty·9 0,
@@ -2794,7 +2794,7 @@ module _ (claims· : Claims) where
         abbrev g40 : List.List Row.Entry
         g40 = List._∷_ (
           0,
-          Rows.any-gone ty·15,
+          Rows.any-gone ty·16,
         ) (List._∷_ (
           1,
           Rows.sslice (Referent.rtF (Referent.fInt Syntax.w16)) ty·9 0,
@@ -2839,7 +2839,7 @@ module _ (claims· : Claims) where
         abbrev g42 : List.List Row.Entry
         g42 = List._∷_ (
           0,
-          Rows.any-gone ty·15,
+          Rows.any-gone ty·16,
         ) (List._∷_ (
           1,
           Rows.sslice (Referent.rtF (Referent.fInt Syntax.w16)) ty·9 0,
@@ -2884,7 +2884,7 @@ module _ (claims· : Claims) where
         abbrev g45 : List.List Row.Entry
         g45 = List._∷_ (
           0,
-          Rows.any-gone ty·15,
+          Rows.any-gone ty·16,
         ) (List._∷_ (
           1,
           Rows.sslice (Referent.rtF (Referent.fInt Syntax.w16)) ty·9 0,
@@ -2920,7 +2920,7 @@ module _ (claims· : Claims) where
           Rows.any-gone ty·18,
         ) (List._∷_ (
           13,
-          Rows.any-gone ty·16,
+          Rows.any-gone ty·15,
         ) (List._∷_ (
           14,
           Rows.any-gone ty·19,
@@ -2932,7 +2932,7 @@ module _ (claims· : Claims) where
         abbrev g48 : List.List Row.Entry
         g48 = List._∷_ (
           0,
-          Rows.any-gone ty·15,
+          Rows.any-gone ty·16,
         ) (List._∷_ (
           1,
           Rows.sslice (Referent.rtF (Referent.fInt Syntax.w16)) ty·9 0,
@@ -2968,7 +2968,7 @@ module _ (claims· : Claims) where
           Rows.any-gone ty·18,
         ) (List._∷_ (
           13,
-          Rows.any-gone ty·16,
+          Rows.any-gone ty·15,
         ) (List._∷_ (
           14,
           Rows.any-gone ty·19,
@@ -2980,7 +2980,7 @@ module _ (claims· : Claims) where
         abbrev g51 : List.List Row.Entry
         g51 = List._∷_ (
           0,
-          Rows.any-gone ty·15,
+          Rows.any-gone ty·16,
         ) (List._∷_ (
           1,
           Rows.sslice (Referent.rtF (Referent.fInt Syntax.w16)) ty·9 0,
@@ -3016,7 +3016,7 @@ module _ (claims· : Claims) where
           Rows.any-gone ty·18,
         ) (List._∷_ (
           13,
-          Rows.any-gone ty·16,
+          Rows.any-gone ty·15,
         ) (List._∷_ (
           14,
           Rows.any-gone ty·19,
@@ -3028,7 +3028,7 @@ module _ (claims· : Claims) where
         abbrev g55 : List.List Row.Entry
         g55 = List._∷_ (
           0,
-          Rows.any-gone ty·15,
+          Rows.any-gone ty·16,
         ) (List._∷_ (
           1,
           Rows.sslice (Referent.rtF (Referent.fInt Syntax.w16)) ty·9 0,
@@ -3064,7 +3064,7 @@ module _ (claims· : Claims) where
           Rows.any-gone ty·18,
         ) (List._∷_ (
           13,
-          Rows.any-gone ty·16,
+          Rows.any-gone ty·15,
         ) (List._∷_ (14, Rows.whole (Declared.row TurnReply.the-type)) (List._∷_ (
           15,
           Rows.any-gone ty·17,
@@ -3073,7 +3073,7 @@ module _ (claims· : Claims) where
         abbrev g60 : List.List Row.Entry
         g60 = List._∷_ (
           0,
-          Rows.any-gone ty·15,
+          Rows.any-gone ty·16,
         ) (List._∷_ (
           1,
           Rows.sslice (Referent.rtF (Referent.fInt Syntax.w16)) ty·9 0,
@@ -3109,7 +3109,7 @@ module _ (claims· : Claims) where
           Rows.any-gone ty·18,
         ) (List._∷_ (
           13,
-          Rows.any-gone ty·16,
+          Rows.any-gone ty·15,
         ) (List._∷_ (14, Rows.whole (Declared.row TurnReply.the-type)) (List._∷_ (
           15,
           Rows.any-gone ty·17,
@@ -3118,7 +3118,7 @@ module _ (claims· : Claims) where
         abbrev g61 : List.List Row.Entry
         g61 = List._∷_ (
           0,
-          Rows.any-gone ty·15,
+          Rows.any-gone ty·16,
         ) (List._∷_ (
           1,
           Rows.sslice (Referent.rtF (Referent.fInt Syntax.w16)) ty·9 0,
@@ -3154,7 +3154,7 @@ module _ (claims· : Claims) where
           Rows.any-gone ty·18,
         ) (List._∷_ (
           13,
-          Rows.any-gone ty·16,
+          Rows.any-gone ty·15,
         ) (List._∷_ (14, Rows.whole (Declared.row TurnReply.the-type)) (List._∷_ (
           15,
           Rows.any-gone ty·17,
@@ -3163,7 +3163,7 @@ module _ (claims· : Claims) where
         abbrev g64 : List.List Row.Entry
         g64 = List._∷_ (
           0,
-          Rows.any-gone ty·15,
+          Rows.any-gone ty·16,
         ) (List._∷_ (
           1,
           Rows.sslice (Referent.rtF (Referent.fInt Syntax.w16)) ty·9 0,
@@ -3199,7 +3199,7 @@ module _ (claims· : Claims) where
           Rows.any-gone ty·18,
         ) (List._∷_ (
           13,
-          Rows.any-gone ty·16,
+          Rows.any-gone ty·15,
         ) (List._∷_ (
           14,
           Rows.any-gone ty·19,
@@ -3211,7 +3211,7 @@ module _ (claims· : Claims) where
         abbrev g67 : List.List Row.Entry
         g67 = List._∷_ (
           0,
-          Rows.any-gone ty·15,
+          Rows.any-gone ty·16,
         ) (List._∷_ (
           1,
           Rows.sslice (Referent.rtF (Referent.fInt Syntax.w16)) ty·9 0,
@@ -3247,7 +3247,7 @@ module _ (claims· : Claims) where
           Rows.any-gone ty·18,
         ) (List._∷_ (
           13,
-          Rows.any-gone ty·16,
+          Rows.any-gone ty·15,
         ) (List._∷_ (
           14,
           Rows.any-gone ty·19,
@@ -3259,7 +3259,7 @@ module _ (claims· : Claims) where
         abbrev g70 : List.List Row.Entry
         g70 = List._∷_ (
           0,
-          Rows.any-gone ty·15,
+          Rows.any-gone ty·16,
         ) (List._∷_ (
           1,
           Rows.sslice (Referent.rtF (Referent.fInt Syntax.w16)) ty·9 0,
@@ -3295,7 +3295,7 @@ module _ (claims· : Claims) where
           Rows.any-gone ty·18,
         ) (List._∷_ (
           13,
-          Rows.any-gone ty·16,
+          Rows.any-gone ty·15,
         ) (List._∷_ (
           14,
           Rows.any-gone ty·19,
@@ -3307,7 +3307,7 @@ module _ (claims· : Claims) where
         abbrev g73 : List.List Row.Entry
         g73 = List._∷_ (
           0,
-          Rows.any-gone ty·15,
+          Rows.any-gone ty·16,
         ) (List._∷_ (
           1,
           Rows.sslice (Referent.rtF (Referent.fInt Syntax.w16)) ty·9 0,
@@ -3343,7 +3343,7 @@ module _ (claims· : Claims) where
           Rows.any-gone ty·18,
         ) (List._∷_ (
           13,
-          Rows.any-gone ty·16,
+          Rows.any-gone ty·15,
         ) (List._∷_ (
           14,
           Rows.any-gone ty·19,
@@ -3352,7 +3352,7 @@ module _ (claims· : Claims) where
         abbrev g76 : List.List Row.Entry
         g76 = List._∷_ (
           0,
-          Rows.any-gone ty·15,
+          Rows.any-gone ty·16,
         ) (List._∷_ (
           1,
           Rows.sslice (Referent.rtF (Referent.fInt Syntax.w16)) ty·9 0,
@@ -3388,7 +3388,7 @@ module _ (claims· : Claims) where
           Rows.any-gone ty·18,
         ) (List._∷_ (
           13,
-          Rows.any-gone ty·16,
+          Rows.any-gone ty·15,
         ) (List._∷_ (
           14,
           Rows.any-gone ty·19,
@@ -3397,7 +3397,7 @@ module _ (claims· : Claims) where
         abbrev g77 : List.List Row.Entry
         g77 = List._∷_ (
           0,
-          Rows.any-gone ty·15,
+          Rows.any-gone ty·16,
         ) (List._∷_ (
           1,
           Rows.sslice (Referent.rtF (Referent.fInt Syntax.w16)) ty·9 0,
@@ -3433,7 +3433,7 @@ module _ (claims· : Claims) where
           Rows.any-gone ty·18,
         ) (List._∷_ (
           13,
-          Rows.any-gone ty·16,
+          Rows.any-gone ty·15,
         ) (List._∷_ (
           14,
           Rows.any-gone ty·19,
@@ -4523,7 +4523,7 @@ module _ (claims· : Claims) where
               Path'.refl,
             ),
             tt,
-          ) (Reads.room-gone 𝓤 H A ty·15) tt Path'.refl) d3
+          ) (Reads.room-gone 𝓤 H A ty·16) tt Path'.refl) d3
 
           d5 : Typed.Typed 𝓤 H A 𝓣 E G35 b11 Δ1 at5
           d5 = Typed.g-pre 𝓤 H A W 𝓣 E G35 G36 b11 Δ1 (λ Ψ. Ψ) at4 (Lifetime.g-forget 𝓤 H A W E G35 11 Row.dead Path'.refl) d4
@@ -5098,7 +5098,7 @@ module _ (claims· : Claims) where
           d35 = Typed.g-pre 𝓤 H A W 𝓣 E G70 G71 b32 Δ2 (Typed.pass T70 T71 s67) at34 (Scalar.g-room 𝓤 H A W E G70 10 (Syntax.tyInt Syntax.w8) (Scalar.room-sc 𝓤 H A W (Row.sInt Syntax.w8))) d34
 
           d36 : Typed.Typed 𝓤 H A 𝓣 E G69 b32 Δ2 at36
-          d36 = Typed.g-pre 𝓤 H A W 𝓣 E G69 G70 b32 Δ2 (Typed.pass T69 T70 s66) at35 (Scalar.g-room 𝓤 H A W E G69 13 ty·16 (Local.room-whole 𝓤 H A W (Declared.row ArriveReply.the-type) ty·16 Path'.refl)) d35
+          d36 = Typed.g-pre 𝓤 H A W 𝓣 E G69 G70 b32 Δ2 (Typed.pass T69 T70 s66) at35 (Scalar.g-room 𝓤 H A W E G69 13 ty·15 (Local.room-whole 𝓤 H A W (Declared.row ArriveReply.the-type) ty·15 Path'.refl)) d35
 
           d37 : Typed.Typed 𝓤 H A 𝓣 E G68 b33 Δ2 at37
           d37 = Typed.s-seq 𝓤 H A W 𝓣 E G68 G69 b31 b32 Δ2 (Typed.both s65) at36 (Plain.t-call-plain 𝓤 H A W 𝓣 0 ps·3 r·3 (claims· .6) (claims· .7) "dispatch::answers::of_arrive" (known .3) E (λ pos β. β) G68 (record { pos = 13; st = List.[]; d = 0; at = λ x. x }, tt) 0 List.[] (Call.sub-id 𝓤 H A W (G68 .slots)) (
@@ -5108,7 +5108,7 @@ module _ (claims· : Claims) where
               Path'.refl,
             ),
             tt,
-          ) (Reads.room-gone 𝓤 H A ty·15) tt Path'.refl) d36
+          ) (Reads.room-gone 𝓤 H A ty·16) tt Path'.refl) d36
 
           d38 : Typed.Typed 𝓤 H A 𝓣 E G67 b33 Δ2 at38
           d38 = Typed.g-pre 𝓤 H A W 𝓣 E G67 G68 b33 Δ2 (λ Ψ. Ψ) at37 (Lifetime.g-forget 𝓤 H A W E G67 14 Row.dead Path'.refl) d37
@@ -5235,7 +5235,7 @@ module _ (claims· : Claims) where
                     ),
                   ),
                 ),
-              ) (Reads.room-gone 𝓤 H A ty·16) (tt, (tt, (tt, (tt, (tt, (tt, (tt, (tt, (tt, tt)))))))))
+              ) (Reads.room-gone 𝓤 H A ty·15) (tt, (tt, (tt, (tt, (tt, (tt, (tt, (tt, (tt, tt)))))))))
               Path'.refl) d50
 
           d52 : Typed.Typed 𝓤 H A 𝓣 E G53 b35 Δ2 at52
@@ -5693,7 +5693,7 @@ module _ (claims· : Claims) where
               Path'.refl,
             ),
             tt,
-          ) (Reads.room-gone 𝓤 H A ty·15) tt Path'.refl) d69
+          ) (Reads.room-gone 𝓤 H A ty·16) tt Path'.refl) d69
 
           d71 : Typed.Typed 𝓤 H A 𝓣 E G98 b55 Δ3 at71
           d71 = Typed.g-pre 𝓤 H A W 𝓣 E G98 G99 b55 Δ3 (λ Ψ. Ψ) at70 (Lifetime.g-forget 𝓤 H A W E G98 17 Row.dead Path'.refl) d70
@@ -6276,7 +6276,7 @@ module _ (claims· : Claims) where
               Path'.refl,
             ),
             tt,
-          ) (Reads.room-gone 𝓤 H A ty·15) tt Path'.refl) d101
+          ) (Reads.room-gone 𝓤 H A ty·16) tt Path'.refl) d101
 
           d103 : Typed.Typed 𝓤 H A 𝓣 E G125 b75 Δ0 at103
           d103 = Typed.g-pre 𝓤 H A W 𝓣 E G125 G126 b75 Δ0 (λ Ψ. Ψ) at102 (Lifetime.g-forget 𝓤 H A W E G125 20 Row.dead Path'.refl) d102

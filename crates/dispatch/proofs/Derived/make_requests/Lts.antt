@@ -1,8 +1,8 @@
 -- `dispatch::requests::make_requests`: Lts, carried over by tools/lend.py. Assumes nothing.
 use Rattle.records.proofs.Row as Rec
 use Prim.Native.Nat
-use Rattle.dispatch.proofs.answers.Answered
-use Rattle.dispatch.proofs.answers.Answered.Laws
+use Rattle.dispatch.proofs.answers.NumberedReply
+use Rattle.dispatch.proofs.answers.NumberedReply.Laws
 use borrow.Author.Called
 use borrow.Author.Tests
 use borrow.Fn.Any
@@ -98,7 +98,7 @@ abbrev ty·15 : Syntax.Ty
 ty·15 = Syntax.tyRef (Syntax.named 12) Syntax.mut (Syntax.tyInt Syntax.w32)
 
 abbrev ty·16 : Syntax.Ty
-ty·16 = Syntax.tyStruct (List._∷_ 100 (List._∷_ 105 (List._∷_ 115 (List._∷_ 112 (List._∷_ 97 (List._∷_ 116 (List._∷_ 99 (List._∷_ 104 (List._∷_ 58 (List._∷_ 58 (List._∷_ 97 (List._∷_ 110 (List._∷_ 115 (List._∷_ 119 (List._∷_ 101 (List._∷_ 114 (List._∷_ 115 (List._∷_ 58 (List._∷_ 58 (List._∷_ 65 (List._∷_ 110 (List._∷_ 115 (List._∷_ 119 (List._∷_ 101 (List._∷_ 114 (List._∷_ 101 (List._∷_ 100 List.[]))))))))))))))))))))))))))) (Syntax.tcons (Syntax.tyInt Syntax.w16) (Syntax.tcons (Syntax.tyInt Syntax.w32) Syntax.tnil))
+ty·16 = Syntax.tyStruct (List._∷_ 100 (List._∷_ 105 (List._∷_ 115 (List._∷_ 112 (List._∷_ 97 (List._∷_ 116 (List._∷_ 99 (List._∷_ 104 (List._∷_ 58 (List._∷_ 58 (List._∷_ 97 (List._∷_ 110 (List._∷_ 115 (List._∷_ 119 (List._∷_ 101 (List._∷_ 114 (List._∷_ 115 (List._∷_ 58 (List._∷_ 58 (List._∷_ 78 (List._∷_ 117 (List._∷_ 109 (List._∷_ 98 (List._∷_ 101 (List._∷_ 114 (List._∷_ 101 (List._∷_ 100 (List._∷_ 82 (List._∷_ 101 (List._∷_ 112 (List._∷_ 108 (List._∷_ 121 List.[])))))))))))))))))))))))))))))))) (Syntax.tcons (Syntax.tyInt Syntax.w16) (Syntax.tcons (Syntax.tyInt Syntax.w32) Syntax.tnil))
 
 abbrev row·0 : Row.Row
 row·0 = Rows.any-gone Syntax.tyUnit
@@ -224,7 +224,7 @@ abbrev row·40 : Row.Row
 row·40 = Rows.sc-here (Row.sInt Syntax.w16)
 
 abbrev row·41 : Row.Row
-row·41 = Rows.whole (Declared.row Answered.the-type)
+row·41 = Rows.whole (Declared.row NumberedReply.the-type)
 
 abbrev row·42 : Row.Row
 row·42 = Mut.msleft (Referent.rtF (Referent.fInt Syntax.w16)) ty·3
@@ -258,20 +258,20 @@ ps·0 = List._∷_ (ShrSlice.pShrS (Referent.rtF (Referent.fInt Syntax.w16)) 0 t
 
 abbrev pub r·0 : Kinds.RK 9
 r·0 = Value.rVal record {
-  ty = Declared.row Answered.the-type;
+  ty = Declared.row NumberedReply.the-type;
   one = Path'.refl;
-  val = Laws'.val Answered.the-type Laws.the-laws;
-  tells = Laws'.tells Answered.the-type Laws.the-laws;
-  still = Laws'.still Answered.the-type Laws.the-copy Exit.yes;
-  row = Rows.whole (Declared.row Answered.the-type);
+  val = Laws'.val NumberedReply.the-type Laws.the-laws;
+  tells = Laws'.tells NumberedReply.the-type Laws.the-laws;
+  still = Laws'.still NumberedReply.the-type Laws.the-copy Exit.yes;
+  row = Rows.whole (Declared.row NumberedReply.the-type);
   rd = λ x. x;
   mk = λ x. x;
 } λ M 𝓤 H A W. record {
-  copies = Laws'.copy Answered.the-type Laws.the-copy 𝓤 H A W;
-  lawful = Laws'.lawful Answered.the-type Laws.the-laws 𝓤 H A W;
-  makes = Laws'.makes Answered.the-type Laws.the-plain 𝓤 H A;
-  in-mem = Local.mem-whole 𝓤 H A W (Declared.row Answered.the-type);
-  of-mem = Local.whole-mem 𝓤 H A W (Declared.row Answered.the-type);
+  copies = Laws'.copy NumberedReply.the-type Laws.the-copy 𝓤 H A W;
+  lawful = Laws'.lawful NumberedReply.the-type Laws.the-laws 𝓤 H A W;
+  makes = Laws'.makes NumberedReply.the-type Laws.the-plain 𝓤 H A;
+  in-mem = Local.mem-whole 𝓤 H A W (Declared.row NumberedReply.the-type);
+  of-mem = Local.whole-mem 𝓤 H A W (Declared.row NumberedReply.the-type);
 }
 
 abbrev pub hs : List.List Syntax.Home
@@ -925,7 +925,7 @@ module _ (claims· : Claims) where
   s50 = Scalar.k-op2 T53 Syntax.offset (Scalar.oFld 13 (List._∷_ (Syntax.field 0) List.[]) ty·14 0 Reads'.ptrVal) (Scalar.oAt 26 (Syntax.tyInt Syntax.w64) (Row.valS (Row.sInt Syntax.w64))) 29 (Rows.sc-here Row.sPtr) (Row.sPtr .of)
 
   abbrev s51 : Typed.Asks T54 T55
-  s51 = Mut.k-sl-write (Referent.fInt Syntax.w16) T54 13 29 11 ty·14 Row.off (Shared.bySize 2) (λ x. x) (λ x. x) (λ u. u .1 .1 .1 .1 .1 .1 .1 .1 .1 .1 .1 .1 .1 .1 .1 .0) (Scalar.oFld 16 (List._∷_ (Syntax.field 0) List.[]) (Syntax.tyInt Syntax.w16) 0 (Reads.fieldV Answered.the-type Laws.the-laws 0))
+  s51 = Mut.k-sl-write (Referent.fInt Syntax.w16) T54 13 29 11 ty·14 Row.off (Shared.bySize 2) (λ x. x) (λ x. x) (λ u. u .1 .1 .1 .1 .1 .1 .1 .1 .1 .1 .1 .1 .1 .1 .1 .0) (Scalar.oFld 16 (List._∷_ (Syntax.field 0) List.[]) (Syntax.tyInt Syntax.w16) 0 (Reads.fieldV NumberedReply.the-type Laws.the-laws 0))
 
   abbrev s52 : Typed.Mo T55 → Typed.Mo T56
   s52 = Scalar.n-room T55 26 (Syntax.tyInt Syntax.w64)
@@ -940,7 +940,7 @@ module _ (claims· : Claims) where
   s55 = Scalar.k-op2 T58 Syntax.offset (Scalar.oFld 14 (List._∷_ (Syntax.field 0) List.[]) ty·15 0 Reads'.ptrVal) (Scalar.oAt 26 (Syntax.tyInt Syntax.w64) (Row.valS (Row.sInt Syntax.w64))) 30 (Rows.sc-here Row.sPtr) (Row.sPtr .of)
 
   abbrev s56 : Typed.Asks T59 T60
-  s56 = Mut.k-sl-write (Referent.fInt Syntax.w32) T59 14 30 12 ty·15 Row.off (Shared.bySize 4) (λ x. x) (λ x. x) (λ u. u .1 .1 .1 .1 .1 .1 .1 .1 .1 .1 .1 .1 .1 .1 .1 .0) (Scalar.oFld 16 (List._∷_ (Syntax.field 1) List.[]) (Syntax.tyInt Syntax.w32) 4 (Reads.fieldV Answered.the-type Laws.the-laws 1))
+  s56 = Mut.k-sl-write (Referent.fInt Syntax.w32) T59 14 30 12 ty·15 Row.off (Shared.bySize 4) (λ x. x) (λ x. x) (λ u. u .1 .1 .1 .1 .1 .1 .1 .1 .1 .1 .1 .1 .1 .1 .1 .0) (Scalar.oFld 16 (List._∷_ (Syntax.field 1) List.[]) (Syntax.tyInt Syntax.w32) 4 (Reads.fieldV NumberedReply.the-type Laws.the-laws 1))
 
   abbrev s57 : Typed.Mo T60 → Typed.Mo T61
   s57 = Scalar.n-room T60 16 ty·16
@@ -2054,13 +2054,13 @@ module _ (claims· : Claims) where
           d7 = Typed.g-pre 𝓤 H A W 𝓣 E G61 G62 b23 Δ3 (Typed.pass T61 T62 s58) at6 (Scalar.g-room 𝓤 H A W E G61 26 (Syntax.tyInt Syntax.w64) (Scalar.room-sc 𝓤 H A W (Row.sInt Syntax.w64))) d6
 
           d8 : Typed.Typed 𝓤 H A 𝓣 E G60 b23 Δ3 at8
-          d8 = Typed.g-pre 𝓤 H A W 𝓣 E G60 G61 b23 Δ3 (Typed.pass T60 T61 s57) at7 (Scalar.g-room 𝓤 H A W E G60 16 ty·16 (Local.room-whole 𝓤 H A W (Declared.row Answered.the-type) ty·16 Path'.refl)) d7
+          d8 = Typed.g-pre 𝓤 H A W 𝓣 E G60 G61 b23 Δ3 (Typed.pass T60 T61 s57) at7 (Scalar.g-room 𝓤 H A W E G60 16 ty·16 (Local.room-whole 𝓤 H A W (Declared.row NumberedReply.the-type) ty·16 Path'.refl)) d7
 
           d9 : Typed.Typed 𝓤 H A 𝓣 E G59 b24 Δ3 at9
           d9 = Typed.s-seq 𝓤 H A W 𝓣 E G59 G60 b22 b23 Δ3 (Typed.ask s56) at8 (Mut.t-sl-write 𝓤 H A W E 𝓣 (Referent.fInt Syntax.w32) G59 14 30 12 ty·15 (Row.lease (κs .1 .1 .1 .1 .1 .1 .1 .1 .1 .1 .1 .1 .0) (qs .1 .1 .1 .1 .1 .1 .1 .1 .1 .1 .1 .1 .0)) (Shared.bySize 4) (λ x. x) (λ x. x) (Scalar.oFld 16 (List._∷_ (Syntax.field 1) List.[])
-              (Syntax.tyInt Syntax.w32) 4 (Reads.fieldV Answered.the-type Laws.the-laws 1)) (λ u. u .1 .1 .1 .1 .1 .1 .1 .1 .1 .1 .1 .1 .1 .1 .1 .0) (λ i o. Elements.at-mul o 4 i) (Reads'.as-is 𝓤 H A (Mut.mslice (Referent.rtF (Referent.fInt Syntax.w32)) ty·15 12)) (Reads'.as-is 𝓤 H A (Rows.sc-here Row.sPtr)) (
-                Reads.reads-field 𝓤 H A W Answered.the-type
-                    Laws.the-laws 1 (Syntax.tyInt Syntax.w32) 4 Path'.refl,
+              (Syntax.tyInt Syntax.w32) 4 (Reads.fieldV NumberedReply.the-type Laws.the-laws 1)) (λ u. u .1 .1 .1 .1 .1 .1 .1 .1 .1 .1 .1 .1 .1 .1 .1 .0) (λ i o. Elements.at-mul o 4 i) (Reads'.as-is 𝓤 H A (Mut.mslice (Referent.rtF (Referent.fInt Syntax.w32)) ty·15 12)) (Reads'.as-is 𝓤 H A (Rows.sc-here Row.sPtr)) (
+                Reads.reads-field 𝓤 H A W
+                    NumberedReply.the-type Laws.the-laws 1 (Syntax.tyInt Syntax.w32) 4 Path'.refl,
                 Path'.refl,
               ) Path'.refl tt Path'.refl λ u. Path'.refl) d8
 
@@ -2082,9 +2082,9 @@ module _ (claims· : Claims) where
 
           d14 : Typed.Typed 𝓤 H A 𝓣 E G54 b27 Δ3 at14
           d14 = Typed.s-seq 𝓤 H A W 𝓣 E G54 G55 b19 b26 Δ3 (Typed.ask s51) at13 (Mut.t-sl-write 𝓤 H A W E 𝓣 (Referent.fInt Syntax.w16) G54 13 29 11 ty·14 (Row.lease (κs .1 .1 .1 .1 .1 .1 .1 .1 .1 .1 .1 .0) (qs .1 .1 .1 .1 .1 .1 .1 .1 .1 .1 .1 .0)) (Shared.bySize 2) (λ x. x) (λ x. x) (Scalar.oFld 16 (List._∷_ (Syntax.field 0) List.[])
-              (Syntax.tyInt Syntax.w16) 0 (Reads.fieldV Answered.the-type Laws.the-laws 0)) (λ u. u .1 .1 .1 .1 .1 .1 .1 .1 .1 .1 .1 .1 .1 .1 .1 .0) (λ i o. Elements.at-mul o 2 i) (Reads'.as-is 𝓤 H A (Mut.mslice (Referent.rtF (Referent.fInt Syntax.w16)) ty·14 11)) (Reads'.as-is 𝓤 H A (Rows.sc-here Row.sPtr)) (
-                Reads.reads-field 𝓤 H A W Answered.the-type
-                    Laws.the-laws 0 (Syntax.tyInt Syntax.w16) 0 Path'.refl,
+              (Syntax.tyInt Syntax.w16) 0 (Reads.fieldV NumberedReply.the-type Laws.the-laws 0)) (λ u. u .1 .1 .1 .1 .1 .1 .1 .1 .1 .1 .1 .1 .1 .1 .1 .0) (λ i o. Elements.at-mul o 2 i) (Reads'.as-is 𝓤 H A (Mut.mslice (Referent.rtF (Referent.fInt Syntax.w16)) ty·14 11)) (Reads'.as-is 𝓤 H A (Rows.sc-here Row.sPtr)) (
+                Reads.reads-field 𝓤 H A W
+                    NumberedReply.the-type Laws.the-laws 0 (Syntax.tyInt Syntax.w16) 0 Path'.refl,
                 Path'.refl,
               ) Path'.refl tt Path'.refl λ u. Path'.refl) d13
 

@@ -1,5 +1,6 @@
 -- `dispatch::requests::make_request` meets its contract: the needs that the derivation of Derived.make_request leaves. Assumes nothing.
 mod Tie
+use mathlib.Core.Path.{refl}
 use Rattle.tables.specs.Limits.{limits}
 use Rattle.dispatch.proofs.MakeLaws.{grant-fits, cost-fits, call-made, cost-made, kind-grant, kind-arrive, kind-turn, kind-cost}
 use borrow.Author.Needs.{needs}
@@ -24,7 +25,7 @@ same-length-3 : tie.Need-same-length-3
 same-length-3 c = search needs
 
 returns : tie.Need-returns
-returns c = kind-grant limits _ _ _ _ _ _ (c .before .before .before .before .before .before .before .if1 .taken) (call-made limits _ _ _ _ _ _ (c .before .before .before .grant .ensures) (c .of-grant .ensures))
+returns c = (kind-grant limits _ _ _ _ _ _ (c .before .before .before .before .before .before .before .if1 .taken) (call-made limits _ _ _ _ _ _ (c .before .before .before .grant .ensures) (c .of-grant .ensures)), refl)
 
 arrive-requires : tie.Need-arrive-requires
 arrive-requires c κs = search needs
@@ -42,7 +43,7 @@ same-length-6 : tie.Need-same-length-6
 same-length-6 c = search needs
 
 returns-2 : tie.Need-returns-2
-returns-2 c = kind-arrive limits _ _ _ _ _ _ (c .before .before .before .before .before .before .before .before .before .if2 .taken) (call-made limits _ _ _ _ _ _ (c .before .before .before .before .before .arrive .ensures) (c .of-arrive .ensures))
+returns-2 c = (kind-arrive limits _ _ _ _ _ _ (c .before .before .before .before .before .before .before .before .before .if2 .taken) (call-made limits _ _ _ _ _ _ (c .before .before .before .before .before .arrive .ensures) (c .of-arrive .ensures)), refl)
 
 turn-requires : tie.Need-turn-requires
 turn-requires c κs = search needs
@@ -60,7 +61,7 @@ same-length-9 : tie.Need-same-length-9
 same-length-9 c = search needs
 
 returns-3 : tie.Need-returns-3
-returns-3 c = kind-turn limits _ _ _ _ _ _ (c .before .before .before .before .before .before .if3 .taken) (call-made limits _ _ _ _ _ _ (c .before .before .turn .ensures .0) (c .of-turn .ensures))
+returns-3 c = (kind-turn limits _ _ _ _ _ _ (c .before .before .before .before .before .before .if3 .taken) (call-made limits _ _ _ _ _ _ (c .before .before .turn .ensures .0) (c .of-turn .ensures)), c .before .before .turn .ensures .1 .1)
 
 cost-requires : tie.Need-cost-requires
 cost-requires c κs = search needs
@@ -78,9 +79,11 @@ same-length-12 : tie.Need-same-length-12
 same-length-12 c = search needs
 
 returns-4 : tie.Need-returns-4
-returns-4 c =
-    kind-cost limits _ _ _ _ _ _ (c .before .before .before .before .before .before .before .if1 .left) (c .before .before .before .before .before .before .if2 .left) (c .before .before .before .before .before .if3 .left)
-    (cost-made limits _ _ _ _ (c .before .cost .ensures) (c .of-cost .ensures .0) (c .of-cost .ensures .1))
+returns-4 c = (
+  kind-cost limits _ _ _ _ _ _ (c .before .before .before .before .before .before .before .if1 .left) (c .before .before .before .before .before .before .if2 .left) (c .before .before .before .before .before .if3 .left)
+      (cost-made limits _ _ _ _ (c .before .cost .ensures) (c .of-cost .ensures .0) (c .of-cost .ensures .1)),
+  refl,
+)
 
 pub make-request-spec : {M : Type 1} → statement M
 make-request-spec =

@@ -4,7 +4,7 @@ mod Tie
 use native.Mathlib.Omega.{arith}
 use Prim.Native.Nat.{_≤_, _-_}
 use mathlib.Core.Path.{_≡_, refl, _∙_}
-use lib.ListN.{length, length-set}
+use lib.ListN.{length, length-set, drop}
 use Rattle.tables.specs.Limits.{limits}
 use Rattle.records.specs.Records.{tablesOfRecords}
 use Rattle.transcript.specs.Run.{requestsIn, Made}
@@ -27,13 +27,14 @@ Inv-loop drone-count dependency-count names stop-counts locations times visited�
     × Made limits (requestsIn i kinds numbers)
     (tablesOfRecords limits drone-count dependency-count names stop-counts locations times visited₀ drone-flags₀ dependencies₀) replies₀ details₀
     (tablesOfRecords limits drone-count dependency-count names stop-counts locations times visited drone-flags dependencies) replies details
+    × (drop (limits .dependencies) dependencies ≡ drop (limits .dependencies) dependencies₀)
 
 abbrev μ-loop : tie.MeasureT-loop
 μ-loop drone-count dependency-count names stop-counts locations times visited₀ drone-flags₀ dependencies₀ count kinds numbers replies₀ details₀ i₀ visited drone-flags dependencies replies details i =
     count - i
 
 loop-holds : tie.Need-loop-holds Inv-loop μ-loop
-loop-holds c = (omega arith, refl, refl, refl, refl, refl, made-none limits (c .before .before .before .before .before .before .before .before .before .before .before .before .args .kinds .now) (c .before .before .before .before .before .before .before .before .before .before .before .before .args .numbers .now) _ _ _)
+loop-holds c = (omega arith, refl, refl, refl, refl, refl, made-none limits (c .before .before .before .before .before .before .before .before .before .before .before .before .args .kinds .now) (c .before .before .before .before .before .before .before .before .before .before .before .before .args .numbers .now) _ _ _, refl)
 
 shared-slice-read-make-request : tie.Need-shared-slice-read-make-request Inv-loop μ-loop
 shared-slice-read-make-request c = omega (arith, c .before .before .before .before .loop-test .taken, c .before .before .before .before .before .before .before .before .before .before .before .before .before .before .before .before .before .before .pre)
@@ -76,7 +77,8 @@ loop-again c =
       p .kept .1 .1 .1 .1 .1 .1 .1 .1 .0 ∙ l .inv .3,
       length-set (l .replies) _ _ ∙ l .inv .4,
       length-set (l .details) _ _ ∙ l .inv .5,
-      made-more limits _ _ _ _ _ _ (a .kinds .now) (a .numbers .now) _ _ _ _ (l .inv .6) (p .ensures),
+      made-more limits _ _ _ _ _ _ (a .kinds .now) (a .numbers .now) _ _ _ _ (l .inv .6) (p .ensures .0),
+      p .ensures .1 ∙ l .inv .7,
     )
 
 same-length : tie.Need-same-length Inv-loop μ-loop
@@ -98,7 +100,7 @@ returns : tie.Need-returns Inv-loop μ-loop
 returns c =
     let l = c .before .loop in
     let a = c .before .before .before .before .before .before .before .before .before .before .before .before .before .before .args in
-    requests-found limits (l .i) _ (a .kinds .now) (a .numbers .now) _ _ _ _ _ _ (omega arith) (c .before .before .before .before .before .before .before .before .before .before .before .before .before .before .pre .3) (c .before .before .before .before .before .before .before .before .before .before .before .before .before .before .pre .4) (l .inv .6)
+    (requests-found limits (l .i) _ (a .kinds .now) (a .numbers .now) _ _ _ _ _ _ (omega arith) (c .before .before .before .before .before .before .before .before .before .before .before .before .before .before .pre .3) (c .before .before .before .before .before .before .before .before .before .before .before .before .before .before .pre .4) (l .inv .6), l .inv .7)
 
 pub make-requests-spec : {M : Type 1} → statement M
 make-requests-spec =

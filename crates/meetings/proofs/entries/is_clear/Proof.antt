@@ -5,7 +5,7 @@ use Rattle.meetings.proofs.entries.is_clear.Statement.{statement}
 use Rattle.meetings.proofs.entries.is_clear.Tie as tie
 use Rattle.meetings.proofs.entries.is_clear.Reads as reads
 use Rattle.meetings.proofs.entries.is_clear.Lts as lts
-use Rattle.meetings.proofs.entries.is_over.Reads as is-over-reads
+use Rattle.plan.proofs.check.over_at.Reads as over-at-reads
 
 shared-slice-read-if1 : tie.Need-shared-slice-read-if1
 shared-slice-read-if1 c = search needs
@@ -31,17 +31,17 @@ shared-slice-read-if2-2 c = search needs
 returns-2 : tie.Need-returns-2
 returns-2 c = clear-elsewhere _ _ _ _ _ _ (c .before .before .before .if1 .left) (c .if2 .taken)
 
-mul-is-over : tie.Need-mul-is-over
-mul-is-over c = search needs
+mul-over-at : tie.Need-mul-over-at
+mul-over-at c = search needs
 
-shared-slice-read-is-over : tie.Need-shared-slice-read-is-over
-shared-slice-read-is-over c = search needs
+shared-slice-read-over-at : tie.Need-shared-slice-read-over-at
+shared-slice-read-over-at c = search needs
 
-is-over-requires : tie.Need-is-over-requires
-is-over-requires c κs = search needs
+over-at-requires : tie.Need-over-at-requires
+over-at-requires c κs = search needs
 
 returns-3 : tie.Need-returns-3
-returns-3 c = c .is-over .ensures ∙ clear-over _ _ _ _ _ _ (c .before .before .before .before .before .if1 .left) (c .before .before .if2 .left)
+returns-3 c = c .over-at .ensures ∙ clear-over _ _ _ _ _ _ (c .before .before .before .before .before .if1 .left) (c .before .before .if2 .left)
 
 pub is-clear-spec : {M : Type 1} → statement M
 is-clear-spec =
@@ -55,7 +55,7 @@ is-clear-spec =
     mul-if2-2
     shared-slice-read-if2-2
     returns-2
-    mul-is-over
-    shared-slice-read-is-over
-    is-over-requires
+    mul-over-at
+    shared-slice-read-over-at
+    over-at-requires
     returns-3)

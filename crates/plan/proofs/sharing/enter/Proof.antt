@@ -10,7 +10,7 @@ use Rattle.plan.proofs.sharing.enter.Tie as tie
 use Rattle.plan.proofs.sharing.enter.Reads as reads
 use Rattle.plan.proofs.sharing.enter.Lts as lts
 use Rattle.plan.proofs.sharing.root.Reads as root-reads
-use Rattle.plan.proofs.sharing.wide.Reads as wide-reads
+use Rattle.tables.proofs.casts.wide.Reads as wide-reads
 
 abbrev Inv-loop : tie.InvT-loop
 Inv-loop locations links w l slot₀ digits₀ slot digits = Seeking (at locations) links w slot digits

@@ -8,7 +8,7 @@ use Rattle.reading.proofs.entry.read_lines.Statement.{statement}
 use Rattle.reading.proofs.entry.read_lines.Tie as tie
 use Rattle.reading.proofs.entry.read_lines.Reads as reads
 use Rattle.reading.proofs.entry.read_lines.Lts as lts
-use Rattle.reading.proofs.replies.of_text.Reads as of-text-reads
+use Rattle.reading.proofs.replies.of_line.Reads as of-line-reads
 use Rattle.reading.proofs.storing.store_plan.Reads as store-plan-reads
 use Rattle.text.proofs.reader.read_text.Reads as read-text-reads
 use Rattle.text.proofs.reader.zero_all.Reads as zero-all-reads
@@ -22,8 +22,8 @@ enum-known-answer : tie.Need-enum-known-answer
 enum-known-answer c = search needs
 
 -- src/entry.rt:62:54
-of-text-requires : tie.Need-of-text-requires
-of-text-requires c κs = search needs
+of-line-requires : tie.Need-of-line-requires
+of-line-requires c κs = search needs
 
 -- src/entry.rt:65:17
 enum-told : tie.Need-enum-told
@@ -67,7 +67,7 @@ same-length-5 c = search needs
 
 -- src/entry.rt:22:1
 returns : tie.Need-returns
-returns c = λ visited droneFlags zero. lines-refused limits _ _ (c .before .before .before .before .before .before .before .before .before .before .before .before .before .before .before .before .before .before .before .before .before .before .before .before .before .before .before .before .before .before .before .before .pre .short) zero (c .before .before .before .before .before .before .before .before .before .before .before .before .before .before .read-text .ensures) _ _ (c .before .before .answer .given .1) (c .of-text .ensures)
+returns c = λ visited droneFlags zero. lines-refused limits _ _ zero (c .before .before .before .before .before .before .before .before .before .before .before .before .before .before .read-text .ensures) _ _ (c .before .before .answer .given .1) (c .of-line .ensures)
 
 -- src/entry.rt:22:1
 same-length-6 : tie.Need-same-length-6
@@ -115,7 +115,7 @@ same-length-16 c = search needs
 
 -- src/entry.rt:22:1
 returns-2 : tie.Need-returns-2
-returns-2 c = λ visited droneFlags zero. lines-taken limits _ _ (c .before .before .before .before .before .before .before .before .before .before .before .before .before .before .before .before .before .before .before .before .before .before .before .before .before .before .before .before .before .before .before .before .before .before .before .before .before .before .before .before .before .before .before .before .before .before .before .before .before .before .before .before .before .before .before .pre .short) zero (c .before .before .before .before .before .before .before .before .before .before .before .before .before .before .before .before .before .before .before .before .before .before .before .before .before .before .before .before .before .before .before .before .before .before .before .before .before .read-text .ensures) _ (c .before .before .before .before .before .before .before .before .before .before .before .before .before .before .before .before .before .before .before .before .before .before .before .before .before .enum-told .given .1) _ (c .enum-told2 .given .1) _ (c .before .before .before .before .before .before .before .before .before .before .before .before .before .before .store-plan .ensures _ visited droneFlags)
+returns-2 c = λ visited droneFlags zero. lines-taken limits _ _ zero (c .before .before .before .before .before .before .before .before .before .before .before .before .before .before .before .before .before .before .before .before .before .before .before .before .before .before .before .before .before .before .before .before .before .before .before .before .before .read-text .ensures) _ (c .before .before .before .before .before .before .before .before .before .before .before .before .before .before .before .before .before .before .before .before .before .before .before .before .before .enum-told .given .1) _ (c .enum-told2 .given .1) _ (c .before .before .before .before .before .before .before .before .before .before .before .before .before .before .store-plan .ensures _ visited droneFlags)
 
 -- src/entry.rt:22:1
 same-length-17 : tie.Need-same-length-17
@@ -163,7 +163,7 @@ same-length-27 c = search needs
 
 -- src/entry.rt:22:1
 returns-3 : tie.Need-returns-3
-returns-3 c = λ visited droneFlags zero. plan-refused limits _ _ (c .before .before .before .before .before .before .before .before .before .before .before .before .before .before .before .before .before .before .before .before .before .before .before .before .before .before .before .before .before .before .before .before .before .before .before .before .before .before .before .before .before .before .before .before .before .before .before .before .before .before .before .before .before .before .before .before .before .before .before .before .before .before .before .before .before .before .before .before .before .before .before .before .pre .short) zero (c .before .before .before .before .before .before .before .before .before .before .before .before .before .before .before .before .before .before .before .before .before .before .before .before .before .before .before .before .before .before .before .before .before .before .before .before .before .before .before .before .before .before .before .before .before .before .before .before .before .before .before .before .before .before .read-text .ensures) _ (c .before .before .before .before .before .before .before .before .before .before .before .before .before .before .before .before .before .before .before .before .before .before .before .before .before .before .before .before .before .before .before .before .before .before .before .before .before .before .before .before .before .before .enum-told .given .1) _ _ (c .before .before .before .before .before .before .before .before .before .before .before .before .before .before .before .before .before .reading .given .1) _ (c .before .before .before .before .before .before .before .before .before .before .before .before .before .before .before .before .before .before .before .before .before .before .before .before .before .before .before .before .before .before .before .store-plan .ensures _ visited droneFlags) (c .before .before .before .before .before .before .before .before .before .before .zero-all .ensures)
+returns-3 c = λ visited droneFlags zero. plan-refused limits _ _ zero (c .before .before .before .before .before .before .before .before .before .before .before .before .before .before .before .before .before .before .before .before .before .before .before .before .before .before .before .before .before .before .before .before .before .before .before .before .before .before .before .before .before .before .before .before .before .before .before .before .before .before .before .before .before .before .read-text .ensures) _ (c .before .before .before .before .before .before .before .before .before .before .before .before .before .before .before .before .before .before .before .before .before .before .before .before .before .before .before .before .before .before .before .before .before .before .before .before .before .before .before .before .before .before .enum-told .given .1) _ _ (c .before .before .before .before .before .before .before .before .before .before .before .before .before .before .before .before .before .reading .given .1) _ (c .before .before .before .before .before .before .before .before .before .before .before .before .before .before .before .before .before .before .before .before .before .before .before .before .before .before .before .before .before .before .before .store-plan .ensures _ visited droneFlags) (c .before .before .before .before .before .before .before .before .before .before .zero-all .ensures)
 
 pub read-lines-spec : {M : Type 1} → statement M
 read-lines-spec =
@@ -171,7 +171,7 @@ read-lines-spec =
     (tie.spec
     read-text-requires
     enum-known-answer
-    of-text-requires
+    of-line-requires
     enum-told
     store-plan-requires
     enum-told-2

@@ -1,6 +1,6 @@
 -- Each case by itself: the answer is the one of its variant. Assumes nothing.
 use mathlib.Core.Path.{sym, ap}
-use Rattle.reading.specs.Replies.{ofCheck}
+use Rattle.reading.specs.Replies.{checkMeant}
 use borrow.Author.Needs.{needs}
 use Rattle.reading.proofs.replies.of_check.Statement.{statement}
 use Rattle.reading.proofs.replies.of_check.Tie as tie
@@ -33,19 +33,19 @@ returns c = search needs
 
 -- src/replies.rt:47:1
 returns-2 : tie.Need-returns-2
-returns-2 c = sym (ap ofCheck (c .before .answer .given .1))
+returns-2 c = sym (ap checkMeant (c .before .answer .given .1))
 
 -- src/replies.rt:47:1
 returns-3 : tie.Need-returns-3
-returns-3 c = sym (ap ofCheck (c .before .answer2 .given .1))
+returns-3 c = sym (ap checkMeant (c .before .answer2 .given .1))
 
 -- src/replies.rt:47:1
 returns-4 : tie.Need-returns-4
-returns-4 c = sym (ap ofCheck (c .before .answer3 .given .1))
+returns-4 c = sym (ap checkMeant (c .before .answer3 .given .1))
 
 -- src/replies.rt:47:1
 returns-5 : tie.Need-returns-5
-returns-5 c = sym (ap ofCheck (c .before .answer4 .given .1))
+returns-5 c = sym (ap checkMeant (c .before .answer4 .given .1))
 
 pub of-check-spec : {M : Type 1} → statement M
 of-check-spec =

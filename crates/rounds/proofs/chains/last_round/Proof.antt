@@ -6,7 +6,7 @@ use Rattle.rounds.proofs.chains.last_round.Statement.{statement}
 use Rattle.rounds.proofs.chains.last_round.Tie as tie
 use Rattle.rounds.proofs.chains.last_round.Reads as reads
 use Rattle.rounds.proofs.chains.last_round.Lts as lts
-use Rattle.cycles.proofs.casts.wide.Reads as wide-reads
+use Rattle.tables.proofs.casts.wide.Reads as wide-reads
 
 -- src/chains.rt:61:18
 mul-wide : tie.Need-mul-wide

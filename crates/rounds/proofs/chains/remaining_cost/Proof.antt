@@ -1,7 +1,7 @@
 use Prim.Native.Nat.{ℕ}
 use lib.ListN.{length-replicate}
 use Rattle.below.proofs.Index.{zeros-at}
-use mathlib.Core.Path.{refl, _∙_}
+use mathlib.Core.Path.{_∙_}
 use Rattle.rounds.proofs.Readiness.{last-in, last-small, last-sum}
 use Rattle.rounds.proofs.chains.remaining_cost.Statement.{statement}
 use Rattle.rounds.proofs.chains.remaining_cost.Tie as tie

@@ -10,7 +10,7 @@ use Rattle.rounds.proofs.playing.can_go_on.Statement.{statement}
 use Rattle.rounds.proofs.playing.can_go_on.Tie as tie
 use Rattle.rounds.proofs.playing.can_go_on.Reads as reads
 use Rattle.rounds.proofs.playing.can_go_on.Lts as lts
-use Rattle.cycles.proofs.casts.wide.Reads as wide-reads
+use Rattle.tables.proofs.casts.wide.Reads as wide-reads
 use Rattle.rounds.proofs.playing.is_met.Reads as is-met-reads
 
 abbrev Inv-loop : tie.InvT-loop

@@ -6,8 +6,8 @@ use Rattle.rounds.proofs.playing.is_met.Statement.{statement}
 use Rattle.rounds.proofs.playing.is_met.Tie as tie
 use Rattle.rounds.proofs.playing.is_met.Reads as reads
 use Rattle.rounds.proofs.playing.is_met.Lts as lts
-use Rattle.cycles.proofs.casts.wide.Reads as wide-reads
-use Rattle.cycles.proofs.casts.wide8.Reads as wide8-reads
+use Rattle.tables.proofs.casts.wide.Reads as wide-reads
+use Rattle.tables.proofs.casts.wide8.Reads as wide8-reads
 
 -- src/playing.rt:38:18
 mul-wide : tie.Need-mul-wide

@@ -6,7 +6,7 @@ use Rattle.sound.proofs.progress.wait_kept.Statement.{statement}
 use Rattle.sound.proofs.progress.wait_kept.Tie as tie
 use Rattle.sound.proofs.progress.wait_kept.Reads as reads
 use Rattle.sound.proofs.progress.wait_kept.Lts as lts
-use Rattle.sound.proofs.progress.has_entered.Reads as has-entered-reads
+use Rattle.sound.proofs.entered.has_entered.Reads as has-entered-reads
 
 -- src/progress.rt:66:21
 mul-has-entered : tie.Need-mul-has-entered

@@ -8,7 +8,7 @@ use Rattle.text.proofs.reader.read_drones.Statement.{statement}
 use Rattle.text.proofs.reader.read_drones.Tie as tie
 use Rattle.text.proofs.reader.read_drone.Reads as read-drone-reads
 use Rattle.text.proofs.DroneLoop.{Going, Lengths, reading-end, reading-start, turn-bad, turn-on, turn-total}
-use Rattle.text.specs.Reading.{dronesAt}
+use Rattle.text.specs.LinesRead.{dronesAt}
 use Rattle.tables.specs.Limits.{limits}
 
 abbrev Inv-loop : tie.InvT-loop

@@ -5,7 +5,7 @@ use mathlib.Core.Bool.{true}
 use borrow.Author.Tests.{not-true, not-false}
 use denote.Ref.{now}
 use Rattle.tables.specs.Limits.{limits}
-use Rattle.lines.specs.Keys.{planLine, endLine}
+use Rattle.lines.specs.Keys.{firstLine, lastLine}
 use Rattle.lines.specs.Bytes.{isAt}
 use Rattle.lines.proofs.ByteLaws.{isAt-in}
 use Rattle.lines.proofs.StopCases.{count-range}
@@ -19,10 +19,10 @@ use Rattle.lines.proofs.stops.count_line.Reads as count-line-reads
 use Rattle.text.proofs.reader.read_drones.Reads as read-drones-reads
 
 -- the first line stands, past the first test; the last one, past the second
-opened : (c : tie.Else1) → isAt (now (c .before .before .before .before .before .before .before .before .args .text)) 0 planLine ≡ true
+opened : (c : tie.Else1) → isAt (now (c .before .before .before .before .before .before .before .before .args .text)) 0 firstLine ≡ true
 opened c = sym (c .before .starts .ensures) ∙ not-false _ (c .if1 .left)
 
-closed : (c : tie.Else2) → isAt (now (c .before .before .before .before .before .before .before .before .before .before .before .before .before .before .before .before .before .before .before .before .before .before .before .before .before .before .before .before .before .before .before .before .args .text)) (c .before .before .before .before .body2 .given .0 .0) endLine ≡ true
+closed : (c : tie.Else2) → isAt (now (c .before .before .before .before .before .before .before .before .before .before .before .before .before .before .before .before .before .before .before .before .before .before .before .before .before .before .before .before .before .before .before .before .args .text)) (c .before .before .before .before .body2 .given .0 .0) lastLine ≡ true
 closed c = sym (c .before .starts2 .ensures) ∙ not-false _ (c .if2 .left)
 
 slice-aggregate-starts : tie.Need-slice-aggregate-starts

@@ -1,5 +1,6 @@
 -- One law for each case of the count line, with what the lines `go=` stored.
 use mathlib.Core.Path.{refl, sym, _∙_, ap}
+use native.Mathlib.Omega.{arith}
 use denote.Ref.{now}
 use borrow.Author.Needs.{needs}
 use Rattle.text.proofs.reader.read_stops.Statement.{statement}
@@ -7,7 +8,7 @@ use Rattle.text.proofs.reader.read_stops.Tie as tie
 use Rattle.lines.proofs.stops.count_line.Reads as count-line-reads
 use Rattle.lines.proofs.stops.go_lines.Reads as go-lines-reads
 use Rattle.text.proofs.DroneCases.{stops-in, stops-over, stops-refused, stored-none}
-use Rattle.text.specs.Reading.{stopsEnd}
+use Rattle.text.specs.LinesRead.{stopsEnd}
 use Rattle.tables.specs.Limits.{limits}
 
 slice-aggregate-count-line : tie.Need-slice-aggregate-count-line
@@ -65,7 +66,7 @@ returns-3 : tie.Need-returns-3
 returns-3 c =
     let a = c .before .before .before .before .before .before .before .before .before .before .before .before .before .before .before .before .before .before .before .before .args in
     let g = c .before .before .before .before .before .before .before .go-lines .ensures in
-    rw (stops-in limits (now (a .text)) (a .at) (a .total) _ (c .before .before .before .before .before .before .before .before .before .before .before .before .before .before .count-line .ensures) _ _ (c .before .before .before .before .before .before .before .before .before .before .before .before .line2 .given .1) (c .before .before .before .before .before .before .before .before .before .before .if1 .left))
+    rw (stops-in limits (now (a .text)) (a .at) (a .total) _ (c .before .before .before .before .before .before .before .before .before .before .before .before .before .before .count-line .ensures) _ _ (c .before .before .before .before .before .before .before .before .before .before .before .before .line2 .given .1) (omega (arith, c .before .before .before .before .before .before .before .before .before .before .if1 .left, c .before .before .before .before .before .before .before .before .before .before .before .before .before .before .before .before .before .before .before .before .pre .1)))
     (record { answer-is = ap (stopsEnd _) (sym (c .before .stops .given .1) ∙ g .answer-is); counts-are = refl; locations-are = g .locations-are; times-are = g .times-are })
 
 same-length-4 : tie.Need-same-length-4
@@ -81,7 +82,7 @@ returns-4 : tie.Need-returns-4
 returns-4 c =
     let a = c .before .before .before .before .before .before .before .before .before .before .before .before .before .before .before .before .before .before .before .before .args in
     let g = c .before .before .before .before .before .before .before .go-lines .ensures in
-    rw (stops-in limits (now (a .text)) (a .at) (a .total) _ (c .before .before .before .before .before .before .before .before .before .before .before .before .before .before .count-line .ensures) _ _ (c .before .before .before .before .before .before .before .before .before .before .before .before .line2 .given .1) (c .before .before .before .before .before .before .before .before .before .before .if1 .left))
+    rw (stops-in limits (now (a .text)) (a .at) (a .total) _ (c .before .before .before .before .before .before .before .before .before .before .before .before .before .before .count-line .ensures) _ _ (c .before .before .before .before .before .before .before .before .before .before .before .before .line2 .given .1) (omega (arith, c .before .before .before .before .before .before .before .before .before .before .if1 .left, c .before .before .before .before .before .before .before .before .before .before .before .before .before .before .before .before .before .before .before .before .pre .1)))
     (record { answer-is = ap (stopsEnd _) (sym (c .before .stops2 .given .1) ∙ g .answer-is); counts-are = refl; locations-are = g .locations-are; times-are = g .times-are })
 
 pub read-stops-spec : {M : Type 1} → statement M

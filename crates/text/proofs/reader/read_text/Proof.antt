@@ -1,19 +1,13 @@
--- Zeroed and filled when taken; zeroed, filled and zeroed again when refused; unchanged when too long.
+-- Filled when the lines are well-formed; filled and zeroed when refused.
 use native.Mathlib.Omega.{arith}
 use mathlib.Core.Path.{sym, _∙_}
 use Rattle.tables.specs.Limits.{limits}
-use Rattle.text.proofs.TextCases.{text-long, text-in, text-out, taken-range}
+use Rattle.text.proofs.TextCases.{text-in, text-out, taken-range}
 use borrow.Author.Needs.{needs}
 use Rattle.text.proofs.reader.read_text.Statement.{statement}
 use Rattle.text.proofs.reader.read_text.Tie as tie
 use Rattle.text.proofs.reader.read_lines.Reads as read-lines-reads
 use Rattle.text.proofs.reader.zero_all.Reads as zero-all-reads
-
-returns : tie.Need-returns
-returns c = text-long limits _ _ _ _ _ _ (c .if1 .taken)
-
-zero-all-requires : tie.Need-zero-all-requires
-zero-all-requires c κs = search needs
 
 read-lines-requires : tie.Need-read-lines-requires
 read-lines-requires c κs = search needs
@@ -30,8 +24,8 @@ slice-write-count c = search needs
 enum-known-answer-2 : tie.Need-enum-known-answer-2
 enum-known-answer-2 c = search needs
 
-zero-all-requires-2 : tie.Need-zero-all-requires-2
-zero-all-requires-2 c κs = search needs
+zero-all-requires : tie.Need-zero-all-requires
+zero-all-requires c κs = search needs
 
 same-length : tie.Need-same-length
 same-length c = search needs
@@ -48,8 +42,8 @@ same-length-4 c = search needs
 same-length-5 : tie.Need-same-length-5
 same-length-5 c = search needs
 
-returns-2 : tie.Need-returns-2
-returns-2 c = text-in limits _ (c .before .before .before .before .before .before .before .before .before .before .before .before .before .before .before .before .before .before .before .before .before .before .before .before .before .before .before .before .before .before .before .before .if1 .left) (c .before .before .before .before .before .before .before .before .before .before .before .before .before .before .before .before .before .before .before .before .before .before .before .before .before .before .zero-all .ensures) (c .before .before .before .before .before .before .before .before .before .before .before .read-lines .ensures) _ (c .before .answer .given .1)
+returns : tie.Need-returns
+returns c = text-in limits _ (c .before .before .before .before .before .before .before .before .before .before .before .read-lines .ensures) _ _ (c .before .answer .given .1)
 
 same-length-6 : tie.Need-same-length-6
 same-length-6 c = search needs
@@ -66,30 +60,28 @@ same-length-9 c = search needs
 same-length-10 : tie.Need-same-length-10
 same-length-10 c = search needs
 
-returns-3 : tie.Need-returns-3
-returns-3 c = text-out limits _ (c .before .before .before .before .before .before .before .before .before .before .before .before .before .before .before .before .before .before .before .before .before .before .before .before .before .before .before .before .before .before .before .before .before .before .before .before .before .before .before .before .before .before .before .before .before .before .before .before .if1 .left) (c .before .before .before .before .before .before .before .before .before .before .before .before .before .before .before .before .before .before .before .before .before .before .before .before .before .before .before .before .before .before .before .before .before .before .before .before .before .before .before .before .before .before .zero-all .ensures) (c .before .before .before .before .before .before .before .before .before .before .before .before .before .before .before .before .before .before .before .before .before .before .before .before .before .before .before .read-lines .ensures) (c .before .before .before .before .before .before .before .before .before .before .zero-all2 .ensures) _ (c .before .before .before .before .before .before .before .before .before .before .before .before .before .before .before .before .before .answer2 .given .1)
+returns-2 : tie.Need-returns-2
+returns-2 c = text-out limits _ (c .before .before .before .before .before .before .before .before .before .before .before .before .before .before .before .before .before .before .before .before .before .before .before .before .before .before .before .read-lines .ensures) (c .before .before .before .before .before .before .before .before .before .before .zero-all .ensures) _ (c .before .before .before .before .before .before .before .before .before .before .before .before .before .before .before .before .before .answer2 .given .1)
 
 pub read-text-spec : {M : Type 1} → statement M
 read-text-spec =
     tie.close
     (tie.spec
-    returns
-    zero-all-requires
     read-lines-requires
     enum-known-answer
     cast-count
     slice-write-count
     enum-known-answer-2
-    zero-all-requires-2
+    zero-all-requires
     same-length
     same-length-2
     same-length-3
     same-length-4
     same-length-5
-    returns-2
+    returns
     same-length-6
     same-length-7
     same-length-8
     same-length-9
     same-length-10
-    returns-3)
+    returns-2)

@@ -9,9 +9,6 @@ use Rattle.tables.proofs.zeroing.zero_u8.Reads as zero-u8-reads
 zero-u16-requires : tie.Need-zero-u16-requires
 zero-u16-requires c κs = search needs
 
-mul-zero-u8 : tie.Need-mul-zero-u8
-mul-zero-u8 c = search needs
-
 zero-u8-requires : tie.Need-zero-u8-requires
 zero-u8-requires c κs = search needs
 
@@ -53,7 +50,6 @@ zero-all-spec =
     tie.close
     (tie.spec
     zero-u16-requires
-    mul-zero-u8
     zero-u8-requires
     zero-u16-requires-2
     zero-u16-requires-3

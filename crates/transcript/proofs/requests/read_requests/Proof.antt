@@ -6,7 +6,7 @@ use native.Mathlib.Nat.{sub-zero}
 use mathlib.Core.Path.{_≡_, refl, sym, _∙_}
 use denote.Ref.{now}
 use lib.ListN.{length, length-set}
-use Rattle.transcript.specs.Input.{linesAt, requestsAt}
+use Rattle.transcript.specs.Input.{callLinesAt, requestsAt}
 use Rattle.transcript.proofs.CallCases.{CallRead, call-read}
 use Rattle.transcript.proofs.RequestLoop.{Going, going-start, going-on, lines-none, lines-form, lines-range}
 use Rattle.transcript.proofs.requests.read_requests.Statement.{statement}
@@ -14,7 +14,7 @@ use Rattle.transcript.proofs.requests.read_requests.Tie as tie
 use Rattle.transcript.proofs.requests.call_line.Reads as call-line-reads
 
 abbrev Inv-loop : tie.InvT-loop
-Inv-loop text at kinds₀ numbers₀ i₀ here₀ kinds numbers i here = (length kinds ≡ length kinds₀) × (length numbers ≡ length numbers₀) × (at + 7 * i ≤ here) × (here ≤ length text) × Going (linesAt (length text - i) text here) (requestsAt text at) i kinds numbers kinds₀ numbers₀
+Inv-loop text at kinds₀ numbers₀ i₀ here₀ kinds numbers i here = (length kinds ≡ length kinds₀) × (length numbers ≡ length numbers₀) × (at + 7 * i ≤ here) × (here ≤ length text) × Going (callLinesAt (length text - i) text here) (requestsAt text at) i kinds numbers kinds₀ numbers₀
 
 abbrev μ-loop : tie.MeasureT-loop
 μ-loop text at kinds₀ numbers₀ i₀ here₀ kinds numbers i here = length text - here

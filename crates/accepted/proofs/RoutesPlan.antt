@@ -1,0 +1,186 @@
+-- The plan that routes make, and the plan in lists that hold these routes and their dependencies, agree. What was read of a text is cut into its routes again.
+use mathlib.Core.Path.{_≡_, refl, sym, ap, _∙_}
+use mathlib.Core.Logic.{_↔_}
+use mathlib.Core.List.{List, [], _∷_, _++_}
+use Prim.Native.Nat.{ℕ, zero, suc, _+_, _-_, _≤_, _<_}
+use native.Mathlib.Nat.{zero-add}
+use native.Mathlib.Omega.{arith}
+use lib.ListN.{length, List·getD-append}
+use lib.Seq.{take-at, drop-at, getD-append-add}
+use Rattle.below.specs.Below.{at}
+use Rattle.below.proofs.Sum.{sum-first}
+use Rattle.tables.specs.Limits.{Limits}
+use Rattle.tables.specs.Tables.{PlanLists, drones, dependencies}
+use Rattle.lines.specs.Names.{rowOf}
+use Rattle.lines.proofs.NameRoundTrip.{name-of-row}
+use Rattle.text.specs.LinesRead.{LinesRead, linesAt}
+use Rattle.text.specs.declared.reader.LinesAnswer.{LinesAnswer}
+use Rattle.text.specs.Written.{Route, rowsOf, countsOf, locationsOf, timesOf, linesOf, InLimitsFrom, InLimits}
+use Rattle.text.proofs.DroneTaken.{range-long}
+use Rattle.text.proofs.Sizes.{counts-total}
+use Rattle.plan.specs.Stops.{start, owner, number}
+use Rattle.plan.specs.Dependencies.{dependencyTotal, column}
+use Rattle.plan.specs.Field.{Checked, PlansAgree, planOf}
+use Rattle.plan.specs.Claims.{ownerIn, numberIn, locationIn, timeIn, stopTotal, HaveStops, HoldsPlanned, StopsChecked, Collides, Never}
+use Rattle.plan.proofs.Numbering.{start-none, place-in}
+use Rattle.plan.proofs.Claims.{accepted-claims}
+use Rattle.plan.proofs.PlansAgree.{agree-back, agree-stops, agree-never, agree-checked, start-same, owner-same, number-same, total-same, column-same, passes-exactly}
+use Rattle.accepted.specs.TextPlan.{routeAt, stopsIn, ownerOf, numberOf, dependencyList, routesPlan, routesFrom, textRoutes}
+use Rattle.accepted.proofs.Routes.{counts-some}
+
+-- ---- one route among all
+
+count-of : (ds : List Route) (d : ℕ) → at (countsOf ds) d ≡ length (routeAt ds d .locations)
+count-of [] d = refl
+count-of (r ∷ ds) zero = refl
+count-of (r ∷ ds) (suc d) = count-of ds d
+
+pub start-after : (m : ℕ) (ms : List ℕ) (d : ℕ) → start (m ∷ ms) (suc d) ≡ m + start ms d
+unfolding start
+start-after m ms d = sum-first d (at (m ∷ ms))
+
+-- lists with an entry for each stop, one after another: entry s of drone d's list is that of its stop s, numbered through
+entry-of : (f : Route → List ℕ) (all : List Route → List ℕ) → ((r : Route) (rs : List Route) → all (r ∷ rs) ≡ f r ++ all rs)
+    → (ds : List Route) → ((d : ℕ) → d < length ds → length (f (routeAt ds d)) ≡ length (routeAt ds d .locations))
+    → (d s : ℕ) → d < length ds → s < length (routeAt ds d .locations) → at (all ds) (start (countsOf ds) d + s) ≡ at (f (routeAt ds d)) s
+entry-of f all joins [] long d s l k = absurd (omega arith)
+entry-of f all joins (r ∷ ds) long zero s l k = rw (start-none (countsOf (r ∷ ds)), zero-add s, joins r ds) (List·getD-append (f r) (all ds) 0 s (omega (arith, long 0 l)))
+entry-of f all joins (r ∷ ds) long (suc d) s l k =
+    let e : start (countsOf (r ∷ ds)) (suc d) + s ≡ length (f r) + (start (countsOf ds) d + s) = omega (arith, start-after (length (r .locations)) (countsOf ds) d, long 0 (omega arith)) in
+    rw (e, joins r ds) (getD-append-add (f r) (all ds) (start (countsOf ds) d + s) 0 ∙ entry-of f all joins ds (λ e h. long (suc e) (omega arith)) d s (omega arith) k)
+
+-- as many times as locations
+times-long : (L : Limits) (ds : List Route) (earlier : List (List ℕ)) (total : ℕ) → InLimitsFrom L earlier total ds → (d : ℕ) → d < length ds → length (routeAt ds d .times) ≡ length (routeAt ds d .locations)
+times-long L [] earlier total v d l = absurd (omega arith)
+times-long L (r ∷ ds) earlier total v zero l = range-long L (r .locations) (r .times) (v .4)
+times-long L (r ∷ ds) earlier total v (suc d) l = times-long L ds (earlier ++ rowOf L (r .name) ∷ []) (total + length (r .locations)) (v .5) d (omega arith)
+
+-- ---- lists that hold routes
+
+-- the lists hold the stops of the routes
+pub record HoldsStops (ds : List Route) (p : PlanLists) : Type 0 where
+  pub drones-are : drones p ≡ length ds
+  pub counts-are : (d : ℕ) → d < length ds → at (p .stopCounts) d ≡ at (countsOf ds) d
+  pub locations-are : (v : ℕ) → v < length (locationsOf ds) → at (p .locations) v ≡ at (locationsOf ds) v
+  pub times-are : (v : ℕ) → v < length (locationsOf ds) → at (p .times) v ≡ at (timesOf ds) v
+
+module _ (L : Limits) (ds : List Route) (v : InLimits L ds) where
+  stops-many : stopsIn ds ≡ length (locationsOf ds)
+  unfolding start
+  stops-many = counts-total ds
+
+  -- each drone has a stop
+  pub some-stop : (d : ℕ) → d < length ds → 1 ≤ at (countsOf ds) d
+  some-stop d l = counts-some L ds [] 0 (v .2) d l
+
+  module _ (p : PlanLists) (h : HoldsStops ds p) where
+    pub held-stops : HaveStops p
+    held-stops d l = let k : d < length ds = omega (arith, h .drones-are) in omega (arith, some-stop d k, h .counts-are d k)
+
+    owners-are : (u : ℕ) → ownerIn p u ≡ ownerOf ds u
+    owners-are u = ap (λ (n : ℕ). owner n (p .stopCounts) u) (h .drones-are) ∙ owner-same (length ds) (p .stopCounts) (countsOf ds) (h .counts-are) u
+
+    numbers-are : (u : ℕ) → numberIn p u ≡ numberOf ds u
+    numbers-are u = ap (λ (n : ℕ). number n (p .stopCounts) u) (h .drones-are) ∙ number-same (length ds) (p .stopCounts) (countsOf ds) (h .counts-are) u
+
+    starts-are : (d : ℕ) → d ≤ length ds → start (p .stopCounts) d ≡ start (countsOf ds) d
+    starts-are = start-same (length ds) (p .stopCounts) (countsOf ds) (h .counts-are)
+
+    stops-are : stopTotal p ≡ stopsIn ds
+    stops-are = ap (start (p .stopCounts)) (h .drones-are) ∙ starts-are (length ds) (omega arith)
+
+    location-is : (u : ℕ) → u < stopsIn ds → locationIn p u ≡ at (locationsOf ds) u
+    location-is u l = h .locations-are u (omega (arith, stops-many))
+
+    time-is : (u : ℕ) → u < stopsIn ds → timeIn p u ≡ at (timesOf ds) u
+    time-is u l = h .times-are u (omega (arith, stops-many))
+
+    -- as many dependencies as the routes make, and the same ones
+    pub held-total : dependencyTotal (ownerIn p) (locationIn p) (timeIn p) (stopTotal p) ≡ routesPlan ds .count
+    held-total = ap (dependencyTotal (ownerIn p) (locationIn p) (timeIn p)) stops-are
+        ∙ total-same (ownerIn p) (ownerOf ds) (locationIn p) (at (locationsOf ds)) (timeIn p) (at (timesOf ds)) (stopsIn ds) (λ u l. owners-are u) location-is time-is
+
+    held-column : (f g : ℕ → ℕ → ℕ) → ((u w : ℕ) → f u w ≡ g u w) → column (ownerIn p) (locationIn p) (timeIn p) (stopTotal p) f ≡ dependencyList ds g
+    held-column f g e = ap (λ (n : ℕ). column (ownerIn p) (locationIn p) (timeIn p) n f) stops-are
+        ∙ column-same (ownerIn p) (ownerOf ds) (locationIn p) (at (locationsOf ds)) (timeIn p) (at (timesOf ds)) (stopsIn ds) (λ u l. owners-are u) location-is time-is f g (λ u w l k. e u w)
+
+    -- a list with an entry for each stop
+    stop-entry : (l xs : List ℕ) → ((u : ℕ) → u < length (locationsOf ds) → at l u ≡ at xs u) → (d s : ℕ) → d < length ds → s ≤ length (routeAt ds d .locations) - 1
+        → (own : List ℕ) → (s < length (routeAt ds d .locations) → at xs (start (countsOf ds) d + s) ≡ at own s) → at own s ≡ at l (start (p .stopCounts) d + s)
+    stop-entry l xs same d s i k own e =
+        let m : s < length (routeAt ds d .locations) = omega (arith, some-stop d i, count-of ds d) in
+        let inside : start (countsOf ds) d + s < length (locationsOf ds) = omega (arith, stops-many, place-in (length ds) (countsOf ds) d s i (omega (arith, count-of ds d))) in
+        sym (e m) ∙ (sym (same (start (countsOf ds) d + s) inside) ∙ ap (λ (n : ℕ). at l (n + s)) (sym (starts-are d (omega arith))))
+
+    pub held-agree : HoldsPlanned p → PlansAgree (routesPlan ds) (planOf p)
+    held-agree own = record {
+      drones-agree = sym (h .drones-are);
+      lasts-agree = λ d l. ap (λ (m : ℕ). m - 1) (sym (count-of ds d) ∙ sym (h .counts-are d l));
+      locations-agree = λ d s l k. stop-entry (p .locations) (locationsOf ds) (h .locations-are) d s l k (routeAt ds d .locations) (entry-of (λ (r : Route). r .locations) locationsOf (λ r rs. refl) ds (λ d l. refl) d s l);
+      times-agree = λ d s l k. stop-entry (p .times) (timesOf ds) (h .times-are) d s l k (routeAt ds d .times) (entry-of (λ (r : Route). r .times) timesOf (λ r rs. refl) ds (times-long L ds [] 0 (v .2)) d s l);
+      counts-agree = sym held-total ∙ sym (own .total);
+      dependencies-agree = λ w l.
+          let k : w < dependencies p = omega (arith, held-total, own .total) in
+          λ i. record {
+            first = (entry (λ u w. ownerIn p u) (λ u w. ownerOf ds u) (λ u w. owners-are u) w ∙ sym (own .first-drones w k)) i;
+            firstStop = (entry (λ u w. numberIn p u) (λ u w. numberOf ds u) (λ u w. numbers-are u) w ∙ sym (own .first-stops w k)) i;
+            second = (entry (λ u w. ownerIn p w) (λ u w. ownerOf ds w) (λ u w. owners-are w) w ∙ sym (own .second-drones w k)) i;
+            secondStop = (entry (λ u w. numberIn p w) (λ u w. numberOf ds w) (λ u w. numbers-are w) w ∙ sym (own .second-stops w k)) i;
+          };
+    }
+      where
+        entry : (f g : ℕ → ℕ → ℕ) → ((u w : ℕ) → f u w ≡ g u w) → (w : ℕ) → at (dependencyList ds g) w ≡ at (column (ownerIn p) (locationIn p) (timeIn p) (stopTotal p) f) w
+        entry f g e w = ap (λ (c : List ℕ). at c w) (sym (held-column f g e))
+
+-- ---- lists made of routes
+
+abbrev listsOf : List Route → PlanLists
+listsOf ds = record {
+  droneCount = length ds ∷ [];
+  dependencyCount = routesPlan ds .count ∷ [];
+  names = [];
+  stopCounts = countsOf ds;
+  locations = locationsOf ds;
+  times = timesOf ds;
+  firstDrones = dependencyList ds (λ v w. ownerOf ds v);
+  firstStops = dependencyList ds (λ v w. numberOf ds v);
+  secondDrones = dependencyList ds (λ v w. ownerOf ds w);
+  secondStops = dependencyList ds (λ v w. numberOf ds w);
+}
+
+lists-hold : (ds : List Route) → HoldsStops ds (listsOf ds)
+lists-hold ds = record { drones-are = refl; counts-are = λ d l. refl; locations-are = λ v l. refl; times-are = λ v l. refl }
+
+lists-own : (ds : List Route) → HoldsPlanned (listsOf ds)
+lists-own ds = record { total = refl; first-drones = λ k l. refl; first-stops = λ k l. refl; second-drones = λ k l. refl; second-stops = λ k l. refl }
+
+-- the single stops' rules and 004's Definition 1 are the plan check
+pub rules-checked : (L : Limits) (ds : List Route) → InLimits L ds → (StopsChecked (routesPlan ds) × Never (routesPlan ds) (Collides (routesPlan ds))) ↔ Checked (routesPlan ds)
+rules-checked L ds v =
+    let p : PlanLists = listsOf ds in
+    let have : HaveStops p = held-stops L ds v p (lists-hold ds) in
+    let to : PlansAgree (routesPlan ds) (planOf p) = held-agree L ds v p (lists-hold ds) (lists-own ds) in
+    let back : PlansAgree (planOf p) (routesPlan ds) = agree-back to in (
+      λ (c, never). agree-checked (routesPlan ds) (planOf p) to (accepted-claims .taken-exactly p have .0 (passes-exactly p have .1 (agree-stops (planOf p) (routesPlan ds) back c, agree-never (planOf p) (routesPlan ds) back never))),
+      λ c. let (stops, never) = passes-exactly p have .0 (accepted-claims .taken-exactly p have .1 (agree-checked (planOf p) (routesPlan ds) back c)) in
+          (agree-stops (routesPlan ds) (planOf p) to stops, agree-never (routesPlan ds) (planOf p) to never),
+    )
+
+-- ---- the routes of a text
+
+-- what the tables hold of a valid plan, cut into routes
+cut : (L : Limits) (ds : List Route) (earlier : List (List ℕ)) (total : ℕ) → InLimitsFrom L earlier total ds → routesFrom (rowsOf L ds) (countsOf ds) (locationsOf ds) (timesOf ds) ≡ ds
+cut L [] earlier total v = refl
+cut L (r ∷ ds) earlier total v =
+    let m = range-long L (r .locations) (r .times) (v .4) in
+    rw (
+      name-of-row L (r .name) (v .0),
+      take-at (r .locations) (locationsOf ds) (length (r .locations)) refl,
+      take-at (r .times) (timesOf ds) (length (r .locations)) m,
+      drop-at (r .locations) (locationsOf ds) (length (r .locations)) refl,
+      drop-at (r .times) (timesOf ds) (length (r .locations)) m,
+      cut L ds (earlier ++ rowOf L (r .name) ∷ []) (total + length (r .locations)) (v .5),
+    )
+
+pub routes-read : (L : Limits) (text : List ℕ) (ds : List Route) → InLimits L ds → linesAt L text ≡ linesOf L ds → textRoutes L text ≡ ds
+routes-read L text ds v e = ap (λ (f : LinesRead LinesAnswer). routesFrom (f .rows) (f .counts) (f .locations) (f .times)) e ∙ cut L ds [] 0 (v .2)

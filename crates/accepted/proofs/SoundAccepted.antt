@@ -1,0 +1,190 @@
+-- Sound tables hold a plan whose own text is accepted, into whatever tables it is read.
+use mathlib.Core.Path.{_≡_, sym, ap, _∙_, subst}
+use mathlib.Core.Bool.{true, _&&_}
+use mathlib.Core.List.{List, [], _++_}
+use Prim.Native.Nat.{ℕ, _*_, _≤_, _<_}
+use native.Mathlib.Nat.{mul-le-mul-right}
+use native.Mathlib.Omega.{arith}
+use lib.Dec.{leb}
+use borrow.Author.Tests.{leb-true}
+use lib.ListN.{length, take}
+use lib.Seq.{length-take-le, getD-take}
+use Rattle.below.specs.Below.{at, allBelow}
+use Rattle.below.proofs.Tests.{and-left, and-right}
+use Rattle.below.proofs.Every.{allBelow-at}
+use Rattle.tables.specs.Limits.{Limits, limits}
+use Rattle.tables.specs.Tables.{PlanLists, Tables, drones, fullSize, Sizes}
+use Rattle.tables.proofs.SizeLaws.{full-sizes}
+use Rattle.lines.specs.Keys.{firstLine, agentsKey, lastLine}
+use Rattle.lines.specs.Stops.{countLine}
+use Rattle.text.specs.LinesRead.{linesAt}
+use Rattle.text.specs.TextWritten.{rowsIn, tablesText}
+use Rattle.text.specs.Written.{droneLines, Route, routesText, locationsOf, linesOf, InLimits}
+use Rattle.text.specs.Claims.{textBound, RoundTrip}
+use Rattle.text.proofs.RoundTrips.{limits-round-trip, limits-room}
+use Rattle.plan.specs.Stops.{start}
+use Rattle.plan.specs.Field.{AcceptedPlan, PlansAgree, planOf}
+use Rattle.plan.specs.Claims.{HaveStops, StopsChecked, Collides, Never, stopTotal}
+use Rattle.plan.proofs.Claims.{accepted-claims}
+use Rattle.plan.proofs.PlansAgree.{start-same, agree-stops, agree-never, passes-exactly}
+use Rattle.sound.specs.Sound.{nameSound, namesDiffer, inRange, namesSound, planAccepted}
+use Rattle.sound.proofs.Clauses.{Sound, sound-says}
+use Rattle.log.proofs.SoundParts.{drones-in, have-stops, stops-in, dependencies-in, accepted-plan}
+use Rattle.accepted.specs.TextPlan.{routesPlan, routesFrom}
+use Rattle.accepted.specs.Claims.{ownText, SoundMeansAccepted}
+use Rattle.accepted.proofs.RoutesPlan.{HoldsStops, held-agree, routes-read}
+use Rattle.accepted.proofs.TablesRoutes.{Cut, cut-back, range-each, cut-valid, rows-in-many, sound-row, rows-differ}
+use Rattle.accepted.proofs.Taken.{taken-exactly, follows-own}
+
+-- ---- the plan in the tables would be accepted: what that says of names and numbers
+
+module _ (L : Limits) (p : PlanLists) (accepted : planAccepted L p ≡ true) where
+  in-range : inRange L p ≡ true
+  unfolding planAccepted
+  in-range = and-left _ _ accepted
+
+  names-sound : namesSound L p ≡ true
+  unfolding planAccepted
+  names-sound = and-left _ _ (and-right (inRange L p) _ accepted)
+
+  some-drone : 1 ≤ drones p
+  unfolding inRange
+  some-drone = leb-true 1 (drones p) (and-left _ (leb (drones p) (L .drones)) (and-left (leb 1 (drones p) && leb (drones p) (L .drones)) _ in-range))
+
+  stop-in-range : (v : ℕ) → v < stopTotal p → (at (p .locations) v ≤ L .location) × (at (p .times) v ≤ L .time)
+  unfolding inRange
+  stop-in-range v l =
+      let after-counts = and-right (allBelow (drones p) (λ d. leb 1 (at (p .stopCounts) d))) _ (and-right (leb 1 (drones p) && leb (drones p) (L .drones)) _ in-range) in
+      let h = allBelow-at (stopTotal p) _ (and-right (leb (stopTotal p) (L .stops)) _ after-counts) v l in
+      (leb-true _ _ (and-left _ _ h), leb-true _ _ (and-right (leb (at (p .locations) v) (L .location)) _ h))
+
+  name-sound : (d : ℕ) → d < drones p → nameSound L (p .names) d ≡ true
+  unfolding namesSound
+  name-sound = allBelow-at (drones p) _ (and-left _ _ names-sound)
+
+  names-differ : namesDiffer L (p .names) (drones p) ≡ true
+  unfolding namesSound
+  names-differ = and-right (allBelow (drones p) (nameSound L (p .names))) _ names-sound
+
+-- ---- the routes in sound tables
+
+module _ (L : Limits) (t : Tables) (full : fullSize L t ≡ true) (clauses : Sound L t) where
+  abbrev p : PlanLists
+  p = t .plan
+
+  abbrev counts : List ℕ
+  counts = take (drones p) (p .stopCounts)
+
+  abbrev locations : List ℕ
+  locations = take (stopTotal p) (p .locations)
+
+  abbrev times : List ℕ
+  times = take (stopTotal p) (p .times)
+
+  abbrev rows : List (List ℕ)
+  rows = rowsIn L (drones p) (p .names)
+
+  abbrev routes : List Route
+  routes = routesFrom rows counts locations times
+
+  sizes : Sizes L t
+  sizes = full-sizes L t full
+
+  few-drones : drones p ≤ L .drones
+  few-drones = drones-in L p (clauses .accepted)
+
+  few-stops : stopTotal p ≤ L .stops
+  few-stops = stops-in L p (clauses .accepted)
+
+  have : HaveStops p
+  have = have-stops L p (clauses .accepted)
+
+  counts-long : length counts ≡ drones p
+  counts-long = length-take-le (drones p) (p .stopCounts) (omega (arith, few-drones, sizes .stop-counts))
+
+  locations-long : length locations ≡ stopTotal p
+  locations-long = length-take-le (stopTotal p) (p .locations) (omega (arith, few-stops, sizes .locations))
+
+  times-long : length times ≡ stopTotal p
+  times-long = length-take-le (stopTotal p) (p .times) (omega (arith, few-stops, sizes .times))
+
+  all-stops : start counts (length counts) ≡ stopTotal p
+  all-stops = ap (start counts) counts-long ∙ start-same (drones p) counts (p .stopCounts) (λ d l. getD-take (drones p) (p .stopCounts) d 0 l) (drones p) (omega arith)
+
+  rows-many : length rows ≡ drones p
+  rows-many = rows-in-many L (drones p) (p .names)
+
+  cut : Cut rows counts locations times
+  cut = cut-back rows counts locations times (rows-many ∙ sym counts-long) (locations-long ∙ sym all-stops) (times-long ∙ sym all-stops)
+
+  many : length routes ≡ drones p
+  many = cut .many ∙ rows-many
+
+  names-room : drones p * L .name ≤ length (p .names)
+  names-room = omega (arith, sizes .names, mul-le-mul-right (L .name) few-drones)
+
+  valid : InLimits L routes
+  valid = (
+    omega (arith, many, some-drone L p (clauses .accepted)),
+    omega (arith, many, few-drones),
+    cut-valid L [] 0 rows counts locations times (record {
+      good = λ d l. let k : d < drones p = omega (arith, rows-many) in sound-row L (drones p) (p .names) names-room d k (name-sound L p (clauses .accepted) d k);
+      differ = λ d e l h. rows-differ L (drones p) (p .names) names-room (names-differ L p (clauses .accepted)) d e (omega (arith, rows-many)) (omega arith);
+      rows-many = rows-many ∙ sym counts-long;
+      some = λ d l. let k : d < drones p = omega (arith, counts-long) in omega (arith, have d k, getD-take (drones p) (p .stopCounts) d 0 k);
+      stops-many = locations-long ∙ sym all-stops;
+      within = omega (arith, all-stops, few-stops);
+      range = range-each L locations times (times-long ∙ sym locations-long) (λ i l.
+          let k : i < stopTotal p = omega (arith, locations-long) in
+          let r = stop-in-range L p (clauses .accepted) i k in
+          (omega (arith, r .0, getD-take (stopTotal p) (p .locations) i 0 k), omega (arith, r .1, getD-take (stopTotal p) (p .times) i 0 k)));
+    }),
+  )
+
+  own-text : ownText L t ≡ routesText routes
+  unfolding tablesText start
+  own-text =
+      ap (λ (n : ℕ). firstLine ++ countLine agentsKey n ++ droneLines rows counts locations times ++ lastLine) (sym many)
+      ∙ ap (λ (x : List ℕ). firstLine ++ countLine agentsKey (length routes) ++ x ++ lastLine) (sym (cut .lines))
+
+  holds : HoldsStops routes p
+  holds = record {
+    drones-are = sym many;
+    counts-are = λ d l. sym (getD-take (drones p) (p .stopCounts) d 0 (omega (arith, many))) ∙ ap (λ (x : List ℕ). at x d) (sym (cut .counts));
+    locations-are = λ u l. sym (getD-take (stopTotal p) (p .locations) u 0 (inside u l)) ∙ ap (λ (x : List ℕ). at x u) (sym (cut .locations));
+    times-are = λ u l. sym (getD-take (stopTotal p) (p .times) u 0 (inside u l)) ∙ ap (λ (x : List ℕ). at x u) (sym (cut .times));
+  }
+    where
+      inside : (u : ℕ) → u < length (locationsOf routes) → u < stopTotal p
+      inside u l = omega (arith, ap (λ (x : List ℕ). length x) (cut .locations), locations-long)
+
+  plan-accepted : AcceptedPlan (planOf p)
+  plan-accepted = accepted-plan L p (clauses .accepted) (clauses .dependencies-own)
+
+  agree : PlansAgree (routesPlan routes) (planOf p)
+  agree = held-agree L routes valid p holds (accepted-claims .accepted-exactly p have .1 plan-accepted .2)
+
+  rules : StopsChecked (routesPlan routes) × Never (routesPlan routes) (Collides (routesPlan routes))
+  rules =
+      let (e, a, own) = accepted-claims .accepted-exactly p have .1 plan-accepted in
+      let (c, never) = passes-exactly p have .0 (e, a) in
+      (agree-stops (routesPlan routes) (planOf p) agree c, agree-never (routesPlan routes) (planOf p) agree never)
+
+  few : routesPlan routes .count ≤ L .dependencies
+  few = omega (arith, agree .counts-agree, dependencies-in L p (clauses .accepted) (clauses .dependencies-own))
+
+-- where the limit of the text leaves room for every plan
+pub sound-means-accepted : (L : Limits) → RoundTrip L → textBound L ≤ L .text → SoundMeansAccepted L
+sound-means-accepted L trip room t z full s into =
+    let clauses : Sound L t = sound-says L t s in
+    let ds : List Route = routes L t full clauses in
+    let v : InLimits L ds = valid L t full clauses in
+    let e : ownText L t ≡ routesText ds = own-text L t full clauses in
+    let short : length (ownText L t) ≤ L .text = omega (arith, ap (λ (x : List ℕ). length x) e, trip .written-bound ds v) in
+    let read : linesAt L (ownText L t) ≡ linesOf L ds = ap (linesAt L) e ∙ trip .written-is-read ds v in (
+      taken-exactly L trip (ownText L t) z .1 (into, follows-own L (ownText L t) ds (trip .no-capitals ds v) e v short (rules L t full clauses) (few L t full clauses)),
+      subst (λ (x : List Route). PlansAgree (routesPlan x) (planOf (t .plan))) (sym (routes-read L (ownText L t) ds v read)) (agree L t full clauses),
+    )
+
+pub limits-sound-means-accepted : SoundMeansAccepted limits
+limits-sound-means-accepted = sound-means-accepted limits limits-round-trip limits-room

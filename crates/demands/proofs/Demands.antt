@@ -1,0 +1,31 @@
+-- The three demands, at the product's limits. Assumes nothing.
+use Rattle.tables.specs.Limits.{limits}
+use Rattle.log.proofs.Claims.{demand2}
+use Rattle.accepted.proofs.ReadSound.{tables-hold-plan, accepted-text, tables-sound}
+use Rattle.accepted.proofs.TextFound.{demand3-of-texts}
+use Rattle.accepted.proofs.Taken.{limits-taken-exactly}
+use Rattle.accepted.proofs.SoundAccepted.{limits-sound-means-accepted}
+use Rattle.demands.specs.Demands.{FirstDemand, SecondDemand, ThirdDemand, Demands}
+use Rattle.demands.proofs.Refusals.{refusals-leave}
+use Rattle.demands.proofs.FullSizes.{full-sizes-kept}
+use Rattle.demands.proofs.Writing.{written-out}
+
+pub first-demand : FirstDemand limits
+first-demand = record { refusals-leave = refusals-leave limits; full-sizes-kept = full-sizes-kept limits }
+
+pub second-demand : SecondDemand limits
+second-demand = record {
+  taken-exactly = limits-taken-exactly;
+  tables-hold-plan = tables-hold-plan limits;
+  accepted-text = accepted-text limits;
+  tables-sound = tables-sound limits;
+  sound-means-accepted = limits-sound-means-accepted;
+  calls-exact = demand2;
+  written-out = written-out limits;
+}
+
+pub third-demand : ThirdDemand limits
+third-demand = demand3-of-texts limits
+
+pub demands : Demands limits
+demands = record { first = first-demand; second = second-demand; third = third-demand }

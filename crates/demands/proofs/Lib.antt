@@ -1,0 +1,11 @@
+pub mod Entries
+pub mod SameStops
+pub mod SameClauses
+pub mod SameNumbering
+pub mod SameSound
+pub mod SameCalls
+pub mod SameReading
+pub mod FullSizes
+pub mod Writing
+pub mod Refusals
+pub mod Demands

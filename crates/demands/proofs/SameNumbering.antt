@@ -1,0 +1,98 @@
+-- Two plans in lists that have the same entries up to the full sizes: where the counts are in their ranges, the stops are numbered alike, and the plan check and the
+-- dependencies are the same. Assumes nothing.
+use mathlib.Core.Path.{_≡_, ap, _∙_, fun-ext}
+use Prim.Native.Nat.{ℕ, suc, _-_, _*_, _≤_, _<_}
+use native.Mathlib.Omega.{arith}
+use lib.Dec.{ltb}
+use Rattle.below.specs.Below.{at, firstBelow}
+use Rattle.below.proofs.Search.{firstBelow-first, firstBelow-ext}
+use Rattle.below.proofs.Sum.{sum-ext}
+use Rattle.tables.specs.Limits.{Limits}
+use Rattle.tables.specs.Tables.{PlanLists, drones, dependencies}
+use Rattle.plan.specs.Stops.{start, owner, number}
+use Rattle.plan.specs.Check.{firstFault, apart}
+use Rattle.plan.specs.Answers.{checkOf}
+use Rattle.plan.specs.Dependencies.{dependencyTotal, column}
+use Rattle.plan.specs.Claims.{stopTotal, ownerIn, numberIn, locationIn, timeIn}
+use Rattle.demands.proofs.SameStops.{apart-same, total-same, column-same, firstFault-same, check-same}
+
+-- the same entries up to the full sizes
+pub record PlanEntriesAgree (L : Limits) (p p′ : PlanLists) : Type 0 where
+  pub drone-count : drones p ≡ drones p′
+  pub dependency-count : dependencies p ≡ dependencies p′
+  pub names : (i : ℕ) → i < L .drones * L .name → at (p .names) i ≡ at (p′ .names) i
+  pub stop-counts : (d : ℕ) → d < L .drones → at (p .stopCounts) d ≡ at (p′ .stopCounts) d
+  pub locations : (v : ℕ) → v < L .stops → at (p .locations) v ≡ at (p′ .locations) v
+  pub times : (v : ℕ) → v < L .stops → at (p .times) v ≡ at (p′ .times) v
+  pub first-drones : (k : ℕ) → k < L .dependencies → at (p .firstDrones) k ≡ at (p′ .firstDrones) k
+  pub first-stops : (k : ℕ) → k < L .dependencies → at (p .firstStops) k ≡ at (p′ .firstStops) k
+  pub second-drones : (k : ℕ) → k < L .dependencies → at (p .secondDrones) k ≡ at (p′ .secondDrones) k
+  pub second-stops : (k : ℕ) → k < L .dependencies → at (p .secondStops) k ≡ at (p′ .secondStops) k
+
+module _ (L : Limits) (p p′ : PlanLists) (same : PlanEntriesAgree L p p′) (few : drones p ≤ L .drones) where
+  -- ---- the stops numbered through
+
+  pub start-same : (d : ℕ) → d ≤ L .drones → start (p .stopCounts) d ≡ start (p′ .stopCounts) d
+  unfolding start
+  start-same d h = sum-ext d _ _ (λ c l. same .stop-counts c (omega arith))
+
+  pub stops : stopTotal p ≡ stopTotal p′
+  stops = start-same (drones p) few ∙ ap (start (p′ .stopCounts)) (same .drone-count)
+
+  own-same : (v : ℕ) → ownerIn p v ≡ ownerIn p′ v
+  unfolding owner
+  own-same v =
+      firstBelow-ext (drones p) _ _ (λ d l. ap (ltb v) (start-same (suc d) (omega arith)))
+      ∙ ap (λ (n : ℕ). firstBelow n (λ d. ltb v (start (p′ .stopCounts) (suc d)))) (same .drone-count)
+
+  own-in : (v : ℕ) → ownerIn p v ≤ drones p
+  unfolding owner
+  own-in v = firstBelow-first (drones p) _ .within
+
+  num-same : (v : ℕ) → numberIn p v ≡ numberIn p′ v
+  unfolding number
+  num-same v =
+      let l = own-in v in
+      ap (λ (n : ℕ). v - n) (start-same (ownerIn p v) (omega arith) ∙ ap (start (p′ .stopCounts)) (own-same v))
+
+  pub owners : ownerIn p ≡ ownerIn p′
+  owners = fun-ext own-same
+
+  pub numbers : numberIn p ≡ numberIn p′
+  numbers = fun-ext num-same
+
+  -- ---- the plan check and the dependencies
+  module _ (room : stopTotal p ≤ L .stops) where
+    location-same : (v : ℕ) → v < stopTotal p → locationIn p v ≡ locationIn p′ v
+    location-same v l = same .locations v (omega arith)
+
+    time-same : (v : ℕ) → v < stopTotal p → timeIn p v ≡ timeIn p′ v
+    time-same v l = same .times v (omega arith)
+
+    pub check-is : checkOf (ownerIn p) (numberIn p) (locationIn p) (timeIn p) (stopTotal p) ≡ checkOf (ownerIn p′) (numberIn p′) (locationIn p′) (timeIn p′) (stopTotal p′)
+    check-is =
+        check-same (ownerIn p) (numberIn p) (locationIn p) (locationIn p′) (timeIn p) (timeIn p′) (stopTotal p) location-same time-same
+        ∙ (λ i. checkOf (owners i) (numbers i) (locationIn p′) (timeIn p′) (stops i))
+
+    pub fault-is : firstFault (numberIn p) (locationIn p) (timeIn p) (stopTotal p) ≡ firstFault (numberIn p′) (locationIn p′) (timeIn p′) (stopTotal p′)
+    fault-is =
+        firstFault-same (ownerIn p) (numberIn p) (locationIn p) (locationIn p′) (timeIn p) (timeIn p′) (stopTotal p) location-same time-same
+        ∙ (λ i. firstFault (numbers i) (locationIn p′) (timeIn p′) (stops i))
+
+    pub apart-is : apart (ownerIn p) (locationIn p) (timeIn p) (stopTotal p) ≡ apart (ownerIn p′) (locationIn p′) (timeIn p′) (stopTotal p′)
+    apart-is =
+        apart-same (ownerIn p) (numberIn p) (locationIn p) (locationIn p′) (timeIn p) (timeIn p′) (stopTotal p) location-same time-same
+        ∙ (λ i. apart (owners i) (locationIn p′) (timeIn p′) (stops i))
+
+    pub total-is : dependencyTotal (ownerIn p) (locationIn p) (timeIn p) (stopTotal p) ≡ dependencyTotal (ownerIn p′) (locationIn p′) (timeIn p′) (stopTotal p′)
+    total-is =
+        total-same (ownerIn p) (numberIn p) (locationIn p) (locationIn p′) (timeIn p) (timeIn p′) (stopTotal p) location-same time-same
+        ∙ (λ i. dependencyTotal (owners i) (locationIn p′) (timeIn p′) (stops i))
+
+    -- a column of values that depend on the numbering alone
+    pub column-is : (f : (own num : ℕ → ℕ) (n : ℕ) → ℕ → ℕ → ℕ)
+        → column (ownerIn p) (locationIn p) (timeIn p) (stopTotal p) (f (ownerIn p) (numberIn p) (stopTotal p))
+        ≡ column (ownerIn p′) (locationIn p′) (timeIn p′) (stopTotal p′) (f (ownerIn p′) (numberIn p′) (stopTotal p′))
+    column-is f =
+        column-same (ownerIn p) (numberIn p) (locationIn p) (locationIn p′) (timeIn p) (timeIn p′) (stopTotal p) location-same time-same _
+        ∙ (λ i. column (owners i) (locationIn p′) (timeIn p′) (stops i) (f (owners i) (numbers i) (stops i)))

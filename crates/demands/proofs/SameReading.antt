@@ -1,0 +1,251 @@
+-- The reading into tables that agree up to their full sizes: the same reply, and tables that agree again; and it writes nothing past a full size. Assumes nothing.
+use mathlib.Core.Path.{_≡_, refl, sym, ap, ap₂, _∙_, subst}
+use mathlib.Core.Bool.{Bool, true, false, cond}
+use mathlib.Core.List.{List, [], _∷_}
+use Prim.Native.Nat.{ℕ, _*_, _≤_}
+use native.Mathlib.Nat.{mul-le-mul-right}
+use native.Mathlib.Omega.{arith}
+use lib.Dec.{ltb, leb}
+use lib.ListN.{length, take, drop}
+use lib.Seq.{sets}
+use borrow.Author.Tests.{leb-true}
+use Rattle.below.specs.Below.{laid}
+use Rattle.below.proofs.Pairs.{length-listed}
+use Rattle.tables.specs.Limits.{Limits}
+use Rattle.tables.specs.Tables.{PlanLists, Tables, tablesOf, drones, fullSize}
+use Rattle.tables.specs.Zero.{zeroedTables}
+use Rattle.tables.proofs.Zero.{zeroed-drop}
+use Rattle.text.specs.LinesRead.{LinesRead, linesAt, flat}
+use Rattle.text.specs.declared.reader.LinesAnswer.{LinesAnswer}
+use Rattle.text.specs.declared.reader.LinesAnswer.the-variants as lines
+use Rattle.text.specs.Written.{rowsOf, countsOf, locationsOf, timesOf}
+use Rattle.text.proofs.TakenIsWritten.{TextTaken, text-taken}
+use Rattle.text.proofs.Sizes.{names-many, counts-many, stops-within, times-many}
+use Rattle.plan.specs.Dependencies.{follows, flagOf}
+use Rattle.plan.specs.Claims.{stopTotal, ownerIn, numberIn, locationIn, timeIn}
+use Rattle.reading.specs.Replies.{ReadingReply, taken, isTaken, checkMeant}
+use Rattle.reading.specs.Reading.{ReadingAnswer, withReply, withText, total, plannedList, withDependencies, checkIn, built, checked, fromLines, readLines, readPlan}
+use Rattle.accepted.proofs.PlanHeld.{HoldsRoutes, total-is as stops-are}
+use Rattle.accepted.proofs.ReadSound.{stored-holds}
+use Rattle.demands.specs.FullSizes.{eachTable, upToFull, pastFull, AgreeUpToFull}
+use Rattle.demands.proofs.Entries.{take-sets, drop-sets, take-laid, drop-laid, take-zeroed}
+use Rattle.demands.proofs.SameNumbering.{check-is, total-is, column-is}
+use Rattle.demands.proofs.SameCalls.{same-tables, full-same}
+
+-- the same reply, and tables that agree
+pub record AnswersAgree (L : Limits) (a a′ : ReadingAnswer) : Type 0 where
+  pub replies : a .reply ≡ a′ .reply
+  pub leaves : AgreeUpToFull L (a .tables) (a′ .tables)
+
+-- ---- the steps of a reading on the first entries
+
+module _ (L : Limits) (t : Tables) where
+  first-zeroed : upToFull L (zeroedTables L t) ≡ zeroedTables L (upToFull L t)
+  first-zeroed = λ i. eachTable (λ n l. take-zeroed n l i) L t
+
+  first-text : (f : LinesRead LinesAnswer) (n : ℕ) → upToFull L (withText f n t) ≡ withText f n (upToFull L t)
+  first-text f n = λ i.
+      tablesOf
+      (take-sets 1 (n ∷ []) (t .plan .droneCount) 0 i)
+      (take 1 (t .plan .dependencyCount))
+      (take-sets (L .drones * L .name) (flat (f .rows)) (t .plan .names) 0 i)
+      (take-sets (L .drones) (f .counts) (t .plan .stopCounts) 0 i)
+      (take-sets (L .stops) (f .locations) (t .plan .locations) 0 i)
+      (take-sets (L .stops) (f .times) (t .plan .times) 0 i)
+      (take (L .drones) (t .visited))
+      (take (L .drones) (t .droneFlags))
+      (take (L .dependencies) (t .plan .firstDrones))
+      (take (L .dependencies) (t .plan .firstStops))
+      (take (L .dependencies) (t .plan .secondDrones))
+      (take (L .dependencies) (t .plan .secondStops))
+      (take (L .dependencies) (t .flags))
+
+-- a column laid into two lists that agree
+laid-agree : (n : ℕ) (l l′ xs xs′ : List ℕ) → take n l ≡ take n l′ → xs ≡ xs′ → take n (laid l 0 xs) ≡ take n (laid l′ 0 xs′)
+laid-agree n l l′ xs xs′ e h = take-laid n xs l ∙ ap₂ (λ (x y : List ℕ). laid x 0 y) e h ∙ sym (take-laid n xs′ l′)
+
+-- ---- plan check and building on tables that agree, with counts in their ranges
+
+module _ (L : Limits) (t t′ : Tables) (e : AgreeUpToFull L t t′) (few : drones (t .plan) ≤ L .drones) (room : stopTotal (t .plan) ≤ L .stops) where
+  abbrev p : PlanLists
+  p = t .plan
+
+  abbrev p′ : PlanLists
+  p′ = t′ .plan
+
+  checks : checkIn p ≡ checkIn p′
+  checks = ap checkMeant (check-is L p p′ (same-tables L t t′ e .plan-same) few room)
+
+  totals : total p ≡ total p′
+  totals = total-is L p p′ (same-tables L t t′ e .plan-same) few room
+
+  -- one column of the dependencies
+  column-agrees : (l l′ : List ℕ) (f : (own num : ℕ → ℕ) (n : ℕ) → ℕ → ℕ → ℕ) → take (L .dependencies) l ≡ take (L .dependencies) l′
+      → take (L .dependencies) (laid l 0 (plannedList p (f (ownerIn p) (numberIn p) (stopTotal p)))) ≡ take (L .dependencies) (laid l′ 0 (plannedList p′ (f (ownerIn p′) (numberIn p′) (stopTotal p′))))
+  column-agrees l l′ f h = laid-agree (L .dependencies) l l′ _ _ h (column-is L p p′ (same-tables L t t′ e .plan-same) few room f)
+
+  built-agree : AgreeUpToFull L (withDependencies t) (withDependencies t′)
+  built-agree =
+      let counts : take 1 (withDependencies t .plan .dependencyCount) ≡ take 1 (withDependencies t′ .plan .dependencyCount) = take-sets 1 (total p ∷ []) (p .dependencyCount) 0 ∙ ap₂ (λ (x : List ℕ) (n : ℕ). sets x 0 (n ∷ [])) (ap (λ (x : Tables). x .plan .dependencyCount) e) totals ∙ sym (take-sets 1 (total p′ ∷ []) (p′ .dependencyCount) 0) in
+      λ i.
+      tablesOf
+      (e i .plan .droneCount)
+      (counts i)
+      (e i .plan .names)
+      (e i .plan .stopCounts)
+      (e i .plan .locations)
+      (e i .plan .times)
+      (e i .visited)
+      (e i .droneFlags)
+      (column-agrees (p .firstDrones) (p′ .firstDrones) (λ own num n v w. own v) (ap (λ (x : Tables). x .plan .firstDrones) e) i)
+      (column-agrees (p .firstStops) (p′ .firstStops) (λ own num n v w. num v) (ap (λ (x : Tables). x .plan .firstStops) e) i)
+      (column-agrees (p .secondDrones) (p′ .secondDrones) (λ own num n v w. own w) (ap (λ (x : Tables). x .plan .secondDrones) e) i)
+      (column-agrees (p .secondStops) (p′ .secondStops) (λ own num n v w. num w) (ap (λ (x : Tables). x .plan .secondStops) e) i)
+      (column-agrees (t .flags) (t′ .flags) flagOf (ap (λ (x : Tables). x .flags) e) i)
+
+  module _ (z z′ : Tables) (h : AgreeUpToFull L z z′) where
+    by-total : (n n′ : ℕ) → n ≡ n′ → (r : ReadingReply) → AnswersAgree L (cond (leb n (L .dependencies)) (withReply taken (withDependencies t)) (withReply r z)) (cond (leb n′ (L .dependencies)) (withReply taken (withDependencies t′)) (withReply r z′))
+    by-total n n′ q r = rw q (go (leb n′ (L .dependencies)))
+      where
+        go : (b : Bool) → AnswersAgree L (cond b (withReply taken (withDependencies t)) (withReply r z)) (cond b (withReply taken (withDependencies t′)) (withReply r z′))
+        go true = record { replies = refl; leaves = built-agree }
+        go false = record { replies = refl; leaves = h }
+
+    checked-agree : (r : ReadingReply) → AnswersAgree L (checked L z t r) (checked L z′ t′ r)
+    checked-agree r = go (isTaken r)
+      where
+        go : (b : Bool) → AnswersAgree L (cond b (built L z t) (withReply r z)) (cond b (built L z′ t′) (withReply r z′))
+        go true = by-total (total p) (total p′) totals _
+        go false = record { replies = refl; leaves = h }
+
+-- ---- the text's values in zeroed tables: their counts are in their ranges, and none reaches past a full size
+
+module _ (L : Limits) (t : Tables) (full : fullSize L t ≡ true) (text : List ℕ) (n : ℕ) (taken : linesAt L text .answer ≡ lines.WellFormed n) where
+  w : TextTaken L text n (linesAt L text)
+  w = text-taken L text n taken
+
+  abbrev stored : Tables
+  stored = withText (linesAt L text) n (zeroedTables L t)
+
+  held : HoldsRoutes L (w .routes) (stored .plan)
+  held = stored-holds L t full (linesAt L text) n (w .routes) (w .many) (w .valid) (w .read)
+
+  pub drones-few : drones (stored .plan) ≤ L .drones
+  drones-few = omega (arith, held .drones-are, w .valid .1)
+
+  pub stops-few : stopTotal (stored .plan) ≤ L .stops
+  stops-few = omega (arith, stops-are L (w .routes) (w .valid) (stored .plan) held, stops-within L (w .routes) (w .valid))
+
+  -- nothing past a full size
+  routes-past : pastFull L stored ≡ pastFull L (zeroedTables L t)
+  routes-past =
+      let z = zeroedTables L t .plan in
+      let f = linesAt L text in
+      let ds = w .routes in
+      let rows : flat (f .rows) ≡ flat (rowsOf L ds) = ap (λ (g : LinesRead LinesAnswer). flat (g .rows)) (w .read) in
+      let counts : f .counts ≡ countsOf ds = ap (λ (g : LinesRead LinesAnswer). g .counts) (w .read) in
+      let locations : f .locations ≡ locationsOf ds = ap (λ (g : LinesRead LinesAnswer). g .locations) (w .read) in
+      let times : f .times ≡ timesOf ds = ap (λ (g : LinesRead LinesAnswer). g .times) (w .read) in
+      let names-fit : length (flat (f .rows)) ≤ L .drones * L .name = omega (arith, ap length rows, names-many L ds, mul-le-mul-right (L .name) (w .valid .1)) in
+      let counts-fit : length (f .counts) ≤ L .drones = omega (arith, ap length counts, counts-many ds, w .valid .1) in
+      let stops-fit : length (f .locations) ≤ L .stops = omega (arith, ap length locations, stops-within L ds (w .valid)) in
+      let times-fit : length (f .times) ≤ L .stops = omega (arith, ap length times, times-many L ds (w .valid), stops-within L ds (w .valid)) in
+      λ i.
+      tablesOf
+      (drop-sets 1 (n ∷ []) (z .droneCount) 0 (omega arith) i)
+      (drop 1 (z .dependencyCount))
+      (drop-sets (L .drones * L .name) (flat (f .rows)) (z .names) 0 (omega arith) i)
+      (drop-sets (L .drones) (f .counts) (z .stopCounts) 0 (omega arith) i)
+      (drop-sets (L .stops) (f .locations) (z .locations) 0 (omega arith) i)
+      (drop-sets (L .stops) (f .times) (z .times) 0 (omega arith) i)
+      (drop (L .drones) (zeroedTables L t .visited))
+      (drop (L .drones) (zeroedTables L t .droneFlags))
+      (drop (L .dependencies) (z .firstDrones))
+      (drop (L .dependencies) (z .firstStops))
+      (drop (L .dependencies) (z .secondDrones))
+      (drop (L .dependencies) (z .secondStops))
+      (drop (L .dependencies) (zeroedTables L t .flags))
+
+zeroed-past : (L : Limits) (t : Tables) → pastFull L (zeroedTables L t) ≡ pastFull L t
+zeroed-past L t = λ i. eachTable (λ n l. zeroed-drop n l i) L t
+
+-- the dependencies fit
+built-past : (L : Limits) (t : Tables) → total (t .plan) ≤ L .dependencies → pastFull L (withDependencies t) ≡ pastFull L t
+built-past L t room =
+    let p = t .plan in
+    let long : (f : ℕ → ℕ → ℕ) → length (plannedList p f) ≡ total p = length-listed (follows (ownerIn p) (locationIn p) (timeIn p)) (stopTotal p) in
+    let column : (l : List ℕ) (f : ℕ → ℕ → ℕ) → drop (L .dependencies) (laid l 0 (plannedList p f)) ≡ drop (L .dependencies) l = λ l f. drop-laid (L .dependencies) (plannedList p f) l (omega (arith, long f)) in
+    λ i.
+    tablesOf
+    (drop 1 (p .droneCount))
+    (drop-sets 1 (total p ∷ []) (p .dependencyCount) 0 (omega arith) i)
+    (drop (L .drones * L .name) (p .names))
+    (drop (L .drones) (p .stopCounts))
+    (drop (L .stops) (p .locations))
+    (drop (L .stops) (p .times))
+    (drop (L .drones) (t .visited))
+    (drop (L .drones) (t .droneFlags))
+    (column (p .firstDrones) (λ v w. ownerIn p v) i)
+    (column (p .firstStops) (λ v w. numberIn p v) i)
+    (column (p .secondDrones) (λ v w. ownerIn p w) i)
+    (column (p .secondStops) (λ v w. numberIn p w) i)
+    (column (t .flags) (flagOf (ownerIn p) (numberIn p) (stopTotal p)) i)
+
+-- ---- the whole reading
+
+module _ (L : Limits) (text : List ℕ) where
+  abbrev f : LinesRead LinesAnswer
+  f = linesAt L text
+
+  module _ (t t′ : Tables) (e : AgreeUpToFull L t t′) (full : fullSize L t ≡ true) where
+    zeroed-agree : AgreeUpToFull L (zeroedTables L t) (zeroedTables L t′)
+    zeroed-agree = first-zeroed L t ∙ ap (zeroedTables L) e ∙ sym (first-zeroed L t′)
+
+    lines-agree : (a : LinesAnswer) → f .answer ≡ a → AnswersAgree L (fromLines L (zeroedTables L t) f a) (fromLines L (zeroedTables L t′) f a)
+    lines-agree (lines.Refused r) h = record { replies = refl; leaves = zeroed-agree }
+    lines-agree (lines.WellFormed n) h =
+        let x = withText f n (zeroedTables L t) in
+        let x′ = withText f n (zeroedTables L t′) in
+        let q : AgreeUpToFull L x x′ = first-text L (zeroedTables L t) f n ∙ ap (withText f n) zeroed-agree ∙ sym (first-text L (zeroedTables L t′) f n) in
+        let few = drones-few L t full text n h in
+        let room = stops-few L t full text n h in
+        subst (λ (r : ReadingReply). AnswersAgree L (checked L (zeroedTables L t) x (checkIn (x .plan))) (checked L (zeroedTables L t′) x′ r)) (checks L x x′ q few room) (checked-agree L x x′ q few room (zeroedTables L t) (zeroedTables L t′) zeroed-agree (checkIn (x .plan)))
+
+  module _ (t t′ : Tables) (e : AgreeUpToFull L t t′) where
+    pub reading-agrees : AnswersAgree L (readPlan L text t) (readPlan L text t′)
+    unfolding readPlan readLines
+    reading-agrees = rw (← full-same L t t′ e) (go (fullSize L t) refl (ltb (L .text) (length text)) _ _)
+      where
+        go : (a : Bool) → fullSize L t ≡ a → (b : Bool) (long small : ReadingReply) → AnswersAgree L (cond a (cond b (withReply long t) (fromLines L (zeroedTables L t) f (f .answer))) (withReply small t)) (cond a (cond b (withReply long t′) (fromLines L (zeroedTables L t′) f (f .answer))) (withReply small t′))
+        go true h true long small = record { replies = refl; leaves = e }
+        go true h false long small = lines-agree t t′ e h (f .answer) refl
+        go false h b long small = record { replies = refl; leaves = e }
+
+  -- ---- nothing past a full size
+
+  built-keeps : (z t : Tables) → pastFull L t ≡ pastFull L z → pastFull L (built L z t .tables) ≡ pastFull L z
+  built-keeps z t h = go (leb (total (t .plan)) (L .dependencies)) refl _
+    where
+      go : (b : Bool) → leb (total (t .plan)) (L .dependencies) ≡ b → (r : ReadingReply) → pastFull L (cond b (withReply taken (withDependencies t)) (withReply r z) .tables) ≡ pastFull L z
+      go true e r = built-past L t (leb-true _ _ e) ∙ h
+      go false e r = refl
+
+  checked-past : (z t : Tables) (r : ReadingReply) → pastFull L t ≡ pastFull L z → pastFull L (checked L z t r .tables) ≡ pastFull L z
+  checked-past z t r h = go (isTaken r)
+    where
+      go : (b : Bool) → pastFull L (cond b (built L z t) (withReply r z) .tables) ≡ pastFull L z
+      go true = built-keeps z t h
+      go false = refl
+
+  lines-past : (t : Tables) → fullSize L t ≡ true → (a : LinesAnswer) → f .answer ≡ a → pastFull L (fromLines L (zeroedTables L t) f a .tables) ≡ pastFull L (zeroedTables L t)
+  lines-past t full (lines.Refused r) h = refl
+  lines-past t full (lines.WellFormed n) h = let x = withText f n (zeroedTables L t) in checked-past (zeroedTables L t) x (checkIn (x .plan)) (routes-past L t full text n h)
+
+  pub reading-keeps : (t : Tables) → pastFull L (readPlan L text t .tables) ≡ pastFull L t
+  unfolding readPlan readLines
+  reading-keeps t = go (fullSize L t) refl (ltb (L .text) (length text)) _ _
+    where
+      go : (a : Bool) → fullSize L t ≡ a → (b : Bool) (long small : ReadingReply) → pastFull L (cond a (cond b (withReply long t) (fromLines L (zeroedTables L t) f (f .answer))) (withReply small t) .tables) ≡ pastFull L t
+      go true h true long small = refl
+      go true h false long small = lines-past t h (f .answer) refl ∙ zeroed-past L t
+      go false h b long small = refl

@@ -1,0 +1,39 @@
+-- The customer's three demands, each one proposition. Their parts are claims of the crates below, each over any limits or over the limits given. Assumes nothing.
+use Rattle.tables.specs.Limits.{Limits}
+use Rattle.log.specs.Claims.{Demand2}
+use Rattle.accepted.specs.Claims.{TakenExactly, TablesHoldPlan, AcceptedText, TablesSound, SoundMeansAccepted, Demand3OfTexts}
+use Rattle.demands.specs.Refusals.{RefusalsLeave}
+use Rattle.demands.specs.FullSizes.{FullSizesKept}
+use Rattle.demands.specs.Writing.{WrittenOut}
+
+-- 1. "Whatever text, number or tables come in, a reply comes back; what is unfit is refused by the exact number, with the lent tables in the exact state that document 01 lists". The
+-- public calls have no `requires`, and their contracts are equations with the definitions that these claims speak of (conductor/src/calls.rt)
+pub record FirstDemand (L : Limits) : Type 0 where
+  pub refusals-leave : RefusalsLeave L
+  pub full-sizes-kept : FullSizesKept L
+
+-- 2. "Replies are exact: taken, granted, arrived, turned if and only if text, graph and progress permit it. A taken plan written out is its text again. Remaining cost is the sum of the
+-- undelayed rounds"
+pub record SecondDemand (L : Limits) : Type 0 where
+  -- a text is taken exactly when it follows document 01, and no two of its drones collide as source document 004 has it; the tables then hold the text's own plan, with exactly its
+  -- dependencies
+  pub taken-exactly : TakenExactly L
+  pub tables-hold-plan : TablesHoldPlan L
+  pub accepted-text : AcceptedText L
+  -- sound: as after a reading, and only where the plan in the tables would be accepted
+  pub tables-sound : TablesSound L
+  pub sound-means-accepted : SoundMeansAccepted L
+  -- granted, arrived, turned exactly when; 23 and 34; the cost; over any limits
+  pub calls-exact : Demand2
+  -- written out
+  pub written-out : WrittenOut L
+
+-- 3. one claim over every list of calls after any accepted plan: each reply is the log's, the tables show the log, no crossing is held by two, nobody is stuck for ever, undelayed rounds
+-- finish within the unvisited stops
+abbrev pub ThirdDemand : Limits → Type 0
+ThirdDemand L = Demand3OfTexts L
+
+pub record Demands (L : Limits) : Type 0 where
+  pub first : FirstDemand L
+  pub second : SecondDemand L
+  pub third : ThirdDemand L

@@ -1,0 +1,76 @@
+-- "Each table carries its own full size as a fixed figure, taken from the limits above. Entries past a full size are never read or written" (document 01, "Tables and
+-- what is sound"): of the reading, of every call and of the writer, for any limits. The public calls are lent the dependencies as a slice of records: their contracts
+-- (conductor/src/calls.rt) speak of the tables that `tablesOfRecords` makes of it, to which records past the full size do not belong (`records-unread`), and the clauses
+-- `drop (limits .dependencies) ..` leave these records as they were. Assumes nothing.
+use mathlib.Core.Path.{_≡_}
+use mathlib.Core.List.{List}
+use Prim.Native.Nat.{ℕ, _*_}
+use lib.ListN.{take, drop}
+use Rattle.tables.specs.Limits.{Limits}
+use Rattle.tables.specs.Tables.{Tables, tablesOf, fullSize}
+use Rattle.tables.specs.declared.entries.Dependency.{Dependency}
+use Rattle.sound.specs.Sound.{sound}
+use Rattle.log.specs.CallLog.{Call}
+use Rattle.log.specs.Calls.{step, costReply, roundsReply}
+use Rattle.log.specs.Preview.{preview, previewAll}
+use Rattle.reading.specs.Reading.{readPlan}
+use Rattle.flat.specs.Writing.{writes, bufferLeft}
+use Rattle.records.specs.Records.{tablesOfRecords}
+
+-- f of each table, with the table's full size
+abbrev pub eachTable : (ℕ → List ℕ → List ℕ) → Limits → Tables → Tables
+eachTable f L t =
+    tablesOf
+    (f 1 (t .plan .droneCount))
+    (f 1 (t .plan .dependencyCount))
+    (f (L .drones * L .name) (t .plan .names))
+    (f (L .drones) (t .plan .stopCounts))
+    (f (L .stops) (t .plan .locations))
+    (f (L .stops) (t .plan .times))
+    (f (L .drones) (t .visited))
+    (f (L .drones) (t .droneFlags))
+    (f (L .dependencies) (t .plan .firstDrones))
+    (f (L .dependencies) (t .plan .firstStops))
+    (f (L .dependencies) (t .plan .secondDrones))
+    (f (L .dependencies) (t .plan .secondStops))
+    (f (L .dependencies) (t .flags))
+
+-- the entries up to the full sizes, and those past them
+abbrev pub upToFull : Limits → Tables → Tables
+upToFull = eachTable take
+
+abbrev pub pastFull : Limits → Tables → Tables
+pastFull = eachTable drop
+
+-- two sets of tables agree up to their full sizes: the same entries there, and a table that is below its full size is the same in both
+abbrev pub AgreeUpToFull : Limits → Tables → Tables → Type 0
+AgreeUpToFull L t t′ = upToFull L t ≡ upToFull L t′
+
+-- "never read": whatever stands past the full sizes, the replies are the same, and the tables that are left agree again
+pub record NeverRead (L : Limits) (t t′ : Tables) : Type 0 where
+  -- 41 and 40 are said of both or of neither
+  pub sizes : fullSize L t ≡ fullSize L t′
+  pub soundness : sound L t ≡ sound L t′
+  pub reading-replies : (text : List ℕ) → readPlan L text t .reply ≡ readPlan L text t′ .reply
+  pub reading-leaves : (text : List ℕ) → AgreeUpToFull L (readPlan L text t .tables) (readPlan L text t′ .tables)
+  pub call-replies : (c : Call) → step L t c .reply ≡ step L t′ c .reply
+  pub call-leaves : (c : Call) → AgreeUpToFull L (step L t c .tables) (step L t′ c .tables)
+  pub previews : (w : ℕ) → preview L t w ≡ preview L t′ w
+  pub list-previews : (ws : List ℕ) → previewAll L t ws ≡ previewAll L t′ ws
+  pub costs : costReply L t ≡ costReply L t′
+  pub rounds : roundsReply L t ≡ roundsReply L t′
+  pub writer-replies : (buffer : List ℕ) → writes L t buffer ≡ writes L t′ buffer
+  pub writer-leaves : (buffer : List ℕ) → bufferLeft L t buffer ≡ bufferLeft L t′ buffer
+
+-- "never .. written": whatever the reply, the entries past the full sizes are as they were. Preview, cost, rounds and writer leave no tables: they write none
+pub record NeverWritten (L : Limits) (t : Tables) : Type 0 where
+  pub reading-keeps : (text : List ℕ) → pastFull L (readPlan L text t .tables) ≡ pastFull L t
+  pub call-keeps : (c : Call) → pastFull L (step L t c .tables) ≡ pastFull L t
+
+-- "Entries past a full size are never read or written"
+pub record FullSizesKept (L : Limits) : Type 0 where
+  pub never-read : (t t′ : Tables) → AgreeUpToFull L t t′ → NeverRead L t t′
+  pub never-written : (t : Tables) → NeverWritten L t
+  -- of lent records: two slices that agree up to the full size make the same tables
+  pub records-unread : (droneCount dependencyCount names stopCounts locations times visited droneFlags : List ℕ) (ds ds′ : List Dependency) → take (L .dependencies) ds ≡ take (L .dependencies) ds′
+      → tablesOfRecords L droneCount dependencyCount names stopCounts locations times visited droneFlags ds ≡ tablesOfRecords L droneCount dependencyCount names stopCounts locations times visited droneFlags ds′

@@ -1,0 +1,4 @@
+pub mod FullSizes
+pub mod Writing
+pub mod Refusals
+pub mod Demands

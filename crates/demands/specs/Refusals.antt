@@ -1,0 +1,26 @@
+-- What a refusal leaves in the lent tables and in the text buffer (document 01, "Where each refusal is checked", the column "Lent tables afterwards"). Assumes nothing.
+use mathlib.Core.Path.{_≡_}
+use mathlib.Core.Bool.{true, false}
+use mathlib.Core.List.{List}
+use Prim.Native.Nat.{ℕ, _≤_, _<_}
+use lib.ListN.{length}
+use Rattle.tables.specs.Limits.{Limits}
+use Rattle.tables.specs.Tables.{Tables, fullSize}
+use Rattle.tables.specs.Zero.{zeroedTables}
+use Rattle.log.specs.CallLog.{Call, isAccepted}
+use Rattle.log.specs.Calls.{step}
+use Rattle.reading.specs.Replies.{refusedBy, refusedAt, isTaken}
+use Rattle.reading.specs.Reading.{withReply, readPlan}
+use Rattle.flat.specs.Writing.{writeRefused, writes, bufferLeft}
+
+pub record RefusalsLeave (L : Limits) : Type 0 where
+  -- "every entry, first: 41 a lent table is below full size: unchanged"
+  pub small-tables : (text : List ℕ) (t : Tables) → fullSize L t ≡ false → readPlan L text t ≡ withReply (refusedBy 41) t
+  -- "reading, before any line: 1 text too long: unchanged", with the offset "32,768 for 1"
+  pub long-text : (text : List ℕ) (t : Tables) → fullSize L t ≡ true → L .text < length text → readPlan L text t ≡ withReply (refusedAt 1 (L .text)) t
+  -- every other reading that is refused: "full sizes zeroed"
+  pub other-readings : (text : List ℕ) (t : Tables) → fullSize L t ≡ true → length text ≤ L .text → isTaken (readPlan L text t .reply) ≡ false → readPlan L text t .tables ≡ zeroedTables L t
+  -- grant, arrive and turn, of one or of a list: "unchanged". Preview, cost, rounds and writer leave no tables: they write none
+  pub calls : (t : Tables) (c : Call) → isAccepted (step L t c .reply) ≡ false → step L t c .tables ≡ t
+  -- "unchanged, and the text buffer too at 40, 41 and 42"
+  pub buffer : (t : Tables) (buffer : List ℕ) (n : ℕ) → writes L t buffer ≡ writeRefused n → bufferLeft L t buffer ≡ buffer

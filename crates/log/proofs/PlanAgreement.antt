@@ -1,0 +1,60 @@
+-- Plans that agree have the same log of every list of calls, and the same is found after it: demand 3 speaks of a plan, whatever its functions say of numbers that name no drone, stop or
+-- dependency. Assumes nothing.
+use mathlib.Core.Path.{_≡_, refl, sym, ap, _∙_}
+use mathlib.Core.List.{List, [], _∷_, _++_}
+use native.Mathlib.Omega.{arith}
+use Rattle.tables.specs.Tables.{Tables}
+use Rattle.precedence.specs.Graph.{cost}
+use Rattle.precedence.proofs.Agreement.{cost-agree}
+use Rattle.plan.specs.Field.{FieldPlan, graph, AcceptedPlan, PlansAgree}
+use Rattle.plan.proofs.PlansAgree.{agree-accepted}
+use Rattle.plan.specs.Status.{Status}
+use Rattle.log.specs.CallLog.{Call, Reply, Entry, entry, statusBy, replyBy, logFrom, logOf}
+use Rattle.log.specs.Demand.{Agree, Found}
+use Rattle.log.proofs.Log.{GoodLog, good-empty, good-calls}
+use Rattle.log.proofs.Found.{log-held, log-goes-on, log-finishes}
+use Rattle.log.proofs.SameStatus.{graphs-agree, graph-in, reply-agrees}
+
+-- ---- the log
+
+agree-self : (F : FieldPlan) (s : Status) → Agree F s s
+agree-self F s = record { places = λ d l. refl; underWays = λ d l. refl; turns = λ w l. refl }
+
+module _ (F G : FieldPlan) (plans : PlansAgree F G) (accepted : AcceptedPlan F) where
+  pub reply-by-agrees : (log : List Entry) (c : Call) → replyBy F log c ≡ replyBy G log c
+  reply-by-agrees log c = reply-agrees F G plans accepted (statusBy log) (statusBy log) (agree-self F (statusBy log)) c
+
+  pub log-agrees : (cs : List Call) (log : List Entry) → logFrom F log cs ≡ logFrom G log cs
+  unfolding logFrom
+  log-agrees [] log = refl
+  log-agrees (c ∷ cs) log = log-agrees cs (log ++ (entry c (replyBy F log c) ∷ [])) ∙ ap (λ (r : Reply). logFrom G (log ++ (entry c r ∷ [])) cs) (reply-by-agrees log c)
+
+  -- the cost by a log
+  pub cost-by-agrees : (log : List Entry) → cost (graph F (statusBy log .turned)) (statusBy log .place) ≡ cost (graph G (statusBy log .turned)) (statusBy log .place)
+  cost-by-agrees log =
+      let t = statusBy log .turned in
+      cost-agree (graph F t) (graph G t) (graphs-agree F G plans t t (λ w l. refl)) (graph-in F accepted t) (statusBy log .place) (statusBy log .place) (λ d l. refl)
+
+-- ---- what is found
+
+pub found-agrees : (F G : FieldPlan) → PlansAgree F G → AcceptedPlan G → (calls : List Call) (got : List Entry) (t′ : Tables) → Found G calls got t′ → Found F calls got t′
+found-agrees F G plans a calls got t′ f = record {
+  replies = f .replies ∙ sym same;
+  shown = record {
+    places = λ d l. f .shown .places d (omega (arith, plans .drones-agree)) ∙ ap (λ (log : List Entry). statusBy log .place d) (sym same);
+    underWays = λ d l. f .shown .underWays d (omega (arith, plans .drones-agree)) ∙ ap (λ (log : List Entry). statusBy log .underWay d) (sym same);
+    turns = λ w l. f .shown .turns w (omega (arith, plans .counts-agree)) ∙ ap (λ (log : List Entry). statusBy log .turned w) (sym same);
+  };
+  held = log-held F plan (logOf F calls) good;
+  goes-on = log-goes-on F plan (logOf F calls) good;
+  finishes = log-finishes F plan (logOf F calls) good;
+}
+  where
+    plan : AcceptedPlan F
+    plan = agree-accepted F G plans a
+
+    same : logOf F calls ≡ logOf G calls
+    same = log-agrees F G plans plan calls []
+
+    good : GoodLog F (logOf F calls)
+    good = good-calls F calls [] (good-empty F plan)
