@@ -8,17 +8,39 @@ so every symbol is the same. `rt dev --generated` writes the twin's Kinds, Reads
 the record's (crates/records/proofs/Row.antt) and lays the lines out wide. antt checks the result as any proof: this program is trusted
 with nothing.
 
-Usage: tools/lend.py CRATE [FN..]      from the repository's root; the functions are CRATE::MODULE::FN, and without one named, all that
-have been carried. MODULE is the crate's in CARRIERS below.
+Usage: tools/lend.py [CRATE [FN..]]    from the repository's root; the functions are CRATE::MODULE::FN, and without one named, all that
+have been carried: of the crate, or of every crate. MODULE is the crate's in CARRIERS below. JOBS (2) crates are carried at a time.
 Writes crates/CRATE/proofs/Derived/FN/{Kinds,Reads,Lts}.antt and crates/CRATE/proofs/MODULE/FN/Proof/Tie.antt,
 and, where there is none, a first crates/CRATE/proofs/MODULE/FN/Proof.antt.
 """
 import os, re, shutil, subprocess, sys
+from concurrent.futures import ThreadPoolExecutor
 
 CARRIERS = {"records": "lent", "conductor": "calls", "dispatch": "requests", "board": "exports", "handset": "button", "presses": "runs"}  # the crates with functions over the lent slice, and the module of each
+
+
+def carried_in(name):  # the functions of a crate that have been carried
+    folder = f"crates/{name}/proofs/Derived"
+    return sorted(d[:-5] for d in os.listdir(folder) if d.endswith(".antt")) if os.path.isdir(folder) else []
+
+def carry_all(names):  # each crate by a process of its own, the one with most functions first
+    todo = sorted((n for n in names if carried_in(n)), key=lambda n: -len(carried_in(n)))
+    def one(name):
+        return subprocess.run([sys.executable, sys.argv[0], name, *carried_in(name)], stdout=subprocess.PIPE, stderr=subprocess.STDOUT, text=True)
+    with ThreadPoolExecutor(int(os.environ.get("JOBS", "2"))) as pool:
+        results = list(pool.map(one, todo))
+    for name, r in zip(todo, results):
+        print(f"{name}: {r.stdout.strip() or f'{len(carried_in(name))} derivations carried'}")
+    return 1 if any(r.returncode for r in results) else 0
+
+if len(sys.argv) < 3:
+    sys.exit(carry_all(sys.argv[1:] or CARRIERS))
+
 crate, fns = sys.argv[1], sys.argv[2:]
 mod = CARRIERS[crate]
-work = os.path.abspath("target/lend")
+listed = sorted({*fns, *carried_in(crate)})
+work = os.path.abspath(f"target/lend/{crate}")
+src = f"{work}/gen/Rattle.{crate}.proofs/proofs"
 root = f"crates/{crate}/proofs"
 RECORD, ARRAY, ZERO, FULL = "Dependency", "[u16; 4]", "[0; 4]", "2048"
 HOME = "use tables::entries::Dependency;"  # where the record is declared: its users get the array's name instead
@@ -106,41 +128,40 @@ def pruned(text):  # without the `use` lines of names that are not used any more
     last = re.compile(r"(\w+);")
     return "\n".join(l for l in lines if not l.startswith("use ") or re.search(r"\b" + last.search(l).group(1) + r"\b", rest))
 
-def modules(f):  # the twin's texts by crate and module: what the function uses, and what that uses
+def modules():  # the twin's texts by crate and module: what the functions use, and what that uses, everything stubbed
     texts, todo = {}, [(crate, mod)]
     while todo:
         name, module = todo.pop()
         if (name, module) in texts:
             continue
-        raw = source(name, module)
-        types(raw)
-        texts[name, module] = raw
-        kept = pruned(stubbed(raw, f if (name, module) == (crate, mod) else None))
-        for m in re.finditer(r"^use (\w+)::(\w+)|\b(crate)::(\w+)::", kept, re.M):
-            used, part = m.group(1) or m.group(3), m.group(2) or m.group(4)
-            todo.append((name if used == "crate" else used, part))
-    return {k: pruned(stubbed(t, f if k == (crate, mod) else None)) for k, t in texts.items()}
+        texts[name, module] = source(name, module)
+        types(texts[name, module])
+        for f in listed if (name, module) == (crate, mod) else [None]:
+            for m in re.finditer(r"^use (\w+)::(\w+)|\b(crate)::(\w+)::", pruned(stubbed(texts[name, module], f)), re.M):
+                used, part = m.group(1) or m.group(3), m.group(2) or m.group(4)
+                todo.append((name if used == "crate" else used, part))
+    return texts
+
+def written(path, text):  # a file that is the same keeps its check
+    os.makedirs(os.path.dirname(path), exist_ok=True)
+    if not os.path.exists(path) or open(path).read() != text:
+        open(path, "w").write(text)
 
 def twin(f):  # the twin for one function: what it calls is stubbed, so that the check is quick and needs no proof
-    shutil.rmtree(work, ignore_errors=True)
-    texts = modules(f)
+    texts = modules()
     names = sorted({n for n, _ in texts})
-    listed = dict(re.findall(r"^(\w+):(.*)$", open("crates.txt").read(), re.M))
-    stands = {n: [m for m in listed[n].split() if m in names] for n in names}
-    os.makedirs(work)
-    open(f"{work}/crates.txt", "w").write("".join(f"{n}: {' '.join(stands[n])}\n" for n in sorted(names, key=lambda n: (n == crate, len(stands[n])))))
+    lines = dict(re.findall(r"^(\w+):(.*)$", open("crates.txt").read(), re.M))
+    stands = {n: [m for m in lines[n].split() if m in names] for n in names}
+    shutil.rmtree(f"{work}/gen", ignore_errors=True)
+    written(f"{work}/crates.txt", "".join(f"{n}: {' '.join(stands[n])}\n" for n in sorted(names, key=lambda n: (n == crate, len(stands[n])))))
     for n in names:
-        os.makedirs(f"{work}/crates/{n}/src")
-        open(f"{work}/crates/{n}/src/lib.rt", "w").write("".join(f"pub mod {m};\n" for k, m in sorted(texts) if k == n))
+        written(f"{work}/crates/{n}/src/lib.rt", "".join(f"pub mod {m};\n" for k, m in sorted(texts) if k == n))
     for (n, m), text in texts.items():
-        open(f"{work}/crates/{n}/src/{m}.rt", "w").write(text)
-    def run(*words):
-        return subprocess.run(["rt", "dev", crate, *words], cwd=work, stdout=subprocess.PIPE, stderr=subprocess.STDOUT, text=True, env=dict(os.environ, RT_CUT="0")).stdout
-    log = run("--generated", f"{work}/gen")
-    open(f"{work}/log", "w").write(log)
-    return run()
+        written(f"{work}/crates/{n}/src/{m}.rt", pruned(stubbed(text, f if (n, m) == (crate, mod) else None)))
+    open(f"{work}/log", "w").write(checked("--generated", f"{work}/gen"))
 
-src = f"{work}/gen/Rattle.{crate}.proofs/proofs"
+def checked(*words):  # what a check of the twin prints
+    return subprocess.run(["rt", "dev", crate, *words], cwd=work, stdout=subprocess.PIPE, stderr=subprocess.STDOUT, text=True, env=dict(os.environ, RT_CUT="0")).stdout
 
 # ---- from the array's row to the record's
 
@@ -294,11 +315,8 @@ def wide(text, width=360):
     return "\n".join(out)
 
 os.makedirs(f"{root}/Derived", exist_ok=True)
-carried = {d[:-5] for d in os.listdir(f"{root}/Derived") if d.endswith(".antt")}
-fns = fns or sorted(carried)
-listed = sorted(set(fns) | carried)
 for f in fns:
-    offered = twin(f)
+    twin(f)
     if not all(os.path.exists(f"{src}/{mod}/{f}/{part}.antt") for part in ("Lts", "Tie")):
         raise SystemExit(f"{f}: the twin has no derivation: see {work}/log")
     os.makedirs(f"{root}/Derived/{f}", exist_ok=True)
@@ -309,10 +327,10 @@ for f in fns:
         open(path, "w").write(head + wide(named(carry(text, f"{f}/{part}")) if part == "Lts" else carry(text, f"{f}/{part}")))
     open(f"{root}/Derived/{f}.antt", "w").write("pub mod Kinds\npub mod Reads\npub mod Lts\n")
     proof = f"{root}/{mod}/{f}/Proof.antt"
-    # the file to start from, as the check of the twin prints it
-    m = re.search(rf"^help: write \S*/{mod}/{f}/Proof\.antt with these lines.*?\n((?:    .*\n)+)", offered, re.M)
     made = f"{src}/{mod}/{f}/Proof.antt"
     if not os.path.exists(proof):
+        # the file to start from, as a plain check of the twin prints it
+        m = re.search(rf"^help: write \S*/{mod}/{f}/Proof\.antt with these lines.*?\n((?:    .*\n)+)", checked(), re.M)
         text = re.sub(r"^    ", "", m.group(1), flags=re.M) if m else open(made).read()
         text = text.replace("use borrow.Author.Needs.{needs}\n", "").replace(f"{mod}.{f}.Tie as", f"{mod}.{f}.Proof.Tie as")
         for g in listed:
@@ -322,5 +340,4 @@ for f in fns:
             text = re.sub(rf"Rattle\.{name}\.proofs\.{module}\.(\w+)\.(Reads|Lts) as", rf"Rattle.{name}.proofs.Derived.\1.\2 as", text)
         text = re.sub(r"^-- src/.*\n", "", text, flags=re.M).replace(" = ?", " = search needs").replace("=\n    ?", "=\n    ?")
         open(proof, "w").write(f"-- `{crate}::{mod}::{f}` meets its contract: the needs that the derivation of Derived.{f} leaves. Assumes nothing.\nmod Tie\nuse borrow.Author.Needs.{{needs}}\n" + text)
-have = sorted(d[:-5] for d in os.listdir(f"{root}/Derived") if d.endswith(".antt"))
-open(f"{root}/Derived.antt", "w").write("".join(f"pub mod {d}\n" for d in have))
+open(f"{root}/Derived.antt", "w").write("".join(f"pub mod {d}\n" for d in carried_in(crate)))
