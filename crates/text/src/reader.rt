@@ -10,7 +10,6 @@ use lines::stops::GoLines;
 use tables::entries::Drone;
 use tables::entries::Stop;
 use tables::zeroing;
-ghost use mathlib.Core.Path.{_≡_};
 ghost use Prim.Native.Nat.{_*_, _<_, _≤_};
 ghost use lib.ListN.{length};
 ghost use mathlib.Core.List.{[]};
