@@ -2,19 +2,27 @@
 use mathlib.Core.Path.{_≡_, refl, sym, ap, _∙_, subst}
 use mathlib.Core.Logic.{_≢_}
 use mathlib.Core.List.{List}
-use mathlib.Core.Bool.{Bool, _&&_}
+use mathlib.Core.Bool.{Bool, false, _&&_}
 use Prim.Native.Nat.{ℕ, _+_, _*_, _/_, _%_, _≤_, _<_}
 use native.Mathlib.Omega.{arith}
 use lib.Dec.{ltb, leb, eqb}
 use lib.ListN.{length, set, length-set, replicate, length-replicate, getD-replicate}
 use lib.Seq.{ext-getD, getD-set-same, getD-set-other}
-use borrow.Author.Tests.{ltb-true, ltb-false, leb-true, eqb-true, eqb-false, lt-ltb, le-leb, lt-leb, eq-eqb}
+use borrow.Author.Tests.{ltb-true, ltb-false, leb-true, eqb-true, eqb-false, lt-ltb, le-leb, lt-leb, eq-eqb, ne-eqb}
 use Rattle.below.specs.Below.{at, firstBelow, fillBelow, First}
 use Rattle.below.proofs.Tests.{by-cases, true-or-false, and-left, and-right, same-test}
 use Rattle.below.proofs.Search.{firstBelow-first, firstBelow-ext, first-all, first-is}
 use Rattle.below.proofs.Fill.{length-fill, getD-fill, getD-unfilled, fill-at, fillBelow-ext}
 use Rattle.below.proofs.Gaps.{over-gap}
+use Rattle.plan.specs.Visits.{Visits, visits}
 use Rattle.plan.specs.Sharing.{rootOf, branch, firstAt, Leads, here, onward, Node, Trees, nextAt, Groups}
+
+-- only the same locations meet, so no stop is left out where the stops of one location are gone through
+pub record Elsewhere (S : Visits) : Type 0 where
+  pub apart : (v u : ℕ) → S .loc u ≢ S .loc v → S .meets (S .loc v) (S .loc u) ≡ false
+
+pub elsewhere : (own num loc time : ℕ → ℕ) (n : ℕ) → Elsewhere (visits own num loc time n)
+elsewhere own num loc time n = record { apart = λ v u ne. ne-eqb (loc v) (loc u) (λ e. ne (sym e)) }
 
 pub root-is : (l : ℕ) → ((l + l / 1024 * 17) % 1024 ≡ rootOf l) × ((l + l / 1024 * 17) % 1024 < 1024)
 unfolding rootOf
