@@ -10,9 +10,9 @@ use lib.ListN.{length}
 use Rattle.below.specs.Below.{at, firstBelow}
 use Rattle.tables.specs.Limits.{limits}
 
--- how many trees there are, and how many slots: a root for each tree and two branches for each stop
+-- how many trees there are, as many as stops at most, and how many slots: a root for each tree and two branches for each stop
 abbrev pub roots : ℕ
-roots = 1024
+roots = limits .stops
 
 abbrev pub slots : ℕ
 slots = roots + 2 * limits .stops

@@ -3,6 +3,7 @@ use mathlib.Core.Path.{_∙_}
 use Prim.Native.Nat.{ℕ}
 use lib.ListN.{length-replicate}
 use mathlib.Core.List.{[]}
+use Rattle.tables.specs.Limits.{limits}
 use Rattle.plan.proofs.Unread.{fault-any, first-fault-any, partner-any, collider-any}
 use Rattle.plan.proofs.SharingLaws.{groups-filled}
 use native.Mathlib.Omega.{arith}
@@ -46,11 +47,11 @@ fill-groups-requires c κs = search needs
 
 -- src/check.rt:193:9
 first-collider-requires : tie.Need-first-collider-requires
-first-collider-requires c κs = (c .before .before .before .before .before .before .before .before .before .before .before .pre .visits, groups-filled _ _ _ _ (omega (arith, length-replicate {A = ℕ} 1024 0, c .before .before .before .before .before .before .before .before .before .before .before .pre .visits .few)) (c .before .before .fill-groups .ensures .0) _ _ (omega (arith, length-replicate {A = ℕ} 1024 0, c .before .before .before .before .before .before .before .before .before .before .before .pre .visits .few)) (c .before .before .fill-groups .ensures .1))
+first-collider-requires c κs = (c .before .before .before .before .before .before .before .before .before .before .before .pre .visits, groups-filled _ _ _ _ (omega (arith, length-replicate {A = ℕ} (limits .stops) 0, c .before .before .before .before .before .before .before .before .before .before .before .pre .visits .few)) (c .before .before .fill-groups .ensures .0) _ _ (omega (arith, length-replicate {A = ℕ} (limits .stops) 0, c .before .before .before .before .before .before .before .before .before .before .before .pre .visits .few)) (c .before .before .fill-groups .ensures .1))
 
 -- src/check.rt:195:13
 partner-of-requires : tie.Need-partner-of-requires
-partner-of-requires c κs = (c .before .before .before .before .before .before .before .before .before .before .before .before .before .before .before .pre .visits, groups-filled _ _ _ _ (omega (arith, length-replicate {A = ℕ} 1024 0, c .before .before .before .before .before .before .before .before .before .before .before .before .before .before .before .pre .visits .few)) (c .before .before .before .before .before .before .fill-groups .ensures .0) _ _ (omega (arith, length-replicate {A = ℕ} 1024 0, c .before .before .before .before .before .before .before .before .before .before .before .before .before .before .before .pre .visits .few)) (c .before .before .before .before .before .before .fill-groups .ensures .1), c .before .before .if2 .taken)
+partner-of-requires c κs = (c .before .before .before .before .before .before .before .before .before .before .before .before .before .before .before .pre .visits, groups-filled _ _ _ _ (omega (arith, length-replicate {A = ℕ} (limits .stops) 0, c .before .before .before .before .before .before .before .before .before .before .before .before .before .before .before .pre .visits .few)) (c .before .before .before .before .before .before .fill-groups .ensures .0) _ _ (omega (arith, length-replicate {A = ℕ} (limits .stops) 0, c .before .before .before .before .before .before .before .before .before .before .before .before .before .before .before .pre .visits .few)) (c .before .before .before .before .before .before .fill-groups .ensures .1), c .before .before .if2 .taken)
 
 -- src/check.rt:196:37
 stop-at-requires-2 : tie.Need-stop-at-requires-2

@@ -4,6 +4,7 @@ use Prim.Native.Nat.{ℕ}
 use native.Mathlib.Omega.{arith}
 use lib.ListN.{length-replicate}
 use mathlib.Core.List.{[]}
+use Rattle.tables.specs.Limits.{limits}
 use Rattle.plan.proofs.Unread.{total-any}
 use Rattle.plan.proofs.SharingLaws.{groups-filled}
 use Rattle.plan.proofs.ColumnsLaws.{total-room, built-refused, built-done}
@@ -22,7 +23,7 @@ fill-groups-requires c κs = search needs
 
 -- src/dependencies.rt:216:9
 count-dependencies-requires : tie.Need-count-dependencies-requires
-count-dependencies-requires c κs = (c .before .before .before .before .before .before .before .before .before .before .before .before .before .before .pre .0 .visits, groups-filled _ _ _ _ (omega (arith, length-replicate {A = ℕ} 1024 0, c .before .before .before .before .before .before .before .before .before .before .before .before .before .before .pre .0 .visits .few)) (c .before .before .fill-groups .ensures .0) _ _ (omega (arith, length-replicate {A = ℕ} 1024 0, c .before .before .before .before .before .before .before .before .before .before .before .before .before .before .pre .0 .visits .few)) (c .before .before .fill-groups .ensures .1))
+count-dependencies-requires c κs = (c .before .before .before .before .before .before .before .before .before .before .before .before .before .before .pre .0 .visits, groups-filled _ _ _ _ (omega (arith, length-replicate {A = ℕ} (limits .stops) 0, c .before .before .before .before .before .before .before .before .before .before .before .before .before .before .pre .0 .visits .few)) (c .before .before .fill-groups .ensures .0) _ _ (omega (arith, length-replicate {A = ℕ} (limits .stops) 0, c .before .before .before .before .before .before .before .before .before .before .before .before .before .before .pre .0 .visits .few)) (c .before .before .fill-groups .ensures .1))
 
 -- src/dependencies.rt:218:9
 returns : tie.Need-returns
@@ -30,7 +31,7 @@ returns c = built-refused _ _ _ _ (c .before .count-dependencies .ensures [] ∙
 
 -- src/dependencies.rt:220:5
 fill-rows-requires : tie.Need-fill-rows-requires
-fill-rows-requires c κs = ((c .before .before .before .before .before .before .before .before .before .before .before .before .before .before .before .before .before .before .before .before .before .before .before .pre .0, groups-filled _ _ _ _ (omega (arith, length-replicate {A = ℕ} 1024 0, c .before .before .before .before .before .before .before .before .before .before .before .before .before .before .before .before .before .before .before .before .before .before .before .pre .0 .visits .few)) (c .before .before .before .before .before .before .before .before .before .before .before .fill-groups .ensures .0) _ _ (omega (arith, length-replicate {A = ℕ} 1024 0, c .before .before .before .before .before .before .before .before .before .before .before .before .before .before .before .before .before .before .before .before .before .before .before .pre .0 .visits .few)) (c .before .before .before .before .before .before .before .before .before .before .before .fill-groups .ensures .1)), total-room _ _ _ _ (c .before .before .before .before .before .before .before .before .count-dependencies .ensures [] ∙ total-any _ _) (c .before .before .before .before .before .before .before .if1 .left) (c .before .before .before .before .before .before .before .before .before .before .before .before .before .before .before .before .before .before .before .before .before .before .before .pre .1))
+fill-rows-requires c κs = ((c .before .before .before .before .before .before .before .before .before .before .before .before .before .before .before .before .before .before .before .before .before .before .before .pre .0, groups-filled _ _ _ _ (omega (arith, length-replicate {A = ℕ} (limits .stops) 0, c .before .before .before .before .before .before .before .before .before .before .before .before .before .before .before .before .before .before .before .before .before .before .before .pre .0 .visits .few)) (c .before .before .before .before .before .before .before .before .before .before .before .fill-groups .ensures .0) _ _ (omega (arith, length-replicate {A = ℕ} (limits .stops) 0, c .before .before .before .before .before .before .before .before .before .before .before .before .before .before .before .before .before .before .before .before .before .before .before .pre .0 .visits .few)) (c .before .before .before .before .before .before .before .before .before .before .before .fill-groups .ensures .1)), total-room _ _ _ _ (c .before .before .before .before .before .before .before .before .count-dependencies .ensures [] ∙ total-any _ _) (c .before .before .before .before .before .before .before .if1 .left) (c .before .before .before .before .before .before .before .before .before .before .before .before .before .before .before .before .before .before .before .before .before .before .before .pre .1))
 
 -- src/dependencies.rt:196:1
 same-length : tie.Need-same-length

@@ -4,6 +4,7 @@ use Prim.Native.Nat.{_*_, _-_, _≤_}
 use mathlib.Core.Path.{_≡_, _∙_}
 use native.Mathlib.Omega.{arith}
 use mathlib.Core.List.{[]}
+use Rattle.tables.specs.Limits.{limits}
 use Rattle.plan.proofs.Unread.{total-any}
 use Rattle.plan.specs.Visits.{visitsOf}
 use Rattle.below.specs.Below.{countBelow, sumBelow, at}
@@ -17,7 +18,7 @@ use Rattle.plan.proofs.dependencies.count_dependencies.Lts as lts
 use Rattle.plan.proofs.dependencies.count_row.Reads as count-row-reads
 
 abbrev Inv-loop : tie.InvT-loop
-Inv-loop owners locations times n first next c₀ v₀ c v = (v ≤ n) × (c ≡ sumBelow v (λ u. countBelow n (follows (visitsOf owners [] locations times n) u))) × (c ≤ 1024 * v)
+Inv-loop owners locations times n first next c₀ v₀ c v = (v ≤ n) × (c ≡ sumBelow v (λ u. countBelow n (follows (visitsOf owners [] locations times n) u))) × (c ≤ limits .stops * v)
 
 abbrev μ-loop : tie.MeasureT-loop
 μ-loop owners locations times n first next c₀ v₀ c v = n - v
