@@ -11,7 +11,7 @@ use Rattle.below.specs.Below.{at, pick, countBelow}
 use Rattle.below.proofs.Tests.{by-cases, true-or-false}
 use Rattle.below.proofs.Count.{count-yes, count-no, count-none}
 use Rattle.below.proofs.Index.{fill-more}
-use Rattle.tables.specs.Limits.{limits}
+use Rattle.tables.specs.Limits.{Limits}
 use Rattle.precedence.specs.Graph.{Fewer, Rising, cyclic}
 use Rattle.precedence.proofs.Ahead.{cyclic-fewer}
 use Rattle.precedence.proofs.Visits.{rising-acyclic, acyclic-iff}
@@ -43,11 +43,11 @@ module _ (own off last loc time : ℕ → ℕ) (drones n m : ℕ) (xs ys : ℕ �
       entry : (k : ℕ) → k < m → Entry own loc time n steady m xs ys k
       entry k l = right-entry own loc time n steady m xs ys e k l
 
-pub edges-none : (firsts seconds flags from into : List ℕ) → length from ≡ limits .dependencies → length into ≡ limits .dependencies → Edges firsts seconds flags 0 from into
+pub edges-none : {L : Limits} (firsts seconds flags from into : List ℕ) → length from ≡ L .dependencies → length into ≡ L .dependencies → Edges L firsts seconds flags 0 from into
 edges-none firsts seconds flags from into a b = record { from-size = a; into-size = b; from-is = λ j l. absurd (omega arith); into-is = λ j l. absurd (omega arith) }
 
-pub edges-more : (firsts seconds flags : List ℕ) (k : ℕ) (from into : List ℕ) (t : Bool) (x y : ℕ) → Edges firsts seconds flags k from into → k < limits .dependencies → t ≡ turnedIn flags k
-    → x ≡ pick t (at seconds k + 1) (at firsts k + 1) → y ≡ pick t (at firsts k) (at seconds k) → Edges firsts seconds flags (k + 1) (set from k x) (set into k y)
+pub edges-more : {L : Limits} (firsts seconds flags : List ℕ) (k : ℕ) (from into : List ℕ) (t : Bool) (x y : ℕ) → Edges L firsts seconds flags k from into → k < L .dependencies → t ≡ turnedIn flags k
+    → x ≡ pick t (at seconds k + 1) (at firsts k + 1) → y ≡ pick t (at firsts k) (at seconds k) → Edges L firsts seconds flags (k + 1) (set from k x) (set into k y)
 edges-more firsts seconds flags k from into t x y E l e ex ey = record {
   from-size = length-set from k x ∙ E .from-size;
   into-size = length-set into k y ∙ E .into-size;
@@ -92,14 +92,14 @@ module _ (own off last loc time : ℕ → ℕ) (drones n m : ℕ) (xs ys : ℕ �
   unfolding graphSound
   graph-right c e q = rw (e, q) refl
 
-module _ (owners locations times starts lasts firsts seconds flags : List ℕ) (drones n m : ℕ) (G : Given owners locations times starts lasts firsts seconds flags drones n m) (e : right (at owners) (at locations) (at times) n m (at firsts) (at seconds) ≡ true) where
+module _ {L : Limits} (owners locations times starts lasts firsts seconds flags : List ℕ) (drones n m : ℕ) (G : Given L owners locations times starts lasts firsts seconds flags drones n m) (e : right (at owners) (at locations) (at times) n m (at firsts) (at seconds) ≡ true) where
   given-entry : (k : ℕ) → k < m → Entry (at owners) (at locations) (at times) n (G .stops .steady) m (at firsts) (at seconds) k
   given-entry k l = right-entry (at owners) (at locations) (at times) n (G .stops .steady) m (at firsts) (at seconds) e k l
 
-  pub given-first : (k : ℕ) → k < m → at firsts k < limits .stops
+  pub given-first : (k : ℕ) → k < m → at firsts k < L .stops
   given-first k l = omega (arith, given-entry k l .first-in, G .stops .few)
 
-  pub given-second : (k : ℕ) → k < m → at seconds k < limits .stops
+  pub given-second : (k : ℕ) → k < m → at seconds k < L .stops
   given-second k l = omega (arith, given-entry k l .second-in, G .stops .few)
 
   given-placed : PlacedWaits (at owners) (at starts) (at lasts) drones n (fromOf (at firsts) (at seconds) (turnedIn flags)) (intoOf (at firsts) (at seconds) (turnedIn flags)) m
@@ -127,8 +127,8 @@ module _ (owners locations times starts lasts firsts seconds flags : List ℕ) (
   given-unturned t q z = graph-right (at owners) (at starts) (at lasts) (at locations) (at times) drones n m (at firsts) (at seconds) (turnedIn flags) false e
       (sym (acyclic-iff _ (formed (at owners) (at starts) (at lasts) drones n _ _ m given-placed) .1 (rising-acyclic _ (unturned-rising (count-none m (turnedIn flags) (sym q ∙ z))))))
 
-  module _ (from into : List ℕ) (E : Edges firsts seconds flags m from into) where
-    pub given-tables : FlatTables owners starts lasts drones n from into m
+  module _ (from into : List ℕ) (E : Edges L firsts seconds flags m from into) where
+    pub given-tables : FlatTables L owners starts lasts drones n from into m
     given-tables = record {
       placed = same-placed (at owners) (at starts) (at lasts) drones n m (at from) (at into) _ _ (E .from-is) (E .into-is) given-placed;
       has-owners = G .stops .has-owners;

@@ -7,7 +7,7 @@ use mathlib.Core.List.{List}
 use Prim.Native.Nat.{ℕ, _+_, _≤_, _<_}
 use lib.ListN.{length}
 use Rattle.below.specs.Below.{at, pick}
-use Rattle.tables.specs.Limits.{limits}
+use Rattle.tables.specs.Limits.{Limits}
 use Rattle.tables.specs.Flags.{turnedBit}
 use Rattle.precedence.specs.Graph.{cyclic}
 use Rattle.plan.specs.Dependencies.{right}
@@ -26,9 +26,9 @@ abbrev pub turnedIn : List ℕ → ℕ → Bool
 turnedIn flags k = turnedBit (at flags k)
 
 -- from and into hold the waits of the first k dependencies
-pub record Edges (firsts seconds flags : List ℕ) (k : ℕ) (from into : List ℕ) : Type 0 where
-  pub from-size : length from ≡ limits .dependencies
-  pub into-size : length into ≡ limits .dependencies
+pub record Edges (L : Limits) (firsts seconds flags : List ℕ) (k : ℕ) (from into : List ℕ) : Type 0 where
+  pub from-size : length from ≡ L .dependencies
+  pub into-size : length into ≡ L .dependencies
   pub from-is : (j : ℕ) → j < k → at from j ≡ fromOf (at firsts) (at seconds) (turnedIn flags) j
   pub into-is : (j : ℕ) → j < k → at into j ≡ intoOf (at firsts) (at seconds) (turnedIn flags) j
 
@@ -42,12 +42,12 @@ module _ (own off last loc time : ℕ → ℕ) (drones n m : ℕ) (xs ys : ℕ �
   graphSound = right own loc time n m xs ys && not (cyclic (flatPlan own off last drones (fromOf xs ys turned) (intoOf xs ys turned) m))
 
 -- what the two checks ask of the tables, all of it known from the tests of single stops and of flag bytes
-pub record Given (owners locations times starts lasts firsts seconds flags : List ℕ) (drones n m : ℕ) : Type 0 where
-  pub stops : Stops n owners locations times
+pub record Given (L : Limits) (owners locations times starts lasts firsts seconds flags : List ℕ) (drones n m : ℕ) : Type 0 where
+  pub stops : Stops L n owners locations times
   pub table : PairTable m firsts seconds
   pub shape : Shape (at owners) (at starts) (at lasts) drones n
   pub zero-time : (v : ℕ) → v < n → v ≡ at starts (at owners v) → at times v ≡ 0
   pub unfixed : Unfixed (at owners) (at starts) (at lasts) (at locations) (at times) drones n m (at firsts) (at seconds) (turnedIn flags)
   pub has-flags : m ≤ length flags
-  pub few-drones : drones ≤ limits .drones
-  pub few-waits : m ≤ limits .dependencies
+  pub few-drones : drones ≤ L .drones
+  pub few-waits : m ≤ L .dependencies
