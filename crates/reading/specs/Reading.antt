@@ -16,7 +16,7 @@ use Rattle.text.specs.declared.reader.LinesAnswer.{LinesAnswer}
 use Rattle.text.specs.declared.reader.LinesAnswer.the-variants as text
 use Rattle.plan.specs.Dependencies.{dependencyTotal, column, flagOf}
 use Rattle.plan.specs.Answers.{checkOf}
-use Rattle.plan.specs.Claims.{stopTotal, ownerIn, numberIn, locationIn, timeIn}
+use Rattle.plan.specs.Claims.{stopTotal, ownerIn, numberIn, visitsIn}
 use Rattle.reading.specs.Replies.{ReadingReply, taken, refusedBy, refusedAt, isTaken, lineMeant, checkMeant}
 
 -- the reply and the tables afterwards
@@ -55,10 +55,10 @@ withText f n t = record {
 module _ (p : PlanLists) where
   -- how many dependencies the plan in the lists has, and f of each of them, in order
   abbrev pub total : ℕ
-  total = dependencyTotal (ownerIn p) (locationIn p) (timeIn p) (stopTotal p)
+  total = dependencyTotal (visitsIn p)
 
   abbrev pub plannedList : (ℕ → ℕ → ℕ) → List ℕ
-  plannedList f = column (ownerIn p) (locationIn p) (timeIn p) (stopTotal p) f
+  plannedList f = column (visitsIn p) f
 
 -- the tables with the dependencies of their plan, each with its fixed bit and none turned
 abbrev pub withDependencies : Tables → Tables
@@ -82,7 +82,7 @@ withDependencies t = record {
 
 -- what the plan check says of the plan in the lists
 abbrev pub checkIn : PlanLists → ReadingReply
-checkIn p = checkMeant (checkOf (ownerIn p) (numberIn p) (locationIn p) (timeIn p) (stopTotal p))
+checkIn p = checkMeant (checkOf (visitsIn p))
 
 module _ (L : Limits) where
   -- "building: 11 too many dependencies: zeroed": z is the zeroed tables, t the tables with the text's values

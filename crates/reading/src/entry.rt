@@ -3,7 +3,6 @@ use crate::replies;
 use crate::replies::Reading;
 use crate::replies::Refusal;
 use crate::storing;
-use tables::entries::Text;
 use tables::sizes;
 use tables::zeroing;
 use text::reader;
@@ -132,8 +131,8 @@ pub fn read_plan(
     ) {
         return Reading::Refused(Refusal::TablesTooSmall);
     }
-    if Text::FULL < text.len() {
-        return Reading::Refused(Refusal::TooLong(Text::FULL));
+    if sizes::MAX_TEXT < text.len() {
+        return Reading::Refused(Refusal::TooLong(sizes::MAX_TEXT));
     }
     zeroing::zero_all(
         drone_count,

@@ -28,9 +28,6 @@ pub struct Dependency {
     pub reserved: u8,
 }
 
-// The plan's text is no table of entries, but it has a full size too.
-pub struct Text {}
-
 impl Stop {
     // The stops of all drones.
     pub const FULL: usize = 1024;
@@ -150,15 +147,5 @@ impl Dependency {
             flags: crate::flags::flipped(self.flags),
             reserved: self.reserved,
         }
-    }
-}
-
-impl Text {
-    pub const FULL: usize = 32768;
-
-    pub fn full_size() -> usize
-        ensures { λ r. ⌜ r ≡ limits .text ⌝ }
-    {
-        Self::FULL
     }
 }
