@@ -1,5 +1,6 @@
 // The entries of a dependency table, tested one by one.
 use plan::check::over_at;
+use plan::meeting::meets;
 ghost use mathlib.Core.Path.{_≡_};
 ghost use Prim.Native.Nat.{_≤_, _<_};
 ghost use lib.ListN.{length};
@@ -16,7 +17,7 @@ fn is_clear(owners: &[u8], locations: &[u16], times: &[u32], n: usize, v: usize,
     if owners[v] == owners[w] {
         return false;
     }
-    if locations[v] != locations[w] {
+    if !meets(locations[v], locations[w]) {
         return false;
     }
     over_at(owners, times, n, v, times[w])

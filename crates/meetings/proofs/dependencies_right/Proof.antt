@@ -22,7 +22,7 @@ are-right-requires c κs = search needs
 
 -- src/lib.rt:27:9
 returns : tie.Need-returns
-returns c = right-not _ _ _ _ (c .before .before .before .before .before .before .before .pre .0 .steady) _ _ _ (sym (c .before .are-right .ensures) ∙ not-true _ (c .if1 .taken))
+returns c = λ numbers. right-not _ _ _ _ _ (c .before .before .before .before .before .before .before .pre .0 .steady) _ _ _ (sym (c .before .are-right .ensures) ∙ not-true _ (c .if1 .taken))
 
 -- src/lib.rt:30:5
 fill-firsts-requires : tie.Need-fill-firsts-requires
@@ -34,7 +34,7 @@ count-meetings-requires c κs = (indexed-filled _ _ _ _ (length-replicate {A = �
 
 -- src/lib.rt:14:1
 returns-2 : tie.Need-returns-2
-returns-2 c = right-count _ _ _ _ (c .before .before .before .before .before .before .before .before .before .before .before .pre .0 .steady) _ _ _ _ (sym (c .before .before .before .before .before .are-right .ensures) ∙ not-false _ (c .before .before .before .before .if1 .left)) (c .count-meetings .ensures ∙ meetings-shared _ _ _ _ (firsts-at _ _ _ _ (omega (arith, c .before .before .before .before .before .before .before .before .before .before .before .pre .0 .few, length-replicate {A = ℕ} (limits .stops) 0)) (c .before .before .fill-firsts .ensures)))
+returns-2 c = λ numbers. right-count _ _ _ _ _ (c .before .before .before .before .before .before .before .before .before .before .before .pre .0 .steady) _ _ _ _ (sym (c .before .before .before .before .before .are-right .ensures) ∙ not-false _ (c .before .before .before .before .if1 .left)) (c .count-meetings .ensures ∙ meetings-shared _ _ _ _ (firsts-at _ _ _ _ (omega (arith, c .before .before .before .before .before .before .before .before .before .before .before .pre .0 .few, length-replicate {A = ℕ} (limits .stops) 0)) (c .before .before .fill-firsts .ensures)))
 
 pub dependencies-right-spec : {M : Type 1} → statement M
 dependencies-right-spec =
