@@ -23,7 +23,7 @@ use Rattle.text.proofs.ReadIsWritten.{tables-kept}
 use Rattle.text.proofs.RoundTrips.{limits-round-trip}
 use Rattle.plan.specs.Field.{PlansAgree, planOf}
 use Rattle.plan.specs.Check.{firstFault}
-use Rattle.plan.specs.Claims.{stopTotal, numberIn, locationIn, timeIn, colliderIn, HaveStops, NoFault, NoCollision, StopsChecked, Collides, Never}
+use Rattle.plan.specs.Claims.{stopTotal, visitsIn, colliderIn, HaveStops, NoFault, NoCollision, StopsChecked, Collides, Never}
 use Rattle.plan.specs.Answers.{checkOf}
 use Rattle.plan.proofs.Claims.{accepted-claims}
 use Rattle.plan.proofs.PlansAgree.{agree-back, agree-stops, agree-never, passes-exactly}
@@ -41,7 +41,7 @@ check-fine : (p : PlanLists) → NoFault p → NoCollision p → checkIn p ≡ T
 unfolding checkOf
 check-fine p e a =
     let c : colliderIn p ≡ stopTotal p = accepted-claims .reported-exactly p .0 a in
-    rw (le-ltb (firstFault (numberIn p) (locationIn p) (timeIn p) (stopTotal p)) (stopTotal p) (omega (arith, e)), le-ltb (colliderIn p) (stopTotal p) (omega (arith, c))) refl
+    rw (le-ltb (firstFault (visitsIn p)) (stopTotal p) (omega (arith, e)), le-ltb (colliderIn p) (stopTotal p) (omega (arith, c))) refl
 
 -- tables in which what was read of a text stands, f being the routes' values
 module _ (L : Limits) (t : Tables) (full : fullSize L t ≡ true) (f : LinesRead LinesAnswer) (n : ℕ) (ds : List Route) (many : length ds ≡ n) (v : InLimits L ds) (read : f ≡ linesOf L ds) where

@@ -6,7 +6,7 @@ use mathlib.Core.List.{List, [], _∷_}
 use Prim.Native.Nat.{ℕ, suc, _-_, _≤_}
 use native.Mathlib.Omega.{arith}
 use lib.ListN.{length}
-use Rattle.below.specs.Below.{at, sumBelow, countBelow}
+use Rattle.below.specs.Below.{sumBelow, countBelow}
 use Rattle.below.proofs.Tests.{same-test}
 use Rattle.below.proofs.Count.{count-le}
 use Rattle.below.proofs.Sum.{sum-bound}
@@ -15,7 +15,7 @@ use Rattle.tables.specs.Tables.{Tables, fullSize}
 use Rattle.lines.specs.Names.{smallForm, isNameByte, nameBytes, goodName}
 use Rattle.lines.specs.Stops.{StopsInRange}
 use Rattle.text.specs.LinesRead.{same, elem}
-use Rattle.text.specs.Written.{Route, routesText, smallNames, locationsOf, timesOf, InLimits}
+use Rattle.text.specs.Written.{Route, routesText, smallNames, InLimits}
 use Rattle.text.proofs.RoundTrips.{limits-round-trip}
 use Rattle.plan.specs.Stops.{start}
 use Rattle.plan.specs.Field.{Checked}
@@ -23,8 +23,8 @@ use Rattle.plan.specs.Dependencies.{follows}
 use Rattle.reading.specs.Replies.{taken, isTaken}
 use Rattle.reading.proofs.ReplyLaws.{is-taken}
 use Rattle.reading.specs.Reading.{readPlan}
-use Rattle.accepted.specs.TextPlan.{stopsIn, ownerOf, routesPlan}
-use Rattle.accepted.specs.Examples.{filled}
+use Rattle.accepted.specs.TextPlan.{stopsIn, routesVisits, routesPlan}
+use Rattle.tables.specs.Zero.{filled}
 use Rattle.accepted.proofs.RoutesPlan.{rules-checked}
 use Rattle.accepted.proofs.Taken.{limits-taken-exactly, follows-own}
 use Rattle.small_plans.specs.Routes.{SmallRoute, route, stops, AtMost, Within}
@@ -85,7 +85,7 @@ module _ (x y : SmallRoute) (wx : Within x) (wy : Within y) where
 
   few-dependencies : routesPlan ds .count ≤ 2048
   few-dependencies =
-      let R = follows (ownerOf ds) (at (locationsOf ds)) (at (timesOf ds)) in
+      let R = follows (routesVisits ds) in
       omega (arith, sum-bound (stopsIn ds) (λ v. countBelow (stopsIn ds) (R v)) 6 (λ v l. le-six (count-le (stopsIn ds) (R v)) stops-few), stops-few)
     where
       le-six : {m n : ℕ} → m ≤ n → n ≤ 6 → m ≤ 6
@@ -101,11 +101,11 @@ module _ (x y : SmallRoute) (wx : Within x) (wy : Within y) where
           let texts : routesText (smallNames (q .typed)) ≡ routesText ds =
           sym (limits-round-trip .names-alone (q .typed)) ∙ (ap smallForm (sym (q .as-typed)) ∙ (limits-round-trip .names-alone ds ∙ ap routesText own)) in
           let e : smallNames (q .typed) ≡ ds = limits-round-trip .one-plan (smallNames (q .typed)) ds (q .valid) valid texts in
-          plan-said (routesPlan ds) x y refl first-flies second-flies (subst (λ (r : List Route). Checked (routesPlan r)) e (rules-checked limits (smallNames (q .typed)) (q .valid) .0 (q .stops, q .apart)))
+          plan-said (routesPlan ds) x y refl (λ a b. refl) first-flies second-flies (subst (λ (r : List Route). Checked (routesPlan r)) e (rules-checked limits (smallNames (q .typed)) (q .valid) .0 (q .stops, q .apart)))
 
       says : planChecked x y ≡ true → readPlan limits (routesText ds) t .reply ≡ taken
       says h = limits-taken-exactly (routesText ds) t .1
-          (full, follows-own limits (routesText ds) ds own refl valid short (rules-checked limits ds valid .1 (says-checked (routesPlan ds) x y refl first-flies second-flies h)) few-dependencies)
+          (full, follows-own limits (routesText ds) ds own refl valid short (rules-checked limits ds valid .1 (says-checked (routesPlan ds) x y refl (λ a b. refl) first-flies second-flies h)) few-dependencies)
 
 -- two plans of one text are one plan
 abbrev tableRoute : List Route → SmallRoute

@@ -7,7 +7,7 @@ use lines::keys;
 use text::writer;
 ghost use mathlib.Core.Path.{_≡_};
 ghost use mathlib.Core.List.{_++_};
-ghost use Prim.Native.Nat.{_+_, _*_, _<_, _≤_, _^_};
+ghost use Prim.Native.Nat.{_+_, _*_, _<_, _^_};
 ghost use lib.ListN.{length};
 ghost use Rattle.lines.specs.Bytes.{Put};
 ghost use Rattle.small_plans.specs.Plans.{plan, text, planAt};
