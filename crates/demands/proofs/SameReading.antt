@@ -12,7 +12,7 @@ use borrow.Author.Tests.{leb-true}
 use Rattle.below.specs.Below.{laid}
 use Rattle.below.proofs.Pairs.{length-listed}
 use Rattle.tables.specs.Limits.{Limits}
-use Rattle.tables.specs.Tables.{PlanLists, Tables, tablesOf, drones, fullSize}
+use Rattle.tables.specs.Tables.{PlanLists, Tables, tablesOf, drones, fullSize, eachTable}
 use Rattle.tables.specs.Zero.{zeroedTables}
 use Rattle.tables.proofs.Zero.{zeroed-drop}
 use Rattle.text.specs.LinesRead.{LinesRead, linesAt, flat}
@@ -22,12 +22,12 @@ use Rattle.text.specs.Written.{rowsOf, countsOf, locationsOf, timesOf}
 use Rattle.text.proofs.TakenIsWritten.{TextTaken, text-taken}
 use Rattle.text.proofs.Sizes.{names-many, counts-many, stops-within, times-many}
 use Rattle.plan.specs.Dependencies.{follows, flagOf}
-use Rattle.plan.specs.Claims.{stopTotal, ownerIn, numberIn, locationIn, timeIn}
+use Rattle.plan.specs.Claims.{stopTotal, ownerIn, numberIn, visitsIn}
 use Rattle.reading.specs.Replies.{ReadingReply, taken, isTaken, checkMeant}
 use Rattle.reading.specs.Reading.{ReadingAnswer, withReply, withText, total, plannedList, withDependencies, checkIn, built, checked, fromLines, readLines, readPlan}
 use Rattle.accepted.proofs.PlanHeld.{HoldsRoutes, total-is as stops-are}
 use Rattle.accepted.proofs.ReadSound.{stored-holds}
-use Rattle.demands.specs.FullSizes.{eachTable, upToFull, pastFull, AgreeUpToFull}
+use Rattle.demands.specs.FullSizes.{upToFull, pastFull, AgreeUpToFull}
 use Rattle.demands.proofs.Entries.{take-sets, drop-sets, take-laid, drop-laid, take-zeroed}
 use Rattle.demands.proofs.SameNumbering.{check-is, total-is, column-is}
 use Rattle.demands.proofs.SameCalls.{same-tables, full-same}
@@ -173,7 +173,7 @@ zeroed-past L t = λ i. eachTable (λ n l. zeroed-drop n l i) L t
 built-past : (L : Limits) (t : Tables) → total (t .plan) ≤ L .dependencies → pastFull L (withDependencies t) ≡ pastFull L t
 built-past L t room =
     let p = t .plan in
-    let long : (f : ℕ → ℕ → ℕ) → length (plannedList p f) ≡ total p = length-listed (follows (ownerIn p) (locationIn p) (timeIn p)) (stopTotal p) in
+    let long : (f : ℕ → ℕ → ℕ) → length (plannedList p f) ≡ total p = length-listed (follows (visitsIn p)) (stopTotal p) in
     let column : (l : List ℕ) (f : ℕ → ℕ → ℕ) → drop (L .dependencies) (laid l 0 (plannedList p f)) ≡ drop (L .dependencies) l = λ l f. drop-laid (L .dependencies) (plannedList p f) l (omega (arith, long f)) in
     λ i.
     tablesOf

@@ -20,7 +20,7 @@ use Rattle.plan.specs.Field.{FieldPlan, planOf, graph, Status}
 use Rattle.plan.specs.Status.{statusIn}
 use Rattle.plan.proofs.Turns.{graph-formed}
 use Rattle.sound.specs.Sound.{sound}
-use Rattle.log.specs.CallLog.{grant, arrive, Reply, accepted, isAccepted, replyNumber, short}
+use Rattle.log.specs.CallLog.{grant, arrive, Reply, isAccepted, replyNumber, short}
 use Rattle.log.specs.Calls.{arrived, replyOf, arriveStep}
 use Rattle.log.specs.Claims.{Usable, MayGo, MayArrive}
 use Rattle.log.proofs.Checks.{is-accepted, grant-accepted, grant-passed, free-goes}
