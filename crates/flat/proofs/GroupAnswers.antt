@@ -26,11 +26,11 @@ use Rattle.flat.specs.declared.turn_tests.TurnTest.{TurnTest}
 use Rattle.flat.specs.declared.turn_tests.TurnTest.the-variants as test
 use Rattle.flat.specs.Checking.{checkOf}
 use Rattle.flat.specs.InForce.{groupCyclic}
+use Rattle.flat.specs.Lent.{withFlags}
 use Rattle.flat.specs.TurnTests.{walkOf}
 use Rattle.flat.proofs.Answers.{answered}
 use Rattle.flat.proofs.CheckLaws.{refused-41, refused-40}
 use Rattle.flat.proofs.PreviewLaws.{change-read}
-use Rattle.flat.proofs.TurnAnswers.{withFlags}
 use Rattle.flat.proofs.WalkLaws.{walk-said}
 
 -- the preview is refused as the turn is
