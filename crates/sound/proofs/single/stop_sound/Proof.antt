@@ -1,5 +1,4 @@
 use Rattle.below.specs.Below.{at}
-use Rattle.sound.proofs.Asking.{stop-place, stop-time, stop-first, stop-early, stop-moves, stop-has-before}
 use native.Mathlib.Omega.{arith}
 use Rattle.sound.proofs.Asking.{stop-place, stop-time, stop-first, stop-early, stop-moves, stop-has-before}
 use borrow.Author.Needs.{needs}
@@ -22,7 +21,7 @@ cast-if1 c = omega (arith, c .shared-slice-known .given (c .before .args .v))
 
 -- src/single.rt:16:9
 returns : tie.Need-returns
-returns c = stop-place _ _ _ _ _ (c .if1 .taken)
+returns c = λ owners n. stop-place _ _ _ (c .if1 .taken)
 
 -- src/single.rt:18:25
 mul-if2 : tie.Need-mul-if2
@@ -38,7 +37,7 @@ cast-if2 c = omega (arith, c .shared-slice-known2 .given (c .before .before .bef
 
 -- src/single.rt:19:9
 returns-2 : tie.Need-returns-2
-returns-2 c = stop-time _ _ _ _ _ (c .before .before .if1 .left) (c .if2 .taken)
+returns-2 c = λ owners n. stop-time _ _ _ (c .before .before .if1 .left) (c .if2 .taken)
 
 -- src/single.rt:21:8
 mul-if3 : tie.Need-mul-if3
@@ -58,7 +57,7 @@ shared-slice-read-result c = search needs
 
 -- src/single.rt:22:9
 returns-3 : tie.Need-returns-3
-returns-3 c = stop-first _ _ _ _ _ (c .before .before .before .before .before .if1 .left) (c .before .before .before .if2 .left) (c .before .if3 .taken)
+returns-3 c = λ owners n. stop-first _ _ _ (c .before .before .before .before .before .if1 .left) (c .before .before .before .if2 .left) (c .before .if3 .taken)
 
 -- src/single.rt:24:18
 sub-before : tie.Need-sub-before
@@ -82,7 +81,7 @@ shared-slice-read-if4-2 c = search needs
 
 -- src/single.rt:26:9
 returns-4 : tie.Need-returns-4
-returns-4 c = stop-early _ _ _ _ _ (c .before .before .before .before .before .before .before .if1 .left) (c .before .before .before .before .before .if2 .left) (c .before .before .before .if3 .left) (c .if4 .taken)
+returns-4 c = λ owners n. stop-early _ _ _ (c .before .before .before .before .before .before .before .if1 .left) (c .before .before .before .before .before .if2 .left) (c .before .before .before .if3 .left) (c .if4 .taken)
 
 -- src/single.rt:28:5
 mul-result-2 : tie.Need-mul-result-2
@@ -102,7 +101,7 @@ shared-slice-read-result-3 c = search needs
 
 -- src/single.rt:11:1
 returns-5 : tie.Need-returns-5
-returns-5 c = stop-moves _ _ _ _ _ (c .before .before .before .before .before .before .before .before .before .if1 .left) (c .before .before .before .before .before .before .before .if2 .left) (c .before .before .before .before .before .if3 .left) (c .before .before .if4 .left)
+returns-5 c = λ owners n. stop-moves _ _ _ (c .before .before .before .before .before .before .before .before .before .if1 .left) (c .before .before .before .before .before .before .before .if2 .left) (c .before .before .before .before .before .if3 .left) (c .before .before .if4 .left)
 
 pub stop-sound-spec : {M : Type 1} → statement M
 stop-sound-spec =
