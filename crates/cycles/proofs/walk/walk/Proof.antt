@@ -48,7 +48,7 @@ unmet-waits-requires c κs = (c .before .before .before .before .before .pre .0 
 
 -- src/walk.rt:179:9
 stack-movers-requires : tie.Need-stack-movers-requires Inv-loop2 μ-loop2 Inv-loop μ-loop
-stack-movers-requires c κs = (c .before .before .before .before .before .before .before .before .before .pre .0 .0 .few-drones, λ d l. omega (arith, c .before .before .before .before .before .before .before .before .before .pre .0 .0 .few-stops, c .before .before .before .before .before .before .before .before .before .pre .0 .0 .placed .shape .place-in d (at (c .before .before .before .before .before .before .before .before .before .args .lasts .now) d) l (omega arith)), length-replicate {A = ℕ} 32 0)
+stack-movers-requires c κs = (c .before .before .before .before .before .before .before .before .before .pre .0 .0 .few-drones, λ d l. omega (arith, c .before .before .before .before .before .before .before .before .before .pre .0 .0 .few-stops, c .before .before .before .before .before .before .before .before .before .pre .0 .0 .placed .shape .place-in d (at (c .before .before .before .before .before .before .before .before .before .args .lasts .now) d) l (omega arith)), length-replicate {A = ℕ} (limits .drones) 0)
 
 -- src/walk.rt:180:5
 loop-holds : tie.Need-loop-holds Inv-loop2 μ-loop2 Inv-loop μ-loop
