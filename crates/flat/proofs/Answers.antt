@@ -42,12 +42,12 @@ module _ (L : Limits) (t : Tables) (u : Usable L t) (d : ℕ) where
   -- ---- grant
 
   -- the search of the code, over the columns alone, is the search in the graph
-  unmet-is : unmet (planIn (dependencies (t .plan)) (columnsIn t)) (statusOf (columnsIn t) (t .visited)) d ≡ firstBelow (dependencies (t .plan)) (blocks (graph (planOf (t .plan)) (statusIn t .turned)) (at (t .visited)) d)
+  unmet-is : unmet (planIn (dependencies (t .plan)) (columnsIn t)) (statusOf (columnsIn t) (t .visited)) d ≡ firstBelow (dependencies (t .plan)) (blocks (graph (planOf (t .plan)) (statusIn t)) (at (t .visited)) d)
   unfolding blocks
   unmet-is = refl
 
-  first-unmet : (w : ℕ) → w ≡ unmet (planIn (dependencies (t .plan)) (columnsIn t)) (statusOf (columnsIn t) (t .visited)) d → First (dependencies (t .plan)) (blocks (graph (planOf (t .plan)) (statusIn t .turned)) (at (t .visited)) d) w
-  first-unmet w e = rw (e ∙ unmet-is) (firstBelow-first (dependencies (t .plan)) (blocks (graph (planOf (t .plan)) (statusIn t .turned)) (at (t .visited)) d))
+  first-unmet : (w : ℕ) → w ≡ unmet (planIn (dependencies (t .plan)) (columnsIn t)) (statusOf (columnsIn t) (t .visited)) d → First (dependencies (t .plan)) (blocks (graph (planOf (t .plan)) (statusIn t)) (at (t .visited)) d) w
+  first-unmet w e = rw (e ∙ unmet-is) (firstBelow-first (dependencies (t .plan)) (blocks (graph (planOf (t .plan)) (statusIn t)) (at (t .visited)) d))
 
   pub grants-20 : drones (t .plan) ≤ d → Answered (step L) t (grant d) (refused 20) t
   grants-20 a = answered (step L) t (grant d) (refused 20) t (grant-20 L t (u .0) (u .1) d a)

@@ -8,8 +8,8 @@ use Rattle.below.specs.Below.{at}
 use Rattle.tables.specs.Limits.{Limits}
 use Rattle.tables.specs.Tables.{Tables, dependencies}
 use Rattle.tables.specs.Flags.{flipBit}
-use Rattle.plan.specs.Field.{FieldPlan, planOf}
-use Rattle.plan.specs.Status.{Status, statusIn}
+use Rattle.plan.specs.Field.{FieldPlan, Status, planOf}
+use Rattle.plan.specs.Status.{statusIn}
 use Rattle.log.specs.CallLog.{turn, accepted, refused}
 use Rattle.log.specs.Calls.{step, flipped, Answered}
 use Rattle.log.specs.Claims.{Usable}

@@ -1,7 +1,7 @@
 -- Functions that are lent some of the tables: what they ask and promise is said of all tables that hold what they are lent, whatever the other tables hold. Assumes nothing.
 use mathlib.Core.List.{List}
 use Prim.Native.Nat.{ℕ}
-use Rattle.tables.specs.Limits.{limits}
+use Rattle.tables.specs.Limits.{Limits}
 use Rattle.tables.specs.Tables.{Tables, tablesOf}
 use Rattle.sound.specs.Asked.{InForce}
 use Rattle.log.specs.Claims.{Usable}
@@ -16,9 +16,9 @@ pub record Whatever (holding : Tables → Tables) (P Q : Tables → Type 0) : Ty
   pub says : (t : Tables) → P (holding t) → Q (holding t)
 
 -- usable tables, and local ones that hold their graph now in force
-pub record UsableInForce (owners starts lasts from into : List ℕ) (t : Tables) : Type 0 where
-  pub usable : Usable limits t
-  pub in-force : InForce t owners starts lasts from into
+pub record UsableInForce (L : Limits) (owners starts lasts from into : List ℕ) (t : Tables) : Type 0 where
+  pub usable : Usable L t
+  pub in-force : InForce L t owners starts lasts from into
 
 -- ---- the lists that functions are lent, in the order of the tables
 

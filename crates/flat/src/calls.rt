@@ -63,7 +63,7 @@ fn check_graph(
     from: &mut [u16; Dependency::FULL],
     into: &mut [u16; Dependency::FULL],
 ) -> TablesCheck
-    requires { ⌜ Room (now owners) (now starts) (now lasts) (now from) (now into) ⌝ }
+    requires { ⌜ Room limits (now owners) (now starts) (now lasts) (now from) (now into) ⌝ }
     ensures { λ r.
         ⌜
         (r ≡ checkOf limits (tablesOf
@@ -71,7 +71,7 @@ fn check_graph(
         (now (locations .entry)) (now (times .entry)) (now (visited .entry)) (now («drone_flags» .entry))
         (now («first_drones» .entry)) (now («first_stops» .entry)) (now («second_drones» .entry)) (now («second_stops» .entry))
         (now (flags .entry))))
-        × (r ≡ CanBeUsed → InForce (tablesOf
+        × (r ≡ CanBeUsed → InForce limits (tablesOf
         (now («drone_count» .entry)) (now («dependency_count» .entry)) (now (names .entry)) (now («stop_counts» .entry))
         (now (locations .entry)) (now (times .entry)) (now (visited .entry)) (now («drone_flags» .entry))
         (now («first_drones» .entry)) (now («first_stops» .entry)) (now («second_drones» .entry)) (now («second_stops» .entry))

@@ -24,12 +24,12 @@ pub fn cost_sound(
 ) -> usize
     requires { ⌜
         Lent (holdingPlaces (now «drone_count») (now «dependency_count») (now «stop_counts») (now visited))
-        (UsableInForce (now owners) (now starts) (now lasts) (now from) (now into))
+        (UsableInForce limits (now owners) (now starts) (now lasts) (now from) (now into))
         ⌝ }
     ensures { λ r.
         ⌜
         Whatever (holdingPlaces (now («drone_count» .entry)) (now («dependency_count» .entry)) (now («stop_counts» .entry)) (now (visited .entry)))
-        (UsableInForce (now (owners .entry)) (now (starts .entry)) (now (lasts .entry)) (now (from .entry)) (now (into .entry)))
+        (UsableInForce limits (now (owners .entry)) (now (starts .entry)) (now (lasts .entry)) (now (from .entry)) (now (into .entry)))
         (λ t. costs r ≡ costReply limits t)
         ⌝ }
 {
@@ -53,12 +53,12 @@ pub fn rounds_sound(
 ) -> usize
     requires { ⌜
         Lent (holdingPlaces (now «drone_count») (now «dependency_count») (now «stop_counts») (now visited))
-        (UsableInForce (now owners) (now starts) (now lasts) (now from) (now into))
+        (UsableInForce limits (now owners) (now starts) (now lasts) (now from) (now into))
         ⌝ }
     ensures { λ r.
         ⌜
         Whatever (holdingPlaces (now («drone_count» .entry)) (now («dependency_count» .entry)) (now («stop_counts» .entry)) (now (visited .entry)))
-        (UsableInForce (now (owners .entry)) (now (starts .entry)) (now (lasts .entry)) (now (from .entry)) (now (into .entry)))
+        (UsableInForce limits (now (owners .entry)) (now (starts .entry)) (now (lasts .entry)) (now (from .entry)) (now (into .entry)))
         (λ t. rounds r ≡ roundsReply limits t)
         ⌝ }
 {

@@ -90,7 +90,7 @@ pub fn exchange_all(
     into: &mut [u16; Dependency::FULL],
     list: &[u16],
 )
-    requires { ⌜ (length (now from) ≡ limits .dependencies) × (length (now into) ≡ limits .dependencies) × ((n : ℕ) → n < length (now list) → CanExchange (exchangesTo n (now list) (waits (now from) (now into))) (at (now list) n)) ⌝ }
+    requires { ⌜ (length (now from) ≡ limits .dependencies) × (length (now into) ≡ limits .dependencies) × ((n : ℕ) → n < length (now list) → CanExchange limits (exchangesTo n (now list) (waits (now from) (now into))) (at (now list) n)) ⌝ }
     ensures { λ _. ⌜ waits (now (from .exit)) (now (into .exit)) ≡ exchangesTo (length (now (list .entry))) (now (list .entry)) (waits (now (from .entry)) (now (into .entry))) ⌝ }
 {
     let mut k: usize = 0;

@@ -43,14 +43,14 @@ pub fn turn_sound(
         Lent (holdingGraph
         (now «drone_count») (now «dependency_count») (now «stop_counts») (now visited) (now «drone_flags»)
         (now «first_drones») (now «first_stops») (now «second_drones») (now «second_stops») (now flags))
-        (UsableInForce (now owners) (now starts) (now lasts) (now from) (now into))
+        (UsableInForce limits (now owners) (now starts) (now lasts) (now from) (now into))
         ⌝ }
     ensures { λ r.
         ⌜
         Whatever (holdingGraph
         (now («drone_count» .entry)) (now («dependency_count» .entry)) (now («stop_counts» .entry)) (now (visited .entry)) (now («drone_flags» .entry))
         (now («first_drones» .entry)) (now («first_stops» .entry)) (now («second_drones» .entry)) (now («second_stops» .entry)) (now (flags .entry)))
-        (UsableInForce (now (owners .entry)) (now (starts .entry)) (now (lasts .entry)) (now (from .entry)) (now (into .entry)))
+        (UsableInForce limits (now (owners .entry)) (now (starts .entry)) (now (lasts .entry)) (now (from .entry)) (now (into .entry)))
         (λ t. Answered (step limits) t (turn dependency) (turnMeant r) (withFlags t (now (flags .exit))))
         ⌝ }
 {
@@ -105,14 +105,14 @@ pub fn turn_all_sound(
         Lent (holdingGraph
         (now «drone_count») (now «dependency_count») (now «stop_counts») (now visited) (now «drone_flags»)
         (now «first_drones») (now «first_stops») (now «second_drones») (now «second_stops») (now flags))
-        (UsableInForce (now owners) (now starts) (now lasts) (now from) (now into))
+        (UsableInForce limits (now owners) (now starts) (now lasts) (now from) (now into))
         ⌝ }
     ensures { λ r.
         ⌜
         Whatever (holdingGraph
         (now («drone_count» .entry)) (now («dependency_count» .entry)) (now («stop_counts» .entry)) (now (visited .entry)) (now («drone_flags» .entry))
         (now («first_drones» .entry)) (now («first_stops» .entry)) (now («second_drones» .entry)) (now («second_stops» .entry)) (now (flags .entry)))
-        (UsableInForce (now (owners .entry)) (now (starts .entry)) (now (lasts .entry)) (now (from .entry)) (now (into .entry)))
+        (UsableInForce limits (now (owners .entry)) (now (starts .entry)) (now (lasts .entry)) (now (from .entry)) (now (into .entry)))
         (λ t. Answered (step limits) t (turnAll (now (list .entry))) (turnAllMeant r) (withFlags t (now (flags .exit))))
         ⌝ }
 {

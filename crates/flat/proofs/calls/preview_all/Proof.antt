@@ -33,11 +33,11 @@ preview-all-sound-requires c κs = lends _ (record { usable = says-usable limits
 
 -- src/calls.rt:558:1
 returns : tie.Need-returns
-returns c = list-previews-41 _ _ _ (c .before .before .check-graph .ensures .0) (c .enum-told .given .1)
+returns c = list-previews-41 limits _ _ _ (c .before .before .check-graph .ensures .0) (c .enum-told .given .1)
 
 -- src/calls.rt:558:1
 returns-2 : tie.Need-returns-2
-returns-2 c = list-previews-40 _ _ _ (c .before .before .check-graph .ensures .0) (c .enum-told2 .given .1)
+returns-2 c = list-previews-40 limits _ _ _ (c .before .before .check-graph .ensures .0) (c .enum-told2 .given .1)
 
 -- src/calls.rt:558:1
 returns-3 : tie.Need-returns-3

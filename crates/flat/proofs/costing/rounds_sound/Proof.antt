@@ -38,15 +38,15 @@ cast-m c = omega (arith, known (c .before .before .before .before .before .befor
 
 -- src/costing.rt:109:9
 stop-total-requires : tie.Need-stop-total-requires
-stop-total-requires c κs = usable-counts (given (c .before .before .before .before .before .before)) (c .before .before .before .before .before .before .pre .holds .usable)
+stop-total-requires c κs = usable-counts limits (given (c .before .before .before .before .before .before)) (c .before .before .before .before .before .before .pre .holds .usable) (omega arith)
 
 -- src/costing.rt:110:9
 play-rounds-requires : tie.Need-play-rounds-requires
-play-rounds-requires c κs = now-ready (given (c .before .before .before .before .before .before .before .before)) (c .before .before .before .before .before .before .before .before .pre .holds .usable) _ (c .before .stop-total .ensures) _ _ _ _ _ (c .before .before .before .before .before .before .before .before .pre .holds .in-force)
+play-rounds-requires c κs = now-ready limits (given (c .before .before .before .before .before .before .before .before)) (c .before .before .before .before .before .before .before .before .pre .holds .usable) _ (c .before .stop-total .ensures) _ _ _ _ _ (c .before .before .before .before .before .before .before .before .pre .holds .in-force)
 
 -- src/costing.rt:65:1
 returns : tie.Need-returns
-returns c = record { says = λ t p. now-makespan (lent (c .before .before .before .before .before .before .before .before .before) t) (p .usable) _ (c .before .before .stop-total .ensures) _ _ _ _ _ (p .in-force) _ (c .play-rounds .ensures .0) }
+returns c = record { says = λ t p. now-makespan limits (lent (c .before .before .before .before .before .before .before .before .before) t) (p .usable) _ (c .before .before .stop-total .ensures) _ _ _ _ _ (p .in-force) _ (c .play-rounds .ensures .0) }
 
 pub rounds-sound-spec : {M : Type 1} → statement M
 rounds-sound-spec =

@@ -71,7 +71,7 @@ enum-told-4 c = search needs
 
 -- src/turning.rt:91:5
 exchange-requires : tie.Need-exchange-requires
-exchange-requires c κs = (turn-in (given (c .before .before .before .before .before .before .before .before .before .before .before .before .before .before .before .before)) (c .before .before .before .before .before .before .before .before .before .before .before .before .before .before .before .before .pre .holds .usable) _ refl _ _ _ _ _ (c .before .before .before .before .before .before .before .before .before .before .before .before .before .before .before .before .pre .holds .in-force) _ (passes-now limits _ (c .before .before .before .before .before .before .before .before .before .before .before .before .before .before .before .before .pre .holds .usable) _ _ (c .before .before .before .before .turn-test .ensures .says (given (c .before .before .before .before .before .before .before .before .before .before .before .before .before .before .before .before)) (c .before .before .before .before .before .before .before .before .before .before .before .before .before .before .before .before .pre .holds .usable)) (c .before .before .enum-told4 .given .1)), c .before .before .before .before .before .before .before .before .before .before .before .before .before .before .before .before .pre .holds .in-force .from-size, c .before .before .before .before .before .before .before .before .before .before .before .before .before .before .before .before .pre .holds .in-force .into-size, turn-from (given (c .before .before .before .before .before .before .before .before .before .before .before .before .before .before .before .before)) (c .before .before .before .before .before .before .before .before .before .before .before .before .before .before .before .before .pre .holds .usable) _ refl _ _ _ _ _ (c .before .before .before .before .before .before .before .before .before .before .before .before .before .before .before .before .pre .holds .in-force) _ (passes-now limits _ (c .before .before .before .before .before .before .before .before .before .before .before .before .before .before .before .before .pre .holds .usable) _ _ (c .before .before .before .before .turn-test .ensures .says (given (c .before .before .before .before .before .before .before .before .before .before .before .before .before .before .before .before)) (c .before .before .before .before .before .before .before .before .before .before .before .before .before .before .before .before .pre .holds .usable)) (c .before .before .enum-told4 .given .1)), turn-into (given (c .before .before .before .before .before .before .before .before .before .before .before .before .before .before .before .before)) (c .before .before .before .before .before .before .before .before .before .before .before .before .before .before .before .before .pre .holds .usable) _ refl _ _ _ _ _ (c .before .before .before .before .before .before .before .before .before .before .before .before .before .before .before .before .pre .holds .in-force) _ (passes-now limits _ (c .before .before .before .before .before .before .before .before .before .before .before .before .before .before .before .before .pre .holds .usable) _ _ (c .before .before .before .before .turn-test .ensures .says (given (c .before .before .before .before .before .before .before .before .before .before .before .before .before .before .before .before)) (c .before .before .before .before .before .before .before .before .before .before .before .before .before .before .before .before .pre .holds .usable)) (c .before .before .enum-told4 .given .1)))
+exchange-requires c κs = (turn-in limits (given (c .before .before .before .before .before .before .before .before .before .before .before .before .before .before .before .before)) (c .before .before .before .before .before .before .before .before .before .before .before .before .before .before .before .before .pre .holds .usable) _ refl _ _ _ _ _ (c .before .before .before .before .before .before .before .before .before .before .before .before .before .before .before .before .pre .holds .in-force) _ (passes-now limits _ (c .before .before .before .before .before .before .before .before .before .before .before .before .before .before .before .before .pre .holds .usable) _ _ (c .before .before .before .before .turn-test .ensures .says (given (c .before .before .before .before .before .before .before .before .before .before .before .before .before .before .before .before)) (c .before .before .before .before .before .before .before .before .before .before .before .before .before .before .before .before .pre .holds .usable)) (c .before .before .enum-told4 .given .1)), c .before .before .before .before .before .before .before .before .before .before .before .before .before .before .before .before .pre .holds .in-force .from-size, c .before .before .before .before .before .before .before .before .before .before .before .before .before .before .before .before .pre .holds .in-force .into-size, turn-from limits (given (c .before .before .before .before .before .before .before .before .before .before .before .before .before .before .before .before)) (c .before .before .before .before .before .before .before .before .before .before .before .before .before .before .before .before .pre .holds .usable) _ refl _ _ _ _ _ (c .before .before .before .before .before .before .before .before .before .before .before .before .before .before .before .before .pre .holds .in-force) _ (passes-now limits _ (c .before .before .before .before .before .before .before .before .before .before .before .before .before .before .before .before .pre .holds .usable) _ _ (c .before .before .before .before .turn-test .ensures .says (given (c .before .before .before .before .before .before .before .before .before .before .before .before .before .before .before .before)) (c .before .before .before .before .before .before .before .before .before .before .before .before .before .before .before .before .pre .holds .usable)) (c .before .before .enum-told4 .given .1)), turn-into limits (given (c .before .before .before .before .before .before .before .before .before .before .before .before .before .before .before .before)) (c .before .before .before .before .before .before .before .before .before .before .before .before .before .before .before .before .pre .holds .usable) _ refl _ _ _ _ _ (c .before .before .before .before .before .before .before .before .before .before .before .before .before .before .before .before .pre .holds .in-force) _ (passes-now limits _ (c .before .before .before .before .before .before .before .before .before .before .before .before .before .before .before .before .pre .holds .usable) _ _ (c .before .before .before .before .turn-test .ensures .says (given (c .before .before .before .before .before .before .before .before .before .before .before .before .before .before .before .before)) (c .before .before .before .before .before .before .before .before .before .before .before .before .before .before .before .before .pre .holds .usable)) (c .before .before .enum-told4 .given .1)))
 
 -- src/turning.rt:92:18
 shared-slice-read-drones : tie.Need-shared-slice-read-drones
@@ -91,11 +91,11 @@ cast-count c = omega (arith, known (c .before .before .before .before .before .b
 
 -- src/turning.rt:94:9
 stop-total-requires : tie.Need-stop-total-requires
-stop-total-requires c κs = usable-counts (given (c .before .before .before .before .before .before .before .before .before .before .before .before .before .before .before .before .before .before .before)) (c .before .before .before .before .before .before .before .before .before .before .before .before .before .before .before .before .before .before .before .pre .holds .usable)
+stop-total-requires c κs = usable-counts limits (given (c .before .before .before .before .before .before .before .before .before .before .before .before .before .before .before .before .before .before .before)) (c .before .before .before .before .before .before .before .before .before .before .before .before .before .before .before .before .before .before .before .pre .holds .usable) (omega arith)
 
 -- src/turning.rt:95:8
 has-cycle-requires : tie.Need-has-cycle-requires
-has-cycle-requires c κs = turn-tables (given (c .before .before .before .before .before .before .before .before .before .before .before .before .before .before .before .before .before .before .before .before .before .before .before)) (c .before .before .before .before .before .before .before .before .before .before .before .before .before .before .before .before .before .before .before .before .before .before .before .pre .holds .usable) _ (c .before .before .before .stop-total .ensures) _ _ _ _ _ (c .before .before .before .before .before .before .before .before .before .before .before .before .before .before .before .before .before .before .before .before .before .before .before .pre .holds .in-force) _ (passes-now limits _ (c .before .before .before .before .before .before .before .before .before .before .before .before .before .before .before .before .before .before .before .before .before .before .before .pre .holds .usable) _ _ (c .before .before .before .before .before .before .before .before .before .before .before .turn-test .ensures .says (given (c .before .before .before .before .before .before .before .before .before .before .before .before .before .before .before .before .before .before .before .before .before .before .before)) (c .before .before .before .before .before .before .before .before .before .before .before .before .before .before .before .before .before .before .before .before .before .before .before .pre .holds .usable)) (c .before .before .before .before .before .before .before .before .before .enum-told4 .given .1)) _ _ (c .before .before .before .before .before .before .exchange .ensures .0) (c .before .before .before .before .before .before .exchange .ensures .1)
+has-cycle-requires c κs = turn-tables limits (given (c .before .before .before .before .before .before .before .before .before .before .before .before .before .before .before .before .before .before .before .before .before .before .before)) (c .before .before .before .before .before .before .before .before .before .before .before .before .before .before .before .before .before .before .before .before .before .before .before .pre .holds .usable) _ (c .before .before .before .stop-total .ensures) _ _ _ _ _ (c .before .before .before .before .before .before .before .before .before .before .before .before .before .before .before .before .before .before .before .before .before .before .before .pre .holds .in-force) _ (passes-now limits _ (c .before .before .before .before .before .before .before .before .before .before .before .before .before .before .before .before .before .before .before .before .before .before .before .pre .holds .usable) _ _ (c .before .before .before .before .before .before .before .before .before .before .before .turn-test .ensures .says (given (c .before .before .before .before .before .before .before .before .before .before .before .before .before .before .before .before .before .before .before .before .before .before .before)) (c .before .before .before .before .before .before .before .before .before .before .before .before .before .before .before .before .before .before .before .before .before .before .before .pre .holds .usable)) (c .before .before .before .before .before .before .before .before .before .enum-told4 .given .1)) _ _ (c .before .before .before .before .before .before .exchange .ensures .0) (c .before .before .before .before .before .before .exchange .ensures .1)
 
 -- src/turning.rt:96:9
 same-length-4 : tie.Need-same-length-4
@@ -103,11 +103,11 @@ same-length-4 c = search needs
 
 -- src/turning.rt:96:9
 returns-4 : tie.Need-returns-4
-returns-4 c = record { says = λ t p. turns-34 limits _ (p .usable) _ _ (c .before .before .before .before .before .before .before .before .before .before .before .before .before .turn-test .ensures .says (lent (c .before .before .before .before .before .before .before .before .before .before .before .before .before .before .before .before .before .before .before .before .before .before .before .before .before) t) (p .usable)) (c .before .before .before .before .before .before .before .before .before .before .before .enum-told4 .given .1) _ (turn-cyclic (lent (c .before .before .before .before .before .before .before .before .before .before .before .before .before .before .before .before .before .before .before .before .before .before .before .before .before) t) (p .usable) _ (c .before .before .before .before .before .stop-total .ensures) _ _ _ _ _ (p .in-force) _ (passes-now limits _ (p .usable) _ _ (c .before .before .before .before .before .before .before .before .before .before .before .before .before .turn-test .ensures .says (lent (c .before .before .before .before .before .before .before .before .before .before .before .before .before .before .before .before .before .before .before .before .before .before .before .before .before) t) (p .usable)) (c .before .before .before .before .before .before .before .before .before .before .before .enum-told4 .given .1)) _ _ (c .before .before .before .before .before .before .before .before .exchange .ensures .0) (c .before .before .before .before .before .before .before .before .exchange .ensures .1) _ (c .before .has-cycle .ensures)) (c .if1 .taken) }
+returns-4 c = record { says = λ t p. turns-34 limits _ (p .usable) _ _ (c .before .before .before .before .before .before .before .before .before .before .before .before .before .turn-test .ensures .says (lent (c .before .before .before .before .before .before .before .before .before .before .before .before .before .before .before .before .before .before .before .before .before .before .before .before .before) t) (p .usable)) (c .before .before .before .before .before .before .before .before .before .before .before .enum-told4 .given .1) _ (turn-cyclic limits (lent (c .before .before .before .before .before .before .before .before .before .before .before .before .before .before .before .before .before .before .before .before .before .before .before .before .before) t) (p .usable) _ (c .before .before .before .before .before .stop-total .ensures) _ _ _ _ _ (p .in-force) _ (passes-now limits _ (p .usable) _ _ (c .before .before .before .before .before .before .before .before .before .before .before .before .before .turn-test .ensures .says (lent (c .before .before .before .before .before .before .before .before .before .before .before .before .before .before .before .before .before .before .before .before .before .before .before .before .before) t) (p .usable)) (c .before .before .before .before .before .before .before .before .before .before .before .enum-told4 .given .1)) _ _ (c .before .before .before .before .before .before .before .before .exchange .ensures .0) (c .before .before .before .before .before .before .before .before .exchange .ensures .1) _ (c .before .has-cycle .ensures)) (c .if1 .taken) }
 
 -- src/turning.rt:98:33
 slice-read-flipped : tie.Need-slice-read-flipped
-slice-read-flipped c = omega (arith, turn-in (given (c .before .before .before .before .before .before .before .before .before .before .before .before .before .before .before .before .before .before .before .before .before .before .before .before .before .before)) (c .before .before .before .before .before .before .before .before .before .before .before .before .before .before .before .before .before .before .before .before .before .before .before .before .before .before .pre .holds .usable) _ refl _ _ _ _ _ (c .before .before .before .before .before .before .before .before .before .before .before .before .before .before .before .before .before .before .before .before .before .before .before .before .before .before .pre .holds .in-force) _ (passes-now limits _ (c .before .before .before .before .before .before .before .before .before .before .before .before .before .before .before .before .before .before .before .before .before .before .before .before .before .before .pre .holds .usable) _ _ (c .before .before .before .before .before .before .before .before .before .before .before .before .before .before .turn-test .ensures .says (given (c .before .before .before .before .before .before .before .before .before .before .before .before .before .before .before .before .before .before .before .before .before .before .before .before .before .before)) (c .before .before .before .before .before .before .before .before .before .before .before .before .before .before .before .before .before .before .before .before .before .before .before .before .before .before .pre .holds .usable)) (c .before .before .before .before .before .before .before .before .before .before .before .before .enum-told4 .given .1)), known (c .before .before .before .before .before .before .before .before .before .before .before .before .before .before .before .before .before .before .before .before .before .before .before .before .before .before) .sizes .flags)
+slice-read-flipped c = omega (arith, turn-in limits (given (c .before .before .before .before .before .before .before .before .before .before .before .before .before .before .before .before .before .before .before .before .before .before .before .before .before .before)) (c .before .before .before .before .before .before .before .before .before .before .before .before .before .before .before .before .before .before .before .before .before .before .before .before .before .before .pre .holds .usable) _ refl _ _ _ _ _ (c .before .before .before .before .before .before .before .before .before .before .before .before .before .before .before .before .before .before .before .before .before .before .before .before .before .before .pre .holds .in-force) _ (passes-now limits _ (c .before .before .before .before .before .before .before .before .before .before .before .before .before .before .before .before .before .before .before .before .before .before .before .before .before .before .pre .holds .usable) _ _ (c .before .before .before .before .before .before .before .before .before .before .before .before .before .before .turn-test .ensures .says (given (c .before .before .before .before .before .before .before .before .before .before .before .before .before .before .before .before .before .before .before .before .before .before .before .before .before .before)) (c .before .before .before .before .before .before .before .before .before .before .before .before .before .before .before .before .before .before .before .before .before .before .before .before .before .before .pre .holds .usable)) (c .before .before .before .before .before .before .before .before .before .before .before .before .enum-told4 .given .1)), known (c .before .before .before .before .before .before .before .before .before .before .before .before .before .before .before .before .before .before .before .before .before .before .before .before .before .before) .sizes .flags)
 
 -- src/turning.rt:98:25
 flipped-requires : tie.Need-flipped-requires
@@ -115,7 +115,7 @@ flipped-requires c κs = search needs
 
 -- src/turning.rt:98:5
 slice-write-flags : tie.Need-slice-write-flags
-slice-write-flags c = omega (arith, turn-in (given (c .before .before .before .before .before .before .before .before .before .before .before .before .before .before .before .before .before .before .before .before .before .before .before .before .before .before .before)) (c .before .before .before .before .before .before .before .before .before .before .before .before .before .before .before .before .before .before .before .before .before .before .before .before .before .before .before .pre .holds .usable) _ refl _ _ _ _ _ (c .before .before .before .before .before .before .before .before .before .before .before .before .before .before .before .before .before .before .before .before .before .before .before .before .before .before .before .pre .holds .in-force) _ (passes-now limits _ (c .before .before .before .before .before .before .before .before .before .before .before .before .before .before .before .before .before .before .before .before .before .before .before .before .before .before .before .pre .holds .usable) _ _ (c .before .before .before .before .before .before .before .before .before .before .before .before .before .before .before .turn-test .ensures .says (given (c .before .before .before .before .before .before .before .before .before .before .before .before .before .before .before .before .before .before .before .before .before .before .before .before .before .before .before)) (c .before .before .before .before .before .before .before .before .before .before .before .before .before .before .before .before .before .before .before .before .before .before .before .before .before .before .before .pre .holds .usable)) (c .before .before .before .before .before .before .before .before .before .before .before .before .before .enum-told4 .given .1)), known (c .before .before .before .before .before .before .before .before .before .before .before .before .before .before .before .before .before .before .before .before .before .before .before .before .before .before .before) .sizes .flags)
+slice-write-flags c = omega (arith, turn-in limits (given (c .before .before .before .before .before .before .before .before .before .before .before .before .before .before .before .before .before .before .before .before .before .before .before .before .before .before .before)) (c .before .before .before .before .before .before .before .before .before .before .before .before .before .before .before .before .before .before .before .before .before .before .before .before .before .before .before .pre .holds .usable) _ refl _ _ _ _ _ (c .before .before .before .before .before .before .before .before .before .before .before .before .before .before .before .before .before .before .before .before .before .before .before .before .before .before .before .pre .holds .in-force) _ (passes-now limits _ (c .before .before .before .before .before .before .before .before .before .before .before .before .before .before .before .before .before .before .before .before .before .before .before .before .before .before .before .pre .holds .usable) _ _ (c .before .before .before .before .before .before .before .before .before .before .before .before .before .before .before .turn-test .ensures .says (given (c .before .before .before .before .before .before .before .before .before .before .before .before .before .before .before .before .before .before .before .before .before .before .before .before .before .before .before)) (c .before .before .before .before .before .before .before .before .before .before .before .before .before .before .before .before .before .before .before .before .before .before .before .before .before .before .before .pre .holds .usable)) (c .before .before .before .before .before .before .before .before .before .before .before .before .before .enum-told4 .given .1)), known (c .before .before .before .before .before .before .before .before .before .before .before .before .before .before .before .before .before .before .before .before .before .before .before .before .before .before .before) .sizes .flags)
 
 -- src/turning.rt:21:1
 same-length-5 : tie.Need-same-length-5
@@ -123,7 +123,7 @@ same-length-5 c = search needs
 
 -- src/turning.rt:21:1
 returns-5 : tie.Need-returns-5
-returns-5 c = record { says = λ t p. turns-0 limits _ (p .usable) _ _ (c .before .before .before .before .before .before .before .before .before .before .before .before .before .before .before .turn-test .ensures .says (lent (c .before .before .before .before .before .before .before .before .before .before .before .before .before .before .before .before .before .before .before .before .before .before .before .before .before .before .before) t) (p .usable)) (c .before .before .before .before .before .before .before .before .before .before .before .before .before .enum-told4 .given .1) _ (turn-cyclic (lent (c .before .before .before .before .before .before .before .before .before .before .before .before .before .before .before .before .before .before .before .before .before .before .before .before .before .before .before) t) (p .usable) _ (c .before .before .before .before .before .before .before .stop-total .ensures) _ _ _ _ _ (p .in-force) _ (passes-now limits _ (p .usable) _ _ (c .before .before .before .before .before .before .before .before .before .before .before .before .before .before .before .turn-test .ensures .says (lent (c .before .before .before .before .before .before .before .before .before .before .before .before .before .before .before .before .before .before .before .before .before .before .before .before .before .before .before) t) (p .usable)) (c .before .before .before .before .before .before .before .before .before .before .before .before .before .enum-told4 .given .1)) _ _ (c .before .before .before .before .before .before .before .before .before .before .exchange .ensures .0) (c .before .before .before .before .before .before .before .before .before .before .exchange .ensures .1) _ (c .before .before .before .has-cycle .ensures)) _ (c .flipped .ensures) (c .before .before .if1 .left) }
+returns-5 c = record { says = λ t p. turns-0 limits _ (p .usable) _ _ (c .before .before .before .before .before .before .before .before .before .before .before .before .before .before .before .turn-test .ensures .says (lent (c .before .before .before .before .before .before .before .before .before .before .before .before .before .before .before .before .before .before .before .before .before .before .before .before .before .before .before) t) (p .usable)) (c .before .before .before .before .before .before .before .before .before .before .before .before .before .enum-told4 .given .1) _ (turn-cyclic limits (lent (c .before .before .before .before .before .before .before .before .before .before .before .before .before .before .before .before .before .before .before .before .before .before .before .before .before .before .before) t) (p .usable) _ (c .before .before .before .before .before .before .before .stop-total .ensures) _ _ _ _ _ (p .in-force) _ (passes-now limits _ (p .usable) _ _ (c .before .before .before .before .before .before .before .before .before .before .before .before .before .before .before .turn-test .ensures .says (lent (c .before .before .before .before .before .before .before .before .before .before .before .before .before .before .before .before .before .before .before .before .before .before .before .before .before .before .before) t) (p .usable)) (c .before .before .before .before .before .before .before .before .before .before .before .before .before .enum-told4 .given .1)) _ _ (c .before .before .before .before .before .before .before .before .before .before .exchange .ensures .0) (c .before .before .before .before .before .before .before .before .before .before .exchange .ensures .1) _ (c .before .before .before .has-cycle .ensures)) _ (c .flipped .ensures) (c .before .before .if1 .left) }
 
 pub turn-sound-spec : {M : Type 1} → statement M
 turn-sound-spec =
