@@ -29,7 +29,7 @@ module _ (S : Visits) (own′ num′ loc′ time′ : ℕ → ℕ) (owners : (v 
   unfolding collide
   collide-same v w l k = rw (owners v l, owners w k, locations v l, locations w k, times v l, times w k, over-same v (time′ w) l, over-same w (time′ v) k) refl
 
-  apart-same : apart S ≡ apart T
+  pub apart-same : apart S ≡ apart T
   unfolding apart
   apart-same = allBelow-ext n _ _ (λ v l. allBelow-ext n _ _ (λ w k. ap not (collide-same v w l k)))
 
@@ -69,7 +69,7 @@ module _ (S : Visits) (own′ num′ loc′ time′ : ℕ → ℕ) (owners : (v 
     unfolding faultAt
     fault-same v l = rw (numbers v l, times v l, times (v - 1) (omega arith), locations v l, locations (v - 1) (omega arith)) refl
 
-    firstFault-same : firstFault S ≡ firstFault T
+    pub firstFault-same : firstFault S ≡ firstFault T
     unfolding firstFault
     firstFault-same = firstBelow-ext n _ _ (λ v l. ap (λ (k : ℕ). not (eqb k 0)) (fault-same v l))
 
