@@ -20,7 +20,7 @@ use Rattle.precedence.proofs.Agreement.{GraphsAgree, AwaitedIn, awaited-in, cyc
 use Rattle.plan.specs.Stops.{start, owner, number}
 use Rattle.plan.specs.Room.{Counts}
 use Rattle.plan.specs.Claims.{Numbered, Unfixed}
-use Rattle.plan.specs.Field.{Dependency, FieldPlan, Status, inForce, waitOf, flip, afterTurn, planOf, graph, placeOf, fixed, AcceptedPlan}
+use Rattle.plan.specs.Field.{Dependency, FieldPlan, Status, inForce, waitOf, flip, afterTurn, planOf, graph, fixed, AcceptedPlan}
 use Rattle.plan.specs.Status.{statusIn}
 use Rattle.plan.proofs.Numbering.{numbered}
 use Rattle.plan.proofs.Turns.{graph-formed}
