@@ -3,6 +3,7 @@ use crate::replies;
 use crate::replies::Reading;
 use crate::replies::Refusal;
 use crate::storing;
+use tables::entries::MAX_TEXT;
 use tables::sizes;
 use tables::zeroing;
 use text::reader;
@@ -131,8 +132,8 @@ pub fn read_plan(
     ) {
         return Reading::Refused(Refusal::TablesTooSmall);
     }
-    if sizes::MAX_TEXT < text.len() {
-        return Reading::Refused(Refusal::TooLong(sizes::MAX_TEXT));
+    if MAX_TEXT < text.len() {
+        return Reading::Refused(Refusal::TooLong(MAX_TEXT));
     }
     zeroing::zero_all(
         drone_count,

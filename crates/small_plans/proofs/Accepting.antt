@@ -68,7 +68,7 @@ module _ (x y : SmallRoute) (wx : Within x) (wy : Within y) where
   own : smallNames ds ≡ ds
   own = limits-round-trip .no-capitals ds valid
 
-  short : length (routesText ds) ≤ 32768
+  short : length (routesText ds) ≤ limits .text
   short = omega (arith, limits-round-trip .written-bound ds valid)
 
   -- ---- the plan of the two routes
@@ -83,7 +83,7 @@ module _ (x y : SmallRoute) (wx : Within x) (wy : Within y) where
   unfolding start sumBelow
   stops-few = let a = wx .few in let b = wy .few in omega arith
 
-  few-dependencies : routesPlan ds .count ≤ 2048
+  few-dependencies : routesPlan ds .count ≤ limits .dependencies
   few-dependencies =
       let R = follows (routesVisits ds) in
       omega (arith, sum-bound (stopsIn ds) (λ v. countBelow (stopsIn ds) (R v)) 6 (λ v l. le-six (count-le (stopsIn ds) (R v)) stops-few), stops-few)

@@ -1,19 +1,10 @@
-// The test of full sizes, refusal 41, and the limit of the plan's text, refusal 1.
+// The test of full sizes, refusal 41.
 use crate::entries::Dependency;
 use crate::entries::Drone;
 use crate::entries::Stop;
 ghost use mathlib.Core.Path.{_≡_};
 ghost use Rattle.tables.specs.Limits.{limits};
 ghost use Rattle.tables.specs.Tables.{tablesOf, fullSize};
-
-// The bytes of a plan's text: it is no table of entries, so no type carries its limit.
-pub const MAX_TEXT: usize = 32768;
-
-pub fn text_limit() -> usize
-    ensures { λ r. ⌜ r ≡ limits .text ⌝ }
-{
-    MAX_TEXT
-}
 
 // No lent table is below full size.
 pub fn full_size(

@@ -26,7 +26,7 @@ given c = lent c (c .pre .others)
 known : (c : tie.Start) → Facts limits (given c)
 known c = facts limits (given c) (c .pre .holds)
 
-next-in : (c : tie.Else2) → at (c .before .before .before .before .before .before .before .before .args .visited .now) (c .before .before .before .before .before .before .before .before .args .drone) + 1 ≤ 1024
+next-in : (c : tie.Else2) → at (c .before .before .before .before .before .before .before .before .args .visited .now) (c .before .before .before .before .before .before .before .before .args .drone) + 1 ≤ limits .stops
 next-in c = omega (arith, known (c .before .before .before .before .before .before .before .before) .next-in (c .before .before .before .before .before .before .before .before .args .drone) (c .before .before .before .if1 .left) (sym (c .before .is-under-way .ensures) ∙ not-false (c .before .is-under-way .result) (c .if2 .left)), known (c .before .before .before .before .before .before .before .before) .stops-few (c .before .before .before .before .before .before .before .before .args .drone) (c .before .before .before .if1 .left))
 
 -- src/cores.rt:121:18
