@@ -1,6 +1,6 @@
 -- Two plans in lists that have the same entries up to the full sizes: where the counts are in their ranges, the stops are numbered alike, and the plan check and the
 -- dependencies are the same. Assumes nothing.
-use mathlib.Core.Path.{_≡_, ap, _∙_, fun-ext}
+use mathlib.Core.Path.{_≡_, refl, ap, _∙_, fun-ext}
 use Prim.Native.Nat.{ℕ, suc, _-_, _*_, _≤_, _<_}
 use native.Mathlib.Omega.{arith}
 use lib.Dec.{ltb}

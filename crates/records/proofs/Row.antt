@@ -90,3 +90,6 @@ reads 𝓤 H A W = Value.reads-as 𝓤 H A W valued (laws 𝓤 H A W) row 0 (λ 
 -- and an element of an array by value
 abbrev pub elem : Array.Elem
 elem = Array.eStruct T.the-type T′.the-laws T′.the-copy
+
+pub elem-laws : Array.ElemLawsAll elem
+elem-laws = Array.eStruct-laws T.the-type T′.the-laws T′.the-copy T′.the-plain
