@@ -116,7 +116,7 @@ pub read-is-sound : (L : Limits) → ReadIsSound L
 read-is-sound L text t h =
     let (full, r) = read-taken L text t h in
     let w : TextTaken L text (r .number) (linesAt L text) = text-taken L text (r .number) (r .lines-taken) in
-    subst (λ (x : Tables). AsRead L (x .plan) x) (sym (r .tables-are)) (stored-as-read L t full (linesAt L text) (r .number) (w .routes) (w .many) (w .valid) (w .read) (r .check-passed) (r .room))
+    subst (λ (x : Tables). AsRead L (x .plan) x) (sym (r .tables-are)) (stored-as-read L t full (linesAt L text) (r .number) (w .routes) (w .many) (w .in-limits) (w .read) (r .check-passed) (r .room))
 
 pub tables-sound : (L : Limits) → TablesSound L
 unfolding tablesAfter
@@ -128,8 +128,8 @@ pub tables-hold-plan : (L : Limits) → TablesHoldPlan L
 tables-hold-plan L text t h =
     let (full, r) = read-taken L text t h in
     let w : TextTaken L text (r .number) (linesAt L text) = text-taken L text (r .number) (r .lines-taken) in
-    let same : textPlan L text ≡ routesPlan (w .routes) = ap routesPlan (routes-read L text (w .routes) (w .valid) (w .read)) in
-    let agree = stored-agree L t full (linesAt L text) (r .number) (w .routes) (w .many) (w .valid) (w .read) (r .room) in
+    let same : textPlan L text ≡ routesPlan (w .routes) = ap routesPlan (routes-read L text (w .routes) (w .in-limits) (w .read)) in
+    let agree = stored-agree L t full (linesAt L text) (r .number) (w .routes) (w .many) (w .in-limits) (w .read) (r .room) in
     subst (λ (x : Tables). PlansAgree (textPlan L text) (planOf (x .plan))) (sym (r .tables-are)) (subst (λ (F : FieldPlan). PlansAgree F (planOf (withDependencies (withText (linesAt L text) (r .number) (zeroedTables L t)) .plan))) (sym same) agree)
 
 pub accepted-text : (L : Limits) → AcceptedText L
