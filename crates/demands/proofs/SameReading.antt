@@ -124,20 +124,20 @@ module _ (L : Limits) (t : Tables) (full : fullSize L t ≡ true) (text : List �
   w : TextTaken L text n (linesAt L text)
   w = text-taken L text n taken
 
-  abbrev stored : Tables
-  stored = withText (linesAt L text) n (zeroedTables L t)
+  abbrev afterText : Tables
+  afterText = withText (linesAt L text) n (zeroedTables L t)
 
-  held : HoldsRoutes L (w .routes) (stored .plan)
+  held : HoldsRoutes L (w .routes) (afterText .plan)
   held = stored-holds L t full (linesAt L text) n (w .routes) (w .many) (w .in-limits) (w .read)
 
-  pub drones-few : drones (stored .plan) ≤ L .drones
+  pub drones-few : drones (afterText .plan) ≤ L .drones
   drones-few = omega (arith, held .drones-are, w .in-limits .1)
 
-  pub stops-few : stopTotal (stored .plan) ≤ L .stops
-  stops-few = omega (arith, stops-are L (w .routes) (w .in-limits) (stored .plan) held, stops-within L (w .routes) (w .in-limits))
+  pub stops-few : stopTotal (afterText .plan) ≤ L .stops
+  stops-few = omega (arith, stops-are L (w .routes) (w .in-limits) (afterText .plan) held, stops-within L (w .routes) (w .in-limits))
 
   -- nothing past a full size
-  routes-past : pastFull L stored ≡ pastFull L (zeroedTables L t)
+  routes-past : pastFull L afterText ≡ pastFull L (zeroedTables L t)
   routes-past =
       let z = zeroedTables L t .plan in
       let f = linesAt L text in
