@@ -27,7 +27,7 @@ use Rattle.plan.proofs.Numbering.{start-none, place-in}
 use Rattle.plan.proofs.Claims.{accepted-claims}
 use Rattle.plan.proofs.PlansAgree.{agree-back, agree-stops, agree-never, agree-checked, start-same, owner-same, number-same, passes-exactly}
 use Rattle.plan.proofs.Agree.{total-same, column-same}
-use Rattle.accepted.specs.TextPlan.{routeAt, stopsIn, ownerOf, numberOf, dependencyList, routesPlan, routesFrom, textRoutes}
+use Rattle.accepted.specs.TextPlan.{routeAt, stopsIn, ownerOf, stopNumberOf, dependencyList, routesPlan, routesFrom, textRoutes}
 use Rattle.accepted.proofs.Routes.{counts-some}
 
 -- ---- one route among all
@@ -86,7 +86,7 @@ module _ (L : Limits) (ds : List Route) (v : InLimits L ds) where
     owners-are : (u : ℕ) → ownerIn p u ≡ ownerOf ds u
     owners-are u = ap (λ (n : ℕ). owner n (p .stopCounts) u) (h .drones-are) ∙ owner-same (length ds) (p .stopCounts) (countsOf ds) (h .counts-are) u
 
-    numbers-are : (u : ℕ) → numberIn p u ≡ numberOf ds u
+    numbers-are : (u : ℕ) → numberIn p u ≡ stopNumberOf ds u
     numbers-are u = ap (λ (n : ℕ). number n (p .stopCounts) u) (h .drones-are) ∙ number-same (length ds) (p .stopCounts) (countsOf ds) (h .counts-are) u
 
     starts-are : (d : ℕ) → d ≤ length ds → start (p .stopCounts) d ≡ start (countsOf ds) d
@@ -104,11 +104,11 @@ module _ (L : Limits) (ds : List Route) (v : InLimits L ds) where
     -- as many dependencies as the routes make, and the same ones
     pub held-total : dependencyTotal (visitsIn p) ≡ routesPlan ds .count
     held-total = ap (λ (n : ℕ). dependencyTotal (heldVisits p n)) stops-are
-        ∙ total-same (heldVisits p (stopsIn ds)) (ownerOf ds) (numberOf ds) (at (locationsOf ds)) (at (timesOf ds)) (λ u l. owners-are u) location-is time-is
+        ∙ total-same (heldVisits p (stopsIn ds)) (ownerOf ds) (stopNumberOf ds) (at (locationsOf ds)) (at (timesOf ds)) (λ u l. owners-are u) location-is time-is
 
     held-column : (f g : ℕ → ℕ → ℕ) → ((u w : ℕ) → f u w ≡ g u w) → column (visitsIn p) f ≡ dependencyList ds g
     held-column f g e = ap (λ (n : ℕ). column (heldVisits p n) f) stops-are
-        ∙ column-same (heldVisits p (stopsIn ds)) (ownerOf ds) (numberOf ds) (at (locationsOf ds)) (at (timesOf ds)) (λ u l. owners-are u) location-is time-is f g (λ u w l k. e u w)
+        ∙ column-same (heldVisits p (stopsIn ds)) (ownerOf ds) (stopNumberOf ds) (at (locationsOf ds)) (at (timesOf ds)) (λ u l. owners-are u) location-is time-is f g (λ u w l k. e u w)
 
     -- a list with an entry for each stop
     stop-entry : (l xs : List ℕ) → ((u : ℕ) → u < length (locationsOf ds) → at l u ≡ at xs u) → (d s : ℕ) → d < length ds → s ≤ length (routeAt ds d .locations) - 1
@@ -130,9 +130,9 @@ module _ (L : Limits) (ds : List Route) (v : InLimits L ds) where
           let k : w < dependencies p = omega (arith, held-total, own .total) in
           λ i. record {
             first = (entry (λ u w. ownerIn p u) (λ u w. ownerOf ds u) (λ u w. owners-are u) w ∙ sym (own .first-drones w k)) i;
-            firstStop = (entry (λ u w. numberIn p u) (λ u w. numberOf ds u) (λ u w. numbers-are u) w ∙ sym (own .first-stops w k)) i;
+            firstStop = (entry (λ u w. numberIn p u) (λ u w. stopNumberOf ds u) (λ u w. numbers-are u) w ∙ sym (own .first-stops w k)) i;
             second = (entry (λ u w. ownerIn p w) (λ u w. ownerOf ds w) (λ u w. owners-are w) w ∙ sym (own .second-drones w k)) i;
-            secondStop = (entry (λ u w. numberIn p w) (λ u w. numberOf ds w) (λ u w. numbers-are w) w ∙ sym (own .second-stops w k)) i;
+            secondStop = (entry (λ u w. numberIn p w) (λ u w. stopNumberOf ds w) (λ u w. numbers-are w) w ∙ sym (own .second-stops w k)) i;
           };
     }
       where
@@ -150,9 +150,9 @@ listsOf ds = record {
   locations = locationsOf ds;
   times = timesOf ds;
   firstDrones = dependencyList ds (λ v w. ownerOf ds v);
-  firstStops = dependencyList ds (λ v w. numberOf ds v);
+  firstStops = dependencyList ds (λ v w. stopNumberOf ds v);
   secondDrones = dependencyList ds (λ v w. ownerOf ds w);
-  secondStops = dependencyList ds (λ v w. numberOf ds w);
+  secondStops = dependencyList ds (λ v w. stopNumberOf ds w);
 }
 
 lists-hold : (ds : List Route) → HoldsStops ds (listsOf ds)

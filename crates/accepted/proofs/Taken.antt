@@ -80,16 +80,16 @@ module _ (L : Limits) (trip : RoundTrip L) (text : List ℕ) (t : Tables) where
       let w : PlanOfText L text (r .number) = trip .well-formed-is-written text (r .number) (r .lines-taken) in
       let ds : List Route = smallNames (w .typed) in
       let many : length ds ≡ r .number = names-many (w .typed) ∙ w .many in
-      let (c, never) = keeps L t full (linesAt L text) (r .number) ds many (w .valid) (w .read) (r .room) (r .check-passed) in (
+      let (c, never) = keeps L t full (linesAt L text) (r .number) ds many (w .in-limits) (w .read) (r .room) (r .check-passed) in (
         full,
         record {
           typed = w .typed;
           as-typed = w .as-typed;
-          valid = w .valid;
+          in-limits = w .in-limits;
           short = read-short L text t h;
           stops = c;
           apart = never;
-          few = omega (arith, laid-total L t full (linesAt L text) (r .number) ds many (w .valid) (w .read), r .room);
+          few = omega (arith, laid-total L t full (linesAt L text) (r .number) ds many (w .in-limits) (w .read), r .room);
         },
       )
 
@@ -97,10 +97,10 @@ module _ (L : Limits) (trip : RoundTrip L) (text : List ℕ) (t : Tables) where
   unfolding readPlan readLines
   taken (full, q) =
       let ds : List Route = smallNames (q .typed) in
-      let found : linesAt L text ≡ linesOf L ds = ap (linesAt L) (q .as-typed) ∙ trip .capitals-are-read (q .typed) (q .valid) in
+      let found : linesAt L text ≡ linesOf L ds = ap (linesAt L) (q .as-typed) ∙ trip .capitals-are-read (q .typed) (q .in-limits) in
       let p : PlanLists = withText (linesOf L ds) (length ds) (zeroedTables L t) .plan in
-      let room : total p ≤ L .dependencies = omega (arith, laid-total L t full (linesOf L ds) (length ds) ds refl (q .valid) refl, q .few) in
-      rw (full, le-ltb (L .text) (length text) (q .short), found, passes L t full (linesOf L ds) (length ds) ds refl (q .valid) refl room (q .stops) (q .apart), le-leb (total p) (L .dependencies) room) refl
+      let room : total p ≤ L .dependencies = omega (arith, laid-total L t full (linesOf L ds) (length ds) ds refl (q .in-limits) refl, q .few) in
+      rw (full, le-ltb (L .text) (length text) (q .short), found, passes L t full (linesOf L ds) (length ds) ds refl (q .in-limits) refl room (q .stops) (q .apart), le-leb (total p) (L .dependencies) room) refl
 
 pub taken-exactly : (L : Limits) → RoundTrip L → TakenExactly L
 taken-exactly L trip text t = (follows L trip text t, taken L trip text t)
@@ -114,7 +114,7 @@ pub follows-own : (L : Limits) (text : List ℕ) (ds : List Route) → smallName
 follows-own L text ds own e v short (c, never) few = record {
   typed = ds;
   as-typed = e;
-  valid = subst (InLimits L) (sym own) v;
+  in-limits = subst (InLimits L) (sym own) v;
   short = short;
   stops = subst (λ (x : List Route). StopsChecked (routesPlan x)) (sym own) c;
   apart = subst (λ (x : List Route). Never (routesPlan x) (Collides (routesPlan x))) (sym own) never;
@@ -143,7 +143,7 @@ written-back L text t calls h =
     ap (λ (p : PlanLists). tablesText L (drones p) (p .names) (p .stopCounts) (p .locations) (p .times)) (stays-same L _ _ (read-is-sound L text t h) calls .plan-same)
     ∙ ap (ownText L) (r .tables-are)
     ∙ ap (ownText L) (same-laid L t (linesAt L text) (r .number) (w .routes) (w .read) (w .many))
-    ∙ laid-text L t full (w .routes) (w .valid)
+    ∙ laid-text L t full (w .routes) (w .in-limits)
     ∙ sym (w .written)
 
 pub read-alike : (L : Limits) → ReadAlike L

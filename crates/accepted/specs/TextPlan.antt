@@ -26,11 +26,11 @@ module _ (routes : List Route) where
   abbrev pub ownerOf : ℕ → ℕ
   ownerOf = owner (length routes) (countsOf routes)
 
-  abbrev pub numberOf : ℕ → ℕ
-  numberOf = number (length routes) (countsOf routes)
+  abbrev pub stopNumberOf : ℕ → ℕ
+  stopNumberOf = number (length routes) (countsOf routes)
 
   abbrev pub routesVisits : Visits
-  routesVisits = visits ownerOf numberOf (at (locationsOf routes)) (at (timesOf routes)) stopsIn
+  routesVisits = visits ownerOf stopNumberOf (at (locationsOf routes)) (at (timesOf routes)) stopsIn
 
   -- f of each dependency of the routes, in order, (v, w) being its two stops
   abbrev pub dependencyList : (ℕ → ℕ → ℕ) → List ℕ
@@ -47,9 +47,9 @@ module _ (routes : List Route) where
     count = dependencyTotal routesVisits;
     dependency = λ w. record {
       first = at (dependencyList (λ v w. ownerOf v)) w;
-      firstStop = at (dependencyList (λ v w. numberOf v)) w;
+      firstStop = at (dependencyList (λ v w. stopNumberOf v)) w;
       second = at (dependencyList (λ v w. ownerOf w)) w;
-      secondStop = at (dependencyList (λ v w. numberOf w)) w;
+      secondStop = at (dependencyList (λ v w. stopNumberOf w)) w;
     };
   }
 

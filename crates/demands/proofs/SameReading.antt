@@ -124,20 +124,20 @@ module _ (L : Limits) (t : Tables) (full : fullSize L t ≡ true) (text : List �
   w : TextTaken L text n (linesAt L text)
   w = text-taken L text n taken
 
-  abbrev stored : Tables
-  stored = withText (linesAt L text) n (zeroedTables L t)
+  abbrev afterText : Tables
+  afterText = withText (linesAt L text) n (zeroedTables L t)
 
-  held : HoldsRoutes L (w .routes) (stored .plan)
-  held = stored-holds L t full (linesAt L text) n (w .routes) (w .many) (w .valid) (w .read)
+  held : HoldsRoutes L (w .routes) (afterText .plan)
+  held = stored-holds L t full (linesAt L text) n (w .routes) (w .many) (w .in-limits) (w .read)
 
-  pub drones-few : drones (stored .plan) ≤ L .drones
-  drones-few = omega (arith, held .drones-are, w .valid .1)
+  pub drones-few : drones (afterText .plan) ≤ L .drones
+  drones-few = omega (arith, held .drones-are, w .in-limits .1)
 
-  pub stops-few : stopTotal (stored .plan) ≤ L .stops
-  stops-few = omega (arith, stops-are L (w .routes) (w .valid) (stored .plan) held, stops-within L (w .routes) (w .valid))
+  pub stops-few : stopTotal (afterText .plan) ≤ L .stops
+  stops-few = omega (arith, stops-are L (w .routes) (w .in-limits) (afterText .plan) held, stops-within L (w .routes) (w .in-limits))
 
   -- nothing past a full size
-  routes-past : pastFull L stored ≡ pastFull L (zeroedTables L t)
+  routes-past : pastFull L afterText ≡ pastFull L (zeroedTables L t)
   routes-past =
       let z = zeroedTables L t .plan in
       let f = linesAt L text in
@@ -146,10 +146,10 @@ module _ (L : Limits) (t : Tables) (full : fullSize L t ≡ true) (text : List �
       let counts : f .counts ≡ countsOf ds = ap (λ (g : LinesRead LinesAnswer). g .counts) (w .read) in
       let locations : f .locations ≡ locationsOf ds = ap (λ (g : LinesRead LinesAnswer). g .locations) (w .read) in
       let times : f .times ≡ timesOf ds = ap (λ (g : LinesRead LinesAnswer). g .times) (w .read) in
-      let names-fit : length (flat (f .rows)) ≤ L .drones * L .name = omega (arith, ap length rows, names-many L ds, mul-le-mul-right (L .name) (w .valid .1)) in
-      let counts-fit : length (f .counts) ≤ L .drones = omega (arith, ap length counts, counts-many ds, w .valid .1) in
-      let stops-fit : length (f .locations) ≤ L .stops = omega (arith, ap length locations, stops-within L ds (w .valid)) in
-      let times-fit : length (f .times) ≤ L .stops = omega (arith, ap length times, times-many L ds (w .valid), stops-within L ds (w .valid)) in
+      let names-fit : length (flat (f .rows)) ≤ L .drones * L .name = omega (arith, ap length rows, names-many L ds, mul-le-mul-right (L .name) (w .in-limits .1)) in
+      let counts-fit : length (f .counts) ≤ L .drones = omega (arith, ap length counts, counts-many ds, w .in-limits .1) in
+      let stops-fit : length (f .locations) ≤ L .stops = omega (arith, ap length locations, stops-within L ds (w .in-limits)) in
+      let times-fit : length (f .times) ≤ L .stops = omega (arith, ap length times, times-many L ds (w .in-limits), stops-within L ds (w .in-limits)) in
       λ i.
       tablesOf
       (drop-sets 1 (n ∷ []) (z .droneCount) 0 (omega arith) i)

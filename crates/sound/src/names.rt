@@ -74,7 +74,7 @@ fn same_name(names: &[u8], d: usize, e: usize) -> bool
     true
 }
 
-fn wide(byte: u8) -> u16
+fn byte_value(byte: u8) -> u16
     ensures { λ r. ⌜ (r ≡ byte) × (r ≤ 255) ⌝ }
 {
     byte as u16
@@ -89,7 +89,7 @@ fn name_key(names: &[u8], d: usize) -> u16
     let mut key: u16 = 0;
     let mut i = 0;
     while i < Drone::NAME {
-        key += wide(names[row + i]);
+        key += byte_value(names[row + i]);
         i += 1;
     }
     key

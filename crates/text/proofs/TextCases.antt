@@ -59,7 +59,7 @@ end-refused text v x r k = rw k
 pub taken-range : (L : Limits) (text : List ℕ) (n : ℕ) → linesAt L text .answer ≡ WellFormed n → (1 ≤ n) × (n ≤ L .drones)
 taken-range L text n h =
     let t = text-taken L text n h in
-    (rw (t .many) at (t .valid .0), rw (t .many) at (t .valid .1))
+    (rw (t .many) at (t .in-limits .0), rw (t .many) at (t .in-limits .1))
 
 -- ---- the tables afterwards
 
