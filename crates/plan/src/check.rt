@@ -36,7 +36,7 @@ fn previous(v: usize) -> usize
 }
 
 // The refusal's number at stop v, 0 where there is none.
-fn fault_at(numbers: &[u16], locations: &[u16], times: &[u32], v: usize) -> u8
+pub fn fault_at(numbers: &[u16], locations: &[u16], times: &[u32], v: usize) -> u8
     requires { ⌜ (v < length (now numbers)) × (v < length (now locations)) × (v < length (now times)) ⌝ }
     ensures { λ r. ⌜ ((owners : List ℕ) (n : ℕ) → r ≡ faultAt (visitsOf owners (now (numbers .entry)) (now (locations .entry)) (now (times .entry)) n) v) ⌝ }
 {

@@ -118,29 +118,14 @@ module _ (L : Limits) (S : Visits) (v : ℕ) where
     unfolding stopSound
     stop-time h = rw (le-leb (loc v) (L .location) placed, lt-leb (time v) (L .time) h) refl
 
-    module _ (timed : time v ≤ L .time) where
-      pub stop-first : num v ≡ 0 → eqb (time v) 0 ≡ stopSound L S v
-      unfolding stopSound faultAt
-      stop-first e = rw (le-leb (loc v) (L .location) placed, le-leb (time v) (L .time) timed, eq-eqb (num v) 0 e) (by-cases (eqb (time v) 0) (λ h. rw h refl) (λ h. rw h refl))
-
-      module _ (later : num v ≢ 0) where
-        pub stop-early : time v ≤ time (v - 1) → false ≡ stopSound L S v
-        unfolding stopSound faultAt
-        stop-early h = rw (le-leb (loc v) (L .location) placed, le-leb (time v) (L .time) timed, ne-eqb (num v) 0 later, le-leb (time v) (time (v - 1)) h) refl
-
-        pub stop-moves : time (v - 1) < time v → not (eqb (loc v) (loc (v - 1))) ≡ stopSound L S v
-        unfolding stopSound faultAt
-        stop-moves h = rw (le-leb (loc v) (L .location) placed, le-leb (time v) (L .time) timed, ne-eqb (num v) 0 later, lt-leb (time v) (time (v - 1)) h) (by-cases (eqb (loc v) (loc (v - 1))) (λ q. rw q refl) (λ q. rw q refl))
+    pub stop-fault : (f : ℕ) → time v ≤ L .time → f ≡ faultAt S v → eqb f 0 ≡ stopSound L S v
+    unfolding stopSound
+    stop-fault f timed e = rw (le-leb (loc v) (L .location) placed, le-leb (time v) (L .time) timed, e) refl
 
 -- the stops' drones are not read
 pub stops-any : (L : Limits) (S : Visits) (own : ℕ → ℕ) (m : ℕ) → allBelow m (stopSound L (by S own (S .n))) ≡ allBelow m (stopSound L S)
 unfolding stopSound faultAt
 stops-any L S own m = refl
-
--- a stop that is no stop 0 is not the first of all
-pub stop-has-before : (num : ℕ → ℕ) (v : ℕ) → num 0 ≡ 0 → num v ≢ 0 → 1 ≤ v
-stop-has-before num zero e h = absurd (h e)
-stop-has-before num (suc v) e h = omega arith
 
 -- ---- records
 

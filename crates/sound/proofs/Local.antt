@@ -316,12 +316,6 @@ module _ {L : Limits} (drones n m : ℕ) (counts locations times firstDrones fir
 
     -- ---- as the code asks
 
-    pub first-zero : at numbers 0 ≡ 0
-    unfolding number
-    first-zero =
-        let some : 1 ≤ at counts 0 = C .have-stops 0 (C .some-drone) in
-        T .numbers-are 0 (omega (arith, N .place-in 0 0 (C .some-drone) (omega arith))) ∙ omega arith
-
     module _ (a : Bool) (ea : (owners : List ℕ) → a ≡ allBelow n (stopSound L (visitsOf owners numbers locations times n))) where
       pub code-stops : a ≡ false → false ≡ graphPart drones n m counts locations times firstDrones firstStops secondDrones secondStops L flags
       code-stops h = part-stops (sym (stops-say a ea) ∙ h)
