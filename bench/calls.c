@@ -11,15 +11,9 @@
 
 enum { STACK = 1 << 20, PAINT = 0xC7, BUFFER = 65536, REPEATS = 300 };
 
-static uint16_t drone_count[1], dependency_count[1], stop_counts[CONDUCTOR_DRONES], locations[CONDUCTOR_STOPS], visited[CONDUCTOR_DRONES];
-static uint32_t times[CONDUCTOR_STOPS];
-static uint8_t names[CONDUCTOR_NAMES], drone_flags[CONDUCTOR_DRONES], text[BUFFER], buffer[BUFFER];
-static conductor_dependency dependencies[CONDUCTOR_DEPENDENCIES];
+static conductor_tables field;
+static uint8_t text[BUFFER], buffer[BUFFER];
 static size_t text_length;
-
-#define TABLES                                                                                                                                  \
-    drone_count, 1, dependency_count, 1, names, CONDUCTOR_NAMES, stop_counts, CONDUCTOR_DRONES, locations, CONDUCTOR_STOPS, times, CONDUCTOR_STOPS, \
-        visited, CONDUCTOR_DRONES, drone_flags, CONDUCTOR_DRONES, dependencies, CONDUCTOR_DEPENDENCIES
 
 // ---- plans
 
@@ -95,17 +89,17 @@ static void one_bucket(int drones, int stops) {
 static size_t free_drone, free_dependency, group_n, number;
 static uint16_t group[CONDUCTOR_DEPENDENCIES];
 
-static void read_plan(void) { number = board_read(text, text_length, TABLES).number; }
-static void write_plan(void) { number = board_write(buffer, BUFFER, TABLES).number; }
-static void grant(void) { number = board_grant(TABLES, free_drone).number; }
-static void arrive(void) { number = board_arrive(TABLES, free_drone).number; }
-static void turn(void) { number = board_turn(TABLES, free_dependency).number; }
-static void preview(void) { number = board_preview(TABLES, free_dependency).number; }
-static void turn_all(void) { number = board_turn_all(TABLES, group, group_n).number; }
-static void preview_all(void) { number = board_preview_all(TABLES, group, group_n).number; }
-static void cost(void) { number = board_cost(TABLES).number; }
-static void rounds(void) { number = board_rounds(TABLES).number; }
-static void press(void) { number = board_press(TABLES, 0, 0).number; }
+static void read_plan(void) { number = board_read(text, text_length, CONDUCTOR_LEND(field)).number; }
+static void write_plan(void) { number = board_write(buffer, BUFFER, CONDUCTOR_LEND(field)).number; }
+static void grant(void) { number = board_grant(CONDUCTOR_LEND(field), free_drone).number; }
+static void arrive(void) { number = board_arrive(CONDUCTOR_LEND(field), free_drone).number; }
+static void turn(void) { number = board_turn(CONDUCTOR_LEND(field), free_dependency).number; }
+static void preview(void) { number = board_preview(CONDUCTOR_LEND(field), free_dependency).number; }
+static void turn_all(void) { number = board_turn_all(CONDUCTOR_LEND(field), group, group_n).number; }
+static void preview_all(void) { number = board_preview_all(CONDUCTOR_LEND(field), group, group_n).number; }
+static void cost(void) { number = board_cost(CONDUCTOR_LEND(field)).number; }
+static void rounds(void) { number = board_rounds(CONDUCTOR_LEND(field)).number; }
+static void press(void) { number = board_press(CONDUCTOR_LEND(field), 0, 0).number; }
 static void nothing(void) {}
 
 static const struct {
@@ -115,7 +109,7 @@ static const struct {
 enum { KINDS = sizeof CALLS / sizeof *CALLS };
 
 // A grant that was given is taken back, so that each repeat does the same.
-static void restore(void) { memset(drone_flags, 0, sizeof drone_flags); }
+static void restore(void) { memset(field.drone_flags, 0, sizeof field.drone_flags); }
 
 // ---- measuring
 
@@ -168,20 +162,20 @@ static long most[KINDS];
 // Turns up to `want` dependencies, then finds a drone that may go, a dependency that can be turned to and fro, and as long a list of them as one after the other gives.
 static int prepare(int want) {
     int turned = 0;
-    for (size_t p = 0; p < dependency_count[0] && turned < want; p++)
-        if (dependencies[p].first_drone % 2 == 0 && dependencies[p].second_drone == dependencies[p].first_drone + 1)
-            turned += board_turn(TABLES, p).number == 0;
-    for (free_dependency = dependency_count[0]; free_dependency-- > 0;)
-        if (board_turn(TABLES, free_dependency).number == 0) {
-            board_turn(TABLES, free_dependency);
+    for (size_t p = 0; p < field.dependency_count[0] && turned < want; p++)
+        if (field.dependencies[p].first_drone % 2 == 0 && field.dependencies[p].second_drone == field.dependencies[p].first_drone + 1)
+            turned += board_turn(CONDUCTOR_LEND(field), p).number == 0;
+    for (free_dependency = field.dependency_count[0]; free_dependency-- > 0;)
+        if (board_turn(CONDUCTOR_LEND(field), free_dependency).number == 0) {
+            board_turn(CONDUCTOR_LEND(field), free_dependency);
             break;
         }
     group_n = 0;
-    for (size_t p = 0; p < dependency_count[0]; p++)
-        if (board_turn(TABLES, p).number == 0) group[group_n++] = p;
+    for (size_t p = 0; p < field.dependency_count[0]; p++)
+        if (board_turn(CONDUCTOR_LEND(field), p).number == 0) group[group_n++] = p;
     turn_all();
-    for (free_drone = 0; free_drone < drone_count[0]; free_drone++)
-        if (board_grant(TABLES, free_drone).number == 0) break;
+    for (free_drone = 0; free_drone < field.drone_count[0]; free_drone++)
+        if (board_grant(CONDUCTOR_LEND(field), free_drone).number == 0) break;
     restore();
     return turned;
 }
@@ -193,8 +187,8 @@ static void measure(const char *what, int want) {
         return;
     }
     int turned = prepare(want), stops = 0;
-    for (int d = 0; d < drone_count[0]; d++) stops += stop_counts[d];
-    printf("%-10s %2d drones %4d stops %4d dependencies %2d turned |", what, drone_count[0], stops, dependency_count[0], turned);
+    for (int d = 0; d < field.drone_count[0]; d++) stops += field.stop_counts[d];
+    printf("%-10s %2d drones %4d stops %4d dependencies %2d turned |", what, field.drone_count[0], stops, field.dependency_count[0], turned);
     for (int k = KINDS - 1; k >= 0; k--) {
         if (k == 0 && turned) continue;
         printf(" %s %.1f", CALLS[k].name, best_time(CALLS[k].call, REPEATS));

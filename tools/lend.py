@@ -42,7 +42,8 @@ listed = sorted({*fns, *carried_in(crate)})
 work = os.path.abspath(f"target/lend/{crate}")
 src = f"{work}/gen/Rattle.{crate}.proofs/proofs"
 root = f"crates/{crate}/proofs"
-RECORD, ARRAY, ZERO, FULL = "Dependency", "[u16; 4]", "[0; 4]", "2048"
+RECORD, ARRAY, ZERO = "Dependency", "[u16; 4]", "[0; 4]"
+FULL = re.search(r"impl Dependency \{\s*pub const FULL: usize = (\d+);", open("crates/tables/src/entries.rt").read()).group(1)  # the table's full size
 HOME = "use tables::entries::Dependency;"  # where the record is declared: its users get the array's name instead
 ROW = "Rattle.records.proofs.Row" if crate == "records" else "Rattle.records.proofs.Row"
 

@@ -19,7 +19,7 @@ use Rattle.tables.proofs.SizeLaws.{SameLengths, fullSize-lengths, sizes-full}
 use Rattle.text.specs.Written.{Route, InLimits}
 use Rattle.plan.specs.Dependencies.{follows, flagOf}
 use Rattle.plan.specs.Field.{planOf, fixed}
-use Rattle.plan.specs.Claims.{ownerIn, numberIn, locationIn, timeIn, stopTotal, HoldsPlanned}
+use Rattle.plan.specs.Claims.{ownerIn, numberIn, stopTotal, visitsIn, HoldsPlanned}
 use Rattle.plan.proofs.Claims.{accepted-claims}
 use Rattle.sound.specs.Sound.{zeroFrom, checked as checkedSound, planAccepted, dependenciesSound, planUnused}
 use Rattle.log.specs.Calls.{AsRead}
@@ -75,7 +75,7 @@ module _ (L : Limits) (t : Tables) (sizes : Sizes L t) (blank : Blank L t) (room
   count-is = getD-set-same (t .plan .dependencyCount) 0 (total (t .plan)) 0 (sizes .dependency-count)
 
   column-long : (f : ℕ → ℕ → ℕ) → length (plannedList (t .plan) f) ≡ total (t .plan)
-  column-long f = length-listed (follows (ownerIn (t .plan)) (locationIn (t .plan)) (timeIn (t .plan))) (stopTotal (t .plan)) f
+  column-long f = length-listed (follows (visitsIn (t .plan))) (stopTotal (t .plan)) f
 
   -- one column: its entries, 0 past the last
   column-at : (l : List ℕ) → L .dependencies ≤ length l → ((i : ℕ) → i < L .dependencies → at l i ≡ 0) → (f : ℕ → ℕ → ℕ) (k : ℕ) → k < L .dependencies

@@ -5,7 +5,7 @@ use mathlib.Core.List.{List}
 use Rattle.below.specs.Below.{firstBelow, allBelow, countBelow, sumBelow}
 use Rattle.tables.specs.Limits.{limits}
 use Rattle.tables.specs.Tables.{Tables, fullSize}
-use Rattle.tables.specs.Zero.{zeroed}
+use Rattle.tables.specs.Zero.{zeroed, filled}
 use Rattle.lines.specs.Bytes.{byteAt, isAt}
 use Rattle.lines.specs.Numbers.{isDigit, digitsFrom, numberAt, fieldAt}
 use Rattle.lines.specs.Stops.{goAt, stopsAt, countAt}
@@ -21,7 +21,7 @@ use Rattle.log.specs.Calls.{step, Ran}
 use Rattle.log.specs.Demand.{Found}
 use Rattle.reading.specs.Reading.{readPlan, readLines}
 use Rattle.reading.specs.Replies.{taken as Taken}
-use Rattle.accepted.specs.Examples.{filled, flightQ, allHold, examples}
+use Rattle.accepted.specs.Examples.{flightQ, allHold, examples}
 use Rattle.accepted.specs.TextPlan.{textPlan}
 use Rattle.accepted.proofs.TextFound.{demand3-of-texts}
 

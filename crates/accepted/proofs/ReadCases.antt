@@ -19,7 +19,7 @@ use Rattle.plan.specs.declared.check.StopAt.{StopAt}
 use Rattle.plan.specs.declared.check.PlanCheck.the-variants as check
 use Rattle.plan.specs.Answers.{pickCheck, faultCase, checkOf}
 use Rattle.plan.specs.Check.{firstFault, collider}
-use Rattle.plan.specs.Claims.{stopTotal, ownerIn, numberIn, locationIn, timeIn, NoFault, NoCollision}
+use Rattle.plan.specs.Claims.{stopTotal, visitsIn, NoFault, NoCollision}
 use Rattle.plan.proofs.Claims.{accepted-claims}
 use Rattle.reading.specs.Replies.{ReadingReply, taken as Taken, refusedBy, refusedAt, refusedStop, refusedStops, checkMeant}
 use Rattle.reading.specs.Reading.{ReadingAnswer, withReply, withText, withDependencies, total, checkIn, checked, fromLines, readPlan, readLines}
@@ -42,7 +42,7 @@ search-end : (n : ℕ) (f : ℕ → Bool) → ltb (firstBelow n f) n ≡ false �
 search-end n f e = omega (arith, ltb-false (firstBelow n f) n e, firstBelow-first n f .within)
 
 module _ (p : PlanLists) (h : checkIn p ≡ Taken) where
-  nothing-found : (ltb (firstFault (numberIn p) (locationIn p) (timeIn p) (stopTotal p)) (stopTotal p) ≡ false) × (ltb (collider (ownerIn p) (locationIn p) (timeIn p) (stopTotal p)) (stopTotal p) ≡ false)
+  nothing-found : (ltb (firstFault (visitsIn p)) (stopTotal p) ≡ false) × (ltb (collider (visitsIn p)) (stopTotal p) ≡ false)
   unfolding checkOf
   nothing-found = passes _ _ _ _ _ _ h
 

@@ -42,14 +42,14 @@ stored-long : (full : ℕ) (t xs : List ℕ) → length (sets (zeroed full t) 0 
 stored-long full t xs = length-sets (zeroed full t) 0 xs ∙ zeroed-length full t
 
 module _ (L : Limits) (t : Tables) (full : fullSize L t ≡ true) (f : LinesRead LinesAnswer) (n : ℕ) where
-  abbrev stored : Tables
-  stored = withText f n (zeroedTables L t)
+  abbrev afterText : Tables
+  afterText = withText f n (zeroedTables L t)
 
   -- the sizes of the tables before
   pub before : Sizes L t
   before = full-sizes L t full
 
-  same-lengths : SameLengths stored t
+  same-lengths : SameLengths afterText t
   same-lengths = record {
     drone-count = stored-long 1 (t .plan .droneCount) (n ∷ []);
     dependency-count = zeroed-length 1 (t .plan .dependencyCount);
@@ -66,10 +66,10 @@ module _ (L : Limits) (t : Tables) (full : fullSize L t ≡ true) (f : LinesRead
     flags = zeroed-length (L .dependencies) (t .flags);
   }
 
-  stored-sizes : Sizes L stored
-  stored-sizes = full-sizes L stored (fullSize-lengths L stored t same-lengths ∙ full)
+  stored-sizes : Sizes L afterText
+  stored-sizes = full-sizes L afterText (fullSize-lengths L afterText t same-lengths ∙ full)
 
-  stored-blank : Blank L stored
+  stored-blank : Blank L afterText
   stored-blank = record {
     first-drones = zeroed-below (L .dependencies) (t .plan .firstDrones);
     first-stops = zeroed-below (L .dependencies) (t .plan .firstStops);
@@ -81,7 +81,7 @@ module _ (L : Limits) (t : Tables) (full : fullSize L t ≡ true) (f : LinesRead
   }
 
   module _ (ds : List Route) (many : length ds ≡ n) (v : InLimits L ds) (read : f ≡ linesOf L ds) where
-    pub stored-holds : HoldsRoutes L ds (stored .plan)
+    pub stored-holds : HoldsRoutes L ds (afterText .plan)
     stored-holds =
         let names-fit : length (flat (rowsOf L ds)) ≤ L .drones * L .name = omega (arith, names-many L ds, mul-le-mul-right (L .name) (v .1)) in
         let counts-fit : length (countsOf ds) ≤ L .drones = omega (arith, counts-many ds, v .1) in
@@ -95,7 +95,7 @@ module _ (L : Limits) (t : Tables) (full : fullSize L t ≡ true) (f : LinesRead
           times-are = stored-as (L .stops) (t .plan .times) (f .times) (timesOf ds) (ap (λ (g : LinesRead LinesAnswer). g .times) read) times-fit (before .times);
         }
 
-    pub stored-stops : HoldsStops ds (stored .plan)
+    pub stored-stops : HoldsStops ds (afterText .plan)
     stored-stops = record {
       drones-are = stored-holds .drones-are;
       counts-are = λ d l. stored-holds .counts-are d (omega (arith, v .1));
@@ -104,19 +104,19 @@ module _ (L : Limits) (t : Tables) (full : fullSize L t ≡ true) (f : LinesRead
     }
 
     -- with the dependencies laid, the plan in the tables is that of the routes
-    pub stored-agree : total (stored .plan) ≤ L .dependencies → PlansAgree (routesPlan ds) (planOf (withDependencies stored .plan))
+    pub stored-agree : total (afterText .plan) ≤ L .dependencies → PlansAgree (routesPlan ds) (planOf (withDependencies afterText .plan))
     stored-agree room =
         let s = stored-stops in
-        held-agree L ds v (withDependencies stored .plan) (record { drones-are = s .drones-are; counts-are = s .counts-are; locations-are = s .locations-are; times-are = s .times-are }) (holds-planned L stored stored-sizes stored-blank room)
+        held-agree L ds v (withDependencies afterText .plan) (record { drones-are = s .drones-are; counts-are = s .counts-are; locations-are = s .locations-are; times-are = s .times-are }) (holds-planned L afterText stored-sizes stored-blank room)
 
-    stored-as-read : checkIn (stored .plan) ≡ Taken → total (stored .plan) ≤ L .dependencies → AsRead L (withDependencies stored .plan) (withDependencies stored)
-    stored-as-read passed room = built-as-read L stored stored-sizes stored-blank room ds v stored-holds passed
+    stored-as-read : checkIn (afterText .plan) ≡ Taken → total (afterText .plan) ≤ L .dependencies → AsRead L (withDependencies afterText .plan) (withDependencies afterText)
+    stored-as-read passed room = built-as-read L afterText stored-sizes stored-blank room ds v stored-holds passed
 
 pub read-is-sound : (L : Limits) → ReadIsSound L
 read-is-sound L text t h =
     let (full, r) = read-taken L text t h in
     let w : TextTaken L text (r .number) (linesAt L text) = text-taken L text (r .number) (r .lines-taken) in
-    subst (λ (x : Tables). AsRead L (x .plan) x) (sym (r .tables-are)) (stored-as-read L t full (linesAt L text) (r .number) (w .routes) (w .many) (w .valid) (w .read) (r .check-passed) (r .room))
+    subst (λ (x : Tables). AsRead L (x .plan) x) (sym (r .tables-are)) (stored-as-read L t full (linesAt L text) (r .number) (w .routes) (w .many) (w .in-limits) (w .read) (r .check-passed) (r .room))
 
 pub tables-sound : (L : Limits) → TablesSound L
 unfolding tablesAfter
@@ -128,8 +128,8 @@ pub tables-hold-plan : (L : Limits) → TablesHoldPlan L
 tables-hold-plan L text t h =
     let (full, r) = read-taken L text t h in
     let w : TextTaken L text (r .number) (linesAt L text) = text-taken L text (r .number) (r .lines-taken) in
-    let same : textPlan L text ≡ routesPlan (w .routes) = ap routesPlan (routes-read L text (w .routes) (w .valid) (w .read)) in
-    let agree = stored-agree L t full (linesAt L text) (r .number) (w .routes) (w .many) (w .valid) (w .read) (r .room) in
+    let same : textPlan L text ≡ routesPlan (w .routes) = ap routesPlan (routes-read L text (w .routes) (w .in-limits) (w .read)) in
+    let agree = stored-agree L t full (linesAt L text) (r .number) (w .routes) (w .many) (w .in-limits) (w .read) (r .room) in
     subst (λ (x : Tables). PlansAgree (textPlan L text) (planOf (x .plan))) (sym (r .tables-are)) (subst (λ (F : FieldPlan). PlansAgree F (planOf (withDependencies (withText (linesAt L text) (r .number) (zeroedTables L t)) .plan))) (sym same) agree)
 
 pub accepted-text : (L : Limits) → AcceptedText L

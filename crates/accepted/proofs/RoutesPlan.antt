@@ -19,13 +19,15 @@ use Rattle.text.specs.Written.{Route, rowsOf, countsOf, locationsOf, timesOf, l
 use Rattle.text.proofs.DroneTaken.{range-long}
 use Rattle.text.proofs.Sizes.{counts-total}
 use Rattle.plan.specs.Stops.{start, owner, number}
+use Rattle.plan.specs.Visits.{Visits, visits}
 use Rattle.plan.specs.Dependencies.{dependencyTotal, column}
 use Rattle.plan.specs.Field.{Checked, PlansAgree, planOf}
-use Rattle.plan.specs.Claims.{ownerIn, numberIn, locationIn, timeIn, stopTotal, HaveStops, HoldsPlanned, StopsChecked, Collides, Never}
+use Rattle.plan.specs.Claims.{ownerIn, numberIn, locationIn, timeIn, stopTotal, visitsIn, HaveStops, HoldsPlanned, StopsChecked, Collides, Never}
 use Rattle.plan.proofs.Numbering.{start-none, place-in}
 use Rattle.plan.proofs.Claims.{accepted-claims}
-use Rattle.plan.proofs.PlansAgree.{agree-back, agree-stops, agree-never, agree-checked, start-same, owner-same, number-same, total-same, column-same, passes-exactly}
-use Rattle.accepted.specs.TextPlan.{routeAt, stopsIn, ownerOf, numberOf, dependencyList, routesPlan, routesFrom, textRoutes}
+use Rattle.plan.proofs.PlansAgree.{agree-back, agree-stops, agree-never, agree-checked, start-same, owner-same, number-same, passes-exactly}
+use Rattle.plan.proofs.Agree.{total-same, column-same}
+use Rattle.accepted.specs.TextPlan.{routeAt, stopsIn, ownerOf, stopNumberOf, dependencyList, routesPlan, routesFrom, textRoutes}
 use Rattle.accepted.proofs.Routes.{counts-some}
 
 -- ---- one route among all
@@ -64,6 +66,10 @@ pub record HoldsStops (ds : List Route) (p : PlanLists) : Type 0 where
   pub locations-are : (v : ℕ) → v < length (locationsOf ds) → at (p .locations) v ≡ at (locationsOf ds) v
   pub times-are : (v : ℕ) → v < length (locationsOf ds) → at (p .times) v ≡ at (timesOf ds) v
 
+-- the first n stops of lists
+abbrev heldVisits : PlanLists → ℕ → Visits
+heldVisits p n = visits (ownerIn p) (numberIn p) (locationIn p) (timeIn p) n
+
 module _ (L : Limits) (ds : List Route) (v : InLimits L ds) where
   stops-many : stopsIn ds ≡ length (locationsOf ds)
   unfolding start
@@ -80,7 +86,7 @@ module _ (L : Limits) (ds : List Route) (v : InLimits L ds) where
     owners-are : (u : ℕ) → ownerIn p u ≡ ownerOf ds u
     owners-are u = ap (λ (n : ℕ). owner n (p .stopCounts) u) (h .drones-are) ∙ owner-same (length ds) (p .stopCounts) (countsOf ds) (h .counts-are) u
 
-    numbers-are : (u : ℕ) → numberIn p u ≡ numberOf ds u
+    numbers-are : (u : ℕ) → numberIn p u ≡ stopNumberOf ds u
     numbers-are u = ap (λ (n : ℕ). number n (p .stopCounts) u) (h .drones-are) ∙ number-same (length ds) (p .stopCounts) (countsOf ds) (h .counts-are) u
 
     starts-are : (d : ℕ) → d ≤ length ds → start (p .stopCounts) d ≡ start (countsOf ds) d
@@ -96,13 +102,13 @@ module _ (L : Limits) (ds : List Route) (v : InLimits L ds) where
     time-is u l = h .times-are u (omega (arith, stops-many))
 
     -- as many dependencies as the routes make, and the same ones
-    pub held-total : dependencyTotal (ownerIn p) (locationIn p) (timeIn p) (stopTotal p) ≡ routesPlan ds .count
-    held-total = ap (dependencyTotal (ownerIn p) (locationIn p) (timeIn p)) stops-are
-        ∙ total-same (ownerIn p) (ownerOf ds) (locationIn p) (at (locationsOf ds)) (timeIn p) (at (timesOf ds)) (stopsIn ds) (λ u l. owners-are u) location-is time-is
+    pub held-total : dependencyTotal (visitsIn p) ≡ routesPlan ds .count
+    held-total = ap (λ (n : ℕ). dependencyTotal (heldVisits p n)) stops-are
+        ∙ total-same (heldVisits p (stopsIn ds)) (ownerOf ds) (stopNumberOf ds) (at (locationsOf ds)) (at (timesOf ds)) (λ u l. owners-are u) location-is time-is
 
-    held-column : (f g : ℕ → ℕ → ℕ) → ((u w : ℕ) → f u w ≡ g u w) → column (ownerIn p) (locationIn p) (timeIn p) (stopTotal p) f ≡ dependencyList ds g
-    held-column f g e = ap (λ (n : ℕ). column (ownerIn p) (locationIn p) (timeIn p) n f) stops-are
-        ∙ column-same (ownerIn p) (ownerOf ds) (locationIn p) (at (locationsOf ds)) (timeIn p) (at (timesOf ds)) (stopsIn ds) (λ u l. owners-are u) location-is time-is f g (λ u w l k. e u w)
+    held-column : (f g : ℕ → ℕ → ℕ) → ((u w : ℕ) → f u w ≡ g u w) → column (visitsIn p) f ≡ dependencyList ds g
+    held-column f g e = ap (λ (n : ℕ). column (heldVisits p n) f) stops-are
+        ∙ column-same (heldVisits p (stopsIn ds)) (ownerOf ds) (stopNumberOf ds) (at (locationsOf ds)) (at (timesOf ds)) (λ u l. owners-are u) location-is time-is f g (λ u w l k. e u w)
 
     -- a list with an entry for each stop
     stop-entry : (l xs : List ℕ) → ((u : ℕ) → u < length (locationsOf ds) → at l u ≡ at xs u) → (d s : ℕ) → d < length ds → s ≤ length (routeAt ds d .locations) - 1
@@ -118,18 +124,19 @@ module _ (L : Limits) (ds : List Route) (v : InLimits L ds) where
       lasts-agree = λ d l. ap (λ (m : ℕ). m - 1) (sym (count-of ds d) ∙ sym (h .counts-are d l));
       locations-agree = λ d s l k. stop-entry (p .locations) (locationsOf ds) (h .locations-are) d s l k (routeAt ds d .locations) (entry-of (λ (r : Route). r .locations) locationsOf (λ r rs. refl) ds (λ d l. refl) d s l);
       times-agree = λ d s l k. stop-entry (p .times) (timesOf ds) (h .times-are) d s l k (routeAt ds d .times) (entry-of (λ (r : Route). r .times) timesOf (λ r rs. refl) ds (times-long L ds [] 0 (v .2)) d s l);
+      meets-agree = λ a b. refl;
       counts-agree = sym held-total ∙ sym (own .total);
       dependencies-agree = λ w l.
           let k : w < dependencies p = omega (arith, held-total, own .total) in
           λ i. record {
             first = (entry (λ u w. ownerIn p u) (λ u w. ownerOf ds u) (λ u w. owners-are u) w ∙ sym (own .first-drones w k)) i;
-            firstStop = (entry (λ u w. numberIn p u) (λ u w. numberOf ds u) (λ u w. numbers-are u) w ∙ sym (own .first-stops w k)) i;
+            firstStop = (entry (λ u w. numberIn p u) (λ u w. stopNumberOf ds u) (λ u w. numbers-are u) w ∙ sym (own .first-stops w k)) i;
             second = (entry (λ u w. ownerIn p w) (λ u w. ownerOf ds w) (λ u w. owners-are w) w ∙ sym (own .second-drones w k)) i;
-            secondStop = (entry (λ u w. numberIn p w) (λ u w. numberOf ds w) (λ u w. numbers-are w) w ∙ sym (own .second-stops w k)) i;
+            secondStop = (entry (λ u w. numberIn p w) (λ u w. stopNumberOf ds w) (λ u w. numbers-are w) w ∙ sym (own .second-stops w k)) i;
           };
     }
       where
-        entry : (f g : ℕ → ℕ → ℕ) → ((u w : ℕ) → f u w ≡ g u w) → (w : ℕ) → at (dependencyList ds g) w ≡ at (column (ownerIn p) (locationIn p) (timeIn p) (stopTotal p) f) w
+        entry : (f g : ℕ → ℕ → ℕ) → ((u w : ℕ) → f u w ≡ g u w) → (w : ℕ) → at (dependencyList ds g) w ≡ at (column (visitsIn p) f) w
         entry f g e w = ap (λ (c : List ℕ). at c w) (sym (held-column f g e))
 
 -- ---- lists made of routes
@@ -143,9 +150,9 @@ listsOf ds = record {
   locations = locationsOf ds;
   times = timesOf ds;
   firstDrones = dependencyList ds (λ v w. ownerOf ds v);
-  firstStops = dependencyList ds (λ v w. numberOf ds v);
+  firstStops = dependencyList ds (λ v w. stopNumberOf ds v);
   secondDrones = dependencyList ds (λ v w. ownerOf ds w);
-  secondStops = dependencyList ds (λ v w. numberOf ds w);
+  secondStops = dependencyList ds (λ v w. stopNumberOf ds w);
 }
 
 lists-hold : (ds : List Route) → HoldsStops ds (listsOf ds)

@@ -123,8 +123,8 @@ module _ (L : Limits) (t : Tables) (full : fullSize L t ≡ true) (clauses : Sou
   names-room : drones p * L .name ≤ length (p .names)
   names-room = omega (arith, sizes .names, mul-le-mul-right (L .name) few-drones)
 
-  valid : InLimits L routes
-  valid = (
+  in-limits : InLimits L routes
+  in-limits = (
     omega (arith, many, some-drone L p (clauses .accepted)),
     omega (arith, many, few-drones),
     cut-valid L [] 0 rows counts locations times (record {
@@ -162,7 +162,7 @@ module _ (L : Limits) (t : Tables) (full : fullSize L t ≡ true) (clauses : Sou
   plan-accepted = accepted-plan L p (clauses .accepted) (clauses .dependencies-own)
 
   agree : PlansAgree (routesPlan routes) (planOf p)
-  agree = held-agree L routes valid p holds (accepted-claims .accepted-exactly p have .1 plan-accepted .2)
+  agree = held-agree L routes in-limits p holds (accepted-claims .accepted-exactly p have .1 plan-accepted .2)
 
   rules : StopsChecked (routesPlan routes) × Never (routesPlan routes) (Collides (routesPlan routes))
   rules =
@@ -178,7 +178,7 @@ pub sound-means-accepted : (L : Limits) → RoundTrip L → textBound L ≤ L .t
 sound-means-accepted L trip room t z full s into =
     let clauses : Sound L t = sound-says L t s in
     let ds : List Route = routes L t full clauses in
-    let v : InLimits L ds = valid L t full clauses in
+    let v : InLimits L ds = in-limits L t full clauses in
     let e : ownText L t ≡ routesText ds = own-text L t full clauses in
     let short : length (ownText L t) ≤ L .text = omega (arith, ap (λ (x : List ℕ). length x) e, trip .written-bound ds v) in
     let read : linesAt L (ownText L t) ≡ linesOf L ds = ap (linesAt L) e ∙ trip .written-is-read ds v in (

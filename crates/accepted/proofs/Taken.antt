@@ -23,7 +23,7 @@ use Rattle.text.proofs.ReadIsWritten.{tables-kept}
 use Rattle.text.proofs.RoundTrips.{limits-round-trip}
 use Rattle.plan.specs.Field.{PlansAgree, planOf}
 use Rattle.plan.specs.Check.{firstFault}
-use Rattle.plan.specs.Claims.{stopTotal, numberIn, locationIn, timeIn, colliderIn, HaveStops, NoFault, NoCollision, StopsChecked, Collides, Never}
+use Rattle.plan.specs.Claims.{stopTotal, visitsIn, colliderIn, HaveStops, NoFault, NoCollision, StopsChecked, Collides, Never}
 use Rattle.plan.specs.Answers.{checkOf}
 use Rattle.plan.proofs.Claims.{accepted-claims}
 use Rattle.plan.proofs.PlansAgree.{agree-back, agree-stops, agree-never, passes-exactly}
@@ -41,7 +41,7 @@ check-fine : (p : PlanLists) → NoFault p → NoCollision p → checkIn p ≡ T
 unfolding checkOf
 check-fine p e a =
     let c : colliderIn p ≡ stopTotal p = accepted-claims .reported-exactly p .0 a in
-    rw (le-ltb (firstFault (numberIn p) (locationIn p) (timeIn p) (stopTotal p)) (stopTotal p) (omega (arith, e)), le-ltb (colliderIn p) (stopTotal p) (omega (arith, c))) refl
+    rw (le-ltb (firstFault (visitsIn p)) (stopTotal p) (omega (arith, e)), le-ltb (colliderIn p) (stopTotal p) (omega (arith, c))) refl
 
 -- tables in which what was read of a text stands, f being the routes' values
 module _ (L : Limits) (t : Tables) (full : fullSize L t ≡ true) (f : LinesRead LinesAnswer) (n : ℕ) (ds : List Route) (many : length ds ≡ n) (v : InLimits L ds) (read : f ≡ linesOf L ds) where
@@ -80,16 +80,16 @@ module _ (L : Limits) (trip : RoundTrip L) (text : List ℕ) (t : Tables) where
       let w : PlanOfText L text (r .number) = trip .well-formed-is-written text (r .number) (r .lines-taken) in
       let ds : List Route = smallNames (w .typed) in
       let many : length ds ≡ r .number = names-many (w .typed) ∙ w .many in
-      let (c, never) = keeps L t full (linesAt L text) (r .number) ds many (w .valid) (w .read) (r .room) (r .check-passed) in (
+      let (c, never) = keeps L t full (linesAt L text) (r .number) ds many (w .in-limits) (w .read) (r .room) (r .check-passed) in (
         full,
         record {
           typed = w .typed;
           as-typed = w .as-typed;
-          valid = w .valid;
+          in-limits = w .in-limits;
           short = read-short L text t h;
           stops = c;
           apart = never;
-          few = omega (arith, laid-total L t full (linesAt L text) (r .number) ds many (w .valid) (w .read), r .room);
+          few = omega (arith, laid-total L t full (linesAt L text) (r .number) ds many (w .in-limits) (w .read), r .room);
         },
       )
 
@@ -97,10 +97,10 @@ module _ (L : Limits) (trip : RoundTrip L) (text : List ℕ) (t : Tables) where
   unfolding readPlan readLines
   taken (full, q) =
       let ds : List Route = smallNames (q .typed) in
-      let found : linesAt L text ≡ linesOf L ds = ap (linesAt L) (q .as-typed) ∙ trip .capitals-are-read (q .typed) (q .valid) in
+      let found : linesAt L text ≡ linesOf L ds = ap (linesAt L) (q .as-typed) ∙ trip .capitals-are-read (q .typed) (q .in-limits) in
       let p : PlanLists = withText (linesOf L ds) (length ds) (zeroedTables L t) .plan in
-      let room : total p ≤ L .dependencies = omega (arith, laid-total L t full (linesOf L ds) (length ds) ds refl (q .valid) refl, q .few) in
-      rw (full, le-ltb (L .text) (length text) (q .short), found, passes L t full (linesOf L ds) (length ds) ds refl (q .valid) refl room (q .stops) (q .apart), le-leb (total p) (L .dependencies) room) refl
+      let room : total p ≤ L .dependencies = omega (arith, laid-total L t full (linesOf L ds) (length ds) ds refl (q .in-limits) refl, q .few) in
+      rw (full, le-ltb (L .text) (length text) (q .short), found, passes L t full (linesOf L ds) (length ds) ds refl (q .in-limits) refl room (q .stops) (q .apart), le-leb (total p) (L .dependencies) room) refl
 
 pub taken-exactly : (L : Limits) → RoundTrip L → TakenExactly L
 taken-exactly L trip text t = (follows L trip text t, taken L trip text t)
@@ -114,7 +114,7 @@ pub follows-own : (L : Limits) (text : List ℕ) (ds : List Route) → smallName
 follows-own L text ds own e v short (c, never) few = record {
   typed = ds;
   as-typed = e;
-  valid = subst (InLimits L) (sym own) v;
+  in-limits = subst (InLimits L) (sym own) v;
   short = short;
   stops = subst (λ (x : List Route). StopsChecked (routesPlan x)) (sym own) c;
   apart = subst (λ (x : List Route). Never (routesPlan x) (Collides (routesPlan x))) (sym own) never;
@@ -143,7 +143,7 @@ written-back L text t calls h =
     ap (λ (p : PlanLists). tablesText L (drones p) (p .names) (p .stopCounts) (p .locations) (p .times)) (stays-same L _ _ (read-is-sound L text t h) calls .plan-same)
     ∙ ap (ownText L) (r .tables-are)
     ∙ ap (ownText L) (same-laid L t (linesAt L text) (r .number) (w .routes) (w .read) (w .many))
-    ∙ laid-text L t full (w .routes) (w .valid)
+    ∙ laid-text L t full (w .routes) (w .in-limits)
     ∙ sym (w .written)
 
 pub read-alike : (L : Limits) → ReadAlike L

@@ -30,7 +30,7 @@ pub record PlanFollows (L : Limits) (text : List ℕ) : Type 0 where
   pub typed : List Route
   pub as-typed : text ≡ routesText typed
   -- with its names in small letters: names, numbers of stops, locations and times in their ranges
-  pub valid : InLimits L (smallNames typed)
+  pub in-limits : InLimits L (smallNames typed)
   -- "text: at most 32,768 bytes"
   pub short : length text ≤ L .text
   -- "Stop 0 has time 0 and a drone's times strictly rise. Neighbouring stops of a drone have different locations."

@@ -1,12 +1,11 @@
 -- Flights of document 01 as texts, read into tables of full size that held something else before: the readings that the claims speak of do happen. Assumes nothing.
 use mathlib.Core.Bool.{Bool, true, _&&_}
 use mathlib.Core.List.{List, [], _∷_}
-use Prim.Native.Nat.{ℕ, _*_}
+use Prim.Native.Nat.{ℕ}
 use Prim.Native.String.{String}
 use lib.Dec.{eqb}
-use lib.ListN.{replicate}
 use Rattle.tables.specs.Limits.{Limits, limits}
-use Rattle.tables.specs.Tables.{Tables, tablesOf}
+use Rattle.tables.specs.Zero.{filled}
 use Rattle.text.specs.Examples.{bytes}
 use Rattle.reading.specs.Replies.{readingNumber}
 use Rattle.reading.specs.Reading.{readPlan}
@@ -22,24 +21,6 @@ oneDependency = record {
   location = limits .location;
   time = limits .time;
 }
-
--- tables of full size with x in every entry
-abbrev pub filled : ℕ → Limits → Tables
-filled x L =
-    tablesOf
-    (replicate 1 x)
-    (replicate 1 x)
-    (replicate (L .drones * L .name) x)
-    (replicate (L .drones) x)
-    (replicate (L .stops) x)
-    (replicate (L .stops) x)
-    (replicate (L .drones) x)
-    (replicate (L .drones) x)
-    (replicate (L .dependencies) x)
-    (replicate (L .dependencies) x)
-    (replicate (L .dependencies) x)
-    (replicate (L .dependencies) x)
-    (replicate (L .dependencies) x)
 
 -- "Input Q"
 abbrev pub flightQ : String
@@ -71,4 +52,10 @@ examples =
     -- "P: .. two dependencies"
     ∷ record { within = limits; text = flightP; number = 0 }
     ∷ record { within = oneDependency; text = flightP; number = 11 }
+    -- the drones collide at 40, where the first stays, and have three dependencies: "plan check, after all stops" comes before "building"
+    ∷ record { within = oneDependency; text = "plan=1\nagents=2\nname=a\nstops=4\ngo=10@0\ngo=20@1\ngo=30@2\ngo=40@3\nname=b\nstops=4\ngo=11@0\ngo=20@3\ngo=30@4\ngo=40@5\nend=plan\n"; number = 10 }
+    -- a drone with more stops than the limit for all: "at one line in this order .. 4 .. 6"
+    ∷ record { within = limits; text = "plan=1\nagents=1\nname=a\nstops=1025\n"; number = 4 }
+    -- "a capital is the same letter as its small form everywhere names are compared"
+    ∷ record { within = limits; text = "plan=1\nagents=2\nname=Survey-Quad-East-1\nstops=1\ngo=1@0\nname=survey-quad-east-1\nstops=1\ngo=2@0\nend=plan\n"; number = 5 }
     ∷ []

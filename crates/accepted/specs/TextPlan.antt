@@ -8,6 +8,7 @@ use Rattle.lines.specs.Names.{nameOf}
 use Rattle.text.specs.LinesRead.{linesAt}
 use Rattle.text.specs.Written.{Route, countsOf, locationsOf, timesOf}
 use Rattle.plan.specs.Stops.{start, owner, number}
+use Rattle.plan.specs.Visits.{Visits, sameLocation, visits}
 use Rattle.plan.specs.Dependencies.{dependencyTotal, column}
 use Rattle.plan.specs.Field.{FieldPlan}
 
@@ -18,19 +19,22 @@ routeAt (r ∷ rs) zero = r
 routeAt (r ∷ rs) (suc d) = routeAt rs d
 
 module _ (routes : List Route) where
-  -- the stops of all routes numbered through, those of drone 0 first: how many they are, and each one's drone and number
+  -- the stops of all routes numbered through, those of drone 0 first: how many they are, each one's drone and number, and with its location and time
   abbrev pub stopsIn : ℕ
   stopsIn = start (countsOf routes) (length routes)
 
   abbrev pub ownerOf : ℕ → ℕ
   ownerOf = owner (length routes) (countsOf routes)
 
-  abbrev pub numberOf : ℕ → ℕ
-  numberOf = number (length routes) (countsOf routes)
+  abbrev pub stopNumberOf : ℕ → ℕ
+  stopNumberOf = number (length routes) (countsOf routes)
+
+  abbrev pub routesVisits : Visits
+  routesVisits = visits ownerOf stopNumberOf (at (locationsOf routes)) (at (timesOf routes)) stopsIn
 
   -- f of each dependency of the routes, in order, (v, w) being its two stops
   abbrev pub dependencyList : (ℕ → ℕ → ℕ) → List ℕ
-  dependencyList f = column ownerOf (at (locationsOf routes)) (at (timesOf routes)) stopsIn f
+  dependencyList f = column routesVisits f
 
   -- the plan that the routes make
   abbrev pub routesPlan : FieldPlan
@@ -39,12 +43,13 @@ module _ (routes : List Route) where
     last = λ d. length (routeAt routes d .locations) - 1;
     location = λ d s. at (routeAt routes d .locations) s;
     time = λ d s. at (routeAt routes d .times) s;
-    count = dependencyTotal ownerOf (at (locationsOf routes)) (at (timesOf routes)) stopsIn;
+    meets = sameLocation;
+    count = dependencyTotal routesVisits;
     dependency = λ w. record {
       first = at (dependencyList (λ v w. ownerOf v)) w;
-      firstStop = at (dependencyList (λ v w. numberOf v)) w;
+      firstStop = at (dependencyList (λ v w. stopNumberOf v)) w;
       second = at (dependencyList (λ v w. ownerOf w)) w;
-      secondStop = at (dependencyList (λ v w. numberOf w)) w;
+      secondStop = at (dependencyList (λ v w. stopNumberOf w)) w;
     };
   }
 

@@ -1,6 +1,6 @@
 -- What holds of every index below n, and of some. Assumes nothing.
 use mathlib.Core.Path.{_≡_, refl, sym, _∙_, subst}
-use mathlib.Core.Bool.{Bool, true, false, not, _&&_, and-false}
+use mathlib.Core.Bool.{Bool, true, false, not}
 use Prim.Native.Nat.{ℕ, zero, suc, _+_, _≤_, _<_}
 use native.Mathlib.Nat.{le-antisymm}
 use native.Mathlib.Numerals.{add-one}
@@ -63,21 +63,3 @@ module _ (p : ℕ → Bool) where
 
   pub all-end : (i n : ℕ) → i ≤ n → n ≤ i → allBelow i p ≡ true → true ≡ allBelow n p
   all-end i n l m e = subst (λ (k : ℕ). true ≡ allBelow k p) (le-antisymm l m) (sym e)
-
--- ---- some index, as a loop over i goes
-module _ (f : ℕ → Bool) where
-  pub any-none : anyBelow 0 f ≡ false
-  unfolding allBelow
-  any-none = refl
-
-  pub any-hit : (i : ℕ) → f i ≡ true → anyBelow (i + 1) f ≡ true
-  unfolding allBelow
-  any-hit i h = rw (add-one, h, and-false) refl
-
-  pub any-miss : (i : ℕ) → f i ≡ false → anyBelow (i + 1) f ≡ anyBelow i f
-  unfolding allBelow
-  any-miss i h = rw (add-one, h) (go (allBelow i (λ k. not (f k))))
-    where
-      go : (b : Bool) → not (b && true) ≡ not b
-      go true = refl
-      go false = refl

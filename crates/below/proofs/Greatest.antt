@@ -2,23 +2,13 @@
 use mathlib.Core.Path.{_≡_, refl, sym}
 use mathlib.Core.Logic.{_≢_, _⊎_, inl, inr}
 use mathlib.Core.Bool.{Bool, true, false}
-use Prim.Native.Nat.{ℕ, zero, suc, _+_, _≤_, _<_, max}
-use native.Mathlib.Numerals.{add-one}
+use Prim.Native.Nat.{ℕ, zero, suc, _≤_, _<_}
 use native.Mathlib.Omega.{arith}
 use lib.Dec.{ltb, leb, eqb}
 use borrow.Author.Tests.{ltb-true, ltb-false, leb-true, leb-false, eqb-true, eqb-false}
 use Rattle.below.specs.Below.{pick, firstBelow, First, maxBelow}
 use Rattle.below.proofs.Tests.{by-cases, below-cases}
 use Rattle.below.proofs.Search.{firstBelow-first}
-
-pub max-start : (f : ℕ → ℕ) → maxBelow 0 f ≡ 0
-unfolding maxBelow
-max-start f = refl
-
--- one more index, as a loop's counter goes
-pub max-more : (n : ℕ) (f : ℕ → ℕ) → maxBelow (n + 1) f ≡ max (maxBelow n f) (f n)
-unfolding maxBelow
-max-more n f = rw add-one
 
 pub max-at : (n : ℕ) (f : ℕ → ℕ) (i : ℕ) → i < n → f i ≤ maxBelow n f
 unfolding maxBelow

@@ -67,9 +67,6 @@ module _ (q : ℕ → Bool) (i : ℕ) where
     pub pick-skip : q i ≡ false → l ≡ laid l₀ c (picks (i + 1) q f)
     pick-skip h = rw (picks-no q f i h) e
 
-    pub pick-length : length l ≡ length l₀
-    pick-length = laid-length l l₀ c (picks i q f) e
-
 -- the rows one after the other: l′ is l after row i
 module _ (g : ℕ → List ℕ) (i : ℕ) (l₀ l l′ : List ℕ) (k : ℕ) where
   pub row-store : l ≡ laid l₀ 0 (rowsBelow i g) → k ≡ length (rowsBelow i g) → l′ ≡ laid l k (g i) → l′ ≡ laid l₀ 0 (rowsBelow (i + 1) g)

@@ -1,14 +1,13 @@
 -- The laws of a bounded search: its value is the one index that the record `First` allows, and how a loop goes that finds it. Assumes nothing.
 use mathlib.Core.Path.{_≡_, refl, sym, _∙_, subst}
-use mathlib.Core.Logic.{_≢_}
-use mathlib.Core.Bool.{Bool, true, false, cond}
+use mathlib.Core.Bool.{Bool, true, false}
 use Prim.Native.Nat.{ℕ, zero, suc, _+_, _-_, _≤_, _<_}
-use native.Mathlib.Nat.{le-antisymm, add-zero, add-suc}
+use native.Mathlib.Nat.{le-antisymm}
 use native.Mathlib.Numerals.{add-one}
 use native.Mathlib.Omega.{arith}
-use lib.Dec.{ltb, eqb}
-use borrow.Author.Tests.{ltb-true, ltb-false, eqb-true, eqb-false}
-use Rattle.below.specs.Below.{pick, firstBelow, First, sumBelow}
+use lib.Dec.{ltb}
+use borrow.Author.Tests.{ltb-true, ltb-false}
+use Rattle.below.specs.Below.{pick, firstBelow, First}
 use Rattle.below.proofs.Tests.{by-cases, true-or-false, below-suc}
 
 pub firstBelow-first : (n : ℕ) (f : ℕ → Bool) → First n f (firstBelow n f)
@@ -70,35 +69,3 @@ module _ (p : ℕ → Bool) where
   first-low k n h = by-cases (ltb k (firstBelow n p))
       (λ e. true-or-false h (firstBelow-first n p .skipped k (ltb-true k (firstBelow n p) e)))
       (λ e. ltb-false k (firstBelow n p) e)
-
--- ---- a test that stays true once it is
-
--- a test that is false below g and true from g on, counted where it is false
-module _ (p : ℕ → Bool) (g : ℕ) where
-  below-sum : ((j : ℕ) → j < g → p j ≡ false) → (k : ℕ) → k ≤ g → sumBelow k (λ j. cond (p j) 0 1) ≡ k
-  unfolding sumBelow
-  below-sum lo zero l = refl
-  below-sum lo (suc k) l = rw (below-sum lo k (omega arith), lo k (omega arith)) (add-one k)
-
-  above-sum : ((j : ℕ) → j < g → p j ≡ false) → ((j : ℕ) → g ≤ j → p j ≡ true) → (m : ℕ) → sumBelow (g + m) (λ j. cond (p j) 0 1) ≡ g
-  unfolding sumBelow
-  above-sum lo hi zero = rw add-zero (below-sum lo g (omega arith))
-  above-sum lo hi (suc m) = rw (add-suc, above-sum lo hi m, hi (g + m) (omega arith)) (add-zero g)
-
-module _ (p : ℕ → Bool) (stays : (j : ℕ) → p j ≡ true → p (suc j) ≡ true) where
-  stays-on : (i k : ℕ) → i ≤ k → p i ≡ true → p k ≡ true
-  stays-on i zero l h = subst (λ (m : ℕ). p m ≡ true) (let e : i ≡ 0 = omega arith in e) h
-  stays-on i (suc k) l h =
-      by-cases (eqb i (suc k)) (λ e. subst (λ (m : ℕ). p m ≡ true) (eqb-true i (suc k) e) h) (λ e. let ne : i ≢ suc k = eqb-false i (suc k) e in stays k (stays-on i k (omega arith) h))
-
-  -- the least j with p j, counted: the j below k at which p does not hold yet
-  pub first-sum : (k n : ℕ) → k < n → p k ≡ true → sumBelow k (λ j. cond (p j) 0 1) ≡ firstBelow n p
-  first-sum k n l h =
-      let low : firstBelow n p ≤ k = first-low p k n h in
-      let e : firstBelow n p + (k - firstBelow n p) ≡ k = omega arith in
-      subst (λ (m : ℕ). sumBelow m (λ j. cond (p j) 0 1) ≡ firstBelow n p) e
-      (above-sum p (firstBelow n p) (firstBelow-first n p .skipped) (λ j m. stays-on (firstBelow n p) j m (firstBelow-first n p .found (omega arith))) (k - firstBelow n p))
-
-search-computes : firstBelow 300 (λ i. eqb i 250) ≡ 250
-unfolding firstBelow
-search-computes = refl

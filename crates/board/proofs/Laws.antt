@@ -27,7 +27,7 @@ use Rattle.small_plans.specs.declared.PlanAnswer.{PlanAnswer}
 use Rattle.board.specs.declared.answers.CallAnswer.{CallAnswer}
 use Rattle.board.specs.declared.answers.ChangeAnswer.{ChangeAnswer}
 use Rattle.board.specs.declared.answers.ReadAnswer.{ReadAnswer}
-use Rattle.board.specs.Told.{Says, SaysOfChange, SaysOfRead, CallTold, PlanTold, ReadTold, PressTold, SmallPlanTold, answerOf, pressAnswer, reportOf, planAnswerOf, changeAnswer, writeAnswer, readAnswer}
+use Rattle.board.specs.Told.{Says, SaysOfChange, SaysOfRead, CallTold, PlanTold, ReadTold, PressTold, SmallPlanTold, answerOf, pressAnswer, reportOf, planAnswerOf, changeAnswer, writingAnswer, readAnswer}
 
 pub call-told : (L : Limits) (t : Tables) (c : Call) (m : Reply) (r : CallAnswer) (t′ : Tables) → Answered (step L) t c m t′ → Says r (answerOf m) → CallTold L t c r t′
 call-told L t c m r t′ a e = record { told = rw (a .replied) at e; left = a .left }
@@ -61,7 +61,7 @@ press-told p q m r t′ a e s = subst (λ (x : PressAnswer). PressTold x r t′)
 pub small-plan-told : (k : ℕ) (before after : List ℕ) (m : PlanAnswer) (r : CallAnswer) → PlanGiven k before after m → Says r (planAnswerOf m) → SmallPlanTold k before after r
 small-plan-told k before after m r a e = record { told = rw (a .answer-is) at e; left = a .buffer-is }
 
-pub plan-told : (L : Limits) (t : Tables) (before after : List ℕ) (m : Writing) (r : CallAnswer) → PlanWritten L t before after m → Says r (writeAnswer m) → PlanTold L t before after r
+pub plan-told : (L : Limits) (t : Tables) (before after : List ℕ) (m : Writing) (r : CallAnswer) → PlanWritten L t before after m → Says r (writingAnswer m) → PlanTold L t before after r
 plan-told L t before after m r a e = record { told = rw (a .replied) at e; left = a .left }
 
 pub read-told : (a : reading.ReadingAnswer) (m : ReadingReply) (r : ReadAnswer) (t : Tables) → AnsweredAs a m t → SaysOfRead r (readAnswer m) → ReadTold a r t

@@ -21,14 +21,14 @@ use Rattle.board.specs.declared.answers.CallAnswer.{CallAnswer}
 use Rattle.board.specs.declared.answers.ChangeAnswer.{ChangeAnswer}
 use Rattle.board.specs.declared.answers.ReadAnswer.{ReadAnswer}
 
-abbrev pub answer : ℕ → ℕ → CallAnswer
-answer n w = record { number = n; detail = w }
+abbrev pub answerWith : ℕ → ℕ → CallAnswer
+answerWith n w = record { number = n; detail = w }
 
 -- "Of the others only 23 carries anything"
 abbrev pub answerOf : Reply → CallAnswer
-answerOf accepted = answer 0 0
-answerOf (refused n) = answer n 0
-answerOf (mustWait w) = answer 23 w
+answerOf accepted = answerWith 0 0
+answerOf (refused n) = answerWith n 0
+answerOf (mustWait w) = answerWith 23 w
 
 -- "When it would be done, it also gives the cost after it less the cost now": a refused preview carries the number alone
 abbrev pub changeAnswer : PreviewReply → ChangeAnswer
@@ -36,21 +36,21 @@ changeAnswer (wouldTurn z) = record { number = 0; change = z }
 changeAnswer (wouldRefuse n) = record { number = n; change = pos 0 }
 
 abbrev pub costAnswer : CostReply → CallAnswer
-costAnswer (costs n) = answer 0 n
-costAnswer (costRefused n) = answer n 0
+costAnswer (costs n) = answerWith 0 n
+costAnswer (costRefused n) = answerWith n 0
 
 abbrev pub roundsAnswer : RoundsReply → CallAnswer
-roundsAnswer (rounds n) = answer 0 n
-roundsAnswer (roundsRefused n) = answer n 0
+roundsAnswer (rounds n) = answerWith 0 n
+roundsAnswer (roundsRefused n) = answerWith n 0
 
-abbrev pub writeAnswer : Writing → CallAnswer
-writeAnswer (wrote n) = answer 0 n
-writeAnswer (writeRefused n) = answer n 0
+abbrev pub writingAnswer : Writing → CallAnswer
+writingAnswer (wrote n) = answerWith 0 n
+writingAnswer (writeRefused n) = answerWith n 0
 
 -- "a 32-bit number in which bit 0 stands for drone 0 and so on"
 abbrev pub pressAnswer : PressOutcome → CallAnswer
-pressAnswer (granted bits) = answer 0 bits
-pressAnswer (pressRefused n) = answer n 0
+pressAnswer (granted bits) = answerWith 0 bits
+pressAnswer (pressRefused n) = answerWith n 0
 
 -- "one arrival, if one was reported": 0 stands for nothing
 abbrev pub reportOf : ℕ → ℕ → Report
@@ -59,9 +59,9 @@ reportOf (suc n) d = Arrived d
 
 -- "15, no such plan, then 42"
 abbrev pub planAnswerOf : PlanAnswer → CallAnswer
-planAnswerOf (Length n) = answer 0 n
-planAnswerOf NoSuchPlan = answer 15 0
-planAnswerOf Short = answer 42 0
+planAnswerOf (Length n) = answerWith 0 n
+planAnswerOf NoSuchPlan = answerWith 15 0
+planAnswerOf Short = answerWith 42 0
 
 abbrev pub atOffset : ℕ → ℕ → ReadAnswer
 atOffset n o = record { number = n; offset = o; drone = 0; stop = 0; «other_drone» = 0; «other_stop» = 0 }
@@ -101,7 +101,7 @@ pub record CallTold (L : Limits) (t : Tables) (c : Call) (r : CallAnswer) (t′ 
 
 -- the writer replied r and left the buffer `after`
 pub record PlanTold (L : Limits) (t : Tables) (before after : List ℕ) (r : CallAnswer) : Type 0 where
-  pub told : Says r (writeAnswer (writes L t before))
+  pub told : Says r (writingAnswer (writes L t before))
   pub left : after ≡ bufferLeft L t before
 
 pub record ReadTold (a : ReadingAnswer) (r : ReadAnswer) (t : Tables) : Type 0 where

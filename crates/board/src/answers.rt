@@ -18,7 +18,7 @@ ghost use Rattle.flat.specs.TurnReplies.{turnMeant, turnAllMeant, previewMeant,
 ghost use Rattle.flat.specs.Writing.{writeMeant};
 ghost use Rattle.reading.specs.Replies.{refusalMeant, readingMeant};
 ghost use Rattle.handset.specs.Press.{pressMeant};
-ghost use Rattle.board.specs.Told.{pressAnswer, reportOf, Says, SaysOfChange, SaysOfRead, answerOf, changeAnswer, costAnswer, roundsAnswer, writeAnswer, readAnswer};
+ghost use Rattle.board.specs.Told.{pressAnswer, reportOf, Says, SaysOfChange, SaysOfRead, answerOf, changeAnswer, costAnswer, roundsAnswer, writingAnswer, readAnswer};
 
 // The detail: the dependency of a 23, the cost, the rounds, the length of the text, the granted drones of a press; 0 with every other reply.
 #[repr(C)]
@@ -294,7 +294,7 @@ pub fn of_rounds(reply: RoundsAnswer) -> CallAnswer
 }
 
 pub fn of_write(reply: WriteReply) -> CallAnswer
-    ensures { λ r. ⌜ Says r (writeAnswer (writeMeant reply)) ⌝ }
+    ensures { λ r. ⌜ Says r (writingAnswer (writeMeant reply)) ⌝ }
 {
     match reply {
         WriteReply::TablesTooSmall => CallAnswer {

@@ -22,7 +22,7 @@ use Rattle.lines.specs.declared.refusal.Refusal.the-variants as line
 use Rattle.plan.specs.declared.check.PlanCheck.{PlanCheck}
 use Rattle.plan.specs.declared.check.PlanCheck.the-variants as check
 use Rattle.plan.specs.Answers.{checkOf}
-use Rattle.plan.specs.Claims.{stopTotal, ownerIn, numberIn, locationIn, timeIn}
+use Rattle.plan.specs.Claims.{visitsIn}
 use Rattle.reading.specs.Replies.{ReadingReply, taken, refusedBy, readingNumber, lineMeant, checkMeant}
 use Rattle.reading.specs.Reading.{ReadingAnswer, AnsweredAs, withReply, total, withText, withDependencies, checked, fromLines, readLines, readPlan}
 use Rattle.reading.proofs.EntryCases.{tables-small}
@@ -59,7 +59,7 @@ module _ (L : Limits) where
   lines-not-41 z f (text.Refused r) = line-not-41 r
   lines-not-41 z f (text.WellFormed n) =
       let p = withText f n z .plan in
-      check-not-41 z (withText f n z) (checkOf (ownerIn p) (numberIn p) (locationIn p) (timeIn p) (stopTotal p))
+      check-not-41 z (withText f n z) (checkOf (visitsIn p))
 
   read-not-41 : (bytes : List ℕ) (z : Tables) → is-41 (readLines L bytes z) ≡ false
   unfolding readLines

@@ -3,7 +3,7 @@ use flat::turn_replies::TurnAllReply;
 use flat::turn_replies::TurnReply;
 use reading::replies::Reading;
 use reading::replies::Refusal;
-use tables::entries::Text;
+use tables::entries::MAX_TEXT;
 ghost use mathlib.Core.Path.{_≡_};
 ghost use Rattle.tables.specs.Limits.{limits};
 ghost use Rattle.log.specs.CallLog.{isAccepted};
@@ -44,7 +44,7 @@ pub fn are_turned(reply: TurnAllReply) -> bool
 pub fn is_written(reading: Reading, length: usize) -> bool
     ensures { λ r. ⌜ r ≡ isWritten limits length (readingMeant reading) ⌝ }
 {
-    if Text::FULL < length {
+    if MAX_TEXT < length {
         return false;
     }
     match reading {

@@ -10,7 +10,7 @@ use borrow.Author.Tests.{leb-true, le-leb}
 use Rattle.below.specs.Below.{at, allBelow, firstBelow}
 use Rattle.below.proofs.Tests.{by-cases, true-or-false, same-test}
 use Rattle.below.proofs.Every.{allBelow-at, allBelow-all}
-use Rattle.tables.specs.Limits.{limits}
+use Rattle.tables.specs.Limits.{Limits}
 use Rattle.precedence.specs.Graph.{Plan, Formed, free, finished, cyclic, Cycle, play, atStart}
 use Rattle.precedence.proofs.Rounds.{finished-at, finished-if, somebody-free}
 use Rattle.precedence.proofs.Visits.{acyclic-iff, never, walk-entered}
@@ -49,7 +49,7 @@ module _ (C : Course) (placed : PlacedWaits (C .own) (C .off) (C .last) (C .dron
   P-formed = formed own off last drones stops from into waits placed
 
   -- a walk can begin at the first stops
-  pub begun-first : (cur : List ℕ) → length cur ≡ limits .drones → ((d : ℕ) → d < drones → at cur d ≡ off d) → Begun C cur
+  pub begun-first : {L : Limits} (cur : List ℕ) → length cur ≡ L .drones → ((d : ℕ) → d < drones → at cur d ≡ off d) → Begun L C cur
   begun-first cur e s = record {
     size = e;
     low = λ d l. omega (arith, s d l);
@@ -57,7 +57,7 @@ module _ (C : Course) (placed : PlacedWaits (C .own) (C .off) (C .last) (C .dron
     kept = λ k l h. absurd (omega (arith, placed .into-later k l, s (own (into k)) (placed .shape .own-in (into k) (placed .into-in k l))));
   }
 
-  module _ {leg : ℕ → ℕ} {b : ℕ} {start cur t : List ℕ} (W : Walked C leg b start cur t) where
+  module _ {L : Limits} {leg : ℕ → ℕ} {b : ℕ} {start cur t : List ℕ} (W : Walked L C leg b start cur t) where
     finished-flat : allBelow drones (λ d. leb (off d + last d) (at cur d)) ≡ finished (planOf C) (progress C cur)
     finished-flat = same-test _ _
         (λ e. finished-if (planOf C) (progress C cur) (λ d l. omega (arith, W .places .low d l, leb-true (off d + last d) (at cur d) (allBelow-at drones (λ d. leb (off d + last d) (at cur d)) e d l))))

@@ -11,12 +11,13 @@ use Rattle.below.specs.Below.{at, pick, countBelow}
 use Rattle.below.proofs.Tests.{by-cases, true-or-false}
 use Rattle.below.proofs.Count.{count-yes, count-no, count-none}
 use Rattle.below.proofs.Index.{fill-more}
-use Rattle.tables.specs.Limits.{limits}
+use Rattle.tables.specs.Limits.{Limits}
 use Rattle.precedence.specs.Graph.{Fewer, Rising, cyclic}
 use Rattle.precedence.proofs.Ahead.{cyclic-fewer}
 use Rattle.precedence.proofs.Visits.{rising-acyclic, acyclic-iff}
 use Rattle.cycles.specs.Flat.{flatPlan, Shape, PlacedWaits, FlatTables}
 use Rattle.cycles.specs.Waits.{fromOf, intoOf, turnedIn, Edges, Unfixed, graphSound, Given}
+use Rattle.plan.specs.Visits.{Visits, visits, visitsOf}
 use Rattle.plan.specs.Dependencies.{right}
 use Rattle.meetings.specs.Meetings.{Steady}
 use Rattle.meetings.proofs.Right.{Entry, right-entry}
@@ -28,8 +29,8 @@ turned-more f k c x t e q p = by-cases (f k)
     (λ h. rw (count-yes k f h) (let z : x ≡ 1 = rw (q, h) at p in omega arith))
     (λ h. rw (count-no k f h) (let z : x ≡ 0 = rw (q, h) at p in omega arith))
 
-module _ (own off last loc time : ℕ → ℕ) (drones n m : ℕ) (xs ys : ℕ → ℕ) (turned : ℕ → Bool) where
-  pub right-placed : Shape own off last drones n → Steady own loc time n → ((v : ℕ) → v < n → v ≡ off (own v) → time v ≡ 0) → right own loc time n m xs ys ≡ true → Unfixed own off last loc time drones n m xs ys turned
+module _ (own num off last loc time : ℕ → ℕ) (drones n m : ℕ) (xs ys : ℕ → ℕ) (turned : ℕ → Bool) where
+  pub right-placed : Shape own off last drones n → Steady own loc time n → ((v : ℕ) → v < n → v ≡ off (own v) → time v ≡ 0) → right (visits own num loc time n) m xs ys ≡ true → Unfixed own off n m xs ys turned
       → PlacedWaits own off last drones n (fromOf xs ys turned) (intoOf xs ys turned) m
   right-placed shape steady zero-time e unfixed = record {
     shape = shape;
@@ -40,14 +41,14 @@ module _ (own off last loc time : ℕ → ℕ) (drones n m : ℕ) (xs ys : ℕ �
         (λ t. let ne : ys k ≢ off (own (ys k)) = λ q. omega (arith, entry k l .later, zero-time (ys k) (entry k l .second-in) q) in rw t (omega (arith, shape .off-le (ys k) (entry k l .second-in))));
   }
     where
-      entry : (k : ℕ) → k < m → Entry own loc time n steady m xs ys k
-      entry k l = right-entry own loc time n steady m xs ys e k l
+      entry : (k : ℕ) → k < m → Entry own num loc time n steady m xs ys k
+      entry k l = right-entry own num loc time n steady m xs ys e k l
 
-pub edges-none : (firsts seconds flags from into : List ℕ) → length from ≡ limits .dependencies → length into ≡ limits .dependencies → Edges firsts seconds flags 0 from into
+pub edges-none : {L : Limits} (firsts seconds flags from into : List ℕ) → length from ≡ L .dependencies → length into ≡ L .dependencies → Edges L firsts seconds flags 0 from into
 edges-none firsts seconds flags from into a b = record { from-size = a; into-size = b; from-is = λ j l. absurd (omega arith); into-is = λ j l. absurd (omega arith) }
 
-pub edges-more : (firsts seconds flags : List ℕ) (k : ℕ) (from into : List ℕ) (t : Bool) (x y : ℕ) → Edges firsts seconds flags k from into → k < limits .dependencies → t ≡ turnedIn flags k
-    → x ≡ pick t (at seconds k + 1) (at firsts k + 1) → y ≡ pick t (at firsts k) (at seconds k) → Edges firsts seconds flags (k + 1) (set from k x) (set into k y)
+pub edges-more : {L : Limits} (firsts seconds flags : List ℕ) (k : ℕ) (from into : List ℕ) (t : Bool) (x y : ℕ) → Edges L firsts seconds flags k from into → k < L .dependencies → t ≡ turnedIn flags k
+    → x ≡ pick t (at seconds k + 1) (at firsts k + 1) → y ≡ pick t (at firsts k) (at seconds k) → Edges L firsts seconds flags (k + 1) (set from k x) (set into k y)
 edges-more firsts seconds flags k from into t x y E l e ex ey = record {
   from-size = length-set from k x ∙ E .from-size;
   into-size = length-set into k y ∙ E .into-size;
@@ -83,27 +84,27 @@ module _ (own off last : ℕ → ℕ) (drones n m : ℕ) (from into from′ into
       back : Fewer (flatPlan own off last drones from′ into′ m) (flatPlan own off last drones from into m)
       back = record { drones-same = refl; last-same = λ d. refl; waits-in = λ k l. inr (k, l, sym (same-wait k l)) }
 
-module _ (own off last loc time : ℕ → ℕ) (drones n m : ℕ) (xs ys : ℕ → ℕ) (turned : ℕ → Bool) where
-  pub graph-wrong : right own loc time n m xs ys ≡ false → false ≡ graphSound own off last loc time drones n m xs ys turned
+module _ (S : Visits) (off last : ℕ → ℕ) (drones m : ℕ) (xs ys : ℕ → ℕ) (turned : ℕ → Bool) where
+  pub graph-wrong : right S m xs ys ≡ false → false ≡ graphSound S off last drones m xs ys turned
   unfolding graphSound
   graph-wrong e = rw e refl
 
-  pub graph-right : (c : Bool) → right own loc time n m xs ys ≡ true → c ≡ cyclic (flatPlan own off last drones (fromOf xs ys turned) (intoOf xs ys turned) m) → not c ≡ graphSound own off last loc time drones n m xs ys turned
+  pub graph-right : (c : Bool) → right S m xs ys ≡ true → c ≡ cyclic (flatPlan (S .own) off last drones (fromOf xs ys turned) (intoOf xs ys turned) m) → not c ≡ graphSound S off last drones m xs ys turned
   unfolding graphSound
   graph-right c e q = rw (e, q) refl
 
-module _ (owners locations times starts lasts firsts seconds flags : List ℕ) (drones n m : ℕ) (G : Given owners locations times starts lasts firsts seconds flags drones n m) (e : right (at owners) (at locations) (at times) n m (at firsts) (at seconds) ≡ true) where
-  given-entry : (k : ℕ) → k < m → Entry (at owners) (at locations) (at times) n (G .stops .steady) m (at firsts) (at seconds) k
-  given-entry k l = right-entry (at owners) (at locations) (at times) n (G .stops .steady) m (at firsts) (at seconds) e k l
+module _ {L : Limits} (owners numbers locations times starts lasts firsts seconds flags : List ℕ) (drones n m : ℕ) (G : Given L owners locations times starts lasts firsts seconds flags drones n m) (e : right (visitsOf owners numbers locations times n) m (at firsts) (at seconds) ≡ true) where
+  given-entry : (k : ℕ) → k < m → Entry (at owners) (at numbers) (at locations) (at times) n (G .stops .steady) m (at firsts) (at seconds) k
+  given-entry k l = right-entry (at owners) (at numbers) (at locations) (at times) n (G .stops .steady) m (at firsts) (at seconds) e k l
 
-  pub given-first : (k : ℕ) → k < m → at firsts k < limits .stops
+  pub given-first : (k : ℕ) → k < m → at firsts k < L .stops
   given-first k l = omega (arith, given-entry k l .first-in, G .stops .few)
 
-  pub given-second : (k : ℕ) → k < m → at seconds k < limits .stops
+  pub given-second : (k : ℕ) → k < m → at seconds k < L .stops
   given-second k l = omega (arith, given-entry k l .second-in, G .stops .few)
 
   given-placed : PlacedWaits (at owners) (at starts) (at lasts) drones n (fromOf (at firsts) (at seconds) (turnedIn flags)) (intoOf (at firsts) (at seconds) (turnedIn flags)) m
-  given-placed = right-placed (at owners) (at starts) (at lasts) (at locations) (at times) drones n m (at firsts) (at seconds) (turnedIn flags) (G .shape) (G .stops .steady) (G .zero-time) e (G .unfixed)
+  given-placed = right-placed (at owners) (at numbers) (at starts) (at lasts) (at locations) (at times) drones n m (at firsts) (at seconds) (turnedIn flags) (G .shape) (G .stops .steady) (G .zero-time) e (G .unfixed)
 
   -- nothing is turned: the planned times rise along every edge
   unturned-rising : ((k : ℕ) → k < m → turnedIn flags k ≡ false) → Rising (flatPlan (at owners) (at starts) (at lasts) drones (fromOf (at firsts) (at seconds) (turnedIn flags)) (intoOf (at firsts) (at seconds) (turnedIn flags)) m) (λ d s. at times (at starts d + s))
@@ -123,12 +124,12 @@ module _ (owners locations times starts lasts firsts seconds flags : List ℕ) (
           < at times (at starts (at owners (intoOf (at firsts) (at seconds) (turnedIn flags) k)) + (intoOf (at firsts) (at seconds) (turnedIn flags) k - at starts (at owners (intoOf (at firsts) (at seconds) (turnedIn flags) k))))
       across k l = rw (h k l) (rw (back (at firsts k + 1) (given-entry k l .next-in), back (at seconds k) (given-entry k l .second-in)) (given-entry k l .leaves))
 
-  pub given-unturned : (t : ℕ) → t ≡ countBelow m (turnedIn flags) → t ≡ 0 → true ≡ graphSound (at owners) (at starts) (at lasts) (at locations) (at times) drones n m (at firsts) (at seconds) (turnedIn flags)
-  given-unturned t q z = graph-right (at owners) (at starts) (at lasts) (at locations) (at times) drones n m (at firsts) (at seconds) (turnedIn flags) false e
+  pub given-unturned : (t : ℕ) → t ≡ countBelow m (turnedIn flags) → t ≡ 0 → true ≡ graphSound (visitsOf owners numbers locations times n) (at starts) (at lasts) drones m (at firsts) (at seconds) (turnedIn flags)
+  given-unturned t q z = graph-right (visitsOf owners numbers locations times n) (at starts) (at lasts) drones m (at firsts) (at seconds) (turnedIn flags) false e
       (sym (acyclic-iff _ (formed (at owners) (at starts) (at lasts) drones n _ _ m given-placed) .1 (rising-acyclic _ (unturned-rising (count-none m (turnedIn flags) (sym q ∙ z))))))
 
-  module _ (from into : List ℕ) (E : Edges firsts seconds flags m from into) where
-    pub given-tables : FlatTables owners starts lasts drones n from into m
+  module _ (from into : List ℕ) (E : Edges L firsts seconds flags m from into) where
+    pub given-tables : FlatTables L owners starts lasts drones n from into m
     given-tables = record {
       placed = same-placed (at owners) (at starts) (at lasts) drones n m (at from) (at into) _ _ (E .from-is) (E .into-is) given-placed;
       has-owners = G .stops .has-owners;

@@ -13,7 +13,7 @@ use Rattle.below.specs.Below.{at, pick, maxBelow}
 use Rattle.below.proofs.Tests.{by-cases, and-right, and-both, same-test}
 use Rattle.below.proofs.Count.{count-none, count-zero, count-past}
 use Rattle.below.proofs.Greatest.{max-ext, max-least}
-use Rattle.tables.specs.Limits.{limits}
+use Rattle.tables.specs.Limits.{Limits}
 use Rattle.cycles.specs.Walk.{Course, metAt, metFrom, unmet, latestMet, Needs}
 use Rattle.below.proofs.Same.{count-ext}
 use Rattle.below.proofs.Changes.{count-drop, max-raise}
@@ -85,11 +85,11 @@ module _ (C : Course) where
 
   -- ---- how many are not met
 
-  pub needs-same : (met met′ : ℕ → Bool) {need : List ℕ} → ((k : ℕ) → k < waits → met k ≡ met′ k) → Needs C met need → Needs C met′ need
+  pub needs-same : {L : Limits} (met met′ : ℕ → Bool) {need : List ℕ} → ((k : ℕ) → k < waits → met k ≡ met′ k) → Needs L C met need → Needs L C met′ need
   unfolding unmet
   needs-same met met′ same N = record { size = N .size; counted = λ v l. N .counted v l ∙ count-ext waits _ _ (λ k h. ap (λ (b : Bool). eqb (into k) v && not b) (same k h)) }
 
-  module _ {met : ℕ → Bool} {need : List ℕ} (N : Needs C met need) where
+  module _ {L : Limits} {met : ℕ → Bool} {need : List ℕ} (N : Needs L C met need) where
     -- nothing keeps anybody from stop v
     pub needs-none : (v : ℕ) → v < stops → at need v ≡ 0 → (k : ℕ) → k < waits → into k ≡ v → met k ≡ true
     unfolding unmet
@@ -123,8 +123,8 @@ module _ (C : Course) where
         (λ s. let z : k ≡ j = eqb-true k j s in let no : eqb (into j) v ≡ false = ne-eqb (into j) v (λ q. ne (sym q)) in rw (z, no) refl)
         (λ s. ap (λ (b : Bool). eqb (into k) v && not b) (others k h (eqb-false k j s))))
 
-    pub needs-meet : {need : List ℕ} → Needs C met need → (w x : ℕ) → w ≡ into j → w < stops → stops ≤ limits .stops → x + 1 ≡ at need w → Needs C met′ (set need w x)
-    needs-meet {need} N w x e i few ex = record {
+    pub needs-meet : {L : Limits} {need : List ℕ} → Needs L C met need → (w x : ℕ) → w ≡ into j → w < stops → stops ≤ L .stops → x + 1 ≡ at need w → Needs L C met′ (set need w x)
+    needs-meet {need = need} N w x e i few ex = record {
       size = length-set need w x ∙ N .size;
       counted = λ v h. by-cases (eqb v w)
           (λ s. rw (eqb-true v w s) (getD-set-same need w x 0 (omega (arith, N .size)) ∙ omega (arith, N .counted w i, rw (← e) at unmet-falls)))

@@ -12,12 +12,12 @@ use borrow.Author.Tests.{le-leb, lt-leb, eqb-true, eqb-false, eq-eqb, ne-eqb, lt
 use Rattle.below.specs.Below.{at, pick}
 use Rattle.below.proofs.Tests.{by-cases}
 use Rattle.below.proofs.Count.{count-start, count-yes, count-no, count-le}
-use Rattle.tables.specs.Limits.{limits}
+use Rattle.tables.specs.Limits.{Limits}
 use Rattle.cycles.specs.Flat.{FlatTables}
 use Rattle.cycles.specs.Walk.{metAt, unmet, canMove, Stacked, Ends}
 use Rattle.cycles.proofs.StackLaws.{stacked-none, stacked-same, stacked-push}
 
-pub flat-ends : (owners starts lasts : List ℕ) (drones n : ℕ) (from into : List ℕ) (m : ℕ) → FlatTables owners starts lasts drones n from into m → (k : ℕ) → k < m → Ends owners (at from k) (at into k)
+pub flat-ends : {L : Limits} (owners starts lasts : List ℕ) (drones n : ℕ) (from into : List ℕ) (m : ℕ) → FlatTables L owners starts lasts drones n from into m → (k : ℕ) → k < m → Ends L owners (at from k) (at into k)
 flat-ends owners starts lasts drones n from into m F k l =
     let a : at from k < n = F .placed .from-in k l in
     let b : at into k < n = F .placed .into-in k l in
@@ -30,13 +30,13 @@ flat-ends owners starts lasts drones n from into m F k l =
 
 -- ---- counts
 
-module _ (into : ℕ → ℕ) (met : ℕ → Bool) where
+module _ (L : Limits) (into : ℕ → ℕ) (met : ℕ → Bool) where
   -- the unmet ones of the first k waits are counted
   pub record Counted (k : ℕ) (need : List ℕ) : Type 0 where
-    pub size : length need ≡ limits .stops
-    pub counts : (v : ℕ) → v < limits .stops → at need v ≡ unmet into k met v
+    pub size : length need ≡ L .stops
+    pub counts : (v : ℕ) → v < L .stops → at need v ≡ unmet into k met v
 
-  pub counted-none : (need : List ℕ) → length need ≡ limits .stops → ((v : ℕ) → at need v ≡ 0) → Counted 0 need
+  pub counted-none : (need : List ℕ) → length need ≡ L .stops → ((v : ℕ) → at need v ≡ 0) → Counted 0 need
   unfolding unmet
   counted-none need e z = record { size = e; counts = λ v l. z v ∙ sym (count-start (λ k. eqb (into k) v && not (met k))) }
 
@@ -44,10 +44,10 @@ module _ (into : ℕ → ℕ) (met : ℕ → Bool) where
   unfolding unmet
   unmet-le k v = count-le k (λ k. eqb (into k) v && not (met k))
 
-  pub counted-le : {k : ℕ} {need : List ℕ} → Counted k need → (v : ℕ) → v < limits .stops → at need v ≤ k
+  pub counted-le : {k : ℕ} {need : List ℕ} → Counted k need → (v : ℕ) → v < L .stops → at need v ≤ k
   counted-le {k} N v l = omega (arith, N .counts v l, unmet-le k v)
 
-  pub counted-more : (k : ℕ) (need : List ℕ) (v x y : ℕ) → Counted k need → v ≡ into k → v < limits .stops → x ≡ pick (met k) 0 1 → y ≡ at need v + x → Counted (k + 1) (set need v y)
+  pub counted-more : (k : ℕ) (need : List ℕ) (v x y : ℕ) → Counted k need → v ≡ into k → v < L .stops → x ≡ pick (met k) 0 1 → y ≡ at need v + x → Counted (k + 1) (set need v y)
   unfolding unmet
   counted-more k need v x y N e l ex ey = record {
     size = length-set need v y ∙ N .size;
@@ -62,33 +62,33 @@ module _ (into : ℕ → ℕ) (met : ℕ → Bool) where
 
 -- ---- the first stack
 
-module _ (drones : ℕ) (few : drones ≤ limits .drones) (can : ℕ → Bool) where
-  -- the drones below e that can move are on it
-  abbrev pub below : ℕ → ℕ → Bool
-  below e d = ltb d e && can d
+-- of the drones that can move, those below e
+abbrev pub below : (ℕ → Bool) → ℕ → ℕ → Bool
+below can e d = ltb d e && can d
 
-  pub below-none : (stack : List ℕ) → length stack ≡ limits .drones → Stacked drones (below 0) stack 0
-  below-none stack e = stacked-none drones stack e (below 0) (λ d l. rw (le-ltb d 0 (omega arith)) refl)
+module _ {L : Limits} (drones : ℕ) (few : drones ≤ L .drones) (can : ℕ → Bool) where
+  pub below-none : (stack : List ℕ) → length stack ≡ L .drones → Stacked L drones (below can 0) stack 0
+  below-none stack e = stacked-none drones stack e (below can 0) (λ d l. rw (le-ltb d 0 (omega arith)) refl)
 
-  module _ (e : ℕ) (l : e < drones) {stack : List ℕ} {top : ℕ} (S : Stacked drones (below e) stack top) where
-    same : (d : ℕ) → d ≢ e → below e d ≡ below (e + 1) d
+  module _ (e : ℕ) (l : e < drones) {stack : List ℕ} {top : ℕ} (S : Stacked L drones (below can e) stack top) where
+    same : (d : ℕ) → d ≢ e → below can e d ≡ below can (e + 1) d
     same d ne = by-cases (ltb d e)
         (λ t. let z : ltb d (e + 1) ≡ true = lt-ltb d (e + 1) (omega (arith, ltb-true d e t)) in rw (t, z) refl)
         (λ t. let z : ltb d (e + 1) ≡ false = le-ltb d (e + 1) (omega (arith, ltb-false d e t)) in rw (t, z) refl)
 
-    now-off : below e e ≡ false
+    now-off : below can e e ≡ false
     now-off = rw (le-ltb e e (omega arith)) refl
 
-    here : below (e + 1) e ≡ can e
+    here : below can (e + 1) e ≡ can e
     here = rw (lt-ltb e (e + 1) (omega arith)) refl
 
-    pub below-skip : can e ≡ false → Stacked drones (below (e + 1)) stack top
+    pub below-skip : can e ≡ false → Stacked L drones (below can (e + 1)) stack top
     below-skip e0 = stacked-same drones _ _ (λ d k. by-cases (eqb d e) (λ s. rw (eqb-true d e s) (now-off ∙ sym (here ∙ e0))) (λ s. same d (eqb-false d e s))) S
 
-    pub below-push : can e ≡ true → Stacked drones (below (e + 1)) (set stack top e) (top + 1)
+    pub below-push : can e ≡ true → Stacked L drones (below can (e + 1)) (set stack top e) (top + 1)
     below-push e1 = stacked-push drones S _ e few l now-off (here ∙ e1) (λ d k ne. same d ne)
 
-  pub below-end : {e : ℕ} {stack : List ℕ} {top : ℕ} → drones ≤ e → Stacked drones (below e) stack top → Stacked drones can stack top
+  pub below-end : {e : ℕ} {stack : List ℕ} {top : ℕ} → drones ≤ e → Stacked L drones (below can e) stack top → Stacked L drones can stack top
   below-end {e} h S = stacked-same drones _ _ (λ d l. rw (lt-ltb d e (omega arith)) refl) S
 
 -- ---- the tests with the values that the code has read

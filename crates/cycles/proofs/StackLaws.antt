@@ -14,7 +14,7 @@ use Rattle.below.proofs.Tests.{by-cases, true-or-false}
 use Rattle.below.proofs.Count.{count-start, count-yes, count-no, count-past}
 use Rattle.below.proofs.Greatest.{pigeonhole}
 use Rattle.below.proofs.Index.{put-same, put-other}
-use Rattle.tables.specs.Limits.{limits}
+use Rattle.tables.specs.Limits.{Limits}
 use Rattle.cycles.specs.Walk.{Stacked}
 use Rattle.below.proofs.Same.{count-ext}
 
@@ -30,14 +30,14 @@ pick-none : (b : Bool) → pick b 1 0 ≡ 0 → b ≡ false
 pick-none true h = absurd (omega arith)
 pick-none false h = refl
 
-module _ (drones : ℕ) where
-  pub stacked-none : (stack : List ℕ) → length stack ≡ limits .drones → (can : ℕ → Bool) → ((d : ℕ) → d < drones → can d ≡ false) → Stacked drones can stack 0
+module _ {L : Limits} (drones : ℕ) where
+  pub stacked-none : (stack : List ℕ) → length stack ≡ L .drones → (can : ℕ → Bool) → ((d : ℕ) → d < drones → can d ≡ false) → Stacked L drones can stack 0
   stacked-none stack e can none = record { size = e; within = λ i l. absurd (omega arith); once = λ d l. rw (none d l) (count-start (λ i. eqb (at stack i) d)) }
 
-  pub stacked-same : (can can′ : ℕ → Bool) {stack : List ℕ} {top : ℕ} → ((d : ℕ) → d < drones → can d ≡ can′ d) → Stacked drones can stack top → Stacked drones can′ stack top
+  pub stacked-same : (can can′ : ℕ → Bool) {stack : List ℕ} {top : ℕ} → ((d : ℕ) → d < drones → can d ≡ can′ d) → Stacked L drones can stack top → Stacked L drones can′ stack top
   stacked-same can can′ same S = record { size = S .size; within = S .within; once = λ d l. S .once d l ∙ ap (λ (b : Bool). pick b 1 0) (same d l) }
 
-  module _ {can : ℕ → Bool} {stack : List ℕ} {top : ℕ} (S : Stacked drones can stack top) where
+  module _ {can : ℕ → Bool} {stack : List ℕ} {top : ℕ} (S : Stacked L drones can stack top) where
     pub stacked-empty : top ≤ 0 → (d : ℕ) → d < drones → can d ≡ false
     stacked-empty h d l = let z : top ≡ 0 = omega arith in pick-none (can d) (sym (S .once d l) ∙ rw z (count-start (λ i. eqb (at stack i) d)))
 
@@ -80,7 +80,7 @@ module _ (drones : ℕ) where
             stacked-apart i j a (omega arith) (sym (put-other (at stack) drones c i (λ w. omega arith)) ∙ q ∙ put-other (at stack) drones c j z))
 
     -- drone c, which is now to be on it, is put on top
-    pub stacked-push : (can′ : ℕ → Bool) (c : ℕ) → drones ≤ limits .drones → c < drones → can c ≡ false → can′ c ≡ true → ((d : ℕ) → d < drones → d ≢ c → can d ≡ can′ d) → Stacked drones can′ (set stack top c) (top + 1)
+    pub stacked-push : (can′ : ℕ → Bool) (c : ℕ) → drones ≤ L .drones → c < drones → can c ≡ false → can′ c ≡ true → ((d : ℕ) → d < drones → d ≢ c → can d ≡ can′ d) → Stacked L drones can′ (set stack top c) (top + 1)
     stacked-push can′ c few l e e′ same = record {
       size = length-set stack top c ∙ S .size;
       within = λ i k. by-cases (eqb i top)
@@ -103,7 +103,7 @@ module _ (drones : ℕ) where
         below d = count-ext top _ _ (λ i k. ap (λ (x : ℕ). eqb x d) (getD-set-other stack top i c 0 (λ w. omega arith)))
 
     -- the drone on top, which is now not to be on it, is taken off
-    pub stacked-pop : (can′ : ℕ → Bool) → 0 < top → can′ (at stack (top - 1)) ≡ false → ((d : ℕ) → d < drones → d ≢ at stack (top - 1) → can d ≡ can′ d) → Stacked drones can′ stack (top - 1)
+    pub stacked-pop : (can′ : ℕ → Bool) → 0 < top → can′ (at stack (top - 1)) ≡ false → ((d : ℕ) → d < drones → d ≢ at stack (top - 1) → can d ≡ can′ d) → Stacked L drones can′ stack (top - 1)
     stacked-pop can′ h e same = record {
       size = S .size;
       within = λ i l. S .within i (omega arith);
@@ -118,7 +118,7 @@ module _ (drones : ℕ) where
         one-less : (d : ℕ) → countBelow (top - 1 + 1) (λ i. eqb (at stack i) d) ≡ countBelow top (λ i. eqb (at stack i) d)
         one-less d = ap (λ (x : ℕ). countBelow x (λ i. eqb (at stack i) d)) (let z : top - 1 + 1 ≡ top = omega arith in z)
 
-  pub stacked-few : {can : ℕ → Bool} {stack : List ℕ} {top : ℕ} → Stacked drones can stack top → 0 < top → top ≤ drones
+  pub stacked-few : {can : ℕ → Bool} {stack : List ℕ} {top : ℕ} → Stacked L drones can stack top → 0 < top → top ≤ drones
   stacked-few {can} {stack} {top} S h = omega (arith, stacked-room (stacked-pop S (λ d. can d && not (eqb d (at stack (top - 1)))) h off others) (at stack (top - 1)) (S .within (top - 1) (omega arith)) off)
     where
       off : (can (at stack (top - 1)) && not (eqb (at stack (top - 1)) (at stack (top - 1)))) ≡ false

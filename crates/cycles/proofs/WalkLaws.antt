@@ -13,7 +13,7 @@ use borrow.Author.Tests.{ltb-true, lt-ltb, leb-true, leb-false, eqb-true, eqb-fa
 use Rattle.below.specs.Below.{at, pick}
 use Rattle.below.proofs.Tests.{by-cases, true-or-false, and-left, and-right, and-both}
 use Rattle.below.proofs.Sum.{sum-less}
-use Rattle.tables.specs.Limits.{limits}
+use Rattle.tables.specs.Limits.{Limits}
 use Rattle.precedence.specs.Graph.{Plan, Formed, free, play, atStart}
 use Rattle.precedence.proofs.Rounds.{round-free, round-le, free-unfinished, free-if, free-open}
 use Rattle.precedence.proofs.Ahead.{round-ahead, fewer-refl}
@@ -81,7 +81,7 @@ module _ (C : Course) (placed : PlacedWaits (C .own) (C .off) (C .last) (C .dron
   here-own cur d l a b = let e : off d + (cur d - off d) ≡ cur d = omega arith in subst (λ (v : ℕ). own v ≡ d) e (placed .shape .place-own d (cur d - off d) l (omega arith))
 
   -- the test is that of the plan's rounds
-  module _ {start cur need : List ℕ} (S : Places C start cur) (N : Needs C (metAt own from (at cur)) need) (d : ℕ) (l : d < drones) where
+  module _ {L : Limits} {start cur need : List ℕ} (S : Places L C start cur) (N : Needs L C (metAt own from (at cur)) need) (d : ℕ) (l : d < drones) where
     pub can-free : canMove off last (at cur) (at need) d ≡ true → free (planOf C) (progress C cur) d ≡ true
     can-free e = free-if (planOf C) (progress C cur) d (omega (arith, S .low d l, o)) (λ w h a b.
         let q : into w ≡ at cur d + 1 = omega (arith, b, ap off a, S .low d l, placed .into-later w h) in
@@ -102,9 +102,9 @@ module _ (C : Course) (placed : PlacedWaits (C .own) (C .off) (C .last) (C .dron
 
   -- ---- a drone moves
 
-  module _ {leg : ℕ → ℕ} {g b : ℕ} (legs : (v : ℕ) → leg v ≤ g) (few : stops ≤ limits .stops) (few-drones : drones ≤ limits .drones) {start cur need stack t : List ℕ} {top : ℕ} (W : Walking C leg g b start (metAt own from (at cur)) cur need stack top t)
+  module _ {L : Limits} {leg : ℕ → ℕ} {g b : ℕ} (legs : (v : ℕ) → leg v ≤ g) (few : stops ≤ L .stops) (few-drones : drones ≤ L .drones) {start cur need stack t : List ℕ} {top : ℕ} (W : Walking L C leg g b start (metAt own from (at cur)) cur need stack top t)
       (room : 0 < top) (d x y : ℕ) (ed : d ≡ at stack (top - 1)) (ex : x ≡ at cur d + 1) where
-    S : Places C start cur
+    S : Places L C start cur
     S = W .places
 
     pub mover-in : d < drones
@@ -133,7 +133,7 @@ module _ (C : Course) (placed : PlacedWaits (C .own) (C .off) (C .last) (C .dron
         (λ s. let z : c ≡ d = eqb-true c d s in subst (λ (y : ℕ). K y (at (set cur d x) y)) (sym z) (rw here p))
         (λ s. rw (elsewhere c (eqb-false c d s)) (q c))
 
-    pub places-move : Places C start (set cur d x)
+    pub places-move : Places L C start (set cur d x)
     places-move = record {
       size = length-set cur d x ∙ S .size;
       low = λ c k. each (λ c y. c < drones → off c ≤ y) (λ q. omega (arith, S .low d q)) (λ c q. S .low c q) c k;
@@ -148,7 +148,7 @@ module _ (C : Course) (placed : PlacedWaits (C .own) (C .off) (C .last) (C .dron
     met-after : (k : ℕ) → k < waits → metAt own from (at cur) k ≡ metFrom C (at (set cur d x)) x waits k
     met-after = met-moved C (at cur) (at (set cur d x)) d x own-next ex here elsewhere
 
-    stacked-move : (r : ℕ) → r ≡ pick (canMove off last (at (set cur d x)) (at need) d) top (top - 1) → Stacked drones (canMove off last (at (set cur d x)) (at need)) stack r
+    stacked-move : (r : ℕ) → r ≡ pick (canMove off last (at (set cur d x)) (at need) d) top (top - 1) → Stacked L drones (canMove off last (at (set cur d x)) (at need)) stack r
     stacked-move r er = by-cases (canMove off last (at (set cur d x)) (at need) d)
         (λ e. let z : r ≡ top = rw e at er in
         rw z (stacked-same drones _ _ (λ c k. by-cases (eqb c d) (λ s. rw (eqb-true c d s) (mover-can ∙ sym e)) (λ s. same c (eqb-false c d s))) (W .stacked)))
@@ -166,7 +166,7 @@ module _ (C : Course) (placed : PlacedWaits (C .own) (C .off) (C .last) (C .dron
     was-visited : (v : ℕ) → v ≢ x → v ≤ at (set cur d x) (own v) → v ≤ at cur (own v)
     was-visited v ne = each (λ c y. v ≤ y → v ≤ at cur c) (λ h. omega arith) (λ c h. h) (own v)
 
-    E : Entries C leg g b start (metAt own from (at cur)) cur t
+    E : Entries L C leg g b start (metAt own from (at cur)) cur t
     E = W .entries
 
     reserve : g * left C (at (set cur d x)) + g ≤ g * left C (at cur)
@@ -191,7 +191,7 @@ module _ (C : Course) (placed : PlacedWaits (C .own) (C .off) (C .last) (C .dron
         E .visited T R (x - 1) (omega (arith, mover-next)) (let q : x - 1 ≡ at cur d = omega arith in rw (q, here-own (at cur) d mover-in (S .low d mover-in) (S .high d mover-in)) (omega arith)),
       )
 
-      entries-move : Entries C leg g b start (metAt own from (at cur)) (set cur d x) (set t x y)
+      entries-move : Entries L C leg g b start (metAt own from (at cur)) (set cur d x) (set t x y)
       entries-move = record {
         size = length-set t x y ∙ E .size;
         past = λ v h. stored (λ v z. stops ≤ v → z ≡ 0) (λ h. absurd (omega (arith, mover-next))) v (λ ne h. E .past v h) h;
@@ -203,16 +203,16 @@ module _ (C : Course) (placed : PlacedWaits (C .own) (C .off) (C .last) (C .dron
             (λ ne h i. E .awaiting T R v h (each (λ c y. y < v → at cur c < v) (λ j. omega arith) (λ c j. j) (own v) i)) h i;
       }
 
-      entries-after : Entries C leg g b start (metFrom C (at (set cur d x)) x waits) (set cur d x) (set t x y)
-      entries-after = let M : Entries C leg g b start (metAt own from (at cur)) (set cur d x) (set t x y) = entries-move in
+      entries-after : Entries L C leg g b start (metFrom C (at (set cur d x)) x waits) (set cur d x) (set t x y)
+      entries-after = let M : Entries L C leg g b start (metAt own from (at cur)) (set cur d x) (set t x y) = entries-move in
           record { size = M .size; past = M .past; small = M .small; kept = λ k h i. sym (met-after k h) ∙ M .kept k h i; visited = M .visited; awaiting = λ T R v h i. M .awaiting T R v h i ∙ latest-same C _ _ T v met-after }
 
-      pub walking-move : (r : ℕ) → r ≡ pick (canMove off last (at (set cur d x)) (at need) d) top (top - 1) → Walking C leg g b start (metFrom C (at (set cur d x)) x waits) (set cur d x) need stack r (set t x y)
+      pub walking-move : (r : ℕ) → r ≡ pick (canMove off last (at (set cur d x)) (at need) d) top (top - 1) → Walking L C leg g b start (metFrom C (at (set cur d x)) x waits) (set cur d x) need stack r (set t x y)
       walking-move r er = record { places = places-move; needs = needs-same C _ _ met-after (W .needs); stacked = stacked-move r er; entries = entries-after }
 
   -- ---- the same waits are met
 
-  pub walking-same : {leg : ℕ → ℕ} {g b : ℕ} {start cur need stack t : List ℕ} {top : ℕ} (met met′ : ℕ → Bool) → ((k : ℕ) → k < waits → met k ≡ met′ k) → Walking C leg g b start met cur need stack top t → Walking C leg g b start met′ cur need stack top t
+  pub walking-same : {L : Limits} {leg : ℕ → ℕ} {g b : ℕ} {start cur need stack t : List ℕ} {top : ℕ} (met met′ : ℕ → Bool) → ((k : ℕ) → k < waits → met k ≡ met′ k) → Walking L C leg g b start met cur need stack top t → Walking L C leg g b start met′ cur need stack top t
   walking-same met met′ same W = record {
     places = W .places;
     needs = needs-same C met met′ same (W .needs);
@@ -222,9 +222,9 @@ module _ (C : Course) (placed : PlacedWaits (C .own) (C .off) (C .last) (C .dron
 
   -- ---- wait j is met, which is for the visited stop v
 
-  module _ {leg : ℕ → ℕ} {g b : ℕ} (few : stops ≤ limits .stops) (few-drones : drones ≤ limits .drones) (met met′ : ℕ → Bool) (j : ℕ) (l : j < waits) (was : met j ≡ false) (now : met′ j ≡ true) (others : (k : ℕ) → k < waits → k ≢ j → met k ≡ met′ k)
-      {start cur need stack t : List ℕ} {top : ℕ} (W : Walking C leg g b start met cur need stack top t) (w x y z : ℕ) (ew : w ≡ into j) (ex : x + 1 ≡ at need w) (ez : z ≡ at t (from j)) (ey : y ≡ max (at t w) z) (seen : from j ≤ at cur (own (from j))) where
-    F : Entries C leg g b start met cur t
+  module _ {L : Limits} {leg : ℕ → ℕ} {g b : ℕ} (few : stops ≤ L .stops) (few-drones : drones ≤ L .drones) (met met′ : ℕ → Bool) (j : ℕ) (l : j < waits) (was : met j ≡ false) (now : met′ j ≡ true) (others : (k : ℕ) → k < waits → k ≢ j → met k ≡ met′ k)
+      {start cur need stack t : List ℕ} {top : ℕ} (W : Walking L C leg g b start met cur need stack top t) (w x y z : ℕ) (ew : w ≡ into j) (ex : x + 1 ≡ at need w) (ez : z ≡ at t (from j)) (ey : y ≡ max (at t w) z) (seen : from j ≤ at cur (own (from j))) where
+    F : Entries L C leg g b start met cur t
     F = W .entries
 
     waiter-in : w < stops
@@ -241,7 +241,7 @@ module _ (C : Course) (placed : PlacedWaits (C .own) (C .off) (C .last) (C .dron
         (λ e. let q : v ≡ w = eqb-true v w e in subst (λ (j : ℕ). K j (at (set t w y) j)) (sym q) (rw (getD-set-same t w y 0 (omega (arith, F .size, waiter-in))) new))
         (λ e. rw (getD-set-other t w v y 0 (eqb-false v w e)) (old (eqb-false v w e)))
 
-    entries-meet : Entries C leg g b start met′ cur (set t w y)
+    entries-meet : Entries L C leg g b start met′ cur (set t w y)
     entries-meet = record {
       size = length-set t w y ∙ F .size;
       past = λ v h. put-in (λ v u. stops ≤ v → u ≡ 0) (λ h. absurd (omega (arith, waiter-in))) v (λ ne h. F .past v h) h;
@@ -254,7 +254,7 @@ module _ (C : Course) (placed : PlacedWaits (C .own) (C .off) (C .last) (C .dron
           (λ ne h i. F .awaiting T R v h i ∙ latest-stays C met met′ j l was now others T v (λ q. ne (q ∙ sym ew))) h i;
     }
 
-    needs-after : Needs C met′ (set need w x)
+    needs-after : Needs L C met′ (set need w x)
     needs-after = needs-meet C met met′ j l was now others (W .needs) w x ew waiter-in few ex
 
     need-here : at (set need w x) w ≡ x
@@ -268,7 +268,7 @@ module _ (C : Course) (placed : PlacedWaits (C .own) (C .off) (C .last) (C .dron
     can-others c k ne = can-same (at cur) (at cur) (at need) (at (set need w x)) c refl (λ h. sym (getD-set-other need w (at cur c + 1) x 0 (λ q. ne (sym (next-own (at cur) (W .places .low) c k h) ∙ ap own q) q)))
 
     -- nobody can move that could not
-    pub walking-quiet : (at cur (own w) + 1 ≡ w → x ≢ 0) → Walking C leg g b start met′ cur (set need w x) stack top (set t w y)
+    pub walking-quiet : (at cur (own w) + 1 ≡ w → x ≢ 0) → Walking L C leg g b start met′ cur (set need w x) stack top (set t w y)
     walking-quiet still = record { places = W .places; needs = needs-after; stacked = stacked-same drones _ _ same (W .stacked); entries = entries-meet }
       where
         same : (c : ℕ) → c < drones → canMove off last (at cur) (at need) c ≡ canMove off last (at cur) (at (set need w x)) c
@@ -281,7 +281,7 @@ module _ (C : Course) (placed : PlacedWaits (C .own) (C .off) (C .last) (C .dron
             (λ s. can-others c k (λ e. eqb-false _ _ s))
 
     -- its drone can move
-    pub walking-wake : at cur (own w) + 1 ≡ w → x ≡ 0 → (top < limits .drones) × Walking C leg g b start met′ cur (set need w x) (set stack top (own w)) (top + 1) (set t w y)
+    pub walking-wake : at cur (own w) + 1 ≡ w → x ≡ 0 → (top < L .drones) × Walking L C leg g b start met′ cur (set need w x) (set stack top (own w)) (top + 1) (set t w y)
     walking-wake e z = (
       omega (arith, stacked-room drones (W .stacked) (own w) waiter-drone could-not),
       record { places = W .places; needs = needs-after; stacked = stacked-push drones (W .stacked) _ (own w) few-drones waiter-drone could-not can (λ c k ne. can-others c k (λ q. absurd (ne q))); entries = entries-meet },
@@ -295,8 +295,8 @@ module _ (C : Course) (placed : PlacedWaits (C .own) (C .off) (C .last) (C .dron
 
   -- ---- the start and the end
 
-  pub walking-start : {leg : ℕ → ℕ} {g b : ℕ} {start need stack t : List ℕ} {top : ℕ} → Begun C start → Needs C (metAt own from (at start)) need → Stacked drones (canMove off last (at start) (at need)) stack top → length t ≡ limits .stops → ((v : ℕ) → at t v ≡ 0) → g * left C (at start) ≤ b
-      → Walking C leg g b start (metAt own from (at start)) start need stack top t
+  pub walking-start : {L : Limits} {leg : ℕ → ℕ} {g b : ℕ} {start need stack t : List ℕ} {top : ℕ} → Begun L C start → Needs L C (metAt own from (at start)) need → Stacked L drones (canMove off last (at start) (at need)) stack top → length t ≡ L .stops → ((v : ℕ) → at t v ≡ 0) → g * left C (at start) ≤ b
+      → Walking L C leg g b start (metAt own from (at start)) start need stack top t
   walking-start {start = start} B N K size zeros h = record {
     places = record { size = B .size; low = B .low; high = B .high; onward = λ d l. omega arith; reached = λ r. r };
     needs = N;
@@ -311,7 +311,7 @@ module _ (C : Course) (placed : PlacedWaits (C .own) (C .off) (C .last) (C .dron
     };
   }
 
-  pub walking-end : {leg : ℕ → ℕ} {g b : ℕ} {start cur need stack t : List ℕ} {top : ℕ} → top ≤ 0 → Walking C leg g b start (metAt own from (at cur)) cur need stack top t → Walked C leg b start cur t
+  pub walking-end : {L : Limits} {leg : ℕ → ℕ} {g b : ℕ} {start cur need stack t : List ℕ} {top : ℕ} → top ≤ 0 → Walking L C leg g b start (metAt own from (at cur)) cur need stack top t → Walked L C leg b start cur t
   walking-end {cur = cur} h W = record {
     places = W .places;
     none-free = λ d l. by-cases (free (planOf C) (progress C cur) d) (λ e. true-or-false (free-can (W .places) (W .needs) d l e) (stacked-empty drones (W .stacked) h d l)) (λ e. e);

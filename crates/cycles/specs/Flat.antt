@@ -5,7 +5,7 @@ use mathlib.Core.List.{List}
 use Prim.Native.Nat.{ℕ, _+_, _-_, _≤_, _<_}
 use lib.ListN.{length}
 use Rattle.below.specs.Below.{at}
-use Rattle.tables.specs.Limits.{limits}
+use Rattle.tables.specs.Limits.{Limits}
 use Rattle.precedence.specs.Graph.{Plan}
 
 -- the plan that they make
@@ -33,9 +33,9 @@ pub record PlacedWaits (own off last : ℕ → ℕ) (drones n : ℕ) (from into 
   pub into-later : (k : ℕ) → k < m → off (own (into k)) < into k
 
 -- tables of such a plan, within the limits
-pub record FlatTables (owners starts lasts : List ℕ) (drones n : ℕ) (from into : List ℕ) (m : ℕ) : Type 0 where
+pub record FlatTables (L : Limits) (owners starts lasts : List ℕ) (drones n : ℕ) (from into : List ℕ) (m : ℕ) : Type 0 where
   pub placed : PlacedWaits (at owners) (at starts) (at lasts) drones n (at from) (at into) m
   pub has-owners : n ≤ length owners
-  pub few-stops : n ≤ limits .stops
-  pub few-waits : m ≤ limits .dependencies
-  pub few-drones : drones ≤ limits .drones
+  pub few-stops : n ≤ L .stops
+  pub few-waits : m ≤ L .dependencies
+  pub few-drones : drones ≤ L .drones

@@ -2,8 +2,8 @@
 use mathlib.Core.List.{List}
 use Prim.Native.Nat.{ℕ}
 use Rattle.below.specs.Below as below
-use Rattle.tables.specs.Limits.{limits}
+use Rattle.tables.specs.Limits.{Limits}
 
 -- the links of the first m waits, wait k being for stop `from k`
-abbrev pub Linked : (from : ℕ → ℕ) (m : ℕ) (head next : List ℕ) → Type 0
-Linked = below.Linked (limits .stops) (limits .dependencies)
+abbrev pub Linked : (L : Limits) (from : ℕ → ℕ) (m : ℕ) (head next : List ℕ) → Type 0
+Linked L = below.Linked (L .stops) (L .dependencies)

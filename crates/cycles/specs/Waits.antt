@@ -7,9 +7,10 @@ use mathlib.Core.List.{List}
 use Prim.Native.Nat.{ℕ, _+_, _≤_, _<_}
 use lib.ListN.{length}
 use Rattle.below.specs.Below.{at, pick}
-use Rattle.tables.specs.Limits.{limits}
+use Rattle.tables.specs.Limits.{Limits}
 use Rattle.tables.specs.Flags.{turnedBit}
 use Rattle.precedence.specs.Graph.{cyclic}
+use Rattle.plan.specs.Visits.{Visits}
 use Rattle.plan.specs.Dependencies.{right}
 use Rattle.meetings.specs.Asked.{Stops, PairTable}
 use Rattle.cycles.specs.Flat.{flatPlan, Shape}
@@ -26,28 +27,27 @@ abbrev pub turnedIn : List ℕ → ℕ → Bool
 turnedIn flags k = turnedBit (at flags k)
 
 -- from and into hold the waits of the first k dependencies
-pub record Edges (firsts seconds flags : List ℕ) (k : ℕ) (from into : List ℕ) : Type 0 where
-  pub from-size : length from ≡ limits .dependencies
-  pub into-size : length into ≡ limits .dependencies
+pub record Edges (L : Limits) (firsts seconds flags : List ℕ) (k : ℕ) (from into : List ℕ) : Type 0 where
+  pub from-size : length from ≡ L .dependencies
+  pub into-size : length into ≡ L .dependencies
   pub from-is : (j : ℕ) → j < k → at from j ≡ fromOf (at firsts) (at seconds) (turnedIn flags) j
   pub into-is : (j : ℕ) → j < k → at into j ≡ intoOf (at firsts) (at seconds) (turnedIn flags) j
 
-module _ (own off last loc time : ℕ → ℕ) (drones n m : ℕ) (xs ys : ℕ → ℕ) (turned : ℕ → Bool) where
-  -- of a turned dependency, which is not fixed, the waits need this much: its first stop is no stop 0, and its second is not the last of all n stops
-  abbrev pub Unfixed : Type 0
-  Unfixed = (k : ℕ) → k < m → turned k ≡ true → (xs k ≢ off (own (xs k))) × (ys k + 1 < n)
+-- of a turned dependency, which is not fixed, the waits need this much: its first stop is no stop 0, and its second is not the last of all n stops
+abbrev pub Unfixed : (own off : ℕ → ℕ) (n m : ℕ) (xs ys : ℕ → ℕ) (turned : ℕ → Bool) → Type 0
+Unfixed own off n m xs ys turned = (k : ℕ) → k < m → turned k ≡ true → (xs k ≢ off (own (xs k))) × (ys k + 1 < n)
 
-  -- the table is right, and its graph, with the turns in force, has no cycle
-  unfoldable pub graphSound : Bool
-  graphSound = right own loc time n m xs ys && not (cyclic (flatPlan own off last drones (fromOf xs ys turned) (intoOf xs ys turned) m))
+-- the table is right, and its graph, with the turns in force, has no cycle
+unfoldable pub graphSound : (S : Visits) (off last : ℕ → ℕ) (drones m : ℕ) (xs ys : ℕ → ℕ) (turned : ℕ → Bool) → Bool
+graphSound S off last drones m xs ys turned = right S m xs ys && not (cyclic (flatPlan (S .own) off last drones (fromOf xs ys turned) (intoOf xs ys turned) m))
 
 -- what the two checks ask of the tables, all of it known from the tests of single stops and of flag bytes
-pub record Given (owners locations times starts lasts firsts seconds flags : List ℕ) (drones n m : ℕ) : Type 0 where
-  pub stops : Stops n owners locations times
+pub record Given (L : Limits) (owners locations times starts lasts firsts seconds flags : List ℕ) (drones n m : ℕ) : Type 0 where
+  pub stops : Stops L n owners locations times
   pub table : PairTable m firsts seconds
   pub shape : Shape (at owners) (at starts) (at lasts) drones n
   pub zero-time : (v : ℕ) → v < n → v ≡ at starts (at owners v) → at times v ≡ 0
-  pub unfixed : Unfixed (at owners) (at starts) (at lasts) (at locations) (at times) drones n m (at firsts) (at seconds) (turnedIn flags)
+  pub unfixed : Unfixed (at owners) (at starts) n m (at firsts) (at seconds) (turnedIn flags)
   pub has-flags : m ≤ length flags
-  pub few-drones : drones ≤ limits .drones
-  pub few-waits : m ≤ limits .dependencies
+  pub few-drones : drones ≤ L .drones
+  pub few-waits : m ≤ L .dependencies

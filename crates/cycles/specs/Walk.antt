@@ -7,7 +7,7 @@ use Prim.Native.Nat.{ℕ, _+_, _*_, _-_, _≤_, _<_, max}
 use lib.Dec.{ltb, leb, eqb}
 use lib.ListN.{length, set}
 use Rattle.below.specs.Below.{at, pick, countBelow, sumBelow, maxBelow}
-use Rattle.tables.specs.Limits.{limits}
+use Rattle.tables.specs.Limits.{Limits}
 use Rattle.precedence.specs.Graph.{Plan, Ahead, play, atStart, free}
 use Rattle.cycles.specs.Flat.{flatPlan}
 
@@ -48,11 +48,11 @@ abbrev pub legOfOne : ℕ → ℕ
 legOfOne v = 1
 
 -- the stops of a wait have entries in the tables, and so has the drone that is awaited
-pub record Ends (owners : List ℕ) (a b : ℕ) : Type 0 where
-  pub from-small : a < limits .stops
+pub record Ends (L : Limits) (owners : List ℕ) (a b : ℕ) : Type 0 where
+  pub from-small : a < L .stops
   pub from-owned : a < length owners
-  pub awaited-small : at owners a < limits .drones
-  pub into-small : b < limits .stops
+  pub awaited-small : at owners a < L .drones
+  pub into-small : b < L .stops
 
 -- drone d has moved on to its next stop v, and v has its entry: its leg after the greater of what it has and of the entry before it
 pub record Advanced (leg : ℕ → ℕ) (d : ℕ) (cur cur′ t t′ : List ℕ) (v : ℕ) : Type 0 where
@@ -72,8 +72,8 @@ pub record Met (owners cur : List ℕ) (w entry top : ℕ) (need need′ stack s
   pub quiet : (Wakes owners cur need w → ⊥) → (stack′ ≡ stack) × (r ≡ top)
 
 -- the stack holds each drone that passes `can` once, and no other
-pub record Stacked (drones : ℕ) (can : ℕ → Bool) (stack : List ℕ) (top : ℕ) : Type 0 where
-  pub size : length stack ≡ limits .drones
+pub record Stacked (L : Limits) (drones : ℕ) (can : ℕ → Bool) (stack : List ℕ) (top : ℕ) : Type 0 where
+  pub size : length stack ≡ L .drones
   pub within : (i : ℕ) → i < top → at stack i < drones
   pub once : (d : ℕ) → d < drones → countBelow top (λ i. eqb (at stack i) d) ≡ pick (can d) 1 0
 
@@ -104,39 +104,42 @@ module _ (C : Course) where
     pub at-visited : (v : ℕ) → v < stops → v ≤ start (own v) → t v ≡ 0
     pub at-unvisited : (v : ℕ) → v < stops → start (own v) < v → t v ≡ leg v + max (t (v - 1)) (maxBelow waits (λ k. pick (eqb (into k) v) (t (from k)) 0))
 
+module _ (L : Limits) (C : Course) where
+  open Course C using (own, off, last, drones, stops, from, into, waits)
+
   -- ---- what holds at each step of the walk from `start`; `met` are the waits met so far
 
   -- the drones stand at stops of theirs, and have come there by moves that they may make
   pub record Places (start cur : List ℕ) : Type 0 where
-    pub size : length cur ≡ limits .drones
+    pub size : length cur ≡ L .drones
     pub low : (d : ℕ) → d < drones → off d ≤ at cur d
     pub high : (d : ℕ) → d < drones → at cur d ≤ off d + last d
     pub onward : (d : ℕ) → d < drones → at start d ≤ at cur d
-    pub reached : Reached planOf (progress start) → Reached planOf (progress cur)
+    pub reached : Reached (planOf C) (progress C start) → Reached (planOf C) (progress C cur)
 
   -- a count of the unmet waits into each stop
   pub record Needs (met : ℕ → Bool) (need : List ℕ) : Type 0 where
-    pub size : length need ≡ limits .stops
+    pub size : length need ≡ L .stops
     pub counted : (v : ℕ) → v < stops → at need v ≡ unmet into waits met v
 
   -- a visited stop has its entry of the table of rounds, any other the greatest of what its met waits await. No leg is longer than g, and no entry is greater than b
   pub record Entries (leg : ℕ → ℕ) (g b : ℕ) (start : List ℕ) (met : ℕ → Bool) (cur t : List ℕ) : Type 0 where
-    pub size : length t ≡ limits .stops
+    pub size : length t ≡ L .stops
     pub past : (v : ℕ) → stops ≤ v → at t v ≡ 0
-    pub small : (v : ℕ) → at t v + g * left (at cur) ≤ b
+    pub small : (v : ℕ) → at t v + g * left C (at cur) ≤ b
     pub kept : (k : ℕ) → k < waits → into k ≤ at cur (own (into k)) → met k ≡ true
-    pub visited : (T : ℕ → ℕ) → RoundTable leg (at start) T → (v : ℕ) → v < stops → v ≤ at cur (own v) → at t v ≡ T v
-    pub awaiting : (T : ℕ → ℕ) → RoundTable leg (at start) T → (v : ℕ) → v < stops → at cur (own v) < v → at t v ≡ latestMet met T v
+    pub visited : (T : ℕ → ℕ) → RoundTable C leg (at start) T → (v : ℕ) → v < stops → v ≤ at cur (own v) → at t v ≡ T v
+    pub awaiting : (T : ℕ → ℕ) → RoundTable C leg (at start) T → (v : ℕ) → v < stops → at cur (own v) < v → at t v ≡ latestMet C met T v
 
   pub record Walking (leg : ℕ → ℕ) (g b : ℕ) (start : List ℕ) (met : ℕ → Bool) (cur need stack : List ℕ) (top : ℕ) (t : List ℕ) : Type 0 where
     pub places : Places start cur
     pub needs : Needs met need
-    pub stacked : Stacked drones (canMove off last (at cur) (at need)) stack top
+    pub stacked : Stacked L drones (canMove off last (at cur) (at need)) stack top
     pub entries : Entries leg g b start met cur t
 
   -- the waits for the visited stop v are gone through from the greatest on: `link` is one more than the next of them, 0 if there is none
   pub record Meeting (leg : ℕ → ℕ) (g b : ℕ) (start cur : List ℕ) (v link : ℕ) (need stack : List ℕ) (top : ℕ) (t : List ℕ) : Type 0 where
-    pub walking : Walking leg g b start (metFrom (at cur) v link) cur need stack top t
+    pub walking : Walking leg g b start (metFrom C (at cur) v link) cur need stack top t
     pub stop-in : v < stops
     pub seen : v ≤ at cur (own v)
     pub within : link ≤ waits
@@ -146,7 +149,7 @@ module _ (C : Course) where
 
   -- drones at stops of theirs, "for every dependency whose waiting stop is visited .., the stop it waits for is visited"
   pub record Begun (cur : List ℕ) : Type 0 where
-    pub size : length cur ≡ limits .drones
+    pub size : length cur ≡ L .drones
     pub low : (d : ℕ) → d < drones → off d ≤ at cur d
     pub high : (d : ℕ) → d < drones → at cur d ≤ off d + last d
     pub kept : (k : ℕ) → k < waits → into k ≤ at cur (own (into k)) → metAt own from (at cur) k ≡ true
@@ -154,8 +157,8 @@ module _ (C : Course) where
   -- nobody can move, and every visited stop has its entry of the table of rounds
   pub record Walked (leg : ℕ → ℕ) (b : ℕ) (start cur t : List ℕ) : Type 0 where
     pub places : Places start cur
-    pub none-free : (d : ℕ) → d < drones → free planOf (progress cur) d ≡ false
-    pub size : length t ≡ limits .stops
+    pub none-free : (d : ℕ) → d < drones → free (planOf C) (progress C cur) d ≡ false
+    pub size : length t ≡ L .stops
     pub past : (v : ℕ) → stops ≤ v → at t v ≡ 0
     pub small : (v : ℕ) → at t v ≤ b
-    pub visited : (T : ℕ → ℕ) → RoundTable leg (at start) T → (v : ℕ) → v < stops → v ≤ at cur (own v) → at t v ≡ T v
+    pub visited : (T : ℕ → ℕ) → RoundTable C leg (at start) T → (v : ℕ) → v < stops → v ≤ at cur (own v) → at t v ≡ T v

@@ -8,10 +8,13 @@ use tables::entries::Drone;
 use tables::entries::Stop;
 ghost use mathlib.Core.Bool.{true};
 ghost use mathlib.Core.Path.{_≡_};
+ghost use mathlib.Core.List.{List};
+ghost use Prim.Native.Nat.{ℕ};
 ghost use lib.ListN.{length};
 ghost use Rattle.below.specs.Below.{at};
 ghost use Rattle.tables.specs.Limits.{limits};
 ghost use Rattle.precedence.specs.Graph.{cyclic};
+ghost use Rattle.plan.specs.Visits.{visitsOf};
 ghost use Rattle.cycles.specs.Flat.{flatPlan, FlatTables};
 ghost use Rattle.cycles.specs.Waits.{turnedIn, Edges, Given, graphSound};
 
@@ -26,7 +29,7 @@ pub fn has_cycle(
     into: &[u16; Dependency::FULL],
     m: usize,
 ) -> bool
-    requires { ⌜ FlatTables (now owners) (now starts) (now lasts) drones n (now from) (now into) m ⌝ }
+    requires { ⌜ FlatTables limits (now owners) (now starts) (now lasts) drones n (now from) (now into) m ⌝ }
     ensures { λ r. ⌜ r ≡ cyclic (flatPlan (at (now (owners .entry))) (at (now (starts .entry))) (at (now (lasts .entry))) drones (at (now (from .entry))) (at (now (into .entry))) m) ⌝ }
 {
     let mut cur = [0u16; Drone::FULL];
@@ -62,8 +65,8 @@ pub fn graph_sound(
     from: &mut [u16; Dependency::FULL],
     into: &mut [u16; Dependency::FULL],
 ) -> bool
-    requires { ⌜ Given (now owners) (now locations) (now times) (now starts) (now lasts) (now from) (now into) (now flags) drones n m × (length (now from) ≡ limits .dependencies) × (length (now into) ≡ limits .dependencies) ⌝ }
-    ensures { λ r. ⌜ (r ≡ graphSound (at (now (owners .entry))) (at (now (starts .entry))) (at (now (lasts .entry))) (at (now (locations .entry))) (at (now (times .entry))) drones n m (at (now (from .entry))) (at (now (into .entry))) (turnedIn (now (flags .entry)))) × (r ≡ true → Edges (now (from .entry)) (now (into .entry)) (now (flags .entry)) m (now (from .exit)) (now (into .exit))) ⌝ }
+    requires { ⌜ Given limits (now owners) (now locations) (now times) (now starts) (now lasts) (now from) (now into) (now flags) drones n m × (length (now from) ≡ limits .dependencies) × (length (now into) ≡ limits .dependencies) ⌝ }
+    ensures { λ r. ⌜ ((numbers : List ℕ) → r ≡ graphSound (visitsOf (now (owners .entry)) numbers (now (locations .entry)) (now (times .entry)) n) (at (now (starts .entry))) (at (now (lasts .entry))) drones m (at (now (from .entry))) (at (now (into .entry))) (turnedIn (now (flags .entry)))) × (r ≡ true → Edges limits (now (from .entry)) (now (into .entry)) (now (flags .entry)) m (now (from .exit)) (now (into .exit))) ⌝ }
 {
     if !meetings::dependencies_right(owners, locations, times, n, from, into, m) {
         return false;

@@ -18,7 +18,7 @@ pub fn link(
 )
     requires { ⌜ (m ≤ limits .dependencies) × ((k : ℕ) → k < m → at (now from) k < limits .stops) ⌝ }
     requires { ⌜ (length (now head) ≡ limits .stops) × (length (now next) ≡ limits .dependencies) × ((v : ℕ) → at (now head) v ≡ 0) ⌝ }
-    ensures { λ _. ⌜ Linked (at (now (from .entry))) m (now (head .exit)) (now (next .exit)) ⌝ }
+    ensures { λ _. ⌜ Linked limits (at (now (from .entry))) m (now (head .exit)) (now (next .exit)) ⌝ }
 {
     let mut k = 0;
     while k < m {

@@ -43,7 +43,7 @@ pub fn make_waits(
 )
     requires { ⌜ (m ≤ length (now flags)) × (m ≤ limits .dependencies) × ((k : ℕ) → k < m → at (now from) k < limits .stops) × ((k : ℕ) → k < m → at (now into) k < limits .stops) ⌝ }
     requires { ⌜ (length (now from) ≡ limits .dependencies) × (length (now into) ≡ limits .dependencies) ⌝ }
-    ensures { λ _. ⌜ Edges (now (from .entry)) (now (into .entry)) (now (flags .entry)) m (now (from .exit)) (now (into .exit)) ⌝ }
+    ensures { λ _. ⌜ Edges limits (now (from .entry)) (now (into .entry)) (now (flags .entry)) m (now (from .exit)) (now (into .exit)) ⌝ }
 {
     let mut k = 0;
     while k < m {

@@ -41,7 +41,7 @@ fn unmet_waits(
     m: usize,
     cur: &[u16; Drone::FULL],
 ) -> [u16; Stop::FULL]
-    requires { ⌜ (m ≤ limits .dependencies) × ((k : ℕ) → k < m → Ends (now owners) (at (now from) k) (at (now into) k)) ⌝ }
+    requires { ⌜ (m ≤ limits .dependencies) × ((k : ℕ) → k < m → Ends limits (now owners) (at (now from) k) (at (now into) k)) ⌝ }
     ensures { λ r. ⌜ (length r ≡ limits .stops) × ((v : ℕ) → v < limits .stops → at r v ≡ unmet (at (now (into .entry))) m (metAt (at (now (owners .entry))) (at (now (from .entry))) (at (now (cur .entry)))) v) ⌝ }
 {
     let mut need = [0u16; Stop::FULL];
@@ -82,7 +82,7 @@ fn stack_movers(
     stack: &mut [u8; Drone::FULL],
 ) -> usize
     requires { ⌜ (drones ≤ limits .drones) × ((d : ℕ) → d < drones → at (now starts) d + at (now lasts) d < limits .stops) × (length (now stack) ≡ limits .drones) ⌝ }
-    ensures { λ r. ⌜ Stacked drones (canMove (at (now (starts .entry))) (at (now (lasts .entry))) (at (now (cur .entry))) (at (now (need .entry)))) (now (stack .exit)) r ⌝ }
+    ensures { λ r. ⌜ Stacked limits drones (canMove (at (now (starts .entry))) (at (now (lasts .entry))) (at (now (cur .entry))) (at (now (need .entry)))) (now (stack .exit)) r ⌝ }
 {
     let mut top = 0;
     let mut d = 0;
@@ -177,9 +177,9 @@ pub fn walk(
     cur: &mut [u16; Drone::FULL],
     table: &mut [u16; Stop::FULL],
 )
-    requires { ⌜ FlatTables (now owners) (now starts) (now lasts) drones n (now from) (now into) m × Begun (course (now owners) (now starts) (now lasts) drones n (now from) (now into) m) (now cur) ⌝ }
+    requires { ⌜ FlatTables limits (now owners) (now starts) (now lasts) drones n (now from) (now into) m × Begun limits (course (now owners) (now starts) (now lasts) drones n (now from) (now into) m) (now cur) ⌝ }
     requires { ⌜ (length (now table) ≡ limits .stops) × ((v : ℕ) → at (now table) v ≡ 0) ⌝ }
-    ensures { λ _. ⌜ Walked (course (now (owners .entry)) (now (starts .entry)) (now (lasts .entry)) drones n (now (from .entry)) (now (into .entry)) m) legOfOne (limits .stops - 1) (now (cur .entry)) (now (cur .exit)) (now (table .exit)) ⌝ }
+    ensures { λ _. ⌜ Walked limits (course (now (owners .entry)) (now (starts .entry)) (now (lasts .entry)) drones n (now (from .entry)) (now (into .entry)) m) legOfOne (limits .stops - 1) (now (cur .entry)) (now (cur .exit)) (now (table .exit)) ⌝ }
 {
     let mut head = [0u16; Stop::FULL];
     let mut next = [0u16; Dependency::FULL];

@@ -1,5 +1,4 @@
 pub mod Entries
-pub mod SameStops
 pub mod SameClauses
 pub mod SameNumbering
 pub mod SameSound

@@ -6,8 +6,8 @@ use lib.Dec.{eqb, leb}
 use Rattle.below.specs.Below.{allBelow}
 use Rattle.below.proofs.Every.{allBelow-ext}
 use Rattle.precedence.specs.Graph.{Wait}
-use Rattle.plan.specs.Field.{Dependency, FieldPlan, inForce, graph, fixed, AcceptedPlan, PlansAgree}
-use Rattle.plan.specs.Status.{Status, entered, fixedUnturned, withinStops, waitsKept}
+use Rattle.plan.specs.Field.{Dependency, FieldPlan, Status, inForce, graph, fixed, AcceptedPlan, PlansAgree}
+use Rattle.plan.specs.Status.{entered, fixedUnturned, withinStops, waitsKept}
 use Rattle.log.specs.Demand.{Agree}
 use Rattle.log.proofs.SameStatus.{graphs-agree, graph-in}
 
@@ -42,5 +42,5 @@ module _ (F G : FieldPlan) (plans : PlansAgree F G) (accepted : AcceptedPlan F) 
     pub waits-same : waitsKept F s ≡ waitsKept G s′
     unfolding waitsKept
     waits-same = all-same (F .count) (G .count) _ _ (plans .counts-agree) (λ w l.
-        kept-same (graph F (s .turned) .wait w) (waiter-in (s .turned w) w l) (graph-in F accepted (s .turned) w l)
-        ∙ ap (λ (z : Wait). not (entered G s′ (z .waiter) (z .stop)) || leb (z .until) (s′ .place (z .awaited))) (graphs-agree F G plans (s .turned) (s′ .turned) (agree .turns) .waits-agree w l))
+        kept-same (graph F s .wait w) (waiter-in (s .turned w) w l) (graph-in F accepted s w l)
+        ∙ ap (λ (z : Wait). not (entered G s′ (z .waiter) (z .stop)) || leb (z .until) (s′ .place (z .awaited))) (graphs-agree F G plans s s′ (agree .turns) .waits-agree w l))

@@ -1,6 +1,6 @@
 -- Two plans in lists that have the same entries up to the full sizes: where the counts are in their ranges, the stops are numbered alike, and the plan check and the
 -- dependencies are the same. Assumes nothing.
-use mathlib.Core.Path.{_≡_, ap, _∙_, fun-ext}
+use mathlib.Core.Path.{_≡_, refl, ap, _∙_, fun-ext}
 use Prim.Native.Nat.{ℕ, suc, _-_, _*_, _≤_, _<_}
 use native.Mathlib.Omega.{arith}
 use lib.Dec.{ltb}
@@ -10,11 +10,12 @@ use Rattle.below.proofs.Sum.{sum-ext}
 use Rattle.tables.specs.Limits.{Limits}
 use Rattle.tables.specs.Tables.{PlanLists, drones, dependencies}
 use Rattle.plan.specs.Stops.{start, owner, number}
+use Rattle.plan.specs.Visits.{visits}
 use Rattle.plan.specs.Check.{firstFault, apart}
 use Rattle.plan.specs.Answers.{checkOf}
 use Rattle.plan.specs.Dependencies.{dependencyTotal, column}
-use Rattle.plan.specs.Claims.{stopTotal, ownerIn, numberIn, locationIn, timeIn}
-use Rattle.demands.proofs.SameStops.{apart-same, total-same, column-same, firstFault-same, check-same}
+use Rattle.plan.specs.Claims.{stopTotal, ownerIn, numberIn, locationIn, timeIn, visitsIn}
+use Rattle.plan.proofs.Agree.{apart-same, total-same, column-same, firstFault-same, check-same}
 
 -- the same entries up to the full sizes
 pub record PlanEntriesAgree (L : Limits) (p p′ : PlanLists) : Type 0 where
@@ -69,30 +70,28 @@ module _ (L : Limits) (p p′ : PlanLists) (same : PlanEntriesAgree L p p′) (f
     time-same : (v : ℕ) → v < stopTotal p → timeIn p v ≡ timeIn p′ v
     time-same v l = same .times v (omega arith)
 
-    pub check-is : checkOf (ownerIn p) (numberIn p) (locationIn p) (timeIn p) (stopTotal p) ≡ checkOf (ownerIn p′) (numberIn p′) (locationIn p′) (timeIn p′) (stopTotal p′)
+    pub check-is : checkOf (visitsIn p) ≡ checkOf (visitsIn p′)
     check-is =
-        check-same (ownerIn p) (numberIn p) (locationIn p) (locationIn p′) (timeIn p) (timeIn p′) (stopTotal p) location-same time-same
-        ∙ (λ i. checkOf (owners i) (numbers i) (locationIn p′) (timeIn p′) (stops i))
+        check-same (visitsIn p) (ownerIn p) (numberIn p) (locationIn p′) (timeIn p′) (λ v l. refl) location-same time-same (λ v l. refl)
+        ∙ (λ i. checkOf (visits (owners i) (numbers i) (locationIn p′) (timeIn p′) (stops i)))
 
-    pub fault-is : firstFault (numberIn p) (locationIn p) (timeIn p) (stopTotal p) ≡ firstFault (numberIn p′) (locationIn p′) (timeIn p′) (stopTotal p′)
+    pub fault-is : firstFault (visitsIn p) ≡ firstFault (visitsIn p′)
     fault-is =
-        firstFault-same (ownerIn p) (numberIn p) (locationIn p) (locationIn p′) (timeIn p) (timeIn p′) (stopTotal p) location-same time-same
-        ∙ (λ i. firstFault (numbers i) (locationIn p′) (timeIn p′) (stops i))
+        firstFault-same (visitsIn p) (ownerIn p) (numberIn p) (locationIn p′) (timeIn p′) (λ v l. refl) location-same time-same (λ v l. refl)
+        ∙ (λ i. firstFault (visits (owners i) (numbers i) (locationIn p′) (timeIn p′) (stops i)))
 
-    pub apart-is : apart (ownerIn p) (locationIn p) (timeIn p) (stopTotal p) ≡ apart (ownerIn p′) (locationIn p′) (timeIn p′) (stopTotal p′)
+    pub apart-is : apart (visitsIn p) ≡ apart (visitsIn p′)
     apart-is =
-        apart-same (ownerIn p) (numberIn p) (locationIn p) (locationIn p′) (timeIn p) (timeIn p′) (stopTotal p) location-same time-same
-        ∙ (λ i. apart (owners i) (locationIn p′) (timeIn p′) (stops i))
+        apart-same (visitsIn p) (ownerIn p) (numberIn p) (locationIn p′) (timeIn p′) (λ v l. refl) location-same time-same
+        ∙ (λ i. apart (visits (owners i) (numbers i) (locationIn p′) (timeIn p′) (stops i)))
 
-    pub total-is : dependencyTotal (ownerIn p) (locationIn p) (timeIn p) (stopTotal p) ≡ dependencyTotal (ownerIn p′) (locationIn p′) (timeIn p′) (stopTotal p′)
+    pub total-is : dependencyTotal (visitsIn p) ≡ dependencyTotal (visitsIn p′)
     total-is =
-        total-same (ownerIn p) (numberIn p) (locationIn p) (locationIn p′) (timeIn p) (timeIn p′) (stopTotal p) location-same time-same
-        ∙ (λ i. dependencyTotal (owners i) (locationIn p′) (timeIn p′) (stops i))
+        total-same (visitsIn p) (ownerIn p) (numberIn p) (locationIn p′) (timeIn p′) (λ v l. refl) location-same time-same
+        ∙ (λ i. dependencyTotal (visits (owners i) (numbers i) (locationIn p′) (timeIn p′) (stops i)))
 
     -- a column of values that depend on the numbering alone
-    pub column-is : (f : (own num : ℕ → ℕ) (n : ℕ) → ℕ → ℕ → ℕ)
-        → column (ownerIn p) (locationIn p) (timeIn p) (stopTotal p) (f (ownerIn p) (numberIn p) (stopTotal p))
-        ≡ column (ownerIn p′) (locationIn p′) (timeIn p′) (stopTotal p′) (f (ownerIn p′) (numberIn p′) (stopTotal p′))
+    pub column-is : (f : (own num : ℕ → ℕ) (n : ℕ) → ℕ → ℕ → ℕ) → column (visitsIn p) (f (ownerIn p) (numberIn p) (stopTotal p)) ≡ column (visitsIn p′) (f (ownerIn p′) (numberIn p′) (stopTotal p′))
     column-is f =
-        column-same (ownerIn p) (numberIn p) (locationIn p) (locationIn p′) (timeIn p) (timeIn p′) (stopTotal p) location-same time-same _
-        ∙ (λ i. column (owners i) (locationIn p′) (timeIn p′) (stops i) (f (owners i) (numbers i) (stops i)))
+        column-same (visitsIn p) (ownerIn p) (numberIn p) (locationIn p′) (timeIn p′) (λ v l. refl) location-same time-same _ _ (λ v w l k. refl)
+        ∙ (λ i. column (visits (owners i) (numbers i) (locationIn p′) (timeIn p′) (stops i)) (f (owners i) (numbers i) (stops i)))

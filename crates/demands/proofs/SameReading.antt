@@ -12,7 +12,7 @@ use borrow.Author.Tests.{leb-true}
 use Rattle.below.specs.Below.{laid}
 use Rattle.below.proofs.Pairs.{length-listed}
 use Rattle.tables.specs.Limits.{Limits}
-use Rattle.tables.specs.Tables.{PlanLists, Tables, tablesOf, drones, fullSize}
+use Rattle.tables.specs.Tables.{PlanLists, Tables, tablesOf, drones, fullSize, eachTable}
 use Rattle.tables.specs.Zero.{zeroedTables}
 use Rattle.tables.proofs.Zero.{zeroed-drop}
 use Rattle.text.specs.LinesRead.{LinesRead, linesAt, flat}
@@ -22,12 +22,12 @@ use Rattle.text.specs.Written.{rowsOf, countsOf, locationsOf, timesOf}
 use Rattle.text.proofs.TakenIsWritten.{TextTaken, text-taken}
 use Rattle.text.proofs.Sizes.{names-many, counts-many, stops-within, times-many}
 use Rattle.plan.specs.Dependencies.{follows, flagOf}
-use Rattle.plan.specs.Claims.{stopTotal, ownerIn, numberIn, locationIn, timeIn}
+use Rattle.plan.specs.Claims.{stopTotal, ownerIn, numberIn, visitsIn}
 use Rattle.reading.specs.Replies.{ReadingReply, taken, isTaken, checkMeant}
 use Rattle.reading.specs.Reading.{ReadingAnswer, withReply, withText, total, plannedList, withDependencies, checkIn, built, checked, fromLines, readLines, readPlan}
 use Rattle.accepted.proofs.PlanHeld.{HoldsRoutes, total-is as stops-are}
 use Rattle.accepted.proofs.ReadSound.{stored-holds}
-use Rattle.demands.specs.FullSizes.{eachTable, upToFull, pastFull, AgreeUpToFull}
+use Rattle.demands.specs.FullSizes.{upToFull, pastFull, AgreeUpToFull}
 use Rattle.demands.proofs.Entries.{take-sets, drop-sets, take-laid, drop-laid, take-zeroed}
 use Rattle.demands.proofs.SameNumbering.{check-is, total-is, column-is}
 use Rattle.demands.proofs.SameCalls.{same-tables, full-same}
@@ -124,20 +124,20 @@ module _ (L : Limits) (t : Tables) (full : fullSize L t ≡ true) (text : List �
   w : TextTaken L text n (linesAt L text)
   w = text-taken L text n taken
 
-  abbrev stored : Tables
-  stored = withText (linesAt L text) n (zeroedTables L t)
+  abbrev afterText : Tables
+  afterText = withText (linesAt L text) n (zeroedTables L t)
 
-  held : HoldsRoutes L (w .routes) (stored .plan)
-  held = stored-holds L t full (linesAt L text) n (w .routes) (w .many) (w .valid) (w .read)
+  held : HoldsRoutes L (w .routes) (afterText .plan)
+  held = stored-holds L t full (linesAt L text) n (w .routes) (w .many) (w .in-limits) (w .read)
 
-  pub drones-few : drones (stored .plan) ≤ L .drones
-  drones-few = omega (arith, held .drones-are, w .valid .1)
+  pub drones-few : drones (afterText .plan) ≤ L .drones
+  drones-few = omega (arith, held .drones-are, w .in-limits .1)
 
-  pub stops-few : stopTotal (stored .plan) ≤ L .stops
-  stops-few = omega (arith, stops-are L (w .routes) (w .valid) (stored .plan) held, stops-within L (w .routes) (w .valid))
+  pub stops-few : stopTotal (afterText .plan) ≤ L .stops
+  stops-few = omega (arith, stops-are L (w .routes) (w .in-limits) (afterText .plan) held, stops-within L (w .routes) (w .in-limits))
 
   -- nothing past a full size
-  routes-past : pastFull L stored ≡ pastFull L (zeroedTables L t)
+  routes-past : pastFull L afterText ≡ pastFull L (zeroedTables L t)
   routes-past =
       let z = zeroedTables L t .plan in
       let f = linesAt L text in
@@ -146,10 +146,10 @@ module _ (L : Limits) (t : Tables) (full : fullSize L t ≡ true) (text : List �
       let counts : f .counts ≡ countsOf ds = ap (λ (g : LinesRead LinesAnswer). g .counts) (w .read) in
       let locations : f .locations ≡ locationsOf ds = ap (λ (g : LinesRead LinesAnswer). g .locations) (w .read) in
       let times : f .times ≡ timesOf ds = ap (λ (g : LinesRead LinesAnswer). g .times) (w .read) in
-      let names-fit : length (flat (f .rows)) ≤ L .drones * L .name = omega (arith, ap length rows, names-many L ds, mul-le-mul-right (L .name) (w .valid .1)) in
-      let counts-fit : length (f .counts) ≤ L .drones = omega (arith, ap length counts, counts-many ds, w .valid .1) in
-      let stops-fit : length (f .locations) ≤ L .stops = omega (arith, ap length locations, stops-within L ds (w .valid)) in
-      let times-fit : length (f .times) ≤ L .stops = omega (arith, ap length times, times-many L ds (w .valid), stops-within L ds (w .valid)) in
+      let names-fit : length (flat (f .rows)) ≤ L .drones * L .name = omega (arith, ap length rows, names-many L ds, mul-le-mul-right (L .name) (w .in-limits .1)) in
+      let counts-fit : length (f .counts) ≤ L .drones = omega (arith, ap length counts, counts-many ds, w .in-limits .1) in
+      let stops-fit : length (f .locations) ≤ L .stops = omega (arith, ap length locations, stops-within L ds (w .in-limits)) in
+      let times-fit : length (f .times) ≤ L .stops = omega (arith, ap length times, times-many L ds (w .in-limits), stops-within L ds (w .in-limits)) in
       λ i.
       tablesOf
       (drop-sets 1 (n ∷ []) (z .droneCount) 0 (omega arith) i)
@@ -173,7 +173,7 @@ zeroed-past L t = λ i. eachTable (λ n l. zeroed-drop n l i) L t
 built-past : (L : Limits) (t : Tables) → total (t .plan) ≤ L .dependencies → pastFull L (withDependencies t) ≡ pastFull L t
 built-past L t room =
     let p = t .plan in
-    let long : (f : ℕ → ℕ → ℕ) → length (plannedList p f) ≡ total p = length-listed (follows (ownerIn p) (locationIn p) (timeIn p)) (stopTotal p) in
+    let long : (f : ℕ → ℕ → ℕ) → length (plannedList p f) ≡ total p = length-listed (follows (visitsIn p)) (stopTotal p) in
     let column : (l : List ℕ) (f : ℕ → ℕ → ℕ) → drop (L .dependencies) (laid l 0 (plannedList p f)) ≡ drop (L .dependencies) l = λ l f. drop-laid (L .dependencies) (plannedList p f) l (omega (arith, long f)) in
     λ i.
     tablesOf

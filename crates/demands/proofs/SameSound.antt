@@ -1,6 +1,6 @@
 -- Tables that have the same entries up to the full sizes are sound together: every clause looks at entries below the full sizes alone, where the clauses before it
 -- hold. Assumes nothing.
-use mathlib.Core.Path.{_≡_, sym, ap, ap₂, _∙_}
+use mathlib.Core.Path.{_≡_, refl, sym, ap, ap₂, _∙_}
 use mathlib.Core.Bool.{Bool, true, cond, not, _&&_, _||_}
 use mathlib.Core.List.{List}
 use Prim.Native.Nat.{ℕ, _+_, _-_, _*_, _/_, _≤_, _<_}
@@ -179,6 +179,7 @@ module _ (L : Limits) (t t′ : Tables) (same : EntriesAgree L t t′) (s : Soun
         lasts-agree = λ d l. ap (λ (n : ℕ). n - 1) (q .stop-counts d (omega arith));
         locations-agree = λ d k l h. entry-at (p .locations) (p′ .locations) (q .locations) d k l h;
         times-agree = λ d k l h. entry-at (p .times) (p′ .times) (q .times) d k l h;
+        meets-agree = λ a b. refl;
         counts-agree = q .dependency-count;
         dependencies-agree = λ w l.
             let k : w < L .dependencies = omega arith in
@@ -200,17 +201,17 @@ module _ (L : Limits) (t t′ : Tables) (same : EntriesAgree L t t′) (s : Soun
   pub replies-are : (c : Call) → replyIn F (statusIn t) c ≡ replyIn G (statusIn t′) c
   replies-are = reply-agrees F G plans plan (statusIn t) (statusIn t′) statuses
 
-  graphs : GraphsAgree (graph F (statusIn t .turned)) (graph G (statusIn t′ .turned))
-  graphs = graphs-agree F G plans (statusIn t .turned) (statusIn t′ .turned) (statuses .turns)
+  graphs : GraphsAgree (graph F (statusIn t)) (graph G (statusIn t′))
+  graphs = graphs-agree F G plans (statusIn t) (statusIn t′) (statuses .turns)
 
-  cycles : cyclic (graph F (statusIn t .turned)) ≡ cyclic (graph G (statusIn t′ .turned))
-  cycles = cyclic-agree _ _ graphs (graph-in F plan (statusIn t .turned))
+  cycles : cyclic (graph F (statusIn t)) ≡ cyclic (graph G (statusIn t′))
+  cycles = cyclic-agree _ _ graphs (graph-in F plan (statusIn t))
 
-  pub cost-is : cost (graph F (statusIn t .turned)) (statusIn t .place) ≡ cost (graph G (statusIn t′ .turned)) (statusIn t′ .place)
-  cost-is = cost-agree _ _ graphs (graph-in F plan (statusIn t .turned)) (statusIn t .place) (statusIn t′ .place) (statuses .places)
+  pub cost-is : cost (graph F (statusIn t)) (statusIn t .place) ≡ cost (graph G (statusIn t′)) (statusIn t′ .place)
+  cost-is = cost-agree _ _ graphs (graph-in F plan (statusIn t)) (statusIn t .place) (statusIn t′ .place) (statuses .places)
 
-  pub makespan-is : makespan (graph F (statusIn t .turned)) (statusIn t .place) ≡ makespan (graph G (statusIn t′ .turned)) (statusIn t′ .place)
-  makespan-is = makespan-agree _ _ graphs (graph-in F plan (statusIn t .turned)) (statusIn t .place) (statusIn t′ .place) (statuses .places)
+  pub makespan-is : makespan (graph F (statusIn t)) (statusIn t .place) ≡ makespan (graph G (statusIn t′)) (statusIn t′ .place)
+  makespan-is = makespan-agree _ _ graphs (graph-in F plan (statusIn t)) (statusIn t .place) (statusIn t′ .place) (statuses .places)
 
   -- ---- the clauses
 

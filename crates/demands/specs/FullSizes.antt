@@ -4,10 +4,10 @@
 -- `drop (limits .dependencies) ..` leave these records as they were. Assumes nothing.
 use mathlib.Core.Path.{_≡_}
 use mathlib.Core.List.{List}
-use Prim.Native.Nat.{ℕ, _*_}
+use Prim.Native.Nat.{ℕ}
 use lib.ListN.{take, drop}
 use Rattle.tables.specs.Limits.{Limits}
-use Rattle.tables.specs.Tables.{Tables, tablesOf, fullSize}
+use Rattle.tables.specs.Tables.{Tables, eachTable, fullSize}
 use Rattle.tables.specs.declared.entries.Dependency.{Dependency}
 use Rattle.sound.specs.Sound.{sound}
 use Rattle.log.specs.CallLog.{Call}
@@ -16,24 +16,6 @@ use Rattle.log.specs.Preview.{preview, previewAll}
 use Rattle.reading.specs.Reading.{readPlan}
 use Rattle.flat.specs.Writing.{writes, bufferLeft}
 use Rattle.records.specs.Records.{tablesOfRecords}
-
--- f of each table, with the table's full size
-abbrev pub eachTable : (ℕ → List ℕ → List ℕ) → Limits → Tables → Tables
-eachTable f L t =
-    tablesOf
-    (f 1 (t .plan .droneCount))
-    (f 1 (t .plan .dependencyCount))
-    (f (L .drones * L .name) (t .plan .names))
-    (f (L .drones) (t .plan .stopCounts))
-    (f (L .stops) (t .plan .locations))
-    (f (L .stops) (t .plan .times))
-    (f (L .drones) (t .visited))
-    (f (L .drones) (t .droneFlags))
-    (f (L .dependencies) (t .plan .firstDrones))
-    (f (L .dependencies) (t .plan .firstStops))
-    (f (L .dependencies) (t .plan .secondDrones))
-    (f (L .dependencies) (t .plan .secondStops))
-    (f (L .dependencies) (t .flags))
 
 -- the entries up to the full sizes, and those past them
 abbrev pub upToFull : Limits → Tables → Tables

@@ -9,8 +9,8 @@ use lib.Dec.{leb, ltb}
 use Rattle.below.proofs.Search.{firstBelow-first}
 use Rattle.tables.specs.Limits.{Limits, limits}
 use Rattle.tables.specs.Tables.{Tables, dependencies, fullSize}
-use Rattle.plan.specs.Field.{FieldPlan, planOf}
-use Rattle.plan.specs.Status.{Status, statusIn, unmet}
+use Rattle.plan.specs.Field.{FieldPlan, planOf, Status}
+use Rattle.plan.specs.Status.{statusIn, unmet}
 use Rattle.sound.specs.Sound.{sound}
 use Rattle.log.specs.CallLog.{grant as grantCall, Reply, refused, mustWait, replyNumber, awaited, when, firstThatHolds, replyIn}
 use Rattle.log.specs.Calls.{step, replyOf, grantStep, Answered, CostReply, costs, costRefused, costReply}

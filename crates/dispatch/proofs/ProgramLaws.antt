@@ -17,7 +17,7 @@ use Rattle.lines.specs.Bytes.{Put}
 use Rattle.lines.proofs.NumberCases.{digits-length}
 use Rattle.lines.proofs.WriteLaws.{put-put}
 use Rattle.log.specs.CallLog.{Entry}
-use Rattle.reading.specs.Replies.{ReadingReply as Read, taken as Taken, readingNumber}
+use Rattle.reading.specs.Replies.{ReadingReply as Read, readingNumber}
 use Rattle.reading.proofs.ReplyLaws.{taken-by-0}
 use Rattle.reading.specs.Reading.{AnsweredAs, readPlan}
 use Rattle.transcript.specs.Input.{inputLimit, planEnd, callAt, Request, noRequests, callLinesAt, requestsFrom, requestsAt, kindsOf, numbersOf, RequestsRead}

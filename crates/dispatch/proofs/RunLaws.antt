@@ -11,7 +11,7 @@ use Rattle.tables.specs.Tables.{Tables}
 use Rattle.tables.specs.Entries.{zeroDependency}
 use Rattle.tables.specs.declared.entries.Dependency.{Dependency}
 use Rattle.records.specs.Records.{seen, tablesOfRecords}
-use Rattle.reading.specs.Replies.{ReadingReply as Read, taken as Taken, readingNumber}
+use Rattle.reading.specs.Replies.{ReadingReply as Read, readingNumber}
 use Rattle.reading.proofs.ReplyLaws.{taken-by-0}
 use Rattle.reading.specs.Reading.{AnsweredAs, readPlan}
 use Rattle.transcript.specs.Input.{Request}

@@ -7,6 +7,7 @@ use Prim.Native.Nat.{ℕ}
 use Prim.Native.String.{String}
 use Rattle.tables.specs.Limits.{Limits}
 use Rattle.tables.specs.Tables.{dependencies}
+use Rattle.tables.specs.Zero.{filled}
 use Rattle.text.specs.Examples.{bytes}
 use Rattle.plan.specs.declared.check.StopAt.{StopAt}
 use Rattle.log.specs.CallLog.{grant, arrive, turn, accepted, refused, mustWait}
@@ -14,7 +15,7 @@ use Rattle.log.specs.Flights.{Line, says, costsNow, follow}
 use Rattle.reading.specs.Replies.{taken as planTaken, refusedStops}
 use Rattle.reading.specs.Reading.{ReadingAnswer, readPlan}
 use Rattle.accepted.specs.TextPlan.{textPlan}
-use Rattle.accepted.specs.Examples.{filled, flightQ, flightP}
+use Rattle.accepted.specs.Examples.{flightQ, flightP}
 
 -- limits that hold the flights, so that full tables can be computed with
 abbrev pub tight : Limits

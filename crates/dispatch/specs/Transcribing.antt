@@ -1,11 +1,12 @@
 -- The whole way from the input of the program `field` to its output (document 01, "The program `field`"). Assumes nothing.
-use Prim.Native.Nat.{ℕ, _*_, _≤_}
+use Prim.Native.Nat.{ℕ, _≤_}
 use mathlib.Core.Path.{_≡_}
 use mathlib.Core.List.{List, _++_}
-use lib.ListN.{length, drop, replicate}
+use lib.ListN.{length, drop}
 use Rattle.below.specs.Below.{at}
 use Rattle.tables.specs.Limits.{Limits, limits}
-use Rattle.tables.specs.Tables.{Tables, tablesOf}
+use Rattle.tables.specs.Tables.{Tables}
+use Rattle.tables.specs.Zero.{filled}
 use Rattle.lines.specs.Bytes.{Put}
 use Rattle.log.specs.Demand.{Found}
 use Rattle.reading.specs.Replies.{ReadingReply, taken as Taken, readingNumber}
@@ -25,21 +26,7 @@ module _ (L : Limits) where
 
   -- tables of full size, every entry zero
   unfoldable pub zeroTables : Tables
-  zeroTables =
-      tablesOf
-      (replicate 1 0)
-      (replicate 1 0)
-      (replicate (L .drones * L .name) 0)
-      (replicate (L .drones) 0)
-      (replicate (L .stops) 0)
-      (replicate (L .stops) 0)
-      (replicate (L .drones) 0)
-      (replicate (L .drones) 0)
-      (replicate (L .dependencies) 0)
-      (replicate (L .dependencies) 0)
-      (replicate (L .dependencies) 0)
-      (replicate (L .dependencies) 0)
-      (replicate (L .dependencies) 0)
+  zeroTables = filled 0 L
 
   -- the plan of the text was taken, and the requests were made on the tables that its reading left; and demand 3, by the log of the text's own plan
   pub record TakenRun (text : List ℕ) (requests : List Request) (replies details replies′ details′ : List ℕ) : Type 0 where

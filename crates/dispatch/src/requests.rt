@@ -182,7 +182,7 @@ pub fn run(
     let mut times = [0u32; Stop::FULL];
     let mut visited = [0u16; Drone::FULL];
     let mut drone_flags = [0u8; Drone::FULL];
-    let mut dependencies = [record::zero_record(); 2048];
+    let mut dependencies = [record::zero_record(); Dependency::FULL];
     let reading = calls::read_plan(
         text,
         &mut drone_count,

@@ -1,7 +1,6 @@
 -- The calls on usable tables by the ways through their code: one law for each return, with the results of the tests as the code has them. Assumes nothing.
 use mathlib.Core.Path.{_≡_, refl, sym, ap, _∙_}
 use mathlib.Core.Bool.{Bool, true, false, not}
-use mathlib.Core.List.{List}
 use Prim.Native.Nat.{ℕ, _+_, _-_, _≤_, _<_}
 use native.Mathlib.Omega.{arith}
 use lib.ListN.{set}
@@ -18,16 +17,13 @@ use Rattle.plan.specs.Waits.{planIn, statusOf}
 use Rattle.log.specs.CallLog.{Call, grant, arrive, Reply, accepted, refused, mustWait}
 use Rattle.log.specs.Calls.{Answer, step, Answered}
 use Rattle.log.specs.Claims.{Usable}
+use Rattle.flat.specs.Lent.{withProgress}
 use Rattle.flat.proofs.Facts.{columnsIn}
 use Rattle.log.proofs.Steps.{arrive-20, arrive-24, arrive-0, grant-20, grant-21, grant-22, grant-23, grant-0}
 
 -- a call's answer, part by part
 pub answered : (program : Tables → Call → Answer) (t : Tables) (c : Call) (r : Reply) (t′ : Tables) → program t c ≡ record { reply = r; tables = t′ } → Answered program t c r t′
 answered program t c r t′ e = record { replied = ap (λ (a : Answer). a .reply) (sym e); left = ap (λ (a : Answer). a .tables) (sym e) }
-
--- the tables with other progress
-abbrev pub withProgress : Tables → List ℕ → List ℕ → Tables
-withProgress t visited droneFlags = record { plan = t .plan; visited = visited; droneFlags = droneFlags; flags = t .flags }
 
 module _ (L : Limits) (t : Tables) (u : Usable L t) (d : ℕ) where
   -- ---- arrive
@@ -45,12 +41,12 @@ module _ (L : Limits) (t : Tables) (u : Usable L t) (d : ℕ) where
   -- ---- grant
 
   -- the search of the code, over the columns alone, is the search in the graph
-  unmet-is : unmet (planIn (dependencies (t .plan)) (columnsIn t)) (statusOf (columnsIn t) (t .visited)) d ≡ firstBelow (dependencies (t .plan)) (blocks (graph (planOf (t .plan)) (statusIn t .turned)) (at (t .visited)) d)
+  unmet-is : unmet (planIn (dependencies (t .plan)) (columnsIn t)) (statusOf (columnsIn t) (t .visited)) d ≡ firstBelow (dependencies (t .plan)) (blocks (graph (planOf (t .plan)) (statusIn t)) (at (t .visited)) d)
   unfolding blocks
   unmet-is = refl
 
-  first-unmet : (w : ℕ) → w ≡ unmet (planIn (dependencies (t .plan)) (columnsIn t)) (statusOf (columnsIn t) (t .visited)) d → First (dependencies (t .plan)) (blocks (graph (planOf (t .plan)) (statusIn t .turned)) (at (t .visited)) d) w
-  first-unmet w e = rw (e ∙ unmet-is) (firstBelow-first (dependencies (t .plan)) (blocks (graph (planOf (t .plan)) (statusIn t .turned)) (at (t .visited)) d))
+  first-unmet : (w : ℕ) → w ≡ unmet (planIn (dependencies (t .plan)) (columnsIn t)) (statusOf (columnsIn t) (t .visited)) d → First (dependencies (t .plan)) (blocks (graph (planOf (t .plan)) (statusIn t)) (at (t .visited)) d) w
+  first-unmet w e = rw (e ∙ unmet-is) (firstBelow-first (dependencies (t .plan)) (blocks (graph (planOf (t .plan)) (statusIn t)) (at (t .visited)) d))
 
   pub grants-20 : drones (t .plan) ≤ d → Answered (step L) t (grant d) (refused 20) t
   grants-20 a = answered (step L) t (grant d) (refused 20) t (grant-20 L t (u .0) (u .1) d a)

@@ -4,7 +4,7 @@ use mathlib.Core.Bool.{true, false}
 use Rattle.tables.specs.Limits.{Limits}
 use Rattle.tables.specs.Tables.{Tables, fullSize}
 use Rattle.precedence.specs.Graph.{makespan}
-use Rattle.plan.specs.Field.{planOf, graph}
+use Rattle.plan.specs.Field.{planOf, graph, placeOf}
 use Rattle.plan.specs.Status.{statusIn}
 use Rattle.sound.specs.Sound.{sound}
 use Rattle.log.specs.Calls.{costRefused, costReply, rounds, roundsRefused, roundsReply}
@@ -26,6 +26,6 @@ module _ (L : Limits) (t : Tables) where
   unfolding roundsReply
   rounds-40 (f, e) = rw (f, e) refl
 
-  pub rounds-0 : Usable L t → rounds (makespan (graph (planOf (t .plan)) (statusIn t .turned)) (statusIn t .place)) ≡ roundsReply L t
+  pub rounds-0 : Usable L t → rounds (makespan (graph (planOf (t .plan)) (statusIn t)) (placeOf (planOf (t .plan)) (statusIn t))) ≡ roundsReply L t
   unfolding roundsReply
   rounds-0 (f, e) = rw (f, e) refl

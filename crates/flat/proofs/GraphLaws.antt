@@ -11,7 +11,7 @@ use lib.Seq.{getD-set-same, getD-set-other}
 use borrow.Author.Tests.{leb-false, eqb-true, eqb-false, eq-eqb}
 use Rattle.below.specs.Below.{at}
 use Rattle.below.proofs.Tests.{by-cases}
-use Rattle.tables.specs.Limits.{limits}
+use Rattle.tables.specs.Limits.{Limits}
 use Rattle.tables.specs.Tables.{PlanLists, Tables, drones, dependencies}
 use Rattle.tables.specs.Flags.{turnedBit, flipBit}
 use Rattle.tables.proofs.FlagLaws.{flip-turned}
@@ -20,7 +20,7 @@ use Rattle.precedence.proofs.Agreement.{GraphsAgree, AwaitedIn, awaited-in, cyc
 use Rattle.plan.specs.Stops.{start, owner, number}
 use Rattle.plan.specs.Room.{Counts}
 use Rattle.plan.specs.Claims.{Numbered, Unfixed}
-use Rattle.plan.specs.Field.{Dependency, FieldPlan, inForce, waitOf, flip, planOf, graph, fixed, AcceptedPlan}
+use Rattle.plan.specs.Field.{Dependency, FieldPlan, Status, inForce, waitOf, flip, afterTurn, planOf, graph, fixed, AcceptedPlan}
 use Rattle.plan.specs.Status.{statusIn}
 use Rattle.plan.proofs.Numbering.{numbered}
 use Rattle.plan.proofs.Turns.{graph-formed}
@@ -43,7 +43,7 @@ use Rattle.flat.proofs.CostLaws.{rounds-0}
 
 -- ---- the tables of a graph
 
-module _ (counts : List ℕ) (G : Plan) (owners starts lasts from into : List ℕ) (T : GraphTables counts G owners starts lasts from into) (G-formed : Formed G)
+module _ {L : Limits} (counts : List ℕ) (G : Plan) (owners starts lasts from into : List ℕ) (T : GraphTables L counts G owners starts lasts from into) (G-formed : Formed G)
     (last-is : (d : ℕ) → d < G .drones → G .last d ≡ at counts d - 1) (have : (d : ℕ) → d < G .drones → 1 ≤ at counts d) where
   abbrev D : ℕ
   D = G .drones
@@ -101,7 +101,7 @@ module _ (counts : List ℕ) (G : Plan) (owners starts lasts from into : List �
       (spot-owner (G .wait k .awaited) (G .wait k .until) (at from k) (G-formed k l .awaited-in) (G-formed k l .until-in) (T .from-are k l))
       (spot-number (G .wait k .awaited) (G .wait k .until) (at from k) (G-formed k l .awaited-in) (G-formed k l .until-in) (T .from-are k l))
 
-  pub laid-tables : n ≤ limits .stops → G .count ≤ limits .dependencies → D ≤ limits .drones → FlatTables owners starts lasts D n from into (G .count)
+  pub laid-tables : n ≤ L .stops → G .count ≤ L .dependencies → D ≤ L .drones → FlatTables L owners starts lasts D n from into (G .count)
   laid-tables a b c = record { placed = placed; has-owners = omega (arith, T .owners-size); few-stops = a; few-waits = b; few-drones = c }
 
   pub laid-agree : GraphsAgree P G
@@ -139,12 +139,18 @@ module _ (turned : ℕ → Bool) (w : ℕ) where
   flip-other k q = rw q refl
 
 -- the flag bytes after a turn show the order after it
-pub flipped-turned : (flags : List ℕ) (w : ℕ) → w < length flags → (λ (k : ℕ). turnedBit (at (set flags w (flipBit (at flags w))) k)) ≡ flip (λ k. turnedBit (at flags k)) w
+flipped-turned : (flags : List ℕ) (w : ℕ) → w < length flags → (λ (k : ℕ). turnedBit (at (set flags w (flipBit (at flags w))) k)) ≡ flip (λ k. turnedBit (at flags k)) w
 flipped-turned flags w l = fun-ext (λ k. by-cases (eqb k w)
     (λ q. rw (q, eqb-true k w q, getD-set-same flags w (flipBit (at flags w)) 0 l) (flip-turned (at flags w)))
     (λ q. rw q (ap turnedBit (getD-set-other flags w k (flipBit (at flags w)) 0 (eqb-false k w q)))))
 
-module _ (counts : List ℕ) (F : FieldPlan) (turned : ℕ → Bool) (owners starts lasts from into : List ℕ) (T : GraphTables counts (graph F turned) owners starts lasts from into) (w : ℕ) (l : w < F .count) (few : F .count ≤ limits .dependencies) where
+-- and so the status after it
+pub flipped-status : (t : Tables) (w : ℕ) → w < length (t .flags) → statusIn (flipped t w) ≡ afterTurn (statusIn t) w
+flipped-status t w l = ap (λ (turned : ℕ → Bool). record { place = statusIn t .place; underWay = statusIn t .underWay; turned = turned }) (flipped-turned (t .flags) w l)
+
+module _ {L : Limits} (counts : List ℕ) (F : FieldPlan) (s : Status) (owners starts lasts from into : List ℕ) (T : GraphTables L counts (graph F s) owners starts lasts from into) (w : ℕ) (l : w < F .count) (few : F .count ≤ L .dependencies) where
+  open Status s using (turned)
+
   abbrev awaitedBy : Bool → ℕ → ℕ
   awaitedBy b k = start counts (waitOf (inForce b (F .dependency k)) .awaited) + waitOf (inForce b (F .dependency k)) .until
 
@@ -155,7 +161,7 @@ module _ (counts : List ℕ) (F : FieldPlan) (turned : ℕ → Bool) (owners sta
   from-some = omega (arith, T .from-are w l, until-some (turned w) (F .dependency w))
 
   -- the tables then hold the graph with dependency w turned
-  pub exchanged : (from′ into′ : List ℕ) → from′ ≡ set from w (at into w + 1) → into′ ≡ set into w (at from w - 1) → GraphTables counts (graph F (flip turned w)) owners starts lasts from′ into′
+  pub exchanged : (from′ into′ : List ℕ) → from′ ≡ set from w (at into w + 1) → into′ ≡ set into w (at from w - 1) → GraphTables L counts (graph F (afterTurn s w)) owners starts lasts from′ into′
   exchanged from′ into′ ef ei = record {
     owners-size = T .owners-size;
     from-size = ap length ef ∙ length-set from w (at into w + 1) ∙ T .from-size;
@@ -175,59 +181,59 @@ module _ (counts : List ℕ) (F : FieldPlan) (turned : ℕ → Bool) (owners sta
 
 -- ---- usable tables
 
-module _ (t : Tables) (u : Usable limits t) where
+module _ (L : Limits) (t : Tables) (u : Usable L t) where
   abbrev p : PlanLists
   p = t .plan
 
-  S : Sound limits t
-  S = sound-says limits t (u .1)
+  S : Sound L t
+  S = sound-says L t (u .1)
 
-  facts-now : Facts limits t
-  facts-now = facts limits t u
+  facts-now : Facts L t
+  facts-now = facts L t u
 
   accepted : AcceptedPlan (planOf p)
-  accepted = accepted-plan limits p (S .accepted) (S .dependencies-own)
+  accepted = accepted-plan L p (S .accepted) (S .dependencies-own)
 
-  pub unfixed-now : Unfixed (planOf p) (statusIn t .turned)
+  pub unfixed-now : Unfixed (planOf p) (statusIn t)
   unfixed-now = unfixed-says (planOf p) (statusIn t) (S .fixed-unturned)
 
-  pub usable-counts : Counts (drones p) (p .stopCounts)
-  usable-counts = record { has-counts = omega (arith, facts-now .drones-few, facts-now .sizes .stop-counts); drones-fit = omega (arith, facts-now .drones-few) }
+  pub usable-counts : L .drones ≤ 256 → Counts (drones p) (p .stopCounts)
+  usable-counts fit = record { has-counts = omega (arith, facts-now .drones-few, facts-now .sizes .stop-counts); drones-fit = omega (arith, facts-now .drones-few) }
 
   -- the graph with any order in which no fixed dependency is turned, in local tables; n stops in all
-  module _ (turned : ℕ → Bool) (unfixed : Unfixed (planOf p) turned) (n : ℕ) (total : n ≡ start (p .stopCounts) (drones p)) (owners starts lasts from into : List ℕ) (T : GraphTables (p .stopCounts) (graph (planOf p) turned) owners starts lasts from into) where
+  module _ (s : Status) (unfixed : Unfixed (planOf p) s) (n : ℕ) (total : n ≡ start (p .stopCounts) (drones p)) (owners starts lasts from into : List ℕ) (T : GraphTables L (p .stopCounts) (graph (planOf p) s) owners starts lasts from into) where
     abbrev ordered : Plan
-    ordered = graph (planOf p) turned
+    ordered = graph (planOf p) s
 
     abbrev laidPlan : Plan
     laidPlan = flatPlan (at owners) (at starts) (at lasts) (drones p) (at from) (at into) (dependencies p)
 
     pub order-formed : Formed ordered
-    order-formed = graph-formed (planOf p) accepted turned unfixed
+    order-formed = graph-formed (planOf p) accepted s unfixed
 
-    pub order-tables : FlatTables owners starts lasts (drones p) n from into (dependencies p)
-    order-tables = subst (λ (z : ℕ). FlatTables owners starts lasts (drones p) z from into (dependencies p)) (sym total)
-        (laid-tables (p .stopCounts) ordered owners starts lasts from into T order-formed (λ d l. refl) (have-stops limits p (S .accepted)) (stops-in limits p (S .accepted)) (facts-now .dependencies-few) (facts-now .drones-few))
+    pub order-tables : FlatTables L owners starts lasts (drones p) n from into (dependencies p)
+    order-tables = subst (λ (z : ℕ). FlatTables L owners starts lasts (drones p) z from into (dependencies p)) (sym total)
+        (laid-tables (p .stopCounts) ordered owners starts lasts from into T order-formed (λ d l. refl) (have-stops L p (S .accepted)) (stops-in L p (S .accepted)) (facts-now .dependencies-few) (facts-now .drones-few))
 
     pub order-cyclic : cyclic laidPlan ≡ cyclic ordered
-    order-cyclic = laid-cyclic (p .stopCounts) ordered owners starts lasts from into T order-formed (λ d l. refl) (have-stops limits p (S .accepted))
+    order-cyclic = laid-cyclic (p .stopCounts) ordered owners starts lasts from into T order-formed (λ d l. refl) (have-stops L p (S .accepted))
 
     -- where it has no cycle and its waits are kept, rounds can be counted
     module _ (acyclic : cyclic ordered ≡ false) (waits : Kept ordered (at (t .visited))) where
-      pub order-ready : Ready owners starts lasts (drones p) n from into (dependencies p) (t .visited)
+      pub order-ready : Ready L owners starts lasts (drones p) n from into (dependencies p) (t .visited)
       order-ready = record {
         tables = order-tables;
         has-visited = omega (arith, facts-now .drones-few, facts-now .sizes .visited);
         acyclic = order-cyclic ∙ acyclic;
-        kept = laid-kept (p .stopCounts) ordered owners starts lasts from into T order-formed (λ d l. refl) (have-stops limits p (S .accepted)) (t .visited) waits;
+        kept = laid-kept (p .stopCounts) ordered owners starts lasts from into T order-formed (λ d l. refl) (have-stops L p (S .accepted)) (t .visited) waits;
         within = λ d l. omega (arith, T .lasts-are d l, facts-now .place-in d l);
       }
 
     flat-agree : GraphsAgree laidPlan ordered
-    flat-agree = laid-agree (p .stopCounts) ordered owners starts lasts from into T order-formed (λ d l. refl) (have-stops limits p (S .accepted))
+    flat-agree = laid-agree (p .stopCounts) ordered owners starts lasts from into T order-formed (λ d l. refl) (have-stops L p (S .accepted))
 
     flat-in : AwaitedIn laidPlan
-    flat-in = laid-in (p .stopCounts) ordered owners starts lasts from into T order-formed (λ d l. refl) (have-stops limits p (S .accepted))
+    flat-in = laid-in (p .stopCounts) ordered owners starts lasts from into T order-formed (λ d l. refl) (have-stops L p (S .accepted))
 
     pub order-cost : cost laidPlan (at (t .visited)) ≡ cost ordered (at (t .visited))
     order-cost = cost-agree laidPlan ordered flat-agree flat-in (at (t .visited)) (at (t .visited)) (λ d l. refl)
@@ -237,15 +243,15 @@ module _ (t : Tables) (u : Usable limits t) where
 
   -- ---- the order now in force
 
-  module _ (n : ℕ) (total : n ≡ start (p .stopCounts) (drones p)) (owners starts lasts from into : List ℕ) (T : InForce t owners starts lasts from into) where
-    pub now-ready : Ready owners starts lasts (drones p) n from into (dependencies p) (t .visited)
-    now-ready = order-ready (statusIn t .turned) unfixed-now n total owners starts lasts from into T (S .no-cycle) (kept limits t (S .waits-kept))
+  module _ (n : ℕ) (total : n ≡ start (p .stopCounts) (drones p)) (owners starts lasts from into : List ℕ) (T : InForce L t owners starts lasts from into) where
+    pub now-ready : Ready L owners starts lasts (drones p) n from into (dependencies p) (t .visited)
+    now-ready = order-ready (statusIn t) unfixed-now n total owners starts lasts from into T (S .no-cycle) (kept L t (S .waits-kept))
 
-    pub now-cost : (r : ℕ) → r ≡ cost (flatPlan (at owners) (at starts) (at lasts) (drones p) (at from) (at into) (dependencies p)) (at (t .visited)) → costs r ≡ costReply limits t
-    now-cost r e = ap costs (e ∙ order-cost (statusIn t .turned) unfixed-now n total owners starts lasts from into T) ∙ sym (cost-0 limits t (u .0) (u .1))
+    pub now-cost : (r : ℕ) → r ≡ cost (flatPlan (at owners) (at starts) (at lasts) (drones p) (at from) (at into) (dependencies p)) (at (t .visited)) → costs r ≡ costReply L t
+    now-cost r e = ap costs (e ∙ order-cost (statusIn t) unfixed-now n total owners starts lasts from into T) ∙ sym (cost-0 L t (u .0) (u .1))
 
-    pub now-makespan : (r : ℕ) → r ≡ makespan (flatPlan (at owners) (at starts) (at lasts) (drones p) (at from) (at into) (dependencies p)) (at (t .visited)) → rounds r ≡ roundsReply limits t
-    now-makespan r e = ap rounds (e ∙ order-makespan (statusIn t .turned) unfixed-now n total owners starts lasts from into T) ∙ rounds-0 limits t u
+    pub now-makespan : (r : ℕ) → r ≡ makespan (flatPlan (at owners) (at starts) (at lasts) (drones p) (at from) (at into) (dependencies p)) (at (t .visited)) → rounds r ≡ roundsReply L t
+    now-makespan r e = ap rounds (e ∙ order-makespan (statusIn t) unfixed-now n total owners starts lasts from into T) ∙ rounds-0 L t u
 
     -- ---- .. and with one dependency turned that passes 30 to 32
 
@@ -253,30 +259,30 @@ module _ (t : Tables) (u : Usable limits t) where
       exists : w < dependencies p
       exists = leb-false (dependencies p) w (passes .0)
 
-      pub turn-in : w < limits .dependencies
+      pub turn-in : w < L .dependencies
       turn-in = omega (arith, exists, facts-now .dependencies-few)
 
       pub turn-from : 1 ≤ at from w
-      turn-from = from-some (p .stopCounts) (planOf p) (statusIn t .turned) owners starts lasts from into T w exists (facts-now .dependencies-few)
+      turn-from = from-some (p .stopCounts) (planOf p) (statusIn t) owners starts lasts from into T w exists (facts-now .dependencies-few)
 
-      pub turn-into : at into w < limits .stops
+      pub turn-into : at into w < L .stops
       turn-into = omega (arith, now-ready .tables .placed .into-in w exists, now-ready .tables .few-stops)
 
-      unfixed-turned : Unfixed (planOf p) (flip (statusIn t .turned) w)
+      unfixed-turned : Unfixed (planOf p) (afterTurn (statusIn t) w)
       unfixed-turned k h e = by-cases (eqb k w)
           (λ q. ap (fixed (planOf p)) (eqb-true k w q) ∙ passes .1)
           (λ q. unfixed-now k h (sym (flip-other (statusIn t .turned) w k q) ∙ e))
 
       module _ (from′ into′ : List ℕ) (ef : from′ ≡ set from w (at into w + 1)) (ei : into′ ≡ set into w (at from w - 1)) where
-        after : GraphTables (p .stopCounts) (graph (planOf p) (flip (statusIn t .turned) w)) owners starts lasts from′ into′
-        after = exchanged (p .stopCounts) (planOf p) (statusIn t .turned) owners starts lasts from into T w exists (facts-now .dependencies-few) from′ into′ ef ei
+        after : GraphTables L (p .stopCounts) (graph (planOf p) (afterTurn (statusIn t) w)) owners starts lasts from′ into′
+        after = exchanged (p .stopCounts) (planOf p) (statusIn t) owners starts lasts from into T w exists (facts-now .dependencies-few) from′ into′ ef ei
 
-        pub turn-tables : FlatTables owners starts lasts (drones p) n from′ into′ (dependencies p)
-        turn-tables = order-tables (flip (statusIn t .turned) w) unfixed-turned n total owners starts lasts from′ into′ after
+        pub turn-tables : FlatTables L owners starts lasts (drones p) n from′ into′ (dependencies p)
+        turn-tables = order-tables (afterTurn (statusIn t) w) unfixed-turned n total owners starts lasts from′ into′ after
 
         pub turn-cyclic : (r : Bool) → r ≡ cyclic (flatPlan (at owners) (at starts) (at lasts) (drones p) (at from′) (at into′) (dependencies p)) → r ≡ turnedCyclic t w
-        turn-cyclic r e = e ∙ order-cyclic (flip (statusIn t .turned) w) unfixed-turned n total owners starts lasts from′ into′ after
+        turn-cyclic r e = e ∙ order-cyclic (afterTurn (statusIn t) w) unfixed-turned n total owners starts lasts from′ into′ after
 
         -- the exchanged waits are those of the tables after the turn
-        pub turn-in-force : InForce (flipped t w) owners starts lasts from′ into′
-        turn-in-force = subst (λ (z : ℕ → Bool). GraphTables (p .stopCounts) (graph (planOf p) z) owners starts lasts from′ into′) (sym (flipped-turned (t .flags) w (omega (arith, exists, facts-now .dependencies-few, facts-now .sizes .flags)))) after
+        pub turn-in-force : InForce L (flipped t w) owners starts lasts from′ into′
+        turn-in-force = subst (λ (z : Status). GraphTables L (p .stopCounts) (graph (planOf p) z) owners starts lasts from′ into′) (sym (flipped-status t w (omega (arith, exists, facts-now .dependencies-few, facts-now .sizes .flags)))) after

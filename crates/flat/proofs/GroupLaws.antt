@@ -9,26 +9,27 @@ use lib.ListN.{length, set, length-set}
 use borrow.Author.Tests.{leb-false, eqb-true}
 use Rattle.below.specs.Below.{at}
 use Rattle.below.proofs.Tests.{by-cases}
-use Rattle.tables.specs.Limits.{limits}
+use Rattle.tables.specs.Limits.{Limits}
 use Rattle.tables.specs.Tables.{PlanLists, Tables, drones, dependencies}
-use Rattle.tables.specs.Flags.{turnedBit, flipBit}
+use Rattle.tables.specs.Flags.{flipBit}
 use Rattle.precedence.specs.Graph.{cyclic}
 use Rattle.plan.specs.Stops.{start}
 use Rattle.plan.specs.Claims.{Unfixed}
-use Rattle.plan.specs.Field.{planOf, graph, fixed}
+use Rattle.plan.specs.Field.{Status, afterTurn, planOf, graph, fixed}
 use Rattle.plan.specs.Status.{statusIn}
 use Rattle.cycles.specs.Flat.{flatPlan, FlatTables}
 use Rattle.sound.specs.Asked.{GraphTables, InForce}
 use Rattle.log.specs.CallLog.{isGroup}
-use Rattle.log.specs.Calls.{flipFlags, flippedAll}
+use Rattle.log.specs.Calls.{flipFlags, flipped, flippedAll}
 use Rattle.log.specs.Claims.{Usable}
 use Rattle.log.proofs.FlipLaws.{flipsTo, flips-end, flips-to-length}
 use Rattle.log.proofs.Steps.{PassedTo}
-use Rattle.log.proofs.TurnSteps.{turned-after}
+use Rattle.log.proofs.TurnSteps.{status-after}
 use Rattle.flat.specs.Exchanging.{Waits, waits, exchangeAt, exchangesTo, CanExchange}
 use Rattle.flat.specs.InForce.{groupCyclic}
+use Rattle.flat.specs.Lent.{withFlags}
 use Rattle.flat.proofs.Facts.{Facts, facts}
-use Rattle.flat.proofs.GraphLaws.{from-some, exchanged, flip-other, flipped-turned, unfixed-now, order-tables, order-cyclic}
+use Rattle.flat.proofs.GraphLaws.{from-some, exchanged, flip-other, flipped-status, unfixed-now, order-tables, order-cyclic}
 
 -- ---- the loops
 
@@ -43,8 +44,8 @@ exchange-more ws p i k from into from′ into′ q e f g = rw (q, f, g) (ap (λ 
 pub exchange-end : (ws : List ℕ) (p q : Waits) (i : ℕ) → i ≤ length ws → length ws ≤ i → q ≡ exchangesTo i ws p → q ≡ exchangesTo (length ws) ws p
 exchange-end ws p q i l h e = let s : i ≡ length ws = omega arith in e ∙ ap (λ (z : ℕ). exchangesTo z ws p) s
 
-pub exchange-can : (p q : Waits) (k : ℕ) → p ≡ q → CanExchange q k → CanExchange p k
-exchange-can p q k e h = subst (λ (z : Waits). CanExchange z k) (sym e) h
+pub exchange-can : {L : Limits} (p q : Waits) (k : ℕ) → p ≡ q → CanExchange L q k → CanExchange L p k
+exchange-can {L} p q k e h = subst (λ (z : Waits). CanExchange L z k) (sym e) h
 
 exchanges-lengths : (n : ℕ) (ws : List ℕ) (p : Waits) → (length (exchangesTo n ws p .from) ≡ length (p .from)) × (length (exchangesTo n ws p .into) ≡ length (p .into))
 unfolding exchangesTo
@@ -73,16 +74,16 @@ flip-end ws flags now i l h e = let s : i ≡ length ws = omega arith in e ∙ a
 
 -- ---- usable tables, and a list whose dependencies pass 30 to 32
 
-module _ (t : Tables) (u : Usable limits t) (ws : List ℕ) (passed : PassedTo (planOf (t .plan)) (statusIn t) ws (length ws)) where
+module _ (L : Limits) (t : Tables) (u : Usable L t) (ws : List ℕ) (passed : PassedTo (planOf (t .plan)) (statusIn t) ws (length ws)) where
   abbrev p : PlanLists
   p = t .plan
 
-  facts-now : Facts limits t
-  facts-now = facts limits t u
+  facts-now : Facts L t
+  facts-now = facts L t u
 
-  -- what is turned with the first i flipped
-  abbrev orderTo : ℕ → ℕ → Bool
-  orderTo i k = turnedBit (at (flipsTo i ws (t .flags)) k)
+  -- the tables with the first i flipped
+  abbrev flippedTo : ℕ → Tables
+  flippedTo i = withFlags t (flipsTo i ws (t .flags))
 
   exists : (i : ℕ) → i < length ws → at ws i < dependencies p
   exists i l = leb-false (dependencies p) (at ws i) (passed i l .0)
@@ -90,54 +91,57 @@ module _ (t : Tables) (u : Usable limits t) (ws : List ℕ) (passed : PassedTo (
   pub flag-in : (i : ℕ) → i < length ws → at ws i < length (t .flags)
   flag-in i l = omega (arith, exists i l, facts-now .dependencies-few, facts-now .sizes .flags)
 
-  unfixed-to : (i : ℕ) → i ≤ length ws → Unfixed (planOf p) (orderTo i)
+  flipped-next : (i : ℕ) → i < length ws → statusIn (flipped (flippedTo i) (at ws i)) ≡ afterTurn (statusIn (flippedTo i)) (at ws i)
+  flipped-next i l = flipped-status (flippedTo i) (at ws i) (omega (arith, flag-in i l, flips-to-length i ws (t .flags)))
+
+  unfixed-to : (i : ℕ) → i ≤ length ws → Unfixed (planOf p) (statusIn (flippedTo i))
   unfolding flipsTo
-  unfixed-to zero l k h e = unfixed-now t u k h e
+  unfixed-to zero l k h e = unfixed-now L t u k h e
   unfixed-to (suc i) l k h e = by-cases (eqb k (at ws i))
       (λ q. ap (fixed (planOf p)) (eqb-true k (at ws i) q) ∙ passed i (omega arith) .1)
-      (λ q. unfixed-to i (omega arith) k h (sym (flip-other (orderTo i) (at ws i) k q) ∙ sym (ap (λ (z : ℕ → Bool). z k) (flipped-turned (flipsTo i ws (t .flags)) (at ws i) (omega (arith, flag-in i (omega arith), flips-to-length i ws (t .flags))))) ∙ e))
+      (λ q. unfixed-to i (omega arith) k h (sym (flip-other (statusIn (flippedTo i) .turned) (at ws i) k q) ∙ sym (ap (λ (z : Status). z .turned k) (flipped-next i (omega arith))) ∙ e))
 
-  module _ (owners starts lasts from into : List ℕ) (T : InForce t owners starts lasts from into) where
+  module _ (owners starts lasts from into : List ℕ) (T : InForce L t owners starts lasts from into) where
     abbrev after : ℕ → Waits
     after i = exchangesTo i ws (waits from into)
 
     -- the waits with the first i exchanged are those with the first i flipped
-    held-to : (i : ℕ) → i ≤ length ws → GraphTables (p .stopCounts) (graph (planOf p) (orderTo i)) owners starts lasts (after i .from) (after i .into)
+    held-to : (i : ℕ) → i ≤ length ws → GraphTables L (p .stopCounts) (graph (planOf p) (statusIn (flippedTo i))) owners starts lasts (after i .from) (after i .into)
     unfolding flipsTo exchangesTo
     held-to zero l = T
     held-to (suc i) l =
-        subst (λ (z : ℕ → Bool). GraphTables (p .stopCounts) (graph (planOf p) z) owners starts lasts (after (suc i) .from) (after (suc i) .into))
-        (sym (flipped-turned (flipsTo i ws (t .flags)) (at ws i) (omega (arith, flag-in i (omega arith), flips-to-length i ws (t .flags)))))
-        (exchanged (p .stopCounts) (planOf p) (orderTo i) owners starts lasts (after i .from) (after i .into) (held-to i (omega arith)) (at ws i) (exists i (omega arith)) (facts-now .dependencies-few) (after (suc i) .from) (after (suc i) .into) refl refl)
+        subst (λ (z : Status). GraphTables L (p .stopCounts) (graph (planOf p) z) owners starts lasts (after (suc i) .from) (after (suc i) .into))
+        (sym (flipped-next i (omega arith)))
+        (exchanged (p .stopCounts) (planOf p) (statusIn (flippedTo i)) owners starts lasts (after i .from) (after i .into) (held-to i (omega arith)) (at ws i) (exists i (omega arith)) (facts-now .dependencies-few) (after (suc i) .from) (after (suc i) .into) refl refl)
 
-    flat-to : (i : ℕ) → i ≤ length ws → FlatTables owners starts lasts (drones p) (start (p .stopCounts) (drones p)) (after i .from) (after i .into) (dependencies p)
-    flat-to i l = order-tables t u (orderTo i) (unfixed-to i l) _ refl owners starts lasts (after i .from) (after i .into) (held-to i l)
+    flat-to : (i : ℕ) → i ≤ length ws → FlatTables L owners starts lasts (drones p) (start (p .stopCounts) (drones p)) (after i .from) (after i .into) (dependencies p)
+    flat-to i l = order-tables L t u (statusIn (flippedTo i)) (unfixed-to i l) _ refl owners starts lasts (after i .from) (after i .into) (held-to i l)
 
-    pub can-exchange : (i : ℕ) → i < length ws → CanExchange (after i) (at ws i)
+    pub can-exchange : (i : ℕ) → i < length ws → CanExchange L (after i) (at ws i)
     can-exchange i l = record {
       index-in = omega (arith, exists i l, facts-now .dependencies-few);
-      from-some = from-some (p .stopCounts) (planOf p) (orderTo i) owners starts lasts (after i .from) (after i .into) (held-to i (omega arith)) (at ws i) (exists i l) (facts-now .dependencies-few);
+      from-some = from-some (p .stopCounts) (planOf p) (statusIn (flippedTo i)) owners starts lasts (after i .from) (after i .into) (held-to i (omega arith)) (at ws i) (exists i l) (facts-now .dependencies-few);
       into-in = omega (arith, flat-to i (omega arith) .placed .into-in (at ws i) (exists i l), flat-to i (omega arith) .few-stops);
     }
 
     -- all are exchanged; n stops in all
     module _ (from′ into′ : List ℕ) (e : waits from′ into′ ≡ after (length ws)) where
-      held : GraphTables (p .stopCounts) (graph (planOf p) (orderTo (length ws))) owners starts lasts from′ into′
-      held = subst (λ (z : Waits). GraphTables (p .stopCounts) (graph (planOf p) (orderTo (length ws))) owners starts lasts (z .from) (z .into)) (sym e) (held-to (length ws) (omega arith))
+      held : GraphTables L (p .stopCounts) (graph (planOf p) (statusIn (flippedTo (length ws)))) owners starts lasts from′ into′
+      held = subst (λ (z : Waits). GraphTables L (p .stopCounts) (graph (planOf p) (statusIn (flippedTo (length ws)))) owners starts lasts (z .from) (z .into)) (sym e) (held-to (length ws) (omega arith))
 
-      shown : orderTo (length ws) ≡ statusIn (flippedAll t ws) .turned
-      shown = ap (λ (z : List ℕ). λ (k : ℕ). turnedBit (at z k)) (flips-end ws (t .flags))
+      shown : statusIn (flippedTo (length ws)) ≡ statusIn (flippedAll t ws)
+      shown = ap (λ (z : List ℕ). statusIn (withFlags t z)) (flips-end ws (t .flags))
 
       -- the exchanged waits are those of the tables after the turn
-      pub group-in-force : InForce (flippedAll t ws) owners starts lasts from′ into′
-      group-in-force = subst (λ (z : ℕ → Bool). GraphTables (p .stopCounts) (graph (planOf p) z) owners starts lasts from′ into′) shown held
+      pub group-in-force : InForce L (flippedAll t ws) owners starts lasts from′ into′
+      group-in-force = subst (λ (z : Status). GraphTables L (p .stopCounts) (graph (planOf p) z) owners starts lasts from′ into′) shown held
 
       module _ (n : ℕ) (total : n ≡ start (p .stopCounts) (drones p)) where
-        pub group-tables : FlatTables owners starts lasts (drones p) n from′ into′ (dependencies p)
-        group-tables = order-tables t u (orderTo (length ws)) (unfixed-to (length ws) (omega arith)) n total owners starts lasts from′ into′ held
+        pub group-tables : FlatTables L owners starts lasts (drones p) n from′ into′ (dependencies p)
+        group-tables = order-tables L t u (statusIn (flippedTo (length ws))) (unfixed-to (length ws) (omega arith)) n total owners starts lasts from′ into′ held
 
         pub group-cyclic : isGroup ws ≡ true → (r : Bool) → r ≡ cyclic (flatPlan (at owners) (at starts) (at lasts) (drones p) (at from′) (at into′) (dependencies p)) → r ≡ groupCyclic t ws
         group-cyclic g r h =
             h
-            ∙ order-cyclic t u (orderTo (length ws)) (unfixed-to (length ws) (omega arith)) n total owners starts lasts from′ into′ held
-            ∙ ap (λ (z : ℕ → Bool). cyclic (graph (planOf p) z)) (shown ∙ turned-after limits t (u .0) (u .1) ws g passed)
+            ∙ order-cyclic L t u (statusIn (flippedTo (length ws))) (unfixed-to (length ws) (omega arith)) n total owners starts lasts from′ into′ held
+            ∙ ap (λ (z : Status). cyclic (graph (planOf p) z)) (shown ∙ status-after L t (u .0) (u .1) ws g passed)

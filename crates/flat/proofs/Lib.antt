@@ -1,4 +1,5 @@
 pub mod Facts
+pub mod LentLaws
 pub mod Answers
 pub mod WritingLaws
 pub mod CheckLaws

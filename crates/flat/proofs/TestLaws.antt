@@ -8,8 +8,8 @@ use Rattle.below.specs.Below.{at}
 use Rattle.tables.specs.Limits.{Limits}
 use Rattle.tables.specs.Tables.{Tables, dependencies}
 use Rattle.tables.specs.Flags.{turnedBit, fixedBit}
-use Rattle.plan.specs.Field.{FieldPlan, planOf, Dependency, inForce, fixed}
-use Rattle.plan.specs.Status.{Status, statusIn, entered, now}
+use Rattle.plan.specs.Field.{FieldPlan, Status, planOf, Dependency, inForce, fixed}
+use Rattle.plan.specs.Status.{statusIn, entered, now}
 use Rattle.log.specs.Claims.{Usable}
 use Rattle.sound.specs.Parts.{enteredBy}
 use Rattle.sound.proofs.Clauses.{sound-says}

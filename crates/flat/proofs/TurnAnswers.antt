@@ -1,7 +1,6 @@
 -- Turn on usable tables by the ways through its code: one law for each return, with the results of the tests as the code has them. Assumes nothing.
 use mathlib.Core.Path.{_≡_, sym, _∙_}
 use mathlib.Core.Bool.{Bool, true, false}
-use mathlib.Core.List.{List}
 use Prim.Native.Nat.{ℕ}
 use lib.ListN.{set}
 use borrow.Author.Tests.{leb-true, leb-false}
@@ -9,8 +8,8 @@ use Rattle.below.specs.Below.{at}
 use Rattle.tables.specs.Limits.{Limits}
 use Rattle.tables.specs.Tables.{Tables, dependencies}
 use Rattle.tables.specs.Flags.{flipBit}
-use Rattle.plan.specs.Field.{FieldPlan, planOf}
-use Rattle.plan.specs.Status.{Status, statusIn}
+use Rattle.plan.specs.Field.{FieldPlan, Status, planOf}
+use Rattle.plan.specs.Status.{statusIn}
 use Rattle.log.specs.CallLog.{turn, accepted, refused}
 use Rattle.log.specs.Calls.{step, flipped, Answered}
 use Rattle.log.specs.Claims.{Usable}
@@ -19,13 +18,10 @@ use Rattle.log.proofs.Steps.{turn-30, turn-31, turn-32, turn-34, turn-0}
 use Rattle.flat.specs.declared.turn_tests.TurnTest.{TurnTest}
 use Rattle.flat.specs.declared.turn_tests.TurnTest.the-variants as test
 use Rattle.flat.specs.InForce.{turnedCyclic}
+use Rattle.flat.specs.Lent.{withFlags}
 use Rattle.flat.specs.TurnTests.{testOf}
 use Rattle.flat.proofs.TestLaws.{test-said}
 use Rattle.flat.proofs.Answers.{answered}
-
--- the tables with other flag bytes of the dependencies
-abbrev pub withFlags : Tables → List ℕ → Tables
-withFlags t flags = record { plan = t .plan; visited = t .visited; droneFlags = t .droneFlags; flags = flags }
 
 -- r: the result of the tests
 module _ (L : Limits) (t : Tables) (u : Usable L t) (w : ℕ) (r : TurnTest) (is-r : r ≡ testOf t w) where

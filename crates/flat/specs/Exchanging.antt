@@ -3,7 +3,7 @@ use mathlib.Core.List.{List}
 use Prim.Native.Nat.{ℕ, zero, suc, _+_, _-_, _≤_, _<_}
 use lib.ListN.{set}
 use Rattle.below.specs.Below.{at}
-use Rattle.tables.specs.Limits.{limits}
+use Rattle.tables.specs.Limits.{Limits}
 
 -- of each dependency the stop whose leaving is awaited, as the number of the next one, and the stop that waits to be entered
 pub record Waits : Type 0 where
@@ -23,7 +23,7 @@ exchangesTo zero ws p = p
 exchangesTo (suc n) ws p = exchangeAt (exchangesTo n ws p) (at ws n)
 
 -- what the exchange of one asks
-pub record CanExchange (p : Waits) (k : ℕ) : Type 0 where
-  pub index-in : k < limits .dependencies
+pub record CanExchange (L : Limits) (p : Waits) (k : ℕ) : Type 0 where
+  pub index-in : k < L .dependencies
   pub from-some : 1 ≤ at (p .from) k
-  pub into-in : at (p .into) k < limits .stops
+  pub into-in : at (p .into) k < L .stops

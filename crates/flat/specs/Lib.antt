@@ -5,3 +5,4 @@ pub mod TurnReplies
 pub mod TurnTests
 pub mod InForce
 pub mod Exchanging
+pub mod Lent

@@ -4,8 +4,8 @@ use mathlib.Core.List.{List, [], _∷_}
 use Prim.Native.Nat.{ℕ}
 use lib.Dec.{leb}
 use Rattle.tables.specs.Tables.{Tables}
-use Rattle.plan.specs.Field.{FieldPlan, planOf, fixed}
-use Rattle.plan.specs.Status.{Status, statusIn, entered, now}
+use Rattle.plan.specs.Field.{FieldPlan, Status, planOf, fixed}
+use Rattle.plan.specs.Status.{statusIn, entered, now}
 use Rattle.flat.specs.declared.turn_tests.TurnTest.{TurnTest}
 use Rattle.flat.specs.declared.turn_tests.TurnTest.the-variants.{Passes, NoDependency, Fixed, FirstEntered}
 

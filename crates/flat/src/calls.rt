@@ -63,7 +63,7 @@ fn check_graph(
     from: &mut [u16; Dependency::FULL],
     into: &mut [u16; Dependency::FULL],
 ) -> TablesCheck
-    requires { ⌜ Room (now owners) (now starts) (now lasts) (now from) (now into) ⌝ }
+    requires { ⌜ Room limits (now owners) (now starts) (now lasts) (now from) (now into) ⌝ }
     ensures { λ r.
         ⌜
         (r ≡ checkOf limits (tablesOf
@@ -71,7 +71,7 @@ fn check_graph(
         (now (locations .entry)) (now (times .entry)) (now (visited .entry)) (now («drone_flags» .entry))
         (now («first_drones» .entry)) (now («first_stops» .entry)) (now («second_drones» .entry)) (now («second_stops» .entry))
         (now (flags .entry))))
-        × (r ≡ CanBeUsed → InForce (tablesOf
+        × (r ≡ CanBeUsed → InForce limits (tablesOf
         (now («drone_count» .entry)) (now («dependency_count» .entry)) (now (names .entry)) (now («stop_counts» .entry))
         (now (locations .entry)) (now (times .entry)) (now (visited .entry)) (now («drone_flags» .entry))
         (now («first_drones» .entry)) (now («first_stops» .entry)) (now («second_drones» .entry)) (now («second_stops» .entry))
@@ -225,10 +225,7 @@ pub fn grant(
         TablesCheck::Usable => grant_sound(
             drone_count,
             dependency_count,
-            names,
             stop_counts,
-            locations,
-            times,
             visited,
             drone_flags,
             first_drones,
@@ -290,22 +287,7 @@ pub fn arrive(
     match check {
         TablesCheck::TooSmall => ArriveReply::TablesTooSmall,
         TablesCheck::NotSound => ArriveReply::NotSound,
-        TablesCheck::Usable => arrive_sound(
-            drone_count,
-            dependency_count,
-            names,
-            stop_counts,
-            locations,
-            times,
-            visited,
-            drone_flags,
-            first_drones,
-            first_stops,
-            second_drones,
-            second_stops,
-            flags,
-            drone,
-        ),
+        TablesCheck::Usable => arrive_sound(drone_count, visited, drone_flags, drone),
     }
 }
 
@@ -371,10 +353,7 @@ pub fn turn(
         TablesCheck::Usable => turn_sound(
             drone_count,
             dependency_count,
-            names,
             stop_counts,
-            locations,
-            times,
             visited,
             drone_flags,
             first_drones,
@@ -454,10 +433,7 @@ pub fn turn_all(
         TablesCheck::Usable => turn_all_sound(
             drone_count,
             dependency_count,
-            names,
             stop_counts,
-            locations,
-            times,
             visited,
             drone_flags,
             first_drones,
@@ -533,10 +509,7 @@ pub fn preview(
         TablesCheck::Usable => preview_sound(
             drone_count,
             dependency_count,
-            names,
             stop_counts,
-            locations,
-            times,
             visited,
             drone_flags,
             first_drones,
@@ -612,10 +585,7 @@ pub fn preview_all(
         TablesCheck::Usable => preview_all_sound(
             drone_count,
             dependency_count,
-            names,
             stop_counts,
-            locations,
-            times,
             visited,
             drone_flags,
             first_drones,
@@ -678,22 +648,7 @@ pub fn write_plan(
     match check {
         TablesCheck::TooSmall => WriteReply::TablesTooSmall,
         TablesCheck::NotSound => WriteReply::NotSound,
-        TablesCheck::Usable => write_sound(
-            buf,
-            drone_count,
-            dependency_count,
-            names,
-            stop_counts,
-            locations,
-            times,
-            visited,
-            drone_flags,
-            first_drones,
-            first_stops,
-            second_drones,
-            second_stops,
-            flags,
-        ),
+        TablesCheck::Usable => write_sound(buf, drone_count, names, stop_counts, locations, times),
     }
 }
 
@@ -753,17 +708,8 @@ pub fn cost(
         TablesCheck::Usable => CostAnswer::Cost(cost_sound(
             drone_count,
             dependency_count,
-            names,
             stop_counts,
-            locations,
-            times,
             visited,
-            drone_flags,
-            first_drones,
-            first_stops,
-            second_drones,
-            second_stops,
-            flags,
             &owners,
             &starts,
             &lasts,
@@ -829,17 +775,8 @@ pub fn rounds(
         TablesCheck::Usable => RoundsAnswer::Rounds(rounds_sound(
             drone_count,
             dependency_count,
-            names,
             stop_counts,
-            locations,
-            times,
             visited,
-            drone_flags,
-            first_drones,
-            first_stops,
-            second_drones,
-            second_stops,
-            flags,
             &owners,
             &starts,
             &lasts,

@@ -9,10 +9,10 @@ use tables::flags::without_under_way;
 use text::writer::WriteAnswer;
 use text::writer::write_text;
 ghost use Rattle.tables.specs.Limits.{limits};
-ghost use Rattle.tables.specs.Tables.{tablesOf};
 ghost use Rattle.log.specs.CallLog.{grant, arrive};
 ghost use Rattle.log.specs.Calls.{step, Answered};
 ghost use Rattle.log.specs.Claims.{Usable};
+ghost use Rattle.flat.specs.Lent.{Lent, Whatever, holdingProgress, holdingGraph, holdingRoutes, withProgress};
 ghost use Rattle.flat.specs.Replies.{grantMeant, arriveMeant};
 ghost use Rattle.flat.specs.Writing.{writeMeant, PlanWritten};
 
@@ -20,10 +20,7 @@ ghost use Rattle.flat.specs.Writing.{writeMeant, PlanWritten};
 pub fn grant_sound(
     drone_count: &[u16],
     dependency_count: &[u16],
-    names: &[u8],
     stop_counts: &[u16],
-    locations: &[u16],
-    times: &[u32],
     visited: &[u16],
     drone_flags: &mut [u8],
     first_drones: &[u8],
@@ -34,24 +31,18 @@ pub fn grant_sound(
     drone: usize,
 ) -> GrantReply
     requires { ⌜
-        Usable limits (tablesOf
-        (now «drone_count») (now «dependency_count») (now names) (now «stop_counts»)
-        (now locations) (now times) (now visited) (now «drone_flags»)
-        (now «first_drones») (now «first_stops») (now «second_drones») (now «second_stops»)
-        (now flags))
+        Lent (holdingGraph
+        (now «drone_count») (now «dependency_count») (now «stop_counts») (now visited) (now «drone_flags»)
+        (now «first_drones») (now «first_stops») (now «second_drones») (now «second_stops») (now flags))
+        (Usable limits)
         ⌝ }
     ensures { λ r.
         ⌜
-        Answered (step limits) (tablesOf
-        (now («drone_count» .entry)) (now («dependency_count» .entry)) (now (names .entry)) (now («stop_counts» .entry))
-        (now (locations .entry)) (now (times .entry)) (now (visited .entry)) (now («drone_flags» .entry))
-        (now («first_drones» .entry)) (now («first_stops» .entry)) (now («second_drones» .entry)) (now («second_stops» .entry))
-        (now (flags .entry)))
-        (grant drone) (grantMeant r) (tablesOf
-        (now («drone_count» .entry)) (now («dependency_count» .entry)) (now (names .entry)) (now («stop_counts» .entry))
-        (now (locations .entry)) (now (times .entry)) (now (visited .entry)) (now («drone_flags» .exit))
-        (now («first_drones» .entry)) (now («first_stops» .entry)) (now («second_drones» .entry)) (now («second_stops» .entry))
-        (now (flags .entry)))
+        Whatever (holdingGraph
+        (now («drone_count» .entry)) (now («dependency_count» .entry)) (now («stop_counts» .entry)) (now (visited .entry)) (now («drone_flags» .entry))
+        (now («first_drones» .entry)) (now («first_stops» .entry)) (now («second_drones» .entry)) (now («second_stops» .entry)) (now (flags .entry)))
+        (Usable limits)
+        (λ t. Answered (step limits) t (grant drone) (grantMeant r) (withProgress t (t .visited) (now («drone_flags» .exit))))
         ⌝ }
 {
     let drones = drone_count[0] as usize;
@@ -87,39 +78,19 @@ pub fn grant_sound(
 // "a drone under way has visited its next stop and is no longer under way".
 pub fn arrive_sound(
     drone_count: &[u16],
-    dependency_count: &[u16],
-    names: &[u8],
-    stop_counts: &[u16],
-    locations: &[u16],
-    times: &[u32],
     visited: &mut [u16],
     drone_flags: &mut [u8],
-    first_drones: &[u8],
-    first_stops: &[u16],
-    second_drones: &[u8],
-    second_stops: &[u16],
-    flags: &[u8],
     drone: usize,
 ) -> ArriveReply
     requires { ⌜
-        Usable limits (tablesOf
-        (now «drone_count») (now «dependency_count») (now names) (now «stop_counts»)
-        (now locations) (now times) (now visited) (now «drone_flags»)
-        (now «first_drones») (now «first_stops») (now «second_drones») (now «second_stops»)
-        (now flags))
+        Lent (holdingProgress (now «drone_count») (now visited) (now «drone_flags»))
+        (Usable limits)
         ⌝ }
     ensures { λ r.
         ⌜
-        Answered (step limits) (tablesOf
-        (now («drone_count» .entry)) (now («dependency_count» .entry)) (now (names .entry)) (now («stop_counts» .entry))
-        (now (locations .entry)) (now (times .entry)) (now (visited .entry)) (now («drone_flags» .entry))
-        (now («first_drones» .entry)) (now («first_stops» .entry)) (now («second_drones» .entry)) (now («second_stops» .entry))
-        (now (flags .entry)))
-        (arrive drone) (arriveMeant r) (tablesOf
-        (now («drone_count» .entry)) (now («dependency_count» .entry)) (now (names .entry)) (now («stop_counts» .entry))
-        (now (locations .entry)) (now (times .entry)) (now (visited .exit)) (now («drone_flags» .exit))
-        (now («first_drones» .entry)) (now («first_stops» .entry)) (now («second_drones» .entry)) (now («second_stops» .entry))
-        (now (flags .entry)))
+        Whatever (holdingProgress (now («drone_count» .entry)) (now (visited .entry)) (now («drone_flags» .entry)))
+        (Usable limits)
+        (λ t. Answered (step limits) t (arrive drone) (arriveMeant r) (withProgress t (now (visited .exit)) (now («drone_flags» .exit))))
         ⌝ }
 {
     let drones = drone_count[0] as usize;
@@ -139,34 +110,20 @@ pub fn arrive_sound(
 pub fn write_sound(
     buf: &mut [u8],
     drone_count: &[u16],
-    dependency_count: &[u16],
     names: &[u8],
     stop_counts: &[u16],
     locations: &[u16],
     times: &[u32],
-    visited: &[u16],
-    drone_flags: &[u8],
-    first_drones: &[u8],
-    first_stops: &[u16],
-    second_drones: &[u8],
-    second_stops: &[u16],
-    flags: &[u8],
 ) -> WriteReply
     requires { ⌜
-        Usable limits (tablesOf
-        (now «drone_count») (now «dependency_count») (now names) (now «stop_counts»)
-        (now locations) (now times) (now visited) (now «drone_flags»)
-        (now «first_drones») (now «first_stops») (now «second_drones») (now «second_stops»)
-        (now flags))
+        Lent (holdingRoutes (now «drone_count») (now names) (now «stop_counts») (now locations) (now times))
+        (Usable limits)
         ⌝ }
     ensures { λ r.
         ⌜
-        PlanWritten limits (tablesOf
-        (now («drone_count» .entry)) (now («dependency_count» .entry)) (now (names .entry)) (now («stop_counts» .entry))
-        (now (locations .entry)) (now (times .entry)) (now (visited .entry)) (now («drone_flags» .entry))
-        (now («first_drones» .entry)) (now («first_stops» .entry)) (now («second_drones» .entry)) (now («second_stops» .entry))
-        (now (flags .entry)))
-        (now (buf .entry)) (now (buf .exit)) (writeMeant r)
+        Whatever (holdingRoutes (now («drone_count» .entry)) (now (names .entry)) (now («stop_counts» .entry)) (now (locations .entry)) (now (times .entry)))
+        (Usable limits)
+        (λ t. PlanWritten limits t (now (buf .entry)) (now (buf .exit)) (writeMeant r))
         ⌝ }
 {
     let drones = drone_count[0] as usize;

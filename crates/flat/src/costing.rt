@@ -7,26 +7,15 @@ use tables::entries::Drone;
 use tables::entries::Stop;
 ghost use mathlib.Core.Path.{_≡_};
 ghost use Rattle.tables.specs.Limits.{limits};
-ghost use Rattle.tables.specs.Tables.{tablesOf};
-ghost use Rattle.sound.specs.Asked.{InForce};
 ghost use Rattle.log.specs.Calls.{costs, costReply, rounds, roundsReply};
-ghost use Rattle.log.specs.Claims.{Usable};
+ghost use Rattle.flat.specs.Lent.{Lent, Whatever, UsableInForce, holdingPlaces};
 
 // "Remaining cost is their sum": of the rounds until each drone finishes, from the drones' progress and with the order now in force.
 pub fn cost_sound(
     drone_count: &[u16],
     dependency_count: &[u16],
-    names: &[u8],
     stop_counts: &[u16],
-    locations: &[u16],
-    times: &[u32],
     visited: &[u16],
-    drone_flags: &[u8],
-    first_drones: &[u8],
-    first_stops: &[u16],
-    second_drones: &[u8],
-    second_stops: &[u16],
-    flags: &[u8],
     owners: &[u8; Stop::FULL],
     starts: &[u16; Drone::FULL],
     lasts: &[u16; Drone::FULL],
@@ -34,25 +23,14 @@ pub fn cost_sound(
     into: &[u16; Dependency::FULL],
 ) -> usize
     requires { ⌜
-        Usable limits (tablesOf
-        (now «drone_count») (now «dependency_count») (now names) (now «stop_counts»)
-        (now locations) (now times) (now visited) (now «drone_flags»)
-        (now «first_drones») (now «first_stops») (now «second_drones») (now «second_stops»)
-        (now flags))
-        × InForce (tablesOf
-        (now «drone_count») (now «dependency_count») (now names) (now «stop_counts»)
-        (now locations) (now times) (now visited) (now «drone_flags»)
-        (now «first_drones») (now «first_stops») (now «second_drones») (now «second_stops»)
-        (now flags))
-        (now owners) (now starts) (now lasts) (now from) (now into)
+        Lent (holdingPlaces (now «drone_count») (now «dependency_count») (now «stop_counts») (now visited))
+        (UsableInForce limits (now owners) (now starts) (now lasts) (now from) (now into))
         ⌝ }
     ensures { λ r.
         ⌜
-        costs r ≡ costReply limits (tablesOf
-        (now («drone_count» .entry)) (now («dependency_count» .entry)) (now (names .entry)) (now («stop_counts» .entry))
-        (now (locations .entry)) (now (times .entry)) (now (visited .entry)) (now («drone_flags» .entry))
-        (now («first_drones» .entry)) (now («first_stops» .entry)) (now («second_drones» .entry)) (now («second_stops» .entry))
-        (now (flags .entry)))
+        Whatever (holdingPlaces (now («drone_count» .entry)) (now («dependency_count» .entry)) (now («stop_counts» .entry)) (now (visited .entry)))
+        (UsableInForce limits (now (owners .entry)) (now (starts .entry)) (now (lasts .entry)) (now (from .entry)) (now (into .entry)))
+        (λ t. costs r ≡ costReply limits t)
         ⌝ }
 {
     let drones = drone_count[0] as usize;
@@ -65,17 +43,8 @@ pub fn cost_sound(
 pub fn rounds_sound(
     drone_count: &[u16],
     dependency_count: &[u16],
-    names: &[u8],
     stop_counts: &[u16],
-    locations: &[u16],
-    times: &[u32],
     visited: &[u16],
-    drone_flags: &[u8],
-    first_drones: &[u8],
-    first_stops: &[u16],
-    second_drones: &[u8],
-    second_stops: &[u16],
-    flags: &[u8],
     owners: &[u8; Stop::FULL],
     starts: &[u16; Drone::FULL],
     lasts: &[u16; Drone::FULL],
@@ -83,25 +52,14 @@ pub fn rounds_sound(
     into: &[u16; Dependency::FULL],
 ) -> usize
     requires { ⌜
-        Usable limits (tablesOf
-        (now «drone_count») (now «dependency_count») (now names) (now «stop_counts»)
-        (now locations) (now times) (now visited) (now «drone_flags»)
-        (now «first_drones») (now «first_stops») (now «second_drones») (now «second_stops»)
-        (now flags))
-        × InForce (tablesOf
-        (now «drone_count») (now «dependency_count») (now names) (now «stop_counts»)
-        (now locations) (now times) (now visited) (now «drone_flags»)
-        (now «first_drones») (now «first_stops») (now «second_drones») (now «second_stops»)
-        (now flags))
-        (now owners) (now starts) (now lasts) (now from) (now into)
+        Lent (holdingPlaces (now «drone_count») (now «dependency_count») (now «stop_counts») (now visited))
+        (UsableInForce limits (now owners) (now starts) (now lasts) (now from) (now into))
         ⌝ }
     ensures { λ r.
         ⌜
-        rounds r ≡ roundsReply limits (tablesOf
-        (now («drone_count» .entry)) (now («dependency_count» .entry)) (now (names .entry)) (now («stop_counts» .entry))
-        (now (locations .entry)) (now (times .entry)) (now (visited .entry)) (now («drone_flags» .entry))
-        (now («first_drones» .entry)) (now («first_stops» .entry)) (now («second_drones» .entry)) (now («second_stops» .entry))
-        (now (flags .entry)))
+        Whatever (holdingPlaces (now («drone_count» .entry)) (now («dependency_count» .entry)) (now («stop_counts» .entry)) (now (visited .entry)))
+        (UsableInForce limits (now (owners .entry)) (now (starts .entry)) (now (lasts .entry)) (now (from .entry)) (now (into .entry)))
+        (λ t. rounds r ≡ roundsReply limits t)
         ⌝ }
 {
     let drones = drone_count[0] as usize;

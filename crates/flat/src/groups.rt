@@ -9,11 +9,11 @@ ghost use Prim.Native.Nat.{ℕ, _<_};
 ghost use lib.ListN.{length};
 ghost use Rattle.below.specs.Below.{at};
 ghost use Rattle.tables.specs.Limits.{limits};
-ghost use Rattle.tables.specs.Tables.{tablesOf};
 ghost use Rattle.log.specs.CallLog.{isGroup};
 ghost use Rattle.log.specs.Calls.{flipFlags};
 ghost use Rattle.log.specs.Claims.{Usable};
 ghost use Rattle.flat.specs.Exchanging.{waits, exchangesTo, CanExchange};
+ghost use Rattle.flat.specs.Lent.{Lent, Whatever, holdingDependencies};
 ghost use Rattle.flat.specs.TurnTests.{walkOf};
 
 // A list that passes "36, an empty list or one not strictly rising".
@@ -35,12 +35,7 @@ pub fn is_group(list: &[u16]) -> bool
 
 // "then 30 to 34 as the list is walked": what the first dependency that does not pass 30 to 32 is refused with.
 pub fn list_test(
-    drone_count: &[u16],
     dependency_count: &[u16],
-    names: &[u8],
-    stop_counts: &[u16],
-    locations: &[u16],
-    times: &[u32],
     visited: &[u16],
     drone_flags: &[u8],
     first_drones: &[u8],
@@ -51,31 +46,24 @@ pub fn list_test(
     list: &[u16],
 ) -> TurnTest
     requires { ⌜
-        Usable limits (tablesOf
-        (now «drone_count») (now «dependency_count») (now names) (now «stop_counts»)
-        (now locations) (now times) (now visited) (now «drone_flags»)
-        (now «first_drones») (now «first_stops») (now «second_drones») (now «second_stops»)
-        (now flags))
+        Lent (holdingDependencies
+        (now «dependency_count») (now visited) (now «drone_flags»)
+        (now «first_drones») (now «first_stops») (now «second_drones») (now «second_stops») (now flags))
+        (Usable limits)
         ⌝ }
     ensures { λ r.
         ⌜
-        r ≡ walkOf (tablesOf
-        (now («drone_count» .entry)) (now («dependency_count» .entry)) (now (names .entry)) (now («stop_counts» .entry))
-        (now (locations .entry)) (now (times .entry)) (now (visited .entry)) (now («drone_flags» .entry))
-        (now («first_drones» .entry)) (now («first_stops» .entry)) (now («second_drones» .entry)) (now («second_stops» .entry))
-        (now (flags .entry)))
-        (now (list .entry))
+        Whatever (holdingDependencies
+        (now («dependency_count» .entry)) (now (visited .entry)) (now («drone_flags» .entry))
+        (now («first_drones» .entry)) (now («first_stops» .entry)) (now («second_drones» .entry)) (now («second_stops» .entry)) (now (flags .entry)))
+        (Usable limits)
+        (λ t. r ≡ walkOf t (now (list .entry)))
         ⌝ }
 {
     let mut i: usize = 0;
     while i < list.len() {
         let test = turn_test(
-            drone_count,
             dependency_count,
-            names,
-            stop_counts,
-            locations,
-            times,
             visited,
             drone_flags,
             first_drones,
@@ -102,7 +90,7 @@ pub fn exchange_all(
     into: &mut [u16; Dependency::FULL],
     list: &[u16],
 )
-    requires { ⌜ (length (now from) ≡ limits .dependencies) × (length (now into) ≡ limits .dependencies) × ((n : ℕ) → n < length (now list) → CanExchange (exchangesTo n (now list) (waits (now from) (now into))) (at (now list) n)) ⌝ }
+    requires { ⌜ (length (now from) ≡ limits .dependencies) × (length (now into) ≡ limits .dependencies) × ((n : ℕ) → n < length (now list) → CanExchange limits (exchangesTo n (now list) (waits (now from) (now into))) (at (now list) n)) ⌝ }
     ensures { λ _. ⌜ waits (now (from .exit)) (now (into .exit)) ≡ exchangesTo (length (now (list .entry))) (now (list .entry)) (waits (now (from .entry)) (now (into .entry))) ⌝ }
 {
     let mut k: usize = 0;

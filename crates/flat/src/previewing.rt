@@ -17,10 +17,8 @@ ghost use mathlib.Core.Path.{_≡_};
 ghost use Prim.Native.Nat.{_^_, _<_};
 ghost use lib.IntN.{subℕ};
 ghost use Rattle.tables.specs.Limits.{limits};
-ghost use Rattle.tables.specs.Tables.{tablesOf};
-ghost use Rattle.sound.specs.Asked.{InForce};
-ghost use Rattle.log.specs.Claims.{Usable};
 ghost use Rattle.log.specs.Preview.{preview, previewAll};
+ghost use Rattle.flat.specs.Lent.{Lent, Whatever, UsableInForce, holdingGraph};
 ghost use Rattle.flat.specs.TurnReplies.{previewMeant, previewAllMeant};
 
 // A number less another, which may be the greater one.
@@ -35,10 +33,7 @@ fn difference(after: usize, before: usize) -> i32
 pub fn preview_sound(
     drone_count: &[u16],
     dependency_count: &[u16],
-    names: &[u8],
     stop_counts: &[u16],
-    locations: &[u16],
-    times: &[u32],
     visited: &[u16],
     drone_flags: &[u8],
     first_drones: &[u8],
@@ -54,35 +49,22 @@ pub fn preview_sound(
     into: &mut [u16; Dependency::FULL],
 ) -> PreviewReply
     requires { ⌜
-        Usable limits (tablesOf
-        (now «drone_count») (now «dependency_count») (now names) (now «stop_counts»)
-        (now locations) (now times) (now visited) (now «drone_flags»)
-        (now «first_drones») (now «first_stops») (now «second_drones») (now «second_stops»)
-        (now flags))
-        × InForce (tablesOf
-        (now «drone_count») (now «dependency_count») (now names) (now «stop_counts»)
-        (now locations) (now times) (now visited) (now «drone_flags»)
-        (now «first_drones») (now «first_stops») (now «second_drones») (now «second_stops»)
-        (now flags))
-        (now owners) (now starts) (now lasts) (now from) (now into)
+        Lent (holdingGraph
+        (now «drone_count») (now «dependency_count») (now «stop_counts») (now visited) (now «drone_flags»)
+        (now «first_drones») (now «first_stops») (now «second_drones») (now «second_stops») (now flags))
+        (UsableInForce limits (now owners) (now starts) (now lasts) (now from) (now into))
         ⌝ }
     ensures { λ r.
         ⌜
-        previewMeant r ≡ preview limits (tablesOf
-        (now («drone_count» .entry)) (now («dependency_count» .entry)) (now (names .entry)) (now («stop_counts» .entry))
-        (now (locations .entry)) (now (times .entry)) (now (visited .entry)) (now («drone_flags» .entry))
-        (now («first_drones» .entry)) (now («first_stops» .entry)) (now («second_drones» .entry)) (now («second_stops» .entry))
-        (now (flags .entry)))
-        dependency
+        Whatever (holdingGraph
+        (now («drone_count» .entry)) (now («dependency_count» .entry)) (now («stop_counts» .entry)) (now (visited .entry)) (now («drone_flags» .entry))
+        (now («first_drones» .entry)) (now («first_stops» .entry)) (now («second_drones» .entry)) (now («second_stops» .entry)) (now (flags .entry)))
+        (UsableInForce limits (now (owners .entry)) (now (starts .entry)) (now (lasts .entry)) (now (from .entry)) (now (into .entry)))
+        (λ t. previewMeant r ≡ preview limits t dependency)
         ⌝ }
 {
     let test = turn_test(
-        drone_count,
         dependency_count,
-        names,
-        stop_counts,
-        locations,
-        times,
         visited,
         drone_flags,
         first_drones,
@@ -114,10 +96,7 @@ pub fn preview_sound(
 pub fn preview_all_sound(
     drone_count: &[u16],
     dependency_count: &[u16],
-    names: &[u8],
     stop_counts: &[u16],
-    locations: &[u16],
-    times: &[u32],
     visited: &[u16],
     drone_flags: &[u8],
     first_drones: &[u8],
@@ -133,38 +112,25 @@ pub fn preview_all_sound(
     into: &mut [u16; Dependency::FULL],
 ) -> PreviewAllReply
     requires { ⌜
-        Usable limits (tablesOf
-        (now «drone_count») (now «dependency_count») (now names) (now «stop_counts»)
-        (now locations) (now times) (now visited) (now «drone_flags»)
-        (now «first_drones») (now «first_stops») (now «second_drones») (now «second_stops»)
-        (now flags))
-        × InForce (tablesOf
-        (now «drone_count») (now «dependency_count») (now names) (now «stop_counts»)
-        (now locations) (now times) (now visited) (now «drone_flags»)
-        (now «first_drones») (now «first_stops») (now «second_drones») (now «second_stops»)
-        (now flags))
-        (now owners) (now starts) (now lasts) (now from) (now into)
+        Lent (holdingGraph
+        (now «drone_count») (now «dependency_count») (now «stop_counts») (now visited) (now «drone_flags»)
+        (now «first_drones») (now «first_stops») (now «second_drones») (now «second_stops») (now flags))
+        (UsableInForce limits (now owners) (now starts) (now lasts) (now from) (now into))
         ⌝ }
     ensures { λ r.
         ⌜
-        previewAllMeant r ≡ previewAll limits (tablesOf
-        (now («drone_count» .entry)) (now («dependency_count» .entry)) (now (names .entry)) (now («stop_counts» .entry))
-        (now (locations .entry)) (now (times .entry)) (now (visited .entry)) (now («drone_flags» .entry))
-        (now («first_drones» .entry)) (now («first_stops» .entry)) (now («second_drones» .entry)) (now («second_stops» .entry))
-        (now (flags .entry)))
-        (now (list .entry))
+        Whatever (holdingGraph
+        (now («drone_count» .entry)) (now («dependency_count» .entry)) (now («stop_counts» .entry)) (now (visited .entry)) (now («drone_flags» .entry))
+        (now («first_drones» .entry)) (now («first_stops» .entry)) (now («second_drones» .entry)) (now («second_stops» .entry)) (now (flags .entry)))
+        (UsableInForce limits (now (owners .entry)) (now (starts .entry)) (now (lasts .entry)) (now (from .entry)) (now (into .entry)))
+        (λ t. previewAllMeant r ≡ previewAll limits t (now (list .entry)))
         ⌝ }
 {
     if !is_group(list) {
         return PreviewAllReply::NotRising;
     }
     let test = list_test(
-        drone_count,
         dependency_count,
-        names,
-        stop_counts,
-        locations,
-        times,
         visited,
         drone_flags,
         first_drones,

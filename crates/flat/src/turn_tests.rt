@@ -8,9 +8,9 @@ ghost use Prim.Native.Nat.{_<_};
 ghost use lib.ListN.{length};
 ghost use Rattle.below.specs.Below.{at};
 ghost use Rattle.tables.specs.Limits.{limits};
-ghost use Rattle.tables.specs.Tables.{tablesOf};
 ghost use Rattle.sound.specs.Parts.{enteredBy};
 ghost use Rattle.log.specs.Claims.{Usable};
+ghost use Rattle.flat.specs.Lent.{Lent, Whatever, holdingDependencies};
 ghost use Rattle.flat.specs.TurnTests.{testOf};
 
 // A dependency that may be turned if no cycle comes of it, or why it may not.
@@ -45,12 +45,7 @@ fn in_force(turned: bool, planned: bool, other: bool) -> bool
 
 // "30 no such dependency; 31 fixed; 32 the first drone has visited or is under way to its stop", with the order now in force: the first that holds.
 pub fn turn_test(
-    drone_count: &[u16],
     dependency_count: &[u16],
-    names: &[u8],
-    stop_counts: &[u16],
-    locations: &[u16],
-    times: &[u32],
     visited: &[u16],
     drone_flags: &[u8],
     first_drones: &[u8],
@@ -61,20 +56,17 @@ pub fn turn_test(
     dependency: usize,
 ) -> TurnTest
     requires { ⌜
-        Usable limits (tablesOf
-        (now «drone_count») (now «dependency_count») (now names) (now «stop_counts»)
-        (now locations) (now times) (now visited) (now «drone_flags»)
-        (now «first_drones») (now «first_stops») (now «second_drones») (now «second_stops»)
-        (now flags))
+        Lent (holdingDependencies
+        (now «dependency_count») (now visited) (now «drone_flags»)
+        (now «first_drones») (now «first_stops») (now «second_drones») (now «second_stops») (now flags))
+        (Usable limits)
         ⌝ }
     ensures { λ r.
         ⌜
-        r ≡ testOf (tablesOf
-        (now («drone_count» .entry)) (now («dependency_count» .entry)) (now (names .entry)) (now («stop_counts» .entry))
-        (now (locations .entry)) (now (times .entry)) (now (visited .entry)) (now («drone_flags» .entry))
-        (now («first_drones» .entry)) (now («first_stops» .entry)) (now («second_drones» .entry)) (now («second_stops» .entry))
-        (now (flags .entry)))
-        dependency
+        Whatever (holdingDependencies
+        (now («dependency_count» .entry)) (now (visited .entry)) (now («drone_flags» .entry))
+        (now («first_drones» .entry)) (now («first_stops» .entry)) (now («second_drones» .entry)) (now («second_stops» .entry)) (now (flags .entry)))
+        (Usable limits) (λ t. r ≡ testOf t dependency)
         ⌝ }
 {
     let count = dependency_count[0] as usize;

@@ -15,21 +15,16 @@ use tables::entries::Drone;
 use tables::entries::Stop;
 use tables::flags::flipped;
 ghost use Rattle.tables.specs.Limits.{limits};
-ghost use Rattle.tables.specs.Tables.{tablesOf};
-ghost use Rattle.sound.specs.Asked.{InForce};
 ghost use Rattle.log.specs.CallLog.{turn, turnAll};
 ghost use Rattle.log.specs.Calls.{step, Answered};
-ghost use Rattle.log.specs.Claims.{Usable};
+ghost use Rattle.flat.specs.Lent.{Lent, Whatever, UsableInForce, holdingGraph, withFlags};
 ghost use Rattle.flat.specs.TurnReplies.{turnMeant, turnAllMeant};
 
 // "flips bit 0 of one dependency", where the graph, which is in the last five tables, has no cycle with it.
 pub fn turn_sound(
     drone_count: &[u16],
     dependency_count: &[u16],
-    names: &[u8],
     stop_counts: &[u16],
-    locations: &[u16],
-    times: &[u32],
     visited: &[u16],
     drone_flags: &[u8],
     first_drones: &[u8],
@@ -45,39 +40,22 @@ pub fn turn_sound(
     into: &mut [u16; Dependency::FULL],
 ) -> TurnReply
     requires { ⌜
-        Usable limits (tablesOf
-        (now «drone_count») (now «dependency_count») (now names) (now «stop_counts»)
-        (now locations) (now times) (now visited) (now «drone_flags»)
-        (now «first_drones») (now «first_stops») (now «second_drones») (now «second_stops»)
-        (now flags))
-        × InForce (tablesOf
-        (now «drone_count») (now «dependency_count») (now names) (now «stop_counts»)
-        (now locations) (now times) (now visited) (now «drone_flags»)
-        (now «first_drones») (now «first_stops») (now «second_drones») (now «second_stops»)
-        (now flags))
-        (now owners) (now starts) (now lasts) (now from) (now into)
+        Lent (holdingGraph
+        (now «drone_count») (now «dependency_count») (now «stop_counts») (now visited) (now «drone_flags»)
+        (now «first_drones») (now «first_stops») (now «second_drones») (now «second_stops») (now flags))
+        (UsableInForce limits (now owners) (now starts) (now lasts) (now from) (now into))
         ⌝ }
     ensures { λ r.
         ⌜
-        Answered (step limits) (tablesOf
-        (now («drone_count» .entry)) (now («dependency_count» .entry)) (now (names .entry)) (now («stop_counts» .entry))
-        (now (locations .entry)) (now (times .entry)) (now (visited .entry)) (now («drone_flags» .entry))
-        (now («first_drones» .entry)) (now («first_stops» .entry)) (now («second_drones» .entry)) (now («second_stops» .entry))
-        (now (flags .entry)))
-        (turn dependency) (turnMeant r) (tablesOf
-        (now («drone_count» .entry)) (now («dependency_count» .entry)) (now (names .entry)) (now («stop_counts» .entry))
-        (now (locations .entry)) (now (times .entry)) (now (visited .entry)) (now («drone_flags» .entry))
-        (now («first_drones» .entry)) (now («first_stops» .entry)) (now («second_drones» .entry)) (now («second_stops» .entry))
-        (now (flags .exit)))
+        Whatever (holdingGraph
+        (now («drone_count» .entry)) (now («dependency_count» .entry)) (now («stop_counts» .entry)) (now (visited .entry)) (now («drone_flags» .entry))
+        (now («first_drones» .entry)) (now («first_stops» .entry)) (now («second_drones» .entry)) (now («second_stops» .entry)) (now (flags .entry)))
+        (UsableInForce limits (now (owners .entry)) (now (starts .entry)) (now (lasts .entry)) (now (from .entry)) (now (into .entry)))
+        (λ t. Answered (step limits) t (turn dependency) (turnMeant r) (withFlags t (now (flags .exit))))
         ⌝ }
 {
     let test = turn_test(
-        drone_count,
         dependency_count,
-        names,
-        stop_counts,
-        locations,
-        times,
         visited,
         drone_flags,
         first_drones,
@@ -108,10 +86,7 @@ pub fn turn_sound(
 pub fn turn_all_sound(
     drone_count: &[u16],
     dependency_count: &[u16],
-    names: &[u8],
     stop_counts: &[u16],
-    locations: &[u16],
-    times: &[u32],
     visited: &[u16],
     drone_flags: &[u8],
     first_drones: &[u8],
@@ -127,42 +102,25 @@ pub fn turn_all_sound(
     into: &mut [u16; Dependency::FULL],
 ) -> TurnAllReply
     requires { ⌜
-        Usable limits (tablesOf
-        (now «drone_count») (now «dependency_count») (now names) (now «stop_counts»)
-        (now locations) (now times) (now visited) (now «drone_flags»)
-        (now «first_drones») (now «first_stops») (now «second_drones») (now «second_stops»)
-        (now flags))
-        × InForce (tablesOf
-        (now «drone_count») (now «dependency_count») (now names) (now «stop_counts»)
-        (now locations) (now times) (now visited) (now «drone_flags»)
-        (now «first_drones») (now «first_stops») (now «second_drones») (now «second_stops»)
-        (now flags))
-        (now owners) (now starts) (now lasts) (now from) (now into)
+        Lent (holdingGraph
+        (now «drone_count») (now «dependency_count») (now «stop_counts») (now visited) (now «drone_flags»)
+        (now «first_drones») (now «first_stops») (now «second_drones») (now «second_stops») (now flags))
+        (UsableInForce limits (now owners) (now starts) (now lasts) (now from) (now into))
         ⌝ }
     ensures { λ r.
         ⌜
-        Answered (step limits) (tablesOf
-        (now («drone_count» .entry)) (now («dependency_count» .entry)) (now (names .entry)) (now («stop_counts» .entry))
-        (now (locations .entry)) (now (times .entry)) (now (visited .entry)) (now («drone_flags» .entry))
-        (now («first_drones» .entry)) (now («first_stops» .entry)) (now («second_drones» .entry)) (now («second_stops» .entry))
-        (now (flags .entry)))
-        (turnAll (now (list .entry))) (turnAllMeant r) (tablesOf
-        (now («drone_count» .entry)) (now («dependency_count» .entry)) (now (names .entry)) (now («stop_counts» .entry))
-        (now (locations .entry)) (now (times .entry)) (now (visited .entry)) (now («drone_flags» .entry))
-        (now («first_drones» .entry)) (now («first_stops» .entry)) (now («second_drones» .entry)) (now («second_stops» .entry))
-        (now (flags .exit)))
+        Whatever (holdingGraph
+        (now («drone_count» .entry)) (now («dependency_count» .entry)) (now («stop_counts» .entry)) (now (visited .entry)) (now («drone_flags» .entry))
+        (now («first_drones» .entry)) (now («first_stops» .entry)) (now («second_drones» .entry)) (now («second_stops» .entry)) (now (flags .entry)))
+        (UsableInForce limits (now (owners .entry)) (now (starts .entry)) (now (lasts .entry)) (now (from .entry)) (now (into .entry)))
+        (λ t. Answered (step limits) t (turnAll (now (list .entry))) (turnAllMeant r) (withFlags t (now (flags .exit))))
         ⌝ }
 {
     if !is_group(list) {
         return TurnAllReply::NotRising;
     }
     let test = list_test(
-        drone_count,
         dependency_count,
-        names,
-        stop_counts,
-        locations,
-        times,
         visited,
         drone_flags,
         first_drones,

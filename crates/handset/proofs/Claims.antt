@@ -16,11 +16,11 @@ use Rattle.tables.proofs.FlagLaws.{set-under-way, clear-under-way}
 use Rattle.precedence.specs.Graph.{Cycle, free, finished}
 use Rattle.precedence.proofs.Rounds.{finished-at, somebody-free}
 use Rattle.precedence.proofs.Visits.{acyclic-iff}
-use Rattle.plan.specs.Field.{FieldPlan, planOf, graph}
-use Rattle.plan.specs.Status.{Status, statusIn}
+use Rattle.plan.specs.Field.{FieldPlan, planOf, graph, Status}
+use Rattle.plan.specs.Status.{statusIn}
 use Rattle.plan.proofs.Turns.{graph-formed}
 use Rattle.sound.specs.Sound.{sound}
-use Rattle.log.specs.CallLog.{grant, arrive, Reply, accepted, isAccepted, replyNumber, short}
+use Rattle.log.specs.CallLog.{grant, arrive, Reply, isAccepted, replyNumber, short}
 use Rattle.log.specs.Calls.{arrived, replyOf, arriveStep}
 use Rattle.log.specs.Claims.{Usable, MayGo, MayArrive}
 use Rattle.log.proofs.Checks.{is-accepted, grant-accepted, grant-passed, free-goes}
@@ -124,8 +124,8 @@ module _ (L : Limits) (t : Tables) (u : Usable L t) where
   abbrev S : Status
   S = statusIn t
 
-  no-cycle : Cycle (graph F (S .turned)) → ⊥
-  no-cycle = acyclic-iff (graph F (S .turned)) (graph-formed F (plan-accepted L t u) (S .turned) (unfixed-says F S (parts L t u .fixed-unturned))) .0 (parts L t u .no-cycle)
+  no-cycle : Cycle (graph F S) → ⊥
+  no-cycle = acyclic-iff (graph F S) (graph-formed F (plan-accepted L t u) S (unfixed-says F S (parts L t u .fixed-unturned))) .0 (parts L t u .no-cycle)
 
   -- nobody may go, and a drone is short
   somebody : ((e : ℕ) → e < F .drones → isAccepted (replyOf L t (grant e)) ≡ false) → (d : ℕ) → d < F .drones → short F S d ≡ true → (e : ℕ) × (e < F .drones) × (S .underWay e ≡ true)
@@ -139,15 +139,15 @@ module _ (L : Limits) (t : Tables) (u : Usable L t) where
   )
     where
       free-one : ℕ
-      free-one = firstBelow (F .drones) (free (graph F (S .turned)) (S .place))
+      free-one = firstBelow (F .drones) (free (graph F S) (S .place))
 
-      unfinished : finished (graph F (S .turned)) (S .place) ≡ false
-      unfinished = by-cases (finished (graph F (S .turned)) (S .place))
-          (λ e. absurd (omega (arith, finished-at (graph F (S .turned)) (S .place) e d l, ltb-true (S .place d) (F .last d) s)))
+      unfinished : finished (graph F S) (S .place) ≡ false
+      unfinished = by-cases (finished (graph F S) (S .place))
+          (λ e. absurd (omega (arith, finished-at (graph F S) (S .place) e d l, ltb-true (S .place d) (F .last d) s)))
           (λ e. e)
 
-      is-free : (free-one < F .drones) × (free (graph F (S .turned)) (S .place) free-one ≡ true)
-      is-free = somebody-free (graph F (S .turned)) (graph-formed F (plan-accepted L t u) (S .turned) (unfixed-says F S (parts L t u .fixed-unturned))) (S .place) no-cycle unfinished
+      is-free : (free-one < F .drones) × (free (graph F S) (S .place) free-one ≡ true)
+      is-free = somebody-free (graph F S) (graph-formed F (plan-accepted L t u) S (unfixed-says F S (parts L t u .fixed-unturned))) (S .place) no-cycle unfinished
 
 none-left : (L : Limits) (t : Tables) (u : Usable L t) (e : ℕ) → e < drones (afterGrants L t (L .drones) .plan) → isAccepted (replyOf L (afterGrants L t (L .drones)) (grant e)) ≡ false
 none-left L t u e l =

@@ -11,7 +11,7 @@ use Rattle.below.specs.Below.{at, pick}
 use Rattle.below.proofs.Tests.{by-cases, and-left, and-right, true-or-false}
 use Rattle.below.proofs.Index.{at-set}
 use Rattle.tables.specs.Limits.{Limits}
-use Rattle.tables.specs.Tables.{PlanLists, Tables, drones}
+use Rattle.tables.specs.Tables.{PlanLists, Tables}
 use Rattle.tables.specs.Flags.{turnedBit, underWayBit, setUnderWay}
 use Rattle.tables.proofs.FlagLaws.{set-under-way}
 use Rattle.plan.specs.Field.{planOf}

@@ -5,6 +5,7 @@ ghost use mathlib.Core.Path.{_≡_};
 ghost use mathlib.Core.Bool.{false};
 ghost use Prim.Native.Nat.{_+_, _^_, _<_};
 ghost use Rattle.below.specs.Below.{pick};
+ghost use Rattle.tables.specs.Limits.{limits};
 ghost use Rattle.log.specs.CallLog.{isAccepted, replyNumber};
 ghost use Rattle.flat.specs.Replies.{grantMeant, arriveMeant};
 ghost use Rattle.handset.specs.Press.{isReported, droneOf, unusable, pressMeant, pressRefused, replyWith};
@@ -100,7 +101,7 @@ fn is_granted(reply: GrantReply) -> bool
 
 // The number so far, with the drone's bit if this grant was accepted: bits of lower drones only stand in it before.
 pub fn with_bit(bits: u32, drone: usize, reply: GrantReply) -> u32
-    requires { ⌜ (drone < 32) × (bits < 2 ^ drone) ⌝ }
+    requires { ⌜ (drone < limits .drones) × (bits < 2 ^ drone) ⌝ }
     ensures { λ r. ⌜ r ≡ bits + pick (isAccepted (grantMeant reply)) (2 ^ drone) 0 ⌝ }
 {
     if is_granted(reply) {

@@ -24,10 +24,6 @@ pub capital-range : (b : ℕ) → isCapital b ≡ true → (65 ≤ b) × (b ≤ 
 unfolding isCapital
 capital-range b h = let w = both (leb 65 b) (leb b 90) h in (leb-true 65 b (w .0), leb-true b 90 (w .1))
 
-pub capital-in : (b : ℕ) → 65 ≤ b → b ≤ 90 → isCapital b ≡ true
-unfolding isCapital
-capital-in b h k = rw (le-leb 65 b h, le-leb b 90 k) refl
-
 pub capital-below : (b : ℕ) → b < 65 → isCapital b ≡ false
 unfolding isCapital
 capital-below b h = rw (lt-leb 65 b h) refl

@@ -32,9 +32,6 @@ put-put {b} {b₁} {b₂} {xs} {ys} {at} {n₁} {n₂} p q = record {
 pub put-none : (b : List ℕ) (at : ℕ) → Put b at [] b at
 put-none b at = record { next-is = sym (add-zero at); written = refl }
 
-pub put-one : (b : List ℕ) (at x : ℕ) → Put b at (x ∷ []) (set b at x) (at + 1)
-put-one b at x = record { next-is = refl; written = refl }
-
 -- ---- what is left to write, in a loop: written from here on it gives what the whole gives
 
 pub record Rest (b : List ℕ) (next : ℕ) (rest : List ℕ) (b₀ : List ℕ) (at : ℕ) (whole : List ℕ) : Type 0 where

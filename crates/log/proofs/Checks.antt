@@ -15,8 +15,8 @@ use Rattle.below.proofs.Search.{firstBelow-first, first-is}
 use Rattle.below.proofs.Every.{allBelow-at}
 use Rattle.precedence.specs.Graph.{blocks, free, cyclic}
 use Rattle.precedence.proofs.Rounds.{blocks-true, blocks-open, free-if, free-open, free-unfinished}
-use Rattle.plan.specs.Field.{FieldPlan, inForce, flipAll, graph, fixed}
-use Rattle.plan.specs.Status.{Status, entered, unmet, now, waitsKept}
+use Rattle.plan.specs.Field.{FieldPlan, inForce, graph, fixed, Status, afterTurns}
+use Rattle.plan.specs.Status.{entered, unmet, now, waitsKept}
 use Rattle.log.specs.CallLog.{grant, arrive, turn, turnAll, Reply, accepted, refused, mustWait, replyNumber, awaited, isAccepted, Check, when, firstThatHolds, isGroup, walked, refusals, replyIn}
 use Rattle.log.specs.Claims.{IntoNext, Met, Waiting, MayGo, MustWait, MayArrive, Unentered, Turnable, Group, AllTurnable}
 use Rattle.log.proofs.Groups.{group-iff}
@@ -61,16 +61,16 @@ module _ (F : FieldPlan) (s : Status) where
   waiting-rows : {d : ℕ} → leb drones d ≡ false → leb (last d) (place d) ≡ false → underWay d ≡ false → Waiting F s d
   waiting-rows {d} a b c = record { exists = leb-false drones d a; unfinished = leb-false (last d) (place d) b; idle = c }
 
-  first-unmet : (d : ℕ) → First count (blocks (graph F turned) place d) (unmet F s d)
-  first-unmet d = firstBelow-first count (blocks (graph F turned) place d)
+  first-unmet : (d : ℕ) → First count (blocks (graph F s) place d) (unmet F s d)
+  first-unmet d = firstBelow-first count (blocks (graph F s) place d)
 
   -- a dependency holds drone d back when it is one into its next stop and is not met
-  met-if : (d w : ℕ) → blocks (graph F turned) place d w ≡ false → IntoNext F s d w → Met F s w
-  met-if d w e (l, q, k) = ltb-false (place (now F s w .first)) (suc (now F s w .firstStop)) (sym (blocks-open (graph F turned) place d w q k) ∙ e)
+  met-if : (d w : ℕ) → blocks (graph F s) place d w ≡ false → IntoNext F s d w → Met F s w
+  met-if d w e (l, q, k) = ltb-false (place (now F s w .first)) (suc (now F s w .firstStop)) (sym (blocks-open (graph F s) place d w q k) ∙ e)
 
-  if-met : (d w : ℕ) → w < count → (IntoNext F s d w → Met F s w) → blocks (graph F turned) place d w ≡ false
-  if-met d w l h = by-cases (blocks (graph F turned) place d w)
-      (λ e. let b = blocks-true (graph F turned) place d w e in absurd (omega (arith, b .is-open, h (l, b .is-waiter, b .is-next))))
+  if-met : (d w : ℕ) → w < count → (IntoNext F s d w → Met F s w) → blocks (graph F s) place d w ≡ false
+  if-met d w l h = by-cases (blocks (graph F s) place d w)
+      (λ e. let b = blocks-true (graph F s) place d w e in absurd (omega (arith, b .is-open, h (l, b .is-waiter, b .is-next))))
       (λ e. e)
 
   none-unmet : (d : ℕ) → ((w : ℕ) → IntoNext F s d w → Met F s w) → unmet F s d ≡ count
@@ -96,11 +96,11 @@ module _ (F : FieldPlan) (s : Status) where
           rw (lt-leb drones d (x .exists), lt-leb (last d) (place d) (x .unfinished), x .idle, le-ltb (unmet F s d) count (omega (arith, none-unmet d (g .met)))) refl
 
   -- such a drone visits its next stop in the next round
-  pub go-free : (d : ℕ) → MayGo F s d → free (graph F turned) place d ≡ true
-  go-free d g = free-if (graph F turned) place d (g .waiting .unfinished) (λ w l q k. g .met w (l, q, k))
+  pub go-free : (d : ℕ) → MayGo F s d → free (graph F s) place d ≡ true
+  go-free d g = free-if (graph F s) place d (g .waiting .unfinished) (λ w l q k. g .met w (l, q, k))
 
-  pub free-goes : (d : ℕ) → d < drones → free (graph F turned) place d ≡ true → underWay d ≡ false → MayGo F s d
-  free-goes d l f i = record { waiting = record { exists = l; unfinished = free-unfinished (graph F turned) place d f; idle = i }; met = λ w (h, q, k). free-open (graph F turned) place d f w h q k }
+  pub free-goes : (d : ℕ) → d < drones → free (graph F s) place d ≡ true → underWay d ≡ false → MayGo F s d
+  free-goes d l f i = record { waiting = record { exists = l; unfinished = free-unfinished (graph F s) place d f; idle = i }; met = λ w (h, q, k). free-open (graph F s) place d f w h q k }
 
   pub grant-waits : (d w : ℕ) → (replyIn F s (grant d) ≡ mustWait w) ↔ MustWait F s d w
   unfolding replyIn
@@ -109,7 +109,7 @@ module _ (F : FieldPlan) (s : Status) where
       waits : unmet F s d ≡ w → ltb (unmet F s d) count ≡ true → Waiting F s d → MustWait F s d w
       waits q e x =
           let l : unmet F s d < count = ltb-true (unmet F s d) count e in
-          let b = blocks-true (graph F turned) place d w (rw q at (first-unmet d .found l)) in
+          let b = blocks-true (graph F s) place d w (rw q at (first-unmet d .found l)) in
           record {
             waiting = x;
             into-next = (omega arith, b .is-waiter, b .is-next);
@@ -128,7 +128,7 @@ module _ (F : FieldPlan) (s : Status) where
       from m =
           let x = m .waiting in
           let (l, q, k) = m .into-next in
-          let lowest : unmet F s d ≡ w = first-is (blocks (graph F turned) place d) count w l (blocks-open (graph F turned) place d w q k ∙ lt-ltb (place (now F s w .first)) (suc (now F s w .firstStop)) (not-met (m .unmet))) (λ v h. if-met d v (omega arith) (m .lowest v h)) in
+          let lowest : unmet F s d ≡ w = first-is (blocks (graph F s) place d) count w l (blocks-open (graph F s) place d w q k ∙ lt-ltb (place (now F s w .first)) (suc (now F s w .firstStop)) (not-met (m .unmet))) (λ v h. if-met d v (omega arith) (m .lowest v h)) in
           rw (lt-leb drones d (x .exists), lt-leb (last d) (place d) (x .unfinished), x .idle, lt-ltb (unmet F s d) count (omega arith)) (ap mustWait lowest)
         where
           not-met : (Met F s w → ⊥) → place (now F s w .first) < suc (now F s w .firstStop)
@@ -225,7 +225,7 @@ module _ (F : FieldPlan) (s : Status) where
 
   -- 34's row
   abbrev pub cycleRow : List ℕ → List Check
-  cycleRow ws = when (cyclic (graph F (flipAll turned ws))) (refused 34) ∷ []
+  cycleRow ws = when (cyclic (graph F (afterTurns s ws))) (refused 34) ∷ []
 
   group-said : waitsKept F s ≡ true → (ws : List ℕ) (r : Reply) → 36 ≢ replyNumber r → 30 ≢ replyNumber r → 31 ≢ replyNumber r → 32 ≢ replyNumber r → replyIn F s (turnAll ws) ≡ r → Group ws × (AllTurnable F s ws × Said (cycleRow ws) r)
   unfolding replyIn
@@ -238,13 +238,13 @@ module _ (F : FieldPlan) (s : Status) where
   unfolding replyIn
   group-from ws g m = rw (group-iff ws .1 g) (walk-passed ws (cycleRow ws) (λ w i. passes (m w i)))
 
-  pub group-accepted : waitsKept F s ≡ true → (ws : List ℕ) → (replyIn F s (turnAll ws) ≡ accepted) ↔ (Group ws × (AllTurnable F s ws × (cyclic (graph F (flipAll turned ws)) ≡ false)))
+  pub group-accepted : waitsKept F s ≡ true → (ws : List ℕ) → (replyIn F s (turnAll ws) ≡ accepted) ↔ (Group ws × (AllTurnable F s ws × (cyclic (graph F (afterTurns s ws)) ≡ false)))
   group-accepted k ws = (
     λ e. let (g, x) = group-said k ws accepted (omega arith) (omega arith) (omega arith) (omega arith) e in (g, (x .0, further (x .1) (omega arith) .0)),
     λ (g, x). group-from ws g (x .0) ∙ rw (x .1) refl,
   )
 
-  pub group-cycle : waitsKept F s ≡ true → (ws : List ℕ) → (replyIn F s (turnAll ws) ≡ refused 34) ↔ (Group ws × (AllTurnable F s ws × (cyclic (graph F (flipAll turned ws)) ≡ true)))
+  pub group-cycle : waitsKept F s ≡ true → (ws : List ℕ) → (replyIn F s (turnAll ws) ≡ refused 34) ↔ (Group ws × (AllTurnable F s ws × (cyclic (graph F (afterTurns s ws)) ≡ true)))
   group-cycle k ws = (
     λ e. let (g, x) = group-said k ws (refused 34) (omega arith) (omega arith) (omega arith) (omega arith) e in (g, (x .0, elim (x .1) [ inl (f, q) ↦ f | inr (f, q) ↦ differ q (omega arith) ])),
     λ (g, x). group-from ws g (x .0) ∙ rw (x .1) refl,
@@ -264,7 +264,7 @@ module _ (F : FieldPlan) (s : Status) where
   pub no-group : (ws : List ℕ) → (replyIn F s (turnAll ws) ≡ refused 36) ↔ (Group ws → ⊥)
   unfolding replyIn
   no-group ws = (
-    λ e g. walk-other ws (cycleRow ws) 36 (omega arith) (omega arith) (omega arith) (last-row (cyclic (graph F (flipAll turned ws)))) (ap replyNumber (rw (group-iff ws .1 g) at e)),
+    λ e g. walk-other ws (cycleRow ws) 36 (omega arith) (omega arith) (omega arith) (last-row (cyclic (graph F (afterTurns s ws)))) (ap replyNumber (rw (group-iff ws .1 g) at e)),
     λ n. by-cases (isGroup ws) (λ q. absurd (n (group-iff ws .0 q))) (λ q. rw q refl),
   )
     where
@@ -297,7 +297,7 @@ module _ (F : FieldPlan) (s : Status) where
       go false p false q false r e k = let f = k e in record { index = suc (f .index); index-in = omega (arith, f .index-in); stops = f .stops; passed-before = before (p, q, r) (f .index) (f .passed-before) }
 
   cycle-other : (ws : List ℕ) (n : ℕ) → 30 ≤ n → n ≤ 32 → replyNumber (firstThatHolds (cycleRow ws)) ≢ n
-  cycle-other ws n x y = go (cyclic (graph F (flipAll turned ws)))
+  cycle-other ws n x y = go (cyclic (graph F (afterTurns s ws)))
     where
       go : (b : Bool) → replyNumber (firstThatHolds (when b (refused 34) ∷ [])) ≢ n
       go true = λ e. omega arith
@@ -337,5 +337,5 @@ module _ (F : FieldPlan) (s : Status) where
   pub arrive-passed : (d : ℕ) → isAccepted (replyIn F s (arrive d)) ≡ true → MayArrive F s d
   arrive-passed d e = arrive-accepted d .0 (is-accepted _ e)
 
-  pub group-passed : waitsKept F s ≡ true → (ws : List ℕ) → isAccepted (replyIn F s (turnAll ws)) ≡ true → Group ws × (AllTurnable F s ws × (cyclic (graph F (flipAll turned ws)) ≡ false))
+  pub group-passed : waitsKept F s ≡ true → (ws : List ℕ) → isAccepted (replyIn F s (turnAll ws)) ≡ true → Group ws × (AllTurnable F s ws × (cyclic (graph F (afterTurns s ws)) ≡ false))
   group-passed k ws e = group-accepted k ws .0 (is-accepted _ e)

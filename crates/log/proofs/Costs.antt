@@ -16,8 +16,8 @@ use Rattle.precedence.proofs.Visits.{acyclic-iff, longest-chain, no-longer-chai
 use Rattle.plan.specs.Stops.{start}
 use Rattle.plan.specs.Claims.{HaveStops}
 use Rattle.plan.proofs.Turns.{graph-formed}
-use Rattle.plan.specs.Field.{FieldPlan, planOf, graph}
-use Rattle.plan.specs.Status.{Status, statusIn, waitsKept}
+use Rattle.plan.specs.Field.{FieldPlan, planOf, graph, Status}
+use Rattle.plan.specs.Status.{statusIn, waitsKept}
 use Rattle.sound.specs.Sound.{sound}
 use Rattle.log.specs.Calls.{CostReply, costs, costRefused, costReply}
 use Rattle.log.specs.Claims.{CostMeans, CostBounded, CostLimit}
@@ -39,9 +39,9 @@ sum-less-one zero f h = refl
 sum-less-one (suc n) f h = omega (arith, sum-less-one n f (λ i l. h i (omega arith)), h n (omega arith))
 
 -- the unvisited stops and the first ones are no more than all
-unvisited-stops : (p : PlanLists) (turned : ℕ → Bool) (place : ℕ → ℕ) → HaveStops p → unvisited (graph (planOf p) turned) place + drones p ≤ start (p .stopCounts) (drones p)
+unvisited-stops : (p : PlanLists) (s : Status) (place : ℕ → ℕ) → HaveStops p → unvisited (graph (planOf p) s) place + drones p ≤ start (p .stopCounts) (drones p)
 unfolding unvisited start
-unvisited-stops p turned place have = omega (arith, sum-mono (drones p) (λ d. at (p .stopCounts) d - 1 - place d) (λ d. at (p .stopCounts) d - 1) (λ d l. omega arith), sum-less-one (drones p) (at (p .stopCounts)) have)
+unvisited-stops p s place have = omega (arith, sum-mono (drones p) (λ d. at (p .stopCounts) d - 1 - place d) (λ d. at (p .stopCounts) d - 1) (λ d l. omega arith), sum-less-one (drones p) (at (p .stopCounts)) have)
 
 -- a drone in place of a stop makes the product no less, as long as there are as many stops besides
 more-drones : (d k m : ℕ) → d ≤ m → d * (m + k) ≤ (d + k) * m
@@ -62,7 +62,7 @@ module _ (L : Limits) (t : Tables) where
   S = statusIn t
 
   abbrev G : Plan
-  G = graph F (S .turned)
+  G = graph F S
 
   -- the cost of a reply
   abbrev costIn : CostReply → ℕ
@@ -71,7 +71,7 @@ module _ (L : Limits) (t : Tables) where
 
   sound-bound : Sound L t → 2 * L .drones ≤ L .stops → cost G (S .place) ≤ L .drones * (L .stops - L .drones)
   sound-bound s h =
-      let stops : unvisited G (S .place) + drones (t .plan) ≤ start (t .plan .stopCounts) (drones (t .plan)) = unvisited-stops (t .plan) (S .turned) (S .place) (have-stops L (t .plan) (s .accepted)) in
+      let stops : unvisited G (S .place) + drones (t .plan) ≤ start (t .plan .stopCounts) (drones (t .plan)) = unvisited-stops (t .plan) S (S .place) (have-stops L (t .plan) (s .accepted)) in
       le-trans (cost-rounds G (S .place)) (drones-bound (drones (t .plan)) (unvisited G (S .place)) (L .drones) (L .stops) (drones-in L (t .plan) (s .accepted)) h (omega (arith, stops-in L (t .plan) (s .accepted))))
 
   pub cost-bound : (n : ℕ) → 2 * L .drones ≤ L .stops → costReply L t ≡ costs n → n ≤ L .drones * (L .stops - L .drones)
@@ -91,7 +91,7 @@ module _ (L : Limits) (t : Tables) where
 
   module _ (s : Sound L t) where
     pub formed : Formed G
-    formed = graph-formed F (accepted-plan L (t .plan) (s .accepted) (s .dependencies-own)) (S .turned) (unfixed-says F S (s .fixed-unturned))
+    formed = graph-formed F (accepted-plan L (t .plan) (s .accepted) (s .dependencies-own)) S (unfixed-says F S (s .fixed-unturned))
 
     pub acyclic : Cycle G → ⊥
     acyclic = acyclic-iff G formed .0 (s .no-cycle)

@@ -13,8 +13,8 @@ use Rattle.tables.specs.Limits.{Limits}
 use Rattle.tables.specs.Tables.{Tables, fullSize}
 use Rattle.precedence.specs.Graph.{Formed}
 use Rattle.precedence.proofs.Visits.{cyclic-iff, acyclic-iff}
-use Rattle.plan.specs.Field.{FieldPlan, AcceptedPlan, planOf, flipAll, graph, fixed}
-use Rattle.plan.specs.Status.{Status, statusIn, fixedUnturned, waitsKept}
+use Rattle.plan.specs.Field.{FieldPlan, AcceptedPlan, planOf, graph, fixed, Status, afterTurns}
+use Rattle.plan.specs.Status.{statusIn, fixedUnturned, waitsKept}
 use Rattle.plan.specs.Claims.{Unfixed}
 use Rattle.plan.proofs.Turns.{flipAll-elim, graph-formed}
 use Rattle.sound.specs.Sound.{sound}
@@ -28,15 +28,15 @@ use Rattle.log.proofs.Steps.{walk-at, reply}
 use Rattle.log.proofs.Checks.{passes, turnable, cycleRow, group-stopped, one-stopped, differ, unfixed-is, grant-accepted, grant-waits, arrive-accepted, group-accepted, group-cycle, no-group, one-reply, one-group, one-turnable, second-unentered}
 
 -- none of the fixed ones is turned, as a test and as a law
-pub unfixed-says : (F : FieldPlan) (s : Status) → fixedUnturned F s ≡ true → Unfixed F (s .turned)
+pub unfixed-says : (F : FieldPlan) (s : Status) → fixedUnturned F s ≡ true → Unfixed F s
 unfolding fixedUnturned
 unfixed-says F s h w l u = by-cases (fixed F w)
     (λ f. true-or-false (allBelow-at (F .count) _ h w l) (rw (u, f) refl))
     (λ f. f)
 
 -- nor is one after a turn of dependencies that are not fixed
-pub turned-formed : (F : FieldPlan) (s : Status) → AcceptedPlan F → fixedUnturned F s ≡ true → (ws : List ℕ) → AllTurnable F s ws → Formed (graph F (flipAll (s .turned) ws))
-turned-formed F s plan h ws m = graph-formed F plan (flipAll (s .turned) ws) (flipAll-elim (λ v b. v < F .count → b ≡ true → fixed F v ≡ false) (s .turned) ws (λ w i b l u. unfixed-is F s (m w i .not-first) (m w i .not-last)) (unfixed-says F s h))
+pub turned-formed : (F : FieldPlan) (s : Status) → AcceptedPlan F → fixedUnturned F s ≡ true → (ws : List ℕ) → AllTurnable F s ws → Formed (graph F (afterTurns s ws))
+turned-formed F s plan h ws m = graph-formed F plan (afterTurns s ws) (flipAll-elim (λ v b. v < F .count → b ≡ true → fixed F v ≡ false) (s .turned) ws (λ w i b l u. unfixed-is F s (m w i .not-first) (m w i .not-last)) (unfixed-says F s h))
 
 module _ (L : Limits) (t : Tables) where
   abbrev F : FieldPlan
@@ -80,21 +80,21 @@ module _ (L : Limits) (t : Tables) where
   pub second-after-first : SecondAfterFirst L t
   second-after-first s w l u = second-unentered F S (waits s) w l u
 
-  formed : sound L t ≡ true → (ws : List ℕ) → AllTurnable F S ws → Formed (graph F (flipAll (S .turned) ws))
+  formed : sound L t ≡ true → (ws : List ℕ) → AllTurnable F S ws → Formed (graph F (afterTurns S ws))
   formed s = let x = sound-says L t s in turned-formed F S (accepted-plan L (t .plan) (x .accepted) (x .dependencies-own)) (x .fixed-unturned)
 
   pub group-exactly : GroupExactly L t
   unfolding turnAllStep
   group-exactly ws = exactly (Group ws × (AllTurnable F S ws × (GroupCycle F S ws → ⊥))) (turnAll ws) accepted (omega arith) (λ u. (
-    λ e. let (g, x) = group-accepted F S (waits (u .1)) ws .0 e in (g, (x .0, acyclic-iff (graph F (flipAll (S .turned) ws)) (formed (u .1) ws (x .0)) .0 (x .1))),
-    λ (g, x). group-accepted F S (waits (u .1)) ws .1 (g, (x .0, acyclic-iff (graph F (flipAll (S .turned) ws)) (formed (u .1) ws (x .0)) .1 (x .1))),
+    λ e. let (g, x) = group-accepted F S (waits (u .1)) ws .0 e in (g, (x .0, acyclic-iff (graph F (afterTurns S ws)) (formed (u .1) ws (x .0)) .0 (x .1))),
+    λ (g, x). group-accepted F S (waits (u .1)) ws .1 (g, (x .0, acyclic-iff (graph F (afterTurns S ws)) (formed (u .1) ws (x .0)) .1 (x .1))),
   ))
 
   pub group-cycle-exactly : GroupCycleExactly L t
   unfolding turnAllStep
   group-cycle-exactly ws = exactly (Group ws × (AllTurnable F S ws × GroupCycle F S ws)) (turnAll ws) (refused 34) (omega arith) (λ u. (
-    λ e. let (g, x) = group-cycle F S (waits (u .1)) ws .0 e in (g, (x .0, cyclic-iff (graph F (flipAll (S .turned) ws)) (formed (u .1) ws (x .0)) .0 (x .1))),
-    λ (g, x). group-cycle F S (waits (u .1)) ws .1 (g, (x .0, cyclic-iff (graph F (flipAll (S .turned) ws)) (formed (u .1) ws (x .0)) .1 (x .1))),
+    λ e. let (g, x) = group-cycle F S (waits (u .1)) ws .0 e in (g, (x .0, cyclic-iff (graph F (afterTurns S ws)) (formed (u .1) ws (x .0)) .0 (x .1))),
+    λ (g, x). group-cycle F S (waits (u .1)) ws .1 (g, (x .0, cyclic-iff (graph F (afterTurns S ws)) (formed (u .1) ws (x .0)) .1 (x .1))),
   ))
 
   pub no-group-exactly : NoGroupExactly L t

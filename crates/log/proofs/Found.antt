@@ -1,4 +1,4 @@
--- What is found by the log after any list of calls: nobody holds a location of another, somebody can go on, rounds finish. Assumes nothing.
+-- What is found by the log after any list of calls: nobody holds a location that meets one of another, somebody can go on, rounds finish. Assumes nothing.
 use mathlib.Core.Path.{_≡_, sym, ap, _∙_, subst}
 use mathlib.Core.Logic.{_≢_, inl, inr}
 use mathlib.Core.Bool.{Bool, true, false, _&&_, _||_}
@@ -22,11 +22,11 @@ use Rattle.precedence.specs.Graph.{Cycle, free, finished, unvisited}
 module _ (F : FieldPlan) (plan : AcceptedPlan F) (log : List Entry) (good : GoodLog F log) where
   open FieldPlan F using (drones, last, location, count, dependency)
 
-  no-cycle : Cycle (graph F (turns log)) → ⊥
-  no-cycle = acyclic-iff (graph F (turns log)) (graph-formed F plan (turns log) (good .unfixed)) .0 (good .acyclic)
+  no-cycle : Cycle (graph F (statusBy log)) → ⊥
+  no-cycle = acyclic-iff (graph F (statusBy log)) (graph-formed F plan (statusBy log) (good .unfixed)) .0 (good .acyclic)
 
   pub log-finishes : Finishes F log
-  log-finishes = (unvisited (graph F (turns log)) (arrivals log), omega arith, rounds-finish (graph F (turns log)) (graph-formed F plan (turns log) (good .unfixed)) no-cycle (arrivals log))
+  log-finishes = (unvisited (graph F (statusBy log)) (arrivals log), omega arith, rounds-finish (graph F (statusBy log)) (graph-formed F plan (statusBy log) (good .unfixed)) no-cycle (arrivals log))
 
   pub log-goes-on : GoesOn F log
   unfolding short
@@ -35,15 +35,15 @@ module _ (F : FieldPlan) (plan : AcceptedPlan F) (log : List Entry) (good : Good
       (λ u. inr (free-one, is-free .0, grant-accepted F (statusBy log) free-one .1 (free-goes F (statusBy log) free-one (is-free .0) (is-free .1) u)))
     where
       free-one : ℕ
-      free-one = firstBelow drones (free (graph F (turns log)) (arrivals log))
+      free-one = firstBelow drones (free (graph F (statusBy log)) (arrivals log))
 
-      unfinished : finished (graph F (turns log)) (arrivals log) ≡ false
-      unfinished = by-cases (finished (graph F (turns log)) (arrivals log))
-          (λ e. absurd (omega (arith, finished-at (graph F (turns log)) (arrivals log) e d l, ltb-true (arrivals log d) (last d) s)))
+      unfinished : finished (graph F (statusBy log)) (arrivals log) ≡ false
+      unfinished = by-cases (finished (graph F (statusBy log)) (arrivals log))
+          (λ e. absurd (omega (arith, finished-at (graph F (statusBy log)) (arrivals log) e d l, ltb-true (arrivals log d) (last d) s)))
           (λ e. e)
 
-      is-free : (free-one < drones) × (free (graph F (turns log)) (arrivals log) free-one ≡ true)
-      is-free = somebody-free (graph F (turns log)) (graph-formed F plan (turns log) (good .unfixed)) (arrivals log) no-cycle unfinished
+      is-free : (free-one < drones) × (free (graph F (statusBy log)) (arrivals log) free-one ≡ true)
+      is-free = somebody-free (graph F (statusBy log)) (graph-formed F plan (statusBy log) (good .unfixed)) (arrivals log) no-cycle unfinished
 
   -- drone d holds the location l at its stop s
   record HoldsAt (d l s : ℕ) : Type 0 where
@@ -67,11 +67,11 @@ module _ (F : FieldPlan) (plan : AcceptedPlan F) (log : List Entry) (good : Good
       go true k = omega (arith, k a)
 
   -- drone d at its stop s and drone e at its stop k make a dependency, in one order or the other
-  meet : (d e l s k : ℕ) → d < drones → e < drones → d ≢ e → HoldsAt d l s → HoldsAt e l k → ⊥
-  meet d e l s k dl el n a b = by-cases (leb (time d s) (time e k))
+  meet : (d e l m s k : ℕ) → d < drones → e < drones → d ≢ e → F .meets l m ≡ true → HoldsAt d l s → HoldsAt e m k → ⊥
+  meet d e l m s k dl el n z a b = by-cases (leb (time d s) (time e k))
       (λ t. let (w, wl, q) = plan .every x (record { first-in = dl; first-stop-in = s-in; second-in = el; second-stop-in = k-in; different = n; one-location = one; there-first = leb-true (time d s) (time e k) t }) in
       never-both x w wl q (a .since) (a .still) (b .since) (b .still))
-      (λ t. let (w, wl, q) = plan .every y (record { first-in = el; first-stop-in = k-in; second-in = dl; second-stop-in = s-in; different = λ z. n (sym z); one-location = sym one; there-first = omega (arith, leb-false (time d s) (time e k) t) }) in
+      (λ t. let (w, wl, q) = plan .every y (record { first-in = el; first-stop-in = k-in; second-in = dl; second-stop-in = s-in; different = λ z. n (sym z); one-location = plan .checked .symmetric _ _ one; there-first = omega (arith, leb-false (time d s) (time e k) t) }) in
       never-both y w wl q (b .since) (b .still) (a .since) (a .still))
     where
       time : ℕ → ℕ → ℕ
@@ -89,8 +89,8 @@ module _ (F : FieldPlan) (plan : AcceptedPlan F) (log : List Entry) (good : Good
       k-in : k ≤ last e
       k-in = omega (arith, b .since, good .within e el)
 
-      one : location d s ≡ location e k
-      one = a .here ∙ sym (b .here)
+      one : F .meets (location d s) (location e k) ≡ true
+      one = rw (a .here, b .here) z
 
   pub log-held : HeldByOne F log
-  log-held d e l dl el a b = by-cases (eqb d e) (λ q. eqb-true d e q) (λ q. let (s, x) = holds-at d l a in let (k, y) = holds-at e l b in absurd (meet d e l s k dl el (eqb-false d e q) x y))
+  log-held d e l m dl el z a b = by-cases (eqb d e) (λ q. eqb-true d e q) (λ q. let (s, x) = holds-at d l a in let (k, y) = holds-at e m b in absurd (meet d e l m s k dl el (eqb-false d e q) z x y))

@@ -14,38 +14,39 @@ use Rattle.below.specs.Below.{put}
 use Rattle.log.specs.Claims.{MayGo, MayArrive, Unentered, Turnable, AllTurnable}
 use Rattle.log.proofs.Checks.{unfixed-is, go-free}
 use Rattle.log.proofs.Running.{Running, grant-running, arrive-running}
-use Rattle.plan.specs.Field.{FieldPlan, inForce, waitOf, flipAll, graph, fixed, AcceptedPlan}
-use Rattle.plan.specs.Claims.{unturned, Unfixed}
+use Rattle.plan.specs.Field.{FieldPlan, inForce, waitOf, flipAll, graph, fixed, AcceptedPlan, Status, asPlanned, afterTurns}
+use Rattle.plan.specs.Claims.{Unfixed}
 use Rattle.plan.proofs.Turns.{flipAll-elim, graph-formed, none-unfixed, planned-acyclic}
-use Rattle.plan.specs.Status.{Status, entered, fixedUnturned, withinStops, waitsKept}
+use Rattle.plan.specs.Status.{entered, fixedUnturned, withinStops, waitsKept}
 use Rattle.precedence.specs.Graph.{cyclic}
 
 module _ (F : FieldPlan) where
   open FieldPlan F using (drones, last, location, time, count, dependency)
 
+  -- the status of counts p, e, t
+  abbrev pub countedStatus : (ℕ → ℕ) → (ℕ → ℕ) → (ℕ → Bool) → Status
+  countedStatus p e t = record { place = p; underWay = λ d. ltb (p d) (e d); turned = t }
+
   -- p: accepted arrivals, that is the last visited stop; e: accepted grants, that is the last entered stop; t: what is turned
   pub record Good (p e : ℕ → ℕ) (t : ℕ → Bool) : Type 0 where
-    pub running : Running (graph F t) p e
+    pub running : Running (graph F (countedStatus p e t)) p e
     pub within : (d : ℕ) → d < drones → e d ≤ last d
-    pub unfixed : Unfixed F t
-    pub acyclic : cyclic (graph F t) ≡ false
+    pub unfixed : Unfixed F (countedStatus p e t)
+    pub acyclic : cyclic (graph F (countedStatus p e t)) ≡ false
 
-  pub good-start : AcceptedPlan F → Good (λ d. 0) (λ d. 0) unturned
+  pub good-start : AcceptedPlan F → Good (λ d. 0) (λ d. 0) (asPlanned .turned)
   good-start accepted = record {
-    running = record { behind = λ d. omega arith; ahead = λ d. omega arith; over = λ w l h. absurd (omega (arith, graph-formed F accepted unturned (none-unfixed F accepted) w l .stop-pos)) };
+    running = record { behind = λ d. omega arith; ahead = λ d. omega arith; over = λ w l h. absurd (omega (arith, graph-formed F accepted asPlanned (none-unfixed F accepted) w l .stop-pos)) };
     within = λ d l. omega arith;
     unfixed = none-unfixed F accepted;
     acyclic = planned-acyclic F accepted;
   }
 
-  -- ---- the three calls, when accepted. The status of counts p, e, t
-
-  abbrev pub countedStatus : (ℕ → ℕ) → (ℕ → ℕ) → (ℕ → Bool) → Status
-  countedStatus p e t = record { place = p; underWay = λ d. ltb (p d) (e d); turned = t }
+  -- ---- the three calls, when accepted
 
   pub good-grant : (p e : ℕ → ℕ) (t : ℕ → Bool) → Good p e t → (d : ℕ) → MayGo F (countedStatus p e t) d → Good p (put e d (suc (p d))) t
   good-grant p e t g d c = record {
-    running = grant-running (graph F t) p e (g .running) d (go-free F (countedStatus p e t) d c);
+    running = grant-running (graph F (countedStatus p e t)) p e (g .running) d (go-free F (countedStatus p e t) d c);
     within = put-elim (λ c z. c < drones → z ≤ last c) e d (suc (p d)) (λ l. c .waiting .unfinished) (λ c n. g .within c);
     unfixed = g .unfixed;
     acyclic = g .acyclic;
@@ -53,7 +54,7 @@ module _ (F : FieldPlan) where
 
   pub good-arrive : (p e : ℕ → ℕ) (t : ℕ → Bool) → Good p e t → (d : ℕ) → MayArrive F (countedStatus p e t) d → Good (put p d (suc (p d))) e t
   good-arrive p e t g d c = record {
-    running = arrive-running (graph F t) p e (g .running) d (omega (arith, g .running .ahead d, ltb-true (p d) (e d) (c .under-way)));
+    running = arrive-running (graph F (countedStatus p e t)) p e (g .running) d (omega (arith, g .running .ahead d, ltb-true (p d) (e d) (c .under-way)));
     within = g .within;
     unfixed = g .unfixed;
     acyclic = g .acyclic;
@@ -71,7 +72,7 @@ module _ (F : FieldPlan) where
   nothing-asked p e t g w c true l h = absurd (omega (arith, not-entered p e t g (dependency w .first) (dependency w .firstStop) (c .first-before)))
 
   -- any list of dependencies none of which is fixed or entered, turned at once
-  pub good-turns : (p e : ℕ → ℕ) (t : ℕ → Bool) → Good p e t → (ws : List ℕ) → AllTurnable F (countedStatus p e t) ws → cyclic (graph F (flipAll t ws)) ≡ false → Good p e (flipAll t ws)
+  pub good-turns : (p e : ℕ → ℕ) (t : ℕ → Bool) → Good p e t → (ws : List ℕ) → AllTurnable F (countedStatus p e t) ws → cyclic (graph F (afterTurns (countedStatus p e t) ws)) ≡ false → Good p e (flipAll t ws)
   good-turns p e t g ws c no-cycle = record {
     running = record {
       behind = g .running .behind;
@@ -105,8 +106,8 @@ module _ (F : FieldPlan) (p e : ℕ → ℕ) (t : ℕ → Bool) (good : Good F p
 
   pub good-waits : waitsKept F (countedStatus F p e t) ≡ true
   unfolding waitsKept
-  good-waits = allBelow-all count _ (λ w l. by-cases (entered F (countedStatus F p e t) (graph F t .wait w .waiter) (graph F t .wait w .stop))
-      (λ h. or-second (entered F (countedStatus F p e t) (graph F t .wait w .waiter) (graph F t .wait w .stop)) _ h (le-leb _ _ (good .running .over w l (entered-in _ _ h))))
+  good-waits = allBelow-all count _ (λ w l. by-cases (entered F (countedStatus F p e t) (graph F (countedStatus F p e t) .wait w .waiter) (graph F (countedStatus F p e t) .wait w .stop))
+      (λ h. or-second (entered F (countedStatus F p e t) (graph F (countedStatus F p e t) .wait w .waiter) (graph F (countedStatus F p e t) .wait w .stop)) _ h (le-leb _ _ (good .running .over w l (entered-in _ _ h))))
       (λ h. or-first _ _ h))
     where
       or-second : (a b : Bool) → a ≡ true → b ≡ true → not a || b ≡ true

@@ -5,8 +5,7 @@ use mathlib.Core.Bool.{Bool, true, false}
 use mathlib.Core.List.{List, [], _∷_, _++_}
 use Prim.Native.Nat.{ℕ, _<_}
 use native.Mathlib.Omega.{arith}
-use Rattle.plan.specs.Field.{FieldPlan}
-use Rattle.plan.specs.Status.{Status}
+use Rattle.plan.specs.Field.{FieldPlan, Status}
 use Rattle.log.specs.CallLog.{Call, grant, arrive, turn, turnAll, Reply, accepted, refused, replyNumber, awaited, replyFrom, Check, firstThatHolds, walked, refusals, replyIn, entry, Entry, statusBy, replyBy, logFrom}
 use Rattle.log.specs.Claims.{LogNever40Or41}
 

@@ -6,9 +6,8 @@ use native.Mathlib.Omega.{arith}
 use Rattle.tables.specs.Tables.{Tables}
 use Rattle.precedence.specs.Graph.{cost}
 use Rattle.precedence.proofs.Agreement.{cost-agree}
-use Rattle.plan.specs.Field.{FieldPlan, graph, AcceptedPlan, PlansAgree}
+use Rattle.plan.specs.Field.{FieldPlan, graph, AcceptedPlan, PlansAgree, Status}
 use Rattle.plan.proofs.PlansAgree.{agree-accepted}
-use Rattle.plan.specs.Status.{Status}
 use Rattle.log.specs.CallLog.{Call, Reply, Entry, entry, statusBy, replyBy, logFrom, logOf}
 use Rattle.log.specs.Demand.{Agree, Found}
 use Rattle.log.proofs.Log.{GoodLog, good-empty, good-calls}
@@ -30,10 +29,10 @@ module _ (F G : FieldPlan) (plans : PlansAgree F G) (accepted : AcceptedPlan F) 
   log-agrees (c ∷ cs) log = log-agrees cs (log ++ (entry c (replyBy F log c) ∷ [])) ∙ ap (λ (r : Reply). logFrom G (log ++ (entry c r ∷ [])) cs) (reply-by-agrees log c)
 
   -- the cost by a log
-  pub cost-by-agrees : (log : List Entry) → cost (graph F (statusBy log .turned)) (statusBy log .place) ≡ cost (graph G (statusBy log .turned)) (statusBy log .place)
+  pub cost-by-agrees : (log : List Entry) → cost (graph F (statusBy log)) (statusBy log .place) ≡ cost (graph G (statusBy log)) (statusBy log .place)
   cost-by-agrees log =
-      let t = statusBy log .turned in
-      cost-agree (graph F t) (graph G t) (graphs-agree F G plans t t (λ w l. refl)) (graph-in F accepted t) (statusBy log .place) (statusBy log .place) (λ d l. refl)
+      let s = statusBy log in
+      cost-agree (graph F s) (graph G s) (graphs-agree F G plans s s (λ w l. refl)) (graph-in F accepted s) (statusBy log .place) (statusBy log .place) (λ d l. refl)
 
 -- ---- what is found
 

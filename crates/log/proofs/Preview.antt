@@ -65,7 +65,7 @@ Known x y = (a : ℕ) × (b : ℕ) × (x ≡ costs a) × (y ≡ costs b)
 
 done-by : (r : Reply) (x y : CostReply) → replyNumber r ≢ 23 → (r ≡ accepted → Known x y) → (z : ℤ) → (previewBy r x y ≡ wouldTurn z) ↔ ((r ≡ accepted) × Change x y z)
 done-by accepted x y n h z = (
-  λ e. let (a, b, p, q) = h refl in (refl, record { after = a; now = b; costs-after = p; costs-now = q; difference = sym (ap changeIn (rw (p, q) at e)) }),
+  λ e. let (a, b, p, q) = h refl in (refl, record { costAfter = a; costNow = b; costs-after = p; costs-now = q; difference = sym (ap changeIn (rw (p, q) at e)) }),
   λ (_, c). rw (c .costs-after, c .costs-now) (ap wouldTurn (sym (c .difference))),
 )
 done-by (refused m) x y n h z = (λ e. absurd (let q : _≡_ {A = ℕ} 0 1 = ap isDone e in omega arith), λ (a, c). true-or-false (ap isAccepted a) refl)
@@ -97,7 +97,7 @@ module _ (L : Limits) (t : Tables) (a : Answer) where
     pub within : (n : ℕ) → ((t : Tables) (c : ℕ) → costReply L t ≡ costs c → c ≤ n) → Within n (previewOf L t a)
     within n most z e =
         let c = done-as z .0 e .1 in
-        subst (FromTo n) (sym (c .difference)) (difference-between (c .after) (c .now) n (most (a .tables) (c .after) (c .costs-after)) (most t (c .now) (c .costs-now)))
+        subst (FromTo n) (sym (c .difference)) (difference-between (c .costAfter) (c .costNow) n (most (a .tables) (c .costAfter) (c .costs-after)) (most t (c .costNow) (c .costs-now)))
 
 -- ---- the same as code finds it, by the contract of the turn on a copy and the two costs
 

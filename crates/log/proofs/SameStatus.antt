@@ -9,21 +9,21 @@ use Rattle.below.specs.Below.{isIn}
 use Rattle.below.proofs.Every.{allBelow-ext}
 use Rattle.precedence.specs.Graph.{cyclic}
 use Rattle.precedence.proofs.Agreement.{GraphsAgree, AwaitedIn, lowest-agree, cyclic-agree}
-use Rattle.plan.specs.Field.{Dependency, FieldPlan, inForce, waitOf, flipAll, graph, fixed, AcceptedPlan, PlansAgree}
-use Rattle.plan.specs.Status.{Status, entered, unmet, now, fixedUnturned, withinStops, waitsKept}
+use Rattle.plan.specs.Field.{Dependency, FieldPlan, inForce, waitOf, flipAll, graph, fixed, AcceptedPlan, PlansAgree, Status, afterTurns}
+use Rattle.plan.specs.Status.{entered, unmet, now, fixedUnturned, withinStops, waitsKept}
 use Rattle.log.specs.CallLog.{Call, grant, arrive, turn, turnAll, Reply, refused, Check, when, firstThatHolds, isGroup, walked, replyIn}
 use Rattle.log.specs.Demand.{Agree}
 use Rattle.log.proofs.Checks.{one-reply}
 
 pub plans-self : (F : FieldPlan) → PlansAgree F F
-plans-self F = record { drones-agree = refl; lasts-agree = λ d l. refl; locations-agree = λ d s l h. refl; times-agree = λ d s l h. refl; counts-agree = refl; dependencies-agree = λ w l. refl }
+plans-self F = record { drones-agree = refl; lasts-agree = λ d l. refl; locations-agree = λ d s l h. refl; times-agree = λ d s l h. refl; meets-agree = λ a b. refl; counts-agree = refl; dependencies-agree = λ w l. refl }
 
 -- ---- plans that agree
 
 module _ (F G : FieldPlan) (plans : PlansAgree F G) where
   -- their graphs agree in one order in force
-  pub graphs-agree : (t u : ℕ → Bool) → ((w : ℕ) → w < F .count → t w ≡ u w) → GraphsAgree (graph F t) (graph G u)
-  graphs-agree t u same = record {
+  pub graphs-agree : (s s′ : Status) → ((w : ℕ) → w < F .count → s .turned w ≡ s′ .turned w) → GraphsAgree (graph F s) (graph G s′)
+  graphs-agree s s′ same = record {
     drones-agree = plans .drones-agree;
     lasts-agree = plans .lasts-agree;
     counts-agree = plans .counts-agree;
@@ -40,8 +40,8 @@ module _ (F : FieldPlan) (accepted : AcceptedPlan F) where
   second-in w l true = accepted .each w l .first-in
   second-in w l false = accepted .each w l .second-in
 
-  pub graph-in : (t : ℕ → Bool) → AwaitedIn (graph F t)
-  graph-in t w l = first-in w l (t w)
+  pub graph-in : (s : Status) → AwaitedIn (graph F s)
+  graph-in s w l = first-in w l (s .turned w)
 
 -- ---- .. and statuses that agree
 
@@ -64,7 +64,7 @@ module _ (F G : FieldPlan) (plans : PlansAgree F G) (accepted : AcceptedPlan F) 
   entered-second w l = entered-same (now F s w .second) (now F s w .secondStop) (second-in F accepted w l (s .turned w)) ∙ ap (λ (x : Dependency). entered G s′ (x .second) (x .secondStop)) (now-same w l)
 
   unmet-same : (d : ℕ) → d < F .drones → unmet F s d ≡ unmet G s′ d
-  unmet-same d l = lowest-agree (graph F (s .turned)) (graph G (s′ .turned)) (graphs-agree F G plans (s .turned) (s′ .turned) (agree .turns)) (graph-in F accepted (s .turned)) (s .place) (s′ .place) (agree .places) d l
+  unmet-same d l = lowest-agree (graph F s) (graph G s′) (graphs-agree F G plans s s′ (agree .turns)) (graph-in F accepted s) (s .place) (s′ .place) (agree .places) d l
 
   flipAll-same : (ws : List ℕ) (v : ℕ) → v < F .count → flipAll (s .turned) ws v ≡ flipAll (s′ .turned) ws v
   flipAll-same ws v l = ap (λ (b : Bool). cond (isIn v ws) (not b) b) (agree .turns v l)
@@ -95,7 +95,7 @@ module _ (F G : FieldPlan) (plans : PlansAgree F G) (accepted : AcceptedPlan F) 
   unfolding replyIn
   group-same ws = ap (λ (r : Reply). elim (not (isGroup ws)) [ true ↦ refused 36 | false ↦ r ])
       (walk-same ws _ _ (ap (λ (b : Bool). firstThatHolds (when b (refused 34) ∷ []))
-      (cyclic-agree (graph F (flipAll (s .turned) ws)) (graph G (flipAll (s′ .turned) ws)) (graphs-agree F G plans (flipAll (s .turned) ws) (flipAll (s′ .turned) ws) (flipAll-same ws)) (graph-in F accepted (flipAll (s .turned) ws)))))
+      (cyclic-agree (graph F (afterTurns s ws)) (graph G (afterTurns s′ ws)) (graphs-agree F G plans (afterTurns s ws) (afterTurns s′ ws) (flipAll-same ws)) (graph-in F accepted (afterTurns s ws)))))
 
   pub reply-agrees : (c : Call) → replyIn F s c ≡ replyIn G s′ c
   reply-agrees (grant d) = grant-same d (leb (F .drones) d) refl
@@ -111,8 +111,8 @@ module _ (F : FieldPlan) (accepted : AcceptedPlan F) (s s′ : Status) (agree : 
   pub reply-same : (c : Call) → replyIn F s c ≡ replyIn F s′ c
   reply-same = reply-agrees F F (plans-self F) accepted s s′ agree
 
-  pub cyclic-same : cyclic (graph F (s .turned)) ≡ cyclic (graph F (s′ .turned))
-  cyclic-same = cyclic-agree (graph F (s .turned)) (graph F (s′ .turned)) (graphs-agree F F (plans-self F) (s .turned) (s′ .turned) (agree .turns)) (graph-in F accepted (s .turned))
+  pub cyclic-same : cyclic (graph F s) ≡ cyclic (graph F s′)
+  cyclic-same = cyclic-agree (graph F s) (graph F s′) (graphs-agree F F (plans-self F) s s′ (agree .turns)) (graph-in F accepted s)
 
   pub unturned-same : fixedUnturned F s ≡ fixedUnturned F s′
   unfolding fixedUnturned

@@ -19,8 +19,7 @@ use Rattle.tables.proofs.SizeLaws.{full-sizes}
 use Rattle.tables.specs.Flags.{turnedBit, flipBit, fixedFlag, underWayBit, onlyOneBit, setUnderWay, clearUnderWay}
 use Rattle.tables.proofs.FlagLaws.{flip-turned, flip-half, new-turned}
 use Rattle.precedence.specs.Graph.{cyclic}
-use Rattle.plan.specs.Field.{flipAll, graph, fixed, AcceptedPlan, planOf}
-use Rattle.plan.specs.Claims.{unturned}
+use Rattle.plan.specs.Field.{flipAll, graph, fixed, AcceptedPlan, planOf, asPlanned}
 use Rattle.plan.specs.Status.{statusIn, fixedUnturned, withinStops, waitsKept}
 use Rattle.sound.specs.Sound.{planAccepted, dependenciesSound, planUnused, flagsSound, droneFlagsSound, progressUnused, sound}
 use Rattle.log.specs.CallLog.{Call, isGroup, replyIn}
@@ -242,7 +241,7 @@ module _ (L : Limits) (lists : PlanLists) (t₀ : Tables) (read : Base L lists t
         dependencies-own = ap (dependenciesSound L) plan-kept ∙ read .dependencies-own;
         flags-right = kept-flags;
         fixed-unturned = ap (λ (z : PlanLists). fixedUnturned (planOf z) (statusIn t)) plan-kept ∙ unturned-same (planOf lists) plan _ _ kept-status ∙ good-unturned (planOf lists) p e u g;
-        no-cycle = ap (λ (z : PlanLists). cyclic (graph (planOf z) (statusIn t .turned))) plan-kept ∙ cyclic-same (planOf lists) plan _ _ kept-status ∙ g .acyclic;
+        no-cycle = ap (λ (z : PlanLists). cyclic (graph (planOf z) (statusIn t))) plan-kept ∙ cyclic-same (planOf lists) plan _ _ kept-status ∙ g .acyclic;
         drone-flags = kept-drone-flags;
         within = ap (λ (z : PlanLists). withinStops (planOf z) (statusIn t)) plan-kept ∙ within-same (planOf lists) plan _ _ kept-status ∙ good-within (planOf lists) p e u g;
         waits-kept = ap (λ (z : PlanLists). waitsKept (planOf z) (statusIn t)) plan-kept ∙ waits-same (planOf lists) plan _ _ kept-status ∙ good-waits (planOf lists) p e u g;
@@ -256,7 +255,7 @@ module _ (L : Limits) (lists : PlanLists) (t₀ : Tables) (read : Base L lists t
       kept-reply c = rw (full-same L t₀ t (k .same) (read .full), kept-sound) (ap (λ (z : PlanLists). replyIn (planOf z) (statusIn t) c) plan-kept ∙ reply-same (planOf lists) plan _ _ kept-status c)
 
 -- as they were read
-pub kept-start : (L : Limits) (lists : PlanLists) (t₀ : Tables) → AsRead L lists t₀ → Kept lists t₀ (λ d. 0) (λ d. 0) unturned t₀
+pub kept-start : (L : Limits) (lists : PlanLists) (t₀ : Tables) → AsRead L lists t₀ → Kept lists t₀ (λ d. 0) (λ d. 0) (asPlanned .turned) t₀
 kept-start L lists t₀ read = record {
   same = same-self t₀;
   visited-is = λ d l. read .visited-zero d (omega (arith, drones-in L lists (read .plan-accepted)));

@@ -13,8 +13,8 @@ use Rattle.tables.specs.Limits.{Limits}
 use Rattle.tables.specs.Tables.{Tables, drones, dependencies, fullSize}
 use Rattle.tables.specs.Flags.{underWayBit, onlyOneBit}
 use Rattle.precedence.specs.Graph.{cyclic}
-use Rattle.plan.specs.Field.{FieldPlan, AcceptedPlan, planOf, flipAll, graph}
-use Rattle.plan.specs.Status.{Status, statusIn, withinStops, waitsKept}
+use Rattle.plan.specs.Field.{FieldPlan, AcceptedPlan, planOf, graph, Status, afterTurns}
+use Rattle.plan.specs.Status.{statusIn, withinStops, waitsKept}
 use Rattle.sound.specs.Sound.{zeroFrom, flagsSound, progressUnused, sound}
 use Rattle.sound.proofs.Clauses.{Sound, sound-says}
 use Rattle.log.specs.CallLog.{Call, grant, arrive, turn, turnAll, Reply, isAccepted, replyIn}
@@ -121,7 +121,7 @@ module _ (L : Limits) (t : Tables) (full : fullSize L t ≡ true) (now-sound : s
     running = record {
       behind = λ d. entered-least (S .underWay d) (at (t .visited) d);
       ahead = λ d. entered-most (S .underWay d) (at (t .visited) d);
-      over = λ w l h. leb-true _ _ (if-entered _ _ (is-entered (S .underWay (graph F (S .turned) .wait w .waiter)) (S .place (graph F (S .turned) .wait w .waiter)) (graph F (S .turned) .wait w .stop) h) (allBelow-at (F .count) _ (s .waits-kept) w l));
+      over = λ w l h. leb-true _ _ (if-entered _ _ (is-entered (S .underWay (graph F S .wait w .waiter)) (S .place (graph F S .wait w .waiter)) (graph F S .wait w .stop) h) (allBelow-at (F .count) _ (s .waits-kept) w l));
     };
     within = λ d l. let x = allBelow-at (F .drones) _ (s .within) d l in entered-within (S .underWay d) (at (t .visited) d) (F .last d) (leb-true _ _ (and-left _ _ x)) (and-right (leb (at (t .visited) d) (F .last d)) _ x);
     unfixed = unfixed-says F S (s .fixed-unturned);
@@ -145,7 +145,7 @@ module _ (L : Limits) (t : Tables) (full : fullSize L t ≡ true) (now-sound : s
   pub arrive-usable : (d : ℕ) → MayArrive F S d → Usable L (arrived t d)
   arrive-usable d m = usable-after _ _ _ (arrived t d) (kept-arrive L (t .plan) t base p e (S .turned) t kept d (m .exists) (good .running .ahead d)) (good-arrive F p e (S .turned) good d (subst (λ (x : Status). MayArrive F x d) (sym status-is) m))
 
-  pub turns-usable : (ws : List ℕ) → Group ws → AllTurnable F S ws → cyclic (graph F (flipAll (S .turned) ws)) ≡ false → Usable L (flippedAll t ws)
+  pub turns-usable : (ws : List ℕ) → Group ws → AllTurnable F S ws → cyclic (graph F (afterTurns S ws)) ≡ false → Usable L (flippedAll t ws)
   turns-usable ws g m c = usable-after _ _ _ (flippedAll t ws) (kept-turns L (t .plan) t base p e (S .turned) t kept ws (group-iff ws .1 g) (λ w i. m w i .exists)) (good-turns F p e (S .turned) good ws (subst (λ (x : Status). AllTurnable F x ws) (sym status-is) m) c)
 
   -- what a call leaves

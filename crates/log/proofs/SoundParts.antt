@@ -14,7 +14,7 @@ use Rattle.tables.specs.Tables.{PlanLists, Tables, drones, dependencies}
 use Rattle.tables.specs.Flags.{fixedBit, onlyOneBit}
 use Rattle.plan.specs.Dependencies.{dependencyTotal}
 use Rattle.plan.specs.Check.{firstFault}
-use Rattle.plan.specs.Claims.{HaveStops, NoFault, NoCollision, HoldsPlanned, numberIn, ownerIn, stopTotal}
+use Rattle.plan.specs.Claims.{HaveStops, NoFault, NoCollision, HoldsPlanned, numberIn, ownerIn, stopTotal, visitsIn}
 use Rattle.plan.proofs.Claims.{accepted-claims}
 use Rattle.plan.specs.Field.{AcceptedPlan, planOf, fixed}
 use Rattle.sound.specs.Sound.{zeroFrom, planned, inRange, namesSound, checked, planAccepted, dependenciesSound, flagsSound, droneFlagsSound}
@@ -27,7 +27,7 @@ module _ (L : Limits) (p : PlanLists) (accepted : planAccepted L p ≡ true) whe
   unfolding planAccepted
   in-range = and-left _ _ accepted
 
-  after-range : namesSound L p && (checked L p && leb (dependencyTotal (ownerIn p) (at (p .locations)) (at (p .times)) (stopTotal p)) (L .dependencies)) ≡ true
+  after-range : namesSound L p && (checked L p && leb (dependencyTotal (visitsIn p)) (L .dependencies)) ≡ true
   unfolding planAccepted
   after-range = and-right (inRange L p) _ accepted
 
@@ -52,23 +52,23 @@ module _ (L : Limits) (p : PlanLists) (accepted : planAccepted L p ≡ true) whe
 
   no-collision : NoCollision p
   unfolding checked
-  no-collision = and-right (eqb (firstFault (numberIn p) (at (p .locations)) (at (p .times)) (stopTotal p)) (stopTotal p)) _ check-passes
+  no-collision = and-right (eqb (firstFault (visitsIn p)) (stopTotal p)) _ check-passes
 
   module _ (own-ones : dependenciesSound L p ≡ true) where
-    total-is : dependencies p ≡ dependencyTotal (ownerIn p) (at (p .locations)) (at (p .times)) (stopTotal p)
+    total-is : dependencies p ≡ dependencyTotal (visitsIn p)
     unfolding dependenciesSound
     total-is = eqb-true _ _ (and-left _ _ own-ones)
 
     pub dependencies-in : dependencies p ≤ L .dependencies
     dependencies-in =
-        let room = leb-true (dependencyTotal (ownerIn p) (at (p .locations)) (at (p .times)) (stopTotal p)) (L .dependencies) (and-right (checked L p) _ (and-right (namesSound L p) _ after-range)) in
+        let room = leb-true (dependencyTotal (visitsIn p)) (L .dependencies) (and-right (checked L p) _ (and-right (namesSound L p) _ after-range)) in
         omega (arith, total-is)
 
     -- the four numbers of dependency k are the planned ones
     numbers-are : (k : ℕ) → k < dependencies p → (at (p .firstDrones) k ≡ at (planned L p (λ v w. ownerIn p v)) k) × (at (p .firstStops) k ≡ at (planned L p (λ v w. numberIn p v)) k) × (at (p .secondDrones) k ≡ at (planned L p (λ v w. ownerIn p w)) k) × (at (p .secondStops) k ≡ at (planned L p (λ v w. numberIn p w)) k)
     unfolding dependenciesSound
     numbers-are k l =
-        let h = allBelow-at (dependencies p) _ (and-right (eqb (dependencies p) (dependencyTotal (ownerIn p) (at (p .locations)) (at (p .times)) (stopTotal p))) _ own-ones) k l in
+        let h = allBelow-at (dependencies p) _ (and-right (eqb (dependencies p) (dependencyTotal (visitsIn p))) _ own-ones) k l in
         let h₁ = and-right (eqb (at (p .firstDrones) k) _) _ h in
         let h₂ = and-right (eqb (at (p .firstStops) k) _) _ h₁ in
         let h₃ = and-right (eqb (at (p .secondDrones) k) _) _ h₂ in

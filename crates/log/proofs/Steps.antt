@@ -12,8 +12,8 @@ use Rattle.tables.specs.Limits.{Limits}
 use Rattle.tables.specs.Tables.{Tables, drones, dependencies, fullSize}
 use Rattle.tables.specs.Flags.{underWayBit}
 use Rattle.precedence.specs.Graph.{blocks, cyclic, cost}
-use Rattle.plan.specs.Field.{FieldPlan, planOf, flip, flipAll, graph, fixed}
-use Rattle.plan.specs.Status.{Status, statusIn, entered, now}
+use Rattle.plan.specs.Field.{FieldPlan, planOf, graph, fixed, Status, afterTurn, afterTurns}
+use Rattle.plan.specs.Status.{statusIn, entered, now}
 use Rattle.sound.specs.Sound.{sound}
 use Rattle.log.specs.CallLog.{Call, grant, arrive, turn, turnAll, Reply, accepted, refused, mustWait, Check, firstThatHolds, isGroup, walked, replyIn}
 use Rattle.below.proofs.Members.{in-at}
@@ -81,7 +81,7 @@ module _ (L : Limits) (t : Tables) where
     unfolding replyOf
     reply c = rw (full, sound-now)
 
-    pub cost-0 : costReply L t ≡ costs (cost (graph P (S .turned)) (at (t .visited)))
+    pub cost-0 : costReply L t ≡ costs (cost (graph P S) (at (t .visited)))
     unfolding costReply
     cost-0 = rw (full, sound-now) refl
 
@@ -101,7 +101,7 @@ module _ (L : Limits) (t : Tables) where
       grant-22 c = rw (reply (grant d), lt-leb (drones (t .plan)) d a, lt-leb (P .last d) (at (t .visited) d) b, c)
 
       -- w is what the search for an unmet dependency ends with
-      module _ (c : underWayBit (at (t .droneFlags) d) ≡ false) (w : ℕ) (first : First (dependencies (t .plan)) (blocks (graph P (S .turned)) (at (t .visited)) d) w) where
+      module _ (c : underWayBit (at (t .droneFlags) d) ≡ false) (w : ℕ) (first : First (dependencies (t .plan)) (blocks (graph P S) (at (t .visited)) d) w) where
         pub grant-23 : w < dependencies (t .plan) → grantStep L t d ≡ refusal t (mustWait w)
         unfolding grantStep replyIn
         grant-23 l = rw (reply (grant d), lt-leb (drones (t .plan)) d a, lt-leb (P .last d) (at (t .visited) d) b, c, firstBelow-is first, lt-ltb w (dependencies (t .plan)) l)
@@ -141,11 +141,11 @@ module _ (L : Limits) (t : Tables) where
         turn-32 c = rw (reply (turn w), lt-leb (dependencies (t .plan)) w a, b, c)
 
         module _ (c : entered P S (now P S w .first) (now P S w .firstStop) ≡ false) where
-          pub turn-34 : cyclic (graph P (flip (S .turned) w)) ≡ true → turnStep L t w ≡ refusal t (refused 34)
+          pub turn-34 : cyclic (graph P (afterTurn S w)) ≡ true → turnStep L t w ≡ refusal t (refused 34)
           unfolding turnStep replyIn isIn
           turn-34 e = rw (reply (turn w), lt-leb (dependencies (t .plan)) w a, b, c, e)
 
-          pub turn-0 : cyclic (graph P (flip (S .turned) w)) ≡ false → turnStep L t w ≡ acceptance (flipped t w)
+          pub turn-0 : cyclic (graph P (afterTurn S w)) ≡ false → turnStep L t w ≡ acceptance (flipped t w)
           unfolding turnStep replyIn isIn
           turn-0 e = rw (reply (turn w), lt-leb (dependencies (t .plan)) w a, b, c, e)
 
@@ -171,10 +171,10 @@ module _ (L : Limits) (t : Tables) where
         group-32 a b c = rw (reply (turnAll ws), g, walk-at P S ws (cycleRow P S ws) (refused 32) i l p (λ rest. rw (lt-leb (dependencies (t .plan)) (at ws i) a, b, c) refl))
 
       module _ (p : PassedTo P S ws (length ws)) where
-        pub group-34 : cyclic (graph P (flipAll (S .turned) ws)) ≡ true → turnAllStep L t ws ≡ refusal t (refused 34)
+        pub group-34 : cyclic (graph P (afterTurns S ws)) ≡ true → turnAllStep L t ws ≡ refusal t (refused 34)
         unfolding turnAllStep replyIn
         group-34 e = rw (reply (turnAll ws), g, walk-passed P S ws (cycleRow P S ws) (passed-all P S ws p), e)
 
-        pub group-0 : cyclic (graph P (flipAll (S .turned) ws)) ≡ false → turnAllStep L t ws ≡ acceptance (flippedAll t ws)
+        pub group-0 : cyclic (graph P (afterTurns S ws)) ≡ false → turnAllStep L t ws ≡ acceptance (flippedAll t ws)
         unfolding turnAllStep replyIn
         group-0 e = rw (reply (turnAll ws), g, walk-passed P S ws (cycleRow P S ws) (passed-all P S ws p), e)

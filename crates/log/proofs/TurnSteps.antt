@@ -1,6 +1,6 @@
 -- What is turned in tables whose flags are flipped for a list that passes 36 and 30 to 32. Assumes nothing.
 use mathlib.Core.Path.{_≡_, refl, ap, _∙_, fun-ext}
-use mathlib.Core.Bool.{true}
+use mathlib.Core.Bool.{Bool, true}
 use mathlib.Core.List.{List}
 use Prim.Native.Nat.{ℕ, _<_}
 use native.Mathlib.Omega.{arith}
@@ -12,8 +12,8 @@ use Rattle.tables.specs.Tables.{Tables, fullSize}
 use Rattle.tables.specs.Flags.{turnedBit}
 use Rattle.tables.proofs.FlagLaws.{flip-turned}
 use Rattle.tables.proofs.SizeLaws.{full-sizes}
-use Rattle.plan.specs.Field.{FieldPlan, planOf, flipAll}
-use Rattle.plan.specs.Status.{Status, statusIn}
+use Rattle.plan.specs.Field.{FieldPlan, planOf, flipAll, Status, afterTurns}
+use Rattle.plan.specs.Status.{statusIn}
 use Rattle.sound.specs.Sound.{sound}
 use Rattle.sound.proofs.Clauses.{sound-says}
 use Rattle.log.specs.CallLog.{isGroup}
@@ -42,3 +42,7 @@ module _ (L : Limits) (t : Tables) (full : fullSize L t ≡ true) (now-sound : s
   -- what is turned in the flipped tables
   pub turned-after : statusIn (flippedAll t ws) .turned ≡ flipAll (S .turned) ws
   turned-after = fun-ext (λ v. ap turnedBit (flips-at ws (t .flags) group flags-room v) ∙ by-cases (isIn v ws) (λ i. rw i (flip-turned (at (t .flags) v))) (λ i. rw i refl))
+
+  -- the tables then hold the status after the turn
+  pub status-after : statusIn (flippedAll t ws) ≡ afterTurns S ws
+  status-after = ap (λ (turned : ℕ → Bool). record { place = S .place; underWay = S .underWay; turned = turned }) turned-after

@@ -5,8 +5,8 @@ use Prim.Native.Nat.{ℕ, suc, _%_}
 use lib.Dec.{ltb, leb, eqb}
 use Rattle.below.specs.Below.{pick, isIn}
 use Rattle.precedence.specs.Graph.{cyclic}
-use Rattle.plan.specs.Field.{FieldPlan, flipAll, graph, fixed}
-use Rattle.plan.specs.Status.{Status, entered, unmet, now}
+use Rattle.plan.specs.Field.{FieldPlan, graph, fixed, Status, afterTurns}
+use Rattle.plan.specs.Status.{entered, unmet, now}
 
 -- a call and what it names: a drone for grant and arrive, a dependency for turn, a list of dependencies for a turn of them all at once
 pub data Call : Type 0 where
@@ -83,7 +83,7 @@ module _ (F : FieldPlan) (s : Status) where
 
   -- "then 30 to 34 as the list is walked, with 34 last of all": the graph has all of the list turned
   abbrev pub turnRows : List ℕ → List Check
-  turnRows ws = walked ws (when (cyclic (graph F (flipAll turned ws))) (refused 34) ∷ [])
+  turnRows ws = walked ws (when (cyclic (graph F (afterTurns s ws))) (refused 34) ∷ [])
 
   -- the rows of "Where each refusal is checked" for grant, arrive and turn, without 41 and 40
   abbrev pub refusals : Call → List Check

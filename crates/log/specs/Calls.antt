@@ -9,7 +9,7 @@ use Rattle.tables.specs.Limits.{Limits}
 use Rattle.tables.specs.Tables.{PlanLists, Tables, dependencies, fullSize}
 use Rattle.tables.specs.Flags.{flipBit, fixedFlag, setUnderWay, clearUnderWay}
 use Rattle.precedence.specs.Graph.{cost, makespan}
-use Rattle.plan.specs.Field.{planOf, graph, fixed}
+use Rattle.plan.specs.Field.{planOf, graph, fixed, placeOf}
 use Rattle.plan.specs.Status.{statusIn}
 use Rattle.sound.specs.Sound.{sound, planAccepted, dependenciesSound, planUnused}
 use Rattle.log.specs.CallLog.{Call, grant, arrive, turn, turnAll, Reply, refused, isAccepted, replyIn, Entry, entry}
@@ -83,11 +83,11 @@ module _ (L : Limits) where
 
   -- "Remaining cost": from the drones' progress, with the order now in force. It changes nothing
   unfoldable pub costReply : Tables → CostReply
-  costReply t = cond (fullSize L t) (cond (sound L t) (costs (cost (graph (planOf (t .plan)) (statusIn t .turned)) (statusIn t .place))) (costRefused 40)) (costRefused 41)
+  costReply t = cond (fullSize L t) (cond (sound L t) (costs (cost (graph (planOf (t .plan)) (statusIn t)) (placeOf (planOf (t .plan)) (statusIn t)))) (costRefused 40)) (costRefused 41)
 
   -- "the undelayed rounds until everybody has landed": from the drones' progress, with the order now in force. It changes nothing
   unfoldable pub roundsReply : Tables → RoundsReply
-  roundsReply t = cond (fullSize L t) (cond (sound L t) (rounds (makespan (graph (planOf (t .plan)) (statusIn t .turned)) (statusIn t .place))) (roundsRefused 40)) (roundsRefused 41)
+  roundsReply t = cond (fullSize L t) (cond (sound L t) (rounds (makespan (graph (planOf (t .plan)) (statusIn t)) (placeOf (planOf (t .plan)) (statusIn t)))) (roundsRefused 40)) (roundsRefused 41)
 
   -- the tables as an accepted reading of the plan left them: the plan and its dependencies stand in them, everybody is at stop 0, "nobody is under way and
   -- nothing is turned", the fixed bits are right, and unused entries up to the full sizes are zero

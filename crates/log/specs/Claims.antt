@@ -9,8 +9,8 @@ use Rattle.below.specs.Below.{at, isIn, sumBelow}
 use Rattle.tables.specs.Limits.{Limits, limits}
 use Rattle.tables.specs.Tables.{PlanLists, Tables, drones, dependencies, fullSize}
 use Rattle.precedence.specs.Graph.{Cycle, Longest, remaining}
-use Rattle.plan.specs.Field.{FieldPlan, planOf, flip, flipAll, graph}
-use Rattle.plan.specs.Status.{Status, statusIn, now}
+use Rattle.plan.specs.Field.{FieldPlan, planOf, graph, Status, afterTurn, afterTurns, placeOf}
+use Rattle.plan.specs.Status.{statusIn, now}
 use Rattle.sound.specs.Sound.{sound}
 use Rattle.log.specs.CallLog.{Call, turn, turnAll, accepted, refused, mustWait, replyNumber, Entry, isTurn, replyBy}
 use Rattle.log.specs.Calls.{grantStep, arriveStep, turnStep, turnAllStep, step, costs, costReply, AsRead, tablesAfter}
@@ -79,7 +79,7 @@ module _ (F : FieldPlan) (s : Status) where
 
   -- the graph with dependency w turned has a cycle
   abbrev pub TurnedCycle : ℕ → Type 0
-  TurnedCycle w = Cycle (graph F (flip turned w))
+  TurnedCycle w = Cycle (graph F (afterTurn s w))
 
   -- ---- a turn of a list
 
@@ -89,7 +89,7 @@ module _ (F : FieldPlan) (s : Status) where
 
   -- the graph with all of them turned has a cycle
   abbrev pub GroupCycle : List ℕ → Type 0
-  GroupCycle ws = Cycle (graph F (flipAll turned ws))
+  GroupCycle ws = Cycle (graph F (afterTurns s ws))
 
 module _ (L : Limits) (t : Tables) where
   abbrev F : FieldPlan
@@ -153,9 +153,9 @@ module _ (L : Limits) (t : Tables) where
   -- "A drone's remaining rounds are those until it finishes, 0 if finished. Remaining cost is their sum"; they "are also the number of stops in the longest
   -- chain of unvisited stops that ends at its last stop"
   pub record CostMeans : Type 0 where
-    pub is-sum : Usable L t → costReply L t ≡ costs (sumBelow (F .drones) (remaining (graph F (S .turned)) (S .place)))
-    pub is-longest : Usable L t → (d : ℕ) → d < F .drones → S .place d < F .last d → Longest (graph F (S .turned)) (S .place) d (remaining (graph F (S .turned)) (S .place) d)
-    pub is-none : Usable L t → (d : ℕ) → d < F .drones → F .last d ≤ S .place d → remaining (graph F (S .turned)) (S .place) d ≡ 0
+    pub is-sum : Usable L t → costReply L t ≡ costs (sumBelow (F .drones) (remaining (graph F S) (placeOf F S)))
+    pub is-longest : Usable L t → (d : ℕ) → d < F .drones → S .place d < F .last d → Longest (graph F S) (placeOf F S) d (remaining (graph F S) (placeOf F S) d)
+    pub is-none : Usable L t → (d : ℕ) → d < F .drones → F .last d ≤ S .place d → remaining (graph F S) (placeOf F S) d ≡ 0
 
 -- the greatest cost: every drone waits for every stop but the first ones
 abbrev pub CostBounded : Type 0

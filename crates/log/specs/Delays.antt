@@ -9,7 +9,7 @@ use Rattle.below.specs.Below.{isIn, maxBelow}
 use Rattle.tables.specs.Limits.{Limits}
 use Rattle.tables.specs.Tables.{PlanLists, Tables, fullSize}
 use Rattle.precedence.specs.Graph.{Plan, finished, remaining, heldRound}
-use Rattle.plan.specs.Field.{planOf, graph}
+use Rattle.plan.specs.Field.{planOf, graph, placeOf}
 use Rattle.plan.specs.Status.{statusIn}
 use Rattle.sound.specs.Sound.{sound}
 use Rattle.log.specs.CallLog.{Call}
@@ -31,15 +31,15 @@ delays ((d ∷ ds) ∷ rounds) = suc (delays rounds)
 module _ (t : Tables) where
   -- the graph in the order now in force; "with no turns and no withdrawals in between" it stays
   abbrev pub inForceNow : Plan
-  inForceNow = graph (planOf (t .plan)) (statusIn t .turned)
+  inForceNow = graph (planOf (t .plan)) (statusIn t)
 
   -- R, "the largest number of remaining rounds at the start"
   unfoldable pub mostRemaining : ℕ
-  mostRemaining = maxBelow (inForceNow .drones) (remaining inForceNow (statusIn t .place))
+  mostRemaining = maxBelow (inForceNow .drones) (remaining inForceNow (placeOf (planOf (t .plan)) (statusIn t)))
 
   -- the places after these rounds
   abbrev pub placesAfter : List (List ℕ) → ℕ → ℕ
-  placesAfter rounds = playHeld inForceNow (statusIn t .place) rounds
+  placesAfter rounds = playHeld inForceNow (placeOf (planOf (t .plan)) (statusIn t)) rounds
 
   -- "any list of at least R + D rounds finishes all"
   abbrev pub AllFinish : Type 0

@@ -7,8 +7,8 @@ use Prim.Native.Nat.{ℕ, _≤_, _<_}
 use Rattle.tables.specs.Limits.{Limits}
 use Rattle.tables.specs.Tables.{PlanLists, Tables}
 use Rattle.precedence.specs.Graph.{play, finished, unvisited}
-use Rattle.plan.specs.Field.{FieldPlan, graph, planOf}
-use Rattle.plan.specs.Status.{Status, statusIn}
+use Rattle.plan.specs.Field.{FieldPlan, graph, planOf, Status, placeOf}
+use Rattle.plan.specs.Status.{statusIn}
 use Rattle.log.specs.CallLog.{Call, grant, accepted, statusBy, Entry, replyBy, logOf, holdsLocation, short}
 use Rattle.log.specs.Calls.{Answer, step, AsRead, recorded, tablesAfter, Ran}
 
@@ -24,12 +24,12 @@ Shows F log t = Agree F (statusIn t) (statusBy log)
 
 -- what is found by the log alone
 module _ (F : FieldPlan) (log : List Entry) where
-  open FieldPlan F using (drones)
-  open Status (statusBy log) using (place, underWay, turned)
+  open FieldPlan F using (drones, meets)
+  open Status (statusBy log) using (underWay)
 
-  -- two drones that hold one location are one drone
+  -- two drones that hold locations that meet, one location for instance, are one drone
   abbrev pub HeldByOne : Type 0
-  HeldByOne = (d e l : ℕ) → d < drones → e < drones → holdsLocation F (statusBy log) d l ≡ true → holdsLocation F (statusBy log) e l ≡ true → d ≡ e
+  HeldByOne = (d e l m : ℕ) → d < drones → e < drones → meets l m ≡ true → holdsLocation F (statusBy log) d l ≡ true → holdsLocation F (statusBy log) e m ≡ true → d ≡ e
 
   -- "A grant would be accepted when the log accepts a grant of some drone as the next call"
   abbrev pub GoesOn : Type 0
@@ -37,7 +37,7 @@ module _ (F : FieldPlan) (log : List Entry) where
 
   -- "Undelayed rounds are the rounds above, played from these places with these turns until every drone is at its last stop"
   abbrev pub Finishes : Type 0
-  Finishes = (rounds : ℕ) × (rounds ≤ unvisited (graph F turned) place) × (finished (graph F turned) (play (graph F turned) place rounds) ≡ true)
+  Finishes = (rounds : ℕ) × (rounds ≤ unvisited (graph F (statusBy log)) (placeOf F (statusBy log))) × (finished (graph F (statusBy log)) (play (graph F (statusBy log)) (placeOf F (statusBy log)) rounds) ≡ true)
 
 -- found after the calls, by the log of the plan F: `got` is each call with the reply that it got, t′ the tables that the last call left
 pub record Found (F : FieldPlan) (calls : List Call) (got : List Entry) (t′ : Tables) : Type 0 where

@@ -13,9 +13,9 @@ use Rattle.below.specs.Below.{listBelow}
 use Rattle.tables.specs.Limits.{Limits}
 use Rattle.tables.specs.Tables.{PlanLists, Tables, dependencies}
 use Rattle.precedence.specs.Graph.{cost}
-use Rattle.plan.specs.Claims.{stopTotal, ownerIn, numberIn, locationIn, timeIn, colliderIn}
+use Rattle.plan.specs.Claims.{stopTotal, ownerIn, numberIn, colliderIn, visitsIn}
 use Rattle.plan.specs.Dependencies.{dependencyTotal, column, flagOf}
-use Rattle.plan.specs.Field.{FieldPlan, planOf, graph}
+use Rattle.plan.specs.Field.{FieldPlan, planOf, graph, placeOf}
 use Rattle.sound.specs.Sound.{sound}
 use Rattle.log.specs.CallLog.{Call, grant, arrive, turn, turnAll, Reply, accepted, refused, mustWait, statusBy, Entry, entry, replyBy}
 use Rattle.log.specs.Preview.{PreviewReply, wouldTurn, wouldRefuse, preview, previewAll}
@@ -63,15 +63,15 @@ routesOnly rs = record {
 abbrev pub withDependencies : PlanLists → PlanLists
 withDependencies p = record {
   droneCount = p .droneCount;
-  dependencyCount = dependencyTotal (ownerIn p) (locationIn p) (timeIn p) (stopTotal p) ∷ [];
+  dependencyCount = dependencyTotal (visitsIn p) ∷ [];
   names = p .names;
   stopCounts = p .stopCounts;
   locations = p .locations;
   times = p .times;
-  firstDrones = padded (small .dependencies) (column (ownerIn p) (locationIn p) (timeIn p) (stopTotal p) (λ v w. ownerIn p v));
-  firstStops = padded (small .dependencies) (column (ownerIn p) (locationIn p) (timeIn p) (stopTotal p) (λ v w. numberIn p v));
-  secondDrones = padded (small .dependencies) (column (ownerIn p) (locationIn p) (timeIn p) (stopTotal p) (λ v w. ownerIn p w));
-  secondStops = padded (small .dependencies) (column (ownerIn p) (locationIn p) (timeIn p) (stopTotal p) (λ v w. numberIn p w));
+  firstDrones = padded (small .dependencies) (column (visitsIn p) (λ v w. ownerIn p v));
+  firstStops = padded (small .dependencies) (column (visitsIn p) (λ v w. numberIn p v));
+  secondDrones = padded (small .dependencies) (column (visitsIn p) (λ v w. ownerIn p w));
+  secondStops = padded (small .dependencies) (column (visitsIn p) (λ v w. numberIn p w));
 }
 
 abbrev pub planBy : List (List Visit) → PlanLists
@@ -83,7 +83,7 @@ tablesBy rs = let p = planBy rs in record {
   plan = p;
   visited = replicate (small .drones) 0;
   droneFlags = replicate (small .drones) 0;
-  flags = padded (small .dependencies) (column (ownerIn p) (locationIn p) (timeIn p) (stopTotal p) (flagOf (ownerIn p) (numberIn p) (stopTotal p)));
+  flags = padded (small .dependencies) (column (visitsIn p) (flagOf (ownerIn p) (numberIn p) (stopTotal p)));
 }
 
 -- ---- flights
@@ -130,7 +130,7 @@ module _ (L : Limits) (F : FieldPlan) where
   unfoldable pub follow : Tables → List Entry → List Line → Bool
   follow t log [] = true
   follow t log (says c r ∷ ls) = let by-log = replyBy F log c in sameReply (step L t c .reply) r && (sameReply by-log r && follow (step L t c .tables) (log ++ (entry c by-log ∷ [])) ls)
-  follow t log (costsNow n ∷ ls) = isCost (costReply L t) n && (eqb (cost (graph F (statusBy log .turned)) (statusBy log .place)) n && follow t log ls)
+  follow t log (costsNow n ∷ ls) = isCost (costReply L t) n && (eqb (cost (graph F (statusBy log)) (placeOf F (statusBy log))) n && follow t log ls)
   follow t log (previews w r ∷ ls) = samePreview (preview L t w) r && follow t log ls
   follow t log (previewsAll ws r ∷ ls) = samePreview (previewAll L t ws) r && follow t log ls
 

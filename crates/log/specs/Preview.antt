@@ -18,11 +18,11 @@ pub data PreviewReply : Type 0 where
 
 -- by the reply of the turn, the cost of the tables that it leaves, and the cost now; `subℕ a b` is the integer a - b
 abbrev pub previewBy : Reply → CostReply → CostReply → PreviewReply
-previewBy accepted (costs after) (costs now) = wouldTurn (subℕ after now)
-previewBy accepted (costs after) (costRefused n) = wouldRefuse n
-previewBy accepted (costRefused n) now = wouldRefuse n
-previewBy (refused n) after now = wouldRefuse n
-previewBy (mustWait w) after now = wouldRefuse 23
+previewBy accepted (costs costAfter) (costs costNow) = wouldTurn (subℕ costAfter costNow)
+previewBy accepted (costs costAfter) (costRefused n) = wouldRefuse n
+previewBy accepted (costRefused n) costNow = wouldRefuse n
+previewBy (refused n) costAfter costNow = wouldRefuse n
+previewBy (mustWait w) costAfter costNow = wouldRefuse 23
 
 module _ (L : Limits) (t : Tables) where
   -- a copy of the tables t was turned with this answer
@@ -45,11 +45,11 @@ RefusedAs p a = (n : ℕ) → (p ≡ wouldRefuse n) ↔ (a .reply ≡ refused n)
 
 -- both costs are there, and z is the one after less the one now
 pub record Change (x y : CostReply) (z : ℤ) : Type 0 where
-  pub after : ℕ
-  pub now : ℕ
-  pub costs-after : x ≡ costs after
-  pub costs-now : y ≡ costs now
-  pub difference : z ≡ subℕ after now
+  pub costAfter : ℕ
+  pub costNow : ℕ
+  pub costs-after : x ≡ costs costAfter
+  pub costs-now : y ≡ costs costNow
+  pub difference : z ≡ subℕ costAfter costNow
 
 -- "When it would be done, it also gives the cost after it less the cost now"
 abbrev pub DoneAs : Limits → Tables → PreviewReply → Answer → Type 0

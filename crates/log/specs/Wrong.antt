@@ -77,6 +77,7 @@ sooner F = record {
   last = F .last;
   location = F .location;
   time = F .time;
+  meets = F .meets;
   count = F .count;
   dependency = λ w. let x = F .dependency w in record { first = x .first; firstStop = x .firstStop - 1; second = x .second; secondStop = x .secondStop };
 }

@@ -14,6 +14,7 @@ use Rattle.below.proofs.Every.{allBelow-at, allBelow-all}
 use Rattle.below.proofs.Sum.{sum-ext, count-sum}
 use Rattle.below.proofs.Pairs.{Climbs, climbs-few, climbs-all, all-climbs}
 use Rattle.below.proofs.Triangle.{pairs-triangle, triangle-mono, triangle-ext, triangle-same}
+use Rattle.plan.specs.Visits.{Visits, visits}
 use Rattle.plan.specs.Check.{over, collide, apart}
 use Rattle.plan.specs.Dependencies.{follows, exact, right}
 use Rattle.meetings.specs.Meetings.{meeting, meetingTotal, clear, entryRight, Steady}
@@ -26,24 +27,27 @@ one b = pick b 1 0
 unfoldable pub quick : (own loc time : ℕ → ℕ) (n m : ℕ) (xs ys : ℕ → ℕ) → Bool
 quick own loc time n m xs ys = eqb m (meetingTotal own loc n) && allBelow m (entryRight own loc time n xs ys)
 
-module _ (own loc time : ℕ → ℕ) (n : ℕ) where
+module _ (own num loc time : ℕ → ℕ) (n : ℕ) where
+  abbrev S : Visits
+  S = visits own num loc time n
+
   -- ---- what the tests say
   pub record Follows (v w : ℕ) : Type 0 where
     pub others : own v ≢ own w
     pub place : loc v ≡ loc w
     pub earlier : time v < time w
 
-  follows-says : (v w : ℕ) → follows own loc time v w ≡ true → Follows v w
+  follows-says : (v w : ℕ) → follows S v w ≡ true → Follows v w
   unfolding follows
   follows-says v w e =
       let r : (eqb (loc v) (loc w) && ltb (time v) (time w)) ≡ true = and-right (not (eqb (own v) (own w))) _ e in
       record { others = eqb-false _ _ (not-true _ (and-left _ _ e)); place = eqb-true _ _ (and-left _ _ r); earlier = ltb-true _ _ (and-right (eqb (loc v) (loc w)) _ r) }
 
-  says-follows : (v w : ℕ) → Follows v w → follows own loc time v w ≡ true
+  says-follows : (v w : ℕ) → Follows v w → follows S v w ≡ true
   unfolding follows
   says-follows v w f = rw (ne-eqb (own v) (own w) (f .others), eq-eqb (loc v) (loc w) (f .place), lt-ltb (time v) (time w) (f .earlier)) refl
 
-  follows-self : (v : ℕ) → follows own loc time v v ≡ false
+  follows-self : (v : ℕ) → follows S v v ≡ false
   unfolding follows
   follows-self v = rw (eq-eqb (own v) (own v) refl) refl
 
@@ -90,13 +94,13 @@ module _ (own loc time : ℕ → ℕ) (n : ℕ) where
   clear-self v = rw (eq-eqb (own v) (own v) refl) refl
 
   -- two that meeting and do not collide, in either order: one is over before the other
-  apart-over : (v w : ℕ) → apart own loc time n ≡ true → v < n → w < n → meeting own loc v w ≡ true → (over own time n v (time w) ≡ true) ⊎ (over own time n w (time v) ≡ true)
+  apart-over : (v w : ℕ) → apart S ≡ true → v < n → w < n → meeting own loc v w ≡ true → (over own time n v (time w) ≡ true) ⊎ (over own time n w (time v) ≡ true)
   unfolding apart collide
   apart-over v w e l k m =
       let q : Meeting v w = meeting-says v w m in
       let first-lower : (x y : ℕ) → x < n → y < n → own x < own y → loc x ≡ loc y → (over own time n x (time y) ≡ true) ⊎ (over own time n y (time x) ≡ true) =
       λ x y a b o p. by-cases (over own time n x (time y)) (λ h. inl h) (λ h. by-cases (over own time n y (time x)) (λ g. inr g) (λ g.
-      let all : not (collide own loc time n x y) ≡ true = allBelow-at n (λ w. not (collide own loc time n x w)) (allBelow-at n (λ v. allBelow n (λ w. not (collide own loc time n v w))) e x a) y b in
+      let all : not (collide S x y) ≡ true = allBelow-at n (λ w. not (collide S x w)) (allBelow-at n (λ v. allBelow n (λ w. not (collide S v w))) e x a) y b in
       absurd (false≢true (rw (lt-ltb (own x) (own y) o, eq-eqb (loc x) (loc y) p, h, g) at all)))) in
       by-cases (ltb (own v) (own w))
       (λ h. first-lower v w l k (ltb-true _ _ h) (q .place))
@@ -108,7 +112,7 @@ module _ (own loc time : ℕ → ℕ) (n : ℕ) where
     pub stays : over own time n v (time w) ≡ false
     pub stays-too : over own time n w (time v) ≡ false
 
-  collide-says : (v w : ℕ) → collide own loc time n v w ≡ true → Collide v w
+  collide-says : (v w : ℕ) → collide S v w ≡ true → Collide v w
   unfolding collide
   collide-says v w e =
       let r = and-right (ltb (own v) (own w)) _ e in
@@ -151,46 +155,46 @@ module _ (own loc time : ℕ → ℕ) (n : ℕ) where
     over-earlier : (v t : ℕ) → over own time n v t ≡ true → time v < t
     over-earlier v t e = let o : Over v t = over-says v t e in omega (arith, steady v (o .next) (o .same-drone), o .leaves)
 
-    clear-follows : (v w : ℕ) → clear own loc time n v w ≡ true → follows own loc time v w ≡ true
+    clear-follows : (v w : ℕ) → clear own loc time n v w ≡ true → follows S v w ≡ true
     clear-follows v w e = let c : Clear v w = clear-says v w e in says-follows v w (record { others = c .others; place = c .place; earlier = over-earlier v (time w) (c .gone) })
 
     -- two stops of which one follows the other, in either order, meeting, and only one follows
-    once : (v w : ℕ) → one (follows own loc time v w) + one (follows own loc time w v) ≤ one (meeting own loc v w)
-    once v w = by-cases (follows own loc time v w)
-        (λ e. let f : Follows v w = follows-says v w e in by-cases (follows own loc time w v)
+    once : (v w : ℕ) → one (follows S v w) + one (follows S w v) ≤ one (meeting own loc v w)
+    once v w = by-cases (follows S v w)
+        (λ e. let f : Follows v w = follows-says v w e in by-cases (follows S w v)
         (λ g. absurd (omega (arith, f .earlier, follows-says w v g .earlier)))
         (λ g. rw (e, g, says-meeting v w (f .others) (f .place)) (omega arith)))
-        (λ e. by-cases (follows own loc time w v)
+        (λ e. by-cases (follows S w v)
         (λ g. let f : Follows w v = follows-says w v g in rw (e, g, says-meeting v w (λ q. f .others (sym q)) (sym (f .place))) (omega arith))
         (λ g. rw (e, g) (omega arith)))
 
-    clear-less : (v w : ℕ) → one (clear own loc time n v w) ≤ one (follows own loc time v w)
+    clear-less : (v w : ℕ) → one (clear own loc time n v w) ≤ one (follows S v w)
     clear-less v w = by-cases (clear own loc time n v w) (λ e. rw (e, clear-follows v w e) (omega arith)) (λ e. rw e (omega arith))
 
     total-triangle : meetingTotal own loc n ≡ triangle n (λ v w. one (meeting own loc v w))
     unfolding meetingTotal triangle
     total-triangle = sum-ext n (λ w. countBelow w (λ v. meeting own loc v w)) (λ w. sumBelow w (λ v. one (meeting own loc v w))) (λ w l. count-sum w (λ v. meeting own loc v w))
 
-    follows-total : pairsOf (follows own loc time) n ≤ meetingTotal own loc n
-    follows-total = rw (total-triangle, pairs-triangle (follows own loc time) follows-self n) (triangle-mono n _ _ (λ v w k l. once v w))
+    follows-total : pairsOf (follows S) n ≤ meetingTotal own loc n
+    follows-total = rw (total-triangle, pairs-triangle (follows S) follows-self n) (triangle-mono n _ _ (λ v w k l. once v w))
 
     -- nothing collides: of two that meeting one is clear of the other, and the follower is the one that comes later
-    apart-follows : apart own loc time n ≡ true → pairsOf (follows own loc time) n ≡ meetingTotal own loc n
-    apart-follows a = rw (total-triangle, pairs-triangle (follows own loc time) follows-self n) (triangle-ext n _ _ (λ v w k l. each v w (omega arith) l))
+    apart-follows : apart S ≡ true → pairsOf (follows S) n ≡ meetingTotal own loc n
+    apart-follows a = rw (total-triangle, pairs-triangle (follows S) follows-self n) (triangle-ext n _ _ (λ v w k l. each v w (omega arith) l))
       where
-        each : (v w : ℕ) → v < n → w < n → one (follows own loc time v w) + one (follows own loc time w v) ≡ one (meeting own loc v w)
+        each : (v w : ℕ) → v < n → w < n → one (follows S v w) + one (follows S w v) ≡ one (meeting own loc v w)
         each v w l k = by-cases (meeting own loc v w)
             (λ e. let q : Meeting v w = meeting-says v w e in
-            let some : 1 ≤ one (follows own loc time v w) + one (follows own loc time w v) =
+            let some : 1 ≤ one (follows S v w) + one (follows S w v) =
             elim (apart-over v w a l k e) [
               | inl o ↦ rw (says-follows v w (record { others = q .others; place = q .place; earlier = over-earlier v (time w) o })) (omega arith)
               | inr o ↦ rw (says-follows w v (record { others = λ z. q .others (sym z); place = sym (q .place); earlier = over-earlier w (time v) o })) (omega arith)
             ] in
-            let most : one (follows own loc time v w) + one (follows own loc time w v) ≤ 1 = rw e at (once v w) in
+            let most : one (follows S v w) + one (follows S w v) ≤ 1 = rw e at (once v w) in
             rw e (omega arith))
-            (λ e. let most : one (follows own loc time v w) + one (follows own loc time w v) ≤ 0 = rw e at (once v w) in rw e (omega arith))
+            (λ e. let most : one (follows S v w) + one (follows S w v) ≤ 0 = rw e at (once v w) in rw e (omega arith))
 
-    apart-clear : apart own loc time n ≡ true → (v w : ℕ) → v < n → w < n → follows own loc time v w ≡ true → clear own loc time n v w ≡ true
+    apart-clear : apart S ≡ true → (v w : ℕ) → v < n → w < n → follows S v w ≡ true → clear own loc time n v w ≡ true
     apart-clear a v w l k e =
         let f : Follows v w = follows-says v w e in
         elim (apart-over v w a l k (says-meeting v w (f .others) (f .place))) [
@@ -199,7 +203,7 @@ module _ (own loc time : ℕ → ℕ) (n : ℕ) where
         ]
 
     -- as many clear pairs as meeting: nothing collides
-    clear-apart : meetingTotal own loc n ≤ pairsOf (clear own loc time n) n → apart own loc time n ≡ true
+    clear-apart : meetingTotal own loc n ≤ pairsOf (clear own loc time n) n → apart S ≡ true
     unfolding apart
     clear-apart h = allBelow-all n _ (λ v l. allBelow-all n _ (λ w k. not-collide v w l k))
       where
@@ -208,8 +212,8 @@ module _ (own loc time : ℕ → ℕ) (n : ℕ) where
             (λ v w k l. omega (arith, clear-less v w, clear-less w v, once v w))
             (rw (total-triangle, pairs-triangle (clear own loc time n) clear-self n) at h)
 
-        not-collide : (v w : ℕ) → v < n → w < n → not (collide own loc time n v w) ≡ true
-        not-collide v w l k = by-cases (collide own loc time n v w)
+        not-collide : (v w : ℕ) → v < n → w < n → not (collide S v w) ≡ true
+        not-collide v w l k = by-cases (collide S v w)
             (λ e. let c : Collide v w = collide-says v w e in
             let o : own v ≢ own w = omega (arith, c .lower) in
             let a : clear own loc time n v w ≡ false = not-over v w (c .stays) in
@@ -221,12 +225,12 @@ module _ (own loc time : ℕ → ℕ) (n : ℕ) where
             (λ e. rw e refl)
 
     -- ---- the two tests are one
-    quick-right : (m : ℕ) (xs ys : ℕ → ℕ) → quick own loc time n m xs ys ≡ true → right own loc time n m xs ys ≡ true
+    quick-right : (m : ℕ) (xs ys : ℕ → ℕ) → quick own loc time n m xs ys ≡ true → right S m xs ys ≡ true
     unfolding quick right exact
     quick-right m xs ys e = and-both _ _ (clear-apart (omega (arith, many, climbs-few (clear own loc time n) n climbs))) (and-both _ _ (eq-eqb _ _ total) (allBelow-all m _ (λ k l.
         and-both _ _
-        (eq-eqb _ _ (sym (climbs-all (follows own loc time) n climbs-follows total (λ v w. v) k l)))
-        (eq-eqb _ _ (sym (climbs-all (follows own loc time) n climbs-follows total (λ v w. w) k l))))))
+        (eq-eqb _ _ (sym (climbs-all (follows S) n climbs-follows total (λ v w. v) k l)))
+        (eq-eqb _ _ (sym (climbs-all (follows S) n climbs-follows total (λ v w. w) k l))))))
       where
         many : m ≡ meetingTotal own loc n
         many = eqb-true _ _ (and-left _ _ e)
@@ -234,42 +238,42 @@ module _ (own loc time : ℕ → ℕ) (n : ℕ) where
         climbs : Climbs (clear own loc time n) n m xs ys
         climbs = entries-climb m xs ys (allBelow-at m (entryRight own loc time n xs ys) (and-right (eqb m (meetingTotal own loc n)) _ e))
 
-        climbs-follows : Climbs (follows own loc time) n m xs ys
+        climbs-follows : Climbs (follows S) n m xs ys
         climbs-follows = record { first-in = climbs .first-in; second-in = climbs .second-in; passes = λ k l. clear-follows _ _ (climbs .passes k l); rises = climbs .rises }
 
-        total : m ≡ pairsOf (follows own loc time) n
-        total = omega (arith, many, follows-total, climbs-few (follows own loc time) n climbs-follows)
+        total : m ≡ pairsOf (follows S) n
+        total = omega (arith, many, follows-total, climbs-few (follows S) n climbs-follows)
 
-    right-quick : (m : ℕ) (xs ys : ℕ → ℕ) → right own loc time n m xs ys ≡ true → quick own loc time n m xs ys ≡ true
+    right-quick : (m : ℕ) (xs ys : ℕ → ℕ) → right S m xs ys ≡ true → quick own loc time n m xs ys ≡ true
     unfolding quick right exact
     right-quick m xs ys e = and-both _ _ (eq-eqb _ _ (total ∙ apart-follows free)) (allBelow-all m _ (climb-entries m xs ys (record { first-in = climbs .first-in; second-in = climbs .second-in; passes = λ k l. apart-clear free _ _ (climbs .first-in k l) (climbs .second-in k l) (climbs .passes k l); rises = climbs .rises })))
       where
-        free : apart own loc time n ≡ true
+        free : apart S ≡ true
         free = and-left _ _ e
 
-        listed-right : exact own loc time n m xs ys ≡ true
-        listed-right = and-right (apart own loc time n) _ e
+        listed-right : exact S m xs ys ≡ true
+        listed-right = and-right (apart S) _ e
 
-        total : m ≡ pairsOf (follows own loc time) n
+        total : m ≡ pairsOf (follows S) n
         total = eqb-true _ _ (and-left _ _ listed-right)
 
-        entry : (k : ℕ) → k < m → (xs k ≡ getD (listed (follows own loc time) n (λ v w. v)) k 0) × (ys k ≡ getD (listed (follows own loc time) n (λ v w. w)) k 0)
-        entry k l = let q = allBelow-at m _ (and-right (eqb m (pairsOf (follows own loc time) n)) _ listed-right) k l in (eqb-true _ _ (and-left _ _ q), eqb-true _ _ (and-right (eqb (xs k) (getD (listed (follows own loc time) n (λ v w. v)) k 0)) _ q))
+        entry : (k : ℕ) → k < m → (xs k ≡ getD (listed (follows S) n (λ v w. v)) k 0) × (ys k ≡ getD (listed (follows S) n (λ v w. w)) k 0)
+        entry k l = let q = allBelow-at m _ (and-right (eqb m (pairsOf (follows S) n)) _ listed-right) k l in (eqb-true _ _ (and-left _ _ q), eqb-true _ _ (and-right (eqb (xs k) (getD (listed (follows S) n (λ v w. v)) k 0)) _ q))
 
-        climbs : Climbs (follows own loc time) n m xs ys
-        climbs = subst (λ (z : ℕ). Climbs (follows own loc time) n z xs ys) (sym total) (all-climbs (follows own loc time) n xs ys (λ k l. entry k (omega (arith, total)) .0) (λ k l. entry k (omega (arith, total)) .1))
+        climbs : Climbs (follows S) n m xs ys
+        climbs = subst (λ (z : ℕ). Climbs (follows S) n z xs ys) (sym total) (all-climbs (follows S) n xs ys (λ k l. entry k (omega (arith, total)) .0) (λ k l. entry k (omega (arith, total)) .1))
 
     -- the quick test answers what the definition says
-    pub quick-is : (m : ℕ) (xs ys : ℕ → ℕ) → quick own loc time n m xs ys ≡ right own loc time n m xs ys
+    pub quick-is : (m : ℕ) (xs ys : ℕ → ℕ) → quick own loc time n m xs ys ≡ right S m xs ys
     quick-is m xs ys = same-test _ _ (quick-right m xs ys) (right-quick m xs ys)
 
     -- .. as the code asks it
     module _ (m : ℕ) (xs ys : ℕ → ℕ) where
-      pub right-not : allBelow m (entryRight own loc time n xs ys) ≡ false → false ≡ right own loc time n m xs ys
+      pub right-not : allBelow m (entryRight own loc time n xs ys) ≡ false → false ≡ right S m xs ys
       unfolding quick
       right-not e = by-cases (eqb m (meetingTotal own loc n)) (λ h. rw (h, e) at (quick-is m xs ys)) (λ h. rw h at (quick-is m xs ys))
 
-      pub right-count : (k : ℕ) → allBelow m (entryRight own loc time n xs ys) ≡ true → k ≡ meetingTotal own loc n → eqb k m ≡ right own loc time n m xs ys
+      pub right-count : (k : ℕ) → allBelow m (entryRight own loc time n xs ys) ≡ true → k ≡ meetingTotal own loc n → eqb k m ≡ right S m xs ys
       unfolding quick
       right-count k e q = by-cases (eqb k m)
           (λ h. rw h (rw (eq-eqb m (meetingTotal own loc n) (sym (eqb-true k m h) ∙ q), e) at (quick-is m xs ys)))
@@ -286,7 +290,7 @@ module _ (own loc time : ℕ → ℕ) (n : ℕ) where
         pub leaves : time (xs k + 1) < time (ys k)
         pub later : time (xs k) < time (ys k)
 
-      pub right-entry : right own loc time n m xs ys ≡ true → (k : ℕ) → k < m → Entry k
+      pub right-entry : right S m xs ys ≡ true → (k : ℕ) → k < m → Entry k
       unfolding quick
       right-entry e k l =
           let c : Climbs (clear own loc time n) n m xs ys = entries-climb m xs ys (allBelow-at m (entryRight own loc time n xs ys) (and-right (eqb m (meetingTotal own loc n)) _ (right-quick m xs ys e))) in

@@ -17,6 +17,7 @@ use Rattle.below.proofs.Fill.{fill-length}
 use Rattle.below.proofs.Same.{count-ext}
 use Rattle.below.proofs.Gaps.{over-gap}
 use Rattle.below.proofs.Sum.{sum-bound, sum-ext}
+use Rattle.tables.specs.Limits.{Limits}
 use Rattle.plan.specs.Sharing.{firstAt}
 use Rattle.plan.proofs.SharingLaws.{first-same, firsts-back}
 use Rattle.meetings.specs.Meetings.{meeting, meetingTotal, Grouped}
@@ -26,33 +27,34 @@ use Rattle.meetings.specs.Histogram.{Indexed, Tally, Run}
 pub count-cut : (lo w : ℕ) (f g : ℕ → Bool) → lo ≤ w → ((v : ℕ) → v < lo → f v ≡ g v) → ((v : ℕ) → lo ≤ v → v < w → f v ≡ false) → countBelow w f ≡ countBelow lo g
 count-cut lo w f g l same none = over-gap (λ (k : ℕ). countBelow k f ≡ countBelow lo g) lo w l (λ u a b e. count-no u f (none u a b) ∙ e) (count-ext lo f g same)
 
--- the first stops as they were filled
-pub indexed-filled : (loc : ℕ → ℕ) (n : ℕ) (first₀ first : List ℕ) → length first₀ ≡ 1024 → n ≤ 1024 → first ≡ fillBelow n (firstAt loc) first₀ → Indexed first n
-indexed-filled loc n first₀ first size few e = record { has-firsts = omega (arith, fill-length (firstAt loc) first₀ n first e); few = few; back = firsts-back loc n first₀ first (omega arith) e }
+module _ {L : Limits} where
+  -- the first stops as they were filled
+  pub indexed-filled : (loc : ℕ → ℕ) (n : ℕ) (first₀ first : List ℕ) → length first₀ ≡ L .stops → n ≤ L .stops → first ≡ fillBelow n (firstAt loc) first₀ → Indexed L first n
+  indexed-filled loc n first₀ first size few e = record { has-firsts = omega (arith, fill-length (firstAt loc) first₀ n first e); few = few; back = firsts-back loc n first₀ first (omega arith) e }
 
--- a stop's entry is within the histogram
-pub index-in : (firsts counts : List ℕ) (n lo v : ℕ) → Indexed firsts n → Tally firsts counts n lo → v < n → at firsts v < length counts
-index-in firsts counts n lo v i t l = omega (arith, i .back v l, i .few, t .size)
+  -- a stop's entry is within the histogram
+  pub index-in : (firsts counts : List ℕ) (n lo v : ℕ) → Indexed L firsts n → Tally L firsts counts n lo → v < n → at firsts v < length counts
+  index-in firsts counts n lo v i t l = omega (arith, i .back v l, i .few, t .size)
 
--- every entry is zero
-pub tally-none : (firsts counts : List ℕ) (n : ℕ) → length counts ≡ 1024 → ((f : ℕ) → at counts f ≡ 0) → Tally firsts counts n 0
-unfolding countBelow
-tally-none firsts counts n e z = record { size = e; here = λ v l. z (at firsts v) }
+  -- every entry is zero
+  pub tally-none : (firsts counts : List ℕ) (n : ℕ) → length counts ≡ L .stops → ((f : ℕ) → at counts f ≡ 0) → Tally L firsts counts n 0
+  unfolding countBelow
+  tally-none firsts counts n e z = record { size = e; here = λ v l. z (at firsts v) }
 
--- one more stop, with its entry raised
-pub tally-more : (firsts counts : List ℕ) (n v f x : ℕ) → Tally firsts counts n v → v < n → f < length counts → f ≡ at firsts v → x ≡ at counts f + 1 → Tally firsts (set counts f x) n (v + 1)
-tally-more firsts counts n v f x t k b e q =
-    record {
-      size = length-set counts f x ∙ t .size;
-      here = λ w h. by-cases (eqb (at firsts w) f)
-          (λ s. let z : at firsts w ≡ f = eqb-true (at firsts w) f s in
-          rw z (getD-set-same counts f x 0 b ∙ q ∙ sym (count-yes v (λ u. eqb (at firsts u) f) (eq-eqb _ _ (sym e)) ∙ omega (arith, rw (← e) at (t .here v k)))))
-          (λ s. let z : at firsts w ≢ f = eqb-false (at firsts w) f s in
-          getD-set-other counts f (at firsts w) x 0 z ∙ t .here w h ∙ sym (count-no v (λ u. eqb (at firsts u) (at firsts w)) (ne-eqb _ _ (λ y. z (sym y ∙ sym e)))));
-    }
+  -- one more stop, with its entry raised
+  pub tally-more : (firsts counts : List ℕ) (n v f x : ℕ) → Tally L firsts counts n v → v < n → f < length counts → f ≡ at firsts v → x ≡ at counts f + 1 → Tally L firsts (set counts f x) n (v + 1)
+  tally-more firsts counts n v f x t k b e q =
+      record {
+        size = length-set counts f x ∙ t .size;
+        here = λ w h. by-cases (eqb (at firsts w) f)
+            (λ s. let z : at firsts w ≡ f = eqb-true (at firsts w) f s in
+            rw z (getD-set-same counts f x 0 b ∙ q ∙ sym (count-yes v (λ u. eqb (at firsts u) f) (eq-eqb _ _ (sym e)) ∙ omega (arith, rw (← e) at (t .here v k)))))
+            (λ s. let z : at firsts w ≢ f = eqb-false (at firsts w) f s in
+            getD-set-other counts f (at firsts w) x 0 z ∙ t .here w h ∙ sym (count-no v (λ u. eqb (at firsts u) (at firsts w)) (ne-eqb _ _ (λ y. z (sym y ∙ sym e)))));
+      }
 
-pub tally-bound : (firsts counts : List ℕ) (n lo v : ℕ) → Tally firsts counts n lo → v < n → at counts (at firsts v) ≤ lo
-tally-bound firsts counts n lo v t b = omega (arith, t .here v b, count-le lo (λ u. eqb (at firsts u) (at firsts v)))
+  pub tally-bound : (firsts counts : List ℕ) (n lo v : ℕ) → Tally L firsts counts n lo → v < n → at counts (at firsts v) ≤ lo
+  tally-bound firsts counts n lo v t b = omega (arith, t .here v b, count-le lo (λ u. eqb (at firsts u) (at firsts v)))
 
 pub run-none : (own : ℕ → ℕ) → Run own 0 0
 run-none own = record { starts = omega arith; lower = λ v l. absurd (omega arith); alike = λ v a b. absurd (omega arith) }
@@ -72,7 +74,7 @@ run-next own n lo w g l r e =
     }
 
 -- the entry of w is the number of stops before w that meet it
-pub run-meetings : (owners firsts counts : List ℕ) (n lo w : ℕ) → Run (at owners) lo (w + 1) → lo ≤ w → Tally firsts counts n lo → w < n
+pub run-meetings : {L : Limits} (owners firsts counts : List ℕ) (n lo w : ℕ) → Run (at owners) lo (w + 1) → lo ≤ w → Tally L firsts counts n lo → w < n
     → at counts (at firsts w) ≡ countBelow w (λ v. meeting (at owners) (at firsts) v w)
 unfolding meeting
 run-meetings owners firsts counts n lo w r l t b = t .here w b ∙ sym (count-cut lo w (λ v. meeting (at owners) (at firsts) v w) (λ u. eqb (at firsts u) (at firsts w)) l

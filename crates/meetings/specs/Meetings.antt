@@ -5,11 +5,12 @@ use mathlib.Core.Bool.{Bool, not, _&&_, _||_}
 use Prim.Native.Nat.{ℕ, _+_, _-_, _≤_, _<_}
 use lib.Dec.{ltb, eqb}
 use Rattle.below.specs.Below.{countBelow, sumBelow, pairBefore}
-use Rattle.plan.specs.Check.{meets, over}
+use Rattle.plan.specs.Visits.{sameLocation}
+use Rattle.plan.specs.Check.{over}
 
 -- v and w are visits of one location by different drones
 unfoldable pub meeting : (own loc : ℕ → ℕ) → ℕ → ℕ → Bool
-meeting own loc v w = not (eqb (own v) (own w)) && meets (loc v) (loc w)
+meeting own loc v w = not (eqb (own v) (own w)) && sameLocation (loc v) (loc w)
 
 -- how many v < w < n are such
 unfoldable pub meetingTotal : (own loc : ℕ → ℕ) → ℕ → ℕ
@@ -18,7 +19,7 @@ meetingTotal own loc n = sumBelow n (λ w. countBelow w (λ v. meeting own loc v
 module _ (own loc time : ℕ → ℕ) (n : ℕ) where
   -- v and w are visits of one location by different drones, and v is over before w begins
   unfoldable pub clear : ℕ → ℕ → Bool
-  clear v w = not (eqb (own v) (own w)) && (meets (loc v) (loc w) && over own time n v (time w))
+  clear v w = not (eqb (own v) (own w)) && (sameLocation (loc v) (loc w) && over own time n v (time w))
 
   -- entry k holds two stops, the first clear of the second, and comes after entry k - 1
   unfoldable pub entryRight : (xs ys : ℕ → ℕ) → ℕ → Bool

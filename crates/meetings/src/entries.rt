@@ -1,9 +1,11 @@
 // The entries of a dependency table, tested one by one.
 use plan::check::over_at;
+use plan::meeting::meets;
 ghost use mathlib.Core.Path.{_≡_};
 ghost use Prim.Native.Nat.{_≤_, _<_};
 ghost use lib.ListN.{length};
 ghost use Rattle.below.specs.Below.{at, allBelow, pairBefore};
+ghost use Rattle.tables.specs.Limits.{limits};
 ghost use Rattle.meetings.specs.Meetings.{clear, entryRight};
 ghost use Rattle.meetings.specs.Asked.{Stops, PairTable};
 
@@ -15,7 +17,7 @@ fn is_clear(owners: &[u8], locations: &[u16], times: &[u32], n: usize, v: usize,
     if owners[v] == owners[w] {
         return false;
     }
-    if locations[v] != locations[w] {
+    if !meets(locations[v], locations[w]) {
         return false;
     }
     over_at(owners, times, n, v, times[w])
@@ -40,7 +42,7 @@ fn is_right(
     seconds: &[u16],
     k: usize,
 ) -> bool
-    requires { ⌜ Stops n (now owners) (now locations) (now times) × (k < length (now firsts)) × (k < length (now seconds)) ⌝ }
+    requires { ⌜ Stops limits n (now owners) (now locations) (now times) × (k < length (now firsts)) × (k < length (now seconds)) ⌝ }
     ensures { λ r. ⌜ r ≡ entryRight (at (now (owners .entry))) (at (now (locations .entry))) (at (now (times .entry))) n (at (now (firsts .entry))) (at (now (seconds .entry))) k ⌝ }
 {
     let v = firsts[k] as usize;
@@ -71,7 +73,7 @@ pub fn are_right(
     seconds: &[u16],
     m: usize,
 ) -> bool
-    requires { ⌜ Stops n (now owners) (now locations) (now times) × PairTable m (now firsts) (now seconds) ⌝ }
+    requires { ⌜ Stops limits n (now owners) (now locations) (now times) × PairTable m (now firsts) (now seconds) ⌝ }
     ensures { λ r. ⌜ r ≡ allBelow m (entryRight (at (now (owners .entry))) (at (now (locations .entry))) (at (now (times .entry))) n (at (now (firsts .entry))) (at (now (seconds .entry)))) ⌝ }
 {
     let mut k = 0;

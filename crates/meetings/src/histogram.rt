@@ -4,13 +4,14 @@ ghost use mathlib.Core.Path.{_≡_};
 ghost use Prim.Native.Nat.{_≤_, _<_};
 ghost use lib.ListN.{length};
 ghost use Rattle.below.specs.Below.{at};
+ghost use Rattle.tables.specs.Limits.{limits};
 ghost use Rattle.meetings.specs.Meetings.{meetingTotal, Grouped};
 ghost use Rattle.meetings.specs.Histogram.{Indexed, Tally, Run, Settled};
 
 // Adds the stops lo to hi - 1 to the histogram.
 fn mark(firsts: &[u16; Stop::FULL], n: usize, counts: &mut [u16; Stop::FULL], lo: usize, hi: usize)
-    requires { ⌜ Indexed (now firsts) n × Tally (now firsts) (now counts) n lo × (lo ≤ hi) × (hi ≤ n) ⌝ }
-    ensures { λ _. ⌜ Tally (now (firsts .entry)) (now (counts .exit)) n hi ⌝ }
+    requires { ⌜ Indexed limits (now firsts) n × Tally limits (now firsts) (now counts) n lo × (lo ≤ hi) × (hi ≤ n) ⌝ }
+    ensures { λ _. ⌜ Tally limits (now (firsts .entry)) (now (counts .exit)) n hi ⌝ }
 {
     let mut v = lo;
     while v < hi {
@@ -29,9 +30,9 @@ fn settle(
     lo: usize,
     w: usize,
 ) -> usize
-    requires { ⌜ Indexed (now firsts) n × Tally (now firsts) (now counts) n lo × Run (at (now owners)) lo w × Grouped (at (now owners)) n ⌝ }
+    requires { ⌜ Indexed limits (now firsts) n × Tally limits (now firsts) (now counts) n lo × Run (at (now owners)) lo w × Grouped (at (now owners)) n ⌝ }
     requires { ⌜ (w < n) × (n ≤ length (now owners)) ⌝ }
-    ensures { λ r. ⌜ Settled (now (owners .entry)) (now (firsts .entry)) (now (counts .exit)) n w r ⌝ }
+    ensures { λ r. ⌜ Settled limits (now (owners .entry)) (now (firsts .entry)) (now (counts .exit)) n w r ⌝ }
 {
     if owners[w] == owners[lo] {
         return lo;
@@ -42,7 +43,7 @@ fn settle(
 
 // How many pairs of stops of different drones share a location.
 pub fn count_meetings(owners: &[u8], firsts: &[u16; Stop::FULL], n: usize) -> usize
-    requires { ⌜ Indexed (now firsts) n × Grouped (at (now owners)) n × (n ≤ length (now owners)) ⌝ }
+    requires { ⌜ Indexed limits (now firsts) n × Grouped (at (now owners)) n × (n ≤ length (now owners)) ⌝ }
     ensures { λ r. ⌜ r ≡ meetingTotal (at (now (owners .entry))) (at (now (firsts .entry))) n ⌝ }
 {
     let mut counts = [0u16; Stop::FULL];

@@ -6,7 +6,11 @@ mod histogram;
 use plan::sharing;
 use tables::entries::Stop;
 ghost use mathlib.Core.Path.{_≡_};
+ghost use mathlib.Core.List.{List};
+ghost use Prim.Native.Nat.{ℕ};
 ghost use Rattle.below.specs.Below.{at};
+ghost use Rattle.tables.specs.Limits.{limits};
+ghost use Rattle.plan.specs.Visits.{visitsOf};
 ghost use Rattle.plan.specs.Dependencies.{right};
 ghost use Rattle.meetings.specs.Asked.{Stops, PairTable};
 
@@ -20,8 +24,8 @@ pub fn dependencies_right(
     seconds: &[u16],
     m: usize,
 ) -> bool
-    requires { ⌜ Stops n (now owners) (now locations) (now times) × PairTable m (now firsts) (now seconds) ⌝ }
-    ensures { λ r. ⌜ r ≡ right (at (now (owners .entry))) (at (now (locations .entry))) (at (now (times .entry))) n m (at (now (firsts .entry))) (at (now (seconds .entry))) ⌝ }
+    requires { ⌜ Stops limits n (now owners) (now locations) (now times) × PairTable m (now firsts) (now seconds) ⌝ }
+    ensures { λ r. ⌜ ((numbers : List ℕ) → r ≡ right (visitsOf (now (owners .entry)) numbers (now (locations .entry)) (now (times .entry)) n) m (at (now (firsts .entry))) (at (now (seconds .entry)))) ⌝ }
 {
     if !entries::are_right(owners, locations, times, n, firsts, seconds, m) {
         return false;

@@ -13,10 +13,11 @@ use Rattle.below.proofs.Pairs.{listed-at, rank-below, rank-find, rank-order}
 use Rattle.tables.specs.Tables.{PlanLists, drones, dependencies}
 use Rattle.precedence.proofs.Flat.{Layout}
 use Rattle.plan.specs.Stops.{start}
+use Rattle.plan.specs.Visits.{Visits, sameLocation, Symmetric}
 use Rattle.plan.specs.Check.{firstFault, apart}
 use Rattle.plan.specs.Dependencies.{follows, isFixed, flagOf, dependencyTotal, column}
-use Rattle.plan.specs.Field.{Dependency, FieldPlan, before, graph, fixed, GoneBefore, Checked, Meeting, AcceptedPlan, planOf}
-use Rattle.plan.specs.Claims.{Numbered, pair, ownerIn, numberIn, stopTotal, HaveStops, NoFault, NoCollision, planned, HoldsPlanned, StopsChecked}
+use Rattle.plan.specs.Field.{Dependency, FieldPlan, Status, before, graph, fixed, GoneBefore, Checked, Meeting, AcceptedPlan, planOf}
+use Rattle.plan.specs.Claims.{Numbered, pair, ownerIn, numberIn, stopTotal, visitsIn, HaveStops, NoFault, NoCollision, planned, HoldsPlanned, StopsChecked}
 use Rattle.plan.proofs.Numbering.{numbered, goes-on, stays, last-is, order-number}
 use Rattle.plan.proofs.Conditions.{Passes, firstFault-says, says-firstFault, Over, apart-says, says-apart, Follows, follows-says, says-follows}
 use Rattle.plan.proofs.Turns.{gone-before}
@@ -58,11 +59,17 @@ module _ {own num off last : ℕ → ℕ} {drones n : ℕ} (N : Numbered own num
           (λ h. let q : own w ≡ own y = eqb-true _ _ h in before-last (pair own num v w) (pair own num x y) (ap own s) (ap num s) q (order-number N w y b d q l))
           (λ h. let q : own w ≢ own y = eqb-false _ _ h in before-second (pair own num v w) (pair own num x y) (ap own s) (ap num s) (omega (arith, N .grouped w y (omega arith) d)))
 
+-- the same locations meet, whichever is named first
+pub same-symmetric : Symmetric sameLocation
+same-symmetric a b e = eq-eqb b a (sym (eqb-true a b e))
+
 -- ---- a plan whose stops are numbered through
 
-module _ (own num off last loc time : ℕ → ℕ) (drones n count : ℕ) (dependency : ℕ → Dependency) (N : Numbered own num off last drones n) where
+module _ (S : Visits) (off last : ℕ → ℕ) (drones count : ℕ) (dependency : ℕ → Dependency) (N : Numbered (S .own) (S .num) off last drones (S .n)) where
+  open Visits S using (own, num, loc, time, meets, n)
+
   abbrev pub plan : FieldPlan
-  plan = record { drones = drones; last = last; location = λ d s. loc (off d + s); time = λ d s. time (off d + s); count = count; dependency = dependency }
+  plan = record { drones = drones; last = last; location = λ d s. loc (off d + s); time = λ d s. time (off d + s); meets = meets; count = count; dependency = dependency }
 
   -- stop v as its drone's
   location-of : (v : ℕ) → v < n → loc (off (own v) + num v) ≡ loc v
@@ -83,15 +90,15 @@ module _ (own num off last loc time : ℕ → ℕ) (drones n count : ℕ) (depen
       let q : off d + s + 1 ≡ off d + suc s = omega arith in
       record { next = rw q (N .place-in d (suc s) l k); same-drone = rw q (N .place-own d (suc s) l k ∙ sym (N .place-own d s l (omega arith))); leaves = rw q h }
 
-  pub passes-stops : firstFault num loc time n ≡ n → StopsChecked plan
+  pub passes-stops : firstFault S ≡ n → StopsChecked plan
   passes-stops e = record {
     starts = λ d l. passes (off d + 0) (N .place-in d 0 l (omega arith)) .starts (N .place-number d 0 l (omega arith));
     rises = λ d s l k. rw (back d s) at (later d s l k .0);
     moves = λ d s l k q. rw (back d s) at (later d s l k .1) (sym q);
   }
     where
-      passes : (v : ℕ) → v < n → Passes num loc time v
-      passes = firstFault-says num loc time n e
+      passes : (v : ℕ) → v < n → Passes S v
+      passes = firstFault-says S e
 
       back : (d s : ℕ) → off d + suc s - 1 ≡ off d + s
       back d s = omega arith
@@ -102,22 +109,23 @@ module _ (own num off last loc time : ℕ → ℕ) (drones n count : ℕ) (depen
           let h = passes (off d + suc s) (N .place-in d (suc s) l k) in
           (h .rises ne, h .moves ne)
 
-  pub passes-checked : firstFault num loc time n ≡ n → apart own loc time n ≡ true → Checked plan
-  passes-checked e a =
+  pub passes-checked : Symmetric meets → firstFault S ≡ n → apart S ≡ true → Checked plan
+  passes-checked symmetric e a =
       let c : StopsChecked plan = passes-stops e in
       record {
         starts = c .starts;
         rises = c .rises;
         moves = c .moves;
-        no-collision = λ d s f k l m x y ne q. elim (apart-says own loc time n a (off d + s) (off f + k) (N .place-in d s l m) (N .place-in f k x y) (λ z. ne (sym (N .place-own d s l m) ∙ z ∙ N .place-own f k x y)) q) [
+        symmetric = symmetric;
+        no-collision = λ d s f k l m x y ne q. elim (apart-says S symmetric a (off d + s) (off f + k) (N .place-in d s l m) (N .place-in f k x y) (λ z. ne (sym (N .place-own d s l m) ∙ z ∙ N .place-own f k x y)) q) [
           | inl o ↦ let g = over-gone d s _ l m o in inl (record { goes-on = g .0; in-time = g .1 })
           | inr o ↦ let g = over-gone f k _ x y o in inr (record { goes-on = g .0; in-time = g .1 })
         ];
       }
 
   -- the other way round
-  pub checked-passes : Checked plan → firstFault num loc time n ≡ n
-  checked-passes c = says-firstFault num loc time n (λ v l. record {
+  pub checked-passes : Checked plan → firstFault S ≡ n
+  checked-passes c = says-firstFault S (λ v l. record {
     starts = λ z. sym (time-of v l) ∙ rw z (c .starts (own v) (N .own-in v l));
     rises = λ z. step v l z .0;
     moves = λ z. step v l z .1;
@@ -131,32 +139,32 @@ module _ (own num off last loc time : ℕ → ℕ) (drones n count : ℕ) (depen
           let m : loc (v - 1) ≢ loc v = rw (p, q) at (c .moves (own v) (num v - 1) (N .own-in v l) k) in
           (rw (p, q) at (c .rises (own v) (num v - 1) (N .own-in v l) k), λ e. m (sym e))
 
-  pub checked-apart : Checked plan → apart own loc time n ≡ true
-  checked-apart c = says-apart own loc time n (λ v w l k ne q. elim (c .no-collision (own v) (num v) (own w) (num w) (N .own-in v l) (N .number-in v l) (N .own-in w k) (N .number-in w k) ne (location-of v l ∙ q ∙ sym (location-of w k))) [
+  pub checked-apart : Checked plan → apart S ≡ true
+  checked-apart c = says-apart S (λ v w l k ne q. elim (c .no-collision (own v) (num v) (own w) (num w) (N .own-in v l) (N .number-in v l) (N .own-in w k) (N .number-in w k) ne (rw (location-of v l, location-of w k) q)) [
     | inl g ↦ inl (rw (N .number-is v l, N .number-is w k) at (gone-over (own v) (num v) _ (N .own-in v l) (g .goes-on) (g .in-time)))
     | inr g ↦ inr (rw (N .number-is v l, N .number-is w k) at (gone-over (own w) (num w) _ (N .own-in w k) (g .goes-on) (g .in-time)))
   ])
 
   -- ---- the dependencies
 
-  pub meeting-if : (v w : ℕ) → v < n → w < n → follows own loc time v w ≡ true → Meeting plan (pair own num v w)
+  pub meeting-if : (v w : ℕ) → v < n → w < n → follows S v w ≡ true → Meeting plan (pair own num v w)
   meeting-if v w l k e =
-      let f : Follows own loc time v w = follows-says own loc time v w e in
+      let f : Follows S v w = follows-says S v w e in
       record {
         first-in = N .own-in v l;
         first-stop-in = N .number-in v l;
         second-in = N .own-in w k;
         second-stop-in = N .number-in w k;
         different = f .others;
-        one-location = location-of v l ∙ f .place ∙ sym (location-of w k);
+        one-location = rw (location-of v l, location-of w k) (f .place);
         there-first = omega (arith, time-of v l, time-of w k, f .earlier);
       }
 
   -- the first is gone before the second comes, so their times differ
-  pub meeting-follows : Checked plan → (x : Dependency) → Meeting plan x → follows own loc time (off (x .first) + x .firstStop) (off (x .second) + x .secondStop) ≡ true
+  pub meeting-follows : Checked plan → (x : Dependency) → Meeting plan x → follows S (off (x .first) + x .firstStop) (off (x .second) + x .secondStop) ≡ true
   meeting-follows c x m =
       let g : GoneBefore plan (x .first) (x .firstStop) (x .second) (x .secondStop) = gone-before plan c x m in
-      says-follows own loc time _ _ (record {
+      says-follows S _ _ (record {
         others = λ q. m .different (sym (N .place-own (x .first) (x .firstStop) (m .first-in) (m .first-stop-in)) ∙ q ∙ N .place-own (x .second) (x .secondStop) (m .second-in) (m .second-stop-in));
         place = m .one-location;
         earlier = omega (arith, c .rises (x .first) (x .firstStop) (m .first-in) (g .goes-on), g .in-time);
@@ -176,19 +184,19 @@ module _ (own num off last loc time : ℕ → ℕ) (drones n count : ℕ) (depen
 
   -- the table holds, at k, a pair of stops of which the second follows the first
   abbrev Entry : ℕ → Type 0
-  Entry k = (v : ℕ) × (w : ℕ) × (v < n) × (w < n) × (follows own loc time v w ≡ true) × (rank (follows own loc time) n v w ≡ k) × (dependency k ≡ pair own num v w)
+  Entry k = (v : ℕ) × (w : ℕ) × (v < n) × (w < n) × (follows S v w ≡ true) × (rank (follows S) n v w ≡ k) × (dependency k ≡ pair own num v w)
 
   -- the four columns of the table are the plan's
-  module _ (total : count ≡ dependencyTotal own loc time n)
-      (first-drones : (k : ℕ) → k < count → dependency k .first ≡ at (column own loc time n (λ v w. own v)) k)
-      (first-stops : (k : ℕ) → k < count → dependency k .firstStop ≡ at (column own loc time n (λ v w. num v)) k)
-      (second-drones : (k : ℕ) → k < count → dependency k .second ≡ at (column own loc time n (λ v w. own w)) k)
-      (second-stops : (k : ℕ) → k < count → dependency k .secondStop ≡ at (column own loc time n (λ v w. num w)) k) where
+  module _ (total : count ≡ dependencyTotal S)
+      (first-drones : (k : ℕ) → k < count → dependency k .first ≡ at (column S (λ v w. own v)) k)
+      (first-stops : (k : ℕ) → k < count → dependency k .firstStop ≡ at (column S (λ v w. num v)) k)
+      (second-drones : (k : ℕ) → k < count → dependency k .second ≡ at (column S (λ v w. own w)) k)
+      (second-stops : (k : ℕ) → k < count → dependency k .secondStop ≡ at (column S (λ v w. num w)) k) where
     -- a pair stands at its rank
-    stands : (v w : ℕ) → v < n → w < n → follows own loc time v w ≡ true → (rank (follows own loc time) n v w < count) × (dependency (rank (follows own loc time) n v w) ≡ pair own num v w)
+    stands : (v w : ℕ) → v < n → w < n → follows S v w ≡ true → (rank (follows S) n v w < count) × (dependency (rank (follows S) n v w) ≡ pair own num v w)
     stands v w a b e =
-        let l : rank (follows own loc time) n v w < count = rw total (rank-below (follows own loc time) n v w a b e) in
-        let column-at : (f : ℕ → ℕ → ℕ) → at (column own loc time n f) (rank (follows own loc time) n v w) ≡ f v w = λ f. listed-at (follows own loc time) n f v w a b e in (
+        let l : rank (follows S) n v w < count = rw total (rank-below (follows S) n v w a b e) in
+        let column-at : (f : ℕ → ℕ → ℕ) → at (column S f) (rank (follows S) n v w) ≡ f v w = λ f. listed-at (follows S) n f v w a b e in (
           l,
           λ i. record {
             first = (first-drones _ l ∙ column-at (λ v w. own v)) i;
@@ -200,7 +208,7 @@ module _ (own num off last loc time : ℕ → ℕ) (drones n count : ℕ) (depen
 
     entry : (k : ℕ) → k < count → Entry k
     entry k l =
-        let (v, w, a, b, e, r) = rank-find (follows own loc time) n k (omega arith) in
+        let (v, w, a, b, e, r) = rank-find (follows S) n k (omega arith) in
         (v, w, a, b, e, r, subst (λ (k : ℕ). dependency k ≡ pair own num v w) r (stands v w a b e .1))
 
     pub accepted-if : Checked plan → AcceptedPlan plan
@@ -211,7 +219,7 @@ module _ (own num off last loc time : ℕ → ℕ) (drones n count : ℕ) (depen
       ordered = λ i j l k.
           let (v, w, a, b, e, r, q) = entry i (omega arith) in
           let (x, y, f, g, h, s, t) = entry j k in
-          rw (q, t) (pair-order N v w x y a b f g (rank-order (follows own loc time) n v w x y a b f g e h (omega arith)));
+          rw (q, t) (pair-order N v w x y a b f g (rank-order (follows S) n v w x y a b f g e h (omega arith)));
     }
       where
         every : (x : Dependency) → Meeting plan x → (k : ℕ) × (k < count) × (dependency k ≡ x)
@@ -219,14 +227,14 @@ module _ (own num off last loc time : ℕ → ℕ) (drones n count : ℕ) (depen
             let a : off (x .first) + x .firstStop < n = N .place-in (x .first) (x .firstStop) (m .first-in) (m .first-stop-in) in
             let b : off (x .second) + x .secondStop < n = N .place-in (x .second) (x .secondStop) (m .second-in) (m .second-stop-in) in
             let h = stands (off (x .first) + x .firstStop) (off (x .second) + x .secondStop) a b (meeting-follows c x m) in
-            (rank (follows own loc time) n (off (x .first) + x .firstStop) (off (x .second) + x .secondStop), h .0, h .1 ∙ pair-place x m)
+            (rank (follows S) n (off (x .first) + x .firstStop) (off (x .second) + x .secondStop), h .0, h .1 ∙ pair-place x m)
 
     -- the flag byte of a new dependency has bit 1 where the plan says "fixed"
-    pub flag-is : (k : ℕ) → k < count → at (column own loc time n (flagOf own num n)) k ≡ cond (fixed plan k) 2 0
+    pub flag-is : (k : ℕ) → k < count → at (column S (flagOf own num n)) k ≡ cond (fixed plan k) 2 0
     unfolding flagOf
     flag-is k l =
         let (v, w, a, b, e, r, q) = entry k l in
-        let h : at (column own loc time n (flagOf own num n)) k ≡ flagOf own num n v w = rw r at (listed-at (follows own loc time) n (flagOf own num n) v w a b e) in
+        let h : at (column S (flagOf own num n)) k ≡ flagOf own num n v w = rw r at (listed-at (follows S) n (flagOf own num n) v w a b e) in
         h ∙ ap (λ (f : Bool). cond f 2 0) (fixed-pair v w b ∙ ap (λ (x : Dependency). eqb (x .firstStop) 0 || eqb (x .secondStop) (last (x .second))) (sym q))
 
 -- ---- the plan in the tables
@@ -236,8 +244,8 @@ module _ (p : PlanLists) (have : HaveStops p) where
   stops-numbered = numbered (drones p) (p .stopCounts) have
 
   -- where the stops lie, for tables of a number for each stop
-  pub layout : (turned : ℕ → Bool) → Layout (graph (planOf p) turned) (start (p .stopCounts)) (ownerIn p) (numberIn p) (stopTotal p)
-  layout turned = record {
+  pub layout : (s : Status) → Layout (graph (planOf p) s) (start (p .stopCounts)) (ownerIn p) (numberIn p) (stopTotal p)
+  layout s = record {
     owner-in = stops-numbered .own-in;
     number-in = stops-numbered .number-in;
     place-in = stops-numbered .place-in;
@@ -246,15 +254,15 @@ module _ (p : PlanLists) (have : HaveStops p) where
   }
 
   pub stops-checked : NoFault p → StopsChecked (planOf p)
-  stops-checked = passes-stops _ _ _ _ _ _ _ _ _ _ stops-numbered
+  stops-checked = passes-stops (visitsIn p) _ _ _ _ _ stops-numbered
 
   pub taken-exactly : (NoFault p × NoCollision p) ↔ Checked (planOf p)
-  taken-exactly = (λ (e, a). passes-checked _ _ _ _ _ _ _ _ _ _ stops-numbered e a, λ c. (checked-passes _ _ _ _ _ _ _ _ _ _ stops-numbered c, checked-apart _ _ _ _ _ _ _ _ _ _ stops-numbered c))
+  taken-exactly = (λ (e, a). passes-checked (visitsIn p) _ _ _ _ _ stops-numbered same-symmetric e a, λ c. (checked-passes (visitsIn p) _ _ _ _ _ stops-numbered c, checked-apart (visitsIn p) _ _ _ _ _ stops-numbered c))
 
   module _ (holds : HoldsPlanned p) where
     pub accepted : NoFault p → NoCollision p → AcceptedPlan (planOf p)
-    accepted e a = accepted-if _ _ _ _ _ _ _ _ _ _ stops-numbered (holds .total) (holds .first-drones) (holds .first-stops) (holds .second-drones) (holds .second-stops) (taken-exactly .0 (e, a))
+    accepted e a = accepted-if (visitsIn p) _ _ _ _ _ stops-numbered (holds .total) (holds .first-drones) (holds .first-stops) (holds .second-drones) (holds .second-stops) (taken-exactly .0 (e, a))
 
     -- the flag byte that is planned for dependency k
     pub right-flag : (k : ℕ) → k < dependencies p → planned p (flagOf (ownerIn p) (numberIn p) (stopTotal p)) k ≡ cond (fixed (planOf p) k) 2 0
-    right-flag = flag-is _ _ _ _ _ _ _ _ _ _ stops-numbered (holds .total) (holds .first-drones) (holds .first-stops) (holds .second-drones) (holds .second-stops)
+    right-flag = flag-is (visitsIn p) _ _ _ _ _ stops-numbered (holds .total) (holds .first-drones) (holds .first-stops) (holds .second-drones) (holds .second-stops)

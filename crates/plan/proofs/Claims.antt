@@ -10,7 +10,7 @@ use Rattle.below.proofs.Tests.{by-cases}
 use Rattle.tables.specs.Tables.{PlanLists}
 use Rattle.plan.specs.Check.{partner}
 use Rattle.plan.specs.Field.{Dependency, FieldPlan, before, GoneBefore, Meeting, AcceptedPlan}
-use Rattle.plan.specs.Claims.{ownerIn, locationIn, timeIn, stopTotal, HaveStops, NoCollision, colliderIn, Reported, AcceptedClaims, Between, OneDependency, GraphClaims}
+use Rattle.plan.specs.Claims.{stopTotal, visitsIn, HaveStops, NoCollision, colliderIn, Reported, AcceptedClaims, Between, OneDependency, GraphClaims}
 use Rattle.plan.proofs.Conditions.{apart-search, collider-first, collider-least}
 use Rattle.plan.proofs.Turns.{turn-rules, group-rules, planned-graph}
 use Rattle.plan.proofs.Accepted.{pair-order, stops-numbered, taken-exactly, accepted, right-flag}
@@ -20,18 +20,18 @@ use Rattle.plan.proofs.Exact.{before-asym, holds-planned}
 
 module _ (p : PlanLists) where
   reported-exactly : NoCollision p ↔ (colliderIn p ≡ stopTotal p)
-  reported-exactly = (λ a. eqb-true _ _ (sym (apart-search (ownerIn p) (locationIn p) (timeIn p) (stopTotal p)) ∙ a), λ e. apart-search (ownerIn p) (locationIn p) (timeIn p) (stopTotal p) ∙ eq-eqb _ _ e)
+  reported-exactly = (λ a. eqb-true _ _ (sym (apart-search (visitsIn p)) ∙ a), λ e. apart-search (visitsIn p) ∙ eq-eqb _ _ e)
 
-  reported : HaveStops p → colliderIn p < stopTotal p → Reported p (colliderIn p) (partner (ownerIn p) (locationIn p) (timeIn p) (stopTotal p) (colliderIn p))
+  reported : HaveStops p → colliderIn p < stopTotal p → Reported p (colliderIn p) (partner (visitsIn p) (colliderIn p))
   reported have l =
-      let (m, e) = collider-first (ownerIn p) (locationIn p) (timeIn p) (stopTotal p) l in
+      let (m, e) = collider-first (visitsIn p) l in
       record {
         first-in = l;
         second-in = m;
         collision = e;
-        lowest = λ x y a b c. elim (collider-least (ownerIn p) (locationIn p) (timeIn p) (stopTotal p) x y a b c) [
+        lowest = λ x y a b c. elim (collider-least (visitsIn p) x y a b c) [
           | inl q ↦ inl q
-          | inr q ↦ inr (pair-order (stops-numbered p have) (colliderIn p) (partner (ownerIn p) (locationIn p) (timeIn p) (stopTotal p) (colliderIn p)) x y l m a b q)
+          | inr q ↦ inr (pair-order (stops-numbered p have) (colliderIn p) (partner (visitsIn p) (colliderIn p)) x y l m a b q)
         ];
       }
 
@@ -47,7 +47,7 @@ accepted-claims = record {
 -- ---- the graph
 
 module _ (F : FieldPlan) (accepted : AcceptedPlan F) where
-  open FieldPlan F using (drones, last, location, count, dependency)
+  open FieldPlan F using (drones, last, location, meets, count, dependency)
 
   -- no two entries of the table are equal
   entry-once : (v w : ℕ) → v < count → w < count → dependency v ≡ dependency w → v ≡ w
@@ -59,7 +59,7 @@ module _ (F : FieldPlan) (accepted : AcceptedPlan F) where
       twice v w k e h = let o : before (dependency w) (dependency w) ≡ true = subst (λ (x : Dependency). before x (dependency w) ≡ true) e (accepted .ordered v w h k) in before-asym (dependency w) (dependency w) o o
 
   -- the one that is there first is gone before the other comes, so the other way round there is no dependency
-  first-goes : (d s e k : ℕ) → d < drones → s ≤ last d → e < drones → k ≤ last e → d ≢ e → location d s ≡ location e k → GoneBefore F d s e k → OneDependency F d s e k
+  first-goes : (d s e k : ℕ) → d < drones → s ≤ last d → e < drones → k ≤ last e → d ≢ e → meets (location d s) (location e k) ≡ true → GoneBefore F d s e k → OneDependency F d s e k
   first-goes d s e k x m y o ne q g =
       let early : F .time d s < F .time e k = omega (arith, accepted .checked .rises d s x (g .goes-on), g .in-time) in
       let (w, l, same) = accepted .every (record { first = d; firstStop = s; second = e; secondStop = k }) (record { first-in = x; first-stop-in = m; second-in = y; second-stop-in = o; different = ne; one-location = q; there-first = omega arith }) in
@@ -73,10 +73,10 @@ module _ (F : FieldPlan) (accepted : AcceptedPlan F) where
         ];
       }
 
-  one-dependency : (d s e k : ℕ) → d < drones → s ≤ last d → e < drones → k ≤ last e → d ≢ e → location d s ≡ location e k → OneDependency F d s e k
+  one-dependency : (d s e k : ℕ) → d < drones → s ≤ last d → e < drones → k ≤ last e → d ≢ e → meets (location d s) (location e k) ≡ true → OneDependency F d s e k
   one-dependency d s e k x m y o ne q = elim (accepted .checked .no-collision d s e k x m y o ne q) [
     | inl g ↦ first-goes d s e k x m y o ne q g
-    | inr g ↦ other-way (first-goes e k d s y o x m (λ z. ne (sym z)) (sym q) g)
+    | inr g ↦ other-way (first-goes e k d s y o x m (λ z. ne (sym z)) (accepted .checked .symmetric _ _ q) g)
   ]
     where
       turn : {x : Dependency} → Between F d s e k x → Between F e k d s x

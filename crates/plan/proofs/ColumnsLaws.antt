@@ -15,11 +15,12 @@ use Rattle.below.proofs.Count.{count-le, count-start, count-yes, count-no, coun
 use Rattle.below.proofs.Sum.{sum-past, sum-turn}
 use Rattle.below.proofs.Picks.{length-picks, length-rows, laid-none, laid-length, pick-store, pick-skip, row-store}
 use Rattle.plan.specs.declared.dependencies.Built.the-variants.{Count, TooMany}
+use Rattle.plan.specs.Visits.{Visits}
 use Rattle.plan.specs.Dependencies.{follows, flagOf, dependencyTotal, column}
 use Rattle.plan.specs.Columns.{Columns, columns, written, rowWritten, rowsWritten, builtOf, builtIn}
 use Rattle.plan.specs.Room.{ColumnsRoom}
 use Rattle.plan.specs.Sharing.{Groups}
-use Rattle.plan.proofs.SharingLaws.{walk-start, walk-more}
+use Rattle.plan.proofs.SharingLaws.{Elsewhere, walk-start, walk-more}
 
 columns-same : {fd fs sd ss fl fd′ fs′ sd′ ss′ fl′ : List ℕ} → fd ≡ fd′ → fs ≡ fs′ → sd ≡ sd′ → ss ≡ ss′ → fl ≡ fl′ → columns fd fs sd ss fl ≡ columns fd′ fs′ sd′ ss′ fl′
 columns-same a b c d e = rw (a, b, c, d, e) refl
@@ -32,8 +33,8 @@ pub record SameLengths (c c₀ : Columns) : Type 0 where
   pub same-second-stops : length (c .secondStops) ≡ length (c₀ .secondStops)
   pub same-flags : length (c .flags) ≡ length (c₀ .flags)
 
-written-lengths : (own num : ℕ → ℕ) (n : ℕ) (list : (ℕ → ℕ → ℕ) → List ℕ) (k : ℕ) (c c₀ : Columns) → c ≡ written own num n list k c₀ → SameLengths c c₀
-written-lengths own num n list k c c₀ e =
+written-lengths : (S : Visits) (list : (ℕ → ℕ → ℕ) → List ℕ) (k : ℕ) (c c₀ : Columns) → c ≡ written S list k c₀ → SameLengths c c₀
+written-lengths S list k c c₀ e =
     record {
       same-first-drones = laid-length _ _ _ _ (ap (λ (x : Columns). x .firstDrones) e);
       same-first-stops = laid-length _ _ _ _ (ap (λ (x : Columns). x .firstStops) e);
@@ -52,6 +53,10 @@ room-in m m₀ c c₀ s l r =
       has-flags = omega (arith, s .same-flags, r .has-flags);
       dependencies-fit = omega (arith, r .dependencies-fit);
     }
+
+-- dependencies that are no more than a limit have room where that many have
+pub total-room : (limit m t : ℕ) (c : Columns) → m ≡ t → m ≤ limit → ColumnsRoom limit c → ColumnsRoom t c
+total-room limit m t c e l r = room-in t limit c c (record { same-first-drones = refl; same-first-stops = refl; same-second-drones = refl; same-second-stops = refl; same-flags = refl }) (omega arith) r
 
 -- a row is no longer than the stops
 pub row-few : (n : ℕ) (f : ℕ → Bool) (r : ℕ) → r ≡ countBelow n f → r ≤ n
@@ -73,16 +78,18 @@ module _ (q : ℕ → Bool) (c : ℕ) where
     cursor-end n a b = subst (λ (m : ℕ). k ≡ c + countBelow m q) (le-antisymm a b) e
 
 -- ---- the row of the first stop v, written from the entry c on
-module _ (own num loc time : ℕ → ℕ) (n v c : ℕ) (c₀ : Columns) where
-  abbrev q : ℕ → Bool
-  q = follows own loc time v
+module _ (S : Visits) (v c : ℕ) (c₀ : Columns) where
+  open Visits S using (own, num, n)
 
-  pub row-none : c₀ ≡ rowWritten own num loc time n v 0 c c₀
+  abbrev q : ℕ → Bool
+  q = follows S v
+
+  pub row-none : c₀ ≡ rowWritten S v 0 c c₀
   unfolding rowWritten picks
   row-none = columns-same (laid-none _ _) (laid-none _ _) (laid-none _ _) (laid-none _ _) (laid-none _ _)
 
-  module _ (w : ℕ) (fd fs sd ss fl : List ℕ) (e : columns fd fs sd ss fl ≡ rowWritten own num loc time n v w c c₀) where
-    pub row-skip : q w ≡ false → columns fd fs sd ss fl ≡ rowWritten own num loc time n v (w + 1) c c₀
+  module _ (w : ℕ) (fd fs sd ss fl : List ℕ) (e : columns fd fs sd ss fl ≡ rowWritten S v w c c₀) where
+    pub row-skip : q w ≡ false → columns fd fs sd ss fl ≡ rowWritten S v (w + 1) c c₀
     unfolding rowWritten
     row-skip h =
         columns-same
@@ -94,14 +101,14 @@ module _ (own num loc time : ℕ → ℕ) (n v c : ℕ) (c₀ : Columns) where
 
     pub row-lengths : SameLengths (columns fd fs sd ss fl) c₀
     unfolding rowWritten
-    row-lengths = written-lengths own num n (λ f. picks w (follows own loc time v) (f v)) c _ c₀ e
+    row-lengths = written-lengths S (λ f. picks w (follows S v) (f v)) c _ c₀ e
 
-    pub row-end : w ≤ n → n ≤ w → columns fd fs sd ss fl ≡ rowWritten own num loc time n v n c c₀
-    row-end a b = subst (λ (m : ℕ). columns fd fs sd ss fl ≡ rowWritten own num loc time n v m c c₀) (le-antisymm a b) e
+    pub row-end : w ≤ n → n ≤ w → columns fd fs sd ss fl ≡ rowWritten S v n c c₀
+    row-end a b = subst (λ (m : ℕ). columns fd fs sd ss fl ≡ rowWritten S v m c c₀) (le-antisymm a b) e
 
     module _ (k : ℕ) (ek : k ≡ c + countBelow w q) where
       pub row-take : (flag : ℕ) → q w ≡ true → flag ≡ flagOf own num n v w
-          → columns (set fd k (own v)) (set fs k (num v)) (set sd k (own w)) (set ss k (num w)) (set fl k flag) ≡ rowWritten own num loc time n v (w + 1) c c₀
+          → columns (set fd k (own v)) (set fs k (num v)) (set sd k (own w)) (set ss k (num w)) (set fl k flag) ≡ rowWritten S v (w + 1) c c₀
       unfolding rowWritten
       row-take flag h ef =
           columns-same
@@ -117,60 +124,66 @@ module _ (own num loc time : ℕ → ℕ) (n v c : ℕ) (c₀ : Columns) where
 
 -- ---- the walk of a row, which passes over the stops at other locations
 
-follows-elsewhere : (own loc time : ℕ → ℕ) (v u : ℕ) → loc u ≢ loc v → follows own loc time v u ≡ false
+follows-elsewhere : (S : Visits) → Elsewhere S → (v u : ℕ) → S .loc u ≢ S .loc v → follows S v u ≡ false
 unfolding follows
-follows-elsewhere own loc time v u ne = by-cases (eqb (own v) (own u)) (λ e. rw e refl) (λ e. rw (e, ne-eqb (loc v) (loc u) (λ s. ne (sym s))) refl)
+follows-elsewhere S only v u ne = by-cases (eqb (S .own v) (S .own u)) (λ e. rw e refl) (λ e. rw (e, only .apart v u ne) refl)
 
-module _ (own loc time : ℕ → ℕ) (n v : ℕ) (first next : List ℕ) (G : Groups loc n first next) where
+module _ (S : Visits) (v : ℕ) (only : Elsewhere S) (first next : List ℕ) (G : Groups (S .loc) (S .n) first next) where
+  open Visits S using (loc, n)
+
   abbrev after : ℕ → Bool
-  after = follows own loc time v
+  after = follows S v
 
   pub count-start-at : (w : ℕ) → v < n → w ≡ at first v → (w ≤ n) × (0 ≡ countBelow w after) × (w < n → loc w ≡ loc v)
-  count-start-at w l e = walk-start loc n first next G (λ w. 0 ≡ countBelow w after) v w l (λ u ne h. count-miss after u 0 h (follows-elsewhere own loc time v u ne)) (sym (count-start after)) e
+  count-start-at w l e = walk-start loc n first next G (λ w. 0 ≡ countBelow w after) v w l (λ u ne h. count-miss after u 0 h (follows-elsewhere S only v u ne)) (sym (count-start after)) e
 
   pub count-more-at : (w k x : ℕ) → w < n → loc w ≡ loc v → k ≡ countBelow (w + 1) after → x ≡ at next w → (x ≤ n) × (k ≡ countBelow x after) × (x < n → loc x ≡ loc v)
-  count-more-at w k x l s h e = walk-more loc n first next G (λ w. k ≡ countBelow w after) v w x l s (λ u ne h. count-miss after u k h (follows-elsewhere own loc time v u ne)) h e
+  count-more-at w k x l s h e = walk-more loc n first next G (λ w. k ≡ countBelow w after) v w x l s (λ u ne h. count-miss after u k h (follows-elsewhere S only v u ne)) h e
 
-module _ (own num loc time : ℕ → ℕ) (n v c : ℕ) (c₀ : Columns) (k : ℕ) (fd fs sd ss fl : List ℕ) where
+module _ (S : Visits) (v c : ℕ) (c₀ : Columns) (k : ℕ) (fd fs sd ss fl : List ℕ) where
+  open Visits S using (loc, n)
+
   -- the cursor and the columns with the dependencies of v whose second stop is below w
   abbrev pub RowTo : ℕ → Type 0
-  RowTo w = (k ≡ c + countBelow w (follows own loc time v)) × (columns fd fs sd ss fl ≡ rowWritten own num loc time n v w c c₀)
+  RowTo w = (k ≡ c + countBelow w (follows S v)) × (columns fd fs sd ss fl ≡ rowWritten S v w c c₀)
 
-  row-over : (u : ℕ) → loc u ≢ loc v → RowTo u → RowTo (u + 1)
-  row-over u ne (a, b) =
-      let no : follows own loc time v u ≡ false = follows-elsewhere own loc time v u ne in
-      (cursor-skip (follows own loc time v) c u k a no, row-skip own num loc time n v c c₀ u fd fs sd ss fl b no)
+  row-over : Elsewhere S → (u : ℕ) → loc u ≢ loc v → RowTo u → RowTo (u + 1)
+  row-over only u ne (a, b) =
+      let no : follows S v u ≡ false = follows-elsewhere S only v u ne in
+      (cursor-skip (follows S v) c u k a no, row-skip S v c c₀ u fd fs sd ss fl b no)
 
-  module _ (first next : List ℕ) (G : Groups loc n first next) where
+  module _ (only : Elsewhere S) (first next : List ℕ) (G : Groups loc n first next) where
     pub row-start-at : (w : ℕ) → v < n → RowTo 0 → w ≡ at first v → (w ≤ n) × RowTo w × (w < n → loc w ≡ loc v)
-    row-start-at w l h e = walk-start loc n first next G RowTo v w l row-over h e
+    row-start-at w l h e = walk-start loc n first next G RowTo v w l (row-over only) h e
 
     pub row-more-at : (w x : ℕ) → w < n → loc w ≡ loc v → RowTo (w + 1) → x ≡ at next w → (x ≤ n) × RowTo x × (x < n → loc x ≡ loc v)
-    row-more-at w x l s h e = walk-more loc n first next G RowTo v w x l s row-over h e
+    row-more-at w x l s h e = walk-more loc n first next G RowTo v w x l s (row-over only) h e
 
 -- ---- the rows of all first stops
-module _ (own num loc time : ℕ → ℕ) (n : ℕ) (c₀ : Columns) where
-  abbrev inRow : ℕ → ℕ
-  inRow u = countBelow n (follows own loc time u)
+module _ (S : Visits) (c₀ : Columns) where
+  open Visits S using (own, num, n)
 
-  pub rows-none : c₀ ≡ rowsWritten own num loc time n 0 c₀
+  abbrev inRow : ℕ → ℕ
+  inRow u = countBelow n (follows S u)
+
+  pub rows-none : c₀ ≡ rowsWritten S 0 c₀
   unfolding rowsWritten rowsBelow
   rows-none = columns-same (laid-none _ _) (laid-none _ _) (laid-none _ _) (laid-none _ _) (laid-none _ _)
 
-  module _ (v : ℕ) (c : Columns) (e : c ≡ rowsWritten own num loc time n v c₀) where
+  module _ (v : ℕ) (c : Columns) (e : c ≡ rowsWritten S v c₀) where
     pub rows-lengths : SameLengths c c₀
     unfolding rowsWritten
-    rows-lengths = written-lengths own num n (λ f. rowsBelow v (λ u. picks n (follows own loc time u) (f u))) 0 c c₀ e
+    rows-lengths = written-lengths S (λ f. rowsBelow v (λ u. picks n (follows S u) (f u))) 0 c c₀ e
 
-    pub rows-end : v ≤ n → n ≤ v → c ≡ rowsWritten own num loc time n n c₀
-    rows-end a b = subst (λ (m : ℕ). c ≡ rowsWritten own num loc time n m c₀) (le-antisymm a b) e
+    pub rows-end : v ≤ n → n ≤ v → c ≡ rowsWritten S n c₀
+    rows-end a b = subst (λ (m : ℕ). c ≡ rowsWritten S m c₀) (le-antisymm a b) e
 
     module _ (k : ℕ) (ek : k ≡ sumBelow v inRow) where
       -- the cursor is the length of what was written
-      at-end : (f : ℕ → ℕ → ℕ) → k ≡ length (rowsBelow v (λ u. picks n (follows own loc time u) (f u)))
+      at-end : (f : ℕ → ℕ → ℕ) → k ≡ length (rowsBelow v (λ u. picks n (follows S u) (f u)))
       at-end f = ek ∙ sym (length-rows _ inRow (λ u. length-picks _ (f u) n) v)
 
-      pub rows-more : (fd fs sd ss fl : List ℕ) → columns fd fs sd ss fl ≡ rowWritten own num loc time n v n k c → columns fd fs sd ss fl ≡ rowsWritten own num loc time n (v + 1) c₀
+      pub rows-more : (fd fs sd ss fl : List ℕ) → columns fd fs sd ss fl ≡ rowWritten S v n k c → columns fd fs sd ss fl ≡ rowsWritten S (v + 1) c₀
       unfolding rowWritten rowsWritten
       rows-more fd fs sd ss fl r =
           columns-same
@@ -188,16 +201,16 @@ module _ (own num loc time : ℕ → ℕ) (n : ℕ) (c₀ : Columns) where
       rows-room l r = room-in (k + inRow v) (sumBelow n inRow) c c₀ rows-lengths (omega (arith, sum-past v n inRow l)) r
 
 -- ---- the building's two answers; m is the count
-module _ (limit : ℕ) (own num loc time : ℕ → ℕ) (n m : ℕ) (c₀ : Columns) (e : m ≡ dependencyTotal own loc time n) where
-  pub built-refused : limit < m → (TooMany ≡ builtOf limit own loc time n) × (c₀ ≡ builtIn limit own num loc time n c₀)
+module _ (limit : ℕ) (S : Visits) (m : ℕ) (c₀ : Columns) (e : m ≡ dependencyTotal S) where
+  pub built-refused : limit < m → (TooMany ≡ builtOf limit S) × (c₀ ≡ builtIn limit S c₀)
   unfolding builtOf builtIn
   built-refused h = (rw (← e, lt-leb m limit h) refl, rw (← e, lt-leb m limit h) refl)
 
-  pub built-done : (c : Columns) → m ≤ limit → c ≡ rowsWritten own num loc time n n c₀ → (Count m ≡ builtOf limit own loc time n) × (c ≡ builtIn limit own num loc time n c₀)
+  pub built-done : (c : Columns) → m ≤ limit → c ≡ rowsWritten S (S .n) c₀ → (Count m ≡ builtOf limit S) × (c ≡ builtIn limit S c₀)
   unfolding builtOf builtIn rowsWritten
   built-done c h r = (rw (← e, le-leb m limit h) refl, rw (← e, le-leb m limit h) r)
 
 -- what the columns hold where the dependencies fit
-pub built-taken : (limit : ℕ) (own num loc time : ℕ → ℕ) (n : ℕ) (c c₀ : Columns) → dependencyTotal own loc time n ≤ limit → c ≡ builtIn limit own num loc time n c₀ → c ≡ written own num n (column own loc time n) 0 c₀
+pub built-taken : (limit : ℕ) (S : Visits) (c c₀ : Columns) → dependencyTotal S ≤ limit → c ≡ builtIn limit S c₀ → c ≡ written S (column S) 0 c₀
 unfolding builtIn
-built-taken limit own num loc time n c c₀ h e = rw (le-leb (dependencyTotal own loc time n) limit h) at e
+built-taken limit S c c₀ h e = rw (le-leb (dependencyTotal S) limit h) at e

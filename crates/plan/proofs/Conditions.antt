@@ -10,12 +10,15 @@ use Rattle.below.specs.Below.{allBelow, pairBefore}
 use Rattle.below.proofs.Tests.{by-cases, and-left, and-right}
 use Rattle.below.proofs.Search.{firstBelow-first, first-all, first-low}
 use Rattle.below.proofs.Every.{allBelow-at, allBelow-all, allBelow-ext, allBelow-search}
+use Rattle.plan.specs.Visits.{Visits, Symmetric}
 use Rattle.plan.specs.Check.{faultAt, firstFault, over, collide, partner, collider, apart}
 use Rattle.plan.specs.Dependencies.{follows}
 
 -- ---- stop by stop
 
-module _ (num loc time : ℕ → ℕ) where
+module _ (S : Visits) where
+  open Visits S using (num, loc, time, n)
+
   -- stop v is not at fault
   pub record Passes (v : ℕ) : Type 0 where
     pub starts : num v ≡ 0 → time v ≡ 0
@@ -25,7 +28,7 @@ module _ (num loc time : ℕ → ℕ) where
   abbrev fault : Bool → Bool → Bool → Bool → ℕ
   fault first zero-time early still = cond first (cond zero-time 0 7) (cond early 8 (cond still 9 0))
 
-  pub fault-says : (v : ℕ) → faultAt num loc time v ≡ 0 → Passes v
+  pub fault-says : (v : ℕ) → faultAt S v ≡ 0 → Passes v
   unfolding faultAt
   fault-says v e = go (eqb (num v) 0) (eqb (time v) 0) (leb (time v) (time (v - 1))) (eqb (loc v) (loc (v - 1))) refl refl refl refl e
     where
@@ -36,19 +39,19 @@ module _ (num loc time : ℕ → ℕ) where
       go false b false true p q r s z = absurd (omega arith)
       go false b false false p q r s z = record { starts = λ k. absurd (eqb-false _ _ p k); rises = λ k. leb-false _ _ r; moves = λ k. eqb-false _ _ s }
 
-  pub says-fault : (v : ℕ) → Passes v → faultAt num loc time v ≡ 0
+  pub says-fault : (v : ℕ) → Passes v → faultAt S v ≡ 0
   unfolding faultAt
   says-fault v k = by-cases (eqb (num v) 0)
       (λ e. rw (e, eq-eqb (time v) 0 (k .starts (eqb-true _ _ e))) refl)
       (λ e. let later : num v ≢ 0 = eqb-false _ _ e in rw (e, lt-leb (time v) (time (v - 1)) (k .rises later), ne-eqb (loc v) (loc (v - 1)) (k .moves later)) refl)
 
-  pub firstFault-says : (n : ℕ) → firstFault num loc time n ≡ n → (v : ℕ) → v < n → Passes v
+  pub firstFault-says : firstFault S ≡ n → (v : ℕ) → v < n → Passes v
   unfolding firstFault
-  firstFault-says n e v l = fault-says v (eqb-true _ _ (not-false _ (firstBelow-first n (λ v. not (eqb (faultAt num loc time v) 0)) .skipped v (omega arith))))
+  firstFault-says e v l = fault-says v (eqb-true _ _ (not-false _ (firstBelow-first n (λ v. not (eqb (faultAt S v) 0)) .skipped v (omega arith))))
 
-  pub says-firstFault : (n : ℕ) → ((v : ℕ) → v < n → Passes v) → firstFault num loc time n ≡ n
+  pub says-firstFault : ((v : ℕ) → v < n → Passes v) → firstFault S ≡ n
   unfolding firstFault
-  says-firstFault n h = first-all (λ v. not (eqb (faultAt num loc time v) 0)) n (λ v l. rw (says-fault v (h v l)) refl)
+  says-firstFault h = first-all (λ v. not (eqb (faultAt S v) 0)) n (λ v l. rw (says-fault v (h v l)) refl)
 
 -- ---- spans
 
@@ -71,89 +74,93 @@ module _ (own time : ℕ → ℕ) (n : ℕ) where
 
 -- ---- collisions
 
-module _ (own loc time : ℕ → ℕ) (n : ℕ) where
+module _ (S : Visits) where
+  open Visits S using (own, loc, time, meets, n)
+
   -- one of two spans is over before the other begins
   abbrev pub OneOver : ℕ → ℕ → Type 0
   OneOver v w = Over own time n v (time w) ⊎ Over own time n w (time v)
 
-  pub collide-not : (v w : ℕ) → own v < own w → loc v ≡ loc w → collide own loc time n v w ≡ false → OneOver v w
+  pub collide-not : (v w : ℕ) → own v < own w → meets (loc v) (loc w) ≡ true → collide S v w ≡ false → OneOver v w
   unfolding collide
   collide-not v w o p e = by-cases (over own time n v (time w))
       (λ h. inl (over-says own time n v (time w) h))
       (λ h. by-cases (over own time n w (time v))
       (λ g. inr (over-says own time n w (time v) g))
-      (λ g. absurd (false≢true (sym (rw (lt-ltb (own v) (own w) o, eq-eqb (loc v) (loc w) p, h, g) at e)))))
+      (λ g. absurd (false≢true (sym (rw (lt-ltb (own v) (own w) o, p, h, g) at e)))))
 
-  pub not-collide : (v w : ℕ) → (own v < own w → loc v ≡ loc w → OneOver v w) → collide own loc time n v w ≡ false
+  pub not-collide : (v w : ℕ) → (own v < own w → meets (loc v) (loc w) ≡ true → OneOver v w) → collide S v w ≡ false
   unfolding collide
   not-collide v w h = by-cases (ltb (own v) (own w))
-      (λ o. by-cases (eqb (loc v) (loc w))
-      (λ p. elim (h (ltb-true _ _ o) (eqb-true _ _ p)) [
+      (λ o. by-cases (meets (loc v) (loc w))
+      (λ p. elim (h (ltb-true _ _ o) p) [
         | inl a ↦ rw (o, p, says-over own time n v (time w) a) refl
         | inr a ↦ by-cases (over own time n v (time w)) (λ g. rw (o, p, g) refl) (λ g. rw (o, p, g, says-over own time n w (time v) a) refl)
       ])
       (λ p. rw (o, p) refl))
       (λ o. rw o refl)
 
-  -- of two stops of different drones at one location one is over before the other, whichever has the lower drone
-  pub apart-says : apart own loc time n ≡ true → (v w : ℕ) → v < n → w < n → own v ≢ own w → loc v ≡ loc w → OneOver v w
+  -- of two stops of different drones whose locations meet one is over before the other, whichever has the lower drone
+  pub apart-says : Symmetric meets → apart S ≡ true → (v w : ℕ) → v < n → w < n → own v ≢ own w → meets (loc v) (loc w) ≡ true → OneOver v w
   unfolding apart
-  apart-says e v w l k d p = by-cases (ltb (own v) (own w))
+  apart-says symmetric e v w l k d p = by-cases (ltb (own v) (own w))
       (λ h. lower v w l k (ltb-true _ _ h) p)
-      (λ h. elim (lower w v k l (omega (arith, ltb-false (own v) (own w) h)) (sym p)) [ inl a ↦ inr a | inr a ↦ inl a ])
+      (λ h. elim (lower w v k l (omega (arith, ltb-false (own v) (own w) h)) (symmetric _ _ p)) [ inl a ↦ inr a | inr a ↦ inl a ])
     where
-      lower : (v w : ℕ) → v < n → w < n → own v < own w → loc v ≡ loc w → OneOver v w
-      lower v w l k o p = collide-not v w o p (not-true _ (allBelow-at n (λ w. not (collide own loc time n v w)) (allBelow-at n (λ v. allBelow n (λ w. not (collide own loc time n v w))) e v l) w k))
+      lower : (v w : ℕ) → v < n → w < n → own v < own w → meets (loc v) (loc w) ≡ true → OneOver v w
+      lower v w l k o p = collide-not v w o p (not-true _ (allBelow-at n (λ w. not (collide S v w)) (allBelow-at n (λ v. allBelow n (λ w. not (collide S v w))) e v l) w k))
 
-  pub says-apart : ((v w : ℕ) → v < n → w < n → own v ≢ own w → loc v ≡ loc w → OneOver v w) → apart own loc time n ≡ true
+  pub says-apart : ((v w : ℕ) → v < n → w < n → own v ≢ own w → meets (loc v) (loc w) ≡ true → OneOver v w) → apart S ≡ true
   unfolding apart
-  says-apart h = allBelow-all n (λ v. allBelow n (λ w. not (collide own loc time n v w))) (λ v l. allBelow-all n (λ w. not (collide own loc time n v w)) (λ w k. rw (not-collide v w (λ o p. h v w l k (λ q. omega arith) p)) refl))
+  says-apart h = allBelow-all n (λ v. allBelow n (λ w. not (collide S v w))) (λ v l. allBelow-all n (λ w. not (collide S v w)) (λ w k. rw (not-collide v w (λ o p. h v w l k (λ q. omega arith) p)) refl))
 
   -- the search finds a collision exactly when there is one
-  pub apart-search : apart own loc time n ≡ eqb (collider own loc time n) n
+  pub apart-search : apart S ≡ eqb (collider S) n
   unfolding apart collider
-  apart-search = allBelow-ext n (λ v. allBelow n (λ w. not (collide own loc time n v w))) (λ v. not (ltb (partner own loc time n v) n)) (λ v l. allBelow-search n (collide own loc time n v) ∙ at-end (partner own loc time n v) (firstBelow-first n (collide own loc time n v) .within)) ∙ allBelow-search n (λ v. ltb (partner own loc time n v) n)
+  apart-search = allBelow-ext n (λ v. allBelow n (λ w. not (collide S v w))) (λ v. not (ltb (partner S v) n)) (λ v l. allBelow-search n (collide S v) ∙ at-end (partner S v) (firstBelow-first n (collide S v) .within)) ∙ allBelow-search n (λ v. ltb (partner S v) n)
     where
       at-end : (r : ℕ) → r ≤ n → eqb r n ≡ not (ltb r n)
       at-end r l = by-cases (ltb r n) (λ h. rw (h, ne-eqb r n (λ q. omega (arith, ltb-true r n h))) refl) (λ h. rw (h, eq-eqb r n (omega (arith, ltb-false r n h))) refl)
 
   -- the pair that is found collides, and no colliding pair stands before it
-  pub collider-first : collider own loc time n < n → (partner own loc time n (collider own loc time n) < n) × (collide own loc time n (collider own loc time n) (partner own loc time n (collider own loc time n)) ≡ true)
+  pub collider-first : collider S < n → (partner S (collider S) < n) × (collide S (collider S) (partner S (collider S)) ≡ true)
   unfolding collider
   collider-first l =
-      let m : partner own loc time n (collider own loc time n) < n = ltb-true _ _ (firstBelow-first n (λ v. ltb (partner own loc time n v) n) .found l) in
-      (m, firstBelow-first n (collide own loc time n (collider own loc time n)) .found m)
+      let m : partner S (collider S) < n = ltb-true _ _ (firstBelow-first n (λ v. ltb (partner S v) n) .found l) in
+      (m, firstBelow-first n (collide S (collider S)) .found m)
 
-  pub collider-least : (x y : ℕ) → x < n → y < n → collide own loc time n x y ≡ true → ((collider own loc time n ≡ x) × (partner own loc time n (collider own loc time n) ≡ y)) ⊎ (pairBefore (collider own loc time n) (partner own loc time n (collider own loc time n)) x y ≡ true)
+  pub collider-least : (x y : ℕ) → x < n → y < n → collide S x y ≡ true → ((collider S ≡ x) × (partner S (collider S) ≡ y)) ⊎ (pairBefore (collider S) (partner S (collider S)) x y ≡ true)
   unfolding collider pairBefore
-  collider-least x y l k e = by-cases (ltb (collider own loc time n) x)
+  collider-least x y l k e = by-cases (ltb (collider S) x)
       (λ h. inr (rw h refl))
-      (λ h. let same : collider own loc time n ≡ x = omega (arith, low, ltb-false (collider own loc time n) x h) in
-      let s : partner own loc time n (collider own loc time n) ≡ partner own loc time n x = ap (partner own loc time n) same in
-      by-cases (ltb (partner own loc time n (collider own loc time n)) y)
-      (λ g. inr (rw (h, eq-eqb (collider own loc time n) x same, g) refl))
-      (λ g. inl (same, omega (arith, next, ltb-false (partner own loc time n (collider own loc time n)) y g))))
+      (λ h. let same : collider S ≡ x = omega (arith, low, ltb-false (collider S) x h) in
+      let s : partner S (collider S) ≡ partner S x = ap (partner S) same in
+      by-cases (ltb (partner S (collider S)) y)
+      (λ g. inr (rw (h, eq-eqb (collider S) x same, g) refl))
+      (λ g. inl (same, omega (arith, next, ltb-false (partner S (collider S)) y g))))
     where
-      next : partner own loc time n x ≤ y
-      next = first-low (collide own loc time n x) y n e
+      next : partner S x ≤ y
+      next = first-low (collide S x) y n e
 
-      low : collider own loc time n ≤ x
-      low = first-low (λ v. ltb (partner own loc time n v) n) x n (lt-ltb (partner own loc time n x) n (omega (arith, next)))
+      low : collider S ≤ x
+      low = first-low (λ v. ltb (partner S v) n) x n (lt-ltb (partner S x) n (omega (arith, next)))
 
 -- ---- dependencies
 
-module _ (own loc time : ℕ → ℕ) where
+module _ (S : Visits) where
+  open Visits S using (own, loc, time, meets)
+
   pub record Follows (v w : ℕ) : Type 0 where
     pub others : own v ≢ own w
-    pub place : loc v ≡ loc w
+    pub place : meets (loc v) (loc w) ≡ true
     pub earlier : time v < time w
 
-  pub follows-says : (v w : ℕ) → follows own loc time v w ≡ true → Follows v w
+  pub follows-says : (v w : ℕ) → follows S v w ≡ true → Follows v w
   unfolding follows
   follows-says v w e =
-      let r : (eqb (loc v) (loc w) && ltb (time v) (time w)) ≡ true = and-right (not (eqb (own v) (own w))) _ e in
-      record { others = eqb-false _ _ (not-true _ (and-left _ _ e)); place = eqb-true _ _ (and-left _ _ r); earlier = ltb-true _ _ (and-right (eqb (loc v) (loc w)) _ r) }
+      let r : (meets (loc v) (loc w) && ltb (time v) (time w)) ≡ true = and-right (not (eqb (own v) (own w))) _ e in
+      record { others = eqb-false _ _ (not-true _ (and-left _ _ e)); place = and-left _ _ r; earlier = ltb-true _ _ (and-right (meets (loc v) (loc w)) _ r) }
 
-  pub says-follows : (v w : ℕ) → Follows v w → follows own loc time v w ≡ true
+  pub says-follows : (v w : ℕ) → Follows v w → follows S v w ≡ true
   unfolding follows
-  says-follows v w f = rw (ne-eqb (own v) (own w) (f .others), eq-eqb (loc v) (loc w) (f .place), lt-ltb (time v) (time w) (f .earlier)) refl
+  says-follows v w f = rw (ne-eqb (own v) (own w) (f .others), f .place, lt-ltb (time v) (time w) (f .earlier)) refl

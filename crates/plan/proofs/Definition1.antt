@@ -8,15 +8,16 @@ use native.Mathlib.Omega.{arith}
 use lib.Dec.{ltb, leb, eqb}
 use borrow.Author.Tests.{leb-true, leb-false, ltb-true, ltb-false, lt-ltb, eqb-true, eqb-false}
 use Rattle.below.proofs.Tests.{by-cases, below-cases, and-left, and-right}
+use Rattle.plan.specs.Visits.{Symmetric}
 use Rattle.plan.specs.Field.{FieldPlan, GoneBefore, Checked, planOf}
 use Rattle.plan.specs.Claims.{StopsChecked, IsAt, Leaves, Enters, Collides, Occupies, SpansShare, Swaps, Never, Definition1}
-use Rattle.plan.proofs.Accepted.{stops-checked, taken-exactly}
+use Rattle.plan.proofs.Accepted.{same-symmetric, stops-checked, taken-exactly}
 
 module _ (F : FieldPlan) where
-  open FieldPlan F using (drones, last, location, time)
+  open FieldPlan F using (drones, last, location, time, meets)
 
-  swap-covered : (i j : ℕ) → Swaps F i j → Collides F i j
-  swap-covered i j w = (location i (w .stop-of-i), time i (suc (w .stop-of-i)), inr (record { stop = w .stop-of-i; goes-on = w .i-goes-on; here = refl; then = refl }, record { stop = w .stop-of-j; goes-on = w .j-goes-on; here = w .j-to-i; then = sym (w .together) }))
+  swap-covered : ((l : ℕ) → meets l l ≡ true) → (i j : ℕ) → Swaps F i j → Collides F i j
+  swap-covered self i j w = (location i (w .stop-of-i), location i (w .stop-of-i), time i (suc (w .stop-of-i)), self _, inr (record { stop = w .stop-of-i; goes-on = w .i-goes-on; here = refl; then = refl }, record { stop = w .stop-of-j; goes-on = w .j-goes-on; here = w .j-to-i; then = sym (w .together) }))
 
   module _ (stops : StopsChecked F) where
     -- ---- one location in each timestep
@@ -61,27 +62,27 @@ module _ (F : FieldPlan) where
     enters-occupies d l t i a = record { stop = suc (a .stop); stop-in = a .goes-on; here = a .here; since = omega (arith, a .then); until = λ k. omega (arith, a .then, stops .rises d (suc (a .stop)) i k) }
 
     collides-share : (i j : ℕ) → i < drones → j < drones → Collides F i j → SpansShare F i j
-    collides-share i j x y (l, t, c) = elim c [
-      | inl (a, b) ↦ (l, t, at-occupies i l t a, at-occupies j l t b)
-      | inr (a, b) ↦ (l, t, leaves-occupies i l t x a, enters-occupies j l t y b)
+    collides-share i j x y (l, m, t, q, c) = elim c [
+      | inl (a, b) ↦ (l, m, t, q, at-occupies i l t a, at-occupies j m t b)
+      | inr (a, b) ↦ (l, m, t, q, leaves-occupies i l t x a, enters-occupies j m t y b)
     ]
 
     -- ---- a shared timestep is a collision
 
     -- both are there in the timestep before
-    both-before : (i j l t : ℕ) (a : Occupies F i l t) (b : Occupies F j l t) → time i (a .stop) < t → time j (b .stop) < t → Collides F i j
-    both-before i j l t a b x y = (l, t - 1, inl (earlier i a x, earlier j b y))
+    both-before : (i j l m t : ℕ) → meets l m ≡ true → (a : Occupies F i l t) (b : Occupies F j m t) → time i (a .stop) < t → time j (b .stop) < t → Collides F i j
+    both-before i j l m t q a b x y = (l, m, t - 1, q, inl (earlier i l a x, earlier j m b y))
       where
-        earlier : (d : ℕ) (a : Occupies F d l t) → time d (a .stop) < t → IsAt F d l (t - 1)
-        earlier d a x = record { stop = a .stop; stop-in = a .stop-in; here = a .here; since = omega arith; until = λ k. omega (arith, a .until k) }
+        earlier : (d l : ℕ) (a : Occupies F d l t) → time d (a .stop) < t → IsAt F d l (t - 1)
+        earlier d l a x = record { stop = a .stop; stop-in = a .stop-in; here = a .here; since = omega arith; until = λ k. omega (arith, a .until k) }
 
     -- i has just come: j is still there, or leaves as i comes
-    comes : (i j l t : ℕ) → i < drones → j < drones → (a : Occupies F i l t) (b : Occupies F j l t) → time i (a .stop) ≡ t → Collides F i j ⊎ Collides F j i
-    comes i j l t x y a b e = by-cases (ltb (b .stop) (last j) && eqb (time j (suc (b .stop))) t)
+    comes : Symmetric meets → (i j l m t : ℕ) → meets l m ≡ true → i < drones → j < drones → (a : Occupies F i l t) (b : Occupies F j m t) → time i (a .stop) ≡ t → Collides F i j ⊎ Collides F j i
+    comes symmetric i j l m t z x y a b e = by-cases (ltb (b .stop) (last j) && eqb (time j (suc (b .stop))) t)
         (λ h. let k : b .stop < last j = ltb-true _ _ (and-left _ _ h) in
         let q : time j (suc (b .stop)) ≡ t = eqb-true _ _ (and-right (ltb (b .stop) (last j)) _ h) in
-        inr (l, t, inr (record { stop = b .stop; goes-on = k; here = b .here; then = q }, enters (a .stop) (a .stop-in) (a .here) e (omega (arith, stops .rises j (b .stop) y k)))))
-        (λ h. inl (l, t, inl (record { stop = a .stop; stop-in = a .stop-in; here = a .here; since = a .since; until = λ k. omega (arith, stops .rises i (a .stop) x k) }, record { stop = b .stop; stop-in = b .stop-in; here = b .here; since = b .since; until = λ k. stays h k })))
+        inr (m, l, t, symmetric l m z, inr (record { stop = b .stop; goes-on = k; here = b .here; then = q }, enters (a .stop) (a .stop-in) (a .here) e (omega (arith, stops .rises j (b .stop) y k)))))
+        (λ h. inl (l, m, t, z, inl (record { stop = a .stop; stop-in = a .stop-in; here = a .here; since = a .since; until = λ k. omega (arith, stops .rises i (a .stop) x k) }, record { stop = b .stop; stop-in = b .stop-in; here = b .here; since = b .since; until = λ k. stays h k })))
       where
         -- it comes from another stop, since its time is not 0
         enters : (s : ℕ) → s ≤ last i → location i s ≡ l → time i s ≡ t → 0 < t → Enters F i l t
@@ -91,17 +92,17 @@ module _ (F : FieldPlan) where
         stays : (ltb (b .stop) (last j) && eqb (time j (suc (b .stop))) t) ≡ false → b .stop < last j → t < time j (suc (b .stop))
         stays h k = let ne : time j (suc (b .stop)) ≢ t = eqb-false _ _ (rw (lt-ltb (b .stop) (last j) k) at h) in omega (arith, b .until k)
 
-    share-collides : (i j : ℕ) → i < drones → j < drones → SpansShare F i j → Collides F i j ⊎ Collides F j i
-    share-collides i j x y (l, t, a, b) = by-cases (ltb (time i (a .stop)) t)
+    share-collides : Symmetric meets → (i j : ℕ) → i < drones → j < drones → SpansShare F i j → Collides F i j ⊎ Collides F j i
+    share-collides symmetric i j x y (l, m, t, q, a, b) = by-cases (ltb (time i (a .stop)) t)
         (λ h. by-cases (ltb (time j (b .stop)) t)
-        (λ g. inl (both-before i j l t a b (ltb-true _ _ h) (ltb-true _ _ g)))
-        (λ g. elim (comes j i l t y x b a (omega (arith, ltb-false (time j (b .stop)) t g, b .since))) [ inl c ↦ inr c | inr c ↦ inl c ]))
-        (λ h. comes i j l t x y a b (omega (arith, ltb-false (time i (a .stop)) t h, a .since)))
+        (λ g. inl (both-before i j l m t q a b (ltb-true _ _ h) (ltb-true _ _ g)))
+        (λ g. elim (comes symmetric j i m l t (symmetric l m q) y x b a (omega (arith, ltb-false (time j (b .stop)) t g, b .since))) [ inl c ↦ inr c | inr c ↦ inl c ]))
+        (λ h. comes symmetric i j l m t q x y a b (omega (arith, ltb-false (time i (a .stop)) t h, a .since)))
 
     -- ---- no two spans share a timestep exactly when one of each two is over before the other
 
     gone-share : Checked F → Never F (SpansShare F)
-    gone-share c i j x y ne (l, t, a, b) = elim (c .no-collision i (a .stop) j (b .stop) x (a .stop-in) y (b .stop-in) ne (a .here ∙ sym (b .here))) [
+    gone-share c i j x y ne (l, m, t, q, a, b) = elim (c .no-collision i (a .stop) j (b .stop) x (a .stop-in) y (b .stop-in) ne (rw (a .here, b .here) q)) [
       | inl g ↦ omega (arith, g .in-time, a .until (g .goes-on), b .since)
       | inr g ↦ omega (arith, g .in-time, b .until (g .goes-on), a .since)
     ]
@@ -116,26 +117,27 @@ module _ (F : FieldPlan) where
     occupies : (d s e k : ℕ) → d < drones → s ≤ last d → gone d s e k ≡ false → Occupies F d (location d s) (max (time d s) (time e k))
     occupies d s e k x m h = record { stop = s; stop-in = m; here = refl; since = omega arith; until = λ l. let late : time e k ≤ time d (suc s) = ltb-false _ _ (rw (lt-ltb s (last d) l) at h) in omega (arith, stops .rises d s x l) }
 
-    share-checked : Never F (SpansShare F) → Checked F
-    share-checked never = record {
+    share-checked : Symmetric meets → Never F (SpansShare F) → Checked F
+    share-checked symmetric never = record {
       starts = stops .starts;
       rises = stops .rises;
       moves = stops .moves;
+      symmetric = symmetric;
       no-collision = λ d s e k x m y o ne q. by-cases (gone d s e k)
           (λ h. inl (gone-is d s e k h))
           (λ h. by-cases (gone e k d s)
           (λ g. inr (gone-is e k d s g))
           (λ g. let swap : max (time e k) (time d s) ≡ max (time d s) (time e k) = omega arith in
-          absurd (never d e x y ne (location d s, max (time d s) (time e k), occupies d s e k x m h, rw (sym q, swap) at (occupies e k d s y o g)))));
+          absurd (never d e x y ne (location d s, location e k, max (time d s) (time e k), q, occupies d s e k x m h, rw swap at (occupies e k d s y o g)))));
     }
 
-    collides-checked : Never F (Collides F) → Checked F
-    collides-checked never = share-checked (λ i j x y ne s. elim (share-collides i j x y s) [ inl c ↦ never i j x y ne c | inr c ↦ never j i y x (λ q. ne (sym q)) c ])
+    collides-checked : Symmetric meets → Never F (Collides F) → Checked F
+    collides-checked symmetric never = share-checked symmetric (λ i j x y ne s. elim (share-collides symmetric i j x y s) [ inl c ↦ never i j x y ne c | inr c ↦ never j i y x (λ q. ne (sym q)) c ])
 
 pub definition-1 : Definition1
 definition-1 = record {
-  collisions = λ p have e. (λ a i j x y ne c. gone-share (planOf p) (stops-checked p have e) (taken-exactly p have .0 (e, a)) i j x y ne (collides-share (planOf p) (stops-checked p have e) i j x y c), λ never. taken-exactly p have .1 (collides-checked (planOf p) (stops-checked p have e) never) .1);
-  spans = λ p have e. (λ a. gone-share (planOf p) (stops-checked p have e) (taken-exactly p have .0 (e, a)), λ never. taken-exactly p have .1 (share-checked (planOf p) (stops-checked p have e) never) .1);
+  collisions = λ p have e. (λ a i j x y ne c. gone-share (planOf p) (stops-checked p have e) (taken-exactly p have .0 (e, a)) i j x y ne (collides-share (planOf p) (stops-checked p have e) i j x y c), λ never. taken-exactly p have .1 (collides-checked (planOf p) (stops-checked p have e) same-symmetric never) .1);
+  spans = λ p have e. (λ a. gone-share (planOf p) (stops-checked p have e) (taken-exactly p have .0 (e, a)), λ never. taken-exactly p have .1 (share-checked (planOf p) (stops-checked p have e) same-symmetric never) .1);
   one-location = one-location;
   swap-covered = swap-covered;
 }

@@ -12,9 +12,10 @@ use Rattle.below.proofs.Tests.{by-cases, and-left, and-right}
 use Rattle.below.proofs.Search.{firstBelow-first, first-low}
 use Rattle.below.proofs.Pairs.{before-not, rank-find, rank-rises, rising-fit, Climbs, climbs-few, climbs-all}
 use Rattle.tables.specs.Tables.{PlanLists}
+use Rattle.plan.specs.Visits.{Visits}
 use Rattle.plan.specs.Dependencies.{follows, dependencyTotal, column}
 use Rattle.plan.specs.Field.{Dependency, FieldPlan, before, Meeting, AcceptedPlan, planOf}
-use Rattle.plan.specs.Claims.{Numbered, pair, HaveStops, HoldsPlanned}
+use Rattle.plan.specs.Claims.{Numbered, pair, visitsIn, HaveStops, HoldsPlanned}
 use Rattle.plan.proofs.Accepted.{plan, meeting-if, meeting-follows, pair-place, pair-order, stops-numbered}
 
 -- ---- no two dependencies come before each other
@@ -45,13 +46,15 @@ order-pair {own} {num} N v w x y a b c d o = by-cases (pairBefore v w x y) (λ e
 
 -- ---- the table of an accepted plan
 
-module _ (own num off last loc time : ℕ → ℕ) (drones n count : ℕ) (dependency : ℕ → Dependency) (N : Numbered own num off last drones n) where
+module _ (S : Visits) (off last : ℕ → ℕ) (drones count : ℕ) (dependency : ℕ → Dependency) (N : Numbered (S .own) (S .num) off last drones (S .n)) where
+  open Visits S using (own, num, n)
+
   -- the plan of these stops and dependencies
   abbrev F : FieldPlan
-  F = plan own num off last loc time drones n count dependency N
+  F = plan S off last drones count dependency N
 
   abbrev R : ℕ → ℕ → Bool
-  R = follows own loc time
+  R = follows S
 
   module _ (A : AcceptedPlan F) where
     -- the two stops of dependency k
@@ -67,8 +70,8 @@ module _ (own num off last loc time : ℕ → ℕ) (drones n count : ℕ) (depen
         let m : Meeting F (dependency k) = A .each k l in (
           N .place-in (dependency k .first) (dependency k .firstStop) (m .first-in) (m .first-stop-in),
           N .place-in (dependency k .second) (dependency k .secondStop) (m .second-in) (m .second-stop-in),
-          meeting-follows _ _ _ _ _ _ _ _ _ _ N (A .checked) (dependency k) m,
-          pair-place _ _ _ _ loc time _ _ count dependency N (dependency k) m,
+          meeting-follows S _ _ _ _ _ N (A .checked) (dependency k) m,
+          pair-place S _ _ _ count dependency N (dependency k) m,
         )
 
     -- the pairs rise
@@ -100,11 +103,11 @@ module _ (own num off last loc time : ℕ → ℕ) (drones n count : ℕ) (depen
     place : ℕ → ℕ
     place k = firstBelow count (λ i. eqb (rankAt i) k)
 
-    place-is : (k : ℕ) → k < dependencyTotal own loc time n → (place k < count) × (rankAt (place k) ≡ k)
+    place-is : (k : ℕ) → k < dependencyTotal S → (place k < count) × (rankAt (place k) ≡ k)
     unfolding place rankAt xs ys
     place-is k l =
         let (v, w, a, b, e, r) = rank-find R n k l in
-        let (i, m, q) = A .every (pair own num v w) (meeting-if _ _ _ _ loc time _ _ count dependency N v w a b e) in
+        let (i, m, q) = A .every (pair own num v w) (meeting-if S _ _ _ count dependency N v w a b e) in
         let at-v : xs i ≡ v = rw q (N .number-is v a) in
         let at-w : ys i ≡ w = rw q (N .number-is w b) in
         let h : rankAt i ≡ k = rw (at-v, at-w) r in
@@ -112,7 +115,7 @@ module _ (own num off last loc time : ℕ → ℕ) (drones n count : ℕ) (depen
         let in-table : place k < count = omega arith in
         (in-table, eqb-true _ _ (firstBelow-first count (λ i. eqb (rankAt i) k) .found in-table))
 
-    places-rise : (k : ℕ) → suc k < dependencyTotal own loc time n → place k < place (suc k)
+    places-rise : (k : ℕ) → suc k < dependencyTotal S → place k < place (suc k)
     places-rise k l =
         let (a, p) = place-is k (omega arith) in
         let (b, q) = place-is (suc k) l in
@@ -120,25 +123,25 @@ module _ (own num off last loc time : ℕ → ℕ) (drones n count : ℕ) (depen
         (λ h. absurd (omega (arith, ranks-rise (place (suc k)) (place k) (ltb-true _ _ h) a)))
         (λ h. let same : place k ≡ place (suc k) = omega (arith, ltb-false (place k) (place (suc k)) e, ltb-false (place (suc k)) (place k) h) in absurd (let z : rankAt (place k) ≡ suc k = rw same q in omega arith)))
 
-    pub total-is : count ≡ dependencyTotal own loc time n
-    total-is = omega (arith, climbs-few R n climbs, rising-fit (dependencyTotal own loc time n) place places-rise count (λ k l. place-is k l .0))
+    pub total-is : count ≡ dependencyTotal S
+    total-is = omega (arith, climbs-few R n climbs, rising-fit (dependencyTotal S) place places-rise count (λ k l. place-is k l .0))
 
     -- the four columns of the table are the plan's
-    pub columns-are : (k : ℕ) → k < count → (dependency k .first ≡ at (column own loc time n (λ v w. own v)) k) × (dependency k .firstStop ≡ at (column own loc time n (λ v w. num v)) k) × (dependency k .second ≡ at (column own loc time n (λ v w. own w)) k) × (dependency k .secondStop ≡ at (column own loc time n (λ v w. num w)) k)
+    pub columns-are : (k : ℕ) → k < count → (dependency k .first ≡ at (column S (λ v w. own v)) k) × (dependency k .firstStop ≡ at (column S (λ v w. num v)) k) × (dependency k .second ≡ at (column S (λ v w. own w)) k) × (dependency k .secondStop ≡ at (column S (λ v w. num w)) k)
     columns-are k l =
         let (_, _, _, q) = entry k l in
         (is (λ v w. own v) (λ i. q i .first), is (λ v w. num v) (λ i. q i .firstStop), is (λ v w. own w) (λ i. q i .second), is (λ v w. num w) (λ i. q i .secondStop))
       where
-        is : (f : ℕ → ℕ → ℕ) {x : ℕ} → f (xs k) (ys k) ≡ x → x ≡ at (column own loc time n f) k
+        is : (f : ℕ → ℕ → ℕ) {x : ℕ} → f (xs k) (ys k) ≡ x → x ≡ at (column S f) k
         is f e = sym e ∙ sym (climbs-all R n climbs total-is f k l)
 
 -- ---- the plan in the tables
 
 pub holds-planned : (p : PlanLists) → HaveStops p → AcceptedPlan (planOf p) → HoldsPlanned p
 holds-planned p have A = record {
-  total = total-is _ _ _ _ _ _ _ _ _ _ (stops-numbered p have) A;
-  first-drones = λ k l. columns-are _ _ _ _ _ _ _ _ _ _ (stops-numbered p have) A k l .0;
-  first-stops = λ k l. columns-are _ _ _ _ _ _ _ _ _ _ (stops-numbered p have) A k l .1;
-  second-drones = λ k l. columns-are _ _ _ _ _ _ _ _ _ _ (stops-numbered p have) A k l .2;
-  second-stops = λ k l. columns-are _ _ _ _ _ _ _ _ _ _ (stops-numbered p have) A k l .3;
+  total = total-is (visitsIn p) _ _ _ _ _ (stops-numbered p have) A;
+  first-drones = λ k l. columns-are (visitsIn p) _ _ _ _ _ (stops-numbered p have) A k l .0;
+  first-stops = λ k l. columns-are (visitsIn p) _ _ _ _ _ (stops-numbered p have) A k l .1;
+  second-drones = λ k l. columns-are (visitsIn p) _ _ _ _ _ (stops-numbered p have) A k l .2;
+  second-stops = λ k l. columns-are (visitsIn p) _ _ _ _ _ (stops-numbered p have) A k l .3;
 }

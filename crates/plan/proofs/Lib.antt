@@ -12,5 +12,6 @@ pub mod ColumnsLaws
 pub mod WaitsLaws
 pub mod Flights
 pub mod Agree
+pub mod Unread
 pub mod PlansAgree
 pub mod Definition2

@@ -1,6 +1,7 @@
--- Plans that agree are checked, accepted and collide alike; numberings of the stops that agree have the same dependencies. Assumes nothing.
+-- Plans that agree are checked, accepted and collide alike; counts of stops that agree number the stops alike. Assumes nothing.
 use mathlib.Core.Path.{_≡_, refl, sym, ap, _∙_, subst}
 use mathlib.Core.Logic.{_≢_, inl, inr, _↔_}
+use mathlib.Core.Bool.{true}
 use mathlib.Core.List.{List}
 use Prim.Native.Nat.{ℕ, suc, _+_, _-_, _≤_, _<_}
 use native.Mathlib.Omega.{arith}
@@ -8,12 +9,10 @@ use lib.Dec.{ltb}
 use Rattle.below.specs.Below.{at}
 use Rattle.below.proofs.Search.{firstBelow-ext}
 use Rattle.below.proofs.Sum.{sum-ext}
-use Rattle.below.proofs.Same.{pairs-ext, listed-ext}
 use Rattle.tables.specs.Tables.{PlanLists}
 use Rattle.plan.specs.Stops.{start, owner, number}
-use Rattle.plan.specs.Dependencies.{follows, dependencyTotal, column}
 use Rattle.plan.specs.Field.{Dependency, FieldPlan, GoneBefore, Checked, Meeting, AcceptedPlan, PlansAgree, planOf}
-use Rattle.plan.specs.Claims.{Numbered, ownerIn, numberIn, locationIn, timeIn, stopTotal, HaveStops, NoFault, NoCollision, StopsChecked, IsAt, Leaves, Enters, Collides, Never}
+use Rattle.plan.specs.Claims.{Numbered, ownerIn, numberIn, locationIn, timeIn, stopTotal, visitsIn, HaveStops, NoFault, NoCollision, StopsChecked, IsAt, Leaves, Enters, Collides, Never}
 use Rattle.plan.proofs.Numbering.{owner-le}
 use Rattle.plan.proofs.Conditions.{says-firstFault}
 use Rattle.plan.proofs.Accepted.{stops-numbered, stops-checked}
@@ -27,6 +26,7 @@ agree-back {F} {G} A = record {
   lasts-agree = λ d l. sym (A .lasts-agree d (here d l));
   locations-agree = λ d s l k. sym (A .locations-agree d s (here d l) (there d s l k));
   times-agree = λ d s l k. sym (A .times-agree d s (here d l) (there d s l k));
+  meets-agree = λ a b. sym (A .meets-agree a b);
   counts-agree = sym (A .counts-agree);
   dependencies-agree = λ w l. sym (A .dependencies-agree w (omega (arith, A .counts-agree)));
 }
@@ -44,6 +44,12 @@ module _ (F G : FieldPlan) (A : PlansAgree F G) where
 
   stop-there : (d s : ℕ) → d < F .drones → s ≤ F .last d → s ≤ G .last d
   stop-there d s l k = omega (arith, A .lasts-agree d l)
+
+  meets-there : (a b : ℕ) → F .meets a b ≡ true → G .meets a b ≡ true
+  meets-there a b q = sym (A .meets-agree a b) ∙ q
+
+  meets-here : (a b : ℕ) → G .meets a b ≡ true → F .meets a b ≡ true
+  meets-here a b q = A .meets-agree a b ∙ q
 
   -- ---- the plan check
 
@@ -80,9 +86,9 @@ module _ (F G : FieldPlan) (A : PlansAgree F G) where
   }
 
   pub agree-never : Never G (Collides G) → Never F (Collides F)
-  agree-never never i j x y ne (l, t, c) = elim c [
-    | inl (a, b) ↦ never i j (drone-there i x) (drone-there j y) ne (l, t, inl (at-agrees i l t x a, at-agrees j l t y b))
-    | inr (a, b) ↦ never i j (drone-there i x) (drone-there j y) ne (l, t, inr (leaves-agrees i l t x a, enters-agrees j l t y b))
+  agree-never never i j x y ne (l, m, t, q, c) = elim c [
+    | inl (a, b) ↦ never i j (drone-there i x) (drone-there j y) ne (l, m, t, meets-there l m q, inl (at-agrees i l t x a, at-agrees j m t y b))
+    | inr (a, b) ↦ never i j (drone-there i x) (drone-there j y) ne (l, m, t, meets-there l m q, inr (leaves-agrees i l t x a, enters-agrees j m t y b))
   ]
 
   -- ---- the dependencies
@@ -99,7 +105,8 @@ module _ (F G : FieldPlan) (A : PlansAgree F G) where
         starts = stops .starts;
         rises = stops .rises;
         moves = stops .moves;
-        no-collision = λ d s e k l m x y ne q. elim (c .no-collision d s e k (drone-there d l) (stop-there d s l m) (drone-there e x) (stop-there e k x y) ne (sym (A .locations-agree d s l m) ∙ q ∙ A .locations-agree e k x y)) [
+        symmetric = λ a b q. meets-here b a (c .symmetric a b (meets-there a b q));
+        no-collision = λ d s e k l m x y ne q. elim (c .no-collision d s e k (drone-there d l) (stop-there d s l m) (drone-there e x) (stop-there e k x y) ne (rw (A .locations-agree d s l m, A .locations-agree e k x y) at (meets-there _ _ q))) [
           | inl g ↦ inl (gone-agrees d s e k l x y g)
           | inr g ↦ inr (gone-agrees e k d s x l m g)
         ];
@@ -112,7 +119,7 @@ module _ (F G : FieldPlan) (A : PlansAgree F G) where
     second-in = drone-there (x .second) (m .second-in);
     second-stop-in = stop-there (x .second) (x .secondStop) (m .second-in) (m .second-stop-in);
     different = m .different;
-    one-location = sym (A .locations-agree (x .first) (x .firstStop) (m .first-in) (m .first-stop-in)) ∙ m .one-location ∙ A .locations-agree (x .second) (x .secondStop) (m .second-in) (m .second-stop-in);
+    one-location = rw (A .locations-agree (x .first) (x .firstStop) (m .first-in) (m .first-stop-in), A .locations-agree (x .second) (x .secondStop) (m .second-in) (m .second-stop-in)) at (meets-there _ _ (m .one-location));
     there-first = omega (arith, A .times-agree (x .first) (x .firstStop) (m .first-in) (m .first-stop-in), A .times-agree (x .second) (x .secondStop) (m .second-in) (m .second-stop-in), m .there-first);
   }
 
@@ -141,24 +148,12 @@ module _ (n : ℕ) (cs ds : List ℕ) (same : (d : ℕ) → d < n → at cs d �
   unfolding number
   number-same v = rw (owner-same v, start-same (owner n ds v) (owner-le n ds v)) refl
 
--- n stops of equal drones, locations and times have the same dependencies
-module _ (own own′ loc loc′ time time′ : ℕ → ℕ) (n : ℕ) (owners : (v : ℕ) → v < n → own v ≡ own′ v) (locations : (v : ℕ) → v < n → loc v ≡ loc′ v) (times : (v : ℕ) → v < n → time v ≡ time′ v) where
-  follows-same : (v w : ℕ) → v < n → w < n → follows own loc time v w ≡ follows own′ loc′ time′ v w
-  unfolding follows
-  follows-same v w l k = rw (owners v l, owners w k, locations v l, locations w k, times v l, times w k) refl
-
-  pub total-same : dependencyTotal own loc time n ≡ dependencyTotal own′ loc′ time′ n
-  total-same = pairs-ext (follows own loc time) (follows own′ loc′ time′) n follows-same
-
-  pub column-same : (f g : ℕ → ℕ → ℕ) → ((v w : ℕ) → v < n → w < n → f v w ≡ g v w) → column own loc time n f ≡ column own′ loc′ time′ n g
-  column-same f g e = listed-ext (follows own loc time) (follows own′ loc′ time′) n follows-same f g e
-
 -- ---- the check of a plan in lists
 
 -- the single stops' rules and 004's Definition 1 are what the check finds nothing against
 module _ (p : PlanLists) (have : HaveStops p) where
   stops-pass : StopsChecked (planOf p) → NoFault p
-  stops-pass c = says-firstFault (numberIn p) (locationIn p) (timeIn p) (stopTotal p) (λ v l. record {
+  stops-pass c = says-firstFault (visitsIn p) (λ v l. record {
     starts = λ z. ap (timeIn p) (sym (N .number-is v l)) ∙ rw z (c .starts (ownerIn p v) (N .own-in v l));
     rises = λ z. step v l z .0;
     moves = λ z. step v l z .1;

@@ -2,25 +2,34 @@
 use mathlib.Core.Path.{_≡_, refl, sym, ap, _∙_, subst}
 use mathlib.Core.Logic.{_≢_}
 use mathlib.Core.List.{List}
-use mathlib.Core.Bool.{Bool, _&&_}
+use mathlib.Core.Bool.{Bool, false, _&&_}
 use Prim.Native.Nat.{ℕ, _+_, _*_, _/_, _%_, _≤_, _<_}
 use native.Mathlib.Omega.{arith}
 use lib.Dec.{ltb, leb, eqb}
 use lib.ListN.{length, set, length-set, replicate, length-replicate, getD-replicate}
 use lib.Seq.{ext-getD, getD-set-same, getD-set-other}
-use borrow.Author.Tests.{ltb-true, ltb-false, leb-true, eqb-true, eqb-false, lt-ltb, le-leb, lt-leb, eq-eqb}
+use borrow.Author.Tests.{ltb-true, ltb-false, leb-true, eqb-true, eqb-false, lt-ltb, le-leb, lt-leb, eq-eqb, ne-eqb}
 use Rattle.below.specs.Below.{at, firstBelow, fillBelow, First}
 use Rattle.below.proofs.Tests.{by-cases, true-or-false, and-left, and-right, same-test}
 use Rattle.below.proofs.Search.{firstBelow-first, firstBelow-ext, first-all, first-is}
 use Rattle.below.proofs.Fill.{length-fill, getD-fill, getD-unfilled, fill-at, fillBelow-ext}
 use Rattle.below.proofs.Gaps.{over-gap}
-use Rattle.plan.specs.Sharing.{rootOf, branch, firstAt, Leads, here, onward, Node, Trees, nextAt, Groups}
+use Rattle.tables.specs.Limits.{limits}
+use Rattle.plan.specs.Visits.{Visits, visits}
+use Rattle.plan.specs.Sharing.{roots, rootOf, branch, firstAt, Leads, here, onward, Node, Trees, nextAt, Groups}
 
-pub root-is : (l : ℕ) → ((l + l / 1024 * 17) % 1024 ≡ rootOf l) × ((l + l / 1024 * 17) % 1024 < 1024)
+-- only the same locations meet, so no stop is left out where the stops of one location are gone through
+pub record Elsewhere (S : Visits) : Type 0 where
+  pub apart : (v u : ℕ) → S .loc u ≢ S .loc v → S .meets (S .loc v) (S .loc u) ≡ false
+
+pub elsewhere : (own num loc time : ℕ → ℕ) (n : ℕ) → Elsewhere (visits own num loc time n)
+elsewhere own num loc time n = record { apart = λ v u ne. ne-eqb (loc v) (loc u) (λ e. ne (sym e)) }
+
+pub root-is : (l : ℕ) → ((l + l / roots * 17) % roots ≡ rootOf l) × ((l + l / roots * 17) % roots < roots)
 unfolding rootOf
 root-is l = (refl, omega arith)
 
-pub root-in : (l : ℕ) → rootOf l < 1024
+pub root-in : (l : ℕ) → rootOf l < roots
 unfolding rootOf
 root-in l = omega arith
 
@@ -77,9 +86,9 @@ module _ (loc : ℕ → ℕ) where
 
   -- the search of the location of w has come to a slot: the first stop there, if it is before w, is still to come; and a search comes to w if it is put there
   pub record Seeking (links : List ℕ) (w slot digits : ℕ) : Type 0 where
-    pub within : slot < 1024 + 2 * w
+    pub within : slot < roots + 2 * w
     pub ahead : firstAt loc w < w → Leads loc links (loc w) slot digits (firstAt loc w)
-    pub back : (links′ : List ℕ) → ((t : ℕ) → at links t ≢ 0 → at links′ t ≡ at links t) → Leads loc links′ (loc w) slot digits w → Leads loc links′ (loc w) (rootOf (loc w)) (loc w / 1024) w
+    pub back : (links′ : List ℕ) → ((t : ℕ) → at links t ≢ 0 → at links′ t ≡ at links t) → Leads loc links′ (loc w) slot digits w → Leads loc links′ (loc w) (rootOf (loc w)) (loc w / roots) w
 
   pub trees-none : (links : List ℕ) → length links ≡ 3072 → ((t : ℕ) → at links t ≡ 0) → Trees loc 0 links
   trees-none links a z = record { size = a; node = λ t x e. absurd (omega (arith, e, z t)); leads = λ u l f. absurd (omega arith) }
@@ -93,7 +102,7 @@ module _ (loc : ℕ → ℕ) where
   }
 
   -- stop w is, and is put where its search ended
-  trees-more : (links : List ℕ) (w : ℕ) → Trees loc w links → (slot digits x : ℕ) → Seeking links w slot digits → at links slot ≡ 0 → firstAt loc w ≡ w → x ≡ w + 1 → w < 1024 → Trees loc (w + 1) (set links slot x)
+  trees-more : (links : List ℕ) (w : ℕ) → Trees loc w links → (slot digits x : ℕ) → Seeking links w slot digits → at links slot ≡ 0 → firstAt loc w ≡ w → x ≡ w + 1 → w < limits .stops → Trees loc (w + 1) (set links slot x)
   trees-more links w T slot digits x S z f ex m = record {
     size = length-set links slot x ∙ T .size;
     node = λ t y e. by-cases (eqb t slot)
@@ -113,10 +122,10 @@ module _ (loc : ℕ → ℕ) where
       kept t n = getD-set-other links slot t x 0 (λ s. n (ap (at links) s ∙ z))
 
   module _ (links : List ℕ) (w : ℕ) (T : Trees loc w links) where
-    pub seeking-start : (l slot : ℕ) → l ≡ loc w → slot ≡ rootOf l → Seeking links w slot (l / 1024)
+    pub seeking-start : (l slot : ℕ) → l ≡ loc w → slot ≡ rootOf l → Seeking links w slot (l / roots)
     seeking-start l slot el es = rw (es, el) (record {
       within = omega (arith, root-in (loc w));
-      ahead = λ h. subst (λ (k : ℕ). Leads loc links k (rootOf k) (k / 1024) (firstAt loc w)) (first-shares w) (T .leads (firstAt loc w) h (first-alike (firstAt loc w) w (first-shares w)));
+      ahead = λ h. subst (λ (k : ℕ). Leads loc links k (rootOf k) (k / roots) (firstAt loc w)) (first-shares w) (T .leads (firstAt loc w) h (first-alike (firstAt loc w) w (first-shares w)));
       back = λ links′ E p. p;
     })
 
@@ -124,7 +133,7 @@ module _ (loc : ℕ → ℕ) where
       pub seeking-node : Node loc w slot u
       seeking-node = T .node slot u e
 
-      pub seeking-more : loc u ≢ loc w → Seeking links w (1024 + 2 * u + digits % 2) (digits / 2)
+      pub seeking-more : loc u ≢ loc w → Seeking links w (roots + 2 * u + digits % 2) (digits / 2)
       seeking-more ne = record {
         within = omega (arith, seeking-node .known);
         ahead = λ h. leads-past links (loc w) slot digits (firstAt loc w) u e ne (first-shares w) (S .ahead h);
@@ -134,7 +143,7 @@ module _ (loc : ℕ → ℕ) where
       pub seeking-found : loc u ≡ loc w → (u ≡ firstAt loc w) × Trees loc (w + 1) links
       seeking-found s = let q : u ≡ firstAt loc w = sym (seeking-node .foremost) ∙ first-alike u w s in (q, trees-skip links w T (λ z. omega (arith, q, z, seeking-node .known)))
 
-    pub seeking-end : (slot digits x : ℕ) → Seeking links w slot digits → at links slot ≡ 0 → x ≡ w + 1 → w < 1024 → (w ≡ firstAt loc w) × Trees loc (w + 1) (set links slot x)
+    pub seeking-end : (slot digits x : ℕ) → Seeking links w slot digits → at links slot ≡ 0 → x ≡ w + 1 → w < limits .stops → (w ≡ firstAt loc w) × Trees loc (w + 1) (set links slot x)
     seeking-end slot digits x S z ex m = let q : firstAt loc w ≡ w = none in (sym q, trees-more links w T slot digits x S z q ex m)
       where
         none : firstAt loc w ≡ w
@@ -171,23 +180,23 @@ module _ (loc : ℕ → ℕ) (n : ℕ) where
 
   -- the stops from w on have their next ones, and `latest` has the first stop from w on of each location
   pub record Nexting (next₀ latest next : List ℕ) (w : ℕ) : Type 0 where
-    pub latest-size : length latest ≡ 1024
+    pub latest-size : length latest ≡ limits .stops
     pub next-size : length next ≡ length next₀
-    pub ahead : (g : ℕ) → g < 1024 → at latest g ≡ fromOn loc n w g
+    pub ahead : (g : ℕ) → g < limits .stops → at latest g ≡ fromOn loc n w g
     pub done : (v : ℕ) → w ≤ v → v < n → at next v ≡ nextAt loc n v
     pub rest : (v : ℕ) → n ≤ v → at next v ≡ at next₀ v
 
-  pub nexting-none : (next₀ : List ℕ) → Nexting next₀ (replicate 1024 n) next₀ n
+  pub nexting-none : (next₀ : List ℕ) → Nexting next₀ (replicate (limits .stops) n) next₀ n
   nexting-none next₀ = record {
-    latest-size = length-replicate 1024 n;
+    latest-size = length-replicate (limits .stops) n;
     next-size = refl;
-    ahead = λ g l. getD-replicate 1024 g n 0 l ∙ sym (from-end g);
+    ahead = λ g l. getD-replicate (limits .stops) g n 0 l ∙ sym (from-end g);
     done = λ v a b. absurd (omega arith);
     rest = λ v a. refl;
   }
 
   -- stop k, at f, is the first of its location from k on, and its next one was that before
-  pub nexting-more : (next₀ latest next : List ℕ) (w k f x : ℕ) → Nexting next₀ latest next w → w ≡ k + 1 → k < n → n ≤ length next₀ → f ≡ loc k → f < 1024 → x ≡ at latest f
+  pub nexting-more : (next₀ latest next : List ℕ) (w k f x : ℕ) → Nexting next₀ latest next w → w ≡ k + 1 → k < n → n ≤ length next₀ → f ≡ loc k → f < limits .stops → x ≡ at latest f
       → Nexting next₀ (set latest f k) (set next k x) k
   nexting-more next₀ latest next w k f x N e l r ef i ex = record {
     latest-size = length-set latest f k ∙ N .latest-size;

@@ -13,8 +13,8 @@ use Rattle.below.proofs.Members.{in-head}
 use Rattle.below.proofs.Tests.{by-cases, true-or-false, or-left, or-right}
 use Rattle.precedence.specs.Graph.{FormedWait, Formed, cyclic, Cycle, Rising}
 use Rattle.precedence.proofs.Visits.{rising-acyclic, acyclic-iff}
-use Rattle.plan.specs.Field.{Dependency, FieldPlan, inForce, waitOf, flipAll, graph, fixed, GoneBefore, Checked, Meeting, AcceptedPlan}
-use Rattle.plan.specs.Claims.{unturned, TurnRules, GroupRules, Unfixed, PlannedGraph}
+use Rattle.plan.specs.Field.{Dependency, FieldPlan, Status, asPlanned, inForce, waitOf, flipAll, graph, fixed, GoneBefore, Checked, Meeting, AcceptedPlan}
+use Rattle.plan.specs.Claims.{TurnRules, GroupRules, Unfixed, PlannedGraph}
 
 -- ---- what a turn of a list changes
 
@@ -29,24 +29,24 @@ not-not false = refl
 flipAll-twice : (t : ℕ → Bool) (ws : List ℕ) (v : ℕ) → flipAll (flipAll t ws) ws v ≡ t v
 flipAll-twice t ws v = by-cases (isIn v ws) (λ e. rw e (not-not (t v))) (λ e. rw e refl)
 
-pub group-rules : (F : FieldPlan) (t : ℕ → Bool) (ws : List ℕ) → GroupRules F t ws
-group-rules F t ws = record {
+pub group-rules : (F : FieldPlan) (s : Status) (ws : List ℕ) → GroupRules F s ws
+group-rules F s ws = record {
   turned-rules = λ w i e. ap (λ (b : Bool). waitOf (inForce b (F .dependency w))) (named w i ∙ ap not e);
   other-rules = λ v i. ap (λ (b : Bool). waitOf (inForce b (F .dependency v))) (other v i);
-  turned-twice = ap (graph F) (fun-ext (flipAll-twice t ws));
+  turned-twice = ap (λ (turned : ℕ → Bool). graph F (record { place = s .place; underWay = s .underWay; turned = turned })) (fun-ext (flipAll-twice (s .turned) ws));
 }
   where
-    named : (w : ℕ) → isIn w ws ≡ true → flipAll t ws w ≡ not (t w)
+    named : (w : ℕ) → isIn w ws ≡ true → flipAll (s .turned) ws w ≡ not (s .turned w)
     named w i = rw i refl
 
-    other : (v : ℕ) → isIn v ws ≡ false → flipAll t ws v ≡ t v
+    other : (v : ℕ) → isIn v ws ≡ false → flipAll (s .turned) ws v ≡ s .turned v
     other v i = rw i refl
 
 -- one turn is the list of length one
-pub turn-rules : (F : FieldPlan) (t : ℕ → Bool) (w : ℕ) → TurnRules F t w
+pub turn-rules : (F : FieldPlan) (s : Status) (w : ℕ) → TurnRules F s w
 unfolding isIn
-turn-rules F t w =
-    let g = group-rules F t (w ∷ []) in
+turn-rules F s w =
+    let g = group-rules F s (w ∷ []) in
     record {
       planned-rule = λ e. ap (λ (b : Bool). waitOf (inForce b (F .dependency w))) e;
       turned-rule = g .turned-rules w (in-head w []);
@@ -75,32 +75,32 @@ module _ (F : FieldPlan) (accepted : AcceptedPlan F) where
       (λ e. let z : time (x .second) (x .secondStop) ≡ 0 = rw (eqb-true (x .secondStop) 0 e) (accepted .checked .starts (x .second) (m .second-in)) in absurd (omega (arith, gone-before F (accepted .checked) x m .in-time)))
       (λ e. let n : x .secondStop ≢ 0 = eqb-false (x .secondStop) 0 e in omega arith)
 
-  formed-either : (w : ℕ) → w < count → (b : Bool) → (b ≡ true → fixed F w ≡ false) → (t : ℕ → Bool) → FormedWait (graph F t) (waitOf (inForce b (dependency w)))
-  formed-either w l false u t =
+  formed-either : (w : ℕ) → w < count → (b : Bool) → (b ≡ true → fixed F w ≡ false) → (s : Status) → FormedWait (graph F s) (waitOf (inForce b (dependency w)))
+  formed-either w l false u s =
       let m : Meeting F (dependency w) = accepted .each w l in
       record { waiter-in = m .second-in; stop-pos = second-comes (dependency w) m; stop-in = m .second-stop-in; awaited-in = m .first-in; until-in = gone-before F (accepted .checked) (dependency w) m .goes-on }
-  formed-either w l true u t =
+  formed-either w l true u s =
       let m : Meeting F (dependency w) = accepted .each w l in
       let f : fixed F w ≡ false = u refl in
       let z : dependency w .firstStop ≢ 0 = eqb-false _ _ (or-left _ _ f) in
       let n : dependency w .secondStop ≢ last (dependency w .second) = eqb-false _ _ (or-right (eqb (dependency w .firstStop) 0) _ f) in
       record { waiter-in = m .first-in; stop-pos = omega arith; stop-in = m .first-stop-in; awaited-in = m .second-in; until-in = omega (arith, m .second-stop-in) }
 
-  pub graph-formed : (t : ℕ → Bool) → Unfixed F t → Formed (graph F t)
-  graph-formed t u w l = formed-either w l (t w) (u w l) t
+  pub graph-formed : (s : Status) → Unfixed F s → Formed (graph F s)
+  graph-formed s u w l = formed-either w l (s .turned w) (u w l) s
 
-  pub none-unfixed : Unfixed F unturned
+  pub none-unfixed : Unfixed F asPlanned
   none-unfixed w l e = true-or-false e refl
 
   -- planned times rise along every edge
-  pub planned-rising : Rising (graph F unturned) time
+  pub planned-rising : Rising (graph F asPlanned) time
   planned-rising = record { own-rises = accepted .checked .rises; wait-rises = λ w l. gone-before F (accepted .checked) (dependency w) (accepted .each w l) .in-time }
 
-  pub planned-no-cycle : Cycle (graph F unturned) → ⊥
-  planned-no-cycle = rising-acyclic (graph F unturned) planned-rising
+  pub planned-no-cycle : Cycle (graph F asPlanned) → ⊥
+  planned-no-cycle = rising-acyclic (graph F asPlanned) planned-rising
 
-  pub planned-acyclic : cyclic (graph F unturned) ≡ false
-  planned-acyclic = acyclic-iff (graph F unturned) (graph-formed unturned none-unfixed) .1 planned-no-cycle
+  pub planned-acyclic : cyclic (graph F asPlanned) ≡ false
+  planned-acyclic = acyclic-iff (graph F asPlanned) (graph-formed asPlanned none-unfixed) .1 planned-no-cycle
 
   pub planned-graph : PlannedGraph F
   planned-graph = record { formed = graph-formed; no-cycle = planned-no-cycle; acyclic = planned-acyclic }

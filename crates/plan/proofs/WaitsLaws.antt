@@ -42,7 +42,7 @@ module _ (turned : Bool) (first firstStop second secondStop : ℕ) (p : ℕ → 
 
 -- ---- the search over the entries: entry w of the columns blocks drone d
 unfoldable pub blocksAt : (m : ℕ) (c : Columns) (visited : List ℕ) (d w : ℕ) → Bool
-blocksAt m c visited d w = blocks (graph (planIn m c) (λ w. turnedBit (at (c .flags) w))) (at visited) d w
+blocksAt m c visited d w = blocks (graph (planIn m c) (statusOf c visited)) (at visited) d w
 
 module _ (m : ℕ) (c : Columns) (visited : List ℕ) (d : ℕ) where
   pub blocks-at : (w : ℕ) (r b : Bool) → r ≡ entryBlocks (turnedBit (at (c .flags) w)) (at (c .firstDrones) w) (at (c .firstStops) w) (at (c .secondDrones) w) (at (c .secondStops) w) (at visited) d → r ≡ b → blocksAt m c visited d w ≡ b

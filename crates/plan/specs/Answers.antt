@@ -5,6 +5,7 @@ use lib.Dec.{ltb, eqb}
 use Rattle.plan.specs.declared.check.StopAt.{StopAt}
 use Rattle.plan.specs.declared.check.PlanCheck.{PlanCheck}
 use Rattle.plan.specs.declared.check.PlanCheck.the-variants.{Fine, StartsLate, NotRising, SameLocation, Collision}
+use Rattle.plan.specs.Visits.{Visits}
 use Rattle.plan.specs.Check.{faultAt, firstFault, collider, partner}
 
 -- "7 stop 0 not at time 0; 8 time not above the one before; 9 same location as the one before", "10 collision"; 0 where the plan passes
@@ -28,11 +29,13 @@ stopAt own num v = record { drone = own v; stop = num v }
 unfoldable pub faultCase : ℕ → StopAt → PlanCheck
 faultCase number s = pickCheck (eqb number 7) (StartsLate s) (pickCheck (eqb number 8) (NotRising s) (SameLocation s))
 
-module _ (own num loc time : ℕ → ℕ) (n : ℕ) where
+module _ (S : Visits) where
+  open Visits S using (own, num, n)
+
   -- "plan check, stop by stop": the first stop at fault; "plan check, after all stops": the pair that collides
   unfoldable pub checkOf : PlanCheck
   checkOf =
-      let v = firstFault num loc time n in
-      let w = collider own loc time n in
-      pickCheck (ltb v n) (faultCase (faultAt num loc time v) (stopAt own num v))
-      (pickCheck (ltb w n) (Collision (stopAt own num w) (stopAt own num (partner own loc time n w))) Fine)
+      let v = firstFault S in
+      let w = collider S in
+      pickCheck (ltb v n) (faultCase (faultAt S v) (stopAt own num v))
+      (pickCheck (ltb w n) (Collision (stopAt own num w) (stopAt own num (partner S w))) Fine)

@@ -1,36 +1,34 @@
--- The plan check over stops that are numbered through (document 01, "The plan check"; source document 004, Definition 1 and Assumption 1). `own` is a stop's
--- drone, `num` its number there, `loc` its location, `time` its time; n stops. Assumes nothing.
+-- The plan check over stops that are numbered through (document 01, "The plan check"; source document 004, Definition 1 and Assumption 1). Assumes nothing.
 use mathlib.Core.Bool.{Bool, true, false, cond, not, _&&_}
 use Prim.Native.Nat.{ℕ, suc, _+_, _-_, _≤_, _<_}
 use lib.Dec.{ltb, leb, eqb}
 use Rattle.below.specs.Below.{firstBelow, allBelow}
-
--- when two locations count as one: "at one location"
-abbrev pub meets : ℕ → ℕ → Bool
-meets a b = eqb a b
-
--- ---- stop by stop
-
--- the number of the refusal at stop v, 0 where there is none: "7 stop 0 not at time 0; 8 time not above the one before; 9 same location as the one before"
-unfoldable pub faultAt : (num loc time : ℕ → ℕ) → ℕ → ℕ
-faultAt num loc time v =
-    cond (eqb (num v) 0)
-    (cond (eqb (time v) 0) 0 7)
-    (cond (leb (time v) (time (v - 1))) 8
-    (cond (eqb (loc v) (loc (v - 1))) 9 0))
-
--- the first of n stops at fault, or n
-unfoldable pub firstFault : (num loc time : ℕ → ℕ) (n : ℕ) → ℕ
-firstFault num loc time n = firstBelow n (λ v. not (eqb (faultAt num loc time v) 0))
-
--- ---- collisions
+use Rattle.plan.specs.Visits.{Visits}
 
 -- "A drone occupies a stop's location from its time to the time of its next stop, both included. It occupies its last location for ever": of n stops, the span
 -- of v is over before the time t
 unfoldable pub over : (own time : ℕ → ℕ) (n : ℕ) → ℕ → ℕ → Bool
 over own time n v t = ltb (v + 1) n && (eqb (own (v + 1)) (own v) && ltb (time (v + 1)) t)
 
-module _ (own loc time : ℕ → ℕ) (n : ℕ) where
+module _ (S : Visits) where
+  open Visits S using (own, num, loc, time, meets, n)
+
+  -- ---- stop by stop
+
+  -- the number of the refusal at stop v, 0 where there is none: "7 stop 0 not at time 0; 8 time not above the one before; 9 same location as the one before"
+  unfoldable pub faultAt : ℕ → ℕ
+  faultAt v =
+      cond (eqb (num v) 0)
+      (cond (eqb (time v) 0) 0 7)
+      (cond (leb (time v) (time (v - 1))) 8
+      (cond (eqb (loc v) (loc (v - 1))) 9 0))
+
+  -- the first stop at fault, or n
+  unfoldable pub firstFault : ℕ
+  firstFault = firstBelow n (λ v. not (eqb (faultAt v) 0))
+
+  -- ---- collisions
+
   -- "Two drones collide when two such spans at one location share a timestep": v and w, the lower-numbered drone first
   unfoldable pub collide : ℕ → ℕ → Bool
   collide v w = ltb (own v) (own w) && (meets (loc v) (loc w) && (not (over own time n v (time w)) && not (over own time n w (time v))))

@@ -8,9 +8,10 @@ use Rattle.below.specs.Below.{at, isIn}
 use Rattle.tables.specs.Tables.{PlanLists, drones, dependencies}
 use Rattle.precedence.specs.Graph.{Formed, cyclic, Cycle}
 use Rattle.plan.specs.Stops.{start, owner, number}
+use Rattle.plan.specs.Visits.{Visits, visits}
 use Rattle.plan.specs.Check.{firstFault, collide, partner, collider, apart}
 use Rattle.plan.specs.Dependencies.{dependencyTotal, column, flagOf}
-use Rattle.plan.specs.Field.{Dependency, FieldPlan, before, flip, flipAll, graph, fixed, Checked, AcceptedPlan, planOf}
+use Rattle.plan.specs.Field.{Dependency, FieldPlan, Status, asPlanned, before, afterTurn, afterTurns, graph, fixed, Checked, AcceptedPlan, planOf}
 
 -- ---- the stops of all drones, numbered through
 
@@ -48,37 +49,40 @@ module _ (p : PlanLists) where
   abbrev pub timeIn : ℕ → ℕ
   timeIn = at (p .times)
 
+  abbrev pub visitsIn : Visits
+  visitsIn = visits ownerIn numberIn locationIn timeIn stopTotal
+
   -- "stops M of one drone: 1 to ..": each drone has a stop
   abbrev pub HaveStops : Type 0
   HaveStops = (d : ℕ) → d < drones p → 1 ≤ at (p .stopCounts) d
 
   -- no stop is at fault: 7, 8 and 9 are not said
   abbrev pub NoFault : Type 0
-  NoFault = firstFault numberIn locationIn timeIn stopTotal ≡ stopTotal
+  NoFault = firstFault visitsIn ≡ stopTotal
 
   -- no two drones collide: 10 is not said
   abbrev pub NoCollision : Type 0
-  NoCollision = apart ownerIn locationIn timeIn stopTotal ≡ true
+  NoCollision = apart visitsIn ≡ true
 
   -- the stop that a collision is reported at, or the number of stops
   abbrev pub colliderIn : ℕ
-  colliderIn = collider ownerIn locationIn timeIn stopTotal
+  colliderIn = collider visitsIn
 
   -- the two stops of a collision that is reported: "10 gives two of each, the pair with the lowest lower-numbered drone, then its stop, then the other drone,
   -- then its stop"
   pub record Reported (v w : ℕ) : Type 0 where
     pub first-in : v < stopTotal
     pub second-in : w < stopTotal
-    pub collision : collide ownerIn locationIn timeIn stopTotal v w ≡ true
-    pub lowest : (x y : ℕ) → x < stopTotal → y < stopTotal → collide ownerIn locationIn timeIn stopTotal x y ≡ true → ((v ≡ x) × (w ≡ y)) ⊎ (before (pair ownerIn numberIn v w) (pair ownerIn numberIn x y) ≡ true)
+    pub collision : collide visitsIn v w ≡ true
+    pub lowest : (x y : ℕ) → x < stopTotal → y < stopTotal → collide visitsIn x y ≡ true → ((v ≡ x) × (w ≡ y)) ⊎ (before (pair ownerIn numberIn v w) (pair ownerIn numberIn x y) ≡ true)
 
   -- f of the plan's dependency k, (v, w) being its two stops
   abbrev pub planned : (ℕ → ℕ → ℕ) → ℕ → ℕ
-  planned f = at (column ownerIn locationIn timeIn stopTotal f)
+  planned f = at (column visitsIn f)
 
   -- "the dependencies are exactly its own, in order"
   pub record HoldsPlanned : Type 0 where
-    pub total : dependencies p ≡ dependencyTotal ownerIn locationIn timeIn stopTotal
+    pub total : dependencies p ≡ dependencyTotal visitsIn
     pub first-drones : (k : ℕ) → k < dependencies p → at (p .firstDrones) k ≡ planned (λ v w. ownerIn v) k
     pub first-stops : (k : ℕ) → k < dependencies p → at (p .firstStops) k ≡ planned (λ v w. numberIn v) k
     pub second-drones : (k : ℕ) → k < dependencies p → at (p .secondDrones) k ≡ planned (λ v w. ownerIn w) k
@@ -91,14 +95,14 @@ pub record AcceptedClaims : Type 0 where
   pub accepted-exactly : (p : PlanLists) → HaveStops p → (NoFault p × NoCollision p × HoldsPlanned p) ↔ AcceptedPlan (planOf p)
   -- a collision is reported exactly when there is one, and it is the lowest
   pub reported-exactly : (p : PlanLists) → NoCollision p ↔ (colliderIn p ≡ stopTotal p)
-  pub reported : (p : PlanLists) → HaveStops p → colliderIn p < stopTotal p → Reported p (colliderIn p) (partner (ownerIn p) (locationIn p) (timeIn p) (stopTotal p) (colliderIn p))
+  pub reported : (p : PlanLists) → HaveStops p → colliderIn p < stopTotal p → Reported p (colliderIn p) (partner (visitsIn p) (colliderIn p))
   -- the flag byte that is planned for a dependency is right
   pub right-flags : (p : PlanLists) → HaveStops p → HoldsPlanned p → (k : ℕ) → k < dependencies p → planned p (flagOf (ownerIn p) (numberIn p) (stopTotal p)) k ≡ cond (fixed (planOf p) k) 2 0
 
 -- ---- collisions by timesteps (source document 004, Definition 1 and Assumption 1)
 
 module _ (F : FieldPlan) where
-  open FieldPlan F using (drones, last, location, time)
+  open FieldPlan F using (drones, last, location, time, meets)
 
   -- the plan check stop by stop: what refusals 7, 8 and 9 ask
   pub record StopsChecked : Type 0 where
@@ -130,9 +134,9 @@ module _ (F : FieldPlan) where
     pub then : time d (suc stop) ≡ t
 
   -- 004, Definition 1: "We say two agents i, j collide if either of the following happens: 1. i and j are at the same location at the same timestep.
-  -- 2. i leaves a location l at a timestep t and j enters the same location l at the timestep t."
+  -- 2. i leaves a location l at a timestep t and j enters the same location l at the timestep t." Two locations are the same here where they meet
   abbrev pub Collides : ℕ → ℕ → Type 0
-  Collides i j = (l : ℕ) × (t : ℕ) × ((IsAt i l t × IsAt j l t) ⊎ (Leaves i l t × Enters j l t))
+  Collides i j = (l : ℕ) × (m : ℕ) × (t : ℕ) × (meets l m ≡ true) × ((IsAt i l t × IsAt j m t) ⊎ (Leaves i l t × Enters j m t))
 
   -- "A drone occupies a stop's location from its time to the time of its next stop, both included. It occupies its last location for ever."
   pub record Occupies (d l t : ℕ) : Type 0 where
@@ -144,7 +148,7 @@ module _ (F : FieldPlan) where
 
   -- "two such spans at one location share a timestep"
   abbrev pub SpansShare : ℕ → ℕ → Type 0
-  SpansShare i j = (l : ℕ) × (t : ℕ) × Occupies i l t × Occupies j l t
+  SpansShare i j = (l : ℕ) × (m : ℕ) × (t : ℕ) × (meets l m ≡ true) × Occupies i l t × Occupies j m t
 
   -- in one timestep two drones move each to the location of the other
   pub record Swaps (i j : ℕ) : Type 0 where
@@ -167,47 +171,43 @@ pub record Definition1 : Type 0 where
   pub spans : (p : PlanLists) → HaveStops p → NoFault p → NoCollision p ↔ Never (planOf p) (SpansShare (planOf p))
   -- in each timestep a drone is at one location
   pub one-location : (F : FieldPlan) → StopsChecked F → (d t : ℕ) → d < F .drones → (l : ℕ) × IsAt F d l t × ((m : ℕ) → IsAt F d m t → l ≡ m)
-  pub swap-covered : (F : FieldPlan) (i j : ℕ) → Swaps F i j → Collides F i j
+  pub swap-covered : (F : FieldPlan) → ((l : ℕ) → F .meets l l ≡ true) → (i j : ℕ) → Swaps F i j → Collides F i j
 
 -- ---- the graph
-
--- "nothing is turned"
-abbrev pub unturned : ℕ → Bool
-unturned w = false
 
 module _ (F : FieldPlan) where
   open FieldPlan F using (count, dependency)
 
   -- the rule of dependency w, and what a turn of it does to the rules
-  pub record TurnRules (turned : ℕ → Bool) (w : ℕ) : Type 0 where
+  pub record TurnRules (s : Status) (w : ℕ) : Type 0 where
     -- "If drone j is there first at its stop s and drone i later at its stop k, then i may enter stop k only after j has visited stop s+1"
-    pub planned-rule : turned w ≡ false → graph F turned .wait w ≡ record { waiter = dependency w .second; stop = dependency w .secondStop; awaited = dependency w .first; until = suc (dependency w .firstStop) }
+    pub planned-rule : s .turned w ≡ false → graph F s .wait w ≡ record { waiter = dependency w .second; stop = dependency w .secondStop; awaited = dependency w .first; until = suc (dependency w .firstStop) }
     -- "Turning the dependency makes the rule: j may enter s only after i has visited k+1"
-    pub turned-rule : turned w ≡ false → graph F (flip turned w) .wait w ≡ record { waiter = dependency w .first; stop = dependency w .firstStop; awaited = dependency w .second; until = suc (dependency w .secondStop) }
+    pub turned-rule : s .turned w ≡ false → graph F (afterTurn s w) .wait w ≡ record { waiter = dependency w .first; stop = dependency w .firstStop; awaited = dependency w .second; until = suc (dependency w .secondStop) }
     -- every other dependency keeps its rule
-    pub other-rules : (v : ℕ) → v ≢ w → graph F (flip turned w) .wait v ≡ graph F turned .wait v
+    pub other-rules : (v : ℕ) → v ≢ w → graph F (afterTurn s w) .wait v ≡ graph F s .wait v
     -- "Turning twice gives the first rule again"
-    pub turned-twice : graph F (flip (flip turned w) w) ≡ graph F turned
+    pub turned-twice : graph F (afterTurn (afterTurn s w) w) ≡ graph F s
 
   -- the same of a turn of a list, all at once
-  pub record GroupRules (turned : ℕ → Bool) (ws : List ℕ) : Type 0 where
-    pub turned-rules : (w : ℕ) → isIn w ws ≡ true → turned w ≡ false → graph F (flipAll turned ws) .wait w ≡ record { waiter = dependency w .first; stop = dependency w .firstStop; awaited = dependency w .second; until = suc (dependency w .secondStop) }
-    pub other-rules : (v : ℕ) → isIn v ws ≡ false → graph F (flipAll turned ws) .wait v ≡ graph F turned .wait v
-    pub turned-twice : graph F (flipAll (flipAll turned ws) ws) ≡ graph F turned
+  pub record GroupRules (s : Status) (ws : List ℕ) : Type 0 where
+    pub turned-rules : (w : ℕ) → isIn w ws ≡ true → s .turned w ≡ false → graph F (afterTurns s ws) .wait w ≡ record { waiter = dependency w .first; stop = dependency w .firstStop; awaited = dependency w .second; until = suc (dependency w .secondStop) }
+    pub other-rules : (v : ℕ) → isIn v ws ≡ false → graph F (afterTurns s ws) .wait v ≡ graph F s .wait v
+    pub turned-twice : graph F (afterTurns (afterTurns s ws) ws) ≡ graph F s
 
   -- a dependency of the stop s of drone d and the stop k of drone e, whichever is there first
   abbrev pub Between : ℕ → ℕ → ℕ → ℕ → Dependency → Type 0
   Between d s e k x = (x ≡ record { first = d; firstStop = s; second = e; secondStop = k }) ⊎ (x ≡ record { first = e; firstStop = k; second = d; secondStop = s })
 
   -- "none of the fixed ones turned"
-  abbrev pub Unfixed : (ℕ → Bool) → Type 0
-  Unfixed turned = (w : ℕ) → w < count → turned w ≡ true → fixed F w ≡ false
+  abbrev pub Unfixed : Status → Type 0
+  Unfixed s = (w : ℕ) → w < count → s .turned w ≡ true → fixed F w ≡ false
 
   -- the graph of an accepted plan names only stops that are there, whatever is turned but fixed ones; as planned it has no cycle
   pub record PlannedGraph : Type 0 where
-    pub formed : (turned : ℕ → Bool) → Unfixed turned → Formed (graph F turned)
-    pub no-cycle : Cycle (graph F unturned) → ⊥
-    pub acyclic : cyclic (graph F unturned) ≡ false
+    pub formed : (s : Status) → Unfixed s → Formed (graph F s)
+    pub no-cycle : Cycle (graph F asPlanned) → ⊥
+    pub acyclic : cyclic (graph F asPlanned) ≡ false
 
   -- "Two visits of one location by different drones make exactly one dependency"
   pub record OneDependency (d s e k : ℕ) : Type 0 where
@@ -218,7 +218,7 @@ module _ (F : FieldPlan) where
 
 -- the dependencies of an accepted plan, what a turn does, and the graph as planned
 pub record GraphClaims : Type 0 where
-  pub one-dependency : (F : FieldPlan) → AcceptedPlan F → (d s e k : ℕ) → d < F .drones → s ≤ F .last d → e < F .drones → k ≤ F .last e → d ≢ e → F .location d s ≡ F .location e k → OneDependency F d s e k
-  pub turn-rules : (F : FieldPlan) (turned : ℕ → Bool) (w : ℕ) → TurnRules F turned w
-  pub group-rules : (F : FieldPlan) (turned : ℕ → Bool) (ws : List ℕ) → GroupRules F turned ws
+  pub one-dependency : (F : FieldPlan) → AcceptedPlan F → (d s e k : ℕ) → d < F .drones → s ≤ F .last d → e < F .drones → k ≤ F .last e → d ≢ e → F .meets (F .location d s) (F .location e k) ≡ true → OneDependency F d s e k
+  pub turn-rules : (F : FieldPlan) (s : Status) (w : ℕ) → TurnRules F s w
+  pub group-rules : (F : FieldPlan) (s : Status) (ws : List ℕ) → GroupRules F s ws
   pub planned-graph : (F : FieldPlan) → AcceptedPlan F → PlannedGraph F

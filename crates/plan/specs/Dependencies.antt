@@ -1,5 +1,5 @@
 -- The dependencies of a plan over stops that are numbered through, and what it is for a table of pairs of stops to be right (document 01, "The graph").
--- `own` is a stop's drone, `num` its number there, `loc` its location, `time` its time; n stops. Assumes nothing.
+-- Assumes nothing.
 use mathlib.Core.Path.{_≡_}
 use mathlib.Core.Bool.{Bool, not, cond, _&&_, _||_}
 use mathlib.Core.List.{List}
@@ -7,11 +7,8 @@ use Prim.Native.Nat.{ℕ, suc, _+_, _-_, _≤_, _<_}
 use lib.Dec.{ltb, leb, eqb}
 use lib.ListN.{getD}
 use Rattle.below.specs.Below.{allBelow, pairsOf, listed}
-use Rattle.plan.specs.Check.{meets, apart}
-
--- "Two visits of one location by different drones make exactly one dependency": v is there first and w later
-unfoldable pub follows : (own loc time : ℕ → ℕ) → ℕ → ℕ → Bool
-follows own loc time v w = not (eqb (own v) (own w)) && (meets (loc v) (loc w) && ltb (time v) (time w))
+use Rattle.plan.specs.Visits.{Visits}
+use Rattle.plan.specs.Check.{apart}
 
 -- of n stops, w is the last of its drone
 unfoldable pub isLast : (own : ℕ → ℕ) (n : ℕ) → ℕ → Bool
@@ -25,14 +22,20 @@ isFixed own num n v w = eqb (num v) 0 || isLast own n w
 unfoldable pub flagOf : (own num : ℕ → ℕ) (n : ℕ) → ℕ → ℕ → ℕ
 flagOf own num n v w = cond (isFixed own num n v w) 2 0
 
-module _ (own loc time : ℕ → ℕ) (n : ℕ) where
+module _ (S : Visits) where
+  open Visits S using (own, loc, time, meets, n)
+
+  -- "Two visits of one location by different drones make exactly one dependency": v is there first and w later
+  unfoldable pub follows : ℕ → ℕ → Bool
+  follows v w = not (eqb (own v) (own w)) && (meets (loc v) (loc w) && ltb (time v) (time w))
+
   -- how many dependencies there are
   abbrev pub dependencyTotal : ℕ
-  dependencyTotal = pairsOf (follows own loc time) n
+  dependencyTotal = pairsOf follows n
 
   -- f of each dependency (v, w): "in rising order of planned first drone, its stop, planned second drone, its stop", which is that of v and then of w
   abbrev pub column : (ℕ → ℕ → ℕ) → List ℕ
-  column f = listed (follows own loc time) n f
+  column f = listed follows n f
 
   -- the first m entries of xs and ys are the first and the second stops of the dependencies, in order
   unfoldable pub exact : ℕ → (ℕ → ℕ) → (ℕ → ℕ) → Bool
@@ -40,4 +43,4 @@ module _ (own loc time : ℕ → ℕ) (n : ℕ) where
 
   -- nothing collides, and the table is exact
   unfoldable pub right : ℕ → (ℕ → ℕ) → (ℕ → ℕ) → Bool
-  right m xs ys = apart own loc time n && exact m xs ys
+  right m xs ys = apart S && exact m xs ys

@@ -9,6 +9,7 @@ use lib.Dec.{ltb, eqb}
 use Rattle.below.specs.Below.{at, isIn}
 use Rattle.tables.specs.Tables.{PlanLists, drones as droneCountOf, dependencies as dependencyCountOf}
 use Rattle.plan.specs.Stops.{start}
+use Rattle.plan.specs.Visits.{sameLocation, Symmetric}
 use Rattle.precedence.specs.Graph.{Wait, departure, Plan}
 
 -- "drone j is there first at its stop s and drone i later at its stop k": first = j, firstStop = s, second = i, secondStop = k
@@ -18,14 +19,25 @@ pub record Dependency : Type 0 where
   pub second : ℕ
   pub secondStop : ℕ
 
--- drones 0 to drones - 1; drone d with the stops 0 to last d, each with a location and a time; dependencies 0 to count - 1, as planned
+-- drones 0 to drones - 1; drone d with the stops 0 to last d, each with a location and a time; which locations meet; dependencies 0 to count - 1, as planned
 pub record FieldPlan : Type 0 where
   pub drones : ℕ
   pub last : ℕ → ℕ
   pub location : ℕ → ℕ → ℕ
   pub time : ℕ → ℕ → ℕ
+  pub meets : ℕ → ℕ → Bool
   pub count : ℕ
   pub dependency : ℕ → Dependency
+
+-- where the drones are and what is turned: each drone's place (its last visited stop) and whether it is under way, and which dependencies are turned
+pub record Status : Type 0 where
+  pub place : ℕ → ℕ
+  pub underWay : ℕ → Bool
+  pub turned : ℕ → Bool
+
+-- "After an accepted reading nobody is under way and nothing is turned", and every drone is at its stop 0
+abbrev pub asPlanned : Status
+asPlanned = record { place = λ d. 0; underWay = λ d. false; turned = λ w. false }
 
 -- "first and second mean the order now in force": a turned dependency has first and second exchanged
 abbrev pub inForce : Bool → Dependency → Dependency
@@ -44,16 +56,27 @@ flip turned w v = cond (eqb v w) (not (turned v)) (turned v)
 abbrev pub flipAll : (ℕ → Bool) → List ℕ → ℕ → Bool
 flipAll turned ws v = cond (isIn v ws) (not (turned v)) (turned v)
 
+-- the status after a turn, and after one of a list
+abbrev pub afterTurn : Status → ℕ → Status
+afterTurn s w = record { place = s .place; underWay = s .underWay; turned = flip (s .turned) w }
+
+abbrev pub afterTurns : Status → List ℕ → Status
+afterTurns s ws = record { place = s .place; underWay = s .underWay; turned = flipAll (s .turned) ws }
+
 -- "in rising order of planned first drone, its stop, planned second drone, its stop"
 abbrev pub before : Dependency → Dependency → Bool
 before x y = ltb (x .first) (y .first) || eqb (x .first) (y .first) && (ltb (x .firstStop) (y .firstStop) || eqb (x .firstStop) (y .firstStop) && (ltb (x .second) (y .second) || eqb (x .second) (y .second) && ltb (x .secondStop) (y .secondStop)))
 
 module _ (F : FieldPlan) where
-  open FieldPlan F using (drones, last, location, time, count, dependency)
+  open FieldPlan F using (drones, last, location, time, meets, count, dependency)
 
   -- the graph now in force: drones with their stops, and one wait for each dependency
-  abbrev pub graph : (ℕ → Bool) → Plan
-  graph turned = record { drones = drones; last = last; count = count; wait = λ w. waitOf (inForce (turned w) (dependency w)) }
+  abbrev pub graph : Status → Plan
+  graph s = record { drones = drones; last = last; count = count; wait = λ w. waitOf (inForce (s .turned w) (dependency w)) }
+
+  -- the last stop of drone d that counts as visited where a wait asks for one
+  abbrev pub placeOf : Status → ℕ → ℕ
+  placeOf s d = s .place d
 
   -- "Fixed means that the planned first stop is stop 0 or the planned second stop is the last of its drone"
   abbrev pub fixed : ℕ → Bool
@@ -75,8 +98,10 @@ module _ (F : FieldPlan) where
     pub rises : (d s : ℕ) → d < drones → s < last d → time d s < time d (suc s)
     -- "Neighbouring stops of a drone have different locations"
     pub moves : (d s : ℕ) → d < drones → s < last d → location d s ≢ location d (suc s)
+    -- which locations meet does not depend on which is named first
+    pub symmetric : Symmetric meets
     -- no two spans at one location, of different drones, share a timestep: one ends before the other begins
-    pub no-collision : (d s e k : ℕ) → d < drones → s ≤ last d → e < drones → k ≤ last e → d ≢ e → location d s ≡ location e k → GoneBefore d s e k ⊎ GoneBefore e k d s
+    pub no-collision : (d s e k : ℕ) → d < drones → s ≤ last d → e < drones → k ≤ last e → d ≢ e → meets (location d s) (location e k) ≡ true → GoneBefore d s e k ⊎ GoneBefore e k d s
 
   -- "Two visits of one location by different drones make exactly one dependency", first is the one that is there first
   pub record Meeting (x : Dependency) : Type 0 where
@@ -85,7 +110,7 @@ module _ (F : FieldPlan) where
     pub second-in : x .second < drones
     pub second-stop-in : x .secondStop ≤ last (x .second)
     pub different : x .first ≢ x .second
-    pub one-location : location (x .first) (x .firstStop) ≡ location (x .second) (x .secondStop)
+    pub one-location : meets (location (x .first) (x .firstStop)) (location (x .second) (x .secondStop)) ≡ true
     pub there-first : time (x .first) (x .firstStop) ≤ time (x .second) (x .secondStop)
 
   -- the plan is accepted, and the dependencies are exactly its own, in order
@@ -95,12 +120,13 @@ module _ (F : FieldPlan) where
     pub every : (x : Dependency) → Meeting x → (w : ℕ) × (w < count) × (dependency w ≡ x)
     pub ordered : (v w : ℕ) → v < w → w < count → before (dependency v) (dependency w) ≡ true
 
--- two plans agree: the same drones, stops and dependencies, whatever their functions say of numbers that name none
+-- two plans agree: the same drones, stops, meeting locations and dependencies, whatever their functions say of numbers that name none
 pub record PlansAgree (F G : FieldPlan) : Type 0 where
   pub drones-agree : F .drones ≡ G .drones
   pub lasts-agree : (d : ℕ) → d < F .drones → F .last d ≡ G .last d
   pub locations-agree : (d s : ℕ) → d < F .drones → s ≤ F .last d → F .location d s ≡ G .location d s
   pub times-agree : (d s : ℕ) → d < F .drones → s ≤ F .last d → F .time d s ≡ G .time d s
+  pub meets-agree : (a b : ℕ) → F .meets a b ≡ G .meets a b
   pub counts-agree : F .count ≡ G .count
   pub dependencies-agree : (w : ℕ) → w < F .count → F .dependency w ≡ G .dependency w
 
@@ -111,6 +137,7 @@ planOf l = record {
   last = λ d. at (l .stopCounts) d - 1;
   location = λ d s. at (l .locations) (start (l .stopCounts) d + s);
   time = λ d s. at (l .times) (start (l .stopCounts) d + s);
+  meets = sameLocation;
   count = dependencyCountOf l;
   dependency = λ w. record { first = at (l .firstDrones) w; firstStop = at (l .firstStops) w; second = at (l .secondDrones) w; secondStop = at (l .secondStops) w };
 }

@@ -7,6 +7,7 @@ use Rattle.below.specs.Below.{at}
 use Rattle.plan.specs.declared.check.PlanCheck.{PlanCheck}
 use Rattle.plan.specs.declared.check.PlanCheck.the-variants.{Fine, Collision}
 use Rattle.plan.specs.Stops.{start, owner, number}
+use Rattle.plan.specs.Visits.{Visits, visits}
 use Rattle.plan.specs.Answers.{checkNumber, checkOf}
 use Rattle.plan.specs.Dependencies.{flagOf, column}
 
@@ -41,12 +42,15 @@ module _ (f : Flight) where
   abbrev total : ℕ
   total = start (f .counts) (length (f .counts))
 
+  abbrev visitsIn : Visits
+  visitsIn = visits own num (at (f .locations)) (at (f .times)) total
+
   -- the plan check's answer, and the flag bytes of the dependencies in their order
   abbrev pub checked : PlanCheck
-  checked = checkOf own num (at (f .locations)) (at (f .times)) total
+  checked = checkOf visitsIn
 
   abbrev pub flagsOf : List ℕ
-  flagsOf = column own (at (f .locations)) (at (f .times)) total (flagOf own num total)
+  flagsOf = column visitsIn (flagOf own num total)
 
 pub record Starred : Type 0 where
   -- "Q with the second drone's 5 at time 3: 10, since the first leaves in timestep 3. At 4: taken"

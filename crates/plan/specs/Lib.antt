@@ -1,4 +1,5 @@
 pub mod Stops
+pub mod Visits
 pub mod Check
 pub mod Sharing
 pub mod Answers

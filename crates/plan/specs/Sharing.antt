@@ -5,15 +5,14 @@ use mathlib.Core.Logic.{_≢_}
 use mathlib.Core.Bool.{_&&_}
 use mathlib.Core.List.{List}
 use Prim.Native.Nat.{ℕ, _+_, _*_, _/_, _%_, _<_}
-use lib.Dec.{ltb}
+use lib.Dec.{ltb, eqb}
 use lib.ListN.{length}
 use Rattle.below.specs.Below.{at, firstBelow}
 use Rattle.tables.specs.Limits.{limits}
-use Rattle.plan.specs.Check.{meets}
 
--- how many trees there are, and how many slots: a root for each tree and two branches for each stop
+-- how many trees there are, as many as stops at most, and how many slots: a root for each tree and two branches for each stop
 abbrev pub roots : ℕ
-roots = 1024
+roots = limits .stops
 
 abbrev pub slots : ℕ
 slots = roots + 2 * limits .stops
@@ -30,7 +29,7 @@ branch x digits = roots + 2 * x + digits % 2
 module _ (loc : ℕ → ℕ) where
   -- the first stop at the location of v
   unfoldable pub firstAt : ℕ → ℕ
-  firstAt v = firstBelow v (λ u. meets (loc u) (loc v))
+  firstAt v = firstBelow v (λ u. eqb (loc u) (loc v))
 
   -- the search of location l leads from a slot to stop u. `links` has at each slot one more than the number of the stop there, and 0 is none
   pub data Leads (links : List ℕ) (l : ℕ) : (slot digits u : ℕ) → Type 0 where
@@ -51,7 +50,7 @@ module _ (loc : ℕ → ℕ) where
 
   -- the next stop at the location of v, of n stops; n if there is none
   unfoldable pub nextAt : ℕ → ℕ → ℕ
-  nextAt n v = firstBelow n (λ u. ltb v u && meets (loc u) (loc v))
+  nextAt n v = firstBelow n (λ u. ltb v u && eqb (loc u) (loc v))
 
   -- `first` has the first stop at the location of each of n stops, `next` the next one there
   pub record Groups (n : ℕ) (first next : List ℕ) : Type 0 where

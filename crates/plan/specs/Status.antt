@@ -1,4 +1,4 @@
--- Where the drones are and what is turned: the state that calls change (document 01, "Tables and what is sound"). Assumes nothing.
+-- The status in lent tables, and what is asked of it: the state that calls change (document 01, "Tables and what is sound"). Assumes nothing.
 use mathlib.Core.Bool.{Bool, not, _&&_, _||_}
 use Prim.Native.Nat.{ℕ, suc}
 use lib.Dec.{leb, ltb, eqb}
@@ -6,13 +6,7 @@ use Rattle.below.specs.Below.{firstBelow, allBelow, at}
 use Rattle.tables.specs.Tables.{Tables}
 use Rattle.tables.specs.Flags.{turnedBit, underWayBit}
 use Rattle.precedence.specs.Graph.{Plan, blocks}
-use Rattle.plan.specs.Field.{Dependency, FieldPlan, inForce, graph, fixed}
-
--- each drone's place (its last visited stop) and whether it is under way, and which dependencies are turned
-pub record Status : Type 0 where
-  pub place : ℕ → ℕ
-  pub underWay : ℕ → Bool
-  pub turned : ℕ → Bool
+use Rattle.plan.specs.Field.{Dependency, FieldPlan, Status, inForce, graph, placeOf, fixed}
 
 -- "A drone's progress is its last visited stop (0 at first) and whether it is under way to the next"; "bit 0 is turned"
 abbrev pub statusIn : Tables → Status
@@ -28,7 +22,7 @@ module _ (F : FieldPlan) (s : Status) where
 
   -- "the lowest dependency unmet" into the drone's next stop; the number of dependencies if there is none
   abbrev pub unmet : ℕ → ℕ
-  unmet d = firstBelow count (blocks (graph F turned) place d)
+  unmet d = firstBelow count (blocks (graph F s) (placeOf F s) d)
 
   -- the dependency as the order now in force has it
   abbrev pub now : ℕ → Dependency
@@ -46,4 +40,4 @@ module _ (F : FieldPlan) (s : Status) where
 
   -- "for every dependency whose waiting stop is visited or under way, the stop it waits for is visited"
   unfoldable pub waitsKept : Bool
-  waitsKept = allBelow count (λ w. not (entered (graph F turned .wait w .waiter) (graph F turned .wait w .stop)) || leb (graph F turned .wait w .until) (place (graph F turned .wait w .awaited)))
+  waitsKept = allBelow count (λ w. not (entered (graph F s .wait w .waiter) (graph F s .wait w .stop)) || leb (graph F s .wait w .until) (placeOf F s (graph F s .wait w .awaited)))

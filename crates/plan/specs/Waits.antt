@@ -6,8 +6,8 @@ use lib.Dec.{ltb, eqb}
 use Rattle.below.specs.Below.{at}
 use Rattle.tables.specs.Flags.{turnedBit}
 use Rattle.precedence.specs.Graph.{Wait}
-use Rattle.plan.specs.Field.{FieldPlan, inForce, waitOf}
-use Rattle.plan.specs.Status.{Status}
+use Rattle.plan.specs.Visits.{sameLocation}
+use Rattle.plan.specs.Field.{FieldPlan, Status, inForce, waitOf}
 use Rattle.plan.specs.Columns.{Columns}
 
 -- a wait into the next stop of drone d whose awaited stop is not visited: `blocks` of the plan graph, for one wait
@@ -25,6 +25,7 @@ planIn count c = record {
   last = λ d. 0;
   location = λ d s. 0;
   time = λ d s. 0;
+  meets = sameLocation;
   count = count;
   dependency = λ w. record { first = at (c .firstDrones) w; firstStop = at (c .firstStops) w; second = at (c .secondDrones) w; secondStop = at (c .secondStops) w };
 }

@@ -1,10 +1,13 @@
 // The plan check over stops that are numbered through: each stop by itself, then collisions, for which only the stops at one location are compared.
+use crate::meeting::meets;
 use crate::sharing;
 use tables::entries::Stop;
 ghost use mathlib.Core.Path.{_≡_};
-ghost use Prim.Native.Nat.{_-_, _≤_, _<_};
+ghost use mathlib.Core.List.{List};
+ghost use Prim.Native.Nat.{ℕ, _-_, _≤_, _<_};
 ghost use lib.ListN.{length};
 ghost use Rattle.below.specs.Below.{at};
+ghost use Rattle.plan.specs.Visits.{visitsOf};
 ghost use Rattle.plan.specs.Check.{faultAt, firstFault, over, collide, partner, collider};
 ghost use Rattle.plan.specs.Sharing.{Groups};
 ghost use Rattle.plan.specs.Answers.{stopAt, faultCase, checkOf};
@@ -33,9 +36,9 @@ fn previous(v: usize) -> usize
 }
 
 // The refusal's number at stop v, 0 where there is none.
-fn fault_at(numbers: &[u16], locations: &[u16], times: &[u32], v: usize) -> u8
+pub fn fault_at(numbers: &[u16], locations: &[u16], times: &[u32], v: usize) -> u8
     requires { ⌜ (v < length (now numbers)) × (v < length (now locations)) × (v < length (now times)) ⌝ }
-    ensures { λ r. ⌜ r ≡ faultAt (at (now (numbers .entry))) (at (now (locations .entry))) (at (now (times .entry))) v ⌝ }
+    ensures { λ r. ⌜ ((owners : List ℕ) (n : ℕ) → r ≡ faultAt (visitsOf owners (now (numbers .entry)) (now (locations .entry)) (now (times .entry)) n) v) ⌝ }
 {
     if numbers[v] == 0 {
         return if times[v] == 0 { 0 } else { 7 };
@@ -53,7 +56,7 @@ fn fault_at(numbers: &[u16], locations: &[u16], times: &[u32], v: usize) -> u8
 // The first of n stops at fault, or n.
 fn first_fault(numbers: &[u16], locations: &[u16], times: &[u32], n: usize) -> usize
     requires { ⌜ (n ≤ length (now numbers)) × (n ≤ length (now locations)) × (n ≤ length (now times)) ⌝ }
-    ensures { λ r. ⌜ r ≡ firstFault (at (now (numbers .entry))) (at (now (locations .entry))) (at (now (times .entry))) n ⌝ }
+    ensures { λ r. ⌜ ((owners : List ℕ) → r ≡ firstFault (visitsOf owners (now (numbers .entry)) (now (locations .entry)) (now (times .entry)) n)) ⌝ }
 {
     let mut v = 0;
     while v < n {
@@ -83,12 +86,12 @@ pub fn over_at(owners: &[u8], times: &[u32], n: usize, v: usize, t: u32) -> bool
 // Whether v collides with w, of a higher drone.
 fn collide_at(owners: &[u8], locations: &[u16], times: &[u32], n: usize, v: usize, w: usize) -> bool
     requires { ⌜ VisitsRoom n (now owners) (now locations) (now times) × (v < n) × (w < n) ⌝ }
-    ensures { λ r. ⌜ r ≡ collide (at (now (owners .entry))) (at (now (locations .entry))) (at (now (times .entry))) n v w ⌝ }
+    ensures { λ r. ⌜ ((numbers : List ℕ) → r ≡ collide (visitsOf (now (owners .entry)) numbers (now (locations .entry)) (now (times .entry)) n) v w) ⌝ }
 {
     if owners[w] <= owners[v] {
         return false;
     }
-    if locations[v] != locations[w] {
+    if !meets(locations[v], locations[w]) {
         return false;
     }
     if over_at(owners, times, n, v, times[w]) {
@@ -111,7 +114,7 @@ fn partner_of(
     v: usize,
 ) -> usize
     requires { ⌜ VisitsRoom n (now owners) (now locations) (now times) × Groups (at (now locations)) n (now first) (now next) × (v < n) ⌝ }
-    ensures { λ r. ⌜ r ≡ partner (at (now (owners .entry))) (at (now (locations .entry))) (at (now (times .entry))) n v ⌝ }
+    ensures { λ r. ⌜ ((numbers : List ℕ) → r ≡ partner (visitsOf (now (owners .entry)) numbers (now (locations .entry)) (now (times .entry)) n) v) ⌝ }
 {
     let mut w = first[v] as usize;
     while w < n {
@@ -133,7 +136,7 @@ fn first_collider(
     next: &[u16; Stop::FULL],
 ) -> usize
     requires { ⌜ VisitsRoom n (now owners) (now locations) (now times) × Groups (at (now locations)) n (now first) (now next) ⌝ }
-    ensures { λ r. ⌜ r ≡ collider (at (now (owners .entry))) (at (now (locations .entry))) (at (now (times .entry))) n ⌝ }
+    ensures { λ r. ⌜ ((numbers : List ℕ) → r ≡ collider (visitsOf (now (owners .entry)) numbers (now (locations .entry)) (now (times .entry)) n)) ⌝ }
 {
     let mut v = 0;
     while v < n {
@@ -178,7 +181,7 @@ pub fn check_plan(
     n: usize,
 ) -> PlanCheck
     requires { ⌜ PlanRoom n (now owners) (now numbers) (now locations) (now times) ⌝ }
-    ensures { λ r. ⌜ r ≡ checkOf (at (now (owners .entry))) (at (now (numbers .entry))) (at (now (locations .entry))) (at (now (times .entry))) n ⌝ }
+    ensures { λ r. ⌜ r ≡ checkOf (visitsOf (now (owners .entry)) (now (numbers .entry)) (now (locations .entry)) (now (times .entry)) n) ⌝ }
 {
     let v = first_fault(numbers, locations, times, n);
     if v < n {

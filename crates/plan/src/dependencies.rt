@@ -1,14 +1,17 @@
 // The dependencies of a plan, counted, and written into a slice for each field of their records. Only the stops at one location are compared.
+use crate::meeting::meets;
 use crate::sharing;
 use tables::entries::Dependency;
 use tables::entries::Stop;
 use tables::flags::fixed_flag;
 ghost use mathlib.Core.Path.{_≡_};
-ghost use Prim.Native.Nat.{_+_, _≤_, _<_};
+ghost use mathlib.Core.List.{List};
+ghost use Prim.Native.Nat.{ℕ, _+_, _≤_, _<_};
 ghost use lib.ListN.{length};
 ghost use Rattle.below.specs.Below.{at, countBelow};
 ghost use Rattle.tables.specs.Limits.{limits};
 ghost use Rattle.plan.specs.Sharing.{Groups};
+ghost use Rattle.plan.specs.Visits.{visitsOf};
 ghost use Rattle.plan.specs.Dependencies.{follows, isLast, isFixed, flagOf, dependencyTotal};
 ghost use Rattle.plan.specs.Columns.{columns, rowWritten, rowsWritten, builtOf, builtIn};
 ghost use Rattle.plan.specs.Room.{VisitsRoom, PlanRoom, ColumnsRoom};
@@ -17,12 +20,12 @@ ghost use Rattle.plan.specs.Room.{VisitsRoom, PlanRoom, ColumnsRoom};
 fn follows_at(owners: &[u8], locations: &[u16], times: &[u32], v: usize, w: usize) -> bool
     requires { ⌜ (v < length (now owners)) × (v < length (now locations)) × (v < length (now times)) ⌝ }
     requires { ⌜ (w < length (now owners)) × (w < length (now locations)) × (w < length (now times)) ⌝ }
-    ensures { λ r. ⌜ r ≡ follows (at (now (owners .entry))) (at (now (locations .entry))) (at (now (times .entry))) v w ⌝ }
+    ensures { λ r. ⌜ ((numbers : List ℕ) (n : ℕ) → r ≡ follows (visitsOf (now (owners .entry)) numbers (now (locations .entry)) (now (times .entry)) n) v w) ⌝ }
 {
     if owners[v] == owners[w] {
         return false;
     }
-    if locations[v] != locations[w] {
+    if !meets(locations[v], locations[w]) {
         return false;
     }
     times[v] < times[w]
@@ -70,7 +73,7 @@ fn count_row(
     v: usize,
 ) -> usize
     requires { ⌜ VisitsRoom n (now owners) (now locations) (now times) × Groups (at (now locations)) n (now first) (now next) × (v < n) ⌝ }
-    ensures { λ r. ⌜ r ≡ countBelow n (follows (at (now (owners .entry))) (at (now (locations .entry))) (at (now (times .entry))) v) ⌝ }
+    ensures { λ r. ⌜ ((numbers : List ℕ) → r ≡ countBelow n (follows (visitsOf (now (owners .entry)) numbers (now (locations .entry)) (now (times .entry)) n) v)) ⌝ }
 {
     let mut c: usize = 0;
     let mut w = first[v] as usize;
@@ -93,7 +96,7 @@ fn count_dependencies(
     next: &[u16; Stop::FULL],
 ) -> usize
     requires { ⌜ VisitsRoom n (now owners) (now locations) (now times) × Groups (at (now locations)) n (now first) (now next) ⌝ }
-    ensures { λ r. ⌜ r ≡ dependencyTotal (at (now (owners .entry))) (at (now (locations .entry))) (at (now (times .entry))) n ⌝ }
+    ensures { λ r. ⌜ ((numbers : List ℕ) → r ≡ dependencyTotal (visitsOf (now (owners .entry)) numbers (now (locations .entry)) (now (times .entry)) n)) ⌝ }
 {
     let mut c: usize = 0;
     let mut v = 0;
@@ -122,9 +125,9 @@ fn fill_row(
     flags: &mut [u8],
 ) -> usize
     requires { ⌜ PlanRoom n (now owners) (now numbers) (now locations) (now times) × Groups (at (now locations)) n (now first) (now next) × (v < n) ⌝ }
-    requires { ⌜ ColumnsRoom (c + countBelow n (follows (at (now owners)) (at (now locations)) (at (now times)) v)) (columns (now «first_drones») (now «first_stops») (now «second_drones») (now «second_stops») (now flags)) ⌝ }
-    ensures answer { λ r. ⌜ r ≡ c + countBelow n (follows (at (now (owners .entry))) (at (now (locations .entry))) (at (now (times .entry))) v) ⌝ }
-    ensures written { λ _. ⌜ columns (now («first_drones» .exit)) (now («first_stops» .exit)) (now («second_drones» .exit)) (now («second_stops» .exit)) (now (flags .exit)) ≡ rowWritten (at (now (owners .entry))) (at (now (numbers .entry))) (at (now (locations .entry))) (at (now (times .entry))) n v n c (columns (now («first_drones» .entry)) (now («first_stops» .entry)) (now («second_drones» .entry)) (now («second_stops» .entry)) (now (flags .entry))) ⌝ }
+    requires { ⌜ ColumnsRoom (c + countBelow n (follows (visitsOf (now owners) (now numbers) (now locations) (now times) n) v)) (columns (now «first_drones») (now «first_stops») (now «second_drones») (now «second_stops») (now flags)) ⌝ }
+    ensures answer { λ r. ⌜ r ≡ c + countBelow n (follows (visitsOf (now (owners .entry)) (now (numbers .entry)) (now (locations .entry)) (now (times .entry)) n) v) ⌝ }
+    ensures written { λ _. ⌜ columns (now («first_drones» .exit)) (now («first_stops» .exit)) (now («second_drones» .exit)) (now («second_stops» .exit)) (now (flags .exit)) ≡ rowWritten (visitsOf (now (owners .entry)) (now (numbers .entry)) (now (locations .entry)) (now (times .entry)) n) v n c (columns (now («first_drones» .entry)) (now («first_stops» .entry)) (now («second_drones» .entry)) (now («second_stops» .entry)) (now (flags .entry))) ⌝ }
 {
     let mut k = c;
     let mut w = first[v] as usize;
@@ -160,8 +163,8 @@ fn fill_rows(
     flags: &mut [u8],
 )
     requires { ⌜ PlanRoom n (now owners) (now numbers) (now locations) (now times) × Groups (at (now locations)) n (now first) (now next) ⌝ }
-    requires { ⌜ ColumnsRoom (dependencyTotal (at (now owners)) (at (now locations)) (at (now times)) n) (columns (now «first_drones») (now «first_stops») (now «second_drones») (now «second_stops») (now flags)) ⌝ }
-    ensures { λ _. ⌜ columns (now («first_drones» .exit)) (now («first_stops» .exit)) (now («second_drones» .exit)) (now («second_stops» .exit)) (now (flags .exit)) ≡ rowsWritten (at (now (owners .entry))) (at (now (numbers .entry))) (at (now (locations .entry))) (at (now (times .entry))) n n (columns (now («first_drones» .entry)) (now («first_stops» .entry)) (now («second_drones» .entry)) (now («second_stops» .entry)) (now (flags .entry))) ⌝ }
+    requires { ⌜ ColumnsRoom (dependencyTotal (visitsOf (now owners) (now numbers) (now locations) (now times) n)) (columns (now «first_drones») (now «first_stops») (now «second_drones») (now «second_stops») (now flags)) ⌝ }
+    ensures { λ _. ⌜ columns (now («first_drones» .exit)) (now («first_stops» .exit)) (now («second_drones» .exit)) (now («second_stops» .exit)) (now (flags .exit)) ≡ rowsWritten (visitsOf (now (owners .entry)) (now (numbers .entry)) (now (locations .entry)) (now (times .entry)) n) n (columns (now («first_drones» .entry)) (now («first_stops» .entry)) (now («second_drones» .entry)) (now («second_stops» .entry)) (now (flags .entry))) ⌝ }
 {
     let mut k = 0;
     let mut v = 0;
@@ -207,8 +210,8 @@ pub fn build(
 ) -> Built
     requires { ⌜ PlanRoom n (now owners) (now numbers) (now locations) (now times) ⌝ }
     requires { ⌜ ColumnsRoom (limits .dependencies) (columns (now «first_drones») (now «first_stops») (now «second_drones») (now «second_stops») (now flags)) ⌝ }
-    ensures answer { λ r. ⌜ r ≡ builtOf (limits .dependencies) (at (now (owners .entry))) (at (now (locations .entry))) (at (now (times .entry))) n ⌝ }
-    ensures written { λ _. ⌜ columns (now («first_drones» .exit)) (now («first_stops» .exit)) (now («second_drones» .exit)) (now («second_stops» .exit)) (now (flags .exit)) ≡ builtIn (limits .dependencies) (at (now (owners .entry))) (at (now (numbers .entry))) (at (now (locations .entry))) (at (now (times .entry))) n (columns (now («first_drones» .entry)) (now («first_stops» .entry)) (now («second_drones» .entry)) (now («second_stops» .entry)) (now (flags .entry))) ⌝ }
+    ensures answer { λ r. ⌜ r ≡ builtOf (limits .dependencies) (visitsOf (now (owners .entry)) (now (numbers .entry)) (now (locations .entry)) (now (times .entry)) n) ⌝ }
+    ensures written { λ _. ⌜ columns (now («first_drones» .exit)) (now («first_stops» .exit)) (now («second_drones» .exit)) (now («second_stops» .exit)) (now (flags .exit)) ≡ builtIn (limits .dependencies) (visitsOf (now (owners .entry)) (now (numbers .entry)) (now (locations .entry)) (now (times .entry)) n) (columns (now («first_drones» .entry)) (now («first_stops» .entry)) (now («second_drones» .entry)) (now («second_stops» .entry)) (now (flags .entry))) ⌝ }
 {
     let mut first = [0u16; Stop::FULL];
     let mut next = [0u16; Stop::FULL];

@@ -8,8 +8,8 @@ ghost use Rattle.below.specs.Below.{at, fillBelow};
 ghost use Rattle.tables.specs.Limits.{limits};
 ghost use Rattle.plan.specs.Sharing.{roots, rootOf, firstAt, Trees, nextAt};
 
-// How many trees there are, and how many slots: a root for each tree and two branches for each stop.
-const ROOTS: usize = 1024;
+// How many trees there are, as many as stops at most, and how many slots: a root for each tree and two branches for each stop.
+const ROOTS: usize = Stop::FULL;
 
 const SLOTS: usize = ROOTS + 2 * Stop::FULL;
 

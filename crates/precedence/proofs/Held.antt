@@ -10,9 +10,8 @@ use Rattle.below.proofs.Tests.{by-cases}
 use Rattle.below.specs.Below.{anyBelow, countBelow, maxBelow}
 use Rattle.precedence.proofs.Ahead.{fewer-refl, round-ahead, remaining-ahead}
 use Rattle.precedence.proofs.Rounds.{round-le, finished-if}
-use Rattle.precedence.proofs.Visits.{met-round, reached-visited}
-use Rattle.precedence.specs.Graph.{Ahead}
-use Rattle.precedence.specs.Graph.{Plan, Formed, round, play, finished, remaining, Cycle, Kept}
+use Rattle.precedence.proofs.Visits.{reached-visited}
+use Rattle.precedence.specs.Graph.{Plan, Formed, round, play, finished, remaining, Cycle}
 use Rattle.precedence.specs.Graph.{heldRound, heldPlay, heldRounds, Ahead}
 
 module _ (P : Plan) where
@@ -22,14 +21,6 @@ module _ (P : Plan) where
     pub held-ahead : (h : ℕ → Bool) (p : ℕ → ℕ) → Ahead drones p (heldRound P h p)
     unfolding heldRound
     held-ahead h p d l = by-cases (h d) (λ e. rw e (omega arith)) (λ e. rw e (round-le P p d))
-
-    held-round-le : (h : ℕ → Bool) (p : ℕ → ℕ) (d : ℕ) → heldRound P h p d ≤ round P p d
-    unfolding heldRound
-    held-round-le h p d = by-cases (h d) (λ e. rw e (round-le P p d)) (λ e. rw e (omega arith))
-
-    -- what was kept is kept
-    pub kept-held : (h : ℕ → Bool) (p : ℕ → ℕ) → Kept P p → Kept P (heldRound P h p)
-    kept-held h p kept w l s = omega (arith, met-round P p kept w l (omega (arith, held-round-le h p (wait w .waiter))), held-ahead h p (wait w .awaited) (formed w l .awaited-in))
 
     held-none : (h : ℕ → Bool) (p : ℕ → ℕ) (d : ℕ) → h d ≡ false → heldRound P h p d ≡ round P p d
     unfolding heldRound

@@ -5,12 +5,10 @@ use mathlib.Core.Bool.{not}
 use Prim.Native.Nat.{ℕ, zero, suc, _≤_, _<_}
 use native.Mathlib.Omega.{arith}
 use lib.ListN.{length}
-use lib.Dec.{leb}
 use Rattle.below.proofs.Index.{length-listBelow, getD-listBelow}
-use Rattle.below.proofs.Search.{firstBelow-ext}
 use Rattle.below.specs.Below.{at, listBelow}
 use Rattle.precedence.proofs.Agreement.{agree-self, awaited-in, finished-agree, round-agree, play-agree}
-use Rattle.precedence.specs.Graph.{Plan, Formed, round, play, unvisited, reached, remaining, atStart, cyclic, roundList, playList, remainingList, cyclicList}
+use Rattle.precedence.specs.Graph.{Plan, Formed, round, play, unvisited, atStart, cyclic, roundList, playList, cyclicList}
 
 module _ (P : Plan) where
   open Plan P using (drones, last)
@@ -25,10 +23,6 @@ module _ (P : Plan) where
     unfolding playList roundList play
     playList-at ps h zero d l = refl
     playList-at ps h (suc k) d l = getD-listBelow _ (round P (at (playList P ps k))) 0 d (omega (arith, length-playList ps k)) ∙ round-agree P P (agree-self P) (awaited-in P formed) (at (playList P ps k)) (play P (at ps) k) (playList-at ps h k) d l
-
-  pub remainingList-is : Formed P → (ps : List ℕ) → drones ≤ length ps → (d : ℕ) → d < drones → remainingList P ps d ≡ remaining P (at ps) d
-  unfolding remainingList remaining reached
-  remainingList-is formed ps h d l = firstBelow-ext (unvisited P (at ps)) _ _ (λ k m. ap (leb (last d)) (playList-at formed ps h k d l))
 
   pub cyclicList-is : Formed P → cyclicList P ≡ cyclic P
   unfolding cyclicList cyclic

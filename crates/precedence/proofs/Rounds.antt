@@ -1,17 +1,17 @@
 -- The laws of rounds: who is free, what a round changes, and that rounds finish everybody where the graph has no cycle. Assumes nothing.
 use mathlib.Core.Path.{_≡_, refl, sym, ap, subst}
-use mathlib.Core.Logic.{_≢_, _⊎_, inl, inr}
-use mathlib.Core.Bool.{Bool, true, false, not, _&&_, and-false}
+use mathlib.Core.Logic.{_⊎_, inl, inr}
+use mathlib.Core.Bool.{Bool, true, false, not, _&&_}
 use Prim.Native.Nat.{ℕ, zero, suc, _+_, _-_, _≤_, _<_}
 use native.Mathlib.Omega.{arith}
 use lib.Dec.{ltb, leb, eqb}
-use borrow.Author.Tests.{ltb-true, ltb-false, leb-true, leb-false, eqb-true, lt-ltb, le-ltb, le-leb, eq-eqb, ne-eqb, not-true, not-false}
-use Rattle.below.proofs.Every.{allBelow-at, allBelow-all, allBelow-fails, allBelow-search}
+use borrow.Author.Tests.{ltb-true, ltb-false, leb-true, leb-false, eqb-true, lt-ltb, le-ltb, le-leb, eq-eqb, not-true, not-false}
+use Rattle.below.proofs.Every.{allBelow-at, allBelow-all, allBelow-fails}
 use Rattle.below.proofs.Greatest.{pigeonhole}
 use Rattle.below.proofs.Search.{firstBelow-first}
-use Rattle.below.proofs.Sum.{sum-at, sum-mono, sum-less}
+use Rattle.below.proofs.Sum.{sum-at, sum-less}
 use Rattle.below.proofs.Tests.{by-cases, below-cases, true-or-false, and-left, and-right, and-both}
-use Rattle.below.specs.Below.{pick, firstBelow, allBelow}
+use Rattle.below.specs.Below.{firstBelow, allBelow}
 use Rattle.precedence.specs.Graph.{Plan, Vertex, vertex, FormedWait, Formed, blocks, free, round, play, finished, unvisited, Edge, own, dep, Walk, edge, step, Cycle}
 
 module _ (P : Plan) where
@@ -34,15 +34,6 @@ module _ (P : Plan) where
   pub blocks-if : (p : ℕ → ℕ) (d w : ℕ) → Blocks p d w → blocks P p d w ≡ true
   unfolding blocks
   blocks-if p d w b = and-both _ _ (and-both _ _ (eq-eqb _ _ (b .is-waiter)) (eq-eqb _ _ (b .is-next))) (lt-ltb _ _ (b .is-open))
-
-  -- the test's value, by the order in which code asks
-  pub blocks-waiter : (p : ℕ → ℕ) (d w : ℕ) → wait w .waiter ≢ d → blocks P p d w ≡ false
-  unfolding blocks
-  blocks-waiter p d w n = rw (ne-eqb (wait w .waiter) d n)
-
-  pub blocks-stop : (p : ℕ → ℕ) (d w : ℕ) → wait w .stop ≢ suc (p d) → blocks P p d w ≡ false
-  unfolding blocks
-  blocks-stop p d w n = simp (ne-eqb (wait w .stop) (suc (p d)) n, and-false)
 
   pub blocks-open : (p : ℕ → ℕ) (d w : ℕ) → wait w .waiter ≡ d → wait w .stop ≡ suc (p d) → blocks P p d w ≡ ltb (p (wait w .awaited)) (wait w .until)
   unfolding blocks
@@ -71,10 +62,6 @@ module _ (P : Plan) where
   unfolding free
   free-finished p d h = rw (le-ltb (p d) (last d) h)
 
-  pub free-search : (p : ℕ → ℕ) (d : ℕ) → p d < last d → free P p d ≡ eqb (firstBelow count (blocks P p d)) count
-  unfolding free
-  free-search p d h = rw (lt-ltb (p d) (last d) h) (allBelow-search count (blocks P p d))
-
   -- a drone with a next stop that is not free has a wait that holds it back
   pub blocked : (p : ℕ → ℕ) (d : ℕ) → p d < last d → free P p d ≡ false → (w : ℕ) × (w < count) × Blocks p d w
   unfolding free
@@ -83,10 +70,6 @@ module _ (P : Plan) where
       (λ a. let (w, l, b) = allBelow-fails count (λ w. not (blocks P p d w)) a in (w, l, blocks-true p d w (not-false _ b)))
 
   -- ---- what a round changes
-
-  pub round-is : (p : ℕ → ℕ) (d : ℕ) → round P p d ≡ pick (free P p d) (suc (p d)) (p d)
-  unfolding round
-  round-is p d = refl
 
   pub round-free : (p : ℕ → ℕ) (d : ℕ) → free P p d ≡ true → round P p d ≡ suc (p d)
   unfolding round
@@ -101,9 +84,6 @@ module _ (P : Plan) where
 
   pub round-suc : (p : ℕ → ℕ) (d : ℕ) → round P p d ≤ suc (p d)
   round-suc p d = by-cases (free P p d) (λ e. omega (arith, round-free p d e)) (λ e. omega (arith, round-stays p d e))
-
-  pub round-last : (p : ℕ → ℕ) (d : ℕ) → p d ≤ last d → round P p d ≤ last d
-  round-last p d h = by-cases (free P p d) (λ e. omega (arith, round-free p d e, free-unfinished p d e)) (λ e. omega (arith, round-stays p d e))
 
   -- who is past a stop after a round: the step that every law of rounds rests on
   pub finished-at : (p : ℕ → ℕ) → finished P p ≡ true → (d : ℕ) → d < drones → last d ≤ p d
@@ -203,10 +183,6 @@ module _ (P : Plan) where
     somebody-free acyclic e = elim (cycle-or-free e) [ inl c ↦ absurd (acyclic c) | inr l ↦ (l, firstBelow-first drones (free P p) .found l) ]
 
   -- ---- T2: rounds finish
-
-  pub unvisited-round : (p : ℕ → ℕ) → unvisited P (round P p) ≤ unvisited P p
-  unfolding unvisited
-  unvisited-round p = sum-mono drones (λ d. last d - round P p d) (λ d. last d - p d) (λ d l. omega (arith, round-le p d))
 
   -- each round with somebody free leaves fewer stops unvisited: the measure of a loop that plays rounds
   pub unvisited-falls : (p : ℕ → ℕ) (d : ℕ) → d < drones → free P p d ≡ true → unvisited P (round P p) < unvisited P p

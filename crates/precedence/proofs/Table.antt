@@ -1,12 +1,12 @@
 -- The table of each stop's round: its recurrence, that it has one solution, and that passes over a table find it. Legs are any numbers of
 -- rounds; with legs of one the table is that of `reached`. Assumes nothing.
-use mathlib.Core.Path.{_≡_, refl, sym, ap, _∙_, subst}
-use mathlib.Core.Logic.{_≢_, _⊎_, inl, inr}
+use mathlib.Core.Path.{_≡_, refl, sym, _∙_, subst}
+use mathlib.Core.Logic.{_⊎_, inl, inr}
 use mathlib.Core.Bool.{Bool, true, false, _&&_, and-false}
 use Prim.Native.Nat.{ℕ, zero, suc, _+_, _-_, _≤_, _<_, max}
 use native.Mathlib.Omega.{arith}
 use lib.Dec.{ltb, leb, eqb}
-use borrow.Author.Tests.{leb-true, leb-false, eqb-true, lt-ltb, le-leb, lt-leb, eq-eqb, ne-eqb}
+use borrow.Author.Tests.{leb-true, leb-false, eqb-true, lt-ltb, le-leb, lt-leb, eq-eqb}
 use Rattle.below.proofs.Greatest.{max-at, max-is}
 use Rattle.below.proofs.Sum.{sum-mono, sum-gap}
 use Rattle.below.proofs.Tests.{by-cases, and-left, and-right, and-both}
@@ -60,22 +60,6 @@ module _ (P : Plan) where
   pub latest-is : (t : ℕ → ℕ → ℕ) (d s : ℕ) → latest P t d s ≡ max (t d (s - 1)) (maxBelow count (awaitedAt P t d s))
   unfolding latest awaitedAt
   latest-is t d s = refl
-
-  -- what the loop ends with
-  pub latest-end : (t : ℕ → ℕ → ℕ) (d s : ℕ) {w m : ℕ} → w ≡ count → m ≡ max (t d (s - 1)) (maxBelow w (awaitedAt P t d s)) → m ≡ latest P t d s
-  latest-end t d s e h = h ∙ ap (λ (k : ℕ). max (t d (s - 1)) (maxBelow k (awaitedAt P t d s))) e ∙ sym (latest-is t d s)
-
-  pub awaitedAt-waiter : (t : ℕ → ℕ → ℕ) (d s w : ℕ) → wait w .waiter ≢ d → awaitedAt P t d s w ≡ 0
-  unfolding awaitedAt into
-  awaitedAt-waiter t d s w n = rw (ne-eqb (wait w .waiter) d n)
-
-  pub awaitedAt-stop : (t : ℕ → ℕ → ℕ) (d s w : ℕ) → wait w .stop ≢ s → awaitedAt P t d s w ≡ 0
-  unfolding awaitedAt into
-  awaitedAt-stop t d s w n = simp (ne-eqb (wait w .stop) s n, and-false)
-
-  pub awaitedAt-is : (t : ℕ → ℕ → ℕ) (d s w : ℕ) → wait w .waiter ≡ d → wait w .stop ≡ s → awaitedAt P t d s w ≡ t (wait w .awaited) (wait w .until)
-  unfolding awaitedAt into
-  awaitedAt-is t d s w a b = simp (eq-eqb (wait w .waiter) d a, eq-eqb (wait w .stop) s b)
 
   -- two tables that agree at the edges into a stop have the same latest entry there
   pub latest-ext : (t r : ℕ → ℕ → ℕ) (d s : ℕ) → d < drones → 0 < s → s ≤ last d → ((u : Vertex) → Edge P u (vertex d s) → t (u .drone) (u .stop) ≡ r (u .drone) (u .stop)) → latest P t d s ≡ latest P r d s

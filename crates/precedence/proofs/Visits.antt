@@ -1,19 +1,18 @@
 -- When a stop is visited: the test of cycles, chains of unvisited stops, and the table of each stop's round. Assumes nothing.
 use mathlib.Core.Path.{_≡_, refl, sym, ap, _∙_}
 use mathlib.Core.Logic.{inl, inr, _↔_}
-use mathlib.Core.Bool.{Bool, true, false, not, _||_}
+use mathlib.Core.Bool.{true, false, not}
 use Prim.Native.Nat.{ℕ, zero, suc, _+_, _*_, _≤_, _<_}
 use native.Mathlib.Omega.{arith}
 use lib.Dec.{ltb, leb}
-use borrow.Author.Tests.{ltb-true, ltb-false, leb-true, leb-false, le-leb, not-true}
-use Rattle.below.proofs.Every.{allBelow-at, allBelow-all}
+use borrow.Author.Tests.{ltb-true, ltb-false, leb-true, leb-false, not-true}
 use Rattle.below.proofs.Greatest.{max-at, max-least}
 use Rattle.below.proofs.Search.{firstBelow-first}
 use Rattle.below.proofs.Sum.{sum-count, sum-bound}
 use Rattle.below.proofs.Tests.{by-cases, true-or-false}
 use Rattle.below.specs.Below.{pick, firstBelow, First, maxBelow, countBelow}
 use Rattle.precedence.proofs.Rounds.{blocked, free-open, round-free, round-stays, round-le, round-suc, finished-at, finished-if, dep-at, cycle-or-finish, rounds-finish}
-use Rattle.precedence.specs.Graph.{Plan, Vertex, vertex, FormedWait, Formed, free, round, play, finished, unvisited, reached, remaining, atStart, cyclic, Edge, own, dep, Walk, edge, step, Cycle, Kept, kept, cost, makespan, Chain, link, on}
+use Rattle.precedence.specs.Graph.{Plan, Vertex, vertex, FormedWait, Formed, free, round, play, finished, unvisited, reached, remaining, atStart, cyclic, Edge, own, dep, Walk, edge, step, Cycle, Kept, cost, makespan, Chain, link, on}
 use Rattle.precedence.specs.Graph.{Rising}
 
 module _ (P : Plan) where
@@ -126,10 +125,6 @@ module _ (P : Plan) where
 
     pub acyclic-iff : (cyclic P ≡ false) ↔ (Cycle P → ⊥)
     acyclic-iff = (λ e c. true-or-false (cycle-cyclic c) e, λ n. by-cases (cyclic P) (λ e. absurd (n (cyclic-cycle e))) (λ e. e))
-
-  pub remaining-is : (p : ℕ → ℕ) (d : ℕ) → remaining P p d ≡ reached P p d (last d)
-  unfolding remaining
-  remaining-is p d = refl
 
   -- ---- T5: chains
 
@@ -314,17 +309,3 @@ module _ (P : Plan) where
     pub cost-bound : cost P p ≤ drones * unvisited P p
     unfolding cost remaining
     cost-bound = sum-bound drones (remaining P p) (unvisited P p) (λ d l. reached-bound formed acyclic p d (last d))
-
-  -- ---- the test of `Kept`
-
-  pub kept-iff : (p : ℕ → ℕ) → (kept P p ≡ true) ↔ Kept P p
-  unfolding kept
-  kept-iff p = (λ e w l h. leb-true _ _ (rw (le-leb (wait w .stop) (p (wait w .waiter)) h) at (allBelow-at count test e w l)), λ k. allBelow-all count test (each k))
-    where
-      test : ℕ → Bool
-      test w = not (leb (wait w .stop) (p (wait w .waiter))) || leb (wait w .until) (p (wait w .awaited))
-
-      each : Kept P p → (w : ℕ) → w < count → test w ≡ true
-      each k w l = by-cases (leb (wait w .stop) (p (wait w .waiter)))
-          (λ e. rw e (le-leb _ _ (k w l (leb-true _ _ e))))
-          (λ e. rw e)

@@ -3,7 +3,7 @@
 -- turned; no limit is built in. The laws are in proofs/, the theorems in `Theorems`. Assumes nothing.
 use mathlib.Core.Path.{_≡_}
 use mathlib.Core.Logic.{_⊎_}
-use mathlib.Core.Bool.{Bool, not, _&&_, _||_}
+use mathlib.Core.Bool.{Bool, not, _&&_}
 use mathlib.Core.List.{List}
 use Prim.Native.Nat.{ℕ, zero, suc, _+_, _-_, _≤_, _<_, max}
 use lib.Dec.{ltb, leb, eqb}
@@ -130,10 +130,6 @@ module _ (P : Plan) where
   -- "for every dependency whose waiting stop is visited .., the stop it waits for is visited"
   abbrev pub Kept : (ℕ → ℕ) → Type 0
   Kept p = (w : ℕ) → w < count → wait w .stop ≤ p (wait w .waiter) → wait w .until ≤ p (wait w .awaited)
-
-  -- the same as a test
-  unfoldable pub kept : (ℕ → ℕ) → Bool
-  kept p = allBelow count (λ w. not (leb (wait w .stop) (p (wait w .waiter))) || leb (wait w .until) (p (wait w .awaited)))
 
   -- "the .. chain of unvisited stops that ends at [v], each stop awaited by the one after it (a drone's own stop before it counts as awaited)": n stops
   pub data Chain (p : ℕ → ℕ) : Vertex → ℕ → Type 0 where

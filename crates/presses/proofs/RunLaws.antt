@@ -13,7 +13,7 @@ use Rattle.dispatch.specs.Transcribing.{zeroTables}
 use Rattle.handset.specs.Press.{PressOutcome, PressedAs, pressStep}
 use Rattle.handset.specs.declared.replies.Report.{Report}
 use Rattle.handset.specs.declared.replies.Report.the-variants.{Nothing, Arrived}
-use Rattle.presses.specs.Runs.{reportOf, numberIn, bitsIn, tablesPressed, lastReply, PressesMade, PressesRun}
+use Rattle.presses.specs.Runs.{reportOf, numberShown, bitsShown, tablesPressed, lastReply, PressesMade, PressesRun}
 
 pub report-none : (n : ℕ) → n ≡ 65535 → Nothing ≡ reportOf n
 unfolding reportOf
@@ -28,18 +28,18 @@ module _ (L : Limits) (t : Tables) (reports : ℕ → Report) where
   unfolding tablesPressed lastReply
   made-none = record { tables-are = refl; number-is = refl; bits-are = refl }
 
-  made-suc : (i n b : ℕ) (t₁ : Tables) (report : Report) (r : PressOutcome) (t₂ : Tables) (n′ b′ : ℕ) → PressesMade L t reports i n b t₁ → report ≡ reports i → PressedAs (pressStep L t₁ report) r t₂ → n′ ≡ numberIn r → b′ ≡ bitsIn r → PressesMade L t reports (suc i) n′ b′ t₂
+  made-suc : (i n b : ℕ) (t₁ : Tables) (report : Report) (r : PressOutcome) (t₂ : Tables) (n′ b′ : ℕ) → PressesMade L t reports i n b t₁ → report ≡ reports i → PressedAs (pressStep L t₁ report) r t₂ → n′ ≡ numberShown r → b′ ≡ bitsShown r → PressesMade L t reports (suc i) n′ b′ t₂
   unfolding tablesPressed lastReply
   made-suc i n b t₁ report r t₂ n′ b′ m e p q s = record {
     tables-are = p .left ∙ ap (λ (x : Report). pressStep L t₁ x .tables) e ∙ ap (λ (z : Tables). pressStep L z (reports i) .tables) (m .tables-are);
-    number-is = q ∙ ap (λ (x : PressOutcome). numberIn x) replied;
-    bits-are = s ∙ ap (λ (x : PressOutcome). bitsIn x) replied;
+    number-is = q ∙ ap (λ (x : PressOutcome). numberShown x) replied;
+    bits-are = s ∙ ap (λ (x : PressOutcome). bitsShown x) replied;
   }
     where
       replied : r ≡ pressStep L (tablesPressed L t reports i) (reports i) .reply
       replied = p .replied ∙ ap (λ (x : Report). pressStep L t₁ x .reply) e ∙ ap (λ (z : Tables). pressStep L z (reports i) .reply) (m .tables-are)
 
-  pub made-more : (i n b : ℕ) (t₁ : Tables) (report : Report) (r : PressOutcome) (t₂ : Tables) (n′ b′ : ℕ) → PressesMade L t reports i n b t₁ → report ≡ reports i → PressedAs (pressStep L t₁ report) r t₂ → n′ ≡ numberIn r → b′ ≡ bitsIn r → PressesMade L t reports (i + 1) n′ b′ t₂
+  pub made-more : (i n b : ℕ) (t₁ : Tables) (report : Report) (r : PressOutcome) (t₂ : Tables) (n′ b′ : ℕ) → PressesMade L t reports i n b t₁ → report ≡ reports i → PressedAs (pressStep L t₁ report) r t₂ → n′ ≡ numberShown r → b′ ≡ bitsShown r → PressesMade L t reports (i + 1) n′ b′ t₂
   made-more i n b t₁ report r t₂ n′ b′ m e p q s = subst (λ (k : ℕ). PressesMade L t reports k n′ b′ t₂) (omega arith) (made-suc i n b t₁ report r t₂ n′ b′ m e p q s)
 
   pub made-end : (i count n b n′ b′ : ℕ) (t₁ : Tables) → i ≤ count → count ≤ i → PressesMade L t reports i n b t₁ → (n′ ≡ n) × (b′ ≡ b) → PressesMade L t reports count n′ b′ t₁
@@ -57,5 +57,5 @@ module _ (L : Limits) (text : List ℕ) (reports : ℕ → Report) (t : Tables) 
       let same : t′ ≡ readPlan L text (zeroTables L) .tables = read .left ∙ ap (λ (x : Tables). readPlan L text x .tables) fresh in
       record {
         refused = λ k. absurd (k (sym same-number ∙ z));
-        taken = λ _. (m .number-is ∙ ap (λ (x : Tables). numberIn (lastReply L x reports count)) same, m .bits-are ∙ ap (λ (x : Tables). bitsIn (lastReply L x reports count)) same);
+        taken = λ _. (m .number-is ∙ ap (λ (x : Tables). numberShown (lastReply L x reports count)) same, m .bits-are ∙ ap (λ (x : Tables). bitsShown (lastReply L x reports count)) same);
       }

@@ -22,13 +22,13 @@ abbrev pub reportsIn : List ℕ → ℕ → Report
 reportsIn l i = reportOf (at l i)
 
 -- what is shown of a reply
-abbrev pub numberIn : PressOutcome → ℕ
-numberIn (granted b) = 0
-numberIn (pressRefused n) = n
+abbrev pub numberShown : PressOutcome → ℕ
+numberShown (granted b) = 0
+numberShown (pressRefused n) = n
 
-abbrev pub bitsIn : PressOutcome → ℕ
-bitsIn (granted b) = b
-bitsIn (pressRefused n) = 0
+abbrev pub bitsShown : PressOutcome → ℕ
+bitsShown (granted b) = b
+bitsShown (pressRefused n) = 0
 
 module _ (L : Limits) (t : Tables) (reports : ℕ → Report) where
   -- the tables after the presses with the reports below n
@@ -43,10 +43,10 @@ module _ (L : Limits) (t : Tables) (reports : ℕ → Report) where
 
   pub record PressesMade (n number bits : ℕ) (t′ : Tables) : Type 0 where
     pub tables-are : t′ ≡ tablesPressed n
-    pub number-is : number ≡ numberIn (lastReply n)
-    pub bits-are : bits ≡ bitsIn (lastReply n)
+    pub number-is : number ≡ numberShown (lastReply n)
+    pub bits-are : bits ≡ bitsShown (lastReply n)
 
 -- the plan's refusal, or the last reply of the presses on the tables that its reading left
 pub record PressesRun (L : Limits) (text : List ℕ) (reports : ℕ → Report) (n number bits : ℕ) : Type 0 where
   pub refused : (readingNumber (readPlan L text (zeroTables L) .reply) ≡ 0 → ⊥) → (number ≡ readingNumber (readPlan L text (zeroTables L) .reply)) × (bits ≡ 0)
-  pub taken : readingNumber (readPlan L text (zeroTables L) .reply) ≡ 0 → (number ≡ numberIn (lastReply L (readPlan L text (zeroTables L) .tables) reports n)) × (bits ≡ bitsIn (lastReply L (readPlan L text (zeroTables L) .tables) reports n))
+  pub taken : readingNumber (readPlan L text (zeroTables L) .reply) ≡ 0 → (number ≡ numberShown (lastReply L (readPlan L text (zeroTables L) .tables) reports n)) × (bits ≡ bitsShown (lastReply L (readPlan L text (zeroTables L) .tables) reports n))

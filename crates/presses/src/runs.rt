@@ -77,7 +77,7 @@ pub fn run_presses(text: &[u8], count: usize, reported: &[u16]) -> Shown
     let mut times = [0u32; Stop::FULL];
     let mut visited = [0u16; Drone::FULL];
     let mut drone_flags = [0u8; Drone::FULL];
-    let mut dependencies = [record::zero_record(); 2048];
+    let mut dependencies = [record::zero_record(); Dependency::FULL];
     let reading = calls::read_plan(
         text,
         &mut drone_count,

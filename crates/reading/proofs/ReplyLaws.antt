@@ -18,7 +18,7 @@ use Rattle.text.specs.declared.reader.LinesAnswer.the-variants as text
 use Rattle.plan.specs.declared.check.PlanCheck.{PlanCheck}
 use Rattle.plan.specs.declared.check.PlanCheck.the-variants as check
 use Rattle.plan.specs.Answers.{checkOf}
-use Rattle.plan.specs.Claims.{stopTotal, ownerIn, numberIn, locationIn, timeIn}
+use Rattle.plan.specs.Claims.{visitsIn}
 use Rattle.reading.specs.Replies.{ReadingReply, taken, refusedBy, refusedAt, refusedStop, refusedStops, readingNumber, isTaken, refusalMeant, lineMeant, checkMeant}
 use Rattle.reading.specs.Reading.{ReadingAnswer, withReply, total, withText, withDependencies, checked, fromLines, readLines, readPlan}
 use Rattle.reading.specs.declared.replies.Refusal.{Refusal}
@@ -70,7 +70,7 @@ module _ (L : Limits) where
   lines-by-0 z f (text.Refused r) e = absurd (line-some r e)
   lines-by-0 z f (text.WellFormed n) e =
       let p = withText f n z .plan in
-      checked-by-0 z (withText f n z) (checkOf (ownerIn p) (numberIn p) (locationIn p) (timeIn p) (stopTotal p)) e
+      checked-by-0 z (withText f n z) (checkOf (visitsIn p)) e
 
   pub taken-by-0 : (bytes : List ℕ) (t : Tables) → readingNumber (readPlan L bytes t .reply) ≡ 0 → readPlan L bytes t .reply ≡ taken
   unfolding readPlan readLines

@@ -14,7 +14,8 @@ use Rattle.below.proofs.Fill.{getD-fill}
 use Rattle.tables.specs.Limits.{Limits}
 use Rattle.tables.specs.Tables.{PlanLists, Tables}
 use Rattle.plan.specs.Answers.{checkOf}
-use Rattle.plan.specs.Claims.{stopTotal, ownerIn, numberIn, locationIn, timeIn}
+use Rattle.plan.specs.Visits.{Visits, visits, visitsOf}
+use Rattle.plan.specs.Claims.{stopTotal, ownerIn, numberIn, locationIn, timeIn, visitsIn}
 use Rattle.plan.specs.Dependencies.{flagOf, dependencyTotal, column}
 use Rattle.plan.specs.Columns.{Columns, columns, written, pickColumns, pickBuilt, builtOf, builtIn}
 use Rattle.plan.specs.declared.check.PlanCheck.{PlanCheck}
@@ -44,26 +45,33 @@ fills p n os ns os′ ns′ e eo en ro rn = record {
   numbers = λ v l. rw en (getD-fill (numberIn p) ns n v l rn);
 }
 
+-- the visits by the local tables, and n visits by the plan
+abbrev localVisits : PlanLists → ℕ → (os ns : List ℕ) → Visits
+localVisits p n os ns = visitsOf os ns (p .locations) (p .times) n
+
+abbrev planVisits : PlanLists → ℕ → Visits
+planVisits p n = visits (ownerIn p) (numberIn p) (locationIn p) (timeIn p) n
+
 module _ (p : PlanLists) {n : ℕ} {os ns : List ℕ} (f : Filled p n os ns) where
-  check-is : checkOf (at os) (at ns) (locationIn p) (timeIn p) n ≡ checkOf (ownerIn p) (numberIn p) (locationIn p) (timeIn p) (stopTotal p)
+  check-is : checkOf (localVisits p n os ns) ≡ checkOf (visitsIn p)
   check-is =
-      check-same (at os) (ownerIn p) (locationIn p) (timeIn p) n (f .owners) (at ns) (numberIn p) (f .numbers)
-      ∙ ap (λ (k : ℕ). checkOf (ownerIn p) (numberIn p) (locationIn p) (timeIn p) k) (f .total-is)
+      check-same (localVisits p n os ns) (ownerIn p) (numberIn p) (locationIn p) (timeIn p) (f .owners) (λ v l. refl) (λ v l. refl) (f .numbers)
+      ∙ ap (λ (k : ℕ). checkOf (planVisits p k)) (f .total-is)
 
-  count-is : dependencyTotal (at os) (locationIn p) (timeIn p) n ≡ total p
+  count-is : dependencyTotal (localVisits p n os ns) ≡ total p
   count-is =
-      total-same (at os) (ownerIn p) (locationIn p) (timeIn p) n (f .owners)
-      ∙ ap (λ (k : ℕ). dependencyTotal (ownerIn p) (locationIn p) (timeIn p) k) (f .total-is)
+      total-same (localVisits p n os ns) (ownerIn p) (numberIn p) (locationIn p) (timeIn p) (f .owners) (λ v l. refl) (λ v l. refl)
+      ∙ ap (λ (k : ℕ). dependencyTotal (planVisits p k)) (f .total-is)
 
-  written-is : (c : Columns) → written (at os) (at ns) n (column (at os) (locationIn p) (timeIn p) n) 0 c ≡ written (ownerIn p) (numberIn p) (stopTotal p) (column (ownerIn p) (locationIn p) (timeIn p) (stopTotal p)) 0 c
+  written-is : (c : Columns) → written (localVisits p n os ns) (column (localVisits p n os ns)) 0 c ≡ written (visitsIn p) (column (visitsIn p)) 0 c
   written-is c =
-      let same = column-same (at os) (ownerIn p) (locationIn p) (timeIn p) n (f .owners) in
+      let same = column-same (localVisits p n os ns) (ownerIn p) (numberIn p) (locationIn p) (timeIn p) (f .owners) (λ v l. refl) (λ v l. refl) in
       let fd = same (λ v w. at os v) (λ v w. ownerIn p v) (λ v w l k. f .owners v l) in
       let fs = same (λ v w. at ns v) (λ v w. numberIn p v) (λ v w l k. f .numbers v l) in
       let sd = same (λ v w. at os w) (λ v w. ownerIn p w) (λ v w l k. f .owners w k) in
       let ss = same (λ v w. at ns w) (λ v w. numberIn p w) (λ v w l k. f .numbers w k) in
-      let fl = same (flagOf (at os) (at ns) n) (flagOf (ownerIn p) (numberIn p) n) (flag-same (at os) (ownerIn p) (locationIn p) (timeIn p) n (f .owners) (at ns) (numberIn p) (f .numbers)) in
-      rw (fd, fs, sd, ss, fl) (ap (λ (k : ℕ). written (ownerIn p) (numberIn p) k (column (ownerIn p) (locationIn p) (timeIn p) k) 0 c) (f .total-is))
+      let fl = same (flagOf (at os) (at ns) n) (flagOf (ownerIn p) (numberIn p) n) (flag-same (localVisits p n os ns) (ownerIn p) (numberIn p) (locationIn p) (timeIn p) (f .owners) (λ v l. refl) (λ v l. refl) (f .numbers)) in
+      rw (fd, fs, sd, ss, fl) (ap (λ (k : ℕ). written (planVisits p k) (column (planVisits p k)) 0 c) (f .total-is))
 
 -- ---- the building's answer
 
@@ -76,11 +84,11 @@ built-some m k true h = (refl, cc h)
 built-some m k false h = absurd (let z : _≡_ {A = ℕ} 0 1 = cc h in omega arith)
 
 -- a count that was built is within the limit
-pub built-within : (limit : ℕ) (own loc time : ℕ → ℕ) (n : ℕ) (b : Built) → b ≡ builtOf limit own loc time n → (m : ℕ) → b ≡ Count m → m ≤ limit
+pub built-within : (limit : ℕ) (S : Visits) (b : Built) → b ≡ builtOf limit S → (m : ℕ) → b ≡ Count m → m ≤ limit
 unfolding builtOf
-built-within limit own loc time n b e m h =
-    let (o, em) = built-some (dependencyTotal own loc time n) m (leb (dependencyTotal own loc time n) limit) (sym e ∙ h) in
-    rw em (leb-true (dependencyTotal own loc time n) limit o)
+built-within limit S b e m h =
+    let (o, em) = built-some (dependencyTotal S) m (leb (dependencyTotal S) limit) (sym e ∙ h) in
+    rw em (leb-true (dependencyTotal S) limit o)
 
 -- ---- the answer of storing
 
@@ -121,7 +129,7 @@ withColumns t count c = record {
   flags = c .flags;
 }
 
-module _ (L : Limits) (t : Tables) {n : ℕ} {os ns : List ℕ} (f : Filled (t .plan) n os ns) (answer : PlanCheck) (ea : answer ≡ checkOf (at os) (at ns) (locationIn (t .plan)) (timeIn (t .plan)) n) (r : Reading) (er : readingMeant r ≡ checkMeant answer) where
+module _ (L : Limits) (t : Tables) {n : ℕ} {os ns : List ℕ} (f : Filled (t .plan) n os ns) (answer : PlanCheck) (ea : answer ≡ checkOf (localVisits (t .plan) n os ns)) (r : Reading) (er : readingMeant r ≡ checkMeant answer) where
   reply-is : readingMeant r ≡ checkIn (t .plan)
   reply-is = er ∙ ap checkMeant (ea ∙ check-is (t .plan) f)
 
@@ -134,21 +142,21 @@ module _ (L : Limits) (t : Tables) {n : ℕ} {os ns : List ℕ} (f : Filled (t .
   passed : r ≡ Taken → isTaken (checkIn (t .plan)) ≡ true
   passed h = ap isTaken (sym reply-is ∙ ap readingMeant h)
 
-  module _ (h : r ≡ Taken) (b : Built) (eb : b ≡ builtOf (L .dependencies) (at os) (locationIn (t .plan)) (timeIn (t .plan)) n)
-      (c : Columns) (ec : c ≡ builtIn (L .dependencies) (at os) (at ns) (locationIn (t .plan)) (timeIn (t .plan)) n (columnsOf t)) where
+  module _ (h : r ≡ Taken) (b : Built) (eb : b ≡ builtOf (L .dependencies) (localVisits (t .plan) n os ns))
+      (c : Columns) (ec : c ≡ builtIn (L .dependencies) (localVisits (t .plan) n os ns) (columnsOf t)) where
     pub store-many : b ≡ TooMany → AnsweredAs (stored L t) (refusedBy 11) (withColumns t (t .plan .dependencyCount) c)
     unfolding stored builtOf builtIn
     store-many k =
-        let o : leb (dependencyTotal (at os) (locationIn (t .plan)) (timeIn (t .plan)) n) (L .dependencies) ≡ false = built-many _ _ (sym eb ∙ k) in
-        let e : c ≡ columnsOf t = ec ∙ ap (λ (q : Bool). pickColumns q (written (at os) (at ns) n (column (at os) (locationIn (t .plan)) (timeIn (t .plan)) n) 0 (columnsOf t)) (columnsOf t)) o in
+        let o : leb (dependencyTotal (localVisits (t .plan) n os ns)) (L .dependencies) ≡ false = built-many _ _ (sym eb ∙ k) in
+        let e : c ≡ columnsOf t = ec ∙ ap (λ (q : Bool). pickColumns q (written (localVisits (t .plan) n os ns) (column (localVisits (t .plan) n os ns)) 0 (columnsOf t)) (columnsOf t)) o in
         let o′ : leb (total (t .plan)) (L .dependencies) ≡ false = ap (λ (m : ℕ). leb m (L .dependencies)) (sym (count-is (t .plan) f)) ∙ o in
         answered-as (stored L t) (refusedBy 11) t _ (checked-many L t t (checkIn (t .plan)) (passed h) o′) (ap (withColumns t (t .plan .dependencyCount)) e)
 
     pub store-taken : (m : ℕ) → b ≡ Count m → AnsweredAs (stored L t) taken (withColumns t (sets (t .plan .dependencyCount) 0 (m ∷ [])) c)
     unfolding stored builtOf builtIn
     store-taken m k =
-        let (o, em) = built-some (dependencyTotal (at os) (locationIn (t .plan)) (timeIn (t .plan)) n) m (leb (dependencyTotal (at os) (locationIn (t .plan)) (timeIn (t .plan)) n) (L .dependencies)) (sym eb ∙ k) in
-        let e = ec ∙ ap (λ (q : Bool). pickColumns q (written (at os) (at ns) n (column (at os) (locationIn (t .plan)) (timeIn (t .plan)) n) 0 (columnsOf t)) (columnsOf t)) o ∙ written-is (t .plan) f (columnsOf t) in
+        let (o, em) = built-some (dependencyTotal (localVisits (t .plan) n os ns)) m (leb (dependencyTotal (localVisits (t .plan) n os ns)) (L .dependencies)) (sym eb ∙ k) in
+        let e = ec ∙ ap (λ (q : Bool). pickColumns q (written (localVisits (t .plan) n os ns) (column (localVisits (t .plan) n os ns)) 0 (columnsOf t)) (columnsOf t)) o ∙ written-is (t .plan) f (columnsOf t) in
         let o′ : leb (total (t .plan)) (L .dependencies) ≡ true = ap (λ (m : ℕ). leb m (L .dependencies)) (sym (count-is (t .plan) f)) ∙ o in
         answered-as (stored L t) taken (withDependencies t) _ (checked-taken L t t (checkIn (t .plan)) (passed h) o′)
         (ap₂ (λ (m : ℕ) (c : Columns). withColumns t (sets (t .plan .dependencyCount) 0 (m ∷ [])) c) (em ∙ count-is (t .plan) f) e)

@@ -49,4 +49,4 @@ module _ (L : Limits) (text : List ℕ) (n : ℕ) (h : linesAt L text .answer �
   drones-in = taken-range L text n h .1
 
   pub stops-in : (l : List ℕ) → L .drones ≤ length l → start (sets l 0 (linesAt L text .counts)) n ≤ L .stops
-  stops-in l k = let w = text-taken L text n h in found-within L l n (linesAt L text) (w .routes) (w .read) (w .many) k (w .valid)
+  stops-in l k = let w = text-taken L text n h in found-within L l n (linesAt L text) (w .routes) (w .read) (w .many) k (w .in-limits)

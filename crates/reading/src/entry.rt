@@ -3,7 +3,9 @@ use crate::replies;
 use crate::replies::Reading;
 use crate::replies::Refusal;
 use crate::storing;
-use tables::entries::Text;
+use tables::entries::Drone;
+use tables::entries::MAX_TEXT;
+use tables::entries::Stop;
 use tables::sizes;
 use tables::zeroing;
 use text::reader;
@@ -15,11 +17,59 @@ ghost use Rattle.tables.specs.Limits.{limits};
 ghost use Rattle.tables.specs.Tables.{tablesOf};
 ghost use Rattle.tables.specs.Zero.{zeroedTables};
 ghost use Rattle.plan.specs.Columns.{columns};
-ghost use Rattle.reading.specs.Reading.{AnsweredAs, readLines, readPlan};
+ghost use Rattle.reading.specs.Reading.{AnsweredAs, TextStored, readLines, readPlan};
 ghost use Rattle.reading.specs.Replies.{readingMeant};
 ghost use Rattle.reading.specs.Asked.{LinesAsked};
 
-// Reads a text that is not too long into zeroed tables. A refusal leaves them zeroed. The drones' progress is not touched, whatever it is.
+// Reads a text that is not too long into zeroed tables: its lines, then plan check and dependencies. A refusal leaves what the lines wrote. The drones' progress is not touched, whatever it is.
+fn store_text(
+    text: &[u8],
+    drone_count: &mut [u16],
+    dependency_count: &mut [u16],
+    names: &mut [u8],
+    stop_counts: &mut [u16],
+    locations: &mut [u16],
+    times: &mut [u32],
+    first_drones: &mut [u8],
+    first_stops: &mut [u16],
+    second_drones: &mut [u8],
+    second_stops: &mut [u16],
+    flags: &mut [u8],
+) -> Reading
+    requires { ⌜ LinesAsked limits (now «drone_count») (now «dependency_count») (now names) (now «stop_counts») (now locations) (now times) (columns (now «first_drones») (now «first_stops») (now «second_drones») (now «second_stops») (now flags)) ⌝ }
+    ensures { λ r.
+        ⌜
+        ((visited droneFlags : List ℕ)
+        → TextStored limits (now (text .entry)) (tablesOf
+        (now («drone_count» .entry)) (now («dependency_count» .entry)) (now (names .entry)) (now («stop_counts» .entry))
+        (now (locations .entry)) (now (times .entry)) visited droneFlags
+        (now («first_drones» .entry)) (now («first_stops» .entry)) (now («second_drones» .entry)) (now («second_stops» .entry))
+        (now (flags .entry))) (readingMeant r) (tablesOf
+        (now («drone_count» .exit)) (now («dependency_count» .exit)) (now (names .exit)) (now («stop_counts» .exit))
+        (now (locations .exit)) (now (times .exit)) visited droneFlags
+        (now («first_drones» .exit)) (now («first_stops» .exit)) (now («second_drones» .exit)) (now («second_stops» .exit))
+        (now (flags .exit))))
+        ⌝ }
+{
+    let answer = reader::read_text(text, drone_count, names, stop_counts, locations, times);
+    match answer {
+        LinesAnswer::Refused(refusal) => Reading::Refused(replies::of_line(refusal)),
+        LinesAnswer::WellFormed { drones: _ } => storing::store_plan(
+            drone_count,
+            dependency_count,
+            stop_counts,
+            locations,
+            times,
+            first_drones,
+            first_stops,
+            second_drones,
+            second_stops,
+            flags,
+        ),
+    }
+}
+
+// Reads a text that is not too long into zeroed tables. After any refusal the tables that its lines wrote are zeroed.
 fn read_lines(
     text: &[u8],
     drone_count: &mut [u16],
@@ -58,29 +108,29 @@ fn read_lines(
         (now (flags .exit))))
         ⌝ }
 {
-    let answer = reader::read_text(text, drone_count, names, stop_counts, locations, times);
-    match answer {
-        LinesAnswer::Refused(refusal) => Reading::Refused(replies::of_line(refusal)),
-        LinesAnswer::WellFormed { drones: _ } => {
-            let reading = storing::store_plan(
-                drone_count,
-                dependency_count,
-                stop_counts,
-                locations,
-                times,
-                first_drones,
-                first_stops,
-                second_drones,
-                second_stops,
-                flags,
-            );
-            match reading {
-                Reading::Taken => Reading::Taken,
-                Reading::Refused(refusal) => {
-                    reader::zero_all(drone_count, names, stop_counts, locations, times);
-                    Reading::Refused(refusal)
-                }
-            }
+    let reading = store_text(
+        text,
+        drone_count,
+        dependency_count,
+        names,
+        stop_counts,
+        locations,
+        times,
+        first_drones,
+        first_stops,
+        second_drones,
+        second_stops,
+        flags,
+    );
+    match reading {
+        Reading::Taken => Reading::Taken,
+        Reading::Refused(refusal) => {
+            zeroing::zero_u16(drone_count, Drone::COUNT);
+            zeroing::zero_u8(names, Drone::NAMES);
+            zeroing::zero_u16(stop_counts, Drone::FULL);
+            zeroing::zero_u16(locations, Stop::FULL);
+            zeroing::zero_u32(times, Stop::FULL);
+            Reading::Refused(refusal)
         }
     }
 }
@@ -132,8 +182,8 @@ pub fn read_plan(
     ) {
         return Reading::Refused(Refusal::TablesTooSmall);
     }
-    if Text::FULL < text.len() {
-        return Reading::Refused(Refusal::TooLong(Text::FULL));
+    if MAX_TEXT < text.len() {
+        return Reading::Refused(Refusal::TooLong(MAX_TEXT));
     }
     zeroing::zero_all(
         drone_count,

@@ -75,7 +75,7 @@ module _ (C : Course) (placed : PlacedWaits (C .own) (C .off) (C .last) (C .dron
     }
 
   -- a walk that has ended leaves the table of rounds, whatever the legs
-  module _ (leg : ℕ → ℕ → ℕ) (p : ℕ → ℕ) (start : List ℕ) (stands : (d : ℕ) → d < drones → at start d ≡ off d + p d) {b : ℕ} {cur tab : List ℕ} (W : Walked C (flat leg) b start cur tab) (acyclic : cyclic (planOf C) ≡ false) where
+  module _ (leg : ℕ → ℕ → ℕ) (p : ℕ → ℕ) (start : List ℕ) (stands : (d : ℕ) → d < drones → at start d ≡ off d + p d) {L : Limits} {b : ℕ} {cur tab : List ℕ} (W : Walked L C (flat leg) b start cur tab) (acyclic : cyclic (planOf C) ≡ false) where
     pub walked-is : {t : ℕ → ℕ → ℕ} → Table (planOf C) leg p t → (v : ℕ) → v < stops → at tab v ≡ flat t v
     walked-is {t} table v l = W .visited (flat t) (flat-table leg p (at start) stands table) v l (walked-all C placed W acyclic v l)
 

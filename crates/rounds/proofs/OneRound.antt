@@ -16,11 +16,11 @@ use Rattle.precedence.specs.Graph.{Plan, free, round}
 use Rattle.precedence.proofs.Rounds.{free-open, free-if, free-finished, free-unfinished, round-free, round-stays}
 use Rattle.cycles.specs.Flat.{flatPlan, FlatTables}
 use Rattle.cycles.specs.Links.{Linked}
-use Rattle.tables.specs.Limits.{limits}
+use Rattle.tables.specs.Limits.{Limits}
 use Rattle.rounds.specs.Remaining.{StopIn}
 
 -- the owner of a stop that code has read
-pub read-owner : (owners : List ℕ) (v b d : ℕ) → at owners v < limits .drones → b ≡ v → d ≡ at owners b → d < limits .drones
+pub read-owner : {size : ℕ} (owners : List ℕ) (v b d : ℕ) → at owners v < size → b ≡ v → d ≡ at owners b → d < size
 read-owner owners v b d h eb ed = rw (ed, eb) h
 
 -- whether the stop that wait k awaits is visited, with the values that code has read
@@ -39,14 +39,14 @@ pub record Scanning (P : Plan) (into : ℕ → ℕ) (p : ℕ → ℕ) (d v link 
   pub found : (j : ℕ) → link ≡ j + 1 → into j ≡ v
   pub met : (w : ℕ) → link ≤ w → w < P .count → P .wait w .waiter ≡ d → P .wait w .stop ≡ suc (p d) → P .wait w .until ≤ p (P .wait w .awaited)
 
-module _ (owners starts lasts : List ℕ) (drones n : ℕ) (from into : List ℕ) (m : ℕ) (T : FlatTables owners starts lasts drones n from into m) where
+module _ {L : Limits} (owners starts lasts : List ℕ) (drones n : ℕ) (from into : List ℕ) (m : ℕ) (T : FlatTables L owners starts lasts drones n from into m) where
   abbrev P : Plan
   P = flatPlan (at owners) (at starts) (at lasts) drones (at from) (at into) m
 
-  pub stop-in : (v : ℕ) → v < n → StopIn limits owners (at starts) v
+  pub stop-in : (v : ℕ) → v < n → StopIn L owners (at starts) v
   stop-in v l = record { stop-in = omega (arith, T .few-stops); owned = omega (arith, T .has-owners); owner-in = omega (arith, T .placed .shape .own-in v l, T .few-drones); past = T .placed .shape .off-le v l }
 
-  pub await-in : (k : ℕ) → k < m → StopIn limits owners (at starts) (at from k)
+  pub await-in : (k : ℕ) → k < m → StopIn L owners (at starts) (at from k)
   await-in k l = stop-in (at from k) (T .placed .from-in k l)
 
   module _ (p : ℕ → ℕ) where
@@ -67,10 +67,10 @@ module _ (owners starts lasts : List ℕ) (drones n : ℕ) (from into : List ℕ
       other : (w : ℕ) → w < m → at into w ≢ v → P .wait w .waiter ≡ d → P .wait w .stop ≡ suc (p d) → P .wait w .until ≤ p (P .wait w .awaited)
       other w h ne a b = absurd (ne (omega (arith, ev, ap (at starts) a, b, T .placed .shape .off-le (at into w) (T .placed .into-in w h))))
 
-      module _ (head next : List ℕ) (L : Linked (at into) m head next) where
+      module _ (head next : List ℕ) (K : Linked L (at into) m head next) where
         pub scan-start : (x : ℕ) → x ≡ at head v → Scanning P (at into) p d v x
         scan-start x ex =
-            let q : x ≡ lastBelow m (λ k. eqb (at into k) v) = ex ∙ L .heads v (omega (arith, next-in, T .few-stops)) in
+            let q : x ≡ lastBelow m (λ k. eqb (at into k) v) = ex ∙ K .heads v (omega (arith, next-in, T .few-stops)) in
             record {
               within = omega (arith, q, last-le m (λ k. eqb (at into k) v));
               found = λ j e. eqb-true (at into j) v (last-found m (λ k. eqb (at into k) v) j (sym q ∙ e));
@@ -82,7 +82,7 @@ module _ (owners starts lasts : List ℕ) (drones n : ℕ) (from into : List ℕ
           scan-in = omega (arith, S .within, ex)
 
           next-is : at next j ≡ lastBelow j (λ i. eqb (at into i) (at into j))
-          next-is = L .nexts j scan-in
+          next-is = K .nexts j scan-in
 
           pub scan-falls : (y : ℕ) → y ≡ at next j → y < x
           scan-falls y ey = omega (arith, ex, ey, next-is, last-le j (λ i. eqb (at into i) (at into j)))
@@ -115,7 +115,7 @@ module _ (owners starts lasts : List ℕ) (drones n : ℕ) (from into : List ℕ
   -- ---- the drones that can go on, and their places after it
 
   module _ (places moves : List ℕ) (marked : (d : ℕ) → d < drones → at moves d ≡ pick (free P (at places) d) 1 0) where
-    pub moved-small : (d : ℕ) → d < drones → at moves d ≢ 0 → at places d < limits .stops
+    pub moved-small : (d : ℕ) → d < drones → at moves d ≢ 0 → at places d < L .stops
     moved-small d l ne = by-cases (free P (at places) d)
         (λ e. omega (arith, free-unfinished P (at places) d e, T .placed .shape .place-in d (at lasts d) l (omega arith), T .few-stops))
         (λ e. absurd (ne (marked d l ∙ rw e refl)))

@@ -22,8 +22,8 @@ stopRounds L own off last drones n from into m p = listBelow (L .stops) (λ v. p
 
 -- what remaining rounds are counted from: tables of sound size whose waits name stops, a graph without a cycle, nobody past a last stop, and "for every
 -- dependency whose waiting stop is visited .., the stop it waits for is visited"
-pub record Ready (owners starts lasts : List ℕ) (drones n : ℕ) (from into : List ℕ) (m : ℕ) (visited : List ℕ) : Type 0 where
-  pub tables : FlatTables owners starts lasts drones n from into m
+pub record Ready (L : Limits) (owners starts lasts : List ℕ) (drones n : ℕ) (from into : List ℕ) (m : ℕ) (visited : List ℕ) : Type 0 where
+  pub tables : FlatTables L owners starts lasts drones n from into m
   pub has-visited : drones ≤ length visited
   pub acyclic : cyclic (flatPlan (at owners) (at starts) (at lasts) drones (at from) (at into) m) ≡ false
   pub kept : Kept (flatPlan (at owners) (at starts) (at lasts) drones (at from) (at into) m) (at visited)

@@ -44,7 +44,7 @@ pub fn stop_rounds(
     visited: &[u16],
     table: &mut [u16; Stop::FULL],
 )
-    requires { ⌜ Ready (now owners) (now starts) (now lasts) drones n (now from) (now into) m (now visited) ⌝ }
+    requires { ⌜ Ready limits (now owners) (now starts) (now lasts) drones n (now from) (now into) m (now visited) ⌝ }
     requires { ⌜ (length (now table) ≡ limits .stops) × ((v : ℕ) → at (now table) v ≡ 0) ⌝ }
     ensures { λ _. ⌜ now (table .exit) ≡ stopRounds limits (at (now (owners .entry))) (at (now (starts .entry))) (at (now (lasts .entry))) drones n (at (now (from .entry))) (at (now (into .entry))) m (at (now (visited .entry))) ⌝ }
 {
@@ -71,7 +71,7 @@ fn last_round(
     table: &[u16; Stop::FULL],
     d: usize,
 ) -> usize
-    requires { ⌜ (d < 32) × (at (now starts) d + at (now lasts) d < 1024) ⌝ }
+    requires { ⌜ (d < limits .drones) × (at (now starts) d + at (now lasts) d < limits .stops) ⌝ }
     ensures { λ r. ⌜ r ≡ at (now (table .entry)) (at (now (starts .entry)) d + at (now (lasts .entry)) d) ⌝ }
 {
     let v = wide(starts[d]) + wide(lasts[d]);
@@ -85,7 +85,7 @@ fn last_rounds(
     drones: usize,
     table: &[u16; Stop::FULL],
 ) -> usize
-    requires { ⌜ (drones ≤ 32) × ((d : ℕ) → d < drones → at (now starts) d + at (now lasts) d < 1024) × ((d : ℕ) → d < drones → at (now table) (at (now starts) d + at (now lasts) d) ≤ 1024) ⌝ }
+    requires { ⌜ (drones ≤ limits .drones) × ((d : ℕ) → d < drones → at (now starts) d + at (now lasts) d < limits .stops) × ((d : ℕ) → d < drones → at (now table) (at (now starts) d + at (now lasts) d) ≤ limits .stops) ⌝ }
     ensures { λ r. ⌜ r ≡ sumBelow drones (λ d. at (now (table .entry)) (at (now (starts .entry)) d + at (now (lasts .entry)) d)) ⌝ }
 {
     let mut sum: usize = 0;
@@ -109,7 +109,7 @@ pub fn remaining_cost(
     m: usize,
     visited: &[u16],
 ) -> usize
-    requires { ⌜ Ready (now owners) (now starts) (now lasts) drones n (now from) (now into) m (now visited) ⌝ }
+    requires { ⌜ Ready limits (now owners) (now starts) (now lasts) drones n (now from) (now into) m (now visited) ⌝ }
     ensures { λ r. ⌜ r ≡ cost (flatPlan (at (now (owners .entry))) (at (now (starts .entry))) (at (now (lasts .entry))) drones (at (now (from .entry))) (at (now (into .entry))) m) (at (now (visited .entry))) ⌝ }
 {
     let mut table = [0u16; Stop::FULL];

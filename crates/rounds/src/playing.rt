@@ -56,7 +56,7 @@ fn can_go_on(
     places: &[u16; Drone::FULL],
     d: usize,
 ) -> bool
-    requires { ⌜ FlatTables (now owners) (now starts) (now lasts) drones n (now from) (now into) m × Linked (at (now into)) m (now head) (now next) × (d < drones) ⌝ }
+    requires { ⌜ FlatTables limits (now owners) (now starts) (now lasts) drones n (now from) (now into) m × Linked limits (at (now into)) m (now head) (now next) × (d < drones) ⌝ }
     ensures { λ r. ⌜ r ≡ free (flatPlan (at (now (owners .entry))) (at (now (starts .entry))) (at (now (lasts .entry))) drones (at (now (from .entry))) (at (now (into .entry))) m) (at (now (places .entry))) d ⌝ }
 {
     let place = wide(places[d]);
@@ -95,7 +95,7 @@ fn mark_movers(
     places: &[u16; Drone::FULL],
     moves: &mut [u8; Drone::FULL],
 )
-    requires { ⌜ FlatTables (now owners) (now starts) (now lasts) drones n (now from) (now into) m × Linked (at (now into)) m (now head) (now next) × (length (now moves) ≡ limits .drones) ⌝ }
+    requires { ⌜ FlatTables limits (now owners) (now starts) (now lasts) drones n (now from) (now into) m × Linked limits (at (now into)) m (now head) (now next) × (length (now moves) ≡ limits .drones) ⌝ }
     ensures { λ _. ⌜ ((d : ℕ) → d < drones → at (now (moves .exit)) d ≡ pick (free (flatPlan (at (now (owners .entry))) (at (now (starts .entry))) (at (now (lasts .entry))) drones (at (now (from .entry))) (at (now (into .entry))) m) (at (now (places .entry))) d) 1 0) ⌝ }
 {
     let mut d = 0;
@@ -155,7 +155,7 @@ fn play_round(
     next: &[u16; Dependency::FULL],
     places: &mut [u16; Drone::FULL],
 )
-    requires { ⌜ FlatTables (now owners) (now starts) (now lasts) drones n (now from) (now into) m × Linked (at (now into)) m (now head) (now next) × (length (now places) ≡ limits .drones) ⌝ }
+    requires { ⌜ FlatTables limits (now owners) (now starts) (now lasts) drones n (now from) (now into) m × Linked limits (at (now into)) m (now head) (now next) × (length (now places) ≡ limits .drones) ⌝ }
     ensures { λ _. ⌜ (length (now (places .exit)) ≡ limits .drones) × ((d : ℕ) → d < drones → at (now (places .exit)) d ≡ round (flatPlan (at (now (owners .entry))) (at (now (starts .entry))) (at (now (lasts .entry))) drones (at (now (from .entry))) (at (now (into .entry))) m) (at (now (places .entry))) d) ⌝ }
 {
     let mut moves = [0u8; Drone::FULL];
@@ -178,7 +178,7 @@ fn play_round(
 
 // How many drones are short of their last stop.
 fn unfinished(lasts: &[u16; Drone::FULL], drones: usize, places: &[u16; Drone::FULL]) -> usize
-    requires { ⌜ drones ≤ 32 ⌝ }
+    requires { ⌜ drones ≤ limits .drones ⌝ }
     ensures { λ r. ⌜ (r ≡ countBelow drones (λ d. ltb (at (now (places .entry)) d) (at (now (lasts .entry)) d))) × (r ≤ drones) ⌝ }
 {
     let mut count: usize = 0;
@@ -194,7 +194,7 @@ fn unfinished(lasts: &[u16; Drone::FULL], drones: usize, places: &[u16; Drone::F
 
 // The drones' places, copied.
 fn copy_places(visited: &[u16], drones: usize, places: &mut [u16; Drone::FULL])
-    requires { ⌜ (drones ≤ 32) × (drones ≤ length (now visited)) × (length (now places) ≡ 32) ⌝ }
+    requires { ⌜ (drones ≤ limits .drones) × (drones ≤ length (now visited)) × (length (now places) ≡ limits .drones) ⌝ }
     ensures { λ _. ⌜ now (places .exit) ≡ fillBelow drones (at (now (visited .entry))) (now (places .entry)) ⌝ }
 {
     let mut d = 0;
@@ -216,7 +216,7 @@ pub fn play_rounds(
     m: usize,
     visited: &[u16],
 ) -> Played
-    requires { ⌜ Ready (now owners) (now starts) (now lasts) drones n (now from) (now into) m (now visited) ⌝ }
+    requires { ⌜ Ready limits (now owners) (now starts) (now lasts) drones n (now from) (now into) m (now visited) ⌝ }
     ensures { λ r. ⌜ (r .rounds ≡ makespan (flatPlan (at (now (owners .entry))) (at (now (starts .entry))) (at (now (lasts .entry))) drones (at (now (from .entry))) (at (now (into .entry))) m) (at (now (visited .entry)))) × (r .cost ≡ cost (flatPlan (at (now (owners .entry))) (at (now (starts .entry))) (at (now (lasts .entry))) drones (at (now (from .entry))) (at (now (into .entry))) m) (at (now (visited .entry)))) ⌝ }
 {
     let mut head = [0u16; Stop::FULL];

@@ -6,7 +6,7 @@ use mathlib.Core.List.{List, [], _∷_}
 use Prim.Native.Nat.{ℕ, suc, _-_, _≤_}
 use native.Mathlib.Omega.{arith}
 use lib.ListN.{length}
-use Rattle.below.specs.Below.{at, sumBelow, countBelow}
+use Rattle.below.specs.Below.{sumBelow, countBelow}
 use Rattle.below.proofs.Tests.{same-test}
 use Rattle.below.proofs.Count.{count-le}
 use Rattle.below.proofs.Sum.{sum-bound}
@@ -15,7 +15,7 @@ use Rattle.tables.specs.Tables.{Tables, fullSize}
 use Rattle.lines.specs.Names.{smallForm, isNameByte, nameBytes, goodName}
 use Rattle.lines.specs.Stops.{StopsInRange}
 use Rattle.text.specs.LinesRead.{same, elem}
-use Rattle.text.specs.Written.{Route, routesText, smallNames, locationsOf, timesOf, InLimits}
+use Rattle.text.specs.Written.{Route, routesText, smallNames, InLimits}
 use Rattle.text.proofs.RoundTrips.{limits-round-trip}
 use Rattle.plan.specs.Stops.{start}
 use Rattle.plan.specs.Field.{Checked}
@@ -23,8 +23,8 @@ use Rattle.plan.specs.Dependencies.{follows}
 use Rattle.reading.specs.Replies.{taken, isTaken}
 use Rattle.reading.proofs.ReplyLaws.{is-taken}
 use Rattle.reading.specs.Reading.{readPlan}
-use Rattle.accepted.specs.TextPlan.{stopsIn, ownerOf, routesPlan}
-use Rattle.accepted.specs.Examples.{filled}
+use Rattle.accepted.specs.TextPlan.{stopsIn, routesVisits, routesPlan}
+use Rattle.tables.specs.Zero.{filled}
 use Rattle.accepted.proofs.RoutesPlan.{rules-checked}
 use Rattle.accepted.proofs.Taken.{limits-taken-exactly, follows-own}
 use Rattle.small_plans.specs.Routes.{SmallRoute, route, stops, AtMost, Within}
@@ -47,9 +47,9 @@ module _ (x y : SmallRoute) (wx : Within x) (wy : Within y) where
   abbrev ds : List Route
   ds = routes (plan x y)
 
-  pub valid : InLimits limits ds
+  pub in-limits : InLimits limits ds
   unfolding goodName nameBytes isNameByte elem same
-  valid =
+  in-limits =
       let a = wx .few in
       let b = wy .few in (
         omega arith,
@@ -66,10 +66,10 @@ module _ (x y : SmallRoute) (wx : Within x) (wy : Within y) where
 
   -- its names have no capitals
   own : smallNames ds ≡ ds
-  own = limits-round-trip .no-capitals ds valid
+  own = limits-round-trip .no-capitals ds in-limits
 
-  short : length (routesText ds) ≤ 32768
-  short = omega (arith, limits-round-trip .written-bound ds valid)
+  short : length (routesText ds) ≤ limits .text
+  short = omega (arith, limits-round-trip .written-bound ds in-limits)
 
   -- ---- the plan of the two routes
 
@@ -83,9 +83,9 @@ module _ (x y : SmallRoute) (wx : Within x) (wy : Within y) where
   unfolding start sumBelow
   stops-few = let a = wx .few in let b = wy .few in omega arith
 
-  few-dependencies : routesPlan ds .count ≤ 2048
+  few-dependencies : routesPlan ds .count ≤ limits .dependencies
   few-dependencies =
-      let R = follows (ownerOf ds) (at (locationsOf ds)) (at (timesOf ds)) in
+      let R = follows (routesVisits ds) in
       omega (arith, sum-bound (stopsIn ds) (λ v. countBelow (stopsIn ds) (R v)) 6 (λ v l. le-six (count-le (stopsIn ds) (R v)) stops-few), stops-few)
     where
       le-six : {m n : ℕ} → m ≤ n → n ≤ 6 → m ≤ 6
@@ -100,12 +100,12 @@ module _ (x y : SmallRoute) (wx : Within x) (wy : Within y) where
           let q = limits-taken-exactly (routesText ds) t .0 h .1 in
           let texts : routesText (smallNames (q .typed)) ≡ routesText ds =
           sym (limits-round-trip .names-alone (q .typed)) ∙ (ap smallForm (sym (q .as-typed)) ∙ (limits-round-trip .names-alone ds ∙ ap routesText own)) in
-          let e : smallNames (q .typed) ≡ ds = limits-round-trip .one-plan (smallNames (q .typed)) ds (q .valid) valid texts in
-          plan-said (routesPlan ds) x y refl first-flies second-flies (subst (λ (r : List Route). Checked (routesPlan r)) e (rules-checked limits (smallNames (q .typed)) (q .valid) .0 (q .stops, q .apart)))
+          let e : smallNames (q .typed) ≡ ds = limits-round-trip .one-plan (smallNames (q .typed)) ds (q .in-limits) in-limits texts in
+          plan-said (routesPlan ds) x y refl (λ a b. refl) first-flies second-flies (subst (λ (r : List Route). Checked (routesPlan r)) e (rules-checked limits (smallNames (q .typed)) (q .in-limits) .0 (q .stops, q .apart)))
 
       says : planChecked x y ≡ true → readPlan limits (routesText ds) t .reply ≡ taken
       says h = limits-taken-exactly (routesText ds) t .1
-          (full, follows-own limits (routesText ds) ds own refl valid short (rules-checked limits ds valid .1 (says-checked (routesPlan ds) x y refl first-flies second-flies h)) few-dependencies)
+          (full, follows-own limits (routesText ds) ds own refl in-limits short (rules-checked limits ds in-limits .1 (says-checked (routesPlan ds) x y refl (λ a b. refl) first-flies second-flies h)) few-dependencies)
 
 -- two plans of one text are one plan
 abbrev tableRoute : List Route → SmallRoute
@@ -119,7 +119,7 @@ after (r ∷ rs) = rs
 pub same-plan : (a b : SmallPlan) → Within (a .first) → Within (a .second) → Within (b .first) → Within (b .second) → text a ≡ text b → a ≡ b
 unfolding text
 same-plan a b i j k l h =
-    let e : routes a ≡ routes b = limits-round-trip .one-plan (routes a) (routes b) (valid (a .first) (a .second) i j) (valid (b .first) (b .second) k l) h in
+    let e : routes a ≡ routes b = limits-round-trip .one-plan (routes a) (routes b) (in-limits (a .first) (a .second) i j) (in-limits (b .first) (b .second) k l) h in
     ap (λ (rs : List Route). plan (tableRoute rs) (tableRoute (after rs))) e
 
 -- ---- the list's own test

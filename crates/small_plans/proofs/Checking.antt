@@ -9,6 +9,7 @@ use borrow.Author.Tests.{ltb-true, lt-ltb, eqb-true, eqb-false, eq-eqb, ne-eqb, 
 use Rattle.below.specs.Below.{at}
 use Rattle.below.proofs.Tests.{by-cases, and-left, and-right, and-both}
 use Rattle.below.proofs.Every.{allBelow-at, allBelow-all}
+use Rattle.plan.specs.Visits.{sameLocation}
 use Rattle.plan.specs.Field.{FieldPlan, GoneBefore, Checked}
 use Rattle.small_plans.specs.Routes.{SmallRoute, stops}
 use Rattle.small_plans.specs.Check.{routeChecked, gone, apart, planChecked}
@@ -110,9 +111,15 @@ module _ (F : FieldPlan) (d e : ℕ) (x y : SmallRoute) (f : Flies F d x) (g : F
       either l m (inl u) = inl (says-gone F d e x y f g s k m u)
       either l m (inr u) = inr (says-gone F e d y x g f k s l u)
 
--- ---- the plan of the two
+-- ---- the plan of the two, in which the same locations meet
 
-module _ (F : FieldPlan) (x y : SmallRoute) (two : F .drones ≡ 2) (f : Flies F 0 x) (g : Flies F 1 y) where
+module _ (F : FieldPlan) (x y : SmallRoute) (two : F .drones ≡ 2) (same : (a b : ℕ) → F .meets a b ≡ sameLocation a b) (f : Flies F 0 x) (g : Flies F 1 y) where
+  meet : {a b : ℕ} → a ≡ b → F .meets a b ≡ true
+  meet {a} {b} q = same a b ∙ eq-eqb a b q
+
+  met : (a b : ℕ) → F .meets a b ≡ true → a ≡ b
+  met a b q = eqb-true a b (sym (same a b) ∙ q)
+
   pub plan-said : Checked F → planChecked x y ≡ true
   unfolding planChecked
   plan-said c =
@@ -120,7 +127,7 @@ module _ (F : FieldPlan) (x y : SmallRoute) (two : F .drones ≡ 2) (f : Flies F
       let b : 1 < F .drones = omega (arith, two) in
       and-both (routeChecked x) _ (route-said F 0 x f (c .starts 0 a) (λ s l. c .rises 0 s a l) (λ s l. c .moves 0 s a l))
       (and-both (routeChecked y) _ (route-said F 1 y g (c .starts 1 b) (λ s l. c .rises 1 s b l) (λ s l. c .moves 1 s b l))
-      (apart-said F 0 1 x y f g (λ s k l m q. c .no-collision 0 s 1 k a l b m (λ (z : 0 ≡ 1). omega arith) q)))
+      (apart-said F 0 1 x y f g (λ s k l m q. c .no-collision 0 s 1 k a l b m (λ (z : 0 ≡ 1). omega arith) (meet q))))
 
   module _ (h : planChecked x y ≡ true) where
     of-first : routeChecked x ≡ true
@@ -154,14 +161,14 @@ module _ (F : FieldPlan) (x y : SmallRoute) (two : F .drones ≡ 2) (f : Flies F
     swapped (inl a) = inr a
     swapped (inr b) = inl b
 
-    no-collision : (d s e k : ℕ) → d < F .drones → s ≤ F .last d → e < F .drones → k ≤ F .last e → d ≢ e → F .location d s ≡ F .location e k → GoneBefore F d s e k ⊎ GoneBefore F e k d s
+    no-collision : (d s e k : ℕ) → d < F .drones → s ≤ F .last d → e < F .drones → k ≤ F .last e → d ≢ e → F .meets (F .location d s) (F .location e k) ≡ true → GoneBefore F d s e k ⊎ GoneBefore F e k d s
     no-collision zero s zero k l a m b ne q = absurd (ne refl)
-    no-collision zero s (suc zero) k l a m b ne q = says-apart F 0 1 x y f g of-both s k a b q
+    no-collision zero s (suc zero) k l a m b ne q = says-apart F 0 1 x y f g of-both s k a b (met _ _ q)
     no-collision zero s (suc (suc e)) k l a m b ne q = absurd (omega (arith, two))
-    no-collision (suc zero) s zero k l a m b ne q = swapped (says-apart F 0 1 x y f g of-both k s b a (sym q))
+    no-collision (suc zero) s zero k l a m b ne q = swapped (says-apart F 0 1 x y f g of-both k s b a (sym (met _ _ q)))
     no-collision (suc zero) s (suc zero) k l a m b ne q = absurd (ne refl)
     no-collision (suc zero) s (suc (suc e)) k l a m b ne q = absurd (omega (arith, two))
     no-collision (suc (suc d)) s e k l a m b ne q = absurd (omega (arith, two))
 
     pub says-checked : Checked F
-    says-checked = record { starts = starts; rises = rises; moves = moves; no-collision = no-collision }
+    says-checked = record { starts = starts; rises = rises; moves = moves; symmetric = λ a b q. meet (sym (met a b q)); no-collision = no-collision }

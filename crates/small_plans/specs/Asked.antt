@@ -16,12 +16,6 @@ use Rattle.small_plans.specs.declared.PlanAnswer.the-variants.{Length, N
 use Rattle.small_plans.specs.Routes.{SmallRoute, stops}
 use Rattle.small_plans.specs.Plans.{text, smallPlans, planAt}
 
--- the number of the answer, 0 for none
-abbrev pub refusalNumber : PlanAnswer → ℕ
-refusalNumber (Length n) = 0
-refusalNumber NoSuchPlan = 15
-refusalNumber Short = 42
-
 -- the writer's answer
 abbrev pub asWritten : WriteAnswer → PlanAnswer
 asWritten (writer.Length n) = Length n

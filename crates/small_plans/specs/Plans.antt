@@ -7,7 +7,7 @@ use Rattle.tables.specs.Limits.{limits}
 use Rattle.text.specs.Written.{Route, routesText}
 use Rattle.reading.specs.Replies.{isTaken}
 use Rattle.reading.specs.Reading.{readPlan}
-use Rattle.accepted.specs.Examples.{filled}
+use Rattle.tables.specs.Zero.{filled}
 use Rattle.small_plans.specs.Routes.{map, flatMap, filter, SmallRoute, route, smallRoutes, routeBefore, sameRoute}
 
 -- ---- a plan of two drones

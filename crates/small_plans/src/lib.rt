@@ -4,10 +4,11 @@ mod entries;
 
 use lines::bytes;
 use lines::keys;
+use tables::casts::wide8;
 use text::writer;
 ghost use mathlib.Core.Path.{_≡_};
 ghost use mathlib.Core.List.{_++_};
-ghost use Prim.Native.Nat.{_+_, _*_, _<_, _≤_, _^_};
+ghost use Prim.Native.Nat.{_+_, _*_, _<_, _^_};
 ghost use lib.ListN.{length};
 ghost use Rattle.lines.specs.Bytes.{Put};
 ghost use Rattle.small_plans.specs.Plans.{plan, text, planAt};
@@ -27,18 +28,12 @@ const FIRST_NAME: [u8; 7] = *b"name=a\n";
 
 const SECOND_NAME: [u8; 7] = *b"name=b\n";
 
-fn wide(x: u8) -> usize
-    ensures { λ r. ⌜ r ≡ x ⌝ }
-{
-    x as usize
-}
-
 // The route of the first drone of a plan.
 fn first_of(number: usize) -> usize
     requires { ⌜ number < 378 ⌝ }
     ensures { λ r. ⌜ (r < 99) × (planAt number .first ≡ routeAt r) ⌝ }
 {
-    wide(entries::FIRSTS[number])
+    wide8(entries::FIRSTS[number])
 }
 
 // The route of the second drone of a plan.
@@ -46,7 +41,7 @@ fn second_of(number: usize) -> usize
     requires { ⌜ number < 378 ⌝ }
     ensures { λ r. ⌜ (r < 99) × (planAt number .second ≡ routeAt r) ⌝ }
 {
-    wide(entries::SECONDS[number])
+    wide8(entries::SECONDS[number])
 }
 
 // The number of stops of a route: 3 routes have one, 24 have two, the others three.

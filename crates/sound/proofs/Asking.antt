@@ -17,7 +17,9 @@ use Rattle.tables.specs.Limits.{Limits}
 use Rattle.tables.specs.Flags.{turnedBit, fixedBit, onlyTwoBits, underWayBit, onlyOneBit}
 use Rattle.lines.specs.Names.{isNameByte}
 use Rattle.plan.specs.Stops.{start}
+use Rattle.plan.specs.Visits.{Visits}
 use Rattle.plan.specs.Check.{faultAt}
+use Rattle.plan.proofs.Unread.{by}
 use Rattle.sound.specs.Sound.{zeroFrom, nameLength, nameSound, sameName, namesDiffer}
 use Rattle.sound.specs.Parts.{countsSound, nameKey, stopSound, stopIn, flagRight, fixedAt, recordRight, droneSound, enteredBy, waitKept, keptAt}
 
@@ -104,34 +106,26 @@ byte-after within b e = rw e refl
 
 -- ---- a stop by itself
 
-module _ (L : Limits) (num loc time : ℕ → ℕ) (v : ℕ) where
-  pub stop-place : L .location < loc v → false ≡ stopSound L num loc time v
+module _ (L : Limits) (S : Visits) (v : ℕ) where
+  open Visits S using (num, loc, time)
+
+  pub stop-place : L .location < loc v → false ≡ stopSound L S v
   unfolding stopSound
   stop-place h = rw (lt-leb (loc v) (L .location) h) refl
 
   module _ (placed : loc v ≤ L .location) where
-    pub stop-time : L .time < time v → false ≡ stopSound L num loc time v
+    pub stop-time : L .time < time v → false ≡ stopSound L S v
     unfolding stopSound
     stop-time h = rw (le-leb (loc v) (L .location) placed, lt-leb (time v) (L .time) h) refl
 
-    module _ (timed : time v ≤ L .time) where
-      pub stop-first : num v ≡ 0 → eqb (time v) 0 ≡ stopSound L num loc time v
-      unfolding stopSound faultAt
-      stop-first e = rw (le-leb (loc v) (L .location) placed, le-leb (time v) (L .time) timed, eq-eqb (num v) 0 e) (by-cases (eqb (time v) 0) (λ h. rw h refl) (λ h. rw h refl))
+    pub stop-fault : (f : ℕ) → time v ≤ L .time → f ≡ faultAt S v → eqb f 0 ≡ stopSound L S v
+    unfolding stopSound
+    stop-fault f timed e = rw (le-leb (loc v) (L .location) placed, le-leb (time v) (L .time) timed, e) refl
 
-      module _ (later : num v ≢ 0) where
-        pub stop-early : time v ≤ time (v - 1) → false ≡ stopSound L num loc time v
-        unfolding stopSound faultAt
-        stop-early h = rw (le-leb (loc v) (L .location) placed, le-leb (time v) (L .time) timed, ne-eqb (num v) 0 later, le-leb (time v) (time (v - 1)) h) refl
-
-        pub stop-moves : time (v - 1) < time v → not (eqb (loc v) (loc (v - 1))) ≡ stopSound L num loc time v
-        unfolding stopSound faultAt
-        stop-moves h = rw (le-leb (loc v) (L .location) placed, le-leb (time v) (L .time) timed, ne-eqb (num v) 0 later, lt-leb (time v) (time (v - 1)) h) (by-cases (eqb (loc v) (loc (v - 1))) (λ q. rw q refl) (λ q. rw q refl))
-
--- a stop that is no stop 0 is not the first of all
-pub stop-has-before : (num : ℕ → ℕ) (v : ℕ) → num 0 ≡ 0 → num v ≢ 0 → 1 ≤ v
-stop-has-before num zero e h = absurd (h e)
-stop-has-before num (suc v) e h = omega arith
+-- the stops' drones are not read
+pub stops-any : (L : Limits) (S : Visits) (own : ℕ → ℕ) (m : ℕ) → allBelow m (stopSound L (by S own (S .n))) ≡ allBelow m (stopSound L S)
+unfolding stopSound faultAt
+stops-any L S own m = refl
 
 -- ---- records
 

@@ -16,7 +16,7 @@ pub record Sound (L : Limits) (t : Tables) : Type 0 where
   pub dependencies-own : dependenciesSound L (t .plan) ≡ true
   pub flags-right : flagsSound L t ≡ true
   pub fixed-unturned : fixedUnturned (planOf (t .plan)) (statusIn t) ≡ true
-  pub no-cycle : cyclic (graph (planOf (t .plan)) (statusIn t .turned)) ≡ false
+  pub no-cycle : cyclic (graph (planOf (t .plan)) (statusIn t)) ≡ false
   pub drone-flags : droneFlagsSound L t ≡ true
   pub within : withinStops (planOf (t .plan)) (statusIn t) ≡ true
   pub waits-kept : waitsKept (planOf (t .plan)) (statusIn t) ≡ true
@@ -31,7 +31,7 @@ module _ (L : Limits) (t : Tables) where
       let h₂ = and-right (dependenciesSound L (t .plan)) _ h₁ in
       let h₃ = and-right (flagsSound L t) _ h₂ in
       let h₄ = and-right (fixedUnturned (planOf (t .plan)) (statusIn t)) _ h₃ in
-      let h₅ = and-right (not (cyclic (graph (planOf (t .plan)) (statusIn t .turned)))) _ h₄ in
+      let h₅ = and-right (not (cyclic (graph (planOf (t .plan)) (statusIn t)))) _ h₄ in
       let h₆ = and-right (droneFlagsSound L t) _ h₅ in
       let h₇ = and-right (withinStops (planOf (t .plan)) (statusIn t)) _ h₆ in
       let h₈ = and-right (waitsKept (planOf (t .plan)) (statusIn t)) _ h₇ in
@@ -40,7 +40,7 @@ module _ (L : Limits) (t : Tables) where
         dependencies-own = and-left _ _ h₁;
         flags-right = and-left _ _ h₂;
         fixed-unturned = and-left _ _ h₃;
-        no-cycle = not-true (cyclic (graph (planOf (t .plan)) (statusIn t .turned))) (and-left _ _ h₄);
+        no-cycle = not-true (cyclic (graph (planOf (t .plan)) (statusIn t))) (and-left _ _ h₄);
         drone-flags = and-left _ _ h₅;
         within = and-left _ _ h₆;
         waits-kept = and-left _ _ h₇;

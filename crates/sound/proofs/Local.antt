@@ -13,14 +13,15 @@ use Rattle.below.specs.Below.{allBelow, fillBelow, at, pick}
 use Rattle.below.proofs.Tests.{by-cases, true-or-false, and-left, and-right, or-left, or-right}
 use Rattle.below.proofs.Every.{allBelow-at, allBelow-ext}
 use Rattle.below.proofs.Fill.{getD-fill, fill-length}
-use Rattle.tables.specs.Limits.{limits}
+use Rattle.tables.specs.Limits.{Limits}
 use Rattle.tables.specs.Flags.{turnedBit}
 use Rattle.precedence.specs.Graph.{Plan, Wait, cyclic}
 use Rattle.precedence.proofs.Agreement.{awaited-in, cyclic-agree}
 use Rattle.plan.specs.Stops.{start, owner, number}
+use Rattle.plan.specs.Visits.{Visits, visitsOf}
 use Rattle.plan.specs.Check.{faultAt}
 use Rattle.plan.specs.Dependencies.{right}
-use Rattle.plan.specs.Field.{Dependency, FieldPlan, inForce, waitOf, graph, fixed}
+use Rattle.plan.specs.Field.{Dependency, FieldPlan, Status, inForce, waitOf, graph, fixed}
 use Rattle.plan.specs.Claims.{Numbered}
 use Rattle.plan.proofs.Numbering.{numbered, next-number, stays}
 use Rattle.plan.proofs.Conditions.{Passes, fault-says}
@@ -30,7 +31,7 @@ use Rattle.cycles.specs.Flat.{flatPlan, Shape}
 use Rattle.cycles.specs.Waits.{fromOf, intoOf, turnedIn, Edges, Unfixed, Given, graphSound}
 use Rattle.cycles.proofs.Placed.{formed}
 use Rattle.cycles.proofs.Directed.{right-placed}
-use Rattle.sound.specs.Parts.{stopSound, stopIn, flagRight, fixedAt, fieldOf, graphPart}
+use Rattle.sound.specs.Parts.{stopSound, stopIn, flagRight, fixedAt, turnsIn, fieldOf, visitsBy, graphPart}
 use Rattle.sound.specs.Asked.{Counted, ColumnRoom, Numbers, GraphTables, Scratch, Through}
 use Rattle.sound.proofs.Asking.{stop-drone, stop-number}
 use Rattle.plan.proofs.Agree.{right-same}
@@ -40,9 +41,9 @@ pub filled-at : (n : ℕ) (f : ℕ → ℕ) (l l₀ : List ℕ) → l ≡ fillBe
 filled-at n f l l₀ e r v h = rw e (getD-fill f l₀ n v h r)
 
 -- .. the four local tables
-pub numbers-filled : (drones n m : ℕ) (counts owners₀ numbers₀ starts₀ lasts₀ owners numbers starts lasts : List ℕ) → Counted drones n m counts → Scratch owners₀ numbers₀ starts₀ lasts₀
+pub numbers-filled : {L : Limits} (drones n m : ℕ) (counts owners₀ numbers₀ starts₀ lasts₀ owners numbers starts lasts : List ℕ) → Counted L drones n m counts → Scratch L owners₀ numbers₀ starts₀ lasts₀
     → owners ≡ fillBelow n (owner drones counts) owners₀ → numbers ≡ fillBelow n (number drones counts) numbers₀ → starts ≡ fillBelow drones (start counts) starts₀ → lasts ≡ fillBelow drones (λ d. at counts d - 1) lasts₀
-    → Numbers drones n counts owners numbers starts lasts
+    → Numbers L drones n counts owners numbers starts lasts
 numbers-filled drones n m counts owners₀ numbers₀ starts₀ lasts₀ owners numbers starts lasts C S a b c d = record {
   owners-size = fill-length _ _ _ _ a ∙ S .owners-room;
   numbers-size = fill-length _ _ _ _ b ∙ S .numbers-room;
@@ -70,7 +71,7 @@ into-side : (counts : List ℕ) (b : Bool) (e : Dependency) → pick b (start co
 into-side counts true e = refl
 into-side counts false e = refl
 
-module _ (drones n m : ℕ) (counts locations times firstDrones firstStops secondDrones secondStops flags : List ℕ) (C : Counted drones n m counts) where
+module _ {L : Limits} (drones n m : ℕ) (counts locations times firstDrones firstStops secondDrones secondStops flags : List ℕ) (C : Counted L drones n m counts) where
   abbrev own : ℕ → ℕ
   own = owner drones counts
 
@@ -83,8 +84,14 @@ module _ (drones n m : ℕ) (counts locations times firstDrones firstStops secon
   abbrev F : FieldPlan
   F = fieldOf drones n m counts locations times firstDrones firstStops secondDrones secondStops
 
+  abbrev S : Visits
+  S = visitsBy drones n m counts locations times firstDrones firstStops secondDrones secondStops
+
   abbrev turned : ℕ → Bool
   turned k = turnedBit (at flags k)
+
+  abbrev s : Status
+  s = turnsIn flags
 
   abbrev xs : ℕ → ℕ
   xs k = start counts (at firstDrones k) + at firstStops k
@@ -97,9 +104,9 @@ module _ (drones n m : ℕ) (counts locations times firstDrones firstStops secon
 
   -- ---- the tests over the local tables
 
-  pub stops-same : (numbers : List ℕ) → ((v : ℕ) → v < n → at numbers v ≡ num v) → allBelow n (stopSound limits (at numbers) (at locations) (at times)) ≡ allBelow n (stopSound limits num (at locations) (at times))
+  pub stops-same : (owners numbers : List ℕ) → ((v : ℕ) → v < n → at numbers v ≡ num v) → allBelow n (stopSound L (visitsOf owners numbers locations times n)) ≡ allBelow n (stopSound L S)
   unfolding stopSound faultAt
-  stops-same numbers are = allBelow-ext n _ _ (λ v l. rw (are v l) refl)
+  stops-same owners numbers are = allBelow-ext n _ _ (λ v l. rw (are v l) refl)
 
   pub flags-same : (lasts : List ℕ) → ((d : ℕ) → d < drones → at lasts d ≡ last d) → allBelow m (stopIn drones counts (at secondDrones) (at secondStops)) ≡ true
       → allBelow m (λ k. flagRight (fixedAt (at lasts) (at firstStops) (at secondDrones) (at secondStops) k) (at flags k)) ≡ allBelow m (λ k. flagRight (fixed F k) (at flags k))
@@ -107,10 +114,10 @@ module _ (drones n m : ℕ) (counts locations times firstDrones firstStops secon
   flags-same lasts are h = allBelow-ext m _ _ (λ k l. rw (are (at secondDrones k) (stop-drone drones counts (at secondDrones) (at secondStops) k (allBelow-at m (stopIn drones counts (at secondDrones) (at secondStops)) h k l))) refl)
 
   -- ---- what is known when the tests of single entries have passed
-  module _ (stops-fine : allBelow n (stopSound limits num (at locations) (at times)) ≡ true) (firsts-in : allBelow m (stopIn drones counts (at firstDrones) (at firstStops)) ≡ true) (seconds-in : allBelow m (stopIn drones counts (at secondDrones) (at secondStops)) ≡ true) (flags-fine : allBelow m (λ k. flagRight (fixed F k) (at flags k)) ≡ true) where
-    passes : (v : ℕ) → v < n → Passes num (at locations) (at times) v
+  module _ (stops-fine : allBelow n (stopSound L S) ≡ true) (firsts-in : allBelow m (stopIn drones counts (at firstDrones) (at firstStops)) ≡ true) (seconds-in : allBelow m (stopIn drones counts (at secondDrones) (at secondStops)) ≡ true) (flags-fine : allBelow m (λ k. flagRight (fixed F k) (at flags k)) ≡ true) where
+    passes : (v : ℕ) → v < n → Passes S v
     unfolding stopSound
-    passes v l = fault-says num (at locations) (at times) v (eqb-true _ _ (and-right (leb (at times v) (limits .time)) _ (and-right (leb (at locations v) (limits .location)) _ (allBelow-at n (stopSound limits num (at locations) (at times)) stops-fine v l))))
+    passes v l = fault-says S v (eqb-true _ _ (and-right (leb (at times v) (L .time)) _ (and-right (leb (at locations v) (L .location)) _ (allBelow-at n (stopSound L S) stops-fine v l))))
 
     steady : Steady own (at locations) (at times) n
     steady v l e =
@@ -142,7 +149,7 @@ module _ (drones n m : ℕ) (counts locations times firstDrones firstStops secon
     second-flat k l = N .place-in (at secondDrones k) (at secondStops k) (second-drone k l) (second-stop k l)
 
     -- ---- the graph test over the local tables
-    module _ (owners numbers starts lasts firsts seconds : List ℕ) (T : Numbers drones n counts owners numbers starts lasts) (A : Through starts firstDrones firstStops m firsts) (B : Through starts secondDrones secondStops m seconds) where
+    module _ (owners numbers starts lasts firsts seconds : List ℕ) (T : Numbers L drones n counts owners numbers starts lasts) (A : Through L starts firstDrones firstStops m firsts) (B : Through L starts secondDrones secondStops m seconds) where
       first-is : (k : ℕ) → k < m → at firsts k ≡ xs k
       first-is k l = A .are k l ∙ ap (λ (z : ℕ). z + at firstStops k) (T .starts-are (at firstDrones k) (first-drone k l))
 
@@ -180,13 +187,13 @@ module _ (drones n m : ℕ) (counts locations times firstDrones firstStops secon
           let q : at starts (at owners v) ≡ start counts (own v) = rw (T .owners-are v l, T .starts-are (own v) (N .own-in v l)) refl in
           passes v l .starts (omega (arith, N .number-is v l))
 
-      local-unfixed : Unfixed (at owners) (at starts) (at lasts) (at locations) (at times) drones n m (at firsts) (at seconds) (turnedIn flags)
+      local-unfixed : Unfixed (at owners) (at starts) n m (at firsts) (at seconds) (turnedIn flags)
       local-unfixed k l t =
           let (a, b) = unfixed k l t in
           let q : at starts (at owners (at firsts k)) ≡ start counts (at firstDrones k) = spot-start (at firstDrones k) (at firstStops k) (at firsts k) (first-drone k l) (first-stop k l) (first-is k l) in
           (λ z. a (omega (arith, first-is k l)), omega (arith, second-is k l, second-stop k l, N .place-in (at secondDrones k) (at secondStops k + 1) (second-drone k l) (omega (arith, second-stop k l, b))))
 
-      pub given : n ≤ length locations → n ≤ length times → ColumnRoom m firstDrones firstStops secondDrones secondStops flags → Given owners locations times starts lasts firsts seconds flags drones n m
+      pub given : n ≤ length locations → n ≤ length times → ColumnRoom m firstDrones firstStops secondDrones secondStops flags → Given L owners locations times starts lasts firsts seconds flags drones n m
       given a b columns = record {
         stops = record {
           has-owners = omega (arith, T .owners-size, C .few-stops);
@@ -205,7 +212,7 @@ module _ (drones n m : ℕ) (counts locations times firstDrones firstStops secon
         few-waits = C .few-dependencies;
       }
 
-      pub laid : (from into : List ℕ) → Edges firsts seconds flags m from into → GraphTables counts (graph F turned) owners starts lasts from into
+      pub laid : (from into : List ℕ) → Edges L firsts seconds flags m from into → GraphTables L counts (graph F s) owners starts lasts from into
       laid from into E = record {
         owners-size = T .owners-size;
         from-size = E .from-size;
@@ -218,14 +225,14 @@ module _ (drones n m : ℕ) (counts locations times firstDrones firstStops secon
       }
 
       abbrev local-right : Bool
-      local-right = right (at owners) (at locations) (at times) n m (at firsts) (at seconds)
+      local-right = right (visitsOf owners numbers locations times n) m (at firsts) (at seconds)
 
       abbrev Q : Plan
       Q = flatPlan (at owners) (at starts) (at lasts) drones (fromOf (at firsts) (at seconds) turned) (intoOf (at firsts) (at seconds) turned) m
 
       module _ (e : local-right ≡ true) where
-        entry : (k : ℕ) → k < m → Entry (at owners) (at locations) (at times) n local-steady m (at firsts) (at seconds) k
-        entry k l = right-entry (at owners) (at locations) (at times) n local-steady m (at firsts) (at seconds) e k l
+        entry : (k : ℕ) → k < m → Entry (at owners) (at numbers) (at locations) (at times) n local-steady m (at firsts) (at seconds) k
+        entry k l = right-entry (at owners) (at numbers) (at locations) (at times) n local-steady m (at firsts) (at seconds) e k l
 
         -- the first drone goes on from its stop
         first-goes : (k : ℕ) → k < m → at firstStops k < last (at firstDrones k)
@@ -235,7 +242,7 @@ module _ (drones n m : ℕ) (counts locations times firstDrones firstStops secon
             let s : num (xs k) < last (own (xs k)) = stays N (xs k) (rw q (entry k l .next-in)) o in
             rw (N .place-own (at firstDrones k) (at firstStops k) (first-drone k l) (first-stop k l), N .place-number (at firstDrones k) (at firstStops k) (first-drone k l) (first-stop k l)) at s
 
-        pub same-wait : (k : ℕ) → k < m → Q .wait k ≡ graph F turned .wait k
+        pub same-wait : (k : ℕ) → k < m → Q .wait k ≡ graph F s .wait k
         same-wait k l = by-cases (turned k)
             (λ t. let (a, b) = unfixed k l t in
             let f : at seconds k + 1 ≡ start counts (at secondDrones k) + suc (at secondStops k) = omega (arith, second-is k l) in
@@ -252,27 +259,27 @@ module _ (drones n m : ℕ) (counts locations times firstDrones firstStops secon
             (spot-owner (at firstDrones k) (suc (at firstStops k)) (at firsts k + 1) (first-drone k l) (first-goes k l) f)
             (spot-number (at firstDrones k) (suc (at firstStops k)) (at firsts k + 1) (first-drone k l) (first-goes k l) f)))
 
-        same-cyclic : cyclic Q ≡ cyclic (graph F turned)
-        same-cyclic = cyclic-agree Q (graph F turned) (record { drones-agree = refl; lasts-agree = λ d l. T .lasts-are d l; counts-agree = refl; waits-agree = same-wait })
-            (awaited-in Q (formed (at owners) (at starts) (at lasts) drones n (fromOf (at firsts) (at seconds) turned) (intoOf (at firsts) (at seconds) turned) m (right-placed (at owners) (at starts) (at lasts) (at locations) (at times) drones n m (at firsts) (at seconds) turned local-shape local-steady local-zero e local-unfixed)))
+        same-cyclic : cyclic Q ≡ cyclic (graph F s)
+        same-cyclic = cyclic-agree Q (graph F s) (record { drones-agree = refl; lasts-agree = λ d l. T .lasts-are d l; counts-agree = refl; waits-agree = same-wait })
+            (awaited-in Q (formed (at owners) (at starts) (at lasts) drones n (fromOf (at firsts) (at seconds) turned) (intoOf (at firsts) (at seconds) turned) m (right-placed (at owners) (at numbers) (at starts) (at lasts) (at locations) (at times) drones n m (at firsts) (at seconds) turned local-shape local-steady local-zero e local-unfixed)))
 
-      pub graph-same : graphSound (at owners) (at starts) (at lasts) (at locations) (at times) drones n m (at firsts) (at seconds) turned ≡ (right own (at locations) (at times) n m xs ys && not (cyclic (graph F turned)))
+      pub graph-same : graphSound (visitsOf owners numbers locations times n) (at starts) (at lasts) drones m (at firsts) (at seconds) turned ≡ (right S m xs ys && not (cyclic (graph F s)))
       unfolding graphSound
       graph-same =
-          let r : local-right ≡ right own (at locations) (at times) n m xs ys = right-same (at owners) own (at locations) (at times) n (T .owners-are) m (at firsts) xs (at seconds) ys first-is second-is in
+          let r : local-right ≡ right S m xs ys = right-same (visitsOf owners numbers locations times n) own num (at locations) (at times) (T .owners-are) (λ v l. refl) (λ v l. refl) m (at firsts) xs (at seconds) ys first-is second-is in
           by-cases local-right (λ e. rw (← r, e, same-cyclic e) refl) (λ e. rw (← r, e) refl)
 
   abbrev stops-test : Bool
-  stops-test = allBelow n (stopSound limits num (at locations) (at times))
+  stops-test = allBelow n (stopSound L S)
 
   abbrev pub records-test : (last : ℕ → ℕ) → Bool
   records-test last = allBelow m (stopIn drones counts (at firstDrones) (at firstStops))
       && (allBelow m (stopIn drones counts (at secondDrones) (at secondStops)) && allBelow m (λ k. flagRight (fixedAt last (at firstStops) (at secondDrones) (at secondStops) k) (at flags k)))
 
-  module _ (owners numbers starts lasts : List ℕ) (T : Numbers drones n counts owners numbers starts lasts) where
+  module _ (owners numbers starts lasts : List ℕ) (T : Numbers L drones n counts owners numbers starts lasts) where
     -- the stops, as the code tests them
-    pub stops-say : (b : Bool) → b ≡ allBelow n (stopSound limits (at numbers) (at locations) (at times)) → b ≡ stops-test
-    stops-say b e = e ∙ stops-same numbers (T .numbers-are)
+    pub stops-say : (b : Bool) → ((owners : List ℕ) → b ≡ allBelow n (stopSound L (visitsOf owners numbers locations times n))) → b ≡ stops-test
+    stops-say b e = e owners ∙ stops-same owners numbers (T .numbers-are)
 
     -- the records, as the code tests them
     pub record Sides : Type 0 where
@@ -290,11 +297,11 @@ module _ (drones n m : ℕ) (counts locations times firstDrones firstStops secon
         let s = and-left (allBelow m (stopIn drones counts (at secondDrones) (at secondStops))) _ r in
         record { firsts-in = and-left _ _ e; seconds-in = s; flags-fine = sym (flags-same lasts (T .lasts-are) s) ∙ and-right (allBelow m (stopIn drones counts (at secondDrones) (at secondStops))) _ r }
 
-    pub part-stops : stops-test ≡ false → false ≡ graphPart drones n m counts locations times firstDrones firstStops secondDrones secondStops limits flags
+    pub part-stops : stops-test ≡ false → false ≡ graphPart drones n m counts locations times firstDrones firstStops secondDrones secondStops L flags
     unfolding graphPart
     part-stops e = rw e refl
 
-    pub part-records : stops-test ≡ true → records-test (at lasts) ≡ false → false ≡ graphPart drones n m counts locations times firstDrones firstStops secondDrones secondStops limits flags
+    pub part-records : stops-test ≡ true → records-test (at lasts) ≡ false → false ≡ graphPart drones n m counts locations times firstDrones firstStops secondDrones secondStops L flags
     unfolding graphPart
     part-records e h = by-cases (allBelow m (stopIn drones counts (at firstDrones) (at firstStops)))
         (λ a. by-cases (allBelow m (stopIn drones counts (at secondDrones) (at secondStops)))
@@ -302,49 +309,43 @@ module _ (drones n m : ℕ) (counts locations times firstDrones firstStops secon
         (λ b. rw (e, a, b) refl))
         (λ a. rw (e, a) refl)
 
-    pub part-graph : (r : Bool) → stops-test ≡ true → Sides → r ≡ (right own (at locations) (at times) n m xs ys && not (cyclic (graph F turned)))
-        → r ≡ graphPart drones n m counts locations times firstDrones firstStops secondDrones secondStops limits flags
+    pub part-graph : (r : Bool) → stops-test ≡ true → Sides → r ≡ (right S m xs ys && not (cyclic (graph F s)))
+        → r ≡ graphPart drones n m counts locations times firstDrones firstStops secondDrones secondStops L flags
     unfolding graphPart
     part-graph r e h q = rw (e, h .firsts-in, h .seconds-in, h .flags-fine) q
 
     -- ---- as the code asks
 
-    pub first-zero : at numbers 0 ≡ 0
-    unfolding number
-    first-zero =
-        let some : 1 ≤ at counts 0 = C .have-stops 0 (C .some-drone) in
-        T .numbers-are 0 (omega (arith, N .place-in 0 0 (C .some-drone) (omega arith))) ∙ omega arith
-
-    module _ (a : Bool) (ea : a ≡ allBelow n (stopSound limits (at numbers) (at locations) (at times))) where
-      pub code-stops : a ≡ false → false ≡ graphPart drones n m counts locations times firstDrones firstStops secondDrones secondStops limits flags
+    module _ (a : Bool) (ea : (owners : List ℕ) → a ≡ allBelow n (stopSound L (visitsOf owners numbers locations times n))) where
+      pub code-stops : a ≡ false → false ≡ graphPart drones n m counts locations times firstDrones firstStops secondDrones secondStops L flags
       code-stops h = part-stops (sym (stops-say a ea) ∙ h)
 
       module _ (b : Bool) (eb : b ≡ records-test (at lasts)) (h : a ≡ true) where
-        pub code-records : b ≡ false → false ≡ graphPart drones n m counts locations times firstDrones firstStops secondDrones secondStops limits flags
+        pub code-records : b ≡ false → false ≡ graphPart drones n m counts locations times firstDrones firstStops secondDrones secondStops L flags
         code-records k = part-records (sym (stops-say a ea) ∙ h) (sym eb ∙ k)
 
         pub known : b ≡ true → Known
         known k = record { stops-fine = sym (stops-say a ea) ∙ h; both-sides = sides (sym eb ∙ k) }
 
     module _ (K : Known) where
-      pub first-limit : (k : ℕ) → k < m → at firstDrones k < limits .drones
+      pub first-limit : (k : ℕ) → k < m → at firstDrones k < L .drones
       first-limit k l = omega (arith, C .few-drones, first-drone (K .stops-fine) (K .both-sides .firsts-in) (K .both-sides .seconds-in) (K .both-sides .flags-fine) k l)
 
-      pub second-limit : (k : ℕ) → k < m → at secondDrones k < limits .drones
+      pub second-limit : (k : ℕ) → k < m → at secondDrones k < L .drones
       second-limit k l = omega (arith, C .few-drones, second-drone (K .stops-fine) (K .both-sides .firsts-in) (K .both-sides .seconds-in) (K .both-sides .flags-fine) k l)
 
-      pub first-number : (k : ℕ) → k < m → at starts (at firstDrones k) + at firstStops k < limits .stops
+      pub first-number : (k : ℕ) → k < m → at starts (at firstDrones k) + at firstStops k < L .stops
       first-number k l = rw (T .starts-are (at firstDrones k) (first-drone (K .stops-fine) (K .both-sides .firsts-in) (K .both-sides .seconds-in) (K .both-sides .flags-fine) k l)) (omega (arith, C .few-stops, first-flat (K .stops-fine) (K .both-sides .firsts-in) (K .both-sides .seconds-in) (K .both-sides .flags-fine) k l))
 
-      pub second-number : (k : ℕ) → k < m → at starts (at secondDrones k) + at secondStops k < limits .stops
+      pub second-number : (k : ℕ) → k < m → at starts (at secondDrones k) + at secondStops k < L .stops
       second-number k l = rw (T .starts-are (at secondDrones k) (second-drone (K .stops-fine) (K .both-sides .firsts-in) (K .both-sides .seconds-in) (K .both-sides .flags-fine) k l)) (omega (arith, C .few-stops, second-flat (K .stops-fine) (K .both-sides .firsts-in) (K .both-sides .seconds-in) (K .both-sides .flags-fine) k l))
 
-      module _ (firsts seconds : List ℕ) (A : Through starts firstDrones firstStops m firsts) (B : Through starts secondDrones secondStops m seconds) where
-        pub code-given : n ≤ length locations → n ≤ length times → ColumnRoom m firstDrones firstStops secondDrones secondStops flags → Given owners locations times starts lasts firsts seconds flags drones n m
+      module _ (firsts seconds : List ℕ) (A : Through L starts firstDrones firstStops m firsts) (B : Through L starts secondDrones secondStops m seconds) where
+        pub code-given : n ≤ length locations → n ≤ length times → ColumnRoom m firstDrones firstStops secondDrones secondStops flags → Given L owners locations times starts lasts firsts seconds flags drones n m
         code-given = given (K .stops-fine) (K .both-sides .firsts-in) (K .both-sides .seconds-in) (K .both-sides .flags-fine) owners numbers starts lasts firsts seconds T A B
 
-        pub code-graph : (r : Bool) → r ≡ graphSound (at owners) (at starts) (at lasts) (at locations) (at times) drones n m (at firsts) (at seconds) (turnedIn flags) → r ≡ graphPart drones n m counts locations times firstDrones firstStops secondDrones secondStops limits flags
-        code-graph r e = part-graph r (K .stops-fine) (K .both-sides) (e ∙ graph-same (K .stops-fine) (K .both-sides .firsts-in) (K .both-sides .seconds-in) (K .both-sides .flags-fine) owners numbers starts lasts firsts seconds T A B)
+        pub code-graph : (r : Bool) → ((numbers : List ℕ) → r ≡ graphSound (visitsOf owners numbers locations times n) (at starts) (at lasts) drones m (at firsts) (at seconds) (turnedIn flags)) → r ≡ graphPart drones n m counts locations times firstDrones firstStops secondDrones secondStops L flags
+        code-graph r e = part-graph r (K .stops-fine) (K .both-sides) (e numbers ∙ graph-same (K .stops-fine) (K .both-sides .firsts-in) (K .both-sides .seconds-in) (K .both-sides .flags-fine) owners numbers starts lasts firsts seconds T A B)
 
-        pub code-laid : (from into : List ℕ) → Edges firsts seconds flags m from into → GraphTables counts (graph F turned) owners starts lasts from into
+        pub code-laid : (from into : List ℕ) → Edges L firsts seconds flags m from into → GraphTables L counts (graph F s) owners starts lasts from into
         code-laid = laid (K .stops-fine) (K .both-sides .firsts-in) (K .both-sides .seconds-in) (K .both-sides .flags-fine) owners numbers starts lasts firsts seconds T A B

@@ -10,20 +10,20 @@ use borrow.Author.Tests.{ltb-true, leb-true, eqb-true, lt-ltb, le-leb, eq-eqb, n
 use Rattle.below.specs.Below.{allBelow, at, pick}
 use Rattle.below.proofs.Tests.{by-cases, and-left, and-right, and-both, same-test}
 use Rattle.below.proofs.Every.{allBelow-at, allBelow-all, allBelow-ext}
-use Rattle.tables.specs.Limits.{Limits, limits}
+use Rattle.tables.specs.Limits.{Limits}
 use Rattle.tables.specs.Tables.{PlanLists, Tables, drones, dependencies}
 use Rattle.tables.specs.Flags.{turnedBit, underWayBit, onlyOneBit}
 use Rattle.precedence.specs.Graph.{cyclic}
-use Rattle.plan.specs.Stops.{start, number}
+use Rattle.plan.specs.Stops.{start}
 use Rattle.plan.specs.Check.{faultAt, firstFault, apart}
 use Rattle.plan.specs.Dependencies.{follows, dependencyTotal, exact, right}
 use Rattle.plan.specs.Field.{planOf, graph, fixed}
 use Rattle.plan.specs.Status.{statusIn, fixedUnturned, withinStops, waitsKept}
-use Rattle.plan.specs.Claims.{Numbered, numberIn, ownerIn}
+use Rattle.plan.specs.Claims.{Numbered, numberIn, ownerIn, visitsIn}
 use Rattle.plan.proofs.Numbering.{numbered}
 use Rattle.plan.proofs.Conditions.{fault-says, says-fault, firstFault-says, says-firstFault}
 use Rattle.sound.specs.Sound.{zeroFrom, nameSound, namesDiffer, inRange, namesSound, checked, planAccepted, planned, dependenciesSound, planUnused, flagsSound, droneFlagsSound, progressUnused, sound}
-use Rattle.sound.specs.Parts.{countsSound, stopSound, stopIn, flagRight, droneSound, enteredBy, waitKept, keptAt, graphPart}
+use Rattle.sound.specs.Parts.{countsSound, stopSound, stopIn, flagRight, droneSound, enteredBy, waitKept, keptAt, visitsBy, graphPart}
 use Rattle.sound.specs.Asked.{Counted}
 use Rattle.sound.proofs.Asking.{stop-drone}
 use Rattle.sound.proofs.Columns.{NamesPair, columns-name, HoldsColumns, names-columns}
@@ -127,9 +127,9 @@ module _ (L : Limits) (t : Tables) where
   pub record GraphSay : Type 0 where
     pub in-place : (v : ℕ) → v < n → loc v ≤ L .location
     pub in-time : (v : ℕ) → v < n → time v ≤ L .time
-    pub no-fault : (v : ℕ) → v < n → faultAt (numberIn p) loc time v ≡ 0
-    pub is-apart : apart (ownerIn p) loc time n ≡ true
-    pub total : M ≡ dependencyTotal (ownerIn p) loc time n
+    pub no-fault : (v : ℕ) → v < n → faultAt (visitsIn p) v ≡ 0
+    pub is-apart : apart (visitsIn p) ≡ true
+    pub total : M ≡ dependencyTotal (visitsIn p)
     pub first-drone : (k : ℕ) → k < M → fd k < D
     pub first-stop : (k : ℕ) → k < M → fs k < at counts (fd k)
     pub second-drone : (k : ℕ) → k < M → sd k < D
@@ -138,7 +138,7 @@ module _ (L : Limits) (t : Tables) where
     pub second-listed : (k : ℕ) → k < M → start counts (sd k) + ss k ≡ getD (planned L p (λ v w. w)) k 0
     pub flags-right : (k : ℕ) → k < M → eqb (at (t .flags) k / 2) (pick (fixed (planOf p) k) 1 0) ≡ true
     pub unturned : (k : ℕ) → k < M → not (turnedBit (at (t .flags) k) && fixed (planOf p) k) ≡ true
-    pub no-cycle : cyclic (graph (planOf p) (statusIn t .turned)) ≡ false
+    pub no-cycle : cyclic (graph (planOf p) (statusIn t)) ≡ false
 
   say-graph : GraphSay → graph-part ≡ true
   unfolding graphPart stopSound stopIn flagRight right exact
@@ -153,18 +153,18 @@ module _ (L : Limits) (t : Tables) where
   pub graph-say : graph-part ≡ true → GraphSay
   unfolding graphPart stopSound stopIn flagRight right exact
   graph-say h =
-      let a = and-right (allBelow n (stopSound L (numberIn p) loc time)) _ h in
+      let a = and-right (allBelow n (stopSound L (visitsIn p))) _ h in
       let b = and-right (allBelow M (stopIn D counts fd fs)) _ a in
       let c = and-right (allBelow M (stopIn D counts sd ss)) _ b in
       let d = and-right (allBelow M (λ k. flagRight (fixed (planOf p) k) (at (t .flags) k))) _ c in
-      let r : right (ownerIn p) loc time n M (λ k. start counts (fd k) + fs k) (λ k. start counts (sd k) + ss k) ≡ true = and-left _ _ d in
-      let x = and-right (apart (ownerIn p) loc time n) _ r in
-      let stop : (v : ℕ) → v < n → stopSound L (numberIn p) loc time v ≡ true = λ v l. allBelow-at n (stopSound L (numberIn p) loc time) (and-left _ _ h) v l in
-      let timed : (v : ℕ) → v < n → (leb (time v) (L .time) && eqb (faultAt (numberIn p) loc time v) 0) ≡ true = λ v l. and-right (leb (loc v) (L .location)) _ (stop v l) in
+      let r : right (visitsIn p) M (λ k. start counts (fd k) + fs k) (λ k. start counts (sd k) + ss k) ≡ true = and-left _ _ d in
+      let x = and-right (apart (visitsIn p)) _ r in
+      let stop : (v : ℕ) → v < n → stopSound L (visitsIn p) v ≡ true = λ v l. allBelow-at n (stopSound L (visitsIn p)) (and-left _ _ h) v l in
+      let timed : (v : ℕ) → v < n → (leb (time v) (L .time) && eqb (faultAt (visitsIn p) v) 0) ≡ true = λ v l. and-right (leb (loc v) (L .location)) _ (stop v l) in
       let one : (k : ℕ) → k < M → stopIn D counts fd fs k ≡ true = λ k l. allBelow-at M (stopIn D counts fd fs) (and-left _ _ a) k l in
       let two : (k : ℕ) → k < M → stopIn D counts sd ss k ≡ true = λ k l. allBelow-at M (stopIn D counts sd ss) (and-left _ _ b) k l in
       let bits : (k : ℕ) → k < M → flagRight (fixed (planOf p) k) (at (t .flags) k) ≡ true = λ k l. allBelow-at M (λ k. flagRight (fixed (planOf p) k) (at (t .flags) k)) (and-left _ _ c) k l in
-      let pair : (k : ℕ) → k < M → (eqb (start counts (fd k) + fs k) (getD (planned L p (λ v w. v)) k 0) && eqb (start counts (sd k) + ss k) (getD (planned L p (λ v w. w)) k 0)) ≡ true = λ k l. allBelow-at M (λ k. eqb (start counts (fd k) + fs k) (getD (planned L p (λ v w. v)) k 0) && eqb (start counts (sd k) + ss k) (getD (planned L p (λ v w. w)) k 0)) (and-right (eqb M (dependencyTotal (ownerIn p) loc time n)) _ x) k l in
+      let pair : (k : ℕ) → k < M → (eqb (start counts (fd k) + fs k) (getD (planned L p (λ v w. v)) k 0) && eqb (start counts (sd k) + ss k) (getD (planned L p (λ v w. w)) k 0)) ≡ true = λ k l. allBelow-at M (λ k. eqb (start counts (fd k) + fs k) (getD (planned L p (λ v w. v)) k 0) && eqb (start counts (sd k) + ss k) (getD (planned L p (λ v w. w)) k 0)) (and-right (eqb M (dependencyTotal (visitsIn p))) _ x) k l in
       record {
         in-place = λ v l. leb-true _ _ (and-left _ _ (stop v l));
         in-time = λ v l. leb-true _ _ (and-left _ _ (timed v l));
@@ -179,7 +179,7 @@ module _ (L : Limits) (t : Tables) where
         second-listed = λ k l. eqb-true _ _ (and-right (eqb (start counts (fd k) + fs k) (getD (planned L p (λ v w. v)) k 0)) _ (pair k l));
         flags-right = λ k l. and-left _ _ (bits k l);
         unturned = λ k l. and-right (eqb (at (t .flags) k / 2) (pick (fixed (planOf p) k) 1 0)) _ (bits k l);
-        no-cycle = not-true _ (and-right (right (ownerIn p) loc time n M (λ k. start counts (fd k) + fs k) (λ k. start counts (sd k) + ss k)) _ d);
+        no-cycle = not-true _ (and-right (right (visitsIn p) M (λ k. start counts (fd k) + fs k) (λ k. start counts (sd k) + ss k)) _ d);
       }
 
   -- ---- waits and unused entries: the parts are the clauses
@@ -222,21 +222,21 @@ module _ (L : Limits) (t : Tables) where
     unfolding planAccepted
     ranges = and-left _ _ (S .accepted)
 
-    rest : (namesSound L p && (checked L p && leb (dependencyTotal (ownerIn p) loc time n) (L .dependencies))) ≡ true
+    rest : (namesSound L p && (checked L p && leb (dependencyTotal (visitsIn p)) (L .dependencies))) ≡ true
     unfolding planAccepted
     rest = and-right (inRange L p) _ (S .accepted)
 
-    no-faults : (firstFault (numberIn p) loc time n ≡ n) × (apart (ownerIn p) loc time n ≡ true)
+    no-faults : (firstFault (visitsIn p) ≡ n) × (apart (visitsIn p) ≡ true)
     unfolding checked
     no-faults =
         let c = and-left (checked L p) _ (and-right (namesSound L p) _ rest) in
-        (eqb-true _ _ (and-left _ _ c), and-right (eqb (firstFault (numberIn p) loc time n) n) _ c)
+        (eqb-true _ _ (and-left _ _ c), and-right (eqb (firstFault (visitsIn p)) n) _ c)
 
-    own-total : M ≡ dependencyTotal (ownerIn p) loc time n
+    own-total : M ≡ dependencyTotal (visitsIn p)
     unfolding dependenciesSound
     own-total = eqb-true _ _ (and-left _ _ (S .dependencies-own))
 
-    room : dependencyTotal (ownerIn p) loc time n ≤ L .dependencies
+    room : dependencyTotal (visitsIn p) ≤ L .dependencies
     room = leb-true _ _ (and-right (checked L p) _ (and-right (namesSound L p) _ rest))
 
     sound-counts : CountsSay L D counts M
@@ -256,13 +256,13 @@ module _ (L : Limits) (t : Tables) where
     N : Numbered (ownerIn p) (numberIn p) (start counts) (λ d. at counts d - 1) D n
     N = numbered D counts (sound-counts .have-stops)
 
-    names-pair : (k : ℕ) (l : k < M) → NamesPair (ownerIn p) (numberIn p) (start counts) (λ d. at counts d - 1) D n N (follows (ownerIn p) loc time) M own-total k l (fd k) (fs k) (sd k) (ss k)
+    names-pair : (k : ℕ) (l : k < M) → NamesPair (ownerIn p) (numberIn p) (start counts) (λ d. at counts d - 1) D n N (follows (visitsIn p)) M own-total k l (fd k) (fs k) (sd k) (ss k)
     unfolding dependenciesSound
     names-pair k l =
-        let h = allBelow-at M (λ k. eqb (fd k) (getD (planned L p (λ v w. ownerIn p v)) k 0) && (eqb (fs k) (getD (planned L p (λ v w. numberIn p v)) k 0) && (eqb (sd k) (getD (planned L p (λ v w. ownerIn p w)) k 0) && eqb (ss k) (getD (planned L p (λ v w. numberIn p w)) k 0)))) (and-right (eqb M (dependencyTotal (ownerIn p) loc time n)) _ (S .dependencies-own)) k l in
+        let h = allBelow-at M (λ k. eqb (fd k) (getD (planned L p (λ v w. ownerIn p v)) k 0) && (eqb (fs k) (getD (planned L p (λ v w. numberIn p v)) k 0) && (eqb (sd k) (getD (planned L p (λ v w. ownerIn p w)) k 0) && eqb (ss k) (getD (planned L p (λ v w. numberIn p w)) k 0)))) (and-right (eqb M (dependencyTotal (visitsIn p))) _ (S .dependencies-own)) k l in
         let h₁ = and-right (eqb (fd k) (getD (planned L p (λ v w. ownerIn p v)) k 0)) _ h in
         let h₂ = and-right (eqb (fs k) (getD (planned L p (λ v w. numberIn p v)) k 0)) _ h₁ in
-        columns-name (ownerIn p) (numberIn p) (start counts) (λ d. at counts d - 1) D n N (follows (ownerIn p) loc time) M own-total k l (fd k) (fs k) (sd k) (ss k)
+        columns-name (ownerIn p) (numberIn p) (start counts) (λ d. at counts d - 1) D n N (follows (visitsIn p)) M own-total k l (fd k) (fs k) (sd k) (ss k)
         (eqb-true _ _ (and-left _ _ h)) (eqb-true _ _ (and-left _ _ h₁)) (eqb-true _ _ (and-left _ _ h₂)) (eqb-true _ _ (and-right (eqb (sd k) (getD (planned L p (λ v w. ownerIn p w)) k 0)) _ h₂))
 
     in-ranges : (v : ℕ) → v < n → (leb (loc v) (L .location) && leb (time v) (L .time)) ≡ true
@@ -274,7 +274,7 @@ module _ (L : Limits) (t : Tables) where
     sound-graph = record {
       in-place = λ v l. leb-true _ _ (and-left _ _ (in-ranges v l));
       in-time = λ v l. leb-true _ _ (and-right (leb (loc v) (L .location)) _ (in-ranges v l));
-      no-fault = λ v l. says-fault (numberIn p) loc time v (firstFault-says (numberIn p) loc time n (no-faults .0) v l);
+      no-fault = λ v l. says-fault (visitsIn p) v (firstFault-says (visitsIn p) (no-faults .0) v l);
       is-apart = no-faults .1;
       total = own-total;
       first-drone = λ k l. names-pair k l .first-drone;
@@ -319,11 +319,11 @@ module _ (L : Limits) (t : Tables) where
         (and-both _ _ (le-leb n (L .stops) (C .few-stops))
         (allBelow-all n _ (λ v l. and-both _ _ (le-leb (loc v) (L .location) (G .in-place v l)) (le-leb (time v) (L .time) (G .in-time v l)))))))
         (and-both _ _ (sym names-same ∙ P .names-sound)
-        (and-both _ _ (and-both _ _ (eq-eqb _ _ (says-firstFault (numberIn p) loc time n (λ v l. fault-says (numberIn p) loc time v (G .no-fault v l)))) (G .is-apart))
-        (le-leb (dependencyTotal (ownerIn p) loc time n) (L .dependencies) (omega (arith, G .total, C .few-dependencies)))))
+        (and-both _ _ (and-both _ _ (eq-eqb _ _ (says-firstFault (visitsIn p) (λ v l. fault-says (visitsIn p) v (G .no-fault v l)))) (G .is-apart))
+        (le-leb (dependencyTotal (visitsIn p)) (L .dependencies) (omega (arith, G .total, C .few-dependencies)))))
 
-    holds : (k : ℕ) (l : k < M) → HoldsColumns (ownerIn p) (numberIn p) (start counts) (λ d. at counts d - 1) D n K (follows (ownerIn p) loc time) M (G .total) k l (fd k) (fs k) (sd k) (ss k)
-    holds k l = names-columns (ownerIn p) (numberIn p) (start counts) (λ d. at counts d - 1) D n K (follows (ownerIn p) loc time) M (G .total) k l (fd k) (fs k) (sd k) (ss k)
+    holds : (k : ℕ) (l : k < M) → HoldsColumns (ownerIn p) (numberIn p) (start counts) (λ d. at counts d - 1) D n K (follows (visitsIn p)) M (G .total) k l (fd k) (fs k) (sd k) (ss k)
+    holds k l = names-columns (ownerIn p) (numberIn p) (start counts) (λ d. at counts d - 1) D n K (follows (visitsIn p)) M (G .total) k l (fd k) (fs k) (sd k) (ss k)
         (record { first-drone = G .first-drone k l; first-stop = omega (arith, G .first-stop k l); second-drone = G .second-drone k l; second-stop = omega (arith, G .second-stop k l); first = G .first-listed k l; second = G .second-listed k l })
 
     parts-dependencies : dependenciesSound L p ≡ true
@@ -402,21 +402,21 @@ module _ (L : Limits) (t : Tables) where
 
 -- ---- what the code asks after the counts and the graph have passed
 
-pub counted : (drones n m : ℕ) (counts : List ℕ) → limits .drones ≤ length counts → countsSound limits drones counts m ≡ true → n ≡ start counts drones → Counted drones n m counts
-counted drones n m counts r h e =
-    let s : CountsSay limits drones counts m = counts-say limits drones counts m h in
+pub counted : (L : Limits) (drones n m : ℕ) (counts : List ℕ) → L .drones ≤ length counts → countsSound L drones counts m ≡ true → n ≡ start counts drones → Counted L drones n m counts
+counted L drones n m counts r h e =
+    let s : CountsSay L drones counts m = counts-say L drones counts m h in
     record { has-counts = r; some-drone = s .some-drone; few-drones = s .few-drones; few-dependencies = s .few-dependencies; have-stops = s .have-stops; total = e; few-stops = omega (arith, e, s .few-stops) }
 
 module _ (drones n m : ℕ) (counts locations times firstDrones firstStops secondDrones secondStops : List ℕ) (L : Limits) (flags : List ℕ) (few : drones ≤ L .drones) (h : graphPart drones n m counts locations times firstDrones firstStops secondDrones secondStops L flags ≡ true) where
   pub firsts-limited : (k : ℕ) → k < m → at firstDrones k < L .drones
   unfolding graphPart
   firsts-limited k l =
-      let a = and-right (allBelow n (stopSound L (number drones counts) (at locations) (at times))) _ h in
+      let a = and-right (allBelow n (stopSound L (visitsBy drones n m counts locations times firstDrones firstStops secondDrones secondStops))) _ h in
       omega (arith, stop-drone drones counts (at firstDrones) (at firstStops) k (allBelow-at m (stopIn drones counts (at firstDrones) (at firstStops)) (and-left _ _ a) k l))
 
   pub seconds-limited : (k : ℕ) → k < m → at secondDrones k < L .drones
   unfolding graphPart
   seconds-limited k l =
-      let a = and-right (allBelow n (stopSound L (number drones counts) (at locations) (at times))) _ h in
+      let a = and-right (allBelow n (stopSound L (visitsBy drones n m counts locations times firstDrones firstStops secondDrones secondStops))) _ h in
       let b = and-right (allBelow m (stopIn drones counts (at firstDrones) (at firstStops))) _ a in
       omega (arith, stop-drone drones counts (at secondDrones) (at secondStops) k (allBelow-at m (stopIn drones counts (at secondDrones) (at secondStops)) (and-left _ _ b) k l))

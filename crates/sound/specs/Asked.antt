@@ -4,7 +4,7 @@ use mathlib.Core.List.{List}
 use Prim.Native.Nat.{ℕ, _+_, _-_, _≤_, _<_}
 use lib.ListN.{length}
 use Rattle.below.specs.Below.{at}
-use Rattle.tables.specs.Limits.{limits}
+use Rattle.tables.specs.Limits.{Limits}
 use Rattle.tables.specs.Tables.{Tables}
 use Rattle.precedence.specs.Graph.{Plan}
 use Rattle.plan.specs.Stops.{start, owner, number}
@@ -13,14 +13,14 @@ use Rattle.plan.specs.Status.{statusIn}
 use Rattle.sound.specs.Parts.{nameKey}
 
 -- counts that are in their ranges, and n stops in all
-pub record Counted (drones n m : ℕ) (counts : List ℕ) : Type 0 where
-  pub has-counts : limits .drones ≤ length counts
+pub record Counted (L : Limits) (drones n m : ℕ) (counts : List ℕ) : Type 0 where
+  pub has-counts : L .drones ≤ length counts
   pub some-drone : 1 ≤ drones
-  pub few-drones : drones ≤ limits .drones
-  pub few-dependencies : m ≤ limits .dependencies
+  pub few-drones : drones ≤ L .drones
+  pub few-dependencies : m ≤ L .dependencies
   pub have-stops : (d : ℕ) → d < drones → 1 ≤ at counts d
   pub total : n ≡ start counts drones
-  pub few-stops : n ≤ limits .stops
+  pub few-stops : n ≤ L .stops
 
 -- the columns of the dependencies have room for m entries
 pub record ColumnRoom (m : ℕ) (firstDrones firstStops secondDrones secondStops flags : List ℕ) : Type 0 where
@@ -31,9 +31,9 @@ pub record ColumnRoom (m : ℕ) (firstDrones firstStops secondDrones secondStops
   pub has-flags : m ≤ length flags
 
 -- the local tables hold each stop's drone and its number there, and each drone's first and last stop
-pub record Numbers (drones n : ℕ) (counts owners numbers starts lasts : List ℕ) : Type 0 where
-  pub owners-size : length owners ≡ limits .stops
-  pub numbers-size : length numbers ≡ limits .stops
+pub record Numbers (L : Limits) (drones n : ℕ) (counts owners numbers starts lasts : List ℕ) : Type 0 where
+  pub owners-size : length owners ≡ L .stops
+  pub numbers-size : length numbers ≡ L .stops
   pub owners-are : (v : ℕ) → v < n → at owners v ≡ owner drones counts v
   pub numbers-are : (v : ℕ) → v < n → at numbers v ≡ number drones counts v
   pub starts-are : (d : ℕ) → d < drones → at starts d ≡ start counts d
@@ -41,10 +41,10 @@ pub record Numbers (drones n : ℕ) (counts owners numbers starts lasts : List �
 
 -- the tables hold the graph G of a plan whose drone d has `at counts d` stops, over stops that are numbered through: each stop's drone, each drone's first and last
 -- stop, and of each wait the stop that nobody enters (`into`) before another is visited (`from`)
-pub record GraphTables (counts : List ℕ) (G : Plan) (owners starts lasts from into : List ℕ) : Type 0 where
-  pub owners-size : length owners ≡ limits .stops
-  pub from-size : length from ≡ limits .dependencies
-  pub into-size : length into ≡ limits .dependencies
+pub record GraphTables (L : Limits) (counts : List ℕ) (G : Plan) (owners starts lasts from into : List ℕ) : Type 0 where
+  pub owners-size : length owners ≡ L .stops
+  pub from-size : length from ≡ L .dependencies
+  pub into-size : length into ≡ L .dependencies
   pub owners-are : (v : ℕ) → v < start counts (G .drones) → at owners v ≡ owner (G .drones) counts v
   pub starts-are : (d : ℕ) → d < G .drones → at starts d ≡ start counts d
   pub lasts-are : (d : ℕ) → d < G .drones → at lasts d ≡ G .last d
@@ -52,29 +52,29 @@ pub record GraphTables (counts : List ℕ) (G : Plan) (owners starts lasts from 
   pub into-are : (k : ℕ) → k < G .count → at into k ≡ start counts (G .wait k .waiter) + G .wait k .stop
 
 -- .. the graph of lent tables with the order now in force
-abbrev pub InForce : (t : Tables) (owners starts lasts from into : List ℕ) → Type 0
-InForce t = GraphTables (t .plan .stopCounts) (graph (planOf (t .plan)) (statusIn t .turned))
+abbrev pub InForce : (L : Limits) (t : Tables) (owners starts lasts from into : List ℕ) → Type 0
+InForce L t = GraphTables L (t .plan .stopCounts) (graph (planOf (t .plan)) (statusIn t))
 
 -- room for that
-pub record Room (owners starts lasts from into : List ℕ) : Type 0 where
-  pub owners-room : length owners ≡ limits .stops
-  pub starts-room : length starts ≡ limits .drones
-  pub lasts-room : length lasts ≡ limits .drones
-  pub from-room : length from ≡ limits .dependencies
-  pub into-room : length into ≡ limits .dependencies
+pub record Room (L : Limits) (owners starts lasts from into : List ℕ) : Type 0 where
+  pub owners-room : length owners ≡ L .stops
+  pub starts-room : length starts ≡ L .drones
+  pub lasts-room : length lasts ≡ L .drones
+  pub from-room : length from ≡ L .dependencies
+  pub into-room : length into ≡ L .dependencies
 
 -- room for the numbering
-pub record Scratch (owners numbers starts lasts : List ℕ) : Type 0 where
-  pub owners-room : length owners ≡ limits .stops
-  pub numbers-room : length numbers ≡ limits .stops
-  pub starts-room : length starts ≡ limits .drones
-  pub lasts-room : length lasts ≡ limits .drones
+pub record Scratch (L : Limits) (owners numbers starts lasts : List ℕ) : Type 0 where
+  pub owners-room : length owners ≡ L .stops
+  pub numbers-room : length numbers ≡ L .stops
+  pub starts-room : length starts ≡ L .drones
+  pub lasts-room : length lasts ≡ L .drones
 
 -- flat holds the first m stops of two columns, drones and stops, numbered through
-pub record Through (starts of stops : List ℕ) (m : ℕ) (flat : List ℕ) : Type 0 where
-  pub size : length flat ≡ limits .dependencies
+pub record Through (L : Limits) (starts of stops : List ℕ) (m : ℕ) (flat : List ℕ) : Type 0 where
+  pub size : length flat ≡ L .dependencies
   pub are : (k : ℕ) → k < m → at flat k ≡ at starts (at of k) + at stops k
 
 -- keys holds the sums of the first n names' bytes
-abbrev pub Keyed : (names keys : List ℕ) → ℕ → Type 0
-Keyed names keys n = (d : ℕ) → d < n → at keys d ≡ nameKey limits names d
+abbrev pub Keyed : (L : Limits) (names keys : List ℕ) → ℕ → Type 0
+Keyed L names keys n = (d : ℕ) → d < n → at keys d ≡ nameKey L names d

@@ -1,6 +1,6 @@
 -- The parts into which the code takes the sound test apart. Each is a test of the lists and numbers that it is given, in an order in which every read is safe.
 -- Assumes nothing.
-use mathlib.Core.Bool.{Bool, not, cond, _&&_, _||_}
+use mathlib.Core.Bool.{Bool, false, not, cond, _&&_, _||_}
 use mathlib.Core.List.{List, [], _∷_}
 use Prim.Native.Nat.{ℕ, suc, _+_, _*_, _/_}
 use lib.Dec.{ltb, leb, eqb}
@@ -9,9 +9,10 @@ use Rattle.tables.specs.Limits.{Limits}
 use Rattle.tables.specs.Flags.{turnedBit, underWayBit, onlyOneBit}
 use Rattle.precedence.specs.Graph.{cyclic}
 use Rattle.plan.specs.Stops.{start, owner, number}
+use Rattle.plan.specs.Visits.{Visits, visits}
 use Rattle.plan.specs.Check.{faultAt}
 use Rattle.plan.specs.Dependencies.{right}
-use Rattle.plan.specs.Field.{FieldPlan, planOf, graph, fixed}
+use Rattle.plan.specs.Field.{FieldPlan, Status, planOf, graph, fixed}
 
 -- the counts are in their ranges: with them the stops are numbered
 unfoldable pub countsSound : (L : Limits) (drones : ℕ) (counts : List ℕ) (m : ℕ) → Bool
@@ -27,8 +28,8 @@ unfoldable pub nameKey : (L : Limits) (names : List ℕ) → ℕ → ℕ
 nameKey L names d = sumBelow (L .name) (λ i. at names (d * L .name + i))
 
 -- stop v's location and time are in their ranges, and the plan check finds nothing at it
-unfoldable pub stopSound : (L : Limits) (num loc time : ℕ → ℕ) → ℕ → Bool
-stopSound L num loc time v = leb (loc v) (L .location) && (leb (time v) (L .time) && eqb (faultAt num loc time v) 0)
+unfoldable pub stopSound : (L : Limits) (S : Visits) → ℕ → Bool
+stopSound L S v = leb (S .loc v) (L .location) && (leb (S .time v) (L .time) && eqb (faultAt S v) 0)
 
 -- entry k of two columns, drones and stops, names a stop
 unfoldable pub stopIn : (drones : ℕ) (counts : List ℕ) (ds ss : ℕ → ℕ) → ℕ → Bool
@@ -68,6 +69,10 @@ keptAt visited droneFlags firstDrones firstStops secondDrones secondStops flags 
     (waitKept visited droneFlags (at firstDrones k) (at firstStops k) (at secondDrones k) (at secondStops k))
     (waitKept visited droneFlags (at secondDrones k) (at secondStops k) (at firstDrones k) (at firstStops k))
 
+-- the status of which the turns alone are known, which the graph does not look beyond
+abbrev pub turnsIn : List ℕ → Status
+turnsIn flags = record { place = λ d. 0; underWay = λ d. false; turned = λ k. turnedBit (at flags k) }
+
 -- the plan by its counts and columns
 module _ (drones n m : ℕ) (counts locations times firstDrones firstStops secondDrones secondStops : List ℕ) where
   abbrev pub fieldOf : FieldPlan
@@ -84,13 +89,17 @@ module _ (drones n m : ℕ) (counts locations times firstDrones firstStops secon
     secondStops = secondStops;
   })
 
+  -- the plan's visits
+  abbrev pub visitsBy : Visits
+  visitsBy = visits (owner drones counts) (number drones counts) (at locations) (at times) n
+
   -- every stop is sound, every record names two stops, every flag byte is right, nothing collides, the records are the plan's dependencies, and the graph now in
   -- force has no cycle
   unfoldable pub graphPart : (L : Limits) (flags : List ℕ) → Bool
   graphPart L flags =
-      allBelow n (stopSound L (number drones counts) (at locations) (at times))
+      allBelow n (stopSound L visitsBy)
       && (allBelow m (stopIn drones counts (at firstDrones) (at firstStops))
       && (allBelow m (stopIn drones counts (at secondDrones) (at secondStops))
       && (allBelow m (λ k. flagRight (fixed fieldOf k) (at flags k))
-      && (right (owner drones counts) (at locations) (at times) n m (λ k. start counts (at firstDrones k) + at firstStops k) (λ k. start counts (at secondDrones k) + at secondStops k)
-      && not (cyclic (graph fieldOf (λ k. turnedBit (at flags k))))))))
+      && (right visitsBy m (λ k. start counts (at firstDrones k) + at firstStops k) (λ k. start counts (at secondDrones k) + at secondStops k)
+      && not (cyclic (graph fieldOf (turnsIn flags)))))))

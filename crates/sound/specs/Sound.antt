@@ -12,7 +12,7 @@ use Rattle.lines.specs.Names.{isNameByte}
 use Rattle.precedence.specs.Graph.{cyclic}
 use Rattle.plan.specs.Check.{firstFault, apart}
 use Rattle.plan.specs.Dependencies.{dependencyTotal, column}
-use Rattle.plan.specs.Claims.{stopTotal, ownerIn, numberIn}
+use Rattle.plan.specs.Claims.{stopTotal, ownerIn, numberIn, visitsIn}
 use Rattle.plan.specs.Field.{planOf, graph, fixed}
 use Rattle.plan.specs.Status.{statusIn, fixedUnturned, withinStops, waitsKept}
 
@@ -60,20 +60,20 @@ module _ (L : Limits) (p : PlanLists) where
 
   -- the plan check finds nothing
   unfoldable pub checked : Bool
-  checked = eqb (firstFault (numberIn p) (at (p .locations)) (at (p .times)) (stopTotal p)) (stopTotal p) && apart (ownerIn p) (at (p .locations)) (at (p .times)) (stopTotal p)
+  checked = eqb (firstFault (visitsIn p)) (stopTotal p) && apart (visitsIn p)
 
   -- "the plan in them would be accepted"
   unfoldable pub planAccepted : Bool
-  planAccepted = inRange && (namesSound && (checked && leb (dependencyTotal (ownerIn p) (at (p .locations)) (at (p .times)) (stopTotal p)) (L .dependencies)))
+  planAccepted = inRange && (namesSound && (checked && leb (dependencyTotal (visitsIn p)) (L .dependencies)))
 
   -- f of each dependency of the plan, in order
   abbrev pub planned : (ℕ → ℕ → ℕ) → List ℕ
-  planned f = column (ownerIn p) (at (p .locations)) (at (p .times)) (stopTotal p) f
+  planned f = column (visitsIn p) f
 
   -- "the dependencies are exactly its own, in order"
   unfoldable pub dependenciesSound : Bool
   dependenciesSound =
-      eqb (dependencies p) (dependencyTotal (ownerIn p) (at (p .locations)) (at (p .times)) (stopTotal p))
+      eqb (dependencies p) (dependencyTotal (visitsIn p))
       && allBelow (dependencies p) (λ k.
       eqb (at (p .firstDrones) k) (getD (planned (λ v w. ownerIn p v)) k 0)
       && (eqb (at (p .firstStops) k) (getD (planned (λ v w. numberIn p v)) k 0)
@@ -116,7 +116,7 @@ module _ (L : Limits) (t : Tables) where
       && (dependenciesSound L (t .plan)
       && (flagsSound
       && (fixedUnturned (planOf (t .plan)) (statusIn t)
-      && (not (cyclic (graph (planOf (t .plan)) (statusIn t .turned)))
+      && (not (cyclic (graph (planOf (t .plan)) (statusIn t)))
       && (droneFlagsSound
       && (withinStops (planOf (t .plan)) (statusIn t)
       && (waitsKept (planOf (t .plan)) (statusIn t)

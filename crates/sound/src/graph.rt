@@ -11,8 +11,7 @@ ghost use lib.ListN.{length};
 ghost use Rattle.below.specs.Below.{at, fillBelow};
 ghost use Rattle.tables.specs.Limits.{limits};
 ghost use Rattle.plan.specs.Field.{graph};
-ghost use Rattle.cycles.specs.Waits.{turnedIn};
-ghost use Rattle.sound.specs.Parts.{fieldOf, graphPart};
+ghost use Rattle.sound.specs.Parts.{fieldOf, graphPart, turnsIn};
 ghost use Rattle.sound.specs.Asked.{Counted, ColumnRoom, Numbers, GraphTables, Room, Scratch};
 
 // Each drone's last stop.
@@ -38,8 +37,8 @@ pub fn fill_tables(
     starts: &mut [u16],
     lasts: &mut [u16],
 )
-    requires { ⌜ Counted drones n m (now «stop_counts») × Scratch (now owners) (now numbers) (now starts) (now lasts) ⌝ }
-    ensures { λ _. ⌜ Numbers drones n (now («stop_counts» .entry)) (now (owners .exit)) (now (numbers .exit)) (now (starts .exit)) (now (lasts .exit)) ⌝ }
+    requires { ⌜ Counted limits drones n m (now «stop_counts») × Scratch limits (now owners) (now numbers) (now starts) (now lasts) ⌝ }
+    ensures { λ _. ⌜ Numbers limits drones n (now («stop_counts» .entry)) (now (owners .exit)) (now (numbers .exit)) (now (starts .exit)) (now (lasts .exit)) ⌝ }
 {
     plan::stops::fill_stops(drones, stop_counts, n, owners, numbers);
     plan::stops::fill_starts(drones, stop_counts, starts);
@@ -66,8 +65,8 @@ pub fn graph_sound(
     from: &mut [u16; Dependency::FULL],
     into: &mut [u16; Dependency::FULL],
 ) -> bool
-    requires { ⌜ Counted drones n m (now «stop_counts») × (n ≤ length (now locations)) × (n ≤ length (now times)) × ColumnRoom m (now «first_drones») (now «first_stops») (now «second_drones») (now «second_stops») (now flags) × Room (now owners) (now starts) (now lasts) (now from) (now into) ⌝ }
-    ensures { λ r. ⌜ (r ≡ graphPart drones n m (now («stop_counts» .entry)) (now (locations .entry)) (now (times .entry)) (now («first_drones» .entry)) (now («first_stops» .entry)) (now («second_drones» .entry)) (now («second_stops» .entry)) limits (now (flags .entry))) × (r ≡ true → GraphTables (now («stop_counts» .entry)) (graph (fieldOf drones n m (now («stop_counts» .entry)) (now (locations .entry)) (now (times .entry)) (now («first_drones» .entry)) (now («first_stops» .entry)) (now («second_drones» .entry)) (now («second_stops» .entry))) (turnedIn (now (flags .entry)))) (now (owners .exit)) (now (starts .exit)) (now (lasts .exit)) (now (from .exit)) (now (into .exit))) ⌝ }
+    requires { ⌜ Counted limits drones n m (now «stop_counts») × (n ≤ length (now locations)) × (n ≤ length (now times)) × ColumnRoom m (now «first_drones») (now «first_stops») (now «second_drones») (now «second_stops») (now flags) × Room limits (now owners) (now starts) (now lasts) (now from) (now into) ⌝ }
+    ensures { λ r. ⌜ (r ≡ graphPart drones n m (now («stop_counts» .entry)) (now (locations .entry)) (now (times .entry)) (now («first_drones» .entry)) (now («first_stops» .entry)) (now («second_drones» .entry)) (now («second_stops» .entry)) limits (now (flags .entry))) × (r ≡ true → GraphTables limits (now («stop_counts» .entry)) (graph (fieldOf drones n m (now («stop_counts» .entry)) (now (locations .entry)) (now (times .entry)) (now («first_drones» .entry)) (now («first_stops» .entry)) (now («second_drones» .entry)) (now («second_stops» .entry))) (turnsIn (now (flags .entry)))) (now (owners .exit)) (now (starts .exit)) (now (lasts .exit)) (now (from .exit)) (now (into .exit))) ⌝ }
 {
     let mut numbers = [0u16; Stop::FULL];
     fill_tables(

@@ -47,7 +47,7 @@ pub fn check(
         (now «first_drones») (now «first_stops») (now «second_drones») (now «second_stops»)
         (now flags)) ≡ true
         ⌝ }
-    requires { ⌜ Room (now owners) (now starts) (now lasts) (now from) (now into) ⌝ }
+    requires { ⌜ Room limits (now owners) (now starts) (now lasts) (now from) (now into) ⌝ }
     ensures { λ r.
         ⌜
         (r ≡ sound limits (tablesOf
@@ -55,7 +55,7 @@ pub fn check(
         (now (locations .entry)) (now (times .entry)) (now (visited .entry)) (now («drone_flags» .entry))
         (now («first_drones» .entry)) (now («first_stops» .entry)) (now («second_drones» .entry)) (now («second_stops» .entry))
         (now (flags .entry))))
-        × (r ≡ true → InForce (tablesOf
+        × (r ≡ true → InForce limits (tablesOf
         (now («drone_count» .entry)) (now («dependency_count» .entry)) (now (names .entry)) (now («stop_counts» .entry))
         (now (locations .entry)) (now (times .entry)) (now (visited .entry)) (now («drone_flags» .entry))
         (now («first_drones» .entry)) (now («first_stops» .entry)) (now («second_drones» .entry)) (now («second_stops» .entry))

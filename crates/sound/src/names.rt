@@ -74,7 +74,7 @@ fn same_name(names: &[u8], d: usize, e: usize) -> bool
     true
 }
 
-fn wide(byte: u8) -> u16
+fn byte_value(byte: u8) -> u16
     ensures { λ r. ⌜ (r ≡ byte) × (r ≤ 255) ⌝ }
 {
     byte as u16
@@ -89,15 +89,15 @@ fn name_key(names: &[u8], d: usize) -> u16
     let mut key: u16 = 0;
     let mut i = 0;
     while i < Drone::NAME {
-        key += wide(names[row + i]);
+        key += byte_value(names[row + i]);
         i += 1;
     }
     key
 }
 
-fn fill_keys(names: &[u8], drones: usize, keys: &mut [u16; 32])
+fn fill_keys(names: &[u8], drones: usize, keys: &mut [u16; Drone::FULL])
     requires { ⌜ (limits .drones * limits .name ≤ length (now names)) × (drones ≤ limits .drones) × (length (now keys) ≡ limits .drones) ⌝ }
-    ensures { λ _. ⌜ Keyed (now (names .entry)) (now (keys .exit)) drones ⌝ }
+    ensures { λ _. ⌜ Keyed limits (now (names .entry)) (now (keys .exit)) drones ⌝ }
 {
     let mut d = 0;
     while d < drones {
@@ -107,8 +107,8 @@ fn fill_keys(names: &[u8], drones: usize, keys: &mut [u16; 32])
 }
 
 // Names are compared where their sums are equal.
-fn is_same(names: &[u8], keys: &[u16; 32], d: usize, e: usize) -> bool
-    requires { ⌜ (limits .drones * limits .name ≤ length (now names)) × (d < limits .drones) × (e < limits .drones) × Keyed (now names) (now keys) (d + 1) × (e < d) ⌝ }
+fn is_same(names: &[u8], keys: &[u16; Drone::FULL], d: usize, e: usize) -> bool
+    requires { ⌜ (limits .drones * limits .name ≤ length (now names)) × (d < limits .drones) × (e < limits .drones) × Keyed limits (now names) (now keys) (d + 1) × (e < d) ⌝ }
     ensures { λ r. ⌜ r ≡ sameName limits (now (names .entry)) d e ⌝ }
 {
     if keys[d] != keys[e] {
@@ -118,8 +118,8 @@ fn is_same(names: &[u8], keys: &[u16; 32], d: usize, e: usize) -> bool
 }
 
 // Whether no earlier drone has drone d's name.
-fn is_new(names: &[u8], keys: &[u16; 32], d: usize) -> bool
-    requires { ⌜ (limits .drones * limits .name ≤ length (now names)) × (d < limits .drones) × Keyed (now names) (now keys) (d + 1) ⌝ }
+fn is_new(names: &[u8], keys: &[u16; Drone::FULL], d: usize) -> bool
+    requires { ⌜ (limits .drones * limits .name ≤ length (now names)) × (d < limits .drones) × Keyed limits (now names) (now keys) (d + 1) ⌝ }
     ensures { λ r. ⌜ r ≡ allBelow d (λ e. not (sameName limits (now (names .entry)) d e)) ⌝ }
 {
     let mut e = 0;
@@ -132,8 +132,8 @@ fn is_new(names: &[u8], keys: &[u16; 32], d: usize) -> bool
     true
 }
 
-fn are_new(names: &[u8], keys: &[u16; 32], drones: usize) -> bool
-    requires { ⌜ (limits .drones * limits .name ≤ length (now names)) × (drones ≤ limits .drones) × Keyed (now names) (now keys) drones ⌝ }
+fn are_new(names: &[u8], keys: &[u16; Drone::FULL], drones: usize) -> bool
+    requires { ⌜ (limits .drones * limits .name ≤ length (now names)) × (drones ≤ limits .drones) × Keyed limits (now names) (now keys) drones ⌝ }
     ensures { λ r. ⌜ r ≡ namesDiffer limits (now (names .entry)) drones ⌝ }
 {
     let mut d = 0;
@@ -150,7 +150,7 @@ fn names_differ(names: &[u8], drones: usize) -> bool
     requires { ⌜ (limits .drones * limits .name ≤ length (now names)) × (drones ≤ limits .drones) ⌝ }
     ensures { λ r. ⌜ r ≡ namesDiffer limits (now (names .entry)) drones ⌝ }
 {
-    let mut keys = [0u16; 32];
+    let mut keys = [0u16; Drone::FULL];
     fill_keys(names, drones, &mut keys);
     are_new(names, &keys, drones)
 }

@@ -1,4 +1,6 @@
 // The records of the dependencies: they name stops, their flag bytes are right, and each side of them as a column of stops that are numbered through.
+use tables::entries::Dependency;
+use tables::entries::Drone;
 ghost use mathlib.Core.Bool.{_&&_};
 ghost use mathlib.Core.Path.{_≡_};
 ghost use Prim.Native.Nat.{ℕ, _+_, _≤_, _<_};
@@ -22,15 +24,15 @@ fn is_stop(drones: usize, stop_counts: &[u16], of: &[u8], stops: &[u16], k: usiz
 
 // The stops of a column, numbered through.
 pub fn number_through(
-    starts: &[u16; 32],
+    starts: &[u16; Drone::FULL],
     of: &[u8],
     stops: &[u16],
     m: usize,
-    flat: &mut [u16; 2048],
+    flat: &mut [u16; Dependency::FULL],
 )
     requires { ⌜ (m ≤ length (now of)) × (m ≤ length (now stops)) × (m ≤ limits .dependencies) × (length (now flat) ≡ limits .dependencies) ⌝ }
     requires { ⌜ ((k : ℕ) → k < m → at (now of) k < limits .drones) × ((k : ℕ) → k < m → at (now starts) (at (now of) k) + at (now stops) k < limits .stops) ⌝ }
-    ensures { λ _. ⌜ Through (now (starts .entry)) (now (of .entry)) (now (stops .entry)) m (now (flat .exit)) ⌝ }
+    ensures { λ _. ⌜ Through limits (now (starts .entry)) (now (of .entry)) (now (stops .entry)) m (now (flat .exit)) ⌝ }
 {
     let mut k = 0;
     while k < m {
@@ -54,7 +56,7 @@ fn flag_right(fixed: bool, flag: u8) -> bool
 
 // Whether dependency k is fixed.
 fn is_fixed(
-    lasts: &[u16; 32],
+    lasts: &[u16; Drone::FULL],
     first_stops: &[u16],
     second_drones: &[u8],
     second_stops: &[u16],
@@ -74,7 +76,7 @@ fn is_fixed(
 fn is_right(
     drones: usize,
     stop_counts: &[u16],
-    lasts: &[u16; 32],
+    lasts: &[u16; Drone::FULL],
     first_drones: &[u8],
     first_stops: &[u16],
     second_drones: &[u8],
@@ -99,7 +101,7 @@ fn are_right(
     drones: usize,
     m: usize,
     stop_counts: &[u16],
-    lasts: &[u16; 32],
+    lasts: &[u16; Drone::FULL],
     first_drones: &[u8],
     first_stops: &[u16],
     second_drones: &[u8],
@@ -134,7 +136,7 @@ pub fn records_sound(
     drones: usize,
     m: usize,
     stop_counts: &[u16],
-    lasts: &[u16; 32],
+    lasts: &[u16; Drone::FULL],
     first_drones: &[u8],
     first_stops: &[u16],
     second_drones: &[u8],

@@ -1,12 +1,12 @@
 -- A mask of one bit, or of all the bits from one on, is a quotient and a remainder by powers of two: so the flag bytes are plain arithmetic.
 use mathlib.Core.Path.{_≡_, refl, _∙_, ap}
-use mathlib.Core.Bool.{Bool, true, false, not, cond}
+use mathlib.Core.Bool.{Bool, true, false, not}
 use Prim.Native.Nat.{ℕ, zero, suc, _+_, _-_, _*_, _/_, _%_, _≤_, _<_}
 use native.Mathlib.Nat.{mod-lt, mod-eq-of-lt}
 use native.Mathlib.Omega.{arith}
 use lib.Dec.{eqb, ltb, lit<}
 use lib.Bits.{bitAnd, bitOr, bitXor, and-mask, and-high, or-add-and, xor-add-and}
-use borrow.Author.Tests.{eq-eqb, ne-eqb, ltb-true, ltb-false, lt-ltb, le-ltb}
+use borrow.Author.Tests.{eq-eqb, ne-eqb, ltb-true, ltb-false}
 use Rattle.tables.specs.Flags.{turnedBit, fixedBit, onlyTwoBits, flipBit, fixedFlag, underWayBit, onlyOneBit, setUnderWay, clearUnderWay}
 
 ------------------------------------------------------------------------
@@ -74,20 +74,10 @@ clear-mask f h = from-bit-1 f h
 ------------------------------------------------------------------------
 -- What the changes do to the bits
 
--- the test of bits below a weight goes with the byte
-same-low : (f g weight : ℕ) (low : Bool) → ltb f weight ≡ low → (f < weight → g < weight) → (weight ≤ f → weight ≤ g) → ltb g weight ≡ low
-same-low f g weight true e l u = lt-ltb g weight (l (ltb-true f weight e))
-same-low f g weight false e l u = le-ltb g weight (u (ltb-false f weight e))
-
 other-bit : (x y : ℕ) → x < 2 → y ≡ 1 - x → eqb y 1 ≡ not (eqb x 1)
 other-bit zero y h e = eq-eqb y 1 e
 other-bit (suc zero) y h e = ne-eqb y 1 (λ k. omega arith)
 other-bit (suc (suc x)) y h e = absurd (omega arith)
-
--- "Turning twice gives the first rule again"
-pub flip-flip : (f : ℕ) → flipBit (flipBit f) ≡ f
-unfolding flipBit
-flip-flip f = omega arith
 
 -- the fixed bit and the six above it stay
 pub flip-half : (f : ℕ) → flipBit f / 2 ≡ f / 2
@@ -98,14 +88,6 @@ pub flip-turned : (f : ℕ) → turnedBit (flipBit f) ≡ not (turnedBit f)
 unfolding turnedBit flipBit
 flip-turned f = other-bit (f % 2) ((f / 2 * 2 + (1 - f % 2)) % 2) (mod-lt f (lit< tt)) (omega arith)
 
-pub flip-fixed : (f : ℕ) → fixedBit (flipBit f) ≡ fixedBit f
-unfolding fixedBit
-flip-fixed f = ap (λ (x : ℕ). eqb (x % 2) 1) (flip-half f)
-
-pub flip-two-bits : (f : ℕ) → onlyTwoBits (flipBit f) ≡ onlyTwoBits f
-unfolding onlyTwoBits
-flip-two-bits f = let e = flip-half f in same-low f (flipBit f) 4 (ltb f 4) refl (λ h. omega arith) (λ h. omega arith)
-
 pub set-under-way : (f : ℕ) → underWayBit (setUnderWay f) ≡ true
 unfolding underWayBit setUnderWay
 set-under-way f = eq-eqb ((f / 2 * 2 + 1) % 2) 1 (omega arith)
@@ -114,43 +96,8 @@ pub clear-under-way : (f : ℕ) → underWayBit (clearUnderWay f) ≡ false
 unfolding underWayBit clearUnderWay
 clear-under-way f = ne-eqb (f / 2 * 2 % 2) 1 (λ e. omega arith)
 
-pub set-one-bit : (f : ℕ) → onlyOneBit (setUnderWay f) ≡ onlyOneBit f
-unfolding onlyOneBit setUnderWay
-set-one-bit f = same-low f (f / 2 * 2 + 1) 2 (ltb f 2) refl (λ h. omega arith) (λ h. omega arith)
-
-pub clear-one-bit : (f : ℕ) → onlyOneBit (clearUnderWay f) ≡ onlyOneBit f
-unfolding onlyOneBit clearUnderWay
-clear-one-bit f = same-low f (f / 2 * 2) 2 (ltb f 2) refl (λ h. omega arith) (λ h. omega arith)
-
-------------------------------------------------------------------------
--- A byte whose other bits are zero is known by its bits
-
-pub by-two-bits : (f : ℕ) → onlyTwoBits f ≡ true → f ≡ fixedFlag (fixedBit f) + cond (turnedBit f) 1 0
-unfolding onlyTwoBits fixedFlag fixedBit turnedBit
-by-two-bits zero h = refl
-by-two-bits (suc zero) h = refl
-by-two-bits (suc (suc zero)) h = refl
-by-two-bits (suc (suc (suc zero))) h = refl
-by-two-bits (suc (suc (suc (suc f)))) h = absurd (omega (arith, ltb-true (suc (suc (suc (suc f)))) 4 h))
-
-pub by-one-bit : (f : ℕ) → onlyOneBit f ≡ true → f ≡ cond (underWayBit f) 1 0
-unfolding onlyOneBit underWayBit
-by-one-bit zero h = refl
-by-one-bit (suc zero) h = refl
-by-one-bit (suc (suc f)) h = absurd (omega (arith, ltb-true (suc (suc f)) 2 h))
-
--- a new dependency: not turned, fixed as said, the other bits zero
+-- a new dependency is not turned
 pub new-turned : (fixed : Bool) → turnedBit (fixedFlag fixed) ≡ false
 unfolding turnedBit fixedFlag
 new-turned true = refl
 new-turned false = refl
-
-pub new-fixed : (fixed : Bool) → fixedBit (fixedFlag fixed) ≡ fixed
-unfolding fixedBit fixedFlag
-new-fixed true = refl
-new-fixed false = refl
-
-pub new-two-bits : (fixed : Bool) → onlyTwoBits (fixedFlag fixed) ≡ true
-unfolding onlyTwoBits fixedFlag
-new-two-bits true = refl
-new-two-bits false = refl

@@ -1,7 +1,6 @@
 -- The test of full sizes is a conjunction of thirteen comparisons, so it holds just where all thirteen sizes do, and depends on the lengths alone.
 use mathlib.Core.Path.{_≡_, refl, sym, _∙_}
 use mathlib.Core.Bool.{Bool, true, false, _&&_, and-eq-true-iff, false≢true}
-use mathlib.Core.List.{List}
 use Prim.Native.Nat.{ℕ, _*_, _≤_}
 use native.Mathlib.Omega.{arith}
 use lib.Dec.{leb}

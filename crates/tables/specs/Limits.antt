@@ -1,5 +1,5 @@
 -- The limits of document 01's table of ranges ("Plan text"), as a record that definitions and laws take as a parameter. Assumes nothing.
-use Prim.Native.Nat.{ℕ, _*_}
+use Prim.Native.Nat.{ℕ}
 
 pub record Limits : Type 0 where
   -- "text: at most 32,768 bytes"

@@ -48,6 +48,24 @@ tablesOf droneCount dependencyCount names stopCounts locations times visited dro
   flags = flags;
 }
 
+-- f of each table and its full size: "Each table carries its own full size as a fixed figure, taken from the limits above"
+abbrev pub eachTable : (ℕ → List ℕ → List ℕ) → Limits → Tables → Tables
+eachTable f L t =
+    tablesOf
+    (f 1 (t .plan .droneCount))
+    (f 1 (t .plan .dependencyCount))
+    (f (L .drones * L .name) (t .plan .names))
+    (f (L .drones) (t .plan .stopCounts))
+    (f (L .stops) (t .plan .locations))
+    (f (L .stops) (t .plan .times))
+    (f (L .drones) (t .visited))
+    (f (L .drones) (t .droneFlags))
+    (f (L .dependencies) (t .plan .firstDrones))
+    (f (L .dependencies) (t .plan .firstStops))
+    (f (L .dependencies) (t .plan .secondDrones))
+    (f (L .dependencies) (t .plan .secondStops))
+    (f (L .dependencies) (t .flags))
+
 -- a count stands alone in its table
 abbrev pub drones : PlanLists → ℕ
 drones p = getD (p .droneCount) 0 0

@@ -1,4 +1,4 @@
-// The entries of the tables. Each type carries its table's full size, and each size is shown to be that of the limits.
+// The entries of the tables, and every figure of the limits. Each type carries its table's full size, and each figure is shown to be that of the limits.
 ghost use mathlib.Core.Path.{_≡_};
 ghost use Prim.Native.Nat.{_*_};
 ghost use Rattle.tables.specs.Limits.{limits};
@@ -28,8 +28,14 @@ pub struct Dependency {
     pub reserved: u8,
 }
 
-// The plan's text is no table of entries, but it has a full size too.
-pub struct Text {}
+// The bytes of a plan's text: it is no table of entries, so no type carries its limit.
+pub const MAX_TEXT: usize = 32768;
+
+pub fn text_limit() -> usize
+    ensures { λ r. ⌜ r ≡ limits .text ⌝ }
+{
+    MAX_TEXT
+}
 
 impl Stop {
     // The stops of all drones.
@@ -150,15 +156,5 @@ impl Dependency {
             flags: crate::flags::flipped(self.flags),
             reserved: self.reserved,
         }
-    }
-}
-
-impl Text {
-    pub const FULL: usize = 32768;
-
-    pub fn full_size() -> usize
-        ensures { λ r. ⌜ r ≡ limits .text ⌝ }
-    {
-        Self::FULL
     }
 }

@@ -69,7 +69,7 @@ pub read-is-written : (L : Limits) (n : ℕ) {text dc ns cs ls ts dc′ ns′ cs
 read-is-written L n {text} {dc} {ns} {cs} {ls} {ts} {dc′} {ns′} {cs′} {ls′} {ts′} r a b c d =
     let t = text-taken L text n (sym (r .answer-is)) in
     rw (r .names-are, r .counts-are, r .locations-are, r .times-are)
-    (kept-by L text n (linesAt L text) (t .routes) (t .many) (t .valid) (t .read) (t .written) ns cs ls ts a b c d)
+    (kept-by L text n (linesAt L text) (t .routes) (t .many) (t .in-limits) (t .read) (t .written) ns cs ls ts a b c d)
 
 pub read-and-written : (L : Limits) → ReadAndWritten L
 read-and-written L = record { text-kept = λ n text dc ns cs ls ts dc′ ns′ cs′ ls′ ts′ r a b c d. read-is-written L n r a b c d }

@@ -5,7 +5,6 @@ use native.Mathlib.Omega.{arith}
 use mathlib.Core.Path.{_≡_, refl, sym, ap, _∙_, subst}
 use mathlib.Core.List.{List, [], _∷_, _++_}
 use mathlib.Core.Bool.{true}
-use borrow.Author.Tests.{le-ltb}
 use lib.ListN.{length, drop, take, length-append}
 use lib.Seq.{take-at, drop-at}
 use Rattle.tables.specs.Limits.{Limits, limits}
@@ -120,7 +119,7 @@ plan-taken L text n t =
       typed = t .typed;
       as-typed = t .as-typed;
       many = sym (names-many (t .typed)) ∙ ap length (sym e) ∙ t .many;
-      valid = subst (InLimits L) e (t .valid);
+      in-limits = subst (InLimits L) e (t .in-limits);
       read = t .read ∙ ap (linesOf L) e;
     }
 
@@ -131,13 +130,13 @@ round-trip L u = record {
   capitals-are-read = written-read-back L u;
   well-formed-is-written = λ text n h. let t = text-taken L text n h in plan-taken L text n t;
   names-alone = text-small;
-  read-alike = λ text n h. let t = text-taken L text n h in ap (linesAt L) (t .written) ∙ valid-read-back L u (t .routes) (t .valid) ∙ sym (t .read);
-  tables-text = λ text n h. let t = text-taken L text n h in tables-written L text n _ (t .routes) (t .many) (t .valid) (t .read) (t .written);
+  read-alike = λ text n h. let t = text-taken L text n h in ap (linesAt L) (t .written) ∙ valid-read-back L u (t .routes) (t .in-limits) ∙ sym (t .read);
+  tables-text = λ text n h. let t = text-taken L text n h in tables-written L text n _ (t .routes) (t .many) (t .in-limits) (t .read) (t .written);
   one-plan = λ ds es v w h. found-same L ds es v w (sym (valid-read-back L u ds v) ∙ ap (linesAt L) h ∙ valid-read-back L u es w);
   one-text = λ a b n h e.
       let s = text-taken L a n h in
       let t = text-taken L b n (ap (λ (f : LinesRead LinesAnswer). f .answer) (sym e) ∙ h) in
-      let d = found-same L (s .routes) (t .routes) (s .valid) (t .valid) (sym (s .read) ∙ e ∙ t .read) in
+      let d = found-same L (s .routes) (t .routes) (s .in-limits) (t .in-limits) (sym (s .read) ∙ e ∙ t .read) in
       s .written ∙ ap routesText d ∙ sym (t .written);
   written-bound = text-bound L;
   written-short = λ room ds v. le-trans (text-bound L ds v) room;

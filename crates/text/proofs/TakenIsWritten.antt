@@ -6,8 +6,8 @@ use native.Mathlib.Omega.{arith}
 use mathlib.Core.Path.{_≡_, refl, sym, ap, _∙_}
 use mathlib.Core.List.{List, [], _∷_, _++_}
 use mathlib.Core.Bool.{Bool, true, false, cond}
-use lib.Dec.{ltb, eqb}
-use borrow.Author.Tests.{ltb-false, eqb-true}
+use lib.Dec.{eqb}
+use borrow.Author.Tests.{eqb-true}
 use lib.ListN.{length, getD, drop, drop-of-length-le}
 use lib.Seq.{drop-cons}
 use Rattle.tables.specs.Limits.{Limits}
@@ -39,7 +39,7 @@ record DronesTake (L : Limits) (text : List ℕ) (at e total n : ℕ) (earlier :
   pub counts-are : f .counts ≡ countsOf (smallNames routes)
   pub locations-are : f .locations ≡ locationsOf (smallNames routes)
   pub times-are : f .times ≡ timesOf (smallNames routes)
-  pub valid : InLimitsFrom L earlier total (smallNames routes)
+  pub in-limits : InLimitsFrom L earlier total (smallNames routes)
   pub there : Stands text at (routeLines routes) e
 
 one-more : (L : Limits) (n : ℕ) (text : List ℕ) (at e e′ total t : ℕ) (earlier : List (List ℕ)) (f g : LinesRead DroneLines) → DroneTake L text at e total t (elem earlier) f
@@ -52,7 +52,7 @@ one-more L n text at e e′ total t earlier f g d s = record {
   counts-are = rw (d .counts-are, s .counts-are);
   locations-are = rw (d .locations-are, s .locations-are);
   times-are = rw (d .times-are, s .times-are);
-  valid = (d .good, d .new, d .some, d .within, d .range, rw (d .rows-are, d .total-is) at (s .valid));
+  in-limits = (d .good, d .new, d .some, d .within, d .range, rw (d .rows-are, d .total-is) at (s .in-limits));
   there = stands-join (d .there) (s .there);
 }
 
@@ -66,7 +66,7 @@ drones-taken L zero text at earlier total e t h = let p : at ≡ e = cc h in rec
   counts-are = refl;
   locations-are = refl;
   times-are = refl;
-  valid = tt;
+  in-limits = tt;
   there = rw (← p) (record { there = refl; next-is = sym (add-zero at) });
 }
 drones-taken L (suc n) text at earlier total e t h =
@@ -96,7 +96,7 @@ whole-from text p (b ∷ x) h l =
 pub record TextTaken (L : Limits) (text : List ℕ) (n : ℕ) (w : LinesRead LinesAnswer) : Type 0 where
   pub routes : List Route
   pub many : length routes ≡ n
-  pub valid : InLimits L routes
+  pub in-limits : InLimits L routes
   pub read : w ≡ linesOf L routes
   pub typed : List Route
   pub routes-are : routes ≡ smallNames typed
@@ -117,7 +117,7 @@ take-end L text n v p e f k c s true a true b h =
     record {
       routes = smallNames (s .routes);
       many = m ∙ ev;
-      valid = (rw m (r .0), rw m (r .1), s .valid);
+      in-limits = (rw m (r .0), rw m (r .1), s .in-limits);
       read = rw (s .rows-are, s .counts-are, s .locations-are, s .times-are, m);
       typed = s .routes;
       routes-are = refl;

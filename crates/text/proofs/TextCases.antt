@@ -1,21 +1,18 @@
 -- The whole text: which case of the definitions holds, by what was read; and the tables afterwards.
-use Prim.Native.Nat.{ℕ, _+_, _*_, _≤_}
+use Prim.Native.Nat.{ℕ, _+_, _≤_}
 use mathlib.Core.Path.{_≡_, refl, sym, ap, _∙_}
 use mathlib.Core.List.{List, []}
 use mathlib.Core.Bool.{true, false}
 use borrow.Author.Tests.{eq-eqb, ne-eqb}
-use lib.ListN.{length, set}
+use lib.ListN.{length}
 use lib.Seq.{sets}
-use Rattle.tables.proofs.Zero.{zeroed-sets}
 use Rattle.tables.specs.Limits.{Limits}
 use native.Mathlib.Nat.{zero-mul}
 use Rattle.lines.specs.Bytes.{isAt}
 use Rattle.lines.specs.Keys.{firstLine, agentsKey, lastLine}
 use Rattle.lines.specs.Stops.{countAt}
-use Rattle.text.specs.LinesRead.{LinesRead, nothing, dronesAt, ending, finish, linesAt, flat, LinesStored}
-use Rattle.text.specs.TextRead.{TextRead, TablesZeroed}
-use Rattle.tables.specs.Zero.{zeroed}
-use Rattle.text.proofs.Fits.{lines-fit}
+use Rattle.text.specs.LinesRead.{LinesRead, nothing, dronesAt, ending, finish, linesAt, LinesStored}
+use Rattle.text.specs.TextRead.{droneCount, TextRead}
 use Rattle.text.proofs.TakenIsWritten.{text-taken}
 use Rattle.lines.specs.declared.stops.Count.{Count}
 use Rattle.lines.specs.declared.refusal.Refusal.{Refusal}
@@ -62,35 +59,17 @@ end-refused text v x r k = rw k
 pub taken-range : (L : Limits) (text : List ℕ) (n : ℕ) → linesAt L text .answer ≡ WellFormed n → (1 ≤ n) × (n ≤ L .drones)
 taken-range L text n h =
     let t = text-taken L text n h in
-    (rw (t .many) at (t .valid .0), rw (t .many) at (t .valid .1))
+    (rw (t .many) at (t .in-limits .0), rw (t .many) at (t .in-limits .1))
 
 -- ---- the tables afterwards
 
--- filled; filled and zeroed
 module _ (L : Limits) (text : List ℕ) {ns cs ls ts ns₁ cs₁ ls₁ ts₁ : List ℕ} {r : LinesAnswer} (f : LinesStored L (linesAt L text) 0 0 ns cs ls ts ns₁ cs₁ ls₁ ts₁ r) where
-  names-stored : ns₁ ≡ sets ns 0 (flat (linesAt L text .rows))
-  names-stored = rw zero-mul at (f .names-are)
-
-  pub text-in : (dc : List ℕ) (n : ℕ) → r ≡ WellFormed n → TextRead L text dc ns cs ls ts (set dc 0 n) ns₁ cs₁ ls₁ ts₁ (WellFormed n)
-  text-in dc n k = record {
+  pub text-read : (dc : List ℕ) (a : LinesAnswer) → r ≡ a → TextRead L text dc ns cs ls ts (sets dc 0 (droneCount a)) ns₁ cs₁ ls₁ ts₁ a
+  text-read dc a k = record {
     answer-is = sym k ∙ f .answer-is;
     count-is = refl;
-    names-are = names-stored;
+    names-are = rw zero-mul at (f .names-are);
     counts-are = f .counts-are;
     locations-are = f .locations-are;
     times-are = f .times-are;
   }
-
-  module _ {dc dc₂ ns₂ cs₂ ls₂ ts₂ : List ℕ} (y : TablesZeroed L dc ns₁ cs₁ ls₁ ts₁ dc₂ ns₂ cs₂ ls₂ ts₂) (x : Refusal) (k : r ≡ NotWellFormed x) where
-    table-out : (full : ℕ) (values t t₁ t₂ : List ℕ) → length values ≤ full → t₁ ≡ sets t 0 values → t₂ ≡ zeroed full t₁ → t₂ ≡ zeroed full t
-    table-out full values t t₁ t₂ h b c = c ∙ ap (zeroed full) b ∙ zeroed-sets full t values h
-
-    pub text-out : TextRead L text dc ns cs ls ts dc₂ ns₂ cs₂ ls₂ ts₂ (NotWellFormed x)
-    text-out = let w = lines-fit L text in record {
-      answer-is = sym k ∙ f .answer-is;
-      count-is = y .count-is;
-      names-are = table-out (L .drones * L .name) (flat (linesAt L text .rows)) ns ns₁ ns₂ (w .rows) names-stored (y .names-are);
-      counts-are = table-out (L .drones) (linesAt L text .counts) cs cs₁ cs₂ (w .counts) (f .counts-are) (y .counts-are);
-      locations-are = table-out (L .stops) (linesAt L text .locations) ls ls₁ ls₂ (w .locations) (f .locations-are) (y .locations-are);
-      times-are = table-out (L .stops) (linesAt L text .times) ts ts₁ ts₂ (w .times) (f .times-are) (y .times-are);
-    }

@@ -18,7 +18,7 @@ pub record PlanOfText (L : Limits) (text : List ℕ) (n : ℕ) : Type 0 where
   pub typed : List Route
   pub as-typed : text ≡ routesText typed
   pub many : length typed ≡ n
-  pub valid : InLimits L (smallNames typed)
+  pub in-limits : InLimits L (smallNames typed)
   pub read : linesAt L text ≡ linesOf L (smallNames typed)
 
 -- the longest text of a plan within the limits has at most this many bytes: 31 in the lines of the whole plan, in each drone's two lines 20 beside its name, 19 in the line of a stop

@@ -22,16 +22,16 @@ pub record Example : Type 0 where
   pub refusal : ℕ
   pub value : ℕ
 
-abbrev pub numberOf : LinesAnswer → ℕ
-numberOf (WellFormed n) = 0
-numberOf (NotWellFormed r) = refusalNumber r
+abbrev pub refusalOf : LinesAnswer → ℕ
+refusalOf (WellFormed n) = 0
+refusalOf (NotWellFormed r) = refusalNumber r
 
 abbrev pub valueOf : LinesAnswer → ℕ
 valueOf (WellFormed n) = n
 valueOf (NotWellFormed r) = refusalOffset r
 
 abbrev pub holds : Example → Bool
-holds e = let a = linesAt limits (bytes (e .text)) .answer in eqb (numberOf a) (e .refusal) && eqb (valueOf a) (e .value)
+holds e = let a = linesAt limits (bytes (e .text)) .answer in eqb (refusalOf a) (e .refusal) && eqb (valueOf a) (e .value)
 
 abbrev pub allHold : List Example → Bool
 allHold [] = true

@@ -9,15 +9,13 @@ use lines::stops::Count;
 use lines::stops::GoLines;
 use tables::entries::Drone;
 use tables::entries::Stop;
-use tables::zeroing;
-ghost use mathlib.Core.Path.{_≡_};
 ghost use Prim.Native.Nat.{_*_, _<_, _≤_};
 ghost use lib.ListN.{length};
 ghost use mathlib.Core.List.{[]};
 ghost use Rattle.tables.specs.Limits.{limits};
 ghost use Rattle.lines.specs.Names.{among};
 ghost use Rattle.text.specs.LinesRead.{stopsRead, StopsStored, droneAt, dronesAt, LinesStored, linesAt};
-ghost use Rattle.text.specs.TextRead.{TablesZeroed, TextRead};
+ghost use Rattle.text.specs.TextRead.{TextRead};
 
 // What the lines of drones gave: the position after them and the stops so far, or a refusal.
 pub enum DroneLines {
@@ -172,26 +170,7 @@ fn read_lines(
     }
 }
 
-// Zeroes the tables up to their full sizes.
-pub fn zero_all(
-    count: &mut [u16],
-    names: &mut [u8],
-    counts: &mut [u16],
-    locations: &mut [u16],
-    times: &mut [u32],
-)
-    ensures { λ _. ⌜ TablesZeroed limits
-        (now (count .entry)) (now (names .entry)) (now (counts .entry)) (now (locations .entry)) (now (times .entry))
-        (now (count .exit)) (now (names .exit)) (now (counts .exit)) (now (locations .exit)) (now (times .exit)) ⌝ }
-{
-    zeroing::zero_u16(count, 1);
-    zeroing::zero_u8(names, Drone::NAMES);
-    zeroing::zero_u16(counts, Drone::FULL);
-    zeroing::zero_u16(locations, Stop::FULL);
-    zeroing::zero_u32(times, Stop::FULL);
-}
-
-// Reads a plan text into the tables: the number of drones, names, counts of stops, locations and times of stops. After a refusal the tables are zeroed.
+// Reads a plan text into the tables: the number of drones, names, counts of stops, locations and times of stops. A refusal leaves what the lines before the fault wrote.
 pub fn read_text(
     text: &[u8],
     count: &mut [u16],
@@ -211,9 +190,6 @@ pub fn read_text(
             count[0] = drones as u16;
             LinesAnswer::WellFormed { drones }
         }
-        LinesAnswer::Refused(refusal) => {
-            zero_all(count, names, counts, locations, times);
-            LinesAnswer::Refused(refusal)
-        }
+        LinesAnswer::Refused(refusal) => LinesAnswer::Refused(refusal),
     }
 }

@@ -2,6 +2,7 @@
 use Prim.Native.Nat.{ℕ, _-_}
 use mathlib.Core.Path.{_≡_, refl}
 use mathlib.Core.List.{List, [], _∷_, _++_}
+use Rattle.plan.specs.Visits.{sameLocation}
 use Rattle.below.specs.Below.{isIn, firstBelow, allBelow, sumBelow}
 use Rattle.precedence.specs.Graph.{blocks, free, round, play, finished, unvisited, reached, remaining, cost, cyclic}
 use Rattle.lines.specs.Keys.{firstLine, agentsKey, stopsKey, lastLine}
@@ -37,6 +38,7 @@ readingQ = record {
     last = λ d. 3 - d;
     location = λ d s. 0;
     time = λ d s. 0;
+    meets = sameLocation;
     count = 1;
     dependency = λ w. record { first = 0; firstStop = 2; second = 1; secondStop = 1 };
   };

@@ -6,7 +6,7 @@ use lib.Dec.{ltb, eqb}
 use lib.ListN.{length, take}
 use Rattle.below.specs.Below.{at, rowsBelow}
 use Rattle.precedence.specs.Graph.{cost as costOf}
-use Rattle.plan.specs.Field.{FieldPlan, graph}
+use Rattle.plan.specs.Field.{FieldPlan, graph, placeOf}
 use Rattle.lines.specs.Keys.{lineFeed}
 use Rattle.lines.specs.Numbers.{digitsOf, field}
 use Rattle.log.specs.CallLog.{replyNumber, awaited, Entry, entry, statusBy, replyBy}
@@ -55,7 +55,7 @@ module _ (F : FieldPlan) where
   -- the answer to a request by the log before it
   abbrev pub answerBy : List Entry → Request → LineAnswer
   answerBy log (call c) = record { kind = kindOf (call c); number = replyNumber (replyBy F log (callOf c)); detail = awaited (replyBy F log (callOf c)) }
-  answerBy log cost = record { kind = kindOf cost; number = 0; detail = costOf (graph F (statusBy log .turned)) (statusBy log .place) }
+  answerBy log cost = record { kind = kindOf cost; number = 0; detail = costOf (graph F (statusBy log)) (placeOf F (statusBy log)) }
 
   -- the log after it
   abbrev pub logAfter : List Entry → Request → List Entry

@@ -4,8 +4,6 @@ use crate::requests::Ending;
 use lines::bytes;
 use lines::keys as plan_keys;
 use lines::numbers;
-ghost use mathlib.Core.Path.{_≡_};
-ghost use mathlib.Core.List.{_++_};
 ghost use Prim.Native.Nat.{_+_, _<_, _≤_, _^_};
 ghost use lib.ListN.{length};
 ghost use Rattle.lines.specs.Bytes.{Put};

@@ -4,6 +4,7 @@ use Prim.Native.Nat.{ℕ}
 use native.Mathlib.Omega.{arith}
 use lib.ListN.{length-replicate}
 use Rattle.below.proofs.Index.{zeros-at}
+use Rattle.tables.specs.Limits.{limits}
 use Rattle.cycles.proofs.CycleLaws.{begun-first, walked-cyclic}
 use borrow.Author.Needs.{needs}
 use Rattle.cycles.proofs.has_cycle.Statement.{statement}
@@ -16,11 +17,11 @@ use Rattle.cycles.proofs.walk.walk.Reads as walk-reads
 
 -- src/lib.rt:34:5
 at-first-requires : tie.Need-at-first-requires
-at-first-requires c κs = length-replicate {A = ℕ} 32 0
+at-first-requires c κs = length-replicate {A = ℕ} (limits .drones) 0
 
 -- src/lib.rt:36:5
 walk-requires : tie.Need-walk-requires
-walk-requires c κs = ((c .before .before .before .before .before .pre, begun-first _ (c .before .before .before .before .before .pre .placed) _ (c .before .before .at-first .ensures .0) (λ d l. c .before .before .at-first .ensures .1 d (omega (arith, c .before .before .before .before .before .pre .few-drones)))), (length-replicate {A = ℕ} 1024 0, zeros-at 1024))
+walk-requires c κs = ((c .before .before .before .before .before .pre, begun-first _ (c .before .before .before .before .before .pre .placed) _ (c .before .before .at-first .ensures .0) (λ d l. c .before .before .at-first .ensures .1 d (omega (arith, c .before .before .before .before .before .pre .few-drones)))), (length-replicate {A = ℕ} (limits .stops) 0, zeros-at (limits .stops)))
 
 -- src/lib.rt:37:6
 all-last-requires : tie.Need-all-last-requires

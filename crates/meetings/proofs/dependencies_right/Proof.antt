@@ -3,6 +3,7 @@ use Prim.Native.Nat.{ℕ}
 use native.Mathlib.Omega.{arith}
 use lib.ListN.{length-replicate}
 use borrow.Author.Tests.{not-true, not-false}
+use Rattle.tables.specs.Limits.{limits}
 use Rattle.plan.proofs.SharingLaws.{firsts-at}
 use Rattle.meetings.proofs.Right.{right-not, right-count}
 use Rattle.meetings.proofs.Tallies.{indexed-filled, meetings-shared}
@@ -21,7 +22,7 @@ are-right-requires c κs = search needs
 
 -- src/lib.rt:27:9
 returns : tie.Need-returns
-returns c = right-not _ _ _ _ (c .before .before .before .before .before .before .before .pre .0 .steady) _ _ _ (sym (c .before .are-right .ensures) ∙ not-true _ (c .if1 .taken))
+returns c = λ numbers. right-not _ _ _ _ _ (c .before .before .before .before .before .before .before .pre .0 .steady) _ _ _ (sym (c .before .are-right .ensures) ∙ not-true _ (c .if1 .taken))
 
 -- src/lib.rt:30:5
 fill-firsts-requires : tie.Need-fill-firsts-requires
@@ -29,11 +30,11 @@ fill-firsts-requires c κs = search needs
 
 -- src/lib.rt:31:5
 count-meetings-requires : tie.Need-count-meetings-requires
-count-meetings-requires c κs = (indexed-filled _ _ _ _ (length-replicate {A = ℕ} 1024 0) (c .before .before .before .before .before .before .before .before .before .before .pre .0 .few) (c .before .fill-firsts .ensures), c .before .before .before .before .before .before .before .before .before .before .pre .0 .grouped, c .before .before .before .before .before .before .before .before .before .before .pre .0 .has-owners)
+count-meetings-requires c κs = (indexed-filled _ _ _ _ (length-replicate {A = ℕ} (limits .stops) 0) (c .before .before .before .before .before .before .before .before .before .before .pre .0 .few) (c .before .fill-firsts .ensures), c .before .before .before .before .before .before .before .before .before .before .pre .0 .grouped, c .before .before .before .before .before .before .before .before .before .before .pre .0 .has-owners)
 
 -- src/lib.rt:14:1
 returns-2 : tie.Need-returns-2
-returns-2 c = right-count _ _ _ _ (c .before .before .before .before .before .before .before .before .before .before .before .pre .0 .steady) _ _ _ _ (sym (c .before .before .before .before .before .are-right .ensures) ∙ not-false _ (c .before .before .before .before .if1 .left)) (c .count-meetings .ensures ∙ meetings-shared _ _ _ _ (firsts-at _ _ _ _ (omega (arith, c .before .before .before .before .before .before .before .before .before .before .before .pre .0 .few, length-replicate {A = ℕ} 1024 0)) (c .before .before .fill-firsts .ensures)))
+returns-2 c = λ numbers. right-count _ _ _ _ _ (c .before .before .before .before .before .before .before .before .before .before .before .pre .0 .steady) _ _ _ _ (sym (c .before .before .before .before .before .are-right .ensures) ∙ not-false _ (c .before .before .before .before .if1 .left)) (c .count-meetings .ensures ∙ meetings-shared _ _ _ _ (firsts-at _ _ _ _ (omega (arith, c .before .before .before .before .before .before .before .before .before .before .before .pre .0 .few, length-replicate {A = ℕ} (limits .stops) 0)) (c .before .before .fill-firsts .ensures)))
 
 pub dependencies-right-spec : {M : Type 1} → statement M
 dependencies-right-spec =

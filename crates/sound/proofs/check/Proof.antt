@@ -55,7 +55,7 @@ returns-2 c = (names-wrong _ _ _ (c .before .before .before .before .counts-soun
 
 -- src/lib.rt:74:9
 graph-sound-requires : tie.Need-graph-sound-requires
-graph-sound-requires c κs = let C = counted _ _ _ _ (full-sizes _ _ (c .before .before .before .before .before .before .before .before .before .before .before .before .before .before .before .before .before .before .before .before .before .before .before .before .before .pre .0) .stop-counts) (sym (c .before .before .before .before .before .before .before .before .before .counts-sound .ensures) ∙ not-false _ (c .before .before .before .before .before .before .before .before .if1 .left)) (c .before .before .before .before .before .before .before .stop-total .ensures) in (C, omega (arith, full-sizes _ _ (c .before .before .before .before .before .before .before .before .before .before .before .before .before .before .before .before .before .before .before .before .before .before .before .before .before .pre .0) .locations, C .few-stops), omega (arith, full-sizes _ _ (c .before .before .before .before .before .before .before .before .before .before .before .before .before .before .before .before .before .before .before .before .before .before .before .before .before .pre .0) .times, C .few-stops), record { has-first-drones = omega (arith, full-sizes _ _ (c .before .before .before .before .before .before .before .before .before .before .before .before .before .before .before .before .before .before .before .before .before .before .before .before .before .pre .0) .first-drones, C .few-dependencies); has-first-stops = omega (arith, full-sizes _ _ (c .before .before .before .before .before .before .before .before .before .before .before .before .before .before .before .before .before .before .before .before .before .before .before .before .before .pre .0) .first-stops, C .few-dependencies); has-second-drones = omega (arith, full-sizes _ _ (c .before .before .before .before .before .before .before .before .before .before .before .before .before .before .before .before .before .before .before .before .before .before .before .before .before .pre .0) .second-drones, C .few-dependencies); has-second-stops = omega (arith, full-sizes _ _ (c .before .before .before .before .before .before .before .before .before .before .before .before .before .before .before .before .before .before .before .before .before .before .before .before .before .pre .0) .second-stops, C .few-dependencies); has-flags = omega (arith, full-sizes _ _ (c .before .before .before .before .before .before .before .before .before .before .before .before .before .before .before .before .before .before .before .before .before .before .before .before .before .pre .0) .flags, C .few-dependencies) }, c .before .before .before .before .before .before .before .before .before .before .before .before .before .before .before .before .before .before .before .before .before .before .before .before .before .pre .1)
+graph-sound-requires c κs = let C = counted _ _ _ _ _ (full-sizes _ _ (c .before .before .before .before .before .before .before .before .before .before .before .before .before .before .before .before .before .before .before .before .before .before .before .before .before .pre .0) .stop-counts) (sym (c .before .before .before .before .before .before .before .before .before .counts-sound .ensures) ∙ not-false _ (c .before .before .before .before .before .before .before .before .if1 .left)) (c .before .before .before .before .before .before .before .stop-total .ensures) in (C, omega (arith, full-sizes _ _ (c .before .before .before .before .before .before .before .before .before .before .before .before .before .before .before .before .before .before .before .before .before .before .before .before .before .pre .0) .locations, C .few-stops), omega (arith, full-sizes _ _ (c .before .before .before .before .before .before .before .before .before .before .before .before .before .before .before .before .before .before .before .before .before .before .before .before .before .pre .0) .times, C .few-stops), record { has-first-drones = omega (arith, full-sizes _ _ (c .before .before .before .before .before .before .before .before .before .before .before .before .before .before .before .before .before .before .before .before .before .before .before .before .before .pre .0) .first-drones, C .few-dependencies); has-first-stops = omega (arith, full-sizes _ _ (c .before .before .before .before .before .before .before .before .before .before .before .before .before .before .before .before .before .before .before .before .before .before .before .before .before .pre .0) .first-stops, C .few-dependencies); has-second-drones = omega (arith, full-sizes _ _ (c .before .before .before .before .before .before .before .before .before .before .before .before .before .before .before .before .before .before .before .before .before .before .before .before .before .pre .0) .second-drones, C .few-dependencies); has-second-stops = omega (arith, full-sizes _ _ (c .before .before .before .before .before .before .before .before .before .before .before .before .before .before .before .before .before .before .before .before .before .before .before .before .before .pre .0) .second-stops, C .few-dependencies); has-flags = omega (arith, full-sizes _ _ (c .before .before .before .before .before .before .before .before .before .before .before .before .before .before .before .before .before .before .before .before .before .before .before .before .before .pre .0) .flags, C .few-dependencies) }, c .before .before .before .before .before .before .before .before .before .before .before .before .before .before .before .before .before .before .before .before .before .before .before .before .before .pre .1)
 
 -- src/lib.rt:92:9
 returns-3 : tie.Need-returns-3
@@ -63,7 +63,7 @@ returns-3 c = (graph-wrong _ _ _ (c .before .before .before .before .before .bef
 
 -- src/lib.rt:94:9
 drones-sound-requires : tie.Need-drones-sound-requires
-drones-sound-requires c κs = let C = counted _ _ _ _ (full-sizes _ _ (c .before .before .before .before .before .before .before .before .before .before .before .before .before .before .before .before .before .before .before .before .before .before .before .before .before .before .before .pre .0) .stop-counts) (sym (c .before .before .before .before .before .before .before .before .before .before .before .counts-sound .ensures) ∙ not-false _ (c .before .before .before .before .before .before .before .before .before .before .if1 .left)) (c .before .before .before .before .before .before .before .before .before .stop-total .ensures) in (omega (arith, full-sizes _ _ (c .before .before .before .before .before .before .before .before .before .before .before .before .before .before .before .before .before .before .before .before .before .before .before .before .before .before .before .pre .0) .stop-counts, C .few-drones), omega (arith, full-sizes _ _ (c .before .before .before .before .before .before .before .before .before .before .before .before .before .before .before .before .before .before .before .before .before .before .before .before .before .before .before .pre .0) .visited, C .few-drones), omega (arith, full-sizes _ _ (c .before .before .before .before .before .before .before .before .before .before .before .before .before .before .before .before .before .before .before .before .before .before .before .before .before .before .before .pre .0) .drone-flags, C .few-drones), C .have-stops)
+drones-sound-requires c κs = let C = counted _ _ _ _ _ (full-sizes _ _ (c .before .before .before .before .before .before .before .before .before .before .before .before .before .before .before .before .before .before .before .before .before .before .before .before .before .before .before .pre .0) .stop-counts) (sym (c .before .before .before .before .before .before .before .before .before .before .before .counts-sound .ensures) ∙ not-false _ (c .before .before .before .before .before .before .before .before .before .before .if1 .left)) (c .before .before .before .before .before .before .before .before .before .stop-total .ensures) in (omega (arith, full-sizes _ _ (c .before .before .before .before .before .before .before .before .before .before .before .before .before .before .before .before .before .before .before .before .before .before .before .before .before .before .before .pre .0) .stop-counts, C .few-drones), omega (arith, full-sizes _ _ (c .before .before .before .before .before .before .before .before .before .before .before .before .before .before .before .before .before .before .before .before .before .before .before .before .before .before .before .pre .0) .visited, C .few-drones), omega (arith, full-sizes _ _ (c .before .before .before .before .before .before .before .before .before .before .before .before .before .before .before .before .before .before .before .before .before .before .before .before .before .before .before .pre .0) .drone-flags, C .few-drones), C .have-stops)
 
 -- src/lib.rt:95:9
 returns-4 : tie.Need-returns-4
@@ -71,7 +71,7 @@ returns-4 c = (drones-wrong _ _ _ (c .before .before .before .before .before .be
 
 -- src/lib.rt:97:9
 waits-kept-requires : tie.Need-waits-kept-requires
-waits-kept-requires c κs = let C = counted _ _ _ _ (full-sizes _ _ (c .before .before .before .before .before .before .before .before .before .before .before .before .before .before .before .before .before .before .before .before .before .before .before .before .before .before .before .before .before .pre .0) .stop-counts) (sym (c .before .before .before .before .before .before .before .before .before .before .before .before .before .counts-sound .ensures) ∙ not-false _ (c .before .before .before .before .before .before .before .before .before .before .before .before .if1 .left)) (c .before .before .before .before .before .before .before .before .before .before .before .stop-total .ensures) in let G = sym (c .before .before .before .graph-sound .ensures .0) ∙ not-false _ (c .before .before .if3 .left) in ((omega (arith, full-sizes _ _ (c .before .before .before .before .before .before .before .before .before .before .before .before .before .before .before .before .before .before .before .before .before .before .before .before .before .before .before .before .before .pre .0) .first-drones, C .few-dependencies), omega (arith, full-sizes _ _ (c .before .before .before .before .before .before .before .before .before .before .before .before .before .before .before .before .before .before .before .before .before .before .before .before .before .before .before .before .before .pre .0) .first-stops, C .few-dependencies), omega (arith, full-sizes _ _ (c .before .before .before .before .before .before .before .before .before .before .before .before .before .before .before .before .before .before .before .before .before .before .before .before .before .before .before .before .before .pre .0) .second-drones, C .few-dependencies), omega (arith, full-sizes _ _ (c .before .before .before .before .before .before .before .before .before .before .before .before .before .before .before .before .before .before .before .before .before .before .before .before .before .before .before .before .before .pre .0) .second-stops, C .few-dependencies), omega (arith, full-sizes _ _ (c .before .before .before .before .before .before .before .before .before .before .before .before .before .before .before .before .before .before .before .before .before .before .before .before .before .before .before .before .before .pre .0) .flags, C .few-dependencies)), (full-sizes _ _ (c .before .before .before .before .before .before .before .before .before .before .before .before .before .before .before .before .before .before .before .before .before .before .before .before .before .before .before .before .before .pre .0) .visited, full-sizes _ _ (c .before .before .before .before .before .before .before .before .before .before .before .before .before .before .before .before .before .before .before .before .before .before .before .before .before .before .before .before .before .pre .0) .drone-flags, firsts-limited _ _ _ _ _ _ _ _ _ _ _ _ (C .few-drones) G, seconds-limited _ _ _ _ _ _ _ _ _ _ _ _ (C .few-drones) G))
+waits-kept-requires c κs = let C = counted _ _ _ _ _ (full-sizes _ _ (c .before .before .before .before .before .before .before .before .before .before .before .before .before .before .before .before .before .before .before .before .before .before .before .before .before .before .before .before .before .pre .0) .stop-counts) (sym (c .before .before .before .before .before .before .before .before .before .before .before .before .before .counts-sound .ensures) ∙ not-false _ (c .before .before .before .before .before .before .before .before .before .before .before .before .if1 .left)) (c .before .before .before .before .before .before .before .before .before .before .before .stop-total .ensures) in let G = sym (c .before .before .before .graph-sound .ensures .0) ∙ not-false _ (c .before .before .if3 .left) in ((omega (arith, full-sizes _ _ (c .before .before .before .before .before .before .before .before .before .before .before .before .before .before .before .before .before .before .before .before .before .before .before .before .before .before .before .before .before .pre .0) .first-drones, C .few-dependencies), omega (arith, full-sizes _ _ (c .before .before .before .before .before .before .before .before .before .before .before .before .before .before .before .before .before .before .before .before .before .before .before .before .before .before .before .before .before .pre .0) .first-stops, C .few-dependencies), omega (arith, full-sizes _ _ (c .before .before .before .before .before .before .before .before .before .before .before .before .before .before .before .before .before .before .before .before .before .before .before .before .before .before .before .before .before .pre .0) .second-drones, C .few-dependencies), omega (arith, full-sizes _ _ (c .before .before .before .before .before .before .before .before .before .before .before .before .before .before .before .before .before .before .before .before .before .before .before .before .before .before .before .before .before .pre .0) .second-stops, C .few-dependencies), omega (arith, full-sizes _ _ (c .before .before .before .before .before .before .before .before .before .before .before .before .before .before .before .before .before .before .before .before .before .before .before .before .before .before .before .before .before .pre .0) .flags, C .few-dependencies)), (full-sizes _ _ (c .before .before .before .before .before .before .before .before .before .before .before .before .before .before .before .before .before .before .before .before .before .before .before .before .before .before .before .before .before .pre .0) .visited, full-sizes _ _ (c .before .before .before .before .before .before .before .before .before .before .before .before .before .before .before .before .before .before .before .before .before .before .before .before .before .before .before .before .before .pre .0) .drone-flags, firsts-limited _ _ _ _ _ _ _ _ _ _ _ _ (C .few-drones) G, seconds-limited _ _ _ _ _ _ _ _ _ _ _ _ (C .few-drones) G))
 
 -- src/lib.rt:107:9
 returns-5 : tie.Need-returns-5

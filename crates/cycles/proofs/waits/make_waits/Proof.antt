@@ -4,6 +4,7 @@ use mathlib.Core.Path.{_≡_, refl, subst, ap, _∙_}
 use native.Mathlib.Nat.{le-antisymm}
 use native.Mathlib.Omega.{arith}
 use Rattle.below.specs.Below.{at, pick}
+use Rattle.tables.specs.Limits.{limits}
 use Rattle.cycles.specs.Waits.{Edges}
 use Rattle.cycles.proofs.Directed.{edges-none, edges-more, rest-more}
 use Rattle.cycles.proofs.waits.make_waits.Statement.{statement}
@@ -14,7 +15,7 @@ use Rattle.cycles.proofs.waits.pick16.Reads as pick16-reads
 use Rattle.cycles.proofs.waits.turned_at.Reads as turned-at-reads
 
 abbrev Inv-loop : tie.InvT-loop
-Inv-loop flags m from₀ into₀ k₀ from into k = (k ≤ m) × Edges from₀ into₀ flags k from into × ((j : ℕ) → k ≤ j → at from j ≡ at from₀ j) × ((j : ℕ) → k ≤ j → at into j ≡ at into₀ j)
+Inv-loop flags m from₀ into₀ k₀ from into k = (k ≤ m) × Edges limits from₀ into₀ flags k from into × ((j : ℕ) → k ≤ j → at from j ≡ at from₀ j) × ((j : ℕ) → k ≤ j → at into j ≡ at into₀ j)
 
 abbrev μ-loop : tie.MeasureT-loop
 μ-loop flags m from₀ into₀ k₀ from into k = m - k
@@ -89,7 +90,7 @@ loop-again c = (omega arith, edges-more _ _ _ _ _ _ _ _ _ (c .before .before .be
 
 -- src/waits.rt:44:1
 returns : tie.Need-returns Inv-loop μ-loop
-returns c = subst (λ (k : ℕ). Edges (c .before .before .before .args .from .now) (c .before .before .before .args .into .now) (c .before .before .before .args .flags .now) k (c .before .loop .from) (c .before .loop .into)) (le-antisymm (omega arith) (omega arith)) (c .before .loop .inv .1)
+returns c = subst (λ (k : ℕ). Edges limits (c .before .before .before .args .from .now) (c .before .before .before .args .into .now) (c .before .before .before .args .flags .now) k (c .before .loop .from) (c .before .loop .into)) (le-antisymm (omega arith) (omega arith)) (c .before .loop .inv .1)
 
 pub make-waits-spec : {M : Type 1} → statement M
 make-waits-spec =

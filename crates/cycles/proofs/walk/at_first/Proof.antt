@@ -4,6 +4,7 @@ use native.Mathlib.Omega.{arith}
 use lib.ListN.{length}
 use Rattle.below.proofs.Index.{fill-more}
 use Rattle.below.specs.Below.{at}
+use Rattle.tables.specs.Limits.{limits}
 use lib.ListN.{length-set}
 use borrow.Author.Needs.{needs}
 use Rattle.cycles.proofs.walk.at_first.Statement.{statement}
@@ -12,10 +13,10 @@ use Rattle.cycles.proofs.walk.at_first.Reads as reads
 use Rattle.cycles.proofs.walk.at_first.Lts as lts
 
 abbrev Inv-loop : tie.InvT-loop
-Inv-loop starts cur₀ d₀ cur d = (d ≤ 32) × (length cur ≡ 32) × ((k : ℕ) → k < d → at cur k ≡ at starts k)
+Inv-loop starts cur₀ d₀ cur d = (d ≤ limits .drones) × (length cur ≡ limits .drones) × ((k : ℕ) → k < d → at cur k ≡ at starts k)
 
 abbrev μ-loop : tie.MeasureT-loop
-μ-loop starts cur₀ d₀ cur d = 32 - d
+μ-loop starts cur₀ d₀ cur d = limits .drones - d
 
 loop-holds : tie.Need-loop-holds Inv-loop μ-loop
 loop-holds c = (omega arith, c .pre, λ k h. absurd (omega arith))

@@ -4,6 +4,7 @@ use mathlib.Core.Path.{sym, _∙_}
 use native.Mathlib.Omega.{arith}
 use borrow.Author.Tests.{not-true, not-false}
 use Rattle.below.specs.Below.{at}
+use Rattle.tables.specs.Limits.{limits}
 use Rattle.cycles.specs.Walk.{Stacked, canMove}
 use Rattle.cycles.proofs.NeedLaws.{below, below-none, below-skip, below-push, below-end}
 use Rattle.cycles.proofs.walk.stack_movers.Statement.{statement}
@@ -13,14 +14,14 @@ use Rattle.cycles.proofs.walk.stack_movers.Lts as lts
 use Rattle.cycles.proofs.walk.can_move.Reads as can-move-reads
 
 abbrev Inv-loop : tie.InvT-loop
-Inv-loop starts lasts drones cur need stack₀ top₀ d₀ stack top d = (d ≤ drones) × (top ≤ d) × ((few : drones ≤ 32) → Stacked drones (below drones few (canMove (at starts) (at lasts) (at cur) (at need)) d) stack top)
+Inv-loop starts lasts drones cur need stack₀ top₀ d₀ stack top d = (d ≤ drones) × (top ≤ d) × Stacked limits drones (below (canMove (at starts) (at lasts) (at cur) (at need)) d) stack top
 
 abbrev μ-loop : tie.MeasureT-loop
 μ-loop starts lasts drones cur need stack₀ top₀ d₀ stack top d = drones - d
 
 -- src/walk.rt:79:5
 loop-holds : tie.Need-loop-holds Inv-loop μ-loop
-loop-holds c = (omega arith, omega arith, λ few. below-none _ few _ _ (c .pre .2))
+loop-holds c = (omega arith, omega arith, below-none _ (c .pre .0) _ _ (c .pre .2))
 
 -- src/walk.rt:80:13
 can-move-requires : tie.Need-can-move-requires Inv-loop μ-loop
@@ -36,7 +37,7 @@ loop-less c = search needs
 
 -- src/walk.rt:79:5
 loop-again : tie.Need-loop-again Inv-loop μ-loop
-loop-again c = (omega arith, omega arith, λ few. below-skip _ few _ _ (omega arith) (c .before .before .before .loop .inv .2 few) (sym (c .before .can-move .ensures) ∙ not-true _ (c .if1 .taken)))
+loop-again c = (omega arith, omega arith, below-skip _ (c .before .before .before .before .pre .0) _ _ (omega arith) (c .before .before .before .loop .inv .2) (sym (c .before .can-move .ensures) ∙ not-true _ (c .if1 .taken)))
 
 -- src/walk.rt:84:22
 cast-stack : tie.Need-cast-stack Inv-loop μ-loop
@@ -44,7 +45,7 @@ cast-stack c = search needs
 
 -- src/walk.rt:84:9
 element-write-stack : tie.Need-element-write-stack Inv-loop μ-loop
-element-write-stack c = omega (arith, c .before .before .before .loop .inv .2 (c .before .before .before .before .pre .0) .size)
+element-write-stack c = omega (arith, c .before .before .before .loop .inv .2 .size)
 
 -- src/walk.rt:85:9
 add-top : tie.Need-add-top Inv-loop μ-loop
@@ -60,11 +61,11 @@ loop-less-2 c = search needs
 
 -- src/walk.rt:79:5
 loop-again-2 : tie.Need-loop-again-2 Inv-loop μ-loop
-loop-again-2 c = (omega arith, omega arith, λ few. below-push _ few _ _ (omega arith) (c .before .before .before .loop .inv .2 few) (sym (c .before .can-move .ensures) ∙ not-false _ (c .if1 .left)))
+loop-again-2 c = (omega arith, omega arith, below-push _ (c .before .before .before .before .pre .0) _ _ (omega arith) (c .before .before .before .loop .inv .2) (sym (c .before .can-move .ensures) ∙ not-false _ (c .if1 .left)))
 
 -- src/walk.rt:66:1
 returns : tie.Need-returns Inv-loop μ-loop
-returns c = below-end _ (c .before .before .pre .0) _ (omega arith) (c .before .loop .inv .2 (c .before .before .pre .0))
+returns c = below-end _ (c .before .before .pre .0) _ (omega arith) (c .before .loop .inv .2)
 
 pub stack-movers-spec : {M : Type 1} → statement M
 stack-movers-spec =

@@ -6,6 +6,7 @@ use native.Mathlib.Omega.{arith}
 use lib.ListN.{length-replicate}
 use Rattle.below.specs.Below.{at}
 use Rattle.below.proofs.Index.{zeros-at}
+use Rattle.tables.specs.Limits.{limits}
 use Rattle.cycles.specs.Walk.{metAt, unmet}
 use Rattle.cycles.proofs.NeedLaws.{Counted, counted-none, counted-le, counted-more}
 use Rattle.cycles.proofs.walk.unmet_waits.Statement.{statement}
@@ -16,14 +17,14 @@ use Rattle.tables.proofs.casts.wide.Reads as wide-reads
 use Rattle.cycles.proofs.walk.unmet_one.Reads as unmet-one-reads
 
 abbrev Inv-loop : tie.InvT-loop
-Inv-loop owners from into m cur need₀ k₀ need k = (k ≤ m) × Counted (at into) (metAt (at owners) (at from) (at cur)) k need
+Inv-loop owners from into m cur need₀ k₀ need k = (k ≤ m) × Counted limits (at into) (metAt (at owners) (at from) (at cur)) k need
 
 abbrev μ-loop : tie.MeasureT-loop
 μ-loop owners from into m cur need₀ k₀ need k = m - k
 
 -- src/walk.rt:39:5
 loop-holds : tie.Need-loop-holds Inv-loop μ-loop
-loop-holds c = (omega arith, counted-none _ _ _ (length-replicate {A = ℕ} 1024 0) (zeros-at 1024))
+loop-holds c = (omega arith, counted-none _ _ _ _ (length-replicate {A = ℕ} (limits .stops) 0) (zeros-at (limits .stops)))
 
 -- src/walk.rt:40:22
 mul-wide : tie.Need-mul-wide Inv-loop μ-loop
@@ -51,7 +52,7 @@ array-read-need c = omega (arith, c .before .wide .ensures .0, c .before .before
 
 -- src/walk.rt:41:9
 add-need : tie.Need-add-need Inv-loop μ-loop
-add-need c = omega (arith, c .unmet-one .ensures .1, counted-le _ _ (c .before .before .before .before .loop .inv .1) (c .before .wide .result) (omega (arith, c .before .wide .ensures .0, c .before .before .before .before .before .before .pre .1 (c .before .before .before .before .loop .k) (omega arith) .into-small)))
+add-need c = omega (arith, c .unmet-one .ensures .1, counted-le _ _ _ (c .before .before .before .before .loop .inv .1) (c .before .wide .result) (omega (arith, c .before .wide .ensures .0, c .before .before .before .before .before .before .pre .1 (c .before .before .before .before .loop .k) (omega arith) .into-small)))
 
 -- src/walk.rt:41:9
 array-write-need : tie.Need-array-write-need Inv-loop μ-loop
@@ -67,7 +68,7 @@ loop-less c = search needs
 
 -- src/walk.rt:39:5
 loop-again : tie.Need-loop-again Inv-loop μ-loop
-loop-again c = (omega arith, counted-more _ _ _ _ _ _ _ (c .before .before .before .before .loop .inv .1) (c .before .wide .ensures .0) (omega (arith, c .before .wide .ensures .0, c .before .before .before .before .before .before .pre .1 (c .before .before .before .before .loop .k) (omega arith) .into-small)) (c .unmet-one .ensures .0) refl)
+loop-again c = (omega arith, counted-more _ _ _ _ _ _ _ _ (c .before .before .before .before .loop .inv .1) (c .before .wide .ensures .0) (omega (arith, c .before .wide .ensures .0, c .before .before .before .before .before .before .pre .1 (c .before .before .before .before .loop .k) (omega arith) .into-small)) (c .unmet-one .ensures .0) refl)
 
 -- src/walk.rt:27:1
 returns : tie.Need-returns Inv-loop μ-loop

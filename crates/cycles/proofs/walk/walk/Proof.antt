@@ -1,11 +1,12 @@
 use borrow.Author.Needs.{needs}
-use Prim.Native.Nat.{ℕ}
+use Prim.Native.Nat.{ℕ, _-_}
 use mathlib.Core.Path.{refl}
 use mathlib.Core.List.{List}
 use native.Mathlib.Omega.{arith}
 use lib.ListN.{length-replicate}
 use Rattle.below.specs.Below.{at}
 use Rattle.below.proofs.Index.{zeros-at}
+use Rattle.tables.specs.Limits.{limits}
 use Rattle.cycles.specs.Walk.{course, metAt, left, legOfOne, Walking, Meeting}
 use Rattle.cycles.proofs.Fits.{left-fits}
 use Rattle.cycles.proofs.NeedLaws.{flat-ends}
@@ -26,20 +27,20 @@ use Rattle.cycles.proofs.walk.top_after.Reads as top-after-reads
 use Rattle.cycles.proofs.walk.unmet_waits.Reads as unmet-waits-reads
 
 abbrev Inv-loop2 : tie.InvT-loop2
-Inv-loop2 owners starts lasts drones n from into m cur table₀ head next stack₀ need₀ top₀ d v wait₀ table stack need top wait = (start : List ℕ) → Meeting (course owners starts lasts drones n from into m) legOfOne 1 1023 start cur v wait₀ need₀ stack₀ top₀ table₀ → Meeting (course owners starts lasts drones n from into m) legOfOne 1 1023 start cur v wait need stack top table
+Inv-loop2 owners starts lasts drones n from into m cur table₀ head next stack₀ need₀ top₀ d v wait₀ table stack need top wait = (start : List ℕ) → Meeting limits (course owners starts lasts drones n from into m) legOfOne 1 (limits .stops - 1) start cur v wait₀ need₀ stack₀ top₀ table₀ → Meeting limits (course owners starts lasts drones n from into m) legOfOne 1 (limits .stops - 1) start cur v wait need stack top table
 
 abbrev μ-loop2 : tie.MeasureT-loop2
 μ-loop2 owners starts lasts drones n from into m cur table₀ head next stack₀ need₀ top₀ d v wait₀ table stack need top wait = wait
 
 abbrev Inv-loop : tie.InvT-loop
-Inv-loop owners starts lasts drones n from into m cur₀ table₀ head next stack₀ need₀ top₀ cur table stack need top = Walking (course owners starts lasts drones n from into m) legOfOne 1 1023 cur₀ (metAt (at owners) (at from) (at cur)) cur need stack top table
+Inv-loop owners starts lasts drones n from into m cur₀ table₀ head next stack₀ need₀ top₀ cur table stack need top = Walking limits (course owners starts lasts drones n from into m) legOfOne 1 (limits .stops - 1) cur₀ (metAt (at owners) (at from) (at cur)) cur need stack top table
 
 abbrev μ-loop : tie.MeasureT-loop
 μ-loop owners starts lasts drones n from into m cur₀ table₀ head next stack₀ need₀ top₀ cur table stack need top = left (course owners starts lasts drones n from into m) (at cur)
 
 -- src/walk.rt:177:5
 link-requires : tie.Need-link-requires Inv-loop2 μ-loop2 Inv-loop μ-loop
-link-requires c κs = ((c .before .before .before .pre .0 .0 .few-waits, λ k l. flat-ends _ _ _ _ _ _ _ _ (c .before .before .before .pre .0 .0) k l .from-small), (length-replicate {A = ℕ} 1024 0, length-replicate {A = ℕ} 2048 0, zeros-at 1024))
+link-requires c κs = ((c .before .before .before .pre .0 .0 .few-waits, λ k l. flat-ends _ _ _ _ _ _ _ _ (c .before .before .before .pre .0 .0) k l .from-small), (length-replicate {A = ℕ} (limits .stops) 0, length-replicate {A = ℕ} (limits .dependencies) 0, zeros-at (limits .stops)))
 
 -- src/walk.rt:178:20
 unmet-waits-requires : tie.Need-unmet-waits-requires Inv-loop2 μ-loop2 Inv-loop μ-loop
@@ -47,11 +48,11 @@ unmet-waits-requires c κs = (c .before .before .before .before .before .pre .0 
 
 -- src/walk.rt:179:9
 stack-movers-requires : tie.Need-stack-movers-requires Inv-loop2 μ-loop2 Inv-loop μ-loop
-stack-movers-requires c κs = (c .before .before .before .before .before .before .before .before .before .pre .0 .0 .few-drones, λ d l. omega (arith, c .before .before .before .before .before .before .before .before .before .pre .0 .0 .few-stops, c .before .before .before .before .before .before .before .before .before .pre .0 .0 .placed .shape .place-in d (at (c .before .before .before .before .before .before .before .before .before .args .lasts .now) d) l (omega arith)), length-replicate {A = ℕ} 32 0)
+stack-movers-requires c κs = (c .before .before .before .before .before .before .before .before .before .pre .0 .0 .few-drones, λ d l. omega (arith, c .before .before .before .before .before .before .before .before .before .pre .0 .0 .few-stops, c .before .before .before .before .before .before .before .before .before .pre .0 .0 .placed .shape .place-in d (at (c .before .before .before .before .before .before .before .before .before .args .lasts .now) d) l (omega arith)), length-replicate {A = ℕ} (limits .drones) 0)
 
 -- src/walk.rt:180:5
 loop-holds : tie.Need-loop-holds Inv-loop2 μ-loop2 Inv-loop μ-loop
-loop-holds c = walking-start _ (c .before .before .before .before .before .before .before .before .before .before .pre .0 .0 .placed) (c .before .before .before .before .before .before .before .before .before .before .pre .0 .1) (record { size = c .before .before .before .before .unmet-waits .ensures .0; counted = λ v l. c .before .before .before .before .unmet-waits .ensures .1 v (omega (arith, c .before .before .before .before .before .before .before .before .before .before .pre .0 .0 .few-stops)) }) (c .stack-movers .ensures) (c .before .before .before .before .before .before .before .before .before .before .pre .1 .0) (c .before .before .before .before .before .before .before .before .before .before .pre .1 .1) (omega (arith, left-fits _ _ _ _ _ (c .before .before .before .before .before .before .before .before .before .before .pre .0 .0 .placed .shape) (at (c .before .before .before .before .before .before .before .before .before .before .args .cur .now)) (c .before .before .before .before .before .before .before .before .before .before .pre .0 .1 .low) 1024 (c .before .before .before .before .before .before .before .before .before .before .pre .0 .0 .few-stops)))
+loop-holds c = walking-start _ (c .before .before .before .before .before .before .before .before .before .before .pre .0 .0 .placed) (c .before .before .before .before .before .before .before .before .before .before .pre .0 .1) (record { size = c .before .before .before .before .unmet-waits .ensures .0; counted = λ v l. c .before .before .before .before .unmet-waits .ensures .1 v (omega (arith, c .before .before .before .before .before .before .before .before .before .before .pre .0 .0 .few-stops)) }) (c .stack-movers .ensures) (c .before .before .before .before .before .before .before .before .before .before .pre .1 .0) (c .before .before .before .before .before .before .before .before .before .before .pre .1 .1) (omega (arith, left-fits _ _ _ _ _ (c .before .before .before .before .before .before .before .before .before .before .pre .0 .0 .placed .shape) (at (c .before .before .before .before .before .before .before .before .before .before .args .cur .now)) (c .before .before .before .before .before .before .before .before .before .before .pre .0 .1 .low) (limits .stops) (c .before .before .before .before .before .before .before .before .before .before .pre .0 .0 .few-stops)))
 
 -- src/walk.rt:181:29
 sub-wide8 : tie.Need-sub-wide8 Inv-loop2 μ-loop2 Inv-loop μ-loop

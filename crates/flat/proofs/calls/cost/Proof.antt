@@ -1,5 +1,7 @@
+use mathlib.Core.Path.{refl}
 use Rattle.tables.specs.Limits.{limits}
 use Rattle.flat.proofs.CostLaws.{costs-41, costs-40}
+use Rattle.flat.proofs.LentLaws.{lends, said}
 use Rattle.flat.proofs.CheckLaws.{says-usable, says-too-small, says-not-sound}
 use borrow.Author.Needs.{needs}
 use Rattle.flat.proofs.calls.cost.Statement.{statement}
@@ -27,7 +29,7 @@ enum-told-3 c = search needs
 
 -- src/calls.rt:505:49
 cost-sound-requires : tie.Need-cost-sound-requires
-cost-sound-requires c κs = (says-usable limits _ _ (c .before .before .before .before .before .before .before .check-graph .ensures .0) (c .before .before .before .before .before .enum-told3 .given .1), c .before .before .before .before .before .before .before .check-graph .ensures .1 (c .before .before .before .before .before .enum-told3 .given .1))
+cost-sound-requires c κs = lends _ (record { usable = says-usable limits _ _ (c .before .before .before .before .before .before .before .check-graph .ensures .0) (c .before .before .before .before .before .enum-told3 .given .1); in-force = c .before .before .before .before .before .before .before .check-graph .ensures .1 (c .before .before .before .before .before .enum-told3 .given .1) }) refl
 
 -- src/calls.rt:453:1
 returns : tie.Need-returns
@@ -39,7 +41,7 @@ returns-2 c = costs-40 limits _ (says-not-sound limits _ _ (c .before .before .c
 
 -- src/calls.rt:453:1
 returns-3 : tie.Need-returns-3
-returns-3 c = search needs
+returns-3 c = said (c .cost-sound .ensures) _ (record { usable = says-usable limits _ _ (c .before .before .before .before .before .before .before .before .check-graph .ensures .0) (c .before .before .before .before .before .before .enum-told3 .given .1); in-force = c .before .before .before .before .before .before .before .before .check-graph .ensures .1 (c .before .before .before .before .before .before .enum-told3 .given .1) }) refl
 
 pub cost-spec : {M : Type 1} → statement M
 cost-spec =

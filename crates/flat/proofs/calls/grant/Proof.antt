@@ -1,5 +1,7 @@
 -- Past 41 and 40 the tables can be used, and the answer is that of the call on such tables.
+use mathlib.Core.Path.{refl}
 use Rattle.tables.specs.Limits.{limits}
+use Rattle.flat.proofs.LentLaws.{lends, said}
 use Rattle.flat.proofs.CheckLaws.{says-usable, refused-41, refused-40}
 use borrow.Author.Needs.{needs}
 use Rattle.flat.proofs.calls.grant.Statement.{statement}
@@ -27,7 +29,7 @@ enum-told-3 c = search needs
 
 -- src/calls.rt:137:32
 grant-sound-requires : tie.Need-grant-sound-requires
-grant-sound-requires c κs = says-usable limits _ _ (c .before .before .before .check-tables .ensures) (c .before .enum-told3 .given .1)
+grant-sound-requires c κs = lends _ (says-usable limits _ _ (c .before .before .before .check-tables .ensures) (c .before .enum-told3 .given .1)) refl
 
 -- src/calls.rt:89:1
 same-length : tie.Need-same-length
@@ -51,7 +53,7 @@ same-length-3 c = search needs
 
 -- src/calls.rt:89:1
 returns-3 : tie.Need-returns-3
-returns-3 c = search needs
+returns-3 c = said (c .before .before .grant-sound .ensures) _ (says-usable limits _ _ (c .before .before .before .before .before .before .check-tables .ensures) (c .before .before .before .before .enum-told3 .given .1)) refl
 
 pub grant-spec : {M : Type 1} → statement M
 grant-spec =

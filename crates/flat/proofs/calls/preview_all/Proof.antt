@@ -1,4 +1,6 @@
+use mathlib.Core.Path.{refl}
 use Rattle.tables.specs.Limits.{limits}
+use Rattle.flat.proofs.LentLaws.{lends, said}
 use Rattle.flat.proofs.CheckLaws.{says-usable}
 use Rattle.flat.proofs.GroupAnswers.{list-previews-41, list-previews-40}
 use borrow.Author.Needs.{needs}
@@ -27,19 +29,19 @@ enum-told-3 c = search needs
 
 -- src/calls.rt:612:32
 preview-all-sound-requires : tie.Need-preview-all-sound-requires
-preview-all-sound-requires c κs = (says-usable limits _ _ (c .before .before .before .before .before .before .before .check-graph .ensures .0) (c .before .before .before .before .before .enum-told3 .given .1), c .before .before .before .before .before .before .before .check-graph .ensures .1 (c .before .before .before .before .before .enum-told3 .given .1))
+preview-all-sound-requires c κs = lends _ (record { usable = says-usable limits _ _ (c .before .before .before .before .before .before .before .check-graph .ensures .0) (c .before .before .before .before .before .enum-told3 .given .1); in-force = c .before .before .before .before .before .before .before .check-graph .ensures .1 (c .before .before .before .before .before .enum-told3 .given .1) }) refl
 
 -- src/calls.rt:558:1
 returns : tie.Need-returns
-returns c = list-previews-41 _ _ _ (c .before .before .check-graph .ensures .0) (c .enum-told .given .1)
+returns c = list-previews-41 limits _ _ _ (c .before .before .check-graph .ensures .0) (c .enum-told .given .1)
 
 -- src/calls.rt:558:1
 returns-2 : tie.Need-returns-2
-returns-2 c = list-previews-40 _ _ _ (c .before .before .check-graph .ensures .0) (c .enum-told2 .given .1)
+returns-2 c = list-previews-40 limits _ _ _ (c .before .before .check-graph .ensures .0) (c .enum-told2 .given .1)
 
 -- src/calls.rt:558:1
 returns-3 : tie.Need-returns-3
-returns-3 c = search needs
+returns-3 c = said (c .preview-all-sound .ensures) _ (record { usable = says-usable limits _ _ (c .before .before .before .before .before .before .before .before .check-graph .ensures .0) (c .before .before .before .before .before .before .enum-told3 .given .1); in-force = c .before .before .before .before .before .before .before .before .check-graph .ensures .1 (c .before .before .before .before .before .before .enum-told3 .given .1) }) refl
 
 pub preview-all-spec : {M : Type 1} → statement M
 preview-all-spec =

@@ -1,4 +1,6 @@
+use mathlib.Core.Path.{refl}
 use Rattle.tables.specs.Limits.{limits}
+use Rattle.flat.proofs.LentLaws.{lends, said}
 use Rattle.flat.proofs.CheckLaws.{says-usable, refused-41, refused-40}
 use borrow.Author.Needs.{needs}
 use Rattle.flat.proofs.calls.turn.Statement.{statement}
@@ -26,7 +28,7 @@ enum-told-3 c = search needs
 
 -- src/calls.rt:364:32
 turn-sound-requires : tie.Need-turn-sound-requires
-turn-sound-requires c κs = (says-usable limits _ _ (c .before .before .before .before .before .before .before .before .check-graph .ensures .0) (c .before .before .before .before .before .before .enum-told3 .given .1), c .before .before .before .before .before .before .before .before .check-graph .ensures .1 (c .before .before .before .before .before .before .enum-told3 .given .1))
+turn-sound-requires c κs = lends _ (record { usable = says-usable limits _ _ (c .before .before .before .before .before .before .before .before .check-graph .ensures .0) (c .before .before .before .before .before .before .enum-told3 .given .1); in-force = c .before .before .before .before .before .before .before .before .check-graph .ensures .1 (c .before .before .before .before .before .before .enum-told3 .given .1) }) refl
 
 -- src/calls.rt:306:1
 same-length : tie.Need-same-length
@@ -50,7 +52,7 @@ same-length-3 c = search needs
 
 -- src/calls.rt:306:1
 returns-3 : tie.Need-returns-3
-returns-3 c = search needs
+returns-3 c = said (c .before .before .turn-sound .ensures) _ (record { usable = says-usable limits _ _ (c .before .before .before .before .before .before .before .before .before .before .before .check-graph .ensures .0) (c .before .before .before .before .before .before .before .before .before .enum-told3 .given .1); in-force = c .before .before .before .before .before .before .before .before .before .before .before .check-graph .ensures .1 (c .before .before .before .before .before .before .before .before .before .enum-told3 .given .1) }) refl
 
 pub turn-spec : {M : Type 1} → statement M
 turn-spec =

@@ -1,5 +1,7 @@
 -- Past 41 and 40 the tables can be used, and the answer is that of the writer on such tables.
+use mathlib.Core.Path.{refl}
 use Rattle.tables.specs.Limits.{limits}
+use Rattle.flat.proofs.LentLaws.{lends, said}
 use Rattle.flat.proofs.CheckLaws.{says-usable, says-too-small, says-not-sound}
 use Rattle.flat.proofs.WritingLaws.{writes-41, writes-40}
 use borrow.Author.Needs.{needs}
@@ -28,7 +30,7 @@ enum-told-3 c = search needs
 
 -- src/calls.rt:269:32
 write-sound-requires : tie.Need-write-sound-requires
-write-sound-requires c κs = says-usable limits _ _ (c .before .before .before .check-tables .ensures) (c .before .enum-told3 .given .1)
+write-sound-requires c κs = lends _ (says-usable limits _ _ (c .before .before .before .check-tables .ensures) (c .before .enum-told3 .given .1)) refl
 
 -- src/calls.rt:225:1
 returns : tie.Need-returns
@@ -44,7 +46,7 @@ same-length c = search needs
 
 -- src/calls.rt:225:1
 returns-3 : tie.Need-returns-3
-returns-3 c = search needs
+returns-3 c = said (c .before .before .write-sound .ensures) _ (says-usable limits _ _ (c .before .before .before .before .before .before .check-tables .ensures) (c .before .before .before .before .enum-told3 .given .1)) refl
 
 pub write-plan-spec : {M : Type 1} → statement M
 write-plan-spec =

@@ -5,7 +5,8 @@ use native.Mathlib.Omega.{arith}
 use borrow.Author.Tests.{not-false}
 use Rattle.below.specs.Below.{at}
 use Rattle.tables.specs.Limits.{limits}
-use Rattle.tables.specs.Tables.{Tables, tablesOf}
+use Rattle.tables.specs.Tables.{Tables}
+use Rattle.flat.specs.Lent.{holdingProgress}
 use Rattle.flat.proofs.Facts.{Facts, facts}
 use Rattle.flat.proofs.Answers.{arrives-20, arrives-24, arrives-0}
 use borrow.Author.Needs.{needs}
@@ -16,30 +17,33 @@ use Rattle.flat.proofs.cores.arrive_sound.Lts as lts
 use Rattle.tables.proofs.flags.is_under_way.Reads as is-under-way-reads
 use Rattle.tables.proofs.flags.without_under_way.Reads as without-under-way-reads
 
-abbrev lent : tie.Start → Tables
-lent c = tablesOf (c .args .drone-count .now) (c .args .dependency-count .now) (c .args .names .now) (c .args .stop-counts .now) (c .args .locations .now) (c .args .times .now) (c .args .visited .now) (c .args .drone-flags .now) (c .args .first-drones .now) (c .args .first-stops .now) (c .args .second-drones .now) (c .args .second-stops .now) (c .args .flags .now)
+abbrev lent : tie.Start → Tables → Tables
+lent c = holdingProgress (c .args .drone-count .now) (c .args .visited .now) (c .args .drone-flags .now)
 
-known : (c : tie.Start) → Facts limits (lent c)
-known c = facts limits (lent c) (c .pre)
+abbrev given : tie.Start → Tables
+given c = lent c (c .pre .others)
 
-next-in : (c : tie.Else2) → at (c .before .before .before .before .before .before .before .before .before .before .before .before .before .before .before .before .before .before .args .visited .now) (c .before .before .before .before .before .before .before .before .before .before .before .before .before .before .before .before .before .before .args .drone) + 1 ≤ 1024
-next-in c = omega (arith, known (c .before .before .before .before .before .before .before .before .before .before .before .before .before .before .before .before .before .before) .next-in (c .before .before .before .before .before .before .before .before .before .before .before .before .before .before .before .before .before .before .args .drone) (c .before .before .before .if1 .left) (sym (c .before .is-under-way .ensures) ∙ not-false (c .before .is-under-way .result) (c .if2 .left)), known (c .before .before .before .before .before .before .before .before .before .before .before .before .before .before .before .before .before .before) .stops-few (c .before .before .before .before .before .before .before .before .before .before .before .before .before .before .before .before .before .before .args .drone) (c .before .before .before .if1 .left))
+known : (c : tie.Start) → Facts limits (given c)
+known c = facts limits (given c) (c .pre .holds)
+
+next-in : (c : tie.Else2) → at (c .before .before .before .before .before .before .before .before .args .visited .now) (c .before .before .before .before .before .before .before .before .args .drone) + 1 ≤ limits .stops
+next-in c = omega (arith, known (c .before .before .before .before .before .before .before .before) .next-in (c .before .before .before .before .before .before .before .before .args .drone) (c .before .before .before .if1 .left) (sym (c .before .is-under-way .ensures) ∙ not-false (c .before .is-under-way .result) (c .if2 .left)), known (c .before .before .before .before .before .before .before .before) .stops-few (c .before .before .before .before .before .before .before .before .args .drone) (c .before .before .before .if1 .left))
 
 -- src/cores.rt:121:18
 shared-slice-read-drones : tie.Need-shared-slice-read-drones
-shared-slice-read-drones c = omega (arith, known (c .before .before .before .before .before .before .before .before .before .before .before .before .before .before) .sizes .drone-count)
+shared-slice-read-drones c = omega (arith, known (c .before .before .before .before) .sizes .drone-count)
 
 -- src/cores.rt:121:18
 cast-drones : tie.Need-cast-drones
-cast-drones c = omega (arith, known (c .before .before .before .before .before .before .before .before .before .before .before .before .before .before) .drones-few)
+cast-drones c = omega (arith, known (c .before .before .before .before) .drones-few)
 
 -- src/cores.rt:123:9
 returns : tie.Need-returns
-returns c = arrives-20 limits _ (c .before .before .before .before .before .before .before .before .before .before .before .before .before .before .before .pre) _ (c .if1 .taken)
+returns c = record { says = λ t p. arrives-20 limits _ p _ (c .if1 .taken) }
 
 -- src/cores.rt:125:16
 slice-read-flag : tie.Need-slice-read-flag
-slice-read-flag c = omega (arith, known (c .before .before .before .before .before .before .before .before .before .before .before .before .before .before .before .before) .drones-few, known (c .before .before .before .before .before .before .before .before .before .before .before .before .before .before .before .before) .sizes .drone-flags)
+slice-read-flag c = omega (arith, known (c .before .before .before .before .before .before) .drones-few, known (c .before .before .before .before .before .before) .sizes .drone-flags)
 
 -- src/cores.rt:126:9
 is-under-way-requires : tie.Need-is-under-way-requires
@@ -47,15 +51,15 @@ is-under-way-requires c κs = search needs
 
 -- src/cores.rt:127:9
 returns-2 : tie.Need-returns-2
-returns-2 c = arrives-24 limits _ (c .before .before .before .before .before .before .before .before .before .before .before .before .before .before .before .before .before .before .pre) _ (c .before .before .before .if1 .left) _ (c .before .is-under-way .ensures) (c .if2 .taken)
+returns-2 c = record { says = λ t p. arrives-24 limits _ p _ (c .before .before .before .if1 .left) _ (c .before .is-under-way .ensures) (c .if2 .taken) }
 
 -- src/cores.rt:129:5
 mul-visited : tie.Need-mul-visited
-mul-visited c = omega (arith, known (c .before .before .before .before .before .before .before .before .before .before .before .before .before .before .before .before .before .before) .drones-few)
+mul-visited c = omega (arith, known (c .before .before .before .before .before .before .before .before) .drones-few)
 
 -- src/cores.rt:129:5
 slice-read-visited : tie.Need-slice-read-visited
-slice-read-visited c = omega (arith, known (c .before .before .before .before .before .before .before .before .before .before .before .before .before .before .before .before .before .before .before) .drones-few, known (c .before .before .before .before .before .before .before .before .before .before .before .before .before .before .before .before .before .before .before) .sizes .visited)
+slice-read-visited c = omega (arith, known (c .before .before .before .before .before .before .before .before .before) .drones-few, known (c .before .before .before .before .before .before .before .before .before) .sizes .visited)
 
 -- src/cores.rt:129:5
 add-visited : tie.Need-add-visited
@@ -63,7 +67,7 @@ add-visited c = omega (arith, next-in (c .before))
 
 -- src/cores.rt:129:5
 slice-write-visited : tie.Need-slice-write-visited
-slice-write-visited c = omega (arith, known (c .before .before .before .before .before .before .before .before .before .before .before .before .before .before .before .before .before .before .before) .drones-few, known (c .before .before .before .before .before .before .before .before .before .before .before .before .before .before .before .before .before .before .before) .sizes .visited)
+slice-write-visited c = omega (arith, known (c .before .before .before .before .before .before .before .before .before) .drones-few, known (c .before .before .before .before .before .before .before .before .before) .sizes .visited)
 
 -- src/cores.rt:130:26
 without-under-way-requires : tie.Need-without-under-way-requires
@@ -71,7 +75,7 @@ without-under-way-requires c κs = search needs
 
 -- src/cores.rt:130:5
 slice-write-drone-flags : tie.Need-slice-write-drone-flags
-slice-write-drone-flags c = omega (arith, known (c .before .before .before .before .before .before .before .before .before .before .before .before .before .before .before .before .before .before .before .before) .drones-few, known (c .before .before .before .before .before .before .before .before .before .before .before .before .before .before .before .before .before .before .before .before) .sizes .drone-flags)
+slice-write-drone-flags c = omega (arith, known (c .before .before .before .before .before .before .before .before .before .before) .drones-few, known (c .before .before .before .before .before .before .before .before .before .before) .sizes .drone-flags)
 
 -- src/cores.rt:84:1
 same-length : tie.Need-same-length
@@ -83,7 +87,7 @@ same-length-2 c = search needs
 
 -- src/cores.rt:84:1
 returns-3 : tie.Need-returns-3
-returns-3 c = arrives-0 limits _ (c .before .before .before .before .before .before .before .before .before .before .before .before .before .before .before .before .before .before .before .before .pre) _ (c .before .before .before .before .before .if1 .left) _ (c .before .before .before .is-under-way .ensures) (c .before .before .if2 .left) _ (c .without-under-way .ensures)
+returns-3 c = record { says = λ t p. arrives-0 limits _ p _ (c .before .before .before .before .before .if1 .left) _ (c .before .before .before .is-under-way .ensures) (c .before .before .if2 .left) _ (c .without-under-way .ensures) }
 
 pub arrive-sound-spec : {M : Type 1} → statement M
 arrive-sound-spec =

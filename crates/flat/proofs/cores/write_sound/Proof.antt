@@ -1,8 +1,9 @@
 -- The tables have room for what the text's writer reads, and its two answers are the writer's replies.
 use native.Mathlib.Omega.{arith}
 use Rattle.tables.specs.Limits.{limits}
-use Rattle.tables.specs.Tables.{Tables, tablesOf}
+use Rattle.tables.specs.Tables.{Tables}
 use Rattle.text.specs.declared.writer.WriteAnswer.the-variants.{Length, Short}
+use Rattle.flat.specs.Lent.{holdingRoutes}
 use Rattle.flat.proofs.Facts.{Facts, facts}
 use Rattle.flat.proofs.WritingLaws.{writable, writes-text}
 use borrow.Author.Needs.{needs}
@@ -12,23 +13,26 @@ use Rattle.flat.proofs.cores.write_sound.Reads as reads
 use Rattle.flat.proofs.cores.write_sound.Lts as lts
 use Rattle.text.proofs.writer.write_text.Reads as write-text-reads
 
-abbrev lent : tie.Start → Tables
-lent c = tablesOf (c .args .drone-count .now) (c .args .dependency-count .now) (c .args .names .now) (c .args .stop-counts .now) (c .args .locations .now) (c .args .times .now) (c .args .visited .now) (c .args .drone-flags .now) (c .args .first-drones .now) (c .args .first-stops .now) (c .args .second-drones .now) (c .args .second-stops .now) (c .args .flags .now)
+abbrev lent : tie.Start → Tables → Tables
+lent c = holdingRoutes (c .args .drone-count .now) (c .args .names .now) (c .args .stop-counts .now) (c .args .locations .now) (c .args .times .now)
 
-known : (c : tie.Start) → Facts limits (lent c)
-known c = facts limits (lent c) (c .pre)
+abbrev given : tie.Start → Tables
+given c = lent c (c .pre .others)
+
+known : (c : tie.Start) → Facts limits (given c)
+known c = facts limits (given c) (c .pre .holds)
 
 -- src/cores.rt:172:18
 shared-slice-read-drones : tie.Need-shared-slice-read-drones
-shared-slice-read-drones c = omega (arith, known (c .before .before .before .before .before .before .before .before .before .before .before .before .before .before .before) .sizes .drone-count)
+shared-slice-read-drones c = omega (arith, known (c .before .before .before .before .before .before .before) .sizes .drone-count)
 
 -- src/cores.rt:172:18
 cast-drones : tie.Need-cast-drones
-cast-drones c = omega (arith, known (c .before .before .before .before .before .before .before .before .before .before .before .before .before .before .before) .drones-few)
+cast-drones c = omega (arith, known (c .before .before .before .before .before .before .before) .drones-few)
 
 -- src/cores.rt:173:9
 write-text-requires : tie.Need-write-text-requires
-write-text-requires c κs = writable limits _ (c .before .before .before .before .before .before .before .before .before .before .before .before .before .before .before .before .pre)
+write-text-requires c κs = writable limits _ (c .before .before .before .before .before .before .before .before .pre .holds)
 
 -- src/cores.rt:175:29
 enum-known-answer : tie.Need-enum-known-answer
@@ -44,7 +48,7 @@ same-length c = search needs
 
 -- src/cores.rt:139:1
 returns : tie.Need-returns
-returns c = writes-text limits _ (c .before .before .before .before .before .before .before .before .before .before .before .before .before .before .before .before .before .before .before .before .before .before .pre) _ _ _ (Length _) (c .before .before .before .before .before .write-text .ensures) (c .before .answer .given .1)
+returns c = record { says = λ t p. writes-text limits _ p _ _ _ (Length _) (c .before .before .before .before .before .write-text .ensures) (c .before .answer .given .1) }
 
 -- src/cores.rt:139:1
 same-length-2 : tie.Need-same-length-2
@@ -52,7 +56,7 @@ same-length-2 c = search needs
 
 -- src/cores.rt:139:1
 returns-2 : tie.Need-returns-2
-returns-2 c = writes-text limits _ (c .before .before .before .before .before .before .before .before .before .before .before .before .before .before .before .before .before .before .before .before .before .pre) _ _ _ Short (c .before .before .before .before .write-text .ensures) (c .enum-told .given .1)
+returns-2 c = record { says = λ t p. writes-text limits _ p _ _ _ Short (c .before .before .before .before .write-text .ensures) (c .enum-told .given .1) }
 
 pub write-sound-spec : {M : Type 1} → statement M
 write-sound-spec =

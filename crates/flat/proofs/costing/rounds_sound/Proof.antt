@@ -1,6 +1,7 @@
 use native.Mathlib.Omega.{arith}
 use Rattle.tables.specs.Limits.{limits}
-use Rattle.tables.specs.Tables.{Tables, tablesOf}
+use Rattle.tables.specs.Tables.{Tables}
+use Rattle.flat.specs.Lent.{holdingPlaces}
 use Rattle.flat.proofs.Facts.{Facts, facts}
 use Rattle.flat.proofs.GraphLaws.{usable-counts, now-ready, now-makespan}
 use Rattle.flat.proofs.costing.rounds_sound.Statement.{statement}
@@ -10,39 +11,42 @@ use Rattle.flat.proofs.costing.rounds_sound.Lts as lts
 use Rattle.plan.proofs.stops.stop_total.Reads as stop-total-reads
 use Rattle.rounds.proofs.playing.play_rounds.Reads as play-rounds-reads
 
-abbrev lent : tie.Start → Tables
-lent c = tablesOf (c .args .drone-count .now) (c .args .dependency-count .now) (c .args .names .now) (c .args .stop-counts .now) (c .args .locations .now) (c .args .times .now) (c .args .visited .now) (c .args .drone-flags .now) (c .args .first-drones .now) (c .args .first-stops .now) (c .args .second-drones .now) (c .args .second-stops .now) (c .args .flags .now)
+abbrev lent : tie.Start → Tables → Tables
+lent c = holdingPlaces (c .args .drone-count .now) (c .args .dependency-count .now) (c .args .stop-counts .now) (c .args .visited .now)
 
-known : (c : tie.Start) → Facts limits (lent c)
-known c = facts limits (lent c) (c .pre .0)
+abbrev given : tie.Start → Tables
+given c = lent c (c .pre .others)
+
+known : (c : tie.Start) → Facts limits (given c)
+known c = facts limits (given c) (c .pre .holds .usable)
 
 -- src/costing.rt:107:18
 shared-slice-read-drones : tie.Need-shared-slice-read-drones
-shared-slice-read-drones c = omega (arith, known (c .before .before .before .before .before .before .before .before .before .before .before .before .before .before) .sizes .drone-count)
+shared-slice-read-drones c = omega (arith, known (c .before .before .before .before .before) .sizes .drone-count)
 
 -- src/costing.rt:107:18
 cast-drones : tie.Need-cast-drones
-cast-drones c = omega (arith, known (c .before .before .before .before .before .before .before .before .before .before .before .before .before .before) .drones-few)
+cast-drones c = omega (arith, known (c .before .before .before .before .before) .drones-few)
 
 -- src/costing.rt:108:13
 shared-slice-read-m : tie.Need-shared-slice-read-m
-shared-slice-read-m c = omega (arith, known (c .before .before .before .before .before .before .before .before .before .before .before .before .before .before .before) .sizes .dependency-count)
+shared-slice-read-m c = omega (arith, known (c .before .before .before .before .before .before) .sizes .dependency-count)
 
 -- src/costing.rt:108:13
 cast-m : tie.Need-cast-m
-cast-m c = omega (arith, known (c .before .before .before .before .before .before .before .before .before .before .before .before .before .before .before) .dependencies-few)
+cast-m c = omega (arith, known (c .before .before .before .before .before .before) .dependencies-few)
 
 -- src/costing.rt:109:9
 stop-total-requires : tie.Need-stop-total-requires
-stop-total-requires c κs = usable-counts (lent (c .before .before .before .before .before .before .before .before .before .before .before .before .before .before .before)) (c .before .before .before .before .before .before .before .before .before .before .before .before .before .before .before .pre .0)
+stop-total-requires c κs = usable-counts limits (given (c .before .before .before .before .before .before)) (c .before .before .before .before .before .before .pre .holds .usable) (omega arith)
 
 -- src/costing.rt:110:9
 play-rounds-requires : tie.Need-play-rounds-requires
-play-rounds-requires c κs = now-ready (lent (c .before .before .before .before .before .before .before .before .before .before .before .before .before .before .before .before .before)) (c .before .before .before .before .before .before .before .before .before .before .before .before .before .before .before .before .before .pre .0) _ (c .before .stop-total .ensures) _ _ _ _ _ (c .before .before .before .before .before .before .before .before .before .before .before .before .before .before .before .before .before .pre .1)
+play-rounds-requires c κs = now-ready limits (given (c .before .before .before .before .before .before .before .before)) (c .before .before .before .before .before .before .before .before .pre .holds .usable) _ (c .before .stop-total .ensures) _ _ _ _ _ (c .before .before .before .before .before .before .before .before .pre .holds .in-force)
 
 -- src/costing.rt:65:1
 returns : tie.Need-returns
-returns c = now-makespan (lent (c .before .before .before .before .before .before .before .before .before .before .before .before .before .before .before .before .before .before)) (c .before .before .before .before .before .before .before .before .before .before .before .before .before .before .before .before .before .before .pre .0) _ (c .before .before .stop-total .ensures) _ _ _ _ _ (c .before .before .before .before .before .before .before .before .before .before .before .before .before .before .before .before .before .before .pre .1) _ (c .play-rounds .ensures .0)
+returns c = record { says = λ t p. now-makespan limits (lent (c .before .before .before .before .before .before .before .before .before) t) (p .usable) _ (c .before .before .stop-total .ensures) _ _ _ _ _ (p .in-force) _ (c .play-rounds .ensures .0) }
 
 pub rounds-sound-spec : {M : Type 1} → statement M
 rounds-sound-spec =

@@ -1,6 +1,7 @@
 use native.Mathlib.Omega.{arith}
 use Rattle.tables.specs.Limits.{limits}
-use Rattle.tables.specs.Tables.{Tables, tablesOf}
+use Rattle.tables.specs.Tables.{Tables}
+use Rattle.flat.specs.Lent.{holdingDependencies}
 use Rattle.flat.proofs.Facts.{Facts, facts}
 use Rattle.flat.proofs.TestLaws.{test-30, test-31, test-32, test-passes}
 use borrow.Author.Needs.{needs}
@@ -13,27 +14,30 @@ use Rattle.flat.proofs.turn_tests.side_entered.Reads as side-entered-re
 use Rattle.tables.proofs.flags.is_fixed.Reads as is-fixed-reads
 use Rattle.tables.proofs.flags.is_turned.Reads as is-turned-reads
 
-abbrev lent : tie.Start → Tables
-lent c = tablesOf (c .args .drone-count .now) (c .args .dependency-count .now) (c .args .names .now) (c .args .stop-counts .now) (c .args .locations .now) (c .args .times .now) (c .args .visited .now) (c .args .drone-flags .now) (c .args .first-drones .now) (c .args .first-stops .now) (c .args .second-drones .now) (c .args .second-stops .now) (c .args .flags .now)
+abbrev lent : tie.Start → Tables → Tables
+lent c = holdingDependencies (c .args .dependency-count .now) (c .args .visited .now) (c .args .drone-flags .now) (c .args .first-drones .now) (c .args .first-stops .now) (c .args .second-drones .now) (c .args .second-stops .now) (c .args .flags .now)
 
-known : (c : tie.Start) → Facts limits (lent c)
-known c = facts limits (lent c) (c .pre)
+abbrev given : tie.Start → Tables
+given c = lent c (c .pre .others)
+
+known : (c : tie.Start) → Facts limits (given c)
+known c = facts limits (given c) (c .pre .holds)
 
 -- src/turn_tests.rt:93:17
 shared-slice-read-count : tie.Need-shared-slice-read-count
-shared-slice-read-count c = omega (arith, known (c .before .before .before .before .before .before .before .before .before .before .before .before .before .before) .sizes .dependency-count)
+shared-slice-read-count c = omega (arith, known (c .before .before .before .before .before .before .before .before .before) .sizes .dependency-count)
 
 -- src/turn_tests.rt:93:17
 cast-count : tie.Need-cast-count
-cast-count c = omega (arith, known (c .before .before .before .before .before .before .before .before .before .before .before .before .before .before) .dependencies-few)
+cast-count c = omega (arith, known (c .before .before .before .before .before .before .before .before .before) .dependencies-few)
 
 -- src/turn_tests.rt:95:9
 returns : tie.Need-returns
-returns c = test-30 limits _ (c .before .before .before .before .before .before .before .before .before .before .before .before .before .before .before .pre) _ (c .if1 .taken)
+returns c = record { says = λ t p. test-30 limits _ p _ (c .if1 .taken) }
 
 -- src/turn_tests.rt:97:16
 shared-slice-read-flag : tie.Need-shared-slice-read-flag
-shared-slice-read-flag c = omega (arith, known (c .before .before .before .before .before .before .before .before .before .before .before .before .before .before .before .before) .dependencies-few, known (c .before .before .before .before .before .before .before .before .before .before .before .before .before .before .before .before) .sizes .flags, c .before .if1 .left)
+shared-slice-read-flag c = omega (arith, known (c .before .before .before .before .before .before .before .before .before .before .before) .dependencies-few, known (c .before .before .before .before .before .before .before .before .before .before .before) .sizes .flags, c .before .if1 .left)
 
 -- src/turn_tests.rt:98:8
 is-fixed-requires : tie.Need-is-fixed-requires
@@ -41,15 +45,15 @@ is-fixed-requires c κs = search needs
 
 -- src/turn_tests.rt:99:9
 returns-2 : tie.Need-returns-2
-returns-2 c = test-31 limits _ (c .before .before .before .before .before .before .before .before .before .before .before .before .before .before .before .before .before .before .pre) _ (c .before .before .before .if1 .left) _ (c .before .is-fixed .ensures) (c .if2 .taken)
+returns-2 c = record { says = λ t p. test-31 limits _ p _ (c .before .before .before .if1 .left) _ (c .before .is-fixed .ensures) (c .if2 .taken) }
 
 -- src/turn_tests.rt:101:9
 side-entered-requires : tie.Need-side-entered-requires
-side-entered-requires c κs = (omega (arith, known (c .before .before .before .before .before .before .before .before .before .before .before .before .before .before .before .before .before .before) .dependencies-few, known (c .before .before .before .before .before .before .before .before .before .before .before .before .before .before .before .before .before .before) .sizes .first-drones, c .before .before .before .if1 .left), omega (arith, known (c .before .before .before .before .before .before .before .before .before .before .before .before .before .before .before .before .before .before) .dependencies-few, known (c .before .before .before .before .before .before .before .before .before .before .before .before .before .before .before .before .before .before) .sizes .first-stops, c .before .before .before .if1 .left), omega (arith, known (c .before .before .before .before .before .before .before .before .before .before .before .before .before .before .before .before .before .before) .first-in (c .before .before .before .before .before .before .before .before .before .before .before .before .before .before .before .before .before .before .args .dependency) (c .before .before .before .if1 .left), known (c .before .before .before .before .before .before .before .before .before .before .before .before .before .before .before .before .before .before) .drones-few, known (c .before .before .before .before .before .before .before .before .before .before .before .before .before .before .before .before .before .before) .sizes .visited), omega (arith, known (c .before .before .before .before .before .before .before .before .before .before .before .before .before .before .before .before .before .before) .first-in (c .before .before .before .before .before .before .before .before .before .before .before .before .before .before .before .before .before .before .args .dependency) (c .before .before .before .if1 .left), known (c .before .before .before .before .before .before .before .before .before .before .before .before .before .before .before .before .before .before) .drones-few, known (c .before .before .before .before .before .before .before .before .before .before .before .before .before .before .before .before .before .before) .sizes .drone-flags))
+side-entered-requires c κs = (omega (arith, known (c .before .before .before .before .before .before .before .before .before .before .before .before .before) .dependencies-few, known (c .before .before .before .before .before .before .before .before .before .before .before .before .before) .sizes .first-drones, c .before .before .before .if1 .left), omega (arith, known (c .before .before .before .before .before .before .before .before .before .before .before .before .before) .dependencies-few, known (c .before .before .before .before .before .before .before .before .before .before .before .before .before) .sizes .first-stops, c .before .before .before .if1 .left), omega (arith, known (c .before .before .before .before .before .before .before .before .before .before .before .before .before) .first-in (c .before .before .before .before .before .before .before .before .before .before .before .before .before .args .dependency) (c .before .before .before .if1 .left), known (c .before .before .before .before .before .before .before .before .before .before .before .before .before) .drones-few, known (c .before .before .before .before .before .before .before .before .before .before .before .before .before) .sizes .visited), omega (arith, known (c .before .before .before .before .before .before .before .before .before .before .before .before .before) .first-in (c .before .before .before .before .before .before .before .before .before .before .before .before .before .args .dependency) (c .before .before .before .if1 .left), known (c .before .before .before .before .before .before .before .before .before .before .before .before .before) .drones-few, known (c .before .before .before .before .before .before .before .before .before .before .before .before .before) .sizes .drone-flags))
 
 -- src/turn_tests.rt:102:9
 side-entered-requires-2 : tie.Need-side-entered-requires-2
-side-entered-requires-2 c κs = (omega (arith, known (c .before .before .before .before .before .before .before .before .before .before .before .before .before .before .before .before .before .before .before) .dependencies-few, known (c .before .before .before .before .before .before .before .before .before .before .before .before .before .before .before .before .before .before .before) .sizes .second-drones, c .before .before .before .before .if1 .left), omega (arith, known (c .before .before .before .before .before .before .before .before .before .before .before .before .before .before .before .before .before .before .before) .dependencies-few, known (c .before .before .before .before .before .before .before .before .before .before .before .before .before .before .before .before .before .before .before) .sizes .second-stops, c .before .before .before .before .if1 .left), omega (arith, known (c .before .before .before .before .before .before .before .before .before .before .before .before .before .before .before .before .before .before .before) .second-in (c .before .before .before .before .before .before .before .before .before .before .before .before .before .before .before .before .before .before .before .args .dependency) (c .before .before .before .before .if1 .left), known (c .before .before .before .before .before .before .before .before .before .before .before .before .before .before .before .before .before .before .before) .drones-few, known (c .before .before .before .before .before .before .before .before .before .before .before .before .before .before .before .before .before .before .before) .sizes .visited), omega (arith, known (c .before .before .before .before .before .before .before .before .before .before .before .before .before .before .before .before .before .before .before) .second-in (c .before .before .before .before .before .before .before .before .before .before .before .before .before .before .before .before .before .before .before .args .dependency) (c .before .before .before .before .if1 .left), known (c .before .before .before .before .before .before .before .before .before .before .before .before .before .before .before .before .before .before .before) .drones-few, known (c .before .before .before .before .before .before .before .before .before .before .before .before .before .before .before .before .before .before .before) .sizes .drone-flags))
+side-entered-requires-2 c κs = (omega (arith, known (c .before .before .before .before .before .before .before .before .before .before .before .before .before .before) .dependencies-few, known (c .before .before .before .before .before .before .before .before .before .before .before .before .before .before) .sizes .second-drones, c .before .before .before .before .if1 .left), omega (arith, known (c .before .before .before .before .before .before .before .before .before .before .before .before .before .before) .dependencies-few, known (c .before .before .before .before .before .before .before .before .before .before .before .before .before .before) .sizes .second-stops, c .before .before .before .before .if1 .left), omega (arith, known (c .before .before .before .before .before .before .before .before .before .before .before .before .before .before) .second-in (c .before .before .before .before .before .before .before .before .before .before .before .before .before .before .args .dependency) (c .before .before .before .before .if1 .left), known (c .before .before .before .before .before .before .before .before .before .before .before .before .before .before) .drones-few, known (c .before .before .before .before .before .before .before .before .before .before .before .before .before .before) .sizes .visited), omega (arith, known (c .before .before .before .before .before .before .before .before .before .before .before .before .before .before) .second-in (c .before .before .before .before .before .before .before .before .before .before .before .before .before .before .args .dependency) (c .before .before .before .before .if1 .left), known (c .before .before .before .before .before .before .before .before .before .before .before .before .before .before) .drones-few, known (c .before .before .before .before .before .before .before .before .before .before .before .before .before .before) .sizes .drone-flags))
 
 -- src/turn_tests.rt:109:9
 is-turned-requires : tie.Need-is-turned-requires
@@ -61,11 +65,11 @@ in-force-requires c κs = search needs
 
 -- src/turn_tests.rt:111:9
 returns-3 : tie.Need-returns-3
-returns-3 c = test-32 limits _ (c .before .before .before .before .before .before .before .before .before .before .before .before .before .before .before .before .before .before .before .before .before .before .before .pre) _ (c .before .before .before .before .before .before .before .before .if1 .left) _ (c .before .before .before .before .before .before .is-fixed .ensures) (c .before .before .before .before .before .if2 .left) _ _ _ _ (c .before .before .before .before .side-entered .ensures) (c .before .before .before .side-entered2 .ensures) (c .before .before .is-turned .ensures) (c .before .in-force .ensures) (c .if3 .taken)
+returns-3 c = record { says = λ t p. test-32 limits _ p _ (c .before .before .before .before .before .before .before .before .if1 .left) _ (c .before .before .before .before .before .before .is-fixed .ensures) (c .before .before .before .before .before .if2 .left) _ _ _ _ (c .before .before .before .before .side-entered .ensures) (c .before .before .before .side-entered2 .ensures) (c .before .before .is-turned .ensures) (c .before .in-force .ensures) (c .if3 .taken) }
 
 -- src/turn_tests.rt:60:1
 returns-4 : tie.Need-returns-4
-returns-4 c = test-passes limits _ (c .before .before .before .before .before .before .before .before .before .before .before .before .before .before .before .before .before .before .before .before .before .before .before .pre) _ (c .before .before .before .before .before .before .before .before .if1 .left) _ (c .before .before .before .before .before .before .is-fixed .ensures) (c .before .before .before .before .before .if2 .left) _ _ _ _ (c .before .before .before .before .side-entered .ensures) (c .before .before .before .side-entered2 .ensures) (c .before .before .is-turned .ensures) (c .before .in-force .ensures) (c .if3 .left)
+returns-4 c = record { says = λ t p. test-passes limits _ p _ (c .before .before .before .before .before .before .before .before .if1 .left) _ (c .before .before .before .before .before .before .is-fixed .ensures) (c .before .before .before .before .before .if2 .left) _ _ _ _ (c .before .before .before .before .side-entered .ensures) (c .before .before .before .side-entered2 .ensures) (c .before .before .is-turned .ensures) (c .before .in-force .ensures) (c .if3 .left) }
 
 pub turn-test-spec : {M : Type 1} → statement M
 turn-test-spec =

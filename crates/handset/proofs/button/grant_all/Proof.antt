@@ -20,14 +20,14 @@ use Rattle.handset.proofs.replies.with_bit.Reads as with-bit-reads
 
 abbrev Inv-loop : tie.InvT-loop
 Inv-loop drone-count dependency-count names stop-counts locations times visited drone-flags₀ dependencies bits₀ unusable-by₀ drone₀ drone-flags bits unusable-by drone =
-    (drone ≤ 32)
+    (drone ≤ limits .drones)
     × (length drone-flags ≡ length drone-flags₀)
     × Granting limits (tablesOfRecords limits drone-count dependency-count names stop-counts locations times visited drone-flags₀ dependencies) drone
     (tablesOfRecords limits drone-count dependency-count names stop-counts locations times visited drone-flags dependencies) bits unusable-by
 
 abbrev μ-loop : tie.MeasureT-loop
 μ-loop drone-count dependency-count names stop-counts locations times visited drone-flags₀ dependencies bits₀ unusable-by₀ drone₀ drone-flags bits unusable-by drone =
-    32 - drone
+    limits .drones - drone
 
 loop-holds : tie.Need-loop-holds Inv-loop μ-loop
 loop-holds c = (omega arith, refl, granting-none limits _)

@@ -12,7 +12,7 @@ use Rattle.lines.proofs.NameCases.{among-end, among-here, among-on}
 use Rattle.lines.specs.Names.{among}
 
 abbrev Inv-loop : tie.InvT-loop
-Inv-loop names rows row k₀ at₀ k at = (k ≤ rows) × (at ≡ 24 * k) × (among limits rows names 0 row ≡ among limits (rows - k) names at row)
+Inv-loop names rows row k₀ at₀ k at = (k ≤ rows) × (at ≡ limits .name * k) × (among limits rows names 0 row ≡ among limits (rows - k) names at row)
 
 abbrev μ-loop : tie.MeasureT-loop
 μ-loop names rows row k₀ at₀ k at = rows - k

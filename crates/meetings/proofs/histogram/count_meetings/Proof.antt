@@ -6,6 +6,7 @@ use mathlib.Core.Path.{_≡_, ap, _∙_}
 use native.Mathlib.Nat.{le-antisymm}
 use native.Mathlib.Omega.{arith}
 use Rattle.below.specs.Below.{at}
+use Rattle.tables.specs.Limits.{limits}
 use Rattle.meetings.specs.Meetings.{meetingTotal}
 use Rattle.meetings.specs.Histogram.{Tally, Run}
 use Rattle.meetings.proofs.Tallies.{tally-none, run-none, run-meetings, meetings-none, meetings-more, meetings-bound, tally-bound}
@@ -16,14 +17,14 @@ use Rattle.meetings.proofs.histogram.count_meetings.Lts as lts
 use Rattle.meetings.proofs.histogram.settle.Reads as settle-reads
 
 abbrev Inv-loop : tie.InvT-loop
-Inv-loop owners firsts n counts₀ total₀ lo₀ w₀ counts total lo w = (w ≤ n) × Tally firsts counts n lo × Run (at owners) lo w × (total ≡ meetingTotal (at owners) (at firsts) w)
+Inv-loop owners firsts n counts₀ total₀ lo₀ w₀ counts total lo w = (w ≤ n) × Tally limits firsts counts n lo × Run (at owners) lo w × (total ≡ meetingTotal (at owners) (at firsts) w)
 
 abbrev μ-loop : tie.MeasureT-loop
 μ-loop owners firsts n counts₀ total₀ lo₀ w₀ counts total lo w = n - w
 
 -- src/histogram.rt:52:5
 loop-holds : tie.Need-loop-holds Inv-loop μ-loop
-loop-holds c = (omega arith, tally-none _ _ _ (length-replicate {A = ℕ} 1024 0) (zeros-at 1024), run-none _, meetings-none _ _)
+loop-holds c = (omega arith, tally-none _ _ _ (length-replicate {A = ℕ} (limits .stops) 0) (zeros-at (limits .stops)), run-none _, meetings-none _ _)
 
 -- src/histogram.rt:53:9
 settle-requires : tie.Need-settle-requires Inv-loop μ-loop
@@ -55,7 +56,7 @@ cast-total c = omega (arith, tally-bound _ _ _ _ (c .before .before .before .bef
 
 -- src/histogram.rt:55:9
 add-total : tie.Need-add-total Inv-loop μ-loop
-add-total c = omega (arith, tally-bound _ _ _ _ (c .before .before .before .before .loop .w) (c .before .settle .ensures .tally) (omega arith), c .before .settle .ensures .from, c .before .before .before .before .before .before .pre .0 .few, c .before .before .before .before .loop .inv .3, meetings-bound (at (c .before .before .before .before .before .before .args .owners .now)) (at (c .before .before .before .before .before .before .args .firsts .now)) (c .before .before .before .before .loop .w) 1024 (omega (arith, c .before .before .before .before .before .before .pre .0 .few)))
+add-total c = omega (arith, tally-bound _ _ _ _ (c .before .before .before .before .loop .w) (c .before .settle .ensures .tally) (omega arith), c .before .settle .ensures .from, c .before .before .before .before .before .before .pre .0 .few, c .before .before .before .before .loop .inv .3, meetings-bound (at (c .before .before .before .before .before .before .args .owners .now)) (at (c .before .before .before .before .before .before .args .firsts .now)) (c .before .before .before .before .loop .w) (limits .stops) (omega (arith, c .before .before .before .before .before .before .pre .0 .few)))
 
 -- src/histogram.rt:56:9
 add-w : tie.Need-add-w Inv-loop μ-loop

@@ -3,6 +3,7 @@ use Prim.Native.Nat.{ℕ, _≤_, _-_}
 use mathlib.Core.Path.{refl, subst}
 use native.Mathlib.Nat.{le-antisymm}
 use native.Mathlib.Omega.{arith}
+use Rattle.tables.specs.Limits.{limits}
 use Rattle.meetings.specs.Histogram.{Tally}
 use Rattle.meetings.proofs.Tallies.{index-in, tally-more, tally-bound}
 use Rattle.meetings.proofs.histogram.mark.Statement.{statement}
@@ -11,7 +12,7 @@ use Rattle.meetings.proofs.histogram.mark.Reads as reads
 use Rattle.meetings.proofs.histogram.mark.Lts as lts
 
 abbrev Inv-loop : tie.InvT-loop
-Inv-loop firsts n counts₀ lo hi v₀ counts v = (v ≤ hi) × Tally firsts counts n v
+Inv-loop firsts n counts₀ lo hi v₀ counts v = (v ≤ hi) × Tally limits firsts counts n v
 
 abbrev μ-loop : tie.MeasureT-loop
 μ-loop firsts n counts₀ lo hi v₀ counts v = hi - v
@@ -66,7 +67,7 @@ loop-again c = (omega arith, tally-more _ _ _ _ _ _ (c .before .before .before .
 
 -- src/histogram.rt:11:1
 returns : tie.Need-returns Inv-loop μ-loop
-returns c = subst (λ (k : ℕ). Tally (c .before .before .args .firsts .now) (c .before .loop .counts) (c .before .before .args .n) k) (le-antisymm (omega arith) (omega arith)) (c .before .loop .inv .1)
+returns c = subst (λ (k : ℕ). Tally limits (c .before .before .args .firsts .now) (c .before .loop .counts) (c .before .before .args .n) k) (le-antisymm (omega arith) (omega arith)) (c .before .loop .inv .1)
 
 pub mark-spec : {M : Type 1} → statement M
 mark-spec =

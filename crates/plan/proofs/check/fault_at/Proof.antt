@@ -27,12 +27,12 @@ shared-slice-read-if2 c = search needs
 -- src/check.rt:38:9
 returns : tie.Need-returns
 unfolding faultAt
-returns c = rw (eq-eqb _ _ (c .before .before .if1 .taken), eq-eqb _ _ (c .if2 .taken))
+returns c = λ owners n. rw (eq-eqb _ _ (c .before .before .if1 .taken), eq-eqb _ _ (c .if2 .taken))
 
 -- src/check.rt:38:9
 returns-2 : tie.Need-returns-2
 unfolding faultAt
-returns-2 c = rw (eq-eqb _ _ (c .before .before .if1 .taken), ne-eqb _ _ (c .if2 .left))
+returns-2 c = λ owners n. rw (eq-eqb _ _ (c .before .before .if1 .taken), ne-eqb _ _ (c .if2 .left))
 
 -- src/check.rt:40:9
 previous-requires : tie.Need-previous-requires
@@ -57,7 +57,7 @@ shared-slice-read-if3-2 c = search needs
 -- src/check.rt:42:9
 returns-3 : tie.Need-returns-3
 unfolding faultAt
-returns-3 c = rw (ne-eqb _ _ (c .before .before .before .before .if1 .left), ← c .before .before .before .previous .ensures, le-leb _ _ (c .if3 .taken))
+returns-3 c = λ owners n. rw (ne-eqb _ _ (c .before .before .before .before .if1 .left), ← c .before .before .before .previous .ensures, le-leb _ _ (c .if3 .taken))
 
 -- src/check.rt:44:8
 mul-if4 : tie.Need-mul-if4
@@ -78,12 +78,12 @@ shared-slice-read-if4-2 c = search needs
 -- src/check.rt:45:9
 returns-4 : tie.Need-returns-4
 unfolding faultAt
-returns-4 c = rw (ne-eqb _ _ (c .before .before .before .before .before .before .before .if1 .left), ← c .before .before .before .before .before .before .previous .ensures, lt-leb _ _ (c .before .before .before .if3 .left), eq-eqb _ _ (c .if4 .taken))
+returns-4 c = λ owners n. rw (ne-eqb _ _ (c .before .before .before .before .before .before .before .if1 .left), ← c .before .before .before .before .before .before .previous .ensures, lt-leb _ _ (c .before .before .before .if3 .left), eq-eqb _ _ (c .if4 .taken))
 
 -- src/check.rt:33:1
 returns-5 : tie.Need-returns-5
 unfolding faultAt
-returns-5 c = rw (ne-eqb _ _ (c .before .before .before .before .before .before .before .if1 .left), ← c .before .before .before .before .before .before .previous .ensures, lt-leb _ _ (c .before .before .before .if3 .left), ne-eqb _ _ (c .if4 .left))
+returns-5 c = λ owners n. rw (ne-eqb _ _ (c .before .before .before .before .before .before .before .if1 .left), ← c .before .before .before .before .before .before .previous .ensures, lt-leb _ _ (c .before .before .before .if3 .left), ne-eqb _ _ (c .if4 .left))
 
 pub fault-at-spec : {M : Type 1} → statement M
 fault-at-spec =

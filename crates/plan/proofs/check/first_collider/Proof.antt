@@ -1,9 +1,12 @@
 -- No stop before v has a partner.
 use borrow.Author.Needs.{needs}
 use Prim.Native.Nat.{_-_, _≤_}
-use mathlib.Core.Path.{_≡_}
+use mathlib.Core.Path.{_≡_, _∙_}
 use native.Mathlib.Omega.{arith}
 use lib.Dec.{ltb}
+use mathlib.Core.List.{[]}
+use Rattle.plan.proofs.Unread.{collider-any}
+use Rattle.plan.specs.Visits.{visitsOf}
 use Rattle.below.specs.Below.{firstBelow, at}
 use Rattle.below.proofs.Search.{first-none, first-more, first-hit, first-end}
 use Rattle.plan.specs.Check.{partner, collider}
@@ -15,7 +18,7 @@ use Rattle.plan.proofs.check.first_collider.Lts as lts
 use Rattle.plan.proofs.check.partner_of.Reads as partner-of-reads
 
 abbrev Inv-loop : tie.InvT-loop
-Inv-loop owners locations times n first next v₀ v = (v ≤ n) × (firstBelow v (λ v. ltb (partner (at owners) (at locations) (at times) n v) n) ≡ v)
+Inv-loop owners locations times n first next v₀ v = (v ≤ n) × (firstBelow v (λ v. ltb (partner (visitsOf owners [] locations times n) v) n) ≡ v)
 
 abbrev μ-loop : tie.MeasureT-loop
 μ-loop owners locations times n first next v₀ v = n - v
@@ -31,7 +34,7 @@ partner-of-requires c κs = (c .before .before .before .before .before .pre .0, 
 -- src/check.rt:141:13
 returns : tie.Need-returns Inv-loop μ-loop
 unfolding collider
-returns c = first-hit _ _ _ (omega arith) (c .before .before .before .loop .inv .1) (has-partner _ _ _ _ _ _ (c .before .partner-of .ensures) (c .if1 .taken))
+returns c = λ numbers. first-hit _ _ _ (omega arith) (c .before .before .before .loop .inv .1) (has-partner _ _ _ (c .before .partner-of .ensures []) (c .if1 .taken)) ∙ collider-any _ _
 
 -- src/check.rt:143:9
 add-v : tie.Need-add-v Inv-loop μ-loop
@@ -43,12 +46,12 @@ loop-less c = search needs
 
 -- src/check.rt:139:5
 loop-again : tie.Need-loop-again Inv-loop μ-loop
-loop-again c = (omega arith, first-more _ _ (c .before .before .before .loop .inv .1) (no-partner _ _ _ _ _ _ (c .before .partner-of .ensures) (c .if1 .left)))
+loop-again c = (omega arith, first-more _ _ (c .before .before .before .loop .inv .1) (no-partner _ _ _ (c .before .partner-of .ensures []) (c .if1 .left)))
 
 -- src/check.rt:127:1
 returns-2 : tie.Need-returns-2 Inv-loop μ-loop
 unfolding collider
-returns-2 c = first-end _ _ _ (c .before .loop .inv .0) (c .loop-test .left) (c .before .loop .inv .1)
+returns-2 c = λ numbers. first-end _ _ _ (c .before .loop .inv .0) (c .loop-test .left) (c .before .loop .inv .1) ∙ collider-any _ _
 
 pub first-collider-spec : {M : Type 1} → statement M
 first-collider-spec =

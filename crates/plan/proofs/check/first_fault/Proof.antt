@@ -1,10 +1,13 @@
 -- No stop before v is at fault.
 use borrow.Author.Needs.{needs}
 use Prim.Native.Nat.{_-_, _≤_}
-use mathlib.Core.Path.{_≡_}
+use mathlib.Core.Path.{_≡_, _∙_}
 use mathlib.Core.Bool.{not}
 use native.Mathlib.Omega.{arith}
 use lib.Dec.{eqb}
+use mathlib.Core.List.{[]}
+use Rattle.plan.proofs.Unread.{first-fault-any}
+use Rattle.plan.specs.Visits.{visitsOf}
 use Rattle.below.specs.Below.{firstBelow, at}
 use Rattle.below.proofs.Search.{first-none, first-more, first-hit, first-end}
 use Rattle.plan.specs.Check.{faultAt, firstFault}
@@ -16,7 +19,7 @@ use Rattle.plan.proofs.check.first_fault.Lts as lts
 use Rattle.plan.proofs.check.fault_at.Reads as fault-at-reads
 
 abbrev Inv-loop : tie.InvT-loop
-Inv-loop numbers locations times n v₀ v = (v ≤ n) × (firstBelow v (λ v. not (eqb (faultAt (at numbers) (at locations) (at times) v) 0)) ≡ v)
+Inv-loop numbers locations times n v₀ v = (v ≤ n) × (firstBelow v (λ v. not (eqb (faultAt (visitsOf [] numbers locations times n) v) 0)) ≡ v)
 
 abbrev μ-loop : tie.MeasureT-loop
 μ-loop numbers locations times n v₀ v = n - v
@@ -32,7 +35,7 @@ fault-at-requires c κs = search needs
 -- src/check.rt:58:13
 returns : tie.Need-returns Inv-loop μ-loop
 unfolding firstFault
-returns c = first-hit _ _ _ (omega arith) (c .before .before .before .loop .inv .1) (at-fault _ _ _ _ _ (c .before .fault-at .ensures) (c .if1 .taken))
+returns c = λ owners. first-hit _ _ _ (omega arith) (c .before .before .before .loop .inv .1) (at-fault _ _ _ (c .before .fault-at .ensures [] _) (c .if1 .taken)) ∙ first-fault-any _ _
 
 -- src/check.rt:60:9
 add-v : tie.Need-add-v Inv-loop μ-loop
@@ -44,12 +47,12 @@ loop-less c = search needs
 
 -- src/check.rt:56:5
 loop-again : tie.Need-loop-again Inv-loop μ-loop
-loop-again c = (omega arith, first-more _ _ (c .before .before .before .loop .inv .1) (no-fault _ _ _ _ _ (c .before .fault-at .ensures) (c .if1 .left)))
+loop-again c = (omega arith, first-more _ _ (c .before .before .before .loop .inv .1) (no-fault _ _ _ (c .before .fault-at .ensures [] _) (c .if1 .left)))
 
 -- src/check.rt:51:1
 returns-2 : tie.Need-returns-2 Inv-loop μ-loop
 unfolding firstFault
-returns-2 c = first-end _ _ _ (c .before .loop .inv .0) (c .loop-test .left) (c .before .loop .inv .1)
+returns-2 c = λ owners. first-end _ _ _ (c .before .loop .inv .0) (c .loop-test .left) (c .before .loop .inv .1) ∙ first-fault-any _ _
 
 pub first-fault-spec : {M : Type 1} → statement M
 first-fault-spec =

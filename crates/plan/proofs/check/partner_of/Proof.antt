@@ -3,9 +3,12 @@ use borrow.Author.Needs.{needs}
 use Prim.Native.Nat.{_-_}
 use mathlib.Core.Path.{refl, sym, _∙_}
 use native.Mathlib.Omega.{arith}
+use mathlib.Core.List.{[]}
+use Rattle.plan.proofs.Unread.{partner-any}
+use Rattle.plan.specs.Visits.{visitsOf}
 use Rattle.below.specs.Below.{at}
 use Rattle.below.proofs.Search.{first-hit, first-end}
-use Rattle.plan.proofs.SharingLaws.{walk-from, walk-within, walk-past}
+use Rattle.plan.proofs.SharingLaws.{elsewhere, walk-from, walk-within, walk-past}
 use Rattle.plan.proofs.CheckLaws.{Alone, alone-start, alone-more}
 use Rattle.plan.proofs.check.partner_of.Statement.{statement}
 use Rattle.plan.proofs.check.partner_of.Tie as tie
@@ -14,7 +17,7 @@ use Rattle.plan.proofs.check.partner_of.Lts as lts
 use Rattle.plan.proofs.check.collide_at.Reads as collide-at-reads
 
 abbrev Inv-loop : tie.InvT-loop
-Inv-loop owners locations times n first next v w₀ w = Alone (at owners) (at locations) (at times) n v w
+Inv-loop owners locations times n first next v w₀ w = Alone (visitsOf owners [] locations times n) v w
 
 abbrev μ-loop : tie.MeasureT-loop
 μ-loop owners locations times n first next v w₀ w = n - w
@@ -33,7 +36,7 @@ cast-w c = omega (arith, c .before .before .before .before .pre .0 .few, walk-fr
 
 -- src/check.rt:117:5
 loop-holds : tie.Need-loop-holds Inv-loop μ-loop
-loop-holds c = alone-start _ _ _ _ _ _ _ (c .before .before .before .before .pre .1) _ (c .before .before .before .before .pre .2) refl
+loop-holds c = alone-start _ _ (elsewhere _ _ _ _ _) _ _ (c .before .before .before .before .pre .1) _ (c .before .before .before .before .pre .2) refl
 
 -- src/check.rt:118:12
 collide-at-requires : tie.Need-collide-at-requires Inv-loop μ-loop
@@ -41,7 +44,7 @@ collide-at-requires c κs = search needs
 
 -- src/check.rt:119:13
 returns : tie.Need-returns Inv-loop μ-loop
-returns c = first-hit _ _ _ (omega arith) (c .before .before .before .loop .inv .1) (sym (c .before .collide-at .ensures) ∙ c .if1 .taken)
+returns c = λ numbers. first-hit _ _ _ (omega arith) (c .before .before .before .loop .inv .1) (sym (c .before .collide-at .ensures []) ∙ c .if1 .taken) ∙ partner-any _ _ _
 
 -- src/check.rt:121:13
 mul-w-2 : tie.Need-mul-w-2 Inv-loop μ-loop
@@ -61,11 +64,11 @@ loop-less c = omega (arith, walk-past _ _ _ _ (c .before .before .before .before
 
 -- src/check.rt:117:5
 loop-again : tie.Need-loop-again Inv-loop μ-loop
-loop-again c = alone-more _ _ _ _ _ _ _ (c .before .before .before .before .before .before .before .before .before .pre .1) _ _ (c .before .before .before .before .loop .inv) (c .before .before .before .loop-test .taken) (sym (c .before .before .collide-at .ensures) ∙ c .before .if1 .left) refl
+loop-again c = alone-more _ _ (elsewhere _ _ _ _ _) _ _ (c .before .before .before .before .before .before .before .before .before .pre .1) _ _ (c .before .before .before .before .loop .inv) (c .before .before .before .loop-test .taken) (sym (c .before .before .collide-at .ensures []) ∙ c .before .if1 .left) refl
 
 -- src/check.rt:104:1
 returns-2 : tie.Need-returns-2 Inv-loop μ-loop
-returns-2 c = first-end _ _ _ (c .before .loop .inv .0) (c .loop-test .left) (c .before .loop .inv .1)
+returns-2 c = λ numbers. first-end _ _ _ (c .before .loop .inv .0) (c .loop-test .left) (c .before .loop .inv .1) ∙ partner-any _ _ _
 
 pub partner-of-spec : {M : Type 1} → statement M
 partner-of-spec =

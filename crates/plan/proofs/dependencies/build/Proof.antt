@@ -1,9 +1,13 @@
 -- The count chooses the answer; where it is within the full size there is room for all rows.
+use mathlib.Core.Path.{_∙_}
 use Prim.Native.Nat.{ℕ}
 use native.Mathlib.Omega.{arith}
 use lib.ListN.{length-replicate}
+use mathlib.Core.List.{[]}
+use Rattle.tables.specs.Limits.{limits}
+use Rattle.plan.proofs.Unread.{total-any}
 use Rattle.plan.proofs.SharingLaws.{groups-filled}
-use Rattle.plan.proofs.ColumnsLaws.{built-refused, built-done}
+use Rattle.plan.proofs.ColumnsLaws.{total-room, built-refused, built-done}
 use borrow.Author.Needs.{needs}
 use Rattle.plan.proofs.dependencies.build.Statement.{statement}
 use Rattle.plan.proofs.dependencies.build.Tie as tie
@@ -19,15 +23,15 @@ fill-groups-requires c κs = search needs
 
 -- src/dependencies.rt:216:9
 count-dependencies-requires : tie.Need-count-dependencies-requires
-count-dependencies-requires c κs = (c .before .before .before .before .before .before .before .before .before .before .before .before .before .before .pre .0 .visits, groups-filled _ _ _ _ (omega (arith, length-replicate {A = ℕ} 1024 0, c .before .before .before .before .before .before .before .before .before .before .before .before .before .before .pre .0 .visits .few)) (c .before .before .fill-groups .ensures .0) _ _ (omega (arith, length-replicate {A = ℕ} 1024 0, c .before .before .before .before .before .before .before .before .before .before .before .before .before .before .pre .0 .visits .few)) (c .before .before .fill-groups .ensures .1))
+count-dependencies-requires c κs = (c .before .before .before .before .before .before .before .before .before .before .before .before .before .before .pre .0 .visits, groups-filled _ _ _ _ (omega (arith, length-replicate {A = ℕ} (limits .stops) 0, c .before .before .before .before .before .before .before .before .before .before .before .before .before .before .pre .0 .visits .few)) (c .before .before .fill-groups .ensures .0) _ _ (omega (arith, length-replicate {A = ℕ} (limits .stops) 0, c .before .before .before .before .before .before .before .before .before .before .before .before .before .before .pre .0 .visits .few)) (c .before .before .fill-groups .ensures .1))
 
 -- src/dependencies.rt:218:9
 returns : tie.Need-returns
-returns c = built-refused _ _ _ _ _ _ _ _ (c .before .count-dependencies .ensures) (c .if1 .taken)
+returns c = built-refused _ _ _ _ (c .before .count-dependencies .ensures [] ∙ total-any _ _) (c .if1 .taken)
 
 -- src/dependencies.rt:220:5
 fill-rows-requires : tie.Need-fill-rows-requires
-fill-rows-requires c κs = ((c .before .before .before .before .before .before .before .before .before .before .before .before .before .before .before .before .before .before .before .before .before .before .before .pre .0, groups-filled _ _ _ _ (omega (arith, length-replicate {A = ℕ} 1024 0, c .before .before .before .before .before .before .before .before .before .before .before .before .before .before .before .before .before .before .before .before .before .before .before .pre .0 .visits .few)) (c .before .before .before .before .before .before .before .before .before .before .before .fill-groups .ensures .0) _ _ (omega (arith, length-replicate {A = ℕ} 1024 0, c .before .before .before .before .before .before .before .before .before .before .before .before .before .before .before .before .before .before .before .before .before .before .before .pre .0 .visits .few)) (c .before .before .before .before .before .before .before .before .before .before .before .fill-groups .ensures .1)), search needs)
+fill-rows-requires c κs = ((c .before .before .before .before .before .before .before .before .before .before .before .before .before .before .before .before .before .before .before .before .before .before .before .pre .0, groups-filled _ _ _ _ (omega (arith, length-replicate {A = ℕ} (limits .stops) 0, c .before .before .before .before .before .before .before .before .before .before .before .before .before .before .before .before .before .before .before .before .before .before .before .pre .0 .visits .few)) (c .before .before .before .before .before .before .before .before .before .before .before .fill-groups .ensures .0) _ _ (omega (arith, length-replicate {A = ℕ} (limits .stops) 0, c .before .before .before .before .before .before .before .before .before .before .before .before .before .before .before .before .before .before .before .before .before .before .before .pre .0 .visits .few)) (c .before .before .before .before .before .before .before .before .before .before .before .fill-groups .ensures .1)), total-room _ _ _ _ (c .before .before .before .before .before .before .before .before .count-dependencies .ensures [] ∙ total-any _ _) (c .before .before .before .before .before .before .before .if1 .left) (c .before .before .before .before .before .before .before .before .before .before .before .before .before .before .before .before .before .before .before .before .before .before .before .pre .1))
 
 -- src/dependencies.rt:196:1
 same-length : tie.Need-same-length
@@ -51,7 +55,7 @@ same-length-5 c = search needs
 
 -- src/dependencies.rt:196:1
 returns-2 : tie.Need-returns-2
-returns-2 c = built-done _ _ _ _ _ _ _ _ (c .before .before .before .before .before .before .before .before .before .before .before .before .before .before .before .before .before .before .before .count-dependencies .ensures) _ (c .before .before .before .before .before .before .before .before .before .before .before .before .before .before .before .before .before .before .if1 .left) (c .before .before .before .before .before .before .before .before .before .before .fill-rows .ensures)
+returns-2 c = built-done _ _ _ _ (c .before .before .before .before .before .before .before .before .before .before .before .before .before .before .before .before .before .before .before .count-dependencies .ensures [] ∙ total-any _ _) _ (c .before .before .before .before .before .before .before .before .before .before .before .before .before .before .before .before .before .before .if1 .left) (c .before .before .before .before .before .before .before .before .before .before .fill-rows .ensures)
 
 pub build-spec : {M : Type 1} → statement M
 build-spec =

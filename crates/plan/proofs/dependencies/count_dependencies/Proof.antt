@@ -1,8 +1,12 @@
 -- The counter is the number of dependencies with a first stop before v.
 use borrow.Author.Needs.{needs}
 use Prim.Native.Nat.{_*_, _-_, _≤_}
-use mathlib.Core.Path.{_≡_}
+use mathlib.Core.Path.{_≡_, _∙_}
 use native.Mathlib.Omega.{arith}
+use mathlib.Core.List.{[]}
+use Rattle.tables.specs.Limits.{limits}
+use Rattle.plan.proofs.Unread.{total-any}
+use Rattle.plan.specs.Visits.{visitsOf}
 use Rattle.below.specs.Below.{countBelow, sumBelow, at}
 use Rattle.below.proofs.Sum.{sum-none, sum-turn, sum-end}
 use Rattle.plan.specs.Dependencies.{follows}
@@ -14,7 +18,7 @@ use Rattle.plan.proofs.dependencies.count_dependencies.Lts as lts
 use Rattle.plan.proofs.dependencies.count_row.Reads as count-row-reads
 
 abbrev Inv-loop : tie.InvT-loop
-Inv-loop owners locations times n first next c₀ v₀ c v = (v ≤ n) × (c ≡ sumBelow v (λ u. countBelow n (follows (at owners) (at locations) (at times) u))) × (c ≤ 1024 * v)
+Inv-loop owners locations times n first next c₀ v₀ c v = (v ≤ n) × (c ≡ sumBelow v (λ u. countBelow n (follows (visitsOf owners [] locations times n) u))) × (c ≤ limits .stops * v)
 
 abbrev μ-loop : tie.MeasureT-loop
 μ-loop owners locations times n first next c₀ v₀ c v = n - v
@@ -29,7 +33,7 @@ count-row-requires c κs = (c .before .before .before .before .before .pre .0, c
 
 -- src/dependencies.rt:101:9
 add-c : tie.Need-add-c Inv-loop μ-loop
-add-c c = omega (arith, row-few _ _ _ (c .count-row .ensures), c .before .before .before .before .before .before .pre .0 .few)
+add-c c = omega (arith, row-few _ _ _ (c .count-row .ensures []), c .before .before .before .before .before .before .pre .0 .few)
 
 -- src/dependencies.rt:102:9
 add-v : tie.Need-add-v Inv-loop μ-loop
@@ -41,11 +45,11 @@ loop-less c = search needs
 
 -- src/dependencies.rt:100:5
 loop-again : tie.Need-loop-again Inv-loop μ-loop
-loop-again c = (omega arith, sum-turn _ _ _ _ (c .before .before .loop .inv .1) (c .count-row .ensures), omega (arith, row-few _ _ _ (c .count-row .ensures), c .before .before .before .before .before .before .pre .0 .few))
+loop-again c = (omega arith, sum-turn _ _ _ _ (c .before .before .loop .inv .1) (c .count-row .ensures []), omega (arith, row-few _ _ _ (c .count-row .ensures []), c .before .before .before .before .before .before .pre .0 .few))
 
 -- src/dependencies.rt:87:1
 returns : tie.Need-returns Inv-loop μ-loop
-returns c = sum-end _ _ _ _ (c .before .loop .inv .0) (c .loop-test .left) (c .before .loop .inv .1)
+returns c = λ numbers. sum-end _ _ _ _ (c .before .loop .inv .0) (c .loop-test .left) (c .before .loop .inv .1) ∙ total-any _ _
 
 pub count-dependencies-spec : {M : Type 1} → statement M
 count-dependencies-spec =

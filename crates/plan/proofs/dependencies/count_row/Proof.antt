@@ -4,10 +4,13 @@ use Prim.Native.Nat.{_-_, _≤_, _<_}
 use mathlib.Core.Path.{_≡_, refl, sym, _∙_}
 use mathlib.Core.Logic.{⊎-elim}
 use native.Mathlib.Omega.{arith}
+use mathlib.Core.List.{[]}
+use Rattle.plan.proofs.Unread.{row-any}
+use Rattle.plan.specs.Visits.{visitsOf}
 use Rattle.below.specs.Below.{countBelow, at}
 use Rattle.below.proofs.Count.{count-hit, count-miss, count-end}
 use Rattle.plan.specs.Dependencies.{follows}
-use Rattle.plan.proofs.SharingLaws.{walk-from, walk-within, walk-past}
+use Rattle.plan.proofs.SharingLaws.{elsewhere, walk-from, walk-within, walk-past}
 use Rattle.plan.proofs.ColumnsLaws.{row-few, count-start-at, count-more-at}
 use Rattle.plan.proofs.dependencies.count_row.Statement.{statement}
 use Rattle.plan.proofs.dependencies.count_row.Tie as tie
@@ -16,7 +19,7 @@ use Rattle.plan.proofs.dependencies.count_row.Lts as lts
 use Rattle.plan.proofs.dependencies.follows_at.Reads as follows-at-reads
 
 abbrev Inv-loop : tie.InvT-loop
-Inv-loop owners locations times n first next v c₀ w₀ c w = (w ≤ n) × (c ≡ countBelow w (follows (at owners) (at locations) (at times) v)) × (w < n → at locations w ≡ at locations v)
+Inv-loop owners locations times n first next v c₀ w₀ c w = (w ≤ n) × (c ≡ countBelow w (follows (visitsOf owners [] locations times n) v)) × (w < n → at locations w ≡ at locations v)
 
 abbrev μ-loop : tie.MeasureT-loop
 μ-loop owners locations times n first next v c₀ w₀ c w = n - w
@@ -35,7 +38,7 @@ cast-w c = omega (arith, c .before .before .before .before .pre .0 .few, walk-fr
 
 -- src/dependencies.rt:77:5
 loop-holds : tie.Need-loop-holds Inv-loop μ-loop
-loop-holds c = count-start-at _ _ _ _ _ _ _ (c .before .before .before .before .pre .1) _ (c .before .before .before .before .pre .2) refl
+loop-holds c = count-start-at _ _ (elsewhere _ _ _ _ _) _ _ (c .before .before .before .before .pre .1) _ (c .before .before .before .before .pre .2) refl
 
 -- src/dependencies.rt:78:12
 follows-at-requires : tie.Need-follows-at-requires Inv-loop μ-loop
@@ -63,15 +66,15 @@ loop-less c = omega (arith, walk-past _ _ _ _ (c .before .before .before .before
 
 -- src/dependencies.rt:77:5
 loop-again : tie.Need-loop-again Inv-loop μ-loop
-loop-again c = count-more-at _ _ _ _ _ _ _ (c .before .before .before .before .before .before .before .before .before .pre .1) _ _ _ (c .before .before .before .loop-test .taken) (c .before .before .before .before .loop .inv .2 (c .before .before .before .loop-test .taken))
+loop-again c = count-more-at _ _ (elsewhere _ _ _ _ _) _ _ (c .before .before .before .before .before .before .before .before .before .pre .1) _ _ _ (c .before .before .before .loop-test .taken) (c .before .before .before .before .loop .inv .2 (c .before .before .before .loop-test .taken))
     (⊎-elim
-    (λ w. w .1 ∙ count-hit _ _ _ (c .before .before .before .before .loop .inv .1) (sym (c .before .before .follows-at .ensures) ∙ w .0 .taken))
-    (λ w. w .1 ∙ count-miss _ _ _ (c .before .before .before .before .loop .inv .1) (sym (c .before .before .follows-at .ensures) ∙ w .0 .left))
+    (λ w. w .1 ∙ count-hit _ _ _ (c .before .before .before .before .loop .inv .1) (sym (c .before .before .follows-at .ensures [] _) ∙ w .0 .taken))
+    (λ w. w .1 ∙ count-miss _ _ _ (c .before .before .before .before .loop .inv .1) (sym (c .before .before .follows-at .ensures [] _) ∙ w .0 .left))
     (c .before .if1 .came)) refl
 
 -- src/dependencies.rt:63:1
 returns : tie.Need-returns Inv-loop μ-loop
-returns c = count-end _ _ _ _ (c .before .loop .inv .0) (c .loop-test .left) (c .before .loop .inv .1)
+returns c = λ numbers. count-end _ _ _ _ (c .before .loop .inv .0) (c .loop-test .left) (c .before .loop .inv .1) ∙ row-any _ _ _ _ _
 
 pub count-row-spec : {M : Type 1} → statement M
 count-row-spec =

@@ -3,10 +3,13 @@ use Prim.Native.Nat.{_+_, _-_, _≤_, _<_}
 use mathlib.Core.Path.{_≡_, refl, sym, _∙_}
 use native.Mathlib.Omega.{arith}
 use borrow.Author.Tests.{not-true, not-false}
+use mathlib.Core.List.{[]}
+use Rattle.plan.proofs.Unread.{follows-any}
+use Rattle.plan.specs.Visits.{visitsOf}
 use Rattle.below.specs.Below.{at}
 use Rattle.plan.specs.Columns.{columns}
 use Rattle.plan.specs.Room.{ColumnsRoom}
-use Rattle.plan.proofs.SharingLaws.{walk-from, walk-within, walk-past}
+use Rattle.plan.proofs.SharingLaws.{elsewhere, walk-from, walk-within, walk-past}
 use Rattle.plan.proofs.ColumnsLaws.{RowTo, row-none, row-skip, row-take, row-lengths, row-room, row-end, cursor-none, cursor-skip, cursor-take, cursor-end, row-start-at, row-more-at}
 use Rattle.plan.proofs.dependencies.fill_row.Statement.{statement}
 use Rattle.plan.proofs.dependencies.fill_row.Tie as tie
@@ -18,7 +21,7 @@ use Rattle.plan.proofs.dependencies.follows_at.Reads as follows-at-read
 abbrev Inv-loop : tie.InvT-loop
 Inv-loop owners numbers locations times n first next v c first-drones₀ first-stops₀ second-drones₀ second-stops₀ flags₀ k₀ w₀ first-drones first-stops second-drones second-stops flags k w =
     (w ≤ n)
-    × RowTo (at owners) (at numbers) (at locations) (at times) n v c (columns first-drones₀ first-stops₀ second-drones₀ second-stops₀ flags₀) k first-drones first-stops second-drones second-stops flags w
+    × RowTo (visitsOf owners numbers locations times n) v c (columns first-drones₀ first-stops₀ second-drones₀ second-stops₀ flags₀) k first-drones first-stops second-drones second-stops flags w
     × (w < n → at locations w ≡ at locations v)
 
 abbrev μ-loop : tie.MeasureT-loop
@@ -26,7 +29,7 @@ abbrev μ-loop : tie.MeasureT-loop
 
 -- where w follows v, there is room for the entry
 room : (c : tie.Else1 Inv-loop μ-loop) → ColumnsRoom (c .before .before .before .loop .k + 1) (columns (c .before .before .before .loop .first-drones) (c .before .before .before .loop .first-stops) (c .before .before .before .loop .second-drones) (c .before .before .before .loop .second-stops) (c .before .before .before .loop .flags))
-room c = row-room _ _ _ _ _ _ _ _ _ _ _ _ _ _ (c .before .before .before .loop .inv .1 .1) _ (c .before .before .before .loop .inv .1 .0) (sym (c .before .follows-at .ensures) ∙ not-false _ (c .if1 .left)) (c .before .before .loop-test .taken) (c .before .before .before .before .before .before .before .before .before .before .before .before .before .before .pre .1)
+room c = row-room _ _ _ _ _ _ _ _ _ _ (c .before .before .before .loop .inv .1 .1) _ (c .before .before .before .loop .inv .1 .0) (sym (c .before .follows-at .ensures [] 0 ∙ follows-any _ _ _ _ _) ∙ not-false _ (c .if1 .left)) (c .before .before .loop-test .taken) (c .before .before .before .before .before .before .before .before .before .before .before .before .before .before .pre .1)
 
 -- src/dependencies.rt:130:17
 mul-w : tie.Need-mul-w Inv-loop μ-loop
@@ -42,7 +45,7 @@ cast-w c = omega (arith, c .before .before .before .before .before .before .befo
 
 -- src/dependencies.rt:131:5
 loop-holds : tie.Need-loop-holds Inv-loop μ-loop
-loop-holds c = row-start-at _ _ _ _ _ _ _ _ _ _ _ _ _ _ _ _ (c .before .before .before .before .before .before .before .before .before .before .pre .0 .1) _ (c .before .before .before .before .before .before .before .before .before .before .pre .0 .2) (cursor-none _ _, row-none _ _ _ _ _ _ _ _) refl
+loop-holds c = row-start-at _ _ _ _ _ _ _ _ _ _ (elsewhere _ _ _ _ _) _ _ (c .before .before .before .before .before .before .before .before .before .before .pre .0 .1) _ (c .before .before .before .before .before .before .before .before .before .before .pre .0 .2) (cursor-none _ _, row-none _ _ _ _) refl
 
 -- src/dependencies.rt:132:13
 follows-at-requires : tie.Need-follows-at-requires Inv-loop μ-loop
@@ -66,7 +69,7 @@ loop-less c = omega (arith, walk-past _ _ _ _ (c .before .before .before .before
 
 -- src/dependencies.rt:131:5
 loop-again : tie.Need-loop-again Inv-loop μ-loop
-loop-again c = row-more-at _ _ _ _ _ _ _ _ _ _ _ _ _ _ _ _ (c .before .before .before .before .before .before .before .before .before .before .before .before .before .before .before .pre .0 .1) _ _ (c .before .before .before .loop-test .taken) (c .before .before .before .before .loop .inv .2 (c .before .before .before .loop-test .taken)) (cursor-skip _ _ _ _ (c .before .before .before .before .loop .inv .1 .0) (sym (c .before .before .follows-at .ensures) ∙ not-true _ (c .before .if1 .taken)), row-skip _ _ _ _ _ _ _ _ _ _ _ _ _ _ (c .before .before .before .before .loop .inv .1 .1) (sym (c .before .before .follows-at .ensures) ∙ not-true _ (c .before .if1 .taken))) refl
+loop-again c = row-more-at _ _ _ _ _ _ _ _ _ _ (elsewhere _ _ _ _ _) _ _ (c .before .before .before .before .before .before .before .before .before .before .before .before .before .before .before .pre .0 .1) _ _ (c .before .before .before .loop-test .taken) (c .before .before .before .before .loop .inv .2 (c .before .before .before .loop-test .taken)) (cursor-skip _ _ _ _ (c .before .before .before .before .loop .inv .1 .0) (sym (c .before .before .follows-at .ensures [] 0 ∙ follows-any _ _ _ _ _) ∙ not-true _ (c .before .if1 .taken)), row-skip _ _ _ _ _ _ _ _ _ _ (c .before .before .before .before .loop .inv .1 .1) (sym (c .before .before .follows-at .ensures [] 0 ∙ follows-any _ _ _ _ _) ∙ not-true _ (c .before .if1 .taken))) refl
 
 -- src/dependencies.rt:136:27
 shared-slice-read-first-drones : tie.Need-shared-slice-read-first-drones Inv-loop μ-loop
@@ -146,31 +149,31 @@ loop-less-2 c = omega (arith, walk-past _ _ _ _ (c .before .before .before .befo
 
 -- src/dependencies.rt:131:5
 loop-again-2 : tie.Need-loop-again-2 Inv-loop μ-loop
-loop-again-2 c = row-more-at _ _ _ _ _ _ _ _ _ _ _ _ _ _ _ _ (c .before .before .before .before .before .before .before .before .before .before .before .before .before .before .before .before .before .before .before .before .pre .0 .1) _ _ (c .before .before .before .before .before .before .before .before .loop-test .taken) (c .before .before .before .before .before .before .before .before .before .loop .inv .2 (c .before .before .before .before .before .before .before .before .loop-test .taken)) (cursor-take _ _ _ _ (c .before .before .before .before .before .before .before .before .before .loop .inv .1 .0) (sym (c .before .before .before .before .before .before .before .follows-at .ensures) ∙ not-false _ (c .before .before .before .before .before .before .if1 .left)), row-take _ _ _ _ _ _ _ _ _ _ _ _ _ _ (c .before .before .before .before .before .before .before .before .before .loop .inv .1 .1) _ (c .before .before .before .before .before .before .before .before .before .loop .inv .1 .0) _ (sym (c .before .before .before .before .before .before .before .follows-at .ensures) ∙ not-false _ (c .before .before .before .before .before .before .if1 .left)) (c .before .flag-of .ensures)) refl
+loop-again-2 c = row-more-at _ _ _ _ _ _ _ _ _ _ (elsewhere _ _ _ _ _) _ _ (c .before .before .before .before .before .before .before .before .before .before .before .before .before .before .before .before .before .before .before .before .pre .0 .1) _ _ (c .before .before .before .before .before .before .before .before .loop-test .taken) (c .before .before .before .before .before .before .before .before .before .loop .inv .2 (c .before .before .before .before .before .before .before .before .loop-test .taken)) (cursor-take _ _ _ _ (c .before .before .before .before .before .before .before .before .before .loop .inv .1 .0) (sym (c .before .before .before .before .before .before .before .follows-at .ensures [] 0 ∙ follows-any _ _ _ _ _) ∙ not-false _ (c .before .before .before .before .before .before .if1 .left)), row-take _ _ _ _ _ _ _ _ _ _ (c .before .before .before .before .before .before .before .before .before .loop .inv .1 .1) _ (c .before .before .before .before .before .before .before .before .before .loop .inv .1 .0) _ (sym (c .before .before .before .before .before .before .before .follows-at .ensures [] 0 ∙ follows-any _ _ _ _ _) ∙ not-false _ (c .before .before .before .before .before .before .if1 .left)) (c .before .flag-of .ensures)) refl
 
 -- src/dependencies.rt:108:1
 same-length : tie.Need-same-length Inv-loop μ-loop
-same-length c = row-lengths _ _ _ _ _ _ _ _ _ _ _ _ _ _ (c .before .loop .inv .1 .1) .same-first-drones
+same-length c = row-lengths _ _ _ _ _ _ _ _ _ _ (c .before .loop .inv .1 .1) .same-first-drones
 
 -- src/dependencies.rt:108:1
 same-length-2 : tie.Need-same-length-2 Inv-loop μ-loop
-same-length-2 c = row-lengths _ _ _ _ _ _ _ _ _ _ _ _ _ _ (c .before .loop .inv .1 .1) .same-first-stops
+same-length-2 c = row-lengths _ _ _ _ _ _ _ _ _ _ (c .before .loop .inv .1 .1) .same-first-stops
 
 -- src/dependencies.rt:108:1
 same-length-3 : tie.Need-same-length-3 Inv-loop μ-loop
-same-length-3 c = row-lengths _ _ _ _ _ _ _ _ _ _ _ _ _ _ (c .before .loop .inv .1 .1) .same-second-drones
+same-length-3 c = row-lengths _ _ _ _ _ _ _ _ _ _ (c .before .loop .inv .1 .1) .same-second-drones
 
 -- src/dependencies.rt:108:1
 same-length-4 : tie.Need-same-length-4 Inv-loop μ-loop
-same-length-4 c = row-lengths _ _ _ _ _ _ _ _ _ _ _ _ _ _ (c .before .loop .inv .1 .1) .same-second-stops
+same-length-4 c = row-lengths _ _ _ _ _ _ _ _ _ _ (c .before .loop .inv .1 .1) .same-second-stops
 
 -- src/dependencies.rt:108:1
 same-length-5 : tie.Need-same-length-5 Inv-loop μ-loop
-same-length-5 c = row-lengths _ _ _ _ _ _ _ _ _ _ _ _ _ _ (c .before .loop .inv .1 .1) .same-flags
+same-length-5 c = row-lengths _ _ _ _ _ _ _ _ _ _ (c .before .loop .inv .1 .1) .same-flags
 
 -- src/dependencies.rt:108:1
 returns : tie.Need-returns Inv-loop μ-loop
-returns c = (cursor-end _ _ _ _ (c .before .loop .inv .1 .0) _ (c .before .loop .inv .0) (c .loop-test .left), row-end _ _ _ _ _ _ _ _ _ _ _ _ _ _ (c .before .loop .inv .1 .1) (c .before .loop .inv .0) (c .loop-test .left))
+returns c = (cursor-end _ _ _ _ (c .before .loop .inv .1 .0) _ (c .before .loop .inv .0) (c .loop-test .left), row-end _ _ _ _ _ _ _ _ _ _ (c .before .loop .inv .1 .1) (c .before .loop .inv .0) (c .loop-test .left))
 
 pub fill-row-spec : {M : Type 1} → statement M
 fill-row-spec =

@@ -1,66 +1,72 @@
 -- The returns stand in the order of the definition's tests.
-use borrow.Author.Tests.{eq-eqb, ne-eqb}
+use mathlib.Core.Path.{sym, _∙_}
+use borrow.Author.Tests.{eq-eqb, ne-eqb, not-true, not-false}
 use Rattle.plan.specs.Dependencies.{follows}
 use borrow.Author.Needs.{needs}
 use Rattle.plan.proofs.dependencies.follows_at.Statement.{statement}
 use Rattle.plan.proofs.dependencies.follows_at.Tie as tie
 use Rattle.plan.proofs.dependencies.follows_at.Reads as reads
 use Rattle.plan.proofs.dependencies.follows_at.Lts as lts
+use Rattle.plan.proofs.meeting.meets.Reads as meets-reads
 
--- src/dependencies.rt:19:8
+-- src/dependencies.rt:25:8
 shared-slice-read-if1 : tie.Need-shared-slice-read-if1
 shared-slice-read-if1 c = search needs
 
--- src/dependencies.rt:19:21
+-- src/dependencies.rt:25:21
 shared-slice-read-if1-2 : tie.Need-shared-slice-read-if1-2
 shared-slice-read-if1-2 c = search needs
 
--- src/dependencies.rt:20:9
+-- src/dependencies.rt:26:9
 returns : tie.Need-returns
 unfolding follows
-returns c = rw (eq-eqb _ _ (c .if1 .taken))
+returns c = λ numbers n. rw (eq-eqb _ _ (c .if1 .taken))
 
--- src/dependencies.rt:22:8
-mul-if2 : tie.Need-mul-if2
-mul-if2 c = search needs
+-- src/dependencies.rt:28:15
+mul-meets : tie.Need-mul-meets
+mul-meets c = search needs
 
--- src/dependencies.rt:22:8
-shared-slice-read-if2 : tie.Need-shared-slice-read-if2
-shared-slice-read-if2 c = search needs
+-- src/dependencies.rt:28:15
+shared-slice-read-meets : tie.Need-shared-slice-read-meets
+shared-slice-read-meets c = search needs
 
--- src/dependencies.rt:22:24
-mul-if2-2 : tie.Need-mul-if2-2
-mul-if2-2 c = search needs
+-- src/dependencies.rt:28:29
+mul-meets-2 : tie.Need-mul-meets-2
+mul-meets-2 c = search needs
 
--- src/dependencies.rt:22:24
-shared-slice-read-if2-2 : tie.Need-shared-slice-read-if2-2
-shared-slice-read-if2-2 c = search needs
+-- src/dependencies.rt:28:29
+shared-slice-read-meets-2 : tie.Need-shared-slice-read-meets-2
+shared-slice-read-meets-2 c = search needs
 
--- src/dependencies.rt:23:9
+-- src/dependencies.rt:28:9
+meets-requires : tie.Need-meets-requires
+meets-requires c κs = search needs
+
+-- src/dependencies.rt:29:9
 returns-2 : tie.Need-returns-2
 unfolding follows
-returns-2 c = rw (ne-eqb _ _ (c .before .before .before .if1 .left), ne-eqb _ _ (c .if2 .taken))
+returns-2 c = λ numbers n. rw (ne-eqb _ _ (c .before .before .before .before .if1 .left), sym (c .before .meets .ensures) ∙ not-true _ (c .if2 .taken))
 
--- src/dependencies.rt:25:5
+-- src/dependencies.rt:31:5
 mul-result : tie.Need-mul-result
 mul-result c = search needs
 
--- src/dependencies.rt:25:5
+-- src/dependencies.rt:31:5
 shared-slice-read-result : tie.Need-shared-slice-read-result
 shared-slice-read-result c = search needs
 
--- src/dependencies.rt:25:16
+-- src/dependencies.rt:31:16
 mul-result-2 : tie.Need-mul-result-2
 mul-result-2 c = search needs
 
--- src/dependencies.rt:25:16
+-- src/dependencies.rt:31:16
 shared-slice-read-result-2 : tie.Need-shared-slice-read-result-2
 shared-slice-read-result-2 c = search needs
 
--- src/dependencies.rt:14:1
+-- src/dependencies.rt:20:1
 returns-3 : tie.Need-returns-3
 unfolding follows
-returns-3 c = rw (ne-eqb _ _ (c .before .before .before .before .before .if1 .left), eq-eqb _ _ (c .before .before .if2 .left))
+returns-3 c = λ numbers n. rw (ne-eqb _ _ (c .before .before .before .before .before .before .if1 .left), sym (c .before .before .before .meets .ensures) ∙ not-false _ (c .before .before .if2 .left))
 
 pub follows-at-spec : {M : Type 1} → statement M
 follows-at-spec =
@@ -69,10 +75,11 @@ follows-at-spec =
     shared-slice-read-if1
     shared-slice-read-if1-2
     returns
-    mul-if2
-    shared-slice-read-if2
-    mul-if2-2
-    shared-slice-read-if2-2
+    mul-meets
+    shared-slice-read-meets
+    mul-meets-2
+    shared-slice-read-meets-2
+    meets-requires
     returns-2
     mul-result
     shared-slice-read-result

@@ -84,7 +84,7 @@ enum-known-built c = search needs
 
 -- src/storing.rt:69:43
 cast-dependency-count : tie.Need-cast-dependency-count
-cast-dependency-count c = let r = built-within (limits .dependencies) _ _ _ _ _ (c .before .before .before .before .before .before .before .before .before .before .before .before .before .build .ensures .0) _ (c .before .built .given .1) in omega (arith, r)
+cast-dependency-count c = let r = built-within (limits .dependencies) _ _ (c .before .before .before .before .before .before .before .before .before .before .before .before .before .build .ensures .0) _ (c .before .built .given .1) in omega (arith, r)
 
 -- src/storing.rt:69:21
 slice-write-dependency-count : tie.Need-slice-write-dependency-count

@@ -4,6 +4,7 @@ use mathlib.Core.Path.{_≡_, refl}
 use native.Mathlib.Omega.{arith}
 use lib.ListN.{length, length-set}
 use Rattle.below.specs.Below.{at}
+use Rattle.tables.specs.Limits.{limits}
 use Rattle.below.proofs.Index.{fill-more}
 use Rattle.rounds.proofs.chains.at_visited.Statement.{statement}
 use Rattle.rounds.proofs.chains.at_visited.Tie as tie
@@ -11,7 +12,7 @@ use Rattle.rounds.proofs.chains.at_visited.Reads as reads
 use Rattle.rounds.proofs.chains.at_visited.Lts as lts
 
 abbrev Inv-loop : tie.InvT-loop
-Inv-loop starts visited drones cur₀ d₀ cur d = (d ≤ drones) × (length cur ≡ 32) × ((i : ℕ) → i < d → at cur i ≡ at starts i + at visited i)
+Inv-loop starts visited drones cur₀ d₀ cur d = (d ≤ drones) × (length cur ≡ limits .drones) × ((i : ℕ) → i < d → at cur i ≡ at starts i + at visited i)
 
 abbrev μ-loop : tie.MeasureT-loop
 μ-loop starts visited drones cur₀ d₀ cur d = drones - d

@@ -3,6 +3,7 @@ use Prim.Native.Nat.{_-_, _≤_, _*_, _+_}
 use mathlib.Core.Path.{_≡_}
 use native.Mathlib.Omega.{arith}
 use Rattle.below.specs.Below.{sumBelow, at}
+use Rattle.tables.specs.Limits.{limits}
 use Rattle.below.proofs.Sum.{sum-none, sum-turn, sum-end}
 use Rattle.rounds.proofs.chains.last_rounds.Statement.{statement}
 use Rattle.rounds.proofs.chains.last_rounds.Tie as tie
@@ -11,7 +12,7 @@ use Rattle.rounds.proofs.chains.last_rounds.Lts as lts
 use Rattle.rounds.proofs.chains.last_round.Reads as last-round-reads
 
 abbrev Inv-loop : tie.InvT-loop
-Inv-loop starts lasts drones table sum₀ d₀ sum d = (d ≤ drones) × (sum ≡ sumBelow d (λ i. at table (at starts i + at lasts i))) × (sum ≤ 1024 * d)
+Inv-loop starts lasts drones table sum₀ d₀ sum d = (d ≤ drones) × (sum ≡ sumBelow d (λ i. at table (at starts i + at lasts i))) × (sum ≤ limits .stops * d)
 
 abbrev μ-loop : tie.MeasureT-loop
 μ-loop starts lasts drones table sum₀ d₀ sum d = drones - d

@@ -1,6 +1,7 @@
 use Prim.Native.Nat.{ℕ}
 use lib.ListN.{length-replicate}
 use Rattle.below.proofs.Index.{zeros-at}
+use Rattle.tables.specs.Limits.{limits}
 use mathlib.Core.Path.{_∙_}
 use Rattle.rounds.proofs.Readiness.{last-in, last-small, last-sum}
 use Rattle.rounds.proofs.chains.remaining_cost.Statement.{statement}
@@ -12,7 +13,7 @@ use Rattle.rounds.proofs.chains.stop_rounds.Reads as stop-rounds-reads
 
 -- src/chains.rt:182:17
 stop-rounds-requires : tie.Need-stop-rounds-requires
-stop-rounds-requires c κs = (c .before .before .before .pre, (length-replicate {A = ℕ} 1024 0, zeros-at 1024))
+stop-rounds-requires c κs = (c .before .before .before .pre, (length-replicate {A = ℕ} (limits .stops) 0, zeros-at (limits .stops)))
 
 -- src/chains.rt:183:5
 last-rounds-requires : tie.Need-last-rounds-requires

@@ -1,5 +1,6 @@
 use Prim.Native.Nat.{ℕ}
 use lib.ListN.{length-replicate}
+use Rattle.tables.specs.Limits.{limits}
 use Rattle.rounds.proofs.Readiness.{ready-stand, ready-begun, ready-table}
 use Rattle.rounds.proofs.chains.stop_rounds.Statement.{statement}
 use Rattle.rounds.proofs.chains.stop_rounds.Tie as tie
@@ -10,7 +11,7 @@ use Rattle.rounds.proofs.chains.at_visited.Reads as at-visited-reads
 
 -- src/chains.rt:50:5
 at-visited-requires : tie.Need-at-visited-requires
-at-visited-requires c κs = (c .before .before .before .pre .0 .tables .few-drones, c .before .before .before .pre .0 .has-visited, ready-stand _ _ _ _ _ _ _ _ _ (c .before .before .before .pre .0), length-replicate {A = ℕ} 32 0)
+at-visited-requires c κs = (c .before .before .before .pre .0 .tables .few-drones, c .before .before .before .pre .0 .has-visited, ready-stand _ _ _ _ _ _ _ _ _ (c .before .before .before .pre .0), length-replicate {A = ℕ} (limits .drones) 0)
 
 -- src/chains.rt:52:5
 walk-requires : tie.Need-walk-requires

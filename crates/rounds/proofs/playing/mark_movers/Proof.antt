@@ -6,6 +6,7 @@ use native.Mathlib.Omega.{arith}
 use lib.ListN.{length, length-set}
 use Rattle.below.specs.Below.{at, pick}
 use Rattle.below.proofs.Index.{fill-more}
+use Rattle.tables.specs.Limits.{limits}
 use Rattle.precedence.specs.Graph.{free}
 use Rattle.cycles.specs.Flat.{flatPlan}
 use Rattle.rounds.proofs.playing.mark_movers.Statement.{statement}
@@ -16,7 +17,7 @@ use Rattle.rounds.proofs.playing.can_go_on.Reads as can-go-on-reads
 use Rattle.rounds.proofs.playing.one.Reads as one-reads
 
 abbrev Inv-loop : tie.InvT-loop
-Inv-loop owners starts lasts drones n from into m head next places moves₀ d₀ moves d = (d ≤ drones) × (length moves ≡ 32) × ((i : ℕ) → i < d → at moves i ≡ pick (free (flatPlan (at owners) (at starts) (at lasts) drones (at from) (at into) m) (at places) i) 1 0)
+Inv-loop owners starts lasts drones n from into m head next places moves₀ d₀ moves d = (d ≤ drones) × (length moves ≡ limits .drones) × ((i : ℕ) → i < d → at moves i ≡ pick (free (flatPlan (at owners) (at starts) (at lasts) drones (at from) (at into) m) (at places) i) 1 0)
 
 abbrev μ-loop : tie.MeasureT-loop
 μ-loop owners starts lasts drones n from into m head next places moves₀ d₀ moves d = drones - d

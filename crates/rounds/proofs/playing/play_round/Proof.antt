@@ -1,4 +1,5 @@
 use lib.ListN.{length-replicate}
+use Rattle.tables.specs.Limits.{limits}
 use Prim.Native.Nat.{ℕ}
 use Rattle.rounds.proofs.OneRound.{moved-small, round-end}
 use borrow.Author.Needs.{needs}
@@ -11,7 +12,7 @@ use Rattle.rounds.proofs.playing.mark_movers.Reads as mark-movers-reads
 
 -- src/playing.rt:151:5
 mark-movers-requires : tie.Need-mark-movers-requires
-mark-movers-requires c κs = (c .before .before .before .pre .0, c .before .before .before .pre .1, length-replicate {A = ℕ} 32 0)
+mark-movers-requires c κs = (c .before .before .before .pre .0, c .before .before .before .pre .1, length-replicate {A = ℕ} (limits .drones) 0)
 
 -- src/playing.rt:154:5
 advance-requires : tie.Need-advance-requires
@@ -19,7 +20,7 @@ advance-requires c κs = (c .before .before .before .before .before .before .pre
 
 -- src/playing.rt:134:1
 returns : tie.Need-returns
-returns c = round-end _ _ _ _ _ _ _ _ (c .before .before .before .before .before .before .before .pre .0) (c .before .before .before .before .before .before .before .args .places .now) (c .before .before .before .mark-movers .last .1 .1 .1 .1 .1 .1 .1 .1 .1 .1 .1 .0) (c .before .before .before .mark-movers .ensures) 32 _ (c .before .before .before .before .before .before .before .pre .0 .few-drones) (c .before .before .before .before .before .before .before .pre .2) (c .advance .ensures)
+returns c = round-end _ _ _ _ _ _ _ _ (c .before .before .before .before .before .before .before .pre .0) (c .before .before .before .before .before .before .before .args .places .now) (c .before .before .before .mark-movers .last .1 .1 .1 .1 .1 .1 .1 .1 .1 .1 .1 .0) (c .before .before .before .mark-movers .ensures) (limits .drones) _ (c .before .before .before .before .before .before .before .pre .0 .few-drones) (c .before .before .before .before .before .before .before .pre .2) (c .advance .ensures)
 
 pub play-round-spec : {M : Type 1} → statement M
 play-round-spec = tie.close (tie.spec mark-movers-requires advance-requires returns)

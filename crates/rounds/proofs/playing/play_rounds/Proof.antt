@@ -5,6 +5,7 @@ use lib.ListN.{length-replicate}
 use Rattle.below.specs.Below.{at}
 use Rattle.below.proofs.Fill.{fill-length, fill-at}
 use Rattle.below.proofs.Index.{zeros-at}
+use Rattle.tables.specs.Limits.{limits}
 use Rattle.precedence.specs.Graph.{unvisited}
 use Rattle.cycles.specs.Flat.{flatPlan}
 use Rattle.rounds.proofs.PlayingLoop.{Playing, playing-start, playing-end, playing-early, playing-small, playing-round, playing-less}
@@ -19,14 +20,14 @@ use Rattle.rounds.proofs.playing.play_round.Reads as play-round-reads
 use Rattle.rounds.proofs.playing.unfinished.Reads as unfinished-reads
 
 abbrev Inv-loop : tie.InvT-loop
-Inv-loop owners starts lasts drones n from into m visited head next places₀ k₀ cost₀ places k cost = Playing (flatPlan (at owners) (at starts) (at lasts) drones (at from) (at into) m) (at visited) 32 places k cost
+Inv-loop owners starts lasts drones n from into m visited head next places₀ k₀ cost₀ places k cost = Playing (flatPlan (at owners) (at starts) (at lasts) drones (at from) (at into) m) (at visited) (limits .drones) places k cost
 
 abbrev μ-loop : tie.MeasureT-loop
 μ-loop owners starts lasts drones n from into m visited head next places₀ k₀ cost₀ places k cost = unvisited (flatPlan (at owners) (at starts) (at lasts) drones (at from) (at into) m) (at places)
 
 -- src/playing.rt:202:5
 link-requires : tie.Need-link-requires Inv-loop μ-loop
-link-requires c κs = ((c .before .before .before .before .pre .tables .few-waits, λ k l. omega (arith, c .before .before .before .before .pre .tables .placed .into-in k l, c .before .before .before .before .pre .tables .few-stops)), (length-replicate {A = ℕ} 1024 0, length-replicate {A = ℕ} 2048 0, zeros-at 1024))
+link-requires c κs = ((c .before .before .before .before .pre .tables .few-waits, λ k l. omega (arith, c .before .before .before .before .pre .tables .placed .into-in k l, c .before .before .before .before .pre .tables .few-stops)), (length-replicate {A = ℕ} (limits .stops) 0, length-replicate {A = ℕ} (limits .dependencies) 0, zeros-at (limits .stops)))
 
 -- src/playing.rt:204:5
 copy-places-requires : tie.Need-copy-places-requires Inv-loop μ-loop
@@ -34,7 +35,7 @@ copy-places-requires c κs = (c .before .before .before .before .before .before 
 
 -- src/playing.rt:207:9
 loop-holds : tie.Need-loop-holds Inv-loop μ-loop
-loop-holds c = playing-start _ (ready-formed _ _ _ _ _ _ _ _ _ (c .before .before .before .before .before .before .before .pre)) (ready-acyclic _ _ _ _ _ _ _ _ _ (c .before .before .before .before .before .before .before .pre)) _ 32 _ (fill-length _ _ _ _ (c .copy-places .ensures) ∙ refl) (fill-at _ _ _ _ (c .copy-places .ensures) (c .before .before .before .before .before .before .before .pre .tables .few-drones))
+loop-holds c = playing-start _ (ready-formed _ _ _ _ _ _ _ _ _ (c .before .before .before .before .before .before .before .pre)) (ready-acyclic _ _ _ _ _ _ _ _ _ (c .before .before .before .before .before .before .before .pre)) _ (limits .drones) _ (fill-length _ _ _ _ (c .copy-places .ensures) ∙ refl) (fill-at _ _ _ _ (c .copy-places .ensures) (c .before .before .before .before .before .before .before .pre .tables .few-drones))
 
 -- src/playing.rt:208:13
 unfinished-requires : tie.Need-unfinished-requires Inv-loop μ-loop
@@ -42,7 +43,7 @@ unfinished-requires c κs = c .before .before .before .before .before .before .b
 
 -- src/playing.rt:212:9
 add-cost : tie.Need-add-cost Inv-loop μ-loop
-add-cost c = omega (arith, playing-small _ (ready-formed _ _ _ _ _ _ _ _ _ (c .before .before .before .before .before .before .before .before .before .before .before .pre)) (ready-acyclic _ _ _ _ _ _ _ _ _ (c .before .before .before .before .before .before .before .before .before .before .before .pre)) _ (c .before .before .before .loop .inv) (c .before .unfinished .ensures .0) (c .if1 .left), ready-cost _ _ _ _ _ _ _ _ _ (c .before .before .before .before .before .before .before .before .before .before .before .pre))
+add-cost c = omega (arith, playing-small _ (ready-formed _ _ _ _ _ _ _ _ _ (c .before .before .before .before .before .before .before .before .before .before .before .pre)) (ready-acyclic _ _ _ _ _ _ _ _ _ (c .before .before .before .before .before .before .before .before .before .before .before .pre)) _ (c .before .before .before .loop .inv) (c .before .unfinished .ensures .0) (c .if1 .left), ready-cost _ _ _ _ _ _ _ _ _ (c .before .before .before .before .before .before .before .before .before .before .before .pre) (omega arith))
 
 -- src/playing.rt:213:9
 play-round-requires : tie.Need-play-round-requires Inv-loop μ-loop

@@ -2,7 +2,7 @@ use mathlib.Core.Path.{refl}
 use native.Mathlib.Omega.{arith}
 use borrow.Author.Tests.{not-true, not-false}
 use Rattle.below.proofs.Tests.{true-or-false}
-use Rattle.sound.proofs.Local.{first-zero, code-stops, code-records, known, first-limit, second-limit, first-number, second-number, code-given, code-graph, code-laid}
+use Rattle.sound.proofs.Local.{code-stops, code-records, known, first-limit, second-limit, first-number, second-number, code-given, code-graph, code-laid}
 use borrow.Author.Needs.{needs}
 use Rattle.sound.proofs.graph.graph_sound.Statement.{statement}
 use Rattle.sound.proofs.graph.graph_sound.Tie as tie
@@ -28,7 +28,7 @@ slice-aggregate-stops-sound c = search needs
 
 -- src/graph.rt:83:9
 stops-sound-requires : tie.Need-stops-sound-requires
-stops-sound-requires c κs = (omega (arith, c .before .before .fill-tables .ensures .numbers-size, c .before .before .before .before .before .before .before .before .before .before .before .before .before .before .before .pre .0 .few-stops), c .before .before .before .before .before .before .before .before .before .before .before .before .before .before .before .pre .1, c .before .before .before .before .before .before .before .before .before .before .before .before .before .before .before .pre .2, first-zero _ _ _ _ (c .before .before .before .before .before .before .before .before .before .before .before .before .before .before .before .args .locations .now) (c .before .before .before .before .before .before .before .before .before .before .before .before .before .before .before .args .times .now) (c .before .before .before .before .before .before .before .before .before .before .before .before .before .before .before .args .first-drones .now) (c .before .before .before .before .before .before .before .before .before .before .before .before .before .before .before .args .first-stops .now) (c .before .before .before .before .before .before .before .before .before .before .before .before .before .before .before .args .second-drones .now) (c .before .before .before .before .before .before .before .before .before .before .before .before .before .before .before .args .second-stops .now) (c .before .before .before .before .before .before .before .before .before .before .before .before .before .before .before .args .flags .now) (c .before .before .before .before .before .before .before .before .before .before .before .before .before .before .before .pre .0) _ _ _ _ (c .before .before .fill-tables .ensures))
+stops-sound-requires c κs = (omega (arith, c .before .before .fill-tables .ensures .numbers-size, c .before .before .before .before .before .before .before .before .before .before .before .before .before .before .before .pre .0 .few-stops), c .before .before .before .before .before .before .before .before .before .before .before .before .before .before .before .pre .1, c .before .before .before .before .before .before .before .before .before .before .before .before .before .before .before .pre .2)
 
 -- src/graph.rt:84:9
 returns : tie.Need-returns

@@ -14,7 +14,7 @@ use Rattle.sound.proofs.names.fill_keys.Lts as lts
 use Rattle.sound.proofs.names.name_key.Reads as name-key-reads
 
 abbrev Inv-loop : tie.InvT-loop
-Inv-loop names drones keys₀ d₀ keys d = (d ≤ drones) × (length keys ≡ limits .drones) × Keyed names keys d
+Inv-loop names drones keys₀ d₀ keys d = (d ≤ drones) × (length keys ≡ limits .drones) × Keyed limits names keys d
 
 abbrev μ-loop : tie.MeasureT-loop
 μ-loop names drones keys₀ d₀ keys d = drones - d

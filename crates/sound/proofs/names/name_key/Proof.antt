@@ -9,7 +9,7 @@ use Rattle.sound.proofs.names.name_key.Statement.{statement}
 use Rattle.sound.proofs.names.name_key.Tie as tie
 use Rattle.sound.proofs.names.name_key.Reads as reads
 use Rattle.sound.proofs.names.name_key.Lts as lts
-use Rattle.sound.proofs.names.wide.Reads as wide-reads
+use Rattle.sound.proofs.names.byte_value.Reads as byte-value-reads
 
 abbrev Inv-loop : tie.InvT-loop
 Inv-loop names d row key₀ i₀ key i = (row ≡ d * limits .name) × (i ≤ limits .name) × (key ≤ i * 255) × (key ≡ sumBelow i (λ i. at names (row + i)))
@@ -26,20 +26,20 @@ loop-holds : tie.Need-loop-holds Inv-loop μ-loop
 loop-holds c = (refl, omega arith, omega arith, sym (sum-start _))
 
 -- src/names.rt:92:27
-add-wide : tie.Need-add-wide Inv-loop μ-loop
-add-wide c = search needs
+add-byte-value : tie.Need-add-byte-value Inv-loop μ-loop
+add-byte-value c = search needs
 
 -- src/names.rt:92:21
-shared-slice-read-wide : tie.Need-shared-slice-read-wide Inv-loop μ-loop
-shared-slice-read-wide c = search needs
+shared-slice-read-byte-value : tie.Need-shared-slice-read-byte-value Inv-loop μ-loop
+shared-slice-read-byte-value c = search needs
 
 -- src/names.rt:92:16
-wide-requires : tie.Need-wide-requires Inv-loop μ-loop
-wide-requires c κs = search needs
+byte-value-requires : tie.Need-byte-value-requires Inv-loop μ-loop
+byte-value-requires c κs = search needs
 
 -- src/names.rt:92:9
 add-key : tie.Need-add-key Inv-loop μ-loop
-add-key c = omega (arith, c .before .before .before .loop .inv .2, c .wide .ensures .1)
+add-key c = omega (arith, c .before .before .before .loop .inv .2, c .byte-value .ensures .1)
 
 -- src/names.rt:93:9
 add-i : tie.Need-add-i Inv-loop μ-loop
@@ -51,7 +51,7 @@ loop-less c = search needs
 
 -- src/names.rt:91:5
 loop-again : tie.Need-loop-again Inv-loop μ-loop
-loop-again c = (c .before .before .before .loop .inv .0, omega arith, omega (arith, c .before .before .before .loop .inv .2, c .wide .ensures .1), sum-more _ _ _ _ (c .before .before .before .loop .inv .3) (c .wide .ensures .0))
+loop-again c = (c .before .before .before .loop .inv .0, omega arith, omega (arith, c .before .before .before .loop .inv .2, c .byte-value .ensures .1), sum-more _ _ _ _ (c .before .before .before .loop .inv .3) (c .byte-value .ensures .0))
 
 -- src/names.rt:84:1
 returns : tie.Need-returns Inv-loop μ-loop
@@ -65,9 +65,9 @@ name-key-spec =
     μ-loop
     mul-row
     loop-holds
-    add-wide
-    shared-slice-read-wide
-    wide-requires
+    add-byte-value
+    shared-slice-read-byte-value
+    byte-value-requires
     add-key
     add-i
     loop-less

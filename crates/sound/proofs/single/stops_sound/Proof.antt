@@ -4,10 +4,13 @@ use mathlib.Core.Path.{_≡_, sym, _∙_}
 use mathlib.Core.Bool.{true}
 use native.Mathlib.Omega.{arith}
 use borrow.Author.Tests.{not-true, not-false}
-use Rattle.below.specs.Below.{at, allBelow}
+use mathlib.Core.List.{[]}
+use Rattle.below.specs.Below.{allBelow}
 use Rattle.below.proofs.Every.{all-none, all-more, all-miss, all-end}
 use Rattle.tables.specs.Limits.{limits}
+use Rattle.plan.specs.Visits.{visitsOf}
 use Rattle.sound.specs.Parts.{stopSound}
+use Rattle.sound.proofs.Asking.{stops-any}
 use Rattle.sound.proofs.single.stops_sound.Statement.{statement}
 use Rattle.sound.proofs.single.stops_sound.Tie as tie
 use Rattle.sound.proofs.single.stops_sound.Reads as reads
@@ -15,7 +18,7 @@ use Rattle.sound.proofs.single.stops_sound.Lts as lts
 use Rattle.sound.proofs.single.stop_sound.Reads as stop-sound-reads
 
 abbrev Inv-loop : tie.InvT-loop
-Inv-loop numbers locations times n v₀ v = (v ≤ n) × (allBelow v (stopSound limits (at numbers) (at locations) (at times)) ≡ true)
+Inv-loop numbers locations times n v₀ v = (v ≤ n) × (allBelow v (stopSound limits (visitsOf [] numbers locations times n)) ≡ true)
 
 abbrev μ-loop : tie.MeasureT-loop
 μ-loop numbers locations times n v₀ v = n - v
@@ -30,7 +33,7 @@ stop-sound-requires c κs = search needs
 
 -- src/single.rt:38:13
 returns : tie.Need-returns Inv-loop μ-loop
-returns c = all-miss _ _ _ (omega arith) (sym (c .before .stop-sound .ensures) ∙ not-true _ (c .if1 .taken))
+returns c = λ owners. all-miss _ _ _ (omega arith) (sym (c .before .stop-sound .ensures [] _) ∙ not-true _ (c .if1 .taken)) ∙ stops-any _ _ _ _
 
 -- src/single.rt:40:9
 add-v : tie.Need-add-v Inv-loop μ-loop
@@ -42,11 +45,11 @@ loop-less c = search needs
 
 -- src/single.rt:36:5
 loop-again : tie.Need-loop-again Inv-loop μ-loop
-loop-again c = (omega arith, all-more _ _ (c .before .before .before .loop .inv .1) (sym (c .before .stop-sound .ensures) ∙ not-false _ (c .if1 .left)))
+loop-again c = (omega arith, all-more _ _ (c .before .before .before .loop .inv .1) (sym (c .before .stop-sound .ensures [] _) ∙ not-false _ (c .if1 .left)))
 
 -- src/single.rt:31:1
 returns-2 : tie.Need-returns-2 Inv-loop μ-loop
-returns-2 c = all-end _ _ _ (omega arith) (omega arith) (c .before .loop .inv .1)
+returns-2 c = λ owners. all-end _ _ _ (omega arith) (omega arith) (c .before .loop .inv .1) ∙ stops-any _ _ _ _
 
 pub stops-sound-spec : {M : Type 1} → statement M
 stops-sound-spec =

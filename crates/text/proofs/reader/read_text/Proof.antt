@@ -1,13 +1,12 @@
--- Filled when the lines are well-formed; filled and zeroed when refused.
+-- What the lines stored, with the number of drones of a text that is well-formed.
 use native.Mathlib.Omega.{arith}
 use mathlib.Core.Path.{sym, _∙_}
 use Rattle.tables.specs.Limits.{limits}
-use Rattle.text.proofs.TextCases.{text-in, text-out, taken-range}
+use Rattle.text.proofs.TextCases.{text-read, taken-range}
 use borrow.Author.Needs.{needs}
 use Rattle.text.proofs.reader.read_text.Statement.{statement}
 use Rattle.text.proofs.reader.read_text.Tie as tie
 use Rattle.text.proofs.reader.read_lines.Reads as read-lines-reads
-use Rattle.text.proofs.reader.zero_all.Reads as zero-all-reads
 
 read-lines-requires : tie.Need-read-lines-requires
 read-lines-requires c κs = search needs
@@ -23,9 +22,6 @@ slice-write-count c = search needs
 
 enum-known-answer-2 : tie.Need-enum-known-answer-2
 enum-known-answer-2 c = search needs
-
-zero-all-requires : tie.Need-zero-all-requires
-zero-all-requires c κs = search needs
 
 same-length : tie.Need-same-length
 same-length c = search needs
@@ -43,7 +39,7 @@ same-length-5 : tie.Need-same-length-5
 same-length-5 c = search needs
 
 returns : tie.Need-returns
-returns c = text-in limits _ (c .before .before .before .before .before .before .before .before .before .before .before .read-lines .ensures) _ _ (c .before .answer .given .1)
+returns c = text-read limits _ (c .before .before .before .before .before .before .before .before .before .before .before .read-lines .ensures) _ _ (c .before .answer .given .1)
 
 same-length-6 : tie.Need-same-length-6
 same-length-6 c = search needs
@@ -57,11 +53,8 @@ same-length-8 c = search needs
 same-length-9 : tie.Need-same-length-9
 same-length-9 c = search needs
 
-same-length-10 : tie.Need-same-length-10
-same-length-10 c = search needs
-
 returns-2 : tie.Need-returns-2
-returns-2 c = text-out limits _ (c .before .before .before .before .before .before .before .before .before .before .before .before .before .before .before .before .before .before .before .before .before .before .before .before .before .before .before .read-lines .ensures) (c .before .before .before .before .before .before .before .before .before .before .zero-all .ensures) _ (c .before .before .before .before .before .before .before .before .before .before .before .before .before .before .before .before .before .answer2 .given .1)
+returns-2 c = text-read limits _ (c .before .before .before .before .before .before .before .before .before .before .before .read-lines .ensures) _ _ (c .before .answer2 .given .1)
 
 pub read-text-spec : {M : Type 1} → statement M
 read-text-spec =
@@ -72,7 +65,6 @@ read-text-spec =
     cast-count
     slice-write-count
     enum-known-answer-2
-    zero-all-requires
     same-length
     same-length-2
     same-length-3
@@ -83,5 +75,4 @@ read-text-spec =
     same-length-7
     same-length-8
     same-length-9
-    same-length-10
     returns-2)

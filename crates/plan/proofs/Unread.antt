@@ -1,0 +1,49 @@
+-- What a test does not read of the visits may be anything: faults do not read the drones, collisions and dependencies not the stops' numbers. Assumes nothing.
+use mathlib.Core.Path.{_≡_, refl}
+use Prim.Native.Nat.{ℕ}
+use Rattle.below.specs.Below.{countBelow}
+use Rattle.plan.specs.Visits.{Visits}
+use Rattle.plan.specs.Check.{faultAt, firstFault, collide, partner, collider}
+use Rattle.plan.specs.Dependencies.{follows, dependencyTotal}
+
+module _ (S : Visits) where
+  open Visits S using (own, num, loc, time, meets, n)
+
+  -- the visits by other drones, and with other numbers
+  abbrev pub by : (ℕ → ℕ) → ℕ → Visits
+  by own′ n′ = record { own = own′; num = num; loc = loc; time = time; meets = meets; n = n′ }
+
+  abbrev pub numbered : (ℕ → ℕ) → ℕ → Visits
+  numbered num′ n′ = record { own = own; num = num′; loc = loc; time = time; meets = meets; n = n′ }
+
+  pub fault-any : (own′ : ℕ → ℕ) (n′ v : ℕ) → faultAt (by own′ n′) v ≡ faultAt S v
+  unfolding faultAt
+  fault-any own′ n′ v = refl
+
+  pub first-fault-any : (own′ : ℕ → ℕ) → firstFault (by own′ n) ≡ firstFault S
+  unfolding firstFault faultAt
+  first-fault-any own′ = refl
+
+  pub collide-any : (num′ : ℕ → ℕ) (v w : ℕ) → collide (numbered num′ n) v w ≡ collide S v w
+  unfolding collide
+  collide-any num′ v w = refl
+
+  pub partner-any : (num′ : ℕ → ℕ) (v : ℕ) → partner (numbered num′ n) v ≡ partner S v
+  unfolding collide
+  partner-any num′ v = refl
+
+  pub collider-any : (num′ : ℕ → ℕ) → collider (numbered num′ n) ≡ collider S
+  unfolding collider collide
+  collider-any num′ = refl
+
+  pub follows-any : (num′ : ℕ → ℕ) (n′ v w : ℕ) → follows (numbered num′ n′) v w ≡ follows S v w
+  unfolding follows
+  follows-any num′ n′ v w = refl
+
+  pub row-any : (num′ : ℕ → ℕ) (n′ m v : ℕ) → countBelow m (follows (numbered num′ n′) v) ≡ countBelow m (follows S v)
+  unfolding follows
+  row-any num′ n′ m v = refl
+
+  pub total-any : (num′ : ℕ → ℕ) → dependencyTotal (numbered num′ n) ≡ dependencyTotal S
+  unfolding follows
+  total-any num′ = refl
