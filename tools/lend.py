@@ -15,6 +15,7 @@ and, where there is none, a first crates/CRATE/proofs/MODULE/FN/Proof.antt.
 """
 import os, re, shutil, subprocess, sys
 from concurrent.futures import ThreadPoolExecutor
+from functools import lru_cache
 
 CARRIERS = {"records": "lent", "conductor": "calls", "dispatch": "requests", "board": "exports", "handset": "button", "presses": "runs"}  # the crates with functions over the lent slice, and the module of each
 
@@ -229,11 +230,23 @@ def carry(text, where):
 
 # ---- closed terms that come again are named once
 
+BRACKET = re.compile(r"[()]")
+
+@lru_cache(maxsize=None)
 def closed(term):
     return not re.search(r"[λ{}]", term) and all(re.fullmatch(r"[(),]|\d+|tt|[A-Z][\w'·]*\.\S+", w) for w in re.findall(r"[(),]|[^\s(),]+", term))
 
+@lru_cache(maxsize=None)
 def tidy(term):
     return re.sub(r"\s+", " ", term).replace("( ", "(").replace(" )", ")").replace(", )", ")").replace(",)", ")")
+
+def group(text, at):  # the end of the round brackets that open at `at`
+    depth = 0
+    for m in BRACKET.finditer(text, at):
+        depth += 1 if m.group() == "(" else -1
+        if depth == 0:
+            return m.end()
+    return len(text)
 
 def named(text):
     al = aliases(text)
@@ -247,12 +260,7 @@ def named(text):
         while True:
             seen = {}
             for m in re.finditer(r"\((?=\s*(?:" + heads + r")\b)", body):
-                depth = 0
-                for i in range(m.start(), len(body)):
-                    depth += {"(": 1, ")": -1}.get(body[i], 0)
-                    if depth == 0:
-                        break
-                raw = body[m.start():i + 1]
+                raw = body[m.start():group(body, m.start())]
                 term = tidy(raw)
                 if len(term) > 40 and closed(term):
                     seen.setdefault(term, [0, set()])
@@ -281,14 +289,10 @@ def named(text):
         for e in re.finditer(r"\(\s*(\d+),", t):
             if e.start() < i:
                 continue
-            depth = 0
-            for j in range(e.start(), len(t)):
-                depth += {"(": 1, ")": -1}.get(t[j], 0)
-                if depth == 0:
-                    break
-            inner = re.match(r"(?s)\(\s*(\d+),(.*)\)$", t[e.start():j + 1])
+            end = group(t, e.start())
+            inner = re.match(r"(?s)\(\s*(\d+),(.*)\)$", t[e.start():end])
             out += t[i:e.start()] + entry(inner)
-            i = j + 1
+            i = end
         return re.sub(r"\s+", " ", out + t[i:]).replace("List._∷_ (", "List._∷_ (")
     body = re.sub(r"(?ms)^t\d+ = .*?(?=\n\n)", table, body)
     rowdefs = "".join(f"abbrev {x} : {Row}.Row\n{x} = {r}\n\n" for r, x in rows.items())
