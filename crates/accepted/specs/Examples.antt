@@ -1,5 +1,5 @@
 -- Flights of document 01 as texts, read into tables of full size that held something else before: the readings that the claims speak of do happen. Assumes nothing.
-use mathlib.Core.Bool.{Bool, true, _&&_}
+use mathlib.Core.Bool.{Bool}
 use mathlib.Core.List.{List, [], _∷_}
 use Prim.Native.Nat.{ℕ}
 use Prim.Native.String.{String}
@@ -23,35 +23,31 @@ oneDependency = record {
 }
 
 -- "Input Q"
-abbrev pub flightQ : String
-flightQ = "plan=1\nagents=2\nname=survey-quad-east-1\nstops=4\ngo=1@0\ngo=6@1\ngo=5@2\ngo=2@3\nname=survey-quad-east-2\nstops=3\ngo=3@0\ngo=5@4\ngo=4@5\nend=plan\n"
+abbrev pub textQ : String
+textQ = "plan=1\nagents=2\nname=survey-quad-east-1\nstops=4\ngo=1@0\ngo=6@1\ngo=5@2\ngo=2@3\nname=survey-quad-east-2\nstops=3\ngo=3@0\ngo=5@4\ngo=4@5\nend=plan\n"
 
 -- flight P
-abbrev pub flightP : String
-flightP = "plan=1\nagents=2\nname=a\nstops=4\ngo=10@0\ngo=20@1\ngo=30@2\ngo=40@3\nname=b\nstops=4\ngo=11@0\ngo=20@3\ngo=30@4\ngo=41@5\nend=plan\n"
+abbrev pub textP : String
+textP = "plan=1\nagents=2\nname=a\nstops=4\ngo=10@0\ngo=20@1\ngo=30@2\ngo=40@3\nname=b\nstops=4\ngo=11@0\ngo=20@3\ngo=30@4\ngo=41@5\nend=plan\n"
 
 -- a text that is read within some limits, and the number of the reply (0 where it is accepted)
-pub record Example : Type 0 where
+pub record ReadingExample : Type 0 where
   pub within : Limits
   pub text : String
   pub number : ℕ
 
-abbrev pub holds : Example → Bool
-holds e = eqb (readingNumber (readPlan (e .within) (bytes (e .text)) (filled 7 (e .within)) .reply)) (e .number)
+abbrev pub readingAsGiven : ReadingExample → Bool
+readingAsGiven e = eqb (readingNumber (readPlan (e .within) (bytes (e .text)) (filled 7 (e .within)) .reply)) (e .number)
 
-abbrev pub allHold : List Example → Bool
-allHold [] = true
-allHold (e ∷ es) = holds e && allHold es
-
-abbrev pub examples : List Example
-examples =
+abbrev pub readingExamples : List ReadingExample
+readingExamples =
     -- "At 4: taken."
-    record { within = limits; text = flightQ; number = 0 }
+    record { within = limits; text = textQ; number = 0 }
     -- "Q with the second drone's 5 at time 3: 10, since the first leaves in timestep 3."
     ∷ record { within = limits; text = "plan=1\nagents=2\nname=survey-quad-east-1\nstops=4\ngo=1@0\ngo=6@1\ngo=5@2\ngo=2@3\nname=survey-quad-east-2\nstops=3\ngo=3@0\ngo=5@3\ngo=4@5\nend=plan\n"; number = 10 }
     -- "P: .. two dependencies"
-    ∷ record { within = limits; text = flightP; number = 0 }
-    ∷ record { within = oneDependency; text = flightP; number = 11 }
+    ∷ record { within = limits; text = textP; number = 0 }
+    ∷ record { within = oneDependency; text = textP; number = 11 }
     -- the drones collide at 40, where the first stays, and have three dependencies: "plan check, after all stops" comes before "building"
     ∷ record { within = oneDependency; text = "plan=1\nagents=2\nname=a\nstops=4\ngo=10@0\ngo=20@1\ngo=30@2\ngo=40@3\nname=b\nstops=4\ngo=11@0\ngo=20@3\ngo=30@4\ngo=40@5\nend=plan\n"; number = 10 }
     -- a drone with more stops than the limit for all: "at one line in this order .. 4 .. 6"

@@ -15,7 +15,7 @@ ghost use Rattle.log.specs.Preview.{preview, previewAll};
 ghost use Rattle.reading.specs.Reading.{readPlan};
 ghost use Rattle.records.specs.Records.{tablesOfRecords};
 ghost use Rattle.handset.specs.Press.{pressStep};
-ghost use Rattle.board.specs.Told.{CallTold, PlanTold, ReadTold, PressTold, reportOf, Says, SaysOfChange, changeAnswer, costAnswer, roundsAnswer};
+ghost use Rattle.board.specs.Told.{CallTold, PlanTold, ReadTold, PressTold, reportTold, Says, SaysOfChange, changeAnswerOf, costAnswerOf, roundsAnswerOf};
 
 // "Grant: the drone becomes under way when every dependency into its next stop has the awaited stop visited".
 #[no_mangle]
@@ -181,7 +181,7 @@ pub extern "C" fn board_preview(
     dependencies: &[Dependency],
     dependency: usize,
 ) -> ChangeAnswer
-    ensures { λ r. ⌜ SaysOfChange r (changeAnswer (preview limits (tablesOfRecords limits
+    ensures { λ r. ⌜ SaysOfChange r (changeAnswerOf (preview limits (tablesOfRecords limits
         (now («drone_count» .entry)) (now («dependency_count» .entry)) (now (names .entry)) (now («stop_counts» .entry))
         (now (locations .entry)) (now (times .entry)) (now (visited .entry)) (now («drone_flags» .entry))
         (now (dependencies .entry))) dependency)) ⌝ }
@@ -215,7 +215,7 @@ pub extern "C" fn board_preview_all(
     dependencies: &[Dependency],
     list: &[u16],
 ) -> ChangeAnswer
-    ensures { λ r. ⌜ SaysOfChange r (changeAnswer (previewAll limits (tablesOfRecords limits
+    ensures { λ r. ⌜ SaysOfChange r (changeAnswerOf (previewAll limits (tablesOfRecords limits
         (now («drone_count» .entry)) (now («dependency_count» .entry)) (now (names .entry)) (now («stop_counts» .entry))
         (now (locations .entry)) (now (times .entry)) (now (visited .entry)) (now («drone_flags» .entry))
         (now (dependencies .entry))) (now (list .entry)))) ⌝ }
@@ -248,7 +248,7 @@ pub extern "C" fn board_cost(
     drone_flags: &[u8],
     dependencies: &[Dependency],
 ) -> CallAnswer
-    ensures { λ r. ⌜ Says r (costAnswer (costReply limits (tablesOfRecords limits
+    ensures { λ r. ⌜ Says r (costAnswerOf (costReply limits (tablesOfRecords limits
         (now («drone_count» .entry)) (now («dependency_count» .entry)) (now (names .entry)) (now («stop_counts» .entry))
         (now (locations .entry)) (now (times .entry)) (now (visited .entry)) (now («drone_flags» .entry))
         (now (dependencies .entry))))) ⌝ }
@@ -280,7 +280,7 @@ pub extern "C" fn board_rounds(
     drone_flags: &[u8],
     dependencies: &[Dependency],
 ) -> CallAnswer
-    ensures { λ r. ⌜ Says r (roundsAnswer (roundsReply limits (tablesOfRecords limits
+    ensures { λ r. ⌜ Says r (roundsAnswerOf (roundsReply limits (tablesOfRecords limits
         (now («drone_count» .entry)) (now («dependency_count» .entry)) (now (names .entry)) (now («stop_counts» .entry))
         (now (locations .entry)) (now (times .entry)) (now (visited .entry)) (now («drone_flags» .entry))
         (now (dependencies .entry))))) ⌝ }
@@ -317,7 +317,7 @@ pub extern "C" fn board_press(
     ensures { λ r. ⌜ PressTold (pressStep limits (tablesOfRecords limits
         (now («drone_count» .entry)) (now («dependency_count» .entry)) (now (names .entry)) (now («stop_counts» .entry))
         (now (locations .entry)) (now (times .entry)) (now (visited .entry)) (now («drone_flags» .entry))
-        (now (dependencies .entry))) (reportOf reported drone)) r (tablesOfRecords limits
+        (now (dependencies .entry))) (reportTold reported drone)) r (tablesOfRecords limits
         (now («drone_count» .entry)) (now («dependency_count» .entry)) (now (names .entry)) (now («stop_counts» .entry))
         (now (locations .entry)) (now (times .entry)) (now (visited .exit)) (now («drone_flags» .exit))
         (now (dependencies .entry))) ⌝ }

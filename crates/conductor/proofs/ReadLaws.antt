@@ -24,7 +24,7 @@ use Rattle.plan.specs.declared.check.PlanCheck.the-variants as check
 use Rattle.plan.specs.Answers.{checkOf}
 use Rattle.plan.specs.Claims.{visitsIn}
 use Rattle.reading.specs.Replies.{ReadingReply, taken, refusedBy, readingNumber, lineMeant, checkMeant}
-use Rattle.reading.specs.Reading.{ReadingAnswer, AnsweredAs, withReply, total, withText, withDependencies, checked, fromLines, readLines, readPlan}
+use Rattle.reading.specs.Reading.{ReadingAnswer, AnsweredAs, withReply, plannedTotal, withText, withDependencies, checked, fromLines, readLines, readPlan}
 use Rattle.reading.proofs.EntryCases.{tables-small}
 use Rattle.records.specs.Records.{ColumnSizes, ColumnsOf, gathered, storeIf, zeroRecords, seen, tablesOfRecords}
 use Rattle.records.proofs.ColumnLaws.{zero-length, column-sizes}
@@ -49,7 +49,7 @@ module _ (L : Limits) where
   built-not-41 z t false = refl
 
   check-not-41 : (z t : Tables) (k : PlanCheck) → is-41 (checked L z t (checkMeant k)) ≡ false
-  check-not-41 z t check.Fine = built-not-41 z t (leb (total (t .plan)) (L .dependencies))
+  check-not-41 z t check.Fine = built-not-41 z t (leb (plannedTotal (t .plan)) (L .dependencies))
   check-not-41 z t (check.StartsLate s) = refl
   check-not-41 z t (check.NotRising s) = refl
   check-not-41 z t (check.SameLocation s) = refl

@@ -11,7 +11,7 @@ use Rattle.below.specs.Below.{at, pick, lastBelow}
 use Rattle.below.proofs.Tests.{by-cases}
 use Rattle.tables.specs.Limits.{Limits}
 use Rattle.cycles.specs.Flat.{PlacedWaits}
-use Rattle.cycles.specs.Links.{Linked}
+use Rattle.cycles.specs.Links.{LinkedWaits}
 use Rattle.cycles.specs.Walk.{Course, left, metAt, metFrom, canMove, Walking, Meeting, Advanced, Wakes, Met}
 use Rattle.below.proofs.Links.{last-le, last-found, last-above}
 use Rattle.cycles.proofs.MetLaws.{met-end, met-skip, met-before, met-now, met-others, needs-some}
@@ -98,12 +98,12 @@ module _ {L : Limits} (C : Course) (placed : PlacedWaits (C .own) (C .off) (C .l
               let ne : at need w ≢ 1 = eqb-false _ _ a in
               rw (met .quiet q .0, met .quiet q .1) (quietly (λ h z. ne (omega (arith, waiter-needs))))))
 
-          pub meeting-more : (head next : List ℕ) → Linked L from waits head next → (link′ : ℕ) → link′ ≡ at next (link - 1) → Meeting L C leg g b start cur v link′ need′ stack′ r t′
+          pub meeting-more : (head next : List ℕ) → LinkedWaits L from waits head next → (link′ : ℕ) → link′ ≡ at next (link - 1) → Meeting L C leg g b start cur v link′ need′ stack′ r t′
           unfolding k
           meeting-more head next K link′ el = meeting-at k link′ (omega (arith, k-in)) (el ∙ K .nexts k k-in ∙ ap (λ (x : ℕ). lastBelow k (λ j. eqb (from j) x)) k-for) (M .stop-in) (M .seen) after
 
   -- the links fall
-  pub meeting-falls : {leg : ℕ → ℕ} {g b : ℕ} {start cur : List ℕ} {v link : ℕ} {need stack : List ℕ} {top : ℕ} {t : List ℕ} → Meeting L C leg g b start cur v link need stack top t → 0 < link → (head next : List ℕ) → Linked L from waits head next → at next (link - 1) < link
+  pub meeting-falls : {leg : ℕ → ℕ} {g b : ℕ} {start cur : List ℕ} {v link : ℕ} {need stack : List ℕ} {top : ℕ} {t : List ℕ} → Meeting L C leg g b start cur v link need stack top t → 0 < link → (head next : List ℕ) → LinkedWaits L from waits head next → at next (link - 1) < link
   meeting-falls {link = link} M h head next K = omega (arith, K .nexts (link - 1) (omega (arith, M .within)), last-le (link - 1) (λ j. eqb (from j) (from (link - 1))))
 
   -- ---- a drone advances
@@ -132,5 +132,5 @@ module _ {L : Limits} (C : Course) (placed : PlacedWaits (C .own) (C .off) (C .l
       moved = rw (A .cur-is, A .table-is) (walking-move C placed legs few few-drones W room d v (leg v + max (at t v) (at t (v - 1))) ed (A .at-next) refl r (rw (A .cur-is) at er))
 
       -- the first of the waits for its stop
-      pub advance-meeting : (head next : List ℕ) → Linked L from waits head next → (link : ℕ) → link ≡ at head v → Meeting L C leg g b start cur′ v link need stack r t′
+      pub advance-meeting : (head next : List ℕ) → LinkedWaits L from waits head next → (link : ℕ) → link ≡ at head v → Meeting L C leg g b start cur′ v link need stack r t′
       advance-meeting head next K link el = meeting-at waits link (omega arith) (el ∙ K .heads v (omega (arith, advance-stop))) advance-stop advance-seen moved

@@ -12,7 +12,7 @@ use Rattle.tables.specs.Flags.{turnedBit}
 use Rattle.precedence.specs.Graph.{cyclic}
 use Rattle.plan.specs.Visits.{Visits}
 use Rattle.plan.specs.Dependencies.{right}
-use Rattle.meetings.specs.Asked.{Stops, PairTable}
+use Rattle.meetings.specs.Asked.{SteadyStops, PairTable}
 use Rattle.cycles.specs.Flat.{flatPlan, Shape}
 
 -- nobody enters stop `intoOf` before stop `fromOf` is visited. Turned, the first stop waits for the departure from the second
@@ -43,7 +43,7 @@ graphSound S off last drones m xs ys turned = right S m xs ys && not (cyclic (fl
 
 -- what the two checks ask of the tables, all of it known from the tests of single stops and of flag bytes
 pub record Given (L : Limits) (owners locations times starts lasts firsts seconds flags : List ℕ) (drones n m : ℕ) : Type 0 where
-  pub stops : Stops L n owners locations times
+  pub stops : SteadyStops L n owners locations times
   pub table : PairTable m firsts seconds
   pub shape : Shape (at owners) (at starts) (at lasts) drones n
   pub zero-time : (v : ℕ) → v < n → v ≡ at starts (at owners v) → at times v ≡ 0

@@ -24,8 +24,8 @@ pub record Course : Type 0 where
   pub waits : ℕ
 
 -- those of tables
-abbrev pub course : (owners starts lasts : List ℕ) (drones n : ℕ) (from into : List ℕ) (m : ℕ) → Course
-course owners starts lasts drones n from into m = record { own = at owners; off = at starts; last = at lasts; drones = drones; stops = n; from = at from; into = at into; waits = m }
+abbrev pub courseWith : (owners starts lasts : List ℕ) (drones n : ℕ) (from into : List ℕ) (m : ℕ) → Course
+courseWith owners starts lasts drones n from into m = record { own = at owners; off = at starts; last = at lasts; drones = drones; stops = n; from = at from; into = at into; waits = m }
 
 -- p is no further than some number of rounds from the first stops
 abbrev pub Reached : Plan → (ℕ → ℕ) → Type 0

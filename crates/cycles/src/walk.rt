@@ -13,7 +13,7 @@ ghost use lib.ListN.{length};
 ghost use Rattle.below.specs.Below.{at, pick, allBelow};
 ghost use Rattle.tables.specs.Limits.{limits};
 ghost use Rattle.cycles.specs.Flat.{FlatTables};
-ghost use Rattle.cycles.specs.Walk.{metAt, unmet, canMove, Stacked, Ends, Advanced, Wakes, Met, course, Begun, Walked, legOfOne};
+ghost use Rattle.cycles.specs.Walk.{metAt, unmet, canMove, Stacked, Ends, Advanced, Wakes, Met, courseWith, Begun, Walked, legOfOne};
 
 // The rounds that it takes to fly to a stop from the one before it.
 const LEG: u16 = 1;
@@ -177,9 +177,9 @@ pub fn walk(
     cur: &mut [u16; Drone::FULL],
     table: &mut [u16; Stop::FULL],
 )
-    requires { ⌜ FlatTables limits (now owners) (now starts) (now lasts) drones n (now from) (now into) m × Begun limits (course (now owners) (now starts) (now lasts) drones n (now from) (now into) m) (now cur) ⌝ }
+    requires { ⌜ FlatTables limits (now owners) (now starts) (now lasts) drones n (now from) (now into) m × Begun limits (courseWith (now owners) (now starts) (now lasts) drones n (now from) (now into) m) (now cur) ⌝ }
     requires { ⌜ (length (now table) ≡ limits .stops) × ((v : ℕ) → at (now table) v ≡ 0) ⌝ }
-    ensures { λ _. ⌜ Walked limits (course (now (owners .entry)) (now (starts .entry)) (now (lasts .entry)) drones n (now (from .entry)) (now (into .entry)) m) legOfOne (limits .stops - 1) (now (cur .entry)) (now (cur .exit)) (now (table .exit)) ⌝ }
+    ensures { λ _. ⌜ Walked limits (courseWith (now (owners .entry)) (now (starts .entry)) (now (lasts .entry)) drones n (now (from .entry)) (now (into .entry)) m) legOfOne (limits .stops - 1) (now (cur .entry)) (now (cur .exit)) (now (table .exit)) ⌝ }
 {
     let mut head = [0u16; Stop::FULL];
     let mut next = [0u16; Dependency::FULL];

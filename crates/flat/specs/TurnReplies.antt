@@ -37,7 +37,7 @@ turnAllMeant turnAll.FirstEntered = refused 32
 turnAllMeant turnAll.Cycle = refused 34
 
 -- "Refused: as for turn", or the change of the cost
-abbrev pub previewMeant : PreviewReply → log.PreviewReply
+abbrev pub previewMeant : PreviewReply → log.PreviewOutcome
 previewMeant (preview.Change z) = wouldTurn z
 previewMeant preview.TablesTooSmall = wouldRefuse 41
 previewMeant preview.NotSound = wouldRefuse 40
@@ -46,7 +46,7 @@ previewMeant preview.Fixed = wouldRefuse 31
 previewMeant preview.FirstEntered = wouldRefuse 32
 previewMeant preview.Cycle = wouldRefuse 34
 
-abbrev pub previewAllMeant : PreviewAllReply → log.PreviewReply
+abbrev pub previewAllMeant : PreviewAllReply → log.PreviewOutcome
 previewAllMeant (previewAll.Change z) = wouldTurn z
 previewAllMeant previewAll.TablesTooSmall = wouldRefuse 41
 previewAllMeant previewAll.NotSound = wouldRefuse 40

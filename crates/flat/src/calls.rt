@@ -25,7 +25,7 @@ use tables::sizes::full_size;
 ghost use mathlib.Core.Path.{_≡_};
 ghost use Rattle.tables.specs.Limits.{limits};
 ghost use Rattle.tables.specs.Tables.{tablesOf};
-ghost use Rattle.sound.specs.Asked.{InForce, Room};
+ghost use Rattle.sound.specs.Asked.{WaitsInForce, Room};
 ghost use Rattle.log.specs.CallLog.{grant as grantOf, arrive as arriveOf, turn as turnOf, turnAll as turnAllOf};
 ghost use Rattle.log.specs.Calls.{step, Answered, costReply, roundsReply};
 ghost use Rattle.log.specs.Preview.{preview as previewOf, previewAll as previewAllOf};
@@ -71,7 +71,7 @@ fn check_graph(
         (now (locations .entry)) (now (times .entry)) (now (visited .entry)) (now («drone_flags» .entry))
         (now («first_drones» .entry)) (now («first_stops» .entry)) (now («second_drones» .entry)) (now («second_stops» .entry))
         (now (flags .entry))))
-        × (r ≡ CanBeUsed → InForce limits (tablesOf
+        × (r ≡ CanBeUsed → WaitsInForce limits (tablesOf
         (now («drone_count» .entry)) (now («dependency_count» .entry)) (now (names .entry)) (now («stop_counts» .entry))
         (now (locations .entry)) (now (times .entry)) (now (visited .entry)) (now («drone_flags» .entry))
         (now («first_drones» .entry)) (now («first_stops» .entry)) (now («second_drones» .entry)) (now («second_stops» .entry))

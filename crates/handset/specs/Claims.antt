@@ -82,9 +82,9 @@ abbrev pub bitSet : ℕ → ℕ → Bool
 bitSet bits d = eqb (bits / 2 ^ d % 2) 1
 
 -- the report is that the drone arrived
-abbrev pub isArrival : Report → ℕ → Bool
-isArrival Nothing d = false
-isArrival (Arrived e) d = eqb d e
+abbrev pub isReportOf : Report → ℕ → Bool
+isReportOf Nothing d = false
+isReportOf (Arrived e) d = eqb d e
 
 module _ (L : Limits) (t : Tables) (report : Report) where
   -- the press's reply and the tables after it
@@ -112,7 +112,7 @@ module _ (L : Limits) (t : Tables) (report : Report) where
     -- "a 32-bit number"
     pub fits : bits < 2 ^ L .drones
     -- "one bit for each newly granted drone": those under way now that were not before the press, and the one that arrived in it, if it goes on at once
-    pub newly : (d : ℕ) → bitSet bits d ≡ (not (statusIn t .underWay d) || isArrival report d) && statusIn (after .tables) .underWay d
+    pub newly : (d : ℕ) → bitSet bits d ≡ (not (statusIn t .underWay d) || isReportOf report d) && statusIn (after .tables) .underWay d
     -- "grants every drone that may go", and no other
     pub may-go : (d : ℕ) → (bitSet bits d ≡ true) ↔ MayGo (planOf (atGrants .plan)) (statusIn atGrants) d
     -- "If a drone is still unfinished after an accepted press, somebody is under way"

@@ -6,7 +6,7 @@ use mathlib.Core.List.{List, [], _∷_, _++_}
 use Prim.Native.Nat.{ℕ, _<_}
 use native.Mathlib.Omega.{arith}
 use Rattle.plan.specs.Field.{FieldPlan, Status}
-use Rattle.log.specs.CallLog.{Call, grant, arrive, turn, turnAll, Reply, accepted, refused, replyNumber, awaited, replyFrom, Check, firstThatHolds, walked, refusals, replyIn, entry, Entry, statusBy, replyBy, logFrom}
+use Rattle.log.specs.CallLog.{Call, grant, arrive, turn, turnAll, Reply, accepted, refused, replyNumber, awaited, replyFrom, Check, firstThatHolds, walked, refusals, replyIn, entryOf, Entry, statusBy, replyBy, logFrom}
 use Rattle.log.specs.Claims.{LogNever40Or41}
 
 -- ---- replies
@@ -61,4 +61,4 @@ module _ (F : FieldPlan) where
   pub log-joins : (cs ds : List Call) (log : List Entry) → logFrom F log (cs ++ ds) ≡ logFrom F (logFrom F log cs) ds
   unfolding logFrom
   log-joins [] ds log = refl
-  log-joins (c ∷ cs) ds log = log-joins cs ds (log ++ (entry c (replyBy F log c) ∷ []))
+  log-joins (c ∷ cs) ds log = log-joins cs ds (log ++ (entryOf c (replyBy F log c) ∷ []))

@@ -10,7 +10,7 @@ use Rattle.below.proofs.Every.{allBelow-ext}
 use Rattle.precedence.specs.Graph.{cyclic}
 use Rattle.precedence.proofs.Agreement.{GraphsAgree, AwaitedIn, lowest-agree, cyclic-agree}
 use Rattle.plan.specs.Field.{Dependency, FieldPlan, inForce, waitOf, flipAll, graph, fixed, AcceptedPlan, PlansAgree, Status, afterTurns}
-use Rattle.plan.specs.Status.{entered, unmet, now, fixedUnturned, withinStops, waitsKept}
+use Rattle.plan.specs.Status.{entered, unmet, dependencyNow, fixedUnturned, withinStops, waitsKept}
 use Rattle.log.specs.CallLog.{Call, grant, arrive, turn, turnAll, Reply, refused, Check, when, firstThatHolds, isGroup, walked, replyIn}
 use Rattle.log.specs.Demand.{Agree}
 use Rattle.log.proofs.Checks.{one-reply}
@@ -51,17 +51,17 @@ module _ (F G : FieldPlan) (plans : PlansAgree F G) (accepted : AcceptedPlan F) 
       ap (λ (n : ℕ). eqb (F .dependency w .firstStop) 0 || eqb (F .dependency w .secondStop) n) (plans .lasts-agree (F .dependency w .second) (second-in F accepted w l false))
       ∙ ap (λ (x : Dependency). eqb (x .firstStop) 0 || eqb (x .secondStop) (G .last (x .second))) (plans .dependencies-agree w l)
 
-  now-same : (w : ℕ) → w < F .count → now F s w ≡ now G s′ w
+  now-same : (w : ℕ) → w < F .count → dependencyNow F s w ≡ dependencyNow G s′ w
   now-same w l = ap₂ (λ (b : Bool) (x : Dependency). inForce b x) (agree .turns w l) (plans .dependencies-agree w l)
 
   entered-same : (d k : ℕ) → d < F .drones → entered F s d k ≡ entered G s′ d k
   entered-same d k l = ap₂ (λ (p : ℕ) (u : Bool). leb k p || u && eqb k (suc p)) (agree .places d l) (agree .underWays d l)
 
-  entered-first : (w : ℕ) → w < F .count → entered F s (now F s w .first) (now F s w .firstStop) ≡ entered G s′ (now G s′ w .first) (now G s′ w .firstStop)
-  entered-first w l = entered-same (now F s w .first) (now F s w .firstStop) (first-in F accepted w l (s .turned w)) ∙ ap (λ (x : Dependency). entered G s′ (x .first) (x .firstStop)) (now-same w l)
+  entered-first : (w : ℕ) → w < F .count → entered F s (dependencyNow F s w .first) (dependencyNow F s w .firstStop) ≡ entered G s′ (dependencyNow G s′ w .first) (dependencyNow G s′ w .firstStop)
+  entered-first w l = entered-same (dependencyNow F s w .first) (dependencyNow F s w .firstStop) (first-in F accepted w l (s .turned w)) ∙ ap (λ (x : Dependency). entered G s′ (x .first) (x .firstStop)) (now-same w l)
 
-  entered-second : (w : ℕ) → w < F .count → entered F s (now F s w .second) (now F s w .secondStop) ≡ entered G s′ (now G s′ w .second) (now G s′ w .secondStop)
-  entered-second w l = entered-same (now F s w .second) (now F s w .secondStop) (second-in F accepted w l (s .turned w)) ∙ ap (λ (x : Dependency). entered G s′ (x .second) (x .secondStop)) (now-same w l)
+  entered-second : (w : ℕ) → w < F .count → entered F s (dependencyNow F s w .second) (dependencyNow F s w .secondStop) ≡ entered G s′ (dependencyNow G s′ w .second) (dependencyNow G s′ w .secondStop)
+  entered-second w l = entered-same (dependencyNow F s w .second) (dependencyNow F s w .secondStop) (second-in F accepted w l (s .turned w)) ∙ ap (λ (x : Dependency). entered G s′ (x .second) (x .secondStop)) (now-same w l)
 
   unmet-same : (d : ℕ) → d < F .drones → unmet F s d ≡ unmet G s′ d
   unmet-same d l = lowest-agree (graph F s) (graph G s′) (graphs-agree F G plans s s′ (agree .turns)) (graph-in F accepted s) (s .place) (s′ .place) (agree .places) d l
@@ -87,8 +87,8 @@ module _ (F G : FieldPlan) (plans : PlansAgree F G) (accepted : AcceptedPlan F) 
       go true e k = rw (← plans .counts-agree, e) refl
       go false e k =
           let l : w < F .count = leb-false (F .count) w e in
-          ap (λ (n : ℕ). elim (leb n w) [ true ↦ refused 30 | false ↦ elim (fixed F w) [ true ↦ refused 31 | false ↦ elim (entered F s (now F s w .first) (now F s w .firstStop)) [ true ↦ refused 32 | false ↦ firstThatHolds (walked F s ws after) ] ] ]) (plans .counts-agree)
-          ∙ ap (λ (b : Bool). elim (leb (G .count) w) [ true ↦ refused 30 | false ↦ elim b [ true ↦ refused 31 | false ↦ elim (entered F s (now F s w .first) (now F s w .firstStop)) [ true ↦ refused 32 | false ↦ firstThatHolds (walked F s ws after) ] ] ]) (fixed-same w l)
+          ap (λ (n : ℕ). elim (leb n w) [ true ↦ refused 30 | false ↦ elim (fixed F w) [ true ↦ refused 31 | false ↦ elim (entered F s (dependencyNow F s w .first) (dependencyNow F s w .firstStop)) [ true ↦ refused 32 | false ↦ firstThatHolds (walked F s ws after) ] ] ]) (plans .counts-agree)
+          ∙ ap (λ (b : Bool). elim (leb (G .count) w) [ true ↦ refused 30 | false ↦ elim b [ true ↦ refused 31 | false ↦ elim (entered F s (dependencyNow F s w .first) (dependencyNow F s w .firstStop)) [ true ↦ refused 32 | false ↦ firstThatHolds (walked F s ws after) ] ] ]) (fixed-same w l)
           ∙ ap₂ (λ (b : Bool) (r : Reply). elim (leb (G .count) w) [ true ↦ refused 30 | false ↦ elim (fixed G w) [ true ↦ refused 31 | false ↦ elim b [ true ↦ refused 32 | false ↦ r ] ] ]) (entered-first w l) k
 
   group-same : (ws : List ℕ) → replyIn F s (turnAll ws) ≡ replyIn G s′ (turnAll ws)
@@ -124,5 +124,5 @@ module _ (F : FieldPlan) (accepted : AcceptedPlan F) (s s′ : Status) (agree : 
 
   pub waits-same : waitsKept F s ≡ waitsKept F s′
   unfolding waitsKept
-  waits-same = allBelow-ext count _ _ (λ w l. ap₂ (λ (e : Bool) (p : ℕ). not e || leb (suc (now F s w .firstStop)) p) (entered-second F F (plans-self F) accepted s s′ agree w l) (agree .places (now F s w .first) (first-in F accepted w l (s .turned w)))
-      ∙ ap (λ (x : Dependency). not (entered F s′ (now F s′ w .second) (now F s′ w .secondStop)) || leb (suc (x .firstStop)) (s′ .place (x .first))) (now-same F F (plans-self F) accepted s s′ agree w l))
+  waits-same = allBelow-ext count _ _ (λ w l. ap₂ (λ (e : Bool) (p : ℕ). not e || leb (suc (dependencyNow F s w .firstStop)) p) (entered-second F F (plans-self F) accepted s s′ agree w l) (agree .places (dependencyNow F s w .first) (first-in F accepted w l (s .turned w)))
+      ∙ ap (λ (x : Dependency). not (entered F s′ (dependencyNow F s′ w .second) (dependencyNow F s′ w .secondStop)) || leb (suc (x .firstStop)) (s′ .place (x .first))) (now-same F F (plans-self F) accepted s s′ agree w l))

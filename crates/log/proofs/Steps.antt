@@ -13,7 +13,7 @@ use Rattle.tables.specs.Tables.{Tables, drones, dependencies, fullSize}
 use Rattle.tables.specs.Flags.{underWayBit}
 use Rattle.precedence.specs.Graph.{blocks, cyclic, cost}
 use Rattle.plan.specs.Field.{FieldPlan, planOf, graph, fixed, Status, afterTurn, afterTurns}
-use Rattle.plan.specs.Status.{statusIn, entered, now}
+use Rattle.plan.specs.Status.{statusIn, entered, dependencyNow}
 use Rattle.sound.specs.Sound.{sound}
 use Rattle.log.specs.CallLog.{Call, grant, arrive, turn, turnAll, Reply, accepted, refused, mustWait, Check, firstThatHolds, isGroup, walked, replyIn}
 use Rattle.below.proofs.Members.{in-at}
@@ -136,11 +136,11 @@ module _ (L : Limits) (t : Tables) where
       turn-31 b = rw (reply (turn w), lt-leb (dependencies (t .plan)) w a, b)
 
       module _ (b : fixed P w ≡ false) where
-        pub turn-32 : entered P S (now P S w .first) (now P S w .firstStop) ≡ true → turnStep L t w ≡ refusal t (refused 32)
+        pub turn-32 : entered P S (dependencyNow P S w .first) (dependencyNow P S w .firstStop) ≡ true → turnStep L t w ≡ refusal t (refused 32)
         unfolding turnStep replyIn
         turn-32 c = rw (reply (turn w), lt-leb (dependencies (t .plan)) w a, b, c)
 
-        module _ (c : entered P S (now P S w .first) (now P S w .firstStop) ≡ false) where
+        module _ (c : entered P S (dependencyNow P S w .first) (dependencyNow P S w .firstStop) ≡ false) where
           pub turn-34 : cyclic (graph P (afterTurn S w)) ≡ true → turnStep L t w ≡ refusal t (refused 34)
           unfolding turnStep replyIn isIn
           turn-34 e = rw (reply (turn w), lt-leb (dependencies (t .plan)) w a, b, c, e)
@@ -166,7 +166,7 @@ module _ (L : Limits) (t : Tables) where
         unfolding turnAllStep replyIn
         group-31 a b = rw (reply (turnAll ws), g, walk-at P S ws (cycleRow P S ws) (refused 31) i l p (λ rest. rw (lt-leb (dependencies (t .plan)) (at ws i) a, b) refl))
 
-        pub group-32 : at ws i < dependencies (t .plan) → fixed P (at ws i) ≡ false → entered P S (now P S (at ws i) .first) (now P S (at ws i) .firstStop) ≡ true → turnAllStep L t ws ≡ refusal t (refused 32)
+        pub group-32 : at ws i < dependencies (t .plan) → fixed P (at ws i) ≡ false → entered P S (dependencyNow P S (at ws i) .first) (dependencyNow P S (at ws i) .firstStop) ≡ true → turnAllStep L t ws ≡ refusal t (refused 32)
         unfolding turnAllStep replyIn
         group-32 a b c = rw (reply (turnAll ws), g, walk-at P S ws (cycleRow P S ws) (refused 32) i l p (λ rest. rw (lt-leb (dependencies (t .plan)) (at ws i) a, b, c) refl))
 

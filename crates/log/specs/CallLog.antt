@@ -6,7 +6,7 @@ use lib.Dec.{ltb, leb, eqb}
 use Rattle.below.specs.Below.{pick, isIn}
 use Rattle.precedence.specs.Graph.{cyclic}
 use Rattle.plan.specs.Field.{FieldPlan, graph, fixed, Status, afterTurns}
-use Rattle.plan.specs.Status.{entered, unmet, now}
+use Rattle.plan.specs.Status.{entered, unmet, dependencyNow}
 
 -- a call and what it names: a drone for grant and arrive, a dependency for turn, a list of dependencies for a turn of them all at once
 pub data Call : Type 0 where
@@ -78,7 +78,7 @@ module _ (F : FieldPlan) (s : Status) where
   walked (w ∷ ws) after =
       when (leb count w) (refused 30)
       ∷ when (fixed F w) (refused 31)
-      ∷ when (entered F s (now F s w .first) (now F s w .firstStop)) (refused 32)
+      ∷ when (entered F s (dependencyNow F s w .first) (dependencyNow F s w .firstStop)) (refused 32)
       ∷ walked ws after
 
   -- "then 30 to 34 as the list is walked, with 34 last of all": the graph has all of the list turned
@@ -119,8 +119,8 @@ pub record Entry : Type 0 where
   pub call : Call
   pub reply : Reply
 
-abbrev pub entry : Call → Reply → Entry
-entry c r = record { call = c; reply = r }
+abbrev pub entryOf : Call → Reply → Entry
+entryOf c r = record { call = c; reply = r }
 
 -- a grant of drone d; an arrival of drone d; a turn that names dependency w, where "an accepted one names each dependency in it"
 abbrev pub isGrant : ℕ → Call → Bool
@@ -166,7 +166,7 @@ module _ (F : FieldPlan) where
   -- the log goes on with calls
   unfoldable pub logFrom : List Entry → List Call → List Entry
   logFrom log [] = log
-  logFrom log (c ∷ cs) = logFrom (log ++ (entry c (replyBy log c) ∷ [])) cs
+  logFrom log (c ∷ cs) = logFrom (log ++ (entryOf c (replyBy log c) ∷ [])) cs
 
   -- "It is empty after the reading and is fed with the calls alone"
   abbrev pub logOf : List Call → List Entry

@@ -8,7 +8,7 @@ use Rattle.tables.specs.Tables.{Tables}
 use Rattle.plan.specs.Field.{FieldPlan, planOf}
 use Rattle.plan.specs.Status.{statusIn}
 use Rattle.log.specs.CallLog.{Call, grant, arrive, turn, turnAll, Reply, accepted, refused, mustWait, isAccepted, replyIn}
-use Rattle.log.specs.Calls.{Answer, answer, granted, flipped, grantStep, arriveStep, turnStep, turnAllStep, step}
+use Rattle.log.specs.Calls.{Answer, changedIfAccepted, granted, flipped, grantStep, arriveStep, turnStep, turnAllStep, step}
 use Rattle.log.specs.Demand.{Demand3Of}
 use Rattle.log.specs.Flights.{Visit, small, Q, P}
 
@@ -83,26 +83,26 @@ sooner F = record {
 }
 
 unfoldable pub visitOnly : Tables → ℕ → Answer
-visitOnly t d = answer t (replyIn (sooner (planOf (t .plan))) (statusIn t) (grant d)) (granted t d)
+visitOnly t d = changedIfAccepted t (replyIn (sooner (planOf (t .plan))) (statusIn t) (grant d)) (granted t d)
 
 -- grants without a test
 unfoldable pub grantUntested : Tables → ℕ → Answer
-grantUntested t d = answer t accepted (granted t d)
+grantUntested t d = changedIfAccepted t accepted (granted t d)
 
 -- says 23 without a test
 unfoldable pub waitUntested : Tables → ℕ → Answer
-waitUntested t d = answer t (mustWait 0) t
+waitUntested t d = changedIfAccepted t (mustWait 0) t
 
 -- refuses every call of its kind with one number
 unfoldable pub refuseOne : ℕ → Tables → ℕ → Answer
-refuseOne n t d = answer t (refused n) t
+refuseOne n t d = changedIfAccepted t (refused n) t
 
 unfoldable pub refuseList : ℕ → Tables → List ℕ → Answer
-refuseList n t ws = answer t (refused n) t
+refuseList n t ws = changedIfAccepted t (refused n) t
 
 -- turns the dependencies of a list one after the other, each tested by itself
 unfoldable pub oneByOne : Tables → List ℕ → Answer
-oneByOne t [] = answer t (refused 36) t
+oneByOne t [] = changedIfAccepted t (refused 36) t
 oneByOne t (w ∷ []) = turnStep small t w
 oneByOne t (w ∷ v ∷ ws) = cond (isAccepted (turnStep small t w .reply)) (oneByOne (turnStep small t w .tables) (v ∷ ws)) (turnStep small t w)
 
@@ -113,15 +113,15 @@ firstLeft t (w ∷ ws) = let a = turnAllStep small t (w ∷ ws) in record { repl
 
 -- ---- the flights that refute them
 
-pub record Wrong : Type 0 where
+pub record WrongProgram : Type 0 where
   pub program : Tables → Call → Answer
   pub routes : List (List Visit)
   pub calls : List Call
 
-abbrev pub wrong : (Tables → Call → Answer) → List (List Visit) → List Call → Wrong
+abbrev pub wrong : (Tables → Call → Answer) → List (List Visit) → List Call → WrongProgram
 wrong p rs cs = record { program = p; routes = rs; calls = cs }
 
-abbrev pub wrongs : List Wrong
+abbrev pub wrongs : List WrongProgram
 wrongs =
     -- "A grant, arrive or turn that refuses all, one fixed reply, and a call that changes nothing"
     wrong refuseAll (Q 4) (grant 0 ∷ [])
@@ -149,7 +149,7 @@ wrongs =
     ∷ []
 
 -- the claim
-abbrev pub AllFalse : List Wrong → Type 0
+abbrev pub AllFalse : List WrongProgram → Type 0
 AllFalse [] = Unit {0}
 AllFalse (x ∷ xs) = (Demand3Of small (x .program) → ⊥) × AllFalse xs
 

@@ -14,7 +14,7 @@ use Rattle.below.proofs.Every.{allBelow-at, allBelow-all}
 use Rattle.below.proofs.Sum.{sum-ext, count-sum}
 use Rattle.below.proofs.Pairs.{Climbs, climbs-few, climbs-all, all-climbs}
 use Rattle.below.proofs.Triangle.{pairs-triangle, triangle-mono, triangle-ext, triangle-same}
-use Rattle.plan.specs.Visits.{Visits, visits}
+use Rattle.plan.specs.Visits.{Visits, visitsWith}
 use Rattle.plan.specs.Check.{over, collide, apart}
 use Rattle.plan.specs.Dependencies.{follows, exact, right}
 use Rattle.meetings.specs.Meetings.{meeting, meetingTotal, clear, entryRight, Steady}
@@ -29,7 +29,7 @@ quick own loc time n m xs ys = eqb m (meetingTotal own loc n) && allBelow m (ent
 
 module _ (own num loc time : ℕ → ℕ) (n : ℕ) where
   abbrev S : Visits
-  S = visits own num loc time n
+  S = visitsWith own num loc time n
 
   -- ---- what the tests say
   pub record Follows (v w : ℕ) : Type 0 where

@@ -12,7 +12,7 @@ use Rattle.below.specs.Below.{First, at}
 use Rattle.below.proofs.Tests.{by-cases, true-or-false, and-left, and-right, same-test}
 use Rattle.below.proofs.Search.{firstBelow-first, first-is, first-low}
 use Rattle.below.proofs.Sum.{sum-none, sum-suc, sum-more, sum-upto}
-use Rattle.plan.specs.Stops.{start, owner, number}
+use Rattle.plan.specs.Stops.{start, owner, stopNumber}
 use Rattle.plan.specs.Dependencies.{isLast}
 use Rattle.plan.specs.Claims.{Numbered}
 
@@ -83,11 +83,11 @@ module _ (drones : ℕ) (counts : List ℕ) where
       (λ e. let b : w < start counts (suc (owner drones counts w)) = ltb-true _ _ (owner-first w .found (ltb-true _ _ e)) in first-low (ends-past v) (owner drones counts w) drones (lt-ltb v (start counts (suc (owner drones counts w))) (omega arith)))
       (λ e. omega (arith, owner-le v, ltb-false (owner drones counts w) drones e))
 
-  pub number-is : (v : ℕ) → v < stops → start counts (owner drones counts v) + number drones counts v ≡ v
-  unfolding number
+  pub number-is : (v : ℕ) → v < stops → start counts (owner drones counts v) + stopNumber drones counts v ≡ v
+  unfolding stopNumber
   number-is v l = omega (arith, owner-start v l)
 
-  pub number-in : (v : ℕ) → v < stops → number drones counts v < at counts (owner drones counts v)
+  pub number-in : (v : ℕ) → v < stops → stopNumber drones counts v < at counts (owner drones counts v)
   number-in v l = omega (arith, number-is v l, owner-end v l, start-suc counts (owner drones counts v))
 
   pub place-in : (d s : ℕ) → d < drones → s < at counts d → start counts d + s < stops
@@ -96,12 +96,12 @@ module _ (drones : ℕ) (counts : List ℕ) where
   pub place-owner : (d s : ℕ) → d < drones → s < at counts d → owner drones counts (start counts d + s) ≡ d
   place-owner d s l k = owner-is (start counts d + s) d l (omega arith) (omega (arith, start-suc counts d))
 
-  pub place-number : (d s : ℕ) → d < drones → s < at counts d → number drones counts (start counts d + s) ≡ s
-  unfolding number
+  pub place-number : (d s : ℕ) → d < drones → s < at counts d → stopNumber drones counts (start counts d + s) ≡ s
+  unfolding stopNumber
   place-number d s l k = rw (place-owner d s l k) (omega arith)
 
   -- each drone has a stop: its last is one less than its count
-  pub numbered : ((d : ℕ) → d < drones → 1 ≤ at counts d) → Numbered (owner drones counts) (number drones counts) (start counts) (λ d. at counts d - 1) drones stops
+  pub numbered : ((d : ℕ) → d < drones → 1 ≤ at counts d) → Numbered (owner drones counts) (stopNumber drones counts) (start counts) (λ d. at counts d - 1) drones stops
   numbered some = record {
     own-in = owner-in;
     number-in = λ v l. omega (arith, number-in v l);
@@ -167,13 +167,13 @@ module _ {own num off last : ℕ → ℕ} {drones n : ℕ} (N : Numbered own num
   order-number v w l k e h = let q : off (own v) ≡ off (own w) = rw e refl in omega (arith, N .number-is v l, N .number-is w k)
 
 -- the last stop of a drone is one less than its count
-pub last-number : (drones : ℕ) (counts : List ℕ) → ((d : ℕ) → d < drones → 1 ≤ at counts d) → (v : ℕ) → v < start counts drones → isLast (owner drones counts) (start counts drones) v ≡ eqb (number drones counts v + 1) (at counts (owner drones counts v))
+pub last-number : (drones : ℕ) (counts : List ℕ) → ((d : ℕ) → d < drones → 1 ≤ at counts d) → (v : ℕ) → v < start counts drones → isLast (owner drones counts) (start counts drones) v ≡ eqb (stopNumber drones counts v + 1) (at counts (owner drones counts v))
 last-number drones counts some v l = last-is (numbered drones counts some) v l ∙ same-test (eqb k (m - 1)) (eqb (k + 1) m)
     (λ e. eq-eqb (k + 1) m (omega (arith, number-in drones counts v l, eqb-true k (m - 1) e)))
     (λ e. eq-eqb k (m - 1) (omega (arith, eqb-true (k + 1) m e)))
   where
     k : ℕ
-    k = number drones counts v
+    k = stopNumber drones counts v
 
     m : ℕ
     m = at counts (owner drones counts v)

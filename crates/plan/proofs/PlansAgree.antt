@@ -10,7 +10,7 @@ use Rattle.below.specs.Below.{at}
 use Rattle.below.proofs.Search.{firstBelow-ext}
 use Rattle.below.proofs.Sum.{sum-ext}
 use Rattle.tables.specs.Tables.{PlanLists}
-use Rattle.plan.specs.Stops.{start, owner, number}
+use Rattle.plan.specs.Stops.{start, owner, stopNumber}
 use Rattle.plan.specs.Field.{Dependency, FieldPlan, GoneBefore, Checked, Meeting, AcceptedPlan, PlansAgree, planOf}
 use Rattle.plan.specs.Claims.{Numbered, ownerIn, numberIn, locationIn, timeIn, stopTotal, visitsIn, HaveStops, NoFault, NoCollision, StopsChecked, IsAt, Leaves, Enters, Collides, Never}
 use Rattle.plan.proofs.Numbering.{owner-le}
@@ -144,8 +144,8 @@ module _ (n : ℕ) (cs ds : List ℕ) (same : (d : ℕ) → d < n → at cs d �
   unfolding owner
   owner-same v = firstBelow-ext n _ _ (λ d l. ap (ltb v) (start-same (suc d) l))
 
-  pub number-same : (v : ℕ) → number n cs v ≡ number n ds v
-  unfolding number
+  pub number-same : (v : ℕ) → stopNumber n cs v ≡ stopNumber n ds v
+  unfolding stopNumber
   number-same v = rw (owner-same v, start-same (owner n ds v) (owner-le n ds v)) refl
 
 -- ---- the check of a plan in lists

@@ -13,7 +13,7 @@ use Rattle.tables.specs.Flags.{turnedBit}
 use Rattle.precedence.specs.Graph.{departure, blocks}
 use Rattle.plan.specs.Field.{graph, planOf}
 use Rattle.plan.specs.Status.{statusIn, unmet}
-use Rattle.plan.specs.Columns.{Columns, columns}
+use Rattle.plan.specs.Columns.{Columns, columnsWith}
 use Rattle.plan.specs.Waits.{blocksNext, entryBlocks, planIn, statusOf}
 
 -- the tests of one wait, in their order
@@ -59,7 +59,7 @@ module _ (m : ℕ) (c : Columns) (visited : List ℕ) (d : ℕ) where
 
 -- the lent tables' own plan asks no more
 pub unmet-in : (t : Tables) (d : ℕ)
-    → unmet (planIn (dependencies (t .plan)) (columns (t .plan .firstDrones) (t .plan .firstStops) (t .plan .secondDrones) (t .plan .secondStops) (t .flags))) (statusOf (columns (t .plan .firstDrones) (t .plan .firstStops) (t .plan .secondDrones) (t .plan .secondStops) (t .flags)) (t .visited)) d
+    → unmet (planIn (dependencies (t .plan)) (columnsWith (t .plan .firstDrones) (t .plan .firstStops) (t .plan .secondDrones) (t .plan .secondStops) (t .flags))) (statusOf (columnsWith (t .plan .firstDrones) (t .plan .firstStops) (t .plan .secondDrones) (t .plan .secondStops) (t .flags)) (t .visited)) d
     ≡ unmet (planOf (t .plan)) (statusIn t) d
 unfolding blocks
 unmet-in t d = firstBelow-ext _ _ _ (λ w l. refl)

@@ -7,8 +7,8 @@ use Prim.Native.Nat.{ℕ, suc, _+_, _≤_, _<_}
 use Rattle.below.specs.Below.{at, isIn}
 use Rattle.tables.specs.Tables.{PlanLists, drones, dependencies}
 use Rattle.precedence.specs.Graph.{Formed, cyclic, Cycle}
-use Rattle.plan.specs.Stops.{start, owner, number}
-use Rattle.plan.specs.Visits.{Visits, visits}
+use Rattle.plan.specs.Stops.{start, owner, stopNumber}
+use Rattle.plan.specs.Visits.{Visits, visitsWith}
 use Rattle.plan.specs.Check.{firstFault, collide, partner, collider, apart}
 use Rattle.plan.specs.Dependencies.{dependencyTotal, column, flagOf}
 use Rattle.plan.specs.Field.{Dependency, FieldPlan, Status, asPlanned, before, afterTurn, afterTurns, graph, fixed, Checked, AcceptedPlan, planOf}
@@ -41,7 +41,7 @@ module _ (p : PlanLists) where
   ownerIn = owner (drones p) (p .stopCounts)
 
   abbrev pub numberIn : ℕ → ℕ
-  numberIn = number (drones p) (p .stopCounts)
+  numberIn = stopNumber (drones p) (p .stopCounts)
 
   abbrev pub locationIn : ℕ → ℕ
   locationIn = at (p .locations)
@@ -50,7 +50,7 @@ module _ (p : PlanLists) where
   timeIn = at (p .times)
 
   abbrev pub visitsIn : Visits
-  visitsIn = visits ownerIn numberIn locationIn timeIn stopTotal
+  visitsIn = visitsWith ownerIn numberIn locationIn timeIn stopTotal
 
   -- "stops M of one drone: 1 to ..": each drone has a stop
   abbrev pub HaveStops : Type 0

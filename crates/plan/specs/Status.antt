@@ -25,8 +25,8 @@ module _ (F : FieldPlan) (s : Status) where
   unmet d = firstBelow count (blocks (graph F s) (placeOf F s) d)
 
   -- the dependency as the order now in force has it
-  abbrev pub now : ℕ → Dependency
-  now w = inForce (turned w) (dependency w)
+  abbrev pub dependencyNow : ℕ → Dependency
+  dependencyNow w = inForce (turned w) (dependency w)
 
   -- ---- the clauses of "sound" that speak of progress and turns
 

@@ -13,5 +13,5 @@ unfoldable pub owner : ℕ → List ℕ → ℕ → ℕ
 owner drones counts v = firstBelow drones (λ d. ltb v (start counts (suc d)))
 
 -- the number of stop v among its drone's stops
-unfoldable pub number : ℕ → List ℕ → ℕ → ℕ
-number drones counts v = v - start counts (owner drones counts v)
+unfoldable pub stopNumber : ℕ → List ℕ → ℕ → ℕ
+stopNumber drones counts v = v - start counts (owner drones counts v)

@@ -7,7 +7,7 @@ ghost use Rattle.below.specs.Below.{at};
 ghost use Rattle.tables.specs.Flags.{turnedBit};
 ghost use Rattle.precedence.specs.Graph.{departure};
 ghost use Rattle.plan.specs.Status.{unmet};
-ghost use Rattle.plan.specs.Columns.{columns};
+ghost use Rattle.plan.specs.Columns.{columnsWith};
 ghost use Rattle.plan.specs.Waits.{blocksNext, entryBlocks, planIn, statusOf};
 ghost use Rattle.plan.specs.Room.{WaitsRoom};
 
@@ -77,8 +77,8 @@ pub fn first_unmet(
     visited: &[u16],
     d: usize,
 ) -> usize
-    requires { ⌜ WaitsRoom count (columns (now «first_drones») (now «first_stops») (now «second_drones») (now «second_stops») (now flags)) (now visited) d ⌝ }
-    ensures { λ r. ⌜ r ≡ unmet (planIn count (columns (now («first_drones» .entry)) (now («first_stops» .entry)) (now («second_drones» .entry)) (now («second_stops» .entry)) (now (flags .entry)))) (statusOf (columns (now («first_drones» .entry)) (now («first_stops» .entry)) (now («second_drones» .entry)) (now («second_stops» .entry)) (now (flags .entry))) (now (visited .entry))) d ⌝ }
+    requires { ⌜ WaitsRoom count (columnsWith (now «first_drones») (now «first_stops») (now «second_drones») (now «second_stops») (now flags)) (now visited) d ⌝ }
+    ensures { λ r. ⌜ r ≡ unmet (planIn count (columnsWith (now («first_drones» .entry)) (now («first_stops» .entry)) (now («second_drones» .entry)) (now («second_stops» .entry)) (now (flags .entry)))) (statusOf (columnsWith (now («first_drones» .entry)) (now («first_stops» .entry)) (now («second_drones» .entry)) (now («second_stops» .entry)) (now (flags .entry))) (now (visited .entry))) d ⌝ }
 {
     let mut e = 0;
     while e < count {

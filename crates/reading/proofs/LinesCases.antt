@@ -21,7 +21,7 @@ use Rattle.text.specs.declared.reader.LinesAnswer.the-variants.{WellFormed, Ref
 use Rattle.text.proofs.Fits.{lines-fit}
 use Rattle.plan.specs.Columns.{Columns}
 use Rattle.reading.specs.Replies.{ReadingReply, taken, refusedBy, isTaken, refusalMeant, readingMeant, lineMeant}
-use Rattle.reading.specs.Reading.{ReadingAnswer, withReply, AnsweredAs, TextStored, textZeroed, withText, total, checkIn, checked, stored, fromLines, readLines}
+use Rattle.reading.specs.Reading.{ReadingAnswer, withReply, AnsweredAs, TextStored, textZeroed, withText, plannedTotal, checkIn, checked, stored, fromLines, readLines}
 use Rattle.reading.specs.Asked.{PlanAsked, LinesAsked}
 use Rattle.reading.specs.declared.replies.Refusal.{Refusal}
 use Rattle.reading.specs.declared.replies.Reading.{Reading}
@@ -48,7 +48,7 @@ module _ (L : Limits) (z t : Tables) where
   by-check : (k r : ReadingReply) → r ≡ checked L t t k .reply
       → (isTaken r ≡ true → checked L z t k ≡ checked L t t k) × (isTaken r ≡ false → (checked L z t k ≡ withReply r z) × (checked L t t k .tables ≡ t))
   by-check k r h = by-cases (isTaken k)
-      (λ p. by-cases (leb (total (t .plan)) (L .dependencies))
+      (λ p. by-cases (leb (plannedTotal (t .plan)) (L .dependencies))
       (λ o. (
         λ e. checked-taken L z t k p o ∙ sym (checked-taken L t t k p o),
         λ e. true-or-false (ap isTaken (h ∙ ap (λ (a : ReadingAnswer). a .reply) (checked-taken L t t k p o))) e,

@@ -54,8 +54,8 @@ withText f n t = record {
 
 module _ (p : PlanLists) where
   -- how many dependencies the plan in the lists has, and f of each of them, in order
-  abbrev pub total : ℕ
-  total = dependencyTotal (visitsIn p)
+  abbrev pub plannedTotal : ℕ
+  plannedTotal = dependencyTotal (visitsIn p)
 
   abbrev pub plannedList : (ℕ → ℕ → ℕ) → List ℕ
   plannedList f = column (visitsIn p) f
@@ -65,7 +65,7 @@ abbrev pub withDependencies : Tables → Tables
 withDependencies t = record {
   plan = record {
     droneCount = t .plan .droneCount;
-    dependencyCount = sets (t .plan .dependencyCount) 0 (total (t .plan) ∷ []);
+    dependencyCount = sets (t .plan .dependencyCount) 0 (plannedTotal (t .plan) ∷ []);
     names = t .plan .names;
     stopCounts = t .plan .stopCounts;
     locations = t .plan .locations;
@@ -87,7 +87,7 @@ checkIn p = checkMeant (checkOf (visitsIn p))
 module _ (L : Limits) where
   -- "building: 11 too many dependencies: zeroed": z is the zeroed tables, t the tables with the text's values
   abbrev pub built : Tables → Tables → ReadingAnswer
-  built z t = cond (leb (total (t .plan)) (L .dependencies)) (withReply taken (withDependencies t)) (withReply (refusedBy 11) z)
+  built z t = cond (leb (plannedTotal (t .plan)) (L .dependencies)) (withReply taken (withDependencies t)) (withReply (refusedBy 11) z)
 
   -- "plan check: zeroed"
   abbrev pub checked : Tables → Tables → ReadingReply → ReadingAnswer

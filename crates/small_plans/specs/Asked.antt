@@ -13,8 +13,8 @@ use Rattle.text.specs.declared.writer.WriteAnswer.{WriteAnswer}
 use Rattle.text.specs.declared.writer.WriteAnswer.the-variants as writer
 use Rattle.small_plans.specs.declared.PlanAnswer.{PlanAnswer}
 use Rattle.small_plans.specs.declared.PlanAnswer.the-variants.{Length, NoSuchPlan, Short}
-use Rattle.small_plans.specs.Routes.{SmallRoute, stops}
-use Rattle.small_plans.specs.Plans.{text, smallPlans, planAt}
+use Rattle.small_plans.specs.Routes.{SmallRoute, routeLength}
+use Rattle.small_plans.specs.Plans.{smallPlanText, smallPlans, planAt}
 
 -- the writer's answer
 abbrev pub asWritten : WriteAnswer → PlanAnswer
@@ -22,10 +22,10 @@ asWritten (writer.Length n) = Length n
 asWritten writer.Short = Short
 
 unfoldable pub planAnswer : ℕ → List ℕ → PlanAnswer
-planAnswer k buffer = cond (ltb k (length smallPlans)) (asWritten (writeAnswer buffer (text (planAt k)))) NoSuchPlan
+planAnswer k buffer = cond (ltb k (length smallPlans)) (asWritten (writeAnswer buffer (smallPlanText (planAt k)))) NoSuchPlan
 
 unfoldable pub bufferThen : ℕ → List ℕ → List ℕ
-bufferThen k buffer = cond (ltb k (length smallPlans)) (bufferAfter buffer (text (planAt k))) buffer
+bufferThen k buffer = cond (ltb k (length smallPlans)) (bufferAfter buffer (smallPlanText (planAt k))) buffer
 
 pub record PlanGiven (k : ℕ) (before after : List ℕ) (r : PlanAnswer) : Type 0 where
   pub answer-is : r ≡ planAnswer k before
@@ -35,4 +35,4 @@ pub record PlanGiven (k : ℕ) (before after : List ℕ) (r : PlanAnswer) : Type
 
 -- the lines of a route after its name
 abbrev pub stopText : SmallRoute → List ℕ
-stopText x = countLine stopsKey (stops x) ++ stopLines (x .locations) (x .times)
+stopText x = countLine stopsKey (routeLength x) ++ stopLines (x .locations) (x .times)

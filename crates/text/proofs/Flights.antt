@@ -2,6 +2,7 @@
 use mathlib.Core.Path.{_≡_, refl}
 use mathlib.Core.Bool.{true}
 use mathlib.Core.List.{List, [], _∷_}
+use Rattle.below.specs.Below.{allIn}
 use Prim.Native.Nat.{ℕ}
 use Rattle.lines.specs.Keys.{firstLine, agentsKey, nameKey, stopsKey, goKey, lastLine}
 use Rattle.lines.specs.Bytes.{byteAt, isAt}
@@ -11,9 +12,9 @@ use Rattle.lines.specs.Stops.{goAt, stopsAt, stopLines, countAt}
 use Rattle.lines.specs.Names.{untilFeed, lineEnd, isCapital, smallByte, smallForm, isNameByte, isTextByte, textBytes, textName, nameAt, nameOf}
 use Rattle.text.specs.LinesRead.{stopsRead, droneAt, same, elem, dronesAt, linesAt}
 use Rattle.text.specs.Written.{droneLines, planText}
-use Rattle.text.specs.Examples.{bytes, single, allHold, examples}
+use Rattle.text.specs.Examples.{bytes, single, linesAsGiven, linesExamples}
 
-pub examples-hold : allHold examples ≡ true
+pub examples-hold : allIn linesAsGiven linesExamples ≡ true
 unfolding byteAt isAt isDigit digitsFrom numberAt fieldAt goAt stopsAt countAt untilFeed lineEnd isCapital smallByte smallForm isNameByte isTextByte textBytes textName nameAt stopsRead droneAt same elem dronesAt linesAt
 examples-hold = refl
 

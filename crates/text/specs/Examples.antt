@@ -2,7 +2,7 @@
 use Prim.Native.Nat.{ℕ}
 use Prim.Native.Char.{code}
 use Prim.Native.String.{String, [] as empty, _∷_ as _before_, _++_ as _then_}
-use mathlib.Core.Bool.{Bool, true, _&&_}
+use mathlib.Core.Bool.{Bool, _&&_}
 use mathlib.Core.List.{List, [], _∷_}
 use lib.Dec.{eqb}
 use Rattle.tables.specs.Limits.{limits}
@@ -17,7 +17,7 @@ bytes empty = []
 bytes (c before s) = code c ∷ bytes s
 
 -- a text, the refusal's number (0 where its lines are well-formed), and its offset (where they are, how many drones the plan has)
-pub record Example : Type 0 where
+pub record LinesExample : Type 0 where
   pub text : String
   pub refusal : ℕ
   pub value : ℕ
@@ -30,19 +30,15 @@ abbrev pub valueOf : LinesAnswer → ℕ
 valueOf (WellFormed n) = n
 valueOf (NotWellFormed r) = refusalOffset r
 
-abbrev pub holds : Example → Bool
-holds e = let a = linesAt limits (bytes (e .text)) .answer in eqb (refusalOf a) (e .refusal) && eqb (valueOf a) (e .value)
-
-abbrev pub allHold : List Example → Bool
-allHold [] = true
-allHold (e ∷ es) = holds e && allHold es
+abbrev pub linesAsGiven : LinesExample → Bool
+linesAsGiven e = let a = linesAt limits (bytes (e .text)) .answer in eqb (refusalOf a) (e .refusal) && eqb (valueOf a) (e .value)
 
 -- one drone with one stop: the bytes between `plan=1` and `end=plan` from a name and a stop
 abbrev pub single : String → String → String
 single name stop = "plan=1\nagents=1\nname=" then (name then ("\nstops=1\ngo=" then (stop then "\nend=plan\n")))
 
-abbrev pub examples : List Example
-examples =
+abbrev pub linesExamples : List LinesExample
+linesExamples =
     -- flight Q
     record { text = "plan=1\nagents=2\nname=survey-quad-east-1\nstops=4\ngo=1@0\ngo=6@1\ngo=5@2\ngo=2@3\nname=survey-quad-east-2\nstops=3\ngo=3@0\ngo=5@4\ngo=4@5\nend=plan\n"; refusal = 0; value = 2 }
     -- "Empty text: 2 at offset 0."

@@ -2,7 +2,7 @@ use native.Mathlib.Omega.{arith}
 use mathlib.Core.Path.{refl}
 use Rattle.lines.specs.Keys.{agentsKey}
 use Rattle.text.proofs.WriteLoop.{count-near}
-use Rattle.small_plans.specs.Check.{routeAt}
+use Rattle.small_plans.specs.Check.{checkedRouteAt}
 use Rattle.small_plans.proofs.Writing.{nameA, nameB, route-near, plan-put}
 use borrow.Author.Needs.{needs}
 use Rattle.small_plans.proofs.put_plan.Statement.{statement}
@@ -59,7 +59,7 @@ same-length c = search needs
 
 -- src/lib.rt:1422:1
 returns : tie.Need-returns
-returns c = plan-put (routeAt (c .before .before .before .before .before .before .before .before .before .before .before .before .before .before .before .before .before .before .before .before .before .before .before .before .before .before .args .first)) (routeAt (c .before .before .before .before .before .before .before .before .before .before .before .before .before .before .before .before .before .before .before .before .before .before .before .before .before .before .args .second)) (c .before .before .before .before .before .before .before .before .before .before .before .before .before .before .before .before .before .before .before .before .before .before .put-bytes .ensures) (c .before .before .before .before .before .before .before .before .before .before .before .before .before .before .before .before .before .put-count .ensures) (c .before .before .before .before .before .before .before .before .before .before .before .before .put-route .ensures) (c .before .before .before .before .before .before .before .put-route2 .ensures) (c .before .before .put-bytes2 .ensures)
+returns c = plan-put (checkedRouteAt (c .before .before .before .before .before .before .before .before .before .before .before .before .before .before .before .before .before .before .before .before .before .before .before .before .before .before .args .first)) (checkedRouteAt (c .before .before .before .before .before .before .before .before .before .before .before .before .before .before .before .before .before .before .before .before .before .before .before .before .before .before .args .second)) (c .before .before .before .before .before .before .before .before .before .before .before .before .before .before .before .before .before .before .before .before .before .before .put-bytes .ensures) (c .before .before .before .before .before .before .before .before .before .before .before .before .before .before .before .before .before .put-count .ensures) (c .before .before .before .before .before .before .before .before .before .before .before .before .put-route .ensures) (c .before .before .before .before .before .before .before .put-route2 .ensures) (c .before .before .put-bytes2 .ensures)
 
 pub put-plan-spec : {M : Type 1} → statement M
 put-plan-spec =

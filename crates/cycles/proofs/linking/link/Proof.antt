@@ -5,7 +5,7 @@ use native.Mathlib.Nat.{le-antisymm}
 use native.Mathlib.Omega.{arith}
 use Rattle.below.specs.Below.{at}
 use Rattle.tables.specs.Limits.{limits}
-use Rattle.cycles.specs.Links.{Linked}
+use Rattle.cycles.specs.Links.{LinkedWaits}
 use Rattle.below.proofs.Links.{linked-none, linked-more}
 use Rattle.cycles.proofs.linking.link.Statement.{statement}
 use Rattle.cycles.proofs.linking.link.Tie as tie
@@ -14,7 +14,7 @@ use Rattle.cycles.proofs.linking.link.Lts as lts
 use Rattle.tables.proofs.casts.wide.Reads as wide-reads
 
 abbrev Inv-loop : tie.InvT-loop
-Inv-loop from m head₀ next₀ k₀ head next k = (k ≤ m) × Linked limits (at from) k head next
+Inv-loop from m head₀ next₀ k₀ head next k = (k ≤ m) × LinkedWaits limits (at from) k head next
 
 abbrev μ-loop : tie.MeasureT-loop
 μ-loop from m head₀ next₀ k₀ head next k = m - k
@@ -77,7 +77,7 @@ loop-again c = (omega arith, linked-more _ _ _ _ _ _ _ _ _ (c .before .before .b
 
 -- src/linking.rt:13:1
 returns : tie.Need-returns Inv-loop μ-loop
-returns c = subst (λ (k : ℕ). Linked limits (at (c .before .before .args .from .now)) k (c .before .loop .head) (c .before .loop .next)) (le-antisymm (omega arith) (omega arith)) (c .before .loop .inv .1)
+returns c = subst (λ (k : ℕ). LinkedWaits limits (at (c .before .before .args .from .now)) k (c .before .loop .head) (c .before .loop .next)) (le-antisymm (omega arith) (omega arith)) (c .before .loop .inv .1)
 
 pub link-spec : {M : Type 1} → statement M
 link-spec =

@@ -7,7 +7,7 @@ use mathlib.Core.List.{[]}
 use Rattle.plan.proofs.Unread.{follows-any}
 use Rattle.plan.specs.Visits.{visitsOf}
 use Rattle.below.specs.Below.{at}
-use Rattle.plan.specs.Columns.{columns}
+use Rattle.plan.specs.Columns.{columnsWith}
 use Rattle.plan.specs.Room.{ColumnsRoom}
 use Rattle.plan.proofs.SharingLaws.{elsewhere, walk-from, walk-within, walk-past}
 use Rattle.plan.proofs.ColumnsLaws.{RowTo, row-none, row-skip, row-take, row-lengths, row-room, row-end, cursor-none, cursor-skip, cursor-take, cursor-end, row-start-at, row-more-at}
@@ -21,14 +21,14 @@ use Rattle.plan.proofs.dependencies.follows_at.Reads as follows-at-read
 abbrev Inv-loop : tie.InvT-loop
 Inv-loop owners numbers locations times n first next v c first-drones₀ first-stops₀ second-drones₀ second-stops₀ flags₀ k₀ w₀ first-drones first-stops second-drones second-stops flags k w =
     (w ≤ n)
-    × RowTo (visitsOf owners numbers locations times n) v c (columns first-drones₀ first-stops₀ second-drones₀ second-stops₀ flags₀) k first-drones first-stops second-drones second-stops flags w
+    × RowTo (visitsOf owners numbers locations times n) v c (columnsWith first-drones₀ first-stops₀ second-drones₀ second-stops₀ flags₀) k first-drones first-stops second-drones second-stops flags w
     × (w < n → at locations w ≡ at locations v)
 
 abbrev μ-loop : tie.MeasureT-loop
 μ-loop owners numbers locations times n first next v c first-drones₀ first-stops₀ second-drones₀ second-stops₀ flags₀ k₀ w₀ first-drones first-stops second-drones second-stops flags k w = n - w
 
 -- where w follows v, there is room for the entry
-room : (c : tie.Else1 Inv-loop μ-loop) → ColumnsRoom (c .before .before .before .loop .k + 1) (columns (c .before .before .before .loop .first-drones) (c .before .before .before .loop .first-stops) (c .before .before .before .loop .second-drones) (c .before .before .before .loop .second-stops) (c .before .before .before .loop .flags))
+room : (c : tie.Else1 Inv-loop μ-loop) → ColumnsRoom (c .before .before .before .loop .k + 1) (columnsWith (c .before .before .before .loop .first-drones) (c .before .before .before .loop .first-stops) (c .before .before .before .loop .second-drones) (c .before .before .before .loop .second-stops) (c .before .before .before .loop .flags))
 room c = row-room _ _ _ _ _ _ _ _ _ _ (c .before .before .before .loop .inv .1 .1) _ (c .before .before .before .loop .inv .1 .0) (sym (c .before .follows-at .ensures [] 0 ∙ follows-any _ _ _ _ _) ∙ not-false _ (c .if1 .left)) (c .before .before .loop-test .taken) (c .before .before .before .before .before .before .before .before .before .before .before .before .before .before .pre .1)
 
 -- src/dependencies.rt:130:17

@@ -7,7 +7,7 @@ use Rattle.plan.specs.Visits.{visitsOf}
 use Rattle.below.specs.Below.{countBelow, sumBelow, at}
 use Rattle.below.proofs.Sum.{sum-none}
 use Rattle.plan.specs.Dependencies.{follows}
-use Rattle.plan.specs.Columns.{columns, rowsWritten}
+use Rattle.plan.specs.Columns.{columnsWith, rowsWritten}
 use Rattle.plan.proofs.ColumnsLaws.{rows-none, rows-lengths, rows-room, rows-more, rows-cursor, rows-end}
 use Rattle.plan.proofs.dependencies.fill_rows.Statement.{statement}
 use Rattle.plan.proofs.dependencies.fill_rows.Tie as tie
@@ -19,7 +19,7 @@ abbrev Inv-loop : tie.InvT-loop
 Inv-loop owners numbers locations times n first next first-drones₀ first-stops₀ second-drones₀ second-stops₀ flags₀ k₀ v₀ first-drones first-stops second-drones second-stops flags k v =
     (v ≤ n)
     × (k ≡ sumBelow v (λ u. countBelow n (follows (visitsOf owners numbers locations times n) u)))
-    × (columns first-drones first-stops second-drones second-stops flags ≡ rowsWritten (visitsOf owners numbers locations times n) v (columns first-drones₀ first-stops₀ second-drones₀ second-stops₀ flags₀))
+    × (columnsWith first-drones first-stops second-drones second-stops flags ≡ rowsWritten (visitsOf owners numbers locations times n) v (columnsWith first-drones₀ first-stops₀ second-drones₀ second-stops₀ flags₀))
 
 abbrev μ-loop : tie.MeasureT-loop
 μ-loop owners numbers locations times n first next first-drones₀ first-stops₀ second-drones₀ second-stops₀ flags₀ k₀ v₀ first-drones first-stops second-drones second-stops flags k v = n - v

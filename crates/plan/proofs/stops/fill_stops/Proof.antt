@@ -5,7 +5,7 @@ use mathlib.Core.Path.{_≡_, refl}
 use native.Mathlib.Omega.{arith}
 use Rattle.below.specs.Below.{fillBelow}
 use Rattle.below.proofs.Fill.{fill-store, fill-length, fill-end}
-use Rattle.plan.specs.Stops.{start, owner, number}
+use Rattle.plan.specs.Stops.{start, owner, stopNumber}
 use Rattle.plan.proofs.StopsLaws.{start-turn, start-below, cursor-owner, cursor-number}
 use Rattle.plan.proofs.Numbering.{start-none}
 use mathlib.Core.Path.{sym}
@@ -15,7 +15,7 @@ use Rattle.plan.proofs.stops.fill_stops.Reads as reads
 use Rattle.plan.proofs.stops.fill_stops.Lts as lts
 
 abbrev Inv-loop : tie.InvT-loop
-Inv-loop drones counts n owners₀ numbers₀ d₀ first₀ v₀ owners numbers d first v = (v ≤ n) × (first ≡ start counts d) × (first ≤ v) × (owners ≡ fillBelow v (owner drones counts) owners₀) × (numbers ≡ fillBelow v (number drones counts) numbers₀)
+Inv-loop drones counts n owners₀ numbers₀ d₀ first₀ v₀ owners numbers d first v = (v ≤ n) × (first ≡ start counts d) × (first ≤ v) × (owners ≡ fillBelow v (owner drones counts) owners₀) × (numbers ≡ fillBelow v (stopNumber drones counts) numbers₀)
 
 abbrev μ-loop : tie.MeasureT-loop
 μ-loop drones counts n owners₀ numbers₀ d₀ first₀ v₀ owners numbers d first v = (n - v) + (drones - d)

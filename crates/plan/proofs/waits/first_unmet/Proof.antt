@@ -5,7 +5,7 @@ use mathlib.Core.Path.{_≡_}
 use native.Mathlib.Omega.{arith}
 use Rattle.below.specs.Below.{firstBelow}
 use Rattle.below.proofs.Search.{first-none, first-more}
-use Rattle.plan.specs.Columns.{columns}
+use Rattle.plan.specs.Columns.{columnsWith}
 use Rattle.plan.proofs.WaitsLaws.{blocksAt, blocks-at, unmet-hit, unmet-end}
 use Rattle.plan.proofs.waits.first_unmet.Statement.{statement}
 use Rattle.plan.proofs.waits.first_unmet.Tie as tie
@@ -14,7 +14,7 @@ use Rattle.plan.proofs.waits.first_unmet.Lts as lts
 use Rattle.plan.proofs.waits.entry_blocks.Reads as entry-blocks-reads
 
 abbrev Inv-loop : tie.InvT-loop
-Inv-loop count first-drones first-stops second-drones second-stops flags visited d e₀ e = (e ≤ count) × (firstBelow e (blocksAt count (columns first-drones first-stops second-drones second-stops flags) visited d) ≡ e)
+Inv-loop count first-drones first-stops second-drones second-stops flags visited d e₀ e = (e ≤ count) × (firstBelow e (blocksAt count (columnsWith first-drones first-stops second-drones second-stops flags) visited d) ≡ e)
 
 abbrev μ-loop : tie.MeasureT-loop
 μ-loop count first-drones first-stops second-drones second-stops flags visited d e₀ e = count - e

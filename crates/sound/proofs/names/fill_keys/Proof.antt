@@ -5,7 +5,7 @@ use native.Mathlib.Omega.{arith}
 use lib.ListN.{length, length-set}
 use Rattle.below.proofs.Index.{fill-more}
 use Rattle.tables.specs.Limits.{limits}
-use Rattle.sound.specs.Parts.{nameKey}
+use Rattle.sound.specs.Parts.{nameSum}
 use Rattle.sound.specs.Asked.{Keyed}
 use Rattle.sound.proofs.names.fill_keys.Statement.{statement}
 use Rattle.sound.proofs.names.fill_keys.Tie as tie
@@ -45,7 +45,7 @@ loop-less c = search needs
 
 -- src/names.rt:97:5
 loop-again : tie.Need-loop-again Inv-loop μ-loop
-loop-again c = (omega arith, simp length-set (c .before .before .loop .inv .1), fill-more (c .before .before .loop .keys) (c .before .before .loop .d) _ 0 (nameKey limits (c .before .before .before .before .args .names .now)) (omega (arith, c .before .before .loop .inv .1)) (c .before .before .loop .inv .2) (c .name-key .ensures))
+loop-again c = (omega arith, simp length-set (c .before .before .loop .inv .1), fill-more (c .before .before .loop .keys) (c .before .before .loop .d) _ 0 (nameSum limits (c .before .before .before .before .args .names .now)) (omega (arith, c .before .before .loop .inv .1)) (c .before .before .loop .inv .2) (c .name-key .ensures))
 
 -- src/names.rt:92:1
 returns : tie.Need-returns Inv-loop μ-loop
