@@ -1,5 +1,4 @@
 pub mod Entries
-pub mod SameClauses
 pub mod SameNumbering
 pub mod SameSound
 pub mod SameCalls

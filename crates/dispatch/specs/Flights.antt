@@ -5,7 +5,7 @@ use mathlib.Core.Bool.{true}
 use mathlib.Core.List.{List, [], _∷_}
 use Prim.Native.Nat.{ℕ}
 use Prim.Native.String.{String}
-use Rattle.tables.specs.Limits.{Limits}
+use Rattle.tables.specs.Limits.{Limits, limits}
 use Rattle.tables.specs.Tables.{dependencies}
 use Rattle.tables.specs.Zero.{filled}
 use Rattle.text.specs.Examples.{bytes}
@@ -19,7 +19,7 @@ use Rattle.accepted.specs.Examples.{textQ, textP}
 
 -- limits that hold the flights, so that full tables can be computed with
 abbrev pub tight : Limits
-tight = record { text = 200; drones = 2; stops = 8; dependencies = 2; name = 24; location = 65535; time = 1000000 }
+tight = record { text = 200; drones = 2; stops = 8; dependencies = 2; name = limits .name; location = limits .location; time = limits .time }
 
 -- the plan is taken with so many dependencies, and then the lines hold; or refusal 10 gives two drones, each with its stop
 pub data Outcome : Type 0 where

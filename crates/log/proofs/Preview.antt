@@ -9,7 +9,7 @@ use lib.Dec.{ltb, le→leb}
 use lib.IntN.{ℤ, pos, negsuc, negℤ, subℕ}
 use lib.Signed.{leZ-yes, _≤ℤ_}
 use borrow.Author.Tests.{ltb-true}
-use Rattle.tables.specs.Limits.{Limits, limits}
+use Rattle.tables.specs.Limits.{Limits, limits, mostCost}
 use Rattle.below.proofs.Tests.{true-or-false}
 use Rattle.tables.specs.Tables.{Tables, fullSize}
 use Rattle.sound.specs.Sound.{sound}
@@ -152,8 +152,8 @@ module _ (L : Limits) (t : Tables) (ws : List ℕ) where
 previewAll-bounded : (L : Limits) (t : Tables) (ws : List ℕ) → 2 * L .drones ≤ L .stops → ChangeWithin (L .drones * (L .stops - L .drones)) (previewAll L t ws)
 previewAll-bounded L t ws h = previewAll-within L t ws (L .drones * (L .stops - L .drones)) (λ t c q. cost-bounded L t c h q)
 
-previewAll-limit : (t : Tables) (ws : List ℕ) → ChangeWithin 31744 (previewAll limits t ws)
-previewAll-limit t ws = previewAll-within limits t ws 31744 cost-limit
+previewAll-limit : (t : Tables) (ws : List ℕ) → ChangeWithin mostCost (previewAll limits t ws)
+previewAll-limit t ws = previewAll-within limits t ws mostCost cost-limit
 
 -- ---- one turn is the list of length one
 

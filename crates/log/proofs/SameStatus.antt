@@ -1,4 +1,4 @@
--- Plans that agree, with statuses that agree on their drones and dependencies, get the same replies, and one plan's statuses that agree are sound together: neither looks at anything else. Assumes nothing.
+-- Plans that agree, with statuses that agree on their drones and dependencies, get the same replies and pass the same clauses of "sound": neither looks at anything else. Assumes nothing.
 use mathlib.Core.Path.{_≡_, refl, sym, ap, ap₂, _∙_}
 use mathlib.Core.Bool.{Bool, true, false, not, cond, _&&_, _||_}
 use mathlib.Core.List.{List, [], _∷_}
@@ -6,7 +6,7 @@ use Prim.Native.Nat.{ℕ, suc, _<_}
 use lib.Dec.{eqb, leb}
 use borrow.Author.Tests.{leb-false}
 use Rattle.below.specs.Below.{isIn}
-use Rattle.below.proofs.Every.{allBelow-ext}
+use Rattle.below.proofs.Every.{allBelow-same}
 use Rattle.precedence.specs.Graph.{cyclic}
 use Rattle.precedence.proofs.Agreement.{GraphsAgree, AwaitedIn, lowest-agree, cyclic-agree}
 use Rattle.plan.specs.Field.{Dependency, FieldPlan, inForce, waitOf, flipAll, graph, fixed, AcceptedPlan, PlansAgree, Status, afterTurns}
@@ -43,14 +43,15 @@ module _ (F : FieldPlan) (accepted : AcceptedPlan F) where
   pub graph-in : (s : Status) → AwaitedIn (graph F s)
   graph-in s w l = first-in w l (s .turned w)
 
--- ---- .. and statuses that agree
-
-module _ (F G : FieldPlan) (plans : PlansAgree F G) (accepted : AcceptedPlan F) (s s′ : Status) (agree : Agree F s s′) where
-  fixed-same : (w : ℕ) → w < F .count → fixed F w ≡ fixed G w
+module _ (F G : FieldPlan) (plans : PlansAgree F G) (accepted : AcceptedPlan F) where
+  pub fixed-same : (w : ℕ) → w < F .count → fixed F w ≡ fixed G w
   fixed-same w l =
       ap (λ (n : ℕ). eqb (F .dependency w .firstStop) 0 || eqb (F .dependency w .secondStop) n) (plans .lasts-agree (F .dependency w .second) (second-in F accepted w l false))
       ∙ ap (λ (x : Dependency). eqb (x .firstStop) 0 || eqb (x .secondStop) (G .last (x .second))) (plans .dependencies-agree w l)
 
+-- ---- .. and statuses that agree
+
+module _ (F G : FieldPlan) (plans : PlansAgree F G) (accepted : AcceptedPlan F) (s s′ : Status) (agree : Agree F s s′) where
   now-same : (w : ℕ) → w < F .count → dependencyNow F s w ≡ dependencyNow G s′ w
   now-same w l = ap₂ (λ (b : Bool) (x : Dependency). inForce b x) (agree .turns w l) (plans .dependencies-agree w l)
 
@@ -88,7 +89,7 @@ module _ (F G : FieldPlan) (plans : PlansAgree F G) (accepted : AcceptedPlan F) 
       go false e k =
           let l : w < F .count = leb-false (F .count) w e in
           ap (λ (n : ℕ). elim (leb n w) [ true ↦ refused 30 | false ↦ elim (fixed F w) [ true ↦ refused 31 | false ↦ elim (entered F s (dependencyNow F s w .first) (dependencyNow F s w .firstStop)) [ true ↦ refused 32 | false ↦ firstThatHolds (walked F s ws after) ] ] ]) (plans .counts-agree)
-          ∙ ap (λ (b : Bool). elim (leb (G .count) w) [ true ↦ refused 30 | false ↦ elim b [ true ↦ refused 31 | false ↦ elim (entered F s (dependencyNow F s w .first) (dependencyNow F s w .firstStop)) [ true ↦ refused 32 | false ↦ firstThatHolds (walked F s ws after) ] ] ]) (fixed-same w l)
+          ∙ ap (λ (b : Bool). elim (leb (G .count) w) [ true ↦ refused 30 | false ↦ elim b [ true ↦ refused 31 | false ↦ elim (entered F s (dependencyNow F s w .first) (dependencyNow F s w .firstStop)) [ true ↦ refused 32 | false ↦ firstThatHolds (walked F s ws after) ] ] ]) (fixed-same F G plans accepted w l)
           ∙ ap₂ (λ (b : Bool) (r : Reply). elim (leb (G .count) w) [ true ↦ refused 30 | false ↦ elim (fixed G w) [ true ↦ refused 31 | false ↦ elim b [ true ↦ refused 32 | false ↦ r ] ] ]) (entered-first w l) k
 
   group-same : (ws : List ℕ) → replyIn F s (turnAll ws) ≡ replyIn G s′ (turnAll ws)
@@ -103,11 +104,25 @@ module _ (F G : FieldPlan) (plans : PlansAgree F G) (accepted : AcceptedPlan F) 
   reply-agrees (turn w) = one-reply F s w ∙ group-same (w ∷ []) ∙ sym (one-reply G s′ w)
   reply-agrees (turnAll ws) = group-same ws
 
--- ---- one plan: the clauses of "sound"
+  -- ---- the clauses of "sound"
+
+  pub unturned-agrees : fixedUnturned F s ≡ fixedUnturned G s′
+  unfolding fixedUnturned
+  unturned-agrees = allBelow-same (F .count) (G .count) _ _ (plans .counts-agree) (λ w l. ap₂ (λ (a b : Bool). not (a && b)) (agree .turns w l) (fixed-same F G plans accepted w l))
+
+  pub within-agrees : withinStops F s ≡ withinStops G s′
+  unfolding withinStops
+  within-agrees = allBelow-same (F .drones) (G .drones) _ _ (plans .drones-agree) (λ d l i. leb (agree .places d l i) (plans .lasts-agree d l i) && not (agree .underWays d l i && leb (plans .lasts-agree d l i) (agree .places d l i)))
+
+  pub waits-agree : waitsKept F s ≡ waitsKept G s′
+  unfolding waitsKept
+  waits-agree = allBelow-same (F .count) (G .count) _ _ (plans .counts-agree) (λ w l.
+      ap₂ (λ (e : Bool) (p : ℕ). not e || leb (suc (dependencyNow F s w .firstStop)) p) (entered-second w l) (agree .places (dependencyNow F s w .first) (first-in F accepted w l (s .turned w)))
+      ∙ ap (λ (x : Dependency). not (entered G s′ (dependencyNow G s′ w .second) (dependencyNow G s′ w .secondStop)) || leb (suc (x .firstStop)) (s′ .place (x .first))) (now-same w l))
+
+-- ---- one plan
 
 module _ (F : FieldPlan) (accepted : AcceptedPlan F) (s s′ : Status) (agree : Agree F s s′) where
-  open FieldPlan F using (drones, last, count)
-
   pub reply-same : (c : Call) → replyIn F s c ≡ replyIn F s′ c
   reply-same = reply-agrees F F (plans-self F) accepted s s′ agree
 
@@ -115,14 +130,10 @@ module _ (F : FieldPlan) (accepted : AcceptedPlan F) (s s′ : Status) (agree : 
   cyclic-same = cyclic-agree (graph F s) (graph F s′) (graphs-agree F F (plans-self F) s s′ (agree .turns)) (graph-in F accepted s)
 
   pub unturned-same : fixedUnturned F s ≡ fixedUnturned F s′
-  unfolding fixedUnturned
-  unturned-same = allBelow-ext count _ _ (λ w l. ap (λ (b : Bool). not (b && fixed F w)) (agree .turns w l))
+  unturned-same = unturned-agrees F F (plans-self F) accepted s s′ agree
 
   pub within-same : withinStops F s ≡ withinStops F s′
-  unfolding withinStops
-  within-same = allBelow-ext drones _ _ (λ d l. ap₂ (λ (p : ℕ) (u : Bool). leb p (last d) && not (u && leb (last d) p)) (agree .places d l) (agree .underWays d l))
+  within-same = within-agrees F F (plans-self F) accepted s s′ agree
 
   pub waits-same : waitsKept F s ≡ waitsKept F s′
-  unfolding waitsKept
-  waits-same = allBelow-ext count _ _ (λ w l. ap₂ (λ (e : Bool) (p : ℕ). not e || leb (suc (dependencyNow F s w .firstStop)) p) (entered-second F F (plans-self F) accepted s s′ agree w l) (agree .places (dependencyNow F s w .first) (first-in F accepted w l (s .turned w)))
-      ∙ ap (λ (x : Dependency). not (entered F s′ (dependencyNow F s′ w .second) (dependencyNow F s′ w .secondStop)) || leb (suc (x .firstStop)) (s′ .place (x .first))) (now-same F F (plans-self F) accepted s s′ agree w l))
+  waits-same = waits-agree F F (plans-self F) accepted s s′ agree

@@ -6,7 +6,7 @@ use mathlib.Core.List.{List, [], _∷_}
 use Prim.Native.Nat.{ℕ, suc, _-_, _*_, _≤_, _<_}
 use lib.ListN.{length}
 use Rattle.below.specs.Below.{at, isIn, sumBelow}
-use Rattle.tables.specs.Limits.{Limits, limits}
+use Rattle.tables.specs.Limits.{Limits, limits, mostCost}
 use Rattle.tables.specs.Tables.{PlanLists, Tables, drones, dependencies, fullSize}
 use Rattle.precedence.specs.Graph.{Cycle, Longest, remaining}
 use Rattle.plan.specs.Field.{FieldPlan, planOf, graph, Status, afterTurn, afterTurns, placeOf}
@@ -163,7 +163,7 @@ CostBounded = (L : Limits) (t : Tables) (n : ℕ) → 2 * L .drones ≤ L .stops
 
 -- "at most 31,744"
 abbrev pub CostLimit : Type 0
-CostLimit = (t : Tables) (n : ℕ) → costReply limits t ≡ costs n → n ≤ 31744
+CostLimit = (t : Tables) (n : ℕ) → costReply limits t ≡ costs n → n ≤ mostCost
 
 -- in the log too one turn is the list of length one: the same reply, and it names the same
 pub record LogTurnIsGroup (F : FieldPlan) (log : List Entry) (w : ℕ) : Type 0 where

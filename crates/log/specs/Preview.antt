@@ -6,7 +6,7 @@ use mathlib.Core.List.{List, [], _∷_}
 use Prim.Native.Nat.{ℕ, _-_, _*_, _≤_}
 use lib.IntN.{ℤ, pos, negℤ, subℕ}
 use lib.Signed.{_≤ℤ_}
-use Rattle.tables.specs.Limits.{Limits, limits}
+use Rattle.tables.specs.Limits.{Limits, limits, mostCost}
 use Rattle.tables.specs.Tables.{Tables}
 use Rattle.log.specs.CallLog.{Reply, accepted, refused, mustWait}
 use Rattle.log.specs.Calls.{Answer, turnStep, turnAllStep, CostReply, costs, costRefused, costReply}
@@ -66,10 +66,10 @@ pub record PreviewClaims : Type 0 where
   -- no greater than the greatest cost, either way
   pub preview-bounded : (L : Limits) (t : Tables) (w : ℕ) → 2 * L .drones ≤ L .stops → ChangeWithin (L .drones * (L .stops - L .drones)) (preview L t w)
   -- "a signed number from -31,744 to 31,744"
-  pub preview-limit : (t : Tables) (w : ℕ) → ChangeWithin 31744 (preview limits t w)
+  pub preview-limit : (t : Tables) (w : ℕ) → ChangeWithin mostCost (preview limits t w)
   pub previewAll-refused : (L : Limits) (t : Tables) (ws : List ℕ) → RefusedAs (previewAll L t ws) (turnAllStep L t ws)
   pub previewAll-done : (L : Limits) (t : Tables) (ws : List ℕ) → DoneAs L t (previewAll L t ws) (turnAllStep L t ws)
   pub previewAll-bounded : (L : Limits) (t : Tables) (ws : List ℕ) → 2 * L .drones ≤ L .stops → ChangeWithin (L .drones * (L .stops - L .drones)) (previewAll L t ws)
-  pub previewAll-limit : (t : Tables) (ws : List ℕ) → ChangeWithin 31744 (previewAll limits t ws)
+  pub previewAll-limit : (t : Tables) (ws : List ℕ) → ChangeWithin mostCost (previewAll limits t ws)
   -- the preview of one turn is that of the list of length one
   pub preview-is-group : (L : Limits) (t : Tables) (w : ℕ) → preview L t w ≡ previewAll L t (w ∷ [])

@@ -124,8 +124,8 @@ module _ (S : Visits) (off last : ℕ → ℕ) (drones count : ℕ) (dependency 
       }
 
   -- the other way round
-  pub checked-passes : Checked plan → firstFault S ≡ n
-  checked-passes c = says-firstFault S (λ v l. record {
+  pub stops-pass : StopsChecked plan → firstFault S ≡ n
+  stops-pass c = says-firstFault S (λ v l. record {
     starts = λ z. sym (time-of v l) ∙ rw z (c .starts (own v) (N .own-in v l));
     rises = λ z. step v l z .0;
     moves = λ z. step v l z .1;
@@ -138,6 +138,9 @@ module _ (S : Visits) (off last : ℕ → ℕ) (drones count : ℕ) (dependency 
           let k : num v - 1 < last (own v) = omega (arith, N .number-in v l) in
           let m : loc (v - 1) ≢ loc v = rw (p, q) at (c .moves (own v) (num v - 1) (N .own-in v l) k) in
           (rw (p, q) at (c .rises (own v) (num v - 1) (N .own-in v l) k), λ e. m (sym e))
+
+  pub checked-passes : Checked plan → firstFault S ≡ n
+  checked-passes c = stops-pass (record { starts = c .starts; rises = c .rises; moves = c .moves })
 
   pub checked-apart : Checked plan → apart S ≡ true
   checked-apart c = says-apart S (λ v w l k ne q. elim (c .no-collision (own v) (num v) (own w) (num w) (N .own-in v l) (N .number-in v l) (N .own-in w k) (N .number-in w k) ne (rw (location-of v l, location-of w k) q)) [

@@ -15,7 +15,7 @@ use Rattle.plan.specs.Field.{Dependency, FieldPlan, GoneBefore, Checked,
 use Rattle.plan.specs.Claims.{Numbered, ownerIn, numberIn, locationIn, timeIn, stopTotal, visitsIn, HaveStops, NoFault, NoCollision, StopsChecked, IsAt, Leaves, Enters, Collides, Never}
 use Rattle.plan.proofs.Numbering.{owner-le}
 use Rattle.plan.proofs.Conditions.{says-firstFault}
-use Rattle.plan.proofs.Accepted.{stops-numbered, stops-checked}
+use Rattle.plan.proofs.Accepted.{stops-numbered, stops-checked, stops-pass}
 use Rattle.plan.proofs.Definition1.{definition-1}
 
 -- ---- plans that agree
@@ -152,23 +152,5 @@ module _ (n : ℕ) (cs ds : List ℕ) (same : (d : ℕ) → d < n → at cs d �
 
 -- the single stops' rules and 004's Definition 1 are what the check finds nothing against
 module _ (p : PlanLists) (have : HaveStops p) where
-  stops-pass : StopsChecked (planOf p) → NoFault p
-  stops-pass c = says-firstFault (visitsIn p) (λ v l. record {
-    starts = λ z. ap (timeIn p) (sym (N .number-is v l)) ∙ rw z (c .starts (ownerIn p v) (N .own-in v l));
-    rises = λ z. step v l z .0;
-    moves = λ z. step v l z .1;
-  })
-    where
-      N : Numbered (ownerIn p) (numberIn p) (start (p .stopCounts)) (planOf p .last) (planOf p .drones) (stopTotal p)
-      N = stops-numbered p have
-
-      step : (v : ℕ) → v < stopTotal p → numberIn p v ≢ 0 → (timeIn p (v - 1) < timeIn p v) × (locationIn p v ≢ locationIn p (v - 1))
-      step v l z =
-          let a : start (p .stopCounts) (ownerIn p v) + (numberIn p v - 1) ≡ v - 1 = omega (arith, N .number-is v l) in
-          let b : start (p .stopCounts) (ownerIn p v) + suc (numberIn p v - 1) ≡ v = omega (arith, N .number-is v l) in
-          let k : numberIn p v - 1 < planOf p .last (ownerIn p v) = omega (arith, N .number-in v l) in
-          let m : locationIn p (v - 1) ≢ locationIn p v = rw (a, b) at (c .moves (ownerIn p v) (numberIn p v - 1) (N .own-in v l) k) in
-          (rw (a, b) at (c .rises (ownerIn p v) (numberIn p v - 1) (N .own-in v l) k), λ e. m (sym e))
-
   pub passes-exactly : (NoFault p × NoCollision p) ↔ (StopsChecked (planOf p) × Never (planOf p) (Collides (planOf p)))
-  passes-exactly = (λ (e, a). (stops-checked p have e, definition-1 .collisions p have e .0 a), λ (c, never). let e : NoFault p = stops-pass c in (e, definition-1 .collisions p have e .1 never))
+  passes-exactly = (λ (e, a). (stops-checked p have e, definition-1 .collisions p have e .0 a), λ (c, never). let e : NoFault p = stops-pass (visitsIn p) _ _ _ _ _ (stops-numbered p have) c in (e, definition-1 .collisions p have e .1 never))

@@ -21,8 +21,8 @@ use Rattle.text.specs.declared.reader.LinesAnswer.the-variants.{WellFormed, Ref
 use Rattle.text.proofs.Fits.{lines-fit}
 use Rattle.plan.specs.Columns.{Columns}
 use Rattle.reading.specs.Replies.{ReadingReply, taken, refusedBy, isTaken, refusalMeant, readingMeant, lineMeant}
-use Rattle.reading.specs.Reading.{ReadingAnswer, withReply, AnsweredAs, TextStored, textZeroed, withText, plannedTotal, checkIn, checked, stored, fromLines, readLines}
-use Rattle.reading.specs.Asked.{PlanAsked, LinesAsked}
+use Rattle.reading.specs.Reading.{ReadingAnswer, withReply, AnsweredAs, withText, plannedTotal, checkIn, checked, stored, fromLines, readLines}
+use Rattle.reading.specs.Asked.{PlanAsked, LinesAsked, TextStored, textZeroed}
 use Rattle.reading.specs.declared.replies.Refusal.{Refusal}
 use Rattle.reading.specs.declared.replies.Reading.{Reading}
 use Rattle.reading.specs.declared.replies.Reading.the-variants.{Taken, Refused}

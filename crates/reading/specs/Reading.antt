@@ -1,16 +1,16 @@
 -- Reading a plan: the reply, and every lent table afterwards, for any text and any tables (document 01, "Where each refusal is checked": every entry, reading, plan
 -- check, building). Assumes nothing.
 use mathlib.Core.Path.{_≡_}
-use mathlib.Core.Bool.{true, false, cond}
+use mathlib.Core.Bool.{cond}
 use mathlib.Core.List.{List, [], _∷_}
-use Prim.Native.Nat.{ℕ, _*_}
+use Prim.Native.Nat.{ℕ}
 use lib.Dec.{ltb, leb}
 use lib.ListN.{length}
 use lib.Seq.{sets}
 use Rattle.below.specs.Below.{laid}
 use Rattle.tables.specs.Limits.{Limits}
-use Rattle.tables.specs.Tables.{PlanLists, Tables, tablesOf, fullSize}
-use Rattle.tables.specs.Zero.{zeroed, zeroedTables}
+use Rattle.tables.specs.Tables.{PlanLists, Tables, fullSize}
+use Rattle.tables.specs.Zero.{zeroedTables}
 use Rattle.text.specs.LinesRead.{LinesRead, linesAt, flat}
 use Rattle.text.specs.declared.reader.LinesAnswer.{LinesAnswer}
 use Rattle.text.specs.declared.reader.LinesAnswer.the-variants as text
@@ -106,22 +106,9 @@ module _ (L : Limits) where
   unfoldable pub readLines : List ℕ → Tables → ReadingAnswer
   readLines text z = fromLines z (linesAt L text) (linesAt L text .answer)
 
-  -- the tables with those zeroed that a text's lines are read into
-  abbrev pub textZeroed : Tables → Tables
-  textZeroed t =
-      tablesOf (zeroed 1 (t .plan .droneCount)) (t .plan .dependencyCount) (zeroed (L .drones * L .name) (t .plan .names)) (zeroed (L .drones) (t .plan .stopCounts))
-      (zeroed (L .stops) (t .plan .locations)) (zeroed (L .stops) (t .plan .times)) (t .visited) (t .droneFlags)
-      (t .plan .firstDrones) (t .plan .firstStops) (t .plan .secondDrones) (t .plan .secondStops) (t .flags)
-
   -- "every entry, first: 41 a lent table is below full size: unchanged"; "reading, before any line: 1 text too long: unchanged", "Refusals 1 to 6 carry a byte offset: 32,768 for 1"
   unfoldable pub readPlan : List ℕ → Tables → ReadingAnswer
   readPlan text t =
       cond (fullSize L t)
       (cond (ltb (L .text) (length text)) (withReply (refusedAt 1 (L .text)) t) (readLines text (zeroedTables L t)))
       (withReply (refusedBy 41) t)
-
--- a text read into tables z before any zeroing: the reply, and the tables if it is taken; if it is refused and z was zeroed, they have yet to be zeroed
-pub record TextStored (L : Limits) (text : List ℕ) (z : Tables) (r : ReadingReply) (t : Tables) : Type 0 where
-  pub replied : r ≡ readLines L text z .reply
-  pub left-taken : isTaken r ≡ true → t ≡ readLines L text z .tables
-  pub left-refused : isTaken r ≡ false → zeroedTables L z ≡ z → textZeroed L t ≡ readLines L text z .tables

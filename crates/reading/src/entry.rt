@@ -17,9 +17,9 @@ ghost use Rattle.tables.specs.Limits.{limits};
 ghost use Rattle.tables.specs.Tables.{tablesOf};
 ghost use Rattle.tables.specs.Zero.{zeroedTables};
 ghost use Rattle.plan.specs.Columns.{columnsWith};
-ghost use Rattle.reading.specs.Reading.{AnsweredAs, TextStored, readLines, readPlan};
+ghost use Rattle.reading.specs.Reading.{AnsweredAs, readLines, readPlan};
 ghost use Rattle.reading.specs.Replies.{readingMeant};
-ghost use Rattle.reading.specs.Asked.{LinesAsked};
+ghost use Rattle.reading.specs.Asked.{LinesAsked, TextStored};
 
 // Reads a text that is not too long into zeroed tables: its lines, then plan check and dependencies. A refusal leaves what the lines wrote. The drones' progress is not touched, whatever it is.
 fn store_text(

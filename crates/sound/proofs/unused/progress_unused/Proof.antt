@@ -36,4 +36,4 @@ returns-3 c = and-yes _ _ _ (sym (c .before .before .before .before .is-zero-u16
 pub progress-unused-spec : {M : Type 1} → statement M
 progress-unused-spec =
     tie.close
-    (tie.spec is-zero-u16-requires returns zero-u8-requires returns-2 is-zero-u8-requires-2 returns-3)
+    (tie.spec is-zero-u16-requires returns is-zero-u8-requires returns-2 is-zero-u8-requires-2 returns-3)

@@ -36,4 +36,4 @@ returns-3 c = and-yes _ _ _ (sym (c .before .before .before .before .is-zero-u16
 pub stops-unused-spec : {M : Type 1} → statement M
 stops-unused-spec =
     tie.close
-    (tie.spec is-zero-u16-requires returns zero-u16-requires-2 returns-2 is-zero-u32-requires returns-3)
+    (tie.spec is-zero-u16-requires returns is-zero-u16-requires-2 returns-2 is-zero-u32-requires returns-3)
