@@ -19,11 +19,11 @@ use Rattle.tables.proofs.SizeLaws.{SameLengths, fullSize-lengths, sizes-full}
 use Rattle.text.specs.Written.{Route, InLimits}
 use Rattle.plan.specs.Dependencies.{follows, flagOf}
 use Rattle.plan.specs.Field.{planOf, fixed}
-use Rattle.plan.specs.Claims.{ownerIn, numberIn, stopTotal, visitsIn, HoldsPlanned}
+use Rattle.plan.specs.Claims.{ownerIn, numberIn, stopTotal, visitsIn, HoldsPlanned, plannedTotal, plannedList}
 use Rattle.plan.proofs.Claims.{accepted-claims}
-use Rattle.sound.specs.Sound.{zeroFrom, checked as checkedSound, planAccepted, dependenciesSound, planUnused}
+use Rattle.sound.specs.Sound.{zeroFrom, passesCheck as checkedSound, planAccepted, dependenciesSound, planUnused}
 use Rattle.log.specs.Calls.{AsRead}
-use Rattle.reading.specs.Reading.{withDependencies, plannedTotal, plannedList, checkIn}
+use Rattle.reading.specs.Reading.{withDependencies, checkIn}
 use Rattle.reading.specs.Replies.{taken as Taken}
 use Rattle.accepted.proofs.Stored.{at-past, laid-at}
 use Rattle.accepted.proofs.PlanHeld.{HoldsRoutes, zero-past, have-stops, in-range, names-sound, names-zero, counts-zero, locations-zero, times-zero}

@@ -19,10 +19,10 @@ use Rattle.plan.specs.declared.check.StopAt.{StopAt}
 use Rattle.plan.specs.declared.check.PlanCheck.the-variants as check
 use Rattle.plan.specs.Answers.{pickCheck, faultCase, checkOf}
 use Rattle.plan.specs.Check.{firstFault, collider}
-use Rattle.plan.specs.Claims.{stopTotal, visitsIn, NoFault, NoCollision}
+use Rattle.plan.specs.Claims.{stopTotal, visitsIn, NoFault, NoCollision, plannedTotal}
 use Rattle.plan.proofs.Claims.{accepted-claims}
 use Rattle.reading.specs.Replies.{ReadingReply, taken as Taken, refusedBy, refusedAt, refusedStop, refusedStops, checkMeant}
-use Rattle.reading.specs.Reading.{ReadingAnswer, withReply, withText, withDependencies, plannedTotal, checkIn, checked, fromLines, readPlan, readLines}
+use Rattle.reading.specs.Reading.{ReadingAnswer, withReply, withText, withDependencies, checkIn, afterCheck, fromLines, readPlan, readLines}
 
 -- ---- the plan check
 
@@ -70,7 +70,7 @@ module _ (L : Limits) where
   built-taken z t true e h = (leb-true _ _ e, refl)
   built-taken z t false e h = absurd (let q : _≡_ {A = ℕ} 0 1 = cc h in omega arith)
 
-  checked-taken : (z t : Tables) (r : ReadingReply) → checked L z t r .reply ≡ Taken → (r ≡ Taken) × (plannedTotal (t .plan) ≤ L .dependencies) × (checked L z t r .tables ≡ withDependencies t)
+  checked-taken : (z t : Tables) (r : ReadingReply) → afterCheck L z t r .reply ≡ Taken → (r ≡ Taken) × (plannedTotal (t .plan) ≤ L .dependencies) × (afterCheck L z t r .tables ≡ withDependencies t)
   checked-taken z t Taken h = let k = built-taken z t (leb (plannedTotal (t .plan)) (L .dependencies)) refl h in (refl, k .0, k .1)
   checked-taken z t (refusedBy n) h = absurd (let q : _≡_ {A = ℕ} 0 1 = cc h in omega arith)
   checked-taken z t (refusedAt n o) h = absurd (let q : _≡_ {A = ℕ} 0 1 = cc h in omega arith)

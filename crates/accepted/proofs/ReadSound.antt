@@ -23,12 +23,13 @@ use Rattle.plan.proofs.PlansAgree.{agree-accepted}
 use Rattle.log.specs.Calls.{AsRead, tablesAfter}
 use Rattle.log.proofs.SoundParts.{accepted-plan}
 use Rattle.log.proofs.Whole.{stays-sound}
-use Rattle.reading.specs.Reading.{withText, withDependencies, plannedTotal, checkIn, readPlan}
+use Rattle.reading.specs.Reading.{withText, withDependencies, checkIn, readPlan}
 use Rattle.reading.specs.Replies.{taken as Taken}
 use Rattle.accepted.specs.TextPlan.{routesPlan, textPlan}
 use Rattle.accepted.specs.Claims.{TablesHoldPlan, AcceptedText, ReadIsSound, TablesSound}
 use Rattle.accepted.proofs.Stored.{stored-at}
 use Rattle.text.proofs.Sizes.{names-many, counts-many, stops-within, times-many}
+use Rattle.plan.specs.Claims.{plannedTotal}
 use Rattle.accepted.proofs.PlanHeld.{HoldsRoutes}
 use Rattle.accepted.proofs.ReadCases.{read-taken}
 use Rattle.accepted.proofs.RoutesPlan.{HoldsStops, held-agree, routes-read}

@@ -23,12 +23,12 @@ use Rattle.text.proofs.ReadIsWritten.{tables-kept}
 use Rattle.text.proofs.RoundTrips.{limits-round-trip}
 use Rattle.plan.specs.Field.{PlansAgree, planOf}
 use Rattle.plan.specs.Check.{firstFault}
-use Rattle.plan.specs.Claims.{stopTotal, visitsIn, colliderIn, HaveStops, NoFault, NoCollision, StopsChecked, Collides, Never}
+use Rattle.plan.specs.Claims.{stopTotal, visitsIn, colliderIn, HaveStops, NoFault, NoCollision, StopsChecked, Collides, Never, plannedTotal}
 use Rattle.plan.specs.Answers.{checkOf}
 use Rattle.plan.proofs.Claims.{accepted-claims}
 use Rattle.plan.proofs.PlansAgree.{agree-back, agree-stops, agree-never, passes-exactly}
 use Rattle.log.proofs.Whole.{stays-same}
-use Rattle.reading.specs.Reading.{withText, withDependencies, plannedTotal, checkIn, readPlan, readLines}
+use Rattle.reading.specs.Reading.{withText, withDependencies, checkIn, readPlan, readLines}
 use Rattle.reading.specs.Replies.{taken as Taken}
 use Rattle.accepted.specs.TextPlan.{routesPlan}
 use Rattle.accepted.specs.Claims.{PlanFollows, TakenExactly, ownText, WrittenBack, ReadAlike}

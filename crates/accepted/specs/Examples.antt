@@ -11,8 +11,8 @@ use Rattle.reading.specs.Replies.{readingNumber}
 use Rattle.reading.specs.Reading.{readPlan}
 
 -- the product's limits, but for one dependency
-abbrev pub oneDependency : Limits
-oneDependency = record {
+abbrev pub limitsOfOne : Limits
+limitsOfOne = record {
   text = limits .text;
   drones = limits .drones;
   stops = limits .stops;
@@ -47,9 +47,9 @@ readingExamples =
     ∷ record { within = limits; text = "plan=1\nagents=2\nname=survey-quad-east-1\nstops=4\ngo=1@0\ngo=6@1\ngo=5@2\ngo=2@3\nname=survey-quad-east-2\nstops=3\ngo=3@0\ngo=5@3\ngo=4@5\nend=plan\n"; number = 10 }
     -- "P: .. two dependencies"
     ∷ record { within = limits; text = textP; number = 0 }
-    ∷ record { within = oneDependency; text = textP; number = 11 }
+    ∷ record { within = limitsOfOne; text = textP; number = 11 }
     -- the drones collide at 40, where the first stays, and have three dependencies: "plan check, after all stops" comes before "building"
-    ∷ record { within = oneDependency; text = "plan=1\nagents=2\nname=a\nstops=4\ngo=10@0\ngo=20@1\ngo=30@2\ngo=40@3\nname=b\nstops=4\ngo=11@0\ngo=20@3\ngo=30@4\ngo=40@5\nend=plan\n"; number = 10 }
+    ∷ record { within = limitsOfOne; text = "plan=1\nagents=2\nname=a\nstops=4\ngo=10@0\ngo=20@1\ngo=30@2\ngo=40@3\nname=b\nstops=4\ngo=11@0\ngo=20@3\ngo=30@4\ngo=40@5\nend=plan\n"; number = 10 }
     -- a drone with more stops than the limit for all: "at one line in this order .. 4 .. 6"
     ∷ record { within = limits; text = "plan=1\nagents=1\nname=a\nstops=1025\n"; number = 4 }
     -- "a capital is the same letter as its small form everywhere names are compared"

@@ -6,7 +6,7 @@ use lib.IntN.{pos}
 use Rattle.tables.specs.Limits.{Limits}
 use Rattle.tables.specs.Tables.{Tables}
 use Rattle.log.specs.CallLog.{Call, Reply, accepted, refused, mustWait}
-use Rattle.log.specs.Calls.{step, CostReply, costs, costRefused, RoundsReply, rounds, roundsRefused}
+use Rattle.log.specs.Calls.{step, CostOutcome, costs, costRefused, RoundsOutcome, rounds, roundsRefused}
 use Rattle.log.specs.Preview.{PreviewOutcome, wouldTurn, wouldRefuse}
 use Rattle.flat.specs.Writing.{Writing, wrote, writeRefused, writes, bufferLeft}
 use Rattle.reading.specs.Replies.{ReadingReply, taken, refusedBy, refusedAt, refusedStop, refusedStops}
@@ -35,11 +35,11 @@ abbrev pub changeAnswerOf : PreviewOutcome → ChangeAnswer
 changeAnswerOf (wouldTurn z) = record { number = 0; change = z }
 changeAnswerOf (wouldRefuse n) = record { number = n; change = pos 0 }
 
-abbrev pub costAnswerOf : CostReply → CallAnswer
+abbrev pub costAnswerOf : CostOutcome → CallAnswer
 costAnswerOf (costs n) = answerWith 0 n
 costAnswerOf (costRefused n) = answerWith n 0
 
-abbrev pub roundsAnswerOf : RoundsReply → CallAnswer
+abbrev pub roundsAnswerOf : RoundsOutcome → CallAnswer
 roundsAnswerOf (rounds n) = answerWith 0 n
 roundsAnswerOf (roundsRefused n) = answerWith n 0
 

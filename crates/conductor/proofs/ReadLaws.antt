@@ -22,9 +22,9 @@ use Rattle.lines.specs.declared.refusal.Refusal.the-variants as line
 use Rattle.plan.specs.declared.check.PlanCheck.{PlanCheck}
 use Rattle.plan.specs.declared.check.PlanCheck.the-variants as check
 use Rattle.plan.specs.Answers.{checkOf}
-use Rattle.plan.specs.Claims.{visitsIn}
+use Rattle.plan.specs.Claims.{visitsIn, plannedTotal}
 use Rattle.reading.specs.Replies.{ReadingReply, taken, refusedBy, readingNumber, lineMeant, checkMeant}
-use Rattle.reading.specs.Reading.{ReadingAnswer, AnsweredAs, withReply, plannedTotal, withText, withDependencies, checked, fromLines, readLines, readPlan}
+use Rattle.reading.specs.Reading.{ReadingAnswer, AnsweredAs, withReply, withText, withDependencies, afterCheck, fromLines, readLines, readPlan}
 use Rattle.reading.proofs.EntryCases.{tables-small}
 use Rattle.records.specs.Records.{ColumnSizes, ColumnsOf, gathered, storeIf, zeroRecords, seen, tablesOfRecords}
 use Rattle.records.proofs.ColumnLaws.{zero-length, column-sizes}
@@ -48,7 +48,7 @@ module _ (L : Limits) where
   built-not-41 z t true = refl
   built-not-41 z t false = refl
 
-  check-not-41 : (z t : Tables) (k : PlanCheck) → is-41 (checked L z t (checkMeant k)) ≡ false
+  check-not-41 : (z t : Tables) (k : PlanCheck) → is-41 (afterCheck L z t (checkMeant k)) ≡ false
   check-not-41 z t check.Fine = built-not-41 z t (leb (plannedTotal (t .plan)) (L .dependencies))
   check-not-41 z t (check.StartsLate s) = refl
   check-not-41 z t (check.NotRising s) = refl

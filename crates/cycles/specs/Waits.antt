@@ -34,8 +34,8 @@ pub record Edges (L : Limits) (firsts seconds flags : List ℕ) (k : ℕ) (from 
   pub into-is : (j : ℕ) → j < k → at into j ≡ intoOf (at firsts) (at seconds) (turnedIn flags) j
 
 -- of a turned dependency, which is not fixed, the waits need this much: its first stop is no stop 0, and its second is not the last of all n stops
-abbrev pub Unfixed : (own off : ℕ → ℕ) (n m : ℕ) (xs ys : ℕ → ℕ) (turned : ℕ → Bool) → Type 0
-Unfixed own off n m xs ys turned = (k : ℕ) → k < m → turned k ≡ true → (xs k ≢ off (own (xs k))) × (ys k + 1 < n)
+abbrev pub UnfixedTurns : (own off : ℕ → ℕ) (n m : ℕ) (xs ys : ℕ → ℕ) (turned : ℕ → Bool) → Type 0
+UnfixedTurns own off n m xs ys turned = (k : ℕ) → k < m → turned k ≡ true → (xs k ≢ off (own (xs k))) × (ys k + 1 < n)
 
 -- the table is right, and its graph, with the turns in force, has no cycle
 unfoldable pub graphSound : (S : Visits) (off last : ℕ → ℕ) (drones m : ℕ) (xs ys : ℕ → ℕ) (turned : ℕ → Bool) → Bool
@@ -47,7 +47,7 @@ pub record Given (L : Limits) (owners locations times starts lasts firsts second
   pub table : PairTable m firsts seconds
   pub shape : Shape (at owners) (at starts) (at lasts) drones n
   pub zero-time : (v : ℕ) → v < n → v ≡ at starts (at owners v) → at times v ≡ 0
-  pub unfixed : Unfixed (at owners) (at starts) n m (at firsts) (at seconds) (turnedIn flags)
+  pub unfixed : UnfixedTurns (at owners) (at starts) n m (at firsts) (at seconds) (turnedIn flags)
   pub has-flags : m ≤ length flags
   pub few-drones : drones ≤ L .drones
   pub few-waits : m ≤ L .dependencies

@@ -22,9 +22,9 @@ use Rattle.text.specs.Written.{rowsOf, countsOf, locationsOf, timesOf}
 use Rattle.text.proofs.TakenIsWritten.{TextTaken, text-taken}
 use Rattle.text.proofs.Sizes.{names-many, counts-many, stops-within, times-many}
 use Rattle.plan.specs.Dependencies.{follows, flagOf}
-use Rattle.plan.specs.Claims.{stopTotal, ownerIn, numberIn, visitsIn}
+use Rattle.plan.specs.Claims.{stopTotal, ownerIn, numberIn, visitsIn, plannedTotal, plannedList}
 use Rattle.reading.specs.Replies.{ReadingReply, taken, isTaken, checkMeant}
-use Rattle.reading.specs.Reading.{ReadingAnswer, withReply, withText, plannedTotal, plannedList, withDependencies, checkIn, built, checked, fromLines, readLines, readPlan}
+use Rattle.reading.specs.Reading.{ReadingAnswer, withReply, withText, withDependencies, checkIn, built, afterCheck, fromLines, readLines, readPlan}
 use Rattle.accepted.proofs.PlanHeld.{HoldsRoutes, total-is as stops-are}
 use Rattle.accepted.proofs.ReadSound.{stored-holds}
 use Rattle.demands.specs.FullSizes.{upToFull, pastFull, AgreeUpToFull}
@@ -111,7 +111,7 @@ module _ (L : Limits) (t t′ : Tables) (e : AgreeUpToFull L t t′) (few : dron
         go true = record { replies = refl; leaves = built-agree }
         go false = record { replies = refl; leaves = h }
 
-    checked-agree : (r : ReadingReply) → AnswersAgree L (checked L z t r) (checked L z′ t′ r)
+    checked-agree : (r : ReadingReply) → AnswersAgree L (afterCheck L z t r) (afterCheck L z′ t′ r)
     checked-agree r = go (isTaken r)
       where
         go : (b : Bool) → AnswersAgree L (cond b (built L z t) (withReply r z)) (cond b (built L z′ t′) (withReply r z′))
@@ -209,7 +209,7 @@ module _ (L : Limits) (text : List ℕ) where
         let q : AgreeUpToFull L x x′ = first-text L (zeroedTables L t) f n ∙ ap (withText f n) zeroed-agree ∙ sym (first-text L (zeroedTables L t′) f n) in
         let few = drones-few L t full text n h in
         let room = stops-few L t full text n h in
-        subst (λ (r : ReadingReply). AnswersAgree L (checked L (zeroedTables L t) x (checkIn (x .plan))) (checked L (zeroedTables L t′) x′ r)) (checks L x x′ q few room) (checked-agree L x x′ q few room (zeroedTables L t) (zeroedTables L t′) zeroed-agree (checkIn (x .plan)))
+        subst (λ (r : ReadingReply). AnswersAgree L (afterCheck L (zeroedTables L t) x (checkIn (x .plan))) (afterCheck L (zeroedTables L t′) x′ r)) (checks L x x′ q few room) (checked-agree L x x′ q few room (zeroedTables L t) (zeroedTables L t′) zeroed-agree (checkIn (x .plan)))
 
   module _ (t t′ : Tables) (e : AgreeUpToFull L t t′) where
     pub reading-agrees : AnswersAgree L (readPlan L text t) (readPlan L text t′)
@@ -230,7 +230,7 @@ module _ (L : Limits) (text : List ℕ) where
       go true e r = built-past L t (leb-true _ _ e) ∙ h
       go false e r = refl
 
-  checked-past : (z t : Tables) (r : ReadingReply) → pastFull L t ≡ pastFull L z → pastFull L (checked L z t r .tables) ≡ pastFull L z
+  checked-past : (z t : Tables) (r : ReadingReply) → pastFull L t ≡ pastFull L z → pastFull L (afterCheck L z t r .tables) ≡ pastFull L z
   checked-past z t r h = go (isTaken r)
     where
       go : (b : Bool) → pastFull L (cond b (built L z t) (withReply r z) .tables) ≡ pastFull L z

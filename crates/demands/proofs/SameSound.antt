@@ -23,7 +23,7 @@ use Rattle.plan.proofs.Numbering.{numbered}
 use Rattle.plan.specs.Field.{Dependency, FieldPlan, planOf, graph, AcceptedPlan, PlansAgree}
 use Rattle.plan.specs.Status.{statusIn}
 use Rattle.plan.specs.Claims.{stopTotal}
-use Rattle.sound.specs.Sound.{zeroFrom, nameByte, nameLength, nameSound, sameName, namesDiffer, inRange, namesSound, checked, planAccepted, dependenciesSound, planUnused, flagsSound, droneFlagsSound, progressUnused, sound}
+use Rattle.sound.specs.Sound.{zeroFrom, nameByte, nameLength, nameSound, sameName, namesDiffer, inRange, namesSound, passesCheck, planAccepted, dependenciesSound, planUnused, flagsSound, droneFlagsSound, progressUnused, sound}
 use Rattle.sound.proofs.Clauses.{Sound, sound-says, says-sound}
 use Rattle.log.specs.CallLog.{Call, replyIn}
 use Rattle.log.specs.Demand.{Agree}
@@ -96,8 +96,8 @@ module _ (L : Limits) (p p′ : PlanLists) (same : PlanEntriesAgree L p p′) (f
         (ap₂ _&&_ (ap (λ (n : ℕ). leb n (L .stops)) total-stops)
         (allBelow-same (stopTotal p) (stopTotal p′) _ _ total-stops (λ v l. ap₂ (λ (x y : ℕ). leb x (L .location) && leb y (L .time)) (same .locations v (omega arith)) (same .times v (omega arith))))))
 
-    pub checked-same : checked L p ≡ checked L p′
-    unfolding checked
+    pub checked-same : passesCheck L p ≡ passesCheck L p′
+    unfolding passesCheck
     checked-same = ap₂ _&&_ (ap₂ eqb (fault-is L p p′ same few room) total-stops) (apart-is L p p′ same few room)
 
     pub accepted-same : planAccepted L p ≡ planAccepted L p′

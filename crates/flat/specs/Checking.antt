@@ -11,5 +11,5 @@ pickTablesCheck true a b = a
 pickTablesCheck false a b = b
 
 -- "41 a lent table is below full size", then "40 not sound"
-unfoldable pub checkOf : Limits → Tables → TablesCheck
-checkOf L t = pickTablesCheck (fullSize L t) (pickTablesCheck (sound L t) Usable NotSound) TooSmall
+unfoldable pub tablesCheckOf : Limits → Tables → TablesCheck
+tablesCheckOf L t = pickTablesCheck (fullSize L t) (pickTablesCheck (sound L t) Usable NotSound) TooSmall

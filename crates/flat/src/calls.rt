@@ -32,7 +32,7 @@ ghost use Rattle.log.specs.Preview.{preview as previewOf, previewAll as preview
 ghost use Rattle.flat.specs.Replies.{grantMeant, arriveMeant};
 ghost use Rattle.flat.specs.TurnReplies.{turnMeant, turnAllMeant, previewMeant, previewAllMeant, costMeant, roundsMeant};
 ghost use Rattle.flat.specs.declared.calls.TablesCheck.the-variants.{Usable as CanBeUsed};
-ghost use Rattle.flat.specs.Checking.{checkOf};
+ghost use Rattle.flat.specs.Checking.{tablesCheckOf};
 ghost use Rattle.flat.specs.Writing.{writeMeant, PlanWritten};
 
 // What every call but the reading asks first.
@@ -66,7 +66,7 @@ fn check_graph(
     requires { ⌜ Room limits (now owners) (now starts) (now lasts) (now from) (now into) ⌝ }
     ensures { λ r.
         ⌜
-        (r ≡ checkOf limits (tablesOf
+        (r ≡ tablesCheckOf limits (tablesOf
         (now («drone_count» .entry)) (now («dependency_count» .entry)) (now (names .entry)) (now («stop_counts» .entry))
         (now (locations .entry)) (now (times .entry)) (now (visited .entry)) (now («drone_flags» .entry))
         (now («first_drones» .entry)) (now («first_stops» .entry)) (now («second_drones» .entry)) (now («second_stops» .entry))
@@ -139,7 +139,7 @@ fn check_tables(
 ) -> TablesCheck
     ensures { λ r.
         ⌜
-        r ≡ checkOf limits (tablesOf
+        r ≡ tablesCheckOf limits (tablesOf
         (now («drone_count» .entry)) (now («dependency_count» .entry)) (now (names .entry)) (now («stop_counts» .entry))
         (now (locations .entry)) (now (times .entry)) (now (visited .entry)) (now («drone_flags» .entry))
         (now («first_drones» .entry)) (now («first_stops» .entry)) (now («second_drones» .entry)) (now («second_stops» .entry))

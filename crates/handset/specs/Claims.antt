@@ -27,12 +27,12 @@ grantsBelow (suc n) = grantsBelow n ++ (grant n ∷ [])
 
 module _ (L : Limits) where
   -- the calls that a press makes: "An arrival that is refused grants nothing"
-  abbrev pub callsOf : Tables → Report → List Call
-  callsOf t Nothing = grantsBelow (L .drones)
-  callsOf t (Arrived d) = arrive d ∷ cond (isAccepted (arriveStep L t d .reply)) (grantsBelow (L .drones)) []
+  abbrev pub pressCalls : Tables → Report → List Call
+  pressCalls t Nothing = grantsBelow (L .drones)
+  pressCalls t (Arrived d) = arrive d ∷ cond (isAccepted (arriveStep L t d .reply)) (grantsBelow (L .drones)) []
 
   abbrev pub PressIsCalls : Type 0
-  PressIsCalls = (t : Tables) (report : Report) → pressStep L t report .tables ≡ tablesAfter (step L) t (callsOf t report)
+  PressIsCalls = (t : Tables) (report : Report) → pressStep L t report .tables ≡ tablesAfter (step L) t (pressCalls t report)
 
 -- a call made by itself, a turn among them, or a press
 pub data Action : Type 0 where
@@ -42,7 +42,7 @@ pub data Action : Type 0 where
 module _ (L : Limits) where
   abbrev pub callsOfAction : Tables → Action → List Call
   callsOfAction t (called c) = c ∷ []
-  callsOfAction t (pressed report) = callsOf L t report
+  callsOfAction t (pressed report) = pressCalls L t report
 
   -- all the calls that the actions make, each on the tables as the one before left them
   unfoldable pub callsOfAll : Tables → List Action → List Call

@@ -17,7 +17,7 @@ use Rattle.precedence.specs.Graph.{blocks, free, cyclic}
 use Rattle.precedence.proofs.Rounds.{blocks-true, blocks-open, free-if, free-open, free-unfinished}
 use Rattle.plan.specs.Field.{FieldPlan, inForce, graph, fixed, Status, afterTurns}
 use Rattle.plan.specs.Status.{entered, unmet, dependencyNow, waitsKept}
-use Rattle.log.specs.CallLog.{grant, arrive, turn, turnAll, Reply, accepted, refused, mustWait, replyNumber, awaited, isAccepted, Check, when, firstThatHolds, isGroup, walked, refusals, replyIn}
+use Rattle.log.specs.CallLog.{grant, arrive, turn, turnAll, Reply, accepted, refused, mustWait, replyNumber, awaited, isAccepted, Check, when, firstThatHolds, isGroup, walkedRows, refusals, replyIn}
 use Rattle.log.specs.Claims.{IntoNext, Met, Waiting, MayGo, MustWait, MayArrive, Unentered, Turnable, Group, AllTurnable}
 use Rattle.log.proofs.Groups.{group-iff}
 
@@ -209,7 +209,7 @@ module _ (F : FieldPlan) (s : Status) where
   -- ---- a list of dependencies, walked
 
   -- a reply other than 30 to 32 comes from the rows after the walk, and each dependency of the list passed
-  walk-said : (ws : List ℕ) (after : List Check) (r : Reply) → 30 ≢ replyNumber r → 31 ≢ replyNumber r → 32 ≢ replyNumber r → Said (walked F s ws after) r → ((w : ℕ) → isIn w ws ≡ true → Passes w) × Said after r
+  walk-said : (ws : List ℕ) (after : List Check) (r : Reply) → 30 ≢ replyNumber r → 31 ≢ replyNumber r → 32 ≢ replyNumber r → Said (walkedRows F s ws after) r → ((w : ℕ) → isIn w ws ≡ true → Passes w) × Said after r
   unfolding isIn
   walk-said [] after r x y z h = (λ w e. true-or-false e refl, h)
   walk-said (w ∷ ws) after r x y z h =
@@ -219,7 +219,7 @@ module _ (F : FieldPlan) (s : Status) where
       let (each, h) = walk-said ws after r x y z h in
       (each-more Passes w ws (a, b, c) each, h)
 
-  pub walk-passed : (ws : List ℕ) (after : List Check) → ((w : ℕ) → isIn w ws ≡ true → Passes w) → firstThatHolds (walked F s ws after) ≡ firstThatHolds after
+  pub walk-passed : (ws : List ℕ) (after : List Check) → ((w : ℕ) → isIn w ws ≡ true → Passes w) → firstThatHolds (walkedRows F s ws after) ≡ firstThatHolds after
   walk-passed [] after h = refl
   walk-passed (w ∷ ws) after h = let (a, b, c) = h w (in-head w ws) in rw (a, b, c) (walk-passed ws after (λ v e. h v (in-tail v w ws e)))
 
@@ -251,11 +251,11 @@ module _ (F : FieldPlan) (s : Status) where
   )
 
   -- every row after 36's has another number
-  walk-other : (ws : List ℕ) (after : List Check) (n : ℕ) → n ≢ 30 → n ≢ 31 → n ≢ 32 → replyNumber (firstThatHolds after) ≢ n → replyNumber (firstThatHolds (walked F s ws after)) ≢ n
+  walk-other : (ws : List ℕ) (after : List Check) (n : ℕ) → n ≢ 30 → n ≢ 31 → n ≢ 32 → replyNumber (firstThatHolds after) ≢ n → replyNumber (firstThatHolds (walkedRows F s ws after)) ≢ n
   walk-other [] after n x y z h = h
   walk-other (w ∷ ws) after n x y z h = go (leb count w) (fixed F w) (entered F s (dependencyNow F s w .first) (dependencyNow F s w .firstStop)) (walk-other ws after n x y z h)
     where
-      go : (a b c : Bool) → replyNumber (firstThatHolds (walked F s ws after)) ≢ n → replyNumber (firstThatHolds (when a (refused 30) ∷ when b (refused 31) ∷ when c (refused 32) ∷ walked F s ws after)) ≢ n
+      go : (a b c : Bool) → replyNumber (firstThatHolds (walkedRows F s ws after)) ≢ n → replyNumber (firstThatHolds (when a (refused 30) ∷ when b (refused 31) ∷ when c (refused 32) ∷ walkedRows F s ws after)) ≢ n
       go true b c k = λ e. omega arith
       go false true c k = λ e. omega arith
       go false false true k = λ e. omega arith
@@ -276,21 +276,21 @@ module _ (F : FieldPlan) (s : Status) where
   pub record FirstStopped (ws : List ℕ) (n : ℕ) : Type 0 where
     pub index : ℕ
     pub index-in : index < length ws
-    pub stops : (rest : List Check) → firstThatHolds (walked F s (at ws index ∷ []) rest) ≡ refused n
+    pub stops : (rest : List Check) → firstThatHolds (walkedRows F s (at ws index ∷ []) rest) ≡ refused n
     pub passed-before : (j : ℕ) → j < index → Passes (at ws j)
 
-  pub walk-first : (ws : List ℕ) (after : List Check) (n : ℕ) → replyNumber (firstThatHolds after) ≢ n → firstThatHolds (walked F s ws after) ≡ refused n → FirstStopped ws n
+  pub walk-first : (ws : List ℕ) (after : List Check) (n : ℕ) → replyNumber (firstThatHolds after) ≢ n → firstThatHolds (walkedRows F s ws after) ≡ refused n → FirstStopped ws n
   walk-first [] after n h e = absurd (h (ap replyNumber e))
   walk-first (w ∷ ws) after n h e = go (leb count w) refl (fixed F w) refl (entered F s (dependencyNow F s w .first) (dependencyNow F s w .firstStop)) refl e (walk-first ws after n h)
     where
-      here : ((rest : List Check) → firstThatHolds (walked F s (w ∷ []) rest) ≡ refused n) → FirstStopped (w ∷ ws) n
+      here : ((rest : List Check) → firstThatHolds (walkedRows F s (w ∷ []) rest) ≡ refused n) → FirstStopped (w ∷ ws) n
       here stops = record { index = 0; index-in = omega arith; stops = stops; passed-before = λ j l. absurd (omega arith) }
 
       before : Passes w → (i : ℕ) → ((j : ℕ) → j < i → Passes (at ws j)) → (j : ℕ) → j < suc i → Passes (at (w ∷ ws) j)
       before p i g zero l = p
       before p i g (suc j) l = g j (omega arith)
 
-      go : (a : Bool) → leb count w ≡ a → (b : Bool) → fixed F w ≡ b → (c : Bool) → entered F s (dependencyNow F s w .first) (dependencyNow F s w .firstStop) ≡ c → firstThatHolds (when a (refused 30) ∷ when b (refused 31) ∷ when c (refused 32) ∷ walked F s ws after) ≡ refused n → (firstThatHolds (walked F s ws after) ≡ refused n → FirstStopped ws n) → FirstStopped (w ∷ ws) n
+      go : (a : Bool) → leb count w ≡ a → (b : Bool) → fixed F w ≡ b → (c : Bool) → entered F s (dependencyNow F s w .first) (dependencyNow F s w .firstStop) ≡ c → firstThatHolds (when a (refused 30) ∷ when b (refused 31) ∷ when c (refused 32) ∷ walkedRows F s ws after) ≡ refused n → (firstThatHolds (walkedRows F s ws after) ≡ refused n → FirstStopped ws n) → FirstStopped (w ∷ ws) n
       go true p b q c r e k = here (λ rest. rw p e)
       go false p true q c r e k = here (λ rest. rw (p, q) e)
       go false p false q true r e k = here (λ rest. rw (p, q, r) e)
@@ -311,12 +311,12 @@ module _ (F : FieldPlan) (s : Status) where
 
   -- ---- one turn is the list of length one
 
-  pub one-stopped : (w n : ℕ) → 30 ≤ n → n ≤ 32 → replyIn F s (turn w) ≡ refused n → (rest : List Check) → firstThatHolds (walked F s (w ∷ []) rest) ≡ refused n
+  pub one-stopped : (w n : ℕ) → 30 ≤ n → n ≤ 32 → replyIn F s (turn w) ≡ refused n → (rest : List Check) → firstThatHolds (walkedRows F s (w ∷ []) rest) ≡ refused n
   unfolding replyIn
   one-stopped w n x y e rest =
       let f = walk-first (w ∷ []) (cycleRow (w ∷ [])) n (cycle-other (w ∷ []) n x y) e in
       let first : f .index ≡ 0 = omega (arith, f .index-in) in
-      subst (λ (i : ℕ). firstThatHolds (walked F s (at (w ∷ []) i ∷ []) rest) ≡ refused n) first (f .stops rest)
+      subst (λ (i : ℕ). firstThatHolds (walkedRows F s (at (w ∷ []) i ∷ []) rest) ≡ refused n) first (f .stops rest)
 
   pub one-reply : (w : ℕ) → replyIn F s (turn w) ≡ replyIn F s (turnAll (w ∷ []))
   unfolding replyIn isIn

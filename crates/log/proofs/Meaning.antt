@@ -6,7 +6,7 @@ use mathlib.Core.List.{List, [], _∷_, _++_}
 use Prim.Native.Nat.{ℕ, _<_}
 use native.Mathlib.Omega.{arith}
 use Rattle.plan.specs.Field.{FieldPlan, Status}
-use Rattle.log.specs.CallLog.{Call, grant, arrive, turn, turnAll, Reply, accepted, refused, replyNumber, awaited, replyFrom, Check, firstThatHolds, walked, refusals, replyIn, entryOf, Entry, statusBy, replyBy, logFrom}
+use Rattle.log.specs.CallLog.{Call, grant, arrive, turn, turnAll, Reply, accepted, refused, replyNumber, awaited, replyFrom, Check, firstThatHolds, walkedRows, refusals, replyIn, entryOf, Entry, statusBy, replyBy, logFrom}
 use Rattle.log.specs.Claims.{LogNever40Or41}
 
 -- ---- replies
@@ -26,7 +26,7 @@ of-rows C (c ∷ cs) all = go (c .holds) (of-rows C cs (all .1))
 
 module _ (F : FieldPlan) (s : Status) where
   -- the rows of a list that is walked
-  walk-rows : (C : Reply → Type 0) → C (refused 30) → C (refused 31) → C (refused 32) → (ws : List ℕ) (after : List Check) → AllRows C after → AllRows C (walked F s ws after)
+  walk-rows : (C : Reply → Type 0) → C (refused 30) → C (refused 31) → C (refused 32) → (ws : List ℕ) (after : List Check) → AllRows C after → AllRows C (walkedRows F s ws after)
   walk-rows C x y z [] after h = h
   walk-rows C x y z (w ∷ ws) after h = (x, (y, (z, walk-rows C x y z ws after h)))
 

@@ -16,7 +16,7 @@ use Rattle.sound.specs.Sound.{sound}
 use Rattle.plan.specs.Field.{planOf}
 use Rattle.plan.specs.Status.{statusIn}
 use Rattle.log.specs.CallLog.{Reply, accepted, refused, mustWait, replyNumber, isAccepted, Call, turn, turnAll, replyIn}
-use Rattle.log.specs.Calls.{Answer, CostReply, costs, replyOf, costReply, turnStep, turnAllStep, step, Answered}
+use Rattle.log.specs.Calls.{Answer, CostOutcome, costs, replyOf, costReply, turnStep, turnAllStep, step, Answered}
 use Rattle.log.specs.Claims.{Usable}
 use Rattle.log.specs.Preview.{PreviewOutcome, wouldTurn, wouldRefuse, previewBy, previewOf, preview, previewAll, RefusedAs, Change, DoneAs, ChangeWithin, PreviewClaims}
 use Rattle.log.proofs.Exactly.{group-exactly, turn-is-group}
@@ -60,10 +60,10 @@ difference-between a b n x y = go (ltb a b) refl n x y
 -- ---- by the reply of the turn
 
 -- both costs are there
-abbrev Known : CostReply → CostReply → Type 0
+abbrev Known : CostOutcome → CostOutcome → Type 0
 Known x y = (a : ℕ) × (b : ℕ) × (x ≡ costs a) × (y ≡ costs b)
 
-done-by : (r : Reply) (x y : CostReply) → replyNumber r ≢ 23 → (r ≡ accepted → Known x y) → (z : ℤ) → (previewBy r x y ≡ wouldTurn z) ↔ ((r ≡ accepted) × Change x y z)
+done-by : (r : Reply) (x y : CostOutcome) → replyNumber r ≢ 23 → (r ≡ accepted → Known x y) → (z : ℤ) → (previewBy r x y ≡ wouldTurn z) ↔ ((r ≡ accepted) × Change x y z)
 done-by accepted x y n h z = (
   λ e. let (a, b, p, q) = h refl in (refl, record { costAfter = a; costNow = b; costs-after = p; costs-now = q; difference = sym (ap changeIn (rw (p, q) at e)) }),
   λ (_, c). rw (c .costs-after, c .costs-now) (ap wouldTurn (sym (c .difference))),
@@ -71,7 +71,7 @@ done-by accepted x y n h z = (
 done-by (refused m) x y n h z = (λ e. absurd (let q : _≡_ {A = ℕ} 0 1 = ap isDone e in omega arith), λ (a, c). true-or-false (ap isAccepted a) refl)
 done-by (mustWait w) x y n h z = absurd (n refl)
 
-refused-by : (r : Reply) (x y : CostReply) → replyNumber r ≢ 23 → (r ≡ accepted → Known x y) → (k : ℕ) → (previewBy r x y ≡ wouldRefuse k) ↔ (r ≡ refused k)
+refused-by : (r : Reply) (x y : CostOutcome) → replyNumber r ≢ 23 → (r ≡ accepted → Known x y) → (k : ℕ) → (previewBy r x y ≡ wouldRefuse k) ↔ (r ≡ refused k)
 refused-by accepted x y n h k = (
   λ e. let (a, b, p, q) = h refl in absurd (let q : _≡_ {A = ℕ} 1 0 = ap isDone (rw (p, q) at e) in omega arith),
   λ e. true-or-false refl (ap isAccepted e),

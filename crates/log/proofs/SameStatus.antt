@@ -11,7 +11,7 @@ use Rattle.precedence.specs.Graph.{cyclic}
 use Rattle.precedence.proofs.Agreement.{GraphsAgree, AwaitedIn, lowest-agree, cyclic-agree}
 use Rattle.plan.specs.Field.{Dependency, FieldPlan, inForce, waitOf, flipAll, graph, fixed, AcceptedPlan, PlansAgree, Status, afterTurns}
 use Rattle.plan.specs.Status.{entered, unmet, dependencyNow, fixedUnturned, withinStops, waitsKept}
-use Rattle.log.specs.CallLog.{Call, grant, arrive, turn, turnAll, Reply, refused, Check, when, firstThatHolds, isGroup, walked, replyIn}
+use Rattle.log.specs.CallLog.{Call, grant, arrive, turn, turnAll, Reply, refused, Check, when, firstThatHolds, isGroup, walkedRows, replyIn}
 use Rattle.log.specs.Demand.{Agree}
 use Rattle.log.proofs.Checks.{one-reply}
 
@@ -80,16 +80,16 @@ module _ (F G : FieldPlan) (plans : PlansAgree F G) (accepted : AcceptedPlan F) 
   arrive-same d true e = rw (← plans .drones-agree, e) refl
   arrive-same d false e = rw (agree .underWays d (leb-false (F .drones) d e), plans .drones-agree) refl
 
-  walk-same : (ws : List ℕ) (after after′ : List Check) → firstThatHolds after ≡ firstThatHolds after′ → firstThatHolds (walked F s ws after) ≡ firstThatHolds (walked G s′ ws after′)
+  walk-same : (ws : List ℕ) (after after′ : List Check) → firstThatHolds after ≡ firstThatHolds after′ → firstThatHolds (walkedRows F s ws after) ≡ firstThatHolds (walkedRows G s′ ws after′)
   walk-same [] after after′ h = h
   walk-same (w ∷ ws) after after′ h = go (leb (F .count) w) refl (walk-same ws after after′ h)
     where
-      go : (b : Bool) → leb (F .count) w ≡ b → firstThatHolds (walked F s ws after) ≡ firstThatHolds (walked G s′ ws after′) → firstThatHolds (walked F s (w ∷ ws) after) ≡ firstThatHolds (walked G s′ (w ∷ ws) after′)
+      go : (b : Bool) → leb (F .count) w ≡ b → firstThatHolds (walkedRows F s ws after) ≡ firstThatHolds (walkedRows G s′ ws after′) → firstThatHolds (walkedRows F s (w ∷ ws) after) ≡ firstThatHolds (walkedRows G s′ (w ∷ ws) after′)
       go true e k = rw (← plans .counts-agree, e) refl
       go false e k =
           let l : w < F .count = leb-false (F .count) w e in
-          ap (λ (n : ℕ). elim (leb n w) [ true ↦ refused 30 | false ↦ elim (fixed F w) [ true ↦ refused 31 | false ↦ elim (entered F s (dependencyNow F s w .first) (dependencyNow F s w .firstStop)) [ true ↦ refused 32 | false ↦ firstThatHolds (walked F s ws after) ] ] ]) (plans .counts-agree)
-          ∙ ap (λ (b : Bool). elim (leb (G .count) w) [ true ↦ refused 30 | false ↦ elim b [ true ↦ refused 31 | false ↦ elim (entered F s (dependencyNow F s w .first) (dependencyNow F s w .firstStop)) [ true ↦ refused 32 | false ↦ firstThatHolds (walked F s ws after) ] ] ]) (fixed-same F G plans accepted w l)
+          ap (λ (n : ℕ). elim (leb n w) [ true ↦ refused 30 | false ↦ elim (fixed F w) [ true ↦ refused 31 | false ↦ elim (entered F s (dependencyNow F s w .first) (dependencyNow F s w .firstStop)) [ true ↦ refused 32 | false ↦ firstThatHolds (walkedRows F s ws after) ] ] ]) (plans .counts-agree)
+          ∙ ap (λ (b : Bool). elim (leb (G .count) w) [ true ↦ refused 30 | false ↦ elim b [ true ↦ refused 31 | false ↦ elim (entered F s (dependencyNow F s w .first) (dependencyNow F s w .firstStop)) [ true ↦ refused 32 | false ↦ firstThatHolds (walkedRows F s ws after) ] ] ]) (fixed-same F G plans accepted w l)
           ∙ ap₂ (λ (b : Bool) (r : Reply). elim (leb (G .count) w) [ true ↦ refused 30 | false ↦ elim (fixed G w) [ true ↦ refused 31 | false ↦ elim b [ true ↦ refused 32 | false ↦ r ] ] ]) (entered-first w l) k
 
   group-same : (ws : List ℕ) → replyIn F s (turnAll ws) ≡ replyIn G s′ (turnAll ws)

@@ -15,7 +15,7 @@ use Rattle.precedence.specs.Graph.{blocks, cyclic, cost}
 use Rattle.plan.specs.Field.{FieldPlan, planOf, graph, fixed, Status, afterTurn, afterTurns}
 use Rattle.plan.specs.Status.{statusIn, entered, dependencyNow}
 use Rattle.sound.specs.Sound.{sound}
-use Rattle.log.specs.CallLog.{Call, grant, arrive, turn, turnAll, Reply, accepted, refused, mustWait, Check, firstThatHolds, isGroup, walked, replyIn}
+use Rattle.log.specs.CallLog.{Call, grant, arrive, turn, turnAll, Reply, accepted, refused, mustWait, Check, firstThatHolds, isGroup, walkedRows, replyIn}
 use Rattle.below.proofs.Members.{in-at}
 use Rattle.log.proofs.Checks.{Passes, walk-passed, cycleRow}
 use Rattle.log.specs.Calls.{Answer, granted, arrived, flipped, flippedAll, replyOf, grantStep, arriveStep, turnStep, turnAllStep, step, costs, costRefused, costReply}
@@ -28,9 +28,9 @@ module _ (F : FieldPlan) (s : Status) where
   PassedTo ws i = (j : ℕ) → j < i → Passes F s (at ws j)
 
   -- what the dependency at index i says first, the whole list says
-  pub walk-at : (ws : List ℕ) (after : List Check) (r : Reply) (i : ℕ) → i < length ws → PassedTo ws i → ((rest : List Check) → firstThatHolds (walked F s (at ws i ∷ []) rest) ≡ r) → firstThatHolds (walked F s ws after) ≡ r
+  pub walk-at : (ws : List ℕ) (after : List Check) (r : Reply) (i : ℕ) → i < length ws → PassedTo ws i → ((rest : List Check) → firstThatHolds (walkedRows F s (at ws i ∷ []) rest) ≡ r) → firstThatHolds (walkedRows F s ws after) ≡ r
   walk-at [] after r i l p h = absurd (omega arith)
-  walk-at (w ∷ ws) after r zero l p h = h (walked F s ws after)
+  walk-at (w ∷ ws) after r zero l p h = h (walkedRows F s ws after)
   walk-at (w ∷ ws) after r (suc i) l p h = let (a, b, c) = p 0 (omega arith) in rw (a, b, c) (walk-at ws after r i (omega arith) (λ j m. p (suc j) (omega arith)) h)
 
   -- all pass

@@ -16,7 +16,7 @@ use Rattle.plan.specs.Check.{faultAt, firstFault, over, collide, apart}
 use Rattle.plan.specs.Dependencies.{follows, isLast, isFixed, flagOf}
 use Rattle.plan.specs.Field.{planOf}
 use Rattle.plan.specs.Status.{fixedUnturned, withinStops, waitsKept}
-use Rattle.sound.specs.Sound.{zeroFrom, nameLength, nameSound, sameName, namesDiffer, inRange, namesSound, checked, planAccepted, dependenciesSound, planUnused, flagsSound, droneFlagsSound, progressUnused, sound}
+use Rattle.sound.specs.Sound.{zeroFrom, nameLength, nameSound, sameName, namesDiffer, inRange, namesSound, passesCheck, planAccepted, dependenciesSound, planUnused, flagsSound, droneFlagsSound, progressUnused, sound}
 use Rattle.log.specs.CallLog.{replyNumber, Entry, replyIn, acceptedCalls, logFrom, logOf}
 use Rattle.log.specs.Calls.{flipFlags, replyOf, grantStep, arriveStep, turnStep, turnAllStep, recorded}
 use Rattle.log.specs.Demand.{Demand3Of}
@@ -48,5 +48,5 @@ all-false [] h = tt
 all-false (x ∷ xs) h = (false-if x (and-left _ _ h), all-false xs (and-right (fails x) _ h))
 
 pub wrongs-false : WrongsFalse
-unfolding allFail fails numbers refuseAll idle honestOnce sooner visitOnly noCycles never34 grantUntested waitUntested refuseOne refuseList oneByOne anyList never36 firstLeft isRead recorded replyOf flipFlags isIn grantStep arriveStep turnStep turnAllStep logFrom replyIn acceptedCalls sound zeroFrom nameLength nameSound sameName namesDiffer inRange namesSound checked planAccepted dependenciesSound planUnused flagsSound droneFlagsSound progressUnused fixedUnturned withinStops waitsKept follows isLast isFixed flagOf faultAt firstFault over collide apart start owner stopNumber blocks free round play finished unvisited cyclic isNameByte turnedBit flipBit fixedFlag underWayBit onlyOneBit setUnderWay clearUnderWay fullSize firstBelow allBelow countBelow sumBelow listBelow picks rowsBelow
+unfolding allFail fails numbers refuseAll idle honestOnce sooner visitOnly noCycles never34 grantUntested waitUntested refuseOne refuseList oneByOne anyList never36 firstLeft isRead recorded replyOf flipFlags isIn grantStep arriveStep turnStep turnAllStep logFrom replyIn acceptedCalls sound zeroFrom nameLength nameSound sameName namesDiffer inRange namesSound passesCheck planAccepted dependenciesSound planUnused flagsSound droneFlagsSound progressUnused fixedUnturned withinStops waitsKept follows isLast isFixed flagOf faultAt firstFault over collide apart start owner stopNumber blocks free round play finished unvisited cyclic isNameByte turnedBit flipBit fixedFlag underWayBit onlyOneBit setUnderWay clearUnderWay fullSize firstBelow allBelow countBelow sumBelow listBelow picks rowsBelow
 wrongs-false = all-false wrongs refl

@@ -73,17 +73,17 @@ module _ (F : FieldPlan) (s : Status) where
   open Status s using (place, underWay, turned)
 
   -- "as the list is walked": 30 to 32 of each dependency of the list, and the rows after them
-  abbrev pub walked : List ℕ → List Check → List Check
-  walked [] after = after
-  walked (w ∷ ws) after =
+  abbrev pub walkedRows : List ℕ → List Check → List Check
+  walkedRows [] after = after
+  walkedRows (w ∷ ws) after =
       when (leb count w) (refused 30)
       ∷ when (fixed F w) (refused 31)
       ∷ when (entered F s (dependencyNow F s w .first) (dependencyNow F s w .firstStop)) (refused 32)
-      ∷ walked ws after
+      ∷ walkedRows ws after
 
   -- "then 30 to 34 as the list is walked, with 34 last of all": the graph has all of the list turned
   abbrev pub turnRows : List ℕ → List Check
-  turnRows ws = walked ws (when (cyclic (graph F (afterTurns s ws))) (refused 34) ∷ [])
+  turnRows ws = walkedRows ws (when (cyclic (graph F (afterTurns s ws))) (refused 34) ∷ [])
 
   -- the rows of "Where each refusal is checked" for grant, arrive and turn, without 41 and 40
   abbrev pub refusals : Call → List Check

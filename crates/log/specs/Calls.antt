@@ -48,14 +48,14 @@ abbrev pub flippedAll : Tables → List ℕ → Tables
 flippedAll t ws = record { plan = t .plan; visited = t .visited; droneFlags = t .droneFlags; flags = flipFlags (t .flags) ws }
 
 -- a cost, or the refusal of the call
-pub data CostReply : Type 0 where
-  costs : ℕ → CostReply
-  costRefused : ℕ → CostReply
+pub data CostOutcome : Type 0 where
+  costs : ℕ → CostOutcome
+  costRefused : ℕ → CostOutcome
 
 -- the rounds until everybody has landed, or the refusal of the call
-pub data RoundsReply : Type 0 where
-  rounds : ℕ → RoundsReply
-  roundsRefused : ℕ → RoundsReply
+pub data RoundsOutcome : Type 0 where
+  rounds : ℕ → RoundsOutcome
+  roundsRefused : ℕ → RoundsOutcome
 
 module _ (L : Limits) where
   -- 41, then 40, then the first of the table's refusals that holds in the tables
@@ -82,11 +82,11 @@ module _ (L : Limits) where
   step t (turnAll ws) = turnAllStep t ws
 
   -- "Remaining cost": from the drones' progress, with the order now in force. It changes nothing
-  unfoldable pub costReply : Tables → CostReply
+  unfoldable pub costReply : Tables → CostOutcome
   costReply t = cond (fullSize L t) (cond (sound L t) (costs (cost (graph (planOf (t .plan)) (statusIn t)) (placeOf (planOf (t .plan)) (statusIn t)))) (costRefused 40)) (costRefused 41)
 
   -- "the undelayed rounds until everybody has landed": from the drones' progress, with the order now in force. It changes nothing
-  unfoldable pub roundsReply : Tables → RoundsReply
+  unfoldable pub roundsReply : Tables → RoundsOutcome
   roundsReply t = cond (fullSize L t) (cond (sound L t) (rounds (makespan (graph (planOf (t .plan)) (statusIn t)) (placeOf (planOf (t .plan)) (statusIn t)))) (roundsRefused 40)) (roundsRefused 41)
 
   -- the tables as an accepted reading of the plan left them: the plan and its dependencies stand in them, everybody is at stop 0, "nobody is under way and

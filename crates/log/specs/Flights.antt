@@ -19,7 +19,7 @@ use Rattle.plan.specs.Field.{FieldPlan, planOf, graph, placeOf}
 use Rattle.sound.specs.Sound.{sound}
 use Rattle.log.specs.CallLog.{Call, grant, arrive, turn, turnAll, Reply, accepted, refused, mustWait, statusBy, Entry, entryOf, replyBy}
 use Rattle.log.specs.Preview.{PreviewOutcome, wouldTurn, wouldRefuse, preview, previewAll}
-use Rattle.log.specs.Calls.{step, CostReply, costs, costRefused, costReply}
+use Rattle.log.specs.Calls.{step, CostOutcome, costs, costRefused, costReply}
 
 -- ---- plans by routes
 
@@ -115,7 +115,7 @@ sameReply (mustWait v) accepted = false
 sameReply (mustWait v) (refused n) = false
 sameReply (mustWait v) (mustWait w) = eqb v w
 
-abbrev pub isCost : CostReply → ℕ → Bool
+abbrev pub isCost : CostOutcome → ℕ → Bool
 isCost (costs m) n = eqb m n
 isCost (costRefused m) n = false
 
@@ -162,8 +162,8 @@ slips =
     ∷ []
 
 -- turns of a list
-abbrev pub groups : List Flight
-groups =
+abbrev pub groupFlights : List Flight
+groupFlights =
     -- "Flight P with both turned is accepted and still costs 8"
     flightBy P 2 (says (turnAll (0 ∷ 1 ∷ [])) accepted ∷ costsNow 8 ∷ says (turnAll (0 ∷ 1 ∷ [])) accepted ∷ costsNow 8 ∷ [])
     -- "36, an empty list or one not strictly rising, after 40 and before 30; then 30 to 34 as the list is walked, with 34 last of all"
@@ -188,4 +188,4 @@ looks =
 
 -- the claim: every flight of the table is as it says
 abbrev pub FlightsHold : Type 0
-FlightsHold = allIn flightHolds (slips ++ groups ++ looks) ≡ true
+FlightsHold = allIn flightHolds (slips ++ groupFlights ++ looks) ≡ true

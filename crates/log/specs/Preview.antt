@@ -9,7 +9,7 @@ use lib.Signed.{_≤ℤ_}
 use Rattle.tables.specs.Limits.{Limits, limits, mostCost}
 use Rattle.tables.specs.Tables.{Tables}
 use Rattle.log.specs.CallLog.{Reply, accepted, refused, mustWait}
-use Rattle.log.specs.Calls.{Answer, turnStep, turnAllStep, CostReply, costs, costRefused, costReply}
+use Rattle.log.specs.Calls.{Answer, turnStep, turnAllStep, CostOutcome, costs, costRefused, costReply}
 
 -- the turn would be done and change the cost by so much; or it would be refused with this number
 pub data PreviewOutcome : Type 0 where
@@ -17,7 +17,7 @@ pub data PreviewOutcome : Type 0 where
   wouldRefuse : ℕ → PreviewOutcome
 
 -- by the reply of the turn, the cost of the tables that it leaves, and the cost now; `subℕ a b` is the integer a - b
-abbrev pub previewBy : Reply → CostReply → CostReply → PreviewOutcome
+abbrev pub previewBy : Reply → CostOutcome → CostOutcome → PreviewOutcome
 previewBy accepted (costs costAfter) (costs costNow) = wouldTurn (subℕ costAfter costNow)
 previewBy accepted (costs costAfter) (costRefused n) = wouldRefuse n
 previewBy accepted (costRefused n) costNow = wouldRefuse n
@@ -44,7 +44,7 @@ abbrev pub RefusedAs : PreviewOutcome → Answer → Type 0
 RefusedAs p a = (n : ℕ) → (p ≡ wouldRefuse n) ↔ (a .reply ≡ refused n)
 
 -- both costs are there, and z is the one after less the one now
-pub record Change (x y : CostReply) (z : ℤ) : Type 0 where
+pub record Change (x y : CostOutcome) (z : ℤ) : Type 0 where
   pub costAfter : ℕ
   pub costNow : ℕ
   pub costs-after : x ≡ costs costAfter

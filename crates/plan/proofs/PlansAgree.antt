@@ -12,7 +12,7 @@ use Rattle.below.proofs.Sum.{sum-ext}
 use Rattle.tables.specs.Tables.{PlanLists}
 use Rattle.plan.specs.Stops.{start, owner, stopNumber}
 use Rattle.plan.specs.Field.{Dependency, FieldPlan, GoneBefore, Checked, Meeting, AcceptedPlan, PlansAgree, planOf}
-use Rattle.plan.specs.Claims.{Numbered, ownerIn, numberIn, locationIn, timeIn, stopTotal, visitsIn, HaveStops, NoFault, NoCollision, StopsChecked, IsAt, Leaves, Enters, Collides, Never}
+use Rattle.plan.specs.Claims.{Numbered, ownerIn, numberIn, locationIn, timeIn, stopTotal, visitsIn, HaveStops, NoFault, NoCollision, StopsChecked, LocatedAt, Leaves, Enters, Collides, Never}
 use Rattle.plan.proofs.Numbering.{owner-le}
 use Rattle.plan.proofs.Conditions.{says-firstFault}
 use Rattle.plan.proofs.Accepted.{stops-numbered, stops-checked, stops-pass}
@@ -60,7 +60,7 @@ module _ (F G : FieldPlan) (A : PlansAgree F G) where
     moves = λ d s l k q. c .moves d s (drone-there d l) (stop-there d (suc s) l k) (sym (A .locations-agree d s l (omega arith)) ∙ q ∙ A .locations-agree d (suc s) l k);
   }
 
-  at-agrees : (d l t : ℕ) → d < F .drones → IsAt F d l t → IsAt G d l t
+  at-agrees : (d l t : ℕ) → d < F .drones → LocatedAt F d l t → LocatedAt G d l t
   at-agrees d l t i a = record {
     stop = a .stop;
     stop-in = stop-there d (a .stop) i (a .stop-in);

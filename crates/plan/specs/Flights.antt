@@ -42,24 +42,24 @@ module _ (f : PlanFlight) where
   abbrev stopSum : ℕ
   stopSum = start (f .counts) (length (f .counts))
 
-  abbrev visitsIn : Visits
-  visitsIn = visitsWith own num (at (f .locations)) (at (f .times)) stopSum
+  abbrev flightVisits : Visits
+  flightVisits = visitsWith own num (at (f .locations)) (at (f .times)) stopSum
 
   -- the plan check's answer, and the flag bytes of the dependencies in their order
-  abbrev pub checked : PlanCheck
-  checked = checkOf visitsIn
+  abbrev pub flightCheck : PlanCheck
+  flightCheck = checkOf flightVisits
 
-  abbrev pub flagsOf : List ℕ
-  flagsOf = column visitsIn (flagOf own num stopSum)
+  abbrev pub flightFlags : List ℕ
+  flightFlags = column flightVisits (flagOf own num stopSum)
 
 pub record Starred : Type 0 where
   -- "Q with the second drone's 5 at time 3: 10, since the first leaves in timestep 3. At 4: taken"
-  pub leaves-as-other-enters : checked (planQ 3) ≡ Collision (record { drone = 0; stop = 2 }) (record { drone = 1; stop = 1 })
-  pub number-is-10 : checkNumber (checked (planQ 3)) ≡ 10
-  pub taken : checked (planQ 4) ≡ Fine
-  pub one-dependency : flagsOf (planQ 4) ≡ 0 ∷ []
+  pub leaves-as-other-enters : flightCheck (planQ 3) ≡ Collision (record { drone = 0; stop = 2 }) (record { drone = 1; stop = 1 })
+  pub number-is-10 : checkNumber (flightCheck (planQ 3)) ≡ 10
+  pub taken : flightCheck (planQ 4) ≡ Fine
+  pub one-dependency : flightFlags (planQ 4) ≡ 0 ∷ []
   -- "two dependencies"
-  pub two-dependencies : flagsOf planP ≡ 0 ∷ 0 ∷ []
+  pub two-dependencies : flightFlags planP ≡ 0 ∷ 0 ∷ []
   -- "turn gives 31": the dependency is fixed
-  pub fixed-by-first-stop : flagsOf fromFirstStop ≡ 2 ∷ []
-  pub fixed-by-last-stop : flagsOf toLastStop ≡ 2 ∷ []
+  pub fixed-by-first-stop : flightFlags fromFirstStop ≡ 2 ∷ []
+  pub fixed-by-last-stop : flightFlags toLastStop ≡ 2 ∷ []

@@ -18,9 +18,9 @@ use Rattle.text.specs.declared.reader.LinesAnswer.the-variants as text
 use Rattle.plan.specs.declared.check.PlanCheck.{PlanCheck}
 use Rattle.plan.specs.declared.check.PlanCheck.the-variants as check
 use Rattle.plan.specs.Answers.{checkOf}
-use Rattle.plan.specs.Claims.{visitsIn}
+use Rattle.plan.specs.Claims.{visitsIn, plannedTotal}
 use Rattle.reading.specs.Replies.{ReadingReply, taken, refusedBy, refusedAt, refusedStop, refusedStops, readingNumber, isTaken, refusalMeant, lineMeant, checkMeant}
-use Rattle.reading.specs.Reading.{ReadingAnswer, withReply, plannedTotal, withText, withDependencies, checked, fromLines, readLines, readPlan}
+use Rattle.reading.specs.Reading.{ReadingAnswer, withReply, withText, withDependencies, afterCheck, fromLines, readLines, readPlan}
 use Rattle.reading.specs.declared.replies.Refusal.{Refusal}
 use Rattle.reading.specs.declared.replies.Refusal.the-variants.{TablesTooSmall, TooLong, Form, Range, Name, SameName, TooManyStops, StartsLate, NotRising, SameLocation, Collision, TooManyDependencies}
 
@@ -59,7 +59,7 @@ module _ (L : Limits) where
   built-by-0 z t true e = refl
   built-by-0 z t false e = absurd (omega arith)
 
-  checked-by-0 : (z t : Tables) (k : PlanCheck) → readingNumber (checked L z t (checkMeant k) .reply) ≡ 0 → checked L z t (checkMeant k) .reply ≡ taken
+  checked-by-0 : (z t : Tables) (k : PlanCheck) → readingNumber (afterCheck L z t (checkMeant k) .reply) ≡ 0 → afterCheck L z t (checkMeant k) .reply ≡ taken
   checked-by-0 z t check.Fine e = built-by-0 z t (leb (plannedTotal (t .plan)) (L .dependencies)) e
   checked-by-0 z t (check.StartsLate s) e = absurd (omega arith)
   checked-by-0 z t (check.NotRising s) e = absurd (omega arith)

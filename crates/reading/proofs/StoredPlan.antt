@@ -15,14 +15,14 @@ use Rattle.tables.specs.Limits.{Limits}
 use Rattle.tables.specs.Tables.{PlanLists, Tables}
 use Rattle.plan.specs.Answers.{checkOf}
 use Rattle.plan.specs.Visits.{Visits, visitsWith, visitsOf}
-use Rattle.plan.specs.Claims.{stopTotal, ownerIn, numberIn, locationIn, timeIn, visitsIn}
+use Rattle.plan.specs.Claims.{stopTotal, ownerIn, numberIn, locationIn, timeIn, visitsIn, plannedTotal}
 use Rattle.plan.specs.Dependencies.{flagOf, dependencyTotal, column}
 use Rattle.plan.specs.Columns.{Columns, columnsWith, written, pickColumns, pickBuilt, builtOf, builtIn}
 use Rattle.plan.specs.declared.check.PlanCheck.{PlanCheck}
 use Rattle.plan.specs.declared.dependencies.Built.{Built}
 use Rattle.plan.specs.declared.dependencies.Built.the-variants.{Count, TooMany}
 use Rattle.reading.specs.Replies.{ReadingReply, taken, refusedBy, isTaken, refusalMeant, readingMeant, checkMeant}
-use Rattle.reading.specs.Reading.{ReadingAnswer, withReply, AnsweredAs, plannedTotal, withDependencies, checkIn, built, checked, stored}
+use Rattle.reading.specs.Reading.{ReadingAnswer, withReply, AnsweredAs, withDependencies, checkIn, built, afterCheck, stored}
 use Rattle.reading.specs.declared.replies.Refusal.{Refusal}
 use Rattle.reading.specs.declared.replies.Reading.{Reading}
 use Rattle.reading.specs.declared.replies.Reading.the-variants.{Taken, Refused}
@@ -96,13 +96,13 @@ pub answered-as : (a : ReadingAnswer) (r : ReadingReply) (t t′ : Tables) → a
 answered-as a r t t′ e h = record { replied = sym (ap (λ (x : ReadingAnswer). x .reply) e); left = h ∙ sym (ap (λ (x : ReadingAnswer). x .tables) e) }
 
 module _ (L : Limits) (z t : Tables) (k : ReadingReply) where
-  pub checked-refused : isTaken k ≡ false → checked L z t k ≡ withReply k z
+  pub checked-refused : isTaken k ≡ false → afterCheck L z t k ≡ withReply k z
   checked-refused h = ap (λ (b : Bool). cond b (built L z t) (withReply k z)) h
 
-  pub checked-many : isTaken k ≡ true → leb (plannedTotal (t .plan)) (L .dependencies) ≡ false → checked L z t k ≡ withReply (refusedBy 11) z
+  pub checked-many : isTaken k ≡ true → leb (plannedTotal (t .plan)) (L .dependencies) ≡ false → afterCheck L z t k ≡ withReply (refusedBy 11) z
   checked-many h o = ap (λ (b : Bool). cond b (built L z t) (withReply k z)) h ∙ ap (λ (q : Bool). cond q (withReply taken (withDependencies t)) (withReply (refusedBy 11) z)) o
 
-  pub checked-taken : isTaken k ≡ true → leb (plannedTotal (t .plan)) (L .dependencies) ≡ true → checked L z t k ≡ withReply taken (withDependencies t)
+  pub checked-taken : isTaken k ≡ true → leb (plannedTotal (t .plan)) (L .dependencies) ≡ true → afterCheck L z t k ≡ withReply taken (withDependencies t)
   checked-taken h o = ap (λ (b : Bool). cond b (built L z t) (withReply k z)) h ∙ ap (λ (q : Bool). cond q (withReply taken (withDependencies t)) (withReply (refusedBy 11) z)) o
 
 -- ---- the tables with other dependencies

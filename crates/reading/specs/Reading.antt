@@ -14,9 +14,9 @@ use Rattle.tables.specs.Zero.{zeroedTables}
 use Rattle.text.specs.LinesRead.{LinesRead, linesAt, flat}
 use Rattle.text.specs.declared.reader.LinesAnswer.{LinesAnswer}
 use Rattle.text.specs.declared.reader.LinesAnswer.the-variants as text
-use Rattle.plan.specs.Dependencies.{dependencyTotal, column, flagOf}
+use Rattle.plan.specs.Dependencies.{flagOf}
 use Rattle.plan.specs.Answers.{checkOf}
-use Rattle.plan.specs.Claims.{stopTotal, ownerIn, numberIn, visitsIn}
+use Rattle.plan.specs.Claims.{stopTotal, ownerIn, numberIn, visitsIn, plannedTotal, plannedList}
 use Rattle.reading.specs.Replies.{ReadingReply, taken, refusedBy, refusedAt, isTaken, lineMeant, checkMeant}
 
 -- the reply and the tables afterwards
@@ -52,14 +52,6 @@ withText f n t = record {
   flags = t .flags;
 }
 
-module _ (p : PlanLists) where
-  -- how many dependencies the plan in the lists has, and f of each of them, in order
-  abbrev pub plannedTotal : ℕ
-  plannedTotal = dependencyTotal (visitsIn p)
-
-  abbrev pub plannedList : (ℕ → ℕ → ℕ) → List ℕ
-  plannedList f = column (visitsIn p) f
-
 -- the tables with the dependencies of their plan, each with its fixed bit and none turned
 abbrev pub withDependencies : Tables → Tables
 withDependencies t = record {
@@ -90,17 +82,17 @@ module _ (L : Limits) where
   built z t = cond (leb (plannedTotal (t .plan)) (L .dependencies)) (withReply taken (withDependencies t)) (withReply (refusedBy 11) z)
 
   -- "plan check: zeroed"
-  abbrev pub checked : Tables → Tables → ReadingReply → ReadingAnswer
-  checked z t r = cond (isTaken r) (built z t) (withReply r z)
+  abbrev pub afterCheck : Tables → Tables → ReadingReply → ReadingAnswer
+  afterCheck z t r = cond (isTaken r) (built z t) (withReply r z)
 
   -- plan check and building on tables with the text's values, which a refusal leaves as they were
   unfoldable pub stored : Tables → ReadingAnswer
-  stored t = checked t t (checkIn (t .plan))
+  stored t = afterCheck t t (checkIn (t .plan))
 
   -- "reading, line by line: full sizes zeroed"
   abbrev pub fromLines : Tables → LinesRead LinesAnswer → LinesAnswer → ReadingAnswer
   fromLines z f (text.Refused r) = withReply (lineMeant r) z
-  fromLines z f (text.WellFormed n) = checked z (withText f n z) (checkIn (withText f n z .plan))
+  fromLines z f (text.WellFormed n) = afterCheck z (withText f n z) (checkIn (withText f n z .plan))
 
   -- reading a text that is not too long into tables that are zeroed
   unfoldable pub readLines : List ℕ → Tables → ReadingAnswer

@@ -28,7 +28,7 @@ use Rattle.plan.proofs.Conditions.{Passes, fault-says}
 use Rattle.meetings.specs.Meetings.{Steady}
 use Rattle.meetings.proofs.Right.{Entry, right-entry}
 use Rattle.cycles.specs.Flat.{flatPlan, Shape}
-use Rattle.cycles.specs.Waits.{fromOf, intoOf, turnedIn, Edges, Unfixed, Given, graphSound}
+use Rattle.cycles.specs.Waits.{fromOf, intoOf, turnedIn, Edges, UnfixedTurns, Given, graphSound}
 use Rattle.cycles.proofs.Placed.{formed}
 use Rattle.cycles.proofs.Directed.{right-placed}
 use Rattle.sound.specs.Parts.{stopSound, stopIn, flagRight, fixedAt, turnsIn, fieldOf, visitsBy, graphPart}
@@ -187,7 +187,7 @@ module _ {L : Limits} (drones n m : ℕ) (counts locations times firstDrones fir
           let q : at starts (at owners v) ≡ start counts (own v) = rw (T .owners-are v l, T .starts-are (own v) (N .own-in v l)) refl in
           passes v l .starts (omega (arith, N .number-is v l))
 
-      local-unfixed : Unfixed (at owners) (at starts) n m (at firsts) (at seconds) (turnedIn flags)
+      local-unfixed : UnfixedTurns (at owners) (at starts) n m (at firsts) (at seconds) (turnedIn flags)
       local-unfixed k l t =
           let (a, b) = unfixed k l t in
           let q : at starts (at owners (at firsts k)) ≡ start counts (at firstDrones k) = spot-start (at firstDrones k) (at firstStops k) (at firsts k) (first-drone k l) (first-stop k l) (first-is k l) in

@@ -7,7 +7,7 @@ use lib.ListN.{length-replicate}
 use Rattle.below.specs.Below.{at}
 use Rattle.below.proofs.Index.{zeros-at}
 use Rattle.tables.specs.Limits.{limits}
-use Rattle.cycles.specs.Walk.{metAt, unmet}
+use Rattle.cycles.specs.Walk.{metAt, unmetInto}
 use Rattle.cycles.proofs.NeedLaws.{Counted, counted-none, counted-le, counted-more}
 use Rattle.cycles.proofs.walk.unmet_waits.Statement.{statement}
 use Rattle.cycles.proofs.walk.unmet_waits.Tie as tie
@@ -72,7 +72,7 @@ loop-again c = (omega arith, counted-more _ _ _ _ _ _ _ _ (c .before .before .be
 
 -- src/walk.rt:27:1
 returns : tie.Need-returns Inv-loop μ-loop
-returns c = (c .before .loop .inv .1 .size, λ v l. c .before .loop .inv .1 .counts v l ∙ ap (λ (k : ℕ). unmet (at (c .before .before .before .args .into .now)) k (metAt (at (c .before .before .before .args .owners .now)) (at (c .before .before .before .args .from .now)) (at (c .before .before .before .args .cur .now))) v) (le-antisymm (omega arith) (omega arith)))
+returns c = (c .before .loop .inv .1 .size, λ v l. c .before .loop .inv .1 .counts v l ∙ ap (λ (k : ℕ). unmetInto (at (c .before .before .before .args .into .now)) k (metAt (at (c .before .before .before .args .owners .now)) (at (c .before .before .before .args .from .now)) (at (c .before .before .before .args .cur .now))) v) (le-antisymm (omega arith) (omega arith)))
 
 pub unmet-waits-spec : {M : Type 1} → statement M
 unmet-waits-spec =

@@ -7,7 +7,7 @@ use lib.ListN.{length-replicate}
 use Rattle.below.specs.Below.{at}
 use Rattle.below.proofs.Index.{zeros-at}
 use Rattle.tables.specs.Limits.{limits}
-use Rattle.cycles.specs.Walk.{courseWith, metAt, left, legOfOne, Walking, Meeting}
+use Rattle.cycles.specs.Walk.{courseWith, metAt, left, legOfOne, Walking, MeetingWaits}
 use Rattle.cycles.proofs.Fits.{left-fits}
 use Rattle.cycles.proofs.NeedLaws.{flat-ends}
 use Rattle.cycles.proofs.StackLaws.{stacked-few}
@@ -27,7 +27,7 @@ use Rattle.cycles.proofs.walk.top_after.Reads as top-after-reads
 use Rattle.cycles.proofs.walk.unmet_waits.Reads as unmet-waits-reads
 
 abbrev Inv-loop2 : tie.InvT-loop2
-Inv-loop2 owners starts lasts drones n from into m cur table₀ head next stack₀ need₀ top₀ d v wait₀ table stack need top wait = (start : List ℕ) → Meeting limits (courseWith owners starts lasts drones n from into m) legOfOne 1 (limits .stops - 1) start cur v wait₀ need₀ stack₀ top₀ table₀ → Meeting limits (courseWith owners starts lasts drones n from into m) legOfOne 1 (limits .stops - 1) start cur v wait need stack top table
+Inv-loop2 owners starts lasts drones n from into m cur table₀ head next stack₀ need₀ top₀ d v wait₀ table stack need top wait = (start : List ℕ) → MeetingWaits limits (courseWith owners starts lasts drones n from into m) legOfOne 1 (limits .stops - 1) start cur v wait₀ need₀ stack₀ top₀ table₀ → MeetingWaits limits (courseWith owners starts lasts drones n from into m) legOfOne 1 (limits .stops - 1) start cur v wait need stack top table
 
 abbrev μ-loop2 : tie.MeasureT-loop2
 μ-loop2 owners starts lasts drones n from into m cur table₀ head next stack₀ need₀ top₀ d v wait₀ table stack need top wait = wait
