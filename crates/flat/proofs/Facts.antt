@@ -72,7 +72,7 @@ abbrev pub columnsIn : Tables → Columns
 columnsIn t = columnsWith (t .plan .firstDrones) (t .plan .firstStops) (t .plan .secondDrones) (t .plan .secondStops) (t .flags)
 
 -- what the search for an unmet dependency asks of the tables
-pub waits-room : (L : Limits) (t : Tables) → Facts L t → L .dependencies ≤ 65536 → (d : ℕ) → d < drones (t .plan) → WaitsRoom (dependencies (t .plan)) (columnsIn t) (t .visited) d
+pub waits-room : (L : Limits) (t : Tables) → Facts L t → L .dependencies ≤ 65536 → (d : ℕ) → d < drones (t .plan) → WaitsRoom (dependencies (t .plan)) (t .visited) (columnsIn t) d
 waits-room L t f fit d l = record {
   entries = record {
     has-first-drones = omega (arith, f .dependencies-few, f .sizes .first-drones);

@@ -10,7 +10,7 @@ use lib.IntN.{pos, negℤ}
 use lib.Signed.{leZ}
 use lib.ListN.{length, replicate}
 use Rattle.below.specs.Below.{allIn, listBelow}
-use Rattle.tables.specs.Limits.{Limits}
+use Rattle.tables.specs.Limits.{Limits, limits}
 use Rattle.tables.specs.Tables.{PlanLists, Tables, dependencies}
 use Rattle.precedence.specs.Graph.{cost}
 use Rattle.plan.specs.Claims.{stopTotal, ownerIn, numberIn, colliderIn, visitsIn}
@@ -33,7 +33,7 @@ go l t = record { location = l; time = t }
 
 -- limits that just hold the flights below, so that full tables can be computed with
 abbrev pub small : Limits
-small = record { text = 0; drones = 3; stops = 12; dependencies = 3; name = 1; location = 65535; time = 1000000 }
+small = record { text = 0; drones = 3; stops = 12; dependencies = 3; name = 1; location = limits .location; time = limits .time }
 
 -- a table of full size: the entries, and zeros after them
 abbrev pub padded : ℕ → List ℕ → List ℕ

@@ -11,12 +11,11 @@ use Rattle.below.specs.Below.{at, rank, pairBefore}
 use Rattle.below.proofs.Tests.{by-cases, and-left, and-right}
 use Rattle.below.proofs.Pairs.{listed-at, rank-below, rank-find, rank-order}
 use Rattle.tables.specs.Tables.{PlanLists, drones, dependencies}
-use Rattle.precedence.proofs.Flat.{Layout}
 use Rattle.plan.specs.Stops.{start}
 use Rattle.plan.specs.Visits.{Visits, sameLocation, Symmetric}
 use Rattle.plan.specs.Check.{firstFault, apart}
 use Rattle.plan.specs.Dependencies.{follows, isFixed, flagOf, dependencyTotal, column}
-use Rattle.plan.specs.Field.{Dependency, FieldPlan, Status, before, graph, fixed, GoneBefore, Checked, Meeting, AcceptedPlan, planOf}
+use Rattle.plan.specs.Field.{Dependency, FieldPlan, before, fixed, GoneBefore, Checked, Meeting, AcceptedPlan, planOf}
 use Rattle.plan.specs.Claims.{Numbered, pair, ownerIn, numberIn, stopTotal, visitsIn, HaveStops, NoFault, NoCollision, planned, HoldsPlanned, StopsChecked}
 use Rattle.plan.proofs.Numbering.{numbered, goes-on, stays, last-is, order-number}
 use Rattle.plan.proofs.Conditions.{Passes, firstFault-says, says-firstFault, Over, apart-says, says-apart, Follows, follows-says, says-follows}
@@ -245,16 +244,6 @@ module _ (S : Visits) (off last : ℕ → ℕ) (drones count : ℕ) (dependency 
 module _ (p : PlanLists) (have : HaveStops p) where
   pub stops-numbered : Numbered (ownerIn p) (numberIn p) (start (p .stopCounts)) (planOf p .last) (drones p) (stopTotal p)
   stops-numbered = numbered (drones p) (p .stopCounts) have
-
-  -- where the stops lie, for tables of a number for each stop
-  pub layout : (s : Status) → Layout (graph (planOf p) s) (start (p .stopCounts)) (ownerIn p) (numberIn p) (stopTotal p)
-  layout s = record {
-    owner-in = stops-numbered .own-in;
-    number-in = stops-numbered .number-in;
-    place-in = stops-numbered .place-in;
-    place-owner = stops-numbered .place-own;
-    place-number = stops-numbered .place-number;
-  }
 
   pub stops-checked : NoFault p → StopsChecked (planOf p)
   stops-checked = passes-stops (visitsIn p) _ _ _ _ _ stops-numbered

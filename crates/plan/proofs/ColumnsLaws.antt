@@ -8,7 +8,7 @@ use native.Mathlib.Nat.{le-antisymm}
 use native.Mathlib.Omega.{arith}
 use lib.ListN.{length, set}
 use lib.Dec.{eqb}
-use borrow.Author.Tests.{le-leb, lt-leb, ne-eqb}
+use borrow.Author.Tests.{le-leb, lt-leb}
 use Rattle.below.specs.Below.{at, countBelow, sumBelow, picks, rowsBelow}
 use Rattle.below.proofs.Tests.{by-cases}
 use Rattle.below.proofs.Count.{count-le, count-start, count-yes, count-no, count-past, count-miss}

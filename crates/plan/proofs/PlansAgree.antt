@@ -1,9 +1,9 @@
 -- Plans that agree are checked, accepted and collide alike; counts of stops that agree number the stops alike. Assumes nothing.
 use mathlib.Core.Path.{_≡_, refl, sym, ap, _∙_, subst}
-use mathlib.Core.Logic.{_≢_, inl, inr, _↔_}
+use mathlib.Core.Logic.{inl, inr, _↔_}
 use mathlib.Core.Bool.{true}
 use mathlib.Core.List.{List}
-use Prim.Native.Nat.{ℕ, suc, _+_, _-_, _≤_, _<_}
+use Prim.Native.Nat.{ℕ, suc, _-_, _≤_, _<_}
 use native.Mathlib.Omega.{arith}
 use lib.Dec.{ltb}
 use Rattle.below.specs.Below.{at}
@@ -12,9 +12,8 @@ use Rattle.below.proofs.Sum.{sum-ext}
 use Rattle.tables.specs.Tables.{PlanLists}
 use Rattle.plan.specs.Stops.{start, owner, stopNumber}
 use Rattle.plan.specs.Field.{Dependency, FieldPlan, GoneBefore, Checked, Meeting, AcceptedPlan, PlansAgree, planOf}
-use Rattle.plan.specs.Claims.{Numbered, ownerIn, numberIn, locationIn, timeIn, stopTotal, visitsIn, HaveStops, NoFault, NoCollision, StopsChecked, LocatedAt, Leaves, Enters, Collides, Never}
+use Rattle.plan.specs.Claims.{visitsIn, HaveStops, NoFault, NoCollision, StopsChecked, LocatedAt, Leaves, Enters, Collides, Never}
 use Rattle.plan.proofs.Numbering.{owner-le}
-use Rattle.plan.proofs.Conditions.{says-firstFault}
 use Rattle.plan.proofs.Accepted.{stops-numbered, stops-checked, stops-pass}
 use Rattle.plan.proofs.Definition1.{definition-1}
 

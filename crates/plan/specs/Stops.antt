@@ -1,6 +1,6 @@
 -- The stops of all drones numbered through: those of drone 0 first, then those of drone 1, and so on, as the lent tables hold them. Assumes nothing.
 use mathlib.Core.List.{List}
-use Prim.Native.Nat.{ℕ, suc, _+_, _-_}
+use Prim.Native.Nat.{ℕ, suc, _-_}
 use lib.Dec.{ltb}
 use Rattle.below.specs.Below.{firstBelow, sumBelow, at}
 

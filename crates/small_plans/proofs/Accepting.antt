@@ -27,7 +27,7 @@ use Rattle.accepted.specs.TextPlan.{stopsIn, routesVisits, routesPlan}
 use Rattle.tables.specs.Zero.{filled}
 use Rattle.accepted.proofs.RoutesPlan.{rules-checked}
 use Rattle.accepted.proofs.Taken.{limits-taken-exactly, follows-own}
-use Rattle.small_plans.specs.Routes.{SmallRoute, routeWith, routeLength, AtMost, Within}
+use Rattle.small_plans.specs.Routes.{SmallRoute, routeWith, AtMost, Within}
 use Rattle.small_plans.specs.Plans.{SmallPlan, planWith, planRoutes, smallPlanText, wouldBeTaken}
 use Rattle.small_plans.specs.Check.{planChecked}
 use Rattle.small_plans.proofs.Checking.{Flies, plan-said, says-checked}

@@ -1,6 +1,6 @@
 -- The returns stand in the order of the definition's tests.
 use mathlib.Core.Path.{sym, _∙_}
-use borrow.Author.Tests.{lt-ltb, le-ltb, eq-eqb, ne-eqb, not-true, not-false}
+use borrow.Author.Tests.{lt-ltb, le-ltb, not-true, not-false}
 use Rattle.plan.specs.Check.{collide}
 use borrow.Author.Needs.{needs}
 use Rattle.plan.proofs.check.collide_at.Statement.{statement}

@@ -7,7 +7,7 @@ use lib.Dec.{ltb}
 use mathlib.Core.List.{[]}
 use Rattle.plan.proofs.Unread.{collider-any}
 use Rattle.plan.specs.Visits.{visitsOf}
-use Rattle.below.specs.Below.{firstBelow, at}
+use Rattle.below.specs.Below.{firstBelow}
 use Rattle.below.proofs.Search.{first-none, first-more, first-hit, first-end}
 use Rattle.plan.specs.Check.{partner, collider}
 use Rattle.plan.proofs.CheckLaws.{has-partner, no-partner}

@@ -8,7 +8,7 @@ use lib.Dec.{eqb}
 use mathlib.Core.List.{[]}
 use Rattle.plan.proofs.Unread.{first-fault-any}
 use Rattle.plan.specs.Visits.{visitsOf}
-use Rattle.below.specs.Below.{firstBelow, at}
+use Rattle.below.specs.Below.{firstBelow}
 use Rattle.below.proofs.Search.{first-none, first-more, first-hit, first-end}
 use Rattle.plan.specs.Check.{faultAt, firstFault}
 use Rattle.plan.proofs.CheckLaws.{at-fault, no-fault}

@@ -6,7 +6,6 @@ use native.Mathlib.Omega.{arith}
 use mathlib.Core.List.{[]}
 use Rattle.plan.proofs.Unread.{partner-any}
 use Rattle.plan.specs.Visits.{visitsOf}
-use Rattle.below.specs.Below.{at}
 use Rattle.below.proofs.Search.{first-hit, first-end}
 use Rattle.plan.proofs.SharingLaws.{elsewhere, walk-from, walk-within, walk-past}
 use Rattle.plan.proofs.CheckLaws.{Alone, alone-start, alone-more}

@@ -7,7 +7,7 @@ use mathlib.Core.List.{[]}
 use Rattle.tables.specs.Limits.{limits}
 use Rattle.plan.proofs.Unread.{total-any}
 use Rattle.plan.specs.Visits.{visitsOf}
-use Rattle.below.specs.Below.{countBelow, sumBelow, at}
+use Rattle.below.specs.Below.{countBelow, sumBelow}
 use Rattle.below.proofs.Sum.{sum-none, sum-turn, sum-end}
 use Rattle.plan.specs.Dependencies.{follows}
 use Rattle.plan.proofs.ColumnsLaws.{row-few}

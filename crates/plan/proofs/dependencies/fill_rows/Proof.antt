@@ -4,7 +4,7 @@ use Prim.Native.Nat.{_-_, _≤_}
 use mathlib.Core.Path.{_≡_}
 use native.Mathlib.Omega.{arith}
 use Rattle.plan.specs.Visits.{visitsOf}
-use Rattle.below.specs.Below.{countBelow, sumBelow, at}
+use Rattle.below.specs.Below.{countBelow, sumBelow}
 use Rattle.below.proofs.Sum.{sum-none}
 use Rattle.plan.specs.Dependencies.{follows}
 use Rattle.plan.specs.Columns.{columnsWith, rowsWritten}

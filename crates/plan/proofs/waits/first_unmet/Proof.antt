@@ -14,10 +14,10 @@ use Rattle.plan.proofs.waits.first_unmet.Lts as lts
 use Rattle.plan.proofs.waits.entry_blocks.Reads as entry-blocks-reads
 
 abbrev Inv-loop : tie.InvT-loop
-Inv-loop count first-drones first-stops second-drones second-stops flags visited d e₀ e = (e ≤ count) × (firstBelow e (blocksAt count (columnsWith first-drones first-stops second-drones second-stops flags) visited d) ≡ e)
+Inv-loop count visited first-drones first-stops second-drones second-stops flags d e₀ e = (e ≤ count) × (firstBelow e (blocksAt count visited (columnsWith first-drones first-stops second-drones second-stops flags) d) ≡ e)
 
 abbrev μ-loop : tie.MeasureT-loop
-μ-loop count first-drones first-stops second-drones second-stops flags visited d e₀ e = count - e
+μ-loop count visited first-drones first-stops second-drones second-stops flags d e₀ e = count - e
 
 -- src/waits.rt:70:5
 loop-holds : tie.Need-loop-holds Inv-loop μ-loop

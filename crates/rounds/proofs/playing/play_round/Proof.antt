@@ -2,7 +2,6 @@ use lib.ListN.{length-replicate}
 use Rattle.tables.specs.Limits.{limits}
 use Prim.Native.Nat.{ℕ}
 use Rattle.rounds.proofs.OneRound.{moved-small, round-end}
-use borrow.Author.Needs.{needs}
 use Rattle.rounds.proofs.playing.play_round.Statement.{statement}
 use Rattle.rounds.proofs.playing.play_round.Tie as tie
 use Rattle.rounds.proofs.playing.play_round.Reads as reads
