@@ -176,6 +176,11 @@ pub record LogTurnIsGroup (F : FieldPlan) (log : List Entry) (w : ℕ) : Type 0 
 abbrev pub LogNever40Or41 : Type 0
 LogNever40Or41 = (F : FieldPlan) (log : List Entry) (c : Call) → (replyNumber (replyBy F log c) ≢ 40) × (replyNumber (replyBy F log c) ≢ 41)
 
+-- "33 leaves the list of turn and of group turn", "The number isn't used again": no call is refused by 33, neither by the log nor on any tables
+pub record Never33 : Type 0 where
+  pub by-log : (F : FieldPlan) (log : List Entry) (c : Call) → replyNumber (replyBy F log c) ≢ 33
+  pub on-tables : (L : Limits) (t : Tables) (c : Call) → replyNumber (step L t c .reply) ≢ 33
+
 -- t′ differs from t at most in the progress of the drones and the flags of the dependencies that the plan has
 pub record ProgressOnly (t t′ : Tables) : Type 0 where
   pub plan-same : t′ .plan ≡ t .plan

@@ -1,16 +1,20 @@
--- Wrong programs, each with the flight and the calls at which its replies are not the log's: demand 3 is false of them. Assumes nothing.
+-- Wrong programs, each with the flight and the calls at which its replies are not the log's: demand 3 is false of them; and made-up costs and rounds, of which demand 2 is false.
+-- Assumes nothing.
+use mathlib.Core.Path.{_≡_}
 use mathlib.Core.Bool.{cond}
 use mathlib.Core.List.{List, [], _∷_}
 use Prim.Native.Nat.{ℕ, _-_}
 use lib.Dec.{eqb}
 use Rattle.below.specs.Below.{at}
 use Rattle.tables.specs.Tables.{Tables}
-use Rattle.plan.specs.Field.{FieldPlan, planOf}
+use Rattle.precedence.specs.Graph.{unvisited, cost, makespan}
+use Rattle.plan.specs.Field.{FieldPlan, planOf, graph, placeOf}
 use Rattle.plan.specs.Status.{statusIn}
 use Rattle.log.specs.CallLog.{Call, grant, arrive, turn, turnAll, Reply, accepted, refused, mustWait, isAccepted, replyIn}
-use Rattle.log.specs.Calls.{Answer, changedIfAccepted, granted, flipped, grantStep, arriveStep, turnStep, turnAllStep, step}
+use Rattle.log.specs.Calls.{Answer, changedIfAccepted, granted, flipped, grantStep, arriveStep, turnStep, turnAllStep, step, CostOutcome, costs, costRefused, RoundsOutcome, rounds, roundsRefused}
+use Rattle.log.specs.Claims.{Usable}
 use Rattle.log.specs.Demand.{Demand3Of}
-use Rattle.log.specs.Flights.{Visit, small, Q, P}
+use Rattle.log.specs.Flights.{Visit, go, small, Q, P}
 
 -- ---- the programs
 
@@ -155,3 +159,51 @@ AllFalse (x ∷ xs) = (Demand3Of small (x .program) → ⊥) × AllFalse xs
 
 abbrev pub WrongsFalse : Type 0
 WrongsFalse = AllFalse wrongs
+
+-- ---- "made-up costs or rounds"
+
+-- demand 2 of what answers a cost, and of what answers rounds, on usable tables: the sum of the drones' remaining rounds, and the undelayed rounds until everybody has landed
+abbrev pub CostsExactly : (Tables → CostOutcome) → Type 0
+CostsExactly f = (t : Tables) → Usable small t → f t ≡ costs (cost (graph (planOf (t .plan)) (statusIn t)) (placeOf (planOf (t .plan)) (statusIn t)))
+
+abbrev pub RoundsExactly : (Tables → RoundsOutcome) → Type 0
+RoundsExactly f = (t : Tables) → Usable small t → f t ≡ rounds (makespan (graph (planOf (t .plan)) (statusIn t)) (placeOf (planOf (t .plan)) (statusIn t)))
+
+-- the unvisited stops, as if nobody waited for anybody
+abbrev pub stopsLeft : Tables → ℕ
+stopsLeft t = unvisited (graph (planOf (t .plan)) (statusIn t)) (placeOf (planOf (t .plan)) (statusIn t))
+
+-- with the routes of a plan whose tables, as they are read, get another answer
+pub record WrongCost : Type 0 where
+  pub answers : Tables → CostOutcome
+  pub routes : List (List Visit)
+
+pub record WrongRounds : Type 0 where
+  pub answers : Tables → RoundsOutcome
+  pub routes : List (List Visit)
+
+abbrev pub wrongCosts : List WrongCost
+wrongCosts =
+    record { answers = λ t. costRefused 40; routes = Q 4 }
+    ∷ record { answers = λ t. costs 0; routes = Q 4 }
+    ∷ record { answers = λ t. costs 8; routes = (go 1 0 ∷ go 2 1 ∷ []) ∷ [] }
+    ∷ record { answers = λ t. costs (stopsLeft t); routes = Q 4 }
+    ∷ []
+
+abbrev pub wrongRounds : List WrongRounds
+wrongRounds =
+    record { answers = λ t. roundsRefused 40; routes = Q 4 }
+    ∷ record { answers = λ t. rounds 5; routes = (go 1 0 ∷ go 2 1 ∷ []) ∷ [] }
+    ∷ record { answers = λ t. rounds (stopsLeft t); routes = P }
+    ∷ []
+
+abbrev pub CostsFalse : List WrongCost → Type 0
+CostsFalse [] = Unit {0}
+CostsFalse (x ∷ xs) = (CostsExactly (x .answers) → ⊥) × CostsFalse xs
+
+abbrev pub RoundsFalse : List WrongRounds → Type 0
+RoundsFalse [] = Unit {0}
+RoundsFalse (x ∷ xs) = (RoundsExactly (x .answers) → ⊥) × RoundsFalse xs
+
+abbrev pub MadeUpFalse : Type 0
+MadeUpFalse = CostsFalse wrongCosts × RoundsFalse wrongRounds
