@@ -719,7 +719,7 @@ pub fn cost(
     }
 }
 
-// "the undelayed rounds until everybody has landed", with the order now in force. It changes nothing.
+// The undelayed rounds until everybody has landed, with the order now in force. It changes nothing.
 pub fn rounds(
     drone_count: &[u16],
     dependency_count: &[u16],

@@ -53,7 +53,7 @@ pub record Check : Type 0 where
 abbrev pub when : Bool → Reply → Check
 when b r = record { holds = b; reply = r }
 
--- "A call gets the first of its refusals in the table below that holds; if none holds, it is accepted"
+-- "A call gets the first of its refusals in the table below that holds ..; if none holds, it is accepted"
 abbrev pub firstThatHolds : List Check → Reply
 firstThatHolds [] = accepted
 firstThatHolds (c ∷ cs) = elim (c .holds) [ true ↦ c .reply | false ↦ firstThatHolds cs ]

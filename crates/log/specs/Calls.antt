@@ -85,7 +85,7 @@ module _ (L : Limits) where
   unfoldable pub costReply : Tables → CostOutcome
   costReply t = cond (fullSize L t) (cond (sound L t) (costs (cost (graph (planOf (t .plan)) (statusIn t)) (placeOf (planOf (t .plan)) (statusIn t)))) (costRefused 40)) (costRefused 41)
 
-  -- "the undelayed rounds until everybody has landed": from the drones' progress, with the order now in force. It changes nothing
+  -- the undelayed rounds until everybody has landed, a call of our own: from the drones' progress, with the order now in force. It changes nothing
   unfoldable pub roundsReply : Tables → RoundsOutcome
   roundsReply t = cond (fullSize L t) (cond (sound L t) (rounds (makespan (graph (planOf (t .plan)) (statusIn t)) (placeOf (planOf (t .plan)) (statusIn t)))) (roundsRefused 40)) (roundsRefused 41)
 

@@ -6,7 +6,7 @@ use mathlib.Core.Bool.{Bool, true, false, _&&_}
 use Prim.Native.Nat.{ℕ, zero, suc, _-_, _≤_, _<_, max}
 use native.Mathlib.Omega.{arith}
 use lib.Dec.{ltb, leb, eqb}
-use borrow.Author.Tests.{leb-true, leb-false, ltb-true, ltb-false, lt-ltb, eqb-true, eqb-false}
+use borrow.Author.Tests.{leb-true, leb-false, ltb-true, ltb-false, lt-ltb, eqb-true, eqb-false, eq-eqb}
 use Rattle.below.proofs.Tests.{by-cases, below-cases, and-left, and-right}
 use Rattle.plan.specs.Visits.{Symmetric}
 use Rattle.plan.specs.Field.{FieldPlan, GoneBefore, Checked, planOf}
@@ -140,4 +140,5 @@ definition-1 = record {
   spans = λ p have e. (λ a. gone-share (planOf p) (stops-checked p have e) (taken-exactly p have .0 (e, a)), λ never. taken-exactly p have .1 (share-checked (planOf p) (stops-checked p have e) same-symmetric never) .1);
   one-location = one-location;
   swap-covered = swap-covered;
+  same-meets = λ l. eq-eqb l l refl;
 }

@@ -8,7 +8,7 @@ use Rattle.below.specs.Below.{at, isIn}
 use Rattle.tables.specs.Tables.{PlanLists, drones, dependencies}
 use Rattle.precedence.specs.Graph.{Formed, cyclic, Cycle}
 use Rattle.plan.specs.Stops.{start, owner, stopNumber}
-use Rattle.plan.specs.Visits.{Visits, visitsWith}
+use Rattle.plan.specs.Visits.{Visits, sameLocation, visitsWith}
 use Rattle.plan.specs.Check.{firstFault, collide, partner, collider, apart}
 use Rattle.plan.specs.Dependencies.{dependencyTotal, column, flagOf}
 use Rattle.plan.specs.Field.{Dependency, FieldPlan, Status, asPlanned, before, afterTurn, afterTurns, graph, fixed, Checked, AcceptedPlan, planOf}
@@ -179,6 +179,8 @@ pub record Definition1 : Type 0 where
   -- in each timestep a drone is at one location
   pub one-location : (F : FieldPlan) → StopsChecked F → (d t : ℕ) → d < F .drones → (l : ℕ) × LocatedAt F d l t × ((m : ℕ) → LocatedAt F d m t → l ≡ m)
   pub swap-covered : (F : FieldPlan) → ((l : ℕ) → F .meets l l ≡ true) → (i j : ℕ) → Swaps F i j → Collides F i j
+  -- .. which holds of the plans of tables and of texts
+  pub same-meets : (l : ℕ) → sameLocation l l ≡ true
 
 -- ---- the graph
 

@@ -11,7 +11,7 @@ ghost use Rattle.plan.specs.Columns.{columnsWith};
 ghost use Rattle.plan.specs.Waits.{blocksNext, entryBlocks, planIn, statusOf};
 ghost use Rattle.plan.specs.Room.{WaitsRoom};
 
-// Whether the rule "the second drone may enter its stop only after the first has visited the stop after its own" keeps drone d from its next stop.
+// Whether the rule that the second drone may enter its stop only after the first has visited the stop after its own keeps drone d from its next stop.
 fn blocks_next(
     first_drone: u8,
     first_stop: u16,

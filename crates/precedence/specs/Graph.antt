@@ -95,7 +95,7 @@ module _ (P : Plan) where
   unfoldable pub cost : (ℕ → ℕ) → ℕ
   cost p = sumBelow drones (remaining p)
 
-  -- "the undelayed rounds until everybody has landed": the least number of rounds after which every drone stands at its last stop
+  -- the undelayed rounds until everybody has landed: the least number of rounds after which every drone stands at its last stop
   unfoldable pub makespan : (ℕ → ℕ) → ℕ
   makespan p = firstBelow (unvisited p) (λ k. finished (play p k))
 

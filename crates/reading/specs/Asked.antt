@@ -42,7 +42,7 @@ textZeroed L t =
     (zeroed (L .stops) (t .plan .locations)) (zeroed (L .stops) (t .plan .times)) (t .visited) (t .droneFlags)
     (t .plan .firstDrones) (t .plan .firstStops) (t .plan .secondDrones) (t .plan .secondStops) (t .flags)
 
--- a text read into tables z before any zeroing: the reply, and the tables if it is taken; if it is refused and z was zeroed, they have yet to be zeroed
+-- a text read into tables z: the reply, and the tables t that are left if it is taken. If it is refused, and z is zeroed, zeroing what its lines wrote gives the tables of the refusal
 pub record TextStored (L : Limits) (text : List ℕ) (z : Tables) (r : ReadingReply) (t : Tables) : Type 0 where
   pub replied : r ≡ readLines L text z .reply
   pub left-taken : isTaken r ≡ true → t ≡ readLines L text z .tables

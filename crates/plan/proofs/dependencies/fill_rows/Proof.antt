@@ -24,47 +24,36 @@ Inv-loop owners numbers locations times n first next first-drones₀ first-stops
 abbrev μ-loop : tie.MeasureT-loop
 μ-loop owners numbers locations times n first next first-drones₀ first-stops₀ second-drones₀ second-stops₀ flags₀ k₀ v₀ first-drones first-stops second-drones second-stops flags k v = n - v
 
--- src/dependencies.rt:168:5
 loop-holds : tie.Need-loop-holds Inv-loop μ-loop
 loop-holds c = (search needs, sum-none _ 0, rows-none _ _)
 
--- src/dependencies.rt:169:9
 fill-row-requires : tie.Need-fill-row-requires Inv-loop μ-loop
 fill-row-requires c κs = ((c .before .before .before .before .before .before .before .before .before .before .before .before .before .before .before .before .pre .0 .0, c .before .before .before .before .before .before .before .before .before .before .before .before .before .before .before .before .pre .0 .1, c .before .before .before .before .before .loop-test .taken), rows-room _ _ _ _ (c .before .before .before .before .before .before .loop .inv .2) _ (c .before .before .before .before .before .before .loop .inv .1) (c .before .before .before .before .before .loop-test .taken) (c .before .before .before .before .before .before .before .before .before .before .before .before .before .before .before .before .pre .1))
 
--- src/dependencies.rt:185:9
 add-v : tie.Need-add-v Inv-loop μ-loop
 add-v c = omega (arith, c .before .before .before .before .before .before .before .before .before .before .before .before .before .before .before .before .loop-test, c .before .before .before .before .before .before .before .before .before .before .before .before .before .before .before .before .before .before .before .before .before .before .before .before .before .before .before .pre)
 
--- src/dependencies.rt:168:5
 loop-less : tie.Need-loop-less Inv-loop μ-loop
 loop-less c = omega (arith, c .before .before .before .before .before .before .before .before .before .before .before .before .before .before .before .before .loop-test, c .before .before .before .before .before .before .before .before .before .before .before .before .before .before .before .before .before .before .before .before .before .before .before .before .before .before .before .pre)
 
--- src/dependencies.rt:168:5
 loop-again : tie.Need-loop-again Inv-loop μ-loop
 loop-again c = (omega (arith, c .before .before .before .before .before .before .before .before .before .before .before .before .before .before .before .before .loop-test), rows-cursor _ _ _ _ (c .before .before .before .before .before .before .before .before .before .before .before .before .before .before .before .before .before .loop .inv .2) _ (c .before .before .before .before .before .before .before .before .before .before .before .before .before .before .before .before .before .loop .inv .1) _ (c .before .before .before .before .before .before .before .before .before .before .fill-row .ensures .0), rows-more _ _ _ _ (c .before .before .before .before .before .before .before .before .before .before .before .before .before .before .before .before .before .loop .inv .2) _ (c .before .before .before .before .before .before .before .before .before .before .before .before .before .before .before .before .before .loop .inv .1) _ _ _ _ _ (c .before .before .before .before .before .before .before .before .before .before .fill-row .ensures .1))
 
--- src/dependencies.rt:148:1
 same-length : tie.Need-same-length Inv-loop μ-loop
 same-length c = rows-lengths _ _ _ _ (c .before .loop .inv .2) .same-first-drones
 
--- src/dependencies.rt:148:1
 same-length-2 : tie.Need-same-length-2 Inv-loop μ-loop
 same-length-2 c = rows-lengths _ _ _ _ (c .before .loop .inv .2) .same-first-stops
 
--- src/dependencies.rt:148:1
 same-length-3 : tie.Need-same-length-3 Inv-loop μ-loop
 same-length-3 c = rows-lengths _ _ _ _ (c .before .loop .inv .2) .same-second-drones
 
--- src/dependencies.rt:148:1
 same-length-4 : tie.Need-same-length-4 Inv-loop μ-loop
 same-length-4 c = rows-lengths _ _ _ _ (c .before .loop .inv .2) .same-second-stops
 
--- src/dependencies.rt:148:1
 same-length-5 : tie.Need-same-length-5 Inv-loop μ-loop
 same-length-5 c = rows-lengths _ _ _ _ (c .before .loop .inv .2) .same-flags
 
--- src/dependencies.rt:148:1
 returns : tie.Need-returns Inv-loop μ-loop
 returns c = rows-end _ _ _ _ (c .before .loop .inv .2) (c .before .loop .inv .0) (c .loop-test .left)
 

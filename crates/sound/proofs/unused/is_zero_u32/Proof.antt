@@ -15,39 +15,30 @@ Inv-loop used full table total₀ i₀ total i = NonZero used full table i total
 abbrev μ-loop : tie.MeasureT-loop
 μ-loop used full table total₀ i₀ total i = full - i
 
--- src/unused.rt:51:5
 loop-holds : tie.Need-loop-holds Inv-loop μ-loop
 loop-holds c = nonzero-start _ _ (c .before .args .table .now)
 
--- src/unused.rt:52:22
 mul-counted : tie.Need-mul-counted Inv-loop μ-loop
 mul-counted c = search needs
 
--- src/unused.rt:52:22
 shared-slice-read-counted : tie.Need-shared-slice-read-counted Inv-loop μ-loop
 shared-slice-read-counted c = search needs
 
--- src/unused.rt:52:18
 counted-requires : tie.Need-counted-requires Inv-loop μ-loop
 counted-requires c κs = search needs
 
--- src/unused.rt:52:9
 add-total : tie.Need-add-total Inv-loop μ-loop
 add-total c = omega (arith, c .counted .ensures .1, c .before .before .before .loop .inv .small, c .before .before .before .before .before .pre .1)
 
--- src/unused.rt:53:9
 add-i : tie.Need-add-i Inv-loop μ-loop
 add-i c = search needs
 
--- src/unused.rt:51:5
 loop-less : tie.Need-loop-less Inv-loop μ-loop
 loop-less c = search needs
 
--- src/unused.rt:51:5
 loop-again : tie.Need-loop-again Inv-loop μ-loop
 loop-again c = nonzero-more _ _ (c .before .before .before .before .before .args .table .now) _ _ _ _ (c .before .before .loop-test .taken) (c .before .before .before .loop .inv) refl (c .counted .ensures .0)
 
--- src/unused.rt:45:1
 returns : tie.Need-returns Inv-loop μ-loop
 returns c = nonzero-end _ _ (c .before .before .before .args .table .now) _ _ (omega arith) (c .before .loop .inv)
 

@@ -9,27 +9,21 @@ use Rattle.sound.proofs.unused.stops_unused.Lts as lts
 use Rattle.sound.proofs.unused.is_zero_u16.Reads as is-zero-u16-reads
 use Rattle.sound.proofs.unused.is_zero_u32.Reads as is-zero-u32-reads
 
--- src/unused.rt:64:9
 is-zero-u16-requires : tie.Need-is-zero-u16-requires
 is-zero-u16-requires c κs = search needs
 
--- src/unused.rt:65:9
 returns : tie.Need-returns
 returns c = and-no _ _ (sym (c .before .is-zero-u16 .ensures) ∙ not-true _ (c .if1 .taken))
 
--- src/unused.rt:67:9
 is-zero-u16-requires-2 : tie.Need-is-zero-u16-requires-2
 is-zero-u16-requires-2 c κs = search needs
 
--- src/unused.rt:68:9
 returns-2 : tie.Need-returns-2
 returns-2 c = and-yes _ _ _ (sym (c .before .before .before .is-zero-u16 .ensures) ∙ not-false _ (c .before .before .if1 .left)) (and-no _ _ (sym (c .before .is-zero-u162 .ensures) ∙ not-true _ (c .if2 .taken)))
 
--- src/unused.rt:70:5
 is-zero-u32-requires : tie.Need-is-zero-u32-requires
 is-zero-u32-requires c κs = search needs
 
--- src/unused.rt:54:1
 returns-3 : tie.Need-returns-3
 returns-3 c = and-yes _ _ _ (sym (c .before .before .before .before .is-zero-u16 .ensures) ∙ not-false _ (c .before .before .before .if1 .left)) (and-yes _ _ _ (sym (c .before .before .is-zero-u162 .ensures) ∙ not-false _ (c .before .if2 .left)) (c .is-zero-u32 .ensures))
 
