@@ -2,69 +2,30 @@
 --     read-stored    the answer over the lent records
 -- Assumes nothing.
 use mathlib.Core.Path.{_≡_, refl, sym, ap, _∙_}
-use mathlib.Core.Bool.{Bool, true, false, cond}
+use mathlib.Core.Logic.{inr}
+use mathlib.Core.Bool.{Bool, true, false}
 use mathlib.Core.List.{List, map}
 use Prim.Native.Nat.{ℕ, _≤_, _<_}
 use native.Mathlib.Omega.{arith}
-use lib.Dec.{ltb, leb, eqb}
+use lib.Dec.{ltb, eqb}
 use lib.ListN.{length, take, length-map, length-take, drop-of-length-le}
+use borrow.Author.Tests.{ne-eqb}
 use Rattle.below.proofs.Tests.{by-cases, true-or-false}
 use Rattle.tables.specs.Limits.{Limits}
 use Rattle.tables.specs.Tables.{Tables, tablesOf, fullSize}
 use Rattle.tables.specs.Zero.{zeroed, zeroedTables}
 use Rattle.tables.specs.declared.entries.Dependency.{Dependency}
 use Rattle.tables.proofs.Zero.{zeroed-same}
-use Rattle.text.specs.LinesRead.{LinesRead, linesAt}
-use Rattle.text.specs.declared.reader.LinesAnswer.{LinesAnswer}
-use Rattle.text.specs.declared.reader.LinesAnswer.the-variants as text
-use Rattle.lines.specs.declared.refusal.Refusal.{Refusal as LineRefusal}
-use Rattle.lines.specs.declared.refusal.Refusal.the-variants as line
-use Rattle.plan.specs.declared.check.PlanCheck.{PlanCheck}
-use Rattle.plan.specs.declared.check.PlanCheck.the-variants as check
-use Rattle.plan.specs.Answers.{checkOf}
-use Rattle.plan.specs.Claims.{visitsIn, plannedTotal}
-use Rattle.reading.specs.Replies.{ReadingReply, taken, refusedBy, readingNumber, lineMeant, checkMeant}
-use Rattle.reading.specs.Reading.{ReadingAnswer, AnsweredAs, withReply, withText, withDependencies, afterCheck, fromLines, readLines, readPlan}
+use Rattle.reading.specs.Replies.{ReadingReply, refusedBy, readingNumber}
+use Rattle.reading.specs.Reading.{ReadingAnswer, AnsweredAs, readLines, readPlan}
 use Rattle.reading.proofs.EntryCases.{tables-small}
+use Rattle.reading.proofs.ReplyLaws.{lines-never}
 use Rattle.records.specs.Records.{ColumnSizes, ColumnsOf, gathered, storeIf, zeroRecords, seen, tablesOfRecords}
 use Rattle.records.proofs.ColumnLaws.{zero-length, column-sizes}
 use Rattle.records.proofs.Seen.{full-spread, tables-short, tables-stored}
 use Rattle.conductor.specs.Changes.{isWritten}
 
--- ---- no line and no plan check answers 41
-
-abbrev is-41 : ReadingAnswer → Bool
-is-41 a = eqb (readingNumber (a .reply)) 41
-
-line-not-41 : (r : LineRefusal) → eqb (readingNumber (lineMeant r)) 41 ≡ false
-line-not-41 (line.Form o) = refl
-line-not-41 (line.Name o) = refl
-line-not-41 (line.Range o) = refl
-line-not-41 (line.SameName o) = refl
-line-not-41 (line.TooManyStops o) = refl
-
 module _ (L : Limits) where
-  built-not-41 : (z t : Tables) (b : Bool) → is-41 (cond b (withReply taken (withDependencies t)) (withReply (refusedBy 11) z)) ≡ false
-  built-not-41 z t true = refl
-  built-not-41 z t false = refl
-
-  check-not-41 : (z t : Tables) (k : PlanCheck) → is-41 (afterCheck L z t (checkMeant k)) ≡ false
-  check-not-41 z t check.Fine = built-not-41 z t (leb (plannedTotal (t .plan)) (L .dependencies))
-  check-not-41 z t (check.StartsLate s) = refl
-  check-not-41 z t (check.NotRising s) = refl
-  check-not-41 z t (check.SameLocation s) = refl
-  check-not-41 z t (check.Collision s o) = refl
-
-  lines-not-41 : (z : Tables) (f : LinesRead LinesAnswer) (a : LinesAnswer) → is-41 (fromLines L z f a) ≡ false
-  lines-not-41 z f (text.Refused r) = line-not-41 r
-  lines-not-41 z f (text.WellFormed n) =
-      let p = withText f n z .plan in
-      check-not-41 z (withText f n z) (checkOf (visitsIn p))
-
-  read-not-41 : (bytes : List ℕ) (z : Tables) → is-41 (readLines L bytes z) ≡ false
-  unfolding readLines
-  read-not-41 bytes z = lines-not-41 z (linesAt L bytes) (linesAt L bytes .answer)
-
   -- ---- two readings that differ only in what is zeroed
 
   module _ (bytes : List ℕ) (t t₀ : Tables) (full : fullSize L t₀ ≡ fullSize L t) (same : zeroedTables L t₀ ≡ zeroedTables L t) where
@@ -103,7 +64,7 @@ module _ (L : Limits) where
 
     read : fullSize L t₀ ≡ true → ltb (L .text) (length bytes) ≡ false → Twice Written
     read f l =
-        let not-41 : is-41 (readPlan L bytes t₀) ≡ false = ap is-41 (whole f l) ∙ read-not-41 bytes (zeroedTables L t₀) in
+        let not-41 : eqb (readingNumber (readPlan L bytes t₀ .reply)) 41 ≡ false = ap (λ (a : ReadingAnswer). eqb (readingNumber (a .reply)) 41) (whole f l) ∙ ne-eqb _ 41 (lines-never 41 (omega arith) (inr (omega arith)) L bytes (zeroedTables L t₀)) in
         record {
           answer = λ w. whole-same f l;
           reply = ap (λ (a : ReadingAnswer). a .reply) (whole-same f l);

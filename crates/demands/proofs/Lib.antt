@@ -5,5 +5,6 @@ pub mod SameCalls
 pub mod SameReading
 pub mod FullSizes
 pub mod Writing
+pub mod Numbers
 pub mod Refusals
 pub mod Demands

@@ -21,7 +21,7 @@ use Rattle.log.specs.CallLog.{replyNumber, Entry, replyIn, acceptedCalls
 use Rattle.log.specs.Calls.{flipFlags, replyOf, grantStep, arriveStep, turnStep, turnAllStep, recorded, CostOutcome, costs, costRefused, RoundsOutcome, rounds, roundsRefused}
 use Rattle.log.specs.Demand.{Demand3Of}
 use Rattle.log.specs.Flights.{small, planBy, tablesBy}
-use Rattle.log.specs.Wrong.{WrongProgram, refuseAll, idle, honestOnce, sooner, visitOnly, noCycles, never34, grantUntested, waitUntested, refuseOne, refuseList, oneByOne, anyList, never36, firstLeft, wrongs, AllFalse, WrongsFalse, CostsExactly, RoundsExactly, WrongCost, WrongRounds, wrongCosts, wrongRounds, CostsFalse, RoundsFalse, MadeUpFalse}
+use Rattle.log.specs.Wrong.{WrongProgram, refuseAll, idle, honestOnce, sooner, visitOnly, noCycles, never34, grantUntested, waitUntested, refuseOne, refuseList, oneByOne, anyList, never36, firstLeft, wrongs, AllFalse, WrongsFalse, CostsExactly, RoundsExactly, WrongCost, WrongRounds, madeUpCosts, madeUpRounds, CostsFalse, RoundsFalse, MadeUpFalse}
 use Rattle.log.proofs.Read.{isRead, as-read}
 
 -- the numbers of all replies, added up
@@ -90,4 +90,4 @@ rounds-all (x ∷ xs) h = (rounds-false x (and-left _ _ h), rounds-all xs (and-r
 
 pub made-up-false : MadeUpFalse
 unfolding costFails roundsFail isUsable costTold roundsTold sound zeroFrom nameLength nameSound sameName namesDiffer inRange namesSound passesCheck planAccepted dependenciesSound planUnused flagsSound droneFlagsSound progressUnused fixedUnturned withinStops waitsKept follows isLast isFixed flagOf faultAt firstFault over collide apart start owner stopNumber blocks free round play finished unvisited reached remaining cost makespan cyclic isNameByte turnedBit flipBit fixedFlag underWayBit onlyOneBit fullSize firstBelow allBelow countBelow sumBelow listBelow picks rowsBelow
-made-up-false = (costs-all wrongCosts refl, rounds-all wrongRounds refl)
+made-up-false = (costs-all madeUpCosts refl, rounds-all madeUpRounds refl)

@@ -182,16 +182,16 @@ pub record WrongRounds : Type 0 where
   pub answers : Tables → RoundsOutcome
   pub routes : List (List Visit)
 
-abbrev pub wrongCosts : List WrongCost
-wrongCosts =
+abbrev pub madeUpCosts : List WrongCost
+madeUpCosts =
     record { answers = λ t. costRefused 40; routes = Q 4 }
     ∷ record { answers = λ t. costs 0; routes = Q 4 }
     ∷ record { answers = λ t. costs 8; routes = (go 1 0 ∷ go 2 1 ∷ []) ∷ [] }
     ∷ record { answers = λ t. costs (stopsLeft t); routes = Q 4 }
     ∷ []
 
-abbrev pub wrongRounds : List WrongRounds
-wrongRounds =
+abbrev pub madeUpRounds : List WrongRounds
+madeUpRounds =
     record { answers = λ t. roundsRefused 40; routes = Q 4 }
     ∷ record { answers = λ t. rounds 5; routes = (go 1 0 ∷ go 2 1 ∷ []) ∷ [] }
     ∷ record { answers = λ t. rounds (stopsLeft t); routes = P }
@@ -206,4 +206,4 @@ RoundsFalse [] = Unit {0}
 RoundsFalse (x ∷ xs) = (RoundsExactly (x .answers) → ⊥) × RoundsFalse xs
 
 abbrev pub MadeUpFalse : Type 0
-MadeUpFalse = CostsFalse wrongCosts × RoundsFalse wrongRounds
+MadeUpFalse = CostsFalse madeUpCosts × RoundsFalse madeUpRounds
