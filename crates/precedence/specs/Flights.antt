@@ -2,10 +2,10 @@
 use mathlib.Core.List.{List, [], _∷_}
 use mathlib.Core.Bool.{Bool, true, false, _&&_, _||_}
 use Prim.Native.Nat.{ℕ}
-use lib.Dec.{eqb}
+use lib.Dec.{T, eqb}
 use lib.ListN.{length, getD}
-use Rattle.below.specs.Below.{firstBelow, allBelow, sumBelow, listBelow, at}
-use Rattle.precedence.specs.Graph.{Wait, departure, Plan, blocks, free, round, finished, unvisited, roundList, playList, remainingList, cyclicList}
+use Rattle.below.specs.Below.{allIn, firstBelow, allBelow, sumBelow, listBelow, at}
+use Rattle.precedence.specs.Graph.{Wait, departure, Plan, blocks, free, round, finished, unvisited, roundList, playList, remainingList, cyclicList, atStart, remaining, Longest}
 
 -- a plan from lists: each drone's last stop, and the waits
 abbrev pub fromLists : List ℕ → List Wait → Plan
@@ -58,3 +58,8 @@ sameBool false false = true
 unfoldable pub asExpected : ExpectedGraph → Bool
 unfolding firstBelow allBelow sumBelow listBelow blocks free round finished unvisited roundList playList remainingList cyclicList
 asExpected f = sameBool (cyclicList (f .plan)) (f .has-cycle) && (sameBool (f .has-cycle) true || eqb (costList (f .plan) (f .places)) (f .costs))
+
+-- the table holds; and the theorems' hypotheses are met: of flight Q at first, drone 1's remaining rounds are its longest chain
+pub record GraphFlights : Type 0 where
+  pub as-tabled : T (allIn asExpected flights)
+  pub chain-of-q : Longest (graphQ false) atStart 1 (remaining (graphQ false) atStart 1)

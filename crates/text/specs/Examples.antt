@@ -2,14 +2,18 @@
 use Prim.Native.Nat.{ℕ}
 use Prim.Native.Char.{code}
 use Prim.Native.String.{String, [] as empty, _∷_ as _before_, _++_ as _then_}
-use mathlib.Core.Bool.{Bool, _&&_}
+use mathlib.Core.Path.{_≡_}
+use mathlib.Core.Bool.{Bool, true, _&&_}
 use mathlib.Core.List.{List, [], _∷_}
 use lib.Dec.{eqb}
+use Rattle.below.specs.Below.{allIn}
 use Rattle.tables.specs.Limits.{limits}
+use Rattle.lines.specs.Keys.{firstLine, agentsKey, nameKey, stopsKey, goKey, lastLine}
 use Rattle.lines.specs.Refusals.{refusalNumber, refusalOffset}
 use Rattle.text.specs.declared.reader.LinesAnswer.{LinesAnswer}
 use Rattle.text.specs.declared.reader.LinesAnswer.the-variants.{WellFormed, Refused as NotWellFormed}
 use Rattle.text.specs.LinesRead.{linesAt}
+use Rattle.text.specs.Written.{planText}
 
 -- the bytes of an ASCII text
 abbrev pub bytes : String → List ℕ
@@ -79,3 +83,9 @@ linesExamples =
     ∷ record { text = "plan=1\nagents=2\nname=a\nstops=1\ngo=1@0\nname=b\nstops=1024\n"; refusal = 6; value = 45 }
     ∷ record { text = "plan=1\nagents=2\nname=a\nstops=1025\n"; refusal = 4; value = 23 }
     ∷ []
+
+-- each text is read as the list has it; the keys are the bytes of their texts; a name of 24 capitals is written small
+pub record ExampleTexts : Type 0 where
+  pub as-listed : allIn linesAsGiven linesExamples ≡ true
+  pub keys : _≡_ {A = List (List ℕ)} (firstLine ∷ agentsKey ∷ nameKey ∷ stopsKey ∷ goKey ∷ lastLine ∷ []) (bytes "plan=1\n" ∷ bytes "agents=" ∷ bytes "name=" ∷ bytes "stops=" ∷ bytes "go=" ∷ bytes "end=plan\n" ∷ [])
+  pub capitals : let w = linesAt limits (bytes (single "ABCDEFGHIJKLMNOPQRSTUVWX" "0@0")) in planText 1 (w .rows) (w .counts) (w .locations) (w .times) ≡ bytes (single "abcdefghijklmnopqrstuvwx" "0@0")
