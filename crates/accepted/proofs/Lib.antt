@@ -11,3 +11,4 @@ pub mod Examples
 pub mod Taken
 pub mod TablesRoutes
 pub mod SoundAccepted
+pub mod Reported
