@@ -8,8 +8,7 @@ use Prim.Native.Nat.{ℕ, zero, suc, _≤_, _<_}
 use lib.ListN.{length}
 use Rattle.tables.specs.Limits.{Limits}
 use Rattle.tables.specs.Tables.{Tables, fullSize}
-use Rattle.text.specs.LinesRead.{linesAt}
-use Rattle.text.specs.declared.reader.LinesAnswer.the-variants.{WellFormed}
+use Rattle.text.specs.Claims.{PlanOfText}
 use Rattle.plan.specs.declared.check.StopAt.{StopAt}
 use Rattle.plan.specs.Field.{Dependency, FieldPlan, before}
 use Rattle.plan.specs.Claims.{StopsChecked, SpansShare}
@@ -52,12 +51,13 @@ module _ (F : FieldPlan) where
 
 -- ---- the reading of a text
 
--- the reading comes to the plan check: no table is below full size (41), the text is not too long (1), no line is refused (2 to 6)
+-- the reading comes to the plan check: no table is below full size (41), the text is not too long (1), and no line is refused (2 to 6), since they are those of a plan of
+-- some number of drones
 pub record ComesToCheck (L : Limits) (text : List ℕ) (t : Tables) : Type 0 where
   pub full : fullSize L t ≡ true
   pub short : length text ≤ L .text
   pub number : ℕ
-  pub well-formed : linesAt L text .answer ≡ WellFormed number
+  pub lines : PlanOfText L text number
 
 -- the two stops of a reply
 abbrev pub stopPair : StopAt → StopAt → Dependency
