@@ -71,7 +71,7 @@ rule-numbers F n d (suc s) b = elim b [ inl (q, x) ↦ inr (inl q) | inr (q, x) 
 
 -- ---- what the check of lists says
 
--- a search's answer by what it found
+-- an answer with one stop comes of the first search, one with two of the second
 stop-found : (a b : Bool) (k : ℕ) (s x y : StopAt) (n : ℕ) (u : StopAt) → checkMeant (pickCheck a (faultCase k s) (pickCheck b (check.Collision x y) check.Fine)) ≡ refusedStop n u → (a ≡ true) × (checkMeant (faultCase k s) ≡ refusedStop n u)
 stop-found true b k s x y n u h = (refl, h)
 stop-found false true k s x y n u h = absurd (let z : _≡_ {A = ℕ} 0 1 = cc h in omega arith)
@@ -298,7 +298,7 @@ module _ (p : PlanLists) (have : HaveStops p) where
       second-stop-in = N .number-in (partner S (colliderIn p)) (R .second-in);
     }) (rw (N .number-is (colliderIn p) l, N .number-is (partner S (colliderIn p)) (R .second-in)) (R .collision))
 
-    -- it is each pair that collides, or stands before it
+    -- each pair that collides is this one, or stands after it
     found-least : (y : Dependency) → StopsCollide F y → ((colliderIn p ≡ firstPlace y) × (partner S (colliderIn p) ≡ secondPlace y)) ⊎ (before found y ≡ true)
     found-least y k =
         let i : PairIn F y = pair-in F y k in
@@ -323,7 +323,7 @@ module _ (p : PlanLists) (have : HaveStops p) where
       let c : StopsChecked F = stops-checked p have (omega (arith, ltb-false v (stopTotal p) a, fault-first .within)) in
       (sym q, c, subst (λ (z : StopAt). LowestPair F (stopPair s z)) y (subst (λ (z : StopAt). LowestPair F (stopPair z (stopAt (ownerIn p) (numberIn p) (partner S w)))) x (found-lowest c (ltb-true _ _ b))))
 
-  -- a pair that collides is found, or another
+  -- where a pair collides, one is found
   collider-in : (x : Dependency) → StopsCollide F x → colliderIn p < stopTotal p
   unfolding collider
   collider-in x k =

@@ -63,9 +63,9 @@ pub record ComesToCheck (L : Limits) (text : List ℕ) (t : Tables) : Type 0 whe
 abbrev pub stopPair : StopAt → StopAt → Dependency
 stopPair s u = record { first = s .drone; firstStop = s .stop; second = u .drone; secondStop = u .stop }
 
--- "A refusal from the plan check says which drone and stop is at fault; 10 gives two of each": for any text and any tables, a reading that replies by a number and a stop
--- came to the plan check and names the first stop at fault of the text's plan, and every reading that comes there and has one names it; the same of two stops, of a plan
--- whose single stops pass
+-- "A refusal from the plan check says which drone and stop is at fault; 10 gives two of each", for any text and any tables: the reply is a number and a stop exactly when the
+-- reading comes to the plan check and the stop is the first at fault in the text's plan, and the number that of the rule; it is a number and two stops exactly when the
+-- reading comes there, no single stop is at fault, the number is 10, and the two are the lowest pair that collides
 pub record ReportedOfTexts (L : Limits) : Type 0 where
   pub first-fault : (text : List ℕ) (t : Tables) (n : ℕ) (s : StopAt) → (readPlan L text t .reply ≡ refusedStop n s) ↔ (ComesToCheck L text t × FirstAtFault (textPlan L text) n (s .drone) (s .stop))
   pub lowest-pair : (text : List ℕ) (t : Tables) (n : ℕ) (s u : StopAt) → (readPlan L text t .reply ≡ refusedStops n s u)
