@@ -21,13 +21,17 @@ use Rattle.log.specs.Calls.{step, Ran}
 use Rattle.log.specs.Demand.{Found}
 use Rattle.reading.specs.Reading.{readPlan, readLines}
 use Rattle.reading.specs.Replies.{taken as Taken}
-use Rattle.accepted.specs.Examples.{textQ, readingAsGiven, readingExamples}
+use Rattle.accepted.specs.Examples.{textQ, readingAsGiven, readingExamples, StopsNamed}
 use Rattle.accepted.specs.TextPlan.{textPlan}
 use Rattle.accepted.proofs.TextFound.{demand3-of-texts}
 
 pub examples-hold : (allIn readingAsGiven readingExamples ≡ true) × (readPlan limits (bytes textQ) (filled 7 limits) .reply ≡ Taken)
 unfolding firstBelow allBelow countBelow sumBelow fullSize zeroed byteAt isAt isDigit digitsFrom numberAt fieldAt goAt stopsAt countAt untilFeed lineEnd isCapital smallByte smallForm isNameByte isTextByte textBytes textName nameAt stopsRead droneAt same elem dronesAt linesAt start owner stopNumber faultAt firstFault over collide collider follows faultCase checkOf readPlan readLines
 examples-hold = (refl, refl)
+
+pub stops-named : StopsNamed
+unfolding firstBelow allBelow countBelow sumBelow fullSize zeroed byteAt isAt isDigit digitsFrom numberAt fieldAt goAt stopsAt countAt untilFeed lineEnd isCapital smallByte smallForm isNameByte isTextByte textBytes textName nameAt stopsRead droneAt same elem dronesAt linesAt start owner stopNumber faultAt firstFault over collide collider follows faultCase checkOf readPlan readLines
+stops-named = record { starts-late = refl; not-rising = refl; same-location = refl; collision = refl }
 
 -- demand 3 of flight Q, whatever is called after its reading
 pub flightQ-found : (calls : List Call) (got : List Entry) (t : Tables) → Ran (step limits) (readPlan limits (bytes textQ) (filled 7 limits) .tables) calls got t → Found (textPlan limits (bytes textQ)) calls got t

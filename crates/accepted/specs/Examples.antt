@@ -1,4 +1,5 @@
 -- Flights of document 01 as texts, read into tables of full size that held something else before: the readings that the claims speak of do happen. Assumes nothing.
+use mathlib.Core.Path.{_≡_}
 use mathlib.Core.Bool.{Bool}
 use mathlib.Core.List.{List, [], _∷_}
 use Prim.Native.Nat.{ℕ}
@@ -7,7 +8,7 @@ use lib.Dec.{eqb}
 use Rattle.tables.specs.Limits.{Limits, limits}
 use Rattle.tables.specs.Zero.{filled}
 use Rattle.text.specs.Examples.{bytes}
-use Rattle.reading.specs.Replies.{readingNumber}
+use Rattle.reading.specs.Replies.{ReadingReply, refusedStop, refusedStops, readingNumber}
 use Rattle.reading.specs.Reading.{readPlan}
 
 -- the product's limits, but for one dependency
@@ -55,3 +56,18 @@ readingExamples =
     -- "a capital is the same letter as its small form everywhere names are compared"
     ∷ record { within = limits; text = "plan=1\nagents=2\nname=Survey-Quad-East-1\nstops=1\ngo=1@0\nname=survey-quad-east-1\nstops=1\ngo=2@0\nend=plan\n"; number = 5 }
     ∷ []
+
+-- ---- the stops that a refusal names
+
+abbrev pub replyTo : String → ReadingReply
+replyTo text = readPlan limits (bytes text) (filled 7 limits) .reply
+
+pub record StopsNamed : Type 0 where
+  -- "7 stop 0 not at time 0": drone 1 is the first at fault, and its stop 1 breaks 8 and 9 too
+  pub starts-late : replyTo "plan=1\nagents=2\nname=a\nstops=1\ngo=1@0\nname=b\nstops=2\ngo=2@1\ngo=2@1\nend=plan\n" ≡ refusedStop 7 (record { drone = 1; stop = 0 })
+  -- "8 time not above the one before" comes before 9 at one stop, and both before 7 at a later drone
+  pub not-rising : replyTo "plan=1\nagents=2\nname=a\nstops=3\ngo=1@0\ngo=2@1\ngo=2@1\nname=b\nstops=1\ngo=3@1\nend=plan\n" ≡ refusedStop 8 (record { drone = 0; stop = 2 })
+  -- "9 same location as the one before", before 8 at a later stop; the drones collide at 1 too, but single stops come before pairs
+  pub same-location : replyTo "plan=1\nagents=2\nname=a\nstops=3\ngo=1@0\ngo=1@1\ngo=2@1\nname=b\nstops=1\ngo=1@0\nend=plan\n" ≡ refusedStop 9 (record { drone = 0; stop = 1 })
+  -- "10 gives two of each": at 5 all three drones collide, and drones 1 and 2 at their stops 0
+  pub collision : replyTo "plan=1\nagents=3\nname=a\nstops=3\ngo=1@0\ngo=5@2\ngo=6@4\nname=b\nstops=2\ngo=2@0\ngo=5@3\nname=c\nstops=2\ngo=2@0\ngo=5@1\nend=plan\n" ≡ refusedStops 10 (record { drone = 0; stop = 1 }) (record { drone = 1; stop = 1 })
