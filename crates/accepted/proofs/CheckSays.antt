@@ -19,9 +19,9 @@ use Rattle.plan.specs.Check.{faultAt, firstFault, collide, partner, collider}
 use Rattle.plan.specs.Answers.{pickCheck, stopAt, faultCase, checkOf}
 use Rattle.plan.specs.Field.{Dependency, FieldPlan, PlansAgree, before, planOf}
 use Rattle.plan.specs.Claims.{Numbered, pair, stopTotal, ownerIn, numberIn, timeIn, visitsIn, colliderIn, HaveStops, Reported, StopsChecked, Occupies}
-use Rattle.plan.proofs.Numbering.{stays, order-number}
+use Rattle.plan.proofs.Numbering.{order-number}
 use Rattle.plan.proofs.Conditions.{Over, OneOver, collide-not, not-collide}
-use Rattle.plan.proofs.Accepted.{stops-numbered, stops-checked, stops-pass}
+use Rattle.plan.proofs.Accepted.{over-gone as over-gone-in, gone-over as gone-over-in, stops-numbered, stops-checked, stops-pass}
 use Rattle.plan.proofs.Exact.{before-asym}
 use Rattle.plan.proofs.PlansAgree.{agree-back}
 use Rattle.plan.proofs.Claims.{accepted-claims}
@@ -211,14 +211,10 @@ module _ (p : PlanLists) (have : HaveStops p) where
 
   -- a span that is over before t
   over-gone : (d s t : ℕ) → d < F .drones → s ≤ F .last d → Over (ownerIn p) (timeIn p) (stopTotal p) (place d s) t → (s < F .last d) × (F .time d (suc s) < t)
-  over-gone d s t l k o =
-      let q : place d s + 1 ≡ place d (suc s) = omega arith in
-      (rw (N .place-number d s l k, N .place-own d s l k) at (stays N (place d s) (o .next) (o .same-drone)), rw q at (o .leaves))
+  over-gone = over-gone-in S (start (p .stopCounts)) (F .last) (F .drones) (F .count) (F .dependency) N
 
   gone-over : (d s t : ℕ) → d < F .drones → s < F .last d → F .time d (suc s) < t → Over (ownerIn p) (timeIn p) (stopTotal p) (place d s) t
-  gone-over d s t l k h =
-      let q : place d s + 1 ≡ place d (suc s) = omega arith in
-      record { next = rw q (N .place-in d (suc s) l k); same-drone = rw q (N .place-own d (suc s) l k ∙ sym (N .place-own d s l (omega arith))); leaves = rw q h }
+  gone-over = gone-over-in S (start (p .stopCounts)) (F .last) (F .drones) (F .count) (F .dependency) N
 
   -- the two stops of a pair, numbered through, and the pair of two such stops
   abbrev firstPlace : Dependency → ℕ

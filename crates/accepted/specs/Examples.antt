@@ -1,14 +1,15 @@
 -- Flights of document 01 as texts, read into tables of full size that held something else before: the readings that the claims speak of do happen. Assumes nothing.
 use mathlib.Core.Path.{_≡_}
-use mathlib.Core.Bool.{Bool}
+use mathlib.Core.Bool.{Bool, true}
 use mathlib.Core.List.{List, [], _∷_}
 use Prim.Native.Nat.{ℕ}
 use Prim.Native.String.{String}
 use lib.Dec.{eqb}
+use Rattle.below.specs.Below.{allIn}
 use Rattle.tables.specs.Limits.{Limits, limits}
 use Rattle.tables.specs.Zero.{filled}
 use Rattle.text.specs.Examples.{bytes}
-use Rattle.reading.specs.Replies.{ReadingReply, refusedStop, refusedStops, readingNumber}
+use Rattle.reading.specs.Replies.{ReadingReply, taken, refusedStop, refusedStops, readingNumber}
 use Rattle.reading.specs.Reading.{readPlan}
 
 -- the product's limits, but for one dependency
@@ -71,3 +72,9 @@ pub record StopsNamed : Type 0 where
   pub same-location : replyTo "plan=1\nagents=2\nname=a\nstops=3\ngo=1@0\ngo=1@1\ngo=2@1\nname=b\nstops=1\ngo=1@0\nend=plan\n" ≡ refusedStop 9 (record { drone = 0; stop = 1 })
   -- "10 gives two of each": at 5 all three drones collide, and drones 1 and 2 at their stops 0
   pub collision : replyTo "plan=1\nagents=3\nname=a\nstops=3\ngo=1@0\ngo=5@2\ngo=6@4\nname=b\nstops=2\ngo=2@0\ngo=5@3\nname=c\nstops=2\ngo=2@0\ngo=5@1\nend=plan\n" ≡ refusedStops 10 (record { drone = 0; stop = 1 }) (record { drone = 1; stop = 1 })
+
+-- each text of the list gets its number, and flight Q is taken at the product's limits
+pub record ReadingsHold : Type 0 where
+  pub as-listed : allIn readingAsGiven readingExamples ≡ true
+  pub q-taken : replyTo textQ ≡ taken
+  pub stops-named : StopsNamed

@@ -79,12 +79,12 @@ module _ (S : Visits) (off last : ℕ → ℕ) (drones count : ℕ) (dependency 
 
   -- ---- the plan check
 
-  over-gone : (d s t : ℕ) → d < drones → s ≤ last d → Over own time n (off d + s) t → (s < last d) × (time (off d + suc s) < t)
+  pub over-gone : (d s t : ℕ) → d < drones → s ≤ last d → Over own time n (off d + s) t → (s < last d) × (time (off d + suc s) < t)
   over-gone d s t l k o =
       let q : off d + s + 1 ≡ off d + suc s = omega arith in
       (rw (N .place-number d s l k, N .place-own d s l k) at (stays N (off d + s) (o .next) (o .same-drone)), rw q at (o .leaves))
 
-  gone-over : (d s t : ℕ) → d < drones → s < last d → time (off d + suc s) < t → Over own time n (off d + s) t
+  pub gone-over : (d s t : ℕ) → d < drones → s < last d → time (off d + suc s) < t → Over own time n (off d + s) t
   gone-over d s t l k h =
       let q : off d + s + 1 ≡ off d + suc s = omega arith in
       record { next = rw q (N .place-in d (suc s) l k); same-drone = rw q (N .place-own d (suc s) l k ∙ sym (N .place-own d s l (omega arith))); leaves = rw q h }
