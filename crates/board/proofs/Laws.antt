@@ -22,8 +22,7 @@ use Rattle.reading.specs.declared.replies.Reading.the-variants.{Refused}
 use Rattle.reading.specs.declared.replies.Refusal.{Refusal}
 use Rattle.handset.specs.Press.{PressOutcome, PressAnswer, PressedAs}
 use Rattle.handset.specs.declared.replies.Report.the-variants.{Arrived}
-use Rattle.small_plans.specs.Asked.{PlanGiven}
-use Rattle.small_plans.specs.declared.PlanAnswer.{PlanAnswer}
+use Rattle.small_plans.specs.Asked.{PlanOutcome, PlanGiven}
 use Rattle.board.specs.declared.answers.CallAnswer.{CallAnswer}
 use Rattle.board.specs.declared.answers.ChangeAnswer.{ChangeAnswer}
 use Rattle.board.specs.declared.answers.ReadAnswer.{ReadAnswer}
@@ -58,7 +57,7 @@ reported-some (suc n) d h = refl
 pub press-told : (p q : PressAnswer) (m : PressOutcome) (r : CallAnswer) (t′ : Tables) → PressedAs p m t′ → p ≡ q → Says r (pressAnswerOf m) → PressTold q r t′
 press-told p q m r t′ a e s = subst (λ (x : PressAnswer). PressTold x r t′) e (record { told = rw (a .replied) at s; left = a .left })
 
-pub small-plan-told : (k : ℕ) (before after : List ℕ) (m : PlanAnswer) (r : CallAnswer) → PlanGiven k before after m → Says r (planAnswerOf m) → SmallPlanTold k before after r
+pub small-plan-told : (k : ℕ) (before after : List ℕ) (m : PlanOutcome) (r : CallAnswer) → PlanGiven k before after m → Says r (planAnswerOf m) → SmallPlanTold k before after r
 small-plan-told k before after m r a e = record { told = rw (a .answer-is) at e; left = a .buffer-is }
 
 pub plan-told : (L : Limits) (t : Tables) (before after : List ℕ) (m : Writing) (r : CallAnswer) → PlanWritten L t before after m → Says r (writingAnswerOf m) → PlanTold L t before after r
