@@ -14,7 +14,7 @@ use Rattle.log.specs.CallLog.{Call, Reply}
 use Rattle.log.specs.Calls.{step, Answered}
 use Rattle.log.specs.Preview.{PreviewOutcome, wouldTurn}
 use Rattle.flat.specs.Writing.{Writing, PlanWritten}
-use Rattle.reading.specs.Replies.{ReadingReply, refusalMeant, readingMeant}
+use Rattle.reading.specs.Replies.{ReadingReply, taken, refusedBy, refusedAt, refusedStop, refusedStops, readingNumber, refusalMeant, readingMeant}
 use Rattle.reading.specs.Reading.{AnsweredAs}
 use Rattle.reading.specs.Reading as reading
 use Rattle.reading.specs.declared.replies.Reading.{Reading}
@@ -65,6 +65,17 @@ plan-told L t before after m r a e = record { told = rw (a .replied) at e; left 
 
 pub read-told : (a : reading.ReadingAnswer) (m : ReadingReply) (r : ReadAnswer) (t : Tables) → AnsweredAs a m t → SaysOfRead r (readAnswerOf m) → ReadTold a r t
 read-told a m r t s e = record { told = rw (s .replied) at e; left = s .left }
+
+-- the number that C is told is that of the reply
+number-of : (m : ReadingReply) → readAnswerOf m .number ≡ readingNumber m
+number-of taken = refl
+number-of (refusedBy n) = refl
+number-of (refusedAt n o) = refl
+number-of (refusedStop n s) = refl
+number-of (refusedStops n s t) = refl
+
+pub number-told : (m : ReadingReply) (r : ReadAnswer) → SaysOfRead r (readAnswerOf m) → r .number ≡ readingNumber m
+number-told m r s = s .number-is ∙ number-of m
 
 pub refused-told : (x : Reading) (f : Refusal) (r : ReadAnswer) → x ≡ Refused f → SaysOfRead r (readAnswerOf (refusalMeant f)) → SaysOfRead r (readAnswerOf (readingMeant x))
 refused-told x f r e s = rw e s
