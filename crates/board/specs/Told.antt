@@ -14,9 +14,7 @@ use Rattle.reading.specs.Reading.{ReadingAnswer}
 use Rattle.handset.specs.Press.{PressOutcome, granted, pressRefused, PressAnswer}
 use Rattle.handset.specs.declared.replies.Report.{Report}
 use Rattle.handset.specs.declared.replies.Report.the-variants.{Nothing, Arrived}
-use Rattle.small_plans.specs.Asked.{planAnswer, bufferThen}
-use Rattle.small_plans.specs.declared.PlanAnswer.{PlanAnswer}
-use Rattle.small_plans.specs.declared.PlanAnswer.the-variants.{Length, NoSuchPlan, Short}
+use Rattle.small_plans.specs.Asked.{PlanOutcome, textLength, planRefused, planAnswer, bufferThen}
 use Rattle.board.specs.declared.answers.CallAnswer.{CallAnswer}
 use Rattle.board.specs.declared.answers.ChangeAnswer.{ChangeAnswer}
 use Rattle.board.specs.declared.answers.ReadAnswer.{ReadAnswer}
@@ -58,10 +56,9 @@ reportTold zero d = Nothing
 reportTold (suc n) d = Arrived d
 
 -- "15, no such plan, then 42"
-abbrev pub planAnswerOf : PlanAnswer → CallAnswer
-planAnswerOf (Length n) = answerWith 0 n
-planAnswerOf NoSuchPlan = answerWith 15 0
-planAnswerOf Short = answerWith 42 0
+abbrev pub planAnswerOf : PlanOutcome → CallAnswer
+planAnswerOf (textLength n) = answerWith 0 n
+planAnswerOf (planRefused n) = answerWith n 0
 
 abbrev pub atOffset : ℕ → ℕ → ReadAnswer
 atOffset n o = record { number = n; offset = o; drone = 0; stop = 0; «other_drone» = 0; «other_stop» = 0 }

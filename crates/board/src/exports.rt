@@ -14,6 +14,7 @@ ghost use Rattle.log.specs.Calls.{costReply, roundsReply};
 ghost use Rattle.log.specs.Preview.{preview, previewAll};
 ghost use Rattle.reading.specs.Reading.{readPlan};
 ghost use Rattle.records.specs.Records.{tablesOfRecords};
+ghost use Rattle.conductor.specs.Changes.{reservedOf, ReservedAfter};
 ghost use Rattle.handset.specs.Press.{pressStep};
 ghost use Rattle.board.specs.Told.{CallTold, PlanTold, ReadTold, PressTold, reportTold, Says, SaysOfChange, changeAnswerOf, costAnswerOf, roundsAnswerOf};
 
@@ -112,7 +113,11 @@ pub extern "C" fn board_turn(
         (now («drone_count» .entry)) (now («dependency_count» .entry)) (now (names .entry)) (now («stop_counts» .entry))
         (now (locations .entry)) (now (times .entry)) (now (visited .entry)) (now («drone_flags» .entry))
         (now (dependencies .exit))) ⌝ }
-    ensures { λ _. ⌜ drop (limits .dependencies) (now (dependencies .exit)) ≡ drop (limits .dependencies) (now (dependencies .entry)) ⌝ }
+    ensures { λ _.
+        ⌜
+        (drop (limits .dependencies) (now (dependencies .exit)) ≡ drop (limits .dependencies) (now (dependencies .entry)))
+        × (reservedOf (now (dependencies .exit)) ≡ reservedOf (now (dependencies .entry)))
+        ⌝ }
 {
     let reply = calls::turn(
         drone_count,
@@ -150,7 +155,11 @@ pub extern "C" fn board_turn_all(
         (now («drone_count» .entry)) (now («dependency_count» .entry)) (now (names .entry)) (now («stop_counts» .entry))
         (now (locations .entry)) (now (times .entry)) (now (visited .entry)) (now («drone_flags» .entry))
         (now (dependencies .exit))) ⌝ }
-    ensures { λ _. ⌜ drop (limits .dependencies) (now (dependencies .exit)) ≡ drop (limits .dependencies) (now (dependencies .entry)) ⌝ }
+    ensures { λ _.
+        ⌜
+        (drop (limits .dependencies) (now (dependencies .exit)) ≡ drop (limits .dependencies) (now (dependencies .entry)))
+        × (reservedOf (now (dependencies .exit)) ≡ reservedOf (now (dependencies .entry)))
+        ⌝ }
 {
     let reply = calls::turn_all(
         drone_count,
@@ -393,7 +402,11 @@ pub extern "C" fn board_read(
         (now («drone_count» .exit)) (now («dependency_count» .exit)) (now (names .exit)) (now («stop_counts» .exit))
         (now (locations .exit)) (now (times .exit)) (now (visited .exit)) (now («drone_flags» .exit))
         (now (dependencies .exit))) ⌝ }
-    ensures { λ _. ⌜ drop (limits .dependencies) (now (dependencies .exit)) ≡ drop (limits .dependencies) (now (dependencies .entry)) ⌝ }
+    ensures { λ r.
+        ⌜
+        (drop (limits .dependencies) (now (dependencies .exit)) ≡ drop (limits .dependencies) (now (dependencies .entry)))
+        × ReservedAfter limits (r .number) (now (dependencies .entry)) (now (dependencies .exit))
+        ⌝ }
 {
     let reply = calls::read_plan(
         text,

@@ -21,11 +21,11 @@ use Rattle.text.specs.declared.writer.WriteAnswer.{WriteAnswer}
 use Rattle.text.specs.declared.writer.WriteAnswer.the-variants as writer
 use Rattle.text.proofs.WriteWhole.{says-short, says-length}
 use Rattle.small_plans.specs.declared.PlanAnswer.{PlanAnswer}
-use Rattle.small_plans.specs.declared.PlanAnswer.the-variants.{Length, NoSuchPlan, Short}
+use Rattle.small_plans.specs.declared.PlanAnswer.the-variants.{Length}
 use Rattle.small_plans.specs.Routes.{SmallRoute}
 use Rattle.small_plans.specs.Plans.{SmallPlan, planWith, planRoutes, smallPlanText, smallPlans, planAt}
 use Rattle.small_plans.specs.Check.{checkedRouteAt, stopCount}
-use Rattle.small_plans.specs.Asked.{asWritten, planAnswer, bufferThen, PlanGiven, stopText}
+use Rattle.small_plans.specs.Asked.{textLength, planRefused, planMeant, asWritten, planAnswer, bufferThen, PlanGiven, stopText}
 use Rattle.small_plans.proofs.Listed.{places, moments, tableRoute, route-is, stops-are, plans-many}
 
 -- ---- a route
@@ -90,7 +90,7 @@ plan-put x y {b} {b₁} {b₂} {b₃} {b₄} {b₅} {n₁} {n₂} {n₃} {n₄} 
 
 -- ---- the answer
 
-pub no-such : (k : ℕ) (b : List ℕ) → 378 ≤ k → PlanGiven k b b NoSuchPlan
+pub no-such : (k : ℕ) (b : List ℕ) → 378 ≤ k → PlanGiven k b b (planRefused 15)
 unfolding planAnswer bufferThen
 no-such k b h = let e = le-ltb k 378 h in record { answer-is = rw (plans-many, e) refl; buffer-is = rw (plans-many, e) refl }
 
@@ -105,21 +105,21 @@ module _ (k f s : ℕ) (h : k < 378) (first : planAt k .first ≡ checkedRouteAt
   same : smallPlanText (planWith (checkedRouteAt f) (checkedRouteAt s)) ≡ smallPlanText (planAt k)
   same = plan-text (planAt k) (checkedRouteAt f) (checkedRouteAt s) first second
 
-  pub gives-short : length (ys ++ b) < n → PlanGiven k b (ys ++ b) Short
+  pub gives-short : length (ys ++ b) < n → PlanGiven k b (ys ++ b) (planRefused 42)
   gives-short l = given k b (ys ++ b) writer.Short h (subst (λ (t : List ℕ). TextWritten t b (ys ++ b) writer.Short) same (says-short b p l))
 
-  pub gives-length : n ≤ length (ys ++ b) → {after : List ℕ} {r : ℕ} → Put (ys ++ b) 0 (smallPlanText (planWith (checkedRouteAt f) (checkedRouteAt s))) after r → PlanGiven k b after (Length n)
+  pub gives-length : n ≤ length (ys ++ b) → {after : List ℕ} {r : ℕ} → Put (ys ++ b) 0 (smallPlanText (planWith (checkedRouteAt f) (checkedRouteAt s))) after r → PlanGiven k b after (textLength n)
   gives-length l {after} q = given k b after (writer.Length n) h (subst (λ (t : List ℕ). TextWritten t b after (writer.Length n)) same (says-length b p l q))
 
 -- a length that is answered is that of the buffer's first part, which holds the text
-pub given-fits : (k : ℕ) (b after : List ℕ) (r : PlanAnswer) (n : ℕ) → PlanGiven k b after r → r ≡ Length n → n ≤ length after
+pub given-fits : (k : ℕ) (b after : List ℕ) (r : PlanAnswer) (n : ℕ) → PlanGiven k b after (planMeant r) → r ≡ Length n → n ≤ length after
 unfolding planAnswer bufferThen writeAnswer bufferAfter isShort
-given-fits k b after r n g e = by-test (smallPlanText (planAt k)) (ltb k (length smallPlans)) (ltb (length b) (length (smallPlanText (planAt k)))) (sym e ∙ g .answer-is) (g .buffer-is)
+given-fits k b after r n g e = by-test (smallPlanText (planAt k)) (ltb k (length smallPlans)) (ltb (length b) (length (smallPlanText (planAt k)))) (sym (ap planMeant e) ∙ g .answer-is) (g .buffer-is)
   where
-    by-test : (t : List ℕ) (a s : Bool) → Length n ≡ cond a (asWritten (cond s writer.Short (writer.Length (length t)))) NoSuchPlan → after ≡ cond a (cond s b (t ++ drop (length t) b)) b → n ≤ length after
+    by-test : (t : List ℕ) (a s : Bool) → textLength n ≡ cond a (asWritten (cond s writer.Short (writer.Length (length t)))) (planRefused 15) → after ≡ cond a (cond s b (t ++ drop (length t) b)) b → n ≤ length after
     by-test t true true h q = absurd (let z : _≡_ {A = ℕ} 0 1 = cc h in omega arith)
     by-test t true false h q = let m : n ≡ length t = cc h in rw q (omega (arith, m, length-append t (drop (length t) b)))
     by-test t false s h q = absurd (let z : _≡_ {A = ℕ} 0 1 = cc h in omega arith)
 
-pub given-part : (k : ℕ) (b after : List ℕ) (r : PlanAnswer) (n : ℕ) → PlanGiven k b after r → r ≡ Length n → n ≡ length (take n after)
+pub given-part : (k : ℕ) (b after : List ℕ) (r : PlanAnswer) (n : ℕ) → PlanGiven k b after (planMeant r) → r ≡ Length n → n ≡ length (take n after)
 given-part k b after r n g e = sym (length-take-le n after (given-fits k b after r n g e))

@@ -13,7 +13,7 @@ ghost use lib.ListN.{length};
 ghost use Rattle.lines.specs.Bytes.{Put};
 ghost use Rattle.small_plans.specs.Plans.{planWith, smallPlanText, planAt};
 ghost use Rattle.small_plans.specs.Check.{stopCount, checkedRouteAt};
-ghost use Rattle.small_plans.specs.Asked.{stopText, PlanGiven};
+ghost use Rattle.small_plans.specs.Asked.{stopText, planMeant, PlanGiven};
 
 // The length of the text; or 15, no such plan; or 42, the buffer is shorter than the text.
 pub enum PlanAnswer {
@@ -88,7 +88,7 @@ fn put_plan(buf: &mut [u8], first: usize, second: usize) -> usize
 
 // Writes a small plan, if there is one of this number and the buffer is long enough. The first writing writes nothing and gives the length.
 pub fn small_plan(number: usize, buf: &mut [u8]) -> PlanAnswer
-    ensures { λ r. ⌜ PlanGiven number (now (buf .entry)) (now (buf .exit)) r ⌝ }
+    ensures { λ r. ⌜ PlanGiven number (now (buf .entry)) (now (buf .exit)) (planMeant r) ⌝ }
 {
     if PLANS <= number {
         return PlanAnswer::NoSuchPlan;
