@@ -330,7 +330,7 @@ def divided(pairs):  # the functions of each twin: of JOBS twins, and one for ea
     alone = [[p] for p in pairs if not os.path.exists(proof_of(*p))]
     rest = [p for p in pairs if [p] not in alone]
     twins, before, total = [[] for _ in range(JOBS)], 0, sum(length[p] for p in rest)
-    for p in rest:  # in order, for functions of a crate have their stubs in common; by their lengths, for the time of a check goes about with these
+    for p in rest:  # in order, for functions of a crate have their stubs in common; by their lengths, for the time of a check is about proportional to them
         twins[int((before + length[p] / 2) * JOBS / total)].append(p)
         before += length[p]
     return [t for t in twins if t] + alone

@@ -73,7 +73,7 @@ pub record StopsNamed : Type 0 where
   -- "10 gives two of each": at 5 all three drones collide, and drones 1 and 2 at their stops 0
   pub collision : replyTo "plan=1\nagents=3\nname=a\nstops=3\ngo=1@0\ngo=5@2\ngo=6@4\nname=b\nstops=2\ngo=2@0\ngo=5@3\nname=c\nstops=2\ngo=2@0\ngo=5@1\nend=plan\n" ≡ refusedStops 10 (record { drone = 0; stop = 1 }) (record { drone = 1; stop = 1 })
 
--- each text of the list gets its number, and flight Q is taken at the product's limits
+-- each text of the list gets its number, flight Q is taken at the product's limits, and refusals of the plan check name these stops
 pub record ReadingsHold : Type 0 where
   pub as-listed : allIn readingAsGiven readingExamples ≡ true
   pub q-taken : replyTo textQ ≡ taken

@@ -66,7 +66,7 @@ atOffset n o = record { number = n; offset = o; drone = 0; stop = 0; «other_dro
 abbrev pub atStops : ℕ → ℕ → ℕ → ℕ → ℕ → ReadAnswer
 atStops n d k e l = record { number = n; offset = 0; drone = d; stop = k; «other_drone» = e; «other_stop» = l }
 
--- "Refusals 1 to 6 carry a byte offset", "a refusal from the plan check says which drone and stop is at fault; 10 gives two of each"
+-- "Refusals 1 to 6 carry a byte offset", "A refusal from the plan check says which drone and stop is at fault; 10 gives two of each"
 abbrev pub readAnswerOf : ReadingReply → ReadAnswer
 readAnswerOf taken = atOffset 0 0
 readAnswerOf (refusedBy n) = atOffset n 0

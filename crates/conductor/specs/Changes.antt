@@ -9,11 +9,11 @@ use Rattle.tables.specs.Zero.{zeroed}
 use Rattle.tables.specs.declared.entries.Dependency.{Dependency}
 use Rattle.reading.specs.Replies.{ReadingReply, readingNumber}
 
--- "every entry, first: 41: unchanged"; "reading, before any line: 1 text too long: unchanged". Every other reading of a text of n bytes writes all
+-- 41 and 1 leave the tables "unchanged". Every other reading of a text of n bytes writes all
 abbrev pub isWritten : Limits → ℕ → ReadingReply → Bool
 isWritten L n r = not (ltb (L .text) n) && not (eqb (readingNumber r) 41)
 
--- the readings that write nothing, by the number of the reply alone
+-- the readings that write nothing, by the number of the reply alone: of the replies of `readPlan` the two tests say the same
 abbrev pub isUnchanged : (number : ℕ) → Bool
 isUnchanged number = eqb number 41 || eqb number 1
 

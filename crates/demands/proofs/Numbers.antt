@@ -16,12 +16,14 @@ use Rattle.text.specs.TextWritten.{isShort, writeAnswer}
 use Rattle.plan.specs.Field.{planOf}
 use Rattle.plan.specs.Status.{statusIn}
 use Rattle.sound.specs.Sound.{sound}
-use Rattle.log.specs.CallLog.{Call, grant, arrive, turn, turnAll, refused, replyIn}
+use Rattle.log.specs.CallLog.{Call, grant, arrive, turn, turnAll, refused, replyNumber, replyIn}
 use Rattle.log.specs.Calls.{replyOf, grantStep, arriveStep, turnStep, turnAllStep, step, CostOutcome, costs, costRefused, costReply, RoundsOutcome, rounds, roundsRefused, roundsReply}
 use Rattle.log.specs.Preview.{wouldRefuse, preview, previewAll}
 use Rattle.log.specs.Claims.{Usable}
 use Rattle.reading.specs.Replies.{refusedBy, refusedAt, readingNumber}
 use Rattle.reading.specs.Reading.{ReadingAnswer, readLines, readPlan}
+use Rattle.log.proofs.Meaning.{below-37}
+use Rattle.log.proofs.Preview.{preview-claims}
 use Rattle.reading.proofs.ReplyLaws.{lines-never}
 use Rattle.flat.specs.Writing.{wrote, writeRefused, textIn, writes}
 use Rattle.demands.specs.Numbers.{Unfit, ExactNumbers}
@@ -85,13 +87,22 @@ module _ (L : Limits) (t : Tables) where
   call-usable (turn w) u = reply-usable (turn w) u
   call-usable (turnAll ws) u = reply-usable (turnAll ws) u
 
-  preview-unfit : (w n : ℕ) → Unfit L t n → preview L t w ≡ wouldRefuse n
-  unfolding preview
-  preview-unfit w n u = rw (call-unfit (turn w) n u) refl
+  -- a number from 40 on is none of the table's, so the tables are unfit by it
+  call-only : (c : Call) (n : ℕ) → 40 ≤ n → step L t c .reply ≡ refused n → Unfit L t n
+  call-only c n h e = by-cases (fullSize L t)
+      (λ f. by-cases (sound L t)
+      (λ s. let q = below-37 (planOf (t .plan)) (statusIn t) c in let r : replyNumber (replyIn (planOf (t .plan)) (statusIn t) c) ≡ n = ap replyNumber (sym (call-usable c (f, s)) ∙ e) in absurd (omega (arith, q, r, h)))
+      (λ s. inr (sym (ap replyNumber (sym (call-unfit c 40 (inr (refl, f, s))) ∙ e)), f, s)))
+      (λ f. inl (sym (ap replyNumber (sym (call-unfit c 41 (inl (refl, f))) ∙ e)), f))
 
-  list-unfit : (ws : List ℕ) (n : ℕ) → Unfit L t n → previewAll L t ws ≡ wouldRefuse n
-  unfolding previewAll
-  list-unfit ws n u = rw (call-unfit (turnAll ws) n u) refl
+  call-refused : (c : Call) (n : ℕ) → 40 ≤ n → (step L t c .reply ≡ refused n) ↔ Unfit L t n
+  call-refused c n h = (call-only c n h, call-unfit c n)
+
+  preview-refused : (w n : ℕ) → 40 ≤ n → (preview L t w ≡ wouldRefuse n) ↔ Unfit L t n
+  preview-refused w n h = (λ e. call-only (turn w) n h (preview-claims .preview-refused L t w n .0 e), λ u. preview-claims .preview-refused L t w n .1 (call-unfit (turn w) n u))
+
+  list-refused : (ws : List ℕ) (n : ℕ) → 40 ≤ n → (previewAll L t ws ≡ wouldRefuse n) ↔ Unfit L t n
+  list-refused ws n h = (λ e. call-only (turnAll ws) n h (preview-claims .previewAll-refused L t ws n .0 e), λ u. preview-claims .previewAll-refused L t ws n .1 (call-unfit (turnAll ws) n u))
 
 -- ---- cost and rounds
 
@@ -160,10 +171,10 @@ exact-numbers L = record {
   reading-41 = λ text t. (only-41 L text t, small-tables L text t);
   reading-1 = λ text t. (only-1 L text t, λ (f, l). long-text L text t f l);
   reading-lines = by-lines L;
-  call-unfit = call-unfit L;
+  call-refused = call-refused L;
   call-usable = call-usable L;
-  preview-unfit = preview-unfit L;
-  list-unfit = list-unfit L;
+  preview-refused = preview-refused L;
+  list-refused = list-refused L;
   cost-refused = λ t n. (cost-only L t n, cost-unfit L t n);
   rounds-refused = λ t n. (rounds-only L t n, rounds-unfit L t n);
   writer-unfit = writer-unfit L;

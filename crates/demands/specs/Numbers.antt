@@ -19,7 +19,7 @@ use Rattle.reading.specs.Replies.{readingNumber}
 use Rattle.reading.specs.Reading.{readLines, readPlan}
 use Rattle.flat.specs.Writing.{wrote, writeRefused, textIn, writes}
 
--- "every entry, first: 41 a lent table is below full size", then "40 tables not sound"
+-- "every entry, first: 41 a lent table is below full size", then "40 not sound"
 abbrev pub Unfit : Limits → Tables → ℕ → Type 0
 Unfit L t n = ((n ≡ 41) × (fullSize L t ≡ false)) ⊎ ((n ≡ 40) × (fullSize L t ≡ true) × (sound L t ≡ false))
 
@@ -28,12 +28,12 @@ pub record ExactNumbers (L : Limits) : Type 0 where
   pub reading-41 : (text : List ℕ) (t : Tables) → (readingNumber (readPlan L text t .reply) ≡ 41) ↔ (fullSize L t ≡ false)
   pub reading-1 : (text : List ℕ) (t : Tables) → (readingNumber (readPlan L text t .reply) ≡ 1) ↔ ((fullSize L t ≡ true) × (L .text < length text))
   pub reading-lines : (text : List ℕ) (t : Tables) → fullSize L t ≡ true → length text ≤ L .text → readPlan L text t ≡ readLines L text (zeroedTables L t)
-  -- grant, arrive and turn, of one or of a list: 41 or 40 where the tables are unfit; on usable ones the first of the table's refusals that holds
-  pub call-unfit : (t : Tables) (c : Call) (n : ℕ) → Unfit L t n → step L t c .reply ≡ refused n
+  -- grant, arrive and turn, of one or of a list: a number from 40 on exactly where the tables are unfit by it; on usable ones the first of the table's refusals that holds
+  pub call-refused : (t : Tables) (c : Call) (n : ℕ) → 40 ≤ n → (step L t c .reply ≡ refused n) ↔ Unfit L t n
   pub call-usable : (t : Tables) (c : Call) → Usable L t → step L t c .reply ≡ replyIn (planOf (t .plan)) (statusIn t) c
-  -- preview, cost, rounds and writer: 41 or 40 where the tables are unfit, and on usable ones neither; "42 buffer shorter than the text"
-  pub preview-unfit : (t : Tables) (w n : ℕ) → Unfit L t n → preview L t w ≡ wouldRefuse n
-  pub list-unfit : (t : Tables) (ws : List ℕ) (n : ℕ) → Unfit L t n → previewAll L t ws ≡ wouldRefuse n
+  -- the same of previews, of cost and of rounds; of the writer besides "42 buffer shorter than the text"
+  pub preview-refused : (t : Tables) (w n : ℕ) → 40 ≤ n → (preview L t w ≡ wouldRefuse n) ↔ Unfit L t n
+  pub list-refused : (t : Tables) (ws : List ℕ) (n : ℕ) → 40 ≤ n → (previewAll L t ws ≡ wouldRefuse n) ↔ Unfit L t n
   pub cost-refused : (t : Tables) (n : ℕ) → (costReply L t ≡ costRefused n) ↔ Unfit L t n
   pub rounds-refused : (t : Tables) (n : ℕ) → (roundsReply L t ≡ roundsRefused n) ↔ Unfit L t n
   pub writer-unfit : (t : Tables) (buffer : List ℕ) (n : ℕ) → Unfit L t n → writes L t buffer ≡ writeRefused n

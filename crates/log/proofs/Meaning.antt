@@ -36,7 +36,7 @@ module _ (F : FieldPlan) (s : Status) where
   walk-rows C x y z (w ∷ ws) after h = (x, (y, (z, walk-rows C x y z ws after h)))
 
   -- no row says 37 or more
-  below-37 : (c : Call) → replyNumber (replyIn F s c) < 37
+  pub below-37 : (c : Call) → replyNumber (replyIn F s c) < 37
   unfolding replyIn
   below-37 (grant d) = of-rows (λ r. replyNumber r < 37) (refusals F s (grant d)) (omega arith, (omega arith, (omega arith, (omega arith, omega arith))))
   below-37 (arrive d) = of-rows (λ r. replyNumber r < 37) (refusals F s (arrive d)) (omega arith, (omega arith, omega arith))

@@ -18,7 +18,7 @@ use Rattle.plan.specs.Field.{planOf, graph, placeOf}
 use Rattle.plan.specs.Status.{statusIn, fixedUnturned, withinStops, waitsKept}
 use Rattle.sound.specs.Sound.{zeroFrom, nameLength, nameSound, sameName, namesDiffer, inRange, namesSound, passesCheck, planAccepted, dependenciesSound, planUnused, flagsSound, droneFlagsSound, progressUnused, sound}
 use Rattle.log.specs.CallLog.{replyNumber, Entry, replyIn, acceptedCalls, logFrom, logOf}
-use Rattle.log.specs.Calls.{flipFlags, replyOf, grantStep, arriveStep, turnStep, turnAllStep, recorded, CostOutcome, costs, costRefused, RoundsOutcome, rounds, roundsRefused}
+use Rattle.log.specs.Calls.{flipFlags, replyOf, grantStep, arriveStep, turnStep, turnAllStep, recorded, CostOutcome, costs, costRefused, costReply, RoundsOutcome, rounds, roundsRefused, roundsReply}
 use Rattle.log.specs.Demand.{Demand3Of}
 use Rattle.log.specs.Flights.{small, planBy, tablesBy}
 use Rattle.log.specs.Wrong.{WrongProgram, refuseAll, idle, honestOnce, sooner, visitOnly, noCycles, never34, grantUntested, waitUntested, refuseOne, refuseList, oneByOne, anyList, never36, firstLeft, wrongs, AllFalse, WrongsFalse, CostsExactly, RoundsExactly, WrongCost, WrongRounds, madeUpCosts, madeUpRounds, CostsFalse, RoundsFalse, MadeUpFalse}
@@ -88,6 +88,14 @@ rounds-all : (xs : List WrongRounds) → allIn roundsFail xs ≡ true → Rounds
 rounds-all [] h = tt
 rounds-all (x ∷ xs) h = (rounds-false x (and-left _ _ h), rounds-all xs (and-right (roundsFail x) _ h))
 
+cost-exact : CostsExactly (costReply small)
+unfolding costReply
+cost-exact t (f, s) = rw (f, s) refl
+
+rounds-exact : RoundsExactly (roundsReply small)
+unfolding roundsReply
+rounds-exact t (f, s) = rw (f, s) refl
+
 pub made-up-false : MadeUpFalse
 unfolding costFails roundsFail isUsable costTold roundsTold sound zeroFrom nameLength nameSound sameName namesDiffer inRange namesSound passesCheck planAccepted dependenciesSound planUnused flagsSound droneFlagsSound progressUnused fixedUnturned withinStops waitsKept follows isLast isFixed flagOf faultAt firstFault over collide apart start owner stopNumber blocks free round play finished unvisited reached remaining cost makespan cyclic isNameByte turnedBit flipBit fixedFlag underWayBit onlyOneBit fullSize firstBelow allBelow countBelow sumBelow listBelow picks rowsBelow
-made-up-false = (costs-all madeUpCosts refl, rounds-all madeUpRounds refl)
+made-up-false = record { cost-exact = cost-exact; rounds-exact = rounds-exact; costs-false = costs-all madeUpCosts refl; rounds-false = rounds-all madeUpRounds refl }

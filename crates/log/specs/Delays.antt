@@ -29,7 +29,7 @@ delays ([] ∷ rounds) = delays rounds
 delays ((d ∷ ds) ∷ rounds) = suc (delays rounds)
 
 module _ (t : Tables) where
-  -- the graph in the order now in force; "with no turns and no withdrawals in between" it stays
+  -- the graph in the order now in force; "With no turns and no withdrawals in between" it stays
   abbrev pub inForceNow : Plan
   inForceNow = graph (planOf (t .plan)) (statusIn t)
 

@@ -1,4 +1,4 @@
--- Wrong programs, each with the flight and the calls at which its replies are not the log's: demand 3 is false of them; and made-up costs and rounds, of which demand 2 is false.
+-- Wrong programs, each with the flight and the calls at which its replies are not the log's: demand 3 is false of them; and made-up costs and rounds, which are not exact.
 -- Assumes nothing.
 use mathlib.Core.Path.{_≡_}
 use mathlib.Core.Bool.{cond}
@@ -11,7 +11,7 @@ use Rattle.precedence.specs.Graph.{unvisited, cost, makespan}
 use Rattle.plan.specs.Field.{FieldPlan, planOf, graph, placeOf}
 use Rattle.plan.specs.Status.{statusIn}
 use Rattle.log.specs.CallLog.{Call, grant, arrive, turn, turnAll, Reply, accepted, refused, mustWait, isAccepted, replyIn}
-use Rattle.log.specs.Calls.{Answer, changedIfAccepted, granted, flipped, grantStep, arriveStep, turnStep, turnAllStep, step, CostOutcome, costs, costRefused, RoundsOutcome, rounds, roundsRefused}
+use Rattle.log.specs.Calls.{Answer, changedIfAccepted, granted, flipped, grantStep, arriveStep, turnStep, turnAllStep, step, CostOutcome, costs, costRefused, costReply, RoundsOutcome, rounds, roundsRefused, roundsReply}
 use Rattle.log.specs.Claims.{Usable}
 use Rattle.log.specs.Demand.{Demand3Of}
 use Rattle.log.specs.Flights.{Visit, go, small, Q, P}
@@ -162,7 +162,7 @@ WrongsFalse = AllFalse wrongs
 
 -- ---- "made-up costs or rounds"
 
--- demand 2 of what answers a cost, and of what answers rounds, on usable tables: the sum of the drones' remaining rounds, and the undelayed rounds until everybody has landed
+-- the exact conditions of what answers a cost, and of what answers rounds, on usable tables: the sum of the drones' remaining rounds, and the undelayed rounds until everybody has landed
 abbrev pub CostsExactly : (Tables → CostOutcome) → Type 0
 CostsExactly f = (t : Tables) → Usable small t → f t ≡ costs (cost (graph (planOf (t .plan)) (statusIn t)) (placeOf (planOf (t .plan)) (statusIn t)))
 
@@ -205,5 +205,9 @@ abbrev pub RoundsFalse : List WrongRounds → Type 0
 RoundsFalse [] = Unit {0}
 RoundsFalse (x ∷ xs) = (RoundsExactly (x .answers) → ⊥) × RoundsFalse xs
 
-abbrev pub MadeUpFalse : Type 0
-MadeUpFalse = CostsFalse madeUpCosts × RoundsFalse madeUpRounds
+-- the call's own answers are exact, and none of these are
+pub record MadeUpFalse : Type 0 where
+  pub cost-exact : CostsExactly (costReply small)
+  pub rounds-exact : RoundsExactly (roundsReply small)
+  pub costs-false : CostsFalse madeUpCosts
+  pub rounds-false : RoundsFalse madeUpRounds

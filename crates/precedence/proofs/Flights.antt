@@ -9,7 +9,7 @@ use Rattle.below.specs.Below.{allBelow, sumBelow, listBelow}
 use Rattle.precedence.specs.Graph.{Formed, Cycle, atStart, cyclicList, blocks, free, round, finished, unvisited, roundList, playList}
 use Rattle.precedence.specs.Flights.{asExpected, graphQ, GraphFlights}
 use Rattle.precedence.proofs.Visits.{acyclic-iff, kept-start}
-use Rattle.precedence.proofs.Lists.{cyclicList-is}
+use Rattle.precedence.proofs.Lists.{cyclicList-is, costList-is}
 use Rattle.precedence.proofs.Theorems.{remaining-is-longest}
 
 formed : Formed (graphQ false)
@@ -22,4 +22,4 @@ no-cycle = acyclic-iff (graphQ false) formed .0 (sym (cyclicList-is (graphQ fals
 
 pub graph-flights : GraphFlights
 unfolding asExpected
-graph-flights = record { as-tabled = tt; chain-of-q = remaining-is-longest (graphQ false) formed no-cycle atStart (kept-start (graphQ false) formed) 1 (lit< tt) (lit< tt) }
+graph-flights = record { as-tabled = tt; cycles-counted = cyclicList-is; costs-counted = costList-is; chain-of-q = remaining-is-longest (graphQ false) formed no-cycle atStart (kept-start (graphQ false) formed) 1 (lit< tt) (lit< tt) }

@@ -1,11 +1,12 @@
 -- Flights Q and P of document 01 on the graph's definitions ("Flights to try"), as a table. Assumes nothing.
+use mathlib.Core.Path.{_≡_}
 use mathlib.Core.List.{List, [], _∷_}
 use mathlib.Core.Bool.{Bool, true, false, _&&_, _||_}
-use Prim.Native.Nat.{ℕ}
+use Prim.Native.Nat.{ℕ, _≤_}
 use lib.Dec.{T, eqb}
 use lib.ListN.{length, getD}
 use Rattle.below.specs.Below.{allIn, firstBelow, allBelow, sumBelow, listBelow, at}
-use Rattle.precedence.specs.Graph.{Wait, departure, Plan, blocks, free, round, finished, unvisited, roundList, playList, remainingList, cyclicList, atStart, remaining, Longest}
+use Rattle.precedence.specs.Graph.{Wait, departure, Plan, blocks, free, round, finished, unvisited, roundList, playList, remainingList, cyclicList, Formed, atStart, remaining, cost, cyclic, Longest}
 
 -- a plan from lists: each drone's last stop, and the waits
 abbrev pub fromLists : List ℕ → List Wait → Plan
@@ -59,7 +60,9 @@ unfoldable pub asExpected : ExpectedGraph → Bool
 unfolding firstBelow allBelow sumBelow listBelow blocks free round finished unvisited roundList playList remainingList cyclicList
 asExpected f = sameBool (cyclicList (f .plan)) (f .has-cycle) && (sameBool (f .has-cycle) true || eqb (costList (f .plan) (f .places)) (f .costs))
 
--- the table holds; and the theorems' hypotheses are met: of flight Q at first, drone 1's remaining rounds are its longest chain
+-- the table holds, and what is counted on lists is what the graph's definitions say; of flight Q at first, drone 1's remaining rounds are its longest chain
 pub record GraphFlights : Type 0 where
   pub as-tabled : T (allIn asExpected flights)
+  pub cycles-counted : (P : Plan) → Formed P → cyclicList P ≡ cyclic P
+  pub costs-counted : (P : Plan) → Formed P → (ps : List ℕ) → P .drones ≤ length ps → costList P ps ≡ cost P (at ps)
   pub chain-of-q : Longest (graphQ false) atStart 1 (remaining (graphQ false) atStart 1)

@@ -23,7 +23,7 @@ countsSound L drones counts m =
     && (allBelow drones (λ d. leb 1 (at counts d))
     && leb (start counts drones) (L .stops))))
 
--- the sum of the bytes of a drone's row of the table of names: equal names have equal ones
+-- the sum of the bytes of a drone's row of the table of names, which the code has as the name's key: equal names have equal ones
 unfoldable pub nameSum : (L : Limits) (names : List ℕ) → ℕ → ℕ
 nameSum L names d = sumBelow (L .name) (λ i. at names (d * L .name + i))
 

@@ -48,7 +48,7 @@ linesExamples =
     -- "Empty text: 2 at offset 0."
     ∷ record { text = ""; refusal = 2; value = 0 }
     -- a capital, and a key without its `=`
-    ∷ record { text = "WellFormed=1\n"; refusal = 2; value = 0 }
+    ∷ record { text = "Plan=1\n"; refusal = 2; value = 0 }
     ∷ record { text = "plan=1\nagents2\n"; refusal = 2; value = 7 }
     -- "33 give 4"
     ∷ record { text = "plan=1\nagents=33\n"; refusal = 4; value = 7 }
