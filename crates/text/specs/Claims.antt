@@ -1,13 +1,15 @@
 -- What is claimed of the plan text: texts of well-formed lines, but for the capitals in their names, and plans within the limits correspond one to one, by writing and by reading. A text
--- without capitals is its own small form. Assumes nothing.
+-- without capitals is its own small form. A refusal's offset is the start of a line. Assumes nothing.
 use Prim.Native.Nat.{ℕ, _+_, _*_, _≤_}
 use mathlib.Core.Path.{_≡_}
 use mathlib.Core.List.{List}
 use lib.ListN.{length}
 use Rattle.tables.specs.Limits.{Limits}
 use Rattle.lines.specs.Names.{smallForm, part, goodName, namedAt, nameAt}
-use Rattle.text.specs.Names.{namesSmall}
-use Rattle.text.specs.declared.reader.LinesAnswer.the-variants.{WellFormed}
+use Rattle.lines.specs.Refusals.{refusalNumber, refusalOffset}
+use Rattle.lines.specs.declared.refusal.Refusal.{Refusal}
+use Rattle.text.specs.Names.{lineStart, namesSmall}
+use Rattle.text.specs.declared.reader.LinesAnswer.the-variants.{WellFormed, Refused as NotWellFormed}
 use Rattle.text.specs.LinesRead.{linesAt}
 use Rattle.text.specs.TextRead.{TextRead}
 use Rattle.text.specs.TextWritten.{tablesText}
@@ -67,3 +69,11 @@ pub record WithoutCapitals (L : Limits) : Type 0 where
   pub well-formed-is-written : (text : List ℕ) (n : ℕ) → smallForm text ≡ text → linesAt L text .answer ≡ WellFormed n
       → (ds : List Route) × (length ds ≡ n) × InLimits L ds × (linesAt L text ≡ linesOf L ds) × (text ≡ routesText ds)
   pub one-text : (a b : List ℕ) (n : ℕ) → smallForm a ≡ a → smallForm b ≡ b → linesAt L a .answer ≡ WellFormed n → linesAt L a ≡ linesAt L b → a ≡ b
+
+-- ---- offsets of refusals
+
+-- "Refusals 1 to 6 carry a byte offset: .. else the start of the line (the text's length if the line is absent)": in every text the offset is the start of a line and at most
+-- the text's length; where it is the text's length, the line is absent, and the refusal is 2, "form, key, order or missing line"
+abbrev pub OffsetsBeginLines : Limits → Type 0
+OffsetsBeginLines L = (text : List ℕ) (r : Refusal) → linesAt L text .answer ≡ NotWellFormed r
+    → (lineStart text (refusalOffset r) ≡ refusalOffset r) × (refusalOffset r ≤ length text) × (refusalOffset r ≡ length text → refusalNumber r ≡ 2)
