@@ -11,7 +11,7 @@ use Rattle.below.proofs.Tests.{by-cases}
 use Rattle.tables.specs.Limits.{Limits}
 use Rattle.lines.specs.Keys.{firstLine, agentsKey, nameKey, stopsKey, goKey, lastLine}
 use Rattle.lines.specs.Bytes.{byteAt, isAt}
-use Rattle.lines.specs.Numbers.{fieldAt}
+use Rattle.lines.specs.Numbers.{fieldAt, field}
 use Rattle.lines.specs.Refusals.{refusalNumber, refusalOffset}
 use Rattle.lines.specs.Stops.{goTime, goPlace, goAt, stopsFrom, stopsAt, countIn, countAt}
 use Rattle.lines.specs.Names.{smallForm, lineEnd, part, textName, nameAt, rowOf}
@@ -27,13 +27,14 @@ use Rattle.lines.specs.declared.stops.GoLines.{GoLines}
 use Rattle.lines.specs.declared.stops.GoLines.the-variants.{Read as StopsAre, Refused as NoStops}
 use Rattle.lines.specs.declared.names.NameSpan.{NameSpan}
 use Rattle.lines.specs.declared.names.NameSpan.the-variants.{Is as NameIs, Refused as NoName}
-use Rattle.lines.proofs.ByteLaws.{byteAt-in, stands-head}
+use Rattle.lines.proofs.ByteLaws.{byteAt-in, stands-parts, stands-head}
+use Rattle.lines.proofs.StopRoundTrip.{count-stands}
+use Rattle.lines.proofs.NameRoundTrip.{name-read}
 use Rattle.text.specs.Claims.{OffsetsBeginLines}
 use Rattle.text.specs.LinesRead.{LinesRead, nothing, stopsEnd, stopsOf, stopsRead, withRow, droneOf, droneAt, elem, andThen, dronesAt, ending, agentsOf, linesAt}
 use Rattle.text.specs.Names.{lineStart}
 use Rattle.text.specs.declared.reader.DroneLines.{DroneLines}
 use Rattle.text.specs.declared.reader.DroneLines.the-variants.{Read, Refused}
-use Rattle.text.specs.declared.reader.LinesAnswer.{LinesAnswer}
 use Rattle.text.specs.declared.reader.LinesAnswer.the-variants.{WellFormed, Refused as NotWellFormed}
 use Rattle.text.proofs.LineStarts.{Begins, begins-first, begins-next}
 use Rattle.text.proofs.SmallTexts.{go-next, count-next, name-next, drone-next, drones-next}
@@ -56,7 +57,7 @@ module _ (L : Limits) (text : List ℕ) where
   -- ---- one line
 
   -- the refusal carries this position; if the text ends there, it is 2
-  abbrev Told : ℕ → Refusal → Type 0
+  abbrev pub Told : ℕ → Refusal → Type 0
   Told at r = (refusalOffset r ≡ at) × (at ≡ length text → refusalNumber r ≡ 2)
 
   form-told : (at : ℕ) (r : Refusal) → Form at ≡ r → Told at r
@@ -66,7 +67,7 @@ module _ (L : Limits) (text : List ℕ) where
   present : (at b : ℕ) (key : List ℕ) → b < 256 → isAt text at (b ∷ key) ≡ true → at ≡ length text → ⊥
   present at b key l h e = let i = byteAt-in text at b (sym (stands-head text at b key h .0)) l in omega (arith, i, e)
 
-  count-told : (at b : ℕ) (key : List ℕ) (most : ℕ) (r : Refusal) → b < 256 → countAt text at (b ∷ key) most ≡ NoCount r → Told at r
+  pub count-told : (at b : ℕ) (key : List ℕ) (most : ℕ) (r : Refusal) → b < 256 → countAt text at (b ∷ key) most ≡ NoCount r → Told at r
   unfolding countAt
   count-told at b key most r l h = by-key (isAt text at (b ∷ key)) refl h
     where
@@ -82,7 +83,7 @@ module _ (L : Limits) (text : List ℕ) where
       by-key true k h = by-number (present at b key l k) (fieldAt text (at + length (b ∷ key)) 10) h
       by-key false k h = form-told at r (cc h)
 
-  go-told : (at : ℕ) (r : Refusal) → goAt L text at ≡ NoStop r → Told at r
+  pub go-told : (at : ℕ) (r : Refusal) → goAt L text at ≡ NoStop r → Told at r
   unfolding goAt
   go-told at r h = by-key (isAt text at goKey) refl h
     where
@@ -102,8 +103,7 @@ module _ (L : Limits) (text : List ℕ) where
       by-key true k h = by-place (present at 103 (111 ∷ 61 ∷ []) (omega arith) k) (fieldAt text (at + 3) 64) h
       by-key false k h = form-told at r (cc h)
 
-  -- .. a name's: refused, or its key stands there
-  name-told : (at : ℕ) (r : Refusal) → nameAt L text at ≡ NoName r → Told at r
+  pub name-told : (at : ℕ) (r : Refusal) → nameAt L text at ≡ NoName r → Told at r
   unfolding nameAt
   name-told at r h = by-key (isAt text at nameKey) refl h
     where
@@ -122,23 +122,12 @@ module _ (L : Limits) (text : List ℕ) where
       by-key true k h = by-end (present at 110 (97 ∷ 109 ∷ 101 ∷ 61 ∷ []) (omega arith) k) (eqb (lineEnd text (at + 5)) (length text)) h
       by-key false k h = form-told at r (cc h)
 
+  -- a line that was read: the text has not ended where it begins
   name-there : (at s e : ℕ) → nameAt L text at ≡ NameIs s e → at ≡ length text → ⊥
-  unfolding nameAt
-  name-there at s e h = by-key (isAt text at nameKey) refl h
-    where
-      by-key : (c : Bool) → isAt text at nameKey ≡ c
-          → cond c (cond (eqb (lineEnd text (at + 5)) (length text)) (NoName (Form at)) (cond (textName L (part text (at + 5) (lineEnd text (at + 5)))) (NameIs (at + 5) (lineEnd text (at + 5))) (NoName (Name at)))) (NoName (Form at)) ≡ NameIs s e
-          → at ≡ length text → ⊥
-      by-key true k h = present at 110 (97 ∷ 109 ∷ 101 ∷ 61 ∷ []) (omega arith) k
-      by-key false k h = absurd (let z : _≡_ {A = ℕ} 0 1 = cc h in omega arith)
+  name-there at s e h = present at 110 (97 ∷ 109 ∷ 101 ∷ 61 ∷ []) (omega arith) (name-read L text at s e h .key)
 
   count-there : (at b : ℕ) (key : List ℕ) (most v e : ℕ) → b < 256 → countAt text at (b ∷ key) most ≡ Is v e → at ≡ length text → ⊥
-  unfolding countAt
-  count-there at b key most v e l h = by-key (isAt text at (b ∷ key)) refl h
-    where
-      by-key : (c : Bool) → isAt text at (b ∷ key) ≡ c → cond c (countIn at most (fieldAt text (at + length (b ∷ key)) 10)) (NoCount (Form at)) ≡ Is v e → at ≡ length text → ⊥
-      by-key true k h = present at b key l k
-      by-key false k h = absurd (let z : _≡_ {A = ℕ} 0 1 = cc h in omega arith)
+  count-there at b key most v e l h = present at b key l (stands-parts text at (b ∷ key) (field v 10) (count-stands text at (b ∷ key) most v e h .there) .0)
 
   -- ---- the lines one after another
 
