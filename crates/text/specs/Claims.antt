@@ -1,6 +1,6 @@
 -- What is claimed of the plan text: texts of well-formed lines, but for the capitals in their names, and plans within the limits correspond one to one, by writing and by reading. A text
 -- without capitals is its own small form. A refusal's offset is the start of a line, and no line before it is at fault. Assumes nothing.
-use Prim.Native.Nat.{ℕ, _+_, _*_, _≤_}
+use Prim.Native.Nat.{ℕ, _+_, _*_, _≤_, _<_}
 use mathlib.Core.Path.{_≡_}
 use mathlib.Core.Logic.{_⊎_}
 use mathlib.Core.List.{List}
@@ -85,3 +85,7 @@ OffsetsBeginLines L = (text : List ℕ) (r : Refusal) → linesAt L text .answer
 abbrev pub CutAtFault : Limits → Type 0
 CutAtFault L = (text : List ℕ) (r : Refusal) → linesAt L text .answer ≡ NotWellFormed r → let before = take (refusalOffset r) text in
     (linesAt L before .answer ≡ NotWellFormed (Form (length before))) ⊎ ((n : ℕ) × (linesAt L before .answer ≡ WellFormed n))
+
+-- "(the text's length if the line is absent)": a text of well-formed lines that is cut off where one of its lines begins is refused by 2 at its length
+abbrev pub AbsentAtLength : Limits → Type 0
+AbsentAtLength L = (text : List ℕ) (n p : ℕ) → linesAt L text .answer ≡ WellFormed n → lineStart text p ≡ p → p < length text → linesAt L (take p text) .answer ≡ NotWellFormed (Form p)
