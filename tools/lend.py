@@ -1,54 +1,47 @@
 #!/usr/bin/env python3
 """Carries the borrow checker's derivation of a twin over to functions on a lent slice of dependency records.
 
-The borrow checker covers `&[[u16; 4]]` and does not cover `&[Dependency]`, though its rules hold at any row. The twin is the crate
-itself with `Dependency` an array of the same size and alignment (so the same MIR but for the type), its contracts cut down to their
-shape, and every function but the one at hand stubbed; of other crates it has the modules that are used, stubbed too. Every name stays,
-so every symbol is the same. `rt dev --generated` writes the twin's Kinds, Reads, Lts and Tie. This rewrites the array's row in them to
-the record's (crates/records/proofs/Row.antt) and lays the lines out wide. antt checks the result as any proof: this program is trusted
-with nothing.
+The borrow checker covers `&[[u16; 4]]` and does not cover `&[Dependency]`, though its rules hold at any row. The twin has the functions
+at hand as they are, those that they call as stubs, and nothing else of the crates; `Dependency` is an array of the same size and
+alignment (so the same MIR but for the type), and contracts are cut down to their shape. Every name stays, so every symbol is the same.
+`rt check --generated` writes the twin's Kinds, Reads, Lts and Tie. This rewrites the array's row in them to the record's
+(crates/records/proofs/Row.antt) and lays the lines out wide. antt checks the result as any proof, over the crates as they are: this
+program is trusted with nothing, and neither is the twin, whose proofs are axioms.
 
 Usage: tools/lend.py [CRATE [FN..]]    from the repository's root; the functions are CRATE::MODULE::FN, and without one named, all that
-have been carried: of the crate, or of every crate. MODULE is the crate's in CARRIERS below. JOBS (2) crates are carried at a time.
+have been carried: of the crate, or of every crate. MODULE is the crate's in CARRIERS below. JOBS (2) twins are checked at a time. One run
+at a time in a clone.
 Writes crates/CRATE/proofs/Derived/FN/{Kinds,Reads,Lts}.antt and crates/CRATE/proofs/MODULE/FN/Proof/Tie.antt,
-and, where there is none, a first crates/CRATE/proofs/MODULE/FN/Proof.antt.
+and, where there is none, a first crates/CRATE/proofs/MODULE/FN/Proof.antt. The twins and what their checks say are below target/lend.
 """
 import os, re, shutil, subprocess, sys
-from concurrent.futures import ThreadPoolExecutor
+from concurrent.futures import ProcessPoolExecutor
 from functools import lru_cache
 
-CARRIERS = {"records": "lent", "conductor": "calls", "dispatch": "requests", "board": "exports", "handset": "button", "presses": "runs"}  # the crates with functions over the lent slice, and the module of each
+# the crates with functions over the lent slice, each after those that it stands on, and the module of each
+CARRIERS = {"records": "lent", "conductor": "calls", "dispatch": "requests", "handset": "button", "presses": "runs", "board": "exports"}
+JOBS = int(os.environ.get("JOBS", "2"))
+RECORD, ARRAY = "Dependency", "[u16; 4]"
+HOME = "use tables::entries::Dependency;"  # where the record is declared: its users get the array's name instead
 
 
-def carried_in(name):  # the functions of a crate that have been carried
-    folder = f"crates/{name}/proofs/Derived"
+def read(path):
+    with open(path) as file:
+        return file.read()
+
+def write(path, text):
+    os.makedirs(os.path.dirname(path), exist_ok=True)
+    with open(path, "w") as file:
+        file.write(text)
+
+def carried_in(crate):  # the functions of a crate that have been carried
+    folder = f"crates/{crate}/proofs/Derived"
     return sorted(d[:-5] for d in os.listdir(folder) if d.endswith(".antt")) if os.path.isdir(folder) else []
 
-def carry_all(names):  # each crate by a process of its own, the one with most functions first
-    todo = sorted((n for n in names if carried_in(n)), key=lambda n: -len(carried_in(n)))
-    def one(name):
-        return subprocess.run([sys.executable, sys.argv[0], name, *carried_in(name)], stdout=subprocess.PIPE, stderr=subprocess.STDOUT, text=True)
-    with ThreadPoolExecutor(int(os.environ.get("JOBS", "2"))) as pool:
-        results = list(pool.map(one, todo))
-    for name, r in zip(todo, results):
-        print(f"{name}: {r.stdout.strip() or f'{len(carried_in(name))} derivations carried'}")
-    return 1 if any(r.returncode for r in results) else 0
+def proof_of(crate, f):
+    return f"crates/{crate}/proofs/{CARRIERS[crate]}/{f}/Proof.antt"
 
-if len(sys.argv) < 3:
-    sys.exit(carry_all(sys.argv[1:] or CARRIERS))
-
-crate, fns = sys.argv[1], sys.argv[2:]
-mod = CARRIERS[crate]
-listed = sorted({*fns, *carried_in(crate)})
-work = os.path.abspath(f"target/lend/{crate}")
-src = f"{work}/gen/Rattle.{crate}.proofs/proofs"
-root = f"crates/{crate}/proofs"
-RECORD, ARRAY, ZERO = "Dependency", "[u16; 4]", "[0; 4]"
-FULL = re.search(r"impl Dependency \{\s*pub const FULL: usize = (\d+);", open("crates/tables/src/entries.rt").read()).group(1)  # the table's full size
-HOME = "use tables::entries::Dependency;"  # where the record is declared: its users get the array's name instead
-ROW = "Rattle.records.proofs.Row" if crate == "records" else "Rattle.records.proofs.Row"
-
-# ---- the twin crate
+# ---- the twin
 
 def braces(text, at):  # the end of the group that opens at `at`
     depth = 0
@@ -68,102 +61,74 @@ def shape(text):  # contracts keep their number and kind, and say nothing
         i = end
     return out + text[i:]
 
-def source(name, module):
-    text = open(f"crates/{name}/src/{module}.rt").read()
-    return shape(re.sub(r"^ghost use .*?;\n|//.*", "", text, flags=re.M)).replace(HOME, f"type {RECORD} = {ARRAY};").replace(f"{RECORD}::FULL", FULL)
+@lru_cache(maxsize=None)
+def source(crate, module):
+    full = re.search(r"impl Dependency \{\s*pub const FULL: usize = (\d+);", read("crates/tables/src/entries.rt")).group(1)  # the table's full size
+    text = read(f"crates/{crate}/src/{module}.rt")
+    return shape(re.sub(r"^ghost use .*?;\n|//.*", "", text, flags=re.M)).replace(HOME, f"type {RECORD} = {ARRAY};").replace(f"{RECORD}::FULL", full)
 
-first = {}  # of each enum a variant, one that holds nothing if there is one, and the types that it holds
-fields = {}  # of each struct its fields
-
-def types(text):
-    for m in re.finditer(r"\benum (\w+)\s*\{(.*?)\n\}", text, re.S):
-        v = re.search(r"^\s*(\w+),()", m.group(2), re.M) or re.search(r"^\s*(\w+)\((.*)\),", m.group(2), re.M)
-        first[m.group(1)] = (f"{m.group(1)}::{v.group(1)}", v.group(2).split(", ") if v.group(2) else [])
-    for m in re.finditer(r"\bstruct (\w+)\s*\{(.*?)\n\}", text, re.S):
-        fields[m.group(1)] = re.findall(r"(\w+): ([^,]+),", m.group(2))
-
-def value(ty):  # what a stub returns
-    array = re.fullmatch(r"\[(.*); (\w+)\]", ty)
-    if array:
-        return f"[{value(array.group(1))}; {array.group(2)}]"
-    if ty == RECORD:
-        return ZERO
-    if ty in fields:
-        return ty + " { " + ", ".join(f"{f}: {value(t)}" for f, t in fields[ty]) + " }"
-    if ty in first:
-        name, held = first[ty]
-        return name + ("(%s)" % ", ".join(value(t) for t in held) if held else "")
-    return {"bool": "false"}.get(ty, "0")
-
-def stubbed(text, keep):  # every function but `keep` returns at once
-    types(text)  # a module's own names come before those of others
-    out, i = "", 0
-    for m in re.finditer(r"^(?:pub )?(?:extern \"C\" )?fn (\w+)", text, re.M):
-        at = text.index("(", m.end())
-        depth = 0
-        while True:
-            depth += {"(": 1, ")": -1}.get(text[at], 0)
-            at += 1
-            if depth == 0:
+def functions(text):  # of each function the type that it belongs to, its name, and where it begins, its body begins and it ends
+    owner = ""
+    for m in re.finditer(r'^impl (\w+)|^(?:[ \t]*#\[.*\]\n)*([ \t]*)(?:pub )?(?:extern "C" )?fn (\w+)', text, re.M):
+        if m.group(1):
+            owner = m.group(1)
+            continue
+        at = m.end()
+        while True:  # the body opens after the clauses
+            opens = re.compile(r"(\b(?:requires|ensures)\b(?:\s+\w+)?\s*)?\{").search(text, at)
+            at = braces(text, opens.end() - 1)
+            if not opens.group(1):
                 break
-        head = text[at:]
-        r = re.match(r"\s*->\s*([^{]*?)\s*(?=requires|ensures|\{)", head)
-        ty = r.group(1).strip() if r else ""
-        # the body opens after the clauses
-        k = at + (r.end() if r else 0)
-        while True:
-            c = re.match(r"\s*(requires|ensures)(\s+\w+)?\s*\{", text[k:])
-            if not c:
-                break
-            k = braces(text, k + c.end() - 1)
-        k = text.index("{", k)
-        end = braces(text, k)
-        if m.group(1) != keep:
-            body = "{ %s }" % value(ty) if ty else "{}"
-            out += text[i:k] + body
-            i = end
-    return out + text[i:]
+        yield owner if m.group(2) else "", m.group(3), m.start(), opens.start(), at
+
+def stubbed(text, keep, called):  # the functions of `keep` as they are; of the others those of `called`, with a body that fits any type
+    out, at = "", 0
+    for _, f, start, body, end in functions(text):
+        if f not in keep:
+            out += text[at:start] + (text[start:body] + "{ loop {} }" if f in called else "")
+            at = end
+    return out + text[at:]
 
 def pruned(text):  # without the `use` lines of names that are not used any more
     lines = text.split("\n")
-    rest = "\n".join(l for l in lines if not l.startswith("use "))
-    last = re.compile(r"(\w+);")
-    return "\n".join(l for l in lines if not l.startswith("use ") or re.search(r"\b" + last.search(l).group(1) + r"\b", rest))
+    rest = set(re.findall(r"\w+", "\n".join(l for l in lines if not l.startswith("use "))))
+    return "\n".join(l for l in lines if not l.startswith("use ") or rest & set(re.findall(r"\w+", re.split("::| as ", l)[-1])))
 
-def modules():  # the twin's texts by crate and module: what the functions use, and what that uses, everything stubbed
-    texts, todo = {}, [(crate, mod)]
+def twin(pairs):  # the texts of a twin by crate and module: the functions at hand, and what they use
+    keep = {(crate, module): {f for c, f in pairs if c == crate} for crate, module in CARRIERS.items() if crate in dict(pairs)}
+    called = set()
+    for place, kept in keep.items():
+        for _, f, _, body, end in functions(source(*place)):
+            if f in kept:
+                called |= set(re.findall(r"(\w+)\(", source(*place)[body:end]))
+    texts, todo = {}, list(keep)
     while todo:
-        name, module = todo.pop()
-        if (name, module) in texts:
-            continue
-        texts[name, module] = source(name, module)
-        types(texts[name, module])
-        for f in listed if (name, module) == (crate, mod) else [None]:
-            for m in re.finditer(r"^use (\w+)::(\w+)|\b(crate)::(\w+)::", pruned(stubbed(texts[name, module], f)), re.M):
-                used, part = m.group(1) or m.group(3), m.group(2) or m.group(4)
-                todo.append((name if used == "crate" else used, part))
+        crate, module = place = todo.pop()
+        if place not in texts:
+            texts[place] = pruned(stubbed(source(*place), keep.get(place, ()), called))
+            for used, part in re.findall(r"(?:^use |\b(?=crate::))(\w+)::(\w+)", texts[place], re.M):
+                todo.append((crate if used == "crate" else used, part))
     return texts
 
-def written(path, text):  # a file that is the same keeps its check
-    os.makedirs(os.path.dirname(path), exist_ok=True)
-    if not os.path.exists(path) or open(path).read() != text:
-        open(path, "w").write(text)
+def laid_out(work, pairs):  # writes the twin; a function that has no proof yet gets no axiom, so that the check shows one to start from
+    texts = twin(pairs)
+    new = [(crate, CARRIERS[crate], "", f) for crate, f in pairs if not os.path.exists(proof_of(crate, f))]
+    for crate in {c for c, _ in texts}:
+        write(f"{work}/crates/{crate}/src/lib.rt", "".join(f"pub mod {m};\n" for c, m in sorted(texts) if c == crate))
+    for (crate, module), text in texts.items():
+        write(f"{work}/crates/{crate}/src/{module}.rt", text)
+        for owner, f, *_ in functions(text):
+            if (crate, module, owner, f) not in new:
+                path = [module, owner, f] if owner else [module, f]
+                proof = f"use Rattle.{crate}.proofs.{'.'.join(path)}.Statement.{{statement}}\n\naxiom pub {f.replace('_', '-')}-spec : {{M : Type 1}} → statement M\n"
+                write(f"{work}/crates/{crate}/proofs/{'/'.join(path)}/Proof.antt", proof)
 
-def twin(f):  # the twin for one function: what it calls is stubbed, so that the check is quick and needs no proof
-    texts = modules()
-    names = sorted({n for n, _ in texts})
-    lines = dict(re.findall(r"^(\w+):(.*)$", open("crates.txt").read(), re.M))
-    stands = {n: [m for m in lines[n].split() if m in names] for n in names}
-    shutil.rmtree(f"{work}/gen", ignore_errors=True)
-    written(f"{work}/crates.txt", "".join(f"{n}: {' '.join(stands[n])}\n" for n in sorted(names, key=lambda n: (n == crate, len(stands[n])))))
-    for n in names:
-        written(f"{work}/crates/{n}/src/lib.rt", "".join(f"pub mod {m};\n" for k, m in sorted(texts) if k == n))
-    for (n, m), text in texts.items():
-        written(f"{work}/crates/{n}/src/{m}.rt", pruned(stubbed(text, f if (n, m) == (crate, mod) else None)))
-    open(f"{work}/log", "w").write(checked("--generated", f"{work}/gen"))
-
-def checked(*words):  # what a check of the twin prints
-    return subprocess.run(["rt", "dev", crate, *words], cwd=work, stdout=subprocess.PIPE, stderr=subprocess.STDOUT, text=True, env=dict(os.environ, RT_CUT="0")).stdout
+def checked(work, crate, *words):  # what a check of the twin says: of `crate`, which no other stands on, with the others as its libraries
+    libraries = [w for c in sorted(os.listdir(f"{work}/crates")) if c != crate for w in ("--lib", f"{c}={work}/crates/{c}/src/lib.rt")]
+    said = subprocess.run(["rt", "check", f"{work}/crates/{crate}", *libraries, *words], stdout=subprocess.PIPE, stderr=subprocess.STDOUT, text=True).stdout
+    with open(f"{work}/log", "a") as log:
+        log.write(said)
+    return said
 
 # ---- from the array's row to the record's
 
@@ -177,7 +142,14 @@ def aliases(text):
 def flex(s):  # a text whose spaces may be any white space
     return re.sub(r"(\\ |\s)+", r"\\s+", re.escape(s))
 
-def carry(text, where):
+def derived(text, known):  # names the modules of carried functions as they stand in the repository: of this crate those of `known`, of others all
+    def place(m):
+        above, crate, library, module, f, part = m.groups()
+        carried = CARRIERS.get(crate) == module and (library == ".proofs" or (crate, f) in known)
+        return f"{above}.Derived.{f}.{part}" if carried else m.group()
+    return re.sub(r"(Rattle·(\w+)(·proofs\.proofs|\.proofs))\.(\w+)\.(\w+)\.(Kinds|Reads|Lts)\b", place, text)
+
+def carry(text, crate, where, known):  # the text with the record's row for the array's; a form that is not known is reported
     al = aliases(text)
     S = al.get("mir.Syntax", "Syntax")
     P = al.get("mathlib.Core.Path", "Path")
@@ -219,13 +191,10 @@ def carry(text, where):
     for left in (arr, f"{elem} 4", f"({K}.eInt {S}.w16)"):
         for m in re.finditer(r"(?<!\.pShrS )(?<!\.pMutS )" + flex(left), re.sub(r"\s+", " ", text)):
             print("left over:", where, m.string[max(0, m.start() - 80):m.end()], file=sys.stderr)
-    # the modules: those of the functions carried over stand below Derived
-    for f in listed:
-        for part in ("Kinds", "Reads", "Lts"):
-            text = re.sub(rf"Rattle\.{crate}\.proofs\.{mod}\.{f}\.{part}\b", f"Rattle.{crate}.proofs.Derived.{f}.{part}", text)
-    for name, module in CARRIERS.items():
-        text = re.sub(rf"Rattle\.{name}\.proofs\.{module}\.(\w+)\.(Kinds|Reads|Lts)\b", rf"Rattle.{name}.proofs.Derived.\1.\2", text)
-    uses = f"use {ROW} as Rec\n" if "Rec." in text else ""
+    # the modules of the functions carried over stand below Derived
+    text = derived(text, known)
+    row = "Rattle.records.proofs.Row" if crate == "records" else "Rattle.records.proofs.Row"
+    uses = f"use {row} as Rec\n" if "Rec." in text else ""
     return uses + ("use borrow.Rule.Local as Loc\n" if "Loc." in text else "") + text
 
 # ---- closed terms that come again are named once
@@ -319,30 +288,73 @@ def wide(text, width=360):
             base = None
     return "\n".join(out)
 
-os.makedirs(f"{root}/Derived", exist_ok=True)
-for f in fns:
-    twin(f)
-    if not all(os.path.exists(f"{src}/{mod}/{f}/{part}.antt") for part in ("Lts", "Tie")):
-        raise SystemExit(f"{f}: the twin has no derivation: see {work}/log")
-    os.makedirs(f"{root}/Derived/{f}", exist_ok=True)
-    os.makedirs(f"{root}/{mod}/{f}/Proof", exist_ok=True)
-    for part, path in [(p, f"{root}/Derived/{f}/{p}.antt") for p in ("Kinds", "Reads", "Lts")] + [("Tie", f"{root}/{mod}/{f}/Proof/Tie.antt")]:
-        text = open(f"{src}/{mod}/{f}/{part}.antt").read().split("\n", 1)[1]
-        head = f"-- `{crate}::{mod}::{f}`: {part}, carried over by tools/lend.py. Assumes nothing.\n"
-        open(path, "w").write(head + wide(named(carry(text, f"{f}/{part}")) if part == "Lts" else carry(text, f"{f}/{part}")))
-    open(f"{root}/Derived/{f}.antt", "w").write("pub mod Kinds\npub mod Reads\npub mod Lts\n")
-    proof = f"{root}/{mod}/{f}/Proof.antt"
-    made = f"{src}/{mod}/{f}/Proof.antt"
-    if not os.path.exists(proof):
-        # the file to start from, as a plain check of the twin prints it
-        m = re.search(rf"^help: write \S*/{mod}/{f}/Proof\.antt with these lines.*?\n((?:    .*\n)+)", checked(), re.M)
-        text = re.sub(r"^    ", "", m.group(1), flags=re.M) if m else open(made).read()
-        text = text.replace("use borrow.Author.Needs.{needs}\n", "").replace(f"{mod}.{f}.Tie as", f"{mod}.{f}.Proof.Tie as")
-        for g in listed:
-            for part in ("Reads", "Lts"):
-                text = text.replace(f"proofs.proofs.{mod}.{g}.{part} as", f"proofs.proofs.Derived.{g}.{part} as")
-        for name, module in CARRIERS.items():
-            text = re.sub(rf"Rattle\.{name}\.proofs\.{module}\.(\w+)\.(Reads|Lts) as", rf"Rattle.{name}.proofs.Derived.\1.\2 as", text)
-        text = re.sub(r"^-- src/.*\n", "", text, flags=re.M).replace(" = ?", " = search needs").replace("=\n    ?", "=\n    ?")
-        open(proof, "w").write(f"-- `{crate}::{mod}::{f}` meets its contract: the needs that the derivation of Derived.{f} leaves. Assumes nothing.\nmod Tie\nuse borrow.Author.Needs.{{needs}}\n" + text)
-open(f"{root}/Derived.antt", "w").write("".join(f"pub mod {d}\n" for d in carried_in(crate)))
+# ---- what is stored
+
+PARTS = {"Kinds": "Derived/{f}", "Reads": "Derived/{f}", "Lts": "Derived/{f}", "Tie": "{module}/{f}/Proof"}  # where each stands below crates/CRATE/proofs
+
+def stored(work, crate, f, known):  # stores the derivation of a function; whether the twin has it
+    module = CARRIERS[crate]
+    made = f"{work}/gen/Rattle.{crate}.proofs/proofs/{module}/{f}"
+    texts = {part: read(f"{made}/{part}.antt") for part in PARTS if os.path.exists(f"{made}/{part}.antt")}
+    if len(texts) < len(PARTS) or any("-- antt refused" in text for text in texts.values()):
+        return False
+    for part, folder in PARTS.items():
+        text = carry(texts[part].split("\n", 1)[1], crate, f"{f}/{part}", known)
+        head = f"-- `{crate}::{module}::{f}`: {part}, carried over by tools/lend.py. Assumes nothing.\n"
+        write(f"crates/{crate}/proofs/{folder.format(f=f, module=module)}/{part}.antt", head + wide(named(text) if part == "Lts" else text))
+    write(f"crates/{crate}/proofs/Derived/{f}.antt", "pub mod Kinds\npub mod Reads\npub mod Lts\n")
+    if not os.path.exists(proof_of(crate, f)):
+        write(proof_of(crate, f), first_proof(work, crate, f, made, known))
+    return True
+
+def first_proof(work, crate, f, made, known):  # the file to start from: as a plain check of the twin prints it, else as it is made there
+    module = CARRIERS[crate]
+    m = re.search(rf"^help: write \S*/{module}/{f}/Proof\.antt with these lines.*?\n((?:    .*\n)+)", checked(work, crate), re.M)
+    if not m and not os.path.exists(f"{made}/Proof.antt"):
+        raise SystemExit(f"{crate}::{module}::{f}: the check of the twin shows no proof to start from: see {work}/log")
+    text = re.sub(r"^    ", "", m.group(1), flags=re.M) if m else read(f"{made}/Proof.antt")
+    text = text.replace("use borrow.Author.Needs.{needs}\n", "").replace(f"{module}.{f}.Tie as", f"{module}.{f}.Proof.Tie as")
+    text = re.sub(r"^-- src/.*\n", "", derived(text, known), flags=re.M).replace(" = ?", " = search needs")
+    return f"-- `{crate}::{module}::{f}` meets its contract: the needs that the derivation of Derived.{f} leaves. Assumes nothing.\nmod Tie\nuse borrow.Author.Needs.{{needs}}\n" + text
+
+def carry_by_twin(work, pairs, known):  # carries functions by one twin; those that are not carried
+    laid_out(work, pairs)
+    checked(work, pairs[-1][0], "--generated", f"{work}/gen")
+    failed = [pair for pair in pairs if not stored(work, *pair, known)]
+    if failed:
+        checked(work, pairs[-1][0])  # a plain check says why, in the log
+    return failed
+
+def divided(pairs):  # the functions of each twin: of JOBS twins, and one for each function that has no proof yet, beside which its callers would have no derivation
+    length = {(c, f): end - start for c in dict(pairs) for _, f, start, _, end in functions(source(c, CARRIERS[c]))}
+    alone = [[p] for p in pairs if not os.path.exists(proof_of(*p))]
+    rest = [p for p in pairs if [p] not in alone]
+    twins, before, total = [[] for _ in range(JOBS)], 0, sum(length[p] for p in rest)
+    for p in rest:  # in order, for functions of a crate have their stubs in common; by their lengths, for the time of a check is about proportional to them
+        twins[int((before + length[p] / 2) * JOBS / total)].append(p)
+        before += length[p]
+    return [t for t in twins if t] + alone
+
+def main(words):
+    if words and words[0] not in CARRIERS:
+        return f"{words[0]}: not one of {', '.join(CARRIERS)}"
+    pairs = [(words[0], f) for f in words[1:]] or [(c, f) for c in words or CARRIERS for f in carried_in(c)]
+    for crate, f in pairs:
+        if f not in {name for _, name, *_ in functions(source(crate, CARRIERS[crate]))}:
+            return f"crates/{crate}/src/{CARRIERS[crate]}.rt has no function {f}"
+    known = {(c, f) for c in CARRIERS for f in carried_in(c)} | set(pairs)
+    if os.path.isdir("target/lend"):
+        shutil.rmtree("target/lend")  # nothing of an earlier run is read
+    twins = divided(pairs)
+    works = [os.path.abspath(f"target/lend/{i}") for i in range(len(twins))]
+    with ProcessPoolExecutor(JOBS) as pool:
+        failed = list(pool.map(carry_by_twin, works, twins, [known] * len(twins)))
+    for crate in dict(pairs):
+        write(f"crates/{crate}/proofs/Derived.antt", "".join(f"pub mod {f}\n" for f in carried_in(crate)))
+        carried = [p for p in pairs if p[0] == crate and not any(p in lost for lost in failed)]
+        print(f"{crate}: {len(carried)} derivations carried")
+    errors = [f"the twin has no derivation of {', '.join('::'.join(p) for p in lost)}: see {work}/log" for work, lost in zip(works, failed) if lost]
+    return "\n".join(errors) or 0
+
+if __name__ == "__main__":
+    sys.exit(main(sys.argv[1:]))

@@ -33,7 +33,7 @@ enum {
 };
 
 /* a dependency: planned first drone and its stop, planned second drone and its stop; flags: 1 turned, 2 fixed. `reserved` is zero
- * after a reading; no call looks at it */
+ * in the first 2,048 after a reading that wrote the tables (any reply but 41 and 1); a turn keeps it, and no call looks at it */
 typedef struct {
     uint16_t first_stop, second_stop;
     uint8_t first_drone, second_drone, flags, reserved;

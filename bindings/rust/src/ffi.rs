@@ -9,7 +9,7 @@
 //! arrive(plan, &mut words, &mut [], &[], 0); // the visited stops are lent for writing and for reading at once
 //! ```
 
-/// A dependency: the planned first drone and its stop, the planned second drone and its stop. `reserved` is zero after a reading, and no call looks at it.
+/// A dependency: the planned first drone and its stop, the planned second drone and its stop. `reserved` is zero in the first 2,048 after a reading that wrote the tables (any reply but 41 and 1), a turn keeps it, and no call looks at it.
 #[repr(C)]
 #[derive(Clone, Copy, Debug, Default, PartialEq, Eq, Hash)]
 pub struct Dependency {

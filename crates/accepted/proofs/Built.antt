@@ -19,11 +19,11 @@ use Rattle.tables.proofs.SizeLaws.{SameLengths, fullSize-lengths, sizes-full}
 use Rattle.text.specs.Written.{Route, InLimits}
 use Rattle.plan.specs.Dependencies.{follows, flagOf}
 use Rattle.plan.specs.Field.{planOf, fixed}
-use Rattle.plan.specs.Claims.{ownerIn, numberIn, stopTotal, visitsIn, HoldsPlanned}
+use Rattle.plan.specs.Claims.{ownerIn, numberIn, stopTotal, visitsIn, HoldsPlanned, plannedTotal, plannedList}
 use Rattle.plan.proofs.Claims.{accepted-claims}
-use Rattle.sound.specs.Sound.{zeroFrom, checked as checkedSound, planAccepted, dependenciesSound, planUnused}
+use Rattle.sound.specs.Sound.{zeroFrom, passesCheck as checkedSound, planAccepted, dependenciesSound, planUnused}
 use Rattle.log.specs.Calls.{AsRead}
-use Rattle.reading.specs.Reading.{withDependencies, total, plannedList, checkIn}
+use Rattle.reading.specs.Reading.{withDependencies, checkIn}
 use Rattle.reading.specs.Replies.{taken as Taken}
 use Rattle.accepted.proofs.Stored.{at-past, laid-at}
 use Rattle.accepted.proofs.PlanHeld.{HoldsRoutes, zero-past, have-stops, in-range, names-sound, names-zero, counts-zero, locations-zero, times-zero}
@@ -50,14 +50,14 @@ own-sound L p h =
     (and-both _ _ (eq-eqb _ _ (h .second-drones k l))
     (eq-eqb _ _ (h .second-stops k l))))))
 
-module _ (L : Limits) (t : Tables) (sizes : Sizes L t) (blank : Blank L t) (room : total (t .plan) ≤ L .dependencies) where
+module _ (L : Limits) (t : Tables) (sizes : Sizes L t) (blank : Blank L t) (room : plannedTotal (t .plan) ≤ L .dependencies) where
   abbrev lists : PlanLists
   lists = withDependencies t .plan
 
   same-lengths : SameLengths (withDependencies t) t
   same-lengths = record {
     drone-count = refl;
-    dependency-count = length-sets (t .plan .dependencyCount) 0 (total (t .plan) ∷ []);
+    dependency-count = length-sets (t .plan .dependencyCount) 0 (plannedTotal (t .plan) ∷ []);
     names = refl;
     stop-counts = refl;
     locations = refl;
@@ -71,10 +71,10 @@ module _ (L : Limits) (t : Tables) (sizes : Sizes L t) (blank : Blank L t) (room
     flags = laid-length _ _ _ _ refl;
   }
 
-  count-is : dependencies lists ≡ total (t .plan)
-  count-is = getD-set-same (t .plan .dependencyCount) 0 (total (t .plan)) 0 (sizes .dependency-count)
+  count-is : dependencies lists ≡ plannedTotal (t .plan)
+  count-is = getD-set-same (t .plan .dependencyCount) 0 (plannedTotal (t .plan)) 0 (sizes .dependency-count)
 
-  column-long : (f : ℕ → ℕ → ℕ) → length (plannedList (t .plan) f) ≡ total (t .plan)
+  column-long : (f : ℕ → ℕ → ℕ) → length (plannedList (t .plan) f) ≡ plannedTotal (t .plan)
   column-long f = length-listed (follows (visitsIn (t .plan))) (stopTotal (t .plan)) f
 
   -- one column: its entries, 0 past the last
@@ -114,7 +114,7 @@ module _ (L : Limits) (t : Tables) (sizes : Sizes L t) (blank : Blank L t) (room
 
     accepted : planAccepted L lists ≡ true
     unfolding planAccepted
-    accepted = and-both _ _ (in-range L ds v lists still-holds) (and-both _ _ (names-sound L ds v lists still-holds) (and-both _ _ check-passes (le-leb (total (t .plan)) (L .dependencies) room)))
+    accepted = and-both _ _ (in-range L ds v lists still-holds) (and-both _ _ (names-sound L ds v lists still-holds) (and-both _ _ check-passes (le-leb (plannedTotal (t .plan)) (L .dependencies) room)))
 
     unused : planUnused L lists ≡ true
     unfolding planUnused

@@ -11,3 +11,5 @@ pub mod Examples
 pub mod Taken
 pub mod TablesRoutes
 pub mod SoundAccepted
+pub mod CheckSays
+pub mod Reported

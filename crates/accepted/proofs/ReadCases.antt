@@ -19,10 +19,10 @@ use Rattle.plan.specs.declared.check.StopAt.{StopAt}
 use Rattle.plan.specs.declared.check.PlanCheck.the-variants as check
 use Rattle.plan.specs.Answers.{pickCheck, faultCase, checkOf}
 use Rattle.plan.specs.Check.{firstFault, collider}
-use Rattle.plan.specs.Claims.{stopTotal, visitsIn, NoFault, NoCollision}
+use Rattle.plan.specs.Claims.{stopTotal, visitsIn, NoFault, NoCollision, plannedTotal}
 use Rattle.plan.proofs.Claims.{accepted-claims}
 use Rattle.reading.specs.Replies.{ReadingReply, taken as Taken, refusedBy, refusedAt, refusedStop, refusedStops, checkMeant}
-use Rattle.reading.specs.Reading.{ReadingAnswer, withReply, withText, withDependencies, total, checkIn, checked, fromLines, readPlan, readLines}
+use Rattle.reading.specs.Reading.{ReadingAnswer, withReply, withText, withDependencies, checkIn, afterCheck, fromLines, readPlan, readLines}
 
 -- ---- the plan check
 
@@ -61,17 +61,17 @@ pub record ReadTaken (L : Limits) (z : Tables) (f : LinesRead LinesAnswer) (answ
   pub number : ℕ
   pub lines-taken : answer ≡ text.WellFormed number
   pub check-passed : checkIn (withText f number z .plan) ≡ Taken
-  pub room : total (withText f number z .plan) ≤ L .dependencies
+  pub room : plannedTotal (withText f number z .plan) ≤ L .dependencies
   pub tables-are : after ≡ withDependencies (withText f number z)
 
 module _ (L : Limits) where
-  built-taken : (z t : Tables) (b : Bool) → leb (total (t .plan)) (L .dependencies) ≡ b → cond b (withReply Taken (withDependencies t)) (withReply (refusedBy 11) z) .reply ≡ Taken
-      → (total (t .plan) ≤ L .dependencies) × (cond b (withReply Taken (withDependencies t)) (withReply (refusedBy 11) z) .tables ≡ withDependencies t)
+  built-taken : (z t : Tables) (b : Bool) → leb (plannedTotal (t .plan)) (L .dependencies) ≡ b → cond b (withReply Taken (withDependencies t)) (withReply (refusedBy 11) z) .reply ≡ Taken
+      → (plannedTotal (t .plan) ≤ L .dependencies) × (cond b (withReply Taken (withDependencies t)) (withReply (refusedBy 11) z) .tables ≡ withDependencies t)
   built-taken z t true e h = (leb-true _ _ e, refl)
   built-taken z t false e h = absurd (let q : _≡_ {A = ℕ} 0 1 = cc h in omega arith)
 
-  checked-taken : (z t : Tables) (r : ReadingReply) → checked L z t r .reply ≡ Taken → (r ≡ Taken) × (total (t .plan) ≤ L .dependencies) × (checked L z t r .tables ≡ withDependencies t)
-  checked-taken z t Taken h = let k = built-taken z t (leb (total (t .plan)) (L .dependencies)) refl h in (refl, k .0, k .1)
+  checked-taken : (z t : Tables) (r : ReadingReply) → afterCheck L z t r .reply ≡ Taken → (r ≡ Taken) × (plannedTotal (t .plan) ≤ L .dependencies) × (afterCheck L z t r .tables ≡ withDependencies t)
+  checked-taken z t Taken h = let k = built-taken z t (leb (plannedTotal (t .plan)) (L .dependencies)) refl h in (refl, k .0, k .1)
   checked-taken z t (refusedBy n) h = absurd (let q : _≡_ {A = ℕ} 0 1 = cc h in omega arith)
   checked-taken z t (refusedAt n o) h = absurd (let q : _≡_ {A = ℕ} 0 1 = cc h in omega arith)
   checked-taken z t (refusedStop n x) h = absurd (let q : _≡_ {A = ℕ} 0 1 = cc h in omega arith)

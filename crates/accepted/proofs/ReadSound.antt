@@ -23,12 +23,13 @@ use Rattle.plan.proofs.PlansAgree.{agree-accepted}
 use Rattle.log.specs.Calls.{AsRead, tablesAfter}
 use Rattle.log.proofs.SoundParts.{accepted-plan}
 use Rattle.log.proofs.Whole.{stays-sound}
-use Rattle.reading.specs.Reading.{withText, withDependencies, total, checkIn, readPlan}
+use Rattle.reading.specs.Reading.{withText, withDependencies, checkIn, readPlan}
 use Rattle.reading.specs.Replies.{taken as Taken}
 use Rattle.accepted.specs.TextPlan.{routesPlan, textPlan}
 use Rattle.accepted.specs.Claims.{TablesHoldPlan, AcceptedText, ReadIsSound, TablesSound}
 use Rattle.accepted.proofs.Stored.{stored-at}
 use Rattle.text.proofs.Sizes.{names-many, counts-many, stops-within, times-many}
+use Rattle.plan.specs.Claims.{plannedTotal}
 use Rattle.accepted.proofs.PlanHeld.{HoldsRoutes}
 use Rattle.accepted.proofs.ReadCases.{read-taken}
 use Rattle.accepted.proofs.RoutesPlan.{HoldsStops, held-agree, routes-read}
@@ -104,12 +105,12 @@ module _ (L : Limits) (t : Tables) (full : fullSize L t ≡ true) (f : LinesRead
     }
 
     -- with the dependencies laid, the plan in the tables is that of the routes
-    pub stored-agree : total (afterText .plan) ≤ L .dependencies → PlansAgree (routesPlan ds) (planOf (withDependencies afterText .plan))
+    pub stored-agree : plannedTotal (afterText .plan) ≤ L .dependencies → PlansAgree (routesPlan ds) (planOf (withDependencies afterText .plan))
     stored-agree room =
         let s = stored-stops in
         held-agree L ds v (withDependencies afterText .plan) (record { drones-are = s .drones-are; counts-are = s .counts-are; locations-are = s .locations-are; times-are = s .times-are }) (holds-planned L afterText stored-sizes stored-blank room)
 
-    stored-as-read : checkIn (afterText .plan) ≡ Taken → total (afterText .plan) ≤ L .dependencies → AsRead L (withDependencies afterText .plan) (withDependencies afterText)
+    stored-as-read : checkIn (afterText .plan) ≡ Taken → plannedTotal (afterText .plan) ≤ L .dependencies → AsRead L (withDependencies afterText .plan) (withDependencies afterText)
     stored-as-read passed room = built-as-read L afterText stored-sizes stored-blank room ds v stored-holds passed
 
 pub read-is-sound : (L : Limits) → ReadIsSound L

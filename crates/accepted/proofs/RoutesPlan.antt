@@ -18,8 +18,8 @@ use Rattle.text.specs.declared.reader.LinesAnswer.{LinesAnswer}
 use Rattle.text.specs.Written.{Route, rowsOf, countsOf, locationsOf, timesOf, linesOf, InLimitsFrom, InLimits}
 use Rattle.text.proofs.DroneTaken.{range-long}
 use Rattle.text.proofs.Sizes.{counts-total}
-use Rattle.plan.specs.Stops.{start, owner, number}
-use Rattle.plan.specs.Visits.{Visits, visits}
+use Rattle.plan.specs.Stops.{start, owner, stopNumber}
+use Rattle.plan.specs.Visits.{Visits, visitsWith}
 use Rattle.plan.specs.Dependencies.{dependencyTotal, column}
 use Rattle.plan.specs.Field.{Checked, PlansAgree, planOf}
 use Rattle.plan.specs.Claims.{ownerIn, numberIn, locationIn, timeIn, stopTotal, visitsIn, HaveStops, HoldsPlanned, StopsChecked, Collides, Never}
@@ -68,7 +68,7 @@ pub record HoldsStops (ds : List Route) (p : PlanLists) : Type 0 where
 
 -- the first n stops of lists
 abbrev heldVisits : PlanLists → ℕ → Visits
-heldVisits p n = visits (ownerIn p) (numberIn p) (locationIn p) (timeIn p) n
+heldVisits p n = visitsWith (ownerIn p) (numberIn p) (locationIn p) (timeIn p) n
 
 module _ (L : Limits) (ds : List Route) (v : InLimits L ds) where
   stops-many : stopsIn ds ≡ length (locationsOf ds)
@@ -87,7 +87,7 @@ module _ (L : Limits) (ds : List Route) (v : InLimits L ds) where
     owners-are u = ap (λ (n : ℕ). owner n (p .stopCounts) u) (h .drones-are) ∙ owner-same (length ds) (p .stopCounts) (countsOf ds) (h .counts-are) u
 
     numbers-are : (u : ℕ) → numberIn p u ≡ stopNumberOf ds u
-    numbers-are u = ap (λ (n : ℕ). number n (p .stopCounts) u) (h .drones-are) ∙ number-same (length ds) (p .stopCounts) (countsOf ds) (h .counts-are) u
+    numbers-are u = ap (λ (n : ℕ). stopNumber n (p .stopCounts) u) (h .drones-are) ∙ number-same (length ds) (p .stopCounts) (countsOf ds) (h .counts-are) u
 
     starts-are : (d : ℕ) → d ≤ length ds → start (p .stopCounts) d ≡ start (countsOf ds) d
     starts-are = start-same (length ds) (p .stopCounts) (countsOf ds) (h .counts-are)

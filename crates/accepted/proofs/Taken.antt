@@ -23,12 +23,12 @@ use Rattle.text.proofs.ReadIsWritten.{tables-kept}
 use Rattle.text.proofs.RoundTrips.{limits-round-trip}
 use Rattle.plan.specs.Field.{PlansAgree, planOf}
 use Rattle.plan.specs.Check.{firstFault}
-use Rattle.plan.specs.Claims.{stopTotal, visitsIn, colliderIn, HaveStops, NoFault, NoCollision, StopsChecked, Collides, Never}
+use Rattle.plan.specs.Claims.{stopTotal, visitsIn, colliderIn, HaveStops, NoFault, NoCollision, StopsChecked, Collides, Never, plannedTotal}
 use Rattle.plan.specs.Answers.{checkOf}
 use Rattle.plan.proofs.Claims.{accepted-claims}
 use Rattle.plan.proofs.PlansAgree.{agree-back, agree-stops, agree-never, passes-exactly}
 use Rattle.log.proofs.Whole.{stays-same}
-use Rattle.reading.specs.Reading.{withText, withDependencies, total, checkIn, readPlan, readLines}
+use Rattle.reading.specs.Reading.{withText, withDependencies, checkIn, readPlan, readLines}
 use Rattle.reading.specs.Replies.{taken as Taken}
 use Rattle.accepted.specs.TextPlan.{routesPlan}
 use Rattle.accepted.specs.Claims.{PlanFollows, TakenExactly, ownText, WrittenBack, ReadAlike}
@@ -51,11 +51,11 @@ module _ (L : Limits) (t : Tables) (full : fullSize L t ≡ true) (f : LinesRead
   laid-have : HaveStops (laid .plan)
   laid-have = held-stops L ds v (laid .plan) (stored-stops L t full f n ds many v read)
 
-  laid-total : total (laid .plan) ≡ routesPlan ds .count
+  laid-total : plannedTotal (laid .plan) ≡ routesPlan ds .count
   laid-total = held-total L ds v (laid .plan) (stored-stops L t full f n ds many v read)
 
   -- with its dependencies the plan in them is that of the routes, and the check passes exactly where the routes keep the rules
-  module _ (room : total (laid .plan) ≤ L .dependencies) where
+  module _ (room : plannedTotal (laid .plan) ≤ L .dependencies) where
     abbrev lists : PlanLists
     lists = withDependencies laid .plan
 
@@ -99,8 +99,8 @@ module _ (L : Limits) (trip : RoundTrip L) (text : List ℕ) (t : Tables) where
       let ds : List Route = smallNames (q .typed) in
       let found : linesAt L text ≡ linesOf L ds = ap (linesAt L) (q .as-typed) ∙ trip .capitals-are-read (q .typed) (q .in-limits) in
       let p : PlanLists = withText (linesOf L ds) (length ds) (zeroedTables L t) .plan in
-      let room : total p ≤ L .dependencies = omega (arith, laid-total L t full (linesOf L ds) (length ds) ds refl (q .in-limits) refl, q .few) in
-      rw (full, le-ltb (L .text) (length text) (q .short), found, passes L t full (linesOf L ds) (length ds) ds refl (q .in-limits) refl room (q .stops) (q .apart), le-leb (total p) (L .dependencies) room) refl
+      let room : plannedTotal p ≤ L .dependencies = omega (arith, laid-total L t full (linesOf L ds) (length ds) ds refl (q .in-limits) refl, q .few) in
+      rw (full, le-ltb (L .text) (length text) (q .short), found, passes L t full (linesOf L ds) (length ds) ds refl (q .in-limits) refl room (q .stops) (q .apart), le-leb (plannedTotal p) (L .dependencies) room) refl
 
 pub taken-exactly : (L : Limits) → RoundTrip L → TakenExactly L
 taken-exactly L trip text t = (follows L trip text t, taken L trip text t)

@@ -1,18 +1,20 @@
 -- Flights of document 01 as texts, read into tables of full size that held something else before: the readings that the claims speak of do happen. Assumes nothing.
-use mathlib.Core.Bool.{Bool, true, _&&_}
+use mathlib.Core.Path.{_≡_}
+use mathlib.Core.Bool.{Bool, true}
 use mathlib.Core.List.{List, [], _∷_}
 use Prim.Native.Nat.{ℕ}
 use Prim.Native.String.{String}
 use lib.Dec.{eqb}
+use Rattle.below.specs.Below.{allIn}
 use Rattle.tables.specs.Limits.{Limits, limits}
 use Rattle.tables.specs.Zero.{filled}
 use Rattle.text.specs.Examples.{bytes}
-use Rattle.reading.specs.Replies.{readingNumber}
+use Rattle.reading.specs.Replies.{ReadingReply, taken, refusedStop, refusedStops, readingNumber}
 use Rattle.reading.specs.Reading.{readPlan}
 
 -- the product's limits, but for one dependency
-abbrev pub oneDependency : Limits
-oneDependency = record {
+abbrev pub limitsOfOne : Limits
+limitsOfOne = record {
   text = limits .text;
   drones = limits .drones;
   stops = limits .stops;
@@ -23,39 +25,56 @@ oneDependency = record {
 }
 
 -- "Input Q"
-abbrev pub flightQ : String
-flightQ = "plan=1\nagents=2\nname=survey-quad-east-1\nstops=4\ngo=1@0\ngo=6@1\ngo=5@2\ngo=2@3\nname=survey-quad-east-2\nstops=3\ngo=3@0\ngo=5@4\ngo=4@5\nend=plan\n"
+abbrev pub textQ : String
+textQ = "plan=1\nagents=2\nname=survey-quad-east-1\nstops=4\ngo=1@0\ngo=6@1\ngo=5@2\ngo=2@3\nname=survey-quad-east-2\nstops=3\ngo=3@0\ngo=5@4\ngo=4@5\nend=plan\n"
 
 -- flight P
-abbrev pub flightP : String
-flightP = "plan=1\nagents=2\nname=a\nstops=4\ngo=10@0\ngo=20@1\ngo=30@2\ngo=40@3\nname=b\nstops=4\ngo=11@0\ngo=20@3\ngo=30@4\ngo=41@5\nend=plan\n"
+abbrev pub textP : String
+textP = "plan=1\nagents=2\nname=a\nstops=4\ngo=10@0\ngo=20@1\ngo=30@2\ngo=40@3\nname=b\nstops=4\ngo=11@0\ngo=20@3\ngo=30@4\ngo=41@5\nend=plan\n"
 
 -- a text that is read within some limits, and the number of the reply (0 where it is accepted)
-pub record Example : Type 0 where
+pub record ReadingExample : Type 0 where
   pub within : Limits
   pub text : String
   pub number : ℕ
 
-abbrev pub holds : Example → Bool
-holds e = eqb (readingNumber (readPlan (e .within) (bytes (e .text)) (filled 7 (e .within)) .reply)) (e .number)
+abbrev pub readingAsGiven : ReadingExample → Bool
+readingAsGiven e = eqb (readingNumber (readPlan (e .within) (bytes (e .text)) (filled 7 (e .within)) .reply)) (e .number)
 
-abbrev pub allHold : List Example → Bool
-allHold [] = true
-allHold (e ∷ es) = holds e && allHold es
-
-abbrev pub examples : List Example
-examples =
+abbrev pub readingExamples : List ReadingExample
+readingExamples =
     -- "At 4: taken."
-    record { within = limits; text = flightQ; number = 0 }
+    record { within = limits; text = textQ; number = 0 }
     -- "Q with the second drone's 5 at time 3: 10, since the first leaves in timestep 3."
     ∷ record { within = limits; text = "plan=1\nagents=2\nname=survey-quad-east-1\nstops=4\ngo=1@0\ngo=6@1\ngo=5@2\ngo=2@3\nname=survey-quad-east-2\nstops=3\ngo=3@0\ngo=5@3\ngo=4@5\nend=plan\n"; number = 10 }
     -- "P: .. two dependencies"
-    ∷ record { within = limits; text = flightP; number = 0 }
-    ∷ record { within = oneDependency; text = flightP; number = 11 }
+    ∷ record { within = limits; text = textP; number = 0 }
+    ∷ record { within = limitsOfOne; text = textP; number = 11 }
     -- the drones collide at 40, where the first stays, and have three dependencies: "plan check, after all stops" comes before "building"
-    ∷ record { within = oneDependency; text = "plan=1\nagents=2\nname=a\nstops=4\ngo=10@0\ngo=20@1\ngo=30@2\ngo=40@3\nname=b\nstops=4\ngo=11@0\ngo=20@3\ngo=30@4\ngo=40@5\nend=plan\n"; number = 10 }
+    ∷ record { within = limitsOfOne; text = "plan=1\nagents=2\nname=a\nstops=4\ngo=10@0\ngo=20@1\ngo=30@2\ngo=40@3\nname=b\nstops=4\ngo=11@0\ngo=20@3\ngo=30@4\ngo=40@5\nend=plan\n"; number = 10 }
     -- a drone with more stops than the limit for all: "at one line in this order .. 4 .. 6"
     ∷ record { within = limits; text = "plan=1\nagents=1\nname=a\nstops=1025\n"; number = 4 }
     -- "a capital is the same letter as its small form everywhere names are compared"
     ∷ record { within = limits; text = "plan=1\nagents=2\nname=Survey-Quad-East-1\nstops=1\ngo=1@0\nname=survey-quad-east-1\nstops=1\ngo=2@0\nend=plan\n"; number = 5 }
     ∷ []
+
+-- ---- the stops that a refusal names
+
+abbrev pub replyTo : String → ReadingReply
+replyTo text = readPlan limits (bytes text) (filled 7 limits) .reply
+
+pub record StopsNamed : Type 0 where
+  -- "7 stop 0 not at time 0": drone 1 is the first at fault, and its stop 1 breaks 8 and 9 too
+  pub starts-late : replyTo "plan=1\nagents=2\nname=a\nstops=1\ngo=1@0\nname=b\nstops=2\ngo=2@1\ngo=2@1\nend=plan\n" ≡ refusedStop 7 (record { drone = 1; stop = 0 })
+  -- "8 time not above the one before" comes before 9 at one stop, and both before 7 at a later drone
+  pub not-rising : replyTo "plan=1\nagents=2\nname=a\nstops=3\ngo=1@0\ngo=2@1\ngo=2@1\nname=b\nstops=1\ngo=3@1\nend=plan\n" ≡ refusedStop 8 (record { drone = 0; stop = 2 })
+  -- "9 same location as the one before", before 8 at a later stop; the drones collide at 1 too, but single stops come before pairs
+  pub same-location : replyTo "plan=1\nagents=2\nname=a\nstops=3\ngo=1@0\ngo=1@1\ngo=2@1\nname=b\nstops=1\ngo=1@0\nend=plan\n" ≡ refusedStop 9 (record { drone = 0; stop = 1 })
+  -- "10 gives two of each": at 5 all three drones collide, and drones 1 and 2 at their stops 0
+  pub collision : replyTo "plan=1\nagents=3\nname=a\nstops=3\ngo=1@0\ngo=5@2\ngo=6@4\nname=b\nstops=2\ngo=2@0\ngo=5@3\nname=c\nstops=2\ngo=2@0\ngo=5@1\nend=plan\n" ≡ refusedStops 10 (record { drone = 0; stop = 1 }) (record { drone = 1; stop = 1 })
+
+-- each text of the list gets its number, flight Q is taken at the product's limits, and refusals of the plan check name these stops
+pub record ReadingsHold : Type 0 where
+  pub as-listed : allIn readingAsGiven readingExamples ≡ true
+  pub q-taken : replyTo textQ ≡ taken
+  pub stops-named : StopsNamed

@@ -1,3 +1,4 @@
 pub mod TextPlan
 pub mod Claims
+pub mod Reported
 pub mod Examples

@@ -7,8 +7,8 @@ use Rattle.tables.specs.Limits.{Limits}
 use Rattle.lines.specs.Names.{nameOf}
 use Rattle.text.specs.LinesRead.{linesAt}
 use Rattle.text.specs.Written.{Route, countsOf, locationsOf, timesOf}
-use Rattle.plan.specs.Stops.{start, owner, number}
-use Rattle.plan.specs.Visits.{Visits, sameLocation, visits}
+use Rattle.plan.specs.Stops.{start, owner, stopNumber}
+use Rattle.plan.specs.Visits.{Visits, sameLocation, visitsWith}
 use Rattle.plan.specs.Dependencies.{dependencyTotal, column}
 use Rattle.plan.specs.Field.{FieldPlan}
 
@@ -27,10 +27,10 @@ module _ (routes : List Route) where
   ownerOf = owner (length routes) (countsOf routes)
 
   abbrev pub stopNumberOf : ℕ → ℕ
-  stopNumberOf = number (length routes) (countsOf routes)
+  stopNumberOf = stopNumber (length routes) (countsOf routes)
 
   abbrev pub routesVisits : Visits
-  routesVisits = visits ownerOf stopNumberOf (at (locationsOf routes)) (at (timesOf routes)) stopsIn
+  routesVisits = visitsWith ownerOf stopNumberOf (at (locationsOf routes)) (at (timesOf routes)) stopsIn
 
   -- f of each dependency of the routes, in order, (v, w) being its two stops
   abbrev pub dependencyList : (ℕ → ℕ → ℕ) → List ℕ

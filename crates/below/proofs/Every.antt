@@ -1,5 +1,5 @@
 -- What holds of every index below n, and of some. Assumes nothing.
-use mathlib.Core.Path.{_≡_, refl, sym, _∙_, subst}
+use mathlib.Core.Path.{_≡_, refl, sym, ap, _∙_, subst}
 use mathlib.Core.Bool.{Bool, true, false, not}
 use Prim.Native.Nat.{ℕ, zero, suc, _+_, _≤_, _<_}
 use native.Mathlib.Nat.{le-antisymm}
@@ -44,6 +44,9 @@ pub allBelow-ext : (n : ℕ) (f g : ℕ → Bool) → ((i : ℕ) → i < n → f
 unfolding allBelow
 allBelow-ext zero f g h = refl
 allBelow-ext (suc n) f g h = rw (allBelow-ext n f g (λ i l. h i (omega arith)), h n (omega arith)) refl
+
+pub allBelow-same : (n n′ : ℕ) (f g : ℕ → Bool) → n ≡ n′ → ((i : ℕ) → i < n → f i ≡ g i) → allBelow n f ≡ allBelow n′ g
+allBelow-same n n′ f g e h = allBelow-ext n f g h ∙ ap (λ (k : ℕ). allBelow k g) e
 
 -- ---- as a loop over i goes
 module _ (p : ℕ → Bool) where

@@ -8,7 +8,7 @@ use lib.Dec.{eqb}
 use borrow.Author.Tests.{eqb-true, eqb-false, eq-eqb, ne-eqb}
 use lib.ListN.{length, getD, set, replicate}
 use lib.Seq.{ext-getD, getD-set-same, getD-set-other}
-use Rattle.below.specs.Below.{at, listBelow, put}
+use Rattle.below.specs.Below.{at, listBelow, update}
 use Rattle.below.proofs.Tests.{by-cases}
 
 module _ {ℓ} {A : Type ℓ} where
@@ -35,20 +35,20 @@ module _ {ℓ} {A : Type ℓ} where
 
 -- ---- one entry replaced
 
-pub put-same : (p : ℕ → ℕ) (d x : ℕ) → put p d x d ≡ x
+pub put-same : (p : ℕ → ℕ) (d x : ℕ) → update p d x d ≡ x
 put-same p d x = rw (eq-eqb d d refl)
 
-pub put-other : (p : ℕ → ℕ) (d x c : ℕ) → c ≢ d → put p d x c ≡ p c
+pub put-other : (p : ℕ → ℕ) (d x c : ℕ) → c ≢ d → update p d x c ≡ p c
 put-other p d x c n = rw (ne-eqb c d n)
 
 -- what holds of the new entry and of every other entry holds of all
-pub put-elim {ℓ} : (C : ℕ → ℕ → Type ℓ) (p : ℕ → ℕ) (d x : ℕ) → C d x → ((c : ℕ) → c ≢ d → C c (p c)) → (c : ℕ) → C c (put p d x c)
+pub put-elim {ℓ} : (C : ℕ → ℕ → Type ℓ) (p : ℕ → ℕ) (d x : ℕ) → C d x → ((c : ℕ) → c ≢ d → C c (p c)) → (c : ℕ) → C c (update p d x c)
 put-elim C p d x a b c = by-cases (eqb c d)
     (λ e. rw e (subst (λ (z : ℕ). C z x) (sym (eqb-true c d e)) a))
     (λ e. rw e (b c (eqb-false c d e)))
 
 -- a store to a slice of progress
-pub at-set : (ps : List ℕ) (d x : ℕ) → d < length ps → (c : ℕ) → at (set ps d x) c ≡ put (at ps) d x c
+pub at-set : (ps : List ℕ) (d x : ℕ) → d < length ps → (c : ℕ) → at (set ps d x) c ≡ update (at ps) d x c
 at-set ps d x l c = by-cases (eqb c d)
     (λ e. let q : c ≡ d = eqb-true c d e in rw e (rw q (getD-set-same ps d x 0 l)))
     (λ e. rw e (getD-set-other ps d c x 0 (eqb-false c d e)))

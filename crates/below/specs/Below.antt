@@ -13,6 +13,11 @@ abbrev pub pick : Bool → ℕ → ℕ → ℕ
 pick true a b = a
 pick false a b = b
 
+-- every element of a list passes the test
+abbrev pub allIn : {A : Type 0} → (A → Bool) → List A → Bool
+allIn f [] = true
+allIn f (x ∷ xs) = f x && allIn f xs
+
 -- ---- search
 
 -- the least i < n with f i, or n if there is none
@@ -93,8 +98,8 @@ pub record Linked (kinds room : ℕ) (kind : ℕ → ℕ) (m : ℕ) (head next :
   pub nexts : (k : ℕ) → k < m → at next k ≡ lastBelow k (λ j. eqb (kind j) (kind k))
 
 -- the function p with the entry of d replaced
-abbrev pub put : (ℕ → ℕ) → ℕ → ℕ → ℕ → ℕ
-put p d x c = pick (eqb c d) x (p c)
+abbrev pub update : (ℕ → ℕ) → ℕ → ℕ → ℕ → ℕ
+update p d x c = pick (eqb c d) x (p c)
 
 -- l with the entries xs written from the index c on: `lib.Seq`'s `sets` under a name that stays shut, so that the arguments of its laws are found
 unfoldable pub laid : List ℕ → ℕ → List ℕ → List ℕ

@@ -12,9 +12,9 @@ use Rattle.tables.specs.Limits.{Limits}
 use Rattle.tables.specs.Tables.{Tables}
 use Rattle.log.specs.CallLog.{Call, Reply}
 use Rattle.log.specs.Calls.{step, Answered}
-use Rattle.log.specs.Preview.{PreviewReply, wouldTurn}
+use Rattle.log.specs.Preview.{PreviewOutcome, wouldTurn}
 use Rattle.flat.specs.Writing.{Writing, PlanWritten}
-use Rattle.reading.specs.Replies.{ReadingReply, refusalMeant, readingMeant}
+use Rattle.reading.specs.Replies.{ReadingReply, taken, refusedBy, refusedAt, refusedStop, refusedStops, readingNumber, refusalMeant, readingMeant}
 use Rattle.reading.specs.Reading.{AnsweredAs}
 use Rattle.reading.specs.Reading as reading
 use Rattle.reading.specs.declared.replies.Reading.{Reading}
@@ -22,21 +22,20 @@ use Rattle.reading.specs.declared.replies.Reading.the-variants.{Refused}
 use Rattle.reading.specs.declared.replies.Refusal.{Refusal}
 use Rattle.handset.specs.Press.{PressOutcome, PressAnswer, PressedAs}
 use Rattle.handset.specs.declared.replies.Report.the-variants.{Arrived}
-use Rattle.small_plans.specs.Asked.{PlanGiven}
-use Rattle.small_plans.specs.declared.PlanAnswer.{PlanAnswer}
+use Rattle.small_plans.specs.Asked.{PlanOutcome, PlanGiven}
 use Rattle.board.specs.declared.answers.CallAnswer.{CallAnswer}
 use Rattle.board.specs.declared.answers.ChangeAnswer.{ChangeAnswer}
 use Rattle.board.specs.declared.answers.ReadAnswer.{ReadAnswer}
-use Rattle.board.specs.Told.{Says, SaysOfChange, SaysOfRead, CallTold, PlanTold, ReadTold, PressTold, SmallPlanTold, answerOf, pressAnswer, reportOf, planAnswerOf, changeAnswer, writingAnswer, readAnswer}
+use Rattle.board.specs.Told.{Says, SaysOfChange, SaysOfRead, CallTold, PlanTold, ReadTold, PressTold, SmallPlanTold, callAnswerOf, pressAnswerOf, reportTold, planAnswerOf, changeAnswerOf, writingAnswerOf, readAnswerOf}
 
-pub call-told : (L : Limits) (t : Tables) (c : Call) (m : Reply) (r : CallAnswer) (t′ : Tables) → Answered (step L) t c m t′ → Says r (answerOf m) → CallTold L t c r t′
+pub call-told : (L : Limits) (t : Tables) (c : Call) (m : Reply) (r : CallAnswer) (t′ : Tables) → Answered (step L) t c m t′ → Says r (callAnswerOf m) → CallTold L t c r t′
 call-told L t c m r t′ a e = record { told = rw (a .replied) at e; left = a .left }
 
 -- what a figure's answer says of the call's own is what it says of the definition
 pub figure-told : {A : Type 0} (told : A → CallAnswer) (m n : A) (r : CallAnswer) → m ≡ n → Says r (told m) → Says r (told n)
 figure-told told m n r a e = rw a at e
 
-pub change-told : (m n : PreviewReply) (r : ChangeAnswer) → m ≡ n → SaysOfChange r (changeAnswer m) → SaysOfChange r (changeAnswer n)
+pub change-told : (m n : PreviewOutcome) (r : ChangeAnswer) → m ≡ n → SaysOfChange r (changeAnswerOf m) → SaysOfChange r (changeAnswerOf n)
 change-told m n r a e = rw a at e
 
 -- a change of 32 bits is handed over in 64, and is the same number
@@ -47,28 +46,39 @@ module _ (z : ℤ) (l : mag z < 2 ^ 31) where
   pub widened-fits : SFits w64 (toZ w32 (ofZ w32 z))
   widened-fits = subst (SFits w64) (sym (toZ-ofZ in-32)) (sfits-widen tt in-32)
 
-  pub widened-told : (m : PreviewReply) → m ≡ wouldTurn z → SaysOfChange record { number = 0; change = toZ w64 (ofZ w64 (toZ w32 (ofZ w32 z))) } (changeAnswer m)
+  pub widened-told : (m : PreviewOutcome) → m ≡ wouldTurn z → SaysOfChange record { number = 0; change = toZ w64 (ofZ w64 (toZ w32 (ofZ w32 z))) } (changeAnswerOf m)
   widened-told m e = rw e record { number-is = refl; change-is = toZ-ofZ widened-fits ∙ toZ-ofZ in-32 }
 
 -- what is not 0 stands for a report
-pub reported-some : (n d : ℕ) → n ≢ 0 → Arrived d ≡ reportOf n d
+pub reported-some : (n d : ℕ) → n ≢ 0 → Arrived d ≡ reportTold n d
 reported-some zero d h = absurd (h refl)
 reported-some (suc n) d h = refl
 
-pub press-told : (p q : PressAnswer) (m : PressOutcome) (r : CallAnswer) (t′ : Tables) → PressedAs p m t′ → p ≡ q → Says r (pressAnswer m) → PressTold q r t′
+pub press-told : (p q : PressAnswer) (m : PressOutcome) (r : CallAnswer) (t′ : Tables) → PressedAs p m t′ → p ≡ q → Says r (pressAnswerOf m) → PressTold q r t′
 press-told p q m r t′ a e s = subst (λ (x : PressAnswer). PressTold x r t′) e (record { told = rw (a .replied) at s; left = a .left })
 
-pub small-plan-told : (k : ℕ) (before after : List ℕ) (m : PlanAnswer) (r : CallAnswer) → PlanGiven k before after m → Says r (planAnswerOf m) → SmallPlanTold k before after r
+pub small-plan-told : (k : ℕ) (before after : List ℕ) (m : PlanOutcome) (r : CallAnswer) → PlanGiven k before after m → Says r (planAnswerOf m) → SmallPlanTold k before after r
 small-plan-told k before after m r a e = record { told = rw (a .answer-is) at e; left = a .buffer-is }
 
-pub plan-told : (L : Limits) (t : Tables) (before after : List ℕ) (m : Writing) (r : CallAnswer) → PlanWritten L t before after m → Says r (writingAnswer m) → PlanTold L t before after r
+pub plan-told : (L : Limits) (t : Tables) (before after : List ℕ) (m : Writing) (r : CallAnswer) → PlanWritten L t before after m → Says r (writingAnswerOf m) → PlanTold L t before after r
 plan-told L t before after m r a e = record { told = rw (a .replied) at e; left = a .left }
 
-pub read-told : (a : reading.ReadingAnswer) (m : ReadingReply) (r : ReadAnswer) (t : Tables) → AnsweredAs a m t → SaysOfRead r (readAnswer m) → ReadTold a r t
+pub read-told : (a : reading.ReadingAnswer) (m : ReadingReply) (r : ReadAnswer) (t : Tables) → AnsweredAs a m t → SaysOfRead r (readAnswerOf m) → ReadTold a r t
 read-told a m r t s e = record { told = rw (s .replied) at e; left = s .left }
 
-pub refused-told : (x : Reading) (f : Refusal) (r : ReadAnswer) → x ≡ Refused f → SaysOfRead r (readAnswer (refusalMeant f)) → SaysOfRead r (readAnswer (readingMeant x))
+-- the number that C is told is that of the reply
+number-of : (m : ReadingReply) → readAnswerOf m .number ≡ readingNumber m
+number-of taken = refl
+number-of (refusedBy n) = refl
+number-of (refusedAt n o) = refl
+number-of (refusedStop n s) = refl
+number-of (refusedStops n s t) = refl
+
+pub number-told : (m : ReadingReply) (r : ReadAnswer) → SaysOfRead r (readAnswerOf m) → r .number ≡ readingNumber m
+number-told m r s = s .number-is ∙ number-of m
+
+pub refused-told : (x : Reading) (f : Refusal) (r : ReadAnswer) → x ≡ Refused f → SaysOfRead r (readAnswerOf (refusalMeant f)) → SaysOfRead r (readAnswerOf (readingMeant x))
 refused-told x f r e s = rw e s
 
-pub same-told : (x y : Refusal) → x ≡ y → SaysOfRead (readAnswer (refusalMeant y)) (readAnswer (refusalMeant x))
+pub same-told : (x y : Refusal) → x ≡ y → SaysOfRead (readAnswerOf (refusalMeant y)) (readAnswerOf (refusalMeant x))
 same-told x y e = rw e record { number-is = refl; offset-is = refl; drone-is = refl; stop-is = refl; other-drone-is = refl; other-stop-is = refl }

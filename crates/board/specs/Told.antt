@@ -6,17 +6,15 @@ use lib.IntN.{pos}
 use Rattle.tables.specs.Limits.{Limits}
 use Rattle.tables.specs.Tables.{Tables}
 use Rattle.log.specs.CallLog.{Call, Reply, accepted, refused, mustWait}
-use Rattle.log.specs.Calls.{step, CostReply, costs, costRefused, RoundsReply, rounds, roundsRefused}
-use Rattle.log.specs.Preview.{PreviewReply, wouldTurn, wouldRefuse}
+use Rattle.log.specs.Calls.{step, CostOutcome, costs, costRefused, RoundsOutcome, rounds, roundsRefused}
+use Rattle.log.specs.Preview.{PreviewOutcome, wouldTurn, wouldRefuse}
 use Rattle.flat.specs.Writing.{Writing, wrote, writeRefused, writes, bufferLeft}
 use Rattle.reading.specs.Replies.{ReadingReply, taken, refusedBy, refusedAt, refusedStop, refusedStops}
 use Rattle.reading.specs.Reading.{ReadingAnswer}
 use Rattle.handset.specs.Press.{PressOutcome, granted, pressRefused, PressAnswer}
 use Rattle.handset.specs.declared.replies.Report.{Report}
 use Rattle.handset.specs.declared.replies.Report.the-variants.{Nothing, Arrived}
-use Rattle.small_plans.specs.Asked.{planAnswer, bufferThen}
-use Rattle.small_plans.specs.declared.PlanAnswer.{PlanAnswer}
-use Rattle.small_plans.specs.declared.PlanAnswer.the-variants.{Length, NoSuchPlan, Short}
+use Rattle.small_plans.specs.Asked.{PlanOutcome, textLength, planRefused, planAnswer, bufferThen}
 use Rattle.board.specs.declared.answers.CallAnswer.{CallAnswer}
 use Rattle.board.specs.declared.answers.ChangeAnswer.{ChangeAnswer}
 use Rattle.board.specs.declared.answers.ReadAnswer.{ReadAnswer}
@@ -25,43 +23,42 @@ abbrev pub answerWith : ℕ → ℕ → CallAnswer
 answerWith n w = record { number = n; detail = w }
 
 -- "Of the others only 23 carries anything"
-abbrev pub answerOf : Reply → CallAnswer
-answerOf accepted = answerWith 0 0
-answerOf (refused n) = answerWith n 0
-answerOf (mustWait w) = answerWith 23 w
+abbrev pub callAnswerOf : Reply → CallAnswer
+callAnswerOf accepted = answerWith 0 0
+callAnswerOf (refused n) = answerWith n 0
+callAnswerOf (mustWait w) = answerWith 23 w
 
 -- "When it would be done, it also gives the cost after it less the cost now": a refused preview carries the number alone
-abbrev pub changeAnswer : PreviewReply → ChangeAnswer
-changeAnswer (wouldTurn z) = record { number = 0; change = z }
-changeAnswer (wouldRefuse n) = record { number = n; change = pos 0 }
+abbrev pub changeAnswerOf : PreviewOutcome → ChangeAnswer
+changeAnswerOf (wouldTurn z) = record { number = 0; change = z }
+changeAnswerOf (wouldRefuse n) = record { number = n; change = pos 0 }
 
-abbrev pub costAnswer : CostReply → CallAnswer
-costAnswer (costs n) = answerWith 0 n
-costAnswer (costRefused n) = answerWith n 0
+abbrev pub costAnswerOf : CostOutcome → CallAnswer
+costAnswerOf (costs n) = answerWith 0 n
+costAnswerOf (costRefused n) = answerWith n 0
 
-abbrev pub roundsAnswer : RoundsReply → CallAnswer
-roundsAnswer (rounds n) = answerWith 0 n
-roundsAnswer (roundsRefused n) = answerWith n 0
+abbrev pub roundsAnswerOf : RoundsOutcome → CallAnswer
+roundsAnswerOf (rounds n) = answerWith 0 n
+roundsAnswerOf (roundsRefused n) = answerWith n 0
 
-abbrev pub writingAnswer : Writing → CallAnswer
-writingAnswer (wrote n) = answerWith 0 n
-writingAnswer (writeRefused n) = answerWith n 0
+abbrev pub writingAnswerOf : Writing → CallAnswer
+writingAnswerOf (wrote n) = answerWith 0 n
+writingAnswerOf (writeRefused n) = answerWith n 0
 
 -- "a 32-bit number in which bit 0 stands for drone 0 and so on"
-abbrev pub pressAnswer : PressOutcome → CallAnswer
-pressAnswer (granted bits) = answerWith 0 bits
-pressAnswer (pressRefused n) = answerWith n 0
+abbrev pub pressAnswerOf : PressOutcome → CallAnswer
+pressAnswerOf (granted bits) = answerWith 0 bits
+pressAnswerOf (pressRefused n) = answerWith n 0
 
 -- "one arrival, if one was reported": 0 stands for nothing
-abbrev pub reportOf : ℕ → ℕ → Report
-reportOf zero d = Nothing
-reportOf (suc n) d = Arrived d
+abbrev pub reportTold : ℕ → ℕ → Report
+reportTold zero d = Nothing
+reportTold (suc n) d = Arrived d
 
 -- "15, no such plan, then 42"
-abbrev pub planAnswerOf : PlanAnswer → CallAnswer
-planAnswerOf (Length n) = answerWith 0 n
-planAnswerOf NoSuchPlan = answerWith 15 0
-planAnswerOf Short = answerWith 42 0
+abbrev pub planAnswerOf : PlanOutcome → CallAnswer
+planAnswerOf (textLength n) = answerWith 0 n
+planAnswerOf (planRefused n) = answerWith n 0
 
 abbrev pub atOffset : ℕ → ℕ → ReadAnswer
 atOffset n o = record { number = n; offset = o; drone = 0; stop = 0; «other_drone» = 0; «other_stop» = 0 }
@@ -69,13 +66,13 @@ atOffset n o = record { number = n; offset = o; drone = 0; stop = 0; «other_dro
 abbrev pub atStops : ℕ → ℕ → ℕ → ℕ → ℕ → ReadAnswer
 atStops n d k e l = record { number = n; offset = 0; drone = d; stop = k; «other_drone» = e; «other_stop» = l }
 
--- "Refusals 1 to 6 carry a byte offset", "a refusal from the plan check says which drone and stop is at fault; 10 gives two of each"
-abbrev pub readAnswer : ReadingReply → ReadAnswer
-readAnswer taken = atOffset 0 0
-readAnswer (refusedBy n) = atOffset n 0
-readAnswer (refusedAt n o) = atOffset n o
-readAnswer (refusedStop n s) = atStops n (s .drone) (s .stop) 0 0
-readAnswer (refusedStops n s t) = atStops n (s .drone) (s .stop) (t .drone) (t .stop)
+-- "Refusals 1 to 6 carry a byte offset", "A refusal from the plan check says which drone and stop is at fault; 10 gives two of each"
+abbrev pub readAnswerOf : ReadingReply → ReadAnswer
+readAnswerOf taken = atOffset 0 0
+readAnswerOf (refusedBy n) = atOffset n 0
+readAnswerOf (refusedAt n o) = atOffset n o
+readAnswerOf (refusedStop n s) = atStops n (s .drone) (s .stop) 0 0
+readAnswerOf (refusedStops n s t) = atStops n (s .drone) (s .stop) (t .drone) (t .stop)
 
 -- an answer, field by field
 pub record Says (r w : CallAnswer) : Type 0 where
@@ -96,21 +93,21 @@ pub record SaysOfRead (r w : ReadAnswer) : Type 0 where
 
 -- on the tables t the call c was answered by r, and left the tables t′
 pub record CallTold (L : Limits) (t : Tables) (c : Call) (r : CallAnswer) (t′ : Tables) : Type 0 where
-  pub told : Says r (answerOf (step L t c .reply))
+  pub told : Says r (callAnswerOf (step L t c .reply))
   pub left : t′ ≡ step L t c .tables
 
 -- the writer replied r and left the buffer `after`
 pub record PlanTold (L : Limits) (t : Tables) (before after : List ℕ) (r : CallAnswer) : Type 0 where
-  pub told : Says r (writingAnswer (writes L t before))
+  pub told : Says r (writingAnswerOf (writes L t before))
   pub left : after ≡ bufferLeft L t before
 
 pub record ReadTold (a : ReadingAnswer) (r : ReadAnswer) (t : Tables) : Type 0 where
-  pub told : SaysOfRead r (readAnswer (a .reply))
+  pub told : SaysOfRead r (readAnswerOf (a .reply))
   pub left : t ≡ a .tables
 
 -- a press was answered by r and left the tables t′
 pub record PressTold (p : PressAnswer) (r : CallAnswer) (t′ : Tables) : Type 0 where
-  pub told : Says r (pressAnswer (p .reply))
+  pub told : Says r (pressAnswerOf (p .reply))
   pub left : t′ ≡ p .tables
 
 -- small plan k was asked for with a buffer, answered by r, and the buffer left as `after`

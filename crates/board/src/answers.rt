@@ -18,7 +18,7 @@ ghost use Rattle.flat.specs.TurnReplies.{turnMeant, turnAllMeant, previewMeant,
 ghost use Rattle.flat.specs.Writing.{writeMeant};
 ghost use Rattle.reading.specs.Replies.{refusalMeant, readingMeant};
 ghost use Rattle.handset.specs.Press.{pressMeant};
-ghost use Rattle.board.specs.Told.{pressAnswer, reportOf, Says, SaysOfChange, SaysOfRead, answerOf, changeAnswer, costAnswer, roundsAnswer, writingAnswer, readAnswer};
+ghost use Rattle.board.specs.Told.{pressAnswerOf, reportTold, Says, SaysOfChange, SaysOfRead, callAnswerOf, changeAnswerOf, costAnswerOf, roundsAnswerOf, writingAnswerOf, readAnswerOf};
 
 // The detail: the dependency of a 23, the cost, the rounds, the length of the text, the granted drones of a press; 0 with every other reply.
 #[repr(C)]
@@ -46,7 +46,7 @@ pub struct ReadAnswer {
 }
 
 pub fn of_grant(reply: GrantReply) -> CallAnswer
-    ensures { λ r. ⌜ Says r (answerOf (grantMeant reply)) ⌝ }
+    ensures { λ r. ⌜ Says r (callAnswerOf (grantMeant reply)) ⌝ }
 {
     match reply {
         GrantReply::Granted => CallAnswer {
@@ -81,7 +81,7 @@ pub fn of_grant(reply: GrantReply) -> CallAnswer
 }
 
 pub fn of_arrive(reply: ArriveReply) -> CallAnswer
-    ensures { λ r. ⌜ Says r (answerOf (arriveMeant reply)) ⌝ }
+    ensures { λ r. ⌜ Says r (callAnswerOf (arriveMeant reply)) ⌝ }
 {
     match reply {
         ArriveReply::Arrived => CallAnswer {
@@ -108,7 +108,7 @@ pub fn of_arrive(reply: ArriveReply) -> CallAnswer
 }
 
 pub fn of_turn(reply: TurnReply) -> CallAnswer
-    ensures { λ r. ⌜ Says r (answerOf (turnMeant reply)) ⌝ }
+    ensures { λ r. ⌜ Says r (callAnswerOf (turnMeant reply)) ⌝ }
 {
     match reply {
         TurnReply::Turned => CallAnswer {
@@ -143,7 +143,7 @@ pub fn of_turn(reply: TurnReply) -> CallAnswer
 }
 
 pub fn of_turn_all(reply: TurnAllReply) -> CallAnswer
-    ensures { λ r. ⌜ Says r (answerOf (turnAllMeant reply)) ⌝ }
+    ensures { λ r. ⌜ Says r (callAnswerOf (turnAllMeant reply)) ⌝ }
 {
     match reply {
         TurnAllReply::Turned => CallAnswer {
@@ -182,7 +182,7 @@ pub fn of_turn_all(reply: TurnAllReply) -> CallAnswer
 }
 
 pub fn of_preview(reply: PreviewReply) -> ChangeAnswer
-    ensures { λ r. ⌜ SaysOfChange r (changeAnswer (previewMeant reply)) ⌝ }
+    ensures { λ r. ⌜ SaysOfChange r (changeAnswerOf (previewMeant reply)) ⌝ }
 {
     match reply {
         PreviewReply::Change(change) => ChangeAnswer {
@@ -217,7 +217,7 @@ pub fn of_preview(reply: PreviewReply) -> ChangeAnswer
 }
 
 pub fn of_preview_all(reply: PreviewAllReply) -> ChangeAnswer
-    ensures { λ r. ⌜ SaysOfChange r (changeAnswer (previewAllMeant reply)) ⌝ }
+    ensures { λ r. ⌜ SaysOfChange r (changeAnswerOf (previewAllMeant reply)) ⌝ }
 {
     match reply {
         PreviewAllReply::Change(change) => ChangeAnswer {
@@ -256,7 +256,7 @@ pub fn of_preview_all(reply: PreviewAllReply) -> ChangeAnswer
 }
 
 pub fn of_cost(reply: CostAnswer) -> CallAnswer
-    ensures { λ r. ⌜ Says r (costAnswer (costMeant reply)) ⌝ }
+    ensures { λ r. ⌜ Says r (costAnswerOf (costMeant reply)) ⌝ }
 {
     match reply {
         CostAnswer::TablesTooSmall => CallAnswer {
@@ -275,7 +275,7 @@ pub fn of_cost(reply: CostAnswer) -> CallAnswer
 }
 
 pub fn of_rounds(reply: RoundsAnswer) -> CallAnswer
-    ensures { λ r. ⌜ Says r (roundsAnswer (roundsMeant reply)) ⌝ }
+    ensures { λ r. ⌜ Says r (roundsAnswerOf (roundsMeant reply)) ⌝ }
 {
     match reply {
         RoundsAnswer::TablesTooSmall => CallAnswer {
@@ -294,7 +294,7 @@ pub fn of_rounds(reply: RoundsAnswer) -> CallAnswer
 }
 
 pub fn of_write(reply: WriteReply) -> CallAnswer
-    ensures { λ r. ⌜ Says r (writingAnswer (writeMeant reply)) ⌝ }
+    ensures { λ r. ⌜ Says r (writingAnswerOf (writeMeant reply)) ⌝ }
 {
     match reply {
         WriteReply::TablesTooSmall => CallAnswer {
@@ -318,7 +318,7 @@ pub fn of_write(reply: WriteReply) -> CallAnswer
 
 // What was reported to the handset: an arrival of a drone, or nothing at 0.
 pub fn report_of(reported: usize, drone: usize) -> Report
-    ensures { λ r. ⌜ r ≡ reportOf reported drone ⌝ }
+    ensures { λ r. ⌜ r ≡ reportTold reported drone ⌝ }
 {
     if reported == 0 {
         return Report::Nothing;
@@ -327,7 +327,7 @@ pub fn report_of(reported: usize, drone: usize) -> Report
 }
 
 pub fn of_press(reply: PressReply) -> CallAnswer
-    ensures { λ r. ⌜ Says r (pressAnswer (pressMeant reply)) ⌝ }
+    ensures { λ r. ⌜ Says r (pressAnswerOf (pressMeant reply)) ⌝ }
 {
     match reply {
         PressReply::Granted(bits) => CallAnswer {
@@ -354,7 +354,7 @@ pub fn of_press(reply: PressReply) -> CallAnswer
 }
 
 fn of_refusal(refusal: Refusal) -> ReadAnswer
-    ensures { λ r. ⌜ SaysOfRead r (readAnswer (refusalMeant refusal)) ⌝ }
+    ensures { λ r. ⌜ SaysOfRead r (readAnswerOf (refusalMeant refusal)) ⌝ }
 {
     match refusal {
         Refusal::TablesTooSmall => ReadAnswer {
@@ -457,7 +457,7 @@ fn of_refusal(refusal: Refusal) -> ReadAnswer
 }
 
 pub fn of_reading(reading: Reading) -> ReadAnswer
-    ensures { λ r. ⌜ SaysOfRead r (readAnswer (readingMeant reading)) ⌝ }
+    ensures { λ r. ⌜ SaysOfRead r (readAnswerOf (readingMeant reading)) ⌝ }
 {
     match reading {
         Reading::Taken => ReadAnswer {

@@ -14,8 +14,9 @@ ghost use Rattle.log.specs.Calls.{costReply, roundsReply};
 ghost use Rattle.log.specs.Preview.{preview, previewAll};
 ghost use Rattle.reading.specs.Reading.{readPlan};
 ghost use Rattle.records.specs.Records.{tablesOfRecords};
+ghost use Rattle.conductor.specs.Changes.{reservedOf, ReservedAfter};
 ghost use Rattle.handset.specs.Press.{pressStep};
-ghost use Rattle.board.specs.Told.{CallTold, PlanTold, ReadTold, PressTold, reportOf, Says, SaysOfChange, changeAnswer, costAnswer, roundsAnswer};
+ghost use Rattle.board.specs.Told.{CallTold, PlanTold, ReadTold, PressTold, reportTold, Says, SaysOfChange, changeAnswerOf, costAnswerOf, roundsAnswerOf};
 
 // "Grant: the drone becomes under way when every dependency into its next stop has the awaited stop visited".
 #[no_mangle]
@@ -112,7 +113,11 @@ pub extern "C" fn board_turn(
         (now («drone_count» .entry)) (now («dependency_count» .entry)) (now (names .entry)) (now («stop_counts» .entry))
         (now (locations .entry)) (now (times .entry)) (now (visited .entry)) (now («drone_flags» .entry))
         (now (dependencies .exit))) ⌝ }
-    ensures { λ _. ⌜ drop (limits .dependencies) (now (dependencies .exit)) ≡ drop (limits .dependencies) (now (dependencies .entry)) ⌝ }
+    ensures { λ _.
+        ⌜
+        (drop (limits .dependencies) (now (dependencies .exit)) ≡ drop (limits .dependencies) (now (dependencies .entry)))
+        × (reservedOf (now (dependencies .exit)) ≡ reservedOf (now (dependencies .entry)))
+        ⌝ }
 {
     let reply = calls::turn(
         drone_count,
@@ -150,7 +155,11 @@ pub extern "C" fn board_turn_all(
         (now («drone_count» .entry)) (now («dependency_count» .entry)) (now (names .entry)) (now («stop_counts» .entry))
         (now (locations .entry)) (now (times .entry)) (now (visited .entry)) (now («drone_flags» .entry))
         (now (dependencies .exit))) ⌝ }
-    ensures { λ _. ⌜ drop (limits .dependencies) (now (dependencies .exit)) ≡ drop (limits .dependencies) (now (dependencies .entry)) ⌝ }
+    ensures { λ _.
+        ⌜
+        (drop (limits .dependencies) (now (dependencies .exit)) ≡ drop (limits .dependencies) (now (dependencies .entry)))
+        × (reservedOf (now (dependencies .exit)) ≡ reservedOf (now (dependencies .entry)))
+        ⌝ }
 {
     let reply = calls::turn_all(
         drone_count,
@@ -181,7 +190,7 @@ pub extern "C" fn board_preview(
     dependencies: &[Dependency],
     dependency: usize,
 ) -> ChangeAnswer
-    ensures { λ r. ⌜ SaysOfChange r (changeAnswer (preview limits (tablesOfRecords limits
+    ensures { λ r. ⌜ SaysOfChange r (changeAnswerOf (preview limits (tablesOfRecords limits
         (now («drone_count» .entry)) (now («dependency_count» .entry)) (now (names .entry)) (now («stop_counts» .entry))
         (now (locations .entry)) (now (times .entry)) (now (visited .entry)) (now («drone_flags» .entry))
         (now (dependencies .entry))) dependency)) ⌝ }
@@ -215,7 +224,7 @@ pub extern "C" fn board_preview_all(
     dependencies: &[Dependency],
     list: &[u16],
 ) -> ChangeAnswer
-    ensures { λ r. ⌜ SaysOfChange r (changeAnswer (previewAll limits (tablesOfRecords limits
+    ensures { λ r. ⌜ SaysOfChange r (changeAnswerOf (previewAll limits (tablesOfRecords limits
         (now («drone_count» .entry)) (now («dependency_count» .entry)) (now (names .entry)) (now («stop_counts» .entry))
         (now (locations .entry)) (now (times .entry)) (now (visited .entry)) (now («drone_flags» .entry))
         (now (dependencies .entry))) (now (list .entry)))) ⌝ }
@@ -248,7 +257,7 @@ pub extern "C" fn board_cost(
     drone_flags: &[u8],
     dependencies: &[Dependency],
 ) -> CallAnswer
-    ensures { λ r. ⌜ Says r (costAnswer (costReply limits (tablesOfRecords limits
+    ensures { λ r. ⌜ Says r (costAnswerOf (costReply limits (tablesOfRecords limits
         (now («drone_count» .entry)) (now («dependency_count» .entry)) (now (names .entry)) (now («stop_counts» .entry))
         (now (locations .entry)) (now (times .entry)) (now (visited .entry)) (now («drone_flags» .entry))
         (now (dependencies .entry))))) ⌝ }
@@ -280,7 +289,7 @@ pub extern "C" fn board_rounds(
     drone_flags: &[u8],
     dependencies: &[Dependency],
 ) -> CallAnswer
-    ensures { λ r. ⌜ Says r (roundsAnswer (roundsReply limits (tablesOfRecords limits
+    ensures { λ r. ⌜ Says r (roundsAnswerOf (roundsReply limits (tablesOfRecords limits
         (now («drone_count» .entry)) (now («dependency_count» .entry)) (now (names .entry)) (now («stop_counts» .entry))
         (now (locations .entry)) (now (times .entry)) (now (visited .entry)) (now («drone_flags» .entry))
         (now (dependencies .entry))))) ⌝ }
@@ -317,7 +326,7 @@ pub extern "C" fn board_press(
     ensures { λ r. ⌜ PressTold (pressStep limits (tablesOfRecords limits
         (now («drone_count» .entry)) (now («dependency_count» .entry)) (now (names .entry)) (now («stop_counts» .entry))
         (now (locations .entry)) (now (times .entry)) (now (visited .entry)) (now («drone_flags» .entry))
-        (now (dependencies .entry))) (reportOf reported drone)) r (tablesOfRecords limits
+        (now (dependencies .entry))) (reportTold reported drone)) r (tablesOfRecords limits
         (now («drone_count» .entry)) (now («dependency_count» .entry)) (now (names .entry)) (now («stop_counts» .entry))
         (now (locations .entry)) (now (times .entry)) (now (visited .exit)) (now («drone_flags» .exit))
         (now (dependencies .entry))) ⌝ }
@@ -393,7 +402,11 @@ pub extern "C" fn board_read(
         (now («drone_count» .exit)) (now («dependency_count» .exit)) (now (names .exit)) (now («stop_counts» .exit))
         (now (locations .exit)) (now (times .exit)) (now (visited .exit)) (now («drone_flags» .exit))
         (now (dependencies .exit))) ⌝ }
-    ensures { λ _. ⌜ drop (limits .dependencies) (now (dependencies .exit)) ≡ drop (limits .dependencies) (now (dependencies .entry)) ⌝ }
+    ensures { λ r.
+        ⌜
+        (drop (limits .dependencies) (now (dependencies .exit)) ≡ drop (limits .dependencies) (now (dependencies .entry)))
+        × ReservedAfter limits (r .number) (now (dependencies .entry)) (now (dependencies .exit))
+        ⌝ }
 {
     let reply = calls::read_plan(
         text,

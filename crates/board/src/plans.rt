@@ -2,10 +2,11 @@
 use crate::answers::CallAnswer;
 use small_plans::PlanAnswer;
 use small_plans::small_plan;
+ghost use Rattle.small_plans.specs.Asked.{planMeant};
 ghost use Rattle.board.specs.Told.{Says, SmallPlanTold, planAnswerOf};
 
 fn of_plan(reply: PlanAnswer) -> CallAnswer
-    ensures { λ r. ⌜ Says r (planAnswerOf reply) ⌝ }
+    ensures { λ r. ⌜ Says r (planAnswerOf (planMeant reply)) ⌝ }
 {
     match reply {
         PlanAnswer::Length(length) => CallAnswer {

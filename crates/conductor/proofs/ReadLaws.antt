@@ -1,69 +1,50 @@
 -- A reading whose columns came in zeroed: what it writes does not depend on what the records held, and where it writes nothing the records stay.
 --     read-stored    the answer over the lent records
+--     reserved-stored    and their reserved bytes
 -- Assumes nothing.
 use mathlib.Core.Path.{_≡_, refl, sym, ap, _∙_}
-use mathlib.Core.Bool.{Bool, true, false, cond}
+use mathlib.Core.Logic.{inl, inr}
+use mathlib.Core.Bool.{Bool, true, false, not, cond}
 use mathlib.Core.List.{List, map}
 use Prim.Native.Nat.{ℕ, _≤_, _<_}
 use native.Mathlib.Omega.{arith}
-use lib.Dec.{ltb, leb, eqb}
+use lib.Dec.{ltb, eqb}
 use lib.ListN.{length, take, length-map, length-take, drop-of-length-le}
-use Rattle.below.proofs.Tests.{by-cases, true-or-false}
+use borrow.Author.Tests.{ne-eqb}
+use Rattle.below.proofs.Tests.{or-left, by-cases, true-or-false}
 use Rattle.tables.specs.Limits.{Limits}
 use Rattle.tables.specs.Tables.{Tables, tablesOf, fullSize}
 use Rattle.tables.specs.Zero.{zeroed, zeroedTables}
 use Rattle.tables.specs.declared.entries.Dependency.{Dependency}
 use Rattle.tables.proofs.Zero.{zeroed-same}
-use Rattle.text.specs.LinesRead.{LinesRead, linesAt}
-use Rattle.text.specs.declared.reader.LinesAnswer.{LinesAnswer}
-use Rattle.text.specs.declared.reader.LinesAnswer.the-variants as text
-use Rattle.lines.specs.declared.refusal.Refusal.{Refusal as LineRefusal}
-use Rattle.lines.specs.declared.refusal.Refusal.the-variants as line
-use Rattle.plan.specs.declared.check.PlanCheck.{PlanCheck}
-use Rattle.plan.specs.declared.check.PlanCheck.the-variants as check
-use Rattle.plan.specs.Answers.{checkOf}
-use Rattle.plan.specs.Claims.{visitsIn}
-use Rattle.reading.specs.Replies.{ReadingReply, taken, refusedBy, readingNumber, lineMeant, checkMeant}
-use Rattle.reading.specs.Reading.{ReadingAnswer, AnsweredAs, withReply, total, withText, withDependencies, checked, fromLines, readLines, readPlan}
+use Rattle.reading.specs.Replies.{ReadingReply, refusedBy, readingNumber}
+use Rattle.reading.specs.Reading.{ReadingAnswer, AnsweredAs, readLines, readPlan}
 use Rattle.reading.proofs.EntryCases.{tables-small}
+use Rattle.reading.proofs.ReplyLaws.{lines-never}
 use Rattle.records.specs.Records.{ColumnSizes, ColumnsOf, gathered, storeIf, zeroRecords, seen, tablesOfRecords}
 use Rattle.records.proofs.ColumnLaws.{zero-length, column-sizes}
 use Rattle.records.proofs.Seen.{full-spread, tables-short, tables-stored}
-use Rattle.conductor.specs.Changes.{isWritten}
+use Rattle.conductor.specs.Changes.{isWritten, isUnchanged, reservedOf, ReservedAfter}
+use Rattle.conductor.proofs.Reserved.{reserved-zeroed}
 
--- ---- no line and no plan check answers 41
+-- ---- no line and no plan check answers 41 or 1
 
-abbrev is-41 : ReadingAnswer → Bool
-is-41 a = eqb (readingNumber (a .reply)) 41
+abbrev keeps : ReadingAnswer → Bool
+keeps a = isUnchanged (readingNumber (a .reply))
 
-line-not-41 : (r : LineRefusal) → eqb (readingNumber (lineMeant r)) 41 ≡ false
-line-not-41 (line.Form o) = refl
-line-not-41 (line.Name o) = refl
-line-not-41 (line.Range o) = refl
-line-not-41 (line.SameName o) = refl
-line-not-41 (line.TooManyStops o) = refl
+not-41 : (n : ℕ) → isUnchanged n ≡ false → not (eqb n 41) ≡ not (isUnchanged n)
+not-41 n w = ap not (or-left (eqb n 41) (eqb n 1) w ∙ sym w)
 
 module _ (L : Limits) where
-  built-not-41 : (z t : Tables) (b : Bool) → is-41 (cond b (withReply taken (withDependencies t)) (withReply (refusedBy 11) z)) ≡ false
-  built-not-41 z t true = refl
-  built-not-41 z t false = refl
+  read-writes : (bytes : List ℕ) (z : Tables) → keeps (readLines L bytes z) ≡ false
+  read-writes bytes z = rw (ne-eqb _ 41 (lines-never 41 (omega arith) (inr (omega arith)) L bytes z), ne-eqb _ 1 (lines-never 1 (omega arith) (inl (omega arith)) L bytes z)) refl
 
-  check-not-41 : (z t : Tables) (k : PlanCheck) → is-41 (checked L z t (checkMeant k)) ≡ false
-  check-not-41 z t check.Fine = built-not-41 z t (leb (total (t .plan)) (L .dependencies))
-  check-not-41 z t (check.StartsLate s) = refl
-  check-not-41 z t (check.NotRising s) = refl
-  check-not-41 z t (check.SameLocation s) = refl
-  check-not-41 z t (check.Collision s o) = refl
-
-  lines-not-41 : (z : Tables) (f : LinesRead LinesAnswer) (a : LinesAnswer) → is-41 (fromLines L z f a) ≡ false
-  lines-not-41 z f (text.Refused r) = line-not-41 r
-  lines-not-41 z f (text.WellFormed n) =
-      let p = withText f n z .plan in
-      check-not-41 z (withText f n z) (checkOf (visitsIn p))
-
-  read-not-41 : (bytes : List ℕ) (z : Tables) → is-41 (readLines L bytes z) ≡ false
-  unfolding readLines
-  read-not-41 bytes z = lines-not-41 z (linesAt L bytes) (linesAt L bytes .answer)
+  -- so the number of the reply tells whether a reading writes
+  number-tells : (bytes : List ℕ) (t : Tables) → isWritten L (length bytes) (readPlan L bytes t .reply) ≡ not (keeps (readPlan L bytes t))
+  unfolding readPlan
+  number-tells bytes t = by-cases (fullSize L t)
+      (λ f. by-cases (ltb (L .text) (length bytes)) (λ l. rw (f, l) refl) (λ l. rw (f, l) (not-41 (readingNumber (readLines L bytes (zeroedTables L t) .reply)) (read-writes bytes (zeroedTables L t)))))
+      (λ f. by-cases (ltb (L .text) (length bytes)) (λ l. rw (f, l) refl) (λ l. rw (f, l) refl))
 
   -- ---- two readings that differ only in what is zeroed
 
@@ -103,17 +84,21 @@ module _ (L : Limits) where
 
     read : fullSize L t₀ ≡ true → ltb (L .text) (length bytes) ≡ false → Twice Written
     read f l =
-        let not-41 : is-41 (readPlan L bytes t₀) ≡ false = ap is-41 (whole f l) ∙ read-not-41 bytes (zeroedTables L t₀) in
+        let writes : keeps (readPlan L bytes t₀) ≡ false = ap keeps (whole f l) ∙ read-writes bytes (zeroedTables L t₀) in
         record {
           answer = λ w. whole-same f l;
           reply = ap (λ (a : ReadingAnswer). a .reply) (whole-same f l);
-          kept = λ w. true-or-false (rw (l, not-41) refl) w;
+          kept = λ w. true-or-false (number-tells bytes t₀ ∙ ap not writes) w;
         }
 
     twice : Twice Written
     twice = by-cases (fullSize L t₀) (λ f. by-cases (ltb (L .text) (length bytes)) (long f) (read f)) small
 
   -- ---- the columns that came in zeroed, and those of the records
+
+  other-way : (u b : Bool) (x y : List ℕ) → b ≡ not u → cond b x y ≡ cond u y x
+  other-way true b x y e = rw e refl
+  other-way false b x y e = rw e refl
 
   seen-zeroed : (f : Dependency → ℕ) (ds : List Dependency) (column : List ℕ) → L .dependencies ≤ length ds → length column ≡ L .dependencies → zeroed (L .dependencies) column ≡ zeroed (L .dependencies) (map f (seen L ds))
   unfolding seen
@@ -171,3 +156,13 @@ module _ (L : Limits) where
           replied = a .replied ∙ both .reply;
           left = left-is b s a (w ∙ ap (isWritten L (length bytes)) (a .replied)) is;
         }
+
+        reserved-by : (b : Bool) → after ≡ storeIf L b (gathered L firstDrones′ firstStops′ secondDrones′ secondStops′ flags′) ds → reservedOf after ≡ cond b (zeroed (L .dependencies) (reservedOf ds)) (reservedOf ds)
+        unfolding storeIf
+        reserved-by true is = ap reservedOf is ∙ reserved-zeroed L firstDrones′ firstStops′ secondDrones′ secondStops′ flags′ ds l
+        reserved-by false is = ap reservedOf is
+
+        pub reserved-stored : (b : Bool) → AnsweredAs (readPlan L bytes Zeroed) r Left → b ≡ isWritten L (length bytes) r → after ≡ storeIf L b (gathered L firstDrones′ firstStops′ secondDrones′ secondStops′ flags′) ds → ReservedAfter L (readingNumber r) ds after
+        reserved-stored b a w is =
+            let tells : b ≡ not (isUnchanged (readingNumber r)) = w ∙ ap (isWritten L (length bytes)) (a .replied) ∙ number-tells bytes Zeroed ∙ ap (λ (x : ReadingReply). not (isUnchanged (readingNumber x))) (sym (a .replied)) in
+            reserved-by b is ∙ other-way (isUnchanged (readingNumber r)) b (zeroed (L .dependencies) (reservedOf ds)) (reservedOf ds) tells

@@ -1,10 +1,26 @@
--- Which readings change the lent tables (document 01, "Where each refusal is checked"). Assumes nothing.
-use mathlib.Core.Bool.{Bool, not, _&&_}
+-- What a reading changes of the lent tables, and the reserved bytes of the records afterwards (document 01, "Where each refusal is checked"). Assumes nothing.
+use mathlib.Core.Path.{_≡_}
+use mathlib.Core.Bool.{Bool, not, cond, _&&_, _||_}
+use mathlib.Core.List.{List, map}
 use Prim.Native.Nat.{ℕ}
 use lib.Dec.{ltb, eqb}
 use Rattle.tables.specs.Limits.{Limits}
+use Rattle.tables.specs.Zero.{zeroed}
+use Rattle.tables.specs.declared.entries.Dependency.{Dependency}
 use Rattle.reading.specs.Replies.{ReadingReply, readingNumber}
 
--- "every entry, first: 41: unchanged"; "reading, before any line: 1 text too long: unchanged". Every other reading of a text of n bytes writes all
+-- 41 and 1 leave the tables "unchanged". Every other reading of a text of n bytes writes all
 abbrev pub isWritten : Limits → ℕ → ReadingReply → Bool
 isWritten L n r = not (ltb (L .text) n) && not (eqb (readingNumber r) 41)
+
+-- the readings that write nothing, by the number of the reply alone: of the replies of `readPlan` the two tests say the same
+abbrev pub isUnchanged : (number : ℕ) → Bool
+isUnchanged number = eqb number 41 || eqb number 1
+
+-- the eighth byte of each record, which is none of the five fields of document 01
+abbrev pub reservedOf : List Dependency → List ℕ
+reservedOf ds = map (λ (d : Dependency). d .reserved) ds
+
+-- the reserved byte of every record after a reading that replied with this number: as before at 41 and 1; else zero in the records of the full size, and as before past it
+abbrev pub ReservedAfter : Limits → (number : ℕ) → (before after : List Dependency) → Type 0
+ReservedAfter L number before after = reservedOf after ≡ cond (isUnchanged number) (reservedOf before) (zeroed (L .dependencies) (reservedOf before))

@@ -29,12 +29,13 @@ ghost use Rattle.tables.specs.Limits.{limits};
 ghost use Rattle.log.specs.CallLog.{grant as grantOf, arrive as arriveOf, turn as turnOf, turnAll as turnAllOf, isAccepted};
 ghost use Rattle.log.specs.Calls.{step, Answered, costReply, roundsReply};
 ghost use Rattle.log.specs.Preview.{preview as previewOf, previewAll as previewAllOf};
-ghost use Rattle.reading.specs.Replies.{readingMeant};
+ghost use Rattle.reading.specs.Replies.{readingNumber, readingMeant};
 ghost use Rattle.reading.specs.Reading.{AnsweredAs, readPlan};
 ghost use Rattle.flat.specs.Replies.{grantMeant, arriveMeant};
 ghost use Rattle.flat.specs.TurnReplies.{turnMeant, turnAllMeant, previewMeant, previewAllMeant, costMeant, roundsMeant};
 ghost use Rattle.flat.specs.Writing.{writeMeant, PlanWritten};
 ghost use Rattle.records.specs.Records.{flipIf, flipAllIf, tablesOfRecords};
+ghost use Rattle.conductor.specs.Changes.{ReservedAfter};
 
 // "Grant: the drone becomes under way when every dependency into its next stop has the awaited stop visited".
 pub fn grant(
@@ -636,7 +637,11 @@ pub fn read_plan(
         (now (locations .exit)) (now (times .exit)) (now (visited .exit)) (now («drone_flags» .exit))
         (now (dependencies .exit)))
         ⌝ }
-    ensures { λ _. ⌜ drop (limits .dependencies) (now (dependencies .exit)) ≡ drop (limits .dependencies) (now (dependencies .entry)) ⌝ }
+    ensures { λ r.
+        ⌜
+        (drop (limits .dependencies) (now (dependencies .exit)) ≡ drop (limits .dependencies) (now (dependencies .entry)))
+        × ReservedAfter limits (readingNumber (readingMeant r)) (now (dependencies .entry)) (now (dependencies .exit))
+        ⌝ }
 {
     if below_full(dependencies.len()) {
         return Reading::Refused(Refusal::TablesTooSmall);

@@ -16,18 +16,18 @@ use Rattle.precedence.proofs.Rounds.{finished-at, finished-if, somebody-free}
 use Rattle.precedence.proofs.Visits.{acyclic-iff, never, walk-entered}
 use Rattle.precedence.proofs.Ahead.{finished-ahead, fewer-refl}
 use Rattle.cycles.specs.Flat.{PlacedWaits}
-use Rattle.cycles.specs.Walk.{Course, planOf, progress, Reached, Begun, Walked}
+use Rattle.cycles.specs.Walk.{Course, coursePlan, progress, WithinRounds, Begun, Walked}
 use Rattle.cycles.proofs.Placed.{formed}
 
 module _ (P : Plan) (formed : Formed P) where
   open Plan P using (drones, last)
 
-  reached-start : (p : ℕ → ℕ) → ((d : ℕ) → d < drones → p d ≡ 0) → Reached P p
+  reached-start : (p : ℕ → ℕ) → ((d : ℕ) → d < drones → p d ≡ 0) → WithinRounds P p
   unfolding play
   reached-start p z = (0, λ d l. omega (arith, z d l))
 
   -- nobody on a cycle is ever at its last stop
-  reached-finished : (p : ℕ → ℕ) → Reached P p → finished P p ≡ true → cyclic P ≡ false
+  reached-finished : (p : ℕ → ℕ) → WithinRounds P p → finished P p ≡ true → cyclic P ≡ false
   unfolding Cycle
   reached-finished p (k, a) e = acyclic-iff P formed .1 (λ (v, w). omega (arith, never P formed w k, walk-entered P formed w .2, finished-at P (play P atStart k) (finished-ahead P P formed (fewer-refl P) p (play P atStart k) a e) (v .drone) (walk-entered P formed w .0)))
 
@@ -37,7 +37,7 @@ module _ (P : Plan) (formed : Formed P) where
       let (l, f) = somebody-free P formed p (acyclic-iff P formed .0 c) e in
       true-or-false f (none (firstBelow drones (free P p)) l))
 
-  none-free : (p : ℕ → ℕ) → Reached P p → ((d : ℕ) → d < drones → free P p d ≡ false) → not (finished P p) ≡ cyclic P
+  none-free : (p : ℕ → ℕ) → WithinRounds P p → ((d : ℕ) → d < drones → free P p d ≡ false) → not (finished P p) ≡ cyclic P
   none-free p r none = by-cases (finished P p)
       (λ e. rw e (sym (reached-finished p r e)))
       (λ e. by-cases (cyclic P) (λ c. rw (e, c) refl) (λ c. true-or-false (stuck-finished p none c) e))
@@ -45,7 +45,7 @@ module _ (P : Plan) (formed : Formed P) where
 module _ (C : Course) (placed : PlacedWaits (C .own) (C .off) (C .last) (C .drones) (C .stops) (C .from) (C .into) (C .waits)) where
   open Course C using (own, off, last, drones, stops, from, into, waits)
 
-  abbrev P-formed : Formed (planOf C)
+  abbrev P-formed : Formed (coursePlan C)
   P-formed = formed own off last drones stops from into waits placed
 
   -- a walk can begin at the first stops
@@ -58,16 +58,16 @@ module _ (C : Course) (placed : PlacedWaits (C .own) (C .off) (C .last) (C .dron
   }
 
   module _ {L : Limits} {leg : ℕ → ℕ} {b : ℕ} {start cur t : List ℕ} (W : Walked L C leg b start cur t) where
-    finished-flat : allBelow drones (λ d. leb (off d + last d) (at cur d)) ≡ finished (planOf C) (progress C cur)
+    finished-flat : allBelow drones (λ d. leb (off d + last d) (at cur d)) ≡ finished (coursePlan C) (progress C cur)
     finished-flat = same-test _ _
-        (λ e. finished-if (planOf C) (progress C cur) (λ d l. omega (arith, W .places .low d l, leb-true (off d + last d) (at cur d) (allBelow-at drones (λ d. leb (off d + last d) (at cur d)) e d l))))
-        (λ e. allBelow-all drones _ (λ d l. le-leb (off d + last d) (at cur d) (omega (arith, W .places .low d l, finished-at (planOf C) (progress C cur) e d l))))
+        (λ e. finished-if (coursePlan C) (progress C cur) (λ d l. omega (arith, W .places .low d l, leb-true (off d + last d) (at cur d) (allBelow-at drones (λ d. leb (off d + last d) (at cur d)) e d l))))
+        (λ e. allBelow-all drones _ (λ d l. le-leb (off d + last d) (at cur d) (omega (arith, W .places .low d l, finished-at (coursePlan C) (progress C cur) e d l))))
 
-    pub walked-cyclic : ((d : ℕ) → d < drones → at start d ≡ off d) → not (allBelow drones (λ d. leb (off d + last d) (at cur d))) ≡ cyclic (planOf C)
-    walked-cyclic s = ap not finished-flat ∙ none-free (planOf C) P-formed (progress C cur) (W .places .reached (reached-start (planOf C) P-formed (progress C start) (λ d l. omega (arith, s d l)))) (W .none-free)
+    pub walked-cyclic : ((d : ℕ) → d < drones → at start d ≡ off d) → not (allBelow drones (λ d. leb (off d + last d) (at cur d))) ≡ cyclic (coursePlan C)
+    walked-cyclic s = ap not finished-flat ∙ none-free (coursePlan C) P-formed (progress C cur) (W .places .reached (reached-start (coursePlan C) P-formed (progress C start) (λ d l. omega (arith, s d l)))) (W .none-free)
 
     -- without a cycle every stop is visited
-    pub walked-all : cyclic (planOf C) ≡ false → (v : ℕ) → v < stops → v ≤ at cur (own v)
+    pub walked-all : cyclic (coursePlan C) ≡ false → (v : ℕ) → v < stops → v ≤ at cur (own v)
     walked-all c v l =
         let o : own v < drones = placed .shape .own-in v l in
-        omega (arith, placed .shape .number-in v l, W .places .low (own v) o, finished-at (planOf C) (progress C cur) (stuck-finished (planOf C) P-formed (progress C cur) (W .none-free) c) (own v) o)
+        omega (arith, placed .shape .number-in v l, W .places .low (own v) o, finished-at (coursePlan C) (progress C cur) (stuck-finished (coursePlan C) P-formed (progress C cur) (W .none-free) c) (own v) o)

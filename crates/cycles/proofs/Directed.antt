@@ -16,8 +16,8 @@ use Rattle.precedence.specs.Graph.{Fewer, Rising, cyclic}
 use Rattle.precedence.proofs.Ahead.{cyclic-fewer}
 use Rattle.precedence.proofs.Visits.{rising-acyclic, acyclic-iff}
 use Rattle.cycles.specs.Flat.{flatPlan, Shape, PlacedWaits, FlatTables}
-use Rattle.cycles.specs.Waits.{fromOf, intoOf, turnedIn, Edges, Unfixed, graphSound, Given}
-use Rattle.plan.specs.Visits.{Visits, visits, visitsOf}
+use Rattle.cycles.specs.Waits.{fromOf, intoOf, turnedIn, Edges, UnfixedTurns, graphSound, Given}
+use Rattle.plan.specs.Visits.{Visits, visitsWith, visitsOf}
 use Rattle.plan.specs.Dependencies.{right}
 use Rattle.meetings.specs.Meetings.{Steady}
 use Rattle.meetings.proofs.Right.{Entry, right-entry}
@@ -30,7 +30,7 @@ turned-more f k c x t e q p = by-cases (f k)
     (λ h. rw (count-no k f h) (let z : x ≡ 0 = rw (q, h) at p in omega arith))
 
 module _ (own num off last loc time : ℕ → ℕ) (drones n m : ℕ) (xs ys : ℕ → ℕ) (turned : ℕ → Bool) where
-  pub right-placed : Shape own off last drones n → Steady own loc time n → ((v : ℕ) → v < n → v ≡ off (own v) → time v ≡ 0) → right (visits own num loc time n) m xs ys ≡ true → Unfixed own off n m xs ys turned
+  pub right-placed : Shape own off last drones n → Steady own loc time n → ((v : ℕ) → v < n → v ≡ off (own v) → time v ≡ 0) → right (visitsWith own num loc time n) m xs ys ≡ true → UnfixedTurns own off n m xs ys turned
       → PlacedWaits own off last drones n (fromOf xs ys turned) (intoOf xs ys turned) m
   right-placed shape steady zero-time e unfixed = record {
     shape = shape;

@@ -14,7 +14,7 @@ use Rattle.below.proofs.Tests.{by-cases, and-right, and-both, same-test}
 use Rattle.below.proofs.Count.{count-none, count-zero, count-past}
 use Rattle.below.proofs.Greatest.{max-ext, max-least}
 use Rattle.tables.specs.Limits.{Limits}
-use Rattle.cycles.specs.Walk.{Course, metAt, metFrom, unmet, latestMet, Needs}
+use Rattle.cycles.specs.Walk.{Course, metAt, metFrom, unmetInto, latestMet, Needs}
 use Rattle.below.proofs.Same.{count-ext}
 use Rattle.below.proofs.Changes.{count-drop, max-raise}
 
@@ -86,23 +86,23 @@ module _ (C : Course) where
   -- ---- how many are not met
 
   pub needs-same : {L : Limits} (met met′ : ℕ → Bool) {need : List ℕ} → ((k : ℕ) → k < waits → met k ≡ met′ k) → Needs L C met need → Needs L C met′ need
-  unfolding unmet
+  unfolding unmetInto
   needs-same met met′ same N = record { size = N .size; counted = λ v l. N .counted v l ∙ count-ext waits _ _ (λ k h. ap (λ (b : Bool). eqb (into k) v && not b) (same k h)) }
 
   module _ {L : Limits} {met : ℕ → Bool} {need : List ℕ} (N : Needs L C met need) where
     -- nothing keeps anybody from stop v
     pub needs-none : (v : ℕ) → v < stops → at need v ≡ 0 → (k : ℕ) → k < waits → into k ≡ v → met k ≡ true
-    unfolding unmet
+    unfolding unmetInto
     needs-none v l z k h e =
         let q : (eqb (into k) v && not (met k)) ≡ false = count-none waits (λ k. eqb (into k) v && not (met k)) (sym (N .counted v l) ∙ z) k h in
         not-false _ (rw (eq-eqb (into k) v e) at q)
 
     pub needs-zero : (v : ℕ) → v < stops → ((k : ℕ) → k < waits → into k ≡ v → met k ≡ true) → at need v ≡ 0
-    unfolding unmet
+    unfolding unmetInto
     needs-zero v l h = N .counted v l ∙ count-zero waits _ (λ k i. by-cases (eqb (into k) v) (λ e. rw (e, h k i (eqb-true _ _ e)) refl) (λ e. rw e refl))
 
     pub needs-some : (j : ℕ) → j < waits → into j < stops → met j ≡ false → 1 ≤ at need (into j)
-    unfolding unmet
+    unfolding unmetInto
     needs-some j l i e = omega (arith, N .counted (into j) i, count-past j waits (λ k. eqb (into k) (into j) && not (met k)) l (and-both _ _ (eq-eqb (into j) (into j) refl) (ap not e)))
 
   -- wait j is met
@@ -110,15 +110,15 @@ module _ (C : Course) where
     pub met-keeps : (k : ℕ) → k < waits → met k ≡ true → met′ k ≡ true
     met-keeps k h e = by-cases (eqb k j) (λ s. rw (eqb-true k j s) now) (λ s. sym (others k h (eqb-false k j s)) ∙ e)
 
-    unmet-falls : unmet into waits met (into j) ≡ unmet into waits met′ (into j) + 1
-    unfolding unmet
+    unmet-falls : unmetInto into waits met (into j) ≡ unmetInto into waits met′ (into j) + 1
+    unfolding unmetInto
     unmet-falls = count-drop waits _ _ j l
         (and-both _ _ (eq-eqb (into j) (into j) refl) (ap not was))
         (rw (eq-eqb (into j) (into j) refl, now) refl)
         (λ k h ne. ap (λ (b : Bool). eqb (into k) (into j) && not b) (others k h ne))
 
-    unmet-stays : (v : ℕ) → v ≢ into j → unmet into waits met v ≡ unmet into waits met′ v
-    unfolding unmet
+    unmet-stays : (v : ℕ) → v ≢ into j → unmetInto into waits met v ≡ unmetInto into waits met′ v
+    unfolding unmetInto
     unmet-stays v ne = count-ext waits _ _ (λ k h. by-cases (eqb k j)
         (λ s. let z : k ≡ j = eqb-true k j s in let no : eqb (into j) v ≡ false = ne-eqb (into j) v (λ q. ne (sym q)) in rw (z, no) refl)
         (λ s. ap (λ (b : Bool). eqb (into k) v && not b) (others k h (eqb-false k j s))))

@@ -14,7 +14,7 @@ use Rattle.below.proofs.Tests.{by-cases}
 use Rattle.below.proofs.Count.{count-start, count-yes, count-no, count-le}
 use Rattle.tables.specs.Limits.{Limits}
 use Rattle.cycles.specs.Flat.{FlatTables}
-use Rattle.cycles.specs.Walk.{metAt, unmet, canMove, Stacked, Ends}
+use Rattle.cycles.specs.Walk.{metAt, unmetInto, canMove, Stacked, Ends}
 use Rattle.cycles.proofs.StackLaws.{stacked-none, stacked-same, stacked-push}
 
 pub flat-ends : {L : Limits} (owners starts lasts : List ℕ) (drones n : ℕ) (from into : List ℕ) (m : ℕ) → FlatTables L owners starts lasts drones n from into m → (k : ℕ) → k < m → Ends L owners (at from k) (at into k)
@@ -34,21 +34,21 @@ module _ (L : Limits) (into : ℕ → ℕ) (met : ℕ → Bool) where
   -- the unmet ones of the first k waits are counted
   pub record Counted (k : ℕ) (need : List ℕ) : Type 0 where
     pub size : length need ≡ L .stops
-    pub counts : (v : ℕ) → v < L .stops → at need v ≡ unmet into k met v
+    pub counts : (v : ℕ) → v < L .stops → at need v ≡ unmetInto into k met v
 
   pub counted-none : (need : List ℕ) → length need ≡ L .stops → ((v : ℕ) → at need v ≡ 0) → Counted 0 need
-  unfolding unmet
+  unfolding unmetInto
   counted-none need e z = record { size = e; counts = λ v l. z v ∙ sym (count-start (λ k. eqb (into k) v && not (met k))) }
 
-  unmet-le : (k v : ℕ) → unmet into k met v ≤ k
-  unfolding unmet
+  unmet-le : (k v : ℕ) → unmetInto into k met v ≤ k
+  unfolding unmetInto
   unmet-le k v = count-le k (λ k. eqb (into k) v && not (met k))
 
   pub counted-le : {k : ℕ} {need : List ℕ} → Counted k need → (v : ℕ) → v < L .stops → at need v ≤ k
   counted-le {k} N v l = omega (arith, N .counts v l, unmet-le k v)
 
   pub counted-more : (k : ℕ) (need : List ℕ) (v x y : ℕ) → Counted k need → v ≡ into k → v < L .stops → x ≡ pick (met k) 0 1 → y ≡ at need v + x → Counted (k + 1) (set need v y)
-  unfolding unmet
+  unfolding unmetInto
   counted-more k need v x y N e l ex ey = record {
     size = length-set need v y ∙ N .size;
     counts = λ u h. by-cases (eqb u v)

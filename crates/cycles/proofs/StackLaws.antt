@@ -9,7 +9,7 @@ use lib.Dec.{ltb, eqb}
 use lib.ListN.{length, set, length-set}
 use lib.Seq.{getD-set-same, getD-set-other}
 use borrow.Author.Tests.{ltb-true, ltb-false, eqb-true, eqb-false, eq-eqb, ne-eqb}
-use Rattle.below.specs.Below.{at, pick, put, countBelow}
+use Rattle.below.specs.Below.{at, pick, update, countBelow}
 use Rattle.below.proofs.Tests.{by-cases, true-or-false}
 use Rattle.below.proofs.Count.{count-start, count-yes, count-no, count-past}
 use Rattle.below.proofs.Greatest.{pigeonhole}
@@ -64,18 +64,18 @@ module _ {L : Limits} (drones : ℕ) where
     stacked-room c l e = by-cases (ltb top drones)
         (λ t. ltb-true _ _ t)
         (λ t. let h : drones ≤ top = ltb-false top drones t in
-        let (i, j, a, b, q) = pigeonhole drones (put (at stack) drones c) (inside h) in
+        let (i, j, a, b, q) = pigeonhole drones (update (at stack) drones c) (inside h) in
         absurd (apart h i j a b q))
       where
-        inside : drones ≤ top → (i : ℕ) → i ≤ drones → put (at stack) drones c i < drones
+        inside : drones ≤ top → (i : ℕ) → i ≤ drones → update (at stack) drones c i < drones
         inside h i k = by-cases (eqb i drones)
             (λ s. let z : i ≡ drones = eqb-true i drones s in rw (z, put-same (at stack) drones c) l)
             (λ s. let z : i ≢ drones = eqb-false i drones s in rw (put-other (at stack) drones c i z) (S .within i (omega arith)))
 
-        apart : drones ≤ top → (i j : ℕ) → i < j → j ≤ drones → put (at stack) drones c i ≡ put (at stack) drones c j → ⊥
+        apart : drones ≤ top → (i j : ℕ) → i < j → j ≤ drones → update (at stack) drones c i ≡ update (at stack) drones c j → ⊥
         apart h i j a b q = by-cases (eqb j drones)
             (λ s. let z : j ≡ drones = eqb-true j drones s in
-            stacked-off c l e i (omega arith) (sym (put-other (at stack) drones c i (λ w. omega arith)) ∙ q ∙ ap (put (at stack) drones c) z ∙ put-same (at stack) drones c))
+            stacked-off c l e i (omega arith) (sym (put-other (at stack) drones c i (λ w. omega arith)) ∙ q ∙ ap (update (at stack) drones c) z ∙ put-same (at stack) drones c))
             (λ s. let z : j ≢ drones = eqb-false j drones s in
             stacked-apart i j a (omega arith) (sym (put-other (at stack) drones c i (λ w. omega arith)) ∙ q ∙ put-other (at stack) drones c j z))
 

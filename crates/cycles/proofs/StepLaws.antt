@@ -11,8 +11,8 @@ use Rattle.below.specs.Below.{at, pick, lastBelow}
 use Rattle.below.proofs.Tests.{by-cases}
 use Rattle.tables.specs.Limits.{Limits}
 use Rattle.cycles.specs.Flat.{PlacedWaits}
-use Rattle.cycles.specs.Links.{Linked}
-use Rattle.cycles.specs.Walk.{Course, left, metAt, metFrom, canMove, Walking, Meeting, Advanced, Wakes, Met}
+use Rattle.cycles.specs.Links.{LinkedWaits}
+use Rattle.cycles.specs.Walk.{Course, left, metAt, metFrom, canMove, Walking, MeetingWaits, Advanced, Wakes, OneMet}
 use Rattle.below.proofs.Links.{last-le, last-found, last-above}
 use Rattle.cycles.proofs.MetLaws.{met-end, met-skip, met-before, met-now, met-others, needs-some}
 use Rattle.cycles.proofs.WalkLaws.{mover-in, mover-next, own-next, here, left-falls, walking-move, walking-same, walking-quiet, walking-wake}
@@ -24,7 +24,7 @@ module _ {L : Limits} (C : Course) (placed : PlacedWaits (C .own) (C .off) (C .l
 
   module _ {leg : ℕ → ℕ} {g b : ℕ} {start cur : List ℕ} {v : ℕ} {need stack : List ℕ} {top : ℕ} {t : List ℕ} where
     -- from wait x on, link is one more than the next wait for v below it
-    meeting-at : (x link : ℕ) → x ≤ waits → link ≡ lastBelow x (λ k. eqb (from k) v) → v < stops → v ≤ at cur (own v) → Walking L C leg g b start (metFrom C (at cur) v x) cur need stack top t → Meeting L C leg g b start cur v link need stack top t
+    meeting-at : (x link : ℕ) → x ≤ waits → link ≡ lastBelow x (λ k. eqb (from k) v) → v < stops → v ≤ at cur (own v) → Walking L C leg g b start (metFrom C (at cur) v x) cur need stack top t → MeetingWaits L C leg g b start cur v link need stack top t
     meeting-at x link h e i s W = record {
       walking = walking-same C placed _ _ (λ k l. met-skip C (at cur) v x link (omega (arith, last-le x (λ k. eqb (from k) v))) (λ k a b. last-above x (λ k. eqb (from k) v) k (omega arith) b) k) W;
       stop-in = i;
@@ -34,12 +34,12 @@ module _ {L : Limits} (C : Course) (placed : PlacedWaits (C .own) (C .off) (C .l
     }
 
     -- no wait is left
-    pub meeting-end : {link : ℕ} → link ≡ 0 → Meeting L C leg g b start cur v link need stack top t → Walking L C leg g b start (metAt own from (at cur)) cur need stack top t
+    pub meeting-end : {link : ℕ} → link ≡ 0 → MeetingWaits L C leg g b start cur v link need stack top t → Walking L C leg g b start (metAt own from (at cur)) cur need stack top t
     meeting-end {link} e M = walking-same C placed _ _ (λ k l. met-end C (at cur) v (M .seen) k) (subst (λ (x : ℕ). Walking L C leg g b start (metFrom C (at cur) v x) cur need stack top t) e (M .walking))
 
   module _ {leg : ℕ → ℕ} {g b : ℕ} {start cur : List ℕ} {v : ℕ} {need stack : List ℕ} {top : ℕ} {t : List ℕ} where
     -- the next one is met
-    module _ {link : ℕ} (M : Meeting L C leg g b start cur v link need stack top t) (open-link : link ≢ 0) (w : ℕ) (ew : w ≡ into (link - 1)) where
+    module _ {link : ℕ} (M : MeetingWaits L C leg g b start cur v link need stack top t) (open-link : link ≢ 0) (w : ℕ) (ew : w ≡ into (link - 1)) where
       k : ℕ
       k = link - 1
 
@@ -86,7 +86,7 @@ module _ {L : Limits} (C : Course) (placed : PlacedWaits (C .own) (C .off) (C .l
         pub waiter-room : (at need w ≡ 1) × (at cur (own w) + 1 ≡ w) → top < L .drones
         waiter-room (a, b) = waking b (omega arith) .0
 
-        module _ (owners : List ℕ) (eo : at owners w ≡ own w) {need′ stack′ t′ : List ℕ} {r : ℕ} (met : Met owners cur w entry top need need′ stack stack′ t t′ r) where
+        module _ (owners : List ℕ) (eo : at owners w ≡ own w) {need′ stack′ t′ : List ℕ} {r : ℕ} (met : OneMet owners cur w entry top need need′ stack stack′ t t′ r) where
           after : Walking L C leg g b start (metFrom C (at cur) v k) cur need′ stack′ r t′
           after = rw (met .need-is, met .table-is) (by-cases (eqb (at need w) 1)
               (λ a. by-cases (eqb (at cur (own w) + 1) w)
@@ -98,12 +98,12 @@ module _ {L : Limits} (C : Course) (placed : PlacedWaits (C .own) (C .off) (C .l
               let ne : at need w ≢ 1 = eqb-false _ _ a in
               rw (met .quiet q .0, met .quiet q .1) (quietly (λ h z. ne (omega (arith, waiter-needs))))))
 
-          pub meeting-more : (head next : List ℕ) → Linked L from waits head next → (link′ : ℕ) → link′ ≡ at next (link - 1) → Meeting L C leg g b start cur v link′ need′ stack′ r t′
+          pub meeting-more : (head next : List ℕ) → LinkedWaits L from waits head next → (link′ : ℕ) → link′ ≡ at next (link - 1) → MeetingWaits L C leg g b start cur v link′ need′ stack′ r t′
           unfolding k
           meeting-more head next K link′ el = meeting-at k link′ (omega (arith, k-in)) (el ∙ K .nexts k k-in ∙ ap (λ (x : ℕ). lastBelow k (λ j. eqb (from j) x)) k-for) (M .stop-in) (M .seen) after
 
   -- the links fall
-  pub meeting-falls : {leg : ℕ → ℕ} {g b : ℕ} {start cur : List ℕ} {v link : ℕ} {need stack : List ℕ} {top : ℕ} {t : List ℕ} → Meeting L C leg g b start cur v link need stack top t → 0 < link → (head next : List ℕ) → Linked L from waits head next → at next (link - 1) < link
+  pub meeting-falls : {leg : ℕ → ℕ} {g b : ℕ} {start cur : List ℕ} {v link : ℕ} {need stack : List ℕ} {top : ℕ} {t : List ℕ} → MeetingWaits L C leg g b start cur v link need stack top t → 0 < link → (head next : List ℕ) → LinkedWaits L from waits head next → at next (link - 1) < link
   meeting-falls {link = link} M h head next K = omega (arith, K .nexts (link - 1) (omega (arith, M .within)), last-le (link - 1) (λ j. eqb (from j) (from (link - 1))))
 
   -- ---- a drone advances
@@ -132,5 +132,5 @@ module _ {L : Limits} (C : Course) (placed : PlacedWaits (C .own) (C .off) (C .l
       moved = rw (A .cur-is, A .table-is) (walking-move C placed legs few few-drones W room d v (leg v + max (at t v) (at t (v - 1))) ed (A .at-next) refl r (rw (A .cur-is) at er))
 
       -- the first of the waits for its stop
-      pub advance-meeting : (head next : List ℕ) → Linked L from waits head next → (link : ℕ) → link ≡ at head v → Meeting L C leg g b start cur′ v link need stack r t′
+      pub advance-meeting : (head next : List ℕ) → LinkedWaits L from waits head next → (link : ℕ) → link ≡ at head v → MeetingWaits L C leg g b start cur′ v link need stack r t′
       advance-meeting head next K link el = meeting-at waits link (omega arith) (el ∙ K .heads v (omega (arith, advance-stop))) advance-stop advance-seen moved

@@ -2,7 +2,7 @@
 use mathlib.Core.Path.{_≡_, refl, sym, ap, _∙_, subst}
 use mathlib.Core.Logic.{_≢_}
 use mathlib.Core.List.{List}
-use mathlib.Core.Bool.{Bool, true, false, not}
+use mathlib.Core.Bool.{Bool, true, false}
 use Prim.Native.Nat.{ℕ, suc, _+_, _*_, _-_, _≤_, _<_, max}
 use native.Mathlib.Nat.{mul-le-mul-left, mul-suc}
 use native.Mathlib.Omega.{arith}
@@ -18,13 +18,13 @@ use Rattle.precedence.specs.Graph.{Plan, Formed, free, play, atStart}
 use Rattle.precedence.proofs.Rounds.{round-free, round-le, free-unfinished, free-if, free-open}
 use Rattle.precedence.proofs.Ahead.{round-ahead, fewer-refl}
 use Rattle.cycles.specs.Flat.{PlacedWaits}
-use Rattle.cycles.specs.Walk.{Course, planOf, progress, left, Reached, metAt, metFrom, latestMet, canMove, Stacked, RoundTable, Places, Needs, Entries, Walking, Begun, Walked}
+use Rattle.cycles.specs.Walk.{Course, coursePlan, progress, left, WithinRounds, metAt, metFrom, latestMet, canMove, Stacked, RoundTable, Places, Needs, Entries, Walking, Begun, Walked}
 use Rattle.cycles.proofs.Placed.{formed}
 use Rattle.cycles.proofs.StackLaws.{stacked-same, stacked-empty, stacked-at, stacked-room, stacked-push, stacked-pop}
 use Rattle.cycles.proofs.MetLaws.{met-is, is-met, met-moved, met-keeps, needs-same, needs-none, needs-zero, needs-meet, latest-raised, latest-stays, latest-same, latest-all, latest-zero}
 
 -- a free drone goes on by one stop
-reached-move : (P : Plan) → Formed P → (p q : ℕ → ℕ) (d : ℕ) → Reached P p → free P p d ≡ true → q d ≡ suc (p d) → ((c : ℕ) → c < P .drones → c ≢ d → q c ≡ p c) → Reached P q
+reached-move : (P : Plan) → Formed P → (p q : ℕ → ℕ) (d : ℕ) → WithinRounds P p → free P p d ≡ true → q d ≡ suc (p d) → ((c : ℕ) → c < P .drones → c ≢ d → q c ≡ p c) → WithinRounds P q
 unfolding play
 reached-move P formed p q d (k, a) f e o = (
   suc k,
@@ -36,7 +36,7 @@ reached-move P formed p q d (k, a) f e o = (
 module _ (C : Course) (placed : PlacedWaits (C .own) (C .off) (C .last) (C .drones) (C .stops) (C .from) (C .into) (C .waits)) where
   open Course C using (own, off, last, drones, stops, from, into, waits)
 
-  abbrev P-formed : Formed (planOf C)
+  abbrev P-formed : Formed (coursePlan C)
   P-formed = formed own off last drones stops from into waits placed
 
   -- ---- who can move
@@ -82,8 +82,8 @@ module _ (C : Course) (placed : PlacedWaits (C .own) (C .off) (C .last) (C .dron
 
   -- the test is that of the plan's rounds
   module _ {L : Limits} {start cur need : List ℕ} (S : Places L C start cur) (N : Needs L C (metAt own from (at cur)) need) (d : ℕ) (l : d < drones) where
-    pub can-free : canMove off last (at cur) (at need) d ≡ true → free (planOf C) (progress C cur) d ≡ true
-    can-free e = free-if (planOf C) (progress C cur) d (omega (arith, S .low d l, o)) (λ w h a b.
+    pub can-free : canMove off last (at cur) (at need) d ≡ true → free (coursePlan C) (progress C cur) d ≡ true
+    can-free e = free-if (coursePlan C) (progress C cur) d (omega (arith, S .low d l, o)) (λ w h a b.
         let q : into w ≡ at cur d + 1 = omega (arith, b, ap off a, S .low d l, placed .into-later w h) in
         let i : own (from w) < drones = placed .shape .own-in (from w) (placed .from-in w h) in
         omega (arith, is-met C (at cur) w (needs-none C N (at cur d + 1) (next-in (at cur) (S .low) d l o) (can-zero (at cur) (at need) d e) w h q)))
@@ -91,14 +91,14 @@ module _ (C : Course) (placed : PlacedWaits (C .own) (C .off) (C .last) (C .dron
         o : at cur d < off d + last d
         o = can-open (at cur) (at need) d e
 
-    pub free-can : free (planOf C) (progress C cur) d ≡ true → canMove off last (at cur) (at need) d ≡ true
+    pub free-can : free (coursePlan C) (progress C cur) d ≡ true → canMove off last (at cur) (at need) d ≡ true
     free-can f = can-if (at cur) (at need) d o (needs-zero C N (at cur d + 1) (next-in (at cur) (S .low) d l o) (λ k h q.
         let a : own (into k) ≡ d = ap own q ∙ next-own (at cur) (S .low) d l o in
         let i : own (from k) < drones = placed .shape .own-in (from k) (placed .from-in k h) in
-        met-is C (at cur) k (omega (arith, S .low (own (from k)) i, free-open (planOf C) (progress C cur) d f k h a (omega (arith, q, ap off a, S .low d l))))))
+        met-is C (at cur) k (omega (arith, S .low (own (from k)) i, free-open (coursePlan C) (progress C cur) d f k h a (omega (arith, q, ap off a, S .low d l))))))
       where
         o : at cur d < off d + last d
-        o = omega (arith, S .low d l, free-unfinished (planOf C) (progress C cur) d f)
+        o = omega (arith, S .low d l, free-unfinished (coursePlan C) (progress C cur) d f)
 
   -- ---- a drone moves
 
@@ -139,7 +139,7 @@ module _ (C : Course) (placed : PlacedWaits (C .own) (C .off) (C .last) (C .dron
       low = λ c k. each (λ c y. c < drones → off c ≤ y) (λ q. omega (arith, S .low d q)) (λ c q. S .low c q) c k;
       high = λ c k. each (λ c y. c < drones → y ≤ off c + last c) (λ q. omega (arith, mover-open)) (λ c q. S .high c q) c k;
       onward = λ c k. each (λ c y. c < drones → at start c ≤ y) (λ q. omega (arith, S .onward d q)) (λ c q. S .onward c q) c k;
-      reached = λ r. reached-move (planOf C) P-formed (progress C cur) (progress C (set cur d x)) d (S .reached r) (can-free S (W .needs) d mover-in mover-can) (omega (arith, here, S .low d mover-in)) (λ c k ne. omega (arith, elsewhere c ne));
+      reached = λ r. reached-move (coursePlan C) P-formed (progress C cur) (progress C (set cur d x)) d (S .reached r) (can-free S (W .needs) d mover-in mover-can) (omega (arith, here, S .low d mover-in)) (λ c k ne. omega (arith, elsewhere c ne));
     }
 
     pub left-falls : left C (at (set cur d x)) < left C (at cur)
@@ -314,7 +314,7 @@ module _ (C : Course) (placed : PlacedWaits (C .own) (C .off) (C .last) (C .dron
   pub walking-end : {L : Limits} {leg : ℕ → ℕ} {g b : ℕ} {start cur need stack t : List ℕ} {top : ℕ} → top ≤ 0 → Walking L C leg g b start (metAt own from (at cur)) cur need stack top t → Walked L C leg b start cur t
   walking-end {cur = cur} h W = record {
     places = W .places;
-    none-free = λ d l. by-cases (free (planOf C) (progress C cur) d) (λ e. true-or-false (free-can (W .places) (W .needs) d l e) (stacked-empty drones (W .stacked) h d l)) (λ e. e);
+    none-free = λ d l. by-cases (free (coursePlan C) (progress C cur) d) (λ e. true-or-false (free-can (W .places) (W .needs) d l e) (stacked-empty drones (W .stacked) h d l)) (λ e. e);
     size = W .entries .size;
     past = W .entries .past;
     small = λ v. omega (arith, W .entries .small v);

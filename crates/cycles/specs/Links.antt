@@ -5,5 +5,5 @@ use Rattle.below.specs.Below as below
 use Rattle.tables.specs.Limits.{Limits}
 
 -- the links of the first m waits, wait k being for stop `from k`
-abbrev pub Linked : (L : Limits) (from : ℕ → ℕ) (m : ℕ) (head next : List ℕ) → Type 0
-Linked L = below.Linked (L .stops) (L .dependencies)
+abbrev pub LinkedWaits : (L : Limits) (from : ℕ → ℕ) (m : ℕ) (head next : List ℕ) → Type 0
+LinkedWaits L = below.Linked (L .stops) (L .dependencies)

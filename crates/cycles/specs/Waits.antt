@@ -12,7 +12,7 @@ use Rattle.tables.specs.Flags.{turnedBit}
 use Rattle.precedence.specs.Graph.{cyclic}
 use Rattle.plan.specs.Visits.{Visits}
 use Rattle.plan.specs.Dependencies.{right}
-use Rattle.meetings.specs.Asked.{Stops, PairTable}
+use Rattle.meetings.specs.Asked.{SteadyStops, PairTable}
 use Rattle.cycles.specs.Flat.{flatPlan, Shape}
 
 -- nobody enters stop `intoOf` before stop `fromOf` is visited. Turned, the first stop waits for the departure from the second
@@ -34,8 +34,8 @@ pub record Edges (L : Limits) (firsts seconds flags : List ℕ) (k : ℕ) (from 
   pub into-is : (j : ℕ) → j < k → at into j ≡ intoOf (at firsts) (at seconds) (turnedIn flags) j
 
 -- of a turned dependency, which is not fixed, the waits need this much: its first stop is no stop 0, and its second is not the last of all n stops
-abbrev pub Unfixed : (own off : ℕ → ℕ) (n m : ℕ) (xs ys : ℕ → ℕ) (turned : ℕ → Bool) → Type 0
-Unfixed own off n m xs ys turned = (k : ℕ) → k < m → turned k ≡ true → (xs k ≢ off (own (xs k))) × (ys k + 1 < n)
+abbrev pub UnfixedTurns : (own off : ℕ → ℕ) (n m : ℕ) (xs ys : ℕ → ℕ) (turned : ℕ → Bool) → Type 0
+UnfixedTurns own off n m xs ys turned = (k : ℕ) → k < m → turned k ≡ true → (xs k ≢ off (own (xs k))) × (ys k + 1 < n)
 
 -- the table is right, and its graph, with the turns in force, has no cycle
 unfoldable pub graphSound : (S : Visits) (off last : ℕ → ℕ) (drones m : ℕ) (xs ys : ℕ → ℕ) (turned : ℕ → Bool) → Bool
@@ -43,11 +43,11 @@ graphSound S off last drones m xs ys turned = right S m xs ys && not (cyclic (fl
 
 -- what the two checks ask of the tables, all of it known from the tests of single stops and of flag bytes
 pub record Given (L : Limits) (owners locations times starts lasts firsts seconds flags : List ℕ) (drones n m : ℕ) : Type 0 where
-  pub stops : Stops L n owners locations times
+  pub stops : SteadyStops L n owners locations times
   pub table : PairTable m firsts seconds
   pub shape : Shape (at owners) (at starts) (at lasts) drones n
   pub zero-time : (v : ℕ) → v < n → v ≡ at starts (at owners v) → at times v ≡ 0
-  pub unfixed : Unfixed (at owners) (at starts) n m (at firsts) (at seconds) (turnedIn flags)
+  pub unfixed : UnfixedTurns (at owners) (at starts) n m (at firsts) (at seconds) (turnedIn flags)
   pub has-flags : m ≤ length flags
   pub few-drones : drones ≤ L .drones
   pub few-waits : m ≤ L .dependencies

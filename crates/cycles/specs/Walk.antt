@@ -24,20 +24,20 @@ pub record Course : Type 0 where
   pub waits : ℕ
 
 -- those of tables
-abbrev pub course : (owners starts lasts : List ℕ) (drones n : ℕ) (from into : List ℕ) (m : ℕ) → Course
-course owners starts lasts drones n from into m = record { own = at owners; off = at starts; last = at lasts; drones = drones; stops = n; from = at from; into = at into; waits = m }
+abbrev pub courseWith : (owners starts lasts : List ℕ) (drones n : ℕ) (from into : List ℕ) (m : ℕ) → Course
+courseWith owners starts lasts drones n from into m = record { own = at owners; off = at starts; last = at lasts; drones = drones; stops = n; from = at from; into = at into; waits = m }
 
 -- p is no further than some number of rounds from the first stops
-abbrev pub Reached : Plan → (ℕ → ℕ) → Type 0
-Reached P p = (k : ℕ) × Ahead (P .drones) p (play P atStart k)
+abbrev pub WithinRounds : Plan → (ℕ → ℕ) → Type 0
+WithinRounds P p = (k : ℕ) × Ahead (P .drones) p (play P atStart k)
 
 -- wait k is met: the stop that it awaits is visited
 unfoldable pub metAt : (own from cur : ℕ → ℕ) → ℕ → Bool
 metAt own from cur k = leb (from k) (cur (own (from k)))
 
 -- how many of the first m waits are into stop v and not met
-unfoldable pub unmet : (into : ℕ → ℕ) (m : ℕ) → (ℕ → Bool) → ℕ → ℕ
-unmet into m met v = countBelow m (λ k. eqb (into k) v && not (met k))
+unfoldable pub unmetInto : (into : ℕ → ℕ) (m : ℕ) → (ℕ → Bool) → ℕ → ℕ
+unmetInto into m met v = countBelow m (λ k. eqb (into k) v && not (met k))
 
 -- drone d is short of its last stop, and no wait into the next one is unmet
 unfoldable pub canMove : (off last cur need : ℕ → ℕ) → ℕ → Bool
@@ -65,7 +65,7 @@ abbrev pub Wakes : (owners cur need : List ℕ) (w : ℕ) → Type 0
 Wakes owners cur need w = (at need w ≡ 1) × (at cur (at owners w) + 1 ≡ w)
 
 -- one wait into stop w is met, by a visit with that entry: its drone goes on top of the stack if that wakes it
-pub record Met (owners cur : List ℕ) (w entry top : ℕ) (need need′ stack stack′ t t′ : List ℕ) (r : ℕ) : Type 0 where
+pub record OneMet (owners cur : List ℕ) (w entry top : ℕ) (need need′ stack stack′ t t′ : List ℕ) (r : ℕ) : Type 0 where
   pub need-is : need′ ≡ set need w (at need w - 1)
   pub table-is : t′ ≡ set t w (max (at t w) entry)
   pub wakes : Wakes owners cur need w → (stack′ ≡ set stack top (at owners w)) × (r ≡ top + 1)
@@ -80,8 +80,8 @@ pub record Stacked (L : Limits) (drones : ℕ) (can : ℕ → Bool) (stack : Lis
 module _ (C : Course) where
   open Course C using (own, off, last, drones, stops, from, into, waits)
 
-  abbrev pub planOf : Plan
-  planOf = flatPlan own off last drones from into waits
+  abbrev pub coursePlan : Plan
+  coursePlan = flatPlan own off last drones from into waits
 
   -- the drones' progress
   abbrev pub progress : List ℕ → ℕ → ℕ
@@ -115,12 +115,12 @@ module _ (L : Limits) (C : Course) where
     pub low : (d : ℕ) → d < drones → off d ≤ at cur d
     pub high : (d : ℕ) → d < drones → at cur d ≤ off d + last d
     pub onward : (d : ℕ) → d < drones → at start d ≤ at cur d
-    pub reached : Reached (planOf C) (progress C start) → Reached (planOf C) (progress C cur)
+    pub reached : WithinRounds (coursePlan C) (progress C start) → WithinRounds (coursePlan C) (progress C cur)
 
   -- a count of the unmet waits into each stop
   pub record Needs (met : ℕ → Bool) (need : List ℕ) : Type 0 where
     pub size : length need ≡ L .stops
-    pub counted : (v : ℕ) → v < stops → at need v ≡ unmet into waits met v
+    pub counted : (v : ℕ) → v < stops → at need v ≡ unmetInto into waits met v
 
   -- a visited stop has its entry of the table of rounds, any other the greatest of what its met waits await. No leg is longer than g, and no entry is greater than b
   pub record Entries (leg : ℕ → ℕ) (g b : ℕ) (start : List ℕ) (met : ℕ → Bool) (cur t : List ℕ) : Type 0 where
@@ -138,7 +138,7 @@ module _ (L : Limits) (C : Course) where
     pub entries : Entries leg g b start met cur t
 
   -- the waits for the visited stop v are gone through from the greatest on: `link` is one more than the next of them, 0 if there is none
-  pub record Meeting (leg : ℕ → ℕ) (g b : ℕ) (start cur : List ℕ) (v link : ℕ) (need stack : List ℕ) (top : ℕ) (t : List ℕ) : Type 0 where
+  pub record MeetingWaits (leg : ℕ → ℕ) (g b : ℕ) (start cur : List ℕ) (v link : ℕ) (need stack : List ℕ) (top : ℕ) (t : List ℕ) : Type 0 where
     pub walking : Walking leg g b start (metFrom C (at cur) v link) cur need stack top t
     pub stop-in : v < stops
     pub seen : v ≤ at cur (own v)
@@ -157,7 +157,7 @@ module _ (L : Limits) (C : Course) where
   -- nobody can move, and every visited stop has its entry of the table of rounds
   pub record Walked (leg : ℕ → ℕ) (b : ℕ) (start cur t : List ℕ) : Type 0 where
     pub places : Places start cur
-    pub none-free : (d : ℕ) → d < drones → free (planOf C) (progress C cur) d ≡ false
+    pub none-free : (d : ℕ) → d < drones → free (coursePlan C) (progress C cur) d ≡ false
     pub size : length t ≡ L .stops
     pub past : (v : ℕ) → stops ≤ v → at t v ≡ 0
     pub small : (v : ℕ) → at t v ≤ b

@@ -7,7 +7,7 @@ ghost use Prim.Native.Nat.{ℕ, _≤_, _<_};
 ghost use lib.ListN.{length};
 ghost use Rattle.below.specs.Below.{at};
 ghost use Rattle.tables.specs.Limits.{limits};
-ghost use Rattle.cycles.specs.Links.{Linked};
+ghost use Rattle.cycles.specs.Links.{LinkedWaits};
 
 // head[v] becomes one more than the greatest wait whose entry of `from` is v, next[k] one more than the greatest below k with the same entry as k; 0 is none.
 pub fn link(
@@ -18,7 +18,7 @@ pub fn link(
 )
     requires { ⌜ (m ≤ limits .dependencies) × ((k : ℕ) → k < m → at (now from) k < limits .stops) ⌝ }
     requires { ⌜ (length (now head) ≡ limits .stops) × (length (now next) ≡ limits .dependencies) × ((v : ℕ) → at (now head) v ≡ 0) ⌝ }
-    ensures { λ _. ⌜ Linked limits (at (now (from .entry))) m (now (head .exit)) (now (next .exit)) ⌝ }
+    ensures { λ _. ⌜ LinkedWaits limits (at (now (from .entry))) m (now (head .exit)) (now (next .exit)) ⌝ }
 {
     let mut k = 0;
     while k < m {

@@ -13,7 +13,7 @@ ghost use lib.ListN.{length};
 ghost use Rattle.below.specs.Below.{at, pick, allBelow};
 ghost use Rattle.tables.specs.Limits.{limits};
 ghost use Rattle.cycles.specs.Flat.{FlatTables};
-ghost use Rattle.cycles.specs.Walk.{metAt, unmet, canMove, Stacked, Ends, Advanced, Wakes, Met, course, Begun, Walked, legOfOne};
+ghost use Rattle.cycles.specs.Walk.{metAt, unmetInto, canMove, Stacked, Ends, Advanced, Wakes, OneMet, courseWith, Begun, Walked, legOfOne};
 
 // The rounds that it takes to fly to a stop from the one before it.
 const LEG: u16 = 1;
@@ -42,7 +42,7 @@ fn unmet_waits(
     cur: &[u16; Drone::FULL],
 ) -> [u16; Stop::FULL]
     requires { ⌜ (m ≤ limits .dependencies) × ((k : ℕ) → k < m → Ends limits (now owners) (at (now from) k) (at (now into) k)) ⌝ }
-    ensures { λ r. ⌜ (length r ≡ limits .stops) × ((v : ℕ) → v < limits .stops → at r v ≡ unmet (at (now (into .entry))) m (metAt (at (now (owners .entry))) (at (now (from .entry))) (at (now (cur .entry)))) v) ⌝ }
+    ensures { λ r. ⌜ (length r ≡ limits .stops) × ((v : ℕ) → v < limits .stops → at r v ≡ unmetInto (at (now (into .entry))) m (metAt (at (now (owners .entry))) (at (now (from .entry))) (at (now (cur .entry)))) v) ⌝ }
 {
     let mut need = [0u16; Stop::FULL];
     let mut k = 0;
@@ -148,7 +148,7 @@ fn meet(
 ) -> usize
     requires { ⌜ (w < limits .stops) × (w < length (now owners)) × (at (now owners) w < limits .drones) × (1 ≤ at (now need) w) × (Wakes (now owners) (now cur) (now need) w → top < limits .drones) ⌝ }
     requires { ⌜ (length (now need) ≡ limits .stops) × (length (now stack) ≡ limits .drones) × (length (now table) ≡ limits .stops) ⌝ }
-    ensures { λ r. ⌜ Met (now (owners .entry)) (now (cur .entry)) w entry top (now (need .entry)) (now (need .exit)) (now (stack .entry)) (now (stack .exit)) (now (table .entry)) (now (table .exit)) r ⌝ }
+    ensures { λ r. ⌜ OneMet (now (owners .entry)) (now (cur .entry)) w entry top (now (need .entry)) (now (need .exit)) (now (stack .entry)) (now (stack .exit)) (now (table .entry)) (now (table .exit)) r ⌝ }
 {
     table[w] = greater(table[w], entry);
     need[w] -= 1;
@@ -177,9 +177,9 @@ pub fn walk(
     cur: &mut [u16; Drone::FULL],
     table: &mut [u16; Stop::FULL],
 )
-    requires { ⌜ FlatTables limits (now owners) (now starts) (now lasts) drones n (now from) (now into) m × Begun limits (course (now owners) (now starts) (now lasts) drones n (now from) (now into) m) (now cur) ⌝ }
+    requires { ⌜ FlatTables limits (now owners) (now starts) (now lasts) drones n (now from) (now into) m × Begun limits (courseWith (now owners) (now starts) (now lasts) drones n (now from) (now into) m) (now cur) ⌝ }
     requires { ⌜ (length (now table) ≡ limits .stops) × ((v : ℕ) → at (now table) v ≡ 0) ⌝ }
-    ensures { λ _. ⌜ Walked limits (course (now (owners .entry)) (now (starts .entry)) (now (lasts .entry)) drones n (now (from .entry)) (now (into .entry)) m) legOfOne (limits .stops - 1) (now (cur .entry)) (now (cur .exit)) (now (table .exit)) ⌝ }
+    ensures { λ _. ⌜ Walked limits (courseWith (now (owners .entry)) (now (starts .entry)) (now (lasts .entry)) drones n (now (from .entry)) (now (into .entry)) m) legOfOne (limits .stops - 1) (now (cur .entry)) (now (cur .exit)) (now (table .exit)) ⌝ }
 {
     let mut head = [0u16; Stop::FULL];
     let mut next = [0u16; Dependency::FULL];

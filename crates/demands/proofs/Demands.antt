@@ -3,15 +3,17 @@ use Rattle.tables.specs.Limits.{limits}
 use Rattle.log.proofs.Claims.{demand2}
 use Rattle.accepted.proofs.ReadSound.{tables-hold-plan, accepted-text, tables-sound}
 use Rattle.accepted.proofs.TextFound.{demand3-of-texts}
+use Rattle.accepted.proofs.Reported.{reported-of-texts}
 use Rattle.accepted.proofs.Taken.{limits-taken-exactly}
 use Rattle.accepted.proofs.SoundAccepted.{limits-sound-means-accepted}
 use Rattle.demands.specs.Demands.{FirstDemand, SecondDemand, ThirdDemand, Demands}
+use Rattle.demands.proofs.Numbers.{exact-numbers}
 use Rattle.demands.proofs.Refusals.{refusals-leave}
 use Rattle.demands.proofs.FullSizes.{full-sizes-kept}
 use Rattle.demands.proofs.Writing.{written-out}
 
 pub first-demand : FirstDemand limits
-first-demand = record { refusals-leave = refusals-leave limits; full-sizes-kept = full-sizes-kept limits }
+first-demand = record { exact-numbers = exact-numbers limits; reported-of-texts = reported-of-texts limits; refusals-leave = refusals-leave limits; full-sizes-kept = full-sizes-kept limits }
 
 pub second-demand : SecondDemand limits
 second-demand = record {

@@ -1,10 +1,10 @@
 pub mod Entries
-pub mod SameClauses
 pub mod SameNumbering
 pub mod SameSound
 pub mod SameCalls
 pub mod SameReading
 pub mod FullSizes
 pub mod Writing
+pub mod Numbers
 pub mod Refusals
 pub mod Demands

@@ -15,19 +15,20 @@ use Rattle.text.specs.TextWritten.{isShort, writeAnswer, bufferAfter}
 use Rattle.text.specs.declared.reader.LinesAnswer.{LinesAnswer}
 use Rattle.text.specs.declared.reader.LinesAnswer.the-variants as lines
 use Rattle.text.specs.declared.writer.WriteAnswer.the-variants.{Length, Short}
+use Rattle.plan.specs.Claims.{plannedTotal}
 use Rattle.sound.specs.Sound.{sound}
 use Rattle.log.specs.CallLog.{Call, grant, arrive, turn, turnAll, isAccepted}
 use Rattle.log.specs.Calls.{grantStep, arriveStep, turnStep, turnAllStep, step}
 use Rattle.reading.specs.Replies.{ReadingReply, taken, refusedBy, refusedAt, refusedStop, refusedStops, isTaken}
-use Rattle.reading.specs.Reading.{ReadingAnswer, withReply, total, withText, withDependencies, checkIn, checked, fromLines, readLines, readPlan}
+use Rattle.reading.specs.Reading.{ReadingAnswer, withReply, withText, withDependencies, checkIn, afterCheck, fromLines, readLines, readPlan}
 use Rattle.flat.specs.Writing.{Writing, wrote, writeRefused, textMeant, textIn, writes, bufferLeft}
 use Rattle.demands.specs.Refusals.{RefusalsLeave}
 
 -- ---- the reading
 
 module _ (L : Limits) (z : Tables) where
-  checked-leave : (t : Tables) (r : ReadingReply) → isTaken (checked L z t r .reply) ≡ false → checked L z t r .tables ≡ z
-  checked-leave t taken e = go (leb (total (t .plan)) (L .dependencies)) e
+  checked-leave : (t : Tables) (r : ReadingReply) → isTaken (afterCheck L z t r .reply) ≡ false → afterCheck L z t r .tables ≡ z
+  checked-leave t taken e = go (leb (plannedTotal (t .plan)) (L .dependencies)) e
     where
       go : (b : Bool) → isTaken (cond b (withReply taken (withDependencies t)) (withReply (refusedBy 11) z) .reply) ≡ false → cond b (withReply taken (withDependencies t)) (withReply (refusedBy 11) z) .tables ≡ z
       go true e = true-or-false refl e

@@ -9,8 +9,8 @@ use Rattle.below.proofs.Search.{firstBelow-first, firstBelow-ext}
 use Rattle.below.proofs.Sum.{sum-ext}
 use Rattle.tables.specs.Limits.{Limits}
 use Rattle.tables.specs.Tables.{PlanLists, drones, dependencies}
-use Rattle.plan.specs.Stops.{start, owner, number}
-use Rattle.plan.specs.Visits.{visits}
+use Rattle.plan.specs.Stops.{start, owner, stopNumber}
+use Rattle.plan.specs.Visits.{visitsWith}
 use Rattle.plan.specs.Check.{firstFault, apart}
 use Rattle.plan.specs.Answers.{checkOf}
 use Rattle.plan.specs.Dependencies.{dependencyTotal, column}
@@ -51,7 +51,7 @@ module _ (L : Limits) (p p′ : PlanLists) (same : PlanEntriesAgree L p p′) (f
   own-in v = firstBelow-first (drones p) _ .within
 
   num-same : (v : ℕ) → numberIn p v ≡ numberIn p′ v
-  unfolding number
+  unfolding stopNumber
   num-same v =
       let l = own-in v in
       ap (λ (n : ℕ). v - n) (start-same (ownerIn p v) (omega arith) ∙ ap (start (p′ .stopCounts)) (own-same v))
@@ -73,25 +73,25 @@ module _ (L : Limits) (p p′ : PlanLists) (same : PlanEntriesAgree L p p′) (f
     pub check-is : checkOf (visitsIn p) ≡ checkOf (visitsIn p′)
     check-is =
         check-same (visitsIn p) (ownerIn p) (numberIn p) (locationIn p′) (timeIn p′) (λ v l. refl) location-same time-same (λ v l. refl)
-        ∙ (λ i. checkOf (visits (owners i) (numbers i) (locationIn p′) (timeIn p′) (stops i)))
+        ∙ (λ i. checkOf (visitsWith (owners i) (numbers i) (locationIn p′) (timeIn p′) (stops i)))
 
     pub fault-is : firstFault (visitsIn p) ≡ firstFault (visitsIn p′)
     fault-is =
         firstFault-same (visitsIn p) (ownerIn p) (numberIn p) (locationIn p′) (timeIn p′) (λ v l. refl) location-same time-same (λ v l. refl)
-        ∙ (λ i. firstFault (visits (owners i) (numbers i) (locationIn p′) (timeIn p′) (stops i)))
+        ∙ (λ i. firstFault (visitsWith (owners i) (numbers i) (locationIn p′) (timeIn p′) (stops i)))
 
     pub apart-is : apart (visitsIn p) ≡ apart (visitsIn p′)
     apart-is =
         apart-same (visitsIn p) (ownerIn p) (numberIn p) (locationIn p′) (timeIn p′) (λ v l. refl) location-same time-same
-        ∙ (λ i. apart (visits (owners i) (numbers i) (locationIn p′) (timeIn p′) (stops i)))
+        ∙ (λ i. apart (visitsWith (owners i) (numbers i) (locationIn p′) (timeIn p′) (stops i)))
 
     pub total-is : dependencyTotal (visitsIn p) ≡ dependencyTotal (visitsIn p′)
     total-is =
         total-same (visitsIn p) (ownerIn p) (numberIn p) (locationIn p′) (timeIn p′) (λ v l. refl) location-same time-same
-        ∙ (λ i. dependencyTotal (visits (owners i) (numbers i) (locationIn p′) (timeIn p′) (stops i)))
+        ∙ (λ i. dependencyTotal (visitsWith (owners i) (numbers i) (locationIn p′) (timeIn p′) (stops i)))
 
     -- a column of values that depend on the numbering alone
     pub column-is : (f : (own num : ℕ → ℕ) (n : ℕ) → ℕ → ℕ → ℕ) → column (visitsIn p) (f (ownerIn p) (numberIn p) (stopTotal p)) ≡ column (visitsIn p′) (f (ownerIn p′) (numberIn p′) (stopTotal p′))
     column-is f =
         column-same (visitsIn p) (ownerIn p) (numberIn p) (locationIn p′) (timeIn p′) (λ v l. refl) location-same time-same _ _ (λ v w l k. refl)
-        ∙ (λ i. column (visits (owners i) (numbers i) (locationIn p′) (timeIn p′) (stops i)) (f (owners i) (numbers i) (stops i)))
+        ∙ (λ i. column (visitsWith (owners i) (numbers i) (locationIn p′) (timeIn p′) (stops i)) (f (owners i) (numbers i) (stops i)))

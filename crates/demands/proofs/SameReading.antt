@@ -22,9 +22,9 @@ use Rattle.text.specs.Written.{rowsOf, countsOf, locationsOf, timesOf}
 use Rattle.text.proofs.TakenIsWritten.{TextTaken, text-taken}
 use Rattle.text.proofs.Sizes.{names-many, counts-many, stops-within, times-many}
 use Rattle.plan.specs.Dependencies.{follows, flagOf}
-use Rattle.plan.specs.Claims.{stopTotal, ownerIn, numberIn, visitsIn}
+use Rattle.plan.specs.Claims.{stopTotal, ownerIn, numberIn, visitsIn, plannedTotal, plannedList}
 use Rattle.reading.specs.Replies.{ReadingReply, taken, isTaken, checkMeant}
-use Rattle.reading.specs.Reading.{ReadingAnswer, withReply, withText, total, plannedList, withDependencies, checkIn, built, checked, fromLines, readLines, readPlan}
+use Rattle.reading.specs.Reading.{ReadingAnswer, withReply, withText, withDependencies, checkIn, built, afterCheck, fromLines, readLines, readPlan}
 use Rattle.accepted.proofs.PlanHeld.{HoldsRoutes, total-is as stops-are}
 use Rattle.accepted.proofs.ReadSound.{stored-holds}
 use Rattle.demands.specs.FullSizes.{upToFull, pastFull, AgreeUpToFull}
@@ -76,7 +76,7 @@ module _ (L : Limits) (t t′ : Tables) (e : AgreeUpToFull L t t′) (few : dron
   checks : checkIn p ≡ checkIn p′
   checks = ap checkMeant (check-is L p p′ (same-tables L t t′ e .plan-same) few room)
 
-  totals : total p ≡ total p′
+  totals : plannedTotal p ≡ plannedTotal p′
   totals = total-is L p p′ (same-tables L t t′ e .plan-same) few room
 
   -- one column of the dependencies
@@ -86,7 +86,7 @@ module _ (L : Limits) (t t′ : Tables) (e : AgreeUpToFull L t t′) (few : dron
 
   built-agree : AgreeUpToFull L (withDependencies t) (withDependencies t′)
   built-agree =
-      let counts : take 1 (withDependencies t .plan .dependencyCount) ≡ take 1 (withDependencies t′ .plan .dependencyCount) = take-sets 1 (total p ∷ []) (p .dependencyCount) 0 ∙ ap₂ (λ (x : List ℕ) (n : ℕ). sets x 0 (n ∷ [])) (ap (λ (x : Tables). x .plan .dependencyCount) e) totals ∙ sym (take-sets 1 (total p′ ∷ []) (p′ .dependencyCount) 0) in
+      let counts : take 1 (withDependencies t .plan .dependencyCount) ≡ take 1 (withDependencies t′ .plan .dependencyCount) = take-sets 1 (plannedTotal p ∷ []) (p .dependencyCount) 0 ∙ ap₂ (λ (x : List ℕ) (n : ℕ). sets x 0 (n ∷ [])) (ap (λ (x : Tables). x .plan .dependencyCount) e) totals ∙ sym (take-sets 1 (plannedTotal p′ ∷ []) (p′ .dependencyCount) 0) in
       λ i.
       tablesOf
       (e i .plan .droneCount)
@@ -111,11 +111,11 @@ module _ (L : Limits) (t t′ : Tables) (e : AgreeUpToFull L t t′) (few : dron
         go true = record { replies = refl; leaves = built-agree }
         go false = record { replies = refl; leaves = h }
 
-    checked-agree : (r : ReadingReply) → AnswersAgree L (checked L z t r) (checked L z′ t′ r)
+    checked-agree : (r : ReadingReply) → AnswersAgree L (afterCheck L z t r) (afterCheck L z′ t′ r)
     checked-agree r = go (isTaken r)
       where
         go : (b : Bool) → AnswersAgree L (cond b (built L z t) (withReply r z)) (cond b (built L z′ t′) (withReply r z′))
-        go true = by-total (total p) (total p′) totals _
+        go true = by-total (plannedTotal p) (plannedTotal p′) totals _
         go false = record { replies = refl; leaves = h }
 
 -- ---- the text's values in zeroed tables: their counts are in their ranges, and none reaches past a full size
@@ -170,15 +170,15 @@ zeroed-past : (L : Limits) (t : Tables) → pastFull L (zeroedTables L t) ≡ pa
 zeroed-past L t = λ i. eachTable (λ n l. zeroed-drop n l i) L t
 
 -- the dependencies fit
-built-past : (L : Limits) (t : Tables) → total (t .plan) ≤ L .dependencies → pastFull L (withDependencies t) ≡ pastFull L t
+built-past : (L : Limits) (t : Tables) → plannedTotal (t .plan) ≤ L .dependencies → pastFull L (withDependencies t) ≡ pastFull L t
 built-past L t room =
     let p = t .plan in
-    let long : (f : ℕ → ℕ → ℕ) → length (plannedList p f) ≡ total p = length-listed (follows (visitsIn p)) (stopTotal p) in
+    let long : (f : ℕ → ℕ → ℕ) → length (plannedList p f) ≡ plannedTotal p = length-listed (follows (visitsIn p)) (stopTotal p) in
     let column : (l : List ℕ) (f : ℕ → ℕ → ℕ) → drop (L .dependencies) (laid l 0 (plannedList p f)) ≡ drop (L .dependencies) l = λ l f. drop-laid (L .dependencies) (plannedList p f) l (omega (arith, long f)) in
     λ i.
     tablesOf
     (drop 1 (p .droneCount))
-    (drop-sets 1 (total p ∷ []) (p .dependencyCount) 0 (omega arith) i)
+    (drop-sets 1 (plannedTotal p ∷ []) (p .dependencyCount) 0 (omega arith) i)
     (drop (L .drones * L .name) (p .names))
     (drop (L .drones) (p .stopCounts))
     (drop (L .stops) (p .locations))
@@ -209,7 +209,7 @@ module _ (L : Limits) (text : List ℕ) where
         let q : AgreeUpToFull L x x′ = first-text L (zeroedTables L t) f n ∙ ap (withText f n) zeroed-agree ∙ sym (first-text L (zeroedTables L t′) f n) in
         let few = drones-few L t full text n h in
         let room = stops-few L t full text n h in
-        subst (λ (r : ReadingReply). AnswersAgree L (checked L (zeroedTables L t) x (checkIn (x .plan))) (checked L (zeroedTables L t′) x′ r)) (checks L x x′ q few room) (checked-agree L x x′ q few room (zeroedTables L t) (zeroedTables L t′) zeroed-agree (checkIn (x .plan)))
+        subst (λ (r : ReadingReply). AnswersAgree L (afterCheck L (zeroedTables L t) x (checkIn (x .plan))) (afterCheck L (zeroedTables L t′) x′ r)) (checks L x x′ q few room) (checked-agree L x x′ q few room (zeroedTables L t) (zeroedTables L t′) zeroed-agree (checkIn (x .plan)))
 
   module _ (t t′ : Tables) (e : AgreeUpToFull L t t′) where
     pub reading-agrees : AnswersAgree L (readPlan L text t) (readPlan L text t′)
@@ -224,13 +224,13 @@ module _ (L : Limits) (text : List ℕ) where
   -- ---- nothing past a full size
 
   built-keeps : (z t : Tables) → pastFull L t ≡ pastFull L z → pastFull L (built L z t .tables) ≡ pastFull L z
-  built-keeps z t h = go (leb (total (t .plan)) (L .dependencies)) refl _
+  built-keeps z t h = go (leb (plannedTotal (t .plan)) (L .dependencies)) refl _
     where
-      go : (b : Bool) → leb (total (t .plan)) (L .dependencies) ≡ b → (r : ReadingReply) → pastFull L (cond b (withReply taken (withDependencies t)) (withReply r z) .tables) ≡ pastFull L z
+      go : (b : Bool) → leb (plannedTotal (t .plan)) (L .dependencies) ≡ b → (r : ReadingReply) → pastFull L (cond b (withReply taken (withDependencies t)) (withReply r z) .tables) ≡ pastFull L z
       go true e r = built-past L t (leb-true _ _ e) ∙ h
       go false e r = refl
 
-  checked-past : (z t : Tables) (r : ReadingReply) → pastFull L t ≡ pastFull L z → pastFull L (checked L z t r .tables) ≡ pastFull L z
+  checked-past : (z t : Tables) (r : ReadingReply) → pastFull L t ≡ pastFull L z → pastFull L (afterCheck L z t r .tables) ≡ pastFull L z
   checked-past z t r h = go (isTaken r)
     where
       go : (b : Bool) → pastFull L (cond b (built L z t) (withReply r z) .tables) ≡ pastFull L z

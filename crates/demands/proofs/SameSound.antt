@@ -10,7 +10,7 @@ use lib.ListN.{getD}
 use Rattle.below.specs.Below.{at, pick}
 use Rattle.below.proofs.Tests.{same-test}
 use Rattle.below.proofs.Search.{firstBelow-ext}
-use Rattle.below.proofs.Every.{allBelow-ext}
+use Rattle.below.proofs.Every.{allBelow-ext, allBelow-same}
 use Rattle.tables.specs.Limits.{Limits}
 use Rattle.tables.specs.Tables.{PlanLists, Tables, drones, dependencies}
 use Rattle.tables.specs.Flags.{turnedBit, underWayBit, onlyOneBit}
@@ -23,14 +23,13 @@ use Rattle.plan.proofs.Numbering.{numbered}
 use Rattle.plan.specs.Field.{Dependency, FieldPlan, planOf, graph, AcceptedPlan, PlansAgree}
 use Rattle.plan.specs.Status.{statusIn}
 use Rattle.plan.specs.Claims.{stopTotal}
-use Rattle.sound.specs.Sound.{zeroFrom, nameByte, nameLength, nameSound, sameName, namesDiffer, inRange, namesSound, checked, planAccepted, dependenciesSound, planUnused, flagsSound, droneFlagsSound, progressUnused, sound}
+use Rattle.sound.specs.Sound.{zeroFrom, nameByte, nameLength, nameSound, sameName, namesDiffer, inRange, namesSound, passesCheck, planAccepted, dependenciesSound, planUnused, flagsSound, droneFlagsSound, progressUnused, sound}
 use Rattle.sound.proofs.Clauses.{Sound, sound-says, says-sound}
 use Rattle.log.specs.CallLog.{Call, replyIn}
 use Rattle.log.specs.Demand.{Agree}
 use Rattle.log.proofs.SoundParts.{drones-in, have-stops, stops-in, dependencies-in, accepted-plan}
-use Rattle.log.proofs.SameStatus.{graphs-agree, graph-in, reply-agrees}
+use Rattle.log.proofs.SameStatus.{graphs-agree, graph-in, reply-agrees, fixed-same, unturned-agrees, within-agrees, waits-agree}
 use Rattle.demands.proofs.SameNumbering.{PlanEntriesAgree, start-same, stops, fault-is, apart-is, total-is, column-is}
-use Rattle.demands.proofs.SameClauses.{all-same, fixed-same, unturned-same, within-same, waits-same}
 
 -- the same entries up to the full sizes
 pub record EntriesAgree (L : Limits) (t t′ : Tables) : Type 0 where
@@ -83,8 +82,8 @@ module _ (L : Limits) (p p′ : PlanLists) (same : PlanEntriesAgree L p p′) (f
   pub names-same : namesSound L p ≡ namesSound L p′
   unfolding namesSound namesDiffer sameName
   names-same = ap₂ _&&_
-      (all-same (drones p) (drones p′) _ _ (same .drone-count) name-same)
-      (all-same (drones p) (drones p′) _ _ (same .drone-count) (λ d l. allBelow-ext d _ _ (λ e k. ap not (allBelow-ext (L .name) _ _ (λ i h. ap₂ eqb (byte-same d l i h) (byte-same e (omega arith) i h))))))
+      (allBelow-same (drones p) (drones p′) _ _ (same .drone-count) name-same)
+      (allBelow-same (drones p) (drones p′) _ _ (same .drone-count) (λ d l. allBelow-ext d _ _ (λ e k. ap not (allBelow-ext (L .name) _ _ (λ i h. ap₂ eqb (byte-same d l i h) (byte-same e (omega arith) i h))))))
 
   module _ (room : stopTotal p ≤ L .stops) where
     total-stops : stopTotal p ≡ stopTotal p′
@@ -93,12 +92,12 @@ module _ (L : Limits) (p p′ : PlanLists) (same : PlanEntriesAgree L p p′) (f
     pub range-same : inRange L p ≡ inRange L p′
     unfolding inRange
     range-same = ap₂ _&&_ (ap (λ (n : ℕ). leb 1 n && leb n (L .drones)) (same .drone-count))
-        (ap₂ _&&_ (all-same (drones p) (drones p′) _ _ (same .drone-count) (λ d l. ap (leb 1) (same .stop-counts d (omega arith))))
+        (ap₂ _&&_ (allBelow-same (drones p) (drones p′) _ _ (same .drone-count) (λ d l. ap (leb 1) (same .stop-counts d (omega arith))))
         (ap₂ _&&_ (ap (λ (n : ℕ). leb n (L .stops)) total-stops)
-        (all-same (stopTotal p) (stopTotal p′) _ _ total-stops (λ v l. ap₂ (λ (x y : ℕ). leb x (L .location) && leb y (L .time)) (same .locations v (omega arith)) (same .times v (omega arith))))))
+        (allBelow-same (stopTotal p) (stopTotal p′) _ _ total-stops (λ v l. ap₂ (λ (x y : ℕ). leb x (L .location) && leb y (L .time)) (same .locations v (omega arith)) (same .times v (omega arith))))))
 
-    pub checked-same : checked L p ≡ checked L p′
-    unfolding checked
+    pub checked-same : passesCheck L p ≡ passesCheck L p′
+    unfolding passesCheck
     checked-same = ap₂ _&&_ (ap₂ eqb (fault-is L p p′ same few room) total-stops) (apart-is L p p′ same few room)
 
     pub accepted-same : planAccepted L p ≡ planAccepted L p′
@@ -113,7 +112,7 @@ module _ (L : Limits) (p p′ : PlanLists) (same : PlanEntriesAgree L p p′) (f
       pub own-same : dependenciesSound L p ≡ dependenciesSound L p′
       unfolding dependenciesSound
       own-same = ap₂ _&&_ (ap₂ eqb (same .dependency-count) (total-is L p p′ same few room))
-          (all-same (dependencies p) (dependencies p′) _ _ (same .dependency-count) (λ k l.
+          (allBelow-same (dependencies p) (dependencies p′) _ _ (same .dependency-count) (λ k l.
           ap₂ _&&_ (entry-same (p .firstDrones) (p′ .firstDrones) _ _ (same .first-drones) (column-is L p p′ same few room (λ own num n v w. own v)) k l)
           (ap₂ _&&_ (entry-same (p .firstStops) (p′ .firstStops) _ _ (same .first-stops) (column-is L p p′ same few room (λ own num n v w. num v)) k l)
           (ap₂ _&&_ (entry-same (p .secondDrones) (p′ .secondDrones) _ _ (same .second-drones) (column-is L p p′ same few room (λ own num n v w. own w)) k l)
@@ -219,11 +218,11 @@ module _ (L : Limits) (t t′ : Tables) (same : EntriesAgree L t t′) (s : Soun
   unfolding flagsSound
   flags-same =
       let h = fits in
-      all-same (dependencies p) (dependencies p′) _ _ (same .plan-same .dependency-count) (λ k l. ap₂ (λ (x : ℕ) (b : Bool). eqb (x / 2) (pick b 1 0)) (same .flags k (omega arith)) (fixed-same F G plans plan k l))
+      allBelow-same (dependencies p) (dependencies p′) _ _ (same .plan-same .dependency-count) (λ k l. ap₂ (λ (x : ℕ) (b : Bool). eqb (x / 2) (pick b 1 0)) (same .flags k (omega arith)) (fixed-same F G plans plan k l))
 
   drone-flags-same : droneFlagsSound L t ≡ droneFlagsSound L t′
   unfolding droneFlagsSound
-  drone-flags-same = let h = few in all-same (drones p) (drones p′) _ _ (same .plan-same .drone-count) (λ d l. ap onlyOneBit (same .drone-flags d (omega arith)))
+  drone-flags-same = let h = few in allBelow-same (drones p) (drones p′) _ _ (same .plan-same .drone-count) (λ d l. ap onlyOneBit (same .drone-flags d (omega arith)))
 
   progress-same : progressUnused L t ≡ progressUnused L t′
   unfolding progressUnused
@@ -235,11 +234,11 @@ module _ (L : Limits) (t t′ : Tables) (same : EntriesAgree L t t′) (s : Soun
     accepted = sym (accepted-same L p p′ (same .plan-same) few room) ∙ s .accepted;
     dependencies-own = sym (own-same L p p′ (same .plan-same) few room fits) ∙ s .dependencies-own;
     flags-right = sym flags-same ∙ s .flags-right;
-    fixed-unturned = sym (unturned-same F G plans plan (statusIn t) (statusIn t′) statuses) ∙ s .fixed-unturned;
+    fixed-unturned = sym (unturned-agrees F G plans plan (statusIn t) (statusIn t′) statuses) ∙ s .fixed-unturned;
     no-cycle = sym cycles ∙ s .no-cycle;
     drone-flags = sym drone-flags-same ∙ s .drone-flags;
-    within = sym (within-same F G plans plan (statusIn t) (statusIn t′) statuses) ∙ s .within;
-    waits-kept = sym (waits-same F G plans plan (statusIn t) (statusIn t′) statuses) ∙ s .waits-kept;
+    within = sym (within-agrees F G plans plan (statusIn t) (statusIn t′) statuses) ∙ s .within;
+    waits-kept = sym (waits-agree F G plans plan (statusIn t) (statusIn t′) statuses) ∙ s .waits-kept;
     plan-unused = sym (unused-same L p p′ (same .plan-same) few room) ∙ s .plan-unused;
     progress-unused = sym progress-same ∙ s .progress-unused;
   }

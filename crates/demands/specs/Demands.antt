@@ -2,6 +2,8 @@
 use Rattle.tables.specs.Limits.{Limits}
 use Rattle.log.specs.Claims.{Demand2}
 use Rattle.accepted.specs.Claims.{TakenExactly, TablesHoldPlan, AcceptedText, TablesSound, SoundMeansAccepted, Demand3OfTexts}
+use Rattle.accepted.specs.Reported.{ReportedOfTexts}
+use Rattle.demands.specs.Numbers.{ExactNumbers}
 use Rattle.demands.specs.Refusals.{RefusalsLeave}
 use Rattle.demands.specs.FullSizes.{FullSizesKept}
 use Rattle.demands.specs.Writing.{WrittenOut}
@@ -9,6 +11,8 @@ use Rattle.demands.specs.Writing.{WrittenOut}
 -- 1. "Whatever text, number or tables come in, a reply comes back; what is unfit is refused by the exact number, with the lent tables in the exact state that document 01 lists". The
 -- public calls have no `requires`, and their contracts are equations with the definitions that these claims speak of (conductor/src/calls.rt)
 pub record FirstDemand (L : Limits) : Type 0 where
+  pub exact-numbers : ExactNumbers L
+  pub reported-of-texts : ReportedOfTexts L
   pub refusals-leave : RefusalsLeave L
   pub full-sizes-kept : FullSizesKept L
 

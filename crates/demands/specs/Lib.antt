@@ -1,4 +1,5 @@
 pub mod FullSizes
 pub mod Writing
+pub mod Numbers
 pub mod Refusals
 pub mod Demands

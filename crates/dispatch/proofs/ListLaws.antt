@@ -16,7 +16,7 @@ use Rattle.plan.specs.Field.{planOf}
 use Rattle.plan.specs.Status.{statusIn}
 use Rattle.sound.specs.Sound.{sound}
 use Rattle.lines.proofs.WriteLaws.{sets-append}
-use Rattle.log.specs.CallLog.{Reply, refused, replyNumber, awaited, replyFrom, Entry, entry}
+use Rattle.log.specs.CallLog.{Reply, refused, replyNumber, awaited, replyFrom, Entry, entryOf}
 use Rattle.log.specs.Calls.{step, replyOf, grantStep, arriveStep, turnStep, recorded, tablesAfter}
 use Rattle.log.proofs.Whole.{demand3}
 use Rattle.log.proofs.Meaning.{read-back}
@@ -108,7 +108,7 @@ module _ (L : Limits) where
   unfolding gotBy recorded callsOf answersOn
   got-recorded [] t ns ws h g = refl
   got-recorded (call c ∷ qs) t ns ws h g =
-      ap₂ (λ (r : Reply) (es : List Entry). entry (callOf c) r ∷ es)
+      ap₂ (λ (r : Reply) (es : List Entry). entryOf (callOf c) r ∷ es)
       (ap₂ replyFrom (h 0 (omega arith)) (g 0 (omega arith)) ∙ means-step L t c)
       (got-recorded qs (step L t (callOf c) .tables) (λ i. ns (suc i)) (λ i. ws (suc i)) (λ k l. h (suc k) (omega arith)) (λ k l. g (suc k) (omega arith)))
   got-recorded (cost ∷ qs) t ns ws h g = got-recorded qs t (λ i. ns (suc i)) (λ i. ws (suc i)) (λ k l. h (suc k) (omega arith)) (λ k l. g (suc k) (omega arith))

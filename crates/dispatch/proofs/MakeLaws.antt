@@ -13,7 +13,7 @@ use Rattle.plan.specs.Field.{FieldPlan, planOf, Status}
 use Rattle.plan.specs.Status.{statusIn, unmet}
 use Rattle.sound.specs.Sound.{sound}
 use Rattle.log.specs.CallLog.{grant as grantCall, Reply, refused, mustWait, replyNumber, awaited, when, firstThatHolds, replyIn}
-use Rattle.log.specs.Calls.{step, replyOf, grantStep, Answered, CostReply, costs, costRefused, costReply}
+use Rattle.log.specs.Calls.{step, replyOf, grantStep, Answered, CostOutcome, costs, costRefused, costReply}
 use Rattle.log.proofs.Costs.{cost-limit}
 use Rattle.flat.proofs.Facts.{facts}
 use Rattle.transcript.specs.Input.{LineCall, grant, arrive, turn, callOf, call, cost, requestOf}
@@ -52,7 +52,7 @@ waits-few L t d = go (fullSize L t) (sound L t) refl refl
 pub grant-fits : (t t′ : Tables) (d : ℕ) (r : Reply) → Answered (step limits) t (grantCall d) r t′ → awaited r < 2 ^ 32
 grant-fits t t′ d r a = omega (arith, ap awaited (a .replied), waits-few limits t d)
 
-pub cost-fits : (t : Tables) (r : CostReply) → r ≡ costReply limits t → costDetail r < 2 ^ 32
+pub cost-fits : (t : Tables) (r : CostOutcome) → r ≡ costReply limits t → costDetail r < 2 ^ 32
 cost-fits t (costs n) e = omega (arith, cost-limit t n (sym e))
 cost-fits t (costRefused n) e = omega arith
 
@@ -68,7 +68,7 @@ value-fits r n e h = rw e at h
 pub call-made : (L : Limits) (t : Tables) (c : LineCall) (r : Reply) (n w : ℕ) (t′ : Tables) → Answered (step L) t (callOf c) r t′ → Tells r n w → RequestMade L t (call c) n w t′
 call-made L t c r n w t′ a k = record { number-is = k .number-is ∙ ap replyNumber (a .replied); detail-is = k .detail-is ∙ ap awaited (a .replied); tables-are = a .left }
 
-pub cost-made : (L : Limits) (t : Tables) (r : CostReply) (n w : ℕ) → r ≡ costReply L t → n ≡ costNumber r → w ≡ costDetail r → RequestMade L t cost n w t
+pub cost-made : (L : Limits) (t : Tables) (r : CostOutcome) (n w : ℕ) → r ≡ costReply L t → n ≡ costNumber r → w ≡ costDetail r → RequestMade L t cost n w t
 cost-made L t r n w e p q = record { number-is = p ∙ ap costNumber e; detail-is = q ∙ ap costDetail e; tables-are = refl }
 
 -- ---- by the kind

@@ -6,7 +6,7 @@ use Rattle.below.specs.Below.{at}
 use Rattle.tables.specs.Limits.{Limits}
 use Rattle.tables.specs.Tables.{PlanLists, Tables}
 use Rattle.plan.specs.Field.{planOf}
-use Rattle.log.specs.CallLog.{Call, Reply, replyNumber, awaited, replyFrom, Entry, entry}
+use Rattle.log.specs.CallLog.{Call, Reply, replyNumber, awaited, replyFrom, Entry, entryOf}
 use Rattle.log.specs.Calls.{AsRead}
 use Rattle.log.specs.Demand.{Found}
 use Rattle.transcript.specs.Input.{callOf, Request, call, cost}
@@ -36,7 +36,7 @@ callsOf (cost ∷ qs) = callsOf qs
 -- each call with the reply that the tables hold for it, by the numbers and the details from its entry on
 unfoldable pub gotBy : List Request → (ℕ → ℕ) → (ℕ → ℕ) → List Entry
 gotBy [] ns ws = []
-gotBy (call c ∷ qs) ns ws = entry (callOf c) (replyFrom (ns 0) (ws 0)) ∷ gotBy qs (λ i. ns (suc i)) (λ i. ws (suc i))
+gotBy (call c ∷ qs) ns ws = entryOf (callOf c) (replyFrom (ns 0) (ws 0)) ∷ gotBy qs (λ i. ns (suc i)) (λ i. ws (suc i))
 gotBy (cost ∷ qs) ns ws = gotBy qs (λ i. ns (suc i)) (λ i. ws (suc i))
 
 -- the answers stand from the first entry on, the tables are those after the last request; and demand 3: if an accepted reading left the tables t, every call got the

@@ -41,11 +41,11 @@ module _ (L : Limits) (t : Tables) (u : Usable L t) (d : ℕ) where
   -- ---- grant
 
   -- the search of the code, over the columns alone, is the search in the graph
-  unmet-is : unmet (planIn (dependencies (t .plan)) (columnsIn t)) (statusOf (columnsIn t) (t .visited)) d ≡ firstBelow (dependencies (t .plan)) (blocks (graph (planOf (t .plan)) (statusIn t)) (at (t .visited)) d)
+  unmet-is : unmet (planIn (dependencies (t .plan)) (columnsIn t)) (statusOf (t .visited) (columnsIn t)) d ≡ firstBelow (dependencies (t .plan)) (blocks (graph (planOf (t .plan)) (statusIn t)) (at (t .visited)) d)
   unfolding blocks
   unmet-is = refl
 
-  first-unmet : (w : ℕ) → w ≡ unmet (planIn (dependencies (t .plan)) (columnsIn t)) (statusOf (columnsIn t) (t .visited)) d → First (dependencies (t .plan)) (blocks (graph (planOf (t .plan)) (statusIn t)) (at (t .visited)) d) w
+  first-unmet : (w : ℕ) → w ≡ unmet (planIn (dependencies (t .plan)) (columnsIn t)) (statusOf (t .visited) (columnsIn t)) d → First (dependencies (t .plan)) (blocks (graph (planOf (t .plan)) (statusIn t)) (at (t .visited)) d) w
   first-unmet w e = rw (e ∙ unmet-is) (firstBelow-first (dependencies (t .plan)) (blocks (graph (planOf (t .plan)) (statusIn t)) (at (t .visited)) d))
 
   pub grants-20 : drones (t .plan) ≤ d → Answered (step L) t (grant d) (refused 20) t
@@ -58,7 +58,7 @@ module _ (L : Limits) (t : Tables) (u : Usable L t) (d : ℕ) where
     pub grants-22 : f ≡ true → Answered (step L) t (grant d) (refused 22) t
     grants-22 e = answered (step L) t (grant d) (refused 22) t (grant-22 L t (u .0) (u .1) d a b (sym is-f ∙ e))
 
-    module _ (idle : f ≡ false) (w : ℕ) (is-w : w ≡ unmet (planIn (dependencies (t .plan)) (columnsIn t)) (statusOf (columnsIn t) (t .visited)) d) where
+    module _ (idle : f ≡ false) (w : ℕ) (is-w : w ≡ unmet (planIn (dependencies (t .plan)) (columnsIn t)) (statusOf (t .visited) (columnsIn t)) d) where
       pub grants-23 : w < dependencies (t .plan) → Answered (step L) t (grant d) (mustWait w) t
       grants-23 l = answered (step L) t (grant d) (mustWait w) t (grant-23 L t (u .0) (u .1) d a b (sym is-f ∙ idle) w (first-unmet w is-w) l)
 

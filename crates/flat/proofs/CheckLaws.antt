@@ -14,7 +14,7 @@ use Rattle.log.specs.Claims.{Usable}
 use Rattle.log.proofs.Steps.{step-41, step-40}
 use Rattle.flat.specs.declared.calls.TablesCheck.{TablesCheck}
 use Rattle.flat.specs.declared.calls.TablesCheck.the-variants.{Usable as CanBeUsed, TooSmall, NotSound}
-use Rattle.flat.specs.Checking.{checkOf}
+use Rattle.flat.specs.Checking.{tablesCheckOf}
 use Rattle.flat.proofs.Answers.{answered}
 
 -- the three answers are different
@@ -31,27 +31,27 @@ module _ (L : Limits) (t : Tables) where
   -- ---- the check's returns
 
   module _ (f : Bool) (is-f : f ≡ fullSize L t) where
-    pub too-small : not f ≡ true → TooSmall ≡ checkOf L t
-    unfolding checkOf
+    pub too-small : not f ≡ true → TooSmall ≡ tablesCheckOf L t
+    unfolding tablesCheckOf
     too-small e = rw (sym is-f ∙ not-true f e) refl
 
     pub full-now : not f ≡ false → fullSize L t ≡ true
     full-now e = sym is-f ∙ not-false f e
 
     module _ (s : Bool) (is-s : s ≡ sound L t) where
-      pub not-sound : not f ≡ false → not s ≡ true → NotSound ≡ checkOf L t
-      unfolding checkOf
+      pub not-sound : not f ≡ false → not s ≡ true → NotSound ≡ tablesCheckOf L t
+      unfolding tablesCheckOf
       not-sound e k = rw (sym is-f ∙ not-false f e, sym is-s ∙ not-true s k) refl
 
-      pub usable-now : not f ≡ false → not s ≡ false → CanBeUsed ≡ checkOf L t
-      unfolding checkOf
+      pub usable-now : not f ≡ false → not s ≡ false → CanBeUsed ≡ tablesCheckOf L t
+      unfolding tablesCheckOf
       usable-now e k = rw (sym is-f ∙ not-false f e, sym is-s ∙ not-false s k) refl
 
   -- ---- what the check's answer says
 
-  module _ (r : TablesCheck) (is-r : r ≡ checkOf L t) where
+  module _ (r : TablesCheck) (is-r : r ≡ tablesCheckOf L t) where
     pub says-too-small : r ≡ TooSmall → fullSize L t ≡ false
-    unfolding checkOf
+    unfolding tablesCheckOf
     says-too-small e = by-cases (fullSize L t)
         (λ f. by-cases (sound L t)
         (λ s. absurd (small-unusable (sym e ∙ is-r ∙ rw (f, s) refl)))
@@ -59,7 +59,7 @@ module _ (L : Limits) (t : Tables) where
         (λ f. f)
 
     pub says-not-sound : r ≡ NotSound → (fullSize L t ≡ true) × (sound L t ≡ false)
-    unfolding checkOf
+    unfolding tablesCheckOf
     says-not-sound e = by-cases (fullSize L t)
         (λ f. by-cases (sound L t)
         (λ s. absurd (unsound-unusable (sym e ∙ is-r ∙ rw (f, s) refl)))
@@ -67,7 +67,7 @@ module _ (L : Limits) (t : Tables) where
         (λ f. absurd (small-not-unsound (sym (sym e ∙ is-r ∙ rw f refl))))
 
     pub says-usable : r ≡ CanBeUsed → Usable L t
-    unfolding checkOf
+    unfolding tablesCheckOf
     says-usable e = by-cases (fullSize L t)
         (λ f. by-cases (sound L t)
         (λ s. (f, s))

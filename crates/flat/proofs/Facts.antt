@@ -14,7 +14,7 @@ use Rattle.tables.specs.Flags.{underWayBit}
 use Rattle.tables.proofs.SizeLaws.{full-sizes}
 use Rattle.plan.specs.Field.{planOf, Meeting}
 use Rattle.plan.specs.Status.{withinStops}
-use Rattle.plan.specs.Columns.{Columns, columns}
+use Rattle.plan.specs.Columns.{Columns, columnsWith}
 use Rattle.plan.specs.Room.{WaitsRoom}
 use Rattle.plan.proofs.Numbering.{start-suc, start-mono}
 use Rattle.log.specs.Claims.{Usable}
@@ -69,10 +69,10 @@ module _ (L : Limits) (t : Tables) (u : Usable L t) where
 
 -- the columns of the dependencies
 abbrev pub columnsIn : Tables → Columns
-columnsIn t = columns (t .plan .firstDrones) (t .plan .firstStops) (t .plan .secondDrones) (t .plan .secondStops) (t .flags)
+columnsIn t = columnsWith (t .plan .firstDrones) (t .plan .firstStops) (t .plan .secondDrones) (t .plan .secondStops) (t .flags)
 
 -- what the search for an unmet dependency asks of the tables
-pub waits-room : (L : Limits) (t : Tables) → Facts L t → L .dependencies ≤ 65536 → (d : ℕ) → d < drones (t .plan) → WaitsRoom (dependencies (t .plan)) (columnsIn t) (t .visited) d
+pub waits-room : (L : Limits) (t : Tables) → Facts L t → L .dependencies ≤ 65536 → (d : ℕ) → d < drones (t .plan) → WaitsRoom (dependencies (t .plan)) (t .visited) (columnsIn t) d
 waits-room L t f fit d l = record {
   entries = record {
     has-first-drones = omega (arith, f .dependencies-few, f .sizes .first-drones);

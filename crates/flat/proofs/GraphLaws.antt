@@ -17,7 +17,7 @@ use Rattle.tables.specs.Flags.{turnedBit, flipBit}
 use Rattle.tables.proofs.FlagLaws.{flip-turned}
 use Rattle.precedence.specs.Graph.{Plan, Wait, Formed, Kept, cyclic, cost, makespan}
 use Rattle.precedence.proofs.Agreement.{GraphsAgree, AwaitedIn, awaited-in, cyclic-agree, cost-agree, makespan-agree}
-use Rattle.plan.specs.Stops.{start, owner, number}
+use Rattle.plan.specs.Stops.{start, owner, stopNumber}
 use Rattle.plan.specs.Room.{Counts}
 use Rattle.plan.specs.Claims.{Numbered, Unfixed}
 use Rattle.plan.specs.Field.{Dependency, FieldPlan, Status, inForce, waitOf, flip, afterTurn, planOf, graph, fixed, AcceptedPlan}
@@ -26,7 +26,7 @@ use Rattle.plan.proofs.Numbering.{numbered}
 use Rattle.plan.proofs.Turns.{graph-formed}
 use Rattle.cycles.specs.Flat.{flatPlan, Shape, PlacedWaits, FlatTables}
 use Rattle.cycles.proofs.Placed.{formed as flat-formed}
-use Rattle.sound.specs.Asked.{GraphTables, InForce}
+use Rattle.sound.specs.Asked.{GraphTables, WaitsInForce}
 use Rattle.sound.proofs.Clauses.{Sound, sound-says}
 use Rattle.sound.proofs.Local.{wait-is}
 use Rattle.rounds.specs.Remaining.{Ready}
@@ -54,7 +54,7 @@ module _ {L : Limits} (counts : List ℕ) (G : Plan) (owners starts lasts from i
   abbrev n : ℕ
   n = start counts D
 
-  N : Numbered own (number D counts) (start counts) (λ d. at counts d - 1) D n
+  N : Numbered own (stopNumber D counts) (start counts) (λ d. at counts d - 1) D n
   N = numbered D counts have
 
   -- stop s of drone d, numbered through
@@ -243,7 +243,7 @@ module _ (L : Limits) (t : Tables) (u : Usable L t) where
 
   -- ---- the order now in force
 
-  module _ (n : ℕ) (total : n ≡ start (p .stopCounts) (drones p)) (owners starts lasts from into : List ℕ) (T : InForce L t owners starts lasts from into) where
+  module _ (n : ℕ) (total : n ≡ start (p .stopCounts) (drones p)) (owners starts lasts from into : List ℕ) (T : WaitsInForce L t owners starts lasts from into) where
     pub now-ready : Ready L owners starts lasts (drones p) n from into (dependencies p) (t .visited)
     now-ready = order-ready (statusIn t) unfixed-now n total owners starts lasts from into T (S .no-cycle) (kept L t (S .waits-kept))
 
@@ -284,5 +284,5 @@ module _ (L : Limits) (t : Tables) (u : Usable L t) where
         turn-cyclic r e = e ∙ order-cyclic (afterTurn (statusIn t) w) unfixed-turned n total owners starts lasts from′ into′ after
 
         -- the exchanged waits are those of the tables after the turn
-        pub turn-in-force : InForce L (flipped t w) owners starts lasts from′ into′
+        pub turn-in-force : WaitsInForce L (flipped t w) owners starts lasts from′ into′
         turn-in-force = subst (λ (z : Status). GraphTables L (p .stopCounts) (graph (planOf p) z) owners starts lasts from′ into′) (sym (flipped-status t w (omega (arith, exists, facts-now .dependencies-few, facts-now .sizes .flags)))) after

@@ -24,7 +24,7 @@ use Rattle.flat.specs.declared.calls.TablesCheck.{TablesCheck}
 use Rattle.flat.specs.declared.calls.TablesCheck.the-variants.{TooSmall, NotSound}
 use Rattle.flat.specs.declared.turn_tests.TurnTest.{TurnTest}
 use Rattle.flat.specs.declared.turn_tests.TurnTest.the-variants as test
-use Rattle.flat.specs.Checking.{checkOf}
+use Rattle.flat.specs.Checking.{tablesCheckOf}
 use Rattle.flat.specs.InForce.{groupCyclic}
 use Rattle.flat.specs.Lent.{withFlags}
 use Rattle.flat.specs.TurnTests.{walkOf}
@@ -38,10 +38,10 @@ module _ (L : Limits) (t : Tables) (ws : List ℕ) where
   pub as-refused : (n : ℕ) → Answered (step L) t (turnAll ws) (refused n) t → wouldRefuse n ≡ previewAll L t ws
   as-refused n h = previewAll-refusal L t ws t n h
 
-  pub list-previews-41 : (r : TablesCheck) → r ≡ checkOf L t → r ≡ TooSmall → wouldRefuse 41 ≡ previewAll L t ws
+  pub list-previews-41 : (r : TablesCheck) → r ≡ tablesCheckOf L t → r ≡ TooSmall → wouldRefuse 41 ≡ previewAll L t ws
   list-previews-41 r is-r e = as-refused 41 (refused-41 L t r is-r e (turnAll ws))
 
-  pub list-previews-40 : (r : TablesCheck) → r ≡ checkOf L t → r ≡ NotSound → wouldRefuse 40 ≡ previewAll L t ws
+  pub list-previews-40 : (r : TablesCheck) → r ≡ tablesCheckOf L t → r ≡ NotSound → wouldRefuse 40 ≡ previewAll L t ws
   list-previews-40 r is-r e = as-refused 40 (refused-40 L t r is-r e (turnAll ws))
 
 module _ (L : Limits) (t : Tables) (u : Usable L t) (ws : List ℕ) where

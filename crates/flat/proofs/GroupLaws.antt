@@ -18,14 +18,14 @@ use Rattle.plan.specs.Claims.{Unfixed}
 use Rattle.plan.specs.Field.{Status, afterTurn, planOf, graph, fixed}
 use Rattle.plan.specs.Status.{statusIn}
 use Rattle.cycles.specs.Flat.{flatPlan, FlatTables}
-use Rattle.sound.specs.Asked.{GraphTables, InForce}
+use Rattle.sound.specs.Asked.{GraphTables, WaitsInForce}
 use Rattle.log.specs.CallLog.{isGroup}
 use Rattle.log.specs.Calls.{flipFlags, flipped, flippedAll}
 use Rattle.log.specs.Claims.{Usable}
 use Rattle.log.proofs.FlipLaws.{flipsTo, flips-end, flips-to-length}
 use Rattle.log.proofs.Steps.{PassedTo}
 use Rattle.log.proofs.TurnSteps.{status-after}
-use Rattle.flat.specs.Exchanging.{Waits, waits, exchangeAt, exchangesTo, CanExchange}
+use Rattle.flat.specs.Exchanging.{WaitLists, waitsFrom, exchangeAt, exchangesTo, CanExchange}
 use Rattle.flat.specs.InForce.{groupCyclic}
 use Rattle.flat.specs.Lent.{withFlags}
 use Rattle.flat.proofs.Facts.{Facts, facts}
@@ -33,29 +33,29 @@ use Rattle.flat.proofs.GraphLaws.{from-some, exchanged, flip-other, fli
 
 -- ---- the loops
 
-pub exchange-none : (ws : List ℕ) (p : Waits) → p ≡ exchangesTo 0 ws p
+pub exchange-none : (ws : List ℕ) (p : WaitLists) → p ≡ exchangesTo 0 ws p
 unfolding exchangesTo
 exchange-none ws p = refl
 
-pub exchange-more : (ws : List ℕ) (p : Waits) (i k : ℕ) (from into from′ into′ : List ℕ) → k ≡ suc i → waits from into ≡ exchangesTo i ws p → from′ ≡ set from (at ws i) (at into (at ws i) + 1) → into′ ≡ set into (at ws i) (at from (at ws i) - 1) → waits from′ into′ ≡ exchangesTo k ws p
+pub exchange-more : (ws : List ℕ) (p : WaitLists) (i k : ℕ) (from into from′ into′ : List ℕ) → k ≡ suc i → waitsFrom from into ≡ exchangesTo i ws p → from′ ≡ set from (at ws i) (at into (at ws i) + 1) → into′ ≡ set into (at ws i) (at from (at ws i) - 1) → waitsFrom from′ into′ ≡ exchangesTo k ws p
 unfolding exchangesTo
-exchange-more ws p i k from into from′ into′ q e f g = rw (q, f, g) (ap (λ (z : Waits). exchangeAt z (at ws i)) e)
+exchange-more ws p i k from into from′ into′ q e f g = rw (q, f, g) (ap (λ (z : WaitLists). exchangeAt z (at ws i)) e)
 
-pub exchange-end : (ws : List ℕ) (p q : Waits) (i : ℕ) → i ≤ length ws → length ws ≤ i → q ≡ exchangesTo i ws p → q ≡ exchangesTo (length ws) ws p
+pub exchange-end : (ws : List ℕ) (p q : WaitLists) (i : ℕ) → i ≤ length ws → length ws ≤ i → q ≡ exchangesTo i ws p → q ≡ exchangesTo (length ws) ws p
 exchange-end ws p q i l h e = let s : i ≡ length ws = omega arith in e ∙ ap (λ (z : ℕ). exchangesTo z ws p) s
 
-pub exchange-can : {L : Limits} (p q : Waits) (k : ℕ) → p ≡ q → CanExchange L q k → CanExchange L p k
-exchange-can {L} p q k e h = subst (λ (z : Waits). CanExchange L z k) (sym e) h
+pub exchange-can : {L : Limits} (p q : WaitLists) (k : ℕ) → p ≡ q → CanExchange L q k → CanExchange L p k
+exchange-can {L} p q k e h = subst (λ (z : WaitLists). CanExchange L z k) (sym e) h
 
-exchanges-lengths : (n : ℕ) (ws : List ℕ) (p : Waits) → (length (exchangesTo n ws p .from) ≡ length (p .from)) × (length (exchangesTo n ws p .into) ≡ length (p .into))
+exchanges-lengths : (n : ℕ) (ws : List ℕ) (p : WaitLists) → (length (exchangesTo n ws p .from) ≡ length (p .from)) × (length (exchangesTo n ws p .into) ≡ length (p .into))
 unfolding exchangesTo
 exchanges-lengths zero ws p = (refl, refl)
 exchanges-lengths (suc n) ws p =
     let (f, g) = exchanges-lengths n ws p in
     (length-set (exchangesTo n ws p .from) (at ws n) (at (exchangesTo n ws p .into) (at ws n) + 1) ∙ f, length-set (exchangesTo n ws p .into) (at ws n) (at (exchangesTo n ws p .from) (at ws n) - 1) ∙ g)
 
-pub exchange-lengths : (ws : List ℕ) (p q : Waits) (i n : ℕ) → length (p .from) ≡ n → length (p .into) ≡ n → q ≡ exchangesTo i ws p → (length (q .from) ≡ n) × (length (q .into) ≡ n)
-exchange-lengths ws p q i n x y e = (ap (λ (z : Waits). length (z .from)) e ∙ exchanges-lengths i ws p .0 ∙ x, ap (λ (z : Waits). length (z .into)) e ∙ exchanges-lengths i ws p .1 ∙ y)
+pub exchange-lengths : (ws : List ℕ) (p q : WaitLists) (i n : ℕ) → length (p .from) ≡ n → length (p .into) ≡ n → q ≡ exchangesTo i ws p → (length (q .from) ≡ n) × (length (q .into) ≡ n)
+exchange-lengths ws p q i n x y e = (ap (λ (z : WaitLists). length (z .from)) e ∙ exchanges-lengths i ws p .0 ∙ x, ap (λ (z : WaitLists). length (z .into)) e ∙ exchanges-lengths i ws p .1 ∙ y)
 
 pub flip-none : (ws flags : List ℕ) → flags ≡ flipsTo 0 ws flags
 unfolding flipsTo
@@ -101,9 +101,9 @@ module _ (L : Limits) (t : Tables) (u : Usable L t) (ws : List ℕ) (passed : Pa
       (λ q. ap (fixed (planOf p)) (eqb-true k (at ws i) q) ∙ passed i (omega arith) .1)
       (λ q. unfixed-to i (omega arith) k h (sym (flip-other (statusIn (flippedTo i) .turned) (at ws i) k q) ∙ sym (ap (λ (z : Status). z .turned k) (flipped-next i (omega arith))) ∙ e))
 
-  module _ (owners starts lasts from into : List ℕ) (T : InForce L t owners starts lasts from into) where
-    abbrev after : ℕ → Waits
-    after i = exchangesTo i ws (waits from into)
+  module _ (owners starts lasts from into : List ℕ) (T : WaitsInForce L t owners starts lasts from into) where
+    abbrev after : ℕ → WaitLists
+    after i = exchangesTo i ws (waitsFrom from into)
 
     -- the waits with the first i exchanged are those with the first i flipped
     held-to : (i : ℕ) → i ≤ length ws → GraphTables L (p .stopCounts) (graph (planOf p) (statusIn (flippedTo i))) owners starts lasts (after i .from) (after i .into)
@@ -125,15 +125,15 @@ module _ (L : Limits) (t : Tables) (u : Usable L t) (ws : List ℕ) (passed : Pa
     }
 
     -- all are exchanged; n stops in all
-    module _ (from′ into′ : List ℕ) (e : waits from′ into′ ≡ after (length ws)) where
+    module _ (from′ into′ : List ℕ) (e : waitsFrom from′ into′ ≡ after (length ws)) where
       held : GraphTables L (p .stopCounts) (graph (planOf p) (statusIn (flippedTo (length ws)))) owners starts lasts from′ into′
-      held = subst (λ (z : Waits). GraphTables L (p .stopCounts) (graph (planOf p) (statusIn (flippedTo (length ws)))) owners starts lasts (z .from) (z .into)) (sym e) (held-to (length ws) (omega arith))
+      held = subst (λ (z : WaitLists). GraphTables L (p .stopCounts) (graph (planOf p) (statusIn (flippedTo (length ws)))) owners starts lasts (z .from) (z .into)) (sym e) (held-to (length ws) (omega arith))
 
       shown : statusIn (flippedTo (length ws)) ≡ statusIn (flippedAll t ws)
       shown = ap (λ (z : List ℕ). statusIn (withFlags t z)) (flips-end ws (t .flags))
 
       -- the exchanged waits are those of the tables after the turn
-      pub group-in-force : InForce L (flippedAll t ws) owners starts lasts from′ into′
+      pub group-in-force : WaitsInForce L (flippedAll t ws) owners starts lasts from′ into′
       group-in-force = subst (λ (z : Status). GraphTables L (p .stopCounts) (graph (planOf p) z) owners starts lasts from′ into′) shown held
 
       module _ (n : ℕ) (total : n ≡ start (p .stopCounts) (drones p)) where

@@ -20,7 +20,7 @@ use Rattle.flat.specs.declared.calls.TablesCheck.{TablesCheck}
 use Rattle.flat.specs.declared.calls.TablesCheck.the-variants.{TooSmall, NotSound}
 use Rattle.flat.specs.declared.turn_tests.TurnTest.{TurnTest}
 use Rattle.flat.specs.declared.turn_tests.TurnTest.the-variants as test
-use Rattle.flat.specs.Checking.{checkOf}
+use Rattle.flat.specs.Checking.{tablesCheckOf}
 use Rattle.flat.specs.InForce.{turnedCyclic}
 use Rattle.flat.specs.TurnTests.{testOf}
 use Rattle.flat.proofs.SignedLaws.{difference-fits}
@@ -39,10 +39,10 @@ pub change-read : (L : Limits) → CostsSmall L → (t t′ : Tables) (a b : ℕ
 change-read L small t t′ a b p q z is-z = ap (λ (x : ℤ). wouldTurn (toZ w32 (ofZ w32 x))) is-z ∙ ap wouldTurn (toZ-ofZ (difference-fits a b (small t′ a p) (small t b q)))
 
 module _ (L : Limits) (t : Tables) (w : ℕ) where
-  pub previews-41 : (r : TablesCheck) → r ≡ checkOf L t → r ≡ TooSmall → wouldRefuse 41 ≡ preview L t w
+  pub previews-41 : (r : TablesCheck) → r ≡ tablesCheckOf L t → r ≡ TooSmall → wouldRefuse 41 ≡ preview L t w
   previews-41 r is-r e = preview-refusal L t w t 41 (refused-41 L t r is-r e (turn w))
 
-  pub previews-40 : (r : TablesCheck) → r ≡ checkOf L t → r ≡ NotSound → wouldRefuse 40 ≡ preview L t w
+  pub previews-40 : (r : TablesCheck) → r ≡ tablesCheckOf L t → r ≡ NotSound → wouldRefuse 40 ≡ preview L t w
   previews-40 r is-r e = preview-refusal L t w t 40 (refused-40 L t r is-r e (turn w))
 
   -- r: the result of the tests

@@ -9,7 +9,7 @@ use Rattle.tables.specs.Limits.{Limits}
 use Rattle.tables.specs.Tables.{Tables, dependencies}
 use Rattle.tables.specs.Flags.{turnedBit, fixedBit}
 use Rattle.plan.specs.Field.{FieldPlan, Status, planOf, Dependency, inForce, fixed}
-use Rattle.plan.specs.Status.{statusIn, entered, now}
+use Rattle.plan.specs.Status.{statusIn, entered, dependencyNow}
 use Rattle.log.specs.Claims.{Usable}
 use Rattle.sound.specs.Parts.{enteredBy}
 use Rattle.sound.proofs.Clauses.{sound-says}
@@ -62,7 +62,7 @@ module _ (L : Limits) (t : Tables) (u : Usable L t) (w : ℕ) where
         (is-p : p ≡ enteredBy (at (t .visited) (at (t .plan .firstDrones) w)) (at (t .droneFlags) (at (t .plan .firstDrones) w)) (at (t .plan .firstStops) w))
         (is-q : q ≡ enteredBy (at (t .visited) (at (t .plan .secondDrones) w)) (at (t .droneFlags) (at (t .plan .secondDrones) w)) (at (t .plan .secondStops) w))
         (is-b : b ≡ turnedBit (at (t .flags) w)) (is-x : x ≡ cond b q p) where
-      x-is : x ≡ entered F S (now F S w .first) (now F S w .firstStop)
+      x-is : x ≡ entered F S (dependencyNow F S w .first) (dependencyNow F S w .firstStop)
       unfolding enteredBy
       x-is = is-x ∙ rw (is-b, is-p, is-q) (first-entered F S (F .dependency w) (turnedBit (at (t .flags) w)))
 
@@ -77,8 +77,8 @@ module _ (L : Limits) (t : Tables) (u : Usable L t) (w : ℕ) where
 -- ---- what the result says
 
 abbrev pub SaidOf : Tables → ℕ → TurnTest → Type 0
-SaidOf t w r = Said (leb (dependencies (t .plan)) w) (fixed (planOf (t .plan)) w) (entered (planOf (t .plan)) (statusIn t) (now (planOf (t .plan)) (statusIn t) w .first) (now (planOf (t .plan)) (statusIn t) w .firstStop)) r
+SaidOf t w r = Said (leb (dependencies (t .plan)) w) (fixed (planOf (t .plan)) w) (entered (planOf (t .plan)) (statusIn t) (dependencyNow (planOf (t .plan)) (statusIn t) w .first) (dependencyNow (planOf (t .plan)) (statusIn t) w .firstStop)) r
 
 pub test-said : (t : Tables) (w : ℕ) (r x : TurnTest) → r ≡ testOf t w → r ≡ x → SaidOf t w x
 unfolding testOf
-test-said t w r x e h = subst (SaidOf t w) (sym e ∙ h) (first-said (leb (dependencies (t .plan)) w) (fixed (planOf (t .plan)) w) (entered (planOf (t .plan)) (statusIn t) (now (planOf (t .plan)) (statusIn t) w .first) (now (planOf (t .plan)) (statusIn t) w .firstStop)))
+test-said t w r x e h = subst (SaidOf t w) (sym e ∙ h) (first-said (leb (dependencies (t .plan)) w) (fixed (planOf (t .plan)) w) (entered (planOf (t .plan)) (statusIn t) (dependencyNow (planOf (t .plan)) (statusIn t) w .first) (dependencyNow (planOf (t .plan)) (statusIn t) w .firstStop)))

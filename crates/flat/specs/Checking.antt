@@ -6,10 +6,10 @@ use Rattle.sound.specs.Sound.{sound}
 use Rattle.flat.specs.declared.calls.TablesCheck.{TablesCheck}
 use Rattle.flat.specs.declared.calls.TablesCheck.the-variants.{Usable, TooSmall, NotSound}
 
-abbrev pub pickCheck : Bool → TablesCheck → TablesCheck → TablesCheck
-pickCheck true a b = a
-pickCheck false a b = b
+abbrev pub pickTablesCheck : Bool → TablesCheck → TablesCheck → TablesCheck
+pickTablesCheck true a b = a
+pickTablesCheck false a b = b
 
 -- "41 a lent table is below full size", then "40 not sound"
-unfoldable pub checkOf : Limits → Tables → TablesCheck
-checkOf L t = pickCheck (fullSize L t) (pickCheck (sound L t) Usable NotSound) TooSmall
+unfoldable pub tablesCheckOf : Limits → Tables → TablesCheck
+tablesCheckOf L t = pickTablesCheck (fullSize L t) (pickTablesCheck (sound L t) Usable NotSound) TooSmall

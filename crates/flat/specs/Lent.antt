@@ -3,7 +3,7 @@ use mathlib.Core.List.{List}
 use Prim.Native.Nat.{ℕ}
 use Rattle.tables.specs.Limits.{Limits}
 use Rattle.tables.specs.Tables.{Tables, tablesOf}
-use Rattle.sound.specs.Asked.{InForce}
+use Rattle.sound.specs.Asked.{WaitsInForce}
 use Rattle.log.specs.Claims.{Usable}
 
 -- `holding t` are the tables t with the lent lists in place of their own. P holds of some tables that hold the lent lists
@@ -18,7 +18,7 @@ pub record Whatever (holding : Tables → Tables) (P Q : Tables → Type 0) : Ty
 -- usable tables, and local ones that hold their graph now in force
 pub record UsableInForce (L : Limits) (owners starts lasts from into : List ℕ) (t : Tables) : Type 0 where
   pub usable : Usable L t
-  pub in-force : InForce L t owners starts lasts from into
+  pub in-force : WaitsInForce L t owners starts lasts from into
 
 -- ---- the lists that functions are lent, in the order of the tables
 

@@ -1,6 +1,6 @@
 -- Document 01's reply for each case of the answers of turn, its preview, cost and rounds ("Where each refusal is checked"). Assumes nothing.
 use Rattle.log.specs.CallLog.{Reply, accepted, refused}
-use Rattle.log.specs.Calls.{CostReply, costs, costRefused, RoundsReply, rounds, roundsRefused}
+use Rattle.log.specs.Calls.{CostOutcome, costs, costRefused, RoundsOutcome, rounds, roundsRefused}
 use Rattle.flat.specs.declared.turn_replies.TurnReply.{TurnReply}
 use Rattle.flat.specs.declared.turn_replies.TurnReply.the-variants as turn
 use Rattle.log.specs.Preview.{wouldTurn, wouldRefuse}
@@ -37,7 +37,7 @@ turnAllMeant turnAll.FirstEntered = refused 32
 turnAllMeant turnAll.Cycle = refused 34
 
 -- "Refused: as for turn", or the change of the cost
-abbrev pub previewMeant : PreviewReply → log.PreviewReply
+abbrev pub previewMeant : PreviewReply → log.PreviewOutcome
 previewMeant (preview.Change z) = wouldTurn z
 previewMeant preview.TablesTooSmall = wouldRefuse 41
 previewMeant preview.NotSound = wouldRefuse 40
@@ -46,7 +46,7 @@ previewMeant preview.Fixed = wouldRefuse 31
 previewMeant preview.FirstEntered = wouldRefuse 32
 previewMeant preview.Cycle = wouldRefuse 34
 
-abbrev pub previewAllMeant : PreviewAllReply → log.PreviewReply
+abbrev pub previewAllMeant : PreviewAllReply → log.PreviewOutcome
 previewAllMeant (previewAll.Change z) = wouldTurn z
 previewAllMeant previewAll.TablesTooSmall = wouldRefuse 41
 previewAllMeant previewAll.NotSound = wouldRefuse 40
@@ -56,12 +56,12 @@ previewAllMeant previewAll.Fixed = wouldRefuse 31
 previewAllMeant previewAll.FirstEntered = wouldRefuse 32
 previewAllMeant previewAll.Cycle = wouldRefuse 34
 
-abbrev pub costMeant : CostAnswer → CostReply
+abbrev pub costMeant : CostAnswer → CostOutcome
 costMeant (cost.Cost n) = costs n
 costMeant cost.TablesTooSmall = costRefused 41
 costMeant cost.NotSound = costRefused 40
 
-abbrev pub roundsMeant : RoundsAnswer → RoundsReply
+abbrev pub roundsMeant : RoundsAnswer → RoundsOutcome
 roundsMeant (landed.Rounds n) = rounds n
 roundsMeant landed.TablesTooSmall = roundsRefused 41
 roundsMeant landed.NotSound = roundsRefused 40

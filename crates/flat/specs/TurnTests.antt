@@ -5,7 +5,7 @@ use Prim.Native.Nat.{ℕ}
 use lib.Dec.{leb}
 use Rattle.tables.specs.Tables.{Tables}
 use Rattle.plan.specs.Field.{FieldPlan, Status, planOf, fixed}
-use Rattle.plan.specs.Status.{statusIn, entered, now}
+use Rattle.plan.specs.Status.{statusIn, entered, dependencyNow}
 use Rattle.flat.specs.declared.turn_tests.TurnTest.{TurnTest}
 use Rattle.flat.specs.declared.turn_tests.TurnTest.the-variants.{Passes, NoDependency, Fixed, FirstEntered}
 
@@ -17,7 +17,7 @@ firstOf false false true = FirstEntered
 firstOf false false false = Passes
 
 abbrev pub testIn : FieldPlan → Status → ℕ → TurnTest
-testIn F s w = firstOf (leb (F .count) w) (fixed F w) (entered F s (now F s w .first) (now F s w .firstStop))
+testIn F s w = firstOf (leb (F .count) w) (fixed F w) (entered F s (dependencyNow F s w .first) (dependencyNow F s w .firstStop))
 
 -- "30 no such dependency; 31 fixed; 32 the first drone has visited or is under way to its stop", with the order now in force
 unfoldable pub testOf : Tables → ℕ → TurnTest

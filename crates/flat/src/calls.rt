@@ -25,14 +25,14 @@ use tables::sizes::full_size;
 ghost use mathlib.Core.Path.{_≡_};
 ghost use Rattle.tables.specs.Limits.{limits};
 ghost use Rattle.tables.specs.Tables.{tablesOf};
-ghost use Rattle.sound.specs.Asked.{InForce, Room};
+ghost use Rattle.sound.specs.Asked.{WaitsInForce, Room};
 ghost use Rattle.log.specs.CallLog.{grant as grantOf, arrive as arriveOf, turn as turnOf, turnAll as turnAllOf};
 ghost use Rattle.log.specs.Calls.{step, Answered, costReply, roundsReply};
 ghost use Rattle.log.specs.Preview.{preview as previewOf, previewAll as previewAllOf};
 ghost use Rattle.flat.specs.Replies.{grantMeant, arriveMeant};
 ghost use Rattle.flat.specs.TurnReplies.{turnMeant, turnAllMeant, previewMeant, previewAllMeant, costMeant, roundsMeant};
 ghost use Rattle.flat.specs.declared.calls.TablesCheck.the-variants.{Usable as CanBeUsed};
-ghost use Rattle.flat.specs.Checking.{checkOf};
+ghost use Rattle.flat.specs.Checking.{tablesCheckOf};
 ghost use Rattle.flat.specs.Writing.{writeMeant, PlanWritten};
 
 // What every call but the reading asks first.
@@ -66,12 +66,12 @@ fn check_graph(
     requires { ⌜ Room limits (now owners) (now starts) (now lasts) (now from) (now into) ⌝ }
     ensures { λ r.
         ⌜
-        (r ≡ checkOf limits (tablesOf
+        (r ≡ tablesCheckOf limits (tablesOf
         (now («drone_count» .entry)) (now («dependency_count» .entry)) (now (names .entry)) (now («stop_counts» .entry))
         (now (locations .entry)) (now (times .entry)) (now (visited .entry)) (now («drone_flags» .entry))
         (now («first_drones» .entry)) (now («first_stops» .entry)) (now («second_drones» .entry)) (now («second_stops» .entry))
         (now (flags .entry))))
-        × (r ≡ CanBeUsed → InForce limits (tablesOf
+        × (r ≡ CanBeUsed → WaitsInForce limits (tablesOf
         (now («drone_count» .entry)) (now («dependency_count» .entry)) (now (names .entry)) (now («stop_counts» .entry))
         (now (locations .entry)) (now (times .entry)) (now (visited .entry)) (now («drone_flags» .entry))
         (now («first_drones» .entry)) (now («first_stops» .entry)) (now («second_drones» .entry)) (now («second_stops» .entry))
@@ -139,7 +139,7 @@ fn check_tables(
 ) -> TablesCheck
     ensures { λ r.
         ⌜
-        r ≡ checkOf limits (tablesOf
+        r ≡ tablesCheckOf limits (tablesOf
         (now («drone_count» .entry)) (now («dependency_count» .entry)) (now (names .entry)) (now («stop_counts» .entry))
         (now (locations .entry)) (now (times .entry)) (now (visited .entry)) (now («drone_flags» .entry))
         (now («first_drones» .entry)) (now («first_stops» .entry)) (now («second_drones» .entry)) (now («second_stops» .entry))
@@ -719,7 +719,7 @@ pub fn cost(
     }
 }
 
-// "the undelayed rounds until everybody has landed", with the order now in force. It changes nothing.
+// The undelayed rounds until everybody has landed, with the order now in force. It changes nothing.
 pub fn rounds(
     drone_count: &[u16],
     dependency_count: &[u16],

@@ -60,12 +60,12 @@ pub fn grant_sound(
     let count = dependency_count[0] as usize;
     let unmet = first_unmet(
         count,
+        visited,
         first_drones,
         first_stops,
         second_drones,
         second_stops,
         flags,
-        visited,
         drone,
     );
     if unmet < count {

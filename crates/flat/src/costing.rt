@@ -39,7 +39,7 @@ pub fn cost_sound(
     remaining_cost(owners, starts, lasts, drones, n, from, into, m, visited)
 }
 
-// "the undelayed rounds until everybody has landed", from the drones' progress and with the order now in force.
+// The undelayed rounds until everybody has landed, from the drones' progress and with the order now in force.
 pub fn rounds_sound(
     drone_count: &[u16],
     dependency_count: &[u16],

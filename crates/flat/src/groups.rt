@@ -12,7 +12,7 @@ ghost use Rattle.tables.specs.Limits.{limits};
 ghost use Rattle.log.specs.CallLog.{isGroup};
 ghost use Rattle.log.specs.Calls.{flipFlags};
 ghost use Rattle.log.specs.Claims.{Usable};
-ghost use Rattle.flat.specs.Exchanging.{waits, exchangesTo, CanExchange};
+ghost use Rattle.flat.specs.Exchanging.{waitsFrom, exchangesTo, CanExchange};
 ghost use Rattle.flat.specs.Lent.{Lent, Whatever, holdingDependencies};
 ghost use Rattle.flat.specs.TurnTests.{walkOf};
 
@@ -90,8 +90,8 @@ pub fn exchange_all(
     into: &mut [u16; Dependency::FULL],
     list: &[u16],
 )
-    requires { ⌜ (length (now from) ≡ limits .dependencies) × (length (now into) ≡ limits .dependencies) × ((n : ℕ) → n < length (now list) → CanExchange limits (exchangesTo n (now list) (waits (now from) (now into))) (at (now list) n)) ⌝ }
-    ensures { λ _. ⌜ waits (now (from .exit)) (now (into .exit)) ≡ exchangesTo (length (now (list .entry))) (now (list .entry)) (waits (now (from .entry)) (now (into .entry))) ⌝ }
+    requires { ⌜ (length (now from) ≡ limits .dependencies) × (length (now into) ≡ limits .dependencies) × ((n : ℕ) → n < length (now list) → CanExchange limits (exchangesTo n (now list) (waitsFrom (now from) (now into))) (at (now list) n)) ⌝ }
+    ensures { λ _. ⌜ waitsFrom (now (from .exit)) (now (into .exit)) ≡ exchangesTo (length (now (list .entry))) (now (list .entry)) (waitsFrom (now (from .entry)) (now (into .entry))) ⌝ }
 {
     let mut k: usize = 0;
     while k < list.len() {

@@ -27,7 +27,7 @@ use Rattle.log.proofs.Checks.{is-accepted, grant-accepted, grant-passed, free-g
 use Rattle.log.proofs.Exactly.{unfixed-says, arrived-exactly}
 use Rattle.log.proofs.Steps.{reply, step-41, step-40}
 use Rattle.handset.specs.Press.{PressOutcome, granted, pressRefused, afterGrants, replyAt, bitsBelow, grantAllStep, afterArrival, pressStep}
-use Rattle.handset.specs.Claims.{isArrival, atGrants, RefusedInOrder, RefusedLeaves, AcceptedMeans, PressClaims}
+use Rattle.handset.specs.Claims.{isReportOf, atGrants, RefusedInOrder, RefusedLeaves, AcceptedMeans, PressClaims}
 use Rattle.handset.specs.declared.replies.Report.{Report}
 use Rattle.handset.specs.declared.replies.Report.the-variants.{Nothing, Arrived}
 use Rattle.handset.proofs.Bits.{bits-low, bit-of}
@@ -169,7 +169,7 @@ module _ (L : Limits) (t : Tables) where
       (λ a. differs (rw a at e))
 
   -- when the grants begin, the drone that arrived is no longer under way
-  idle-at : (report : Report) (b : ℕ) → pressStep L t report .reply ≡ granted b → (d : ℕ) → not (statusIn (atGrants L t report) .underWay d) ≡ not (statusIn t .underWay d) || isArrival report d
+  idle-at : (report : Report) (b : ℕ) → pressStep L t report .reply ≡ granted b → (d : ℕ) → not (statusIn (atGrants L t report) .underWay d) ≡ not (statusIn t .underWay d) || isReportOf report d
   unfolding pressStep afterArrival arriveStep
   idle-at Nothing b e d = sym (or-false (not (statusIn t .underWay d)))
   idle-at (Arrived a) b e d = by-cases (isAccepted (replyOf L t (arrive a))) arrives (λ n. differs (rw n at e))

@@ -5,16 +5,16 @@ use Rattle.tables.specs.Tables.{fullSize}
 use Rattle.tables.specs.Flags.{turnedBit, flipBit, underWayBit, onlyOneBit, setUnderWay, clearUnderWay}
 use Rattle.lines.specs.Names.{isNameByte}
 use Rattle.precedence.specs.Graph.{blocks, free, round, play, finished, unvisited, reached, remaining, cost, cyclic}
-use Rattle.plan.specs.Stops.{start, owner, number}
+use Rattle.plan.specs.Stops.{start, owner, stopNumber}
 use Rattle.plan.specs.Check.{faultAt, firstFault, over, collide, collider, apart}
 use Rattle.plan.specs.Dependencies.{follows, isLast, isFixed, flagOf}
 use Rattle.plan.specs.Status.{fixedUnturned, withinStops, waitsKept}
-use Rattle.sound.specs.Sound.{zeroFrom, nameLength, nameSound, sameName, namesDiffer, inRange, namesSound, checked, planAccepted, dependenciesSound, planUnused, flagsSound, droneFlagsSound, progressUnused, sound}
+use Rattle.sound.specs.Sound.{zeroFrom, nameLength, nameSound, sameName, namesDiffer, inRange, namesSound, passesCheck, planAccepted, dependenciesSound, planUnused, flagsSound, droneFlagsSound, progressUnused, sound}
 use Rattle.log.specs.CallLog.{replyIn, short}
 use Rattle.log.specs.Calls.{replyOf, grantStep, arriveStep}
 use Rattle.handset.specs.Press.{afterGrants, bitsBelow, grantAllStep, afterArrival, pressStep}
 use Rattle.handset.specs.Flights.{pressesHold, FlightQHolds}
 
 pub flight-q-holds : FlightQHolds
-unfolding pressesHold pressStep afterArrival grantAllStep bitsBelow afterGrants replyOf grantStep arriveStep replyIn short sound zeroFrom nameLength nameSound sameName namesDiffer inRange namesSound checked planAccepted dependenciesSound planUnused flagsSound droneFlagsSound progressUnused fixedUnturned withinStops waitsKept follows isLast isFixed flagOf faultAt firstFault over collide collider apart start owner number blocks free round play finished unvisited reached remaining cost cyclic isNameByte turnedBit flipBit underWayBit onlyOneBit setUnderWay clearUnderWay fullSize firstBelow allBelow countBelow sumBelow listBelow picks rowsBelow
+unfolding pressesHold pressStep afterArrival grantAllStep bitsBelow afterGrants replyOf grantStep arriveStep replyIn short sound zeroFrom nameLength nameSound sameName namesDiffer inRange namesSound passesCheck planAccepted dependenciesSound planUnused flagsSound droneFlagsSound progressUnused fixedUnturned withinStops waitsKept follows isLast isFixed flagOf faultAt firstFault over collide collider apart start owner stopNumber blocks free round play finished unvisited reached remaining cost cyclic isNameByte turnedBit flipBit underWayBit onlyOneBit setUnderWay clearUnderWay fullSize firstBelow allBelow countBelow sumBelow listBelow picks rowsBelow
 flight-q-holds = refl

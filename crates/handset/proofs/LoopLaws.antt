@@ -26,7 +26,7 @@ use Rattle.flat.specs.declared.replies.ArriveReply.{ArriveReply}
 use Rattle.flat.specs.declared.replies.ArriveReply.the-variants as arrival
 use Rattle.handset.specs.declared.replies.Report.{Report}
 use Rattle.handset.specs.declared.replies.Report.the-variants.{Nothing, Arrived}
-use Rattle.handset.specs.Press.{isReported, droneOf}
+use Rattle.handset.specs.Press.{isReported, reportedDrone}
 use Rattle.handset.proofs.Bits.{bits-low, power-suc}
 use Rattle.handset.proofs.Presses.{leaves-41, leaves-40, grants-unchanged}
 use Rattle.handset.proofs.Grants.{asked-below}
@@ -155,16 +155,16 @@ module _ (L : Limits) (t : Tables) (report : Report) where
       go Nothing e = a
       go (Arrived d) e = true-or-false refl e
 
-  reported-is : isReported report ≡ true → pressStep L t report ≡ afterArrival L (arriveStep L t (droneOf report))
+  reported-is : isReported report ≡ true → pressStep L t report ≡ afterArrival L (arriveStep L t (reportedDrone report))
   unfolding pressStep
   reported-is e = go report e
     where
-      go : (report : Report) → isReported report ≡ true → pressStep L t report ≡ afterArrival L (arriveStep L t (droneOf report))
+      go : (report : Report) → isReported report ≡ true → pressStep L t report ≡ afterArrival L (arriveStep L t (reportedDrone report))
       go Nothing e = true-or-false e refl
       go (Arrived d) e = refl
 
-  module _ (d : ℕ) (r : Reply) (t₁ : Tables) (reported : isReported report ≡ true) (drone : d ≡ droneOf report) (got : Answered (step L) t (arrive d) r t₁) where
-    a : Answered (step L) t (arrive (droneOf report)) r t₁
+  module _ (d : ℕ) (r : Reply) (t₁ : Tables) (reported : isReported report ≡ true) (drone : d ≡ reportedDrone report) (got : Answered (step L) t (arrive d) r t₁) where
+    a : Answered (step L) t (arrive (reportedDrone report)) r t₁
     a = subst (λ (x : ℕ). Answered (step L) t (arrive x) r t₁) drone got
 
     pub press-refused : (m : PressOutcome) → isAccepted r ≡ false → m ≡ pressRefused (replyNumber r) → PressedAs (pressStep L t report) m t₁

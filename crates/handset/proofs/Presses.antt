@@ -14,7 +14,7 @@ use Rattle.log.specs.Demand.{Found}
 use Rattle.log.proofs.Steps.{step-41, step-40}
 use Rattle.log.proofs.Whole.{demand3}
 use Rattle.handset.specs.Press.{afterGrants, grantAllStep, afterArrival, pressStep}
-use Rattle.handset.specs.Claims.{grantsBelow, callsOf, PressIsCalls, Action, callsOfAll, Performed, none, next-call, next-press, Demand3OfPresses}
+use Rattle.handset.specs.Claims.{grantsBelow, pressCalls, PressIsCalls, Action, callsOfAll, Performed, none, next-call, next-press, Demand3OfPresses}
 use Rattle.handset.specs.declared.replies.Report.the-variants.{Nothing, Arrived}
 
 after-both : (program : Tables → Call → Answer) (xs ys : List Call) (t : Tables) → tablesAfter program t (xs ++ ys) ≡ tablesAfter program (tablesAfter program t xs) ys
@@ -57,7 +57,7 @@ module _ (L : Limits) where
   performed-calls (next-call {t = t} {xs = xs} a r) = performed-calls r ∙ ap (λ (z : Tables). tablesAfter (step L) z (callsOfAll L z xs)) (a .left)
   performed-calls (next-press {t = t} {report = report} {xs = xs} a r) =
       performed-calls r ∙ ap (λ (z : Tables). tablesAfter (step L) z (callsOfAll L z xs)) (a .left ∙ press-is-calls t report)
-      ∙ sym (after-both (step L) (callsOf L t report) _ t)
+      ∙ sym (after-both (step L) (pressCalls L t report) _ t)
 
 pub demand3-of-presses : Demand3OfPresses
 demand3-of-presses L lists t actions t′ read performed = subst (λ (z : Tables). Found (planOf lists) (callsOfAll L t actions) (recorded (step L) t (callsOfAll L t actions)) z) (sym (performed-calls L performed)) (demand3 L lists t (callsOfAll L t actions) read)

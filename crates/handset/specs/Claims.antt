@@ -27,12 +27,12 @@ grantsBelow (suc n) = grantsBelow n ++ (grant n ∷ [])
 
 module _ (L : Limits) where
   -- the calls that a press makes: "An arrival that is refused grants nothing"
-  abbrev pub callsOf : Tables → Report → List Call
-  callsOf t Nothing = grantsBelow (L .drones)
-  callsOf t (Arrived d) = arrive d ∷ cond (isAccepted (arriveStep L t d .reply)) (grantsBelow (L .drones)) []
+  abbrev pub pressCalls : Tables → Report → List Call
+  pressCalls t Nothing = grantsBelow (L .drones)
+  pressCalls t (Arrived d) = arrive d ∷ cond (isAccepted (arriveStep L t d .reply)) (grantsBelow (L .drones)) []
 
   abbrev pub PressIsCalls : Type 0
-  PressIsCalls = (t : Tables) (report : Report) → pressStep L t report .tables ≡ tablesAfter (step L) t (callsOf t report)
+  PressIsCalls = (t : Tables) (report : Report) → pressStep L t report .tables ≡ tablesAfter (step L) t (pressCalls t report)
 
 -- a call made by itself, a turn among them, or a press
 pub data Action : Type 0 where
@@ -42,7 +42,7 @@ pub data Action : Type 0 where
 module _ (L : Limits) where
   abbrev pub callsOfAction : Tables → Action → List Call
   callsOfAction t (called c) = c ∷ []
-  callsOfAction t (pressed report) = callsOf L t report
+  callsOfAction t (pressed report) = pressCalls L t report
 
   -- all the calls that the actions make, each on the tables as the one before left them
   unfoldable pub callsOfAll : Tables → List Action → List Call
@@ -82,9 +82,9 @@ abbrev pub bitSet : ℕ → ℕ → Bool
 bitSet bits d = eqb (bits / 2 ^ d % 2) 1
 
 -- the report is that the drone arrived
-abbrev pub isArrival : Report → ℕ → Bool
-isArrival Nothing d = false
-isArrival (Arrived e) d = eqb d e
+abbrev pub isReportOf : Report → ℕ → Bool
+isReportOf Nothing d = false
+isReportOf (Arrived e) d = eqb d e
 
 module _ (L : Limits) (t : Tables) (report : Report) where
   -- the press's reply and the tables after it
@@ -112,7 +112,7 @@ module _ (L : Limits) (t : Tables) (report : Report) where
     -- "a 32-bit number"
     pub fits : bits < 2 ^ L .drones
     -- "one bit for each newly granted drone": those under way now that were not before the press, and the one that arrived in it, if it goes on at once
-    pub newly : (d : ℕ) → bitSet bits d ≡ (not (statusIn t .underWay d) || isArrival report d) && statusIn (after .tables) .underWay d
+    pub newly : (d : ℕ) → bitSet bits d ≡ (not (statusIn t .underWay d) || isReportOf report d) && statusIn (after .tables) .underWay d
     -- "grants every drone that may go", and no other
     pub may-go : (d : ℕ) → (bitSet bits d ≡ true) ↔ MayGo (planOf (atGrants .plan)) (statusIn atGrants) d
     -- "If a drone is still unfinished after an accepted press, somebody is under way"

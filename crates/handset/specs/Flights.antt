@@ -37,8 +37,8 @@ pressesHold t [] = landed t
 pressesHold t (x ∷ xs) = sameOutcome (pressStep small t (x .report) .reply) (x .reply) && pressesHold (pressStep small t (x .report) .tables) xs
 
 -- drone 1 waits until drone 0 has left location 5; the last arrival grants nobody, since everybody has landed
-abbrev pub flightQ : List ExpectedPress
-flightQ =
+abbrev pub pressesQ : List ExpectedPress
+pressesQ =
     expect Nothing (granted 1)
     -- nothing was reported: drone 0 is under way already
     ∷ expect Nothing (granted 0)
@@ -56,4 +56,4 @@ flightQ =
 
 -- the claim
 abbrev pub FlightQHolds : Type 0
-FlightQHolds = pressesHold (tablesBy (Q 4)) flightQ ≡ true
+FlightQHolds = pressesHold (tablesBy (Q 4)) pressesQ ≡ true

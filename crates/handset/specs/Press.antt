@@ -21,9 +21,9 @@ isReported Nothing = false
 isReported (Arrived d) = true
 
 -- 0 if nothing was
-abbrev pub droneOf : Report → ℕ
-droneOf Nothing = 0
-droneOf (Arrived d) = d
+abbrev pub reportedDrone : Report → ℕ
+reportedDrone Nothing = 0
+reportedDrone (Arrived d) = d
 
 -- "a 32-bit number in which bit 0 stands for drone 0 and so on, one bit for each newly granted drone", or a refusal by its number
 pub data PressOutcome : Type 0 where

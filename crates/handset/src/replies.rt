@@ -8,7 +8,7 @@ ghost use Rattle.below.specs.Below.{pick};
 ghost use Rattle.tables.specs.Limits.{limits};
 ghost use Rattle.log.specs.CallLog.{isAccepted, replyNumber};
 ghost use Rattle.flat.specs.Replies.{grantMeant, arriveMeant};
-ghost use Rattle.handset.specs.Press.{isReported, droneOf, unusable, pressMeant, pressRefused, replyWith};
+ghost use Rattle.handset.specs.Press.{isReported, reportedDrone, unusable, pressMeant, pressRefused, replyWith};
 
 // What was reported since the last press.
 pub enum Report {
@@ -35,7 +35,7 @@ pub fn is_reported(report: Report) -> bool
 }
 
 pub fn drone_of(report: Report) -> usize
-    ensures { λ r. ⌜ r ≡ droneOf report ⌝ }
+    ensures { λ r. ⌜ r ≡ reportedDrone report ⌝ }
 {
     match report {
         Report::Nothing => 0,

@@ -56,7 +56,7 @@ stopsAt L zero text at = record { locations = []; times = []; answer = Read at }
 stopsAt L (suc n) text at = stopsFrom (goAt L text at) (λ e. stopsAt L n text e)
 
 -- the tables after the stops were stored from an entry on
-pub record StopsRead (read : StopList) (from : ℕ) (ls ts ls′ ts′ : List ℕ) (r : GoLines) : Type 0 where
+pub record StopLinesStored (read : StopList) (from : ℕ) (ls ts ls′ ts′ : List ℕ) (r : GoLines) : Type 0 where
   pub answer-is : r ≡ read .answer
   pub locations-are : ls′ ≡ sets ls from (read .locations)
   pub times-are : ts′ ≡ sets ts from (read .times)

@@ -10,7 +10,7 @@ ghost use Prim.Native.Nat.{_+_, _<_, _≤_, _^_};
 ghost use lib.ListN.{length, take, drop};
 ghost use Rattle.tables.specs.Limits.{limits};
 ghost use Rattle.lines.specs.Bytes.{Put};
-ghost use Rattle.lines.specs.Stops.{goAt, stopsAt, StopsRead, countAt, stopLine, stopLines};
+ghost use Rattle.lines.specs.Stops.{goAt, stopsAt, StopLinesStored, countAt, stopLine, stopLines};
 
 // A line `go=LOCATION@TIME`.
 pub enum GoLine {
@@ -68,7 +68,7 @@ pub fn go_lines(
     times: &mut [u32],
 ) -> GoLines
     requires { ⌜ (from + count ≤ length (now locations)) × (from + count ≤ length (now times)) ⌝ }
-    ensures { λ r. ⌜ StopsRead (stopsAt limits count (now (text .entry)) at) from (now (locations .entry)) (now (times .entry)) (now (locations .exit)) (now (times .exit)) r ⌝ }
+    ensures { λ r. ⌜ StopLinesStored (stopsAt limits count (now (text .entry)) at) from (now (locations .entry)) (now (times .entry)) (now (locations .exit)) (now (times .exit)) r ⌝ }
 {
     let mut i = 0;
     let mut here = at;

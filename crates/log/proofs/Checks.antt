@@ -16,8 +16,8 @@ use Rattle.below.proofs.Every.{allBelow-at}
 use Rattle.precedence.specs.Graph.{blocks, free, cyclic}
 use Rattle.precedence.proofs.Rounds.{blocks-true, blocks-open, free-if, free-open, free-unfinished}
 use Rattle.plan.specs.Field.{FieldPlan, inForce, graph, fixed, Status, afterTurns}
-use Rattle.plan.specs.Status.{entered, unmet, now, waitsKept}
-use Rattle.log.specs.CallLog.{grant, arrive, turn, turnAll, Reply, accepted, refused, mustWait, replyNumber, awaited, isAccepted, Check, when, firstThatHolds, isGroup, walked, refusals, replyIn}
+use Rattle.plan.specs.Status.{entered, unmet, dependencyNow, waitsKept}
+use Rattle.log.specs.CallLog.{grant, arrive, turn, turnAll, Reply, accepted, refused, mustWait, replyNumber, awaited, isAccepted, Check, when, firstThatHolds, isGroup, walkedRows, refusals, replyIn}
 use Rattle.log.specs.Claims.{IntoNext, Met, Waiting, MayGo, MustWait, MayArrive, Unentered, Turnable, Group, AllTurnable}
 use Rattle.log.proofs.Groups.{group-iff}
 
@@ -66,7 +66,7 @@ module _ (F : FieldPlan) (s : Status) where
 
   -- a dependency holds drone d back when it is one into its next stop and is not met
   met-if : (d w : ℕ) → blocks (graph F s) place d w ≡ false → IntoNext F s d w → Met F s w
-  met-if d w e (l, q, k) = ltb-false (place (now F s w .first)) (suc (now F s w .firstStop)) (sym (blocks-open (graph F s) place d w q k) ∙ e)
+  met-if d w e (l, q, k) = ltb-false (place (dependencyNow F s w .first)) (suc (dependencyNow F s w .firstStop)) (sym (blocks-open (graph F s) place d w q k) ∙ e)
 
   if-met : (d w : ℕ) → w < count → (IntoNext F s d w → Met F s w) → blocks (graph F s) place d w ≡ false
   if-met d w l h = by-cases (blocks (graph F s) place d w)
@@ -128,11 +128,11 @@ module _ (F : FieldPlan) (s : Status) where
       from m =
           let x = m .waiting in
           let (l, q, k) = m .into-next in
-          let lowest : unmet F s d ≡ w = first-is (blocks (graph F s) place d) count w l (blocks-open (graph F s) place d w q k ∙ lt-ltb (place (now F s w .first)) (suc (now F s w .firstStop)) (not-met (m .unmet))) (λ v h. if-met d v (omega arith) (m .lowest v h)) in
+          let lowest : unmet F s d ≡ w = first-is (blocks (graph F s) place d) count w l (blocks-open (graph F s) place d w q k ∙ lt-ltb (place (dependencyNow F s w .first)) (suc (dependencyNow F s w .firstStop)) (not-met (m .unmet))) (λ v h. if-met d v (omega arith) (m .lowest v h)) in
           rw (lt-leb drones d (x .exists), lt-leb (last d) (place d) (x .unfinished), x .idle, lt-ltb (unmet F s d) count (omega arith)) (ap mustWait lowest)
         where
-          not-met : (Met F s w → ⊥) → place (now F s w .first) < suc (now F s w .firstStop)
-          not-met n = by-cases (ltb (place (now F s w .first)) (suc (now F s w .firstStop))) (λ e. ltb-true _ _ e) (λ e. absurd (n (ltb-false _ _ e)))
+          not-met : (Met F s w → ⊥) → place (dependencyNow F s w .first) < suc (dependencyNow F s w .firstStop)
+          not-met n = by-cases (ltb (place (dependencyNow F s w .first)) (suc (dependencyNow F s w .firstStop))) (λ e. ltb-true _ _ e) (λ e. absurd (n (ltb-false _ _ e)))
 
   -- ---- arrive
 
@@ -165,22 +165,22 @@ module _ (F : FieldPlan) (s : Status) where
   unfixed-is {w} a b = rw (ne-eqb (dependency w .firstStop) 0 a, ne-eqb (dependency w .secondStop) (last (dependency w .second)) b) refl
 
   -- where the second drone has entered its stop, the first has left its own
-  second-then-first : waitsKept F s ≡ true → (w : ℕ) → w < count → entered F s (now F s w .second) (now F s w .secondStop) ≡ true → entered F s (now F s w .first) (now F s w .firstStop) ≡ true
+  second-then-first : waitsKept F s ≡ true → (w : ℕ) → w < count → entered F s (dependencyNow F s w .second) (dependencyNow F s w .secondStop) ≡ true → entered F s (dependencyNow F s w .first) (dependencyNow F s w .firstStop) ≡ true
   unfolding waitsKept
   second-then-first k w l h =
-      let left : suc (now F s w .firstStop) ≤ place (now F s w .first) = leb-true _ _ (rw h at (allBelow-at count _ k w l)) in
-      rw (le-leb (now F s w .firstStop) (place (now F s w .first)) (omega arith)) refl
+      let left : suc (dependencyNow F s w .firstStop) ≤ place (dependencyNow F s w .first) = leb-true _ _ (rw h at (allBelow-at count _ k w l)) in
+      rw (le-leb (dependencyNow F s w .firstStop) (place (dependencyNow F s w .first)) (omega arith)) refl
 
   -- so a test of the first is one of both
-  second-too : waitsKept F s ≡ true → (w : ℕ) → w < count → entered F s (now F s w .first) (now F s w .firstStop) ≡ false → entered F s (now F s w .second) (now F s w .secondStop) ≡ false
-  second-too k w l f = by-cases (entered F s (now F s w .second) (now F s w .secondStop)) (λ e. true-or-false (second-then-first k w l e) f) (λ e. e)
+  second-too : waitsKept F s ≡ true → (w : ℕ) → w < count → entered F s (dependencyNow F s w .first) (dependencyNow F s w .firstStop) ≡ false → entered F s (dependencyNow F s w .second) (dependencyNow F s w .secondStop) ≡ false
+  second-too k w l f = by-cases (entered F s (dependencyNow F s w .second) (dependencyNow F s w .secondStop)) (λ e. true-or-false (second-then-first k w l e) f) (λ e. e)
 
-  pub second-unentered : waitsKept F s ≡ true → (w : ℕ) → w < count → Unentered F s (now F s w .first) (now F s w .firstStop) → Unentered F s (now F s w .second) (now F s w .secondStop)
+  pub second-unentered : waitsKept F s ≡ true → (w : ℕ) → w < count → Unentered F s (dependencyNow F s w .first) (dependencyNow F s w .firstStop) → Unentered F s (dependencyNow F s w .second) (dependencyNow F s w .secondStop)
   second-unentered k w l u = unentered (second-too k w l (unentered-is u))
 
   -- dependency w passes 30 to 32
   abbrev pub Passes : ℕ → Type 0
-  Passes w = (leb count w ≡ false) × (fixed F w ≡ false) × (entered F s (now F s w .first) (now F s w .firstStop) ≡ false)
+  Passes w = (leb count w ≡ false) × (fixed F w ≡ false) × (entered F s (dependencyNow F s w .first) (dependencyNow F s w .firstStop) ≡ false)
 
   -- the order in force or the planned one: the two drones are the same
   pub turnable : waitsKept F s ≡ true → {w : ℕ} → Passes w → Turnable F s w
@@ -209,7 +209,7 @@ module _ (F : FieldPlan) (s : Status) where
   -- ---- a list of dependencies, walked
 
   -- a reply other than 30 to 32 comes from the rows after the walk, and each dependency of the list passed
-  walk-said : (ws : List ℕ) (after : List Check) (r : Reply) → 30 ≢ replyNumber r → 31 ≢ replyNumber r → 32 ≢ replyNumber r → Said (walked F s ws after) r → ((w : ℕ) → isIn w ws ≡ true → Passes w) × Said after r
+  walk-said : (ws : List ℕ) (after : List Check) (r : Reply) → 30 ≢ replyNumber r → 31 ≢ replyNumber r → 32 ≢ replyNumber r → Said (walkedRows F s ws after) r → ((w : ℕ) → isIn w ws ≡ true → Passes w) × Said after r
   unfolding isIn
   walk-said [] after r x y z h = (λ w e. true-or-false e refl, h)
   walk-said (w ∷ ws) after r x y z h =
@@ -219,7 +219,7 @@ module _ (F : FieldPlan) (s : Status) where
       let (each, h) = walk-said ws after r x y z h in
       (each-more Passes w ws (a, b, c) each, h)
 
-  pub walk-passed : (ws : List ℕ) (after : List Check) → ((w : ℕ) → isIn w ws ≡ true → Passes w) → firstThatHolds (walked F s ws after) ≡ firstThatHolds after
+  pub walk-passed : (ws : List ℕ) (after : List Check) → ((w : ℕ) → isIn w ws ≡ true → Passes w) → firstThatHolds (walkedRows F s ws after) ≡ firstThatHolds after
   walk-passed [] after h = refl
   walk-passed (w ∷ ws) after h = let (a, b, c) = h w (in-head w ws) in rw (a, b, c) (walk-passed ws after (λ v e. h v (in-tail v w ws e)))
 
@@ -251,11 +251,11 @@ module _ (F : FieldPlan) (s : Status) where
   )
 
   -- every row after 36's has another number
-  walk-other : (ws : List ℕ) (after : List Check) (n : ℕ) → n ≢ 30 → n ≢ 31 → n ≢ 32 → replyNumber (firstThatHolds after) ≢ n → replyNumber (firstThatHolds (walked F s ws after)) ≢ n
+  walk-other : (ws : List ℕ) (after : List Check) (n : ℕ) → n ≢ 30 → n ≢ 31 → n ≢ 32 → replyNumber (firstThatHolds after) ≢ n → replyNumber (firstThatHolds (walkedRows F s ws after)) ≢ n
   walk-other [] after n x y z h = h
-  walk-other (w ∷ ws) after n x y z h = go (leb count w) (fixed F w) (entered F s (now F s w .first) (now F s w .firstStop)) (walk-other ws after n x y z h)
+  walk-other (w ∷ ws) after n x y z h = go (leb count w) (fixed F w) (entered F s (dependencyNow F s w .first) (dependencyNow F s w .firstStop)) (walk-other ws after n x y z h)
     where
-      go : (a b c : Bool) → replyNumber (firstThatHolds (walked F s ws after)) ≢ n → replyNumber (firstThatHolds (when a (refused 30) ∷ when b (refused 31) ∷ when c (refused 32) ∷ walked F s ws after)) ≢ n
+      go : (a b c : Bool) → replyNumber (firstThatHolds (walkedRows F s ws after)) ≢ n → replyNumber (firstThatHolds (when a (refused 30) ∷ when b (refused 31) ∷ when c (refused 32) ∷ walkedRows F s ws after)) ≢ n
       go true b c k = λ e. omega arith
       go false true c k = λ e. omega arith
       go false false true k = λ e. omega arith
@@ -276,21 +276,21 @@ module _ (F : FieldPlan) (s : Status) where
   pub record FirstStopped (ws : List ℕ) (n : ℕ) : Type 0 where
     pub index : ℕ
     pub index-in : index < length ws
-    pub stops : (rest : List Check) → firstThatHolds (walked F s (at ws index ∷ []) rest) ≡ refused n
+    pub stops : (rest : List Check) → firstThatHolds (walkedRows F s (at ws index ∷ []) rest) ≡ refused n
     pub passed-before : (j : ℕ) → j < index → Passes (at ws j)
 
-  pub walk-first : (ws : List ℕ) (after : List Check) (n : ℕ) → replyNumber (firstThatHolds after) ≢ n → firstThatHolds (walked F s ws after) ≡ refused n → FirstStopped ws n
+  pub walk-first : (ws : List ℕ) (after : List Check) (n : ℕ) → replyNumber (firstThatHolds after) ≢ n → firstThatHolds (walkedRows F s ws after) ≡ refused n → FirstStopped ws n
   walk-first [] after n h e = absurd (h (ap replyNumber e))
-  walk-first (w ∷ ws) after n h e = go (leb count w) refl (fixed F w) refl (entered F s (now F s w .first) (now F s w .firstStop)) refl e (walk-first ws after n h)
+  walk-first (w ∷ ws) after n h e = go (leb count w) refl (fixed F w) refl (entered F s (dependencyNow F s w .first) (dependencyNow F s w .firstStop)) refl e (walk-first ws after n h)
     where
-      here : ((rest : List Check) → firstThatHolds (walked F s (w ∷ []) rest) ≡ refused n) → FirstStopped (w ∷ ws) n
+      here : ((rest : List Check) → firstThatHolds (walkedRows F s (w ∷ []) rest) ≡ refused n) → FirstStopped (w ∷ ws) n
       here stops = record { index = 0; index-in = omega arith; stops = stops; passed-before = λ j l. absurd (omega arith) }
 
       before : Passes w → (i : ℕ) → ((j : ℕ) → j < i → Passes (at ws j)) → (j : ℕ) → j < suc i → Passes (at (w ∷ ws) j)
       before p i g zero l = p
       before p i g (suc j) l = g j (omega arith)
 
-      go : (a : Bool) → leb count w ≡ a → (b : Bool) → fixed F w ≡ b → (c : Bool) → entered F s (now F s w .first) (now F s w .firstStop) ≡ c → firstThatHolds (when a (refused 30) ∷ when b (refused 31) ∷ when c (refused 32) ∷ walked F s ws after) ≡ refused n → (firstThatHolds (walked F s ws after) ≡ refused n → FirstStopped ws n) → FirstStopped (w ∷ ws) n
+      go : (a : Bool) → leb count w ≡ a → (b : Bool) → fixed F w ≡ b → (c : Bool) → entered F s (dependencyNow F s w .first) (dependencyNow F s w .firstStop) ≡ c → firstThatHolds (when a (refused 30) ∷ when b (refused 31) ∷ when c (refused 32) ∷ walkedRows F s ws after) ≡ refused n → (firstThatHolds (walkedRows F s ws after) ≡ refused n → FirstStopped ws n) → FirstStopped (w ∷ ws) n
       go true p b q c r e k = here (λ rest. rw p e)
       go false p true q c r e k = here (λ rest. rw (p, q) e)
       go false p false q true r e k = here (λ rest. rw (p, q, r) e)
@@ -311,12 +311,12 @@ module _ (F : FieldPlan) (s : Status) where
 
   -- ---- one turn is the list of length one
 
-  pub one-stopped : (w n : ℕ) → 30 ≤ n → n ≤ 32 → replyIn F s (turn w) ≡ refused n → (rest : List Check) → firstThatHolds (walked F s (w ∷ []) rest) ≡ refused n
+  pub one-stopped : (w n : ℕ) → 30 ≤ n → n ≤ 32 → replyIn F s (turn w) ≡ refused n → (rest : List Check) → firstThatHolds (walkedRows F s (w ∷ []) rest) ≡ refused n
   unfolding replyIn
   one-stopped w n x y e rest =
       let f = walk-first (w ∷ []) (cycleRow (w ∷ [])) n (cycle-other (w ∷ []) n x y) e in
       let first : f .index ≡ 0 = omega (arith, f .index-in) in
-      subst (λ (i : ℕ). firstThatHolds (walked F s (at (w ∷ []) i ∷ []) rest) ≡ refused n) first (f .stops rest)
+      subst (λ (i : ℕ). firstThatHolds (walkedRows F s (at (w ∷ []) i ∷ []) rest) ≡ refused n) first (f .stops rest)
 
   pub one-reply : (w : ℕ) → replyIn F s (turn w) ≡ replyIn F s (turnAll (w ∷ []))
   unfolding replyIn isIn

@@ -19,7 +19,7 @@ use Rattle.plan.proofs.Turns.{graph-formed}
 use Rattle.plan.specs.Field.{FieldPlan, planOf, graph, Status}
 use Rattle.plan.specs.Status.{statusIn, waitsKept}
 use Rattle.sound.specs.Sound.{sound}
-use Rattle.log.specs.Calls.{CostReply, costs, costRefused, costReply}
+use Rattle.log.specs.Calls.{CostOutcome, costs, costRefused, costReply}
 use Rattle.log.specs.Claims.{CostMeans, CostBounded, CostLimit}
 use Rattle.sound.proofs.Clauses.{Sound, sound-says}
 use Rattle.log.proofs.SoundParts.{drones-in, stops-in, have-stops, accepted-plan}
@@ -65,7 +65,7 @@ module _ (L : Limits) (t : Tables) where
   G = graph F S
 
   -- the cost of a reply
-  abbrev costIn : CostReply → ℕ
+  abbrev costIn : CostOutcome → ℕ
   costIn (costs n) = n
   costIn (costRefused n) = 0
 

@@ -16,14 +16,14 @@ use Rattle.precedence.proofs.Visits.{makespan-is}
 use Rattle.log.specs.CallLog.{Call}
 use Rattle.log.specs.Calls.{step, AsRead, tablesAfter, roundsReply, rounds as landsAfter}
 use Rattle.log.specs.Claims.{Usable}
-use Rattle.log.specs.Delays.{playHeld, delays, inForceNow, mostRemaining, AllFinish, NoneRaised, DelayClaims, isShort}
+use Rattle.log.specs.Delays.{playHeld, delays, inForceNow, mostRemaining, AllFinish, NoneRaised, DelayClaims, oneRoundShort}
 use Rattle.tables.specs.Flags.{turnedBit, underWayBit, onlyOneBit}
 use Rattle.lines.specs.Names.{isNameByte}
-use Rattle.plan.specs.Stops.{start, owner, number}
+use Rattle.plan.specs.Stops.{start, owner, stopNumber}
 use Rattle.plan.specs.Check.{faultAt, firstFault, over, collide, apart}
 use Rattle.plan.specs.Dependencies.{follows, isLast, isFixed, flagOf}
 use Rattle.plan.specs.Status.{fixedUnturned, withinStops, waitsKept, statusIn}
-use Rattle.sound.specs.Sound.{zeroFrom, nameLength, nameSound, sameName, namesDiffer, inRange, namesSound, checked, planAccepted, dependenciesSound, planUnused, flagsSound, droneFlagsSound, progressUnused, sound}
+use Rattle.sound.specs.Sound.{zeroFrom, nameLength, nameSound, sameName, namesDiffer, inRange, namesSound, passesCheck, planAccepted, dependenciesSound, planUnused, flagsSound, droneFlagsSound, progressUnused, sound}
 use Rattle.sound.proofs.Clauses.{sound-says}
 use Rattle.log.proofs.Costs.{formed, acyclic}
 use Rattle.log.proofs.Whole.{stays-sound, stays-full}
@@ -82,7 +82,7 @@ usable-after : (L : Limits) (lists : PlanLists) (t : Tables) (calls : List Call)
 usable-after L lists t calls read = (stays-full L lists t read calls, stays-sound L lists t read calls)
 
 pub delay-claims : DelayClaims
-unfolding isShort mostRemaining playHeld delays heldRound isIn maxBelow sound zeroFrom nameLength nameSound sameName namesDiffer inRange namesSound checked planAccepted dependenciesSound planUnused flagsSound droneFlagsSound progressUnused fixedUnturned withinStops waitsKept follows isLast isFixed flagOf faultAt firstFault over collide apart start owner number blocks free round play finished unvisited reached remaining cyclic isNameByte turnedBit underWayBit onlyOneBit fullSize firstBelow allBelow countBelow sumBelow listBelow picks rowsBelow
+unfolding oneRoundShort mostRemaining playHeld delays heldRound isIn maxBelow sound zeroFrom nameLength nameSound sameName namesDiffer inRange namesSound passesCheck planAccepted dependenciesSound planUnused flagsSound droneFlagsSound progressUnused fixedUnturned withinStops waitsKept follows isLast isFixed flagOf faultAt firstFault over collide apart start owner stopNumber blocks free round play finished unvisited reached remaining cyclic isNameByte turnedBit underWayBit onlyOneBit fullSize firstBelow allBelow countBelow sumBelow listBelow picks rowsBelow
 delay-claims = record {
   all-finish = all-finish;
   none-raised = none-raised;

@@ -18,7 +18,7 @@ use Rattle.plan.specs.Status.{statusIn, fixedUnturned, waitsKept}
 use Rattle.plan.specs.Claims.{Unfixed}
 use Rattle.plan.proofs.Turns.{flipAll-elim, graph-formed}
 use Rattle.sound.specs.Sound.{sound}
-use Rattle.log.specs.CallLog.{Call, grant, arrive, turn, turnAll, Check, firstThatHolds, walked, Reply, accepted, refused, mustWait, replyNumber, replyIn, Entry, statusBy}
+use Rattle.log.specs.CallLog.{Call, grant, arrive, turn, turnAll, Check, firstThatHolds, walkedRows, Reply, accepted, refused, mustWait, replyNumber, replyIn, Entry, statusBy}
 use Rattle.log.specs.Calls.{Answer, flipFlags, replyOf, grantStep, arriveStep, turnStep, turnAllStep}
 use Rattle.log.specs.Claims.{Usable, MayGo, MustWait, MayArrive, Turnable, TurnedCycle, GrantedExactly, WaitsExactly, ArrivedExactly, SecondAfterFirst, TurnedExactly, CycleExactly, Group, AllTurnable, GroupCycle, GroupExactly, GroupCycleExactly, NoGroupExactly, FirstRefused, WalkedExactly, TurnIsGroup, LogTurnIsGroup}
 use Rattle.sound.proofs.Clauses.{sound-says}
@@ -102,7 +102,7 @@ module _ (L : Limits) (t : Tables) where
   no-group-exactly ws = exactly (Group ws → ⊥) (turnAll ws) (refused 36) (omega arith) (λ u. no-group F S ws)
 
   -- the dependency at index i of the list does not pass, those before it do
-  stopped : (ws : List ℕ) (n i : ℕ) → Group ws → i < length ws → ((j : ℕ) → j < i → Turnable F S (at ws j)) → ((rest : List Check) → firstThatHolds (walked F S (at ws i ∷ []) rest) ≡ refused n) → replyIn F S (turnAll ws) ≡ refused n
+  stopped : (ws : List ℕ) (n i : ℕ) → Group ws → i < length ws → ((j : ℕ) → j < i → Turnable F S (at ws j)) → ((rest : List Check) → firstThatHolds (walkedRows F S (at ws i ∷ []) rest) ≡ refused n) → replyIn F S (turnAll ws) ≡ refused n
   unfolding replyIn
   stopped ws n i g l before stops = rw (group-iff ws .1 g) (walk-at F S ws (cycleRow F S ws) (refused n) i l (λ j m. passes F S (before j m)) stops)
 

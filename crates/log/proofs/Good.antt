@@ -10,7 +10,7 @@ use borrow.Author.Tests.{ltb-true, ltb-false, eqb-true, leb-true, le-leb, lt-leb
 use Rattle.below.proofs.Index.{put-elim}
 use Rattle.below.proofs.Tests.{by-cases, true-or-false, and-left, and-right, and-both}
 use Rattle.below.proofs.Every.{allBelow-all}
-use Rattle.below.specs.Below.{put}
+use Rattle.below.specs.Below.{update}
 use Rattle.log.specs.Claims.{MayGo, MayArrive, Unentered, Turnable, AllTurnable}
 use Rattle.log.proofs.Checks.{unfixed-is, go-free}
 use Rattle.log.proofs.Running.{Running, grant-running, arrive-running}
@@ -44,7 +44,7 @@ module _ (F : FieldPlan) where
 
   -- ---- the three calls, when accepted
 
-  pub good-grant : (p e : ℕ → ℕ) (t : ℕ → Bool) → Good p e t → (d : ℕ) → MayGo F (countedStatus p e t) d → Good p (put e d (suc (p d))) t
+  pub good-grant : (p e : ℕ → ℕ) (t : ℕ → Bool) → Good p e t → (d : ℕ) → MayGo F (countedStatus p e t) d → Good p (update e d (suc (p d))) t
   good-grant p e t g d c = record {
     running = grant-running (graph F (countedStatus p e t)) p e (g .running) d (go-free F (countedStatus p e t) d c);
     within = put-elim (λ c z. c < drones → z ≤ last c) e d (suc (p d)) (λ l. c .waiting .unfinished) (λ c n. g .within c);
@@ -52,7 +52,7 @@ module _ (F : FieldPlan) where
     acyclic = g .acyclic;
   }
 
-  pub good-arrive : (p e : ℕ → ℕ) (t : ℕ → Bool) → Good p e t → (d : ℕ) → MayArrive F (countedStatus p e t) d → Good (put p d (suc (p d))) e t
+  pub good-arrive : (p e : ℕ → ℕ) (t : ℕ → Bool) → Good p e t → (d : ℕ) → MayArrive F (countedStatus p e t) d → Good (update p d (suc (p d))) e t
   good-arrive p e t g d c = record {
     running = arrive-running (graph F (countedStatus p e t)) p e (g .running) d (omega (arith, g .running .ahead d, ltb-true (p d) (e d) (c .under-way)));
     within = g .within;

@@ -7,12 +7,12 @@ use native.Mathlib.Omega.{arith}
 use lib.Dec.{eqb, ltb}
 use borrow.Author.Tests.{ltb-false, eqb-true}
 use Rattle.below.proofs.Tests.{by-cases}
-use Rattle.below.specs.Below.{pick, put, isIn}
+use Rattle.below.specs.Below.{pick, update, isIn}
 use Rattle.log.proofs.Checks.{grant-passed, arrive-passed, group-passed, one-reply}
 use Rattle.log.specs.Claims.{MayGo}
 use Rattle.log.proofs.Counts.{counted-more, isOdd-suc}
 use Rattle.log.proofs.Good.{Good, good-start, good-grant, good-arrive, good-turns, good-waits}
-use Rattle.log.specs.CallLog.{Call, grant, arrive, turn, turnAll, Reply, isAccepted, Entry, entry, isGrant, isArrival, isTurn, acceptedCalls, isOdd, statusBy, replyBy, logFrom}
+use Rattle.log.specs.CallLog.{Call, grant, arrive, turn, turnAll, Reply, isAccepted, Entry, entryOf, isGrant, isArrival, isTurn, acceptedCalls, isOdd, statusBy, replyBy, logFrom}
 use Rattle.plan.specs.Field.{FieldPlan, flipAll, AcceptedPlan}
 
 abbrev pub arrivals : List Entry → ℕ → ℕ
@@ -44,31 +44,31 @@ pub names-list : (ws : List ℕ) → Names (turnAll ws) ws
 names-list ws = record { no-arrival = λ d. refl; no-grant = λ d. refl; named = λ v. refl }
 
 module _ (log : List Entry) (c : Call) (r : Reply) where
-  more-no : isAccepted r ≡ false → (f : Call → Bool) → acceptedCalls f (log ++ (entry c r ∷ [])) ≡ acceptedCalls f log
-  more-no e f = counted-more f log (entry c r) ∙ rw e
+  more-no : isAccepted r ≡ false → (f : Call → Bool) → acceptedCalls f (log ++ (entryOf c r ∷ [])) ≡ acceptedCalls f log
+  more-no e f = counted-more f log (entryOf c r) ∙ rw e
 
-  more-yes : isAccepted r ≡ true → (f : Call → Bool) → acceptedCalls f (log ++ (entry c r ∷ [])) ≡ pick (f c) (suc (acceptedCalls f log)) (acceptedCalls f log)
-  more-yes e f = counted-more f log (entry c r) ∙ rw e
+  more-yes : isAccepted r ≡ true → (f : Call → Bool) → acceptedCalls f (log ++ (entryOf c r ∷ [])) ≡ pick (f c) (suc (acceptedCalls f log)) (acceptedCalls f log)
+  more-yes e f = counted-more f log (entryOf c r) ∙ rw e
 
 module _ (log : List Entry) (r : Reply) where
-  pub counts-refused : (c : Call) → isAccepted r ≡ false → Counts (log ++ (entry c r ∷ [])) (arrivals log) (grants log) (turns log)
+  pub counts-refused : (c : Call) → isAccepted r ≡ false → Counts (log ++ (entryOf c r ∷ [])) (arrivals log) (grants log) (turns log)
   counts-refused c e = record { arrivals-are = λ d. more-no log c r e (isArrival d); grants-are = λ d. more-no log c r e (isGrant d); turns-are = λ w. ap isOdd (more-no log c r e (isTurn w)) }
 
-  pub counts-grant : (d : ℕ) → isAccepted r ≡ true → grants log d ≡ arrivals log d → Counts (log ++ (entry (grant d) r ∷ [])) (arrivals log) (put (grants log) d (suc (arrivals log d))) (turns log)
+  pub counts-grant : (d : ℕ) → isAccepted r ≡ true → grants log d ≡ arrivals log d → Counts (log ++ (entryOf (grant d) r ∷ [])) (arrivals log) (update (grants log) d (suc (arrivals log d))) (turns log)
   counts-grant d e same = record {
     arrivals-are = λ c. more-yes log (grant d) r e (isArrival c);
     grants-are = λ c. more-yes log (grant d) r e (isGrant c) ∙ by-cases (eqb c d) (λ q. rw q (ap suc (rw (eqb-true c d q) same))) (λ q. rw q);
     turns-are = λ w. ap isOdd (more-yes log (grant d) r e (isTurn w));
   }
 
-  pub counts-arrive : (d : ℕ) → isAccepted r ≡ true → Counts (log ++ (entry (arrive d) r ∷ [])) (put (arrivals log) d (suc (arrivals log d))) (grants log) (turns log)
+  pub counts-arrive : (d : ℕ) → isAccepted r ≡ true → Counts (log ++ (entryOf (arrive d) r ∷ [])) (update (arrivals log) d (suc (arrivals log d))) (grants log) (turns log)
   counts-arrive d e = record {
     arrivals-are = λ c. more-yes log (arrive d) r e (isArrival c) ∙ by-cases (eqb c d) (λ q. rw q (ap suc (rw (eqb-true c d q)))) (λ q. rw q);
     grants-are = λ c. more-yes log (arrive d) r e (isGrant c);
     turns-are = λ w. ap isOdd (more-yes log (arrive d) r e (isTurn w));
   }
 
-  pub counts-turns : (c : Call) (ws : List ℕ) → Names c ws → isAccepted r ≡ true → Counts (log ++ (entry c r ∷ [])) (arrivals log) (grants log) (flipAll (turns log) ws)
+  pub counts-turns : (c : Call) (ws : List ℕ) → Names c ws → isAccepted r ≡ true → Counts (log ++ (entryOf c r ∷ [])) (arrivals log) (grants log) (flipAll (turns log) ws)
   counts-turns c ws n e = record {
     arrivals-are = λ d. more-yes log c r e (isArrival d) ∙ rw (n .no-arrival d);
     grants-are = λ d. more-yes log c r e (isGrant d) ∙ rw (n .no-grant d);
@@ -93,13 +93,13 @@ module _ (F : FieldPlan) where
   pub idle-same : (log : List Entry) → GoodLog log → (d : ℕ) → ltb (arrivals log d) (grants log d) ≡ false → grants log d ≡ arrivals log d
   idle-same log g d e = omega (arith, g .running .behind d, ltb-false (arrivals log d) (grants log d) e)
 
-  pub good-more : (log : List Entry) → GoodLog log → (c : Call) → GoodLog (log ++ (entry c (replyBy F log c) ∷ []))
+  pub good-more : (log : List Entry) → GoodLog log → (c : Call) → GoodLog (log ++ (entryOf c (replyBy F log c) ∷ []))
   good-more log g c = by-cases (isAccepted (replyBy F log c)) (yes′ c) (λ e. good-counts _ _ _ _ (counts-refused log (replyBy F log c) c e) g)
     where
-      turns′ : (c : Call) (ws : List ℕ) → Names c ws → replyBy F log c ≡ replyBy F log (turnAll ws) → isAccepted (replyBy F log c) ≡ true → GoodLog (log ++ (entry c (replyBy F log c) ∷ []))
+      turns′ : (c : Call) (ws : List ℕ) → Names c ws → replyBy F log c ≡ replyBy F log (turnAll ws) → isAccepted (replyBy F log c) ≡ true → GoodLog (log ++ (entryOf c (replyBy F log c) ∷ []))
       turns′ c ws n s e = let q = group-passed F (statusBy log) (good-waits F _ _ _ g) ws (ap isAccepted (sym s) ∙ e) in good-counts _ _ _ _ (counts-turns log _ c ws n e) (good-turns F _ _ _ g ws (q .1 .0) (q .1 .1))
 
-      yes′ : (c : Call) → isAccepted (replyBy F log c) ≡ true → GoodLog (log ++ (entry c (replyBy F log c) ∷ []))
+      yes′ : (c : Call) → isAccepted (replyBy F log c) ≡ true → GoodLog (log ++ (entryOf c (replyBy F log c) ∷ []))
       yes′ (grant d) e = let q : MayGo F (statusBy log) d = grant-passed F (statusBy log) d e in good-counts _ _ _ _ (counts-grant log _ d e (idle-same log g d (q .waiting .idle))) (good-grant F _ _ _ g d q)
       yes′ (arrive d) e = good-counts _ _ _ _ (counts-arrive log _ d e) (good-arrive F _ _ _ g d (arrive-passed F (statusBy log) d e))
       yes′ (turn w) e = turns′ (turn w) (w ∷ []) (names-one w) (one-reply F (statusBy log) w) e
@@ -108,4 +108,4 @@ module _ (F : FieldPlan) where
   pub good-calls : (cs : List Call) (log : List Entry) → GoodLog log → GoodLog (logFrom F log cs)
   unfolding logFrom
   good-calls [] log g = g
-  good-calls (c ∷ cs) log g = good-calls cs (log ++ (entry c (replyBy F log c) ∷ [])) (good-more log g c)
+  good-calls (c ∷ cs) log g = good-calls cs (log ++ (entryOf c (replyBy F log c) ∷ [])) (good-more log g c)

@@ -1,13 +1,18 @@
--- The replies of the log are known by their numbers, 40 and 41 are not among them, and a log goes on. Assumes nothing.
+-- The replies of the log are known by their numbers, 33, 40 and 41 are not among them, and a log goes on. Assumes nothing.
 use mathlib.Core.Path.{_≡_, refl}
 use mathlib.Core.Logic.{_≢_}
-use mathlib.Core.Bool.{Bool, true, false}
+use mathlib.Core.Bool.{Bool, true, false, cond}
 use mathlib.Core.List.{List, [], _∷_, _++_}
 use Prim.Native.Nat.{ℕ, _<_}
 use native.Mathlib.Omega.{arith}
-use Rattle.plan.specs.Field.{FieldPlan, Status}
-use Rattle.log.specs.CallLog.{Call, grant, arrive, turn, turnAll, Reply, accepted, refused, replyNumber, awaited, replyFrom, Check, firstThatHolds, walked, refusals, replyIn, entry, Entry, statusBy, replyBy, logFrom}
-use Rattle.log.specs.Claims.{LogNever40Or41}
+use Rattle.tables.specs.Limits.{Limits}
+use Rattle.tables.specs.Tables.{Tables, fullSize}
+use Rattle.plan.specs.Field.{FieldPlan, Status, planOf}
+use Rattle.plan.specs.Status.{statusIn}
+use Rattle.sound.specs.Sound.{sound}
+use Rattle.log.specs.CallLog.{Call, grant, arrive, turn, turnAll, Reply, accepted, refused, replyNumber, awaited, replyFrom, Check, firstThatHolds, walkedRows, refusals, replyIn, entryOf, Entry, statusBy, replyBy, logFrom}
+use Rattle.log.specs.Calls.{replyOf, grantStep, arriveStep, turnStep, turnAllStep, step}
+use Rattle.log.specs.Claims.{LogNever40Or41, Never33}
 
 -- ---- replies
 
@@ -26,12 +31,12 @@ of-rows C (c ∷ cs) all = go (c .holds) (of-rows C cs (all .1))
 
 module _ (F : FieldPlan) (s : Status) where
   -- the rows of a list that is walked
-  walk-rows : (C : Reply → Type 0) → C (refused 30) → C (refused 31) → C (refused 32) → (ws : List ℕ) (after : List Check) → AllRows C after → AllRows C (walked F s ws after)
+  walk-rows : (C : Reply → Type 0) → C (refused 30) → C (refused 31) → C (refused 32) → (ws : List ℕ) (after : List Check) → AllRows C after → AllRows C (walkedRows F s ws after)
   walk-rows C x y z [] after h = h
   walk-rows C x y z (w ∷ ws) after h = (x, (y, (z, walk-rows C x y z ws after h)))
 
   -- no row says 37 or more
-  below-37 : (c : Call) → replyNumber (replyIn F s c) < 37
+  pub below-37 : (c : Call) → replyNumber (replyIn F s c) < 37
   unfolding replyIn
   below-37 (grant d) = of-rows (λ r. replyNumber r < 37) (refusals F s (grant d)) (omega arith, (omega arith, (omega arith, (omega arith, omega arith))))
   below-37 (arrive d) = of-rows (λ r. replyNumber r < 37) (refusals F s (arrive d)) (omega arith, (omega arith, omega arith))
@@ -51,7 +56,37 @@ module _ (F : FieldPlan) (s : Status) where
   read-back (turn w) = of-rows (λ r. replyFrom (replyNumber r) (awaited r) ≡ r) (refusals F s (turn w)) (refl, (refl, (refl, (refl, refl))))
   read-back (turnAll ws) = of-rows (λ r. replyFrom (replyNumber r) (awaited r) ≡ r) (refusals F s (turnAll ws)) (refl, walk-rows (λ r. replyFrom (replyNumber r) (awaited r) ≡ r) refl refl refl ws _ (refl, refl))
 
+  -- nor does any row say 33
+  not-33 : (c : Call) → replyNumber (replyIn F s c) ≢ 33
+  unfolding replyIn
+  not-33 (grant d) = of-rows (λ r. replyNumber r ≢ 33) (refusals F s (grant d)) (omega arith, (omega arith, (omega arith, (omega arith, omega arith))))
+  not-33 (arrive d) = of-rows (λ r. replyNumber r ≢ 33) (refusals F s (arrive d)) (omega arith, (omega arith, omega arith))
+  not-33 (turn w) = of-rows (λ r. replyNumber r ≢ 33) (refusals F s (turn w)) (omega arith, (omega arith, (omega arith, (omega arith, omega arith))))
+  not-33 (turnAll ws) = of-rows (λ r. replyNumber r ≢ 33) (refusals F s (turnAll ws)) (omega arith, walk-rows (λ r. replyNumber r ≢ 33) (omega arith) (omega arith) (omega arith) ws _ (omega arith, omega arith))
+
+-- ---- on tables
+
+module _ (L : Limits) (t : Tables) where
+  reply-not-33 : (c : Call) → replyNumber (replyOf L t c) ≢ 33
+  unfolding replyOf
+  reply-not-33 c = go (fullSize L t) (sound L t)
+    where
+      go : (a b : Bool) → replyNumber (cond a (cond b (replyIn (planOf (t .plan)) (statusIn t) c) (refused 40)) (refused 41)) ≢ 33
+      go true true = not-33 (planOf (t .plan)) (statusIn t) c
+      go true false = omega arith
+      go false b = omega arith
+
+  step-not-33 : (c : Call) → replyNumber (step L t c .reply) ≢ 33
+  unfolding grantStep arriveStep turnStep turnAllStep
+  step-not-33 (grant d) = reply-not-33 (grant d)
+  step-not-33 (arrive d) = reply-not-33 (arrive d)
+  step-not-33 (turn w) = reply-not-33 (turn w)
+  step-not-33 (turnAll ws) = reply-not-33 (turnAll ws)
+
 -- ---- the log
+
+pub never-33 : Never33
+never-33 = record { by-log = λ F log c. not-33 F (statusBy log) c; on-tables = λ L t c. step-not-33 L t c }
 
 pub log-never-40-or-41 : LogNever40Or41
 log-never-40-or-41 F log c = let b = below-37 F (statusBy log) c in (let n : replyNumber (replyBy F log c) ≢ 40 = omega arith in n, let n : replyNumber (replyBy F log c) ≢ 41 = omega arith in n)
@@ -61,4 +96,4 @@ module _ (F : FieldPlan) where
   pub log-joins : (cs ds : List Call) (log : List Entry) → logFrom F log (cs ++ ds) ≡ logFrom F (logFrom F log cs) ds
   unfolding logFrom
   log-joins [] ds log = refl
-  log-joins (c ∷ cs) ds log = log-joins cs ds (log ++ (entry c (replyBy F log c) ∷ []))
+  log-joins (c ∷ cs) ds log = log-joins cs ds (log ++ (entryOf c (replyBy F log c) ∷ []))

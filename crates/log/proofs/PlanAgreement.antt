@@ -8,7 +8,7 @@ use Rattle.precedence.specs.Graph.{cost}
 use Rattle.precedence.proofs.Agreement.{cost-agree}
 use Rattle.plan.specs.Field.{FieldPlan, graph, AcceptedPlan, PlansAgree, Status}
 use Rattle.plan.proofs.PlansAgree.{agree-accepted}
-use Rattle.log.specs.CallLog.{Call, Reply, Entry, entry, statusBy, replyBy, logFrom, logOf}
+use Rattle.log.specs.CallLog.{Call, Reply, Entry, entryOf, statusBy, replyBy, logFrom, logOf}
 use Rattle.log.specs.Demand.{Agree, Found}
 use Rattle.log.proofs.Log.{GoodLog, good-empty, good-calls}
 use Rattle.log.proofs.Found.{log-held, log-goes-on, log-finishes}
@@ -26,7 +26,7 @@ module _ (F G : FieldPlan) (plans : PlansAgree F G) (accepted : AcceptedPlan F) 
   pub log-agrees : (cs : List Call) (log : List Entry) → logFrom F log cs ≡ logFrom G log cs
   unfolding logFrom
   log-agrees [] log = refl
-  log-agrees (c ∷ cs) log = log-agrees cs (log ++ (entry c (replyBy F log c) ∷ [])) ∙ ap (λ (r : Reply). logFrom G (log ++ (entry c r ∷ [])) cs) (reply-by-agrees log c)
+  log-agrees (c ∷ cs) log = log-agrees cs (log ++ (entryOf c (replyBy F log c) ∷ [])) ∙ ap (λ (r : Reply). logFrom G (log ++ (entryOf c r ∷ [])) cs) (reply-by-agrees log c)
 
   -- the cost by a log
   pub cost-by-agrees : (log : List Entry) → cost (graph F (statusBy log)) (statusBy log .place) ≡ cost (graph G (statusBy log)) (statusBy log .place)

@@ -9,16 +9,16 @@ use lib.Dec.{ltb, le→leb}
 use lib.IntN.{ℤ, pos, negsuc, negℤ, subℕ}
 use lib.Signed.{leZ-yes, _≤ℤ_}
 use borrow.Author.Tests.{ltb-true}
-use Rattle.tables.specs.Limits.{Limits, limits}
+use Rattle.tables.specs.Limits.{Limits, limits, mostCost}
 use Rattle.below.proofs.Tests.{true-or-false}
 use Rattle.tables.specs.Tables.{Tables, fullSize}
 use Rattle.sound.specs.Sound.{sound}
 use Rattle.plan.specs.Field.{planOf}
 use Rattle.plan.specs.Status.{statusIn}
 use Rattle.log.specs.CallLog.{Reply, accepted, refused, mustWait, replyNumber, isAccepted, Call, turn, turnAll, replyIn}
-use Rattle.log.specs.Calls.{Answer, CostReply, costs, replyOf, costReply, turnStep, turnAllStep, step, Answered}
+use Rattle.log.specs.Calls.{Answer, CostOutcome, costs, replyOf, costReply, turnStep, turnAllStep, step, Answered}
 use Rattle.log.specs.Claims.{Usable}
-use Rattle.log.specs.Preview.{PreviewReply, wouldTurn, wouldRefuse, previewBy, previewOf, preview, previewAll, RefusedAs, Change, DoneAs, Within, PreviewClaims}
+use Rattle.log.specs.Preview.{PreviewOutcome, wouldTurn, wouldRefuse, previewBy, previewOf, preview, previewAll, RefusedAs, Change, DoneAs, ChangeWithin, PreviewClaims}
 use Rattle.log.proofs.Exactly.{group-exactly, turn-is-group}
 use Rattle.log.proofs.SoundKept.{stays-usable}
 use Rattle.log.proofs.Steps.{cost-0}
@@ -28,15 +28,15 @@ use Rattle.log.proofs.Meaning.{group-never-waits}
 -- ---- answers taken apart
 
 -- the number of a refused preview, and one that no refusal has for the others
-abbrev refusedBy : PreviewReply → ℕ
+abbrev refusedBy : PreviewOutcome → ℕ
 refusedBy (wouldTurn z) = 1000
 refusedBy (wouldRefuse n) = n
 
-abbrev isDone : PreviewReply → ℕ
+abbrev isDone : PreviewOutcome → ℕ
 isDone (wouldTurn z) = 1
 isDone (wouldRefuse n) = 0
 
-abbrev changeIn : PreviewReply → ℤ
+abbrev changeIn : PreviewOutcome → ℤ
 changeIn (wouldTurn z) = z
 changeIn (wouldRefuse n) = pos 0
 
@@ -60,10 +60,10 @@ difference-between a b n x y = go (ltb a b) refl n x y
 -- ---- by the reply of the turn
 
 -- both costs are there
-abbrev Known : CostReply → CostReply → Type 0
+abbrev Known : CostOutcome → CostOutcome → Type 0
 Known x y = (a : ℕ) × (b : ℕ) × (x ≡ costs a) × (y ≡ costs b)
 
-done-by : (r : Reply) (x y : CostReply) → replyNumber r ≢ 23 → (r ≡ accepted → Known x y) → (z : ℤ) → (previewBy r x y ≡ wouldTurn z) ↔ ((r ≡ accepted) × Change x y z)
+done-by : (r : Reply) (x y : CostOutcome) → replyNumber r ≢ 23 → (r ≡ accepted → Known x y) → (z : ℤ) → (previewBy r x y ≡ wouldTurn z) ↔ ((r ≡ accepted) × Change x y z)
 done-by accepted x y n h z = (
   λ e. let (a, b, p, q) = h refl in (refl, record { costAfter = a; costNow = b; costs-after = p; costs-now = q; difference = sym (ap changeIn (rw (p, q) at e)) }),
   λ (_, c). rw (c .costs-after, c .costs-now) (ap wouldTurn (sym (c .difference))),
@@ -71,7 +71,7 @@ done-by accepted x y n h z = (
 done-by (refused m) x y n h z = (λ e. absurd (let q : _≡_ {A = ℕ} 0 1 = ap isDone e in omega arith), λ (a, c). true-or-false (ap isAccepted a) refl)
 done-by (mustWait w) x y n h z = absurd (n refl)
 
-refused-by : (r : Reply) (x y : CostReply) → replyNumber r ≢ 23 → (r ≡ accepted → Known x y) → (k : ℕ) → (previewBy r x y ≡ wouldRefuse k) ↔ (r ≡ refused k)
+refused-by : (r : Reply) (x y : CostOutcome) → replyNumber r ≢ 23 → (r ≡ accepted → Known x y) → (k : ℕ) → (previewBy r x y ≡ wouldRefuse k) ↔ (r ≡ refused k)
 refused-by accepted x y n h k = (
   λ e. let (a, b, p, q) = h refl in absurd (let q : _≡_ {A = ℕ} 1 0 = ap isDone (rw (p, q) at e) in omega arith),
   λ e. true-or-false refl (ap isAccepted e),
@@ -94,7 +94,7 @@ module _ (L : Limits) (t : Tables) (a : Answer) where
     pub done-as : DoneAs L t (previewOf L t a) a
     done-as z = done-by (a .reply) (costReply L (a .tables)) (costReply L t) (h .never-waits) (h .known) z
 
-    pub within : (n : ℕ) → ((t : Tables) (c : ℕ) → costReply L t ≡ costs c → c ≤ n) → Within n (previewOf L t a)
+    pub within : (n : ℕ) → ((t : Tables) (c : ℕ) → costReply L t ≡ costs c → c ≤ n) → ChangeWithin n (previewOf L t a)
     within n most z e =
         let c = done-as z .0 e .1 in
         subst (FromTo n) (sym (c .difference)) (difference-between (c .costAfter) (c .costNow) n (most (a .tables) (c .costAfter) (c .costs-after)) (most t (c .costNow) (c .costs-now)))
@@ -137,7 +137,7 @@ module _ (L : Limits) (t : Tables) (ws : List ℕ) where
   unfolding previewAll
   previewAll-done = done-as L t (turnAllStep L t ws) turning
 
-  previewAll-within : (n : ℕ) → ((t : Tables) (c : ℕ) → costReply L t ≡ costs c → c ≤ n) → Within n (previewAll L t ws)
+  previewAll-within : (n : ℕ) → ((t : Tables) (c : ℕ) → costReply L t ≡ costs c → c ≤ n) → ChangeWithin n (previewAll L t ws)
   unfolding previewAll
   previewAll-within = within L t (turnAllStep L t ws) turning
 
@@ -149,11 +149,11 @@ module _ (L : Limits) (t : Tables) (ws : List ℕ) where
   unfolding previewAll
   previewAll-refusal = call-refused L t (turnAll ws)
 
-previewAll-bounded : (L : Limits) (t : Tables) (ws : List ℕ) → 2 * L .drones ≤ L .stops → Within (L .drones * (L .stops - L .drones)) (previewAll L t ws)
+previewAll-bounded : (L : Limits) (t : Tables) (ws : List ℕ) → 2 * L .drones ≤ L .stops → ChangeWithin (L .drones * (L .stops - L .drones)) (previewAll L t ws)
 previewAll-bounded L t ws h = previewAll-within L t ws (L .drones * (L .stops - L .drones)) (λ t c q. cost-bounded L t c h q)
 
-previewAll-limit : (t : Tables) (ws : List ℕ) → Within 31744 (previewAll limits t ws)
-previewAll-limit t ws = previewAll-within limits t ws 31744 cost-limit
+previewAll-limit : (t : Tables) (ws : List ℕ) → ChangeWithin mostCost (previewAll limits t ws)
+previewAll-limit t ws = previewAll-within limits t ws mostCost cost-limit
 
 -- ---- one turn is the list of length one
 

@@ -8,7 +8,7 @@ use lib.Dec.{leb}
 use borrow.Author.Tests.{leb-true, leb-false}
 use Rattle.below.proofs.Index.{put-elim}
 use Rattle.below.proofs.Tests.{by-cases}
-use Rattle.below.specs.Below.{put}
+use Rattle.below.specs.Below.{update}
 use Rattle.precedence.proofs.Rounds.{free-open}
 use Rattle.precedence.specs.Graph.{Plan, free}
 
@@ -22,7 +22,7 @@ module _ (P : Plan) where
     pub over : (w : ℕ) → w < count → wait w .stop ≤ e (wait w .waiter) → wait w .until ≤ p (wait w .awaited)
 
   -- a granted drone enters its next stop
-  pub grant-running : (p e : ℕ → ℕ) → Running p e → (d : ℕ) → free P p d ≡ true → Running p (put e d (suc (p d)))
+  pub grant-running : (p e : ℕ → ℕ) → Running p e → (d : ℕ) → free P p d ≡ true → Running p (update e d (suc (p d)))
   grant-running p e r d f = record {
     behind = put-elim (λ c z. p c ≤ z) e d (suc (p d)) (omega arith) (λ c n. r .behind c);
     ahead = put-elim (λ c z. z ≤ suc (p c)) e d (suc (p d)) (omega arith) (λ c n. r .ahead c);
@@ -35,7 +35,7 @@ module _ (P : Plan) where
   }
 
   -- a drone that arrives has visited the stop that it entered
-  pub arrive-running : (p e : ℕ → ℕ) → Running p e → (d : ℕ) → e d ≡ suc (p d) → Running (put p d (suc (p d))) e
+  pub arrive-running : (p e : ℕ → ℕ) → Running p e → (d : ℕ) → e d ≡ suc (p d) → Running (update p d (suc (p d))) e
   arrive-running p e r d u = record {
     behind = put-elim (λ c z. z ≤ e c) p d (suc (p d)) (omega arith) (λ c n. r .behind c);
     ahead = put-elim (λ c z. e c ≤ suc z) p d (suc (p d)) (omega arith) (λ c n. r .ahead c);

@@ -1,4 +1,4 @@
--- Plans that agree, with statuses that agree on their drones and dependencies, get the same replies, and one plan's statuses that agree are sound together: neither looks at anything else. Assumes nothing.
+-- Plans that agree, with statuses that agree on their drones and dependencies, get the same replies and pass the same clauses of "sound": neither looks at anything else. Assumes nothing.
 use mathlib.Core.Path.{_≡_, refl, sym, ap, ap₂, _∙_}
 use mathlib.Core.Bool.{Bool, true, false, not, cond, _&&_, _||_}
 use mathlib.Core.List.{List, [], _∷_}
@@ -6,12 +6,12 @@ use Prim.Native.Nat.{ℕ, suc, _<_}
 use lib.Dec.{eqb, leb}
 use borrow.Author.Tests.{leb-false}
 use Rattle.below.specs.Below.{isIn}
-use Rattle.below.proofs.Every.{allBelow-ext}
+use Rattle.below.proofs.Every.{allBelow-same}
 use Rattle.precedence.specs.Graph.{cyclic}
 use Rattle.precedence.proofs.Agreement.{GraphsAgree, AwaitedIn, lowest-agree, cyclic-agree}
 use Rattle.plan.specs.Field.{Dependency, FieldPlan, inForce, waitOf, flipAll, graph, fixed, AcceptedPlan, PlansAgree, Status, afterTurns}
-use Rattle.plan.specs.Status.{entered, unmet, now, fixedUnturned, withinStops, waitsKept}
-use Rattle.log.specs.CallLog.{Call, grant, arrive, turn, turnAll, Reply, refused, Check, when, firstThatHolds, isGroup, walked, replyIn}
+use Rattle.plan.specs.Status.{entered, unmet, dependencyNow, fixedUnturned, withinStops, waitsKept}
+use Rattle.log.specs.CallLog.{Call, grant, arrive, turn, turnAll, Reply, refused, Check, when, firstThatHolds, isGroup, walkedRows, replyIn}
 use Rattle.log.specs.Demand.{Agree}
 use Rattle.log.proofs.Checks.{one-reply}
 
@@ -43,25 +43,26 @@ module _ (F : FieldPlan) (accepted : AcceptedPlan F) where
   pub graph-in : (s : Status) → AwaitedIn (graph F s)
   graph-in s w l = first-in w l (s .turned w)
 
--- ---- .. and statuses that agree
-
-module _ (F G : FieldPlan) (plans : PlansAgree F G) (accepted : AcceptedPlan F) (s s′ : Status) (agree : Agree F s s′) where
-  fixed-same : (w : ℕ) → w < F .count → fixed F w ≡ fixed G w
+module _ (F G : FieldPlan) (plans : PlansAgree F G) (accepted : AcceptedPlan F) where
+  pub fixed-same : (w : ℕ) → w < F .count → fixed F w ≡ fixed G w
   fixed-same w l =
       ap (λ (n : ℕ). eqb (F .dependency w .firstStop) 0 || eqb (F .dependency w .secondStop) n) (plans .lasts-agree (F .dependency w .second) (second-in F accepted w l false))
       ∙ ap (λ (x : Dependency). eqb (x .firstStop) 0 || eqb (x .secondStop) (G .last (x .second))) (plans .dependencies-agree w l)
 
-  now-same : (w : ℕ) → w < F .count → now F s w ≡ now G s′ w
+-- ---- .. and statuses that agree
+
+module _ (F G : FieldPlan) (plans : PlansAgree F G) (accepted : AcceptedPlan F) (s s′ : Status) (agree : Agree F s s′) where
+  now-same : (w : ℕ) → w < F .count → dependencyNow F s w ≡ dependencyNow G s′ w
   now-same w l = ap₂ (λ (b : Bool) (x : Dependency). inForce b x) (agree .turns w l) (plans .dependencies-agree w l)
 
   entered-same : (d k : ℕ) → d < F .drones → entered F s d k ≡ entered G s′ d k
   entered-same d k l = ap₂ (λ (p : ℕ) (u : Bool). leb k p || u && eqb k (suc p)) (agree .places d l) (agree .underWays d l)
 
-  entered-first : (w : ℕ) → w < F .count → entered F s (now F s w .first) (now F s w .firstStop) ≡ entered G s′ (now G s′ w .first) (now G s′ w .firstStop)
-  entered-first w l = entered-same (now F s w .first) (now F s w .firstStop) (first-in F accepted w l (s .turned w)) ∙ ap (λ (x : Dependency). entered G s′ (x .first) (x .firstStop)) (now-same w l)
+  entered-first : (w : ℕ) → w < F .count → entered F s (dependencyNow F s w .first) (dependencyNow F s w .firstStop) ≡ entered G s′ (dependencyNow G s′ w .first) (dependencyNow G s′ w .firstStop)
+  entered-first w l = entered-same (dependencyNow F s w .first) (dependencyNow F s w .firstStop) (first-in F accepted w l (s .turned w)) ∙ ap (λ (x : Dependency). entered G s′ (x .first) (x .firstStop)) (now-same w l)
 
-  entered-second : (w : ℕ) → w < F .count → entered F s (now F s w .second) (now F s w .secondStop) ≡ entered G s′ (now G s′ w .second) (now G s′ w .secondStop)
-  entered-second w l = entered-same (now F s w .second) (now F s w .secondStop) (second-in F accepted w l (s .turned w)) ∙ ap (λ (x : Dependency). entered G s′ (x .second) (x .secondStop)) (now-same w l)
+  entered-second : (w : ℕ) → w < F .count → entered F s (dependencyNow F s w .second) (dependencyNow F s w .secondStop) ≡ entered G s′ (dependencyNow G s′ w .second) (dependencyNow G s′ w .secondStop)
+  entered-second w l = entered-same (dependencyNow F s w .second) (dependencyNow F s w .secondStop) (second-in F accepted w l (s .turned w)) ∙ ap (λ (x : Dependency). entered G s′ (x .second) (x .secondStop)) (now-same w l)
 
   unmet-same : (d : ℕ) → d < F .drones → unmet F s d ≡ unmet G s′ d
   unmet-same d l = lowest-agree (graph F s) (graph G s′) (graphs-agree F G plans s s′ (agree .turns)) (graph-in F accepted s) (s .place) (s′ .place) (agree .places) d l
@@ -79,16 +80,16 @@ module _ (F G : FieldPlan) (plans : PlansAgree F G) (accepted : AcceptedPlan F) 
   arrive-same d true e = rw (← plans .drones-agree, e) refl
   arrive-same d false e = rw (agree .underWays d (leb-false (F .drones) d e), plans .drones-agree) refl
 
-  walk-same : (ws : List ℕ) (after after′ : List Check) → firstThatHolds after ≡ firstThatHolds after′ → firstThatHolds (walked F s ws after) ≡ firstThatHolds (walked G s′ ws after′)
+  walk-same : (ws : List ℕ) (after after′ : List Check) → firstThatHolds after ≡ firstThatHolds after′ → firstThatHolds (walkedRows F s ws after) ≡ firstThatHolds (walkedRows G s′ ws after′)
   walk-same [] after after′ h = h
   walk-same (w ∷ ws) after after′ h = go (leb (F .count) w) refl (walk-same ws after after′ h)
     where
-      go : (b : Bool) → leb (F .count) w ≡ b → firstThatHolds (walked F s ws after) ≡ firstThatHolds (walked G s′ ws after′) → firstThatHolds (walked F s (w ∷ ws) after) ≡ firstThatHolds (walked G s′ (w ∷ ws) after′)
+      go : (b : Bool) → leb (F .count) w ≡ b → firstThatHolds (walkedRows F s ws after) ≡ firstThatHolds (walkedRows G s′ ws after′) → firstThatHolds (walkedRows F s (w ∷ ws) after) ≡ firstThatHolds (walkedRows G s′ (w ∷ ws) after′)
       go true e k = rw (← plans .counts-agree, e) refl
       go false e k =
           let l : w < F .count = leb-false (F .count) w e in
-          ap (λ (n : ℕ). elim (leb n w) [ true ↦ refused 30 | false ↦ elim (fixed F w) [ true ↦ refused 31 | false ↦ elim (entered F s (now F s w .first) (now F s w .firstStop)) [ true ↦ refused 32 | false ↦ firstThatHolds (walked F s ws after) ] ] ]) (plans .counts-agree)
-          ∙ ap (λ (b : Bool). elim (leb (G .count) w) [ true ↦ refused 30 | false ↦ elim b [ true ↦ refused 31 | false ↦ elim (entered F s (now F s w .first) (now F s w .firstStop)) [ true ↦ refused 32 | false ↦ firstThatHolds (walked F s ws after) ] ] ]) (fixed-same w l)
+          ap (λ (n : ℕ). elim (leb n w) [ true ↦ refused 30 | false ↦ elim (fixed F w) [ true ↦ refused 31 | false ↦ elim (entered F s (dependencyNow F s w .first) (dependencyNow F s w .firstStop)) [ true ↦ refused 32 | false ↦ firstThatHolds (walkedRows F s ws after) ] ] ]) (plans .counts-agree)
+          ∙ ap (λ (b : Bool). elim (leb (G .count) w) [ true ↦ refused 30 | false ↦ elim b [ true ↦ refused 31 | false ↦ elim (entered F s (dependencyNow F s w .first) (dependencyNow F s w .firstStop)) [ true ↦ refused 32 | false ↦ firstThatHolds (walkedRows F s ws after) ] ] ]) (fixed-same F G plans accepted w l)
           ∙ ap₂ (λ (b : Bool) (r : Reply). elim (leb (G .count) w) [ true ↦ refused 30 | false ↦ elim (fixed G w) [ true ↦ refused 31 | false ↦ elim b [ true ↦ refused 32 | false ↦ r ] ] ]) (entered-first w l) k
 
   group-same : (ws : List ℕ) → replyIn F s (turnAll ws) ≡ replyIn G s′ (turnAll ws)
@@ -103,11 +104,25 @@ module _ (F G : FieldPlan) (plans : PlansAgree F G) (accepted : AcceptedPlan F) 
   reply-agrees (turn w) = one-reply F s w ∙ group-same (w ∷ []) ∙ sym (one-reply G s′ w)
   reply-agrees (turnAll ws) = group-same ws
 
--- ---- one plan: the clauses of "sound"
+  -- ---- the clauses of "sound"
+
+  pub unturned-agrees : fixedUnturned F s ≡ fixedUnturned G s′
+  unfolding fixedUnturned
+  unturned-agrees = allBelow-same (F .count) (G .count) _ _ (plans .counts-agree) (λ w l. ap₂ (λ (a b : Bool). not (a && b)) (agree .turns w l) (fixed-same F G plans accepted w l))
+
+  pub within-agrees : withinStops F s ≡ withinStops G s′
+  unfolding withinStops
+  within-agrees = allBelow-same (F .drones) (G .drones) _ _ (plans .drones-agree) (λ d l i. leb (agree .places d l i) (plans .lasts-agree d l i) && not (agree .underWays d l i && leb (plans .lasts-agree d l i) (agree .places d l i)))
+
+  pub waits-agree : waitsKept F s ≡ waitsKept G s′
+  unfolding waitsKept
+  waits-agree = allBelow-same (F .count) (G .count) _ _ (plans .counts-agree) (λ w l.
+      ap₂ (λ (e : Bool) (p : ℕ). not e || leb (suc (dependencyNow F s w .firstStop)) p) (entered-second w l) (agree .places (dependencyNow F s w .first) (first-in F accepted w l (s .turned w)))
+      ∙ ap (λ (x : Dependency). not (entered G s′ (dependencyNow G s′ w .second) (dependencyNow G s′ w .secondStop)) || leb (suc (x .firstStop)) (s′ .place (x .first))) (now-same w l))
+
+-- ---- one plan
 
 module _ (F : FieldPlan) (accepted : AcceptedPlan F) (s s′ : Status) (agree : Agree F s s′) where
-  open FieldPlan F using (drones, last, count)
-
   pub reply-same : (c : Call) → replyIn F s c ≡ replyIn F s′ c
   reply-same = reply-agrees F F (plans-self F) accepted s s′ agree
 
@@ -115,14 +130,10 @@ module _ (F : FieldPlan) (accepted : AcceptedPlan F) (s s′ : Status) (agree : 
   cyclic-same = cyclic-agree (graph F s) (graph F s′) (graphs-agree F F (plans-self F) s s′ (agree .turns)) (graph-in F accepted s)
 
   pub unturned-same : fixedUnturned F s ≡ fixedUnturned F s′
-  unfolding fixedUnturned
-  unturned-same = allBelow-ext count _ _ (λ w l. ap (λ (b : Bool). not (b && fixed F w)) (agree .turns w l))
+  unturned-same = unturned-agrees F F (plans-self F) accepted s s′ agree
 
   pub within-same : withinStops F s ≡ withinStops F s′
-  unfolding withinStops
-  within-same = allBelow-ext drones _ _ (λ d l. ap₂ (λ (p : ℕ) (u : Bool). leb p (last d) && not (u && leb (last d) p)) (agree .places d l) (agree .underWays d l))
+  within-same = within-agrees F F (plans-self F) accepted s s′ agree
 
   pub waits-same : waitsKept F s ≡ waitsKept F s′
-  unfolding waitsKept
-  waits-same = allBelow-ext count _ _ (λ w l. ap₂ (λ (e : Bool) (p : ℕ). not e || leb (suc (now F s w .firstStop)) p) (entered-second F F (plans-self F) accepted s s′ agree w l) (agree .places (now F s w .first) (first-in F accepted w l (s .turned w)))
-      ∙ ap (λ (x : Dependency). not (entered F s′ (now F s′ w .second) (now F s′ w .secondStop)) || leb (suc (x .firstStop)) (s′ .place (x .first))) (now-same F F (plans-self F) accepted s s′ agree w l))
+  waits-same = waits-agree F F (plans-self F) accepted s s′ agree

@@ -9,7 +9,7 @@ use lib.ListN.{set, length-set}
 use lib.Seq.{getD-set-other}
 use lib.Dec.{ltb}
 use borrow.Author.Tests.{lt-ltb, le-ltb, eq-eqb}
-use Rattle.below.specs.Below.{pick, at, put, isIn}
+use Rattle.below.specs.Below.{pick, at, update, isIn}
 use Rattle.below.proofs.Tests.{by-cases, and-both}
 use Rattle.below.proofs.Every.{allBelow-all}
 use Rattle.below.proofs.Index.{put-same, put-other, put-elim, at-set}
@@ -142,7 +142,7 @@ module _ (L : Limits) (lists : PlanLists) (t₀ : Tables) (read : Base L lists t
 
     -- ---- what an accepted call leaves
 
-    pub kept-grant : (d : ℕ) → d < drones lists → Kept lists t₀ p (put e d (suc (p d))) u (granted t d)
+    pub kept-grant : (d : ℕ) → d < drones lists → Kept lists t₀ p (update e d (suc (p d))) u (granted t d)
     kept-grant d l = record {
       same = same-then t₀ t (granted t d) (k .same) (record {
         plan-same = refl;
@@ -155,14 +155,14 @@ module _ (L : Limits) (lists : PlanLists) (t₀ : Tables) (read : Base L lists t
       });
       visited-is = k .visited-is;
       droneFlags-are = λ c m. at-set (t .droneFlags) d (setUnderWay (at (t .droneFlags) d)) (omega (arith, k .same .droneFlags-length, room .drone-flags, drones-room)) c
-          ∙ put-elim (λ c z. c < drones lists → put (at (t .droneFlags)) d (setUnderWay (at (t .droneFlags) d)) c ≡ bit (ltb (p c) z)) e d (suc (p d))
+          ∙ put-elim (λ c z. c < drones lists → update (at (t .droneFlags)) d (setUnderWay (at (t .droneFlags) d)) c ≡ bit (ltb (p c) z)) e d (suc (p d))
           (λ m. put-same (at (t .droneFlags)) d _ ∙ ap setUnderWay (k .droneFlags-are d l) ∙ set-bit (ltb (p d) (e d)) ∙ sym (ap bit (lt-ltb (p d) (suc (p d)) (omega arith))))
           (λ c n m. put-other (at (t .droneFlags)) d _ c n ∙ k .droneFlags-are c m) c m;
       turned-are = k .turned-are;
       halves-are = k .halves-are;
     }
 
-    pub kept-arrive : (d : ℕ) → d < drones lists → e d ≤ suc (p d) → Kept lists t₀ (put p d (suc (p d))) e u (arrived t d)
+    pub kept-arrive : (d : ℕ) → d < drones lists → e d ≤ suc (p d) → Kept lists t₀ (update p d (suc (p d))) e u (arrived t d)
     kept-arrive d l h = record {
       same = same-then t₀ t (arrived t d) (k .same) (record {
         plan-same = refl;
@@ -174,11 +174,11 @@ module _ (L : Limits) (lists : PlanLists) (t₀ : Tables) (read : Base L lists t
         flags-unused = λ w h. refl;
       });
       visited-is = λ c m. at-set (t .visited) d (at (t .visited) d + 1) (omega (arith, k .same .visited-length, room .visited, drones-room)) c
-          ∙ put-elim (λ c z. c < drones lists → put (at (t .visited)) d (at (t .visited) d + 1) c ≡ z) p d (suc (p d))
+          ∙ put-elim (λ c z. c < drones lists → update (at (t .visited)) d (at (t .visited) d + 1) c ≡ z) p d (suc (p d))
           (λ m. put-same (at (t .visited)) d _ ∙ omega (arith, k .visited-is d l))
           (λ c n m. put-other (at (t .visited)) d _ c n ∙ k .visited-is c m) c m;
       droneFlags-are = λ c m. at-set (t .droneFlags) d (clearUnderWay (at (t .droneFlags) d)) (omega (arith, k .same .droneFlags-length, room .drone-flags, drones-room)) c
-          ∙ put-elim (λ c z. c < drones lists → put (at (t .droneFlags)) d (clearUnderWay (at (t .droneFlags) d)) c ≡ bit (ltb z (e c))) p d (suc (p d))
+          ∙ put-elim (λ c z. c < drones lists → update (at (t .droneFlags)) d (clearUnderWay (at (t .droneFlags) d)) c ≡ bit (ltb z (e c))) p d (suc (p d))
           (λ m. put-same (at (t .droneFlags)) d _ ∙ ap clearUnderWay (k .droneFlags-are d l) ∙ clear-bit (ltb (p d) (e d)) ∙ sym (ap bit (le-ltb (suc (p d)) (e d) h)))
           (λ c n m. put-other (at (t .droneFlags)) d _ c n ∙ k .droneFlags-are c m) c m;
       turned-are = k .turned-are;

@@ -14,10 +14,10 @@ use Rattle.tables.specs.Tables.{PlanLists, Tables, drones, dependencies}
 use Rattle.tables.specs.Flags.{fixedBit, onlyOneBit}
 use Rattle.plan.specs.Dependencies.{dependencyTotal}
 use Rattle.plan.specs.Check.{firstFault}
-use Rattle.plan.specs.Claims.{HaveStops, NoFault, NoCollision, HoldsPlanned, numberIn, ownerIn, stopTotal, visitsIn}
+use Rattle.plan.specs.Claims.{HaveStops, NoFault, NoCollision, HoldsPlanned, numberIn, ownerIn, stopTotal, visitsIn, plannedList}
 use Rattle.plan.proofs.Claims.{accepted-claims}
 use Rattle.plan.specs.Field.{AcceptedPlan, planOf, fixed}
-use Rattle.sound.specs.Sound.{zeroFrom, planned, inRange, namesSound, checked, planAccepted, dependenciesSound, flagsSound, droneFlagsSound}
+use Rattle.sound.specs.Sound.{zeroFrom, inRange, namesSound, passesCheck, planAccepted, dependenciesSound, flagsSound, droneFlagsSound}
 use Rattle.sound.proofs.Clauses.{Sound}
 
 -- ---- the plan in the tables
@@ -27,7 +27,7 @@ module _ (L : Limits) (p : PlanLists) (accepted : planAccepted L p ≡ true) whe
   unfolding planAccepted
   in-range = and-left _ _ accepted
 
-  after-range : namesSound L p && (checked L p && leb (dependencyTotal (visitsIn p)) (L .dependencies)) ≡ true
+  after-range : namesSound L p && (passesCheck L p && leb (dependencyTotal (visitsIn p)) (L .dependencies)) ≡ true
   unfolding planAccepted
   after-range = and-right (inRange L p) _ accepted
 
@@ -43,15 +43,15 @@ module _ (L : Limits) (p : PlanLists) (accepted : planAccepted L p ≡ true) whe
   unfolding inRange
   stops-in = leb-true (stopTotal p) (L .stops) (and-left _ _ (and-right (allBelow (drones p) (λ d. leb 1 (at (p .stopCounts) d))) _ (and-right (leb 1 (drones p) && leb (drones p) (L .drones)) _ in-range)))
 
-  check-passes : checked L p ≡ true
+  check-passes : passesCheck L p ≡ true
   check-passes = and-left _ _ (and-right (namesSound L p) _ after-range)
 
   no-fault : NoFault p
-  unfolding checked
+  unfolding passesCheck
   no-fault = eqb-true _ _ (and-left _ _ check-passes)
 
   no-collision : NoCollision p
-  unfolding checked
+  unfolding passesCheck
   no-collision = and-right (eqb (firstFault (visitsIn p)) (stopTotal p)) _ check-passes
 
   module _ (own-ones : dependenciesSound L p ≡ true) where
@@ -61,11 +61,11 @@ module _ (L : Limits) (p : PlanLists) (accepted : planAccepted L p ≡ true) whe
 
     pub dependencies-in : dependencies p ≤ L .dependencies
     dependencies-in =
-        let room = leb-true (dependencyTotal (visitsIn p)) (L .dependencies) (and-right (checked L p) _ (and-right (namesSound L p) _ after-range)) in
+        let room = leb-true (dependencyTotal (visitsIn p)) (L .dependencies) (and-right (passesCheck L p) _ (and-right (namesSound L p) _ after-range)) in
         omega (arith, total-is)
 
     -- the four numbers of dependency k are the planned ones
-    numbers-are : (k : ℕ) → k < dependencies p → (at (p .firstDrones) k ≡ at (planned L p (λ v w. ownerIn p v)) k) × (at (p .firstStops) k ≡ at (planned L p (λ v w. numberIn p v)) k) × (at (p .secondDrones) k ≡ at (planned L p (λ v w. ownerIn p w)) k) × (at (p .secondStops) k ≡ at (planned L p (λ v w. numberIn p w)) k)
+    numbers-are : (k : ℕ) → k < dependencies p → (at (p .firstDrones) k ≡ at (plannedList p (λ v w. ownerIn p v)) k) × (at (p .firstStops) k ≡ at (plannedList p (λ v w. numberIn p v)) k) × (at (p .secondDrones) k ≡ at (plannedList p (λ v w. ownerIn p w)) k) × (at (p .secondStops) k ≡ at (plannedList p (λ v w. numberIn p w)) k)
     unfolding dependenciesSound
     numbers-are k l =
         let h = allBelow-at (dependencies p) _ (and-right (eqb (dependencies p) (dependencyTotal (visitsIn p))) _ own-ones) k l in

@@ -10,7 +10,7 @@ use Rattle.tables.specs.Limits.{Limits}
 use Rattle.tables.specs.Tables.{PlanLists, Tables, drones, fullSize}
 use Rattle.plan.specs.Field.{FieldPlan, AcceptedPlan, planOf}
 use Rattle.sound.specs.Sound.{sound}
-use Rattle.log.specs.CallLog.{Call, grant, arrive, turn, turnAll, Reply, isAccepted, Entry, entry, statusBy, acceptedCalls, replyBy, logFrom, logOf}
+use Rattle.log.specs.CallLog.{Call, grant, arrive, turn, turnAll, Reply, isAccepted, Entry, entryOf, statusBy, acceptedCalls, replyBy, logFrom, logOf}
 use Rattle.log.specs.Calls.{Answer, granted, arrived, flipped, flipFlags, flippedAll, grantStep, arriveStep, turnStep, turnAllStep, step, recorded, tablesAfter, Answered, Ran, none, next, AsRead}
 use Rattle.log.specs.Demand.{Found, Demand3, Demand3OfContracts}
 use Rattle.log.proofs.Groups.{group-iff}
@@ -65,12 +65,12 @@ module _ (L : Limits) (lists : PlanLists) (t₀ : Tables) (read : AsRead L lists
     same-left (turn w) = ap (λ (r : Reply). cond (isAccepted r) (left (turn w)) t) (kept-reply L lists t₀ base _ _ _ t kept plan good (turn w))
     same-left (turnAll ws) = ap (λ (r : Reply). cond (isAccepted r) (left (turnAll ws)) t) (kept-reply L lists t₀ base _ _ _ t kept plan good (turnAll ws))
 
-    kept-group : (c : Call) (ws : List ℕ) → Names c ws → replyBy F log c ≡ replyBy F log (turnAll ws) → isAccepted (replyBy F log c) ≡ true → KeptLog (log ++ (entry c (replyBy F log c) ∷ [])) (flippedAll t ws)
+    kept-group : (c : Call) (ws : List ℕ) → Names c ws → replyBy F log c ≡ replyBy F log (turnAll ws) → isAccepted (replyBy F log c) ≡ true → KeptLog (log ++ (entryOf c (replyBy F log c) ∷ [])) (flippedAll t ws)
     kept-group c ws n s e =
         let q = group-passed F (statusBy log) (good-waits F _ _ _ good) ws (ap isAccepted (sym s) ∙ e) in
         kept-counts _ _ _ _ _ (counts-turns log _ c ws n e) (kept-turns L lists t₀ base _ _ _ t kept ws (group-iff ws .1 (q .0)) (λ w i. q .1 .0 w i .exists))
 
-    kept-left : (c : Call) → isAccepted (replyBy F log c) ≡ true → KeptLog (log ++ (entry c (replyBy F log c) ∷ [])) (left c)
+    kept-left : (c : Call) → isAccepted (replyBy F log c) ≡ true → KeptLog (log ++ (entryOf c (replyBy F log c) ∷ [])) (left c)
     unfolding left flipFlags
     kept-left (grant d) e =
         let q : MayGo F (statusBy log) d = grant-passed F (statusBy log) d e in
@@ -81,7 +81,7 @@ module _ (L : Limits) (lists : PlanLists) (t₀ : Tables) (read : AsRead L lists
     kept-left (turn w) e = kept-group (turn w) (w ∷ []) (names-one w) (one-reply F (statusBy log) w) e
     kept-left (turnAll ws) e = kept-group (turnAll ws) ws (names-list ws) refl e
 
-    kept-more : (c : Call) → KeptLog (log ++ (entry c (replyBy F log c) ∷ [])) (step L t c .tables)
+    kept-more : (c : Call) → KeptLog (log ++ (entryOf c (replyBy F log c) ∷ [])) (step L t c .tables)
     kept-more c = by-cases (isAccepted (replyBy F log c))
         (λ e. rw (same-left c, e) (kept-left c e))
         (λ e. rw (same-left c, e) (kept-counts _ _ _ _ _ (counts-refused log (replyBy F log c) c e) kept))
@@ -91,13 +91,13 @@ module _ (L : Limits) (lists : PlanLists) (t₀ : Tables) (read : AsRead L lists
   unfolding recorded logFrom
   replies-same [] log g t k = append-nil log
   replies-same (c ∷ cs) log g t k =
-      rw (same-reply log g t k c) (sym (append-assoc log (entry c (replyBy F log c) ∷ []) (recorded (step L) (step L t c .tables) cs))
-      ∙ replies-same cs (log ++ (entry c (replyBy F log c) ∷ [])) (good-more F log g c) (step L t c .tables) (kept-more log g t k c))
+      rw (same-reply log g t k c) (sym (append-assoc log (entryOf c (replyBy F log c) ∷ []) (recorded (step L) (step L t c .tables) cs))
+      ∙ replies-same cs (log ++ (entryOf c (replyBy F log c) ∷ [])) (good-more F log g c) (step L t c .tables) (kept-more log g t k c))
 
   kept-calls : (cs : List Call) (log : List Entry) → GoodLog F log → (t : Tables) → KeptLog log t → KeptLog (logFrom F log cs) (tablesAfter (step L) t cs)
   unfolding tablesAfter logFrom
   kept-calls [] log g t k = k
-  kept-calls (c ∷ cs) log g t k = kept-calls cs (log ++ (entry c (replyBy F log c) ∷ [])) (good-more F log g c) (step L t c .tables) (kept-more log g t k c)
+  kept-calls (c ∷ cs) log g t k = kept-calls cs (log ++ (entryOf c (replyBy F log c) ∷ [])) (good-more F log g c) (step L t c .tables) (kept-more log g t k c)
 
   kept-empty : KeptLog [] t₀
   unfolding acceptedCalls
@@ -158,6 +158,6 @@ ran L [] t = none
 ran L (c ∷ cs) t = next (record { replied = refl; left = refl }) (ran L cs (step L t c .tables))
 
 -- one call more at the end of a run, as a loop makes it
-pub ran-more : {program : Tables → Call → Answer} {t t′ t″ : Tables} {c : Call} {r : Reply} {cs : List Call} {es : List Entry} → Ran program t cs es t′ → Answered program t′ c r t″ → Ran program t (cs ++ (c ∷ [])) (es ++ (entry c r ∷ [])) t″
+pub ran-more : {program : Tables → Call → Answer} {t t′ t″ : Tables} {c : Call} {r : Reply} {cs : List Call} {es : List Entry} → Ran program t cs es t′ → Answered program t′ c r t″ → Ran program t (cs ++ (c ∷ [])) (es ++ (entryOf c r ∷ [])) t″
 ran-more none a = next a none
 ran-more (next b r) a = next b (ran-more r a)

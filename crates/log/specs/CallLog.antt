@@ -6,7 +6,7 @@ use lib.Dec.{ltb, leb, eqb}
 use Rattle.below.specs.Below.{pick, isIn}
 use Rattle.precedence.specs.Graph.{cyclic}
 use Rattle.plan.specs.Field.{FieldPlan, graph, fixed, Status, afterTurns}
-use Rattle.plan.specs.Status.{entered, unmet, now}
+use Rattle.plan.specs.Status.{entered, unmet, dependencyNow}
 
 -- a call and what it names: a drone for grant and arrive, a dependency for turn, a list of dependencies for a turn of them all at once
 pub data Call : Type 0 where
@@ -53,7 +53,7 @@ pub record Check : Type 0 where
 abbrev pub when : Bool → Reply → Check
 when b r = record { holds = b; reply = r }
 
--- "A call gets the first of its refusals in the table below that holds; if none holds, it is accepted"
+-- "A call gets the first of its refusals in the table below that holds ..; if none holds, it is accepted"
 abbrev pub firstThatHolds : List Check → Reply
 firstThatHolds [] = accepted
 firstThatHolds (c ∷ cs) = elim (c .holds) [ true ↦ c .reply | false ↦ firstThatHolds cs ]
@@ -73,17 +73,17 @@ module _ (F : FieldPlan) (s : Status) where
   open Status s using (place, underWay, turned)
 
   -- "as the list is walked": 30 to 32 of each dependency of the list, and the rows after them
-  abbrev pub walked : List ℕ → List Check → List Check
-  walked [] after = after
-  walked (w ∷ ws) after =
+  abbrev pub walkedRows : List ℕ → List Check → List Check
+  walkedRows [] after = after
+  walkedRows (w ∷ ws) after =
       when (leb count w) (refused 30)
       ∷ when (fixed F w) (refused 31)
-      ∷ when (entered F s (now F s w .first) (now F s w .firstStop)) (refused 32)
-      ∷ walked ws after
+      ∷ when (entered F s (dependencyNow F s w .first) (dependencyNow F s w .firstStop)) (refused 32)
+      ∷ walkedRows ws after
 
   -- "then 30 to 34 as the list is walked, with 34 last of all": the graph has all of the list turned
   abbrev pub turnRows : List ℕ → List Check
-  turnRows ws = walked ws (when (cyclic (graph F (afterTurns s ws))) (refused 34) ∷ [])
+  turnRows ws = walkedRows ws (when (cyclic (graph F (afterTurns s ws))) (refused 34) ∷ [])
 
   -- the rows of "Where each refusal is checked" for grant, arrive and turn, without 41 and 40
   abbrev pub refusals : Call → List Check
@@ -119,8 +119,8 @@ pub record Entry : Type 0 where
   pub call : Call
   pub reply : Reply
 
-abbrev pub entry : Call → Reply → Entry
-entry c r = record { call = c; reply = r }
+abbrev pub entryOf : Call → Reply → Entry
+entryOf c r = record { call = c; reply = r }
 
 -- a grant of drone d; an arrival of drone d; a turn that names dependency w, where "an accepted one names each dependency in it"
 abbrev pub isGrant : ℕ → Call → Bool
@@ -166,7 +166,7 @@ module _ (F : FieldPlan) where
   -- the log goes on with calls
   unfoldable pub logFrom : List Entry → List Call → List Entry
   logFrom log [] = log
-  logFrom log (c ∷ cs) = logFrom (log ++ (entry c (replyBy log c) ∷ [])) cs
+  logFrom log (c ∷ cs) = logFrom (log ++ (entryOf c (replyBy log c) ∷ [])) cs
 
   -- "It is empty after the reading and is fed with the calls alone"
   abbrev pub logOf : List Call → List Entry

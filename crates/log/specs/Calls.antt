@@ -12,7 +12,7 @@ use Rattle.precedence.specs.Graph.{cost, makespan}
 use Rattle.plan.specs.Field.{planOf, graph, fixed, placeOf}
 use Rattle.plan.specs.Status.{statusIn}
 use Rattle.sound.specs.Sound.{sound, planAccepted, dependenciesSound, planUnused}
-use Rattle.log.specs.CallLog.{Call, grant, arrive, turn, turnAll, Reply, refused, isAccepted, replyIn, Entry, entry}
+use Rattle.log.specs.CallLog.{Call, grant, arrive, turn, turnAll, Reply, refused, isAccepted, replyIn, Entry, entryOf}
 
 -- a reply and the tables afterwards
 pub record Answer : Type 0 where
@@ -20,8 +20,8 @@ pub record Answer : Type 0 where
   pub tables : Tables
 
 -- the reply, and the tables that an accepted call leaves; "unchanged" after a refusal
-abbrev pub answer : Tables → Reply → Tables → Answer
-answer t r t′ = record { reply = r; tables = cond (isAccepted r) t′ t }
+abbrev pub changedIfAccepted : Tables → Reply → Tables → Answer
+changedIfAccepted t r t′ = record { reply = r; tables = cond (isAccepted r) t′ t }
 
 -- the tables after an accepted call. "Grant: the drone becomes under way"
 abbrev pub granted : Tables → ℕ → Tables
@@ -48,14 +48,14 @@ abbrev pub flippedAll : Tables → List ℕ → Tables
 flippedAll t ws = record { plan = t .plan; visited = t .visited; droneFlags = t .droneFlags; flags = flipFlags (t .flags) ws }
 
 -- a cost, or the refusal of the call
-pub data CostReply : Type 0 where
-  costs : ℕ → CostReply
-  costRefused : ℕ → CostReply
+pub data CostOutcome : Type 0 where
+  costs : ℕ → CostOutcome
+  costRefused : ℕ → CostOutcome
 
 -- the rounds until everybody has landed, or the refusal of the call
-pub data RoundsReply : Type 0 where
-  rounds : ℕ → RoundsReply
-  roundsRefused : ℕ → RoundsReply
+pub data RoundsOutcome : Type 0 where
+  rounds : ℕ → RoundsOutcome
+  roundsRefused : ℕ → RoundsOutcome
 
 module _ (L : Limits) where
   -- 41, then 40, then the first of the table's refusals that holds in the tables
@@ -63,16 +63,16 @@ module _ (L : Limits) where
   replyOf t c = cond (fullSize L t) (cond (sound L t) (replyIn (planOf (t .plan)) (statusIn t) c) (refused 40)) (refused 41)
 
   unfoldable pub grantStep : Tables → ℕ → Answer
-  grantStep t d = answer t (replyOf t (grant d)) (granted t d)
+  grantStep t d = changedIfAccepted t (replyOf t (grant d)) (granted t d)
 
   unfoldable pub arriveStep : Tables → ℕ → Answer
-  arriveStep t d = answer t (replyOf t (arrive d)) (arrived t d)
+  arriveStep t d = changedIfAccepted t (replyOf t (arrive d)) (arrived t d)
 
   unfoldable pub turnStep : Tables → ℕ → Answer
-  turnStep t w = answer t (replyOf t (turn w)) (flipped t w)
+  turnStep t w = changedIfAccepted t (replyOf t (turn w)) (flipped t w)
 
   unfoldable pub turnAllStep : Tables → List ℕ → Answer
-  turnAllStep t ws = answer t (replyOf t (turnAll ws)) (flippedAll t ws)
+  turnAllStep t ws = changedIfAccepted t (replyOf t (turnAll ws)) (flippedAll t ws)
 
   -- any of the four
   abbrev pub step : Tables → Call → Answer
@@ -82,11 +82,11 @@ module _ (L : Limits) where
   step t (turnAll ws) = turnAllStep t ws
 
   -- "Remaining cost": from the drones' progress, with the order now in force. It changes nothing
-  unfoldable pub costReply : Tables → CostReply
+  unfoldable pub costReply : Tables → CostOutcome
   costReply t = cond (fullSize L t) (cond (sound L t) (costs (cost (graph (planOf (t .plan)) (statusIn t)) (placeOf (planOf (t .plan)) (statusIn t)))) (costRefused 40)) (costRefused 41)
 
-  -- "the undelayed rounds until everybody has landed": from the drones' progress, with the order now in force. It changes nothing
-  unfoldable pub roundsReply : Tables → RoundsReply
+  -- the undelayed rounds until everybody has landed, a call of our own: from the drones' progress, with the order now in force. It changes nothing
+  unfoldable pub roundsReply : Tables → RoundsOutcome
   roundsReply t = cond (fullSize L t) (cond (sound L t) (rounds (makespan (graph (planOf (t .plan)) (statusIn t)) (placeOf (planOf (t .plan)) (statusIn t)))) (roundsRefused 40)) (roundsRefused 41)
 
   -- the tables as an accepted reading of the plan left them: the plan and its dependencies stand in them, everybody is at stop 0, "nobody is under way and
@@ -109,7 +109,7 @@ module _ (program : Tables → Call → Answer) where
   -- each call with the reply that it got
   unfoldable pub recorded : Tables → List Call → List Entry
   recorded t [] = []
-  recorded t (c ∷ cs) = entry c (program t c .reply) ∷ recorded (program t c .tables) cs
+  recorded t (c ∷ cs) = entryOf c (program t c .reply) ∷ recorded (program t c .tables) cs
 
   -- the tables after the last call
   unfoldable pub tablesAfter : Tables → List Call → Tables
@@ -124,4 +124,4 @@ module _ (program : Tables → Call → Answer) where
   -- a run of real calls, by nothing but their contracts: the calls, each with the reply that it got, from the tables t to the tables t′
   pub data Ran : Tables → List Call → List Entry → Tables → Type 0 where
     none : {t : Tables} → Ran t [] [] t
-    next : {t t′ t″ : Tables} {c : Call} {r : Reply} {cs : List Call} {es : List Entry} → Answered t c r t′ → Ran t′ cs es t″ → Ran t (c ∷ cs) (entry c r ∷ es) t″
+    next : {t t′ t″ : Tables} {c : Call} {r : Reply} {cs : List Call} {es : List Entry} → Answered t c r t′ → Ran t′ cs es t″ → Ran t (c ∷ cs) (entryOf c r ∷ es) t″

@@ -6,11 +6,11 @@ use mathlib.Core.List.{List, [], _∷_}
 use Prim.Native.Nat.{ℕ, suc, _-_, _*_, _≤_, _<_}
 use lib.ListN.{length}
 use Rattle.below.specs.Below.{at, isIn, sumBelow}
-use Rattle.tables.specs.Limits.{Limits, limits}
+use Rattle.tables.specs.Limits.{Limits, limits, mostCost}
 use Rattle.tables.specs.Tables.{PlanLists, Tables, drones, dependencies, fullSize}
 use Rattle.precedence.specs.Graph.{Cycle, Longest, remaining}
 use Rattle.plan.specs.Field.{FieldPlan, planOf, graph, Status, afterTurn, afterTurns, placeOf}
-use Rattle.plan.specs.Status.{statusIn, now}
+use Rattle.plan.specs.Status.{statusIn, dependencyNow}
 use Rattle.sound.specs.Sound.{sound}
 use Rattle.log.specs.CallLog.{Call, turn, turnAll, accepted, refused, mustWait, replyNumber, Entry, isTurn, replyBy}
 use Rattle.log.specs.Calls.{grantStep, arriveStep, turnStep, turnAllStep, step, costs, costReply, AsRead, tablesAfter}
@@ -32,11 +32,11 @@ module _ (F : FieldPlan) (s : Status) where
 
   -- dependency w is one into the next stop of drone d
   abbrev pub IntoNext : ℕ → ℕ → Type 0
-  IntoNext d w = (w < count) × (now F s w .second ≡ d) × (now F s w .secondStop ≡ suc (place d))
+  IntoNext d w = (w < count) × (dependencyNow F s w .second ≡ d) × (dependencyNow F s w .secondStop ≡ suc (place d))
 
   -- "i may enter stop k only after j has visited stop s+1": the stop that dependency w waits for is visited
   abbrev pub Met : ℕ → Type 0
-  Met w = suc (now F s w .firstStop) ≤ place (now F s w .first)
+  Met w = suc (dependencyNow F s w .firstStop) ≤ place (dependencyNow F s w .first)
 
   -- the drone exists, has an unvisited stop and is not under way
   pub record Waiting (d : ℕ) : Type 0 where
@@ -110,7 +110,7 @@ module _ (L : Limits) (t : Tables) where
   -- why 33 ("the second drone has") is no refusal any more: "If the second drone had entered, the first would be beyond its stop and 32 would have been said".
   -- In sound tables, where the first drone of a dependency, in the order now in force, has not entered its stop, the second has not entered its own
   abbrev pub SecondAfterFirst : Type 0
-  SecondAfterFirst = sound L t ≡ true → (w : ℕ) → w < F .count → Unentered F S (now F S w .first) (now F S w .firstStop) → Unentered F S (now F S w .second) (now F S w .secondStop)
+  SecondAfterFirst = sound L t ≡ true → (w : ℕ) → w < F .count → Unentered F S (dependencyNow F S w .first) (dependencyNow F S w .firstStop) → Unentered F S (dependencyNow F S w .second) (dependencyNow F S w .secondStop)
 
   abbrev pub TurnedExactly : Type 0
   TurnedExactly = (w : ℕ) → (turnStep L t w .reply ≡ accepted) ↔ (Usable L t × (Turnable F S w × (TurnedCycle F S w → ⊥)))
@@ -163,7 +163,7 @@ CostBounded = (L : Limits) (t : Tables) (n : ℕ) → 2 * L .drones ≤ L .stops
 
 -- "at most 31,744"
 abbrev pub CostLimit : Type 0
-CostLimit = (t : Tables) (n : ℕ) → costReply limits t ≡ costs n → n ≤ 31744
+CostLimit = (t : Tables) (n : ℕ) → costReply limits t ≡ costs n → n ≤ mostCost
 
 -- in the log too one turn is the list of length one: the same reply, and it names the same
 pub record LogTurnIsGroup (F : FieldPlan) (log : List Entry) (w : ℕ) : Type 0 where
@@ -175,6 +175,11 @@ pub record LogTurnIsGroup (F : FieldPlan) (log : List Entry) (w : ℕ) : Type 0 
 -- "(40 and 41 never do)": whatever the log before it, no call is refused by 40 or 41
 abbrev pub LogNever40Or41 : Type 0
 LogNever40Or41 = (F : FieldPlan) (log : List Entry) (c : Call) → (replyNumber (replyBy F log c) ≢ 40) × (replyNumber (replyBy F log c) ≢ 41)
+
+-- "33 leaves the list of turn and of group turn", "The number isn't used again": no call is refused by 33, neither by the log nor on any tables
+pub record Never33 : Type 0 where
+  pub by-log : (F : FieldPlan) (log : List Entry) (c : Call) → replyNumber (replyBy F log c) ≢ 33
+  pub on-tables : (L : Limits) (t : Tables) (c : Call) → replyNumber (step L t c .reply) ≢ 33
 
 -- t′ differs from t at most in the progress of the drones and the flags of the dependencies that the plan has
 pub record ProgressOnly (t t′ : Tables) : Type 0 where

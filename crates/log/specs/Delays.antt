@@ -29,7 +29,7 @@ delays ([] ∷ rounds) = delays rounds
 delays ((d ∷ ds) ∷ rounds) = suc (delays rounds)
 
 module _ (t : Tables) where
-  -- the graph in the order now in force; "with no turns and no withdrawals in between" it stays
+  -- the graph in the order now in force; "With no turns and no withdrawals in between" it stays
   abbrev pub inForceNow : Plan
   inForceNow = graph (planOf (t .plan)) (statusIn t)
 
@@ -50,8 +50,8 @@ module _ (t : Tables) where
   NoneRaised = (rounds : List (List ℕ)) (held : List ℕ) (d : ℕ) → d < inForceNow .drones → remaining inForceNow (heldRound inForceNow (λ e. isIn e held) (placesAfter rounds)) d ≤ remaining inForceNow (placesAfter rounds) d
 
   -- R + D is sharp: these rounds are one fewer, and not everybody has finished
-  unfoldable pub isShort : List (List ℕ) → Bool
-  isShort rounds = fullSize small t && (sound small t && (eqb (suc (length rounds)) (mostRemaining + delays rounds) && not (finished inForceNow (placesAfter rounds))))
+  unfoldable pub oneRoundShort : List (List ℕ) → Bool
+  oneRoundShort rounds = fullSize small t && (sound small t && (eqb (suc (length rounds)) (mostRemaining + delays rounds) && not (finished inForceNow (placesAfter rounds))))
 
 pub record DelayClaims : Type 0 where
   -- of any sound tables
@@ -63,6 +63,6 @@ pub record DelayClaims : Type 0 where
   -- R is what the call `rounds` answers
   pub rounds-told : (L : Limits) (t : Tables) → Usable L t → roundsReply L t ≡ landsAfter (mostRemaining t)
   -- sharp. Q lands after 5 rounds: 4 are too few, 5 with drone 0 held once, 6 with both held one after the other
-  pub sharp : isShort (tablesBy (Q 4)) ([] ∷ [] ∷ [] ∷ [] ∷ []) ≡ true
-  pub sharp-once : isShort (tablesBy (Q 4)) ((0 ∷ []) ∷ [] ∷ [] ∷ [] ∷ [] ∷ []) ≡ true
-  pub sharp-twice : isShort (tablesBy (Q 4)) ((0 ∷ []) ∷ [] ∷ [] ∷ [] ∷ (1 ∷ []) ∷ [] ∷ []) ≡ true
+  pub sharp : oneRoundShort (tablesBy (Q 4)) ([] ∷ [] ∷ [] ∷ [] ∷ []) ≡ true
+  pub sharp-once : oneRoundShort (tablesBy (Q 4)) ((0 ∷ []) ∷ [] ∷ [] ∷ [] ∷ [] ∷ []) ≡ true
+  pub sharp-twice : oneRoundShort (tablesBy (Q 4)) ((0 ∷ []) ∷ [] ∷ [] ∷ [] ∷ (1 ∷ []) ∷ [] ∷ []) ≡ true

@@ -9,17 +9,17 @@ use lib.Dec.{eqb}
 use lib.IntN.{pos, negℤ}
 use lib.Signed.{leZ}
 use lib.ListN.{length, replicate}
-use Rattle.below.specs.Below.{listBelow}
-use Rattle.tables.specs.Limits.{Limits}
+use Rattle.below.specs.Below.{allIn, listBelow}
+use Rattle.tables.specs.Limits.{Limits, limits}
 use Rattle.tables.specs.Tables.{PlanLists, Tables, dependencies}
 use Rattle.precedence.specs.Graph.{cost}
 use Rattle.plan.specs.Claims.{stopTotal, ownerIn, numberIn, colliderIn, visitsIn}
 use Rattle.plan.specs.Dependencies.{dependencyTotal, column, flagOf}
 use Rattle.plan.specs.Field.{FieldPlan, planOf, graph, placeOf}
 use Rattle.sound.specs.Sound.{sound}
-use Rattle.log.specs.CallLog.{Call, grant, arrive, turn, turnAll, Reply, accepted, refused, mustWait, statusBy, Entry, entry, replyBy}
-use Rattle.log.specs.Preview.{PreviewReply, wouldTurn, wouldRefuse, preview, previewAll}
-use Rattle.log.specs.Calls.{step, CostReply, costs, costRefused, costReply}
+use Rattle.log.specs.CallLog.{Call, grant, arrive, turn, turnAll, Reply, accepted, refused, mustWait, statusBy, Entry, entryOf, replyBy}
+use Rattle.log.specs.Preview.{PreviewOutcome, wouldTurn, wouldRefuse, preview, previewAll}
+use Rattle.log.specs.Calls.{step, CostOutcome, costs, costRefused, costReply}
 
 -- ---- plans by routes
 
@@ -33,7 +33,7 @@ go l t = record { location = l; time = t }
 
 -- limits that just hold the flights below, so that full tables can be computed with
 abbrev pub small : Limits
-small = record { text = 0; drones = 3; stops = 12; dependencies = 3; name = 1; location = 65535; time = 1000000 }
+small = record { text = 0; drones = 3; stops = 12; dependencies = 3; name = 1; location = limits .location; time = limits .time }
 
 -- a table of full size: the entries, and zeros after them
 abbrev pub padded : ℕ → List ℕ → List ℕ
@@ -60,8 +60,8 @@ routesOnly rs = record {
 }
 
 -- the plan with the dependencies that its routes make
-abbrev pub withDependencies : PlanLists → PlanLists
-withDependencies p = record {
+abbrev pub ownDependencies : PlanLists → PlanLists
+ownDependencies p = record {
   droneCount = p .droneCount;
   dependencyCount = dependencyTotal (visitsIn p) ∷ [];
   names = p .names;
@@ -75,7 +75,7 @@ withDependencies p = record {
 }
 
 abbrev pub planBy : List (List Visit) → PlanLists
-planBy rs = withDependencies (routesOnly rs)
+planBy rs = ownDependencies (routesOnly rs)
 
 -- the tables as an accepted reading of these routes leaves them
 abbrev pub tablesBy : List (List Visit) → Tables
@@ -92,8 +92,8 @@ tablesBy rs = let p = planBy rs in record {
 pub data Line : Type 0 where
   says : Call → Reply → Line
   costsNow : ℕ → Line
-  previews : ℕ → PreviewReply → Line
-  previewsAll : List ℕ → PreviewReply → Line
+  previews : ℕ → PreviewOutcome → Line
+  previewsAll : List ℕ → PreviewOutcome → Line
 
 -- the routes of a plan that is taken with so many dependencies, and the lines that hold then
 pub record Flight : Type 0 where
@@ -101,8 +101,8 @@ pub record Flight : Type 0 where
   pub count : ℕ
   pub told : List Line
 
-abbrev pub flight : List (List Visit) → ℕ → List Line → Flight
-flight rs n ls = record { routes = rs; count = n; told = ls }
+abbrev pub flightBy : List (List Visit) → ℕ → List Line → Flight
+flightBy rs n ls = record { routes = rs; count = n; told = ls }
 
 abbrev pub sameReply : Reply → Reply → Bool
 sameReply accepted accepted = true
@@ -115,11 +115,11 @@ sameReply (mustWait v) accepted = false
 sameReply (mustWait v) (refused n) = false
 sameReply (mustWait v) (mustWait w) = eqb v w
 
-abbrev pub isCost : CostReply → ℕ → Bool
+abbrev pub isCost : CostOutcome → ℕ → Bool
 isCost (costs m) n = eqb m n
 isCost (costRefused m) n = false
 
-abbrev pub samePreview : PreviewReply → PreviewReply → Bool
+abbrev pub samePreview : PreviewOutcome → PreviewOutcome → Bool
 samePreview (wouldTurn a) (wouldTurn b) = leZ a b && leZ b a
 samePreview (wouldTurn a) (wouldRefuse n) = false
 samePreview (wouldRefuse m) (wouldTurn b) = false
@@ -129,17 +129,13 @@ samePreview (wouldRefuse m) (wouldRefuse n) = eqb m n
 module _ (L : Limits) (F : FieldPlan) where
   unfoldable pub follow : Tables → List Entry → List Line → Bool
   follow t log [] = true
-  follow t log (says c r ∷ ls) = let by-log = replyBy F log c in sameReply (step L t c .reply) r && (sameReply by-log r && follow (step L t c .tables) (log ++ (entry c by-log ∷ [])) ls)
+  follow t log (says c r ∷ ls) = let by-log = replyBy F log c in sameReply (step L t c .reply) r && (sameReply by-log r && follow (step L t c .tables) (log ++ (entryOf c by-log ∷ [])) ls)
   follow t log (costsNow n ∷ ls) = isCost (costReply L t) n && (eqb (cost (graph F (statusBy log)) (placeOf F (statusBy log))) n && follow t log ls)
   follow t log (previews w r ∷ ls) = samePreview (preview L t w) r && follow t log ls
   follow t log (previewsAll ws r ∷ ls) = samePreview (previewAll L t ws) r && follow t log ls
 
-unfoldable pub holds : Flight → Bool
-holds f = let p = planBy (f .routes) in eqb (dependencies p) (f .count) && (eqb (colliderIn p) (stopTotal p) && (sound small (tablesBy (f .routes)) && follow small (planOf p) (tablesBy (f .routes)) [] (f .told)))
-
-unfoldable pub allHold : List Flight → Bool
-allHold [] = true
-allHold (f ∷ fs) = holds f && allHold fs
+unfoldable pub flightHolds : Flight → Bool
+flightHolds f = let p = planBy (f .routes) in eqb (dependencies p) (f .count) && (eqb (colliderIn p) (stopTotal p) && (sound small (tablesBy (f .routes)) && follow small (planOf p) (tablesBy (f .routes)) [] (f .told)))
 
 -- ---- the table
 
@@ -158,38 +154,38 @@ ring = (go 1 0 ∷ go 30 1 ∷ go 10 2 ∷ go 2 3 ∷ []) ∷ (go 3 0 ∷ go 10 
 abbrev pub slips : List Flight
 slips =
     -- "Waiting for the leader's visit and not for its departure"; "Counting cost from the start and not from progress"
-    flight (Q 4) 1 (says (grant 0) accepted ∷ says (arrive 0) accepted ∷ costsNow 6 ∷ says (grant 0) accepted ∷ says (arrive 0) accepted ∷ says (grant 1) (mustWait 0) ∷ says (grant 0) accepted ∷ says (arrive 0) accepted ∷ says (grant 1) accepted ∷ costsNow 2 ∷ [])
+    flightBy (Q 4) 1 (says (grant 0) accepted ∷ says (arrive 0) accepted ∷ costsNow 6 ∷ says (grant 0) accepted ∷ says (arrive 0) accepted ∷ says (grant 1) (mustWait 0) ∷ says (grant 0) accepted ∷ says (arrive 0) accepted ∷ says (grant 1) accepted ∷ costsNow 2 ∷ [])
     -- "Turning twice gives the first rule again"
-    ∷ flight (Q 4) 1 (says (turn 0) accepted ∷ says (turn 0) accepted ∷ costsNow 8 ∷ says (grant 1) (mustWait 0) ∷ [])
+    ∷ flightBy (Q 4) 1 (says (turn 0) accepted ∷ says (turn 0) accepted ∷ costsNow 8 ∷ says (grant 1) (mustWait 0) ∷ [])
     -- "Looking for a cycle between the two drones only; three can wait in a ring"
-    ∷ flight ring 3 (says (turn 0) (refused 34) ∷ [])
+    ∷ flightBy ring 3 (says (turn 0) (refused 34) ∷ [])
     ∷ []
 
 -- turns of a list
-abbrev pub groups : List Flight
-groups =
+abbrev pub groupFlights : List Flight
+groupFlights =
     -- "Flight P with both turned is accepted and still costs 8"
-    flight P 2 (says (turnAll (0 ∷ 1 ∷ [])) accepted ∷ costsNow 8 ∷ says (turnAll (0 ∷ 1 ∷ [])) accepted ∷ costsNow 8 ∷ [])
+    flightBy P 2 (says (turnAll (0 ∷ 1 ∷ [])) accepted ∷ costsNow 8 ∷ says (turnAll (0 ∷ 1 ∷ [])) accepted ∷ costsNow 8 ∷ [])
     -- "36, an empty list or one not strictly rising, after 40 and before 30; then 30 to 34 as the list is walked, with 34 last of all"
-    ∷ flight P 2 (says (turnAll (1 ∷ 0 ∷ [])) (refused 36) ∷ says (turnAll (7 ∷ 7 ∷ [])) (refused 36) ∷ says (turnAll []) (refused 36) ∷ says (turnAll (0 ∷ 7 ∷ [])) (refused 30) ∷ says (turnAll (0 ∷ [])) (refused 34) ∷ costsNow 8 ∷ [])
+    ∷ flightBy P 2 (says (turnAll (1 ∷ 0 ∷ [])) (refused 36) ∷ says (turnAll (7 ∷ 7 ∷ [])) (refused 36) ∷ says (turnAll []) (refused 36) ∷ says (turnAll (0 ∷ 7 ∷ [])) (refused 30) ∷ says (turnAll (0 ∷ [])) (refused 34) ∷ costsNow 8 ∷ [])
     -- with a third drone that makes dependency 2, a fixed one: it is found though 0 alone would make a cycle. And 32 as drone 0 is under way to its stop 1
-    ∷ flight (P ++ ((go 12 0 ∷ go 11 5 ∷ go 13 6 ∷ []) ∷ [])) 3 (says (turnAll (0 ∷ 2 ∷ [])) (refused 31) ∷ says (turnAll (0 ∷ [])) (refused 34) ∷ says (grant 0) accepted ∷ says (turnAll (0 ∷ 1 ∷ [])) (refused 32) ∷ [])
+    ∷ flightBy (P ++ ((go 12 0 ∷ go 11 5 ∷ go 13 6 ∷ []) ∷ [])) 3 (says (turnAll (0 ∷ 2 ∷ [])) (refused 31) ∷ says (turnAll (0 ∷ [])) (refused 34) ∷ says (grant 0) accepted ∷ says (turnAll (0 ∷ 1 ∷ [])) (refused 32) ∷ [])
     -- the list of length one: Q's dependency 0
-    ∷ flight (Q 4) 1 (says (turnAll (0 ∷ [])) accepted ∷ costsNow 6 ∷ says (turn 0) accepted ∷ costsNow 8 ∷ [])
+    ∷ flightBy (Q 4) 1 (says (turnAll (0 ∷ [])) accepted ∷ costsNow 6 ∷ says (turn 0) accepted ∷ costsNow 8 ∷ [])
     ∷ []
 
 -- turns looked at before they are made
 abbrev pub looks : List Flight
 looks =
     -- "Flight Q gives -2", and the tables are untouched; once it is turned, turning it back costs 2. There is no dependency 1
-    flight (Q 4) 1 (previews 0 (wouldTurn (negℤ (pos 2))) ∷ costsNow 8 ∷ says (turn 0) accepted ∷ costsNow 6 ∷ previews 0 (wouldTurn (pos 2)) ∷ previews 1 (wouldRefuse 30) ∷ [])
+    flightBy (Q 4) 1 (previews 0 (wouldTurn (negℤ (pos 2))) ∷ costsNow 8 ∷ says (turn 0) accepted ∷ costsNow 6 ∷ previews 0 (wouldTurn (pos 2)) ∷ previews 1 (wouldRefuse 30) ∷ [])
     -- P: either alone has a cycle, both together cost the same
-    ∷ flight P 2 (previews 0 (wouldRefuse 34) ∷ previews 1 (wouldRefuse 34) ∷ previewsAll (0 ∷ 1 ∷ []) (wouldTurn (pos 0)) ∷ previewsAll (1 ∷ 0 ∷ []) (wouldRefuse 36) ∷ previewsAll [] (wouldRefuse 36) ∷ [])
+    ∷ flightBy P 2 (previews 0 (wouldRefuse 34) ∷ previews 1 (wouldRefuse 34) ∷ previewsAll (0 ∷ 1 ∷ []) (wouldTurn (pos 0)) ∷ previewsAll (1 ∷ 0 ∷ []) (wouldRefuse 36) ∷ previewsAll [] (wouldRefuse 36) ∷ [])
     -- a fixed one; and one whose first drone is under way to its stop
-    ∷ flight ((go 5 0 ∷ go 6 1 ∷ []) ∷ (go 3 0 ∷ go 5 2 ∷ go 4 3 ∷ []) ∷ []) 1 (previews 0 (wouldRefuse 31) ∷ [])
-    ∷ flight (Q 4) 1 (says (grant 0) accepted ∷ says (arrive 0) accepted ∷ previews 0 (wouldTurn (pos 0)) ∷ says (grant 0) accepted ∷ previews 0 (wouldRefuse 32) ∷ [])
+    ∷ flightBy ((go 5 0 ∷ go 6 1 ∷ []) ∷ (go 3 0 ∷ go 5 2 ∷ go 4 3 ∷ []) ∷ []) 1 (previews 0 (wouldRefuse 31) ∷ [])
+    ∷ flightBy (Q 4) 1 (says (grant 0) accepted ∷ says (arrive 0) accepted ∷ previews 0 (wouldTurn (pos 0)) ∷ says (grant 0) accepted ∷ previews 0 (wouldRefuse 32) ∷ [])
     ∷ []
 
 -- the claim: every flight of the table is as it says
 abbrev pub FlightsHold : Type 0
-FlightsHold = allHold (slips ++ groups ++ looks) ≡ true
+FlightsHold = allIn flightHolds (slips ++ groupFlights ++ looks) ≡ true

@@ -1,16 +1,20 @@
--- Wrong programs, each with the flight and the calls at which its replies are not the log's: demand 3 is false of them. Assumes nothing.
+-- Wrong programs, each with the flight and the calls at which its replies are not the log's: demand 3 is false of them; and made-up costs and rounds, which are not exact.
+-- Assumes nothing.
+use mathlib.Core.Path.{_≡_}
 use mathlib.Core.Bool.{cond}
 use mathlib.Core.List.{List, [], _∷_}
 use Prim.Native.Nat.{ℕ, _-_}
 use lib.Dec.{eqb}
 use Rattle.below.specs.Below.{at}
 use Rattle.tables.specs.Tables.{Tables}
-use Rattle.plan.specs.Field.{FieldPlan, planOf}
+use Rattle.precedence.specs.Graph.{unvisited, cost, makespan}
+use Rattle.plan.specs.Field.{FieldPlan, planOf, graph, placeOf}
 use Rattle.plan.specs.Status.{statusIn}
 use Rattle.log.specs.CallLog.{Call, grant, arrive, turn, turnAll, Reply, accepted, refused, mustWait, isAccepted, replyIn}
-use Rattle.log.specs.Calls.{Answer, answer, granted, flipped, grantStep, arriveStep, turnStep, turnAllStep, step}
+use Rattle.log.specs.Calls.{Answer, changedIfAccepted, granted, flipped, grantStep, arriveStep, turnStep, turnAllStep, step, CostOutcome, costs, costRefused, costReply, RoundsOutcome, rounds, roundsRefused, roundsReply}
+use Rattle.log.specs.Claims.{Usable}
 use Rattle.log.specs.Demand.{Demand3Of}
-use Rattle.log.specs.Flights.{Visit, small, Q, P}
+use Rattle.log.specs.Flights.{Visit, go, small, Q, P}
 
 -- ---- the programs
 
@@ -83,26 +87,26 @@ sooner F = record {
 }
 
 unfoldable pub visitOnly : Tables → ℕ → Answer
-visitOnly t d = answer t (replyIn (sooner (planOf (t .plan))) (statusIn t) (grant d)) (granted t d)
+visitOnly t d = changedIfAccepted t (replyIn (sooner (planOf (t .plan))) (statusIn t) (grant d)) (granted t d)
 
 -- grants without a test
 unfoldable pub grantUntested : Tables → ℕ → Answer
-grantUntested t d = answer t accepted (granted t d)
+grantUntested t d = changedIfAccepted t accepted (granted t d)
 
 -- says 23 without a test
 unfoldable pub waitUntested : Tables → ℕ → Answer
-waitUntested t d = answer t (mustWait 0) t
+waitUntested t d = changedIfAccepted t (mustWait 0) t
 
 -- refuses every call of its kind with one number
 unfoldable pub refuseOne : ℕ → Tables → ℕ → Answer
-refuseOne n t d = answer t (refused n) t
+refuseOne n t d = changedIfAccepted t (refused n) t
 
 unfoldable pub refuseList : ℕ → Tables → List ℕ → Answer
-refuseList n t ws = answer t (refused n) t
+refuseList n t ws = changedIfAccepted t (refused n) t
 
 -- turns the dependencies of a list one after the other, each tested by itself
 unfoldable pub oneByOne : Tables → List ℕ → Answer
-oneByOne t [] = answer t (refused 36) t
+oneByOne t [] = changedIfAccepted t (refused 36) t
 oneByOne t (w ∷ []) = turnStep small t w
 oneByOne t (w ∷ v ∷ ws) = cond (isAccepted (turnStep small t w .reply)) (oneByOne (turnStep small t w .tables) (v ∷ ws)) (turnStep small t w)
 
@@ -113,15 +117,15 @@ firstLeft t (w ∷ ws) = let a = turnAllStep small t (w ∷ ws) in record { repl
 
 -- ---- the flights that refute them
 
-pub record Wrong : Type 0 where
+pub record WrongProgram : Type 0 where
   pub program : Tables → Call → Answer
   pub routes : List (List Visit)
   pub calls : List Call
 
-abbrev pub wrong : (Tables → Call → Answer) → List (List Visit) → List Call → Wrong
+abbrev pub wrong : (Tables → Call → Answer) → List (List Visit) → List Call → WrongProgram
 wrong p rs cs = record { program = p; routes = rs; calls = cs }
 
-abbrev pub wrongs : List Wrong
+abbrev pub wrongs : List WrongProgram
 wrongs =
     -- "A grant, arrive or turn that refuses all, one fixed reply, and a call that changes nothing"
     wrong refuseAll (Q 4) (grant 0 ∷ [])
@@ -149,9 +153,61 @@ wrongs =
     ∷ []
 
 -- the claim
-abbrev pub AllFalse : List Wrong → Type 0
+abbrev pub AllFalse : List WrongProgram → Type 0
 AllFalse [] = Unit {0}
 AllFalse (x ∷ xs) = (Demand3Of small (x .program) → ⊥) × AllFalse xs
 
 abbrev pub WrongsFalse : Type 0
 WrongsFalse = AllFalse wrongs
+
+-- ---- "made-up costs or rounds"
+
+-- the exact conditions of what answers a cost, and of what answers rounds, on usable tables: the sum of the drones' remaining rounds, and the undelayed rounds until everybody has landed
+abbrev pub CostsExactly : (Tables → CostOutcome) → Type 0
+CostsExactly f = (t : Tables) → Usable small t → f t ≡ costs (cost (graph (planOf (t .plan)) (statusIn t)) (placeOf (planOf (t .plan)) (statusIn t)))
+
+abbrev pub RoundsExactly : (Tables → RoundsOutcome) → Type 0
+RoundsExactly f = (t : Tables) → Usable small t → f t ≡ rounds (makespan (graph (planOf (t .plan)) (statusIn t)) (placeOf (planOf (t .plan)) (statusIn t)))
+
+-- the unvisited stops, as if nobody waited for anybody
+abbrev pub stopsLeft : Tables → ℕ
+stopsLeft t = unvisited (graph (planOf (t .plan)) (statusIn t)) (placeOf (planOf (t .plan)) (statusIn t))
+
+-- with the routes of a plan whose tables, as they are read, get another answer
+pub record WrongCost : Type 0 where
+  pub answers : Tables → CostOutcome
+  pub routes : List (List Visit)
+
+pub record WrongRounds : Type 0 where
+  pub answers : Tables → RoundsOutcome
+  pub routes : List (List Visit)
+
+abbrev pub madeUpCosts : List WrongCost
+madeUpCosts =
+    record { answers = λ t. costRefused 40; routes = Q 4 }
+    ∷ record { answers = λ t. costs 0; routes = Q 4 }
+    ∷ record { answers = λ t. costs 8; routes = (go 1 0 ∷ go 2 1 ∷ []) ∷ [] }
+    ∷ record { answers = λ t. costs (stopsLeft t); routes = Q 4 }
+    ∷ []
+
+abbrev pub madeUpRounds : List WrongRounds
+madeUpRounds =
+    record { answers = λ t. roundsRefused 40; routes = Q 4 }
+    ∷ record { answers = λ t. rounds 5; routes = (go 1 0 ∷ go 2 1 ∷ []) ∷ [] }
+    ∷ record { answers = λ t. rounds (stopsLeft t); routes = P }
+    ∷ []
+
+abbrev pub CostsFalse : List WrongCost → Type 0
+CostsFalse [] = Unit {0}
+CostsFalse (x ∷ xs) = (CostsExactly (x .answers) → ⊥) × CostsFalse xs
+
+abbrev pub RoundsFalse : List WrongRounds → Type 0
+RoundsFalse [] = Unit {0}
+RoundsFalse (x ∷ xs) = (RoundsExactly (x .answers) → ⊥) × RoundsFalse xs
+
+-- the call's own answers are exact, and none of these are
+pub record MadeUpFalse : Type 0 where
+  pub cost-exact : CostsExactly (costReply small)
+  pub rounds-exact : RoundsExactly (roundsReply small)
+  pub costs-false : CostsFalse madeUpCosts
+  pub rounds-false : RoundsFalse madeUpRounds

@@ -14,10 +14,10 @@ use Rattle.below.proofs.Every.{allBelow-at, allBelow-all}
 use Rattle.below.proofs.Sum.{sum-ext, count-sum}
 use Rattle.below.proofs.Pairs.{Climbs, climbs-few, climbs-all, all-climbs}
 use Rattle.below.proofs.Triangle.{pairs-triangle, triangle-mono, triangle-ext, triangle-same}
-use Rattle.plan.specs.Visits.{Visits, visits}
+use Rattle.plan.specs.Visits.{Visits, visitsWith}
 use Rattle.plan.specs.Check.{over, collide, apart}
 use Rattle.plan.specs.Dependencies.{follows, exact, right}
-use Rattle.meetings.specs.Meetings.{meeting, meetingTotal, clear, entryRight, Steady}
+use Rattle.meetings.specs.Meetings.{meetingVisits, meetingTotal, clear, entryRight, Steady}
 
 -- a test as a summand
 abbrev one : Bool → ℕ
@@ -29,7 +29,7 @@ quick own loc time n m xs ys = eqb m (meetingTotal own loc n) && allBelow m (ent
 
 module _ (own num loc time : ℕ → ℕ) (n : ℕ) where
   abbrev S : Visits
-  S = visits own num loc time n
+  S = visitsWith own num loc time n
 
   -- ---- what the tests say
   pub record Follows (v w : ℕ) : Type 0 where
@@ -66,12 +66,12 @@ module _ (own num loc time : ℕ → ℕ) (n : ℕ) where
     pub others : own v ≢ own w
     pub place : loc v ≡ loc w
 
-  meeting-says : (v w : ℕ) → meeting own loc v w ≡ true → Meeting v w
-  unfolding meeting
+  meeting-says : (v w : ℕ) → meetingVisits own loc v w ≡ true → Meeting v w
+  unfolding meetingVisits
   meeting-says v w e = record { others = eqb-false _ _ (not-true _ (and-left _ _ e)); place = eqb-true _ _ (and-right (not (eqb (own v) (own w))) _ e) }
 
-  says-meeting : (v w : ℕ) → own v ≢ own w → loc v ≡ loc w → meeting own loc v w ≡ true
-  unfolding meeting
+  says-meeting : (v w : ℕ) → own v ≢ own w → loc v ≡ loc w → meetingVisits own loc v w ≡ true
+  unfolding meetingVisits
   says-meeting v w a b = rw (ne-eqb (own v) (own w) a, eq-eqb (loc v) (loc w) b) refl
 
   pub record Clear (v w : ℕ) : Type 0 where
@@ -94,7 +94,7 @@ module _ (own num loc time : ℕ → ℕ) (n : ℕ) where
   clear-self v = rw (eq-eqb (own v) (own v) refl) refl
 
   -- two that meeting and do not collide, in either order: one is over before the other
-  apart-over : (v w : ℕ) → apart S ≡ true → v < n → w < n → meeting own loc v w ≡ true → (over own time n v (time w) ≡ true) ⊎ (over own time n w (time v) ≡ true)
+  apart-over : (v w : ℕ) → apart S ≡ true → v < n → w < n → meetingVisits own loc v w ≡ true → (over own time n v (time w) ≡ true) ⊎ (over own time n w (time v) ≡ true)
   unfolding apart collide
   apart-over v w e l k m =
       let q : Meeting v w = meeting-says v w m in
@@ -159,7 +159,7 @@ module _ (own num loc time : ℕ → ℕ) (n : ℕ) where
     clear-follows v w e = let c : Clear v w = clear-says v w e in says-follows v w (record { others = c .others; place = c .place; earlier = over-earlier v (time w) (c .gone) })
 
     -- two stops of which one follows the other, in either order, meeting, and only one follows
-    once : (v w : ℕ) → one (follows S v w) + one (follows S w v) ≤ one (meeting own loc v w)
+    once : (v w : ℕ) → one (follows S v w) + one (follows S w v) ≤ one (meetingVisits own loc v w)
     once v w = by-cases (follows S v w)
         (λ e. let f : Follows v w = follows-says v w e in by-cases (follows S w v)
         (λ g. absurd (omega (arith, f .earlier, follows-says w v g .earlier)))
@@ -171,9 +171,9 @@ module _ (own num loc time : ℕ → ℕ) (n : ℕ) where
     clear-less : (v w : ℕ) → one (clear own loc time n v w) ≤ one (follows S v w)
     clear-less v w = by-cases (clear own loc time n v w) (λ e. rw (e, clear-follows v w e) (omega arith)) (λ e. rw e (omega arith))
 
-    total-triangle : meetingTotal own loc n ≡ triangle n (λ v w. one (meeting own loc v w))
+    total-triangle : meetingTotal own loc n ≡ triangle n (λ v w. one (meetingVisits own loc v w))
     unfolding meetingTotal triangle
-    total-triangle = sum-ext n (λ w. countBelow w (λ v. meeting own loc v w)) (λ w. sumBelow w (λ v. one (meeting own loc v w))) (λ w l. count-sum w (λ v. meeting own loc v w))
+    total-triangle = sum-ext n (λ w. countBelow w (λ v. meetingVisits own loc v w)) (λ w. sumBelow w (λ v. one (meetingVisits own loc v w))) (λ w l. count-sum w (λ v. meetingVisits own loc v w))
 
     follows-total : pairsOf (follows S) n ≤ meetingTotal own loc n
     follows-total = rw (total-triangle, pairs-triangle (follows S) follows-self n) (triangle-mono n _ _ (λ v w k l. once v w))
@@ -182,8 +182,8 @@ module _ (own num loc time : ℕ → ℕ) (n : ℕ) where
     apart-follows : apart S ≡ true → pairsOf (follows S) n ≡ meetingTotal own loc n
     apart-follows a = rw (total-triangle, pairs-triangle (follows S) follows-self n) (triangle-ext n _ _ (λ v w k l. each v w (omega arith) l))
       where
-        each : (v w : ℕ) → v < n → w < n → one (follows S v w) + one (follows S w v) ≡ one (meeting own loc v w)
-        each v w l k = by-cases (meeting own loc v w)
+        each : (v w : ℕ) → v < n → w < n → one (follows S v w) + one (follows S w v) ≡ one (meetingVisits own loc v w)
+        each v w l k = by-cases (meetingVisits own loc v w)
             (λ e. let q : Meeting v w = meeting-says v w e in
             let some : 1 ≤ one (follows S v w) + one (follows S w v) =
             elim (apart-over v w a l k e) [
@@ -207,8 +207,8 @@ module _ (own num loc time : ℕ → ℕ) (n : ℕ) where
     unfolding apart
     clear-apart h = allBelow-all n _ (λ v l. allBelow-all n _ (λ w k. not-collide v w l k))
       where
-        all : (v w : ℕ) → v < w → w < n → one (clear own loc time n v w) + one (clear own loc time n w v) ≡ one (meeting own loc v w)
-        all = triangle-same n (λ v w. one (clear own loc time n v w) + one (clear own loc time n w v)) (λ v w. one (meeting own loc v w))
+        all : (v w : ℕ) → v < w → w < n → one (clear own loc time n v w) + one (clear own loc time n w v) ≡ one (meetingVisits own loc v w)
+        all = triangle-same n (λ v w. one (clear own loc time n v w) + one (clear own loc time n w v)) (λ v w. one (meetingVisits own loc v w))
             (λ v w k l. omega (arith, clear-less v w, clear-less w v, once v w))
             (rw (total-triangle, pairs-triangle (clear own loc time n) clear-self n) at h)
 

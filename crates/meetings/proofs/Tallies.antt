@@ -20,7 +20,7 @@ use Rattle.below.proofs.Sum.{sum-bound, sum-ext}
 use Rattle.tables.specs.Limits.{Limits}
 use Rattle.plan.specs.Sharing.{firstAt}
 use Rattle.plan.proofs.SharingLaws.{first-same, firsts-back}
-use Rattle.meetings.specs.Meetings.{meeting, meetingTotal, Grouped}
+use Rattle.meetings.specs.Meetings.{meetingVisits, meetingTotal, Grouped}
 use Rattle.meetings.specs.Histogram.{Indexed, Tally, Run}
 
 -- where a count ends: the later ones do not pass
@@ -75,9 +75,9 @@ run-next own n lo w g l r e =
 
 -- the entry of w is the number of stops before w that meet it
 pub run-meetings : {L : Limits} (owners firsts counts : List ℕ) (n lo w : ℕ) → Run (at owners) lo (w + 1) → lo ≤ w → Tally L firsts counts n lo → w < n
-    → at counts (at firsts w) ≡ countBelow w (λ v. meeting (at owners) (at firsts) v w)
-unfolding meeting
-run-meetings owners firsts counts n lo w r l t b = t .here w b ∙ sym (count-cut lo w (λ v. meeting (at owners) (at firsts) v w) (λ u. eqb (at firsts u) (at firsts w)) l
+    → at counts (at firsts w) ≡ countBelow w (λ v. meetingVisits (at owners) (at firsts) v w)
+unfolding meetingVisits
+run-meetings owners firsts counts n lo w r l t b = t .here w b ∙ sym (count-cut lo w (λ v. meetingVisits (at owners) (at firsts) v w) (λ u. eqb (at firsts u) (at firsts w)) l
     (λ v k. rw (ne-eqb (at owners v) (at owners w) (λ e. omega (arith, r .lower v k, r .alike w l (omega arith)))) refl)
     (λ v a k. rw (eq-eqb (at owners v) (at owners w) (r .alike v a (omega arith) ∙ sym (r .alike w l (omega arith)))) refl))
 
@@ -86,17 +86,17 @@ pub meetings-none : (own loc : ℕ → ℕ) → 0 ≡ meetingTotal own loc 0
 unfolding meetingTotal sumBelow
 meetings-none own loc = refl
 
-pub meetings-more : (own loc : ℕ → ℕ) (w k x : ℕ) → k ≡ meetingTotal own loc w → x ≡ countBelow w (λ v. meeting own loc v w) → k + x ≡ meetingTotal own loc (w + 1)
+pub meetings-more : (own loc : ℕ → ℕ) (w k x : ℕ) → k ≡ meetingTotal own loc w → x ≡ countBelow w (λ v. meetingVisits own loc v w) → k + x ≡ meetingTotal own loc (w + 1)
 unfolding meetingTotal sumBelow
 meetings-more own loc w k x e q = rw add-one (omega arith)
 
 pub meetings-bound : (own loc : ℕ → ℕ) (w b : ℕ) → w ≤ b → meetingTotal own loc w ≤ w * b
 unfolding meetingTotal
-meetings-bound own loc w b l = sum-bound w (λ w. countBelow w (λ v. meeting own loc v w)) b (λ u k. omega (arith, count-le u (λ v. meeting own loc v u)))
+meetings-bound own loc w b l = sum-bound w (λ w. countBelow w (λ v. meetingVisits own loc v w)) b (λ u k. omega (arith, count-le u (λ v. meetingVisits own loc v u)))
 
 -- stops that meet are those of different drones with one first stop
 pub meetings-shared : (own loc first : ℕ → ℕ) (n : ℕ) → ((v : ℕ) → v < n → first v ≡ firstAt loc v) → meetingTotal own first n ≡ meetingTotal own loc n
-unfolding meetingTotal meeting
+unfolding meetingTotal meetingVisits
 meetings-shared own loc first n e = sum-ext n _ _ (λ w l. count-ext w _ _ (λ v k. ap (λ (b : Bool). not (eqb (own v) (own w)) && b) (same v w (omega arith) l)))
   where
     same : (v w : ℕ) → v < n → w < n → eqb (first v) (first w) ≡ eqb (loc v) (loc w)

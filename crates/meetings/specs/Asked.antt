@@ -7,7 +7,7 @@ use Rattle.tables.specs.Limits.{Limits}
 use Rattle.meetings.specs.Meetings.{Steady, Grouped}
 
 -- n stops, drone by drone, each drone's times rising
-pub record Stops (L : Limits) (n : ℕ) (owners locations times : List ℕ) : Type 0 where
+pub record SteadyStops (L : Limits) (n : ℕ) (owners locations times : List ℕ) : Type 0 where
   pub has-owners : n ≤ length owners
   pub has-locations : n ≤ length locations
   pub has-times : n ≤ length times

@@ -9,12 +9,12 @@ use Rattle.plan.specs.Visits.{sameLocation}
 use Rattle.plan.specs.Check.{over}
 
 -- v and w are visits of one location by different drones
-unfoldable pub meeting : (own loc : ℕ → ℕ) → ℕ → ℕ → Bool
-meeting own loc v w = not (eqb (own v) (own w)) && sameLocation (loc v) (loc w)
+unfoldable pub meetingVisits : (own loc : ℕ → ℕ) → ℕ → ℕ → Bool
+meetingVisits own loc v w = not (eqb (own v) (own w)) && sameLocation (loc v) (loc w)
 
 -- how many v < w < n are such
 unfoldable pub meetingTotal : (own loc : ℕ → ℕ) → ℕ → ℕ
-meetingTotal own loc n = sumBelow n (λ w. countBelow w (λ v. meeting own loc v w))
+meetingTotal own loc n = sumBelow n (λ w. countBelow w (λ v. meetingVisits own loc v w))
 
 module _ (own loc time : ℕ → ℕ) (n : ℕ) where
   -- v and w are visits of one location by different drones, and v is over before w begins

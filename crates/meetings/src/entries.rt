@@ -7,7 +7,7 @@ ghost use lib.ListN.{length};
 ghost use Rattle.below.specs.Below.{at, allBelow, pairBefore};
 ghost use Rattle.tables.specs.Limits.{limits};
 ghost use Rattle.meetings.specs.Meetings.{clear, entryRight};
-ghost use Rattle.meetings.specs.Asked.{Stops, PairTable};
+ghost use Rattle.meetings.specs.Asked.{SteadyStops, PairTable};
 
 // Whether v and w are visits of one location by different drones, and v is over before w begins.
 fn is_clear(owners: &[u8], locations: &[u16], times: &[u32], n: usize, v: usize, w: usize) -> bool
@@ -42,7 +42,7 @@ fn is_right(
     seconds: &[u16],
     k: usize,
 ) -> bool
-    requires { ⌜ Stops limits n (now owners) (now locations) (now times) × (k < length (now firsts)) × (k < length (now seconds)) ⌝ }
+    requires { ⌜ SteadyStops limits n (now owners) (now locations) (now times) × (k < length (now firsts)) × (k < length (now seconds)) ⌝ }
     ensures { λ r. ⌜ r ≡ entryRight (at (now (owners .entry))) (at (now (locations .entry))) (at (now (times .entry))) n (at (now (firsts .entry))) (at (now (seconds .entry))) k ⌝ }
 {
     let v = firsts[k] as usize;
@@ -73,7 +73,7 @@ pub fn are_right(
     seconds: &[u16],
     m: usize,
 ) -> bool
-    requires { ⌜ Stops limits n (now owners) (now locations) (now times) × PairTable m (now firsts) (now seconds) ⌝ }
+    requires { ⌜ SteadyStops limits n (now owners) (now locations) (now times) × PairTable m (now firsts) (now seconds) ⌝ }
     ensures { λ r. ⌜ r ≡ allBelow m (entryRight (at (now (owners .entry))) (at (now (locations .entry))) (at (now (times .entry))) n (at (now (firsts .entry))) (at (now (seconds .entry)))) ⌝ }
 {
     let mut k = 0;

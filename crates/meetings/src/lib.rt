@@ -12,7 +12,7 @@ ghost use Rattle.below.specs.Below.{at};
 ghost use Rattle.tables.specs.Limits.{limits};
 ghost use Rattle.plan.specs.Visits.{visitsOf};
 ghost use Rattle.plan.specs.Dependencies.{right};
-ghost use Rattle.meetings.specs.Asked.{Stops, PairTable};
+ghost use Rattle.meetings.specs.Asked.{SteadyStops, PairTable};
 
 // Whether no two drones collide and the table is the list of the plan's dependencies, in order.
 pub fn dependencies_right(
@@ -24,7 +24,7 @@ pub fn dependencies_right(
     seconds: &[u16],
     m: usize,
 ) -> bool
-    requires { ⌜ Stops limits n (now owners) (now locations) (now times) × PairTable m (now firsts) (now seconds) ⌝ }
+    requires { ⌜ SteadyStops limits n (now owners) (now locations) (now times) × PairTable m (now firsts) (now seconds) ⌝ }
     ensures { λ r. ⌜ ((numbers : List ℕ) → r ≡ right (visitsOf (now (owners .entry)) numbers (now (locations .entry)) (now (times .entry)) n) m (at (now (firsts .entry))) (at (now (seconds .entry)))) ⌝ }
 {
     if !entries::are_right(owners, locations, times, n, firsts, seconds, m) {

@@ -11,12 +11,11 @@ use Rattle.below.specs.Below.{at, rank, pairBefore}
 use Rattle.below.proofs.Tests.{by-cases, and-left, and-right}
 use Rattle.below.proofs.Pairs.{listed-at, rank-below, rank-find, rank-order}
 use Rattle.tables.specs.Tables.{PlanLists, drones, dependencies}
-use Rattle.precedence.proofs.Flat.{Layout}
 use Rattle.plan.specs.Stops.{start}
 use Rattle.plan.specs.Visits.{Visits, sameLocation, Symmetric}
 use Rattle.plan.specs.Check.{firstFault, apart}
 use Rattle.plan.specs.Dependencies.{follows, isFixed, flagOf, dependencyTotal, column}
-use Rattle.plan.specs.Field.{Dependency, FieldPlan, Status, before, graph, fixed, GoneBefore, Checked, Meeting, AcceptedPlan, planOf}
+use Rattle.plan.specs.Field.{Dependency, FieldPlan, before, fixed, GoneBefore, Checked, Meeting, AcceptedPlan, planOf}
 use Rattle.plan.specs.Claims.{Numbered, pair, ownerIn, numberIn, stopTotal, visitsIn, HaveStops, NoFault, NoCollision, planned, HoldsPlanned, StopsChecked}
 use Rattle.plan.proofs.Numbering.{numbered, goes-on, stays, last-is, order-number}
 use Rattle.plan.proofs.Conditions.{Passes, firstFault-says, says-firstFault, Over, apart-says, says-apart, Follows, follows-says, says-follows}
@@ -80,12 +79,12 @@ module _ (S : Visits) (off last : ℕ → ℕ) (drones count : ℕ) (dependency 
 
   -- ---- the plan check
 
-  over-gone : (d s t : ℕ) → d < drones → s ≤ last d → Over own time n (off d + s) t → (s < last d) × (time (off d + suc s) < t)
+  pub over-gone : (d s t : ℕ) → d < drones → s ≤ last d → Over own time n (off d + s) t → (s < last d) × (time (off d + suc s) < t)
   over-gone d s t l k o =
       let q : off d + s + 1 ≡ off d + suc s = omega arith in
       (rw (N .place-number d s l k, N .place-own d s l k) at (stays N (off d + s) (o .next) (o .same-drone)), rw q at (o .leaves))
 
-  gone-over : (d s t : ℕ) → d < drones → s < last d → time (off d + suc s) < t → Over own time n (off d + s) t
+  pub gone-over : (d s t : ℕ) → d < drones → s < last d → time (off d + suc s) < t → Over own time n (off d + s) t
   gone-over d s t l k h =
       let q : off d + s + 1 ≡ off d + suc s = omega arith in
       record { next = rw q (N .place-in d (suc s) l k); same-drone = rw q (N .place-own d (suc s) l k ∙ sym (N .place-own d s l (omega arith))); leaves = rw q h }
@@ -124,8 +123,8 @@ module _ (S : Visits) (off last : ℕ → ℕ) (drones count : ℕ) (dependency 
       }
 
   -- the other way round
-  pub checked-passes : Checked plan → firstFault S ≡ n
-  checked-passes c = says-firstFault S (λ v l. record {
+  pub stops-pass : StopsChecked plan → firstFault S ≡ n
+  stops-pass c = says-firstFault S (λ v l. record {
     starts = λ z. sym (time-of v l) ∙ rw z (c .starts (own v) (N .own-in v l));
     rises = λ z. step v l z .0;
     moves = λ z. step v l z .1;
@@ -138,6 +137,9 @@ module _ (S : Visits) (off last : ℕ → ℕ) (drones count : ℕ) (dependency 
           let k : num v - 1 < last (own v) = omega (arith, N .number-in v l) in
           let m : loc (v - 1) ≢ loc v = rw (p, q) at (c .moves (own v) (num v - 1) (N .own-in v l) k) in
           (rw (p, q) at (c .rises (own v) (num v - 1) (N .own-in v l) k), λ e. m (sym e))
+
+  pub checked-passes : Checked plan → firstFault S ≡ n
+  checked-passes c = stops-pass (record { starts = c .starts; rises = c .rises; moves = c .moves })
 
   pub checked-apart : Checked plan → apart S ≡ true
   checked-apart c = says-apart S (λ v w l k ne q. elim (c .no-collision (own v) (num v) (own w) (num w) (N .own-in v l) (N .number-in v l) (N .own-in w k) (N .number-in w k) ne (rw (location-of v l, location-of w k) q)) [
@@ -242,16 +244,6 @@ module _ (S : Visits) (off last : ℕ → ℕ) (drones count : ℕ) (dependency 
 module _ (p : PlanLists) (have : HaveStops p) where
   pub stops-numbered : Numbered (ownerIn p) (numberIn p) (start (p .stopCounts)) (planOf p .last) (drones p) (stopTotal p)
   stops-numbered = numbered (drones p) (p .stopCounts) have
-
-  -- where the stops lie, for tables of a number for each stop
-  pub layout : (s : Status) → Layout (graph (planOf p) s) (start (p .stopCounts)) (ownerIn p) (numberIn p) (stopTotal p)
-  layout s = record {
-    owner-in = stops-numbered .own-in;
-    number-in = stops-numbered .number-in;
-    place-in = stops-numbered .place-in;
-    place-owner = stops-numbered .place-own;
-    place-number = stops-numbered .place-number;
-  }
 
   pub stops-checked : NoFault p → StopsChecked (planOf p)
   stops-checked = passes-stops (visitsIn p) _ _ _ _ _ stops-numbered

@@ -8,7 +8,7 @@ use native.Mathlib.Nat.{le-antisymm}
 use native.Mathlib.Omega.{arith}
 use lib.ListN.{length, set}
 use lib.Dec.{eqb}
-use borrow.Author.Tests.{le-leb, lt-leb, ne-eqb}
+use borrow.Author.Tests.{le-leb, lt-leb}
 use Rattle.below.specs.Below.{at, countBelow, sumBelow, picks, rowsBelow}
 use Rattle.below.proofs.Tests.{by-cases}
 use Rattle.below.proofs.Count.{count-le, count-start, count-yes, count-no, count-past, count-miss}
@@ -17,12 +17,12 @@ use Rattle.below.proofs.Picks.{length-picks, length-rows, laid-none, laid-lengt
 use Rattle.plan.specs.declared.dependencies.Built.the-variants.{Count, TooMany}
 use Rattle.plan.specs.Visits.{Visits}
 use Rattle.plan.specs.Dependencies.{follows, flagOf, dependencyTotal, column}
-use Rattle.plan.specs.Columns.{Columns, columns, written, rowWritten, rowsWritten, builtOf, builtIn}
+use Rattle.plan.specs.Columns.{Columns, columnsWith, written, rowWritten, rowsWritten, builtOf, builtIn}
 use Rattle.plan.specs.Room.{ColumnsRoom}
 use Rattle.plan.specs.Sharing.{Groups}
 use Rattle.plan.proofs.SharingLaws.{Elsewhere, walk-start, walk-more}
 
-columns-same : {fd fs sd ss fl fd′ fs′ sd′ ss′ fl′ : List ℕ} → fd ≡ fd′ → fs ≡ fs′ → sd ≡ sd′ → ss ≡ ss′ → fl ≡ fl′ → columns fd fs sd ss fl ≡ columns fd′ fs′ sd′ ss′ fl′
+columns-same : {fd fs sd ss fl fd′ fs′ sd′ ss′ fl′ : List ℕ} → fd ≡ fd′ → fs ≡ fs′ → sd ≡ sd′ → ss ≡ ss′ → fl ≡ fl′ → columnsWith fd fs sd ss fl ≡ columnsWith fd′ fs′ sd′ ss′ fl′
 columns-same a b c d e = rw (a, b, c, d, e) refl
 
 -- the columns keep their lengths
@@ -88,8 +88,8 @@ module _ (S : Visits) (v c : ℕ) (c₀ : Columns) where
   unfolding rowWritten picks
   row-none = columns-same (laid-none _ _) (laid-none _ _) (laid-none _ _) (laid-none _ _) (laid-none _ _)
 
-  module _ (w : ℕ) (fd fs sd ss fl : List ℕ) (e : columns fd fs sd ss fl ≡ rowWritten S v w c c₀) where
-    pub row-skip : q w ≡ false → columns fd fs sd ss fl ≡ rowWritten S v (w + 1) c c₀
+  module _ (w : ℕ) (fd fs sd ss fl : List ℕ) (e : columnsWith fd fs sd ss fl ≡ rowWritten S v w c c₀) where
+    pub row-skip : q w ≡ false → columnsWith fd fs sd ss fl ≡ rowWritten S v (w + 1) c c₀
     unfolding rowWritten
     row-skip h =
         columns-same
@@ -99,16 +99,16 @@ module _ (S : Visits) (v c : ℕ) (c₀ : Columns) where
         (pick-skip q w _ _ _ _ (ap (λ (x : Columns). x .secondStops) e) h)
         (pick-skip q w _ _ _ _ (ap (λ (x : Columns). x .flags) e) h)
 
-    pub row-lengths : SameLengths (columns fd fs sd ss fl) c₀
+    pub row-lengths : SameLengths (columnsWith fd fs sd ss fl) c₀
     unfolding rowWritten
     row-lengths = written-lengths S (λ f. picks w (follows S v) (f v)) c _ c₀ e
 
-    pub row-end : w ≤ n → n ≤ w → columns fd fs sd ss fl ≡ rowWritten S v n c c₀
-    row-end a b = subst (λ (m : ℕ). columns fd fs sd ss fl ≡ rowWritten S v m c c₀) (le-antisymm a b) e
+    pub row-end : w ≤ n → n ≤ w → columnsWith fd fs sd ss fl ≡ rowWritten S v n c c₀
+    row-end a b = subst (λ (m : ℕ). columnsWith fd fs sd ss fl ≡ rowWritten S v m c c₀) (le-antisymm a b) e
 
     module _ (k : ℕ) (ek : k ≡ c + countBelow w q) where
       pub row-take : (flag : ℕ) → q w ≡ true → flag ≡ flagOf own num n v w
-          → columns (set fd k (own v)) (set fs k (num v)) (set sd k (own w)) (set ss k (num w)) (set fl k flag) ≡ rowWritten S v (w + 1) c c₀
+          → columnsWith (set fd k (own v)) (set fs k (num v)) (set sd k (own w)) (set ss k (num w)) (set fl k flag) ≡ rowWritten S v (w + 1) c c₀
       unfolding rowWritten
       row-take flag h ef =
           columns-same
@@ -119,7 +119,7 @@ module _ (S : Visits) (v c : ℕ) (c₀ : Columns) where
           (pick-store q w _ _ _ _ (ap (λ (x : Columns). x .flags) e) k _ h ek ef)
 
       -- where w follows v, the cursor is within the columns
-      pub row-room : q w ≡ true → w < n → ColumnsRoom (c + countBelow n q) c₀ → ColumnsRoom (k + 1) (columns fd fs sd ss fl)
+      pub row-room : q w ≡ true → w < n → ColumnsRoom (c + countBelow n q) c₀ → ColumnsRoom (k + 1) (columnsWith fd fs sd ss fl)
       row-room h l r = room-in (k + 1) (c + countBelow n q) _ c₀ row-lengths (omega (arith, count-past w n q l h)) r
 
 -- ---- the walk of a row, which passes over the stops at other locations
@@ -145,7 +145,7 @@ module _ (S : Visits) (v c : ℕ) (c₀ : Columns) (k : ℕ) (fd fs sd ss fl : L
 
   -- the cursor and the columns with the dependencies of v whose second stop is below w
   abbrev pub RowTo : ℕ → Type 0
-  RowTo w = (k ≡ c + countBelow w (follows S v)) × (columns fd fs sd ss fl ≡ rowWritten S v w c c₀)
+  RowTo w = (k ≡ c + countBelow w (follows S v)) × (columnsWith fd fs sd ss fl ≡ rowWritten S v w c c₀)
 
   row-over : Elsewhere S → (u : ℕ) → loc u ≢ loc v → RowTo u → RowTo (u + 1)
   row-over only u ne (a, b) =
@@ -183,7 +183,7 @@ module _ (S : Visits) (c₀ : Columns) where
       at-end : (f : ℕ → ℕ → ℕ) → k ≡ length (rowsBelow v (λ u. picks n (follows S u) (f u)))
       at-end f = ek ∙ sym (length-rows _ inRow (λ u. length-picks _ (f u) n) v)
 
-      pub rows-more : (fd fs sd ss fl : List ℕ) → columns fd fs sd ss fl ≡ rowWritten S v n k c → columns fd fs sd ss fl ≡ rowsWritten S (v + 1) c₀
+      pub rows-more : (fd fs sd ss fl : List ℕ) → columnsWith fd fs sd ss fl ≡ rowWritten S v n k c → columnsWith fd fs sd ss fl ≡ rowsWritten S (v + 1) c₀
       unfolding rowWritten rowsWritten
       rows-more fd fs sd ss fl r =
           columns-same

@@ -6,11 +6,11 @@ use mathlib.Core.Bool.{Bool, true, false, _&&_}
 use Prim.Native.Nat.{ℕ, zero, suc, _-_, _≤_, _<_, max}
 use native.Mathlib.Omega.{arith}
 use lib.Dec.{ltb, leb, eqb}
-use borrow.Author.Tests.{leb-true, leb-false, ltb-true, ltb-false, lt-ltb, eqb-true, eqb-false}
+use borrow.Author.Tests.{leb-true, leb-false, ltb-true, ltb-false, lt-ltb, eqb-true, eqb-false, eq-eqb}
 use Rattle.below.proofs.Tests.{by-cases, below-cases, and-left, and-right}
 use Rattle.plan.specs.Visits.{Symmetric}
 use Rattle.plan.specs.Field.{FieldPlan, GoneBefore, Checked, planOf}
-use Rattle.plan.specs.Claims.{StopsChecked, IsAt, Leaves, Enters, Collides, Occupies, SpansShare, Swaps, Never, Definition1}
+use Rattle.plan.specs.Claims.{StopsChecked, LocatedAt, Leaves, Enters, Collides, Occupies, SpansShare, Swaps, Never, Definition1}
 use Rattle.plan.proofs.Accepted.{same-symmetric, stops-checked, taken-exactly}
 
 module _ (F : FieldPlan) where
@@ -36,23 +36,23 @@ module _ (F : FieldPlan) where
         (λ h. rw (eqb-true s (suc k) h) (omega arith))
         (λ h. let ne : s ≢ suc k = eqb-false s (suc k) h in omega (arith, times-rise d s k i (omega arith) (omega arith), stops .rises d k i m))
 
-    one-stop : (d l m t : ℕ) → d < drones → (a : IsAt F d l t) (b : IsAt F d m t) → a .stop ≡ b .stop
+    one-stop : (d l m t : ℕ) → d < drones → (a : LocatedAt F d l t) (b : LocatedAt F d m t) → a .stop ≡ b .stop
     one-stop d l m t i a b = by-cases (ltb (a .stop) (b .stop)) (λ h. absurd (no-later a b (ltb-true _ _ h))) (λ h. by-cases (ltb (b .stop) (a .stop))
         (λ g. absurd (no-later b a (ltb-true _ _ g)))
         (λ g. omega (arith, ltb-false (a .stop) (b .stop) h, ltb-false (b .stop) (a .stop) g)))
       where
-        no-later : {l m : ℕ} (a : IsAt F d l t) (b : IsAt F d m t) → a .stop < b .stop → ⊥
+        no-later : {l m : ℕ} (a : LocatedAt F d l t) (b : LocatedAt F d m t) → a .stop < b .stop → ⊥
         no-later a b h = omega (arith, a .until (omega (arith, b .stop-in)), times-rise d (suc (a .stop)) (b .stop) i h (b .stop-in), b .since)
 
-    one-location : (d t : ℕ) → d < drones → (l : ℕ) × IsAt F d l t × ((m : ℕ) → IsAt F d m t → l ≡ m)
+    one-location : (d t : ℕ) → d < drones → (l : ℕ) × LocatedAt F d l t × ((m : ℕ) → LocatedAt F d m t → l ≡ m)
     one-location d t i =
         let (s, m, since, until) = latest d t i (last d) (omega arith) in
-        let here : IsAt F d (location d s) t = record { stop = s; stop-in = m; here = refl; since = since; until = until } in
+        let here : LocatedAt F d (location d s) t = record { stop = s; stop-in = m; here = refl; since = since; until = until } in
         (location d s, here, λ m b. ap (location d) (one-stop d (location d s) m t i here b) ∙ b .here)
 
     -- ---- spans, as 004 has them
 
-    at-occupies : (d l t : ℕ) → IsAt F d l t → Occupies F d l t
+    at-occupies : (d l t : ℕ) → LocatedAt F d l t → Occupies F d l t
     at-occupies d l t a = record { stop = a .stop; stop-in = a .stop-in; here = a .here; since = a .since; until = λ k. omega (arith, a .until k) }
 
     leaves-occupies : (d l t : ℕ) → d < drones → Leaves F d l t → Occupies F d l t
@@ -73,7 +73,7 @@ module _ (F : FieldPlan) where
     both-before : (i j l m t : ℕ) → meets l m ≡ true → (a : Occupies F i l t) (b : Occupies F j m t) → time i (a .stop) < t → time j (b .stop) < t → Collides F i j
     both-before i j l m t q a b x y = (l, m, t - 1, q, inl (earlier i l a x, earlier j m b y))
       where
-        earlier : (d l : ℕ) (a : Occupies F d l t) → time d (a .stop) < t → IsAt F d l (t - 1)
+        earlier : (d l : ℕ) (a : Occupies F d l t) → time d (a .stop) < t → LocatedAt F d l (t - 1)
         earlier d l a x = record { stop = a .stop; stop-in = a .stop-in; here = a .here; since = omega arith; until = λ k. omega (arith, a .until k) }
 
     -- i has just come: j is still there, or leaves as i comes
@@ -140,4 +140,5 @@ definition-1 = record {
   spans = λ p have e. (λ a. gone-share (planOf p) (stops-checked p have e) (taken-exactly p have .0 (e, a)), λ never. taken-exactly p have .1 (share-checked (planOf p) (stops-checked p have e) same-symmetric never) .1);
   one-location = one-location;
   swap-covered = swap-covered;
+  same-meets = λ l. eq-eqb l l refl;
 }

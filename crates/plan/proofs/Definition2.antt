@@ -3,7 +3,7 @@
 use mathlib.Core.Path.{sym, subst}
 use Prim.Native.Nat.{suc, _<_}
 use native.Mathlib.Omega.{arith}
-use Rattle.precedence.specs.Graph.{Vertex, vertex, Edge, own, dep}
+use Rattle.precedence.specs.Graph.{Vertex, vertexAt, Edge, own, dep}
 use Rattle.precedence.proofs.Visits.{entered, left}
 use Rattle.plan.specs.Field.{Dependency, FieldPlan, asPlanned, graph, Meeting, AcceptedPlan}
 use Rattle.plan.specs.Definition2.{IsStop, PlannedEdge, type-1, type-2, Definition2}
@@ -14,10 +14,10 @@ module _ (F : FieldPlan) (accepted : AcceptedPlan F) where
 
   -- what a dependency awaits, and the stop that waits for it
   abbrev awaited : Dependency → Vertex
-  awaited x = vertex (x .first) (suc (x .firstStop))
+  awaited x = vertexAt (x .first) (suc (x .firstStop))
 
   abbrev waiting : Dependency → Vertex
-  waiting x = vertex (x .second) (x .secondStop)
+  waiting x = vertexAt (x .second) (x .secondStop)
 
   meeting-edge : (x : Dependency) → Meeting F x → PlannedEdge F (awaited x) (waiting x)
   meeting-edge x m =

@@ -9,10 +9,10 @@ use native.Mathlib.Omega.{arith}
 use lib.Dec.{ltb, eqb}
 use borrow.Author.Tests.{ltb-true, ltb-false, lt-ltb, le-ltb, eqb-true, eqb-false, eq-eqb}
 use Rattle.below.specs.Below.{First, at}
-use Rattle.below.proofs.Tests.{by-cases, true-or-false, and-left, and-right, same-test}
+use Rattle.below.proofs.Tests.{by-cases, true-or-false, and-left, and-right}
 use Rattle.below.proofs.Search.{firstBelow-first, first-is, first-low}
 use Rattle.below.proofs.Sum.{sum-none, sum-suc, sum-more, sum-upto}
-use Rattle.plan.specs.Stops.{start, owner, number}
+use Rattle.plan.specs.Stops.{start, owner, stopNumber}
 use Rattle.plan.specs.Dependencies.{isLast}
 use Rattle.plan.specs.Claims.{Numbered}
 
@@ -83,11 +83,11 @@ module _ (drones : ℕ) (counts : List ℕ) where
       (λ e. let b : w < start counts (suc (owner drones counts w)) = ltb-true _ _ (owner-first w .found (ltb-true _ _ e)) in first-low (ends-past v) (owner drones counts w) drones (lt-ltb v (start counts (suc (owner drones counts w))) (omega arith)))
       (λ e. omega (arith, owner-le v, ltb-false (owner drones counts w) drones e))
 
-  pub number-is : (v : ℕ) → v < stops → start counts (owner drones counts v) + number drones counts v ≡ v
-  unfolding number
+  pub number-is : (v : ℕ) → v < stops → start counts (owner drones counts v) + stopNumber drones counts v ≡ v
+  unfolding stopNumber
   number-is v l = omega (arith, owner-start v l)
 
-  pub number-in : (v : ℕ) → v < stops → number drones counts v < at counts (owner drones counts v)
+  pub number-in : (v : ℕ) → v < stops → stopNumber drones counts v < at counts (owner drones counts v)
   number-in v l = omega (arith, number-is v l, owner-end v l, start-suc counts (owner drones counts v))
 
   pub place-in : (d s : ℕ) → d < drones → s < at counts d → start counts d + s < stops
@@ -96,12 +96,12 @@ module _ (drones : ℕ) (counts : List ℕ) where
   pub place-owner : (d s : ℕ) → d < drones → s < at counts d → owner drones counts (start counts d + s) ≡ d
   place-owner d s l k = owner-is (start counts d + s) d l (omega arith) (omega (arith, start-suc counts d))
 
-  pub place-number : (d s : ℕ) → d < drones → s < at counts d → number drones counts (start counts d + s) ≡ s
-  unfolding number
+  pub place-number : (d s : ℕ) → d < drones → s < at counts d → stopNumber drones counts (start counts d + s) ≡ s
+  unfolding stopNumber
   place-number d s l k = rw (place-owner d s l k) (omega arith)
 
   -- each drone has a stop: its last is one less than its count
-  pub numbered : ((d : ℕ) → d < drones → 1 ≤ at counts d) → Numbered (owner drones counts) (number drones counts) (start counts) (λ d. at counts d - 1) drones stops
+  pub numbered : ((d : ℕ) → d < drones → 1 ≤ at counts d) → Numbered (owner drones counts) (stopNumber drones counts) (start counts) (λ d. at counts d - 1) drones stops
   numbered some = record {
     own-in = owner-in;
     number-in = λ v l. omega (arith, number-in v l);
@@ -117,10 +117,6 @@ module _ (drones : ℕ) (counts : List ℕ) where
 module _ {own num off last : ℕ → ℕ} {drones n : ℕ} (N : Numbered own num off last drones n) where
   pub off-le : (v : ℕ) → v < n → off (own v) ≤ v
   off-le v l = omega (arith, N .number-is v l)
-
-  -- a stop is known by its drone and its number there
-  pub stop-known : (v w : ℕ) → v < n → w < n → own v ≡ own w → num v ≡ num w → v ≡ w
-  stop-known v w l k e f = let q : off (own v) ≡ off (own w) = rw e refl in omega (arith, N .number-is v l, N .number-is w k)
 
   pub next-number : (v : ℕ) → v + 1 < n → own (v + 1) ≡ own v → num (v + 1) ≡ num v + 1
   next-number v l e = let q : off (own (v + 1)) ≡ off (own v) = rw e refl in omega (arith, N .number-is (v + 1) l, N .number-is v (omega arith))
@@ -150,30 +146,5 @@ module _ {own num off last : ℕ → ℕ} {drones n : ℕ} (N : Numbered own num
       let (a, b, c) = goes-on v l (omega (arith, N .number-in v l)) in
       rw (e, lt-ltb (v + 1) n a, eq-eqb (own (v + 1)) (own v) b) refl)
 
-  -- a stop that is not the first of its drone follows the drone's stop before it
-  pub comes-from : (v : ℕ) → v < n → num v ≢ 0 → (own (v - 1) ≡ own v) × (num (v - 1) + 1 ≡ num v)
-  comes-from v l z =
-      let q : off (own v) + (num v - 1) ≡ v - 1 = omega (arith, N .number-is v l) in
-      let m : num v - 1 ≤ last (own v) = omega (arith, N .number-in v l) in
-      let a : own (v - 1) ≡ own v = rw q at (N .place-own (own v) (num v - 1) (N .own-in v l) m) in
-      let b : num (v - 1) ≡ num v - 1 = rw q at (N .place-number (own v) (num v - 1) (N .own-in v l) m) in
-      (a, omega arith)
-
-  -- the order of the numbers is that of the drones and then of their stops
-  pub order-own : (v w : ℕ) → v < n → w < n → own v < own w → v < w
-  order-own v w l k h = by-cases (ltb v w) (λ e. ltb-true _ _ e) (λ e. absurd (omega (arith, N .grouped w v (ltb-false _ _ e) l)))
-
   pub order-number : (v w : ℕ) → v < n → w < n → own v ≡ own w → v < w → num v < num w
   order-number v w l k e h = let q : off (own v) ≡ off (own w) = rw e refl in omega (arith, N .number-is v l, N .number-is w k)
-
--- the last stop of a drone is one less than its count
-pub last-number : (drones : ℕ) (counts : List ℕ) → ((d : ℕ) → d < drones → 1 ≤ at counts d) → (v : ℕ) → v < start counts drones → isLast (owner drones counts) (start counts drones) v ≡ eqb (number drones counts v + 1) (at counts (owner drones counts v))
-last-number drones counts some v l = last-is (numbered drones counts some) v l ∙ same-test (eqb k (m - 1)) (eqb (k + 1) m)
-    (λ e. eq-eqb (k + 1) m (omega (arith, number-in drones counts v l, eqb-true k (m - 1) e)))
-    (λ e. eq-eqb k (m - 1) (omega (arith, eqb-true (k + 1) m e)))
-  where
-    k : ℕ
-    k = number drones counts v
-
-    m : ℕ
-    m = at counts (owner drones counts v)

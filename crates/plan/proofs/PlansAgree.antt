@@ -1,21 +1,20 @@
 -- Plans that agree are checked, accepted and collide alike; counts of stops that agree number the stops alike. Assumes nothing.
 use mathlib.Core.Path.{_≡_, refl, sym, ap, _∙_, subst}
-use mathlib.Core.Logic.{_≢_, inl, inr, _↔_}
+use mathlib.Core.Logic.{inl, inr, _↔_}
 use mathlib.Core.Bool.{true}
 use mathlib.Core.List.{List}
-use Prim.Native.Nat.{ℕ, suc, _+_, _-_, _≤_, _<_}
+use Prim.Native.Nat.{ℕ, suc, _-_, _≤_, _<_}
 use native.Mathlib.Omega.{arith}
 use lib.Dec.{ltb}
 use Rattle.below.specs.Below.{at}
 use Rattle.below.proofs.Search.{firstBelow-ext}
 use Rattle.below.proofs.Sum.{sum-ext}
 use Rattle.tables.specs.Tables.{PlanLists}
-use Rattle.plan.specs.Stops.{start, owner, number}
+use Rattle.plan.specs.Stops.{start, owner, stopNumber}
 use Rattle.plan.specs.Field.{Dependency, FieldPlan, GoneBefore, Checked, Meeting, AcceptedPlan, PlansAgree, planOf}
-use Rattle.plan.specs.Claims.{Numbered, ownerIn, numberIn, locationIn, timeIn, stopTotal, visitsIn, HaveStops, NoFault, NoCollision, StopsChecked, IsAt, Leaves, Enters, Collides, Never}
+use Rattle.plan.specs.Claims.{visitsIn, HaveStops, NoFault, NoCollision, StopsChecked, LocatedAt, Leaves, Enters, Collides, Never}
 use Rattle.plan.proofs.Numbering.{owner-le}
-use Rattle.plan.proofs.Conditions.{says-firstFault}
-use Rattle.plan.proofs.Accepted.{stops-numbered, stops-checked}
+use Rattle.plan.proofs.Accepted.{stops-numbered, stops-checked, stops-pass}
 use Rattle.plan.proofs.Definition1.{definition-1}
 
 -- ---- plans that agree
@@ -60,7 +59,7 @@ module _ (F G : FieldPlan) (A : PlansAgree F G) where
     moves = λ d s l k q. c .moves d s (drone-there d l) (stop-there d (suc s) l k) (sym (A .locations-agree d s l (omega arith)) ∙ q ∙ A .locations-agree d (suc s) l k);
   }
 
-  at-agrees : (d l t : ℕ) → d < F .drones → IsAt F d l t → IsAt G d l t
+  at-agrees : (d l t : ℕ) → d < F .drones → LocatedAt F d l t → LocatedAt G d l t
   at-agrees d l t i a = record {
     stop = a .stop;
     stop-in = stop-there d (a .stop) i (a .stop-in);
@@ -144,31 +143,13 @@ module _ (n : ℕ) (cs ds : List ℕ) (same : (d : ℕ) → d < n → at cs d �
   unfolding owner
   owner-same v = firstBelow-ext n _ _ (λ d l. ap (ltb v) (start-same (suc d) l))
 
-  pub number-same : (v : ℕ) → number n cs v ≡ number n ds v
-  unfolding number
+  pub number-same : (v : ℕ) → stopNumber n cs v ≡ stopNumber n ds v
+  unfolding stopNumber
   number-same v = rw (owner-same v, start-same (owner n ds v) (owner-le n ds v)) refl
 
 -- ---- the check of a plan in lists
 
 -- the single stops' rules and 004's Definition 1 are what the check finds nothing against
 module _ (p : PlanLists) (have : HaveStops p) where
-  stops-pass : StopsChecked (planOf p) → NoFault p
-  stops-pass c = says-firstFault (visitsIn p) (λ v l. record {
-    starts = λ z. ap (timeIn p) (sym (N .number-is v l)) ∙ rw z (c .starts (ownerIn p v) (N .own-in v l));
-    rises = λ z. step v l z .0;
-    moves = λ z. step v l z .1;
-  })
-    where
-      N : Numbered (ownerIn p) (numberIn p) (start (p .stopCounts)) (planOf p .last) (planOf p .drones) (stopTotal p)
-      N = stops-numbered p have
-
-      step : (v : ℕ) → v < stopTotal p → numberIn p v ≢ 0 → (timeIn p (v - 1) < timeIn p v) × (locationIn p v ≢ locationIn p (v - 1))
-      step v l z =
-          let a : start (p .stopCounts) (ownerIn p v) + (numberIn p v - 1) ≡ v - 1 = omega (arith, N .number-is v l) in
-          let b : start (p .stopCounts) (ownerIn p v) + suc (numberIn p v - 1) ≡ v = omega (arith, N .number-is v l) in
-          let k : numberIn p v - 1 < planOf p .last (ownerIn p v) = omega (arith, N .number-in v l) in
-          let m : locationIn p (v - 1) ≢ locationIn p v = rw (a, b) at (c .moves (ownerIn p v) (numberIn p v - 1) (N .own-in v l) k) in
-          (rw (a, b) at (c .rises (ownerIn p v) (numberIn p v - 1) (N .own-in v l) k), λ e. m (sym e))
-
   pub passes-exactly : (NoFault p × NoCollision p) ↔ (StopsChecked (planOf p) × Never (planOf p) (Collides (planOf p)))
-  passes-exactly = (λ (e, a). (stops-checked p have e, definition-1 .collisions p have e .0 a), λ (c, never). let e : NoFault p = stops-pass c in (e, definition-1 .collisions p have e .1 never))
+  passes-exactly = (λ (e, a). (stops-checked p have e, definition-1 .collisions p have e .0 a), λ (c, never). let e : NoFault p = stops-pass (visitsIn p) _ _ _ _ _ (stops-numbered p have) c in (e, definition-1 .collisions p have e .1 never))

@@ -15,14 +15,14 @@ use Rattle.below.proofs.Search.{firstBelow-first, firstBelow-ext, first-all, fi
 use Rattle.below.proofs.Fill.{length-fill, getD-fill, getD-unfilled, fill-at, fillBelow-ext}
 use Rattle.below.proofs.Gaps.{over-gap}
 use Rattle.tables.specs.Limits.{limits}
-use Rattle.plan.specs.Visits.{Visits, visits}
+use Rattle.plan.specs.Visits.{Visits, visitsWith}
 use Rattle.plan.specs.Sharing.{roots, rootOf, branch, firstAt, Leads, here, onward, Node, Trees, nextAt, Groups}
 
 -- only the same locations meet, so no stop is left out where the stops of one location are gone through
 pub record Elsewhere (S : Visits) : Type 0 where
   pub apart : (v u : ℕ) → S .loc u ≢ S .loc v → S .meets (S .loc v) (S .loc u) ≡ false
 
-pub elsewhere : (own num loc time : ℕ → ℕ) (n : ℕ) → Elsewhere (visits own num loc time n)
+pub elsewhere : (own num loc time : ℕ → ℕ) (n : ℕ) → Elsewhere (visitsWith own num loc time n)
 elsewhere own num loc time n = record { apart = λ v u ne. ne-eqb (loc v) (loc u) (λ e. ne (sym e)) }
 
 pub root-is : (l : ℕ) → ((l + l / roots * 17) % roots ≡ rootOf l) × ((l + l / roots * 17) % roots < roots)

@@ -9,7 +9,7 @@ use lib.Dec.{ltb}
 use borrow.Author.Tests.{ltb-true, ltb-false}
 use Rattle.below.specs.Below.{at}
 use Rattle.below.proofs.Tests.{by-cases}
-use Rattle.plan.specs.Stops.{start, owner, number}
+use Rattle.plan.specs.Stops.{start, owner, stopNumber}
 use Rattle.plan.proofs.Numbering.{start-suc, start-more, start-mono, owner-is}
 
 -- the running sum s at drone d
@@ -33,6 +33,6 @@ module _ (counts : List ℕ) (d s : ℕ) (e : s ≡ start counts d) where
     pub cursor-owner : d ≡ owner drones counts v
     cursor-owner = sym (owner-is drones counts v d l (omega arith) (omega (arith, start-suc counts d)))
 
-    pub cursor-number : v - s ≡ number drones counts v
-    unfolding number
+    pub cursor-number : v - s ≡ stopNumber drones counts v
+    unfolding stopNumber
     cursor-number = rw (← cursor-owner, ← e) refl

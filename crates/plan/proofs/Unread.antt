@@ -24,10 +24,6 @@ module _ (S : Visits) where
   unfolding firstFault faultAt
   first-fault-any own′ = refl
 
-  pub collide-any : (num′ : ℕ → ℕ) (v w : ℕ) → collide (numbered num′ n) v w ≡ collide S v w
-  unfolding collide
-  collide-any num′ v w = refl
-
   pub partner-any : (num′ : ℕ → ℕ) (v : ℕ) → partner (numbered num′ n) v ≡ partner S v
   unfolding collide
   partner-any num′ v = refl

@@ -7,13 +7,12 @@ use native.Mathlib.Numerals.{add-one}
 use lib.Dec.{leb, leb·suc-suc}
 use borrow.Author.Tests.{eq-eqb, ne-eqb}
 use Rattle.below.specs.Below.{firstBelow, at}
-use Rattle.below.proofs.Search.{firstBelow-ext, first-hit, first-end}
-use Rattle.tables.specs.Tables.{Tables, dependencies}
+use Rattle.below.proofs.Search.{first-hit, first-end}
 use Rattle.tables.specs.Flags.{turnedBit}
 use Rattle.precedence.specs.Graph.{departure, blocks}
-use Rattle.plan.specs.Field.{graph, planOf}
-use Rattle.plan.specs.Status.{statusIn, unmet}
-use Rattle.plan.specs.Columns.{Columns, columns}
+use Rattle.plan.specs.Field.{graph}
+use Rattle.plan.specs.Status.{unmet}
+use Rattle.plan.specs.Columns.{Columns}
 use Rattle.plan.specs.Waits.{blocksNext, entryBlocks, planIn, statusOf}
 
 -- the tests of one wait, in their order
@@ -41,25 +40,18 @@ module _ (turned : Bool) (first firstStop second secondStop : ℕ) (p : ℕ → 
   entry-turned t e = rw t e
 
 -- ---- the search over the entries: entry w of the columns blocks drone d
-unfoldable pub blocksAt : (m : ℕ) (c : Columns) (visited : List ℕ) (d w : ℕ) → Bool
-blocksAt m c visited d w = blocks (graph (planIn m c) (statusOf c visited)) (at visited) d w
+unfoldable pub blocksAt : (m : ℕ) (visited : List ℕ) (c : Columns) (d w : ℕ) → Bool
+blocksAt m visited c d w = blocks (graph (planIn m c) (statusOf visited c)) (at visited) d w
 
-module _ (m : ℕ) (c : Columns) (visited : List ℕ) (d : ℕ) where
-  pub blocks-at : (w : ℕ) (r b : Bool) → r ≡ entryBlocks (turnedBit (at (c .flags) w)) (at (c .firstDrones) w) (at (c .firstStops) w) (at (c .secondDrones) w) (at (c .secondStops) w) (at visited) d → r ≡ b → blocksAt m c visited d w ≡ b
+module _ (m : ℕ) (visited : List ℕ) (c : Columns) (d : ℕ) where
+  pub blocks-at : (w : ℕ) (r b : Bool) → r ≡ entryBlocks (turnedBit (at (c .flags) w)) (at (c .firstDrones) w) (at (c .firstStops) w) (at (c .secondDrones) w) (at (c .secondStops) w) (at visited) d → r ≡ b → blocksAt m visited c d w ≡ b
   unfolding blocksAt entryBlocks blocksNext blocks
   blocks-at w r b e h = sym e ∙ h
 
-  pub unmet-hit : (i : ℕ) → i < m → firstBelow i (blocksAt m c visited d) ≡ i → blocksAt m c visited d i ≡ true → i ≡ unmet (planIn m c) (statusOf c visited) d
+  pub unmet-hit : (i : ℕ) → i < m → firstBelow i (blocksAt m visited c d) ≡ i → blocksAt m visited c d i ≡ true → i ≡ unmet (planIn m c) (statusOf visited c) d
   unfolding blocksAt
   unmet-hit i l e h = first-hit _ i m l e h
 
-  pub unmet-end : (i : ℕ) → i ≤ m → m ≤ i → firstBelow i (blocksAt m c visited d) ≡ i → i ≡ unmet (planIn m c) (statusOf c visited) d
+  pub unmet-end : (i : ℕ) → i ≤ m → m ≤ i → firstBelow i (blocksAt m visited c d) ≡ i → i ≡ unmet (planIn m c) (statusOf visited c) d
   unfolding blocksAt
   unmet-end i k l e = first-end _ i m k l e
-
--- the lent tables' own plan asks no more
-pub unmet-in : (t : Tables) (d : ℕ)
-    → unmet (planIn (dependencies (t .plan)) (columns (t .plan .firstDrones) (t .plan .firstStops) (t .plan .secondDrones) (t .plan .secondStops) (t .flags))) (statusOf (columns (t .plan .firstDrones) (t .plan .firstStops) (t .plan .secondDrones) (t .plan .secondStops) (t .flags)) (t .visited)) d
-    ≡ unmet (planOf (t .plan)) (statusIn t) d
-unfolding blocks
-unmet-in t d = firstBelow-ext _ _ _ (λ w l. refl)

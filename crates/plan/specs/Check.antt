@@ -1,6 +1,6 @@
 -- The plan check over stops that are numbered through (document 01, "The plan check"; source document 004, Definition 1 and Assumption 1). Assumes nothing.
-use mathlib.Core.Bool.{Bool, true, false, cond, not, _&&_}
-use Prim.Native.Nat.{ℕ, suc, _+_, _-_, _≤_, _<_}
+use mathlib.Core.Bool.{Bool, cond, not, _&&_}
+use Prim.Native.Nat.{ℕ, _+_, _-_}
 use lib.Dec.{ltb, leb, eqb}
 use Rattle.below.specs.Below.{firstBelow, allBelow}
 use Rattle.plan.specs.Visits.{Visits}

@@ -1,14 +1,14 @@
 -- What is claimed of the numbering of the stops, the plan check and the graph of an accepted plan; the proofs are in proofs/. Assumes nothing.
 use mathlib.Core.Path.{_≡_}
 use mathlib.Core.Logic.{_≢_, _⊎_, _↔_}
-use mathlib.Core.Bool.{Bool, true, false, cond}
+use mathlib.Core.Bool.{true, false, cond}
 use mathlib.Core.List.{List}
 use Prim.Native.Nat.{ℕ, suc, _+_, _≤_, _<_}
 use Rattle.below.specs.Below.{at, isIn}
 use Rattle.tables.specs.Tables.{PlanLists, drones, dependencies}
 use Rattle.precedence.specs.Graph.{Formed, cyclic, Cycle}
-use Rattle.plan.specs.Stops.{start, owner, number}
-use Rattle.plan.specs.Visits.{Visits, visits}
+use Rattle.plan.specs.Stops.{start, owner, stopNumber}
+use Rattle.plan.specs.Visits.{Visits, sameLocation, visitsWith}
 use Rattle.plan.specs.Check.{firstFault, collide, partner, collider, apart}
 use Rattle.plan.specs.Dependencies.{dependencyTotal, column, flagOf}
 use Rattle.plan.specs.Field.{Dependency, FieldPlan, Status, asPlanned, before, afterTurn, afterTurns, graph, fixed, Checked, AcceptedPlan, planOf}
@@ -41,7 +41,7 @@ module _ (p : PlanLists) where
   ownerIn = owner (drones p) (p .stopCounts)
 
   abbrev pub numberIn : ℕ → ℕ
-  numberIn = number (drones p) (p .stopCounts)
+  numberIn = stopNumber (drones p) (p .stopCounts)
 
   abbrev pub locationIn : ℕ → ℕ
   locationIn = at (p .locations)
@@ -50,7 +50,7 @@ module _ (p : PlanLists) where
   timeIn = at (p .times)
 
   abbrev pub visitsIn : Visits
-  visitsIn = visits ownerIn numberIn locationIn timeIn stopTotal
+  visitsIn = visitsWith ownerIn numberIn locationIn timeIn stopTotal
 
   -- "stops M of one drone: 1 to ..": each drone has a stop
   abbrev pub HaveStops : Type 0
@@ -76,13 +76,20 @@ module _ (p : PlanLists) where
     pub collision : collide visitsIn v w ≡ true
     pub lowest : (x y : ℕ) → x < stopTotal → y < stopTotal → collide visitsIn x y ≡ true → ((v ≡ x) × (w ≡ y)) ⊎ (before (pair ownerIn numberIn v w) (pair ownerIn numberIn x y) ≡ true)
 
-  -- f of the plan's dependency k, (v, w) being its two stops
+  -- how many dependencies the plan has, and f of each of them, (v, w) being its two stops, in order
+  abbrev pub plannedTotal : ℕ
+  plannedTotal = dependencyTotal visitsIn
+
+  abbrev pub plannedList : (ℕ → ℕ → ℕ) → List ℕ
+  plannedList f = column visitsIn f
+
+  -- f of the plan's dependency k
   abbrev pub planned : (ℕ → ℕ → ℕ) → ℕ → ℕ
-  planned f = at (column visitsIn f)
+  planned f = at (plannedList f)
 
   -- "the dependencies are exactly its own, in order"
   pub record HoldsPlanned : Type 0 where
-    pub total : dependencies p ≡ dependencyTotal visitsIn
+    pub total : dependencies p ≡ plannedTotal
     pub first-drones : (k : ℕ) → k < dependencies p → at (p .firstDrones) k ≡ planned (λ v w. ownerIn v) k
     pub first-stops : (k : ℕ) → k < dependencies p → at (p .firstStops) k ≡ planned (λ v w. numberIn v) k
     pub second-drones : (k : ℕ) → k < dependencies p → at (p .secondDrones) k ≡ planned (λ v w. ownerIn w) k
@@ -112,7 +119,7 @@ module _ (F : FieldPlan) where
 
   -- at timestep t drone d is at location l: it has moved there by its stop's time and moves on later, if at all. (004: a tuple "indicates that agent i is
   -- planned to perform a move action into the location .. at timestep" its time; "a wait action is implicitly defined between two consecutive tuples")
-  pub record IsAt (d l t : ℕ) : Type 0 where
+  pub record LocatedAt (d l t : ℕ) : Type 0 where
     pub stop : ℕ
     pub stop-in : stop ≤ last d
     pub here : location d stop ≡ l
@@ -136,7 +143,7 @@ module _ (F : FieldPlan) where
   -- 004, Definition 1: "We say two agents i, j collide if either of the following happens: 1. i and j are at the same location at the same timestep.
   -- 2. i leaves a location l at a timestep t and j enters the same location l at the timestep t." Two locations are the same here where they meet
   abbrev pub Collides : ℕ → ℕ → Type 0
-  Collides i j = (l : ℕ) × (m : ℕ) × (t : ℕ) × (meets l m ≡ true) × ((IsAt i l t × IsAt j m t) ⊎ (Leaves i l t × Enters j m t))
+  Collides i j = (l : ℕ) × (m : ℕ) × (t : ℕ) × (meets l m ≡ true) × ((LocatedAt i l t × LocatedAt j m t) ⊎ (Leaves i l t × Enters j m t))
 
   -- "A drone occupies a stop's location from its time to the time of its next stop, both included. It occupies its last location for ever."
   pub record Occupies (d l t : ℕ) : Type 0 where
@@ -170,8 +177,10 @@ pub record Definition1 : Type 0 where
   pub collisions : (p : PlanLists) → HaveStops p → NoFault p → NoCollision p ↔ Never (planOf p) (Collides (planOf p))
   pub spans : (p : PlanLists) → HaveStops p → NoFault p → NoCollision p ↔ Never (planOf p) (SpansShare (planOf p))
   -- in each timestep a drone is at one location
-  pub one-location : (F : FieldPlan) → StopsChecked F → (d t : ℕ) → d < F .drones → (l : ℕ) × IsAt F d l t × ((m : ℕ) → IsAt F d m t → l ≡ m)
+  pub one-location : (F : FieldPlan) → StopsChecked F → (d t : ℕ) → d < F .drones → (l : ℕ) × LocatedAt F d l t × ((m : ℕ) → LocatedAt F d m t → l ≡ m)
   pub swap-covered : (F : FieldPlan) → ((l : ℕ) → F .meets l l ≡ true) → (i j : ℕ) → Swaps F i j → Collides F i j
+  -- .. which holds of the plans of tables and of texts
+  pub same-meets : (l : ℕ) → sameLocation l l ≡ true
 
 -- ---- the graph
 

@@ -18,8 +18,8 @@ pub record Columns : Type 0 where
   pub secondStops : List ℕ
   pub flags : List ℕ
 
-abbrev pub columns : (fd fs sd ss fl : List ℕ) → Columns
-columns fd fs sd ss fl = record { firstDrones = fd; firstStops = fs; secondDrones = sd; secondStops = ss; flags = fl }
+abbrev pub columnsWith : (fd fs sd ss fl : List ℕ) → Columns
+columnsWith fd fs sd ss fl = record { firstDrones = fd; firstStops = fs; secondDrones = sd; secondStops = ss; flags = fl }
 
 -- the columns with a list written into each from the entry k on; `list f` is f of each dependency (v, w) that is written
 abbrev pub written : Visits → ((ℕ → ℕ → ℕ) → List ℕ) → ℕ → Columns → Columns

@@ -1,10 +1,9 @@
 -- The dependencies of a plan over stops that are numbered through, and what it is for a table of pairs of stops to be right (document 01, "The graph").
 -- Assumes nothing.
-use mathlib.Core.Path.{_≡_}
 use mathlib.Core.Bool.{Bool, not, cond, _&&_, _||_}
 use mathlib.Core.List.{List}
-use Prim.Native.Nat.{ℕ, suc, _+_, _-_, _≤_, _<_}
-use lib.Dec.{ltb, leb, eqb}
+use Prim.Native.Nat.{ℕ, _+_}
+use lib.Dec.{ltb, eqb}
 use lib.ListN.{getD}
 use Rattle.below.specs.Below.{allBelow, pairsOf, listed}
 use Rattle.plan.specs.Visits.{Visits}

@@ -6,60 +6,60 @@ use lib.ListN.{length}
 use Rattle.below.specs.Below.{at}
 use Rattle.plan.specs.declared.check.PlanCheck.{PlanCheck}
 use Rattle.plan.specs.declared.check.PlanCheck.the-variants.{Fine, Collision}
-use Rattle.plan.specs.Stops.{start, owner, number}
-use Rattle.plan.specs.Visits.{Visits, visits}
+use Rattle.plan.specs.Stops.{start, owner, stopNumber}
+use Rattle.plan.specs.Visits.{Visits, visitsWith}
 use Rattle.plan.specs.Answers.{checkNumber, checkOf}
 use Rattle.plan.specs.Dependencies.{flagOf, column}
 
 -- each drone's M, and the location and the time of each stop
-pub record Flight : Type 0 where
+pub record PlanFlight : Type 0 where
   pub counts : List ℕ
   pub locations : List ℕ
   pub times : List ℕ
 
 -- Q, with the second drone's 5 at time t
-abbrev pub flightQ : ℕ → Flight
-flightQ t = record { counts = 4 ∷ 3 ∷ []; locations = 1 ∷ 6 ∷ 5 ∷ 2 ∷ 3 ∷ 5 ∷ 4 ∷ []; times = 0 ∷ 1 ∷ 2 ∷ 3 ∷ 0 ∷ t ∷ 5 ∷ [] }
+abbrev pub planQ : ℕ → PlanFlight
+planQ t = record { counts = 4 ∷ 3 ∷ []; locations = 1 ∷ 6 ∷ 5 ∷ 2 ∷ 3 ∷ 5 ∷ 4 ∷ []; times = 0 ∷ 1 ∷ 2 ∷ 3 ∷ 0 ∷ t ∷ 5 ∷ [] }
 
 -- P: "routes 10@0, 20@1, 30@2, 40@3 and 11@0, 20@3, 30@4, 41@5"
-abbrev pub flightP : Flight
-flightP = record { counts = 4 ∷ 4 ∷ []; locations = 10 ∷ 20 ∷ 30 ∷ 40 ∷ 11 ∷ 20 ∷ 30 ∷ 41 ∷ []; times = 0 ∷ 1 ∷ 2 ∷ 3 ∷ 0 ∷ 3 ∷ 4 ∷ 5 ∷ [] }
+abbrev pub planP : PlanFlight
+planP = record { counts = 4 ∷ 4 ∷ []; locations = 10 ∷ 20 ∷ 30 ∷ 40 ∷ 11 ∷ 20 ∷ 30 ∷ 41 ∷ []; times = 0 ∷ 1 ∷ 2 ∷ 3 ∷ 0 ∷ 3 ∷ 4 ∷ 5 ∷ [] }
 
 -- "5@0, 6@1 with 3@0, 5@2, 4@3" and "1@0, 5@1, 2@2 with 3@0, 5@3"
-abbrev pub fromFirstStop : Flight
+abbrev pub fromFirstStop : PlanFlight
 fromFirstStop = record { counts = 2 ∷ 3 ∷ []; locations = 5 ∷ 6 ∷ 3 ∷ 5 ∷ 4 ∷ []; times = 0 ∷ 1 ∷ 0 ∷ 2 ∷ 3 ∷ [] }
 
-abbrev pub toLastStop : Flight
+abbrev pub toLastStop : PlanFlight
 toLastStop = record { counts = 3 ∷ 2 ∷ []; locations = 1 ∷ 5 ∷ 2 ∷ 3 ∷ 5 ∷ []; times = 0 ∷ 1 ∷ 2 ∷ 0 ∷ 3 ∷ [] }
 
-module _ (f : Flight) where
+module _ (f : PlanFlight) where
   abbrev own : ℕ → ℕ
   own = owner (length (f .counts)) (f .counts)
 
   abbrev num : ℕ → ℕ
-  num = number (length (f .counts)) (f .counts)
+  num = stopNumber (length (f .counts)) (f .counts)
 
-  abbrev total : ℕ
-  total = start (f .counts) (length (f .counts))
+  abbrev stopSum : ℕ
+  stopSum = start (f .counts) (length (f .counts))
 
-  abbrev visitsIn : Visits
-  visitsIn = visits own num (at (f .locations)) (at (f .times)) total
+  abbrev flightVisits : Visits
+  flightVisits = visitsWith own num (at (f .locations)) (at (f .times)) stopSum
 
   -- the plan check's answer, and the flag bytes of the dependencies in their order
-  abbrev pub checked : PlanCheck
-  checked = checkOf visitsIn
+  abbrev pub flightCheck : PlanCheck
+  flightCheck = checkOf flightVisits
 
-  abbrev pub flagsOf : List ℕ
-  flagsOf = column visitsIn (flagOf own num total)
+  abbrev pub flightFlags : List ℕ
+  flightFlags = column flightVisits (flagOf own num stopSum)
 
 pub record Starred : Type 0 where
   -- "Q with the second drone's 5 at time 3: 10, since the first leaves in timestep 3. At 4: taken"
-  pub leaves-as-other-enters : checked (flightQ 3) ≡ Collision (record { drone = 0; stop = 2 }) (record { drone = 1; stop = 1 })
-  pub number-is-10 : checkNumber (checked (flightQ 3)) ≡ 10
-  pub taken : checked (flightQ 4) ≡ Fine
-  pub one-dependency : flagsOf (flightQ 4) ≡ 0 ∷ []
+  pub leaves-as-other-enters : flightCheck (planQ 3) ≡ Collision (record { drone = 0; stop = 2 }) (record { drone = 1; stop = 1 })
+  pub number-is-10 : checkNumber (flightCheck (planQ 3)) ≡ 10
+  pub taken : flightCheck (planQ 4) ≡ Fine
+  pub one-dependency : flightFlags (planQ 4) ≡ 0 ∷ []
   -- "two dependencies"
-  pub two-dependencies : flagsOf flightP ≡ 0 ∷ 0 ∷ []
+  pub two-dependencies : flightFlags planP ≡ 0 ∷ 0 ∷ []
   -- "turn gives 31": the dependency is fixed
-  pub fixed-by-first-stop : flagsOf fromFirstStop ≡ 2 ∷ []
-  pub fixed-by-last-stop : flagsOf toLastStop ≡ 2 ∷ []
+  pub fixed-by-first-stop : flightFlags fromFirstStop ≡ 2 ∷ []
+  pub fixed-by-last-stop : flightFlags toLastStop ≡ 2 ∷ []

@@ -48,7 +48,7 @@ pub record ColumnsRoom (m : ℕ) (c : Columns) : Type 0 where
   pub dependencies-fit : m ≤ 65536
 
 -- m dependencies whose drones, as drone d, have a last visited stop
-pub record WaitsRoom (m : ℕ) (c : Columns) (visited : List ℕ) (d : ℕ) : Type 0 where
+pub record WaitsRoom (m : ℕ) (visited : List ℕ) (c : Columns) (d : ℕ) : Type 0 where
   pub entries : ColumnsRoom m c
   pub first-in : (w : ℕ) → w < m → at (c .firstDrones) w < length visited
   pub second-in : (w : ℕ) → w < m → at (c .secondDrones) w < length visited

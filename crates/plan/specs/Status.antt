@@ -1,11 +1,11 @@
 -- The status in lent tables, and what is asked of it: the state that calls change (document 01, "Tables and what is sound"). Assumes nothing.
 use mathlib.Core.Bool.{Bool, not, _&&_, _||_}
 use Prim.Native.Nat.{ℕ, suc}
-use lib.Dec.{leb, ltb, eqb}
+use lib.Dec.{leb, eqb}
 use Rattle.below.specs.Below.{firstBelow, allBelow, at}
 use Rattle.tables.specs.Tables.{Tables}
 use Rattle.tables.specs.Flags.{turnedBit, underWayBit}
-use Rattle.precedence.specs.Graph.{Plan, blocks}
+use Rattle.precedence.specs.Graph.{blocks}
 use Rattle.plan.specs.Field.{Dependency, FieldPlan, Status, inForce, graph, placeOf, fixed}
 
 -- "A drone's progress is its last visited stop (0 at first) and whether it is under way to the next"; "bit 0 is turned"
@@ -25,8 +25,8 @@ module _ (F : FieldPlan) (s : Status) where
   unmet d = firstBelow count (blocks (graph F s) (placeOf F s) d)
 
   -- the dependency as the order now in force has it
-  abbrev pub now : ℕ → Dependency
-  now w = inForce (turned w) (dependency w)
+  abbrev pub dependencyNow : ℕ → Dependency
+  dependencyNow w = inForce (turned w) (dependency w)
 
   -- ---- the clauses of "sound" that speak of progress and turns
 

@@ -1,6 +1,6 @@
 -- The stops of all drones numbered through: those of drone 0 first, then those of drone 1, and so on, as the lent tables hold them. Assumes nothing.
 use mathlib.Core.List.{List}
-use Prim.Native.Nat.{ℕ, suc, _+_, _-_}
+use Prim.Native.Nat.{ℕ, suc, _-_}
 use lib.Dec.{ltb}
 use Rattle.below.specs.Below.{firstBelow, sumBelow, at}
 
@@ -13,5 +13,5 @@ unfoldable pub owner : ℕ → List ℕ → ℕ → ℕ
 owner drones counts v = firstBelow drones (λ d. ltb v (start counts (suc d)))
 
 -- the number of stop v among its drone's stops
-unfoldable pub number : ℕ → List ℕ → ℕ → ℕ
-number drones counts v = v - start counts (owner drones counts v)
+unfoldable pub stopNumber : ℕ → List ℕ → ℕ → ℕ
+stopNumber drones counts v = v - start counts (owner drones counts v)

@@ -24,9 +24,9 @@ abbrev pub Symmetric : (ℕ → ℕ → Bool) → Type 0
 Symmetric meets = (a b : ℕ) → meets a b ≡ true → meets b a ≡ true
 
 -- visits where the same locations meet
-abbrev pub visits : (own num loc time : ℕ → ℕ) (n : ℕ) → Visits
-visits own num loc time n = record { own = own; num = num; loc = loc; time = time; meets = sameLocation; n = n }
+abbrev pub visitsWith : (own num loc time : ℕ → ℕ) (n : ℕ) → Visits
+visitsWith own num loc time n = record { own = own; num = num; loc = loc; time = time; meets = sameLocation; n = n }
 
 -- those of n stops in tables
 abbrev pub visitsOf : (owners numbers locations times : List ℕ) (n : ℕ) → Visits
-visitsOf owners numbers locations times n = visits (at owners) (at numbers) (at locations) (at times) n
+visitsOf owners numbers locations times n = visitsWith (at owners) (at numbers) (at locations) (at times) n

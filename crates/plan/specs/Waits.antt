@@ -31,5 +31,5 @@ planIn count c = record {
 }
 
 -- and the status of which the last visited stops and the turns are known
-abbrev pub statusOf : Columns → (visited : List ℕ) → Status
-statusOf c visited = record { place = at visited; underWay = λ d. false; turned = λ w. turnedBit (at (c .flags) w) }
+abbrev pub statusOf : (visited : List ℕ) → Columns → Status
+statusOf visited c = record { place = at visited; underWay = λ d. false; turned = λ w. turnedBit (at (c .flags) w) }

@@ -13,7 +13,7 @@ ghost use Rattle.tables.specs.Limits.{limits};
 ghost use Rattle.plan.specs.Sharing.{Groups};
 ghost use Rattle.plan.specs.Visits.{visitsOf};
 ghost use Rattle.plan.specs.Dependencies.{follows, isLast, isFixed, flagOf, dependencyTotal};
-ghost use Rattle.plan.specs.Columns.{columns, rowWritten, rowsWritten, builtOf, builtIn};
+ghost use Rattle.plan.specs.Columns.{columnsWith, rowWritten, rowsWritten, builtOf, builtIn};
 ghost use Rattle.plan.specs.Room.{VisitsRoom, PlanRoom, ColumnsRoom};
 
 // Whether v and w are visits of one location by different drones, v earlier.
@@ -125,9 +125,9 @@ fn fill_row(
     flags: &mut [u8],
 ) -> usize
     requires { ⌜ PlanRoom n (now owners) (now numbers) (now locations) (now times) × Groups (at (now locations)) n (now first) (now next) × (v < n) ⌝ }
-    requires { ⌜ ColumnsRoom (c + countBelow n (follows (visitsOf (now owners) (now numbers) (now locations) (now times) n) v)) (columns (now «first_drones») (now «first_stops») (now «second_drones») (now «second_stops») (now flags)) ⌝ }
+    requires { ⌜ ColumnsRoom (c + countBelow n (follows (visitsOf (now owners) (now numbers) (now locations) (now times) n) v)) (columnsWith (now «first_drones») (now «first_stops») (now «second_drones») (now «second_stops») (now flags)) ⌝ }
     ensures answer { λ r. ⌜ r ≡ c + countBelow n (follows (visitsOf (now (owners .entry)) (now (numbers .entry)) (now (locations .entry)) (now (times .entry)) n) v) ⌝ }
-    ensures written { λ _. ⌜ columns (now («first_drones» .exit)) (now («first_stops» .exit)) (now («second_drones» .exit)) (now («second_stops» .exit)) (now (flags .exit)) ≡ rowWritten (visitsOf (now (owners .entry)) (now (numbers .entry)) (now (locations .entry)) (now (times .entry)) n) v n c (columns (now («first_drones» .entry)) (now («first_stops» .entry)) (now («second_drones» .entry)) (now («second_stops» .entry)) (now (flags .entry))) ⌝ }
+    ensures written { λ _. ⌜ columnsWith (now («first_drones» .exit)) (now («first_stops» .exit)) (now («second_drones» .exit)) (now («second_stops» .exit)) (now (flags .exit)) ≡ rowWritten (visitsOf (now (owners .entry)) (now (numbers .entry)) (now (locations .entry)) (now (times .entry)) n) v n c (columnsWith (now («first_drones» .entry)) (now («first_stops» .entry)) (now («second_drones» .entry)) (now («second_stops» .entry)) (now (flags .entry))) ⌝ }
 {
     let mut k = c;
     let mut w = first[v] as usize;
@@ -163,8 +163,8 @@ fn fill_rows(
     flags: &mut [u8],
 )
     requires { ⌜ PlanRoom n (now owners) (now numbers) (now locations) (now times) × Groups (at (now locations)) n (now first) (now next) ⌝ }
-    requires { ⌜ ColumnsRoom (dependencyTotal (visitsOf (now owners) (now numbers) (now locations) (now times) n)) (columns (now «first_drones») (now «first_stops») (now «second_drones») (now «second_stops») (now flags)) ⌝ }
-    ensures { λ _. ⌜ columns (now («first_drones» .exit)) (now («first_stops» .exit)) (now («second_drones» .exit)) (now («second_stops» .exit)) (now (flags .exit)) ≡ rowsWritten (visitsOf (now (owners .entry)) (now (numbers .entry)) (now (locations .entry)) (now (times .entry)) n) n (columns (now («first_drones» .entry)) (now («first_stops» .entry)) (now («second_drones» .entry)) (now («second_stops» .entry)) (now (flags .entry))) ⌝ }
+    requires { ⌜ ColumnsRoom (dependencyTotal (visitsOf (now owners) (now numbers) (now locations) (now times) n)) (columnsWith (now «first_drones») (now «first_stops») (now «second_drones») (now «second_stops») (now flags)) ⌝ }
+    ensures { λ _. ⌜ columnsWith (now («first_drones» .exit)) (now («first_stops» .exit)) (now («second_drones» .exit)) (now («second_stops» .exit)) (now (flags .exit)) ≡ rowsWritten (visitsOf (now (owners .entry)) (now (numbers .entry)) (now (locations .entry)) (now (times .entry)) n) n (columnsWith (now («first_drones» .entry)) (now («first_stops» .entry)) (now («second_drones» .entry)) (now («second_stops» .entry)) (now (flags .entry))) ⌝ }
 {
     let mut k = 0;
     let mut v = 0;
@@ -209,9 +209,9 @@ pub fn build(
     flags: &mut [u8],
 ) -> Built
     requires { ⌜ PlanRoom n (now owners) (now numbers) (now locations) (now times) ⌝ }
-    requires { ⌜ ColumnsRoom (limits .dependencies) (columns (now «first_drones») (now «first_stops») (now «second_drones») (now «second_stops») (now flags)) ⌝ }
+    requires { ⌜ ColumnsRoom (limits .dependencies) (columnsWith (now «first_drones») (now «first_stops») (now «second_drones») (now «second_stops») (now flags)) ⌝ }
     ensures answer { λ r. ⌜ r ≡ builtOf (limits .dependencies) (visitsOf (now (owners .entry)) (now (numbers .entry)) (now (locations .entry)) (now (times .entry)) n) ⌝ }
-    ensures written { λ _. ⌜ columns (now («first_drones» .exit)) (now («first_stops» .exit)) (now («second_drones» .exit)) (now («second_stops» .exit)) (now (flags .exit)) ≡ builtIn (limits .dependencies) (visitsOf (now (owners .entry)) (now (numbers .entry)) (now (locations .entry)) (now (times .entry)) n) (columns (now («first_drones» .entry)) (now («first_stops» .entry)) (now («second_drones» .entry)) (now («second_stops» .entry)) (now (flags .entry))) ⌝ }
+    ensures written { λ _. ⌜ columnsWith (now («first_drones» .exit)) (now («first_stops» .exit)) (now («second_drones» .exit)) (now («second_stops» .exit)) (now (flags .exit)) ≡ builtIn (limits .dependencies) (visitsOf (now (owners .entry)) (now (numbers .entry)) (now (locations .entry)) (now (times .entry)) n) (columnsWith (now («first_drones» .entry)) (now («first_stops» .entry)) (now («second_drones» .entry)) (now («second_stops» .entry)) (now (flags .entry))) ⌝ }
 {
     let mut first = [0u16; Stop::FULL];
     let mut next = [0u16; Stop::FULL];

@@ -1,7 +1,7 @@
 // The stops of all drones numbered through: their total, and tables of each stop's drone and of its number there.
 ghost use mathlib.Core.Path.{_≡_};
 ghost use Rattle.below.specs.Below.{fillBelow};
-ghost use Rattle.plan.specs.Stops.{start, owner, number};
+ghost use Rattle.plan.specs.Stops.{start, owner, stopNumber};
 ghost use Rattle.plan.specs.Room.{Counts, StartsRoom, StopsRoom};
 
 // The stops of all drones.
@@ -36,7 +36,7 @@ pub fn fill_starts(drones: usize, counts: &[u16], starts: &mut [u16])
 pub fn fill_stops(drones: usize, counts: &[u16], n: usize, owners: &mut [u8], numbers: &mut [u16])
     requires { ⌜ StopsRoom drones (now counts) n (now owners) (now numbers) ⌝ }
     ensures owners { λ _. ⌜ now (owners .exit) ≡ fillBelow n (owner drones (now (counts .entry))) (now (owners .entry)) ⌝ }
-    ensures numbers { λ _. ⌜ now (numbers .exit) ≡ fillBelow n (number drones (now (counts .entry))) (now (numbers .entry)) ⌝ }
+    ensures numbers { λ _. ⌜ now (numbers .exit) ≡ fillBelow n (stopNumber drones (now (counts .entry))) (now (numbers .entry)) ⌝ }
 {
     let mut d = 0;
     let mut first: usize = 0;

@@ -7,11 +7,11 @@ ghost use Rattle.below.specs.Below.{at};
 ghost use Rattle.tables.specs.Flags.{turnedBit};
 ghost use Rattle.precedence.specs.Graph.{departure};
 ghost use Rattle.plan.specs.Status.{unmet};
-ghost use Rattle.plan.specs.Columns.{columns};
+ghost use Rattle.plan.specs.Columns.{columnsWith};
 ghost use Rattle.plan.specs.Waits.{blocksNext, entryBlocks, planIn, statusOf};
 ghost use Rattle.plan.specs.Room.{WaitsRoom};
 
-// Whether the rule "the second drone may enter its stop only after the first has visited the stop after its own" keeps drone d from its next stop.
+// Whether the rule that the second drone may enter its stop only after the first has visited the stop after its own keeps drone d from its next stop.
 fn blocks_next(
     first_drone: u8,
     first_stop: u16,
@@ -69,16 +69,16 @@ fn entry_blocks(
 // The lowest dependency not met into drone d's next stop; the count if there is none.
 pub fn first_unmet(
     count: usize,
+    visited: &[u16],
     first_drones: &[u8],
     first_stops: &[u16],
     second_drones: &[u8],
     second_stops: &[u16],
     flags: &[u8],
-    visited: &[u16],
     d: usize,
 ) -> usize
-    requires { ⌜ WaitsRoom count (columns (now «first_drones») (now «first_stops») (now «second_drones») (now «second_stops») (now flags)) (now visited) d ⌝ }
-    ensures { λ r. ⌜ r ≡ unmet (planIn count (columns (now («first_drones» .entry)) (now («first_stops» .entry)) (now («second_drones» .entry)) (now («second_stops» .entry)) (now (flags .entry)))) (statusOf (columns (now («first_drones» .entry)) (now («first_stops» .entry)) (now («second_drones» .entry)) (now («second_stops» .entry)) (now (flags .entry))) (now (visited .entry))) d ⌝ }
+    requires { ⌜ WaitsRoom count (now visited) (columnsWith (now «first_drones») (now «first_stops») (now «second_drones») (now «second_stops») (now flags)) d ⌝ }
+    ensures { λ r. ⌜ r ≡ unmet (planIn count (columnsWith (now («first_drones» .entry)) (now («first_stops» .entry)) (now («second_drones» .entry)) (now («second_stops» .entry)) (now (flags .entry)))) (statusOf (now (visited .entry)) (columnsWith (now («first_drones» .entry)) (now («first_stops» .entry)) (now («second_drones» .entry)) (now («second_stops» .entry)) (now (flags .entry)))) d ⌝ }
 {
     let mut e = 0;
     while e < count {

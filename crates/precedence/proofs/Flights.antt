@@ -4,25 +4,22 @@ use mathlib.Core.Path.{refl, sym, _∙_}
 use mathlib.Core.Bool.{false}
 use Prim.Native.Nat.{zero, suc}
 use native.Mathlib.Omega.{arith}
-use lib.Dec.{T, lit<, lit≤}
+use lib.Dec.{lit<, lit≤}
 use Rattle.below.specs.Below.{allBelow, sumBelow, listBelow}
-use Rattle.precedence.specs.Graph.{Formed, Cycle, Longest, atStart, remaining, cyclicList, blocks, free, round, finished, unvisited, roundList, playList}
-use Rattle.precedence.specs.Flights.{flights, allHold, flightQ}
+use Rattle.precedence.specs.Graph.{Formed, Cycle, atStart, cyclicList, blocks, free, round, finished, unvisited, roundList, playList}
+use Rattle.precedence.specs.Flights.{asExpected, graphQ, GraphFlights}
 use Rattle.precedence.proofs.Visits.{acyclic-iff, kept-start}
-use Rattle.precedence.proofs.Lists.{cyclicList-is}
+use Rattle.precedence.proofs.Lists.{cyclicList-is, costList-is}
 use Rattle.precedence.proofs.Theorems.{remaining-is-longest}
 
-pub flights-hold : T (allHold flights)
-unfolding allHold
-flights-hold = tt
-
-formed : Formed (flightQ false)
+formed : Formed (graphQ false)
 formed zero l = record { waiter-in = lit< tt; stop-pos = lit< tt; stop-in = lit≤ tt; awaited-in = lit< tt; until-in = lit≤ tt }
 formed (suc w) l = absurd (omega arith)
 
-no-cycle : Cycle (flightQ false) → ⊥
+no-cycle : Cycle (graphQ false) → ⊥
 unfolding cyclicList finished sumBelow playList roundList listBelow round free blocks allBelow unvisited
-no-cycle = acyclic-iff (flightQ false) formed .0 (sym (cyclicList-is (flightQ false) formed) ∙ refl)
+no-cycle = acyclic-iff (graphQ false) formed .0 (sym (cyclicList-is (graphQ false) formed) ∙ refl)
 
-pub longest-is-met : Longest (flightQ false) atStart 1 (remaining (flightQ false) atStart 1)
-longest-is-met = remaining-is-longest (flightQ false) formed no-cycle atStart (kept-start (flightQ false) formed) 1 (lit< tt) (lit< tt)
+pub graph-flights : GraphFlights
+unfolding asExpected
+graph-flights = record { as-tabled = tt; cycles-counted = cyclicList-is; costs-counted = costList-is; chain-of-q = remaining-is-longest (graphQ false) formed no-cycle atStart (kept-start (graphQ false) formed) 1 (lit< tt) (lit< tt) }

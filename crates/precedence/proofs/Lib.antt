@@ -5,6 +5,5 @@ pub mod Table
 pub mod Ahead
 pub mod Held
 pub mod Lists
-pub mod Flat
 pub mod Theorems
 pub mod Flights

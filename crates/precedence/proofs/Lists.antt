@@ -5,10 +5,14 @@ use mathlib.Core.Bool.{not}
 use Prim.Native.Nat.{ℕ, zero, suc, _≤_, _<_}
 use native.Mathlib.Omega.{arith}
 use lib.ListN.{length}
+use lib.Dec.{leb}
 use Rattle.below.proofs.Index.{length-listBelow, getD-listBelow}
+use Rattle.below.proofs.Search.{firstBelow-ext}
+use Rattle.below.proofs.Sum.{sum-ext}
 use Rattle.below.specs.Below.{at, listBelow}
 use Rattle.precedence.proofs.Agreement.{agree-self, awaited-in, finished-agree, round-agree, play-agree}
-use Rattle.precedence.specs.Graph.{Plan, Formed, round, play, unvisited, atStart, cyclic, roundList, playList, cyclicList}
+use Rattle.precedence.specs.Graph.{Plan, Formed, round, play, unvisited, atStart, reached, remaining, cost, cyclic, roundList, playList, remainingList, cyclicList}
+use Rattle.precedence.specs.Flights.{costList}
 
 module _ (P : Plan) where
   open Plan P using (drones, last)
@@ -33,3 +37,8 @@ module _ (P : Plan) where
 
       n : ℕ
       n = unvisited P atStart
+
+  -- what is counted on a list is the cost from its entries
+  pub costList-is : Formed P → (ps : List ℕ) → drones ≤ length ps → costList P ps ≡ cost P (at ps)
+  unfolding remainingList remaining reached cost
+  costList-is formed ps h = sum-ext drones _ _ (λ d l. firstBelow-ext (unvisited P (at ps)) _ _ (λ k i. ap (leb (last d)) (playList-at formed ps h k d l)))

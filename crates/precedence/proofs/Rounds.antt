@@ -12,7 +12,7 @@ use Rattle.below.proofs.Search.{firstBelow-first}
 use Rattle.below.proofs.Sum.{sum-at, sum-less}
 use Rattle.below.proofs.Tests.{by-cases, below-cases, true-or-false, and-left, and-right, and-both}
 use Rattle.below.specs.Below.{firstBelow, allBelow}
-use Rattle.precedence.specs.Graph.{Plan, Vertex, vertex, FormedWait, Formed, blocks, free, round, play, finished, unvisited, Edge, own, dep, Walk, edge, step, Cycle}
+use Rattle.precedence.specs.Graph.{Plan, Vertex, vertexAt, FormedWait, Formed, blocks, free, round, play, finished, unvisited, Edge, own, dep, Walk, edge, step, Cycle}
 
 module _ (P : Plan) where
   open Plan P using (drones, last, count, wait)
@@ -105,7 +105,7 @@ module _ (P : Plan) where
   join (step e a) b = step e (join a b)
 
   -- along a drone's own stops
-  pub own-walk : (d s t : ℕ) → d < drones → s < t → t ≤ last d → Walk P (vertex d s) (vertex d t)
+  pub own-walk : (d s t : ℕ) → d < drones → s < t → t ≤ last d → Walk P (vertexAt d s) (vertexAt d t)
   own-walk d s zero l h m = absurd (omega arith)
   own-walk d s (suc t) l h m = elim (below-cases h) [
     | inl k ↦ join (own-walk d s t l k (omega arith)) (edge (own d t l m))
@@ -113,13 +113,13 @@ module _ (P : Plan) where
   ]
 
   -- along a drone's own stops, perhaps none, and on by an edge
-  pub lead : (d s t : ℕ) → d < drones → s ≤ t → t ≤ last d → {v : Vertex} → Edge P (vertex d t) v → Walk P (vertex d s) v
+  pub lead : (d s t : ℕ) → d < drones → s ≤ t → t ≤ last d → {v : Vertex} → Edge P (vertexAt d t) v → Walk P (vertexAt d s) v
   lead d s t l h m {v} e = by-cases (ltb s t)
       (λ k. join (own-walk d s t l (ltb-true s t k) m) (edge e))
       (λ k. let q : s ≡ t = omega (arith, ltb-false s t k) in rw q (edge e))
 
   -- the edge of a wait, at the numbers that its waiter's side is equal to
-  pub dep-at : (w : ℕ) → w < count → {d s : ℕ} → wait w .waiter ≡ d → wait w .stop ≡ s → Edge P (vertex (wait w .awaited) (wait w .until)) (vertex d s)
+  pub dep-at : (w : ℕ) → w < count → {d s : ℕ} → wait w .waiter ≡ d → wait w .stop ≡ s → Edge P (vertexAt (wait w .awaited) (wait w .until)) (vertexAt d s)
   dep-at w l {d} {s} a b = rw (← a, ← b) (dep w l)
 
   -- ---- T1: where the graph has no cycle, somebody is free
@@ -127,7 +127,7 @@ module _ (P : Plan) where
   module _ (formed : Formed P) (p : ℕ → ℕ) where
     -- the stop that drone d is to enter next
     next : ℕ → Vertex
-    next d = vertex d (suc (p d))
+    next d = vertexAt d (suc (p d))
 
     record Stuck : Type 0 where
       drone : ℕ

@@ -13,8 +13,8 @@ use Rattle.below.proofs.Tests.{by-cases, and-left, and-right, and-both}
 use Rattle.below.specs.Below.{pick, sumBelow, maxBelow}
 use Rattle.precedence.proofs.Rounds.{dep-at}
 use Rattle.precedence.proofs.Visits.{left, reached-visited, reached-le, reached-bound, reached-edge, reached-awaited}
-use Rattle.precedence.specs.Graph.{Plan, Vertex, vertex, Formed, play, unvisited, reached, into, latest, Edge, own, dep, Cycle, Kept}
-use Rattle.precedence.specs.Graph.{one, awaitedAt, Table, passes, arrival, LegChain, leg-link, leg-on, legsLeft}
+use Rattle.precedence.specs.Graph.{Plan, Vertex, vertexAt, Formed, play, unvisited, reached, into, latest, Edge, own, dep, Cycle, Kept}
+use Rattle.precedence.specs.Graph.{oneRound, awaitedAt, Table, passes, arrival, LegChain, leg-link, leg-on, legsLeft}
 
 module _ (P : Plan) where
   open Plan P using (drones, last, count, wait)
@@ -39,20 +39,20 @@ module _ (P : Plan) where
     latest-ge (dep w l) = omega (arith, rw (into-own w) at (max-at count (entry (wait w .waiter) (wait w .stop)) w l))
 
     -- some edge has it
-    pub latest-edge : (d s : ℕ) → d < drones → 0 < s → s ≤ last d → (u : Vertex) × Edge P u (vertex d s) × (t (u .drone) (u .stop) ≡ latest P t d s)
+    pub latest-edge : (d s : ℕ) → d < drones → 0 < s → s ≤ last d → (u : Vertex) × Edge P u (vertexAt d s) × (t (u .drone) (u .stop) ≡ latest P t d s)
     unfolding latest entry
     latest-edge d zero l o h = absurd (omega arith)
     latest-edge d (suc s) l o h = by-cases (leb m (t d s))
-        (λ e. (vertex d s, own d s l h, let q : suc s - 1 ≡ s = omega arith in rw q (omega (arith, leb-true m (t d s) e))))
+        (λ e. (vertexAt d s, own d s l h, let q : suc s - 1 ≡ s = omega arith in rw q (omega (arith, leb-true m (t d s) e))))
         (λ e. let big : t d s < m = leb-false m (t d s) e in go big (max-is count (entry d (suc s))))
       where
         m : ℕ
         m = maxBelow count (entry d (suc s))
 
-        go : t d s < m → (m ≡ 0) ⊎ ((w : ℕ) × (w < count) × (entry d (suc s) w ≡ m)) → (u : Vertex) × Edge P u (vertex d (suc s)) × (t (u .drone) (u .stop) ≡ max (t d (suc s - 1)) m)
+        go : t d s < m → (m ≡ 0) ⊎ ((w : ℕ) × (w < count) × (entry d (suc s) w ≡ m)) → (u : Vertex) × Edge P u (vertexAt d (suc s)) × (t (u .drone) (u .stop) ≡ max (t d (suc s - 1)) m)
         go big (inl z) = absurd (omega arith)
         go big (inr (w, k, q)) = by-cases (into P d (suc s) w)
-            (λ i. let (a, b) = into-true d (suc s) w i in (vertex (wait w .awaited) (wait w .until), dep-at P w k a b, let z : suc s - 1 ≡ s = omega arith in rw z (omega (arith, rw i at q))))
+            (λ i. let (a, b) = into-true d (suc s) w i in (vertexAt (wait w .awaited) (wait w .until), dep-at P w k a b, let z : suc s - 1 ≡ s = omega arith in rw z (omega (arith, rw i at q))))
             (λ i. absurd (omega (arith, rw i at q)))
 
   -- ---- the same as a loop over the waits finds it
@@ -62,7 +62,7 @@ module _ (P : Plan) where
   latest-is t d s = refl
 
   -- two tables that agree at the edges into a stop have the same latest entry there
-  pub latest-ext : (t r : ℕ → ℕ → ℕ) (d s : ℕ) → d < drones → 0 < s → s ≤ last d → ((u : Vertex) → Edge P u (vertex d s) → t (u .drone) (u .stop) ≡ r (u .drone) (u .stop)) → latest P t d s ≡ latest P r d s
+  pub latest-ext : (t r : ℕ → ℕ → ℕ) (d s : ℕ) → d < drones → 0 < s → s ≤ last d → ((u : Vertex) → Edge P u (vertexAt d s) → t (u .drone) (u .stop) ≡ r (u .drone) (u .stop)) → latest P t d s ≡ latest P r d s
   latest-ext t r d s l o h same =
       let (u, e, q) = latest-edge t d s l o h in
       let (v, f, z) = latest-edge r d s l o h in
@@ -127,15 +127,15 @@ module _ (P : Plan) where
         leg-chain-le l h (leg-on {u = u} {v = v} c e o) = omega (arith, table .at-unvisited (v .drone) (v .stop) l h o, latest-ge t e, leg-chain-le (left P formed e .0) (left P formed e .1) c)
 
         -- and some chain has as many
-        leg-chain-within : (k d s : ℕ) → d < drones → p d < s → s ≤ last d → reached P p d s ≤ k → LegChain P leg p (vertex d s) (t d s)
+        leg-chain-within : (k d s : ℕ) → d < drones → p d < s → s ≤ last d → reached P p d s ≤ k → LegChain P leg p (vertexAt d s) (t d s)
         leg-chain-within zero d s l o h e = absurd (omega (arith, visited-at-0 d s l h e))
         leg-chain-within (suc k) d s l o h e =
             let (u, a, q) = latest-edge t d s l (omega arith) h in
             by-cases (leb (u .stop) (p (u .drone)))
-            (λ v. subst (LegChain P leg p (vertex d s)) (omega (arith, table .at-unvisited d s l h o, table .at-visited (u .drone) (u .stop) (left P formed a .0) (left P formed a .1) (leb-true _ _ v))) (leg-link o))
-            (λ v. subst (LegChain P leg p (vertex d s)) (omega (arith, table .at-unvisited d s l h o)) (leg-on (leg-chain-within k (u .drone) (u .stop) (left P formed a .0) (leb-false _ _ v) (left P formed a .1) (omega (arith, reached-edge P formed acyclic p kept a o))) a o))
+            (λ v. subst (LegChain P leg p (vertexAt d s)) (omega (arith, table .at-unvisited d s l h o, table .at-visited (u .drone) (u .stop) (left P formed a .0) (left P formed a .1) (leb-true _ _ v))) (leg-link o))
+            (λ v. subst (LegChain P leg p (vertexAt d s)) (omega (arith, table .at-unvisited d s l h o)) (leg-on (leg-chain-within k (u .drone) (u .stop) (left P formed a .0) (leb-false _ _ v) (left P formed a .1) (omega (arith, reached-edge P formed acyclic p kept a o))) a o))
 
-        pub leg-chain : (d s : ℕ) → d < drones → p d < s → s ≤ last d → LegChain P leg p (vertex d s) (t d s)
+        pub leg-chain : (d s : ℕ) → d < drones → p d < s → s ≤ last d → LegChain P leg p (vertexAt d s) (t d s)
         leg-chain d s l o h = leg-chain-within (reached P p d s) d s l o h (omega arith)
 
         -- ---- no entry is above the sum of all unvisited legs
@@ -201,7 +201,7 @@ module _ (P : Plan) where
   -- ---- legs of one: the rounds as played
 
   module _ (p : ℕ → ℕ) (formed : Formed P) (acyclic : Cycle P → ⊥) (kept : Kept P p) where
-    pub reached-table : Table P one p (reached P p)
+    pub reached-table : Table P oneRound p (reached P p)
     unfolding play
     reached-table = record { at-visited = λ d s l h v. omega (arith, reached-le P formed acyclic p d s 0 v); at-unvisited = next }
       where
@@ -211,5 +211,5 @@ module _ (P : Plan) where
             let (v, f, z) = reached-awaited P formed acyclic p d s l o h in
             omega (arith, reached-edge P formed acyclic p kept e o, latest-ge (reached P p) f)
 
-    pub arrival-one : (d s : ℕ) → d < drones → s ≤ last d → arrival P one p d s ≡ reached P p d s
-    arrival-one = table-unique one p formed acyclic kept reached-table (arrival-table one p formed acyclic kept)
+    pub arrival-one : (d s : ℕ) → d < drones → s ≤ last d → arrival P oneRound p d s ≡ reached P p d s
+    arrival-one = table-unique oneRound p formed acyclic kept reached-table (arrival-table oneRound p formed acyclic kept)

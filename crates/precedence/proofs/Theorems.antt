@@ -1,7 +1,7 @@
 -- The theorems of specs/Theorems.antt, each from the law that has it. Assumes nothing.
 use Prim.Native.Nat.{ℕ, _≤_}
 use native.Mathlib.Omega.{arith}
-use Rattle.precedence.specs.Graph.{Plan, vertex, play, remaining, Chain, link, on}
+use Rattle.precedence.specs.Graph.{Plan, vertexAt, play, remaining, Chain, link, on}
 use Rattle.precedence.specs.Theorems.{NobodyStuck, RoundsFinish, CyclicIsCycle, RisingNoCycle, RemainingIsLongest, FinishedHasNone, RoundsTable, CostBound, MakespanIsLargest, HeldRoundRaisesNone, HeldRoundsFinish, LegTables, LegsOfOne, FewerWaits}
 use Rattle.precedence.proofs.Rounds.{somebody-free, rounds-finish}
 use Rattle.precedence.proofs.Visits.{rising-acyclic, cyclic-iff, acyclic-iff, longest-chain, no-longer-chain, cost-bound, makespan-is, reached-le}
@@ -27,7 +27,7 @@ module _ (P : Plan) where
   pub remaining-is-longest : RemainingIsLongest P
   remaining-is-longest formed acyclic p kept d l o = record { chain = longest-chain P formed acyclic p d l o; none-longer = λ m c. no-longer-chain P formed acyclic p kept d l m c }
 
-  no-chain : (p : ℕ → ℕ) (d : ℕ) → last d ≤ p d → (n : ℕ) → Chain P p (vertex d (last d)) n → ⊥
+  no-chain : (p : ℕ → ℕ) (d : ℕ) → last d ≤ p d → (n : ℕ) → Chain P p (vertexAt d (last d)) n → ⊥
   no-chain p d h n (link o) = omega arith
   no-chain p d h n (on c e o) = omega arith
 

@@ -12,7 +12,7 @@ use Rattle.below.proofs.Sum.{sum-count, sum-bound}
 use Rattle.below.proofs.Tests.{by-cases, true-or-false}
 use Rattle.below.specs.Below.{pick, firstBelow, First, maxBelow, countBelow}
 use Rattle.precedence.proofs.Rounds.{blocked, free-open, round-free, round-stays, round-le, round-suc, finished-at, finished-if, dep-at, cycle-or-finish, rounds-finish}
-use Rattle.precedence.specs.Graph.{Plan, Vertex, vertex, FormedWait, Formed, free, round, play, finished, unvisited, reached, remaining, atStart, cyclic, Edge, own, dep, Walk, edge, step, Cycle, Kept, cost, makespan, Chain, link, on}
+use Rattle.precedence.specs.Graph.{Plan, Vertex, vertexAt, FormedWait, Formed, free, round, play, finished, unvisited, reached, remaining, atStart, cyclic, Edge, own, dep, Walk, edge, step, Cycle, Kept, cost, makespan, Chain, link, on}
 use Rattle.precedence.specs.Graph.{Rising}
 
 module _ (P : Plan) where
@@ -81,13 +81,13 @@ module _ (P : Plan) where
   before-round p kept (dep w l) r = met-round p kept w l r
 
   -- what keeps a stop unvisited in a round is an unvisited stop that it awaits
-  pub awaited-round : (p : ℕ → ℕ) (d s : ℕ) → d < drones → s ≤ last d → round P p d < s → (u : Vertex) × Edge P u (vertex d s) × (p (u .drone) < u .stop)
+  pub awaited-round : (p : ℕ → ℕ) (d s : ℕ) → d < drones → s ≤ last d → round P p d < s → (u : Vertex) × Edge P u (vertexAt d s) × (p (u .drone) < u .stop)
   awaited-round p d zero l h r = absurd (omega arith)
   awaited-round p d (suc s) l h r = by-cases (ltb (p d) s)
-      (λ e. (vertex d s, own d s l h, ltb-true _ _ e))
+      (λ e. (vertexAt d s, own d s l h, ltb-true _ _ e))
       (λ e. let q : s ≡ p d = omega (arith, ltb-false (p d) s e, round-le P p d) in
       let (w, k, b) = blocked P p d (omega arith) (held q) in
-      (vertex (wait w .awaited) (wait w .until), dep-at P w k (b .is-waiter) (b .is-next ∙ ap suc (sym q)), b .is-open))
+      (vertexAt (wait w .awaited) (wait w .until), dep-at P w k (b .is-waiter) (b .is-next ∙ ap suc (sym q)), b .is-open))
     where
       held : s ≡ p d → free P p d ≡ false
       held q = by-cases (free P p d) (λ f. absurd (omega (arith, round-free P p d f))) (λ f. f)
@@ -138,7 +138,7 @@ module _ (P : Plan) where
 
   module _ (formed : Formed P) where
     -- a stop that k rounds leave unvisited has a chain of k + 1 stops
-    pub late-chain : (p : ℕ → ℕ) (k d s : ℕ) → d < drones → s ≤ last d → play P p k d < s → Chain P p (vertex d s) (suc k)
+    pub late-chain : (p : ℕ → ℕ) (k d s : ℕ) → d < drones → s ≤ last d → play P p k d < s → Chain P p (vertexAt d s) (suc k)
     unfolding play
     late-chain p zero d s l h r = link r
     late-chain p (suc k) d s l h r =
@@ -174,23 +174,23 @@ module _ (P : Plan) where
       reached-bound d s = firstBelow-first (unvisited P p) (λ k. leb s (play P p k d)) .within
 
       -- a chain as long as a stop's round, and none longer
-      pub reached-chain : (d s : ℕ) → d < drones → p d < s → s ≤ last d → Chain P p (vertex d s) (reached P p d s)
+      pub reached-chain : (d s : ℕ) → d < drones → p d < s → s ≤ last d → Chain P p (vertexAt d s) (reached P p d s)
       unfolding play
       reached-chain d s l o h = go (reached P p d s) refl
         where
-          go : (r : ℕ) → reached P p d s ≡ r → Chain P p (vertex d s) r
+          go : (r : ℕ) → reached P p d s ≡ r → Chain P p (vertexAt d s) r
           go zero e = absurd (omega (arith, rw e at (reached-visited d s l h)))
           go (suc k) e = late-chain p k d s l h (reached-least d s k (omega arith))
 
-      pub chain-reached : Kept P p → (d s n : ℕ) → d < drones → s ≤ last d → Chain P p (vertex d s) n → n ≤ reached P p d s
+      pub chain-reached : Kept P p → (d s n : ℕ) → d < drones → s ≤ last d → Chain P p (vertexAt d s) n → n ≤ reached P p d s
       chain-reached kept d s n l h c = chain-late p kept c (reached P p d s) (reached-visited d s l h)
 
       -- T5: remaining rounds are the length of the longest chain to the last stop
-      pub longest-chain : (d : ℕ) → d < drones → p d < last d → Chain P p (vertex d (last d)) (remaining P p d)
+      pub longest-chain : (d : ℕ) → d < drones → p d < last d → Chain P p (vertexAt d (last d)) (remaining P p d)
       unfolding remaining
       longest-chain d l o = reached-chain d (last d) l o (omega arith)
 
-      pub no-longer-chain : Kept P p → (d : ℕ) → d < drones → (n : ℕ) → Chain P p (vertex d (last d)) n → n ≤ remaining P p d
+      pub no-longer-chain : Kept P p → (d : ℕ) → d < drones → (n : ℕ) → Chain P p (vertexAt d (last d)) n → n ≤ remaining P p d
       unfolding remaining
       no-longer-chain kept d l n c = chain-reached kept d (last d) n l (omega arith) c
 
@@ -213,19 +213,19 @@ module _ (P : Plan) where
           go (suc k) q = omega (arith, reached-le (u .drone) (u .stop) k (before-round (play P p k) (kept-play p kept k) e (rw q at visited)))
 
       -- and directly after one of them
-      pub reached-awaited : (d s : ℕ) → d < drones → p d < s → s ≤ last d → (u : Vertex) × Edge P u (vertex d s) × (reached P p d s ≤ suc (reached P p (u .drone) (u .stop)))
+      pub reached-awaited : (d s : ℕ) → d < drones → p d < s → s ≤ last d → (u : Vertex) × Edge P u (vertexAt d s) × (reached P p d s ≤ suc (reached P p (u .drone) (u .stop)))
       unfolding play
       reached-awaited d zero l o h = absurd (omega arith)
       reached-awaited d (suc s) l o h = go (reached P p d (suc s)) refl
         where
-          go : (r : ℕ) → reached P p d (suc s) ≡ r → (u : Vertex) × Edge P u (vertex d (suc s)) × (r ≤ suc (reached P p (u .drone) (u .stop)))
-          go zero q = (vertex d s, own d s l h, omega arith)
-          go (suc zero) q = (vertex d s, own d s l h, omega arith)
+          go : (r : ℕ) → reached P p d (suc s) ≡ r → (u : Vertex) × Edge P u (vertexAt d (suc s)) × (r ≤ suc (reached P p (u .drone) (u .stop)))
+          go zero q = (vertexAt d s, own d s l h, omega arith)
+          go (suc zero) q = (vertexAt d s, own d s l h, omega arith)
           go (suc (suc k)) q =
               let (u, e, r) = awaited-round (play P p k) d (suc s) l h (reached-least d (suc s) (suc k) (omega arith)) in
               (u, e, after u e r)
             where
-              after : (u : Vertex) → Edge P u (vertex d (suc s)) → play P p k (u .drone) < u .stop → suc (suc k) ≤ suc (reached P p (u .drone) (u .stop))
+              after : (u : Vertex) → Edge P u (vertexAt d (suc s)) → play P p k (u .drone) < u .stop → suc (suc k) ≤ suc (reached P p (u .drone) (u .stop))
               after u e r = by-cases (ltb k (reached P p (u .drone) (u .stop)))
                   (λ m. omega (arith, ltb-true k (reached P p (u .drone) (u .stop)) m))
                   (λ m. absurd (omega (arith, play-mono p (u .drone) (reached P p (u .drone) (u .stop)) k (ltb-false _ _ m), reached-visited (u .drone) (u .stop) (left formed e .0) (left formed e .1))))

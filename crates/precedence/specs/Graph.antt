@@ -33,8 +33,8 @@ pub record Vertex : Type 0 where
   pub drone : ℕ
   pub stop : ℕ
 
-abbrev pub vertex : ℕ → ℕ → Vertex
-vertex d s = record { drone = d; stop = s }
+abbrev pub vertexAt : ℕ → ℕ → Vertex
+vertexAt d s = record { drone = d; stop = s }
 
 -- "its last visited stop (0 at first)"
 abbrev pub atStart : ℕ → ℕ
@@ -95,7 +95,7 @@ module _ (P : Plan) where
   unfoldable pub cost : (ℕ → ℕ) → ℕ
   cost p = sumBelow drones (remaining p)
 
-  -- "the undelayed rounds until everybody has landed": the least number of rounds after which every drone stands at its last stop
+  -- the undelayed rounds until everybody has landed: the least number of rounds after which every drone stands at its last stop
   unfoldable pub makespan : (ℕ → ℕ) → ℕ
   makespan p = firstBelow (unvisited p) (λ k. finished (play p k))
 
@@ -115,8 +115,8 @@ module _ (P : Plan) where
 
   -- "Stops of one drone follow each other"; an awaited stop comes before the one that waits for it (004, Definition 2: edges of type 1 and 2)
   pub data Edge : Vertex → Vertex → Type 0 where
-    own : (d s : ℕ) → d < drones → s < last d → Edge (vertex d s) (vertex d (suc s))
-    dep : (w : ℕ) → w < count → Edge (vertex (wait w .awaited) (wait w .until)) (vertex (wait w .waiter) (wait w .stop))
+    own : (d s : ℕ) → d < drones → s < last d → Edge (vertexAt d s) (vertexAt d (suc s))
+    dep : (w : ℕ) → w < count → Edge (vertexAt (wait w .awaited) (wait w .until)) (vertexAt (wait w .waiter) (wait w .stop))
 
   -- one edge or more, each from where the one before it ends
   pub data Walk : Vertex → Vertex → Type 0 where
@@ -138,8 +138,8 @@ module _ (P : Plan) where
 
   -- n is "the number of stops in the longest chain of unvisited stops that ends at its last stop"
   pub record Longest (p : ℕ → ℕ) (d n : ℕ) : Type 0 where
-    pub chain : Chain p (vertex d (last d)) n
-    pub none-longer : (m : ℕ) → Chain p (vertex d (last d)) m → m ≤ n
+    pub chain : Chain p (vertexAt d (last d)) n
+    pub none-longer : (m : ℕ) → Chain p (vertexAt d (last d)) m → m ≤ n
 
   -- a number for each stop that rises along every edge, as planned times do (004: an accepted plan's graph has no cycle)
   pub record Rising (time : ℕ → ℕ → ℕ) : Type 0 where
@@ -209,8 +209,8 @@ module _ (P : Plan) where
   cyclicList = not (finished (at (playList (listBelow drones (λ d. 0)) (unvisited atStart))))
 
 -- legs of one round
-abbrev pub one : ℕ → ℕ → ℕ
-one d s = 1
+abbrev pub oneRound : ℕ → ℕ → ℕ
+oneRound d s = 1
 
 -- q is at least as far as p, for n drones
 abbrev pub Ahead : ℕ → (ℕ → ℕ) → (ℕ → ℕ) → Type 0

@@ -5,7 +5,7 @@ use mathlib.Core.Logic.{_↔_}
 use mathlib.Core.Bool.{Bool, true, false}
 use Prim.Native.Nat.{ℕ, _+_, _*_, _≤_, _<_}
 use Rattle.below.specs.Below.{firstBelow, maxBelow}
-use Rattle.precedence.specs.Graph.{Plan, vertex, Formed, free, play, finished, unvisited, reached, remaining, cost, makespan, cyclic, Cycle, Kept, Chain, Longest, Rising, Table, arrival, LegChain, legsLeft, one, heldRound, heldPlay, heldRounds, Ahead, Fewer}
+use Rattle.precedence.specs.Graph.{Plan, vertexAt, Formed, free, play, finished, unvisited, reached, remaining, cost, makespan, cyclic, Cycle, Kept, Chain, Longest, Rising, Table, arrival, LegChain, legsLeft, oneRound, heldRound, heldPlay, heldRounds, Ahead, Fewer}
 
 -- ---- for any plan
 module _ (P : Plan) where
@@ -33,11 +33,11 @@ module _ (P : Plan) where
 
   -- a finished drone has no remaining round and no chain
   abbrev pub FinishedHasNone : Type 0
-  FinishedHasNone = Formed P → (Cycle P → ⊥) → (p : ℕ → ℕ) (d : ℕ) → d < drones → last d ≤ p d → (remaining P p d ≡ 0) × ((n : ℕ) → Chain P p (vertex d (last d)) n → ⊥)
+  FinishedHasNone = Formed P → (Cycle P → ⊥) → (p : ℕ → ℕ) (d : ℕ) → d < drones → last d ≤ p d → (remaining P p d ≡ 0) × ((n : ℕ) → Chain P p (vertexAt d (last d)) n → ⊥)
 
   -- the round of a stop is one more than the latest round among what it awaits
   abbrev pub RoundsTable : Type 0
-  RoundsTable = Formed P → (Cycle P → ⊥) → (p : ℕ → ℕ) → Kept P p → Table P one p (reached P p)
+  RoundsTable = Formed P → (Cycle P → ⊥) → (p : ℕ → ℕ) → Kept P p → Table P oneRound p (reached P p)
 
   -- the cost is at most the unvisited stops for each drone
   abbrev pub CostBound : Type 0
@@ -60,15 +60,15 @@ module _ (P : Plan) where
   pub record LegTable (leg : ℕ → ℕ → ℕ) (p : ℕ → ℕ) : Type 0 where
     pub table : Table P leg p (arrival P leg p)
     pub unique : (t : ℕ → ℕ → ℕ) → Table P leg p t → (d s : ℕ) → d < drones → s ≤ last d → t d s ≡ arrival P leg p d s
-    pub chain : (d s : ℕ) → d < drones → p d < s → s ≤ last d → LegChain P leg p (vertex d s) (arrival P leg p d s)
-    pub none-longer : (d s n : ℕ) → d < drones → s ≤ last d → LegChain P leg p (vertex d s) n → n ≤ arrival P leg p d s
+    pub chain : (d s : ℕ) → d < drones → p d < s → s ≤ last d → LegChain P leg p (vertexAt d s) (arrival P leg p d s)
+    pub none-longer : (d s n : ℕ) → d < drones → s ≤ last d → LegChain P leg p (vertexAt d s) n → n ≤ arrival P leg p d s
     pub bound : (d s : ℕ) → d < drones → s ≤ last d → arrival P leg p d s ≤ legsLeft P leg p
 
   abbrev pub LegTables : Type 0
   LegTables = Formed P → (Cycle P → ⊥) → (p : ℕ → ℕ) → Kept P p → (leg : ℕ → ℕ → ℕ) → LegTable leg p
 
   abbrev pub LegsOfOne : Type 0
-  LegsOfOne = Formed P → (Cycle P → ⊥) → (p : ℕ → ℕ) → Kept P p → (d s : ℕ) → d < drones → s ≤ last d → arrival P one p d s ≡ reached P p d s
+  LegsOfOne = Formed P → (Cycle P → ⊥) → (p : ℕ → ℕ) → Kept P p → (d s : ℕ) → d < drones → s ≤ last d → arrival P oneRound p d s ≡ reached P p d s
 
 -- ---- fewer waits
 

@@ -20,9 +20,10 @@ use Rattle.text.specs.declared.reader.LinesAnswer.{LinesAnswer}
 use Rattle.text.specs.declared.reader.LinesAnswer.the-variants.{WellFormed, Refused as NotWellFormed}
 use Rattle.text.proofs.Fits.{lines-fit}
 use Rattle.plan.specs.Columns.{Columns}
+use Rattle.plan.specs.Claims.{plannedTotal}
 use Rattle.reading.specs.Replies.{ReadingReply, taken, refusedBy, isTaken, refusalMeant, readingMeant, lineMeant}
-use Rattle.reading.specs.Reading.{ReadingAnswer, withReply, AnsweredAs, TextStored, textZeroed, withText, total, checkIn, checked, stored, fromLines, readLines}
-use Rattle.reading.specs.Asked.{PlanAsked, LinesAsked}
+use Rattle.reading.specs.Reading.{ReadingAnswer, withReply, AnsweredAs, withText, checkIn, afterCheck, stored, fromLines, readLines}
+use Rattle.reading.specs.Asked.{PlanAsked, LinesAsked, TextStored, textZeroed}
 use Rattle.reading.specs.declared.replies.Refusal.{Refusal}
 use Rattle.reading.specs.declared.replies.Reading.{Reading}
 use Rattle.reading.specs.declared.replies.Reading.the-variants.{Taken, Refused}
@@ -45,10 +46,10 @@ IsZeroed L z = zeroedTables L z ≡ z
 -- ---- the replies of storing, with zeroed tables in place of the filled ones
 
 module _ (L : Limits) (z t : Tables) where
-  by-check : (k r : ReadingReply) → r ≡ checked L t t k .reply
-      → (isTaken r ≡ true → checked L z t k ≡ checked L t t k) × (isTaken r ≡ false → (checked L z t k ≡ withReply r z) × (checked L t t k .tables ≡ t))
+  by-check : (k r : ReadingReply) → r ≡ afterCheck L t t k .reply
+      → (isTaken r ≡ true → afterCheck L z t k ≡ afterCheck L t t k) × (isTaken r ≡ false → (afterCheck L z t k ≡ withReply r z) × (afterCheck L t t k .tables ≡ t))
   by-check k r h = by-cases (isTaken k)
-      (λ p. by-cases (leb (total (t .plan)) (L .dependencies))
+      (λ p. by-cases (leb (plannedTotal (t .plan)) (L .dependencies))
       (λ o. (
         λ e. checked-taken L z t k p o ∙ sym (checked-taken L t t k p o),
         λ e. true-or-false (ap isTaken (h ∙ ap (λ (a : ReadingAnswer). a .reply) (checked-taken L t t k p o))) e,
@@ -101,7 +102,7 @@ module _ (L : Limits) (text : List ℕ) (z : Tables) {dc ns cs ls ts : List ℕ}
     filled : reread z dc ns cs ls ts ≡ withText (linesAt L text) n z
     filled = reread-same z dc ns cs ls ts _ _ _ _ _ (w .count-is ∙ ap (λ (y : LinesAnswer). sets (z .plan .droneCount) 0 (droneCount y)) h) (w .names-are) (w .counts-are) (w .locations-are) (w .times-are)
 
-    from-is : readLines L text z ≡ checked L z (withText (linesAt L text) n z) (checkIn (withText (linesAt L text) n z .plan))
+    from-is : readLines L text z ≡ afterCheck L z (withText (linesAt L text) n z) (checkIn (withText (linesAt L text) n z .plan))
     unfolding readLines
     from-is = ap (fromLines L z (linesAt L text)) (sym (w .answer-is) ∙ h)
 

@@ -1,8 +1,9 @@
--- Taken is taken alone: no refusal is. Assumes nothing.
-use mathlib.Core.Path.{_≡_, refl}
+-- Taken is taken alone: no refusal is; and which replies a text's lines can get. Assumes nothing.
+use mathlib.Core.Path.{_≡_, refl, sym}
+use mathlib.Core.Logic.{_≢_, _⊎_, inl, inr}
 use mathlib.Core.Bool.{Bool, true, false, cond}
 use mathlib.Core.List.{List}
-use Prim.Native.Nat.{ℕ}
+use Prim.Native.Nat.{ℕ, _≤_, _<_}
 use native.Mathlib.Omega.{arith}
 use lib.Dec.{ltb, leb}
 use lib.ListN.{length}
@@ -15,12 +16,13 @@ use Rattle.lines.specs.declared.refusal.Refusal.the-variants as line
 use Rattle.text.specs.LinesRead.{LinesRead, linesAt}
 use Rattle.text.specs.declared.reader.LinesAnswer.{LinesAnswer}
 use Rattle.text.specs.declared.reader.LinesAnswer.the-variants as text
+use Rattle.plan.specs.declared.check.StopAt.{StopAt}
 use Rattle.plan.specs.declared.check.PlanCheck.{PlanCheck}
 use Rattle.plan.specs.declared.check.PlanCheck.the-variants as check
 use Rattle.plan.specs.Answers.{checkOf}
-use Rattle.plan.specs.Claims.{visitsIn}
+use Rattle.plan.specs.Claims.{visitsIn, plannedTotal}
 use Rattle.reading.specs.Replies.{ReadingReply, taken, refusedBy, refusedAt, refusedStop, refusedStops, readingNumber, isTaken, refusalMeant, lineMeant, checkMeant}
-use Rattle.reading.specs.Reading.{ReadingAnswer, withReply, total, withText, withDependencies, checked, fromLines, readLines, readPlan}
+use Rattle.reading.specs.Reading.{ReadingAnswer, withReply, withText, withDependencies, afterCheck, fromLines, readLines, readPlan}
 use Rattle.reading.specs.declared.replies.Refusal.{Refusal}
 use Rattle.reading.specs.declared.replies.Refusal.the-variants.{TablesTooSmall, TooLong, Form, Range, Name, SameName, TooManyStops, StartsLate, NotRising, SameLocation, Collision, TooManyDependencies}
 
@@ -45,40 +47,58 @@ is-taken (refusedAt n o) e = true-or-false e refl
 is-taken (refusedStop n s) e = true-or-false e refl
 is-taken (refusedStops n s t) e = true-or-false e refl
 
--- ---- a reading by 0 is one that was taken
+-- ---- the replies that a text's lines can get
 
-line-some : (r : LineRefusal) → readingNumber (lineMeant r) ≡ 0 → ⊥
-line-some (line.Form o) e = omega arith
-line-some (line.Name o) e = omega arith
-line-some (line.Range o) e = omega arith
-line-some (line.SameName o) e = omega arith
-line-some (line.TooManyStops o) e = omega arith
+-- what holds of taken, and of every refusal by a line, by the plan check and by building, holds of the reply
+module _ (C : ReadingReply → Type 0)
+    (of-taken : C taken)
+    (of-line : (n o : ℕ) → 2 ≤ n → n ≤ 6 → C (refusedAt n o))
+    (of-stop : (n : ℕ) (s : StopAt) → 7 ≤ n → n ≤ 9 → C (refusedStop n s))
+    (of-stops : (s t : StopAt) → C (refusedStops 10 s t))
+    (of-many : C (refusedBy 11)) where
+  by-line : (r : LineRefusal) → C (lineMeant r)
+  by-line (line.Form o) = of-line 2 o (omega arith) (omega arith)
+  by-line (line.Name o) = of-line 3 o (omega arith) (omega arith)
+  by-line (line.Range o) = of-line 4 o (omega arith) (omega arith)
+  by-line (line.SameName o) = of-line 5 o (omega arith) (omega arith)
+  by-line (line.TooManyStops o) = of-line 6 o (omega arith) (omega arith)
 
-module _ (L : Limits) where
-  built-by-0 : (z t : Tables) (b : Bool) → readingNumber (cond b (withReply taken (withDependencies t)) (withReply (refusedBy 11) z) .reply) ≡ 0 → cond b (withReply taken (withDependencies t)) (withReply (refusedBy 11) z) .reply ≡ taken
-  built-by-0 z t true e = refl
-  built-by-0 z t false e = absurd (omega arith)
+  by-building : (z t : Tables) (b : Bool) → C (cond b (withReply taken (withDependencies t)) (withReply (refusedBy 11) z) .reply)
+  by-building z t true = of-taken
+  by-building z t false = of-many
 
-  checked-by-0 : (z t : Tables) (k : PlanCheck) → readingNumber (checked L z t (checkMeant k) .reply) ≡ 0 → checked L z t (checkMeant k) .reply ≡ taken
-  checked-by-0 z t check.Fine e = built-by-0 z t (leb (total (t .plan)) (L .dependencies)) e
-  checked-by-0 z t (check.StartsLate s) e = absurd (omega arith)
-  checked-by-0 z t (check.NotRising s) e = absurd (omega arith)
-  checked-by-0 z t (check.SameLocation s) e = absurd (omega arith)
-  checked-by-0 z t (check.Collision s o) e = absurd (omega arith)
+  module _ (L : Limits) where
+    by-check : (z t : Tables) (k : PlanCheck) → C (afterCheck L z t (checkMeant k) .reply)
+    by-check z t check.Fine = by-building z t (leb (plannedTotal (t .plan)) (L .dependencies))
+    by-check z t (check.StartsLate s) = of-stop 7 s (omega arith) (omega arith)
+    by-check z t (check.NotRising s) = of-stop 8 s (omega arith) (omega arith)
+    by-check z t (check.SameLocation s) = of-stop 9 s (omega arith) (omega arith)
+    by-check z t (check.Collision s o) = of-stops s o
 
-  lines-by-0 : (z : Tables) (f : LinesRead LinesAnswer) (a : LinesAnswer) → readingNumber (fromLines L z f a .reply) ≡ 0 → fromLines L z f a .reply ≡ taken
-  lines-by-0 z f (text.Refused r) e = absurd (line-some r e)
-  lines-by-0 z f (text.WellFormed n) e =
-      let p = withText f n z .plan in
-      checked-by-0 z (withText f n z) (checkOf (visitsIn p)) e
+    by-lines : (z : Tables) (f : LinesRead LinesAnswer) (a : LinesAnswer) → C (fromLines L z f a .reply)
+    by-lines z f (text.Refused r) = by-line r
+    by-lines z f (text.WellFormed n) = by-check z (withText f n z) (checkOf (visitsIn (withText f n z .plan)))
 
-  pub taken-by-0 : (bytes : List ℕ) (t : Tables) → readingNumber (readPlan L bytes t .reply) ≡ 0 → readPlan L bytes t .reply ≡ taken
-  unfolding readPlan readLines
-  taken-by-0 bytes t e =
-      go (fullSize L t) (ltb (L .text) (length bytes)) (fromLines L (zeroedTables L t) (linesAt L bytes) (linesAt L bytes .answer)) (lines-by-0 (zeroedTables L t) (linesAt L bytes) (linesAt L bytes .answer)) e
-    where
-      go : (a b : Bool) (r : ReadingAnswer) → (readingNumber (r .reply) ≡ 0 → r .reply ≡ taken)
-          → readingNumber (cond a (cond b (withReply (refusedAt 1 (L .text)) t) r) (withReply (refusedBy 41) t) .reply) ≡ 0 → cond a (cond b (withReply (refusedAt 1 (L .text)) t) r) (withReply (refusedBy 41) t) .reply ≡ taken
-      go true false r h e = h e
-      go true true r h e = absurd (omega arith)
-      go false b r h e = absurd (omega arith)
+    pub lines-reply : (bytes : List ℕ) (z : Tables) → C (readLines L bytes z .reply)
+    unfolding readLines
+    lines-reply bytes z = by-lines z (linesAt L bytes) (linesAt L bytes .answer)
+
+-- none of them has the number n
+pub lines-never : (n : ℕ) → n ≢ 0 → (n < 2) ⊎ (11 < n) → (L : Limits) (bytes : List ℕ) (z : Tables) → readingNumber (readLines L bytes z .reply) ≢ n
+lines-never n some out = lines-reply (λ r. readingNumber r ≢ n) (λ e. some (sym e)) (λ m o l k e. outside m (omega arith) (omega arith) e) (λ m s l k e. outside m (omega arith) (omega arith) e) (λ s t e. outside 10 (omega arith) (omega arith) e) (λ e. outside 11 (omega arith) (omega arith) e)
+  where
+    outside : (m : ℕ) → 2 ≤ m → m ≤ 11 → m ≡ n → ⊥
+    outside m l k e = elim out [ inl h ↦ omega (arith, e, h) | inr h ↦ omega (arith, e, h) ]
+
+-- a reading by 0 is one that was taken
+pub taken-by-0 : (L : Limits) (bytes : List ℕ) (t : Tables) → readingNumber (readPlan L bytes t .reply) ≡ 0 → readPlan L bytes t .reply ≡ taken
+unfolding readPlan
+taken-by-0 L bytes t e =
+    go (fullSize L t) (ltb (L .text) (length bytes)) (readLines L bytes (zeroedTables L t))
+    (lines-reply (λ r. readingNumber r ≡ 0 → r ≡ taken) (λ z. refl) (λ n o l k z. absurd (omega arith)) (λ n s l k z. absurd (omega arith)) (λ s o z. absurd (omega arith)) (λ z. absurd (omega arith)) L bytes (zeroedTables L t)) e
+  where
+    go : (a b : Bool) (r : ReadingAnswer) → (readingNumber (r .reply) ≡ 0 → r .reply ≡ taken)
+        → readingNumber (cond a (cond b (withReply (refusedAt 1 (L .text)) t) r) (withReply (refusedBy 41) t) .reply) ≡ 0 → cond a (cond b (withReply (refusedAt 1 (L .text)) t) r) (withReply (refusedBy 41) t) .reply ≡ taken
+    go true false r h e = h e
+    go true true r h e = absurd (omega arith)
+    go false b r h e = absurd (omega arith)

@@ -14,15 +14,15 @@ use Rattle.below.proofs.Fill.{getD-fill}
 use Rattle.tables.specs.Limits.{Limits}
 use Rattle.tables.specs.Tables.{PlanLists, Tables}
 use Rattle.plan.specs.Answers.{checkOf}
-use Rattle.plan.specs.Visits.{Visits, visits, visitsOf}
-use Rattle.plan.specs.Claims.{stopTotal, ownerIn, numberIn, locationIn, timeIn, visitsIn}
+use Rattle.plan.specs.Visits.{Visits, visitsWith, visitsOf}
+use Rattle.plan.specs.Claims.{stopTotal, ownerIn, numberIn, locationIn, timeIn, visitsIn, plannedTotal}
 use Rattle.plan.specs.Dependencies.{flagOf, dependencyTotal, column}
-use Rattle.plan.specs.Columns.{Columns, columns, written, pickColumns, pickBuilt, builtOf, builtIn}
+use Rattle.plan.specs.Columns.{Columns, columnsWith, written, pickColumns, pickBuilt, builtOf, builtIn}
 use Rattle.plan.specs.declared.check.PlanCheck.{PlanCheck}
 use Rattle.plan.specs.declared.dependencies.Built.{Built}
 use Rattle.plan.specs.declared.dependencies.Built.the-variants.{Count, TooMany}
 use Rattle.reading.specs.Replies.{ReadingReply, taken, refusedBy, isTaken, refusalMeant, readingMeant, checkMeant}
-use Rattle.reading.specs.Reading.{ReadingAnswer, withReply, AnsweredAs, total, withDependencies, checkIn, built, checked, stored}
+use Rattle.reading.specs.Reading.{ReadingAnswer, withReply, AnsweredAs, withDependencies, checkIn, built, afterCheck, stored}
 use Rattle.reading.specs.declared.replies.Refusal.{Refusal}
 use Rattle.reading.specs.declared.replies.Reading.{Reading}
 use Rattle.reading.specs.declared.replies.Reading.the-variants.{Taken, Refused}
@@ -50,7 +50,7 @@ abbrev localVisits : PlanLists → ℕ → (os ns : List ℕ) → Visits
 localVisits p n os ns = visitsOf os ns (p .locations) (p .times) n
 
 abbrev planVisits : PlanLists → ℕ → Visits
-planVisits p n = visits (ownerIn p) (numberIn p) (locationIn p) (timeIn p) n
+planVisits p n = visitsWith (ownerIn p) (numberIn p) (locationIn p) (timeIn p) n
 
 module _ (p : PlanLists) {n : ℕ} {os ns : List ℕ} (f : Filled p n os ns) where
   check-is : checkOf (localVisits p n os ns) ≡ checkOf (visitsIn p)
@@ -58,7 +58,7 @@ module _ (p : PlanLists) {n : ℕ} {os ns : List ℕ} (f : Filled p n os ns) whe
       check-same (localVisits p n os ns) (ownerIn p) (numberIn p) (locationIn p) (timeIn p) (f .owners) (λ v l. refl) (λ v l. refl) (f .numbers)
       ∙ ap (λ (k : ℕ). checkOf (planVisits p k)) (f .total-is)
 
-  count-is : dependencyTotal (localVisits p n os ns) ≡ total p
+  count-is : dependencyTotal (localVisits p n os ns) ≡ plannedTotal p
   count-is =
       total-same (localVisits p n os ns) (ownerIn p) (numberIn p) (locationIn p) (timeIn p) (f .owners) (λ v l. refl) (λ v l. refl)
       ∙ ap (λ (k : ℕ). dependencyTotal (planVisits p k)) (f .total-is)
@@ -96,19 +96,19 @@ pub answered-as : (a : ReadingAnswer) (r : ReadingReply) (t t′ : Tables) → a
 answered-as a r t t′ e h = record { replied = sym (ap (λ (x : ReadingAnswer). x .reply) e); left = h ∙ sym (ap (λ (x : ReadingAnswer). x .tables) e) }
 
 module _ (L : Limits) (z t : Tables) (k : ReadingReply) where
-  pub checked-refused : isTaken k ≡ false → checked L z t k ≡ withReply k z
+  pub checked-refused : isTaken k ≡ false → afterCheck L z t k ≡ withReply k z
   checked-refused h = ap (λ (b : Bool). cond b (built L z t) (withReply k z)) h
 
-  pub checked-many : isTaken k ≡ true → leb (total (t .plan)) (L .dependencies) ≡ false → checked L z t k ≡ withReply (refusedBy 11) z
+  pub checked-many : isTaken k ≡ true → leb (plannedTotal (t .plan)) (L .dependencies) ≡ false → afterCheck L z t k ≡ withReply (refusedBy 11) z
   checked-many h o = ap (λ (b : Bool). cond b (built L z t) (withReply k z)) h ∙ ap (λ (q : Bool). cond q (withReply taken (withDependencies t)) (withReply (refusedBy 11) z)) o
 
-  pub checked-taken : isTaken k ≡ true → leb (total (t .plan)) (L .dependencies) ≡ true → checked L z t k ≡ withReply taken (withDependencies t)
+  pub checked-taken : isTaken k ≡ true → leb (plannedTotal (t .plan)) (L .dependencies) ≡ true → afterCheck L z t k ≡ withReply taken (withDependencies t)
   checked-taken h o = ap (λ (b : Bool). cond b (built L z t) (withReply k z)) h ∙ ap (λ (q : Bool). cond q (withReply taken (withDependencies t)) (withReply (refusedBy 11) z)) o
 
 -- ---- the tables with other dependencies
 
 abbrev pub columnsOf : Tables → Columns
-columnsOf t = columns (t .plan .firstDrones) (t .plan .firstStops) (t .plan .secondDrones) (t .plan .secondStops) (t .flags)
+columnsOf t = columnsWith (t .plan .firstDrones) (t .plan .firstStops) (t .plan .secondDrones) (t .plan .secondStops) (t .flags)
 
 abbrev pub withColumns : Tables → List ℕ → Columns → Tables
 withColumns t count c = record {
@@ -149,7 +149,7 @@ module _ (L : Limits) (t : Tables) {n : ℕ} {os ns : List ℕ} (f : Filled (t .
     store-many k =
         let o : leb (dependencyTotal (localVisits (t .plan) n os ns)) (L .dependencies) ≡ false = built-many _ _ (sym eb ∙ k) in
         let e : c ≡ columnsOf t = ec ∙ ap (λ (q : Bool). pickColumns q (written (localVisits (t .plan) n os ns) (column (localVisits (t .plan) n os ns)) 0 (columnsOf t)) (columnsOf t)) o in
-        let o′ : leb (total (t .plan)) (L .dependencies) ≡ false = ap (λ (m : ℕ). leb m (L .dependencies)) (sym (count-is (t .plan) f)) ∙ o in
+        let o′ : leb (plannedTotal (t .plan)) (L .dependencies) ≡ false = ap (λ (m : ℕ). leb m (L .dependencies)) (sym (count-is (t .plan) f)) ∙ o in
         answered-as (stored L t) (refusedBy 11) t _ (checked-many L t t (checkIn (t .plan)) (passed h) o′) (ap (withColumns t (t .plan .dependencyCount)) e)
 
     pub store-taken : (m : ℕ) → b ≡ Count m → AnsweredAs (stored L t) taken (withColumns t (sets (t .plan .dependencyCount) 0 (m ∷ [])) c)
@@ -157,6 +157,6 @@ module _ (L : Limits) (t : Tables) {n : ℕ} {os ns : List ℕ} (f : Filled (t .
     store-taken m k =
         let (o, em) = built-some (dependencyTotal (localVisits (t .plan) n os ns)) m (leb (dependencyTotal (localVisits (t .plan) n os ns)) (L .dependencies)) (sym eb ∙ k) in
         let e = ec ∙ ap (λ (q : Bool). pickColumns q (written (localVisits (t .plan) n os ns) (column (localVisits (t .plan) n os ns)) 0 (columnsOf t)) (columnsOf t)) o ∙ written-is (t .plan) f (columnsOf t) in
-        let o′ : leb (total (t .plan)) (L .dependencies) ≡ true = ap (λ (m : ℕ). leb m (L .dependencies)) (sym (count-is (t .plan) f)) ∙ o in
+        let o′ : leb (plannedTotal (t .plan)) (L .dependencies) ≡ true = ap (λ (m : ℕ). leb m (L .dependencies)) (sym (count-is (t .plan) f)) ∙ o in
         answered-as (stored L t) taken (withDependencies t) _ (checked-taken L t t (checkIn (t .plan)) (passed h) o′)
         (ap₂ (λ (m : ℕ) (c : Columns). withColumns t (sets (t .plan .dependencyCount) 0 (m ∷ [])) c) (em ∙ count-is (t .plan) f) e)

@@ -1,12 +1,18 @@
--- What the steps of a reading ask of the tables: room, and a plan within the limits. Assumes nothing.
+-- What the steps of a reading ask of the tables, which is room and a plan within the limits, and what they leave. Assumes nothing.
+use mathlib.Core.Path.{_≡_}
+use mathlib.Core.Bool.{true, false}
 use mathlib.Core.List.{List}
 use Prim.Native.Nat.{ℕ, _*_, _≤_}
 use lib.ListN.{length}
 use Rattle.below.specs.Below.{at}
 use Rattle.tables.specs.Limits.{Limits}
+use Rattle.tables.specs.Tables.{Tables, tablesOf}
+use Rattle.tables.specs.Zero.{zeroed, zeroedTables}
 use Rattle.plan.specs.Stops.{start}
 use Rattle.plan.specs.Columns.{Columns}
 use Rattle.plan.specs.Room.{ColumnsRoom}
+use Rattle.reading.specs.Replies.{ReadingReply, isTaken}
+use Rattle.reading.specs.Reading.{readLines}
 
 -- of the tables that hold a text's values: room for the dependencies, and a plan within the limits
 pub record PlanAsked (L : Limits) (droneCount dependencyCount stopCounts locations times : List ℕ) (c : Columns) : Type 0 where
@@ -28,3 +34,16 @@ pub record LinesAsked (L : Limits) (droneCount dependencyCount names stopCounts 
   pub has-locations : L .stops ≤ length locations
   pub has-times : L .stops ≤ length times
   pub has-columns : ColumnsRoom (L .dependencies) c
+
+-- the tables with those zeroed that a text's lines are read into
+abbrev pub textZeroed : Limits → Tables → Tables
+textZeroed L t =
+    tablesOf (zeroed 1 (t .plan .droneCount)) (t .plan .dependencyCount) (zeroed (L .drones * L .name) (t .plan .names)) (zeroed (L .drones) (t .plan .stopCounts))
+    (zeroed (L .stops) (t .plan .locations)) (zeroed (L .stops) (t .plan .times)) (t .visited) (t .droneFlags)
+    (t .plan .firstDrones) (t .plan .firstStops) (t .plan .secondDrones) (t .plan .secondStops) (t .flags)
+
+-- a text read into tables z: the reply, and the tables t that are left if it is taken. If it is refused, and z is zeroed, zeroing what its lines wrote gives the tables of the refusal
+pub record TextStored (L : Limits) (text : List ℕ) (z : Tables) (r : ReadingReply) (t : Tables) : Type 0 where
+  pub replied : r ≡ readLines L text z .reply
+  pub left-taken : isTaken r ≡ true → t ≡ readLines L text z .tables
+  pub left-refused : isTaken r ≡ false → zeroedTables L z ≡ z → textZeroed L t ≡ readLines L text z .tables

@@ -1,22 +1,22 @@
 -- Reading a plan: the reply, and every lent table afterwards, for any text and any tables (document 01, "Where each refusal is checked": every entry, reading, plan
 -- check, building). Assumes nothing.
 use mathlib.Core.Path.{_≡_}
-use mathlib.Core.Bool.{true, false, cond}
+use mathlib.Core.Bool.{cond}
 use mathlib.Core.List.{List, [], _∷_}
-use Prim.Native.Nat.{ℕ, _*_}
+use Prim.Native.Nat.{ℕ}
 use lib.Dec.{ltb, leb}
 use lib.ListN.{length}
 use lib.Seq.{sets}
 use Rattle.below.specs.Below.{laid}
 use Rattle.tables.specs.Limits.{Limits}
-use Rattle.tables.specs.Tables.{PlanLists, Tables, tablesOf, fullSize}
-use Rattle.tables.specs.Zero.{zeroed, zeroedTables}
+use Rattle.tables.specs.Tables.{PlanLists, Tables, fullSize}
+use Rattle.tables.specs.Zero.{zeroedTables}
 use Rattle.text.specs.LinesRead.{LinesRead, linesAt, flat}
 use Rattle.text.specs.declared.reader.LinesAnswer.{LinesAnswer}
 use Rattle.text.specs.declared.reader.LinesAnswer.the-variants as text
-use Rattle.plan.specs.Dependencies.{dependencyTotal, column, flagOf}
+use Rattle.plan.specs.Dependencies.{flagOf}
 use Rattle.plan.specs.Answers.{checkOf}
-use Rattle.plan.specs.Claims.{stopTotal, ownerIn, numberIn, visitsIn}
+use Rattle.plan.specs.Claims.{stopTotal, ownerIn, numberIn, visitsIn, plannedTotal, plannedList}
 use Rattle.reading.specs.Replies.{ReadingReply, taken, refusedBy, refusedAt, isTaken, lineMeant, checkMeant}
 
 -- the reply and the tables afterwards
@@ -52,20 +52,12 @@ withText f n t = record {
   flags = t .flags;
 }
 
-module _ (p : PlanLists) where
-  -- how many dependencies the plan in the lists has, and f of each of them, in order
-  abbrev pub total : ℕ
-  total = dependencyTotal (visitsIn p)
-
-  abbrev pub plannedList : (ℕ → ℕ → ℕ) → List ℕ
-  plannedList f = column (visitsIn p) f
-
 -- the tables with the dependencies of their plan, each with its fixed bit and none turned
 abbrev pub withDependencies : Tables → Tables
 withDependencies t = record {
   plan = record {
     droneCount = t .plan .droneCount;
-    dependencyCount = sets (t .plan .dependencyCount) 0 (total (t .plan) ∷ []);
+    dependencyCount = sets (t .plan .dependencyCount) 0 (plannedTotal (t .plan) ∷ []);
     names = t .plan .names;
     stopCounts = t .plan .stopCounts;
     locations = t .plan .locations;
@@ -87,31 +79,24 @@ checkIn p = checkMeant (checkOf (visitsIn p))
 module _ (L : Limits) where
   -- "building: 11 too many dependencies: zeroed": z is the zeroed tables, t the tables with the text's values
   abbrev pub built : Tables → Tables → ReadingAnswer
-  built z t = cond (leb (total (t .plan)) (L .dependencies)) (withReply taken (withDependencies t)) (withReply (refusedBy 11) z)
+  built z t = cond (leb (plannedTotal (t .plan)) (L .dependencies)) (withReply taken (withDependencies t)) (withReply (refusedBy 11) z)
 
   -- "plan check: zeroed"
-  abbrev pub checked : Tables → Tables → ReadingReply → ReadingAnswer
-  checked z t r = cond (isTaken r) (built z t) (withReply r z)
+  abbrev pub afterCheck : Tables → Tables → ReadingReply → ReadingAnswer
+  afterCheck z t r = cond (isTaken r) (built z t) (withReply r z)
 
   -- plan check and building on tables with the text's values, which a refusal leaves as they were
   unfoldable pub stored : Tables → ReadingAnswer
-  stored t = checked t t (checkIn (t .plan))
+  stored t = afterCheck t t (checkIn (t .plan))
 
   -- "reading, line by line: full sizes zeroed"
   abbrev pub fromLines : Tables → LinesRead LinesAnswer → LinesAnswer → ReadingAnswer
   fromLines z f (text.Refused r) = withReply (lineMeant r) z
-  fromLines z f (text.WellFormed n) = checked z (withText f n z) (checkIn (withText f n z .plan))
+  fromLines z f (text.WellFormed n) = afterCheck z (withText f n z) (checkIn (withText f n z .plan))
 
   -- reading a text that is not too long into tables that are zeroed
   unfoldable pub readLines : List ℕ → Tables → ReadingAnswer
   readLines text z = fromLines z (linesAt L text) (linesAt L text .answer)
-
-  -- the tables with those zeroed that a text's lines are read into
-  abbrev pub textZeroed : Tables → Tables
-  textZeroed t =
-      tablesOf (zeroed 1 (t .plan .droneCount)) (t .plan .dependencyCount) (zeroed (L .drones * L .name) (t .plan .names)) (zeroed (L .drones) (t .plan .stopCounts))
-      (zeroed (L .stops) (t .plan .locations)) (zeroed (L .stops) (t .plan .times)) (t .visited) (t .droneFlags)
-      (t .plan .firstDrones) (t .plan .firstStops) (t .plan .secondDrones) (t .plan .secondStops) (t .flags)
 
   -- "every entry, first: 41 a lent table is below full size: unchanged"; "reading, before any line: 1 text too long: unchanged", "Refusals 1 to 6 carry a byte offset: 32,768 for 1"
   unfoldable pub readPlan : List ℕ → Tables → ReadingAnswer
@@ -119,9 +104,3 @@ module _ (L : Limits) where
       cond (fullSize L t)
       (cond (ltb (L .text) (length text)) (withReply (refusedAt 1 (L .text)) t) (readLines text (zeroedTables L t)))
       (withReply (refusedBy 41) t)
-
--- a text read into tables z before any zeroing: the reply, and the tables if it is taken; if it is refused and z was zeroed, they have yet to be zeroed
-pub record TextStored (L : Limits) (text : List ℕ) (z : Tables) (r : ReadingReply) (t : Tables) : Type 0 where
-  pub replied : r ≡ readLines L text z .reply
-  pub left-taken : isTaken r ≡ true → t ≡ readLines L text z .tables
-  pub left-refused : isTaken r ≡ false → zeroedTables L z ≡ z → textZeroed L t ≡ readLines L text z .tables

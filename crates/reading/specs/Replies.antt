@@ -13,7 +13,7 @@ use Rattle.reading.specs.declared.replies.Refusal.the-variants.{TablesTo
 use Rattle.reading.specs.declared.replies.Reading.{Reading}
 use Rattle.reading.specs.declared.replies.Reading.the-variants.{Taken, Refused}
 
--- the plan is taken, or a refusal by its number: alone, "1 to 6 carry a byte offset", "a refusal from the plan check says which drone and stop is at fault; 10 gives two of each"
+-- the plan is taken, or a refusal by its number: alone, ".. 1 to 6 carry a byte offset", "A refusal from the plan check says which drone and stop is at fault; 10 gives two of each"
 pub data ReadingReply : Type 0 where
   taken : ReadingReply
   refusedBy : ℕ → ReadingReply

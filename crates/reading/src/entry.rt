@@ -16,10 +16,10 @@ ghost use Prim.Native.Nat.{ℕ};
 ghost use Rattle.tables.specs.Limits.{limits};
 ghost use Rattle.tables.specs.Tables.{tablesOf};
 ghost use Rattle.tables.specs.Zero.{zeroedTables};
-ghost use Rattle.plan.specs.Columns.{columns};
-ghost use Rattle.reading.specs.Reading.{AnsweredAs, TextStored, readLines, readPlan};
+ghost use Rattle.plan.specs.Columns.{columnsWith};
+ghost use Rattle.reading.specs.Reading.{AnsweredAs, readLines, readPlan};
 ghost use Rattle.reading.specs.Replies.{readingMeant};
-ghost use Rattle.reading.specs.Asked.{LinesAsked};
+ghost use Rattle.reading.specs.Asked.{LinesAsked, TextStored};
 
 // Reads a text that is not too long into zeroed tables: its lines, then plan check and dependencies. A refusal leaves what the lines wrote. The drones' progress is not touched, whatever it is.
 fn store_text(
@@ -36,7 +36,7 @@ fn store_text(
     second_stops: &mut [u16],
     flags: &mut [u8],
 ) -> Reading
-    requires { ⌜ LinesAsked limits (now «drone_count») (now «dependency_count») (now names) (now «stop_counts») (now locations) (now times) (columns (now «first_drones») (now «first_stops») (now «second_drones») (now «second_stops») (now flags)) ⌝ }
+    requires { ⌜ LinesAsked limits (now «drone_count») (now «dependency_count») (now names) (now «stop_counts») (now locations) (now times) (columnsWith (now «first_drones») (now «first_stops») (now «second_drones») (now «second_stops») (now flags)) ⌝ }
     ensures { λ r.
         ⌜
         ((visited droneFlags : List ℕ)
@@ -84,7 +84,7 @@ fn read_lines(
     second_stops: &mut [u16],
     flags: &mut [u8],
 ) -> Reading
-    requires { ⌜ LinesAsked limits (now «drone_count») (now «dependency_count») (now names) (now «stop_counts») (now locations) (now times) (columns (now «first_drones») (now «first_stops») (now «second_drones») (now «second_stops») (now flags)) ⌝ }
+    requires { ⌜ LinesAsked limits (now «drone_count») (now «dependency_count») (now names) (now «stop_counts») (now locations) (now times) (columnsWith (now «first_drones») (now «first_stops») (now «second_drones») (now «second_stops») (now flags)) ⌝ }
     ensures { λ r.
         ⌜
         ((visited droneFlags : List ℕ)

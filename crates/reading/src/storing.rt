@@ -11,7 +11,7 @@ ghost use mathlib.Core.List.{List};
 ghost use Prim.Native.Nat.{ℕ};
 ghost use Rattle.tables.specs.Limits.{limits};
 ghost use Rattle.tables.specs.Tables.{tablesOf};
-ghost use Rattle.plan.specs.Columns.{columns};
+ghost use Rattle.plan.specs.Columns.{columnsWith};
 ghost use Rattle.reading.specs.Reading.{AnsweredAs, stored};
 ghost use Rattle.reading.specs.Replies.{readingMeant};
 ghost use Rattle.reading.specs.Asked.{PlanAsked};
@@ -29,7 +29,7 @@ pub fn store_plan(
     second_stops: &mut [u16],
     flags: &mut [u8],
 ) -> Reading
-    requires { ⌜ PlanAsked limits (now «drone_count») (now «dependency_count») (now «stop_counts») (now locations) (now times) (columns (now «first_drones») (now «first_stops») (now «second_drones») (now «second_stops») (now flags)) ⌝ }
+    requires { ⌜ PlanAsked limits (now «drone_count») (now «dependency_count») (now «stop_counts») (now locations) (now times) (columnsWith (now «first_drones») (now «first_stops») (now «second_drones») (now «second_stops») (now flags)) ⌝ }
     ensures { λ r.
         ⌜
         ((names visited droneFlags : List ℕ) → AnsweredAs (stored limits (tablesOf

@@ -1,6 +1,5 @@
 -- Unused records are zero: the loop that sums their fields, and what it says of the columns.
 --     unused-none, unused-more, unused-end    the sum from the first unused record on
---     unused-fields    where the unused records are zero, the columns of the used ones are those of all that are seen
 -- Assumes nothing.
 use mathlib.Core.Path.{_≡_, refl, sym, ap, _∙_}
 use mathlib.Core.Bool.{Bool, true, _&&_, _||_}

@@ -20,7 +20,7 @@ use Rattle.precedence.proofs.Visits.{left, acyclic-iff}
 use Rattle.cycles.proofs.Placed.{formed}
 use Rattle.cycles.proofs.CycleLaws.{walked-all}
 use Rattle.cycles.specs.Flat.{flatPlan, PlacedWaits}
-use Rattle.cycles.specs.Walk.{Course, planOf, RoundTable, Walked}
+use Rattle.cycles.specs.Walk.{Course, coursePlan, RoundTable, Walked}
 use Rattle.rounds.specs.Remaining.{stopRound, stopRounds}
 
 module _ (C : Course) (placed : PlacedWaits (C .own) (C .off) (C .last) (C .drones) (C .stops) (C .from) (C .into) (C .waits)) where
@@ -34,7 +34,7 @@ module _ (C : Course) (placed : PlacedWaits (C .own) (C .off) (C .last) (C .dron
   number-in v l = omega (arith, placed .shape .number-in v l)
 
   -- a wait into stop v, by its drone and number
-  into-flat : (v w : ℕ) → v < stops → w < waits → intoStop (planOf C) (own v) (v - off (own v)) w ≡ eqb (into w) v
+  into-flat : (v w : ℕ) → v < stops → w < waits → intoStop (coursePlan C) (own v) (v - off (own v)) w ≡ eqb (into w) v
   unfolding intoStop
   into-flat v w l k = same-test _ _
       (λ e. let a : own (into w) ≡ own v = eqb-true _ _ (and-left _ _ e) in
@@ -42,9 +42,9 @@ module _ (C : Course) (placed : PlacedWaits (C .own) (C .off) (C .last) (C .dron
       eq-eqb (into w) v (omega (arith, ap off a, placed .shape .off-le v l, placed .into-later w k)))
       (λ e. let q : into w ≡ v = eqb-true (into w) v e in and-both _ _ (eq-eqb _ _ (ap own q)) (eq-eqb _ _ (ap (λ (u : ℕ). u - off (own u)) q)))
 
-  awaited-flat : (t : ℕ → ℕ → ℕ) (v : ℕ) → v < stops → maxBelow waits (awaitedAt (planOf C) t (own v) (v - off (own v))) ≡ maxBelow waits (λ w. pick (eqb (into w) v) (flat t (from w)) 0)
+  awaited-flat : (t : ℕ → ℕ → ℕ) (v : ℕ) → v < stops → maxBelow waits (awaitedAt (coursePlan C) t (own v) (v - off (own v))) ≡ maxBelow waits (λ w. pick (eqb (into w) v) (flat t (from w)) 0)
   unfolding awaitedAt
-  awaited-flat t v l = max-ext waits (awaitedAt (planOf C) t (own v) (v - off (own v))) (λ w. pick (eqb (into w) v) (flat t (from w)) 0) (λ w k. rw (into-flat v w l k) refl)
+  awaited-flat t v l = max-ext waits (awaitedAt (coursePlan C) t (own v) (v - off (own v))) (λ w. pick (eqb (into w) v) (flat t (from w)) 0) (λ w k. rw (into-flat v w l k) refl)
 
   -- the stop s of drone d
   pub flat-at : (t : ℕ → ℕ → ℕ) (d s : ℕ) → d < drones → s ≤ last d → flat t (off d + s) ≡ t d s
@@ -60,7 +60,7 @@ module _ (C : Course) (placed : PlacedWaits (C .own) (C .off) (C .last) (C .dron
 
   -- the drones stand at their visited stops p
   module _ (leg : ℕ → ℕ → ℕ) (p start : ℕ → ℕ) (stands : (d : ℕ) → d < drones → start d ≡ off d + p d) where
-    pub flat-table : {t : ℕ → ℕ → ℕ} → Table (planOf C) leg p t → RoundTable C (flat leg) start (flat t)
+    pub flat-table : {t : ℕ → ℕ → ℕ} → Table (coursePlan C) leg p t → RoundTable C (flat leg) start (flat t)
     flat-table {t} table = record {
       at-visited = λ v l h. table .at-visited (own v) (v - off (own v)) (placed .shape .own-in v l) (number-in v l) (omega (arith, stands (own v) (placed .shape .own-in v l)));
       at-unvisited = λ v l h.
@@ -68,39 +68,39 @@ module _ (C : Course) (placed : PlacedWaits (C .own) (C .off) (C .last) (C .dron
           omega (
             arith,
             table .at-unvisited (own v) (v - off (own v)) (placed .shape .own-in v l) (number-in v l) o,
-            latest-is (planOf C) t (own v) (v - off (own v)),
+            latest-is (coursePlan C) t (own v) (v - off (own v)),
             flat-before t v l (omega arith),
             awaited-flat t v l,
           );
     }
 
   -- a walk that has ended leaves the table of rounds, whatever the legs
-  module _ (leg : ℕ → ℕ → ℕ) (p : ℕ → ℕ) (start : List ℕ) (stands : (d : ℕ) → d < drones → at start d ≡ off d + p d) {L : Limits} {b : ℕ} {cur tab : List ℕ} (W : Walked L C (flat leg) b start cur tab) (acyclic : cyclic (planOf C) ≡ false) where
-    pub walked-is : {t : ℕ → ℕ → ℕ} → Table (planOf C) leg p t → (v : ℕ) → v < stops → at tab v ≡ flat t v
+  module _ (leg : ℕ → ℕ → ℕ) (p : ℕ → ℕ) (start : List ℕ) (stands : (d : ℕ) → d < drones → at start d ≡ off d + p d) {L : Limits} {b : ℕ} {cur tab : List ℕ} (W : Walked L C (flat leg) b start cur tab) (acyclic : cyclic (coursePlan C) ≡ false) where
+    pub walked-is : {t : ℕ → ℕ → ℕ} → Table (coursePlan C) leg p t → (v : ℕ) → v < stops → at tab v ≡ flat t v
     walked-is {t} table v l = W .visited (flat t) (flat-table leg p (at start) stands table) v l (walked-all C placed W acyclic v l)
 
-    abbrev P-formed : Formed (planOf C)
+    abbrev P-formed : Formed (coursePlan C)
     P-formed = formed own off last drones stops from into waits placed
 
-    P-acyclic : Cycle (planOf C) → ⊥
-    P-acyclic = acyclic-iff (planOf C) P-formed .0 acyclic
+    P-acyclic : Cycle (coursePlan C) → ⊥
+    P-acyclic = acyclic-iff (coursePlan C) P-formed .0 acyclic
 
-    pub walked-table : Kept (planOf C) p → Table (planOf C) leg p (λ d s. at tab (off d + s))
+    pub walked-table : Kept (coursePlan C) p → Table (coursePlan C) leg p (λ d s. at tab (off d + s))
     walked-table kept = record {
       at-visited = λ d s l h o. same d s l h ∙ A .at-visited d s l h o;
       at-unvisited = λ d s l h o. omega (
         arith,
         same d s l h,
         A .at-unvisited d s l h o,
-        latest-ext (planOf C) (λ d s. at tab (off d + s)) (arrival (planOf C) leg p) d s l (omega arith) h (λ u e. same (u .drone) (u .stop) (left (planOf C) P-formed e .0) (left (planOf C) P-formed e .1)),
+        latest-ext (coursePlan C) (λ d s. at tab (off d + s)) (arrival (coursePlan C) leg p) d s l (omega arith) h (λ u e. same (u .drone) (u .stop) (left (coursePlan C) P-formed e .0) (left (coursePlan C) P-formed e .1)),
       );
     }
       where
-        A : Table (planOf C) leg p (arrival (planOf C) leg p)
-        A = arrival-table (planOf C) leg p P-formed P-acyclic kept
+        A : Table (coursePlan C) leg p (arrival (coursePlan C) leg p)
+        A = arrival-table (coursePlan C) leg p P-formed P-acyclic kept
 
-        same : (d s : ℕ) → d < drones → s ≤ last d → at tab (off d + s) ≡ arrival (planOf C) leg p d s
-        same d s l h = walked-is A (off d + s) (placed .shape .place-in d s l h) ∙ flat-at (arrival (planOf C) leg p) d s l h
+        same : (d s : ℕ) → d < drones → s ≤ last d → at tab (off d + s) ≡ arrival (coursePlan C) leg p d s
+        same d s l h = walked-is A (off d + s) (placed .shape .place-in d s l h) ∙ flat-at (arrival (coursePlan C) leg p) d s l h
 
 module _ (own off last : ℕ → ℕ) (drones n : ℕ) (from into : ℕ → ℕ) (m : ℕ) (placed : PlacedWaits own off last drones n from into m) (p : ℕ → ℕ) where
   abbrev P : Plan

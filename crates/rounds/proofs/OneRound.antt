@@ -15,9 +15,9 @@ use Rattle.below.specs.Below.{pick, fillBelow, lastBelow, at}
 use Rattle.precedence.specs.Graph.{Plan, free, round}
 use Rattle.precedence.proofs.Rounds.{free-open, free-if, free-finished, free-unfinished, round-free, round-stays}
 use Rattle.cycles.specs.Flat.{flatPlan, FlatTables}
-use Rattle.cycles.specs.Links.{Linked}
+use Rattle.cycles.specs.Links.{LinkedWaits}
 use Rattle.tables.specs.Limits.{Limits}
-use Rattle.rounds.specs.Remaining.{StopIn}
+use Rattle.rounds.specs.Remaining.{OwnedStop}
 
 -- the owner of a stop that code has read
 pub read-owner : {size : ℕ} (owners : List ℕ) (v b d : ℕ) → at owners v < size → b ≡ v → d ≡ at owners b → d < size
@@ -43,10 +43,10 @@ module _ {L : Limits} (owners starts lasts : List ℕ) (drones n : ℕ) (from in
   abbrev P : Plan
   P = flatPlan (at owners) (at starts) (at lasts) drones (at from) (at into) m
 
-  pub stop-in : (v : ℕ) → v < n → StopIn L owners (at starts) v
+  pub stop-in : (v : ℕ) → v < n → OwnedStop L owners (at starts) v
   stop-in v l = record { stop-in = omega (arith, T .few-stops); owned = omega (arith, T .has-owners); owner-in = omega (arith, T .placed .shape .own-in v l, T .few-drones); past = T .placed .shape .off-le v l }
 
-  pub await-in : (k : ℕ) → k < m → StopIn L owners (at starts) (at from k)
+  pub await-in : (k : ℕ) → k < m → OwnedStop L owners (at starts) (at from k)
   await-in k l = stop-in (at from k) (T .placed .from-in k l)
 
   module _ (p : ℕ → ℕ) where
@@ -67,7 +67,7 @@ module _ {L : Limits} (owners starts lasts : List ℕ) (drones n : ℕ) (from in
       other : (w : ℕ) → w < m → at into w ≢ v → P .wait w .waiter ≡ d → P .wait w .stop ≡ suc (p d) → P .wait w .until ≤ p (P .wait w .awaited)
       other w h ne a b = absurd (ne (omega (arith, ev, ap (at starts) a, b, T .placed .shape .off-le (at into w) (T .placed .into-in w h))))
 
-      module _ (head next : List ℕ) (K : Linked L (at into) m head next) where
+      module _ (head next : List ℕ) (K : LinkedWaits L (at into) m head next) where
         pub scan-start : (x : ℕ) → x ≡ at head v → Scanning P (at into) p d v x
         scan-start x ex =
             let q : x ≡ lastBelow m (λ k. eqb (at into k) v) = ex ∙ K .heads v (omega (arith, next-in, T .few-stops)) in

@@ -6,13 +6,13 @@ use native.Mathlib.Omega.{arith}
 use lib.ListN.{length}
 use Rattle.below.specs.Below.{sumBelow, at}
 use Rattle.tables.specs.Limits.{Limits}
-use Rattle.precedence.specs.Graph.{Plan, Formed, Cycle, one, unvisited, cost, makespan}
+use Rattle.precedence.specs.Graph.{Plan, Formed, Cycle, oneRound, unvisited, cost, makespan}
 use Rattle.precedence.proofs.Table.{reached-table}
 use Rattle.precedence.proofs.Visits.{acyclic-iff, makespan-bound, reached-bound}
 use Rattle.cycles.proofs.Placed.{formed}
 use Rattle.cycles.proofs.MetLaws.{met-is}
 use Rattle.cycles.specs.Flat.{flatPlan}
-use Rattle.cycles.specs.Walk.{course, legOfOne, Begun, Walked}
+use Rattle.cycles.specs.Walk.{courseWith, legOfOne, Begun, Walked}
 use Rattle.rounds.specs.Remaining.{Ready, stopRound, stopRounds}
 use Rattle.rounds.proofs.Bounds.{unvisited-bound, cost-limit}
 use Rattle.rounds.proofs.ChainRounds.{walked-is, round-at, round-is, table-is, table-at, sum-is}
@@ -47,7 +47,7 @@ module _ {L : Limits} (owners starts lasts : List ℕ) (drones n : ℕ) (from in
   ready-stand d l = omega (arith, ready .within d l, ready .tables .placed .shape .place-in d (at lasts d) l (omega arith), ready .tables .few-stops)
 
   module _ (start : List ℕ) (size : length start ≡ L .drones) (stands : (d : ℕ) → d < drones → at start d ≡ at starts d + at visited d) where
-    pub ready-begun : Begun L (course owners starts lasts drones n from into m) start
+    pub ready-begun : Begun L (courseWith owners starts lasts drones n from into m) start
     ready-begun = record {
       size = size;
       low = λ d l. omega (arith, stands d l);
@@ -57,13 +57,13 @@ module _ {L : Limits} (owners starts lasts : List ℕ) (drones n : ℕ) (from in
           let b : at from k < n = ready .tables .placed .from-in k l in
           let oa : at owners (at into k) < drones = ready .tables .placed .shape .own-in (at into k) a in
           let ob : at owners (at from k) < drones = ready .tables .placed .shape .own-in (at from k) b in
-          met-is (course owners starts lasts drones n from into m) (at start) k (omega (arith, stands (at owners (at from k)) ob, ready .kept k l (omega (arith, stands (at owners (at into k)) oa))));
+          met-is (courseWith owners starts lasts drones n from into m) (at start) k (omega (arith, stands (at owners (at from k)) ob, ready .kept k l (omega (arith, stands (at owners (at into k)) oa))));
     }
 
-    pub ready-table : (b : ℕ) (cur t : List ℕ) → Walked L (course owners starts lasts drones n from into m) legOfOne b start cur t → t ≡ stopRounds L (at owners) (at starts) (at lasts) drones n (at from) (at into) m (at visited)
+    pub ready-table : (b : ℕ) (cur t : List ℕ) → Walked L (courseWith owners starts lasts drones n from into m) legOfOne b start cur t → t ≡ stopRounds L (at owners) (at starts) (at lasts) drones n (at from) (at into) m (at visited)
     ready-table b cur t W =
         table-is (at owners) (at starts) (at lasts) drones n (at from) (at into) m (ready .tables .placed) (at visited) L (ready .tables .few-stops) t (W .size)
-        (λ v l. walked-is (course owners starts lasts drones n from into m) (ready .tables .placed) one (at visited) start stands W (ready .acyclic) (reached-table P (at visited) ready-formed ready-acyclic (ready .kept)) v l ∙ sym (round-is (at owners) (at starts) (at lasts) drones n (at from) (at into) m (ready .tables .placed) (at visited) v))
+        (λ v l. walked-is (courseWith owners starts lasts drones n from into m) (ready .tables .placed) oneRound (at visited) start stands W (ready .acyclic) (reached-table P (at visited) ready-formed ready-acyclic (ready .kept)) v l ∙ sym (round-is (at owners) (at starts) (at lasts) drones n (at from) (at into) m (ready .tables .placed) (at visited) v))
         (W .past)
 
   -- a table of the rounds

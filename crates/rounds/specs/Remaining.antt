@@ -30,7 +30,7 @@ pub record Ready (L : Limits) (owners starts lasts : List ℕ) (drones n : ℕ) 
   pub within : (d : ℕ) → d < drones → at visited d ≤ at lasts d
 
 -- stop v has an owner, which is a drone of the tables, and is no earlier than that drone's first stop
-pub record StopIn (L : Limits) (owners : List ℕ) (off : ℕ → ℕ) (v : ℕ) : Type 0 where
+pub record OwnedStop (L : Limits) (owners : List ℕ) (off : ℕ → ℕ) (v : ℕ) : Type 0 where
   pub stop-in : v < L .stops
   pub owned : v < length owners
   pub owner-in : at owners v < L .drones

@@ -15,8 +15,8 @@ ghost use Rattle.below.specs.Below.{pick, countBelow, fillBelow, at};
 ghost use Rattle.tables.specs.Limits.{limits};
 ghost use Rattle.precedence.specs.Graph.{free, round, cost, makespan};
 ghost use Rattle.cycles.specs.Flat.{flatPlan, FlatTables};
-ghost use Rattle.cycles.specs.Links.{Linked};
-ghost use Rattle.rounds.specs.Remaining.{Ready, StopIn};
+ghost use Rattle.cycles.specs.Links.{LinkedWaits};
+ghost use Rattle.rounds.specs.Remaining.{Ready, OwnedStop};
 
 // The rounds until every drone stands at its last stop, and the sum of the drones' remaining rounds.
 pub struct Played {
@@ -32,7 +32,7 @@ fn is_met(
     places: &[u16; Drone::FULL],
     k: usize,
 ) -> bool
-    requires { ⌜ (k < limits .dependencies) × StopIn limits (now owners) (at (now starts)) (at (now from) k) ⌝ }
+    requires { ⌜ (k < limits .dependencies) × OwnedStop limits (now owners) (at (now starts)) (at (now from) k) ⌝ }
     ensures { λ r. ⌜ r ≡ leb (at (now (from .entry)) k - at (now (starts .entry)) (at (now (owners .entry)) (at (now (from .entry)) k))) (at (now (places .entry)) (at (now (owners .entry)) (at (now (from .entry)) k))) ⌝ }
 {
     let a = wide(from[k]);
@@ -56,7 +56,7 @@ fn can_go_on(
     places: &[u16; Drone::FULL],
     d: usize,
 ) -> bool
-    requires { ⌜ FlatTables limits (now owners) (now starts) (now lasts) drones n (now from) (now into) m × Linked limits (at (now into)) m (now head) (now next) × (d < drones) ⌝ }
+    requires { ⌜ FlatTables limits (now owners) (now starts) (now lasts) drones n (now from) (now into) m × LinkedWaits limits (at (now into)) m (now head) (now next) × (d < drones) ⌝ }
     ensures { λ r. ⌜ r ≡ free (flatPlan (at (now (owners .entry))) (at (now (starts .entry))) (at (now (lasts .entry))) drones (at (now (from .entry))) (at (now (into .entry))) m) (at (now (places .entry))) d ⌝ }
 {
     let place = wide(places[d]);
@@ -74,7 +74,7 @@ fn can_go_on(
     true
 }
 
-fn one(b: bool) -> u8
+fn mark(b: bool) -> u8
     ensures { λ r. ⌜ r ≡ pick b 1 0 ⌝ }
 {
     if b { 1 } else { 0 }
@@ -95,12 +95,12 @@ fn mark_movers(
     places: &[u16; Drone::FULL],
     moves: &mut [u8; Drone::FULL],
 )
-    requires { ⌜ FlatTables limits (now owners) (now starts) (now lasts) drones n (now from) (now into) m × Linked limits (at (now into)) m (now head) (now next) × (length (now moves) ≡ limits .drones) ⌝ }
+    requires { ⌜ FlatTables limits (now owners) (now starts) (now lasts) drones n (now from) (now into) m × LinkedWaits limits (at (now into)) m (now head) (now next) × (length (now moves) ≡ limits .drones) ⌝ }
     ensures { λ _. ⌜ ((d : ℕ) → d < drones → at (now (moves .exit)) d ≡ pick (free (flatPlan (at (now (owners .entry))) (at (now (starts .entry))) (at (now (lasts .entry))) drones (at (now (from .entry))) (at (now (into .entry))) m) (at (now (places .entry))) d) 1 0) ⌝ }
 {
     let mut d = 0;
     while d < drones {
-        moves[d] = one(can_go_on(
+        moves[d] = mark(can_go_on(
             owners,
             starts,
             lasts,
@@ -155,7 +155,7 @@ fn play_round(
     next: &[u16; Dependency::FULL],
     places: &mut [u16; Drone::FULL],
 )
-    requires { ⌜ FlatTables limits (now owners) (now starts) (now lasts) drones n (now from) (now into) m × Linked limits (at (now into)) m (now head) (now next) × (length (now places) ≡ limits .drones) ⌝ }
+    requires { ⌜ FlatTables limits (now owners) (now starts) (now lasts) drones n (now from) (now into) m × LinkedWaits limits (at (now into)) m (now head) (now next) × (length (now places) ≡ limits .drones) ⌝ }
     ensures { λ _. ⌜ (length (now (places .exit)) ≡ limits .drones) × ((d : ℕ) → d < drones → at (now (places .exit)) d ≡ round (flatPlan (at (now (owners .entry))) (at (now (starts .entry))) (at (now (lasts .entry))) drones (at (now (from .entry))) (at (now (into .entry))) m) (at (now (places .entry))) d) ⌝ }
 {
     let mut moves = [0u8; Drone::FULL];

@@ -27,8 +27,8 @@ use Rattle.accepted.specs.TextPlan.{stopsIn, routesVisits, routesPlan}
 use Rattle.tables.specs.Zero.{filled}
 use Rattle.accepted.proofs.RoutesPlan.{rules-checked}
 use Rattle.accepted.proofs.Taken.{limits-taken-exactly, follows-own}
-use Rattle.small_plans.specs.Routes.{SmallRoute, route, stops, AtMost, Within}
-use Rattle.small_plans.specs.Plans.{SmallPlan, plan, routes, text, accepted}
+use Rattle.small_plans.specs.Routes.{SmallRoute, routeWith, AtMost, Within}
+use Rattle.small_plans.specs.Plans.{SmallPlan, planWith, planRoutes, smallPlanText, wouldBeTaken}
 use Rattle.small_plans.specs.Check.{planChecked}
 use Rattle.small_plans.proofs.Checking.{Flies, plan-said, says-checked}
 
@@ -45,7 +45,7 @@ stops-in-range (p ∷ l) (u ∷ t) e a b =
 
 module _ (x y : SmallRoute) (wx : Within x) (wy : Within y) where
   abbrev ds : List Route
-  ds = routes (plan x y)
+  ds = planRoutes (planWith x y)
 
   pub in-limits : InLimits limits ds
   unfolding goodName nameBytes isNameByte elem same
@@ -91,8 +91,8 @@ module _ (x y : SmallRoute) (wx : Within x) (wy : Within y) where
       le-six : {m n : ℕ} → m ≤ n → n ≤ 6 → m ≤ 6
       le-six a b = omega arith
 
-  pub taken-exactly : (t : Tables) → fullSize limits t ≡ true → (readPlan limits (text (plan x y)) t .reply ≡ taken) ↔ (planChecked x y ≡ true)
-  unfolding text
+  pub taken-exactly : (t : Tables) → fullSize limits t ≡ true → (readPlan limits (smallPlanText (planWith x y)) t .reply ≡ taken) ↔ (planChecked x y ≡ true)
+  unfolding smallPlanText
   taken-exactly t full = (said, says)
     where
       said : readPlan limits (routesText ds) t .reply ≡ taken → planChecked x y ≡ true
@@ -109,18 +109,18 @@ module _ (x y : SmallRoute) (wx : Within x) (wy : Within y) where
 
 -- two plans of one text are one plan
 abbrev tableRoute : List Route → SmallRoute
-tableRoute [] = route [] []
-tableRoute (r ∷ rs) = route (r .locations) (r .times)
+tableRoute [] = routeWith [] []
+tableRoute (r ∷ rs) = routeWith (r .locations) (r .times)
 
 abbrev after : List Route → List Route
 after [] = []
 after (r ∷ rs) = rs
 
-pub same-plan : (a b : SmallPlan) → Within (a .first) → Within (a .second) → Within (b .first) → Within (b .second) → text a ≡ text b → a ≡ b
-unfolding text
+pub same-plan : (a b : SmallPlan) → Within (a .first) → Within (a .second) → Within (b .first) → Within (b .second) → smallPlanText a ≡ smallPlanText b → a ≡ b
+unfolding smallPlanText
 same-plan a b i j k l h =
-    let e : routes a ≡ routes b = limits-round-trip .one-plan (routes a) (routes b) (in-limits (a .first) (a .second) i j) (in-limits (b .first) (b .second) k l) h in
-    ap (λ (rs : List Route). plan (tableRoute rs) (tableRoute (after rs))) e
+    let e : planRoutes a ≡ planRoutes b = limits-round-trip .one-plan (planRoutes a) (planRoutes b) (in-limits (a .first) (a .second) i j) (in-limits (b .first) (b .second) k l) h in
+    ap (λ (rs : List Route). planWith (tableRoute rs) (tableRoute (after rs))) e
 
 -- ---- the list's own test
 
@@ -128,8 +128,8 @@ filled-full : fullSize limits (filled 0 limits) ≡ true
 unfolding fullSize
 filled-full = refl
 
-pub accepted-is : (x y : SmallRoute) → Within x → Within y → accepted (plan x y) ≡ planChecked x y
-unfolding accepted
+pub accepted-is : (x y : SmallRoute) → Within x → Within y → wouldBeTaken (planWith x y) ≡ planChecked x y
+unfolding wouldBeTaken
 accepted-is x y a b =
     let (to, back) = taken-exactly x y a b (filled 0 limits) filled-full in
     same-test _ _ (λ h. to (is-taken _ h)) (λ h. ap isTaken (back h))

@@ -11,8 +11,8 @@ use Rattle.below.proofs.Tests.{by-cases, and-left, and-right, and-both}
 use Rattle.below.proofs.Every.{allBelow-at, allBelow-all}
 use Rattle.plan.specs.Visits.{sameLocation}
 use Rattle.plan.specs.Field.{FieldPlan, GoneBefore, Checked}
-use Rattle.small_plans.specs.Routes.{SmallRoute, stops}
-use Rattle.small_plans.specs.Check.{routeChecked, gone, apart, planChecked}
+use Rattle.small_plans.specs.Routes.{SmallRoute, routeLength}
+use Rattle.small_plans.specs.Check.{routeChecked, gone, routesApart, planChecked}
 
 or-one : (a b : Bool) → a ≡ true → a || b ≡ true
 or-one a b e = rw e refl
@@ -27,10 +27,10 @@ or-cases false b e = inr e
 
 -- drone d of the plan flies the route
 pub record Flies (F : FieldPlan) (d : ℕ) (x : SmallRoute) : Type 0 where
-  pub some : 1 ≤ stops x
-  pub last-is : F .last d ≡ stops x - 1
-  pub location-is : (s : ℕ) → s < stops x → F .location d s ≡ at (x .locations) s
-  pub time-is : (s : ℕ) → s < stops x → F .time d s ≡ at (x .times) s
+  pub some : 1 ≤ routeLength x
+  pub last-is : F .last d ≡ routeLength x - 1
+  pub location-is : (s : ℕ) → s < routeLength x → F .location d s ≡ at (x .locations) s
+  pub time-is : (s : ℕ) → s < routeLength x → F .time d s ≡ at (x .times) s
 
 -- ---- one route
 
@@ -39,9 +39,9 @@ module _ (F : FieldPlan) (d : ℕ) (x : SmallRoute) (f : Flies F d x) where
   unfolding routeChecked
   route-said starts rises moves =
       and-both (eqb (at (x .times) 0) 0) _ (eq-eqb _ 0 (sym (f .time-is 0 (omega (arith, f .some))) ∙ starts))
-      (allBelow-all (stops x - 1) _ (λ s l.
-      let a : s < stops x = omega arith in
-      let b : suc s < stops x = omega arith in
+      (allBelow-all (routeLength x - 1) _ (λ s l.
+      let a : s < routeLength x = omega arith in
+      let b : suc s < routeLength x = omega arith in
       let k : s < F .last d = omega (arith, f .last-is) in
       and-both (ltb (at (x .times) s) (at (x .times) (suc s))) _
       (lt-ltb (at (x .times) s) (at (x .times) (suc s)) (omega (arith, rises s k, f .time-is s a, f .time-is (suc s) b)))
@@ -52,62 +52,62 @@ module _ (F : FieldPlan) (d : ℕ) (x : SmallRoute) (f : Flies F d x) where
     unfolding routeChecked
     first-part = and-left _ _ h
 
-    each-part : (s : ℕ) → s < stops x - 1 → ltb (at (x .times) s) (at (x .times) (suc s)) && not (eqb (at (x .locations) s) (at (x .locations) (suc s))) ≡ true
+    each-part : (s : ℕ) → s < routeLength x - 1 → ltb (at (x .times) s) (at (x .times) (suc s)) && not (eqb (at (x .locations) s) (at (x .locations) (suc s))) ≡ true
     unfolding routeChecked
-    each-part s l = allBelow-at (stops x - 1) _ (and-right (eqb (at (x .times) 0) 0) _ h) s l
+    each-part s l = allBelow-at (routeLength x - 1) _ (and-right (eqb (at (x .times) 0) 0) _ h) s l
 
     pub says-starts : F .time d 0 ≡ 0
     says-starts = f .time-is 0 (omega (arith, f .some)) ∙ eqb-true _ 0 first-part
 
     pub says-rises : (s : ℕ) → s < F .last d → F .time d s < F .time d (suc s)
     says-rises s l =
-        let k : s < stops x - 1 = omega (arith, f .last-is) in
+        let k : s < routeLength x - 1 = omega (arith, f .last-is) in
         omega (arith, ltb-true (at (x .times) s) (at (x .times) (suc s)) (and-left (ltb (at (x .times) s) (at (x .times) (suc s))) _ (each-part s k)), f .time-is s (omega arith), f .time-is (suc s) (omega arith))
 
     pub says-moves : (s : ℕ) → s < F .last d → F .location d s ≢ F .location d (suc s)
     says-moves s l e =
-        let k : s < stops x - 1 = omega (arith, f .last-is) in
+        let k : s < routeLength x - 1 = omega (arith, f .last-is) in
         eqb-false _ _ (not-true _ (and-right (ltb (at (x .times) s) (at (x .times) (suc s))) _ (each-part s k)))
         (sym (f .location-is s (omega arith)) ∙ (e ∙ f .location-is (suc s) (omega arith)))
 
 -- ---- two routes
 
 module _ (F : FieldPlan) (d e : ℕ) (x y : SmallRoute) (f : Flies F d x) (g : Flies F e y) where
-  gone-said : (s k : ℕ) → k < stops y → GoneBefore F d s e k → gone x s y k ≡ true
+  gone-said : (s k : ℕ) → k < routeLength y → GoneBefore F d s e k → gone x s y k ≡ true
   unfolding gone
   gone-said s k l h =
-      let a : suc s < stops x = omega (arith, h .goes-on, f .last-is) in
-      and-both (ltb (suc s) (stops x)) _ (lt-ltb _ _ a) (lt-ltb (at (x .times) (suc s)) (at (y .times) k) (omega (arith, h .in-time, f .time-is (suc s) a, g .time-is k l)))
+      let a : suc s < routeLength x = omega (arith, h .goes-on, f .last-is) in
+      and-both (ltb (suc s) (routeLength x)) _ (lt-ltb _ _ a) (lt-ltb (at (x .times) (suc s)) (at (y .times) k) (omega (arith, h .in-time, f .time-is (suc s) a, g .time-is k l)))
 
-  says-gone : (s k : ℕ) → k < stops y → gone x s y k ≡ true → GoneBefore F d s e k
+  says-gone : (s k : ℕ) → k < routeLength y → gone x s y k ≡ true → GoneBefore F d s e k
   unfolding gone
   says-gone s k l h =
-      let a : suc s < stops x = ltb-true _ _ (and-left _ _ h) in
-      let b : at (x .times) (suc s) < at (y .times) k = ltb-true _ _ (and-right (ltb (suc s) (stops x)) _ h) in
+      let a : suc s < routeLength x = ltb-true _ _ (and-left _ _ h) in
+      let b : at (x .times) (suc s) < at (y .times) k = ltb-true _ _ (and-right (ltb (suc s) (routeLength x)) _ h) in
       record { goes-on = omega (arith, f .last-is); in-time = omega (arith, f .time-is (suc s) a, g .time-is k l) }
 
 module _ (F : FieldPlan) (d e : ℕ) (x y : SmallRoute) (f : Flies F d x) (g : Flies F e y) where
-  pub apart-said : ((s k : ℕ) → s ≤ F .last d → k ≤ F .last e → F .location d s ≡ F .location e k → GoneBefore F d s e k ⊎ GoneBefore F e k d s) → apart x y ≡ true
-  unfolding apart
-  apart-said h = allBelow-all (stops x) _ (λ s l. allBelow-all (stops y) _ (λ k m.
+  pub apart-said : ((s k : ℕ) → s ≤ F .last d → k ≤ F .last e → F .location d s ≡ F .location e k → GoneBefore F d s e k ⊎ GoneBefore F e k d s) → routesApart x y ≡ true
+  unfolding routesApart
+  apart-said h = allBelow-all (routeLength x) _ (λ s l. allBelow-all (routeLength y) _ (λ k m.
       by-cases (eqb (at (x .locations) s) (at (y .locations) k))
       (λ q. or-two (not (eqb (at (x .locations) s) (at (y .locations) k))) _ (either s k l m (h s k (omega (arith, f .last-is)) (omega (arith, g .last-is)) (f .location-is s l ∙ (eqb-true _ _ q ∙ sym (g .location-is k m))))))
       (λ q. or-one _ _ (ap not q))))
     where
-      either : (s k : ℕ) → s < stops x → k < stops y → GoneBefore F d s e k ⊎ GoneBefore F e k d s → gone x s y k || gone y k x s ≡ true
+      either : (s k : ℕ) → s < routeLength x → k < routeLength y → GoneBefore F d s e k ⊎ GoneBefore F e k d s → gone x s y k || gone y k x s ≡ true
       either s k l m (inl u) = or-one _ _ (gone-said F d e x y f g s k m u)
       either s k l m (inr u) = or-two (gone x s y k) _ (gone-said F e d y x g f k s l u)
 
-  pub says-apart : apart x y ≡ true → (s k : ℕ) → s ≤ F .last d → k ≤ F .last e → F .location d s ≡ F .location e k → GoneBefore F d s e k ⊎ GoneBefore F e k d s
-  unfolding apart
+  pub says-apart : routesApart x y ≡ true → (s k : ℕ) → s ≤ F .last d → k ≤ F .last e → F .location d s ≡ F .location e k → GoneBefore F d s e k ⊎ GoneBefore F e k d s
+  unfolding routesApart
   says-apart h s k a b q =
-      let l : s < stops x = omega (arith, f .last-is, f .some) in
-      let m : k < stops y = omega (arith, g .last-is, g .some) in
+      let l : s < routeLength x = omega (arith, f .last-is, f .some) in
+      let m : k < routeLength y = omega (arith, g .last-is, g .some) in
       let same : eqb (at (x .locations) s) (at (y .locations) k) ≡ true = eq-eqb _ _ (sym (f .location-is s l) ∙ (q ∙ g .location-is k m)) in
-      let t : not (eqb (at (x .locations) s) (at (y .locations) k)) || (gone x s y k || gone y k x s) ≡ true = allBelow-at (stops y) _ (allBelow-at (stops x) _ h s l) k m in
+      let t : not (eqb (at (x .locations) s) (at (y .locations) k)) || (gone x s y k || gone y k x s) ≡ true = allBelow-at (routeLength y) _ (allBelow-at (routeLength x) _ h s l) k m in
       either l m (or-cases (gone x s y k) (gone y k x s) (rw same at t))
     where
-      either : s < stops x → k < stops y → (gone x s y k ≡ true) ⊎ (gone y k x s ≡ true) → GoneBefore F d s e k ⊎ GoneBefore F e k d s
+      either : s < routeLength x → k < routeLength y → (gone x s y k ≡ true) ⊎ (gone y k x s ≡ true) → GoneBefore F d s e k ⊎ GoneBefore F e k d s
       either l m (inl u) = inl (says-gone F d e x y f g s k m u)
       either l m (inr u) = inr (says-gone F e d y x g f k s l u)
 
@@ -138,7 +138,7 @@ module _ (F : FieldPlan) (x y : SmallRoute) (two : F .drones ≡ 2) (same : (a b
     unfolding planChecked
     of-second = and-left _ _ (and-right (routeChecked x) _ h)
 
-    of-both : apart x y ≡ true
+    of-both : routesApart x y ≡ true
     unfolding planChecked
     of-both = and-right (routeChecked y) _ (and-right (routeChecked x) _ h)
 

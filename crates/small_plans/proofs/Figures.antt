@@ -6,7 +6,7 @@ use Prim.Native.Nat.{ℕ, zero, suc, _≤_, _<_}
 use native.Mathlib.Omega.{arith}
 use lib.ListN.{length}
 use Rattle.below.specs.Below.{at}
-use Rattle.small_plans.specs.Routes.{map, flatMap, tuples, SmallRoute, route, Within, smallRoutes}
+use Rattle.small_plans.specs.Routes.{map, flatMap, tuples, SmallRoute, routeWith, Within, smallRoutes}
 use Rattle.small_plans.proofs.Lists.{Among, among-map, among-flatMap, map-among, flatMap-among}
 
 -- every entry is one of the values
@@ -92,7 +92,7 @@ abbrev moments : List ℕ
 moments = 0 ∷ 1 ∷ 2 ∷ 3 ∷ 4 ∷ []
 
 abbrev timed : ℕ → List ℕ → List SmallRoute
-timed n l = map (λ t. route l t) (tuples n moments)
+timed n l = map (λ t. routeWith l t) (tuples n moments)
 
 abbrev placed : ℕ → List SmallRoute
 placed n = flatMap (tuples n places) (timed n)
@@ -105,14 +105,14 @@ within-among x w =
     let h : Among t (tuples (length l) moments) = subst (λ (n : ℕ). Among t (tuples n moments)) (w .timed) (among-tuples moments t (λ i k. to-four (at t i) (w .early i k))) in
     among-flatMap placed (length l) (1 ∷ 2 ∷ 3 ∷ []) x (one-of-three (length l) (w .some) (w .few))
     (among-flatMap (timed (length l)) l (tuples (length l) places) x (among-tuples places l (λ i k. to-two (at l i) (w .places i k)))
-    (among-map (λ t. route l t) t (tuples (length l) moments) h))
+    (among-map (λ t. routeWith l t) t (tuples (length l) moments) h))
 
 pub among-within : (x : SmallRoute) → Among x smallRoutes → Within x
 unfolding smallRoutes
 among-within x h =
     let (n, a, h₁) = flatMap-among placed (1 ∷ 2 ∷ 3 ∷ []) x h in
     let (l, b, h₂) = flatMap-among (timed n) (tuples n places) x h₁ in
-    let (t, c, e) = map-among (λ t. route l t) (tuples n moments) x h₂ in
+    let (t, c, e) = map-among (λ t. routeWith l t) (tuples n moments) x h₂ in
     let (p, f) = tuples-among places n l b in
     let (q, g) = tuples-among moments n t c in
     let (low, high) = three-of n a in

@@ -10,9 +10,9 @@ use borrow.Author.Tests.{ltb-true, eqb-true}
 use Rattle.below.specs.Below.{at, allBelow, listBelow}
 use Rattle.below.proofs.Every.{allBelow-at}
 use Rattle.below.proofs.Index.{getD-listBelow}
-use Rattle.small_plans.specs.Routes.{map, flatMap, filter, tuples, SmallRoute, route, stops, smallRoutes}
-use Rattle.small_plans.specs.Plans.{SmallPlan, plan, smallPlans, planAt}
-use Rattle.small_plans.specs.Check.{routeChecked, gone, apart, checkedRoutes, routeAt, stopCount}
+use Rattle.small_plans.specs.Routes.{map, flatMap, filter, tuples, SmallRoute, routeWith, routeLength, smallRoutes}
+use Rattle.small_plans.specs.Plans.{SmallPlan, planWith, smallPlans, planAt}
+use Rattle.small_plans.specs.Check.{routeChecked, gone, routesApart, checkedRoutes, checkedRouteAt, stopCount}
 use Rattle.small_plans.proofs.Filtered.{computed, plans-computed}
 
 -- ---- the tables
@@ -69,31 +69,31 @@ moments =
 
 -- the route of a number, as the tables have it
 unfoldable pub tableRoute : ℕ → SmallRoute
-tableRoute r = route (take (stopCount r) (drop (3 * r) places)) (take (stopCount r) (drop (3 * r) moments))
+tableRoute r = routeWith (take (stopCount r) (drop (3 * r) places)) (take (stopCount r) (drop (3 * r) moments))
 
 routes-right : checkedRoutes ≡ listBelow 99 tableRoute
 unfolding checkedRoutes smallRoutes flatMap map tuples filter routeChecked allBelow listBelow tableRoute stopCount places moments
 routes-right = refl
 
-pub route-is : (r : ℕ) → r < 99 → routeAt r ≡ tableRoute r
-unfolding routeAt
-route-is r h = ap (λ (l : List SmallRoute). getD l r (route [] [])) routes-right ∙ getD-listBelow 99 tableRoute (route [] []) r h
+pub route-is : (r : ℕ) → r < 99 → checkedRouteAt r ≡ tableRoute r
+unfolding checkedRouteAt
+route-is r h = ap (λ (l : List SmallRoute). getD l r (routeWith [] [])) routes-right ∙ getD-listBelow 99 tableRoute (routeWith [] []) r h
 
 -- ---- plans
 
 unfoldable pub listed : List ℕ → List ℕ → List SmallPlan
 listed [] ss = []
 listed (f ∷ fs) [] = []
-listed (f ∷ fs) (s ∷ ss) = plan (tableRoute f) (tableRoute s) ∷ listed fs ss
+listed (f ∷ fs) (s ∷ ss) = planWith (tableRoute f) (tableRoute s) ∷ listed fs ss
 
 plans-right : computed ≡ listed firsts seconds
-unfolding checkedRoutes smallRoutes flatMap map tuples filter routeChecked gone apart allBelow listed tableRoute stopCount places moments firsts seconds
+unfolding checkedRoutes smallRoutes flatMap map tuples filter routeChecked gone routesApart allBelow listed tableRoute stopCount places moments firsts seconds
 plans-right = refl
 
 pub plans-listed : smallPlans ≡ listed firsts seconds
 plans-listed = plans-computed ∙ plans-right
 
-listed-at : (fs ss : List ℕ) (d : SmallPlan) (k : ℕ) → k < length fs → k < length ss → getD (listed fs ss) k d ≡ plan (tableRoute (at fs k)) (tableRoute (at ss k))
+listed-at : (fs ss : List ℕ) (d : SmallPlan) (k : ℕ) → k < length fs → k < length ss → getD (listed fs ss) k d ≡ planWith (tableRoute (at fs k)) (tableRoute (at ss k))
 unfolding listed
 listed-at [] ss d k a b = absurd (omega arith)
 listed-at (f ∷ fs) [] d k a b = absurd (omega arith)
@@ -122,22 +122,22 @@ seconds-long : length seconds ≡ 378
 unfolding seconds
 seconds-long = refl
 
-plan-is : (k : ℕ) → k < 378 → planAt k ≡ plan (tableRoute (at firsts k)) (tableRoute (at seconds k))
-plan-is k h = ap (λ (l : List SmallPlan). getD l k (plan (route [] []) (route [] []))) plans-listed ∙ listed-at firsts seconds (plan (route [] []) (route [] [])) k (omega (arith, firsts-long)) (omega (arith, seconds-long))
+plan-is : (k : ℕ) → k < 378 → planAt k ≡ planWith (tableRoute (at firsts k)) (tableRoute (at seconds k))
+plan-is k h = ap (λ (l : List SmallPlan). getD l k (planWith (routeWith [] []) (routeWith [] []))) plans-listed ∙ listed-at firsts seconds (planWith (routeWith [] []) (routeWith [] [])) k (omega (arith, firsts-long)) (omega (arith, seconds-long))
 
-pub first-right : (k r : ℕ) → k < 378 → r ≡ at firsts k → (r < 99) × (planAt k .first ≡ routeAt r)
+pub first-right : (k r : ℕ) → k < 378 → r ≡ at firsts k → (r < 99) × (planAt k .first ≡ checkedRouteAt r)
 first-right k r h e =
     let l : r < 99 = omega (arith, e, ltb-true (at firsts k) 99 (allBelow-at 378 _ firsts-right k h)) in
     (l, ap (λ (p : SmallPlan). p .first) (plan-is k h) ∙ (ap tableRoute (sym e) ∙ sym (route-is r l)))
 
-pub second-right : (k r : ℕ) → k < 378 → r ≡ at seconds k → (r < 99) × (planAt k .second ≡ routeAt r)
+pub second-right : (k r : ℕ) → k < 378 → r ≡ at seconds k → (r < 99) × (planAt k .second ≡ checkedRouteAt r)
 second-right k r h e =
     let l : r < 99 = omega (arith, e, ltb-true (at seconds k) 99 (allBelow-at 378 _ seconds-right k h)) in
     (l, ap (λ (p : SmallPlan). p .second) (plan-is k h) ∙ (ap tableRoute (sym e) ∙ sym (route-is r l)))
 
-counts-right : allBelow 99 (λ r. eqb (stops (tableRoute r)) (stopCount r)) ≡ true
+counts-right : allBelow 99 (λ r. eqb (routeLength (tableRoute r)) (stopCount r)) ≡ true
 unfolding allBelow tableRoute stopCount places moments
 counts-right = refl
 
-pub stops-are : (r : ℕ) → r < 99 → stops (tableRoute r) ≡ stopCount r
-stops-are r h = eqb-true (stops (tableRoute r)) (stopCount r) (allBelow-at 99 _ counts-right r h)
+pub stops-are : (r : ℕ) → r < 99 → routeLength (tableRoute r) ≡ stopCount r
+stops-are r h = eqb-true (routeLength (tableRoute r)) (stopCount r) (allBelow-at 99 _ counts-right r h)

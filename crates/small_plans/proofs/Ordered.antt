@@ -9,8 +9,8 @@ use lib.ListN.{length, getD}
 use borrow.Author.Tests.{le-ltb, ltb-true, ltb-false}
 use Rattle.text.specs.LinesRead.{same}
 use Rattle.below.proofs.Tests.{by-cases, and-left, and-right, true-or-false}
-use Rattle.small_plans.specs.Routes.{SmallRoute, route, stops, lower, routeBefore, sameRoute}
-use Rattle.small_plans.specs.Plans.{SmallPlan, plan, smallPlans, planAt, planBefore}
+use Rattle.small_plans.specs.Routes.{SmallRoute, routeWith, routeLength, lowerList, routeBefore, sameRoute}
+use Rattle.small_plans.specs.Plans.{SmallPlan, planWith, smallPlans, planAt, planBefore}
 use Rattle.small_plans.specs.Check.{stopCount}
 use Rattle.small_plans.proofs.Listed.{firsts, seconds, places, moments, tableRoute, listed, plans-listed}
 
@@ -38,11 +38,11 @@ rises-at (p ∷ l) h d zero (suc j) a b = ahead-at p l (and-left _ _ h) d j (ome
 rises-at (p ∷ l) h d (suc i) (suc j) a b = rises-at l (and-right (aheadOf p l) _ h) d i j (omega arith) (omega arith)
 
 listed-rises : rises (listed firsts seconds) ≡ true
-unfolding rises aheadOf planBefore routeBefore sameRoute lower same listed tableRoute stopCount places moments firsts seconds
+unfolding rises aheadOf planBefore routeBefore sameRoute lowerList same listed tableRoute stopCount places moments firsts seconds
 listed-rises = refl
 
 pub plans-rise : (i j : ℕ) → i < j → j < length smallPlans → planBefore (planAt i) (planAt j) ≡ true
-plans-rise = rises-at smallPlans (ap rises plans-listed ∙ listed-rises) (plan (route [] []) (route [] []))
+plans-rise = rises-at smallPlans (ap rises plans-listed ∙ listed-rises) (planWith (routeWith [] []) (routeWith [] []))
 
 -- ---- each once
 
@@ -50,15 +50,15 @@ nor : (a b c : Bool) → a ≡ false → c ≡ false → a || (b && c) ≡ false
 nor a true c e f = rw (e, f) refl
 nor a false c e f = rw e refl
 
-not-lower : (l : List ℕ) → lower l l ≡ false
-unfolding lower
+not-lower : (l : List ℕ) → lowerList l l ≡ false
+unfolding lowerList
 not-lower [] = refl
-not-lower (a ∷ l) = nor (ltb a a) (eqb a a) (lower l l) (le-ltb a a (omega arith)) (not-lower l)
+not-lower (a ∷ l) = nor (ltb a a) (eqb a a) (lowerList l l) (le-ltb a a (omega arith)) (not-lower l)
 
 not-before : (x : SmallRoute) → routeBefore x x ≡ false
 unfolding routeBefore
 not-before x =
-    nor (ltb (stops x) (stops x)) (eqb (stops x) (stops x)) _ (le-ltb (stops x) (stops x) (omega arith))
+    nor (ltb (routeLength x) (routeLength x)) (eqb (routeLength x) (routeLength x)) _ (le-ltb (routeLength x) (routeLength x) (omega arith))
     (nor _ (same (x .locations) (x .locations)) _ (not-lower (x .locations)) (not-lower (x .times)))
 
 pub not-itself : (p : SmallPlan) → planBefore p p ≡ false

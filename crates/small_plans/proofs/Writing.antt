@@ -21,11 +21,11 @@ use Rattle.text.specs.declared.writer.WriteAnswer.{WriteAnswer}
 use Rattle.text.specs.declared.writer.WriteAnswer.the-variants as writer
 use Rattle.text.proofs.WriteWhole.{says-short, says-length}
 use Rattle.small_plans.specs.declared.PlanAnswer.{PlanAnswer}
-use Rattle.small_plans.specs.declared.PlanAnswer.the-variants.{Length, NoSuchPlan, Short}
+use Rattle.small_plans.specs.declared.PlanAnswer.the-variants.{Length}
 use Rattle.small_plans.specs.Routes.{SmallRoute}
-use Rattle.small_plans.specs.Plans.{SmallPlan, plan, routes, text, smallPlans, planAt}
-use Rattle.small_plans.specs.Check.{routeAt, stopCount}
-use Rattle.small_plans.specs.Asked.{asWritten, planAnswer, bufferThen, PlanGiven, stopText}
+use Rattle.small_plans.specs.Plans.{SmallPlan, planWith, planRoutes, smallPlanText, smallPlans, planAt}
+use Rattle.small_plans.specs.Check.{checkedRouteAt, stopCount}
+use Rattle.small_plans.specs.Asked.{textLength, planRefused, planMeant, asWritten, planAnswer, bufferThen, PlanGiven, stopText}
 use Rattle.small_plans.proofs.Listed.{places, moments, tableRoute, route-is, stops-are, plans-many}
 
 -- ---- a route
@@ -53,7 +53,7 @@ count-few r = by (ltb r 3) (ltb r 27)
 
 -- the lines of its stops, as the tables hold them
 pub route-put : (name : List ℕ) (r c : ℕ) → r < 99 → c ≡ stopCount r → {b b₁ b₂ : List ℕ} {i n₁ n₂ : ℕ} → Put b i name b₁ n₁
-    → Put b₁ n₁ (countLine stopsKey c ++ stopLines (take c (drop (3 * r) places)) (take c (drop (3 * r) moments))) b₂ n₂ → Put b i (name ++ stopText (routeAt r)) b₂ n₂
+    → Put b₁ n₁ (countLine stopsKey c ++ stopLines (take c (drop (3 * r) places)) (take c (drop (3 * r) moments))) b₂ n₂ → Put b i (name ++ stopText (checkedRouteAt r)) b₂ n₂
 unfolding tableRoute
 route-put name r c h e {b} {b₁} {b₂} {i} {n₁} {n₂} p q =
     put-put p (subst (λ (x : SmallRoute). Put b₁ n₁ (stopText x) b₂ n₂) (sym (route-is r h))
@@ -63,11 +63,11 @@ short-lines : allBelow 99 (λ r. leb (length (stopText (tableRoute r))) 60) ≡ 
 unfolding allBelow tableRoute stopCount places moments stopLines digits
 short-lines = refl
 
-pub route-near : (name : List ℕ) (r : ℕ) → length name ≡ 7 → r < 99 → {b b′ : List ℕ} {i next : ℕ} → Put b i (name ++ stopText (routeAt r)) b′ next → next ≤ i + 67
+pub route-near : (name : List ℕ) (r : ℕ) → length name ≡ 7 → r < 99 → {b b′ : List ℕ} {i next : ℕ} → Put b i (name ++ stopText (checkedRouteAt r)) b′ next → next ≤ i + 67
 route-near name r long h p =
-    let e : length (stopText (routeAt r)) ≡ length (stopText (tableRoute r)) = ap (λ (x : SmallRoute). length (stopText x)) (route-is r h) in
+    let e : length (stopText (checkedRouteAt r)) ≡ length (stopText (tableRoute r)) = ap (λ (x : SmallRoute). length (stopText x)) (route-is r h) in
     let s : length (stopText (tableRoute r)) ≤ 60 = leb-true (length (stopText (tableRoute r))) 60 (allBelow-at 99 _ short-lines r h) in
-    omega (arith, p .next-is, length-append name (stopText (routeAt r)), long, e, s)
+    omega (arith, p .next-is, length-append name (stopText (checkedRouteAt r)), long, e, s)
 
 -- ---- the whole text
 
@@ -77,49 +77,49 @@ nameA = 110 ∷ 97 ∷ 109 ∷ 101 ∷ 61 ∷ 97 ∷ 10 ∷ []
 abbrev pub nameB : List ℕ
 nameB = 110 ∷ 97 ∷ 109 ∷ 101 ∷ 61 ∷ 98 ∷ 10 ∷ []
 
-lines-are : (x y : SmallRoute) → (nameA ++ stopText x) ++ (nameB ++ stopText y) ≡ routeLines (routes (plan x y))
+lines-are : (x y : SmallRoute) → (nameA ++ stopText x) ++ (nameB ++ stopText y) ≡ routeLines (planRoutes (planWith x y))
 unfolding routeLines
 lines-are x y = ap (λ (l : List ℕ). (nameA ++ stopText x) ++ l) (sym (append-nil (nameB ++ stopText y)))
 
 pub plan-put : (x y : SmallRoute) {b b₁ b₂ b₃ b₄ b₅ : List ℕ} {n₁ n₂ n₃ n₄ r : ℕ} → Put b 0 firstLine b₁ n₁ → Put b₁ n₁ (countLine agentsKey 2) b₂ n₂
-    → Put b₂ n₂ (nameA ++ stopText x) b₃ n₃ → Put b₃ n₃ (nameB ++ stopText y) b₄ n₄ → Put b₄ n₄ lastLine b₅ r → Put b 0 (text (plan x y)) b₅ r
-unfolding text
+    → Put b₂ n₂ (nameA ++ stopText x) b₃ n₃ → Put b₃ n₃ (nameB ++ stopText y) b₄ n₄ → Put b₄ n₄ lastLine b₅ r → Put b 0 (smallPlanText (planWith x y)) b₅ r
+unfolding smallPlanText
 plan-put x y {b} {b₁} {b₂} {b₃} {b₄} {b₅} {n₁} {n₂} {n₃} {n₄} {r} head agents one two end =
-    let lines : Put b₂ n₂ (routeLines (routes (plan x y))) b₄ n₄ = subst (λ (l : List ℕ). Put b₂ n₂ l b₄ n₄) (lines-are x y) (put-put one two) in
+    let lines : Put b₂ n₂ (routeLines (planRoutes (planWith x y))) b₄ n₄ = subst (λ (l : List ℕ). Put b₂ n₂ l b₄ n₄) (lines-are x y) (put-put one two) in
     put-put (put-put (put-put head agents) lines) end
 
 -- ---- the answer
 
-pub no-such : (k : ℕ) (b : List ℕ) → 378 ≤ k → PlanGiven k b b NoSuchPlan
+pub no-such : (k : ℕ) (b : List ℕ) → 378 ≤ k → PlanGiven k b b (planRefused 15)
 unfolding planAnswer bufferThen
 no-such k b h = let e = le-ltb k 378 h in record { answer-is = rw (plans-many, e) refl; buffer-is = rw (plans-many, e) refl }
 
-given : (k : ℕ) (b after : List ℕ) (w : WriteAnswer) → k < 378 → TextWritten (text (planAt k)) b after w → PlanGiven k b after (asWritten w)
+given : (k : ℕ) (b after : List ℕ) (w : WriteAnswer) → k < 378 → TextWritten (smallPlanText (planAt k)) b after w → PlanGiven k b after (asWritten w)
 unfolding planAnswer bufferThen
 given k b after w h t = let e = lt-ltb k 378 h in record { answer-is = rw (plans-many, e) (ap asWritten (t .answer-is)); buffer-is = rw (plans-many, e) (t .buffer-is) }
 
-plan-text : (p : SmallPlan) (x y : SmallRoute) → p .first ≡ x → p .second ≡ y → text (plan x y) ≡ text p
+plan-text : (p : SmallPlan) (x y : SmallRoute) → p .first ≡ x → p .second ≡ y → smallPlanText (planWith x y) ≡ smallPlanText p
 plan-text p x y a b = rw (← a, ← b) refl
 
-module _ (k f s : ℕ) (h : k < 378) (first : planAt k .first ≡ routeAt f) (second : planAt k .second ≡ routeAt s) {ys : List ℕ} {n : ℕ} (b : List ℕ) (p : Put [] 0 (text (plan (routeAt f) (routeAt s))) ys n) where
-  same : text (plan (routeAt f) (routeAt s)) ≡ text (planAt k)
-  same = plan-text (planAt k) (routeAt f) (routeAt s) first second
+module _ (k f s : ℕ) (h : k < 378) (first : planAt k .first ≡ checkedRouteAt f) (second : planAt k .second ≡ checkedRouteAt s) {ys : List ℕ} {n : ℕ} (b : List ℕ) (p : Put [] 0 (smallPlanText (planWith (checkedRouteAt f) (checkedRouteAt s))) ys n) where
+  same : smallPlanText (planWith (checkedRouteAt f) (checkedRouteAt s)) ≡ smallPlanText (planAt k)
+  same = plan-text (planAt k) (checkedRouteAt f) (checkedRouteAt s) first second
 
-  pub gives-short : length (ys ++ b) < n → PlanGiven k b (ys ++ b) Short
+  pub gives-short : length (ys ++ b) < n → PlanGiven k b (ys ++ b) (planRefused 42)
   gives-short l = given k b (ys ++ b) writer.Short h (subst (λ (t : List ℕ). TextWritten t b (ys ++ b) writer.Short) same (says-short b p l))
 
-  pub gives-length : n ≤ length (ys ++ b) → {after : List ℕ} {r : ℕ} → Put (ys ++ b) 0 (text (plan (routeAt f) (routeAt s))) after r → PlanGiven k b after (Length n)
+  pub gives-length : n ≤ length (ys ++ b) → {after : List ℕ} {r : ℕ} → Put (ys ++ b) 0 (smallPlanText (planWith (checkedRouteAt f) (checkedRouteAt s))) after r → PlanGiven k b after (textLength n)
   gives-length l {after} q = given k b after (writer.Length n) h (subst (λ (t : List ℕ). TextWritten t b after (writer.Length n)) same (says-length b p l q))
 
 -- a length that is answered is that of the buffer's first part, which holds the text
-pub given-fits : (k : ℕ) (b after : List ℕ) (r : PlanAnswer) (n : ℕ) → PlanGiven k b after r → r ≡ Length n → n ≤ length after
+pub given-fits : (k : ℕ) (b after : List ℕ) (r : PlanAnswer) (n : ℕ) → PlanGiven k b after (planMeant r) → r ≡ Length n → n ≤ length after
 unfolding planAnswer bufferThen writeAnswer bufferAfter isShort
-given-fits k b after r n g e = by-test (text (planAt k)) (ltb k (length smallPlans)) (ltb (length b) (length (text (planAt k)))) (sym e ∙ g .answer-is) (g .buffer-is)
+given-fits k b after r n g e = by-test (smallPlanText (planAt k)) (ltb k (length smallPlans)) (ltb (length b) (length (smallPlanText (planAt k)))) (sym (ap planMeant e) ∙ g .answer-is) (g .buffer-is)
   where
-    by-test : (t : List ℕ) (a s : Bool) → Length n ≡ cond a (asWritten (cond s writer.Short (writer.Length (length t)))) NoSuchPlan → after ≡ cond a (cond s b (t ++ drop (length t) b)) b → n ≤ length after
+    by-test : (t : List ℕ) (a s : Bool) → textLength n ≡ cond a (asWritten (cond s writer.Short (writer.Length (length t)))) (planRefused 15) → after ≡ cond a (cond s b (t ++ drop (length t) b)) b → n ≤ length after
     by-test t true true h q = absurd (let z : _≡_ {A = ℕ} 0 1 = cc h in omega arith)
     by-test t true false h q = let m : n ≡ length t = cc h in rw q (omega (arith, m, length-append t (drop (length t) b)))
     by-test t false s h q = absurd (let z : _≡_ {A = ℕ} 0 1 = cc h in omega arith)
 
-pub given-part : (k : ℕ) (b after : List ℕ) (r : PlanAnswer) (n : ℕ) → PlanGiven k b after r → r ≡ Length n → n ≡ length (take n after)
+pub given-part : (k : ℕ) (b after : List ℕ) (r : PlanAnswer) (n : ℕ) → PlanGiven k b after (planMeant r) → r ≡ Length n → n ≡ length (take n after)
 given-part k b after r n g e = sym (length-take-le n after (given-fits k b after r n g e))

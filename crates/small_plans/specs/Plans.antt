@@ -8,7 +8,7 @@ use Rattle.text.specs.Written.{Route, routesText}
 use Rattle.reading.specs.Replies.{isTaken}
 use Rattle.reading.specs.Reading.{readPlan}
 use Rattle.tables.specs.Zero.{filled}
-use Rattle.small_plans.specs.Routes.{map, flatMap, filter, SmallRoute, route, smallRoutes, routeBefore, sameRoute}
+use Rattle.small_plans.specs.Routes.{map, flatMap, filter, SmallRoute, routeWith, smallRoutes, routeBefore, sameRoute}
 
 -- ---- a plan of two drones
 
@@ -17,32 +17,32 @@ pub record SmallPlan : Type 0 where
   pub first : SmallRoute
   pub second : SmallRoute
 
-abbrev pub plan : SmallRoute → SmallRoute → SmallPlan
-plan x y = record { first = x; second = y }
+abbrev pub planWith : SmallRoute → SmallRoute → SmallPlan
+planWith x y = record { first = x; second = y }
 
 -- "two drones named a and b"
-abbrev pub routes : SmallPlan → List Route
-routes p =
+abbrev pub planRoutes : SmallPlan → List Route
+planRoutes p =
     record { name = 97 ∷ []; locations = p .first .locations; times = p .first .times }
     ∷ record { name = 98 ∷ []; locations = p .second .locations; times = p .second .times }
     ∷ []
 
 -- its text
-unfoldable pub text : SmallPlan → List ℕ
-text p = routesText (routes p)
+unfoldable pub smallPlanText : SmallPlan → List ℕ
+smallPlanText p = routesText (planRoutes p)
 
 -- ---- all of them
 
 -- "that the conductor would accept without a site text": reading its text takes it
-unfoldable pub accepted : SmallPlan → Bool
-accepted p = isTaken (readPlan limits (text p) (filled 0 limits) .reply)
+unfoldable pub wouldBeTaken : SmallPlan → Bool
+wouldBeTaken p = isTaken (readPlan limits (smallPlanText p) (filled 0 limits) .reply)
 
 -- "Plans are ordered by the first drone's route, then the second's. Plans are numbered from 0"
 unfoldable pub smallPlans : List SmallPlan
-smallPlans = flatMap smallRoutes (λ x. filter accepted (map (λ y. plan x y) smallRoutes))
+smallPlans = flatMap smallRoutes (λ x. filter wouldBeTaken (map (λ y. planWith x y) smallRoutes))
 
 abbrev pub planAt : ℕ → SmallPlan
-planAt k = getD smallPlans k (plan (route [] []) (route [] []))
+planAt k = getD smallPlans k (planWith (routeWith [] []) (routeWith [] []))
 
 unfoldable pub planBefore : SmallPlan → SmallPlan → Bool
 planBefore p q = routeBefore (p .first) (q .first) || (sameRoute (p .first) (q .first) && routeBefore (p .second) (q .second))

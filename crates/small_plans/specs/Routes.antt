@@ -37,12 +37,12 @@ pub record SmallRoute : Type 0 where
   pub locations : List ℕ
   pub times : List ℕ
 
-abbrev pub route : List ℕ → List ℕ → SmallRoute
-route l t = record { locations = l; times = t }
+abbrev pub routeWith : List ℕ → List ℕ → SmallRoute
+routeWith l t = record { locations = l; times = t }
 
 -- how many stops it has
-abbrev pub stops : SmallRoute → ℕ
-stops x = length (x .locations)
+abbrev pub routeLength : SmallRoute → ℕ
+routeLength x = length (x .locations)
 
 -- every entry is at most this
 abbrev pub AtMost : ℕ → List ℕ → Type 0
@@ -50,9 +50,9 @@ AtMost most l = (i : ℕ) → i < length l → at l i ≤ most
 
 -- "with locations 0 to 2, one to three stops each and times up to 4"
 pub record Within (x : SmallRoute) : Type 0 where
-  pub some : 1 ≤ stops x
-  pub few : stops x ≤ 3
-  pub timed : length (x .times) ≡ stops x
+  pub some : 1 ≤ routeLength x
+  pub few : routeLength x ≤ 3
+  pub timed : length (x .times) ≡ routeLength x
   pub places : AtMost 2 (x .locations)
   pub early : AtMost 4 (x .times)
 
@@ -61,21 +61,21 @@ unfoldable pub smallRoutes : List SmallRoute
 smallRoutes =
     flatMap (1 ∷ 2 ∷ 3 ∷ []) (λ n.
     flatMap (tuples n (0 ∷ 1 ∷ 2 ∷ [])) (λ l.
-    map (λ t. route l t) (tuples n (0 ∷ 1 ∷ 2 ∷ 3 ∷ 4 ∷ []))))
+    map (λ t. routeWith l t) (tuples n (0 ∷ 1 ∷ 2 ∷ 3 ∷ 4 ∷ []))))
 
 -- ---- the order
 
 -- of two lists of one length the first is lower where they first differ
-unfoldable pub lower : List ℕ → List ℕ → Bool
-lower [] m = false
-lower (a ∷ l) [] = false
-lower (a ∷ l) (b ∷ m) = ltb a b || (eqb a b && lower l m)
+unfoldable pub lowerList : List ℕ → List ℕ → Bool
+lowerList [] m = false
+lowerList (a ∷ l) [] = false
+lowerList (a ∷ l) (b ∷ m) = ltb a b || (eqb a b && lowerList l m)
 
 -- "Route lists are ordered by length, then by locations from the first stop on, then by times"
 unfoldable pub routeBefore : SmallRoute → SmallRoute → Bool
 routeBefore x y =
-    ltb (stops x) (stops y)
-    || (eqb (stops x) (stops y) && (lower (x .locations) (y .locations) || (same (x .locations) (y .locations) && lower (x .times) (y .times))))
+    ltb (routeLength x) (routeLength y)
+    || (eqb (routeLength x) (routeLength y) && (lowerList (x .locations) (y .locations) || (same (x .locations) (y .locations) && lowerList (x .times) (y .times))))
 
 unfoldable pub sameRoute : SmallRoute → SmallRoute → Bool
 sameRoute x y = same (x .locations) (y .locations) && same (x .times) (y .times)

@@ -11,9 +11,9 @@ ghost use mathlib.Core.List.{_++_};
 ghost use Prim.Native.Nat.{_+_, _*_, _<_, _^_};
 ghost use lib.ListN.{length};
 ghost use Rattle.lines.specs.Bytes.{Put};
-ghost use Rattle.small_plans.specs.Plans.{plan, text, planAt};
-ghost use Rattle.small_plans.specs.Check.{stopCount, routeAt};
-ghost use Rattle.small_plans.specs.Asked.{stopText, PlanGiven};
+ghost use Rattle.small_plans.specs.Plans.{planWith, smallPlanText, planAt};
+ghost use Rattle.small_plans.specs.Check.{stopCount, checkedRouteAt};
+ghost use Rattle.small_plans.specs.Asked.{stopText, planMeant, PlanGiven};
 
 // The length of the text; or 15, no such plan; or 42, the buffer is shorter than the text.
 pub enum PlanAnswer {
@@ -31,7 +31,7 @@ const SECOND_NAME: [u8; 7] = *b"name=b\n";
 // The route of the first drone of a plan.
 fn first_of(number: usize) -> usize
     requires { ⌜ number < 378 ⌝ }
-    ensures { λ r. ⌜ (r < 99) × (planAt number .first ≡ routeAt r) ⌝ }
+    ensures { λ r. ⌜ (r < 99) × (planAt number .first ≡ checkedRouteAt r) ⌝ }
 {
     wide8(entries::FIRSTS[number])
 }
@@ -39,7 +39,7 @@ fn first_of(number: usize) -> usize
 // The route of the second drone of a plan.
 fn second_of(number: usize) -> usize
     requires { ⌜ number < 378 ⌝ }
-    ensures { λ r. ⌜ (r < 99) × (planAt number .second ≡ routeAt r) ⌝ }
+    ensures { λ r. ⌜ (r < 99) × (planAt number .second ≡ checkedRouteAt r) ⌝ }
 {
     wide8(entries::SECONDS[number])
 }
@@ -60,7 +60,7 @@ fn stop_count(route: usize) -> usize
 // Writes the lines of a drone, whose line `name=TEXT` is given.
 fn put_route(buf: &mut [u8], at: usize, name: &[u8], route: usize) -> usize
     requires { ⌜ (at < 2 ^ 28) × (length (now name) ≡ 7) × (route < 99) ⌝ }
-    ensures { λ r. ⌜ Put (now (buf .entry)) at (now (name .entry) ++ stopText (routeAt route)) (now (buf .exit)) r ⌝ }
+    ensures { λ r. ⌜ Put (now (buf .entry)) at (now (name .entry) ++ stopText (checkedRouteAt route)) (now (buf .exit)) r ⌝ }
 {
     let next = bytes::put_bytes(buf, at, name);
     let count = stop_count(route);
@@ -77,7 +77,7 @@ fn put_route(buf: &mut [u8], at: usize, name: &[u8], route: usize) -> usize
 // Writes the text of the plan of two routes, as far as the buffer reaches, and gives the text's length.
 fn put_plan(buf: &mut [u8], first: usize, second: usize) -> usize
     requires { ⌜ (first < 99) × (second < 99) ⌝ }
-    ensures { λ r. ⌜ Put (now (buf .entry)) 0 (text (plan (routeAt first) (routeAt second))) (now (buf .exit)) r ⌝ }
+    ensures { λ r. ⌜ Put (now (buf .entry)) 0 (smallPlanText (planWith (checkedRouteAt first) (checkedRouteAt second))) (now (buf .exit)) r ⌝ }
 {
     let agents = bytes::put_bytes(buf, 0, &keys::PLAN_LINE);
     let drones = writer::put_count(buf, agents, &keys::AGENTS, 2);
@@ -88,7 +88,7 @@ fn put_plan(buf: &mut [u8], first: usize, second: usize) -> usize
 
 // Writes a small plan, if there is one of this number and the buffer is long enough. The first writing writes nothing and gives the length.
 pub fn small_plan(number: usize, buf: &mut [u8]) -> PlanAnswer
-    ensures { λ r. ⌜ PlanGiven number (now (buf .entry)) (now (buf .exit)) r ⌝ }
+    ensures { λ r. ⌜ PlanGiven number (now (buf .entry)) (now (buf .exit)) (planMeant r) ⌝ }
 {
     if PLANS <= number {
         return PlanAnswer::NoSuchPlan;

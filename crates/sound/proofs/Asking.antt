@@ -21,7 +21,7 @@ use Rattle.plan.specs.Visits.{Visits}
 use Rattle.plan.specs.Check.{faultAt}
 use Rattle.plan.proofs.Unread.{by}
 use Rattle.sound.specs.Sound.{zeroFrom, nameLength, nameSound, sameName, namesDiffer}
-use Rattle.sound.specs.Parts.{countsSound, nameKey, stopSound, stopIn, flagRight, fixedAt, recordRight, droneSound, enteredBy, waitKept, keptAt}
+use Rattle.sound.specs.Parts.{countsSound, nameSum, stopSound, stopIn, flagRight, fixedAt, recordRight, droneSound, enteredBy, waitKept, keptAt}
 
 -- ---- counts
 
@@ -68,13 +68,13 @@ module _ (L : Limits) (names : List ℕ) (d row : ℕ) (e : row ≡ d * L .name)
   unfolding sameName
   same-is c other q = rw (e, q) refl
 
-  pub key-is : sumBelow (L .name) (λ i. at names (row + i)) ≡ nameKey L names d
-  unfolding nameKey
+  pub key-is : sumBelow (L .name) (λ i. at names (row + i)) ≡ nameSum L names d
+  unfolding nameSum
   key-is = rw e refl
 
 -- equal names have equal sums
-pub keys-differ : (L : Limits) (names : List ℕ) (d e x y : ℕ) → x ≡ nameKey L names d → y ≡ nameKey L names e → x ≢ y → false ≡ sameName L names d e
-unfolding nameKey sameName
+pub keys-differ : (L : Limits) (names : List ℕ) (d e x y : ℕ) → x ≡ nameSum L names d → y ≡ nameSum L names e → x ≢ y → false ≡ sameName L names d e
+unfolding nameSum sameName
 keys-differ L names d e x y p q ne = by-cases (sameName L names d e)
     (λ h. absurd (ne (p ∙ sum-ext (L .name) _ _ (λ i l. eqb-true _ _ (allBelow-at (L .name) _ h i l)) ∙ sym q)))
     (λ h. sym h)

@@ -17,7 +17,7 @@ use Rattle.tables.specs.Limits.{Limits}
 use Rattle.tables.specs.Flags.{turnedBit}
 use Rattle.precedence.specs.Graph.{Plan, Wait, cyclic}
 use Rattle.precedence.proofs.Agreement.{awaited-in, cyclic-agree}
-use Rattle.plan.specs.Stops.{start, owner, number}
+use Rattle.plan.specs.Stops.{start, owner, stopNumber}
 use Rattle.plan.specs.Visits.{Visits, visitsOf}
 use Rattle.plan.specs.Check.{faultAt}
 use Rattle.plan.specs.Dependencies.{right}
@@ -28,7 +28,7 @@ use Rattle.plan.proofs.Conditions.{Passes, fault-says}
 use Rattle.meetings.specs.Meetings.{Steady}
 use Rattle.meetings.proofs.Right.{Entry, right-entry}
 use Rattle.cycles.specs.Flat.{flatPlan, Shape}
-use Rattle.cycles.specs.Waits.{fromOf, intoOf, turnedIn, Edges, Unfixed, Given, graphSound}
+use Rattle.cycles.specs.Waits.{fromOf, intoOf, turnedIn, Edges, UnfixedTurns, Given, graphSound}
 use Rattle.cycles.proofs.Placed.{formed}
 use Rattle.cycles.proofs.Directed.{right-placed}
 use Rattle.sound.specs.Parts.{stopSound, stopIn, flagRight, fixedAt, turnsIn, fieldOf, visitsBy, graphPart}
@@ -42,7 +42,7 @@ filled-at n f l l₀ e r v h = rw e (getD-fill f l₀ n v h r)
 
 -- .. the four local tables
 pub numbers-filled : {L : Limits} (drones n m : ℕ) (counts owners₀ numbers₀ starts₀ lasts₀ owners numbers starts lasts : List ℕ) → Counted L drones n m counts → Scratch L owners₀ numbers₀ starts₀ lasts₀
-    → owners ≡ fillBelow n (owner drones counts) owners₀ → numbers ≡ fillBelow n (number drones counts) numbers₀ → starts ≡ fillBelow drones (start counts) starts₀ → lasts ≡ fillBelow drones (λ d. at counts d - 1) lasts₀
+    → owners ≡ fillBelow n (owner drones counts) owners₀ → numbers ≡ fillBelow n (stopNumber drones counts) numbers₀ → starts ≡ fillBelow drones (start counts) starts₀ → lasts ≡ fillBelow drones (λ d. at counts d - 1) lasts₀
     → Numbers L drones n counts owners numbers starts lasts
 numbers-filled drones n m counts owners₀ numbers₀ starts₀ lasts₀ owners numbers starts lasts C S a b c d = record {
   owners-size = fill-length _ _ _ _ a ∙ S .owners-room;
@@ -76,7 +76,7 @@ module _ {L : Limits} (drones n m : ℕ) (counts locations times firstDrones fir
   own = owner drones counts
 
   abbrev num : ℕ → ℕ
-  num = number drones counts
+  num = stopNumber drones counts
 
   abbrev last : ℕ → ℕ
   last d = at counts d - 1
@@ -187,7 +187,7 @@ module _ {L : Limits} (drones n m : ℕ) (counts locations times firstDrones fir
           let q : at starts (at owners v) ≡ start counts (own v) = rw (T .owners-are v l, T .starts-are (own v) (N .own-in v l)) refl in
           passes v l .starts (omega (arith, N .number-is v l))
 
-      local-unfixed : Unfixed (at owners) (at starts) n m (at firsts) (at seconds) (turnedIn flags)
+      local-unfixed : UnfixedTurns (at owners) (at starts) n m (at firsts) (at seconds) (turnedIn flags)
       local-unfixed k l t =
           let (a, b) = unfixed k l t in
           let q : at starts (at owners (at firsts k)) ≡ start counts (at firstDrones k) = spot-start (at firstDrones k) (at firstStops k) (at firsts k) (first-drone k l) (first-stop k l) (first-is k l) in

@@ -19,10 +19,10 @@ use Rattle.plan.specs.Check.{faultAt, firstFault, apart}
 use Rattle.plan.specs.Dependencies.{follows, dependencyTotal, exact, right}
 use Rattle.plan.specs.Field.{planOf, graph, fixed}
 use Rattle.plan.specs.Status.{statusIn, fixedUnturned, withinStops, waitsKept}
-use Rattle.plan.specs.Claims.{Numbered, numberIn, ownerIn, visitsIn}
+use Rattle.plan.specs.Claims.{Numbered, numberIn, ownerIn, visitsIn, plannedList}
 use Rattle.plan.proofs.Numbering.{numbered}
 use Rattle.plan.proofs.Conditions.{fault-says, says-fault, firstFault-says, says-firstFault}
-use Rattle.sound.specs.Sound.{zeroFrom, nameSound, namesDiffer, inRange, namesSound, checked, planAccepted, planned, dependenciesSound, planUnused, flagsSound, droneFlagsSound, progressUnused, sound}
+use Rattle.sound.specs.Sound.{zeroFrom, nameSound, namesDiffer, inRange, namesSound, passesCheck, planAccepted, dependenciesSound, planUnused, flagsSound, droneFlagsSound, progressUnused, sound}
 use Rattle.sound.specs.Parts.{countsSound, stopSound, stopIn, flagRight, droneSound, enteredBy, waitKept, keptAt, visitsBy, graphPart}
 use Rattle.sound.specs.Asked.{Counted}
 use Rattle.sound.proofs.Asking.{stop-drone}
@@ -134,8 +134,8 @@ module _ (L : Limits) (t : Tables) where
     pub first-stop : (k : ℕ) → k < M → fs k < at counts (fd k)
     pub second-drone : (k : ℕ) → k < M → sd k < D
     pub second-stop : (k : ℕ) → k < M → ss k < at counts (sd k)
-    pub first-listed : (k : ℕ) → k < M → start counts (fd k) + fs k ≡ getD (planned L p (λ v w. v)) k 0
-    pub second-listed : (k : ℕ) → k < M → start counts (sd k) + ss k ≡ getD (planned L p (λ v w. w)) k 0
+    pub first-listed : (k : ℕ) → k < M → start counts (fd k) + fs k ≡ getD (plannedList p (λ v w. v)) k 0
+    pub second-listed : (k : ℕ) → k < M → start counts (sd k) + ss k ≡ getD (plannedList p (λ v w. w)) k 0
     pub flags-right : (k : ℕ) → k < M → eqb (at (t .flags) k / 2) (pick (fixed (planOf p) k) 1 0) ≡ true
     pub unturned : (k : ℕ) → k < M → not (turnedBit (at (t .flags) k) && fixed (planOf p) k) ≡ true
     pub no-cycle : cyclic (graph (planOf p) (statusIn t)) ≡ false
@@ -164,7 +164,7 @@ module _ (L : Limits) (t : Tables) where
       let one : (k : ℕ) → k < M → stopIn D counts fd fs k ≡ true = λ k l. allBelow-at M (stopIn D counts fd fs) (and-left _ _ a) k l in
       let two : (k : ℕ) → k < M → stopIn D counts sd ss k ≡ true = λ k l. allBelow-at M (stopIn D counts sd ss) (and-left _ _ b) k l in
       let bits : (k : ℕ) → k < M → flagRight (fixed (planOf p) k) (at (t .flags) k) ≡ true = λ k l. allBelow-at M (λ k. flagRight (fixed (planOf p) k) (at (t .flags) k)) (and-left _ _ c) k l in
-      let pair : (k : ℕ) → k < M → (eqb (start counts (fd k) + fs k) (getD (planned L p (λ v w. v)) k 0) && eqb (start counts (sd k) + ss k) (getD (planned L p (λ v w. w)) k 0)) ≡ true = λ k l. allBelow-at M (λ k. eqb (start counts (fd k) + fs k) (getD (planned L p (λ v w. v)) k 0) && eqb (start counts (sd k) + ss k) (getD (planned L p (λ v w. w)) k 0)) (and-right (eqb M (dependencyTotal (visitsIn p))) _ x) k l in
+      let pair : (k : ℕ) → k < M → (eqb (start counts (fd k) + fs k) (getD (plannedList p (λ v w. v)) k 0) && eqb (start counts (sd k) + ss k) (getD (plannedList p (λ v w. w)) k 0)) ≡ true = λ k l. allBelow-at M (λ k. eqb (start counts (fd k) + fs k) (getD (plannedList p (λ v w. v)) k 0) && eqb (start counts (sd k) + ss k) (getD (plannedList p (λ v w. w)) k 0)) (and-right (eqb M (dependencyTotal (visitsIn p))) _ x) k l in
       record {
         in-place = λ v l. leb-true _ _ (and-left _ _ (stop v l));
         in-time = λ v l. leb-true _ _ (and-left _ _ (timed v l));
@@ -176,7 +176,7 @@ module _ (L : Limits) (t : Tables) where
         second-drone = λ k l. ltb-true _ _ (and-left _ _ (two k l));
         second-stop = λ k l. ltb-true _ _ (and-right (ltb (sd k) D) _ (two k l));
         first-listed = λ k l. eqb-true _ _ (and-left _ _ (pair k l));
-        second-listed = λ k l. eqb-true _ _ (and-right (eqb (start counts (fd k) + fs k) (getD (planned L p (λ v w. v)) k 0)) _ (pair k l));
+        second-listed = λ k l. eqb-true _ _ (and-right (eqb (start counts (fd k) + fs k) (getD (plannedList p (λ v w. v)) k 0)) _ (pair k l));
         flags-right = λ k l. and-left _ _ (bits k l);
         unturned = λ k l. and-right (eqb (at (t .flags) k / 2) (pick (fixed (planOf p) k) 1 0)) _ (bits k l);
         no-cycle = not-true _ (and-right (right (visitsIn p) M (λ k. start counts (fd k) + fs k) (λ k. start counts (sd k) + ss k)) _ d);
@@ -222,14 +222,14 @@ module _ (L : Limits) (t : Tables) where
     unfolding planAccepted
     ranges = and-left _ _ (S .accepted)
 
-    rest : (namesSound L p && (checked L p && leb (dependencyTotal (visitsIn p)) (L .dependencies))) ≡ true
+    rest : (namesSound L p && (passesCheck L p && leb (dependencyTotal (visitsIn p)) (L .dependencies))) ≡ true
     unfolding planAccepted
     rest = and-right (inRange L p) _ (S .accepted)
 
     no-faults : (firstFault (visitsIn p) ≡ n) × (apart (visitsIn p) ≡ true)
-    unfolding checked
+    unfolding passesCheck
     no-faults =
-        let c = and-left (checked L p) _ (and-right (namesSound L p) _ rest) in
+        let c = and-left (passesCheck L p) _ (and-right (namesSound L p) _ rest) in
         (eqb-true _ _ (and-left _ _ c), and-right (eqb (firstFault (visitsIn p)) n) _ c)
 
     own-total : M ≡ dependencyTotal (visitsIn p)
@@ -237,7 +237,7 @@ module _ (L : Limits) (t : Tables) where
     own-total = eqb-true _ _ (and-left _ _ (S .dependencies-own))
 
     room : dependencyTotal (visitsIn p) ≤ L .dependencies
-    room = leb-true _ _ (and-right (checked L p) _ (and-right (namesSound L p) _ rest))
+    room = leb-true _ _ (and-right (passesCheck L p) _ (and-right (namesSound L p) _ rest))
 
     sound-counts : CountsSay L D counts M
     unfolding inRange
@@ -259,11 +259,11 @@ module _ (L : Limits) (t : Tables) where
     names-pair : (k : ℕ) (l : k < M) → NamesPair (ownerIn p) (numberIn p) (start counts) (λ d. at counts d - 1) D n N (follows (visitsIn p)) M own-total k l (fd k) (fs k) (sd k) (ss k)
     unfolding dependenciesSound
     names-pair k l =
-        let h = allBelow-at M (λ k. eqb (fd k) (getD (planned L p (λ v w. ownerIn p v)) k 0) && (eqb (fs k) (getD (planned L p (λ v w. numberIn p v)) k 0) && (eqb (sd k) (getD (planned L p (λ v w. ownerIn p w)) k 0) && eqb (ss k) (getD (planned L p (λ v w. numberIn p w)) k 0)))) (and-right (eqb M (dependencyTotal (visitsIn p))) _ (S .dependencies-own)) k l in
-        let h₁ = and-right (eqb (fd k) (getD (planned L p (λ v w. ownerIn p v)) k 0)) _ h in
-        let h₂ = and-right (eqb (fs k) (getD (planned L p (λ v w. numberIn p v)) k 0)) _ h₁ in
+        let h = allBelow-at M (λ k. eqb (fd k) (getD (plannedList p (λ v w. ownerIn p v)) k 0) && (eqb (fs k) (getD (plannedList p (λ v w. numberIn p v)) k 0) && (eqb (sd k) (getD (plannedList p (λ v w. ownerIn p w)) k 0) && eqb (ss k) (getD (plannedList p (λ v w. numberIn p w)) k 0)))) (and-right (eqb M (dependencyTotal (visitsIn p))) _ (S .dependencies-own)) k l in
+        let h₁ = and-right (eqb (fd k) (getD (plannedList p (λ v w. ownerIn p v)) k 0)) _ h in
+        let h₂ = and-right (eqb (fs k) (getD (plannedList p (λ v w. numberIn p v)) k 0)) _ h₁ in
         columns-name (ownerIn p) (numberIn p) (start counts) (λ d. at counts d - 1) D n N (follows (visitsIn p)) M own-total k l (fd k) (fs k) (sd k) (ss k)
-        (eqb-true _ _ (and-left _ _ h)) (eqb-true _ _ (and-left _ _ h₁)) (eqb-true _ _ (and-left _ _ h₂)) (eqb-true _ _ (and-right (eqb (sd k) (getD (planned L p (λ v w. ownerIn p w)) k 0)) _ h₂))
+        (eqb-true _ _ (and-left _ _ h)) (eqb-true _ _ (and-left _ _ h₁)) (eqb-true _ _ (and-left _ _ h₂)) (eqb-true _ _ (and-right (eqb (sd k) (getD (plannedList p (λ v w. ownerIn p w)) k 0)) _ h₂))
 
     in-ranges : (v : ℕ) → v < n → (leb (loc v) (L .location) && leb (time v) (L .time)) ≡ true
     unfolding inRange
@@ -311,7 +311,7 @@ module _ (L : Limits) (t : Tables) where
     K = numbered D counts (C .have-stops)
 
     parts-accepted : planAccepted L p ≡ true
-    unfolding planAccepted inRange checked
+    unfolding planAccepted inRange passesCheck
     parts-accepted =
         and-both _ _
         (and-both _ _ (and-both _ _ (le-leb 1 D (C .some-drone)) (le-leb D (L .drones) (C .few-drones)))

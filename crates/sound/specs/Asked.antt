@@ -7,10 +7,10 @@ use Rattle.below.specs.Below.{at}
 use Rattle.tables.specs.Limits.{Limits}
 use Rattle.tables.specs.Tables.{Tables}
 use Rattle.precedence.specs.Graph.{Plan}
-use Rattle.plan.specs.Stops.{start, owner, number}
+use Rattle.plan.specs.Stops.{start, owner, stopNumber}
 use Rattle.plan.specs.Field.{planOf, graph}
 use Rattle.plan.specs.Status.{statusIn}
-use Rattle.sound.specs.Parts.{nameKey}
+use Rattle.sound.specs.Parts.{nameSum}
 
 -- counts that are in their ranges, and n stops in all
 pub record Counted (L : Limits) (drones n m : ℕ) (counts : List ℕ) : Type 0 where
@@ -35,7 +35,7 @@ pub record Numbers (L : Limits) (drones n : ℕ) (counts owners numbers starts l
   pub owners-size : length owners ≡ L .stops
   pub numbers-size : length numbers ≡ L .stops
   pub owners-are : (v : ℕ) → v < n → at owners v ≡ owner drones counts v
-  pub numbers-are : (v : ℕ) → v < n → at numbers v ≡ number drones counts v
+  pub numbers-are : (v : ℕ) → v < n → at numbers v ≡ stopNumber drones counts v
   pub starts-are : (d : ℕ) → d < drones → at starts d ≡ start counts d
   pub lasts-are : (d : ℕ) → d < drones → at lasts d ≡ at counts d - 1
 
@@ -52,8 +52,8 @@ pub record GraphTables (L : Limits) (counts : List ℕ) (G : Plan) (owners start
   pub into-are : (k : ℕ) → k < G .count → at into k ≡ start counts (G .wait k .waiter) + G .wait k .stop
 
 -- .. the graph of lent tables with the order now in force
-abbrev pub InForce : (L : Limits) (t : Tables) (owners starts lasts from into : List ℕ) → Type 0
-InForce L t = GraphTables L (t .plan .stopCounts) (graph (planOf (t .plan)) (statusIn t))
+abbrev pub WaitsInForce : (L : Limits) (t : Tables) (owners starts lasts from into : List ℕ) → Type 0
+WaitsInForce L t = GraphTables L (t .plan .stopCounts) (graph (planOf (t .plan)) (statusIn t))
 
 -- room for that
 pub record Room (L : Limits) (owners starts lasts from into : List ℕ) : Type 0 where
@@ -77,4 +77,4 @@ pub record Through (L : Limits) (starts of stops : List ℕ) (m : ℕ) (flat : L
 
 -- keys holds the sums of the first n names' bytes
 abbrev pub Keyed : (L : Limits) (names keys : List ℕ) → ℕ → Type 0
-Keyed L names keys n = (d : ℕ) → d < n → at keys d ≡ nameKey L names d
+Keyed L names keys n = (d : ℕ) → d < n → at keys d ≡ nameSum L names d

@@ -8,8 +8,8 @@ use Rattle.below.specs.Below.{allBelow, sumBelow, at, pick}
 use Rattle.tables.specs.Limits.{Limits}
 use Rattle.tables.specs.Flags.{turnedBit, underWayBit, onlyOneBit}
 use Rattle.precedence.specs.Graph.{cyclic}
-use Rattle.plan.specs.Stops.{start, owner, number}
-use Rattle.plan.specs.Visits.{Visits, visits}
+use Rattle.plan.specs.Stops.{start, owner, stopNumber}
+use Rattle.plan.specs.Visits.{Visits, visitsWith}
 use Rattle.plan.specs.Check.{faultAt}
 use Rattle.plan.specs.Dependencies.{right}
 use Rattle.plan.specs.Field.{FieldPlan, Status, planOf, graph, fixed}
@@ -23,9 +23,9 @@ countsSound L drones counts m =
     && (allBelow drones (λ d. leb 1 (at counts d))
     && leb (start counts drones) (L .stops))))
 
--- the sum of the bytes of a drone's row of the table of names: equal names have equal ones
-unfoldable pub nameKey : (L : Limits) (names : List ℕ) → ℕ → ℕ
-nameKey L names d = sumBelow (L .name) (λ i. at names (d * L .name + i))
+-- the sum of the bytes of a drone's row of the table of names, which the code has as the name's key: equal names have equal ones
+unfoldable pub nameSum : (L : Limits) (names : List ℕ) → ℕ → ℕ
+nameSum L names d = sumBelow (L .name) (λ i. at names (d * L .name + i))
 
 -- stop v's location and time are in their ranges, and the plan check finds nothing at it
 unfoldable pub stopSound : (L : Limits) (S : Visits) → ℕ → Bool
@@ -91,7 +91,7 @@ module _ (drones n m : ℕ) (counts locations times firstDrones firstStops secon
 
   -- the plan's visits
   abbrev pub visitsBy : Visits
-  visitsBy = visits (owner drones counts) (number drones counts) (at locations) (at times) n
+  visitsBy = visitsWith (owner drones counts) (stopNumber drones counts) (at locations) (at times) n
 
   -- every stop is sound, every record names two stops, every flag byte is right, nothing collides, the records are the plan's dependencies, and the graph now in
   -- force has no cycle

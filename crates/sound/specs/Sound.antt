@@ -11,8 +11,7 @@ use Rattle.tables.specs.Flags.{onlyOneBit}
 use Rattle.lines.specs.Names.{isNameByte}
 use Rattle.precedence.specs.Graph.{cyclic}
 use Rattle.plan.specs.Check.{firstFault, apart}
-use Rattle.plan.specs.Dependencies.{dependencyTotal, column}
-use Rattle.plan.specs.Claims.{stopTotal, ownerIn, numberIn, visitsIn}
+use Rattle.plan.specs.Claims.{stopTotal, ownerIn, numberIn, visitsIn, plannedTotal, plannedList}
 use Rattle.plan.specs.Field.{planOf, graph, fixed}
 use Rattle.plan.specs.Status.{statusIn, fixedUnturned, withinStops, waitsKept}
 
@@ -59,26 +58,22 @@ module _ (L : Limits) (p : PlanLists) where
   namesSound = allBelow (drones p) (nameSound L (p .names)) && namesDiffer L (p .names) (drones p)
 
   -- the plan check finds nothing
-  unfoldable pub checked : Bool
-  checked = eqb (firstFault (visitsIn p)) (stopTotal p) && apart (visitsIn p)
+  unfoldable pub passesCheck : Bool
+  passesCheck = eqb (firstFault (visitsIn p)) (stopTotal p) && apart (visitsIn p)
 
   -- "the plan in them would be accepted"
   unfoldable pub planAccepted : Bool
-  planAccepted = inRange && (namesSound && (checked && leb (dependencyTotal (visitsIn p)) (L .dependencies)))
-
-  -- f of each dependency of the plan, in order
-  abbrev pub planned : (ℕ → ℕ → ℕ) → List ℕ
-  planned f = column (visitsIn p) f
+  planAccepted = inRange && (namesSound && (passesCheck && leb (plannedTotal p) (L .dependencies)))
 
   -- "the dependencies are exactly its own, in order"
   unfoldable pub dependenciesSound : Bool
   dependenciesSound =
-      eqb (dependencies p) (dependencyTotal (visitsIn p))
+      eqb (dependencies p) (plannedTotal p)
       && allBelow (dependencies p) (λ k.
-      eqb (at (p .firstDrones) k) (getD (planned (λ v w. ownerIn p v)) k 0)
-      && (eqb (at (p .firstStops) k) (getD (planned (λ v w. numberIn p v)) k 0)
-      && (eqb (at (p .secondDrones) k) (getD (planned (λ v w. ownerIn p w)) k 0)
-      && eqb (at (p .secondStops) k) (getD (planned (λ v w. numberIn p w)) k 0))))
+      eqb (at (p .firstDrones) k) (getD (plannedList p (λ v w. ownerIn p v)) k 0)
+      && (eqb (at (p .firstStops) k) (getD (plannedList p (λ v w. numberIn p v)) k 0)
+      && (eqb (at (p .secondDrones) k) (getD (plannedList p (λ v w. ownerIn p w)) k 0)
+      && eqb (at (p .secondStops) k) (getD (plannedList p (λ v w. numberIn p w)) k 0))))
 
   -- "unused entries are zero", of the tables that no call writes
   unfoldable pub planUnused : Bool

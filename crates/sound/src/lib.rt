@@ -17,7 +17,7 @@ ghost use mathlib.Core.Path.{_≡_};
 ghost use Rattle.tables.specs.Limits.{limits};
 ghost use Rattle.tables.specs.Tables.{tablesOf, fullSize};
 ghost use Rattle.sound.specs.Sound.{sound};
-ghost use Rattle.sound.specs.Asked.{InForce, Room};
+ghost use Rattle.sound.specs.Asked.{WaitsInForce, Room};
 
 // Whether tables of full size are sound. If so, it leaves the graph now in force in the last five tables.
 pub fn check(
@@ -55,7 +55,7 @@ pub fn check(
         (now (locations .entry)) (now (times .entry)) (now (visited .entry)) (now («drone_flags» .entry))
         (now («first_drones» .entry)) (now («first_stops» .entry)) (now («second_drones» .entry)) (now («second_stops» .entry))
         (now (flags .entry))))
-        × (r ≡ true → InForce limits (tablesOf
+        × (r ≡ true → WaitsInForce limits (tablesOf
         (now («drone_count» .entry)) (now («dependency_count» .entry)) (now (names .entry)) (now («stop_counts» .entry))
         (now (locations .entry)) (now (times .entry)) (now (visited .entry)) (now («drone_flags» .entry))
         (now («first_drones» .entry)) (now («first_stops» .entry)) (now («second_drones» .entry)) (now («second_stops» .entry))

@@ -9,7 +9,7 @@ ghost use Rattle.below.specs.Below.{allBelow};
 ghost use Rattle.tables.specs.Limits.{limits};
 ghost use Rattle.lines.specs.Names.{isNameByte};
 ghost use Rattle.sound.specs.Sound.{nameLength, nameSound, sameName, namesDiffer};
-ghost use Rattle.sound.specs.Parts.{nameKey};
+ghost use Rattle.sound.specs.Parts.{nameSum};
 ghost use Rattle.sound.specs.Asked.{Keyed};
 
 // How many bytes of drone d's row stand before the first zero.
@@ -83,7 +83,7 @@ fn byte_value(byte: u8) -> u16
 // The sum of the bytes of drone d's row.
 fn name_key(names: &[u8], d: usize) -> u16
     requires { ⌜ (limits .drones * limits .name ≤ length (now names)) × (d < limits .drones) ⌝ }
-    ensures { λ r. ⌜ r ≡ nameKey limits (now (names .entry)) d ⌝ }
+    ensures { λ r. ⌜ r ≡ nameSum limits (now (names .entry)) d ⌝ }
 {
     let row = d * Drone::NAME;
     let mut key: u16 = 0;

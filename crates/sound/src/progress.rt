@@ -5,7 +5,7 @@ ghost use Prim.Native.Nat.{ℕ, _-_, _≤_, _<_};
 ghost use lib.ListN.{length};
 ghost use Rattle.below.specs.Below.{at, allBelow};
 ghost use Rattle.tables.specs.Limits.{limits};
-ghost use Rattle.sound.specs.Parts.{droneSound, enteredBy, waitKept, keptAt};
+ghost use Rattle.sound.specs.Parts.{droneSound, waitKept, keptAt};
 
 // A drone with M stops is not past nor under way beyond its last one.
 fn drone_sound(stops: u16, place: u16, flag: u8) -> bool

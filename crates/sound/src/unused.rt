@@ -10,46 +10,46 @@ ghost use Rattle.below.specs.Below.{pick};
 ghost use Rattle.tables.specs.Limits.{limits};
 ghost use Rattle.sound.specs.Sound.{zeroFrom};
 
-fn one(b: bool) -> u16
+fn counted(b: bool) -> u16
     ensures { λ r. ⌜ (r ≡ pick b 1 0) × (r ≤ 1) ⌝ }
 {
     if b { 1 } else { 0 }
 }
 
-fn zero_u8(used: usize, full: usize, table: &[u8]) -> bool
+fn is_zero_u8(used: usize, full: usize, table: &[u8]) -> bool
     requires { ⌜ (full ≤ length (now table)) × (full ≤ 65535) ⌝ }
     ensures { λ r. ⌜ r ≡ zeroFrom used full (now (table .entry)) ⌝ }
 {
     let mut total: u16 = 0;
     let mut i = used;
     while i < full {
-        total += one(table[i] != 0);
+        total += counted(table[i] != 0);
         i += 1;
     }
     total == 0
 }
 
-fn zero_u16(used: usize, full: usize, table: &[u16]) -> bool
+fn is_zero_u16(used: usize, full: usize, table: &[u16]) -> bool
     requires { ⌜ (full ≤ length (now table)) × (full ≤ 65535) ⌝ }
     ensures { λ r. ⌜ r ≡ zeroFrom used full (now (table .entry)) ⌝ }
 {
     let mut total: u16 = 0;
     let mut i = used;
     while i < full {
-        total += one(table[i] != 0);
+        total += counted(table[i] != 0);
         i += 1;
     }
     total == 0
 }
 
-fn zero_u32(used: usize, full: usize, table: &[u32]) -> bool
+fn is_zero_u32(used: usize, full: usize, table: &[u32]) -> bool
     requires { ⌜ (full ≤ length (now table)) × (full ≤ 65535) ⌝ }
     ensures { λ r. ⌜ r ≡ zeroFrom used full (now (table .entry)) ⌝ }
 {
     let mut total: u16 = 0;
     let mut i = used;
     while i < full {
-        total += one(table[i] != 0);
+        total += counted(table[i] != 0);
         i += 1;
     }
     total == 0
@@ -65,13 +65,13 @@ fn stops_unused(
     requires { ⌜ (limits .drones ≤ length (now «stop_counts»)) × (limits .stops ≤ length (now locations)) × (limits .stops ≤ length (now times)) ⌝ }
     ensures { λ r. ⌜ r ≡ zeroFrom drones (limits .drones) (now («stop_counts» .entry)) && (zeroFrom n (limits .stops) (now (locations .entry)) && zeroFrom n (limits .stops) (now (times .entry))) ⌝ }
 {
-    if !zero_u16(drones, Drone::FULL, stop_counts) {
+    if !is_zero_u16(drones, Drone::FULL, stop_counts) {
         return false;
     }
-    if !zero_u16(n, Stop::FULL, locations) {
+    if !is_zero_u16(n, Stop::FULL, locations) {
         return false;
     }
-    zero_u32(n, Stop::FULL, times)
+    is_zero_u32(n, Stop::FULL, times)
 }
 
 fn records_unused(
@@ -84,16 +84,16 @@ fn records_unused(
     requires { ⌜ (limits .dependencies ≤ length (now «first_drones»)) × (limits .dependencies ≤ length (now «first_stops»)) × (limits .dependencies ≤ length (now «second_drones»)) × (limits .dependencies ≤ length (now «second_stops»)) ⌝ }
     ensures { λ r. ⌜ r ≡ zeroFrom m (limits .dependencies) (now («first_drones» .entry)) && (zeroFrom m (limits .dependencies) (now («first_stops» .entry)) && (zeroFrom m (limits .dependencies) (now («second_drones» .entry)) && zeroFrom m (limits .dependencies) (now («second_stops» .entry)))) ⌝ }
 {
-    if !zero_u8(m, Dependency::FULL, first_drones) {
+    if !is_zero_u8(m, Dependency::FULL, first_drones) {
         return false;
     }
-    if !zero_u16(m, Dependency::FULL, first_stops) {
+    if !is_zero_u16(m, Dependency::FULL, first_stops) {
         return false;
     }
-    if !zero_u8(m, Dependency::FULL, second_drones) {
+    if !is_zero_u8(m, Dependency::FULL, second_drones) {
         return false;
     }
-    zero_u16(m, Dependency::FULL, second_stops)
+    is_zero_u16(m, Dependency::FULL, second_stops)
 }
 
 // Of the tables that no call writes.
@@ -115,7 +115,7 @@ pub fn plan_unused(
     requires { ⌜ (limits .dependencies ≤ length (now «first_drones»)) × (limits .dependencies ≤ length (now «first_stops»)) × (limits .dependencies ≤ length (now «second_drones»)) × (limits .dependencies ≤ length (now «second_stops»)) ⌝ }
     ensures { λ r. ⌜ r ≡ zeroFrom (drones * limits .name) (limits .drones * limits .name) (now (names .entry)) && ((zeroFrom drones (limits .drones) (now («stop_counts» .entry)) && (zeroFrom n (limits .stops) (now (locations .entry)) && zeroFrom n (limits .stops) (now (times .entry)))) && (zeroFrom m (limits .dependencies) (now («first_drones» .entry)) && (zeroFrom m (limits .dependencies) (now («first_stops» .entry)) && (zeroFrom m (limits .dependencies) (now («second_drones» .entry)) && zeroFrom m (limits .dependencies) (now («second_stops» .entry)))))) ⌝ }
 {
-    if !zero_u8(drones * Drone::NAME, Drone::NAMES, names) {
+    if !is_zero_u8(drones * Drone::NAME, Drone::NAMES, names) {
         return false;
     }
     if !stops_unused(drones, n, stop_counts, locations, times) {
@@ -135,11 +135,11 @@ pub fn progress_unused(
     requires { ⌜ (limits .drones ≤ length (now visited)) × (limits .drones ≤ length (now «drone_flags»)) × (limits .dependencies ≤ length (now flags)) ⌝ }
     ensures { λ r. ⌜ r ≡ zeroFrom drones (limits .drones) (now (visited .entry)) && (zeroFrom drones (limits .drones) (now («drone_flags» .entry)) && zeroFrom m (limits .dependencies) (now (flags .entry))) ⌝ }
 {
-    if !zero_u16(drones, Drone::FULL, visited) {
+    if !is_zero_u16(drones, Drone::FULL, visited) {
         return false;
     }
-    if !zero_u8(drones, Drone::FULL, drone_flags) {
+    if !is_zero_u8(drones, Drone::FULL, drone_flags) {
         return false;
     }
-    zero_u8(m, Dependency::FULL, flags)
+    is_zero_u8(m, Dependency::FULL, flags)
 }

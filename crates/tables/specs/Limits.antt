@@ -20,3 +20,7 @@ pub record Limits : Type 0 where
 -- the product's limits
 abbrev pub limits : Limits
 limits = record { text = 32768; drones = 32; stops = 1024; dependencies = 2048; name = 24; location = 65535; time = 1000000 }
+
+-- the greatest remaining cost within them: "at most 31,744"
+abbrev pub mostCost : ℕ
+mostCost = 31744

@@ -9,6 +9,8 @@ pub mod TextCases
 pub mod TakenIsWritten
 pub mod WrittenIsRead
 pub mod SmallTexts
+pub mod Offsets
+pub mod CutTexts
 pub mod RoundTrips
 pub mod WithoutCapitals
 pub mod Flights

@@ -1,19 +1,22 @@
--- Where lines begin, and the keys there: a text and the same with its names in small letters have the same keys at the start of each line.
-use Prim.Native.Nat.{ℕ, _+_, _≤_, _<_}
+-- Where lines begin: after a line feed, and never inside a line. A text and the same with its names in small letters have the same keys at the start of each line.
+use Prim.Native.Nat.{ℕ, zero, suc, _+_, _-_, _/_, _%_, _≤_, _<_}
+use native.Mathlib.Nat.{add-zero, not-suc-le-zero}
 use native.Mathlib.Numerals.{add-one}
 use native.Mathlib.Omega.{arith}
 use mathlib.Core.Path.{_≡_, refl, sym, ap, _∙_, subst}
 use mathlib.Core.List.{List, [], _∷_, _++_, append-assoc}
-use mathlib.Core.Bool.{Bool, true, false, cond, not, _&&_}
-use lib.Dec.{ltb, eqb}
+use mathlib.Core.Bool.{Bool, true, false, cond, not, _&&_, false≢true}
+use lib.Dec.{leb, ltb, eqb}
 use borrow.Author.Tests.{lt-leb, ltb-true, ltb-false, eq-eqb, ne-eqb, eqb-true, eqb-false, not-true}
 use lib.ListN.{length, getD, List·getD-eq-default, length-append}
 use Rattle.below.specs.Below.{listBelow}
 use Rattle.below.proofs.Tests.{by-cases, and-left, and-right}
 use Rattle.below.proofs.Index.{length-listBelow, getD-listBelow, listBelow-is}
+use Rattle.tables.specs.Limits.{Limits}
 use Rattle.lines.specs.Keys.{nameKey}
 use Rattle.lines.specs.Bytes.{byteAt, isAt}
-use Rattle.lines.specs.Names.{smallByte, smallForm}
+use Rattle.lines.specs.Numbers.{digits}
+use Rattle.lines.specs.Names.{isCapital, smallByte, smallForm, isNameByte, isTextByte, textBytes, textName}
 use Rattle.lines.proofs.ByteLaws.{Stands, stands-parts, stands-head, at-one}
 use Rattle.lines.proofs.Letters.{small-length, small-byte-twice}
 use Rattle.lines.proofs.SmallReads.{byte-small}
@@ -47,6 +50,56 @@ begins-next text at e x s =
 
 pub begins-line : (text : List ℕ) (at e : ℕ) (x y : List ℕ) → Stands text at (x ++ (y ++ 10 ∷ [])) e → Begins text e
 begins-line text at e x y s = begins-next text at e (x ++ y) (subst (λ (l : List ℕ). Stands text at l e) (sym (append-assoc x y (10 ∷ []))) s)
+
+-- ---- no line begins inside a line
+
+abbrev pub noFeed : List ℕ → Bool
+noFeed [] = true
+noFeed (b ∷ x) = not (eqb b 10) && noFeed x
+
+in-line : (text : List ℕ) (at q : ℕ) (x : List ℕ) → lineStart text q ≡ at → isAt text q x ≡ true → noFeed x ≡ true → (i : ℕ) → i ≤ length x → lineStart text (q + i) ≡ at
+in-line text at q x e h n zero l = rw (add-zero q) e
+in-line text at q [] e h n (suc i) l = absurd (not-suc-le-zero l)
+in-line text at q (b ∷ x) e h n (suc i) l =
+    let w = stands-head text q b x h in
+    let k : lineStart text (q + 1) ≡ at = goes-on text q (λ z. eqb-false b 10 (not-true _ (and-left _ _ n)) (sym (w .0) ∙ z)) ∙ e in
+    let m : q + 1 + i ≡ q + suc i = omega arith in
+    subst (λ (j : ℕ). lineStart text j ≡ at) m (in-line text at (q + 1) x k (w .1) (and-right (not (eqb b 10)) _ n) i (omega (arith, l)))
+
+-- a line that begins before the end of another, and not before it, is that line
+pub none-inside : (text : List ℕ) (at e p : ℕ) (x : List ℕ) → Begins text at → Stands text at (x ++ 10 ∷ []) e → noFeed x ≡ true → Begins text p → at ≤ p → p < e → at ≡ p
+none-inside text at e p x b s n c l m =
+    let w = stands-parts text at x (10 ∷ []) (s .there) in
+    let k : e ≡ at + length x + 1 = s .next-is ∙ simp length-append (omega arith) in
+    let i : at + (p - at) ≡ p = omega (arith, l) in
+    let z : lineStart text (at + (p - at)) ≡ at = in-line text at at x b (w .0) n (p - at) (omega (arith, k, m, l)) in
+    sym (subst (λ (j : ℕ). lineStart text j ≡ at) i z) ∙ c
+
+pub none-in-line : (text : List ℕ) (at e p : ℕ) (x y : List ℕ) → Begins text at → Stands text at (x ++ (y ++ 10 ∷ [])) e → noFeed (x ++ y) ≡ true → Begins text p → at ≤ p → p < e → at ≡ p
+none-in-line text at e p x y b s = none-inside text at e p (x ++ y) b (subst (λ (l : List ℕ). Stands text at l e) (sym (append-assoc x y (10 ∷ []))) s)
+
+pub feed-join : (x y : List ℕ) → noFeed x ≡ true → noFeed y ≡ true → noFeed (x ++ y) ≡ true
+feed-join [] y a b = b
+feed-join (c ∷ x) y a b = rw (and-left (not (eqb c 10)) (noFeed x) a) (feed-join x y (and-right (not (eqb c 10)) (noFeed x) a) b)
+
+digit-feed : (d : ℕ) → noFeed ((48 + d) ∷ []) ≡ true
+digit-feed d = rw (ne-eqb (48 + d) 10 (λ z. omega (arith, z))) refl
+
+pub digits-feed : (left n : ℕ) → noFeed (digits left n) ≡ true
+unfolding digits
+digits-feed zero n = refl
+digits-feed (suc left) n = by-cases (ltb n 10) (λ e. rw e (digit-feed n)) (λ e. rw e (feed-join (digits left (n / 10)) ((48 + n % 10) ∷ []) (digits-feed left (n / 10)) (digit-feed (n % 10))))
+
+bytes-feed : (x : List ℕ) → textBytes x ≡ true → noFeed x ≡ true
+unfolding textBytes isTextByte isCapital isNameByte
+bytes-feed [] h = refl
+bytes-feed (b ∷ x) h =
+    let w = and-left (isTextByte b) (textBytes x) h in
+    rw (ne-eqb b 10 (λ z. false≢true (rw z at w))) (bytes-feed x (and-right (isTextByte b) (textBytes x) h))
+
+pub name-feed : (L : Limits) (x : List ℕ) → textName L x ≡ true → noFeed x ≡ true
+unfolding textName
+name-feed L x h = bytes-feed x (and-right (leb (length x) (L .name)) (textBytes x) (and-right (leb 1 (length x)) _ h))
 
 -- ---- the bytes of the text with its names in small letters
 

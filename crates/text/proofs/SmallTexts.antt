@@ -35,16 +35,16 @@ use Rattle.text.specs.declared.reader.LinesAnswer.the-variants.{Refused 
 use Rattle.text.proofs.LineStarts.{Begins, begins-first, begins-next, begins-line, one-small-form, name-kept, key-kept}
 
 -- a stop was read up to the start of a line; so were a count and a name
-go-next : (L : Limits) (text : List ℕ) (at l t e : ℕ) → goAt L text at ≡ At l t e → Begins text e
+pub go-next : (L : Limits) (text : List ℕ) (at l t e : ℕ) → goAt L text at ≡ At l t e → Begins text e
 go-next L text at l t e h = begins-line text at e (goKey ++ field l atSign) (digitsOf t) (go-stands L text at l t e h)
 
-count-next : (text : List ℕ) (at : ℕ) (key : List ℕ) (most v e : ℕ) → countAt text at key most ≡ Is v e → Begins text e
+pub count-next : (text : List ℕ) (at : ℕ) (key : List ℕ) (most v e : ℕ) → countAt text at key most ≡ Is v e → Begins text e
 count-next text at key most v e h = begins-line text at e key (digitsOf v) (count-stands text at key most v e h)
 
-name-next : (L : Limits) (text : List ℕ) (at s e : ℕ) → nameAt L text at ≡ NameIs s e → Begins text (e + 1)
+pub name-next : (L : Limits) (text : List ℕ) (at s e : ℕ) → nameAt L text at ≡ NameIs s e → Begins text (e + 1)
 name-next L text at s e h = begins-next text at (e + 1) (nameKey ++ part text s e) (name-stands L text at s e (name-read L text at s e h))
 
-stops-next : (L : Limits) (n : ℕ) (text : List ℕ) (at e : ℕ) → Begins text at → stopsAt L n text at .answer ≡ StopsAre e → Begins text e
+pub stops-next : (L : Limits) (n : ℕ) (text : List ℕ) (at e : ℕ) → Begins text at → stopsAt L n text at .answer ≡ StopsAre e → Begins text e
 unfolding stopsAt
 stops-next L zero text at e b h = let q : at ≡ e = cc h in subst (Begins text) q b
 stops-next L (suc n) text at e b h = by-line (goAt L text at) refl h (λ e′ b′ h′. stops-next L n text e′ e b′ h′)
@@ -54,7 +54,7 @@ stops-next L (suc n) text at e b h = by-line (goAt L text at) refl h (λ e′ b�
     by-line (At l t e′) f h more = more e′ (go-next L text at l t e′ f) h
     by-line (NoStop r) f h more = absurd (let z : _≡_ {A = ℕ} 0 1 = cc h in omega arith)
 
-read-next : (L : Limits) (text : List ℕ) (at total e t : ℕ) → stopsRead L text at total .answer ≡ Read e t → Begins text e
+pub read-next : (L : Limits) (text : List ℕ) (at total e t : ℕ) → stopsRead L text at total .answer ≡ Read e t → Begins text e
 unfolding stopsRead
 read-next L text at total e t h = by-count (countAt text at stopsKey (L .stops)) refl h
   where
@@ -72,7 +72,7 @@ read-next L text at total e t h = by-count (countAt text at stopsKey (L .stops))
     by-count (NoCount r) f h = absurd (let z : _≡_ {A = ℕ} 0 1 = cc h in omega arith)
     by-count (Is m p) f h = by-test m p (count-next text at stopsKey (L .stops) m p f) (ltb (L .stops) (total + m)) h
 
-drone-next : (L : Limits) (text : List ℕ) (at total : ℕ) (taken : List ℕ → Bool) (e t : ℕ) → droneAt L text at total taken .answer ≡ Read e t → Begins text e
+pub drone-next : (L : Limits) (text : List ℕ) (at total : ℕ) (taken : List ℕ → Bool) (e t : ℕ) → droneAt L text at total taken .answer ≡ Read e t → Begins text e
 unfolding droneAt
 drone-next L text at total taken e t h = by-name (nameAt L text at) h
   where
@@ -84,7 +84,7 @@ drone-next L text at total taken e t h = by-name (nameAt L text at) h
     by-name (NoName r) h = absurd (let z : _≡_ {A = ℕ} 0 1 = cc h in omega arith)
     by-name (NameIs s p) h = by-test _ p (taken (rowOf L (smallForm (part text s p)))) h
 
-drones-next : (L : Limits) (n : ℕ) (text : List ℕ) (at : ℕ) (earlier : List (List ℕ)) (total e t : ℕ) → Begins text at → dronesAt L n text at earlier total .answer ≡ Read e t → Begins text e
+pub drones-next : (L : Limits) (n : ℕ) (text : List ℕ) (at : ℕ) (earlier : List (List ℕ)) (total e t : ℕ) → Begins text at → dronesAt L n text at earlier total .answer ≡ Read e t → Begins text e
 unfolding dronesAt
 drones-next L zero text at earlier total e t b h = let q : at ≡ e = cc h in subst (Begins text) q b
 drones-next L (suc n) text at earlier total e t b h =

@@ -36,7 +36,7 @@ stops-read-back L ls ts text at total u a b r h =
     stops-in L text at total _ refl (length ls) (at + length (countLine stopsKey (length ls))) c (omega arith) ∙ rw (s, m)
 
 -- one drone
-drone-back : (L : Limits) (d : Route) (text : List ℕ) (at total : ℕ) (taken : List ℕ → Bool) → SevenDigits L → goodName L (smallForm (d .name)) ≡ true → taken (rowOf L (smallForm (d .name))) ≡ false → 1 ≤ length (d .locations)
+pub drone-back : (L : Limits) (d : Route) (text : List ℕ) (at total : ℕ) (taken : List ℕ → Bool) → SevenDigits L → goodName L (smallForm (d .name)) ≡ true → taken (rowOf L (smallForm (d .name))) ≡ false → 1 ≤ length (d .locations)
     → total + length (d .locations) ≤ L .stops → StopsInRange L (d .locations) (d .times) → isAt text at (routeLine d) ≡ true
     → droneAt L text at total taken ≡ record {
       rows = rowOf L (smallForm (d .name)) ∷ [];

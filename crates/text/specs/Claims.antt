@@ -1,13 +1,17 @@
 -- What is claimed of the plan text: texts of well-formed lines, but for the capitals in their names, and plans within the limits correspond one to one, by writing and by reading. A text
--- without capitals is its own small form. Assumes nothing.
-use Prim.Native.Nat.{ℕ, _+_, _*_, _≤_}
+-- without capitals is its own small form. A refusal's offset is the start of a line, and no line before it is at fault. Assumes nothing.
+use Prim.Native.Nat.{ℕ, _+_, _*_, _≤_, _<_}
 use mathlib.Core.Path.{_≡_}
+use mathlib.Core.Logic.{_⊎_}
 use mathlib.Core.List.{List}
-use lib.ListN.{length}
+use lib.ListN.{length, take}
 use Rattle.tables.specs.Limits.{Limits}
 use Rattle.lines.specs.Names.{smallForm, part, goodName, namedAt, nameAt}
-use Rattle.text.specs.Names.{namesSmall}
-use Rattle.text.specs.declared.reader.LinesAnswer.the-variants.{WellFormed}
+use Rattle.lines.specs.Refusals.{refusalNumber, refusalOffset}
+use Rattle.lines.specs.declared.refusal.Refusal.{Refusal}
+use Rattle.lines.specs.declared.refusal.Refusal.the-variants.{Form}
+use Rattle.text.specs.Names.{lineStart, namesSmall}
+use Rattle.text.specs.declared.reader.LinesAnswer.the-variants.{WellFormed, Refused as NotWellFormed}
 use Rattle.text.specs.LinesRead.{linesAt}
 use Rattle.text.specs.TextRead.{TextRead}
 use Rattle.text.specs.TextWritten.{tablesText}
@@ -67,3 +71,21 @@ pub record WithoutCapitals (L : Limits) : Type 0 where
   pub well-formed-is-written : (text : List ℕ) (n : ℕ) → smallForm text ≡ text → linesAt L text .answer ≡ WellFormed n
       → (ds : List Route) × (length ds ≡ n) × InLimits L ds × (linesAt L text ≡ linesOf L ds) × (text ≡ routesText ds)
   pub one-text : (a b : List ℕ) (n : ℕ) → smallForm a ≡ a → smallForm b ≡ b → linesAt L a .answer ≡ WellFormed n → linesAt L a ≡ linesAt L b → a ≡ b
+
+-- ---- offsets of refusals
+
+-- "Refusals 1 to 6 carry a byte offset: .. else the start of the line (the text's length if the line is absent)": in every text the offset is the start of a line and at most
+-- the text's length; where it is the text's length, the line is absent, and the refusal is 2, "form, key, order or missing line"
+abbrev pub OffsetsBeginLines : Limits → Type 0
+OffsetsBeginLines L = (text : List ℕ) (r : Refusal) → linesAt L text .answer ≡ NotWellFormed r
+    → (lineStart text (refusalOffset r) ≡ refusalOffset r) × (refusalOffset r ≤ length text) × (refusalOffset r ≡ length text → refusalNumber r ≡ 2)
+
+-- .. and no line before it is at fault: the text up to there is refused only because its next line is absent, by 2 at its own length; or its lines are well-formed, and the
+-- refusal was of what follows the last line
+abbrev pub CutAtFault : Limits → Type 0
+CutAtFault L = (text : List ℕ) (r : Refusal) → linesAt L text .answer ≡ NotWellFormed r → let before = take (refusalOffset r) text in
+    (linesAt L before .answer ≡ NotWellFormed (Form (length before))) ⊎ ((n : ℕ) × (linesAt L before .answer ≡ WellFormed n))
+
+-- "(the text's length if the line is absent)": a text of well-formed lines that is cut off where one of its lines begins is refused by 2 at its length
+abbrev pub AbsentAtLength : Limits → Type 0
+AbsentAtLength L = (text : List ℕ) (n p : ℕ) → linesAt L text .answer ≡ WellFormed n → lineStart text p ≡ p → p < length text → linesAt L (take p text) .answer ≡ NotWellFormed (Form p)

@@ -2,14 +2,18 @@
 use Prim.Native.Nat.{ℕ}
 use Prim.Native.Char.{code}
 use Prim.Native.String.{String, [] as empty, _∷_ as _before_, _++_ as _then_}
+use mathlib.Core.Path.{_≡_}
 use mathlib.Core.Bool.{Bool, true, _&&_}
 use mathlib.Core.List.{List, [], _∷_}
 use lib.Dec.{eqb}
+use Rattle.below.specs.Below.{allIn}
 use Rattle.tables.specs.Limits.{limits}
+use Rattle.lines.specs.Keys.{firstLine, agentsKey, nameKey, stopsKey, goKey, lastLine}
 use Rattle.lines.specs.Refusals.{refusalNumber, refusalOffset}
 use Rattle.text.specs.declared.reader.LinesAnswer.{LinesAnswer}
 use Rattle.text.specs.declared.reader.LinesAnswer.the-variants.{WellFormed, Refused as NotWellFormed}
 use Rattle.text.specs.LinesRead.{linesAt}
+use Rattle.text.specs.Written.{planText}
 
 -- the bytes of an ASCII text
 abbrev pub bytes : String → List ℕ
@@ -17,7 +21,7 @@ bytes empty = []
 bytes (c before s) = code c ∷ bytes s
 
 -- a text, the refusal's number (0 where its lines are well-formed), and its offset (where they are, how many drones the plan has)
-pub record Example : Type 0 where
+pub record LinesExample : Type 0 where
   pub text : String
   pub refusal : ℕ
   pub value : ℕ
@@ -30,25 +34,21 @@ abbrev pub valueOf : LinesAnswer → ℕ
 valueOf (WellFormed n) = n
 valueOf (NotWellFormed r) = refusalOffset r
 
-abbrev pub holds : Example → Bool
-holds e = let a = linesAt limits (bytes (e .text)) .answer in eqb (refusalOf a) (e .refusal) && eqb (valueOf a) (e .value)
-
-abbrev pub allHold : List Example → Bool
-allHold [] = true
-allHold (e ∷ es) = holds e && allHold es
+abbrev pub linesAsGiven : LinesExample → Bool
+linesAsGiven e = let a = linesAt limits (bytes (e .text)) .answer in eqb (refusalOf a) (e .refusal) && eqb (valueOf a) (e .value)
 
 -- one drone with one stop: the bytes between `plan=1` and `end=plan` from a name and a stop
 abbrev pub single : String → String → String
 single name stop = "plan=1\nagents=1\nname=" then (name then ("\nstops=1\ngo=" then (stop then "\nend=plan\n")))
 
-abbrev pub examples : List Example
-examples =
+abbrev pub linesExamples : List LinesExample
+linesExamples =
     -- flight Q
     record { text = "plan=1\nagents=2\nname=survey-quad-east-1\nstops=4\ngo=1@0\ngo=6@1\ngo=5@2\ngo=2@3\nname=survey-quad-east-2\nstops=3\ngo=3@0\ngo=5@4\ngo=4@5\nend=plan\n"; refusal = 0; value = 2 }
     -- "Empty text: 2 at offset 0."
     ∷ record { text = ""; refusal = 2; value = 0 }
     -- a capital, and a key without its `=`
-    ∷ record { text = "WellFormed=1\n"; refusal = 2; value = 0 }
+    ∷ record { text = "Plan=1\n"; refusal = 2; value = 0 }
     ∷ record { text = "plan=1\nagents2\n"; refusal = 2; value = 7 }
     -- "33 give 4"
     ∷ record { text = "plan=1\nagents=33\n"; refusal = 4; value = 7 }
@@ -83,3 +83,9 @@ examples =
     ∷ record { text = "plan=1\nagents=2\nname=a\nstops=1\ngo=1@0\nname=b\nstops=1024\n"; refusal = 6; value = 45 }
     ∷ record { text = "plan=1\nagents=2\nname=a\nstops=1025\n"; refusal = 4; value = 23 }
     ∷ []
+
+-- each text is read as the list has it; the keys are the bytes of their texts; a name of 24 capitals is written small
+pub record ExampleTexts : Type 0 where
+  pub as-listed : allIn linesAsGiven linesExamples ≡ true
+  pub keys : _≡_ {A = List (List ℕ)} (firstLine ∷ agentsKey ∷ nameKey ∷ stopsKey ∷ goKey ∷ lastLine ∷ []) (bytes "plan=1\n" ∷ bytes "agents=" ∷ bytes "name=" ∷ bytes "stops=" ∷ bytes "go=" ∷ bytes "end=plan\n" ∷ [])
+  pub capitals : let w = linesAt limits (bytes (single "ABCDEFGHIJKLMNOPQRSTUVWX" "0@0")) in planText 1 (w .rows) (w .counts) (w .locations) (w .times) ≡ bytes (single "abcdefghijklmnopqrstuvwx" "0@0")

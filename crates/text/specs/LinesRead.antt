@@ -55,7 +55,7 @@ stopsRead L text at total = stopsOf L text at total (countAt text at stopsKey (L
 abbrev pub withRow : List ℕ → LinesRead DroneLines → LinesRead DroneLines
 withRow row f = record { rows = row ∷ []; counts = f .counts; locations = f .locations; times = f .times; answer = f .answer }
 
--- "5 name equal to an earlier one": rows are compared, and `RowsTellNames` says that rows are equal exactly when names are; "The tables hold the small form", and "the rule of one name for one drone follows the new comparison"
+-- "5 name equal to an earlier one": rows are compared, and `RowsTellNames` says that rows are equal exactly when names are; "The tables hold the small form", and "The rule of one name for one drone follows the new comparison"
 abbrev pub droneOf : Limits → List ℕ → ℕ → ℕ → (List ℕ → Bool) → NameSpan → LinesRead DroneLines
 droneOf L text at total earlier (NoName r) = nothing (Refused r)
 droneOf L text at total earlier (NameIs s e) =

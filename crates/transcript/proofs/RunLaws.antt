@@ -7,7 +7,7 @@ use Rattle.precedence.specs.Graph.{cost as costOf}
 use Rattle.precedence.proofs.Agreement.{cost-agree}
 use Rattle.plan.specs.Field.{FieldPlan, AcceptedPlan, PlansAgree, planOf, graph}
 use Rattle.plan.specs.Status.{statusIn}
-use Rattle.log.specs.CallLog.{Call, Reply, replyNumber, awaited, Entry, entry, statusBy, replyBy, logFrom, logOf}
+use Rattle.log.specs.CallLog.{Call, Reply, replyNumber, awaited, Entry, entryOf, statusBy, replyBy, logFrom, logOf}
 use Rattle.log.specs.Calls.{step, AsRead, recorded, tablesAfter, costs, costReply}
 use Rattle.log.specs.Demand.{Shows}
 use Rattle.log.proofs.Whole.{demand3, replies-of, tables-of, ran, ran-more, stays-sound, stays-full, stays-same}
@@ -34,7 +34,7 @@ answers-agree F G agree plan (call c ∷ qs) log =
     let e = reply-by-agrees F G agree plan log (callOf c) in
     ap₂ (λ (r : Reply) (l : List LineAnswer). record { kind = kindOf (call c); number = replyNumber r; detail = awaited r } ∷ l)
     e
-    (answers-agree F G agree plan qs (log ++ (entry (callOf c) (replyBy F log (callOf c)) ∷ [])) ∙ ap (λ (r : Reply). answersBy G (log ++ (entry (callOf c) r ∷ [])) qs) e)
+    (answers-agree F G agree plan qs (log ++ (entryOf (callOf c) (replyBy F log (callOf c)) ∷ [])) ∙ ap (λ (r : Reply). answersBy G (log ++ (entryOf (callOf c) r ∷ [])) qs) e)
 answers-agree F G agree plan (cost ∷ qs) log = rw (cost-by-agrees F G agree plan log, answers-agree F G agree plan qs log) refl
 
 module _ (L : Limits) (lists : PlanLists) (t : Tables) (read : AsRead L lists t) where
@@ -49,7 +49,7 @@ module _ (L : Limits) (lists : PlanLists) (t : Tables) (read : AsRead L lists t)
   after cs = tablesAfter (step L) t cs
 
   -- one call more
-  log-more : (cs : List Call) (c : Call) → logOf F (cs ++ (c ∷ [])) ≡ logOf F cs ++ (entry c (replyBy F (logOf F cs) c) ∷ [])
+  log-more : (cs : List Call) (c : Call) → logOf F (cs ++ (c ∷ [])) ≡ logOf F cs ++ (entryOf c (replyBy F (logOf F cs) c) ∷ [])
   unfolding logFrom
   log-more cs c = log-joins F cs (c ∷ []) []
 
@@ -58,7 +58,7 @@ module _ (L : Limits) (lists : PlanLists) (t : Tables) (read : AsRead L lists t)
 
   same-reply : (cs : List Call) (c : Call) → step L (after cs) c .reply ≡ replyBy F (logOf F cs) c
   same-reply cs c =
-      let now : recorded (step L) t cs ++ (entry c (step L (after cs) c .reply) ∷ []) ≡ recorded (step L) t (cs ++ (c ∷ [])) = replies-of L (ran-more (ran L cs t) (record { replied = refl; left = refl })) in
+      let now : recorded (step L) t cs ++ (entryOf c (step L (after cs) c .reply) ∷ []) ≡ recorded (step L) t (cs ++ (c ∷ [])) = replies-of L (ran-more (ran L cs t) (record { replied = refl; left = refl })) in
       let both = now ∙ demand3 L lists t (cs ++ (c ∷ [])) read .replies ∙ log-more cs c in
       ap (λ (e : Entry). e .reply) (last-same (logOf F cs) _ _ (rw (demand3 L lists t cs read .replies) at both))
 

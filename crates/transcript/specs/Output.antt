@@ -9,7 +9,7 @@ use Rattle.precedence.specs.Graph.{cost as costOf}
 use Rattle.plan.specs.Field.{FieldPlan, graph, placeOf}
 use Rattle.lines.specs.Keys.{lineFeed}
 use Rattle.lines.specs.Numbers.{digitsOf, field}
-use Rattle.log.specs.CallLog.{replyNumber, awaited, Entry, entry, statusBy, replyBy}
+use Rattle.log.specs.CallLog.{replyNumber, awaited, Entry, entryOf, statusBy, replyBy}
 use Rattle.transcript.specs.Keys.{colon, planKey, endCallsLine, malformedLine, rangeLine, costKind, keyOf}
 use Rattle.transcript.specs.Input.{inputLimit, planEnd, callOf, Request, call, cost, kindOf, RequestList, requestsAt}
 use Rattle.transcript.specs.declared.requests.Ending.{Ending}
@@ -59,7 +59,7 @@ module _ (F : FieldPlan) where
 
   -- the log after it
   abbrev pub logAfter : List Entry → Request → List Entry
-  logAfter log (call c) = log ++ (entry (callOf c) (replyBy F log (callOf c)) ∷ [])
+  logAfter log (call c) = log ++ (entryOf (callOf c) (replyBy F log (callOf c)) ∷ [])
   logAfter log cost = log
 
   unfoldable pub answersBy : List Entry → List Request → List LineAnswer

@@ -7,16 +7,16 @@ use Rattle.below.specs.Below.{at, listBelow}
 use Rattle.tables.specs.Limits.{Limits}
 use Rattle.tables.specs.Tables.{Tables}
 use Rattle.log.specs.CallLog.{replyNumber, awaited}
-use Rattle.log.specs.Calls.{step, CostReply, costs, costRefused, costReply}
+use Rattle.log.specs.Calls.{step, CostOutcome, costs, costRefused, costReply}
 use Rattle.transcript.specs.Input.{callOf, Request, call, cost, requestOf, kindOf}
 use Rattle.transcript.specs.Output.{LineAnswer}
 
 -- the number of a cost's refusal, and the cost
-abbrev pub costNumber : CostReply → ℕ
+abbrev pub costNumber : CostOutcome → ℕ
 costNumber (costs n) = 0
 costNumber (costRefused n) = n
 
-abbrev pub costDetail : CostReply → ℕ
+abbrev pub costDetail : CostOutcome → ℕ
 costDetail (costs n) = n
 costDetail (costRefused n) = 0
 

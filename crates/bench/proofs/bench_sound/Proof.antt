@@ -9,19 +9,15 @@ use Rattle.bench.proofs.bench_sound.Lts as lts
 use Rattle.sound.proofs.is_sound.Reads as is-sound-reads
 use Rattle.tables.proofs.sizes.full_size.Reads as full-size-reads
 
--- src/lib.rt:38:9
 full-size-requires : tie.Need-full-size-requires
 full-size-requires c κs = search needs
 
--- src/lib.rt:42:9
 returns : tie.Need-returns
 returns c = and-no _ _ (sym (c .before .full-size .ensures) ∙ not-true _ (c .if1 .taken))
 
--- src/lib.rt:44:5
 is-sound-requires : tie.Need-is-sound-requires
 is-sound-requires c κs = sym (c .before .full-size .ensures) ∙ not-false _ (c .if1 .left)
 
--- src/lib.rt:9:1
 returns-2 : tie.Need-returns-2
 returns-2 c = and-yes _ _ _ (sym (c .before .before .full-size .ensures) ∙ not-false _ (c .before .if1 .left)) (c .is-sound .ensures)
 

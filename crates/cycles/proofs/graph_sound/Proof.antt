@@ -14,36 +14,29 @@ use Rattle.cycles.proofs.waits.make_waits.Reads as make-waits-reads
 use Rattle.cycles.proofs.waits.turned_total.Reads as turned-total-reads
 use Rattle.meetings.proofs.dependencies_right.Reads as dependencies-right-reads
 
--- src/lib.rt:69:9
 dependencies-right-requires : tie.Need-dependencies-right-requires
 dependencies-right-requires c κs = search needs
 
--- src/lib.rt:70:9
 returns : tie.Need-returns
 returns c = (λ numbers. graph-wrong _ (at (c .before .before .before .before .before .before .before .before .before .before .args .starts .now)) (at (c .before .before .before .before .before .before .before .before .before .before .args .lasts .now)) _ _ _ _ _ (sym (c .before .dependencies-right .ensures numbers) ∙ not-true _ (c .if1 .taken)), λ e. true-or-false e refl)
 
--- src/lib.rt:72:5
 make-waits-requires : tie.Need-make-waits-requires
 make-waits-requires c κs =
     let e = sym (c .before .before .before .dependencies-right .ensures []) ∙ not-false _ (c .before .before .if1 .left) in
     ((c .before .before .before .before .before .before .before .before .before .before .before .before .pre .0 .has-flags, c .before .before .before .before .before .before .before .before .before .before .before .before .pre .0 .few-waits, given-first _ [] _ _ _ _ _ _ _ _ _ _ (c .before .before .before .before .before .before .before .before .before .before .before .before .pre .0) e, given-second _ [] _ _ _ _ _ _ _ _ _ _ (c .before .before .before .before .before .before .before .before .before .before .before .before .pre .0) e), (c .before .before .before .before .before .before .before .before .before .before .before .before .pre .1, c .before .before .before .before .before .before .before .before .before .before .before .before .pre .2))
 
--- src/lib.rt:73:8
 turned-total-requires : tie.Need-turned-total-requires
 turned-total-requires c κs = (c .before .before .before .before .before .before .before .before .before .before .before .before .before .pre .0 .has-flags, c .before .before .before .before .before .before .before .before .before .before .before .before .before .pre .0 .few-waits)
 
--- src/lib.rt:74:9
 returns-2 : tie.Need-returns-2
 returns-2 c =
     (λ numbers. let e = sym (c .before .before .before .before .before .before .dependencies-right .ensures numbers) ∙ not-false _ (c .before .before .before .before .before .if1 .left) in given-unturned _ numbers _ _ _ _ _ _ _ _ _ _ (c .before .before .before .before .before .before .before .before .before .before .before .before .before .before .before .pre .0) e _ (c .before .turned-total .ensures) (c .if2 .taken), λ h. c .before .before .make-waits .ensures)
 
--- src/lib.rt:76:6
 has-cycle-requires : tie.Need-has-cycle-requires
 has-cycle-requires c κs =
     let e = sym (c .before .before .before .before .before .before .before .before .dependencies-right .ensures []) ∙ not-false _ (c .before .before .before .before .before .before .before .if1 .left) in
     given-tables _ [] _ _ _ _ _ _ _ _ _ _ (c .before .before .before .before .before .before .before .before .before .before .before .before .before .before .before .before .before .pre .0) e _ _ (c .before .before .before .before .make-waits .ensures)
 
--- src/lib.rt:53:1
 returns-3 : tie.Need-returns-3
 returns-3 c =
     (λ numbers. let e = sym (c .before .before .before .before .before .before .before .before .before .dependencies-right .ensures numbers) ∙ not-false _ (c .before .before .before .before .before .before .before .before .if1 .left) in graph-right _ (at (c .before .before .before .before .before .before .before .before .before .before .before .before .before .before .before .before .before .before .args .starts .now)) (at (c .before .before .before .before .before .before .before .before .before .before .before .before .before .before .before .before .before .before .args .lasts .now)) _ _ _ _ _ _ e (c .has-cycle .ensures ∙ given-cyclic _ numbers _ _ _ _ _ _ _ _ _ _ (c .before .before .before .before .before .before .before .before .before .before .before .before .before .before .before .before .before .before .pre .0) e _ _ (c .before .before .before .before .before .make-waits .ensures)), λ h. c .before .before .before .before .before .make-waits .ensures)

@@ -15,19 +15,15 @@ use Rattle.cycles.proofs.walk.all_last.Reads as all-last-reads
 use Rattle.cycles.proofs.walk.at_first.Reads as at-first-reads
 use Rattle.cycles.proofs.walk.walk.Reads as walk-reads
 
--- src/lib.rt:34:5
 at-first-requires : tie.Need-at-first-requires
 at-first-requires c κs = length-replicate {A = ℕ} (limits .drones) 0
 
--- src/lib.rt:36:5
 walk-requires : tie.Need-walk-requires
 walk-requires c κs = ((c .before .before .before .before .before .pre, begun-first _ (c .before .before .before .before .before .pre .placed) _ (c .before .before .at-first .ensures .0) (λ d l. c .before .before .at-first .ensures .1 d (omega (arith, c .before .before .before .before .before .pre .few-drones)))), (length-replicate {A = ℕ} (limits .stops) 0, zeros-at (limits .stops)))
 
--- src/lib.rt:37:6
 all-last-requires : tie.Need-all-last-requires
 all-last-requires c κs = search needs
 
--- src/lib.rt:20:1
 returns : tie.Need-returns
 returns c = ap not (c .all-last .ensures) ∙ walked-cyclic _ (c .before .before .before .before .before .before .before .before .pre .placed) (c .before .before .walk .ensures) (λ d l. c .before .before .before .before .before .at-first .ensures .1 d (omega (arith, c .before .before .before .before .before .before .before .before .pre .few-drones)))
 

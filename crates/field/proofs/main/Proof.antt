@@ -10,43 +10,33 @@ use Rattle.dispatch.proofs.program.transcript.Reads as transcript-reads
 use Rattle.io.proofs.read_full.Reads as read-full-reads
 use Rattle.io.proofs.write_all.Reads as write-all-reads
 
--- src/main.rt:9:45
 slice-aggregate-read-full : tie.Need-slice-aggregate-read-full
 slice-aggregate-read-full c = search needs
 
--- src/main.rt:9:9
 read-full-requires : tie.Need-read-full-requires
 read-full-requires c κs = search needs
 
--- src/main.rt:10:38
 array-share-prefix-input : tie.Need-array-share-prefix-input
 array-share-prefix-input c = search needs
 
--- src/main.rt:10:38
 slice-aggregate-transcript : tie.Need-slice-aggregate-transcript
 slice-aggregate-transcript c = search needs
 
--- src/main.rt:10:55
 slice-aggregate-transcript-2 : tie.Need-slice-aggregate-transcript-2
 slice-aggregate-transcript-2 c = search needs
 
--- src/main.rt:10:9
 transcript-requires : tie.Need-transcript-requires
 transcript-requires c κs = search needs
 
--- src/main.rt:11:34
 array-share-prefix-output : tie.Need-array-share-prefix-output
 array-share-prefix-output c = omega (arith, c .before .transcript .kept .1 .0, c .before .transcript .ensures .fits)
 
--- src/main.rt:11:34
 slice-aggregate-write-all : tie.Need-slice-aggregate-write-all
 slice-aggregate-write-all c = simp length-take (omega (arith, c .before .before .transcript .kept .1 .0, c .before .before .transcript .ensures .fits))
 
--- src/main.rt:11:5
 write-all-requires : tie.Need-write-all-requires
 write-all-requires c κs = search needs
 
--- src/main.rt:6:1
 returns : tie.Need-returns
 returns c = search needs
 

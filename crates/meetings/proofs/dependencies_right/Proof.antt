@@ -16,23 +16,18 @@ use Rattle.meetings.proofs.entries.are_right.Reads as are-right-reads
 use Rattle.meetings.proofs.histogram.count_meetings.Reads as count-meetings-reads
 use Rattle.plan.proofs.sharing.fill_firsts.Reads as fill-firsts-reads
 
--- src/lib.rt:26:9
 are-right-requires : tie.Need-are-right-requires
 are-right-requires c κs = search needs
 
--- src/lib.rt:27:9
 returns : tie.Need-returns
 returns c = λ numbers. right-not _ _ _ _ _ (c .before .before .before .before .before .before .before .pre .0 .steady) _ _ _ (sym (c .before .are-right .ensures) ∙ not-true _ (c .if1 .taken))
 
--- src/lib.rt:30:5
 fill-firsts-requires : tie.Need-fill-firsts-requires
 fill-firsts-requires c κs = search needs
 
--- src/lib.rt:31:5
 count-meetings-requires : tie.Need-count-meetings-requires
 count-meetings-requires c κs = (indexed-filled _ _ _ _ (length-replicate {A = ℕ} (limits .stops) 0) (c .before .before .before .before .before .before .before .before .before .before .pre .0 .few) (c .before .fill-firsts .ensures), c .before .before .before .before .before .before .before .before .before .before .pre .0 .grouped, c .before .before .before .before .before .before .before .before .before .before .pre .0 .has-owners)
 
--- src/lib.rt:14:1
 returns-2 : tie.Need-returns-2
 returns-2 c = λ numbers. right-count _ _ _ _ _ (c .before .before .before .before .before .before .before .before .before .before .before .pre .0 .steady) _ _ _ _ (sym (c .before .before .before .before .before .are-right .ensures) ∙ not-false _ (c .before .before .before .before .if1 .left)) (c .count-meetings .ensures ∙ meetings-shared _ _ _ _ (firsts-at _ _ _ _ (omega (arith, c .before .before .before .before .before .before .before .before .before .before .before .pre .0 .few, length-replicate {A = ℕ} (limits .stops) 0)) (c .before .before .fill-firsts .ensures)))
 

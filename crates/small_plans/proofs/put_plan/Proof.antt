@@ -2,7 +2,7 @@ use native.Mathlib.Omega.{arith}
 use mathlib.Core.Path.{refl}
 use Rattle.lines.specs.Keys.{agentsKey}
 use Rattle.text.proofs.WriteLoop.{count-near}
-use Rattle.small_plans.specs.Check.{routeAt}
+use Rattle.small_plans.specs.Check.{checkedRouteAt}
 use Rattle.small_plans.proofs.Writing.{nameA, nameB, route-near, plan-put}
 use borrow.Author.Needs.{needs}
 use Rattle.small_plans.proofs.put_plan.Statement.{statement}
@@ -13,53 +13,41 @@ use Rattle.lines.proofs.bytes.put_bytes.Reads as put-bytes-reads
 use Rattle.small_plans.proofs.put_route.Reads as put-route-reads
 use Rattle.text.proofs.writer.put_count.Reads as put-count-reads
 
--- src/lib.rt:1426:43
 slice-aggregate-put-bytes : tie.Need-slice-aggregate-put-bytes
 slice-aggregate-put-bytes c = search needs
 
--- src/lib.rt:1426:9
 put-bytes-requires : tie.Need-put-bytes-requires
 put-bytes-requires c κs = search needs
 
--- src/lib.rt:1427:49
 slice-aggregate-put-count : tie.Need-slice-aggregate-put-count
 slice-aggregate-put-count c = search needs
 
--- src/lib.rt:1427:9
 put-count-requires : tie.Need-put-count-requires
 put-count-requires c κs = search needs
 
--- src/lib.rt:1428:40
 slice-aggregate-put-route : tie.Need-slice-aggregate-put-route
 slice-aggregate-put-route c = search needs
 
--- src/lib.rt:1428:9
 put-route-requires : tie.Need-put-route-requires
 put-route-requires c κs = (omega (arith, c .before .before .before .before .before .before .before .before .before .put-bytes .ensures .next-is, count-near agentsKey 2 (c .before .before .before .before .put-count .ensures)), refl, c .before .before .before .before .before .before .before .before .before .before .before .before .before .pre .0)
 
--- src/lib.rt:1429:38
 slice-aggregate-put-route-2 : tie.Need-slice-aggregate-put-route-2
 slice-aggregate-put-route-2 c = search needs
 
--- src/lib.rt:1429:9
 put-route-requires-2 : tie.Need-put-route-requires-2
 put-route-requires-2 c κs = (omega (arith, c .before .before .before .before .before .before .before .before .before .before .before .before .before .before .put-bytes .ensures .next-is, count-near agentsKey 2 (c .before .before .before .before .before .before .before .before .before .put-count .ensures), route-near nameA (c .before .before .before .before .before .before .before .before .before .before .before .before .before .before .before .before .before .before .args .first) refl (c .before .before .before .before .before .before .before .before .before .before .before .before .before .before .before .before .before .before .pre .0) (c .before .before .before .before .put-route .ensures)), refl, c .before .before .before .before .before .before .before .before .before .before .before .before .before .before .before .before .before .before .pre .1)
 
--- src/lib.rt:1430:33
 slice-aggregate-put-bytes-2 : tie.Need-slice-aggregate-put-bytes-2
 slice-aggregate-put-bytes-2 c = search needs
 
--- src/lib.rt:1430:5
 put-bytes-requires-2 : tie.Need-put-bytes-requires-2
 put-bytes-requires-2 c κs = omega (arith, c .before .before .before .before .before .before .before .before .before .before .before .before .before .before .before .before .before .before .before .put-bytes .ensures .next-is, count-near agentsKey 2 (c .before .before .before .before .before .before .before .before .before .before .before .before .before .before .put-count .ensures), route-near nameA (c .before .before .before .before .before .before .before .before .before .before .before .before .before .before .before .before .before .before .before .before .before .before .before .args .first) refl (c .before .before .before .before .before .before .before .before .before .before .before .before .before .before .before .before .before .before .before .before .before .before .before .pre .0) (c .before .before .before .before .before .before .before .before .before .put-route .ensures), route-near nameB (c .before .before .before .before .before .before .before .before .before .before .before .before .before .before .before .before .before .before .before .before .before .before .before .args .second) refl (c .before .before .before .before .before .before .before .before .before .before .before .before .before .before .before .before .before .before .before .before .before .before .before .pre .1) (c .before .before .before .before .put-route2 .ensures))
 
--- src/lib.rt:1422:1
 same-length : tie.Need-same-length
 same-length c = search needs
 
--- src/lib.rt:1422:1
 returns : tie.Need-returns
-returns c = plan-put (routeAt (c .before .before .before .before .before .before .before .before .before .before .before .before .before .before .before .before .before .before .before .before .before .before .before .before .before .before .args .first)) (routeAt (c .before .before .before .before .before .before .before .before .before .before .before .before .before .before .before .before .before .before .before .before .before .before .before .before .before .before .args .second)) (c .before .before .before .before .before .before .before .before .before .before .before .before .before .before .before .before .before .before .before .before .before .before .put-bytes .ensures) (c .before .before .before .before .before .before .before .before .before .before .before .before .before .before .before .before .before .put-count .ensures) (c .before .before .before .before .before .before .before .before .before .before .before .before .put-route .ensures) (c .before .before .before .before .before .before .before .put-route2 .ensures) (c .before .before .put-bytes2 .ensures)
+returns c = plan-put (checkedRouteAt (c .before .before .before .before .before .before .before .before .before .before .before .before .before .before .before .before .before .before .before .before .before .before .before .before .before .before .args .first)) (checkedRouteAt (c .before .before .before .before .before .before .before .before .before .before .before .before .before .before .before .before .before .before .before .before .before .before .before .before .before .before .args .second)) (c .before .before .before .before .before .before .before .before .before .before .before .before .before .before .before .before .before .before .before .before .before .before .put-bytes .ensures) (c .before .before .before .before .before .before .before .before .before .before .before .before .before .before .before .before .before .put-count .ensures) (c .before .before .before .before .before .before .before .before .before .before .before .before .put-route .ensures) (c .before .before .before .before .before .before .before .put-route2 .ensures) (c .before .before .put-bytes2 .ensures)
 
 pub put-plan-spec : {M : Type 1} → statement M
 put-plan-spec =

@@ -5,11 +5,9 @@ use Rattle.board.proofs.answers.report_of.Tie as tie
 use Rattle.board.proofs.answers.report_of.Reads as reads
 use Rattle.board.proofs.answers.report_of.Lts as lts
 
--- src/answers.rt:323:9
 returns : tie.Need-returns
 returns c = search needs
 
--- src/answers.rt:319:1
 returns-2 : tie.Need-returns-2
 returns-2 c = reported-some _ _ (c .if1 .left)
 

@@ -1,6 +1,6 @@
 -- `board::exports::board_rounds` meets its contract: the needs that the derivation of Derived.board_rounds leaves. Assumes nothing.
 mod Tie
-use Rattle.board.specs.Told.{roundsAnswer}
+use Rattle.board.specs.Told.{roundsAnswerOf}
 use Rattle.board.proofs.Laws.{figure-told}
 use borrow.Author.Needs.{needs}
 use Rattle.board.proofs.exports.board_rounds.Statement.{statement}
@@ -15,7 +15,7 @@ of-rounds-requires : tie.Need-of-rounds-requires
 of-rounds-requires c κs = search needs
 
 returns : tie.Need-returns
-returns c = figure-told roundsAnswer _ _ _ (c .before .rounds .ensures) (c .of-rounds .ensures)
+returns c = figure-told roundsAnswerOf _ _ _ (c .before .rounds .ensures) (c .of-rounds .ensures)
 
 pub board-rounds-spec : {M : Type 1} → statement M
 board-rounds-spec = tie.close (tie.spec rounds-requires of-rounds-requires returns)

@@ -1,6 +1,9 @@
 -- `board::exports::board_turn_all` meets its contract: the needs that the derivation of Derived.board_turn_all leaves. Assumes nothing.
 mod Tie
+use mathlib.Core.Path.{ap, _∙_}
 use Rattle.tables.specs.Limits.{limits}
+use Rattle.conductor.specs.Changes.{reservedOf}
+use Rattle.conductor.proofs.Reserved.{reserved-flips}
 use Rattle.board.proofs.Laws.{call-told}
 use borrow.Author.Needs.{needs}
 use Rattle.board.proofs.exports.board_turn_all.Statement.{statement}
@@ -18,7 +21,7 @@ same-length : tie.Need-same-length
 same-length c = search needs
 
 returns : tie.Need-returns
-returns c = (call-told limits _ _ _ _ _ (c .before .before .turn-all .ensures .0) (c .of-turn-all .ensures), c .before .before .turn-all .ensures .1 .1)
+returns c = (call-told limits _ _ _ _ _ (c .before .before .turn-all .ensures .0) (c .of-turn-all .ensures), (c .before .before .turn-all .ensures .1 .1, ap reservedOf (c .before .before .turn-all .ensures .1 .0) ∙ reserved-flips _ _ _))
 
 pub board-turn-all-spec : {M : Type 1} → statement M
 board-turn-all-spec =

@@ -7,19 +7,15 @@ use Rattle.board.proofs.plans.board_small_plan.Lts as lts
 use Rattle.board.proofs.plans.of_plan.Reads as of-plan-reads
 use Rattle.small_plans.proofs.small_plan.Reads as small-plan-reads
 
--- src/plans.rt:31:9
 small-plan-requires : tie.Need-small-plan-requires
 small-plan-requires c κs = search needs
 
--- src/plans.rt:32:5
 of-plan-requires : tie.Need-of-plan-requires
 of-plan-requires c κs = search needs
 
--- src/plans.rt:27:1
 same-length : tie.Need-same-length
 same-length c = search needs
 
--- src/plans.rt:27:1
 returns : tie.Need-returns
 returns c = small-plan-told _ _ _ _ _ (c .before .before .before .small-plan .ensures) (c .of-plan .ensures)
 

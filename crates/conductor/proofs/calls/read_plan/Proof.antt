@@ -6,7 +6,7 @@ use Rattle.tables.specs.Limits.{limits}
 use Rattle.reading.specs.Replies.{readingMeant}
 use Rattle.records.proofs.ColumnLaws.{zero-columns, gathered-length}
 use Rattle.records.proofs.Seen.{stored-rest}
-use Rattle.conductor.proofs.ReadLaws.{read-short, read-stored}
+use Rattle.conductor.proofs.ReadLaws.{read-short, read-stored, reserved-stored}
 use borrow.Author.Needs.{needs}
 use Rattle.conductor.proofs.calls.read_plan.Statement.{statement}
 use Rattle.conductor.proofs.calls.read_plan.Proof.Tie as tie
@@ -17,7 +17,7 @@ below-full-requires : tie.Need-below-full-requires
 below-full-requires c κs = search needs
 
 returns : tie.Need-returns
-returns c = (read-short limits _ _ _ _ _ _ _ _ (c .before .before .before .before .before .before .before .before .before .before .before .args .text .now) (c .before .before .before .before .before .before .before .before .before .before .before .args .dependencies .now) (ltb-true _ _ (sym (c .before .below-full .ensures) ∙ c .if1 .taken)), refl)
+returns c = (read-short limits _ _ _ _ _ _ _ _ (c .before .before .before .before .before .before .before .before .before .before .before .args .text .now) (c .before .before .before .before .before .before .before .before .before .before .before .args .dependencies .now) (ltb-true _ _ (sym (c .before .below-full .ensures) ∙ c .if1 .taken)), (refl, refl))
 
 slice-aggregate-read-plan : tie.Need-slice-aggregate-read-plan
 slice-aggregate-read-plan c = search needs
@@ -75,11 +75,15 @@ returns-2 c =
     let a = c .before .before .before .before .before .before .before .before .before .before .before .before .before .before .before .before .before .before .before .before .before .before .before .before .before .before .before .before .before .before .before .before .before .before .before .before .before .before .before .before .before .before .before .before .before .before .before .before .before .before .before .before .before .before .before .args in
     let read = c .before .before .before .before .before .before .before .before .before .before .before .before .before .before .before .before .before .before .before .before .before .before .before .before .before .before .before .before .before .before .read-plan in
     let written = c .before .before .before .before .before .before .before .is-written in
-    let stored = c .before .store-if .ensures in (
-      read-stored limits _ _ _ _ _ _ _ _ (a .text .now) (a .dependencies .now) _ _ _ _ _ (ltb-false _ _ (sym (c .before .before .before .before .before .before .before .before .before .before .before .before .before .before .before .before .before .before .before .before .before .before .before .before .before .before .before .before .before .before .before .before .before .before .before .before .before .before .before .before .before .before .before .before .before .below-full .ensures) ∙ c .before .before .before .before .before .before .before .before .before .before .before .before .before .before .before .before .before .before .before .before .before .before .before .before .before .before .before .before .before .before .before .before .before .before .before .before .before .before .before .before .before .before .before .before .if1 .left)) (zero-columns limits) (readingMeant (read .result)) _ _ _ _ _ _ _ _ _ _ _ _ _ _ (written .result)
+    let stored = c .before .store-if .ensures in
+    let wide = ltb-false _ _ (sym (c .before .before .before .before .before .before .before .before .before .before .before .before .before .before .before .before .before .before .before .before .before .before .before .before .before .before .before .before .before .before .before .before .before .before .before .before .before .before .before .before .before .before .before .before .before .below-full .ensures) ∙ c .before .before .before .before .before .before .before .before .before .before .before .before .before .before .before .before .before .before .before .before .before .before .before .before .before .before .before .before .before .before .before .before .before .before .before .before .before .before .before .before .before .before .before .before .if1 .left) in (
+      read-stored limits _ _ _ _ _ _ _ _ (a .text .now) (a .dependencies .now) _ _ _ _ _ wide (zero-columns limits) (readingMeant (read .result)) _ _ _ _ _ _ _ _ _ _ _ _ _ _ (written .result)
           (record { first-drones = search needs; first-stops = search needs; second-drones = search needs; second-stops = search needs; flag-bytes = search needs })
           (read .ensures) (written .ensures) stored,
-      stored-rest limits (written .result) _ (a .dependencies .now) _ (gathered-length limits _ _ _ _ _) stored,
+      (
+        stored-rest limits (written .result) _ (a .dependencies .now) _ (gathered-length limits _ _ _ _ _) stored,
+        reserved-stored limits _ _ _ _ _ _ _ _ (a .text .now) (a .dependencies .now) _ _ _ _ _ wide (zero-columns limits) (readingMeant (read .result)) _ _ _ _ _ _ _ _ _ _ _ _ _ _ (written .result) (read .ensures) (written .ensures) stored,
+      ),
     )
 
 pub read-plan-spec : {M : Type 1} → statement M

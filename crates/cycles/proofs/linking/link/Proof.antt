@@ -5,7 +5,7 @@ use native.Mathlib.Nat.{le-antisymm}
 use native.Mathlib.Omega.{arith}
 use Rattle.below.specs.Below.{at}
 use Rattle.tables.specs.Limits.{limits}
-use Rattle.cycles.specs.Links.{Linked}
+use Rattle.cycles.specs.Links.{LinkedWaits}
 use Rattle.below.proofs.Links.{linked-none, linked-more}
 use Rattle.cycles.proofs.linking.link.Statement.{statement}
 use Rattle.cycles.proofs.linking.link.Tie as tie
@@ -14,70 +14,55 @@ use Rattle.cycles.proofs.linking.link.Lts as lts
 use Rattle.tables.proofs.casts.wide.Reads as wide-reads
 
 abbrev Inv-loop : tie.InvT-loop
-Inv-loop from m head₀ next₀ k₀ head next k = (k ≤ m) × Linked limits (at from) k head next
+Inv-loop from m head₀ next₀ k₀ head next k = (k ≤ m) × LinkedWaits limits (at from) k head next
 
 abbrev μ-loop : tie.MeasureT-loop
 μ-loop from m head₀ next₀ k₀ head next k = m - k
 
--- src/linking.rt:24:5
 loop-holds : tie.Need-loop-holds Inv-loop μ-loop
 loop-holds c = (omega arith, linked-none _ _ _ _ _ (c .pre .1 .0) (c .pre .1 .1) (c .pre .1 .2))
 
--- src/linking.rt:25:22
 mul-wide : tie.Need-mul-wide Inv-loop μ-loop
 mul-wide c = search needs
 
--- src/linking.rt:25:22
 element-copy-out-wide : tie.Need-element-copy-out-wide Inv-loop μ-loop
 element-copy-out-wide c = search needs
 
--- src/linking.rt:25:13
 wide-requires : tie.Need-wide-requires Inv-loop μ-loop
 wide-requires c κs = search needs
 
--- src/linking.rt:26:19
 mul-next : tie.Need-mul-next Inv-loop μ-loop
 mul-next c = omega (arith, c .wide .ensures .0, c .before .before .before .before .pre .0 .1 (c .before .before .before .loop .k) (omega arith))
 
--- src/linking.rt:26:19
 element-copy-out-next : tie.Need-element-copy-out-next Inv-loop μ-loop
 element-copy-out-next c = omega (arith, c .wide .ensures .0, c .before .before .before .before .pre .0 .1 (c .before .before .before .loop .k) (omega arith), c .before .before .before .loop .inv .1 .head-size)
 
--- src/linking.rt:26:9
 mul-next-2 : tie.Need-mul-next-2 Inv-loop μ-loop
 mul-next-2 c = search needs
 
--- src/linking.rt:26:9
 element-write-next : tie.Need-element-write-next Inv-loop μ-loop
 element-write-next c = omega (arith, c .before .before .before .before .loop .inv .1 .next-size)
 
--- src/linking.rt:27:9
 add-k : tie.Need-add-k Inv-loop μ-loop
 add-k c = search needs
 
--- src/linking.rt:28:19
 cast-head : tie.Need-cast-head Inv-loop μ-loop
 cast-head c = search needs
 
--- src/linking.rt:28:9
 mul-head : tie.Need-mul-head Inv-loop μ-loop
 mul-head c = omega (arith, c .before .wide .ensures .0, c .before .before .before .before .before .pre .0 .1 (c .before .before .before .before .loop .k) (omega arith))
 
--- src/linking.rt:28:9
 element-write-head : tie.Need-element-write-head Inv-loop μ-loop
 element-write-head c = omega (arith, c .before .wide .ensures .0, c .before .before .before .before .before .pre .0 .1 (c .before .before .before .before .loop .k) (omega arith), c .before .before .before .before .loop .inv .1 .head-size)
 
--- src/linking.rt:24:5
 loop-less : tie.Need-loop-less Inv-loop μ-loop
 loop-less c = search needs
 
--- src/linking.rt:24:5
 loop-again : tie.Need-loop-again Inv-loop μ-loop
 loop-again c = (omega arith, linked-more _ _ _ _ _ _ _ _ _ (c .before .before .before .before .loop .inv .1) (omega arith) (c .before .wide .ensures .0) (omega (arith, c .before .wide .ensures .0, c .before .before .before .before .before .pre .0 .1 (c .before .before .before .before .loop .k) (omega arith))) refl refl)
 
--- src/linking.rt:13:1
 returns : tie.Need-returns Inv-loop μ-loop
-returns c = subst (λ (k : ℕ). Linked limits (at (c .before .before .args .from .now)) k (c .before .loop .head) (c .before .loop .next)) (le-antisymm (omega arith) (omega arith)) (c .before .loop .inv .1)
+returns c = subst (λ (k : ℕ). LinkedWaits limits (at (c .before .before .args .from .now)) k (c .before .loop .head) (c .before .loop .next)) (le-antisymm (omega arith) (omega arith)) (c .before .loop .inv .1)
 
 pub link-spec : {M : Type 1} → statement M
 link-spec =

@@ -20,35 +20,27 @@ Inv-loop flags m total₀ k₀ total k = (k ≤ m) × (total ≡ countBelow k (t
 abbrev μ-loop : tie.MeasureT-loop
 μ-loop flags m total₀ k₀ total k = m - k
 
--- src/waits.rt:35:5
 loop-holds : tie.Need-loop-holds Inv-loop μ-loop
 loop-holds c = (omega arith, sym (count-start _))
 
--- src/waits.rt:36:22
 turned-at-requires : tie.Need-turned-at-requires Inv-loop μ-loop
 turned-at-requires c κs = search needs
 
--- src/waits.rt:36:18
 pick16-requires : tie.Need-pick16-requires Inv-loop μ-loop
 pick16-requires c κs = search needs
 
--- src/waits.rt:36:9
 add-total : tie.Need-add-total Inv-loop μ-loop
 add-total c = omega (arith, c .before .before .before .loop .inv .1, count-le (c .before .before .before .loop .k) (turnedIn (c .before .before .before .before .before .args .flags .now)), c .pick16 .ensures, pick-le (c .before .turned-at .result))
 
--- src/waits.rt:37:9
 add-k : tie.Need-add-k Inv-loop μ-loop
 add-k c = search needs
 
--- src/waits.rt:35:5
 loop-less : tie.Need-loop-less Inv-loop μ-loop
 loop-less c = search needs
 
--- src/waits.rt:35:5
 loop-again : tie.Need-loop-again Inv-loop μ-loop
 loop-again c = (omega arith, turned-more _ _ _ _ _ (c .before .before .before .loop .inv .1) (c .before .turned-at .ensures) (c .pick16 .ensures))
 
--- src/waits.rt:29:1
 returns : tie.Need-returns Inv-loop μ-loop
 returns c = count-end _ _ _ _ (omega arith) (omega arith) (c .before .loop .inv .1)
 

@@ -11,71 +11,54 @@ use Rattle.cycles.proofs.walk.advance.Lts as lts
 use Rattle.tables.proofs.casts.wide.Reads as wide-reads
 use Rattle.cycles.proofs.walk.greater.Reads as greater-reads
 
--- src/walk.rt:105:18
 mul-wide : tie.Need-mul-wide
 mul-wide c = search needs
 
--- src/walk.rt:105:18
 element-copy-out-wide : tie.Need-element-copy-out-wide
 element-copy-out-wide c = search needs
 
--- src/walk.rt:105:13
 wide-requires : tie.Need-wide-requires
 wide-requires c κs = search needs
 
--- src/walk.rt:105:13
 add-v : tie.Need-add-v
 add-v c = search needs
 
--- src/walk.rt:106:14
 cast-cur : tie.Need-cast-cur
 cast-cur c = search needs
 
--- src/walk.rt:106:5
 mul-cur : tie.Need-mul-cur
 mul-cur c = search needs
 
--- src/walk.rt:106:5
 element-write-cur : tie.Need-element-write-cur
 element-write-cur c = search needs
 
--- src/walk.rt:107:30
 mul-greater : tie.Need-mul-greater
 mul-greater c = search needs
 
--- src/walk.rt:107:30
 element-copy-out-greater : tie.Need-element-copy-out-greater
 element-copy-out-greater c = search needs
 
--- src/walk.rt:107:46
 sub-greater : tie.Need-sub-greater
 sub-greater c = search needs
 
--- src/walk.rt:107:40
 mul-greater-2 : tie.Need-mul-greater-2
 mul-greater-2 c = search needs
 
--- src/walk.rt:107:40
 element-copy-out-greater-2 : tie.Need-element-copy-out-greater-2
 element-copy-out-greater-2 c = search needs
 
--- src/walk.rt:107:22
 greater-requires : tie.Need-greater-requires
 greater-requires c κs = search needs
 
--- src/walk.rt:107:16
 add-table : tie.Need-add-table
 add-table c = omega (arith, c .greater .ensures, c .before .before .before .before .before .pre .1 .1 (c .before .before .before .wide .result + 1), c .before .before .before .before .before .pre .1 .1 (c .before .before .before .wide .result + 1 - 1))
 
--- src/walk.rt:107:5
 mul-table : tie.Need-mul-table
 mul-table c = search needs
 
--- src/walk.rt:107:5
 element-write-table : tie.Need-element-write-table
 element-write-table c = search needs
 
--- src/walk.rt:100:1
 returns : tie.Need-returns
 returns c = advanced legOfOne _ _ _ _ _ _ (c .before .before .before .wide .ensures .0) (c .greater .ensures) refl
 

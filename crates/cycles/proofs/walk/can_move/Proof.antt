@@ -7,63 +7,48 @@ use Rattle.cycles.proofs.walk.can_move.Reads as reads
 use Rattle.cycles.proofs.walk.can_move.Lts as lts
 use Rattle.tables.proofs.casts.wide.Reads as wide-reads
 
--- src/walk.rt:58:18
 mul-wide : tie.Need-mul-wide
 mul-wide c = search needs
 
--- src/walk.rt:58:18
 element-copy-out-wide : tie.Need-element-copy-out-wide
 element-copy-out-wide c = search needs
 
--- src/walk.rt:58:9
 wide-requires : tie.Need-wide-requires
 wide-requires c κs = search needs
 
--- src/walk.rt:59:13
 mul-wide-2 : tie.Need-mul-wide-2
 mul-wide-2 c = search needs
 
--- src/walk.rt:59:13
 element-copy-out-wide-2 : tie.Need-element-copy-out-wide-2
 element-copy-out-wide-2 c = search needs
 
--- src/walk.rt:59:8
 wide-requires-2 : tie.Need-wide-requires-2
 wide-requires-2 c κs = search needs
 
--- src/walk.rt:59:31
 mul-wide-3 : tie.Need-mul-wide-3
 mul-wide-3 c = search needs
 
--- src/walk.rt:59:31
 element-copy-out-wide-3 : tie.Need-element-copy-out-wide-3
 element-copy-out-wide-3 c = search needs
 
--- src/walk.rt:59:26
 wide-requires-3 : tie.Need-wide-requires-3
 wide-requires-3 c κs = search needs
 
--- src/walk.rt:59:8
 add-if1 : tie.Need-add-if1
 add-if1 c = search needs
 
--- src/walk.rt:60:9
 returns : tie.Need-returns
 returns c = read-last _ _ _ _ _ _ _ _ (c .before .before .before .before .before .wide .ensures .0) (c .before .before .before .wide2 .ensures .0) (c .before .wide3 .ensures .0) (c .if1 .taken)
 
--- src/walk.rt:62:10
 add-result : tie.Need-add-result
 add-result c = search needs
 
--- src/walk.rt:62:5
 mul-result : tie.Need-mul-result
 mul-result c = search needs
 
--- src/walk.rt:62:5
 element-copy-out-result : tie.Need-element-copy-out-result
 element-copy-out-result c = search needs
 
--- src/walk.rt:48:1
 returns-2 : tie.Need-returns-2
 returns-2 c = read-next _ _ _ _ _ _ _ _ (c .before .before .before .before .before .before .wide .ensures .0) (c .before .before .before .before .wide2 .ensures .0) (c .before .before .wide3 .ensures .0) _ (c .before .if1 .left) refl
 

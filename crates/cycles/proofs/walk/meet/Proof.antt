@@ -12,91 +12,69 @@ use Rattle.tables.proofs.casts.wide.Reads as wide-reads
 use Rattle.tables.proofs.casts.wide8.Reads as wide8-reads
 use Rattle.cycles.proofs.walk.greater.Reads as greater-reads
 
--- src/walk.rt:141:24
 mul-greater : tie.Need-mul-greater
 mul-greater c = search needs
 
--- src/walk.rt:141:24
 element-copy-out-greater : tie.Need-element-copy-out-greater
 element-copy-out-greater c = search needs
 
--- src/walk.rt:141:16
 greater-requires : tie.Need-greater-requires
 greater-requires c κs = search needs
 
--- src/walk.rt:141:5
 mul-table : tie.Need-mul-table
 mul-table c = search needs
 
--- src/walk.rt:141:5
 element-write-table : tie.Need-element-write-table
 element-write-table c = search needs
 
--- src/walk.rt:142:5
 mul-need : tie.Need-mul-need
 mul-need c = search needs
 
--- src/walk.rt:142:5
 element-copy-out-need : tie.Need-element-copy-out-need
 element-copy-out-need c = search needs
 
--- src/walk.rt:142:5
 sub-need : tie.Need-sub-need
 sub-need c = search needs
 
--- src/walk.rt:142:5
 element-write-need : tie.Need-element-write-need
 element-write-need c = search needs
 
--- src/walk.rt:143:8
 mul-if1 : tie.Need-mul-if1
 mul-if1 c = search needs
 
--- src/walk.rt:143:8
 element-copy-out-if1 : tie.Need-element-copy-out-if1
 element-copy-out-if1 c = search needs
 
--- src/walk.rt:144:9
 returns : tie.Need-returns
 returns c = met-kept _ _ _ _ _ _ _ _ _ _ (omega (arith, c .before .before .before .before .before .before .pre .1 .0)) (c .before .before .before .before .before .before .pre .0 .3) (c .before .before .before .greater .ensures) refl (c .if1 .taken)
 
--- src/walk.rt:146:13
 shared-slice-read-d : tie.Need-shared-slice-read-d
 shared-slice-read-d c = search needs
 
--- src/walk.rt:147:9
 wide8-requires : tie.Need-wide8-requires
 wide8-requires c κs = search needs
 
--- src/walk.rt:148:13
 mul-wide : tie.Need-mul-wide
 mul-wide c = search needs
 
--- src/walk.rt:148:13
 element-copy-out-wide : tie.Need-element-copy-out-wide
 element-copy-out-wide c = search needs
 
--- src/walk.rt:148:8
 wide-requires : tie.Need-wide-requires
 wide-requires c κs = search needs
 
--- src/walk.rt:148:8
 add-if2 : tie.Need-add-if2
 add-if2 c = search needs
 
--- src/walk.rt:149:9
 returns-2 : tie.Need-returns-2
 returns-2 c = met-away _ _ _ _ _ _ _ _ _ _ (omega (arith, c .before .before .before .before .before .before .before .before .before .before .before .pre .1 .0)) (c .before .before .before .before .before .before .before .before .before .before .before .pre .0 .3) (c .before .before .before .before .before .before .before .before .greater .ensures) refl _ _ (c .before .before .before .wide8 .ensures .0) (c .before .wide .ensures .0) (c .if2 .taken)
 
--- src/walk.rt:151:5
 element-write-stack : tie.Need-element-write-stack
 element-write-stack c = omega (arith, c .before .before .before .before .before .before .before .before .before .before .before .pre .1 .1, c .before .before .before .before .before .before .before .before .before .before .before .pre .0 .4 (wakes-now (c .before .before .before .before .before .before .before .before .before .before .before .args .owners .now) (c .before .before .before .before .before .before .before .before .before .before .before .args .cur .now) (c .before .before .before .before .before .before .before .before .before .before .before .args .need .now) (c .before .before .before .before .before .before .before .before .before .before .before .args .stack .now) (c .before .before .before .before .before .before .before .before .before .before .before .args .table .now) (c .before .before .before .before .before .before .before .before .before .before .before .args .w) (c .before .before .before .before .before .before .before .before .before .before .before .args .entry) (c .before .before .before .before .before .before .before .before .before .before .before .args .top) _ (at (c .before .before .before .before .before .before .before .before .before .before .before .args .need .now) (c .before .before .before .before .before .before .before .before .before .before .before .args .w) - 1) (omega (arith, c .before .before .before .before .before .before .before .before .before .before .before .pre .1 .0)) (c .before .before .before .before .before .before .before .before .before .before .before .pre .0 .3) (c .before .before .before .before .before .before .before .before .greater .ensures) refl _ _ (c .before .before .before .wide8 .ensures .0) (c .before .wide .ensures .0) (c .before .before .before .before .before .if1 .left) (c .if2 .left)))
 
--- src/walk.rt:152:5
 add-result : tie.Need-add-result
 add-result c = omega (arith, c .before .before .before .before .before .before .before .before .before .before .before .pre .0 .4 (wakes-now (c .before .before .before .before .before .before .before .before .before .before .before .args .owners .now) (c .before .before .before .before .before .before .before .before .before .before .before .args .cur .now) (c .before .before .before .before .before .before .before .before .before .before .before .args .need .now) (c .before .before .before .before .before .before .before .before .before .before .before .args .stack .now) (c .before .before .before .before .before .before .before .before .before .before .before .args .table .now) (c .before .before .before .before .before .before .before .before .before .before .before .args .w) (c .before .before .before .before .before .before .before .before .before .before .before .args .entry) (c .before .before .before .before .before .before .before .before .before .before .before .args .top) _ (at (c .before .before .before .before .before .before .before .before .before .before .before .args .need .now) (c .before .before .before .before .before .before .before .before .before .before .before .args .w) - 1) (omega (arith, c .before .before .before .before .before .before .before .before .before .before .before .pre .1 .0)) (c .before .before .before .before .before .before .before .before .before .before .before .pre .0 .3) (c .before .before .before .before .before .before .before .before .greater .ensures) refl _ _ (c .before .before .before .wide8 .ensures .0) (c .before .wide .ensures .0) (c .before .before .before .before .before .if1 .left) (c .if2 .left)))
 
--- src/walk.rt:127:1
 returns-3 : tie.Need-returns-3
 returns-3 c = met-woken _ _ _ _ _ _ _ _ _ _ (omega (arith, c .before .before .before .before .before .before .before .before .before .before .before .pre .1 .0)) (c .before .before .before .before .before .before .before .before .before .before .before .pre .0 .3) (c .before .before .before .before .before .before .before .before .greater .ensures) refl _ _ (c .before .before .before .wide8 .ensures .0) (c .before .wide .ensures .0) _ refl (c .before .before .before .before .before .if1 .left) (c .if2 .left)
 

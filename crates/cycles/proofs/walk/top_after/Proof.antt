@@ -9,19 +9,15 @@ use Rattle.cycles.proofs.walk.top_after.Reads as reads
 use Rattle.cycles.proofs.walk.top_after.Lts as lts
 use Rattle.cycles.proofs.walk.can_move.Reads as can-move-reads
 
--- src/walk.rt:123:8
 can-move-requires : tie.Need-can-move-requires
 can-move-requires c κs = search needs
 
--- src/walk.rt:123:61
 sub-result : tie.Need-sub-result
 sub-result c = search needs
 
--- src/walk.rt:112:1
 returns : tie.Need-returns
 returns c = ap (λ (b : Bool). pick b (c .before .before .args .top) (c .before .before .args .top - 1)) (sym (c .if1 .taken) ∙ c .before .can-move .ensures)
 
--- src/walk.rt:112:1
 returns-2 : tie.Need-returns-2
 returns-2 c = ap (λ (b : Bool). pick b (c .before .before .args .top) (c .before .before .args .top - 1)) (sym (c .if1 .left) ∙ c .before .can-move .ensures)
 

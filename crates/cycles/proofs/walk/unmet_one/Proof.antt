@@ -10,43 +10,33 @@ use Rattle.cycles.proofs.walk.unmet_one.Lts as lts
 use Rattle.tables.proofs.casts.wide.Reads as wide-reads
 use Rattle.tables.proofs.casts.wide8.Reads as wide8-reads
 
--- src/walk.rt:21:18
 mul-wide : tie.Need-mul-wide
 mul-wide c = search needs
 
--- src/walk.rt:21:18
 element-copy-out-wide : tie.Need-element-copy-out-wide
 element-copy-out-wide c = search needs
 
--- src/walk.rt:21:9
 wide-requires : tie.Need-wide-requires
 wide-requires c κs = search needs
 
--- src/walk.rt:22:19
 shared-slice-read-wide8 : tie.Need-shared-slice-read-wide8
 shared-slice-read-wide8 c = search needs
 
--- src/walk.rt:22:9
 wide8-requires : tie.Need-wide8-requires
 wide8-requires c κs = search needs
 
--- src/walk.rt:23:18
 mul-wide-2 : tie.Need-mul-wide-2
 mul-wide-2 c = search needs
 
--- src/walk.rt:23:18
 element-copy-out-wide-2 : tie.Need-element-copy-out-wide-2
 element-copy-out-wide-2 c = omega (arith, c .wide8 .ensures .0, ap (at (c .before .before .before .before .before .args .owners .now)) (c .before .before .wide .ensures .0), c .before .before .before .before .before .pre .2)
 
--- src/walk.rt:23:13
 wide-requires-2 : tie.Need-wide-requires-2
 wide-requires-2 c κs = search needs
 
--- src/walk.rt:17:1
 returns : tie.Need-returns
 returns c = (read-met _ _ _ _ _ _ _ (c .before .before .before .before .before .wide .ensures .0) (c .before .before .before .wide8 .ensures .0) (c .before .wide2 .ensures .0) (c .if1 .taken), omega arith)
 
--- src/walk.rt:17:1
 returns-2 : tie.Need-returns-2
 returns-2 c = (read-unmet _ _ _ _ _ _ _ (c .before .before .before .before .before .wide .ensures .0) (c .before .before .before .wide8 .ensures .0) (c .before .wide2 .ensures .0) (c .if1 .left), omega arith)
 

@@ -7,7 +7,7 @@ use lib.ListN.{length-replicate}
 use Rattle.below.specs.Below.{at}
 use Rattle.below.proofs.Index.{zeros-at}
 use Rattle.tables.specs.Limits.{limits}
-use Rattle.cycles.specs.Walk.{metAt, unmet}
+use Rattle.cycles.specs.Walk.{metAt, unmetInto}
 use Rattle.cycles.proofs.NeedLaws.{Counted, counted-none, counted-le, counted-more}
 use Rattle.cycles.proofs.walk.unmet_waits.Statement.{statement}
 use Rattle.cycles.proofs.walk.unmet_waits.Tie as tie
@@ -22,57 +22,44 @@ Inv-loop owners from into m cur need₀ k₀ need k = (k ≤ m) × Counted limit
 abbrev μ-loop : tie.MeasureT-loop
 μ-loop owners from into m cur need₀ k₀ need k = m - k
 
--- src/walk.rt:39:5
 loop-holds : tie.Need-loop-holds Inv-loop μ-loop
 loop-holds c = (omega arith, counted-none _ _ _ _ (length-replicate {A = ℕ} (limits .stops) 0) (zeros-at (limits .stops)))
 
--- src/walk.rt:40:22
 mul-wide : tie.Need-mul-wide Inv-loop μ-loop
 mul-wide c = search needs
 
--- src/walk.rt:40:22
 element-copy-out-wide : tie.Need-element-copy-out-wide Inv-loop μ-loop
 element-copy-out-wide c = search needs
 
--- src/walk.rt:40:13
 wide-requires : tie.Need-wide-requires Inv-loop μ-loop
 wide-requires c κs = search needs
 
--- src/walk.rt:41:20
 unmet-one-requires : tie.Need-unmet-one-requires Inv-loop μ-loop
 unmet-one-requires c κs = let e = c .before .before .before .before .before .pre .1 (c .before .before .before .loop .k) (omega arith) in (omega arith, e .from-owned, e .awaited-small)
 
--- src/walk.rt:41:9
 mul-need : tie.Need-mul-need Inv-loop μ-loop
 mul-need c = omega (arith, c .before .wide .ensures .0, c .before .before .before .before .before .before .pre .1 (c .before .before .before .before .loop .k) (omega arith) .into-small)
 
--- src/walk.rt:41:9
 array-read-need : tie.Need-array-read-need Inv-loop μ-loop
 array-read-need c = omega (arith, c .before .wide .ensures .0, c .before .before .before .before .before .before .pre .1 (c .before .before .before .before .loop .k) (omega arith) .into-small, c .before .before .before .before .loop .inv .1 .size)
 
--- src/walk.rt:41:9
 add-need : tie.Need-add-need Inv-loop μ-loop
 add-need c = omega (arith, c .unmet-one .ensures .1, counted-le _ _ _ (c .before .before .before .before .loop .inv .1) (c .before .wide .result) (omega (arith, c .before .wide .ensures .0, c .before .before .before .before .before .before .pre .1 (c .before .before .before .before .loop .k) (omega arith) .into-small)))
 
--- src/walk.rt:41:9
 array-write-need : tie.Need-array-write-need Inv-loop μ-loop
 array-write-need c = omega (arith, c .before .wide .ensures .0, c .before .before .before .before .before .before .pre .1 (c .before .before .before .before .loop .k) (omega arith) .into-small, c .before .before .before .before .loop .inv .1 .size)
 
--- src/walk.rt:42:9
 add-k : tie.Need-add-k Inv-loop μ-loop
 add-k c = search needs
 
--- src/walk.rt:39:5
 loop-less : tie.Need-loop-less Inv-loop μ-loop
 loop-less c = search needs
 
--- src/walk.rt:39:5
 loop-again : tie.Need-loop-again Inv-loop μ-loop
 loop-again c = (omega arith, counted-more _ _ _ _ _ _ _ _ (c .before .before .before .before .loop .inv .1) (c .before .wide .ensures .0) (omega (arith, c .before .wide .ensures .0, c .before .before .before .before .before .before .pre .1 (c .before .before .before .before .loop .k) (omega arith) .into-small)) (c .unmet-one .ensures .0) refl)
 
--- src/walk.rt:27:1
 returns : tie.Need-returns Inv-loop μ-loop
-returns c = (c .before .loop .inv .1 .size, λ v l. c .before .loop .inv .1 .counts v l ∙ ap (λ (k : ℕ). unmet (at (c .before .before .before .args .into .now)) k (metAt (at (c .before .before .before .args .owners .now)) (at (c .before .before .before .args .from .now)) (at (c .before .before .before .args .cur .now))) v) (le-antisymm (omega arith) (omega arith)))
+returns c = (c .before .loop .inv .1 .size, λ v l. c .before .loop .inv .1 .counts v l ∙ ap (λ (k : ℕ). unmetInto (at (c .before .before .before .args .into .now)) k (metAt (at (c .before .before .before .args .owners .now)) (at (c .before .before .before .args .from .now)) (at (c .before .before .before .args .cur .now))) v) (le-antisymm (omega arith) (omega arith)))
 
 pub unmet-waits-spec : {M : Type 1} → statement M
 unmet-waits-spec =

@@ -8,39 +8,30 @@ use Rattle.dispatch.proofs.answers.of_cost.Reads as reads
 use Rattle.dispatch.proofs.answers.of_cost.Lts as lts
 use Rattle.dispatch.proofs.answers.numbered.Reads as numbered-reads
 
--- src/answers.rt:76:39
 enum-told : tie.Need-enum-told
 enum-told c = search needs
 
--- src/answers.rt:76:39
 numbered-requires : tie.Need-numbered-requires
 numbered-requires c κs = search needs
 
--- src/answers.rt:77:33
 enum-told-2 : tie.Need-enum-told-2
 enum-told-2 c = search needs
 
--- src/answers.rt:77:33
 numbered-requires-2 : tie.Need-numbered-requires-2
 numbered-requires-2 c κs = search needs
 
--- src/answers.rt:78:26
 enum-known-answer : tie.Need-enum-known-answer
 enum-known-answer c = search needs
 
--- src/answers.rt:80:21
 cast-t4 : tie.Need-cast-t4
 cast-t4 c = omega (arith, value-fits _ (c .before .answer .given .0 .0) (c .before .answer .given .1) (c .before .before .before .pre))
 
--- src/answers.rt:71:1
 returns : tie.Need-returns
 returns c = search needs
 
--- src/answers.rt:71:1
 returns-2 : tie.Need-returns-2
 returns-2 c = search needs
 
--- src/answers.rt:71:1
 returns-3 : tie.Need-returns-3
 returns-3 c = search needs
 

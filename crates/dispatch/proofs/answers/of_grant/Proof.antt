@@ -8,87 +8,66 @@ use Rattle.dispatch.proofs.answers.of_grant.Reads as reads
 use Rattle.dispatch.proofs.answers.of_grant.Lts as lts
 use Rattle.dispatch.proofs.answers.numbered.Reads as numbered-reads
 
--- src/answers.rt:31:32
 enum-told : tie.Need-enum-told
 enum-told c = search needs
 
--- src/answers.rt:31:32
 numbered-requires : tie.Need-numbered-requires
 numbered-requires c κs = search needs
 
--- src/answers.rt:32:39
 enum-told-2 : tie.Need-enum-told-2
 enum-told-2 c = search needs
 
--- src/answers.rt:32:39
 numbered-requires-2 : tie.Need-numbered-requires-2
 numbered-requires-2 c κs = search needs
 
--- src/answers.rt:33:33
 enum-told-3 : tie.Need-enum-told-3
 enum-told-3 c = search needs
 
--- src/answers.rt:33:33
 numbered-requires-3 : tie.Need-numbered-requires-3
 numbered-requires-3 c κs = search needs
 
--- src/answers.rt:34:32
 enum-told-4 : tie.Need-enum-told-4
 enum-told-4 c = search needs
 
--- src/answers.rt:34:32
 numbered-requires-4 : tie.Need-numbered-requires-4
 numbered-requires-4 c κs = search needs
 
--- src/answers.rt:35:33
 enum-told-5 : tie.Need-enum-told-5
 enum-told-5 c = search needs
 
--- src/answers.rt:35:33
 numbered-requires-5 : tie.Need-numbered-requires-5
 numbered-requires-5 c κs = search needs
 
--- src/answers.rt:36:33
 enum-told-6 : tie.Need-enum-told-6
 enum-told-6 c = search needs
 
--- src/answers.rt:36:33
 numbered-requires-6 : tie.Need-numbered-requires-6
 numbered-requires-6 c κs = search needs
 
--- src/answers.rt:37:30
 enum-known-reply : tie.Need-enum-known-reply
 enum-known-reply c = search needs
 
--- src/answers.rt:39:21
 cast-t4 : tie.Need-cast-t4
 cast-t4 c = omega (arith, dependency-fits _ (c .before .reply .given .0 .0) (c .before .reply .given .1) (c .before .before .before .pre))
 
--- src/answers.rt:26:1
 returns : tie.Need-returns
 returns c = search needs
 
--- src/answers.rt:26:1
 returns-2 : tie.Need-returns-2
 returns-2 c = search needs
 
--- src/answers.rt:26:1
 returns-3 : tie.Need-returns-3
 returns-3 c = search needs
 
--- src/answers.rt:26:1
 returns-4 : tie.Need-returns-4
 returns-4 c = search needs
 
--- src/answers.rt:26:1
 returns-5 : tie.Need-returns-5
 returns-5 c = search needs
 
--- src/answers.rt:26:1
 returns-6 : tie.Need-returns-6
 returns-6 c = search needs
 
--- src/answers.rt:26:1
 returns-7 : tie.Need-returns-7
 returns-7 c = search needs
 

@@ -11,59 +11,45 @@ use Rattle.flat.proofs.calls.arrive.Lts as lts
 use Rattle.flat.proofs.calls.check_tables.Reads as check-tables-reads
 use Rattle.flat.proofs.cores.arrive_sound.Reads as arrive-sound-reads
 
--- src/calls.rt:187:9
 check-tables-requires : tie.Need-check-tables-requires
 check-tables-requires c κs = search needs
 
--- src/calls.rt:203:34
 enum-told : tie.Need-enum-told
 enum-told c = search needs
 
--- src/calls.rt:204:34
 enum-told-2 : tie.Need-enum-told-2
 enum-told-2 c = search needs
 
--- src/calls.rt:212:13
 enum-told-3 : tie.Need-enum-told-3
 enum-told-3 c = search needs
 
--- src/calls.rt:205:32
 arrive-sound-requires : tie.Need-arrive-sound-requires
 arrive-sound-requires c κs = lends _ (says-usable limits _ _ (c .before .before .before .before .check-tables .ensures) (c .before .before .enum-told3 .given .1)) refl
 
--- src/calls.rt:157:1
 same-length : tie.Need-same-length
 same-length c = search needs
 
--- src/calls.rt:157:1
 same-length-2 : tie.Need-same-length-2
 same-length-2 c = search needs
 
--- src/calls.rt:157:1
 returns : tie.Need-returns
 returns c = refused-41 limits _ _ (c .before .before .check-tables .ensures) (c .enum-told .given .1) _
 
--- src/calls.rt:157:1
 same-length-3 : tie.Need-same-length-3
 same-length-3 c = search needs
 
--- src/calls.rt:157:1
 same-length-4 : tie.Need-same-length-4
 same-length-4 c = search needs
 
--- src/calls.rt:157:1
 returns-2 : tie.Need-returns-2
 returns-2 c = refused-40 limits _ _ (c .before .before .check-tables .ensures) (c .enum-told2 .given .1) _
 
--- src/calls.rt:157:1
 same-length-5 : tie.Need-same-length-5
 same-length-5 c = search needs
 
--- src/calls.rt:157:1
 same-length-6 : tie.Need-same-length-6
 same-length-6 c = search needs
 
--- src/calls.rt:157:1
 returns-3 : tie.Need-returns-3
 returns-3 c = said (c .before .before .before .before .arrive-sound .ensures) _ (says-usable limits _ _ (c .before .before .before .before .before .before .before .before .before .check-tables .ensures) (c .before .before .before .before .before .before .before .enum-told3 .given .1)) refl
 

@@ -9,23 +9,18 @@ use Rattle.flat.proofs.calls.check_graph.Lts as lts
 use Rattle.sound.proofs.check.Reads as check-reads
 use Rattle.tables.proofs.sizes.full_size.Reads as full-size-reads
 
--- src/calls.rt:75:9
 full-size-requires : tie.Need-full-size-requires
 full-size-requires c κs = search needs
 
--- src/calls.rt:90:9
 returns : tie.Need-returns
 returns c = (too-small limits _ _ (c .before .full-size .ensures) (c .if1 .taken), λ e. absurd (small-unusable e))
 
--- src/calls.rt:92:9
 check-requires : tie.Need-check-requires
 check-requires c κs = (full-now limits _ _ (c .before .before .before .before .before .before .full-size .ensures) (c .before .before .before .before .before .if1 .left), c .before .before .before .before .before .before .before .before .before .before .before .before .before .before .before .before .before .before .before .before .pre)
 
--- src/calls.rt:112:9
 returns-2 : tie.Need-returns-2
 returns-2 c = (not-sound limits _ _ (c .before .before .before .before .before .before .before .before .full-size .ensures) _ (c .before .check .ensures .0) (c .before .before .before .before .before .before .before .if1 .left) (c .if2 .taken), λ e. absurd (unsound-unusable e))
 
--- src/calls.rt:39:1
 returns-3 : tie.Need-returns-3
 returns-3 c = (usable-now limits _ _ (c .before .before .before .before .before .before .before .before .full-size .ensures) _ (c .before .check .ensures .0) (c .before .before .before .before .before .before .before .if1 .left) (c .if2 .left), λ e. c .before .check .ensures .1 (not-false _ (c .if2 .left)))
 

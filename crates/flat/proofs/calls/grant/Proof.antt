@@ -11,47 +11,36 @@ use Rattle.flat.proofs.calls.grant.Lts as lts
 use Rattle.flat.proofs.calls.check_tables.Reads as check-tables-reads
 use Rattle.flat.proofs.cores.grant_sound.Reads as grant-sound-reads
 
--- src/calls.rt:119:9
 check-tables-requires : tie.Need-check-tables-requires
 check-tables-requires c κs = search needs
 
--- src/calls.rt:135:34
 enum-told : tie.Need-enum-told
 enum-told c = search needs
 
--- src/calls.rt:136:34
 enum-told-2 : tie.Need-enum-told-2
 enum-told-2 c = search needs
 
--- src/calls.rt:145:13
 enum-told-3 : tie.Need-enum-told-3
 enum-told-3 c = search needs
 
--- src/calls.rt:137:32
 grant-sound-requires : tie.Need-grant-sound-requires
 grant-sound-requires c κs = lends _ (says-usable limits _ _ (c .before .before .before .check-tables .ensures) (c .before .enum-told3 .given .1)) refl
 
--- src/calls.rt:89:1
 same-length : tie.Need-same-length
 same-length c = search needs
 
--- src/calls.rt:89:1
 returns : tie.Need-returns
 returns c = refused-41 limits _ _ (c .before .before .check-tables .ensures) (c .enum-told .given .1) _
 
--- src/calls.rt:89:1
 same-length-2 : tie.Need-same-length-2
 same-length-2 c = search needs
 
--- src/calls.rt:89:1
 returns-2 : tie.Need-returns-2
 returns-2 c = refused-40 limits _ _ (c .before .before .check-tables .ensures) (c .enum-told2 .given .1) _
 
--- src/calls.rt:89:1
 same-length-3 : tie.Need-same-length-3
 same-length-3 c = search needs
 
--- src/calls.rt:89:1
 returns-3 : tie.Need-returns-3
 returns-3 c = said (c .before .before .grant-sound .ensures) _ (says-usable limits _ _ (c .before .before .before .before .before .before .check-tables .ensures) (c .before .before .before .before .enum-told3 .given .1)) refl
 

@@ -11,35 +11,27 @@ use Rattle.flat.proofs.calls.preview.Lts as lts
 use Rattle.flat.proofs.calls.check_graph.Reads as check-graph-reads
 use Rattle.flat.proofs.previewing.preview_sound.Reads as preview-sound-reads
 
--- src/calls.rt:423:9
 check-graph-requires : tie.Need-check-graph-requires
 check-graph-requires c κs = search needs
 
--- src/calls.rt:444:34
 enum-told : tie.Need-enum-told
 enum-told c = search needs
 
--- src/calls.rt:445:34
 enum-told-2 : tie.Need-enum-told-2
 enum-told-2 c = search needs
 
--- src/calls.rt:461:13
 enum-told-3 : tie.Need-enum-told-3
 enum-told-3 c = search needs
 
--- src/calls.rt:446:32
 preview-sound-requires : tie.Need-preview-sound-requires
 preview-sound-requires c κs = lends _ (record { usable = says-usable limits _ _ (c .before .before .before .before .before .before .before .check-graph .ensures .0) (c .before .before .before .before .before .enum-told3 .given .1); in-force = c .before .before .before .before .before .before .before .check-graph .ensures .1 (c .before .before .before .before .before .enum-told3 .given .1) }) refl
 
--- src/calls.rt:392:1
 returns : tie.Need-returns
 returns c = previews-41 limits _ _ _ (c .before .before .check-graph .ensures .0) (c .enum-told .given .1)
 
--- src/calls.rt:392:1
 returns-2 : tie.Need-returns-2
 returns-2 c = previews-40 limits _ _ _ (c .before .before .check-graph .ensures .0) (c .enum-told2 .given .1)
 
--- src/calls.rt:392:1
 returns-3 : tie.Need-returns-3
 returns-3 c = said (c .preview-sound .ensures) _ (record { usable = says-usable limits _ _ (c .before .before .before .before .before .before .before .before .check-graph .ensures .0) (c .before .before .before .before .before .before .enum-told3 .given .1); in-force = c .before .before .before .before .before .before .before .before .check-graph .ensures .1 (c .before .before .before .before .before .before .enum-told3 .given .1) }) refl
 

@@ -10,47 +10,36 @@ use Rattle.flat.proofs.calls.turn.Lts as lts
 use Rattle.flat.proofs.calls.check_graph.Reads as check-graph-reads
 use Rattle.flat.proofs.turning.turn_sound.Reads as turn-sound-reads
 
--- src/calls.rt:341:9
 check-graph-requires : tie.Need-check-graph-requires
 check-graph-requires c κs = search needs
 
--- src/calls.rt:362:34
 enum-told : tie.Need-enum-told
 enum-told c = search needs
 
--- src/calls.rt:363:34
 enum-told-2 : tie.Need-enum-told-2
 enum-told-2 c = search needs
 
--- src/calls.rt:377:13
 enum-told-3 : tie.Need-enum-told-3
 enum-told-3 c = search needs
 
--- src/calls.rt:364:32
 turn-sound-requires : tie.Need-turn-sound-requires
 turn-sound-requires c κs = lends _ (record { usable = says-usable limits _ _ (c .before .before .before .before .before .before .before .before .check-graph .ensures .0) (c .before .before .before .before .before .before .enum-told3 .given .1); in-force = c .before .before .before .before .before .before .before .before .check-graph .ensures .1 (c .before .before .before .before .before .before .enum-told3 .given .1) }) refl
 
--- src/calls.rt:306:1
 same-length : tie.Need-same-length
 same-length c = search needs
 
--- src/calls.rt:306:1
 returns : tie.Need-returns
 returns c = refused-41 limits _ _ (c .before .before .check-graph .ensures .0) (c .enum-told .given .1) _
 
--- src/calls.rt:306:1
 same-length-2 : tie.Need-same-length-2
 same-length-2 c = search needs
 
--- src/calls.rt:306:1
 returns-2 : tie.Need-returns-2
 returns-2 c = refused-40 limits _ _ (c .before .before .check-graph .ensures .0) (c .enum-told2 .given .1) _
 
--- src/calls.rt:306:1
 same-length-3 : tie.Need-same-length-3
 same-length-3 c = search needs
 
--- src/calls.rt:306:1
 returns-3 : tie.Need-returns-3
 returns-3 c = said (c .before .before .turn-sound .ensures) _ (record { usable = says-usable limits _ _ (c .before .before .before .before .before .before .before .before .before .before .before .check-graph .ensures .0) (c .before .before .before .before .before .before .before .before .before .enum-told3 .given .1); in-force = c .before .before .before .before .before .before .before .before .before .before .before .check-graph .ensures .1 (c .before .before .before .before .before .before .before .before .before .enum-told3 .given .1) }) refl
 

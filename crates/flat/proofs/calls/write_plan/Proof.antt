@@ -12,39 +12,30 @@ use Rattle.flat.proofs.calls.write_plan.Lts as lts
 use Rattle.flat.proofs.calls.check_tables.Reads as check-tables-reads
 use Rattle.flat.proofs.cores.write_sound.Reads as write-sound-reads
 
--- src/calls.rt:251:9
 check-tables-requires : tie.Need-check-tables-requires
 check-tables-requires c κs = search needs
 
--- src/calls.rt:267:34
 enum-told : tie.Need-enum-told
 enum-told c = search needs
 
--- src/calls.rt:268:34
 enum-told-2 : tie.Need-enum-told-2
 enum-told-2 c = search needs
 
--- src/calls.rt:270:13
 enum-told-3 : tie.Need-enum-told-3
 enum-told-3 c = search needs
 
--- src/calls.rt:269:32
 write-sound-requires : tie.Need-write-sound-requires
 write-sound-requires c κs = lends _ (says-usable limits _ _ (c .before .before .before .check-tables .ensures) (c .before .enum-told3 .given .1)) refl
 
--- src/calls.rt:225:1
 returns : tie.Need-returns
 returns c = writes-41 limits _ (says-too-small limits _ _ (c .before .before .check-tables .ensures) (c .enum-told .given .1)) _
 
--- src/calls.rt:225:1
 returns-2 : tie.Need-returns-2
 returns-2 c = writes-40 limits _ (says-not-sound limits _ _ (c .before .before .check-tables .ensures) (c .enum-told2 .given .1)) _
 
--- src/calls.rt:225:1
 same-length : tie.Need-same-length
 same-length c = search needs
 
--- src/calls.rt:225:1
 returns-3 : tie.Need-returns-3
 returns-3 c = said (c .before .before .write-sound .ensures) _ (says-usable limits _ _ (c .before .before .before .before .before .before .check-tables .ensures) (c .before .before .before .before .enum-told3 .given .1)) refl
 

@@ -29,63 +29,48 @@ known c = facts limits (given c) (c .pre .holds)
 next-in : (c : tie.Else2) → at (c .before .before .before .before .before .before .before .before .args .visited .now) (c .before .before .before .before .before .before .before .before .args .drone) + 1 ≤ limits .stops
 next-in c = omega (arith, known (c .before .before .before .before .before .before .before .before) .next-in (c .before .before .before .before .before .before .before .before .args .drone) (c .before .before .before .if1 .left) (sym (c .before .is-under-way .ensures) ∙ not-false (c .before .is-under-way .result) (c .if2 .left)), known (c .before .before .before .before .before .before .before .before) .stops-few (c .before .before .before .before .before .before .before .before .args .drone) (c .before .before .before .if1 .left))
 
--- src/cores.rt:121:18
 shared-slice-read-drones : tie.Need-shared-slice-read-drones
 shared-slice-read-drones c = omega (arith, known (c .before .before .before .before) .sizes .drone-count)
 
--- src/cores.rt:121:18
 cast-drones : tie.Need-cast-drones
 cast-drones c = omega (arith, known (c .before .before .before .before) .drones-few)
 
--- src/cores.rt:123:9
 returns : tie.Need-returns
 returns c = record { says = λ t p. arrives-20 limits _ p _ (c .if1 .taken) }
 
--- src/cores.rt:125:16
 slice-read-flag : tie.Need-slice-read-flag
 slice-read-flag c = omega (arith, known (c .before .before .before .before .before .before) .drones-few, known (c .before .before .before .before .before .before) .sizes .drone-flags)
 
--- src/cores.rt:126:9
 is-under-way-requires : tie.Need-is-under-way-requires
 is-under-way-requires c κs = search needs
 
--- src/cores.rt:127:9
 returns-2 : tie.Need-returns-2
 returns-2 c = record { says = λ t p. arrives-24 limits _ p _ (c .before .before .before .if1 .left) _ (c .before .is-under-way .ensures) (c .if2 .taken) }
 
--- src/cores.rt:129:5
 mul-visited : tie.Need-mul-visited
 mul-visited c = omega (arith, known (c .before .before .before .before .before .before .before .before) .drones-few)
 
--- src/cores.rt:129:5
 slice-read-visited : tie.Need-slice-read-visited
 slice-read-visited c = omega (arith, known (c .before .before .before .before .before .before .before .before .before) .drones-few, known (c .before .before .before .before .before .before .before .before .before) .sizes .visited)
 
--- src/cores.rt:129:5
 add-visited : tie.Need-add-visited
 add-visited c = omega (arith, next-in (c .before))
 
--- src/cores.rt:129:5
 slice-write-visited : tie.Need-slice-write-visited
 slice-write-visited c = omega (arith, known (c .before .before .before .before .before .before .before .before .before) .drones-few, known (c .before .before .before .before .before .before .before .before .before) .sizes .visited)
 
--- src/cores.rt:130:26
 without-under-way-requires : tie.Need-without-under-way-requires
 without-under-way-requires c κs = search needs
 
--- src/cores.rt:130:5
 slice-write-drone-flags : tie.Need-slice-write-drone-flags
 slice-write-drone-flags c = omega (arith, known (c .before .before .before .before .before .before .before .before .before .before) .drones-few, known (c .before .before .before .before .before .before .before .before .before .before) .sizes .drone-flags)
 
--- src/cores.rt:84:1
 same-length : tie.Need-same-length
 same-length c = search needs
 
--- src/cores.rt:84:1
 same-length-2 : tie.Need-same-length-2
 same-length-2 c = search needs
 
--- src/cores.rt:84:1
 returns-3 : tie.Need-returns-3
 returns-3 c = record { says = λ t p. arrives-0 limits _ p _ (c .before .before .before .before .before .if1 .left) _ (c .before .before .before .is-under-way .ensures) (c .before .before .if2 .left) _ (c .without-under-way .ensures) }
 

@@ -23,83 +23,63 @@ given c = lent c (c .pre .others)
 known : (c : tie.Start) → Facts limits (given c)
 known c = facts limits (given c) (c .pre .holds)
 
--- src/cores.rt:53:18
 shared-slice-read-drones : tie.Need-shared-slice-read-drones
 shared-slice-read-drones c = omega (arith, known (c .before .before .before .before .before .before .before .before .before .before .before) .sizes .drone-count)
 
--- src/cores.rt:53:18
 cast-drones : tie.Need-cast-drones
 cast-drones c = omega (arith, known (c .before .before .before .before .before .before .before .before .before .before .before) .drones-few)
 
--- src/cores.rt:55:9
 returns : tie.Need-returns
 returns c = record { says = λ t p. grants-20 limits _ p _ (c .if1 .taken) }
 
--- src/cores.rt:57:16
 mul-last : tie.Need-mul-last
 mul-last c = omega (arith, known (c .before .before .before .before .before .before .before .before .before .before .before .before) .drones-few)
 
--- src/cores.rt:57:16
 shared-slice-read-last : tie.Need-shared-slice-read-last
 shared-slice-read-last c = omega (arith, known (c .before .before .before .before .before .before .before .before .before .before .before .before .before) .drones-few, known (c .before .before .before .before .before .before .before .before .before .before .before .before .before) .sizes .stop-counts)
 
--- src/cores.rt:57:16
 sub-last : tie.Need-sub-last
 sub-last c = omega (arith, known (c .before .before .before .before .before .before .before .before .before .before .before .before .before) .has-stops (c .before .before .before .before .before .before .before .before .before .before .before .before .before .args .drone) (c .before .if1 .left))
 
--- src/cores.rt:58:16
 mul-if2 : tie.Need-mul-if2
 mul-if2 c = omega (arith, known (c .before .before .before .before .before .before .before .before .before .before .before .before .before) .drones-few)
 
--- src/cores.rt:58:16
 shared-slice-read-if2 : tie.Need-shared-slice-read-if2
 shared-slice-read-if2 c = omega (arith, known (c .before .before .before .before .before .before .before .before .before .before .before .before .before .before) .drones-few, known (c .before .before .before .before .before .before .before .before .before .before .before .before .before .before) .sizes .visited)
 
--- src/cores.rt:59:9
 returns-2 : tie.Need-returns-2
 returns-2 c = record { says = λ t p. grants-21 limits _ p _ (c .before .before .before .if1 .left) (c .if2 .taken) }
 
--- src/cores.rt:61:16
 slice-read-flag : tie.Need-slice-read-flag
 slice-read-flag c = omega (arith, known (c .before .before .before .before .before .before .before .before .before .before .before .before .before .before .before .before) .drones-few, known (c .before .before .before .before .before .before .before .before .before .before .before .before .before .before .before .before) .sizes .drone-flags)
 
--- src/cores.rt:62:8
 is-under-way-requires : tie.Need-is-under-way-requires
 is-under-way-requires c κs = search needs
 
--- src/cores.rt:63:9
 returns-3 : tie.Need-returns-3
 returns-3 c = record { says = λ t p. grants-22 limits _ p _ (c .before .before .before .before .before .before .if1 .left) (c .before .before .before .if2 .left) _ (c .before .is-under-way .ensures) (c .if3 .taken) }
 
--- src/cores.rt:65:17
 shared-slice-read-count : tie.Need-shared-slice-read-count
 shared-slice-read-count c = omega (arith, known (c .before .before .before .before .before .before .before .before .before .before .before .before .before .before .before .before .before .before .before) .sizes .dependency-count)
 
--- src/cores.rt:65:17
 cast-count : tie.Need-cast-count
 cast-count c = omega (arith, known (c .before .before .before .before .before .before .before .before .before .before .before .before .before .before .before .before .before .before .before) .dependencies-few)
 
--- src/cores.rt:66:9
 first-unmet-requires : tie.Need-first-unmet-requires
 first-unmet-requires c κs = waits-room limits _ (known (c .before .before .before .before .before .before .before .before .before .before .before .before .before .before .before .before .before .before .before)) (omega arith) _ (c .before .before .before .before .before .before .before .if1 .left)
 
--- src/cores.rt:77:9
 returns-4 : tie.Need-returns-4
 returns-4 c = record { says = λ t p. grants-23 limits _ p _ (c .before .before .before .before .before .before .before .before .before .if1 .left) (c .before .before .before .before .before .before .if2 .left) _ (c .before .before .before .before .is-under-way .ensures) (c .before .before .before .if3 .left) _ (c .before .first-unmet .ensures) (c .if4 .taken) }
 
--- src/cores.rt:79:26
 with-under-way-requires : tie.Need-with-under-way-requires
 with-under-way-requires c κs = search needs
 
--- src/cores.rt:79:5
 slice-write-drone-flags : tie.Need-slice-write-drone-flags
 slice-write-drone-flags c = omega (arith, known (c .before .before .before .before .before .before .before .before .before .before .before .before .before .before .before .before .before .before .before .before .before .before) .drones-few, known (c .before .before .before .before .before .before .before .before .before .before .before .before .before .before .before .before .before .before .before .before .before .before) .sizes .drone-flags)
 
--- src/cores.rt:16:1
 same-length : tie.Need-same-length
 same-length c = search needs
 
--- src/cores.rt:16:1
 returns-5 : tie.Need-returns-5
 returns-5 c = record { says = λ t p. grants-0 limits _ p _ (c .before .before .before .before .before .before .before .before .before .before .if1 .left) (c .before .before .before .before .before .before .before .if2 .left) _ (c .before .before .before .before .before .is-under-way .ensures) (c .before .before .before .before .if3 .left) _ (c .before .before .first-unmet .ensures) (c .before .if4 .left) _ (c .with-under-way .ensures) }
 

@@ -22,39 +22,30 @@ given c = lent c (c .pre .others)
 known : (c : tie.Start) → Facts limits (given c)
 known c = facts limits (given c) (c .pre .holds)
 
--- src/cores.rt:172:18
 shared-slice-read-drones : tie.Need-shared-slice-read-drones
 shared-slice-read-drones c = omega (arith, known (c .before .before .before .before .before .before .before) .sizes .drone-count)
 
--- src/cores.rt:172:18
 cast-drones : tie.Need-cast-drones
 cast-drones c = omega (arith, known (c .before .before .before .before .before .before .before) .drones-few)
 
--- src/cores.rt:173:9
 write-text-requires : tie.Need-write-text-requires
 write-text-requires c κs = writable limits _ (c .before .before .before .before .before .before .before .before .pre .holds)
 
--- src/cores.rt:175:29
 enum-known-answer : tie.Need-enum-known-answer
 enum-known-answer c = search needs
 
--- src/cores.rt:176:31
 enum-told : tie.Need-enum-told
 enum-told c = search needs
 
--- src/cores.rt:139:1
 same-length : tie.Need-same-length
 same-length c = search needs
 
--- src/cores.rt:139:1
 returns : tie.Need-returns
 returns c = record { says = λ t p. writes-text limits _ p _ _ _ (Length _) (c .before .before .before .before .before .write-text .ensures) (c .before .answer .given .1) }
 
--- src/cores.rt:139:1
 same-length-2 : tie.Need-same-length-2
 same-length-2 c = search needs
 
--- src/cores.rt:139:1
 returns-2 : tie.Need-returns-2
 returns-2 c = record { says = λ t p. writes-text limits _ p _ _ _ Short (c .before .before .before .before .write-text .ensures) (c .enum-told .given .1) }
 

@@ -20,31 +20,24 @@ given c = lent c (c .pre .others)
 known : (c : tie.Start) → Facts limits (given c)
 known c = facts limits (given c) (c .pre .holds .usable)
 
--- src/costing.rt:58:18
 shared-slice-read-drones : tie.Need-shared-slice-read-drones
 shared-slice-read-drones c = omega (arith, known (c .before .before .before .before .before) .sizes .drone-count)
 
--- src/costing.rt:58:18
 cast-drones : tie.Need-cast-drones
 cast-drones c = omega (arith, known (c .before .before .before .before .before) .drones-few)
 
--- src/costing.rt:59:13
 shared-slice-read-m : tie.Need-shared-slice-read-m
 shared-slice-read-m c = omega (arith, known (c .before .before .before .before .before .before) .sizes .dependency-count)
 
--- src/costing.rt:59:13
 cast-m : tie.Need-cast-m
 cast-m c = omega (arith, known (c .before .before .before .before .before .before) .dependencies-few)
 
--- src/costing.rt:60:9
 stop-total-requires : tie.Need-stop-total-requires
 stop-total-requires c κs = usable-counts limits (given (c .before .before .before .before .before .before)) (c .before .before .before .before .before .before .pre .holds .usable) (omega arith)
 
--- src/costing.rt:61:5
 remaining-cost-requires : tie.Need-remaining-cost-requires
 remaining-cost-requires c κs = now-ready limits (given (c .before .before .before .before .before .before .before .before)) (c .before .before .before .before .before .before .before .before .pre .holds .usable) _ (c .before .stop-total .ensures) _ _ _ _ _ (c .before .before .before .before .before .before .before .before .pre .holds .in-force)
 
--- src/costing.rt:16:1
 returns : tie.Need-returns
 returns c = record { says = λ t p. now-cost limits (lent (c .before .before .before .before .before .before .before .before .before) t) (p .usable) _ (c .before .before .stop-total .ensures) _ _ _ _ _ (p .in-force) _ (c .remaining-cost .ensures) }
 

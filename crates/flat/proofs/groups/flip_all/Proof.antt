@@ -18,51 +18,39 @@ Inv-loop flags₀ list i₀ flags i = (i ≤ length list) × (flags ≡ flipsTo 
 abbrev μ-loop : tie.MeasureT-loop
 μ-loop flags₀ list i₀ flags i = length list - i
 
--- src/groups.rt:121:5
 loop-holds : tie.Need-loop-holds Inv-loop μ-loop
 loop-holds c = (omega arith, flip-none _ _)
 
--- src/groups.rt:122:26
 mul-dependency : tie.Need-mul-dependency Inv-loop μ-loop
 mul-dependency c = search needs
 
--- src/groups.rt:122:26
 shared-slice-read-dependency : tie.Need-shared-slice-read-dependency Inv-loop μ-loop
 shared-slice-read-dependency c = search needs
 
--- src/groups.rt:122:26
 cast-dependency : tie.Need-cast-dependency Inv-loop μ-loop
 cast-dependency c = omega (arith, c .shared-slice-known2 .given (c .before .before .loop .i))
 
--- src/groups.rt:123:37
 slice-read-flipped : tie.Need-slice-read-flipped Inv-loop μ-loop
 slice-read-flipped c = omega (arith, c .before .before .before .before .before .before .pre (c .before .before .before .loop .i) (c .before .before .loop-test .taken), flip-length (c .before .before .before .before .before .before .args .list .now) (c .before .before .before .before .before .before .args .flags .now) (c .before .before .before .loop .flags) (c .before .before .before .loop .i) (c .before .before .before .loop .inv .1))
 
--- src/groups.rt:123:29
 flipped-requires : tie.Need-flipped-requires Inv-loop μ-loop
 flipped-requires c κs = search needs
 
--- src/groups.rt:123:9
 slice-write-flags : tie.Need-slice-write-flags Inv-loop μ-loop
 slice-write-flags c = omega (arith, c .before .before .before .before .before .before .before .pre (c .before .before .before .before .loop .i) (c .before .before .before .loop-test .taken), flip-length (c .before .before .before .before .before .before .before .args .list .now) (c .before .before .before .before .before .before .before .args .flags .now) (c .before .before .before .before .loop .flags) (c .before .before .before .before .loop .i) (c .before .before .before .before .loop .inv .1))
 
--- src/groups.rt:124:9
 add-i : tie.Need-add-i Inv-loop μ-loop
 add-i c = search needs
 
--- src/groups.rt:121:5
 loop-less : tie.Need-loop-less Inv-loop μ-loop
 loop-less c = search needs
 
--- src/groups.rt:121:5
 loop-again : tie.Need-loop-again Inv-loop μ-loop
 loop-again c = (omega arith, flip-more _ _ _ _ _ _ (add-one _) (c .before .before .before .before .loop .inv .1) (c .flipped .ensures))
 
--- src/groups.rt:116:1
 same-length : tie.Need-same-length Inv-loop μ-loop
 same-length c = flip-length _ _ _ _ (c .before .loop .inv .1)
 
--- src/groups.rt:116:1
 returns : tie.Need-returns Inv-loop μ-loop
 returns c = flip-end _ _ _ _ (c .before .loop .inv .0) (c .loop-test .left) (c .before .loop .inv .1)
 

@@ -20,66 +20,51 @@ Inv-loop dependency-count visited drone-flags first-drones first-stops second-dr
 abbrev μ-loop : tie.MeasureT-loop
 μ-loop dependency-count visited drone-flags first-drones first-stops second-drones second-stops flags list i₀ i = length list - i
 
--- src/groups.rt:71:5
 loop-holds : tie.Need-loop-holds Inv-loop μ-loop
 loop-holds c = (omega arith, record { says = λ t p. none-pass _ _ })
 
--- src/groups.rt:86:13
 mul-turn-test : tie.Need-mul-turn-test Inv-loop μ-loop
 mul-turn-test c = search needs
 
--- src/groups.rt:86:13
 shared-slice-read-turn-test : tie.Need-shared-slice-read-turn-test Inv-loop μ-loop
 shared-slice-read-turn-test c = search needs
 
--- src/groups.rt:86:13
 cast-turn-test : tie.Need-cast-turn-test Inv-loop μ-loop
 cast-turn-test c = omega (arith, c .shared-slice-known10 .given (c .before .before .loop .i))
 
--- src/groups.rt:72:13
 turn-test-requires : tie.Need-turn-test-requires Inv-loop μ-loop
 turn-test-requires c κs = c .before .before .before .before .before .before .before .before .before .before .before .before .pre
 
--- src/groups.rt:89:39
 enum-told : tie.Need-enum-told Inv-loop μ-loop
 enum-told c = search needs
 
--- src/groups.rt:89:39
 returns : tie.Need-returns Inv-loop μ-loop
 returns c = record { says = λ t p. walk-hit _ _ _ (c .before .before .before .before .loop-test .taken) (c .before .before .before .before .before .loop .inv .1 .says t p) _ (λ next. refl) (sym (c .enum-told .given .1) ∙ c .before .before .turn-test .ensures .says t p) }
 
--- src/groups.rt:90:32
 enum-told-2 : tie.Need-enum-told-2 Inv-loop μ-loop
 enum-told-2 c = search needs
 
--- src/groups.rt:90:32
 returns-2 : tie.Need-returns-2 Inv-loop μ-loop
 returns-2 c = record { says = λ t p. walk-hit _ _ _ (c .before .before .before .before .loop-test .taken) (c .before .before .before .before .before .loop .inv .1 .says t p) _ (λ next. refl) (sym (c .enum-told2 .given .1) ∙ c .before .before .turn-test .ensures .says t p) }
 
--- src/groups.rt:91:39
 enum-told-3 : tie.Need-enum-told-3 Inv-loop μ-loop
 enum-told-3 c = search needs
 
--- src/groups.rt:91:39
 returns-3 : tie.Need-returns-3 Inv-loop μ-loop
 returns-3 c = record { says = λ t p. walk-hit _ _ _ (c .before .before .before .before .loop-test .taken) (c .before .before .before .before .before .loop .inv .1 .says t p) _ (λ next. refl) (sym (c .enum-told3 .given .1) ∙ c .before .before .turn-test .ensures .says t p) }
 
 enum-told-4 : tie.Need-enum-told-4 Inv-loop μ-loop
 enum-told-4 c = search needs
 
--- src/groups.rt:94:9
 add-i : tie.Need-add-i Inv-loop μ-loop
 add-i c = omega (arith, c .before .before .before .before .loop-test .taken, c .before .before .before .before .before .before .before .before .before .before .before .before .before .before .before .good .1 .1 .1 .1 .1 .1 .1 .1 .0 .0)
 
--- src/groups.rt:71:5
 loop-less : tie.Need-loop-less Inv-loop μ-loop
 loop-less c = search needs
 
--- src/groups.rt:71:5
 loop-again : tie.Need-loop-again Inv-loop μ-loop
 loop-again c = (omega arith, record { says = λ t p. one-more _ _ _ _ (add-one _) (c .before .before .before .before .before .loop .inv .1 .says t p) (sym (c .before .before .turn-test .ensures .says t p) ∙ c .enum-told4 .given .1) })
 
--- src/groups.rt:37:1
 returns-4 : tie.Need-returns-4 Inv-loop μ-loop
 returns-4 c = record { says = λ t p. walk-end _ _ _ (c .loop-test .left) (c .before .loop .inv .1 .says t p) }
 

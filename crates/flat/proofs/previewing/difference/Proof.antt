@@ -5,19 +5,15 @@ use Rattle.flat.proofs.previewing.difference.Tie as tie
 use Rattle.flat.proofs.previewing.difference.Reads as reads
 use Rattle.flat.proofs.previewing.difference.Lts as lts
 
--- src/previewing.rt:27:5
 cast-result : tie.Need-cast-result
 cast-result c = search needs
 
--- src/previewing.rt:27:20
 cast-result-2 : tie.Need-cast-result-2
 cast-result-2 c = search needs
 
--- src/previewing.rt:27:5
 sub-result : tie.Need-sub-result
 sub-result c = read-fits _ _ (c .pre .0) (c .pre .1)
 
--- src/previewing.rt:23:1
 returns : tie.Need-returns
 returns c = read-difference _ _ (c .pre .0) (c .pre .1)
 

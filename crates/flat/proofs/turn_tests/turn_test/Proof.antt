@@ -23,51 +23,39 @@ given c = lent c (c .pre .others)
 known : (c : tie.Start) → Facts limits (given c)
 known c = facts limits (given c) (c .pre .holds)
 
--- src/turn_tests.rt:93:17
 shared-slice-read-count : tie.Need-shared-slice-read-count
 shared-slice-read-count c = omega (arith, known (c .before .before .before .before .before .before .before .before .before) .sizes .dependency-count)
 
--- src/turn_tests.rt:93:17
 cast-count : tie.Need-cast-count
 cast-count c = omega (arith, known (c .before .before .before .before .before .before .before .before .before) .dependencies-few)
 
--- src/turn_tests.rt:95:9
 returns : tie.Need-returns
 returns c = record { says = λ t p. test-30 limits _ p _ (c .if1 .taken) }
 
--- src/turn_tests.rt:97:16
 shared-slice-read-flag : tie.Need-shared-slice-read-flag
 shared-slice-read-flag c = omega (arith, known (c .before .before .before .before .before .before .before .before .before .before .before) .dependencies-few, known (c .before .before .before .before .before .before .before .before .before .before .before) .sizes .flags, c .before .if1 .left)
 
--- src/turn_tests.rt:98:8
 is-fixed-requires : tie.Need-is-fixed-requires
 is-fixed-requires c κs = search needs
 
--- src/turn_tests.rt:99:9
 returns-2 : tie.Need-returns-2
 returns-2 c = record { says = λ t p. test-31 limits _ p _ (c .before .before .before .if1 .left) _ (c .before .is-fixed .ensures) (c .if2 .taken) }
 
--- src/turn_tests.rt:101:9
 side-entered-requires : tie.Need-side-entered-requires
 side-entered-requires c κs = (omega (arith, known (c .before .before .before .before .before .before .before .before .before .before .before .before .before) .dependencies-few, known (c .before .before .before .before .before .before .before .before .before .before .before .before .before) .sizes .first-drones, c .before .before .before .if1 .left), omega (arith, known (c .before .before .before .before .before .before .before .before .before .before .before .before .before) .dependencies-few, known (c .before .before .before .before .before .before .before .before .before .before .before .before .before) .sizes .first-stops, c .before .before .before .if1 .left), omega (arith, known (c .before .before .before .before .before .before .before .before .before .before .before .before .before) .first-in (c .before .before .before .before .before .before .before .before .before .before .before .before .before .args .dependency) (c .before .before .before .if1 .left), known (c .before .before .before .before .before .before .before .before .before .before .before .before .before) .drones-few, known (c .before .before .before .before .before .before .before .before .before .before .before .before .before) .sizes .visited), omega (arith, known (c .before .before .before .before .before .before .before .before .before .before .before .before .before) .first-in (c .before .before .before .before .before .before .before .before .before .before .before .before .before .args .dependency) (c .before .before .before .if1 .left), known (c .before .before .before .before .before .before .before .before .before .before .before .before .before) .drones-few, known (c .before .before .before .before .before .before .before .before .before .before .before .before .before) .sizes .drone-flags))
 
--- src/turn_tests.rt:102:9
 side-entered-requires-2 : tie.Need-side-entered-requires-2
 side-entered-requires-2 c κs = (omega (arith, known (c .before .before .before .before .before .before .before .before .before .before .before .before .before .before) .dependencies-few, known (c .before .before .before .before .before .before .before .before .before .before .before .before .before .before) .sizes .second-drones, c .before .before .before .before .if1 .left), omega (arith, known (c .before .before .before .before .before .before .before .before .before .before .before .before .before .before) .dependencies-few, known (c .before .before .before .before .before .before .before .before .before .before .before .before .before .before) .sizes .second-stops, c .before .before .before .before .if1 .left), omega (arith, known (c .before .before .before .before .before .before .before .before .before .before .before .before .before .before) .second-in (c .before .before .before .before .before .before .before .before .before .before .before .before .before .before .args .dependency) (c .before .before .before .before .if1 .left), known (c .before .before .before .before .before .before .before .before .before .before .before .before .before .before) .drones-few, known (c .before .before .before .before .before .before .before .before .before .before .before .before .before .before) .sizes .visited), omega (arith, known (c .before .before .before .before .before .before .before .before .before .before .before .before .before .before) .second-in (c .before .before .before .before .before .before .before .before .before .before .before .before .before .before .args .dependency) (c .before .before .before .before .if1 .left), known (c .before .before .before .before .before .before .before .before .before .before .before .before .before .before) .drones-few, known (c .before .before .before .before .before .before .before .before .before .before .before .before .before .before) .sizes .drone-flags))
 
--- src/turn_tests.rt:109:9
 is-turned-requires : tie.Need-is-turned-requires
 is-turned-requires c κs = search needs
 
--- src/turn_tests.rt:110:8
 in-force-requires : tie.Need-in-force-requires
 in-force-requires c κs = search needs
 
--- src/turn_tests.rt:111:9
 returns-3 : tie.Need-returns-3
 returns-3 c = record { says = λ t p. test-32 limits _ p _ (c .before .before .before .before .before .before .before .before .if1 .left) _ (c .before .before .before .before .before .before .is-fixed .ensures) (c .before .before .before .before .before .if2 .left) _ _ _ _ (c .before .before .before .before .side-entered .ensures) (c .before .before .before .side-entered2 .ensures) (c .before .before .is-turned .ensures) (c .before .in-force .ensures) (c .if3 .taken) }
 
--- src/turn_tests.rt:60:1
 returns-4 : tie.Need-returns-4
 returns-4 c = record { says = λ t p. test-passes limits _ p _ (c .before .before .before .before .before .before .before .before .if1 .left) _ (c .before .before .before .before .before .before .is-fixed .ensures) (c .before .before .before .before .before .if2 .left) _ _ _ _ (c .before .before .before .before .side-entered .ensures) (c .before .before .before .side-entered2 .ensures) (c .before .before .is-turned .ensures) (c .before .in-force .ensures) (c .if3 .left) }
 

@@ -26,102 +26,78 @@ given c = lent c (c .pre .others)
 known : (c : tie.Start) → Facts limits (given c)
 known c = facts limits (given c) (c .pre .holds .usable)
 
--- src/turning.rt:69:9
 turn-test-requires : tie.Need-turn-test-requires
 turn-test-requires c κs = record { others = given (c .before .before .before .before .before .before .before .before .before .before .before); holds = c .before .before .before .before .before .before .before .before .before .before .before .pre .holds .usable }
 
--- src/turning.rt:86:35
 enum-told : tie.Need-enum-told
 enum-told c = search needs
 
--- src/turning.rt:86:35
 same-length : tie.Need-same-length
 same-length c = search needs
 
--- src/turning.rt:86:35
 returns : tie.Need-returns
 returns c = record { says = λ t p. turns-30 limits _ (p .usable) _ _ (c .before .before .turn-test .ensures .says (lent (c .before .before .before .before .before .before .before .before .before .before .before .before .before .before) t) (p .usable)) (c .enum-told .given .1) }
 
--- src/turning.rt:87:28
 enum-told-2 : tie.Need-enum-told-2
 enum-told-2 c = search needs
 
--- src/turning.rt:87:28
 same-length-2 : tie.Need-same-length-2
 same-length-2 c = search needs
 
--- src/turning.rt:87:28
 returns-2 : tie.Need-returns-2
 returns-2 c = record { says = λ t p. turns-31 limits _ (p .usable) _ _ (c .before .before .turn-test .ensures .says (lent (c .before .before .before .before .before .before .before .before .before .before .before .before .before .before) t) (p .usable)) (c .enum-told2 .given .1) }
 
--- src/turning.rt:88:35
 enum-told-3 : tie.Need-enum-told-3
 enum-told-3 c = search needs
 
--- src/turning.rt:88:35
 same-length-3 : tie.Need-same-length-3
 same-length-3 c = search needs
 
--- src/turning.rt:88:35
 returns-3 : tie.Need-returns-3
 returns-3 c = record { says = λ t p. turns-32 limits _ (p .usable) _ _ (c .before .before .turn-test .ensures .says (lent (c .before .before .before .before .before .before .before .before .before .before .before .before .before .before) t) (p .usable)) (c .enum-told3 .given .1) }
 
 enum-told-4 : tie.Need-enum-told-4
 enum-told-4 c = search needs
 
--- src/turning.rt:91:5
 exchange-requires : tie.Need-exchange-requires
 exchange-requires c κs = (turn-in limits (given (c .before .before .before .before .before .before .before .before .before .before .before .before .before .before .before .before)) (c .before .before .before .before .before .before .before .before .before .before .before .before .before .before .before .before .pre .holds .usable) _ refl _ _ _ _ _ (c .before .before .before .before .before .before .before .before .before .before .before .before .before .before .before .before .pre .holds .in-force) _ (passes-now limits _ (c .before .before .before .before .before .before .before .before .before .before .before .before .before .before .before .before .pre .holds .usable) _ _ (c .before .before .before .before .turn-test .ensures .says (given (c .before .before .before .before .before .before .before .before .before .before .before .before .before .before .before .before)) (c .before .before .before .before .before .before .before .before .before .before .before .before .before .before .before .before .pre .holds .usable)) (c .before .before .enum-told4 .given .1)), c .before .before .before .before .before .before .before .before .before .before .before .before .before .before .before .before .pre .holds .in-force .from-size, c .before .before .before .before .before .before .before .before .before .before .before .before .before .before .before .before .pre .holds .in-force .into-size, turn-from limits (given (c .before .before .before .before .before .before .before .before .before .before .before .before .before .before .before .before)) (c .before .before .before .before .before .before .before .before .before .before .before .before .before .before .before .before .pre .holds .usable) _ refl _ _ _ _ _ (c .before .before .before .before .before .before .before .before .before .before .before .before .before .before .before .before .pre .holds .in-force) _ (passes-now limits _ (c .before .before .before .before .before .before .before .before .before .before .before .before .before .before .before .before .pre .holds .usable) _ _ (c .before .before .before .before .turn-test .ensures .says (given (c .before .before .before .before .before .before .before .before .before .before .before .before .before .before .before .before)) (c .before .before .before .before .before .before .before .before .before .before .before .before .before .before .before .before .pre .holds .usable)) (c .before .before .enum-told4 .given .1)), turn-into limits (given (c .before .before .before .before .before .before .before .before .before .before .before .before .before .before .before .before)) (c .before .before .before .before .before .before .before .before .before .before .before .before .before .before .before .before .pre .holds .usable) _ refl _ _ _ _ _ (c .before .before .before .before .before .before .before .before .before .before .before .before .before .before .before .before .pre .holds .in-force) _ (passes-now limits _ (c .before .before .before .before .before .before .before .before .before .before .before .before .before .before .before .before .pre .holds .usable) _ _ (c .before .before .before .before .turn-test .ensures .says (given (c .before .before .before .before .before .before .before .before .before .before .before .before .before .before .before .before)) (c .before .before .before .before .before .before .before .before .before .before .before .before .before .before .before .before .pre .holds .usable)) (c .before .before .enum-told4 .given .1)))
 
--- src/turning.rt:92:18
 shared-slice-read-drones : tie.Need-shared-slice-read-drones
 shared-slice-read-drones c = omega (arith, known (c .before .before .before .before .before .before .before .before .before .before .before .before .before .before .before .before .before .before) .sizes .drone-count)
 
--- src/turning.rt:92:18
 cast-drones : tie.Need-cast-drones
 cast-drones c = omega (arith, known (c .before .before .before .before .before .before .before .before .before .before .before .before .before .before .before .before .before .before) .drones-few)
 
--- src/turning.rt:93:17
 shared-slice-read-count : tie.Need-shared-slice-read-count
 shared-slice-read-count c = omega (arith, known (c .before .before .before .before .before .before .before .before .before .before .before .before .before .before .before .before .before .before .before) .sizes .dependency-count)
 
--- src/turning.rt:93:17
 cast-count : tie.Need-cast-count
 cast-count c = omega (arith, known (c .before .before .before .before .before .before .before .before .before .before .before .before .before .before .before .before .before .before .before) .dependencies-few)
 
--- src/turning.rt:94:9
 stop-total-requires : tie.Need-stop-total-requires
 stop-total-requires c κs = usable-counts limits (given (c .before .before .before .before .before .before .before .before .before .before .before .before .before .before .before .before .before .before .before)) (c .before .before .before .before .before .before .before .before .before .before .before .before .before .before .before .before .before .before .before .pre .holds .usable) (omega arith)
 
--- src/turning.rt:95:8
 has-cycle-requires : tie.Need-has-cycle-requires
 has-cycle-requires c κs = turn-tables limits (given (c .before .before .before .before .before .before .before .before .before .before .before .before .before .before .before .before .before .before .before .before .before .before .before)) (c .before .before .before .before .before .before .before .before .before .before .before .before .before .before .before .before .before .before .before .before .before .before .before .pre .holds .usable) _ (c .before .before .before .stop-total .ensures) _ _ _ _ _ (c .before .before .before .before .before .before .before .before .before .before .before .before .before .before .before .before .before .before .before .before .before .before .before .pre .holds .in-force) _ (passes-now limits _ (c .before .before .before .before .before .before .before .before .before .before .before .before .before .before .before .before .before .before .before .before .before .before .before .pre .holds .usable) _ _ (c .before .before .before .before .before .before .before .before .before .before .before .turn-test .ensures .says (given (c .before .before .before .before .before .before .before .before .before .before .before .before .before .before .before .before .before .before .before .before .before .before .before)) (c .before .before .before .before .before .before .before .before .before .before .before .before .before .before .before .before .before .before .before .before .before .before .before .pre .holds .usable)) (c .before .before .before .before .before .before .before .before .before .enum-told4 .given .1)) _ _ (c .before .before .before .before .before .before .exchange .ensures .0) (c .before .before .before .before .before .before .exchange .ensures .1)
 
--- src/turning.rt:96:9
 same-length-4 : tie.Need-same-length-4
 same-length-4 c = search needs
 
--- src/turning.rt:96:9
 returns-4 : tie.Need-returns-4
 returns-4 c = record { says = λ t p. turns-34 limits _ (p .usable) _ _ (c .before .before .before .before .before .before .before .before .before .before .before .before .before .turn-test .ensures .says (lent (c .before .before .before .before .before .before .before .before .before .before .before .before .before .before .before .before .before .before .before .before .before .before .before .before .before) t) (p .usable)) (c .before .before .before .before .before .before .before .before .before .before .before .enum-told4 .given .1) _ (turn-cyclic limits (lent (c .before .before .before .before .before .before .before .before .before .before .before .before .before .before .before .before .before .before .before .before .before .before .before .before .before) t) (p .usable) _ (c .before .before .before .before .before .stop-total .ensures) _ _ _ _ _ (p .in-force) _ (passes-now limits _ (p .usable) _ _ (c .before .before .before .before .before .before .before .before .before .before .before .before .before .turn-test .ensures .says (lent (c .before .before .before .before .before .before .before .before .before .before .before .before .before .before .before .before .before .before .before .before .before .before .before .before .before) t) (p .usable)) (c .before .before .before .before .before .before .before .before .before .before .before .enum-told4 .given .1)) _ _ (c .before .before .before .before .before .before .before .before .exchange .ensures .0) (c .before .before .before .before .before .before .before .before .exchange .ensures .1) _ (c .before .has-cycle .ensures)) (c .if1 .taken) }
 
--- src/turning.rt:98:33
 slice-read-flipped : tie.Need-slice-read-flipped
 slice-read-flipped c = omega (arith, turn-in limits (given (c .before .before .before .before .before .before .before .before .before .before .before .before .before .before .before .before .before .before .before .before .before .before .before .before .before .before)) (c .before .before .before .before .before .before .before .before .before .before .before .before .before .before .before .before .before .before .before .before .before .before .before .before .before .before .pre .holds .usable) _ refl _ _ _ _ _ (c .before .before .before .before .before .before .before .before .before .before .before .before .before .before .before .before .before .before .before .before .before .before .before .before .before .before .pre .holds .in-force) _ (passes-now limits _ (c .before .before .before .before .before .before .before .before .before .before .before .before .before .before .before .before .before .before .before .before .before .before .before .before .before .before .pre .holds .usable) _ _ (c .before .before .before .before .before .before .before .before .before .before .before .before .before .before .turn-test .ensures .says (given (c .before .before .before .before .before .before .before .before .before .before .before .before .before .before .before .before .before .before .before .before .before .before .before .before .before .before)) (c .before .before .before .before .before .before .before .before .before .before .before .before .before .before .before .before .before .before .before .before .before .before .before .before .before .before .pre .holds .usable)) (c .before .before .before .before .before .before .before .before .before .before .before .before .enum-told4 .given .1)), known (c .before .before .before .before .before .before .before .before .before .before .before .before .before .before .before .before .before .before .before .before .before .before .before .before .before .before) .sizes .flags)
 
--- src/turning.rt:98:25
 flipped-requires : tie.Need-flipped-requires
 flipped-requires c κs = search needs
 
--- src/turning.rt:98:5
 slice-write-flags : tie.Need-slice-write-flags
 slice-write-flags c = omega (arith, turn-in limits (given (c .before .before .before .before .before .before .before .before .before .before .before .before .before .before .before .before .before .before .before .before .before .before .before .before .before .before .before)) (c .before .before .before .before .before .before .before .before .before .before .before .before .before .before .before .before .before .before .before .before .before .before .before .before .before .before .before .pre .holds .usable) _ refl _ _ _ _ _ (c .before .before .before .before .before .before .before .before .before .before .before .before .before .before .before .before .before .before .before .before .before .before .before .before .before .before .before .pre .holds .in-force) _ (passes-now limits _ (c .before .before .before .before .before .before .before .before .before .before .before .before .before .before .before .before .before .before .before .before .before .before .before .before .before .before .before .pre .holds .usable) _ _ (c .before .before .before .before .before .before .before .before .before .before .before .before .before .before .before .turn-test .ensures .says (given (c .before .before .before .before .before .before .before .before .before .before .before .before .before .before .before .before .before .before .before .before .before .before .before .before .before .before .before)) (c .before .before .before .before .before .before .before .before .before .before .before .before .before .before .before .before .before .before .before .before .before .before .before .before .before .before .before .pre .holds .usable)) (c .before .before .before .before .before .before .before .before .before .before .before .before .before .enum-told4 .given .1)), known (c .before .before .before .before .before .before .before .before .before .before .before .before .before .before .before .before .before .before .before .before .before .before .before .before .before .before .before) .sizes .flags)
 
--- src/turning.rt:21:1
 same-length-5 : tie.Need-same-length-5
 same-length-5 c = search needs
 
--- src/turning.rt:21:1
 returns-5 : tie.Need-returns-5
 returns-5 c = record { says = λ t p. turns-0 limits _ (p .usable) _ _ (c .before .before .before .before .before .before .before .before .before .before .before .before .before .before .before .turn-test .ensures .says (lent (c .before .before .before .before .before .before .before .before .before .before .before .before .before .before .before .before .before .before .before .before .before .before .before .before .before .before .before) t) (p .usable)) (c .before .before .before .before .before .before .before .before .before .before .before .before .before .enum-told4 .given .1) _ (turn-cyclic limits (lent (c .before .before .before .before .before .before .before .before .before .before .before .before .before .before .before .before .before .before .before .before .before .before .before .before .before .before .before) t) (p .usable) _ (c .before .before .before .before .before .before .before .stop-total .ensures) _ _ _ _ _ (p .in-force) _ (passes-now limits _ (p .usable) _ _ (c .before .before .before .before .before .before .before .before .before .before .before .before .before .before .before .turn-test .ensures .says (lent (c .before .before .before .before .before .before .before .before .before .before .before .before .before .before .before .before .before .before .before .before .before .before .before .before .before .before .before) t) (p .usable)) (c .before .before .before .before .before .before .before .before .before .before .before .before .before .enum-told4 .given .1)) _ _ (c .before .before .before .before .before .before .before .before .before .before .exchange .ensures .0) (c .before .before .before .before .before .before .before .before .before .before .exchange .ensures .1) _ (c .before .before .before .has-cycle .ensures)) _ (c .flipped .ensures) (c .before .before .if1 .left) }
 

@@ -5,15 +5,12 @@ use Rattle.handset.proofs.replies.reply_with.Tie as tie
 use Rattle.handset.proofs.replies.reply_with.Reads as reads
 use Rattle.handset.proofs.replies.reply_with.Lts as lts
 
--- src/replies.rt:115:9
 returns : tie.Need-returns
 returns c = reply-41 _ _ (c .if1 .taken)
 
--- src/replies.rt:118:9
 returns-2 : tie.Need-returns-2
 returns-2 c = reply-40 _ _ (c .before .if1 .left) (c .if2 .taken)
 
--- src/replies.rt:111:1
 returns-3 : tie.Need-returns-3
 returns-3 c = reply-0 _ _ (c .before .if1 .left) (c .if2 .left)
 

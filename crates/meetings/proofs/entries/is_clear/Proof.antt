@@ -9,55 +9,42 @@ use Rattle.meetings.proofs.entries.is_clear.Lts as lts
 use Rattle.plan.proofs.check.over_at.Reads as over-at-reads
 use Rattle.plan.proofs.meeting.meets.Reads as meets-reads
 
--- src/entries.rt:17:8
 shared-slice-read-if1 : tie.Need-shared-slice-read-if1
 shared-slice-read-if1 c = search needs
 
--- src/entries.rt:17:21
 shared-slice-read-if1-2 : tie.Need-shared-slice-read-if1-2
 shared-slice-read-if1-2 c = search needs
 
--- src/entries.rt:18:9
 returns : tie.Need-returns
 returns c = clear-same _ _ _ _ _ _ (c .if1 .taken)
 
--- src/entries.rt:20:15
 mul-meets : tie.Need-mul-meets
 mul-meets c = search needs
 
--- src/entries.rt:20:15
 shared-slice-read-meets : tie.Need-shared-slice-read-meets
 shared-slice-read-meets c = search needs
 
--- src/entries.rt:20:29
 mul-meets-2 : tie.Need-mul-meets-2
 mul-meets-2 c = search needs
 
--- src/entries.rt:20:29
 shared-slice-read-meets-2 : tie.Need-shared-slice-read-meets-2
 shared-slice-read-meets-2 c = search needs
 
--- src/entries.rt:20:9
 meets-requires : tie.Need-meets-requires
 meets-requires c κs = search needs
 
--- src/entries.rt:21:9
 returns-2 : tie.Need-returns-2
 returns-2 c = clear-elsewhere _ _ _ _ _ _ (c .before .before .before .before .if1 .left) (eqb-false _ _ (sym (c .before .meets .ensures) ∙ not-true _ (c .if2 .taken)))
 
--- src/entries.rt:23:34
 mul-over-at : tie.Need-mul-over-at
 mul-over-at c = search needs
 
--- src/entries.rt:23:34
 shared-slice-read-over-at : tie.Need-shared-slice-read-over-at
 shared-slice-read-over-at c = search needs
 
--- src/entries.rt:23:5
 over-at-requires : tie.Need-over-at-requires
 over-at-requires c κs = search needs
 
--- src/entries.rt:13:1
 returns-3 : tie.Need-returns-3
 returns-3 c = c .over-at .ensures ∙ clear-over _ _ _ _ _ _ (c .before .before .before .before .before .before .if1 .left) (eqb-true _ _ (sym (c .before .before .before .meets .ensures) ∙ not-false _ (c .before .before .if2 .left)))
 

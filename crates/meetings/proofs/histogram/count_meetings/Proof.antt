@@ -22,55 +22,42 @@ Inv-loop owners firsts n counts₀ total₀ lo₀ w₀ counts total lo w = (w �
 abbrev μ-loop : tie.MeasureT-loop
 μ-loop owners firsts n counts₀ total₀ lo₀ w₀ counts total lo w = n - w
 
--- src/histogram.rt:52:5
 loop-holds : tie.Need-loop-holds Inv-loop μ-loop
 loop-holds c = (omega arith, tally-none _ _ _ (length-replicate {A = ℕ} (limits .stops) 0) (zeros-at (limits .stops)), run-none _, meetings-none _ _)
 
--- src/histogram.rt:53:9
 settle-requires : tie.Need-settle-requires Inv-loop μ-loop
 settle-requires c κs = ((c .before .before .before .before .pre .0, c .before .before .loop .inv .1, c .before .before .loop .inv .2, c .before .before .before .before .pre .1), (omega arith, c .before .before .before .before .pre .2))
 
--- src/histogram.rt:54:17
 mul-f : tie.Need-mul-f Inv-loop μ-loop
 mul-f c = omega (arith, c .before .before .before .before .before .pre .0 .few)
 
--- src/histogram.rt:54:17
 element-copy-out-f : tie.Need-element-copy-out-f Inv-loop μ-loop
 element-copy-out-f c = omega (arith, c .before .before .before .before .before .pre .0 .few)
 
--- src/histogram.rt:54:17
 cast-f : tie.Need-cast-f Inv-loop μ-loop
 cast-f c = omega (arith, c .before .before .before .before .before .before .pre .0 .back (c .before .before .before .before .loop .w) (omega arith), c .before .before .before .before .before .before .pre .0 .few)
 
--- src/histogram.rt:55:18
 mul-total : tie.Need-mul-total Inv-loop μ-loop
 mul-total c = omega (arith, c .before .before .before .before .before .before .pre .0 .back (c .before .before .before .before .loop .w) (omega arith), c .before .before .before .before .before .before .pre .0 .few)
 
--- src/histogram.rt:55:18
 array-read-total : tie.Need-array-read-total Inv-loop μ-loop
 array-read-total c = omega (arith, c .before .before .before .before .before .before .pre .0 .back (c .before .before .before .before .loop .w) (omega arith), c .before .before .before .before .before .before .pre .0 .few)
 
--- src/histogram.rt:55:18
 cast-total : tie.Need-cast-total Inv-loop μ-loop
 cast-total c = omega (arith, tally-bound _ _ _ _ (c .before .before .before .before .loop .w) (c .before .settle .ensures .tally) (omega arith), c .before .settle .ensures .from, c .before .before .before .before .before .before .pre .0 .few)
 
--- src/histogram.rt:55:9
 add-total : tie.Need-add-total Inv-loop μ-loop
 add-total c = omega (arith, tally-bound _ _ _ _ (c .before .before .before .before .loop .w) (c .before .settle .ensures .tally) (omega arith), c .before .settle .ensures .from, c .before .before .before .before .before .before .pre .0 .few, c .before .before .before .before .loop .inv .3, meetings-bound (at (c .before .before .before .before .before .before .args .owners .now)) (at (c .before .before .before .before .before .before .args .firsts .now)) (c .before .before .before .before .loop .w) (limits .stops) (omega (arith, c .before .before .before .before .before .before .pre .0 .few)))
 
--- src/histogram.rt:56:9
 add-w : tie.Need-add-w Inv-loop μ-loop
 add-w c = search needs
 
--- src/histogram.rt:52:5
 loop-less : tie.Need-loop-less Inv-loop μ-loop
 loop-less c = search needs
 
--- src/histogram.rt:52:5
 loop-again : tie.Need-loop-again Inv-loop μ-loop
 loop-again c = (omega arith, c .before .settle .ensures .tally, c .before .settle .ensures .run, meetings-more _ _ _ _ _ (c .before .before .before .before .loop .inv .3) (run-meetings (c .before .before .before .before .before .before .args .owners .now) (c .before .before .before .before .before .before .args .firsts .now) _ _ _ _ (c .before .settle .ensures .run) (c .before .settle .ensures .from) (c .before .settle .ensures .tally) (omega arith)))
 
--- src/histogram.rt:44:1
 returns : tie.Need-returns Inv-loop μ-loop
 returns c = c .before .loop .inv .3 ∙ ap (meetingTotal (at (c .before .before .before .args .owners .now)) (at (c .before .before .before .args .firsts .now))) (le-antisymm (omega arith) (omega arith))
 

@@ -21,51 +21,39 @@ use Rattle.plan.proofs.check.partner_of.Reads as partner-of-reads
 use Rattle.plan.proofs.check.stop_at.Reads as stop-at-reads
 use Rattle.plan.proofs.sharing.fill_groups.Reads as fill-groups-reads
 
--- src/check.rt:183:9
 first-fault-requires : tie.Need-first-fault-requires
 first-fault-requires c κs = search needs
 
--- src/check.rt:186:13
 fault-at-requires : tie.Need-fault-at-requires
 fault-at-requires c κs = search needs
 
--- src/check.rt:187:13
 stop-at-requires : tie.Need-stop-at-requires
 stop-at-requires c κs = search needs
 
--- src/check.rt:185:9
 fault-case-requires : tie.Need-fault-case-requires
 fault-case-requires c κs = search needs
 
--- src/check.rt:185:9
 returns : tie.Need-returns
 returns c = check-fault _ _ (c .before .before .before .before .first-fault .ensures [] ∙ first-fault-any _ _) _ _ _ (c .before .before .before .if1 .taken) (c .before .before .fault-at .ensures [] 0 ∙ fault-any _ _ _ _) (c .before .stop-at .ensures) (c .fault-case .ensures)
 
--- src/check.rt:192:5
 fill-groups-requires : tie.Need-fill-groups-requires
 fill-groups-requires c κs = search needs
 
--- src/check.rt:193:9
 first-collider-requires : tie.Need-first-collider-requires
 first-collider-requires c κs = (c .before .before .before .before .before .before .before .before .before .before .before .pre .visits, groups-filled _ _ _ _ (omega (arith, length-replicate {A = ℕ} (limits .stops) 0, c .before .before .before .before .before .before .before .before .before .before .before .pre .visits .few)) (c .before .before .fill-groups .ensures .0) _ _ (omega (arith, length-replicate {A = ℕ} (limits .stops) 0, c .before .before .before .before .before .before .before .before .before .before .before .pre .visits .few)) (c .before .before .fill-groups .ensures .1))
 
--- src/check.rt:195:13
 partner-of-requires : tie.Need-partner-of-requires
 partner-of-requires c κs = (c .before .before .before .before .before .before .before .before .before .before .before .before .before .before .before .pre .visits, groups-filled _ _ _ _ (omega (arith, length-replicate {A = ℕ} (limits .stops) 0, c .before .before .before .before .before .before .before .before .before .before .before .before .before .before .before .pre .visits .few)) (c .before .before .before .before .before .before .fill-groups .ensures .0) _ _ (omega (arith, length-replicate {A = ℕ} (limits .stops) 0, c .before .before .before .before .before .before .before .before .before .before .before .before .before .before .before .pre .visits .few)) (c .before .before .before .before .before .before .fill-groups .ensures .1), c .before .before .if2 .taken)
 
--- src/check.rt:196:37
 stop-at-requires-2 : tie.Need-stop-at-requires-2
 stop-at-requires-2 c κs = omega (arith, partner-in _ _ _ (c .before .before .before .before .first-collider .ensures []) (c .before .before .before .if2 .taken) (c .partner-of .ensures []), c .before .before .before .before .before .before .before .before .before .before .before .before .before .before .before .before .pre)
 
--- src/check.rt:196:66
 stop-at-requires-3 : tie.Need-stop-at-requires-3
 stop-at-requires-3 c κs = omega (arith, partner-in _ _ _ (c .before .before .before .before .before .first-collider .ensures []) (c .before .before .before .before .if2 .taken) (c .before .partner-of .ensures []), c .before .before .before .before .before .before .before .before .before .before .before .before .before .before .before .before .before .pre)
 
--- src/check.rt:196:9
 returns-2 : tie.Need-returns-2
 returns-2 c = check-collision _ _ (c .before .before .before .before .before .before .before .before .before .before .before .before .before .first-fault .ensures [] ∙ first-fault-any _ _) (c .before .before .before .before .before .before .before .before .before .before .before .before .if1 .left) _ (c .before .before .before .before .before .before .first-collider .ensures [] ∙ collider-any _ _) _ _ _ (c .before .before .before .before .before .if2 .taken) (c .before .before .partner-of .ensures [] ∙ partner-any _ _ _) (c .before .stop-at2 .ensures) (c .stop-at3 .ensures)
 
--- src/check.rt:173:1
 returns-3 : tie.Need-returns-3
 returns-3 c = check-fine _ _ (c .before .before .before .before .before .before .before .before .first-fault .ensures [] ∙ first-fault-any _ _) (c .before .before .before .before .before .before .before .if1 .left) _ (c .before .first-collider .ensures [] ∙ collider-any _ _) (c .if2 .left)
 

@@ -8,79 +8,61 @@ use Rattle.plan.proofs.check.fault_at.Reads as reads
 use Rattle.plan.proofs.check.fault_at.Lts as lts
 use Rattle.plan.proofs.check.previous.Reads as previous-reads
 
--- src/check.rt:37:8
 mul-if1 : tie.Need-mul-if1
 mul-if1 c = search needs
 
--- src/check.rt:37:8
 shared-slice-read-if1 : tie.Need-shared-slice-read-if1
 shared-slice-read-if1 c = search needs
 
--- src/check.rt:38:19
 mul-if2 : tie.Need-mul-if2
 mul-if2 c = search needs
 
--- src/check.rt:38:19
 shared-slice-read-if2 : tie.Need-shared-slice-read-if2
 shared-slice-read-if2 c = search needs
 
--- src/check.rt:38:9
 returns : tie.Need-returns
 unfolding faultAt
 returns c = λ owners n. rw (eq-eqb _ _ (c .before .before .if1 .taken), eq-eqb _ _ (c .if2 .taken))
 
--- src/check.rt:38:9
 returns-2 : tie.Need-returns-2
 unfolding faultAt
 returns-2 c = λ owners n. rw (eq-eqb _ _ (c .before .before .if1 .taken), ne-eqb _ _ (c .if2 .left))
 
--- src/check.rt:40:9
 previous-requires : tie.Need-previous-requires
 previous-requires c κs = search needs
 
--- src/check.rt:41:8
 mul-if3 : tie.Need-mul-if3
 mul-if3 c = search needs
 
--- src/check.rt:41:8
 shared-slice-read-if3 : tie.Need-shared-slice-read-if3
 shared-slice-read-if3 c = search needs
 
--- src/check.rt:41:20
 mul-if3-2 : tie.Need-mul-if3-2
 mul-if3-2 c = search needs
 
--- src/check.rt:41:20
 shared-slice-read-if3-2 : tie.Need-shared-slice-read-if3-2
 shared-slice-read-if3-2 c = search needs
 
--- src/check.rt:42:9
 returns-3 : tie.Need-returns-3
 unfolding faultAt
 returns-3 c = λ owners n. rw (ne-eqb _ _ (c .before .before .before .before .if1 .left), ← c .before .before .before .previous .ensures, le-leb _ _ (c .if3 .taken))
 
--- src/check.rt:44:8
 mul-if4 : tie.Need-mul-if4
 mul-if4 c = search needs
 
--- src/check.rt:44:8
 shared-slice-read-if4 : tie.Need-shared-slice-read-if4
 shared-slice-read-if4 c = search needs
 
--- src/check.rt:44:24
 mul-if4-2 : tie.Need-mul-if4-2
 mul-if4-2 c = search needs
 
--- src/check.rt:44:24
 shared-slice-read-if4-2 : tie.Need-shared-slice-read-if4-2
 shared-slice-read-if4-2 c = search needs
 
--- src/check.rt:45:9
 returns-4 : tie.Need-returns-4
 unfolding faultAt
 returns-4 c = λ owners n. rw (ne-eqb _ _ (c .before .before .before .before .before .before .before .if1 .left), ← c .before .before .before .before .before .before .previous .ensures, lt-leb _ _ (c .before .before .before .if3 .left), eq-eqb _ _ (c .if4 .taken))
 
--- src/check.rt:33:1
 returns-5 : tie.Need-returns-5
 unfolding faultAt
 returns-5 c = λ owners n. rw (ne-eqb _ _ (c .before .before .before .before .before .before .before .if1 .left), ← c .before .before .before .before .before .before .previous .ensures, lt-leb _ _ (c .before .before .before .if3 .left), ne-eqb _ _ (c .if4 .left))

@@ -7,17 +7,14 @@ use Rattle.plan.proofs.check.fault_case.Tie as tie
 use Rattle.plan.proofs.check.fault_case.Reads as reads
 use Rattle.plan.proofs.check.fault_case.Lts as lts
 
--- src/check.rt:146:9
 returns : tie.Need-returns
 unfolding faultCase
 returns c = rw (eq-eqb _ _ (c .if1 .taken)) refl
 
--- src/check.rt:149:9
 returns-2 : tie.Need-returns-2
 unfolding faultCase
 returns-2 c = rw (ne-eqb _ _ (c .before .if1 .left), eq-eqb _ _ (c .if2 .taken)) refl
 
--- src/check.rt:142:1
 returns-3 : tie.Need-returns-3
 unfolding faultCase
 returns-3 c = rw (ne-eqb _ _ (c .before .if1 .left), ne-eqb _ _ (c .if2 .left)) refl

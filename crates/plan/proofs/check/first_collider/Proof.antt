@@ -7,7 +7,7 @@ use lib.Dec.{ltb}
 use mathlib.Core.List.{[]}
 use Rattle.plan.proofs.Unread.{collider-any}
 use Rattle.plan.specs.Visits.{visitsOf}
-use Rattle.below.specs.Below.{firstBelow, at}
+use Rattle.below.specs.Below.{firstBelow}
 use Rattle.below.proofs.Search.{first-none, first-more, first-hit, first-end}
 use Rattle.plan.specs.Check.{partner, collider}
 use Rattle.plan.proofs.CheckLaws.{has-partner, no-partner}
@@ -23,32 +23,25 @@ Inv-loop owners locations times n first next v₀ v = (v ≤ n) × (firstBelow v
 abbrev μ-loop : tie.MeasureT-loop
 μ-loop owners locations times n first next v₀ v = n - v
 
--- src/check.rt:139:5
 loop-holds : tie.Need-loop-holds Inv-loop μ-loop
 loop-holds c = (search needs, first-none _)
 
--- src/check.rt:140:12
 partner-of-requires : tie.Need-partner-of-requires Inv-loop μ-loop
 partner-of-requires c κs = (c .before .before .before .before .before .pre .0, c .before .before .before .before .before .pre .1, c .loop-test .taken)
 
--- src/check.rt:141:13
 returns : tie.Need-returns Inv-loop μ-loop
 unfolding collider
 returns c = λ numbers. first-hit _ _ _ (omega arith) (c .before .before .before .loop .inv .1) (has-partner _ _ _ (c .before .partner-of .ensures []) (c .if1 .taken)) ∙ collider-any _ _
 
--- src/check.rt:143:9
 add-v : tie.Need-add-v Inv-loop μ-loop
 add-v c = search needs
 
--- src/check.rt:139:5
 loop-less : tie.Need-loop-less Inv-loop μ-loop
 loop-less c = search needs
 
--- src/check.rt:139:5
 loop-again : tie.Need-loop-again Inv-loop μ-loop
 loop-again c = (omega arith, first-more _ _ (c .before .before .before .loop .inv .1) (no-partner _ _ _ (c .before .partner-of .ensures []) (c .if1 .left)))
 
--- src/check.rt:127:1
 returns-2 : tie.Need-returns-2 Inv-loop μ-loop
 unfolding collider
 returns-2 c = λ numbers. first-end _ _ _ (c .before .loop .inv .0) (c .loop-test .left) (c .before .loop .inv .1) ∙ collider-any _ _

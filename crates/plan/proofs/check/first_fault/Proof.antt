@@ -8,7 +8,7 @@ use lib.Dec.{eqb}
 use mathlib.Core.List.{[]}
 use Rattle.plan.proofs.Unread.{first-fault-any}
 use Rattle.plan.specs.Visits.{visitsOf}
-use Rattle.below.specs.Below.{firstBelow, at}
+use Rattle.below.specs.Below.{firstBelow}
 use Rattle.below.proofs.Search.{first-none, first-more, first-hit, first-end}
 use Rattle.plan.specs.Check.{faultAt, firstFault}
 use Rattle.plan.proofs.CheckLaws.{at-fault, no-fault}
@@ -24,32 +24,25 @@ Inv-loop numbers locations times n v₀ v = (v ≤ n) × (firstBelow v (λ v. no
 abbrev μ-loop : tie.MeasureT-loop
 μ-loop numbers locations times n v₀ v = n - v
 
--- src/check.rt:56:5
 loop-holds : tie.Need-loop-holds Inv-loop μ-loop
 loop-holds c = (search needs, first-none _)
 
--- src/check.rt:57:12
 fault-at-requires : tie.Need-fault-at-requires Inv-loop μ-loop
 fault-at-requires c κs = search needs
 
--- src/check.rt:58:13
 returns : tie.Need-returns Inv-loop μ-loop
 unfolding firstFault
 returns c = λ owners. first-hit _ _ _ (omega arith) (c .before .before .before .loop .inv .1) (at-fault _ _ _ (c .before .fault-at .ensures [] _) (c .if1 .taken)) ∙ first-fault-any _ _
 
--- src/check.rt:60:9
 add-v : tie.Need-add-v Inv-loop μ-loop
 add-v c = search needs
 
--- src/check.rt:56:5
 loop-less : tie.Need-loop-less Inv-loop μ-loop
 loop-less c = search needs
 
--- src/check.rt:56:5
 loop-again : tie.Need-loop-again Inv-loop μ-loop
 loop-again c = (omega arith, first-more _ _ (c .before .before .before .loop .inv .1) (no-fault _ _ _ (c .before .fault-at .ensures [] _) (c .if1 .left)))
 
--- src/check.rt:51:1
 returns-2 : tie.Need-returns-2 Inv-loop μ-loop
 unfolding firstFault
 returns-2 c = λ owners. first-end _ _ _ (c .before .loop .inv .0) (c .loop-test .left) (c .before .loop .inv .1) ∙ first-fault-any _ _

@@ -7,37 +7,29 @@ use Rattle.plan.proofs.check.over_at.Tie as tie
 use Rattle.plan.proofs.check.over_at.Reads as reads
 use Rattle.plan.proofs.check.over_at.Lts as lts
 
--- src/check.rt:70:16
 add-next : tie.Need-add-next
 add-next c = search needs
 
--- src/check.rt:72:9
 returns : tie.Need-returns
 unfolding over
 returns c = rw (le-ltb _ _ (c .if1 .taken))
 
--- src/check.rt:74:8
 shared-slice-read-if2 : tie.Need-shared-slice-read-if2
 shared-slice-read-if2 c = search needs
 
--- src/check.rt:74:24
 shared-slice-read-if2-2 : tie.Need-shared-slice-read-if2-2
 shared-slice-read-if2-2 c = search needs
 
--- src/check.rt:75:9
 returns-2 : tie.Need-returns-2
 unfolding over
 returns-2 c = rw (lt-ltb _ _ (c .before .before .before .if1 .left), ne-eqb _ _ (c .if2 .taken))
 
--- src/check.rt:77:5
 mul-result : tie.Need-mul-result
 mul-result c = search needs
 
--- src/check.rt:77:5
 shared-slice-read-result : tie.Need-shared-slice-read-result
 shared-slice-read-result c = search needs
 
--- src/check.rt:66:1
 returns-3 : tie.Need-returns-3
 unfolding over
 returns-3 c = rw (lt-ltb _ _ (c .before .before .before .before .if1 .left), eq-eqb _ _ (c .before .if2 .left))

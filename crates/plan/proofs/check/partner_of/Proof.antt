@@ -6,7 +6,6 @@ use native.Mathlib.Omega.{arith}
 use mathlib.Core.List.{[]}
 use Rattle.plan.proofs.Unread.{partner-any}
 use Rattle.plan.specs.Visits.{visitsOf}
-use Rattle.below.specs.Below.{at}
 use Rattle.below.proofs.Search.{first-hit, first-end}
 use Rattle.plan.proofs.SharingLaws.{elsewhere, walk-from, walk-within, walk-past}
 use Rattle.plan.proofs.CheckLaws.{Alone, alone-start, alone-more}
@@ -22,51 +21,39 @@ Inv-loop owners locations times n first next v w₀ w = Alone (visitsOf owners [
 abbrev μ-loop : tie.MeasureT-loop
 μ-loop owners locations times n first next v w₀ w = n - w
 
--- src/check.rt:116:17
 mul-w : tie.Need-mul-w Inv-loop μ-loop
 mul-w c = omega (arith, c .before .before .before .pre .0 .few)
 
--- src/check.rt:116:17
 element-copy-out-w : tie.Need-element-copy-out-w Inv-loop μ-loop
 element-copy-out-w c = omega (arith, c .before .before .before .pre .0 .few)
 
--- src/check.rt:116:17
 cast-w : tie.Need-cast-w Inv-loop μ-loop
 cast-w c = omega (arith, c .before .before .before .before .pre .0 .few, walk-from _ _ _ _ (c .before .before .before .before .pre .1) (c .before .before .before .before .args .v) (c .before .before .before .before .pre .2))
 
--- src/check.rt:117:5
 loop-holds : tie.Need-loop-holds Inv-loop μ-loop
 loop-holds c = alone-start _ _ (elsewhere _ _ _ _ _) _ _ (c .before .before .before .before .pre .1) _ (c .before .before .before .before .pre .2) refl
 
--- src/check.rt:118:12
 collide-at-requires : tie.Need-collide-at-requires Inv-loop μ-loop
 collide-at-requires c κs = search needs
 
--- src/check.rt:119:13
 returns : tie.Need-returns Inv-loop μ-loop
 returns c = λ numbers. first-hit _ _ _ (omega arith) (c .before .before .before .loop .inv .1) (sym (c .before .collide-at .ensures []) ∙ c .if1 .taken) ∙ partner-any _ _ _
 
--- src/check.rt:121:13
 mul-w-2 : tie.Need-mul-w-2 Inv-loop μ-loop
 mul-w-2 c = omega (arith, c .before .before .before .before .before .before .before .before .pre .0 .few)
 
--- src/check.rt:121:13
 element-copy-out-w-2 : tie.Need-element-copy-out-w-2 Inv-loop μ-loop
 element-copy-out-w-2 c = omega (arith, c .before .before .before .before .before .before .before .before .pre .0 .few)
 
--- src/check.rt:121:13
 cast-w-2 : tie.Need-cast-w-2 Inv-loop μ-loop
 cast-w-2 c = omega (arith, c .before .before .before .before .before .before .before .before .before .pre .0 .few, walk-within _ _ _ _ (c .before .before .before .before .before .before .before .before .before .pre .1) (c .before .before .before .before .loop .w) (c .before .before .before .loop-test .taken))
 
--- src/check.rt:117:5
 loop-less : tie.Need-loop-less Inv-loop μ-loop
 loop-less c = omega (arith, walk-past _ _ _ _ (c .before .before .before .before .before .before .before .before .before .pre .1) (c .before .before .before .before .loop .w) _ (c .before .before .before .loop-test .taken) refl, c .before .before .before .loop-test .taken)
 
--- src/check.rt:117:5
 loop-again : tie.Need-loop-again Inv-loop μ-loop
 loop-again c = alone-more _ _ (elsewhere _ _ _ _ _) _ _ (c .before .before .before .before .before .before .before .before .before .pre .1) _ _ (c .before .before .before .before .loop .inv) (c .before .before .before .loop-test .taken) (sym (c .before .before .collide-at .ensures []) ∙ c .before .if1 .left) refl
 
--- src/check.rt:104:1
 returns-2 : tie.Need-returns-2 Inv-loop μ-loop
 returns-2 c = λ numbers. first-end _ _ _ (c .before .loop .inv .0) (c .loop-test .left) (c .before .loop .inv .1) ∙ partner-any _ _ _
 

@@ -6,27 +6,21 @@ use Rattle.plan.proofs.check.stop_at.Tie as tie
 use Rattle.plan.proofs.check.stop_at.Reads as reads
 use Rattle.plan.proofs.check.stop_at.Lts as lts
 
--- src/check.rt:136:16
 shared-slice-read-t5 : tie.Need-shared-slice-read-t5
 shared-slice-read-t5 c = search needs
 
--- src/check.rt:136:16
 cast-t6 : tie.Need-cast-t6
 cast-t6 c = omega (arith, c .shared-slice-known .given (c .before .args .v))
 
--- src/check.rt:137:15
 mul-t7 : tie.Need-mul-t7
 mul-t7 c = search needs
 
--- src/check.rt:137:15
 shared-slice-read-t9 : tie.Need-shared-slice-read-t9
 shared-slice-read-t9 c = search needs
 
--- src/check.rt:137:15
 cast-t10 : tie.Need-cast-t10
 cast-t10 c = omega (arith, c .shared-slice-known2 .given (c .before .before .args .v))
 
--- src/check.rt:131:1
 returns : tie.Need-returns
 returns c = search needs
 

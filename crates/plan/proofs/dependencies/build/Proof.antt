@@ -17,43 +17,33 @@ use Rattle.plan.proofs.dependencies.count_dependencies.Reads as count-d
 use Rattle.plan.proofs.dependencies.fill_rows.Reads as fill-rows-reads
 use Rattle.plan.proofs.sharing.fill_groups.Reads as fill-groups-reads
 
--- src/dependencies.rt:215:5
 fill-groups-requires : tie.Need-fill-groups-requires
 fill-groups-requires c κs = search needs
 
--- src/dependencies.rt:216:9
 count-dependencies-requires : tie.Need-count-dependencies-requires
 count-dependencies-requires c κs = (c .before .before .before .before .before .before .before .before .before .before .before .before .before .before .pre .0 .visits, groups-filled _ _ _ _ (omega (arith, length-replicate {A = ℕ} (limits .stops) 0, c .before .before .before .before .before .before .before .before .before .before .before .before .before .before .pre .0 .visits .few)) (c .before .before .fill-groups .ensures .0) _ _ (omega (arith, length-replicate {A = ℕ} (limits .stops) 0, c .before .before .before .before .before .before .before .before .before .before .before .before .before .before .pre .0 .visits .few)) (c .before .before .fill-groups .ensures .1))
 
--- src/dependencies.rt:218:9
 returns : tie.Need-returns
 returns c = built-refused _ _ _ _ (c .before .count-dependencies .ensures [] ∙ total-any _ _) (c .if1 .taken)
 
--- src/dependencies.rt:220:5
 fill-rows-requires : tie.Need-fill-rows-requires
 fill-rows-requires c κs = ((c .before .before .before .before .before .before .before .before .before .before .before .before .before .before .before .before .before .before .before .before .before .before .before .pre .0, groups-filled _ _ _ _ (omega (arith, length-replicate {A = ℕ} (limits .stops) 0, c .before .before .before .before .before .before .before .before .before .before .before .before .before .before .before .before .before .before .before .before .before .before .before .pre .0 .visits .few)) (c .before .before .before .before .before .before .before .before .before .before .before .fill-groups .ensures .0) _ _ (omega (arith, length-replicate {A = ℕ} (limits .stops) 0, c .before .before .before .before .before .before .before .before .before .before .before .before .before .before .before .before .before .before .before .before .before .before .before .pre .0 .visits .few)) (c .before .before .before .before .before .before .before .before .before .before .before .fill-groups .ensures .1)), total-room _ _ _ _ (c .before .before .before .before .before .before .before .before .count-dependencies .ensures [] ∙ total-any _ _) (c .before .before .before .before .before .before .before .if1 .left) (c .before .before .before .before .before .before .before .before .before .before .before .before .before .before .before .before .before .before .before .before .before .before .before .pre .1))
 
--- src/dependencies.rt:196:1
 same-length : tie.Need-same-length
 same-length c = search needs
 
--- src/dependencies.rt:196:1
 same-length-2 : tie.Need-same-length-2
 same-length-2 c = search needs
 
--- src/dependencies.rt:196:1
 same-length-3 : tie.Need-same-length-3
 same-length-3 c = search needs
 
--- src/dependencies.rt:196:1
 same-length-4 : tie.Need-same-length-4
 same-length-4 c = search needs
 
--- src/dependencies.rt:196:1
 same-length-5 : tie.Need-same-length-5
 same-length-5 c = search needs
 
--- src/dependencies.rt:196:1
 returns-2 : tie.Need-returns-2
 returns-2 c = built-done _ _ _ _ (c .before .before .before .before .before .before .before .before .before .before .before .before .before .before .before .before .before .before .before .count-dependencies .ensures [] ∙ total-any _ _) _ (c .before .before .before .before .before .before .before .before .before .before .before .before .before .before .before .before .before .before .if1 .left) (c .before .before .before .before .before .before .before .before .before .before .fill-rows .ensures)
 

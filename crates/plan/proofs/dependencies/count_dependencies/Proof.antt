@@ -7,7 +7,7 @@ use mathlib.Core.List.{[]}
 use Rattle.tables.specs.Limits.{limits}
 use Rattle.plan.proofs.Unread.{total-any}
 use Rattle.plan.specs.Visits.{visitsOf}
-use Rattle.below.specs.Below.{countBelow, sumBelow, at}
+use Rattle.below.specs.Below.{countBelow, sumBelow}
 use Rattle.below.proofs.Sum.{sum-none, sum-turn, sum-end}
 use Rattle.plan.specs.Dependencies.{follows}
 use Rattle.plan.proofs.ColumnsLaws.{row-few}
@@ -23,31 +23,24 @@ Inv-loop owners locations times n first next c₀ v₀ c v = (v ≤ n) × (c ≡
 abbrev μ-loop : tie.MeasureT-loop
 μ-loop owners locations times n first next c₀ v₀ c v = n - v
 
--- src/dependencies.rt:100:5
 loop-holds : tie.Need-loop-holds Inv-loop μ-loop
 loop-holds c = (search needs, sum-none _ 0, search needs)
 
--- src/dependencies.rt:101:14
 count-row-requires : tie.Need-count-row-requires Inv-loop μ-loop
 count-row-requires c κs = (c .before .before .before .before .before .pre .0, c .before .before .before .before .before .pre .1, c .loop-test .taken)
 
--- src/dependencies.rt:101:9
 add-c : tie.Need-add-c Inv-loop μ-loop
 add-c c = omega (arith, row-few _ _ _ (c .count-row .ensures []), c .before .before .before .before .before .before .pre .0 .few)
 
--- src/dependencies.rt:102:9
 add-v : tie.Need-add-v Inv-loop μ-loop
 add-v c = search needs
 
--- src/dependencies.rt:100:5
 loop-less : tie.Need-loop-less Inv-loop μ-loop
 loop-less c = search needs
 
--- src/dependencies.rt:100:5
 loop-again : tie.Need-loop-again Inv-loop μ-loop
 loop-again c = (omega arith, sum-turn _ _ _ _ (c .before .before .loop .inv .1) (c .count-row .ensures []), omega (arith, row-few _ _ _ (c .count-row .ensures []), c .before .before .before .before .before .before .pre .0 .few))
 
--- src/dependencies.rt:87:1
 returns : tie.Need-returns Inv-loop μ-loop
 returns c = λ numbers. sum-end _ _ _ _ (c .before .loop .inv .0) (c .loop-test .left) (c .before .loop .inv .1) ∙ total-any _ _
 

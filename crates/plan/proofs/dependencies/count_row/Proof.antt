@@ -24,47 +24,36 @@ Inv-loop owners locations times n first next v c₀ w₀ c w = (w ≤ n) × (c �
 abbrev μ-loop : tie.MeasureT-loop
 μ-loop owners locations times n first next v c₀ w₀ c w = n - w
 
--- src/dependencies.rt:76:17
 mul-w : tie.Need-mul-w Inv-loop μ-loop
 mul-w c = omega (arith, c .before .before .before .pre .0 .few)
 
--- src/dependencies.rt:76:17
 element-copy-out-w : tie.Need-element-copy-out-w Inv-loop μ-loop
 element-copy-out-w c = omega (arith, c .before .before .before .pre .0 .few)
 
--- src/dependencies.rt:76:17
 cast-w : tie.Need-cast-w Inv-loop μ-loop
 cast-w c = omega (arith, c .before .before .before .before .pre .0 .few, walk-from _ _ _ _ (c .before .before .before .before .pre .1) (c .before .before .before .before .args .v) (c .before .before .before .before .pre .2))
 
--- src/dependencies.rt:77:5
 loop-holds : tie.Need-loop-holds Inv-loop μ-loop
 loop-holds c = count-start-at _ _ (elsewhere _ _ _ _ _) _ _ (c .before .before .before .before .pre .1) _ (c .before .before .before .before .pre .2) refl
 
--- src/dependencies.rt:78:12
 follows-at-requires : tie.Need-follows-at-requires Inv-loop μ-loop
 follows-at-requires c κs = search needs
 
--- src/dependencies.rt:79:13
 add-c : tie.Need-add-c Inv-loop μ-loop
 add-c c = omega (arith, row-few _ _ _ (c .before .before .before .loop .inv .1), c .before .before .before .before .before .before .before .before .pre .0 .few)
 
--- src/dependencies.rt:81:13
 mul-w-2 : tie.Need-mul-w-2 Inv-loop μ-loop
 mul-w-2 c = omega (arith, c .before .before .before .before .before .before .before .before .pre .0 .few)
 
--- src/dependencies.rt:81:13
 element-copy-out-w-2 : tie.Need-element-copy-out-w-2 Inv-loop μ-loop
 element-copy-out-w-2 c = omega (arith, c .before .before .before .before .before .before .before .before .pre .0 .few)
 
--- src/dependencies.rt:81:13
 cast-w-2 : tie.Need-cast-w-2 Inv-loop μ-loop
 cast-w-2 c = omega (arith, c .before .before .before .before .before .before .before .before .before .pre .0 .few, walk-within _ _ _ _ (c .before .before .before .before .before .before .before .before .before .pre .1) (c .before .before .before .before .loop .w) (c .before .before .before .loop-test .taken))
 
--- src/dependencies.rt:77:5
 loop-less : tie.Need-loop-less Inv-loop μ-loop
 loop-less c = omega (arith, walk-past _ _ _ _ (c .before .before .before .before .before .before .before .before .before .pre .1) (c .before .before .before .before .loop .w) _ (c .before .before .before .loop-test .taken) refl, c .before .before .before .loop-test .taken)
 
--- src/dependencies.rt:77:5
 loop-again : tie.Need-loop-again Inv-loop μ-loop
 loop-again c = count-more-at _ _ (elsewhere _ _ _ _ _) _ _ (c .before .before .before .before .before .before .before .before .before .pre .1) _ _ _ (c .before .before .before .loop-test .taken) (c .before .before .before .before .loop .inv .2 (c .before .before .before .loop-test .taken))
     (⊎-elim
@@ -72,7 +61,6 @@ loop-again c = count-more-at _ _ (elsewhere _ _ _ _ _) _ _ (c .before .before .b
     (λ w. w .1 ∙ count-miss _ _ _ (c .before .before .before .before .loop .inv .1) (sym (c .before .before .follows-at .ensures [] _) ∙ w .0 .left))
     (c .before .if1 .came)) refl
 
--- src/dependencies.rt:63:1
 returns : tie.Need-returns Inv-loop μ-loop
 returns c = λ numbers. count-end _ _ _ _ (c .before .loop .inv .0) (c .loop-test .left) (c .before .loop .inv .1) ∙ row-any _ _ _ _ _
 

@@ -4,10 +4,10 @@ use Prim.Native.Nat.{_-_, _≤_}
 use mathlib.Core.Path.{_≡_}
 use native.Mathlib.Omega.{arith}
 use Rattle.plan.specs.Visits.{visitsOf}
-use Rattle.below.specs.Below.{countBelow, sumBelow, at}
+use Rattle.below.specs.Below.{countBelow, sumBelow}
 use Rattle.below.proofs.Sum.{sum-none}
 use Rattle.plan.specs.Dependencies.{follows}
-use Rattle.plan.specs.Columns.{columns, rowsWritten}
+use Rattle.plan.specs.Columns.{columnsWith, rowsWritten}
 use Rattle.plan.proofs.ColumnsLaws.{rows-none, rows-lengths, rows-room, rows-more, rows-cursor, rows-end}
 use Rattle.plan.proofs.dependencies.fill_rows.Statement.{statement}
 use Rattle.plan.proofs.dependencies.fill_rows.Tie as tie
@@ -19,52 +19,41 @@ abbrev Inv-loop : tie.InvT-loop
 Inv-loop owners numbers locations times n first next first-drones₀ first-stops₀ second-drones₀ second-stops₀ flags₀ k₀ v₀ first-drones first-stops second-drones second-stops flags k v =
     (v ≤ n)
     × (k ≡ sumBelow v (λ u. countBelow n (follows (visitsOf owners numbers locations times n) u)))
-    × (columns first-drones first-stops second-drones second-stops flags ≡ rowsWritten (visitsOf owners numbers locations times n) v (columns first-drones₀ first-stops₀ second-drones₀ second-stops₀ flags₀))
+    × (columnsWith first-drones first-stops second-drones second-stops flags ≡ rowsWritten (visitsOf owners numbers locations times n) v (columnsWith first-drones₀ first-stops₀ second-drones₀ second-stops₀ flags₀))
 
 abbrev μ-loop : tie.MeasureT-loop
 μ-loop owners numbers locations times n first next first-drones₀ first-stops₀ second-drones₀ second-stops₀ flags₀ k₀ v₀ first-drones first-stops second-drones second-stops flags k v = n - v
 
--- src/dependencies.rt:168:5
 loop-holds : tie.Need-loop-holds Inv-loop μ-loop
 loop-holds c = (search needs, sum-none _ 0, rows-none _ _)
 
--- src/dependencies.rt:169:9
 fill-row-requires : tie.Need-fill-row-requires Inv-loop μ-loop
 fill-row-requires c κs = ((c .before .before .before .before .before .before .before .before .before .before .before .before .before .before .before .before .pre .0 .0, c .before .before .before .before .before .before .before .before .before .before .before .before .before .before .before .before .pre .0 .1, c .before .before .before .before .before .loop-test .taken), rows-room _ _ _ _ (c .before .before .before .before .before .before .loop .inv .2) _ (c .before .before .before .before .before .before .loop .inv .1) (c .before .before .before .before .before .loop-test .taken) (c .before .before .before .before .before .before .before .before .before .before .before .before .before .before .before .before .pre .1))
 
--- src/dependencies.rt:185:9
 add-v : tie.Need-add-v Inv-loop μ-loop
 add-v c = omega (arith, c .before .before .before .before .before .before .before .before .before .before .before .before .before .before .before .before .loop-test, c .before .before .before .before .before .before .before .before .before .before .before .before .before .before .before .before .before .before .before .before .before .before .before .before .before .before .before .pre)
 
--- src/dependencies.rt:168:5
 loop-less : tie.Need-loop-less Inv-loop μ-loop
 loop-less c = omega (arith, c .before .before .before .before .before .before .before .before .before .before .before .before .before .before .before .before .loop-test, c .before .before .before .before .before .before .before .before .before .before .before .before .before .before .before .before .before .before .before .before .before .before .before .before .before .before .before .pre)
 
--- src/dependencies.rt:168:5
 loop-again : tie.Need-loop-again Inv-loop μ-loop
 loop-again c = (omega (arith, c .before .before .before .before .before .before .before .before .before .before .before .before .before .before .before .before .loop-test), rows-cursor _ _ _ _ (c .before .before .before .before .before .before .before .before .before .before .before .before .before .before .before .before .before .loop .inv .2) _ (c .before .before .before .before .before .before .before .before .before .before .before .before .before .before .before .before .before .loop .inv .1) _ (c .before .before .before .before .before .before .before .before .before .before .fill-row .ensures .0), rows-more _ _ _ _ (c .before .before .before .before .before .before .before .before .before .before .before .before .before .before .before .before .before .loop .inv .2) _ (c .before .before .before .before .before .before .before .before .before .before .before .before .before .before .before .before .before .loop .inv .1) _ _ _ _ _ (c .before .before .before .before .before .before .before .before .before .before .fill-row .ensures .1))
 
--- src/dependencies.rt:148:1
 same-length : tie.Need-same-length Inv-loop μ-loop
 same-length c = rows-lengths _ _ _ _ (c .before .loop .inv .2) .same-first-drones
 
--- src/dependencies.rt:148:1
 same-length-2 : tie.Need-same-length-2 Inv-loop μ-loop
 same-length-2 c = rows-lengths _ _ _ _ (c .before .loop .inv .2) .same-first-stops
 
--- src/dependencies.rt:148:1
 same-length-3 : tie.Need-same-length-3 Inv-loop μ-loop
 same-length-3 c = rows-lengths _ _ _ _ (c .before .loop .inv .2) .same-second-drones
 
--- src/dependencies.rt:148:1
 same-length-4 : tie.Need-same-length-4 Inv-loop μ-loop
 same-length-4 c = rows-lengths _ _ _ _ (c .before .loop .inv .2) .same-second-stops
 
--- src/dependencies.rt:148:1
 same-length-5 : tie.Need-same-length-5 Inv-loop μ-loop
 same-length-5 c = rows-lengths _ _ _ _ (c .before .loop .inv .2) .same-flags
 
--- src/dependencies.rt:148:1
 returns : tie.Need-returns Inv-loop μ-loop
 returns c = rows-end _ _ _ _ (c .before .loop .inv .2) (c .before .loop .inv .0) (c .loop-test .left)
 

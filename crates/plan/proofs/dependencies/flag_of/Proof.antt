@@ -10,15 +10,12 @@ use Rattle.plan.proofs.dependencies.flag_of.Lts as lts
 use Rattle.plan.proofs.dependencies.is_fixed.Reads as is-fixed-reads
 use Rattle.tables.proofs.flags.fixed_flag.Reads as fixed-flag-reads
 
--- src/dependencies.rt:56:16
 is-fixed-requires : tie.Need-is-fixed-requires
 is-fixed-requires c κs = search needs
 
--- src/dependencies.rt:56:5
 fixed-flag-requires : tie.Need-fixed-flag-requires
 fixed-flag-requires c κs = search needs
 
--- src/dependencies.rt:52:1
 returns : tie.Need-returns
 unfolding fixedFlag flagOf
 returns c = c .fixed-flag .ensures ∙ ap fixedFlag (c .before .is-fixed .ensures)

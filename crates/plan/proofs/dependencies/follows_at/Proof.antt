@@ -9,61 +9,47 @@ use Rattle.plan.proofs.dependencies.follows_at.Reads as reads
 use Rattle.plan.proofs.dependencies.follows_at.Lts as lts
 use Rattle.plan.proofs.meeting.meets.Reads as meets-reads
 
--- src/dependencies.rt:25:8
 shared-slice-read-if1 : tie.Need-shared-slice-read-if1
 shared-slice-read-if1 c = search needs
 
--- src/dependencies.rt:25:21
 shared-slice-read-if1-2 : tie.Need-shared-slice-read-if1-2
 shared-slice-read-if1-2 c = search needs
 
--- src/dependencies.rt:26:9
 returns : tie.Need-returns
 unfolding follows
 returns c = λ numbers n. rw (eq-eqb _ _ (c .if1 .taken))
 
--- src/dependencies.rt:28:15
 mul-meets : tie.Need-mul-meets
 mul-meets c = search needs
 
--- src/dependencies.rt:28:15
 shared-slice-read-meets : tie.Need-shared-slice-read-meets
 shared-slice-read-meets c = search needs
 
--- src/dependencies.rt:28:29
 mul-meets-2 : tie.Need-mul-meets-2
 mul-meets-2 c = search needs
 
--- src/dependencies.rt:28:29
 shared-slice-read-meets-2 : tie.Need-shared-slice-read-meets-2
 shared-slice-read-meets-2 c = search needs
 
--- src/dependencies.rt:28:9
 meets-requires : tie.Need-meets-requires
 meets-requires c κs = search needs
 
--- src/dependencies.rt:29:9
 returns-2 : tie.Need-returns-2
 unfolding follows
 returns-2 c = λ numbers n. rw (ne-eqb _ _ (c .before .before .before .before .if1 .left), sym (c .before .meets .ensures) ∙ not-true _ (c .if2 .taken))
 
--- src/dependencies.rt:31:5
 mul-result : tie.Need-mul-result
 mul-result c = search needs
 
--- src/dependencies.rt:31:5
 shared-slice-read-result : tie.Need-shared-slice-read-result
 shared-slice-read-result c = search needs
 
--- src/dependencies.rt:31:16
 mul-result-2 : tie.Need-mul-result-2
 mul-result-2 c = search needs
 
--- src/dependencies.rt:31:16
 shared-slice-read-result-2 : tie.Need-shared-slice-read-result-2
 shared-slice-read-result-2 c = search needs
 
--- src/dependencies.rt:20:1
 returns-3 : tie.Need-returns-3
 unfolding follows
 returns-3 c = λ numbers n. rw (ne-eqb _ _ (c .before .before .before .before .before .before .if1 .left), sym (c .before .before .before .meets .ensures) ∙ not-false _ (c .before .before .if2 .left))

@@ -8,24 +8,19 @@ use Rattle.plan.proofs.dependencies.is_fixed.Reads as reads
 use Rattle.plan.proofs.dependencies.is_fixed.Lts as lts
 use Rattle.plan.proofs.dependencies.is_last.Reads as is-last-reads
 
--- src/dependencies.rt:45:8
 mul-if1 : tie.Need-mul-if1
 mul-if1 c = search needs
 
--- src/dependencies.rt:45:8
 shared-slice-read-if1 : tie.Need-shared-slice-read-if1
 shared-slice-read-if1 c = search needs
 
--- src/dependencies.rt:46:9
 returns : tie.Need-returns
 unfolding isFixed
 returns c = rw (eq-eqb _ _ (c .if1 .taken))
 
--- src/dependencies.rt:48:5
 is-last-requires : tie.Need-is-last-requires
 is-last-requires c κs = search needs
 
--- src/dependencies.rt:41:1
 returns-2 : tie.Need-returns-2
 unfolding isFixed
 returns-2 c = rw (ne-eqb _ _ (c .before .if1 .left)) (c .is-last .ensures)

@@ -7,24 +7,19 @@ use Rattle.plan.proofs.dependencies.is_last.Tie as tie
 use Rattle.plan.proofs.dependencies.is_last.Reads as reads
 use Rattle.plan.proofs.dependencies.is_last.Lts as lts
 
--- src/dependencies.rt:33:16
 add-next : tie.Need-add-next
 add-next c = search needs
 
--- src/dependencies.rt:35:9
 returns : tie.Need-returns
 unfolding isLast
 returns c = rw (le-ltb _ _ (c .if1 .taken))
 
--- src/dependencies.rt:37:5
 shared-slice-read-result : tie.Need-shared-slice-read-result
 shared-slice-read-result c = search needs
 
--- src/dependencies.rt:37:21
 shared-slice-read-result-2 : tie.Need-shared-slice-read-result-2
 shared-slice-read-result-2 c = search needs
 
--- src/dependencies.rt:29:1
 returns-2 : tie.Need-returns-2
 unfolding isLast
 returns-2 c = rw (lt-ltb _ _ (c .before .before .if1 .left))

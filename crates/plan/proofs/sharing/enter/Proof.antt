@@ -18,107 +18,81 @@ Inv-loop locations links w l slot₀ digits₀ slot digits = Seeking (at locatio
 abbrev μ-loop : tie.MeasureT-loop
 μ-loop locations links w l slot₀ digits₀ slot digits = 3072 - slot
 
--- src/sharing.rt:33:18
 mul-wide : tie.Need-mul-wide Inv-loop μ-loop
 mul-wide c = search needs
 
--- src/sharing.rt:33:18
 shared-slice-read-wide : tie.Need-shared-slice-read-wide Inv-loop μ-loop
 shared-slice-read-wide c = search needs
 
--- src/sharing.rt:33:9
 wide-requires : tie.Need-wide-requires Inv-loop μ-loop
 wide-requires c κs = search needs
 
--- src/sharing.rt:34:9
 root-requires : tie.Need-root-requires Inv-loop μ-loop
 root-requires c κs = search needs
 
--- src/sharing.rt:36:5
 loop-holds : tie.Need-loop-holds Inv-loop μ-loop
 loop-holds c = seeking-start _ _ _ (c .before .before .before .before .pre .0) _ _ (c .before .wide .ensures .0) (c .root .ensures .0)
 
--- src/sharing.rt:36:11
 mul-if1 : tie.Need-mul-if1 Inv-loop μ-loop
 mul-if1 c = omega (arith, c .loop .inv .within, c .before .before .before .before .before .pre .2)
 
--- src/sharing.rt:36:11
 element-copy-out-if1 : tie.Need-element-copy-out-if1 Inv-loop μ-loop
 element-copy-out-if1 c = omega (arith, c .loop .inv .within, c .before .before .before .before .before .pre .2)
 
--- src/sharing.rt:37:22
 mul-wide-2 : tie.Need-mul-wide-2 Inv-loop μ-loop
 mul-wide-2 c = omega (arith, c .before .before .loop .inv .within, c .before .before .before .before .before .before .before .pre .2)
 
--- src/sharing.rt:37:22
 element-copy-out-wide : tie.Need-element-copy-out-wide Inv-loop μ-loop
 element-copy-out-wide c = omega (arith, c .before .before .loop .inv .within, c .before .before .before .before .before .before .before .pre .2)
 
--- src/sharing.rt:37:17
 wide-requires-2 : tie.Need-wide-requires-2 Inv-loop μ-loop
 wide-requires-2 c κs = search needs
 
--- src/sharing.rt:37:17
 sub-u : tie.Need-sub-u Inv-loop μ-loop
 sub-u c = omega (arith, c .wide2 .ensures .0, c .before .before .if1 .taken)
 
--- src/sharing.rt:38:12
 mul-if2 : tie.Need-mul-if2 Inv-loop μ-loop
 mul-if2 c = omega (arith, seeking-node _ _ _ (c .before .before .before .before .before .before .before .before .before .pre .0) _ _ (c .wide2 .result - 1) (c .before .before .before .before .loop .inv) (omega (arith, c .wide2 .ensures .0, c .before .before .if1 .taken)) .known, c .before .before .before .before .before .before .before .before .before .pre .1, c .before .before .before .before .before .before .before .before .before .pre .2)
 
--- src/sharing.rt:38:12
 shared-slice-read-if2 : tie.Need-shared-slice-read-if2 Inv-loop μ-loop
 shared-slice-read-if2 c = omega (arith, seeking-node _ _ _ (c .before .before .before .before .before .before .before .before .before .before .pre .0) _ _ (c .before .wide2 .result - 1) (c .before .before .before .before .before .loop .inv) (omega (arith, c .before .wide2 .ensures .0, c .before .before .before .if1 .taken)) .known, c .before .before .before .before .before .before .before .before .before .before .pre .1, c .before .before .before .before .before .before .before .before .before .before .pre .2)
 
--- src/sharing.rt:38:28
 mul-if2-2 : tie.Need-mul-if2-2 Inv-loop μ-loop
 mul-if2-2 c = search needs
 
--- src/sharing.rt:38:28
 shared-slice-read-if2-2 : tie.Need-shared-slice-read-if2-2 Inv-loop μ-loop
 shared-slice-read-if2-2 c = search needs
 
--- src/sharing.rt:39:13
 returns : tie.Need-returns Inv-loop μ-loop
 returns c = seeking-found _ _ _ (c .before .before .before .before .before .before .before .before .before .before .before .before .pre .0) _ _ (c .before .before .before .wide2 .result - 1) (c .before .before .before .before .before .before .before .loop .inv) (omega (arith, c .before .before .before .wide2 .ensures .0, c .before .before .before .before .before .if1 .taken)) (c .if2 .taken)
 
--- src/sharing.rt:41:24
 mul-slot : tie.Need-mul-slot Inv-loop μ-loop
 mul-slot c = omega (arith, seeking-node _ _ _ (c .before .before .before .before .before .before .before .before .before .before .before .before .pre .0) _ _ (c .before .before .before .wide2 .result - 1) (c .before .before .before .before .before .before .before .loop .inv) (omega (arith, c .before .before .before .wide2 .ensures .0, c .before .before .before .before .before .if1 .taken)) .known, c .before .before .before .before .before .before .before .before .before .before .before .before .pre .1, c .before .before .before .before .before .before .before .before .before .before .before .before .pre .2)
 
--- src/sharing.rt:41:16
 add-slot : tie.Need-add-slot Inv-loop μ-loop
 add-slot c = omega (arith, seeking-node _ _ _ (c .before .before .before .before .before .before .before .before .before .before .before .before .pre .0) _ _ (c .before .before .before .wide2 .result - 1) (c .before .before .before .before .before .before .before .loop .inv) (omega (arith, c .before .before .before .wide2 .ensures .0, c .before .before .before .before .before .if1 .taken)) .known, c .before .before .before .before .before .before .before .before .before .before .before .before .pre .1, c .before .before .before .before .before .before .before .before .before .before .before .before .pre .2)
 
--- src/sharing.rt:41:16
 add-slot-2 : tie.Need-add-slot-2 Inv-loop μ-loop
 add-slot-2 c = omega (arith, seeking-node _ _ _ (c .before .before .before .before .before .before .before .before .before .before .before .before .pre .0) _ _ (c .before .before .before .wide2 .result - 1) (c .before .before .before .before .before .before .before .loop .inv) (omega (arith, c .before .before .before .wide2 .ensures .0, c .before .before .before .before .before .if1 .taken)) .known, c .before .before .before .before .before .before .before .before .before .before .before .before .pre .1, c .before .before .before .before .before .before .before .before .before .before .before .before .pre .2)
 
--- src/sharing.rt:36:5
 loop-less : tie.Need-loop-less Inv-loop μ-loop
 loop-less c = omega (arith, seeking-node _ _ _ (c .before .before .before .before .before .before .before .before .before .before .before .before .pre .0) _ _ (c .before .before .before .wide2 .result - 1) (c .before .before .before .before .before .before .before .loop .inv) (omega (arith, c .before .before .before .wide2 .ensures .0, c .before .before .before .before .before .if1 .taken)) .later, seeking-node _ _ _ (c .before .before .before .before .before .before .before .before .before .before .before .before .pre .0) _ _ (c .before .before .before .wide2 .result - 1) (c .before .before .before .before .before .before .before .loop .inv) (omega (arith, c .before .before .before .wide2 .ensures .0, c .before .before .before .before .before .if1 .taken)) .known, c .before .before .before .before .before .before .before .before .before .before .before .before .pre .2)
 
--- src/sharing.rt:36:5
 loop-again : tie.Need-loop-again Inv-loop μ-loop
 loop-again c = seeking-more _ _ _ (c .before .before .before .before .before .before .before .before .before .before .before .before .pre .0) _ _ (c .before .before .before .wide2 .result - 1) (c .before .before .before .before .before .before .before .loop .inv) (omega (arith, c .before .before .before .wide2 .ensures .0, c .before .before .before .before .before .if1 .taken)) (c .if2 .left)
 
--- src/sharing.rt:44:19
 cast-links : tie.Need-cast-links Inv-loop μ-loop
 cast-links c = search needs
 
--- src/sharing.rt:44:19
 add-links : tie.Need-add-links Inv-loop μ-loop
 add-links c = search needs
 
--- src/sharing.rt:44:5
 mul-links : tie.Need-mul-links Inv-loop μ-loop
 mul-links c = omega (arith, c .before .before .loop .inv .within, c .before .before .before .before .before .before .before .pre .2)
 
--- src/sharing.rt:44:5
 element-write-links : tie.Need-element-write-links Inv-loop μ-loop
 element-write-links c = omega (arith, c .before .before .loop .inv .within, c .before .before .before .before .before .before .before .pre .2)
 
--- src/sharing.rt:29:1
 returns-2 : tie.Need-returns-2 Inv-loop μ-loop
 returns-2 c = seeking-end _ _ _ (c .before .before .before .before .before .before .before .pre .0) _ _ _ (c .before .before .loop .inv) (c .if1 .left) refl (c .before .before .before .before .before .before .before .pre .2)
 

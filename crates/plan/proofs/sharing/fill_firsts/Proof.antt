@@ -21,39 +21,30 @@ Inv-loop locations n first₀ links₀ w₀ first links w = (w ≤ n) × Trees (
 abbrev μ-loop : tie.MeasureT-loop
 μ-loop locations n first₀ links₀ w₀ first links w = n - w
 
--- src/sharing.rt:55:5
 loop-holds : tie.Need-loop-holds Inv-loop μ-loop
 loop-holds c = (omega arith, trees-none _ _ (length-replicate {A = ℕ} 3072 0) (zeros-at 3072), fill-none _ _)
 
--- src/sharing.rt:56:13
 enter-requires : tie.Need-enter-requires Inv-loop μ-loop
 enter-requires c κs = (c .before .before .loop .inv .1, omega arith, omega arith)
 
--- src/sharing.rt:57:20
 cast-first : tie.Need-cast-first Inv-loop μ-loop
 cast-first c = omega (arith, c .enter .ensures .0, first-within (at (c .before .before .before .before .before .args .locations .now)) (c .before .before .before .loop .w))
 
--- src/sharing.rt:57:9
 mul-first : tie.Need-mul-first Inv-loop μ-loop
 mul-first c = search needs
 
--- src/sharing.rt:57:9
 element-write-first : tie.Need-element-write-first Inv-loop μ-loop
 element-write-first c = search needs
 
--- src/sharing.rt:58:9
 add-w : tie.Need-add-w Inv-loop μ-loop
 add-w c = search needs
 
--- src/sharing.rt:55:5
 loop-less : tie.Need-loop-less Inv-loop μ-loop
 loop-less c = search needs
 
--- src/sharing.rt:55:5
 loop-again : tie.Need-loop-again Inv-loop μ-loop
 loop-again c = (omega arith, c .enter .ensures .1, fill-store _ _ _ _ (c .before .before .before .loop .inv .2) _ (c .enter .ensures .0))
 
--- src/sharing.rt:49:1
 returns : tie.Need-returns Inv-loop μ-loop
 returns c = fill-end _ _ _ _ (c .before .loop .inv .2) _ (c .before .loop .inv .0) (c .loop-test .left)
 

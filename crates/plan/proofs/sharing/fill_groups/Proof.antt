@@ -8,15 +8,12 @@ use Rattle.plan.proofs.sharing.fill_groups.Lts as lts
 use Rattle.plan.proofs.sharing.fill_firsts.Reads as fill-firsts-reads
 use Rattle.plan.proofs.sharing.fill_nexts.Reads as fill-nexts-reads
 
--- src/sharing.rt:86:5
 fill-firsts-requires : tie.Need-fill-firsts-requires
 fill-firsts-requires c κs = search needs
 
--- src/sharing.rt:87:5
 fill-nexts-requires : tie.Need-fill-nexts-requires
 fill-nexts-requires c κs = (c .before .before .before .before .before .pre .1, c .before .before .before .before .before .pre .3, firsts-back _ _ _ _ (omega (arith, c .before .before .before .before .before .pre .1, c .before .before .before .before .before .pre .2)) (c .before .before .fill-firsts .ensures))
 
--- src/sharing.rt:77:1
 returns : tie.Need-returns
 returns c = (c .before .before .before .fill-firsts .ensures, nexts-same _ _ _ _ (omega (arith, c .before .before .before .before .before .before .pre .1, c .before .before .before .before .before .before .pre .2)) (c .before .before .before .fill-firsts .ensures) _ _ (c .fill-nexts .ensures))
 

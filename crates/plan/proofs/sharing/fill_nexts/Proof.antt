@@ -16,67 +16,51 @@ Inv-loop first n next₀ latest₀ w₀ next latest w = (w ≤ n) × Nexting (at
 abbrev μ-loop : tie.MeasureT-loop
 μ-loop first n next₀ latest₀ w₀ next latest w = w
 
--- src/sharing.rt:77:23
 cast-latest : tie.Need-cast-latest Inv-loop μ-loop
 cast-latest c = search needs
 
--- src/sharing.rt:79:5
 loop-holds : tie.Need-loop-holds Inv-loop μ-loop
 loop-holds c = (omega arith, nexting-none _ _ _)
 
--- src/sharing.rt:80:9
 sub-w : tie.Need-sub-w Inv-loop μ-loop
 sub-w c = search needs
 
--- src/sharing.rt:81:17
 mul-f : tie.Need-mul-f Inv-loop μ-loop
 mul-f c = search needs
 
--- src/sharing.rt:81:17
 element-copy-out-f : tie.Need-element-copy-out-f Inv-loop μ-loop
 element-copy-out-f c = search needs
 
--- src/sharing.rt:81:17
 cast-f : tie.Need-cast-f Inv-loop μ-loop
 cast-f c = omega (arith, c .before .before .before .pre .2 (c .before .before .loop .w - 1) (omega arith), c .before .before .loop .inv .1 .latest-size)
 
--- src/sharing.rt:82:19
 mul-next : tie.Need-mul-next Inv-loop μ-loop
 mul-next c = omega (arith, c .before .before .before .pre .2 (c .before .before .loop .w - 1) (omega arith), c .before .before .loop .inv .1 .latest-size)
 
--- src/sharing.rt:82:19
 array-read-next : tie.Need-array-read-next Inv-loop μ-loop
 array-read-next c = omega (arith, c .before .before .before .pre .2 (c .before .before .loop .w - 1) (omega arith), c .before .before .loop .inv .1 .latest-size)
 
--- src/sharing.rt:82:9
 mul-next-2 : tie.Need-mul-next-2 Inv-loop μ-loop
 mul-next-2 c = search needs
 
--- src/sharing.rt:82:9
 element-write-next : tie.Need-element-write-next Inv-loop μ-loop
 element-write-next c = search needs
 
--- src/sharing.rt:83:21
 cast-latest-2 : tie.Need-cast-latest-2 Inv-loop μ-loop
 cast-latest-2 c = search needs
 
--- src/sharing.rt:83:9
 mul-latest : tie.Need-mul-latest Inv-loop μ-loop
 mul-latest c = omega (arith, c .before .before .before .pre .2 (c .before .before .loop .w - 1) (omega arith), c .before .before .loop .inv .1 .latest-size)
 
--- src/sharing.rt:83:9
 array-write-latest : tie.Need-array-write-latest Inv-loop μ-loop
 array-write-latest c = omega (arith, c .before .before .before .pre .2 (c .before .before .loop .w - 1) (omega arith), c .before .before .loop .inv .1 .latest-size)
 
--- src/sharing.rt:79:5
 loop-less : tie.Need-loop-less Inv-loop μ-loop
 loop-less c = search needs
 
--- src/sharing.rt:79:5
 loop-again : tie.Need-loop-again Inv-loop μ-loop
 loop-again c = (omega arith, nexting-more _ _ _ _ _ _ _ _ _ (c .before .before .loop .inv .1) (omega arith) (omega arith) (omega arith) refl (omega (arith, c .before .before .before .pre .2 (c .before .before .loop .w - 1) (omega arith))) refl)
 
--- src/sharing.rt:73:1
 returns : tie.Need-returns Inv-loop μ-loop
 returns c = nexting-end _ _ _ _ _ _ (c .before .loop .inv .1) (omega arith) (omega arith)
 

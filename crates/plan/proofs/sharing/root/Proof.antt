@@ -5,15 +5,12 @@ use Rattle.plan.proofs.sharing.root.Tie as tie
 use Rattle.plan.proofs.sharing.root.Reads as reads
 use Rattle.plan.proofs.sharing.root.Lts as lts
 
--- src/sharing.rt:25:10
 mul-result : tie.Need-mul-result
 mul-result c = search needs
 
--- src/sharing.rt:25:6
 add-result : tie.Need-add-result
 add-result c = search needs
 
--- src/sharing.rt:21:1
 returns : tie.Need-returns
 returns c = root-is _
 

@@ -20,48 +20,37 @@ Inv-loop drones counts starts₀ next₀ d₀ starts next d = (d ≤ drones) × 
 abbrev μ-loop : tie.MeasureT-loop
 μ-loop drones counts starts₀ next₀ d₀ starts next d = drones - d
 
--- src/stops.rt:28:5
 loop-holds : tie.Need-loop-holds Inv-loop μ-loop
 unfolding fillBelow
 loop-holds c = (search needs, sym (start-none _), refl)
 
--- src/stops.rt:29:9
 mul-starts : tie.Need-mul-starts Inv-loop μ-loop
 mul-starts c = omega (arith, fill-length _ _ _ _ (c .before .loop .inv .2))
 
--- src/stops.rt:29:9
 slice-write-starts : tie.Need-slice-write-starts Inv-loop μ-loop
 slice-write-starts c = omega (arith, fill-length _ _ _ _ (c .before .loop .inv .2))
 
--- src/stops.rt:30:17
 mul-next : tie.Need-mul-next Inv-loop μ-loop
 mul-next c = search needs
 
--- src/stops.rt:30:17
 shared-slice-read-next : tie.Need-shared-slice-read-next Inv-loop μ-loop
 shared-slice-read-next c = search needs
 
--- src/stops.rt:30:9
 add-next : tie.Need-add-next Inv-loop μ-loop
 add-next c = omega (arith, start-next (c .before .before .before .args .counts .now) (c .before .before .loop .d) (c .before .before .loop .next) (c .before .before .loop .inv .1) (c .before .before .before .args .drones) (c .before .loop-test .taken))
 
--- src/stops.rt:31:9
 add-d : tie.Need-add-d Inv-loop μ-loop
 add-d c = search needs
 
--- src/stops.rt:28:5
 loop-less : tie.Need-loop-less Inv-loop μ-loop
 loop-less c = search needs
 
--- src/stops.rt:28:5
 loop-again : tie.Need-loop-again Inv-loop μ-loop
 loop-again c = (omega arith, start-turn _ _ _ (c .before .before .loop .inv .1), fill-store _ _ _ _ (c .before .before .loop .inv .2) _ (c .before .before .loop .inv .1))
 
--- src/stops.rt:22:1
 same-length : tie.Need-same-length Inv-loop μ-loop
 same-length c = fill-length _ _ _ _ (c .before .loop .inv .2)
 
--- src/stops.rt:22:1
 returns : tie.Need-returns Inv-loop μ-loop
 returns c = fill-end _ _ _ _ (c .before .loop .inv .2) _ (omega arith) (omega arith)
 

@@ -5,7 +5,7 @@ use mathlib.Core.Path.{_≡_, refl}
 use native.Mathlib.Omega.{arith}
 use Rattle.below.specs.Below.{fillBelow}
 use Rattle.below.proofs.Fill.{fill-store, fill-length, fill-end}
-use Rattle.plan.specs.Stops.{start, owner, number}
+use Rattle.plan.specs.Stops.{start, owner, stopNumber}
 use Rattle.plan.proofs.StopsLaws.{start-turn, start-below, cursor-owner, cursor-number}
 use Rattle.plan.proofs.Numbering.{start-none}
 use mathlib.Core.Path.{sym}
@@ -15,7 +15,7 @@ use Rattle.plan.proofs.stops.fill_stops.Reads as reads
 use Rattle.plan.proofs.stops.fill_stops.Lts as lts
 
 abbrev Inv-loop : tie.InvT-loop
-Inv-loop drones counts n owners₀ numbers₀ d₀ first₀ v₀ owners numbers d first v = (v ≤ n) × (first ≡ start counts d) × (first ≤ v) × (owners ≡ fillBelow v (owner drones counts) owners₀) × (numbers ≡ fillBelow v (number drones counts) numbers₀)
+Inv-loop drones counts n owners₀ numbers₀ d₀ first₀ v₀ owners numbers d first v = (v ≤ n) × (first ≡ start counts d) × (first ≤ v) × (owners ≡ fillBelow v (owner drones counts) owners₀) × (numbers ≡ fillBelow v (stopNumber drones counts) numbers₀)
 
 abbrev μ-loop : tie.MeasureT-loop
 μ-loop drones counts n owners₀ numbers₀ d₀ first₀ v₀ owners numbers d first v = (n - v) + (drones - d)
@@ -24,72 +24,55 @@ abbrev μ-loop : tie.MeasureT-loop
 in-drones : (c : tie.In-loop Inv-loop μ-loop) → c .before .loop .d < c .before .before .args .drones
 in-drones c = start-below (c .before .before .args .counts .now) _ _ (c .before .loop .inv .1) _ (c .before .loop .v) (c .before .loop .inv .2) (omega (arith, c .before .before .pre .owned, c .loop-test .taken))
 
--- src/stops.rt:50:5
 loop-holds : tie.Need-loop-holds Inv-loop μ-loop
 unfolding fillBelow
 loop-holds c = (search needs, sym (start-none _), search needs, refl, refl)
 
--- src/stops.rt:51:28
 mul-next : tie.Need-mul-next Inv-loop μ-loop
 mul-next c = omega (arith, in-drones c)
 
--- src/stops.rt:51:28
 shared-slice-read-next : tie.Need-shared-slice-read-next Inv-loop μ-loop
 shared-slice-read-next c = omega (arith, in-drones (c .before))
 
--- src/stops.rt:51:28
 cast-next : tie.Need-cast-next Inv-loop μ-loop
 cast-next c = omega (arith, c .shared-slice-known .given (c .before .before .loop .d))
 
--- src/stops.rt:51:20
 add-next : tie.Need-add-next Inv-loop μ-loop
 add-next c = omega (arith, c .shared-slice-known .given (c .before .before .loop .d))
 
--- src/stops.rt:54:13
 add-d : tie.Need-add-d Inv-loop μ-loop
 add-d c = omega (arith, in-drones (c .before .before))
 
--- src/stops.rt:50:5
 loop-less : tie.Need-loop-less Inv-loop μ-loop
 loop-less c = omega (arith, in-drones (c .before .before))
 
--- src/stops.rt:50:5
 loop-again : tie.Need-loop-again Inv-loop μ-loop
 loop-again c = (omega arith, start-turn _ _ _ (c .before .before .before .loop .inv .1), c .if1 .taken, c .before .before .before .loop .inv .3, c .before .before .before .loop .inv .4)
 
--- src/stops.rt:57:21
 cast-owners : tie.Need-cast-owners Inv-loop μ-loop
 cast-owners c = omega (arith, in-drones (c .before .before))
 
--- src/stops.rt:57:9
 slice-write-owners : tie.Need-slice-write-owners Inv-loop μ-loop
 slice-write-owners c = omega (arith, fill-length _ _ _ _ (c .before .before .before .loop .inv .3))
 
--- src/stops.rt:58:23
 sub-numbers : tie.Need-sub-numbers Inv-loop μ-loop
 sub-numbers c = search needs
 
--- src/stops.rt:58:22
 cast-numbers : tie.Need-cast-numbers Inv-loop μ-loop
 cast-numbers c = search needs
 
--- src/stops.rt:58:9
 mul-numbers : tie.Need-mul-numbers Inv-loop μ-loop
 mul-numbers c = omega (arith, fill-length _ _ _ _ (c .before .before .before .loop .inv .4))
 
--- src/stops.rt:58:9
 slice-write-numbers : tie.Need-slice-write-numbers Inv-loop μ-loop
 slice-write-numbers c = omega (arith, fill-length _ _ _ _ (c .before .before .before .loop .inv .4))
 
--- src/stops.rt:59:9
 add-v : tie.Need-add-v Inv-loop μ-loop
 add-v c = search needs
 
--- src/stops.rt:50:5
 loop-less-2 : tie.Need-loop-less-2 Inv-loop μ-loop
 loop-less-2 c = search needs
 
--- src/stops.rt:50:5
 loop-again-2 : tie.Need-loop-again-2 Inv-loop μ-loop
 loop-again-2 c = (
   omega arith,
@@ -99,15 +82,12 @@ loop-again-2 c = (
   fill-store _ _ _ _ (c .before .before .before .loop .inv .4) _ (cursor-number _ _ _ (c .before .before .before .loop .inv .1) _ _ (in-drones (c .before .before)) (c .before .before .before .loop .inv .2) (c .if1 .left)),
 )
 
--- src/stops.rt:36:1
 same-length : tie.Need-same-length Inv-loop μ-loop
 same-length c = fill-length _ _ _ _ (c .before .loop .inv .3)
 
--- src/stops.rt:36:1
 same-length-2 : tie.Need-same-length-2 Inv-loop μ-loop
 same-length-2 c = fill-length _ _ _ _ (c .before .loop .inv .4)
 
--- src/stops.rt:36:1
 returns : tie.Need-returns Inv-loop μ-loop
 returns c = (fill-end _ _ _ _ (c .before .loop .inv .3) _ (omega arith) (omega arith), fill-end _ _ _ _ (c .before .loop .inv .4) _ (omega arith) (omega arith))
 

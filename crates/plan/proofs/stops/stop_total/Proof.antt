@@ -18,39 +18,30 @@ Inv-loop drones counts total₀ d₀ total d = (d ≤ drones) × (total ≡ star
 abbrev μ-loop : tie.MeasureT-loop
 μ-loop drones counts total₀ d₀ total d = drones - d
 
--- src/stops.rt:14:5
 loop-holds : tie.Need-loop-holds Inv-loop μ-loop
 loop-holds c = (search needs, sym (start-none _), search needs)
 
--- src/stops.rt:15:18
 mul-total : tie.Need-mul-total Inv-loop μ-loop
 mul-total c = search needs
 
--- src/stops.rt:15:18
 shared-slice-read-total : tie.Need-shared-slice-read-total Inv-loop μ-loop
 shared-slice-read-total c = search needs
 
--- src/stops.rt:15:18
 cast-total : tie.Need-cast-total Inv-loop μ-loop
 cast-total c = omega (arith, c .shared-slice-known .given (c .before .before .loop .d))
 
--- src/stops.rt:15:9
 add-total : tie.Need-add-total Inv-loop μ-loop
 add-total c = omega (arith, c .shared-slice-known .given (c .before .before .loop .d), c .before .before .before .pre)
 
--- src/stops.rt:16:9
 add-d : tie.Need-add-d Inv-loop μ-loop
 add-d c = search needs
 
--- src/stops.rt:14:5
 loop-less : tie.Need-loop-less Inv-loop μ-loop
 loop-less c = search needs
 
--- src/stops.rt:14:5
 loop-again : tie.Need-loop-again Inv-loop μ-loop
 loop-again c = (omega arith, start-turn _ _ _ (c .before .before .loop .inv .1), omega (arith, c .shared-slice-known .given (c .before .before .loop .d)))
 
--- src/stops.rt:8:1
 returns : tie.Need-returns Inv-loop μ-loop
 returns c = start-end _ _ _ (c .before .loop .inv .1) _ (c .before .loop .inv .0) (c .loop-test .left)
 

@@ -7,39 +7,30 @@ use Rattle.plan.proofs.waits.blocks_next.Tie as tie
 use Rattle.plan.proofs.waits.blocks_next.Reads as reads
 use Rattle.plan.proofs.waits.blocks_next.Lts as lts
 
--- src/waits.rt:27:9
 returns : tie.Need-returns
 returns c = other-drone _ _ _ _ _ _ (c .if1 .taken)
 
--- src/waits.rt:29:16
 mul-next : tie.Need-mul-next
 mul-next c = search needs
 
--- src/waits.rt:29:16
 shared-slice-read-next : tie.Need-shared-slice-read-next
 shared-slice-read-next c = search needs
 
--- src/waits.rt:29:16
 cast-next : tie.Need-cast-next
 cast-next c = omega (arith, c .shared-slice-known .given (c .before .before .args .d))
 
--- src/waits.rt:29:16
 add-next : tie.Need-add-next
 add-next c = omega (arith, c .shared-slice-known .given (c .before .before .args .d))
 
--- src/waits.rt:31:9
 returns-2 : tie.Need-returns-2
 returns-2 c = other-stop _ _ _ _ _ _ (c .before .before .if1 .left) (c .if2 .taken)
 
--- src/waits.rt:33:5
 mul-result : tie.Need-mul-result
 mul-result c = search needs
 
--- src/waits.rt:33:5
 shared-slice-read-result : tie.Need-shared-slice-read-result
 shared-slice-read-result c = search needs
 
--- src/waits.rt:15:1
 returns-3 : tie.Need-returns-3
 returns-3 c = next-stop _ _ _ _ _ _ (c .before .before .before .if1 .left) (c .before .if2 .left)
 

@@ -9,23 +9,18 @@ use Rattle.plan.proofs.waits.entry_blocks.Lts as lts
 use Rattle.plan.proofs.waits.blocks_next.Reads as blocks-next-reads
 use Rattle.tables.proofs.flags.is_turned.Reads as is-turned-reads
 
--- src/waits.rt:49:8
 is-turned-requires : tie.Need-is-turned-requires
 is-turned-requires c κs = search needs
 
--- src/waits.rt:50:9
 blocks-next-requires : tie.Need-blocks-next-requires
 blocks-next-requires c κs = search needs
 
--- src/waits.rt:50:9
 returns : tie.Need-returns
 returns c = entry-turned _ _ _ _ _ _ _ _ (sym (c .before .before .is-turned .ensures) ∙ c .before .if1 .taken) (c .blocks-next .ensures)
 
--- src/waits.rt:52:5
 blocks-next-requires-2 : tie.Need-blocks-next-requires-2
 blocks-next-requires-2 c κs = search needs
 
--- src/waits.rt:37:1
 returns-2 : tie.Need-returns-2
 returns-2 c = entry-planned _ _ _ _ _ _ _ _ (sym (c .before .before .is-turned .ensures) ∙ c .before .if1 .left) (c .blocks-next2 .ensures)
 

@@ -5,7 +5,7 @@ use mathlib.Core.Path.{_≡_}
 use native.Mathlib.Omega.{arith}
 use Rattle.below.specs.Below.{firstBelow}
 use Rattle.below.proofs.Search.{first-none, first-more}
-use Rattle.plan.specs.Columns.{columns}
+use Rattle.plan.specs.Columns.{columnsWith}
 use Rattle.plan.proofs.WaitsLaws.{blocksAt, blocks-at, unmet-hit, unmet-end}
 use Rattle.plan.proofs.waits.first_unmet.Statement.{statement}
 use Rattle.plan.proofs.waits.first_unmet.Tie as tie
@@ -14,64 +14,50 @@ use Rattle.plan.proofs.waits.first_unmet.Lts as lts
 use Rattle.plan.proofs.waits.entry_blocks.Reads as entry-blocks-reads
 
 abbrev Inv-loop : tie.InvT-loop
-Inv-loop count first-drones first-stops second-drones second-stops flags visited d e₀ e = (e ≤ count) × (firstBelow e (blocksAt count (columns first-drones first-stops second-drones second-stops flags) visited d) ≡ e)
+Inv-loop count visited first-drones first-stops second-drones second-stops flags d e₀ e = (e ≤ count) × (firstBelow e (blocksAt count visited (columnsWith first-drones first-stops second-drones second-stops flags) d) ≡ e)
 
 abbrev μ-loop : tie.MeasureT-loop
-μ-loop count first-drones first-stops second-drones second-stops flags visited d e₀ e = count - e
+μ-loop count visited first-drones first-stops second-drones second-stops flags d e₀ e = count - e
 
--- src/waits.rt:70:5
 loop-holds : tie.Need-loop-holds Inv-loop μ-loop
 loop-holds c = (search needs, first-none _)
 
--- src/waits.rt:72:13
 shared-slice-read-entry-blocks : tie.Need-shared-slice-read-entry-blocks Inv-loop μ-loop
 shared-slice-read-entry-blocks c = omega (arith, c .before .before .before .before .before .before .before .before .before .pre .entries)
 
--- src/waits.rt:73:13
 shared-slice-read-entry-blocks-2 : tie.Need-shared-slice-read-entry-blocks-2 Inv-loop μ-loop
 shared-slice-read-entry-blocks-2 c = omega (arith, c .before .before .before .before .before .before .before .before .before .before .pre .entries)
 
--- src/waits.rt:74:13
 mul-entry-blocks : tie.Need-mul-entry-blocks Inv-loop μ-loop
 mul-entry-blocks c = omega (arith, c .before .before .before .before .before .before .before .before .before .before .pre .entries)
 
--- src/waits.rt:74:13
 shared-slice-read-entry-blocks-3 : tie.Need-shared-slice-read-entry-blocks-3 Inv-loop μ-loop
 shared-slice-read-entry-blocks-3 c = omega (arith, c .before .before .before .before .before .before .before .before .before .before .before .pre .entries)
 
--- src/waits.rt:75:13
 shared-slice-read-entry-blocks-4 : tie.Need-shared-slice-read-entry-blocks-4 Inv-loop μ-loop
 shared-slice-read-entry-blocks-4 c = omega (arith, c .before .before .before .before .before .before .before .before .before .before .before .before .pre .entries)
 
--- src/waits.rt:76:13
 mul-entry-blocks-2 : tie.Need-mul-entry-blocks-2 Inv-loop μ-loop
 mul-entry-blocks-2 c = omega (arith, c .before .before .before .before .before .before .before .before .before .before .before .before .pre .entries)
 
--- src/waits.rt:76:13
 shared-slice-read-entry-blocks-5 : tie.Need-shared-slice-read-entry-blocks-5 Inv-loop μ-loop
 shared-slice-read-entry-blocks-5 c = omega (arith, c .before .before .before .before .before .before .before .before .before .before .before .before .before .pre .entries)
 
--- src/waits.rt:71:12
 entry-blocks-requires : tie.Need-entry-blocks-requires Inv-loop μ-loop
 entry-blocks-requires c κs = (c .before .before .before .before .before .before .before .before .before .before .before .before .before .pre .first-in _ (c .before .before .before .before .before .loop-test .taken), c .before .before .before .before .before .before .before .before .before .before .before .before .before .pre .second-in _ (c .before .before .before .before .before .loop-test .taken), c .before .before .before .before .before .before .before .before .before .before .before .before .before .pre .drone-in)
 
--- src/waits.rt:80:13
 returns : tie.Need-returns Inv-loop μ-loop
 returns c = unmet-hit _ _ _ _ _ (omega arith) (c .before .before .before .before .before .before .before .before .loop .inv .1) (blocks-at _ _ _ _ _ _ _ (c .before .entry-blocks .ensures) (c .if1 .taken))
 
--- src/waits.rt:82:9
 add-e : tie.Need-add-e Inv-loop μ-loop
 add-e c = search needs
 
--- src/waits.rt:70:5
 loop-less : tie.Need-loop-less Inv-loop μ-loop
 loop-less c = search needs
 
--- src/waits.rt:70:5
 loop-again : tie.Need-loop-again Inv-loop μ-loop
 loop-again c = (omega arith, first-more _ _ (c .before .before .before .before .before .before .before .before .loop .inv .1) (blocks-at _ _ _ _ _ _ _ (c .before .entry-blocks .ensures) (c .if1 .left)))
 
--- src/waits.rt:56:1
 returns-2 : tie.Need-returns-2 Inv-loop μ-loop
 returns-2 c = unmet-end _ _ _ _ _ (c .before .loop .inv .0) (c .loop-test .left) (c .before .loop .inv .1)
 

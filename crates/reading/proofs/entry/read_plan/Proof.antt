@@ -13,183 +13,138 @@ use Rattle.reading.proofs.entry.read_lines.Reads as read-lines-reads
 use Rattle.tables.proofs.sizes.full_size.Reads as full-size-reads
 use Rattle.tables.proofs.zeroing.zero_all.Reads as zero-all-reads
 
--- src/entry.rt:117:9
 full-size-requires : tie.Need-full-size-requires
 full-size-requires c κs = search needs
 
--- src/entry.rt:121:9
 same-length : tie.Need-same-length
 same-length c = search needs
 
--- src/entry.rt:121:9
 same-length-2 : tie.Need-same-length-2
 same-length-2 c = search needs
 
--- src/entry.rt:121:9
 same-length-3 : tie.Need-same-length-3
 same-length-3 c = search needs
 
--- src/entry.rt:121:9
 same-length-4 : tie.Need-same-length-4
 same-length-4 c = search needs
 
--- src/entry.rt:121:9
 same-length-5 : tie.Need-same-length-5
 same-length-5 c = search needs
 
--- src/entry.rt:121:9
 same-length-6 : tie.Need-same-length-6
 same-length-6 c = search needs
 
--- src/entry.rt:121:9
 same-length-7 : tie.Need-same-length-7
 same-length-7 c = search needs
 
--- src/entry.rt:121:9
 same-length-8 : tie.Need-same-length-8
 same-length-8 c = search needs
 
--- src/entry.rt:121:9
 same-length-9 : tie.Need-same-length-9
 same-length-9 c = search needs
 
--- src/entry.rt:121:9
 same-length-10 : tie.Need-same-length-10
 same-length-10 c = search needs
 
--- src/entry.rt:121:9
 same-length-11 : tie.Need-same-length-11
 same-length-11 c = search needs
 
--- src/entry.rt:121:9
 same-length-12 : tie.Need-same-length-12
 same-length-12 c = search needs
 
--- src/entry.rt:121:9
 same-length-13 : tie.Need-same-length-13
 same-length-13 c = search needs
 
--- src/entry.rt:121:9
 returns : tie.Need-returns
 returns c = tables-small limits _ _ (sym (c .before .full-size .ensures) ∙ not-true _ (c .if1 .taken))
 
--- src/entry.rt:124:9
 same-length-14 : tie.Need-same-length-14
 same-length-14 c = search needs
 
--- src/entry.rt:124:9
 same-length-15 : tie.Need-same-length-15
 same-length-15 c = search needs
 
--- src/entry.rt:124:9
 same-length-16 : tie.Need-same-length-16
 same-length-16 c = search needs
 
--- src/entry.rt:124:9
 same-length-17 : tie.Need-same-length-17
 same-length-17 c = search needs
 
--- src/entry.rt:124:9
 same-length-18 : tie.Need-same-length-18
 same-length-18 c = search needs
 
--- src/entry.rt:124:9
 same-length-19 : tie.Need-same-length-19
 same-length-19 c = search needs
 
--- src/entry.rt:124:9
 same-length-20 : tie.Need-same-length-20
 same-length-20 c = search needs
 
--- src/entry.rt:124:9
 same-length-21 : tie.Need-same-length-21
 same-length-21 c = search needs
 
--- src/entry.rt:124:9
 same-length-22 : tie.Need-same-length-22
 same-length-22 c = search needs
 
--- src/entry.rt:124:9
 same-length-23 : tie.Need-same-length-23
 same-length-23 c = search needs
 
--- src/entry.rt:124:9
 same-length-24 : tie.Need-same-length-24
 same-length-24 c = search needs
 
--- src/entry.rt:124:9
 same-length-25 : tie.Need-same-length-25
 same-length-25 c = search needs
 
--- src/entry.rt:124:9
 same-length-26 : tie.Need-same-length-26
 same-length-26 c = search needs
 
--- src/entry.rt:124:9
 returns-2 : tie.Need-returns-2
 returns-2 c = text-long limits _ _ (sym (c .before .before .full-size .ensures) ∙ not-false _ (c .before .if1 .left)) (c .if2 .taken)
 
--- src/entry.rt:126:5
 zero-all-requires : tie.Need-zero-all-requires
 zero-all-requires c κs = search needs
 
--- src/entry.rt:130:5
 read-lines-requires : tie.Need-read-lines-requires
 read-lines-requires c κs = lines-asked limits _ (sym (c .before .before .before .before .before .before .before .before .before .before .before .before .before .before .before .before .before .before .before .before .before .before .before .before .before .before .before .before .before .before .before .before .before .before .before .before .before .before .before .before .before .before .before .before .before .before .before .before .before .before .before .before .before .full-size .ensures) ∙ not-false _ (c .before .before .before .before .before .before .before .before .before .before .before .before .before .before .before .before .before .before .before .before .before .before .before .before .before .before .before .before .before .before .before .before .before .before .before .before .before .before .before .before .before .before .before .before .before .before .before .before .before .before .before .before .if1 .left)) _ (c .before .before .before .before .before .before .before .before .before .before .before .before .before .before .before .before .before .before .before .before .before .before .before .before .before .before .before .before .before .before .before .before .before .before .before .before .before .zero-all .ensures) (omega arith)
 
--- src/entry.rt:88:1
 same-length-27 : tie.Need-same-length-27
 same-length-27 c = c .before .before .before .before .before .before .before .before .before .before .before .before .before .before .before .before .before .before .before .before .before .before .read-lines .kept .1 .0 ∙ c .before .before .before .before .before .before .before .before .before .before .before .before .before .before .before .before .before .before .before .before .before .before .before .before .before .before .before .before .before .before .before .before .before .before .before .before .before .before .before .before .before .before .before .before .before .before .before .before .before .before .before .before .before .before .before .before .before .before .before .before .zero-all .kept .0
 
--- src/entry.rt:88:1
 same-length-28 : tie.Need-same-length-28
 same-length-28 c = c .before .before .before .before .before .before .before .before .before .before .before .before .before .before .before .before .before .before .before .before .before .before .read-lines .kept .1 .1 .0 ∙ c .before .before .before .before .before .before .before .before .before .before .before .before .before .before .before .before .before .before .before .before .before .before .before .before .before .before .before .before .before .before .before .before .before .before .before .before .before .before .before .before .before .before .before .before .before .before .before .before .before .before .before .before .before .before .before .before .before .before .before .before .zero-all .kept .1 .0
 
--- src/entry.rt:88:1
 same-length-29 : tie.Need-same-length-29
 same-length-29 c = c .before .before .before .before .before .before .before .before .before .before .before .before .before .before .before .before .before .before .before .before .before .before .read-lines .kept .1 .1 .1 .0 ∙ c .before .before .before .before .before .before .before .before .before .before .before .before .before .before .before .before .before .before .before .before .before .before .before .before .before .before .before .before .before .before .before .before .before .before .before .before .before .before .before .before .before .before .before .before .before .before .before .before .before .before .before .before .before .before .before .before .before .before .before .before .zero-all .kept .1 .1 .0
 
--- src/entry.rt:88:1
 same-length-30 : tie.Need-same-length-30
 same-length-30 c = c .before .before .before .before .before .before .before .before .before .before .before .before .before .before .before .before .before .before .before .before .before .before .read-lines .kept .1 .1 .1 .1 .0 ∙ c .before .before .before .before .before .before .before .before .before .before .before .before .before .before .before .before .before .before .before .before .before .before .before .before .before .before .before .before .before .before .before .before .before .before .before .before .before .before .before .before .before .before .before .before .before .before .before .before .before .before .before .before .before .before .before .before .before .before .before .before .zero-all .kept .1 .1 .1 .0
 
--- src/entry.rt:88:1
 same-length-31 : tie.Need-same-length-31
 same-length-31 c = c .before .before .before .before .before .before .before .before .before .before .before .before .before .before .before .before .before .before .before .before .before .before .read-lines .kept .1 .1 .1 .1 .1 .0 ∙ c .before .before .before .before .before .before .before .before .before .before .before .before .before .before .before .before .before .before .before .before .before .before .before .before .before .before .before .before .before .before .before .before .before .before .before .before .before .before .before .before .before .before .before .before .before .before .before .before .before .before .before .before .before .before .before .before .before .before .before .before .zero-all .kept .1 .1 .1 .1 .0
 
--- src/entry.rt:88:1
 same-length-32 : tie.Need-same-length-32
 same-length-32 c = c .before .before .before .before .before .before .before .before .before .before .before .before .before .before .before .before .before .before .before .before .before .before .read-lines .kept .1 .1 .1 .1 .1 .1 .0 ∙ c .before .before .before .before .before .before .before .before .before .before .before .before .before .before .before .before .before .before .before .before .before .before .before .before .before .before .before .before .before .before .before .before .before .before .before .before .before .before .before .before .before .before .before .before .before .before .before .before .before .before .before .before .before .before .before .before .before .before .before .before .zero-all .kept .1 .1 .1 .1 .1 .0
 
--- src/entry.rt:88:1
 same-length-33 : tie.Need-same-length-33
 same-length-33 c = c .before .before .before .before .before .before .before .before .before .before .before .before .before .before .before .before .before .before .before .before .before .before .before .before .before .before .before .before .before .before .before .before .before .before .before .before .before .before .before .before .before .before .before .before .before .before .before .before .before .before .before .before .before .before .before .before .before .before .before .before .zero-all .kept .1 .1 .1 .1 .1 .1 .0
 
--- src/entry.rt:88:1
 same-length-34 : tie.Need-same-length-34
 same-length-34 c = c .before .before .before .before .before .before .before .before .before .before .before .before .before .before .before .before .before .before .before .before .before .before .before .before .before .before .before .before .before .before .before .before .before .before .before .before .before .before .before .before .before .before .before .before .before .before .before .before .before .before .before .before .before .before .before .before .before .before .before .before .zero-all .kept .1 .1 .1 .1 .1 .1 .1 .0
 
--- src/entry.rt:88:1
 same-length-35 : tie.Need-same-length-35
 same-length-35 c = c .before .before .before .before .before .before .before .before .before .before .before .before .before .before .before .before .before .before .before .before .before .before .read-lines .kept .1 .1 .1 .1 .1 .1 .1 .0 ∙ c .before .before .before .before .before .before .before .before .before .before .before .before .before .before .before .before .before .before .before .before .before .before .before .before .before .before .before .before .before .before .before .before .before .before .before .before .before .before .before .before .before .before .before .before .before .before .before .before .before .before .before .before .before .before .before .before .before .before .before .before .zero-all .kept .1 .1 .1 .1 .1 .1 .1 .1 .0
 
--- src/entry.rt:88:1
 same-length-36 : tie.Need-same-length-36
 same-length-36 c = c .before .before .before .before .before .before .before .before .before .before .before .before .before .before .before .before .before .before .before .before .before .before .read-lines .kept .1 .1 .1 .1 .1 .1 .1 .1 .0 ∙ c .before .before .before .before .before .before .before .before .before .before .before .before .before .before .before .before .before .before .before .before .before .before .before .before .before .before .before .before .before .before .before .before .before .before .before .before .before .before .before .before .before .before .before .before .before .before .before .before .before .before .before .before .before .before .before .before .before .before .before .before .zero-all .kept .1 .1 .1 .1 .1 .1 .1 .1 .1 .0
 
--- src/entry.rt:88:1
 same-length-37 : tie.Need-same-length-37
 same-length-37 c = c .before .before .before .before .before .before .before .before .before .before .before .before .before .before .before .before .before .before .before .before .before .before .read-lines .kept .1 .1 .1 .1 .1 .1 .1 .1 .1 .0 ∙ c .before .before .before .before .before .before .before .before .before .before .before .before .before .before .before .before .before .before .before .before .before .before .before .before .before .before .before .before .before .before .before .before .before .before .before .before .before .before .before .before .before .before .before .before .before .before .before .before .before .before .before .before .before .before .before .before .before .before .before .before .zero-all .kept .1 .1 .1 .1 .1 .1 .1 .1 .1 .1 .0
 
--- src/entry.rt:88:1
 same-length-38 : tie.Need-same-length-38
 same-length-38 c = c .before .before .before .before .before .before .before .before .before .before .before .before .before .before .before .before .before .before .before .before .before .before .read-lines .kept .1 .1 .1 .1 .1 .1 .1 .1 .1 .1 .0 ∙ c .before .before .before .before .before .before .before .before .before .before .before .before .before .before .before .before .before .before .before .before .before .before .before .before .before .before .before .before .before .before .before .before .before .before .before .before .before .before .before .before .before .before .before .before .before .before .before .before .before .before .before .before .before .before .before .before .before .before .before .before .zero-all .kept .1 .1 .1 .1 .1 .1 .1 .1 .1 .1 .1 .0
 
--- src/entry.rt:88:1
 same-length-39 : tie.Need-same-length-39
 same-length-39 c = c .before .before .before .before .before .before .before .before .before .before .before .before .before .before .before .before .before .before .before .before .before .before .read-lines .kept .1 .1 .1 .1 .1 .1 .1 .1 .1 .1 .1 .0 ∙ c .before .before .before .before .before .before .before .before .before .before .before .before .before .before .before .before .before .before .before .before .before .before .before .before .before .before .before .before .before .before .before .before .before .before .before .before .before .before .before .before .before .before .before .before .before .before .before .before .before .before .before .before .before .before .before .before .before .before .before .before .zero-all .kept .1 .1 .1 .1 .1 .1 .1 .1 .1 .1 .1 .1 .0
 
--- src/entry.rt:88:1
 returns-3 : tie.Need-returns-3
 returns-3 c = lines-read limits _ _ (sym (c .before .before .before .before .before .before .before .before .before .before .before .before .before .before .before .before .before .before .before .before .before .before .before .before .before .before .before .before .before .before .before .before .before .before .before .before .before .before .before .before .before .before .before .before .before .before .before .before .before .before .before .before .before .before .before .before .before .before .before .before .before .before .before .before .before .before .before .before .before .before .before .before .before .before .before .before .full-size .ensures) ∙ not-false _ (c .before .before .before .before .before .before .before .before .before .before .before .before .before .before .before .before .before .before .before .before .before .before .before .before .before .before .before .before .before .before .before .before .before .before .before .before .before .before .before .before .before .before .before .before .before .before .before .before .before .before .before .before .before .before .before .before .before .before .before .before .before .before .before .before .before .before .before .before .before .before .before .before .before .before .before .if1 .left)) (c .before .before .before .before .before .before .before .before .before .before .before .before .before .before .before .before .before .before .before .before .before .before .before .before .before .before .before .before .before .before .before .before .before .before .before .before .before .before .before .before .before .before .before .before .before .before .before .before .before .before .before .before .before .before .before .before .before .before .before .before .before .before .before .before .before .before .before .before .before .before .before .before .before .before .if2 .left) _ (c .before .before .before .before .before .before .before .before .before .before .before .before .before .before .before .before .before .before .before .before .before .before .before .before .before .before .before .before .before .before .before .before .before .before .before .before .before .before .before .before .before .before .before .before .before .before .before .before .before .before .before .before .before .before .before .before .before .before .before .before .zero-all .ensures) _ _
     (c .before .before .before .before .before .before .before .before .before .before .before .before .before .before .before .before .before .before .before .before .before .before .read-lines .ensures _ _)

@@ -7,43 +7,33 @@ use Rattle.reading.proofs.replies.of_check.Tie as tie
 use Rattle.reading.proofs.replies.of_check.Reads as reads
 use Rattle.reading.proofs.replies.of_check.Lts as lts
 
--- src/replies.rt:51:28
 enum-told : tie.Need-enum-told
 enum-told c = search needs
 
--- src/replies.rt:52:31
 enum-known-answer : tie.Need-enum-known-answer
 enum-known-answer c = search needs
 
--- src/replies.rt:53:30
 enum-known-answer-2 : tie.Need-enum-known-answer-2
 enum-known-answer-2 c = search needs
 
--- src/replies.rt:54:33
 enum-known-answer-3 : tie.Need-enum-known-answer-3
 enum-known-answer-3 c = search needs
 
--- src/replies.rt:55:30
 enum-known-answer-4 : tie.Need-enum-known-answer-4
 enum-known-answer-4 c = search needs
 
--- src/replies.rt:47:1
 returns : tie.Need-returns
 returns c = search needs
 
--- src/replies.rt:47:1
 returns-2 : tie.Need-returns-2
 returns-2 c = sym (ap checkMeant (c .before .answer .given .1))
 
--- src/replies.rt:47:1
 returns-3 : tie.Need-returns-3
 returns-3 c = sym (ap checkMeant (c .before .answer2 .given .1))
 
--- src/replies.rt:47:1
 returns-4 : tie.Need-returns-4
 returns-4 c = sym (ap checkMeant (c .before .answer3 .given .1))
 
--- src/replies.rt:47:1
 returns-5 : tie.Need-returns-5
 returns-5 c = sym (ap checkMeant (c .before .answer4 .given .1))
 

@@ -7,43 +7,33 @@ use Rattle.reading.proofs.replies.of_line.Tie as tie
 use Rattle.reading.proofs.replies.of_line.Reads as reads
 use Rattle.reading.proofs.replies.of_line.Lts as lts
 
--- src/replies.rt:37:27
 enum-known-refusal : tie.Need-enum-known-refusal
 enum-known-refusal c = search needs
 
--- src/replies.rt:38:27
 enum-known-refusal-2 : tie.Need-enum-known-refusal-2
 enum-known-refusal-2 c = search needs
 
--- src/replies.rt:39:28
 enum-known-refusal-3 : tie.Need-enum-known-refusal-3
 enum-known-refusal-3 c = search needs
 
--- src/replies.rt:40:27
 enum-known-refusal-4 : tie.Need-enum-known-refusal-4
 enum-known-refusal-4 c = search needs
 
--- src/replies.rt:41:27
 enum-known-refusal-5 : tie.Need-enum-known-refusal-5
 enum-known-refusal-5 c = search needs
 
--- src/replies.rt:33:1
 returns : tie.Need-returns
 returns c = sym (ap lineMeant (c .before .refusal .given .1))
 
--- src/replies.rt:33:1
 returns-2 : tie.Need-returns-2
 returns-2 c = sym (ap lineMeant (c .before .refusal2 .given .1))
 
--- src/replies.rt:33:1
 returns-3 : tie.Need-returns-3
 returns-3 c = sym (ap lineMeant (c .before .refusal3 .given .1))
 
--- src/replies.rt:33:1
 returns-4 : tie.Need-returns-4
 returns-4 c = sym (ap lineMeant (c .before .refusal4 .given .1))
 
--- src/replies.rt:33:1
 returns-5 : tie.Need-returns-5
 returns-5 c = sym (ap lineMeant (c .before .refusal5 .given .1))
 

@@ -14,139 +14,106 @@ use Rattle.plan.proofs.stops.fill_stops.Reads as fill-stops-reads
 use Rattle.plan.proofs.stops.stop_total.Reads as stop-total-reads
 use Rattle.reading.proofs.replies.of_check.Reads as of-check-reads
 
--- src/storing.rt:45:18
 shared-slice-read-drones : tie.Need-shared-slice-read-drones
 shared-slice-read-drones c = search needs
 
--- src/storing.rt:45:18
 cast-drones : tie.Need-cast-drones
 cast-drones c = search needs
 
--- src/storing.rt:46:9
 stop-total-requires : tie.Need-stop-total-requires
 stop-total-requires c κs = search needs
 
--- src/storing.rt:49:47
 slice-aggregate-fill-stops : tie.Need-slice-aggregate-fill-stops
 slice-aggregate-fill-stops c = search needs
 
--- src/storing.rt:49:60
 slice-aggregate-fill-stops-2 : tie.Need-slice-aggregate-fill-stops-2
 slice-aggregate-fill-stops-2 c = search needs
 
--- src/storing.rt:49:5
 fill-stops-requires : tie.Need-fill-stops-requires
 fill-stops-requires c κs = search needs
 
--- src/storing.rt:50:55
 slice-aggregate-check-plan : tie.Need-slice-aggregate-check-plan
 slice-aggregate-check-plan c = search needs
 
--- src/storing.rt:50:64
 slice-aggregate-check-plan-2 : tie.Need-slice-aggregate-check-plan-2
 slice-aggregate-check-plan-2 c = search needs
 
--- src/storing.rt:50:37
 check-plan-requires : tie.Need-check-plan-requires
 check-plan-requires c κs = search needs
 
--- src/storing.rt:50:9
 of-check-requires : tie.Need-of-check-requires
 of-check-requires c κs = search needs
 
--- src/storing.rt:52:26
 enum-known-checked : tie.Need-enum-known-checked
 enum-known-checked c = search needs
 
--- src/storing.rt:55:17
 enum-told : tie.Need-enum-told
 enum-told c = search needs
 
--- src/storing.rt:55:17
 slice-aggregate-build : tie.Need-slice-aggregate-build
 slice-aggregate-build c = search needs
 
--- src/storing.rt:56:17
 slice-aggregate-build-2 : tie.Need-slice-aggregate-build-2
 slice-aggregate-build-2 c = search needs
 
--- src/storing.rt:54:17
 build-requires : tie.Need-build-requires
 build-requires c κs = (check-plan-requires (c .before .before .before .before .before .before .before .before .before .before .before) ([], ([], ([], ([], tt)))), c .before .before .before .before .before .before .before .before .before .before .before .before .before .before .before .before .before .before .before .before .before .before .before .before .before .before .before .before .before .before .pre .has-columns)
 
--- src/storing.rt:67:52
 enum-told-2 : tie.Need-enum-told-2
 enum-told-2 c = search needs
 
--- src/storing.rt:68:30
 enum-known-built : tie.Need-enum-known-built
 enum-known-built c = search needs
 
--- src/storing.rt:69:43
 cast-dependency-count : tie.Need-cast-dependency-count
 cast-dependency-count c = let r = built-within (limits .dependencies) _ _ (c .before .before .before .before .before .before .before .before .before .before .before .before .before .build .ensures .0) _ (c .before .built .given .1) in omega (arith, r)
 
--- src/storing.rt:69:21
 slice-write-dependency-count : tie.Need-slice-write-dependency-count
 slice-write-dependency-count c = omega (arith, c .before .before .before .before .before .before .before .before .before .before .before .before .before .before .before .before .before .before .before .before .before .before .before .before .before .before .before .before .before .before .before .before .before .before .before .before .before .before .before .before .before .before .before .before .pre .has-dependency-count)
 
--- src/storing.rt:19:1
 returns : tie.Need-returns
 returns c = λ names visited droneFlags. store-refused limits _
     (fills _ _ _ _ _ _ (c .before .before .before .before .before .before .before .before .before .before .before .before .stop-total .ensures) (c .before .before .before .before .before .before .before .before .before .fill-stops .ensures .0) (c .before .before .before .before .before .before .before .before .before .fill-stops .ensures .1) (omega (arith, c .before .before .before .before .before .before .before .before .before .before .before .before .stop-total .ensures, c .before .before .before .before .before .before .before .before .before .before .before .before .before .before .before .before .before .before .before .before .before .before .before .before .pre .stops-fit)) (omega (arith, c .before .before .before .before .before .before .before .before .before .before .before .before .stop-total .ensures, c .before .before .before .before .before .before .before .before .before .before .before .before .before .before .before .before .before .before .before .before .before .before .before .before .pre .stops-fit)))
     _ (c .before .before .before .before .check-plan .ensures) _ (c .before .before .before .of-check .ensures) _ (c .before .checked .given .1)
 
--- src/storing.rt:19:1
 same-length : tie.Need-same-length
 same-length c = search needs
 
--- src/storing.rt:19:1
 same-length-2 : tie.Need-same-length-2
 same-length-2 c = search needs
 
--- src/storing.rt:19:1
 same-length-3 : tie.Need-same-length-3
 same-length-3 c = search needs
 
--- src/storing.rt:19:1
 same-length-4 : tie.Need-same-length-4
 same-length-4 c = search needs
 
--- src/storing.rt:19:1
 same-length-5 : tie.Need-same-length-5
 same-length-5 c = search needs
 
--- src/storing.rt:19:1
 returns-2 : tie.Need-returns-2
 returns-2 c = λ names visited droneFlags. store-many limits _
     (fills _ _ _ _ _ _ (c .before .before .before .before .before .before .before .before .before .before .before .before .before .before .before .before .before .before .before .before .before .before .before .before .before .before .before .before .before .before .before .stop-total .ensures) (c .before .before .before .before .before .before .before .before .before .before .before .before .before .before .before .before .before .before .before .before .before .before .before .before .before .before .before .before .fill-stops .ensures .0) (c .before .before .before .before .before .before .before .before .before .before .before .before .before .before .before .before .before .before .before .before .before .before .before .before .before .before .before .before .fill-stops .ensures .1) (omega (arith, c .before .before .before .before .before .before .before .before .before .before .before .before .before .before .before .before .before .before .before .before .before .before .before .before .before .before .before .before .before .before .before .stop-total .ensures, c .before .before .before .before .before .before .before .before .before .before .before .before .before .before .before .before .before .before .before .before .before .before .before .before .before .before .before .before .before .before .before .before .before .before .before .before .before .before .before .before .before .before .before .pre .stops-fit)) (omega (arith, c .before .before .before .before .before .before .before .before .before .before .before .before .before .before .before .before .before .before .before .before .before .before .before .before .before .before .before .before .before .before .before .stop-total .ensures, c .before .before .before .before .before .before .before .before .before .before .before .before .before .before .before .before .before .before .before .before .before .before .before .before .before .before .before .before .before .before .before .before .before .before .before .before .before .before .before .before .before .before .before .pre .stops-fit)))
     _ (c .before .before .before .before .before .before .before .before .before .before .before .before .before .before .before .before .before .before .before .before .before .before .before .check-plan .ensures) _ (c .before .before .before .before .before .before .before .before .before .before .before .before .before .before .before .before .before .before .before .before .before .before .of-check .ensures) (c .before .before .before .before .before .before .before .before .before .before .before .before .before .before .before .before .before .before .before .before .enum-told .given .1) _ (c .before .before .before .before .before .before .before .before .before .before .before .before .build .ensures .0) _ (c .before .before .before .before .before .before .before .before .before .before .before .before .build .ensures .1) (c .enum-told2 .given .1)
 
--- src/storing.rt:19:1
 same-length-6 : tie.Need-same-length-6
 same-length-6 c = search needs
 
--- src/storing.rt:19:1
 same-length-7 : tie.Need-same-length-7
 same-length-7 c = search needs
 
--- src/storing.rt:19:1
 same-length-8 : tie.Need-same-length-8
 same-length-8 c = search needs
 
--- src/storing.rt:19:1
 same-length-9 : tie.Need-same-length-9
 same-length-9 c = search needs
 
--- src/storing.rt:19:1
 same-length-10 : tie.Need-same-length-10
 same-length-10 c = search needs
 
--- src/storing.rt:19:1
 same-length-11 : tie.Need-same-length-11
 same-length-11 c = search needs
 
--- src/storing.rt:19:1
 returns-3 : tie.Need-returns-3
 returns-3 c = λ names visited droneFlags. store-taken limits _
     (fills _ _ _ _ _ _ (c .before .before .before .before .before .before .before .before .before .before .before .before .before .before .before .before .before .before .before .before .before .before .before .before .before .before .before .before .before .before .before .before .stop-total .ensures) (c .before .before .before .before .before .before .before .before .before .before .before .before .before .before .before .before .before .before .before .before .before .before .before .before .before .before .before .before .before .fill-stops .ensures .0) (c .before .before .before .before .before .before .before .before .before .before .before .before .before .before .before .before .before .before .before .before .before .before .before .before .before .before .before .before .before .fill-stops .ensures .1) (omega (arith, c .before .before .before .before .before .before .before .before .before .before .before .before .before .before .before .before .before .before .before .before .before .before .before .before .before .before .before .before .before .before .before .before .stop-total .ensures, c .before .before .before .before .before .before .before .before .before .before .before .before .before .before .before .before .before .before .before .before .before .before .before .before .before .before .before .before .before .before .before .before .before .before .before .before .before .before .before .before .before .before .before .before .pre .stops-fit)) (omega (arith, c .before .before .before .before .before .before .before .before .before .before .before .before .before .before .before .before .before .before .before .before .before .before .before .before .before .before .before .before .before .before .before .before .stop-total .ensures, c .before .before .before .before .before .before .before .before .before .before .before .before .before .before .before .before .before .before .before .before .before .before .before .before .before .before .before .before .before .before .before .before .before .before .before .before .before .before .before .before .before .before .before .before .pre .stops-fit)))

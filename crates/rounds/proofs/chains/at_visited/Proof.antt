@@ -17,51 +17,39 @@ Inv-loop starts visited drones cur₀ d₀ cur d = (d ≤ drones) × (length cur
 abbrev μ-loop : tie.MeasureT-loop
 μ-loop starts visited drones cur₀ d₀ cur d = drones - d
 
--- src/chains.rt:28:5
 loop-holds : tie.Need-loop-holds Inv-loop μ-loop
 loop-holds c = (omega arith, c .pre .3, λ i l. absurd (omega arith))
 
--- src/chains.rt:29:18
 mul-cur : tie.Need-mul-cur Inv-loop μ-loop
 mul-cur c = search needs
 
--- src/chains.rt:29:18
 element-copy-out-cur : tie.Need-element-copy-out-cur Inv-loop μ-loop
 element-copy-out-cur c = search needs
 
--- src/chains.rt:29:30
 mul-cur-2 : tie.Need-mul-cur-2 Inv-loop μ-loop
 mul-cur-2 c = search needs
 
--- src/chains.rt:29:30
 shared-slice-read-cur : tie.Need-shared-slice-read-cur Inv-loop μ-loop
 shared-slice-read-cur c = search needs
 
--- src/chains.rt:29:18
 add-cur : tie.Need-add-cur Inv-loop μ-loop
 add-cur c = omega (arith, c .before .before .before .before .pre .2 (c .before .before .before .loop .d) (omega arith))
 
--- src/chains.rt:29:9
 mul-cur-3 : tie.Need-mul-cur-3 Inv-loop μ-loop
 mul-cur-3 c = search needs
 
--- src/chains.rt:29:9
 element-write-cur : tie.Need-element-write-cur Inv-loop μ-loop
 element-write-cur c = search needs
 
--- src/chains.rt:30:9
 add-d : tie.Need-add-d Inv-loop μ-loop
 add-d c = search needs
 
--- src/chains.rt:28:5
 loop-less : tie.Need-loop-less Inv-loop μ-loop
 loop-less c = search needs
 
--- src/chains.rt:28:5
 loop-again : tie.Need-loop-again Inv-loop μ-loop
 loop-again c = (omega arith, simp length-set (c .before .before .before .loop .inv .1), fill-more (c .before .before .before .loop .cur) (c .before .before .before .loop .d) _ 0 (λ i. at (c .before .before .before .before .args .starts .now) i + at (c .before .before .before .before .args .visited .now) i) (omega arith) (c .before .before .before .loop .inv .2) refl)
 
--- src/chains.rt:18:1
 returns : tie.Need-returns Inv-loop μ-loop
 returns c = (c .before .loop .inv .1, λ i l. c .before .loop .inv .2 i (omega arith))
 

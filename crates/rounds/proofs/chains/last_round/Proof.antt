@@ -8,47 +8,36 @@ use Rattle.rounds.proofs.chains.last_round.Reads as reads
 use Rattle.rounds.proofs.chains.last_round.Lts as lts
 use Rattle.tables.proofs.casts.wide.Reads as wide-reads
 
--- src/chains.rt:61:18
 mul-wide : tie.Need-mul-wide
 mul-wide c = search needs
 
--- src/chains.rt:61:18
 element-copy-out-wide : tie.Need-element-copy-out-wide
 element-copy-out-wide c = search needs
 
--- src/chains.rt:61:13
 wide-requires : tie.Need-wide-requires
 wide-requires c κs = search needs
 
--- src/chains.rt:61:36
 mul-wide-2 : tie.Need-mul-wide-2
 mul-wide-2 c = search needs
 
--- src/chains.rt:61:36
 element-copy-out-wide-2 : tie.Need-element-copy-out-wide-2
 element-copy-out-wide-2 c = search needs
 
--- src/chains.rt:61:31
 wide-requires-2 : tie.Need-wide-requires-2
 wide-requires-2 c κs = search needs
 
--- src/chains.rt:61:13
 add-v : tie.Need-add-v
 add-v c = search needs
 
--- src/chains.rt:62:10
 mul-wide-3 : tie.Need-mul-wide-3
 mul-wide-3 c = search needs
 
--- src/chains.rt:62:10
 element-copy-out-wide-3 : tie.Need-element-copy-out-wide-3
 element-copy-out-wide-3 c = search needs
 
--- src/chains.rt:62:5
 wide-requires-3 : tie.Need-wide-requires-3
 wide-requires-3 c κs = search needs
 
--- src/chains.rt:57:1
 returns : tie.Need-returns
 returns c = c .wide3 .ensures .0 ∙ ap (at (c .before .before .before .before .before .before .args .table .now)) (ap (λ (x : ℕ). x + c .before .before .wide2 .result) (c .before .before .before .before .wide .ensures .0) ∙ ap (λ (x : ℕ). at (c .before .before .before .before .before .before .args .starts .now) (c .before .before .before .before .before .before .args .d) + x) (c .before .before .wide2 .ensures .0))
 

@@ -17,31 +17,24 @@ Inv-loop starts lasts drones table sum₀ d₀ sum d = (d ≤ drones) × (sum �
 abbrev μ-loop : tie.MeasureT-loop
 μ-loop starts lasts drones table sum₀ d₀ sum d = drones - d
 
--- src/chains.rt:160:5
 loop-holds : tie.Need-loop-holds Inv-loop μ-loop
 loop-holds c = (search needs, sum-none _ 0, search needs)
 
--- src/chains.rt:161:16
 last-round-requires : tie.Need-last-round-requires Inv-loop μ-loop
 last-round-requires c κs = (omega arith, c .before .before .pre .1 _ (c .loop-test .taken))
 
--- src/chains.rt:161:9
 add-sum : tie.Need-add-sum Inv-loop μ-loop
 add-sum c = omega (arith, c .before .before .loop .inv .2, c .before .before .before .pre .0, c .before .before .before .pre .2 _ (c .before .loop-test .taken), c .last-round .ensures)
 
--- src/chains.rt:162:9
 add-d : tie.Need-add-d Inv-loop μ-loop
 add-d c = search needs
 
--- src/chains.rt:160:5
 loop-less : tie.Need-loop-less Inv-loop μ-loop
 loop-less c = search needs
 
--- src/chains.rt:160:5
 loop-again : tie.Need-loop-again Inv-loop μ-loop
 loop-again c = (omega arith, sum-turn _ _ _ _ (c .before .before .loop .inv .1) (c .last-round .ensures), omega (arith, c .before .before .loop .inv .2, c .before .before .before .pre .2 _ (c .before .loop-test .taken), c .last-round .ensures))
 
--- src/chains.rt:154:1
 returns : tie.Need-returns Inv-loop μ-loop
 returns c = sum-end _ _ _ _ (omega arith) (omega arith) (c .before .loop .inv .1)
 

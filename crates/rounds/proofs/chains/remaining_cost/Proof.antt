@@ -11,15 +11,12 @@ use Rattle.rounds.proofs.chains.remaining_cost.Lts as lts
 use Rattle.rounds.proofs.chains.last_rounds.Reads as last-rounds-reads
 use Rattle.rounds.proofs.chains.stop_rounds.Reads as stop-rounds-reads
 
--- src/chains.rt:182:17
 stop-rounds-requires : tie.Need-stop-rounds-requires
 stop-rounds-requires c κs = (c .before .before .before .pre, (length-replicate {A = ℕ} (limits .stops) 0, zeros-at (limits .stops)))
 
--- src/chains.rt:183:5
 last-rounds-requires : tie.Need-last-rounds-requires
 last-rounds-requires c κs = (c .before .before .before .before .before .pre .tables .few-drones, last-in _ _ _ _ _ _ _ _ _ (c .before .before .before .before .before .pre) _ (c .before .stop-rounds .ensures), last-small _ _ _ _ _ _ _ _ _ (c .before .before .before .before .before .pre) _ (c .before .stop-rounds .ensures))
 
--- src/chains.rt:168:1
 returns : tie.Need-returns
 returns c = c .last-rounds .ensures ∙ last-sum _ _ _ _ _ _ _ _ _ (c .before .before .before .before .before .before .pre) _ (c .before .before .stop-rounds .ensures)
 

@@ -9,15 +9,12 @@ use Rattle.rounds.proofs.chains.stop_rounds.Lts as lts
 use Rattle.cycles.proofs.walk.walk.Reads as walk-reads
 use Rattle.rounds.proofs.chains.at_visited.Reads as at-visited-reads
 
--- src/chains.rt:50:5
 at-visited-requires : tie.Need-at-visited-requires
 at-visited-requires c κs = (c .before .before .before .pre .0 .tables .few-drones, c .before .before .before .pre .0 .has-visited, ready-stand _ _ _ _ _ _ _ _ _ (c .before .before .before .pre .0), length-replicate {A = ℕ} (limits .drones) 0)
 
--- src/chains.rt:52:5
 walk-requires : tie.Need-walk-requires
 walk-requires c κs = ((c .before .before .before .before .before .before .pre .0 .tables, ready-begun _ _ _ _ _ _ _ _ _ (c .before .before .before .before .before .before .pre .0) _ (c .before .before .at-visited .ensures .0) (c .before .before .at-visited .ensures .1)), c .before .before .before .before .before .before .pre .1)
 
--- src/chains.rt:35:1
 returns : tie.Need-returns
 returns c = ready-table _ _ _ _ _ _ _ _ _ (c .before .before .before .before .before .before .before .pre .0) _ (c .before .before .before .at-visited .ensures .0) (c .before .before .before .at-visited .ensures .1) _ _ _ (c .walk .ensures)
 

@@ -17,47 +17,36 @@ Inv-loop drones moves places₀ d₀ places d = (d ≤ drones) × (places ≡ fi
 abbrev μ-loop : tie.MeasureT-loop
 μ-loop drones moves places₀ d₀ places d = drones - d
 
--- src/playing.rt:127:5
 loop-holds : tie.Need-loop-holds Inv-loop μ-loop
 loop-holds c = (omega arith, fill-none _ _)
 
--- src/playing.rt:128:33
 element-copy-out-place-after : tie.Need-element-copy-out-place-after Inv-loop μ-loop
 element-copy-out-place-after c = search needs
 
--- src/playing.rt:128:43
 mul-place-after : tie.Need-mul-place-after Inv-loop μ-loop
 mul-place-after c = search needs
 
--- src/playing.rt:128:43
 element-copy-out-place-after-2 : tie.Need-element-copy-out-place-after-2 Inv-loop μ-loop
 element-copy-out-place-after-2 c = search needs
 
--- src/playing.rt:128:21
 place-after-requires : tie.Need-place-after-requires Inv-loop μ-loop
 place-after-requires c κs = λ h. omega (arith, fill-unread _ _ _ _ (c .before .before .before .loop .inv .1), c .before .before .before .before .pre .2 (c .before .before .before .loop .d) (c .before .before .loop-test .taken) h)
 
--- src/playing.rt:128:9
 mul-places : tie.Need-mul-places Inv-loop μ-loop
 mul-places c = search needs
 
--- src/playing.rt:128:9
 element-write-places : tie.Need-element-write-places Inv-loop μ-loop
 element-write-places c = omega (arith, fill-length _ _ _ _ (c .before .before .before .before .loop .inv .1))
 
--- src/playing.rt:129:9
 add-d : tie.Need-add-d Inv-loop μ-loop
 add-d c = search needs
 
--- src/playing.rt:127:5
 loop-less : tie.Need-loop-less Inv-loop μ-loop
 loop-less c = search needs
 
--- src/playing.rt:127:5
 loop-again : tie.Need-loop-again Inv-loop μ-loop
 loop-again c = (omega arith, fill-store _ _ _ _ (c .before .before .before .before .loop .inv .1) _ (c .place-after .ensures ∙ ap (λ (x : ℕ). pick (eqb (at (c .before .before .before .before .before .args .moves .now) (c .before .before .before .before .loop .d)) 0) x (x + 1)) (fill-unread _ _ _ _ (c .before .before .before .before .loop .inv .1))))
 
--- src/playing.rt:122:1
 returns : tie.Need-returns Inv-loop μ-loop
 returns c = fill-end _ _ _ _ (c .before .loop .inv .1) _ (omega arith) (omega arith)
 

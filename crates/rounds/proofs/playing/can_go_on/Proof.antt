@@ -19,107 +19,81 @@ Inv-loop owners starts lasts drones n from into m head next places d place v wai
 abbrev μ-loop : tie.MeasureT-loop
 μ-loop owners starts lasts drones n from into m head next places d place v wait₀ wait = wait
 
--- src/playing.rt:62:22
 mul-wide : tie.Need-mul-wide Inv-loop μ-loop
 mul-wide c = omega (arith, c .before .pre .0 .few-drones, c .before .pre .2)
 
--- src/playing.rt:62:22
 element-copy-out-wide : tie.Need-element-copy-out-wide Inv-loop μ-loop
 element-copy-out-wide c = omega (arith, c .before .pre .0 .few-drones, c .before .pre .2)
 
--- src/playing.rt:62:9
 wide-requires : tie.Need-wide-requires Inv-loop μ-loop
 wide-requires c κs = search needs
 
--- src/playing.rt:63:13
 mul-wide-2 : tie.Need-mul-wide-2 Inv-loop μ-loop
 mul-wide-2 c = omega (arith, c .before .before .before .pre .0 .few-drones, c .before .before .before .pre .2)
 
--- src/playing.rt:63:13
 element-copy-out-wide-2 : tie.Need-element-copy-out-wide-2 Inv-loop μ-loop
 element-copy-out-wide-2 c = omega (arith, c .before .before .before .pre .0 .few-drones, c .before .before .before .pre .2)
 
--- src/playing.rt:63:8
 wide-requires-2 : tie.Need-wide-requires-2 Inv-loop μ-loop
 wide-requires-2 c κs = search needs
 
--- src/playing.rt:64:9
 returns : tie.Need-returns Inv-loop μ-loop
 returns c = stays-last _ _ _ _ _ _ _ _ (c .before .before .before .before .before .before .pre .0) (at (c .before .before .before .before .before .before .args .places .now)) (c .before .before .before .before .before .before .args .d) (omega (arith, c .if1 .taken, c .before .before .before .wide .ensures .0, c .before .wide2 .ensures .0))
 
--- src/playing.rt:66:18
 mul-wide-3 : tie.Need-mul-wide-3 Inv-loop μ-loop
 mul-wide-3 c = omega (arith, c .before .before .before .before .before .before .pre .0 .few-drones, c .before .before .before .before .before .before .pre .2)
 
--- src/playing.rt:66:18
 element-copy-out-wide-3 : tie.Need-element-copy-out-wide-3 Inv-loop μ-loop
 element-copy-out-wide-3 c = omega (arith, c .before .before .before .before .before .before .pre .0 .few-drones, c .before .before .before .before .before .before .pre .2)
 
--- src/playing.rt:66:13
 wide-requires-3 : tie.Need-wide-requires-3 Inv-loop μ-loop
 wide-requires-3 c κs = search needs
 
--- src/playing.rt:66:13
 add-v : tie.Need-add-v Inv-loop μ-loop
 add-v c = search needs
 
--- src/playing.rt:66:13
 add-v-2 : tie.Need-add-v-2 Inv-loop μ-loop
 add-v-2 c = search needs
 
--- src/playing.rt:67:25
 mul-wide-4 : tie.Need-mul-wide-4 Inv-loop μ-loop
 mul-wide-4 c = omega (arith, next-in _ _ _ _ _ _ _ _ (c .before .before .before .before .before .before .before .before .pre .0) (at (c .before .before .before .before .before .before .before .before .args .places .now)) (c .before .before .before .before .before .before .before .before .args .d) (c .before .before .before .before .before .before .before .before .pre .2) (omega (arith, c .before .before .if1 .left, c .before .before .before .before .before .wide .ensures .0, c .before .before .before .wide2 .ensures .0)) _ refl, c .before .before .before .before .before .before .before .before .pre .0 .few-stops, c .wide3 .ensures .0, c .before .before .before .before .before .wide .ensures .0)
 
--- src/playing.rt:67:25
 element-copy-out-wide-4 : tie.Need-element-copy-out-wide-4 Inv-loop μ-loop
 element-copy-out-wide-4 c = omega (arith, next-in _ _ _ _ _ _ _ _ (c .before .before .before .before .before .before .before .before .pre .0) (at (c .before .before .before .before .before .before .before .before .args .places .now)) (c .before .before .before .before .before .before .before .before .args .d) (c .before .before .before .before .before .before .before .before .pre .2) (omega (arith, c .before .before .if1 .left, c .before .before .before .before .before .wide .ensures .0, c .before .before .before .wide2 .ensures .0)) _ refl, c .before .before .before .before .before .before .before .before .pre .0 .few-stops, c .wide3 .ensures .0, c .before .before .before .before .before .wide .ensures .0)
 
--- src/playing.rt:67:9
 wide-requires-4 : tie.Need-wide-requires-4 Inv-loop μ-loop
 wide-requires-4 c κs = search needs
 
--- src/playing.rt:68:5
 loop-holds : tie.Need-loop-holds Inv-loop μ-loop
 loop-holds c = scan-start _ _ _ _ _ _ _ _ (c .before .before .before .before .before .before .before .before .before .before .pre .0) (at (c .before .before .before .before .before .before .before .before .before .before .args .places .now)) (c .before .before .before .before .before .before .before .before .before .before .args .d) (c .before .before .before .before .before .before .before .before .before .before .pre .2) (omega (arith, c .before .before .before .before .if1 .left, c .before .before .before .before .before .before .before .wide .ensures .0, c .before .before .before .before .before .wide2 .ensures .0)) _ refl _ _ (c .before .before .before .before .before .before .before .before .before .before .pre .1) _ (c .wide4 .ensures .0 ∙ ap (at (c .before .before .before .before .before .before .before .before .before .before .args .head .now)) (omega (arith, c .before .before .wide3 .ensures .0, c .before .before .before .before .before .before .before .wide .ensures .0)))
 
--- src/playing.rt:69:50
 sub-is-met : tie.Need-sub-is-met Inv-loop μ-loop
 sub-is-met c = search needs
 
--- src/playing.rt:69:13
 is-met-requires : tie.Need-is-met-requires Inv-loop μ-loop
 is-met-requires c κs = (omega (arith, c .before .loop .inv .within, c .before .before .before .before .before .before .before .before .before .before .before .before .pre .0 .few-waits, c .loop-test .taken), await-in _ _ _ _ _ _ _ _ (c .before .before .before .before .before .before .before .before .before .before .before .before .pre .0) (c .before .loop .wait - 1) (omega (arith, c .before .loop .inv .within, c .loop-test .taken)))
 
--- src/playing.rt:70:13
 returns-2 : tie.Need-returns-2 Inv-loop μ-loop
 returns-2 c = scan-hit _ _ _ _ _ _ _ _ (c .before .before .before .before .before .before .before .before .before .before .before .before .before .before .pre .0) (at (c .before .before .before .before .before .before .before .before .before .before .before .before .before .before .args .places .now)) (c .before .before .before .before .before .before .before .before .before .before .before .before .before .before .args .d) (c .before .before .before .before .before .before .before .before .before .before .before .before .before .before .pre .2) (omega (arith, c .before .before .before .before .before .before .before .before .if1 .left, c .before .before .before .before .before .before .before .before .before .before .before .wide .ensures .0, c .before .before .before .before .before .before .before .before .before .wide2 .ensures .0)) _ refl _ _ (c .before .before .before .before .before .before .before .before .before .before .before .before .before .before .pre .1) (c .before .before .before .loop .wait) (c .before .before .before .loop .wait - 1) (omega (arith, c .before .before .loop-test .taken)) (c .before .before .before .loop .inv) (leb-false _ _ (sym (c .before .is-met .ensures) ∙ not-true _ (c .if2 .taken)))
 
--- src/playing.rt:72:26
 sub-wide : tie.Need-sub-wide Inv-loop μ-loop
 sub-wide c = search needs
 
--- src/playing.rt:72:21
 mul-wide-5 : tie.Need-mul-wide-5 Inv-loop μ-loop
 mul-wide-5 c = omega (arith, c .before .before .before .loop .inv .within, c .before .before .before .before .before .before .before .before .before .before .before .before .before .before .pre .0 .few-waits, c .before .before .loop-test .taken)
 
--- src/playing.rt:72:21
 element-copy-out-wide-5 : tie.Need-element-copy-out-wide-5 Inv-loop μ-loop
 element-copy-out-wide-5 c = omega (arith, c .before .before .before .loop .inv .within, c .before .before .before .before .before .before .before .before .before .before .before .before .before .before .pre .0 .few-waits, c .before .before .loop-test .taken)
 
--- src/playing.rt:72:9
 wide-requires-5 : tie.Need-wide-requires-5 Inv-loop μ-loop
 wide-requires-5 c κs = search needs
 
--- src/playing.rt:68:5
 loop-less : tie.Need-loop-less Inv-loop μ-loop
 loop-less c = scan-falls _ _ _ _ _ _ _ _ (c .before .before .before .before .before .before .before .before .before .before .before .before .before .before .before .before .pre .0) (at (c .before .before .before .before .before .before .before .before .before .before .before .before .before .before .before .before .args .places .now)) (c .before .before .before .before .before .before .before .before .before .before .before .before .before .before .before .before .args .d) (c .before .before .before .before .before .before .before .before .before .before .before .before .before .before .before .before .pre .2) (omega (arith, c .before .before .before .before .before .before .before .before .before .before .if1 .left, c .before .before .before .before .before .before .before .before .before .before .before .before .before .wide .ensures .0, c .before .before .before .before .before .before .before .before .before .before .before .wide2 .ensures .0)) _ refl _ _ (c .before .before .before .before .before .before .before .before .before .before .before .before .before .before .before .before .pre .1) (c .before .before .before .before .before .loop .wait) (c .before .before .before .before .before .loop .wait - 1) (omega (arith, c .before .before .before .before .loop-test .taken)) (c .before .before .before .before .before .loop .inv) _ (c .wide5 .ensures .0)
 
--- src/playing.rt:68:5
 loop-again : tie.Need-loop-again Inv-loop μ-loop
 loop-again c = scan-more _ _ _ _ _ _ _ _ (c .before .before .before .before .before .before .before .before .before .before .before .before .before .before .before .before .pre .0) (at (c .before .before .before .before .before .before .before .before .before .before .before .before .before .before .before .before .args .places .now)) (c .before .before .before .before .before .before .before .before .before .before .before .before .before .before .before .before .args .d) (c .before .before .before .before .before .before .before .before .before .before .before .before .before .before .before .before .pre .2) (omega (arith, c .before .before .before .before .before .before .before .before .before .before .if1 .left, c .before .before .before .before .before .before .before .before .before .before .before .before .before .wide .ensures .0, c .before .before .before .before .before .before .before .before .before .before .before .wide2 .ensures .0)) _ refl _ _ (c .before .before .before .before .before .before .before .before .before .before .before .before .before .before .before .before .pre .1) (c .before .before .before .before .before .loop .wait) (c .before .before .before .before .before .loop .wait - 1) (omega (arith, c .before .before .before .before .loop-test .taken)) (c .before .before .before .before .before .loop .inv) _ (c .wide5 .ensures .0) (leb-true _ _ (sym (c .before .before .before .is-met .ensures) ∙ not-false _ (c .before .before .if2 .left)))
 
--- src/playing.rt:45:1
 returns-3 : tie.Need-returns-3 Inv-loop μ-loop
 returns-3 c = scan-end _ _ _ _ _ _ _ _ (c .before .before .before .before .before .before .before .before .before .before .before .before .pre .0) (at (c .before .before .before .before .before .before .before .before .before .before .before .before .args .places .now)) (c .before .before .before .before .before .before .before .before .before .before .before .before .args .d) (c .before .before .before .before .before .before .before .before .before .before .before .before .pre .2) (omega (arith, c .before .before .before .before .before .before .if1 .left, c .before .before .before .before .before .before .before .before .before .wide .ensures .0, c .before .before .before .before .before .before .before .wide2 .ensures .0)) _ refl (c .before .loop .wait) (omega (arith, c .loop-test .left)) (c .before .loop .inv)
 

@@ -15,39 +15,30 @@ Inv-loop visited drones places₀ d₀ places d = (d ≤ drones) × (places ≡ 
 abbrev μ-loop : tie.MeasureT-loop
 μ-loop visited drones places₀ d₀ places d = drones - d
 
--- src/playing.rt:137:5
 loop-holds : tie.Need-loop-holds Inv-loop μ-loop
 loop-holds c = (search needs, fill-none _ _)
 
--- src/playing.rt:138:21
 mul-places : tie.Need-mul-places Inv-loop μ-loop
 mul-places c = search needs
 
--- src/playing.rt:138:21
 shared-slice-read-places : tie.Need-shared-slice-read-places Inv-loop μ-loop
 shared-slice-read-places c = search needs
 
--- src/playing.rt:138:9
 mul-places-2 : tie.Need-mul-places-2 Inv-loop μ-loop
 mul-places-2 c = search needs
 
--- src/playing.rt:138:9
 element-write-places : tie.Need-element-write-places Inv-loop μ-loop
 element-write-places c = omega (arith, fill-length _ _ _ _ (c .before .before .loop .inv .1))
 
--- src/playing.rt:139:9
 add-d : tie.Need-add-d Inv-loop μ-loop
 add-d c = search needs
 
--- src/playing.rt:137:5
 loop-less : tie.Need-loop-less Inv-loop μ-loop
 loop-less c = search needs
 
--- src/playing.rt:137:5
 loop-again : tie.Need-loop-again Inv-loop μ-loop
 loop-again c = (omega arith, fill-store _ _ _ _ (c .before .before .loop .inv .1) _ refl)
 
--- src/playing.rt:132:1
 returns : tie.Need-returns Inv-loop μ-loop
 returns c = fill-end _ _ _ _ (c .before .loop .inv .1) _ (omega arith) (omega arith)
 

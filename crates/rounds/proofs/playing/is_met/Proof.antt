@@ -9,59 +9,45 @@ use Rattle.rounds.proofs.playing.is_met.Lts as lts
 use Rattle.tables.proofs.casts.wide.Reads as wide-reads
 use Rattle.tables.proofs.casts.wide8.Reads as wide8-reads
 
--- src/playing.rt:38:18
 mul-wide : tie.Need-mul-wide
 mul-wide c = search needs
 
--- src/playing.rt:38:18
 element-copy-out-wide : tie.Need-element-copy-out-wide
 element-copy-out-wide c = search needs
 
--- src/playing.rt:38:9
 wide-requires : tie.Need-wide-requires
 wide-requires c κs = search needs
 
--- src/playing.rt:39:19
 shared-slice-read-wide8 : tie.Need-shared-slice-read-wide8
 shared-slice-read-wide8 c = omega (arith, c .before .before .before .before .pre .1 .owned, c .before .wide .ensures .0)
 
--- src/playing.rt:39:9
 wide8-requires : tie.Need-wide8-requires
 wide8-requires c κs = search needs
 
--- src/playing.rt:40:21
 mul-wide-2 : tie.Need-mul-wide-2
 mul-wide-2 c = search needs
 
--- src/playing.rt:40:21
 element-copy-out-wide-2 : tie.Need-element-copy-out-wide-2
 element-copy-out-wide-2 c = read-owner (c .before .before .before .before .before .args .owners .now) (at (c .before .before .before .before .before .args .from .now) (c .before .before .before .before .before .args .k)) (c .before .before .wide .result) (c .wide8 .result) (c .before .before .before .before .before .pre .1 .owner-in) (c .before .before .wide .ensures .0) (c .wide8 .ensures .0)
 
--- src/playing.rt:40:16
 wide-requires-2 : tie.Need-wide-requires-2
 wide-requires-2 c κs = search needs
 
--- src/playing.rt:40:39
 mul-wide-3 : tie.Need-mul-wide-3
 mul-wide-3 c = search needs
 
--- src/playing.rt:40:39
 element-copy-out-wide-3 : tie.Need-element-copy-out-wide-3
 element-copy-out-wide-3 c = read-owner (c .before .before .before .before .before .before .before .args .owners .now) (at (c .before .before .before .before .before .before .before .args .from .now) (c .before .before .before .before .before .before .before .args .k)) (c .before .before .before .before .wide .result) (c .before .before .wide8 .result) (c .before .before .before .before .before .before .before .pre .1 .owner-in) (c .before .before .before .before .wide .ensures .0) (c .before .before .wide8 .ensures .0)
 
--- src/playing.rt:40:34
 wide-requires-3 : tie.Need-wide-requires-3
 wide-requires-3 c κs = search needs
 
--- src/playing.rt:40:16
 add-past : tie.Need-add-past
 add-past c = search needs
 
--- src/playing.rt:40:16
 add-past-2 : tie.Need-add-past-2
 add-past-2 c = search needs
 
--- src/playing.rt:28:1
 returns : tie.Need-returns
 returns c = met-read (at (c .before .before .before .before .before .before .before .before .before .args .owners .now)) (at (c .before .before .before .before .before .before .before .before .before .args .starts .now)) (at (c .before .before .before .before .before .before .before .before .before .args .from .now)) (at (c .before .before .before .before .before .before .before .before .before .args .places .now)) (c .before .before .before .before .before .before .before .before .before .args .k) _ _ _ _ (c .before .before .before .before .before .before .wide .ensures .0) (c .before .before .before .before .wide8 .ensures .0) (c .before .before .wide2 .ensures .0) (c .wide3 .ensures .0) (c .before .before .before .before .before .before .before .before .before .pre .1 .past)
 

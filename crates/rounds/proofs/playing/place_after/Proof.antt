@@ -9,15 +9,12 @@ use Rattle.rounds.proofs.playing.place_after.Tie as tie
 use Rattle.rounds.proofs.playing.place_after.Reads as reads
 use Rattle.rounds.proofs.playing.place_after.Lts as lts
 
--- src/playing.rt:116:9
 returns : tie.Need-returns
 returns c = sym (ap (λ (b : Bool). pick b (c .before .args .place) (c .before .args .place + 1)) (eq-eqb (c .before .args .moves) 0 (c .if1 .taken)))
 
--- src/playing.rt:118:5
 add-result : tie.Need-add-result
 add-result c = omega (arith, c .before .pre (c .if1 .left))
 
--- src/playing.rt:111:1
 returns-2 : tie.Need-returns-2
 returns-2 c = sym (ap (λ (b : Bool). pick b (c .before .args .place) (c .before .args .place + 1)) (ne-eqb (c .before .args .moves) 0 (c .if1 .left)))
 

@@ -25,43 +25,33 @@ Inv-loop owners starts lasts drones n from into m visited head next places₀ k�
 abbrev μ-loop : tie.MeasureT-loop
 μ-loop owners starts lasts drones n from into m visited head next places₀ k₀ cost₀ places k cost = unvisited (flatPlan (at owners) (at starts) (at lasts) drones (at from) (at into) m) (at places)
 
--- src/playing.rt:202:5
 link-requires : tie.Need-link-requires Inv-loop μ-loop
 link-requires c κs = ((c .before .before .before .before .pre .tables .few-waits, λ k l. omega (arith, c .before .before .before .before .pre .tables .placed .into-in k l, c .before .before .before .before .pre .tables .few-stops)), (length-replicate {A = ℕ} (limits .stops) 0, length-replicate {A = ℕ} (limits .dependencies) 0, zeros-at (limits .stops)))
 
--- src/playing.rt:204:5
 copy-places-requires : tie.Need-copy-places-requires Inv-loop μ-loop
 copy-places-requires c κs = (c .before .before .before .before .before .before .pre .tables .few-drones, c .before .before .before .before .before .before .pre .has-visited, refl)
 
--- src/playing.rt:207:9
 loop-holds : tie.Need-loop-holds Inv-loop μ-loop
 loop-holds c = playing-start _ (ready-formed _ _ _ _ _ _ _ _ _ (c .before .before .before .before .before .before .before .pre)) (ready-acyclic _ _ _ _ _ _ _ _ _ (c .before .before .before .before .before .before .before .pre)) _ (limits .drones) _ (fill-length _ _ _ _ (c .copy-places .ensures) ∙ refl) (fill-at _ _ _ _ (c .copy-places .ensures) (c .before .before .before .before .before .before .before .pre .tables .few-drones))
 
--- src/playing.rt:208:13
 unfinished-requires : tie.Need-unfinished-requires Inv-loop μ-loop
 unfinished-requires c κs = c .before .before .before .before .before .before .before .before .before .pre .tables .few-drones
 
--- src/playing.rt:212:9
 add-cost : tie.Need-add-cost Inv-loop μ-loop
 add-cost c = omega (arith, playing-small _ (ready-formed _ _ _ _ _ _ _ _ _ (c .before .before .before .before .before .before .before .before .before .before .before .pre)) (ready-acyclic _ _ _ _ _ _ _ _ _ (c .before .before .before .before .before .before .before .before .before .before .before .pre)) _ (c .before .before .before .loop .inv) (c .before .unfinished .ensures .0) (c .if1 .left), ready-cost _ _ _ _ _ _ _ _ _ (c .before .before .before .before .before .before .before .before .before .before .before .pre) (omega arith))
 
--- src/playing.rt:213:9
 play-round-requires : tie.Need-play-round-requires Inv-loop μ-loop
 play-round-requires c κs = (c .before .before .before .before .before .before .before .before .before .before .before .before .before .before .pre .tables, c .before .before .before .before .before .before .before .before .before .link .ensures, c .before .before .before .before .before .before .loop .inv .long)
 
--- src/playing.rt:216:9
 add-k : tie.Need-add-k Inv-loop μ-loop
 add-k c = omega (arith, playing-early _ (ready-formed _ _ _ _ _ _ _ _ _ (c .before .before .before .before .before .before .before .before .before .before .before .before .before .before .before .pre)) (ready-acyclic _ _ _ _ _ _ _ _ _ (c .before .before .before .before .before .before .before .before .before .before .before .before .before .before .before .pre)) _ (c .before .before .before .before .before .before .before .loop .inv) (c .before .before .before .before .before .unfinished .ensures .0) (c .before .before .before .before .if1 .left), ready-rounds _ _ _ _ _ _ _ _ _ (c .before .before .before .before .before .before .before .before .before .before .before .before .before .before .before .pre))
 
--- src/playing.rt:207:9
 loop-less : tie.Need-loop-less Inv-loop μ-loop
 loop-less c = playing-less _ (ready-formed _ _ _ _ _ _ _ _ _ (c .before .before .before .before .before .before .before .before .before .before .before .before .before .before .before .pre)) (ready-acyclic _ _ _ _ _ _ _ _ _ (c .before .before .before .before .before .before .before .before .before .before .before .before .before .before .before .pre)) _ (c .before .before .before .before .before .before .before .loop .inv) (c .before .before .before .before .before .unfinished .ensures .0) (c .before .before .before .before .if1 .left) (c .play-round .last .1 .1 .1 .1 .1 .1 .1 .1 .1 .1 .0) (c .play-round .ensures .0) (c .play-round .ensures .1)
 
--- src/playing.rt:207:9
 loop-again : tie.Need-loop-again Inv-loop μ-loop
 loop-again c = playing-round _ (ready-formed _ _ _ _ _ _ _ _ _ (c .before .before .before .before .before .before .before .before .before .before .before .before .before .before .before .pre)) (ready-acyclic _ _ _ _ _ _ _ _ _ (c .before .before .before .before .before .before .before .before .before .before .before .before .before .before .before .pre)) _ (c .before .before .before .before .before .before .before .loop .inv) (c .before .before .before .before .before .unfinished .ensures .0) (c .before .before .before .before .if1 .left) _ (c .play-round .ensures .0) (c .play-round .ensures .1)
 
--- src/playing.rt:186:1
 returns : tie.Need-returns Inv-loop μ-loop
 returns c = playing-end _ (ready-formed _ _ _ _ _ _ _ _ _ (c .before .before .before .before .before .before .before .before .before .before .before .pre)) (ready-acyclic _ _ _ _ _ _ _ _ _ (c .before .before .before .before .before .before .before .before .before .before .before .pre)) _ (c .before .before .before .loop .inv) (c .before .unfinished .ensures .0) (c .if1 .taken)
 

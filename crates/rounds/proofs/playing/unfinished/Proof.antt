@@ -18,43 +18,33 @@ Inv-loop lasts drones places count₀ d₀ count d = (d ≤ drones) × (count �
 abbrev μ-loop : tie.MeasureT-loop
 μ-loop lasts drones places count₀ d₀ count d = drones - d
 
--- src/playing.rt:122:5
 loop-holds : tie.Need-loop-holds Inv-loop μ-loop
 loop-holds c = (search needs, sym (count-start _))
 
--- src/playing.rt:123:12
 mul-if1 : tie.Need-mul-if1 Inv-loop μ-loop
 mul-if1 c = search needs
 
--- src/playing.rt:123:12
 element-copy-out-if1 : tie.Need-element-copy-out-if1 Inv-loop μ-loop
 element-copy-out-if1 c = search needs
 
--- src/playing.rt:123:24
 mul-if1-2 : tie.Need-mul-if1-2 Inv-loop μ-loop
 mul-if1-2 c = search needs
 
--- src/playing.rt:123:24
 element-copy-out-if1-2 : tie.Need-element-copy-out-if1-2 Inv-loop μ-loop
 element-copy-out-if1-2 c = search needs
 
--- src/playing.rt:124:13
 add-count : tie.Need-add-count Inv-loop μ-loop
 add-count c = omega (arith, count-le (c .before .before .before .before .loop .d) (λ i. ltb (at (c .before .before .before .before .before .args .places .now) i) (at (c .before .before .before .before .before .args .lasts .now) i)))
 
--- src/playing.rt:126:9
 add-d : tie.Need-add-d Inv-loop μ-loop
 add-d c = search needs
 
--- src/playing.rt:122:5
 loop-less : tie.Need-loop-less Inv-loop μ-loop
 loop-less c = search needs
 
--- src/playing.rt:122:5
 loop-again : tie.Need-loop-again Inv-loop μ-loop
 loop-again c = (omega arith, ⊎-elim (λ w. w .1 ∙ count-hit _ _ _ (c .before .before .before .before .loop .inv .1) (lt-ltb _ _ (w .0 .taken))) (λ w. w .1 ∙ count-miss _ _ _ (c .before .before .before .before .loop .inv .1) (le-ltb _ _ (w .0 .left))) (c .if1 .came))
 
--- src/playing.rt:116:1
 returns : tie.Need-returns Inv-loop μ-loop
 returns c = (count-end _ _ _ _ (omega arith) (omega arith) (c .before .loop .inv .1), omega (arith, count-le (c .before .loop .d) (λ i. ltb (at (c .before .before .args .places .now) i) (at (c .before .before .args .lasts .now) i))))
 

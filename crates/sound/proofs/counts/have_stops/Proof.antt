@@ -18,35 +18,27 @@ Inv-loop drones stop-counts d₀ d = (d ≤ drones) × (allBelow d (λ d. leb 1 
 abbrev μ-loop : tie.MeasureT-loop
 μ-loop drones stop-counts d₀ d = drones - d
 
--- src/counts.rt:19:5
 loop-holds : tie.Need-loop-holds Inv-loop μ-loop
 loop-holds c = (omega arith, all-none _)
 
--- src/counts.rt:20:12
 mul-if1 : tie.Need-mul-if1 Inv-loop μ-loop
 mul-if1 c = search needs
 
--- src/counts.rt:20:12
 shared-slice-read-if1 : tie.Need-shared-slice-read-if1 Inv-loop μ-loop
 shared-slice-read-if1 c = search needs
 
--- src/counts.rt:21:13
 returns : tie.Need-returns Inv-loop μ-loop
 returns c = all-miss _ _ _ (omega arith) (lt-leb 1 _ (c .if1 .taken))
 
--- src/counts.rt:23:9
 add-d : tie.Need-add-d Inv-loop μ-loop
 add-d c = search needs
 
--- src/counts.rt:19:5
 loop-less : tie.Need-loop-less Inv-loop μ-loop
 loop-less c = search needs
 
--- src/counts.rt:19:5
 loop-again : tie.Need-loop-again Inv-loop μ-loop
 loop-again c = (omega arith, all-more _ _ (c .before .before .before .loop .inv .1) (le-leb 1 _ (c .if1 .left)))
 
--- src/counts.rt:14:1
 returns-2 : tie.Need-returns-2 Inv-loop μ-loop
 returns-2 c = all-end _ _ _ (omega arith) (omega arith) (c .before .loop .inv .1)
 

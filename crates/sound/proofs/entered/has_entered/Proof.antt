@@ -8,23 +8,18 @@ use Rattle.sound.proofs.entered.has_entered.Reads as reads
 use Rattle.sound.proofs.entered.has_entered.Lts as lts
 use Rattle.tables.proofs.flags.is_under_way.Reads as is-under-way-reads
 
--- src/progress.rt:46:9
 returns : tie.Need-returns
 returns c = entered-visited _ _ _ (c .if1 .taken)
 
--- src/progress.rt:48:9
 is-under-way-requires : tie.Need-is-under-way-requires
 is-under-way-requires c κs = search needs
 
--- src/progress.rt:49:9
 returns-2 : tie.Need-returns-2
 returns-2 c = entered-still _ _ _ (c .before .before .if1 .left) (sym (c .before .is-under-way .ensures) ∙ not-true _ (c .if2 .taken))
 
--- src/progress.rt:51:5
 sub-result : tie.Need-sub-result
 sub-result c = search needs
 
--- src/progress.rt:42:1
 returns-3 : tie.Need-returns-3
 returns-3 c = entered-next _ _ _ (c .before .before .if1 .left) (sym (c .before .is-under-way .ensures) ∙ not-false _ (c .if2 .left))
 

@@ -16,47 +16,36 @@ Inv-loop drones stop-counts lasts₀ d₀ lasts d = (d ≤ drones) × (lasts ≡
 abbrev μ-loop : tie.MeasureT-loop
 μ-loop drones stop-counts lasts₀ d₀ lasts d = drones - d
 
--- src/graph.rt:18:5
 loop-holds : tie.Need-loop-holds Inv-loop μ-loop
 loop-holds c = (omega arith, fill-none _ _)
 
--- src/graph.rt:19:20
 mul-lasts : tie.Need-mul-lasts Inv-loop μ-loop
 mul-lasts c = search needs
 
--- src/graph.rt:19:20
 shared-slice-read-lasts : tie.Need-shared-slice-read-lasts Inv-loop μ-loop
 shared-slice-read-lasts c = search needs
 
--- src/graph.rt:19:20
 sub-lasts : tie.Need-sub-lasts Inv-loop μ-loop
 sub-lasts c = c .before .before .before .pre .2 (c .before .before .loop .d) (omega arith)
 
--- src/graph.rt:19:9
 mul-lasts-2 : tie.Need-mul-lasts-2 Inv-loop μ-loop
 mul-lasts-2 c = omega (arith, fill-length _ _ _ _ (c .before .before .loop .inv .1))
 
--- src/graph.rt:19:9
 slice-write-lasts : tie.Need-slice-write-lasts Inv-loop μ-loop
 slice-write-lasts c = omega (arith, fill-length _ _ _ _ (c .before .before .loop .inv .1))
 
--- src/graph.rt:20:9
 add-d : tie.Need-add-d Inv-loop μ-loop
 add-d c = search needs
 
--- src/graph.rt:18:5
 loop-less : tie.Need-loop-less Inv-loop μ-loop
 loop-less c = search needs
 
--- src/graph.rt:18:5
 loop-again : tie.Need-loop-again Inv-loop μ-loop
 loop-again c = (omega arith, fill-store _ _ _ _ (c .before .before .loop .inv .1) _ refl)
 
--- src/graph.rt:13:1
 same-length : tie.Need-same-length Inv-loop μ-loop
 same-length c = fill-length _ _ _ _ (c .before .loop .inv .1)
 
--- src/graph.rt:13:1
 returns : tie.Need-returns Inv-loop μ-loop
 returns c = fill-end _ _ _ _ (c .before .loop .inv .1) _ (omega arith) (omega arith)
 

@@ -8,35 +8,27 @@ use Rattle.plan.proofs.stops.fill_starts.Reads as fill-starts-reads
 use Rattle.plan.proofs.stops.fill_stops.Reads as fill-stops-reads
 use Rattle.sound.proofs.graph.fill_lasts.Reads as fill-lasts-reads
 
--- src/graph.rt:38:5
 fill-stops-requires : tie.Need-fill-stops-requires
 fill-stops-requires c κs = search needs
 
--- src/graph.rt:39:5
 fill-starts-requires : tie.Need-fill-starts-requires
 fill-starts-requires c κs = search needs
 
--- src/graph.rt:40:5
 fill-lasts-requires : tie.Need-fill-lasts-requires
 fill-lasts-requires c κs = search needs
 
--- src/graph.rt:25:1
 same-length : tie.Need-same-length
 same-length c = search needs
 
--- src/graph.rt:25:1
 same-length-2 : tie.Need-same-length-2
 same-length-2 c = search needs
 
--- src/graph.rt:25:1
 same-length-3 : tie.Need-same-length-3
 same-length-3 c = search needs
 
--- src/graph.rt:25:1
 same-length-4 : tie.Need-same-length-4
 same-length-4 c = search needs
 
--- src/graph.rt:25:1
 returns : tie.Need-returns
 returns c = numbers-filled _ _ _ _ _ _ _ _ _ _ _ _ (c .before .before .before .before .before .before .before .before .before .before .before .before .before .before .before .before .before .before .before .before .pre .0) (c .before .before .before .before .before .before .before .before .before .before .before .before .before .before .before .before .before .before .before .before .pre .1) (c .before .before .before .before .before .before .before .before .before .before .before .before .fill-stops .ensures .0) (c .before .before .before .before .before .before .before .before .before .before .before .before .fill-stops .ensures .1) (c .before .before .before .before .before .before .fill-starts .ensures) (c .before .before .fill-lasts .ensures)
 

@@ -20,31 +20,24 @@ Inv-loop names drones d₀ d = (d ≤ drones) × (allBelow d (nameSound limits n
 abbrev μ-loop : tie.MeasureT-loop
 μ-loop names drones d₀ d = drones - d
 
--- src/names.rt:109:5
 loop-holds : tie.Need-loop-holds Inv-loop μ-loop
 loop-holds c = (omega arith, all-none _)
 
--- src/names.rt:110:13
 name-sound-requires : tie.Need-name-sound-requires Inv-loop μ-loop
 name-sound-requires c κs = search needs
 
--- src/names.rt:111:13
 returns : tie.Need-returns Inv-loop μ-loop
 returns c = all-miss _ _ _ (omega arith) (sym (c .before .name-sound .ensures) ∙ not-true _ (c .if1 .taken))
 
--- src/names.rt:113:9
 add-d : tie.Need-add-d Inv-loop μ-loop
 add-d c = search needs
 
--- src/names.rt:109:5
 loop-less : tie.Need-loop-less Inv-loop μ-loop
 loop-less c = search needs
 
--- src/names.rt:109:5
 loop-again : tie.Need-loop-again Inv-loop μ-loop
 loop-again c = (omega arith, all-more _ _ (c .before .before .before .loop .inv .1) (sym (c .before .name-sound .ensures) ∙ not-false _ (c .if1 .left)))
 
--- src/names.rt:104:1
 returns-2 : tie.Need-returns-2 Inv-loop μ-loop
 returns-2 c = all-end _ _ _ (omega arith) (omega arith) (c .before .loop .inv .1)
 

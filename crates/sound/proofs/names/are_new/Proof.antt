@@ -21,31 +21,24 @@ Inv-loop names keys drones d₀ d = (d ≤ drones) × (allBelow d (λ d. allBelo
 abbrev μ-loop : tie.MeasureT-loop
 μ-loop names keys drones d₀ d = drones - d
 
--- src/names.rt:95:5
 loop-holds : tie.Need-loop-holds Inv-loop μ-loop
 loop-holds c = (omega arith, all-none _)
 
--- src/names.rt:96:13
 is-new-requires : tie.Need-is-new-requires Inv-loop μ-loop
 is-new-requires c κs = (c .before .before .before .pre .0, omega arith, λ e h. c .before .before .before .pre .2 e (omega arith))
 
--- src/names.rt:97:13
 returns : tie.Need-returns Inv-loop μ-loop
 returns c = all-miss _ _ _ (omega arith) (sym (c .before .is-new .ensures) ∙ not-true _ (c .if1 .taken)) ∙ differ-is _ _ _
 
--- src/names.rt:99:9
 add-d : tie.Need-add-d Inv-loop μ-loop
 add-d c = search needs
 
--- src/names.rt:95:5
 loop-less : tie.Need-loop-less Inv-loop μ-loop
 loop-less c = search needs
 
--- src/names.rt:95:5
 loop-again : tie.Need-loop-again Inv-loop μ-loop
 loop-again c = (omega arith, all-more _ _ (c .before .before .before .loop .inv .1) (sym (c .before .is-new .ensures) ∙ not-false _ (c .if1 .left)))
 
--- src/names.rt:90:1
 returns-2 : tie.Need-returns-2 Inv-loop μ-loop
 returns-2 c = all-end _ _ _ (omega arith) (omega arith) (c .before .loop .inv .1) ∙ differ-is _ _ _
 

@@ -6,15 +6,12 @@ use Rattle.sound.proofs.names.byte_sound.Reads as reads
 use Rattle.sound.proofs.names.byte_sound.Lts as lts
 use Rattle.lines.proofs.names.is_name_byte.Reads as is-name-byte-reads
 
--- src/names.rt:34:9
 is-name-byte-requires : tie.Need-is-name-byte-requires
 is-name-byte-requires c κs = search needs
 
--- src/names.rt:34:9
 returns : tie.Need-returns
 returns c = byte-within _ _ _ (c .before .if1 .taken) (c .is-name-byte .ensures)
 
--- src/names.rt:30:1
 returns-2 : tie.Need-returns-2
 returns-2 c = byte-after _ _ (c .if1 .left)
 

@@ -5,7 +5,7 @@ use native.Mathlib.Omega.{arith}
 use lib.ListN.{length, length-set}
 use Rattle.below.proofs.Index.{fill-more}
 use Rattle.tables.specs.Limits.{limits}
-use Rattle.sound.specs.Parts.{nameKey}
+use Rattle.sound.specs.Parts.{nameSum}
 use Rattle.sound.specs.Asked.{Keyed}
 use Rattle.sound.proofs.names.fill_keys.Statement.{statement}
 use Rattle.sound.proofs.names.fill_keys.Tie as tie
@@ -19,35 +19,27 @@ Inv-loop names drones keys₀ d₀ keys d = (d ≤ drones) × (length keys ≡ l
 abbrev μ-loop : tie.MeasureT-loop
 μ-loop names drones keys₀ d₀ keys d = drones - d
 
--- src/names.rt:97:5
 loop-holds : tie.Need-loop-holds Inv-loop μ-loop
 loop-holds c = (omega arith, c .before .pre .2, λ j h. absurd (omega arith))
 
--- src/names.rt:98:19
 name-key-requires : tie.Need-name-key-requires Inv-loop μ-loop
 name-key-requires c κs = search needs
 
--- src/names.rt:98:9
 mul-keys : tie.Need-mul-keys Inv-loop μ-loop
 mul-keys c = search needs
 
--- src/names.rt:98:9
 element-write-keys : tie.Need-element-write-keys Inv-loop μ-loop
 element-write-keys c = search needs
 
--- src/names.rt:99:9
 add-d : tie.Need-add-d Inv-loop μ-loop
 add-d c = search needs
 
--- src/names.rt:97:5
 loop-less : tie.Need-loop-less Inv-loop μ-loop
 loop-less c = search needs
 
--- src/names.rt:97:5
 loop-again : tie.Need-loop-again Inv-loop μ-loop
-loop-again c = (omega arith, simp length-set (c .before .before .loop .inv .1), fill-more (c .before .before .loop .keys) (c .before .before .loop .d) _ 0 (nameKey limits (c .before .before .before .before .args .names .now)) (omega (arith, c .before .before .loop .inv .1)) (c .before .before .loop .inv .2) (c .name-key .ensures))
+loop-again c = (omega arith, simp length-set (c .before .before .loop .inv .1), fill-more (c .before .before .loop .keys) (c .before .before .loop .d) _ 0 (nameSum limits (c .before .before .before .before .args .names .now)) (omega (arith, c .before .before .loop .inv .1)) (c .before .before .loop .inv .2) (c .name-key .ensures))
 
--- src/names.rt:92:1
 returns : tie.Need-returns Inv-loop μ-loop
 returns c = λ j h. c .before .loop .inv .2 j (omega arith)
 

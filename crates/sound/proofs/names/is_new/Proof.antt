@@ -19,31 +19,24 @@ Inv-loop names keys d e₀ e = (e ≤ d) × (allBelow e (λ e. not (sameName lim
 abbrev μ-loop : tie.MeasureT-loop
 μ-loop names keys d e₀ e = d - e
 
--- src/names.rt:81:5
 loop-holds : tie.Need-loop-holds Inv-loop μ-loop
 loop-holds c = (omega arith, all-none _)
 
--- src/names.rt:82:12
 is-same-requires : tie.Need-is-same-requires Inv-loop μ-loop
 is-same-requires c κs = search needs
 
--- src/names.rt:83:13
 returns : tie.Need-returns Inv-loop μ-loop
 returns c = all-miss _ _ _ (omega arith) (ap not (sym (c .before .is-same .ensures) ∙ c .if1 .taken))
 
--- src/names.rt:85:9
 add-e : tie.Need-add-e Inv-loop μ-loop
 add-e c = search needs
 
--- src/names.rt:81:5
 loop-less : tie.Need-loop-less Inv-loop μ-loop
 loop-less c = search needs
 
--- src/names.rt:81:5
 loop-again : tie.Need-loop-again Inv-loop μ-loop
 loop-again c = (omega arith, all-more _ _ (c .before .before .before .loop .inv .1) (ap not (sym (c .before .is-same .ensures) ∙ c .if1 .left)))
 
--- src/names.rt:76:1
 returns-2 : tie.Need-returns-2 Inv-loop μ-loop
 returns-2 c = all-end _ _ _ (omega arith) (omega arith) (c .before .loop .inv .1)
 

@@ -7,31 +7,24 @@ use Rattle.sound.proofs.names.is_same.Reads as reads
 use Rattle.sound.proofs.names.is_same.Lts as lts
 use Rattle.sound.proofs.names.same_name.Reads as same-name-reads
 
--- src/names.rt:108:8
 mul-if1 : tie.Need-mul-if1
 mul-if1 c = search needs
 
--- src/names.rt:108:8
 element-copy-out-if1 : tie.Need-element-copy-out-if1
 element-copy-out-if1 c = search needs
 
--- src/names.rt:108:19
 mul-if1-2 : tie.Need-mul-if1-2
 mul-if1-2 c = search needs
 
--- src/names.rt:108:19
 element-copy-out-if1-2 : tie.Need-element-copy-out-if1-2
 element-copy-out-if1-2 c = search needs
 
--- src/names.rt:109:9
 returns : tie.Need-returns
 returns c = keys-differ _ _ _ _ _ _ (c .before .before .before .before .pre .3 (c .before .before .before .before .args .d) (omega arith)) (c .before .before .before .before .pre .3 (c .before .before .before .before .args .e) (omega arith)) (c .if1 .taken)
 
--- src/names.rt:111:5
 same-name-requires : tie.Need-same-name-requires
 same-name-requires c κs = search needs
 
--- src/names.rt:104:1
 returns-2 : tie.Need-returns-2
 returns-2 c = search needs
 

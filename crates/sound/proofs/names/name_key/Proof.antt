@@ -17,43 +17,33 @@ Inv-loop names d row key₀ i₀ key i = (row ≡ d * limits .name) × (i ≤ li
 abbrev μ-loop : tie.MeasureT-loop
 μ-loop names d row key₀ i₀ key i = limits .name - i
 
--- src/names.rt:88:15
 mul-row : tie.Need-mul-row Inv-loop μ-loop
 mul-row c = search needs
 
--- src/names.rt:91:5
 loop-holds : tie.Need-loop-holds Inv-loop μ-loop
 loop-holds c = (refl, omega arith, omega arith, sym (sum-start _))
 
--- src/names.rt:92:27
 add-byte-value : tie.Need-add-byte-value Inv-loop μ-loop
 add-byte-value c = search needs
 
--- src/names.rt:92:21
 shared-slice-read-byte-value : tie.Need-shared-slice-read-byte-value Inv-loop μ-loop
 shared-slice-read-byte-value c = search needs
 
--- src/names.rt:92:16
 byte-value-requires : tie.Need-byte-value-requires Inv-loop μ-loop
 byte-value-requires c κs = search needs
 
--- src/names.rt:92:9
 add-key : tie.Need-add-key Inv-loop μ-loop
 add-key c = omega (arith, c .before .before .before .loop .inv .2, c .byte-value .ensures .1)
 
--- src/names.rt:93:9
 add-i : tie.Need-add-i Inv-loop μ-loop
 add-i c = search needs
 
--- src/names.rt:91:5
 loop-less : tie.Need-loop-less Inv-loop μ-loop
 loop-less c = search needs
 
--- src/names.rt:91:5
 loop-again : tie.Need-loop-again Inv-loop μ-loop
 loop-again c = (c .before .before .before .loop .inv .0, omega arith, omega (arith, c .before .before .before .loop .inv .2, c .byte-value .ensures .1), sum-more _ _ _ _ (c .before .before .before .loop .inv .3) (c .byte-value .ensures .0))
 
--- src/names.rt:84:1
 returns : tie.Need-returns Inv-loop μ-loop
 returns c = sum-end _ _ _ (omega arith) (omega arith) (c .before .loop .inv .3) ∙ key-is _ _ _ _ (c .before .loop .inv .0)
 

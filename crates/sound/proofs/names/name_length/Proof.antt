@@ -19,39 +19,30 @@ Inv-loop names d row i₀ i = (row ≡ d * limits .name) × (i ≤ limits .name)
 abbrev μ-loop : tie.MeasureT-loop
 μ-loop names d row i₀ i = limits .name - i
 
--- src/names.rt:18:15
 mul-row : tie.Need-mul-row Inv-loop μ-loop
 mul-row c = search needs
 
--- src/names.rt:20:5
 loop-holds : tie.Need-loop-holds Inv-loop μ-loop
 loop-holds c = (refl, omega arith, first-none _)
 
--- src/names.rt:21:18
 add-if1 : tie.Need-add-if1 Inv-loop μ-loop
 add-if1 c = search needs
 
--- src/names.rt:21:12
 shared-slice-read-if1 : tie.Need-shared-slice-read-if1 Inv-loop μ-loop
 shared-slice-read-if1 c = search needs
 
--- src/names.rt:22:13
 returns : tie.Need-returns Inv-loop μ-loop
 returns c = first-hit _ _ (limits .name) (omega arith) (c .before .before .before .loop .inv .2) (eq-eqb _ _ (c .if1 .taken)) ∙ length-is _ _ _ _ (c .before .before .before .loop .inv .0)
 
--- src/names.rt:24:9
 add-i : tie.Need-add-i Inv-loop μ-loop
 add-i c = search needs
 
--- src/names.rt:20:5
 loop-less : tie.Need-loop-less Inv-loop μ-loop
 loop-less c = search needs
 
--- src/names.rt:20:5
 loop-again : tie.Need-loop-again Inv-loop μ-loop
 loop-again c = (c .before .before .before .loop .inv .0, omega arith, first-more _ _ (c .before .before .before .loop .inv .2) (ne-eqb _ _ (c .if1 .left)))
 
--- src/names.rt:14:1
 returns-2 : tie.Need-returns-2 Inv-loop μ-loop
 returns-2 c = first-end _ _ (limits .name) (omega arith) (omega arith) (c .before .loop .inv .2) ∙ length-is _ _ _ _ (c .before .loop .inv .0)
 

@@ -24,51 +24,39 @@ Inv-loop names d used row i₀ i = (used ≡ nameLength limits names d) × (1 �
 abbrev μ-loop : tie.MeasureT-loop
 μ-loop names d used row i₀ i = limits .name - i
 
--- src/names.rt:43:9
 name-length-requires : tie.Need-name-length-requires Inv-loop μ-loop
 name-length-requires c κs = search needs
 
--- src/names.rt:45:9
 returns : tie.Need-returns Inv-loop μ-loop
 returns c = name-empty _ _ _ _ (c .before .name-length .ensures) (c .if1 .taken)
 
--- src/names.rt:47:15
 mul-row : tie.Need-mul-row Inv-loop μ-loop
 mul-row c = search needs
 
--- src/names.rt:49:5
 loop-holds : tie.Need-loop-holds Inv-loop μ-loop
 loop-holds c = (c .before .name-length .ensures, c .if1 .left, refl, omega arith, all-none _)
 
--- src/names.rt:50:40
 add-byte-sound : tie.Need-add-byte-sound Inv-loop μ-loop
 add-byte-sound c = search needs
 
--- src/names.rt:50:34
 shared-slice-read-byte-sound : tie.Need-shared-slice-read-byte-sound Inv-loop μ-loop
 shared-slice-read-byte-sound c = search needs
 
--- src/names.rt:50:13
 byte-sound-requires : tie.Need-byte-sound-requires Inv-loop μ-loop
 byte-sound-requires c κs = search needs
 
--- src/names.rt:51:13
 returns-2 : tie.Need-returns-2 Inv-loop μ-loop
 returns-2 c = all-miss _ _ _ (omega arith) (sym (c .before .byte-sound .ensures) ∙ not-true _ (c .if2 .taken)) ∙ name-bytes _ _ _ _ (c .before .before .before .before .loop .inv .2) _ (c .before .before .before .before .loop .inv .0) (c .before .before .before .before .loop .inv .1)
 
--- src/names.rt:53:9
 add-i : tie.Need-add-i Inv-loop μ-loop
 add-i c = search needs
 
--- src/names.rt:49:5
 loop-less : tie.Need-loop-less Inv-loop μ-loop
 loop-less c = search needs
 
--- src/names.rt:49:5
 loop-again : tie.Need-loop-again Inv-loop μ-loop
 loop-again c = (c .before .before .before .before .loop .inv .0, c .before .before .before .before .loop .inv .1, c .before .before .before .before .loop .inv .2, omega arith, all-more _ _ (c .before .before .before .before .loop .inv .4) (sym (c .before .byte-sound .ensures) ∙ not-false _ (c .if2 .left)))
 
--- src/names.rt:39:1
 returns-3 : tie.Need-returns-3 Inv-loop μ-loop
 returns-3 c = all-end _ _ (limits .name) (omega arith) (omega arith) (c .before .loop .inv .4) ∙ name-bytes _ _ _ _ (c .before .loop .inv .2) _ (c .before .loop .inv .0) (c .before .loop .inv .1)
 

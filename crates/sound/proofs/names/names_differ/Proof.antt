@@ -6,15 +6,12 @@ use Rattle.sound.proofs.names.names_differ.Lts as lts
 use Rattle.sound.proofs.names.are_new.Reads as are-new-reads
 use Rattle.sound.proofs.names.fill_keys.Reads as fill-keys-reads
 
--- src/names.rt:154:5
 fill-keys-requires : tie.Need-fill-keys-requires
 fill-keys-requires c κs = search needs
 
--- src/names.rt:155:5
 are-new-requires : tie.Need-are-new-requires
 are-new-requires c κs = (c .before .before .before .before .pre .0, c .before .before .before .before .pre .1, c .before .fill-keys .ensures)
 
--- src/names.rt:149:1
 returns : tie.Need-returns
 returns c = c .are-new .ensures
 

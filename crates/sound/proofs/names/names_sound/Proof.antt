@@ -9,19 +9,15 @@ use Rattle.sound.proofs.names.names_sound.Lts as lts
 use Rattle.sound.proofs.names.are_names.Reads as are-names-reads
 use Rattle.sound.proofs.names.names_differ.Reads as names-differ-reads
 
--- src/names.rt:122:9
 are-names-requires : tie.Need-are-names-requires
 are-names-requires c κs = search needs
 
--- src/names.rt:123:9
 returns : tie.Need-returns
 returns c = and-no _ _ (sym (c .before .are-names .ensures) ∙ not-true _ (c .if1 .taken))
 
--- src/names.rt:125:5
 names-differ-requires : tie.Need-names-differ-requires
 names-differ-requires c κs = search needs
 
--- src/names.rt:118:1
 returns-2 : tie.Need-returns-2
 returns-2 c = and-yes _ _ _ (sym (c .before .before .are-names .ensures) ∙ not-false _ (c .before .if1 .left)) (c .names-differ .ensures)
 

@@ -20,51 +20,39 @@ Inv-loop names d e row other i₀ i = (row ≡ d * limits .name) × (other ≡ e
 abbrev μ-loop : tie.MeasureT-loop
 μ-loop names d e row other i₀ i = limits .name - i
 
--- src/names.rt:63:15
 mul-row : tie.Need-mul-row Inv-loop μ-loop
 mul-row c = search needs
 
--- src/names.rt:64:17
 mul-other : tie.Need-mul-other Inv-loop μ-loop
 mul-other c = search needs
 
--- src/names.rt:66:5
 loop-holds : tie.Need-loop-holds Inv-loop μ-loop
 loop-holds c = (refl, refl, omega arith, all-none _)
 
--- src/names.rt:67:18
 add-if1 : tie.Need-add-if1 Inv-loop μ-loop
 add-if1 c = search needs
 
--- src/names.rt:67:12
 shared-slice-read-if1 : tie.Need-shared-slice-read-if1 Inv-loop μ-loop
 shared-slice-read-if1 c = search needs
 
--- src/names.rt:67:36
 add-if1-2 : tie.Need-add-if1-2 Inv-loop μ-loop
 add-if1-2 c = search needs
 
--- src/names.rt:67:30
 shared-slice-read-if1-2 : tie.Need-shared-slice-read-if1-2 Inv-loop μ-loop
 shared-slice-read-if1-2 c = search needs
 
--- src/names.rt:68:13
 returns : tie.Need-returns Inv-loop μ-loop
 returns c = all-miss _ _ _ (omega arith) (ne-eqb _ _ (c .if1 .taken)) ∙ same-is _ _ _ _ (c .before .before .before .before .loop .inv .0) _ _ (c .before .before .before .before .loop .inv .1)
 
--- src/names.rt:70:9
 add-i : tie.Need-add-i Inv-loop μ-loop
 add-i c = search needs
 
--- src/names.rt:66:5
 loop-less : tie.Need-loop-less Inv-loop μ-loop
 loop-less c = search needs
 
--- src/names.rt:66:5
 loop-again : tie.Need-loop-again Inv-loop μ-loop
 loop-again c = (c .before .before .before .before .loop .inv .0, c .before .before .before .before .loop .inv .1, omega arith, all-more _ _ (c .before .before .before .before .loop .inv .3) (eq-eqb _ _ (c .if1 .left)))
 
--- src/names.rt:59:1
 returns-2 : tie.Need-returns-2 Inv-loop μ-loop
 returns-2 c = all-end _ _ (limits .name) (omega arith) (omega arith) (c .before .loop .inv .3) ∙ same-is _ _ _ _ (c .before .loop .inv .0) _ _ (c .before .loop .inv .1)
 

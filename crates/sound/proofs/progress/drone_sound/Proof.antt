@@ -9,31 +9,24 @@ use Rattle.sound.proofs.progress.drone_sound.Lts as lts
 use Rattle.tables.proofs.flags.has_only_one_bit.Reads as has-only-one-bit-reads
 use Rattle.tables.proofs.flags.is_under_way.Reads as is-under-way-reads
 
--- src/progress.rt:14:9
 has-only-one-bit-requires : tie.Need-has-only-one-bit-requires
 has-only-one-bit-requires c κs = search needs
 
--- src/progress.rt:15:9
 returns : tie.Need-returns
 returns c = drone-bits _ _ _ (sym (c .before .has-only-one-bit .ensures) ∙ not-true _ (c .if1 .taken))
 
--- src/progress.rt:17:16
 sub-last : tie.Need-sub-last
 sub-last c = search needs
 
--- src/progress.rt:19:9
 returns-2 : tie.Need-returns-2
 returns-2 c = drone-past _ _ _ (sym (c .before .before .has-only-one-bit .ensures) ∙ not-false _ (c .before .if1 .left)) (c .if2 .taken)
 
--- src/progress.rt:21:8
 is-under-way-requires : tie.Need-is-under-way-requires
 is-under-way-requires c κs = search needs
 
--- src/progress.rt:22:9
 returns-3 : tie.Need-returns-3
 returns-3 c = drone-going _ _ _ (sym (c .before .before .before .before .has-only-one-bit .ensures) ∙ not-false _ (c .before .before .before .if1 .left)) (c .before .before .if2 .left) (sym (c .before .is-under-way .ensures) ∙ c .if3 .taken)
 
--- src/progress.rt:10:1
 returns-4 : tie.Need-returns-4
 returns-4 c = drone-still _ _ _ (sym (c .before .before .before .before .has-only-one-bit .ensures) ∙ not-false _ (c .before .before .before .if1 .left)) (c .before .before .if2 .left) (sym (c .before .is-under-way .ensures) ∙ c .if3 .left)
 

@@ -19,51 +19,39 @@ Inv-loop drones stop-counts visited drone-flags d₀ d = (d ≤ drones) × (allB
 abbrev μ-loop : tie.MeasureT-loop
 μ-loop drones stop-counts visited drone-flags d₀ d = drones - d
 
--- src/progress.rt:32:5
 loop-holds : tie.Need-loop-holds Inv-loop μ-loop
 loop-holds c = (omega arith, all-none _)
 
--- src/progress.rt:33:25
 mul-drone-sound : tie.Need-mul-drone-sound Inv-loop μ-loop
 mul-drone-sound c = search needs
 
--- src/progress.rt:33:25
 shared-slice-read-drone-sound : tie.Need-shared-slice-read-drone-sound Inv-loop μ-loop
 shared-slice-read-drone-sound c = search needs
 
--- src/progress.rt:33:41
 mul-drone-sound-2 : tie.Need-mul-drone-sound-2 Inv-loop μ-loop
 mul-drone-sound-2 c = search needs
 
--- src/progress.rt:33:41
 shared-slice-read-drone-sound-2 : tie.Need-shared-slice-read-drone-sound-2 Inv-loop μ-loop
 shared-slice-read-drone-sound-2 c = search needs
 
--- src/progress.rt:33:53
 shared-slice-read-drone-sound-3 : tie.Need-shared-slice-read-drone-sound-3 Inv-loop μ-loop
 shared-slice-read-drone-sound-3 c = search needs
 
--- src/progress.rt:33:13
 drone-sound-requires : tie.Need-drone-sound-requires Inv-loop μ-loop
 drone-sound-requires c κs = c .before .before .before .before .before .before .before .before .pre .3 (c .before .before .before .before .loop .d) (omega arith)
 
--- src/progress.rt:34:13
 returns : tie.Need-returns Inv-loop μ-loop
 returns c = all-miss _ _ _ (omega arith) (sym (c .before .drone-sound .ensures) ∙ not-true _ (c .if1 .taken))
 
--- src/progress.rt:36:9
 add-d : tie.Need-add-d Inv-loop μ-loop
 add-d c = search needs
 
--- src/progress.rt:32:5
 loop-less : tie.Need-loop-less Inv-loop μ-loop
 loop-less c = search needs
 
--- src/progress.rt:32:5
 loop-again : tie.Need-loop-again Inv-loop μ-loop
 loop-again c = (omega arith, all-more _ _ (c .before .before .before .before .before .before .loop .inv .1) (sym (c .before .drone-sound .ensures) ∙ not-false _ (c .if1 .left)))
 
--- src/progress.rt:27:1
 returns-2 : tie.Need-returns-2 Inv-loop μ-loop
 returns-2 c = all-end _ _ _ (omega arith) (omega arith) (c .before .loop .inv .1)
 

@@ -10,75 +10,57 @@ use Rattle.sound.proofs.progress.is_kept.Lts as lts
 use Rattle.sound.proofs.progress.wait_kept.Reads as wait-kept-reads
 use Rattle.tables.proofs.flags.is_turned.Reads as is-turned-reads
 
--- src/progress.rt:87:17
 shared-slice-read-first : tie.Need-shared-slice-read-first
 shared-slice-read-first c = search needs
 
--- src/progress.rt:87:17
 cast-first : tie.Need-cast-first
 cast-first c = search needs
 
--- src/progress.rt:88:18
 shared-slice-read-second : tie.Need-shared-slice-read-second
 shared-slice-read-second c = search needs
 
--- src/progress.rt:88:18
 cast-second : tie.Need-cast-second
 cast-second c = search needs
 
--- src/progress.rt:89:33
 shared-slice-read-is-turned : tie.Need-shared-slice-read-is-turned
 shared-slice-read-is-turned c = search needs
 
--- src/progress.rt:89:8
 is-turned-requires : tie.Need-is-turned-requires
 is-turned-requires c κs = search needs
 
--- src/progress.rt:94:13
 mul-wait-kept : tie.Need-mul-wait-kept
 mul-wait-kept c = search needs
 
--- src/progress.rt:94:13
 shared-slice-read-wait-kept : tie.Need-shared-slice-read-wait-kept
 shared-slice-read-wait-kept c = search needs
 
--- src/progress.rt:96:13
 mul-wait-kept-2 : tie.Need-mul-wait-kept-2
 mul-wait-kept-2 c = search needs
 
--- src/progress.rt:96:13
 shared-slice-read-wait-kept-2 : tie.Need-shared-slice-read-wait-kept-2
 shared-slice-read-wait-kept-2 c = search needs
 
--- src/progress.rt:90:9
 wait-kept-requires : tie.Need-wait-kept-requires
 wait-kept-requires c κs = search needs
 
--- src/progress.rt:90:9
 returns : tie.Need-returns
 returns c = kept-turned _ _ _ _ _ _ _ _ _ (sym (c .before .before .before .before .is-turned .ensures) ∙ c .before .before .before .if1 .taken) (c .wait-kept .ensures)
 
--- src/progress.rt:103:9
 mul-wait-kept-3 : tie.Need-mul-wait-kept-3
 mul-wait-kept-3 c = search needs
 
--- src/progress.rt:103:9
 shared-slice-read-wait-kept-3 : tie.Need-shared-slice-read-wait-kept-3
 shared-slice-read-wait-kept-3 c = search needs
 
--- src/progress.rt:105:9
 mul-wait-kept-4 : tie.Need-mul-wait-kept-4
 mul-wait-kept-4 c = search needs
 
--- src/progress.rt:105:9
 shared-slice-read-wait-kept-4 : tie.Need-shared-slice-read-wait-kept-4
 shared-slice-read-wait-kept-4 c = search needs
 
--- src/progress.rt:99:5
 wait-kept-requires-2 : tie.Need-wait-kept-requires-2
 wait-kept-requires-2 c κs = search needs
 
--- src/progress.rt:73:1
 returns-2 : tie.Need-returns-2
 returns-2 c = kept-planned _ _ _ _ _ _ _ _ _ (sym (c .before .before .before .before .is-turned .ensures) ∙ c .before .before .before .if1 .left) (c .wait-kept2 .ensures)
 

@@ -8,35 +8,27 @@ use Rattle.sound.proofs.progress.wait_kept.Reads as reads
 use Rattle.sound.proofs.progress.wait_kept.Lts as lts
 use Rattle.sound.proofs.entered.has_entered.Reads as has-entered-reads
 
--- src/progress.rt:66:21
 mul-has-entered : tie.Need-mul-has-entered
 mul-has-entered c = search needs
 
--- src/progress.rt:66:21
 shared-slice-read-has-entered : tie.Need-shared-slice-read-has-entered
 shared-slice-read-has-entered c = search needs
 
--- src/progress.rt:66:38
 shared-slice-read-has-entered-2 : tie.Need-shared-slice-read-has-entered-2
 shared-slice-read-has-entered-2 c = search needs
 
--- src/progress.rt:66:9
 has-entered-requires : tie.Need-has-entered-requires
 has-entered-requires c κs = search needs
 
--- src/progress.rt:67:9
 returns : tie.Need-returns
 returns c = kept-open _ _ _ _ _ _ (sym (c .before .has-entered .ensures) ∙ not-true _ (c .if1 .taken))
 
--- src/progress.rt:69:9
 mul-result : tie.Need-mul-result
 mul-result c = search needs
 
--- src/progress.rt:69:9
 shared-slice-read-result : tie.Need-shared-slice-read-result
 shared-slice-read-result c = search needs
 
--- src/progress.rt:55:1
 returns-2 : tie.Need-returns-2
 returns-2 c = kept-left _ _ _ _ _ _ (sym (c .before .before .has-entered .ensures) ∙ not-false _ (c .before .if1 .left))
 

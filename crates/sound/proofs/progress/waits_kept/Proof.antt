@@ -19,31 +19,24 @@ Inv-loop m visited drone-flags first-drones first-stops second-drones second-sto
 abbrev μ-loop : tie.MeasureT-loop
 μ-loop m visited drone-flags first-drones first-stops second-drones second-stops flags k₀ k = m - k
 
--- src/progress.rt:124:5
 loop-holds : tie.Need-loop-holds Inv-loop μ-loop
 loop-holds c = (omega arith, all-none _)
 
--- src/progress.rt:125:13
 is-kept-requires : tie.Need-is-kept-requires Inv-loop μ-loop
 is-kept-requires c κs = ((omega arith, omega arith, omega arith, omega arith, omega arith), (omega (arith, c .before .before .before .before .before .before .before .before .before .pre .1 .2 (c .before .loop .k) (omega arith)), omega (arith, c .before .before .before .before .before .before .before .before .before .pre .1 .3 (c .before .loop .k) (omega arith)), omega (arith, c .before .before .before .before .before .before .before .before .before .pre .1 .2 (c .before .loop .k) (omega arith)), omega (arith, c .before .before .before .before .before .before .before .before .before .pre .1 .3 (c .before .loop .k) (omega arith))))
 
--- src/progress.rt:135:13
 returns : tie.Need-returns Inv-loop μ-loop
 returns c = all-miss _ _ _ (omega arith) (sym (c .before .is-kept .ensures) ∙ not-true _ (c .if1 .taken))
 
--- src/progress.rt:137:9
 add-k : tie.Need-add-k Inv-loop μ-loop
 add-k c = search needs
 
--- src/progress.rt:124:5
 loop-less : tie.Need-loop-less Inv-loop μ-loop
 loop-less c = search needs
 
--- src/progress.rt:124:5
 loop-again : tie.Need-loop-again Inv-loop μ-loop
 loop-again c = (omega arith, all-more _ _ (c .before .before .before .loop .inv .1) (sym (c .before .is-kept .ensures) ∙ not-false _ (c .if1 .left)))
 
--- src/progress.rt:109:1
 returns-2 : tie.Need-returns-2 Inv-loop μ-loop
 returns-2 c = all-end _ _ _ (omega arith) (omega arith) (c .before .loop .inv .1)
 

@@ -19,31 +19,24 @@ Inv-loop drones m stop-counts lasts first-drones first-stops second-drones secon
 abbrev μ-loop : tie.MeasureT-loop
 μ-loop drones m stop-counts lasts first-drones first-stops second-drones second-stops flags k₀ k = m - k
 
--- src/records.rt:116:5
 loop-holds : tie.Need-loop-holds Inv-loop μ-loop
 loop-holds c = (omega arith, all-none _)
 
--- src/records.rt:117:13
 is-right-requires : tie.Need-is-right-requires Inv-loop μ-loop
 is-right-requires c κs = search needs
 
--- src/records.rt:128:13
 returns : tie.Need-returns Inv-loop μ-loop
 returns c = all-miss _ _ _ (omega arith) (sym (c .before .is-right .ensures) ∙ not-true _ (c .if1 .taken))
 
--- src/records.rt:130:9
 add-k : tie.Need-add-k Inv-loop μ-loop
 add-k c = search needs
 
--- src/records.rt:116:5
 loop-less : tie.Need-loop-less Inv-loop μ-loop
 loop-less c = search needs
 
--- src/records.rt:116:5
 loop-again : tie.Need-loop-again Inv-loop μ-loop
 loop-again c = (omega arith, all-more _ _ (c .before .before .before .loop .inv .1) (sym (c .before .is-right .ensures) ∙ not-false _ (c .if1 .left)))
 
--- src/records.rt:101:1
 returns-2 : tie.Need-returns-2 Inv-loop μ-loop
 returns-2 c = all-end _ _ _ (omega arith) (omega arith) (c .before .loop .inv .1)
 

@@ -14,35 +14,27 @@ use Rattle.tables.proofs.flags.has_only_two_bits.Reads as has-only-two-bits-rea
 use Rattle.tables.proofs.flags.is_fixed.Reads as is-fixed-reads
 use Rattle.tables.proofs.flags.is_turned.Reads as is-turned-reads
 
--- src/records.rt:58:9
 has-only-two-bits-requires : tie.Need-has-only-two-bits-requires
 has-only-two-bits-requires c κs = search needs
 
--- src/records.rt:59:9
 returns : tie.Need-returns
 returns c = flag-more _ _ (sym (c .before .has-only-two-bits .ensures) ∙ not-true _ (c .if1 .taken))
 
--- src/records.rt:62:16
 is-fixed-requires : tie.Need-is-fixed-requires
 is-fixed-requires c κs = search needs
 
--- src/records.rt:62:50
 is-turned-requires : tie.Need-is-turned-requires
 is-turned-requires c κs = search needs
 
--- src/records.rt:62:9
 returns-2 : tie.Need-returns-2
 returns-2 c = flag-marked _ _ (sym (c .before .before .before .before .before .has-only-two-bits .ensures) ∙ not-false _ (c .before .before .before .before .if1 .left)) _ (c .before .before .before .if2 .taken) (sym (c .before .before .is-fixed .ensures) ∙ c .before .if3 .taken) (c .is-turned .ensures)
 
--- src/records.rt:62:9
 returns-3 : tie.Need-returns-3
 returns-3 c = flag-unmarked _ _ (sym (c .before .before .before .before .has-only-two-bits .ensures) ∙ not-false _ (c .before .before .before .if1 .left)) _ (c .before .before .if2 .taken) (c .before .is-fixed .ensures) (c .if3 .left)
 
--- src/records.rt:64:6
 is-fixed-requires-2 : tie.Need-is-fixed-requires-2
 is-fixed-requires-2 c κs = search needs
 
--- src/records.rt:55:1
 returns-4 : tie.Need-returns-4
 returns-4 c = flag-free _ _ (sym (c .before .before .before .has-only-two-bits .ensures) ∙ not-false _ (c .before .before .if1 .left)) _ (c .before .if2 .left) (c .is-fixed2 .ensures)
 

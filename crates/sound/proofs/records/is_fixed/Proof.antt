@@ -5,39 +5,30 @@ use Rattle.sound.proofs.records.is_fixed.Tie as tie
 use Rattle.sound.proofs.records.is_fixed.Reads as reads
 use Rattle.sound.proofs.records.is_fixed.Lts as lts
 
--- src/records.rt:65:17
 mul-first : tie.Need-mul-first
 mul-first c = search needs
 
--- src/records.rt:65:17
 shared-slice-read-first : tie.Need-shared-slice-read-first
 shared-slice-read-first c = search needs
 
--- src/records.rt:66:13
 shared-slice-read-d : tie.Need-shared-slice-read-d
 shared-slice-read-d c = search needs
 
--- src/records.rt:66:13
 cast-d : tie.Need-cast-d
 cast-d c = search needs
 
--- src/records.rt:67:18
 mul-second : tie.Need-mul-second
 mul-second c = search needs
 
--- src/records.rt:67:18
 shared-slice-read-second : tie.Need-shared-slice-read-second
 shared-slice-read-second c = search needs
 
--- src/records.rt:68:16
 mul-last : tie.Need-mul-last
 mul-last c = search needs
 
--- src/records.rt:68:16
 element-copy-out-last : tie.Need-element-copy-out-last
 element-copy-out-last c = search needs
 
--- src/records.rt:55:1
 returns : tie.Need-returns
 returns c = fixed-is _ _ _ _ _
 

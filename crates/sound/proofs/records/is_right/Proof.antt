@@ -11,35 +11,27 @@ use Rattle.sound.proofs.records.flag_right.Reads as flag-right-reads
 use Rattle.sound.proofs.records.is_fixed.Reads as is-fixed-reads
 use Rattle.sound.proofs.records.is_stop.Reads as is-stop-reads
 
--- src/records.rt:91:9
 is-stop-requires : tie.Need-is-stop-requires
 is-stop-requires c κs = search needs
 
--- src/records.rt:92:9
 returns : tie.Need-returns
 returns c = record-first _ _ (c .before .before .before .before .before .before .before .before .args .lasts .now) _ _ _ _ _ _ (sym (c .before .is-stop .ensures) ∙ not-true _ (c .if1 .taken))
 
--- src/records.rt:94:9
 is-stop-requires-2 : tie.Need-is-stop-requires-2
 is-stop-requires-2 c κs = search needs
 
--- src/records.rt:95:9
 returns-2 : tie.Need-returns-2
 returns-2 c = record-second _ _ (c .before .before .before .before .before .before .before .before .before .before .args .lasts .now) _ _ _ _ _ _ (sym (c .before .before .before .is-stop .ensures) ∙ not-false _ (c .before .before .if1 .left)) (sym (c .before .is-stop2 .ensures) ∙ not-true _ (c .if2 .taken))
 
--- src/records.rt:97:9
 is-fixed-requires : tie.Need-is-fixed-requires
 is-fixed-requires c κs = (c .before .before .before .before .before .before .before .before .before .before .pre .3, c .before .before .before .before .before .before .before .before .before .before .pre .4, c .before .before .before .before .before .before .before .before .before .before .pre .5, omega (arith, c .before .before .before .before .before .before .before .before .before .before .pre .0, stop-drone _ _ _ _ _ (sym (c .before .is-stop2 .ensures) ∙ not-false _ (c .if2 .left))))
 
--- src/records.rt:98:23
 shared-slice-read-flag-right : tie.Need-shared-slice-read-flag-right
 shared-slice-read-flag-right c = search needs
 
--- src/records.rt:98:5
 flag-right-requires : tie.Need-flag-right-requires
 flag-right-requires c κs = search needs
 
--- src/records.rt:77:1
 returns-3 : tie.Need-returns-3
 returns-3 c = record-flag _ _ _ _ _ _ _ _ _ (sym (c .before .before .before .before .before .before .is-stop .ensures) ∙ not-false _ (c .before .before .before .before .before .if1 .left)) (sym (c .before .before .before .before .is-stop2 .ensures) ∙ not-false _ (c .before .before .before .if2 .left)) _ _ (c .before .before .is-fixed .ensures) (c .flag-right .ensures)
 

@@ -7,35 +7,27 @@ use Rattle.sound.proofs.records.is_stop.Tie as tie
 use Rattle.sound.proofs.records.is_stop.Reads as reads
 use Rattle.sound.proofs.records.is_stop.Lts as lts
 
--- src/records.rt:14:13
 shared-slice-read-d : tie.Need-shared-slice-read-d
 shared-slice-read-d c = search needs
 
--- src/records.rt:14:13
 cast-d : tie.Need-cast-d
 cast-d c = omega (arith, c .shared-slice-known .given (c .before .args .k))
 
--- src/records.rt:16:9
 returns : tie.Need-returns
 returns c = stop-none _ _ _ _ _ (c .if1 .taken)
 
--- src/records.rt:18:5
 mul-result : tie.Need-mul-result
 mul-result c = search needs
 
--- src/records.rt:18:5
 shared-slice-read-result : tie.Need-shared-slice-read-result
 shared-slice-read-result c = search needs
 
--- src/records.rt:18:16
 mul-result-2 : tie.Need-mul-result-2
 mul-result-2 c = search needs
 
--- src/records.rt:18:16
 shared-slice-read-result-2 : tie.Need-shared-slice-read-result-2
 shared-slice-read-result-2 c = search needs
 
--- src/records.rt:10:1
 returns-2 : tie.Need-returns-2
 returns-2 c = stop-of _ _ _ _ _ (omega arith)
 

@@ -17,59 +17,45 @@ Inv-loop starts of stops m flat₀ k₀ flat k = (k ≤ m) × (length flat ≡ l
 abbrev μ-loop : tie.MeasureT-loop
 μ-loop starts of stops m flat₀ k₀ flat k = m - k
 
--- src/records.rt:48:5
 loop-holds : tie.Need-loop-holds Inv-loop μ-loop
 loop-holds c = (omega arith, c .pre .0 .3, λ j h. absurd (omega arith))
 
--- src/records.rt:49:17
 shared-slice-read-d : tie.Need-shared-slice-read-d Inv-loop μ-loop
 shared-slice-read-d c = search needs
 
--- src/records.rt:49:17
 cast-d : tie.Need-cast-d Inv-loop μ-loop
 cast-d c = omega (arith, c .before .before .before .pre .1 .0 (c .before .before .loop .k) (omega arith))
 
--- src/records.rt:50:19
 mul-flat : tie.Need-mul-flat Inv-loop μ-loop
 mul-flat c = omega (arith, c .before .before .before .pre .1 .0 (c .before .before .loop .k) (omega arith))
 
--- src/records.rt:50:19
 element-copy-out-flat : tie.Need-element-copy-out-flat Inv-loop μ-loop
 element-copy-out-flat c = omega (arith, c .before .before .before .pre .1 .0 (c .before .before .loop .k) (omega arith))
 
--- src/records.rt:50:31
 mul-flat-2 : tie.Need-mul-flat-2 Inv-loop μ-loop
 mul-flat-2 c = search needs
 
--- src/records.rt:50:31
 shared-slice-read-flat : tie.Need-shared-slice-read-flat Inv-loop μ-loop
 shared-slice-read-flat c = search needs
 
--- src/records.rt:50:19
 add-flat : tie.Need-add-flat Inv-loop μ-loop
 add-flat c = omega (arith, c .before .before .before .before .before .pre .1 .1 (c .before .before .before .before .loop .k) (omega arith))
 
--- src/records.rt:50:9
 mul-flat-3 : tie.Need-mul-flat-3 Inv-loop μ-loop
 mul-flat-3 c = search needs
 
--- src/records.rt:50:9
 element-write-flat : tie.Need-element-write-flat Inv-loop μ-loop
 element-write-flat c = search needs
 
--- src/records.rt:51:9
 add-k : tie.Need-add-k Inv-loop μ-loop
 add-k c = search needs
 
--- src/records.rt:48:5
 loop-less : tie.Need-loop-less Inv-loop μ-loop
 loop-less c = search needs
 
--- src/records.rt:48:5
 loop-again : tie.Need-loop-again Inv-loop μ-loop
 loop-again c = (omega arith, simp length-set (c .before .before .before .before .loop .inv .1), fill-more (c .before .before .before .before .loop .flat) (c .before .before .before .before .loop .k) _ 0 (λ j. at (c .before .before .before .before .before .args .starts .now) (at (c .before .before .before .before .before .args .of .now) j) + at (c .before .before .before .before .before .args .stops .now) j) (omega arith) (c .before .before .before .before .loop .inv .2) refl)
 
--- src/records.rt:36:1
 returns : tie.Need-returns Inv-loop μ-loop
 returns c = record { size = c .before .loop .inv .1; are = λ k h. c .before .loop .inv .2 k (omega arith) }
 

@@ -7,11 +7,9 @@ use Rattle.sound.proofs.records.records_sound.Reads as reads
 use Rattle.sound.proofs.records.records_sound.Lts as lts
 use Rattle.sound.proofs.records.are_right.Reads as are-right-reads
 
--- src/records.rt:150:5
 are-right-requires : tie.Need-are-right-requires
 are-right-requires c κs = search needs
 
--- src/records.rt:136:1
 returns : tie.Need-returns
 returns c = c .are-right .ensures ∙ records-all _ _ _ _ _ _ _ _ _
 

@@ -7,43 +7,33 @@ use Rattle.sound.proofs.single.stop_sound.Reads as reads
 use Rattle.sound.proofs.single.stop_sound.Lts as lts
 use Rattle.plan.proofs.check.fault_at.Reads as fault-at-reads
 
--- src/single.rt:18:29
 mul-if1 : tie.Need-mul-if1
 mul-if1 c = search needs
 
--- src/single.rt:18:29
 shared-slice-read-if1 : tie.Need-shared-slice-read-if1
 shared-slice-read-if1 c = search needs
 
--- src/single.rt:18:29
 cast-if1 : tie.Need-cast-if1
 cast-if1 c = omega (arith, c .shared-slice-known4 .given (c .before .before .before .before .args .v))
 
--- src/single.rt:19:9
 returns : tie.Need-returns
 returns c = λ owners n. stop-place _ _ _ (c .if1 .taken)
 
--- src/single.rt:21:25
 mul-if2 : tie.Need-mul-if2
 mul-if2 c = search needs
 
--- src/single.rt:21:25
 shared-slice-read-if2 : tie.Need-shared-slice-read-if2
 shared-slice-read-if2 c = search needs
 
--- src/single.rt:21:25
 cast-if2 : tie.Need-cast-if2
 cast-if2 c = omega (arith, c .shared-slice-known5 .given (c .before .before .before .before .before .before .args .v))
 
--- src/single.rt:22:9
 returns-2 : tie.Need-returns-2
 returns-2 c = λ owners n. stop-time _ _ _ (c .before .before .if1 .left) (c .if2 .taken)
 
--- src/single.rt:24:5
 fault-at-requires : tie.Need-fault-at-requires
 fault-at-requires c κs = search needs
 
--- src/single.rt:14:1
 returns-3 : tie.Need-returns-3
 returns-3 c = λ owners n. stop-fault _ _ _ (c .before .before .before .if1 .left) _ (c .before .if2 .left) (c .fault-at .ensures owners n)
 

@@ -23,31 +23,24 @@ Inv-loop numbers locations times n v₀ v = (v ≤ n) × (allBelow v (stopSound 
 abbrev μ-loop : tie.MeasureT-loop
 μ-loop numbers locations times n v₀ v = n - v
 
--- src/single.rt:36:5
 loop-holds : tie.Need-loop-holds Inv-loop μ-loop
 loop-holds c = (omega arith, all-none _)
 
--- src/single.rt:37:13
 stop-sound-requires : tie.Need-stop-sound-requires Inv-loop μ-loop
 stop-sound-requires c κs = search needs
 
--- src/single.rt:38:13
 returns : tie.Need-returns Inv-loop μ-loop
 returns c = λ owners. all-miss _ _ _ (omega arith) (sym (c .before .stop-sound .ensures [] _) ∙ not-true _ (c .if1 .taken)) ∙ stops-any _ _ _ _
 
--- src/single.rt:40:9
 add-v : tie.Need-add-v Inv-loop μ-loop
 add-v c = search needs
 
--- src/single.rt:36:5
 loop-less : tie.Need-loop-less Inv-loop μ-loop
 loop-less c = search needs
 
--- src/single.rt:36:5
 loop-again : tie.Need-loop-again Inv-loop μ-loop
 loop-again c = (omega arith, all-more _ _ (c .before .before .before .loop .inv .1) (sym (c .before .stop-sound .ensures [] _) ∙ not-false _ (c .if1 .left)))
 
--- src/single.rt:31:1
 returns-2 : tie.Need-returns-2 Inv-loop μ-loop
 returns-2 c = λ owners. all-end _ _ _ (omega arith) (omega arith) (c .before .loop .inv .1) ∙ stops-any _ _ _ _
 

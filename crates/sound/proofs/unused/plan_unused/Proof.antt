@@ -8,42 +8,35 @@ use Rattle.sound.proofs.unused.plan_unused.Reads as reads
 use Rattle.sound.proofs.unused.plan_unused.Lts as lts
 use Rattle.sound.proofs.unused.records_unused.Reads as records-unused-reads
 use Rattle.sound.proofs.unused.stops_unused.Reads as stops-unused-reads
-use Rattle.sound.proofs.unused.zero_u8.Reads as zero-u8-reads
+use Rattle.sound.proofs.unused.is_zero_u8.Reads as is-zero-u8-reads
 
--- src/unused.rt:114:17
-mul-zero-u8 : tie.Need-mul-zero-u8
-mul-zero-u8 c = search needs
+mul-is-zero-u8 : tie.Need-mul-is-zero-u8
+mul-is-zero-u8 c = search needs
 
--- src/unused.rt:114:9
-zero-u8-requires : tie.Need-zero-u8-requires
-zero-u8-requires c κs = search needs
+is-zero-u8-requires : tie.Need-is-zero-u8-requires
+is-zero-u8-requires c κs = search needs
 
--- src/unused.rt:115:9
 returns : tie.Need-returns
-returns c = and-no _ _ (sym (c .before .zero-u8 .ensures) ∙ not-true _ (c .if1 .taken))
+returns c = and-no _ _ (sym (c .before .is-zero-u8 .ensures) ∙ not-true _ (c .if1 .taken))
 
--- src/unused.rt:117:9
 stops-unused-requires : tie.Need-stops-unused-requires
 stops-unused-requires c κs = search needs
 
--- src/unused.rt:118:9
 returns-2 : tie.Need-returns-2
-returns-2 c = and-yes _ _ _ (sym (c .before .before .before .zero-u8 .ensures) ∙ not-false _ (c .before .before .if1 .left)) (and-no _ _ (sym (c .before .stops-unused .ensures) ∙ not-true _ (c .if2 .taken)))
+returns-2 c = and-yes _ _ _ (sym (c .before .before .before .is-zero-u8 .ensures) ∙ not-false _ (c .before .before .if1 .left)) (and-no _ _ (sym (c .before .stops-unused .ensures) ∙ not-true _ (c .if2 .taken)))
 
--- src/unused.rt:120:5
 records-unused-requires : tie.Need-records-unused-requires
 records-unused-requires c κs = search needs
 
--- src/unused.rt:96:1
 returns-3 : tie.Need-returns-3
-returns-3 c = and-yes _ _ _ (sym (c .before .before .before .before .zero-u8 .ensures) ∙ not-false _ (c .before .before .before .if1 .left)) (and-yes _ _ _ (sym (c .before .before .stops-unused .ensures) ∙ not-false _ (c .before .if2 .left)) (c .records-unused .ensures))
+returns-3 c = and-yes _ _ _ (sym (c .before .before .before .before .is-zero-u8 .ensures) ∙ not-false _ (c .before .before .before .if1 .left)) (and-yes _ _ _ (sym (c .before .before .stops-unused .ensures) ∙ not-false _ (c .before .if2 .left)) (c .records-unused .ensures))
 
 pub plan-unused-spec : {M : Type 1} → statement M
 plan-unused-spec =
     tie.close
     (tie.spec
-    mul-zero-u8
-    zero-u8-requires
+    mul-is-zero-u8
+    is-zero-u8-requires
     returns
     stops-unused-requires
     returns-2

@@ -6,34 +6,28 @@ use Rattle.sound.proofs.unused.progress_unused.Statement.{statement}
 use Rattle.sound.proofs.unused.progress_unused.Tie as tie
 use Rattle.sound.proofs.unused.progress_unused.Reads as reads
 use Rattle.sound.proofs.unused.progress_unused.Lts as lts
-use Rattle.sound.proofs.unused.zero_u16.Reads as zero-u16-reads
-use Rattle.sound.proofs.unused.zero_u8.Reads as zero-u8-reads
+use Rattle.sound.proofs.unused.is_zero_u16.Reads as is-zero-u16-reads
+use Rattle.sound.proofs.unused.is_zero_u8.Reads as is-zero-u8-reads
 
--- src/unused.rt:134:9
-zero-u16-requires : tie.Need-zero-u16-requires
-zero-u16-requires c κs = search needs
+is-zero-u16-requires : tie.Need-is-zero-u16-requires
+is-zero-u16-requires c κs = search needs
 
--- src/unused.rt:135:9
 returns : tie.Need-returns
-returns c = and-no _ _ (sym (c .before .zero-u16 .ensures) ∙ not-true _ (c .if1 .taken))
+returns c = and-no _ _ (sym (c .before .is-zero-u16 .ensures) ∙ not-true _ (c .if1 .taken))
 
--- src/unused.rt:137:9
-zero-u8-requires : tie.Need-zero-u8-requires
-zero-u8-requires c κs = search needs
+is-zero-u8-requires : tie.Need-is-zero-u8-requires
+is-zero-u8-requires c κs = search needs
 
--- src/unused.rt:138:9
 returns-2 : tie.Need-returns-2
-returns-2 c = and-yes _ _ _ (sym (c .before .before .before .zero-u16 .ensures) ∙ not-false _ (c .before .before .if1 .left)) (and-no _ _ (sym (c .before .zero-u8 .ensures) ∙ not-true _ (c .if2 .taken)))
+returns-2 c = and-yes _ _ _ (sym (c .before .before .before .is-zero-u16 .ensures) ∙ not-false _ (c .before .before .if1 .left)) (and-no _ _ (sym (c .before .is-zero-u8 .ensures) ∙ not-true _ (c .if2 .taken)))
 
--- src/unused.rt:140:5
-zero-u8-requires-2 : tie.Need-zero-u8-requires-2
-zero-u8-requires-2 c κs = search needs
+is-zero-u8-requires-2 : tie.Need-is-zero-u8-requires-2
+is-zero-u8-requires-2 c κs = search needs
 
--- src/unused.rt:124:1
 returns-3 : tie.Need-returns-3
-returns-3 c = and-yes _ _ _ (sym (c .before .before .before .before .zero-u16 .ensures) ∙ not-false _ (c .before .before .before .if1 .left)) (and-yes _ _ _ (sym (c .before .before .zero-u8 .ensures) ∙ not-false _ (c .before .if2 .left)) (c .zero-u82 .ensures))
+returns-3 c = and-yes _ _ _ (sym (c .before .before .before .before .is-zero-u16 .ensures) ∙ not-false _ (c .before .before .before .if1 .left)) (and-yes _ _ _ (sym (c .before .before .is-zero-u8 .ensures) ∙ not-false _ (c .before .if2 .left)) (c .is-zero-u82 .ensures))
 
 pub progress-unused-spec : {M : Type 1} → statement M
 progress-unused-spec =
     tie.close
-    (tie.spec zero-u16-requires returns zero-u8-requires returns-2 zero-u8-requires-2 returns-3)
+    (tie.spec is-zero-u16-requires returns is-zero-u8-requires returns-2 is-zero-u8-requires-2 returns-3)

@@ -6,34 +6,28 @@ use Rattle.sound.proofs.unused.stops_unused.Statement.{statement}
 use Rattle.sound.proofs.unused.stops_unused.Tie as tie
 use Rattle.sound.proofs.unused.stops_unused.Reads as reads
 use Rattle.sound.proofs.unused.stops_unused.Lts as lts
-use Rattle.sound.proofs.unused.zero_u16.Reads as zero-u16-reads
-use Rattle.sound.proofs.unused.zero_u32.Reads as zero-u32-reads
+use Rattle.sound.proofs.unused.is_zero_u16.Reads as is-zero-u16-reads
+use Rattle.sound.proofs.unused.is_zero_u32.Reads as is-zero-u32-reads
 
--- src/unused.rt:64:9
-zero-u16-requires : tie.Need-zero-u16-requires
-zero-u16-requires c κs = search needs
+is-zero-u16-requires : tie.Need-is-zero-u16-requires
+is-zero-u16-requires c κs = search needs
 
--- src/unused.rt:65:9
 returns : tie.Need-returns
-returns c = and-no _ _ (sym (c .before .zero-u16 .ensures) ∙ not-true _ (c .if1 .taken))
+returns c = and-no _ _ (sym (c .before .is-zero-u16 .ensures) ∙ not-true _ (c .if1 .taken))
 
--- src/unused.rt:67:9
-zero-u16-requires-2 : tie.Need-zero-u16-requires-2
-zero-u16-requires-2 c κs = search needs
+is-zero-u16-requires-2 : tie.Need-is-zero-u16-requires-2
+is-zero-u16-requires-2 c κs = search needs
 
--- src/unused.rt:68:9
 returns-2 : tie.Need-returns-2
-returns-2 c = and-yes _ _ _ (sym (c .before .before .before .zero-u16 .ensures) ∙ not-false _ (c .before .before .if1 .left)) (and-no _ _ (sym (c .before .zero-u162 .ensures) ∙ not-true _ (c .if2 .taken)))
+returns-2 c = and-yes _ _ _ (sym (c .before .before .before .is-zero-u16 .ensures) ∙ not-false _ (c .before .before .if1 .left)) (and-no _ _ (sym (c .before .is-zero-u162 .ensures) ∙ not-true _ (c .if2 .taken)))
 
--- src/unused.rt:70:5
-zero-u32-requires : tie.Need-zero-u32-requires
-zero-u32-requires c κs = search needs
+is-zero-u32-requires : tie.Need-is-zero-u32-requires
+is-zero-u32-requires c κs = search needs
 
--- src/unused.rt:54:1
 returns-3 : tie.Need-returns-3
-returns-3 c = and-yes _ _ _ (sym (c .before .before .before .before .zero-u16 .ensures) ∙ not-false _ (c .before .before .before .if1 .left)) (and-yes _ _ _ (sym (c .before .before .zero-u162 .ensures) ∙ not-false _ (c .before .if2 .left)) (c .zero-u32 .ensures))
+returns-3 c = and-yes _ _ _ (sym (c .before .before .before .before .is-zero-u16 .ensures) ∙ not-false _ (c .before .before .before .if1 .left)) (and-yes _ _ _ (sym (c .before .before .is-zero-u162 .ensures) ∙ not-false _ (c .before .if2 .left)) (c .is-zero-u32 .ensures))
 
 pub stops-unused-spec : {M : Type 1} → statement M
 stops-unused-spec =
     tie.close
-    (tie.spec zero-u16-requires returns zero-u16-requires-2 returns-2 zero-u32-requires returns-3)
+    (tie.spec is-zero-u16-requires returns is-zero-u16-requires-2 returns-2 is-zero-u32-requires returns-3)

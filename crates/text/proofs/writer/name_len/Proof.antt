@@ -15,35 +15,27 @@ Inv-loop names row i₀ i = (i ≤ limits .name) × (length (nameOf (take (limit
 abbrev μ-loop : tie.MeasureT-loop
 μ-loop names row i₀ i = limits .name - i
 
--- src/writer.rt:26:5
 loop-holds : tie.Need-loop-holds Inv-loop μ-loop
 loop-holds c = (omega arith, rw (zero-add, add-zero))
 
--- src/writer.rt:27:18
 add-if1 : tie.Need-add-if1 Inv-loop μ-loop
 add-if1 c = omega arith
 
--- src/writer.rt:27:12
 shared-slice-read-if1 : tie.Need-shared-slice-read-if1 Inv-loop μ-loop
 shared-slice-read-if1 c = omega arith
 
--- src/writer.rt:28:13
 returns : tie.Need-returns Inv-loop μ-loop
 returns c = sym (c .before .before .before .loop .inv .1 ∙ len-here limits _ _ _ (omega arith) (c .before .before .before .before .pre) (c .if1 .taken))
 
--- src/writer.rt:30:9
 add-i : tie.Need-add-i Inv-loop μ-loop
 add-i c = omega arith
 
--- src/writer.rt:26:5
 loop-less : tie.Need-loop-less Inv-loop μ-loop
 loop-less c = omega arith
 
--- src/writer.rt:26:5
 loop-again : tie.Need-loop-again Inv-loop μ-loop
 loop-again c = (omega arith, c .before .before .before .loop .inv .1 ∙ len-on limits _ _ _ (omega arith) (c .before .before .before .before .pre) (c .if1 .left))
 
--- src/writer.rt:21:1
 returns-2 : tie.Need-returns-2 Inv-loop μ-loop
 returns-2 c =
     let e : c .before .loop .i ≡ limits .name = omega arith in

@@ -5,23 +5,18 @@ use borrow.Author.Needs.{needs}
 use Rattle.text.proofs.writer.put_count.Statement.{statement}
 use Rattle.text.proofs.writer.put_count.Tie as tie
 
--- src/writer.rt:51:9
 put-bytes-requires : tie.Need-put-bytes-requires
 put-bytes-requires c κs = search needs
 
--- src/writer.rt:52:9
 put-number-requires : tie.Need-put-number-requires
 put-number-requires c κs = search needs
 
--- src/writer.rt:53:5
 put-byte-requires : tie.Need-put-byte-requires
 put-byte-requires c κs = omega (arith, c .before .before .before .put-number .ensures .next-is, digits-length 7 (c .before .before .before .before .before .before .before .before .before .before .before .args .value), c .before .before .before .before .before .before .before .put-bytes .ensures .next-is, c .before .before .before .before .before .before .before .before .before .before .before .pre)
 
--- src/writer.rt:47:1
 same-length : tie.Need-same-length
 same-length c = search needs
 
--- src/writer.rt:47:1
 returns : tie.Need-returns
 returns c = put-put (c .before .before .before .before .before .before .before .before .before .before .put-bytes .ensures) (put-put (c .before .before .before .before .before .before .put-number .ensures) (c .before .before .put-byte .ensures))
 

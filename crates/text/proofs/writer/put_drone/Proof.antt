@@ -8,22 +8,18 @@ use borrow.Author.Needs.{needs}
 use Rattle.text.proofs.writer.put_drone.Statement.{statement}
 use Rattle.text.proofs.writer.put_drone.Tie as tie
 
--- src/writer.rt:90:9
 put-name-requires : tie.Need-put-name-requires
 put-name-requires c κs = search needs
 
--- src/writer.rt:91:5
 put-stop-lines-requires : tie.Need-put-stop-lines-requires
 put-stop-lines-requires c κs =
     let a = c .before .before .before .before .before .before .before .before .before .args in
     let h = name-near limits (drop (a .row) (now (a .names))) (c .before .before .before .put-name .ensures) in
     (omega (arith, h, c .before .before .before .before .before .before .before .before .before .pre), c .before .before .before .before .before .before .before .before .before .pre .2, c .before .before .before .before .before .before .before .before .before .pre .3, c .before .before .before .before .before .before .before .before .before .pre .4)
 
--- src/writer.rt:75:1
 same-length : tie.Need-same-length
 same-length c = search needs
 
--- src/writer.rt:75:1
 returns : tie.Need-returns
 returns c = put-put (c .before .before .before .before .before .before .put-name .ensures) (c .before .before .put-stop-lines .ensures)
 

@@ -11,27 +11,21 @@ Inv-loop buf₀ at drones names counts locations times drone₀ from₀ next₀ 
 abbrev μ-loop : tie.MeasureT-loop
 μ-loop buf₀ at drones names counts locations times drone₀ from₀ next₀ buf drone from next = drones - drone
 
--- src/writer.rt:114:5
 loop-holds : tie.Need-loop-holds Inv-loop μ-loop
 loop-holds c = writing-start limits _ _ _ _ _ _ _
 
--- src/writer.rt:115:21
 mul-count : tie.Need-mul-count Inv-loop μ-loop
 mul-count c = omega (arith, c .before .before .before .before .before .before .before .pre .1)
 
--- src/writer.rt:115:21
 shared-slice-read-count : tie.Need-shared-slice-read-count Inv-loop μ-loop
 shared-slice-read-count c = omega (arith, c .before .before .before .before .before .before .before .before .pre .1)
 
--- src/writer.rt:115:21
 cast-count : tie.Need-cast-count Inv-loop μ-loop
 cast-count c = omega (arith, c .shared-slice-known5 .given (c .before .before .loop .drone))
 
--- src/writer.rt:120:13
 mul-put-drone : tie.Need-mul-put-drone Inv-loop μ-loop
 mul-put-drone c = omega (arith, c .before .before .before .before .before .before .before .before .before .pre .1)
 
--- src/writer.rt:116:9
 put-drone-requires : tie.Need-put-drone-requires Inv-loop μ-loop
 put-drone-requires c κs =
     let w = c .before .before .before .loop .inv in
@@ -46,29 +40,23 @@ put-drone-requires c κs =
       omega (arith, s, p .stops-in, p .times-full),
     )
 
--- src/writer.rt:126:9
 add-from : tie.Need-add-from Inv-loop μ-loop
 add-from c =
     let s = writing-stops (c .before .before .before .before .before .before .loop .inv) (c .before .before .before .before .before .loop-test .taken) in
     omega (arith, s, c .before .before .before .before .before .before .before .before .before .before .before .before .pre .1)
 
--- src/writer.rt:127:9
 add-drone : tie.Need-add-drone Inv-loop μ-loop
 add-drone c = omega (arith, c .before .before .before .before .before .loop-test .taken, c .before .before .before .before .before .before .before .before .before .before .before .before .pre .1)
 
--- src/writer.rt:114:5
 loop-less : tie.Need-loop-less Inv-loop μ-loop
 loop-less c = omega (arith, c .before .before .before .before .before .loop-test .taken)
 
--- src/writer.rt:114:5
 loop-again : tie.Need-loop-again Inv-loop μ-loop
 loop-again c = writing-more (c .before .before .before .before .before .before .loop .inv) (c .before .before .before .before .before .loop-test .taken) (omega (arith, c .before .before .before .before .before .before .before .before .before .before .before .before .pre .1 .drones-in, c .before .before .before .before .before .before .before .before .before .before .before .before .pre .1 .counts-full)) (c .before .before .put-drone .kept .0) (c .before .before .put-drone .ensures)
 
--- src/writer.rt:95:1
 same-length : tie.Need-same-length Inv-loop μ-loop
 same-length c = c .before .loop .inv .room
 
--- src/writer.rt:95:1
 returns : tie.Need-returns Inv-loop μ-loop
 returns c = writing-done (c .before .loop .inv) (omega (arith, c .loop-test .left))
 

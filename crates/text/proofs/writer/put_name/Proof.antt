@@ -7,59 +7,48 @@ use borrow.Author.Needs.{needs}
 use Rattle.text.proofs.writer.put_name.Statement.{statement}
 use Rattle.text.proofs.writer.put_name.Tie as tie
 
--- src/writer.rt:40:21
 name-len-requires : tie.Need-name-len-requires
 name-len-requires c κs = search needs
 
--- src/writer.rt:40:15
 add-end : tie.Need-add-end
 add-end c =
     let a = c .before .before .before .args in
     let h = name-within limits (now (a .names)) (a .row) _ (c .name-len .ensures) in
     omega (arith, h, c .before .before .before .pre)
 
--- src/writer.rt:41:42
 slice-aggregate-put-bytes : tie.Need-slice-aggregate-put-bytes
 slice-aggregate-put-bytes c = search needs
 
--- src/writer.rt:41:9
 put-bytes-requires : tie.Need-put-bytes-requires
 put-bytes-requires c κs = search needs
 
--- src/writer.rt:42:44
 sub-put-bytes : tie.Need-sub-put-bytes
 sub-put-bytes c = search needs
 
--- src/writer.rt:42:44
 part-put-bytes-start : tie.Need-part-put-bytes-start
 part-put-bytes-start c = search needs
 
--- src/writer.rt:42:44
 part-put-bytes-end : tie.Need-part-put-bytes-end
 part-put-bytes-end c =
     let a = c .before .before .before .before .before .before .before .before .before .args in
     let h = name-within limits (now (a .names)) (a .row) _ (c .before .before .before .before .before .before .name-len .ensures) in
     omega (arith, h, c .before .before .before .before .before .before .before .before .before .pre)
 
--- src/writer.rt:42:9
 put-bytes-requires-2 : tie.Need-put-bytes-requires-2
 put-bytes-requires-2 c κs =
     let a = c .before .before .before .before .before .before .before .before .before .before .args in
     let h = part-within limits (now (a .names)) (a .row) _ (c .before .before .before .before .before .before .before .name-len .ensures) in
     omega (arith, h, c .before .before .before .before .before .before .before .before .before .before .pre, c .before .before .before .before .put-bytes .ensures .next-is)
 
--- src/writer.rt:43:5
 put-byte-requires : tie.Need-put-byte-requires
 put-byte-requires c κs =
     let a = c .before .before .before .before .before .before .before .before .before .before .before .before .before .before .args in
     let h = part-within limits (now (a .names)) (a .row) _ (c .before .before .before .before .before .before .before .before .before .before .before .name-len .ensures) in
     omega (arith, h, c .before .before .before .before .before .before .before .before .before .before .before .before .before .before .pre, c .before .before .before .before .before .before .before .before .put-bytes .ensures .next-is, c .before .before .before .put-bytes2 .ensures .next-is)
 
--- src/writer.rt:36:1
 same-length : tie.Need-same-length
 same-length c = search needs
 
--- src/writer.rt:36:1
 returns : tie.Need-returns
 returns c =
     let a = c .before .before .before .before .before .before .before .before .before .before .before .before .before .before .before .before .before .args in

@@ -6,23 +6,18 @@ use borrow.Author.Needs.{needs}
 use Rattle.text.proofs.writer.put_stop_lines.Statement.{statement}
 use Rattle.text.proofs.writer.put_stop_lines.Tie as tie
 
--- src/writer.rt:70:36
 slice-aggregate-put-count : tie.Need-slice-aggregate-put-count
 slice-aggregate-put-count c = search needs
 
--- src/writer.rt:70:9
 put-count-requires : tie.Need-put-count-requires
 put-count-requires c κs = search needs
 
--- src/writer.rt:71:5
 put-stops-requires : tie.Need-put-stops-requires
 put-stops-requires c κs = (omega (arith, count-near stopsKey (c .before .before .before .before .before .before .before .before .before .args .count) (c .before .before .before .put-count .ensures), c .before .before .before .before .before .before .before .before .before .pre .0), c .before .before .before .before .before .before .before .before .before .pre .1, c .before .before .before .before .before .before .before .before .before .pre .2, c .before .before .before .before .before .before .before .before .before .pre .3)
 
--- src/writer.rt:57:1
 same-length : tie.Need-same-length
 same-length c = search needs
 
--- src/writer.rt:57:1
 returns : tie.Need-returns
 returns c = put-put (c .before .before .before .before .before .before .put-count .ensures) (c .before .before .put-stops .ensures)
 

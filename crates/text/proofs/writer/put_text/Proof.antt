@@ -8,34 +8,27 @@ use borrow.Author.Needs.{needs}
 use Rattle.text.proofs.writer.put_text.Statement.{statement}
 use Rattle.text.proofs.writer.put_text.Tie as tie
 
--- src/writer.rt:148:43
 slice-aggregate-put-bytes : tie.Need-slice-aggregate-put-bytes
 slice-aggregate-put-bytes c = search needs
 
--- src/writer.rt:148:9
 put-bytes-requires : tie.Need-put-bytes-requires
 put-bytes-requires c κs = search needs
 
--- src/writer.rt:149:40
 slice-aggregate-put-count : tie.Need-slice-aggregate-put-count
 slice-aggregate-put-count c = search needs
 
--- src/writer.rt:149:9
 put-count-requires : tie.Need-put-count-requires
 put-count-requires c κs = search needs
 
--- src/writer.rt:150:9
 put-drones-requires : tie.Need-put-drones-requires
 put-drones-requires c κs =
     let p = c .before .before .before .before .before .before .before .before .before .before .before .before .before .before .before .before .pre in
     let h = count-near agentsKey (c .before .before .before .before .before .before .before .before .before .before .before .before .before .before .before .before .args .drones) (c .before .before .before .put-count .ensures) in
     (omega (arith, c .before .before .before .before .before .before .before .before .put-bytes .ensures .next-is, h), p)
 
--- src/writer.rt:151:33
 slice-aggregate-put-bytes-2 : tie.Need-slice-aggregate-put-bytes-2
 slice-aggregate-put-bytes-2 c = search needs
 
--- src/writer.rt:151:5
 put-bytes-requires-2 : tie.Need-put-bytes-requires-2
 put-bytes-requires-2 c κs =
     let p = c .before .before .before .before .before .before .before .before .before .before .before .before .before .before .before .before .before .before .before .before .before .pre in
@@ -44,11 +37,9 @@ put-bytes-requires-2 c κs =
     let l = lines-near limits (a .drones) (now (a .names)) (now (a .counts)) (now (a .locations)) (now (a .times)) (c .before .before .before .before .put-drones .ensures) in
     omega (arith, c .before .before .before .before .before .before .before .before .before .before .before .before .before .put-bytes .ensures .next-is, h, l, p .drones-in, p .stops-in)
 
--- src/writer.rt:133:1
 same-length : tie.Need-same-length
 same-length c = search needs
 
--- src/writer.rt:133:1
 returns : tie.Need-returns
 returns c =
     let a = c .before .before .before .before .before .before .before .before .before .before .before .before .before .before .before .before .before .before .before .before .before .before .before .before .args in

@@ -5,39 +5,30 @@ use borrow.Author.Needs.{needs}
 use Rattle.text.proofs.writer.write_text.Statement.{statement}
 use Rattle.text.proofs.writer.write_text.Tie as tie
 
--- src/writer.rt:176:27
 sub-put-text : tie.Need-sub-put-text
 sub-put-text c = search needs
 
--- src/writer.rt:176:27
 part-put-text-start : tie.Need-part-put-text-start
 part-put-text-start c = search needs
 
--- src/writer.rt:176:27
 part-put-text-end : tie.Need-part-put-text-end
 part-put-text-end c = search needs
 
--- src/writer.rt:176:9
 put-text-requires : tie.Need-put-text-requires
 put-text-requires c κs = search needs
 
--- src/writer.rt:178:9
 same-length : tie.Need-same-length
 same-length c = search needs
 
--- src/writer.rt:178:9
 returns : tie.Need-returns
 returns c = says-short (now (c .before .before .before .before .before .before .before .before .before .before .args .buf)) (c .before .before .before .put-text .ensures) (omega (arith, c .if1 .taken))
 
--- src/writer.rt:180:5
 put-text-requires-2 : tie.Need-put-text-requires-2
 put-text-requires-2 c κs = search needs
 
--- src/writer.rt:161:1
 same-length-2 : tie.Need-same-length-2
 same-length-2 c = search needs
 
--- src/writer.rt:161:1
 returns-2 : tie.Need-returns-2
 returns-2 c = says-length (now (c .before .before .before .before .before .before .before .before .before .before .before .before .before .before .args .buf)) (c .before .before .before .before .before .before .before .put-text .ensures) (omega (arith, c .before .before .before .before .if1 .left)) (c .before .before .put-text2 .ensures)
 

@@ -1,6 +1,6 @@
 -- One law for each key, after the ones before it.
 use native.Mathlib.Omega.{arith}
-use mathlib.Core.Path.{_≡_, refl, sym, _∙_}
+use mathlib.Core.Path.{refl, sym, _∙_}
 use Rattle.lines.proofs.ByteLaws.{isAt-in}
 use Rattle.transcript.proofs.CallCases.{call-grant, call-arrive, call-turn, call-cost, call-none}
 use borrow.Author.Needs.{needs}

@@ -1,0 +1,183 @@
+-- Which refusal, exactly: by the tests of each definition. Assumes nothing.
+use mathlib.Core.Path.{_≡_, refl, sym, ap, _∙_}
+use mathlib.Core.Logic.{_⊎_, inl, inr, _↔_}
+use mathlib.Core.Bool.{Bool, true, false}
+use mathlib.Core.List.{List}
+use Prim.Native.Nat.{ℕ, _≤_, _<_}
+use native.Mathlib.Omega.{arith}
+use lib.Dec.{ltb}
+use lib.ListN.{length}
+use borrow.Author.Tests.{lt-ltb, le-ltb, ltb-true, ltb-false}
+use Rattle.below.proofs.Tests.{by-cases, true-or-false}
+use Rattle.tables.specs.Limits.{Limits}
+use Rattle.tables.specs.Tables.{Tables, fullSize}
+use Rattle.tables.specs.Zero.{zeroedTables}
+use Rattle.text.specs.TextWritten.{isShort, writeAnswer}
+use Rattle.plan.specs.Field.{planOf}
+use Rattle.plan.specs.Status.{statusIn}
+use Rattle.sound.specs.Sound.{sound}
+use Rattle.log.specs.CallLog.{Call, grant, arrive, turn, turnAll, refused, replyNumber, replyIn}
+use Rattle.log.specs.Calls.{replyOf, grantStep, arriveStep, turnStep, turnAllStep, step, CostOutcome, costs, costRefused, costReply, RoundsOutcome, rounds, roundsRefused, roundsReply}
+use Rattle.log.specs.Preview.{wouldRefuse, preview, previewAll}
+use Rattle.log.specs.Claims.{Usable}
+use Rattle.reading.specs.Replies.{refusedBy, refusedAt, readingNumber}
+use Rattle.reading.specs.Reading.{ReadingAnswer, readLines, readPlan}
+use Rattle.log.proofs.Meaning.{below-37}
+use Rattle.log.proofs.Preview.{preview-claims}
+use Rattle.reading.proofs.ReplyLaws.{lines-never}
+use Rattle.flat.specs.Writing.{wrote, writeRefused, textIn, writes}
+use Rattle.demands.specs.Numbers.{Unfit, ExactNumbers}
+
+-- ---- the reading
+
+module _ (L : Limits) (text : List ℕ) (t : Tables) where
+  small-tables : fullSize L t ≡ false → readingNumber (readPlan L text t .reply) ≡ 41
+  unfolding readPlan
+  small-tables f = rw f refl
+
+  long-text : fullSize L t ≡ true → L .text < length text → readingNumber (readPlan L text t .reply) ≡ 1
+  unfolding readPlan
+  long-text f l = rw (f, lt-ltb (L .text) (length text) l) refl
+
+  by-lines : fullSize L t ≡ true → length text ≤ L .text → readPlan L text t ≡ readLines L text (zeroedTables L t)
+  unfolding readPlan
+  by-lines f l = rw (f, le-ltb (L .text) (length text) l) refl
+
+  -- a number that no line gives, where the tables have full size and the text is not too long
+  not-by-lines : (n : ℕ) → (0 < n) → (n < 2) ⊎ (11 < n) → fullSize L t ≡ true → length text ≤ L .text → readingNumber (readPlan L text t .reply) ≡ n → ⊥
+  not-by-lines n some out f l e = lines-never n (omega arith) out L text (zeroedTables L t) (ap (λ (a : ReadingAnswer). readingNumber (a .reply)) (sym (by-lines f l)) ∙ e)
+
+  only-41 : readingNumber (readPlan L text t .reply) ≡ 41 → fullSize L t ≡ false
+  only-41 e = by-cases (fullSize L t)
+      (λ f. by-cases (ltb (L .text) (length text))
+      (λ l. let q = long-text f (ltb-true (L .text) (length text) l) in absurd (omega (arith, q, e)))
+      (λ l. absurd (not-by-lines 41 (omega arith) (inr (omega arith)) f (omega (arith, ltb-false (L .text) (length text) l)) e)))
+      (λ f. f)
+
+  only-1 : readingNumber (readPlan L text t .reply) ≡ 1 → (fullSize L t ≡ true) × (L .text < length text)
+  only-1 e = by-cases (fullSize L t)
+      (λ f. by-cases (ltb (L .text) (length text))
+      (λ l. (f, ltb-true (L .text) (length text) l))
+      (λ l. absurd (not-by-lines 1 (omega arith) (inl (omega arith)) f (omega (arith, ltb-false (L .text) (length text) l)) e)))
+      (λ f. let q = small-tables f in absurd (omega (arith, q, e)))
+
+-- ---- the calls
+
+module _ (L : Limits) (t : Tables) where
+  reply-unfit : (c : Call) (n : ℕ) → Unfit L t n → replyOf L t c ≡ refused n
+  unfolding replyOf
+  reply-unfit c n (inl (e, f)) = rw (f, e) refl
+  reply-unfit c n (inr (e, f, s)) = rw (f, s, e) refl
+
+  call-unfit : (c : Call) (n : ℕ) → Unfit L t n → step L t c .reply ≡ refused n
+  unfolding grantStep arriveStep turnStep turnAllStep
+  call-unfit (grant d) n u = reply-unfit (grant d) n u
+  call-unfit (arrive d) n u = reply-unfit (arrive d) n u
+  call-unfit (turn w) n u = reply-unfit (turn w) n u
+  call-unfit (turnAll ws) n u = reply-unfit (turnAll ws) n u
+
+  reply-usable : (c : Call) → Usable L t → replyOf L t c ≡ replyIn (planOf (t .plan)) (statusIn t) c
+  unfolding replyOf
+  reply-usable c (f, s) = rw (f, s) refl
+
+  call-usable : (c : Call) → Usable L t → step L t c .reply ≡ replyIn (planOf (t .plan)) (statusIn t) c
+  unfolding grantStep arriveStep turnStep turnAllStep
+  call-usable (grant d) u = reply-usable (grant d) u
+  call-usable (arrive d) u = reply-usable (arrive d) u
+  call-usable (turn w) u = reply-usable (turn w) u
+  call-usable (turnAll ws) u = reply-usable (turnAll ws) u
+
+  -- a number from 40 on is none of the table's, so the tables are unfit by it
+  call-only : (c : Call) (n : ℕ) → 40 ≤ n → step L t c .reply ≡ refused n → Unfit L t n
+  call-only c n h e = by-cases (fullSize L t)
+      (λ f. by-cases (sound L t)
+      (λ s. let q = below-37 (planOf (t .plan)) (statusIn t) c in let r : replyNumber (replyIn (planOf (t .plan)) (statusIn t) c) ≡ n = ap replyNumber (sym (call-usable c (f, s)) ∙ e) in absurd (omega (arith, q, r, h)))
+      (λ s. inr (sym (ap replyNumber (sym (call-unfit c 40 (inr (refl, f, s))) ∙ e)), f, s)))
+      (λ f. inl (sym (ap replyNumber (sym (call-unfit c 41 (inl (refl, f))) ∙ e)), f))
+
+  call-refused : (c : Call) (n : ℕ) → 40 ≤ n → (step L t c .reply ≡ refused n) ↔ Unfit L t n
+  call-refused c n h = (call-only c n h, call-unfit c n)
+
+  preview-refused : (w n : ℕ) → 40 ≤ n → (preview L t w ≡ wouldRefuse n) ↔ Unfit L t n
+  preview-refused w n h = (λ e. call-only (turn w) n h (preview-claims .preview-refused L t w n .0 e), λ u. preview-claims .preview-refused L t w n .1 (call-unfit (turn w) n u))
+
+  list-refused : (ws : List ℕ) (n : ℕ) → 40 ≤ n → (previewAll L t ws ≡ wouldRefuse n) ↔ Unfit L t n
+  list-refused ws n h = (λ e. call-only (turnAll ws) n h (preview-claims .previewAll-refused L t ws n .0 e), λ u. preview-claims .previewAll-refused L t ws n .1 (call-unfit (turnAll ws) n u))
+
+-- ---- cost and rounds
+
+-- a refusal's number, and one that no refusal has for the others
+abbrev costNumber : CostOutcome → ℕ
+costNumber (costs n) = 0
+costNumber (costRefused n) = n
+
+abbrev roundsNumber : RoundsOutcome → ℕ
+roundsNumber (rounds n) = 0
+roundsNumber (roundsRefused n) = n
+
+abbrev isCosts : CostOutcome → Bool
+isCosts (costs n) = true
+isCosts (costRefused n) = false
+
+abbrev isRounds : RoundsOutcome → Bool
+isRounds (rounds n) = true
+isRounds (roundsRefused n) = false
+
+module _ (L : Limits) (t : Tables) (n : ℕ) where
+  cost-only : costReply L t ≡ costRefused n → Unfit L t n
+  unfolding costReply
+  cost-only e = by-cases (fullSize L t)
+      (λ f. by-cases (sound L t)
+      (λ s. true-or-false refl (ap isCosts (rw (f, s) at e)))
+      (λ s. inr (sym (ap costNumber (rw (f, s) at e)), f, s)))
+      (λ f. inl (sym (ap costNumber (rw f at e)), f))
+
+  cost-unfit : Unfit L t n → costReply L t ≡ costRefused n
+  unfolding costReply
+  cost-unfit (inl (e, f)) = rw (f, e) refl
+  cost-unfit (inr (e, f, s)) = rw (f, s, e) refl
+
+  rounds-only : roundsReply L t ≡ roundsRefused n → Unfit L t n
+  unfolding roundsReply
+  rounds-only e = by-cases (fullSize L t)
+      (λ f. by-cases (sound L t)
+      (λ s. true-or-false refl (ap isRounds (rw (f, s) at e)))
+      (λ s. inr (sym (ap roundsNumber (rw (f, s) at e)), f, s)))
+      (λ f. inl (sym (ap roundsNumber (rw f at e)), f))
+
+  rounds-unfit : Unfit L t n → roundsReply L t ≡ roundsRefused n
+  unfolding roundsReply
+  rounds-unfit (inl (e, f)) = rw (f, e) refl
+  rounds-unfit (inr (e, f, s)) = rw (f, s, e) refl
+
+-- ---- the writer
+
+module _ (L : Limits) (t : Tables) (buffer : List ℕ) where
+  writer-unfit : (n : ℕ) → Unfit L t n → writes L t buffer ≡ writeRefused n
+  unfolding writes
+  writer-unfit n (inl (e, f)) = rw (f, e) refl
+  writer-unfit n (inr (e, f, s)) = rw (f, s, e) refl
+
+  writer-short : Usable L t → length buffer < length (textIn L t) → writes L t buffer ≡ writeRefused 42
+  unfolding writes writeAnswer isShort
+  writer-short (f, s) l = rw (f, s, lt-ltb (length buffer) (length (textIn L t)) l) refl
+
+  writer-wrote : Usable L t → length (textIn L t) ≤ length buffer → writes L t buffer ≡ wrote (length (textIn L t))
+  unfolding writes writeAnswer isShort
+  writer-wrote (f, s) l = rw (f, s, le-ltb (length buffer) (length (textIn L t)) l) refl
+
+pub exact-numbers : (L : Limits) → ExactNumbers L
+exact-numbers L = record {
+  reading-41 = λ text t. (only-41 L text t, small-tables L text t);
+  reading-1 = λ text t. (only-1 L text t, λ (f, l). long-text L text t f l);
+  reading-lines = by-lines L;
+  call-refused = call-refused L;
+  call-usable = call-usable L;
+  preview-refused = preview-refused L;
+  list-refused = list-refused L;
+  cost-refused = λ t n. (cost-only L t n, cost-unfit L t n);
+  rounds-refused = λ t n. (rounds-only L t n, rounds-unfit L t n);
+  writer-unfit = writer-unfit L;
+  writer-short = writer-short L;
+  writer-wrote = writer-wrote L;
+}
