@@ -1,14 +1,14 @@
 -- Which refusal, exactly: by the tests of each definition. Assumes nothing.
 use mathlib.Core.Path.{_≡_, refl, sym, ap, _∙_}
 use mathlib.Core.Logic.{_⊎_, inl, inr, _↔_}
-use mathlib.Core.Bool.{Bool, true, false}
+use mathlib.Core.Bool.{true, false, cond}
 use mathlib.Core.List.{List}
-use Prim.Native.Nat.{ℕ, _≤_, _<_}
+use Prim.Native.Nat.{ℕ, suc, _≤_, _<_}
 use native.Mathlib.Omega.{arith}
 use lib.Dec.{ltb}
 use lib.ListN.{length}
 use borrow.Author.Tests.{lt-ltb, le-ltb, ltb-true, ltb-false}
-use Rattle.below.proofs.Tests.{by-cases, true-or-false}
+use Rattle.below.proofs.Tests.{by-cases}
 use Rattle.tables.specs.Limits.{Limits}
 use Rattle.tables.specs.Tables.{Tables, fullSize}
 use Rattle.tables.specs.Zero.{zeroedTables}
@@ -20,7 +20,7 @@ use Rattle.log.specs.CallLog.{Call, grant, arrive, turn, turnAll, refused, repl
 use Rattle.log.specs.Calls.{replyOf, grantStep, arriveStep, turnStep, turnAllStep, step, CostOutcome, costs, costRefused, costReply, RoundsOutcome, rounds, roundsRefused, roundsReply}
 use Rattle.log.specs.Preview.{wouldRefuse, preview, previewAll}
 use Rattle.log.specs.Claims.{Usable}
-use Rattle.reading.specs.Replies.{refusedBy, refusedAt, readingNumber}
+use Rattle.reading.specs.Replies.{readingNumber}
 use Rattle.reading.specs.Reading.{ReadingAnswer, readLines, readPlan}
 use Rattle.log.proofs.Meaning.{below-37}
 use Rattle.log.proofs.Preview.{preview-claims}
@@ -61,13 +61,30 @@ module _ (L : Limits) (text : List ℕ) (t : Tables) where
       (λ l. absurd (not-by-lines 1 (omega arith) (inl (omega arith)) f (omega (arith, ltb-false (L .text) (length text) l)) e)))
       (λ f. let q = small-tables f in absurd (omega (arith, q, e)))
 
+-- ---- 41, then 40, then what is answered on usable tables
+
+module _ (L : Limits) (t : Tables) {A : Type 0} (say : ℕ → A) (x : A) (n : ℕ) where
+  abbrev Tested : A
+  Tested = cond (fullSize L t) (cond (sound L t) x (say 40)) (say 41)
+
+  unfit-says : Unfit L t n → Tested ≡ say n
+  unfit-says (inl (e, f)) = rw (f, e) refl
+  unfit-says (inr (e, f, s)) = rw (f, s, e) refl
+
+  -- `told` tells the refusals apart, and from x
+  only-unfit : (told : A → ℕ) → ((m : ℕ) → told (say m) ≡ suc m) → told x ≡ 0 → Tested ≡ say n → Unfit L t n
+  only-unfit told by-number none e = by-cases (fullSize L t)
+      (λ f. by-cases (sound L t)
+      (λ s. let q : told x ≡ told (say n) = ap told (rw (f, s) at e) in absurd (omega (arith, q, none, by-number n)))
+      (λ s. let q : told (say 40) ≡ told (say n) = ap told (rw (f, s) at e) in inr (omega (arith, q, by-number 40, by-number n), f, s)))
+      (λ f. let q : told (say 41) ≡ told (say n) = ap told (rw f at e) in inl (omega (arith, q, by-number 41, by-number n), f))
+
 -- ---- the calls
 
 module _ (L : Limits) (t : Tables) where
   reply-unfit : (c : Call) (n : ℕ) → Unfit L t n → replyOf L t c ≡ refused n
   unfolding replyOf
-  reply-unfit c n (inl (e, f)) = rw (f, e) refl
-  reply-unfit c n (inr (e, f, s)) = rw (f, s, e) refl
+  reply-unfit c n u = unfit-says L t refused (replyIn (planOf (t .plan)) (statusIn t) c) n u
 
   call-unfit : (c : Call) (n : ℕ) → Unfit L t n → step L t c .reply ≡ refused n
   unfolding grantStep arriveStep turnStep turnAllStep
@@ -106,57 +123,30 @@ module _ (L : Limits) (t : Tables) where
 
 -- ---- cost and rounds
 
--- a refusal's number, and one that no refusal has for the others
-abbrev costNumber : CostOutcome → ℕ
-costNumber (costs n) = 0
-costNumber (costRefused n) = n
+-- a refusal's number and one, 0 for the others
+abbrev costTold : CostOutcome → ℕ
+costTold (costs n) = 0
+costTold (costRefused n) = suc n
 
-abbrev roundsNumber : RoundsOutcome → ℕ
-roundsNumber (rounds n) = 0
-roundsNumber (roundsRefused n) = n
-
-abbrev isCosts : CostOutcome → Bool
-isCosts (costs n) = true
-isCosts (costRefused n) = false
-
-abbrev isRounds : RoundsOutcome → Bool
-isRounds (rounds n) = true
-isRounds (roundsRefused n) = false
+abbrev roundsTold : RoundsOutcome → ℕ
+roundsTold (rounds n) = 0
+roundsTold (roundsRefused n) = suc n
 
 module _ (L : Limits) (t : Tables) (n : ℕ) where
-  cost-only : costReply L t ≡ costRefused n → Unfit L t n
+  cost-refused : (costReply L t ≡ costRefused n) ↔ Unfit L t n
   unfolding costReply
-  cost-only e = by-cases (fullSize L t)
-      (λ f. by-cases (sound L t)
-      (λ s. true-or-false refl (ap isCosts (rw (f, s) at e)))
-      (λ s. inr (sym (ap costNumber (rw (f, s) at e)), f, s)))
-      (λ f. inl (sym (ap costNumber (rw f at e)), f))
+  cost-refused = (only-unfit L t costRefused _ n costTold (λ m. refl) refl, unfit-says L t costRefused _ n)
 
-  cost-unfit : Unfit L t n → costReply L t ≡ costRefused n
-  unfolding costReply
-  cost-unfit (inl (e, f)) = rw (f, e) refl
-  cost-unfit (inr (e, f, s)) = rw (f, s, e) refl
-
-  rounds-only : roundsReply L t ≡ roundsRefused n → Unfit L t n
+  rounds-refused : (roundsReply L t ≡ roundsRefused n) ↔ Unfit L t n
   unfolding roundsReply
-  rounds-only e = by-cases (fullSize L t)
-      (λ f. by-cases (sound L t)
-      (λ s. true-or-false refl (ap isRounds (rw (f, s) at e)))
-      (λ s. inr (sym (ap roundsNumber (rw (f, s) at e)), f, s)))
-      (λ f. inl (sym (ap roundsNumber (rw f at e)), f))
-
-  rounds-unfit : Unfit L t n → roundsReply L t ≡ roundsRefused n
-  unfolding roundsReply
-  rounds-unfit (inl (e, f)) = rw (f, e) refl
-  rounds-unfit (inr (e, f, s)) = rw (f, s, e) refl
+  rounds-refused = (only-unfit L t roundsRefused _ n roundsTold (λ m. refl) refl, unfit-says L t roundsRefused _ n)
 
 -- ---- the writer
 
 module _ (L : Limits) (t : Tables) (buffer : List ℕ) where
   writer-unfit : (n : ℕ) → Unfit L t n → writes L t buffer ≡ writeRefused n
   unfolding writes
-  writer-unfit n (inl (e, f)) = rw (f, e) refl
-  writer-unfit n (inr (e, f, s)) = rw (f, s, e) refl
+  writer-unfit n u = unfit-says L t writeRefused _ n u
 
   writer-short : Usable L t → length buffer < length (textIn L t) → writes L t buffer ≡ writeRefused 42
   unfolding writes writeAnswer isShort
@@ -175,8 +165,8 @@ exact-numbers L = record {
   call-usable = call-usable L;
   preview-refused = preview-refused L;
   list-refused = list-refused L;
-  cost-refused = λ t n. (cost-only L t n, cost-unfit L t n);
-  rounds-refused = λ t n. (rounds-only L t n, rounds-unfit L t n);
+  cost-refused = cost-refused L;
+  rounds-refused = rounds-refused L;
   writer-unfit = writer-unfit L;
   writer-short = writer-short L;
   writer-wrote = writer-wrote L;
