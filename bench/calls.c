@@ -1,5 +1,6 @@
 // Time and stack of every public call, through the C library: 2 and 32 drones; 100, 384, 768, 992, 1,023 and 1,024 stops; nothing, one and 64 dependencies turned; then plans that
-// are ugly on purpose. Microseconds are the best of many; stack is the most that a call wrote of a painted stack. `bench/run` builds and runs it.
+// are ugly on purpose, each the worst of its kind that trying has found. Microseconds are the best of many, and where a call is refused its number follows in brackets; stack is the most that a
+// call wrote of a painted stack. `bench/run` builds and runs it; with a number of repeats as its word it prints a line for each time and stack, for bench/beside.py to read.
 #define _GNU_SOURCE
 #include "conductor.h"
 #include <stdio.h>
@@ -84,9 +85,38 @@ static void one_bucket(int drones, int stops) {
     end();
 }
 
+// The drone that is to have finished before the calls, if any.
+static int finished = -1;
+
+// Drone 0 has a long way to a location, a runner (the last drone) passes it `visits` times at once, and the others wait there for both. A round that is played asks for each of them the waits for the
+// runner, which are met, before it comes to one that is not; where the runner has finished they are met from the first round on.
+static void waiting(int others, int visits, int stops, int runner_finished) {
+    int way = stops - 3 * others - (2 * visits + 1) - 3, meet = way > 2 * visits ? way + 10 : 2 * visits + 10;
+    begin(others + 2);
+    drone(0, way + 3), stop(20000, 0);
+    for (int s = 1; s <= way; s++) stop(20000 + s, s);
+    stop(7, meet), stop(29999, meet + 1);
+    for (int d = 1; d <= others; d++) drone(d, 3), stop(30000 + d, 0), stop(7, meet + 10 + 3 * d), stop(31000 + d, meet + 11 + 3 * d);
+    drone(others + 1, 2 * visits + 1), stop(32000, 0);
+    for (int v = 0; v < visits; v++) stop(7, 2 * v + 1), stop(32001, 2 * v + 2);
+    end();
+    if (runner_finished) finished = others + 1;
+}
+
+// One drone goes to and fro between two locations, and others come to one of them afterwards: many stops at one location, all of one drone.
+static void to_and_fro(int others, int stops) {
+    int own = stops - 3 * others;
+    begin(others + 1);
+    drone(0, own), stop(20000, 0);
+    for (int s = 1; s < own - 1; s++) stop(7 + s % 2, s);
+    if (own > 1) stop(20001, own);
+    for (int d = 1; d <= others; d++) drone(d, 3), stop(30000 + d, 0), stop(7, 5 * own + 10 * d), stop(31000 + d, 5 * own + 10 * d + 1);
+    end();
+}
+
 // ---- the calls
 
-static size_t free_drone, free_dependency, group_n, number;
+static size_t free_drone, may_go, free_dependency, group_n, number, last_record;
 static uint16_t group[CONDUCTOR_DEPENDENCIES];
 
 static void read_plan(void) { number = board_read(text, text_length, CONDUCTOR_LEND(field)).number; }
@@ -100,16 +130,38 @@ static void preview_all(void) { number = board_preview_all(CONDUCTOR_LEND(field)
 static void cost(void) { number = board_cost(CONDUCTOR_LEND(field)).number; }
 static void rounds(void) { number = board_rounds(CONDUCTOR_LEND(field)).number; }
 static void press(void) { number = board_press(CONDUCTOR_LEND(field), 0, 0).number; }
+static void small_plan(void) { number = board_small_plan(CONDUCTOR_SMALL_PLANS - 1, buffer, BUFFER).number; }
 static void nothing(void) {}
+
+// Two refusals of a grant: 41 of a table that is not that of the records, and 40 where the last record, which is not in use, is not zero.
+static void grant_short(void) {
+    number = board_grant(field.drone_count, 1, field.dependency_count, 1, field.names, CONDUCTOR_NAMES, field.stop_counts, CONDUCTOR_DRONES, field.locations, CONDUCTOR_STOPS, field.times, 1,
+                         field.visited, CONDUCTOR_DRONES, field.drone_flags, CONDUCTOR_DRONES, field.dependencies, CONDUCTOR_DEPENDENCIES, free_drone)
+                 .number;
+}
+static void grant_unused(void) { grant(); }
 
 static const struct {
     const char *name;
     void (*call)(void);
-} CALLS[] = {{"read", read_plan}, {"write", write_plan}, {"grant", grant}, {"arrive", arrive}, {"turn", turn}, {"turn_all", turn_all}, {"preview", preview}, {"preview_all", preview_all}, {"cost", cost}, {"rounds", rounds}, {"press", press}};
+} CALLS[] = {{"read", read_plan}, {"write", write_plan}, {"grant", grant}, {"grant_short", grant_short}, {"grant_unused", grant_unused}, {"arrive", arrive}, {"turn", turn}, {"turn_all", turn_all}, {"preview", preview}, {"preview_all", preview_all}, {"cost", cost}, {"rounds", rounds}, {"press", press}, {"small_plan", small_plan}};
 enum { KINDS = sizeof CALLS / sizeof *CALLS };
 
 // A grant that was given is taken back, so that each repeat does the same.
 static void restore(void) { memset(field.drone_flags, 0, sizeof field.drone_flags); }
+
+// Before a call: an arrival wants a drone that is under way, and one refusal a record that is not zero.
+static void make_ready(void (*call)(void)) {
+    if (call == arrive && may_go) field.drone_flags[free_drone] = 1;
+    if (call == grant_unused) field.dependencies[last_record].flags ^= 4;
+}
+
+// After it, likewise.
+static void undo(void (*call)(void)) {
+    if (call == arrive && number == 0) field.visited[free_drone]--;
+    if (call == grant_unused) field.dependencies[last_record].flags ^= 4;
+    restore();
+}
 
 // ---- measuring
 
@@ -122,11 +174,12 @@ static double microseconds(void) {
 static double best_time(void (*call)(void), int repeats) {
     double best = 1e18;
     for (int i = 0; i < repeats; i++) {
+        make_ready(call);
         double start = microseconds();
         call();
         double took = microseconds() - start;
         if (took < best) best = took;
-        restore();
+        undo(call);
     }
     return best;
 }
@@ -150,10 +203,11 @@ static long stack_of(void (*call)(void)) {
     there.uc_link = &here;
     measured = call;
     makecontext(&there, on_painted_stack, 0);
+    make_ready(call);
     swapcontext(&here, &there);
     long i = 0;
     while (i < STACK && painted[i] == PAINT) i++;
-    restore();
+    undo(call);
     return entry - (char *)(painted + i);
 }
 
@@ -176,36 +230,66 @@ static int prepare(int want) {
     turn_all();
     for (free_drone = 0; free_drone < field.drone_count[0]; free_drone++)
         if (board_grant(CONDUCTOR_LEND(field), free_drone).number == 0) break;
+    may_go = free_drone < field.drone_count[0];
+    if (!may_go) free_drone = 0;
     restore();
     return turned;
 }
 
+static int repeats = REPEATS, lines;
+
+static void timed(const char *shape, int k) {
+    double took = best_time(CALLS[k].call, repeats);
+    if (lines) printf("time\t%s\t%s\t%.2f\t%zu\n", shape, CALLS[k].name, took, number);
+    else if (number) printf(" %s %.1f (%zu)", CALLS[k].name, took, number);
+    else printf(" %s %.1f", CALLS[k].name, took);
+}
+
 static void measure(const char *what, int want) {
+    char shape[128];
+    int done = finished;
+    finished = -1;
     read_plan();
     if (number) {
         printf("%-12s is refused by %zu\n", what, number);
         return;
     }
+    if (done >= 0) field.visited[done] = field.stop_counts[done] - 1;
     int turned = prepare(want), stops = 0;
     for (int d = 0; d < field.drone_count[0]; d++) stops += field.stop_counts[d];
-    printf("%-10s %2d drones %4d stops %4d dependencies %2d turned |", what, field.drone_count[0], stops, field.dependency_count[0], turned);
+    sprintf(shape, "%-10s %2d drones %4d stops %4d dependencies %3d turned", what, field.drone_count[0], stops, field.dependency_count[0], turned);
+    if (!lines) printf("%s |", shape);
     for (int k = KINDS - 1; k >= 0; k--) {
-        if (k == 0 && turned) continue;
-        printf(" %s %.1f", CALLS[k].name, best_time(CALLS[k].call, REPEATS));
+        if (CALLS[k].call == read_plan && (turned || done >= 0)) continue;
+        if (CALLS[k].call == small_plan && stops > 1) continue; // it is lent no table
+        timed(shape, k);
         int flips = CALLS[k].call == turn || CALLS[k].call == turn_all;
-        if (flips && REPEATS % 2) CALLS[k].call();
+        if (flips && repeats % 2) CALLS[k].call();
         long s = stack_of(CALLS[k].call);
         if (flips) CALLS[k].call();
         if (s > most[k]) most[k] = s;
     }
-    printf("\n");
+    if (!lines) printf("\n");
     fflush(stdout);
 }
 
-int main(void) {
+// The last record that the library looks at: tables may be longer than its full size.
+static void find_last_record(void) {
+    crossings(2, 100), read_plan();
+    for (last_record = CONDUCTOR_DEPENDENCIES - 1; last_record > 0; last_record /= 2) {
+        make_ready(grant_unused), cost();
+        size_t refused = number;
+        undo(grant_unused);
+        if (refused) return;
+    }
+}
+
+int main(int argc, char **argv) {
     static const int DRONES[] = {2, 32}, STOPS[] = {100, 384, 768, 992, 1023, 1024}, TURNED[] = {0, 1, 64};
+    if (argc > 1) repeats = atoi(argv[1]), lines = 1;
     painted = mmap(0, STACK, PROT_READ | PROT_WRITE, MAP_PRIVATE | MAP_ANONYMOUS, -1, 0);
-    printf("microseconds, best of %d\n", REPEATS);
+    find_last_record();
+    if (!lines) printf("microseconds, best of %d\n", repeats);
     for (int d = 0; d < 2; d++)
         for (int s = 0; s < 6; s++)
             for (int t = 0; t < 3; t++) {
@@ -215,7 +299,13 @@ int main(void) {
     queue(32, 32), measure("queue", 0);
     column(32, 32), measure("column", 0);
     one_bucket(32, 32), measure("bucket", 0);
-    printf("bytes of stack, the most seen (the harness itself %ld)\n", stack_of(nothing));
-    for (int k = 0; k < KINDS; k++) printf("  %-12s %ld\n", CALLS[k].name, most[k]);
+    to_and_fro(0, 1), measure("alone", 0);
+    to_and_fro(0, 1024), measure("to and fro", 0);
+    to_and_fro(4, 1024), measure("to and fro", 0);
+    waiting(30, 51, 1024, 0), measure("waiting", 0);
+    waiting(20, 87, 1024, 0), measure("waiting", 0);
+    waiting(20, 87, 1024, 1), measure("run out", 0);
+    if (!lines) printf("bytes of stack, the most seen (the harness itself %ld)\n", stack_of(nothing));
+    for (int k = 0; k < KINDS; k++) printf(lines ? "stack\t%s\t%ld\n" : "  %-12s %ld\n", CALLS[k].name, most[k]);
     return 0;
 }

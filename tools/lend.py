@@ -20,6 +20,7 @@ from functools import lru_cache
 
 # the crates with functions over the lent slice, each after those that it stands on, and the module of each
 CARRIERS = {"records": "lent", "conductor": "calls", "dispatch": "requests", "handset": "button", "presses": "runs", "board": "exports"}
+PASS_ON = ("conductor", "board")  # crates whose functions pass their shared slices on and look at none: the lengths are left out
 JOBS = int(os.environ.get("JOBS", "2"))
 RECORD, ARRAY = "Dependency", "[u16; 4]"
 HOME = "use tables::entries::Dependency;"  # where the record is declared: its users get the array's name instead
@@ -160,7 +161,7 @@ def carry(text, crate, where, known):  # the text with the record's row for the 
     subs = []
     def sub(a, b):
         subs.append((rf"\({flex(a)}\)", b if " " not in b else f"({b})"))
-        subs.append((flex(a), b))
+        subs.append((flex(a) + r"(?!\d)", b))
     # behind a reference the record is its bare name
     subs.append((rf"({re.escape(S)}\.tyRef\s+(?:\([^()]*\)|\S+)\s+{re.escape(S)}\.(?:imm|mut)\s+)\({flex(arr)}\)", r"\1Rec.behind"))
     subs.append((rf"({re.escape(S)}\.tyRef\s+(?:\([^()]*\)|\S+)\s+{re.escape(S)}\.(?:imm|mut)\s+\({re.escape(S)}\.tyArray\s+)\({flex(arr)}\)", r"\1Rec.behind"))
@@ -174,7 +175,7 @@ def carry(text, crate, where, known):  # the text with the record's row for the 
     I = al.get("borrow.Rule.Array.Init", "Init")
     sub(f"{I}.room-arr 𝓤 H A W {elem} 4 0 4 {P}.refl", f"{loc}.room-whole 𝓤 H A W Rec.rt Rec.mir {P}.refl")
     Wh = al.get("borrow.Rule.Array.Whole", "Whole")
-    subs.append((flex(f"{Wh}.mem-arr 𝓤 H A W {elem} 4"), f"{loc}.mem-whole 𝓤 H A W Rec.rt"))
+    subs.append((flex(f"{Wh}.mem-arr 𝓤 H A W {elem} 4") + r"(?!\d)", f"{loc}.mem-whole 𝓤 H A W Rec.rt"))
     subs.append((flex(f"{Wh}.arr-mem 𝓤 H A W {elem} 4 tt"), f"{loc}.whole-mem 𝓤 H A W Rec.rt"))
     # what a read past the end gives
     subs.append((r"(\(λ x\. x\)\s+)List\.\[\](\s+\(λ x\. Unit\))", r"\1Rec.default\2"))
@@ -183,13 +184,13 @@ def carry(text, crate, where, known):  # the text with the record's row for the 
     sub(f"{K}.eArr-laws ({K}.eInt {S}.w16) ({K}.eInt-laws {S}.w16) 4", "Rec.elem-laws")
     for kind, name in (("pArr", "param"), ("rArr", "result")):
         sub(f"{K}.{kind} ({K}.eInt {S}.w16) ({K}.eInt-laws {S}.w16) 4", f"Rec.{name}")
-    subs.append((flex(f"{A}.array-lawful 𝓤 H A W {elem} (") + r"\S+" + flex(f".uint-lawful 𝓤 H A W {S}.w16) 4"), "Rec.lawful 𝓤 H A W"))
-    subs.append((flex(f"{K}.arr-reads 𝓤 H A W ({K}.eInt {S}.w16) ({K}.eInt-laws {S}.w16) 4"), "Rec.reads 𝓤 H A W"))
-    subs.append((flex(f"{K}.arr-yields 𝓤 H A W ({K}.eInt {S}.w16) ({K}.eInt-laws {S}.w16) 4"), "Rec.yields 𝓤 H A W"))
+    subs.append((flex(f"{A}.array-lawful 𝓤 H A W {elem} (") + r"\S+" + flex(f".uint-lawful 𝓤 H A W {S}.w16) 4") + r"(?!\d)", "Rec.lawful 𝓤 H A W"))
+    subs.append((flex(f"{K}.arr-reads 𝓤 H A W ({K}.eInt {S}.w16) ({K}.eInt-laws {S}.w16) 4") + r"(?!\d)", "Rec.reads 𝓤 H A W"))
+    subs.append((flex(f"{K}.arr-yields 𝓤 H A W ({K}.eInt {S}.w16) ({K}.eInt-laws {S}.w16) 4") + r"(?!\d)", "Rec.yields 𝓤 H A W"))
     for a, b in subs:
         text = re.sub(a, b, text)
-    for left in (arr, f"{elem} 4", f"({K}.eInt {S}.w16)"):
-        for m in re.finditer(r"(?<!\.pShrS )(?<!\.pMutS )" + flex(left), re.sub(r"\s+", " ", text)):
+    for left in (arr, f"{elem} 4", f"({K}.eInt {S}.w16) ({K}.eInt-laws {S}.w16) 4"):
+        for m in re.finditer(r"(?<!\.pShrS )(?<!\.pMutS )" + flex(left) + r"(?!\d)", re.sub(r"\s+", " ", text)):
             print("left over:", where, m.string[max(0, m.start() - 80):m.end()], file=sys.stderr)
     # the modules of the functions carried over stand below Derived
     text = derived(text, known)
@@ -197,96 +198,270 @@ def carry(text, crate, where, known):  # the text with the record's row for the 
     uses = f"use {row} as Rec\n" if "Rec." in text else ""
     return uses + ("use borrow.Rule.Local as Loc\n" if "Loc." in text else "") + text
 
-# ---- closed terms that come again are named once
+# ---- the text in logical lines: (indent, text), a declaration's own text on one line
 
-BRACKET = re.compile(r"[()]")
+BRACKET = re.compile(r'"[^"]*"|[(){}]')
+STEP = {"(": 1, "{": 1, ")": -1, "}": -1}
+
+def tidy(text):
+    text = re.sub(r"\s+", " ", text).strip().replace("( ", "(").replace(" )", ")")
+    return re.sub(r";\s*\}", " }", re.sub(r",\s*\)", ")", text))
+
+def group(text, at):  # the end of the brackets that open at `at`
+    depth = 0
+    for m in BRACKET.finditer(text, at):
+        depth += STEP.get(m.group(), 0)
+        if depth == 0:
+            return m.end()
+    return len(text)
+
+def logical(text):
+    out, base, depth = [], None, 0
+    for line in text.split("\n"):
+        word, pad = line.strip(), len(line) - len(line.lstrip())
+        if not word:
+            base = base if depth else None
+        elif out and (depth or (base is not None and pad > base)):
+            out[-1][1] += " " + word
+        else:
+            out.append([pad, word])
+            base, depth = pad, 0
+        depth += sum(STEP.get(m.group(), 0) for m in BRACKET.finditer(word))
+        if word.endswith(" where") and not depth:
+            base = None
+    return [(pad, tidy(text)) for pad, text in out]
+
+def laid_wide(lines, width=360):  # broken at a width, but inside no tuple and no record: the layout would give each part of such a one a line
+    out = []
+    for pad, text in lines:
+        whole, stack = bytearray(len(text)), []
+        for m in re.finditer(r'"[^"]*"|[(){},]', text):
+            if m.group() in ("(", "{"):
+                stack.append([m.start(), m.group() == "{"])
+            elif m.group() == "," and stack:
+                stack[-1][1] = True
+            elif m.group() in (")", "}") and stack:
+                start, keeps = stack.pop()
+                if keeps:
+                    whole[start:m.end()] = b"\1" * (m.end() - start)
+        rows, start, last = [], 0, None
+        for end in [m.start() for m in re.finditer(" ", text) if m.start() > 8 and not whole[m.start()]] + [len(text)]:
+            if end - start > width - pad and last is not None and last > start:
+                rows.append(text[start:last])
+                start = last + 1
+            last = end
+        out += [" " * (pad if i == 0 else pad + 4) + row for i, row in enumerate(rows + [text[start:]])]
+    return "\n".join(out) + "\n"
+
+# ---- what comes again is named once
 
 @lru_cache(maxsize=None)
 def closed(term):
     return not re.search(r"[λ{}]", term) and all(re.fullmatch(r"[(),]|\d+|tt|[A-Z][\w'·]*\.\S+", w) for w in re.findall(r"[(),]|[^\s(),]+", term))
 
-@lru_cache(maxsize=None)
-def tidy(term):
-    return re.sub(r"\s+", " ", term).replace("( ", "(").replace(" )", ")").replace(", )", ")").replace(",)", ")")
+def definitions(lines, pattern):  # of each definition whose name is of the pattern: where it begins, its name, type and right side
+    for i in range(len(lines) - 1):
+        m = re.match(rf"abbrev (?:pub )?({pattern}) : (.*)", lines[i][1])
+        if m and lines[i + 1][1].startswith(m.group(1) + " = "):
+            yield i, m.group(1), m.group(2), lines[i + 1][1][len(m.group(1)) + 3:]
 
-def group(text, at):  # the end of the round brackets that open at `at`
-    depth = 0
-    for m in BRACKET.finditer(text, at):
-        depth += 1 if m.group() == "(" else -1
-        if depth == 0:
-            return m.end()
-    return len(text)
+def renamed(lines, names):
+    if not names:
+        return lines
+    use = re.compile(r"(?<![\w·.'\-])(?:" + "|".join(sorted(map(re.escape, names), key=len, reverse=True)) + r")(?![\w·'\-])")
+    return [(pad, use.sub(lambda m: names[m.group()], text)) for pad, text in lines]
 
-def named(text):
-    al = aliases(text)
-    S, Row, RT = al.get("mir.Syntax"), al.get("borrow.Table.Row"), al.get("denote.RattleType")
-    head, body = re.match(r"(?s)((?:--[^\n]*\n|use [^\n]*\n)*)(.*)", text).groups()
-    if not S or not Row:
-        return text
-    defs = []
-    def name(kind, heads, ty):
-        nonlocal body
-        while True:
-            seen = {}
-            for m in re.finditer(r"\((?=\s*(?:" + heads + r")\b)", body):
-                raw = body[m.start():group(body, m.start())]
-                term = tidy(raw)
+def said_once(lines, pattern):  # of definitions that say the same the first is kept
+    first, names, gone = {}, {}, set()
+    for i, name, ty, body in definitions(lines, pattern):
+        kept = first.setdefault((lines[i][0], ty, body), name)
+        if kept != name:
+            names[name] = kept
+            gone |= {i, i + 1}
+    return renamed([line for i, line in enumerate(lines) if i not in gone], names)
+
+def steps_gone(lines):  # a step that asks and gives nothing has the transformer of the one after it
+    names, gone = {}, set()
+    for i, name, _, body in definitions(lines, r"at\d+"):
+        m = re.fullmatch(r"λ Ψ\. (at\d+) Ψ", body)
+        if m:
+            names[name] = names.get(m.group(1), m.group(1))
+            gone |= {i, i + 1}
+    return renamed([line for i, line in enumerate(lines) if i not in gone], names)
+
+def locals_shared(lines):  # a context over the same table of locals as another cites it
+    table = re.compile(r"locals = (.*?); slots")
+    first = {table.search(body).group(1): name for _, name, _, body in reversed(list(definitions(lines, r"T\d+")))}
+    return [(pad, table.sub(lambda m: f"locals = {first[m.group(1)]} .locals; slots" if m.group(1) in first else m.group(), text) if re.match(r"G\d+ = ", text) else text) for pad, text in lines]
+
+def used_once_gone(lines, pattern, bound=10**6):  # a definition that is used once and is not long stands where it is used
+    for name, body in [(name, body) for _, name, _, body in definitions(lines, pattern)] + derivations(lines, pattern):
+        use = re.compile(r"(?<![\w·.'\-])" + re.escape(name) + r"(?![\w·'\-])")
+        at = next(i for i, (_, text) in enumerate(lines) if text.startswith(name + " = "))
+        body = lines[at][1][len(name) + 3:]
+        places = [i for i, (_, text) in enumerate(lines) if i not in (at - 1, at) and use.search(text)]
+        if len(places) == 1 and len(use.findall(lines[places[0]][1])) == 1 and len(body) < bound:
+            pad, text = lines[places[0]]
+            alone = re.search(r"locals = " + re.escape(name) + r";", text)
+            lines[places[0]] = (pad, use.sub(lambda m: body if alone else f"({body})", text))
+            del lines[at - 1:at + 1]
+    return lines
+
+def models_folded(lines):  # a model that is used once, by the next one over the same facts, stands there
+    for name, body in [(name, body) for _, name, _, body in definitions(lines, r"m\d+")]:
+        at = next(i for i, (_, text) in enumerate(lines) if text.startswith(name + " = "))
+        m = re.match(r"λ (before(?: given)?)\. (.*)", lines[at][1][len(name) + 3:])
+        use = re.compile(r"(?<![\w·.'\-])" + name + r"(?![\w·'\-])")
+        places = [i for i, (_, text) in enumerate(lines) if i not in (at - 1, at) and use.search(text)]
+        if m and len(places) == 1 and len(use.findall(lines[places[0]][1])) == 1:
+            pad, text = lines[places[0]]
+            if re.match(rf"m\d+ = λ {m.group(1)}\. ", text) and f"({name} {m.group(1)})" in text and len(m.group(2)) < 600:
+                lines[places[0]] = (pad, text.replace(f"({name} {m.group(1)})", f"({m.group(2)})"))
+                del lines[at - 1:at + 1]
+    return lines
+
+def derivations(lines, pattern):  # the same of d0, d1 and so on, which are no abbreviations
+    return [(m.group(1), "") for _, text in lines for m in [re.match(rf"({pattern}) = Typed\.(?:g-pre|s-seq) ", text)] if m] if pattern.startswith("d") else []
+
+def lengths_gone(lines):  # without the steps at the start that tell the lengths of shared slices, where the rest follows them at once
+    text_at = {i: text for i, (_, text) in enumerate(lines)}
+    chain, last, gone, names = [], "Start", set(), {}
+    while True:
+        i = next((i for i, text in text_at.items() if re.match(r"pub record After-shared-slice-known\d* : Type 0 where", text) and text_at.get(i + 1) == f"pub before : {last}"), None)
+        if i is None:
+            break
+        last = text_at[i].split()[2]
+        own = next(j for j, text in text_at.items() if text == f"pub record {last}·own : Type 0 where")
+        step = re.match(r"pub given : (s\d+) \.gives ", text_at[own + 1])
+        if not step:
+            return lines
+        chain.append((text_at[i + 2].split()[1], step.group(1)))
+        gone |= {i, i + 1, i + 2, own - 1, own, own + 1}
+    if not any(chain and re.match(r"laid = λ c\. (?:λ \S+\. ){%d}" % len(chain), text) for text in text_at.values()):
+        return lines
+    steps = "|".join(step for _, step in chain)
+    for i, text in text_at.items():
+        m = re.match(rf"abbrev (s\d+|pub m\d+) :", text)
+        if m and re.match(rf"(?:({steps}) = |m\d+ = λ before given\. ({steps}) \.next )", text_at[i + 1]):
+            gone |= {i, i + 1}
+            if m.group(1).startswith("pub"):
+                model = m.group(1)[4:]  # the last of them
+        m = re.match(rf"(at\d+) = λ Ψ\. Typed\.give (?:{steps}) \((at\d+) Ψ\)|(d\d+) = Typed\.g-pre .* \(Typed\.give (?:{steps})\) at\d+ .* (d\d+)$", text)
+        if m:
+            name, for_it = [x for x in m.groups() if x]
+            names[name] = names.get(for_it, for_it)
+            gone |= {i - 1, i}
+    lines = renamed([line for i, line in enumerate(lines) if i not in gone], names | {last: "Start"})
+    field, n = chain[-1][0], len(chain)
+    def shorter(m):
+        path = m.group(1).split()
+        return "".join(" " + w for w in path[n:]) + " ." + m.group(2) if len(path) >= n else m.group()
+    over_start, out = {model}, []  # the models that are of the start and of the last length
+    for pad, text in lines:
+        text = re.sub(r"((?: \.before)+) \.(κs|args|good|pre)\b", shorter, text)
+        m = re.match(rf"abbrev pub (m\d+) : \(before : \S+\) → (?=\(given : {chain[-1][1]} \.gives )", text)
+        if m:
+            over_start.add(m.group(1))
+            text = f"abbrev pub {m.group(1)} : (before : Start) → " + text[group(text, m.end()) + 3:]
+        if re.match(r"(m\d+) = λ before given\. ", text) and text.split()[0] in over_start:
+            text = text.replace("λ before given. ", "λ before. ")
+        if text.startswith("laid = λ c. "):
+            binders = re.match(r"laid = λ c\. ((?:λ \S+\. ){%d})" % n, text).group(1)
+            text = "laid = λ c. " + text[len("laid = λ c. ") + len(binders):]
+            for (f, _), g in zip(chain, re.findall(r"λ (\S+)\. ", binders)):
+                text = text.replace(f"record {{ before = c; {f} = record {{ given = {g} }} }}", "c")
+        def of_start(m):
+            start = m.group(2) or m.group(3)
+            return (f"m0 ({start} .κs) ({start} .args)" if m.group(1) == model else f"{m.group(1)} ({start})" if " " in start else f"{m.group(1)} {start}") if m.group(1) in over_start else m.group()
+        text = re.sub(rf"\b(m\d+) (?:\([^()]* \.before\) \(([^()]*) \.{field} \.given\)|(before|c) (?:given|g(?:'\d*|'')?)(?=[) ]|$))", of_start, text)
+        out.append((pad, text))
+    return out
+
+def cited(lines, terms, form="{}"):  # each term of `terms` by its name, where it stands in the form
+    for term in sorted(terms, key=len, reverse=True):
+        lines = [(pad, text.replace(form.format(term), form.format(terms[term]))) for pad, text in lines]
+    return lines
+
+def defined(lines, at, pad, terms):  # definitions of the names, before the line `at`: (type, term) by name
+    return lines[:at] + [line for name, (ty, term) in terms.items() for line in ((pad, f"abbrev {name} : {ty}"), (pad, f"{name} = {term}"))] + lines[at:]
+
+def arguments_named(lines):  # the arguments of a call, which stand at five places: at contexts with the same table of locals
+    locals_of = {name: re.search(r"locals = (.*?); slots", body).group(1) for pattern in (r"T\d+", r"G\d+") for _, name, _, body in definitions(lines, pattern)}
+    terms = {}
+    for _, text in lines:
+        for m in re.finditer(r"\bCall\.callB(?:To)? (\S+) .*?(T\d+) (?=\()", text):
+            raw = text[m.end():group(text, m.end())]
+            if len(raw) > 60:
+                terms.setdefault((locals_of[m.group(2)], raw), (f"args·{len(terms)}", (f"ArgsT {m.group(1)} ({m.group(2)} .locals)", raw)))
+    for (table, raw), (x, _) in terms.items():
+        at_table = re.compile(r"([TG]\d+) " + re.escape(raw))
+        lines = [(pad, at_table.sub(lambda m: f"{m.group(1)} {x}" if locals_of[m.group(1)] == table else m.group(), text) if raw in text else text) for pad, text in lines]
+    at = max((i + 2 for i, *_ in definitions(lines, r"T\d+")), default=0)
+    return [(0, "use borrow.Fn.Args.{ArgsT}")] * bool(terms) + defined(lines, at, 0, dict(terms.values()))
+
+def slots_named(lines, life):  # the slots of the lifetimes, which stand at every point of the program
+    places = list(definitions(lines, r"G\d+"))
+    seen = [m.group(1) for *_, body in places for m in [re.search(r"slots = (.*) \}$", body)] if m and len(m.group(1)) > 30]
+    names = {raw: f"slots·{k}" for k, raw in enumerate(r for r in dict.fromkeys(seen) if seen.count(r) > 1)}
+    if not names:
+        return lines
+    at = places[0][0]
+    return defined(cited(lines, names, "slots = {} }}"), at, lines[at][0], {x: (f"List.List {life}", raw) for raw, x in names.items()})
+
+def types_named(lines, S):  # closed types
+    terms = {}
+    while True:
+        seen = {}
+        for _, text in lines:
+            for m in re.finditer(rf"\((?={re.escape(S)}\.ty\w+ )", text):
+                term = text[m.start():group(text, m.start())]
                 if len(term) > 40 and closed(term):
-                    seen.setdefault(term, [0, set()])
-                    seen[term][0] += 1
-                    seen[term][1].add(raw)
-            # the shortest first, so that longer ones cite it
-            todo = sorted((t for t, (n, _) in seen.items() if n > 2 and (n - 1) * (len(t) - 4) > 120), key=len)
-            if not todo:
-                return
-            t = todo[0]
-            x = f"{kind}{len([d for d in defs if d[0].startswith(kind)])}"
-            for raw in seen[t][1]:
-                body = body.replace(raw, x)
-            defs.append((x, ty, t[1:-1].strip()))
-    name("ty·", re.escape(S) + r"\.ty\w+", f"{S}.Ty")
-    # the rows of the tables: (place, row)
-    rows = {}
-    def entry(m):
-        k, r = m.group(1), tidy(m.group(2)).rstrip(", ")
-        if len(r) < 16 or not closed(r.replace("ty·", "X.")):
-            return m.group(0)
-        rows.setdefault(r, f"row·{len(rows)}")
-        return f"({k}, {rows[r]})"
-    def table(m):
-        t, out, i = m.group(0), "", 0
-        for e in re.finditer(r"\(\s*(\d+),", t):
-            if e.start() < i:
-                continue
-            end = group(t, e.start())
-            inner = re.match(r"(?s)\(\s*(\d+),(.*)\)$", t[e.start():end])
-            out += t[i:e.start()] + entry(inner)
-            i = end
-        return re.sub(r"\s+", " ", out + t[i:]).replace("List._∷_ (", "List._∷_ (")
-    body = re.sub(r"(?ms)^t\d+ = .*?(?=\n\n)", table, body)
-    rowdefs = "".join(f"abbrev {x} : {Row}.Row\n{x} = {r}\n\n" for r, x in rows.items())
-    return head + "\n" + "".join(f"abbrev {x} : {t}\n{x} = {d}\n\n" for x, t, d in defs) + rowdefs + body.lstrip("\n")
+                    seen[term] = seen.get(term, 0) + 1
+        todo = sorted((t for t, n in seen.items() if n > 2 and (n - 1) * (len(t) - 4) > 120), key=len)
+        if not todo:
+            return lines, terms
+        x = f"ty·{len(terms)}"  # the shortest first, so that longer ones cite it
+        terms[x] = (f"{S}.Ty", todo[0][1:-1])
+        lines = cited(cited(lines, {todo[0]: x}), {todo[0][1:-1]: x}, "ty = {};")
 
-# ---- the lines, wide: a declaration's own text goes on as few lines as its layout lets it
+def rows_named(lines, row):  # the rows of the tables: (place, row)
+    names = {}
+    def table(text):
+        out, at = "", 0
+        for m in re.finditer(r"\((\d+), ", text):
+            if m.start() >= at:
+                end = group(text, m.start())
+                term = text[m.end():end - 1]
+                if len(term) >= 16 and closed(term.replace("ty·", "X.")):
+                    out += text[at:m.end()] + names.setdefault(term, f"row·{len(names)}") + ")"
+                    at = end
+        return out + text[at:]
+    lines = [(pad, table(text)) if re.match(r"t\d+ = ", text) else (pad, text) for pad, text in lines]
+    return lines, {x: (f"{row}.Row", term) for term, x in names.items()}
 
-def wide(text, width=360):
-    out, base = [], None  # base: the indent of the line that the next ones go on
-    for line in text.split("\n"):
-        word = line.strip()
-        pad = len(line) - len(line.lstrip())
-        opens = re.match(r"(abbrev|pub|unfoldable|module|use|mod|open|record|unfolding)\b|--", word)
-        if not word or base is None or pad <= base or (opens and not re.match(r"record \{", word)):
-            out.append(line)
-            block = re.match(r"(pub )?record\b", word) or word.endswith(" where") or word.startswith(("use ", "mod ", "--")) or re.match(r"pub \S+ :$", word)
-            base = None if not word else (pad if not (block and word.endswith("where")) else None)
-            continue
-        if len(out[-1]) + len(word) < width:
-            out[-1] = out[-1].rstrip() + " " + word
-        else:
-            out.append(" " * (base + 4) + word)
-        if word.endswith(" where"):
-            base = None
-    return "\n".join(out)
+def named(text, passes_on):
+    al = aliases(text)
+    S, Row = al.get("mir.Syntax"), al.get("borrow.Table.Row")
+    lines = logical(text)
+    if not S or not Row:
+        return lines
+    if passes_on:
+        lines = lengths_gone(lines)
+    lines, types = types_named(lines, S)
+    lines, rows = rows_named(lines, Row)
+    for pattern in (r"t\d+", r"T\d+"):
+        lines = said_once(lines, pattern)
+    lines = slots_named(arguments_named(lines), f"{Row}.Life")
+    for pattern in (r"G\d+", r"r·\d+", r"ps·\d+"):
+        lines = said_once(lines, pattern)
+    lines = used_once_gone(used_once_gone(locals_shared(steps_gone(lines)), r"t\d+"), r"d\d+", 900)
+    lines = models_folded(lines)
+    at = next(i for i, (_, line) in enumerate(lines) if not line.startswith(("--", "use ")))
+    return defined(lines, at, 0, types | rows)
+
+def tied(lines, derivation):  # of the file that ties a function to its derivation: what the derivation has
+    gone = {j for i, name, _, _ in definitions(lines, r"After-shared-slice-known\d*") if name not in derivation for j in (i, i + 1)}
+    return [line for i, line in enumerate(lines) if i not in gone]
 
 # ---- what is stored
 
@@ -301,7 +476,9 @@ def stored(work, crate, f, known):  # stores the derivation of a function; wheth
     for part, folder in PARTS.items():
         text = carry(texts[part].split("\n", 1)[1], crate, f"{f}/{part}", known)
         head = f"-- `{crate}::{module}::{f}`: {part}, carried over by tools/lend.py. Assumes nothing.\n"
-        write(f"crates/{crate}/proofs/{folder.format(f=f, module=module)}/{part}.antt", head + wide(named(text) if part == "Lts" else text))
+        lines = named(text, crate in PASS_ON) if part == "Lts" else tied(logical(text), derivation) if part == "Tie" else logical(text)
+        derivation = {word for _, line in lines for word in line.split()} if part == "Lts" else None
+        write(f"crates/{crate}/proofs/{folder.format(f=f, module=module)}/{part}.antt", head + laid_wide(lines))
     write(f"crates/{crate}/proofs/Derived/{f}.antt", "pub mod Kinds\npub mod Reads\npub mod Lts\n")
     if not os.path.exists(proof_of(crate, f)):
         write(proof_of(crate, f), first_proof(work, crate, f, made, known))

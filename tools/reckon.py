@@ -3,13 +3,14 @@
 
   tools/reckon.py < INPUT            prints what `field` must print
   tools/reckon.py --against PROGRAM [COUNT [SEED]]
-                                     makes COUNT inputs, valid and damaged, and compares the program's output with the reckoning
+                                     makes COUNT inputs, valid and damaged, and those at the limits of the text and of the input, and compares the program's output with the reckoning
   tools/reckon.py --full             prints an input of full size: 32 drones of 32 stops, 1,984 dependencies, call lines up to 65,536 bytes
 """
 import random
 import re
 import subprocess
 import sys
+import time
 
 TEXT, DRONES, STOPS, NAME, LOCATION, TIME, DEPENDENCIES, INPUT = 32768, 32, 1024, 24, 65535, 1000000, 2048, 65536
 LETTERS = set(b"abcdefghijklmnopqrstuvwxyzABCDEFGHIJKLMNOPQRSTUVWXYZ0123456789-")
@@ -322,20 +323,66 @@ def full():
         d = (d + 1) % DRONES
 
 
-def against(program, count, seed):
-    rng, seen = random.Random(seed), {}
-    for i in range(count):
+def filled(data, length, *lines):
+    """The data and lines of two lengths, one byte apart, until the length is met exactly."""
+    more = length - len(data)
+    longer = more % len(lines[0])
+    return data + lines[0] * (more // len(lines[0]) - longer) + lines[1] * longer
+
+
+def limits(rng):
+    """Inputs at the limits of the input and of the text, one and three bytes past them and twice as long: valid calls after a plan, the last of them cut, a plan without its end, and bytes that are
+    nothing."""
+    routes = [[(1, 0), (5, 1), (2, 2)], [(3, 0), (5, 4), (4, 5)]]
+    taken = text_of(rng, routes)
+    begun = taken[: -len(b"end=plan\n")]
+    for length in [n for limit in (TEXT, INPUT) for n in (limit - 1, limit, limit + 1, limit + 3, 2 * limit + 1)]:
+        calls = filled(taken, length, b"cost=0\n", b"grant=9\n")
+        yield calls
+        yield calls[:-1]
+        yield calls[:-1] + b"0"
+        yield filled(begun, length, b"go=6@9\n", b"go=66@9\n")
+        yield filled(begun, length - len(b"end=plan\n"), b"go=6@9\n", b"go=66@9\n") + b"end=plan\n"
+        yield b"\n" * length
+        yield b"a" * length
+
+
+def printed(program, data, pieces):
+    """What the program prints; the input comes in so many pieces, as from a slow sender."""
+    if pieces == 1:
+        return subprocess.run([program], input=data, capture_output=True).stdout
+    with subprocess.Popen([program], stdin=subprocess.PIPE, stdout=subprocess.PIPE) as run:
+        try:
+            for i in range(pieces):
+                run.stdin.write(data[i * len(data) // pieces : (i + 1) * len(data) // pieces])
+                run.stdin.flush()
+                time.sleep(0.002)
+        except BrokenPipeError:
+            pass
+        return run.communicate()[0]
+
+
+def inputs(rng, count):
+    """Those at the limits, whole and in pieces; then plans with calls, some of them damaged."""
+    for data in limits(rng):
+        yield data, 1
+        yield data, 3
+    for _ in range(count):
         routes = plan(rng)
         data = spelled(rng, text_of(rng, routes)) + calls_of(rng, routes)
-        if rng.random() < 0.3:
-            data = damaged(rng, data)
-        got, want = subprocess.run([program], input=data, capture_output=True).stdout, reckon(data)
+        yield damaged(rng, data) if rng.random() < 0.3 else data, 1
+
+
+def against(program, count, seed):
+    seen, i = {}, -1
+    for i, (data, pieces) in enumerate(inputs(random.Random(seed), count)):
+        got, want = printed(program, data, pieces), reckon(data)
         if got != want:
-            sys.exit("input %d of seed %d differs:\n%s--- printed\n%s--- reckoned\n%s" % (i, seed, data.decode("latin1"), got.decode("latin1"), want.decode("latin1")))
+            sys.exit("input %d of seed %d, %d bytes, differs:\n%s--- printed\n%s--- reckoned\n%s" % (i, seed, len(data), data.decode("latin1"), got.decode("latin1"), want.decode("latin1")))
         for line in want.split(b"\n"):
             key = line.split(b":")[0] if not line.startswith(b"cost") else b"cost"
             seen[key] = seen.get(key, 0) + 1
-    print("%d inputs agree; lines seen: %s" % (count, ", ".join("%s %d" % (k.decode(), n) for k, n in sorted(seen.items()) if k)))
+    print("%d inputs agree, %d of them at the limits; lines seen: %s" % (i + 1, i + 1 - count, ", ".join("%s %d" % (k.decode(), n) for k, n in sorted(seen.items()) if k)))
 
 
 if __name__ == "__main__":

@@ -1,7 +1,8 @@
 /* The field conductor for C and C++: the proved calls of crate `board`, linked from libboard.a (`rt staticlib board`).
  *
  * Every table is a pointer and a number of entries. A call asks for no more than this: each pointer is valid for its number of
- * entries, and no two tables overlap. Tables may be longer than their full size; entries past it are neither read nor written.
+ * entries, no two tables overlap, and nobody else writes the tables meanwhile: calls on one set of tables are made one at a time.
+ * Calls on different sets may run at once. Tables may be longer than their full size; entries past it are neither read nor written.
  * Nothing is kept between calls, no call allocates, and as measured none uses 60,000 bytes of stack. Any content of the tables and any
  * number is answered: what is wrong is refused by a number, and a refused call other than a reading changes nothing. docs/REFUSALS.md
  * says what each number means. */
@@ -76,6 +77,53 @@ typedef struct {
     (t).drone_count, 1, (t).dependency_count, 1, (t).names, CONDUCTOR_NAMES, (t).stop_counts, CONDUCTOR_DRONES, (t).locations,             \
         CONDUCTOR_STOPS, (t).times, CONDUCTOR_STOPS, (t).visited, CONDUCTOR_DRONES, (t).drone_flags, CONDUCTOR_DRONES, (t).dependencies,   \
         CONDUCTOR_DEPENDENCIES
+
+/* The layout that the library has too, and that the bindings of other languages go by: where each field lies, how wide it is, and how
+ * large the whole is. A compiler that lays them out otherwise stops here */
+#if defined(__cplusplus) && __cplusplus >= 201103L
+#define CONDUCTOR_HOLDS_(NAME, CONDITION) static_assert(CONDITION, #NAME)
+#elif defined(__STDC_VERSION__) && __STDC_VERSION__ >= 201112L
+#define CONDUCTOR_HOLDS_(NAME, CONDITION) _Static_assert(CONDITION, #NAME)
+#else
+#define CONDUCTOR_HOLDS_(NAME, CONDITION) typedef char NAME[(CONDITION) ? 1 : -1]
+#endif
+#define CONDUCTOR_WHOLE_(TYPE, BYTES) CONDUCTOR_HOLDS_(conductor_layout_of_##TYPE, sizeof(TYPE) == BYTES)
+#define CONDUCTOR_FIELD_(TYPE, FIELD, AT, BYTES)                                                                                           \
+    CONDUCTOR_HOLDS_(conductor_layout_of_##TYPE##_##FIELD, offsetof(TYPE, FIELD) == AT && sizeof(((TYPE *)0)->FIELD) == BYTES)
+CONDUCTOR_WHOLE_(size_t, 8);
+CONDUCTOR_FIELD_(conductor_dependency, first_stop, 0, 2);
+CONDUCTOR_FIELD_(conductor_dependency, second_stop, 2, 2);
+CONDUCTOR_FIELD_(conductor_dependency, first_drone, 4, 1);
+CONDUCTOR_FIELD_(conductor_dependency, second_drone, 5, 1);
+CONDUCTOR_FIELD_(conductor_dependency, flags, 6, 1);
+CONDUCTOR_FIELD_(conductor_dependency, reserved, 7, 1);
+CONDUCTOR_WHOLE_(conductor_dependency, 8);
+CONDUCTOR_FIELD_(conductor_answer, number, 0, 8);
+CONDUCTOR_FIELD_(conductor_answer, detail, 8, 8);
+CONDUCTOR_WHOLE_(conductor_answer, 16);
+CONDUCTOR_FIELD_(conductor_change_answer, number, 0, 8);
+CONDUCTOR_FIELD_(conductor_change_answer, change, 8, 8);
+CONDUCTOR_WHOLE_(conductor_change_answer, 16);
+CONDUCTOR_FIELD_(conductor_read_answer, number, 0, 8);
+CONDUCTOR_FIELD_(conductor_read_answer, offset, 8, 8);
+CONDUCTOR_FIELD_(conductor_read_answer, drone, 16, 8);
+CONDUCTOR_FIELD_(conductor_read_answer, stop, 24, 8);
+CONDUCTOR_FIELD_(conductor_read_answer, other_drone, 32, 8);
+CONDUCTOR_FIELD_(conductor_read_answer, other_stop, 40, 8);
+CONDUCTOR_WHOLE_(conductor_read_answer, 48);
+CONDUCTOR_FIELD_(conductor_tables, drone_count, 0, 2);
+CONDUCTOR_FIELD_(conductor_tables, dependency_count, 2, 2);
+CONDUCTOR_FIELD_(conductor_tables, stop_counts, 4, 2 * CONDUCTOR_DRONES);
+CONDUCTOR_FIELD_(conductor_tables, locations, 4 + 2 * CONDUCTOR_DRONES, 2 * CONDUCTOR_STOPS);
+CONDUCTOR_FIELD_(conductor_tables, visited, 4 + 2 * CONDUCTOR_DRONES + 2 * CONDUCTOR_STOPS, 2 * CONDUCTOR_DRONES);
+CONDUCTOR_FIELD_(conductor_tables, times, 4 + 4 * CONDUCTOR_DRONES + 2 * CONDUCTOR_STOPS, 4 * CONDUCTOR_STOPS);
+CONDUCTOR_FIELD_(conductor_tables, names, 4 + 4 * CONDUCTOR_DRONES + 6 * CONDUCTOR_STOPS, CONDUCTOR_DRONES * CONDUCTOR_NAME);
+CONDUCTOR_FIELD_(conductor_tables, drone_flags, 4 + 4 * CONDUCTOR_DRONES + 6 * CONDUCTOR_STOPS + CONDUCTOR_NAMES, CONDUCTOR_DRONES);
+CONDUCTOR_FIELD_(conductor_tables, dependencies, 4 + 5 * CONDUCTOR_DRONES + 6 * CONDUCTOR_STOPS + CONDUCTOR_NAMES, 8 * CONDUCTOR_DEPENDENCIES);
+CONDUCTOR_WHOLE_(conductor_tables, 4 + 5 * CONDUCTOR_DRONES + 6 * CONDUCTOR_STOPS + CONDUCTOR_NAMES + 8 * CONDUCTOR_DEPENDENCIES);
+#undef CONDUCTOR_HOLDS_
+#undef CONDUCTOR_WHOLE_
+#undef CONDUCTOR_FIELD_
 
 /* Reads a plan text. 41; 1; 2, 4, 3, 5, 6 by line; 7, 8, 9 by stop; 10; 11. After 41 and 1 the tables are as before, after any other
  * refusal their full sizes are zeroed */

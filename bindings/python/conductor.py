@@ -4,8 +4,19 @@
   python3 -c 'import conductor; field = conductor.Conductor("./libconductor.so"); ...'
 
 A call returns what it is asked for and raises Refused otherwise. bindings/c/conductor.h says what each call is refused by, docs/REFUSALS.md what the numbers mean.
+
+A number may be any integer from 0. One that is too large for the library names no drone, no dependency and no small plan, and is refused as such (20, 30, 15); a negative number is a
+ValueError, and what is no integer a TypeError.
+
+Several threads may use one Conductor: its calls are made one at a time. Who wants several calls, or entries of several tables, to belong together holds its lock meanwhile:
+
+  with field.lock:
+      if field.preview(3) < 0:
+          field.turn(3)
 """
 from ctypes import CDLL, Structure, c_int64, c_size_t, c_uint8, c_uint16, c_uint32
+from operator import index
+from threading import RLock
 
 DRONES, NAME, STOPS, DEPENDENCIES, TEXT = 32, 24, 1024, 2048, 32768
 
@@ -51,18 +62,31 @@ def _taken(answer):
     return answer
 
 
+def _whole(n):
+    n = index(n)
+    if n < 0:
+        raise ValueError("%d is negative" % n)
+    return n
+
+
+def _number(n):
+    """A number as the library takes it: where it does not fit, the greatest that does, which is out of range as the number itself is."""
+    return c_size_t(min(_whole(n), c_size_t(-1).value))
+
+
 def _list(numbers):
-    """A list that holds a number above 65,535 names no dependency; the library takes 16 bits."""
-    if any(not 0 <= n <= 65535 for n in numbers):
-        raise ValueError("a dependency's number is from 0 to 65535")
-    return (c_uint16 * len(numbers))(*numbers), c_size_t(len(numbers))
+    """A list as the library takes it, in 16 bits. A rising list is refused at its first number that does not fit, if not before; what comes after that one is left out."""
+    numbers = [_whole(n) for n in numbers]
+    if all(a < b for a, b in zip(numbers, numbers[1:])):
+        numbers = numbers[: sum(n < 65535 for n in numbers) + 1]
+    return (c_uint16 * len(numbers))(*(min(n, 65535) for n in numbers)), c_size_t(len(numbers))
 
 
 class Conductor:
-    """Owns its tables, all at full size."""
+    """Owns its tables, all at full size, and the lock that is held over each call: the interpreter's own lock is not, while the library works."""
 
     def __init__(self, library):
-        self._library = CDLL(library)
+        self._library, self.lock = CDLL(library), RLock()
         self.drone_count, self.dependency_count = (c_uint16 * 1)(), (c_uint16 * 1)()
         self.names, self.stop_counts = (c_uint8 * (DRONES * NAME))(), (c_uint16 * DRONES)()
         self.locations, self.times = (c_uint16 * STOPS)(), (c_uint32 * STOPS)()
@@ -76,9 +100,11 @@ class Conductor:
     def _call(self, name, after=(), before=(), answer=Answer):
         call = getattr(self._library, name)
         call.restype = answer
-        return _taken(call(*before, *self._tables(), *after))
+        with self.lock:
+            return _taken(call(*before, *self._tables(), *after))
 
     def read(self, text):
+        text = bytes(memoryview(text))
         self._call("board_read", before=((c_uint8 * len(text)).from_buffer_copy(text), c_size_t(len(text))), answer=ReadAnswer)
 
     def write(self):
@@ -86,19 +112,19 @@ class Conductor:
         return bytes(buffer[: self._call("board_write", before=(buffer, c_size_t(TEXT))).detail])
 
     def grant(self, drone):
-        self._call("board_grant", [c_size_t(drone)])
+        self._call("board_grant", [_number(drone)])
 
     def arrive(self, drone):
-        self._call("board_arrive", [c_size_t(drone)])
+        self._call("board_arrive", [_number(drone)])
 
     def turn(self, dependency):
-        self._call("board_turn", [c_size_t(dependency)])
+        self._call("board_turn", [_number(dependency)])
 
     def turn_all(self, dependencies):
         self._call("board_turn_all", _list(dependencies))
 
     def preview(self, dependency):
-        return self._call("board_preview", [c_size_t(dependency)], answer=ChangeAnswer).change
+        return self._call("board_preview", [_number(dependency)], answer=ChangeAnswer).change
 
     def preview_all(self, dependencies):
         return self._call("board_preview_all", _list(dependencies), answer=ChangeAnswer).change
@@ -111,10 +137,11 @@ class Conductor:
 
     def press(self, reported=None):
         """The granted drones, rising."""
-        bits = self._call("board_press", [c_size_t(reported is not None), c_size_t(reported or 0)]).detail
+        report = [c_size_t(0), c_size_t(0)] if reported is None else [c_size_t(1), _number(reported)]
+        bits = self._call("board_press", report).detail
         return [d for d in range(DRONES) if bits >> d & 1]
 
     def small_plan(self, number):
         buffer, call = (c_uint8 * TEXT)(), self._library.board_small_plan
         call.restype = Answer
-        return bytes(buffer[: _taken(call(c_size_t(number), buffer, c_size_t(TEXT))).detail])
+        return bytes(buffer[: _taken(call(_number(number), buffer, c_size_t(TEXT))).detail])

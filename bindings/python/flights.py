@@ -1,11 +1,12 @@
-"""Flight Q and flight P through the Python class: python3 flights.py LIBRARY. Prints how many statements held."""
+"""Flight Q and flight P through the Python class, numbers of every size, and two threads at once: python3 flights.py LIBRARY. Prints how many statements held."""
 import sys
+from threading import Barrier, Thread
 
 from conductor import Conductor, Refused
 
 Q = b"plan=1\nagents=2\nname=survey-quad-east-1\nstops=4\ngo=1@0\ngo=6@1\ngo=5@2\ngo=2@3\nname=survey-quad-east-2\nstops=3\ngo=3@0\ngo=5@4\ngo=4@5\nend=plan\n"
 P = b"plan=1\nagents=2\nname=a\nstops=4\ngo=10@0\ngo=20@1\ngo=30@2\ngo=40@3\nname=b\nstops=4\ngo=11@0\ngo=20@3\ngo=30@4\ngo=41@5\nend=plan\n"
-held = 0
+held, TRIES = 0, 200
 
 
 def holds(got, want):
@@ -21,6 +22,37 @@ def refusal(call, *words):
     except Refused as refused:
         return refused.number, str(refused)
     return 0, ""
+
+
+def error(call, *words):
+    try:
+        call(*words)
+    except (TypeError, ValueError) as wrong:
+        return type(wrong)
+    return None
+
+
+def many_stops():
+    """Drones 0 and 1 cross at their stops 1, which is dependency 0; the stops of thirty more make the calls long."""
+    text = "plan=1\nagents=32\nname=a\nstops=3\ngo=1@0\ngo=9@1\ngo=2@2\nname=b\nstops=3\ngo=3@0\ngo=9@4\ngo=4@5\n"
+    for d in range(30):
+        text += "name=survey-%d\nstops=33\n" % d + "".join("go=%d@%d\n" % (100 + 33 * d + s if s % 8 != 4 else 10 + s, s * 100 + (s > 0) * d * 3000) for s in range(33))
+    return text.encode() + b"end=plan\n"
+
+
+def at_once(*calls):
+    """Each call in a thread of its own, all begun at once: which were accepted."""
+    begin, accepted = Barrier(len(calls)), []
+
+    def made(call, number):
+        begin.wait()
+        if refusal(call, number)[0] == 0:
+            accepted.append(call)
+
+    threads = [Thread(target=made, args=words) for words in calls]
+    [thread.start() for thread in threads]
+    [thread.join() for thread in threads]
+    return len(accepted)
 
 
 field = Conductor(sys.argv[1])
@@ -42,4 +74,42 @@ holds((field.cost(), refusal(field.turn_all, [])[0]), (8, 36))
 holds(refusal(field.read, Q.replace(b"5@4", b"5@3")), (10, "refused with 10, drone 0, stop 2, other drone 1, other stop 1"))
 holds(refusal(field.read, b"plan=1\nagents=0\n"), (4, "refused with 4, offset 7"))
 holds((len(field.small_plan(377)) > 0, refusal(field.small_plan, 378)[0]), (True, 15))
+
+# a number that does not fit is refused as one that is out of range, and is none of those that it would wrap to
+field.read(Q)
+for much in (2, 65536, 2**32, 2**64 - 1, 2**64, 2**64 + 1, 2**200):
+    holds((refusal(field.grant, much)[0], refusal(field.arrive, much)[0], refusal(field.press, much)[0]), (20, 20, 20))
+    holds((refusal(field.turn, much)[0], refusal(field.preview, much)[0]), (30, 30))
+    holds((refusal(field.turn_all, [much])[0], refusal(field.preview_all, [0, much])[0], refusal(field.turn_all, [much, much + 1])[0]), (30, 30, 30))
+    holds((refusal(field.turn_all, [much, 0])[0], refusal(field.preview_all, [much, much])[0]), (36, 36))
+holds([refusal(field.small_plan, much)[0] for much in (378, 2**64, 2**64 + 1)], [15, 15, 15])
+for call in (field.grant, field.arrive, field.press, field.turn, field.preview, field.small_plan):
+    holds((error(call, -1), error(call, 1.0), error(call, "1")), (ValueError, TypeError, TypeError))
+for call in (field.turn_all, field.preview_all):
+    holds((error(call, [0, -1]), error(call, [0.0]), error(call, 0)), (ValueError, TypeError, TypeError))
+holds((error(field.read, "plan=1"), error(field.read, 5), error(field.grant, None)), (TypeError, TypeError, TypeError))
+holds((list(field.visited[:2]), list(field.drone_flags[:2]), field.dependencies[0].flags), ([0, 0], [0, 0], 0))
+
+# the records' fields, each with a value of its own
+field.read(b"plan=1\nagents=3\nname=a\nstops=2\ngo=1@0\ngo=2@1\nname=b\nstops=4\ngo=3@0\ngo=4@1\ngo=5@2\ngo=6@3\nname=c\nstops=5\ngo=7@0\ngo=8@1\ngo=9@2\ngo=4@9\ngo=10@11\nend=plan\n")
+record = field.dependencies[0]
+holds((field.drone_count[0], field.dependency_count[0], record.first_drone, record.first_stop, record.second_drone, record.second_stop), (3, 1, 1, 1, 2, 3))
+
+# a grant and the turn that would keep that drone waiting, from two threads: one of the two is accepted, and the tables are sound after it
+text = many_stops()
+for _ in range(TRIES):
+    field.read(text)
+    holds(at_once((field.grant, 0), (field.turn, 0)), 1)
+    holds(refusal(field.cost)[0], 0)
+# while one thread reads the plan again and again, another finds it whole
+reader = Thread(target=lambda: [field.read(text) for _ in range(TRIES)])
+reader.start()
+while reader.is_alive():
+    holds(refusal(field.cost)[0], 0)
+with field.lock:
+    waiting = Thread(target=field.cost)
+    waiting.start()
+    waiting.join(0.05)
+    holds((waiting.is_alive(), field.rounds() > 0), (True, True))
+waiting.join()
 print("%d statements hold" % held)

@@ -49,13 +49,26 @@ pub struct ReadAnswer {
     pub other_stop: usize,
 }
 
-const _: () = {
-    use core::mem::{align_of, offset_of, size_of};
-    assert!(size_of::<usize>() == 8);
-    assert!(size_of::<Dependency>() == 8 && align_of::<Dependency>() == 2);
-    assert!(offset_of!(Dependency, first_drone) == 4 && offset_of!(Dependency, flags) == 6);
-    assert!(size_of::<Answer>() == 16 && size_of::<ChangeAnswer>() == 16 && size_of::<ReadAnswer>() == 48);
-};
+// The layout that the library has too, as the header states it: where each field lies, how wide it is, and how large the whole is.
+macro_rules! layout {
+    ($($whole:ident $bytes:literal { $($field:ident: $T:ty = $at:literal),+ })+) => {
+        const _: () = {
+            use core::mem::{offset_of, size_of};
+            $(assert!(size_of::<$whole>() == $bytes);
+            $(assert!(offset_of!($whole, $field) == $at);
+            let _: fn(&$whole) -> &$T = |of| &of.$field;)+)+
+        };
+    };
+}
+
+const _: () = assert!(core::mem::size_of::<usize>() == 8 && core::mem::align_of::<Dependency>() == 2);
+
+layout! {
+    Dependency 8 { first_stop: u16 = 0, second_stop: u16 = 2, first_drone: u8 = 4, second_drone: u8 = 5, flags: u8 = 6, reserved: u8 = 7 }
+    Answer 16 { number: usize = 0, detail: usize = 8 }
+    ChangeAnswer 16 { number: usize = 0, change: i64 = 8 }
+    ReadAnswer 48 { number: usize = 0, offset: usize = 8, drone: usize = 16, stop: usize = 24, other_drone: usize = 32, other_stop: usize = 40 }
+}
 
 /// The tables that a reading alone writes: full sizes 1, 1, 768, 32, 1,024 and 1,024.
 #[derive(Clone, Copy)]

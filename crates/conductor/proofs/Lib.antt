@@ -1,6 +1,5 @@
-pub mod Unsound
 pub mod Written
-pub mod Over
+pub mod OverLaws
 pub mod Reserved
 pub mod ReadLaws
 pub mod Derived

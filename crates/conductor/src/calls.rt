@@ -3,7 +3,7 @@
 use crate::changes::are_turned;
 use crate::changes::is_turned;
 use crate::changes::is_written;
-use flat::calls;
+use crate::over;
 use flat::replies::ArriveReply;
 use flat::replies::GrantReply;
 use flat::replies::WriteReply;
@@ -16,7 +16,6 @@ use flat::turn_replies::TurnReply;
 use reading::entry;
 use reading::replies::Reading;
 use reading::replies::Refusal;
-use records::columns::Spread;
 use records::lent::flip_all;
 use records::lent::flip_if;
 use records::lent::spread;
@@ -62,12 +61,17 @@ pub fn grant(
         (now (dependencies .entry)))
         ⌝ }
 {
-    let mut first_drones = [0u8; Dependency::FULL];
-    let mut first_stops = [0u16; Dependency::FULL];
-    let mut second_drones = [0u8; Dependency::FULL];
-    let mut second_stops = [0u16; Dependency::FULL];
+    let mut stops = [[0u16; Dependency::FULL]; 2];
+    let mut drones = [[0u8; Dependency::FULL]; 2];
     let mut flags = [0u8; Dependency::FULL];
-    match spread(
+    let lent = spread(
+        dependency_count,
+        dependencies,
+        &mut stops,
+        &mut drones,
+        &mut flags,
+    );
+    over::grant(
         drone_count,
         dependency_count,
         names,
@@ -76,32 +80,12 @@ pub fn grant(
         times,
         visited,
         drone_flags,
-        dependencies,
-        &mut first_drones,
-        &mut first_stops,
-        &mut second_drones,
-        &mut second_stops,
-        &mut flags,
-    ) {
-        Spread::TooSmall => GrantReply::TablesTooSmall,
-        Spread::UnusedNotZero => GrantReply::NotSound,
-        Spread::Whole => calls::grant(
-            drone_count,
-            dependency_count,
-            names,
-            stop_counts,
-            locations,
-            times,
-            visited,
-            drone_flags,
-            &first_drones,
-            &first_stops,
-            &second_drones,
-            &second_stops,
-            &flags,
-            drone,
-        ),
-    }
+        &stops,
+        &drones,
+        &flags,
+        drone,
+        lent,
+    )
 }
 
 // "Arrive: a drone under way has visited its next stop and is no longer under way".
@@ -129,12 +113,17 @@ pub fn arrive(
         (now (dependencies .entry)))
         ⌝ }
 {
-    let mut first_drones = [0u8; Dependency::FULL];
-    let mut first_stops = [0u16; Dependency::FULL];
-    let mut second_drones = [0u8; Dependency::FULL];
-    let mut second_stops = [0u16; Dependency::FULL];
+    let mut stops = [[0u16; Dependency::FULL]; 2];
+    let mut drones = [[0u8; Dependency::FULL]; 2];
     let mut flags = [0u8; Dependency::FULL];
-    match spread(
+    let lent = spread(
+        dependency_count,
+        dependencies,
+        &mut stops,
+        &mut drones,
+        &mut flags,
+    );
+    over::arrive(
         drone_count,
         dependency_count,
         names,
@@ -143,32 +132,12 @@ pub fn arrive(
         times,
         visited,
         drone_flags,
-        dependencies,
-        &mut first_drones,
-        &mut first_stops,
-        &mut second_drones,
-        &mut second_stops,
-        &mut flags,
-    ) {
-        Spread::TooSmall => ArriveReply::TablesTooSmall,
-        Spread::UnusedNotZero => ArriveReply::NotSound,
-        Spread::Whole => calls::arrive(
-            drone_count,
-            dependency_count,
-            names,
-            stop_counts,
-            locations,
-            times,
-            visited,
-            drone_flags,
-            &first_drones,
-            &first_stops,
-            &second_drones,
-            &second_stops,
-            &flags,
-            drone,
-        ),
-    }
+        &stops,
+        &drones,
+        &flags,
+        drone,
+        lent,
+    )
 }
 
 // "Turn: flips bit 0 of one dependency".
@@ -198,12 +167,17 @@ pub fn turn(
     ensures { λ r. ⌜ now (dependencies .exit) ≡ flipIf (isAccepted (turnMeant r)) dependency (now (dependencies .entry)) ⌝ }
     ensures { λ _. ⌜ drop (limits .dependencies) (now (dependencies .exit)) ≡ drop (limits .dependencies) (now (dependencies .entry)) ⌝ }
 {
-    let mut first_drones = [0u8; Dependency::FULL];
-    let mut first_stops = [0u16; Dependency::FULL];
-    let mut second_drones = [0u8; Dependency::FULL];
-    let mut second_stops = [0u16; Dependency::FULL];
+    let mut stops = [[0u16; Dependency::FULL]; 2];
+    let mut drones = [[0u8; Dependency::FULL]; 2];
     let mut flags = [0u8; Dependency::FULL];
-    let reply = match spread(
+    let lent = spread(
+        dependency_count,
+        dependencies,
+        &mut stops,
+        &mut drones,
+        &mut flags,
+    );
+    let reply = over::turn(
         drone_count,
         dependency_count,
         names,
@@ -212,32 +186,12 @@ pub fn turn(
         times,
         visited,
         drone_flags,
-        dependencies,
-        &mut first_drones,
-        &mut first_stops,
-        &mut second_drones,
-        &mut second_stops,
+        &stops,
+        &drones,
         &mut flags,
-    ) {
-        Spread::TooSmall => TurnReply::TablesTooSmall,
-        Spread::UnusedNotZero => TurnReply::NotSound,
-        Spread::Whole => calls::turn(
-            drone_count,
-            dependency_count,
-            names,
-            stop_counts,
-            locations,
-            times,
-            visited,
-            drone_flags,
-            &first_drones,
-            &first_stops,
-            &second_drones,
-            &second_stops,
-            &mut flags,
-            dependency,
-        ),
-    };
+        dependency,
+        lent,
+    );
     flip_if(dependencies, dependency, is_turned(reply));
     reply
 }
@@ -269,12 +223,17 @@ pub fn turn_all(
     ensures { λ r. ⌜ now (dependencies .exit) ≡ flipAllIf (isAccepted (turnAllMeant r)) (now (list .entry)) (now (dependencies .entry)) ⌝ }
     ensures { λ _. ⌜ drop (limits .dependencies) (now (dependencies .exit)) ≡ drop (limits .dependencies) (now (dependencies .entry)) ⌝ }
 {
-    let mut first_drones = [0u8; Dependency::FULL];
-    let mut first_stops = [0u16; Dependency::FULL];
-    let mut second_drones = [0u8; Dependency::FULL];
-    let mut second_stops = [0u16; Dependency::FULL];
+    let mut stops = [[0u16; Dependency::FULL]; 2];
+    let mut drones = [[0u8; Dependency::FULL]; 2];
     let mut flags = [0u8; Dependency::FULL];
-    let reply = match spread(
+    let lent = spread(
+        dependency_count,
+        dependencies,
+        &mut stops,
+        &mut drones,
+        &mut flags,
+    );
+    let reply = over::turn_all(
         drone_count,
         dependency_count,
         names,
@@ -283,32 +242,12 @@ pub fn turn_all(
         times,
         visited,
         drone_flags,
-        dependencies,
-        &mut first_drones,
-        &mut first_stops,
-        &mut second_drones,
-        &mut second_stops,
+        &stops,
+        &drones,
         &mut flags,
-    ) {
-        Spread::TooSmall => TurnAllReply::TablesTooSmall,
-        Spread::UnusedNotZero => TurnAllReply::NotSound,
-        Spread::Whole => calls::turn_all(
-            drone_count,
-            dependency_count,
-            names,
-            stop_counts,
-            locations,
-            times,
-            visited,
-            drone_flags,
-            &first_drones,
-            &first_stops,
-            &second_drones,
-            &second_stops,
-            &mut flags,
-            list,
-        ),
-    };
+        list,
+        lent,
+    );
     flip_all(dependencies, list, are_turned(reply));
     reply
 }
@@ -331,12 +270,17 @@ pub fn preview(
         (now (locations .entry)) (now (times .entry)) (now (visited .entry)) (now («drone_flags» .entry))
         (now (dependencies .entry))) dependency ⌝ }
 {
-    let mut first_drones = [0u8; Dependency::FULL];
-    let mut first_stops = [0u16; Dependency::FULL];
-    let mut second_drones = [0u8; Dependency::FULL];
-    let mut second_stops = [0u16; Dependency::FULL];
+    let mut stops = [[0u16; Dependency::FULL]; 2];
+    let mut drones = [[0u8; Dependency::FULL]; 2];
     let mut flags = [0u8; Dependency::FULL];
-    match spread(
+    let lent = spread(
+        dependency_count,
+        dependencies,
+        &mut stops,
+        &mut drones,
+        &mut flags,
+    );
+    over::preview(
         drone_count,
         dependency_count,
         names,
@@ -345,32 +289,12 @@ pub fn preview(
         times,
         visited,
         drone_flags,
-        dependencies,
-        &mut first_drones,
-        &mut first_stops,
-        &mut second_drones,
-        &mut second_stops,
-        &mut flags,
-    ) {
-        Spread::TooSmall => PreviewReply::TablesTooSmall,
-        Spread::UnusedNotZero => PreviewReply::NotSound,
-        Spread::Whole => calls::preview(
-            drone_count,
-            dependency_count,
-            names,
-            stop_counts,
-            locations,
-            times,
-            visited,
-            drone_flags,
-            &first_drones,
-            &first_stops,
-            &second_drones,
-            &second_stops,
-            &flags,
-            dependency,
-        ),
-    }
+        &stops,
+        &drones,
+        &flags,
+        dependency,
+        lent,
+    )
 }
 
 // "The preview takes a list too". It changes nothing.
@@ -391,12 +315,17 @@ pub fn preview_all(
         (now (locations .entry)) (now (times .entry)) (now (visited .entry)) (now («drone_flags» .entry))
         (now (dependencies .entry))) (now (list .entry)) ⌝ }
 {
-    let mut first_drones = [0u8; Dependency::FULL];
-    let mut first_stops = [0u16; Dependency::FULL];
-    let mut second_drones = [0u8; Dependency::FULL];
-    let mut second_stops = [0u16; Dependency::FULL];
+    let mut stops = [[0u16; Dependency::FULL]; 2];
+    let mut drones = [[0u8; Dependency::FULL]; 2];
     let mut flags = [0u8; Dependency::FULL];
-    match spread(
+    let lent = spread(
+        dependency_count,
+        dependencies,
+        &mut stops,
+        &mut drones,
+        &mut flags,
+    );
+    over::preview_all(
         drone_count,
         dependency_count,
         names,
@@ -405,32 +334,12 @@ pub fn preview_all(
         times,
         visited,
         drone_flags,
-        dependencies,
-        &mut first_drones,
-        &mut first_stops,
-        &mut second_drones,
-        &mut second_stops,
-        &mut flags,
-    ) {
-        Spread::TooSmall => PreviewAllReply::TablesTooSmall,
-        Spread::UnusedNotZero => PreviewAllReply::NotSound,
-        Spread::Whole => calls::preview_all(
-            drone_count,
-            dependency_count,
-            names,
-            stop_counts,
-            locations,
-            times,
-            visited,
-            drone_flags,
-            &first_drones,
-            &first_stops,
-            &second_drones,
-            &second_stops,
-            &flags,
-            list,
-        ),
-    }
+        &stops,
+        &drones,
+        &flags,
+        list,
+        lent,
+    )
 }
 
 // "Remaining cost is their sum": of the drones' remaining rounds, with the order now in force. It changes nothing.
@@ -450,12 +359,17 @@ pub fn cost(
         (now (locations .entry)) (now (times .entry)) (now (visited .entry)) (now («drone_flags» .entry))
         (now (dependencies .entry))) ⌝ }
 {
-    let mut first_drones = [0u8; Dependency::FULL];
-    let mut first_stops = [0u16; Dependency::FULL];
-    let mut second_drones = [0u8; Dependency::FULL];
-    let mut second_stops = [0u16; Dependency::FULL];
+    let mut stops = [[0u16; Dependency::FULL]; 2];
+    let mut drones = [[0u8; Dependency::FULL]; 2];
     let mut flags = [0u8; Dependency::FULL];
-    match spread(
+    let lent = spread(
+        dependency_count,
+        dependencies,
+        &mut stops,
+        &mut drones,
+        &mut flags,
+    );
+    over::cost(
         drone_count,
         dependency_count,
         names,
@@ -464,31 +378,11 @@ pub fn cost(
         times,
         visited,
         drone_flags,
-        dependencies,
-        &mut first_drones,
-        &mut first_stops,
-        &mut second_drones,
-        &mut second_stops,
-        &mut flags,
-    ) {
-        Spread::TooSmall => CostAnswer::TablesTooSmall,
-        Spread::UnusedNotZero => CostAnswer::NotSound,
-        Spread::Whole => calls::cost(
-            drone_count,
-            dependency_count,
-            names,
-            stop_counts,
-            locations,
-            times,
-            visited,
-            drone_flags,
-            &first_drones,
-            &first_stops,
-            &second_drones,
-            &second_stops,
-            &flags,
-        ),
-    }
+        &stops,
+        &drones,
+        &flags,
+        lent,
+    )
 }
 
 // The undelayed rounds until everybody has landed, with the order now in force. It changes nothing.
@@ -508,12 +402,17 @@ pub fn rounds(
         (now (locations .entry)) (now (times .entry)) (now (visited .entry)) (now («drone_flags» .entry))
         (now (dependencies .entry))) ⌝ }
 {
-    let mut first_drones = [0u8; Dependency::FULL];
-    let mut first_stops = [0u16; Dependency::FULL];
-    let mut second_drones = [0u8; Dependency::FULL];
-    let mut second_stops = [0u16; Dependency::FULL];
+    let mut stops = [[0u16; Dependency::FULL]; 2];
+    let mut drones = [[0u8; Dependency::FULL]; 2];
     let mut flags = [0u8; Dependency::FULL];
-    match spread(
+    let lent = spread(
+        dependency_count,
+        dependencies,
+        &mut stops,
+        &mut drones,
+        &mut flags,
+    );
+    over::rounds(
         drone_count,
         dependency_count,
         names,
@@ -522,31 +421,11 @@ pub fn rounds(
         times,
         visited,
         drone_flags,
-        dependencies,
-        &mut first_drones,
-        &mut first_stops,
-        &mut second_drones,
-        &mut second_stops,
-        &mut flags,
-    ) {
-        Spread::TooSmall => RoundsAnswer::TablesTooSmall,
-        Spread::UnusedNotZero => RoundsAnswer::NotSound,
-        Spread::Whole => calls::rounds(
-            drone_count,
-            dependency_count,
-            names,
-            stop_counts,
-            locations,
-            times,
-            visited,
-            drone_flags,
-            &first_drones,
-            &first_stops,
-            &second_drones,
-            &second_stops,
-            &flags,
-        ),
-    }
+        &stops,
+        &drones,
+        &flags,
+        lent,
+    )
 }
 
 // Writes the text of the plan that the tables hold: "42 buffer shorter than the text".
@@ -571,12 +450,18 @@ pub fn write_plan(
         (now (buf .entry)) (now (buf .exit)) (writeMeant r)
         ⌝ }
 {
-    let mut first_drones = [0u8; Dependency::FULL];
-    let mut first_stops = [0u16; Dependency::FULL];
-    let mut second_drones = [0u8; Dependency::FULL];
-    let mut second_stops = [0u16; Dependency::FULL];
+    let mut stops = [[0u16; Dependency::FULL]; 2];
+    let mut drones = [[0u8; Dependency::FULL]; 2];
     let mut flags = [0u8; Dependency::FULL];
-    match spread(
+    let lent = spread(
+        dependency_count,
+        dependencies,
+        &mut stops,
+        &mut drones,
+        &mut flags,
+    );
+    over::write_plan(
+        buf,
         drone_count,
         dependency_count,
         names,
@@ -585,32 +470,11 @@ pub fn write_plan(
         times,
         visited,
         drone_flags,
-        dependencies,
-        &mut first_drones,
-        &mut first_stops,
-        &mut second_drones,
-        &mut second_stops,
-        &mut flags,
-    ) {
-        Spread::TooSmall => WriteReply::TablesTooSmall,
-        Spread::UnusedNotZero => WriteReply::NotSound,
-        Spread::Whole => calls::write_plan(
-            buf,
-            drone_count,
-            dependency_count,
-            names,
-            stop_counts,
-            locations,
-            times,
-            visited,
-            drone_flags,
-            &first_drones,
-            &first_stops,
-            &second_drones,
-            &second_stops,
-            &flags,
-        ),
-    }
+        &stops,
+        &drones,
+        &flags,
+        lent,
+    )
 }
 
 // Reads a plan text into the tables. Tables below full size and a text that is too long change nothing, and after any other refusal the tables are zeroed.

@@ -6,8 +6,8 @@ use mathlib.Core.Path.{_≡_, refl, sym, ap, _∙_}
 use mathlib.Core.Bool.{Bool, true, false, cond}
 use mathlib.Core.List.{List, [], _∷_, _++_, append-nil}
 use lib.Dec.{ltb, eqb}
-use lib.ListN.{length, length-append, take, drop}
-use lib.Seq.{sets, sets-eq, length-sets}
+use lib.ListN.{length, length-append, length-take, take, drop}
+use lib.Seq.{sets, sets-eq, length-sets, take-all}
 use borrow.Author.Tests.{lt-ltb, le-ltb, ltb-false, eq-eqb, ne-eqb}
 use Rattle.below.specs.Below.{at, rowsBelow}
 use Rattle.tables.specs.Limits.{Limits}
@@ -201,12 +201,30 @@ output-fits reading input = go (ltb inputLimit (length input)) refl
     go true e = omega (arith, plan-short 1)
     go false e = after-fits reading input (reading (take (planEnd input) input)) (ltb-false inputLimit (length input) e)
 
-pub transcribed : (input before after : List ℕ) (next : ℕ) → Put before 0 (outputOf readingOf input) after next → Transcribed input before after next
-transcribed input before after next p = record {
-  put = p;
-  fits = omega (arith, p .next-is, output-fits readingOf input);
-  whole = λ h.
-      let fits = output-fits readingOf input in
-      let n : next ≡ length (outputOf readingOf input) = omega (arith, p .next-is) in
-      p .written ∙ sets-eq (outputOf readingOf input) before 0 (omega arith) ∙ rw (zero-add, n) refl;
-}
+-- the first bytes of a buffer that has one more than the limit
+module _ (input : List ℕ) (count : ℕ) (before after : List ℕ) (next : ℕ) (size : length input ≡ inputLimit + 1) (room : outputLimit ≤ length before) where
+  pub transcribed : Put before 0 (outputOf readingOf (take count input)) after next → Transcribed input count before after next
+  transcribed p =
+      let n : next ≡ length (outputOf readingOf (take count input)) = omega (arith, p .next-is) in
+      let whole : after ≡ outputOf readingOf (take count input) ++ drop next before
+      = p .written ∙ sets-eq (outputOf readingOf (take count input)) before 0 (omega (arith, output-fits readingOf (take count input))) ∙ rw (zero-add, n) refl in
+      record {
+        length-is = n;
+        fits = omega (arith, n, output-fits readingOf (take count input));
+        whole = whole;
+        longer = λ h. whole ∙ ap (λ (l : List ℕ). l ++ drop next before) (output-long readingOf (take count input) (omega (arith, length-take count input)));
+      }
+
+  -- all of it
+  pub transcribed-all : inputLimit < count → Put before 0 (outputOf readingOf input) after next → Transcribed input count before after next
+  transcribed-all h p = transcribed (rw (take-all count input (omega arith)) p)
+
+-- what was written lies in the buffer
+module _ (input : List ℕ) (count : ℕ) (before after : List ℕ) (next : ℕ) (t : Transcribed input count before after next) where
+  pub written-within : next ≤ length after
+  written-within =
+      let text : List ℕ = outputOf readingOf (take count input) in
+      omega (arith, t .length-is, ap length (t .whole), length-append text (drop next before))
+
+  pub written-taken : next ≡ length (take next after)
+  written-taken = omega (arith, length-take next after, written-within)

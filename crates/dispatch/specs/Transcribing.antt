@@ -1,18 +1,17 @@
 -- The whole way from the input of the program `field` to its output (document 01, "The program `field`"). Assumes nothing.
-use Prim.Native.Nat.{ℕ, _≤_}
+use Prim.Native.Nat.{ℕ, _≤_, _<_}
 use mathlib.Core.Path.{_≡_}
 use mathlib.Core.List.{List, _++_}
-use lib.ListN.{length, drop}
+use lib.ListN.{length, take, drop}
 use Rattle.below.specs.Below.{at}
 use Rattle.tables.specs.Limits.{Limits, limits}
 use Rattle.tables.specs.Tables.{Tables}
 use Rattle.tables.specs.Zero.{filled}
-use Rattle.lines.specs.Bytes.{Put}
 use Rattle.log.specs.Demand.{Found}
 use Rattle.reading.specs.Replies.{ReadingReply, taken as Taken, readingNumber}
 use Rattle.reading.specs.Reading.{readPlan}
-use Rattle.transcript.specs.Input.{Request, RequestList}
-use Rattle.transcript.specs.Output.{PlanReading, answerLines, endingLine, outputOf}
+use Rattle.transcript.specs.Input.{inputLimit, Request, RequestList}
+use Rattle.transcript.specs.Output.{PlanReading, planNumberLine, answerLines, endingLine, outputOf}
 use Rattle.transcript.specs.Run.{answersOn, Made}
 use Rattle.accepted.specs.TextPlan.{textPlan}
 use Rattle.dispatch.specs.Making.{callsOf, gotBy}
@@ -71,8 +70,10 @@ OutputFits = (reading : List ℕ → PlanReading) (input : List ℕ) → length 
 
 -- ---- the output
 
--- the buffer holds the output as far as it reaches, by the log alone; a buffer of `outputLimit` bytes holds it whole, and its other bytes are as they were
-pub record Transcribed (input before after : List ℕ) (next : ℕ) : Type 0 where
-  pub put : Put before 0 (outputOf readingOf input) after next
+-- the buffer holds the whole output of the first `count` bytes of `input`, by the log alone; its other bytes are as they were. "(more prints `plan=1` alone)": more than
+-- the limit were read, and the buffer holds one of them
+pub record Transcribed (input : List ℕ) (count : ℕ) (before after : List ℕ) (next : ℕ) : Type 0 where
+  pub length-is : next ≡ length (outputOf readingOf (take count input))
   pub fits : next ≤ outputLimit
-  pub whole : outputLimit ≤ length before → after ≡ outputOf readingOf input ++ drop next before
+  pub whole : after ≡ outputOf readingOf (take count input) ++ drop next before
+  pub longer : inputLimit < count → after ≡ planNumberLine 1 ++ drop next before

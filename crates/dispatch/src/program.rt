@@ -52,8 +52,8 @@ fn play(
 }
 
 // Writes the output of the program for this input, as far as the buffer reaches, and answers its length.
-pub fn transcript(input: &[u8], output: &mut [u8]) -> usize
-    ensures { λ r. ⌜ Transcribed (now (input .entry)) (now (output .entry)) (now (output .exit)) r ⌝ }
+fn transcribe(input: &[u8], output: &mut [u8]) -> usize
+    ensures { λ r. ⌜ Put (now (output .entry)) 0 (outputOf readingOf (now (input .entry))) (now (output .exit)) r ⌝ }
 {
     let mut kinds = [0u8; REQUESTS];
     let mut numbers = [0u16; REQUESTS];
@@ -67,6 +67,17 @@ pub fn transcript(input: &[u8], output: &mut [u8]) -> usize
         &mut replies,
         &mut details,
     )
+}
+
+// The output for the bytes that were read, as many as `count` says: a buffer that was filled shows a longer input by its last byte, and no shorter one is of this type.
+pub fn transcript(input: &[u8; INPUT + 1], count: usize, output: &mut [u8; OUTPUT]) -> usize
+    ensures { λ r. ⌜ Transcribed (now (input .entry)) count (now (output .entry)) (now (output .exit)) r ⌝ }
+{
+    let bytes: &[u8] = input;
+    if INPUT < count {
+        return transcribe(bytes, output);
+    }
+    transcribe(&bytes[..count], output)
 }
 
 // What reading a plan text answers, on tables of its own.

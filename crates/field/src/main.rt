@@ -7,6 +7,6 @@ fn main() {
     let mut input = [0u8; program::INPUT + 1];
     let mut output = [0u8; program::OUTPUT];
     let count = io::read_full(STDIN_FILENO, &mut input);
-    let length = program::transcript(&input[..count], &mut output);
+    let length = program::transcript(&input, count, &mut output);
     io::write_all(STDOUT_FILENO, &output[..length]);
 }

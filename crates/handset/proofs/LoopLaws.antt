@@ -2,11 +2,11 @@
 use mathlib.Core.Path.{_≡_, refl, sym, ap, _∙_, subst}
 use mathlib.Core.Logic.{_≢_}
 use mathlib.Core.Bool.{Bool, true, false, cond}
-use Prim.Native.Nat.{ℕ, zero, suc, _+_, _*_, _%_, _^_, _<_}
+use Prim.Native.Nat.{ℕ, zero, suc, _+_, _-_, _*_, _%_, _^_, _≤_, _<_}
 use native.Mathlib.Omega.{arith}
 use lib.Dec.{ltb, leb}
 use lib.Pow.{shl-exact, pow-mono}
-use borrow.Author.Tests.{eq-eqb, ne-eqb}
+use borrow.Author.Tests.{eq-eqb, ne-eqb, leb-true}
 use Rattle.below.specs.Below.{at, pick, sumBelow}
 use Rattle.below.proofs.Tests.{by-cases, true-or-false}
 use Rattle.tables.specs.Limits.{Limits}
@@ -18,8 +18,8 @@ use Rattle.plan.specs.Status.{statusIn, unmet}
 use Rattle.log.specs.CallLog.{grant, arrive, Reply, accepted, refused, mustWait, replyNumber, isAccepted, replyIn}
 use Rattle.log.specs.Calls.{Answer, replyOf, grantStep, arriveStep, step, Answered}
 use Rattle.log.specs.Claims.{Usable}
-use Rattle.log.proofs.Steps.{step-41, step-40}
-use Rattle.handset.specs.Press.{PressOutcome, pressRefused, PressedAs, unusable, replyWith, afterGrants, replyAt, bitsBelow, grantAllStep, afterArrival, pressStep}
+use Rattle.log.proofs.Steps.{refusal, step-41, step-40, grant-20}
+use Rattle.handset.specs.Press.{PressOutcome, pressRefused, PressedAs, unusable, endsAsking, nextAsked, replyWith, afterGrants, replyAt, bitsBelow, grantAllStep, afterArrival, pressStep}
 use Rattle.handset.specs.Press as press
 use Rattle.flat.specs.Replies.{arriveMeant}
 use Rattle.flat.specs.declared.replies.ArriveReply.{ArriveReply}
@@ -100,9 +100,6 @@ module _ (L : Limits) (t₀ : Tables) where
       replied : r ≡ replyAt L t₀ n
       replied = a .replied ∙ ap (λ (z : Tables). grantStep L z n .reply) (g .tables-are)
 
-  pub granting-more : (n : ℕ) (t : Tables) (b u : ℕ) (r : Reply) (t′ : Tables) (b′ u′ : ℕ) → Granting L t₀ n t b u → Answered (step L) t (grant n) r t′ → b′ ≡ b + pick (isAccepted r) (2 ^ n) 0 → u′ ≡ unusable r → Granting L t₀ (n + 1) t′ b′ u′
-  granting-more n t b u r t′ b′ u′ g a e f = subst (λ (k : ℕ). Granting L t₀ k t′ b′ u′) (omega arith) (granting-suc n t b u r t′ b′ u′ g a e f)
-
   -- 41, 40 or neither: the last grant tells as well as any
   unusable-41 : fullSize L t₀ ≡ false → (n : ℕ) → unusableAt L t₀ (suc n) ≡ 41
   unfolding unusableAt
@@ -112,17 +109,37 @@ module _ (L : Limits) (t₀ : Tables) where
   unfolding unusableAt
   unusable-40 f e n = ap (λ (z : Tables). unusable (grantStep L z n .reply)) (grants-unchanged L t₀ (leaves-40 L t₀ f e) n) ∙ ap (λ (a : Answer). unusable (a .reply)) (step-40 L t₀ f e (grant n))
 
--- a grant on usable tables is refused by neither
+-- the reply to a grant on usable tables, by its tests in order
+unfoldable byTests : Bool → Bool → Bool → Bool → ℕ → Reply
+byTests a b c e w = elim a [ true ↦ refused 20 | false ↦ elim b [ true ↦ refused 21 | false ↦ elim c [ true ↦ refused 22 | false ↦ elim e [ true ↦ mustWait w | false ↦ accepted ] ] ] ]
+
+by-tests : (L : Limits) (t : Tables) → Usable L t → (d : ℕ) → grantStep L t d .reply ≡ byTests (leb (drones (t .plan)) d) (leb (planOf (t .plan) .last d) (at (t .visited) d)) (underWayBit (at (t .droneFlags) d)) (ltb (unmet (planOf (t .plan)) (statusIn t) d) (dependencies (t .plan))) (unmet (planOf (t .plan)) (statusIn t) d)
+unfolding grantStep replyOf replyIn byTests
+by-tests L t u d = rw (u .0, u .1) refl
+
+-- none of these is 41 or 40
+tests-0 : (a b c e : Bool) (w : ℕ) → unusable (byTests a b c e w) ≡ 0
+unfolding byTests
+tests-0 true b c e w = refl
+tests-0 false true c e w = refl
+tests-0 false false true e w = refl
+tests-0 false false false true w = refl
+tests-0 false false false false w = refl
+
 usable-0 : (L : Limits) (t : Tables) → Usable L t → (d : ℕ) → unusable (grantStep L t d .reply) ≡ 0
-unfolding grantStep replyOf replyIn
-usable-0 L t u d = rw (u .0, u .1) (go (leb (drones (t .plan)) d) (leb (planOf (t .plan) .last d) (at (t .visited) d)) (underWayBit (at (t .droneFlags) d)) (ltb (unmet (planOf (t .plan)) (statusIn t) d) (dependencies (t .plan))) (unmet (planOf (t .plan)) (statusIn t) d))
-  where
-    go : (a b c e : Bool) (w : ℕ) → unusable (elim a [ true ↦ refused 20 | false ↦ elim b [ true ↦ refused 21 | false ↦ elim c [ true ↦ refused 22 | false ↦ elim e [ true ↦ mustWait w | false ↦ accepted ] ] ] ]) ≡ 0
-    go true b c e w = refl
-    go false true c e w = refl
-    go false false true e w = refl
-    go false false false true w = refl
-    go false false false false w = refl
+usable-0 L t u d = ap unusable (by-tests L t u d) ∙ tests-0 _ _ _ _ _
+
+-- and only 20 is every later drone's too
+tests-end : (a b c e : Bool) (w : ℕ) → endsAsking (byTests a b c e w) ≡ true → a ≡ true
+unfolding byTests
+tests-end true b c e w h = refl
+tests-end false true c e w h = true-or-false h refl
+tests-end false false true e w h = true-or-false h refl
+tests-end false false false true w h = true-or-false h refl
+tests-end false false false false w h = true-or-false h refl
+
+usable-ends : (L : Limits) (t : Tables) → Usable L t → (d : ℕ) → endsAsking (grantStep L t d .reply) ≡ true → drones (t .plan) ≤ d
+usable-ends L t u d e = leb-true (drones (t .plan)) d (tests-end _ _ _ _ _ (sym (ap endsAsking (by-tests L t u d)) ∙ e))
 
 module _ (L : Limits) (t₀ : Tables) where
   unusable-none : Usable L t₀ → (n : ℕ) → unusableAt L t₀ (suc n) ≡ 0
@@ -143,6 +160,48 @@ module _ (L : Limits) (t₀ : Tables) where
     replied = q ∙ ap (λ (x : ℕ). replyWith x b) (g .unusable-is) ∙ reply-is n b ∙ ap (λ (x : ℕ). cond (fullSize L t₀) (cond (sound L t₀) (press.granted x) (pressRefused 40)) (pressRefused 41)) (g .bits-are ∙ ap (bitsBelow L t₀) e);
     left = g .tables-are ∙ ap (afterGrants L t₀) e;
   }
+
+-- ---- where the asking ends
+
+-- a reply that ends the asking is every later drone's too, and leaves the tables
+later-same : (L : Limits) (t : Tables) (n : ℕ) → endsAsking (grantStep L t n .reply) ≡ true → (m : ℕ) → n ≤ m → grantStep L t m ≡ refusal t (grantStep L t n .reply)
+later-same L t n e m l = by-cases (fullSize L t)
+    (λ f. by-cases (sound L t)
+    (λ s. let none = usable-ends L t (f, s) n e in grant-20 L t f s m (omega arith) ∙ same (refused 20) (grant-20 L t f s n none))
+    (λ s. step-40 L t f s (grant m) ∙ same (refused 40) (step-40 L t f s (grant n))))
+    (λ f. step-41 L t f (grant m) ∙ same (refused 41) (step-41 L t f (grant n)))
+  where
+    same : (r : Reply) → grantStep L t n ≡ refusal t r → refusal t r ≡ refusal t (grantStep L t n .reply)
+    same r q = ap (λ (a : Answer). refusal t (a .reply)) (sym q)
+
+ends-refused : (r : Reply) → endsAsking r ≡ true → isAccepted r ≡ false
+ends-refused accepted e = true-or-false e refl
+ends-refused (refused n) e = refl
+ends-refused (mustWait w) e = refl
+
+module _ (L : Limits) (t₀ : Tables) where
+  -- so the k drones that are left to ask change nothing
+  granting-past : (n : ℕ) (t : Tables) (b : ℕ) (r : Reply) → isAccepted r ≡ false → ((m : ℕ) → n ≤ m → Answered (step L) t (grant m) r t) → Granting L t₀ n t b (unusable r) → (k m : ℕ) → m ≡ k + n → Granting L t₀ m t b (unusable r)
+  granting-past n t b r e later g zero m q = subst (λ (j : ℕ). Granting L t₀ j t b (unusable r)) (omega (arith, q)) g
+  granting-past n t b r e later g (suc k) m q = subst (λ (j : ℕ). Granting L t₀ j t b (unusable r)) (omega (arith, q)) (granting-suc L t₀ (k + n) t b (unusable r) r t b (unusable r) (granting-past n t b r e later g k (k + n) refl) (later (k + n) (omega arith)) (rw e (omega arith)) refl)
+
+  pub granting-more : (n : ℕ) (t : Tables) (b u : ℕ) (r : Reply) (t′ : Tables) (b′ u′ n′ : ℕ) → n < L .drones → Granting L t₀ n t b u → Answered (step L) t (grant n) r t′ → b′ ≡ b + pick (isAccepted r) (2 ^ n) 0 → u′ ≡ unusable r → n′ ≡ nextAsked L (n + 1) r → Granting L t₀ n′ t′ b′ u′
+  granting-more n t b u r t′ b′ u′ n′ l g a e f q = by-cases (endsAsking r) ends (λ h. subst (λ (k : ℕ). Granting L t₀ k t′ b′ u′) (sym (q ∙ rw h (omega arith))) next)
+    where
+      next : Granting L t₀ (suc n) t′ b′ u′
+      next = granting-suc L t₀ n t b u r t′ b′ u′ g a e f
+
+      ends : endsAsking r ≡ true → Granting L t₀ n′ t′ b′ u′
+      ends h =
+          let later : (m : ℕ) → n ≤ m → grantStep L t m ≡ refusal t r = λ m o. subst (λ (x : Reply). grantStep L t m ≡ refusal t x) (sym (a .replied)) (later-same L t n (sym (ap endsAsking (a .replied)) ∙ h) m o) in
+          let kept : t′ ≡ t = a .left ∙ ap (λ (x : Answer). x .tables) (later n (omega arith)) in
+          rw (kept, f) (granting-past (suc n) t b′ r (ends-refused r h) (λ m o. record { replied = sym (ap (λ (x : Answer). x .reply) (later m (omega arith))); left = sym (ap (λ (x : Answer). x .tables) (later m (omega arith))) }) (rw (kept, f) at next) (L .drones - suc n) n′ (q ∙ rw h (omega arith)))
+
+-- the next drone to ask is a later one, up to the full size
+pub next-later : (L : Limits) (n : ℕ) (r : Reply) (n′ : ℕ) → n < L .drones → n′ ≡ nextAsked L (n + 1) r → (n < n′) × (n′ ≤ L .drones)
+next-later L n r n′ l q = by-cases (endsAsking r)
+    (λ h. let at-end : n′ ≡ L .drones = q ∙ rw h refl in (omega arith, omega arith))
+    (λ h. let one-more : n′ ≡ n + 1 = q ∙ rw h refl in (omega arith, omega arith))
 
 -- ---- a press
 

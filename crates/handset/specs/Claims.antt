@@ -26,7 +26,7 @@ grantsBelow zero = []
 grantsBelow (suc n) = grantsBelow n ++ (grant n ∷ [])
 
 module _ (L : Limits) where
-  -- the calls that a press makes: "An arrival that is refused grants nothing"
+  -- the calls that a press stands for: "An arrival that is refused grants nothing". The grants after the first 20, 41 or 40 it need not make, since they change nothing
   abbrev pub pressCalls : Tables → Report → List Call
   pressCalls t Nothing = grantsBelow (L .drones)
   pressCalls t (Arrived d) = arrive d ∷ cond (isAccepted (arriveStep L t d .reply)) (grantsBelow (L .drones)) []

@@ -1,6 +1,6 @@
 -- A press of the handset by the steps of the calls: the arrival's step, then the grants' steps in order. Assumes nothing.
 use mathlib.Core.Path.{_≡_}
-use mathlib.Core.Bool.{Bool, true, false, cond}
+use mathlib.Core.Bool.{Bool, true, false, cond, _||_}
 use Prim.Native.Nat.{ℕ, zero, suc, _^_}
 use lib.Dec.{eqb}
 use Rattle.below.specs.Below.{pick, sumBelow}
@@ -42,6 +42,16 @@ abbrev pub unusable : Reply → ℕ
 unusable accepted = 0
 unusable (refused n) = pick (eqb n 41) 41 (pick (eqb n 40) 40 0)
 unusable (mustWait w) = 0
+
+-- a grant's reply that every later drone gets as well: 41 and 40, and 20, since the drones are numbered without a gap
+abbrev pub endsAsking : Reply → Bool
+endsAsking accepted = false
+endsAsking (refused n) = eqb n 41 || eqb n 40 || eqb n 20
+endsAsking (mustWait w) = false
+
+-- the drone to ask after the reply r: the next one, or none, which is the full size, since the others would be replied the same
+abbrev pub nextAsked : Limits → ℕ → Reply → ℕ
+nextAsked L next r = pick (endsAsking r) (L .drones) next
 
 -- the reply by that number and the bits
 abbrev pub replyWith : ℕ → ℕ → PressOutcome

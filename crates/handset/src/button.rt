@@ -9,7 +9,7 @@ ghost use Rattle.tables.specs.Limits.{limits};
 ghost use Rattle.records.specs.Records.{tablesOfRecords};
 ghost use Rattle.handset.specs.Press.{PressedAs, grantAllStep, pressStep, pressMeant};
 
-// Grants every drone that may go, asked from drone 0 on.
+// Grants every drone that may go, asked from drone 0 on. A reply that every later drone would get as well ends the asking.
 pub fn grant_all(
     drone_count: &[u16],
     dependency_count: &[u16],
@@ -51,7 +51,7 @@ pub fn grant_all(
         );
         bits = replies::with_bit(bits, drone, reply);
         unusable_by = replies::unusable_number(reply);
-        drone += 1;
+        drone = replies::next_asked(drone + 1, reply);
     }
     replies::reply_with(unusable_by, bits)
 }

@@ -1,6 +1,7 @@
 // What the handset is told and what it replies, and how the replies of the calls go into its own.
 use flat::replies::ArriveReply;
 use flat::replies::GrantReply;
+use tables::entries::Drone;
 ghost use mathlib.Core.Path.{_≡_};
 ghost use mathlib.Core.Bool.{false};
 ghost use Prim.Native.Nat.{_+_, _^_, _<_};
@@ -8,7 +9,7 @@ ghost use Rattle.below.specs.Below.{pick};
 ghost use Rattle.tables.specs.Limits.{limits};
 ghost use Rattle.log.specs.CallLog.{isAccepted, replyNumber};
 ghost use Rattle.flat.specs.Replies.{grantMeant, arriveMeant};
-ghost use Rattle.handset.specs.Press.{isReported, reportedDrone, unusable, pressMeant, pressRefused, replyWith};
+ghost use Rattle.handset.specs.Press.{isReported, reportedDrone, unusable, nextAsked, pressMeant, pressRefused, replyWith};
 
 // What was reported since the last press.
 pub enum Report {
@@ -122,6 +123,21 @@ pub fn unusable_number(reply: GrantReply) -> u8
         GrantReply::Finished => 0,
         GrantReply::UnderWay => 0,
         GrantReply::MustWait(_) => 0,
+    }
+}
+
+// The drone to ask after this reply: the next one, or none, which is the full size, where every later drone would be replied the same.
+pub fn next_asked(next: usize, reply: GrantReply) -> usize
+    ensures { λ r. ⌜ r ≡ nextAsked limits next (grantMeant reply) ⌝ }
+{
+    match reply {
+        GrantReply::Granted => next,
+        GrantReply::TablesTooSmall => Drone::FULL,
+        GrantReply::NotSound => Drone::FULL,
+        GrantReply::NoDrone => Drone::FULL,
+        GrantReply::Finished => next,
+        GrantReply::UnderWay => next,
+        GrantReply::MustWait(_) => next,
     }
 }
 

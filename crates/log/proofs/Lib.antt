@@ -23,3 +23,4 @@ pub mod Flights
 pub mod Read
 pub mod Wrong
 pub mod Delays
+pub mod Moments

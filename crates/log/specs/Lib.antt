@@ -6,3 +6,4 @@ pub mod Preview
 pub mod Flights
 pub mod Wrong
 pub mod Delays
+pub mod Moments

@@ -4,8 +4,8 @@ use mathlib.Core.Logic.{_≢_}
 use mathlib.Core.List.{List}
 use mathlib.Core.Bool.{true, false, not}
 use Prim.Native.Nat.{ℕ, _≤_, _<_}
-use lib.Dec.{ltb, eqb}
-use borrow.Author.Tests.{lt-ltb, le-ltb, ltb-true, eq-eqb, ne-eqb}
+use lib.Dec.{ltb, leb, eqb}
+use borrow.Author.Tests.{lt-ltb, le-ltb, ltb-true, leb-true, eq-eqb, ne-eqb}
 use Rattle.below.specs.Below.{at, firstBelow}
 use Rattle.below.proofs.Tests.{by-cases}
 use Rattle.below.proofs.Search.{firstBelow-first, first-none, first-more}
@@ -14,9 +14,10 @@ use Rattle.plan.specs.declared.check.PlanCheck.{PlanCheck}
 use Rattle.plan.specs.declared.check.PlanCheck.the-variants.{Fine, Collision}
 use Rattle.plan.specs.Visits.{Visits}
 use Rattle.plan.specs.Check.{faultAt, firstFault, collide, partner, collider}
-use Rattle.plan.specs.Sharing.{Groups}
+use Rattle.plan.specs.Sharing.{Groups, Stretches, afterStop}
 use Rattle.plan.specs.Answers.{stopAt, faultCase, checkOf}
-use Rattle.plan.proofs.SharingLaws.{Elsewhere, walk-start, walk-more}
+use Rattle.plan.proofs.SharingLaws.{Elsewhere, walk-start}
+use Rattle.plan.proofs.StretchLaws.{walk-after}
 
 -- ---- stop by stop: f is the number at stop v
 module _ (S : Visits) (v f : ℕ) (e : f ≡ faultAt S v) where
@@ -36,14 +37,18 @@ module _ (S : Visits) (v w : ℕ) (e : w ≡ partner S v) where
   pub no-partner : n ≤ w → ltb (partner S v) n ≡ false
   no-partner h = le-ltb (partner S v) n (subst (λ (k : ℕ). n ≤ k) e h)
 
--- ---- the search of a partner, which passes over the stops at other locations
+-- ---- the search of a partner, which passes over the stops at other locations and over the stretches of drones that are not higher
 
 collide-elsewhere : (S : Visits) → Elsewhere S → (v u : ℕ) → S .loc u ≢ S .loc v → collide S v u ≡ false
 unfolding collide
 collide-elsewhere S only v u ne = by-cases (ltb (S .own v) (S .own u)) (λ e. rw (e, only .apart v u ne) refl) (λ e. rw e refl)
 
+collide-lower : (S : Visits) (v u : ℕ) → S .own u ≤ S .own v → collide S v u ≡ false
+unfolding collide
+collide-lower S v u h = rw (le-ltb (S .own v) (S .own u) h) refl
+
 module _ (S : Visits) (v : ℕ) where
-  open Visits S using (loc, n)
+  open Visits S using (own, loc, n)
 
   -- as far as w, which is at the location of v, nobody collides with v
   abbrev pub Alone : ℕ → Type 0
@@ -53,8 +58,11 @@ module _ (S : Visits) (v : ℕ) where
     pub alone-start : (w : ℕ) → v < n → w ≡ at first v → Alone w
     alone-start w l e = walk-start loc n first next G (λ w. firstBelow w (collide S v) ≡ w) v w l (λ u ne h. first-more _ u h (collide-elsewhere S only v u ne)) (first-none _) e
 
-    pub alone-more : (w x : ℕ) → Alone w → w < n → collide S v w ≡ false → x ≡ at next w → Alone x
-    alone-more w x A l h e = walk-more loc n first next G (λ w. firstBelow w (collide S v) ≡ w) v w x l (A .2 l) (λ u ne h. first-more _ u h (collide-elsewhere S only v u ne)) (first-more _ w (A .1) h) e
+    pub alone-more : (skip : List ℕ) → Stretches own loc n skip → (w x : ℕ) → Alone w → w < n → collide S v w ≡ false → x ≡ afterStop next skip w (leb (own w) (own v)) → Alone x
+    alone-more skip Z w x A l h e = walk-after own loc n first next skip G Z w x l (λ w. firstBelow w (collide S v) ≡ w) v (leb (own w) (own v)) (A .2 l)
+        (λ u ne h. first-more _ u h (collide-elsewhere S only v u ne))
+        (λ p u o h. first-more _ u h (collide-lower S v u (subst (λ (d : ℕ). d ≤ own v) (sym o) (leb-true (own w) (own v) p))))
+        (first-more _ w (A .1) h) e
 
 -- the partner of the first stop that has one is a stop
 pub partner-in : (S : Visits) (v w : ℕ) → v ≡ collider S → v < S .n → w ≡ partner S v → w < S .n

@@ -7,6 +7,7 @@ pub mod Exact
 pub mod Definition1
 pub mod Claims
 pub mod SharingLaws
+pub mod StretchLaws
 pub mod CheckLaws
 pub mod ColumnsLaws
 pub mod WaitsLaws

@@ -4,7 +4,7 @@ use Prim.Native.Nat.{ℕ}
 use Rattle.below.specs.Below.{countBelow}
 use Rattle.plan.specs.Visits.{Visits}
 use Rattle.plan.specs.Check.{faultAt, firstFault, collide, partner, collider}
-use Rattle.plan.specs.Dependencies.{follows, dependencyTotal}
+use Rattle.plan.specs.Dependencies.{follows, dependencyTotal, countedTo}
 
 module _ (S : Visits) where
   open Visits S using (own, num, loc, time, meets, n)
@@ -40,6 +40,6 @@ module _ (S : Visits) where
   unfolding follows
   row-any num′ n′ m v = refl
 
-  pub total-any : (num′ : ℕ → ℕ) → dependencyTotal (numbered num′ n) ≡ dependencyTotal S
+  pub counted-any : (num′ : ℕ → ℕ) (limit : ℕ) → countedTo limit (dependencyTotal (numbered num′ n)) ≡ countedTo limit (dependencyTotal S)
   unfolding follows
-  total-any num′ = refl
+  counted-any num′ limit = refl

@@ -3,9 +3,9 @@
 use mathlib.Core.Bool.{Bool, not, cond, _&&_, _||_}
 use mathlib.Core.List.{List}
 use Prim.Native.Nat.{ℕ, _+_}
-use lib.Dec.{ltb, eqb}
+use lib.Dec.{ltb, leb, eqb}
 use lib.ListN.{getD}
-use Rattle.below.specs.Below.{allBelow, pairsOf, listed}
+use Rattle.below.specs.Below.{allBelow, pairsOf, listed, pick}
 use Rattle.plan.specs.Visits.{Visits}
 use Rattle.plan.specs.Check.{apart}
 
@@ -20,6 +20,10 @@ isFixed own num n v w = eqb (num v) 0 || isLast own n w
 -- the flag byte of a new dependency: "bit 0 is turned, bit 1 is fixed, and the other six bits are zero"
 unfoldable pub flagOf : (own num : ℕ → ℕ) (n : ℕ) → ℕ → ℕ → ℕ
 flagOf own num n v w = cond (isFixed own num n v w) 2 0
+
+-- a total that is counted no further than to one past a limit
+unfoldable pub countedTo : (limit total : ℕ) → ℕ
+countedTo limit total = pick (leb total limit) total (limit + 1)
 
 module _ (S : Visits) where
   open Visits S using (own, loc, time, meets, n)

@@ -1,13 +1,13 @@
--- Stops that share a location: the first of them, and the next. The first is found through trees of first stops; a location's low digits say which way to go, so no
+-- Stops that share a location: the first of them, the next, and the next by another drone. The first is found through trees of first stops; a location's low digits say which way to go, so no
 -- plan makes a way long. `loc` is a stop's location. Assumes nothing.
 use mathlib.Core.Path.{_≡_}
 use mathlib.Core.Logic.{_≢_}
-use mathlib.Core.Bool.{_&&_}
+use mathlib.Core.Bool.{Bool, not, _&&_}
 use mathlib.Core.List.{List}
 use Prim.Native.Nat.{ℕ, _+_, _*_, _/_, _%_, _<_}
 use lib.Dec.{ltb, eqb}
 use lib.ListN.{length}
-use Rattle.below.specs.Below.{at, firstBelow}
+use Rattle.below.specs.Below.{at, firstBelow, pick}
 use Rattle.tables.specs.Limits.{limits}
 
 -- how many trees there are, as many as stops at most, and how many slots: a root for each tree and two branches for each stop
@@ -56,3 +56,17 @@ module _ (loc : ℕ → ℕ) where
   pub record Groups (n : ℕ) (first next : List ℕ) : Type 0 where
     pub firsts : (v : ℕ) → v < n → at first v ≡ firstAt v
     pub nexts : (v : ℕ) → v < n → at next v ≡ nextAt n v
+
+-- ---- stretches: the stops at one location that follow each other and are of one drone
+module _ (own loc : ℕ → ℕ) where
+  -- the end of the stretch of v: the next stop at the location of v whose drone is another, of n stops; n if there is none
+  unfoldable pub skipAt : ℕ → ℕ → ℕ
+  skipAt n v = firstBelow n (λ u. ltb v u && (eqb (loc u) (loc v) && not (eqb (own u) (own v))))
+
+  -- `skip` has the end of the stretch of each of n stops
+  pub record Stretches (n : ℕ) (skip : List ℕ) : Type 0 where
+    pub skips : (v : ℕ) → v < n → at skip v ≡ skipAt n v
+
+-- where a walk of the stops at one location goes on after stop w: past its whole stretch, or at the next stop there
+unfoldable pub afterStop : (next skip : List ℕ) (w : ℕ) (past : Bool) → ℕ
+afterStop next skip w past = pick past (at skip w) (at next w)

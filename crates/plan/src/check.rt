@@ -9,7 +9,7 @@ ghost use lib.ListN.{length};
 ghost use Rattle.below.specs.Below.{at};
 ghost use Rattle.plan.specs.Visits.{visitsOf};
 ghost use Rattle.plan.specs.Check.{faultAt, firstFault, over, collide, partner, collider};
-ghost use Rattle.plan.specs.Sharing.{Groups};
+ghost use Rattle.plan.specs.Sharing.{Groups, Stretches};
 ghost use Rattle.plan.specs.Answers.{stopAt, faultCase, checkOf};
 ghost use Rattle.plan.specs.Room.{VisitsRoom, PlanRoom};
 
@@ -103,7 +103,7 @@ fn collide_at(owners: &[u8], locations: &[u16], times: &[u32], n: usize, v: usiz
     true
 }
 
-// The first stop that collides with v, or n.
+// The first stop that collides with v, or n. Only higher drones count, so a stretch of v's own or of a lower one is passed over as a whole.
 fn partner_of(
     owners: &[u8],
     locations: &[u16],
@@ -111,9 +111,10 @@ fn partner_of(
     n: usize,
     first: &[u16; Stop::FULL],
     next: &[u16; Stop::FULL],
+    skip: &[u16; Stop::FULL],
     v: usize,
 ) -> usize
-    requires { ⌜ VisitsRoom n (now owners) (now locations) (now times) × Groups (at (now locations)) n (now first) (now next) × (v < n) ⌝ }
+    requires { ⌜ VisitsRoom n (now owners) (now locations) (now times) × Groups (at (now locations)) n (now first) (now next) × Stretches (at (now owners)) (at (now locations)) n (now skip) × (v < n) ⌝ }
     ensures { λ r. ⌜ ((numbers : List ℕ) → r ≡ partner (visitsOf (now (owners .entry)) numbers (now (locations .entry)) (now (times .entry)) n) v) ⌝ }
 {
     let mut w = first[v] as usize;
@@ -121,7 +122,7 @@ fn partner_of(
         if collide_at(owners, locations, times, n, v, w) {
             return w;
         }
-        w = next[w] as usize;
+        w = sharing::after_stop(next, skip, w, owners[w] <= owners[v]);
     }
     w
 }
@@ -134,13 +135,14 @@ fn first_collider(
     n: usize,
     first: &[u16; Stop::FULL],
     next: &[u16; Stop::FULL],
+    skip: &[u16; Stop::FULL],
 ) -> usize
-    requires { ⌜ VisitsRoom n (now owners) (now locations) (now times) × Groups (at (now locations)) n (now first) (now next) ⌝ }
+    requires { ⌜ VisitsRoom n (now owners) (now locations) (now times) × Groups (at (now locations)) n (now first) (now next) × Stretches (at (now owners)) (at (now locations)) n (now skip) ⌝ }
     ensures { λ r. ⌜ ((numbers : List ℕ) → r ≡ collider (visitsOf (now (owners .entry)) numbers (now (locations .entry)) (now (times .entry)) n)) ⌝ }
 {
     let mut v = 0;
     while v < n {
-        if partner_of(owners, locations, times, n, first, next, v) < n {
+        if partner_of(owners, locations, times, n, first, next, skip, v) < n {
             return v;
         }
         v += 1;
@@ -192,10 +194,12 @@ pub fn check_plan(
     }
     let mut first = [0u16; Stop::FULL];
     let mut next = [0u16; Stop::FULL];
+    let mut skip = [0u16; Stop::FULL];
     sharing::fill_groups(locations, n, &mut first, &mut next);
-    let v = first_collider(owners, locations, times, n, &first, &next);
+    sharing::fill_skips(owners, &next, n, &mut skip);
+    let v = first_collider(owners, locations, times, n, &first, &next, &skip);
     if v < n {
-        let w = partner_of(owners, locations, times, n, &first, &next, v);
+        let w = partner_of(owners, locations, times, n, &first, &next, &skip, v);
         return PlanCheck::Collision(stop_at(owners, numbers, v), stop_at(owners, numbers, w));
     }
     PlanCheck::Fine

@@ -1,4 +1,4 @@
-// The dependencies of a plan, counted, and written into a slice for each field of their records. Only the stops at one location are compared.
+// The dependencies of a plan, counted, and written into a slice for each field of their records. Only the stops of different drones at one location are compared.
 use crate::meeting::meets;
 use crate::sharing;
 use tables::entries::Dependency;
@@ -10,9 +10,9 @@ ghost use Prim.Native.Nat.{ℕ, _+_, _≤_, _<_};
 ghost use lib.ListN.{length};
 ghost use Rattle.below.specs.Below.{at, countBelow};
 ghost use Rattle.tables.specs.Limits.{limits};
-ghost use Rattle.plan.specs.Sharing.{Groups};
+ghost use Rattle.plan.specs.Sharing.{Groups, Stretches};
 ghost use Rattle.plan.specs.Visits.{visitsOf};
-ghost use Rattle.plan.specs.Dependencies.{follows, isLast, isFixed, flagOf, dependencyTotal};
+ghost use Rattle.plan.specs.Dependencies.{follows, isLast, isFixed, flagOf, dependencyTotal, countedTo};
 ghost use Rattle.plan.specs.Columns.{columnsWith, rowWritten, rowsWritten, builtOf, builtIn};
 ghost use Rattle.plan.specs.Room.{VisitsRoom, PlanRoom, ColumnsRoom};
 
@@ -70,9 +70,10 @@ fn count_row(
     n: usize,
     first: &[u16; Stop::FULL],
     next: &[u16; Stop::FULL],
+    skip: &[u16; Stop::FULL],
     v: usize,
 ) -> usize
-    requires { ⌜ VisitsRoom n (now owners) (now locations) (now times) × Groups (at (now locations)) n (now first) (now next) × (v < n) ⌝ }
+    requires { ⌜ VisitsRoom n (now owners) (now locations) (now times) × Groups (at (now locations)) n (now first) (now next) × Stretches (at (now owners)) (at (now locations)) n (now skip) × (v < n) ⌝ }
     ensures { λ r. ⌜ ((numbers : List ℕ) → r ≡ countBelow n (follows (visitsOf (now (owners .entry)) numbers (now (locations .entry)) (now (times .entry)) n) v)) ⌝ }
 {
     let mut c: usize = 0;
@@ -81,12 +82,12 @@ fn count_row(
         if follows_at(owners, locations, times, v, w) {
             c += 1;
         }
-        w = next[w] as usize;
+        w = sharing::after_stop(next, skip, w, owners[w] == owners[v]);
     }
     c
 }
 
-// How many dependencies there are.
+// How many dependencies there are; once they are more than the table's full size, nobody asks by how many.
 fn count_dependencies(
     owners: &[u8],
     locations: &[u16],
@@ -94,14 +95,18 @@ fn count_dependencies(
     n: usize,
     first: &[u16; Stop::FULL],
     next: &[u16; Stop::FULL],
+    skip: &[u16; Stop::FULL],
 ) -> usize
-    requires { ⌜ VisitsRoom n (now owners) (now locations) (now times) × Groups (at (now locations)) n (now first) (now next) ⌝ }
-    ensures { λ r. ⌜ ((numbers : List ℕ) → r ≡ dependencyTotal (visitsOf (now (owners .entry)) numbers (now (locations .entry)) (now (times .entry)) n)) ⌝ }
+    requires { ⌜ VisitsRoom n (now owners) (now locations) (now times) × Groups (at (now locations)) n (now first) (now next) × Stretches (at (now owners)) (at (now locations)) n (now skip) ⌝ }
+    ensures { λ r. ⌜ ((numbers : List ℕ) → r ≡ countedTo (limits .dependencies) (dependencyTotal (visitsOf (now (owners .entry)) numbers (now (locations .entry)) (now (times .entry)) n))) ⌝ }
 {
     let mut c: usize = 0;
     let mut v = 0;
     while v < n {
-        c += count_row(owners, locations, times, n, first, next, v);
+        c += count_row(owners, locations, times, n, first, next, skip, v);
+        if Dependency::FULL < c {
+            return Dependency::FULL + 1;
+        }
         v += 1;
     }
     c
@@ -116,6 +121,7 @@ fn fill_row(
     n: usize,
     first: &[u16; Stop::FULL],
     next: &[u16; Stop::FULL],
+    skip: &[u16; Stop::FULL],
     v: usize,
     c: usize,
     first_drones: &mut [u8],
@@ -124,7 +130,7 @@ fn fill_row(
     second_stops: &mut [u16],
     flags: &mut [u8],
 ) -> usize
-    requires { ⌜ PlanRoom n (now owners) (now numbers) (now locations) (now times) × Groups (at (now locations)) n (now first) (now next) × (v < n) ⌝ }
+    requires { ⌜ PlanRoom n (now owners) (now numbers) (now locations) (now times) × Groups (at (now locations)) n (now first) (now next) × Stretches (at (now owners)) (at (now locations)) n (now skip) × (v < n) ⌝ }
     requires { ⌜ ColumnsRoom (c + countBelow n (follows (visitsOf (now owners) (now numbers) (now locations) (now times) n) v)) (columnsWith (now «first_drones») (now «first_stops») (now «second_drones») (now «second_stops») (now flags)) ⌝ }
     ensures answer { λ r. ⌜ r ≡ c + countBelow n (follows (visitsOf (now (owners .entry)) (now (numbers .entry)) (now (locations .entry)) (now (times .entry)) n) v) ⌝ }
     ensures written { λ _. ⌜ columnsWith (now («first_drones» .exit)) (now («first_stops» .exit)) (now («second_drones» .exit)) (now («second_stops» .exit)) (now (flags .exit)) ≡ rowWritten (visitsOf (now (owners .entry)) (now (numbers .entry)) (now (locations .entry)) (now (times .entry)) n) v n c (columnsWith (now («first_drones» .entry)) (now («first_stops» .entry)) (now («second_drones» .entry)) (now («second_stops» .entry)) (now (flags .entry))) ⌝ }
@@ -133,7 +139,7 @@ fn fill_row(
     let mut w = first[v] as usize;
     while w < n {
         if !follows_at(owners, locations, times, v, w) {
-            w = next[w] as usize;
+            w = sharing::after_stop(next, skip, w, owners[w] == owners[v]);
             continue;
         }
         first_drones[k] = owners[v];
@@ -156,13 +162,14 @@ fn fill_rows(
     n: usize,
     first: &[u16; Stop::FULL],
     next: &[u16; Stop::FULL],
+    skip: &[u16; Stop::FULL],
     first_drones: &mut [u8],
     first_stops: &mut [u16],
     second_drones: &mut [u8],
     second_stops: &mut [u16],
     flags: &mut [u8],
 )
-    requires { ⌜ PlanRoom n (now owners) (now numbers) (now locations) (now times) × Groups (at (now locations)) n (now first) (now next) ⌝ }
+    requires { ⌜ PlanRoom n (now owners) (now numbers) (now locations) (now times) × Groups (at (now locations)) n (now first) (now next) × Stretches (at (now owners)) (at (now locations)) n (now skip) ⌝ }
     requires { ⌜ ColumnsRoom (dependencyTotal (visitsOf (now owners) (now numbers) (now locations) (now times) n)) (columnsWith (now «first_drones») (now «first_stops») (now «second_drones») (now «second_stops») (now flags)) ⌝ }
     ensures { λ _. ⌜ columnsWith (now («first_drones» .exit)) (now («first_stops» .exit)) (now («second_drones» .exit)) (now («second_stops» .exit)) (now (flags .exit)) ≡ rowsWritten (visitsOf (now (owners .entry)) (now (numbers .entry)) (now (locations .entry)) (now (times .entry)) n) n (columnsWith (now («first_drones» .entry)) (now («first_stops» .entry)) (now («second_drones» .entry)) (now («second_stops» .entry)) (now (flags .entry))) ⌝ }
 {
@@ -177,6 +184,7 @@ fn fill_rows(
             n,
             first,
             next,
+            skip,
             v,
             k,
             first_drones,
@@ -215,8 +223,10 @@ pub fn build(
 {
     let mut first = [0u16; Stop::FULL];
     let mut next = [0u16; Stop::FULL];
+    let mut skip = [0u16; Stop::FULL];
     sharing::fill_groups(locations, n, &mut first, &mut next);
-    let count = count_dependencies(owners, locations, times, n, &first, &next);
+    sharing::fill_skips(owners, &next, n, &mut skip);
+    let count = count_dependencies(owners, locations, times, n, &first, &next, &skip);
     if Dependency::FULL < count {
         return Built::TooMany;
     }
@@ -228,6 +238,7 @@ pub fn build(
         n,
         &first,
         &next,
+        &skip,
         first_drones,
         first_stops,
         second_drones,

@@ -2,11 +2,13 @@
 use tables::casts::wide;
 use tables::entries::Stop;
 ghost use mathlib.Core.Path.{_≡_};
+ghost use mathlib.Core.Bool.{_&&_};
 ghost use Prim.Native.Nat.{ℕ, _+_, _≤_, _<_};
+ghost use lib.Dec.{ltb, eqb};
 ghost use lib.ListN.{length};
 ghost use Rattle.below.specs.Below.{at, fillBelow};
 ghost use Rattle.tables.specs.Limits.{limits};
-ghost use Rattle.plan.specs.Sharing.{roots, rootOf, firstAt, Trees, nextAt};
+ghost use Rattle.plan.specs.Sharing.{roots, rootOf, firstAt, Trees, nextAt, skipAt, afterStop};
 
 // How many trees there are, as many as stops at most, and how many slots: a root for each tree and two branches for each stop.
 const ROOTS: usize = Stop::FULL;
@@ -83,4 +85,43 @@ pub fn fill_groups(
 {
     fill_firsts(locations, n, first);
     fill_nexts(first, n, next);
+}
+
+// Whether u is one of n stops, and of the drone of w.
+fn same_drone(owners: &[u8], n: usize, u: usize, w: usize) -> bool
+    requires { ⌜ (n ≤ length (now owners)) × (w < n) ⌝ }
+    ensures { λ r. ⌜ r ≡ ltb u n && eqb (at (now (owners .entry)) u) (at (now (owners .entry)) w) ⌝ }
+{
+    if n <= u {
+        return false;
+    }
+    owners[u] == owners[w]
+}
+
+// The end of the stretch of each of n stops: the next stop at its location whose drone is another, n where there is none; `next` has the next stop at each one's location.
+pub fn fill_skips(owners: &[u8], next: &[u16; Stop::FULL], n: usize, skip: &mut [u16; Stop::FULL])
+    requires { ⌜ (n ≤ length (now owners)) × (n ≤ limits .stops) × (length (now skip) ≡ limits .stops) ⌝ }
+    ensures { λ _. ⌜ ((loc : ℕ → ℕ) → ((v : ℕ) → v < n → at (now (next .entry)) v ≡ nextAt loc n v) → now (skip .exit) ≡ fillBelow n (skipAt (at (now (owners .entry))) loc n) (now (skip .entry))) ⌝ }
+{
+    let mut w = n;
+    while 0 < w {
+        w -= 1;
+        let u = wide(next[w]);
+        if same_drone(owners, n, u, w) {
+            skip[w] = skip[u];
+            continue;
+        }
+        skip[w] = next[w];
+    }
+}
+
+// Where a walk goes on after stop w: at the next stop there, or past the whole stretch of w.
+pub fn after_stop(next: &[u16; Stop::FULL], skip: &[u16; Stop::FULL], w: usize, past: bool) -> usize
+    requires { ⌜ w < limits .stops ⌝ }
+    ensures { λ r. ⌜ r ≡ afterStop (now (next .entry)) (now (skip .entry)) w past ⌝ }
+{
+    if past {
+        return wide(skip[w]);
+    }
+    wide(next[w])
 }

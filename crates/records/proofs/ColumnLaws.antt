@@ -1,7 +1,7 @@
 -- The columns of records.
 --     column-entry    an entry of a column
---     zero-columns    zeroed columns are those of zero records
---     columns-none, columns-more, columns-used    the columns as the used records are put into them
+--     zero-columns, zero-in-columns    zeroed columns are those of zero records
+--     in-none, in-more, in-used    the columns of a call as the used records are put into them
 --     column-sizes    columns are as long as their records
 --     gathered-record, gathered-length, gathered-columns    the records that are made of columns have those columns
 -- Assumes nothing.
@@ -16,7 +16,7 @@ use Rattle.below.proofs.Index.{length-listBelow, getD-listBelow}
 use Rattle.tables.specs.Limits.{Limits}
 use Rattle.tables.specs.Entries.{zeroDependency}
 use Rattle.tables.specs.declared.entries.Dependency.{Dependency}
-use Rattle.records.specs.Records.{recordAt, overlaid, ColumnSizes, ColumnsOf, recordOf, gathered, zeroRecords, usedRecords}
+use Rattle.records.specs.Records.{recordAt, overlaid, ColumnSizes, ColumnsOf, recordOf, gathered, zeroRecords, usedRecords, two, putTwo, InColumns}
 use Rattle.records.proofs.Overlaid.{overlaid-none, overlaid-more}
 
 -- entry k of a column is the field of record k
@@ -31,6 +31,13 @@ map-set f (x ∷ l) (suc i) y = ap (λ (u : List ℕ). f x ∷ u) (map-set f l i
 map-replicate : (f : Dependency → ℕ) (n : ℕ) (d : Dependency) → replicate n (f d) ≡ map f (replicate n d)
 map-replicate f zero d = refl
 map-replicate f (suc n) d = ap (λ (u : List ℕ). f d ∷ u) (map-replicate f n d)
+
+pub two-same : {a b c d : List ℕ} → a ≡ b → c ≡ d → two a c ≡ two b d
+two-same {a} {b} {c} {d} e f = ap (λ (u : List ℕ). two u c) e ∙ ap (two b) f
+
+-- a record more, in both columns of a table
+two-put : (f g : Dependency → ℕ) (es : List Dependency) (i : ℕ) (d : Dependency) (t t′ : List (List ℕ)) → t′ ≡ putTwo i (f d) (g d) t → t ≡ two (map f es) (map g es) → t′ ≡ two (map f (set es i d)) (map g (set es i d))
+two-put f g es i d t t′ e c = e ∙ ap (putTwo i (f d) (g d)) c ∙ two-same (sym (map-set f es i d)) (sym (map-set g es i d))
 
 module _ (L : Limits) where
   pub zero-columns : ColumnsOf (zeroRecords L) (replicate (L .dependencies) 0) (replicate (L .dependencies) 0) (replicate (L .dependencies) 0) (replicate (L .dependencies) 0) (replicate (L .dependencies) 0)
@@ -47,14 +54,40 @@ module _ (L : Limits) where
   unfolding zeroRecords
   zero-length = length-replicate (L .dependencies) zeroDependency
 
-  module _ {firstDrones firstStops secondDrones secondStops flags : List ℕ} where
-    pub columns-none : (ds : List Dependency) → ColumnsOf (zeroRecords L) firstDrones firstStops secondDrones secondStops flags → ColumnsOf (overlaid 0 ds (zeroRecords L)) firstDrones firstStops secondDrones secondStops flags
-    columns-none ds c = subst (λ (x : List Dependency). ColumnsOf x firstDrones firstStops secondDrones secondStops flags) (overlaid-none ds (zeroRecords L)) c
+  pub zero-in-columns : InColumns (zeroRecords L) (replicate 2 (replicate (L .dependencies) 0)) (replicate 2 (replicate (L .dependencies) 0)) (replicate (L .dependencies) 0)
+  unfolding zeroRecords
+  zero-in-columns = record {
+    both-stops = two-same (zero-columns .first-stops) (zero-columns .second-stops);
+    both-drones = two-same (zero-columns .first-drones) (zero-columns .second-drones);
+    flag-bytes = zero-columns .flag-bytes;
+  }
 
-    pub columns-used : (used : ℕ) (ds : List Dependency) (i : ℕ) → i ≡ min used (min (L .dependencies) (length ds)) → ColumnsOf (overlaid i ds (zeroRecords L)) firstDrones firstStops secondDrones secondStops flags → ColumnsOf (usedRecords L used ds) firstDrones firstStops secondDrones secondStops flags
+  -- ---- the used records one after the other
+
+  module _ {stops drones : List (List ℕ)} {flags : List ℕ} where
+    pub in-none : (ds : List Dependency) → InColumns (zeroRecords L) stops drones flags → InColumns (overlaid 0 ds (zeroRecords L)) stops drones flags
+    in-none ds c = subst (λ (x : List Dependency). InColumns x stops drones flags) (overlaid-none ds (zeroRecords L)) c
+
+    pub in-used : (used : ℕ) (ds : List Dependency) (i : ℕ) → i ≡ min used (min (L .dependencies) (length ds)) → InColumns (overlaid i ds (zeroRecords L)) stops drones flags → InColumns (usedRecords L used ds) stops drones flags
     unfolding usedRecords
-    columns-used used ds i e c = subst (λ (k : ℕ). ColumnsOf (overlaid k ds (zeroRecords L)) firstDrones firstStops secondDrones secondStops flags) e c
+    in-used used ds i e c = subst (λ (k : ℕ). InColumns (overlaid k ds (zeroRecords L)) stops drones flags) e c
 
+    pub in-more : {stops′ drones′ : List (List ℕ)} {flags′ : List ℕ} (ds : List Dependency) (i : ℕ) → i < length ds → i < L .dependencies
+        → stops′ ≡ putTwo i (recordAt ds i .«first_stop») (recordAt ds i .«second_stop») stops
+        → drones′ ≡ putTwo i (recordAt ds i .«first_drone») (recordAt ds i .«second_drone») drones
+        → flags′ ≡ set flags i (recordAt ds i .flags)
+        → InColumns (overlaid i ds (zeroRecords L)) stops drones flags → InColumns (overlaid (i + 1) ds (zeroRecords L)) stops′ drones′ flags′
+    in-more {stops′} {drones′} {flags′} ds i l m a b g c =
+        let es : List Dependency = overlaid i ds (zeroRecords L) in
+        let d : Dependency = recordAt ds i in
+        subst (λ (x : List Dependency). InColumns x stops′ drones′ flags′) (overlaid-more ds (zeroRecords L) es i d zeroDependency l (omega (arith, zero-length)) refl refl)
+        (record {
+          both-stops = two-put (λ (x : Dependency). x .«first_stop») (λ (x : Dependency). x .«second_stop») es i d stops stops′ a (c .both-stops);
+          both-drones = two-put (λ (x : Dependency). x .«first_drone») (λ (x : Dependency). x .«second_drone») es i d drones drones′ b (c .both-drones);
+          flag-bytes = g ∙ ap (λ (u : List ℕ). set u i (d .flags)) (c .flag-bytes) ∙ sym (map-set (λ (x : Dependency). x .flags) es i d);
+        })
+
+  module _ {firstDrones firstStops secondDrones secondStops flags : List ℕ} where
     pub column-sizes : (ds : List Dependency) → length ds ≡ L .dependencies → ColumnsOf ds firstDrones firstStops secondDrones secondStops flags → ColumnSizes L firstDrones firstStops secondDrones secondStops flags
     column-sizes ds e c = record {
       first-drones = ap length (c .first-drones) ∙ length-map ds (λ (d : Dependency). d .«first_drone») ∙ e;
@@ -63,35 +96,6 @@ module _ (L : Limits) where
       second-stops = ap length (c .second-stops) ∙ length-map ds (λ (d : Dependency). d .«second_stop») ∙ e;
       flag-bytes = ap length (c .flag-bytes) ∙ length-map ds (λ (d : Dependency). d .flags) ∙ e;
     }
-
-    -- one more record: its fields are stored into the columns
-    module _ {firstDrones′ firstStops′ secondDrones′ secondStops′ flags′ : List ℕ} (ds : List Dependency) (i : ℕ) where
-      columns-put : (es : List Dependency) (d : Dependency)
-          → firstDrones′ ≡ set firstDrones i (d .«first_drone»)
-          → firstStops′ ≡ set firstStops i (d .«first_stop»)
-          → secondDrones′ ≡ set secondDrones i (d .«second_drone»)
-          → secondStops′ ≡ set secondStops i (d .«second_stop»)
-          → flags′ ≡ set flags i (d .flags)
-          → ColumnsOf es firstDrones firstStops secondDrones secondStops flags → ColumnsOf (set es i d) firstDrones′ firstStops′ secondDrones′ secondStops′ flags′
-      columns-put es d a b e f g c = record {
-        first-drones = a ∙ ap (λ (u : List ℕ). set u i (d .«first_drone»)) (c .first-drones) ∙ sym (map-set (λ (x : Dependency). x .«first_drone») es i d);
-        first-stops = b ∙ ap (λ (u : List ℕ). set u i (d .«first_stop»)) (c .first-stops) ∙ sym (map-set (λ (x : Dependency). x .«first_stop») es i d);
-        second-drones = e ∙ ap (λ (u : List ℕ). set u i (d .«second_drone»)) (c .second-drones) ∙ sym (map-set (λ (x : Dependency). x .«second_drone») es i d);
-        second-stops = f ∙ ap (λ (u : List ℕ). set u i (d .«second_stop»)) (c .second-stops) ∙ sym (map-set (λ (x : Dependency). x .«second_stop») es i d);
-        flag-bytes = g ∙ ap (λ (u : List ℕ). set u i (d .flags)) (c .flag-bytes) ∙ sym (map-set (λ (x : Dependency). x .flags) es i d);
-      }
-
-      pub columns-more : i < length ds → i < L .dependencies
-          → firstDrones′ ≡ set firstDrones i (recordAt ds i .«first_drone»)
-          → firstStops′ ≡ set firstStops i (recordAt ds i .«first_stop»)
-          → secondDrones′ ≡ set secondDrones i (recordAt ds i .«second_drone»)
-          → secondStops′ ≡ set secondStops i (recordAt ds i .«second_stop»)
-          → flags′ ≡ set flags i (recordAt ds i .flags)
-          → ColumnsOf (overlaid i ds (zeroRecords L)) firstDrones firstStops secondDrones secondStops flags → ColumnsOf (overlaid (i + 1) ds (zeroRecords L)) firstDrones′ firstStops′ secondDrones′ secondStops′ flags′
-      columns-more l m a b e f g c =
-          subst (λ (x : List Dependency). ColumnsOf x firstDrones′ firstStops′ secondDrones′ secondStops′ flags′)
-          (overlaid-more ds (zeroRecords L) (overlaid i ds (zeroRecords L)) i (recordAt ds i) zeroDependency l (omega (arith, zero-length)) refl refl)
-          (columns-put (overlaid i ds (zeroRecords L)) (recordAt ds i) a b e f g c)
 
   -- ---- the records that are made of columns
 

@@ -1,16 +1,16 @@
 -- The tables that a call sees: by the columns of the records, by records that were stored, and of a lent table that is too short.
---     tables-spread    the columns of the records that are seen are the tables' own
+--     tables-spread, tables-in-columns    the columns of the records that are seen are the tables' own
 --     full-spread    only the lengths count for the full sizes
 --     tables-short    a lent table below its full size makes the tables too small
 --     stored-is, stored-rest, tables-stored    records that were stored: what is seen of them, and what lies past the full size is as it was
 -- Assumes nothing.
 use mathlib.Core.Path.{_≡_, refl, sym, ap, _∙_}
 use mathlib.Core.Bool.{Bool, true, false}
-use mathlib.Core.List.{List, map}
+use mathlib.Core.List.{List, [], map}
 use Prim.Native.Nat.{ℕ, _≤_, _<_, min}
 use native.Mathlib.Omega.{arith}
 use lib.Dec.{leb}
-use lib.ListN.{length, take, drop, length-map, length-take, drop-of-length-le}
+use lib.ListN.{length, getD, take, drop, length-map, length-take, drop-of-length-le}
 use lib.Seq.{take-all, take-at, drop-at, length-take-le}
 use borrow.Author.Tests.{leb-true, leb-false}
 use Rattle.below.specs.Below.{pick}
@@ -19,7 +19,7 @@ use Rattle.tables.specs.Limits.{Limits}
 use Rattle.tables.specs.Tables.{Tables, tablesOf, fullSize}
 use Rattle.tables.specs.declared.entries.Dependency.{Dependency}
 use Rattle.tables.proofs.SizeLaws.{full-sizes, fullSize-lengths}
-use Rattle.records.specs.Records.{overlaid, ColumnSizes, ColumnsOf, gathered, storeIf, zeroRecords, seen, tablesOfRecords, flagsOf}
+use Rattle.records.specs.Records.{overlaid, ColumnSizes, ColumnsOf, InColumns, gathered, storeIf, zeroRecords, seen, tablesOfRecords, flagsOf}
 use Rattle.records.proofs.ColumnLaws.{zero-length, column-sizes, gathered-length, gathered-columns}
 use Rattle.records.proofs.Overlaid.{overlaid-none, overlaid-length}
 
@@ -74,6 +74,9 @@ module _ (L : Limits) where
         let made : List Dependency = gathered L firstDrones firstStops secondDrones secondStops flags in
         let all : seen L after ≡ made = ap (seen L) is ∙ stored-seen made ds (gathered-length L firstDrones firstStops secondDrones secondStops flags) l in
         tables-spread after (rw all (gathered-columns L firstDrones firstStops secondDrones secondStops flags s))
+
+  pub tables-in-columns : {droneCount dependencyCount names stopCounts locations times visited droneFlags flags : List ℕ} {stops drones : List (List ℕ)} (ds : List Dependency) → InColumns (seen L ds) stops drones flags → tablesOf droneCount dependencyCount names stopCounts locations times visited droneFlags (getD drones 0 []) (getD stops 0 []) (getD drones 1 []) (getD stops 1 []) flags ≡ tablesOfRecords L droneCount dependencyCount names stopCounts locations times visited droneFlags ds
+  tables-in-columns ds c = rw (c .both-drones, c .both-stops, c .flag-bytes) refl
 
   -- columns of the full size, and as many records
   module _ (droneCount dependencyCount names stopCounts locations times visited droneFlags : List ℕ) {firstDrones firstStops secondDrones secondStops flags : List ℕ} where

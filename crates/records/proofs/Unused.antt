@@ -1,14 +1,15 @@
 -- Unused records are zero: the loop that sums their fields, and what it says of the columns.
 --     unused-none, unused-more, unused-end    the sum from the first unused record on
+--     in-unused, in-all    the columns of the used records where the unused ones are zero, and the columns of all, are those of the records that a call sees
 -- Assumes nothing.
-use mathlib.Core.Path.{_≡_, refl, sym, ap, _∙_}
+use mathlib.Core.Path.{_≡_, refl, sym, ap, subst, _∙_}
 use mathlib.Core.Bool.{Bool, true, _&&_, _||_}
-use mathlib.Core.List.{List, [], _∷_, map}
+use mathlib.Core.List.{List, [], _∷_, _++_, map, append-nil}
 use Prim.Native.Nat.{ℕ, zero, suc, _+_, _≤_, _<_, min}
 use native.Mathlib.Numerals.{add-one}
 use native.Mathlib.Omega.{arith}
 use lib.Dec.{ltb, eqb}
-use lib.ListN.{length, length-map, length-take, getD-replicate}
+use lib.ListN.{length, take, drop, replicate, length-map, length-take, length-replicate, drop-of-length-le, getD-replicate}
 use lib.Seq.{ext-getD, getD-take}
 use borrow.Author.Tests.{ltb-true, ltb-false, lt-ltb, le-ltb, ne-eqb, eqb-true}
 use Rattle.below.specs.Below.{at, allBelow}
@@ -17,9 +18,13 @@ use Rattle.below.proofs.Tests.{by-cases, same-test}
 use Rattle.tables.specs.Limits.{Limits}
 use Rattle.tables.specs.Entries.{zeroDependency}
 use Rattle.tables.specs.declared.entries.Dependency.{Dependency}
-use Rattle.records.specs.Records.{recordAt, ColumnsOf, zeroRecords, usedRecords, fieldSum, unusedZero, seen}
+use Rattle.records.specs.Records.{recordAt, overlaid, InColumns, zeroRecords, usedRecords, fieldSum, unusedZero, seen}
 use Rattle.records.proofs.Overlaid.{overlaid-length, overlaid-below, overlaid-above}
-use Rattle.records.proofs.ColumnLaws.{column-entry, zero-length}
+use Rattle.records.proofs.ColumnLaws.{column-entry, zero-length, two-same}
+
+pub no-entry : (l : List ℕ) → length l ≡ 0 → 0 ≡ at l 0
+no-entry [] e = refl
+no-entry (x ∷ l) e = absurd (omega arith)
 
 -- nothing is seen past the end
 record-past : (ds : List Dependency) (i : ℕ) → length ds ≤ i → recordAt ds i ≡ zeroDependency
@@ -92,11 +97,19 @@ module _ (L : Limits) (used : ℕ) (ds : List Dependency) where
           (λ k h. let b : k < L .dependencies = omega (arith, length-map (usedRecords L used ds) f, used-length) in
           column-entry f (usedRecords L used ds) k zero-field ∙ used-entry k b ∙ sym (column-entry f (seen L ds) k zero-field ∙ ap f (seen-entry k b)))
 
-    pub unused-columns : {firstDrones firstStops secondDrones secondStops flags : List ℕ} → ColumnsOf (usedRecords L used ds) firstDrones firstStops secondDrones secondStops flags → ColumnsOf (seen L ds) firstDrones firstStops secondDrones secondStops flags
-    unused-columns c = record {
-      first-drones = c .first-drones ∙ used-field (λ (d : Dependency). d .«first_drone») refl (λ d. omega arith);
-      first-stops = c .first-stops ∙ used-field (λ (d : Dependency). d .«first_stop») refl (λ d. omega arith);
-      second-drones = c .second-drones ∙ used-field (λ (d : Dependency). d .«second_drone») refl (λ d. omega arith);
-      second-stops = c .second-stops ∙ used-field (λ (d : Dependency). d .«second_stop») refl (λ d. omega arith);
+    pub in-unused : {stops drones : List (List ℕ)} {flags : List ℕ} → InColumns (usedRecords L used ds) stops drones flags → InColumns (seen L ds) stops drones flags
+    in-unused c = record {
+      both-stops = c .both-stops ∙ two-same (used-field (λ (d : Dependency). d .«first_stop») refl (λ d. omega arith)) (used-field (λ (d : Dependency). d .«second_stop») refl (λ d. omega arith));
+      both-drones = c .both-drones ∙ two-same (used-field (λ (d : Dependency). d .«first_drone») refl (λ d. omega arith)) (used-field (λ (d : Dependency). d .«second_drone») refl (λ d. omega arith));
       flag-bytes = c .flag-bytes ∙ used-field (λ (d : Dependency). d .flags) refl (λ d. omega arith);
     }
+
+module _ (L : Limits) (ds : List Dependency) (l : L .dependencies ≤ length ds) where
+  all-used : usedRecords L (length ds) ds ≡ seen L ds
+  unfolding usedRecords overlaid zeroRecords seen
+  all-used =
+      let m : min (length ds) (min (L .dependencies) (length ds)) ≡ L .dependencies = omega arith in
+      rw m (ap (λ (u : List Dependency). take (L .dependencies) ds ++ u) (drop-of-length-le (replicate (L .dependencies) zeroDependency) {i = L .dependencies} (omega (arith, length-replicate (L .dependencies) zeroDependency))) ∙ append-nil (take (L .dependencies) ds))
+
+  pub in-all : {stops drones : List (List ℕ)} {flags : List ℕ} → InColumns (usedRecords L (length ds) ds) stops drones flags → InColumns (seen L ds) stops drones flags
+  in-all {stops} {drones} {flags} c = subst (λ (x : List Dependency). InColumns x stops drones flags) all-used c

@@ -2,16 +2,14 @@
 use mathlib.Core.Path.{_≡_}
 use mathlib.Core.Bool.{Bool, true, false, _||_}
 use mathlib.Core.List.{List, [], _∷_, _++_, map}
-use Prim.Native.Nat.{ℕ, _+_, min}
+use Prim.Native.Nat.{ℕ, _+_, _≤_, min}
 use lib.Dec.{ltb, eqb}
 use lib.ListN.{length, getD, set, take, drop, replicate}
 use Rattle.below.specs.Below.{at, allBelow, listBelow}
 use Rattle.tables.specs.Limits.{Limits}
-use Rattle.tables.specs.Tables.{Tables, tablesOf, dependencies, fullSize}
+use Rattle.tables.specs.Tables.{Tables, tablesOf}
 use Rattle.tables.specs.Entries.{zeroDependency, flipDependency}
 use Rattle.tables.specs.declared.entries.Dependency.{Dependency}
-use Rattle.records.specs.declared.columns.Spread.{Spread}
-use Rattle.records.specs.declared.columns.Spread.the-variants.{Whole, TooSmall, UnusedNotZero}
 
 -- record i, the zero record past the end
 abbrev pub recordAt : List Dependency → ℕ → Dependency
@@ -116,14 +114,24 @@ tablesOfRecords L droneCount dependencyCount names stopCounts locations times vi
     (secondStopsOf (seen L ds))
     (flagsOf (seen L ds))
 
--- what a spreading of the records ds tells of the tables t that hold them
-abbrev pub SpreadAs : Limits → Tables → List Dependency → Spread → Type 0
-SpreadAs L t ds TooSmall = fullSize L t ≡ false
-SpreadAs L t ds UnusedNotZero = (fullSize L t ≡ true) × (unusedZero L (dependencies (t .plan)) ds ≡ false)
-SpreadAs L t ds Whole = (fullSize L t ≡ true) × (unusedZero L (dependencies (t .plan)) ds ≡ true)
+-- ---- the columns of a call: the two drones and the two stops of a record each in a table of two columns
 
--- whose columns it leaves: of the records that a call sees, or as they came
-abbrev pub spreadRecords : Limits → List Dependency → Spread → List Dependency
-spreadRecords L ds TooSmall = zeroRecords L
-spreadRecords L ds UnusedNotZero = zeroRecords L
-spreadRecords L ds Whole = seen L ds
+abbrev pub two : (first second : List ℕ) → List (List ℕ)
+two first second = first ∷ second ∷ []
+
+-- entry i of both columns of a table
+abbrev pub putTwo : ℕ → (first second : ℕ) → List (List ℕ) → List (List ℕ)
+putTwo i first second t =
+    let t′ : List (List ℕ) = set t 0 (set (getD t 0 []) i first) in
+    set t′ 1 (set (getD t′ 1 []) i second)
+
+-- the columns of these records
+pub record InColumns (ds : List Dependency) (stops drones : List (List ℕ)) (flags : List ℕ) : Type 0 where
+  pub both-stops : stops ≡ two (firstStopsOf ds) (secondStopsOf ds)
+  pub both-drones : drones ≡ two (firstDronesOf ds) (secondDronesOf ds)
+  pub flag-bytes : flags ≡ flagsOf ds
+
+-- what a call knows of the lent records ds: how many there are, and the columns of those that it sees if there are enough
+pub record Spread (L : Limits) (ds : List Dependency) (lent : ℕ) (stops drones : List (List ℕ)) (flags : List ℕ) : Type 0 where
+  pub lent-records : lent ≡ length ds
+  pub columns : L .dependencies ≤ length ds → InColumns (seen L ds) stops drones flags

@@ -4,39 +4,25 @@ ghost use mathlib.Core.Path.{_≡_};
 ghost use Prim.Native.Nat.{_<_};
 ghost use lib.ListN.{set};
 ghost use Rattle.tables.specs.Limits.{limits};
-ghost use Rattle.records.specs.Records.{recordOf};
-
-// What a spreading of the lent records into columns found.
-pub enum Spread {
-    // the columns are those of the records
-    Whole,
-    // a lent table is below full size
-    TooSmall,
-    // a record past the used ones is not zero
-    UnusedNotZero,
-}
+ghost use Rattle.records.specs.Records.{recordOf, putTwo};
 
 // Each field of a record into its own column.
 pub fn put_record(
     d: Dependency,
     i: usize,
-    first_drones: &mut [u8; Dependency::FULL],
-    first_stops: &mut [u16; Dependency::FULL],
-    second_drones: &mut [u8; Dependency::FULL],
-    second_stops: &mut [u16; Dependency::FULL],
+    stops: &mut [[u16; Dependency::FULL]; 2],
+    drones: &mut [[u8; Dependency::FULL]; 2],
     flags: &mut [u8; Dependency::FULL],
 )
     requires { ⌜ i < limits .dependencies ⌝ }
-    ensures { λ _. ⌜ now («first_drones» .exit) ≡ set (now («first_drones» .entry)) i (d .«first_drone») ⌝ }
-    ensures { λ _. ⌜ now («first_stops» .exit) ≡ set (now («first_stops» .entry)) i (d .«first_stop») ⌝ }
-    ensures { λ _. ⌜ now («second_drones» .exit) ≡ set (now («second_drones» .entry)) i (d .«second_drone») ⌝ }
-    ensures { λ _. ⌜ now («second_stops» .exit) ≡ set (now («second_stops» .entry)) i (d .«second_stop») ⌝ }
+    ensures { λ _. ⌜ now (stops .exit) ≡ putTwo i (d .«first_stop») (d .«second_stop») (now (stops .entry)) ⌝ }
+    ensures { λ _. ⌜ now (drones .exit) ≡ putTwo i (d .«first_drone») (d .«second_drone») (now (drones .entry)) ⌝ }
     ensures { λ _. ⌜ now (flags .exit) ≡ set (now (flags .entry)) i (d .flags) ⌝ }
 {
-    first_drones[i] = d.first_drone;
-    first_stops[i] = d.first_stop;
-    second_drones[i] = d.second_drone;
-    second_stops[i] = d.second_stop;
+    stops[0][i] = d.first_stop;
+    stops[1][i] = d.second_stop;
+    drones[0][i] = d.first_drone;
+    drones[1][i] = d.second_drone;
     flags[i] = d.flags;
 }
 

@@ -1,39 +1,27 @@
 // The lent slice of records itself. The borrow checker does not cover a reference to a slice of structs: the derivations of these functions are carried (docs/DERIVATIONS.md).
-use crate::columns::Spread;
 use crate::columns::put_record;
 use crate::columns::record_at;
 use crate::record;
 use tables::entries::Dependency;
-use tables::sizes::full_size;
 ghost use mathlib.Core.Path.{_≡_};
 ghost use Rattle.tables.specs.Limits.{limits};
-ghost use Rattle.records.specs.Records.{ColumnSizes, ColumnsOf, zeroRecords, usedRecords, unusedZero, tablesOfRecords, SpreadAs, spreadRecords, gathered, storeIf, flipIf, flipAllIf};
+ghost use Rattle.records.specs.Records.{InColumns, Spread, zeroRecords, usedRecords, unusedZero, gathered, storeIf, flipIf, flipAllIf};
 
 // The fields of the used records into zeroed columns.
 pub fn spread_used(
     deps: &[Dependency],
     used: usize,
-    first_drones: &mut [u8; Dependency::FULL],
-    first_stops: &mut [u16; Dependency::FULL],
-    second_drones: &mut [u8; Dependency::FULL],
-    second_stops: &mut [u16; Dependency::FULL],
+    stops: &mut [[u16; Dependency::FULL]; 2],
+    drones: &mut [[u8; Dependency::FULL]; 2],
     flags: &mut [u8; Dependency::FULL],
 )
-    requires { ⌜ ColumnsOf (zeroRecords limits) (now «first_drones») (now «first_stops») (now «second_drones») (now «second_stops») (now flags) ⌝ }
-    ensures { λ _. ⌜ ColumnsOf (usedRecords limits used (now (deps .entry))) (now («first_drones» .exit)) (now («first_stops» .exit)) (now («second_drones» .exit)) (now («second_stops» .exit)) (now (flags .exit)) ⌝ }
+    requires { ⌜ InColumns (zeroRecords limits) (now stops) (now drones) (now flags) ⌝ }
+    ensures { λ _. ⌜ InColumns (usedRecords limits used (now (deps .entry))) (now (stops .exit)) (now (drones .exit)) (now (flags .exit)) ⌝ }
 {
     let n = record::within_used(used, deps.len());
     let mut i: usize = 0;
     while i < n {
-        put_record(
-            deps[i],
-            i,
-            first_drones,
-            first_stops,
-            second_drones,
-            second_stops,
-            flags,
-        );
+        put_record(deps[i], i, stops, drones, flags);
         i += 1;
     }
 }
@@ -52,68 +40,28 @@ pub fn unused_zero(deps: &[Dependency], used: usize) -> bool
     sum == 0
 }
 
-// The columns of the lent records into zeroed columns, if no lent table is below full size and the unused records are zero.
+// The columns of the lent records into zeroed columns; the number of records that are lent. Where an unused record is not zero all are put there, for the call to see it.
 pub fn spread(
-    drone_count: &[u16],
     dependency_count: &[u16],
-    names: &[u8],
-    stop_counts: &[u16],
-    locations: &[u16],
-    times: &[u32],
-    visited: &[u16],
-    drone_flags: &[u8],
     deps: &[Dependency],
-    first_drones: &mut [u8; Dependency::FULL],
-    first_stops: &mut [u16; Dependency::FULL],
-    second_drones: &mut [u8; Dependency::FULL],
-    second_stops: &mut [u16; Dependency::FULL],
+    stops: &mut [[u16; Dependency::FULL]; 2],
+    drones: &mut [[u8; Dependency::FULL]; 2],
     flags: &mut [u8; Dependency::FULL],
-) -> Spread
-    requires { ⌜ ColumnsOf (zeroRecords limits) (now «first_drones») (now «first_stops») (now «second_drones») (now «second_stops») (now flags) ⌝ }
-    ensures { λ r.
-        ⌜
-        SpreadAs limits (tablesOfRecords limits
-        (now («drone_count» .entry)) (now («dependency_count» .entry)) (now (names .entry)) (now («stop_counts» .entry))
-        (now (locations .entry)) (now (times .entry)) (now (visited .entry)) (now («drone_flags» .entry))
-        (now (deps .entry))) (now (deps .entry)) r
-        ⌝ }
-    ensures { λ r. ⌜ ColumnsOf (spreadRecords limits (now (deps .entry)) r) (now («first_drones» .exit)) (now («first_stops» .exit)) (now («second_drones» .exit)) (now («second_stops» .exit)) (now (flags .exit)) ⌝ }
-    ensures { λ _. ⌜ ColumnSizes limits (now («first_drones» .exit)) (now («first_stops» .exit)) (now («second_drones» .exit)) (now («second_stops» .exit)) (now (flags .exit)) ⌝ }
+) -> usize
+    requires { ⌜ InColumns (zeroRecords limits) (now stops) (now drones) (now flags) ⌝ }
+    ensures { λ r. ⌜ Spread limits (now (deps .entry)) r (now (stops .exit)) (now (drones .exit)) (now (flags .exit)) ⌝ }
 {
-    if record::below_full(deps.len()) {
-        return Spread::TooSmall;
+    let lent = deps.len();
+    if record::below_full(lent) {
+        return lent;
     }
-    if !full_size(
-        drone_count,
-        dependency_count,
-        names,
-        stop_counts,
-        locations,
-        times,
-        visited,
-        drone_flags,
-        first_drones,
-        first_stops,
-        second_drones,
-        second_stops,
-        flags,
-    ) {
-        return Spread::TooSmall;
-    }
-    let used = dependency_count[0] as usize;
+    let used = record::only_entry(dependency_count);
     if !unused_zero(deps, used) {
-        return Spread::UnusedNotZero;
+        spread_used(deps, lent, stops, drones, flags);
+        return lent;
     }
-    spread_used(
-        deps,
-        used,
-        first_drones,
-        first_stops,
-        second_drones,
-        second_stops,
-        flags,
-    );
-    Spread::Whole
+    spread_used(deps, used, stops, drones, flags);
+    lent
 }
 
 // Stores the records that the columns make where `stores` says so: as many as are lent, up to the full size.

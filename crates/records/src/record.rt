@@ -3,7 +3,7 @@ use tables::entries::Dependency;
 ghost use mathlib.Core.Path.{_≡_};
 ghost use Prim.Native.Nat.{_≤_, min};
 ghost use lib.Dec.{ltb};
-ghost use Rattle.below.specs.Below.{pick};
+ghost use Rattle.below.specs.Below.{pick, at};
 ghost use Rattle.tables.specs.Limits.{limits};
 ghost use Rattle.tables.specs.Entries.{zeroDependency, flipDependency};
 ghost use Rattle.records.specs.Records.{fieldSum};
@@ -65,4 +65,14 @@ pub fn stored_count(stores: bool, n: usize) -> usize
     ensures { λ r. ⌜ r ≤ min (limits .dependencies) n ⌝ }
 {
     if stores { within_full(n) } else { 0 }
+}
+
+// The number that a table of one entry holds, 0 where it is empty.
+pub fn only_entry(table: &[u16]) -> usize
+    ensures { λ r. ⌜ r ≡ at (now (table .entry)) 0 ⌝ }
+{
+    if table.len() == 0 {
+        return 0;
+    }
+    table[0] as usize
 }

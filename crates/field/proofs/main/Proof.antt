@@ -1,7 +1,6 @@
--- The buffer has room for every output.
-use native.Mathlib.Omega.{arith}
-use lib.ListN.{length-take}
+-- What was written lies in the buffer.
 use borrow.Author.Needs.{needs}
+use Rattle.dispatch.proofs.ProgramLaws.{written-within, written-taken}
 use Rattle.field.proofs.main.Statement.{statement}
 use Rattle.field.proofs.main.Tie as tie
 use Rattle.field.proofs.main.Reads as reads
@@ -16,23 +15,14 @@ slice-aggregate-read-full c = search needs
 read-full-requires : tie.Need-read-full-requires
 read-full-requires c κs = search needs
 
-array-share-prefix-input : tie.Need-array-share-prefix-input
-array-share-prefix-input c = search needs
-
-slice-aggregate-transcript : tie.Need-slice-aggregate-transcript
-slice-aggregate-transcript c = search needs
-
-slice-aggregate-transcript-2 : tie.Need-slice-aggregate-transcript-2
-slice-aggregate-transcript-2 c = search needs
-
 transcript-requires : tie.Need-transcript-requires
 transcript-requires c κs = search needs
 
 array-share-prefix-output : tie.Need-array-share-prefix-output
-array-share-prefix-output c = omega (arith, c .before .transcript .kept .1 .0, c .before .transcript .ensures .fits)
+array-share-prefix-output c = written-within _ _ _ _ _ (c .transcript .ensures)
 
 slice-aggregate-write-all : tie.Need-slice-aggregate-write-all
-slice-aggregate-write-all c = simp length-take (omega (arith, c .before .before .transcript .kept .1 .0, c .before .before .transcript .ensures .fits))
+slice-aggregate-write-all c = written-taken _ _ _ _ _ (c .before .transcript .ensures)
 
 write-all-requires : tie.Need-write-all-requires
 write-all-requires c κs = search needs
@@ -46,9 +36,6 @@ main-spec =
     (tie.spec
     slice-aggregate-read-full
     read-full-requires
-    array-share-prefix-input
-    slice-aggregate-transcript
-    slice-aggregate-transcript-2
     transcript-requires
     array-share-prefix-output
     slice-aggregate-write-all

@@ -1,4 +1,5 @@
 -- `board::exports::board_preview_all`: Lts, carried over by tools/lend.py. Assumes nothing.
+use borrow.Fn.Args.{ArgsT}
 use Rattle.records.proofs.Row as Rec
 use Prim.Native.Nat
 use Rattle.board.proofs.answers.ChangeAnswer
@@ -76,10 +77,13 @@ abbrev ty·9 : Syntax.Ty
 ty·9 = Syntax.tyRef (Syntax.named 9) Syntax.imm (Syntax.tyInt Syntax.w16)
 
 abbrev ty·10 : Syntax.Ty
-ty·10 = Syntax.tyStruct (List._∷_ 98 (List._∷_ 111 (List._∷_ 97 (List._∷_ 114 (List._∷_ 100 (List._∷_ 58 (List._∷_ 58 (List._∷_ 97 (List._∷_ 110 (List._∷_ 115 (List._∷_ 119 (List._∷_ 101 (List._∷_ 114 (List._∷_ 115 (List._∷_ 58 (List._∷_ 58 (List._∷_ 67 (List._∷_ 104 (List._∷_ 97 (List._∷_ 110 (List._∷_ 103 (List._∷_ 101 (List._∷_ 65 (List._∷_ 110 (List._∷_ 115 (List._∷_ 119 (List._∷_ 101 (List._∷_ 114 List.[])))))))))))))))))))))))))))) (Syntax.tcons (Syntax.tyInt Syntax.w64) (Syntax.tcons (Syntax.tyInt Syntax.w64) Syntax.tnil))
+ty·10 = Syntax.tyStruct (List._∷_ 98 (List._∷_ 111 (List._∷_ 97 (List._∷_ 114 (List._∷_ 100 (List._∷_ 58 (List._∷_ 58 (List._∷_ 97 (List._∷_ 110 (List._∷_ 115 (List._∷_ 119 (List._∷_ 101 (List._∷_ 114 (List._∷_ 115 (List._∷_ 58 (List._∷_ 58 (List._∷_ 67 (List._∷_ 104 (List._∷_ 97 (List._∷_ 110 (List._∷_ 103 (List._∷_ 101 (List._∷_ 65 (List._∷_ 110 (List._∷_
+    115 (List._∷_ 119 (List._∷_ 101 (List._∷_ 114 List.[])))))))))))))))))))))))))))) (Syntax.tcons (Syntax.tyInt Syntax.w64) (Syntax.tcons (Syntax.tyInt Syntax.w64) Syntax.tnil))
 
 abbrev ty·11 : Syntax.Ty
-ty·11 = Syntax.tyEnum (List._∷_ 102 (List._∷_ 108 (List._∷_ 97 (List._∷_ 116 (List._∷_ 58 (List._∷_ 58 (List._∷_ 116 (List._∷_ 117 (List._∷_ 114 (List._∷_ 110 (List._∷_ 95 (List._∷_ 114 (List._∷_ 101 (List._∷_ 112 (List._∷_ 108 (List._∷_ 105 (List._∷_ 101 (List._∷_ 115 (List._∷_ 58 (List._∷_ 58 (List._∷_ 80 (List._∷_ 114 (List._∷_ 101 (List._∷_ 118 (List._∷_ 105 (List._∷_ 101 (List._∷_ 119 (List._∷_ 65 (List._∷_ 108 (List._∷_ 108 (List._∷_ 82 (List._∷_ 101 (List._∷_ 112 (List._∷_ 108 (List._∷_ 121 List.[]))))))))))))))))))))))))))))))))))) (Syntax.ttcons (Syntax.tcons (Syntax.tyInt Syntax.w32) Syntax.tnil) (Syntax.ttcons Syntax.tnil (Syntax.ttcons Syntax.tnil (Syntax.ttcons Syntax.tnil (Syntax.ttcons Syntax.tnil (Syntax.ttcons Syntax.tnil (Syntax.ttcons Syntax.tnil (Syntax.ttcons Syntax.tnil Syntax.ttnil))))))))
+ty·11 = Syntax.tyEnum (List._∷_ 102 (List._∷_ 108 (List._∷_ 97 (List._∷_ 116 (List._∷_ 58 (List._∷_ 58 (List._∷_ 116 (List._∷_ 117 (List._∷_ 114 (List._∷_ 110 (List._∷_ 95 (List._∷_ 114 (List._∷_ 101 (List._∷_ 112 (List._∷_ 108 (List._∷_ 105 (List._∷_ 101 (List._∷_ 115 (List._∷_ 58 (List._∷_ 58 (List._∷_ 80 (List._∷_ 114 (List._∷_ 101 (List._∷_ 118 (List._∷_
+    105 (List._∷_ 101 (List._∷_ 119 (List._∷_ 65 (List._∷_ 108 (List._∷_ 108 (List._∷_ 82 (List._∷_ 101 (List._∷_ 112 (List._∷_ 108 (List._∷_ 121 List.[]))))))))))))))))))))))))))))))))))) (Syntax.ttcons (Syntax.tcons (Syntax.tyInt Syntax.w32) Syntax.tnil) (Syntax.ttcons Syntax.tnil (Syntax.ttcons Syntax.tnil (Syntax.ttcons Syntax.tnil (Syntax.ttcons Syntax.tnil
+    (Syntax.ttcons Syntax.tnil (Syntax.ttcons Syntax.tnil (Syntax.ttcons Syntax.tnil Syntax.ttnil))))))))
 
 abbrev row·0 : Row.Row
 row·0 = Rows.any-gone ty·10
@@ -124,27 +128,13 @@ abbrev row·13 : Row.Row
 row·13 = Rows.whole (Declared.row PreviewAllReply.the-type)
 
 abbrev pub ps : List.List (Kinds.PK 10)
-ps = List._∷_ (ShrSlice.pShrS (Referent.rtF (Referent.fInt Syntax.w16)) 0 tt) (List._∷_ (ShrSlice.pShrS (Referent.rtF (Referent.fInt Syntax.w16)) 1 tt) (List._∷_ (ShrSlice.pShrS (Referent.rtF (Referent.fInt Syntax.w8)) 2 tt) (List._∷_ (ShrSlice.pShrS (Referent.rtF (Referent.fInt Syntax.w16)) 3 tt) (List._∷_
-    (ShrSlice.pShrS (Referent.rtF (Referent.fInt Syntax.w16)) 4 tt) (List._∷_ (ShrSlice.pShrS (Referent.rtF (Referent.fInt Syntax.w32)) 5 tt) (List._∷_ (ShrSlice.pShrS (Referent.rtF (Referent.fInt Syntax.w16)) 6 tt) (List._∷_ (ShrSlice.pShrS (Referent.rtF (Referent.fInt Syntax.w8)) 7 tt) (List._∷_ (ShrSlice.pShrS Rec.rt 8 tt)
-    (List._∷_ (ShrSlice.pShrS (Referent.rtF (Referent.fInt Syntax.w16)) 9 tt) List.[])))))))))
+ps = List._∷_ (ShrSlice.pShrS (Referent.rtF (Referent.fInt Syntax.w16)) 0 tt) (List._∷_ (ShrSlice.pShrS (Referent.rtF (Referent.fInt Syntax.w16)) 1 tt) (List._∷_ (ShrSlice.pShrS (Referent.rtF (Referent.fInt Syntax.w8)) 2 tt) (List._∷_ (ShrSlice.pShrS (Referent.rtF (Referent.fInt Syntax.w16)) 3 tt) (List._∷_ (ShrSlice.pShrS (Referent.rtF (Referent.fInt
+    Syntax.w16)) 4 tt) (List._∷_ (ShrSlice.pShrS (Referent.rtF (Referent.fInt Syntax.w32)) 5 tt) (List._∷_ (ShrSlice.pShrS (Referent.rtF (Referent.fInt Syntax.w16)) 6 tt) (List._∷_ (ShrSlice.pShrS (Referent.rtF (Referent.fInt Syntax.w8)) 7 tt) (List._∷_ (ShrSlice.pShrS Rec.rt 8 tt) (List._∷_ (ShrSlice.pShrS (Referent.rtF (Referent.fInt Syntax.w16)) 9 tt)
+    List.[])))))))))
 
 abbrev pub r : Kinds.RK 10
-r = Value.rVal record {
-  ty = Declared'.row ChangeAnswer.the-type;
-  one = Path'.refl;
-  val = Laws'3.val ChangeAnswer.the-type Laws.the-laws;
-  tells = Laws'3.tells ChangeAnswer.the-type Laws.the-laws;
-  still = Laws'3.still ChangeAnswer.the-type Laws.the-copy Exit.yes;
-  row = Rows.whole (Declared'.row ChangeAnswer.the-type);
-  rd = λ x. x;
-  mk = λ x. x;
-} λ M 𝓤 H A W. record {
-  copies = Laws'3.copy ChangeAnswer.the-type Laws.the-copy 𝓤 H A W;
-  lawful = Laws'3.lawful ChangeAnswer.the-type Laws.the-laws 𝓤 H A W;
-  makes = Laws'3.makes ChangeAnswer.the-type Laws.the-plain 𝓤 H A;
-  in-mem = Local.mem-whole 𝓤 H A W (Declared'.row ChangeAnswer.the-type);
-  of-mem = Local.whole-mem 𝓤 H A W (Declared'.row ChangeAnswer.the-type);
-}
+r = Value.rVal record { ty = Declared'.row ChangeAnswer.the-type; one = Path'.refl; val = Laws'3.val ChangeAnswer.the-type Laws.the-laws; tells = Laws'3.tells ChangeAnswer.the-type Laws.the-laws; still = Laws'3.still ChangeAnswer.the-type Laws.the-copy Exit.yes; row = Rows.whole (Declared'.row ChangeAnswer.the-type); rd = λ x. x; mk = λ x. x } λ M 𝓤 H A W.
+    record { copies = Laws'3.copy ChangeAnswer.the-type Laws.the-copy 𝓤 H A W; lawful = Laws'3.lawful ChangeAnswer.the-type Laws.the-laws 𝓤 H A W; makes = Laws'3.makes ChangeAnswer.the-type Laws.the-plain 𝓤 H A; in-mem = Local.mem-whole 𝓤 H A W (Declared'.row ChangeAnswer.the-type); of-mem = Local.whole-mem 𝓤 H A W (Declared'.row ChangeAnswer.the-type) }
 
 abbrev pub xs : List.List Syntax.Ty
 xs = List._∷_ ty·11 List.[]
@@ -153,63 +143,24 @@ abbrev pub m : Nat.ℕ
 m = 0
 
 abbrev pub ps·0 : List.List (Kinds.PK 10)
-ps·0 = List._∷_ (ShrSlice.pShrS (Referent.rtF (Referent.fInt Syntax.w16)) 0 tt) (List._∷_ (ShrSlice.pShrS (Referent.rtF (Referent.fInt Syntax.w16)) 1 tt) (List._∷_ (ShrSlice.pShrS (Referent.rtF (Referent.fInt Syntax.w8)) 2 tt) (List._∷_ (ShrSlice.pShrS (Referent.rtF (Referent.fInt Syntax.w16)) 3 tt) (List._∷_
-    (ShrSlice.pShrS (Referent.rtF (Referent.fInt Syntax.w16)) 4 tt) (List._∷_ (ShrSlice.pShrS (Referent.rtF (Referent.fInt Syntax.w32)) 5 tt) (List._∷_ (ShrSlice.pShrS (Referent.rtF (Referent.fInt Syntax.w16)) 6 tt) (List._∷_ (ShrSlice.pShrS (Referent.rtF (Referent.fInt Syntax.w8)) 7 tt) (List._∷_ (ShrSlice.pShrS Rec.rt 8 tt)
-    (List._∷_ (ShrSlice.pShrS (Referent.rtF (Referent.fInt Syntax.w16)) 9 tt) List.[])))))))))
+ps·0 = List._∷_ (ShrSlice.pShrS (Referent.rtF (Referent.fInt Syntax.w16)) 0 tt) (List._∷_ (ShrSlice.pShrS (Referent.rtF (Referent.fInt Syntax.w16)) 1 tt) (List._∷_ (ShrSlice.pShrS (Referent.rtF (Referent.fInt Syntax.w8)) 2 tt) (List._∷_ (ShrSlice.pShrS (Referent.rtF (Referent.fInt Syntax.w16)) 3 tt) (List._∷_ (ShrSlice.pShrS (Referent.rtF (Referent.fInt
+    Syntax.w16)) 4 tt) (List._∷_ (ShrSlice.pShrS (Referent.rtF (Referent.fInt Syntax.w32)) 5 tt) (List._∷_ (ShrSlice.pShrS (Referent.rtF (Referent.fInt Syntax.w16)) 6 tt) (List._∷_ (ShrSlice.pShrS (Referent.rtF (Referent.fInt Syntax.w8)) 7 tt) (List._∷_ (ShrSlice.pShrS Rec.rt 8 tt) (List._∷_ (ShrSlice.pShrS (Referent.rtF (Referent.fInt Syntax.w16)) 9 tt)
+    List.[])))))))))
 
 abbrev pub r·0 : Kinds.RK 10
-r·0 = Value.rVal record {
-  ty = Declared.row PreviewAllReply.the-type;
-  one = Path'.refl;
-  val = Laws''.val PreviewAllReply.the-type Laws'.the-laws;
-  tells = Laws''.tells PreviewAllReply.the-type Laws'.the-laws;
-  still = Laws''.still PreviewAllReply.the-type Laws'.the-copy Exit.yes;
-  row = Rows.whole (Declared.row PreviewAllReply.the-type);
-  rd = λ x. x;
-  mk = λ x. x;
-} λ M 𝓤 H A W. record {
-  copies = Laws''.copy PreviewAllReply.the-type Laws'.the-copy 𝓤 H A W;
-  lawful = Laws''.lawful PreviewAllReply.the-type Laws'.the-laws 𝓤 H A W tt;
-  makes = Laws''.makes PreviewAllReply.the-type Laws'.the-plain 𝓤 H A;
-  in-mem = Local.mem-whole 𝓤 H A W (Declared.row PreviewAllReply.the-type);
-  of-mem = Local.whole-mem 𝓤 H A W (Declared.row PreviewAllReply.the-type);
-}
+r·0 = Value.rVal record
+    { ty = Declared.row PreviewAllReply.the-type; one = Path'.refl; val = Laws''.val PreviewAllReply.the-type Laws'.the-laws; tells = Laws''.tells PreviewAllReply.the-type Laws'.the-laws; still = Laws''.still PreviewAllReply.the-type Laws'.the-copy Exit.yes; row = Rows.whole (Declared.row PreviewAllReply.the-type); rd = λ x. x; mk = λ x. x } λ M 𝓤 H A W. record
+    { copies = Laws''.copy PreviewAllReply.the-type Laws'.the-copy 𝓤 H A W; lawful = Laws''.lawful PreviewAllReply.the-type Laws'.the-laws 𝓤 H A W tt; makes = Laws''.makes PreviewAllReply.the-type Laws'.the-plain 𝓤 H A; in-mem = Local.mem-whole 𝓤 H A W (Declared.row PreviewAllReply.the-type); of-mem = Local.whole-mem 𝓤 H A W (Declared.row PreviewAllReply.the-type) }
 
 abbrev pub ps·1 : List.List (Kinds.PK 0)
-ps·1 = List._∷_ (Value.pVal record {
-  ty = Declared.row PreviewAllReply.the-type;
-  one = Path'.refl;
-  val = Laws''.val PreviewAllReply.the-type Laws'.the-laws;
-  tells = Laws''.tells PreviewAllReply.the-type Laws'.the-laws;
-  still = Laws''.still PreviewAllReply.the-type Laws'.the-copy Exit.yes;
-  row = Rows.whole (Declared.row PreviewAllReply.the-type);
-  rd = λ x. x;
-  mk = λ x. x;
-} λ M 𝓤 H A W. record {
-  copies = Laws''.copy PreviewAllReply.the-type Laws'.the-copy 𝓤 H A W;
-  lawful = Laws''.lawful PreviewAllReply.the-type Laws'.the-laws 𝓤 H A W tt;
-  makes = Laws''.makes PreviewAllReply.the-type Laws'.the-plain 𝓤 H A;
-  in-mem = Local.mem-whole 𝓤 H A W (Declared.row PreviewAllReply.the-type);
-  of-mem = Local.whole-mem 𝓤 H A W (Declared.row PreviewAllReply.the-type);
-}) List.[]
+ps·1 = List._∷_ (Value.pVal record
+    { ty = Declared.row PreviewAllReply.the-type; one = Path'.refl; val = Laws''.val PreviewAllReply.the-type Laws'.the-laws; tells = Laws''.tells PreviewAllReply.the-type Laws'.the-laws; still = Laws''.still PreviewAllReply.the-type Laws'.the-copy Exit.yes; row = Rows.whole (Declared.row PreviewAllReply.the-type); rd = λ x. x; mk = λ x. x } λ M 𝓤 H A W. record
+    { copies = Laws''.copy PreviewAllReply.the-type Laws'.the-copy 𝓤 H A W; lawful = Laws''.lawful PreviewAllReply.the-type Laws'.the-laws 𝓤 H A W tt; makes = Laws''.makes PreviewAllReply.the-type Laws'.the-plain 𝓤 H A; in-mem = Local.mem-whole 𝓤 H A W (Declared.row PreviewAllReply.the-type); of-mem = Local.whole-mem 𝓤 H A W (Declared.row PreviewAllReply.the-type) })
+    List.[]
 
 abbrev pub r·1 : Kinds.RK 0
-r·1 = Value.rVal record {
-  ty = Declared'.row ChangeAnswer.the-type;
-  one = Path'.refl;
-  val = Laws'3.val ChangeAnswer.the-type Laws.the-laws;
-  tells = Laws'3.tells ChangeAnswer.the-type Laws.the-laws;
-  still = Laws'3.still ChangeAnswer.the-type Laws.the-copy Exit.yes;
-  row = Rows.whole (Declared'.row ChangeAnswer.the-type);
-  rd = λ x. x;
-  mk = λ x. x;
-} λ M 𝓤 H A W. record {
-  copies = Laws'3.copy ChangeAnswer.the-type Laws.the-copy 𝓤 H A W;
-  lawful = Laws'3.lawful ChangeAnswer.the-type Laws.the-laws 𝓤 H A W;
-  makes = Laws'3.makes ChangeAnswer.the-type Laws.the-plain 𝓤 H A;
-  in-mem = Local.mem-whole 𝓤 H A W (Declared'.row ChangeAnswer.the-type);
-  of-mem = Local.whole-mem 𝓤 H A W (Declared'.row ChangeAnswer.the-type);
-}
+r·1 = Value.rVal record { ty = Declared'.row ChangeAnswer.the-type; one = Path'.refl; val = Laws'3.val ChangeAnswer.the-type Laws.the-laws; tells = Laws'3.tells ChangeAnswer.the-type Laws.the-laws; still = Laws'3.still ChangeAnswer.the-type Laws.the-copy Exit.yes; row = Rows.whole (Declared'.row ChangeAnswer.the-type); rd = λ x. x; mk = λ x. x } λ M 𝓤 H A W.
+    record { copies = Laws'3.copy ChangeAnswer.the-type Laws.the-copy 𝓤 H A W; lawful = Laws'3.lawful ChangeAnswer.the-type Laws.the-laws 𝓤 H A W; makes = Laws'3.makes ChangeAnswer.the-type Laws.the-plain 𝓤 H A; in-mem = Local.mem-whole 𝓤 H A W (Declared'.row ChangeAnswer.the-type); of-mem = Local.whole-mem 𝓤 H A W (Declared'.row ChangeAnswer.the-type) }
 
 abbrev pub hs : List.List Syntax.Home
 hs = List._∷_ Syntax.valueLocal (List._∷_ Syntax.valueLocal (List._∷_ Syntax.valueLocal (List._∷_ Syntax.valueLocal (List._∷_ Syntax.valueLocal (List._∷_ Syntax.valueLocal (List._∷_ Syntax.valueLocal (List._∷_ Syntax.valueLocal (List._∷_ Syntax.valueLocal (List._∷_ Syntax.valueLocal (List._∷_ Syntax.valueLocal (List._∷_ Syntax.valueLocal List.[])))))))))))
@@ -236,308 +187,76 @@ body = b4
 abbrev pub Claims : Type 1
 Claims = Kinds.In 10 ps·0 × Kinds.Out 10 ps·0 r·0 × Kinds.In 0 ps·1 × Kinds.Out 0 ps·1 r·1
 
-abbrev pub t0 : List.List Row.Entry
-t0 = List._∷_ (0, row·0) (List._∷_ (1, row·1) (List._∷_ (2, row·2) (List._∷_ (3, row·3) (List._∷_ (4, row·4) (List._∷_ (5, row·5) (List._∷_ (6, row·6) (List._∷_ (7, row·7) (List._∷_ (8, row·8) (List._∷_ (9, row·9) (List._∷_ (10, row·10) (List._∷_ (11, row·11) List.[])))))))))))
-
-abbrev pub t1 : List.List Row.Entry
-t1 = List._∷_ (0, row·12) (List._∷_ (1, row·1) (List._∷_ (2, row·2) (List._∷_ (3, row·3) (List._∷_ (4, row·4) (List._∷_ (5, row·5) (List._∷_ (6, row·6) (List._∷_ (7, row·7) (List._∷_ (8, row·8) (List._∷_ (9, row·9) (List._∷_ (10, row·10) (List._∷_ (11, row·11) List.[])))))))))))
-
-abbrev pub t2 : List.List Row.Entry
-t2 = List._∷_ (0, row·0) (List._∷_ (1, row·1) (List._∷_ (2, row·2) (List._∷_ (3, row·3) (List._∷_ (4, row·4) (List._∷_ (5, row·5) (List._∷_ (6, row·6) (List._∷_ (7, row·7) (List._∷_ (8, row·8) (List._∷_ (9, row·9) (List._∷_ (10, row·10) (List._∷_ (11, row·13) List.[])))))))))))
-
-abbrev pub t3 : List.List Row.Entry
-t3 = List._∷_ (0, row·12) (List._∷_ (1, row·1) (List._∷_ (2, row·2) (List._∷_ (3, row·3) (List._∷_ (4, row·4) (List._∷_ (5, row·5) (List._∷_ (6, row·6) (List._∷_ (7, row·7) (List._∷_ (8, row·8) (List._∷_ (9, row·9) (List._∷_ (10, row·10) (List._∷_ (11, row·13) List.[])))))))))))
-
 abbrev pub T0 : Row.Cx
-T0 = record { locals = t0; slots = List.[] }
+T0 = record { locals = List._∷_ (0, row·0) (List._∷_ (1, row·1) (List._∷_ (2, row·2) (List._∷_ (3, row·3) (List._∷_ (4, row·4) (List._∷_ (5, row·5) (List._∷_ (6, row·6) (List._∷_ (7, row·7) (List._∷_ (8, row·8) (List._∷_ (9, row·9) (List._∷_ (10, row·10) (List._∷_ (11, row·11) List.[]))))))))))); slots = List.[] }
 
 abbrev pub T1 : Row.Cx
-T1 = record { locals = t1; slots = List.[] }
-
-abbrev pub T2 : Row.Cx
-T2 = record { locals = t0; slots = List.[] }
-
-abbrev pub T3 : Row.Cx
-T3 = record { locals = t0; slots = List.[] }
-
-abbrev pub T4 : Row.Cx
-T4 = record { locals = t0; slots = List.[] }
-
-abbrev pub T5 : Row.Cx
-T5 = record { locals = t0; slots = List.[] }
-
-abbrev pub T6 : Row.Cx
-T6 = record { locals = t0; slots = List.[] }
-
-abbrev pub T7 : Row.Cx
-T7 = record { locals = t0; slots = List.[] }
-
-abbrev pub T8 : Row.Cx
-T8 = record { locals = t0; slots = List.[] }
-
-abbrev pub T9 : Row.Cx
-T9 = record { locals = t0; slots = List.[] }
-
-abbrev pub T10 : Row.Cx
-T10 = record { locals = t0; slots = List.[] }
+T1 = record { locals = List._∷_ (0, row·12) (List._∷_ (1, row·1) (List._∷_ (2, row·2) (List._∷_ (3, row·3) (List._∷_ (4, row·4) (List._∷_ (5, row·5) (List._∷_ (6, row·6) (List._∷_ (7, row·7) (List._∷_ (8, row·8) (List._∷_ (9, row·9) (List._∷_ (10, row·10) (List._∷_ (11, row·11) List.[]))))))))))); slots = List.[] }
 
 abbrev pub T11 : Row.Cx
-T11 = record { locals = t2; slots = List.[] }
+T11 = record { locals = List._∷_ (0, row·0) (List._∷_ (1, row·1) (List._∷_ (2, row·2) (List._∷_ (3, row·3) (List._∷_ (4, row·4) (List._∷_ (5, row·5) (List._∷_ (6, row·6) (List._∷_ (7, row·7) (List._∷_ (8, row·8) (List._∷_ (9, row·9) (List._∷_ (10, row·10) (List._∷_ (11, row·13) List.[]))))))))))); slots = List.[] }
 
 abbrev pub T12 : Row.Cx
-T12 = record { locals = t3; slots = List.[] }
+T12 = record { locals = List._∷_ (0, row·12) (List._∷_ (1, row·1) (List._∷_ (2, row·2) (List._∷_ (3, row·3) (List._∷_ (4, row·4) (List._∷_ (5, row·5) (List._∷_ (6, row·6) (List._∷_ (7, row·7) (List._∷_ (8, row·8) (List._∷_ (9, row·9) (List._∷_ (10, row·10) (List._∷_ (11, row·13) List.[]))))))))))); slots = List.[] }
 
-abbrev pub T13 : Row.Cx
-T13 = record { locals = t1; slots = List.[] }
+abbrev args·0 : ArgsT ps·0 (T0 .locals)
+args·0 = (record { pos = 1; ty = ty·3; ref = λ x. x }, (record { pos = 2; ty = ty·4; ref = λ x. x }, (record { pos = 3; ty = ty·1; ref = λ x. x }, (record { pos = 4; ty = ty·5; ref = λ x. x }, (record { pos = 5; ty = ty·6; ref = λ x. x }, (record { pos = 6; ty = ty·7; ref = λ x. x }, (record { pos = 7; ty = ty·8; ref = λ x. x }, (record { pos = 8; ty = ty·2; ref = λ x. x }, (record { pos = 9; ty = ty·0; ref = λ x. x }, (record { pos = 10; ty = ty·9; ref = λ x. x }, tt))))))))))
 
 abbrev pub O0 : Typed.Outs
 O0 = record { next = Option.none; exits = List.[]; returns = Option.some T1 }
 
 module _ (claims· : Claims) where
-  abbrev s0 : Typed.Gives T0 T2
-  s0 = Know.k-shs-known (Referent.fInt Syntax.w16) T0 1 0 ty·3 Row.off 0 λ x. x
-
-  abbrev s1 : Typed.Gives T2 T3
-  s1 = Know.k-shs-known (Referent.fInt Syntax.w16) T2 2 1 ty·4 Row.off 0 λ x. x
-
-  abbrev s2 : Typed.Gives T3 T4
-  s2 = Know.k-shs-known (Referent.fInt Syntax.w8) T3 3 2 ty·1 Row.off 0 λ x. x
-
-  abbrev s3 : Typed.Gives T4 T5
-  s3 = Know.k-shs-known (Referent.fInt Syntax.w16) T4 4 3 ty·5 Row.off 0 λ x. x
-
-  abbrev s4 : Typed.Gives T5 T6
-  s4 = Know.k-shs-known (Referent.fInt Syntax.w16) T5 5 4 ty·6 Row.off 0 λ x. x
-
-  abbrev s5 : Typed.Gives T6 T7
-  s5 = Know.k-shs-known (Referent.fInt Syntax.w32) T6 6 5 ty·7 Row.off 0 λ x. x
-
-  abbrev s6 : Typed.Gives T7 T8
-  s6 = Know.k-shs-known (Referent.fInt Syntax.w16) T7 7 6 ty·8 Row.off 0 λ x. x
-
-  abbrev s7 : Typed.Gives T8 T9
-  s7 = Know.k-shs-known (Referent.fInt Syntax.w8) T8 8 7 ty·2 Row.off 0 λ x. x
-
-  abbrev s8 : Typed.Gives T9 T10
-  s8 = Know.k-shs-known (Referent.fInt Syntax.w16) T9 10 9 ty·9 Row.off 0 λ x. x
-
-  abbrev s9 : Typed.Both T10 T11
-  s9 = Call.callB ps·0 r·0 (claims· .0) (claims· .1) T10 (
-    record { pos = 1; ty = Syntax.tyRef (Syntax.named 0) Syntax.imm (Syntax.tyInt Syntax.w16); ref = λ x. x },
-    (
-      record { pos = 2; ty = Syntax.tyRef (Syntax.named 1) Syntax.imm (Syntax.tyInt Syntax.w16); ref = λ x. x },
-      (
-        record {
-          pos = 3;
-          ty = Syntax.tyRef (Syntax.named 2) Syntax.imm (Syntax.tyInt Syntax.w8);
-          ref = λ x. x;
-        },
-        (
-          record { pos = 4; ty = Syntax.tyRef (Syntax.named 3) Syntax.imm (Syntax.tyInt Syntax.w16); ref = λ x. x },
-          (
-            record { pos = 5; ty = Syntax.tyRef (Syntax.named 4) Syntax.imm (Syntax.tyInt Syntax.w16); ref = λ x. x },
-            (
-              record {
-                pos = 6;
-                ty = Syntax.tyRef (Syntax.named 5) Syntax.imm (Syntax.tyInt Syntax.w32);
-                ref = λ x. x;
-              },
-              (
-                record { pos = 7; ty = Syntax.tyRef (Syntax.named 6) Syntax.imm (Syntax.tyInt Syntax.w16); ref = λ x. x },
-                (
-                  record { pos = 8; ty = Syntax.tyRef (Syntax.named 7) Syntax.imm (Syntax.tyInt Syntax.w8); ref = λ x. x },
-                  (
-                    record {
-                      pos = 9;
-                      ty = Syntax.tyRef
-                          (Syntax.named 8) Syntax.imm Rec.behind;
-                      ref = λ x. x;
-                    },
-                    (record { pos = 10; ty = Syntax.tyRef (Syntax.named 9) Syntax.imm (Syntax.tyInt Syntax.w16); ref = λ x. x }, tt),
-                  ),
-                ),
-              ),
-            ),
-          ),
-        ),
-      ),
-    ),
-  ) 11 (List._∷_ 0 (List._∷_ 1 (List._∷_ 2 (List._∷_ 3 (List._∷_ 4 (List._∷_ 5 (List._∷_ 6 (List._∷_ 7 (List._∷_ 8 (List._∷_ 9 List.[])))))))))) ty·11
+  abbrev s9 : Typed.Both T0 T11
+  s9 = Call.callB ps·0 r·0 (claims· .0) (claims· .1) T0 args·0 11 (List._∷_ 0 (List._∷_ 1 (List._∷_ 2 (List._∷_ 3 (List._∷_ 4 (List._∷_ 5 (List._∷_ 6 (List._∷_ 7 (List._∷_ 8 (List._∷_ 9 List.[])))))))))) ty·11
 
   abbrev s10 : Typed.Both T11 T12
-  s10 = Call.callB ps·1 r·1 (claims· .2) (claims· .3) T11 (
-    record { pos = 11; st = List.[]; d = 0; at = λ x. x },
-    tt,
-  ) 0 List.[] ty·10
+  s10 = Call.callB ps·1 r·1 (claims· .2) (claims· .3) T11 (record { pos = 11; st = List.[]; d = 0; at = λ x. x }, tt) 0 List.[] ty·10
 
-  abbrev s11 : Typed.Mo T12 → Typed.Mo T13
+  abbrev s11 : Typed.Mo T12 → Typed.Mo T1
   s11 = Scalar.n-room T12 11 ty·11
 
   module _ (Pre· : (κs : Lifetimes.Lfts 10) → Kinds.Dens κs ps → Type 0) (Post· : (κs : Lifetimes.Lfts 10) → (a : Kinds.Dens κs ps) → Kinds.Plain 10 ps r κs) where
     module _ (M : Type 1) where
       abbrev pub Closed : Type 2
-      Closed = (𝓤 : URA.URA M) (H : Wp.Heap 𝓤) (A : Atoms.Atoms 𝓤) (W : Kit.Given 𝓤 H A) (𝓣 : Wp.Tables 𝓤 H) (known0 : Plain.Known 𝓤 H A W 𝓣 10 ps·0 r·0 (claims· .0) (claims· .1) "conductor::calls::preview_all") (known1 : Plain.Known 𝓤 H A W 𝓣 0 ps·1 r·1 (claims· .2) (claims· .3) "board::answers::of_preview_all") → Statement.Triple 𝓤 (Wp.WpFn 𝓤 H (𝓣 .C)
-          (𝓣 .Λ) (Function.fnOf 10 ps r xs m hs body)) (Function.plainOf 𝓤 H A 10 ps r Pre· Post·)
+      Closed = (𝓤 : URA.URA M) (H : Wp.Heap 𝓤) (A : Atoms.Atoms 𝓤) (W : Kit.Given 𝓤 H A) (𝓣 : Wp.Tables 𝓤 H) (known0 : Plain.Known 𝓤 H A W 𝓣 10 ps·0 r·0 (claims· .0) (claims· .1) "conductor::calls::preview_all") (known1 : Plain.Known 𝓤 H A W 𝓣 0 ps·1 r·1 (claims· .2) (claims· .3) "board::answers::of_preview_all") → Statement.Triple 𝓤 (Wp.WpFn 𝓤 H (𝓣 .C) (𝓣
+          .Λ) (Function.fnOf 10 ps r xs m hs body)) (Function.plainOf 𝓤 H A 10 ps r Pre· Post·)
 
     module _ where
-      abbrev at0 : Typed.TF T13 O0
+      abbrev at0 : Typed.TF T1 O0
       at0 = Typed.atRet O0
 
       abbrev at1 : Typed.TF T12 O0
-      at1 = λ Ψ. Typed.pass T12 T13 s11 (at0 Ψ)
+      at1 = λ Ψ. Typed.pass T12 T1 s11 (at0 Ψ)
 
       abbrev at2 : Typed.TF T11 O0
       at2 = λ Ψ. Typed.both s10 (at1 Ψ)
 
-      abbrev at3 : Typed.TF T10 O0
+      abbrev at3 : Typed.TF T0 O0
       at3 = λ Ψ. Typed.both s9 (at2 Ψ)
 
-      abbrev at4 : Typed.TF T9 O0
-      at4 = λ Ψ. Typed.give s8 (at3 Ψ)
-
-      abbrev at5 : Typed.TF T8 O0
-      at5 = λ Ψ. Typed.give s7 (at4 Ψ)
-
-      abbrev at6 : Typed.TF T7 O0
-      at6 = λ Ψ. Typed.give s6 (at5 Ψ)
-
-      abbrev at7 : Typed.TF T6 O0
-      at7 = λ Ψ. Typed.give s5 (at6 Ψ)
-
-      abbrev at8 : Typed.TF T5 O0
-      at8 = λ Ψ. Typed.give s4 (at7 Ψ)
-
-      abbrev at9 : Typed.TF T4 O0
-      at9 = λ Ψ. Typed.give s3 (at8 Ψ)
-
-      abbrev at10 : Typed.TF T3 O0
-      at10 = λ Ψ. Typed.give s2 (at9 Ψ)
-
-      abbrev at11 : Typed.TF T2 O0
-      at11 = λ Ψ. Typed.give s1 (at10 Ψ)
-
-      abbrev at12 : Typed.TF T0 O0
-      at12 = λ Ψ. Typed.give s0 (at11 Ψ)
-
       abbrev pub Φ : Typed.TF T0 O0
-      Φ = at12
+      Φ = at3
 
       module _ {M : Type 1} (𝓤 : URA.URA M) (H : Wp.Heap 𝓤) (A : Atoms.Atoms 𝓤) (W : Kit.Given 𝓤 H A) (𝓣 : Wp.Tables 𝓤 H) where
         abbrev Knowns : Type 1
         Knowns = Plain.Known 𝓤 H A W 𝓣 10 ps·0 r·0 (claims· .0) (claims· .1) "conductor::calls::preview_all" × Plain.Known 𝓤 H A W 𝓣 0 ps·1 r·1 (claims· .2) (claims· .3) "board::answers::of_preview_all"
 
       module _ (κs : Lifetimes.Lfts 10) (qs : Lifetimes.Shares 10) where
+        abbrev slots·0 : List.List Row.Life
+        slots·0 = List._∷_ (Row.lease (κs .0) (qs .0)) (List._∷_ (Row.lease (κs .1 .0) (qs .1 .0)) (List._∷_ (Row.lease (κs .1 .1 .0) (qs .1 .1 .0)) (List._∷_ (Row.lease (κs .1 .1 .1 .0) (qs .1 .1 .1 .0)) (List._∷_ (Row.lease (κs .1 .1 .1 .1 .0) (qs .1 .1 .1 .1 .0)) (List._∷_ (Row.lease (κs .1 .1 .1 .1 .1 .0) (qs .1 .1 .1 .1 .1 .0)) (List._∷_ (Row.lease (κs
+            .1 .1 .1 .1 .1 .1 .0) (qs .1 .1 .1 .1 .1 .1 .0)) (List._∷_ (Row.lease (κs .1 .1 .1 .1 .1 .1 .1 .0) (qs .1 .1 .1 .1 .1 .1 .1 .0)) (List._∷_ (Row.lease (κs .1 .1 .1 .1 .1 .1 .1 .1 .0) (qs .1 .1 .1 .1 .1 .1 .1 .1 .0)) (List._∷_ (Row.lease (κs .1 .1 .1 .1 .1 .1 .1 .1 .1 .0) (qs .1 .1 .1 .1 .1 .1 .1 .1 .1 .0)) List.[])))))))))
+
         abbrev G0 : Row.Cx
-        G0 = record {
-          locals = t0;
-          slots = List._∷_ (Row.lease (κs .0) (qs .0)) (List._∷_ (Row.lease (κs .1 .0) (qs .1 .0)) (List._∷_ (Row.lease (κs .1 .1 .0) (qs .1 .1 .0)) (List._∷_ (Row.lease (κs .1 .1 .1 .0) (qs .1 .1 .1 .0)) (List._∷_ (Row.lease (κs .1 .1 .1 .1 .0) (qs .1 .1 .1 .1 .0)) (List._∷_ (Row.lease (κs .1 .1 .1 .1 .1 .0) (qs .1 .1 .1 .1 .1 .0))
-              (List._∷_ (Row.lease (κs .1 .1 .1 .1 .1 .1 .0) (qs .1 .1 .1 .1 .1 .1 .0)) (List._∷_ (Row.lease (κs .1 .1 .1 .1 .1 .1 .1 .0) (qs .1 .1 .1 .1 .1 .1 .1 .0)) (List._∷_ (Row.lease (κs .1 .1 .1 .1 .1 .1 .1 .1 .0) (qs .1 .1 .1 .1 .1 .1 .1 .1 .0)) (List._∷_ (Row.lease (κs .1 .1 .1 .1 .1 .1 .1 .1 .1 .0) (qs .1 .1 .1 .1 .1 .1 .1 .1 .1 .0))
-              List.[])))))))));
-        }
+        G0 = record { locals = T0 .locals; slots = slots·0 }
 
         abbrev G1 : Row.Cx
-        G1 = record {
-          locals = t1;
-          slots = List._∷_ (Row.lease (κs .0) (qs .0)) (List._∷_ (Row.lease (κs .1 .0) (qs .1 .0)) (List._∷_ (Row.lease (κs .1 .1 .0) (qs .1 .1 .0)) (List._∷_ (Row.lease (κs .1 .1 .1 .0) (qs .1 .1 .1 .0)) (List._∷_ (Row.lease (κs .1 .1 .1 .1 .0) (qs .1 .1 .1 .1 .0)) (List._∷_ (Row.lease (κs .1 .1 .1 .1 .1 .0) (qs .1 .1 .1 .1 .1 .0))
-              (List._∷_ (Row.lease (κs .1 .1 .1 .1 .1 .1 .0) (qs .1 .1 .1 .1 .1 .1 .0)) (List._∷_ (Row.lease (κs .1 .1 .1 .1 .1 .1 .1 .0) (qs .1 .1 .1 .1 .1 .1 .1 .0)) (List._∷_ (Row.lease (κs .1 .1 .1 .1 .1 .1 .1 .1 .0) (qs .1 .1 .1 .1 .1 .1 .1 .1 .0)) (List._∷_ (Row.lease (κs .1 .1 .1 .1 .1 .1 .1 .1 .1 .0) (qs .1 .1 .1 .1 .1 .1 .1 .1 .1 .0))
-              List.[])))))))));
-        }
-
-        abbrev G2 : Row.Cx
-        G2 = record {
-          locals = t0;
-          slots = List._∷_ (Row.lease (κs .0) (qs .0)) (List._∷_ (Row.lease (κs .1 .0) (qs .1 .0)) (List._∷_ (Row.lease (κs .1 .1 .0) (qs .1 .1 .0)) (List._∷_ (Row.lease (κs .1 .1 .1 .0) (qs .1 .1 .1 .0)) (List._∷_ (Row.lease (κs .1 .1 .1 .1 .0) (qs .1 .1 .1 .1 .0)) (List._∷_ (Row.lease (κs .1 .1 .1 .1 .1 .0) (qs .1 .1 .1 .1 .1 .0))
-              (List._∷_ (Row.lease (κs .1 .1 .1 .1 .1 .1 .0) (qs .1 .1 .1 .1 .1 .1 .0)) (List._∷_ (Row.lease (κs .1 .1 .1 .1 .1 .1 .1 .0) (qs .1 .1 .1 .1 .1 .1 .1 .0)) (List._∷_ (Row.lease (κs .1 .1 .1 .1 .1 .1 .1 .1 .0) (qs .1 .1 .1 .1 .1 .1 .1 .1 .0)) (List._∷_ (Row.lease (κs .1 .1 .1 .1 .1 .1 .1 .1 .1 .0) (qs .1 .1 .1 .1 .1 .1 .1 .1 .1 .0))
-              List.[])))))))));
-        }
-
-        abbrev G3 : Row.Cx
-        G3 = record {
-          locals = t0;
-          slots = List._∷_ (Row.lease (κs .0) (qs .0)) (List._∷_ (Row.lease (κs .1 .0) (qs .1 .0)) (List._∷_ (Row.lease (κs .1 .1 .0) (qs .1 .1 .0)) (List._∷_ (Row.lease (κs .1 .1 .1 .0) (qs .1 .1 .1 .0)) (List._∷_ (Row.lease (κs .1 .1 .1 .1 .0) (qs .1 .1 .1 .1 .0)) (List._∷_ (Row.lease (κs .1 .1 .1 .1 .1 .0) (qs .1 .1 .1 .1 .1 .0))
-              (List._∷_ (Row.lease (κs .1 .1 .1 .1 .1 .1 .0) (qs .1 .1 .1 .1 .1 .1 .0)) (List._∷_ (Row.lease (κs .1 .1 .1 .1 .1 .1 .1 .0) (qs .1 .1 .1 .1 .1 .1 .1 .0)) (List._∷_ (Row.lease (κs .1 .1 .1 .1 .1 .1 .1 .1 .0) (qs .1 .1 .1 .1 .1 .1 .1 .1 .0)) (List._∷_ (Row.lease (κs .1 .1 .1 .1 .1 .1 .1 .1 .1 .0) (qs .1 .1 .1 .1 .1 .1 .1 .1 .1 .0))
-              List.[])))))))));
-        }
-
-        abbrev G4 : Row.Cx
-        G4 = record {
-          locals = t0;
-          slots = List._∷_ (Row.lease (κs .0) (qs .0)) (List._∷_ (Row.lease (κs .1 .0) (qs .1 .0)) (List._∷_ (Row.lease (κs .1 .1 .0) (qs .1 .1 .0)) (List._∷_ (Row.lease (κs .1 .1 .1 .0) (qs .1 .1 .1 .0)) (List._∷_ (Row.lease (κs .1 .1 .1 .1 .0) (qs .1 .1 .1 .1 .0)) (List._∷_ (Row.lease (κs .1 .1 .1 .1 .1 .0) (qs .1 .1 .1 .1 .1 .0))
-              (List._∷_ (Row.lease (κs .1 .1 .1 .1 .1 .1 .0) (qs .1 .1 .1 .1 .1 .1 .0)) (List._∷_ (Row.lease (κs .1 .1 .1 .1 .1 .1 .1 .0) (qs .1 .1 .1 .1 .1 .1 .1 .0)) (List._∷_ (Row.lease (κs .1 .1 .1 .1 .1 .1 .1 .1 .0) (qs .1 .1 .1 .1 .1 .1 .1 .1 .0)) (List._∷_ (Row.lease (κs .1 .1 .1 .1 .1 .1 .1 .1 .1 .0) (qs .1 .1 .1 .1 .1 .1 .1 .1 .1 .0))
-              List.[])))))))));
-        }
-
-        abbrev G5 : Row.Cx
-        G5 = record {
-          locals = t0;
-          slots = List._∷_ (Row.lease (κs .0) (qs .0)) (List._∷_ (Row.lease (κs .1 .0) (qs .1 .0)) (List._∷_ (Row.lease (κs .1 .1 .0) (qs .1 .1 .0)) (List._∷_ (Row.lease (κs .1 .1 .1 .0) (qs .1 .1 .1 .0)) (List._∷_ (Row.lease (κs .1 .1 .1 .1 .0) (qs .1 .1 .1 .1 .0)) (List._∷_ (Row.lease (κs .1 .1 .1 .1 .1 .0) (qs .1 .1 .1 .1 .1 .0))
-              (List._∷_ (Row.lease (κs .1 .1 .1 .1 .1 .1 .0) (qs .1 .1 .1 .1 .1 .1 .0)) (List._∷_ (Row.lease (κs .1 .1 .1 .1 .1 .1 .1 .0) (qs .1 .1 .1 .1 .1 .1 .1 .0)) (List._∷_ (Row.lease (κs .1 .1 .1 .1 .1 .1 .1 .1 .0) (qs .1 .1 .1 .1 .1 .1 .1 .1 .0)) (List._∷_ (Row.lease (κs .1 .1 .1 .1 .1 .1 .1 .1 .1 .0) (qs .1 .1 .1 .1 .1 .1 .1 .1 .1 .0))
-              List.[])))))))));
-        }
-
-        abbrev G6 : Row.Cx
-        G6 = record {
-          locals = t0;
-          slots = List._∷_ (Row.lease (κs .0) (qs .0)) (List._∷_ (Row.lease (κs .1 .0) (qs .1 .0)) (List._∷_ (Row.lease (κs .1 .1 .0) (qs .1 .1 .0)) (List._∷_ (Row.lease (κs .1 .1 .1 .0) (qs .1 .1 .1 .0)) (List._∷_ (Row.lease (κs .1 .1 .1 .1 .0) (qs .1 .1 .1 .1 .0)) (List._∷_ (Row.lease (κs .1 .1 .1 .1 .1 .0) (qs .1 .1 .1 .1 .1 .0))
-              (List._∷_ (Row.lease (κs .1 .1 .1 .1 .1 .1 .0) (qs .1 .1 .1 .1 .1 .1 .0)) (List._∷_ (Row.lease (κs .1 .1 .1 .1 .1 .1 .1 .0) (qs .1 .1 .1 .1 .1 .1 .1 .0)) (List._∷_ (Row.lease (κs .1 .1 .1 .1 .1 .1 .1 .1 .0) (qs .1 .1 .1 .1 .1 .1 .1 .1 .0)) (List._∷_ (Row.lease (κs .1 .1 .1 .1 .1 .1 .1 .1 .1 .0) (qs .1 .1 .1 .1 .1 .1 .1 .1 .1 .0))
-              List.[])))))))));
-        }
-
-        abbrev G7 : Row.Cx
-        G7 = record {
-          locals = t0;
-          slots = List._∷_ (Row.lease (κs .0) (qs .0)) (List._∷_ (Row.lease (κs .1 .0) (qs .1 .0)) (List._∷_ (Row.lease (κs .1 .1 .0) (qs .1 .1 .0)) (List._∷_ (Row.lease (κs .1 .1 .1 .0) (qs .1 .1 .1 .0)) (List._∷_ (Row.lease (κs .1 .1 .1 .1 .0) (qs .1 .1 .1 .1 .0)) (List._∷_ (Row.lease (κs .1 .1 .1 .1 .1 .0) (qs .1 .1 .1 .1 .1 .0))
-              (List._∷_ (Row.lease (κs .1 .1 .1 .1 .1 .1 .0) (qs .1 .1 .1 .1 .1 .1 .0)) (List._∷_ (Row.lease (κs .1 .1 .1 .1 .1 .1 .1 .0) (qs .1 .1 .1 .1 .1 .1 .1 .0)) (List._∷_ (Row.lease (κs .1 .1 .1 .1 .1 .1 .1 .1 .0) (qs .1 .1 .1 .1 .1 .1 .1 .1 .0)) (List._∷_ (Row.lease (κs .1 .1 .1 .1 .1 .1 .1 .1 .1 .0) (qs .1 .1 .1 .1 .1 .1 .1 .1 .1 .0))
-              List.[])))))))));
-        }
-
-        abbrev G8 : Row.Cx
-        G8 = record {
-          locals = t0;
-          slots = List._∷_ (Row.lease (κs .0) (qs .0)) (List._∷_ (Row.lease (κs .1 .0) (qs .1 .0)) (List._∷_ (Row.lease (κs .1 .1 .0) (qs .1 .1 .0)) (List._∷_ (Row.lease (κs .1 .1 .1 .0) (qs .1 .1 .1 .0)) (List._∷_ (Row.lease (κs .1 .1 .1 .1 .0) (qs .1 .1 .1 .1 .0)) (List._∷_ (Row.lease (κs .1 .1 .1 .1 .1 .0) (qs .1 .1 .1 .1 .1 .0))
-              (List._∷_ (Row.lease (κs .1 .1 .1 .1 .1 .1 .0) (qs .1 .1 .1 .1 .1 .1 .0)) (List._∷_ (Row.lease (κs .1 .1 .1 .1 .1 .1 .1 .0) (qs .1 .1 .1 .1 .1 .1 .1 .0)) (List._∷_ (Row.lease (κs .1 .1 .1 .1 .1 .1 .1 .1 .0) (qs .1 .1 .1 .1 .1 .1 .1 .1 .0)) (List._∷_ (Row.lease (κs .1 .1 .1 .1 .1 .1 .1 .1 .1 .0) (qs .1 .1 .1 .1 .1 .1 .1 .1 .1 .0))
-              List.[])))))))));
-        }
-
-        abbrev G9 : Row.Cx
-        G9 = record {
-          locals = t0;
-          slots = List._∷_ (Row.lease (κs .0) (qs .0)) (List._∷_ (Row.lease (κs .1 .0) (qs .1 .0)) (List._∷_ (Row.lease (κs .1 .1 .0) (qs .1 .1 .0)) (List._∷_ (Row.lease (κs .1 .1 .1 .0) (qs .1 .1 .1 .0)) (List._∷_ (Row.lease (κs .1 .1 .1 .1 .0) (qs .1 .1 .1 .1 .0)) (List._∷_ (Row.lease (κs .1 .1 .1 .1 .1 .0) (qs .1 .1 .1 .1 .1 .0))
-              (List._∷_ (Row.lease (κs .1 .1 .1 .1 .1 .1 .0) (qs .1 .1 .1 .1 .1 .1 .0)) (List._∷_ (Row.lease (κs .1 .1 .1 .1 .1 .1 .1 .0) (qs .1 .1 .1 .1 .1 .1 .1 .0)) (List._∷_ (Row.lease (κs .1 .1 .1 .1 .1 .1 .1 .1 .0) (qs .1 .1 .1 .1 .1 .1 .1 .1 .0)) (List._∷_ (Row.lease (κs .1 .1 .1 .1 .1 .1 .1 .1 .1 .0) (qs .1 .1 .1 .1 .1 .1 .1 .1 .1 .0))
-              List.[])))))))));
-        }
-
-        abbrev G10 : Row.Cx
-        G10 = record {
-          locals = t0;
-          slots = List._∷_ (Row.lease (κs .0) (qs .0)) (List._∷_ (Row.lease (κs .1 .0) (qs .1 .0)) (List._∷_ (Row.lease (κs .1 .1 .0) (qs .1 .1 .0)) (List._∷_ (Row.lease (κs .1 .1 .1 .0) (qs .1 .1 .1 .0)) (List._∷_ (Row.lease (κs .1 .1 .1 .1 .0) (qs .1 .1 .1 .1 .0)) (List._∷_ (Row.lease (κs .1 .1 .1 .1 .1 .0) (qs .1 .1 .1 .1 .1 .0))
-              (List._∷_ (Row.lease (κs .1 .1 .1 .1 .1 .1 .0) (qs .1 .1 .1 .1 .1 .1 .0)) (List._∷_ (Row.lease (κs .1 .1 .1 .1 .1 .1 .1 .0) (qs .1 .1 .1 .1 .1 .1 .1 .0)) (List._∷_ (Row.lease (κs .1 .1 .1 .1 .1 .1 .1 .1 .0) (qs .1 .1 .1 .1 .1 .1 .1 .1 .0)) (List._∷_ (Row.lease (κs .1 .1 .1 .1 .1 .1 .1 .1 .1 .0) (qs .1 .1 .1 .1 .1 .1 .1 .1 .1 .0))
-              List.[])))))))));
-        }
+        G1 = record { locals = T1 .locals; slots = slots·0 }
 
         abbrev G11 : Row.Cx
-        G11 = record {
-          locals = t2;
-          slots = List._∷_ (Row.lease (κs .0) (qs .0)) (List._∷_ (Row.lease (κs .1 .0) (qs .1 .0)) (List._∷_ (Row.lease (κs .1 .1 .0) (qs .1 .1 .0)) (List._∷_ (Row.lease (κs .1 .1 .1 .0) (qs .1 .1 .1 .0)) (List._∷_ (Row.lease (κs .1 .1 .1 .1 .0) (qs .1 .1 .1 .1 .0)) (List._∷_ (Row.lease (κs .1 .1 .1 .1 .1 .0) (qs .1 .1 .1 .1 .1 .0))
-              (List._∷_ (Row.lease (κs .1 .1 .1 .1 .1 .1 .0) (qs .1 .1 .1 .1 .1 .1 .0)) (List._∷_ (Row.lease (κs .1 .1 .1 .1 .1 .1 .1 .0) (qs .1 .1 .1 .1 .1 .1 .1 .0)) (List._∷_ (Row.lease (κs .1 .1 .1 .1 .1 .1 .1 .1 .0) (qs .1 .1 .1 .1 .1 .1 .1 .1 .0)) (List._∷_ (Row.lease (κs .1 .1 .1 .1 .1 .1 .1 .1 .1 .0) (qs .1 .1 .1 .1 .1 .1 .1 .1 .1 .0))
-              List.[])))))))));
-        }
+        G11 = record { locals = T11 .locals; slots = slots·0 }
 
         abbrev G12 : Row.Cx
-        G12 = record {
-          locals = t3;
-          slots = List._∷_ (Row.lease (κs .0) (qs .0)) (List._∷_ (Row.lease (κs .1 .0) (qs .1 .0)) (List._∷_ (Row.lease (κs .1 .1 .0) (qs .1 .1 .0)) (List._∷_ (Row.lease (κs .1 .1 .1 .0) (qs .1 .1 .1 .0)) (List._∷_ (Row.lease (κs .1 .1 .1 .1 .0) (qs .1 .1 .1 .1 .0)) (List._∷_ (Row.lease (κs .1 .1 .1 .1 .1 .0) (qs .1 .1 .1 .1 .1 .0))
-              (List._∷_ (Row.lease (κs .1 .1 .1 .1 .1 .1 .0) (qs .1 .1 .1 .1 .1 .1 .0)) (List._∷_ (Row.lease (κs .1 .1 .1 .1 .1 .1 .1 .0) (qs .1 .1 .1 .1 .1 .1 .1 .0)) (List._∷_ (Row.lease (κs .1 .1 .1 .1 .1 .1 .1 .1 .0) (qs .1 .1 .1 .1 .1 .1 .1 .1 .0)) (List._∷_ (Row.lease (κs .1 .1 .1 .1 .1 .1 .1 .1 .1 .0) (qs .1 .1 .1 .1 .1 .1 .1 .1 .1 .0))
-              List.[])))))))));
-        }
-
-        abbrev G13 : Row.Cx
-        G13 = record {
-          locals = t1;
-          slots = List._∷_ (Row.lease (κs .0) (qs .0)) (List._∷_ (Row.lease (κs .1 .0) (qs .1 .0)) (List._∷_ (Row.lease (κs .1 .1 .0) (qs .1 .1 .0)) (List._∷_ (Row.lease (κs .1 .1 .1 .0) (qs .1 .1 .1 .0)) (List._∷_ (Row.lease (κs .1 .1 .1 .1 .0) (qs .1 .1 .1 .1 .0)) (List._∷_ (Row.lease (κs .1 .1 .1 .1 .1 .0) (qs .1 .1 .1 .1 .1 .0))
-              (List._∷_ (Row.lease (κs .1 .1 .1 .1 .1 .1 .0) (qs .1 .1 .1 .1 .1 .1 .0)) (List._∷_ (Row.lease (κs .1 .1 .1 .1 .1 .1 .1 .0) (qs .1 .1 .1 .1 .1 .1 .1 .0)) (List._∷_ (Row.lease (κs .1 .1 .1 .1 .1 .1 .1 .1 .0) (qs .1 .1 .1 .1 .1 .1 .1 .1 .0)) (List._∷_ (Row.lease (κs .1 .1 .1 .1 .1 .1 .1 .1 .1 .0) (qs .1 .1 .1 .1 .1 .1 .1 .1 .1 .0))
-              List.[])))))))));
-        }
+        G12 = record { locals = T12 .locals; slots = slots·0 }
 
         abbrev Δ0 : Typed.Outs
         Δ0 = record { next = Option.none; exits = List.[]; returns = Option.some G1 }
@@ -546,144 +265,22 @@ module _ (claims· : Claims) where
           abbrev E : Wp.Env 𝓤 H
           E = Frame.EnvOf 𝓤 H (List._∷_ (Kinds.tyR r) (Enter.tysP ps xs)) bs
 
-          d0 : Typed.Typed 𝓤 H A 𝓣 E G13 b2 Δ0 at0
+          d0 : Typed.Typed 𝓤 H A 𝓣 E G1 b2 Δ0 at0
           d0 = Typed.t-return 𝓤 H A W 𝓣 E Δ0 tt
 
-          d1 : Typed.Typed 𝓤 H A 𝓣 E G12 b2 Δ0 at1
-          d1 = Typed.g-pre 𝓤 H A W 𝓣 E G12 G13 b2 Δ0 (Typed.pass T12 T13 s11) at0 (Scalar.g-room 𝓤 H A W E G12 11 ty·11 (Local.room-whole 𝓤 H A W (Declared.row PreviewAllReply.the-type) ty·11 Path'.refl)) d0
-
           d2 : Typed.Typed 𝓤 H A 𝓣 E G11 b3 Δ0 at2
-          d2 = Typed.s-seq 𝓤 H A W 𝓣 E G11 G12 b1 b2 Δ0 (Typed.both s10) at1 (Plain.t-call-plain 𝓤 H A W 𝓣 0 ps·1 r·1 (claims· .2) (claims· .3) "board::answers::of_preview_all" (known .1) E (λ pos β. β) G11 (record { pos = 11; st = List.[]; d = 0; at = λ x. x }, tt) 0 List.[] (Call.sub-id 𝓤 H A W (G11 .slots)) (
-            (
-              Yields.yields-copy 𝓤 H A W (λ ρ. Unit)
-                  (Declared.row PreviewAllReply.the-type) Path'.refl (Copies.cEnum PreviewAllReply.the-type Laws'.the-laws Laws'.the-copy .copy 𝓤 H A W) (Rows.whole (Declared.row PreviewAllReply.the-type)) (λ x. x) (λ x. x) (λ ρ told. Local.mem-whole 𝓤 H A W (Declared.row PreviewAllReply.the-type) ρ) λ ρ told. Local.whole-mem 𝓤 H A W
-                  (Declared.row PreviewAllReply.the-type) ρ,
-              Path'.refl,
-            ),
-            tt,
-          ) (Reads.room-gone 𝓤 H A ty·10) tt Path'.refl) d1
+          d2 = Typed.s-seq 𝓤 H A W 𝓣 E G11 G12 b1 b2 Δ0 (Typed.both s10) at1 (Plain.t-call-plain 𝓤 H A W 𝓣 0 ps·1 r·1 (claims· .2) (claims· .3) "board::answers::of_preview_all" (known .1) E (λ pos β. β) G11 (record { pos = 11; st = List.[]; d = 0; at = λ x. x }, tt) 0 List.[] (Call.sub-id 𝓤 H A W (G11 .slots))
+              ((Yields.yields-copy 𝓤 H A W (λ ρ. Unit) (Declared.row PreviewAllReply.the-type) Path'.refl (Copies.cEnum PreviewAllReply.the-type Laws'.the-laws Laws'.the-copy .copy 𝓤 H A W) (Rows.whole (Declared.row PreviewAllReply.the-type)) (λ x. x) (λ x. x) (λ ρ told. Local.mem-whole 𝓤 H A W (Declared.row PreviewAllReply.the-type) ρ) λ ρ told. Local.whole-mem 𝓤 H A W (Declared.row PreviewAllReply.the-type) ρ, Path'.refl), tt)
+              (Reads.room-gone 𝓤 H A ty·10) tt Path'.refl) (Typed.g-pre 𝓤 H A W 𝓣 E G12 G1 b2 Δ0 (Typed.pass T12 T1 s11) at0 (Scalar.g-room 𝓤 H A W E G12 11 ty·11 (Local.room-whole 𝓤 H A W (Declared.row PreviewAllReply.the-type) ty·11 Path'.refl)) d0)
 
-          d3 : Typed.Typed 𝓤 H A 𝓣 E G10 b4 Δ0 at3
-          d3 = Typed.s-seq 𝓤 H A W 𝓣 E G10 G11 b0 b3 Δ0 (Typed.both s9) at2 (Plain.t-call-plain 𝓤 H A W 𝓣 10 ps·0 r·0 (claims· .0) (claims· .1) "conductor::calls::preview_all" (known .0) E (λ pos β. β) G10 (
-            record { pos = 1; ty = Syntax.tyRef (Syntax.named 0) Syntax.imm (Syntax.tyInt Syntax.w16); ref = λ x. x },
-            (
-              record {
-                pos = 2;
-                ty = Syntax.tyRef (Syntax.named 1) Syntax.imm (Syntax.tyInt Syntax.w16);
-                ref = λ x. x;
-              },
-              (
-                record { pos = 3; ty = Syntax.tyRef (Syntax.named 2) Syntax.imm (Syntax.tyInt Syntax.w8); ref = λ x. x },
-                (
-                  record { pos = 4; ty = Syntax.tyRef (Syntax.named 3) Syntax.imm (Syntax.tyInt Syntax.w16); ref = λ x. x },
-                  (
-                    record {
-                      pos = 5;
-                      ty = Syntax.tyRef (Syntax.named 4) Syntax.imm (Syntax.tyInt Syntax.w16);
-                      ref = λ x. x;
-                    },
-                    (
-                      record { pos = 6; ty = Syntax.tyRef (Syntax.named 5) Syntax.imm (Syntax.tyInt Syntax.w32); ref = λ x. x },
-                      (
-                        record { pos = 7; ty = Syntax.tyRef (Syntax.named 6) Syntax.imm (Syntax.tyInt Syntax.w16); ref = λ x. x },
-                        (
-                          record {
-                            pos = 8;
-                            ty = Syntax.tyRef (Syntax.named 7) Syntax.imm (Syntax.tyInt Syntax.w8);
-                            ref = λ x. x;
-                          },
-                          (record { pos = 9; ty = Syntax.tyRef (Syntax.named 8) Syntax.imm Rec.behind; ref = λ x. x }, (record { pos = 10; ty = Syntax.tyRef (Syntax.named 9) Syntax.imm (Syntax.tyInt Syntax.w16); ref = λ x. x }, tt)),
-                        ),
-                      ),
-                    ),
-                  ),
-                ),
-              ),
-            ),
-          ) 11 (List._∷_ 0
-              (List._∷_ 1 (List._∷_ 2 (List._∷_ 3 (List._∷_ 4 (List._∷_ 5 (List._∷_ 6 (List._∷_ 7 (List._∷_ 8 (List._∷_ 9 List.[])))))))))) (Call.sub-id 𝓤 H A W (G10 .slots)) (
-                ShrSlice.spares-sslice 𝓤 H A W (Referent.rtF (Referent.fInt Syntax.w16)) ty·3 0,
-                Shared.reads-sslice 𝓤 H A W (Referent.rtF (Referent.fInt Syntax.w16)) ty·3 0,
-                Path'.refl,
-                (
-                  ShrSlice.spares-sslice 𝓤 H A W (Referent.rtF (Referent.fInt Syntax.w16)) ty·4 1,
-                  Shared.reads-sslice 𝓤 H A W (Referent.rtF (Referent.fInt Syntax.w16)) ty·4 1,
-                  Path'.refl,
-                  (
-                    ShrSlice.spares-sslice 𝓤 H A W (Referent.rtF (Referent.fInt Syntax.w8)) ty·1 2,
-                    Shared.reads-sslice 𝓤 H A W (Referent.rtF (Referent.fInt Syntax.w8)) ty·1 2,
-                    Path'.refl,
-                    (
-                      ShrSlice.spares-sslice 𝓤 H A W (Referent.rtF (Referent.fInt Syntax.w16)) ty·5 3,
-                      Shared.reads-sslice 𝓤 H A W (Referent.rtF (Referent.fInt Syntax.w16)) ty·5 3,
-                      Path'.refl,
-                      (
-                        ShrSlice.spares-sslice 𝓤 H A W (Referent.rtF (Referent.fInt Syntax.w16)) ty·6 4,
-                        Shared.reads-sslice 𝓤 H A W (Referent.rtF (Referent.fInt Syntax.w16)) ty·6 4,
-                        Path'.refl,
-                        (
-                          ShrSlice.spares-sslice 𝓤 H A W (Referent.rtF (Referent.fInt Syntax.w32)) ty·7 5,
-                          Shared.reads-sslice 𝓤 H A W (Referent.rtF (Referent.fInt Syntax.w32)) ty·7 5,
-                          Path'.refl,
-                          (
-                            ShrSlice.spares-sslice 𝓤 H A W (Referent.rtF (Referent.fInt Syntax.w16)) ty·8 6,
-                            Shared.reads-sslice 𝓤 H A W (Referent.rtF (Referent.fInt Syntax.w16)) ty·8 6,
-                            Path'.refl,
-                            (
-                              ShrSlice.spares-sslice 𝓤 H A W (Referent.rtF (Referent.fInt Syntax.w8)) ty·2 7,
-                              Shared.reads-sslice 𝓤 H A W (Referent.rtF (Referent.fInt Syntax.w8)) ty·2 7,
-                              Path'.refl,
-                              (
-                                ShrSlice.spares-sslice 𝓤 H A W Rec.rt ty·0 8,
-                                Shared.reads-sslice 𝓤 H A W Rec.rt ty·0 8,
-                                Path'.refl,
-                                (
-                                  ShrSlice.spares-sslice 𝓤 H A W (Referent.rtF (Referent.fInt Syntax.w16))
-                                      ty·9 9,
-                                  Shared.reads-sslice 𝓤 H A W (Referent.rtF (Referent.fInt Syntax.w16)) ty·9 9,
-                                  Path'.refl,
-                                  tt,
-                                ),
-                              ),
-                            ),
-                          ),
-                        ),
-                      ),
-                    ),
-                  ),
-                ),
-              ) (Reads.room-gone 𝓤 H A ty·11) (tt, (tt, (tt, (tt, (tt, (tt, (tt, (tt, (tt, (tt, tt)))))))))) Path'.refl) d2
-
-          d4 : Typed.Typed 𝓤 H A 𝓣 E G9 b4 Δ0 at4
-          d4 = Typed.g-pre 𝓤 H A W 𝓣 E G9 G10 b4 Δ0 (Typed.give s8) at3 (Know.g-shs-known 𝓤 H A W (Referent.fInt Syntax.w16) E G9 10 9 ty·9 (Row.lease (κs .1 .1 .1 .1 .1 .1 .1 .1 .1 .0) (qs .1 .1 .1 .1 .1 .1 .1 .1 .1 .0)) 0 (λ x. x) record { fits = Dec'.lit< tt } (Reads.as-is 𝓤 H A (Rows.sslice (Referent.rtF (Referent.fInt Syntax.w16)) ty·9 9)) Path'.refl
-              tt) d3
-
-          d5 : Typed.Typed 𝓤 H A 𝓣 E G8 b4 Δ0 at5
-          d5 = Typed.g-pre 𝓤 H A W 𝓣 E G8 G9 b4 Δ0 (Typed.give s7) at4 (Know.g-shs-known 𝓤 H A W (Referent.fInt Syntax.w8) E G8 8 7 ty·2 (Row.lease (κs .1 .1 .1 .1 .1 .1 .1 .0) (qs .1 .1 .1 .1 .1 .1 .1 .0)) 0 (λ x. x) record { fits = Dec'.lit< tt } (Reads.as-is 𝓤 H A (Rows.sslice (Referent.rtF (Referent.fInt Syntax.w8)) ty·2 7)) Path'.refl tt) d4
-
-          d6 : Typed.Typed 𝓤 H A 𝓣 E G7 b4 Δ0 at6
-          d6 = Typed.g-pre 𝓤 H A W 𝓣 E G7 G8 b4 Δ0 (Typed.give s6) at5 (Know.g-shs-known 𝓤 H A W (Referent.fInt Syntax.w16) E G7 7 6 ty·8 (Row.lease (κs .1 .1 .1 .1 .1 .1 .0) (qs .1 .1 .1 .1 .1 .1 .0)) 0 (λ x. x) record { fits = Dec'.lit< tt } (Reads.as-is 𝓤 H A (Rows.sslice (Referent.rtF (Referent.fInt Syntax.w16)) ty·8 6)) Path'.refl tt) d5
-
-          d7 : Typed.Typed 𝓤 H A 𝓣 E G6 b4 Δ0 at7
-          d7 = Typed.g-pre 𝓤 H A W 𝓣 E G6 G7 b4 Δ0 (Typed.give s5) at6 (Know.g-shs-known 𝓤 H A W (Referent.fInt Syntax.w32) E G6 6 5 ty·7 (Row.lease (κs .1 .1 .1 .1 .1 .0) (qs .1 .1 .1 .1 .1 .0)) 0 (λ x. x) record { fits = Dec'.lit< tt } (Reads.as-is 𝓤 H A (Rows.sslice (Referent.rtF (Referent.fInt Syntax.w32)) ty·7 5)) Path'.refl tt) d6
-
-          d8 : Typed.Typed 𝓤 H A 𝓣 E G5 b4 Δ0 at8
-          d8 = Typed.g-pre 𝓤 H A W 𝓣 E G5 G6 b4 Δ0 (Typed.give s4) at7 (Know.g-shs-known 𝓤 H A W (Referent.fInt Syntax.w16) E G5 5 4 ty·6 (Row.lease (κs .1 .1 .1 .1 .0) (qs .1 .1 .1 .1 .0)) 0 (λ x. x) record { fits = Dec'.lit< tt } (Reads.as-is 𝓤 H A (Rows.sslice (Referent.rtF (Referent.fInt Syntax.w16)) ty·6 4)) Path'.refl tt) d7
-
-          d9 : Typed.Typed 𝓤 H A 𝓣 E G4 b4 Δ0 at9
-          d9 = Typed.g-pre 𝓤 H A W 𝓣 E G4 G5 b4 Δ0 (Typed.give s3) at8 (Know.g-shs-known 𝓤 H A W (Referent.fInt Syntax.w16) E G4 4 3 ty·5 (Row.lease (κs .1 .1 .1 .0) (qs .1 .1 .1 .0)) 0 (λ x. x) record { fits = Dec'.lit< tt } (Reads.as-is 𝓤 H A (Rows.sslice (Referent.rtF (Referent.fInt Syntax.w16)) ty·5 3)) Path'.refl tt) d8
-
-          d10 : Typed.Typed 𝓤 H A 𝓣 E G3 b4 Δ0 at10
-          d10 = Typed.g-pre 𝓤 H A W 𝓣 E G3 G4 b4 Δ0 (Typed.give s2) at9 (Know.g-shs-known 𝓤 H A W (Referent.fInt Syntax.w8) E G3 3 2 ty·1 (Row.lease (κs .1 .1 .0) (qs .1 .1 .0)) 0 (λ x. x) record { fits = Dec'.lit< tt } (Reads.as-is 𝓤 H A (Rows.sslice (Referent.rtF (Referent.fInt Syntax.w8)) ty·1 2)) Path'.refl tt) d9
-
-          d11 : Typed.Typed 𝓤 H A 𝓣 E G2 b4 Δ0 at11
-          d11 = Typed.g-pre 𝓤 H A W 𝓣 E G2 G3 b4 Δ0 (Typed.give s1) at10 (Know.g-shs-known 𝓤 H A W (Referent.fInt Syntax.w16) E G2 2 1 ty·4 (Row.lease (κs .1 .0) (qs .1 .0)) 0 (λ x. x) record { fits = Dec'.lit< tt } (Reads.as-is 𝓤 H A (Rows.sslice (Referent.rtF (Referent.fInt Syntax.w16)) ty·4 1)) Path'.refl tt) d10
-
-          d12 : Typed.Typed 𝓤 H A 𝓣 E G0 b4 Δ0 at12
-          d12 = Typed.g-pre 𝓤 H A W 𝓣 E G0 G2 b4 Δ0 (Typed.give s0) at11 (Know.g-shs-known 𝓤 H A W (Referent.fInt Syntax.w16) E G0 1 0 ty·3 (Row.lease (κs .0) (qs .0)) 0 (λ x. x) record { fits = Dec'.lit< tt } (Reads.as-is 𝓤 H A (Rows.sslice (Referent.rtF (Referent.fInt Syntax.w16)) ty·3 0)) Path'.refl tt) d11
+          d3 : Typed.Typed 𝓤 H A 𝓣 E G0 b4 Δ0 at3
+          d3 = Typed.s-seq 𝓤 H A W 𝓣 E G0 G11 b0 b3 Δ0 (Typed.both s9) at2 (Plain.t-call-plain 𝓤 H A W 𝓣 10 ps·0 r·0 (claims· .0) (claims· .1) "conductor::calls::preview_all" (known .0) E (λ pos β. β) G0 args·0 11 (List._∷_ 0 (List._∷_ 1 (List._∷_ 2 (List._∷_ 3 (List._∷_ 4 (List._∷_ 5 (List._∷_ 6 (List._∷_ 7 (List._∷_ 8 (List._∷_ 9 List.[]))))))))))
+              (Call.sub-id 𝓤 H A W (G0 .slots))
+              (ShrSlice.spares-sslice 𝓤 H A W (Referent.rtF (Referent.fInt Syntax.w16)) ty·3 0, Shared.reads-sslice 𝓤 H A W (Referent.rtF (Referent.fInt Syntax.w16)) ty·3 0, Path'.refl, (ShrSlice.spares-sslice 𝓤 H A W (Referent.rtF (Referent.fInt Syntax.w16)) ty·4 1, Shared.reads-sslice 𝓤 H A W (Referent.rtF (Referent.fInt Syntax.w16)) ty·4 1, Path'.refl, (ShrSlice.spares-sslice 𝓤 H A W (Referent.rtF (Referent.fInt Syntax.w8)) ty·1 2, Shared.reads-sslice 𝓤 H A W (Referent.rtF (Referent.fInt Syntax.w8)) ty·1 2, Path'.refl, (ShrSlice.spares-sslice 𝓤 H A W (Referent.rtF (Referent.fInt Syntax.w16)) ty·5 3, Shared.reads-sslice 𝓤 H A W (Referent.rtF (Referent.fInt Syntax.w16)) ty·5 3, Path'.refl, (ShrSlice.spares-sslice 𝓤 H A W (Referent.rtF (Referent.fInt Syntax.w16)) ty·6 4, Shared.reads-sslice 𝓤 H A W (Referent.rtF (Referent.fInt Syntax.w16)) ty·6 4, Path'.refl, (ShrSlice.spares-sslice 𝓤 H A W (Referent.rtF (Referent.fInt Syntax.w32)) ty·7 5, Shared.reads-sslice 𝓤 H A W (Referent.rtF (Referent.fInt Syntax.w32)) ty·7 5, Path'.refl, (ShrSlice.spares-sslice 𝓤 H A W (Referent.rtF (Referent.fInt Syntax.w16)) ty·8 6, Shared.reads-sslice 𝓤 H A W (Referent.rtF (Referent.fInt Syntax.w16)) ty·8 6, Path'.refl, (ShrSlice.spares-sslice 𝓤 H A W (Referent.rtF (Referent.fInt Syntax.w8)) ty·2 7, Shared.reads-sslice 𝓤 H A W (Referent.rtF (Referent.fInt Syntax.w8)) ty·2 7, Path'.refl, (ShrSlice.spares-sslice 𝓤 H A W Rec.rt ty·0 8, Shared.reads-sslice 𝓤 H A W Rec.rt ty·0 8, Path'.refl, (ShrSlice.spares-sslice 𝓤 H A W (Referent.rtF (Referent.fInt Syntax.w16)) ty·9 9, Shared.reads-sslice 𝓤 H A W (Referent.rtF (Referent.fInt Syntax.w16)) ty·9 9, Path'.refl, tt))))))))))
+              (Reads.room-gone 𝓤 H A ty·11) (tt, (tt, (tt, (tt, (tt, (tt, (tt, (tt, (tt, (tt, tt)))))))))) Path'.refl) d2
 
           pub typed : Typed.Typed 𝓤 H A 𝓣 E (Function.Γin 10 ps r xs m κs qs) b4 (Function.Δret 10 ps r xs m κs qs) Φ
-          typed = d12
+          typed = d3
 
       module _ (κs : Lifetimes.Lfts 10) where
         pub record Args : Type 0 where
@@ -699,20 +296,13 @@ module _ (claims· : Claims) where
           pub list : Kinds.Den {n = 10} κs (ShrSlice.pShrS (Referent.rtF (Referent.fInt Syntax.w16)) 9 tt)
 
         abbrev pub dens : (a : Args) → Kinds.Dens κs ps
-        dens = λ a. (
-          a .drone-count,
-          (a .dependency-count, (a .names, (a .stop-counts, (a .locations, (a .times, (a .visited, (a .drone-flags, (a .dependencies, (a .list, tt))))))))),
-        )
+        dens = λ a. (a .drone-count, (a .dependency-count, (a .names, (a .stop-counts, (a .locations, (a .times, (a .visited, (a .drone-flags, (a .dependencies, (a .list, tt))))))))))
 
       abbrev pub m0 : (κs : Lifetimes.Lfts 10) → (args : Args κs) → Typed.Mo T0
       m0 = λ κs args. (tt, Enter.partsP κs 1 ps xs (dens κs args))
 
       abbrev W0 : (κs : Lifetimes.Lfts 10) → (args : Args κs) → Typed.Want O0
-      W0 = λ κs args. (
-        λ u. ⊥,
-        tt,
-        λ u. Enter.Fixs κs 1 ps xs (dens κs args) (u .1) × Post· κs (dens κs args) (Function.resV r κs (u .0)) (Clauses.atExit (Kinds.endedOf 10 ps r) κs (dens κs args) (Enter.lastsP κs 1 ps xs (dens κs args) (u .1))),
-      )
+      W0 = λ κs args. (λ u. ⊥, tt, λ u. Enter.Fixs κs 1 ps xs (dens κs args) (u .1) × Post· κs (dens κs args) (Function.resV r κs (u .0)) (Clauses.atExit (Kinds.endedOf 10 ps r) κs (dens κs args) (Enter.lastsP κs 1 ps xs (dens κs args) (u .1))))
 
       pub record Start : Type 0 where
         pub κs : Lifetimes.Lfts 10
@@ -720,201 +310,22 @@ module _ (claims· : Claims) where
         pub good : Kinds.GoodsP κs ps (dens κs args)
         pub pre : Pre· κs (dens κs args)
 
-      abbrev pub m1 : (before : Start) → (given : s0 .gives (m0 (before .κs) (before .args))) → Typed.Mo T2
-      m1 = λ before given. s0 .next (m0 (before .κs) (before .args)) given
+      abbrev pub Need-preview-all-requires : Type 0
+      Need-preview-all-requires = (c : Start) → s9 .asks (m0 (c .κs) (c .args))
+
+      abbrev pub m10 : (before : Start) → (given : s9 .gives (m0 (before .κs) (before .args))) → Typed.Mo T11
+      m10 = λ before given. s9 .next (m0 (before .κs) (before .args)) given
 
       module _ (before· : Start) where
-        pub record After-shared-slice-known·own : Type 0 where
-          pub given : s0 .gives (m0 (before· .κs) (before· .args))
-
-      pub record After-shared-slice-known : Type 0 where
-        pub before : Start
-        pub shared-slice-known : After-shared-slice-known·own before
-
-      abbrev pub m2 : (before : After-shared-slice-known) → (given : s1 .gives (m1 (before .before) (before .shared-slice-known .given))) → Typed.Mo T3
-      m2 = λ before given. s1 .next (m1 (before .before) (before .shared-slice-known .given)) given
-
-      module _ (before· : After-shared-slice-known) where
-        pub record After-shared-slice-known2·own : Type 0 where
-          pub given : s1 .gives (m1 (before· .before) (before· .shared-slice-known .given))
-
-      pub record After-shared-slice-known2 : Type 0 where
-        pub before : After-shared-slice-known
-        pub shared-slice-known2 : After-shared-slice-known2·own before
-
-      abbrev pub m3 : (before : After-shared-slice-known2) → (given : s2 .gives (m2 (before .before) (before .shared-slice-known2 .given))) → Typed.Mo T4
-      m3 = λ before given. s2 .next (m2 (before .before) (before .shared-slice-known2 .given)) given
-
-      module _ (before· : After-shared-slice-known2) where
-        pub record After-shared-slice-known3·own : Type 0 where
-          pub given : s2 .gives (m2 (before· .before) (before· .shared-slice-known2 .given))
-
-      pub record After-shared-slice-known3 : Type 0 where
-        pub before : After-shared-slice-known2
-        pub shared-slice-known3 : After-shared-slice-known3·own before
-
-      abbrev pub m4 : (before : After-shared-slice-known3) → (given : s3 .gives (m3 (before .before) (before .shared-slice-known3 .given))) → Typed.Mo T5
-      m4 = λ before given. s3 .next (m3 (before .before) (before .shared-slice-known3 .given)) given
-
-      module _ (before· : After-shared-slice-known3) where
-        pub record After-shared-slice-known4·own : Type 0 where
-          pub given : s3 .gives (m3 (before· .before) (before· .shared-slice-known3 .given))
-
-      pub record After-shared-slice-known4 : Type 0 where
-        pub before : After-shared-slice-known3
-        pub shared-slice-known4 : After-shared-slice-known4·own before
-
-      abbrev pub m5 : (before : After-shared-slice-known4) → (given : s4 .gives (m4 (before .before) (before .shared-slice-known4 .given))) → Typed.Mo T6
-      m5 = λ before given. s4 .next (m4 (before .before) (before .shared-slice-known4 .given)) given
-
-      module _ (before· : After-shared-slice-known4) where
-        pub record After-shared-slice-known5·own : Type 0 where
-          pub given : s4 .gives (m4 (before· .before) (before· .shared-slice-known4 .given))
-
-      pub record After-shared-slice-known5 : Type 0 where
-        pub before : After-shared-slice-known4
-        pub shared-slice-known5 : After-shared-slice-known5·own before
-
-      abbrev pub m6 : (before : After-shared-slice-known5) → (given : s5 .gives (m5 (before .before) (before .shared-slice-known5 .given))) → Typed.Mo T7
-      m6 = λ before given. s5 .next (m5 (before .before) (before .shared-slice-known5 .given)) given
-
-      module _ (before· : After-shared-slice-known5) where
-        pub record After-shared-slice-known6·own : Type 0 where
-          pub given : s5 .gives (m5 (before· .before) (before· .shared-slice-known5 .given))
-
-      pub record After-shared-slice-known6 : Type 0 where
-        pub before : After-shared-slice-known5
-        pub shared-slice-known6 : After-shared-slice-known6·own before
-
-      abbrev pub m7 : (before : After-shared-slice-known6) → (given : s6 .gives (m6 (before .before) (before .shared-slice-known6 .given))) → Typed.Mo T8
-      m7 = λ before given. s6 .next (m6 (before .before) (before .shared-slice-known6 .given)) given
-
-      module _ (before· : After-shared-slice-known6) where
-        pub record After-shared-slice-known7·own : Type 0 where
-          pub given : s6 .gives (m6 (before· .before) (before· .shared-slice-known6 .given))
-
-      pub record After-shared-slice-known7 : Type 0 where
-        pub before : After-shared-slice-known6
-        pub shared-slice-known7 : After-shared-slice-known7·own before
-
-      abbrev pub m8 : (before : After-shared-slice-known7) → (given : s7 .gives (m7 (before .before) (before .shared-slice-known7 .given))) → Typed.Mo T9
-      m8 = λ before given. s7 .next (m7 (before .before) (before .shared-slice-known7 .given)) given
-
-      module _ (before· : After-shared-slice-known7) where
-        pub record After-shared-slice-known8·own : Type 0 where
-          pub given : s7 .gives (m7 (before· .before) (before· .shared-slice-known7 .given))
-
-      pub record After-shared-slice-known8 : Type 0 where
-        pub before : After-shared-slice-known7
-        pub shared-slice-known8 : After-shared-slice-known8·own before
-
-      abbrev pub m9 : (before : After-shared-slice-known8) → (given : s8 .gives (m8 (before .before) (before .shared-slice-known8 .given))) → Typed.Mo T10
-      m9 = λ before given. s8 .next (m8 (before .before) (before .shared-slice-known8 .given)) given
-
-      module _ (before· : After-shared-slice-known8) where
-        pub record After-shared-slice-known9·own : Type 0 where
-          pub given : s8 .gives (m8 (before· .before) (before· .shared-slice-known8 .given))
-
-      pub record After-shared-slice-known9 : Type 0 where
-        pub before : After-shared-slice-known8
-        pub shared-slice-known9 : After-shared-slice-known9·own before
-
-      abbrev pub Need-preview-all-requires : Type 0
-      Need-preview-all-requires = (c : After-shared-slice-known9) → s9 .asks (m9 (c .before) (c .shared-slice-known9 .given))
-
-      abbrev pub m10 : (before : After-shared-slice-known9) → (given : s9 .gives (m9 (before .before) (before .shared-slice-known9 .given))) → Typed.Mo T11
-      m10 = λ before given. s9 .next (m9 (before .before) (before .shared-slice-known9 .given)) given
-
-      module _ (before· : After-shared-slice-known9) where
         abbrev pub After-preview-all·own : Type 0
-        After-preview-all·own = Called.Called ps·0 r·0 (claims· .1) T10 (
-          record { pos = 1; ty = Syntax.tyRef (Syntax.named 0) Syntax.imm (Syntax.tyInt Syntax.w16); ref = λ x. x },
-          (
-            record { pos = 2; ty = Syntax.tyRef (Syntax.named 1) Syntax.imm (Syntax.tyInt Syntax.w16); ref = λ x. x },
-            (
-              record {
-                pos = 3;
-                ty = Syntax.tyRef (Syntax.named 2) Syntax.imm (Syntax.tyInt Syntax.w8);
-                ref = λ x. x;
-              },
-              (
-                record { pos = 4; ty = Syntax.tyRef (Syntax.named 3) Syntax.imm (Syntax.tyInt Syntax.w16); ref = λ x. x },
-                (
-                  record { pos = 5; ty = Syntax.tyRef (Syntax.named 4) Syntax.imm (Syntax.tyInt Syntax.w16); ref = λ x. x },
-                  (
-                    record {
-                      pos = 6;
-                      ty = Syntax.tyRef (Syntax.named 5) Syntax.imm (Syntax.tyInt Syntax.w32);
-                      ref = λ x. x;
-                    },
-                    (
-                      record { pos = 7; ty = Syntax.tyRef (Syntax.named 6) Syntax.imm (Syntax.tyInt Syntax.w16); ref = λ x. x },
-                      (
-                        record { pos = 8; ty = Syntax.tyRef (Syntax.named 7) Syntax.imm (Syntax.tyInt Syntax.w8); ref = λ x. x },
-                        (
-                          record {
-                            pos = 9;
-                            ty = Syntax.tyRef
-                                (Syntax.named 8) Syntax.imm Rec.behind;
-                            ref = λ x. x;
-                          },
-                          (record { pos = 10; ty = Syntax.tyRef (Syntax.named 9) Syntax.imm (Syntax.tyInt Syntax.w16); ref = λ x. x }, tt),
-                        ),
-                      ),
-                    ),
-                  ),
-                ),
-              ),
-            ),
-          ),
-        ) (m9 (before· .before) (before· .shared-slice-known9 .given))
+        After-preview-all·own = Called.Called ps·0 r·0 (claims· .1) T0 args·0 (m0 (before· .κs) (before· .args))
 
       pub record After-preview-all : Type 0 where
-        pub before : After-shared-slice-known9
+        pub before : Start
         pub preview-all : After-preview-all·own before
 
-      abbrev pub After-preview-all·gave : (c : After-preview-all) → s9 .gives (m9 (c .before .before) (c .before .shared-slice-known9 .given))
-      After-preview-all·gave = λ c. Called.given ps·0 r·0 (claims· .1) T10 (
-        record { pos = 1; ty = Syntax.tyRef (Syntax.named 0) Syntax.imm (Syntax.tyInt Syntax.w16); ref = λ x. x },
-        (
-          record { pos = 2; ty = Syntax.tyRef (Syntax.named 1) Syntax.imm (Syntax.tyInt Syntax.w16); ref = λ x. x },
-          (
-            record {
-              pos = 3;
-              ty = Syntax.tyRef (Syntax.named 2) Syntax.imm (Syntax.tyInt Syntax.w8);
-              ref = λ x. x;
-            },
-            (
-              record { pos = 4; ty = Syntax.tyRef (Syntax.named 3) Syntax.imm (Syntax.tyInt Syntax.w16); ref = λ x. x },
-              (
-                record { pos = 5; ty = Syntax.tyRef (Syntax.named 4) Syntax.imm (Syntax.tyInt Syntax.w16); ref = λ x. x },
-                (
-                  record {
-                    pos = 6;
-                    ty = Syntax.tyRef (Syntax.named 5) Syntax.imm (Syntax.tyInt Syntax.w32);
-                    ref = λ x. x;
-                  },
-                  (
-                    record { pos = 7; ty = Syntax.tyRef (Syntax.named 6) Syntax.imm (Syntax.tyInt Syntax.w16); ref = λ x. x },
-                    (
-                      record { pos = 8; ty = Syntax.tyRef (Syntax.named 7) Syntax.imm (Syntax.tyInt Syntax.w8); ref = λ x. x },
-                      (
-                        record {
-                          pos = 9;
-                          ty = Syntax.tyRef
-                              (Syntax.named 8) Syntax.imm Rec.behind;
-                          ref = λ x. x;
-                        },
-                        (record { pos = 10; ty = Syntax.tyRef (Syntax.named 9) Syntax.imm (Syntax.tyInt Syntax.w16); ref = λ x. x }, tt),
-                      ),
-                    ),
-                  ),
-                ),
-              ),
-            ),
-          ),
-        ),
-      ) (m9 (c .before .before) (c .before .shared-slice-known9 .given)) (c .preview-all)
+      abbrev pub After-preview-all·gave : (c : After-preview-all) → s9 .gives (m0 (c .before .κs) (c .before .args))
+      After-preview-all·gave = λ c. Called.given ps·0 r·0 (claims· .1) T0 args·0 (m0 (c .before .κs) (c .before .args)) (c .preview-all)
 
       abbrev pub Need-of-preview-all-requires : Type 0
       Need-of-preview-all-requires = (c : After-preview-all) → s10 .asks (m10 (c .before) (After-preview-all·gave c))
@@ -924,183 +335,37 @@ module _ (claims· : Claims) where
 
       module _ (before· : After-preview-all) where
         abbrev pub After-of-preview-all·own : Type 0
-        After-of-preview-all·own = Called.Called ps·1 r·1 (claims· .3) T11 (
-          record { pos = 11; st = List.[]; d = 0; at = λ x. x },
-          tt,
-        ) (m10 (before· .before) (After-preview-all·gave before·))
+        After-of-preview-all·own = Called.Called ps·1 r·1 (claims· .3) T11 (record { pos = 11; st = List.[]; d = 0; at = λ x. x }, tt) (m10 (before· .before) (After-preview-all·gave before·))
 
       pub record After-of-preview-all : Type 0 where
         pub before : After-preview-all
         pub of-preview-all : After-of-preview-all·own before
 
       abbrev pub After-of-preview-all·gave : (c : After-of-preview-all) → s10 .gives (m10 (c .before .before) (After-preview-all·gave (c .before)))
-      After-of-preview-all·gave = λ c. Called.given ps·1 r·1 (claims· .3) T11 (
-        record { pos = 11; st = List.[]; d = 0; at = λ x. x },
-        tt,
-      ) (m10 (c .before .before) (After-preview-all·gave (c .before))) (c .of-preview-all)
+      After-of-preview-all·gave = λ c. Called.given ps·1 r·1 (claims· .3) T11 (record { pos = 11; st = List.[]; d = 0; at = λ x. x }, tt) (m10 (c .before .before) (After-preview-all·gave (c .before))) (c .of-preview-all)
 
-      abbrev pub m12 : (before : After-preview-all) → (given : s10 .gives (m10 (before .before) (After-preview-all·gave before))) → Typed.Mo T13
+      abbrev pub m12 : (before : After-preview-all) → (given : s10 .gives (m10 (before .before) (After-preview-all·gave before))) → Typed.Mo T1
       m12 = λ before given. s11 (m11 before given)
 
       abbrev pub Need-returns : Type 0
-      Need-returns = (c : After-of-preview-all) → Post· (c .before .before .before .before .before .before .before .before .before .before .before .κs) (dens (c .before .before .before .before .before .before .before .before .before .before .before .κs) (c .before .before .before .before .before .before .before .before .before .before
-          .before .args)) (Function.resV r (c .before .before .before .before .before .before .before .before .before .before .before .κs) (m12 (c .before) (After-of-preview-all·gave c) .0)) (Clauses.atExit (Kinds.endedOf 10 ps r) (c .before .before .before .before .before .before .before .before .before .before .before .κs) (dens
-          (c .before .before .before .before .before .before .before .before .before .before .before .κs) (c .before .before .before .before .before .before .before .before .before .before .before .args)) (Enter.lastsP (c .before .before .before .before .before .before .before .before .before .before .before .κs) 1 ps xs (dens
-          (c .before .before .before .before .before .before .before .before .before .before .before .κs) (c .before .before .before .before .before .before .before .before .before .before .before .args)) (m12 (c .before) (After-of-preview-all·gave c) .1)))
+      Need-returns = (c : After-of-preview-all) → Post· (c .before .before .κs) (dens (c .before .before .κs) (c .before .before .args)) (Function.resV r (c .before .before .κs) (m12 (c .before) (After-of-preview-all·gave c) .0)) (Clauses.atExit (Kinds.endedOf 10 ps r) (c .before .before .κs) (dens (c .before .before .κs) (c .before .before .args))
+          (Enter.lastsP (c .before .before .κs) 1 ps xs (dens (c .before .before .κs) (c .before .before .args)) (m12 (c .before) (After-of-preview-all·gave c) .1)))
 
       module _ (preview-all-requires : Need-preview-all-requires) (of-preview-all-requires : Need-of-preview-all-requires) (returns : Need-returns) where
-        lay2 : (c : After-of-preview-all) → at1 (W0 (c .before .before .before .before .before .before .before .before .before .before .before .κs) (c .before .before .before .before .before .before .before .before .before .before .before .args)) (m11 (c .before) (After-of-preview-all·gave c))
-        lay2 = λ c. (
-          (Path'.refl, (Path'.refl, (Path'.refl, (Path'.refl, (Path'.refl, (Path'.refl, (Path'.refl, (Path'.refl, (Path'.refl, (Path'.refl, tt)))))))))),
-          returns record { before = c .before; of-preview-all = c .of-preview-all },
-        )
+        lay2 : (c : After-of-preview-all) → at1 (W0 (c .before .before .κs) (c .before .before .args)) (m11 (c .before) (After-of-preview-all·gave c))
+        lay2 = λ c. ((Path'.refl, (Path'.refl, (Path'.refl, (Path'.refl, (Path'.refl, (Path'.refl, (Path'.refl, (Path'.refl, (Path'.refl, (Path'.refl, tt)))))))))), returns record { before = c .before; of-preview-all = c .of-preview-all })
 
-        lay1 : (c : After-preview-all) → at2 (W0 (c .before .before .before .before .before .before .before .before .before .before .κs) (c .before .before .before .before .before .before .before .before .before .before .args)) (m10 (c .before) (After-preview-all·gave c))
-        lay1 = λ c. (
-          of-preview-all-requires record { before = c .before; preview-all = c .preview-all },
-          λ g. lay2 record {
-            before = record { before = c .before; preview-all = c .preview-all };
-            of-preview-all = Called.called ps·1 r·1 (claims· .3) T11 (
-              record { pos = 11; st = List.[]; d = 0; at = λ x. x },
-              tt,
-            ) (m10 (c .before) (After-preview-all·gave c)) g;
-          },
-        )
+        lay1 : (c : After-preview-all) → at2 (W0 (c .before .κs) (c .before .args)) (m10 (c .before) (After-preview-all·gave c))
+        lay1 = λ c.
+            (of-preview-all-requires record { before = c .before; preview-all = c .preview-all }, λ g. lay2 record { before = record { before = c .before; preview-all = c .preview-all }; of-preview-all = Called.called ps·1 r·1 (claims· .3) T11 (record { pos = 11; st = List.[]; d = 0; at = λ x. x }, tt) (m10 (c .before) (After-preview-all·gave c)) g })
 
-        pub laid : (c : Start) → at12 (W0 (c .κs) (c .args)) (m0 (c .κs) (c .args))
-        laid = λ c. λ g. λ g'. λ g''. λ g'3. λ g'4. λ g'5. λ g'6. λ g'7. λ g'8. (
-          preview-all-requires record {
-            before = record {
-              before = record {
-                before = record {
-                  before = record {
-                    before = record {
-                      before = record {
-                        before = record {
-                          before = record { before = c; shared-slice-known = record { given = g } };
-                          shared-slice-known2 = record { given = g' };
-                        };
-                        shared-slice-known3 = record { given = g'' };
-                      };
-                      shared-slice-known4 = record { given = g'3 };
-                    };
-                    shared-slice-known5 = record { given = g'4 };
-                  };
-                  shared-slice-known6 = record { given = g'5 };
-                };
-                shared-slice-known7 = record { given = g'6 };
-              };
-              shared-slice-known8 = record { given = g'7 };
-            };
-            shared-slice-known9 = record { given = g'8 };
-          },
-          λ g'9. lay1 record {
-            before = record {
-              before = record {
-                before = record {
-                  before = record {
-                    before = record {
-                      before = record {
-                        before = record { before = record { before = record { before = c; shared-slice-known = record { given = g } }; shared-slice-known2 = record { given = g' } }; shared-slice-known3 = record { given = g'' } };
-                        shared-slice-known4 = record { given = g'3 };
-                      };
-                      shared-slice-known5 = record { given = g'4 };
-                    };
-                    shared-slice-known6 = record { given = g'5 };
-                  };
-                  shared-slice-known7 = record { given = g'6 };
-                };
-                shared-slice-known8 = record { given = g'7 };
-              };
-              shared-slice-known9 = record { given = g'8 };
-            };
-            preview-all = Called.called ps·0 r·0 (claims· .1) T10 (
-              record { pos = 1; ty = Syntax.tyRef (Syntax.named 0) Syntax.imm (Syntax.tyInt Syntax.w16); ref = λ x. x },
-              (
-                record { pos = 2; ty = Syntax.tyRef (Syntax.named 1) Syntax.imm (Syntax.tyInt Syntax.w16); ref = λ x. x },
-                (
-                  record {
-                    pos = 3;
-                    ty = Syntax.tyRef (Syntax.named 2) Syntax.imm (Syntax.tyInt Syntax.w8);
-                    ref = λ x. x;
-                  },
-                  (
-                    record { pos = 4; ty = Syntax.tyRef (Syntax.named 3) Syntax.imm (Syntax.tyInt Syntax.w16); ref = λ x. x },
-                    (
-                      record { pos = 5; ty = Syntax.tyRef (Syntax.named 4) Syntax.imm (Syntax.tyInt Syntax.w16); ref = λ x. x },
-                      (
-                        record {
-                          pos = 6;
-                          ty = Syntax.tyRef (Syntax.named 5) Syntax.imm (Syntax.tyInt Syntax.w32);
-                          ref = λ x. x;
-                        },
-                        (
-                          record { pos = 7; ty = Syntax.tyRef (Syntax.named 6) Syntax.imm (Syntax.tyInt Syntax.w16); ref = λ x. x },
-                          (
-                            record { pos = 8; ty = Syntax.tyRef (Syntax.named 7) Syntax.imm (Syntax.tyInt Syntax.w8); ref = λ x. x },
-                            (
-                              record {
-                                pos = 9;
-                                ty = Syntax.tyRef
-                                    (Syntax.named 8) Syntax.imm Rec.behind;
-                                ref = λ x. x;
-                              },
-                              (record { pos = 10; ty = Syntax.tyRef (Syntax.named 9) Syntax.imm (Syntax.tyInt Syntax.w16); ref = λ x. x }, tt),
-                            ),
-                          ),
-                        ),
-                      ),
-                    ),
-                  ),
-                ),
-              ),
-            ) (m9 record {
-              before = record {
-                before = record {
-                  before = record {
-                    before = record {
-                      before = record {
-                        before = record {
-                          before = record {
-                            before = c;
-                            shared-slice-known = record { given = g };
-                          };
-                          shared-slice-known2 = record { given = g' };
-                        };
-                        shared-slice-known3 = record { given = g'' };
-                      };
-                      shared-slice-known4 = record { given = g'3 };
-                    };
-                    shared-slice-known5 = record { given = g'4 };
-                  };
-                  shared-slice-known6 = record { given = g'5 };
-                };
-                shared-slice-known7 = record { given = g'6 };
-              };
-              shared-slice-known8 = record { given = g'7 };
-            } g'8) g'9;
-          },
-        )
+        pub laid : (c : Start) → at3 (W0 (c .κs) (c .args)) (m0 (c .κs) (c .args))
+        laid = λ c. (preview-all-requires c, λ g'9. lay1 record { before = c; preview-all = Called.called ps·0 r·0 (claims· .1) T0 args·0 (m0 (c .κs) (c .args)) g'9 })
 
         module _ (κs : Lifetimes.Lfts 10) (qs : Lifetimes.Shares 10) where
           pub asked : (a : Kinds.Dens κs ps) → (good : Kinds.GoodsP κs ps a) → (pre : Pre· κs a) → (bs : List.List Nat.ℕ) → Φ (Any.wantQ 10 ps r xs m κs qs a (Post· κs a)) (Function.init 10 ps r xs m κs qs a)
-          asked = λ a good pre bs. laid record {
-            κs = κs;
-            args = record {
-              drone-count = a .0;
-              dependency-count = a .1 .0;
-              names = a .1 .1 .0;
-              stop-counts = a .1 .1 .1 .0;
-              locations = a .1 .1 .1 .1 .0;
-              times = a .1 .1 .1 .1 .1 .0;
-              visited = a .1 .1 .1 .1 .1 .1 .0;
-              drone-flags = a .1 .1 .1 .1 .1 .1 .1 .0;
-              dependencies = a .1 .1 .1 .1 .1 .1 .1 .1 .0;
-              list = a .1 .1 .1 .1 .1 .1 .1 .1 .1 .0;
-            };
-            good = good;
-            pre = pre;
-          }
+          asked = λ a good pre bs. laid record
+              { κs = κs; args = record { drone-count = a .0; dependency-count = a .1 .0; names = a .1 .1 .0; stop-counts = a .1 .1 .1 .0; locations = a .1 .1 .1 .1 .0; times = a .1 .1 .1 .1 .1 .0; visited = a .1 .1 .1 .1 .1 .1 .0; drone-flags = a .1 .1 .1 .1 .1 .1 .1 .0; dependencies = a .1 .1 .1 .1 .1 .1 .1 .1 .0; list = a .1 .1 .1 .1 .1 .1 .1 .1 .1 .0 }; good = good; pre = pre }
 
         module _ {M : Type 1} (𝓤 : URA.URA M) (H : Wp.Heap 𝓤) (A : Atoms.Atoms 𝓤) (W : Kit.Given 𝓤 H A) (𝓣 : Wp.Tables 𝓤 H) (known0 : Plain.Known 𝓤 H A W 𝓣 10 ps·0 r·0 (claims· .0) (claims· .1) "conductor::calls::preview_all") (known1 : Plain.Known 𝓤 H A W 𝓣 0 ps·1 r·1 (claims· .2) (claims· .3) "board::answers::of_preview_all") where
           pub spec : Statement.Triple 𝓤 (Wp.WpFn 𝓤 H (𝓣 .C) (𝓣 .Λ) (Function.fnOf 10 ps r xs m hs body)) (Function.plainOf 𝓤 H A 10 ps r Pre· Post·)

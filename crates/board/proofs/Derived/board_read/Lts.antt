@@ -1,4 +1,5 @@
 -- `board::exports::board_read`: Lts, carried over by tools/lend.py. Assumes nothing.
+use borrow.Fn.Args.{ArgsT}
 use Rattle.records.proofs.Row as Rec
 use Prim.Native.Nat
 use Rattle.board.proofs.answers.ReadAnswer
@@ -92,10 +93,12 @@ abbrev ty·13 : Syntax.Ty
 ty·13 = Syntax.tyRef (Syntax.named 7) Syntax.mut (Syntax.tyInt Syntax.w16)
 
 abbrev ty·14 : Syntax.Ty
-ty·14 = Syntax.tyStruct (List._∷_ 112 (List._∷_ 108 (List._∷_ 97 (List._∷_ 110 (List._∷_ 58 (List._∷_ 58 (List._∷_ 99 (List._∷_ 104 (List._∷_ 101 (List._∷_ 99 (List._∷_ 107 (List._∷_ 58 (List._∷_ 58 (List._∷_ 83 (List._∷_ 116 (List._∷_ 111 (List._∷_ 112 (List._∷_ 65 (List._∷_ 116 List.[]))))))))))))))))))) (Syntax.tcons (Syntax.tyInt Syntax.w64) (Syntax.tcons (Syntax.tyInt Syntax.w64) Syntax.tnil))
+ty·14 = Syntax.tyStruct (List._∷_ 112 (List._∷_ 108 (List._∷_ 97 (List._∷_ 110 (List._∷_ 58 (List._∷_ 58 (List._∷_ 99 (List._∷_ 104 (List._∷_ 101 (List._∷_ 99 (List._∷_ 107 (List._∷_ 58 (List._∷_ 58 (List._∷_ 83 (List._∷_ 116 (List._∷_ 111 (List._∷_ 112 (List._∷_ 65 (List._∷_ 116 List.[]))))))))))))))))))) (Syntax.tcons (Syntax.tyInt Syntax.w64)
+    (Syntax.tcons (Syntax.tyInt Syntax.w64) Syntax.tnil))
 
 abbrev ty·15 : Syntax.Ty
-ty·15 = Syntax.tyStruct (List._∷_ 98 (List._∷_ 111 (List._∷_ 97 (List._∷_ 114 (List._∷_ 100 (List._∷_ 58 (List._∷_ 58 (List._∷_ 97 (List._∷_ 110 (List._∷_ 115 (List._∷_ 119 (List._∷_ 101 (List._∷_ 114 (List._∷_ 115 (List._∷_ 58 (List._∷_ 58 (List._∷_ 82 (List._∷_ 101 (List._∷_ 97 (List._∷_ 100 (List._∷_ 65 (List._∷_ 110 (List._∷_ 115 (List._∷_ 119 (List._∷_ 101 (List._∷_ 114 List.[])))))))))))))))))))))))))) (Syntax.tcons (Syntax.tyInt Syntax.w64) (Syntax.tcons (Syntax.tyInt Syntax.w64) (Syntax.tcons (Syntax.tyInt Syntax.w64) (Syntax.tcons (Syntax.tyInt Syntax.w64) (Syntax.tcons (Syntax.tyInt Syntax.w64) (Syntax.tcons (Syntax.tyInt Syntax.w64) Syntax.tnil))))))
+ty·15 = Syntax.tyStruct (List._∷_ 98 (List._∷_ 111 (List._∷_ 97 (List._∷_ 114 (List._∷_ 100 (List._∷_ 58 (List._∷_ 58 (List._∷_ 97 (List._∷_ 110 (List._∷_ 115 (List._∷_ 119 (List._∷_ 101 (List._∷_ 114 (List._∷_ 115 (List._∷_ 58 (List._∷_ 58 (List._∷_ 82 (List._∷_ 101 (List._∷_ 97 (List._∷_ 100 (List._∷_ 65 (List._∷_ 110 (List._∷_ 115 (List._∷_ 119 (List._∷_
+    101 (List._∷_ 114 List.[])))))))))))))))))))))))))) (Syntax.tcons (Syntax.tyInt Syntax.w64) (Syntax.tcons (Syntax.tyInt Syntax.w64) (Syntax.tcons (Syntax.tyInt Syntax.w64) (Syntax.tcons (Syntax.tyInt Syntax.w64) (Syntax.tcons (Syntax.tyInt Syntax.w64) (Syntax.tcons (Syntax.tyInt Syntax.w64) Syntax.tnil))))))
 
 abbrev row·0 : Row.Row
 row·0 = Rows.any-gone ty·15
@@ -131,7 +134,11 @@ abbrev row·10 : Row.Row
 row·10 = Mut.mslice Rec.rt ty·1 9
 
 abbrev row·11 : Row.Row
-row·11 = Rows.any-gone (Syntax.tyEnum (List._∷_ 114 (List._∷_ 101 (List._∷_ 97 (List._∷_ 100 (List._∷_ 105 (List._∷_ 110 (List._∷_ 103 (List._∷_ 58 (List._∷_ 58 (List._∷_ 114 (List._∷_ 101 (List._∷_ 112 (List._∷_ 108 (List._∷_ 105 (List._∷_ 101 (List._∷_ 115 (List._∷_ 58 (List._∷_ 58 (List._∷_ 82 (List._∷_ 101 (List._∷_ 97 (List._∷_ 100 (List._∷_ 105 (List._∷_ 110 (List._∷_ 103 List.[]))))))))))))))))))))))))) (Syntax.ttcons Syntax.tnil (Syntax.ttcons (Syntax.tcons (Syntax.tyEnum (List._∷_ 114 (List._∷_ 101 (List._∷_ 97 (List._∷_ 100 (List._∷_ 105 (List._∷_ 110 (List._∷_ 103 (List._∷_ 58 (List._∷_ 58 (List._∷_ 114 (List._∷_ 101 (List._∷_ 112 (List._∷_ 108 (List._∷_ 105 (List._∷_ 101 (List._∷_ 115 (List._∷_ 58 (List._∷_ 58 (List._∷_ 82 (List._∷_ 101 (List._∷_ 102 (List._∷_ 117 (List._∷_ 115 (List._∷_ 97 (List._∷_ 108 List.[]))))))))))))))))))))))))) (Syntax.ttcons Syntax.tnil (Syntax.ttcons (Syntax.tcons (Syntax.tyInt Syntax.w64) Syntax.tnil) (Syntax.ttcons (Syntax.tcons (Syntax.tyInt Syntax.w64) Syntax.tnil) (Syntax.ttcons (Syntax.tcons (Syntax.tyInt Syntax.w64) Syntax.tnil) (Syntax.ttcons (Syntax.tcons (Syntax.tyInt Syntax.w64) Syntax.tnil) (Syntax.ttcons (Syntax.tcons (Syntax.tyInt Syntax.w64) Syntax.tnil) (Syntax.ttcons (Syntax.tcons (Syntax.tyInt Syntax.w64) Syntax.tnil) (Syntax.ttcons (Syntax.tcons ty·14 Syntax.tnil) (Syntax.ttcons (Syntax.tcons ty·14 Syntax.tnil) (Syntax.ttcons (Syntax.tcons ty·14 Syntax.tnil) (Syntax.ttcons (Syntax.tcons ty·14 (Syntax.tcons ty·14 Syntax.tnil)) (Syntax.ttcons Syntax.tnil Syntax.ttnil))))))))))))) Syntax.tnil) Syntax.ttnil)))
+row·11 = Rows.any-gone (Syntax.tyEnum (List._∷_ 114 (List._∷_ 101 (List._∷_ 97 (List._∷_ 100 (List._∷_ 105 (List._∷_ 110 (List._∷_ 103 (List._∷_ 58 (List._∷_ 58 (List._∷_ 114 (List._∷_ 101 (List._∷_ 112 (List._∷_ 108 (List._∷_ 105 (List._∷_ 101 (List._∷_ 115 (List._∷_ 58 (List._∷_ 58 (List._∷_ 82 (List._∷_ 101 (List._∷_ 97 (List._∷_ 100 (List._∷_ 105
+    (List._∷_ 110 (List._∷_ 103 List.[]))))))))))))))))))))))))) (Syntax.ttcons Syntax.tnil (Syntax.ttcons (Syntax.tcons (Syntax.tyEnum (List._∷_ 114 (List._∷_ 101 (List._∷_ 97 (List._∷_ 100 (List._∷_ 105 (List._∷_ 110 (List._∷_ 103 (List._∷_ 58 (List._∷_ 58 (List._∷_ 114 (List._∷_ 101 (List._∷_ 112 (List._∷_ 108 (List._∷_ 105 (List._∷_ 101 (List._∷_ 115
+    (List._∷_ 58 (List._∷_ 58 (List._∷_ 82 (List._∷_ 101 (List._∷_ 102 (List._∷_ 117 (List._∷_ 115 (List._∷_ 97 (List._∷_ 108 List.[]))))))))))))))))))))))))) (Syntax.ttcons Syntax.tnil (Syntax.ttcons (Syntax.tcons (Syntax.tyInt Syntax.w64) Syntax.tnil) (Syntax.ttcons (Syntax.tcons (Syntax.tyInt Syntax.w64) Syntax.tnil) (Syntax.ttcons (Syntax.tcons (Syntax.tyInt
+    Syntax.w64) Syntax.tnil) (Syntax.ttcons (Syntax.tcons (Syntax.tyInt Syntax.w64) Syntax.tnil) (Syntax.ttcons (Syntax.tcons (Syntax.tyInt Syntax.w64) Syntax.tnil) (Syntax.ttcons (Syntax.tcons (Syntax.tyInt Syntax.w64) Syntax.tnil) (Syntax.ttcons (Syntax.tcons ty·14 Syntax.tnil) (Syntax.ttcons (Syntax.tcons ty·14 Syntax.tnil) (Syntax.ttcons (Syntax.tcons ty·14
+    Syntax.tnil) (Syntax.ttcons (Syntax.tcons ty·14 (Syntax.tcons ty·14 Syntax.tnil)) (Syntax.ttcons Syntax.tnil Syntax.ttnil))))))))))))) Syntax.tnil) Syntax.ttnil)))
 
 abbrev row·12 : Row.Row
 row·12 = Rows.any-gone ty·3
@@ -140,55 +147,55 @@ abbrev row·13 : Row.Row
 row·13 = Rows.any-gone (Syntax.tyStruct (List._∷_ 38 (List._∷_ 91 (List._∷_ 93 List.[]))) (Syntax.tcons ty·3 (Syntax.tcons (Syntax.tyInt Syntax.w64) Syntax.tnil)))
 
 abbrev row·14 : Row.Row
-row·14 = Rows.whole (Declared'.row ReadAnswer.the-type)
+row·14 = Rows.any-gone ty·2
 
 abbrev row·15 : Row.Row
-row·15 = Relend.mslice-owed (Referent.rtF (Referent.fInt Syntax.w16)) ty·8 1 10 Row.off
+row·15 = Rows.any-gone (Syntax.tyStruct (List._∷_ 38 (List._∷_ 91 (List._∷_ 93 List.[]))) (Syntax.tcons ty·2 (Syntax.tcons (Syntax.tyInt Syntax.w64) Syntax.tnil)))
 
 abbrev row·16 : Row.Row
-row·16 = Relend.msptr (Referent.rtF (Referent.fInt Syntax.w16)) ty·3 10
+row·16 = Rows.any-gone ty·4
 
 abbrev row·17 : Row.Row
-row·17 = Mut.mslice (Referent.rtF (Referent.fInt Syntax.w16)) ty·3 10
+row·17 = Rows.any-gone (Syntax.tyStruct (List._∷_ 38 (List._∷_ 91 (List._∷_ 93 List.[]))) (Syntax.tcons ty·4 (Syntax.tcons (Syntax.tyInt Syntax.w64) Syntax.tnil)))
 
 abbrev row·18 : Row.Row
-row·18 = Relend.mslice-owed (Referent.rtF (Referent.fInt Syntax.w16)) ty·9 2 11 Row.off
+row·18 = Rows.any-gone ty·0
 
 abbrev row·19 : Row.Row
-row·19 = Relend.msptr (Referent.rtF (Referent.fInt Syntax.w16)) ty·3 11
+row·19 = Rows.any-gone (Syntax.tyStruct (List._∷_ 38 (List._∷_ 91 (List._∷_ 93 List.[]))) (Syntax.tcons ty·0 (Syntax.tcons (Syntax.tyInt Syntax.w64) Syntax.tnil)))
 
 abbrev row·20 : Row.Row
-row·20 = Mut.mslice (Referent.rtF (Referent.fInt Syntax.w16)) ty·3 11
+row·20 = Rows.whole (Declared'.row ReadAnswer.the-type)
 
 abbrev row·21 : Row.Row
-row·21 = Relend.mslice-owed (Referent.rtF (Referent.fInt Syntax.w8)) ty·6 3 12 Row.off
+row·21 = Relend.mslice-owed (Referent.rtF (Referent.fInt Syntax.w16)) ty·8 1 10 Row.off
 
 abbrev row·22 : Row.Row
-row·22 = Relend.msptr (Referent.rtF (Referent.fInt Syntax.w8)) ty·2 12
+row·22 = Relend.msptr (Referent.rtF (Referent.fInt Syntax.w16)) ty·3 10
 
 abbrev row·23 : Row.Row
-row·23 = Rows.any-gone (Syntax.tyStruct (List._∷_ 38 (List._∷_ 91 (List._∷_ 93 List.[]))) (Syntax.tcons ty·2 (Syntax.tcons (Syntax.tyInt Syntax.w64) Syntax.tnil)))
+row·23 = Mut.mslice (Referent.rtF (Referent.fInt Syntax.w16)) ty·3 10
 
 abbrev row·24 : Row.Row
-row·24 = Rows.any-gone ty·4
+row·24 = Relend.mslice-owed (Referent.rtF (Referent.fInt Syntax.w16)) ty·9 2 11 Row.off
 
 abbrev row·25 : Row.Row
-row·25 = Rows.any-gone (Syntax.tyStruct (List._∷_ 38 (List._∷_ 91 (List._∷_ 93 List.[]))) (Syntax.tcons ty·4 (Syntax.tcons (Syntax.tyInt Syntax.w64) Syntax.tnil)))
+row·25 = Relend.msptr (Referent.rtF (Referent.fInt Syntax.w16)) ty·3 11
 
 abbrev row·26 : Row.Row
-row·26 = Rows.any-gone ty·2
+row·26 = Mut.mslice (Referent.rtF (Referent.fInt Syntax.w16)) ty·3 11
 
 abbrev row·27 : Row.Row
-row·27 = Rows.any-gone ty·0
+row·27 = Relend.mslice-owed (Referent.rtF (Referent.fInt Syntax.w8)) ty·6 3 12 Row.off
 
 abbrev row·28 : Row.Row
-row·28 = Rows.any-gone (Syntax.tyStruct (List._∷_ 38 (List._∷_ 91 (List._∷_ 93 List.[]))) (Syntax.tcons ty·0 (Syntax.tcons (Syntax.tyInt Syntax.w64) Syntax.tnil)))
+row·28 = Relend.msptr (Referent.rtF (Referent.fInt Syntax.w8)) ty·2 12
 
 abbrev row·29 : Row.Row
-row·29 = Relend.mslice-owed (Referent.rtF (Referent.fInt Syntax.w16)) ty·10 4 13 Row.off
+row·29 = Mut.mslice (Referent.rtF (Referent.fInt Syntax.w8)) ty·2 12
 
 abbrev row·30 : Row.Row
-row·30 = Mut.mslice (Referent.rtF (Referent.fInt Syntax.w8)) ty·2 12
+row·30 = Relend.mslice-owed (Referent.rtF (Referent.fInt Syntax.w16)) ty·10 4 13 Row.off
 
 abbrev row·31 : Row.Row
 row·31 = Relend.msptr (Referent.rtF (Referent.fInt Syntax.w16)) ty·3 13
@@ -257,101 +264,44 @@ abbrev row·52 : Row.Row
 row·52 = Mut.msleft Rec.rt ty·0
 
 abbrev pub ps : List.List (Kinds.PK 10)
-ps = List._∷_ (ShrSlice.pShrS (Referent.rtF (Referent.fInt Syntax.w8)) 0 tt) (List._∷_ (MutSlice.pMutS (Referent.rtF (Referent.fInt Syntax.w16)) 1 tt) (List._∷_ (MutSlice.pMutS (Referent.rtF (Referent.fInt Syntax.w16)) 2 tt) (List._∷_ (MutSlice.pMutS (Referent.rtF (Referent.fInt Syntax.w8)) 3 tt) (List._∷_
-    (MutSlice.pMutS (Referent.rtF (Referent.fInt Syntax.w16)) 4 tt) (List._∷_ (MutSlice.pMutS (Referent.rtF (Referent.fInt Syntax.w16)) 5 tt) (List._∷_ (MutSlice.pMutS (Referent.rtF (Referent.fInt Syntax.w32)) 6 tt) (List._∷_ (MutSlice.pMutS (Referent.rtF (Referent.fInt Syntax.w16)) 7 tt) (List._∷_
-    (MutSlice.pMutS (Referent.rtF (Referent.fInt Syntax.w8)) 8 tt) (List._∷_ (MutSlice.pMutS Rec.rt 9 tt) List.[])))))))))
+ps = List._∷_ (ShrSlice.pShrS (Referent.rtF (Referent.fInt Syntax.w8)) 0 tt) (List._∷_ (MutSlice.pMutS (Referent.rtF (Referent.fInt Syntax.w16)) 1 tt) (List._∷_ (MutSlice.pMutS (Referent.rtF (Referent.fInt Syntax.w16)) 2 tt) (List._∷_ (MutSlice.pMutS (Referent.rtF (Referent.fInt Syntax.w8)) 3 tt) (List._∷_ (MutSlice.pMutS (Referent.rtF (Referent.fInt
+    Syntax.w16)) 4 tt) (List._∷_ (MutSlice.pMutS (Referent.rtF (Referent.fInt Syntax.w16)) 5 tt) (List._∷_ (MutSlice.pMutS (Referent.rtF (Referent.fInt Syntax.w32)) 6 tt) (List._∷_ (MutSlice.pMutS (Referent.rtF (Referent.fInt Syntax.w16)) 7 tt) (List._∷_ (MutSlice.pMutS (Referent.rtF (Referent.fInt Syntax.w8)) 8 tt) (List._∷_ (MutSlice.pMutS Rec.rt 9 tt)
+    List.[])))))))))
 
 abbrev pub r : Kinds.RK 10
-r = Value.rVal record {
-  ty = Declared'.row ReadAnswer.the-type;
-  one = Path'.refl;
-  val = Laws'3.val ReadAnswer.the-type Laws.the-laws;
-  tells = Laws'3.tells ReadAnswer.the-type Laws.the-laws;
-  still = Laws'3.still ReadAnswer.the-type Laws.the-copy Exit.yes;
-  row = Rows.whole (Declared'.row ReadAnswer.the-type);
-  rd = λ x. x;
-  mk = λ x. x;
-} λ M 𝓤 H A W. record {
-  copies = Laws'3.copy ReadAnswer.the-type Laws.the-copy 𝓤 H A W;
-  lawful = Laws'3.lawful ReadAnswer.the-type Laws.the-laws 𝓤 H A W;
-  makes = Laws'3.makes ReadAnswer.the-type Laws.the-plain 𝓤 H A;
-  in-mem = Local.mem-whole 𝓤 H A W (Declared'.row ReadAnswer.the-type);
-  of-mem = Local.whole-mem 𝓤 H A W (Declared'.row ReadAnswer.the-type);
-}
+r = Value.rVal record { ty = Declared'.row ReadAnswer.the-type; one = Path'.refl; val = Laws'3.val ReadAnswer.the-type Laws.the-laws; tells = Laws'3.tells ReadAnswer.the-type Laws.the-laws; still = Laws'3.still ReadAnswer.the-type Laws.the-copy Exit.yes; row = Rows.whole (Declared'.row ReadAnswer.the-type); rd = λ x. x; mk = λ x. x } λ M 𝓤 H A W. record
+    { copies = Laws'3.copy ReadAnswer.the-type Laws.the-copy 𝓤 H A W; lawful = Laws'3.lawful ReadAnswer.the-type Laws.the-laws 𝓤 H A W; makes = Laws'3.makes ReadAnswer.the-type Laws.the-plain 𝓤 H A; in-mem = Local.mem-whole 𝓤 H A W (Declared'.row ReadAnswer.the-type); of-mem = Local.whole-mem 𝓤 H A W (Declared'.row ReadAnswer.the-type) }
 
 abbrev pub xs : List.List Syntax.Ty
-xs = List._∷_ (Syntax.tyEnum (List._∷_ 114 (List._∷_ 101 (List._∷_ 97 (List._∷_ 100 (List._∷_ 105 (List._∷_ 110 (List._∷_ 103 (List._∷_ 58 (List._∷_ 58 (List._∷_ 114 (List._∷_ 101 (List._∷_ 112 (List._∷_ 108 (List._∷_ 105 (List._∷_ 101 (List._∷_ 115 (List._∷_ 58 (List._∷_ 58 (List._∷_ 82 (List._∷_ 101 (List._∷_ 97
-    (List._∷_ 100 (List._∷_ 105 (List._∷_ 110 (List._∷_ 103 List.[]))))))))))))))))))))))))) (Syntax.ttcons Syntax.tnil (Syntax.ttcons (Syntax.tcons (Syntax.tyEnum (List._∷_ 114 (List._∷_ 101 (List._∷_ 97 (List._∷_ 100 (List._∷_ 105 (List._∷_ 110 (List._∷_ 103 (List._∷_ 58 (List._∷_ 58 (List._∷_ 114 (List._∷_ 101 (List._∷_ 112 (List._∷_ 108 (List._∷_ 105
-    (List._∷_ 101 (List._∷_ 115 (List._∷_ 58 (List._∷_ 58 (List._∷_ 82 (List._∷_ 101 (List._∷_ 102 (List._∷_ 117 (List._∷_ 115 (List._∷_ 97 (List._∷_ 108 List.[]))))))))))))))))))))))))) (Syntax.ttcons Syntax.tnil (Syntax.ttcons (Syntax.tcons (Syntax.tyInt Syntax.w64) Syntax.tnil) (Syntax.ttcons (Syntax.tcons (Syntax.tyInt Syntax.w64) Syntax.tnil)
-    (Syntax.ttcons (Syntax.tcons (Syntax.tyInt Syntax.w64) Syntax.tnil) (Syntax.ttcons (Syntax.tcons (Syntax.tyInt Syntax.w64) Syntax.tnil) (Syntax.ttcons (Syntax.tcons (Syntax.tyInt Syntax.w64) Syntax.tnil) (Syntax.ttcons (Syntax.tcons (Syntax.tyInt Syntax.w64) Syntax.tnil) (Syntax.ttcons (Syntax.tcons ty·14 Syntax.tnil) (Syntax.ttcons (Syntax.tcons ty·14
-    Syntax.tnil) (Syntax.ttcons (Syntax.tcons ty·14 Syntax.tnil) (Syntax.ttcons (Syntax.tcons ty·14 (Syntax.tcons ty·14 Syntax.tnil)) (Syntax.ttcons Syntax.tnil Syntax.ttnil))))))))))))) Syntax.tnil) Syntax.ttnil))) (List._∷_ ty·3 (List._∷_ (Syntax.tyStruct (List._∷_ 38 (List._∷_ 91 (List._∷_ 93 List.[]))) (Syntax.tcons ty·3
-    (Syntax.tcons (Syntax.tyInt Syntax.w64) Syntax.tnil))) (List._∷_ ty·3 (List._∷_ (Syntax.tyStruct (List._∷_ 38 (List._∷_ 91 (List._∷_ 93 List.[]))) (Syntax.tcons ty·3 (Syntax.tcons (Syntax.tyInt Syntax.w64) Syntax.tnil))) (List._∷_ ty·2 (List._∷_ (Syntax.tyStruct (List._∷_ 38 (List._∷_ 91 (List._∷_ 93 List.[]))) (Syntax.tcons ty·2
-    (Syntax.tcons (Syntax.tyInt Syntax.w64) Syntax.tnil))) (List._∷_ ty·3 (List._∷_ (Syntax.tyStruct (List._∷_ 38 (List._∷_ 91 (List._∷_ 93 List.[]))) (Syntax.tcons ty·3 (Syntax.tcons (Syntax.tyInt Syntax.w64) Syntax.tnil))) (List._∷_ ty·3 (List._∷_ (Syntax.tyStruct (List._∷_ 38 (List._∷_ 91 (List._∷_ 93 List.[]))) (Syntax.tcons ty·3
-    (Syntax.tcons (Syntax.tyInt Syntax.w64) Syntax.tnil))) (List._∷_ ty·4 (List._∷_ (Syntax.tyStruct (List._∷_ 38 (List._∷_ 91 (List._∷_ 93 List.[]))) (Syntax.tcons ty·4 (Syntax.tcons (Syntax.tyInt Syntax.w64) Syntax.tnil))) (List._∷_ ty·3 (List._∷_ (Syntax.tyStruct (List._∷_ 38 (List._∷_ 91 (List._∷_ 93 List.[]))) (Syntax.tcons ty·3
-    (Syntax.tcons (Syntax.tyInt Syntax.w64) Syntax.tnil))) (List._∷_ ty·2 (List._∷_ (Syntax.tyStruct (List._∷_ 38 (List._∷_ 91 (List._∷_ 93 List.[]))) (Syntax.tcons ty·2 (Syntax.tcons (Syntax.tyInt Syntax.w64) Syntax.tnil))) (List._∷_ ty·0 (List._∷_ (Syntax.tyStruct (List._∷_ 38 (List._∷_ 91 (List._∷_ 93 List.[]))) (Syntax.tcons ty·0
-    (Syntax.tcons (Syntax.tyInt Syntax.w64) Syntax.tnil))) List.[]))))))))))))))))))
+xs = List._∷_ (Syntax.tyEnum (List._∷_ 114 (List._∷_ 101 (List._∷_ 97 (List._∷_ 100 (List._∷_ 105 (List._∷_ 110 (List._∷_ 103 (List._∷_ 58 (List._∷_ 58 (List._∷_ 114 (List._∷_ 101 (List._∷_ 112 (List._∷_ 108 (List._∷_ 105 (List._∷_ 101 (List._∷_ 115 (List._∷_ 58 (List._∷_ 58 (List._∷_ 82 (List._∷_ 101 (List._∷_ 97 (List._∷_ 100 (List._∷_ 105 (List._∷_ 110
+    (List._∷_ 103 List.[]))))))))))))))))))))))))) (Syntax.ttcons Syntax.tnil (Syntax.ttcons (Syntax.tcons (Syntax.tyEnum (List._∷_ 114 (List._∷_ 101 (List._∷_ 97 (List._∷_ 100 (List._∷_ 105 (List._∷_ 110 (List._∷_ 103 (List._∷_ 58 (List._∷_ 58 (List._∷_ 114 (List._∷_ 101 (List._∷_ 112 (List._∷_ 108 (List._∷_ 105 (List._∷_ 101 (List._∷_ 115 (List._∷_ 58
+    (List._∷_ 58 (List._∷_ 82 (List._∷_ 101 (List._∷_ 102 (List._∷_ 117 (List._∷_ 115 (List._∷_ 97 (List._∷_ 108 List.[]))))))))))))))))))))))))) (Syntax.ttcons Syntax.tnil (Syntax.ttcons (Syntax.tcons (Syntax.tyInt Syntax.w64) Syntax.tnil) (Syntax.ttcons (Syntax.tcons (Syntax.tyInt Syntax.w64) Syntax.tnil) (Syntax.ttcons (Syntax.tcons (Syntax.tyInt Syntax.w64)
+    Syntax.tnil) (Syntax.ttcons (Syntax.tcons (Syntax.tyInt Syntax.w64) Syntax.tnil) (Syntax.ttcons (Syntax.tcons (Syntax.tyInt Syntax.w64) Syntax.tnil) (Syntax.ttcons (Syntax.tcons (Syntax.tyInt Syntax.w64) Syntax.tnil) (Syntax.ttcons (Syntax.tcons ty·14 Syntax.tnil) (Syntax.ttcons (Syntax.tcons ty·14 Syntax.tnil) (Syntax.ttcons (Syntax.tcons ty·14 Syntax.tnil)
+    (Syntax.ttcons (Syntax.tcons ty·14 (Syntax.tcons ty·14 Syntax.tnil)) (Syntax.ttcons Syntax.tnil Syntax.ttnil))))))))))))) Syntax.tnil) Syntax.ttnil))) (List._∷_ ty·3 (List._∷_ (Syntax.tyStruct (List._∷_ 38 (List._∷_ 91 (List._∷_ 93 List.[]))) (Syntax.tcons ty·3 (Syntax.tcons (Syntax.tyInt Syntax.w64) Syntax.tnil))) (List._∷_ ty·3 (List._∷_ (Syntax.tyStruct
+    (List._∷_ 38 (List._∷_ 91 (List._∷_ 93 List.[]))) (Syntax.tcons ty·3 (Syntax.tcons (Syntax.tyInt Syntax.w64) Syntax.tnil))) (List._∷_ ty·2 (List._∷_ (Syntax.tyStruct (List._∷_ 38 (List._∷_ 91 (List._∷_ 93 List.[]))) (Syntax.tcons ty·2 (Syntax.tcons (Syntax.tyInt Syntax.w64) Syntax.tnil))) (List._∷_ ty·3 (List._∷_ (Syntax.tyStruct (List._∷_ 38 (List._∷_ 91
+    (List._∷_ 93 List.[]))) (Syntax.tcons ty·3 (Syntax.tcons (Syntax.tyInt Syntax.w64) Syntax.tnil))) (List._∷_ ty·3 (List._∷_ (Syntax.tyStruct (List._∷_ 38 (List._∷_ 91 (List._∷_ 93 List.[]))) (Syntax.tcons ty·3 (Syntax.tcons (Syntax.tyInt Syntax.w64) Syntax.tnil))) (List._∷_ ty·4 (List._∷_ (Syntax.tyStruct (List._∷_ 38 (List._∷_ 91 (List._∷_ 93 List.[])))
+    (Syntax.tcons ty·4 (Syntax.tcons (Syntax.tyInt Syntax.w64) Syntax.tnil))) (List._∷_ ty·3 (List._∷_ (Syntax.tyStruct (List._∷_ 38 (List._∷_ 91 (List._∷_ 93 List.[]))) (Syntax.tcons ty·3 (Syntax.tcons (Syntax.tyInt Syntax.w64) Syntax.tnil))) (List._∷_ ty·2 (List._∷_ (Syntax.tyStruct (List._∷_ 38 (List._∷_ 91 (List._∷_ 93 List.[]))) (Syntax.tcons ty·2
+    (Syntax.tcons (Syntax.tyInt Syntax.w64) Syntax.tnil))) (List._∷_ ty·0 (List._∷_ (Syntax.tyStruct (List._∷_ 38 (List._∷_ 91 (List._∷_ 93 List.[]))) (Syntax.tcons ty·0 (Syntax.tcons (Syntax.tyInt Syntax.w64) Syntax.tnil))) List.[]))))))))))))))))))
 
 abbrev pub m : Nat.ℕ
 m = 9
 
 abbrev pub ps·0 : List.List (Kinds.PK 10)
-ps·0 = List._∷_ (ShrSlice.pShrS (Referent.rtF (Referent.fInt Syntax.w8)) 0 tt) (List._∷_ (MutSlice.pMutS (Referent.rtF (Referent.fInt Syntax.w16)) 1 tt) (List._∷_ (MutSlice.pMutS (Referent.rtF (Referent.fInt Syntax.w16)) 2 tt) (List._∷_ (MutSlice.pMutS (Referent.rtF (Referent.fInt Syntax.w8)) 3 tt) (List._∷_
-    (MutSlice.pMutS (Referent.rtF (Referent.fInt Syntax.w16)) 4 tt) (List._∷_ (MutSlice.pMutS (Referent.rtF (Referent.fInt Syntax.w16)) 5 tt) (List._∷_ (MutSlice.pMutS (Referent.rtF (Referent.fInt Syntax.w32)) 6 tt) (List._∷_ (MutSlice.pMutS (Referent.rtF (Referent.fInt Syntax.w16)) 7 tt) (List._∷_
-    (MutSlice.pMutS (Referent.rtF (Referent.fInt Syntax.w8)) 8 tt) (List._∷_ (MutSlice.pMutS Rec.rt 9 tt) List.[])))))))))
+ps·0 = List._∷_ (ShrSlice.pShrS (Referent.rtF (Referent.fInt Syntax.w8)) 0 tt) (List._∷_ (MutSlice.pMutS (Referent.rtF (Referent.fInt Syntax.w16)) 1 tt) (List._∷_ (MutSlice.pMutS (Referent.rtF (Referent.fInt Syntax.w16)) 2 tt) (List._∷_ (MutSlice.pMutS (Referent.rtF (Referent.fInt Syntax.w8)) 3 tt) (List._∷_ (MutSlice.pMutS (Referent.rtF (Referent.fInt
+    Syntax.w16)) 4 tt) (List._∷_ (MutSlice.pMutS (Referent.rtF (Referent.fInt Syntax.w16)) 5 tt) (List._∷_ (MutSlice.pMutS (Referent.rtF (Referent.fInt Syntax.w32)) 6 tt) (List._∷_ (MutSlice.pMutS (Referent.rtF (Referent.fInt Syntax.w16)) 7 tt) (List._∷_ (MutSlice.pMutS (Referent.rtF (Referent.fInt Syntax.w8)) 8 tt) (List._∷_ (MutSlice.pMutS Rec.rt 9 tt)
+    List.[])))))))))
 
 abbrev pub r·0 : Kinds.RK 10
-r·0 = Value.rVal record {
-  ty = Declared.row Reading.the-type;
-  one = Path'.refl;
-  val = Laws''.val Reading.the-type Laws'.the-laws;
-  tells = Laws''.tells Reading.the-type Laws'.the-laws;
-  still = Laws''.still Reading.the-type Laws'.the-copy Exit.yes;
-  row = Rows.whole (Declared.row Reading.the-type);
-  rd = λ x. x;
-  mk = λ x. x;
-} λ M 𝓤 H A W. record {
-  copies = Laws''.copy Reading.the-type Laws'.the-copy 𝓤 H A W;
-  lawful = Laws''.lawful Reading.the-type Laws'.the-laws 𝓤 H A W tt;
-  makes = Laws''.makes Reading.the-type Laws'.the-plain 𝓤 H A;
-  in-mem = Local.mem-whole 𝓤 H A W (Declared.row Reading.the-type);
-  of-mem = Local.whole-mem 𝓤 H A W (Declared.row Reading.the-type);
-}
+r·0 = Value.rVal record { ty = Declared.row Reading.the-type; one = Path'.refl; val = Laws''.val Reading.the-type Laws'.the-laws; tells = Laws''.tells Reading.the-type Laws'.the-laws; still = Laws''.still Reading.the-type Laws'.the-copy Exit.yes; row = Rows.whole (Declared.row Reading.the-type); rd = λ x. x; mk = λ x. x } λ M 𝓤 H A W. record
+    { copies = Laws''.copy Reading.the-type Laws'.the-copy 𝓤 H A W; lawful = Laws''.lawful Reading.the-type Laws'.the-laws 𝓤 H A W tt; makes = Laws''.makes Reading.the-type Laws'.the-plain 𝓤 H A; in-mem = Local.mem-whole 𝓤 H A W (Declared.row Reading.the-type); of-mem = Local.whole-mem 𝓤 H A W (Declared.row Reading.the-type) }
 
 abbrev pub ps·1 : List.List (Kinds.PK 0)
-ps·1 = List._∷_ (Value.pVal record {
-  ty = Declared.row Reading.the-type;
-  one = Path'.refl;
-  val = Laws''.val Reading.the-type Laws'.the-laws;
-  tells = Laws''.tells Reading.the-type Laws'.the-laws;
-  still = Laws''.still Reading.the-type Laws'.the-copy Exit.yes;
-  row = Rows.whole (Declared.row Reading.the-type);
-  rd = λ x. x;
-  mk = λ x. x;
-} λ M 𝓤 H A W. record {
-  copies = Laws''.copy Reading.the-type Laws'.the-copy 𝓤 H A W;
-  lawful = Laws''.lawful Reading.the-type Laws'.the-laws 𝓤 H A W tt;
-  makes = Laws''.makes Reading.the-type Laws'.the-plain 𝓤 H A;
-  in-mem = Local.mem-whole 𝓤 H A W (Declared.row Reading.the-type);
-  of-mem = Local.whole-mem 𝓤 H A W (Declared.row Reading.the-type);
-}) List.[]
+ps·1 = List._∷_ (Value.pVal record { ty = Declared.row Reading.the-type; one = Path'.refl; val = Laws''.val Reading.the-type Laws'.the-laws; tells = Laws''.tells Reading.the-type Laws'.the-laws; still = Laws''.still Reading.the-type Laws'.the-copy Exit.yes; row = Rows.whole (Declared.row Reading.the-type); rd = λ x. x; mk = λ x. x } λ M 𝓤 H A W. record
+    { copies = Laws''.copy Reading.the-type Laws'.the-copy 𝓤 H A W; lawful = Laws''.lawful Reading.the-type Laws'.the-laws 𝓤 H A W tt; makes = Laws''.makes Reading.the-type Laws'.the-plain 𝓤 H A; in-mem = Local.mem-whole 𝓤 H A W (Declared.row Reading.the-type); of-mem = Local.whole-mem 𝓤 H A W (Declared.row Reading.the-type) }) List.[]
 
 abbrev pub r·1 : Kinds.RK 0
-r·1 = Value.rVal record {
-  ty = Declared'.row ReadAnswer.the-type;
-  one = Path'.refl;
-  val = Laws'3.val ReadAnswer.the-type Laws.the-laws;
-  tells = Laws'3.tells ReadAnswer.the-type Laws.the-laws;
-  still = Laws'3.still ReadAnswer.the-type Laws.the-copy Exit.yes;
-  row = Rows.whole (Declared'.row ReadAnswer.the-type);
-  rd = λ x. x;
-  mk = λ x. x;
-} λ M 𝓤 H A W. record {
-  copies = Laws'3.copy ReadAnswer.the-type Laws.the-copy 𝓤 H A W;
-  lawful = Laws'3.lawful ReadAnswer.the-type Laws.the-laws 𝓤 H A W;
-  makes = Laws'3.makes ReadAnswer.the-type Laws.the-plain 𝓤 H A;
-  in-mem = Local.mem-whole 𝓤 H A W (Declared'.row ReadAnswer.the-type);
-  of-mem = Local.whole-mem 𝓤 H A W (Declared'.row ReadAnswer.the-type);
-}
+r·1 = Value.rVal record { ty = Declared'.row ReadAnswer.the-type; one = Path'.refl; val = Laws'3.val ReadAnswer.the-type Laws.the-laws; tells = Laws'3.tells ReadAnswer.the-type Laws.the-laws; still = Laws'3.still ReadAnswer.the-type Laws.the-copy Exit.yes; row = Rows.whole (Declared'.row ReadAnswer.the-type); rd = λ x. x; mk = λ x. x } λ M 𝓤 H A W. record
+    { copies = Laws'3.copy ReadAnswer.the-type Laws.the-copy 𝓤 H A W; lawful = Laws'3.lawful ReadAnswer.the-type Laws.the-laws 𝓤 H A W; makes = Laws'3.makes ReadAnswer.the-type Laws.the-plain 𝓤 H A; in-mem = Local.mem-whole 𝓤 H A W (Declared'.row ReadAnswer.the-type); of-mem = Local.whole-mem 𝓤 H A W (Declared'.row ReadAnswer.the-type) }
 
 abbrev pub hs : List.List Syntax.Home
 hs = List._∷_ Syntax.valueLocal (List._∷_ Syntax.valueLocal (List._∷_ Syntax.valueLocal (List._∷_ Syntax.valueLocal (List._∷_ Syntax.valueLocal (List._∷_ Syntax.valueLocal (List._∷_ Syntax.valueLocal (List._∷_ Syntax.valueLocal (List._∷_ Syntax.valueLocal (List._∷_ Syntax.valueLocal (List._∷_ Syntax.valueLocal (List._∷_ Syntax.valueLocal (List._∷_
@@ -488,217 +438,123 @@ body = b40
 abbrev pub Claims : Type 1
 Claims = Kinds.In 10 ps·0 × Kinds.Out 10 ps·0 r·0 × Kinds.In 0 ps·1 × Kinds.Out 0 ps·1 r·1
 
-abbrev pub t0 : List.List Row.Entry
-t0 = List._∷_ (0, row·0) (List._∷_ (1, row·1) (List._∷_ (2, row·2) (List._∷_ (3, row·3) (List._∷_ (4, row·4) (List._∷_ (5, row·5) (List._∷_ (6, row·6) (List._∷_ (7, row·7) (List._∷_ (8, row·8) (List._∷_ (9, row·9) (List._∷_ (10, row·10) (List._∷_ (11, row·11) (List._∷_ (12, row·12) (List._∷_ (13, row·13) (List._∷_ (14, row·12) (List._∷_ (15, row·13) List.[])))))))))))))))
-
 abbrev pub t1 : List.List Row.Entry
-t1 = List._∷_ (16, Rows.any-gone ty·2) (List._∷_ (17, Rows.any-gone (Syntax.tyStruct (List._∷_ 38 (List._∷_ 91 (List._∷_ 93 List.[]))) (Syntax.tcons ty·2 (Syntax.tcons (Syntax.tyInt Syntax.w64) Syntax.tnil)))) (List._∷_ (18, Rows.any-gone ty·3) (List._∷_ (
-  19,
-  Rows.any-gone (Syntax.tyStruct (List._∷_ 38 (List._∷_ 91 (List._∷_ 93 List.[])))
-      (Syntax.tcons ty·3 (Syntax.tcons (Syntax.tyInt Syntax.w64) Syntax.tnil))),
-) (List._∷_ (20, Rows.any-gone ty·3) (List._∷_ (21, Rows.any-gone (Syntax.tyStruct (List._∷_ 38 (List._∷_ 91 (List._∷_ 93 List.[]))) (Syntax.tcons ty·3 (Syntax.tcons (Syntax.tyInt Syntax.w64) Syntax.tnil)))) (List._∷_ (22, Rows.any-gone ty·4) (List._∷_ (
-  23,
-  Rows.any-gone
-      (Syntax.tyStruct (List._∷_ 38 (List._∷_ 91 (List._∷_ 93 List.[]))) (Syntax.tcons ty·4 (Syntax.tcons (Syntax.tyInt Syntax.w64) Syntax.tnil))),
-) (List._∷_ (24, Rows.any-gone ty·3) (List._∷_ (
-  25,
-  Rows.any-gone (Syntax.tyStruct (List._∷_ 38 (List._∷_ 91 (List._∷_ 93 List.[]))) (Syntax.tcons ty·3 (Syntax.tcons (Syntax.tyInt Syntax.w64) Syntax.tnil))),
-) (List._∷_ (26, Rows.any-gone ty·2) (List._∷_ (27, Rows.any-gone (Syntax.tyStruct (List._∷_ 38 (List._∷_ 91 (List._∷_ 93 List.[]))) (Syntax.tcons ty·2 (Syntax.tcons (Syntax.tyInt Syntax.w64) Syntax.tnil)))) (List._∷_ (28, Rows.any-gone ty·0) (List._∷_ (
-  29,
-  Rows.any-gone (Syntax.tyStruct (List._∷_ 38 (List._∷_ 91 (List._∷_ 93 List.[])))
-      (Syntax.tcons ty·0 (Syntax.tcons (Syntax.tyInt Syntax.w64) Syntax.tnil))),
-) List.[])))))))))))))
-
-abbrev pub t2 : List.List Row.Entry
-t2 = List._∷_ (0, row·14) (List._∷_ (1, row·1) (List._∷_ (2, row·2) (List._∷_ (3, row·3) (List._∷_ (4, row·4) (List._∷_ (5, row·5) (List._∷_ (6, row·6) (List._∷_ (7, row·7) (List._∷_ (8, row·8) (List._∷_ (9, row·9) (List._∷_ (10, row·10) (List._∷_ (11, row·11) (List._∷_ (12, row·12) (List._∷_ (13, row·13) (List._∷_ (14, row·12) (List._∷_ (15, row·13) List.[])))))))))))))))
-
-abbrev pub t3 : List.List Row.Entry
-t3 = List._∷_ (0, row·0) (List._∷_ (1, row·1) (List._∷_ (2, row·15) (List._∷_ (3, row·3) (List._∷_ (4, row·4) (List._∷_ (5, row·5) (List._∷_ (6, row·6) (List._∷_ (7, row·7) (List._∷_ (8, row·8) (List._∷_ (9, row·9) (List._∷_ (10, row·10) (List._∷_ (11, row·11) (List._∷_ (12, row·16) (List._∷_ (13, row·13) (List._∷_ (14, row·12) (List._∷_ (15, row·13) List.[])))))))))))))))
-
-abbrev pub t4 : List.List Row.Entry
-t4 = List._∷_ (0, row·0) (List._∷_ (1, row·1) (List._∷_ (2, row·15) (List._∷_ (3, row·3) (List._∷_ (4, row·4) (List._∷_ (5, row·5) (List._∷_ (6, row·6) (List._∷_ (7, row·7) (List._∷_ (8, row·8) (List._∷_ (9, row·9) (List._∷_ (10, row·10) (List._∷_ (11, row·11) (List._∷_ (12, row·12) (List._∷_ (13, row·17) (List._∷_ (14, row·12) (List._∷_ (15, row·13) List.[])))))))))))))))
-
-abbrev pub t5 : List.List Row.Entry
-t5 = List._∷_ (0, row·0) (List._∷_ (1, row·1) (List._∷_ (2, row·15) (List._∷_ (3, row·18) (List._∷_ (4, row·4) (List._∷_ (5, row·5) (List._∷_ (6, row·6) (List._∷_ (7, row·7) (List._∷_ (8, row·8) (List._∷_ (9, row·9) (List._∷_ (10, row·10) (List._∷_ (11, row·11) (List._∷_ (12, row·12) (List._∷_ (13, row·17) (List._∷_ (14, row·19) (List._∷_ (15, row·13) List.[])))))))))))))))
-
-abbrev pub t6 : List.List Row.Entry
-t6 = List._∷_ (0, row·0) (List._∷_ (1, row·1) (List._∷_ (2, row·15) (List._∷_ (3, row·18) (List._∷_ (4, row·4) (List._∷_ (5, row·5) (List._∷_ (6, row·6) (List._∷_ (7, row·7) (List._∷_ (8, row·8) (List._∷_ (9, row·9) (List._∷_ (10, row·10) (List._∷_ (11, row·11) (List._∷_ (12, row·12) (List._∷_ (13, row·17) (List._∷_ (14, row·12) (List._∷_ (15, row·20) List.[])))))))))))))))
+t1 = List._∷_ (16, row·14) (List._∷_ (17, row·15) (List._∷_ (18, row·12) (List._∷_ (19, row·13) (List._∷_ (20, row·12) (List._∷_ (21, row·13) (List._∷_ (22, row·16) (List._∷_ (23, row·17) (List._∷_ (24, row·12) (List._∷_ (25, row·13) (List._∷_ (26, row·14) (List._∷_ (27, row·15) (List._∷_ (28, row·18) (List._∷_ (29, row·19) List.[])))))))))))))
 
 abbrev pub t7 : List.List Row.Entry
-t7 = List._∷_ (0, row·0) (List._∷_ (1, row·1) (List._∷_ (2, row·15) (List._∷_ (3, row·18) (List._∷_ (4, row·21) (List._∷_ (5, row·5) (List._∷_ (6, row·6) (List._∷_ (7, row·7) (List._∷_ (8, row·8) (List._∷_ (9, row·9) (List._∷_ (10, row·10) (List._∷_ (11, row·11) (List._∷_ (12, row·12) (List._∷_ (13, row·17) (List._∷_ (14, row·12) (List._∷_ (15, row·20) List.[])))))))))))))))
+t7 = List._∷_ (0, row·0) (List._∷_ (1, row·1) (List._∷_ (2, row·21) (List._∷_ (3, row·24) (List._∷_ (4, row·27) (List._∷_ (5, row·5) (List._∷_ (6, row·6) (List._∷_ (7, row·7) (List._∷_ (8, row·8) (List._∷_ (9, row·9) (List._∷_ (10, row·10) (List._∷_ (11, row·11) (List._∷_ (12, row·12) (List._∷_ (13, row·23) (List._∷_ (14, row·12) (List._∷_ (15, row·26)
+    List.[])))))))))))))))
 
 abbrev pub t8 : List.List Row.Entry
-t8 = List._∷_ (16, row·22) (List._∷_ (17, row·23) (List._∷_ (18, row·12) (List._∷_ (19, row·13) (List._∷_ (20, row·12) (List._∷_ (21, row·13) (List._∷_ (22, row·24) (List._∷_ (23, row·25) (List._∷_ (24, row·12) (List._∷_ (25, row·13) (List._∷_ (26, row·26) (List._∷_ (27, row·23) (List._∷_ (28, row·27) (List._∷_ (29, row·28) List.[])))))))))))))
+t8 = List._∷_ (16, row·28) (List._∷_ (17, row·15) (List._∷_ (18, row·12) (List._∷_ (19, row·13) (List._∷_ (20, row·12) (List._∷_ (21, row·13) (List._∷_ (22, row·16) (List._∷_ (23, row·17) (List._∷_ (24, row·12) (List._∷_ (25, row·13) (List._∷_ (26, row·14) (List._∷_ (27, row·15) (List._∷_ (28, row·18) (List._∷_ (29, row·19) List.[])))))))))))))
 
 abbrev pub t9 : List.List Row.Entry
-t9 = List._∷_ (16, Rows.any-gone ty·2) (List._∷_ (17, Mut.mslice (Referent.rtF (Referent.fInt Syntax.w8)) ty·2 12) (List._∷_ (18, Rows.any-gone ty·3) (List._∷_ (19, Rows.any-gone (Syntax.tyStruct (List._∷_ 38 (List._∷_ 91 (List._∷_ 93 List.[]))) (Syntax.tcons ty·3 (Syntax.tcons (Syntax.tyInt Syntax.w64) Syntax.tnil)))) (List._∷_ (
-  20,
-  Rows.any-gone ty·3,
-) (List._∷_ (21, Rows.any-gone (Syntax.tyStruct (List._∷_ 38 (List._∷_ 91 (List._∷_ 93 List.[]))) (Syntax.tcons ty·3 (Syntax.tcons (Syntax.tyInt Syntax.w64) Syntax.tnil)))) (List._∷_ (22, Rows.any-gone ty·4) (List._∷_ (
-  23,
-  Rows.any-gone (Syntax.tyStruct (List._∷_ 38 (List._∷_ 91 (List._∷_ 93 List.[]))) (Syntax.tcons ty·4
-      (Syntax.tcons (Syntax.tyInt Syntax.w64) Syntax.tnil))),
-) (List._∷_ (24, Rows.any-gone ty·3) (List._∷_ (25, Rows.any-gone (Syntax.tyStruct (List._∷_ 38 (List._∷_ 91 (List._∷_ 93 List.[]))) (Syntax.tcons ty·3 (Syntax.tcons (Syntax.tyInt Syntax.w64) Syntax.tnil)))) (List._∷_ (26, Rows.any-gone ty·2) (List._∷_ (
-  27,
-  Rows.any-gone (Syntax.tyStruct
-      (List._∷_ 38 (List._∷_ 91 (List._∷_ 93 List.[]))) (Syntax.tcons ty·2 (Syntax.tcons (Syntax.tyInt Syntax.w64) Syntax.tnil))),
-) (List._∷_ (28, Rows.any-gone ty·0) (List._∷_ (
-  29,
-  Rows.any-gone (Syntax.tyStruct (List._∷_ 38 (List._∷_ 91 (List._∷_ 93 List.[]))) (Syntax.tcons ty·0 (Syntax.tcons (Syntax.tyInt Syntax.w64) Syntax.tnil))),
-) List.[])))))))))))))
+t9 = List._∷_ (16, row·14) (List._∷_ (17, row·29) (List._∷_ (18, row·12) (List._∷_ (19, row·13) (List._∷_ (20, row·12) (List._∷_ (21, row·13) (List._∷_ (22, row·16) (List._∷_ (23, row·17) (List._∷_ (24, row·12) (List._∷_ (25, row·13) (List._∷_ (26, row·14) (List._∷_ (27, row·15) (List._∷_ (28, row·18) (List._∷_ (29, row·19) List.[])))))))))))))
 
 abbrev pub t10 : List.List Row.Entry
-t10 = List._∷_ (0, row·0) (List._∷_ (1, row·1) (List._∷_ (2, row·15) (List._∷_ (3, row·18) (List._∷_ (4, row·21) (List._∷_ (5, row·29) (List._∷_ (6, row·6) (List._∷_ (7, row·7) (List._∷_ (8, row·8) (List._∷_ (9, row·9) (List._∷_ (10, row·10) (List._∷_ (11, row·11) (List._∷_ (12, row·12) (List._∷_ (13, row·17) (List._∷_ (14, row·12) (List._∷_ (15, row·20) List.[])))))))))))))))
+t10 = List._∷_ (0, row·0) (List._∷_ (1, row·1) (List._∷_ (2, row·21) (List._∷_ (3, row·24) (List._∷_ (4, row·27) (List._∷_ (5, row·30) (List._∷_ (6, row·6) (List._∷_ (7, row·7) (List._∷_ (8, row·8) (List._∷_ (9, row·9) (List._∷_ (10, row·10) (List._∷_ (11, row·11) (List._∷_ (12, row·12) (List._∷_ (13, row·23) (List._∷_ (14, row·12) (List._∷_ (15, row·26)
+    List.[])))))))))))))))
 
 abbrev pub t11 : List.List Row.Entry
-t11 = List._∷_ (16, row·26) (List._∷_ (17, row·30) (List._∷_ (18, row·31) (List._∷_ (19, row·13) (List._∷_ (20, row·12) (List._∷_ (21, row·13) (List._∷_ (22, row·24) (List._∷_ (23, row·25) (List._∷_ (24, row·12) (List._∷_ (25, row·13) (List._∷_ (26, row·26) (List._∷_ (27, row·23) (List._∷_ (28, row·27) (List._∷_ (29, row·28) List.[])))))))))))))
+t11 = List._∷_ (16, row·14) (List._∷_ (17, row·29) (List._∷_ (18, row·31) (List._∷_ (19, row·13) (List._∷_ (20, row·12) (List._∷_ (21, row·13) (List._∷_ (22, row·16) (List._∷_ (23, row·17) (List._∷_ (24, row·12) (List._∷_ (25, row·13) (List._∷_ (26, row·14) (List._∷_ (27, row·15) (List._∷_ (28, row·18) (List._∷_ (29, row·19) List.[])))))))))))))
 
 abbrev pub t12 : List.List Row.Entry
-t12 = List._∷_ (16, row·26) (List._∷_ (17, row·30) (List._∷_ (18, row·12) (List._∷_ (19, row·32) (List._∷_ (20, row·12) (List._∷_ (21, row·13) (List._∷_ (22, row·24) (List._∷_ (23, row·25) (List._∷_ (24, row·12) (List._∷_ (25, row·13) (List._∷_ (26, row·26) (List._∷_ (27, row·23) (List._∷_ (28, row·27) (List._∷_ (29, row·28) List.[])))))))))))))
+t12 = List._∷_ (16, row·14) (List._∷_ (17, row·29) (List._∷_ (18, row·12) (List._∷_ (19, row·32) (List._∷_ (20, row·12) (List._∷_ (21, row·13) (List._∷_ (22, row·16) (List._∷_ (23, row·17) (List._∷_ (24, row·12) (List._∷_ (25, row·13) (List._∷_ (26, row·14) (List._∷_ (27, row·15) (List._∷_ (28, row·18) (List._∷_ (29, row·19) List.[])))))))))))))
 
 abbrev pub t13 : List.List Row.Entry
-t13 = List._∷_ (0, row·0) (List._∷_ (1, row·1) (List._∷_ (2, row·15) (List._∷_ (3, row·18) (List._∷_ (4, row·21) (List._∷_ (5, row·29) (List._∷_ (6, row·33) (List._∷_ (7, row·7) (List._∷_ (8, row·8) (List._∷_ (9, row·9) (List._∷_ (10, row·10) (List._∷_ (11, row·11) (List._∷_ (12, row·12) (List._∷_ (13, row·17) (List._∷_ (14, row·12) (List._∷_ (15, row·20) List.[])))))))))))))))
+t13 = List._∷_ (0, row·0) (List._∷_ (1, row·1) (List._∷_ (2, row·21) (List._∷_ (3, row·24) (List._∷_ (4, row·27) (List._∷_ (5, row·30) (List._∷_ (6, row·33) (List._∷_ (7, row·7) (List._∷_ (8, row·8) (List._∷_ (9, row·9) (List._∷_ (10, row·10) (List._∷_ (11, row·11) (List._∷_ (12, row·12) (List._∷_ (13, row·23) (List._∷_ (14, row·12) (List._∷_ (15, row·26)
+    List.[])))))))))))))))
 
 abbrev pub t14 : List.List Row.Entry
-t14 = List._∷_ (16, row·26) (List._∷_ (17, row·30) (List._∷_ (18, row·12) (List._∷_ (19, row·32) (List._∷_ (20, row·34) (List._∷_ (21, row·13) (List._∷_ (22, row·24) (List._∷_ (23, row·25) (List._∷_ (24, row·12) (List._∷_ (25, row·13) (List._∷_ (26, row·26) (List._∷_ (27, row·23) (List._∷_ (28, row·27) (List._∷_ (29, row·28) List.[])))))))))))))
+t14 = List._∷_ (16, row·14) (List._∷_ (17, row·29) (List._∷_ (18, row·12) (List._∷_ (19, row·32) (List._∷_ (20, row·34) (List._∷_ (21, row·13) (List._∷_ (22, row·16) (List._∷_ (23, row·17) (List._∷_ (24, row·12) (List._∷_ (25, row·13) (List._∷_ (26, row·14) (List._∷_ (27, row·15) (List._∷_ (28, row·18) (List._∷_ (29, row·19) List.[])))))))))))))
 
 abbrev pub t15 : List.List Row.Entry
-t15 = List._∷_ (16, row·26) (List._∷_ (17, row·30) (List._∷_ (18, row·12) (List._∷_ (19, row·32) (List._∷_ (20, row·12) (List._∷_ (21, row·35) (List._∷_ (22, row·24) (List._∷_ (23, row·25) (List._∷_ (24, row·12) (List._∷_ (25, row·13) (List._∷_ (26, row·26) (List._∷_ (27, row·23) (List._∷_ (28, row·27) (List._∷_ (29, row·28) List.[])))))))))))))
+t15 = List._∷_ (16, row·14) (List._∷_ (17, row·29) (List._∷_ (18, row·12) (List._∷_ (19, row·32) (List._∷_ (20, row·12) (List._∷_ (21, row·35) (List._∷_ (22, row·16) (List._∷_ (23, row·17) (List._∷_ (24, row·12) (List._∷_ (25, row·13) (List._∷_ (26, row·14) (List._∷_ (27, row·15) (List._∷_ (28, row·18) (List._∷_ (29, row·19) List.[])))))))))))))
 
 abbrev pub t16 : List.List Row.Entry
-t16 = List._∷_ (0, row·0) (List._∷_ (1, row·1) (List._∷_ (2, row·15) (List._∷_ (3, row·18) (List._∷_ (4, row·21) (List._∷_ (5, row·29) (List._∷_ (6, row·33) (List._∷_ (7, row·36) (List._∷_ (8, row·8) (List._∷_ (9, row·9) (List._∷_ (10, row·10) (List._∷_ (11, row·11) (List._∷_ (12, row·12) (List._∷_ (13, row·17) (List._∷_ (14, row·12) (List._∷_ (15, row·20) List.[])))))))))))))))
+t16 = List._∷_ (0, row·0) (List._∷_ (1, row·1) (List._∷_ (2, row·21) (List._∷_ (3, row·24) (List._∷_ (4, row·27) (List._∷_ (5, row·30) (List._∷_ (6, row·33) (List._∷_ (7, row·36) (List._∷_ (8, row·8) (List._∷_ (9, row·9) (List._∷_ (10, row·10) (List._∷_ (11, row·11) (List._∷_ (12, row·12) (List._∷_ (13, row·23) (List._∷_ (14, row·12) (List._∷_ (15, row·26)
+    List.[])))))))))))))))
 
 abbrev pub t17 : List.List Row.Entry
-t17 = List._∷_ (16, row·26) (List._∷_ (17, row·30) (List._∷_ (18, row·12) (List._∷_ (19, row·32) (List._∷_ (20, row·12) (List._∷_ (21, row·35) (List._∷_ (22, row·37) (List._∷_ (23, row·25) (List._∷_ (24, row·12) (List._∷_ (25, row·13) (List._∷_ (26, row·26) (List._∷_ (27, row·23) (List._∷_ (28, row·27) (List._∷_ (29, row·28) List.[])))))))))))))
+t17 = List._∷_ (16, row·14) (List._∷_ (17, row·29) (List._∷_ (18, row·12) (List._∷_ (19, row·32) (List._∷_ (20, row·12) (List._∷_ (21, row·35) (List._∷_ (22, row·37) (List._∷_ (23, row·17) (List._∷_ (24, row·12) (List._∷_ (25, row·13) (List._∷_ (26, row·14) (List._∷_ (27, row·15) (List._∷_ (28, row·18) (List._∷_ (29, row·19) List.[])))))))))))))
 
 abbrev pub t18 : List.List Row.Entry
-t18 = List._∷_ (16, row·26) (List._∷_ (17, row·30) (List._∷_ (18, row·12) (List._∷_ (19, row·32) (List._∷_ (20, row·12) (List._∷_ (21, row·35) (List._∷_ (22, row·24) (List._∷_ (23, row·38) (List._∷_ (24, row·12) (List._∷_ (25, row·13) (List._∷_ (26, row·26) (List._∷_ (27, row·23) (List._∷_ (28, row·27) (List._∷_ (29, row·28) List.[])))))))))))))
+t18 = List._∷_ (16, row·14) (List._∷_ (17, row·29) (List._∷_ (18, row·12) (List._∷_ (19, row·32) (List._∷_ (20, row·12) (List._∷_ (21, row·35) (List._∷_ (22, row·16) (List._∷_ (23, row·38) (List._∷_ (24, row·12) (List._∷_ (25, row·13) (List._∷_ (26, row·14) (List._∷_ (27, row·15) (List._∷_ (28, row·18) (List._∷_ (29, row·19) List.[])))))))))))))
 
 abbrev pub t19 : List.List Row.Entry
-t19 = List._∷_ (0, row·0) (List._∷_ (1, row·1) (List._∷_ (2, row·15) (List._∷_ (3, row·18) (List._∷_ (4, row·21) (List._∷_ (5, row·29) (List._∷_ (6, row·33) (List._∷_ (7, row·36) (List._∷_ (8, row·39) (List._∷_ (9, row·9) (List._∷_ (10, row·10) (List._∷_ (11, row·11) (List._∷_ (12, row·12) (List._∷_ (13, row·17) (List._∷_ (14, row·12) (List._∷_ (15, row·20) List.[])))))))))))))))
+t19 = List._∷_ (0, row·0) (List._∷_ (1, row·1) (List._∷_ (2, row·21) (List._∷_ (3, row·24) (List._∷_ (4, row·27) (List._∷_ (5, row·30) (List._∷_ (6, row·33) (List._∷_ (7, row·36) (List._∷_ (8, row·39) (List._∷_ (9, row·9) (List._∷_ (10, row·10) (List._∷_ (11, row·11) (List._∷_ (12, row·12) (List._∷_ (13, row·23) (List._∷_ (14, row·12) (List._∷_ (15, row·26)
+    List.[])))))))))))))))
 
 abbrev pub t20 : List.List Row.Entry
-t20 = List._∷_ (16, row·26) (List._∷_ (17, row·30) (List._∷_ (18, row·12) (List._∷_ (19, row·32) (List._∷_ (20, row·12) (List._∷_ (21, row·35) (List._∷_ (22, row·24) (List._∷_ (23, row·38) (List._∷_ (24, row·40) (List._∷_ (25, row·13) (List._∷_ (26, row·26) (List._∷_ (27, row·23) (List._∷_ (28, row·27) (List._∷_ (29, row·28) List.[])))))))))))))
+t20 = List._∷_ (16, row·14) (List._∷_ (17, row·29) (List._∷_ (18, row·12) (List._∷_ (19, row·32) (List._∷_ (20, row·12) (List._∷_ (21, row·35) (List._∷_ (22, row·16) (List._∷_ (23, row·38) (List._∷_ (24, row·40) (List._∷_ (25, row·13) (List._∷_ (26, row·14) (List._∷_ (27, row·15) (List._∷_ (28, row·18) (List._∷_ (29, row·19) List.[])))))))))))))
 
 abbrev pub t21 : List.List Row.Entry
-t21 = List._∷_ (16, row·26) (List._∷_ (17, row·30) (List._∷_ (18, row·12) (List._∷_ (19, row·32) (List._∷_ (20, row·12) (List._∷_ (21, row·35) (List._∷_ (22, row·24) (List._∷_ (23, row·38) (List._∷_ (24, row·12) (List._∷_ (25, row·41) (List._∷_ (26, row·26) (List._∷_ (27, row·23) (List._∷_ (28, row·27) (List._∷_ (29, row·28) List.[])))))))))))))
+t21 = List._∷_ (16, row·14) (List._∷_ (17, row·29) (List._∷_ (18, row·12) (List._∷_ (19, row·32) (List._∷_ (20, row·12) (List._∷_ (21, row·35) (List._∷_ (22, row·16) (List._∷_ (23, row·38) (List._∷_ (24, row·12) (List._∷_ (25, row·41) (List._∷_ (26, row·14) (List._∷_ (27, row·15) (List._∷_ (28, row·18) (List._∷_ (29, row·19) List.[])))))))))))))
 
 abbrev pub t22 : List.List Row.Entry
-t22 = List._∷_ (0, row·0) (List._∷_ (1, row·1) (List._∷_ (2, row·15) (List._∷_ (3, row·18) (List._∷_ (4, row·21) (List._∷_ (5, row·29) (List._∷_ (6, row·33) (List._∷_ (7, row·36) (List._∷_ (8, row·39) (List._∷_ (9, row·42) (List._∷_ (10, row·10) (List._∷_ (11, row·11) (List._∷_ (12, row·12) (List._∷_ (13, row·17) (List._∷_ (14, row·12) (List._∷_ (15, row·20) List.[])))))))))))))))
+t22 = List._∷_ (0, row·0) (List._∷_ (1, row·1) (List._∷_ (2, row·21) (List._∷_ (3, row·24) (List._∷_ (4, row·27) (List._∷_ (5, row·30) (List._∷_ (6, row·33) (List._∷_ (7, row·36) (List._∷_ (8, row·39) (List._∷_ (9, row·42) (List._∷_ (10, row·10) (List._∷_ (11, row·11) (List._∷_ (12, row·12) (List._∷_ (13, row·23) (List._∷_ (14, row·12) (List._∷_ (15, row·26)
+    List.[])))))))))))))))
 
 abbrev pub t23 : List.List Row.Entry
-t23 = List._∷_ (16, row·26) (List._∷_ (17, row·30) (List._∷_ (18, row·12) (List._∷_ (19, row·32) (List._∷_ (20, row·12) (List._∷_ (21, row·35) (List._∷_ (22, row·24) (List._∷_ (23, row·38) (List._∷_ (24, row·12) (List._∷_ (25, row·41) (List._∷_ (26, row·43) (List._∷_ (27, row·23) (List._∷_ (28, row·27) (List._∷_ (29, row·28) List.[])))))))))))))
+t23 = List._∷_ (16, row·14) (List._∷_ (17, row·29) (List._∷_ (18, row·12) (List._∷_ (19, row·32) (List._∷_ (20, row·12) (List._∷_ (21, row·35) (List._∷_ (22, row·16) (List._∷_ (23, row·38) (List._∷_ (24, row·12) (List._∷_ (25, row·41) (List._∷_ (26, row·43) (List._∷_ (27, row·15) (List._∷_ (28, row·18) (List._∷_ (29, row·19) List.[])))))))))))))
 
 abbrev pub t24 : List.List Row.Entry
-t24 = List._∷_ (16, row·26) (List._∷_ (17, row·30) (List._∷_ (18, row·12) (List._∷_ (19, row·32) (List._∷_ (20, row·12) (List._∷_ (21, row·35) (List._∷_ (22, row·24) (List._∷_ (23, row·38) (List._∷_ (24, row·12) (List._∷_ (25, row·41) (List._∷_ (26, row·26) (List._∷_ (27, row·44) (List._∷_ (28, row·27) (List._∷_ (29, row·28) List.[])))))))))))))
+t24 = List._∷_ (16, row·14) (List._∷_ (17, row·29) (List._∷_ (18, row·12) (List._∷_ (19, row·32) (List._∷_ (20, row·12) (List._∷_ (21, row·35) (List._∷_ (22, row·16) (List._∷_ (23, row·38) (List._∷_ (24, row·12) (List._∷_ (25, row·41) (List._∷_ (26, row·14) (List._∷_ (27, row·44) (List._∷_ (28, row·18) (List._∷_ (29, row·19) List.[])))))))))))))
 
 abbrev pub t25 : List.List Row.Entry
-t25 = List._∷_ (0, row·0) (List._∷_ (1, row·1) (List._∷_ (2, row·15) (List._∷_ (3, row·18) (List._∷_ (4, row·21) (List._∷_ (5, row·29) (List._∷_ (6, row·33) (List._∷_ (7, row·36) (List._∷_ (8, row·39) (List._∷_ (9, row·42) (List._∷_ (10, row·45) (List._∷_ (11, row·11) (List._∷_ (12, row·12) (List._∷_ (13, row·17) (List._∷_ (14, row·12) (List._∷_ (15, row·20) List.[])))))))))))))))
+t25 = List._∷_ (0, row·0) (List._∷_ (1, row·1) (List._∷_ (2, row·21) (List._∷_ (3, row·24) (List._∷_ (4, row·27) (List._∷_ (5, row·30) (List._∷_ (6, row·33) (List._∷_ (7, row·36) (List._∷_ (8, row·39) (List._∷_ (9, row·42) (List._∷_ (10, row·45) (List._∷_ (11, row·11) (List._∷_ (12, row·12) (List._∷_ (13, row·23) (List._∷_ (14, row·12) (List._∷_ (15, row·26)
+    List.[])))))))))))))))
 
 abbrev pub t26 : List.List Row.Entry
-t26 = List._∷_ (16, row·26) (List._∷_ (17, row·30) (List._∷_ (18, row·12) (List._∷_ (19, row·32) (List._∷_ (20, row·12) (List._∷_ (21, row·35) (List._∷_ (22, row·24) (List._∷_ (23, row·38) (List._∷_ (24, row·12) (List._∷_ (25, row·41) (List._∷_ (26, row·26) (List._∷_ (27, row·44) (List._∷_ (28, row·46) (List._∷_ (29, row·28) List.[])))))))))))))
+t26 = List._∷_ (16, row·14) (List._∷_ (17, row·29) (List._∷_ (18, row·12) (List._∷_ (19, row·32) (List._∷_ (20, row·12) (List._∷_ (21, row·35) (List._∷_ (22, row·16) (List._∷_ (23, row·38) (List._∷_ (24, row·12) (List._∷_ (25, row·41) (List._∷_ (26, row·14) (List._∷_ (27, row·44) (List._∷_ (28, row·46) (List._∷_ (29, row·19) List.[])))))))))))))
 
 abbrev pub t27 : List.List Row.Entry
-t27 = List._∷_ (16, row·26) (List._∷_ (17, row·30) (List._∷_ (18, row·12) (List._∷_ (19, row·32) (List._∷_ (20, row·12) (List._∷_ (21, row·35) (List._∷_ (22, row·24) (List._∷_ (23, row·38) (List._∷_ (24, row·12) (List._∷_ (25, row·41) (List._∷_ (26, row·26) (List._∷_ (27, row·44) (List._∷_ (28, row·27) (List._∷_ (29, row·47) List.[])))))))))))))
-
-abbrev pub t28 : List.List Row.Entry
-t28 = List._∷_ (0, row·0) (List._∷_ (1, row·1) (List._∷_ (2, row·15) (List._∷_ (3, row·18) (List._∷_ (4, row·21) (List._∷_ (5, row·29) (List._∷_ (6, row·33) (List._∷_ (7, row·36) (List._∷_ (8, row·39) (List._∷_ (9, row·42) (List._∷_ (10, row·45) (List._∷_ (11, row·48) (List._∷_ (12, row·12) (List._∷_ (13, row·49) (List._∷_ (14, row·12) (List._∷_ (15, row·49) List.[])))))))))))))))
+t27 = List._∷_ (16, row·14) (List._∷_ (17, row·29) (List._∷_ (18, row·12) (List._∷_ (19, row·32) (List._∷_ (20, row·12) (List._∷_ (21, row·35) (List._∷_ (22, row·16) (List._∷_ (23, row·38) (List._∷_ (24, row·12) (List._∷_ (25, row·41) (List._∷_ (26, row·14) (List._∷_ (27, row·44) (List._∷_ (28, row·18) (List._∷_ (29, row·47) List.[])))))))))))))
 
 abbrev pub t29 : List.List Row.Entry
-t29 = List._∷_ (16, row·26) (List._∷_ (17, row·50) (List._∷_ (18, row·12) (List._∷_ (19, row·49) (List._∷_ (20, row·12) (List._∷_ (21, row·49) (List._∷_ (22, row·24) (List._∷_ (23, row·51) (List._∷_ (24, row·12) (List._∷_ (25, row·49) (List._∷_ (26, row·26) (List._∷_ (27, row·50) (List._∷_ (28, row·27) (List._∷_ (29, row·52) List.[])))))))))))))
-
-abbrev pub t30 : List.List Row.Entry
-t30 = List._∷_ (0, row·0) (List._∷_ (1, row·1) (List._∷_ (2, row·2) (List._∷_ (3, row·18) (List._∷_ (4, row·21) (List._∷_ (5, row·29) (List._∷_ (6, row·33) (List._∷_ (7, row·36) (List._∷_ (8, row·39) (List._∷_ (9, row·42) (List._∷_ (10, row·45) (List._∷_ (11, row·48) (List._∷_ (12, row·12) (List._∷_ (13, row·13) (List._∷_ (14, row·12) (List._∷_ (15, row·49) List.[])))))))))))))))
-
-abbrev pub t31 : List.List Row.Entry
-t31 = List._∷_ (0, row·0) (List._∷_ (1, row·1) (List._∷_ (2, row·2) (List._∷_ (3, row·3) (List._∷_ (4, row·21) (List._∷_ (5, row·29) (List._∷_ (6, row·33) (List._∷_ (7, row·36) (List._∷_ (8, row·39) (List._∷_ (9, row·42) (List._∷_ (10, row·45) (List._∷_ (11, row·48) (List._∷_ (12, row·12) (List._∷_ (13, row·13) (List._∷_ (14, row·12) (List._∷_ (15, row·13) List.[])))))))))))))))
-
-abbrev pub t32 : List.List Row.Entry
-t32 = List._∷_ (0, row·0) (List._∷_ (1, row·1) (List._∷_ (2, row·2) (List._∷_ (3, row·3) (List._∷_ (4, row·4) (List._∷_ (5, row·29) (List._∷_ (6, row·33) (List._∷_ (7, row·36) (List._∷_ (8, row·39) (List._∷_ (9, row·42) (List._∷_ (10, row·45) (List._∷_ (11, row·48) (List._∷_ (12, row·12) (List._∷_ (13, row·13) (List._∷_ (14, row·12) (List._∷_ (15, row·13) List.[])))))))))))))))
+t29 = List._∷_ (16, row·14) (List._∷_ (17, row·50) (List._∷_ (18, row·12) (List._∷_ (19, row·49) (List._∷_ (20, row·12) (List._∷_ (21, row·49) (List._∷_ (22, row·16) (List._∷_ (23, row·51) (List._∷_ (24, row·12) (List._∷_ (25, row·49) (List._∷_ (26, row·14) (List._∷_ (27, row·50) (List._∷_ (28, row·18) (List._∷_ (29, row·52) List.[])))))))))))))
 
 abbrev pub t33 : List.List Row.Entry
-t33 = List._∷_ (16, row·26) (List._∷_ (17, row·23) (List._∷_ (18, row·12) (List._∷_ (19, row·49) (List._∷_ (20, row·12) (List._∷_ (21, row·49) (List._∷_ (22, row·24) (List._∷_ (23, row·51) (List._∷_ (24, row·12) (List._∷_ (25, row·49) (List._∷_ (26, row·26) (List._∷_ (27, row·50) (List._∷_ (28, row·27) (List._∷_ (29, row·52) List.[])))))))))))))
-
-abbrev pub t34 : List.List Row.Entry
-t34 = List._∷_ (0, row·0) (List._∷_ (1, row·1) (List._∷_ (2, row·2) (List._∷_ (3, row·3) (List._∷_ (4, row·4) (List._∷_ (5, row·5) (List._∷_ (6, row·33) (List._∷_ (7, row·36) (List._∷_ (8, row·39) (List._∷_ (9, row·42) (List._∷_ (10, row·45) (List._∷_ (11, row·48) (List._∷_ (12, row·12) (List._∷_ (13, row·13) (List._∷_ (14, row·12) (List._∷_ (15, row·13) List.[])))))))))))))))
+t33 = List._∷_ (16, row·14) (List._∷_ (17, row·15) (List._∷_ (18, row·12) (List._∷_ (19, row·49) (List._∷_ (20, row·12) (List._∷_ (21, row·49) (List._∷_ (22, row·16) (List._∷_ (23, row·51) (List._∷_ (24, row·12) (List._∷_ (25, row·49) (List._∷_ (26, row·14) (List._∷_ (27, row·50) (List._∷_ (28, row·18) (List._∷_ (29, row·52) List.[])))))))))))))
 
 abbrev pub t35 : List.List Row.Entry
-t35 = List._∷_ (16, row·26) (List._∷_ (17, row·23) (List._∷_ (18, row·12) (List._∷_ (19, row·13) (List._∷_ (20, row·12) (List._∷_ (21, row·49) (List._∷_ (22, row·24) (List._∷_ (23, row·51) (List._∷_ (24, row·12) (List._∷_ (25, row·49) (List._∷_ (26, row·26) (List._∷_ (27, row·50) (List._∷_ (28, row·27) (List._∷_ (29, row·52) List.[])))))))))))))
-
-abbrev pub t36 : List.List Row.Entry
-t36 = List._∷_ (0, row·0) (List._∷_ (1, row·1) (List._∷_ (2, row·2) (List._∷_ (3, row·3) (List._∷_ (4, row·4) (List._∷_ (5, row·5) (List._∷_ (6, row·6) (List._∷_ (7, row·36) (List._∷_ (8, row·39) (List._∷_ (9, row·42) (List._∷_ (10, row·45) (List._∷_ (11, row·48) (List._∷_ (12, row·12) (List._∷_ (13, row·13) (List._∷_ (14, row·12) (List._∷_ (15, row·13) List.[])))))))))))))))
+t35 = List._∷_ (16, row·14) (List._∷_ (17, row·15) (List._∷_ (18, row·12) (List._∷_ (19, row·13) (List._∷_ (20, row·12) (List._∷_ (21, row·49) (List._∷_ (22, row·16) (List._∷_ (23, row·51) (List._∷_ (24, row·12) (List._∷_ (25, row·49) (List._∷_ (26, row·14) (List._∷_ (27, row·50) (List._∷_ (28, row·18) (List._∷_ (29, row·52) List.[])))))))))))))
 
 abbrev pub t37 : List.List Row.Entry
-t37 = List._∷_ (16, row·26) (List._∷_ (17, row·23) (List._∷_ (18, row·12) (List._∷_ (19, row·13) (List._∷_ (20, row·12) (List._∷_ (21, row·13) (List._∷_ (22, row·24) (List._∷_ (23, row·51) (List._∷_ (24, row·12) (List._∷_ (25, row·49) (List._∷_ (26, row·26) (List._∷_ (27, row·50) (List._∷_ (28, row·27) (List._∷_ (29, row·52) List.[])))))))))))))
-
-abbrev pub t38 : List.List Row.Entry
-t38 = List._∷_ (0, row·0) (List._∷_ (1, row·1) (List._∷_ (2, row·2) (List._∷_ (3, row·3) (List._∷_ (4, row·4) (List._∷_ (5, row·5) (List._∷_ (6, row·6) (List._∷_ (7, row·7) (List._∷_ (8, row·39) (List._∷_ (9, row·42) (List._∷_ (10, row·45) (List._∷_ (11, row·48) (List._∷_ (12, row·12) (List._∷_ (13, row·13) (List._∷_ (14, row·12) (List._∷_ (15, row·13) List.[])))))))))))))))
+t37 = List._∷_ (16, row·14) (List._∷_ (17, row·15) (List._∷_ (18, row·12) (List._∷_ (19, row·13) (List._∷_ (20, row·12) (List._∷_ (21, row·13) (List._∷_ (22, row·16) (List._∷_ (23, row·51) (List._∷_ (24, row·12) (List._∷_ (25, row·49) (List._∷_ (26, row·14) (List._∷_ (27, row·50) (List._∷_ (28, row·18) (List._∷_ (29, row·52) List.[])))))))))))))
 
 abbrev pub t39 : List.List Row.Entry
-t39 = List._∷_ (16, row·26) (List._∷_ (17, row·23) (List._∷_ (18, row·12) (List._∷_ (19, row·13) (List._∷_ (20, row·12) (List._∷_ (21, row·13) (List._∷_ (22, row·24) (List._∷_ (23, row·25) (List._∷_ (24, row·12) (List._∷_ (25, row·49) (List._∷_ (26, row·26) (List._∷_ (27, row·50) (List._∷_ (28, row·27) (List._∷_ (29, row·52) List.[])))))))))))))
-
-abbrev pub t40 : List.List Row.Entry
-t40 = List._∷_ (0, row·0) (List._∷_ (1, row·1) (List._∷_ (2, row·2) (List._∷_ (3, row·3) (List._∷_ (4, row·4) (List._∷_ (5, row·5) (List._∷_ (6, row·6) (List._∷_ (7, row·7) (List._∷_ (8, row·8) (List._∷_ (9, row·42) (List._∷_ (10, row·45) (List._∷_ (11, row·48) (List._∷_ (12, row·12) (List._∷_ (13, row·13) (List._∷_ (14, row·12) (List._∷_ (15, row·13) List.[])))))))))))))))
+t39 = List._∷_ (16, row·14) (List._∷_ (17, row·15) (List._∷_ (18, row·12) (List._∷_ (19, row·13) (List._∷_ (20, row·12) (List._∷_ (21, row·13) (List._∷_ (22, row·16) (List._∷_ (23, row·17) (List._∷_ (24, row·12) (List._∷_ (25, row·49) (List._∷_ (26, row·14) (List._∷_ (27, row·50) (List._∷_ (28, row·18) (List._∷_ (29, row·52) List.[])))))))))))))
 
 abbrev pub t41 : List.List Row.Entry
-t41 = List._∷_ (16, row·26) (List._∷_ (17, row·23) (List._∷_ (18, row·12) (List._∷_ (19, row·13) (List._∷_ (20, row·12) (List._∷_ (21, row·13) (List._∷_ (22, row·24) (List._∷_ (23, row·25) (List._∷_ (24, row·12) (List._∷_ (25, row·13) (List._∷_ (26, row·26) (List._∷_ (27, row·50) (List._∷_ (28, row·27) (List._∷_ (29, row·52) List.[])))))))))))))
-
-abbrev pub t42 : List.List Row.Entry
-t42 = List._∷_ (0, row·0) (List._∷_ (1, row·1) (List._∷_ (2, row·2) (List._∷_ (3, row·3) (List._∷_ (4, row·4) (List._∷_ (5, row·5) (List._∷_ (6, row·6) (List._∷_ (7, row·7) (List._∷_ (8, row·8) (List._∷_ (9, row·9) (List._∷_ (10, row·45) (List._∷_ (11, row·48) (List._∷_ (12, row·12) (List._∷_ (13, row·13) (List._∷_ (14, row·12) (List._∷_ (15, row·13) List.[])))))))))))))))
+t41 = List._∷_ (16, row·14) (List._∷_ (17, row·15) (List._∷_ (18, row·12) (List._∷_ (19, row·13) (List._∷_ (20, row·12) (List._∷_ (21, row·13) (List._∷_ (22, row·16) (List._∷_ (23, row·17) (List._∷_ (24, row·12) (List._∷_ (25, row·13) (List._∷_ (26, row·14) (List._∷_ (27, row·50) (List._∷_ (28, row·18) (List._∷_ (29, row·52) List.[])))))))))))))
 
 abbrev pub t43 : List.List Row.Entry
-t43 = List._∷_ (16, row·26) (List._∷_ (17, row·23) (List._∷_ (18, row·12) (List._∷_ (19, row·13) (List._∷_ (20, row·12) (List._∷_ (21, row·13) (List._∷_ (22, row·24) (List._∷_ (23, row·25) (List._∷_ (24, row·12) (List._∷_ (25, row·13) (List._∷_ (26, row·26) (List._∷_ (27, row·23) (List._∷_ (28, row·27) (List._∷_ (29, row·52) List.[])))))))))))))
-
-abbrev pub t44 : List.List Row.Entry
-t44 = List._∷_ (0, row·0) (List._∷_ (1, row·1) (List._∷_ (2, row·2) (List._∷_ (3, row·3) (List._∷_ (4, row·4) (List._∷_ (5, row·5) (List._∷_ (6, row·6) (List._∷_ (7, row·7) (List._∷_ (8, row·8) (List._∷_ (9, row·9) (List._∷_ (10, row·10) (List._∷_ (11, row·48) (List._∷_ (12, row·12) (List._∷_ (13, row·13) (List._∷_ (14, row·12) (List._∷_ (15, row·13) List.[])))))))))))))))
-
-abbrev pub t45 : List.List Row.Entry
-t45 = List._∷_ (0, row·14) (List._∷_ (1, row·1) (List._∷_ (2, row·2) (List._∷_ (3, row·3) (List._∷_ (4, row·4) (List._∷_ (5, row·5) (List._∷_ (6, row·6) (List._∷_ (7, row·7) (List._∷_ (8, row·8) (List._∷_ (9, row·9) (List._∷_ (10, row·10) (List._∷_ (11, row·48) (List._∷_ (12, row·12) (List._∷_ (13, row·13) (List._∷_ (14, row·12) (List._∷_ (15, row·13) List.[])))))))))))))))
+t43 = List._∷_ (16, row·14) (List._∷_ (17, row·15) (List._∷_ (18, row·12) (List._∷_ (19, row·13) (List._∷_ (20, row·12) (List._∷_ (21, row·13) (List._∷_ (22, row·16) (List._∷_ (23, row·17) (List._∷_ (24, row·12) (List._∷_ (25, row·13) (List._∷_ (26, row·14) (List._∷_ (27, row·15) (List._∷_ (28, row·18) (List._∷_ (29, row·52) List.[])))))))))))))
 
 abbrev pub T0 : Row.Cx
-T0 = record { locals = List._++_ t0 t1; slots = List.[] }
+T0 = record
+    { locals = List._++_ (List._∷_ (0, row·0) (List._∷_ (1, row·1) (List._∷_ (2, row·2) (List._∷_ (3, row·3) (List._∷_ (4, row·4) (List._∷_ (5, row·5) (List._∷_ (6, row·6) (List._∷_ (7, row·7) (List._∷_ (8, row·8) (List._∷_ (9, row·9) (List._∷_ (10, row·10) (List._∷_ (11, row·11) (List._∷_ (12, row·12) (List._∷_ (13, row·13) (List._∷_ (14, row·12) (List._∷_ (15, row·13) List.[])))))))))))))))) t1; slots = List.[] }
 
 abbrev pub T1 : Row.Cx
-T1 = record { locals = List._++_ t2 t1; slots = List.[] }
-
-abbrev pub T2 : Row.Cx
-T2 = record { locals = List._++_ t0 t1; slots = List.[] }
-
-abbrev pub T3 : Row.Cx
-T3 = record { locals = List._++_ t0 t1; slots = List.[] }
-
-abbrev pub T4 : Row.Cx
-T4 = record { locals = List._++_ t0 t1; slots = List.[] }
-
-abbrev pub T5 : Row.Cx
-T5 = record { locals = List._++_ t0 t1; slots = List.[] }
-
-abbrev pub T6 : Row.Cx
-T6 = record { locals = List._++_ t0 t1; slots = List.[] }
-
-abbrev pub T7 : Row.Cx
-T7 = record { locals = List._++_ t0 t1; slots = List.[] }
-
-abbrev pub T8 : Row.Cx
-T8 = record { locals = List._++_ t0 t1; slots = List.[] }
-
-abbrev pub T9 : Row.Cx
-T9 = record { locals = List._++_ t0 t1; slots = List.[] }
-
-abbrev pub T10 : Row.Cx
-T10 = record { locals = List._++_ t0 t1; slots = List.[] }
+T1 = record
+    { locals = List._++_ (List._∷_ (0, row·20) (List._∷_ (1, row·1) (List._∷_ (2, row·2) (List._∷_ (3, row·3) (List._∷_ (4, row·4) (List._∷_ (5, row·5) (List._∷_ (6, row·6) (List._∷_ (7, row·7) (List._∷_ (8, row·8) (List._∷_ (9, row·9) (List._∷_ (10, row·10) (List._∷_ (11, row·11) (List._∷_ (12, row·12) (List._∷_ (13, row·13) (List._∷_ (14, row·12) (List._∷_ (15, row·13) List.[])))))))))))))))) t1; slots = List.[] }
 
 abbrev pub T12 : Row.Cx
-T12 = record { locals = List._++_ t3 t1; slots = List.[] }
+T12 = record
+    { locals = List._++_ (List._∷_ (0, row·0) (List._∷_ (1, row·1) (List._∷_ (2, row·21) (List._∷_ (3, row·3) (List._∷_ (4, row·4) (List._∷_ (5, row·5) (List._∷_ (6, row·6) (List._∷_ (7, row·7) (List._∷_ (8, row·8) (List._∷_ (9, row·9) (List._∷_ (10, row·10) (List._∷_ (11, row·11) (List._∷_ (12, row·22) (List._∷_ (13, row·13) (List._∷_ (14, row·12) (List._∷_ (15, row·13) List.[])))))))))))))))) t1; slots = List.[] }
 
 abbrev pub T13 : Row.Cx
-T13 = record { locals = List._++_ t4 t1; slots = List.[] }
+T13 = record
+    { locals = List._++_ (List._∷_ (0, row·0) (List._∷_ (1, row·1) (List._∷_ (2, row·21) (List._∷_ (3, row·3) (List._∷_ (4, row·4) (List._∷_ (5, row·5) (List._∷_ (6, row·6) (List._∷_ (7, row·7) (List._∷_ (8, row·8) (List._∷_ (9, row·9) (List._∷_ (10, row·10) (List._∷_ (11, row·11) (List._∷_ (12, row·12) (List._∷_ (13, row·23) (List._∷_ (14, row·12) (List._∷_ (15, row·13) List.[])))))))))))))))) t1; slots = List.[] }
 
 abbrev pub T15 : Row.Cx
-T15 = record { locals = List._++_ t5 t1; slots = List.[] }
+T15 = record
+    { locals = List._++_ (List._∷_ (0, row·0) (List._∷_ (1, row·1) (List._∷_ (2, row·21) (List._∷_ (3, row·24) (List._∷_ (4, row·4) (List._∷_ (5, row·5) (List._∷_ (6, row·6) (List._∷_ (7, row·7) (List._∷_ (8, row·8) (List._∷_ (9, row·9) (List._∷_ (10, row·10) (List._∷_ (11, row·11) (List._∷_ (12, row·12) (List._∷_ (13, row·23) (List._∷_ (14, row·25) (List._∷_ (15, row·13) List.[])))))))))))))))) t1; slots = List.[] }
 
 abbrev pub T16 : Row.Cx
-T16 = record { locals = List._++_ t6 t1; slots = List.[] }
+T16 = record
+    { locals = List._++_ (List._∷_ (0, row·0) (List._∷_ (1, row·1) (List._∷_ (2, row·21) (List._∷_ (3, row·24) (List._∷_ (4, row·4) (List._∷_ (5, row·5) (List._∷_ (6, row·6) (List._∷_ (7, row·7) (List._∷_ (8, row·8) (List._∷_ (9, row·9) (List._∷_ (10, row·10) (List._∷_ (11, row·11) (List._∷_ (12, row·12) (List._∷_ (13, row·23) (List._∷_ (14, row·12) (List._∷_ (15, row·26) List.[])))))))))))))))) t1; slots = List.[] }
 
 abbrev pub T18 : Row.Cx
 T18 = record { locals = List._++_ t7 t8; slots = List.[] }
@@ -743,98 +599,82 @@ abbrev pub T37 : Row.Cx
 T37 = record { locals = List._++_ t25 t27; slots = List.[] }
 
 abbrev pub T38 : Row.Cx
-T38 = record { locals = List._++_ t28 t29; slots = List.[] }
+T38 = record
+    { locals = List._++_ (List._∷_ (0, row·0) (List._∷_ (1, row·1) (List._∷_ (2, row·21) (List._∷_ (3, row·24) (List._∷_ (4, row·27) (List._∷_ (5, row·30) (List._∷_ (6, row·33) (List._∷_ (7, row·36) (List._∷_ (8, row·39) (List._∷_ (9, row·42) (List._∷_ (10, row·45) (List._∷_ (11, row·48) (List._∷_ (12, row·12) (List._∷_ (13, row·49) (List._∷_ (14, row·12) (List._∷_ (15, row·49) List.[])))))))))))))))) t29; slots = List.[] }
 
 abbrev pub T40 : Row.Cx
-T40 = record { locals = List._++_ t30 t29; slots = List.[] }
-
-abbrev pub T41 : Row.Cx
-T41 = record { locals = List._++_ t30 t29; slots = List.[] }
+T40 = record
+    { locals = List._++_ (List._∷_ (0, row·0) (List._∷_ (1, row·1) (List._∷_ (2, row·2) (List._∷_ (3, row·24) (List._∷_ (4, row·27) (List._∷_ (5, row·30) (List._∷_ (6, row·33) (List._∷_ (7, row·36) (List._∷_ (8, row·39) (List._∷_ (9, row·42) (List._∷_ (10, row·45) (List._∷_ (11, row·48) (List._∷_ (12, row·12) (List._∷_ (13, row·13) (List._∷_ (14, row·12) (List._∷_ (15, row·49) List.[])))))))))))))))) t29; slots = List.[] }
 
 abbrev pub T44 : Row.Cx
-T44 = record { locals = List._++_ t31 t29; slots = List.[] }
-
-abbrev pub T45 : Row.Cx
-T45 = record { locals = List._++_ t31 t29; slots = List.[] }
+T44 = record
+    { locals = List._++_ (List._∷_ (0, row·0) (List._∷_ (1, row·1) (List._∷_ (2, row·2) (List._∷_ (3, row·3) (List._∷_ (4, row·27) (List._∷_ (5, row·30) (List._∷_ (6, row·33) (List._∷_ (7, row·36) (List._∷_ (8, row·39) (List._∷_ (9, row·42) (List._∷_ (10, row·45) (List._∷_ (11, row·48) (List._∷_ (12, row·12) (List._∷_ (13, row·13) (List._∷_ (14, row·12) (List._∷_ (15, row·13) List.[])))))))))))))))) t29; slots = List.[] }
 
 abbrev pub T48 : Row.Cx
-T48 = record { locals = List._++_ t32 t33; slots = List.[] }
-
-abbrev pub T49 : Row.Cx
-T49 = record { locals = List._++_ t32 t33; slots = List.[] }
+T48 = record
+    { locals = List._++_ (List._∷_ (0, row·0) (List._∷_ (1, row·1) (List._∷_ (2, row·2) (List._∷_ (3, row·3) (List._∷_ (4, row·4) (List._∷_ (5, row·30) (List._∷_ (6, row·33) (List._∷_ (7, row·36) (List._∷_ (8, row·39) (List._∷_ (9, row·42) (List._∷_ (10, row·45) (List._∷_ (11, row·48) (List._∷_ (12, row·12) (List._∷_ (13, row·13) (List._∷_ (14, row·12) (List._∷_ (15, row·13) List.[])))))))))))))))) t33; slots = List.[] }
 
 abbrev pub T52 : Row.Cx
-T52 = record { locals = List._++_ t34 t35; slots = List.[] }
-
-abbrev pub T53 : Row.Cx
-T53 = record { locals = List._++_ t34 t35; slots = List.[] }
+T52 = record
+    { locals = List._++_ (List._∷_ (0, row·0) (List._∷_ (1, row·1) (List._∷_ (2, row·2) (List._∷_ (3, row·3) (List._∷_ (4, row·4) (List._∷_ (5, row·5) (List._∷_ (6, row·33) (List._∷_ (7, row·36) (List._∷_ (8, row·39) (List._∷_ (9, row·42) (List._∷_ (10, row·45) (List._∷_ (11, row·48) (List._∷_ (12, row·12) (List._∷_ (13, row·13) (List._∷_ (14, row·12) (List._∷_ (15, row·13) List.[])))))))))))))))) t35; slots = List.[] }
 
 abbrev pub T56 : Row.Cx
-T56 = record { locals = List._++_ t36 t37; slots = List.[] }
-
-abbrev pub T57 : Row.Cx
-T57 = record { locals = List._++_ t36 t37; slots = List.[] }
+T56 = record
+    { locals = List._++_ (List._∷_ (0, row·0) (List._∷_ (1, row·1) (List._∷_ (2, row·2) (List._∷_ (3, row·3) (List._∷_ (4, row·4) (List._∷_ (5, row·5) (List._∷_ (6, row·6) (List._∷_ (7, row·36) (List._∷_ (8, row·39) (List._∷_ (9, row·42) (List._∷_ (10, row·45) (List._∷_ (11, row·48) (List._∷_ (12, row·12) (List._∷_ (13, row·13) (List._∷_ (14, row·12) (List._∷_ (15, row·13) List.[])))))))))))))))) t37; slots = List.[] }
 
 abbrev pub T60 : Row.Cx
-T60 = record { locals = List._++_ t38 t39; slots = List.[] }
-
-abbrev pub T61 : Row.Cx
-T61 = record { locals = List._++_ t38 t39; slots = List.[] }
+T60 = record
+    { locals = List._++_ (List._∷_ (0, row·0) (List._∷_ (1, row·1) (List._∷_ (2, row·2) (List._∷_ (3, row·3) (List._∷_ (4, row·4) (List._∷_ (5, row·5) (List._∷_ (6, row·6) (List._∷_ (7, row·7) (List._∷_ (8, row·39) (List._∷_ (9, row·42) (List._∷_ (10, row·45) (List._∷_ (11, row·48) (List._∷_ (12, row·12) (List._∷_ (13, row·13) (List._∷_ (14, row·12) (List._∷_ (15, row·13) List.[])))))))))))))))) t39; slots = List.[] }
 
 abbrev pub T64 : Row.Cx
-T64 = record { locals = List._++_ t40 t41; slots = List.[] }
-
-abbrev pub T65 : Row.Cx
-T65 = record { locals = List._++_ t40 t41; slots = List.[] }
+T64 = record
+    { locals = List._++_ (List._∷_ (0, row·0) (List._∷_ (1, row·1) (List._∷_ (2, row·2) (List._∷_ (3, row·3) (List._∷_ (4, row·4) (List._∷_ (5, row·5) (List._∷_ (6, row·6) (List._∷_ (7, row·7) (List._∷_ (8, row·8) (List._∷_ (9, row·42) (List._∷_ (10, row·45) (List._∷_ (11, row·48) (List._∷_ (12, row·12) (List._∷_ (13, row·13) (List._∷_ (14, row·12) (List._∷_ (15, row·13) List.[])))))))))))))))) t41; slots = List.[] }
 
 abbrev pub T68 : Row.Cx
-T68 = record { locals = List._++_ t42 t43; slots = List.[] }
-
-abbrev pub T69 : Row.Cx
-T69 = record { locals = List._++_ t42 t43; slots = List.[] }
+T68 = record
+    { locals = List._++_ (List._∷_ (0, row·0) (List._∷_ (1, row·1) (List._∷_ (2, row·2) (List._∷_ (3, row·3) (List._∷_ (4, row·4) (List._∷_ (5, row·5) (List._∷_ (6, row·6) (List._∷_ (7, row·7) (List._∷_ (8, row·8) (List._∷_ (9, row·9) (List._∷_ (10, row·45) (List._∷_ (11, row·48) (List._∷_ (12, row·12) (List._∷_ (13, row·13) (List._∷_ (14, row·12) (List._∷_ (15, row·13) List.[])))))))))))))))) t43; slots = List.[] }
 
 abbrev pub T72 : Row.Cx
-T72 = record { locals = List._++_ t44 t1; slots = List.[] }
+T72 = record
+    { locals = List._++_ (List._∷_ (0, row·0) (List._∷_ (1, row·1) (List._∷_ (2, row·2) (List._∷_ (3, row·3) (List._∷_ (4, row·4) (List._∷_ (5, row·5) (List._∷_ (6, row·6) (List._∷_ (7, row·7) (List._∷_ (8, row·8) (List._∷_ (9, row·9) (List._∷_ (10, row·10) (List._∷_ (11, row·48) (List._∷_ (12, row·12) (List._∷_ (13, row·13) (List._∷_ (14, row·12) (List._∷_ (15, row·13) List.[])))))))))))))))) t1; slots = List.[] }
 
 abbrev pub T74 : Row.Cx
-T74 = record { locals = List._++_ t45 t1; slots = List.[] }
+T74 = record
+    { locals = List._++_ (List._∷_ (0, row·20) (List._∷_ (1, row·1) (List._∷_ (2, row·2) (List._∷_ (3, row·3) (List._∷_ (4, row·4) (List._∷_ (5, row·5) (List._∷_ (6, row·6) (List._∷_ (7, row·7) (List._∷_ (8, row·8) (List._∷_ (9, row·9) (List._∷_ (10, row·10) (List._∷_ (11, row·48) (List._∷_ (12, row·12) (List._∷_ (13, row·13) (List._∷_ (14, row·12) (List._∷_ (15, row·13) List.[])))))))))))))))) t1; slots = List.[] }
 
-abbrev pub T75 : Row.Cx
-T75 = record { locals = List._++_ t2 t1; slots = List.[] }
+abbrev args·0 : ArgsT ps·0 (T37 .locals)
+args·0 = (record { pos = 1; ty = ty·5; ref = λ x. x }, (record { pos = 13; ty = ty·3; ref = λ x. x }, (record { pos = 15; ty = ty·3; ref = λ x. x }, (record { pos = 17; ty = ty·2; ref = λ x. x }, (record { pos = 19; ty = ty·3; ref = λ x. x }, (record { pos = 21; ty = ty·3; ref = λ x. x }, (record { pos = 23; ty = ty·4; ref = λ x. x }, (record { pos = 25; ty = ty·3; ref = λ x. x }, (record { pos = 27; ty = ty·2; ref = λ x. x }, (record { pos = 29; ty = ty·0; ref = λ x. x }, tt))))))))))
 
 abbrev pub O0 : Typed.Outs
 O0 = record { next = Option.none; exits = List.[]; returns = Option.some T1 }
 
 module _ (claims· : Claims) where
-  abbrev s0 : Typed.Gives T0 T2
-  s0 = Know.k-shs-known (Referent.fInt Syntax.w8) T0 1 0 ty·5 Row.off 0 λ x. x
+  abbrev s1 : Typed.Gives T0 T0
+  s1 = Know.k-sl-known (Referent.fInt Syntax.w16) T0 2 1 ty·8 Row.off 0 λ x. x
 
-  abbrev s1 : Typed.Gives T2 T3
-  s1 = Know.k-sl-known (Referent.fInt Syntax.w16) T2 2 1 ty·8 Row.off 0 λ x. x
+  abbrev s2 : Typed.Gives T0 T0
+  s2 = Know.k-sl-known (Referent.fInt Syntax.w16) T0 3 2 ty·9 Row.off 0 λ x. x
 
-  abbrev s2 : Typed.Gives T3 T4
-  s2 = Know.k-sl-known (Referent.fInt Syntax.w16) T3 3 2 ty·9 Row.off 0 λ x. x
+  abbrev s3 : Typed.Gives T0 T0
+  s3 = Know.k-sl-known (Referent.fInt Syntax.w8) T0 4 3 ty·6 Row.off 0 λ x. x
 
-  abbrev s3 : Typed.Gives T4 T5
-  s3 = Know.k-sl-known (Referent.fInt Syntax.w8) T4 4 3 ty·6 Row.off 0 λ x. x
+  abbrev s4 : Typed.Gives T0 T0
+  s4 = Know.k-sl-known (Referent.fInt Syntax.w16) T0 5 4 ty·10 Row.off 0 λ x. x
 
-  abbrev s4 : Typed.Gives T5 T6
-  s4 = Know.k-sl-known (Referent.fInt Syntax.w16) T5 5 4 ty·10 Row.off 0 λ x. x
+  abbrev s5 : Typed.Gives T0 T0
+  s5 = Know.k-sl-known (Referent.fInt Syntax.w16) T0 6 5 ty·11 Row.off 0 λ x. x
 
-  abbrev s5 : Typed.Gives T6 T7
-  s5 = Know.k-sl-known (Referent.fInt Syntax.w16) T6 6 5 ty·11 Row.off 0 λ x. x
+  abbrev s6 : Typed.Gives T0 T0
+  s6 = Know.k-sl-known (Referent.fInt Syntax.w32) T0 7 6 ty·12 Row.off 0 λ x. x
 
-  abbrev s6 : Typed.Gives T7 T8
-  s6 = Know.k-sl-known (Referent.fInt Syntax.w32) T7 7 6 ty·12 Row.off 0 λ x. x
+  abbrev s7 : Typed.Gives T0 T0
+  s7 = Know.k-sl-known (Referent.fInt Syntax.w16) T0 8 7 ty·13 Row.off 0 λ x. x
 
-  abbrev s7 : Typed.Gives T8 T9
-  s7 = Know.k-sl-known (Referent.fInt Syntax.w16) T8 8 7 ty·13 Row.off 0 λ x. x
+  abbrev s8 : Typed.Gives T0 T0
+  s8 = Know.k-sl-known (Referent.fInt Syntax.w8) T0 9 8 ty·7 Row.off 0 λ x. x
 
-  abbrev s8 : Typed.Gives T9 T10
-  s8 = Know.k-sl-known (Referent.fInt Syntax.w8) T9 9 8 ty·7 Row.off 0 λ x. x
-
-  abbrev s10 : Typed.Gives T10 T12
-  s10 = Relend.k-sl-relend (Referent.rtF (Referent.fInt Syntax.w16)) T10 2 12 1 10 ty·8 ty·3 Row.off λ x. x
+  abbrev s10 : Typed.Gives T0 T12
+  s10 = Relend.k-sl-relend (Referent.rtF (Referent.fInt Syntax.w16)) T0 2 12 1 10 ty·8 ty·3 Row.off λ x. x
 
   abbrev s11 : Typed.Asks T12 T13
   s11 = Relend.k-sl-aggregate (Referent.rtF (Referent.fInt Syntax.w16)) (Relend.asMut (Referent.rtF (Referent.fInt Syntax.w16))) T12 12 13 10 ty·3 ty·3 (λ x. x) (Scalar.oFld 2 (List._∷_ (Syntax.field 1) List.[]) (Syntax.tyInt Syntax.w64) 8 λ v. Shared.lenV (v .0))
@@ -888,238 +728,143 @@ module _ (claims· : Claims) where
   s35 = Relend.k-sl-aggregate Rec.rt (Relend.asMut Rec.rt) T36 28 29 18 ty·0 ty·0 (λ x. x) (Scalar.oFld 10 (List._∷_ (Syntax.field 1) List.[]) (Syntax.tyInt Syntax.w64) 8 λ v. Shared.lenV (v .0))
 
   abbrev s36 : Typed.Both T37 T38
-  s36 = Call.callB ps·0 r·0 (claims· .0) (claims· .1) T37 (
-    record { pos = 1; ty = Syntax.tyRef (Syntax.named 0) Syntax.imm (Syntax.tyInt Syntax.w8); ref = λ x. x },
-    (
-      record { pos = 13; ty = Syntax.tyRef Syntax.erased Syntax.mut (Syntax.tyInt Syntax.w16); ref = λ x. x },
-      (
-        record {
-          pos = 15;
-          ty = Syntax.tyRef Syntax.erased Syntax.mut (Syntax.tyInt Syntax.w16);
-          ref = λ x. x;
-        },
-        (
-          record { pos = 17; ty = Syntax.tyRef Syntax.erased Syntax.mut (Syntax.tyInt Syntax.w8); ref = λ x. x },
-          (
-            record { pos = 19; ty = Syntax.tyRef Syntax.erased Syntax.mut (Syntax.tyInt Syntax.w16); ref = λ x. x },
-            (
-              record {
-                pos = 21;
-                ty = Syntax.tyRef Syntax.erased Syntax.mut (Syntax.tyInt Syntax.w16);
-                ref = λ x. x;
-              },
-              (
-                record { pos = 23; ty = Syntax.tyRef Syntax.erased Syntax.mut (Syntax.tyInt Syntax.w32); ref = λ x. x },
-                (
-                  record { pos = 25; ty = Syntax.tyRef Syntax.erased Syntax.mut (Syntax.tyInt Syntax.w16); ref = λ x. x },
-                  (
-                    record {
-                      pos = 27;
-                      ty = Syntax.tyRef Syntax.erased Syntax.mut (Syntax.tyInt Syntax.w8);
-                      ref = λ x. x;
-                    },
-                    (record { pos = 29; ty = Syntax.tyRef Syntax.erased Syntax.mut Rec.behind; ref = λ x. x }, tt),
-                  ),
-                ),
-              ),
-            ),
-          ),
-        ),
-      ),
-    ),
-  ) 11 (List._∷_ 0 (List._∷_ 10 (List._∷_ 11 (List._∷_ 12 (List._∷_ 13 (List._∷_ 14 (List._∷_ 15 (List._∷_ 16 (List._∷_ 17 (List._∷_ 18 List.[])))))))))) (Syntax.tyEnum (List._∷_ 114 (List._∷_ 101 (List._∷_ 97 (List._∷_ 100 (List._∷_ 105 (List._∷_ 110 (List._∷_ 103 (List._∷_ 58 (List._∷_ 58 (List._∷_ 114 (List._∷_ 101 (List._∷_ 112 (List._∷_ 108 (List._∷_
-      105 (List._∷_ 101 (List._∷_ 115 (List._∷_ 58 (List._∷_ 58 (List._∷_ 82 (List._∷_ 101 (List._∷_ 97 (List._∷_ 100 (List._∷_ 105 (List._∷_ 110 (List._∷_ 103 List.[]))))))))))))))))))))))))) (Syntax.ttcons Syntax.tnil (Syntax.ttcons (Syntax.tcons (Syntax.tyEnum (List._∷_ 114 (List._∷_ 101 (List._∷_ 97 (List._∷_ 100 (List._∷_ 105 (List._∷_ 110 (List._∷_ 103
-      (List._∷_ 58 (List._∷_ 58 (List._∷_ 114 (List._∷_ 101 (List._∷_ 112 (List._∷_ 108 (List._∷_ 105 (List._∷_ 101 (List._∷_ 115 (List._∷_ 58 (List._∷_ 58 (List._∷_ 82 (List._∷_ 101 (List._∷_ 102 (List._∷_ 117 (List._∷_ 115 (List._∷_ 97 (List._∷_ 108 List.[]))))))))))))))))))))))))) (Syntax.ttcons Syntax.tnil (Syntax.ttcons
-      (Syntax.tcons (Syntax.tyInt Syntax.w64) Syntax.tnil) (Syntax.ttcons (Syntax.tcons (Syntax.tyInt Syntax.w64) Syntax.tnil) (Syntax.ttcons (Syntax.tcons (Syntax.tyInt Syntax.w64) Syntax.tnil) (Syntax.ttcons (Syntax.tcons (Syntax.tyInt Syntax.w64) Syntax.tnil) (Syntax.ttcons (Syntax.tcons (Syntax.tyInt Syntax.w64) Syntax.tnil) (Syntax.ttcons
-      (Syntax.tcons (Syntax.tyInt Syntax.w64) Syntax.tnil) (Syntax.ttcons (Syntax.tcons ty·14 Syntax.tnil) (Syntax.ttcons (Syntax.tcons ty·14 Syntax.tnil) (Syntax.ttcons (Syntax.tcons ty·14 Syntax.tnil) (Syntax.ttcons (Syntax.tcons ty·14 (Syntax.tcons ty·14 Syntax.tnil)) (Syntax.ttcons Syntax.tnil Syntax.ttnil))))))))))))) Syntax.tnil) Syntax.ttnil)))
+  s36 = Call.callB ps·0 r·0 (claims· .0) (claims· .1) T37 args·0 11 (List._∷_ 0 (List._∷_ 10 (List._∷_ 11 (List._∷_ 12 (List._∷_ 13 (List._∷_ 14 (List._∷_ 15 (List._∷_ 16 (List._∷_ 17 (List._∷_ 18 List.[])))))))))) (Syntax.tyEnum (List._∷_ 114 (List._∷_ 101 (List._∷_ 97 (List._∷_ 100 (List._∷_ 105 (List._∷_ 110 (List._∷_ 103 (List._∷_ 58 (List._∷_ 58
+      (List._∷_ 114 (List._∷_ 101 (List._∷_ 112 (List._∷_ 108 (List._∷_ 105 (List._∷_ 101 (List._∷_ 115 (List._∷_ 58 (List._∷_ 58 (List._∷_ 82 (List._∷_ 101 (List._∷_ 97 (List._∷_ 100 (List._∷_ 105 (List._∷_ 110 (List._∷_ 103 List.[]))))))))))))))))))))))))) (Syntax.ttcons Syntax.tnil (Syntax.ttcons (Syntax.tcons (Syntax.tyEnum (List._∷_ 114 (List._∷_ 101
+      (List._∷_ 97 (List._∷_ 100 (List._∷_ 105 (List._∷_ 110 (List._∷_ 103 (List._∷_ 58 (List._∷_ 58 (List._∷_ 114 (List._∷_ 101 (List._∷_ 112 (List._∷_ 108 (List._∷_ 105 (List._∷_ 101 (List._∷_ 115 (List._∷_ 58 (List._∷_ 58 (List._∷_ 82 (List._∷_ 101 (List._∷_ 102 (List._∷_ 117 (List._∷_ 115 (List._∷_ 97 (List._∷_ 108 List.[])))))))))))))))))))))))))
+      (Syntax.ttcons Syntax.tnil (Syntax.ttcons (Syntax.tcons (Syntax.tyInt Syntax.w64) Syntax.tnil) (Syntax.ttcons (Syntax.tcons (Syntax.tyInt Syntax.w64) Syntax.tnil) (Syntax.ttcons (Syntax.tcons (Syntax.tyInt Syntax.w64) Syntax.tnil) (Syntax.ttcons (Syntax.tcons (Syntax.tyInt Syntax.w64) Syntax.tnil) (Syntax.ttcons (Syntax.tcons (Syntax.tyInt Syntax.w64)
+      Syntax.tnil) (Syntax.ttcons (Syntax.tcons (Syntax.tyInt Syntax.w64) Syntax.tnil) (Syntax.ttcons (Syntax.tcons ty·14 Syntax.tnil) (Syntax.ttcons (Syntax.tcons ty·14 Syntax.tnil) (Syntax.ttcons (Syntax.tcons ty·14 Syntax.tnil) (Syntax.ttcons (Syntax.tcons ty·14 (Syntax.tcons ty·14 Syntax.tnil)) (Syntax.ttcons Syntax.tnil Syntax.ttnil)))))))))))))
+      Syntax.tnil) Syntax.ttnil)))
 
   abbrev s38 : Typed.Both T38 T40
   s38 = Relend.k-back-sl (Referent.rtF (Referent.fInt Syntax.w16)) T38 13 2 1 10 ty·8 ty·3 Row.off (λ x. x) λ x. x
 
-  abbrev s39 : Typed.Gives T40 T41
+  abbrev s39 : Typed.Gives T40 T40
   s39 = Know.k-sl-known (Referent.fInt Syntax.w16) T40 2 1 ty·8 Row.off 0 λ x. x
 
-  abbrev s42 : Typed.Both T41 T44
-  s42 = Relend.k-back-sl (Referent.rtF (Referent.fInt Syntax.w16)) T41 15 3 2 11 ty·9 ty·3 Row.off (λ x. x) λ x. x
+  abbrev s42 : Typed.Both T40 T44
+  s42 = Relend.k-back-sl (Referent.rtF (Referent.fInt Syntax.w16)) T40 15 3 2 11 ty·9 ty·3 Row.off (λ x. x) λ x. x
 
-  abbrev s43 : Typed.Gives T44 T45
+  abbrev s43 : Typed.Gives T44 T44
   s43 = Know.k-sl-known (Referent.fInt Syntax.w16) T44 3 2 ty·9 Row.off 0 λ x. x
 
-  abbrev s46 : Typed.Both T45 T48
-  s46 = Relend.k-back-sl (Referent.rtF (Referent.fInt Syntax.w8)) T45 17 4 3 12 ty·6 ty·2 Row.off (λ x. x) λ x. x
+  abbrev s46 : Typed.Both T44 T48
+  s46 = Relend.k-back-sl (Referent.rtF (Referent.fInt Syntax.w8)) T44 17 4 3 12 ty·6 ty·2 Row.off (λ x. x) λ x. x
 
-  abbrev s47 : Typed.Gives T48 T49
+  abbrev s47 : Typed.Gives T48 T48
   s47 = Know.k-sl-known (Referent.fInt Syntax.w8) T48 4 3 ty·6 Row.off 0 λ x. x
 
-  abbrev s50 : Typed.Both T49 T52
-  s50 = Relend.k-back-sl (Referent.rtF (Referent.fInt Syntax.w16)) T49 19 5 4 13 ty·10 ty·3 Row.off (λ x. x) λ x. x
+  abbrev s50 : Typed.Both T48 T52
+  s50 = Relend.k-back-sl (Referent.rtF (Referent.fInt Syntax.w16)) T48 19 5 4 13 ty·10 ty·3 Row.off (λ x. x) λ x. x
 
-  abbrev s51 : Typed.Gives T52 T53
+  abbrev s51 : Typed.Gives T52 T52
   s51 = Know.k-sl-known (Referent.fInt Syntax.w16) T52 5 4 ty·10 Row.off 0 λ x. x
 
-  abbrev s54 : Typed.Both T53 T56
-  s54 = Relend.k-back-sl (Referent.rtF (Referent.fInt Syntax.w16)) T53 21 6 5 14 ty·11 ty·3 Row.off (λ x. x) λ x. x
+  abbrev s54 : Typed.Both T52 T56
+  s54 = Relend.k-back-sl (Referent.rtF (Referent.fInt Syntax.w16)) T52 21 6 5 14 ty·11 ty·3 Row.off (λ x. x) λ x. x
 
-  abbrev s55 : Typed.Gives T56 T57
+  abbrev s55 : Typed.Gives T56 T56
   s55 = Know.k-sl-known (Referent.fInt Syntax.w16) T56 6 5 ty·11 Row.off 0 λ x. x
 
-  abbrev s58 : Typed.Both T57 T60
-  s58 = Relend.k-back-sl (Referent.rtF (Referent.fInt Syntax.w32)) T57 23 7 6 15 ty·12 ty·4 Row.off (λ x. x) λ x. x
+  abbrev s58 : Typed.Both T56 T60
+  s58 = Relend.k-back-sl (Referent.rtF (Referent.fInt Syntax.w32)) T56 23 7 6 15 ty·12 ty·4 Row.off (λ x. x) λ x. x
 
-  abbrev s59 : Typed.Gives T60 T61
+  abbrev s59 : Typed.Gives T60 T60
   s59 = Know.k-sl-known (Referent.fInt Syntax.w32) T60 7 6 ty·12 Row.off 0 λ x. x
 
-  abbrev s62 : Typed.Both T61 T64
-  s62 = Relend.k-back-sl (Referent.rtF (Referent.fInt Syntax.w16)) T61 25 8 7 16 ty·13 ty·3 Row.off (λ x. x) λ x. x
+  abbrev s62 : Typed.Both T60 T64
+  s62 = Relend.k-back-sl (Referent.rtF (Referent.fInt Syntax.w16)) T60 25 8 7 16 ty·13 ty·3 Row.off (λ x. x) λ x. x
 
-  abbrev s63 : Typed.Gives T64 T65
+  abbrev s63 : Typed.Gives T64 T64
   s63 = Know.k-sl-known (Referent.fInt Syntax.w16) T64 8 7 ty·13 Row.off 0 λ x. x
 
-  abbrev s66 : Typed.Both T65 T68
-  s66 = Relend.k-back-sl (Referent.rtF (Referent.fInt Syntax.w8)) T65 27 9 8 17 ty·7 ty·2 Row.off (λ x. x) λ x. x
+  abbrev s66 : Typed.Both T64 T68
+  s66 = Relend.k-back-sl (Referent.rtF (Referent.fInt Syntax.w8)) T64 27 9 8 17 ty·7 ty·2 Row.off (λ x. x) λ x. x
 
-  abbrev s67 : Typed.Gives T68 T69
+  abbrev s67 : Typed.Gives T68 T68
   s67 = Know.k-sl-known (Referent.fInt Syntax.w8) T68 9 8 ty·7 Row.off 0 λ x. x
 
-  abbrev s70 : Typed.Both T69 T72
-  s70 = Relend.k-back-sl Rec.rt T69 29 10 9 18 ty·1 ty·0 Row.off (λ x. x) λ x. x
+  abbrev s70 : Typed.Both T68 T72
+  s70 = Relend.k-back-sl Rec.rt T68 29 10 9 18 ty·1 ty·0 Row.off (λ x. x) λ x. x
 
   abbrev s72 : Typed.Both T72 T74
-  s72 = Call.callB ps·1 r·1 (claims· .2) (claims· .3) T72 (
-    record { pos = 11; st = List.[]; d = 0; at = λ x. x },
-    tt,
-  ) 0 List.[] ty·15
+  s72 = Call.callB ps·1 r·1 (claims· .2) (claims· .3) T72 (record { pos = 11; st = List.[]; d = 0; at = λ x. x }, tt) 0 List.[] ty·15
 
-  abbrev s73 : Typed.Mo T74 → Typed.Mo T75
-  s73 = Scalar.n-room T74 11 (Syntax.tyEnum (List._∷_ 114 (List._∷_ 101 (List._∷_ 97 (List._∷_ 100 (List._∷_ 105 (List._∷_ 110 (List._∷_ 103 (List._∷_ 58 (List._∷_ 58 (List._∷_ 114 (List._∷_ 101 (List._∷_ 112 (List._∷_ 108 (List._∷_ 105 (List._∷_ 101 (List._∷_ 115 (List._∷_ 58 (List._∷_ 58 (List._∷_ 82 (List._∷_ 101 (List._∷_ 97
-      (List._∷_ 100 (List._∷_ 105 (List._∷_ 110 (List._∷_ 103 List.[]))))))))))))))))))))))))) (Syntax.ttcons Syntax.tnil (Syntax.ttcons (Syntax.tcons (Syntax.tyEnum (List._∷_ 114 (List._∷_ 101 (List._∷_ 97 (List._∷_ 100 (List._∷_ 105 (List._∷_ 110 (List._∷_ 103 (List._∷_ 58 (List._∷_ 58 (List._∷_ 114 (List._∷_ 101 (List._∷_ 112 (List._∷_ 108 (List._∷_ 105
-      (List._∷_ 101 (List._∷_ 115 (List._∷_ 58 (List._∷_ 58 (List._∷_ 82 (List._∷_ 101 (List._∷_ 102 (List._∷_ 117 (List._∷_ 115 (List._∷_ 97 (List._∷_ 108 List.[]))))))))))))))))))))))))) (Syntax.ttcons Syntax.tnil (Syntax.ttcons (Syntax.tcons (Syntax.tyInt Syntax.w64) Syntax.tnil) (Syntax.ttcons (Syntax.tcons (Syntax.tyInt Syntax.w64) Syntax.tnil)
-      (Syntax.ttcons (Syntax.tcons (Syntax.tyInt Syntax.w64) Syntax.tnil) (Syntax.ttcons (Syntax.tcons (Syntax.tyInt Syntax.w64) Syntax.tnil) (Syntax.ttcons (Syntax.tcons (Syntax.tyInt Syntax.w64) Syntax.tnil) (Syntax.ttcons (Syntax.tcons (Syntax.tyInt Syntax.w64) Syntax.tnil) (Syntax.ttcons (Syntax.tcons ty·14 Syntax.tnil) (Syntax.ttcons (Syntax.tcons ty·14
-      Syntax.tnil) (Syntax.ttcons (Syntax.tcons ty·14 Syntax.tnil) (Syntax.ttcons (Syntax.tcons ty·14 (Syntax.tcons ty·14 Syntax.tnil)) (Syntax.ttcons Syntax.tnil Syntax.ttnil))))))))))))) Syntax.tnil) Syntax.ttnil)))
+  abbrev s73 : Typed.Mo T74 → Typed.Mo T1
+  s73 = Scalar.n-room T74 11 (Syntax.tyEnum (List._∷_ 114 (List._∷_ 101 (List._∷_ 97 (List._∷_ 100 (List._∷_ 105 (List._∷_ 110 (List._∷_ 103 (List._∷_ 58 (List._∷_ 58 (List._∷_ 114 (List._∷_ 101 (List._∷_ 112 (List._∷_ 108 (List._∷_ 105 (List._∷_ 101 (List._∷_ 115 (List._∷_ 58 (List._∷_ 58 (List._∷_ 82 (List._∷_ 101 (List._∷_ 97 (List._∷_ 100 (List._∷_ 105
+      (List._∷_ 110 (List._∷_ 103 List.[]))))))))))))))))))))))))) (Syntax.ttcons Syntax.tnil (Syntax.ttcons (Syntax.tcons (Syntax.tyEnum (List._∷_ 114 (List._∷_ 101 (List._∷_ 97 (List._∷_ 100 (List._∷_ 105 (List._∷_ 110 (List._∷_ 103 (List._∷_ 58 (List._∷_ 58 (List._∷_ 114 (List._∷_ 101 (List._∷_ 112 (List._∷_ 108 (List._∷_ 105 (List._∷_ 101 (List._∷_ 115
+      (List._∷_ 58 (List._∷_ 58 (List._∷_ 82 (List._∷_ 101 (List._∷_ 102 (List._∷_ 117 (List._∷_ 115 (List._∷_ 97 (List._∷_ 108 List.[]))))))))))))))))))))))))) (Syntax.ttcons Syntax.tnil (Syntax.ttcons (Syntax.tcons (Syntax.tyInt Syntax.w64) Syntax.tnil) (Syntax.ttcons (Syntax.tcons (Syntax.tyInt Syntax.w64) Syntax.tnil) (Syntax.ttcons (Syntax.tcons
+      (Syntax.tyInt Syntax.w64) Syntax.tnil) (Syntax.ttcons (Syntax.tcons (Syntax.tyInt Syntax.w64) Syntax.tnil) (Syntax.ttcons (Syntax.tcons (Syntax.tyInt Syntax.w64) Syntax.tnil) (Syntax.ttcons (Syntax.tcons (Syntax.tyInt Syntax.w64) Syntax.tnil) (Syntax.ttcons (Syntax.tcons ty·14 Syntax.tnil) (Syntax.ttcons (Syntax.tcons ty·14 Syntax.tnil) (Syntax.ttcons
+      (Syntax.tcons ty·14 Syntax.tnil) (Syntax.ttcons (Syntax.tcons ty·14 (Syntax.tcons ty·14 Syntax.tnil)) (Syntax.ttcons Syntax.tnil Syntax.ttnil))))))))))))) Syntax.tnil) Syntax.ttnil)))
 
   module _ (Pre· : (κs : Lifetimes.Lfts 10) → Kinds.Dens κs ps → Type 0) (Post· : (κs : Lifetimes.Lfts 10) → (a : Kinds.Dens κs ps) → Kinds.Plain 10 ps r κs) where
     module _ (M : Type 1) where
       abbrev pub Closed : Type 2
-      Closed = (𝓤 : URA.URA M) (H : Wp.Heap 𝓤) (A : Atoms.Atoms 𝓤) (W : Kit.Given 𝓤 H A) (𝓣 : Wp.Tables 𝓤 H) (known0 : Plain.Known 𝓤 H A W 𝓣 10 ps·0 r·0 (claims· .0) (claims· .1) "conductor::calls::read_plan") (known1 : Plain.Known 𝓤 H A W 𝓣 0 ps·1 r·1 (claims· .2) (claims· .3) "board::answers::of_reading") → Statement.Triple 𝓤 (Wp.WpFn 𝓤 H (𝓣 .C)
-          (𝓣 .Λ) (Function.fnOf 10 ps r xs m hs body)) (Function.plainOf 𝓤 H A 10 ps r Pre· Post·)
+      Closed = (𝓤 : URA.URA M) (H : Wp.Heap 𝓤) (A : Atoms.Atoms 𝓤) (W : Kit.Given 𝓤 H A) (𝓣 : Wp.Tables 𝓤 H) (known0 : Plain.Known 𝓤 H A W 𝓣 10 ps·0 r·0 (claims· .0) (claims· .1) "conductor::calls::read_plan") (known1 : Plain.Known 𝓤 H A W 𝓣 0 ps·1 r·1 (claims· .2) (claims· .3) "board::answers::of_reading") → Statement.Triple 𝓤 (Wp.WpFn 𝓤 H (𝓣 .C) (𝓣 .Λ)
+          (Function.fnOf 10 ps r xs m hs body)) (Function.plainOf 𝓤 H A 10 ps r Pre· Post·)
 
     module _ where
-      abbrev at0 : Typed.TF T75 O0
+      abbrev at0 : Typed.TF T1 O0
       at0 = Typed.atRet O0
 
       abbrev at1 : Typed.TF T74 O0
-      at1 = λ Ψ. Typed.pass T74 T75 s73 (at0 Ψ)
+      at1 = λ Ψ. Typed.pass T74 T1 s73 (at0 Ψ)
 
       abbrev at2 : Typed.TF T72 O0
       at2 = λ Ψ. Typed.both s72 (at1 Ψ)
 
-      abbrev at3 : Typed.TF T72 O0
-      at3 = λ Ψ. at2 Ψ
-
-      abbrev at4 : Typed.TF T69 O0
-      at4 = λ Ψ. Typed.both s70 (at3 Ψ)
-
-      abbrev at5 : Typed.TF T69 O0
-      at5 = λ Ψ. at4 Ψ
-
-      abbrev at6 : Typed.TF T69 O0
-      at6 = λ Ψ. at5 Ψ
+      abbrev at4 : Typed.TF T68 O0
+      at4 = λ Ψ. Typed.both s70 (at2 Ψ)
 
       abbrev at7 : Typed.TF T68 O0
-      at7 = λ Ψ. Typed.give s67 (at6 Ψ)
+      at7 = λ Ψ. Typed.give s67 (at4 Ψ)
 
-      abbrev at8 : Typed.TF T65 O0
+      abbrev at8 : Typed.TF T64 O0
       at8 = λ Ψ. Typed.both s66 (at7 Ψ)
 
-      abbrev at9 : Typed.TF T65 O0
-      at9 = λ Ψ. at8 Ψ
-
-      abbrev at10 : Typed.TF T65 O0
-      at10 = λ Ψ. at9 Ψ
-
       abbrev at11 : Typed.TF T64 O0
-      at11 = λ Ψ. Typed.give s63 (at10 Ψ)
+      at11 = λ Ψ. Typed.give s63 (at8 Ψ)
 
-      abbrev at12 : Typed.TF T61 O0
+      abbrev at12 : Typed.TF T60 O0
       at12 = λ Ψ. Typed.both s62 (at11 Ψ)
 
-      abbrev at13 : Typed.TF T61 O0
-      at13 = λ Ψ. at12 Ψ
-
-      abbrev at14 : Typed.TF T61 O0
-      at14 = λ Ψ. at13 Ψ
-
       abbrev at15 : Typed.TF T60 O0
-      at15 = λ Ψ. Typed.give s59 (at14 Ψ)
+      at15 = λ Ψ. Typed.give s59 (at12 Ψ)
 
-      abbrev at16 : Typed.TF T57 O0
+      abbrev at16 : Typed.TF T56 O0
       at16 = λ Ψ. Typed.both s58 (at15 Ψ)
 
-      abbrev at17 : Typed.TF T57 O0
-      at17 = λ Ψ. at16 Ψ
-
-      abbrev at18 : Typed.TF T57 O0
-      at18 = λ Ψ. at17 Ψ
-
       abbrev at19 : Typed.TF T56 O0
-      at19 = λ Ψ. Typed.give s55 (at18 Ψ)
+      at19 = λ Ψ. Typed.give s55 (at16 Ψ)
 
-      abbrev at20 : Typed.TF T53 O0
+      abbrev at20 : Typed.TF T52 O0
       at20 = λ Ψ. Typed.both s54 (at19 Ψ)
 
-      abbrev at21 : Typed.TF T53 O0
-      at21 = λ Ψ. at20 Ψ
-
-      abbrev at22 : Typed.TF T53 O0
-      at22 = λ Ψ. at21 Ψ
-
       abbrev at23 : Typed.TF T52 O0
-      at23 = λ Ψ. Typed.give s51 (at22 Ψ)
+      at23 = λ Ψ. Typed.give s51 (at20 Ψ)
 
-      abbrev at24 : Typed.TF T49 O0
+      abbrev at24 : Typed.TF T48 O0
       at24 = λ Ψ. Typed.both s50 (at23 Ψ)
 
-      abbrev at25 : Typed.TF T49 O0
-      at25 = λ Ψ. at24 Ψ
-
-      abbrev at26 : Typed.TF T49 O0
-      at26 = λ Ψ. at25 Ψ
-
       abbrev at27 : Typed.TF T48 O0
-      at27 = λ Ψ. Typed.give s47 (at26 Ψ)
+      at27 = λ Ψ. Typed.give s47 (at24 Ψ)
 
-      abbrev at28 : Typed.TF T45 O0
+      abbrev at28 : Typed.TF T44 O0
       at28 = λ Ψ. Typed.both s46 (at27 Ψ)
 
-      abbrev at29 : Typed.TF T45 O0
-      at29 = λ Ψ. at28 Ψ
-
-      abbrev at30 : Typed.TF T45 O0
-      at30 = λ Ψ. at29 Ψ
-
       abbrev at31 : Typed.TF T44 O0
-      at31 = λ Ψ. Typed.give s43 (at30 Ψ)
+      at31 = λ Ψ. Typed.give s43 (at28 Ψ)
 
-      abbrev at32 : Typed.TF T41 O0
+      abbrev at32 : Typed.TF T40 O0
       at32 = λ Ψ. Typed.both s42 (at31 Ψ)
 
-      abbrev at33 : Typed.TF T41 O0
-      at33 = λ Ψ. at32 Ψ
-
-      abbrev at34 : Typed.TF T41 O0
-      at34 = λ Ψ. at33 Ψ
-
       abbrev at35 : Typed.TF T40 O0
-      at35 = λ Ψ. Typed.give s39 (at34 Ψ)
+      at35 = λ Ψ. Typed.give s39 (at32 Ψ)
 
       abbrev at36 : Typed.TF T38 O0
       at36 = λ Ψ. Typed.both s38 (at35 Ψ)
 
-      abbrev at37 : Typed.TF T38 O0
-      at37 = λ Ψ. at36 Ψ
-
       abbrev at38 : Typed.TF T37 O0
-      at38 = λ Ψ. Typed.both s36 (at37 Ψ)
+      at38 = λ Ψ. Typed.both s36 (at36 Ψ)
 
       abbrev at39 : Typed.TF T36 O0
       at39 = λ Ψ. Typed.ask s35 (at38 Ψ)
@@ -1127,110 +872,80 @@ module _ (claims· : Claims) where
       abbrev at40 : Typed.TF T34 O0
       at40 = λ Ψ. Typed.give s34 (at39 Ψ)
 
-      abbrev at41 : Typed.TF T34 O0
-      at41 = λ Ψ. at40 Ψ
-
       abbrev at42 : Typed.TF T33 O0
-      at42 = λ Ψ. Typed.ask s32 (at41 Ψ)
+      at42 = λ Ψ. Typed.ask s32 (at40 Ψ)
 
       abbrev at43 : Typed.TF T31 O0
       at43 = λ Ψ. Typed.give s31 (at42 Ψ)
 
-      abbrev at44 : Typed.TF T31 O0
-      at44 = λ Ψ. at43 Ψ
-
       abbrev at45 : Typed.TF T30 O0
-      at45 = λ Ψ. Typed.ask s29 (at44 Ψ)
+      at45 = λ Ψ. Typed.ask s29 (at43 Ψ)
 
       abbrev at46 : Typed.TF T28 O0
       at46 = λ Ψ. Typed.give s28 (at45 Ψ)
 
-      abbrev at47 : Typed.TF T28 O0
-      at47 = λ Ψ. at46 Ψ
-
       abbrev at48 : Typed.TF T27 O0
-      at48 = λ Ψ. Typed.ask s26 (at47 Ψ)
+      at48 = λ Ψ. Typed.ask s26 (at46 Ψ)
 
       abbrev at49 : Typed.TF T25 O0
       at49 = λ Ψ. Typed.give s25 (at48 Ψ)
 
-      abbrev at50 : Typed.TF T25 O0
-      at50 = λ Ψ. at49 Ψ
-
       abbrev at51 : Typed.TF T24 O0
-      at51 = λ Ψ. Typed.ask s23 (at50 Ψ)
+      at51 = λ Ψ. Typed.ask s23 (at49 Ψ)
 
       abbrev at52 : Typed.TF T22 O0
       at52 = λ Ψ. Typed.give s22 (at51 Ψ)
 
-      abbrev at53 : Typed.TF T22 O0
-      at53 = λ Ψ. at52 Ψ
-
       abbrev at54 : Typed.TF T21 O0
-      at54 = λ Ψ. Typed.ask s20 (at53 Ψ)
+      at54 = λ Ψ. Typed.ask s20 (at52 Ψ)
 
       abbrev at55 : Typed.TF T19 O0
       at55 = λ Ψ. Typed.give s19 (at54 Ψ)
 
-      abbrev at56 : Typed.TF T19 O0
-      at56 = λ Ψ. at55 Ψ
-
       abbrev at57 : Typed.TF T18 O0
-      at57 = λ Ψ. Typed.ask s17 (at56 Ψ)
+      at57 = λ Ψ. Typed.ask s17 (at55 Ψ)
 
       abbrev at58 : Typed.TF T16 O0
       at58 = λ Ψ. Typed.give s16 (at57 Ψ)
 
-      abbrev at59 : Typed.TF T16 O0
-      at59 = λ Ψ. at58 Ψ
-
       abbrev at60 : Typed.TF T15 O0
-      at60 = λ Ψ. Typed.ask s14 (at59 Ψ)
+      at60 = λ Ψ. Typed.ask s14 (at58 Ψ)
 
       abbrev at61 : Typed.TF T13 O0
       at61 = λ Ψ. Typed.give s13 (at60 Ψ)
 
-      abbrev at62 : Typed.TF T13 O0
-      at62 = λ Ψ. at61 Ψ
-
       abbrev at63 : Typed.TF T12 O0
-      at63 = λ Ψ. Typed.ask s11 (at62 Ψ)
+      at63 = λ Ψ. Typed.ask s11 (at61 Ψ)
 
-      abbrev at64 : Typed.TF T10 O0
+      abbrev at64 : Typed.TF T0 O0
       at64 = λ Ψ. Typed.give s10 (at63 Ψ)
 
-      abbrev at65 : Typed.TF T10 O0
-      at65 = λ Ψ. at64 Ψ
+      abbrev at66 : Typed.TF T0 O0
+      at66 = λ Ψ. Typed.give s8 (at64 Ψ)
 
-      abbrev at66 : Typed.TF T9 O0
-      at66 = λ Ψ. Typed.give s8 (at65 Ψ)
-
-      abbrev at67 : Typed.TF T8 O0
+      abbrev at67 : Typed.TF T0 O0
       at67 = λ Ψ. Typed.give s7 (at66 Ψ)
 
-      abbrev at68 : Typed.TF T7 O0
+      abbrev at68 : Typed.TF T0 O0
       at68 = λ Ψ. Typed.give s6 (at67 Ψ)
 
-      abbrev at69 : Typed.TF T6 O0
+      abbrev at69 : Typed.TF T0 O0
       at69 = λ Ψ. Typed.give s5 (at68 Ψ)
 
-      abbrev at70 : Typed.TF T5 O0
+      abbrev at70 : Typed.TF T0 O0
       at70 = λ Ψ. Typed.give s4 (at69 Ψ)
 
-      abbrev at71 : Typed.TF T4 O0
+      abbrev at71 : Typed.TF T0 O0
       at71 = λ Ψ. Typed.give s3 (at70 Ψ)
 
-      abbrev at72 : Typed.TF T3 O0
+      abbrev at72 : Typed.TF T0 O0
       at72 = λ Ψ. Typed.give s2 (at71 Ψ)
 
-      abbrev at73 : Typed.TF T2 O0
+      abbrev at73 : Typed.TF T0 O0
       at73 = λ Ψ. Typed.give s1 (at72 Ψ)
 
-      abbrev at74 : Typed.TF T0 O0
-      at74 = λ Ψ. Typed.give s0 (at73 Ψ)
-
       abbrev pub Φ : Typed.TF T0 O0
-      Φ = at74
+      Φ = at73
 
       module _ {M : Type 1} (𝓤 : URA.URA M) (H : Wp.Heap 𝓤) (A : Atoms.Atoms 𝓤) (W : Kit.Given 𝓤 H A) (𝓣 : Wp.Tables 𝓤 H) where
         abbrev Knowns : Type 1
@@ -1238,1619 +953,443 @@ module _ (claims· : Claims) where
 
       module _ (κs : Lifetimes.Lfts 10) (qs : Lifetimes.Shares 10) where
         abbrev g3 : List.List Row.Entry
-        g3 = List._∷_ (
-          0,
-          Rows.any-gone ty·15,
-        ) (List._∷_ (
-          1,
-          Rows.sslice (Referent.rtF (Referent.fInt Syntax.w8)) ty·5 0,
-        ) (List._∷_ (
-          2,
-          Relend.mslice-owed (Referent.rtF (Referent.fInt Syntax.w16)) ty·8 1 10 (Row.lease (κs .1 .0) (qs .1 .0)),
-        ) (List._∷_ (
-          3,
-          Mut.mslice (Referent.rtF (Referent.fInt Syntax.w16)) ty·9 2,
-        ) (List._∷_ (
-          4,
-          Mut.mslice (Referent.rtF (Referent.fInt Syntax.w8)) ty·6 3,
-        ) (List._∷_ (
-          5,
-          Mut.mslice (Referent.rtF (Referent.fInt Syntax.w16)) ty·10 4,
-        ) (List._∷_ (
-          6,
-          Mut.mslice (Referent.rtF (Referent.fInt Syntax.w16)) ty·11 5,
-        ) (List._∷_ (
-          7,
-          Mut.mslice (Referent.rtF (Referent.fInt Syntax.w32)) ty·12 6,
-        ) (List._∷_ (
-          8,
-          Mut.mslice (Referent.rtF (Referent.fInt Syntax.w16)) ty·13 7,
-        ) (List._∷_ (
-          9,
-          Mut.mslice (Referent.rtF (Referent.fInt Syntax.w8)) ty·7 8,
-        ) (List._∷_ (
-          10,
-          Mut.mslice Rec.rt ty·1 9,
-        ) (List._∷_ (
-          11,
-          Rows.any-gone (Syntax.tyEnum (List._∷_ 114 (List._∷_ 101 (List._∷_ 97 (List._∷_ 100 (List._∷_ 105 (List._∷_ 110 (List._∷_ 103 (List._∷_ 58 (List._∷_ 58 (List._∷_ 114 (List._∷_ 101 (List._∷_ 112 (List._∷_ 108 (List._∷_ 105 (List._∷_ 101 (List._∷_ 115 (List._∷_ 58 (List._∷_ 58 (List._∷_ 82 (List._∷_ 101 (List._∷_ 97 (List._∷_ 100
-              (List._∷_ 105 (List._∷_ 110 (List._∷_ 103 List.[]))))))))))))))))))))))))) (Syntax.ttcons Syntax.tnil (Syntax.ttcons (Syntax.tcons (Syntax.tyEnum (List._∷_ 114 (List._∷_ 101 (List._∷_ 97 (List._∷_ 100 (List._∷_ 105 (List._∷_ 110 (List._∷_ 103 (List._∷_ 58 (List._∷_ 58 (List._∷_ 114 (List._∷_ 101 (List._∷_ 112 (List._∷_ 108 (List._∷_ 105 (List._∷_
-              101 (List._∷_ 115 (List._∷_ 58 (List._∷_ 58 (List._∷_ 82 (List._∷_ 101 (List._∷_ 102 (List._∷_ 117 (List._∷_ 115 (List._∷_ 97 (List._∷_ 108 List.[]))))))))))))))))))))))))) (Syntax.ttcons Syntax.tnil (Syntax.ttcons (Syntax.tcons (Syntax.tyInt Syntax.w64) Syntax.tnil) (Syntax.ttcons (Syntax.tcons (Syntax.tyInt Syntax.w64) Syntax.tnil)
-              (Syntax.ttcons (Syntax.tcons (Syntax.tyInt Syntax.w64) Syntax.tnil) (Syntax.ttcons (Syntax.tcons (Syntax.tyInt Syntax.w64) Syntax.tnil) (Syntax.ttcons (Syntax.tcons (Syntax.tyInt Syntax.w64) Syntax.tnil) (Syntax.ttcons (Syntax.tcons (Syntax.tyInt Syntax.w64) Syntax.tnil) (Syntax.ttcons (Syntax.tcons ty·14 Syntax.tnil) (Syntax.ttcons (Syntax.tcons
-              ty·14 Syntax.tnil) (Syntax.ttcons (Syntax.tcons ty·14 Syntax.tnil) (Syntax.ttcons (Syntax.tcons ty·14 (Syntax.tcons ty·14 Syntax.tnil)) (Syntax.ttcons Syntax.tnil Syntax.ttnil))))))))))))) Syntax.tnil) Syntax.ttnil))),
-        ) (List._∷_ (
-          12,
-          Relend.msptr (Referent.rtF (Referent.fInt Syntax.w16)) ty·3 10,
-        ) (List._∷_ (
-          13,
-          Rows.any-gone (Syntax.tyStruct (List._∷_ 38 (List._∷_ 91 (List._∷_ 93 List.[]))) (Syntax.tcons ty·3 (Syntax.tcons (Syntax.tyInt Syntax.w64) Syntax.tnil))),
-        ) (List._∷_ (
-          14,
-          Rows.any-gone ty·3,
-        ) (List._∷_ (
-          15,
-          Rows.any-gone (Syntax.tyStruct (List._∷_ 38 (List._∷_ 91 (List._∷_ 93 List.[]))) (Syntax.tcons ty·3 (Syntax.tcons (Syntax.tyInt Syntax.w64) Syntax.tnil))),
-        ) List.[])))))))))))))))
+        g3 = List._∷_ (0, Rows.any-gone ty·15) (List._∷_ (1, Rows.sslice (Referent.rtF (Referent.fInt Syntax.w8)) ty·5 0) (List._∷_ (2, Relend.mslice-owed (Referent.rtF (Referent.fInt Syntax.w16)) ty·8 1 10 (Row.lease (κs .1 .0) (qs .1 .0))) (List._∷_ (3, Mut.mslice (Referent.rtF (Referent.fInt Syntax.w16)) ty·9 2) (List._∷_
+            (4, Mut.mslice (Referent.rtF (Referent.fInt Syntax.w8)) ty·6 3) (List._∷_ (5, Mut.mslice (Referent.rtF (Referent.fInt Syntax.w16)) ty·10 4) (List._∷_ (6, Mut.mslice (Referent.rtF (Referent.fInt Syntax.w16)) ty·11 5) (List._∷_ (7, Mut.mslice (Referent.rtF (Referent.fInt Syntax.w32)) ty·12 6) (List._∷_
+            (8, Mut.mslice (Referent.rtF (Referent.fInt Syntax.w16)) ty·13 7) (List._∷_ (9, Mut.mslice (Referent.rtF (Referent.fInt Syntax.w8)) ty·7 8) (List._∷_ (10, Mut.mslice Rec.rt ty·1 9) (List._∷_
+            (11, Rows.any-gone (Syntax.tyEnum (List._∷_ 114 (List._∷_ 101 (List._∷_ 97 (List._∷_ 100 (List._∷_ 105 (List._∷_ 110 (List._∷_ 103 (List._∷_ 58 (List._∷_ 58 (List._∷_ 114 (List._∷_ 101 (List._∷_ 112 (List._∷_ 108 (List._∷_ 105 (List._∷_ 101 (List._∷_ 115 (List._∷_ 58 (List._∷_ 58 (List._∷_ 82 (List._∷_ 101 (List._∷_ 97 (List._∷_ 100 (List._∷_ 105 (List._∷_ 110 (List._∷_ 103 List.[]))))))))))))))))))))))))) (Syntax.ttcons Syntax.tnil (Syntax.ttcons (Syntax.tcons (Syntax.tyEnum (List._∷_ 114 (List._∷_ 101 (List._∷_ 97 (List._∷_ 100 (List._∷_ 105 (List._∷_ 110 (List._∷_ 103 (List._∷_ 58 (List._∷_ 58 (List._∷_ 114 (List._∷_ 101 (List._∷_ 112 (List._∷_ 108 (List._∷_ 105 (List._∷_ 101 (List._∷_ 115 (List._∷_ 58 (List._∷_ 58 (List._∷_ 82 (List._∷_ 101 (List._∷_ 102 (List._∷_ 117 (List._∷_ 115 (List._∷_ 97 (List._∷_ 108 List.[]))))))))))))))))))))))))) (Syntax.ttcons Syntax.tnil (Syntax.ttcons (Syntax.tcons (Syntax.tyInt Syntax.w64) Syntax.tnil) (Syntax.ttcons (Syntax.tcons (Syntax.tyInt Syntax.w64) Syntax.tnil) (Syntax.ttcons (Syntax.tcons (Syntax.tyInt Syntax.w64) Syntax.tnil) (Syntax.ttcons (Syntax.tcons (Syntax.tyInt Syntax.w64) Syntax.tnil) (Syntax.ttcons (Syntax.tcons (Syntax.tyInt Syntax.w64) Syntax.tnil) (Syntax.ttcons (Syntax.tcons (Syntax.tyInt Syntax.w64) Syntax.tnil) (Syntax.ttcons (Syntax.tcons ty·14 Syntax.tnil) (Syntax.ttcons (Syntax.tcons ty·14 Syntax.tnil) (Syntax.ttcons (Syntax.tcons ty·14 Syntax.tnil) (Syntax.ttcons (Syntax.tcons ty·14 (Syntax.tcons ty·14 Syntax.tnil)) (Syntax.ttcons Syntax.tnil Syntax.ttnil))))))))))))) Syntax.tnil) Syntax.ttnil))))
+            (List._∷_ (12, Relend.msptr (Referent.rtF (Referent.fInt Syntax.w16)) ty·3 10) (List._∷_ (13, Rows.any-gone (Syntax.tyStruct (List._∷_ 38 (List._∷_ 91 (List._∷_ 93 List.[]))) (Syntax.tcons ty·3 (Syntax.tcons (Syntax.tyInt Syntax.w64) Syntax.tnil)))) (List._∷_ (14, Rows.any-gone ty·3) (List._∷_
+            (15, Rows.any-gone (Syntax.tyStruct (List._∷_ 38 (List._∷_ 91 (List._∷_ 93 List.[]))) (Syntax.tcons ty·3 (Syntax.tcons (Syntax.tyInt Syntax.w64) Syntax.tnil)))) List.[])))))))))))))))
 
         abbrev g4 : List.List Row.Entry
-        g4 = List._∷_ (
-          0,
-          Rows.any-gone ty·15,
-        ) (List._∷_ (
-          1,
-          Rows.sslice (Referent.rtF (Referent.fInt Syntax.w8)) ty·5 0,
-        ) (List._∷_ (
-          2,
-          Relend.mslice-owed (Referent.rtF (Referent.fInt Syntax.w16)) ty·8 1 10 (Row.lease (κs .1 .0) (qs .1 .0)),
-        ) (List._∷_ (
-          3,
-          Mut.mslice (Referent.rtF (Referent.fInt Syntax.w16)) ty·9 2,
-        ) (List._∷_ (
-          4,
-          Mut.mslice (Referent.rtF (Referent.fInt Syntax.w8)) ty·6 3,
-        ) (List._∷_ (
-          5,
-          Mut.mslice (Referent.rtF (Referent.fInt Syntax.w16)) ty·10 4,
-        ) (List._∷_ (
-          6,
-          Mut.mslice (Referent.rtF (Referent.fInt Syntax.w16)) ty·11 5,
-        ) (List._∷_ (
-          7,
-          Mut.mslice (Referent.rtF (Referent.fInt Syntax.w32)) ty·12 6,
-        ) (List._∷_ (
-          8,
-          Mut.mslice (Referent.rtF (Referent.fInt Syntax.w16)) ty·13 7,
-        ) (List._∷_ (
-          9,
-          Mut.mslice (Referent.rtF (Referent.fInt Syntax.w8)) ty·7 8,
-        ) (List._∷_ (
-          10,
-          Mut.mslice Rec.rt ty·1 9,
-        ) (List._∷_ (
-          11,
-          Rows.any-gone (Syntax.tyEnum (List._∷_ 114 (List._∷_ 101 (List._∷_ 97 (List._∷_ 100 (List._∷_ 105 (List._∷_ 110 (List._∷_ 103 (List._∷_ 58 (List._∷_ 58 (List._∷_ 114 (List._∷_ 101 (List._∷_ 112 (List._∷_ 108 (List._∷_ 105 (List._∷_ 101 (List._∷_ 115 (List._∷_ 58 (List._∷_ 58 (List._∷_ 82 (List._∷_ 101 (List._∷_ 97 (List._∷_ 100
-              (List._∷_ 105 (List._∷_ 110 (List._∷_ 103 List.[]))))))))))))))))))))))))) (Syntax.ttcons Syntax.tnil (Syntax.ttcons (Syntax.tcons (Syntax.tyEnum (List._∷_ 114 (List._∷_ 101 (List._∷_ 97 (List._∷_ 100 (List._∷_ 105 (List._∷_ 110 (List._∷_ 103 (List._∷_ 58 (List._∷_ 58 (List._∷_ 114 (List._∷_ 101 (List._∷_ 112 (List._∷_ 108 (List._∷_ 105 (List._∷_
-              101 (List._∷_ 115 (List._∷_ 58 (List._∷_ 58 (List._∷_ 82 (List._∷_ 101 (List._∷_ 102 (List._∷_ 117 (List._∷_ 115 (List._∷_ 97 (List._∷_ 108 List.[]))))))))))))))))))))))))) (Syntax.ttcons Syntax.tnil (Syntax.ttcons (Syntax.tcons (Syntax.tyInt Syntax.w64) Syntax.tnil) (Syntax.ttcons (Syntax.tcons (Syntax.tyInt Syntax.w64) Syntax.tnil)
-              (Syntax.ttcons (Syntax.tcons (Syntax.tyInt Syntax.w64) Syntax.tnil) (Syntax.ttcons (Syntax.tcons (Syntax.tyInt Syntax.w64) Syntax.tnil) (Syntax.ttcons (Syntax.tcons (Syntax.tyInt Syntax.w64) Syntax.tnil) (Syntax.ttcons (Syntax.tcons (Syntax.tyInt Syntax.w64) Syntax.tnil) (Syntax.ttcons (Syntax.tcons ty·14 Syntax.tnil) (Syntax.ttcons (Syntax.tcons
-              ty·14 Syntax.tnil) (Syntax.ttcons (Syntax.tcons ty·14 Syntax.tnil) (Syntax.ttcons (Syntax.tcons ty·14 (Syntax.tcons ty·14 Syntax.tnil)) (Syntax.ttcons Syntax.tnil Syntax.ttnil))))))))))))) Syntax.tnil) Syntax.ttnil))),
-        ) (List._∷_ (
-          12,
-          Rows.any-gone ty·3,
-        ) (List._∷_ (
-          13,
-          Mut.mslice (Referent.rtF (Referent.fInt Syntax.w16)) ty·3 10,
-        ) (List._∷_ (
-          14,
-          Rows.any-gone ty·3,
-        ) (List._∷_ (
-          15,
-          Rows.any-gone (Syntax.tyStruct (List._∷_ 38 (List._∷_ 91 (List._∷_ 93 List.[]))) (Syntax.tcons ty·3 (Syntax.tcons (Syntax.tyInt Syntax.w64) Syntax.tnil))),
-        ) List.[])))))))))))))))
+        g4 = List._∷_ (0, Rows.any-gone ty·15) (List._∷_ (1, Rows.sslice (Referent.rtF (Referent.fInt Syntax.w8)) ty·5 0) (List._∷_ (2, Relend.mslice-owed (Referent.rtF (Referent.fInt Syntax.w16)) ty·8 1 10 (Row.lease (κs .1 .0) (qs .1 .0))) (List._∷_ (3, Mut.mslice (Referent.rtF (Referent.fInt Syntax.w16)) ty·9 2) (List._∷_
+            (4, Mut.mslice (Referent.rtF (Referent.fInt Syntax.w8)) ty·6 3) (List._∷_ (5, Mut.mslice (Referent.rtF (Referent.fInt Syntax.w16)) ty·10 4) (List._∷_ (6, Mut.mslice (Referent.rtF (Referent.fInt Syntax.w16)) ty·11 5) (List._∷_ (7, Mut.mslice (Referent.rtF (Referent.fInt Syntax.w32)) ty·12 6) (List._∷_
+            (8, Mut.mslice (Referent.rtF (Referent.fInt Syntax.w16)) ty·13 7) (List._∷_ (9, Mut.mslice (Referent.rtF (Referent.fInt Syntax.w8)) ty·7 8) (List._∷_ (10, Mut.mslice Rec.rt ty·1 9) (List._∷_
+            (11, Rows.any-gone (Syntax.tyEnum (List._∷_ 114 (List._∷_ 101 (List._∷_ 97 (List._∷_ 100 (List._∷_ 105 (List._∷_ 110 (List._∷_ 103 (List._∷_ 58 (List._∷_ 58 (List._∷_ 114 (List._∷_ 101 (List._∷_ 112 (List._∷_ 108 (List._∷_ 105 (List._∷_ 101 (List._∷_ 115 (List._∷_ 58 (List._∷_ 58 (List._∷_ 82 (List._∷_ 101 (List._∷_ 97 (List._∷_ 100 (List._∷_ 105 (List._∷_ 110 (List._∷_ 103 List.[]))))))))))))))))))))))))) (Syntax.ttcons Syntax.tnil (Syntax.ttcons (Syntax.tcons (Syntax.tyEnum (List._∷_ 114 (List._∷_ 101 (List._∷_ 97 (List._∷_ 100 (List._∷_ 105 (List._∷_ 110 (List._∷_ 103 (List._∷_ 58 (List._∷_ 58 (List._∷_ 114 (List._∷_ 101 (List._∷_ 112 (List._∷_ 108 (List._∷_ 105 (List._∷_ 101 (List._∷_ 115 (List._∷_ 58 (List._∷_ 58 (List._∷_ 82 (List._∷_ 101 (List._∷_ 102 (List._∷_ 117 (List._∷_ 115 (List._∷_ 97 (List._∷_ 108 List.[]))))))))))))))))))))))))) (Syntax.ttcons Syntax.tnil (Syntax.ttcons (Syntax.tcons (Syntax.tyInt Syntax.w64) Syntax.tnil) (Syntax.ttcons (Syntax.tcons (Syntax.tyInt Syntax.w64) Syntax.tnil) (Syntax.ttcons (Syntax.tcons (Syntax.tyInt Syntax.w64) Syntax.tnil) (Syntax.ttcons (Syntax.tcons (Syntax.tyInt Syntax.w64) Syntax.tnil) (Syntax.ttcons (Syntax.tcons (Syntax.tyInt Syntax.w64) Syntax.tnil) (Syntax.ttcons (Syntax.tcons (Syntax.tyInt Syntax.w64) Syntax.tnil) (Syntax.ttcons (Syntax.tcons ty·14 Syntax.tnil) (Syntax.ttcons (Syntax.tcons ty·14 Syntax.tnil) (Syntax.ttcons (Syntax.tcons ty·14 Syntax.tnil) (Syntax.ttcons (Syntax.tcons ty·14 (Syntax.tcons ty·14 Syntax.tnil)) (Syntax.ttcons Syntax.tnil Syntax.ttnil))))))))))))) Syntax.tnil) Syntax.ttnil))))
+            (List._∷_ (12, Rows.any-gone ty·3) (List._∷_ (13, Mut.mslice (Referent.rtF (Referent.fInt Syntax.w16)) ty·3 10) (List._∷_ (14, Rows.any-gone ty·3) (List._∷_ (15, Rows.any-gone (Syntax.tyStruct (List._∷_ 38 (List._∷_ 91 (List._∷_ 93 List.[]))) (Syntax.tcons ty·3 (Syntax.tcons (Syntax.tyInt Syntax.w64) Syntax.tnil)))) List.[])))))))))))))))
 
         abbrev g5 : List.List Row.Entry
-        g5 = List._∷_ (
-          0,
-          Rows.any-gone ty·15,
-        ) (List._∷_ (
-          1,
-          Rows.sslice (Referent.rtF (Referent.fInt Syntax.w8)) ty·5 0,
-        ) (List._∷_ (
-          2,
-          Relend.mslice-owed (Referent.rtF (Referent.fInt Syntax.w16)) ty·8 1 10 (Row.lease (κs .1 .0) (qs .1 .0)),
-        ) (List._∷_ (
-          3,
-          Relend.mslice-owed (Referent.rtF (Referent.fInt Syntax.w16)) ty·9 2 11 (Row.lease (κs .1 .1 .0) (qs .1 .1 .0)),
-        ) (List._∷_ (
-          4,
-          Mut.mslice (Referent.rtF (Referent.fInt Syntax.w8)) ty·6 3,
-        ) (List._∷_ (
-          5,
-          Mut.mslice (Referent.rtF (Referent.fInt Syntax.w16)) ty·10 4,
-        ) (List._∷_ (
-          6,
-          Mut.mslice (Referent.rtF (Referent.fInt Syntax.w16)) ty·11 5,
-        ) (List._∷_ (
-          7,
-          Mut.mslice (Referent.rtF (Referent.fInt Syntax.w32)) ty·12 6,
-        ) (List._∷_ (
-          8,
-          Mut.mslice (Referent.rtF (Referent.fInt Syntax.w16)) ty·13 7,
-        ) (List._∷_ (
-          9,
-          Mut.mslice (Referent.rtF (Referent.fInt Syntax.w8)) ty·7 8,
-        ) (List._∷_ (
-          10,
-          Mut.mslice Rec.rt ty·1 9,
-        ) (List._∷_ (
-          11,
-          Rows.any-gone (Syntax.tyEnum (List._∷_ 114 (List._∷_ 101 (List._∷_ 97 (List._∷_ 100 (List._∷_ 105 (List._∷_ 110 (List._∷_ 103 (List._∷_ 58 (List._∷_ 58 (List._∷_ 114 (List._∷_ 101 (List._∷_ 112 (List._∷_ 108 (List._∷_ 105 (List._∷_ 101 (List._∷_ 115 (List._∷_ 58 (List._∷_ 58 (List._∷_ 82 (List._∷_ 101 (List._∷_ 97 (List._∷_ 100
-              (List._∷_ 105 (List._∷_ 110 (List._∷_ 103 List.[]))))))))))))))))))))))))) (Syntax.ttcons Syntax.tnil (Syntax.ttcons (Syntax.tcons (Syntax.tyEnum (List._∷_ 114 (List._∷_ 101 (List._∷_ 97 (List._∷_ 100 (List._∷_ 105 (List._∷_ 110 (List._∷_ 103 (List._∷_ 58 (List._∷_ 58 (List._∷_ 114 (List._∷_ 101 (List._∷_ 112 (List._∷_ 108 (List._∷_ 105 (List._∷_
-              101 (List._∷_ 115 (List._∷_ 58 (List._∷_ 58 (List._∷_ 82 (List._∷_ 101 (List._∷_ 102 (List._∷_ 117 (List._∷_ 115 (List._∷_ 97 (List._∷_ 108 List.[]))))))))))))))))))))))))) (Syntax.ttcons Syntax.tnil (Syntax.ttcons (Syntax.tcons (Syntax.tyInt Syntax.w64) Syntax.tnil) (Syntax.ttcons (Syntax.tcons (Syntax.tyInt Syntax.w64) Syntax.tnil)
-              (Syntax.ttcons (Syntax.tcons (Syntax.tyInt Syntax.w64) Syntax.tnil) (Syntax.ttcons (Syntax.tcons (Syntax.tyInt Syntax.w64) Syntax.tnil) (Syntax.ttcons (Syntax.tcons (Syntax.tyInt Syntax.w64) Syntax.tnil) (Syntax.ttcons (Syntax.tcons (Syntax.tyInt Syntax.w64) Syntax.tnil) (Syntax.ttcons (Syntax.tcons ty·14 Syntax.tnil) (Syntax.ttcons (Syntax.tcons
-              ty·14 Syntax.tnil) (Syntax.ttcons (Syntax.tcons ty·14 Syntax.tnil) (Syntax.ttcons (Syntax.tcons ty·14 (Syntax.tcons ty·14 Syntax.tnil)) (Syntax.ttcons Syntax.tnil Syntax.ttnil))))))))))))) Syntax.tnil) Syntax.ttnil))),
-        ) (List._∷_ (
-          12,
-          Rows.any-gone ty·3,
-        ) (List._∷_ (
-          13,
-          Mut.mslice (Referent.rtF (Referent.fInt Syntax.w16)) ty·3 10,
-        ) (List._∷_ (
-          14,
-          Relend.msptr (Referent.rtF (Referent.fInt Syntax.w16)) ty·3 11,
-        ) (List._∷_ (
-          15,
-          Rows.any-gone (Syntax.tyStruct (List._∷_ 38 (List._∷_ 91 (List._∷_ 93 List.[]))) (Syntax.tcons ty·3 (Syntax.tcons (Syntax.tyInt Syntax.w64) Syntax.tnil))),
-        ) List.[])))))))))))))))
+        g5 = List._∷_ (0, Rows.any-gone ty·15) (List._∷_ (1, Rows.sslice (Referent.rtF (Referent.fInt Syntax.w8)) ty·5 0) (List._∷_ (2, Relend.mslice-owed (Referent.rtF (Referent.fInt Syntax.w16)) ty·8 1 10 (Row.lease (κs .1 .0) (qs .1 .0))) (List._∷_
+            (3, Relend.mslice-owed (Referent.rtF (Referent.fInt Syntax.w16)) ty·9 2 11 (Row.lease (κs .1 .1 .0) (qs .1 .1 .0))) (List._∷_ (4, Mut.mslice (Referent.rtF (Referent.fInt Syntax.w8)) ty·6 3) (List._∷_ (5, Mut.mslice (Referent.rtF (Referent.fInt Syntax.w16)) ty·10 4) (List._∷_ (6, Mut.mslice (Referent.rtF (Referent.fInt Syntax.w16)) ty·11 5) (List._∷_
+            (7, Mut.mslice (Referent.rtF (Referent.fInt Syntax.w32)) ty·12 6) (List._∷_ (8, Mut.mslice (Referent.rtF (Referent.fInt Syntax.w16)) ty·13 7) (List._∷_ (9, Mut.mslice (Referent.rtF (Referent.fInt Syntax.w8)) ty·7 8) (List._∷_ (10, Mut.mslice Rec.rt ty·1 9) (List._∷_
+            (11, Rows.any-gone (Syntax.tyEnum (List._∷_ 114 (List._∷_ 101 (List._∷_ 97 (List._∷_ 100 (List._∷_ 105 (List._∷_ 110 (List._∷_ 103 (List._∷_ 58 (List._∷_ 58 (List._∷_ 114 (List._∷_ 101 (List._∷_ 112 (List._∷_ 108 (List._∷_ 105 (List._∷_ 101 (List._∷_ 115 (List._∷_ 58 (List._∷_ 58 (List._∷_ 82 (List._∷_ 101 (List._∷_ 97 (List._∷_ 100 (List._∷_ 105 (List._∷_ 110 (List._∷_ 103 List.[]))))))))))))))))))))))))) (Syntax.ttcons Syntax.tnil (Syntax.ttcons (Syntax.tcons (Syntax.tyEnum (List._∷_ 114 (List._∷_ 101 (List._∷_ 97 (List._∷_ 100 (List._∷_ 105 (List._∷_ 110 (List._∷_ 103 (List._∷_ 58 (List._∷_ 58 (List._∷_ 114 (List._∷_ 101 (List._∷_ 112 (List._∷_ 108 (List._∷_ 105 (List._∷_ 101 (List._∷_ 115 (List._∷_ 58 (List._∷_ 58 (List._∷_ 82 (List._∷_ 101 (List._∷_ 102 (List._∷_ 117 (List._∷_ 115 (List._∷_ 97 (List._∷_ 108 List.[]))))))))))))))))))))))))) (Syntax.ttcons Syntax.tnil (Syntax.ttcons (Syntax.tcons (Syntax.tyInt Syntax.w64) Syntax.tnil) (Syntax.ttcons (Syntax.tcons (Syntax.tyInt Syntax.w64) Syntax.tnil) (Syntax.ttcons (Syntax.tcons (Syntax.tyInt Syntax.w64) Syntax.tnil) (Syntax.ttcons (Syntax.tcons (Syntax.tyInt Syntax.w64) Syntax.tnil) (Syntax.ttcons (Syntax.tcons (Syntax.tyInt Syntax.w64) Syntax.tnil) (Syntax.ttcons (Syntax.tcons (Syntax.tyInt Syntax.w64) Syntax.tnil) (Syntax.ttcons (Syntax.tcons ty·14 Syntax.tnil) (Syntax.ttcons (Syntax.tcons ty·14 Syntax.tnil) (Syntax.ttcons (Syntax.tcons ty·14 Syntax.tnil) (Syntax.ttcons (Syntax.tcons ty·14 (Syntax.tcons ty·14 Syntax.tnil)) (Syntax.ttcons Syntax.tnil Syntax.ttnil))))))))))))) Syntax.tnil) Syntax.ttnil))))
+            (List._∷_ (12, Rows.any-gone ty·3) (List._∷_ (13, Mut.mslice (Referent.rtF (Referent.fInt Syntax.w16)) ty·3 10) (List._∷_ (14, Relend.msptr (Referent.rtF (Referent.fInt Syntax.w16)) ty·3 11) (List._∷_
+            (15, Rows.any-gone (Syntax.tyStruct (List._∷_ 38 (List._∷_ 91 (List._∷_ 93 List.[]))) (Syntax.tcons ty·3 (Syntax.tcons (Syntax.tyInt Syntax.w64) Syntax.tnil)))) List.[])))))))))))))))
 
         abbrev g6 : List.List Row.Entry
-        g6 = List._∷_ (
-          0,
-          Rows.any-gone ty·15,
-        ) (List._∷_ (
-          1,
-          Rows.sslice (Referent.rtF (Referent.fInt Syntax.w8)) ty·5 0,
-        ) (List._∷_ (
-          2,
-          Relend.mslice-owed (Referent.rtF (Referent.fInt Syntax.w16)) ty·8 1 10 (Row.lease (κs .1 .0) (qs .1 .0)),
-        ) (List._∷_ (
-          3,
-          Relend.mslice-owed (Referent.rtF (Referent.fInt Syntax.w16)) ty·9 2 11 (Row.lease (κs .1 .1 .0) (qs .1 .1 .0)),
-        ) (List._∷_ (
-          4,
-          Mut.mslice (Referent.rtF (Referent.fInt Syntax.w8)) ty·6 3,
-        ) (List._∷_ (
-          5,
-          Mut.mslice (Referent.rtF (Referent.fInt Syntax.w16)) ty·10 4,
-        ) (List._∷_ (
-          6,
-          Mut.mslice (Referent.rtF (Referent.fInt Syntax.w16)) ty·11 5,
-        ) (List._∷_ (
-          7,
-          Mut.mslice (Referent.rtF (Referent.fInt Syntax.w32)) ty·12 6,
-        ) (List._∷_ (
-          8,
-          Mut.mslice (Referent.rtF (Referent.fInt Syntax.w16)) ty·13 7,
-        ) (List._∷_ (
-          9,
-          Mut.mslice (Referent.rtF (Referent.fInt Syntax.w8)) ty·7 8,
-        ) (List._∷_ (
-          10,
-          Mut.mslice Rec.rt ty·1 9,
-        ) (List._∷_ (
-          11,
-          Rows.any-gone (Syntax.tyEnum (List._∷_ 114 (List._∷_ 101 (List._∷_ 97 (List._∷_ 100 (List._∷_ 105 (List._∷_ 110 (List._∷_ 103 (List._∷_ 58 (List._∷_ 58 (List._∷_ 114 (List._∷_ 101 (List._∷_ 112 (List._∷_ 108 (List._∷_ 105 (List._∷_ 101 (List._∷_ 115 (List._∷_ 58 (List._∷_ 58 (List._∷_ 82 (List._∷_ 101 (List._∷_ 97 (List._∷_ 100
-              (List._∷_ 105 (List._∷_ 110 (List._∷_ 103 List.[]))))))))))))))))))))))))) (Syntax.ttcons Syntax.tnil (Syntax.ttcons (Syntax.tcons (Syntax.tyEnum (List._∷_ 114 (List._∷_ 101 (List._∷_ 97 (List._∷_ 100 (List._∷_ 105 (List._∷_ 110 (List._∷_ 103 (List._∷_ 58 (List._∷_ 58 (List._∷_ 114 (List._∷_ 101 (List._∷_ 112 (List._∷_ 108 (List._∷_ 105 (List._∷_
-              101 (List._∷_ 115 (List._∷_ 58 (List._∷_ 58 (List._∷_ 82 (List._∷_ 101 (List._∷_ 102 (List._∷_ 117 (List._∷_ 115 (List._∷_ 97 (List._∷_ 108 List.[]))))))))))))))))))))))))) (Syntax.ttcons Syntax.tnil (Syntax.ttcons (Syntax.tcons (Syntax.tyInt Syntax.w64) Syntax.tnil) (Syntax.ttcons (Syntax.tcons (Syntax.tyInt Syntax.w64) Syntax.tnil)
-              (Syntax.ttcons (Syntax.tcons (Syntax.tyInt Syntax.w64) Syntax.tnil) (Syntax.ttcons (Syntax.tcons (Syntax.tyInt Syntax.w64) Syntax.tnil) (Syntax.ttcons (Syntax.tcons (Syntax.tyInt Syntax.w64) Syntax.tnil) (Syntax.ttcons (Syntax.tcons (Syntax.tyInt Syntax.w64) Syntax.tnil) (Syntax.ttcons (Syntax.tcons ty·14 Syntax.tnil) (Syntax.ttcons (Syntax.tcons
-              ty·14 Syntax.tnil) (Syntax.ttcons (Syntax.tcons ty·14 Syntax.tnil) (Syntax.ttcons (Syntax.tcons ty·14 (Syntax.tcons ty·14 Syntax.tnil)) (Syntax.ttcons Syntax.tnil Syntax.ttnil))))))))))))) Syntax.tnil) Syntax.ttnil))),
-        ) (List._∷_ (
-          12,
-          Rows.any-gone ty·3,
-        ) (List._∷_ (
-          13,
-          Mut.mslice (Referent.rtF (Referent.fInt Syntax.w16)) ty·3 10,
-        ) (List._∷_ (
-          14,
-          Rows.any-gone ty·3,
-        ) (List._∷_ (
-          15,
-          Mut.mslice (Referent.rtF (Referent.fInt Syntax.w16)) ty·3 11,
-        ) List.[])))))))))))))))
+        g6 = List._∷_ (0, Rows.any-gone ty·15) (List._∷_ (1, Rows.sslice (Referent.rtF (Referent.fInt Syntax.w8)) ty·5 0) (List._∷_ (2, Relend.mslice-owed (Referent.rtF (Referent.fInt Syntax.w16)) ty·8 1 10 (Row.lease (κs .1 .0) (qs .1 .0))) (List._∷_
+            (3, Relend.mslice-owed (Referent.rtF (Referent.fInt Syntax.w16)) ty·9 2 11 (Row.lease (κs .1 .1 .0) (qs .1 .1 .0))) (List._∷_ (4, Mut.mslice (Referent.rtF (Referent.fInt Syntax.w8)) ty·6 3) (List._∷_ (5, Mut.mslice (Referent.rtF (Referent.fInt Syntax.w16)) ty·10 4) (List._∷_ (6, Mut.mslice (Referent.rtF (Referent.fInt Syntax.w16)) ty·11 5) (List._∷_
+            (7, Mut.mslice (Referent.rtF (Referent.fInt Syntax.w32)) ty·12 6) (List._∷_ (8, Mut.mslice (Referent.rtF (Referent.fInt Syntax.w16)) ty·13 7) (List._∷_ (9, Mut.mslice (Referent.rtF (Referent.fInt Syntax.w8)) ty·7 8) (List._∷_ (10, Mut.mslice Rec.rt ty·1 9) (List._∷_
+            (11, Rows.any-gone (Syntax.tyEnum (List._∷_ 114 (List._∷_ 101 (List._∷_ 97 (List._∷_ 100 (List._∷_ 105 (List._∷_ 110 (List._∷_ 103 (List._∷_ 58 (List._∷_ 58 (List._∷_ 114 (List._∷_ 101 (List._∷_ 112 (List._∷_ 108 (List._∷_ 105 (List._∷_ 101 (List._∷_ 115 (List._∷_ 58 (List._∷_ 58 (List._∷_ 82 (List._∷_ 101 (List._∷_ 97 (List._∷_ 100 (List._∷_ 105 (List._∷_ 110 (List._∷_ 103 List.[]))))))))))))))))))))))))) (Syntax.ttcons Syntax.tnil (Syntax.ttcons (Syntax.tcons (Syntax.tyEnum (List._∷_ 114 (List._∷_ 101 (List._∷_ 97 (List._∷_ 100 (List._∷_ 105 (List._∷_ 110 (List._∷_ 103 (List._∷_ 58 (List._∷_ 58 (List._∷_ 114 (List._∷_ 101 (List._∷_ 112 (List._∷_ 108 (List._∷_ 105 (List._∷_ 101 (List._∷_ 115 (List._∷_ 58 (List._∷_ 58 (List._∷_ 82 (List._∷_ 101 (List._∷_ 102 (List._∷_ 117 (List._∷_ 115 (List._∷_ 97 (List._∷_ 108 List.[]))))))))))))))))))))))))) (Syntax.ttcons Syntax.tnil (Syntax.ttcons (Syntax.tcons (Syntax.tyInt Syntax.w64) Syntax.tnil) (Syntax.ttcons (Syntax.tcons (Syntax.tyInt Syntax.w64) Syntax.tnil) (Syntax.ttcons (Syntax.tcons (Syntax.tyInt Syntax.w64) Syntax.tnil) (Syntax.ttcons (Syntax.tcons (Syntax.tyInt Syntax.w64) Syntax.tnil) (Syntax.ttcons (Syntax.tcons (Syntax.tyInt Syntax.w64) Syntax.tnil) (Syntax.ttcons (Syntax.tcons (Syntax.tyInt Syntax.w64) Syntax.tnil) (Syntax.ttcons (Syntax.tcons ty·14 Syntax.tnil) (Syntax.ttcons (Syntax.tcons ty·14 Syntax.tnil) (Syntax.ttcons (Syntax.tcons ty·14 Syntax.tnil) (Syntax.ttcons (Syntax.tcons ty·14 (Syntax.tcons ty·14 Syntax.tnil)) (Syntax.ttcons Syntax.tnil Syntax.ttnil))))))))))))) Syntax.tnil) Syntax.ttnil))))
+            (List._∷_ (12, Rows.any-gone ty·3) (List._∷_ (13, Mut.mslice (Referent.rtF (Referent.fInt Syntax.w16)) ty·3 10) (List._∷_ (14, Rows.any-gone ty·3) (List._∷_ (15, Mut.mslice (Referent.rtF (Referent.fInt Syntax.w16)) ty·3 11) List.[])))))))))))))))
 
         abbrev g7 : List.List Row.Entry
-        g7 = List._∷_ (
-          0,
-          Rows.any-gone ty·15,
-        ) (List._∷_ (
-          1,
-          Rows.sslice (Referent.rtF (Referent.fInt Syntax.w8)) ty·5 0,
-        ) (List._∷_ (
-          2,
-          Relend.mslice-owed (Referent.rtF (Referent.fInt Syntax.w16)) ty·8 1 10 (Row.lease (κs .1 .0) (qs .1 .0)),
-        ) (List._∷_ (
-          3,
-          Relend.mslice-owed (Referent.rtF (Referent.fInt Syntax.w16)) ty·9 2 11 (Row.lease (κs .1 .1 .0) (qs .1 .1 .0)),
-        ) (List._∷_ (
-          4,
-          Relend.mslice-owed (Referent.rtF (Referent.fInt Syntax.w8)) ty·6 3 12 (Row.lease (κs .1 .1 .1 .0) (qs .1 .1 .1 .0)),
-        ) (List._∷_ (
-          5,
-          Mut.mslice (Referent.rtF (Referent.fInt Syntax.w16)) ty·10 4,
-        ) (List._∷_ (
-          6,
-          Mut.mslice (Referent.rtF (Referent.fInt Syntax.w16)) ty·11 5,
-        ) (List._∷_ (
-          7,
-          Mut.mslice (Referent.rtF (Referent.fInt Syntax.w32)) ty·12 6,
-        ) (List._∷_ (
-          8,
-          Mut.mslice (Referent.rtF (Referent.fInt Syntax.w16)) ty·13 7,
-        ) (List._∷_ (
-          9,
-          Mut.mslice (Referent.rtF (Referent.fInt Syntax.w8)) ty·7 8,
-        ) (List._∷_ (
-          10,
-          Mut.mslice Rec.rt ty·1 9,
-        ) (List._∷_ (
-          11,
-          Rows.any-gone (Syntax.tyEnum (List._∷_ 114 (List._∷_ 101 (List._∷_ 97 (List._∷_ 100 (List._∷_ 105 (List._∷_ 110 (List._∷_ 103 (List._∷_ 58 (List._∷_ 58 (List._∷_ 114 (List._∷_ 101 (List._∷_ 112 (List._∷_ 108 (List._∷_ 105 (List._∷_ 101 (List._∷_ 115 (List._∷_ 58 (List._∷_ 58 (List._∷_ 82 (List._∷_ 101 (List._∷_ 97 (List._∷_ 100
-              (List._∷_ 105 (List._∷_ 110 (List._∷_ 103 List.[]))))))))))))))))))))))))) (Syntax.ttcons Syntax.tnil (Syntax.ttcons (Syntax.tcons (Syntax.tyEnum (List._∷_ 114 (List._∷_ 101 (List._∷_ 97 (List._∷_ 100 (List._∷_ 105 (List._∷_ 110 (List._∷_ 103 (List._∷_ 58 (List._∷_ 58 (List._∷_ 114 (List._∷_ 101 (List._∷_ 112 (List._∷_ 108 (List._∷_ 105 (List._∷_
-              101 (List._∷_ 115 (List._∷_ 58 (List._∷_ 58 (List._∷_ 82 (List._∷_ 101 (List._∷_ 102 (List._∷_ 117 (List._∷_ 115 (List._∷_ 97 (List._∷_ 108 List.[]))))))))))))))))))))))))) (Syntax.ttcons Syntax.tnil (Syntax.ttcons (Syntax.tcons (Syntax.tyInt Syntax.w64) Syntax.tnil) (Syntax.ttcons (Syntax.tcons (Syntax.tyInt Syntax.w64) Syntax.tnil)
-              (Syntax.ttcons (Syntax.tcons (Syntax.tyInt Syntax.w64) Syntax.tnil) (Syntax.ttcons (Syntax.tcons (Syntax.tyInt Syntax.w64) Syntax.tnil) (Syntax.ttcons (Syntax.tcons (Syntax.tyInt Syntax.w64) Syntax.tnil) (Syntax.ttcons (Syntax.tcons (Syntax.tyInt Syntax.w64) Syntax.tnil) (Syntax.ttcons (Syntax.tcons ty·14 Syntax.tnil) (Syntax.ttcons (Syntax.tcons
-              ty·14 Syntax.tnil) (Syntax.ttcons (Syntax.tcons ty·14 Syntax.tnil) (Syntax.ttcons (Syntax.tcons ty·14 (Syntax.tcons ty·14 Syntax.tnil)) (Syntax.ttcons Syntax.tnil Syntax.ttnil))))))))))))) Syntax.tnil) Syntax.ttnil))),
-        ) (List._∷_ (
-          12,
-          Rows.any-gone ty·3,
-        ) (List._∷_ (
-          13,
-          Mut.mslice (Referent.rtF (Referent.fInt Syntax.w16)) ty·3 10,
-        ) (List._∷_ (
-          14,
-          Rows.any-gone ty·3,
-        ) (List._∷_ (
-          15,
-          Mut.mslice (Referent.rtF (Referent.fInt Syntax.w16)) ty·3 11,
-        ) List.[])))))))))))))))
+        g7 = List._∷_ (0, Rows.any-gone ty·15) (List._∷_ (1, Rows.sslice (Referent.rtF (Referent.fInt Syntax.w8)) ty·5 0) (List._∷_ (2, Relend.mslice-owed (Referent.rtF (Referent.fInt Syntax.w16)) ty·8 1 10 (Row.lease (κs .1 .0) (qs .1 .0))) (List._∷_
+            (3, Relend.mslice-owed (Referent.rtF (Referent.fInt Syntax.w16)) ty·9 2 11 (Row.lease (κs .1 .1 .0) (qs .1 .1 .0))) (List._∷_ (4, Relend.mslice-owed (Referent.rtF (Referent.fInt Syntax.w8)) ty·6 3 12 (Row.lease (κs .1 .1 .1 .0) (qs .1 .1 .1 .0))) (List._∷_ (5, Mut.mslice (Referent.rtF (Referent.fInt Syntax.w16)) ty·10 4) (List._∷_
+            (6, Mut.mslice (Referent.rtF (Referent.fInt Syntax.w16)) ty·11 5) (List._∷_ (7, Mut.mslice (Referent.rtF (Referent.fInt Syntax.w32)) ty·12 6) (List._∷_ (8, Mut.mslice (Referent.rtF (Referent.fInt Syntax.w16)) ty·13 7) (List._∷_ (9, Mut.mslice (Referent.rtF (Referent.fInt Syntax.w8)) ty·7 8) (List._∷_ (10, Mut.mslice Rec.rt ty·1 9) (List._∷_
+            (11, Rows.any-gone (Syntax.tyEnum (List._∷_ 114 (List._∷_ 101 (List._∷_ 97 (List._∷_ 100 (List._∷_ 105 (List._∷_ 110 (List._∷_ 103 (List._∷_ 58 (List._∷_ 58 (List._∷_ 114 (List._∷_ 101 (List._∷_ 112 (List._∷_ 108 (List._∷_ 105 (List._∷_ 101 (List._∷_ 115 (List._∷_ 58 (List._∷_ 58 (List._∷_ 82 (List._∷_ 101 (List._∷_ 97 (List._∷_ 100 (List._∷_ 105 (List._∷_ 110 (List._∷_ 103 List.[]))))))))))))))))))))))))) (Syntax.ttcons Syntax.tnil (Syntax.ttcons (Syntax.tcons (Syntax.tyEnum (List._∷_ 114 (List._∷_ 101 (List._∷_ 97 (List._∷_ 100 (List._∷_ 105 (List._∷_ 110 (List._∷_ 103 (List._∷_ 58 (List._∷_ 58 (List._∷_ 114 (List._∷_ 101 (List._∷_ 112 (List._∷_ 108 (List._∷_ 105 (List._∷_ 101 (List._∷_ 115 (List._∷_ 58 (List._∷_ 58 (List._∷_ 82 (List._∷_ 101 (List._∷_ 102 (List._∷_ 117 (List._∷_ 115 (List._∷_ 97 (List._∷_ 108 List.[]))))))))))))))))))))))))) (Syntax.ttcons Syntax.tnil (Syntax.ttcons (Syntax.tcons (Syntax.tyInt Syntax.w64) Syntax.tnil) (Syntax.ttcons (Syntax.tcons (Syntax.tyInt Syntax.w64) Syntax.tnil) (Syntax.ttcons (Syntax.tcons (Syntax.tyInt Syntax.w64) Syntax.tnil) (Syntax.ttcons (Syntax.tcons (Syntax.tyInt Syntax.w64) Syntax.tnil) (Syntax.ttcons (Syntax.tcons (Syntax.tyInt Syntax.w64) Syntax.tnil) (Syntax.ttcons (Syntax.tcons (Syntax.tyInt Syntax.w64) Syntax.tnil) (Syntax.ttcons (Syntax.tcons ty·14 Syntax.tnil) (Syntax.ttcons (Syntax.tcons ty·14 Syntax.tnil) (Syntax.ttcons (Syntax.tcons ty·14 Syntax.tnil) (Syntax.ttcons (Syntax.tcons ty·14 (Syntax.tcons ty·14 Syntax.tnil)) (Syntax.ttcons Syntax.tnil Syntax.ttnil))))))))))))) Syntax.tnil) Syntax.ttnil))))
+            (List._∷_ (12, Rows.any-gone ty·3) (List._∷_ (13, Mut.mslice (Referent.rtF (Referent.fInt Syntax.w16)) ty·3 10) (List._∷_ (14, Rows.any-gone ty·3) (List._∷_ (15, Mut.mslice (Referent.rtF (Referent.fInt Syntax.w16)) ty·3 11) List.[])))))))))))))))
 
         abbrev g10 : List.List Row.Entry
-        g10 = List._∷_ (
-          0,
-          Rows.any-gone ty·15,
-        ) (List._∷_ (
-          1,
-          Rows.sslice (Referent.rtF (Referent.fInt Syntax.w8)) ty·5 0,
-        ) (List._∷_ (
-          2,
-          Relend.mslice-owed (Referent.rtF (Referent.fInt Syntax.w16)) ty·8 1 10 (Row.lease (κs .1 .0) (qs .1 .0)),
-        ) (List._∷_ (
-          3,
-          Relend.mslice-owed (Referent.rtF (Referent.fInt Syntax.w16)) ty·9 2 11 (Row.lease (κs .1 .1 .0) (qs .1 .1 .0)),
-        ) (List._∷_ (
-          4,
-          Relend.mslice-owed (Referent.rtF (Referent.fInt Syntax.w8)) ty·6 3 12 (Row.lease (κs .1 .1 .1 .0) (qs .1 .1 .1 .0)),
-        ) (List._∷_ (
-          5,
-          Relend.mslice-owed (Referent.rtF (Referent.fInt Syntax.w16)) ty·10 4 13 (Row.lease (κs .1 .1 .1 .1 .0) (qs .1 .1 .1 .1 .0)),
-        ) (List._∷_ (
-          6,
-          Mut.mslice (Referent.rtF (Referent.fInt Syntax.w16)) ty·11 5,
-        ) (List._∷_ (
-          7,
-          Mut.mslice (Referent.rtF (Referent.fInt Syntax.w32)) ty·12 6,
-        ) (List._∷_ (
-          8,
-          Mut.mslice (Referent.rtF (Referent.fInt Syntax.w16)) ty·13 7,
-        ) (List._∷_ (
-          9,
-          Mut.mslice (Referent.rtF (Referent.fInt Syntax.w8)) ty·7 8,
-        ) (List._∷_ (
-          10,
-          Mut.mslice Rec.rt ty·1 9,
-        ) (List._∷_ (
-          11,
-          Rows.any-gone (Syntax.tyEnum (List._∷_ 114 (List._∷_ 101 (List._∷_ 97 (List._∷_ 100 (List._∷_ 105 (List._∷_ 110 (List._∷_ 103 (List._∷_ 58 (List._∷_ 58 (List._∷_ 114 (List._∷_ 101 (List._∷_ 112 (List._∷_ 108 (List._∷_ 105 (List._∷_ 101 (List._∷_ 115 (List._∷_ 58 (List._∷_ 58 (List._∷_ 82 (List._∷_ 101 (List._∷_ 97 (List._∷_ 100
-              (List._∷_ 105 (List._∷_ 110 (List._∷_ 103 List.[]))))))))))))))))))))))))) (Syntax.ttcons Syntax.tnil (Syntax.ttcons (Syntax.tcons (Syntax.tyEnum (List._∷_ 114 (List._∷_ 101 (List._∷_ 97 (List._∷_ 100 (List._∷_ 105 (List._∷_ 110 (List._∷_ 103 (List._∷_ 58 (List._∷_ 58 (List._∷_ 114 (List._∷_ 101 (List._∷_ 112 (List._∷_ 108 (List._∷_ 105 (List._∷_
-              101 (List._∷_ 115 (List._∷_ 58 (List._∷_ 58 (List._∷_ 82 (List._∷_ 101 (List._∷_ 102 (List._∷_ 117 (List._∷_ 115 (List._∷_ 97 (List._∷_ 108 List.[]))))))))))))))))))))))))) (Syntax.ttcons Syntax.tnil (Syntax.ttcons (Syntax.tcons (Syntax.tyInt Syntax.w64) Syntax.tnil) (Syntax.ttcons (Syntax.tcons (Syntax.tyInt Syntax.w64) Syntax.tnil)
-              (Syntax.ttcons (Syntax.tcons (Syntax.tyInt Syntax.w64) Syntax.tnil) (Syntax.ttcons (Syntax.tcons (Syntax.tyInt Syntax.w64) Syntax.tnil) (Syntax.ttcons (Syntax.tcons (Syntax.tyInt Syntax.w64) Syntax.tnil) (Syntax.ttcons (Syntax.tcons (Syntax.tyInt Syntax.w64) Syntax.tnil) (Syntax.ttcons (Syntax.tcons ty·14 Syntax.tnil) (Syntax.ttcons (Syntax.tcons
-              ty·14 Syntax.tnil) (Syntax.ttcons (Syntax.tcons ty·14 Syntax.tnil) (Syntax.ttcons (Syntax.tcons ty·14 (Syntax.tcons ty·14 Syntax.tnil)) (Syntax.ttcons Syntax.tnil Syntax.ttnil))))))))))))) Syntax.tnil) Syntax.ttnil))),
-        ) (List._∷_ (
-          12,
-          Rows.any-gone ty·3,
-        ) (List._∷_ (
-          13,
-          Mut.mslice (Referent.rtF (Referent.fInt Syntax.w16)) ty·3 10,
-        ) (List._∷_ (
-          14,
-          Rows.any-gone ty·3,
-        ) (List._∷_ (
-          15,
-          Mut.mslice (Referent.rtF (Referent.fInt Syntax.w16)) ty·3 11,
-        ) List.[])))))))))))))))
+        g10 = List._∷_ (0, Rows.any-gone ty·15) (List._∷_ (1, Rows.sslice (Referent.rtF (Referent.fInt Syntax.w8)) ty·5 0) (List._∷_ (2, Relend.mslice-owed (Referent.rtF (Referent.fInt Syntax.w16)) ty·8 1 10 (Row.lease (κs .1 .0) (qs .1 .0))) (List._∷_
+            (3, Relend.mslice-owed (Referent.rtF (Referent.fInt Syntax.w16)) ty·9 2 11 (Row.lease (κs .1 .1 .0) (qs .1 .1 .0))) (List._∷_ (4, Relend.mslice-owed (Referent.rtF (Referent.fInt Syntax.w8)) ty·6 3 12 (Row.lease (κs .1 .1 .1 .0) (qs .1 .1 .1 .0))) (List._∷_
+            (5, Relend.mslice-owed (Referent.rtF (Referent.fInt Syntax.w16)) ty·10 4 13 (Row.lease (κs .1 .1 .1 .1 .0) (qs .1 .1 .1 .1 .0))) (List._∷_ (6, Mut.mslice (Referent.rtF (Referent.fInt Syntax.w16)) ty·11 5) (List._∷_ (7, Mut.mslice (Referent.rtF (Referent.fInt Syntax.w32)) ty·12 6) (List._∷_
+            (8, Mut.mslice (Referent.rtF (Referent.fInt Syntax.w16)) ty·13 7) (List._∷_ (9, Mut.mslice (Referent.rtF (Referent.fInt Syntax.w8)) ty·7 8) (List._∷_ (10, Mut.mslice Rec.rt ty·1 9) (List._∷_
+            (11, Rows.any-gone (Syntax.tyEnum (List._∷_ 114 (List._∷_ 101 (List._∷_ 97 (List._∷_ 100 (List._∷_ 105 (List._∷_ 110 (List._∷_ 103 (List._∷_ 58 (List._∷_ 58 (List._∷_ 114 (List._∷_ 101 (List._∷_ 112 (List._∷_ 108 (List._∷_ 105 (List._∷_ 101 (List._∷_ 115 (List._∷_ 58 (List._∷_ 58 (List._∷_ 82 (List._∷_ 101 (List._∷_ 97 (List._∷_ 100 (List._∷_ 105 (List._∷_ 110 (List._∷_ 103 List.[]))))))))))))))))))))))))) (Syntax.ttcons Syntax.tnil (Syntax.ttcons (Syntax.tcons (Syntax.tyEnum (List._∷_ 114 (List._∷_ 101 (List._∷_ 97 (List._∷_ 100 (List._∷_ 105 (List._∷_ 110 (List._∷_ 103 (List._∷_ 58 (List._∷_ 58 (List._∷_ 114 (List._∷_ 101 (List._∷_ 112 (List._∷_ 108 (List._∷_ 105 (List._∷_ 101 (List._∷_ 115 (List._∷_ 58 (List._∷_ 58 (List._∷_ 82 (List._∷_ 101 (List._∷_ 102 (List._∷_ 117 (List._∷_ 115 (List._∷_ 97 (List._∷_ 108 List.[]))))))))))))))))))))))))) (Syntax.ttcons Syntax.tnil (Syntax.ttcons (Syntax.tcons (Syntax.tyInt Syntax.w64) Syntax.tnil) (Syntax.ttcons (Syntax.tcons (Syntax.tyInt Syntax.w64) Syntax.tnil) (Syntax.ttcons (Syntax.tcons (Syntax.tyInt Syntax.w64) Syntax.tnil) (Syntax.ttcons (Syntax.tcons (Syntax.tyInt Syntax.w64) Syntax.tnil) (Syntax.ttcons (Syntax.tcons (Syntax.tyInt Syntax.w64) Syntax.tnil) (Syntax.ttcons (Syntax.tcons (Syntax.tyInt Syntax.w64) Syntax.tnil) (Syntax.ttcons (Syntax.tcons ty·14 Syntax.tnil) (Syntax.ttcons (Syntax.tcons ty·14 Syntax.tnil) (Syntax.ttcons (Syntax.tcons ty·14 Syntax.tnil) (Syntax.ttcons (Syntax.tcons ty·14 (Syntax.tcons ty·14 Syntax.tnil)) (Syntax.ttcons Syntax.tnil Syntax.ttnil))))))))))))) Syntax.tnil) Syntax.ttnil))))
+            (List._∷_ (12, Rows.any-gone ty·3) (List._∷_ (13, Mut.mslice (Referent.rtF (Referent.fInt Syntax.w16)) ty·3 10) (List._∷_ (14, Rows.any-gone ty·3) (List._∷_ (15, Mut.mslice (Referent.rtF (Referent.fInt Syntax.w16)) ty·3 11) List.[])))))))))))))))
 
         abbrev g13 : List.List Row.Entry
-        g13 = List._∷_ (
-          0,
-          Rows.any-gone ty·15,
-        ) (List._∷_ (
-          1,
-          Rows.sslice (Referent.rtF (Referent.fInt Syntax.w8)) ty·5 0,
-        ) (List._∷_ (
-          2,
-          Relend.mslice-owed (Referent.rtF (Referent.fInt Syntax.w16)) ty·8 1 10 (Row.lease (κs .1 .0) (qs .1 .0)),
-        ) (List._∷_ (
-          3,
-          Relend.mslice-owed (Referent.rtF (Referent.fInt Syntax.w16)) ty·9 2 11 (Row.lease (κs .1 .1 .0) (qs .1 .1 .0)),
-        ) (List._∷_ (
-          4,
-          Relend.mslice-owed (Referent.rtF (Referent.fInt Syntax.w8)) ty·6 3 12 (Row.lease (κs .1 .1 .1 .0) (qs .1 .1 .1 .0)),
-        ) (List._∷_ (
-          5,
-          Relend.mslice-owed (Referent.rtF (Referent.fInt Syntax.w16)) ty·10 4 13 (Row.lease (κs .1 .1 .1 .1 .0) (qs .1 .1 .1 .1 .0)),
-        ) (List._∷_ (
-          6,
-          Relend.mslice-owed (Referent.rtF (Referent.fInt Syntax.w16)) ty·11 5 14 (Row.lease (κs .1 .1 .1 .1 .1 .0) (qs .1 .1 .1 .1 .1 .0)),
-        ) (List._∷_ (
-          7,
-          Mut.mslice (Referent.rtF (Referent.fInt Syntax.w32)) ty·12 6,
-        ) (List._∷_ (
-          8,
-          Mut.mslice (Referent.rtF (Referent.fInt Syntax.w16)) ty·13 7,
-        ) (List._∷_ (
-          9,
-          Mut.mslice (Referent.rtF (Referent.fInt Syntax.w8)) ty·7 8,
-        ) (List._∷_ (
-          10,
-          Mut.mslice Rec.rt ty·1 9,
-        ) (List._∷_ (
-          11,
-          Rows.any-gone (Syntax.tyEnum (List._∷_ 114 (List._∷_ 101 (List._∷_ 97 (List._∷_ 100 (List._∷_ 105 (List._∷_ 110 (List._∷_ 103 (List._∷_ 58 (List._∷_ 58 (List._∷_ 114 (List._∷_ 101 (List._∷_ 112 (List._∷_ 108 (List._∷_ 105 (List._∷_ 101 (List._∷_ 115 (List._∷_ 58 (List._∷_ 58 (List._∷_ 82 (List._∷_ 101 (List._∷_ 97 (List._∷_ 100
-              (List._∷_ 105 (List._∷_ 110 (List._∷_ 103 List.[]))))))))))))))))))))))))) (Syntax.ttcons Syntax.tnil (Syntax.ttcons (Syntax.tcons (Syntax.tyEnum (List._∷_ 114 (List._∷_ 101 (List._∷_ 97 (List._∷_ 100 (List._∷_ 105 (List._∷_ 110 (List._∷_ 103 (List._∷_ 58 (List._∷_ 58 (List._∷_ 114 (List._∷_ 101 (List._∷_ 112 (List._∷_ 108 (List._∷_ 105 (List._∷_
-              101 (List._∷_ 115 (List._∷_ 58 (List._∷_ 58 (List._∷_ 82 (List._∷_ 101 (List._∷_ 102 (List._∷_ 117 (List._∷_ 115 (List._∷_ 97 (List._∷_ 108 List.[]))))))))))))))))))))))))) (Syntax.ttcons Syntax.tnil (Syntax.ttcons (Syntax.tcons (Syntax.tyInt Syntax.w64) Syntax.tnil) (Syntax.ttcons (Syntax.tcons (Syntax.tyInt Syntax.w64) Syntax.tnil)
-              (Syntax.ttcons (Syntax.tcons (Syntax.tyInt Syntax.w64) Syntax.tnil) (Syntax.ttcons (Syntax.tcons (Syntax.tyInt Syntax.w64) Syntax.tnil) (Syntax.ttcons (Syntax.tcons (Syntax.tyInt Syntax.w64) Syntax.tnil) (Syntax.ttcons (Syntax.tcons (Syntax.tyInt Syntax.w64) Syntax.tnil) (Syntax.ttcons (Syntax.tcons ty·14 Syntax.tnil) (Syntax.ttcons (Syntax.tcons
-              ty·14 Syntax.tnil) (Syntax.ttcons (Syntax.tcons ty·14 Syntax.tnil) (Syntax.ttcons (Syntax.tcons ty·14 (Syntax.tcons ty·14 Syntax.tnil)) (Syntax.ttcons Syntax.tnil Syntax.ttnil))))))))))))) Syntax.tnil) Syntax.ttnil))),
-        ) (List._∷_ (
-          12,
-          Rows.any-gone ty·3,
-        ) (List._∷_ (
-          13,
-          Mut.mslice (Referent.rtF (Referent.fInt Syntax.w16)) ty·3 10,
-        ) (List._∷_ (
-          14,
-          Rows.any-gone ty·3,
-        ) (List._∷_ (
-          15,
-          Mut.mslice (Referent.rtF (Referent.fInt Syntax.w16)) ty·3 11,
-        ) List.[])))))))))))))))
+        g13 = List._∷_ (0, Rows.any-gone ty·15) (List._∷_ (1, Rows.sslice (Referent.rtF (Referent.fInt Syntax.w8)) ty·5 0) (List._∷_ (2, Relend.mslice-owed (Referent.rtF (Referent.fInt Syntax.w16)) ty·8 1 10 (Row.lease (κs .1 .0) (qs .1 .0))) (List._∷_
+            (3, Relend.mslice-owed (Referent.rtF (Referent.fInt Syntax.w16)) ty·9 2 11 (Row.lease (κs .1 .1 .0) (qs .1 .1 .0))) (List._∷_ (4, Relend.mslice-owed (Referent.rtF (Referent.fInt Syntax.w8)) ty·6 3 12 (Row.lease (κs .1 .1 .1 .0) (qs .1 .1 .1 .0))) (List._∷_
+            (5, Relend.mslice-owed (Referent.rtF (Referent.fInt Syntax.w16)) ty·10 4 13 (Row.lease (κs .1 .1 .1 .1 .0) (qs .1 .1 .1 .1 .0))) (List._∷_ (6, Relend.mslice-owed (Referent.rtF (Referent.fInt Syntax.w16)) ty·11 5 14 (Row.lease (κs .1 .1 .1 .1 .1 .0) (qs .1 .1 .1 .1 .1 .0))) (List._∷_ (7, Mut.mslice (Referent.rtF (Referent.fInt Syntax.w32)) ty·12 6)
+            (List._∷_ (8, Mut.mslice (Referent.rtF (Referent.fInt Syntax.w16)) ty·13 7) (List._∷_ (9, Mut.mslice (Referent.rtF (Referent.fInt Syntax.w8)) ty·7 8) (List._∷_ (10, Mut.mslice Rec.rt ty·1 9) (List._∷_
+            (11, Rows.any-gone (Syntax.tyEnum (List._∷_ 114 (List._∷_ 101 (List._∷_ 97 (List._∷_ 100 (List._∷_ 105 (List._∷_ 110 (List._∷_ 103 (List._∷_ 58 (List._∷_ 58 (List._∷_ 114 (List._∷_ 101 (List._∷_ 112 (List._∷_ 108 (List._∷_ 105 (List._∷_ 101 (List._∷_ 115 (List._∷_ 58 (List._∷_ 58 (List._∷_ 82 (List._∷_ 101 (List._∷_ 97 (List._∷_ 100 (List._∷_ 105 (List._∷_ 110 (List._∷_ 103 List.[]))))))))))))))))))))))))) (Syntax.ttcons Syntax.tnil (Syntax.ttcons (Syntax.tcons (Syntax.tyEnum (List._∷_ 114 (List._∷_ 101 (List._∷_ 97 (List._∷_ 100 (List._∷_ 105 (List._∷_ 110 (List._∷_ 103 (List._∷_ 58 (List._∷_ 58 (List._∷_ 114 (List._∷_ 101 (List._∷_ 112 (List._∷_ 108 (List._∷_ 105 (List._∷_ 101 (List._∷_ 115 (List._∷_ 58 (List._∷_ 58 (List._∷_ 82 (List._∷_ 101 (List._∷_ 102 (List._∷_ 117 (List._∷_ 115 (List._∷_ 97 (List._∷_ 108 List.[]))))))))))))))))))))))))) (Syntax.ttcons Syntax.tnil (Syntax.ttcons (Syntax.tcons (Syntax.tyInt Syntax.w64) Syntax.tnil) (Syntax.ttcons (Syntax.tcons (Syntax.tyInt Syntax.w64) Syntax.tnil) (Syntax.ttcons (Syntax.tcons (Syntax.tyInt Syntax.w64) Syntax.tnil) (Syntax.ttcons (Syntax.tcons (Syntax.tyInt Syntax.w64) Syntax.tnil) (Syntax.ttcons (Syntax.tcons (Syntax.tyInt Syntax.w64) Syntax.tnil) (Syntax.ttcons (Syntax.tcons (Syntax.tyInt Syntax.w64) Syntax.tnil) (Syntax.ttcons (Syntax.tcons ty·14 Syntax.tnil) (Syntax.ttcons (Syntax.tcons ty·14 Syntax.tnil) (Syntax.ttcons (Syntax.tcons ty·14 Syntax.tnil) (Syntax.ttcons (Syntax.tcons ty·14 (Syntax.tcons ty·14 Syntax.tnil)) (Syntax.ttcons Syntax.tnil Syntax.ttnil))))))))))))) Syntax.tnil) Syntax.ttnil))))
+            (List._∷_ (12, Rows.any-gone ty·3) (List._∷_ (13, Mut.mslice (Referent.rtF (Referent.fInt Syntax.w16)) ty·3 10) (List._∷_ (14, Rows.any-gone ty·3) (List._∷_ (15, Mut.mslice (Referent.rtF (Referent.fInt Syntax.w16)) ty·3 11) List.[])))))))))))))))
 
         abbrev g16 : List.List Row.Entry
-        g16 = List._∷_ (
-          0,
-          Rows.any-gone ty·15,
-        ) (List._∷_ (
-          1,
-          Rows.sslice (Referent.rtF (Referent.fInt Syntax.w8)) ty·5 0,
-        ) (List._∷_ (
-          2,
-          Relend.mslice-owed (Referent.rtF (Referent.fInt Syntax.w16)) ty·8 1 10 (Row.lease (κs .1 .0) (qs .1 .0)),
-        ) (List._∷_ (
-          3,
-          Relend.mslice-owed (Referent.rtF (Referent.fInt Syntax.w16)) ty·9 2 11 (Row.lease (κs .1 .1 .0) (qs .1 .1 .0)),
-        ) (List._∷_ (
-          4,
-          Relend.mslice-owed (Referent.rtF (Referent.fInt Syntax.w8)) ty·6 3 12 (Row.lease (κs .1 .1 .1 .0) (qs .1 .1 .1 .0)),
-        ) (List._∷_ (
-          5,
-          Relend.mslice-owed (Referent.rtF (Referent.fInt Syntax.w16)) ty·10 4 13 (Row.lease (κs .1 .1 .1 .1 .0) (qs .1 .1 .1 .1 .0)),
-        ) (List._∷_ (
-          6,
-          Relend.mslice-owed (Referent.rtF (Referent.fInt Syntax.w16)) ty·11 5 14 (Row.lease (κs .1 .1 .1 .1 .1 .0) (qs .1 .1 .1 .1 .1 .0)),
-        ) (List._∷_ (
-          7,
-          Relend.mslice-owed (Referent.rtF (Referent.fInt Syntax.w32)) ty·12 6 15 (Row.lease (κs .1 .1 .1 .1 .1 .1 .0) (qs .1 .1 .1 .1 .1 .1 .0)),
-        ) (List._∷_ (
-          8,
-          Mut.mslice (Referent.rtF (Referent.fInt Syntax.w16)) ty·13 7,
-        ) (List._∷_ (
-          9,
-          Mut.mslice (Referent.rtF (Referent.fInt Syntax.w8)) ty·7 8,
-        ) (List._∷_ (
-          10,
-          Mut.mslice Rec.rt ty·1 9,
-        ) (List._∷_ (
-          11,
-          Rows.any-gone (Syntax.tyEnum (List._∷_ 114 (List._∷_ 101 (List._∷_ 97 (List._∷_ 100 (List._∷_ 105 (List._∷_ 110 (List._∷_ 103 (List._∷_ 58 (List._∷_ 58 (List._∷_ 114 (List._∷_ 101 (List._∷_ 112 (List._∷_ 108 (List._∷_ 105 (List._∷_ 101 (List._∷_ 115 (List._∷_ 58 (List._∷_ 58 (List._∷_ 82 (List._∷_ 101 (List._∷_ 97 (List._∷_ 100
-              (List._∷_ 105 (List._∷_ 110 (List._∷_ 103 List.[]))))))))))))))))))))))))) (Syntax.ttcons Syntax.tnil (Syntax.ttcons (Syntax.tcons (Syntax.tyEnum (List._∷_ 114 (List._∷_ 101 (List._∷_ 97 (List._∷_ 100 (List._∷_ 105 (List._∷_ 110 (List._∷_ 103 (List._∷_ 58 (List._∷_ 58 (List._∷_ 114 (List._∷_ 101 (List._∷_ 112 (List._∷_ 108 (List._∷_ 105 (List._∷_
-              101 (List._∷_ 115 (List._∷_ 58 (List._∷_ 58 (List._∷_ 82 (List._∷_ 101 (List._∷_ 102 (List._∷_ 117 (List._∷_ 115 (List._∷_ 97 (List._∷_ 108 List.[]))))))))))))))))))))))))) (Syntax.ttcons Syntax.tnil (Syntax.ttcons (Syntax.tcons (Syntax.tyInt Syntax.w64) Syntax.tnil) (Syntax.ttcons (Syntax.tcons (Syntax.tyInt Syntax.w64) Syntax.tnil)
-              (Syntax.ttcons (Syntax.tcons (Syntax.tyInt Syntax.w64) Syntax.tnil) (Syntax.ttcons (Syntax.tcons (Syntax.tyInt Syntax.w64) Syntax.tnil) (Syntax.ttcons (Syntax.tcons (Syntax.tyInt Syntax.w64) Syntax.tnil) (Syntax.ttcons (Syntax.tcons (Syntax.tyInt Syntax.w64) Syntax.tnil) (Syntax.ttcons (Syntax.tcons ty·14 Syntax.tnil) (Syntax.ttcons (Syntax.tcons
-              ty·14 Syntax.tnil) (Syntax.ttcons (Syntax.tcons ty·14 Syntax.tnil) (Syntax.ttcons (Syntax.tcons ty·14 (Syntax.tcons ty·14 Syntax.tnil)) (Syntax.ttcons Syntax.tnil Syntax.ttnil))))))))))))) Syntax.tnil) Syntax.ttnil))),
-        ) (List._∷_ (
-          12,
-          Rows.any-gone ty·3,
-        ) (List._∷_ (
-          13,
-          Mut.mslice (Referent.rtF (Referent.fInt Syntax.w16)) ty·3 10,
-        ) (List._∷_ (
-          14,
-          Rows.any-gone ty·3,
-        ) (List._∷_ (
-          15,
-          Mut.mslice (Referent.rtF (Referent.fInt Syntax.w16)) ty·3 11,
-        ) List.[])))))))))))))))
+        g16 = List._∷_ (0, Rows.any-gone ty·15) (List._∷_ (1, Rows.sslice (Referent.rtF (Referent.fInt Syntax.w8)) ty·5 0) (List._∷_ (2, Relend.mslice-owed (Referent.rtF (Referent.fInt Syntax.w16)) ty·8 1 10 (Row.lease (κs .1 .0) (qs .1 .0))) (List._∷_
+            (3, Relend.mslice-owed (Referent.rtF (Referent.fInt Syntax.w16)) ty·9 2 11 (Row.lease (κs .1 .1 .0) (qs .1 .1 .0))) (List._∷_ (4, Relend.mslice-owed (Referent.rtF (Referent.fInt Syntax.w8)) ty·6 3 12 (Row.lease (κs .1 .1 .1 .0) (qs .1 .1 .1 .0))) (List._∷_
+            (5, Relend.mslice-owed (Referent.rtF (Referent.fInt Syntax.w16)) ty·10 4 13 (Row.lease (κs .1 .1 .1 .1 .0) (qs .1 .1 .1 .1 .0))) (List._∷_ (6, Relend.mslice-owed (Referent.rtF (Referent.fInt Syntax.w16)) ty·11 5 14 (Row.lease (κs .1 .1 .1 .1 .1 .0) (qs .1 .1 .1 .1 .1 .0))) (List._∷_
+            (7, Relend.mslice-owed (Referent.rtF (Referent.fInt Syntax.w32)) ty·12 6 15 (Row.lease (κs .1 .1 .1 .1 .1 .1 .0) (qs .1 .1 .1 .1 .1 .1 .0))) (List._∷_ (8, Mut.mslice (Referent.rtF (Referent.fInt Syntax.w16)) ty·13 7) (List._∷_ (9, Mut.mslice (Referent.rtF (Referent.fInt Syntax.w8)) ty·7 8) (List._∷_ (10, Mut.mslice Rec.rt ty·1 9) (List._∷_
+            (11, Rows.any-gone (Syntax.tyEnum (List._∷_ 114 (List._∷_ 101 (List._∷_ 97 (List._∷_ 100 (List._∷_ 105 (List._∷_ 110 (List._∷_ 103 (List._∷_ 58 (List._∷_ 58 (List._∷_ 114 (List._∷_ 101 (List._∷_ 112 (List._∷_ 108 (List._∷_ 105 (List._∷_ 101 (List._∷_ 115 (List._∷_ 58 (List._∷_ 58 (List._∷_ 82 (List._∷_ 101 (List._∷_ 97 (List._∷_ 100 (List._∷_ 105 (List._∷_ 110 (List._∷_ 103 List.[]))))))))))))))))))))))))) (Syntax.ttcons Syntax.tnil (Syntax.ttcons (Syntax.tcons (Syntax.tyEnum (List._∷_ 114 (List._∷_ 101 (List._∷_ 97 (List._∷_ 100 (List._∷_ 105 (List._∷_ 110 (List._∷_ 103 (List._∷_ 58 (List._∷_ 58 (List._∷_ 114 (List._∷_ 101 (List._∷_ 112 (List._∷_ 108 (List._∷_ 105 (List._∷_ 101 (List._∷_ 115 (List._∷_ 58 (List._∷_ 58 (List._∷_ 82 (List._∷_ 101 (List._∷_ 102 (List._∷_ 117 (List._∷_ 115 (List._∷_ 97 (List._∷_ 108 List.[]))))))))))))))))))))))))) (Syntax.ttcons Syntax.tnil (Syntax.ttcons (Syntax.tcons (Syntax.tyInt Syntax.w64) Syntax.tnil) (Syntax.ttcons (Syntax.tcons (Syntax.tyInt Syntax.w64) Syntax.tnil) (Syntax.ttcons (Syntax.tcons (Syntax.tyInt Syntax.w64) Syntax.tnil) (Syntax.ttcons (Syntax.tcons (Syntax.tyInt Syntax.w64) Syntax.tnil) (Syntax.ttcons (Syntax.tcons (Syntax.tyInt Syntax.w64) Syntax.tnil) (Syntax.ttcons (Syntax.tcons (Syntax.tyInt Syntax.w64) Syntax.tnil) (Syntax.ttcons (Syntax.tcons ty·14 Syntax.tnil) (Syntax.ttcons (Syntax.tcons ty·14 Syntax.tnil) (Syntax.ttcons (Syntax.tcons ty·14 Syntax.tnil) (Syntax.ttcons (Syntax.tcons ty·14 (Syntax.tcons ty·14 Syntax.tnil)) (Syntax.ttcons Syntax.tnil Syntax.ttnil))))))))))))) Syntax.tnil) Syntax.ttnil))))
+            (List._∷_ (12, Rows.any-gone ty·3) (List._∷_ (13, Mut.mslice (Referent.rtF (Referent.fInt Syntax.w16)) ty·3 10) (List._∷_ (14, Rows.any-gone ty·3) (List._∷_ (15, Mut.mslice (Referent.rtF (Referent.fInt Syntax.w16)) ty·3 11) List.[])))))))))))))))
 
         abbrev g19 : List.List Row.Entry
-        g19 = List._∷_ (
-          0,
-          Rows.any-gone ty·15,
-        ) (List._∷_ (
-          1,
-          Rows.sslice (Referent.rtF (Referent.fInt Syntax.w8)) ty·5 0,
-        ) (List._∷_ (
-          2,
-          Relend.mslice-owed (Referent.rtF (Referent.fInt Syntax.w16)) ty·8 1 10 (Row.lease (κs .1 .0) (qs .1 .0)),
-        ) (List._∷_ (
-          3,
-          Relend.mslice-owed (Referent.rtF (Referent.fInt Syntax.w16)) ty·9 2 11 (Row.lease (κs .1 .1 .0) (qs .1 .1 .0)),
-        ) (List._∷_ (
-          4,
-          Relend.mslice-owed (Referent.rtF (Referent.fInt Syntax.w8)) ty·6 3 12 (Row.lease (κs .1 .1 .1 .0) (qs .1 .1 .1 .0)),
-        ) (List._∷_ (
-          5,
-          Relend.mslice-owed (Referent.rtF (Referent.fInt Syntax.w16)) ty·10 4 13 (Row.lease (κs .1 .1 .1 .1 .0) (qs .1 .1 .1 .1 .0)),
-        ) (List._∷_ (
-          6,
-          Relend.mslice-owed (Referent.rtF (Referent.fInt Syntax.w16)) ty·11 5 14 (Row.lease (κs .1 .1 .1 .1 .1 .0) (qs .1 .1 .1 .1 .1 .0)),
-        ) (List._∷_ (
-          7,
-          Relend.mslice-owed (Referent.rtF (Referent.fInt Syntax.w32)) ty·12 6 15 (Row.lease (κs .1 .1 .1 .1 .1 .1 .0) (qs .1 .1 .1 .1 .1 .1 .0)),
-        ) (List._∷_ (
-          8,
-          Relend.mslice-owed (Referent.rtF (Referent.fInt Syntax.w16)) ty·13 7 16 (Row.lease (κs .1 .1 .1 .1 .1 .1 .1 .0) (qs .1 .1 .1 .1 .1 .1 .1 .0)),
-        ) (List._∷_ (
-          9,
-          Mut.mslice (Referent.rtF (Referent.fInt Syntax.w8)) ty·7 8,
-        ) (List._∷_ (
-          10,
-          Mut.mslice Rec.rt ty·1 9,
-        ) (List._∷_ (
-          11,
-          Rows.any-gone (Syntax.tyEnum (List._∷_ 114 (List._∷_ 101 (List._∷_ 97 (List._∷_ 100 (List._∷_ 105 (List._∷_ 110 (List._∷_ 103 (List._∷_ 58 (List._∷_ 58 (List._∷_ 114 (List._∷_ 101 (List._∷_ 112 (List._∷_ 108 (List._∷_ 105 (List._∷_ 101 (List._∷_ 115 (List._∷_ 58 (List._∷_ 58 (List._∷_ 82 (List._∷_ 101 (List._∷_ 97 (List._∷_ 100
-              (List._∷_ 105 (List._∷_ 110 (List._∷_ 103 List.[]))))))))))))))))))))))))) (Syntax.ttcons Syntax.tnil (Syntax.ttcons (Syntax.tcons (Syntax.tyEnum (List._∷_ 114 (List._∷_ 101 (List._∷_ 97 (List._∷_ 100 (List._∷_ 105 (List._∷_ 110 (List._∷_ 103 (List._∷_ 58 (List._∷_ 58 (List._∷_ 114 (List._∷_ 101 (List._∷_ 112 (List._∷_ 108 (List._∷_ 105 (List._∷_
-              101 (List._∷_ 115 (List._∷_ 58 (List._∷_ 58 (List._∷_ 82 (List._∷_ 101 (List._∷_ 102 (List._∷_ 117 (List._∷_ 115 (List._∷_ 97 (List._∷_ 108 List.[]))))))))))))))))))))))))) (Syntax.ttcons Syntax.tnil (Syntax.ttcons (Syntax.tcons (Syntax.tyInt Syntax.w64) Syntax.tnil) (Syntax.ttcons (Syntax.tcons (Syntax.tyInt Syntax.w64) Syntax.tnil)
-              (Syntax.ttcons (Syntax.tcons (Syntax.tyInt Syntax.w64) Syntax.tnil) (Syntax.ttcons (Syntax.tcons (Syntax.tyInt Syntax.w64) Syntax.tnil) (Syntax.ttcons (Syntax.tcons (Syntax.tyInt Syntax.w64) Syntax.tnil) (Syntax.ttcons (Syntax.tcons (Syntax.tyInt Syntax.w64) Syntax.tnil) (Syntax.ttcons (Syntax.tcons ty·14 Syntax.tnil) (Syntax.ttcons (Syntax.tcons
-              ty·14 Syntax.tnil) (Syntax.ttcons (Syntax.tcons ty·14 Syntax.tnil) (Syntax.ttcons (Syntax.tcons ty·14 (Syntax.tcons ty·14 Syntax.tnil)) (Syntax.ttcons Syntax.tnil Syntax.ttnil))))))))))))) Syntax.tnil) Syntax.ttnil))),
-        ) (List._∷_ (
-          12,
-          Rows.any-gone ty·3,
-        ) (List._∷_ (
-          13,
-          Mut.mslice (Referent.rtF (Referent.fInt Syntax.w16)) ty·3 10,
-        ) (List._∷_ (
-          14,
-          Rows.any-gone ty·3,
-        ) (List._∷_ (
-          15,
-          Mut.mslice (Referent.rtF (Referent.fInt Syntax.w16)) ty·3 11,
-        ) List.[])))))))))))))))
+        g19 = List._∷_ (0, Rows.any-gone ty·15) (List._∷_ (1, Rows.sslice (Referent.rtF (Referent.fInt Syntax.w8)) ty·5 0) (List._∷_ (2, Relend.mslice-owed (Referent.rtF (Referent.fInt Syntax.w16)) ty·8 1 10 (Row.lease (κs .1 .0) (qs .1 .0))) (List._∷_
+            (3, Relend.mslice-owed (Referent.rtF (Referent.fInt Syntax.w16)) ty·9 2 11 (Row.lease (κs .1 .1 .0) (qs .1 .1 .0))) (List._∷_ (4, Relend.mslice-owed (Referent.rtF (Referent.fInt Syntax.w8)) ty·6 3 12 (Row.lease (κs .1 .1 .1 .0) (qs .1 .1 .1 .0))) (List._∷_
+            (5, Relend.mslice-owed (Referent.rtF (Referent.fInt Syntax.w16)) ty·10 4 13 (Row.lease (κs .1 .1 .1 .1 .0) (qs .1 .1 .1 .1 .0))) (List._∷_ (6, Relend.mslice-owed (Referent.rtF (Referent.fInt Syntax.w16)) ty·11 5 14 (Row.lease (κs .1 .1 .1 .1 .1 .0) (qs .1 .1 .1 .1 .1 .0))) (List._∷_
+            (7, Relend.mslice-owed (Referent.rtF (Referent.fInt Syntax.w32)) ty·12 6 15 (Row.lease (κs .1 .1 .1 .1 .1 .1 .0) (qs .1 .1 .1 .1 .1 .1 .0))) (List._∷_ (8, Relend.mslice-owed (Referent.rtF (Referent.fInt Syntax.w16)) ty·13 7 16 (Row.lease (κs .1 .1 .1 .1 .1 .1 .1 .0) (qs .1 .1 .1 .1 .1 .1 .1 .0))) (List._∷_
+            (9, Mut.mslice (Referent.rtF (Referent.fInt Syntax.w8)) ty·7 8) (List._∷_ (10, Mut.mslice Rec.rt ty·1 9) (List._∷_
+            (11, Rows.any-gone (Syntax.tyEnum (List._∷_ 114 (List._∷_ 101 (List._∷_ 97 (List._∷_ 100 (List._∷_ 105 (List._∷_ 110 (List._∷_ 103 (List._∷_ 58 (List._∷_ 58 (List._∷_ 114 (List._∷_ 101 (List._∷_ 112 (List._∷_ 108 (List._∷_ 105 (List._∷_ 101 (List._∷_ 115 (List._∷_ 58 (List._∷_ 58 (List._∷_ 82 (List._∷_ 101 (List._∷_ 97 (List._∷_ 100 (List._∷_ 105 (List._∷_ 110 (List._∷_ 103 List.[]))))))))))))))))))))))))) (Syntax.ttcons Syntax.tnil (Syntax.ttcons (Syntax.tcons (Syntax.tyEnum (List._∷_ 114 (List._∷_ 101 (List._∷_ 97 (List._∷_ 100 (List._∷_ 105 (List._∷_ 110 (List._∷_ 103 (List._∷_ 58 (List._∷_ 58 (List._∷_ 114 (List._∷_ 101 (List._∷_ 112 (List._∷_ 108 (List._∷_ 105 (List._∷_ 101 (List._∷_ 115 (List._∷_ 58 (List._∷_ 58 (List._∷_ 82 (List._∷_ 101 (List._∷_ 102 (List._∷_ 117 (List._∷_ 115 (List._∷_ 97 (List._∷_ 108 List.[]))))))))))))))))))))))))) (Syntax.ttcons Syntax.tnil (Syntax.ttcons (Syntax.tcons (Syntax.tyInt Syntax.w64) Syntax.tnil) (Syntax.ttcons (Syntax.tcons (Syntax.tyInt Syntax.w64) Syntax.tnil) (Syntax.ttcons (Syntax.tcons (Syntax.tyInt Syntax.w64) Syntax.tnil) (Syntax.ttcons (Syntax.tcons (Syntax.tyInt Syntax.w64) Syntax.tnil) (Syntax.ttcons (Syntax.tcons (Syntax.tyInt Syntax.w64) Syntax.tnil) (Syntax.ttcons (Syntax.tcons (Syntax.tyInt Syntax.w64) Syntax.tnil) (Syntax.ttcons (Syntax.tcons ty·14 Syntax.tnil) (Syntax.ttcons (Syntax.tcons ty·14 Syntax.tnil) (Syntax.ttcons (Syntax.tcons ty·14 Syntax.tnil) (Syntax.ttcons (Syntax.tcons ty·14 (Syntax.tcons ty·14 Syntax.tnil)) (Syntax.ttcons Syntax.tnil Syntax.ttnil))))))))))))) Syntax.tnil) Syntax.ttnil))))
+            (List._∷_ (12, Rows.any-gone ty·3) (List._∷_ (13, Mut.mslice (Referent.rtF (Referent.fInt Syntax.w16)) ty·3 10) (List._∷_ (14, Rows.any-gone ty·3) (List._∷_ (15, Mut.mslice (Referent.rtF (Referent.fInt Syntax.w16)) ty·3 11) List.[])))))))))))))))
 
         abbrev g22 : List.List Row.Entry
-        g22 = List._∷_ (
-          0,
-          Rows.any-gone ty·15,
-        ) (List._∷_ (
-          1,
-          Rows.sslice (Referent.rtF (Referent.fInt Syntax.w8)) ty·5 0,
-        ) (List._∷_ (
-          2,
-          Relend.mslice-owed (Referent.rtF (Referent.fInt Syntax.w16)) ty·8 1 10 (Row.lease (κs .1 .0) (qs .1 .0)),
-        ) (List._∷_ (
-          3,
-          Relend.mslice-owed (Referent.rtF (Referent.fInt Syntax.w16)) ty·9 2 11 (Row.lease (κs .1 .1 .0) (qs .1 .1 .0)),
-        ) (List._∷_ (
-          4,
-          Relend.mslice-owed (Referent.rtF (Referent.fInt Syntax.w8)) ty·6 3 12 (Row.lease (κs .1 .1 .1 .0) (qs .1 .1 .1 .0)),
-        ) (List._∷_ (
-          5,
-          Relend.mslice-owed (Referent.rtF (Referent.fInt Syntax.w16)) ty·10 4 13 (Row.lease (κs .1 .1 .1 .1 .0) (qs .1 .1 .1 .1 .0)),
-        ) (List._∷_ (
-          6,
-          Relend.mslice-owed (Referent.rtF (Referent.fInt Syntax.w16)) ty·11 5 14 (Row.lease (κs .1 .1 .1 .1 .1 .0) (qs .1 .1 .1 .1 .1 .0)),
-        ) (List._∷_ (
-          7,
-          Relend.mslice-owed (Referent.rtF (Referent.fInt Syntax.w32)) ty·12 6 15 (Row.lease (κs .1 .1 .1 .1 .1 .1 .0) (qs .1 .1 .1 .1 .1 .1 .0)),
-        ) (List._∷_ (
-          8,
-          Relend.mslice-owed (Referent.rtF (Referent.fInt Syntax.w16)) ty·13 7 16 (Row.lease (κs .1 .1 .1 .1 .1 .1 .1 .0) (qs .1 .1 .1 .1 .1 .1 .1 .0)),
-        ) (List._∷_ (
-          9,
-          Relend.mslice-owed (Referent.rtF (Referent.fInt Syntax.w8)) ty·7 8 17 (Row.lease (κs .1 .1 .1 .1 .1 .1 .1 .1 .0) (qs .1 .1 .1 .1 .1 .1 .1 .1 .0)),
-        ) (List._∷_ (
-          10,
-          Mut.mslice Rec.rt ty·1 9,
-        ) (List._∷_ (
-          11,
-          Rows.any-gone (Syntax.tyEnum (List._∷_ 114 (List._∷_ 101 (List._∷_ 97 (List._∷_ 100 (List._∷_ 105 (List._∷_ 110 (List._∷_ 103 (List._∷_ 58 (List._∷_ 58 (List._∷_ 114 (List._∷_ 101 (List._∷_ 112 (List._∷_ 108 (List._∷_ 105 (List._∷_ 101 (List._∷_ 115 (List._∷_ 58 (List._∷_ 58 (List._∷_ 82 (List._∷_ 101 (List._∷_ 97 (List._∷_ 100
-              (List._∷_ 105 (List._∷_ 110 (List._∷_ 103 List.[]))))))))))))))))))))))))) (Syntax.ttcons Syntax.tnil (Syntax.ttcons (Syntax.tcons (Syntax.tyEnum (List._∷_ 114 (List._∷_ 101 (List._∷_ 97 (List._∷_ 100 (List._∷_ 105 (List._∷_ 110 (List._∷_ 103 (List._∷_ 58 (List._∷_ 58 (List._∷_ 114 (List._∷_ 101 (List._∷_ 112 (List._∷_ 108 (List._∷_ 105 (List._∷_
-              101 (List._∷_ 115 (List._∷_ 58 (List._∷_ 58 (List._∷_ 82 (List._∷_ 101 (List._∷_ 102 (List._∷_ 117 (List._∷_ 115 (List._∷_ 97 (List._∷_ 108 List.[]))))))))))))))))))))))))) (Syntax.ttcons Syntax.tnil (Syntax.ttcons (Syntax.tcons (Syntax.tyInt Syntax.w64) Syntax.tnil) (Syntax.ttcons (Syntax.tcons (Syntax.tyInt Syntax.w64) Syntax.tnil)
-              (Syntax.ttcons (Syntax.tcons (Syntax.tyInt Syntax.w64) Syntax.tnil) (Syntax.ttcons (Syntax.tcons (Syntax.tyInt Syntax.w64) Syntax.tnil) (Syntax.ttcons (Syntax.tcons (Syntax.tyInt Syntax.w64) Syntax.tnil) (Syntax.ttcons (Syntax.tcons (Syntax.tyInt Syntax.w64) Syntax.tnil) (Syntax.ttcons (Syntax.tcons ty·14 Syntax.tnil) (Syntax.ttcons (Syntax.tcons
-              ty·14 Syntax.tnil) (Syntax.ttcons (Syntax.tcons ty·14 Syntax.tnil) (Syntax.ttcons (Syntax.tcons ty·14 (Syntax.tcons ty·14 Syntax.tnil)) (Syntax.ttcons Syntax.tnil Syntax.ttnil))))))))))))) Syntax.tnil) Syntax.ttnil))),
-        ) (List._∷_ (
-          12,
-          Rows.any-gone ty·3,
-        ) (List._∷_ (
-          13,
-          Mut.mslice (Referent.rtF (Referent.fInt Syntax.w16)) ty·3 10,
-        ) (List._∷_ (
-          14,
-          Rows.any-gone ty·3,
-        ) (List._∷_ (
-          15,
-          Mut.mslice (Referent.rtF (Referent.fInt Syntax.w16)) ty·3 11,
-        ) List.[])))))))))))))))
+        g22 = List._∷_ (0, Rows.any-gone ty·15) (List._∷_ (1, Rows.sslice (Referent.rtF (Referent.fInt Syntax.w8)) ty·5 0) (List._∷_ (2, Relend.mslice-owed (Referent.rtF (Referent.fInt Syntax.w16)) ty·8 1 10 (Row.lease (κs .1 .0) (qs .1 .0))) (List._∷_
+            (3, Relend.mslice-owed (Referent.rtF (Referent.fInt Syntax.w16)) ty·9 2 11 (Row.lease (κs .1 .1 .0) (qs .1 .1 .0))) (List._∷_ (4, Relend.mslice-owed (Referent.rtF (Referent.fInt Syntax.w8)) ty·6 3 12 (Row.lease (κs .1 .1 .1 .0) (qs .1 .1 .1 .0))) (List._∷_
+            (5, Relend.mslice-owed (Referent.rtF (Referent.fInt Syntax.w16)) ty·10 4 13 (Row.lease (κs .1 .1 .1 .1 .0) (qs .1 .1 .1 .1 .0))) (List._∷_ (6, Relend.mslice-owed (Referent.rtF (Referent.fInt Syntax.w16)) ty·11 5 14 (Row.lease (κs .1 .1 .1 .1 .1 .0) (qs .1 .1 .1 .1 .1 .0))) (List._∷_
+            (7, Relend.mslice-owed (Referent.rtF (Referent.fInt Syntax.w32)) ty·12 6 15 (Row.lease (κs .1 .1 .1 .1 .1 .1 .0) (qs .1 .1 .1 .1 .1 .1 .0))) (List._∷_ (8, Relend.mslice-owed (Referent.rtF (Referent.fInt Syntax.w16)) ty·13 7 16 (Row.lease (κs .1 .1 .1 .1 .1 .1 .1 .0) (qs .1 .1 .1 .1 .1 .1 .1 .0))) (List._∷_
+            (9, Relend.mslice-owed (Referent.rtF (Referent.fInt Syntax.w8)) ty·7 8 17 (Row.lease (κs .1 .1 .1 .1 .1 .1 .1 .1 .0) (qs .1 .1 .1 .1 .1 .1 .1 .1 .0))) (List._∷_ (10, Mut.mslice Rec.rt ty·1 9) (List._∷_
+            (11, Rows.any-gone (Syntax.tyEnum (List._∷_ 114 (List._∷_ 101 (List._∷_ 97 (List._∷_ 100 (List._∷_ 105 (List._∷_ 110 (List._∷_ 103 (List._∷_ 58 (List._∷_ 58 (List._∷_ 114 (List._∷_ 101 (List._∷_ 112 (List._∷_ 108 (List._∷_ 105 (List._∷_ 101 (List._∷_ 115 (List._∷_ 58 (List._∷_ 58 (List._∷_ 82 (List._∷_ 101 (List._∷_ 97 (List._∷_ 100 (List._∷_ 105 (List._∷_ 110 (List._∷_ 103 List.[]))))))))))))))))))))))))) (Syntax.ttcons Syntax.tnil (Syntax.ttcons (Syntax.tcons (Syntax.tyEnum (List._∷_ 114 (List._∷_ 101 (List._∷_ 97 (List._∷_ 100 (List._∷_ 105 (List._∷_ 110 (List._∷_ 103 (List._∷_ 58 (List._∷_ 58 (List._∷_ 114 (List._∷_ 101 (List._∷_ 112 (List._∷_ 108 (List._∷_ 105 (List._∷_ 101 (List._∷_ 115 (List._∷_ 58 (List._∷_ 58 (List._∷_ 82 (List._∷_ 101 (List._∷_ 102 (List._∷_ 117 (List._∷_ 115 (List._∷_ 97 (List._∷_ 108 List.[]))))))))))))))))))))))))) (Syntax.ttcons Syntax.tnil (Syntax.ttcons (Syntax.tcons (Syntax.tyInt Syntax.w64) Syntax.tnil) (Syntax.ttcons (Syntax.tcons (Syntax.tyInt Syntax.w64) Syntax.tnil) (Syntax.ttcons (Syntax.tcons (Syntax.tyInt Syntax.w64) Syntax.tnil) (Syntax.ttcons (Syntax.tcons (Syntax.tyInt Syntax.w64) Syntax.tnil) (Syntax.ttcons (Syntax.tcons (Syntax.tyInt Syntax.w64) Syntax.tnil) (Syntax.ttcons (Syntax.tcons (Syntax.tyInt Syntax.w64) Syntax.tnil) (Syntax.ttcons (Syntax.tcons ty·14 Syntax.tnil) (Syntax.ttcons (Syntax.tcons ty·14 Syntax.tnil) (Syntax.ttcons (Syntax.tcons ty·14 Syntax.tnil) (Syntax.ttcons (Syntax.tcons ty·14 (Syntax.tcons ty·14 Syntax.tnil)) (Syntax.ttcons Syntax.tnil Syntax.ttnil))))))))))))) Syntax.tnil) Syntax.ttnil))))
+            (List._∷_ (12, Rows.any-gone ty·3) (List._∷_ (13, Mut.mslice (Referent.rtF (Referent.fInt Syntax.w16)) ty·3 10) (List._∷_ (14, Rows.any-gone ty·3) (List._∷_ (15, Mut.mslice (Referent.rtF (Referent.fInt Syntax.w16)) ty·3 11) List.[])))))))))))))))
 
         abbrev g25 : List.List Row.Entry
-        g25 = List._∷_ (
-          0,
-          Rows.any-gone ty·15,
-        ) (List._∷_ (
-          1,
-          Rows.sslice (Referent.rtF (Referent.fInt Syntax.w8)) ty·5 0,
-        ) (List._∷_ (
-          2,
-          Relend.mslice-owed (Referent.rtF (Referent.fInt Syntax.w16)) ty·8 1 10 (Row.lease (κs .1 .0) (qs .1 .0)),
-        ) (List._∷_ (
-          3,
-          Relend.mslice-owed (Referent.rtF (Referent.fInt Syntax.w16)) ty·9 2 11 (Row.lease (κs .1 .1 .0) (qs .1 .1 .0)),
-        ) (List._∷_ (
-          4,
-          Relend.mslice-owed (Referent.rtF (Referent.fInt Syntax.w8)) ty·6 3 12 (Row.lease (κs .1 .1 .1 .0) (qs .1 .1 .1 .0)),
-        ) (List._∷_ (
-          5,
-          Relend.mslice-owed (Referent.rtF (Referent.fInt Syntax.w16)) ty·10 4 13 (Row.lease (κs .1 .1 .1 .1 .0) (qs .1 .1 .1 .1 .0)),
-        ) (List._∷_ (
-          6,
-          Relend.mslice-owed (Referent.rtF (Referent.fInt Syntax.w16)) ty·11 5 14 (Row.lease (κs .1 .1 .1 .1 .1 .0) (qs .1 .1 .1 .1 .1 .0)),
-        ) (List._∷_ (
-          7,
-          Relend.mslice-owed (Referent.rtF (Referent.fInt Syntax.w32)) ty·12 6 15 (Row.lease (κs .1 .1 .1 .1 .1 .1 .0) (qs .1 .1 .1 .1 .1 .1 .0)),
-        ) (List._∷_ (
-          8,
-          Relend.mslice-owed (Referent.rtF (Referent.fInt Syntax.w16)) ty·13 7 16 (Row.lease (κs .1 .1 .1 .1 .1 .1 .1 .0) (qs .1 .1 .1 .1 .1 .1 .1 .0)),
-        ) (List._∷_ (
-          9,
-          Relend.mslice-owed (Referent.rtF (Referent.fInt Syntax.w8)) ty·7 8 17 (Row.lease (κs .1 .1 .1 .1 .1 .1 .1 .1 .0) (qs .1 .1 .1 .1 .1 .1 .1 .1 .0)),
-        ) (List._∷_ (
-          10,
-          Relend.mslice-owed Rec.rt ty·1 9 18 (Row.lease (κs .1 .1 .1 .1 .1 .1 .1 .1 .1 .0) (qs .1 .1 .1 .1 .1 .1 .1 .1 .1 .0)),
-        ) (List._∷_ (
-          11,
-          Rows.any-gone (Syntax.tyEnum (List._∷_ 114 (List._∷_ 101 (List._∷_ 97 (List._∷_ 100 (List._∷_ 105 (List._∷_ 110 (List._∷_ 103 (List._∷_ 58 (List._∷_ 58 (List._∷_ 114 (List._∷_ 101 (List._∷_ 112 (List._∷_ 108 (List._∷_ 105 (List._∷_ 101 (List._∷_ 115 (List._∷_ 58 (List._∷_ 58 (List._∷_ 82 (List._∷_ 101 (List._∷_ 97 (List._∷_ 100
-              (List._∷_ 105 (List._∷_ 110 (List._∷_ 103 List.[]))))))))))))))))))))))))) (Syntax.ttcons Syntax.tnil (Syntax.ttcons (Syntax.tcons (Syntax.tyEnum (List._∷_ 114 (List._∷_ 101 (List._∷_ 97 (List._∷_ 100 (List._∷_ 105 (List._∷_ 110 (List._∷_ 103 (List._∷_ 58 (List._∷_ 58 (List._∷_ 114 (List._∷_ 101 (List._∷_ 112 (List._∷_ 108 (List._∷_ 105 (List._∷_
-              101 (List._∷_ 115 (List._∷_ 58 (List._∷_ 58 (List._∷_ 82 (List._∷_ 101 (List._∷_ 102 (List._∷_ 117 (List._∷_ 115 (List._∷_ 97 (List._∷_ 108 List.[]))))))))))))))))))))))))) (Syntax.ttcons Syntax.tnil (Syntax.ttcons (Syntax.tcons (Syntax.tyInt Syntax.w64) Syntax.tnil) (Syntax.ttcons (Syntax.tcons (Syntax.tyInt Syntax.w64) Syntax.tnil)
-              (Syntax.ttcons (Syntax.tcons (Syntax.tyInt Syntax.w64) Syntax.tnil) (Syntax.ttcons (Syntax.tcons (Syntax.tyInt Syntax.w64) Syntax.tnil) (Syntax.ttcons (Syntax.tcons (Syntax.tyInt Syntax.w64) Syntax.tnil) (Syntax.ttcons (Syntax.tcons (Syntax.tyInt Syntax.w64) Syntax.tnil) (Syntax.ttcons (Syntax.tcons ty·14 Syntax.tnil) (Syntax.ttcons (Syntax.tcons
-              ty·14 Syntax.tnil) (Syntax.ttcons (Syntax.tcons ty·14 Syntax.tnil) (Syntax.ttcons (Syntax.tcons ty·14 (Syntax.tcons ty·14 Syntax.tnil)) (Syntax.ttcons Syntax.tnil Syntax.ttnil))))))))))))) Syntax.tnil) Syntax.ttnil))),
-        ) (List._∷_ (
-          12,
-          Rows.any-gone ty·3,
-        ) (List._∷_ (
-          13,
-          Mut.mslice (Referent.rtF (Referent.fInt Syntax.w16)) ty·3 10,
-        ) (List._∷_ (
-          14,
-          Rows.any-gone ty·3,
-        ) (List._∷_ (
-          15,
-          Mut.mslice (Referent.rtF (Referent.fInt Syntax.w16)) ty·3 11,
-        ) List.[])))))))))))))))
+        g25 = List._∷_ (0, Rows.any-gone ty·15) (List._∷_ (1, Rows.sslice (Referent.rtF (Referent.fInt Syntax.w8)) ty·5 0) (List._∷_ (2, Relend.mslice-owed (Referent.rtF (Referent.fInt Syntax.w16)) ty·8 1 10 (Row.lease (κs .1 .0) (qs .1 .0))) (List._∷_
+            (3, Relend.mslice-owed (Referent.rtF (Referent.fInt Syntax.w16)) ty·9 2 11 (Row.lease (κs .1 .1 .0) (qs .1 .1 .0))) (List._∷_ (4, Relend.mslice-owed (Referent.rtF (Referent.fInt Syntax.w8)) ty·6 3 12 (Row.lease (κs .1 .1 .1 .0) (qs .1 .1 .1 .0))) (List._∷_
+            (5, Relend.mslice-owed (Referent.rtF (Referent.fInt Syntax.w16)) ty·10 4 13 (Row.lease (κs .1 .1 .1 .1 .0) (qs .1 .1 .1 .1 .0))) (List._∷_ (6, Relend.mslice-owed (Referent.rtF (Referent.fInt Syntax.w16)) ty·11 5 14 (Row.lease (κs .1 .1 .1 .1 .1 .0) (qs .1 .1 .1 .1 .1 .0))) (List._∷_
+            (7, Relend.mslice-owed (Referent.rtF (Referent.fInt Syntax.w32)) ty·12 6 15 (Row.lease (κs .1 .1 .1 .1 .1 .1 .0) (qs .1 .1 .1 .1 .1 .1 .0))) (List._∷_ (8, Relend.mslice-owed (Referent.rtF (Referent.fInt Syntax.w16)) ty·13 7 16 (Row.lease (κs .1 .1 .1 .1 .1 .1 .1 .0) (qs .1 .1 .1 .1 .1 .1 .1 .0))) (List._∷_
+            (9, Relend.mslice-owed (Referent.rtF (Referent.fInt Syntax.w8)) ty·7 8 17 (Row.lease (κs .1 .1 .1 .1 .1 .1 .1 .1 .0) (qs .1 .1 .1 .1 .1 .1 .1 .1 .0))) (List._∷_ (10, Relend.mslice-owed Rec.rt ty·1 9 18 (Row.lease (κs .1 .1 .1 .1 .1 .1 .1 .1 .1 .0) (qs .1 .1 .1 .1 .1 .1 .1 .1 .1 .0))) (List._∷_
+            (11, Rows.any-gone (Syntax.tyEnum (List._∷_ 114 (List._∷_ 101 (List._∷_ 97 (List._∷_ 100 (List._∷_ 105 (List._∷_ 110 (List._∷_ 103 (List._∷_ 58 (List._∷_ 58 (List._∷_ 114 (List._∷_ 101 (List._∷_ 112 (List._∷_ 108 (List._∷_ 105 (List._∷_ 101 (List._∷_ 115 (List._∷_ 58 (List._∷_ 58 (List._∷_ 82 (List._∷_ 101 (List._∷_ 97 (List._∷_ 100 (List._∷_ 105 (List._∷_ 110 (List._∷_ 103 List.[]))))))))))))))))))))))))) (Syntax.ttcons Syntax.tnil (Syntax.ttcons (Syntax.tcons (Syntax.tyEnum (List._∷_ 114 (List._∷_ 101 (List._∷_ 97 (List._∷_ 100 (List._∷_ 105 (List._∷_ 110 (List._∷_ 103 (List._∷_ 58 (List._∷_ 58 (List._∷_ 114 (List._∷_ 101 (List._∷_ 112 (List._∷_ 108 (List._∷_ 105 (List._∷_ 101 (List._∷_ 115 (List._∷_ 58 (List._∷_ 58 (List._∷_ 82 (List._∷_ 101 (List._∷_ 102 (List._∷_ 117 (List._∷_ 115 (List._∷_ 97 (List._∷_ 108 List.[]))))))))))))))))))))))))) (Syntax.ttcons Syntax.tnil (Syntax.ttcons (Syntax.tcons (Syntax.tyInt Syntax.w64) Syntax.tnil) (Syntax.ttcons (Syntax.tcons (Syntax.tyInt Syntax.w64) Syntax.tnil) (Syntax.ttcons (Syntax.tcons (Syntax.tyInt Syntax.w64) Syntax.tnil) (Syntax.ttcons (Syntax.tcons (Syntax.tyInt Syntax.w64) Syntax.tnil) (Syntax.ttcons (Syntax.tcons (Syntax.tyInt Syntax.w64) Syntax.tnil) (Syntax.ttcons (Syntax.tcons (Syntax.tyInt Syntax.w64) Syntax.tnil) (Syntax.ttcons (Syntax.tcons ty·14 Syntax.tnil) (Syntax.ttcons (Syntax.tcons ty·14 Syntax.tnil) (Syntax.ttcons (Syntax.tcons ty·14 Syntax.tnil) (Syntax.ttcons (Syntax.tcons ty·14 (Syntax.tcons ty·14 Syntax.tnil)) (Syntax.ttcons Syntax.tnil Syntax.ttnil))))))))))))) Syntax.tnil) Syntax.ttnil))))
+            (List._∷_ (12, Rows.any-gone ty·3) (List._∷_ (13, Mut.mslice (Referent.rtF (Referent.fInt Syntax.w16)) ty·3 10) (List._∷_ (14, Rows.any-gone ty·3) (List._∷_ (15, Mut.mslice (Referent.rtF (Referent.fInt Syntax.w16)) ty·3 11) List.[])))))))))))))))
 
         abbrev g28 : List.List Row.Entry
-        g28 = List._∷_ (
-          0,
-          Rows.any-gone ty·15,
-        ) (List._∷_ (
-          1,
-          Rows.sslice (Referent.rtF (Referent.fInt Syntax.w8)) ty·5 0,
-        ) (List._∷_ (
-          2,
-          Relend.mslice-owed (Referent.rtF (Referent.fInt Syntax.w16)) ty·8 1 10 (Row.lease (κs .1 .0) (qs .1 .0)),
-        ) (List._∷_ (
-          3,
-          Relend.mslice-owed (Referent.rtF (Referent.fInt Syntax.w16)) ty·9 2 11 (Row.lease (κs .1 .1 .0) (qs .1 .1 .0)),
-        ) (List._∷_ (
-          4,
-          Relend.mslice-owed (Referent.rtF (Referent.fInt Syntax.w8)) ty·6 3 12 (Row.lease (κs .1 .1 .1 .0) (qs .1 .1 .1 .0)),
-        ) (List._∷_ (
-          5,
-          Relend.mslice-owed (Referent.rtF (Referent.fInt Syntax.w16)) ty·10 4 13 (Row.lease (κs .1 .1 .1 .1 .0) (qs .1 .1 .1 .1 .0)),
-        ) (List._∷_ (
-          6,
-          Relend.mslice-owed (Referent.rtF (Referent.fInt Syntax.w16)) ty·11 5 14 (Row.lease (κs .1 .1 .1 .1 .1 .0) (qs .1 .1 .1 .1 .1 .0)),
-        ) (List._∷_ (
-          7,
-          Relend.mslice-owed (Referent.rtF (Referent.fInt Syntax.w32)) ty·12 6 15 (Row.lease (κs .1 .1 .1 .1 .1 .1 .0) (qs .1 .1 .1 .1 .1 .1 .0)),
-        ) (List._∷_ (
-          8,
-          Relend.mslice-owed (Referent.rtF (Referent.fInt Syntax.w16)) ty·13 7 16 (Row.lease (κs .1 .1 .1 .1 .1 .1 .1 .0) (qs .1 .1 .1 .1 .1 .1 .1 .0)),
-        ) (List._∷_ (
-          9,
-          Relend.mslice-owed (Referent.rtF (Referent.fInt Syntax.w8)) ty·7 8 17 (Row.lease (κs .1 .1 .1 .1 .1 .1 .1 .1 .0) (qs .1 .1 .1 .1 .1 .1 .1 .1 .0)),
-        ) (List._∷_ (
-          10,
-          Relend.mslice-owed Rec.rt ty·1 9 18 (Row.lease (κs .1 .1 .1 .1 .1 .1 .1 .1 .1 .0) (qs .1 .1 .1 .1 .1 .1 .1 .1 .1 .0)),
-        ) (List._∷_ (11, Rows.whole (Declared.row Reading.the-type)) (List._∷_ (
-          12,
-          Rows.any-gone ty·3,
-        ) (List._∷_ (
-          13,
-          Mut.msleft (Referent.rtF (Referent.fInt Syntax.w16)) ty·3,
-        ) (List._∷_ (
-          14,
-          Rows.any-gone ty·3,
-        ) (List._∷_ (
-          15,
-          Mut.msleft (Referent.rtF (Referent.fInt Syntax.w16)) ty·3,
-        ) List.[])))))))))))))))
+        g28 = List._∷_ (0, Rows.any-gone ty·15) (List._∷_ (1, Rows.sslice (Referent.rtF (Referent.fInt Syntax.w8)) ty·5 0) (List._∷_ (2, Relend.mslice-owed (Referent.rtF (Referent.fInt Syntax.w16)) ty·8 1 10 (Row.lease (κs .1 .0) (qs .1 .0))) (List._∷_
+            (3, Relend.mslice-owed (Referent.rtF (Referent.fInt Syntax.w16)) ty·9 2 11 (Row.lease (κs .1 .1 .0) (qs .1 .1 .0))) (List._∷_ (4, Relend.mslice-owed (Referent.rtF (Referent.fInt Syntax.w8)) ty·6 3 12 (Row.lease (κs .1 .1 .1 .0) (qs .1 .1 .1 .0))) (List._∷_
+            (5, Relend.mslice-owed (Referent.rtF (Referent.fInt Syntax.w16)) ty·10 4 13 (Row.lease (κs .1 .1 .1 .1 .0) (qs .1 .1 .1 .1 .0))) (List._∷_ (6, Relend.mslice-owed (Referent.rtF (Referent.fInt Syntax.w16)) ty·11 5 14 (Row.lease (κs .1 .1 .1 .1 .1 .0) (qs .1 .1 .1 .1 .1 .0))) (List._∷_
+            (7, Relend.mslice-owed (Referent.rtF (Referent.fInt Syntax.w32)) ty·12 6 15 (Row.lease (κs .1 .1 .1 .1 .1 .1 .0) (qs .1 .1 .1 .1 .1 .1 .0))) (List._∷_ (8, Relend.mslice-owed (Referent.rtF (Referent.fInt Syntax.w16)) ty·13 7 16 (Row.lease (κs .1 .1 .1 .1 .1 .1 .1 .0) (qs .1 .1 .1 .1 .1 .1 .1 .0))) (List._∷_
+            (9, Relend.mslice-owed (Referent.rtF (Referent.fInt Syntax.w8)) ty·7 8 17 (Row.lease (κs .1 .1 .1 .1 .1 .1 .1 .1 .0) (qs .1 .1 .1 .1 .1 .1 .1 .1 .0))) (List._∷_ (10, Relend.mslice-owed Rec.rt ty·1 9 18 (Row.lease (κs .1 .1 .1 .1 .1 .1 .1 .1 .1 .0) (qs .1 .1 .1 .1 .1 .1 .1 .1 .1 .0))) (List._∷_ (11, Rows.whole (Declared.row Reading.the-type))
+            (List._∷_ (12, Rows.any-gone ty·3) (List._∷_ (13, Mut.msleft (Referent.rtF (Referent.fInt Syntax.w16)) ty·3) (List._∷_ (14, Rows.any-gone ty·3) (List._∷_ (15, Mut.msleft (Referent.rtF (Referent.fInt Syntax.w16)) ty·3) List.[])))))))))))))))
 
         abbrev g30 : List.List Row.Entry
-        g30 = List._∷_ (
-          0,
-          Rows.any-gone ty·15,
-        ) (List._∷_ (
-          1,
-          Rows.sslice (Referent.rtF (Referent.fInt Syntax.w8)) ty·5 0,
-        ) (List._∷_ (
-          2,
-          Mut.mslice (Referent.rtF (Referent.fInt Syntax.w16)) ty·8 1,
-        ) (List._∷_ (
-          3,
-          Relend.mslice-owed (Referent.rtF (Referent.fInt Syntax.w16)) ty·9 2 11 (Row.lease (κs .1 .1 .0) (qs .1 .1 .0)),
-        ) (List._∷_ (
-          4,
-          Relend.mslice-owed (Referent.rtF (Referent.fInt Syntax.w8)) ty·6 3 12 (Row.lease (κs .1 .1 .1 .0) (qs .1 .1 .1 .0)),
-        ) (List._∷_ (
-          5,
-          Relend.mslice-owed (Referent.rtF (Referent.fInt Syntax.w16)) ty·10 4 13 (Row.lease (κs .1 .1 .1 .1 .0) (qs .1 .1 .1 .1 .0)),
-        ) (List._∷_ (
-          6,
-          Relend.mslice-owed (Referent.rtF (Referent.fInt Syntax.w16)) ty·11 5 14 (Row.lease (κs .1 .1 .1 .1 .1 .0) (qs .1 .1 .1 .1 .1 .0)),
-        ) (List._∷_ (
-          7,
-          Relend.mslice-owed (Referent.rtF (Referent.fInt Syntax.w32)) ty·12 6 15 (Row.lease (κs .1 .1 .1 .1 .1 .1 .0) (qs .1 .1 .1 .1 .1 .1 .0)),
-        ) (List._∷_ (
-          8,
-          Relend.mslice-owed (Referent.rtF (Referent.fInt Syntax.w16)) ty·13 7 16 (Row.lease (κs .1 .1 .1 .1 .1 .1 .1 .0) (qs .1 .1 .1 .1 .1 .1 .1 .0)),
-        ) (List._∷_ (
-          9,
-          Relend.mslice-owed (Referent.rtF (Referent.fInt Syntax.w8)) ty·7 8 17 (Row.lease (κs .1 .1 .1 .1 .1 .1 .1 .1 .0) (qs .1 .1 .1 .1 .1 .1 .1 .1 .0)),
-        ) (List._∷_ (
-          10,
-          Relend.mslice-owed Rec.rt ty·1 9 18 (Row.lease (κs .1 .1 .1 .1 .1 .1 .1 .1 .1 .0) (qs .1 .1 .1 .1 .1 .1 .1 .1 .1 .0)),
-        ) (List._∷_ (11, Rows.whole (Declared.row Reading.the-type)) (List._∷_ (
-          12,
-          Rows.any-gone ty·3,
-        ) (List._∷_ (
-          13,
-          Rows.any-gone (Syntax.tyStruct (List._∷_ 38 (List._∷_ 91 (List._∷_ 93 List.[]))) (Syntax.tcons ty·3 (Syntax.tcons (Syntax.tyInt Syntax.w64) Syntax.tnil))),
-        ) (List._∷_ (
-          14,
-          Rows.any-gone ty·3,
-        ) (List._∷_ (
-          15,
-          Mut.msleft (Referent.rtF (Referent.fInt Syntax.w16)) ty·3,
-        ) List.[])))))))))))))))
+        g30 = List._∷_ (0, Rows.any-gone ty·15) (List._∷_ (1, Rows.sslice (Referent.rtF (Referent.fInt Syntax.w8)) ty·5 0) (List._∷_ (2, Mut.mslice (Referent.rtF (Referent.fInt Syntax.w16)) ty·8 1) (List._∷_ (3, Relend.mslice-owed (Referent.rtF (Referent.fInt Syntax.w16)) ty·9 2 11 (Row.lease (κs .1 .1 .0) (qs .1 .1 .0))) (List._∷_
+            (4, Relend.mslice-owed (Referent.rtF (Referent.fInt Syntax.w8)) ty·6 3 12 (Row.lease (κs .1 .1 .1 .0) (qs .1 .1 .1 .0))) (List._∷_ (5, Relend.mslice-owed (Referent.rtF (Referent.fInt Syntax.w16)) ty·10 4 13 (Row.lease (κs .1 .1 .1 .1 .0) (qs .1 .1 .1 .1 .0))) (List._∷_
+            (6, Relend.mslice-owed (Referent.rtF (Referent.fInt Syntax.w16)) ty·11 5 14 (Row.lease (κs .1 .1 .1 .1 .1 .0) (qs .1 .1 .1 .1 .1 .0))) (List._∷_ (7, Relend.mslice-owed (Referent.rtF (Referent.fInt Syntax.w32)) ty·12 6 15 (Row.lease (κs .1 .1 .1 .1 .1 .1 .0) (qs .1 .1 .1 .1 .1 .1 .0))) (List._∷_
+            (8, Relend.mslice-owed (Referent.rtF (Referent.fInt Syntax.w16)) ty·13 7 16 (Row.lease (κs .1 .1 .1 .1 .1 .1 .1 .0) (qs .1 .1 .1 .1 .1 .1 .1 .0))) (List._∷_ (9, Relend.mslice-owed (Referent.rtF (Referent.fInt Syntax.w8)) ty·7 8 17 (Row.lease (κs .1 .1 .1 .1 .1 .1 .1 .1 .0) (qs .1 .1 .1 .1 .1 .1 .1 .1 .0))) (List._∷_
+            (10, Relend.mslice-owed Rec.rt ty·1 9 18 (Row.lease (κs .1 .1 .1 .1 .1 .1 .1 .1 .1 .0) (qs .1 .1 .1 .1 .1 .1 .1 .1 .1 .0))) (List._∷_ (11, Rows.whole (Declared.row Reading.the-type)) (List._∷_ (12, Rows.any-gone ty·3) (List._∷_
+            (13, Rows.any-gone (Syntax.tyStruct (List._∷_ 38 (List._∷_ 91 (List._∷_ 93 List.[]))) (Syntax.tcons ty·3 (Syntax.tcons (Syntax.tyInt Syntax.w64) Syntax.tnil)))) (List._∷_ (14, Rows.any-gone ty·3) (List._∷_ (15, Mut.msleft (Referent.rtF (Referent.fInt Syntax.w16)) ty·3) List.[])))))))))))))))
 
         abbrev g31 : List.List Row.Entry
-        g31 = List._∷_ (
-          0,
-          Rows.any-gone ty·15,
-        ) (List._∷_ (
-          1,
-          Rows.sslice (Referent.rtF (Referent.fInt Syntax.w8)) ty·5 0,
-        ) (List._∷_ (
-          2,
-          Mut.mslice (Referent.rtF (Referent.fInt Syntax.w16)) ty·8 1,
-        ) (List._∷_ (
-          3,
-          Mut.mslice (Referent.rtF (Referent.fInt Syntax.w16)) ty·9 2,
-        ) (List._∷_ (
-          4,
-          Relend.mslice-owed (Referent.rtF (Referent.fInt Syntax.w8)) ty·6 3 12 (Row.lease (κs .1 .1 .1 .0) (qs .1 .1 .1 .0)),
-        ) (List._∷_ (
-          5,
-          Relend.mslice-owed (Referent.rtF (Referent.fInt Syntax.w16)) ty·10 4 13 (Row.lease (κs .1 .1 .1 .1 .0) (qs .1 .1 .1 .1 .0)),
-        ) (List._∷_ (
-          6,
-          Relend.mslice-owed (Referent.rtF (Referent.fInt Syntax.w16)) ty·11 5 14 (Row.lease (κs .1 .1 .1 .1 .1 .0) (qs .1 .1 .1 .1 .1 .0)),
-        ) (List._∷_ (
-          7,
-          Relend.mslice-owed (Referent.rtF (Referent.fInt Syntax.w32)) ty·12 6 15 (Row.lease (κs .1 .1 .1 .1 .1 .1 .0) (qs .1 .1 .1 .1 .1 .1 .0)),
-        ) (List._∷_ (
-          8,
-          Relend.mslice-owed (Referent.rtF (Referent.fInt Syntax.w16)) ty·13 7 16 (Row.lease (κs .1 .1 .1 .1 .1 .1 .1 .0) (qs .1 .1 .1 .1 .1 .1 .1 .0)),
-        ) (List._∷_ (
-          9,
-          Relend.mslice-owed (Referent.rtF (Referent.fInt Syntax.w8)) ty·7 8 17 (Row.lease (κs .1 .1 .1 .1 .1 .1 .1 .1 .0) (qs .1 .1 .1 .1 .1 .1 .1 .1 .0)),
-        ) (List._∷_ (
-          10,
-          Relend.mslice-owed Rec.rt ty·1 9 18 (Row.lease (κs .1 .1 .1 .1 .1 .1 .1 .1 .1 .0) (qs .1 .1 .1 .1 .1 .1 .1 .1 .1 .0)),
-        ) (List._∷_ (11, Rows.whole (Declared.row Reading.the-type)) (List._∷_ (
-          12,
-          Rows.any-gone ty·3,
-        ) (List._∷_ (
-          13,
-          Rows.any-gone (Syntax.tyStruct (List._∷_ 38 (List._∷_ 91 (List._∷_ 93 List.[]))) (Syntax.tcons ty·3 (Syntax.tcons (Syntax.tyInt Syntax.w64) Syntax.tnil))),
-        ) (List._∷_ (
-          14,
-          Rows.any-gone ty·3,
-        ) (List._∷_ (
-          15,
-          Rows.any-gone (Syntax.tyStruct (List._∷_ 38 (List._∷_ 91 (List._∷_ 93 List.[]))) (Syntax.tcons ty·3 (Syntax.tcons (Syntax.tyInt Syntax.w64) Syntax.tnil))),
-        ) List.[])))))))))))))))
+        g31 = List._∷_ (0, Rows.any-gone ty·15) (List._∷_ (1, Rows.sslice (Referent.rtF (Referent.fInt Syntax.w8)) ty·5 0) (List._∷_ (2, Mut.mslice (Referent.rtF (Referent.fInt Syntax.w16)) ty·8 1) (List._∷_ (3, Mut.mslice (Referent.rtF (Referent.fInt Syntax.w16)) ty·9 2) (List._∷_
+            (4, Relend.mslice-owed (Referent.rtF (Referent.fInt Syntax.w8)) ty·6 3 12 (Row.lease (κs .1 .1 .1 .0) (qs .1 .1 .1 .0))) (List._∷_ (5, Relend.mslice-owed (Referent.rtF (Referent.fInt Syntax.w16)) ty·10 4 13 (Row.lease (κs .1 .1 .1 .1 .0) (qs .1 .1 .1 .1 .0))) (List._∷_
+            (6, Relend.mslice-owed (Referent.rtF (Referent.fInt Syntax.w16)) ty·11 5 14 (Row.lease (κs .1 .1 .1 .1 .1 .0) (qs .1 .1 .1 .1 .1 .0))) (List._∷_ (7, Relend.mslice-owed (Referent.rtF (Referent.fInt Syntax.w32)) ty·12 6 15 (Row.lease (κs .1 .1 .1 .1 .1 .1 .0) (qs .1 .1 .1 .1 .1 .1 .0))) (List._∷_
+            (8, Relend.mslice-owed (Referent.rtF (Referent.fInt Syntax.w16)) ty·13 7 16 (Row.lease (κs .1 .1 .1 .1 .1 .1 .1 .0) (qs .1 .1 .1 .1 .1 .1 .1 .0))) (List._∷_ (9, Relend.mslice-owed (Referent.rtF (Referent.fInt Syntax.w8)) ty·7 8 17 (Row.lease (κs .1 .1 .1 .1 .1 .1 .1 .1 .0) (qs .1 .1 .1 .1 .1 .1 .1 .1 .0))) (List._∷_
+            (10, Relend.mslice-owed Rec.rt ty·1 9 18 (Row.lease (κs .1 .1 .1 .1 .1 .1 .1 .1 .1 .0) (qs .1 .1 .1 .1 .1 .1 .1 .1 .1 .0))) (List._∷_ (11, Rows.whole (Declared.row Reading.the-type)) (List._∷_ (12, Rows.any-gone ty·3) (List._∷_
+            (13, Rows.any-gone (Syntax.tyStruct (List._∷_ 38 (List._∷_ 91 (List._∷_ 93 List.[]))) (Syntax.tcons ty·3 (Syntax.tcons (Syntax.tyInt Syntax.w64) Syntax.tnil)))) (List._∷_ (14, Rows.any-gone ty·3) (List._∷_
+            (15, Rows.any-gone (Syntax.tyStruct (List._∷_ 38 (List._∷_ 91 (List._∷_ 93 List.[]))) (Syntax.tcons ty·3 (Syntax.tcons (Syntax.tyInt Syntax.w64) Syntax.tnil)))) List.[])))))))))))))))
 
         abbrev g32 : List.List Row.Entry
-        g32 = List._∷_ (
-          0,
-          Rows.any-gone ty·15,
-        ) (List._∷_ (
-          1,
-          Rows.sslice (Referent.rtF (Referent.fInt Syntax.w8)) ty·5 0,
-        ) (List._∷_ (
-          2,
-          Mut.mslice (Referent.rtF (Referent.fInt Syntax.w16)) ty·8 1,
-        ) (List._∷_ (
-          3,
-          Mut.mslice (Referent.rtF (Referent.fInt Syntax.w16)) ty·9 2,
-        ) (List._∷_ (
-          4,
-          Mut.mslice (Referent.rtF (Referent.fInt Syntax.w8)) ty·6 3,
-        ) (List._∷_ (
-          5,
-          Relend.mslice-owed (Referent.rtF (Referent.fInt Syntax.w16)) ty·10 4 13 (Row.lease (κs .1 .1 .1 .1 .0) (qs .1 .1 .1 .1 .0)),
-        ) (List._∷_ (
-          6,
-          Relend.mslice-owed (Referent.rtF (Referent.fInt Syntax.w16)) ty·11 5 14 (Row.lease (κs .1 .1 .1 .1 .1 .0) (qs .1 .1 .1 .1 .1 .0)),
-        ) (List._∷_ (
-          7,
-          Relend.mslice-owed (Referent.rtF (Referent.fInt Syntax.w32)) ty·12 6 15 (Row.lease (κs .1 .1 .1 .1 .1 .1 .0) (qs .1 .1 .1 .1 .1 .1 .0)),
-        ) (List._∷_ (
-          8,
-          Relend.mslice-owed (Referent.rtF (Referent.fInt Syntax.w16)) ty·13 7 16 (Row.lease (κs .1 .1 .1 .1 .1 .1 .1 .0) (qs .1 .1 .1 .1 .1 .1 .1 .0)),
-        ) (List._∷_ (
-          9,
-          Relend.mslice-owed (Referent.rtF (Referent.fInt Syntax.w8)) ty·7 8 17 (Row.lease (κs .1 .1 .1 .1 .1 .1 .1 .1 .0) (qs .1 .1 .1 .1 .1 .1 .1 .1 .0)),
-        ) (List._∷_ (
-          10,
-          Relend.mslice-owed Rec.rt ty·1 9 18 (Row.lease (κs .1 .1 .1 .1 .1 .1 .1 .1 .1 .0) (qs .1 .1 .1 .1 .1 .1 .1 .1 .1 .0)),
-        ) (List._∷_ (11, Rows.whole (Declared.row Reading.the-type)) (List._∷_ (
-          12,
-          Rows.any-gone ty·3,
-        ) (List._∷_ (
-          13,
-          Rows.any-gone (Syntax.tyStruct (List._∷_ 38 (List._∷_ 91 (List._∷_ 93 List.[]))) (Syntax.tcons ty·3 (Syntax.tcons (Syntax.tyInt Syntax.w64) Syntax.tnil))),
-        ) (List._∷_ (
-          14,
-          Rows.any-gone ty·3,
-        ) (List._∷_ (
-          15,
-          Rows.any-gone (Syntax.tyStruct (List._∷_ 38 (List._∷_ 91 (List._∷_ 93 List.[]))) (Syntax.tcons ty·3 (Syntax.tcons (Syntax.tyInt Syntax.w64) Syntax.tnil))),
-        ) List.[])))))))))))))))
+        g32 = List._∷_ (0, Rows.any-gone ty·15) (List._∷_ (1, Rows.sslice (Referent.rtF (Referent.fInt Syntax.w8)) ty·5 0) (List._∷_ (2, Mut.mslice (Referent.rtF (Referent.fInt Syntax.w16)) ty·8 1) (List._∷_ (3, Mut.mslice (Referent.rtF (Referent.fInt Syntax.w16)) ty·9 2) (List._∷_ (4, Mut.mslice (Referent.rtF (Referent.fInt Syntax.w8)) ty·6 3) (List._∷_
+            (5, Relend.mslice-owed (Referent.rtF (Referent.fInt Syntax.w16)) ty·10 4 13 (Row.lease (κs .1 .1 .1 .1 .0) (qs .1 .1 .1 .1 .0))) (List._∷_ (6, Relend.mslice-owed (Referent.rtF (Referent.fInt Syntax.w16)) ty·11 5 14 (Row.lease (κs .1 .1 .1 .1 .1 .0) (qs .1 .1 .1 .1 .1 .0))) (List._∷_
+            (7, Relend.mslice-owed (Referent.rtF (Referent.fInt Syntax.w32)) ty·12 6 15 (Row.lease (κs .1 .1 .1 .1 .1 .1 .0) (qs .1 .1 .1 .1 .1 .1 .0))) (List._∷_ (8, Relend.mslice-owed (Referent.rtF (Referent.fInt Syntax.w16)) ty·13 7 16 (Row.lease (κs .1 .1 .1 .1 .1 .1 .1 .0) (qs .1 .1 .1 .1 .1 .1 .1 .0))) (List._∷_
+            (9, Relend.mslice-owed (Referent.rtF (Referent.fInt Syntax.w8)) ty·7 8 17 (Row.lease (κs .1 .1 .1 .1 .1 .1 .1 .1 .0) (qs .1 .1 .1 .1 .1 .1 .1 .1 .0))) (List._∷_ (10, Relend.mslice-owed Rec.rt ty·1 9 18 (Row.lease (κs .1 .1 .1 .1 .1 .1 .1 .1 .1 .0) (qs .1 .1 .1 .1 .1 .1 .1 .1 .1 .0))) (List._∷_ (11, Rows.whole (Declared.row Reading.the-type))
+            (List._∷_ (12, Rows.any-gone ty·3) (List._∷_ (13, Rows.any-gone (Syntax.tyStruct (List._∷_ 38 (List._∷_ 91 (List._∷_ 93 List.[]))) (Syntax.tcons ty·3 (Syntax.tcons (Syntax.tyInt Syntax.w64) Syntax.tnil)))) (List._∷_ (14, Rows.any-gone ty·3) (List._∷_
+            (15, Rows.any-gone (Syntax.tyStruct (List._∷_ 38 (List._∷_ 91 (List._∷_ 93 List.[]))) (Syntax.tcons ty·3 (Syntax.tcons (Syntax.tyInt Syntax.w64) Syntax.tnil)))) List.[])))))))))))))))
 
         abbrev g34 : List.List Row.Entry
-        g34 = List._∷_ (
-          0,
-          Rows.any-gone ty·15,
-        ) (List._∷_ (
-          1,
-          Rows.sslice (Referent.rtF (Referent.fInt Syntax.w8)) ty·5 0,
-        ) (List._∷_ (
-          2,
-          Mut.mslice (Referent.rtF (Referent.fInt Syntax.w16)) ty·8 1,
-        ) (List._∷_ (
-          3,
-          Mut.mslice (Referent.rtF (Referent.fInt Syntax.w16)) ty·9 2,
-        ) (List._∷_ (
-          4,
-          Mut.mslice (Referent.rtF (Referent.fInt Syntax.w8)) ty·6 3,
-        ) (List._∷_ (
-          5,
-          Mut.mslice (Referent.rtF (Referent.fInt Syntax.w16)) ty·10 4,
-        ) (List._∷_ (
-          6,
-          Relend.mslice-owed (Referent.rtF (Referent.fInt Syntax.w16)) ty·11 5 14 (Row.lease (κs .1 .1 .1 .1 .1 .0) (qs .1 .1 .1 .1 .1 .0)),
-        ) (List._∷_ (
-          7,
-          Relend.mslice-owed (Referent.rtF (Referent.fInt Syntax.w32)) ty·12 6 15 (Row.lease (κs .1 .1 .1 .1 .1 .1 .0) (qs .1 .1 .1 .1 .1 .1 .0)),
-        ) (List._∷_ (
-          8,
-          Relend.mslice-owed (Referent.rtF (Referent.fInt Syntax.w16)) ty·13 7 16 (Row.lease (κs .1 .1 .1 .1 .1 .1 .1 .0) (qs .1 .1 .1 .1 .1 .1 .1 .0)),
-        ) (List._∷_ (
-          9,
-          Relend.mslice-owed (Referent.rtF (Referent.fInt Syntax.w8)) ty·7 8 17 (Row.lease (κs .1 .1 .1 .1 .1 .1 .1 .1 .0) (qs .1 .1 .1 .1 .1 .1 .1 .1 .0)),
-        ) (List._∷_ (
-          10,
-          Relend.mslice-owed Rec.rt ty·1 9 18 (Row.lease (κs .1 .1 .1 .1 .1 .1 .1 .1 .1 .0) (qs .1 .1 .1 .1 .1 .1 .1 .1 .1 .0)),
-        ) (List._∷_ (11, Rows.whole (Declared.row Reading.the-type)) (List._∷_ (
-          12,
-          Rows.any-gone ty·3,
-        ) (List._∷_ (
-          13,
-          Rows.any-gone (Syntax.tyStruct (List._∷_ 38 (List._∷_ 91 (List._∷_ 93 List.[]))) (Syntax.tcons ty·3 (Syntax.tcons (Syntax.tyInt Syntax.w64) Syntax.tnil))),
-        ) (List._∷_ (
-          14,
-          Rows.any-gone ty·3,
-        ) (List._∷_ (
-          15,
-          Rows.any-gone (Syntax.tyStruct (List._∷_ 38 (List._∷_ 91 (List._∷_ 93 List.[]))) (Syntax.tcons ty·3 (Syntax.tcons (Syntax.tyInt Syntax.w64) Syntax.tnil))),
-        ) List.[])))))))))))))))
+        g34 = List._∷_ (0, Rows.any-gone ty·15) (List._∷_ (1, Rows.sslice (Referent.rtF (Referent.fInt Syntax.w8)) ty·5 0) (List._∷_ (2, Mut.mslice (Referent.rtF (Referent.fInt Syntax.w16)) ty·8 1) (List._∷_ (3, Mut.mslice (Referent.rtF (Referent.fInt Syntax.w16)) ty·9 2) (List._∷_ (4, Mut.mslice (Referent.rtF (Referent.fInt Syntax.w8)) ty·6 3) (List._∷_
+            (5, Mut.mslice (Referent.rtF (Referent.fInt Syntax.w16)) ty·10 4) (List._∷_ (6, Relend.mslice-owed (Referent.rtF (Referent.fInt Syntax.w16)) ty·11 5 14 (Row.lease (κs .1 .1 .1 .1 .1 .0) (qs .1 .1 .1 .1 .1 .0))) (List._∷_
+            (7, Relend.mslice-owed (Referent.rtF (Referent.fInt Syntax.w32)) ty·12 6 15 (Row.lease (κs .1 .1 .1 .1 .1 .1 .0) (qs .1 .1 .1 .1 .1 .1 .0))) (List._∷_ (8, Relend.mslice-owed (Referent.rtF (Referent.fInt Syntax.w16)) ty·13 7 16 (Row.lease (κs .1 .1 .1 .1 .1 .1 .1 .0) (qs .1 .1 .1 .1 .1 .1 .1 .0))) (List._∷_
+            (9, Relend.mslice-owed (Referent.rtF (Referent.fInt Syntax.w8)) ty·7 8 17 (Row.lease (κs .1 .1 .1 .1 .1 .1 .1 .1 .0) (qs .1 .1 .1 .1 .1 .1 .1 .1 .0))) (List._∷_ (10, Relend.mslice-owed Rec.rt ty·1 9 18 (Row.lease (κs .1 .1 .1 .1 .1 .1 .1 .1 .1 .0) (qs .1 .1 .1 .1 .1 .1 .1 .1 .1 .0))) (List._∷_ (11, Rows.whole (Declared.row Reading.the-type))
+            (List._∷_ (12, Rows.any-gone ty·3) (List._∷_ (13, Rows.any-gone (Syntax.tyStruct (List._∷_ 38 (List._∷_ 91 (List._∷_ 93 List.[]))) (Syntax.tcons ty·3 (Syntax.tcons (Syntax.tyInt Syntax.w64) Syntax.tnil)))) (List._∷_ (14, Rows.any-gone ty·3) (List._∷_
+            (15, Rows.any-gone (Syntax.tyStruct (List._∷_ 38 (List._∷_ 91 (List._∷_ 93 List.[]))) (Syntax.tcons ty·3 (Syntax.tcons (Syntax.tyInt Syntax.w64) Syntax.tnil)))) List.[])))))))))))))))
 
         abbrev g36 : List.List Row.Entry
-        g36 = List._∷_ (
-          0,
-          Rows.any-gone ty·15,
-        ) (List._∷_ (
-          1,
-          Rows.sslice (Referent.rtF (Referent.fInt Syntax.w8)) ty·5 0,
-        ) (List._∷_ (
-          2,
-          Mut.mslice (Referent.rtF (Referent.fInt Syntax.w16)) ty·8 1,
-        ) (List._∷_ (
-          3,
-          Mut.mslice (Referent.rtF (Referent.fInt Syntax.w16)) ty·9 2,
-        ) (List._∷_ (
-          4,
-          Mut.mslice (Referent.rtF (Referent.fInt Syntax.w8)) ty·6 3,
-        ) (List._∷_ (
-          5,
-          Mut.mslice (Referent.rtF (Referent.fInt Syntax.w16)) ty·10 4,
-        ) (List._∷_ (
-          6,
-          Mut.mslice (Referent.rtF (Referent.fInt Syntax.w16)) ty·11 5,
-        ) (List._∷_ (
-          7,
-          Relend.mslice-owed (Referent.rtF (Referent.fInt Syntax.w32)) ty·12 6 15 (Row.lease (κs .1 .1 .1 .1 .1 .1 .0) (qs .1 .1 .1 .1 .1 .1 .0)),
-        ) (List._∷_ (
-          8,
-          Relend.mslice-owed (Referent.rtF (Referent.fInt Syntax.w16)) ty·13 7 16 (Row.lease (κs .1 .1 .1 .1 .1 .1 .1 .0) (qs .1 .1 .1 .1 .1 .1 .1 .0)),
-        ) (List._∷_ (
-          9,
-          Relend.mslice-owed (Referent.rtF (Referent.fInt Syntax.w8)) ty·7 8 17 (Row.lease (κs .1 .1 .1 .1 .1 .1 .1 .1 .0) (qs .1 .1 .1 .1 .1 .1 .1 .1 .0)),
-        ) (List._∷_ (
-          10,
-          Relend.mslice-owed Rec.rt ty·1 9 18 (Row.lease (κs .1 .1 .1 .1 .1 .1 .1 .1 .1 .0) (qs .1 .1 .1 .1 .1 .1 .1 .1 .1 .0)),
-        ) (List._∷_ (11, Rows.whole (Declared.row Reading.the-type)) (List._∷_ (
-          12,
-          Rows.any-gone ty·3,
-        ) (List._∷_ (
-          13,
-          Rows.any-gone (Syntax.tyStruct (List._∷_ 38 (List._∷_ 91 (List._∷_ 93 List.[]))) (Syntax.tcons ty·3 (Syntax.tcons (Syntax.tyInt Syntax.w64) Syntax.tnil))),
-        ) (List._∷_ (
-          14,
-          Rows.any-gone ty·3,
-        ) (List._∷_ (
-          15,
-          Rows.any-gone (Syntax.tyStruct (List._∷_ 38 (List._∷_ 91 (List._∷_ 93 List.[]))) (Syntax.tcons ty·3 (Syntax.tcons (Syntax.tyInt Syntax.w64) Syntax.tnil))),
-        ) List.[])))))))))))))))
+        g36 = List._∷_ (0, Rows.any-gone ty·15) (List._∷_ (1, Rows.sslice (Referent.rtF (Referent.fInt Syntax.w8)) ty·5 0) (List._∷_ (2, Mut.mslice (Referent.rtF (Referent.fInt Syntax.w16)) ty·8 1) (List._∷_ (3, Mut.mslice (Referent.rtF (Referent.fInt Syntax.w16)) ty·9 2) (List._∷_ (4, Mut.mslice (Referent.rtF (Referent.fInt Syntax.w8)) ty·6 3) (List._∷_
+            (5, Mut.mslice (Referent.rtF (Referent.fInt Syntax.w16)) ty·10 4) (List._∷_ (6, Mut.mslice (Referent.rtF (Referent.fInt Syntax.w16)) ty·11 5) (List._∷_ (7, Relend.mslice-owed (Referent.rtF (Referent.fInt Syntax.w32)) ty·12 6 15 (Row.lease (κs .1 .1 .1 .1 .1 .1 .0) (qs .1 .1 .1 .1 .1 .1 .0))) (List._∷_
+            (8, Relend.mslice-owed (Referent.rtF (Referent.fInt Syntax.w16)) ty·13 7 16 (Row.lease (κs .1 .1 .1 .1 .1 .1 .1 .0) (qs .1 .1 .1 .1 .1 .1 .1 .0))) (List._∷_ (9, Relend.mslice-owed (Referent.rtF (Referent.fInt Syntax.w8)) ty·7 8 17 (Row.lease (κs .1 .1 .1 .1 .1 .1 .1 .1 .0) (qs .1 .1 .1 .1 .1 .1 .1 .1 .0))) (List._∷_
+            (10, Relend.mslice-owed Rec.rt ty·1 9 18 (Row.lease (κs .1 .1 .1 .1 .1 .1 .1 .1 .1 .0) (qs .1 .1 .1 .1 .1 .1 .1 .1 .1 .0))) (List._∷_ (11, Rows.whole (Declared.row Reading.the-type)) (List._∷_ (12, Rows.any-gone ty·3) (List._∷_
+            (13, Rows.any-gone (Syntax.tyStruct (List._∷_ 38 (List._∷_ 91 (List._∷_ 93 List.[]))) (Syntax.tcons ty·3 (Syntax.tcons (Syntax.tyInt Syntax.w64) Syntax.tnil)))) (List._∷_ (14, Rows.any-gone ty·3) (List._∷_
+            (15, Rows.any-gone (Syntax.tyStruct (List._∷_ 38 (List._∷_ 91 (List._∷_ 93 List.[]))) (Syntax.tcons ty·3 (Syntax.tcons (Syntax.tyInt Syntax.w64) Syntax.tnil)))) List.[])))))))))))))))
 
         abbrev g38 : List.List Row.Entry
-        g38 = List._∷_ (
-          0,
-          Rows.any-gone ty·15,
-        ) (List._∷_ (
-          1,
-          Rows.sslice (Referent.rtF (Referent.fInt Syntax.w8)) ty·5 0,
-        ) (List._∷_ (
-          2,
-          Mut.mslice (Referent.rtF (Referent.fInt Syntax.w16)) ty·8 1,
-        ) (List._∷_ (
-          3,
-          Mut.mslice (Referent.rtF (Referent.fInt Syntax.w16)) ty·9 2,
-        ) (List._∷_ (
-          4,
-          Mut.mslice (Referent.rtF (Referent.fInt Syntax.w8)) ty·6 3,
-        ) (List._∷_ (
-          5,
-          Mut.mslice (Referent.rtF (Referent.fInt Syntax.w16)) ty·10 4,
-        ) (List._∷_ (
-          6,
-          Mut.mslice (Referent.rtF (Referent.fInt Syntax.w16)) ty·11 5,
-        ) (List._∷_ (
-          7,
-          Mut.mslice (Referent.rtF (Referent.fInt Syntax.w32)) ty·12 6,
-        ) (List._∷_ (
-          8,
-          Relend.mslice-owed (Referent.rtF (Referent.fInt Syntax.w16)) ty·13 7 16 (Row.lease (κs .1 .1 .1 .1 .1 .1 .1 .0) (qs .1 .1 .1 .1 .1 .1 .1 .0)),
-        ) (List._∷_ (
-          9,
-          Relend.mslice-owed (Referent.rtF (Referent.fInt Syntax.w8)) ty·7 8 17 (Row.lease (κs .1 .1 .1 .1 .1 .1 .1 .1 .0) (qs .1 .1 .1 .1 .1 .1 .1 .1 .0)),
-        ) (List._∷_ (
-          10,
-          Relend.mslice-owed Rec.rt ty·1 9 18 (Row.lease (κs .1 .1 .1 .1 .1 .1 .1 .1 .1 .0) (qs .1 .1 .1 .1 .1 .1 .1 .1 .1 .0)),
-        ) (List._∷_ (11, Rows.whole (Declared.row Reading.the-type)) (List._∷_ (
-          12,
-          Rows.any-gone ty·3,
-        ) (List._∷_ (
-          13,
-          Rows.any-gone (Syntax.tyStruct (List._∷_ 38 (List._∷_ 91 (List._∷_ 93 List.[]))) (Syntax.tcons ty·3 (Syntax.tcons (Syntax.tyInt Syntax.w64) Syntax.tnil))),
-        ) (List._∷_ (
-          14,
-          Rows.any-gone ty·3,
-        ) (List._∷_ (
-          15,
-          Rows.any-gone (Syntax.tyStruct (List._∷_ 38 (List._∷_ 91 (List._∷_ 93 List.[]))) (Syntax.tcons ty·3 (Syntax.tcons (Syntax.tyInt Syntax.w64) Syntax.tnil))),
-        ) List.[])))))))))))))))
+        g38 = List._∷_ (0, Rows.any-gone ty·15) (List._∷_ (1, Rows.sslice (Referent.rtF (Referent.fInt Syntax.w8)) ty·5 0) (List._∷_ (2, Mut.mslice (Referent.rtF (Referent.fInt Syntax.w16)) ty·8 1) (List._∷_ (3, Mut.mslice (Referent.rtF (Referent.fInt Syntax.w16)) ty·9 2) (List._∷_ (4, Mut.mslice (Referent.rtF (Referent.fInt Syntax.w8)) ty·6 3) (List._∷_
+            (5, Mut.mslice (Referent.rtF (Referent.fInt Syntax.w16)) ty·10 4) (List._∷_ (6, Mut.mslice (Referent.rtF (Referent.fInt Syntax.w16)) ty·11 5) (List._∷_ (7, Mut.mslice (Referent.rtF (Referent.fInt Syntax.w32)) ty·12 6) (List._∷_
+            (8, Relend.mslice-owed (Referent.rtF (Referent.fInt Syntax.w16)) ty·13 7 16 (Row.lease (κs .1 .1 .1 .1 .1 .1 .1 .0) (qs .1 .1 .1 .1 .1 .1 .1 .0))) (List._∷_ (9, Relend.mslice-owed (Referent.rtF (Referent.fInt Syntax.w8)) ty·7 8 17 (Row.lease (κs .1 .1 .1 .1 .1 .1 .1 .1 .0) (qs .1 .1 .1 .1 .1 .1 .1 .1 .0))) (List._∷_
+            (10, Relend.mslice-owed Rec.rt ty·1 9 18 (Row.lease (κs .1 .1 .1 .1 .1 .1 .1 .1 .1 .0) (qs .1 .1 .1 .1 .1 .1 .1 .1 .1 .0))) (List._∷_ (11, Rows.whole (Declared.row Reading.the-type)) (List._∷_ (12, Rows.any-gone ty·3) (List._∷_
+            (13, Rows.any-gone (Syntax.tyStruct (List._∷_ 38 (List._∷_ 91 (List._∷_ 93 List.[]))) (Syntax.tcons ty·3 (Syntax.tcons (Syntax.tyInt Syntax.w64) Syntax.tnil)))) (List._∷_ (14, Rows.any-gone ty·3) (List._∷_
+            (15, Rows.any-gone (Syntax.tyStruct (List._∷_ 38 (List._∷_ 91 (List._∷_ 93 List.[]))) (Syntax.tcons ty·3 (Syntax.tcons (Syntax.tyInt Syntax.w64) Syntax.tnil)))) List.[])))))))))))))))
 
         abbrev g40 : List.List Row.Entry
-        g40 = List._∷_ (
-          0,
-          Rows.any-gone ty·15,
-        ) (List._∷_ (
-          1,
-          Rows.sslice (Referent.rtF (Referent.fInt Syntax.w8)) ty·5 0,
-        ) (List._∷_ (
-          2,
-          Mut.mslice (Referent.rtF (Referent.fInt Syntax.w16)) ty·8 1,
-        ) (List._∷_ (
-          3,
-          Mut.mslice (Referent.rtF (Referent.fInt Syntax.w16)) ty·9 2,
-        ) (List._∷_ (
-          4,
-          Mut.mslice (Referent.rtF (Referent.fInt Syntax.w8)) ty·6 3,
-        ) (List._∷_ (
-          5,
-          Mut.mslice (Referent.rtF (Referent.fInt Syntax.w16)) ty·10 4,
-        ) (List._∷_ (
-          6,
-          Mut.mslice (Referent.rtF (Referent.fInt Syntax.w16)) ty·11 5,
-        ) (List._∷_ (
-          7,
-          Mut.mslice (Referent.rtF (Referent.fInt Syntax.w32)) ty·12 6,
-        ) (List._∷_ (
-          8,
-          Mut.mslice (Referent.rtF (Referent.fInt Syntax.w16)) ty·13 7,
-        ) (List._∷_ (
-          9,
-          Relend.mslice-owed (Referent.rtF (Referent.fInt Syntax.w8)) ty·7 8 17 (Row.lease (κs .1 .1 .1 .1 .1 .1 .1 .1 .0) (qs .1 .1 .1 .1 .1 .1 .1 .1 .0)),
-        ) (List._∷_ (
-          10,
-          Relend.mslice-owed Rec.rt ty·1 9 18 (Row.lease (κs .1 .1 .1 .1 .1 .1 .1 .1 .1 .0) (qs .1 .1 .1 .1 .1 .1 .1 .1 .1 .0)),
-        ) (List._∷_ (11, Rows.whole (Declared.row Reading.the-type)) (List._∷_ (
-          12,
-          Rows.any-gone ty·3,
-        ) (List._∷_ (
-          13,
-          Rows.any-gone (Syntax.tyStruct (List._∷_ 38 (List._∷_ 91 (List._∷_ 93 List.[]))) (Syntax.tcons ty·3 (Syntax.tcons (Syntax.tyInt Syntax.w64) Syntax.tnil))),
-        ) (List._∷_ (
-          14,
-          Rows.any-gone ty·3,
-        ) (List._∷_ (
-          15,
-          Rows.any-gone (Syntax.tyStruct (List._∷_ 38 (List._∷_ 91 (List._∷_ 93 List.[]))) (Syntax.tcons ty·3 (Syntax.tcons (Syntax.tyInt Syntax.w64) Syntax.tnil))),
-        ) List.[])))))))))))))))
+        g40 = List._∷_ (0, Rows.any-gone ty·15) (List._∷_ (1, Rows.sslice (Referent.rtF (Referent.fInt Syntax.w8)) ty·5 0) (List._∷_ (2, Mut.mslice (Referent.rtF (Referent.fInt Syntax.w16)) ty·8 1) (List._∷_ (3, Mut.mslice (Referent.rtF (Referent.fInt Syntax.w16)) ty·9 2) (List._∷_ (4, Mut.mslice (Referent.rtF (Referent.fInt Syntax.w8)) ty·6 3) (List._∷_
+            (5, Mut.mslice (Referent.rtF (Referent.fInt Syntax.w16)) ty·10 4) (List._∷_ (6, Mut.mslice (Referent.rtF (Referent.fInt Syntax.w16)) ty·11 5) (List._∷_ (7, Mut.mslice (Referent.rtF (Referent.fInt Syntax.w32)) ty·12 6) (List._∷_ (8, Mut.mslice (Referent.rtF (Referent.fInt Syntax.w16)) ty·13 7) (List._∷_
+            (9, Relend.mslice-owed (Referent.rtF (Referent.fInt Syntax.w8)) ty·7 8 17 (Row.lease (κs .1 .1 .1 .1 .1 .1 .1 .1 .0) (qs .1 .1 .1 .1 .1 .1 .1 .1 .0))) (List._∷_ (10, Relend.mslice-owed Rec.rt ty·1 9 18 (Row.lease (κs .1 .1 .1 .1 .1 .1 .1 .1 .1 .0) (qs .1 .1 .1 .1 .1 .1 .1 .1 .1 .0))) (List._∷_ (11, Rows.whole (Declared.row Reading.the-type))
+            (List._∷_ (12, Rows.any-gone ty·3) (List._∷_ (13, Rows.any-gone (Syntax.tyStruct (List._∷_ 38 (List._∷_ 91 (List._∷_ 93 List.[]))) (Syntax.tcons ty·3 (Syntax.tcons (Syntax.tyInt Syntax.w64) Syntax.tnil)))) (List._∷_ (14, Rows.any-gone ty·3) (List._∷_
+            (15, Rows.any-gone (Syntax.tyStruct (List._∷_ 38 (List._∷_ 91 (List._∷_ 93 List.[]))) (Syntax.tcons ty·3 (Syntax.tcons (Syntax.tyInt Syntax.w64) Syntax.tnil)))) List.[])))))))))))))))
 
         abbrev g42 : List.List Row.Entry
-        g42 = List._∷_ (
-          0,
-          Rows.any-gone ty·15,
-        ) (List._∷_ (
-          1,
-          Rows.sslice (Referent.rtF (Referent.fInt Syntax.w8)) ty·5 0,
-        ) (List._∷_ (
-          2,
-          Mut.mslice (Referent.rtF (Referent.fInt Syntax.w16)) ty·8 1,
-        ) (List._∷_ (
-          3,
-          Mut.mslice (Referent.rtF (Referent.fInt Syntax.w16)) ty·9 2,
-        ) (List._∷_ (
-          4,
-          Mut.mslice (Referent.rtF (Referent.fInt Syntax.w8)) ty·6 3,
-        ) (List._∷_ (
-          5,
-          Mut.mslice (Referent.rtF (Referent.fInt Syntax.w16)) ty·10 4,
-        ) (List._∷_ (
-          6,
-          Mut.mslice (Referent.rtF (Referent.fInt Syntax.w16)) ty·11 5,
-        ) (List._∷_ (
-          7,
-          Mut.mslice (Referent.rtF (Referent.fInt Syntax.w32)) ty·12 6,
-        ) (List._∷_ (
-          8,
-          Mut.mslice (Referent.rtF (Referent.fInt Syntax.w16)) ty·13 7,
-        ) (List._∷_ (
-          9,
-          Mut.mslice (Referent.rtF (Referent.fInt Syntax.w8)) ty·7 8,
-        ) (List._∷_ (
-          10,
-          Relend.mslice-owed Rec.rt ty·1 9 18 (Row.lease (κs .1 .1 .1 .1 .1 .1 .1 .1 .1 .0) (qs .1 .1 .1 .1 .1 .1 .1 .1 .1 .0)),
-        ) (List._∷_ (11, Rows.whole (Declared.row Reading.the-type)) (List._∷_ (
-          12,
-          Rows.any-gone ty·3,
-        ) (List._∷_ (
-          13,
-          Rows.any-gone (Syntax.tyStruct (List._∷_ 38 (List._∷_ 91 (List._∷_ 93 List.[]))) (Syntax.tcons ty·3 (Syntax.tcons (Syntax.tyInt Syntax.w64) Syntax.tnil))),
-        ) (List._∷_ (
-          14,
-          Rows.any-gone ty·3,
-        ) (List._∷_ (
-          15,
-          Rows.any-gone (Syntax.tyStruct (List._∷_ 38 (List._∷_ 91 (List._∷_ 93 List.[]))) (Syntax.tcons ty·3 (Syntax.tcons (Syntax.tyInt Syntax.w64) Syntax.tnil))),
-        ) List.[])))))))))))))))
+        g42 = List._∷_ (0, Rows.any-gone ty·15) (List._∷_ (1, Rows.sslice (Referent.rtF (Referent.fInt Syntax.w8)) ty·5 0) (List._∷_ (2, Mut.mslice (Referent.rtF (Referent.fInt Syntax.w16)) ty·8 1) (List._∷_ (3, Mut.mslice (Referent.rtF (Referent.fInt Syntax.w16)) ty·9 2) (List._∷_ (4, Mut.mslice (Referent.rtF (Referent.fInt Syntax.w8)) ty·6 3) (List._∷_
+            (5, Mut.mslice (Referent.rtF (Referent.fInt Syntax.w16)) ty·10 4) (List._∷_ (6, Mut.mslice (Referent.rtF (Referent.fInt Syntax.w16)) ty·11 5) (List._∷_ (7, Mut.mslice (Referent.rtF (Referent.fInt Syntax.w32)) ty·12 6) (List._∷_ (8, Mut.mslice (Referent.rtF (Referent.fInt Syntax.w16)) ty·13 7) (List._∷_
+            (9, Mut.mslice (Referent.rtF (Referent.fInt Syntax.w8)) ty·7 8) (List._∷_ (10, Relend.mslice-owed Rec.rt ty·1 9 18 (Row.lease (κs .1 .1 .1 .1 .1 .1 .1 .1 .1 .0) (qs .1 .1 .1 .1 .1 .1 .1 .1 .1 .0))) (List._∷_ (11, Rows.whole (Declared.row Reading.the-type)) (List._∷_ (12, Rows.any-gone ty·3) (List._∷_
+            (13, Rows.any-gone (Syntax.tyStruct (List._∷_ 38 (List._∷_ 91 (List._∷_ 93 List.[]))) (Syntax.tcons ty·3 (Syntax.tcons (Syntax.tyInt Syntax.w64) Syntax.tnil)))) (List._∷_ (14, Rows.any-gone ty·3) (List._∷_
+            (15, Rows.any-gone (Syntax.tyStruct (List._∷_ 38 (List._∷_ 91 (List._∷_ 93 List.[]))) (Syntax.tcons ty·3 (Syntax.tcons (Syntax.tyInt Syntax.w64) Syntax.tnil)))) List.[])))))))))))))))
+
+        abbrev slots·0 : List.List Row.Life
+        slots·0 = List._∷_ (Row.lease (κs .0) (qs .0)) (List._∷_ (Row.lease (κs .1 .0) (qs .1 .0)) (List._∷_ (Row.lease (κs .1 .1 .0) (qs .1 .1 .0)) (List._∷_ (Row.lease (κs .1 .1 .1 .0) (qs .1 .1 .1 .0)) (List._∷_ (Row.lease (κs .1 .1 .1 .1 .0) (qs .1 .1 .1 .1 .0)) (List._∷_ (Row.lease (κs .1 .1 .1 .1 .1 .0) (qs .1 .1 .1 .1 .1 .0)) (List._∷_ (Row.lease (κs
+            .1 .1 .1 .1 .1 .1 .0) (qs .1 .1 .1 .1 .1 .1 .0)) (List._∷_ (Row.lease (κs .1 .1 .1 .1 .1 .1 .1 .0) (qs .1 .1 .1 .1 .1 .1 .1 .0)) (List._∷_ (Row.lease (κs .1 .1 .1 .1 .1 .1 .1 .1 .0) (qs .1 .1 .1 .1 .1 .1 .1 .1 .0)) (List._∷_ (Row.lease (κs .1 .1 .1 .1 .1 .1 .1 .1 .1 .0) (qs .1 .1 .1 .1 .1 .1 .1 .1 .1 .0)) (List._∷_ Row.off (List._∷_ Row.off (List._∷_
+            Row.off (List._∷_ Row.off (List._∷_ Row.off (List._∷_ Row.off (List._∷_ Row.off (List._∷_ Row.off (List._∷_ Row.off List.[]))))))))))))))))))
+
+        abbrev slots·1 : List.List Row.Life
+        slots·1 = List._∷_ (Row.lease (κs .0) (qs .0)) (List._∷_ Row.off (List._∷_ (Row.lease (κs .1 .1 .0) (qs .1 .1 .0)) (List._∷_ (Row.lease (κs .1 .1 .1 .0) (qs .1 .1 .1 .0)) (List._∷_ (Row.lease (κs .1 .1 .1 .1 .0) (qs .1 .1 .1 .1 .0)) (List._∷_ (Row.lease (κs .1 .1 .1 .1 .1 .0) (qs .1 .1 .1 .1 .1 .0)) (List._∷_ (Row.lease (κs .1 .1 .1 .1 .1 .1 .0) (qs
+            .1 .1 .1 .1 .1 .1 .0)) (List._∷_ (Row.lease (κs .1 .1 .1 .1 .1 .1 .1 .0) (qs .1 .1 .1 .1 .1 .1 .1 .0)) (List._∷_ (Row.lease (κs .1 .1 .1 .1 .1 .1 .1 .1 .0) (qs .1 .1 .1 .1 .1 .1 .1 .1 .0)) (List._∷_ (Row.lease (κs .1 .1 .1 .1 .1 .1 .1 .1 .1 .0) (qs .1 .1 .1 .1 .1 .1 .1 .1 .1 .0)) (List._∷_ Row.alive (List._∷_ Row.off (List._∷_ Row.off (List._∷_
+            Row.off (List._∷_ Row.off (List._∷_ Row.off (List._∷_ Row.off (List._∷_ Row.off (List._∷_ Row.off List.[]))))))))))))))))))
+
+        abbrev slots·2 : List.List Row.Life
+        slots·2 = List._∷_ (Row.lease (κs .0) (qs .0)) (List._∷_ Row.off (List._∷_ Row.off (List._∷_ (Row.lease (κs .1 .1 .1 .0) (qs .1 .1 .1 .0)) (List._∷_ (Row.lease (κs .1 .1 .1 .1 .0) (qs .1 .1 .1 .1 .0)) (List._∷_ (Row.lease (κs .1 .1 .1 .1 .1 .0) (qs .1 .1 .1 .1 .1 .0)) (List._∷_ (Row.lease (κs .1 .1 .1 .1 .1 .1 .0) (qs .1 .1 .1 .1 .1 .1 .0)) (List._∷_
+            (Row.lease (κs .1 .1 .1 .1 .1 .1 .1 .0) (qs .1 .1 .1 .1 .1 .1 .1 .0)) (List._∷_ (Row.lease (κs .1 .1 .1 .1 .1 .1 .1 .1 .0) (qs .1 .1 .1 .1 .1 .1 .1 .1 .0)) (List._∷_ (Row.lease (κs .1 .1 .1 .1 .1 .1 .1 .1 .1 .0) (qs .1 .1 .1 .1 .1 .1 .1 .1 .1 .0)) (List._∷_ Row.alive (List._∷_ Row.alive (List._∷_ Row.off (List._∷_ Row.off (List._∷_ Row.off (List._∷_
+            Row.off (List._∷_ Row.off (List._∷_ Row.off (List._∷_ Row.off List.[]))))))))))))))))))
+
+        abbrev slots·3 : List.List Row.Life
+        slots·3 = List._∷_ (Row.lease (κs .0) (qs .0)) (List._∷_ Row.off (List._∷_ Row.off (List._∷_ Row.off (List._∷_ (Row.lease (κs .1 .1 .1 .1 .0) (qs .1 .1 .1 .1 .0)) (List._∷_ (Row.lease (κs .1 .1 .1 .1 .1 .0) (qs .1 .1 .1 .1 .1 .0)) (List._∷_ (Row.lease (κs .1 .1 .1 .1 .1 .1 .0) (qs .1 .1 .1 .1 .1 .1 .0)) (List._∷_ (Row.lease (κs .1 .1 .1 .1 .1 .1 .1
+            .0) (qs .1 .1 .1 .1 .1 .1 .1 .0)) (List._∷_ (Row.lease (κs .1 .1 .1 .1 .1 .1 .1 .1 .0) (qs .1 .1 .1 .1 .1 .1 .1 .1 .0)) (List._∷_ (Row.lease (κs .1 .1 .1 .1 .1 .1 .1 .1 .1 .0) (qs .1 .1 .1 .1 .1 .1 .1 .1 .1 .0)) (List._∷_ Row.alive (List._∷_ Row.alive (List._∷_ Row.alive (List._∷_ Row.off (List._∷_ Row.off (List._∷_ Row.off (List._∷_ Row.off
+            (List._∷_ Row.off (List._∷_ Row.off List.[]))))))))))))))))))
+
+        abbrev slots·4 : List.List Row.Life
+        slots·4 = List._∷_ (Row.lease (κs .0) (qs .0)) (List._∷_ Row.off (List._∷_ Row.off (List._∷_ Row.off (List._∷_ Row.off (List._∷_ (Row.lease (κs .1 .1 .1 .1 .1 .0) (qs .1 .1 .1 .1 .1 .0)) (List._∷_ (Row.lease (κs .1 .1 .1 .1 .1 .1 .0) (qs .1 .1 .1 .1 .1 .1 .0)) (List._∷_ (Row.lease (κs .1 .1 .1 .1 .1 .1 .1 .0) (qs .1 .1 .1 .1 .1 .1 .1 .0)) (List._∷_
+            (Row.lease (κs .1 .1 .1 .1 .1 .1 .1 .1 .0) (qs .1 .1 .1 .1 .1 .1 .1 .1 .0)) (List._∷_ (Row.lease (κs .1 .1 .1 .1 .1 .1 .1 .1 .1 .0) (qs .1 .1 .1 .1 .1 .1 .1 .1 .1 .0)) (List._∷_ Row.alive (List._∷_ Row.alive (List._∷_ Row.alive (List._∷_ Row.alive (List._∷_ Row.off (List._∷_ Row.off (List._∷_ Row.off (List._∷_ Row.off (List._∷_ Row.off
+            List.[]))))))))))))))))))
+
+        abbrev slots·5 : List.List Row.Life
+        slots·5 = List._∷_ (Row.lease (κs .0) (qs .0)) (List._∷_ Row.off (List._∷_ Row.off (List._∷_ Row.off (List._∷_ Row.off (List._∷_ Row.off (List._∷_ (Row.lease (κs .1 .1 .1 .1 .1 .1 .0) (qs .1 .1 .1 .1 .1 .1 .0)) (List._∷_ (Row.lease (κs .1 .1 .1 .1 .1 .1 .1 .0) (qs .1 .1 .1 .1 .1 .1 .1 .0)) (List._∷_ (Row.lease (κs .1 .1 .1 .1 .1 .1 .1 .1 .0) (qs .1
+            .1 .1 .1 .1 .1 .1 .1 .0)) (List._∷_ (Row.lease (κs .1 .1 .1 .1 .1 .1 .1 .1 .1 .0) (qs .1 .1 .1 .1 .1 .1 .1 .1 .1 .0)) (List._∷_ Row.alive (List._∷_ Row.alive (List._∷_ Row.alive (List._∷_ Row.alive (List._∷_ Row.alive (List._∷_ Row.off (List._∷_ Row.off (List._∷_ Row.off (List._∷_ Row.off List.[]))))))))))))))))))
+
+        abbrev slots·6 : List.List Row.Life
+        slots·6 = List._∷_ (Row.lease (κs .0) (qs .0)) (List._∷_ Row.off (List._∷_ Row.off (List._∷_ Row.off (List._∷_ Row.off (List._∷_ Row.off (List._∷_ Row.off (List._∷_ (Row.lease (κs .1 .1 .1 .1 .1 .1 .1 .0) (qs .1 .1 .1 .1 .1 .1 .1 .0)) (List._∷_ (Row.lease (κs .1 .1 .1 .1 .1 .1 .1 .1 .0) (qs .1 .1 .1 .1 .1 .1 .1 .1 .0)) (List._∷_ (Row.lease (κs .1 .1
+            .1 .1 .1 .1 .1 .1 .1 .0) (qs .1 .1 .1 .1 .1 .1 .1 .1 .1 .0)) (List._∷_ Row.alive (List._∷_ Row.alive (List._∷_ Row.alive (List._∷_ Row.alive (List._∷_ Row.alive (List._∷_ Row.alive (List._∷_ Row.off (List._∷_ Row.off (List._∷_ Row.off List.[]))))))))))))))))))
+
+        abbrev slots·7 : List.List Row.Life
+        slots·7 = List._∷_ (Row.lease (κs .0) (qs .0)) (List._∷_ Row.off (List._∷_ Row.off (List._∷_ Row.off (List._∷_ Row.off (List._∷_ Row.off (List._∷_ Row.off (List._∷_ Row.off (List._∷_ (Row.lease (κs .1 .1 .1 .1 .1 .1 .1 .1 .0) (qs .1 .1 .1 .1 .1 .1 .1 .1 .0)) (List._∷_ (Row.lease (κs .1 .1 .1 .1 .1 .1 .1 .1 .1 .0) (qs .1 .1 .1 .1 .1 .1 .1 .1 .1 .0))
+            (List._∷_ Row.alive (List._∷_ Row.alive (List._∷_ Row.alive (List._∷_ Row.alive (List._∷_ Row.alive (List._∷_ Row.alive (List._∷_ Row.alive (List._∷_ Row.off (List._∷_ Row.off List.[]))))))))))))))))))
+
+        abbrev slots·8 : List.List Row.Life
+        slots·8 = List._∷_ (Row.lease (κs .0) (qs .0)) (List._∷_ Row.off (List._∷_ Row.off (List._∷_ Row.off (List._∷_ Row.off (List._∷_ Row.off (List._∷_ Row.off (List._∷_ Row.off (List._∷_ Row.off (List._∷_ (Row.lease (κs .1 .1 .1 .1 .1 .1 .1 .1 .1 .0) (qs .1 .1 .1 .1 .1 .1 .1 .1 .1 .0)) (List._∷_ Row.alive (List._∷_ Row.alive (List._∷_ Row.alive (List._∷_
+            Row.alive (List._∷_ Row.alive (List._∷_ Row.alive (List._∷_ Row.alive (List._∷_ Row.alive (List._∷_ Row.off List.[]))))))))))))))))))
+
+        abbrev slots·9 : List.List Row.Life
+        slots·9 = List._∷_ (Row.lease (κs .0) (qs .0)) (List._∷_ Row.off (List._∷_ Row.off (List._∷_ Row.off (List._∷_ Row.off (List._∷_ Row.off (List._∷_ Row.off (List._∷_ Row.off (List._∷_ Row.off (List._∷_ Row.off (List._∷_ Row.alive (List._∷_ Row.alive (List._∷_ Row.alive (List._∷_ Row.alive (List._∷_ Row.alive (List._∷_ Row.alive (List._∷_ Row.alive
+            (List._∷_ Row.alive (List._∷_ Row.alive List.[]))))))))))))))))))
+
+        abbrev slots·10 : List.List Row.Life
+        slots·10 = List._∷_ (Row.lease (κs .0) (qs .0)) (List._∷_ (Row.lease (κs .1 .0) (qs .1 .0)) (List._∷_ Row.off (List._∷_ Row.off (List._∷_ Row.off (List._∷_ Row.off (List._∷_ Row.off (List._∷_ Row.off (List._∷_ Row.off (List._∷_ Row.off (List._∷_ Row.dead (List._∷_ Row.alive (List._∷_ Row.alive (List._∷_ Row.alive (List._∷_ Row.alive (List._∷_
+            Row.alive (List._∷_ Row.alive (List._∷_ Row.alive (List._∷_ Row.alive List.[]))))))))))))))))))
+
+        abbrev slots·11 : List.List Row.Life
+        slots·11 = List._∷_ (Row.lease (κs .0) (qs .0)) (List._∷_ (Row.lease (κs .1 .0) (qs .1 .0)) (List._∷_ (Row.lease (κs .1 .1 .0) (qs .1 .1 .0)) (List._∷_ Row.off (List._∷_ Row.off (List._∷_ Row.off (List._∷_ Row.off (List._∷_ Row.off (List._∷_ Row.off (List._∷_ Row.off (List._∷_ Row.off (List._∷_ Row.dead (List._∷_ Row.alive (List._∷_ Row.alive
+            (List._∷_ Row.alive (List._∷_ Row.alive (List._∷_ Row.alive (List._∷_ Row.alive (List._∷_ Row.alive List.[]))))))))))))))))))
+
+        abbrev slots·12 : List.List Row.Life
+        slots·12 = List._∷_ (Row.lease (κs .0) (qs .0)) (List._∷_ (Row.lease (κs .1 .0) (qs .1 .0)) (List._∷_ (Row.lease (κs .1 .1 .0) (qs .1 .1 .0)) (List._∷_ (Row.lease (κs .1 .1 .1 .0) (qs .1 .1 .1 .0)) (List._∷_ Row.off (List._∷_ Row.off (List._∷_ Row.off (List._∷_ Row.off (List._∷_ Row.off (List._∷_ Row.off (List._∷_ Row.off (List._∷_ Row.off (List._∷_
+            Row.dead (List._∷_ Row.alive (List._∷_ Row.alive (List._∷_ Row.alive (List._∷_ Row.alive (List._∷_ Row.alive (List._∷_ Row.alive List.[]))))))))))))))))))
+
+        abbrev slots·13 : List.List Row.Life
+        slots·13 = List._∷_ (Row.lease (κs .0) (qs .0)) (List._∷_ (Row.lease (κs .1 .0) (qs .1 .0)) (List._∷_ (Row.lease (κs .1 .1 .0) (qs .1 .1 .0)) (List._∷_ (Row.lease (κs .1 .1 .1 .0) (qs .1 .1 .1 .0)) (List._∷_ (Row.lease (κs .1 .1 .1 .1 .0) (qs .1 .1 .1 .1 .0)) (List._∷_ Row.off (List._∷_ Row.off (List._∷_ Row.off (List._∷_ Row.off (List._∷_ Row.off
+            (List._∷_ Row.off (List._∷_ Row.off (List._∷_ Row.off (List._∷_ Row.dead (List._∷_ Row.alive (List._∷_ Row.alive (List._∷_ Row.alive (List._∷_ Row.alive (List._∷_ Row.alive List.[]))))))))))))))))))
+
+        abbrev slots·14 : List.List Row.Life
+        slots·14 = List._∷_ (Row.lease (κs .0) (qs .0)) (List._∷_ (Row.lease (κs .1 .0) (qs .1 .0)) (List._∷_ (Row.lease (κs .1 .1 .0) (qs .1 .1 .0)) (List._∷_ (Row.lease (κs .1 .1 .1 .0) (qs .1 .1 .1 .0)) (List._∷_ (Row.lease (κs .1 .1 .1 .1 .0) (qs .1 .1 .1 .1 .0)) (List._∷_ (Row.lease (κs .1 .1 .1 .1 .1 .0) (qs .1 .1 .1 .1 .1 .0)) (List._∷_ Row.off
+            (List._∷_ Row.off (List._∷_ Row.off (List._∷_ Row.off (List._∷_ Row.off (List._∷_ Row.off (List._∷_ Row.off (List._∷_ Row.off (List._∷_ Row.dead (List._∷_ Row.alive (List._∷_ Row.alive (List._∷_ Row.alive (List._∷_ Row.alive List.[]))))))))))))))))))
+
+        abbrev slots·15 : List.List Row.Life
+        slots·15 = List._∷_ (Row.lease (κs .0) (qs .0)) (List._∷_ (Row.lease (κs .1 .0) (qs .1 .0)) (List._∷_ (Row.lease (κs .1 .1 .0) (qs .1 .1 .0)) (List._∷_ (Row.lease (κs .1 .1 .1 .0) (qs .1 .1 .1 .0)) (List._∷_ (Row.lease (κs .1 .1 .1 .1 .0) (qs .1 .1 .1 .1 .0)) (List._∷_ (Row.lease (κs .1 .1 .1 .1 .1 .0) (qs .1 .1 .1 .1 .1 .0)) (List._∷_ (Row.lease (κs
+            .1 .1 .1 .1 .1 .1 .0) (qs .1 .1 .1 .1 .1 .1 .0)) (List._∷_ Row.off (List._∷_ Row.off (List._∷_ Row.off (List._∷_ Row.off (List._∷_ Row.off (List._∷_ Row.off (List._∷_ Row.off (List._∷_ Row.off (List._∷_ Row.dead (List._∷_ Row.alive (List._∷_ Row.alive (List._∷_ Row.alive List.[]))))))))))))))))))
+
+        abbrev slots·16 : List.List Row.Life
+        slots·16 = List._∷_ (Row.lease (κs .0) (qs .0)) (List._∷_ (Row.lease (κs .1 .0) (qs .1 .0)) (List._∷_ (Row.lease (κs .1 .1 .0) (qs .1 .1 .0)) (List._∷_ (Row.lease (κs .1 .1 .1 .0) (qs .1 .1 .1 .0)) (List._∷_ (Row.lease (κs .1 .1 .1 .1 .0) (qs .1 .1 .1 .1 .0)) (List._∷_ (Row.lease (κs .1 .1 .1 .1 .1 .0) (qs .1 .1 .1 .1 .1 .0)) (List._∷_ (Row.lease (κs
+            .1 .1 .1 .1 .1 .1 .0) (qs .1 .1 .1 .1 .1 .1 .0)) (List._∷_ (Row.lease (κs .1 .1 .1 .1 .1 .1 .1 .0) (qs .1 .1 .1 .1 .1 .1 .1 .0)) (List._∷_ Row.off (List._∷_ Row.off (List._∷_ Row.off (List._∷_ Row.off (List._∷_ Row.off (List._∷_ Row.off (List._∷_ Row.off (List._∷_ Row.off (List._∷_ Row.dead (List._∷_ Row.alive (List._∷_ Row.alive
+            List.[]))))))))))))))))))
+
+        abbrev slots·17 : List.List Row.Life
+        slots·17 = List._∷_ (Row.lease (κs .0) (qs .0)) (List._∷_ (Row.lease (κs .1 .0) (qs .1 .0)) (List._∷_ (Row.lease (κs .1 .1 .0) (qs .1 .1 .0)) (List._∷_ (Row.lease (κs .1 .1 .1 .0) (qs .1 .1 .1 .0)) (List._∷_ (Row.lease (κs .1 .1 .1 .1 .0) (qs .1 .1 .1 .1 .0)) (List._∷_ (Row.lease (κs .1 .1 .1 .1 .1 .0) (qs .1 .1 .1 .1 .1 .0)) (List._∷_ (Row.lease (κs
+            .1 .1 .1 .1 .1 .1 .0) (qs .1 .1 .1 .1 .1 .1 .0)) (List._∷_ (Row.lease (κs .1 .1 .1 .1 .1 .1 .1 .0) (qs .1 .1 .1 .1 .1 .1 .1 .0)) (List._∷_ (Row.lease (κs .1 .1 .1 .1 .1 .1 .1 .1 .0) (qs .1 .1 .1 .1 .1 .1 .1 .1 .0)) (List._∷_ Row.off (List._∷_ Row.off (List._∷_ Row.off (List._∷_ Row.off (List._∷_ Row.off (List._∷_ Row.off (List._∷_ Row.off (List._∷_
+            Row.off (List._∷_ Row.dead (List._∷_ Row.alive List.[]))))))))))))))))))
 
         abbrev G0 : Row.Cx
-        G0 = record {
-          locals = List._++_ t0 t1;
-          slots = List._∷_ (Row.lease (κs .0) (qs .0)) (List._∷_ (Row.lease (κs .1 .0) (qs .1 .0)) (List._∷_ (Row.lease (κs .1 .1 .0) (qs .1 .1 .0)) (List._∷_ (Row.lease (κs .1 .1 .1 .0) (qs .1 .1 .1 .0)) (List._∷_ (Row.lease (κs .1 .1 .1 .1 .0) (qs .1 .1 .1 .1 .0)) (List._∷_
-              (Row.lease (κs .1 .1 .1 .1 .1 .0) (qs .1 .1 .1 .1 .1 .0)) (List._∷_ (Row.lease (κs .1 .1 .1 .1 .1 .1 .0) (qs .1 .1 .1 .1 .1 .1 .0)) (List._∷_ (Row.lease (κs .1 .1 .1 .1 .1 .1 .1 .0) (qs .1 .1 .1 .1 .1 .1 .1 .0)) (List._∷_ (Row.lease (κs .1 .1 .1 .1 .1 .1 .1 .1 .0) (qs .1 .1 .1 .1 .1 .1 .1 .1 .0)) (List._∷_
-              (Row.lease (κs .1 .1 .1 .1 .1 .1 .1 .1 .1 .0) (qs .1 .1 .1 .1 .1 .1 .1 .1 .1 .0)) (List._∷_ Row.off (List._∷_ Row.off (List._∷_ Row.off (List._∷_ Row.off (List._∷_ Row.off (List._∷_ Row.off (List._∷_ Row.off (List._∷_ Row.off (List._∷_ Row.off List.[]))))))))))))))))));
-        }
+        G0 = record { locals = T0 .locals; slots = slots·0 }
 
         abbrev G1 : Row.Cx
-        G1 = record {
-          locals = List._++_ t2 t1;
-          slots = List._∷_ (Row.lease (κs .0) (qs .0)) (List._∷_ (Row.lease (κs .1 .0) (qs .1 .0)) (List._∷_ (Row.lease (κs .1 .1 .0) (qs .1 .1 .0)) (List._∷_ (Row.lease (κs .1 .1 .1 .0) (qs .1 .1 .1 .0)) (List._∷_ (Row.lease (κs .1 .1 .1 .1 .0) (qs .1 .1 .1 .1 .0)) (List._∷_
-              (Row.lease (κs .1 .1 .1 .1 .1 .0) (qs .1 .1 .1 .1 .1 .0)) (List._∷_ (Row.lease (κs .1 .1 .1 .1 .1 .1 .0) (qs .1 .1 .1 .1 .1 .1 .0)) (List._∷_ (Row.lease (κs .1 .1 .1 .1 .1 .1 .1 .0) (qs .1 .1 .1 .1 .1 .1 .1 .0)) (List._∷_ (Row.lease (κs .1 .1 .1 .1 .1 .1 .1 .1 .0) (qs .1 .1 .1 .1 .1 .1 .1 .1 .0)) (List._∷_
-              (Row.lease (κs .1 .1 .1 .1 .1 .1 .1 .1 .1 .0) (qs .1 .1 .1 .1 .1 .1 .1 .1 .1 .0)) (List._∷_ Row.off (List._∷_ Row.off (List._∷_ Row.off (List._∷_ Row.off (List._∷_ Row.off (List._∷_ Row.off (List._∷_ Row.off (List._∷_ Row.off (List._∷_ Row.off List.[]))))))))))))))))));
-        }
-
-        abbrev G2 : Row.Cx
-        G2 = record {
-          locals = List._++_ t0 t1;
-          slots = List._∷_ (Row.lease (κs .0) (qs .0)) (List._∷_ (Row.lease (κs .1 .0) (qs .1 .0)) (List._∷_ (Row.lease (κs .1 .1 .0) (qs .1 .1 .0)) (List._∷_ (Row.lease (κs .1 .1 .1 .0) (qs .1 .1 .1 .0)) (List._∷_ (Row.lease (κs .1 .1 .1 .1 .0) (qs .1 .1 .1 .1 .0)) (List._∷_
-              (Row.lease (κs .1 .1 .1 .1 .1 .0) (qs .1 .1 .1 .1 .1 .0)) (List._∷_ (Row.lease (κs .1 .1 .1 .1 .1 .1 .0) (qs .1 .1 .1 .1 .1 .1 .0)) (List._∷_ (Row.lease (κs .1 .1 .1 .1 .1 .1 .1 .0) (qs .1 .1 .1 .1 .1 .1 .1 .0)) (List._∷_ (Row.lease (κs .1 .1 .1 .1 .1 .1 .1 .1 .0) (qs .1 .1 .1 .1 .1 .1 .1 .1 .0)) (List._∷_
-              (Row.lease (κs .1 .1 .1 .1 .1 .1 .1 .1 .1 .0) (qs .1 .1 .1 .1 .1 .1 .1 .1 .1 .0)) (List._∷_ Row.off (List._∷_ Row.off (List._∷_ Row.off (List._∷_ Row.off (List._∷_ Row.off (List._∷_ Row.off (List._∷_ Row.off (List._∷_ Row.off (List._∷_ Row.off List.[]))))))))))))))))));
-        }
-
-        abbrev G3 : Row.Cx
-        G3 = record {
-          locals = List._++_ t0 t1;
-          slots = List._∷_ (Row.lease (κs .0) (qs .0)) (List._∷_ (Row.lease (κs .1 .0) (qs .1 .0)) (List._∷_ (Row.lease (κs .1 .1 .0) (qs .1 .1 .0)) (List._∷_ (Row.lease (κs .1 .1 .1 .0) (qs .1 .1 .1 .0)) (List._∷_ (Row.lease (κs .1 .1 .1 .1 .0) (qs .1 .1 .1 .1 .0)) (List._∷_
-              (Row.lease (κs .1 .1 .1 .1 .1 .0) (qs .1 .1 .1 .1 .1 .0)) (List._∷_ (Row.lease (κs .1 .1 .1 .1 .1 .1 .0) (qs .1 .1 .1 .1 .1 .1 .0)) (List._∷_ (Row.lease (κs .1 .1 .1 .1 .1 .1 .1 .0) (qs .1 .1 .1 .1 .1 .1 .1 .0)) (List._∷_ (Row.lease (κs .1 .1 .1 .1 .1 .1 .1 .1 .0) (qs .1 .1 .1 .1 .1 .1 .1 .1 .0)) (List._∷_
-              (Row.lease (κs .1 .1 .1 .1 .1 .1 .1 .1 .1 .0) (qs .1 .1 .1 .1 .1 .1 .1 .1 .1 .0)) (List._∷_ Row.off (List._∷_ Row.off (List._∷_ Row.off (List._∷_ Row.off (List._∷_ Row.off (List._∷_ Row.off (List._∷_ Row.off (List._∷_ Row.off (List._∷_ Row.off List.[]))))))))))))))))));
-        }
-
-        abbrev G4 : Row.Cx
-        G4 = record {
-          locals = List._++_ t0 t1;
-          slots = List._∷_ (Row.lease (κs .0) (qs .0)) (List._∷_ (Row.lease (κs .1 .0) (qs .1 .0)) (List._∷_ (Row.lease (κs .1 .1 .0) (qs .1 .1 .0)) (List._∷_ (Row.lease (κs .1 .1 .1 .0) (qs .1 .1 .1 .0)) (List._∷_ (Row.lease (κs .1 .1 .1 .1 .0) (qs .1 .1 .1 .1 .0)) (List._∷_
-              (Row.lease (κs .1 .1 .1 .1 .1 .0) (qs .1 .1 .1 .1 .1 .0)) (List._∷_ (Row.lease (κs .1 .1 .1 .1 .1 .1 .0) (qs .1 .1 .1 .1 .1 .1 .0)) (List._∷_ (Row.lease (κs .1 .1 .1 .1 .1 .1 .1 .0) (qs .1 .1 .1 .1 .1 .1 .1 .0)) (List._∷_ (Row.lease (κs .1 .1 .1 .1 .1 .1 .1 .1 .0) (qs .1 .1 .1 .1 .1 .1 .1 .1 .0)) (List._∷_
-              (Row.lease (κs .1 .1 .1 .1 .1 .1 .1 .1 .1 .0) (qs .1 .1 .1 .1 .1 .1 .1 .1 .1 .0)) (List._∷_ Row.off (List._∷_ Row.off (List._∷_ Row.off (List._∷_ Row.off (List._∷_ Row.off (List._∷_ Row.off (List._∷_ Row.off (List._∷_ Row.off (List._∷_ Row.off List.[]))))))))))))))))));
-        }
-
-        abbrev G5 : Row.Cx
-        G5 = record {
-          locals = List._++_ t0 t1;
-          slots = List._∷_ (Row.lease (κs .0) (qs .0)) (List._∷_ (Row.lease (κs .1 .0) (qs .1 .0)) (List._∷_ (Row.lease (κs .1 .1 .0) (qs .1 .1 .0)) (List._∷_ (Row.lease (κs .1 .1 .1 .0) (qs .1 .1 .1 .0)) (List._∷_ (Row.lease (κs .1 .1 .1 .1 .0) (qs .1 .1 .1 .1 .0)) (List._∷_
-              (Row.lease (κs .1 .1 .1 .1 .1 .0) (qs .1 .1 .1 .1 .1 .0)) (List._∷_ (Row.lease (κs .1 .1 .1 .1 .1 .1 .0) (qs .1 .1 .1 .1 .1 .1 .0)) (List._∷_ (Row.lease (κs .1 .1 .1 .1 .1 .1 .1 .0) (qs .1 .1 .1 .1 .1 .1 .1 .0)) (List._∷_ (Row.lease (κs .1 .1 .1 .1 .1 .1 .1 .1 .0) (qs .1 .1 .1 .1 .1 .1 .1 .1 .0)) (List._∷_
-              (Row.lease (κs .1 .1 .1 .1 .1 .1 .1 .1 .1 .0) (qs .1 .1 .1 .1 .1 .1 .1 .1 .1 .0)) (List._∷_ Row.off (List._∷_ Row.off (List._∷_ Row.off (List._∷_ Row.off (List._∷_ Row.off (List._∷_ Row.off (List._∷_ Row.off (List._∷_ Row.off (List._∷_ Row.off List.[]))))))))))))))))));
-        }
-
-        abbrev G6 : Row.Cx
-        G6 = record {
-          locals = List._++_ t0 t1;
-          slots = List._∷_ (Row.lease (κs .0) (qs .0)) (List._∷_ (Row.lease (κs .1 .0) (qs .1 .0)) (List._∷_ (Row.lease (κs .1 .1 .0) (qs .1 .1 .0)) (List._∷_ (Row.lease (κs .1 .1 .1 .0) (qs .1 .1 .1 .0)) (List._∷_ (Row.lease (κs .1 .1 .1 .1 .0) (qs .1 .1 .1 .1 .0)) (List._∷_
-              (Row.lease (κs .1 .1 .1 .1 .1 .0) (qs .1 .1 .1 .1 .1 .0)) (List._∷_ (Row.lease (κs .1 .1 .1 .1 .1 .1 .0) (qs .1 .1 .1 .1 .1 .1 .0)) (List._∷_ (Row.lease (κs .1 .1 .1 .1 .1 .1 .1 .0) (qs .1 .1 .1 .1 .1 .1 .1 .0)) (List._∷_ (Row.lease (κs .1 .1 .1 .1 .1 .1 .1 .1 .0) (qs .1 .1 .1 .1 .1 .1 .1 .1 .0)) (List._∷_
-              (Row.lease (κs .1 .1 .1 .1 .1 .1 .1 .1 .1 .0) (qs .1 .1 .1 .1 .1 .1 .1 .1 .1 .0)) (List._∷_ Row.off (List._∷_ Row.off (List._∷_ Row.off (List._∷_ Row.off (List._∷_ Row.off (List._∷_ Row.off (List._∷_ Row.off (List._∷_ Row.off (List._∷_ Row.off List.[]))))))))))))))))));
-        }
-
-        abbrev G7 : Row.Cx
-        G7 = record {
-          locals = List._++_ t0 t1;
-          slots = List._∷_ (Row.lease (κs .0) (qs .0)) (List._∷_ (Row.lease (κs .1 .0) (qs .1 .0)) (List._∷_ (Row.lease (κs .1 .1 .0) (qs .1 .1 .0)) (List._∷_ (Row.lease (κs .1 .1 .1 .0) (qs .1 .1 .1 .0)) (List._∷_ (Row.lease (κs .1 .1 .1 .1 .0) (qs .1 .1 .1 .1 .0)) (List._∷_
-              (Row.lease (κs .1 .1 .1 .1 .1 .0) (qs .1 .1 .1 .1 .1 .0)) (List._∷_ (Row.lease (κs .1 .1 .1 .1 .1 .1 .0) (qs .1 .1 .1 .1 .1 .1 .0)) (List._∷_ (Row.lease (κs .1 .1 .1 .1 .1 .1 .1 .0) (qs .1 .1 .1 .1 .1 .1 .1 .0)) (List._∷_ (Row.lease (κs .1 .1 .1 .1 .1 .1 .1 .1 .0) (qs .1 .1 .1 .1 .1 .1 .1 .1 .0)) (List._∷_
-              (Row.lease (κs .1 .1 .1 .1 .1 .1 .1 .1 .1 .0) (qs .1 .1 .1 .1 .1 .1 .1 .1 .1 .0)) (List._∷_ Row.off (List._∷_ Row.off (List._∷_ Row.off (List._∷_ Row.off (List._∷_ Row.off (List._∷_ Row.off (List._∷_ Row.off (List._∷_ Row.off (List._∷_ Row.off List.[]))))))))))))))))));
-        }
-
-        abbrev G8 : Row.Cx
-        G8 = record {
-          locals = List._++_ t0 t1;
-          slots = List._∷_ (Row.lease (κs .0) (qs .0)) (List._∷_ (Row.lease (κs .1 .0) (qs .1 .0)) (List._∷_ (Row.lease (κs .1 .1 .0) (qs .1 .1 .0)) (List._∷_ (Row.lease (κs .1 .1 .1 .0) (qs .1 .1 .1 .0)) (List._∷_ (Row.lease (κs .1 .1 .1 .1 .0) (qs .1 .1 .1 .1 .0)) (List._∷_
-              (Row.lease (κs .1 .1 .1 .1 .1 .0) (qs .1 .1 .1 .1 .1 .0)) (List._∷_ (Row.lease (κs .1 .1 .1 .1 .1 .1 .0) (qs .1 .1 .1 .1 .1 .1 .0)) (List._∷_ (Row.lease (κs .1 .1 .1 .1 .1 .1 .1 .0) (qs .1 .1 .1 .1 .1 .1 .1 .0)) (List._∷_ (Row.lease (κs .1 .1 .1 .1 .1 .1 .1 .1 .0) (qs .1 .1 .1 .1 .1 .1 .1 .1 .0)) (List._∷_
-              (Row.lease (κs .1 .1 .1 .1 .1 .1 .1 .1 .1 .0) (qs .1 .1 .1 .1 .1 .1 .1 .1 .1 .0)) (List._∷_ Row.off (List._∷_ Row.off (List._∷_ Row.off (List._∷_ Row.off (List._∷_ Row.off (List._∷_ Row.off (List._∷_ Row.off (List._∷_ Row.off (List._∷_ Row.off List.[]))))))))))))))))));
-        }
-
-        abbrev G9 : Row.Cx
-        G9 = record {
-          locals = List._++_ t0 t1;
-          slots = List._∷_ (Row.lease (κs .0) (qs .0)) (List._∷_ (Row.lease (κs .1 .0) (qs .1 .0)) (List._∷_ (Row.lease (κs .1 .1 .0) (qs .1 .1 .0)) (List._∷_ (Row.lease (κs .1 .1 .1 .0) (qs .1 .1 .1 .0)) (List._∷_ (Row.lease (κs .1 .1 .1 .1 .0) (qs .1 .1 .1 .1 .0)) (List._∷_
-              (Row.lease (κs .1 .1 .1 .1 .1 .0) (qs .1 .1 .1 .1 .1 .0)) (List._∷_ (Row.lease (κs .1 .1 .1 .1 .1 .1 .0) (qs .1 .1 .1 .1 .1 .1 .0)) (List._∷_ (Row.lease (κs .1 .1 .1 .1 .1 .1 .1 .0) (qs .1 .1 .1 .1 .1 .1 .1 .0)) (List._∷_ (Row.lease (κs .1 .1 .1 .1 .1 .1 .1 .1 .0) (qs .1 .1 .1 .1 .1 .1 .1 .1 .0)) (List._∷_
-              (Row.lease (κs .1 .1 .1 .1 .1 .1 .1 .1 .1 .0) (qs .1 .1 .1 .1 .1 .1 .1 .1 .1 .0)) (List._∷_ Row.off (List._∷_ Row.off (List._∷_ Row.off (List._∷_ Row.off (List._∷_ Row.off (List._∷_ Row.off (List._∷_ Row.off (List._∷_ Row.off (List._∷_ Row.off List.[]))))))))))))))))));
-        }
-
-        abbrev G10 : Row.Cx
-        G10 = record {
-          locals = List._++_ t0 t1;
-          slots = List._∷_ (Row.lease (κs .0) (qs .0)) (List._∷_ (Row.lease (κs .1 .0) (qs .1 .0)) (List._∷_ (Row.lease (κs .1 .1 .0) (qs .1 .1 .0)) (List._∷_ (Row.lease (κs .1 .1 .1 .0) (qs .1 .1 .1 .0)) (List._∷_ (Row.lease (κs .1 .1 .1 .1 .0) (qs .1 .1 .1 .1 .0)) (List._∷_
-              (Row.lease (κs .1 .1 .1 .1 .1 .0) (qs .1 .1 .1 .1 .1 .0)) (List._∷_ (Row.lease (κs .1 .1 .1 .1 .1 .1 .0) (qs .1 .1 .1 .1 .1 .1 .0)) (List._∷_ (Row.lease (κs .1 .1 .1 .1 .1 .1 .1 .0) (qs .1 .1 .1 .1 .1 .1 .1 .0)) (List._∷_ (Row.lease (κs .1 .1 .1 .1 .1 .1 .1 .1 .0) (qs .1 .1 .1 .1 .1 .1 .1 .1 .0)) (List._∷_
-              (Row.lease (κs .1 .1 .1 .1 .1 .1 .1 .1 .1 .0) (qs .1 .1 .1 .1 .1 .1 .1 .1 .1 .0)) (List._∷_ Row.off (List._∷_ Row.off (List._∷_ Row.off (List._∷_ Row.off (List._∷_ Row.off (List._∷_ Row.off (List._∷_ Row.off (List._∷_ Row.off (List._∷_ Row.off List.[]))))))))))))))))));
-        }
+        G1 = record { locals = T1 .locals; slots = slots·0 }
 
         abbrev G11 : Row.Cx
-        G11 = record {
-          locals = List._++_ t0 t1;
-          slots = List._∷_ (Row.lease (κs .0) (qs .0)) (List._∷_ (Row.lease (κs .1 .0) (qs .1 .0)) (List._∷_ (Row.lease (κs .1 .1 .0) (qs .1 .1 .0)) (List._∷_ (Row.lease (κs .1 .1 .1 .0) (qs .1 .1 .1 .0)) (List._∷_ (Row.lease (κs .1 .1 .1 .1 .0) (qs .1 .1 .1 .1 .0)) (List._∷_
-              (Row.lease (κs .1 .1 .1 .1 .1 .0) (qs .1 .1 .1 .1 .1 .0)) (List._∷_ (Row.lease (κs .1 .1 .1 .1 .1 .1 .0) (qs .1 .1 .1 .1 .1 .1 .0)) (List._∷_ (Row.lease (κs .1 .1 .1 .1 .1 .1 .1 .0) (qs .1 .1 .1 .1 .1 .1 .1 .0)) (List._∷_ (Row.lease (κs .1 .1 .1 .1 .1 .1 .1 .1 .0) (qs .1 .1 .1 .1 .1 .1 .1 .1 .0)) (List._∷_
-              (Row.lease (κs .1 .1 .1 .1 .1 .1 .1 .1 .1 .0) (qs .1 .1 .1 .1 .1 .1 .1 .1 .1 .0)) (List._∷_ Row.alive (List._∷_ Row.off (List._∷_ Row.off (List._∷_ Row.off (List._∷_ Row.off (List._∷_ Row.off (List._∷_ Row.off (List._∷_ Row.off (List._∷_ Row.off List.[]))))))))))))))))));
-        }
+        G11 = record
+            { locals = T0 .locals; slots = List._∷_ (Row.lease (κs .0) (qs .0)) (List._∷_ (Row.lease (κs .1 .0) (qs .1 .0)) (List._∷_ (Row.lease (κs .1 .1 .0) (qs .1 .1 .0)) (List._∷_ (Row.lease (κs .1 .1 .1 .0) (qs .1 .1 .1 .0)) (List._∷_ (Row.lease (κs .1 .1 .1 .1 .0) (qs .1 .1 .1 .1 .0)) (List._∷_ (Row.lease (κs .1 .1 .1 .1 .1 .0) (qs .1 .1 .1 .1 .1 .0)) (List._∷_ (Row.lease (κs .1 .1 .1 .1 .1 .1 .0) (qs .1 .1 .1 .1 .1 .1 .0)) (List._∷_ (Row.lease (κs .1 .1 .1 .1 .1 .1 .1 .0) (qs .1 .1 .1 .1 .1 .1 .1 .0)) (List._∷_ (Row.lease (κs .1 .1 .1 .1 .1 .1 .1 .1 .0) (qs .1 .1 .1 .1 .1 .1 .1 .1 .0)) (List._∷_ (Row.lease (κs .1 .1 .1 .1 .1 .1 .1 .1 .1 .0) (qs .1 .1 .1 .1 .1 .1 .1 .1 .1 .0)) (List._∷_ Row.alive (List._∷_ Row.off (List._∷_ Row.off (List._∷_ Row.off (List._∷_ Row.off (List._∷_ Row.off (List._∷_ Row.off (List._∷_ Row.off (List._∷_ Row.off List.[])))))))))))))))))) }
 
         abbrev G12 : Row.Cx
-        G12 = record {
-          locals = List._++_ g3 t1;
-          slots = List._∷_ (Row.lease (κs .0) (qs .0)) (List._∷_ Row.off (List._∷_ (Row.lease (κs .1 .1 .0) (qs .1 .1 .0)) (List._∷_ (Row.lease (κs .1 .1 .1 .0) (qs .1 .1 .1 .0)) (List._∷_ (Row.lease (κs .1 .1 .1 .1 .0) (qs .1 .1 .1 .1 .0)) (List._∷_ (Row.lease (κs .1 .1 .1 .1 .1 .0) (qs .1 .1 .1 .1 .1 .0)) (List._∷_
-              (Row.lease (κs .1 .1 .1 .1 .1 .1 .0) (qs .1 .1 .1 .1 .1 .1 .0)) (List._∷_ (Row.lease (κs .1 .1 .1 .1 .1 .1 .1 .0) (qs .1 .1 .1 .1 .1 .1 .1 .0)) (List._∷_ (Row.lease (κs .1 .1 .1 .1 .1 .1 .1 .1 .0) (qs .1 .1 .1 .1 .1 .1 .1 .1 .0)) (List._∷_ (Row.lease (κs .1 .1 .1 .1 .1 .1 .1 .1 .1 .0) (qs .1 .1 .1 .1 .1 .1 .1 .1 .1 .0)) (List._∷_ Row.alive
-              (List._∷_ Row.off (List._∷_ Row.off (List._∷_ Row.off (List._∷_ Row.off (List._∷_ Row.off (List._∷_ Row.off (List._∷_ Row.off (List._∷_ Row.off List.[]))))))))))))))))));
-        }
+        G12 = record { locals = List._++_ g3 t1; slots = slots·1 }
 
         abbrev G13 : Row.Cx
-        G13 = record {
-          locals = List._++_ g4 t1;
-          slots = List._∷_ (Row.lease (κs .0) (qs .0)) (List._∷_ Row.off (List._∷_ (Row.lease (κs .1 .1 .0) (qs .1 .1 .0)) (List._∷_ (Row.lease (κs .1 .1 .1 .0) (qs .1 .1 .1 .0)) (List._∷_ (Row.lease (κs .1 .1 .1 .1 .0) (qs .1 .1 .1 .1 .0)) (List._∷_ (Row.lease (κs .1 .1 .1 .1 .1 .0) (qs .1 .1 .1 .1 .1 .0)) (List._∷_
-              (Row.lease (κs .1 .1 .1 .1 .1 .1 .0) (qs .1 .1 .1 .1 .1 .1 .0)) (List._∷_ (Row.lease (κs .1 .1 .1 .1 .1 .1 .1 .0) (qs .1 .1 .1 .1 .1 .1 .1 .0)) (List._∷_ (Row.lease (κs .1 .1 .1 .1 .1 .1 .1 .1 .0) (qs .1 .1 .1 .1 .1 .1 .1 .1 .0)) (List._∷_ (Row.lease (κs .1 .1 .1 .1 .1 .1 .1 .1 .1 .0) (qs .1 .1 .1 .1 .1 .1 .1 .1 .1 .0)) (List._∷_ Row.alive
-              (List._∷_ Row.off (List._∷_ Row.off (List._∷_ Row.off (List._∷_ Row.off (List._∷_ Row.off (List._∷_ Row.off (List._∷_ Row.off (List._∷_ Row.off List.[]))))))))))))))))));
-        }
+        G13 = record { locals = List._++_ g4 t1; slots = slots·1 }
 
         abbrev G14 : Row.Cx
-        G14 = record {
-          locals = List._++_ g4 t1;
-          slots = List._∷_ (Row.lease (κs .0) (qs .0)) (List._∷_ Row.off (List._∷_ (Row.lease (κs .1 .1 .0) (qs .1 .1 .0)) (List._∷_ (Row.lease (κs .1 .1 .1 .0) (qs .1 .1 .1 .0)) (List._∷_ (Row.lease (κs .1 .1 .1 .1 .0) (qs .1 .1 .1 .1 .0)) (List._∷_ (Row.lease (κs .1 .1 .1 .1 .1 .0) (qs .1 .1 .1 .1 .1 .0)) (List._∷_
-              (Row.lease (κs .1 .1 .1 .1 .1 .1 .0) (qs .1 .1 .1 .1 .1 .1 .0)) (List._∷_ (Row.lease (κs .1 .1 .1 .1 .1 .1 .1 .0) (qs .1 .1 .1 .1 .1 .1 .1 .0)) (List._∷_ (Row.lease (κs .1 .1 .1 .1 .1 .1 .1 .1 .0) (qs .1 .1 .1 .1 .1 .1 .1 .1 .0)) (List._∷_ (Row.lease (κs .1 .1 .1 .1 .1 .1 .1 .1 .1 .0) (qs .1 .1 .1 .1 .1 .1 .1 .1 .1 .0)) (List._∷_ Row.alive
-              (List._∷_ Row.alive (List._∷_ Row.off (List._∷_ Row.off (List._∷_ Row.off (List._∷_ Row.off (List._∷_ Row.off (List._∷_ Row.off (List._∷_ Row.off List.[]))))))))))))))))));
-        }
+        G14 = record
+            { locals = List._++_ g4 t1; slots = List._∷_ (Row.lease (κs .0) (qs .0)) (List._∷_ Row.off (List._∷_ (Row.lease (κs .1 .1 .0) (qs .1 .1 .0)) (List._∷_ (Row.lease (κs .1 .1 .1 .0) (qs .1 .1 .1 .0)) (List._∷_ (Row.lease (κs .1 .1 .1 .1 .0) (qs .1 .1 .1 .1 .0)) (List._∷_ (Row.lease (κs .1 .1 .1 .1 .1 .0) (qs .1 .1 .1 .1 .1 .0)) (List._∷_ (Row.lease (κs .1 .1 .1 .1 .1 .1 .0) (qs .1 .1 .1 .1 .1 .1 .0)) (List._∷_ (Row.lease (κs .1 .1 .1 .1 .1 .1 .1 .0) (qs .1 .1 .1 .1 .1 .1 .1 .0)) (List._∷_ (Row.lease (κs .1 .1 .1 .1 .1 .1 .1 .1 .0) (qs .1 .1 .1 .1 .1 .1 .1 .1 .0)) (List._∷_ (Row.lease (κs .1 .1 .1 .1 .1 .1 .1 .1 .1 .0) (qs .1 .1 .1 .1 .1 .1 .1 .1 .1 .0)) (List._∷_ Row.alive (List._∷_ Row.alive (List._∷_ Row.off (List._∷_ Row.off (List._∷_ Row.off (List._∷_ Row.off (List._∷_ Row.off (List._∷_ Row.off (List._∷_ Row.off List.[])))))))))))))))))) }
 
         abbrev G15 : Row.Cx
-        G15 = record {
-          locals = List._++_ g5 t1;
-          slots = List._∷_ (Row.lease (κs .0) (qs .0)) (List._∷_ Row.off (List._∷_ Row.off (List._∷_ (Row.lease (κs .1 .1 .1 .0) (qs .1 .1 .1 .0)) (List._∷_ (Row.lease (κs .1 .1 .1 .1 .0) (qs .1 .1 .1 .1 .0)) (List._∷_ (Row.lease (κs .1 .1 .1 .1 .1 .0) (qs .1 .1 .1 .1 .1 .0)) (List._∷_
-              (Row.lease (κs .1 .1 .1 .1 .1 .1 .0) (qs .1 .1 .1 .1 .1 .1 .0)) (List._∷_ (Row.lease (κs .1 .1 .1 .1 .1 .1 .1 .0) (qs .1 .1 .1 .1 .1 .1 .1 .0)) (List._∷_ (Row.lease (κs .1 .1 .1 .1 .1 .1 .1 .1 .0) (qs .1 .1 .1 .1 .1 .1 .1 .1 .0)) (List._∷_ (Row.lease (κs .1 .1 .1 .1 .1 .1 .1 .1 .1 .0) (qs .1 .1 .1 .1 .1 .1 .1 .1 .1 .0)) (List._∷_ Row.alive
-              (List._∷_ Row.alive (List._∷_ Row.off (List._∷_ Row.off (List._∷_ Row.off (List._∷_ Row.off (List._∷_ Row.off (List._∷_ Row.off (List._∷_ Row.off List.[]))))))))))))))))));
-        }
+        G15 = record { locals = List._++_ g5 t1; slots = slots·2 }
 
         abbrev G16 : Row.Cx
-        G16 = record {
-          locals = List._++_ g6 t1;
-          slots = List._∷_ (Row.lease (κs .0) (qs .0)) (List._∷_ Row.off (List._∷_ Row.off (List._∷_ (Row.lease (κs .1 .1 .1 .0) (qs .1 .1 .1 .0)) (List._∷_ (Row.lease (κs .1 .1 .1 .1 .0) (qs .1 .1 .1 .1 .0)) (List._∷_ (Row.lease (κs .1 .1 .1 .1 .1 .0) (qs .1 .1 .1 .1 .1 .0)) (List._∷_
-              (Row.lease (κs .1 .1 .1 .1 .1 .1 .0) (qs .1 .1 .1 .1 .1 .1 .0)) (List._∷_ (Row.lease (κs .1 .1 .1 .1 .1 .1 .1 .0) (qs .1 .1 .1 .1 .1 .1 .1 .0)) (List._∷_ (Row.lease (κs .1 .1 .1 .1 .1 .1 .1 .1 .0) (qs .1 .1 .1 .1 .1 .1 .1 .1 .0)) (List._∷_ (Row.lease (κs .1 .1 .1 .1 .1 .1 .1 .1 .1 .0) (qs .1 .1 .1 .1 .1 .1 .1 .1 .1 .0)) (List._∷_ Row.alive
-              (List._∷_ Row.alive (List._∷_ Row.off (List._∷_ Row.off (List._∷_ Row.off (List._∷_ Row.off (List._∷_ Row.off (List._∷_ Row.off (List._∷_ Row.off List.[]))))))))))))))))));
-        }
+        G16 = record { locals = List._++_ g6 t1; slots = slots·2 }
 
         abbrev G17 : Row.Cx
-        G17 = record {
-          locals = List._++_ g6 t1;
-          slots = List._∷_ (Row.lease (κs .0) (qs .0)) (List._∷_ Row.off (List._∷_ Row.off (List._∷_ (Row.lease (κs .1 .1 .1 .0) (qs .1 .1 .1 .0)) (List._∷_ (Row.lease (κs .1 .1 .1 .1 .0) (qs .1 .1 .1 .1 .0)) (List._∷_ (Row.lease (κs .1 .1 .1 .1 .1 .0) (qs .1 .1 .1 .1 .1 .0)) (List._∷_
-              (Row.lease (κs .1 .1 .1 .1 .1 .1 .0) (qs .1 .1 .1 .1 .1 .1 .0)) (List._∷_ (Row.lease (κs .1 .1 .1 .1 .1 .1 .1 .0) (qs .1 .1 .1 .1 .1 .1 .1 .0)) (List._∷_ (Row.lease (κs .1 .1 .1 .1 .1 .1 .1 .1 .0) (qs .1 .1 .1 .1 .1 .1 .1 .1 .0)) (List._∷_ (Row.lease (κs .1 .1 .1 .1 .1 .1 .1 .1 .1 .0) (qs .1 .1 .1 .1 .1 .1 .1 .1 .1 .0)) (List._∷_ Row.alive
-              (List._∷_ Row.alive (List._∷_ Row.alive (List._∷_ Row.off (List._∷_ Row.off (List._∷_ Row.off (List._∷_ Row.off (List._∷_ Row.off (List._∷_ Row.off List.[]))))))))))))))))));
-        }
+        G17 = record
+            { locals = List._++_ g6 t1; slots = List._∷_ (Row.lease (κs .0) (qs .0)) (List._∷_ Row.off (List._∷_ Row.off (List._∷_ (Row.lease (κs .1 .1 .1 .0) (qs .1 .1 .1 .0)) (List._∷_ (Row.lease (κs .1 .1 .1 .1 .0) (qs .1 .1 .1 .1 .0)) (List._∷_ (Row.lease (κs .1 .1 .1 .1 .1 .0) (qs .1 .1 .1 .1 .1 .0)) (List._∷_ (Row.lease (κs .1 .1 .1 .1 .1 .1 .0) (qs .1 .1 .1 .1 .1 .1 .0)) (List._∷_ (Row.lease (κs .1 .1 .1 .1 .1 .1 .1 .0) (qs .1 .1 .1 .1 .1 .1 .1 .0)) (List._∷_ (Row.lease (κs .1 .1 .1 .1 .1 .1 .1 .1 .0) (qs .1 .1 .1 .1 .1 .1 .1 .1 .0)) (List._∷_ (Row.lease (κs .1 .1 .1 .1 .1 .1 .1 .1 .1 .0) (qs .1 .1 .1 .1 .1 .1 .1 .1 .1 .0)) (List._∷_ Row.alive (List._∷_ Row.alive (List._∷_ Row.alive (List._∷_ Row.off (List._∷_ Row.off (List._∷_ Row.off (List._∷_ Row.off (List._∷_ Row.off (List._∷_ Row.off List.[])))))))))))))))))) }
 
         abbrev G18 : Row.Cx
-        G18 = record {
-          locals = List._++_ g7 t8;
-          slots = List._∷_ (Row.lease (κs .0) (qs .0)) (List._∷_ Row.off (List._∷_ Row.off (List._∷_ Row.off (List._∷_ (Row.lease (κs .1 .1 .1 .1 .0) (qs .1 .1 .1 .1 .0)) (List._∷_ (Row.lease (κs .1 .1 .1 .1 .1 .0) (qs .1 .1 .1 .1 .1 .0)) (List._∷_ (Row.lease (κs .1 .1 .1 .1 .1 .1 .0) (qs .1 .1 .1 .1 .1 .1 .0))
-              (List._∷_ (Row.lease (κs .1 .1 .1 .1 .1 .1 .1 .0) (qs .1 .1 .1 .1 .1 .1 .1 .0)) (List._∷_ (Row.lease (κs .1 .1 .1 .1 .1 .1 .1 .1 .0) (qs .1 .1 .1 .1 .1 .1 .1 .1 .0)) (List._∷_ (Row.lease (κs .1 .1 .1 .1 .1 .1 .1 .1 .1 .0) (qs .1 .1 .1 .1 .1 .1 .1 .1 .1 .0)) (List._∷_ Row.alive (List._∷_ Row.alive (List._∷_ Row.alive (List._∷_ Row.off (List._∷_
-              Row.off (List._∷_ Row.off (List._∷_ Row.off (List._∷_ Row.off (List._∷_ Row.off List.[]))))))))))))))))));
-        }
+        G18 = record { locals = List._++_ g7 t8; slots = slots·3 }
 
         abbrev G19 : Row.Cx
-        G19 = record {
-          locals = List._++_ g7 t9;
-          slots = List._∷_ (Row.lease (κs .0) (qs .0)) (List._∷_ Row.off (List._∷_ Row.off (List._∷_ Row.off (List._∷_ (Row.lease (κs .1 .1 .1 .1 .0) (qs .1 .1 .1 .1 .0)) (List._∷_ (Row.lease (κs .1 .1 .1 .1 .1 .0) (qs .1 .1 .1 .1 .1 .0)) (List._∷_ (Row.lease (κs .1 .1 .1 .1 .1 .1 .0) (qs .1 .1 .1 .1 .1 .1 .0))
-              (List._∷_ (Row.lease (κs .1 .1 .1 .1 .1 .1 .1 .0) (qs .1 .1 .1 .1 .1 .1 .1 .0)) (List._∷_ (Row.lease (κs .1 .1 .1 .1 .1 .1 .1 .1 .0) (qs .1 .1 .1 .1 .1 .1 .1 .1 .0)) (List._∷_ (Row.lease (κs .1 .1 .1 .1 .1 .1 .1 .1 .1 .0) (qs .1 .1 .1 .1 .1 .1 .1 .1 .1 .0)) (List._∷_ Row.alive (List._∷_ Row.alive (List._∷_ Row.alive (List._∷_ Row.off (List._∷_
-              Row.off (List._∷_ Row.off (List._∷_ Row.off (List._∷_ Row.off (List._∷_ Row.off List.[]))))))))))))))))));
-        }
+        G19 = record { locals = List._++_ g7 t9; slots = slots·3 }
 
         abbrev G20 : Row.Cx
-        G20 = record {
-          locals = List._++_ g7 t9;
-          slots = List._∷_ (Row.lease (κs .0) (qs .0)) (List._∷_ Row.off (List._∷_ Row.off (List._∷_ Row.off (List._∷_ (Row.lease (κs .1 .1 .1 .1 .0) (qs .1 .1 .1 .1 .0)) (List._∷_ (Row.lease (κs .1 .1 .1 .1 .1 .0) (qs .1 .1 .1 .1 .1 .0)) (List._∷_ (Row.lease (κs .1 .1 .1 .1 .1 .1 .0) (qs .1 .1 .1 .1 .1 .1 .0))
-              (List._∷_ (Row.lease (κs .1 .1 .1 .1 .1 .1 .1 .0) (qs .1 .1 .1 .1 .1 .1 .1 .0)) (List._∷_ (Row.lease (κs .1 .1 .1 .1 .1 .1 .1 .1 .0) (qs .1 .1 .1 .1 .1 .1 .1 .1 .0)) (List._∷_ (Row.lease (κs .1 .1 .1 .1 .1 .1 .1 .1 .1 .0) (qs .1 .1 .1 .1 .1 .1 .1 .1 .1 .0)) (List._∷_ Row.alive (List._∷_ Row.alive (List._∷_ Row.alive (List._∷_ Row.alive (List._∷_
-              Row.off (List._∷_ Row.off (List._∷_ Row.off (List._∷_ Row.off (List._∷_ Row.off List.[]))))))))))))))))));
-        }
+        G20 = record
+            { locals = List._++_ g7 t9; slots = List._∷_ (Row.lease (κs .0) (qs .0)) (List._∷_ Row.off (List._∷_ Row.off (List._∷_ Row.off (List._∷_ (Row.lease (κs .1 .1 .1 .1 .0) (qs .1 .1 .1 .1 .0)) (List._∷_ (Row.lease (κs .1 .1 .1 .1 .1 .0) (qs .1 .1 .1 .1 .1 .0)) (List._∷_ (Row.lease (κs .1 .1 .1 .1 .1 .1 .0) (qs .1 .1 .1 .1 .1 .1 .0)) (List._∷_ (Row.lease (κs .1 .1 .1 .1 .1 .1 .1 .0) (qs .1 .1 .1 .1 .1 .1 .1 .0)) (List._∷_ (Row.lease (κs .1 .1 .1 .1 .1 .1 .1 .1 .0) (qs .1 .1 .1 .1 .1 .1 .1 .1 .0)) (List._∷_ (Row.lease (κs .1 .1 .1 .1 .1 .1 .1 .1 .1 .0) (qs .1 .1 .1 .1 .1 .1 .1 .1 .1 .0)) (List._∷_ Row.alive (List._∷_ Row.alive (List._∷_ Row.alive (List._∷_ Row.alive (List._∷_ Row.off (List._∷_ Row.off (List._∷_ Row.off (List._∷_ Row.off (List._∷_ Row.off List.[])))))))))))))))))) }
 
         abbrev G21 : Row.Cx
-        G21 = record {
-          locals = List._++_ g10 t11;
-          slots = List._∷_ (Row.lease (κs .0) (qs .0)) (List._∷_ Row.off (List._∷_ Row.off (List._∷_ Row.off (List._∷_ Row.off (List._∷_ (Row.lease (κs .1 .1 .1 .1 .1 .0) (qs .1 .1 .1 .1 .1 .0)) (List._∷_ (Row.lease (κs .1 .1 .1 .1 .1 .1 .0) (qs .1 .1 .1 .1 .1 .1 .0)) (List._∷_
-              (Row.lease (κs .1 .1 .1 .1 .1 .1 .1 .0) (qs .1 .1 .1 .1 .1 .1 .1 .0)) (List._∷_ (Row.lease (κs .1 .1 .1 .1 .1 .1 .1 .1 .0) (qs .1 .1 .1 .1 .1 .1 .1 .1 .0)) (List._∷_ (Row.lease (κs .1 .1 .1 .1 .1 .1 .1 .1 .1 .0) (qs .1 .1 .1 .1 .1 .1 .1 .1 .1 .0)) (List._∷_ Row.alive (List._∷_ Row.alive (List._∷_ Row.alive (List._∷_ Row.alive (List._∷_ Row.off
-              (List._∷_ Row.off (List._∷_ Row.off (List._∷_ Row.off (List._∷_ Row.off List.[]))))))))))))))))));
-        }
+        G21 = record { locals = List._++_ g10 t11; slots = slots·4 }
 
         abbrev G22 : Row.Cx
-        G22 = record {
-          locals = List._++_ g10 t12;
-          slots = List._∷_ (Row.lease (κs .0) (qs .0)) (List._∷_ Row.off (List._∷_ Row.off (List._∷_ Row.off (List._∷_ Row.off (List._∷_ (Row.lease (κs .1 .1 .1 .1 .1 .0) (qs .1 .1 .1 .1 .1 .0)) (List._∷_ (Row.lease (κs .1 .1 .1 .1 .1 .1 .0) (qs .1 .1 .1 .1 .1 .1 .0)) (List._∷_
-              (Row.lease (κs .1 .1 .1 .1 .1 .1 .1 .0) (qs .1 .1 .1 .1 .1 .1 .1 .0)) (List._∷_ (Row.lease (κs .1 .1 .1 .1 .1 .1 .1 .1 .0) (qs .1 .1 .1 .1 .1 .1 .1 .1 .0)) (List._∷_ (Row.lease (κs .1 .1 .1 .1 .1 .1 .1 .1 .1 .0) (qs .1 .1 .1 .1 .1 .1 .1 .1 .1 .0)) (List._∷_ Row.alive (List._∷_ Row.alive (List._∷_ Row.alive (List._∷_ Row.alive (List._∷_ Row.off
-              (List._∷_ Row.off (List._∷_ Row.off (List._∷_ Row.off (List._∷_ Row.off List.[]))))))))))))))))));
-        }
+        G22 = record { locals = List._++_ g10 t12; slots = slots·4 }
 
         abbrev G23 : Row.Cx
-        G23 = record {
-          locals = List._++_ g10 t12;
-          slots = List._∷_ (Row.lease (κs .0) (qs .0)) (List._∷_ Row.off (List._∷_ Row.off (List._∷_ Row.off (List._∷_ Row.off (List._∷_ (Row.lease (κs .1 .1 .1 .1 .1 .0) (qs .1 .1 .1 .1 .1 .0)) (List._∷_ (Row.lease (κs .1 .1 .1 .1 .1 .1 .0) (qs .1 .1 .1 .1 .1 .1 .0)) (List._∷_
-              (Row.lease (κs .1 .1 .1 .1 .1 .1 .1 .0) (qs .1 .1 .1 .1 .1 .1 .1 .0)) (List._∷_ (Row.lease (κs .1 .1 .1 .1 .1 .1 .1 .1 .0) (qs .1 .1 .1 .1 .1 .1 .1 .1 .0)) (List._∷_ (Row.lease (κs .1 .1 .1 .1 .1 .1 .1 .1 .1 .0) (qs .1 .1 .1 .1 .1 .1 .1 .1 .1 .0)) (List._∷_ Row.alive (List._∷_ Row.alive (List._∷_ Row.alive (List._∷_ Row.alive (List._∷_ Row.alive
-              (List._∷_ Row.off (List._∷_ Row.off (List._∷_ Row.off (List._∷_ Row.off List.[]))))))))))))))))));
-        }
+        G23 = record
+            { locals = List._++_ g10 t12; slots = List._∷_ (Row.lease (κs .0) (qs .0)) (List._∷_ Row.off (List._∷_ Row.off (List._∷_ Row.off (List._∷_ Row.off (List._∷_ (Row.lease (κs .1 .1 .1 .1 .1 .0) (qs .1 .1 .1 .1 .1 .0)) (List._∷_ (Row.lease (κs .1 .1 .1 .1 .1 .1 .0) (qs .1 .1 .1 .1 .1 .1 .0)) (List._∷_ (Row.lease (κs .1 .1 .1 .1 .1 .1 .1 .0) (qs .1 .1 .1 .1 .1 .1 .1 .0)) (List._∷_ (Row.lease (κs .1 .1 .1 .1 .1 .1 .1 .1 .0) (qs .1 .1 .1 .1 .1 .1 .1 .1 .0)) (List._∷_ (Row.lease (κs .1 .1 .1 .1 .1 .1 .1 .1 .1 .0) (qs .1 .1 .1 .1 .1 .1 .1 .1 .1 .0)) (List._∷_ Row.alive (List._∷_ Row.alive (List._∷_ Row.alive (List._∷_ Row.alive (List._∷_ Row.alive (List._∷_ Row.off (List._∷_ Row.off (List._∷_ Row.off (List._∷_ Row.off List.[])))))))))))))))))) }
 
         abbrev G24 : Row.Cx
-        G24 = record {
-          locals = List._++_ g13 t14;
-          slots = List._∷_ (Row.lease (κs .0) (qs .0)) (List._∷_ Row.off (List._∷_ Row.off (List._∷_ Row.off (List._∷_ Row.off (List._∷_ Row.off (List._∷_ (Row.lease (κs .1 .1 .1 .1 .1 .1 .0) (qs .1 .1 .1 .1 .1 .1 .0)) (List._∷_ (Row.lease (κs .1 .1 .1 .1 .1 .1 .1 .0) (qs .1 .1 .1 .1 .1 .1 .1 .0)) (List._∷_
-              (Row.lease (κs .1 .1 .1 .1 .1 .1 .1 .1 .0) (qs .1 .1 .1 .1 .1 .1 .1 .1 .0)) (List._∷_ (Row.lease (κs .1 .1 .1 .1 .1 .1 .1 .1 .1 .0) (qs .1 .1 .1 .1 .1 .1 .1 .1 .1 .0)) (List._∷_ Row.alive (List._∷_ Row.alive (List._∷_ Row.alive (List._∷_ Row.alive (List._∷_ Row.alive (List._∷_ Row.off
-              (List._∷_ Row.off (List._∷_ Row.off (List._∷_ Row.off List.[]))))))))))))))))));
-        }
+        G24 = record { locals = List._++_ g13 t14; slots = slots·5 }
 
         abbrev G25 : Row.Cx
-        G25 = record {
-          locals = List._++_ g13 t15;
-          slots = List._∷_ (Row.lease (κs .0) (qs .0)) (List._∷_ Row.off (List._∷_ Row.off (List._∷_ Row.off (List._∷_ Row.off (List._∷_ Row.off (List._∷_ (Row.lease (κs .1 .1 .1 .1 .1 .1 .0) (qs .1 .1 .1 .1 .1 .1 .0)) (List._∷_ (Row.lease (κs .1 .1 .1 .1 .1 .1 .1 .0) (qs .1 .1 .1 .1 .1 .1 .1 .0)) (List._∷_
-              (Row.lease (κs .1 .1 .1 .1 .1 .1 .1 .1 .0) (qs .1 .1 .1 .1 .1 .1 .1 .1 .0)) (List._∷_ (Row.lease (κs .1 .1 .1 .1 .1 .1 .1 .1 .1 .0) (qs .1 .1 .1 .1 .1 .1 .1 .1 .1 .0)) (List._∷_ Row.alive (List._∷_ Row.alive (List._∷_ Row.alive (List._∷_ Row.alive (List._∷_ Row.alive (List._∷_ Row.off
-              (List._∷_ Row.off (List._∷_ Row.off (List._∷_ Row.off List.[]))))))))))))))))));
-        }
+        G25 = record { locals = List._++_ g13 t15; slots = slots·5 }
 
         abbrev G26 : Row.Cx
-        G26 = record {
-          locals = List._++_ g13 t15;
-          slots = List._∷_ (Row.lease (κs .0) (qs .0)) (List._∷_ Row.off (List._∷_ Row.off (List._∷_ Row.off (List._∷_ Row.off (List._∷_ Row.off (List._∷_ (Row.lease (κs .1 .1 .1 .1 .1 .1 .0) (qs .1 .1 .1 .1 .1 .1 .0)) (List._∷_ (Row.lease (κs .1 .1 .1 .1 .1 .1 .1 .0) (qs .1 .1 .1 .1 .1 .1 .1 .0)) (List._∷_
-              (Row.lease (κs .1 .1 .1 .1 .1 .1 .1 .1 .0) (qs .1 .1 .1 .1 .1 .1 .1 .1 .0)) (List._∷_ (Row.lease (κs .1 .1 .1 .1 .1 .1 .1 .1 .1 .0) (qs .1 .1 .1 .1 .1 .1 .1 .1 .1 .0)) (List._∷_ Row.alive (List._∷_ Row.alive (List._∷_ Row.alive (List._∷_ Row.alive (List._∷_ Row.alive (List._∷_ Row.alive
-              (List._∷_ Row.off (List._∷_ Row.off (List._∷_ Row.off List.[]))))))))))))))))));
-        }
+        G26 = record
+            { locals = List._++_ g13 t15; slots = List._∷_ (Row.lease (κs .0) (qs .0)) (List._∷_ Row.off (List._∷_ Row.off (List._∷_ Row.off (List._∷_ Row.off (List._∷_ Row.off (List._∷_ (Row.lease (κs .1 .1 .1 .1 .1 .1 .0) (qs .1 .1 .1 .1 .1 .1 .0)) (List._∷_ (Row.lease (κs .1 .1 .1 .1 .1 .1 .1 .0) (qs .1 .1 .1 .1 .1 .1 .1 .0)) (List._∷_ (Row.lease (κs .1 .1 .1 .1 .1 .1 .1 .1 .0) (qs .1 .1 .1 .1 .1 .1 .1 .1 .0)) (List._∷_ (Row.lease (κs .1 .1 .1 .1 .1 .1 .1 .1 .1 .0) (qs .1 .1 .1 .1 .1 .1 .1 .1 .1 .0)) (List._∷_ Row.alive (List._∷_ Row.alive (List._∷_ Row.alive (List._∷_ Row.alive (List._∷_ Row.alive (List._∷_ Row.alive (List._∷_ Row.off (List._∷_ Row.off (List._∷_ Row.off List.[])))))))))))))))))) }
 
         abbrev G27 : Row.Cx
-        G27 = record {
-          locals = List._++_ g16 t17;
-          slots = List._∷_ (Row.lease (κs .0) (qs .0)) (List._∷_ Row.off (List._∷_ Row.off (List._∷_ Row.off (List._∷_ Row.off (List._∷_ Row.off (List._∷_ Row.off (List._∷_ (Row.lease (κs .1 .1 .1 .1 .1 .1 .1 .0) (qs .1 .1 .1 .1 .1 .1 .1 .0)) (List._∷_
-              (Row.lease (κs .1 .1 .1 .1 .1 .1 .1 .1 .0) (qs .1 .1 .1 .1 .1 .1 .1 .1 .0)) (List._∷_ (Row.lease (κs .1 .1 .1 .1 .1 .1 .1 .1 .1 .0) (qs .1 .1 .1 .1 .1 .1 .1 .1 .1 .0)) (List._∷_ Row.alive (List._∷_ Row.alive (List._∷_ Row.alive (List._∷_ Row.alive (List._∷_ Row.alive (List._∷_ Row.alive
-              (List._∷_ Row.off (List._∷_ Row.off (List._∷_ Row.off List.[]))))))))))))))))));
-        }
+        G27 = record { locals = List._++_ g16 t17; slots = slots·6 }
 
         abbrev G28 : Row.Cx
-        G28 = record {
-          locals = List._++_ g16 t18;
-          slots = List._∷_ (Row.lease (κs .0) (qs .0)) (List._∷_ Row.off (List._∷_ Row.off (List._∷_ Row.off (List._∷_ Row.off (List._∷_ Row.off (List._∷_ Row.off (List._∷_ (Row.lease (κs .1 .1 .1 .1 .1 .1 .1 .0) (qs .1 .1 .1 .1 .1 .1 .1 .0)) (List._∷_
-              (Row.lease (κs .1 .1 .1 .1 .1 .1 .1 .1 .0) (qs .1 .1 .1 .1 .1 .1 .1 .1 .0)) (List._∷_ (Row.lease (κs .1 .1 .1 .1 .1 .1 .1 .1 .1 .0) (qs .1 .1 .1 .1 .1 .1 .1 .1 .1 .0)) (List._∷_ Row.alive (List._∷_ Row.alive (List._∷_ Row.alive (List._∷_ Row.alive (List._∷_ Row.alive (List._∷_ Row.alive
-              (List._∷_ Row.off (List._∷_ Row.off (List._∷_ Row.off List.[]))))))))))))))))));
-        }
+        G28 = record { locals = List._++_ g16 t18; slots = slots·6 }
 
         abbrev G29 : Row.Cx
-        G29 = record {
-          locals = List._++_ g16 t18;
-          slots = List._∷_ (Row.lease (κs .0) (qs .0)) (List._∷_ Row.off (List._∷_ Row.off (List._∷_ Row.off (List._∷_ Row.off (List._∷_ Row.off (List._∷_ Row.off (List._∷_ (Row.lease (κs .1 .1 .1 .1 .1 .1 .1 .0) (qs .1 .1 .1 .1 .1 .1 .1 .0)) (List._∷_
-              (Row.lease (κs .1 .1 .1 .1 .1 .1 .1 .1 .0) (qs .1 .1 .1 .1 .1 .1 .1 .1 .0)) (List._∷_ (Row.lease (κs .1 .1 .1 .1 .1 .1 .1 .1 .1 .0) (qs .1 .1 .1 .1 .1 .1 .1 .1 .1 .0)) (List._∷_ Row.alive (List._∷_ Row.alive (List._∷_ Row.alive (List._∷_ Row.alive (List._∷_ Row.alive (List._∷_ Row.alive
-              (List._∷_ Row.alive (List._∷_ Row.off (List._∷_ Row.off List.[]))))))))))))))))));
-        }
+        G29 = record
+            { locals = List._++_ g16 t18; slots = List._∷_ (Row.lease (κs .0) (qs .0)) (List._∷_ Row.off (List._∷_ Row.off (List._∷_ Row.off (List._∷_ Row.off (List._∷_ Row.off (List._∷_ Row.off (List._∷_ (Row.lease (κs .1 .1 .1 .1 .1 .1 .1 .0) (qs .1 .1 .1 .1 .1 .1 .1 .0)) (List._∷_ (Row.lease (κs .1 .1 .1 .1 .1 .1 .1 .1 .0) (qs .1 .1 .1 .1 .1 .1 .1 .1 .0)) (List._∷_ (Row.lease (κs .1 .1 .1 .1 .1 .1 .1 .1 .1 .0) (qs .1 .1 .1 .1 .1 .1 .1 .1 .1 .0)) (List._∷_ Row.alive (List._∷_ Row.alive (List._∷_ Row.alive (List._∷_ Row.alive (List._∷_ Row.alive (List._∷_ Row.alive (List._∷_ Row.alive (List._∷_ Row.off (List._∷_ Row.off List.[])))))))))))))))))) }
 
         abbrev G30 : Row.Cx
-        G30 = record {
-          locals = List._++_ g19 t20;
-          slots = List._∷_ (Row.lease (κs .0) (qs .0)) (List._∷_ Row.off (List._∷_ Row.off (List._∷_ Row.off (List._∷_ Row.off (List._∷_ Row.off (List._∷_ Row.off (List._∷_ Row.off (List._∷_ (Row.lease (κs .1 .1 .1 .1 .1 .1 .1 .1 .0) (qs .1 .1 .1 .1 .1 .1 .1 .1 .0)) (List._∷_
-              (Row.lease (κs .1 .1 .1 .1 .1 .1 .1 .1 .1 .0) (qs .1 .1 .1 .1 .1 .1 .1 .1 .1 .0)) (List._∷_ Row.alive (List._∷_ Row.alive (List._∷_ Row.alive (List._∷_ Row.alive (List._∷_ Row.alive (List._∷_ Row.alive (List._∷_ Row.alive (List._∷_ Row.off (List._∷_ Row.off List.[]))))))))))))))))));
-        }
+        G30 = record { locals = List._++_ g19 t20; slots = slots·7 }
 
         abbrev G31 : Row.Cx
-        G31 = record {
-          locals = List._++_ g19 t21;
-          slots = List._∷_ (Row.lease (κs .0) (qs .0)) (List._∷_ Row.off (List._∷_ Row.off (List._∷_ Row.off (List._∷_ Row.off (List._∷_ Row.off (List._∷_ Row.off (List._∷_ Row.off (List._∷_ (Row.lease (κs .1 .1 .1 .1 .1 .1 .1 .1 .0) (qs .1 .1 .1 .1 .1 .1 .1 .1 .0)) (List._∷_
-              (Row.lease (κs .1 .1 .1 .1 .1 .1 .1 .1 .1 .0) (qs .1 .1 .1 .1 .1 .1 .1 .1 .1 .0)) (List._∷_ Row.alive (List._∷_ Row.alive (List._∷_ Row.alive (List._∷_ Row.alive (List._∷_ Row.alive (List._∷_ Row.alive (List._∷_ Row.alive (List._∷_ Row.off (List._∷_ Row.off List.[]))))))))))))))))));
-        }
+        G31 = record { locals = List._++_ g19 t21; slots = slots·7 }
 
         abbrev G32 : Row.Cx
-        G32 = record {
-          locals = List._++_ g19 t21;
-          slots = List._∷_ (Row.lease (κs .0) (qs .0)) (List._∷_ Row.off (List._∷_ Row.off (List._∷_ Row.off (List._∷_ Row.off (List._∷_ Row.off (List._∷_ Row.off (List._∷_ Row.off (List._∷_ (Row.lease (κs .1 .1 .1 .1 .1 .1 .1 .1 .0) (qs .1 .1 .1 .1 .1 .1 .1 .1 .0)) (List._∷_
-              (Row.lease (κs .1 .1 .1 .1 .1 .1 .1 .1 .1 .0) (qs .1 .1 .1 .1 .1 .1 .1 .1 .1 .0)) (List._∷_ Row.alive (List._∷_ Row.alive (List._∷_ Row.alive (List._∷_ Row.alive (List._∷_ Row.alive (List._∷_ Row.alive (List._∷_ Row.alive (List._∷_ Row.alive (List._∷_ Row.off List.[]))))))))))))))))));
-        }
+        G32 = record
+            { locals = List._++_ g19 t21; slots = List._∷_ (Row.lease (κs .0) (qs .0)) (List._∷_ Row.off (List._∷_ Row.off (List._∷_ Row.off (List._∷_ Row.off (List._∷_ Row.off (List._∷_ Row.off (List._∷_ Row.off (List._∷_ (Row.lease (κs .1 .1 .1 .1 .1 .1 .1 .1 .0) (qs .1 .1 .1 .1 .1 .1 .1 .1 .0)) (List._∷_ (Row.lease (κs .1 .1 .1 .1 .1 .1 .1 .1 .1 .0) (qs .1 .1 .1 .1 .1 .1 .1 .1 .1 .0)) (List._∷_ Row.alive (List._∷_ Row.alive (List._∷_ Row.alive (List._∷_ Row.alive (List._∷_ Row.alive (List._∷_ Row.alive (List._∷_ Row.alive (List._∷_ Row.alive (List._∷_ Row.off List.[])))))))))))))))))) }
 
         abbrev G33 : Row.Cx
-        G33 = record {
-          locals = List._++_ g22 t23;
-          slots = List._∷_ (Row.lease (κs .0) (qs .0)) (List._∷_ Row.off (List._∷_ Row.off (List._∷_ Row.off (List._∷_ Row.off (List._∷_ Row.off (List._∷_ Row.off (List._∷_ Row.off (List._∷_ Row.off (List._∷_ (Row.lease (κs .1 .1 .1 .1 .1 .1 .1 .1 .1 .0) (qs .1 .1 .1 .1 .1 .1 .1 .1 .1 .0)) (List._∷_ Row.alive
-              (List._∷_ Row.alive (List._∷_ Row.alive (List._∷_ Row.alive (List._∷_ Row.alive (List._∷_ Row.alive (List._∷_ Row.alive (List._∷_ Row.alive (List._∷_ Row.off List.[]))))))))))))))))));
-        }
+        G33 = record { locals = List._++_ g22 t23; slots = slots·8 }
 
         abbrev G34 : Row.Cx
-        G34 = record {
-          locals = List._++_ g22 t24;
-          slots = List._∷_ (Row.lease (κs .0) (qs .0)) (List._∷_ Row.off (List._∷_ Row.off (List._∷_ Row.off (List._∷_ Row.off (List._∷_ Row.off (List._∷_ Row.off (List._∷_ Row.off (List._∷_ Row.off (List._∷_ (Row.lease (κs .1 .1 .1 .1 .1 .1 .1 .1 .1 .0) (qs .1 .1 .1 .1 .1 .1 .1 .1 .1 .0)) (List._∷_ Row.alive
-              (List._∷_ Row.alive (List._∷_ Row.alive (List._∷_ Row.alive (List._∷_ Row.alive (List._∷_ Row.alive (List._∷_ Row.alive (List._∷_ Row.alive (List._∷_ Row.off List.[]))))))))))))))))));
-        }
+        G34 = record { locals = List._++_ g22 t24; slots = slots·8 }
 
         abbrev G35 : Row.Cx
-        G35 = record {
-          locals = List._++_ g22 t24;
-          slots = List._∷_ (Row.lease (κs .0) (qs .0)) (List._∷_ Row.off (List._∷_ Row.off (List._∷_ Row.off (List._∷_ Row.off (List._∷_ Row.off (List._∷_ Row.off (List._∷_ Row.off (List._∷_ Row.off (List._∷_ (Row.lease (κs .1 .1 .1 .1 .1 .1 .1 .1 .1 .0) (qs .1 .1 .1 .1 .1 .1 .1 .1 .1 .0)) (List._∷_ Row.alive
-              (List._∷_ Row.alive (List._∷_ Row.alive (List._∷_ Row.alive (List._∷_ Row.alive (List._∷_ Row.alive (List._∷_ Row.alive (List._∷_ Row.alive (List._∷_ Row.alive List.[]))))))))))))))))));
-        }
+        G35 = record
+            { locals = List._++_ g22 t24; slots = List._∷_ (Row.lease (κs .0) (qs .0)) (List._∷_ Row.off (List._∷_ Row.off (List._∷_ Row.off (List._∷_ Row.off (List._∷_ Row.off (List._∷_ Row.off (List._∷_ Row.off (List._∷_ Row.off (List._∷_ (Row.lease (κs .1 .1 .1 .1 .1 .1 .1 .1 .1 .0) (qs .1 .1 .1 .1 .1 .1 .1 .1 .1 .0)) (List._∷_ Row.alive (List._∷_ Row.alive (List._∷_ Row.alive (List._∷_ Row.alive (List._∷_ Row.alive (List._∷_ Row.alive (List._∷_ Row.alive (List._∷_ Row.alive (List._∷_ Row.alive List.[])))))))))))))))))) }
 
         abbrev G36 : Row.Cx
-        G36 = record {
-          locals = List._++_ g25 t26;
-          slots = List._∷_ (Row.lease (κs .0) (qs .0)) (List._∷_ Row.off (List._∷_ Row.off (List._∷_ Row.off (List._∷_ Row.off (List._∷_ Row.off (List._∷_ Row.off (List._∷_ Row.off (List._∷_ Row.off (List._∷_ Row.off (List._∷_ Row.alive (List._∷_ Row.alive (List._∷_ Row.alive (List._∷_ Row.alive (List._∷_ Row.alive
-              (List._∷_ Row.alive (List._∷_ Row.alive (List._∷_ Row.alive (List._∷_ Row.alive List.[]))))))))))))))))));
-        }
+        G36 = record { locals = List._++_ g25 t26; slots = slots·9 }
 
         abbrev G37 : Row.Cx
-        G37 = record {
-          locals = List._++_ g25 t27;
-          slots = List._∷_ (Row.lease (κs .0) (qs .0)) (List._∷_ Row.off (List._∷_ Row.off (List._∷_ Row.off (List._∷_ Row.off (List._∷_ Row.off (List._∷_ Row.off (List._∷_ Row.off (List._∷_ Row.off (List._∷_ Row.off (List._∷_ Row.alive (List._∷_ Row.alive (List._∷_ Row.alive (List._∷_ Row.alive (List._∷_ Row.alive
-              (List._∷_ Row.alive (List._∷_ Row.alive (List._∷_ Row.alive (List._∷_ Row.alive List.[]))))))))))))))))));
-        }
+        G37 = record { locals = List._++_ g25 t27; slots = slots·9 }
 
         abbrev G38 : Row.Cx
-        G38 = record {
-          locals = List._++_ g28 t29;
-          slots = List._∷_ (Row.lease (κs .0) (qs .0)) (List._∷_ Row.off (List._∷_ Row.off (List._∷_ Row.off (List._∷_ Row.off (List._∷_ Row.off (List._∷_ Row.off (List._∷_ Row.off (List._∷_ Row.off (List._∷_ Row.off (List._∷_ Row.alive (List._∷_ Row.alive (List._∷_ Row.alive (List._∷_ Row.alive (List._∷_ Row.alive
-              (List._∷_ Row.alive (List._∷_ Row.alive (List._∷_ Row.alive (List._∷_ Row.alive List.[]))))))))))))))))));
-        }
+        G38 = record { locals = List._++_ g28 t29; slots = slots·9 }
 
         abbrev G39 : Row.Cx
-        G39 = record {
-          locals = List._++_ g28 t29;
-          slots = List._∷_ (Row.lease (κs .0) (qs .0)) (List._∷_ Row.off (List._∷_ Row.off (List._∷_ Row.off (List._∷_ Row.off (List._∷_ Row.off (List._∷_ Row.off (List._∷_ Row.off (List._∷_ Row.off (List._∷_ Row.off (List._∷_ Row.dead (List._∷_ Row.alive (List._∷_ Row.alive (List._∷_ Row.alive (List._∷_ Row.alive
-              (List._∷_ Row.alive (List._∷_ Row.alive (List._∷_ Row.alive (List._∷_ Row.alive List.[]))))))))))))))))));
-        }
+        G39 = record
+            { locals = List._++_ g28 t29; slots = List._∷_ (Row.lease (κs .0) (qs .0)) (List._∷_ Row.off (List._∷_ Row.off (List._∷_ Row.off (List._∷_ Row.off (List._∷_ Row.off (List._∷_ Row.off (List._∷_ Row.off (List._∷_ Row.off (List._∷_ Row.off (List._∷_ Row.dead (List._∷_ Row.alive (List._∷_ Row.alive (List._∷_ Row.alive (List._∷_ Row.alive (List._∷_ Row.alive (List._∷_ Row.alive (List._∷_ Row.alive (List._∷_ Row.alive List.[])))))))))))))))))) }
 
         abbrev G40 : Row.Cx
-        G40 = record {
-          locals = List._++_ g30 t29;
-          slots = List._∷_ (Row.lease (κs .0) (qs .0)) (List._∷_ (Row.lease (κs .1 .0) (qs .1 .0)) (List._∷_ Row.off (List._∷_ Row.off (List._∷_ Row.off (List._∷_ Row.off (List._∷_ Row.off (List._∷_ Row.off (List._∷_ Row.off (List._∷_ Row.off (List._∷_ Row.dead (List._∷_ Row.alive (List._∷_ Row.alive (List._∷_
-              Row.alive (List._∷_ Row.alive (List._∷_ Row.alive (List._∷_ Row.alive (List._∷_ Row.alive (List._∷_ Row.alive List.[]))))))))))))))))));
-        }
-
-        abbrev G41 : Row.Cx
-        G41 = record {
-          locals = List._++_ g30 t29;
-          slots = List._∷_ (Row.lease (κs .0) (qs .0)) (List._∷_ (Row.lease (κs .1 .0) (qs .1 .0)) (List._∷_ Row.off (List._∷_ Row.off (List._∷_ Row.off (List._∷_ Row.off (List._∷_ Row.off (List._∷_ Row.off (List._∷_ Row.off (List._∷_ Row.off (List._∷_ Row.dead (List._∷_ Row.alive (List._∷_ Row.alive (List._∷_
-              Row.alive (List._∷_ Row.alive (List._∷_ Row.alive (List._∷_ Row.alive (List._∷_ Row.alive (List._∷_ Row.alive List.[]))))))))))))))))));
-        }
+        G40 = record { locals = List._++_ g30 t29; slots = slots·10 }
 
         abbrev G42 : Row.Cx
-        G42 = record {
-          locals = List._++_ g30 t29;
-          slots = List._∷_ (Row.lease (κs .0) (qs .0)) (List._∷_ (Row.lease (κs .1 .0) (qs .1 .0)) (List._∷_ Row.off (List._∷_ Row.off (List._∷_ Row.off (List._∷_ Row.off (List._∷_ Row.off (List._∷_ Row.off (List._∷_ Row.off (List._∷_ Row.off (List._∷_ Row.off (List._∷_ Row.alive (List._∷_ Row.alive (List._∷_
-              Row.alive (List._∷_ Row.alive (List._∷_ Row.alive (List._∷_ Row.alive (List._∷_ Row.alive (List._∷_ Row.alive List.[]))))))))))))))))));
-        }
+        G42 = record
+            { locals = List._++_ g30 t29; slots = List._∷_ (Row.lease (κs .0) (qs .0)) (List._∷_ (Row.lease (κs .1 .0) (qs .1 .0)) (List._∷_ Row.off (List._∷_ Row.off (List._∷_ Row.off (List._∷_ Row.off (List._∷_ Row.off (List._∷_ Row.off (List._∷_ Row.off (List._∷_ Row.off (List._∷_ Row.off (List._∷_ Row.alive (List._∷_ Row.alive (List._∷_ Row.alive (List._∷_ Row.alive (List._∷_ Row.alive (List._∷_ Row.alive (List._∷_ Row.alive (List._∷_ Row.alive List.[])))))))))))))))))) }
 
         abbrev G43 : Row.Cx
-        G43 = record {
-          locals = List._++_ g30 t29;
-          slots = List._∷_ (Row.lease (κs .0) (qs .0)) (List._∷_ (Row.lease (κs .1 .0) (qs .1 .0)) (List._∷_ Row.off (List._∷_ Row.off (List._∷_ Row.off (List._∷_ Row.off (List._∷_ Row.off (List._∷_ Row.off (List._∷_ Row.off (List._∷_ Row.off (List._∷_ Row.off (List._∷_ Row.dead (List._∷_ Row.alive (List._∷_ Row.alive
-              (List._∷_ Row.alive (List._∷_ Row.alive (List._∷_ Row.alive (List._∷_ Row.alive (List._∷_ Row.alive List.[]))))))))))))))))));
-        }
+        G43 = record
+            { locals = List._++_ g30 t29; slots = List._∷_ (Row.lease (κs .0) (qs .0)) (List._∷_ (Row.lease (κs .1 .0) (qs .1 .0)) (List._∷_ Row.off (List._∷_ Row.off (List._∷_ Row.off (List._∷_ Row.off (List._∷_ Row.off (List._∷_ Row.off (List._∷_ Row.off (List._∷_ Row.off (List._∷_ Row.off (List._∷_ Row.dead (List._∷_ Row.alive (List._∷_ Row.alive (List._∷_ Row.alive (List._∷_ Row.alive (List._∷_ Row.alive (List._∷_ Row.alive (List._∷_ Row.alive List.[])))))))))))))))))) }
 
         abbrev G44 : Row.Cx
-        G44 = record {
-          locals = List._++_ g31 t29;
-          slots = List._∷_ (Row.lease (κs .0) (qs .0)) (List._∷_ (Row.lease (κs .1 .0) (qs .1 .0)) (List._∷_ (Row.lease (κs .1 .1 .0) (qs .1 .1 .0)) (List._∷_ Row.off (List._∷_ Row.off (List._∷_ Row.off (List._∷_ Row.off (List._∷_ Row.off (List._∷_ Row.off (List._∷_ Row.off (List._∷_ Row.off (List._∷_ Row.dead
-              (List._∷_ Row.alive (List._∷_ Row.alive (List._∷_ Row.alive (List._∷_ Row.alive (List._∷_ Row.alive (List._∷_ Row.alive (List._∷_ Row.alive List.[]))))))))))))))))));
-        }
-
-        abbrev G45 : Row.Cx
-        G45 = record {
-          locals = List._++_ g31 t29;
-          slots = List._∷_ (Row.lease (κs .0) (qs .0)) (List._∷_ (Row.lease (κs .1 .0) (qs .1 .0)) (List._∷_ (Row.lease (κs .1 .1 .0) (qs .1 .1 .0)) (List._∷_ Row.off (List._∷_ Row.off (List._∷_ Row.off (List._∷_ Row.off (List._∷_ Row.off (List._∷_ Row.off (List._∷_ Row.off (List._∷_ Row.off (List._∷_ Row.dead
-              (List._∷_ Row.alive (List._∷_ Row.alive (List._∷_ Row.alive (List._∷_ Row.alive (List._∷_ Row.alive (List._∷_ Row.alive (List._∷_ Row.alive List.[]))))))))))))))))));
-        }
+        G44 = record { locals = List._++_ g31 t29; slots = slots·11 }
 
         abbrev G46 : Row.Cx
-        G46 = record {
-          locals = List._++_ g31 t29;
-          slots = List._∷_ (Row.lease (κs .0) (qs .0)) (List._∷_ (Row.lease (κs .1 .0) (qs .1 .0)) (List._∷_ (Row.lease (κs .1 .1 .0) (qs .1 .1 .0)) (List._∷_ Row.off (List._∷_ Row.off (List._∷_ Row.off (List._∷_ Row.off (List._∷_ Row.off (List._∷_ Row.off (List._∷_ Row.off (List._∷_ Row.off (List._∷_ Row.off
-              (List._∷_ Row.alive (List._∷_ Row.alive (List._∷_ Row.alive (List._∷_ Row.alive (List._∷_ Row.alive (List._∷_ Row.alive (List._∷_ Row.alive List.[]))))))))))))))))));
-        }
+        G46 = record
+            { locals = List._++_ g31 t29; slots = List._∷_ (Row.lease (κs .0) (qs .0)) (List._∷_ (Row.lease (κs .1 .0) (qs .1 .0)) (List._∷_ (Row.lease (κs .1 .1 .0) (qs .1 .1 .0)) (List._∷_ Row.off (List._∷_ Row.off (List._∷_ Row.off (List._∷_ Row.off (List._∷_ Row.off (List._∷_ Row.off (List._∷_ Row.off (List._∷_ Row.off (List._∷_ Row.off (List._∷_ Row.alive (List._∷_ Row.alive (List._∷_ Row.alive (List._∷_ Row.alive (List._∷_ Row.alive (List._∷_ Row.alive (List._∷_ Row.alive List.[])))))))))))))))))) }
 
         abbrev G47 : Row.Cx
-        G47 = record {
-          locals = List._++_ g31 t29;
-          slots = List._∷_ (Row.lease (κs .0) (qs .0)) (List._∷_ (Row.lease (κs .1 .0) (qs .1 .0)) (List._∷_ (Row.lease (κs .1 .1 .0) (qs .1 .1 .0)) (List._∷_ Row.off (List._∷_ Row.off (List._∷_ Row.off (List._∷_ Row.off (List._∷_ Row.off (List._∷_ Row.off (List._∷_ Row.off (List._∷_ Row.off (List._∷_ Row.off
-              (List._∷_ Row.dead (List._∷_ Row.alive (List._∷_ Row.alive (List._∷_ Row.alive (List._∷_ Row.alive (List._∷_ Row.alive (List._∷_ Row.alive List.[]))))))))))))))))));
-        }
+        G47 = record
+            { locals = List._++_ g31 t29; slots = List._∷_ (Row.lease (κs .0) (qs .0)) (List._∷_ (Row.lease (κs .1 .0) (qs .1 .0)) (List._∷_ (Row.lease (κs .1 .1 .0) (qs .1 .1 .0)) (List._∷_ Row.off (List._∷_ Row.off (List._∷_ Row.off (List._∷_ Row.off (List._∷_ Row.off (List._∷_ Row.off (List._∷_ Row.off (List._∷_ Row.off (List._∷_ Row.off (List._∷_ Row.dead (List._∷_ Row.alive (List._∷_ Row.alive (List._∷_ Row.alive (List._∷_ Row.alive (List._∷_ Row.alive (List._∷_ Row.alive List.[])))))))))))))))))) }
 
         abbrev G48 : Row.Cx
-        G48 = record {
-          locals = List._++_ g32 t33;
-          slots = List._∷_ (Row.lease (κs .0) (qs .0)) (List._∷_ (Row.lease (κs .1 .0) (qs .1 .0)) (List._∷_ (Row.lease (κs .1 .1 .0) (qs .1 .1 .0)) (List._∷_ (Row.lease (κs .1 .1 .1 .0) (qs .1 .1 .1 .0)) (List._∷_ Row.off (List._∷_ Row.off (List._∷_ Row.off (List._∷_ Row.off (List._∷_ Row.off (List._∷_ Row.off
-              (List._∷_ Row.off (List._∷_ Row.off (List._∷_ Row.dead (List._∷_ Row.alive (List._∷_ Row.alive (List._∷_ Row.alive (List._∷_ Row.alive (List._∷_ Row.alive (List._∷_ Row.alive List.[]))))))))))))))))));
-        }
-
-        abbrev G49 : Row.Cx
-        G49 = record {
-          locals = List._++_ g32 t33;
-          slots = List._∷_ (Row.lease (κs .0) (qs .0)) (List._∷_ (Row.lease (κs .1 .0) (qs .1 .0)) (List._∷_ (Row.lease (κs .1 .1 .0) (qs .1 .1 .0)) (List._∷_ (Row.lease (κs .1 .1 .1 .0) (qs .1 .1 .1 .0)) (List._∷_ Row.off (List._∷_ Row.off (List._∷_ Row.off (List._∷_ Row.off (List._∷_ Row.off (List._∷_ Row.off
-              (List._∷_ Row.off (List._∷_ Row.off (List._∷_ Row.dead (List._∷_ Row.alive (List._∷_ Row.alive (List._∷_ Row.alive (List._∷_ Row.alive (List._∷_ Row.alive (List._∷_ Row.alive List.[]))))))))))))))))));
-        }
+        G48 = record { locals = List._++_ g32 t33; slots = slots·12 }
 
         abbrev G50 : Row.Cx
-        G50 = record {
-          locals = List._++_ g32 t33;
-          slots = List._∷_ (Row.lease (κs .0) (qs .0)) (List._∷_ (Row.lease (κs .1 .0) (qs .1 .0)) (List._∷_ (Row.lease (κs .1 .1 .0) (qs .1 .1 .0)) (List._∷_ (Row.lease (κs .1 .1 .1 .0) (qs .1 .1 .1 .0)) (List._∷_ Row.off (List._∷_ Row.off (List._∷_ Row.off (List._∷_ Row.off (List._∷_ Row.off (List._∷_ Row.off
-              (List._∷_ Row.off (List._∷_ Row.off (List._∷_ Row.off (List._∷_ Row.alive (List._∷_ Row.alive (List._∷_ Row.alive (List._∷_ Row.alive (List._∷_ Row.alive (List._∷_ Row.alive List.[]))))))))))))))))));
-        }
+        G50 = record
+            { locals = List._++_ g32 t33; slots = List._∷_ (Row.lease (κs .0) (qs .0)) (List._∷_ (Row.lease (κs .1 .0) (qs .1 .0)) (List._∷_ (Row.lease (κs .1 .1 .0) (qs .1 .1 .0)) (List._∷_ (Row.lease (κs .1 .1 .1 .0) (qs .1 .1 .1 .0)) (List._∷_ Row.off (List._∷_ Row.off (List._∷_ Row.off (List._∷_ Row.off (List._∷_ Row.off (List._∷_ Row.off (List._∷_ Row.off (List._∷_ Row.off (List._∷_ Row.off (List._∷_ Row.alive (List._∷_ Row.alive (List._∷_ Row.alive (List._∷_ Row.alive (List._∷_ Row.alive (List._∷_ Row.alive List.[])))))))))))))))))) }
 
         abbrev G51 : Row.Cx
-        G51 = record {
-          locals = List._++_ g32 t33;
-          slots = List._∷_ (Row.lease (κs .0) (qs .0)) (List._∷_ (Row.lease (κs .1 .0) (qs .1 .0)) (List._∷_ (Row.lease (κs .1 .1 .0) (qs .1 .1 .0)) (List._∷_ (Row.lease (κs .1 .1 .1 .0) (qs .1 .1 .1 .0)) (List._∷_ Row.off (List._∷_ Row.off (List._∷_ Row.off (List._∷_ Row.off (List._∷_ Row.off (List._∷_ Row.off
-              (List._∷_ Row.off (List._∷_ Row.off (List._∷_ Row.off (List._∷_ Row.dead (List._∷_ Row.alive (List._∷_ Row.alive (List._∷_ Row.alive (List._∷_ Row.alive (List._∷_ Row.alive List.[]))))))))))))))))));
-        }
+        G51 = record
+            { locals = List._++_ g32 t33; slots = List._∷_ (Row.lease (κs .0) (qs .0)) (List._∷_ (Row.lease (κs .1 .0) (qs .1 .0)) (List._∷_ (Row.lease (κs .1 .1 .0) (qs .1 .1 .0)) (List._∷_ (Row.lease (κs .1 .1 .1 .0) (qs .1 .1 .1 .0)) (List._∷_ Row.off (List._∷_ Row.off (List._∷_ Row.off (List._∷_ Row.off (List._∷_ Row.off (List._∷_ Row.off (List._∷_ Row.off (List._∷_ Row.off (List._∷_ Row.off (List._∷_ Row.dead (List._∷_ Row.alive (List._∷_ Row.alive (List._∷_ Row.alive (List._∷_ Row.alive (List._∷_ Row.alive List.[])))))))))))))))))) }
 
         abbrev G52 : Row.Cx
-        G52 = record {
-          locals = List._++_ g34 t35;
-          slots = List._∷_ (Row.lease (κs .0) (qs .0)) (List._∷_ (Row.lease (κs .1 .0) (qs .1 .0)) (List._∷_ (Row.lease (κs .1 .1 .0) (qs .1 .1 .0)) (List._∷_ (Row.lease (κs .1 .1 .1 .0) (qs .1 .1 .1 .0)) (List._∷_ (Row.lease (κs .1 .1 .1 .1 .0) (qs .1 .1 .1 .1 .0)) (List._∷_ Row.off (List._∷_ Row.off (List._∷_
-              Row.off (List._∷_ Row.off (List._∷_ Row.off (List._∷_ Row.off (List._∷_ Row.off (List._∷_ Row.off (List._∷_ Row.dead (List._∷_ Row.alive (List._∷_ Row.alive (List._∷_ Row.alive (List._∷_ Row.alive (List._∷_ Row.alive List.[]))))))))))))))))));
-        }
-
-        abbrev G53 : Row.Cx
-        G53 = record {
-          locals = List._++_ g34 t35;
-          slots = List._∷_ (Row.lease (κs .0) (qs .0)) (List._∷_ (Row.lease (κs .1 .0) (qs .1 .0)) (List._∷_ (Row.lease (κs .1 .1 .0) (qs .1 .1 .0)) (List._∷_ (Row.lease (κs .1 .1 .1 .0) (qs .1 .1 .1 .0)) (List._∷_ (Row.lease (κs .1 .1 .1 .1 .0) (qs .1 .1 .1 .1 .0)) (List._∷_ Row.off (List._∷_ Row.off (List._∷_
-              Row.off (List._∷_ Row.off (List._∷_ Row.off (List._∷_ Row.off (List._∷_ Row.off (List._∷_ Row.off (List._∷_ Row.dead (List._∷_ Row.alive (List._∷_ Row.alive (List._∷_ Row.alive (List._∷_ Row.alive (List._∷_ Row.alive List.[]))))))))))))))))));
-        }
+        G52 = record { locals = List._++_ g34 t35; slots = slots·13 }
 
         abbrev G54 : Row.Cx
-        G54 = record {
-          locals = List._++_ g34 t35;
-          slots = List._∷_ (Row.lease (κs .0) (qs .0)) (List._∷_ (Row.lease (κs .1 .0) (qs .1 .0)) (List._∷_ (Row.lease (κs .1 .1 .0) (qs .1 .1 .0)) (List._∷_ (Row.lease (κs .1 .1 .1 .0) (qs .1 .1 .1 .0)) (List._∷_ (Row.lease (κs .1 .1 .1 .1 .0) (qs .1 .1 .1 .1 .0)) (List._∷_ Row.off (List._∷_ Row.off (List._∷_
-              Row.off (List._∷_ Row.off (List._∷_ Row.off (List._∷_ Row.off (List._∷_ Row.off (List._∷_ Row.off (List._∷_ Row.off (List._∷_ Row.alive (List._∷_ Row.alive (List._∷_ Row.alive (List._∷_ Row.alive (List._∷_ Row.alive List.[]))))))))))))))))));
-        }
+        G54 = record
+            { locals = List._++_ g34 t35; slots = List._∷_ (Row.lease (κs .0) (qs .0)) (List._∷_ (Row.lease (κs .1 .0) (qs .1 .0)) (List._∷_ (Row.lease (κs .1 .1 .0) (qs .1 .1 .0)) (List._∷_ (Row.lease (κs .1 .1 .1 .0) (qs .1 .1 .1 .0)) (List._∷_ (Row.lease (κs .1 .1 .1 .1 .0) (qs .1 .1 .1 .1 .0)) (List._∷_ Row.off (List._∷_ Row.off (List._∷_ Row.off (List._∷_ Row.off (List._∷_ Row.off (List._∷_ Row.off (List._∷_ Row.off (List._∷_ Row.off (List._∷_ Row.off (List._∷_ Row.alive (List._∷_ Row.alive (List._∷_ Row.alive (List._∷_ Row.alive (List._∷_ Row.alive List.[])))))))))))))))))) }
 
         abbrev G55 : Row.Cx
-        G55 = record {
-          locals = List._++_ g34 t35;
-          slots = List._∷_ (Row.lease (κs .0) (qs .0)) (List._∷_ (Row.lease (κs .1 .0) (qs .1 .0)) (List._∷_ (Row.lease (κs .1 .1 .0) (qs .1 .1 .0)) (List._∷_ (Row.lease (κs .1 .1 .1 .0) (qs .1 .1 .1 .0)) (List._∷_ (Row.lease (κs .1 .1 .1 .1 .0) (qs .1 .1 .1 .1 .0)) (List._∷_ Row.off (List._∷_ Row.off (List._∷_
-              Row.off (List._∷_ Row.off (List._∷_ Row.off (List._∷_ Row.off (List._∷_ Row.off (List._∷_ Row.off (List._∷_ Row.off (List._∷_ Row.dead (List._∷_ Row.alive (List._∷_ Row.alive (List._∷_ Row.alive (List._∷_ Row.alive List.[]))))))))))))))))));
-        }
+        G55 = record
+            { locals = List._++_ g34 t35; slots = List._∷_ (Row.lease (κs .0) (qs .0)) (List._∷_ (Row.lease (κs .1 .0) (qs .1 .0)) (List._∷_ (Row.lease (κs .1 .1 .0) (qs .1 .1 .0)) (List._∷_ (Row.lease (κs .1 .1 .1 .0) (qs .1 .1 .1 .0)) (List._∷_ (Row.lease (κs .1 .1 .1 .1 .0) (qs .1 .1 .1 .1 .0)) (List._∷_ Row.off (List._∷_ Row.off (List._∷_ Row.off (List._∷_ Row.off (List._∷_ Row.off (List._∷_ Row.off (List._∷_ Row.off (List._∷_ Row.off (List._∷_ Row.off (List._∷_ Row.dead (List._∷_ Row.alive (List._∷_ Row.alive (List._∷_ Row.alive (List._∷_ Row.alive List.[])))))))))))))))))) }
 
         abbrev G56 : Row.Cx
-        G56 = record {
-          locals = List._++_ g36 t37;
-          slots = List._∷_ (Row.lease (κs .0) (qs .0)) (List._∷_ (Row.lease (κs .1 .0) (qs .1 .0)) (List._∷_ (Row.lease (κs .1 .1 .0) (qs .1 .1 .0)) (List._∷_ (Row.lease (κs .1 .1 .1 .0) (qs .1 .1 .1 .0)) (List._∷_ (Row.lease (κs .1 .1 .1 .1 .0) (qs .1 .1 .1 .1 .0)) (List._∷_
-              (Row.lease (κs .1 .1 .1 .1 .1 .0) (qs .1 .1 .1 .1 .1 .0)) (List._∷_ Row.off (List._∷_ Row.off (List._∷_ Row.off (List._∷_ Row.off (List._∷_ Row.off (List._∷_ Row.off (List._∷_ Row.off (List._∷_ Row.off (List._∷_ Row.dead (List._∷_ Row.alive (List._∷_ Row.alive (List._∷_ Row.alive (List._∷_ Row.alive List.[]))))))))))))))))));
-        }
-
-        abbrev G57 : Row.Cx
-        G57 = record {
-          locals = List._++_ g36 t37;
-          slots = List._∷_ (Row.lease (κs .0) (qs .0)) (List._∷_ (Row.lease (κs .1 .0) (qs .1 .0)) (List._∷_ (Row.lease (κs .1 .1 .0) (qs .1 .1 .0)) (List._∷_ (Row.lease (κs .1 .1 .1 .0) (qs .1 .1 .1 .0)) (List._∷_ (Row.lease (κs .1 .1 .1 .1 .0) (qs .1 .1 .1 .1 .0)) (List._∷_
-              (Row.lease (κs .1 .1 .1 .1 .1 .0) (qs .1 .1 .1 .1 .1 .0)) (List._∷_ Row.off (List._∷_ Row.off (List._∷_ Row.off (List._∷_ Row.off (List._∷_ Row.off (List._∷_ Row.off (List._∷_ Row.off (List._∷_ Row.off (List._∷_ Row.dead (List._∷_ Row.alive (List._∷_ Row.alive (List._∷_ Row.alive (List._∷_ Row.alive List.[]))))))))))))))))));
-        }
+        G56 = record { locals = List._++_ g36 t37; slots = slots·14 }
 
         abbrev G58 : Row.Cx
-        G58 = record {
-          locals = List._++_ g36 t37;
-          slots = List._∷_ (Row.lease (κs .0) (qs .0)) (List._∷_ (Row.lease (κs .1 .0) (qs .1 .0)) (List._∷_ (Row.lease (κs .1 .1 .0) (qs .1 .1 .0)) (List._∷_ (Row.lease (κs .1 .1 .1 .0) (qs .1 .1 .1 .0)) (List._∷_ (Row.lease (κs .1 .1 .1 .1 .0) (qs .1 .1 .1 .1 .0)) (List._∷_
-              (Row.lease (κs .1 .1 .1 .1 .1 .0) (qs .1 .1 .1 .1 .1 .0)) (List._∷_ Row.off (List._∷_ Row.off (List._∷_ Row.off (List._∷_ Row.off (List._∷_ Row.off (List._∷_ Row.off (List._∷_ Row.off (List._∷_ Row.off (List._∷_ Row.off (List._∷_ Row.alive (List._∷_ Row.alive (List._∷_ Row.alive (List._∷_ Row.alive List.[]))))))))))))))))));
-        }
+        G58 = record
+            { locals = List._++_ g36 t37; slots = List._∷_ (Row.lease (κs .0) (qs .0)) (List._∷_ (Row.lease (κs .1 .0) (qs .1 .0)) (List._∷_ (Row.lease (κs .1 .1 .0) (qs .1 .1 .0)) (List._∷_ (Row.lease (κs .1 .1 .1 .0) (qs .1 .1 .1 .0)) (List._∷_ (Row.lease (κs .1 .1 .1 .1 .0) (qs .1 .1 .1 .1 .0)) (List._∷_ (Row.lease (κs .1 .1 .1 .1 .1 .0) (qs .1 .1 .1 .1 .1 .0)) (List._∷_ Row.off (List._∷_ Row.off (List._∷_ Row.off (List._∷_ Row.off (List._∷_ Row.off (List._∷_ Row.off (List._∷_ Row.off (List._∷_ Row.off (List._∷_ Row.off (List._∷_ Row.alive (List._∷_ Row.alive (List._∷_ Row.alive (List._∷_ Row.alive List.[])))))))))))))))))) }
 
         abbrev G59 : Row.Cx
-        G59 = record {
-          locals = List._++_ g36 t37;
-          slots = List._∷_ (Row.lease (κs .0) (qs .0)) (List._∷_ (Row.lease (κs .1 .0) (qs .1 .0)) (List._∷_ (Row.lease (κs .1 .1 .0) (qs .1 .1 .0)) (List._∷_ (Row.lease (κs .1 .1 .1 .0) (qs .1 .1 .1 .0)) (List._∷_ (Row.lease (κs .1 .1 .1 .1 .0) (qs .1 .1 .1 .1 .0)) (List._∷_
-              (Row.lease (κs .1 .1 .1 .1 .1 .0) (qs .1 .1 .1 .1 .1 .0)) (List._∷_ Row.off (List._∷_ Row.off (List._∷_ Row.off (List._∷_ Row.off (List._∷_ Row.off (List._∷_ Row.off (List._∷_ Row.off (List._∷_ Row.off (List._∷_ Row.off (List._∷_ Row.dead (List._∷_ Row.alive (List._∷_ Row.alive (List._∷_ Row.alive List.[]))))))))))))))))));
-        }
+        G59 = record
+            { locals = List._++_ g36 t37; slots = List._∷_ (Row.lease (κs .0) (qs .0)) (List._∷_ (Row.lease (κs .1 .0) (qs .1 .0)) (List._∷_ (Row.lease (κs .1 .1 .0) (qs .1 .1 .0)) (List._∷_ (Row.lease (κs .1 .1 .1 .0) (qs .1 .1 .1 .0)) (List._∷_ (Row.lease (κs .1 .1 .1 .1 .0) (qs .1 .1 .1 .1 .0)) (List._∷_ (Row.lease (κs .1 .1 .1 .1 .1 .0) (qs .1 .1 .1 .1 .1 .0)) (List._∷_ Row.off (List._∷_ Row.off (List._∷_ Row.off (List._∷_ Row.off (List._∷_ Row.off (List._∷_ Row.off (List._∷_ Row.off (List._∷_ Row.off (List._∷_ Row.off (List._∷_ Row.dead (List._∷_ Row.alive (List._∷_ Row.alive (List._∷_ Row.alive List.[])))))))))))))))))) }
 
         abbrev G60 : Row.Cx
-        G60 = record {
-          locals = List._++_ g38 t39;
-          slots = List._∷_ (Row.lease (κs .0) (qs .0)) (List._∷_ (Row.lease (κs .1 .0) (qs .1 .0)) (List._∷_ (Row.lease (κs .1 .1 .0) (qs .1 .1 .0)) (List._∷_ (Row.lease (κs .1 .1 .1 .0) (qs .1 .1 .1 .0)) (List._∷_ (Row.lease (κs .1 .1 .1 .1 .0) (qs .1 .1 .1 .1 .0)) (List._∷_
-              (Row.lease (κs .1 .1 .1 .1 .1 .0) (qs .1 .1 .1 .1 .1 .0)) (List._∷_ (Row.lease (κs .1 .1 .1 .1 .1 .1 .0) (qs .1 .1 .1 .1 .1 .1 .0)) (List._∷_ Row.off (List._∷_ Row.off (List._∷_ Row.off (List._∷_ Row.off (List._∷_ Row.off (List._∷_ Row.off (List._∷_ Row.off (List._∷_ Row.off (List._∷_ Row.dead (List._∷_ Row.alive
-              (List._∷_ Row.alive (List._∷_ Row.alive List.[]))))))))))))))))));
-        }
-
-        abbrev G61 : Row.Cx
-        G61 = record {
-          locals = List._++_ g38 t39;
-          slots = List._∷_ (Row.lease (κs .0) (qs .0)) (List._∷_ (Row.lease (κs .1 .0) (qs .1 .0)) (List._∷_ (Row.lease (κs .1 .1 .0) (qs .1 .1 .0)) (List._∷_ (Row.lease (κs .1 .1 .1 .0) (qs .1 .1 .1 .0)) (List._∷_ (Row.lease (κs .1 .1 .1 .1 .0) (qs .1 .1 .1 .1 .0)) (List._∷_
-              (Row.lease (κs .1 .1 .1 .1 .1 .0) (qs .1 .1 .1 .1 .1 .0)) (List._∷_ (Row.lease (κs .1 .1 .1 .1 .1 .1 .0) (qs .1 .1 .1 .1 .1 .1 .0)) (List._∷_ Row.off (List._∷_ Row.off (List._∷_ Row.off (List._∷_ Row.off (List._∷_ Row.off (List._∷_ Row.off (List._∷_ Row.off (List._∷_ Row.off (List._∷_ Row.dead (List._∷_ Row.alive
-              (List._∷_ Row.alive (List._∷_ Row.alive List.[]))))))))))))))))));
-        }
+        G60 = record { locals = List._++_ g38 t39; slots = slots·15 }
 
         abbrev G62 : Row.Cx
-        G62 = record {
-          locals = List._++_ g38 t39;
-          slots = List._∷_ (Row.lease (κs .0) (qs .0)) (List._∷_ (Row.lease (κs .1 .0) (qs .1 .0)) (List._∷_ (Row.lease (κs .1 .1 .0) (qs .1 .1 .0)) (List._∷_ (Row.lease (κs .1 .1 .1 .0) (qs .1 .1 .1 .0)) (List._∷_ (Row.lease (κs .1 .1 .1 .1 .0) (qs .1 .1 .1 .1 .0)) (List._∷_
-              (Row.lease (κs .1 .1 .1 .1 .1 .0) (qs .1 .1 .1 .1 .1 .0)) (List._∷_ (Row.lease (κs .1 .1 .1 .1 .1 .1 .0) (qs .1 .1 .1 .1 .1 .1 .0)) (List._∷_ Row.off (List._∷_ Row.off (List._∷_ Row.off (List._∷_ Row.off (List._∷_ Row.off (List._∷_ Row.off (List._∷_ Row.off (List._∷_ Row.off (List._∷_ Row.off (List._∷_ Row.alive
-              (List._∷_ Row.alive (List._∷_ Row.alive List.[]))))))))))))))))));
-        }
+        G62 = record
+            { locals = List._++_ g38 t39; slots = List._∷_ (Row.lease (κs .0) (qs .0)) (List._∷_ (Row.lease (κs .1 .0) (qs .1 .0)) (List._∷_ (Row.lease (κs .1 .1 .0) (qs .1 .1 .0)) (List._∷_ (Row.lease (κs .1 .1 .1 .0) (qs .1 .1 .1 .0)) (List._∷_ (Row.lease (κs .1 .1 .1 .1 .0) (qs .1 .1 .1 .1 .0)) (List._∷_ (Row.lease (κs .1 .1 .1 .1 .1 .0) (qs .1 .1 .1 .1 .1 .0)) (List._∷_ (Row.lease (κs .1 .1 .1 .1 .1 .1 .0) (qs .1 .1 .1 .1 .1 .1 .0)) (List._∷_ Row.off (List._∷_ Row.off (List._∷_ Row.off (List._∷_ Row.off (List._∷_ Row.off (List._∷_ Row.off (List._∷_ Row.off (List._∷_ Row.off (List._∷_ Row.off (List._∷_ Row.alive (List._∷_ Row.alive (List._∷_ Row.alive List.[])))))))))))))))))) }
 
         abbrev G63 : Row.Cx
-        G63 = record {
-          locals = List._++_ g38 t39;
-          slots = List._∷_ (Row.lease (κs .0) (qs .0)) (List._∷_ (Row.lease (κs .1 .0) (qs .1 .0)) (List._∷_ (Row.lease (κs .1 .1 .0) (qs .1 .1 .0)) (List._∷_ (Row.lease (κs .1 .1 .1 .0) (qs .1 .1 .1 .0)) (List._∷_ (Row.lease (κs .1 .1 .1 .1 .0) (qs .1 .1 .1 .1 .0)) (List._∷_
-              (Row.lease (κs .1 .1 .1 .1 .1 .0) (qs .1 .1 .1 .1 .1 .0)) (List._∷_ (Row.lease (κs .1 .1 .1 .1 .1 .1 .0) (qs .1 .1 .1 .1 .1 .1 .0)) (List._∷_ Row.off (List._∷_ Row.off (List._∷_ Row.off (List._∷_ Row.off (List._∷_ Row.off (List._∷_ Row.off (List._∷_ Row.off (List._∷_ Row.off (List._∷_ Row.off
-              (List._∷_ Row.dead (List._∷_ Row.alive (List._∷_ Row.alive List.[]))))))))))))))))));
-        }
+        G63 = record
+            { locals = List._++_ g38 t39; slots = List._∷_ (Row.lease (κs .0) (qs .0)) (List._∷_ (Row.lease (κs .1 .0) (qs .1 .0)) (List._∷_ (Row.lease (κs .1 .1 .0) (qs .1 .1 .0)) (List._∷_ (Row.lease (κs .1 .1 .1 .0) (qs .1 .1 .1 .0)) (List._∷_ (Row.lease (κs .1 .1 .1 .1 .0) (qs .1 .1 .1 .1 .0)) (List._∷_ (Row.lease (κs .1 .1 .1 .1 .1 .0) (qs .1 .1 .1 .1 .1 .0)) (List._∷_ (Row.lease (κs .1 .1 .1 .1 .1 .1 .0) (qs .1 .1 .1 .1 .1 .1 .0)) (List._∷_ Row.off (List._∷_ Row.off (List._∷_ Row.off (List._∷_ Row.off (List._∷_ Row.off (List._∷_ Row.off (List._∷_ Row.off (List._∷_ Row.off (List._∷_ Row.off (List._∷_ Row.dead (List._∷_ Row.alive (List._∷_ Row.alive List.[])))))))))))))))))) }
 
         abbrev G64 : Row.Cx
-        G64 = record {
-          locals = List._++_ g40 t41;
-          slots = List._∷_ (Row.lease (κs .0) (qs .0)) (List._∷_ (Row.lease (κs .1 .0) (qs .1 .0)) (List._∷_ (Row.lease (κs .1 .1 .0) (qs .1 .1 .0)) (List._∷_ (Row.lease (κs .1 .1 .1 .0) (qs .1 .1 .1 .0)) (List._∷_ (Row.lease (κs .1 .1 .1 .1 .0) (qs .1 .1 .1 .1 .0)) (List._∷_
-              (Row.lease (κs .1 .1 .1 .1 .1 .0) (qs .1 .1 .1 .1 .1 .0)) (List._∷_ (Row.lease (κs .1 .1 .1 .1 .1 .1 .0) (qs .1 .1 .1 .1 .1 .1 .0)) (List._∷_ (Row.lease (κs .1 .1 .1 .1 .1 .1 .1 .0) (qs .1 .1 .1 .1 .1 .1 .1 .0)) (List._∷_ Row.off (List._∷_ Row.off (List._∷_ Row.off (List._∷_ Row.off (List._∷_ Row.off (List._∷_ Row.off (List._∷_ Row.off (List._∷_
-              Row.off (List._∷_ Row.dead (List._∷_ Row.alive (List._∷_ Row.alive List.[]))))))))))))))))));
-        }
-
-        abbrev G65 : Row.Cx
-        G65 = record {
-          locals = List._++_ g40 t41;
-          slots = List._∷_ (Row.lease (κs .0) (qs .0)) (List._∷_ (Row.lease (κs .1 .0) (qs .1 .0)) (List._∷_ (Row.lease (κs .1 .1 .0) (qs .1 .1 .0)) (List._∷_ (Row.lease (κs .1 .1 .1 .0) (qs .1 .1 .1 .0)) (List._∷_ (Row.lease (κs .1 .1 .1 .1 .0) (qs .1 .1 .1 .1 .0)) (List._∷_
-              (Row.lease (κs .1 .1 .1 .1 .1 .0) (qs .1 .1 .1 .1 .1 .0)) (List._∷_ (Row.lease (κs .1 .1 .1 .1 .1 .1 .0) (qs .1 .1 .1 .1 .1 .1 .0)) (List._∷_ (Row.lease (κs .1 .1 .1 .1 .1 .1 .1 .0) (qs .1 .1 .1 .1 .1 .1 .1 .0)) (List._∷_ Row.off (List._∷_ Row.off (List._∷_ Row.off (List._∷_ Row.off (List._∷_ Row.off (List._∷_ Row.off (List._∷_ Row.off (List._∷_
-              Row.off (List._∷_ Row.dead (List._∷_ Row.alive (List._∷_ Row.alive List.[]))))))))))))))))));
-        }
+        G64 = record { locals = List._++_ g40 t41; slots = slots·16 }
 
         abbrev G66 : Row.Cx
-        G66 = record {
-          locals = List._++_ g40 t41;
-          slots = List._∷_ (Row.lease (κs .0) (qs .0)) (List._∷_ (Row.lease (κs .1 .0) (qs .1 .0)) (List._∷_ (Row.lease (κs .1 .1 .0) (qs .1 .1 .0)) (List._∷_ (Row.lease (κs .1 .1 .1 .0) (qs .1 .1 .1 .0)) (List._∷_ (Row.lease (κs .1 .1 .1 .1 .0) (qs .1 .1 .1 .1 .0)) (List._∷_
-              (Row.lease (κs .1 .1 .1 .1 .1 .0) (qs .1 .1 .1 .1 .1 .0)) (List._∷_ (Row.lease (κs .1 .1 .1 .1 .1 .1 .0) (qs .1 .1 .1 .1 .1 .1 .0)) (List._∷_ (Row.lease (κs .1 .1 .1 .1 .1 .1 .1 .0) (qs .1 .1 .1 .1 .1 .1 .1 .0)) (List._∷_ Row.off (List._∷_ Row.off (List._∷_ Row.off (List._∷_ Row.off (List._∷_ Row.off (List._∷_ Row.off (List._∷_ Row.off (List._∷_
-              Row.off (List._∷_ Row.off (List._∷_ Row.alive (List._∷_ Row.alive List.[]))))))))))))))))));
-        }
+        G66 = record
+            { locals = List._++_ g40 t41; slots = List._∷_ (Row.lease (κs .0) (qs .0)) (List._∷_ (Row.lease (κs .1 .0) (qs .1 .0)) (List._∷_ (Row.lease (κs .1 .1 .0) (qs .1 .1 .0)) (List._∷_ (Row.lease (κs .1 .1 .1 .0) (qs .1 .1 .1 .0)) (List._∷_ (Row.lease (κs .1 .1 .1 .1 .0) (qs .1 .1 .1 .1 .0)) (List._∷_ (Row.lease (κs .1 .1 .1 .1 .1 .0) (qs .1 .1 .1 .1 .1 .0)) (List._∷_ (Row.lease (κs .1 .1 .1 .1 .1 .1 .0) (qs .1 .1 .1 .1 .1 .1 .0)) (List._∷_ (Row.lease (κs .1 .1 .1 .1 .1 .1 .1 .0) (qs .1 .1 .1 .1 .1 .1 .1 .0)) (List._∷_ Row.off (List._∷_ Row.off (List._∷_ Row.off (List._∷_ Row.off (List._∷_ Row.off (List._∷_ Row.off (List._∷_ Row.off (List._∷_ Row.off (List._∷_ Row.off (List._∷_ Row.alive (List._∷_ Row.alive List.[])))))))))))))))))) }
 
         abbrev G67 : Row.Cx
-        G67 = record {
-          locals = List._++_ g40 t41;
-          slots = List._∷_ (Row.lease (κs .0) (qs .0)) (List._∷_ (Row.lease (κs .1 .0) (qs .1 .0)) (List._∷_ (Row.lease (κs .1 .1 .0) (qs .1 .1 .0)) (List._∷_ (Row.lease (κs .1 .1 .1 .0) (qs .1 .1 .1 .0)) (List._∷_ (Row.lease (κs .1 .1 .1 .1 .0) (qs .1 .1 .1 .1 .0)) (List._∷_
-              (Row.lease (κs .1 .1 .1 .1 .1 .0) (qs .1 .1 .1 .1 .1 .0)) (List._∷_ (Row.lease (κs .1 .1 .1 .1 .1 .1 .0) (qs .1 .1 .1 .1 .1 .1 .0)) (List._∷_ (Row.lease (κs .1 .1 .1 .1 .1 .1 .1 .0) (qs .1 .1 .1 .1 .1 .1 .1 .0)) (List._∷_ Row.off (List._∷_ Row.off (List._∷_ Row.off (List._∷_ Row.off (List._∷_ Row.off (List._∷_ Row.off (List._∷_ Row.off (List._∷_
-              Row.off (List._∷_ Row.off (List._∷_ Row.dead (List._∷_ Row.alive List.[]))))))))))))))))));
-        }
+        G67 = record
+            { locals = List._++_ g40 t41; slots = List._∷_ (Row.lease (κs .0) (qs .0)) (List._∷_ (Row.lease (κs .1 .0) (qs .1 .0)) (List._∷_ (Row.lease (κs .1 .1 .0) (qs .1 .1 .0)) (List._∷_ (Row.lease (κs .1 .1 .1 .0) (qs .1 .1 .1 .0)) (List._∷_ (Row.lease (κs .1 .1 .1 .1 .0) (qs .1 .1 .1 .1 .0)) (List._∷_ (Row.lease (κs .1 .1 .1 .1 .1 .0) (qs .1 .1 .1 .1 .1 .0)) (List._∷_ (Row.lease (κs .1 .1 .1 .1 .1 .1 .0) (qs .1 .1 .1 .1 .1 .1 .0)) (List._∷_ (Row.lease (κs .1 .1 .1 .1 .1 .1 .1 .0) (qs .1 .1 .1 .1 .1 .1 .1 .0)) (List._∷_ Row.off (List._∷_ Row.off (List._∷_ Row.off (List._∷_ Row.off (List._∷_ Row.off (List._∷_ Row.off (List._∷_ Row.off (List._∷_ Row.off (List._∷_ Row.off (List._∷_ Row.dead (List._∷_ Row.alive List.[])))))))))))))))))) }
 
         abbrev G68 : Row.Cx
-        G68 = record {
-          locals = List._++_ g42 t43;
-          slots = List._∷_ (Row.lease (κs .0) (qs .0)) (List._∷_ (Row.lease (κs .1 .0) (qs .1 .0)) (List._∷_ (Row.lease (κs .1 .1 .0) (qs .1 .1 .0)) (List._∷_ (Row.lease (κs .1 .1 .1 .0) (qs .1 .1 .1 .0)) (List._∷_ (Row.lease (κs .1 .1 .1 .1 .0) (qs .1 .1 .1 .1 .0)) (List._∷_
-              (Row.lease (κs .1 .1 .1 .1 .1 .0) (qs .1 .1 .1 .1 .1 .0)) (List._∷_ (Row.lease (κs .1 .1 .1 .1 .1 .1 .0) (qs .1 .1 .1 .1 .1 .1 .0)) (List._∷_ (Row.lease (κs .1 .1 .1 .1 .1 .1 .1 .0) (qs .1 .1 .1 .1 .1 .1 .1 .0)) (List._∷_ (Row.lease (κs .1 .1 .1 .1 .1 .1 .1 .1 .0) (qs .1 .1 .1 .1 .1 .1 .1 .1 .0)) (List._∷_ Row.off (List._∷_ Row.off (List._∷_
-              Row.off (List._∷_ Row.off (List._∷_ Row.off (List._∷_ Row.off (List._∷_ Row.off (List._∷_ Row.off (List._∷_ Row.dead (List._∷_ Row.alive List.[]))))))))))))))))));
-        }
-
-        abbrev G69 : Row.Cx
-        G69 = record {
-          locals = List._++_ g42 t43;
-          slots = List._∷_ (Row.lease (κs .0) (qs .0)) (List._∷_ (Row.lease (κs .1 .0) (qs .1 .0)) (List._∷_ (Row.lease (κs .1 .1 .0) (qs .1 .1 .0)) (List._∷_ (Row.lease (κs .1 .1 .1 .0) (qs .1 .1 .1 .0)) (List._∷_ (Row.lease (κs .1 .1 .1 .1 .0) (qs .1 .1 .1 .1 .0)) (List._∷_
-              (Row.lease (κs .1 .1 .1 .1 .1 .0) (qs .1 .1 .1 .1 .1 .0)) (List._∷_ (Row.lease (κs .1 .1 .1 .1 .1 .1 .0) (qs .1 .1 .1 .1 .1 .1 .0)) (List._∷_ (Row.lease (κs .1 .1 .1 .1 .1 .1 .1 .0) (qs .1 .1 .1 .1 .1 .1 .1 .0)) (List._∷_ (Row.lease (κs .1 .1 .1 .1 .1 .1 .1 .1 .0) (qs .1 .1 .1 .1 .1 .1 .1 .1 .0)) (List._∷_ Row.off (List._∷_ Row.off (List._∷_
-              Row.off (List._∷_ Row.off (List._∷_ Row.off (List._∷_ Row.off (List._∷_ Row.off (List._∷_ Row.off (List._∷_ Row.dead (List._∷_ Row.alive List.[]))))))))))))))))));
-        }
+        G68 = record { locals = List._++_ g42 t43; slots = slots·17 }
 
         abbrev G70 : Row.Cx
-        G70 = record {
-          locals = List._++_ g42 t43;
-          slots = List._∷_ (Row.lease (κs .0) (qs .0)) (List._∷_ (Row.lease (κs .1 .0) (qs .1 .0)) (List._∷_ (Row.lease (κs .1 .1 .0) (qs .1 .1 .0)) (List._∷_ (Row.lease (κs .1 .1 .1 .0) (qs .1 .1 .1 .0)) (List._∷_ (Row.lease (κs .1 .1 .1 .1 .0) (qs .1 .1 .1 .1 .0)) (List._∷_
-              (Row.lease (κs .1 .1 .1 .1 .1 .0) (qs .1 .1 .1 .1 .1 .0)) (List._∷_ (Row.lease (κs .1 .1 .1 .1 .1 .1 .0) (qs .1 .1 .1 .1 .1 .1 .0)) (List._∷_ (Row.lease (κs .1 .1 .1 .1 .1 .1 .1 .0) (qs .1 .1 .1 .1 .1 .1 .1 .0)) (List._∷_ (Row.lease (κs .1 .1 .1 .1 .1 .1 .1 .1 .0) (qs .1 .1 .1 .1 .1 .1 .1 .1 .0)) (List._∷_ Row.off (List._∷_ Row.off (List._∷_
-              Row.off (List._∷_ Row.off (List._∷_ Row.off (List._∷_ Row.off (List._∷_ Row.off (List._∷_ Row.off (List._∷_ Row.off (List._∷_ Row.alive List.[]))))))))))))))))));
-        }
+        G70 = record
+            { locals = List._++_ g42 t43; slots = List._∷_ (Row.lease (κs .0) (qs .0)) (List._∷_ (Row.lease (κs .1 .0) (qs .1 .0)) (List._∷_ (Row.lease (κs .1 .1 .0) (qs .1 .1 .0)) (List._∷_ (Row.lease (κs .1 .1 .1 .0) (qs .1 .1 .1 .0)) (List._∷_ (Row.lease (κs .1 .1 .1 .1 .0) (qs .1 .1 .1 .1 .0)) (List._∷_ (Row.lease (κs .1 .1 .1 .1 .1 .0) (qs .1 .1 .1 .1 .1 .0)) (List._∷_ (Row.lease (κs .1 .1 .1 .1 .1 .1 .0) (qs .1 .1 .1 .1 .1 .1 .0)) (List._∷_ (Row.lease (κs .1 .1 .1 .1 .1 .1 .1 .0) (qs .1 .1 .1 .1 .1 .1 .1 .0)) (List._∷_ (Row.lease (κs .1 .1 .1 .1 .1 .1 .1 .1 .0) (qs .1 .1 .1 .1 .1 .1 .1 .1 .0)) (List._∷_ Row.off (List._∷_ Row.off (List._∷_ Row.off (List._∷_ Row.off (List._∷_ Row.off (List._∷_ Row.off (List._∷_ Row.off (List._∷_ Row.off (List._∷_ Row.off (List._∷_ Row.alive List.[])))))))))))))))))) }
 
         abbrev G71 : Row.Cx
-        G71 = record {
-          locals = List._++_ g42 t43;
-          slots = List._∷_ (Row.lease (κs .0) (qs .0)) (List._∷_ (Row.lease (κs .1 .0) (qs .1 .0)) (List._∷_ (Row.lease (κs .1 .1 .0) (qs .1 .1 .0)) (List._∷_ (Row.lease (κs .1 .1 .1 .0) (qs .1 .1 .1 .0)) (List._∷_ (Row.lease (κs .1 .1 .1 .1 .0) (qs .1 .1 .1 .1 .0)) (List._∷_
-              (Row.lease (κs .1 .1 .1 .1 .1 .0) (qs .1 .1 .1 .1 .1 .0)) (List._∷_ (Row.lease (κs .1 .1 .1 .1 .1 .1 .0) (qs .1 .1 .1 .1 .1 .1 .0)) (List._∷_ (Row.lease (κs .1 .1 .1 .1 .1 .1 .1 .0) (qs .1 .1 .1 .1 .1 .1 .1 .0)) (List._∷_ (Row.lease (κs .1 .1 .1 .1 .1 .1 .1 .1 .0) (qs .1 .1 .1 .1 .1 .1 .1 .1 .0)) (List._∷_ Row.off (List._∷_ Row.off (List._∷_
-              Row.off (List._∷_ Row.off (List._∷_ Row.off (List._∷_ Row.off (List._∷_ Row.off (List._∷_ Row.off (List._∷_ Row.off (List._∷_ Row.dead List.[]))))))))))))))))));
-        }
+        G71 = record
+            { locals = List._++_ g42 t43; slots = List._∷_ (Row.lease (κs .0) (qs .0)) (List._∷_ (Row.lease (κs .1 .0) (qs .1 .0)) (List._∷_ (Row.lease (κs .1 .1 .0) (qs .1 .1 .0)) (List._∷_ (Row.lease (κs .1 .1 .1 .0) (qs .1 .1 .1 .0)) (List._∷_ (Row.lease (κs .1 .1 .1 .1 .0) (qs .1 .1 .1 .1 .0)) (List._∷_ (Row.lease (κs .1 .1 .1 .1 .1 .0) (qs .1 .1 .1 .1 .1 .0)) (List._∷_ (Row.lease (κs .1 .1 .1 .1 .1 .1 .0) (qs .1 .1 .1 .1 .1 .1 .0)) (List._∷_ (Row.lease (κs .1 .1 .1 .1 .1 .1 .1 .0) (qs .1 .1 .1 .1 .1 .1 .1 .0)) (List._∷_ (Row.lease (κs .1 .1 .1 .1 .1 .1 .1 .1 .0) (qs .1 .1 .1 .1 .1 .1 .1 .1 .0)) (List._∷_ Row.off (List._∷_ Row.off (List._∷_ Row.off (List._∷_ Row.off (List._∷_ Row.off (List._∷_ Row.off (List._∷_ Row.off (List._∷_ Row.off (List._∷_ Row.off (List._∷_ Row.dead List.[])))))))))))))))))) }
 
         abbrev G72 : Row.Cx
-        G72 = record {
-          locals = List._++_ t44 t1;
-          slots = List._∷_ (Row.lease (κs .0) (qs .0)) (List._∷_ (Row.lease (κs .1 .0) (qs .1 .0)) (List._∷_ (Row.lease (κs .1 .1 .0) (qs .1 .1 .0)) (List._∷_ (Row.lease (κs .1 .1 .1 .0) (qs .1 .1 .1 .0)) (List._∷_ (Row.lease (κs .1 .1 .1 .1 .0) (qs .1 .1 .1 .1 .0)) (List._∷_
-              (Row.lease (κs .1 .1 .1 .1 .1 .0) (qs .1 .1 .1 .1 .1 .0)) (List._∷_ (Row.lease (κs .1 .1 .1 .1 .1 .1 .0) (qs .1 .1 .1 .1 .1 .1 .0)) (List._∷_ (Row.lease (κs .1 .1 .1 .1 .1 .1 .1 .0) (qs .1 .1 .1 .1 .1 .1 .1 .0)) (List._∷_ (Row.lease (κs .1 .1 .1 .1 .1 .1 .1 .1 .0) (qs .1 .1 .1 .1 .1 .1 .1 .1 .0)) (List._∷_
-              (Row.lease (κs .1 .1 .1 .1 .1 .1 .1 .1 .1 .0) (qs .1 .1 .1 .1 .1 .1 .1 .1 .1 .0)) (List._∷_ Row.off (List._∷_ Row.off (List._∷_ Row.off (List._∷_ Row.off (List._∷_ Row.off (List._∷_ Row.off (List._∷_ Row.off (List._∷_ Row.off (List._∷_ Row.dead List.[]))))))))))))))))));
-        }
+        G72 = record
+            { locals = T72 .locals; slots = List._∷_ (Row.lease (κs .0) (qs .0)) (List._∷_ (Row.lease (κs .1 .0) (qs .1 .0)) (List._∷_ (Row.lease (κs .1 .1 .0) (qs .1 .1 .0)) (List._∷_ (Row.lease (κs .1 .1 .1 .0) (qs .1 .1 .1 .0)) (List._∷_ (Row.lease (κs .1 .1 .1 .1 .0) (qs .1 .1 .1 .1 .0)) (List._∷_ (Row.lease (κs .1 .1 .1 .1 .1 .0) (qs .1 .1 .1 .1 .1 .0)) (List._∷_ (Row.lease (κs .1 .1 .1 .1 .1 .1 .0) (qs .1 .1 .1 .1 .1 .1 .0)) (List._∷_ (Row.lease (κs .1 .1 .1 .1 .1 .1 .1 .0) (qs .1 .1 .1 .1 .1 .1 .1 .0)) (List._∷_ (Row.lease (κs .1 .1 .1 .1 .1 .1 .1 .1 .0) (qs .1 .1 .1 .1 .1 .1 .1 .1 .0)) (List._∷_ (Row.lease (κs .1 .1 .1 .1 .1 .1 .1 .1 .1 .0) (qs .1 .1 .1 .1 .1 .1 .1 .1 .1 .0)) (List._∷_ Row.off (List._∷_ Row.off (List._∷_ Row.off (List._∷_ Row.off (List._∷_ Row.off (List._∷_ Row.off (List._∷_ Row.off (List._∷_ Row.off (List._∷_ Row.dead List.[])))))))))))))))))) }
 
         abbrev G73 : Row.Cx
-        G73 = record {
-          locals = List._++_ t44 t1;
-          slots = List._∷_ (Row.lease (κs .0) (qs .0)) (List._∷_ (Row.lease (κs .1 .0) (qs .1 .0)) (List._∷_ (Row.lease (κs .1 .1 .0) (qs .1 .1 .0)) (List._∷_ (Row.lease (κs .1 .1 .1 .0) (qs .1 .1 .1 .0)) (List._∷_ (Row.lease (κs .1 .1 .1 .1 .0) (qs .1 .1 .1 .1 .0)) (List._∷_
-              (Row.lease (κs .1 .1 .1 .1 .1 .0) (qs .1 .1 .1 .1 .1 .0)) (List._∷_ (Row.lease (κs .1 .1 .1 .1 .1 .1 .0) (qs .1 .1 .1 .1 .1 .1 .0)) (List._∷_ (Row.lease (κs .1 .1 .1 .1 .1 .1 .1 .0) (qs .1 .1 .1 .1 .1 .1 .1 .0)) (List._∷_ (Row.lease (κs .1 .1 .1 .1 .1 .1 .1 .1 .0) (qs .1 .1 .1 .1 .1 .1 .1 .1 .0)) (List._∷_
-              (Row.lease (κs .1 .1 .1 .1 .1 .1 .1 .1 .1 .0) (qs .1 .1 .1 .1 .1 .1 .1 .1 .1 .0)) (List._∷_ Row.off (List._∷_ Row.off (List._∷_ Row.off (List._∷_ Row.off (List._∷_ Row.off (List._∷_ Row.off (List._∷_ Row.off (List._∷_ Row.off (List._∷_ Row.off List.[]))))))))))))))))));
-        }
+        G73 = record { locals = T72 .locals; slots = slots·0 }
 
         abbrev G74 : Row.Cx
-        G74 = record {
-          locals = List._++_ t45 t1;
-          slots = List._∷_ (Row.lease (κs .0) (qs .0)) (List._∷_ (Row.lease (κs .1 .0) (qs .1 .0)) (List._∷_ (Row.lease (κs .1 .1 .0) (qs .1 .1 .0)) (List._∷_ (Row.lease (κs .1 .1 .1 .0) (qs .1 .1 .1 .0)) (List._∷_ (Row.lease (κs .1 .1 .1 .1 .0) (qs .1 .1 .1 .1 .0)) (List._∷_
-              (Row.lease (κs .1 .1 .1 .1 .1 .0) (qs .1 .1 .1 .1 .1 .0)) (List._∷_ (Row.lease (κs .1 .1 .1 .1 .1 .1 .0) (qs .1 .1 .1 .1 .1 .1 .0)) (List._∷_ (Row.lease (κs .1 .1 .1 .1 .1 .1 .1 .0) (qs .1 .1 .1 .1 .1 .1 .1 .0)) (List._∷_ (Row.lease (κs .1 .1 .1 .1 .1 .1 .1 .1 .0) (qs .1 .1 .1 .1 .1 .1 .1 .1 .0)) (List._∷_
-              (Row.lease (κs .1 .1 .1 .1 .1 .1 .1 .1 .1 .0) (qs .1 .1 .1 .1 .1 .1 .1 .1 .1 .0)) (List._∷_ Row.off (List._∷_ Row.off (List._∷_ Row.off (List._∷_ Row.off (List._∷_ Row.off (List._∷_ Row.off (List._∷_ Row.off (List._∷_ Row.off (List._∷_ Row.off List.[]))))))))))))))))));
-        }
-
-        abbrev G75 : Row.Cx
-        G75 = record {
-          locals = List._++_ t2 t1;
-          slots = List._∷_ (Row.lease (κs .0) (qs .0)) (List._∷_ (Row.lease (κs .1 .0) (qs .1 .0)) (List._∷_ (Row.lease (κs .1 .1 .0) (qs .1 .1 .0)) (List._∷_ (Row.lease (κs .1 .1 .1 .0) (qs .1 .1 .1 .0)) (List._∷_ (Row.lease (κs .1 .1 .1 .1 .0) (qs .1 .1 .1 .1 .0)) (List._∷_
-              (Row.lease (κs .1 .1 .1 .1 .1 .0) (qs .1 .1 .1 .1 .1 .0)) (List._∷_ (Row.lease (κs .1 .1 .1 .1 .1 .1 .0) (qs .1 .1 .1 .1 .1 .1 .0)) (List._∷_ (Row.lease (κs .1 .1 .1 .1 .1 .1 .1 .0) (qs .1 .1 .1 .1 .1 .1 .1 .0)) (List._∷_ (Row.lease (κs .1 .1 .1 .1 .1 .1 .1 .1 .0) (qs .1 .1 .1 .1 .1 .1 .1 .1 .0)) (List._∷_
-              (Row.lease (κs .1 .1 .1 .1 .1 .1 .1 .1 .1 .0) (qs .1 .1 .1 .1 .1 .1 .1 .1 .1 .0)) (List._∷_ Row.off (List._∷_ Row.off (List._∷_ Row.off (List._∷_ Row.off (List._∷_ Row.off (List._∷_ Row.off (List._∷_ Row.off (List._∷_ Row.off (List._∷_ Row.off List.[]))))))))))))))))));
-        }
+        G74 = record { locals = T74 .locals; slots = slots·0 }
 
         abbrev Δ0 : Typed.Outs
         Δ0 = record { next = Option.none; exits = List.[]; returns = Option.some G1 }
@@ -2859,677 +1398,161 @@ module _ (claims· : Claims) where
           abbrev E : Wp.Env 𝓤 H
           E = Frame.EnvOf 𝓤 H (List._∷_ (Kinds.tyR r) (Enter.tysP ps xs)) bs
 
-          d0 : Typed.Typed 𝓤 H A 𝓣 E G75 b20 Δ0 at0
+          d0 : Typed.Typed 𝓤 H A 𝓣 E G1 b20 Δ0 at0
           d0 = Typed.t-return 𝓤 H A W 𝓣 E Δ0 tt
 
           d1 : Typed.Typed 𝓤 H A 𝓣 E G74 b20 Δ0 at1
-          d1 = Typed.g-pre 𝓤 H A W 𝓣 E G74 G75 b20 Δ0 (Typed.pass T74 T75 s73) at0 (Scalar.g-room 𝓤 H A W E G74 11 (Syntax.tyEnum (List._∷_ 114 (List._∷_ 101 (List._∷_ 97 (List._∷_ 100 (List._∷_ 105 (List._∷_ 110 (List._∷_ 103 (List._∷_ 58 (List._∷_ 58 (List._∷_ 114 (List._∷_ 101 (List._∷_ 112 (List._∷_ 108 (List._∷_ 105 (List._∷_ 101 (List._∷_ 115 (List._∷_
-              58 (List._∷_ 58 (List._∷_ 82 (List._∷_ 101 (List._∷_ 97 (List._∷_ 100 (List._∷_ 105 (List._∷_ 110 (List._∷_ 103 List.[]))))))))))))))))))))))))) (Syntax.ttcons Syntax.tnil (Syntax.ttcons (Syntax.tcons (Syntax.tyEnum (List._∷_ 114 (List._∷_ 101 (List._∷_ 97 (List._∷_ 100 (List._∷_ 105 (List._∷_ 110 (List._∷_ 103 (List._∷_ 58 (List._∷_ 58
-              (List._∷_ 114 (List._∷_ 101 (List._∷_ 112 (List._∷_ 108 (List._∷_ 105 (List._∷_ 101 (List._∷_ 115 (List._∷_ 58 (List._∷_ 58 (List._∷_ 82 (List._∷_ 101 (List._∷_ 102 (List._∷_ 117 (List._∷_ 115 (List._∷_ 97 (List._∷_ 108 List.[]))))))))))))))))))))))))) (Syntax.ttcons Syntax.tnil (Syntax.ttcons
-              (Syntax.tcons (Syntax.tyInt Syntax.w64) Syntax.tnil) (Syntax.ttcons (Syntax.tcons (Syntax.tyInt Syntax.w64) Syntax.tnil) (Syntax.ttcons (Syntax.tcons (Syntax.tyInt Syntax.w64) Syntax.tnil) (Syntax.ttcons (Syntax.tcons (Syntax.tyInt Syntax.w64) Syntax.tnil) (Syntax.ttcons (Syntax.tcons (Syntax.tyInt Syntax.w64) Syntax.tnil) (Syntax.ttcons
-              (Syntax.tcons (Syntax.tyInt Syntax.w64) Syntax.tnil) (Syntax.ttcons (Syntax.tcons ty·14 Syntax.tnil) (Syntax.ttcons (Syntax.tcons ty·14 Syntax.tnil) (Syntax.ttcons (Syntax.tcons ty·14 Syntax.tnil) (Syntax.ttcons (Syntax.tcons ty·14 (Syntax.tcons ty·14 Syntax.tnil)) (Syntax.ttcons Syntax.tnil Syntax.ttnil))))))))))))) Syntax.tnil)
-              Syntax.ttnil))) (Local.room-whole 𝓤 H A W (Declared.row Reading.the-type) (Syntax.tyEnum (List._∷_ 114 (List._∷_ 101 (List._∷_ 97 (List._∷_ 100 (List._∷_ 105 (List._∷_ 110 (List._∷_ 103 (List._∷_ 58 (List._∷_ 58 (List._∷_ 114 (List._∷_ 101 (List._∷_ 112 (List._∷_ 108 (List._∷_ 105 (List._∷_ 101 (List._∷_ 115 (List._∷_ 58 (List._∷_ 58 (List._∷_
-              82 (List._∷_ 101 (List._∷_ 97 (List._∷_ 100 (List._∷_ 105 (List._∷_ 110 (List._∷_ 103 List.[]))))))))))))))))))))))))) (Syntax.ttcons Syntax.tnil (Syntax.ttcons (Syntax.tcons (Syntax.tyEnum (List._∷_ 114 (List._∷_ 101 (List._∷_ 97 (List._∷_ 100 (List._∷_ 105 (List._∷_ 110 (List._∷_ 103 (List._∷_ 58 (List._∷_ 58 (List._∷_ 114 (List._∷_ 101
-              (List._∷_ 112 (List._∷_ 108 (List._∷_ 105 (List._∷_ 101 (List._∷_ 115 (List._∷_ 58 (List._∷_ 58 (List._∷_ 82 (List._∷_ 101 (List._∷_ 102 (List._∷_ 117 (List._∷_ 115 (List._∷_ 97 (List._∷_ 108 List.[]))))))))))))))))))))))))) (Syntax.ttcons Syntax.tnil (Syntax.ttcons (Syntax.tcons (Syntax.tyInt Syntax.w64) Syntax.tnil) (Syntax.ttcons
-              (Syntax.tcons (Syntax.tyInt Syntax.w64) Syntax.tnil) (Syntax.ttcons (Syntax.tcons (Syntax.tyInt Syntax.w64) Syntax.tnil) (Syntax.ttcons (Syntax.tcons (Syntax.tyInt Syntax.w64) Syntax.tnil) (Syntax.ttcons (Syntax.tcons (Syntax.tyInt Syntax.w64) Syntax.tnil) (Syntax.ttcons (Syntax.tcons (Syntax.tyInt Syntax.w64) Syntax.tnil) (Syntax.ttcons
-              (Syntax.tcons ty·14 Syntax.tnil) (Syntax.ttcons (Syntax.tcons ty·14 Syntax.tnil) (Syntax.ttcons (Syntax.tcons ty·14 Syntax.tnil) (Syntax.ttcons (Syntax.tcons ty·14 (Syntax.tcons ty·14 Syntax.tnil)) (Syntax.ttcons Syntax.tnil Syntax.ttnil))))))))))))) Syntax.tnil) Syntax.ttnil))) Path'.refl)) d0
-
-          d2 : Typed.Typed 𝓤 H A 𝓣 E G73 b21 Δ0 at2
-          d2 = Typed.s-seq 𝓤 H A W 𝓣 E G73 G74 b19 b20 Δ0 (Typed.both s72) at1 (Plain.t-call-plain 𝓤 H A W 𝓣 0 ps·1 r·1 (claims· .2) (claims· .3) "board::answers::of_reading" (known .1) E (λ pos β. β) G73 (record { pos = 11; st = List.[]; d = 0; at = λ x. x }, tt) 0 List.[] (Call.sub-id 𝓤 H A W (G73 .slots)) (
-            (
-              Yields.yields-copy 𝓤 H A W (λ ρ. Unit)
-                  (Declared.row Reading.the-type) Path'.refl (Copies.cEnum Reading.the-type Laws'.the-laws Laws'.the-copy .copy 𝓤 H A W) (Rows.whole (Declared.row Reading.the-type)) (λ x. x) (λ x. x) (λ ρ told. Local.mem-whole 𝓤 H A W (Declared.row Reading.the-type) ρ) λ ρ told. Local.whole-mem 𝓤 H A W (Declared.row Reading.the-type) ρ,
-              Path'.refl,
-            ),
-            tt,
-          )
-              (Reads.room-gone 𝓤 H A ty·15) tt Path'.refl) d1
-
-          d3 : Typed.Typed 𝓤 H A 𝓣 E G72 b21 Δ0 at3
-          d3 = Typed.g-pre 𝓤 H A W 𝓣 E G72 G73 b21 Δ0 (λ Ψ. Ψ) at2 (Lifetime.g-forget 𝓤 H A W E G72 18 Row.dead Path'.refl) d2
+          d1 = Typed.g-pre 𝓤 H A W 𝓣 E G74 G1 b20 Δ0 (Typed.pass T74 T1 s73) at0 (Scalar.g-room 𝓤 H A W E G74 11 (Syntax.tyEnum (List._∷_ 114 (List._∷_ 101 (List._∷_ 97 (List._∷_ 100 (List._∷_ 105 (List._∷_ 110 (List._∷_ 103 (List._∷_ 58 (List._∷_ 58 (List._∷_ 114 (List._∷_ 101 (List._∷_ 112 (List._∷_ 108 (List._∷_ 105 (List._∷_ 101 (List._∷_ 115 (List._∷_
+              58 (List._∷_ 58 (List._∷_ 82 (List._∷_ 101 (List._∷_ 97 (List._∷_ 100 (List._∷_ 105 (List._∷_ 110 (List._∷_ 103 List.[]))))))))))))))))))))))))) (Syntax.ttcons Syntax.tnil (Syntax.ttcons (Syntax.tcons (Syntax.tyEnum (List._∷_ 114 (List._∷_ 101 (List._∷_ 97 (List._∷_ 100 (List._∷_ 105 (List._∷_ 110 (List._∷_ 103 (List._∷_ 58 (List._∷_ 58 (List._∷_
+              114 (List._∷_ 101 (List._∷_ 112 (List._∷_ 108 (List._∷_ 105 (List._∷_ 101 (List._∷_ 115 (List._∷_ 58 (List._∷_ 58 (List._∷_ 82 (List._∷_ 101 (List._∷_ 102 (List._∷_ 117 (List._∷_ 115 (List._∷_ 97 (List._∷_ 108 List.[]))))))))))))))))))))))))) (Syntax.ttcons Syntax.tnil (Syntax.ttcons (Syntax.tcons (Syntax.tyInt Syntax.w64) Syntax.tnil)
+              (Syntax.ttcons (Syntax.tcons (Syntax.tyInt Syntax.w64) Syntax.tnil) (Syntax.ttcons (Syntax.tcons (Syntax.tyInt Syntax.w64) Syntax.tnil) (Syntax.ttcons (Syntax.tcons (Syntax.tyInt Syntax.w64) Syntax.tnil) (Syntax.ttcons (Syntax.tcons (Syntax.tyInt Syntax.w64) Syntax.tnil) (Syntax.ttcons (Syntax.tcons (Syntax.tyInt Syntax.w64) Syntax.tnil)
+              (Syntax.ttcons (Syntax.tcons ty·14 Syntax.tnil) (Syntax.ttcons (Syntax.tcons ty·14 Syntax.tnil) (Syntax.ttcons (Syntax.tcons ty·14 Syntax.tnil) (Syntax.ttcons (Syntax.tcons ty·14 (Syntax.tcons ty·14 Syntax.tnil)) (Syntax.ttcons Syntax.tnil Syntax.ttnil))))))))))))) Syntax.tnil) Syntax.ttnil))) (Local.room-whole 𝓤 H A W (Declared.row
+              Reading.the-type) (Syntax.tyEnum (List._∷_ 114 (List._∷_ 101 (List._∷_ 97 (List._∷_ 100 (List._∷_ 105 (List._∷_ 110 (List._∷_ 103 (List._∷_ 58 (List._∷_ 58 (List._∷_ 114 (List._∷_ 101 (List._∷_ 112 (List._∷_ 108 (List._∷_ 105 (List._∷_ 101 (List._∷_ 115 (List._∷_ 58 (List._∷_ 58 (List._∷_ 82 (List._∷_ 101 (List._∷_ 97 (List._∷_ 100 (List._∷_ 105
+              (List._∷_ 110 (List._∷_ 103 List.[]))))))))))))))))))))))))) (Syntax.ttcons Syntax.tnil (Syntax.ttcons (Syntax.tcons (Syntax.tyEnum (List._∷_ 114 (List._∷_ 101 (List._∷_ 97 (List._∷_ 100 (List._∷_ 105 (List._∷_ 110 (List._∷_ 103 (List._∷_ 58 (List._∷_ 58 (List._∷_ 114 (List._∷_ 101 (List._∷_ 112 (List._∷_ 108 (List._∷_ 105 (List._∷_ 101 (List._∷_
+              115 (List._∷_ 58 (List._∷_ 58 (List._∷_ 82 (List._∷_ 101 (List._∷_ 102 (List._∷_ 117 (List._∷_ 115 (List._∷_ 97 (List._∷_ 108 List.[]))))))))))))))))))))))))) (Syntax.ttcons Syntax.tnil (Syntax.ttcons (Syntax.tcons (Syntax.tyInt Syntax.w64) Syntax.tnil) (Syntax.ttcons (Syntax.tcons (Syntax.tyInt Syntax.w64) Syntax.tnil) (Syntax.ttcons (Syntax.tcons
+              (Syntax.tyInt Syntax.w64) Syntax.tnil) (Syntax.ttcons (Syntax.tcons (Syntax.tyInt Syntax.w64) Syntax.tnil) (Syntax.ttcons (Syntax.tcons (Syntax.tyInt Syntax.w64) Syntax.tnil) (Syntax.ttcons (Syntax.tcons (Syntax.tyInt Syntax.w64) Syntax.tnil) (Syntax.ttcons (Syntax.tcons ty·14 Syntax.tnil) (Syntax.ttcons (Syntax.tcons ty·14 Syntax.tnil)
+              (Syntax.ttcons (Syntax.tcons ty·14 Syntax.tnil) (Syntax.ttcons (Syntax.tcons ty·14 (Syntax.tcons ty·14 Syntax.tnil)) (Syntax.ttcons Syntax.tnil Syntax.ttnil))))))))))))) Syntax.tnil) Syntax.ttnil))) Path'.refl)) d0
 
           d4 : Typed.Typed 𝓤 H A 𝓣 E G71 b21 Δ0 at4
-          d4 = Typed.g-pre 𝓤 H A W 𝓣 E G71 G72 b21 Δ0 (Typed.both s70) at3 (Relend.g-back-sl 𝓤 H A W E Rec.rt G71 29 10 9 18 ty·1 ty·0 (Row.lease (κs .1 .1 .1 .1 .1 .1 .1 .1 .1 .0) (qs .1 .1 .1 .1 .1 .1 .1 .1 .1 .0)) (λ x. x) (λ x. x) (Reads.as-is 𝓤 H A (Mut.msleft Rec.rt ty·0)) (Reads.as-is 𝓤 H A (Relend.mslice-owed Rec.rt ty·1 9 18
-              (Row.lease (κs .1 .1 .1 .1 .1 .1 .1 .1 .1 .0) (qs .1 .1 .1 .1 .1 .1 .1 .1 .1 .0)))) Path'.refl Path'.refl) d3
-
-          d5 : Typed.Typed 𝓤 H A 𝓣 E G70 b21 Δ0 at5
-          d5 = Typed.g-pre 𝓤 H A W 𝓣 E G70 G71 b21 Δ0 (λ Ψ. Ψ) at4 (Lifetime.g-end 𝓤 H A W E G70 18 Path'.refl) d4
-
-          d6 : Typed.Typed 𝓤 H A 𝓣 E G69 b21 Δ0 at6
-          d6 = Typed.g-pre 𝓤 H A W 𝓣 E G69 G70 b21 Δ0 (λ Ψ. Ψ) at5 (Lifetime.g-forget 𝓤 H A W E G69 17 Row.dead Path'.refl) d5
-
-          d7 : Typed.Typed 𝓤 H A 𝓣 E G68 b21 Δ0 at7
-          d7 = Typed.g-pre 𝓤 H A W 𝓣 E G68 G69 b21 Δ0 (Typed.give s67) at6 (Know.g-sl-known 𝓤 H A W (Referent.fInt Syntax.w8) E G68 9 8 ty·7 (Row.lease (κs .1 .1 .1 .1 .1 .1 .1 .1 .0) (qs .1 .1 .1 .1 .1 .1 .1 .1 .0)) 0 (λ x. x) record { fits = Dec'.lit< tt } (Reads.as-is 𝓤 H A (Mut.mslice (Referent.rtF (Referent.fInt Syntax.w8)) ty·7 8)) Path'.refl tt) d6
+          d4 = Typed.g-pre 𝓤 H A W 𝓣 E G71 G72 b21 Δ0 (Typed.both s70) at2 (Relend.g-back-sl 𝓤 H A W E Rec.rt G71 29 10 9 18 ty·1 ty·0 (Row.lease (κs .1 .1 .1 .1 .1 .1 .1 .1 .1 .0) (qs .1 .1 .1 .1 .1 .1 .1 .1 .1 .0)) (λ x. x) (λ x. x) (Reads.as-is 𝓤 H A (Mut.msleft Rec.rt ty·0)) (Reads.as-is 𝓤 H A (Relend.mslice-owed Rec.rt ty·1 9 18 (Row.lease (κs .1 .1 .1
+              .1 .1 .1 .1 .1 .1 .0) (qs .1 .1 .1 .1 .1 .1 .1 .1 .1 .0)))) Path'.refl Path'.refl) (Typed.g-pre 𝓤 H A W 𝓣 E G72 G73 b21 Δ0 (λ Ψ. Ψ) at2 (Lifetime.g-forget 𝓤 H A W E G72 18 Row.dead Path'.refl) (Typed.s-seq 𝓤 H A W 𝓣 E G73 G74 b19 b20 Δ0 (Typed.both s72) at1 (Plain.t-call-plain 𝓤 H A W 𝓣 0 ps·1 r·1 (claims· .2) (claims· .3)
+              "board::answers::of_reading" (known .1) E (λ pos β. β) G73 (record { pos = 11; st = List.[]; d = 0; at = λ x. x }, tt) 0 List.[] (Call.sub-id 𝓤 H A W (G73 .slots))
+              ((Yields.yields-copy 𝓤 H A W (λ ρ. Unit) (Declared.row Reading.the-type) Path'.refl (Copies.cEnum Reading.the-type Laws'.the-laws Laws'.the-copy .copy 𝓤 H A W) (Rows.whole (Declared.row Reading.the-type)) (λ x. x) (λ x. x) (λ ρ told. Local.mem-whole 𝓤 H A W (Declared.row Reading.the-type) ρ) λ ρ told. Local.whole-mem 𝓤 H A W (Declared.row Reading.the-type) ρ, Path'.refl), tt)
+              (Reads.room-gone 𝓤 H A ty·15) tt Path'.refl) d1))
 
           d8 : Typed.Typed 𝓤 H A 𝓣 E G67 b21 Δ0 at8
           d8 = Typed.g-pre 𝓤 H A W 𝓣 E G67 G68 b21 Δ0 (Typed.both s66) at7 (Relend.g-back-sl 𝓤 H A W E (Referent.rtF (Referent.fInt Syntax.w8)) G67 27 9 8 17 ty·7 ty·2 (Row.lease (κs .1 .1 .1 .1 .1 .1 .1 .1 .0) (qs .1 .1 .1 .1 .1 .1 .1 .1 .0)) (λ x. x) (λ x. x) (Reads.as-is 𝓤 H A (Mut.msleft (Referent.rtF (Referent.fInt Syntax.w8)) ty·2)) (Reads.as-is 𝓤 H A
-              (Relend.mslice-owed (Referent.rtF (Referent.fInt Syntax.w8)) ty·7 8 17 (Row.lease (κs .1 .1 .1 .1 .1 .1 .1 .1 .0) (qs .1 .1 .1 .1 .1 .1 .1 .1 .0)))) Path'.refl Path'.refl) d7
-
-          d9 : Typed.Typed 𝓤 H A 𝓣 E G66 b21 Δ0 at9
-          d9 = Typed.g-pre 𝓤 H A W 𝓣 E G66 G67 b21 Δ0 (λ Ψ. Ψ) at8 (Lifetime.g-end 𝓤 H A W E G66 17 Path'.refl) d8
-
-          d10 : Typed.Typed 𝓤 H A 𝓣 E G65 b21 Δ0 at10
-          d10 = Typed.g-pre 𝓤 H A W 𝓣 E G65 G66 b21 Δ0 (λ Ψ. Ψ) at9 (Lifetime.g-forget 𝓤 H A W E G65 16 Row.dead Path'.refl) d9
-
-          d11 : Typed.Typed 𝓤 H A 𝓣 E G64 b21 Δ0 at11
-          d11 = Typed.g-pre 𝓤 H A W 𝓣 E G64 G65 b21 Δ0 (Typed.give s63) at10 (Know.g-sl-known 𝓤 H A W (Referent.fInt Syntax.w16) E G64 8 7 ty·13 (Row.lease (κs .1 .1 .1 .1 .1 .1 .1 .0) (qs .1 .1 .1 .1 .1 .1 .1 .0)) 0 (λ x. x) record { fits = Dec'.lit< tt } (Reads.as-is 𝓤 H A (Mut.mslice (Referent.rtF (Referent.fInt Syntax.w16)) ty·13 7)) Path'.refl tt) d10
+              (Relend.mslice-owed (Referent.rtF (Referent.fInt Syntax.w8)) ty·7 8 17 (Row.lease (κs .1 .1 .1 .1 .1 .1 .1 .1 .0) (qs .1 .1 .1 .1 .1 .1 .1 .1 .0)))) Path'.refl Path'.refl) (Typed.g-pre 𝓤 H A W 𝓣 E G68 G68 b21 Δ0 (Typed.give s67) at4 (Know.g-sl-known 𝓤 H A W (Referent.fInt Syntax.w8) E G68 9 8 ty·7 (Row.lease (κs .1 .1 .1 .1 .1 .1 .1 .1 .0) (qs .1
+              .1 .1 .1 .1 .1 .1 .1 .0)) 0 (λ x. x) record { fits = Dec'.lit< tt } (Reads.as-is 𝓤 H A (Mut.mslice (Referent.rtF (Referent.fInt Syntax.w8)) ty·7 8)) Path'.refl tt) (Typed.g-pre 𝓤 H A W 𝓣 E G68 G70 b21 Δ0 (λ Ψ. Ψ) at4 (Lifetime.g-forget 𝓤 H A W E G68 17 Row.dead Path'.refl) (Typed.g-pre 𝓤 H A W 𝓣 E G70 G71 b21 Δ0 (λ Ψ. Ψ) at4 (Lifetime.g-end 𝓤 H A W
+              E G70 18 Path'.refl) d4)))
 
           d12 : Typed.Typed 𝓤 H A 𝓣 E G63 b21 Δ0 at12
           d12 = Typed.g-pre 𝓤 H A W 𝓣 E G63 G64 b21 Δ0 (Typed.both s62) at11 (Relend.g-back-sl 𝓤 H A W E (Referent.rtF (Referent.fInt Syntax.w16)) G63 25 8 7 16 ty·13 ty·3 (Row.lease (κs .1 .1 .1 .1 .1 .1 .1 .0) (qs .1 .1 .1 .1 .1 .1 .1 .0)) (λ x. x) (λ x. x) (Reads.as-is 𝓤 H A (Mut.msleft (Referent.rtF (Referent.fInt Syntax.w16)) ty·3)) (Reads.as-is 𝓤 H A
-              (Relend.mslice-owed (Referent.rtF (Referent.fInt Syntax.w16)) ty·13 7 16 (Row.lease (κs .1 .1 .1 .1 .1 .1 .1 .0) (qs .1 .1 .1 .1 .1 .1 .1 .0)))) Path'.refl Path'.refl) d11
-
-          d13 : Typed.Typed 𝓤 H A 𝓣 E G62 b21 Δ0 at13
-          d13 = Typed.g-pre 𝓤 H A W 𝓣 E G62 G63 b21 Δ0 (λ Ψ. Ψ) at12 (Lifetime.g-end 𝓤 H A W E G62 16 Path'.refl) d12
-
-          d14 : Typed.Typed 𝓤 H A 𝓣 E G61 b21 Δ0 at14
-          d14 = Typed.g-pre 𝓤 H A W 𝓣 E G61 G62 b21 Δ0 (λ Ψ. Ψ) at13 (Lifetime.g-forget 𝓤 H A W E G61 15 Row.dead Path'.refl) d13
-
-          d15 : Typed.Typed 𝓤 H A 𝓣 E G60 b21 Δ0 at15
-          d15 = Typed.g-pre 𝓤 H A W 𝓣 E G60 G61 b21 Δ0 (Typed.give s59) at14 (Know.g-sl-known 𝓤 H A W (Referent.fInt Syntax.w32) E G60 7 6 ty·12 (Row.lease (κs .1 .1 .1 .1 .1 .1 .0) (qs .1 .1 .1 .1 .1 .1 .0)) 0 (λ x. x) record { fits = Dec'.lit< tt } (Reads.as-is 𝓤 H A (Mut.mslice (Referent.rtF (Referent.fInt Syntax.w32)) ty·12 6)) Path'.refl tt) d14
+              (Relend.mslice-owed (Referent.rtF (Referent.fInt Syntax.w16)) ty·13 7 16 (Row.lease (κs .1 .1 .1 .1 .1 .1 .1 .0) (qs .1 .1 .1 .1 .1 .1 .1 .0)))) Path'.refl Path'.refl) (Typed.g-pre 𝓤 H A W 𝓣 E G64 G64 b21 Δ0 (Typed.give s63) at8 (Know.g-sl-known 𝓤 H A W (Referent.fInt Syntax.w16) E G64 8 7 ty·13 (Row.lease (κs .1 .1 .1 .1 .1 .1 .1 .0) (qs .1 .1 .1
+              .1 .1 .1 .1 .0)) 0 (λ x. x) record { fits = Dec'.lit< tt } (Reads.as-is 𝓤 H A (Mut.mslice (Referent.rtF (Referent.fInt Syntax.w16)) ty·13 7)) Path'.refl tt) (Typed.g-pre 𝓤 H A W 𝓣 E G64 G66 b21 Δ0 (λ Ψ. Ψ) at8 (Lifetime.g-forget 𝓤 H A W E G64 16 Row.dead Path'.refl) (Typed.g-pre 𝓤 H A W 𝓣 E G66 G67 b21 Δ0 (λ Ψ. Ψ) at8 (Lifetime.g-end 𝓤 H A W E G66
+              17 Path'.refl) d8)))
 
           d16 : Typed.Typed 𝓤 H A 𝓣 E G59 b21 Δ0 at16
           d16 = Typed.g-pre 𝓤 H A W 𝓣 E G59 G60 b21 Δ0 (Typed.both s58) at15 (Relend.g-back-sl 𝓤 H A W E (Referent.rtF (Referent.fInt Syntax.w32)) G59 23 7 6 15 ty·12 ty·4 (Row.lease (κs .1 .1 .1 .1 .1 .1 .0) (qs .1 .1 .1 .1 .1 .1 .0)) (λ x. x) (λ x. x) (Reads.as-is 𝓤 H A (Mut.msleft (Referent.rtF (Referent.fInt Syntax.w32)) ty·4)) (Reads.as-is 𝓤 H A
-              (Relend.mslice-owed (Referent.rtF (Referent.fInt Syntax.w32)) ty·12 6 15 (Row.lease (κs .1 .1 .1 .1 .1 .1 .0) (qs .1 .1 .1 .1 .1 .1 .0)))) Path'.refl Path'.refl) d15
-
-          d17 : Typed.Typed 𝓤 H A 𝓣 E G58 b21 Δ0 at17
-          d17 = Typed.g-pre 𝓤 H A W 𝓣 E G58 G59 b21 Δ0 (λ Ψ. Ψ) at16 (Lifetime.g-end 𝓤 H A W E G58 15 Path'.refl) d16
-
-          d18 : Typed.Typed 𝓤 H A 𝓣 E G57 b21 Δ0 at18
-          d18 = Typed.g-pre 𝓤 H A W 𝓣 E G57 G58 b21 Δ0 (λ Ψ. Ψ) at17 (Lifetime.g-forget 𝓤 H A W E G57 14 Row.dead Path'.refl) d17
-
-          d19 : Typed.Typed 𝓤 H A 𝓣 E G56 b21 Δ0 at19
-          d19 = Typed.g-pre 𝓤 H A W 𝓣 E G56 G57 b21 Δ0 (Typed.give s55) at18 (Know.g-sl-known 𝓤 H A W (Referent.fInt Syntax.w16) E G56 6 5 ty·11 (Row.lease (κs .1 .1 .1 .1 .1 .0) (qs .1 .1 .1 .1 .1 .0)) 0 (λ x. x) record { fits = Dec'.lit< tt } (Reads.as-is 𝓤 H A (Mut.mslice (Referent.rtF (Referent.fInt Syntax.w16)) ty·11 5)) Path'.refl tt) d18
+              (Relend.mslice-owed (Referent.rtF (Referent.fInt Syntax.w32)) ty·12 6 15 (Row.lease (κs .1 .1 .1 .1 .1 .1 .0) (qs .1 .1 .1 .1 .1 .1 .0)))) Path'.refl Path'.refl) (Typed.g-pre 𝓤 H A W 𝓣 E G60 G60 b21 Δ0 (Typed.give s59) at12 (Know.g-sl-known 𝓤 H A W (Referent.fInt Syntax.w32) E G60 7 6 ty·12 (Row.lease (κs .1 .1 .1 .1 .1 .1 .0) (qs .1 .1 .1 .1 .1 .1
+              .0)) 0 (λ x. x) record { fits = Dec'.lit< tt } (Reads.as-is 𝓤 H A (Mut.mslice (Referent.rtF (Referent.fInt Syntax.w32)) ty·12 6)) Path'.refl tt) (Typed.g-pre 𝓤 H A W 𝓣 E G60 G62 b21 Δ0 (λ Ψ. Ψ) at12 (Lifetime.g-forget 𝓤 H A W E G60 15 Row.dead Path'.refl) (Typed.g-pre 𝓤 H A W 𝓣 E G62 G63 b21 Δ0 (λ Ψ. Ψ) at12 (Lifetime.g-end 𝓤 H A W E G62 16
+              Path'.refl) d12)))
 
           d20 : Typed.Typed 𝓤 H A 𝓣 E G55 b21 Δ0 at20
           d20 = Typed.g-pre 𝓤 H A W 𝓣 E G55 G56 b21 Δ0 (Typed.both s54) at19 (Relend.g-back-sl 𝓤 H A W E (Referent.rtF (Referent.fInt Syntax.w16)) G55 21 6 5 14 ty·11 ty·3 (Row.lease (κs .1 .1 .1 .1 .1 .0) (qs .1 .1 .1 .1 .1 .0)) (λ x. x) (λ x. x) (Reads.as-is 𝓤 H A (Mut.msleft (Referent.rtF (Referent.fInt Syntax.w16)) ty·3)) (Reads.as-is 𝓤 H A
-              (Relend.mslice-owed (Referent.rtF (Referent.fInt Syntax.w16)) ty·11 5 14 (Row.lease (κs .1 .1 .1 .1 .1 .0) (qs .1 .1 .1 .1 .1 .0)))) Path'.refl Path'.refl) d19
-
-          d21 : Typed.Typed 𝓤 H A 𝓣 E G54 b21 Δ0 at21
-          d21 = Typed.g-pre 𝓤 H A W 𝓣 E G54 G55 b21 Δ0 (λ Ψ. Ψ) at20 (Lifetime.g-end 𝓤 H A W E G54 14 Path'.refl) d20
-
-          d22 : Typed.Typed 𝓤 H A 𝓣 E G53 b21 Δ0 at22
-          d22 = Typed.g-pre 𝓤 H A W 𝓣 E G53 G54 b21 Δ0 (λ Ψ. Ψ) at21 (Lifetime.g-forget 𝓤 H A W E G53 13 Row.dead Path'.refl) d21
-
-          d23 : Typed.Typed 𝓤 H A 𝓣 E G52 b21 Δ0 at23
-          d23 = Typed.g-pre 𝓤 H A W 𝓣 E G52 G53 b21 Δ0 (Typed.give s51) at22 (Know.g-sl-known 𝓤 H A W (Referent.fInt Syntax.w16) E G52 5 4 ty·10 (Row.lease (κs .1 .1 .1 .1 .0) (qs .1 .1 .1 .1 .0)) 0 (λ x. x) record { fits = Dec'.lit< tt } (Reads.as-is 𝓤 H A (Mut.mslice (Referent.rtF (Referent.fInt Syntax.w16)) ty·10 4)) Path'.refl tt) d22
+              (Relend.mslice-owed (Referent.rtF (Referent.fInt Syntax.w16)) ty·11 5 14 (Row.lease (κs .1 .1 .1 .1 .1 .0) (qs .1 .1 .1 .1 .1 .0)))) Path'.refl Path'.refl) (Typed.g-pre 𝓤 H A W 𝓣 E G56 G56 b21 Δ0 (Typed.give s55) at16 (Know.g-sl-known 𝓤 H A W (Referent.fInt Syntax.w16) E G56 6 5 ty·11 (Row.lease (κs .1 .1 .1 .1 .1 .0) (qs .1 .1 .1 .1 .1 .0)) 0 (λ
+              x. x) record { fits = Dec'.lit< tt } (Reads.as-is 𝓤 H A (Mut.mslice (Referent.rtF (Referent.fInt Syntax.w16)) ty·11 5)) Path'.refl tt) (Typed.g-pre 𝓤 H A W 𝓣 E G56 G58 b21 Δ0 (λ Ψ. Ψ) at16 (Lifetime.g-forget 𝓤 H A W E G56 14 Row.dead Path'.refl) (Typed.g-pre 𝓤 H A W 𝓣 E G58 G59 b21 Δ0 (λ Ψ. Ψ) at16 (Lifetime.g-end 𝓤 H A W E G58 15 Path'.refl)
+              d16)))
 
           d24 : Typed.Typed 𝓤 H A 𝓣 E G51 b21 Δ0 at24
           d24 = Typed.g-pre 𝓤 H A W 𝓣 E G51 G52 b21 Δ0 (Typed.both s50) at23 (Relend.g-back-sl 𝓤 H A W E (Referent.rtF (Referent.fInt Syntax.w16)) G51 19 5 4 13 ty·10 ty·3 (Row.lease (κs .1 .1 .1 .1 .0) (qs .1 .1 .1 .1 .0)) (λ x. x) (λ x. x) (Reads.as-is 𝓤 H A (Mut.msleft (Referent.rtF (Referent.fInt Syntax.w16)) ty·3)) (Reads.as-is 𝓤 H A (Relend.mslice-owed
-              (Referent.rtF (Referent.fInt Syntax.w16)) ty·10 4 13 (Row.lease (κs .1 .1 .1 .1 .0) (qs .1 .1 .1 .1 .0)))) Path'.refl Path'.refl) d23
-
-          d25 : Typed.Typed 𝓤 H A 𝓣 E G50 b21 Δ0 at25
-          d25 = Typed.g-pre 𝓤 H A W 𝓣 E G50 G51 b21 Δ0 (λ Ψ. Ψ) at24 (Lifetime.g-end 𝓤 H A W E G50 13 Path'.refl) d24
-
-          d26 : Typed.Typed 𝓤 H A 𝓣 E G49 b21 Δ0 at26
-          d26 = Typed.g-pre 𝓤 H A W 𝓣 E G49 G50 b21 Δ0 (λ Ψ. Ψ) at25 (Lifetime.g-forget 𝓤 H A W E G49 12 Row.dead Path'.refl) d25
-
-          d27 : Typed.Typed 𝓤 H A 𝓣 E G48 b21 Δ0 at27
-          d27 = Typed.g-pre 𝓤 H A W 𝓣 E G48 G49 b21 Δ0 (Typed.give s47) at26 (Know.g-sl-known 𝓤 H A W (Referent.fInt Syntax.w8) E G48 4 3 ty·6 (Row.lease (κs .1 .1 .1 .0) (qs .1 .1 .1 .0)) 0 (λ x. x) record { fits = Dec'.lit< tt } (Reads.as-is 𝓤 H A (Mut.mslice (Referent.rtF (Referent.fInt Syntax.w8)) ty·6 3)) Path'.refl tt) d26
+              (Referent.rtF (Referent.fInt Syntax.w16)) ty·10 4 13 (Row.lease (κs .1 .1 .1 .1 .0) (qs .1 .1 .1 .1 .0)))) Path'.refl Path'.refl) (Typed.g-pre 𝓤 H A W 𝓣 E G52 G52 b21 Δ0 (Typed.give s51) at20 (Know.g-sl-known 𝓤 H A W (Referent.fInt Syntax.w16) E G52 5 4 ty·10 (Row.lease (κs .1 .1 .1 .1 .0) (qs .1 .1 .1 .1 .0)) 0 (λ x. x) record
+              { fits = Dec'.lit< tt } (Reads.as-is 𝓤 H A (Mut.mslice (Referent.rtF (Referent.fInt Syntax.w16)) ty·10 4)) Path'.refl tt) (Typed.g-pre 𝓤 H A W 𝓣 E G52 G54 b21 Δ0 (λ Ψ. Ψ) at20 (Lifetime.g-forget 𝓤 H A W E G52 13 Row.dead Path'.refl) (Typed.g-pre 𝓤 H A W 𝓣 E G54 G55 b21 Δ0 (λ Ψ. Ψ) at20 (Lifetime.g-end 𝓤 H A W E G54 14 Path'.refl) d20)))
 
           d28 : Typed.Typed 𝓤 H A 𝓣 E G47 b21 Δ0 at28
           d28 = Typed.g-pre 𝓤 H A W 𝓣 E G47 G48 b21 Δ0 (Typed.both s46) at27 (Relend.g-back-sl 𝓤 H A W E (Referent.rtF (Referent.fInt Syntax.w8)) G47 17 4 3 12 ty·6 ty·2 (Row.lease (κs .1 .1 .1 .0) (qs .1 .1 .1 .0)) (λ x. x) (λ x. x) (Reads.as-is 𝓤 H A (Mut.msleft (Referent.rtF (Referent.fInt Syntax.w8)) ty·2)) (Reads.as-is 𝓤 H A (Relend.mslice-owed
-              (Referent.rtF (Referent.fInt Syntax.w8)) ty·6 3 12 (Row.lease (κs .1 .1 .1 .0) (qs .1 .1 .1 .0)))) Path'.refl Path'.refl) d27
-
-          d29 : Typed.Typed 𝓤 H A 𝓣 E G46 b21 Δ0 at29
-          d29 = Typed.g-pre 𝓤 H A W 𝓣 E G46 G47 b21 Δ0 (λ Ψ. Ψ) at28 (Lifetime.g-end 𝓤 H A W E G46 12 Path'.refl) d28
-
-          d30 : Typed.Typed 𝓤 H A 𝓣 E G45 b21 Δ0 at30
-          d30 = Typed.g-pre 𝓤 H A W 𝓣 E G45 G46 b21 Δ0 (λ Ψ. Ψ) at29 (Lifetime.g-forget 𝓤 H A W E G45 11 Row.dead Path'.refl) d29
-
-          d31 : Typed.Typed 𝓤 H A 𝓣 E G44 b21 Δ0 at31
-          d31 = Typed.g-pre 𝓤 H A W 𝓣 E G44 G45 b21 Δ0 (Typed.give s43) at30 (Know.g-sl-known 𝓤 H A W (Referent.fInt Syntax.w16) E G44 3 2 ty·9 (Row.lease (κs .1 .1 .0) (qs .1 .1 .0)) 0 (λ x. x) record { fits = Dec'.lit< tt } (Reads.as-is 𝓤 H A (Mut.mslice (Referent.rtF (Referent.fInt Syntax.w16)) ty·9 2)) Path'.refl tt) d30
+              (Referent.rtF (Referent.fInt Syntax.w8)) ty·6 3 12 (Row.lease (κs .1 .1 .1 .0) (qs .1 .1 .1 .0)))) Path'.refl Path'.refl) (Typed.g-pre 𝓤 H A W 𝓣 E G48 G48 b21 Δ0 (Typed.give s47) at24 (Know.g-sl-known 𝓤 H A W (Referent.fInt Syntax.w8) E G48 4 3 ty·6 (Row.lease (κs .1 .1 .1 .0) (qs .1 .1 .1 .0)) 0 (λ x. x) record { fits = Dec'.lit< tt } (Reads.as-is
+              𝓤 H A (Mut.mslice (Referent.rtF (Referent.fInt Syntax.w8)) ty·6 3)) Path'.refl tt) (Typed.g-pre 𝓤 H A W 𝓣 E G48 G50 b21 Δ0 (λ Ψ. Ψ) at24 (Lifetime.g-forget 𝓤 H A W E G48 12 Row.dead Path'.refl) (Typed.g-pre 𝓤 H A W 𝓣 E G50 G51 b21 Δ0 (λ Ψ. Ψ) at24 (Lifetime.g-end 𝓤 H A W E G50 13 Path'.refl) d24)))
 
           d32 : Typed.Typed 𝓤 H A 𝓣 E G43 b21 Δ0 at32
           d32 = Typed.g-pre 𝓤 H A W 𝓣 E G43 G44 b21 Δ0 (Typed.both s42) at31 (Relend.g-back-sl 𝓤 H A W E (Referent.rtF (Referent.fInt Syntax.w16)) G43 15 3 2 11 ty·9 ty·3 (Row.lease (κs .1 .1 .0) (qs .1 .1 .0)) (λ x. x) (λ x. x) (Reads.as-is 𝓤 H A (Mut.msleft (Referent.rtF (Referent.fInt Syntax.w16)) ty·3)) (Reads.as-is 𝓤 H A (Relend.mslice-owed
-              (Referent.rtF (Referent.fInt Syntax.w16)) ty·9 2 11 (Row.lease (κs .1 .1 .0) (qs .1 .1 .0)))) Path'.refl Path'.refl) d31
-
-          d33 : Typed.Typed 𝓤 H A 𝓣 E G42 b21 Δ0 at33
-          d33 = Typed.g-pre 𝓤 H A W 𝓣 E G42 G43 b21 Δ0 (λ Ψ. Ψ) at32 (Lifetime.g-end 𝓤 H A W E G42 11 Path'.refl) d32
-
-          d34 : Typed.Typed 𝓤 H A 𝓣 E G41 b21 Δ0 at34
-          d34 = Typed.g-pre 𝓤 H A W 𝓣 E G41 G42 b21 Δ0 (λ Ψ. Ψ) at33 (Lifetime.g-forget 𝓤 H A W E G41 10 Row.dead Path'.refl) d33
-
-          d35 : Typed.Typed 𝓤 H A 𝓣 E G40 b21 Δ0 at35
-          d35 = Typed.g-pre 𝓤 H A W 𝓣 E G40 G41 b21 Δ0 (Typed.give s39) at34 (Know.g-sl-known 𝓤 H A W (Referent.fInt Syntax.w16) E G40 2 1 ty·8 (Row.lease (κs .1 .0) (qs .1 .0)) 0 (λ x. x) record { fits = Dec'.lit< tt } (Reads.as-is 𝓤 H A (Mut.mslice (Referent.rtF (Referent.fInt Syntax.w16)) ty·8 1)) Path'.refl tt) d34
+              (Referent.rtF (Referent.fInt Syntax.w16)) ty·9 2 11 (Row.lease (κs .1 .1 .0) (qs .1 .1 .0)))) Path'.refl Path'.refl) (Typed.g-pre 𝓤 H A W 𝓣 E G44 G44 b21 Δ0 (Typed.give s43) at28 (Know.g-sl-known 𝓤 H A W (Referent.fInt Syntax.w16) E G44 3 2 ty·9 (Row.lease (κs .1 .1 .0) (qs .1 .1 .0)) 0 (λ x. x) record { fits = Dec'.lit< tt } (Reads.as-is 𝓤 H A
+              (Mut.mslice (Referent.rtF (Referent.fInt Syntax.w16)) ty·9 2)) Path'.refl tt) (Typed.g-pre 𝓤 H A W 𝓣 E G44 G46 b21 Δ0 (λ Ψ. Ψ) at28 (Lifetime.g-forget 𝓤 H A W E G44 11 Row.dead Path'.refl) (Typed.g-pre 𝓤 H A W 𝓣 E G46 G47 b21 Δ0 (λ Ψ. Ψ) at28 (Lifetime.g-end 𝓤 H A W E G46 12 Path'.refl) d28)))
 
           d36 : Typed.Typed 𝓤 H A 𝓣 E G39 b21 Δ0 at36
-          d36 = Typed.g-pre 𝓤 H A W 𝓣 E G39 G40 b21 Δ0 (Typed.both s38) at35 (Relend.g-back-sl 𝓤 H A W E (Referent.rtF (Referent.fInt Syntax.w16)) G39 13 2 1 10 ty·8 ty·3 (Row.lease (κs .1 .0) (qs .1 .0)) (λ x. x) (λ x. x) (Reads.as-is 𝓤 H A (Mut.msleft (Referent.rtF (Referent.fInt Syntax.w16)) ty·3)) (Reads.as-is 𝓤 H A (Relend.mslice-owed
-              (Referent.rtF (Referent.fInt Syntax.w16)) ty·8 1 10 (Row.lease (κs .1 .0) (qs .1 .0)))) Path'.refl Path'.refl) d35
-
-          d37 : Typed.Typed 𝓤 H A 𝓣 E G38 b21 Δ0 at37
-          d37 = Typed.g-pre 𝓤 H A W 𝓣 E G38 G39 b21 Δ0 (λ Ψ. Ψ) at36 (Lifetime.g-end 𝓤 H A W E G38 10 Path'.refl) d36
+          d36 = Typed.g-pre 𝓤 H A W 𝓣 E G39 G40 b21 Δ0 (Typed.both s38) at35 (Relend.g-back-sl 𝓤 H A W E (Referent.rtF (Referent.fInt Syntax.w16)) G39 13 2 1 10 ty·8 ty·3 (Row.lease (κs .1 .0) (qs .1 .0)) (λ x. x) (λ x. x) (Reads.as-is 𝓤 H A (Mut.msleft (Referent.rtF (Referent.fInt Syntax.w16)) ty·3)) (Reads.as-is 𝓤 H A (Relend.mslice-owed (Referent.rtF
+              (Referent.fInt Syntax.w16)) ty·8 1 10 (Row.lease (κs .1 .0) (qs .1 .0)))) Path'.refl Path'.refl) (Typed.g-pre 𝓤 H A W 𝓣 E G40 G40 b21 Δ0 (Typed.give s39) at32 (Know.g-sl-known 𝓤 H A W (Referent.fInt Syntax.w16) E G40 2 1 ty·8 (Row.lease (κs .1 .0) (qs .1 .0)) 0 (λ x. x) record { fits = Dec'.lit< tt } (Reads.as-is 𝓤 H A (Mut.mslice (Referent.rtF
+              (Referent.fInt Syntax.w16)) ty·8 1)) Path'.refl tt) (Typed.g-pre 𝓤 H A W 𝓣 E G40 G42 b21 Δ0 (λ Ψ. Ψ) at32 (Lifetime.g-forget 𝓤 H A W E G40 10 Row.dead Path'.refl) (Typed.g-pre 𝓤 H A W 𝓣 E G42 G43 b21 Δ0 (λ Ψ. Ψ) at32 (Lifetime.g-end 𝓤 H A W E G42 11 Path'.refl) d32)))
 
           d38 : Typed.Typed 𝓤 H A 𝓣 E G37 b22 Δ0 at38
-          d38 = Typed.s-seq 𝓤 H A W 𝓣 E G37 G38 b18 b21 Δ0 (Typed.both s36) at37 (Plain.t-call-plain 𝓤 H A W 𝓣 10 ps·0 r·0 (claims· .0) (claims· .1) "conductor::calls::read_plan" (known .0) E (λ pos β. β) G37 (
-            record { pos = 1; ty = Syntax.tyRef (Syntax.named 0) Syntax.imm (Syntax.tyInt Syntax.w8); ref = λ x. x },
-            (
-              record {
-                pos = 13;
-                ty = Syntax.tyRef Syntax.erased Syntax.mut (Syntax.tyInt Syntax.w16);
-                ref = λ x. x;
-              },
-              (
-                record { pos = 15; ty = Syntax.tyRef Syntax.erased Syntax.mut (Syntax.tyInt Syntax.w16); ref = λ x. x },
-                (
-                  record { pos = 17; ty = Syntax.tyRef Syntax.erased Syntax.mut (Syntax.tyInt Syntax.w8); ref = λ x. x },
-                  (
-                    record {
-                      pos = 19;
-                      ty = Syntax.tyRef Syntax.erased Syntax.mut (Syntax.tyInt Syntax.w16);
-                      ref = λ x. x;
-                    },
-                    (
-                      record { pos = 21; ty = Syntax.tyRef Syntax.erased Syntax.mut (Syntax.tyInt Syntax.w16); ref = λ x. x },
-                      (
-                        record { pos = 23; ty = Syntax.tyRef Syntax.erased Syntax.mut (Syntax.tyInt Syntax.w32); ref = λ x. x },
-                        (
-                          record {
-                            pos = 25;
-                            ty = Syntax.tyRef
-                                Syntax.erased Syntax.mut (Syntax.tyInt Syntax.w16);
-                            ref = λ x. x;
-                          },
-                          (record { pos = 27; ty = Syntax.tyRef Syntax.erased Syntax.mut (Syntax.tyInt Syntax.w8); ref = λ x. x }, (record { pos = 29; ty = Syntax.tyRef Syntax.erased Syntax.mut Rec.behind; ref = λ x. x }, tt)),
-                        ),
-                      ),
-                    ),
-                  ),
-                ),
-              ),
-            ),
-          ) 11 (List._∷_ 0 (List._∷_ 10 (List._∷_ 11
-              (List._∷_ 12 (List._∷_ 13 (List._∷_ 14 (List._∷_ 15 (List._∷_ 16 (List._∷_ 17 (List._∷_ 18 List.[])))))))))) (Call.sub-id 𝓤 H A W (G37 .slots)) (
-                ShrSlice.spares-sslice 𝓤 H A W (Referent.rtF (Referent.fInt Syntax.w8)) ty·5 0,
-                Shared.reads-sslice 𝓤 H A W (Referent.rtF (Referent.fInt Syntax.w8)) ty·5 0,
-                Path'.refl,
-                (
-                  Reads.as-is 𝓤 H A (Mut.mslice
-                      (Referent.rtF (Referent.fInt Syntax.w16)) ty·3 10),
-                  Mut.reads-mslice 𝓤 H A W (Referent.rtF (Referent.fInt Syntax.w16)) ty·3 10,
-                  Path'.refl,
-                  (
-                    Reads.as-is 𝓤 H A (Mut.mslice (Referent.rtF (Referent.fInt Syntax.w16)) ty·3 11),
-                    Mut.reads-mslice 𝓤 H A W (Referent.rtF (Referent.fInt Syntax.w16)) ty·3 11,
-                    Path'.refl,
-                    (
-                      Reads.as-is 𝓤 H A (Mut.mslice
-                          (Referent.rtF (Referent.fInt Syntax.w8)) ty·2 12),
-                      Mut.reads-mslice 𝓤 H A W (Referent.rtF (Referent.fInt Syntax.w8)) ty·2 12,
-                      Path'.refl,
-                      (
-                        Reads.as-is 𝓤 H A (Mut.mslice (Referent.rtF (Referent.fInt Syntax.w16)) ty·3 13),
-                        Mut.reads-mslice 𝓤 H A W (Referent.rtF (Referent.fInt Syntax.w16)) ty·3 13,
-                        Path'.refl,
-                        (
-                          Reads.as-is 𝓤 H A (Mut.mslice
-                              (Referent.rtF (Referent.fInt Syntax.w16)) ty·3 14),
-                          Mut.reads-mslice 𝓤 H A W (Referent.rtF (Referent.fInt Syntax.w16)) ty·3 14,
-                          Path'.refl,
-                          (
-                            Reads.as-is 𝓤 H A (Mut.mslice (Referent.rtF (Referent.fInt Syntax.w32)) ty·4 15),
-                            Mut.reads-mslice 𝓤 H A W (Referent.rtF (Referent.fInt Syntax.w32)) ty·4 15,
-                            Path'.refl,
-                            (
-                              Reads.as-is 𝓤 H A (Mut.mslice
-                                  (Referent.rtF (Referent.fInt Syntax.w16)) ty·3 16),
-                              Mut.reads-mslice 𝓤 H A W (Referent.rtF (Referent.fInt Syntax.w16)) ty·3 16,
-                              Path'.refl,
-                              (
-                                Reads.as-is 𝓤 H A (Mut.mslice (Referent.rtF (Referent.fInt Syntax.w8)) ty·2 17),
-                                Mut.reads-mslice 𝓤 H A W (Referent.rtF (Referent.fInt Syntax.w8)) ty·2 17,
-                                Path'.refl,
-                                (
-                                  Reads.as-is 𝓤 H A (Mut.mslice
-                                      Rec.rt ty·0 18),
-                                  Mut.reads-mslice 𝓤 H A W Rec.rt ty·0 18,
-                                  Path'.refl,
-                                  tt,
-                                ),
-                              ),
-                            ),
-                          ),
-                        ),
-                      ),
-                    ),
-                  ),
-                ),
-              ) (Reads.room-gone 𝓤 H A (Syntax.tyEnum (List._∷_ 114 (List._∷_ 101 (List._∷_ 97 (List._∷_ 100 (List._∷_ 105 (List._∷_ 110 (List._∷_ 103 (List._∷_ 58 (List._∷_ 58 (List._∷_ 114 (List._∷_ 101 (List._∷_ 112 (List._∷_ 108 (List._∷_ 105 (List._∷_
-              101 (List._∷_ 115 (List._∷_ 58 (List._∷_ 58 (List._∷_ 82 (List._∷_ 101 (List._∷_ 97 (List._∷_ 100 (List._∷_ 105 (List._∷_ 110 (List._∷_ 103 List.[]))))))))))))))))))))))))) (Syntax.ttcons Syntax.tnil (Syntax.ttcons (Syntax.tcons (Syntax.tyEnum (List._∷_ 114 (List._∷_ 101 (List._∷_ 97 (List._∷_ 100 (List._∷_ 105 (List._∷_ 110 (List._∷_ 103
-              (List._∷_ 58 (List._∷_ 58 (List._∷_ 114 (List._∷_ 101 (List._∷_ 112 (List._∷_ 108 (List._∷_ 105 (List._∷_ 101 (List._∷_ 115 (List._∷_ 58 (List._∷_ 58 (List._∷_ 82 (List._∷_ 101 (List._∷_ 102 (List._∷_ 117 (List._∷_ 115 (List._∷_ 97 (List._∷_ 108 List.[]))))))))))))))))))))))))) (Syntax.ttcons Syntax.tnil (Syntax.ttcons
-              (Syntax.tcons (Syntax.tyInt Syntax.w64) Syntax.tnil) (Syntax.ttcons (Syntax.tcons (Syntax.tyInt Syntax.w64) Syntax.tnil) (Syntax.ttcons (Syntax.tcons (Syntax.tyInt Syntax.w64) Syntax.tnil) (Syntax.ttcons (Syntax.tcons (Syntax.tyInt Syntax.w64) Syntax.tnil) (Syntax.ttcons (Syntax.tcons (Syntax.tyInt Syntax.w64) Syntax.tnil) (Syntax.ttcons
-              (Syntax.tcons (Syntax.tyInt Syntax.w64) Syntax.tnil) (Syntax.ttcons (Syntax.tcons ty·14 Syntax.tnil) (Syntax.ttcons (Syntax.tcons ty·14 Syntax.tnil) (Syntax.ttcons (Syntax.tcons ty·14 Syntax.tnil) (Syntax.ttcons (Syntax.tcons ty·14 (Syntax.tcons ty·14 Syntax.tnil)) (Syntax.ttcons Syntax.tnil Syntax.ttnil))))))))))))) Syntax.tnil)
-              Syntax.ttnil)))) (tt, (tt, (tt, (tt, (tt, (tt, (tt, (tt, (tt, (tt, tt)))))))))) Path'.refl) d37
-
-          d39 : Typed.Typed 𝓤 H A 𝓣 E G36 b23 Δ0 at39
-          d39 = Typed.s-seq 𝓤 H A W 𝓣 E G36 G37 b17 b22 Δ0 (Typed.ask s35) at38 (Relend.t-sl-aggregate 𝓤 H A W E Rec.rt 𝓣 (Relend.asMut Rec.rt) G36 28 29 18 ty·0 ty·0 (λ x. x) (Scalar.oFld 10 (List._∷_ (Syntax.field 1) List.[]) (Syntax.tyInt Syntax.w64) 8 λ v. Shared.lenV (v .0)) (Reads.as-is 𝓤 H A (Relend.msptr Rec.rt ty·0 18)) (Reads.room-gone 𝓤 H A
-              (Syntax.tyStruct (List._∷_ 38 (List._∷_ 91 (List._∷_ 93 List.[]))) (Syntax.tcons ty·0 (Syntax.tcons (Syntax.tyInt Syntax.w64) Syntax.tnil)))) (Relend.reads-owed-len 𝓤 H A W Rec.rt ty·1 9 18 (Row.lease (κs .1 .1 .1 .1 .1 .1 .1 .1 .1 .0) (qs .1 .1 .1 .1 .1 .1 .1 .1 .1 .0)) 8 Path'.refl, Path'.refl) Path'.refl Path'.refl λ b o k. tt) d38
+          d38 = Typed.s-seq 𝓤 H A W 𝓣 E G37 G38 b18 b21 Δ0 (Typed.both s36) at36 (Plain.t-call-plain 𝓤 H A W 𝓣 10 ps·0 r·0 (claims· .0) (claims· .1) "conductor::calls::read_plan" (known .0) E (λ pos β. β) G37
+              (record { pos = 1; ty = ty·5; ref = λ x. x }, (record { pos = 13; ty = ty·3; ref = λ x. x }, (record { pos = 15; ty = ty·3; ref = λ x. x }, (record { pos = 17; ty = ty·2; ref = λ x. x }, (record { pos = 19; ty = ty·3; ref = λ x. x }, (record { pos = 21; ty = ty·3; ref = λ x. x }, (record { pos = 23; ty = ty·4; ref = λ x. x }, (record { pos = 25; ty = ty·3; ref = λ x. x }, (record { pos = 27; ty = ty·2; ref = λ x. x }, (record { pos = 29; ty = ty·0; ref = λ x. x }, tt))))))))))
+              11 (List._∷_ 0 (List._∷_ 10 (List._∷_ 11 (List._∷_ 12 (List._∷_ 13 (List._∷_ 14 (List._∷_ 15 (List._∷_ 16 (List._∷_ 17 (List._∷_ 18 List.[])))))))))) (Call.sub-id 𝓤 H A W (G37 .slots))
+              (ShrSlice.spares-sslice 𝓤 H A W (Referent.rtF (Referent.fInt Syntax.w8)) ty·5 0, Shared.reads-sslice 𝓤 H A W (Referent.rtF (Referent.fInt Syntax.w8)) ty·5 0, Path'.refl, (Reads.as-is 𝓤 H A (Mut.mslice (Referent.rtF (Referent.fInt Syntax.w16)) ty·3 10), Mut.reads-mslice 𝓤 H A W (Referent.rtF (Referent.fInt Syntax.w16)) ty·3 10, Path'.refl, (Reads.as-is 𝓤 H A (Mut.mslice (Referent.rtF (Referent.fInt Syntax.w16)) ty·3 11), Mut.reads-mslice 𝓤 H A W (Referent.rtF (Referent.fInt Syntax.w16)) ty·3 11, Path'.refl, (Reads.as-is 𝓤 H A (Mut.mslice (Referent.rtF (Referent.fInt Syntax.w8)) ty·2 12), Mut.reads-mslice 𝓤 H A W (Referent.rtF (Referent.fInt Syntax.w8)) ty·2 12, Path'.refl, (Reads.as-is 𝓤 H A (Mut.mslice (Referent.rtF (Referent.fInt Syntax.w16)) ty·3 13), Mut.reads-mslice 𝓤 H A W (Referent.rtF (Referent.fInt Syntax.w16)) ty·3 13, Path'.refl, (Reads.as-is 𝓤 H A (Mut.mslice (Referent.rtF (Referent.fInt Syntax.w16)) ty·3 14), Mut.reads-mslice 𝓤 H A W (Referent.rtF (Referent.fInt Syntax.w16)) ty·3 14, Path'.refl, (Reads.as-is 𝓤 H A (Mut.mslice (Referent.rtF (Referent.fInt Syntax.w32)) ty·4 15), Mut.reads-mslice 𝓤 H A W (Referent.rtF (Referent.fInt Syntax.w32)) ty·4 15, Path'.refl, (Reads.as-is 𝓤 H A (Mut.mslice (Referent.rtF (Referent.fInt Syntax.w16)) ty·3 16), Mut.reads-mslice 𝓤 H A W (Referent.rtF (Referent.fInt Syntax.w16)) ty·3 16, Path'.refl, (Reads.as-is 𝓤 H A (Mut.mslice (Referent.rtF (Referent.fInt Syntax.w8)) ty·2 17), Mut.reads-mslice 𝓤 H A W (Referent.rtF (Referent.fInt Syntax.w8)) ty·2 17, Path'.refl, (Reads.as-is 𝓤 H A (Mut.mslice Rec.rt ty·0 18), Mut.reads-mslice 𝓤 H A W Rec.rt ty·0 18, Path'.refl, tt))))))))))
+              (Reads.room-gone 𝓤 H A (Syntax.tyEnum (List._∷_ 114 (List._∷_ 101 (List._∷_ 97 (List._∷_ 100 (List._∷_ 105 (List._∷_ 110 (List._∷_ 103 (List._∷_ 58 (List._∷_ 58 (List._∷_ 114 (List._∷_ 101 (List._∷_ 112 (List._∷_ 108 (List._∷_ 105 (List._∷_ 101 (List._∷_ 115 (List._∷_ 58 (List._∷_ 58 (List._∷_ 82 (List._∷_ 101 (List._∷_ 97 (List._∷_ 100 (List._∷_
+              105 (List._∷_ 110 (List._∷_ 103 List.[]))))))))))))))))))))))))) (Syntax.ttcons Syntax.tnil (Syntax.ttcons (Syntax.tcons (Syntax.tyEnum (List._∷_ 114 (List._∷_ 101 (List._∷_ 97 (List._∷_ 100 (List._∷_ 105 (List._∷_ 110 (List._∷_ 103 (List._∷_ 58 (List._∷_ 58 (List._∷_ 114 (List._∷_ 101 (List._∷_ 112 (List._∷_ 108 (List._∷_ 105 (List._∷_ 101
+              (List._∷_ 115 (List._∷_ 58 (List._∷_ 58 (List._∷_ 82 (List._∷_ 101 (List._∷_ 102 (List._∷_ 117 (List._∷_ 115 (List._∷_ 97 (List._∷_ 108 List.[]))))))))))))))))))))))))) (Syntax.ttcons Syntax.tnil (Syntax.ttcons (Syntax.tcons (Syntax.tyInt Syntax.w64) Syntax.tnil) (Syntax.ttcons (Syntax.tcons (Syntax.tyInt Syntax.w64) Syntax.tnil) (Syntax.ttcons
+              (Syntax.tcons (Syntax.tyInt Syntax.w64) Syntax.tnil) (Syntax.ttcons (Syntax.tcons (Syntax.tyInt Syntax.w64) Syntax.tnil) (Syntax.ttcons (Syntax.tcons (Syntax.tyInt Syntax.w64) Syntax.tnil) (Syntax.ttcons (Syntax.tcons (Syntax.tyInt Syntax.w64) Syntax.tnil) (Syntax.ttcons (Syntax.tcons ty·14 Syntax.tnil) (Syntax.ttcons (Syntax.tcons ty·14
+              Syntax.tnil) (Syntax.ttcons (Syntax.tcons ty·14 Syntax.tnil) (Syntax.ttcons (Syntax.tcons ty·14 (Syntax.tcons ty·14 Syntax.tnil)) (Syntax.ttcons Syntax.tnil Syntax.ttnil))))))))))))) Syntax.tnil) Syntax.ttnil)))) (tt, (tt, (tt, (tt, (tt, (tt, (tt, (tt, (tt, (tt, tt)))))))))) Path'.refl) (Typed.g-pre 𝓤 H A W 𝓣 E G38 G39 b21 Δ0 (λ Ψ. Ψ) at36
+              (Lifetime.g-end 𝓤 H A W E G38 10 Path'.refl) d36)
 
           d40 : Typed.Typed 𝓤 H A 𝓣 E G35 b24 Δ0 at40
           d40 = Typed.s-seq 𝓤 H A W 𝓣 E G35 G36 b16 b23 Δ0 (Typed.give s34) at39 (Relend.t-sl-relend 𝓤 H A W E Rec.rt 𝓣 G35 10 28 9 18 ty·1 ty·0 (Row.lease (κs .1 .1 .1 .1 .1 .1 .1 .1 .1 .0) (qs .1 .1 .1 .1 .1 .1 .1 .1 .1 .0)) 0 (λ x. x) (Reads.as-is 𝓤 H A (Mut.mslice Rec.rt ty·1 9)) (Reads.room-gone 𝓤 H A ty·0) Path'.refl tt Path'.refl Path'.refl Path'.refl
-              λ b o. tt) d39
-
-          d41 : Typed.Typed 𝓤 H A 𝓣 E G34 b24 Δ0 at41
-          d41 = Typed.g-pre 𝓤 H A W 𝓣 E G34 G35 b24 Δ0 (λ Ψ. Ψ) at40 (Lifetime.g-begin 𝓤 H A W E G34 18 (
-            tt,
-            (
-              tt,
-              (
-                (tt, tt),
-                (
-                  (tt, tt),
-                  (
-                    (tt, tt),
-                    (
-                      (tt, tt),
-                      (
-                        (tt, tt),
-                        (
-                          (tt, tt),
-                          (
-                            (tt, tt),
-                            (
-                              (tt, tt),
-                              (
-                                tt,
-                                (
-                                  tt,
-                                  (
-                                    tt,
-                                    (
-                                      tt,
-                                      (
-                                        tt,
-                                        (
-                                          tt,
-                                          (
-                                            tt,
-                                            (
-                                              tt,
-                                              (tt, (tt, (tt, (tt, (tt, (tt, (tt, (tt, (tt, (tt, (tt, (tt, tt)))))))))))),
-                                            ),
-                                          ),
-                                        ),
-                                      ),
-                                    ),
-                                  ),
-                                ),
-                              ),
-                            ),
-                          ),
-                        ),
-                      ),
-                    ),
-                  ),
-                ),
-              ),
-            ),
-          )) d40
+              λ b o. tt) (Typed.s-seq 𝓤 H A W 𝓣 E G36 G37 b17 b22 Δ0 (Typed.ask s35) at38 (Relend.t-sl-aggregate 𝓤 H A W E Rec.rt 𝓣 (Relend.asMut Rec.rt) G36 28 29 18 ty·0 ty·0 (λ x. x) (Scalar.oFld 10 (List._∷_ (Syntax.field 1) List.[]) (Syntax.tyInt Syntax.w64) 8 λ v. Shared.lenV (v .0)) (Reads.as-is 𝓤 H A (Relend.msptr Rec.rt ty·0 18)) (Reads.room-gone 𝓤 H A
+              (Syntax.tyStruct (List._∷_ 38 (List._∷_ 91 (List._∷_ 93 List.[]))) (Syntax.tcons ty·0 (Syntax.tcons (Syntax.tyInt Syntax.w64) Syntax.tnil)))) (Relend.reads-owed-len 𝓤 H A W Rec.rt ty·1 9 18 (Row.lease (κs .1 .1 .1 .1 .1 .1 .1 .1 .1 .0) (qs .1 .1 .1 .1 .1 .1 .1 .1 .1 .0)) 8 Path'.refl, Path'.refl) Path'.refl Path'.refl λ b o k. tt) d38)
 
           d42 : Typed.Typed 𝓤 H A 𝓣 E G33 b25 Δ0 at42
-          d42 = Typed.s-seq 𝓤 H A W 𝓣 E G33 G34 b15 b24 Δ0 (Typed.ask s32) at41 (Relend.t-sl-aggregate 𝓤 H A W E (Referent.rtF (Referent.fInt Syntax.w8)) 𝓣 (Relend.asMut (Referent.rtF (Referent.fInt Syntax.w8))) G33 26 27 17 ty·2 ty·2 (λ x. x) (Scalar.oFld 9 (List._∷_ (Syntax.field 1) List.[]) (Syntax.tyInt Syntax.w64) 8 λ v. Shared.lenV (v .0)) (Reads.as-is
-              𝓤 H A (Relend.msptr (Referent.rtF (Referent.fInt Syntax.w8)) ty·2 17)) (Reads.room-gone 𝓤 H A (Syntax.tyStruct (List._∷_ 38 (List._∷_ 91 (List._∷_ 93 List.[]))) (Syntax.tcons ty·2 (Syntax.tcons (Syntax.tyInt Syntax.w64) Syntax.tnil)))) (
-                Relend.reads-owed-len 𝓤 H A W (Referent.rtF (Referent.fInt Syntax.w8)) ty·7 8 17
-                    (Row.lease (κs .1 .1 .1 .1 .1 .1 .1 .1 .0) (qs .1 .1 .1 .1 .1 .1 .1 .1 .0)) 8 Path'.refl,
-                Path'.refl,
-              ) Path'.refl Path'.refl λ b o k. tt) d41
-
-          d43 : Typed.Typed 𝓤 H A 𝓣 E G32 b26 Δ0 at43
-          d43 = Typed.s-seq 𝓤 H A W 𝓣 E G32 G33 b14 b25 Δ0 (Typed.give s31) at42 (Relend.t-sl-relend 𝓤 H A W E (Referent.rtF (Referent.fInt Syntax.w8)) 𝓣 G32 9 26 8 17 ty·7 ty·2 (Row.lease (κs .1 .1 .1 .1 .1 .1 .1 .1 .0) (qs .1 .1 .1 .1 .1 .1 .1 .1 .0)) 0 (λ x. x) (Reads.as-is 𝓤 H A (Mut.mslice (Referent.rtF (Referent.fInt Syntax.w8)) ty·7 8))
-              (Reads.room-gone 𝓤 H A ty·2) Path'.refl tt Path'.refl Path'.refl Path'.refl λ b o. tt) d42
-
-          d44 : Typed.Typed 𝓤 H A 𝓣 E G31 b26 Δ0 at44
-          d44 = Typed.g-pre 𝓤 H A W 𝓣 E G31 G32 b26 Δ0 (λ Ψ. Ψ) at43 (Lifetime.g-begin 𝓤 H A W E G31 17 (
-            tt,
-            (
-              tt,
-              (
-                (tt, tt),
-                (
-                  (tt, tt),
-                  (
-                    (tt, tt),
-                    (
-                      (tt, tt),
-                      (
-                        (tt, tt),
-                        (
-                          (tt, tt),
-                          (
-                            (tt, tt),
-                            (
-                              tt,
-                              (
-                                tt,
-                                (
-                                  tt,
-                                  (
-                                    tt,
-                                    (
-                                      tt,
-                                      (
-                                        tt,
-                                        (
-                                          tt,
-                                          (tt, (tt, (tt, (tt, (tt, (tt, (tt, (tt, (tt, (tt, (tt, (tt, (tt, (tt, tt)))))))))))))),
-                                        ),
-                                      ),
-                                    ),
-                                  ),
-                                ),
-                              ),
-                            ),
-                          ),
-                        ),
-                      ),
-                    ),
-                  ),
-                ),
-              ),
-            ),
-          )) d43
+          d42 = Typed.s-seq 𝓤 H A W 𝓣 E G33 G34 b15 b24 Δ0 (Typed.ask s32) at40 (Relend.t-sl-aggregate 𝓤 H A W E (Referent.rtF (Referent.fInt Syntax.w8)) 𝓣 (Relend.asMut (Referent.rtF (Referent.fInt Syntax.w8))) G33 26 27 17 ty·2 ty·2 (λ x. x) (Scalar.oFld 9 (List._∷_ (Syntax.field 1) List.[]) (Syntax.tyInt Syntax.w64) 8 λ v. Shared.lenV (v .0)) (Reads.as-is
+              𝓤 H A (Relend.msptr (Referent.rtF (Referent.fInt Syntax.w8)) ty·2 17)) (Reads.room-gone 𝓤 H A (Syntax.tyStruct (List._∷_ 38 (List._∷_ 91 (List._∷_ 93 List.[]))) (Syntax.tcons ty·2 (Syntax.tcons (Syntax.tyInt Syntax.w64) Syntax.tnil))))
+              (Relend.reads-owed-len 𝓤 H A W (Referent.rtF (Referent.fInt Syntax.w8)) ty·7 8 17 (Row.lease (κs .1 .1 .1 .1 .1 .1 .1 .1 .0) (qs .1 .1 .1 .1 .1 .1 .1 .1 .0)) 8 Path'.refl, Path'.refl) Path'.refl Path'.refl λ b o k. tt) (Typed.g-pre 𝓤 H A W 𝓣 E G34 G35 b24 Δ0 (λ Ψ. Ψ) at40 (Lifetime.g-begin 𝓤 H A W E G34 18
+              (tt, (tt, ((tt, tt), ((tt, tt), ((tt, tt), ((tt, tt), ((tt, tt), ((tt, tt), ((tt, tt), ((tt, tt), (tt, (tt, (tt, (tt, (tt, (tt, (tt, (tt, (tt, (tt, (tt, (tt, (tt, (tt, (tt, (tt, (tt, (tt, (tt, (tt, tt))))))))))))))))))))))))))))))) d40)
 
           d45 : Typed.Typed 𝓤 H A 𝓣 E G30 b27 Δ0 at45
-          d45 = Typed.s-seq 𝓤 H A W 𝓣 E G30 G31 b13 b26 Δ0 (Typed.ask s29) at44 (Relend.t-sl-aggregate 𝓤 H A W E (Referent.rtF (Referent.fInt Syntax.w16)) 𝓣 (Relend.asMut (Referent.rtF (Referent.fInt Syntax.w16))) G30 24 25 16 ty·3 ty·3 (λ x. x) (Scalar.oFld 8 (List._∷_ (Syntax.field 1) List.[]) (Syntax.tyInt Syntax.w64) 8 λ v. Shared.lenV (v .0))
-              (Reads.as-is 𝓤 H A (Relend.msptr (Referent.rtF (Referent.fInt Syntax.w16)) ty·3 16)) (Reads.room-gone 𝓤 H A (Syntax.tyStruct (List._∷_ 38 (List._∷_ 91 (List._∷_ 93 List.[]))) (Syntax.tcons ty·3 (Syntax.tcons (Syntax.tyInt Syntax.w64) Syntax.tnil)))) (
-                Relend.reads-owed-len 𝓤 H A W (Referent.rtF (Referent.fInt Syntax.w16)) ty·13 7 16
-                    (Row.lease (κs .1 .1 .1 .1 .1 .1 .1 .0) (qs .1 .1 .1 .1 .1 .1 .1 .0)) 8 Path'.refl,
-                Path'.refl,
-              ) Path'.refl Path'.refl λ b o k. tt) d44
-
-          d46 : Typed.Typed 𝓤 H A 𝓣 E G29 b28 Δ0 at46
-          d46 = Typed.s-seq 𝓤 H A W 𝓣 E G29 G30 b12 b27 Δ0 (Typed.give s28) at45 (Relend.t-sl-relend 𝓤 H A W E (Referent.rtF (Referent.fInt Syntax.w16)) 𝓣 G29 8 24 7 16 ty·13 ty·3 (Row.lease (κs .1 .1 .1 .1 .1 .1 .1 .0) (qs .1 .1 .1 .1 .1 .1 .1 .0)) 0 (λ x. x) (Reads.as-is 𝓤 H A (Mut.mslice (Referent.rtF (Referent.fInt Syntax.w16)) ty·13 7)) (Reads.room-gone
-              𝓤 H A ty·3) Path'.refl tt Path'.refl Path'.refl Path'.refl λ b o. tt) d45
-
-          d47 : Typed.Typed 𝓤 H A 𝓣 E G28 b28 Δ0 at47
-          d47 = Typed.g-pre 𝓤 H A W 𝓣 E G28 G29 b28 Δ0 (λ Ψ. Ψ) at46 (Lifetime.g-begin 𝓤 H A W E G28 16 (
-            tt,
-            (
-              tt,
-              (
-                (tt, tt),
-                (
-                  (tt, tt),
-                  (
-                    (tt, tt),
-                    (
-                      (tt, tt),
-                      (
-                        (tt, tt),
-                        (
-                          (tt, tt),
-                          (
-                            tt,
-                            (
-                              tt,
-                              (
-                                tt,
-                                (
-                                  tt,
-                                  (
-                                    tt,
-                                    (
-                                      tt,
-                                      (tt, (tt, (tt, (tt, (tt, (tt, (tt, (tt, (tt, (tt, (tt, (tt, (tt, (tt, (tt, (tt, tt)))))))))))))))),
-                                    ),
-                                  ),
-                                ),
-                              ),
-                            ),
-                          ),
-                        ),
-                      ),
-                    ),
-                  ),
-                ),
-              ),
-            ),
-          )) d46
+          d45 = Typed.s-seq 𝓤 H A W 𝓣 E G30 G31 b13 b26 Δ0 (Typed.ask s29) at43 (Relend.t-sl-aggregate 𝓤 H A W E (Referent.rtF (Referent.fInt Syntax.w16)) 𝓣 (Relend.asMut (Referent.rtF (Referent.fInt Syntax.w16))) G30 24 25 16 ty·3 ty·3 (λ x. x) (Scalar.oFld 8 (List._∷_ (Syntax.field 1) List.[]) (Syntax.tyInt Syntax.w64) 8 λ v. Shared.lenV (v .0))
+              (Reads.as-is 𝓤 H A (Relend.msptr (Referent.rtF (Referent.fInt Syntax.w16)) ty·3 16)) (Reads.room-gone 𝓤 H A (Syntax.tyStruct (List._∷_ 38 (List._∷_ 91 (List._∷_ 93 List.[]))) (Syntax.tcons ty·3 (Syntax.tcons (Syntax.tyInt Syntax.w64) Syntax.tnil))))
+              (Relend.reads-owed-len 𝓤 H A W (Referent.rtF (Referent.fInt Syntax.w16)) ty·13 7 16 (Row.lease (κs .1 .1 .1 .1 .1 .1 .1 .0) (qs .1 .1 .1 .1 .1 .1 .1 .0)) 8 Path'.refl, Path'.refl) Path'.refl Path'.refl λ b o k. tt) (Typed.g-pre 𝓤 H A W 𝓣 E G31 G32 b26 Δ0 (λ Ψ. Ψ) at43 (Lifetime.g-begin 𝓤 H A W E G31 17
+              (tt, (tt, ((tt, tt), ((tt, tt), ((tt, tt), ((tt, tt), ((tt, tt), ((tt, tt), ((tt, tt), (tt, (tt, (tt, (tt, (tt, (tt, (tt, (tt, (tt, (tt, (tt, (tt, (tt, (tt, (tt, (tt, (tt, (tt, (tt, (tt, (tt, tt))))))))))))))))))))))))))))))) (Typed.s-seq 𝓤 H A W 𝓣 E G32 G33 b14 b25 Δ0 (Typed.give s31) at42 (Relend.t-sl-relend 𝓤 H A W E (Referent.rtF (Referent.fInt
+              Syntax.w8)) 𝓣 G32 9 26 8 17 ty·7 ty·2 (Row.lease (κs .1 .1 .1 .1 .1 .1 .1 .1 .0) (qs .1 .1 .1 .1 .1 .1 .1 .1 .0)) 0 (λ x. x) (Reads.as-is 𝓤 H A (Mut.mslice (Referent.rtF (Referent.fInt Syntax.w8)) ty·7 8)) (Reads.room-gone 𝓤 H A ty·2) Path'.refl tt Path'.refl Path'.refl Path'.refl λ b o. tt) d42))
 
           d48 : Typed.Typed 𝓤 H A 𝓣 E G27 b29 Δ0 at48
-          d48 = Typed.s-seq 𝓤 H A W 𝓣 E G27 G28 b11 b28 Δ0 (Typed.ask s26) at47 (Relend.t-sl-aggregate 𝓤 H A W E (Referent.rtF (Referent.fInt Syntax.w32)) 𝓣 (Relend.asMut (Referent.rtF (Referent.fInt Syntax.w32))) G27 22 23 15 ty·4 ty·4 (λ x. x) (Scalar.oFld 7 (List._∷_ (Syntax.field 1) List.[]) (Syntax.tyInt Syntax.w64) 8 λ v. Shared.lenV (v .0))
-              (Reads.as-is 𝓤 H A (Relend.msptr (Referent.rtF (Referent.fInt Syntax.w32)) ty·4 15)) (Reads.room-gone 𝓤 H A (Syntax.tyStruct (List._∷_ 38 (List._∷_ 91 (List._∷_ 93 List.[]))) (Syntax.tcons ty·4 (Syntax.tcons (Syntax.tyInt Syntax.w64) Syntax.tnil)))) (
-                Relend.reads-owed-len 𝓤 H A W (Referent.rtF (Referent.fInt Syntax.w32)) ty·12 6 15
-                    (Row.lease (κs .1 .1 .1 .1 .1 .1 .0) (qs .1 .1 .1 .1 .1 .1 .0)) 8 Path'.refl,
-                Path'.refl,
-              ) Path'.refl Path'.refl λ b o k. tt) d47
-
-          d49 : Typed.Typed 𝓤 H A 𝓣 E G26 b30 Δ0 at49
-          d49 = Typed.s-seq 𝓤 H A W 𝓣 E G26 G27 b10 b29 Δ0 (Typed.give s25) at48 (Relend.t-sl-relend 𝓤 H A W E (Referent.rtF (Referent.fInt Syntax.w32)) 𝓣 G26 7 22 6 15 ty·12 ty·4 (Row.lease (κs .1 .1 .1 .1 .1 .1 .0) (qs .1 .1 .1 .1 .1 .1 .0)) 0 (λ x. x) (Reads.as-is 𝓤 H A (Mut.mslice (Referent.rtF (Referent.fInt Syntax.w32)) ty·12 6)) (Reads.room-gone 𝓤 H A
-              ty·4) Path'.refl tt Path'.refl Path'.refl Path'.refl λ b o. tt) d48
-
-          d50 : Typed.Typed 𝓤 H A 𝓣 E G25 b30 Δ0 at50
-          d50 = Typed.g-pre 𝓤 H A W 𝓣 E G25 G26 b30 Δ0 (λ Ψ. Ψ) at49 (Lifetime.g-begin 𝓤 H A W E G25 15 (
-            tt,
-            (
-              tt,
-              (
-                (tt, tt),
-                (
-                  (tt, tt),
-                  (
-                    (tt, tt),
-                    (
-                      (tt, tt),
-                      (
-                        (tt, tt),
-                        (
-                          tt,
-                          (
-                            tt,
-                            (
-                              tt,
-                              (
-                                tt,
-                                (
-                                  tt,
-                                  (tt, (tt, (tt, (tt, (tt, (tt, (tt, (tt, (tt, (tt, (tt, (tt, (tt, (tt, (tt, (tt, (tt, (tt, tt)))))))))))))))))),
-                                ),
-                              ),
-                            ),
-                          ),
-                        ),
-                      ),
-                    ),
-                  ),
-                ),
-              ),
-            ),
-          )) d49
+          d48 = Typed.s-seq 𝓤 H A W 𝓣 E G27 G28 b11 b28 Δ0 (Typed.ask s26) at46 (Relend.t-sl-aggregate 𝓤 H A W E (Referent.rtF (Referent.fInt Syntax.w32)) 𝓣 (Relend.asMut (Referent.rtF (Referent.fInt Syntax.w32))) G27 22 23 15 ty·4 ty·4 (λ x. x) (Scalar.oFld 7 (List._∷_ (Syntax.field 1) List.[]) (Syntax.tyInt Syntax.w64) 8 λ v. Shared.lenV (v .0))
+              (Reads.as-is 𝓤 H A (Relend.msptr (Referent.rtF (Referent.fInt Syntax.w32)) ty·4 15)) (Reads.room-gone 𝓤 H A (Syntax.tyStruct (List._∷_ 38 (List._∷_ 91 (List._∷_ 93 List.[]))) (Syntax.tcons ty·4 (Syntax.tcons (Syntax.tyInt Syntax.w64) Syntax.tnil))))
+              (Relend.reads-owed-len 𝓤 H A W (Referent.rtF (Referent.fInt Syntax.w32)) ty·12 6 15 (Row.lease (κs .1 .1 .1 .1 .1 .1 .0) (qs .1 .1 .1 .1 .1 .1 .0)) 8 Path'.refl, Path'.refl) Path'.refl Path'.refl λ b o k. tt) (Typed.g-pre 𝓤 H A W 𝓣 E G28 G29 b28 Δ0 (λ Ψ. Ψ) at46 (Lifetime.g-begin 𝓤 H A W E G28 16
+              (tt, (tt, ((tt, tt), ((tt, tt), ((tt, tt), ((tt, tt), ((tt, tt), ((tt, tt), (tt, (tt, (tt, (tt, (tt, (tt, (tt, (tt, (tt, (tt, (tt, (tt, (tt, (tt, (tt, (tt, (tt, (tt, (tt, (tt, (tt, (tt, tt))))))))))))))))))))))))))))))) (Typed.s-seq 𝓤 H A W 𝓣 E G29 G30 b12 b27 Δ0 (Typed.give s28) at45 (Relend.t-sl-relend 𝓤 H A W E (Referent.rtF (Referent.fInt
+              Syntax.w16)) 𝓣 G29 8 24 7 16 ty·13 ty·3 (Row.lease (κs .1 .1 .1 .1 .1 .1 .1 .0) (qs .1 .1 .1 .1 .1 .1 .1 .0)) 0 (λ x. x) (Reads.as-is 𝓤 H A (Mut.mslice (Referent.rtF (Referent.fInt Syntax.w16)) ty·13 7)) (Reads.room-gone 𝓤 H A ty·3) Path'.refl tt Path'.refl Path'.refl Path'.refl λ b o. tt) d45))
 
           d51 : Typed.Typed 𝓤 H A 𝓣 E G24 b31 Δ0 at51
-          d51 = Typed.s-seq 𝓤 H A W 𝓣 E G24 G25 b9 b30 Δ0 (Typed.ask s23) at50 (Relend.t-sl-aggregate 𝓤 H A W E (Referent.rtF (Referent.fInt Syntax.w16)) 𝓣 (Relend.asMut (Referent.rtF (Referent.fInt Syntax.w16))) G24 20 21 14 ty·3 ty·3 (λ x. x) (Scalar.oFld 6 (List._∷_ (Syntax.field 1) List.[]) (Syntax.tyInt Syntax.w64) 8 λ v. Shared.lenV (v .0))
-              (Reads.as-is 𝓤 H A (Relend.msptr (Referent.rtF (Referent.fInt Syntax.w16)) ty·3 14)) (Reads.room-gone 𝓤 H A (Syntax.tyStruct (List._∷_ 38 (List._∷_ 91 (List._∷_ 93 List.[]))) (Syntax.tcons ty·3 (Syntax.tcons (Syntax.tyInt Syntax.w64) Syntax.tnil)))) (
-                Relend.reads-owed-len 𝓤 H A W (Referent.rtF (Referent.fInt Syntax.w16)) ty·11 5 14
-                    (Row.lease (κs .1 .1 .1 .1 .1 .0) (qs .1 .1 .1 .1 .1 .0)) 8 Path'.refl,
-                Path'.refl,
-              ) Path'.refl Path'.refl λ b o k. tt) d50
-
-          d52 : Typed.Typed 𝓤 H A 𝓣 E G23 b32 Δ0 at52
-          d52 = Typed.s-seq 𝓤 H A W 𝓣 E G23 G24 b8 b31 Δ0 (Typed.give s22) at51 (Relend.t-sl-relend 𝓤 H A W E (Referent.rtF (Referent.fInt Syntax.w16)) 𝓣 G23 6 20 5 14 ty·11 ty·3 (Row.lease (κs .1 .1 .1 .1 .1 .0) (qs .1 .1 .1 .1 .1 .0)) 0 (λ x. x) (Reads.as-is 𝓤 H A (Mut.mslice (Referent.rtF (Referent.fInt Syntax.w16)) ty·11 5)) (Reads.room-gone 𝓤 H A ty·3)
-              Path'.refl tt Path'.refl Path'.refl Path'.refl λ b o. tt) d51
-
-          d53 : Typed.Typed 𝓤 H A 𝓣 E G22 b32 Δ0 at53
-          d53 = Typed.g-pre 𝓤 H A W 𝓣 E G22 G23 b32 Δ0 (λ Ψ. Ψ) at52 (Lifetime.g-begin 𝓤 H A W E G22 14 (
-            tt,
-            (
-              tt,
-              (
-                (tt, tt),
-                (
-                  (tt, tt),
-                  (
-                    (tt, tt),
-                    (
-                      (tt, tt),
-                      (
-                        tt,
-                        (
-                          tt,
-                          (
-                            tt,
-                            (
-                              tt,
-                              (tt, (tt, (tt, (tt, (tt, (tt, (tt, (tt, (tt, (tt, (tt, (tt, (tt, (tt, (tt, (tt, (tt, (tt, (tt, (tt, tt)))))))))))))))))))),
-                            ),
-                          ),
-                        ),
-                      ),
-                    ),
-                  ),
-                ),
-              ),
-            ),
-          )) d52
+          d51 = Typed.s-seq 𝓤 H A W 𝓣 E G24 G25 b9 b30 Δ0 (Typed.ask s23) at49 (Relend.t-sl-aggregate 𝓤 H A W E (Referent.rtF (Referent.fInt Syntax.w16)) 𝓣 (Relend.asMut (Referent.rtF (Referent.fInt Syntax.w16))) G24 20 21 14 ty·3 ty·3 (λ x. x) (Scalar.oFld 6 (List._∷_ (Syntax.field 1) List.[]) (Syntax.tyInt Syntax.w64) 8 λ v. Shared.lenV (v .0))
+              (Reads.as-is 𝓤 H A (Relend.msptr (Referent.rtF (Referent.fInt Syntax.w16)) ty·3 14)) (Reads.room-gone 𝓤 H A (Syntax.tyStruct (List._∷_ 38 (List._∷_ 91 (List._∷_ 93 List.[]))) (Syntax.tcons ty·3 (Syntax.tcons (Syntax.tyInt Syntax.w64) Syntax.tnil))))
+              (Relend.reads-owed-len 𝓤 H A W (Referent.rtF (Referent.fInt Syntax.w16)) ty·11 5 14 (Row.lease (κs .1 .1 .1 .1 .1 .0) (qs .1 .1 .1 .1 .1 .0)) 8 Path'.refl, Path'.refl) Path'.refl Path'.refl λ b o k. tt) (Typed.g-pre 𝓤 H A W 𝓣 E G25 G26 b30 Δ0 (λ Ψ. Ψ) at49 (Lifetime.g-begin 𝓤 H A W E G25 15
+              (tt, (tt, ((tt, tt), ((tt, tt), ((tt, tt), ((tt, tt), ((tt, tt), (tt, (tt, (tt, (tt, (tt, (tt, (tt, (tt, (tt, (tt, (tt, (tt, (tt, (tt, (tt, (tt, (tt, (tt, (tt, (tt, (tt, (tt, (tt, tt))))))))))))))))))))))))))))))) (Typed.s-seq 𝓤 H A W 𝓣 E G26 G27 b10 b29 Δ0 (Typed.give s25) at48 (Relend.t-sl-relend 𝓤 H A W E (Referent.rtF (Referent.fInt
+              Syntax.w32)) 𝓣 G26 7 22 6 15 ty·12 ty·4 (Row.lease (κs .1 .1 .1 .1 .1 .1 .0) (qs .1 .1 .1 .1 .1 .1 .0)) 0 (λ x. x) (Reads.as-is 𝓤 H A (Mut.mslice (Referent.rtF (Referent.fInt Syntax.w32)) ty·12 6)) (Reads.room-gone 𝓤 H A ty·4) Path'.refl tt Path'.refl Path'.refl Path'.refl λ b o. tt) d48))
 
           d54 : Typed.Typed 𝓤 H A 𝓣 E G21 b33 Δ0 at54
-          d54 = Typed.s-seq 𝓤 H A W 𝓣 E G21 G22 b7 b32 Δ0 (Typed.ask s20) at53 (Relend.t-sl-aggregate 𝓤 H A W E (Referent.rtF (Referent.fInt Syntax.w16)) 𝓣 (Relend.asMut (Referent.rtF (Referent.fInt Syntax.w16))) G21 18 19 13 ty·3 ty·3 (λ x. x) (Scalar.oFld 5 (List._∷_ (Syntax.field 1) List.[]) (Syntax.tyInt Syntax.w64) 8 λ v. Shared.lenV (v .0))
-              (Reads.as-is 𝓤 H A (Relend.msptr (Referent.rtF (Referent.fInt Syntax.w16)) ty·3 13)) (Reads.room-gone 𝓤 H A (Syntax.tyStruct (List._∷_ 38 (List._∷_ 91 (List._∷_ 93 List.[]))) (Syntax.tcons ty·3 (Syntax.tcons (Syntax.tyInt Syntax.w64) Syntax.tnil)))) (
-                Relend.reads-owed-len 𝓤 H A W (Referent.rtF (Referent.fInt Syntax.w16)) ty·10 4 13
-                    (Row.lease (κs .1 .1 .1 .1 .0) (qs .1 .1 .1 .1 .0)) 8 Path'.refl,
-                Path'.refl,
-              ) Path'.refl Path'.refl λ b o k. tt) d53
-
-          d55 : Typed.Typed 𝓤 H A 𝓣 E G20 b34 Δ0 at55
-          d55 = Typed.s-seq 𝓤 H A W 𝓣 E G20 G21 b6 b33 Δ0 (Typed.give s19) at54 (Relend.t-sl-relend 𝓤 H A W E (Referent.rtF (Referent.fInt Syntax.w16)) 𝓣 G20 5 18 4 13 ty·10 ty·3 (Row.lease (κs .1 .1 .1 .1 .0) (qs .1 .1 .1 .1 .0)) 0 (λ x. x) (Reads.as-is 𝓤 H A (Mut.mslice (Referent.rtF (Referent.fInt Syntax.w16)) ty·10 4)) (Reads.room-gone 𝓤 H A ty·3)
-              Path'.refl tt Path'.refl Path'.refl Path'.refl λ b o. tt) d54
-
-          d56 : Typed.Typed 𝓤 H A 𝓣 E G19 b34 Δ0 at56
-          d56 = Typed.g-pre 𝓤 H A W 𝓣 E G19 G20 b34 Δ0 (λ Ψ. Ψ) at55 (Lifetime.g-begin 𝓤 H A W E G19 13 (
-            tt,
-            (
-              tt,
-              (
-                (tt, tt),
-                (
-                  (tt, tt),
-                  (
-                    (tt, tt),
-                    (
-                      tt,
-                      (
-                        tt,
-                        (
-                          tt,
-                          (tt, (tt, (tt, (tt, (tt, (tt, (tt, (tt, (tt, (tt, (tt, (tt, (tt, (tt, (tt, (tt, (tt, (tt, (tt, (tt, (tt, (tt, tt)))))))))))))))))))))),
-                        ),
-                      ),
-                    ),
-                  ),
-                ),
-              ),
-            ),
-          )) d55
+          d54 = Typed.s-seq 𝓤 H A W 𝓣 E G21 G22 b7 b32 Δ0 (Typed.ask s20) at52 (Relend.t-sl-aggregate 𝓤 H A W E (Referent.rtF (Referent.fInt Syntax.w16)) 𝓣 (Relend.asMut (Referent.rtF (Referent.fInt Syntax.w16))) G21 18 19 13 ty·3 ty·3 (λ x. x) (Scalar.oFld 5 (List._∷_ (Syntax.field 1) List.[]) (Syntax.tyInt Syntax.w64) 8 λ v. Shared.lenV (v .0))
+              (Reads.as-is 𝓤 H A (Relend.msptr (Referent.rtF (Referent.fInt Syntax.w16)) ty·3 13)) (Reads.room-gone 𝓤 H A (Syntax.tyStruct (List._∷_ 38 (List._∷_ 91 (List._∷_ 93 List.[]))) (Syntax.tcons ty·3 (Syntax.tcons (Syntax.tyInt Syntax.w64) Syntax.tnil))))
+              (Relend.reads-owed-len 𝓤 H A W (Referent.rtF (Referent.fInt Syntax.w16)) ty·10 4 13 (Row.lease (κs .1 .1 .1 .1 .0) (qs .1 .1 .1 .1 .0)) 8 Path'.refl, Path'.refl) Path'.refl Path'.refl λ b o k. tt) (Typed.g-pre 𝓤 H A W 𝓣 E G22 G23 b32 Δ0 (λ Ψ. Ψ) at52 (Lifetime.g-begin 𝓤 H A W E G22 14
+              (tt, (tt, ((tt, tt), ((tt, tt), ((tt, tt), ((tt, tt), (tt, (tt, (tt, (tt, (tt, (tt, (tt, (tt, (tt, (tt, (tt, (tt, (tt, (tt, (tt, (tt, (tt, (tt, (tt, (tt, (tt, (tt, (tt, (tt, tt))))))))))))))))))))))))))))))) (Typed.s-seq 𝓤 H A W 𝓣 E G23 G24 b8 b31 Δ0 (Typed.give s22) at51 (Relend.t-sl-relend 𝓤 H A W E (Referent.rtF (Referent.fInt Syntax.w16)) 𝓣 G23
+              6 20 5 14 ty·11 ty·3 (Row.lease (κs .1 .1 .1 .1 .1 .0) (qs .1 .1 .1 .1 .1 .0)) 0 (λ x. x) (Reads.as-is 𝓤 H A (Mut.mslice (Referent.rtF (Referent.fInt Syntax.w16)) ty·11 5)) (Reads.room-gone 𝓤 H A ty·3) Path'.refl tt Path'.refl Path'.refl Path'.refl λ b o. tt) d51))
 
           d57 : Typed.Typed 𝓤 H A 𝓣 E G18 b35 Δ0 at57
-          d57 = Typed.s-seq 𝓤 H A W 𝓣 E G18 G19 b5 b34 Δ0 (Typed.ask s17) at56 (Relend.t-sl-aggregate 𝓤 H A W E (Referent.rtF (Referent.fInt Syntax.w8)) 𝓣 (Relend.asMut (Referent.rtF (Referent.fInt Syntax.w8))) G18 16 17 12 ty·2 ty·2 (λ x. x) (Scalar.oFld 4 (List._∷_ (Syntax.field 1) List.[]) (Syntax.tyInt Syntax.w64) 8 λ v. Shared.lenV (v .0)) (Reads.as-is
-              𝓤 H A (Relend.msptr (Referent.rtF (Referent.fInt Syntax.w8)) ty·2 12)) (Reads.room-gone 𝓤 H A (Syntax.tyStruct (List._∷_ 38 (List._∷_ 91 (List._∷_ 93 List.[]))) (Syntax.tcons ty·2 (Syntax.tcons (Syntax.tyInt Syntax.w64) Syntax.tnil)))) (
-                Relend.reads-owed-len 𝓤 H A W (Referent.rtF (Referent.fInt Syntax.w8)) ty·6 3 12
-                    (Row.lease (κs .1 .1 .1 .0) (qs .1 .1 .1 .0)) 8 Path'.refl,
-                Path'.refl,
-              ) Path'.refl Path'.refl λ b o k. tt) d56
-
-          d58 : Typed.Typed 𝓤 H A 𝓣 E G17 b36 Δ0 at58
-          d58 = Typed.s-seq 𝓤 H A W 𝓣 E G17 G18 b4 b35 Δ0 (Typed.give s16) at57 (Relend.t-sl-relend 𝓤 H A W E (Referent.rtF (Referent.fInt Syntax.w8)) 𝓣 G17 4 16 3 12 ty·6 ty·2 (Row.lease (κs .1 .1 .1 .0) (qs .1 .1 .1 .0)) 0 (λ x. x) (Reads.as-is 𝓤 H A (Mut.mslice (Referent.rtF (Referent.fInt Syntax.w8)) ty·6 3)) (Reads.room-gone 𝓤 H A ty·2) Path'.refl tt
-              Path'.refl Path'.refl Path'.refl λ b o. tt) d57
-
-          d59 : Typed.Typed 𝓤 H A 𝓣 E G16 b36 Δ0 at59
-          d59 = Typed.g-pre 𝓤 H A W 𝓣 E G16 G17 b36 Δ0 (λ Ψ. Ψ) at58 (Lifetime.g-begin 𝓤 H A W E G16 12 (
-            tt,
-            (
-              tt,
-              (
-                (tt, tt),
-                (
-                  (tt, tt),
-                  (
-                    tt,
-                    (
-                      tt,
-                      (tt, (tt, (tt, (tt, (tt, (tt, (tt, (tt, (tt, (tt, (tt, (tt, (tt, (tt, (tt, (tt, (tt, (tt, (tt, (tt, (tt, (tt, (tt, (tt, tt)))))))))))))))))))))))),
-                    ),
-                  ),
-                ),
-              ),
-            ),
-          )) d58
+          d57 = Typed.s-seq 𝓤 H A W 𝓣 E G18 G19 b5 b34 Δ0 (Typed.ask s17) at55 (Relend.t-sl-aggregate 𝓤 H A W E (Referent.rtF (Referent.fInt Syntax.w8)) 𝓣 (Relend.asMut (Referent.rtF (Referent.fInt Syntax.w8))) G18 16 17 12 ty·2 ty·2 (λ x. x) (Scalar.oFld 4 (List._∷_ (Syntax.field 1) List.[]) (Syntax.tyInt Syntax.w64) 8 λ v. Shared.lenV (v .0)) (Reads.as-is
+              𝓤 H A (Relend.msptr (Referent.rtF (Referent.fInt Syntax.w8)) ty·2 12)) (Reads.room-gone 𝓤 H A (Syntax.tyStruct (List._∷_ 38 (List._∷_ 91 (List._∷_ 93 List.[]))) (Syntax.tcons ty·2 (Syntax.tcons (Syntax.tyInt Syntax.w64) Syntax.tnil))))
+              (Relend.reads-owed-len 𝓤 H A W (Referent.rtF (Referent.fInt Syntax.w8)) ty·6 3 12 (Row.lease (κs .1 .1 .1 .0) (qs .1 .1 .1 .0)) 8 Path'.refl, Path'.refl) Path'.refl Path'.refl λ b o k. tt) (Typed.g-pre 𝓤 H A W 𝓣 E G19 G20 b34 Δ0 (λ Ψ. Ψ) at55 (Lifetime.g-begin 𝓤 H A W E G19 13
+              (tt, (tt, ((tt, tt), ((tt, tt), ((tt, tt), (tt, (tt, (tt, (tt, (tt, (tt, (tt, (tt, (tt, (tt, (tt, (tt, (tt, (tt, (tt, (tt, (tt, (tt, (tt, (tt, (tt, (tt, (tt, (tt, (tt, tt))))))))))))))))))))))))))))))) (Typed.s-seq 𝓤 H A W 𝓣 E G20 G21 b6 b33 Δ0 (Typed.give s19) at54 (Relend.t-sl-relend 𝓤 H A W E (Referent.rtF (Referent.fInt Syntax.w16)) 𝓣 G20 5 18
+              4 13 ty·10 ty·3 (Row.lease (κs .1 .1 .1 .1 .0) (qs .1 .1 .1 .1 .0)) 0 (λ x. x) (Reads.as-is 𝓤 H A (Mut.mslice (Referent.rtF (Referent.fInt Syntax.w16)) ty·10 4)) (Reads.room-gone 𝓤 H A ty·3) Path'.refl tt Path'.refl Path'.refl Path'.refl λ b o. tt) d54))
 
           d60 : Typed.Typed 𝓤 H A 𝓣 E G15 b37 Δ0 at60
-          d60 = Typed.s-seq 𝓤 H A W 𝓣 E G15 G16 b3 b36 Δ0 (Typed.ask s14) at59 (Relend.t-sl-aggregate 𝓤 H A W E (Referent.rtF (Referent.fInt Syntax.w16)) 𝓣 (Relend.asMut (Referent.rtF (Referent.fInt Syntax.w16))) G15 14 15 11 ty·3 ty·3 (λ x. x) (Scalar.oFld 3 (List._∷_ (Syntax.field 1) List.[]) (Syntax.tyInt Syntax.w64) 8 λ v. Shared.lenV (v .0))
-              (Reads.as-is 𝓤 H A (Relend.msptr (Referent.rtF (Referent.fInt Syntax.w16)) ty·3 11)) (Reads.room-gone 𝓤 H A (Syntax.tyStruct (List._∷_ 38 (List._∷_ 91 (List._∷_ 93 List.[]))) (Syntax.tcons ty·3 (Syntax.tcons (Syntax.tyInt Syntax.w64) Syntax.tnil)))) (
-                Relend.reads-owed-len 𝓤 H A W (Referent.rtF (Referent.fInt Syntax.w16)) ty·9 2 11
-                    (Row.lease (κs .1 .1 .0) (qs .1 .1 .0)) 8 Path'.refl,
-                Path'.refl,
-              ) Path'.refl Path'.refl λ b o k. tt) d59
-
-          d61 : Typed.Typed 𝓤 H A 𝓣 E G14 b38 Δ0 at61
-          d61 = Typed.s-seq 𝓤 H A W 𝓣 E G14 G15 b2 b37 Δ0 (Typed.give s13) at60 (Relend.t-sl-relend 𝓤 H A W E (Referent.rtF (Referent.fInt Syntax.w16)) 𝓣 G14 3 14 2 11 ty·9 ty·3 (Row.lease (κs .1 .1 .0) (qs .1 .1 .0)) 0 (λ x. x) (Reads.as-is 𝓤 H A (Mut.mslice (Referent.rtF (Referent.fInt Syntax.w16)) ty·9 2)) (Reads.room-gone 𝓤 H A ty·3) Path'.refl tt
-              Path'.refl Path'.refl Path'.refl λ b o. tt) d60
-
-          d62 : Typed.Typed 𝓤 H A 𝓣 E G13 b38 Δ0 at62
-          d62 = Typed.g-pre 𝓤 H A W 𝓣 E G13 G14 b38 Δ0 (λ Ψ. Ψ) at61 (Lifetime.g-begin 𝓤 H A W E G13 11 (
-            tt,
-            (
-              tt,
-              (
-                (tt, tt),
-                (
-                  tt,
-                  (tt, (tt, (tt, (tt, (tt, (tt, (tt, (tt, (tt, (tt, (tt, (tt, (tt, (tt, (tt, (tt, (tt, (tt, (tt, (tt, (tt, (tt, (tt, (tt, (tt, (tt, tt)))))))))))))))))))))))))),
-                ),
-              ),
-            ),
-          )) d61
+          d60 = Typed.s-seq 𝓤 H A W 𝓣 E G15 G16 b3 b36 Δ0 (Typed.ask s14) at58 (Relend.t-sl-aggregate 𝓤 H A W E (Referent.rtF (Referent.fInt Syntax.w16)) 𝓣 (Relend.asMut (Referent.rtF (Referent.fInt Syntax.w16))) G15 14 15 11 ty·3 ty·3 (λ x. x) (Scalar.oFld 3 (List._∷_ (Syntax.field 1) List.[]) (Syntax.tyInt Syntax.w64) 8 λ v. Shared.lenV (v .0))
+              (Reads.as-is 𝓤 H A (Relend.msptr (Referent.rtF (Referent.fInt Syntax.w16)) ty·3 11)) (Reads.room-gone 𝓤 H A (Syntax.tyStruct (List._∷_ 38 (List._∷_ 91 (List._∷_ 93 List.[]))) (Syntax.tcons ty·3 (Syntax.tcons (Syntax.tyInt Syntax.w64) Syntax.tnil))))
+              (Relend.reads-owed-len 𝓤 H A W (Referent.rtF (Referent.fInt Syntax.w16)) ty·9 2 11 (Row.lease (κs .1 .1 .0) (qs .1 .1 .0)) 8 Path'.refl, Path'.refl) Path'.refl Path'.refl λ b o k. tt) (Typed.g-pre 𝓤 H A W 𝓣 E G16 G17 b36 Δ0 (λ Ψ. Ψ) at58 (Lifetime.g-begin 𝓤 H A W E G16 12
+              (tt, (tt, ((tt, tt), ((tt, tt), (tt, (tt, (tt, (tt, (tt, (tt, (tt, (tt, (tt, (tt, (tt, (tt, (tt, (tt, (tt, (tt, (tt, (tt, (tt, (tt, (tt, (tt, (tt, (tt, (tt, (tt, tt))))))))))))))))))))))))))))))) (Typed.s-seq 𝓤 H A W 𝓣 E G17 G18 b4 b35 Δ0 (Typed.give s16) at57 (Relend.t-sl-relend 𝓤 H A W E (Referent.rtF (Referent.fInt Syntax.w8)) 𝓣 G17 4 16 3 12
+              ty·6 ty·2 (Row.lease (κs .1 .1 .1 .0) (qs .1 .1 .1 .0)) 0 (λ x. x) (Reads.as-is 𝓤 H A (Mut.mslice (Referent.rtF (Referent.fInt Syntax.w8)) ty·6 3)) (Reads.room-gone 𝓤 H A ty·2) Path'.refl tt Path'.refl Path'.refl Path'.refl λ b o. tt) d57))
 
           d63 : Typed.Typed 𝓤 H A 𝓣 E G12 b39 Δ0 at63
-          d63 = Typed.s-seq 𝓤 H A W 𝓣 E G12 G13 b1 b38 Δ0 (Typed.ask s11) at62 (Relend.t-sl-aggregate 𝓤 H A W E (Referent.rtF (Referent.fInt Syntax.w16)) 𝓣 (Relend.asMut (Referent.rtF (Referent.fInt Syntax.w16))) G12 12 13 10 ty·3 ty·3 (λ x. x) (Scalar.oFld 2 (List._∷_ (Syntax.field 1) List.[]) (Syntax.tyInt Syntax.w64) 8 λ v. Shared.lenV (v .0))
-              (Reads.as-is 𝓤 H A (Relend.msptr (Referent.rtF (Referent.fInt Syntax.w16)) ty·3 10)) (Reads.room-gone 𝓤 H A (Syntax.tyStruct (List._∷_ 38 (List._∷_ 91 (List._∷_ 93 List.[]))) (Syntax.tcons ty·3 (Syntax.tcons (Syntax.tyInt Syntax.w64) Syntax.tnil)))) (
-                Relend.reads-owed-len 𝓤 H A W (Referent.rtF (Referent.fInt Syntax.w16)) ty·8 1 10
-                    (Row.lease (κs .1 .0) (qs .1 .0)) 8 Path'.refl,
-                Path'.refl,
-              ) Path'.refl Path'.refl λ b o k. tt) d62
+          d63 = Typed.s-seq 𝓤 H A W 𝓣 E G12 G13 b1 b38 Δ0 (Typed.ask s11) at61 (Relend.t-sl-aggregate 𝓤 H A W E (Referent.rtF (Referent.fInt Syntax.w16)) 𝓣 (Relend.asMut (Referent.rtF (Referent.fInt Syntax.w16))) G12 12 13 10 ty·3 ty·3 (λ x. x) (Scalar.oFld 2 (List._∷_ (Syntax.field 1) List.[]) (Syntax.tyInt Syntax.w64) 8 λ v. Shared.lenV (v .0))
+              (Reads.as-is 𝓤 H A (Relend.msptr (Referent.rtF (Referent.fInt Syntax.w16)) ty·3 10)) (Reads.room-gone 𝓤 H A (Syntax.tyStruct (List._∷_ 38 (List._∷_ 91 (List._∷_ 93 List.[]))) (Syntax.tcons ty·3 (Syntax.tcons (Syntax.tyInt Syntax.w64) Syntax.tnil))))
+              (Relend.reads-owed-len 𝓤 H A W (Referent.rtF (Referent.fInt Syntax.w16)) ty·8 1 10 (Row.lease (κs .1 .0) (qs .1 .0)) 8 Path'.refl, Path'.refl) Path'.refl Path'.refl λ b o k. tt) (Typed.g-pre 𝓤 H A W 𝓣 E G13 G14 b38 Δ0 (λ Ψ. Ψ) at61 (Lifetime.g-begin 𝓤 H A W E G13 11
+              (tt, (tt, ((tt, tt), (tt, (tt, (tt, (tt, (tt, (tt, (tt, (tt, (tt, (tt, (tt, (tt, (tt, (tt, (tt, (tt, (tt, (tt, (tt, (tt, (tt, (tt, (tt, (tt, (tt, (tt, (tt, tt))))))))))))))))))))))))))))))) (Typed.s-seq 𝓤 H A W 𝓣 E G14 G15 b2 b37 Δ0 (Typed.give s13) at60 (Relend.t-sl-relend 𝓤 H A W E (Referent.rtF (Referent.fInt Syntax.w16)) 𝓣 G14 3 14 2 11 ty·9
+              ty·3 (Row.lease (κs .1 .1 .0) (qs .1 .1 .0)) 0 (λ x. x) (Reads.as-is 𝓤 H A (Mut.mslice (Referent.rtF (Referent.fInt Syntax.w16)) ty·9 2)) (Reads.room-gone 𝓤 H A ty·3) Path'.refl tt Path'.refl Path'.refl Path'.refl λ b o. tt) d60))
 
-          d64 : Typed.Typed 𝓤 H A 𝓣 E G11 b40 Δ0 at64
-          d64 = Typed.s-seq 𝓤 H A W 𝓣 E G11 G12 b0 b39 Δ0 (Typed.give s10) at63 (Relend.t-sl-relend 𝓤 H A W E (Referent.rtF (Referent.fInt Syntax.w16)) 𝓣 G11 2 12 1 10 ty·8 ty·3 (Row.lease (κs .1 .0) (qs .1 .0)) 0 (λ x. x) (Reads.as-is 𝓤 H A (Mut.mslice (Referent.rtF (Referent.fInt Syntax.w16)) ty·8 1)) (Reads.room-gone 𝓤 H A ty·3) Path'.refl tt Path'.refl
-              Path'.refl Path'.refl λ b o. tt) d63
+          d66 : Typed.Typed 𝓤 H A 𝓣 E G0 b40 Δ0 at66
+          d66 = Typed.g-pre 𝓤 H A W 𝓣 E G0 G0 b40 Δ0 (Typed.give s8) at64 (Know.g-sl-known 𝓤 H A W (Referent.fInt Syntax.w8) E G0 9 8 ty·7 (Row.lease (κs .1 .1 .1 .1 .1 .1 .1 .1 .0) (qs .1 .1 .1 .1 .1 .1 .1 .1 .0)) 0 (λ x. x) record { fits = Dec'.lit< tt } (Reads.as-is 𝓤 H A (Mut.mslice (Referent.rtF (Referent.fInt Syntax.w8)) ty·7 8)) Path'.refl tt)
+              (Typed.g-pre 𝓤 H A W 𝓣 E G0 G11 b40 Δ0 (λ Ψ. Ψ) at64 (Lifetime.g-begin 𝓤 H A W E G0 10 (tt, (tt, (tt, (tt, (tt, (tt, (tt, (tt, (tt, (tt, (tt, (tt, (tt, (tt, (tt, (tt, (tt, (tt, (tt, (tt, (tt, (tt, (tt, (tt, (tt, (tt, (tt, (tt, (tt, (tt, tt))))))))))))))))))))))))))))))) (Typed.s-seq 𝓤 H A W 𝓣 E G11 G12 b0 b39 Δ0 (Typed.give s10) at63
+              (Relend.t-sl-relend 𝓤 H A W E (Referent.rtF (Referent.fInt Syntax.w16)) 𝓣 G11 2 12 1 10 ty·8 ty·3 (Row.lease (κs .1 .0) (qs .1 .0)) 0 (λ x. x) (Reads.as-is 𝓤 H A (Mut.mslice (Referent.rtF (Referent.fInt Syntax.w16)) ty·8 1)) (Reads.room-gone 𝓤 H A ty·3) Path'.refl tt Path'.refl Path'.refl Path'.refl λ b o. tt) d63))
 
-          d65 : Typed.Typed 𝓤 H A 𝓣 E G10 b40 Δ0 at65
-          d65 = Typed.g-pre 𝓤 H A W 𝓣 E G10 G11 b40 Δ0 (λ Ψ. Ψ) at64 (Lifetime.g-begin 𝓤 H A W E G10 10 (
-            tt,
-            (
-              tt,
-              (tt, (tt, (tt, (tt, (tt, (tt, (tt, (tt, (tt, (tt, (tt, (tt, (tt, (tt, (tt, (tt, (tt, (tt, (tt, (tt, (tt, (tt, (tt, (tt, (tt, (tt, (tt, (tt, tt)))))))))))))))))))))))))))),
-            ),
-          )) d64
+          d69 : Typed.Typed 𝓤 H A 𝓣 E G0 b40 Δ0 at69
+          d69 = Typed.g-pre 𝓤 H A W 𝓣 E G0 G0 b40 Δ0 (Typed.give s5) at68 (Know.g-sl-known 𝓤 H A W (Referent.fInt Syntax.w16) E G0 6 5 ty·11 (Row.lease (κs .1 .1 .1 .1 .1 .0) (qs .1 .1 .1 .1 .1 .0)) 0 (λ x. x) record { fits = Dec'.lit< tt } (Reads.as-is 𝓤 H A (Mut.mslice (Referent.rtF (Referent.fInt Syntax.w16)) ty·11 5)) Path'.refl tt) (Typed.g-pre 𝓤 H A W
+              𝓣 E G0 G0 b40 Δ0 (Typed.give s6) at67 (Know.g-sl-known 𝓤 H A W (Referent.fInt Syntax.w32) E G0 7 6 ty·12 (Row.lease (κs .1 .1 .1 .1 .1 .1 .0) (qs .1 .1 .1 .1 .1 .1 .0)) 0 (λ x. x) record { fits = Dec'.lit< tt } (Reads.as-is 𝓤 H A (Mut.mslice (Referent.rtF (Referent.fInt Syntax.w32)) ty·12 6)) Path'.refl tt) (Typed.g-pre 𝓤 H A W 𝓣 E G0 G0 b40 Δ0
+              (Typed.give s7) at66 (Know.g-sl-known 𝓤 H A W (Referent.fInt Syntax.w16) E G0 8 7 ty·13 (Row.lease (κs .1 .1 .1 .1 .1 .1 .1 .0) (qs .1 .1 .1 .1 .1 .1 .1 .0)) 0 (λ x. x) record { fits = Dec'.lit< tt } (Reads.as-is 𝓤 H A (Mut.mslice (Referent.rtF (Referent.fInt Syntax.w16)) ty·13 7)) Path'.refl tt) d66))
 
-          d66 : Typed.Typed 𝓤 H A 𝓣 E G9 b40 Δ0 at66
-          d66 = Typed.g-pre 𝓤 H A W 𝓣 E G9 G10 b40 Δ0 (Typed.give s8) at65 (Know.g-sl-known 𝓤 H A W (Referent.fInt Syntax.w8) E G9 9 8 ty·7 (Row.lease (κs .1 .1 .1 .1 .1 .1 .1 .1 .0) (qs .1 .1 .1 .1 .1 .1 .1 .1 .0)) 0 (λ x. x) record { fits = Dec'.lit< tt } (Reads.as-is 𝓤 H A (Mut.mslice (Referent.rtF (Referent.fInt Syntax.w8)) ty·7 8)) Path'.refl tt) d65
-
-          d67 : Typed.Typed 𝓤 H A 𝓣 E G8 b40 Δ0 at67
-          d67 = Typed.g-pre 𝓤 H A W 𝓣 E G8 G9 b40 Δ0 (Typed.give s7) at66 (Know.g-sl-known 𝓤 H A W (Referent.fInt Syntax.w16) E G8 8 7 ty·13 (Row.lease (κs .1 .1 .1 .1 .1 .1 .1 .0) (qs .1 .1 .1 .1 .1 .1 .1 .0)) 0 (λ x. x) record { fits = Dec'.lit< tt } (Reads.as-is 𝓤 H A (Mut.mslice (Referent.rtF (Referent.fInt Syntax.w16)) ty·13 7)) Path'.refl tt) d66
-
-          d68 : Typed.Typed 𝓤 H A 𝓣 E G7 b40 Δ0 at68
-          d68 = Typed.g-pre 𝓤 H A W 𝓣 E G7 G8 b40 Δ0 (Typed.give s6) at67 (Know.g-sl-known 𝓤 H A W (Referent.fInt Syntax.w32) E G7 7 6 ty·12 (Row.lease (κs .1 .1 .1 .1 .1 .1 .0) (qs .1 .1 .1 .1 .1 .1 .0)) 0 (λ x. x) record { fits = Dec'.lit< tt } (Reads.as-is 𝓤 H A (Mut.mslice (Referent.rtF (Referent.fInt Syntax.w32)) ty·12 6)) Path'.refl tt) d67
-
-          d69 : Typed.Typed 𝓤 H A 𝓣 E G6 b40 Δ0 at69
-          d69 = Typed.g-pre 𝓤 H A W 𝓣 E G6 G7 b40 Δ0 (Typed.give s5) at68 (Know.g-sl-known 𝓤 H A W (Referent.fInt Syntax.w16) E G6 6 5 ty·11 (Row.lease (κs .1 .1 .1 .1 .1 .0) (qs .1 .1 .1 .1 .1 .0)) 0 (λ x. x) record { fits = Dec'.lit< tt } (Reads.as-is 𝓤 H A (Mut.mslice (Referent.rtF (Referent.fInt Syntax.w16)) ty·11 5)) Path'.refl tt) d68
-
-          d70 : Typed.Typed 𝓤 H A 𝓣 E G5 b40 Δ0 at70
-          d70 = Typed.g-pre 𝓤 H A W 𝓣 E G5 G6 b40 Δ0 (Typed.give s4) at69 (Know.g-sl-known 𝓤 H A W (Referent.fInt Syntax.w16) E G5 5 4 ty·10 (Row.lease (κs .1 .1 .1 .1 .0) (qs .1 .1 .1 .1 .0)) 0 (λ x. x) record { fits = Dec'.lit< tt } (Reads.as-is 𝓤 H A (Mut.mslice (Referent.rtF (Referent.fInt Syntax.w16)) ty·10 4)) Path'.refl tt) d69
-
-          d71 : Typed.Typed 𝓤 H A 𝓣 E G4 b40 Δ0 at71
-          d71 = Typed.g-pre 𝓤 H A W 𝓣 E G4 G5 b40 Δ0 (Typed.give s3) at70 (Know.g-sl-known 𝓤 H A W (Referent.fInt Syntax.w8) E G4 4 3 ty·6 (Row.lease (κs .1 .1 .1 .0) (qs .1 .1 .1 .0)) 0 (λ x. x) record { fits = Dec'.lit< tt } (Reads.as-is 𝓤 H A (Mut.mslice (Referent.rtF (Referent.fInt Syntax.w8)) ty·6 3)) Path'.refl tt) d70
-
-          d72 : Typed.Typed 𝓤 H A 𝓣 E G3 b40 Δ0 at72
-          d72 = Typed.g-pre 𝓤 H A W 𝓣 E G3 G4 b40 Δ0 (Typed.give s2) at71 (Know.g-sl-known 𝓤 H A W (Referent.fInt Syntax.w16) E G3 3 2 ty·9 (Row.lease (κs .1 .1 .0) (qs .1 .1 .0)) 0 (λ x. x) record { fits = Dec'.lit< tt } (Reads.as-is 𝓤 H A (Mut.mslice (Referent.rtF (Referent.fInt Syntax.w16)) ty·9 2)) Path'.refl tt) d71
-
-          d73 : Typed.Typed 𝓤 H A 𝓣 E G2 b40 Δ0 at73
-          d73 = Typed.g-pre 𝓤 H A W 𝓣 E G2 G3 b40 Δ0 (Typed.give s1) at72 (Know.g-sl-known 𝓤 H A W (Referent.fInt Syntax.w16) E G2 2 1 ty·8 (Row.lease (κs .1 .0) (qs .1 .0)) 0 (λ x. x) record { fits = Dec'.lit< tt } (Reads.as-is 𝓤 H A (Mut.mslice (Referent.rtF (Referent.fInt Syntax.w16)) ty·8 1)) Path'.refl tt) d72
-
-          d74 : Typed.Typed 𝓤 H A 𝓣 E G0 b40 Δ0 at74
-          d74 = Typed.g-pre 𝓤 H A W 𝓣 E G0 G2 b40 Δ0 (Typed.give s0) at73 (Know.g-shs-known 𝓤 H A W (Referent.fInt Syntax.w8) E G0 1 0 ty·5 (Row.lease (κs .0) (qs .0)) 0 (λ x. x) record { fits = Dec'.lit< tt } (Reads.as-is 𝓤 H A (Rows.sslice (Referent.rtF (Referent.fInt Syntax.w8)) ty·5 0)) Path'.refl tt) d73
+          d72 : Typed.Typed 𝓤 H A 𝓣 E G0 b40 Δ0 at72
+          d72 = Typed.g-pre 𝓤 H A W 𝓣 E G0 G0 b40 Δ0 (Typed.give s2) at71 (Know.g-sl-known 𝓤 H A W (Referent.fInt Syntax.w16) E G0 3 2 ty·9 (Row.lease (κs .1 .1 .0) (qs .1 .1 .0)) 0 (λ x. x) record { fits = Dec'.lit< tt } (Reads.as-is 𝓤 H A (Mut.mslice (Referent.rtF (Referent.fInt Syntax.w16)) ty·9 2)) Path'.refl tt) (Typed.g-pre 𝓤 H A W 𝓣 E G0 G0 b40 Δ0
+              (Typed.give s3) at70 (Know.g-sl-known 𝓤 H A W (Referent.fInt Syntax.w8) E G0 4 3 ty·6 (Row.lease (κs .1 .1 .1 .0) (qs .1 .1 .1 .0)) 0 (λ x. x) record { fits = Dec'.lit< tt } (Reads.as-is 𝓤 H A (Mut.mslice (Referent.rtF (Referent.fInt Syntax.w8)) ty·6 3)) Path'.refl tt) (Typed.g-pre 𝓤 H A W 𝓣 E G0 G0 b40 Δ0 (Typed.give s4) at69 (Know.g-sl-known 𝓤 H
+              A W (Referent.fInt Syntax.w16) E G0 5 4 ty·10 (Row.lease (κs .1 .1 .1 .1 .0) (qs .1 .1 .1 .1 .0)) 0 (λ x. x) record { fits = Dec'.lit< tt } (Reads.as-is 𝓤 H A (Mut.mslice (Referent.rtF (Referent.fInt Syntax.w16)) ty·10 4)) Path'.refl tt) d69))
 
           pub typed : Typed.Typed 𝓤 H A 𝓣 E (Function.Γin 10 ps r xs m κs qs) b40 (Function.Δret 10 ps r xs m κs qs) Φ
-          typed = d74
+          typed = (Typed.g-pre 𝓤 H A W 𝓣 E G0 G0 b40 Δ0 (Typed.give s1) at72 (Know.g-sl-known 𝓤 H A W (Referent.fInt Syntax.w16) E G0 2 1 ty·8 (Row.lease (κs .1 .0) (qs .1 .0)) 0 (λ x. x) record { fits = Dec'.lit< tt } (Reads.as-is 𝓤 H A (Mut.mslice (Referent.rtF (Referent.fInt Syntax.w16)) ty·8 1)) Path'.refl tt) d72)
 
       module _ (κs : Lifetimes.Lfts 10) where
         pub record Args : Type 0 where
@@ -3545,20 +1568,13 @@ module _ (claims· : Claims) where
           pub dependencies : Kinds.Den {n = 10} κs (MutSlice.pMutS Rec.rt 9 tt)
 
         abbrev pub dens : (a : Args) → Kinds.Dens κs ps
-        dens = λ a. (
-          a .text,
-          (a .drone-count, (a .dependency-count, (a .names, (a .stop-counts, (a .locations, (a .times, (a .visited, (a .drone-flags, (a .dependencies, tt))))))))),
-        )
+        dens = λ a. (a .text, (a .drone-count, (a .dependency-count, (a .names, (a .stop-counts, (a .locations, (a .times, (a .visited, (a .drone-flags, (a .dependencies, tt))))))))))
 
       abbrev pub m0 : (κs : Lifetimes.Lfts 10) → (args : Args κs) → Typed.Mo T0
       m0 = λ κs args. (tt, Enter.partsP κs 1 ps xs (dens κs args))
 
       abbrev W0 : (κs : Lifetimes.Lfts 10) → (args : Args κs) → Typed.Want O0
-      W0 = λ κs args. (
-        λ u. ⊥,
-        tt,
-        λ u. Enter.Fixs κs 1 ps xs (dens κs args) (u .1) × Post· κs (dens κs args) (Function.resV r κs (u .0)) (Clauses.atExit (Kinds.endedOf 10 ps r) κs (dens κs args) (Enter.lastsP κs 1 ps xs (dens κs args) (u .1))),
-      )
+      W0 = λ κs args. (λ u. ⊥, tt, λ u. Enter.Fixs κs 1 ps xs (dens κs args) (u .1) × Post· κs (dens κs args) (Function.resV r κs (u .0)) (Clauses.atExit (Kinds.endedOf 10 ps r) κs (dens κs args) (Enter.lastsP κs 1 ps xs (dens κs args) (u .1))))
 
       pub record Start : Type 0 where
         pub κs : Lifetimes.Lfts 10
@@ -3566,29 +1582,18 @@ module _ (claims· : Claims) where
         pub good : Kinds.GoodsP κs ps (dens κs args)
         pub pre : Pre· κs (dens κs args)
 
-      abbrev pub m1 : (before : Start) → (given : s0 .gives (m0 (before .κs) (before .args))) → Typed.Mo T2
-      m1 = λ before given. s0 .next (m0 (before .κs) (before .args)) given
+      abbrev pub m2 : (before : Start) → (given : s1 .gives (m0 (before .κs) (before .args))) → Typed.Mo T0
+      m2 = λ before given. s1 .next (m0 (before .κs) (before .args)) given
 
       module _ (before· : Start) where
-        pub record After-shared-slice-known·own : Type 0 where
-          pub given : s0 .gives (m0 (before· .κs) (before· .args))
-
-      pub record After-shared-slice-known : Type 0 where
-        pub before : Start
-        pub shared-slice-known : After-shared-slice-known·own before
-
-      abbrev pub m2 : (before : After-shared-slice-known) → (given : s1 .gives (m1 (before .before) (before .shared-slice-known .given))) → Typed.Mo T3
-      m2 = λ before given. s1 .next (m1 (before .before) (before .shared-slice-known .given)) given
-
-      module _ (before· : After-shared-slice-known) where
         pub record After-slice-known·own : Type 0 where
-          pub given : s1 .gives (m1 (before· .before) (before· .shared-slice-known .given))
+          pub given : s1 .gives (m0 (before· .κs) (before· .args))
 
       pub record After-slice-known : Type 0 where
-        pub before : After-shared-slice-known
+        pub before : Start
         pub slice-known : After-slice-known·own before
 
-      abbrev pub m3 : (before : After-slice-known) → (given : s2 .gives (m2 (before .before) (before .slice-known .given))) → Typed.Mo T4
+      abbrev pub m3 : (before : After-slice-known) → (given : s2 .gives (m2 (before .before) (before .slice-known .given))) → Typed.Mo T0
       m3 = λ before given. s2 .next (m2 (before .before) (before .slice-known .given)) given
 
       module _ (before· : After-slice-known) where
@@ -3599,7 +1604,7 @@ module _ (claims· : Claims) where
         pub before : After-slice-known
         pub slice-known2 : After-slice-known2·own before
 
-      abbrev pub m4 : (before : After-slice-known2) → (given : s3 .gives (m3 (before .before) (before .slice-known2 .given))) → Typed.Mo T5
+      abbrev pub m4 : (before : After-slice-known2) → (given : s3 .gives (m3 (before .before) (before .slice-known2 .given))) → Typed.Mo T0
       m4 = λ before given. s3 .next (m3 (before .before) (before .slice-known2 .given)) given
 
       module _ (before· : After-slice-known2) where
@@ -3610,7 +1615,7 @@ module _ (claims· : Claims) where
         pub before : After-slice-known2
         pub slice-known3 : After-slice-known3·own before
 
-      abbrev pub m5 : (before : After-slice-known3) → (given : s4 .gives (m4 (before .before) (before .slice-known3 .given))) → Typed.Mo T6
+      abbrev pub m5 : (before : After-slice-known3) → (given : s4 .gives (m4 (before .before) (before .slice-known3 .given))) → Typed.Mo T0
       m5 = λ before given. s4 .next (m4 (before .before) (before .slice-known3 .given)) given
 
       module _ (before· : After-slice-known3) where
@@ -3621,7 +1626,7 @@ module _ (claims· : Claims) where
         pub before : After-slice-known3
         pub slice-known4 : After-slice-known4·own before
 
-      abbrev pub m6 : (before : After-slice-known4) → (given : s5 .gives (m5 (before .before) (before .slice-known4 .given))) → Typed.Mo T7
+      abbrev pub m6 : (before : After-slice-known4) → (given : s5 .gives (m5 (before .before) (before .slice-known4 .given))) → Typed.Mo T0
       m6 = λ before given. s5 .next (m5 (before .before) (before .slice-known4 .given)) given
 
       module _ (before· : After-slice-known4) where
@@ -3632,7 +1637,7 @@ module _ (claims· : Claims) where
         pub before : After-slice-known4
         pub slice-known5 : After-slice-known5·own before
 
-      abbrev pub m7 : (before : After-slice-known5) → (given : s6 .gives (m6 (before .before) (before .slice-known5 .given))) → Typed.Mo T8
+      abbrev pub m7 : (before : After-slice-known5) → (given : s6 .gives (m6 (before .before) (before .slice-known5 .given))) → Typed.Mo T0
       m7 = λ before given. s6 .next (m6 (before .before) (before .slice-known5 .given)) given
 
       module _ (before· : After-slice-known5) where
@@ -3643,7 +1648,7 @@ module _ (claims· : Claims) where
         pub before : After-slice-known5
         pub slice-known6 : After-slice-known6·own before
 
-      abbrev pub m8 : (before : After-slice-known6) → (given : s7 .gives (m7 (before .before) (before .slice-known6 .given))) → Typed.Mo T9
+      abbrev pub m8 : (before : After-slice-known6) → (given : s7 .gives (m7 (before .before) (before .slice-known6 .given))) → Typed.Mo T0
       m8 = λ before given. s7 .next (m7 (before .before) (before .slice-known6 .given)) given
 
       module _ (before· : After-slice-known6) where
@@ -3654,7 +1659,7 @@ module _ (claims· : Claims) where
         pub before : After-slice-known6
         pub slice-known7 : After-slice-known7·own before
 
-      abbrev pub m9 : (before : After-slice-known7) → (given : s8 .gives (m8 (before .before) (before .slice-known7 .given))) → Typed.Mo T10
+      abbrev pub m9 : (before : After-slice-known7) → (given : s8 .gives (m8 (before .before) (before .slice-known7 .given))) → Typed.Mo T0
       m9 = λ before given. s8 .next (m8 (before .before) (before .slice-known7 .given)) given
 
       module _ (before· : After-slice-known7) where
@@ -3665,11 +1670,8 @@ module _ (claims· : Claims) where
         pub before : After-slice-known7
         pub slice-known8 : After-slice-known8·own before
 
-      abbrev pub m10 : (before : After-slice-known8) → (given : s10 .gives (m9 (before .before) (before .slice-known8 .given))) → Typed.Mo T12
-      m10 = λ before given. s10 .next (m9 (before .before) (before .slice-known8 .given)) given
-
       abbrev pub m11 : (before : After-slice-known8) → (given : s10 .gives (m9 (before .before) (before .slice-known8 .given))) → Typed.Mo T13
-      m11 = λ before given. s11 .next (m10 before given)
+      m11 = λ before given. s11 .next (s10 .next (m9 (before .before) (before .slice-known8 .given)) given)
 
       module _ (before· : After-slice-known8) where
         pub record After-read-plan-arg·own : Type 0 where
@@ -3679,11 +1681,8 @@ module _ (claims· : Claims) where
         pub before : After-slice-known8
         pub read-plan-arg : After-read-plan-arg·own before
 
-      abbrev pub m12 : (before : After-read-plan-arg) → (given : s13 .gives (m11 (before .before) (before .read-plan-arg .given))) → Typed.Mo T15
-      m12 = λ before given. s13 .next (m11 (before .before) (before .read-plan-arg .given)) given
-
       abbrev pub m13 : (before : After-read-plan-arg) → (given : s13 .gives (m11 (before .before) (before .read-plan-arg .given))) → Typed.Mo T16
-      m13 = λ before given. s14 .next (m12 before given)
+      m13 = λ before given. s14 .next (s13 .next (m11 (before .before) (before .read-plan-arg .given)) given)
 
       module _ (before· : After-read-plan-arg) where
         pub record After-read-plan-arg2·own : Type 0 where
@@ -3693,11 +1692,8 @@ module _ (claims· : Claims) where
         pub before : After-read-plan-arg
         pub read-plan-arg2 : After-read-plan-arg2·own before
 
-      abbrev pub m14 : (before : After-read-plan-arg2) → (given : s16 .gives (m13 (before .before) (before .read-plan-arg2 .given))) → Typed.Mo T18
-      m14 = λ before given. s16 .next (m13 (before .before) (before .read-plan-arg2 .given)) given
-
       abbrev pub m15 : (before : After-read-plan-arg2) → (given : s16 .gives (m13 (before .before) (before .read-plan-arg2 .given))) → Typed.Mo T19
-      m15 = λ before given. s17 .next (m14 before given)
+      m15 = λ before given. s17 .next (s16 .next (m13 (before .before) (before .read-plan-arg2 .given)) given)
 
       module _ (before· : After-read-plan-arg2) where
         pub record After-read-plan-arg3·own : Type 0 where
@@ -3707,11 +1703,8 @@ module _ (claims· : Claims) where
         pub before : After-read-plan-arg2
         pub read-plan-arg3 : After-read-plan-arg3·own before
 
-      abbrev pub m16 : (before : After-read-plan-arg3) → (given : s19 .gives (m15 (before .before) (before .read-plan-arg3 .given))) → Typed.Mo T21
-      m16 = λ before given. s19 .next (m15 (before .before) (before .read-plan-arg3 .given)) given
-
       abbrev pub m17 : (before : After-read-plan-arg3) → (given : s19 .gives (m15 (before .before) (before .read-plan-arg3 .given))) → Typed.Mo T22
-      m17 = λ before given. s20 .next (m16 before given)
+      m17 = λ before given. s20 .next (s19 .next (m15 (before .before) (before .read-plan-arg3 .given)) given)
 
       module _ (before· : After-read-plan-arg3) where
         pub record After-read-plan-arg4·own : Type 0 where
@@ -3721,11 +1714,8 @@ module _ (claims· : Claims) where
         pub before : After-read-plan-arg3
         pub read-plan-arg4 : After-read-plan-arg4·own before
 
-      abbrev pub m18 : (before : After-read-plan-arg4) → (given : s22 .gives (m17 (before .before) (before .read-plan-arg4 .given))) → Typed.Mo T24
-      m18 = λ before given. s22 .next (m17 (before .before) (before .read-plan-arg4 .given)) given
-
       abbrev pub m19 : (before : After-read-plan-arg4) → (given : s22 .gives (m17 (before .before) (before .read-plan-arg4 .given))) → Typed.Mo T25
-      m19 = λ before given. s23 .next (m18 before given)
+      m19 = λ before given. s23 .next (s22 .next (m17 (before .before) (before .read-plan-arg4 .given)) given)
 
       module _ (before· : After-read-plan-arg4) where
         pub record After-read-plan-arg5·own : Type 0 where
@@ -3735,11 +1725,8 @@ module _ (claims· : Claims) where
         pub before : After-read-plan-arg4
         pub read-plan-arg5 : After-read-plan-arg5·own before
 
-      abbrev pub m20 : (before : After-read-plan-arg5) → (given : s25 .gives (m19 (before .before) (before .read-plan-arg5 .given))) → Typed.Mo T27
-      m20 = λ before given. s25 .next (m19 (before .before) (before .read-plan-arg5 .given)) given
-
       abbrev pub m21 : (before : After-read-plan-arg5) → (given : s25 .gives (m19 (before .before) (before .read-plan-arg5 .given))) → Typed.Mo T28
-      m21 = λ before given. s26 .next (m20 before given)
+      m21 = λ before given. s26 .next (s25 .next (m19 (before .before) (before .read-plan-arg5 .given)) given)
 
       module _ (before· : After-read-plan-arg5) where
         pub record After-read-plan-arg6·own : Type 0 where
@@ -3749,11 +1736,8 @@ module _ (claims· : Claims) where
         pub before : After-read-plan-arg5
         pub read-plan-arg6 : After-read-plan-arg6·own before
 
-      abbrev pub m22 : (before : After-read-plan-arg6) → (given : s28 .gives (m21 (before .before) (before .read-plan-arg6 .given))) → Typed.Mo T30
-      m22 = λ before given. s28 .next (m21 (before .before) (before .read-plan-arg6 .given)) given
-
       abbrev pub m23 : (before : After-read-plan-arg6) → (given : s28 .gives (m21 (before .before) (before .read-plan-arg6 .given))) → Typed.Mo T31
-      m23 = λ before given. s29 .next (m22 before given)
+      m23 = λ before given. s29 .next (s28 .next (m21 (before .before) (before .read-plan-arg6 .given)) given)
 
       module _ (before· : After-read-plan-arg6) where
         pub record After-read-plan-arg7·own : Type 0 where
@@ -3777,11 +1761,8 @@ module _ (claims· : Claims) where
       abbrev pub m25 : (before : After-read-plan-arg7) → (given : s31 .gives (m23 (before .before) (before .read-plan-arg7 .given))) → Typed.Mo T34
       m25 = λ before given. s32 .next (m24 before given)
 
-      abbrev pub m26 : (before : After-read-plan-arg8) → (given : s34 .gives (m25 (before .before) (before .read-plan-arg8 .given))) → Typed.Mo T36
-      m26 = λ before given. s34 .next (m25 (before .before) (before .read-plan-arg8 .given)) given
-
       abbrev pub m27 : (before : After-read-plan-arg8) → (given : s34 .gives (m25 (before .before) (before .read-plan-arg8 .given))) → Typed.Mo T37
-      m27 = λ before given. s35 .next (m26 before given)
+      m27 = λ before given. s35 .next (s34 .next (m25 (before .before) (before .read-plan-arg8 .given)) given)
 
       module _ (before· : After-read-plan-arg8) where
         pub record After-read-plan-arg9·own : Type 0 where
@@ -3799,92 +1780,14 @@ module _ (claims· : Claims) where
 
       module _ (before· : After-read-plan-arg9) where
         abbrev pub After-read-plan·own : Type 0
-        After-read-plan·own = Called.Called ps·0 r·0 (claims· .1) T37 (
-          record { pos = 1; ty = Syntax.tyRef (Syntax.named 0) Syntax.imm (Syntax.tyInt Syntax.w8); ref = λ x. x },
-          (
-            record { pos = 13; ty = Syntax.tyRef Syntax.erased Syntax.mut (Syntax.tyInt Syntax.w16); ref = λ x. x },
-            (
-              record {
-                pos = 15;
-                ty = Syntax.tyRef Syntax.erased Syntax.mut (Syntax.tyInt Syntax.w16);
-                ref = λ x. x;
-              },
-              (
-                record { pos = 17; ty = Syntax.tyRef Syntax.erased Syntax.mut (Syntax.tyInt Syntax.w8); ref = λ x. x },
-                (
-                  record { pos = 19; ty = Syntax.tyRef Syntax.erased Syntax.mut (Syntax.tyInt Syntax.w16); ref = λ x. x },
-                  (
-                    record {
-                      pos = 21;
-                      ty = Syntax.tyRef Syntax.erased Syntax.mut (Syntax.tyInt Syntax.w16);
-                      ref = λ x. x;
-                    },
-                    (
-                      record { pos = 23; ty = Syntax.tyRef Syntax.erased Syntax.mut (Syntax.tyInt Syntax.w32); ref = λ x. x },
-                      (
-                        record { pos = 25; ty = Syntax.tyRef Syntax.erased Syntax.mut (Syntax.tyInt Syntax.w16); ref = λ x. x },
-                        (
-                          record {
-                            pos = 27;
-                            ty = Syntax.tyRef Syntax.erased Syntax.mut (Syntax.tyInt Syntax.w8);
-                            ref = λ x. x;
-                          },
-                          (record { pos = 29; ty = Syntax.tyRef Syntax.erased Syntax.mut Rec.behind; ref = λ x. x }, tt),
-                        ),
-                      ),
-                    ),
-                  ),
-                ),
-              ),
-            ),
-          ),
-        ) (m27 (before· .before) (before· .read-plan-arg9 .given))
+        After-read-plan·own = Called.Called ps·0 r·0 (claims· .1) T37 args·0 (m27 (before· .before) (before· .read-plan-arg9 .given))
 
       pub record After-read-plan : Type 0 where
         pub before : After-read-plan-arg9
         pub read-plan : After-read-plan·own before
 
       abbrev pub After-read-plan·gave : (c : After-read-plan) → s36 .gives (m27 (c .before .before) (c .before .read-plan-arg9 .given))
-      After-read-plan·gave = λ c. Called.given ps·0 r·0 (claims· .1) T37 (
-        record { pos = 1; ty = Syntax.tyRef (Syntax.named 0) Syntax.imm (Syntax.tyInt Syntax.w8); ref = λ x. x },
-        (
-          record { pos = 13; ty = Syntax.tyRef Syntax.erased Syntax.mut (Syntax.tyInt Syntax.w16); ref = λ x. x },
-          (
-            record {
-              pos = 15;
-              ty = Syntax.tyRef Syntax.erased Syntax.mut (Syntax.tyInt Syntax.w16);
-              ref = λ x. x;
-            },
-            (
-              record { pos = 17; ty = Syntax.tyRef Syntax.erased Syntax.mut (Syntax.tyInt Syntax.w8); ref = λ x. x },
-              (
-                record { pos = 19; ty = Syntax.tyRef Syntax.erased Syntax.mut (Syntax.tyInt Syntax.w16); ref = λ x. x },
-                (
-                  record {
-                    pos = 21;
-                    ty = Syntax.tyRef Syntax.erased Syntax.mut (Syntax.tyInt Syntax.w16);
-                    ref = λ x. x;
-                  },
-                  (
-                    record { pos = 23; ty = Syntax.tyRef Syntax.erased Syntax.mut (Syntax.tyInt Syntax.w32); ref = λ x. x },
-                    (
-                      record { pos = 25; ty = Syntax.tyRef Syntax.erased Syntax.mut (Syntax.tyInt Syntax.w16); ref = λ x. x },
-                      (
-                        record {
-                          pos = 27;
-                          ty = Syntax.tyRef Syntax.erased Syntax.mut (Syntax.tyInt Syntax.w8);
-                          ref = λ x. x;
-                        },
-                        (record { pos = 29; ty = Syntax.tyRef Syntax.erased Syntax.mut Rec.behind; ref = λ x. x }, tt),
-                      ),
-                    ),
-                  ),
-                ),
-              ),
-            ),
-          ),
-        ),
-      ) (m27 (c .before .before) (c .before .read-plan-arg9 .given)) (c .read-plan)
+      After-read-plan·gave = λ c. Called.given ps·0 r·0 (claims· .1) T37 args·0 (m27 (c .before .before) (c .before .read-plan-arg9 .given)) (c .read-plan)
 
       abbrev pub m29 : (before : After-read-plan) → (given : s38 .gives (m28 (before .before) (After-read-plan·gave before))) → Typed.Mo T40
       m29 = λ before given. s38 .next (m28 (before .before) (After-read-plan·gave before)) given
@@ -3897,7 +1800,7 @@ module _ (claims· : Claims) where
         pub before : After-read-plan
         pub drone-count : After-drone-count·own before
 
-      abbrev pub m30 : (before : After-drone-count) → (given : s39 .gives (m29 (before .before) (before .drone-count .given))) → Typed.Mo T41
+      abbrev pub m30 : (before : After-drone-count) → (given : s39 .gives (m29 (before .before) (before .drone-count .given))) → Typed.Mo T40
       m30 = λ before given. s39 .next (m29 (before .before) (before .drone-count .given)) given
 
       module _ (before· : After-drone-count) where
@@ -3919,7 +1822,7 @@ module _ (claims· : Claims) where
         pub before : After-slice-known9
         pub dependency-count : After-dependency-count·own before
 
-      abbrev pub m32 : (before : After-dependency-count) → (given : s43 .gives (m31 (before .before) (before .dependency-count .given))) → Typed.Mo T45
+      abbrev pub m32 : (before : After-dependency-count) → (given : s43 .gives (m31 (before .before) (before .dependency-count .given))) → Typed.Mo T44
       m32 = λ before given. s43 .next (m31 (before .before) (before .dependency-count .given)) given
 
       module _ (before· : After-dependency-count) where
@@ -3941,7 +1844,7 @@ module _ (claims· : Claims) where
         pub before : After-slice-known10
         pub names : After-names·own before
 
-      abbrev pub m34 : (before : After-names) → (given : s47 .gives (m33 (before .before) (before .names .given))) → Typed.Mo T49
+      abbrev pub m34 : (before : After-names) → (given : s47 .gives (m33 (before .before) (before .names .given))) → Typed.Mo T48
       m34 = λ before given. s47 .next (m33 (before .before) (before .names .given)) given
 
       module _ (before· : After-names) where
@@ -3963,7 +1866,7 @@ module _ (claims· : Claims) where
         pub before : After-slice-known11
         pub stop-counts : After-stop-counts·own before
 
-      abbrev pub m36 : (before : After-stop-counts) → (given : s51 .gives (m35 (before .before) (before .stop-counts .given))) → Typed.Mo T53
+      abbrev pub m36 : (before : After-stop-counts) → (given : s51 .gives (m35 (before .before) (before .stop-counts .given))) → Typed.Mo T52
       m36 = λ before given. s51 .next (m35 (before .before) (before .stop-counts .given)) given
 
       module _ (before· : After-stop-counts) where
@@ -3985,7 +1888,7 @@ module _ (claims· : Claims) where
         pub before : After-slice-known12
         pub locations : After-locations·own before
 
-      abbrev pub m38 : (before : After-locations) → (given : s55 .gives (m37 (before .before) (before .locations .given))) → Typed.Mo T57
+      abbrev pub m38 : (before : After-locations) → (given : s55 .gives (m37 (before .before) (before .locations .given))) → Typed.Mo T56
       m38 = λ before given. s55 .next (m37 (before .before) (before .locations .given)) given
 
       module _ (before· : After-locations) where
@@ -4007,7 +1910,7 @@ module _ (claims· : Claims) where
         pub before : After-slice-known13
         pub times : After-times·own before
 
-      abbrev pub m40 : (before : After-times) → (given : s59 .gives (m39 (before .before) (before .times .given))) → Typed.Mo T61
+      abbrev pub m40 : (before : After-times) → (given : s59 .gives (m39 (before .before) (before .times .given))) → Typed.Mo T60
       m40 = λ before given. s59 .next (m39 (before .before) (before .times .given)) given
 
       module _ (before· : After-times) where
@@ -4029,7 +1932,7 @@ module _ (claims· : Claims) where
         pub before : After-slice-known14
         pub visited : After-visited·own before
 
-      abbrev pub m42 : (before : After-visited) → (given : s63 .gives (m41 (before .before) (before .visited .given))) → Typed.Mo T65
+      abbrev pub m42 : (before : After-visited) → (given : s63 .gives (m41 (before .before) (before .visited .given))) → Typed.Mo T64
       m42 = λ before given. s63 .next (m41 (before .before) (before .visited .given)) given
 
       module _ (before· : After-visited) where
@@ -4051,7 +1954,7 @@ module _ (claims· : Claims) where
         pub before : After-slice-known15
         pub drone-flags : After-drone-flags·own before
 
-      abbrev pub m44 : (before : After-drone-flags) → (given : s67 .gives (m43 (before .before) (before .drone-flags .given))) → Typed.Mo T69
+      abbrev pub m44 : (before : After-drone-flags) → (given : s67 .gives (m43 (before .before) (before .drone-flags .given))) → Typed.Mo T68
       m44 = λ before given. s67 .next (m43 (before .before) (before .drone-flags .given)) given
 
       module _ (before· : After-drone-flags) where
@@ -4081,373 +1984,105 @@ module _ (claims· : Claims) where
 
       module _ (before· : After-dependencies) where
         abbrev pub After-of-reading·own : Type 0
-        After-of-reading·own = Called.Called ps·1 r·1 (claims· .3) T72 (
-          record { pos = 11; st = List.[]; d = 0; at = λ x. x },
-          tt,
-        ) (m45 (before· .before) (before· .dependencies .given))
+        After-of-reading·own = Called.Called ps·1 r·1 (claims· .3) T72 (record { pos = 11; st = List.[]; d = 0; at = λ x. x }, tt) (m45 (before· .before) (before· .dependencies .given))
 
       pub record After-of-reading : Type 0 where
         pub before : After-dependencies
         pub of-reading : After-of-reading·own before
 
       abbrev pub After-of-reading·gave : (c : After-of-reading) → s72 .gives (m45 (c .before .before) (c .before .dependencies .given))
-      After-of-reading·gave = λ c. Called.given ps·1 r·1 (claims· .3) T72 (
-        record { pos = 11; st = List.[]; d = 0; at = λ x. x },
-        tt,
-      ) (m45 (c .before .before) (c .before .dependencies .given)) (c .of-reading)
+      After-of-reading·gave = λ c. Called.given ps·1 r·1 (claims· .3) T72 (record { pos = 11; st = List.[]; d = 0; at = λ x. x }, tt) (m45 (c .before .before) (c .before .dependencies .given)) (c .of-reading)
 
-      abbrev pub m47 : (before : After-dependencies) → (given : s72 .gives (m45 (before .before) (before .dependencies .given))) → Typed.Mo T75
+      abbrev pub m47 : (before : After-dependencies) → (given : s72 .gives (m45 (before .before) (before .dependencies .given))) → Typed.Mo T1
       m47 = λ before given. s73 (m46 before given)
 
       abbrev pub Need-same-length : Type 0
-      Need-same-length = (c : After-of-reading) → MutSlice.SameLen (Row.get 2 (T75 .locals) (m47 (c .before) (After-of-reading·gave c))) (dens (c .before .before .before .before .before .before .before .before .before .before .before .before .before .before .before .before .before .before .before .before .before
-          .before .before .before .before .before .before .before .before .before .before .before .before .before .before .before .before .κs) (c .before .before .before .before .before .before .before .before .before .before .before .before .before .before .before .before .before .before .before .before .before
-          .before .before .before .before .before .before .before .before .before .before .before .before .before .before .before .before .args) .1 .0)
+      Need-same-length = (c : After-of-reading) → MutSlice.SameLen (Row.get 2 (T1 .locals) (m47 (c .before) (After-of-reading·gave c))) (dens (c .before .before .before .before .before .before .before .before .before .before .before .before .before .before .before .before .before .before .before .before .before .before .before .before .before .before .before
+          .before .before .before .before .before .before .before .before .before .κs) (c .before .before .before .before .before .before .before .before .before .before .before .before .before .before .before .before .before .before .before .before .before .before .before .before .before .before .before .before .before .before .before .before .before .before
+          .before .before .args) .1 .0)
 
       abbrev pub Need-same-length-2 : Type 0
-      Need-same-length-2 = (c : After-of-reading) → MutSlice.SameLen (Row.get 3 (T75 .locals) (m47 (c .before) (After-of-reading·gave c))) (dens (c .before .before .before .before .before .before .before .before .before .before .before .before .before .before .before .before .before .before .before .before .before
-          .before .before .before .before .before .before .before .before .before .before .before .before .before .before .before .before .κs) (c .before .before .before .before .before .before .before .before .before .before .before .before .before .before .before .before .before .before .before .before .before
-          .before .before .before .before .before .before .before .before .before .before .before .before .before .before .before .before .args) .1 .1 .0)
+      Need-same-length-2 = (c : After-of-reading) → MutSlice.SameLen (Row.get 3 (T1 .locals) (m47 (c .before) (After-of-reading·gave c))) (dens (c .before .before .before .before .before .before .before .before .before .before .before .before .before .before .before .before .before .before .before .before .before .before .before .before .before .before
+          .before .before .before .before .before .before .before .before .before .before .κs) (c .before .before .before .before .before .before .before .before .before .before .before .before .before .before .before .before .before .before .before .before .before .before .before .before .before .before .before .before .before .before .before .before .before
+          .before .before .before .args) .1 .1 .0)
 
       abbrev pub Need-same-length-3 : Type 0
-      Need-same-length-3 = (c : After-of-reading) → MutSlice.SameLen (Row.get 4 (T75 .locals) (m47 (c .before) (After-of-reading·gave c))) (dens (c .before .before .before .before .before .before .before .before .before .before .before .before .before .before .before .before .before .before .before .before .before
-          .before .before .before .before .before .before .before .before .before .before .before .before .before .before .before .before .κs) (c .before .before .before .before .before .before .before .before .before .before .before .before .before .before .before .before .before .before .before .before .before
-          .before .before .before .before .before .before .before .before .before .before .before .before .before .before .before .before .args) .1 .1 .1 .0)
+      Need-same-length-3 = (c : After-of-reading) → MutSlice.SameLen (Row.get 4 (T1 .locals) (m47 (c .before) (After-of-reading·gave c))) (dens (c .before .before .before .before .before .before .before .before .before .before .before .before .before .before .before .before .before .before .before .before .before .before .before .before .before .before
+          .before .before .before .before .before .before .before .before .before .before .κs) (c .before .before .before .before .before .before .before .before .before .before .before .before .before .before .before .before .before .before .before .before .before .before .before .before .before .before .before .before .before .before .before .before .before
+          .before .before .before .args) .1 .1 .1 .0)
 
       abbrev pub Need-same-length-4 : Type 0
-      Need-same-length-4 = (c : After-of-reading) → MutSlice.SameLen (Row.get 5 (T75 .locals) (m47 (c .before) (After-of-reading·gave c))) (dens (c .before .before .before .before .before .before .before .before .before .before .before .before .before .before .before .before .before .before .before .before .before
-          .before .before .before .before .before .before .before .before .before .before .before .before .before .before .before .before .κs) (c .before .before .before .before .before .before .before .before .before .before .before .before .before .before .before .before .before .before .before .before .before
-          .before .before .before .before .before .before .before .before .before .before .before .before .before .before .before .before .args) .1 .1 .1 .1 .0)
+      Need-same-length-4 = (c : After-of-reading) → MutSlice.SameLen (Row.get 5 (T1 .locals) (m47 (c .before) (After-of-reading·gave c))) (dens (c .before .before .before .before .before .before .before .before .before .before .before .before .before .before .before .before .before .before .before .before .before .before .before .before .before .before
+          .before .before .before .before .before .before .before .before .before .before .κs) (c .before .before .before .before .before .before .before .before .before .before .before .before .before .before .before .before .before .before .before .before .before .before .before .before .before .before .before .before .before .before .before .before .before
+          .before .before .before .args) .1 .1 .1 .1 .0)
 
       abbrev pub Need-same-length-5 : Type 0
-      Need-same-length-5 = (c : After-of-reading) → MutSlice.SameLen (Row.get 6 (T75 .locals) (m47 (c .before) (After-of-reading·gave c))) (dens (c .before .before .before .before .before .before .before .before .before .before .before .before .before .before .before .before .before .before .before .before .before
-          .before .before .before .before .before .before .before .before .before .before .before .before .before .before .before .before .κs) (c .before .before .before .before .before .before .before .before .before .before .before .before .before .before .before .before .before .before .before .before .before
-          .before .before .before .before .before .before .before .before .before .before .before .before .before .before .before .before .args) .1 .1 .1 .1 .1 .0)
+      Need-same-length-5 = (c : After-of-reading) → MutSlice.SameLen (Row.get 6 (T1 .locals) (m47 (c .before) (After-of-reading·gave c))) (dens (c .before .before .before .before .before .before .before .before .before .before .before .before .before .before .before .before .before .before .before .before .before .before .before .before .before .before
+          .before .before .before .before .before .before .before .before .before .before .κs) (c .before .before .before .before .before .before .before .before .before .before .before .before .before .before .before .before .before .before .before .before .before .before .before .before .before .before .before .before .before .before .before .before .before
+          .before .before .before .args) .1 .1 .1 .1 .1 .0)
 
       abbrev pub Need-same-length-6 : Type 0
-      Need-same-length-6 = (c : After-of-reading) → MutSlice.SameLen (Row.get 7 (T75 .locals) (m47 (c .before) (After-of-reading·gave c))) (dens (c .before .before .before .before .before .before .before .before .before .before .before .before .before .before .before .before .before .before .before .before .before
-          .before .before .before .before .before .before .before .before .before .before .before .before .before .before .before .before .κs) (c .before .before .before .before .before .before .before .before .before .before .before .before .before .before .before .before .before .before .before .before .before
-          .before .before .before .before .before .before .before .before .before .before .before .before .before .before .before .before .args) .1 .1 .1 .1 .1 .1 .0)
+      Need-same-length-6 = (c : After-of-reading) → MutSlice.SameLen (Row.get 7 (T1 .locals) (m47 (c .before) (After-of-reading·gave c))) (dens (c .before .before .before .before .before .before .before .before .before .before .before .before .before .before .before .before .before .before .before .before .before .before .before .before .before .before
+          .before .before .before .before .before .before .before .before .before .before .κs) (c .before .before .before .before .before .before .before .before .before .before .before .before .before .before .before .before .before .before .before .before .before .before .before .before .before .before .before .before .before .before .before .before .before
+          .before .before .before .args) .1 .1 .1 .1 .1 .1 .0)
 
       abbrev pub Need-same-length-7 : Type 0
-      Need-same-length-7 = (c : After-of-reading) → MutSlice.SameLen (Row.get 8 (T75 .locals) (m47 (c .before) (After-of-reading·gave c))) (dens (c .before .before .before .before .before .before .before .before .before .before .before .before .before .before .before .before .before .before .before .before .before
-          .before .before .before .before .before .before .before .before .before .before .before .before .before .before .before .before .κs) (c .before .before .before .before .before .before .before .before .before .before .before .before .before .before .before .before .before .before .before .before .before
-          .before .before .before .before .before .before .before .before .before .before .before .before .before .before .before .before .args) .1 .1 .1 .1 .1 .1 .1 .0)
+      Need-same-length-7 = (c : After-of-reading) → MutSlice.SameLen (Row.get 8 (T1 .locals) (m47 (c .before) (After-of-reading·gave c))) (dens (c .before .before .before .before .before .before .before .before .before .before .before .before .before .before .before .before .before .before .before .before .before .before .before .before .before .before
+          .before .before .before .before .before .before .before .before .before .before .κs) (c .before .before .before .before .before .before .before .before .before .before .before .before .before .before .before .before .before .before .before .before .before .before .before .before .before .before .before .before .before .before .before .before .before
+          .before .before .before .args) .1 .1 .1 .1 .1 .1 .1 .0)
 
       abbrev pub Need-same-length-8 : Type 0
-      Need-same-length-8 = (c : After-of-reading) → MutSlice.SameLen (Row.get 9 (T75 .locals) (m47 (c .before) (After-of-reading·gave c))) (dens (c .before .before .before .before .before .before .before .before .before .before .before .before .before .before .before .before .before .before .before .before .before
-          .before .before .before .before .before .before .before .before .before .before .before .before .before .before .before .before .κs) (c .before .before .before .before .before .before .before .before .before .before .before .before .before .before .before .before .before .before .before .before .before
-          .before .before .before .before .before .before .before .before .before .before .before .before .before .before .before .before .args) .1 .1 .1 .1 .1 .1 .1 .1 .0)
+      Need-same-length-8 = (c : After-of-reading) → MutSlice.SameLen (Row.get 9 (T1 .locals) (m47 (c .before) (After-of-reading·gave c))) (dens (c .before .before .before .before .before .before .before .before .before .before .before .before .before .before .before .before .before .before .before .before .before .before .before .before .before .before
+          .before .before .before .before .before .before .before .before .before .before .κs) (c .before .before .before .before .before .before .before .before .before .before .before .before .before .before .before .before .before .before .before .before .before .before .before .before .before .before .before .before .before .before .before .before .before
+          .before .before .before .args) .1 .1 .1 .1 .1 .1 .1 .1 .0)
 
       abbrev pub Need-same-length-9 : Type 0
-      Need-same-length-9 = (c : After-of-reading) → MutSlice.SameLen (Row.get 10 (T75 .locals) (m47 (c .before) (After-of-reading·gave c))) (dens (c .before .before .before .before .before .before .before .before .before .before .before .before .before .before .before .before .before .before .before .before .before
-          .before .before .before .before .before .before .before .before .before .before .before .before .before .before .before .before .κs) (c .before .before .before .before .before .before .before .before .before .before .before .before .before .before .before .before .before .before .before .before .before
-          .before .before .before .before .before .before .before .before .before .before .before .before .before .before .before .before .args) .1 .1 .1 .1 .1 .1 .1 .1 .1 .0)
+      Need-same-length-9 = (c : After-of-reading) → MutSlice.SameLen (Row.get 10 (T1 .locals) (m47 (c .before) (After-of-reading·gave c))) (dens (c .before .before .before .before .before .before .before .before .before .before .before .before .before .before .before .before .before .before .before .before .before .before .before .before .before .before
+          .before .before .before .before .before .before .before .before .before .before .κs) (c .before .before .before .before .before .before .before .before .before .before .before .before .before .before .before .before .before .before .before .before .before .before .before .before .before .before .before .before .before .before .before .before .before
+          .before .before .before .args) .1 .1 .1 .1 .1 .1 .1 .1 .1 .0)
 
       abbrev pub Need-returns : Type 0
-      Need-returns = (c : After-of-reading) → Post· (c .before .before .before .before .before .before .before .before .before .before .before .before .before .before .before .before .before .before .before .before .before .before .before .before .before .before .before .before .before .before .before .before
-          .before .before .before .before .before .κs) (dens (c .before .before .before .before .before .before .before .before .before .before .before .before .before .before .before .before .before .before .before .before .before .before .before .before .before .before .before .before .before .before .before .before
-          .before .before .before .before .before .κs) (c .before .before .before .before .before .before .before .before .before .before .before .before .before .before .before .before .before .before .before .before .before .before .before .before .before .before .before .before .before .before .before .before
-          .before .before .before .before .before .args)) (Function.resV r (c .before .before .before .before .before .before .before .before .before .before .before .before .before .before .before .before .before .before .before .before .before .before .before .before .before .before .before .before .before .before .before .before
-          .before .before .before .before .before .κs) (m47 (c .before) (After-of-reading·gave c) .0)) (Clauses.atExit (Kinds.endedOf 10 ps r) (c .before .before .before .before .before .before .before .before .before .before .before .before .before .before .before .before .before .before .before .before .before
-          .before .before .before .before .before .before .before .before .before .before .before .before .before .before .before .before .κs) (dens (c .before .before .before .before .before .before .before .before .before .before .before .before .before .before .before .before .before .before .before .before .before
-          .before .before .before .before .before .before .before .before .before .before .before .before .before .before .before .before .κs) (c .before .before .before .before .before .before .before .before .before .before .before .before .before .before .before .before .before .before .before .before .before
-          .before .before .before .before .before .before .before .before .before .before .before .before .before .before .before .before .args)) (Enter.lastsP (c .before .before .before .before .before .before .before .before .before .before .before .before .before .before .before .before .before .before .before .before .before
-          .before .before .before .before .before .before .before .before .before .before .before .before .before .before .before .before .κs) 1 ps xs (dens (c .before .before .before .before .before .before .before .before .before .before .before .before .before .before .before .before .before .before .before .before .before
-          .before .before .before .before .before .before .before .before .before .before .before .before .before .before .before .before .κs) (c .before .before .before .before .before .before .before .before .before .before .before .before .before .before .before .before .before .before .before .before .before
-          .before .before .before .before .before .before .before .before .before .before .before .before .before .before .before .before .args)) (m47 (c .before) (After-of-reading·gave c) .1)))
+      Need-returns = (c : After-of-reading) → Post· (c .before .before .before .before .before .before .before .before .before .before .before .before .before .before .before .before .before .before .before .before .before .before .before .before .before .before .before .before .before .before .before .before .before .before .before .before .κs) (dens (c
+          .before .before .before .before .before .before .before .before .before .before .before .before .before .before .before .before .before .before .before .before .before .before .before .before .before .before .before .before .before .before .before .before .before .before .before .before .κs) (c .before .before .before .before .before .before .before
+          .before .before .before .before .before .before .before .before .before .before .before .before .before .before .before .before .before .before .before .before .before .before .before .before .before .before .before .before .before .args)) (Function.resV r (c .before .before .before .before .before .before .before .before .before .before .before
+          .before .before .before .before .before .before .before .before .before .before .before .before .before .before .before .before .before .before .before .before .before .before .before .before .before .κs) (m47 (c .before) (After-of-reading·gave c) .0)) (Clauses.atExit (Kinds.endedOf 10 ps r) (c .before .before .before .before .before .before .before
+          .before .before .before .before .before .before .before .before .before .before .before .before .before .before .before .before .before .before .before .before .before .before .before .before .before .before .before .before .before .κs) (dens (c .before .before .before .before .before .before .before .before .before .before .before .before .before
+          .before .before .before .before .before .before .before .before .before .before .before .before .before .before .before .before .before .before .before .before .before .before .before .κs) (c .before .before .before .before .before .before .before .before .before .before .before .before .before .before .before .before .before .before .before .before
+          .before .before .before .before .before .before .before .before .before .before .before .before .before .before .before .before .args)) (Enter.lastsP (c .before .before .before .before .before .before .before .before .before .before .before .before .before .before .before .before .before .before .before .before .before .before .before .before .before
+          .before .before .before .before .before .before .before .before .before .before .before .κs) 1 ps xs (dens (c .before .before .before .before .before .before .before .before .before .before .before .before .before .before .before .before .before .before .before .before .before .before .before .before .before .before .before .before .before .before
+          .before .before .before .before .before .before .κs) (c .before .before .before .before .before .before .before .before .before .before .before .before .before .before .before .before .before .before .before .before .before .before .before .before .before .before .before .before .before .before .before .before .before .before .before .before .args))
+          (m47 (c .before) (After-of-reading·gave c) .1)))
 
-      module _ (read-plan-requires : Need-read-plan-requires) (of-reading-requires : Need-of-reading-requires) (same-length : Need-same-length) (same-length-2 : Need-same-length-2) (same-length-3 : Need-same-length-3) (same-length-4 : Need-same-length-4) (same-length-5 : Need-same-length-5)
-          (same-length-6 : Need-same-length-6) (same-length-7 : Need-same-length-7) (same-length-8 : Need-same-length-8) (same-length-9 : Need-same-length-9) (returns : Need-returns) where
-        lay4 : (c : After-of-reading) → at1 (W0 (c .before .before .before .before .before .before .before .before .before .before .before .before .before .before .before .before .before .before .before .before .before .before .before .before .before .before .before .before .before .before .before .before .before .before .before .before .before .κs)
-            (c .before .before .before .before .before .before .before .before .before .before .before .before .before .before .before .before .before .before .before .before .before .before .before .before .before .before .before .before .before .before .before .before .before .before .before .before .before .args)) (m46 (c .before) (After-of-reading·gave
-            c))
-        lay4 = λ c. (
-          (
-            Path'.refl,
-            (
-              MutSlice.fix-len (Row.get 2 (T75 .locals) (m47 (c .before) (After-of-reading·gave c)) .ptr) (Row.get 2 (T75 .locals) (m47 (c .before) (After-of-reading·gave c)) .name) (Row.get 2 (T75 .locals) (m47 (c .before) (After-of-reading·gave c)) .now) (dens
-                  (c .before .before .before .before .before .before .before .before .before .before .before .before .before .before .before .before .before .before .before .before .before .before .before .before .before .before .before .before .before .before .before .before .before .before .before .before .before .κs)
-                  (c .before .before .before .before .before .before .before .before .before .before .before .before .before .before .before .before .before .before .before .before .before .before .before .before .before .before .before .before .before .before .before .before .before .before .before .before .before .args) .1 .0
-                  .now) (same-length record { before = c .before; of-reading = c .of-reading }),
-              (
-                MutSlice.fix-len (Row.get 3 (T75 .locals) (m47 (c .before) (After-of-reading·gave c)) .ptr) (Row.get 3 (T75 .locals) (m47 (c .before) (After-of-reading·gave c)) .name) (Row.get 3 (T75 .locals) (m47 (c .before) (After-of-reading·gave c)) .now) (dens
-                    (c .before .before .before .before .before .before .before .before .before .before .before .before .before .before .before .before .before .before .before .before .before .before .before .before .before .before .before .before .before .before .before .before .before .before .before .before .before .κs)
-                    (c .before .before .before .before .before .before .before .before .before .before .before .before .before .before .before .before .before .before .before .before .before .before .before .before .before .before .before .before .before .before .before .before .before .before .before .before .before .args) .1 .1 .0 .now) (same-length-2
-                    record { before = c .before; of-reading = c .of-reading }),
-                (
-                  MutSlice.fix-len (Row.get 4 (T75 .locals) (m47 (c .before) (After-of-reading·gave c)) .ptr) (Row.get 4 (T75 .locals) (m47 (c .before) (After-of-reading·gave c)) .name) (Row.get 4 (T75 .locals) (m47 (c .before) (After-of-reading·gave c)) .now) (dens
-                      (c .before .before .before .before .before .before .before .before .before .before .before .before .before .before .before .before .before .before .before .before .before .before .before .before .before .before .before .before .before .before .before .before .before .before .before .before .before .κs)
-                      (c .before .before .before .before .before .before .before .before .before .before .before .before .before .before .before .before .before .before .before .before .before .before .before .before .before .before .before .before .before .before .before .before .before .before .before .before .before .args) .1 .1 .1 .0 .now) (same-length-3
-                      record { before = c .before; of-reading = c .of-reading }),
-                  (
-                    MutSlice.fix-len (Row.get 5 (T75 .locals) (m47 (c .before) (After-of-reading·gave c)) .ptr) (Row.get 5 (T75 .locals) (m47 (c .before) (After-of-reading·gave c)) .name) (Row.get 5 (T75 .locals) (m47 (c .before) (After-of-reading·gave c)) .now) (dens
-                        (c .before .before .before .before .before .before .before .before .before .before .before .before .before .before .before .before .before .before .before .before .before .before .before .before .before .before .before .before .before .before .before .before .before .before .before .before .before .κs)
-                        (c .before .before .before .before .before .before .before .before .before .before .before .before .before .before .before .before .before .before .before .before .before .before .before .before .before .before .before .before .before .before .before .before .before .before .before .before .before .args) .1 .1 .1 .1 .0 .now) (same-length-4
-                        record { before = c .before; of-reading = c .of-reading }),
-                    (
-                      MutSlice.fix-len (Row.get 6 (T75 .locals) (m47 (c .before) (After-of-reading·gave c)) .ptr) (Row.get 6 (T75 .locals) (m47 (c .before) (After-of-reading·gave c)) .name) (Row.get 6 (T75 .locals) (m47 (c .before) (After-of-reading·gave c)) .now) (dens
-                          (c .before .before .before .before .before .before .before .before .before .before .before .before .before .before .before .before .before .before .before .before .before .before .before .before .before .before .before .before .before .before .before .before .before .before .before .before .before .κs)
-                          (c .before .before .before .before .before .before .before .before .before .before .before .before .before .before .before .before .before .before .before .before .before .before .before .before .before .before .before .before .before .before .before .before .before .before .before .before .before .args) .1 .1 .1 .1 .1 .0 .now) (same-length-5
-                          record { before = c .before; of-reading = c .of-reading }),
-                      (
-                        MutSlice.fix-len (Row.get 7 (T75 .locals) (m47 (c .before) (After-of-reading·gave c)) .ptr) (Row.get 7 (T75 .locals) (m47 (c .before) (After-of-reading·gave c)) .name) (Row.get 7 (T75 .locals) (m47 (c .before) (After-of-reading·gave c)) .now) (dens
-                            (c .before .before .before .before .before .before .before .before .before .before .before .before .before .before .before .before .before .before .before .before .before .before .before .before .before .before .before .before .before .before .before .before .before .before .before .before .before .κs)
-                            (c .before .before .before .before .before .before .before .before .before .before .before .before .before .before .before .before .before .before .before .before .before .before .before .before .before .before .before .before .before .before .before .before .before .before .before .before .before .args) .1 .1 .1 .1 .1 .1 .0 .now) (same-length-6
-                            record { before = c .before; of-reading = c .of-reading }),
-                        (
-                          MutSlice.fix-len (Row.get 8 (T75 .locals) (m47 (c .before) (After-of-reading·gave c)) .ptr) (Row.get 8 (T75 .locals) (m47 (c .before) (After-of-reading·gave c)) .name) (Row.get 8 (T75 .locals) (m47 (c .before) (After-of-reading·gave c)) .now) (dens
-                              (c .before .before .before .before .before .before .before .before .before .before .before .before .before .before .before .before .before .before .before .before .before .before .before .before .before .before .before .before .before .before .before .before .before .before .before .before .before .κs)
-                              (c .before .before .before .before .before .before .before .before .before .before .before .before .before .before .before .before .before .before .before .before .before .before .before .before .before .before .before .before .before .before .before .before .before .before .before .before .before .args) .1 .1 .1 .1 .1 .1 .1
-                              .0 .now) (same-length-7 record { before = c .before; of-reading = c .of-reading }),
-                          (
-                            MutSlice.fix-len (Row.get 9 (T75 .locals) (m47 (c .before) (After-of-reading·gave c)) .ptr) (Row.get 9 (T75 .locals) (m47 (c .before) (After-of-reading·gave c)) .name) (Row.get 9 (T75 .locals) (m47 (c .before) (After-of-reading·gave c)) .now) (dens
-                                (c .before .before .before .before .before .before .before .before .before .before .before .before .before .before .before .before .before .before .before .before .before .before .before .before .before .before .before .before .before .before .before .before .before .before .before .before .before .κs)
-                                (c .before .before .before .before .before .before .before .before .before .before .before .before .before .before .before .before .before .before .before .before .before .before .before .before .before .before .before .before .before .before .before .before .before .before .before .before .before .args) .1 .1 .1 .1 .1 .1 .1
-                                .1 .0 .now) (same-length-8 record { before = c .before; of-reading = c .of-reading }),
-                            (
-                              MutSlice.fix-len (Row.get 10 (T75 .locals) (m47 (c .before) (After-of-reading·gave c)) .ptr) (Row.get 10 (T75 .locals) (m47 (c .before) (After-of-reading·gave c)) .name) (Row.get 10 (T75 .locals) (m47 (c .before) (After-of-reading·gave c)) .now) (dens
-                                  (c .before .before .before .before .before .before .before .before .before .before .before .before .before .before .before .before .before .before .before .before .before .before .before .before .before .before .before .before .before .before .before .before .before .before .before .before .before .κs)
-                                  (c .before .before .before .before .before .before .before .before .before .before .before .before .before .before .before .before .before .before .before .before .before .before .before .before .before .before .before .before .before .before .before .before .before .before .before .before .before .args) .1 .1 .1
-                                  .1 .1 .1 .1 .1 .1 .0 .now) (same-length-9 record { before = c .before; of-reading = c .of-reading }),
-                              tt,
-                            ),
-                          ),
-                        ),
-                      ),
-                    ),
-                  ),
-                ),
-              ),
-            ),
-          ),
-          returns record { before = c .before; of-reading = c .of-reading },
-        )
+      module _ (read-plan-requires : Need-read-plan-requires) (of-reading-requires : Need-of-reading-requires) (same-length : Need-same-length) (same-length-2 : Need-same-length-2) (same-length-3 : Need-same-length-3) (same-length-4 : Need-same-length-4) (same-length-5 : Need-same-length-5) (same-length-6 : Need-same-length-6) (same-length-7 :
+          Need-same-length-7) (same-length-8 : Need-same-length-8) (same-length-9 : Need-same-length-9) (returns : Need-returns) where
+        lay4 : (c : After-of-reading) → at1 (W0 (c .before .before .before .before .before .before .before .before .before .before .before .before .before .before .before .before .before .before .before .before .before .before .before .before .before .before .before .before .before .before .before .before .before .before .before .before .κs) (c .before
+            .before .before .before .before .before .before .before .before .before .before .before .before .before .before .before .before .before .before .before .before .before .before .before .before .before .before .before .before .before .before .before .before .before .before .before .args)) (m46 (c .before) (After-of-reading·gave c))
+        lay4 = λ c.
+            ((Path'.refl, (MutSlice.fix-len (Row.get 2 (T1 .locals) (m47 (c .before) (After-of-reading·gave c)) .ptr) (Row.get 2 (T1 .locals) (m47 (c .before) (After-of-reading·gave c)) .name) (Row.get 2 (T1 .locals) (m47 (c .before) (After-of-reading·gave c)) .now) (dens (c .before .before .before .before .before .before .before .before .before .before .before .before .before .before .before .before .before .before .before .before .before .before .before .before .before .before .before .before .before .before .before .before .before .before .before .before .κs) (c .before .before .before .before .before .before .before .before .before .before .before .before .before .before .before .before .before .before .before .before .before .before .before .before .before .before .before .before .before .before .before .before .before .before .before .before .args) .1 .0 .now) (same-length record { before = c .before; of-reading = c .of-reading }), (MutSlice.fix-len (Row.get 3 (T1 .locals) (m47 (c .before) (After-of-reading·gave c)) .ptr) (Row.get 3 (T1 .locals) (m47 (c .before) (After-of-reading·gave c)) .name) (Row.get 3 (T1 .locals) (m47 (c .before) (After-of-reading·gave c)) .now) (dens (c .before .before .before .before .before .before .before .before .before .before .before .before .before .before .before .before .before .before .before .before .before .before .before .before .before .before .before .before .before .before .before .before .before .before .before .before .κs) (c .before .before .before .before .before .before .before .before .before .before .before .before .before .before .before .before .before .before .before .before .before .before .before .before .before .before .before .before .before .before .before .before .before .before .before .before .args) .1 .1 .0 .now) (same-length-2 record { before = c .before; of-reading = c .of-reading }), (MutSlice.fix-len (Row.get 4 (T1 .locals) (m47 (c .before) (After-of-reading·gave c)) .ptr) (Row.get 4 (T1 .locals) (m47 (c .before) (After-of-reading·gave c)) .name) (Row.get 4 (T1 .locals) (m47 (c .before) (After-of-reading·gave c)) .now) (dens (c .before .before .before .before .before .before .before .before .before .before .before .before .before .before .before .before .before .before .before .before .before .before .before .before .before .before .before .before .before .before .before .before .before .before .before .before .κs) (c .before .before .before .before .before .before .before .before .before .before .before .before .before .before .before .before .before .before .before .before .before .before .before .before .before .before .before .before .before .before .before .before .before .before .before .before .args) .1 .1 .1 .0 .now) (same-length-3 record { before = c .before; of-reading = c .of-reading }), (MutSlice.fix-len (Row.get 5 (T1 .locals) (m47 (c .before) (After-of-reading·gave c)) .ptr) (Row.get 5 (T1 .locals) (m47 (c .before) (After-of-reading·gave c)) .name) (Row.get 5 (T1 .locals) (m47 (c .before) (After-of-reading·gave c)) .now) (dens (c .before .before .before .before .before .before .before .before .before .before .before .before .before .before .before .before .before .before .before .before .before .before .before .before .before .before .before .before .before .before .before .before .before .before .before .before .κs) (c .before .before .before .before .before .before .before .before .before .before .before .before .before .before .before .before .before .before .before .before .before .before .before .before .before .before .before .before .before .before .before .before .before .before .before .before .args) .1 .1 .1 .1 .0 .now) (same-length-4 record { before = c .before; of-reading = c .of-reading }), (MutSlice.fix-len (Row.get 6 (T1 .locals) (m47 (c .before) (After-of-reading·gave c)) .ptr) (Row.get 6 (T1 .locals) (m47 (c .before) (After-of-reading·gave c)) .name) (Row.get 6 (T1 .locals) (m47 (c .before) (After-of-reading·gave c)) .now) (dens (c .before .before .before .before .before .before .before .before .before .before .before .before .before .before .before .before .before .before .before .before .before .before .before .before .before .before .before .before .before .before .before .before .before .before .before .before .κs) (c .before .before .before .before .before .before .before .before .before .before .before .before .before .before .before .before .before .before .before .before .before .before .before .before .before .before .before .before .before .before .before .before .before .before .before .before .args) .1 .1 .1 .1 .1 .0 .now) (same-length-5 record { before = c .before; of-reading = c .of-reading }), (MutSlice.fix-len (Row.get 7 (T1 .locals) (m47 (c .before) (After-of-reading·gave c)) .ptr) (Row.get 7 (T1 .locals) (m47 (c .before) (After-of-reading·gave c)) .name) (Row.get 7 (T1 .locals) (m47 (c .before) (After-of-reading·gave c)) .now) (dens (c .before .before .before .before .before .before .before .before .before .before .before .before .before .before .before .before .before .before .before .before .before .before .before .before .before .before .before .before .before .before .before .before .before .before .before .before .κs) (c .before .before .before .before .before .before .before .before .before .before .before .before .before .before .before .before .before .before .before .before .before .before .before .before .before .before .before .before .before .before .before .before .before .before .before .before .args) .1 .1 .1 .1 .1 .1 .0 .now) (same-length-6 record { before = c .before; of-reading = c .of-reading }), (MutSlice.fix-len (Row.get 8 (T1 .locals) (m47 (c .before) (After-of-reading·gave c)) .ptr) (Row.get 8 (T1 .locals) (m47 (c .before) (After-of-reading·gave c)) .name) (Row.get 8 (T1 .locals) (m47 (c .before) (After-of-reading·gave c)) .now) (dens (c .before .before .before .before .before .before .before .before .before .before .before .before .before .before .before .before .before .before .before .before .before .before .before .before .before .before .before .before .before .before .before .before .before .before .before .before .κs) (c .before .before .before .before .before .before .before .before .before .before .before .before .before .before .before .before .before .before .before .before .before .before .before .before .before .before .before .before .before .before .before .before .before .before .before .before .args) .1 .1 .1 .1 .1 .1 .1 .0 .now) (same-length-7 record { before = c .before; of-reading = c .of-reading }), (MutSlice.fix-len (Row.get 9 (T1 .locals) (m47 (c .before) (After-of-reading·gave c)) .ptr) (Row.get 9 (T1 .locals) (m47 (c .before) (After-of-reading·gave c)) .name) (Row.get 9 (T1 .locals) (m47 (c .before) (After-of-reading·gave c)) .now) (dens (c .before .before .before .before .before .before .before .before .before .before .before .before .before .before .before .before .before .before .before .before .before .before .before .before .before .before .before .before .before .before .before .before .before .before .before .before .κs) (c .before .before .before .before .before .before .before .before .before .before .before .before .before .before .before .before .before .before .before .before .before .before .before .before .before .before .before .before .before .before .before .before .before .before .before .before .args) .1 .1 .1 .1 .1 .1 .1 .1 .0 .now) (same-length-8 record { before = c .before; of-reading = c .of-reading }), (MutSlice.fix-len (Row.get 10 (T1 .locals) (m47 (c .before) (After-of-reading·gave c)) .ptr) (Row.get 10 (T1 .locals) (m47 (c .before) (After-of-reading·gave c)) .name) (Row.get 10 (T1 .locals) (m47 (c .before) (After-of-reading·gave c)) .now) (dens (c .before .before .before .before .before .before .before .before .before .before .before .before .before .before .before .before .before .before .before .before .before .before .before .before .before .before .before .before .before .before .before .before .before .before .before .before .κs) (c .before .before .before .before .before .before .before .before .before .before .before .before .before .before .before .before .before .before .before .before .before .before .before .before .before .before .before .before .before .before .before .before .before .before .before .before .args) .1 .1 .1 .1 .1 .1 .1 .1 .1 .0 .now) (same-length-9 record { before = c .before; of-reading = c .of-reading }), tt)))))))))), returns record { before = c .before; of-reading = c .of-reading })
 
-        lay3 : (c : After-slice-known16) → at5 (W0 (c .before .before .before .before .before .before .before .before .before .before .before .before .before .before .before .before .before .before .before .before .before .before .before .before .before .before .before .before .before .before .before .before .before .before .before .κs)
-            (c .before .before .before .before .before .before .before .before .before .before .before .before .before .before .before .before .before .before .before .before .before .before .before .before .before .before .before .before .before .before .before .before .before .before .before .args)) (m44 (c .before) (c .slice-known16 .given))
-        lay3 = λ c. (
-          Path'.refl,
-          λ g. (
-            of-reading-requires record { before = record { before = c .before; slice-known16 = c .slice-known16 }; dependencies = record { given = g } },
-            λ g'. lay4 record {
-              before = record { before = record { before = c .before; slice-known16 = c .slice-known16 }; dependencies = record { given = g } };
-              of-reading = Called.called ps·1 r·1 (claims· .3) T72 (record { pos = 11; st = List.[]; d = 0; at = λ x. x }, tt) (m45 record { before = c .before; slice-known16 = c .slice-known16 } g) g';
-            },
-          ),
-        )
+        lay3 : (c : After-slice-known16) → at4 (W0 (c .before .before .before .before .before .before .before .before .before .before .before .before .before .before .before .before .before .before .before .before .before .before .before .before .before .before .before .before .before .before .before .before .before .before .κs) (c .before .before .before
+            .before .before .before .before .before .before .before .before .before .before .before .before .before .before .before .before .before .before .before .before .before .before .before .before .before .before .before .before .before .before .before .args)) (m44 (c .before) (c .slice-known16 .given))
+        lay3 = λ c.
+            (Path'.refl, λ g. (of-reading-requires record { before = record { before = c .before; slice-known16 = c .slice-known16 }; dependencies = record { given = g } }, λ g'. lay4 record { before = record { before = record { before = c .before; slice-known16 = c .slice-known16 }; dependencies = record { given = g } }; of-reading = Called.called ps·1 r·1 (claims· .3) T72 (record { pos = 11; st = List.[]; d = 0; at = λ x. x }, tt) (m45 record { before = c .before; slice-known16 = c .slice-known16 } g) g' }))
 
-        lay2 : (c : After-read-plan) → at37 (W0 (c .before .before .before .before .before .before .before .before .before .before .before .before .before .before .before .before .before .before .before .κs) (c .before .before .before .before .before .before .before .before .before .before
-            .before .before .before .before .before .before .before .before .before .args)) (m28 (c .before) (After-read-plan·gave c))
-        lay2 = λ c. (
-          Path'.refl,
-          λ g. λ g'. (
-            Path'.refl,
-            λ g''. λ g'3. (
-              Path'.refl,
-              λ g'4. λ g'5. (
-                Path'.refl,
-                λ g'6. λ g'7. (
-                  Path'.refl,
-                  λ g'8. λ g'9. (
-                    Path'.refl,
-                    λ g'10. λ g'11. (
-                      Path'.refl,
-                      λ g'12. λ g'13. (
-                        Path'.refl,
-                        λ g'14. λ g'15. lay3 record {
-                          before = record {
-                            before = record {
-                              before = record {
-                                before = record {
-                                  before = record {
-                                    before = record {
-                                      before = record {
-                                        before = record {
-                                          before = record {
-                                            before = record {
-                                              before = record {
-                                                before = record {
-                                                  before = record {
-                                                    before = record { before = record { before = record { before = c .before; read-plan = c .read-plan }; drone-count = record { given = g } }; slice-known9 = record { given = g' } };
-                                                    dependency-count = record { given = g'' };
-                                                  };
-                                                  slice-known10 = record { given = g'3 };
-                                                };
-                                                names = record { given = g'4 };
-                                              };
-                                              slice-known11 = record { given = g'5 };
-                                            };
-                                            stop-counts = record { given = g'6 };
-                                          };
-                                          slice-known12 = record { given = g'7 };
-                                        };
-                                        locations = record { given = g'8 };
-                                      };
-                                      slice-known13 = record { given = g'9 };
-                                    };
-                                    times = record { given = g'10 };
-                                  };
-                                  slice-known14 = record { given = g'11 };
-                                };
-                                visited = record { given = g'12 };
-                              };
-                              slice-known15 = record { given = g'13 };
-                            };
-                            drone-flags = record { given = g'14 };
-                          };
-                          slice-known16 = record { given = g'15 };
-                        },
-                      ),
-                    ),
-                  ),
-                ),
-              ),
-            ),
-          ),
-        )
+        lay2 : (c : After-read-plan) → at36 (W0 (c .before .before .before .before .before .before .before .before .before .before .before .before .before .before .before .before .before .before .κs) (c .before .before .before .before .before .before .before .before .before .before .before .before .before .before .before .before .before .before .args)) (m28
+            (c .before) (After-read-plan·gave c))
+        lay2 = λ c.
+            (Path'.refl, λ g. λ g'. (Path'.refl, λ g''. λ g'3. (Path'.refl, λ g'4. λ g'5. (Path'.refl, λ g'6. λ g'7. (Path'.refl, λ g'8. λ g'9. (Path'.refl, λ g'10. λ g'11. (Path'.refl, λ g'12. λ g'13. (Path'.refl, λ g'14. λ g'15. lay3 record { before = record { before = record { before = record { before = record { before = record { before = record { before = record { before = record { before = record { before = record { before = record { before = record { before = record { before = record { before = record { before = record { before = c .before; read-plan = c .read-plan }; drone-count = record { given = g } }; slice-known9 = record { given = g' } }; dependency-count = record { given = g'' } }; slice-known10 = record { given = g'3 } }; names = record { given = g'4 } }; slice-known11 = record { given = g'5 } }; stop-counts = record { given = g'6 } }; slice-known12 = record { given = g'7 } }; locations = record { given = g'8 } }; slice-known13 = record { given = g'9 } }; times = record { given = g'10 } }; slice-known14 = record { given = g'11 } }; visited = record { given = g'12 } }; slice-known15 = record { given = g'13 } }; drone-flags = record { given = g'14 } }; slice-known16 = record { given = g'15 } }))))))))
 
-        lay1 : (c : After-read-plan-arg8) → at42 (W0 (c .before .before .before .before .before .before .before .before .before .before .before .before .before .before .before .before .before .κs) (c .before .before .before .before .before .before .before .before .before .before .before .before .before .before .before .before .before .args)) (m24 (c .before)
-            (c .read-plan-arg8 .given))
-        lay1 = λ c. (
-          Path'.refl,
-          λ g. (
-            Path'.refl,
-            (
-              read-plan-requires record { before = record { before = c .before; read-plan-arg8 = c .read-plan-arg8 }; read-plan-arg9 = record { given = g } },
-              λ g'. lay2 record {
-                before = record { before = record { before = c .before; read-plan-arg8 = c .read-plan-arg8 }; read-plan-arg9 = record { given = g } };
-                read-plan = Called.called ps·0 r·0 (claims· .1) T37 (
-                  record { pos = 1; ty = Syntax.tyRef (Syntax.named 0) Syntax.imm (Syntax.tyInt Syntax.w8); ref = λ x. x },
-                  (
-                    record { pos = 13; ty = Syntax.tyRef Syntax.erased Syntax.mut (Syntax.tyInt Syntax.w16); ref = λ x. x },
-                    (
-                      record {
-                        pos = 15;
-                        ty = Syntax.tyRef Syntax.erased Syntax.mut (Syntax.tyInt Syntax.w16);
-                        ref = λ x. x;
-                      },
-                      (
-                        record { pos = 17; ty = Syntax.tyRef Syntax.erased Syntax.mut (Syntax.tyInt Syntax.w8); ref = λ x. x },
-                        (
-                          record { pos = 19; ty = Syntax.tyRef Syntax.erased Syntax.mut (Syntax.tyInt Syntax.w16); ref = λ x. x },
-                          (
-                            record {
-                              pos = 21;
-                              ty = Syntax.tyRef Syntax.erased Syntax.mut (Syntax.tyInt Syntax.w16);
-                              ref = λ x. x;
-                            },
-                            (
-                              record { pos = 23; ty = Syntax.tyRef Syntax.erased Syntax.mut (Syntax.tyInt Syntax.w32); ref = λ x. x },
-                              (
-                                record { pos = 25; ty = Syntax.tyRef Syntax.erased Syntax.mut (Syntax.tyInt Syntax.w16); ref = λ x. x },
-                                (
-                                  record {
-                                    pos = 27;
-                                    ty = Syntax.tyRef
-                                        Syntax.erased Syntax.mut (Syntax.tyInt Syntax.w8);
-                                    ref = λ x. x;
-                                  },
-                                  (record { pos = 29; ty = Syntax.tyRef Syntax.erased Syntax.mut Rec.behind; ref = λ x. x }, tt),
-                                ),
-                              ),
-                            ),
-                          ),
-                        ),
-                      ),
-                    ),
-                  ),
-                ) (m27 record { before = c .before; read-plan-arg8 = c .read-plan-arg8 } g) g';
-              },
-            ),
-          ),
-        )
+        lay1 : (c : After-read-plan-arg8) → at42 (W0 (c .before .before .before .before .before .before .before .before .before .before .before .before .before .before .before .before .κs) (c .before .before .before .before .before .before .before .before .before .before .before .before .before .before .before .before .args)) (m24 (c .before) (c
+            .read-plan-arg8 .given))
+        lay1 = λ c.
+            (Path'.refl, λ g. (Path'.refl, (read-plan-requires record { before = record { before = c .before; read-plan-arg8 = c .read-plan-arg8 }; read-plan-arg9 = record { given = g } }, λ g'. lay2 record { before = record { before = record { before = c .before; read-plan-arg8 = c .read-plan-arg8 }; read-plan-arg9 = record { given = g } }; read-plan = Called.called ps·0 r·0 (claims· .1) T37 args·0 (m27 record { before = c .before; read-plan-arg8 = c .read-plan-arg8 } g) g' })))
 
-        pub laid : (c : Start) → at74 (W0 (c .κs) (c .args)) (m0 (c .κs) (c .args))
-        laid = λ c. λ g. λ g'. λ g''. λ g'3. λ g'4. λ g'5. λ g'6. λ g'7. λ g'8. λ g'9. (
-          Path'.refl,
-          λ g'10. (
-            Path'.refl,
-            λ g'11. (
-              Path'.refl,
-              λ g'12. (
-                Path'.refl,
-                λ g'13. (
-                  Path'.refl,
-                  λ g'14. (
-                    Path'.refl,
-                    λ g'15. (
-                      Path'.refl,
-                      λ g'16. lay1 record {
-                        before = record {
-                          before = record {
-                            before = record {
-                              before = record {
-                                before = record {
-                                  before = record {
-                                    before = record {
-                                      before = record {
-                                        before = record {
-                                          before = record {
-                                            before = record {
-                                              before = record {
-                                                before = record {
-                                                  before = record { before = record { before = record { before = c; shared-slice-known = record { given = g } }; slice-known = record { given = g' } }; slice-known2 = record { given = g'' } };
-                                                  slice-known3 = record { given = g'3 };
-                                                };
-                                                slice-known4 = record { given = g'4 };
-                                              };
-                                              slice-known5 = record { given = g'5 };
-                                            };
-                                            slice-known6 = record { given = g'6 };
-                                          };
-                                          slice-known7 = record { given = g'7 };
-                                        };
-                                        slice-known8 = record { given = g'8 };
-                                      };
-                                      read-plan-arg = record { given = g'9 };
-                                    };
-                                    read-plan-arg2 = record { given = g'10 };
-                                  };
-                                  read-plan-arg3 = record { given = g'11 };
-                                };
-                                read-plan-arg4 = record { given = g'12 };
-                              };
-                              read-plan-arg5 = record { given = g'13 };
-                            };
-                            read-plan-arg6 = record { given = g'14 };
-                          };
-                          read-plan-arg7 = record { given = g'15 };
-                        };
-                        read-plan-arg8 = record { given = g'16 };
-                      },
-                    ),
-                  ),
-                ),
-              ),
-            ),
-          ),
-        )
+        pub laid : (c : Start) → at73 (W0 (c .κs) (c .args)) (m0 (c .κs) (c .args))
+        laid = λ c. λ g'. λ g''. λ g'3. λ g'4. λ g'5. λ g'6. λ g'7. λ g'8. λ g'9.
+            (Path'.refl, λ g'10. (Path'.refl, λ g'11. (Path'.refl, λ g'12. (Path'.refl, λ g'13. (Path'.refl, λ g'14. (Path'.refl, λ g'15. (Path'.refl, λ g'16. lay1 record { before = record { before = record { before = record { before = record { before = record { before = record { before = record { before = record { before = record { before = record { before = record { before = record { before = record { before = record { before = record { before = c; slice-known = record { given = g' } }; slice-known2 = record { given = g'' } }; slice-known3 = record { given = g'3 } }; slice-known4 = record { given = g'4 } }; slice-known5 = record { given = g'5 } }; slice-known6 = record { given = g'6 } }; slice-known7 = record { given = g'7 } }; slice-known8 = record { given = g'8 } }; read-plan-arg = record { given = g'9 } }; read-plan-arg2 = record { given = g'10 } }; read-plan-arg3 = record { given = g'11 } }; read-plan-arg4 = record { given = g'12 } }; read-plan-arg5 = record { given = g'13 } }; read-plan-arg6 = record { given = g'14 } }; read-plan-arg7 = record { given = g'15 } }; read-plan-arg8 = record { given = g'16 } })))))))
 
         module _ (κs : Lifetimes.Lfts 10) (qs : Lifetimes.Shares 10) where
           pub asked : (a : Kinds.Dens κs ps) → (good : Kinds.GoodsP κs ps a) → (pre : Pre· κs a) → (bs : List.List Nat.ℕ) → Φ (Any.wantQ 10 ps r xs m κs qs a (Post· κs a)) (Function.init 10 ps r xs m κs qs a)
-          asked = λ a good pre bs. laid record {
-            κs = κs;
-            args = record {
-              text = a .0;
-              drone-count = a .1 .0;
-              dependency-count = a .1 .1 .0;
-              names = a .1 .1 .1 .0;
-              stop-counts = a .1 .1 .1 .1 .0;
-              locations = a .1 .1 .1 .1 .1 .0;
-              times = a .1 .1 .1 .1 .1 .1 .0;
-              visited = a .1 .1 .1 .1 .1 .1 .1 .0;
-              drone-flags = a .1 .1 .1 .1 .1 .1 .1 .1 .0;
-              dependencies = a .1 .1 .1 .1 .1 .1 .1 .1 .1 .0;
-            };
-            good = good;
-            pre = pre;
-          }
+          asked = λ a good pre bs. laid record
+              { κs = κs; args = record { text = a .0; drone-count = a .1 .0; dependency-count = a .1 .1 .0; names = a .1 .1 .1 .0; stop-counts = a .1 .1 .1 .1 .0; locations = a .1 .1 .1 .1 .1 .0; times = a .1 .1 .1 .1 .1 .1 .0; visited = a .1 .1 .1 .1 .1 .1 .1 .0; drone-flags = a .1 .1 .1 .1 .1 .1 .1 .1 .0; dependencies = a .1 .1 .1 .1 .1 .1 .1 .1 .1 .0 }; good = good; pre = pre }
 
         module _ {M : Type 1} (𝓤 : URA.URA M) (H : Wp.Heap 𝓤) (A : Atoms.Atoms 𝓤) (W : Kit.Given 𝓤 H A) (𝓣 : Wp.Tables 𝓤 H) (known0 : Plain.Known 𝓤 H A W 𝓣 10 ps·0 r·0 (claims· .0) (claims· .1) "conductor::calls::read_plan") (known1 : Plain.Known 𝓤 H A W 𝓣 0 ps·1 r·1 (claims· .2) (claims· .3) "board::answers::of_reading") where
           pub spec : Statement.Triple 𝓤 (Wp.WpFn 𝓤 H (𝓣 .C) (𝓣 .Λ) (Function.fnOf 10 ps r xs m hs body)) (Function.plainOf 𝓤 H A 10 ps r Pre· Post·)

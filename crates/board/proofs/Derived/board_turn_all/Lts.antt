@@ -1,4 +1,5 @@
 -- `board::exports::board_turn_all`: Lts, carried over by tools/lend.py. Assumes nothing.
+use borrow.Fn.Args.{ArgsT}
 use Rattle.records.proofs.Row as Rec
 use Prim.Native.Nat
 use Rattle.board.proofs.answers.CallAnswer
@@ -83,10 +84,13 @@ abbrev ty·10 : Syntax.Ty
 ty·10 = Syntax.tyRef (Syntax.named 9) Syntax.imm (Syntax.tyInt Syntax.w16)
 
 abbrev ty·11 : Syntax.Ty
-ty·11 = Syntax.tyStruct (List._∷_ 98 (List._∷_ 111 (List._∷_ 97 (List._∷_ 114 (List._∷_ 100 (List._∷_ 58 (List._∷_ 58 (List._∷_ 97 (List._∷_ 110 (List._∷_ 115 (List._∷_ 119 (List._∷_ 101 (List._∷_ 114 (List._∷_ 115 (List._∷_ 58 (List._∷_ 58 (List._∷_ 67 (List._∷_ 97 (List._∷_ 108 (List._∷_ 108 (List._∷_ 65 (List._∷_ 110 (List._∷_ 115 (List._∷_ 119 (List._∷_ 101 (List._∷_ 114 List.[])))))))))))))))))))))))))) (Syntax.tcons (Syntax.tyInt Syntax.w64) (Syntax.tcons (Syntax.tyInt Syntax.w64) Syntax.tnil))
+ty·11 = Syntax.tyStruct (List._∷_ 98 (List._∷_ 111 (List._∷_ 97 (List._∷_ 114 (List._∷_ 100 (List._∷_ 58 (List._∷_ 58 (List._∷_ 97 (List._∷_ 110 (List._∷_ 115 (List._∷_ 119 (List._∷_ 101 (List._∷_ 114 (List._∷_ 115 (List._∷_ 58 (List._∷_ 58 (List._∷_ 67 (List._∷_ 97 (List._∷_ 108 (List._∷_ 108 (List._∷_ 65 (List._∷_ 110 (List._∷_ 115 (List._∷_ 119 (List._∷_
+    101 (List._∷_ 114 List.[])))))))))))))))))))))))))) (Syntax.tcons (Syntax.tyInt Syntax.w64) (Syntax.tcons (Syntax.tyInt Syntax.w64) Syntax.tnil))
 
 abbrev ty·12 : Syntax.Ty
-ty·12 = Syntax.tyEnum (List._∷_ 102 (List._∷_ 108 (List._∷_ 97 (List._∷_ 116 (List._∷_ 58 (List._∷_ 58 (List._∷_ 116 (List._∷_ 117 (List._∷_ 114 (List._∷_ 110 (List._∷_ 95 (List._∷_ 114 (List._∷_ 101 (List._∷_ 112 (List._∷_ 108 (List._∷_ 105 (List._∷_ 101 (List._∷_ 115 (List._∷_ 58 (List._∷_ 58 (List._∷_ 84 (List._∷_ 117 (List._∷_ 114 (List._∷_ 110 (List._∷_ 65 (List._∷_ 108 (List._∷_ 108 (List._∷_ 82 (List._∷_ 101 (List._∷_ 112 (List._∷_ 108 (List._∷_ 121 List.[])))))))))))))))))))))))))))))))) (Syntax.ttcons Syntax.tnil (Syntax.ttcons Syntax.tnil (Syntax.ttcons Syntax.tnil (Syntax.ttcons Syntax.tnil (Syntax.ttcons Syntax.tnil (Syntax.ttcons Syntax.tnil (Syntax.ttcons Syntax.tnil (Syntax.ttcons Syntax.tnil Syntax.ttnil))))))))
+ty·12 = Syntax.tyEnum (List._∷_ 102 (List._∷_ 108 (List._∷_ 97 (List._∷_ 116 (List._∷_ 58 (List._∷_ 58 (List._∷_ 116 (List._∷_ 117 (List._∷_ 114 (List._∷_ 110 (List._∷_ 95 (List._∷_ 114 (List._∷_ 101 (List._∷_ 112 (List._∷_ 108 (List._∷_ 105 (List._∷_ 101 (List._∷_ 115 (List._∷_ 58 (List._∷_ 58 (List._∷_ 84 (List._∷_ 117 (List._∷_ 114 (List._∷_ 110 (List._∷_
+    65 (List._∷_ 108 (List._∷_ 108 (List._∷_ 82 (List._∷_ 101 (List._∷_ 112 (List._∷_ 108 (List._∷_ 121 List.[])))))))))))))))))))))))))))))))) (Syntax.ttcons Syntax.tnil (Syntax.ttcons Syntax.tnil (Syntax.ttcons Syntax.tnil (Syntax.ttcons Syntax.tnil (Syntax.ttcons Syntax.tnil (Syntax.ttcons Syntax.tnil (Syntax.ttcons Syntax.tnil (Syntax.ttcons Syntax.tnil
+    Syntax.ttnil))))))))
 
 abbrev row·0 : Row.Row
 row·0 = Rows.any-gone ty·11
@@ -149,27 +153,13 @@ abbrev row·19 : Row.Row
 row·19 = Mut.msleft Rec.rt ty·0
 
 abbrev pub ps : List.List (Kinds.PK 10)
-ps = List._∷_ (ShrSlice.pShrS (Referent.rtF (Referent.fInt Syntax.w16)) 0 tt) (List._∷_ (ShrSlice.pShrS (Referent.rtF (Referent.fInt Syntax.w16)) 1 tt) (List._∷_ (ShrSlice.pShrS (Referent.rtF (Referent.fInt Syntax.w8)) 2 tt) (List._∷_ (ShrSlice.pShrS (Referent.rtF (Referent.fInt Syntax.w16)) 3 tt) (List._∷_
-    (ShrSlice.pShrS (Referent.rtF (Referent.fInt Syntax.w16)) 4 tt) (List._∷_ (ShrSlice.pShrS (Referent.rtF (Referent.fInt Syntax.w32)) 5 tt) (List._∷_ (ShrSlice.pShrS (Referent.rtF (Referent.fInt Syntax.w16)) 6 tt) (List._∷_ (ShrSlice.pShrS (Referent.rtF (Referent.fInt Syntax.w8)) 7 tt) (List._∷_ (MutSlice.pMutS Rec.rt 8 tt)
-    (List._∷_ (ShrSlice.pShrS (Referent.rtF (Referent.fInt Syntax.w16)) 9 tt) List.[])))))))))
+ps = List._∷_ (ShrSlice.pShrS (Referent.rtF (Referent.fInt Syntax.w16)) 0 tt) (List._∷_ (ShrSlice.pShrS (Referent.rtF (Referent.fInt Syntax.w16)) 1 tt) (List._∷_ (ShrSlice.pShrS (Referent.rtF (Referent.fInt Syntax.w8)) 2 tt) (List._∷_ (ShrSlice.pShrS (Referent.rtF (Referent.fInt Syntax.w16)) 3 tt) (List._∷_ (ShrSlice.pShrS (Referent.rtF (Referent.fInt
+    Syntax.w16)) 4 tt) (List._∷_ (ShrSlice.pShrS (Referent.rtF (Referent.fInt Syntax.w32)) 5 tt) (List._∷_ (ShrSlice.pShrS (Referent.rtF (Referent.fInt Syntax.w16)) 6 tt) (List._∷_ (ShrSlice.pShrS (Referent.rtF (Referent.fInt Syntax.w8)) 7 tt) (List._∷_ (MutSlice.pMutS Rec.rt 8 tt) (List._∷_ (ShrSlice.pShrS (Referent.rtF (Referent.fInt Syntax.w16)) 9 tt)
+    List.[])))))))))
 
 abbrev pub r : Kinds.RK 10
-r = Value.rVal record {
-  ty = Declared'.row CallAnswer.the-type;
-  one = Path'.refl;
-  val = Laws'3.val CallAnswer.the-type Laws.the-laws;
-  tells = Laws'3.tells CallAnswer.the-type Laws.the-laws;
-  still = Laws'3.still CallAnswer.the-type Laws.the-copy Exit.yes;
-  row = Rows.whole (Declared'.row CallAnswer.the-type);
-  rd = λ x. x;
-  mk = λ x. x;
-} λ M 𝓤 H A W. record {
-  copies = Laws'3.copy CallAnswer.the-type Laws.the-copy 𝓤 H A W;
-  lawful = Laws'3.lawful CallAnswer.the-type Laws.the-laws 𝓤 H A W;
-  makes = Laws'3.makes CallAnswer.the-type Laws.the-plain 𝓤 H A;
-  in-mem = Local.mem-whole 𝓤 H A W (Declared'.row CallAnswer.the-type);
-  of-mem = Local.whole-mem 𝓤 H A W (Declared'.row CallAnswer.the-type);
-}
+r = Value.rVal record { ty = Declared'.row CallAnswer.the-type; one = Path'.refl; val = Laws'3.val CallAnswer.the-type Laws.the-laws; tells = Laws'3.tells CallAnswer.the-type Laws.the-laws; still = Laws'3.still CallAnswer.the-type Laws.the-copy Exit.yes; row = Rows.whole (Declared'.row CallAnswer.the-type); rd = λ x. x; mk = λ x. x } λ M 𝓤 H A W. record
+    { copies = Laws'3.copy CallAnswer.the-type Laws.the-copy 𝓤 H A W; lawful = Laws'3.lawful CallAnswer.the-type Laws.the-laws 𝓤 H A W; makes = Laws'3.makes CallAnswer.the-type Laws.the-plain 𝓤 H A; in-mem = Local.mem-whole 𝓤 H A W (Declared'.row CallAnswer.the-type); of-mem = Local.whole-mem 𝓤 H A W (Declared'.row CallAnswer.the-type) }
 
 abbrev pub xs : List.List Syntax.Ty
 xs = List._∷_ ty·12 (List._∷_ ty·0 (List._∷_ (Syntax.tyStruct (List._∷_ 38 (List._∷_ 91 (List._∷_ 93 List.[]))) (Syntax.tcons ty·0 (Syntax.tcons (Syntax.tyInt Syntax.w64) Syntax.tnil))) List.[]))
@@ -178,67 +168,26 @@ abbrev pub m : Nat.ℕ
 m = 1
 
 abbrev pub ps·0 : List.List (Kinds.PK 10)
-ps·0 = List._∷_ (ShrSlice.pShrS (Referent.rtF (Referent.fInt Syntax.w16)) 0 tt) (List._∷_ (ShrSlice.pShrS (Referent.rtF (Referent.fInt Syntax.w16)) 1 tt) (List._∷_ (ShrSlice.pShrS (Referent.rtF (Referent.fInt Syntax.w8)) 2 tt) (List._∷_ (ShrSlice.pShrS (Referent.rtF (Referent.fInt Syntax.w16)) 3 tt) (List._∷_
-    (ShrSlice.pShrS (Referent.rtF (Referent.fInt Syntax.w16)) 4 tt) (List._∷_ (ShrSlice.pShrS (Referent.rtF (Referent.fInt Syntax.w32)) 5 tt) (List._∷_ (ShrSlice.pShrS (Referent.rtF (Referent.fInt Syntax.w16)) 6 tt) (List._∷_ (ShrSlice.pShrS (Referent.rtF (Referent.fInt Syntax.w8)) 7 tt) (List._∷_ (MutSlice.pMutS Rec.rt 8 tt)
-    (List._∷_ (ShrSlice.pShrS (Referent.rtF (Referent.fInt Syntax.w16)) 9 tt) List.[])))))))))
+ps·0 = List._∷_ (ShrSlice.pShrS (Referent.rtF (Referent.fInt Syntax.w16)) 0 tt) (List._∷_ (ShrSlice.pShrS (Referent.rtF (Referent.fInt Syntax.w16)) 1 tt) (List._∷_ (ShrSlice.pShrS (Referent.rtF (Referent.fInt Syntax.w8)) 2 tt) (List._∷_ (ShrSlice.pShrS (Referent.rtF (Referent.fInt Syntax.w16)) 3 tt) (List._∷_ (ShrSlice.pShrS (Referent.rtF (Referent.fInt
+    Syntax.w16)) 4 tt) (List._∷_ (ShrSlice.pShrS (Referent.rtF (Referent.fInt Syntax.w32)) 5 tt) (List._∷_ (ShrSlice.pShrS (Referent.rtF (Referent.fInt Syntax.w16)) 6 tt) (List._∷_ (ShrSlice.pShrS (Referent.rtF (Referent.fInt Syntax.w8)) 7 tt) (List._∷_ (MutSlice.pMutS Rec.rt 8 tt) (List._∷_ (ShrSlice.pShrS (Referent.rtF (Referent.fInt Syntax.w16)) 9 tt)
+    List.[])))))))))
 
 abbrev pub r·0 : Kinds.RK 10
-r·0 = Value.rVal record {
-  ty = Declared.row TurnAllReply.the-type;
-  one = Path'.refl;
-  val = Laws''.val TurnAllReply.the-type Laws'.the-laws;
-  tells = Laws''.tells TurnAllReply.the-type Laws'.the-laws;
-  still = Laws''.still TurnAllReply.the-type Laws'.the-copy Exit.yes;
-  row = Rows.whole (Declared.row TurnAllReply.the-type);
-  rd = λ x. x;
-  mk = λ x. x;
-} λ M 𝓤 H A W. record {
-  copies = Laws''.copy TurnAllReply.the-type Laws'.the-copy 𝓤 H A W;
-  lawful = Laws''.lawful TurnAllReply.the-type Laws'.the-laws 𝓤 H A W tt;
-  makes = Laws''.makes TurnAllReply.the-type Laws'.the-plain 𝓤 H A;
-  in-mem = Local.mem-whole 𝓤 H A W (Declared.row TurnAllReply.the-type);
-  of-mem = Local.whole-mem 𝓤 H A W (Declared.row TurnAllReply.the-type);
-}
+r·0 = Value.rVal record { ty = Declared.row TurnAllReply.the-type; one = Path'.refl; val = Laws''.val TurnAllReply.the-type Laws'.the-laws; tells = Laws''.tells TurnAllReply.the-type Laws'.the-laws; still = Laws''.still TurnAllReply.the-type Laws'.the-copy Exit.yes; row = Rows.whole (Declared.row TurnAllReply.the-type); rd = λ x. x; mk = λ x. x } λ M 𝓤 H A
+    W. record { copies = Laws''.copy TurnAllReply.the-type Laws'.the-copy 𝓤 H A W; lawful = Laws''.lawful TurnAllReply.the-type Laws'.the-laws 𝓤 H A W tt; makes = Laws''.makes TurnAllReply.the-type Laws'.the-plain 𝓤 H A; in-mem = Local.mem-whole 𝓤 H A W (Declared.row TurnAllReply.the-type); of-mem = Local.whole-mem 𝓤 H A W (Declared.row TurnAllReply.the-type) }
 
 abbrev pub ps·1 : List.List (Kinds.PK 0)
-ps·1 = List._∷_ (Value.pVal record {
-  ty = Declared.row TurnAllReply.the-type;
-  one = Path'.refl;
-  val = Laws''.val TurnAllReply.the-type Laws'.the-laws;
-  tells = Laws''.tells TurnAllReply.the-type Laws'.the-laws;
-  still = Laws''.still TurnAllReply.the-type Laws'.the-copy Exit.yes;
-  row = Rows.whole (Declared.row TurnAllReply.the-type);
-  rd = λ x. x;
-  mk = λ x. x;
-} λ M 𝓤 H A W. record {
-  copies = Laws''.copy TurnAllReply.the-type Laws'.the-copy 𝓤 H A W;
-  lawful = Laws''.lawful TurnAllReply.the-type Laws'.the-laws 𝓤 H A W tt;
-  makes = Laws''.makes TurnAllReply.the-type Laws'.the-plain 𝓤 H A;
-  in-mem = Local.mem-whole 𝓤 H A W (Declared.row TurnAllReply.the-type);
-  of-mem = Local.whole-mem 𝓤 H A W (Declared.row TurnAllReply.the-type);
-}) List.[]
+ps·1 = List._∷_ (Value.pVal record { ty = Declared.row TurnAllReply.the-type; one = Path'.refl; val = Laws''.val TurnAllReply.the-type Laws'.the-laws; tells = Laws''.tells TurnAllReply.the-type Laws'.the-laws; still = Laws''.still TurnAllReply.the-type Laws'.the-copy Exit.yes; row = Rows.whole (Declared.row TurnAllReply.the-type); rd = λ x. x; mk = λ x. x }
+    λ M 𝓤 H A W. record
+    { copies = Laws''.copy TurnAllReply.the-type Laws'.the-copy 𝓤 H A W; lawful = Laws''.lawful TurnAllReply.the-type Laws'.the-laws 𝓤 H A W tt; makes = Laws''.makes TurnAllReply.the-type Laws'.the-plain 𝓤 H A; in-mem = Local.mem-whole 𝓤 H A W (Declared.row TurnAllReply.the-type); of-mem = Local.whole-mem 𝓤 H A W (Declared.row TurnAllReply.the-type) }) List.[]
 
 abbrev pub r·1 : Kinds.RK 0
-r·1 = Value.rVal record {
-  ty = Declared'.row CallAnswer.the-type;
-  one = Path'.refl;
-  val = Laws'3.val CallAnswer.the-type Laws.the-laws;
-  tells = Laws'3.tells CallAnswer.the-type Laws.the-laws;
-  still = Laws'3.still CallAnswer.the-type Laws.the-copy Exit.yes;
-  row = Rows.whole (Declared'.row CallAnswer.the-type);
-  rd = λ x. x;
-  mk = λ x. x;
-} λ M 𝓤 H A W. record {
-  copies = Laws'3.copy CallAnswer.the-type Laws.the-copy 𝓤 H A W;
-  lawful = Laws'3.lawful CallAnswer.the-type Laws.the-laws 𝓤 H A W;
-  makes = Laws'3.makes CallAnswer.the-type Laws.the-plain 𝓤 H A;
-  in-mem = Local.mem-whole 𝓤 H A W (Declared'.row CallAnswer.the-type);
-  of-mem = Local.whole-mem 𝓤 H A W (Declared'.row CallAnswer.the-type);
-}
+r·1 = Value.rVal record { ty = Declared'.row CallAnswer.the-type; one = Path'.refl; val = Laws'3.val CallAnswer.the-type Laws.the-laws; tells = Laws'3.tells CallAnswer.the-type Laws.the-laws; still = Laws'3.still CallAnswer.the-type Laws.the-copy Exit.yes; row = Rows.whole (Declared'.row CallAnswer.the-type); rd = λ x. x; mk = λ x. x } λ M 𝓤 H A W. record
+    { copies = Laws'3.copy CallAnswer.the-type Laws.the-copy 𝓤 H A W; lawful = Laws'3.lawful CallAnswer.the-type Laws.the-laws 𝓤 H A W; makes = Laws'3.makes CallAnswer.the-type Laws.the-plain 𝓤 H A; in-mem = Local.mem-whole 𝓤 H A W (Declared'.row CallAnswer.the-type); of-mem = Local.whole-mem 𝓤 H A W (Declared'.row CallAnswer.the-type) }
 
 abbrev pub hs : List.List Syntax.Home
-hs = List._∷_ Syntax.valueLocal (List._∷_ Syntax.valueLocal (List._∷_ Syntax.valueLocal (List._∷_ Syntax.valueLocal (List._∷_ Syntax.valueLocal (List._∷_ Syntax.valueLocal (List._∷_ Syntax.valueLocal (List._∷_ Syntax.valueLocal (List._∷_ Syntax.valueLocal (List._∷_ Syntax.valueLocal (List._∷_ Syntax.valueLocal (List._∷_ Syntax.valueLocal
-    (List._∷_ Syntax.valueLocal (List._∷_ Syntax.valueLocal List.[])))))))))))))
+hs = List._∷_ Syntax.valueLocal (List._∷_ Syntax.valueLocal (List._∷_ Syntax.valueLocal (List._∷_ Syntax.valueLocal (List._∷_ Syntax.valueLocal (List._∷_ Syntax.valueLocal (List._∷_ Syntax.valueLocal (List._∷_ Syntax.valueLocal (List._∷_ Syntax.valueLocal (List._∷_ Syntax.valueLocal (List._∷_ Syntax.valueLocal (List._∷_ Syntax.valueLocal (List._∷_
+    Syntax.valueLocal (List._∷_ Syntax.valueLocal List.[])))))))))))))
 
 abbrev b0 : Syntax.Body
 b0 = Syntax.assign (Syntax.place 12 List.[]) (Syntax.addrOf (Syntax.place 9 (List._∷_ (Syntax.field 0) (List._∷_ (Syntax.deref Rec.mir) List.[]))))
@@ -274,236 +223,89 @@ body = b8
 abbrev pub Claims : Type 1
 Claims = Kinds.In 10 ps·0 × Kinds.Out 10 ps·0 r·0 × Kinds.In 0 ps·1 × Kinds.Out 0 ps·1 r·1
 
-abbrev pub t0 : List.List Row.Entry
-t0 = List._∷_ (0, row·0) (List._∷_ (1, row·1) (List._∷_ (2, row·2) (List._∷_ (3, row·3) (List._∷_ (4, row·4) (List._∷_ (5, row·5) (List._∷_ (6, row·6) (List._∷_ (7, row·7) (List._∷_ (8, row·8) (List._∷_ (9, row·9) (List._∷_ (10, row·10) (List._∷_ (11, row·11) (List._∷_ (12, row·12) (List._∷_ (13, row·13) List.[])))))))))))))
-
-abbrev pub t1 : List.List Row.Entry
-t1 = List._∷_ (0, row·14) (List._∷_ (1, row·1) (List._∷_ (2, row·2) (List._∷_ (3, row·3) (List._∷_ (4, row·4) (List._∷_ (5, row·5) (List._∷_ (6, row·6) (List._∷_ (7, row·7) (List._∷_ (8, row·8) (List._∷_ (9, row·9) (List._∷_ (10, row·10) (List._∷_ (11, row·11) (List._∷_ (12, row·12) (List._∷_ (13, row·13) List.[])))))))))))))
-
-abbrev pub t2 : List.List Row.Entry
-t2 = List._∷_ (0, row·0) (List._∷_ (1, row·1) (List._∷_ (2, row·2) (List._∷_ (3, row·3) (List._∷_ (4, row·4) (List._∷_ (5, row·5) (List._∷_ (6, row·6) (List._∷_ (7, row·7) (List._∷_ (8, row·8) (List._∷_ (9, row·15) (List._∷_ (10, row·10) (List._∷_ (11, row·11) (List._∷_ (12, row·16) (List._∷_ (13, row·13) List.[])))))))))))))
-
-abbrev pub t3 : List.List Row.Entry
-t3 = List._∷_ (0, row·0) (List._∷_ (1, row·1) (List._∷_ (2, row·2) (List._∷_ (3, row·3) (List._∷_ (4, row·4) (List._∷_ (5, row·5) (List._∷_ (6, row·6) (List._∷_ (7, row·7) (List._∷_ (8, row·8) (List._∷_ (9, row·15) (List._∷_ (10, row·10) (List._∷_ (11, row·11) (List._∷_ (12, row·12) (List._∷_ (13, row·17) List.[])))))))))))))
-
-abbrev pub t4 : List.List Row.Entry
-t4 = List._∷_ (0, row·0) (List._∷_ (1, row·1) (List._∷_ (2, row·2) (List._∷_ (3, row·3) (List._∷_ (4, row·4) (List._∷_ (5, row·5) (List._∷_ (6, row·6) (List._∷_ (7, row·7) (List._∷_ (8, row·8) (List._∷_ (9, row·15) (List._∷_ (10, row·10) (List._∷_ (11, row·18) (List._∷_ (12, row·12) (List._∷_ (13, row·19) List.[])))))))))))))
-
-abbrev pub t5 : List.List Row.Entry
-t5 = List._∷_ (0, row·0) (List._∷_ (1, row·1) (List._∷_ (2, row·2) (List._∷_ (3, row·3) (List._∷_ (4, row·4) (List._∷_ (5, row·5) (List._∷_ (6, row·6) (List._∷_ (7, row·7) (List._∷_ (8, row·8) (List._∷_ (9, row·9) (List._∷_ (10, row·10) (List._∷_ (11, row·18) (List._∷_ (12, row·12) (List._∷_ (13, row·13) List.[])))))))))))))
-
-abbrev pub t6 : List.List Row.Entry
-t6 = List._∷_ (0, row·14) (List._∷_ (1, row·1) (List._∷_ (2, row·2) (List._∷_ (3, row·3) (List._∷_ (4, row·4) (List._∷_ (5, row·5) (List._∷_ (6, row·6) (List._∷_ (7, row·7) (List._∷_ (8, row·8) (List._∷_ (9, row·9) (List._∷_ (10, row·10) (List._∷_ (11, row·18) (List._∷_ (12, row·12) (List._∷_ (13, row·13) List.[])))))))))))))
-
 abbrev pub T0 : Row.Cx
-T0 = record { locals = t0; slots = List.[] }
+T0 = record
+    { locals = List._∷_ (0, row·0) (List._∷_ (1, row·1) (List._∷_ (2, row·2) (List._∷_ (3, row·3) (List._∷_ (4, row·4) (List._∷_ (5, row·5) (List._∷_ (6, row·6) (List._∷_ (7, row·7) (List._∷_ (8, row·8) (List._∷_ (9, row·9) (List._∷_ (10, row·10) (List._∷_ (11, row·11) (List._∷_ (12, row·12) (List._∷_ (13, row·13) List.[]))))))))))))); slots = List.[] }
 
 abbrev pub T1 : Row.Cx
-T1 = record { locals = t1; slots = List.[] }
-
-abbrev pub T2 : Row.Cx
-T2 = record { locals = t0; slots = List.[] }
-
-abbrev pub T3 : Row.Cx
-T3 = record { locals = t0; slots = List.[] }
-
-abbrev pub T4 : Row.Cx
-T4 = record { locals = t0; slots = List.[] }
-
-abbrev pub T5 : Row.Cx
-T5 = record { locals = t0; slots = List.[] }
-
-abbrev pub T6 : Row.Cx
-T6 = record { locals = t0; slots = List.[] }
-
-abbrev pub T7 : Row.Cx
-T7 = record { locals = t0; slots = List.[] }
-
-abbrev pub T8 : Row.Cx
-T8 = record { locals = t0; slots = List.[] }
-
-abbrev pub T9 : Row.Cx
-T9 = record { locals = t0; slots = List.[] }
-
-abbrev pub T10 : Row.Cx
-T10 = record { locals = t0; slots = List.[] }
+T1 = record
+    { locals = List._∷_ (0, row·14) (List._∷_ (1, row·1) (List._∷_ (2, row·2) (List._∷_ (3, row·3) (List._∷_ (4, row·4) (List._∷_ (5, row·5) (List._∷_ (6, row·6) (List._∷_ (7, row·7) (List._∷_ (8, row·8) (List._∷_ (9, row·9) (List._∷_ (10, row·10) (List._∷_ (11, row·11) (List._∷_ (12, row·12) (List._∷_ (13, row·13) List.[]))))))))))))); slots = List.[] }
 
 abbrev pub T12 : Row.Cx
-T12 = record { locals = t2; slots = List.[] }
+T12 = record
+    { locals = List._∷_ (0, row·0) (List._∷_ (1, row·1) (List._∷_ (2, row·2) (List._∷_ (3, row·3) (List._∷_ (4, row·4) (List._∷_ (5, row·5) (List._∷_ (6, row·6) (List._∷_ (7, row·7) (List._∷_ (8, row·8) (List._∷_ (9, row·15) (List._∷_ (10, row·10) (List._∷_ (11, row·11) (List._∷_ (12, row·16) (List._∷_ (13, row·13) List.[]))))))))))))); slots = List.[] }
 
 abbrev pub T13 : Row.Cx
-T13 = record { locals = t3; slots = List.[] }
+T13 = record
+    { locals = List._∷_ (0, row·0) (List._∷_ (1, row·1) (List._∷_ (2, row·2) (List._∷_ (3, row·3) (List._∷_ (4, row·4) (List._∷_ (5, row·5) (List._∷_ (6, row·6) (List._∷_ (7, row·7) (List._∷_ (8, row·8) (List._∷_ (9, row·15) (List._∷_ (10, row·10) (List._∷_ (11, row·11) (List._∷_ (12, row·12) (List._∷_ (13, row·17) List.[]))))))))))))); slots = List.[] }
 
 abbrev pub T14 : Row.Cx
-T14 = record { locals = t4; slots = List.[] }
+T14 = record
+    { locals = List._∷_ (0, row·0) (List._∷_ (1, row·1) (List._∷_ (2, row·2) (List._∷_ (3, row·3) (List._∷_ (4, row·4) (List._∷_ (5, row·5) (List._∷_ (6, row·6) (List._∷_ (7, row·7) (List._∷_ (8, row·8) (List._∷_ (9, row·15) (List._∷_ (10, row·10) (List._∷_ (11, row·18) (List._∷_ (12, row·12) (List._∷_ (13, row·19) List.[]))))))))))))); slots = List.[] }
 
 abbrev pub T16 : Row.Cx
-T16 = record { locals = t5; slots = List.[] }
+T16 = record
+    { locals = List._∷_ (0, row·0) (List._∷_ (1, row·1) (List._∷_ (2, row·2) (List._∷_ (3, row·3) (List._∷_ (4, row·4) (List._∷_ (5, row·5) (List._∷_ (6, row·6) (List._∷_ (7, row·7) (List._∷_ (8, row·8) (List._∷_ (9, row·9) (List._∷_ (10, row·10) (List._∷_ (11, row·18) (List._∷_ (12, row·12) (List._∷_ (13, row·13) List.[]))))))))))))); slots = List.[] }
 
 abbrev pub T18 : Row.Cx
-T18 = record { locals = t6; slots = List.[] }
+T18 = record
+    { locals = List._∷_ (0, row·14) (List._∷_ (1, row·1) (List._∷_ (2, row·2) (List._∷_ (3, row·3) (List._∷_ (4, row·4) (List._∷_ (5, row·5) (List._∷_ (6, row·6) (List._∷_ (7, row·7) (List._∷_ (8, row·8) (List._∷_ (9, row·9) (List._∷_ (10, row·10) (List._∷_ (11, row·18) (List._∷_ (12, row·12) (List._∷_ (13, row·13) List.[]))))))))))))); slots = List.[] }
 
-abbrev pub T19 : Row.Cx
-T19 = record { locals = t1; slots = List.[] }
+abbrev args·0 : ArgsT ps·0 (T13 .locals)
+args·0 = (record { pos = 1; ty = ty·4; ref = λ x. x }, (record { pos = 2; ty = ty·5; ref = λ x. x }, (record { pos = 3; ty = ty·2; ref = λ x. x }, (record { pos = 4; ty = ty·6; ref = λ x. x }, (record { pos = 5; ty = ty·7; ref = λ x. x }, (record { pos = 6; ty = ty·8; ref = λ x. x }, (record { pos = 7; ty = ty·9; ref = λ x. x }, (record { pos = 8; ty = ty·3; ref = λ x. x }, (record { pos = 13; ty = ty·0; ref = λ x. x }, (record { pos = 10; ty = ty·10; ref = λ x. x }, tt))))))))))
 
 abbrev pub O0 : Typed.Outs
 O0 = record { next = Option.none; exits = List.[]; returns = Option.some T1 }
 
 module _ (claims· : Claims) where
-  abbrev s0 : Typed.Gives T0 T2
-  s0 = Know.k-shs-known (Referent.fInt Syntax.w16) T0 1 0 ty·4 Row.off 0 λ x. x
-
-  abbrev s1 : Typed.Gives T2 T3
-  s1 = Know.k-shs-known (Referent.fInt Syntax.w16) T2 2 1 ty·5 Row.off 0 λ x. x
-
-  abbrev s2 : Typed.Gives T3 T4
-  s2 = Know.k-shs-known (Referent.fInt Syntax.w8) T3 3 2 ty·2 Row.off 0 λ x. x
-
-  abbrev s3 : Typed.Gives T4 T5
-  s3 = Know.k-shs-known (Referent.fInt Syntax.w16) T4 4 3 ty·6 Row.off 0 λ x. x
-
-  abbrev s4 : Typed.Gives T5 T6
-  s4 = Know.k-shs-known (Referent.fInt Syntax.w16) T5 5 4 ty·7 Row.off 0 λ x. x
-
-  abbrev s5 : Typed.Gives T6 T7
-  s5 = Know.k-shs-known (Referent.fInt Syntax.w32) T6 6 5 ty·8 Row.off 0 λ x. x
-
-  abbrev s6 : Typed.Gives T7 T8
-  s6 = Know.k-shs-known (Referent.fInt Syntax.w16) T7 7 6 ty·9 Row.off 0 λ x. x
-
-  abbrev s7 : Typed.Gives T8 T9
-  s7 = Know.k-shs-known (Referent.fInt Syntax.w8) T8 8 7 ty·3 Row.off 0 λ x. x
-
-  abbrev s8 : Typed.Gives T9 T10
-  s8 = Know.k-shs-known (Referent.fInt Syntax.w16) T9 10 9 ty·10 Row.off 0 λ x. x
-
-  abbrev s10 : Typed.Gives T10 T12
-  s10 = Relend.k-sl-relend Rec.rt T10 9 12 8 10 ty·1 ty·0 Row.off λ x. x
+  abbrev s10 : Typed.Gives T0 T12
+  s10 = Relend.k-sl-relend Rec.rt T0 9 12 8 10 ty·1 ty·0 Row.off λ x. x
 
   abbrev s11 : Typed.Asks T12 T13
   s11 = Relend.k-sl-aggregate Rec.rt (Relend.asMut Rec.rt) T12 12 13 10 ty·0 ty·0 (λ x. x) (Scalar.oFld 9 (List._∷_ (Syntax.field 1) List.[]) (Syntax.tyInt Syntax.w64) 8 λ v. Shared.lenV (v .0))
 
   abbrev s12 : Typed.Both T13 T14
-  s12 = Call.callB ps·0 r·0 (claims· .0) (claims· .1) T13 (
-    record { pos = 1; ty = Syntax.tyRef (Syntax.named 0) Syntax.imm (Syntax.tyInt Syntax.w16); ref = λ x. x },
-    (
-      record { pos = 2; ty = Syntax.tyRef (Syntax.named 1) Syntax.imm (Syntax.tyInt Syntax.w16); ref = λ x. x },
-      (
-        record {
-          pos = 3;
-          ty = Syntax.tyRef (Syntax.named 2) Syntax.imm (Syntax.tyInt Syntax.w8);
-          ref = λ x. x;
-        },
-        (
-          record { pos = 4; ty = Syntax.tyRef (Syntax.named 3) Syntax.imm (Syntax.tyInt Syntax.w16); ref = λ x. x },
-          (
-            record { pos = 5; ty = Syntax.tyRef (Syntax.named 4) Syntax.imm (Syntax.tyInt Syntax.w16); ref = λ x. x },
-            (
-              record {
-                pos = 6;
-                ty = Syntax.tyRef (Syntax.named 5) Syntax.imm (Syntax.tyInt Syntax.w32);
-                ref = λ x. x;
-              },
-              (
-                record { pos = 7; ty = Syntax.tyRef (Syntax.named 6) Syntax.imm (Syntax.tyInt Syntax.w16); ref = λ x. x },
-                (
-                  record { pos = 8; ty = Syntax.tyRef (Syntax.named 7) Syntax.imm (Syntax.tyInt Syntax.w8); ref = λ x. x },
-                  (
-                    record {
-                      pos = 13;
-                      ty = Syntax.tyRef
-                          Syntax.erased Syntax.mut Rec.behind;
-                      ref = λ x. x;
-                    },
-                    (record { pos = 10; ty = Syntax.tyRef (Syntax.named 9) Syntax.imm (Syntax.tyInt Syntax.w16); ref = λ x. x }, tt),
-                  ),
-                ),
-              ),
-            ),
-          ),
-        ),
-      ),
-    ),
-  ) 11 (List._∷_ 0 (List._∷_ 1 (List._∷_ 2 (List._∷_ 3 (List._∷_ 4 (List._∷_ 5 (List._∷_ 6 (List._∷_ 7 (List._∷_ 10 (List._∷_ 9 List.[])))))))))) ty·12
+  s12 = Call.callB ps·0 r·0 (claims· .0) (claims· .1) T13 args·0 11 (List._∷_ 0 (List._∷_ 1 (List._∷_ 2 (List._∷_ 3 (List._∷_ 4 (List._∷_ 5 (List._∷_ 6 (List._∷_ 7 (List._∷_ 10 (List._∷_ 9 List.[])))))))))) ty·12
 
   abbrev s14 : Typed.Both T14 T16
   s14 = Relend.k-back-sl Rec.rt T14 13 9 8 10 ty·1 ty·0 Row.off (λ x. x) λ x. x
 
   abbrev s16 : Typed.Both T16 T18
-  s16 = Call.callB ps·1 r·1 (claims· .2) (claims· .3) T16 (
-    record { pos = 11; st = List.[]; d = 0; at = λ x. x },
-    tt,
-  ) 0 List.[] ty·11
+  s16 = Call.callB ps·1 r·1 (claims· .2) (claims· .3) T16 (record { pos = 11; st = List.[]; d = 0; at = λ x. x }, tt) 0 List.[] ty·11
 
-  abbrev s17 : Typed.Mo T18 → Typed.Mo T19
+  abbrev s17 : Typed.Mo T18 → Typed.Mo T1
   s17 = Scalar.n-room T18 11 ty·12
 
   module _ (Pre· : (κs : Lifetimes.Lfts 10) → Kinds.Dens κs ps → Type 0) (Post· : (κs : Lifetimes.Lfts 10) → (a : Kinds.Dens κs ps) → Kinds.Plain 10 ps r κs) where
     module _ (M : Type 1) where
       abbrev pub Closed : Type 2
-      Closed = (𝓤 : URA.URA M) (H : Wp.Heap 𝓤) (A : Atoms.Atoms 𝓤) (W : Kit.Given 𝓤 H A) (𝓣 : Wp.Tables 𝓤 H) (known0 : Plain.Known 𝓤 H A W 𝓣 10 ps·0 r·0 (claims· .0) (claims· .1) "conductor::calls::turn_all") (known1 : Plain.Known 𝓤 H A W 𝓣 0 ps·1 r·1 (claims· .2) (claims· .3) "board::answers::of_turn_all") → Statement.Triple 𝓤 (Wp.WpFn 𝓤 H (𝓣 .C)
-          (𝓣 .Λ) (Function.fnOf 10 ps r xs m hs body)) (Function.plainOf 𝓤 H A 10 ps r Pre· Post·)
+      Closed = (𝓤 : URA.URA M) (H : Wp.Heap 𝓤) (A : Atoms.Atoms 𝓤) (W : Kit.Given 𝓤 H A) (𝓣 : Wp.Tables 𝓤 H) (known0 : Plain.Known 𝓤 H A W 𝓣 10 ps·0 r·0 (claims· .0) (claims· .1) "conductor::calls::turn_all") (known1 : Plain.Known 𝓤 H A W 𝓣 0 ps·1 r·1 (claims· .2) (claims· .3) "board::answers::of_turn_all") → Statement.Triple 𝓤 (Wp.WpFn 𝓤 H (𝓣 .C) (𝓣 .Λ)
+          (Function.fnOf 10 ps r xs m hs body)) (Function.plainOf 𝓤 H A 10 ps r Pre· Post·)
 
     module _ where
-      abbrev at0 : Typed.TF T19 O0
+      abbrev at0 : Typed.TF T1 O0
       at0 = Typed.atRet O0
 
       abbrev at1 : Typed.TF T18 O0
-      at1 = λ Ψ. Typed.pass T18 T19 s17 (at0 Ψ)
+      at1 = λ Ψ. Typed.pass T18 T1 s17 (at0 Ψ)
 
       abbrev at2 : Typed.TF T16 O0
       at2 = λ Ψ. Typed.both s16 (at1 Ψ)
 
-      abbrev at3 : Typed.TF T16 O0
-      at3 = λ Ψ. at2 Ψ
-
       abbrev at4 : Typed.TF T14 O0
-      at4 = λ Ψ. Typed.both s14 (at3 Ψ)
-
-      abbrev at5 : Typed.TF T14 O0
-      at5 = λ Ψ. at4 Ψ
+      at4 = λ Ψ. Typed.both s14 (at2 Ψ)
 
       abbrev at6 : Typed.TF T13 O0
-      at6 = λ Ψ. Typed.both s12 (at5 Ψ)
+      at6 = λ Ψ. Typed.both s12 (at4 Ψ)
 
       abbrev at7 : Typed.TF T12 O0
       at7 = λ Ψ. Typed.ask s11 (at6 Ψ)
 
-      abbrev at8 : Typed.TF T10 O0
+      abbrev at8 : Typed.TF T0 O0
       at8 = λ Ψ. Typed.give s10 (at7 Ψ)
 
-      abbrev at9 : Typed.TF T10 O0
-      at9 = λ Ψ. at8 Ψ
-
-      abbrev at10 : Typed.TF T9 O0
-      at10 = λ Ψ. Typed.give s8 (at9 Ψ)
-
-      abbrev at11 : Typed.TF T8 O0
-      at11 = λ Ψ. Typed.give s7 (at10 Ψ)
-
-      abbrev at12 : Typed.TF T7 O0
-      at12 = λ Ψ. Typed.give s6 (at11 Ψ)
-
-      abbrev at13 : Typed.TF T6 O0
-      at13 = λ Ψ. Typed.give s5 (at12 Ψ)
-
-      abbrev at14 : Typed.TF T5 O0
-      at14 = λ Ψ. Typed.give s4 (at13 Ψ)
-
-      abbrev at15 : Typed.TF T4 O0
-      at15 = λ Ψ. Typed.give s3 (at14 Ψ)
-
-      abbrev at16 : Typed.TF T3 O0
-      at16 = λ Ψ. Typed.give s2 (at15 Ψ)
-
-      abbrev at17 : Typed.TF T2 O0
-      at17 = λ Ψ. Typed.give s1 (at16 Ψ)
-
-      abbrev at18 : Typed.TF T0 O0
-      at18 = λ Ψ. Typed.give s0 (at17 Ψ)
-
       abbrev pub Φ : Typed.TF T0 O0
-      Φ = at18
+      Φ = at8
 
       module _ {M : Type 1} (𝓤 : URA.URA M) (H : Wp.Heap 𝓤) (A : Atoms.Atoms 𝓤) (W : Kit.Given 𝓤 H A) (𝓣 : Wp.Tables 𝓤 H) where
         abbrev Knowns : Type 1
@@ -511,292 +313,62 @@ module _ (claims· : Claims) where
 
       module _ (κs : Lifetimes.Lfts 10) (qs : Lifetimes.Shares 10) where
         abbrev g2 : List.List Row.Entry
-        g2 = List._∷_ (
-          0,
-          Rows.any-gone ty·11,
-        ) (List._∷_ (
-          1,
-          Rows.sslice (Referent.rtF (Referent.fInt Syntax.w16)) ty·4 0,
-        ) (List._∷_ (
-          2,
-          Rows.sslice (Referent.rtF (Referent.fInt Syntax.w16)) ty·5 1,
-        ) (List._∷_ (
-          3,
-          Rows.sslice (Referent.rtF (Referent.fInt Syntax.w8)) ty·2 2,
-        ) (List._∷_ (
-          4,
-          Rows.sslice (Referent.rtF (Referent.fInt Syntax.w16)) ty·6 3,
-        ) (List._∷_ (
-          5,
-          Rows.sslice (Referent.rtF (Referent.fInt Syntax.w16)) ty·7 4,
-        ) (List._∷_ (
-          6,
-          Rows.sslice (Referent.rtF (Referent.fInt Syntax.w32)) ty·8 5,
-        ) (List._∷_ (
-          7,
-          Rows.sslice (Referent.rtF (Referent.fInt Syntax.w16)) ty·9 6,
-        ) (List._∷_ (
-          8,
-          Rows.sslice (Referent.rtF (Referent.fInt Syntax.w8)) ty·3 7,
-        ) (List._∷_ (
-          9,
-          Relend.mslice-owed Rec.rt ty·1 8 10 (Row.lease (κs .1 .1 .1 .1 .1 .1 .1 .1 .0) (qs .1 .1 .1 .1 .1 .1 .1 .1 .0)),
-        ) (List._∷_ (
-          10,
-          Rows.sslice (Referent.rtF (Referent.fInt Syntax.w16)) ty·10 9,
-        ) (List._∷_ (
-          11,
-          Rows.any-gone ty·12,
-        ) (List._∷_ (
-          12,
-          Relend.msptr Rec.rt ty·0 10,
-        ) (List._∷_ (
-          13,
-          Rows.any-gone (Syntax.tyStruct (List._∷_ 38 (List._∷_ 91 (List._∷_ 93 List.[]))) (Syntax.tcons ty·0 (Syntax.tcons (Syntax.tyInt Syntax.w64) Syntax.tnil))),
-        ) List.[])))))))))))))
+        g2 = List._∷_ (0, Rows.any-gone ty·11) (List._∷_ (1, Rows.sslice (Referent.rtF (Referent.fInt Syntax.w16)) ty·4 0) (List._∷_ (2, Rows.sslice (Referent.rtF (Referent.fInt Syntax.w16)) ty·5 1) (List._∷_ (3, Rows.sslice (Referent.rtF (Referent.fInt Syntax.w8)) ty·2 2) (List._∷_ (4, Rows.sslice (Referent.rtF (Referent.fInt Syntax.w16)) ty·6 3) (List._∷_
+            (5, Rows.sslice (Referent.rtF (Referent.fInt Syntax.w16)) ty·7 4) (List._∷_ (6, Rows.sslice (Referent.rtF (Referent.fInt Syntax.w32)) ty·8 5) (List._∷_ (7, Rows.sslice (Referent.rtF (Referent.fInt Syntax.w16)) ty·9 6) (List._∷_ (8, Rows.sslice (Referent.rtF (Referent.fInt Syntax.w8)) ty·3 7) (List._∷_
+            (9, Relend.mslice-owed Rec.rt ty·1 8 10 (Row.lease (κs .1 .1 .1 .1 .1 .1 .1 .1 .0) (qs .1 .1 .1 .1 .1 .1 .1 .1 .0))) (List._∷_ (10, Rows.sslice (Referent.rtF (Referent.fInt Syntax.w16)) ty·10 9) (List._∷_ (11, Rows.any-gone ty·12) (List._∷_ (12, Relend.msptr Rec.rt ty·0 10) (List._∷_
+            (13, Rows.any-gone (Syntax.tyStruct (List._∷_ 38 (List._∷_ 91 (List._∷_ 93 List.[]))) (Syntax.tcons ty·0 (Syntax.tcons (Syntax.tyInt Syntax.w64) Syntax.tnil)))) List.[])))))))))))))
 
         abbrev g3 : List.List Row.Entry
-        g3 = List._∷_ (
-          0,
-          Rows.any-gone ty·11,
-        ) (List._∷_ (
-          1,
-          Rows.sslice (Referent.rtF (Referent.fInt Syntax.w16)) ty·4 0,
-        ) (List._∷_ (
-          2,
-          Rows.sslice (Referent.rtF (Referent.fInt Syntax.w16)) ty·5 1,
-        ) (List._∷_ (
-          3,
-          Rows.sslice (Referent.rtF (Referent.fInt Syntax.w8)) ty·2 2,
-        ) (List._∷_ (
-          4,
-          Rows.sslice (Referent.rtF (Referent.fInt Syntax.w16)) ty·6 3,
-        ) (List._∷_ (
-          5,
-          Rows.sslice (Referent.rtF (Referent.fInt Syntax.w16)) ty·7 4,
-        ) (List._∷_ (
-          6,
-          Rows.sslice (Referent.rtF (Referent.fInt Syntax.w32)) ty·8 5,
-        ) (List._∷_ (
-          7,
-          Rows.sslice (Referent.rtF (Referent.fInt Syntax.w16)) ty·9 6,
-        ) (List._∷_ (
-          8,
-          Rows.sslice (Referent.rtF (Referent.fInt Syntax.w8)) ty·3 7,
-        ) (List._∷_ (
-          9,
-          Relend.mslice-owed Rec.rt ty·1 8 10 (Row.lease (κs .1 .1 .1 .1 .1 .1 .1 .1 .0) (qs .1 .1 .1 .1 .1 .1 .1 .1 .0)),
-        ) (List._∷_ (
-          10,
-          Rows.sslice (Referent.rtF (Referent.fInt Syntax.w16)) ty·10 9,
-        ) (List._∷_ (
-          11,
-          Rows.any-gone ty·12,
-        ) (List._∷_ (
-          12,
-          Rows.any-gone ty·0,
-        ) (List._∷_ (
-          13,
-          Mut.mslice Rec.rt ty·0 10,
-        ) List.[])))))))))))))
+        g3 = List._∷_ (0, Rows.any-gone ty·11) (List._∷_ (1, Rows.sslice (Referent.rtF (Referent.fInt Syntax.w16)) ty·4 0) (List._∷_ (2, Rows.sslice (Referent.rtF (Referent.fInt Syntax.w16)) ty·5 1) (List._∷_ (3, Rows.sslice (Referent.rtF (Referent.fInt Syntax.w8)) ty·2 2) (List._∷_ (4, Rows.sslice (Referent.rtF (Referent.fInt Syntax.w16)) ty·6 3) (List._∷_
+            (5, Rows.sslice (Referent.rtF (Referent.fInt Syntax.w16)) ty·7 4) (List._∷_ (6, Rows.sslice (Referent.rtF (Referent.fInt Syntax.w32)) ty·8 5) (List._∷_ (7, Rows.sslice (Referent.rtF (Referent.fInt Syntax.w16)) ty·9 6) (List._∷_ (8, Rows.sslice (Referent.rtF (Referent.fInt Syntax.w8)) ty·3 7) (List._∷_
+            (9, Relend.mslice-owed Rec.rt ty·1 8 10 (Row.lease (κs .1 .1 .1 .1 .1 .1 .1 .1 .0) (qs .1 .1 .1 .1 .1 .1 .1 .1 .0))) (List._∷_ (10, Rows.sslice (Referent.rtF (Referent.fInt Syntax.w16)) ty·10 9) (List._∷_ (11, Rows.any-gone ty·12) (List._∷_ (12, Rows.any-gone ty·0) (List._∷_ (13, Mut.mslice Rec.rt ty·0 10) List.[])))))))))))))
 
         abbrev g4 : List.List Row.Entry
-        g4 = List._∷_ (
-          0,
-          Rows.any-gone ty·11,
-        ) (List._∷_ (
-          1,
-          Rows.sslice (Referent.rtF (Referent.fInt Syntax.w16)) ty·4 0,
-        ) (List._∷_ (
-          2,
-          Rows.sslice (Referent.rtF (Referent.fInt Syntax.w16)) ty·5 1,
-        ) (List._∷_ (
-          3,
-          Rows.sslice (Referent.rtF (Referent.fInt Syntax.w8)) ty·2 2,
-        ) (List._∷_ (
-          4,
-          Rows.sslice (Referent.rtF (Referent.fInt Syntax.w16)) ty·6 3,
-        ) (List._∷_ (
-          5,
-          Rows.sslice (Referent.rtF (Referent.fInt Syntax.w16)) ty·7 4,
-        ) (List._∷_ (
-          6,
-          Rows.sslice (Referent.rtF (Referent.fInt Syntax.w32)) ty·8 5,
-        ) (List._∷_ (
-          7,
-          Rows.sslice (Referent.rtF (Referent.fInt Syntax.w16)) ty·9 6,
-        ) (List._∷_ (
-          8,
-          Rows.sslice (Referent.rtF (Referent.fInt Syntax.w8)) ty·3 7,
-        ) (List._∷_ (
-          9,
-          Relend.mslice-owed Rec.rt ty·1 8 10 (Row.lease (κs .1 .1 .1 .1 .1 .1 .1 .1 .0) (qs .1 .1 .1 .1 .1 .1 .1 .1 .0)),
-        ) (List._∷_ (
-          10,
-          Rows.sslice (Referent.rtF (Referent.fInt Syntax.w16)) ty·10 9,
-        ) (List._∷_ (11, Rows.whole (Declared.row TurnAllReply.the-type)) (List._∷_ (
-          12,
-          Rows.any-gone ty·0,
-        ) (List._∷_ (
-          13,
-          Mut.msleft Rec.rt ty·0,
-        ) List.[])))))))))))))
+        g4 = List._∷_ (0, Rows.any-gone ty·11) (List._∷_ (1, Rows.sslice (Referent.rtF (Referent.fInt Syntax.w16)) ty·4 0) (List._∷_ (2, Rows.sslice (Referent.rtF (Referent.fInt Syntax.w16)) ty·5 1) (List._∷_ (3, Rows.sslice (Referent.rtF (Referent.fInt Syntax.w8)) ty·2 2) (List._∷_ (4, Rows.sslice (Referent.rtF (Referent.fInt Syntax.w16)) ty·6 3) (List._∷_
+            (5, Rows.sslice (Referent.rtF (Referent.fInt Syntax.w16)) ty·7 4) (List._∷_ (6, Rows.sslice (Referent.rtF (Referent.fInt Syntax.w32)) ty·8 5) (List._∷_ (7, Rows.sslice (Referent.rtF (Referent.fInt Syntax.w16)) ty·9 6) (List._∷_ (8, Rows.sslice (Referent.rtF (Referent.fInt Syntax.w8)) ty·3 7) (List._∷_
+            (9, Relend.mslice-owed Rec.rt ty·1 8 10 (Row.lease (κs .1 .1 .1 .1 .1 .1 .1 .1 .0) (qs .1 .1 .1 .1 .1 .1 .1 .1 .0))) (List._∷_ (10, Rows.sslice (Referent.rtF (Referent.fInt Syntax.w16)) ty·10 9) (List._∷_ (11, Rows.whole (Declared.row TurnAllReply.the-type)) (List._∷_ (12, Rows.any-gone ty·0) (List._∷_ (13, Mut.msleft Rec.rt ty·0)
+            List.[])))))))))))))
+
+        abbrev slots·0 : List.List Row.Life
+        slots·0 = List._∷_ (Row.lease (κs .0) (qs .0)) (List._∷_ (Row.lease (κs .1 .0) (qs .1 .0)) (List._∷_ (Row.lease (κs .1 .1 .0) (qs .1 .1 .0)) (List._∷_ (Row.lease (κs .1 .1 .1 .0) (qs .1 .1 .1 .0)) (List._∷_ (Row.lease (κs .1 .1 .1 .1 .0) (qs .1 .1 .1 .1 .0)) (List._∷_ (Row.lease (κs .1 .1 .1 .1 .1 .0) (qs .1 .1 .1 .1 .1 .0)) (List._∷_ (Row.lease (κs
+            .1 .1 .1 .1 .1 .1 .0) (qs .1 .1 .1 .1 .1 .1 .0)) (List._∷_ (Row.lease (κs .1 .1 .1 .1 .1 .1 .1 .0) (qs .1 .1 .1 .1 .1 .1 .1 .0)) (List._∷_ (Row.lease (κs .1 .1 .1 .1 .1 .1 .1 .1 .0) (qs .1 .1 .1 .1 .1 .1 .1 .1 .0)) (List._∷_ (Row.lease (κs .1 .1 .1 .1 .1 .1 .1 .1 .1 .0) (qs .1 .1 .1 .1 .1 .1 .1 .1 .1 .0)) (List._∷_ Row.off List.[]))))))))))
+
+        abbrev slots·1 : List.List Row.Life
+        slots·1 = List._∷_ (Row.lease (κs .0) (qs .0)) (List._∷_ (Row.lease (κs .1 .0) (qs .1 .0)) (List._∷_ (Row.lease (κs .1 .1 .0) (qs .1 .1 .0)) (List._∷_ (Row.lease (κs .1 .1 .1 .0) (qs .1 .1 .1 .0)) (List._∷_ (Row.lease (κs .1 .1 .1 .1 .0) (qs .1 .1 .1 .1 .0)) (List._∷_ (Row.lease (κs .1 .1 .1 .1 .1 .0) (qs .1 .1 .1 .1 .1 .0)) (List._∷_ (Row.lease (κs
+            .1 .1 .1 .1 .1 .1 .0) (qs .1 .1 .1 .1 .1 .1 .0)) (List._∷_ (Row.lease (κs .1 .1 .1 .1 .1 .1 .1 .0) (qs .1 .1 .1 .1 .1 .1 .1 .0)) (List._∷_ Row.off (List._∷_ (Row.lease (κs .1 .1 .1 .1 .1 .1 .1 .1 .1 .0) (qs .1 .1 .1 .1 .1 .1 .1 .1 .1 .0)) (List._∷_ Row.alive List.[]))))))))))
 
         abbrev G0 : Row.Cx
-        G0 = record {
-          locals = t0;
-          slots = List._∷_ (Row.lease (κs .0) (qs .0)) (List._∷_ (Row.lease (κs .1 .0) (qs .1 .0)) (List._∷_ (Row.lease (κs .1 .1 .0) (qs .1 .1 .0)) (List._∷_ (Row.lease (κs .1 .1 .1 .0) (qs .1 .1 .1 .0)) (List._∷_ (Row.lease (κs .1 .1 .1 .1 .0) (qs .1 .1 .1 .1 .0)) (List._∷_ (Row.lease (κs .1 .1 .1 .1 .1 .0) (qs .1 .1 .1 .1 .1 .0))
-              (List._∷_ (Row.lease (κs .1 .1 .1 .1 .1 .1 .0) (qs .1 .1 .1 .1 .1 .1 .0)) (List._∷_ (Row.lease (κs .1 .1 .1 .1 .1 .1 .1 .0) (qs .1 .1 .1 .1 .1 .1 .1 .0)) (List._∷_ (Row.lease (κs .1 .1 .1 .1 .1 .1 .1 .1 .0) (qs .1 .1 .1 .1 .1 .1 .1 .1 .0)) (List._∷_ (Row.lease (κs .1 .1 .1 .1 .1 .1 .1 .1 .1 .0) (qs .1 .1 .1 .1 .1 .1 .1 .1 .1 .0))
-              (List._∷_ Row.off List.[]))))))))));
-        }
+        G0 = record { locals = T0 .locals; slots = slots·0 }
 
         abbrev G1 : Row.Cx
-        G1 = record {
-          locals = t1;
-          slots = List._∷_ (Row.lease (κs .0) (qs .0)) (List._∷_ (Row.lease (κs .1 .0) (qs .1 .0)) (List._∷_ (Row.lease (κs .1 .1 .0) (qs .1 .1 .0)) (List._∷_ (Row.lease (κs .1 .1 .1 .0) (qs .1 .1 .1 .0)) (List._∷_ (Row.lease (κs .1 .1 .1 .1 .0) (qs .1 .1 .1 .1 .0)) (List._∷_ (Row.lease (κs .1 .1 .1 .1 .1 .0) (qs .1 .1 .1 .1 .1 .0))
-              (List._∷_ (Row.lease (κs .1 .1 .1 .1 .1 .1 .0) (qs .1 .1 .1 .1 .1 .1 .0)) (List._∷_ (Row.lease (κs .1 .1 .1 .1 .1 .1 .1 .0) (qs .1 .1 .1 .1 .1 .1 .1 .0)) (List._∷_ (Row.lease (κs .1 .1 .1 .1 .1 .1 .1 .1 .0) (qs .1 .1 .1 .1 .1 .1 .1 .1 .0)) (List._∷_ (Row.lease (κs .1 .1 .1 .1 .1 .1 .1 .1 .1 .0) (qs .1 .1 .1 .1 .1 .1 .1 .1 .1 .0))
-              (List._∷_ Row.off List.[]))))))))));
-        }
-
-        abbrev G2 : Row.Cx
-        G2 = record {
-          locals = t0;
-          slots = List._∷_ (Row.lease (κs .0) (qs .0)) (List._∷_ (Row.lease (κs .1 .0) (qs .1 .0)) (List._∷_ (Row.lease (κs .1 .1 .0) (qs .1 .1 .0)) (List._∷_ (Row.lease (κs .1 .1 .1 .0) (qs .1 .1 .1 .0)) (List._∷_ (Row.lease (κs .1 .1 .1 .1 .0) (qs .1 .1 .1 .1 .0)) (List._∷_ (Row.lease (κs .1 .1 .1 .1 .1 .0) (qs .1 .1 .1 .1 .1 .0))
-              (List._∷_ (Row.lease (κs .1 .1 .1 .1 .1 .1 .0) (qs .1 .1 .1 .1 .1 .1 .0)) (List._∷_ (Row.lease (κs .1 .1 .1 .1 .1 .1 .1 .0) (qs .1 .1 .1 .1 .1 .1 .1 .0)) (List._∷_ (Row.lease (κs .1 .1 .1 .1 .1 .1 .1 .1 .0) (qs .1 .1 .1 .1 .1 .1 .1 .1 .0)) (List._∷_ (Row.lease (κs .1 .1 .1 .1 .1 .1 .1 .1 .1 .0) (qs .1 .1 .1 .1 .1 .1 .1 .1 .1 .0))
-              (List._∷_ Row.off List.[]))))))))));
-        }
-
-        abbrev G3 : Row.Cx
-        G3 = record {
-          locals = t0;
-          slots = List._∷_ (Row.lease (κs .0) (qs .0)) (List._∷_ (Row.lease (κs .1 .0) (qs .1 .0)) (List._∷_ (Row.lease (κs .1 .1 .0) (qs .1 .1 .0)) (List._∷_ (Row.lease (κs .1 .1 .1 .0) (qs .1 .1 .1 .0)) (List._∷_ (Row.lease (κs .1 .1 .1 .1 .0) (qs .1 .1 .1 .1 .0)) (List._∷_ (Row.lease (κs .1 .1 .1 .1 .1 .0) (qs .1 .1 .1 .1 .1 .0))
-              (List._∷_ (Row.lease (κs .1 .1 .1 .1 .1 .1 .0) (qs .1 .1 .1 .1 .1 .1 .0)) (List._∷_ (Row.lease (κs .1 .1 .1 .1 .1 .1 .1 .0) (qs .1 .1 .1 .1 .1 .1 .1 .0)) (List._∷_ (Row.lease (κs .1 .1 .1 .1 .1 .1 .1 .1 .0) (qs .1 .1 .1 .1 .1 .1 .1 .1 .0)) (List._∷_ (Row.lease (κs .1 .1 .1 .1 .1 .1 .1 .1 .1 .0) (qs .1 .1 .1 .1 .1 .1 .1 .1 .1 .0))
-              (List._∷_ Row.off List.[]))))))))));
-        }
-
-        abbrev G4 : Row.Cx
-        G4 = record {
-          locals = t0;
-          slots = List._∷_ (Row.lease (κs .0) (qs .0)) (List._∷_ (Row.lease (κs .1 .0) (qs .1 .0)) (List._∷_ (Row.lease (κs .1 .1 .0) (qs .1 .1 .0)) (List._∷_ (Row.lease (κs .1 .1 .1 .0) (qs .1 .1 .1 .0)) (List._∷_ (Row.lease (κs .1 .1 .1 .1 .0) (qs .1 .1 .1 .1 .0)) (List._∷_ (Row.lease (κs .1 .1 .1 .1 .1 .0) (qs .1 .1 .1 .1 .1 .0))
-              (List._∷_ (Row.lease (κs .1 .1 .1 .1 .1 .1 .0) (qs .1 .1 .1 .1 .1 .1 .0)) (List._∷_ (Row.lease (κs .1 .1 .1 .1 .1 .1 .1 .0) (qs .1 .1 .1 .1 .1 .1 .1 .0)) (List._∷_ (Row.lease (κs .1 .1 .1 .1 .1 .1 .1 .1 .0) (qs .1 .1 .1 .1 .1 .1 .1 .1 .0)) (List._∷_ (Row.lease (κs .1 .1 .1 .1 .1 .1 .1 .1 .1 .0) (qs .1 .1 .1 .1 .1 .1 .1 .1 .1 .0))
-              (List._∷_ Row.off List.[]))))))))));
-        }
-
-        abbrev G5 : Row.Cx
-        G5 = record {
-          locals = t0;
-          slots = List._∷_ (Row.lease (κs .0) (qs .0)) (List._∷_ (Row.lease (κs .1 .0) (qs .1 .0)) (List._∷_ (Row.lease (κs .1 .1 .0) (qs .1 .1 .0)) (List._∷_ (Row.lease (κs .1 .1 .1 .0) (qs .1 .1 .1 .0)) (List._∷_ (Row.lease (κs .1 .1 .1 .1 .0) (qs .1 .1 .1 .1 .0)) (List._∷_ (Row.lease (κs .1 .1 .1 .1 .1 .0) (qs .1 .1 .1 .1 .1 .0))
-              (List._∷_ (Row.lease (κs .1 .1 .1 .1 .1 .1 .0) (qs .1 .1 .1 .1 .1 .1 .0)) (List._∷_ (Row.lease (κs .1 .1 .1 .1 .1 .1 .1 .0) (qs .1 .1 .1 .1 .1 .1 .1 .0)) (List._∷_ (Row.lease (κs .1 .1 .1 .1 .1 .1 .1 .1 .0) (qs .1 .1 .1 .1 .1 .1 .1 .1 .0)) (List._∷_ (Row.lease (κs .1 .1 .1 .1 .1 .1 .1 .1 .1 .0) (qs .1 .1 .1 .1 .1 .1 .1 .1 .1 .0))
-              (List._∷_ Row.off List.[]))))))))));
-        }
-
-        abbrev G6 : Row.Cx
-        G6 = record {
-          locals = t0;
-          slots = List._∷_ (Row.lease (κs .0) (qs .0)) (List._∷_ (Row.lease (κs .1 .0) (qs .1 .0)) (List._∷_ (Row.lease (κs .1 .1 .0) (qs .1 .1 .0)) (List._∷_ (Row.lease (κs .1 .1 .1 .0) (qs .1 .1 .1 .0)) (List._∷_ (Row.lease (κs .1 .1 .1 .1 .0) (qs .1 .1 .1 .1 .0)) (List._∷_ (Row.lease (κs .1 .1 .1 .1 .1 .0) (qs .1 .1 .1 .1 .1 .0))
-              (List._∷_ (Row.lease (κs .1 .1 .1 .1 .1 .1 .0) (qs .1 .1 .1 .1 .1 .1 .0)) (List._∷_ (Row.lease (κs .1 .1 .1 .1 .1 .1 .1 .0) (qs .1 .1 .1 .1 .1 .1 .1 .0)) (List._∷_ (Row.lease (κs .1 .1 .1 .1 .1 .1 .1 .1 .0) (qs .1 .1 .1 .1 .1 .1 .1 .1 .0)) (List._∷_ (Row.lease (κs .1 .1 .1 .1 .1 .1 .1 .1 .1 .0) (qs .1 .1 .1 .1 .1 .1 .1 .1 .1 .0))
-              (List._∷_ Row.off List.[]))))))))));
-        }
-
-        abbrev G7 : Row.Cx
-        G7 = record {
-          locals = t0;
-          slots = List._∷_ (Row.lease (κs .0) (qs .0)) (List._∷_ (Row.lease (κs .1 .0) (qs .1 .0)) (List._∷_ (Row.lease (κs .1 .1 .0) (qs .1 .1 .0)) (List._∷_ (Row.lease (κs .1 .1 .1 .0) (qs .1 .1 .1 .0)) (List._∷_ (Row.lease (κs .1 .1 .1 .1 .0) (qs .1 .1 .1 .1 .0)) (List._∷_ (Row.lease (κs .1 .1 .1 .1 .1 .0) (qs .1 .1 .1 .1 .1 .0))
-              (List._∷_ (Row.lease (κs .1 .1 .1 .1 .1 .1 .0) (qs .1 .1 .1 .1 .1 .1 .0)) (List._∷_ (Row.lease (κs .1 .1 .1 .1 .1 .1 .1 .0) (qs .1 .1 .1 .1 .1 .1 .1 .0)) (List._∷_ (Row.lease (κs .1 .1 .1 .1 .1 .1 .1 .1 .0) (qs .1 .1 .1 .1 .1 .1 .1 .1 .0)) (List._∷_ (Row.lease (κs .1 .1 .1 .1 .1 .1 .1 .1 .1 .0) (qs .1 .1 .1 .1 .1 .1 .1 .1 .1 .0))
-              (List._∷_ Row.off List.[]))))))))));
-        }
-
-        abbrev G8 : Row.Cx
-        G8 = record {
-          locals = t0;
-          slots = List._∷_ (Row.lease (κs .0) (qs .0)) (List._∷_ (Row.lease (κs .1 .0) (qs .1 .0)) (List._∷_ (Row.lease (κs .1 .1 .0) (qs .1 .1 .0)) (List._∷_ (Row.lease (κs .1 .1 .1 .0) (qs .1 .1 .1 .0)) (List._∷_ (Row.lease (κs .1 .1 .1 .1 .0) (qs .1 .1 .1 .1 .0)) (List._∷_ (Row.lease (κs .1 .1 .1 .1 .1 .0) (qs .1 .1 .1 .1 .1 .0))
-              (List._∷_ (Row.lease (κs .1 .1 .1 .1 .1 .1 .0) (qs .1 .1 .1 .1 .1 .1 .0)) (List._∷_ (Row.lease (κs .1 .1 .1 .1 .1 .1 .1 .0) (qs .1 .1 .1 .1 .1 .1 .1 .0)) (List._∷_ (Row.lease (κs .1 .1 .1 .1 .1 .1 .1 .1 .0) (qs .1 .1 .1 .1 .1 .1 .1 .1 .0)) (List._∷_ (Row.lease (κs .1 .1 .1 .1 .1 .1 .1 .1 .1 .0) (qs .1 .1 .1 .1 .1 .1 .1 .1 .1 .0))
-              (List._∷_ Row.off List.[]))))))))));
-        }
-
-        abbrev G9 : Row.Cx
-        G9 = record {
-          locals = t0;
-          slots = List._∷_ (Row.lease (κs .0) (qs .0)) (List._∷_ (Row.lease (κs .1 .0) (qs .1 .0)) (List._∷_ (Row.lease (κs .1 .1 .0) (qs .1 .1 .0)) (List._∷_ (Row.lease (κs .1 .1 .1 .0) (qs .1 .1 .1 .0)) (List._∷_ (Row.lease (κs .1 .1 .1 .1 .0) (qs .1 .1 .1 .1 .0)) (List._∷_ (Row.lease (κs .1 .1 .1 .1 .1 .0) (qs .1 .1 .1 .1 .1 .0))
-              (List._∷_ (Row.lease (κs .1 .1 .1 .1 .1 .1 .0) (qs .1 .1 .1 .1 .1 .1 .0)) (List._∷_ (Row.lease (κs .1 .1 .1 .1 .1 .1 .1 .0) (qs .1 .1 .1 .1 .1 .1 .1 .0)) (List._∷_ (Row.lease (κs .1 .1 .1 .1 .1 .1 .1 .1 .0) (qs .1 .1 .1 .1 .1 .1 .1 .1 .0)) (List._∷_ (Row.lease (κs .1 .1 .1 .1 .1 .1 .1 .1 .1 .0) (qs .1 .1 .1 .1 .1 .1 .1 .1 .1 .0))
-              (List._∷_ Row.off List.[]))))))))));
-        }
-
-        abbrev G10 : Row.Cx
-        G10 = record {
-          locals = t0;
-          slots = List._∷_ (Row.lease (κs .0) (qs .0)) (List._∷_ (Row.lease (κs .1 .0) (qs .1 .0)) (List._∷_ (Row.lease (κs .1 .1 .0) (qs .1 .1 .0)) (List._∷_ (Row.lease (κs .1 .1 .1 .0) (qs .1 .1 .1 .0)) (List._∷_ (Row.lease (κs .1 .1 .1 .1 .0) (qs .1 .1 .1 .1 .0)) (List._∷_ (Row.lease (κs .1 .1 .1 .1 .1 .0) (qs .1 .1 .1 .1 .1 .0))
-              (List._∷_ (Row.lease (κs .1 .1 .1 .1 .1 .1 .0) (qs .1 .1 .1 .1 .1 .1 .0)) (List._∷_ (Row.lease (κs .1 .1 .1 .1 .1 .1 .1 .0) (qs .1 .1 .1 .1 .1 .1 .1 .0)) (List._∷_ (Row.lease (κs .1 .1 .1 .1 .1 .1 .1 .1 .0) (qs .1 .1 .1 .1 .1 .1 .1 .1 .0)) (List._∷_ (Row.lease (κs .1 .1 .1 .1 .1 .1 .1 .1 .1 .0) (qs .1 .1 .1 .1 .1 .1 .1 .1 .1 .0))
-              (List._∷_ Row.off List.[]))))))))));
-        }
+        G1 = record { locals = T1 .locals; slots = slots·0 }
 
         abbrev G11 : Row.Cx
-        G11 = record {
-          locals = t0;
-          slots = List._∷_ (Row.lease (κs .0) (qs .0)) (List._∷_ (Row.lease (κs .1 .0) (qs .1 .0)) (List._∷_ (Row.lease (κs .1 .1 .0) (qs .1 .1 .0)) (List._∷_ (Row.lease (κs .1 .1 .1 .0) (qs .1 .1 .1 .0)) (List._∷_ (Row.lease (κs .1 .1 .1 .1 .0) (qs .1 .1 .1 .1 .0)) (List._∷_ (Row.lease (κs .1 .1 .1 .1 .1 .0) (qs .1 .1 .1 .1 .1 .0))
-              (List._∷_ (Row.lease (κs .1 .1 .1 .1 .1 .1 .0) (qs .1 .1 .1 .1 .1 .1 .0)) (List._∷_ (Row.lease (κs .1 .1 .1 .1 .1 .1 .1 .0) (qs .1 .1 .1 .1 .1 .1 .1 .0)) (List._∷_ (Row.lease (κs .1 .1 .1 .1 .1 .1 .1 .1 .0) (qs .1 .1 .1 .1 .1 .1 .1 .1 .0)) (List._∷_ (Row.lease (κs .1 .1 .1 .1 .1 .1 .1 .1 .1 .0) (qs .1 .1 .1 .1 .1 .1 .1 .1 .1 .0))
-              (List._∷_ Row.alive List.[]))))))))));
-        }
+        G11 = record
+            { locals = T0 .locals; slots = List._∷_ (Row.lease (κs .0) (qs .0)) (List._∷_ (Row.lease (κs .1 .0) (qs .1 .0)) (List._∷_ (Row.lease (κs .1 .1 .0) (qs .1 .1 .0)) (List._∷_ (Row.lease (κs .1 .1 .1 .0) (qs .1 .1 .1 .0)) (List._∷_ (Row.lease (κs .1 .1 .1 .1 .0) (qs .1 .1 .1 .1 .0)) (List._∷_ (Row.lease (κs .1 .1 .1 .1 .1 .0) (qs .1 .1 .1 .1 .1 .0)) (List._∷_ (Row.lease (κs .1 .1 .1 .1 .1 .1 .0) (qs .1 .1 .1 .1 .1 .1 .0)) (List._∷_ (Row.lease (κs .1 .1 .1 .1 .1 .1 .1 .0) (qs .1 .1 .1 .1 .1 .1 .1 .0)) (List._∷_ (Row.lease (κs .1 .1 .1 .1 .1 .1 .1 .1 .0) (qs .1 .1 .1 .1 .1 .1 .1 .1 .0)) (List._∷_ (Row.lease (κs .1 .1 .1 .1 .1 .1 .1 .1 .1 .0) (qs .1 .1 .1 .1 .1 .1 .1 .1 .1 .0)) (List._∷_ Row.alive List.[])))))))))) }
 
         abbrev G12 : Row.Cx
-        G12 = record {
-          locals = g2;
-          slots = List._∷_ (Row.lease (κs .0) (qs .0)) (List._∷_ (Row.lease (κs .1 .0) (qs .1 .0)) (List._∷_ (Row.lease (κs .1 .1 .0) (qs .1 .1 .0)) (List._∷_ (Row.lease (κs .1 .1 .1 .0) (qs .1 .1 .1 .0)) (List._∷_ (Row.lease (κs .1 .1 .1 .1 .0) (qs .1 .1 .1 .1 .0)) (List._∷_ (Row.lease (κs .1 .1 .1 .1 .1 .0) (qs .1 .1 .1 .1 .1 .0))
-              (List._∷_ (Row.lease (κs .1 .1 .1 .1 .1 .1 .0) (qs .1 .1 .1 .1 .1 .1 .0)) (List._∷_ (Row.lease (κs .1 .1 .1 .1 .1 .1 .1 .0) (qs .1 .1 .1 .1 .1 .1 .1 .0)) (List._∷_ Row.off (List._∷_ (Row.lease (κs .1 .1 .1 .1 .1 .1 .1 .1 .1 .0) (qs .1 .1 .1 .1 .1 .1 .1 .1 .1 .0)) (List._∷_ Row.alive List.[]))))))))));
-        }
+        G12 = record { locals = g2; slots = slots·1 }
 
         abbrev G13 : Row.Cx
-        G13 = record {
-          locals = g3;
-          slots = List._∷_ (Row.lease (κs .0) (qs .0)) (List._∷_ (Row.lease (κs .1 .0) (qs .1 .0)) (List._∷_ (Row.lease (κs .1 .1 .0) (qs .1 .1 .0)) (List._∷_ (Row.lease (κs .1 .1 .1 .0) (qs .1 .1 .1 .0)) (List._∷_ (Row.lease (κs .1 .1 .1 .1 .0) (qs .1 .1 .1 .1 .0)) (List._∷_ (Row.lease (κs .1 .1 .1 .1 .1 .0) (qs .1 .1 .1 .1 .1 .0))
-              (List._∷_ (Row.lease (κs .1 .1 .1 .1 .1 .1 .0) (qs .1 .1 .1 .1 .1 .1 .0)) (List._∷_ (Row.lease (κs .1 .1 .1 .1 .1 .1 .1 .0) (qs .1 .1 .1 .1 .1 .1 .1 .0)) (List._∷_ Row.off (List._∷_ (Row.lease (κs .1 .1 .1 .1 .1 .1 .1 .1 .1 .0) (qs .1 .1 .1 .1 .1 .1 .1 .1 .1 .0)) (List._∷_ Row.alive List.[]))))))))));
-        }
+        G13 = record { locals = g3; slots = slots·1 }
 
         abbrev G14 : Row.Cx
-        G14 = record {
-          locals = g4;
-          slots = List._∷_ (Row.lease (κs .0) (qs .0)) (List._∷_ (Row.lease (κs .1 .0) (qs .1 .0)) (List._∷_ (Row.lease (κs .1 .1 .0) (qs .1 .1 .0)) (List._∷_ (Row.lease (κs .1 .1 .1 .0) (qs .1 .1 .1 .0)) (List._∷_ (Row.lease (κs .1 .1 .1 .1 .0) (qs .1 .1 .1 .1 .0)) (List._∷_ (Row.lease (κs .1 .1 .1 .1 .1 .0) (qs .1 .1 .1 .1 .1 .0))
-              (List._∷_ (Row.lease (κs .1 .1 .1 .1 .1 .1 .0) (qs .1 .1 .1 .1 .1 .1 .0)) (List._∷_ (Row.lease (κs .1 .1 .1 .1 .1 .1 .1 .0) (qs .1 .1 .1 .1 .1 .1 .1 .0)) (List._∷_ Row.off (List._∷_ (Row.lease (κs .1 .1 .1 .1 .1 .1 .1 .1 .1 .0) (qs .1 .1 .1 .1 .1 .1 .1 .1 .1 .0)) (List._∷_ Row.alive List.[]))))))))));
-        }
+        G14 = record { locals = g4; slots = slots·1 }
 
         abbrev G15 : Row.Cx
-        G15 = record {
-          locals = g4;
-          slots = List._∷_ (Row.lease (κs .0) (qs .0)) (List._∷_ (Row.lease (κs .1 .0) (qs .1 .0)) (List._∷_ (Row.lease (κs .1 .1 .0) (qs .1 .1 .0)) (List._∷_ (Row.lease (κs .1 .1 .1 .0) (qs .1 .1 .1 .0)) (List._∷_ (Row.lease (κs .1 .1 .1 .1 .0) (qs .1 .1 .1 .1 .0)) (List._∷_ (Row.lease (κs .1 .1 .1 .1 .1 .0) (qs .1 .1 .1 .1 .1 .0))
-              (List._∷_ (Row.lease (κs .1 .1 .1 .1 .1 .1 .0) (qs .1 .1 .1 .1 .1 .1 .0)) (List._∷_ (Row.lease (κs .1 .1 .1 .1 .1 .1 .1 .0) (qs .1 .1 .1 .1 .1 .1 .1 .0)) (List._∷_ Row.off (List._∷_ (Row.lease (κs .1 .1 .1 .1 .1 .1 .1 .1 .1 .0) (qs .1 .1 .1 .1 .1 .1 .1 .1 .1 .0)) (List._∷_ Row.dead List.[]))))))))));
-        }
+        G15 = record
+            { locals = g4; slots = List._∷_ (Row.lease (κs .0) (qs .0)) (List._∷_ (Row.lease (κs .1 .0) (qs .1 .0)) (List._∷_ (Row.lease (κs .1 .1 .0) (qs .1 .1 .0)) (List._∷_ (Row.lease (κs .1 .1 .1 .0) (qs .1 .1 .1 .0)) (List._∷_ (Row.lease (κs .1 .1 .1 .1 .0) (qs .1 .1 .1 .1 .0)) (List._∷_ (Row.lease (κs .1 .1 .1 .1 .1 .0) (qs .1 .1 .1 .1 .1 .0)) (List._∷_ (Row.lease (κs .1 .1 .1 .1 .1 .1 .0) (qs .1 .1 .1 .1 .1 .1 .0)) (List._∷_ (Row.lease (κs .1 .1 .1 .1 .1 .1 .1 .0) (qs .1 .1 .1 .1 .1 .1 .1 .0)) (List._∷_ Row.off (List._∷_ (Row.lease (κs .1 .1 .1 .1 .1 .1 .1 .1 .1 .0) (qs .1 .1 .1 .1 .1 .1 .1 .1 .1 .0)) (List._∷_ Row.dead List.[])))))))))) }
 
         abbrev G16 : Row.Cx
-        G16 = record {
-          locals = t5;
-          slots = List._∷_ (Row.lease (κs .0) (qs .0)) (List._∷_ (Row.lease (κs .1 .0) (qs .1 .0)) (List._∷_ (Row.lease (κs .1 .1 .0) (qs .1 .1 .0)) (List._∷_ (Row.lease (κs .1 .1 .1 .0) (qs .1 .1 .1 .0)) (List._∷_ (Row.lease (κs .1 .1 .1 .1 .0) (qs .1 .1 .1 .1 .0)) (List._∷_ (Row.lease (κs .1 .1 .1 .1 .1 .0) (qs .1 .1 .1 .1 .1 .0))
-              (List._∷_ (Row.lease (κs .1 .1 .1 .1 .1 .1 .0) (qs .1 .1 .1 .1 .1 .1 .0)) (List._∷_ (Row.lease (κs .1 .1 .1 .1 .1 .1 .1 .0) (qs .1 .1 .1 .1 .1 .1 .1 .0)) (List._∷_ (Row.lease (κs .1 .1 .1 .1 .1 .1 .1 .1 .0) (qs .1 .1 .1 .1 .1 .1 .1 .1 .0)) (List._∷_ (Row.lease (κs .1 .1 .1 .1 .1 .1 .1 .1 .1 .0) (qs .1 .1 .1 .1 .1 .1 .1 .1 .1 .0))
-              (List._∷_ Row.dead List.[]))))))))));
-        }
+        G16 = record
+            { locals = T16 .locals; slots = List._∷_ (Row.lease (κs .0) (qs .0)) (List._∷_ (Row.lease (κs .1 .0) (qs .1 .0)) (List._∷_ (Row.lease (κs .1 .1 .0) (qs .1 .1 .0)) (List._∷_ (Row.lease (κs .1 .1 .1 .0) (qs .1 .1 .1 .0)) (List._∷_ (Row.lease (κs .1 .1 .1 .1 .0) (qs .1 .1 .1 .1 .0)) (List._∷_ (Row.lease (κs .1 .1 .1 .1 .1 .0) (qs .1 .1 .1 .1 .1 .0)) (List._∷_ (Row.lease (κs .1 .1 .1 .1 .1 .1 .0) (qs .1 .1 .1 .1 .1 .1 .0)) (List._∷_ (Row.lease (κs .1 .1 .1 .1 .1 .1 .1 .0) (qs .1 .1 .1 .1 .1 .1 .1 .0)) (List._∷_ (Row.lease (κs .1 .1 .1 .1 .1 .1 .1 .1 .0) (qs .1 .1 .1 .1 .1 .1 .1 .1 .0)) (List._∷_ (Row.lease (κs .1 .1 .1 .1 .1 .1 .1 .1 .1 .0) (qs .1 .1 .1 .1 .1 .1 .1 .1 .1 .0)) (List._∷_ Row.dead List.[])))))))))) }
 
         abbrev G17 : Row.Cx
-        G17 = record {
-          locals = t5;
-          slots = List._∷_ (Row.lease (κs .0) (qs .0)) (List._∷_ (Row.lease (κs .1 .0) (qs .1 .0)) (List._∷_ (Row.lease (κs .1 .1 .0) (qs .1 .1 .0)) (List._∷_ (Row.lease (κs .1 .1 .1 .0) (qs .1 .1 .1 .0)) (List._∷_ (Row.lease (κs .1 .1 .1 .1 .0) (qs .1 .1 .1 .1 .0)) (List._∷_ (Row.lease (κs .1 .1 .1 .1 .1 .0) (qs .1 .1 .1 .1 .1 .0))
-              (List._∷_ (Row.lease (κs .1 .1 .1 .1 .1 .1 .0) (qs .1 .1 .1 .1 .1 .1 .0)) (List._∷_ (Row.lease (κs .1 .1 .1 .1 .1 .1 .1 .0) (qs .1 .1 .1 .1 .1 .1 .1 .0)) (List._∷_ (Row.lease (κs .1 .1 .1 .1 .1 .1 .1 .1 .0) (qs .1 .1 .1 .1 .1 .1 .1 .1 .0)) (List._∷_ (Row.lease (κs .1 .1 .1 .1 .1 .1 .1 .1 .1 .0) (qs .1 .1 .1 .1 .1 .1 .1 .1 .1 .0))
-              (List._∷_ Row.off List.[]))))))))));
-        }
+        G17 = record { locals = T16 .locals; slots = slots·0 }
 
         abbrev G18 : Row.Cx
-        G18 = record {
-          locals = t6;
-          slots = List._∷_ (Row.lease (κs .0) (qs .0)) (List._∷_ (Row.lease (κs .1 .0) (qs .1 .0)) (List._∷_ (Row.lease (κs .1 .1 .0) (qs .1 .1 .0)) (List._∷_ (Row.lease (κs .1 .1 .1 .0) (qs .1 .1 .1 .0)) (List._∷_ (Row.lease (κs .1 .1 .1 .1 .0) (qs .1 .1 .1 .1 .0)) (List._∷_ (Row.lease (κs .1 .1 .1 .1 .1 .0) (qs .1 .1 .1 .1 .1 .0))
-              (List._∷_ (Row.lease (κs .1 .1 .1 .1 .1 .1 .0) (qs .1 .1 .1 .1 .1 .1 .0)) (List._∷_ (Row.lease (κs .1 .1 .1 .1 .1 .1 .1 .0) (qs .1 .1 .1 .1 .1 .1 .1 .0)) (List._∷_ (Row.lease (κs .1 .1 .1 .1 .1 .1 .1 .1 .0) (qs .1 .1 .1 .1 .1 .1 .1 .1 .0)) (List._∷_ (Row.lease (κs .1 .1 .1 .1 .1 .1 .1 .1 .1 .0) (qs .1 .1 .1 .1 .1 .1 .1 .1 .1 .0))
-              (List._∷_ Row.off List.[]))))))))));
-        }
-
-        abbrev G19 : Row.Cx
-        G19 = record {
-          locals = t1;
-          slots = List._∷_ (Row.lease (κs .0) (qs .0)) (List._∷_ (Row.lease (κs .1 .0) (qs .1 .0)) (List._∷_ (Row.lease (κs .1 .1 .0) (qs .1 .1 .0)) (List._∷_ (Row.lease (κs .1 .1 .1 .0) (qs .1 .1 .1 .0)) (List._∷_ (Row.lease (κs .1 .1 .1 .1 .0) (qs .1 .1 .1 .1 .0)) (List._∷_ (Row.lease (κs .1 .1 .1 .1 .1 .0) (qs .1 .1 .1 .1 .1 .0))
-              (List._∷_ (Row.lease (κs .1 .1 .1 .1 .1 .1 .0) (qs .1 .1 .1 .1 .1 .1 .0)) (List._∷_ (Row.lease (κs .1 .1 .1 .1 .1 .1 .1 .0) (qs .1 .1 .1 .1 .1 .1 .1 .0)) (List._∷_ (Row.lease (κs .1 .1 .1 .1 .1 .1 .1 .1 .0) (qs .1 .1 .1 .1 .1 .1 .1 .1 .0)) (List._∷_ (Row.lease (κs .1 .1 .1 .1 .1 .1 .1 .1 .1 .0) (qs .1 .1 .1 .1 .1 .1 .1 .1 .1 .0))
-              (List._∷_ Row.off List.[]))))))))));
-        }
+        G18 = record { locals = T18 .locals; slots = slots·0 }
 
         abbrev Δ0 : Typed.Outs
         Δ0 = record { next = Option.none; exits = List.[]; returns = Option.some G1 }
@@ -805,164 +377,30 @@ module _ (claims· : Claims) where
           abbrev E : Wp.Env 𝓤 H
           E = Frame.EnvOf 𝓤 H (List._∷_ (Kinds.tyR r) (Enter.tysP ps xs)) bs
 
-          d0 : Typed.Typed 𝓤 H A 𝓣 E G19 b4 Δ0 at0
+          d0 : Typed.Typed 𝓤 H A 𝓣 E G1 b4 Δ0 at0
           d0 = Typed.t-return 𝓤 H A W 𝓣 E Δ0 tt
 
-          d1 : Typed.Typed 𝓤 H A 𝓣 E G18 b4 Δ0 at1
-          d1 = Typed.g-pre 𝓤 H A W 𝓣 E G18 G19 b4 Δ0 (Typed.pass T18 T19 s17) at0 (Scalar.g-room 𝓤 H A W E G18 11 ty·12 (Local.room-whole 𝓤 H A W (Declared.row TurnAllReply.the-type) ty·12 Path'.refl)) d0
-
           d2 : Typed.Typed 𝓤 H A 𝓣 E G17 b5 Δ0 at2
-          d2 = Typed.s-seq 𝓤 H A W 𝓣 E G17 G18 b3 b4 Δ0 (Typed.both s16) at1 (Plain.t-call-plain 𝓤 H A W 𝓣 0 ps·1 r·1 (claims· .2) (claims· .3) "board::answers::of_turn_all" (known .1) E (λ pos β. β) G17 (record { pos = 11; st = List.[]; d = 0; at = λ x. x }, tt) 0 List.[] (Call.sub-id 𝓤 H A W (G17 .slots)) (
-            (
-              Yields.yields-copy 𝓤 H A W (λ ρ. Unit)
-                  (Declared.row TurnAllReply.the-type) Path'.refl (Copies.cEnum TurnAllReply.the-type Laws'.the-laws Laws'.the-copy .copy 𝓤 H A W) (Rows.whole (Declared.row TurnAllReply.the-type)) (λ x. x) (λ x. x) (λ ρ told. Local.mem-whole 𝓤 H A W (Declared.row TurnAllReply.the-type) ρ) λ ρ told. Local.whole-mem 𝓤 H A W (Declared.row TurnAllReply.the-type) ρ,
-              Path'.refl,
-            ),
-            tt,
-          ) (Reads.room-gone 𝓤 H A ty·11) tt Path'.refl) d1
-
-          d3 : Typed.Typed 𝓤 H A 𝓣 E G16 b5 Δ0 at3
-          d3 = Typed.g-pre 𝓤 H A W 𝓣 E G16 G17 b5 Δ0 (λ Ψ. Ψ) at2 (Lifetime.g-forget 𝓤 H A W E G16 10 Row.dead Path'.refl) d2
-
-          d4 : Typed.Typed 𝓤 H A 𝓣 E G15 b5 Δ0 at4
-          d4 = Typed.g-pre 𝓤 H A W 𝓣 E G15 G16 b5 Δ0 (Typed.both s14) at3 (Relend.g-back-sl 𝓤 H A W E Rec.rt G15 13 9 8 10 ty·1 ty·0 (Row.lease (κs .1 .1 .1 .1 .1 .1 .1 .1 .0) (qs .1 .1 .1 .1 .1 .1 .1 .1 .0)) (λ x. x) (λ x. x) (Reads.as-is 𝓤 H A (Mut.msleft Rec.rt ty·0)) (Reads.as-is 𝓤 H A (Relend.mslice-owed Rec.rt ty·1 8 10
-              (Row.lease (κs .1 .1 .1 .1 .1 .1 .1 .1 .0) (qs .1 .1 .1 .1 .1 .1 .1 .1 .0)))) Path'.refl Path'.refl) d3
-
-          d5 : Typed.Typed 𝓤 H A 𝓣 E G14 b5 Δ0 at5
-          d5 = Typed.g-pre 𝓤 H A W 𝓣 E G14 G15 b5 Δ0 (λ Ψ. Ψ) at4 (Lifetime.g-end 𝓤 H A W E G14 10 Path'.refl) d4
+          d2 = Typed.s-seq 𝓤 H A W 𝓣 E G17 G18 b3 b4 Δ0 (Typed.both s16) at1 (Plain.t-call-plain 𝓤 H A W 𝓣 0 ps·1 r·1 (claims· .2) (claims· .3) "board::answers::of_turn_all" (known .1) E (λ pos β. β) G17 (record { pos = 11; st = List.[]; d = 0; at = λ x. x }, tt) 0 List.[] (Call.sub-id 𝓤 H A W (G17 .slots))
+              ((Yields.yields-copy 𝓤 H A W (λ ρ. Unit) (Declared.row TurnAllReply.the-type) Path'.refl (Copies.cEnum TurnAllReply.the-type Laws'.the-laws Laws'.the-copy .copy 𝓤 H A W) (Rows.whole (Declared.row TurnAllReply.the-type)) (λ x. x) (λ x. x) (λ ρ told. Local.mem-whole 𝓤 H A W (Declared.row TurnAllReply.the-type) ρ) λ ρ told. Local.whole-mem 𝓤 H A W (Declared.row TurnAllReply.the-type) ρ, Path'.refl), tt)
+              (Reads.room-gone 𝓤 H A ty·11) tt Path'.refl) (Typed.g-pre 𝓤 H A W 𝓣 E G18 G1 b4 Δ0 (Typed.pass T18 T1 s17) at0 (Scalar.g-room 𝓤 H A W E G18 11 ty·12 (Local.room-whole 𝓤 H A W (Declared.row TurnAllReply.the-type) ty·12 Path'.refl)) d0)
 
           d6 : Typed.Typed 𝓤 H A 𝓣 E G13 b6 Δ0 at6
-          d6 = Typed.s-seq 𝓤 H A W 𝓣 E G13 G14 b2 b5 Δ0 (Typed.both s12) at5 (Plain.t-call-plain 𝓤 H A W 𝓣 10 ps·0 r·0 (claims· .0) (claims· .1) "conductor::calls::turn_all" (known .0) E (λ pos β. β) G13 (
-            record { pos = 1; ty = Syntax.tyRef (Syntax.named 0) Syntax.imm (Syntax.tyInt Syntax.w16); ref = λ x. x },
-            (
-              record {
-                pos = 2;
-                ty = Syntax.tyRef (Syntax.named 1) Syntax.imm (Syntax.tyInt Syntax.w16);
-                ref = λ x. x;
-              },
-              (
-                record { pos = 3; ty = Syntax.tyRef (Syntax.named 2) Syntax.imm (Syntax.tyInt Syntax.w8); ref = λ x. x },
-                (
-                  record { pos = 4; ty = Syntax.tyRef (Syntax.named 3) Syntax.imm (Syntax.tyInt Syntax.w16); ref = λ x. x },
-                  (
-                    record {
-                      pos = 5;
-                      ty = Syntax.tyRef (Syntax.named 4) Syntax.imm (Syntax.tyInt Syntax.w16);
-                      ref = λ x. x;
-                    },
-                    (
-                      record { pos = 6; ty = Syntax.tyRef (Syntax.named 5) Syntax.imm (Syntax.tyInt Syntax.w32); ref = λ x. x },
-                      (
-                        record { pos = 7; ty = Syntax.tyRef (Syntax.named 6) Syntax.imm (Syntax.tyInt Syntax.w16); ref = λ x. x },
-                        (
-                          record {
-                            pos = 8;
-                            ty = Syntax.tyRef (Syntax.named 7) Syntax.imm (Syntax.tyInt Syntax.w8);
-                            ref = λ x. x;
-                          },
-                          (record { pos = 13; ty = Syntax.tyRef Syntax.erased Syntax.mut Rec.behind; ref = λ x. x }, (record { pos = 10; ty = Syntax.tyRef (Syntax.named 9) Syntax.imm (Syntax.tyInt Syntax.w16); ref = λ x. x }, tt)),
-                        ),
-                      ),
-                    ),
-                  ),
-                ),
-              ),
-            ),
-          ) 11 (List._∷_ 0
-              (List._∷_ 1 (List._∷_ 2 (List._∷_ 3 (List._∷_ 4 (List._∷_ 5 (List._∷_ 6 (List._∷_ 7 (List._∷_ 10 (List._∷_ 9 List.[])))))))))) (Call.sub-id 𝓤 H A W (G13 .slots)) (
-                ShrSlice.spares-sslice 𝓤 H A W (Referent.rtF (Referent.fInt Syntax.w16)) ty·4 0,
-                Shared.reads-sslice 𝓤 H A W (Referent.rtF (Referent.fInt Syntax.w16)) ty·4 0,
-                Path'.refl,
-                (
-                  ShrSlice.spares-sslice 𝓤 H A W (Referent.rtF (Referent.fInt Syntax.w16)) ty·5 1,
-                  Shared.reads-sslice 𝓤 H A W (Referent.rtF (Referent.fInt Syntax.w16)) ty·5 1,
-                  Path'.refl,
-                  (
-                    ShrSlice.spares-sslice 𝓤 H A W (Referent.rtF (Referent.fInt Syntax.w8)) ty·2 2,
-                    Shared.reads-sslice 𝓤 H A W (Referent.rtF (Referent.fInt Syntax.w8)) ty·2 2,
-                    Path'.refl,
-                    (
-                      ShrSlice.spares-sslice 𝓤 H A W (Referent.rtF (Referent.fInt Syntax.w16)) ty·6 3,
-                      Shared.reads-sslice 𝓤 H A W (Referent.rtF (Referent.fInt Syntax.w16)) ty·6 3,
-                      Path'.refl,
-                      (
-                        ShrSlice.spares-sslice 𝓤 H A W (Referent.rtF (Referent.fInt Syntax.w16)) ty·7 4,
-                        Shared.reads-sslice 𝓤 H A W (Referent.rtF (Referent.fInt Syntax.w16)) ty·7 4,
-                        Path'.refl,
-                        (
-                          ShrSlice.spares-sslice 𝓤 H A W (Referent.rtF (Referent.fInt Syntax.w32)) ty·8 5,
-                          Shared.reads-sslice 𝓤 H A W (Referent.rtF (Referent.fInt Syntax.w32)) ty·8 5,
-                          Path'.refl,
-                          (
-                            ShrSlice.spares-sslice 𝓤 H A W (Referent.rtF (Referent.fInt Syntax.w16)) ty·9 6,
-                            Shared.reads-sslice 𝓤 H A W (Referent.rtF (Referent.fInt Syntax.w16)) ty·9 6,
-                            Path'.refl,
-                            (
-                              ShrSlice.spares-sslice 𝓤 H A W (Referent.rtF (Referent.fInt Syntax.w8)) ty·3 7,
-                              Shared.reads-sslice 𝓤 H A W (Referent.rtF (Referent.fInt Syntax.w8)) ty·3 7,
-                              Path'.refl,
-                              (
-                                Reads.as-is 𝓤 H A (Mut.mslice Rec.rt ty·0 10),
-                                Mut.reads-mslice 𝓤 H A W Rec.rt ty·0 10,
-                                Path'.refl,
-                                (
-                                  ShrSlice.spares-sslice 𝓤 H A W (Referent.rtF (Referent.fInt Syntax.w16))
-                                      ty·10 9,
-                                  Shared.reads-sslice 𝓤 H A W (Referent.rtF (Referent.fInt Syntax.w16)) ty·10 9,
-                                  Path'.refl,
-                                  tt,
-                                ),
-                              ),
-                            ),
-                          ),
-                        ),
-                      ),
-                    ),
-                  ),
-                ),
-              ) (Reads.room-gone 𝓤 H A ty·12) (tt, (tt, (tt, (tt, (tt, (tt, (tt, (tt, (tt, (tt, tt)))))))))) Path'.refl) d5
-
-          d7 : Typed.Typed 𝓤 H A 𝓣 E G12 b7 Δ0 at7
-          d7 = Typed.s-seq 𝓤 H A W 𝓣 E G12 G13 b1 b6 Δ0 (Typed.ask s11) at6 (Relend.t-sl-aggregate 𝓤 H A W E Rec.rt 𝓣 (Relend.asMut Rec.rt) G12 12 13 10 ty·0 ty·0 (λ x. x) (Scalar.oFld 9 (List._∷_ (Syntax.field 1) List.[]) (Syntax.tyInt Syntax.w64) 8 λ v. Shared.lenV (v .0)) (Reads.as-is 𝓤 H A (Relend.msptr Rec.rt ty·0 10)) (Reads.room-gone 𝓤 H A
-              (Syntax.tyStruct (List._∷_ 38 (List._∷_ 91 (List._∷_ 93 List.[]))) (Syntax.tcons ty·0 (Syntax.tcons (Syntax.tyInt Syntax.w64) Syntax.tnil)))) (Relend.reads-owed-len 𝓤 H A W Rec.rt ty·1 8 10 (Row.lease (κs .1 .1 .1 .1 .1 .1 .1 .1 .0) (qs .1 .1 .1 .1 .1 .1 .1 .1 .0)) 8 Path'.refl, Path'.refl) Path'.refl Path'.refl λ b o k. tt) d6
+          d6 = Typed.s-seq 𝓤 H A W 𝓣 E G13 G14 b2 b5 Δ0 (Typed.both s12) at4 (Plain.t-call-plain 𝓤 H A W 𝓣 10 ps·0 r·0 (claims· .0) (claims· .1) "conductor::calls::turn_all" (known .0) E (λ pos β. β) G13
+              (record { pos = 1; ty = ty·4; ref = λ x. x }, (record { pos = 2; ty = ty·5; ref = λ x. x }, (record { pos = 3; ty = ty·2; ref = λ x. x }, (record { pos = 4; ty = ty·6; ref = λ x. x }, (record { pos = 5; ty = ty·7; ref = λ x. x }, (record { pos = 6; ty = ty·8; ref = λ x. x }, (record { pos = 7; ty = ty·9; ref = λ x. x }, (record { pos = 8; ty = ty·3; ref = λ x. x }, (record { pos = 13; ty = ty·0; ref = λ x. x }, (record { pos = 10; ty = ty·10; ref = λ x. x }, tt))))))))))
+              11 (List._∷_ 0 (List._∷_ 1 (List._∷_ 2 (List._∷_ 3 (List._∷_ 4 (List._∷_ 5 (List._∷_ 6 (List._∷_ 7 (List._∷_ 10 (List._∷_ 9 List.[])))))))))) (Call.sub-id 𝓤 H A W (G13 .slots))
+              (ShrSlice.spares-sslice 𝓤 H A W (Referent.rtF (Referent.fInt Syntax.w16)) ty·4 0, Shared.reads-sslice 𝓤 H A W (Referent.rtF (Referent.fInt Syntax.w16)) ty·4 0, Path'.refl, (ShrSlice.spares-sslice 𝓤 H A W (Referent.rtF (Referent.fInt Syntax.w16)) ty·5 1, Shared.reads-sslice 𝓤 H A W (Referent.rtF (Referent.fInt Syntax.w16)) ty·5 1, Path'.refl, (ShrSlice.spares-sslice 𝓤 H A W (Referent.rtF (Referent.fInt Syntax.w8)) ty·2 2, Shared.reads-sslice 𝓤 H A W (Referent.rtF (Referent.fInt Syntax.w8)) ty·2 2, Path'.refl, (ShrSlice.spares-sslice 𝓤 H A W (Referent.rtF (Referent.fInt Syntax.w16)) ty·6 3, Shared.reads-sslice 𝓤 H A W (Referent.rtF (Referent.fInt Syntax.w16)) ty·6 3, Path'.refl, (ShrSlice.spares-sslice 𝓤 H A W (Referent.rtF (Referent.fInt Syntax.w16)) ty·7 4, Shared.reads-sslice 𝓤 H A W (Referent.rtF (Referent.fInt Syntax.w16)) ty·7 4, Path'.refl, (ShrSlice.spares-sslice 𝓤 H A W (Referent.rtF (Referent.fInt Syntax.w32)) ty·8 5, Shared.reads-sslice 𝓤 H A W (Referent.rtF (Referent.fInt Syntax.w32)) ty·8 5, Path'.refl, (ShrSlice.spares-sslice 𝓤 H A W (Referent.rtF (Referent.fInt Syntax.w16)) ty·9 6, Shared.reads-sslice 𝓤 H A W (Referent.rtF (Referent.fInt Syntax.w16)) ty·9 6, Path'.refl, (ShrSlice.spares-sslice 𝓤 H A W (Referent.rtF (Referent.fInt Syntax.w8)) ty·3 7, Shared.reads-sslice 𝓤 H A W (Referent.rtF (Referent.fInt Syntax.w8)) ty·3 7, Path'.refl, (Reads.as-is 𝓤 H A (Mut.mslice Rec.rt ty·0 10), Mut.reads-mslice 𝓤 H A W Rec.rt ty·0 10, Path'.refl, (ShrSlice.spares-sslice 𝓤 H A W (Referent.rtF (Referent.fInt Syntax.w16)) ty·10 9, Shared.reads-sslice 𝓤 H A W (Referent.rtF (Referent.fInt Syntax.w16)) ty·10 9, Path'.refl, tt))))))))))
+              (Reads.room-gone 𝓤 H A ty·12) (tt, (tt, (tt, (tt, (tt, (tt, (tt, (tt, (tt, (tt, tt)))))))))) Path'.refl) (Typed.g-pre 𝓤 H A W 𝓣 E G14 G15 b5 Δ0 (λ Ψ. Ψ) at4 (Lifetime.g-end 𝓤 H A W E G14 10 Path'.refl) (Typed.g-pre 𝓤 H A W 𝓣 E G15 G16 b5 Δ0 (Typed.both s14) at2 (Relend.g-back-sl 𝓤 H A W E Rec.rt G15 13 9 8 10 ty·1 ty·0 (Row.lease (κs .1 .1 .1 .1 .1
+              .1 .1 .1 .0) (qs .1 .1 .1 .1 .1 .1 .1 .1 .0)) (λ x. x) (λ x. x) (Reads.as-is 𝓤 H A (Mut.msleft Rec.rt ty·0)) (Reads.as-is 𝓤 H A (Relend.mslice-owed Rec.rt ty·1 8 10 (Row.lease (κs .1 .1 .1 .1 .1 .1 .1 .1 .0) (qs .1 .1 .1 .1 .1 .1 .1 .1 .0)))) Path'.refl Path'.refl) (Typed.g-pre 𝓤 H A W 𝓣 E G16 G17 b5 Δ0 (λ Ψ. Ψ) at2 (Lifetime.g-forget 𝓤 H A W E G16
+              10 Row.dead Path'.refl) d2)))
 
           d8 : Typed.Typed 𝓤 H A 𝓣 E G11 b8 Δ0 at8
           d8 = Typed.s-seq 𝓤 H A W 𝓣 E G11 G12 b0 b7 Δ0 (Typed.give s10) at7 (Relend.t-sl-relend 𝓤 H A W E Rec.rt 𝓣 G11 9 12 8 10 ty·1 ty·0 (Row.lease (κs .1 .1 .1 .1 .1 .1 .1 .1 .0) (qs .1 .1 .1 .1 .1 .1 .1 .1 .0)) 0 (λ x. x) (Reads.as-is 𝓤 H A (Mut.mslice Rec.rt ty·1 8)) (Reads.room-gone 𝓤 H A ty·0) Path'.refl tt Path'.refl Path'.refl Path'.refl λ b o. tt)
-              d7
-
-          d9 : Typed.Typed 𝓤 H A 𝓣 E G10 b8 Δ0 at9
-          d9 = Typed.g-pre 𝓤 H A W 𝓣 E G10 G11 b8 Δ0 (λ Ψ. Ψ) at8 (Lifetime.g-begin 𝓤 H A W E G10 10 (tt, (tt, (tt, (tt, (tt, (tt, (tt, (tt, (tt, (tt, (tt, (tt, (tt, (tt, tt))))))))))))))) d8
-
-          d10 : Typed.Typed 𝓤 H A 𝓣 E G9 b8 Δ0 at10
-          d10 = Typed.g-pre 𝓤 H A W 𝓣 E G9 G10 b8 Δ0 (Typed.give s8) at9 (Know.g-shs-known 𝓤 H A W (Referent.fInt Syntax.w16) E G9 10 9 ty·10 (Row.lease (κs .1 .1 .1 .1 .1 .1 .1 .1 .1 .0) (qs .1 .1 .1 .1 .1 .1 .1 .1 .1 .0)) 0 (λ x. x) record { fits = Dec'.lit< tt } (Reads.as-is 𝓤 H A (Rows.sslice (Referent.rtF (Referent.fInt Syntax.w16)) ty·10 9)) Path'.refl
-              tt) d9
-
-          d11 : Typed.Typed 𝓤 H A 𝓣 E G8 b8 Δ0 at11
-          d11 = Typed.g-pre 𝓤 H A W 𝓣 E G8 G9 b8 Δ0 (Typed.give s7) at10 (Know.g-shs-known 𝓤 H A W (Referent.fInt Syntax.w8) E G8 8 7 ty·3 (Row.lease (κs .1 .1 .1 .1 .1 .1 .1 .0) (qs .1 .1 .1 .1 .1 .1 .1 .0)) 0 (λ x. x) record { fits = Dec'.lit< tt } (Reads.as-is 𝓤 H A (Rows.sslice (Referent.rtF (Referent.fInt Syntax.w8)) ty·3 7)) Path'.refl tt) d10
-
-          d12 : Typed.Typed 𝓤 H A 𝓣 E G7 b8 Δ0 at12
-          d12 = Typed.g-pre 𝓤 H A W 𝓣 E G7 G8 b8 Δ0 (Typed.give s6) at11 (Know.g-shs-known 𝓤 H A W (Referent.fInt Syntax.w16) E G7 7 6 ty·9 (Row.lease (κs .1 .1 .1 .1 .1 .1 .0) (qs .1 .1 .1 .1 .1 .1 .0)) 0 (λ x. x) record { fits = Dec'.lit< tt } (Reads.as-is 𝓤 H A (Rows.sslice (Referent.rtF (Referent.fInt Syntax.w16)) ty·9 6)) Path'.refl tt) d11
-
-          d13 : Typed.Typed 𝓤 H A 𝓣 E G6 b8 Δ0 at13
-          d13 = Typed.g-pre 𝓤 H A W 𝓣 E G6 G7 b8 Δ0 (Typed.give s5) at12 (Know.g-shs-known 𝓤 H A W (Referent.fInt Syntax.w32) E G6 6 5 ty·8 (Row.lease (κs .1 .1 .1 .1 .1 .0) (qs .1 .1 .1 .1 .1 .0)) 0 (λ x. x) record { fits = Dec'.lit< tt } (Reads.as-is 𝓤 H A (Rows.sslice (Referent.rtF (Referent.fInt Syntax.w32)) ty·8 5)) Path'.refl tt) d12
-
-          d14 : Typed.Typed 𝓤 H A 𝓣 E G5 b8 Δ0 at14
-          d14 = Typed.g-pre 𝓤 H A W 𝓣 E G5 G6 b8 Δ0 (Typed.give s4) at13 (Know.g-shs-known 𝓤 H A W (Referent.fInt Syntax.w16) E G5 5 4 ty·7 (Row.lease (κs .1 .1 .1 .1 .0) (qs .1 .1 .1 .1 .0)) 0 (λ x. x) record { fits = Dec'.lit< tt } (Reads.as-is 𝓤 H A (Rows.sslice (Referent.rtF (Referent.fInt Syntax.w16)) ty·7 4)) Path'.refl tt) d13
-
-          d15 : Typed.Typed 𝓤 H A 𝓣 E G4 b8 Δ0 at15
-          d15 = Typed.g-pre 𝓤 H A W 𝓣 E G4 G5 b8 Δ0 (Typed.give s3) at14 (Know.g-shs-known 𝓤 H A W (Referent.fInt Syntax.w16) E G4 4 3 ty·6 (Row.lease (κs .1 .1 .1 .0) (qs .1 .1 .1 .0)) 0 (λ x. x) record { fits = Dec'.lit< tt } (Reads.as-is 𝓤 H A (Rows.sslice (Referent.rtF (Referent.fInt Syntax.w16)) ty·6 3)) Path'.refl tt) d14
-
-          d16 : Typed.Typed 𝓤 H A 𝓣 E G3 b8 Δ0 at16
-          d16 = Typed.g-pre 𝓤 H A W 𝓣 E G3 G4 b8 Δ0 (Typed.give s2) at15 (Know.g-shs-known 𝓤 H A W (Referent.fInt Syntax.w8) E G3 3 2 ty·2 (Row.lease (κs .1 .1 .0) (qs .1 .1 .0)) 0 (λ x. x) record { fits = Dec'.lit< tt } (Reads.as-is 𝓤 H A (Rows.sslice (Referent.rtF (Referent.fInt Syntax.w8)) ty·2 2)) Path'.refl tt) d15
-
-          d17 : Typed.Typed 𝓤 H A 𝓣 E G2 b8 Δ0 at17
-          d17 = Typed.g-pre 𝓤 H A W 𝓣 E G2 G3 b8 Δ0 (Typed.give s1) at16 (Know.g-shs-known 𝓤 H A W (Referent.fInt Syntax.w16) E G2 2 1 ty·5 (Row.lease (κs .1 .0) (qs .1 .0)) 0 (λ x. x) record { fits = Dec'.lit< tt } (Reads.as-is 𝓤 H A (Rows.sslice (Referent.rtF (Referent.fInt Syntax.w16)) ty·5 1)) Path'.refl tt) d16
-
-          d18 : Typed.Typed 𝓤 H A 𝓣 E G0 b8 Δ0 at18
-          d18 = Typed.g-pre 𝓤 H A W 𝓣 E G0 G2 b8 Δ0 (Typed.give s0) at17 (Know.g-shs-known 𝓤 H A W (Referent.fInt Syntax.w16) E G0 1 0 ty·4 (Row.lease (κs .0) (qs .0)) 0 (λ x. x) record { fits = Dec'.lit< tt } (Reads.as-is 𝓤 H A (Rows.sslice (Referent.rtF (Referent.fInt Syntax.w16)) ty·4 0)) Path'.refl tt) d17
+              (Typed.s-seq 𝓤 H A W 𝓣 E G12 G13 b1 b6 Δ0 (Typed.ask s11) at6 (Relend.t-sl-aggregate 𝓤 H A W E Rec.rt 𝓣 (Relend.asMut Rec.rt) G12 12 13 10 ty·0 ty·0 (λ x. x) (Scalar.oFld 9 (List._∷_ (Syntax.field 1) List.[]) (Syntax.tyInt Syntax.w64) 8 λ v. Shared.lenV (v .0)) (Reads.as-is 𝓤 H A (Relend.msptr Rec.rt ty·0 10)) (Reads.room-gone 𝓤 H A
+              (Syntax.tyStruct (List._∷_ 38 (List._∷_ 91 (List._∷_ 93 List.[]))) (Syntax.tcons ty·0 (Syntax.tcons (Syntax.tyInt Syntax.w64) Syntax.tnil)))) (Relend.reads-owed-len 𝓤 H A W Rec.rt ty·1 8 10 (Row.lease (κs .1 .1 .1 .1 .1 .1 .1 .1 .0) (qs .1 .1 .1 .1 .1 .1 .1 .1 .0)) 8 Path'.refl, Path'.refl) Path'.refl Path'.refl λ b o k. tt) d6)
 
           pub typed : Typed.Typed 𝓤 H A 𝓣 E (Function.Γin 10 ps r xs m κs qs) b8 (Function.Δret 10 ps r xs m κs qs) Φ
-          typed = d18
+          typed = (Typed.g-pre 𝓤 H A W 𝓣 E G0 G11 b8 Δ0 (λ Ψ. Ψ) at8 (Lifetime.g-begin 𝓤 H A W E G0 10 (tt, (tt, (tt, (tt, (tt, (tt, (tt, (tt, (tt, (tt, (tt, (tt, (tt, (tt, tt))))))))))))))) d8)
 
       module _ (κs : Lifetimes.Lfts 10) where
         pub record Args : Type 0 where
@@ -978,20 +416,13 @@ module _ (claims· : Claims) where
           pub list : Kinds.Den {n = 10} κs (ShrSlice.pShrS (Referent.rtF (Referent.fInt Syntax.w16)) 9 tt)
 
         abbrev pub dens : (a : Args) → Kinds.Dens κs ps
-        dens = λ a. (
-          a .drone-count,
-          (a .dependency-count, (a .names, (a .stop-counts, (a .locations, (a .times, (a .visited, (a .drone-flags, (a .dependencies, (a .list, tt))))))))),
-        )
+        dens = λ a. (a .drone-count, (a .dependency-count, (a .names, (a .stop-counts, (a .locations, (a .times, (a .visited, (a .drone-flags, (a .dependencies, (a .list, tt))))))))))
 
       abbrev pub m0 : (κs : Lifetimes.Lfts 10) → (args : Args κs) → Typed.Mo T0
       m0 = λ κs args. (tt, Enter.partsP κs 1 ps xs (dens κs args))
 
       abbrev W0 : (κs : Lifetimes.Lfts 10) → (args : Args κs) → Typed.Want O0
-      W0 = λ κs args. (
-        λ u. ⊥,
-        tt,
-        λ u. Enter.Fixs κs 1 ps xs (dens κs args) (u .1) × Post· κs (dens κs args) (Function.resV r κs (u .0)) (Clauses.atExit (Kinds.endedOf 10 ps r) κs (dens κs args) (Enter.lastsP κs 1 ps xs (dens κs args) (u .1))),
-      )
+      W0 = λ κs args. (λ u. ⊥, tt, λ u. Enter.Fixs κs 1 ps xs (dens κs args) (u .1) × Post· κs (dens κs args) (Function.resV r κs (u .0)) (Clauses.atExit (Kinds.endedOf 10 ps r) κs (dens κs args) (Enter.lastsP κs 1 ps xs (dens κs args) (u .1))))
 
       pub record Start : Type 0 where
         pub κs : Lifetimes.Lfts 10
@@ -999,117 +430,15 @@ module _ (claims· : Claims) where
         pub good : Kinds.GoodsP κs ps (dens κs args)
         pub pre : Pre· κs (dens κs args)
 
-      abbrev pub m1 : (before : Start) → (given : s0 .gives (m0 (before .κs) (before .args))) → Typed.Mo T2
-      m1 = λ before given. s0 .next (m0 (before .κs) (before .args)) given
+      abbrev pub m11 : (before : Start) → (given : s10 .gives (m0 (before .κs) (before .args))) → Typed.Mo T13
+      m11 = λ before given. s11 .next (s10 .next (m0 (before .κs) (before .args)) given)
 
       module _ (before· : Start) where
-        pub record After-shared-slice-known·own : Type 0 where
-          pub given : s0 .gives (m0 (before· .κs) (before· .args))
-
-      pub record After-shared-slice-known : Type 0 where
-        pub before : Start
-        pub shared-slice-known : After-shared-slice-known·own before
-
-      abbrev pub m2 : (before : After-shared-slice-known) → (given : s1 .gives (m1 (before .before) (before .shared-slice-known .given))) → Typed.Mo T3
-      m2 = λ before given. s1 .next (m1 (before .before) (before .shared-slice-known .given)) given
-
-      module _ (before· : After-shared-slice-known) where
-        pub record After-shared-slice-known2·own : Type 0 where
-          pub given : s1 .gives (m1 (before· .before) (before· .shared-slice-known .given))
-
-      pub record After-shared-slice-known2 : Type 0 where
-        pub before : After-shared-slice-known
-        pub shared-slice-known2 : After-shared-slice-known2·own before
-
-      abbrev pub m3 : (before : After-shared-slice-known2) → (given : s2 .gives (m2 (before .before) (before .shared-slice-known2 .given))) → Typed.Mo T4
-      m3 = λ before given. s2 .next (m2 (before .before) (before .shared-slice-known2 .given)) given
-
-      module _ (before· : After-shared-slice-known2) where
-        pub record After-shared-slice-known3·own : Type 0 where
-          pub given : s2 .gives (m2 (before· .before) (before· .shared-slice-known2 .given))
-
-      pub record After-shared-slice-known3 : Type 0 where
-        pub before : After-shared-slice-known2
-        pub shared-slice-known3 : After-shared-slice-known3·own before
-
-      abbrev pub m4 : (before : After-shared-slice-known3) → (given : s3 .gives (m3 (before .before) (before .shared-slice-known3 .given))) → Typed.Mo T5
-      m4 = λ before given. s3 .next (m3 (before .before) (before .shared-slice-known3 .given)) given
-
-      module _ (before· : After-shared-slice-known3) where
-        pub record After-shared-slice-known4·own : Type 0 where
-          pub given : s3 .gives (m3 (before· .before) (before· .shared-slice-known3 .given))
-
-      pub record After-shared-slice-known4 : Type 0 where
-        pub before : After-shared-slice-known3
-        pub shared-slice-known4 : After-shared-slice-known4·own before
-
-      abbrev pub m5 : (before : After-shared-slice-known4) → (given : s4 .gives (m4 (before .before) (before .shared-slice-known4 .given))) → Typed.Mo T6
-      m5 = λ before given. s4 .next (m4 (before .before) (before .shared-slice-known4 .given)) given
-
-      module _ (before· : After-shared-slice-known4) where
-        pub record After-shared-slice-known5·own : Type 0 where
-          pub given : s4 .gives (m4 (before· .before) (before· .shared-slice-known4 .given))
-
-      pub record After-shared-slice-known5 : Type 0 where
-        pub before : After-shared-slice-known4
-        pub shared-slice-known5 : After-shared-slice-known5·own before
-
-      abbrev pub m6 : (before : After-shared-slice-known5) → (given : s5 .gives (m5 (before .before) (before .shared-slice-known5 .given))) → Typed.Mo T7
-      m6 = λ before given. s5 .next (m5 (before .before) (before .shared-slice-known5 .given)) given
-
-      module _ (before· : After-shared-slice-known5) where
-        pub record After-shared-slice-known6·own : Type 0 where
-          pub given : s5 .gives (m5 (before· .before) (before· .shared-slice-known5 .given))
-
-      pub record After-shared-slice-known6 : Type 0 where
-        pub before : After-shared-slice-known5
-        pub shared-slice-known6 : After-shared-slice-known6·own before
-
-      abbrev pub m7 : (before : After-shared-slice-known6) → (given : s6 .gives (m6 (before .before) (before .shared-slice-known6 .given))) → Typed.Mo T8
-      m7 = λ before given. s6 .next (m6 (before .before) (before .shared-slice-known6 .given)) given
-
-      module _ (before· : After-shared-slice-known6) where
-        pub record After-shared-slice-known7·own : Type 0 where
-          pub given : s6 .gives (m6 (before· .before) (before· .shared-slice-known6 .given))
-
-      pub record After-shared-slice-known7 : Type 0 where
-        pub before : After-shared-slice-known6
-        pub shared-slice-known7 : After-shared-slice-known7·own before
-
-      abbrev pub m8 : (before : After-shared-slice-known7) → (given : s7 .gives (m7 (before .before) (before .shared-slice-known7 .given))) → Typed.Mo T9
-      m8 = λ before given. s7 .next (m7 (before .before) (before .shared-slice-known7 .given)) given
-
-      module _ (before· : After-shared-slice-known7) where
-        pub record After-shared-slice-known8·own : Type 0 where
-          pub given : s7 .gives (m7 (before· .before) (before· .shared-slice-known7 .given))
-
-      pub record After-shared-slice-known8 : Type 0 where
-        pub before : After-shared-slice-known7
-        pub shared-slice-known8 : After-shared-slice-known8·own before
-
-      abbrev pub m9 : (before : After-shared-slice-known8) → (given : s8 .gives (m8 (before .before) (before .shared-slice-known8 .given))) → Typed.Mo T10
-      m9 = λ before given. s8 .next (m8 (before .before) (before .shared-slice-known8 .given)) given
-
-      module _ (before· : After-shared-slice-known8) where
-        pub record After-shared-slice-known9·own : Type 0 where
-          pub given : s8 .gives (m8 (before· .before) (before· .shared-slice-known8 .given))
-
-      pub record After-shared-slice-known9 : Type 0 where
-        pub before : After-shared-slice-known8
-        pub shared-slice-known9 : After-shared-slice-known9·own before
-
-      abbrev pub m10 : (before : After-shared-slice-known9) → (given : s10 .gives (m9 (before .before) (before .shared-slice-known9 .given))) → Typed.Mo T12
-      m10 = λ before given. s10 .next (m9 (before .before) (before .shared-slice-known9 .given)) given
-
-      abbrev pub m11 : (before : After-shared-slice-known9) → (given : s10 .gives (m9 (before .before) (before .shared-slice-known9 .given))) → Typed.Mo T13
-      m11 = λ before given. s11 .next (m10 before given)
-
-      module _ (before· : After-shared-slice-known9) where
         pub record After-turn-all-arg·own : Type 0 where
-          pub given : s10 .gives (m9 (before· .before) (before· .shared-slice-known9 .given))
+          pub given : s10 .gives (m0 (before· .κs) (before· .args))
 
       pub record After-turn-all-arg : Type 0 where
-        pub before : After-shared-slice-known9
+        pub before : Start
         pub turn-all-arg : After-turn-all-arg·own before
 
       abbrev pub Need-turn-all-requires : Type 0
@@ -1120,94 +449,14 @@ module _ (claims· : Claims) where
 
       module _ (before· : After-turn-all-arg) where
         abbrev pub After-turn-all·own : Type 0
-        After-turn-all·own = Called.Called ps·0 r·0 (claims· .1) T13 (
-          record { pos = 1; ty = Syntax.tyRef (Syntax.named 0) Syntax.imm (Syntax.tyInt Syntax.w16); ref = λ x. x },
-          (
-            record { pos = 2; ty = Syntax.tyRef (Syntax.named 1) Syntax.imm (Syntax.tyInt Syntax.w16); ref = λ x. x },
-            (
-              record {
-                pos = 3;
-                ty = Syntax.tyRef (Syntax.named 2) Syntax.imm (Syntax.tyInt Syntax.w8);
-                ref = λ x. x;
-              },
-              (
-                record { pos = 4; ty = Syntax.tyRef (Syntax.named 3) Syntax.imm (Syntax.tyInt Syntax.w16); ref = λ x. x },
-                (
-                  record { pos = 5; ty = Syntax.tyRef (Syntax.named 4) Syntax.imm (Syntax.tyInt Syntax.w16); ref = λ x. x },
-                  (
-                    record {
-                      pos = 6;
-                      ty = Syntax.tyRef (Syntax.named 5) Syntax.imm (Syntax.tyInt Syntax.w32);
-                      ref = λ x. x;
-                    },
-                    (
-                      record { pos = 7; ty = Syntax.tyRef (Syntax.named 6) Syntax.imm (Syntax.tyInt Syntax.w16); ref = λ x. x },
-                      (
-                        record { pos = 8; ty = Syntax.tyRef (Syntax.named 7) Syntax.imm (Syntax.tyInt Syntax.w8); ref = λ x. x },
-                        (
-                          record {
-                            pos = 13;
-                            ty = Syntax.tyRef
-                                Syntax.erased Syntax.mut Rec.behind;
-                            ref = λ x. x;
-                          },
-                          (record { pos = 10; ty = Syntax.tyRef (Syntax.named 9) Syntax.imm (Syntax.tyInt Syntax.w16); ref = λ x. x }, tt),
-                        ),
-                      ),
-                    ),
-                  ),
-                ),
-              ),
-            ),
-          ),
-        ) (m11 (before· .before) (before· .turn-all-arg .given))
+        After-turn-all·own = Called.Called ps·0 r·0 (claims· .1) T13 args·0 (m11 (before· .before) (before· .turn-all-arg .given))
 
       pub record After-turn-all : Type 0 where
         pub before : After-turn-all-arg
         pub turn-all : After-turn-all·own before
 
       abbrev pub After-turn-all·gave : (c : After-turn-all) → s12 .gives (m11 (c .before .before) (c .before .turn-all-arg .given))
-      After-turn-all·gave = λ c. Called.given ps·0 r·0 (claims· .1) T13 (
-        record { pos = 1; ty = Syntax.tyRef (Syntax.named 0) Syntax.imm (Syntax.tyInt Syntax.w16); ref = λ x. x },
-        (
-          record { pos = 2; ty = Syntax.tyRef (Syntax.named 1) Syntax.imm (Syntax.tyInt Syntax.w16); ref = λ x. x },
-          (
-            record {
-              pos = 3;
-              ty = Syntax.tyRef (Syntax.named 2) Syntax.imm (Syntax.tyInt Syntax.w8);
-              ref = λ x. x;
-            },
-            (
-              record { pos = 4; ty = Syntax.tyRef (Syntax.named 3) Syntax.imm (Syntax.tyInt Syntax.w16); ref = λ x. x },
-              (
-                record { pos = 5; ty = Syntax.tyRef (Syntax.named 4) Syntax.imm (Syntax.tyInt Syntax.w16); ref = λ x. x },
-                (
-                  record {
-                    pos = 6;
-                    ty = Syntax.tyRef (Syntax.named 5) Syntax.imm (Syntax.tyInt Syntax.w32);
-                    ref = λ x. x;
-                  },
-                  (
-                    record { pos = 7; ty = Syntax.tyRef (Syntax.named 6) Syntax.imm (Syntax.tyInt Syntax.w16); ref = λ x. x },
-                    (
-                      record { pos = 8; ty = Syntax.tyRef (Syntax.named 7) Syntax.imm (Syntax.tyInt Syntax.w8); ref = λ x. x },
-                      (
-                        record {
-                          pos = 13;
-                          ty = Syntax.tyRef
-                              Syntax.erased Syntax.mut Rec.behind;
-                          ref = λ x. x;
-                        },
-                        (record { pos = 10; ty = Syntax.tyRef (Syntax.named 9) Syntax.imm (Syntax.tyInt Syntax.w16); ref = λ x. x }, tt),
-                      ),
-                    ),
-                  ),
-                ),
-              ),
-            ),
-          ),
-        ),
-      ) (m11 (c .before .before) (c .before .turn-all-arg .given)) (c .turn-all)
+      After-turn-all·gave = λ c. Called.given ps·0 r·0 (claims· .1) T13 args·0 (m11 (c .before .before) (c .before .turn-all-arg .given)) (c .turn-all)
 
       abbrev pub m13 : (before : After-turn-all) → (given : s14 .gives (m12 (before .before) (After-turn-all·gave before))) → Typed.Mo T16
       m13 = λ before given. s14 .next (m12 (before .before) (After-turn-all·gave before)) given
@@ -1228,227 +477,41 @@ module _ (claims· : Claims) where
 
       module _ (before· : After-dependencies) where
         abbrev pub After-of-turn-all·own : Type 0
-        After-of-turn-all·own = Called.Called ps·1 r·1 (claims· .3) T16 (
-          record { pos = 11; st = List.[]; d = 0; at = λ x. x },
-          tt,
-        ) (m13 (before· .before) (before· .dependencies .given))
+        After-of-turn-all·own = Called.Called ps·1 r·1 (claims· .3) T16 (record { pos = 11; st = List.[]; d = 0; at = λ x. x }, tt) (m13 (before· .before) (before· .dependencies .given))
 
       pub record After-of-turn-all : Type 0 where
         pub before : After-dependencies
         pub of-turn-all : After-of-turn-all·own before
 
       abbrev pub After-of-turn-all·gave : (c : After-of-turn-all) → s16 .gives (m13 (c .before .before) (c .before .dependencies .given))
-      After-of-turn-all·gave = λ c. Called.given ps·1 r·1 (claims· .3) T16 (
-        record { pos = 11; st = List.[]; d = 0; at = λ x. x },
-        tt,
-      ) (m13 (c .before .before) (c .before .dependencies .given)) (c .of-turn-all)
+      After-of-turn-all·gave = λ c. Called.given ps·1 r·1 (claims· .3) T16 (record { pos = 11; st = List.[]; d = 0; at = λ x. x }, tt) (m13 (c .before .before) (c .before .dependencies .given)) (c .of-turn-all)
 
-      abbrev pub m15 : (before : After-dependencies) → (given : s16 .gives (m13 (before .before) (before .dependencies .given))) → Typed.Mo T19
+      abbrev pub m15 : (before : After-dependencies) → (given : s16 .gives (m13 (before .before) (before .dependencies .given))) → Typed.Mo T1
       m15 = λ before given. s17 (m14 before given)
 
       abbrev pub Need-same-length : Type 0
-      Need-same-length = (c : After-of-turn-all) → MutSlice.SameLen (Row.get 9 (T19 .locals) (m15 (c .before) (After-of-turn-all·gave c))) (dens (c .before .before .before .before .before .before .before .before .before .before .before .before .before .κs) (c .before .before .before .before .before .before .before .before .before .before
-          .before .before .before .args) .1 .1 .1 .1 .1 .1 .1 .1 .0)
+      Need-same-length = (c : After-of-turn-all) → MutSlice.SameLen (Row.get 9 (T1 .locals) (m15 (c .before) (After-of-turn-all·gave c))) (dens (c .before .before .before .before .κs) (c .before .before .before .before .args) .1 .1 .1 .1 .1 .1 .1 .1 .0)
 
       abbrev pub Need-returns : Type 0
-      Need-returns = (c : After-of-turn-all) → Post· (c .before .before .before .before .before .before .before .before .before .before .before .before .before .κs) (dens (c .before .before .before .before .before .before .before .before .before .before .before .before .before .κs)
-          (c .before .before .before .before .before .before .before .before .before .before .before .before .before .args)) (Function.resV r (c .before .before .before .before .before .before .before .before .before .before .before .before .before .κs) (m15 (c .before) (After-of-turn-all·gave c) .0)) (Clauses.atExit (Kinds.endedOf 10 ps r)
-          (c .before .before .before .before .before .before .before .before .before .before .before .before .before .κs) (dens (c .before .before .before .before .before .before .before .before .before .before .before .before .before .κs) (c .before .before .before .before .before .before .before .before .before .before
-          .before .before .before .args)) (Enter.lastsP (c .before .before .before .before .before .before .before .before .before .before .before .before .before .κs) 1 ps xs (dens (c .before .before .before .before .before .before .before .before .before .before .before .before .before .κs)
-          (c .before .before .before .before .before .before .before .before .before .before .before .before .before .args)) (m15 (c .before) (After-of-turn-all·gave c) .1)))
+      Need-returns = (c : After-of-turn-all) → Post· (c .before .before .before .before .κs) (dens (c .before .before .before .before .κs) (c .before .before .before .before .args)) (Function.resV r (c .before .before .before .before .κs) (m15 (c .before) (After-of-turn-all·gave c) .0)) (Clauses.atExit (Kinds.endedOf 10 ps r) (c .before .before .before
+          .before .κs) (dens (c .before .before .before .before .κs) (c .before .before .before .before .args)) (Enter.lastsP (c .before .before .before .before .κs) 1 ps xs (dens (c .before .before .before .before .κs) (c .before .before .before .before .args)) (m15 (c .before) (After-of-turn-all·gave c) .1)))
 
       module _ (turn-all-requires : Need-turn-all-requires) (of-turn-all-requires : Need-of-turn-all-requires) (same-length : Need-same-length) (returns : Need-returns) where
-        lay2 : (c : After-of-turn-all) → at1 (W0 (c .before .before .before .before .before .before .before .before .before .before .before .before .before .κs) (c .before .before .before .before .before .before .before .before .before .before .before .before .before .args)) (m14 (c .before) (After-of-turn-all·gave c))
-        lay2 = λ c. (
-          (
-            Path'.refl,
-            (
-              Path'.refl,
-              (
-                Path'.refl,
-                (
-                  Path'.refl,
-                  (
-                    Path'.refl,
-                    (
-                      Path'.refl,
-                      (
-                        Path'.refl,
-                        (
-                          Path'.refl,
-                          (
-                            MutSlice.fix-len (Row.get 9 (T19 .locals) (m15 (c .before) (After-of-turn-all·gave c)) .ptr) (Row.get 9 (T19 .locals) (m15 (c .before) (After-of-turn-all·gave c)) .name) (Row.get 9
-                                (T19 .locals) (m15 (c .before) (After-of-turn-all·gave c)) .now) (dens (c .before .before .before .before .before .before .before .before .before .before .before .before .before .κs) (c .before .before .before .before .before .before .before .before .before .before .before .before .before .args) .1 .1 .1 .1 .1 .1 .1 .1 .0 .now) (same-length
-                                record { before = c .before; of-turn-all = c .of-turn-all }),
-                            (Path'.refl, tt),
-                          ),
-                        ),
-                      ),
-                    ),
-                  ),
-                ),
-              ),
-            ),
-          ),
-          returns record { before = c .before; of-turn-all = c .of-turn-all },
-        )
+        lay2 : (c : After-of-turn-all) → at1 (W0 (c .before .before .before .before .κs) (c .before .before .before .before .args)) (m14 (c .before) (After-of-turn-all·gave c))
+        lay2 = λ c.
+            ((Path'.refl, (Path'.refl, (Path'.refl, (Path'.refl, (Path'.refl, (Path'.refl, (Path'.refl, (Path'.refl, (MutSlice.fix-len (Row.get 9 (T1 .locals) (m15 (c .before) (After-of-turn-all·gave c)) .ptr) (Row.get 9 (T1 .locals) (m15 (c .before) (After-of-turn-all·gave c)) .name) (Row.get 9 (T1 .locals) (m15 (c .before) (After-of-turn-all·gave c)) .now) (dens (c .before .before .before .before .κs) (c .before .before .before .before .args) .1 .1 .1 .1 .1 .1 .1 .1 .0 .now) (same-length record { before = c .before; of-turn-all = c .of-turn-all }), (Path'.refl, tt)))))))))), returns record { before = c .before; of-turn-all = c .of-turn-all })
 
-        lay1 : (c : After-turn-all) → at5 (W0 (c .before .before .before .before .before .before .before .before .before .before .before .κs) (c .before .before .before .before .before .before .before .before .before .before .before .args)) (m12 (c .before) (After-turn-all·gave c))
-        lay1 = λ c. (
-          Path'.refl,
-          λ g. (
-            of-turn-all-requires record { before = record { before = c .before; turn-all = c .turn-all }; dependencies = record { given = g } },
-            λ g'. lay2 record {
-              before = record { before = record { before = c .before; turn-all = c .turn-all }; dependencies = record { given = g } };
-              of-turn-all = Called.called ps·1 r·1 (claims· .3) T16 (record { pos = 11; st = List.[]; d = 0; at = λ x. x }, tt) (m13 record { before = c .before; turn-all = c .turn-all } g) g';
-            },
-          ),
-        )
+        lay1 : (c : After-turn-all) → at4 (W0 (c .before .before .κs) (c .before .before .args)) (m12 (c .before) (After-turn-all·gave c))
+        lay1 = λ c.
+            (Path'.refl, λ g. (of-turn-all-requires record { before = record { before = c .before; turn-all = c .turn-all }; dependencies = record { given = g } }, λ g'. lay2 record { before = record { before = record { before = c .before; turn-all = c .turn-all }; dependencies = record { given = g } }; of-turn-all = Called.called ps·1 r·1 (claims· .3) T16 (record { pos = 11; st = List.[]; d = 0; at = λ x. x }, tt) (m13 record { before = c .before; turn-all = c .turn-all } g) g' }))
 
-        pub laid : (c : Start) → at18 (W0 (c .κs) (c .args)) (m0 (c .κs) (c .args))
-        laid = λ c. λ g. λ g'. λ g''. λ g'3. λ g'4. λ g'5. λ g'6. λ g'7. λ g'8. λ g'9. (
-          Path'.refl,
-          (
-            turn-all-requires record {
-              before = record {
-                before = record {
-                  before = record {
-                    before = record {
-                      before = record {
-                        before = record {
-                          before = record {
-                            before = record {
-                              before = record { before = c; shared-slice-known = record { given = g } };
-                              shared-slice-known2 = record { given = g' };
-                            };
-                            shared-slice-known3 = record { given = g'' };
-                          };
-                          shared-slice-known4 = record { given = g'3 };
-                        };
-                        shared-slice-known5 = record { given = g'4 };
-                      };
-                      shared-slice-known6 = record { given = g'5 };
-                    };
-                    shared-slice-known7 = record { given = g'6 };
-                  };
-                  shared-slice-known8 = record { given = g'7 };
-                };
-                shared-slice-known9 = record { given = g'8 };
-              };
-              turn-all-arg = record { given = g'9 };
-            },
-            λ g'10. lay1 record {
-              before = record {
-                before = record {
-                  before = record {
-                    before = record {
-                      before = record {
-                        before = record {
-                          before = record {
-                            before = record {
-                              before = record {
-                                before = record {
-                                  before = c;
-                                  shared-slice-known = record { given = g };
-                                };
-                                shared-slice-known2 = record { given = g' };
-                              };
-                              shared-slice-known3 = record { given = g'' };
-                            };
-                            shared-slice-known4 = record { given = g'3 };
-                          };
-                          shared-slice-known5 = record { given = g'4 };
-                        };
-                        shared-slice-known6 = record { given = g'5 };
-                      };
-                      shared-slice-known7 = record { given = g'6 };
-                    };
-                    shared-slice-known8 = record { given = g'7 };
-                  };
-                  shared-slice-known9 = record { given = g'8 };
-                };
-                turn-all-arg = record { given = g'9 };
-              };
-              turn-all = Called.called ps·0 r·0 (claims· .1) T13 (
-                record { pos = 1; ty = Syntax.tyRef (Syntax.named 0) Syntax.imm (Syntax.tyInt Syntax.w16); ref = λ x. x },
-                (
-                  record {
-                    pos = 2;
-                    ty = Syntax.tyRef (Syntax.named 1) Syntax.imm (Syntax.tyInt Syntax.w16);
-                    ref = λ x. x;
-                  },
-                  (
-                    record { pos = 3; ty = Syntax.tyRef (Syntax.named 2) Syntax.imm (Syntax.tyInt Syntax.w8); ref = λ x. x },
-                    (
-                      record { pos = 4; ty = Syntax.tyRef (Syntax.named 3) Syntax.imm (Syntax.tyInt Syntax.w16); ref = λ x. x },
-                      (
-                        record { pos = 5; ty = Syntax.tyRef (Syntax.named 4) Syntax.imm (Syntax.tyInt Syntax.w16); ref = λ x. x },
-                        (
-                          record { pos = 6; ty = Syntax.tyRef (Syntax.named 5) Syntax.imm (Syntax.tyInt Syntax.w32); ref = λ x. x },
-                          (
-                            record { pos = 7; ty = Syntax.tyRef (Syntax.named 6) Syntax.imm (Syntax.tyInt Syntax.w16); ref = λ x. x },
-                            (
-                              record { pos = 8; ty = Syntax.tyRef (Syntax.named 7) Syntax.imm (Syntax.tyInt Syntax.w8); ref = λ x. x },
-                              (
-                                record {
-                                  pos = 13;
-                                  ty = Syntax.tyRef Syntax.erased Syntax.mut Rec.behind;
-                                  ref = λ x. x;
-                                },
-                                (record { pos = 10; ty = Syntax.tyRef (Syntax.named 9) Syntax.imm (Syntax.tyInt Syntax.w16); ref = λ x. x }, tt),
-                              ),
-                            ),
-                          ),
-                        ),
-                      ),
-                    ),
-                  ),
-                ),
-              ) (m11 record {
-                before = record {
-                  before = record {
-                    before = record {
-                      before = record {
-                        before = record {
-                          before = record {
-                            before = record { before = record { before = c; shared-slice-known = record { given = g } }; shared-slice-known2 = record { given = g' } };
-                            shared-slice-known3 = record { given = g'' };
-                          };
-                          shared-slice-known4 = record { given = g'3 };
-                        };
-                        shared-slice-known5 = record { given = g'4 };
-                      };
-                      shared-slice-known6 = record { given = g'5 };
-                    };
-                    shared-slice-known7 = record { given = g'6 };
-                  };
-                  shared-slice-known8 = record { given = g'7 };
-                };
-                shared-slice-known9 = record { given = g'8 };
-              } g'9) g'10;
-            },
-          ),
-        )
+        pub laid : (c : Start) → at8 (W0 (c .κs) (c .args)) (m0 (c .κs) (c .args))
+        laid = λ c. λ g'9. (Path'.refl, (turn-all-requires record { before = c; turn-all-arg = record { given = g'9 } }, λ g'10. lay1 record { before = record { before = c; turn-all-arg = record { given = g'9 } }; turn-all = Called.called ps·0 r·0 (claims· .1) T13 args·0 (m11 c g'9) g'10 }))
 
         module _ (κs : Lifetimes.Lfts 10) (qs : Lifetimes.Shares 10) where
           pub asked : (a : Kinds.Dens κs ps) → (good : Kinds.GoodsP κs ps a) → (pre : Pre· κs a) → (bs : List.List Nat.ℕ) → Φ (Any.wantQ 10 ps r xs m κs qs a (Post· κs a)) (Function.init 10 ps r xs m κs qs a)
-          asked = λ a good pre bs. laid record {
-            κs = κs;
-            args = record {
-              drone-count = a .0;
-              dependency-count = a .1 .0;
-              names = a .1 .1 .0;
-              stop-counts = a .1 .1 .1 .0;
-              locations = a .1 .1 .1 .1 .0;
-              times = a .1 .1 .1 .1 .1 .0;
-              visited = a .1 .1 .1 .1 .1 .1 .0;
-              drone-flags = a .1 .1 .1 .1 .1 .1 .1 .0;
-              dependencies = a .1 .1 .1 .1 .1 .1 .1 .1 .0;
-              list = a .1 .1 .1 .1 .1 .1 .1 .1 .1 .0;
-            };
-            good = good;
-            pre = pre;
-          }
+          asked = λ a good pre bs. laid record
+              { κs = κs; args = record { drone-count = a .0; dependency-count = a .1 .0; names = a .1 .1 .0; stop-counts = a .1 .1 .1 .0; locations = a .1 .1 .1 .1 .0; times = a .1 .1 .1 .1 .1 .0; visited = a .1 .1 .1 .1 .1 .1 .0; drone-flags = a .1 .1 .1 .1 .1 .1 .1 .0; dependencies = a .1 .1 .1 .1 .1 .1 .1 .1 .0; list = a .1 .1 .1 .1 .1 .1 .1 .1 .1 .0 }; good = good; pre = pre }
 
         module _ {M : Type 1} (𝓤 : URA.URA M) (H : Wp.Heap 𝓤) (A : Atoms.Atoms 𝓤) (W : Kit.Given 𝓤 H A) (𝓣 : Wp.Tables 𝓤 H) (known0 : Plain.Known 𝓤 H A W 𝓣 10 ps·0 r·0 (claims· .0) (claims· .1) "conductor::calls::turn_all") (known1 : Plain.Known 𝓤 H A W 𝓣 0 ps·1 r·1 (claims· .2) (claims· .3) "board::answers::of_turn_all") where
           pub spec : Statement.Triple 𝓤 (Wp.WpFn 𝓤 H (𝓣 .C) (𝓣 .Λ) (Function.fnOf 10 ps r xs m hs body)) (Function.plainOf 𝓤 H A 10 ps r Pre· Post·)

@@ -1,74 +1,23 @@
--- `conductor::calls::cost` meets its contract: the refusals are those that the spreading tells, and the columns that it leaves are those of the records. Assumes nothing.
+-- `conductor::calls::cost` meets its contract: what is told over the columns is told of the records that were spread into them. Assumes nothing.
 mod Tie
 use Rattle.tables.specs.Limits.{limits}
-use Rattle.log.specs.Calls.{costReply}
-use Rattle.records.proofs.ColumnLaws.{zero-columns}
-use Rattle.records.proofs.Seen.{tables-spread}
-use Rattle.conductor.proofs.Over.{told-over, cost-41, cost-40, own-columns, whole-columns}
+use Rattle.records.proofs.ColumnLaws.{zero-in-columns}
 use borrow.Author.Needs.{needs}
 use Rattle.conductor.proofs.calls.cost.Statement.{statement}
 use Rattle.conductor.proofs.calls.cost.Proof.Tie as tie
 use Rattle.conductor.proofs.Derived.cost.Reads as reads
 use Rattle.conductor.proofs.Derived.cost.Lts as lts
-use Rattle.flat.proofs.calls.cost.Reads as cost-reads
+use Rattle.conductor.proofs.over.cost.Reads as cost-reads
 use Rattle.records.proofs.Derived.spread.Reads as spread-reads
 
 spread-requires : tie.Need-spread-requires
-spread-requires c κs = zero-columns limits
-
-enum-told : tie.Need-enum-told
-enum-told c = search needs
-
-enum-told-2 : tie.Need-enum-told-2
-enum-told-2 c = search needs
-
-enum-told-3 : tie.Need-enum-told-3
-enum-told-3 c = search needs
-
-slice-aggregate-cost : tie.Need-slice-aggregate-cost
-slice-aggregate-cost c = search needs
-
-slice-aggregate-cost-2 : tie.Need-slice-aggregate-cost-2
-slice-aggregate-cost-2 c = search needs
-
-slice-aggregate-cost-3 : tie.Need-slice-aggregate-cost-3
-slice-aggregate-cost-3 c = search needs
-
-slice-aggregate-cost-4 : tie.Need-slice-aggregate-cost-4
-slice-aggregate-cost-4 c = search needs
-
-slice-aggregate-cost-5 : tie.Need-slice-aggregate-cost-5
-slice-aggregate-cost-5 c = search needs
+spread-requires c κs = zero-in-columns limits
 
 cost-requires : tie.Need-cost-requires
 cost-requires c κs = search needs
 
 returns : tie.Need-returns
-returns c = cost-41 limits _ (c .before .before .before .before .before .before .before .before .before .before .before .before .before .before .before .before .args .dependencies .now) (c .before .before .spread .ensures .0) (c .enum-told .given .1)
-
-returns-2 : tie.Need-returns-2
-returns-2 c = cost-40 limits _ (c .before .before .before .before .before .before .before .before .before .before .before .before .before .before .before .before .args .dependencies .now) (c .before .before .spread .ensures .0) (own-columns limits (c .before .before .before .before .before .before .before .before .before .before .before .before .before .before .before .before .args .dependencies .now)) (c .enum-told2 .given .1)
-
-returns-3 : tie.Need-returns-3
-returns-3 c =
-    let ds = c .before .before .before .before .before .before .before .before .before .before .before .before .before .before .before .before .before .before .before .before .before .before .args .dependencies .now in
-    let columns = whole-columns limits ds (c .before .before .before .before .before .before .before .before .spread .ensures .1 .0) (c .before .before .before .before .before .before .enum-told3 .given .1) in
-    told-over limits (costReply limits) (tables-spread limits ds columns) (c .cost .ensures)
+returns c = c .cost .ensures (c .before .before .before .before .before .before .before .before .args .dependencies .now) (c .before .before .before .before .spread .ensures)
 
 pub cost-spec : {M : Type 1} → statement M
-cost-spec =
-    tie.close
-    (tie.spec
-    spread-requires
-    enum-told
-    enum-told-2
-    enum-told-3
-    slice-aggregate-cost
-    slice-aggregate-cost-2
-    slice-aggregate-cost-3
-    slice-aggregate-cost-4
-    slice-aggregate-cost-5
-    cost-requires
-    returns
-    returns-2
-    returns-3)
+cost-spec = tie.close (tie.spec spread-requires cost-requires returns)

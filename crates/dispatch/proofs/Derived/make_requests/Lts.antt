@@ -1,4 +1,5 @@
 -- `dispatch::requests::make_requests`: Lts, carried over by tools/lend.py. Assumes nothing.
+use borrow.Fn.Args.{ArgsT}
 use Rattle.records.proofs.Row as Rec
 use Prim.Native.Nat
 use Rattle.dispatch.proofs.answers.NumberedReply
@@ -98,7 +99,8 @@ abbrev ty·15 : Syntax.Ty
 ty·15 = Syntax.tyRef (Syntax.named 12) Syntax.mut (Syntax.tyInt Syntax.w32)
 
 abbrev ty·16 : Syntax.Ty
-ty·16 = Syntax.tyStruct (List._∷_ 100 (List._∷_ 105 (List._∷_ 115 (List._∷_ 112 (List._∷_ 97 (List._∷_ 116 (List._∷_ 99 (List._∷_ 104 (List._∷_ 58 (List._∷_ 58 (List._∷_ 97 (List._∷_ 110 (List._∷_ 115 (List._∷_ 119 (List._∷_ 101 (List._∷_ 114 (List._∷_ 115 (List._∷_ 58 (List._∷_ 58 (List._∷_ 78 (List._∷_ 117 (List._∷_ 109 (List._∷_ 98 (List._∷_ 101 (List._∷_ 114 (List._∷_ 101 (List._∷_ 100 (List._∷_ 82 (List._∷_ 101 (List._∷_ 112 (List._∷_ 108 (List._∷_ 121 List.[])))))))))))))))))))))))))))))))) (Syntax.tcons (Syntax.tyInt Syntax.w16) (Syntax.tcons (Syntax.tyInt Syntax.w32) Syntax.tnil))
+ty·16 = Syntax.tyStruct (List._∷_ 100 (List._∷_ 105 (List._∷_ 115 (List._∷_ 112 (List._∷_ 97 (List._∷_ 116 (List._∷_ 99 (List._∷_ 104 (List._∷_ 58 (List._∷_ 58 (List._∷_ 97 (List._∷_ 110 (List._∷_ 115 (List._∷_ 119 (List._∷_ 101 (List._∷_ 114 (List._∷_ 115 (List._∷_ 58 (List._∷_ 58 (List._∷_ 78 (List._∷_ 117 (List._∷_ 109 (List._∷_ 98 (List._∷_ 101 (List._∷_
+    114 (List._∷_ 101 (List._∷_ 100 (List._∷_ 82 (List._∷_ 101 (List._∷_ 112 (List._∷_ 108 (List._∷_ 121 List.[])))))))))))))))))))))))))))))))) (Syntax.tcons (Syntax.tyInt Syntax.w16) (Syntax.tcons (Syntax.tyInt Syntax.w32) Syntax.tnil))
 
 abbrev row·0 : Row.Row
 row·0 = Rows.any-gone Syntax.tyUnit
@@ -236,9 +238,9 @@ abbrev row·44 : Row.Row
 row·44 = Mut.msleft Rec.rt ty·0
 
 abbrev pub ps : List.List (Kinds.PK 13)
-ps = List._∷_ (ShrSlice.pShrS (Referent.rtF (Referent.fInt Syntax.w16)) 0 tt) (List._∷_ (ShrSlice.pShrS (Referent.rtF (Referent.fInt Syntax.w16)) 1 tt) (List._∷_ (ShrSlice.pShrS (Referent.rtF (Referent.fInt Syntax.w8)) 2 tt) (List._∷_ (ShrSlice.pShrS (Referent.rtF (Referent.fInt Syntax.w16)) 3 tt) (List._∷_
-    (ShrSlice.pShrS (Referent.rtF (Referent.fInt Syntax.w16)) 4 tt) (List._∷_ (ShrSlice.pShrS (Referent.rtF (Referent.fInt Syntax.w32)) 5 tt) (List._∷_ (MutSlice.pMutS (Referent.rtF (Referent.fInt Syntax.w16)) 6 tt) (List._∷_ (MutSlice.pMutS (Referent.rtF (Referent.fInt Syntax.w8)) 7 tt) (List._∷_ (MutSlice.pMutS Rec.rt 8 tt) (List._∷_ (Num.pNum Syntax.w64)
-    (List._∷_ (ShrSlice.pShrS (Referent.rtF (Referent.fInt Syntax.w8)) 9 tt) (List._∷_ (ShrSlice.pShrS (Referent.rtF (Referent.fInt Syntax.w16)) 10 tt) (List._∷_ (MutSlice.pMutS (Referent.rtF (Referent.fInt Syntax.w16)) 11 tt) (List._∷_ (MutSlice.pMutS (Referent.rtF (Referent.fInt Syntax.w32)) 12 tt) List.[])))))))))))))
+ps = List._∷_ (ShrSlice.pShrS (Referent.rtF (Referent.fInt Syntax.w16)) 0 tt) (List._∷_ (ShrSlice.pShrS (Referent.rtF (Referent.fInt Syntax.w16)) 1 tt) (List._∷_ (ShrSlice.pShrS (Referent.rtF (Referent.fInt Syntax.w8)) 2 tt) (List._∷_ (ShrSlice.pShrS (Referent.rtF (Referent.fInt Syntax.w16)) 3 tt) (List._∷_ (ShrSlice.pShrS (Referent.rtF (Referent.fInt
+    Syntax.w16)) 4 tt) (List._∷_ (ShrSlice.pShrS (Referent.rtF (Referent.fInt Syntax.w32)) 5 tt) (List._∷_ (MutSlice.pMutS (Referent.rtF (Referent.fInt Syntax.w16)) 6 tt) (List._∷_ (MutSlice.pMutS (Referent.rtF (Referent.fInt Syntax.w8)) 7 tt) (List._∷_ (MutSlice.pMutS Rec.rt 8 tt) (List._∷_ (Num.pNum Syntax.w64) (List._∷_ (ShrSlice.pShrS (Referent.rtF
+    (Referent.fInt Syntax.w8)) 9 tt) (List._∷_ (ShrSlice.pShrS (Referent.rtF (Referent.fInt Syntax.w16)) 10 tt) (List._∷_ (MutSlice.pMutS (Referent.rtF (Referent.fInt Syntax.w16)) 11 tt) (List._∷_ (MutSlice.pMutS (Referent.rtF (Referent.fInt Syntax.w32)) 12 tt) List.[])))))))))))))
 
 abbrev pub r : Kinds.RK 13
 r = Unit'.rUnit
@@ -252,27 +254,12 @@ abbrev pub m : Nat.ℕ
 m = 3
 
 abbrev pub ps·0 : List.List (Kinds.PK 9)
-ps·0 = List._∷_ (ShrSlice.pShrS (Referent.rtF (Referent.fInt Syntax.w16)) 0 tt) (List._∷_ (ShrSlice.pShrS (Referent.rtF (Referent.fInt Syntax.w16)) 1 tt) (List._∷_ (ShrSlice.pShrS (Referent.rtF (Referent.fInt Syntax.w8)) 2 tt) (List._∷_ (ShrSlice.pShrS (Referent.rtF (Referent.fInt Syntax.w16)) 3 tt) (List._∷_
-    (ShrSlice.pShrS (Referent.rtF (Referent.fInt Syntax.w16)) 4 tt) (List._∷_ (ShrSlice.pShrS (Referent.rtF (Referent.fInt Syntax.w32)) 5 tt) (List._∷_ (MutSlice.pMutS (Referent.rtF (Referent.fInt Syntax.w16)) 6 tt) (List._∷_ (MutSlice.pMutS (Referent.rtF (Referent.fInt Syntax.w8)) 7 tt) (List._∷_ (MutSlice.pMutS Rec.rt 8 tt)
-    (List._∷_ (Num.pNum Syntax.w8) (List._∷_ (Num.pNum Syntax.w16) List.[]))))))))))
+ps·0 = List._∷_ (ShrSlice.pShrS (Referent.rtF (Referent.fInt Syntax.w16)) 0 tt) (List._∷_ (ShrSlice.pShrS (Referent.rtF (Referent.fInt Syntax.w16)) 1 tt) (List._∷_ (ShrSlice.pShrS (Referent.rtF (Referent.fInt Syntax.w8)) 2 tt) (List._∷_ (ShrSlice.pShrS (Referent.rtF (Referent.fInt Syntax.w16)) 3 tt) (List._∷_ (ShrSlice.pShrS (Referent.rtF (Referent.fInt
+    Syntax.w16)) 4 tt) (List._∷_ (ShrSlice.pShrS (Referent.rtF (Referent.fInt Syntax.w32)) 5 tt) (List._∷_ (MutSlice.pMutS (Referent.rtF (Referent.fInt Syntax.w16)) 6 tt) (List._∷_ (MutSlice.pMutS (Referent.rtF (Referent.fInt Syntax.w8)) 7 tt) (List._∷_ (MutSlice.pMutS Rec.rt 8 tt) (List._∷_ (Num.pNum Syntax.w8) (List._∷_ (Num.pNum Syntax.w16) List.[]))))))))))
 
 abbrev pub r·0 : Kinds.RK 9
-r·0 = Value.rVal record {
-  ty = Declared.row NumberedReply.the-type;
-  one = Path'.refl;
-  val = Laws'.val NumberedReply.the-type Laws.the-laws;
-  tells = Laws'.tells NumberedReply.the-type Laws.the-laws;
-  still = Laws'.still NumberedReply.the-type Laws.the-copy Exit.yes;
-  row = Rows.whole (Declared.row NumberedReply.the-type);
-  rd = λ x. x;
-  mk = λ x. x;
-} λ M 𝓤 H A W. record {
-  copies = Laws'.copy NumberedReply.the-type Laws.the-copy 𝓤 H A W;
-  lawful = Laws'.lawful NumberedReply.the-type Laws.the-laws 𝓤 H A W;
-  makes = Laws'.makes NumberedReply.the-type Laws.the-plain 𝓤 H A;
-  in-mem = Local.mem-whole 𝓤 H A W (Declared.row NumberedReply.the-type);
-  of-mem = Local.whole-mem 𝓤 H A W (Declared.row NumberedReply.the-type);
-}
+r·0 = Value.rVal record { ty = Declared.row NumberedReply.the-type; one = Path'.refl; val = Laws'.val NumberedReply.the-type Laws.the-laws; tells = Laws'.tells NumberedReply.the-type Laws.the-laws; still = Laws'.still NumberedReply.the-type Laws.the-copy Exit.yes; row = Rows.whole (Declared.row NumberedReply.the-type); rd = λ x. x; mk = λ x. x } λ M 𝓤 H A W.
+    record { copies = Laws'.copy NumberedReply.the-type Laws.the-copy 𝓤 H A W; lawful = Laws'.lawful NumberedReply.the-type Laws.the-laws 𝓤 H A W; makes = Laws'.makes NumberedReply.the-type Laws.the-plain 𝓤 H A; in-mem = Local.mem-whole 𝓤 H A W (Declared.row NumberedReply.the-type); of-mem = Local.whole-mem 𝓤 H A W (Declared.row NumberedReply.the-type) }
 
 abbrev pub hs : List.List Syntax.Home
 hs = List._∷_ Syntax.valueLocal (List._∷_ Syntax.valueLocal (List._∷_ Syntax.valueLocal (List._∷_ Syntax.valueLocal (List._∷_ Syntax.valueLocal (List._∷_ Syntax.valueLocal (List._∷_ Syntax.valueLocal (List._∷_ Syntax.valueLocal (List._∷_ Syntax.valueLocal (List._∷_ Syntax.valueLocal (List._∷_ Syntax.valueLocal (List._∷_ Syntax.valueLocal (List._∷_
@@ -439,179 +426,116 @@ body = b50
 abbrev pub Claims : Type 1
 Claims = Kinds.In 9 ps·0 × Kinds.Out 9 ps·0 r·0
 
-abbrev pub t0 : List.List Row.Entry
-t0 = List._∷_ (0, row·0) (List._∷_ (1, row·1) (List._∷_ (2, row·2) (List._∷_ (3, row·3) (List._∷_ (4, row·4) (List._∷_ (5, row·5) (List._∷_ (6, row·6) (List._∷_ (7, row·7) (List._∷_ (8, row·8) (List._∷_ (9, row·9) (List._∷_ (10, row·10) (List._∷_ (11, row·11) (List._∷_ (12, row·12) (List._∷_ (13, row·13) (List._∷_ (14, row·14) (List._∷_ (15, row·15) List.[])))))))))))))))
-
 abbrev pub t1 : List.List Row.Entry
-t1 = List._∷_ (16, row·16) (List._∷_ (17, row·17) (List._∷_ (18, row·18) (List._∷_ (19, row·19) (List._∷_ (20, row·20) (List._∷_ (21, row·21) (List._∷_ (22, row·22) (List._∷_ (23, row·23) (List._∷_ (24, row·24) (List._∷_ (25, row·25) (List._∷_ (26, row·15) (List._∷_ (27, row·24) (List._∷_ (28, row·26) (List._∷_ (29, row·24) (List._∷_ (30, row·24) List.[]))))))))))))))
-
-abbrev pub t2 : List.List Row.Entry
-t2 = List._∷_ (0, row·27) (List._∷_ (1, row·1) (List._∷_ (2, row·2) (List._∷_ (3, row·3) (List._∷_ (4, row·4) (List._∷_ (5, row·5) (List._∷_ (6, row·6) (List._∷_ (7, row·7) (List._∷_ (8, row·8) (List._∷_ (9, row·9) (List._∷_ (10, row·15) (List._∷_ (11, row·11) (List._∷_ (12, row·12) (List._∷_ (13, row·13) (List._∷_ (14, row·14) (List._∷_ (15, row·15) List.[])))))))))))))))
+t1 = List._∷_ (16, row·16) (List._∷_ (17, row·17) (List._∷_ (18, row·18) (List._∷_ (19, row·19) (List._∷_ (20, row·20) (List._∷_ (21, row·21) (List._∷_ (22, row·22) (List._∷_ (23, row·23) (List._∷_ (24, row·24) (List._∷_ (25, row·25) (List._∷_ (26, row·15) (List._∷_ (27, row·24) (List._∷_ (28, row·26) (List._∷_ (29, row·24) (List._∷_ (30, row·24)
+    List.[]))))))))))))))
 
 abbrev pub t3 : List.List Row.Entry
-t3 = List._∷_ (0, row·0) (List._∷_ (1, row·1) (List._∷_ (2, row·2) (List._∷_ (3, row·3) (List._∷_ (4, row·4) (List._∷_ (5, row·5) (List._∷_ (6, row·6) (List._∷_ (7, row·7) (List._∷_ (8, row·8) (List._∷_ (9, row·9) (List._∷_ (10, row·10) (List._∷_ (11, row·11) (List._∷_ (12, row·12) (List._∷_ (13, row·13) (List._∷_ (14, row·14) (List._∷_ (15, row·10) List.[])))))))))))))))
-
-abbrev pub t4 : List.List Row.Entry
-t4 = List._∷_ (16, row·16) (List._∷_ (17, row·28) (List._∷_ (18, row·18) (List._∷_ (19, row·19) (List._∷_ (20, row·20) (List._∷_ (21, row·21) (List._∷_ (22, row·22) (List._∷_ (23, row·23) (List._∷_ (24, row·24) (List._∷_ (25, row·25) (List._∷_ (26, row·15) (List._∷_ (27, row·24) (List._∷_ (28, row·26) (List._∷_ (29, row·24) (List._∷_ (30, row·24) List.[]))))))))))))))
+t3 = List._∷_ (0, row·0) (List._∷_ (1, row·1) (List._∷_ (2, row·2) (List._∷_ (3, row·3) (List._∷_ (4, row·4) (List._∷_ (5, row·5) (List._∷_ (6, row·6) (List._∷_ (7, row·7) (List._∷_ (8, row·8) (List._∷_ (9, row·9) (List._∷_ (10, row·10) (List._∷_ (11, row·11) (List._∷_ (12, row·12) (List._∷_ (13, row·13) (List._∷_ (14, row·14) (List._∷_ (15, row·10)
+    List.[])))))))))))))))
 
 abbrev pub t5 : List.List Row.Entry
-t5 = List._∷_ (0, row·0) (List._∷_ (1, row·1) (List._∷_ (2, row·2) (List._∷_ (3, row·3) (List._∷_ (4, row·4) (List._∷_ (5, row·5) (List._∷_ (6, row·6) (List._∷_ (7, row·29) (List._∷_ (8, row·8) (List._∷_ (9, row·9) (List._∷_ (10, row·10) (List._∷_ (11, row·11) (List._∷_ (12, row·12) (List._∷_ (13, row·13) (List._∷_ (14, row·14) (List._∷_ (15, row·10) List.[])))))))))))))))
+t5 = List._∷_ (0, row·0) (List._∷_ (1, row·1) (List._∷_ (2, row·2) (List._∷_ (3, row·3) (List._∷_ (4, row·4) (List._∷_ (5, row·5) (List._∷_ (6, row·6) (List._∷_ (7, row·29) (List._∷_ (8, row·8) (List._∷_ (9, row·9) (List._∷_ (10, row·10) (List._∷_ (11, row·11) (List._∷_ (12, row·12) (List._∷_ (13, row·13) (List._∷_ (14, row·14) (List._∷_ (15, row·10)
+    List.[])))))))))))))))
 
 abbrev pub t6 : List.List Row.Entry
-t6 = List._∷_ (16, row·16) (List._∷_ (17, row·17) (List._∷_ (18, row·30) (List._∷_ (19, row·19) (List._∷_ (20, row·20) (List._∷_ (21, row·21) (List._∷_ (22, row·22) (List._∷_ (23, row·23) (List._∷_ (24, row·24) (List._∷_ (25, row·25) (List._∷_ (26, row·15) (List._∷_ (27, row·24) (List._∷_ (28, row·26) (List._∷_ (29, row·24) (List._∷_ (30, row·24) List.[]))))))))))))))
+t6 = List._∷_ (16, row·16) (List._∷_ (17, row·17) (List._∷_ (18, row·30) (List._∷_ (19, row·19) (List._∷_ (20, row·20) (List._∷_ (21, row·21) (List._∷_ (22, row·22) (List._∷_ (23, row·23) (List._∷_ (24, row·24) (List._∷_ (25, row·25) (List._∷_ (26, row·15) (List._∷_ (27, row·24) (List._∷_ (28, row·26) (List._∷_ (29, row·24) (List._∷_ (30, row·24)
+    List.[]))))))))))))))
 
 abbrev pub t7 : List.List Row.Entry
-t7 = List._∷_ (16, row·16) (List._∷_ (17, row·17) (List._∷_ (18, row·18) (List._∷_ (19, row·31) (List._∷_ (20, row·20) (List._∷_ (21, row·21) (List._∷_ (22, row·22) (List._∷_ (23, row·23) (List._∷_ (24, row·24) (List._∷_ (25, row·25) (List._∷_ (26, row·15) (List._∷_ (27, row·24) (List._∷_ (28, row·26) (List._∷_ (29, row·24) (List._∷_ (30, row·24) List.[]))))))))))))))
+t7 = List._∷_ (16, row·16) (List._∷_ (17, row·17) (List._∷_ (18, row·18) (List._∷_ (19, row·31) (List._∷_ (20, row·20) (List._∷_ (21, row·21) (List._∷_ (22, row·22) (List._∷_ (23, row·23) (List._∷_ (24, row·24) (List._∷_ (25, row·25) (List._∷_ (26, row·15) (List._∷_ (27, row·24) (List._∷_ (28, row·26) (List._∷_ (29, row·24) (List._∷_ (30, row·24)
+    List.[]))))))))))))))
 
 abbrev pub t8 : List.List Row.Entry
-t8 = List._∷_ (0, row·0) (List._∷_ (1, row·1) (List._∷_ (2, row·2) (List._∷_ (3, row·3) (List._∷_ (4, row·4) (List._∷_ (5, row·5) (List._∷_ (6, row·6) (List._∷_ (7, row·29) (List._∷_ (8, row·32) (List._∷_ (9, row·9) (List._∷_ (10, row·10) (List._∷_ (11, row·11) (List._∷_ (12, row·12) (List._∷_ (13, row·13) (List._∷_ (14, row·14) (List._∷_ (15, row·10) List.[])))))))))))))))
+t8 = List._∷_ (0, row·0) (List._∷_ (1, row·1) (List._∷_ (2, row·2) (List._∷_ (3, row·3) (List._∷_ (4, row·4) (List._∷_ (5, row·5) (List._∷_ (6, row·6) (List._∷_ (7, row·29) (List._∷_ (8, row·32) (List._∷_ (9, row·9) (List._∷_ (10, row·10) (List._∷_ (11, row·11) (List._∷_ (12, row·12) (List._∷_ (13, row·13) (List._∷_ (14, row·14) (List._∷_ (15, row·10)
+    List.[])))))))))))))))
 
 abbrev pub t9 : List.List Row.Entry
-t9 = List._∷_ (16, row·16) (List._∷_ (17, row·17) (List._∷_ (18, row·18) (List._∷_ (19, row·31) (List._∷_ (20, row·33) (List._∷_ (21, row·21) (List._∷_ (22, row·22) (List._∷_ (23, row·23) (List._∷_ (24, row·24) (List._∷_ (25, row·25) (List._∷_ (26, row·15) (List._∷_ (27, row·24) (List._∷_ (28, row·26) (List._∷_ (29, row·24) (List._∷_ (30, row·24) List.[]))))))))))))))
+t9 = List._∷_ (16, row·16) (List._∷_ (17, row·17) (List._∷_ (18, row·18) (List._∷_ (19, row·31) (List._∷_ (20, row·33) (List._∷_ (21, row·21) (List._∷_ (22, row·22) (List._∷_ (23, row·23) (List._∷_ (24, row·24) (List._∷_ (25, row·25) (List._∷_ (26, row·15) (List._∷_ (27, row·24) (List._∷_ (28, row·26) (List._∷_ (29, row·24) (List._∷_ (30, row·24)
+    List.[]))))))))))))))
 
 abbrev pub t10 : List.List Row.Entry
-t10 = List._∷_ (16, row·16) (List._∷_ (17, row·17) (List._∷_ (18, row·18) (List._∷_ (19, row·31) (List._∷_ (20, row·20) (List._∷_ (21, row·34) (List._∷_ (22, row·22) (List._∷_ (23, row·23) (List._∷_ (24, row·24) (List._∷_ (25, row·25) (List._∷_ (26, row·15) (List._∷_ (27, row·24) (List._∷_ (28, row·26) (List._∷_ (29, row·24) (List._∷_ (30, row·24) List.[]))))))))))))))
+t10 = List._∷_ (16, row·16) (List._∷_ (17, row·17) (List._∷_ (18, row·18) (List._∷_ (19, row·31) (List._∷_ (20, row·20) (List._∷_ (21, row·34) (List._∷_ (22, row·22) (List._∷_ (23, row·23) (List._∷_ (24, row·24) (List._∷_ (25, row·25) (List._∷_ (26, row·15) (List._∷_ (27, row·24) (List._∷_ (28, row·26) (List._∷_ (29, row·24) (List._∷_ (30, row·24)
+    List.[]))))))))))))))
 
 abbrev pub t11 : List.List Row.Entry
-t11 = List._∷_ (0, row·0) (List._∷_ (1, row·1) (List._∷_ (2, row·2) (List._∷_ (3, row·3) (List._∷_ (4, row·4) (List._∷_ (5, row·5) (List._∷_ (6, row·6) (List._∷_ (7, row·29) (List._∷_ (8, row·32) (List._∷_ (9, row·35) (List._∷_ (10, row·10) (List._∷_ (11, row·11) (List._∷_ (12, row·12) (List._∷_ (13, row·13) (List._∷_ (14, row·14) (List._∷_ (15, row·10) List.[])))))))))))))))
+t11 = List._∷_ (0, row·0) (List._∷_ (1, row·1) (List._∷_ (2, row·2) (List._∷_ (3, row·3) (List._∷_ (4, row·4) (List._∷_ (5, row·5) (List._∷_ (6, row·6) (List._∷_ (7, row·29) (List._∷_ (8, row·32) (List._∷_ (9, row·35) (List._∷_ (10, row·10) (List._∷_ (11, row·11) (List._∷_ (12, row·12) (List._∷_ (13, row·13) (List._∷_ (14, row·14) (List._∷_ (15, row·10)
+    List.[])))))))))))))))
 
 abbrev pub t12 : List.List Row.Entry
-t12 = List._∷_ (16, row·16) (List._∷_ (17, row·17) (List._∷_ (18, row·18) (List._∷_ (19, row·31) (List._∷_ (20, row·20) (List._∷_ (21, row·34) (List._∷_ (22, row·36) (List._∷_ (23, row·23) (List._∷_ (24, row·24) (List._∷_ (25, row·25) (List._∷_ (26, row·15) (List._∷_ (27, row·24) (List._∷_ (28, row·26) (List._∷_ (29, row·24) (List._∷_ (30, row·24) List.[]))))))))))))))
+t12 = List._∷_ (16, row·16) (List._∷_ (17, row·17) (List._∷_ (18, row·18) (List._∷_ (19, row·31) (List._∷_ (20, row·20) (List._∷_ (21, row·34) (List._∷_ (22, row·36) (List._∷_ (23, row·23) (List._∷_ (24, row·24) (List._∷_ (25, row·25) (List._∷_ (26, row·15) (List._∷_ (27, row·24) (List._∷_ (28, row·26) (List._∷_ (29, row·24) (List._∷_ (30, row·24)
+    List.[]))))))))))))))
 
 abbrev pub t13 : List.List Row.Entry
-t13 = List._∷_ (16, row·16) (List._∷_ (17, row·17) (List._∷_ (18, row·18) (List._∷_ (19, row·31) (List._∷_ (20, row·20) (List._∷_ (21, row·34) (List._∷_ (22, row·22) (List._∷_ (23, row·37) (List._∷_ (24, row·24) (List._∷_ (25, row·25) (List._∷_ (26, row·15) (List._∷_ (27, row·24) (List._∷_ (28, row·26) (List._∷_ (29, row·24) (List._∷_ (30, row·24) List.[]))))))))))))))
+t13 = List._∷_ (16, row·16) (List._∷_ (17, row·17) (List._∷_ (18, row·18) (List._∷_ (19, row·31) (List._∷_ (20, row·20) (List._∷_ (21, row·34) (List._∷_ (22, row·22) (List._∷_ (23, row·37) (List._∷_ (24, row·24) (List._∷_ (25, row·25) (List._∷_ (26, row·15) (List._∷_ (27, row·24) (List._∷_ (28, row·26) (List._∷_ (29, row·24) (List._∷_ (30, row·24)
+    List.[]))))))))))))))
 
 abbrev pub t14 : List.List Row.Entry
-t14 = List._∷_ (16, row·16) (List._∷_ (17, row·17) (List._∷_ (18, row·18) (List._∷_ (19, row·31) (List._∷_ (20, row·20) (List._∷_ (21, row·34) (List._∷_ (22, row·22) (List._∷_ (23, row·37) (List._∷_ (24, row·38) (List._∷_ (25, row·25) (List._∷_ (26, row·15) (List._∷_ (27, row·24) (List._∷_ (28, row·26) (List._∷_ (29, row·24) (List._∷_ (30, row·24) List.[]))))))))))))))
+t14 = List._∷_ (16, row·16) (List._∷_ (17, row·17) (List._∷_ (18, row·18) (List._∷_ (19, row·31) (List._∷_ (20, row·20) (List._∷_ (21, row·34) (List._∷_ (22, row·22) (List._∷_ (23, row·37) (List._∷_ (24, row·38) (List._∷_ (25, row·25) (List._∷_ (26, row·15) (List._∷_ (27, row·24) (List._∷_ (28, row·26) (List._∷_ (29, row·24) (List._∷_ (30, row·24)
+    List.[]))))))))))))))
 
 abbrev pub t15 : List.List Row.Entry
-t15 = List._∷_ (16, row·16) (List._∷_ (17, row·17) (List._∷_ (18, row·18) (List._∷_ (19, row·31) (List._∷_ (20, row·20) (List._∷_ (21, row·34) (List._∷_ (22, row·22) (List._∷_ (23, row·37) (List._∷_ (24, row·38) (List._∷_ (25, row·39) (List._∷_ (26, row·15) (List._∷_ (27, row·24) (List._∷_ (28, row·26) (List._∷_ (29, row·24) (List._∷_ (30, row·24) List.[]))))))))))))))
+t15 = List._∷_ (16, row·16) (List._∷_ (17, row·17) (List._∷_ (18, row·18) (List._∷_ (19, row·31) (List._∷_ (20, row·20) (List._∷_ (21, row·34) (List._∷_ (22, row·22) (List._∷_ (23, row·37) (List._∷_ (24, row·38) (List._∷_ (25, row·39) (List._∷_ (26, row·15) (List._∷_ (27, row·24) (List._∷_ (28, row·26) (List._∷_ (29, row·24) (List._∷_ (30, row·24)
+    List.[]))))))))))))))
 
 abbrev pub t16 : List.List Row.Entry
-t16 = List._∷_ (16, row·16) (List._∷_ (17, row·17) (List._∷_ (18, row·18) (List._∷_ (19, row·31) (List._∷_ (20, row·20) (List._∷_ (21, row·34) (List._∷_ (22, row·22) (List._∷_ (23, row·37) (List._∷_ (24, row·24) (List._∷_ (25, row·39) (List._∷_ (26, row·15) (List._∷_ (27, row·24) (List._∷_ (28, row·26) (List._∷_ (29, row·24) (List._∷_ (30, row·24) List.[]))))))))))))))
+t16 = List._∷_ (16, row·16) (List._∷_ (17, row·17) (List._∷_ (18, row·18) (List._∷_ (19, row·31) (List._∷_ (20, row·20) (List._∷_ (21, row·34) (List._∷_ (22, row·22) (List._∷_ (23, row·37) (List._∷_ (24, row·24) (List._∷_ (25, row·39) (List._∷_ (26, row·15) (List._∷_ (27, row·24) (List._∷_ (28, row·26) (List._∷_ (29, row·24) (List._∷_ (30, row·24)
+    List.[]))))))))))))))
 
 abbrev pub t17 : List.List Row.Entry
-t17 = List._∷_ (16, row·16) (List._∷_ (17, row·17) (List._∷_ (18, row·18) (List._∷_ (19, row·31) (List._∷_ (20, row·20) (List._∷_ (21, row·34) (List._∷_ (22, row·22) (List._∷_ (23, row·37) (List._∷_ (24, row·24) (List._∷_ (25, row·39) (List._∷_ (26, row·10) (List._∷_ (27, row·24) (List._∷_ (28, row·26) (List._∷_ (29, row·24) (List._∷_ (30, row·24) List.[]))))))))))))))
+t17 = List._∷_ (16, row·16) (List._∷_ (17, row·17) (List._∷_ (18, row·18) (List._∷_ (19, row·31) (List._∷_ (20, row·20) (List._∷_ (21, row·34) (List._∷_ (22, row·22) (List._∷_ (23, row·37) (List._∷_ (24, row·24) (List._∷_ (25, row·39) (List._∷_ (26, row·10) (List._∷_ (27, row·24) (List._∷_ (28, row·26) (List._∷_ (29, row·24) (List._∷_ (30, row·24)
+    List.[]))))))))))))))
 
 abbrev pub t18 : List.List Row.Entry
-t18 = List._∷_ (16, row·16) (List._∷_ (17, row·17) (List._∷_ (18, row·18) (List._∷_ (19, row·31) (List._∷_ (20, row·20) (List._∷_ (21, row·34) (List._∷_ (22, row·22) (List._∷_ (23, row·37) (List._∷_ (24, row·24) (List._∷_ (25, row·39) (List._∷_ (26, row·10) (List._∷_ (27, row·38) (List._∷_ (28, row·26) (List._∷_ (29, row·24) (List._∷_ (30, row·24) List.[]))))))))))))))
+t18 = List._∷_ (16, row·16) (List._∷_ (17, row·17) (List._∷_ (18, row·18) (List._∷_ (19, row·31) (List._∷_ (20, row·20) (List._∷_ (21, row·34) (List._∷_ (22, row·22) (List._∷_ (23, row·37) (List._∷_ (24, row·24) (List._∷_ (25, row·39) (List._∷_ (26, row·10) (List._∷_ (27, row·38) (List._∷_ (28, row·26) (List._∷_ (29, row·24) (List._∷_ (30, row·24)
+    List.[]))))))))))))))
 
 abbrev pub t19 : List.List Row.Entry
-t19 = List._∷_ (16, row·16) (List._∷_ (17, row·17) (List._∷_ (18, row·18) (List._∷_ (19, row·31) (List._∷_ (20, row·20) (List._∷_ (21, row·34) (List._∷_ (22, row·22) (List._∷_ (23, row·37) (List._∷_ (24, row·24) (List._∷_ (25, row·39) (List._∷_ (26, row·10) (List._∷_ (27, row·38) (List._∷_ (28, row·40) (List._∷_ (29, row·24) (List._∷_ (30, row·24) List.[]))))))))))))))
+t19 = List._∷_ (16, row·16) (List._∷_ (17, row·17) (List._∷_ (18, row·18) (List._∷_ (19, row·31) (List._∷_ (20, row·20) (List._∷_ (21, row·34) (List._∷_ (22, row·22) (List._∷_ (23, row·37) (List._∷_ (24, row·24) (List._∷_ (25, row·39) (List._∷_ (26, row·10) (List._∷_ (27, row·38) (List._∷_ (28, row·40) (List._∷_ (29, row·24) (List._∷_ (30, row·24)
+    List.[]))))))))))))))
 
 abbrev pub t20 : List.List Row.Entry
-t20 = List._∷_ (16, row·16) (List._∷_ (17, row·17) (List._∷_ (18, row·18) (List._∷_ (19, row·31) (List._∷_ (20, row·20) (List._∷_ (21, row·34) (List._∷_ (22, row·22) (List._∷_ (23, row·37) (List._∷_ (24, row·24) (List._∷_ (25, row·39) (List._∷_ (26, row·15) (List._∷_ (27, row·38) (List._∷_ (28, row·40) (List._∷_ (29, row·24) (List._∷_ (30, row·24) List.[]))))))))))))))
+t20 = List._∷_ (16, row·16) (List._∷_ (17, row·17) (List._∷_ (18, row·18) (List._∷_ (19, row·31) (List._∷_ (20, row·20) (List._∷_ (21, row·34) (List._∷_ (22, row·22) (List._∷_ (23, row·37) (List._∷_ (24, row·24) (List._∷_ (25, row·39) (List._∷_ (26, row·15) (List._∷_ (27, row·38) (List._∷_ (28, row·40) (List._∷_ (29, row·24) (List._∷_ (30, row·24)
+    List.[]))))))))))))))
 
 abbrev pub t21 : List.List Row.Entry
-t21 = List._∷_ (16, row·16) (List._∷_ (17, row·17) (List._∷_ (18, row·18) (List._∷_ (19, row·31) (List._∷_ (20, row·20) (List._∷_ (21, row·34) (List._∷_ (22, row·22) (List._∷_ (23, row·37) (List._∷_ (24, row·24) (List._∷_ (25, row·39) (List._∷_ (26, row·15) (List._∷_ (27, row·24) (List._∷_ (28, row·40) (List._∷_ (29, row·24) (List._∷_ (30, row·24) List.[]))))))))))))))
+t21 = List._∷_ (16, row·16) (List._∷_ (17, row·17) (List._∷_ (18, row·18) (List._∷_ (19, row·31) (List._∷_ (20, row·20) (List._∷_ (21, row·34) (List._∷_ (22, row·22) (List._∷_ (23, row·37) (List._∷_ (24, row·24) (List._∷_ (25, row·39) (List._∷_ (26, row·15) (List._∷_ (27, row·24) (List._∷_ (28, row·40) (List._∷_ (29, row·24) (List._∷_ (30, row·24)
+    List.[]))))))))))))))
 
 abbrev pub t22 : List.List Row.Entry
-t22 = List._∷_ (16, row·41) (List._∷_ (17, row·17) (List._∷_ (18, row·18) (List._∷_ (19, row·42) (List._∷_ (20, row·20) (List._∷_ (21, row·43) (List._∷_ (22, row·22) (List._∷_ (23, row·44) (List._∷_ (24, row·24) (List._∷_ (25, row·39) (List._∷_ (26, row·15) (List._∷_ (27, row·24) (List._∷_ (28, row·40) (List._∷_ (29, row·24) (List._∷_ (30, row·24) List.[]))))))))))))))
+t22 = List._∷_ (16, row·41) (List._∷_ (17, row·17) (List._∷_ (18, row·18) (List._∷_ (19, row·42) (List._∷_ (20, row·20) (List._∷_ (21, row·43) (List._∷_ (22, row·22) (List._∷_ (23, row·44) (List._∷_ (24, row·24) (List._∷_ (25, row·39) (List._∷_ (26, row·15) (List._∷_ (27, row·24) (List._∷_ (28, row·40) (List._∷_ (29, row·24) (List._∷_ (30, row·24)
+    List.[]))))))))))))))
 
 abbrev pub t23 : List.List Row.Entry
-t23 = List._∷_ (16, row·41) (List._∷_ (17, row·17) (List._∷_ (18, row·18) (List._∷_ (19, row·42) (List._∷_ (20, row·20) (List._∷_ (21, row·43) (List._∷_ (22, row·22) (List._∷_ (23, row·44) (List._∷_ (24, row·24) (List._∷_ (25, row·25) (List._∷_ (26, row·15) (List._∷_ (27, row·24) (List._∷_ (28, row·40) (List._∷_ (29, row·24) (List._∷_ (30, row·24) List.[]))))))))))))))
+t23 = List._∷_ (16, row·41) (List._∷_ (17, row·17) (List._∷_ (18, row·18) (List._∷_ (19, row·42) (List._∷_ (20, row·20) (List._∷_ (21, row·43) (List._∷_ (22, row·22) (List._∷_ (23, row·44) (List._∷_ (24, row·24) (List._∷_ (25, row·25) (List._∷_ (26, row·15) (List._∷_ (27, row·24) (List._∷_ (28, row·40) (List._∷_ (29, row·24) (List._∷_ (30, row·24)
+    List.[]))))))))))))))
 
 abbrev pub t24 : List.List Row.Entry
-t24 = List._∷_ (16, row·41) (List._∷_ (17, row·17) (List._∷_ (18, row·18) (List._∷_ (19, row·42) (List._∷_ (20, row·20) (List._∷_ (21, row·43) (List._∷_ (22, row·22) (List._∷_ (23, row·44) (List._∷_ (24, row·24) (List._∷_ (25, row·25) (List._∷_ (26, row·15) (List._∷_ (27, row·24) (List._∷_ (28, row·26) (List._∷_ (29, row·24) (List._∷_ (30, row·24) List.[]))))))))))))))
-
-abbrev pub t25 : List.List Row.Entry
-t25 = List._∷_ (0, row·0) (List._∷_ (1, row·1) (List._∷_ (2, row·2) (List._∷_ (3, row·3) (List._∷_ (4, row·4) (List._∷_ (5, row·5) (List._∷_ (6, row·6) (List._∷_ (7, row·7) (List._∷_ (8, row·32) (List._∷_ (9, row·35) (List._∷_ (10, row·10) (List._∷_ (11, row·11) (List._∷_ (12, row·12) (List._∷_ (13, row·13) (List._∷_ (14, row·14) (List._∷_ (15, row·10) List.[])))))))))))))))
+t24 = List._∷_ (16, row·41) (List._∷_ (17, row·17) (List._∷_ (18, row·18) (List._∷_ (19, row·42) (List._∷_ (20, row·20) (List._∷_ (21, row·43) (List._∷_ (22, row·22) (List._∷_ (23, row·44) (List._∷_ (24, row·24) (List._∷_ (25, row·25) (List._∷_ (26, row·15) (List._∷_ (27, row·24) (List._∷_ (28, row·26) (List._∷_ (29, row·24) (List._∷_ (30, row·24)
+    List.[]))))))))))))))
 
 abbrev pub t26 : List.List Row.Entry
-t26 = List._∷_ (16, row·41) (List._∷_ (17, row·17) (List._∷_ (18, row·18) (List._∷_ (19, row·19) (List._∷_ (20, row·20) (List._∷_ (21, row·43) (List._∷_ (22, row·22) (List._∷_ (23, row·44) (List._∷_ (24, row·24) (List._∷_ (25, row·25) (List._∷_ (26, row·15) (List._∷_ (27, row·24) (List._∷_ (28, row·26) (List._∷_ (29, row·24) (List._∷_ (30, row·24) List.[]))))))))))))))
-
-abbrev pub t27 : List.List Row.Entry
-t27 = List._∷_ (0, row·0) (List._∷_ (1, row·1) (List._∷_ (2, row·2) (List._∷_ (3, row·3) (List._∷_ (4, row·4) (List._∷_ (5, row·5) (List._∷_ (6, row·6) (List._∷_ (7, row·7) (List._∷_ (8, row·8) (List._∷_ (9, row·35) (List._∷_ (10, row·10) (List._∷_ (11, row·11) (List._∷_ (12, row·12) (List._∷_ (13, row·13) (List._∷_ (14, row·14) (List._∷_ (15, row·10) List.[])))))))))))))))
+t26 = List._∷_ (16, row·41) (List._∷_ (17, row·17) (List._∷_ (18, row·18) (List._∷_ (19, row·19) (List._∷_ (20, row·20) (List._∷_ (21, row·43) (List._∷_ (22, row·22) (List._∷_ (23, row·44) (List._∷_ (24, row·24) (List._∷_ (25, row·25) (List._∷_ (26, row·15) (List._∷_ (27, row·24) (List._∷_ (28, row·26) (List._∷_ (29, row·24) (List._∷_ (30, row·24)
+    List.[]))))))))))))))
 
 abbrev pub t28 : List.List Row.Entry
-t28 = List._∷_ (16, row·41) (List._∷_ (17, row·17) (List._∷_ (18, row·18) (List._∷_ (19, row·19) (List._∷_ (20, row·20) (List._∷_ (21, row·21) (List._∷_ (22, row·22) (List._∷_ (23, row·44) (List._∷_ (24, row·24) (List._∷_ (25, row·25) (List._∷_ (26, row·15) (List._∷_ (27, row·24) (List._∷_ (28, row·26) (List._∷_ (29, row·24) (List._∷_ (30, row·24) List.[]))))))))))))))
-
-abbrev pub t29 : List.List Row.Entry
-t29 = List._∷_ (16, row·41) (List._∷_ (17, row·17) (List._∷_ (18, row·18) (List._∷_ (19, row·19) (List._∷_ (20, row·20) (List._∷_ (21, row·21) (List._∷_ (22, row·22) (List._∷_ (23, row·23) (List._∷_ (24, row·24) (List._∷_ (25, row·25) (List._∷_ (26, row·15) (List._∷_ (27, row·24) (List._∷_ (28, row·26) (List._∷_ (29, row·24) (List._∷_ (30, row·24) List.[]))))))))))))))
-
-abbrev pub t30 : List.List Row.Entry
-t30 = List._∷_ (16, row·41) (List._∷_ (17, row·17) (List._∷_ (18, row·18) (List._∷_ (19, row·19) (List._∷_ (20, row·20) (List._∷_ (21, row·21) (List._∷_ (22, row·22) (List._∷_ (23, row·23) (List._∷_ (24, row·24) (List._∷_ (25, row·25) (List._∷_ (26, row·10) (List._∷_ (27, row·24) (List._∷_ (28, row·26) (List._∷_ (29, row·24) (List._∷_ (30, row·24) List.[]))))))))))))))
-
-abbrev pub t31 : List.List Row.Entry
-t31 = List._∷_ (16, row·41) (List._∷_ (17, row·17) (List._∷_ (18, row·18) (List._∷_ (19, row·19) (List._∷_ (20, row·20) (List._∷_ (21, row·21) (List._∷_ (22, row·22) (List._∷_ (23, row·23) (List._∷_ (24, row·24) (List._∷_ (25, row·25) (List._∷_ (26, row·10) (List._∷_ (27, row·24) (List._∷_ (28, row·26) (List._∷_ (29, row·38) (List._∷_ (30, row·24) List.[]))))))))))))))
-
-abbrev pub t32 : List.List Row.Entry
-t32 = List._∷_ (16, row·41) (List._∷_ (17, row·17) (List._∷_ (18, row·18) (List._∷_ (19, row·19) (List._∷_ (20, row·20) (List._∷_ (21, row·21) (List._∷_ (22, row·22) (List._∷_ (23, row·23) (List._∷_ (24, row·24) (List._∷_ (25, row·25) (List._∷_ (26, row·15) (List._∷_ (27, row·24) (List._∷_ (28, row·26) (List._∷_ (29, row·38) (List._∷_ (30, row·24) List.[]))))))))))))))
-
-abbrev pub t33 : List.List Row.Entry
-t33 = List._∷_ (16, row·41) (List._∷_ (17, row·17) (List._∷_ (18, row·18) (List._∷_ (19, row·19) (List._∷_ (20, row·20) (List._∷_ (21, row·21) (List._∷_ (22, row·22) (List._∷_ (23, row·23) (List._∷_ (24, row·24) (List._∷_ (25, row·25) (List._∷_ (26, row·10) (List._∷_ (27, row·24) (List._∷_ (28, row·26) (List._∷_ (29, row·24) (List._∷_ (30, row·38) List.[]))))))))))))))
-
-abbrev pub t34 : List.List Row.Entry
-t34 = List._∷_ (16, row·16) (List._∷_ (17, row·17) (List._∷_ (18, row·18) (List._∷_ (19, row·19) (List._∷_ (20, row·20) (List._∷_ (21, row·21) (List._∷_ (22, row·22) (List._∷_ (23, row·23) (List._∷_ (24, row·24) (List._∷_ (25, row·25) (List._∷_ (26, row·10) (List._∷_ (27, row·24) (List._∷_ (28, row·26) (List._∷_ (29, row·24) (List._∷_ (30, row·38) List.[]))))))))))))))
-
-abbrev pub t35 : List.List Row.Entry
-t35 = List._∷_ (16, row·16) (List._∷_ (17, row·17) (List._∷_ (18, row·18) (List._∷_ (19, row·19) (List._∷_ (20, row·20) (List._∷_ (21, row·21) (List._∷_ (22, row·22) (List._∷_ (23, row·23) (List._∷_ (24, row·24) (List._∷_ (25, row·25) (List._∷_ (26, row·15) (List._∷_ (27, row·24) (List._∷_ (28, row·26) (List._∷_ (29, row·24) (List._∷_ (30, row·38) List.[]))))))))))))))
-
-abbrev pub t36 : List.List Row.Entry
-t36 = List._∷_ (0, row·27) (List._∷_ (1, row·1) (List._∷_ (2, row·2) (List._∷_ (3, row·3) (List._∷_ (4, row·4) (List._∷_ (5, row·5) (List._∷_ (6, row·6) (List._∷_ (7, row·7) (List._∷_ (8, row·8) (List._∷_ (9, row·9) (List._∷_ (10, row·10) (List._∷_ (11, row·11) (List._∷_ (12, row·12) (List._∷_ (13, row·13) (List._∷_ (14, row·14) (List._∷_ (15, row·10) List.[])))))))))))))))
-
-abbrev pub t37 : List.List Row.Entry
-t37 = List._∷_ (0, row·27) (List._∷_ (1, row·1) (List._∷_ (2, row·2) (List._∷_ (3, row·3) (List._∷_ (4, row·4) (List._∷_ (5, row·5) (List._∷_ (6, row·6) (List._∷_ (7, row·7) (List._∷_ (8, row·8) (List._∷_ (9, row·9) (List._∷_ (10, row·10) (List._∷_ (11, row·11) (List._∷_ (12, row·12) (List._∷_ (13, row·13) (List._∷_ (14, row·14) (List._∷_ (15, row·15) List.[])))))))))))))))
+t28 = List._∷_ (16, row·41) (List._∷_ (17, row·17) (List._∷_ (18, row·18) (List._∷_ (19, row·19) (List._∷_ (20, row·20) (List._∷_ (21, row·21) (List._∷_ (22, row·22) (List._∷_ (23, row·44) (List._∷_ (24, row·24) (List._∷_ (25, row·25) (List._∷_ (26, row·15) (List._∷_ (27, row·24) (List._∷_ (28, row·26) (List._∷_ (29, row·24) (List._∷_ (30, row·24)
+    List.[]))))))))))))))
 
 abbrev pub T0 : Row.Cx
-T0 = record { locals = List._++_ t0 t1; slots = List.[] }
+T0 = record
+    { locals = List._++_ (List._∷_ (0, row·0) (List._∷_ (1, row·1) (List._∷_ (2, row·2) (List._∷_ (3, row·3) (List._∷_ (4, row·4) (List._∷_ (5, row·5) (List._∷_ (6, row·6) (List._∷_ (7, row·7) (List._∷_ (8, row·8) (List._∷_ (9, row·9) (List._∷_ (10, row·10) (List._∷_ (11, row·11) (List._∷_ (12, row·12) (List._∷_ (13, row·13) (List._∷_ (14, row·14) (List._∷_ (15, row·15) List.[])))))))))))))))) t1; slots = List.[] }
 
 abbrev pub T1 : Row.Cx
-T1 = record { locals = List._++_ t2 t1; slots = List.[] }
-
-abbrev pub T2 : Row.Cx
-T2 = record { locals = List._++_ t0 t1; slots = List.[] }
-
-abbrev pub T3 : Row.Cx
-T3 = record { locals = List._++_ t0 t1; slots = List.[] }
-
-abbrev pub T4 : Row.Cx
-T4 = record { locals = List._++_ t0 t1; slots = List.[] }
-
-abbrev pub T5 : Row.Cx
-T5 = record { locals = List._++_ t0 t1; slots = List.[] }
-
-abbrev pub T6 : Row.Cx
-T6 = record { locals = List._++_ t0 t1; slots = List.[] }
-
-abbrev pub T7 : Row.Cx
-T7 = record { locals = List._++_ t0 t1; slots = List.[] }
-
-abbrev pub T8 : Row.Cx
-T8 = record { locals = List._++_ t0 t1; slots = List.[] }
-
-abbrev pub T9 : Row.Cx
-T9 = record { locals = List._++_ t0 t1; slots = List.[] }
-
-abbrev pub T10 : Row.Cx
-T10 = record { locals = List._++_ t0 t1; slots = List.[] }
-
-abbrev pub T11 : Row.Cx
-T11 = record { locals = List._++_ t0 t1; slots = List.[] }
-
-abbrev pub T12 : Row.Cx
-T12 = record { locals = List._++_ t0 t1; slots = List.[] }
-
-abbrev pub T13 : Row.Cx
-T13 = record { locals = List._++_ t0 t1; slots = List.[] }
+T1 = record
+    { locals = List._++_ (List._∷_ (0, row·27) (List._∷_ (1, row·1) (List._∷_ (2, row·2) (List._∷_ (3, row·3) (List._∷_ (4, row·4) (List._∷_ (5, row·5) (List._∷_ (6, row·6) (List._∷_ (7, row·7) (List._∷_ (8, row·8) (List._∷_ (9, row·9) (List._∷_ (10, row·15) (List._∷_ (11, row·11) (List._∷_ (12, row·12) (List._∷_ (13, row·13) (List._∷_ (14, row·14) (List._∷_ (15, row·15) List.[])))))))))))))))) t1; slots = List.[] }
 
 abbrev pub T14 : Row.Cx
 T14 = record { locals = List._++_ t3 t1; slots = List.[] }
 
-abbrev pub T15 : Row.Cx
-T15 = record { locals = List._++_ t3 t1; slots = List.[] }
-
 abbrev pub T16 : Row.Cx
-T16 = record { locals = List._++_ t3 t4; slots = List.[] }
-
-abbrev pub T17 : Row.Cx
-T17 = record { locals = List._++_ t3 t1; slots = List.[] }
-
-abbrev pub T18 : Row.Cx
-T18 = record { locals = List._++_ t3 t1; slots = List.[] }
-
-abbrev pub T19 : Row.Cx
-T19 = record { locals = List._++_ t3 t1; slots = List.[] }
+T16 = record
+    { locals = List._++_ t3 (List._∷_ (16, row·16) (List._∷_ (17, row·28) (List._∷_ (18, row·18) (List._∷_ (19, row·19) (List._∷_ (20, row·20) (List._∷_ (21, row·21) (List._∷_ (22, row·22) (List._∷_ (23, row·23) (List._∷_ (24, row·24) (List._∷_ (25, row·25) (List._∷_ (26, row·15) (List._∷_ (27, row·24) (List._∷_ (28, row·26) (List._∷_ (29, row·24) (List._∷_ (30, row·24) List.[]))))))))))))))); slots = List.[] }
 
 abbrev pub T21 : Row.Cx
 T21 = record { locals = List._++_ t5 t6; slots = List.[] }
@@ -634,9 +558,6 @@ T28 = record { locals = List._++_ t11 t13; slots = List.[] }
 abbrev pub T29 : Row.Cx
 T29 = record { locals = List._++_ t11 t14; slots = List.[] }
 
-abbrev pub T30 : Row.Cx
-T30 = record { locals = List._++_ t11 t14; slots = List.[] }
-
 abbrev pub T31 : Row.Cx
 T31 = record { locals = List._++_ t11 t15; slots = List.[] }
 
@@ -648,9 +569,6 @@ T33 = record { locals = List._++_ t11 t17; slots = List.[] }
 
 abbrev pub T34 : Row.Cx
 T34 = record { locals = List._++_ t11 t18; slots = List.[] }
-
-abbrev pub T35 : Row.Cx
-T35 = record { locals = List._++_ t11 t18; slots = List.[] }
 
 abbrev pub T36 : Row.Cx
 T36 = record { locals = List._++_ t11 t19; slots = List.[] }
@@ -671,70 +589,57 @@ abbrev pub T41 : Row.Cx
 T41 = record { locals = List._++_ t11 t24; slots = List.[] }
 
 abbrev pub T43 : Row.Cx
-T43 = record { locals = List._++_ t25 t26; slots = List.[] }
-
-abbrev pub T44 : Row.Cx
-T44 = record { locals = List._++_ t25 t26; slots = List.[] }
+T43 = record
+    { locals = List._++_ (List._∷_ (0, row·0) (List._∷_ (1, row·1) (List._∷_ (2, row·2) (List._∷_ (3, row·3) (List._∷_ (4, row·4) (List._∷_ (5, row·5) (List._∷_ (6, row·6) (List._∷_ (7, row·7) (List._∷_ (8, row·32) (List._∷_ (9, row·35) (List._∷_ (10, row·10) (List._∷_ (11, row·11) (List._∷_ (12, row·12) (List._∷_ (13, row·13) (List._∷_ (14, row·14) (List._∷_ (15, row·10) List.[])))))))))))))))) t26; slots = List.[] }
 
 abbrev pub T47 : Row.Cx
-T47 = record { locals = List._++_ t27 t28; slots = List.[] }
-
-abbrev pub T48 : Row.Cx
-T48 = record { locals = List._++_ t27 t28; slots = List.[] }
+T47 = record
+    { locals = List._++_ (List._∷_ (0, row·0) (List._∷_ (1, row·1) (List._∷_ (2, row·2) (List._∷_ (3, row·3) (List._∷_ (4, row·4) (List._∷_ (5, row·5) (List._∷_ (6, row·6) (List._∷_ (7, row·7) (List._∷_ (8, row·8) (List._∷_ (9, row·35) (List._∷_ (10, row·10) (List._∷_ (11, row·11) (List._∷_ (12, row·12) (List._∷_ (13, row·13) (List._∷_ (14, row·14) (List._∷_ (15, row·10) List.[])))))))))))))))) t28; slots = List.[] }
 
 abbrev pub T51 : Row.Cx
-T51 = record { locals = List._++_ t3 t29; slots = List.[] }
+T51 = record
+    { locals = List._++_ t3 (List._∷_ (16, row·41) (List._∷_ (17, row·17) (List._∷_ (18, row·18) (List._∷_ (19, row·19) (List._∷_ (20, row·20) (List._∷_ (21, row·21) (List._∷_ (22, row·22) (List._∷_ (23, row·23) (List._∷_ (24, row·24) (List._∷_ (25, row·25) (List._∷_ (26, row·15) (List._∷_ (27, row·24) (List._∷_ (28, row·26) (List._∷_ (29, row·24) (List._∷_ (30, row·24) List.[]))))))))))))))); slots = List.[] }
 
 abbrev pub T53 : Row.Cx
-T53 = record { locals = List._++_ t3 t30; slots = List.[] }
+T53 = record
+    { locals = List._++_ t3 (List._∷_ (16, row·41) (List._∷_ (17, row·17) (List._∷_ (18, row·18) (List._∷_ (19, row·19) (List._∷_ (20, row·20) (List._∷_ (21, row·21) (List._∷_ (22, row·22) (List._∷_ (23, row·23) (List._∷_ (24, row·24) (List._∷_ (25, row·25) (List._∷_ (26, row·10) (List._∷_ (27, row·24) (List._∷_ (28, row·26) (List._∷_ (29, row·24) (List._∷_ (30, row·24) List.[]))))))))))))))); slots = List.[] }
 
 abbrev pub T54 : Row.Cx
-T54 = record { locals = List._++_ t3 t31; slots = List.[] }
-
-abbrev pub T55 : Row.Cx
-T55 = record { locals = List._++_ t3 t31; slots = List.[] }
+T54 = record
+    { locals = List._++_ t3 (List._∷_ (16, row·41) (List._∷_ (17, row·17) (List._∷_ (18, row·18) (List._∷_ (19, row·19) (List._∷_ (20, row·20) (List._∷_ (21, row·21) (List._∷_ (22, row·22) (List._∷_ (23, row·23) (List._∷_ (24, row·24) (List._∷_ (25, row·25) (List._∷_ (26, row·10) (List._∷_ (27, row·24) (List._∷_ (28, row·26) (List._∷_ (29, row·38) (List._∷_ (30, row·24) List.[]))))))))))))))); slots = List.[] }
 
 abbrev pub T56 : Row.Cx
-T56 = record { locals = List._++_ t3 t32; slots = List.[] }
-
-abbrev pub T57 : Row.Cx
-T57 = record { locals = List._++_ t3 t29; slots = List.[] }
-
-abbrev pub T58 : Row.Cx
-T58 = record { locals = List._++_ t3 t30; slots = List.[] }
+T56 = record
+    { locals = List._++_ t3 (List._∷_ (16, row·41) (List._∷_ (17, row·17) (List._∷_ (18, row·18) (List._∷_ (19, row·19) (List._∷_ (20, row·20) (List._∷_ (21, row·21) (List._∷_ (22, row·22) (List._∷_ (23, row·23) (List._∷_ (24, row·24) (List._∷_ (25, row·25) (List._∷_ (26, row·15) (List._∷_ (27, row·24) (List._∷_ (28, row·26) (List._∷_ (29, row·38) (List._∷_ (30, row·24) List.[]))))))))))))))); slots = List.[] }
 
 abbrev pub T59 : Row.Cx
-T59 = record { locals = List._++_ t3 t33; slots = List.[] }
-
-abbrev pub T60 : Row.Cx
-T60 = record { locals = List._++_ t3 t33; slots = List.[] }
+T59 = record
+    { locals = List._++_ t3 (List._∷_ (16, row·41) (List._∷_ (17, row·17) (List._∷_ (18, row·18) (List._∷_ (19, row·19) (List._∷_ (20, row·20) (List._∷_ (21, row·21) (List._∷_ (22, row·22) (List._∷_ (23, row·23) (List._∷_ (24, row·24) (List._∷_ (25, row·25) (List._∷_ (26, row·10) (List._∷_ (27, row·24) (List._∷_ (28, row·26) (List._∷_ (29, row·24) (List._∷_ (30, row·38) List.[]))))))))))))))); slots = List.[] }
 
 abbrev pub T61 : Row.Cx
-T61 = record { locals = List._++_ t3 t34; slots = List.[] }
+T61 = record
+    { locals = List._++_ t3 (List._∷_ (16, row·16) (List._∷_ (17, row·17) (List._∷_ (18, row·18) (List._∷_ (19, row·19) (List._∷_ (20, row·20) (List._∷_ (21, row·21) (List._∷_ (22, row·22) (List._∷_ (23, row·23) (List._∷_ (24, row·24) (List._∷_ (25, row·25) (List._∷_ (26, row·10) (List._∷_ (27, row·24) (List._∷_ (28, row·26) (List._∷_ (29, row·24) (List._∷_ (30, row·38) List.[]))))))))))))))); slots = List.[] }
 
 abbrev pub T62 : Row.Cx
-T62 = record { locals = List._++_ t3 t35; slots = List.[] }
-
-abbrev pub T63 : Row.Cx
-T63 = record { locals = List._++_ t3 t1; slots = List.[] }
-
-abbrev pub T64 : Row.Cx
-T64 = record { locals = List._++_ t3 t1; slots = List.[] }
+T62 = record
+    { locals = List._++_ t3 (List._∷_ (16, row·16) (List._∷_ (17, row·17) (List._∷_ (18, row·18) (List._∷_ (19, row·19) (List._∷_ (20, row·20) (List._∷_ (21, row·21) (List._∷_ (22, row·22) (List._∷_ (23, row·23) (List._∷_ (24, row·24) (List._∷_ (25, row·25) (List._∷_ (26, row·15) (List._∷_ (27, row·24) (List._∷_ (28, row·26) (List._∷_ (29, row·24) (List._∷_ (30, row·38) List.[]))))))))))))))); slots = List.[] }
 
 abbrev pub T65 : Row.Cx
-T65 = record { locals = List._++_ t36 t1; slots = List.[] }
+T65 = record
+    { locals = List._++_ (List._∷_ (0, row·27) (List._∷_ (1, row·1) (List._∷_ (2, row·2) (List._∷_ (3, row·3) (List._∷_ (4, row·4) (List._∷_ (5, row·5) (List._∷_ (6, row·6) (List._∷_ (7, row·7) (List._∷_ (8, row·8) (List._∷_ (9, row·9) (List._∷_ (10, row·10) (List._∷_ (11, row·11) (List._∷_ (12, row·12) (List._∷_ (13, row·13) (List._∷_ (14, row·14) (List._∷_ (15, row·10) List.[])))))))))))))))) t1; slots = List.[] }
 
 abbrev pub T66 : Row.Cx
-T66 = record { locals = List._++_ t37 t1; slots = List.[] }
+T66 = record
+    { locals = List._++_ (List._∷_ (0, row·27) (List._∷_ (1, row·1) (List._∷_ (2, row·2) (List._∷_ (3, row·3) (List._∷_ (4, row·4) (List._∷_ (5, row·5) (List._∷_ (6, row·6) (List._∷_ (7, row·7) (List._∷_ (8, row·8) (List._∷_ (9, row·9) (List._∷_ (10, row·10) (List._∷_ (11, row·11) (List._∷_ (12, row·12) (List._∷_ (13, row·13) (List._∷_ (14, row·14) (List._∷_ (15, row·15) List.[])))))))))))))))) t1; slots = List.[] }
 
-abbrev pub T67 : Row.Cx
-T67 = record { locals = List._++_ t2 t1; slots = List.[] }
+abbrev args·0 : ArgsT ps·0 (T38 .locals)
+args·0 = (record { pos = 1; ty = ty·7; ref = λ x. x }, (record { pos = 2; ty = ty·8; ref = λ x. x }, (record { pos = 3; ty = ty·4; ref = λ x. x }, (record { pos = 4; ty = ty·9; ref = λ x. x }, (record { pos = 5; ty = ty·10; ref = λ x. x }, (record { pos = 6; ty = ty·11; ref = λ x. x }, (record { pos = 19; ty = ty·3; ref = λ x. x }, (record { pos = 21; ty = ty·2; ref = λ x. x }, (record { pos = 23; ty = ty·0; ref = λ x. x }, (Num.vAt 25 λ x. x, (Num.vAt 28 λ x. x, tt)))))))))))
 
 abbrev pub O0 : Typed.Outs
 O0 = record { next = Option.none; exits = List.[]; returns = Option.some T1 }
 
 abbrev pub O1 : Typed.Outs
-O1 = Typed.withNext (Option.some T15) O0
+O1 = Typed.withNext (Option.some T14) O0
 
 abbrev pub O2 : Typed.Outs
 O2 = Typed.inBlock₀ O1
@@ -743,71 +648,71 @@ abbrev pub O3 : Typed.Outs
 O3 = Typed.inLoop₀ T14 O2
 
 abbrev pub O4 : Typed.Outs
-O4 = Typed.withNext (Option.some T17) O3
+O4 = Typed.withNext (Option.some T14) O3
 
 abbrev pub InvT-loop : Type 1
-InvT-loop = List.List (Referent.rtF (Referent.fInt Syntax.w16) .Denot) → List.List (Referent.rtF (Referent.fInt Syntax.w16) .Denot) → List.List (Referent.rtF (Referent.fInt Syntax.w8) .Denot) → List.List (Referent.rtF (Referent.fInt Syntax.w16) .Denot) → List.List (Referent.rtF (Referent.fInt Syntax.w16) .Denot) →
-    List.List (Referent.rtF (Referent.fInt Syntax.w32) .Denot) → List.List (Referent.rtF (Referent.fInt Syntax.w16) .Denot) → List.List (Referent.rtF (Referent.fInt Syntax.w8) .Denot) → List.List (Rec.rt .Denot) → Rows.sc-here (Row.sInt Syntax.w64) .Mod → List.List (Referent.rtF (Referent.fInt Syntax.w8) .Denot) →
-    List.List (Referent.rtF (Referent.fInt Syntax.w16) .Denot) → List.List (Referent.rtF (Referent.fInt Syntax.w16) .Denot) → List.List (Referent.rtF (Referent.fInt Syntax.w32) .Denot) → Rows.sc-here (Row.sInt Syntax.w64) .Mod → List.List (Referent.rtF (Referent.fInt Syntax.w16) .Denot) → List.List (Referent.rtF (Referent.fInt Syntax.w8) .Denot) →
-    List.List (Rec.rt .Denot) → List.List (Referent.rtF (Referent.fInt Syntax.w16) .Denot) → List.List (Referent.rtF (Referent.fInt Syntax.w32) .Denot) → Rows.sc-here (Row.sInt Syntax.w64) .Mod → Type 0
+InvT-loop = List.List (Referent.rtF (Referent.fInt Syntax.w16) .Denot) → List.List (Referent.rtF (Referent.fInt Syntax.w16) .Denot) → List.List (Referent.rtF (Referent.fInt Syntax.w8) .Denot) → List.List (Referent.rtF (Referent.fInt Syntax.w16) .Denot) → List.List (Referent.rtF (Referent.fInt Syntax.w16) .Denot) → List.List (Referent.rtF (Referent.fInt
+    Syntax.w32) .Denot) → List.List (Referent.rtF (Referent.fInt Syntax.w16) .Denot) → List.List (Referent.rtF (Referent.fInt Syntax.w8) .Denot) → List.List (Rec.rt .Denot) → Rows.sc-here (Row.sInt Syntax.w64) .Mod → List.List (Referent.rtF (Referent.fInt Syntax.w8) .Denot) → List.List (Referent.rtF (Referent.fInt Syntax.w16) .Denot) → List.List (Referent.rtF
+    (Referent.fInt Syntax.w16) .Denot) → List.List (Referent.rtF (Referent.fInt Syntax.w32) .Denot) → Rows.sc-here (Row.sInt Syntax.w64) .Mod → List.List (Referent.rtF (Referent.fInt Syntax.w16) .Denot) → List.List (Referent.rtF (Referent.fInt Syntax.w8) .Denot) → List.List (Rec.rt .Denot) → List.List (Referent.rtF (Referent.fInt Syntax.w16) .Denot) → List.List
+    (Referent.rtF (Referent.fInt Syntax.w32) .Denot) → Rows.sc-here (Row.sInt Syntax.w64) .Mod → Type 0
 
 abbrev pub MeasureT-loop : Type 0
-MeasureT-loop = List.List (Referent.rtF (Referent.fInt Syntax.w16) .Denot) → List.List (Referent.rtF (Referent.fInt Syntax.w16) .Denot) → List.List (Referent.rtF (Referent.fInt Syntax.w8) .Denot) → List.List (Referent.rtF (Referent.fInt Syntax.w16) .Denot) → List.List (Referent.rtF (Referent.fInt Syntax.w16) .Denot) →
-    List.List (Referent.rtF (Referent.fInt Syntax.w32) .Denot) → List.List (Referent.rtF (Referent.fInt Syntax.w16) .Denot) → List.List (Referent.rtF (Referent.fInt Syntax.w8) .Denot) → List.List (Rec.rt .Denot) → Rows.sc-here (Row.sInt Syntax.w64) .Mod → List.List (Referent.rtF (Referent.fInt Syntax.w8) .Denot) →
-    List.List (Referent.rtF (Referent.fInt Syntax.w16) .Denot) → List.List (Referent.rtF (Referent.fInt Syntax.w16) .Denot) → List.List (Referent.rtF (Referent.fInt Syntax.w32) .Denot) → Rows.sc-here (Row.sInt Syntax.w64) .Mod → List.List (Referent.rtF (Referent.fInt Syntax.w16) .Denot) → List.List (Referent.rtF (Referent.fInt Syntax.w8) .Denot) →
-    List.List (Rec.rt .Denot) → List.List (Referent.rtF (Referent.fInt Syntax.w16) .Denot) → List.List (Referent.rtF (Referent.fInt Syntax.w32) .Denot) → Rows.sc-here (Row.sInt Syntax.w64) .Mod → Nat.ℕ
+MeasureT-loop = List.List (Referent.rtF (Referent.fInt Syntax.w16) .Denot) → List.List (Referent.rtF (Referent.fInt Syntax.w16) .Denot) → List.List (Referent.rtF (Referent.fInt Syntax.w8) .Denot) → List.List (Referent.rtF (Referent.fInt Syntax.w16) .Denot) → List.List (Referent.rtF (Referent.fInt Syntax.w16) .Denot) → List.List (Referent.rtF (Referent.fInt
+    Syntax.w32) .Denot) → List.List (Referent.rtF (Referent.fInt Syntax.w16) .Denot) → List.List (Referent.rtF (Referent.fInt Syntax.w8) .Denot) → List.List (Rec.rt .Denot) → Rows.sc-here (Row.sInt Syntax.w64) .Mod → List.List (Referent.rtF (Referent.fInt Syntax.w8) .Denot) → List.List (Referent.rtF (Referent.fInt Syntax.w16) .Denot) → List.List (Referent.rtF
+    (Referent.fInt Syntax.w16) .Denot) → List.List (Referent.rtF (Referent.fInt Syntax.w32) .Denot) → Rows.sc-here (Row.sInt Syntax.w64) .Mod → List.List (Referent.rtF (Referent.fInt Syntax.w16) .Denot) → List.List (Referent.rtF (Referent.fInt Syntax.w8) .Denot) → List.List (Rec.rt .Denot) → List.List (Referent.rtF (Referent.fInt Syntax.w16) .Denot) → List.List
+    (Referent.rtF (Referent.fInt Syntax.w32) .Denot) → Rows.sc-here (Row.sInt Syntax.w64) .Mod → Nat.ℕ
 
 module _ (claims· : Claims) where
-  abbrev s0 : Typed.Gives T0 T2
+  abbrev s0 : Typed.Gives T0 T0
   s0 = Know.k-shs-known (Referent.fInt Syntax.w16) T0 1 0 ty·7 Row.off 0 λ x. x
 
-  abbrev s1 : Typed.Gives T2 T3
-  s1 = Know.k-shs-known (Referent.fInt Syntax.w16) T2 2 1 ty·8 Row.off 0 λ x. x
+  abbrev s1 : Typed.Gives T0 T0
+  s1 = Know.k-shs-known (Referent.fInt Syntax.w16) T0 2 1 ty·8 Row.off 0 λ x. x
 
-  abbrev s2 : Typed.Gives T3 T4
-  s2 = Know.k-shs-known (Referent.fInt Syntax.w8) T3 3 2 ty·4 Row.off 0 λ x. x
+  abbrev s2 : Typed.Gives T0 T0
+  s2 = Know.k-shs-known (Referent.fInt Syntax.w8) T0 3 2 ty·4 Row.off 0 λ x. x
 
-  abbrev s3 : Typed.Gives T4 T5
-  s3 = Know.k-shs-known (Referent.fInt Syntax.w16) T4 4 3 ty·9 Row.off 0 λ x. x
+  abbrev s3 : Typed.Gives T0 T0
+  s3 = Know.k-shs-known (Referent.fInt Syntax.w16) T0 4 3 ty·9 Row.off 0 λ x. x
 
-  abbrev s4 : Typed.Gives T5 T6
-  s4 = Know.k-shs-known (Referent.fInt Syntax.w16) T5 5 4 ty·10 Row.off 0 λ x. x
+  abbrev s4 : Typed.Gives T0 T0
+  s4 = Know.k-shs-known (Referent.fInt Syntax.w16) T0 5 4 ty·10 Row.off 0 λ x. x
 
-  abbrev s5 : Typed.Gives T6 T7
-  s5 = Know.k-shs-known (Referent.fInt Syntax.w32) T6 6 5 ty·11 Row.off 0 λ x. x
+  abbrev s5 : Typed.Gives T0 T0
+  s5 = Know.k-shs-known (Referent.fInt Syntax.w32) T0 6 5 ty·11 Row.off 0 λ x. x
 
-  abbrev s6 : Typed.Gives T7 T8
-  s6 = Know.k-sl-known (Referent.fInt Syntax.w16) T7 7 6 ty·12 Row.off 0 λ x. x
+  abbrev s6 : Typed.Gives T0 T0
+  s6 = Know.k-sl-known (Referent.fInt Syntax.w16) T0 7 6 ty·12 Row.off 0 λ x. x
 
-  abbrev s7 : Typed.Gives T8 T9
-  s7 = Know.k-sl-known (Referent.fInt Syntax.w8) T8 8 7 ty·5 Row.off 0 λ x. x
+  abbrev s7 : Typed.Gives T0 T0
+  s7 = Know.k-sl-known (Referent.fInt Syntax.w8) T0 8 7 ty·5 Row.off 0 λ x. x
 
-  abbrev s8 : Typed.Gives T9 T10
-  s8 = Know.k-shs-known (Referent.fInt Syntax.w8) T9 11 9 ty·6 Row.off 0 λ x. x
+  abbrev s8 : Typed.Gives T0 T0
+  s8 = Know.k-shs-known (Referent.fInt Syntax.w8) T0 11 9 ty·6 Row.off 0 λ x. x
 
-  abbrev s9 : Typed.Gives T10 T11
-  s9 = Know.k-shs-known (Referent.fInt Syntax.w16) T10 12 10 ty·13 Row.off 0 λ x. x
+  abbrev s9 : Typed.Gives T0 T0
+  s9 = Know.k-shs-known (Referent.fInt Syntax.w16) T0 12 10 ty·13 Row.off 0 λ x. x
 
-  abbrev s10 : Typed.Gives T11 T12
-  s10 = Know.k-sl-known (Referent.fInt Syntax.w16) T11 13 11 ty·14 Row.off 0 λ x. x
+  abbrev s10 : Typed.Gives T0 T0
+  s10 = Know.k-sl-known (Referent.fInt Syntax.w16) T0 13 11 ty·14 Row.off 0 λ x. x
 
-  abbrev s11 : Typed.Gives T12 T13
-  s11 = Know.k-sl-known (Referent.fInt Syntax.w32) T12 14 12 ty·15 Row.off 0 λ x. x
+  abbrev s11 : Typed.Gives T0 T0
+  s11 = Know.k-sl-known (Referent.fInt Syntax.w32) T0 14 12 ty·15 Row.off 0 λ x. x
 
-  abbrev s12 : Typed.Mo T13 → Typed.Mo T14
-  s12 = Scalar.n-use T13 (Scalar.oInt Syntax.w64 0) 15 (Rows.sc-here (Row.sInt Syntax.w64)) (Row.sInt Syntax.w64 .of)
+  abbrev s12 : Typed.Mo T0 → Typed.Mo T14
+  s12 = Scalar.n-use T0 (Scalar.oInt Syntax.w64 0) 15 (Rows.sc-here (Row.sInt Syntax.w64)) (Row.sInt Syntax.w64 .of)
 
   abbrev s13 : Typed.Asks T14 T16
   s13 = Scalar.k-op2 T14 (Syntax.lt Syntax.unsigned) (Scalar.oAt 15 (Syntax.tyInt Syntax.w64) (Row.valS (Row.sInt Syntax.w64))) (Scalar.oAt 10 (Syntax.tyInt Syntax.w64) (Row.valS (Row.sInt Syntax.w64))) 17 (Rows.sc-here Row.sBool) (Row.sBool .of)
 
-  abbrev s14 : Typed.Mo T16 → Typed.Mo T18
+  abbrev s14 : Typed.Mo T16 → Typed.Mo T14
   s14 = Scalar.n-room T16 17 Syntax.tyBool
 
-  abbrev s15 : Typed.Mo T16 → Typed.Mo T19
+  abbrev s15 : Typed.Mo T16 → Typed.Mo T14
   s15 = Scalar.n-room T16 17 Syntax.tyBool
 
-  abbrev s17 : Typed.Gives T17 T21
-  s17 = Relend.k-sl-relend (Referent.rtF (Referent.fInt Syntax.w16)) T17 7 18 6 13 ty·12 ty·3 Row.off λ x. x
+  abbrev s17 : Typed.Gives T14 T21
+  s17 = Relend.k-sl-relend (Referent.rtF (Referent.fInt Syntax.w16)) T14 7 18 6 13 ty·12 ty·3 Row.off λ x. x
 
   abbrev s18 : Typed.Asks T21 T22
   s18 = Relend.k-sl-aggregate (Referent.rtF (Referent.fInt Syntax.w16)) (Relend.asMut (Referent.rtF (Referent.fInt Syntax.w16))) T21 18 19 13 ty·3 ty·3 (λ x. x) (Scalar.oFld 7 (List._∷_ (Syntax.field 1) List.[]) (Syntax.tyInt Syntax.w64) 8 λ v. Shared.lenV (v .0))
@@ -827,11 +732,11 @@ module _ (claims· : Claims) where
   abbrev s25 : Typed.Asks T28 T29
   s25 = Scalar.k-op2 T28 Syntax.offset (Scalar.oFld 11 (List._∷_ (Syntax.field 0) List.[]) ty·6 0 Reads'.ptrVal) (Scalar.oAt 15 (Syntax.tyInt Syntax.w64) (Row.valS (Row.sInt Syntax.w64))) 24 (Rows.sc-here Row.sPtr) (Row.sPtr .of)
 
-  abbrev s26 : Typed.Gives T29 T30
+  abbrev s26 : Typed.Gives T29 T29
   s26 = Know.k-shs-known (Referent.fInt Syntax.w8) T29 11 9 ty·6 Row.off 0 λ x. x
 
-  abbrev s27 : Typed.Asks T30 T31
-  s27 = Shared.k-shs-read (Referent.fInt Syntax.w8) T30 11 24 25 9 ty·6 Row.off (Rows.sc-here (Row.sInt Syntax.w8)) Shared.byByte 0 (λ x. x) (λ x. x) (Row.sInt Syntax.w8 .of) λ u. u .1 .1 .1 .1 .1 .1 .1 .1 .1 .1 .1 .1 .1 .1 .1 .0
+  abbrev s27 : Typed.Asks T29 T31
+  s27 = Shared.k-shs-read (Referent.fInt Syntax.w8) T29 11 24 25 9 ty·6 Row.off (Rows.sc-here (Row.sInt Syntax.w8)) Shared.byByte 0 (λ x. x) (λ x. x) (Row.sInt Syntax.w8 .of) λ u. u .1 .1 .1 .1 .1 .1 .1 .1 .1 .1 .1 .1 .1 .1 .1 .0
 
   abbrev s28 : Typed.Mo T31 → Typed.Mo T32
   s28 = Scalar.n-room T31 24 Syntax.tyPtr
@@ -842,11 +747,11 @@ module _ (claims· : Claims) where
   abbrev s30 : Typed.Asks T33 T34
   s30 = Scalar.k-op2 T33 Syntax.offset (Scalar.oFld 12 (List._∷_ (Syntax.field 0) List.[]) ty·13 0 Reads'.ptrVal) (Scalar.oAt 26 (Syntax.tyInt Syntax.w64) (Row.valS (Row.sInt Syntax.w64))) 27 (Rows.sc-here Row.sPtr) (Row.sPtr .of)
 
-  abbrev s31 : Typed.Gives T34 T35
+  abbrev s31 : Typed.Gives T34 T34
   s31 = Know.k-shs-known (Referent.fInt Syntax.w16) T34 12 10 ty·13 Row.off 0 λ x. x
 
-  abbrev s32 : Typed.Asks T35 T36
-  s32 = Shared.k-shs-read (Referent.fInt Syntax.w16) T35 12 27 28 10 ty·13 Row.off (Rows.sc-here (Row.sInt Syntax.w16)) (Shared.bySize 2) 0 (λ x. x) (λ x. x) (Row.sInt Syntax.w16 .of) λ u. u .1 .1 .1 .1 .1 .1 .1 .1 .1 .1 .1 .1 .1 .1 .1 .0
+  abbrev s32 : Typed.Asks T34 T36
+  s32 = Shared.k-shs-read (Referent.fInt Syntax.w16) T34 12 27 28 10 ty·13 Row.off (Rows.sc-here (Row.sInt Syntax.w16)) (Shared.bySize 2) 0 (λ x. x) (λ x. x) (Row.sInt Syntax.w16 .of) λ u. u .1 .1 .1 .1 .1 .1 .1 .1 .1 .1 .1 .1 .1 .1 .1 .0
 
   abbrev s33 : Typed.Mo T36 → Typed.Mo T37
   s33 = Scalar.n-room T36 26 (Syntax.tyInt Syntax.w64)
@@ -855,47 +760,7 @@ module _ (claims· : Claims) where
   s34 = Scalar.n-room T37 27 Syntax.tyPtr
 
   abbrev s35 : Typed.Both T38 T39
-  s35 = Call.callB ps·0 r·0 (claims· .0) (claims· .1) T38 (
-    record { pos = 1; ty = Syntax.tyRef (Syntax.named 0) Syntax.imm (Syntax.tyInt Syntax.w16); ref = λ x. x },
-    (
-      record { pos = 2; ty = Syntax.tyRef (Syntax.named 1) Syntax.imm (Syntax.tyInt Syntax.w16); ref = λ x. x },
-      (
-        record {
-          pos = 3;
-          ty = Syntax.tyRef (Syntax.named 2) Syntax.imm (Syntax.tyInt Syntax.w8);
-          ref = λ x. x;
-        },
-        (
-          record { pos = 4; ty = Syntax.tyRef (Syntax.named 3) Syntax.imm (Syntax.tyInt Syntax.w16); ref = λ x. x },
-          (
-            record { pos = 5; ty = Syntax.tyRef (Syntax.named 4) Syntax.imm (Syntax.tyInt Syntax.w16); ref = λ x. x },
-            (
-              record {
-                pos = 6;
-                ty = Syntax.tyRef (Syntax.named 5) Syntax.imm (Syntax.tyInt Syntax.w32);
-                ref = λ x. x;
-              },
-              (
-                record { pos = 19; ty = Syntax.tyRef Syntax.erased Syntax.mut (Syntax.tyInt Syntax.w16); ref = λ x. x },
-                (
-                  record { pos = 21; ty = Syntax.tyRef Syntax.erased Syntax.mut (Syntax.tyInt Syntax.w8); ref = λ x. x },
-                  (
-                    record {
-                      pos = 23;
-                      ty = Syntax.tyRef
-                          Syntax.erased Syntax.mut Rec.behind;
-                      ref = λ x. x;
-                    },
-                    (Num.vAt 25 λ x. x, (Num.vAt 28 λ x. x, tt)),
-                  ),
-                ),
-              ),
-            ),
-          ),
-        ),
-      ),
-    ),
-  ) 16 (List._∷_ 0 (List._∷_ 1 (List._∷_ 2 (List._∷_ 3 (List._∷_ 4 (List._∷_ 5 (List._∷_ 13 (List._∷_ 14 (List._∷_ 15 List.[]))))))))) ty·16
+  s35 = Call.callB ps·0 r·0 (claims· .0) (claims· .1) T38 args·0 16 (List._∷_ 0 (List._∷_ 1 (List._∷_ 2 (List._∷_ 3 (List._∷_ 4 (List._∷_ 5 (List._∷_ 13 (List._∷_ 14 (List._∷_ 15 List.[]))))))))) ty·16
 
   abbrev s36 : Typed.Mo T39 → Typed.Mo T40
   s36 = Scalar.n-room T39 25 (Syntax.tyInt Syntax.w8)
@@ -906,17 +771,17 @@ module _ (claims· : Claims) where
   abbrev s39 : Typed.Both T41 T43
   s39 = Relend.k-back-sl (Referent.rtF (Referent.fInt Syntax.w16)) T41 19 7 6 13 ty·12 ty·3 Row.off (λ x. x) λ x. x
 
-  abbrev s40 : Typed.Gives T43 T44
+  abbrev s40 : Typed.Gives T43 T43
   s40 = Know.k-sl-known (Referent.fInt Syntax.w16) T43 7 6 ty·12 Row.off 0 λ x. x
 
-  abbrev s43 : Typed.Both T44 T47
-  s43 = Relend.k-back-sl (Referent.rtF (Referent.fInt Syntax.w8)) T44 21 8 7 14 ty·5 ty·2 Row.off (λ x. x) λ x. x
+  abbrev s43 : Typed.Both T43 T47
+  s43 = Relend.k-back-sl (Referent.rtF (Referent.fInt Syntax.w8)) T43 21 8 7 14 ty·5 ty·2 Row.off (λ x. x) λ x. x
 
-  abbrev s44 : Typed.Gives T47 T48
+  abbrev s44 : Typed.Gives T47 T47
   s44 = Know.k-sl-known (Referent.fInt Syntax.w8) T47 8 7 ty·5 Row.off 0 λ x. x
 
-  abbrev s47 : Typed.Both T48 T51
-  s47 = Relend.k-back-sl Rec.rt T48 23 9 8 15 ty·1 ty·0 Row.off (λ x. x) λ x. x
+  abbrev s47 : Typed.Both T47 T51
+  s47 = Relend.k-back-sl Rec.rt T47 23 9 8 15 ty·1 ty·0 Row.off (λ x. x) λ x. x
 
   abbrev s49 : Typed.Asks T51 T53
   s49 = Scalar.k-op2 T51 (Syntax.mul Syntax.unsigned) (Scalar.oAt 15 (Syntax.tyInt Syntax.w64) (Row.valS (Row.sInt Syntax.w64))) (Scalar.oInt Syntax.w64 2) 26 (Rows.sc-here (Row.sInt Syntax.w64)) (Row.sInt Syntax.w64 .of)
@@ -924,58 +789,50 @@ module _ (claims· : Claims) where
   abbrev s50 : Typed.Asks T53 T54
   s50 = Scalar.k-op2 T53 Syntax.offset (Scalar.oFld 13 (List._∷_ (Syntax.field 0) List.[]) ty·14 0 Reads'.ptrVal) (Scalar.oAt 26 (Syntax.tyInt Syntax.w64) (Row.valS (Row.sInt Syntax.w64))) 29 (Rows.sc-here Row.sPtr) (Row.sPtr .of)
 
-  abbrev s51 : Typed.Asks T54 T55
+  abbrev s51 : Typed.Asks T54 T54
   s51 = Mut.k-sl-write (Referent.fInt Syntax.w16) T54 13 29 11 ty·14 Row.off (Shared.bySize 2) (λ x. x) (λ x. x) (λ u. u .1 .1 .1 .1 .1 .1 .1 .1 .1 .1 .1 .1 .1 .1 .1 .0) (Scalar.oFld 16 (List._∷_ (Syntax.field 0) List.[]) (Syntax.tyInt Syntax.w16) 0 (Reads.fieldV NumberedReply.the-type Laws.the-laws 0))
 
-  abbrev s52 : Typed.Mo T55 → Typed.Mo T56
-  s52 = Scalar.n-room T55 26 (Syntax.tyInt Syntax.w64)
+  abbrev s52 : Typed.Mo T54 → Typed.Mo T56
+  s52 = Scalar.n-room T54 26 (Syntax.tyInt Syntax.w64)
 
-  abbrev s53 : Typed.Mo T56 → Typed.Mo T57
+  abbrev s53 : Typed.Mo T56 → Typed.Mo T51
   s53 = Scalar.n-room T56 29 Syntax.tyPtr
 
-  abbrev s54 : Typed.Asks T57 T58
-  s54 = Scalar.k-op2 T57 (Syntax.mul Syntax.unsigned) (Scalar.oAt 15 (Syntax.tyInt Syntax.w64) (Row.valS (Row.sInt Syntax.w64))) (Scalar.oInt Syntax.w64 4) 26 (Rows.sc-here (Row.sInt Syntax.w64)) (Row.sInt Syntax.w64 .of)
+  abbrev s54 : Typed.Asks T51 T53
+  s54 = Scalar.k-op2 T51 (Syntax.mul Syntax.unsigned) (Scalar.oAt 15 (Syntax.tyInt Syntax.w64) (Row.valS (Row.sInt Syntax.w64))) (Scalar.oInt Syntax.w64 4) 26 (Rows.sc-here (Row.sInt Syntax.w64)) (Row.sInt Syntax.w64 .of)
 
-  abbrev s55 : Typed.Asks T58 T59
-  s55 = Scalar.k-op2 T58 Syntax.offset (Scalar.oFld 14 (List._∷_ (Syntax.field 0) List.[]) ty·15 0 Reads'.ptrVal) (Scalar.oAt 26 (Syntax.tyInt Syntax.w64) (Row.valS (Row.sInt Syntax.w64))) 30 (Rows.sc-here Row.sPtr) (Row.sPtr .of)
+  abbrev s55 : Typed.Asks T53 T59
+  s55 = Scalar.k-op2 T53 Syntax.offset (Scalar.oFld 14 (List._∷_ (Syntax.field 0) List.[]) ty·15 0 Reads'.ptrVal) (Scalar.oAt 26 (Syntax.tyInt Syntax.w64) (Row.valS (Row.sInt Syntax.w64))) 30 (Rows.sc-here Row.sPtr) (Row.sPtr .of)
 
-  abbrev s56 : Typed.Asks T59 T60
+  abbrev s56 : Typed.Asks T59 T59
   s56 = Mut.k-sl-write (Referent.fInt Syntax.w32) T59 14 30 12 ty·15 Row.off (Shared.bySize 4) (λ x. x) (λ x. x) (λ u. u .1 .1 .1 .1 .1 .1 .1 .1 .1 .1 .1 .1 .1 .1 .1 .0) (Scalar.oFld 16 (List._∷_ (Syntax.field 1) List.[]) (Syntax.tyInt Syntax.w32) 4 (Reads.fieldV NumberedReply.the-type Laws.the-laws 1))
 
-  abbrev s57 : Typed.Mo T60 → Typed.Mo T61
-  s57 = Scalar.n-room T60 16 ty·16
+  abbrev s57 : Typed.Mo T59 → Typed.Mo T61
+  s57 = Scalar.n-room T59 16 ty·16
 
   abbrev s58 : Typed.Mo T61 → Typed.Mo T62
   s58 = Scalar.n-room T61 26 (Syntax.tyInt Syntax.w64)
 
-  abbrev s59 : Typed.Mo T62 → Typed.Mo T63
+  abbrev s59 : Typed.Mo T62 → Typed.Mo T14
   s59 = Scalar.n-room T62 30 Syntax.tyPtr
 
-  abbrev s60 : Typed.Asks T63 T64
-  s60 = Scalar.k-op2 T63 (Syntax.add Syntax.unsigned) (Scalar.oAt 15 (Syntax.tyInt Syntax.w64) (Row.valS (Row.sInt Syntax.w64))) (Scalar.oInt Syntax.w64 1) 15 (Rows.sc-here (Row.sInt Syntax.w64)) (Row.sInt Syntax.w64 .of)
+  abbrev s60 : Typed.Asks T14 T14
+  s60 = Scalar.k-op2 T14 (Syntax.add Syntax.unsigned) (Scalar.oAt 15 (Syntax.tyInt Syntax.w64) (Row.valS (Row.sInt Syntax.w64))) (Scalar.oInt Syntax.w64 1) 15 (Rows.sc-here (Row.sInt Syntax.w64)) (Row.sInt Syntax.w64 .of)
 
-  abbrev s61 : Typed.Mo T15 → Typed.Mo T65
-  s61 = Scalar.n-use T15 Scalar.oUnit 0 (Rows.sc-here Row.sUnit) (Row.sUnit .of)
+  abbrev s61 : Typed.Mo T14 → Typed.Mo T65
+  s61 = Scalar.n-use T14 Scalar.oUnit 0 (Rows.sc-here Row.sUnit) (Row.sUnit .of)
 
   abbrev s62 : Typed.Mo T65 → Typed.Mo T66
   s62 = Scalar.n-room T65 15 (Syntax.tyInt Syntax.w64)
 
-  abbrev s63 : Typed.Mo T66 → Typed.Mo T67
+  abbrev s63 : Typed.Mo T66 → Typed.Mo T1
   s63 = Scalar.n-room T66 10 (Syntax.tyInt Syntax.w64)
 
   abbrev put0 : List.List (Referent.rtF (Referent.fInt Syntax.w16) .Denot) × List.List (Referent.rtF (Referent.fInt Syntax.w8) .Denot) × List.List (Rec.rt .Denot) × List.List (Referent.rtF (Referent.fInt Syntax.w16) .Denot) × List.List (Referent.rtF (Referent.fInt Syntax.w32) .Denot) × Rows.sc-here (Row.sInt Syntax.w64) .Mod → Typed.Mo T14 → Typed.Mo T14
-  put0 = λ vs u. Row.set 15 (15, Rows.sc-here (Row.sInt Syntax.w64)) (vs .5) (T14 .locals) (Row.set 14 (14, Mut.mslice (Referent.rtF (Referent.fInt Syntax.w32)) ty·15 12) record { ptr = Row.get 14 (T14 .locals) u .ptr; name = Row.get 14 (T14 .locals) u .name; now = vs .4 } (T14 .locals) (Row.set 13 (
-    13,
-    Mut.mslice
-        (Referent.rtF (Referent.fInt Syntax.w16)) ty·14 11,
-  ) record { ptr = Row.get 13 (T14 .locals) u .ptr; name = Row.get 13 (T14 .locals) u .name; now = vs .3 } (T14 .locals) (Row.set 9 (9, Mut.mslice Rec.rt ty·1 8) record { ptr = Row.get 9 (T14 .locals) u .ptr; name = Row.get 9 (T14 .locals) u .name; now = vs .2 } (T14 .locals) (Row.set 8 (
-    8,
-    Mut.mslice (Referent.rtF (Referent.fInt Syntax.w8)) ty·5 7,
-  ) record { ptr = Row.get 8 (T14 .locals) u .ptr; name = Row.get 8 (T14 .locals) u .name; now = vs .1 } (T14 .locals) (Row.set 7 (7, Mut.mslice (Referent.rtF (Referent.fInt Syntax.w16)) ty·12 6) record {
-    ptr = Row.get 7 (T14 .locals) u .ptr;
-    name = Row.get 7 (T14 .locals) u .name;
-    now = vs .0;
-  } (T14 .locals) u)))))
+  put0 = λ vs u. Row.set 15 (15, Rows.sc-here (Row.sInt Syntax.w64)) (vs .5) (T14 .locals) (Row.set 14 (14, Mut.mslice (Referent.rtF (Referent.fInt Syntax.w32)) ty·15 12) record { ptr = Row.get 14 (T14 .locals) u .ptr; name = Row.get 14 (T14 .locals) u .name; now = vs .4 } (T14 .locals) (Row.set 13
+      (13, Mut.mslice (Referent.rtF (Referent.fInt Syntax.w16)) ty·14 11) record { ptr = Row.get 13 (T14 .locals) u .ptr; name = Row.get 13 (T14 .locals) u .name; now = vs .3 } (T14 .locals) (Row.set 9 (9, Mut.mslice Rec.rt ty·1 8) record { ptr = Row.get 9 (T14 .locals) u .ptr; name = Row.get 9 (T14 .locals) u .name; now = vs .2 } (T14 .locals) (Row.set 8
+      (8, Mut.mslice (Referent.rtF (Referent.fInt Syntax.w8)) ty·5 7) record { ptr = Row.get 8 (T14 .locals) u .ptr; name = Row.get 8 (T14 .locals) u .name; now = vs .1 } (T14 .locals) (Row.set 7 (7, Mut.mslice (Referent.rtF (Referent.fInt Syntax.w16)) ty·12 6) record { ptr = Row.get 7 (T14 .locals) u .ptr; name = Row.get 7 (T14 .locals) u .name; now = vs .0 }
+      (T14 .locals) u)))))
 
   module _ (Pre· : (κs : Lifetimes.Lfts 13) → Kinds.Dens κs ps → Type 0) (Post· : (κs : Lifetimes.Lfts 13) → (a : Kinds.Dens κs ps) → Kinds.Plain 13 ps r κs) where
     module _ (M : Type 1) where
@@ -983,47 +840,47 @@ module _ (claims· : Claims) where
       Closed = (𝓤 : URA.URA M) (H : Wp.Heap 𝓤) (A : Atoms.Atoms 𝓤) (W : Kit.Given 𝓤 H A) (𝓣 : Wp.Tables 𝓤 H) (known0 : Plain.Known 𝓤 H A W 𝓣 9 ps·0 r·0 (claims· .0) (claims· .1) "dispatch::requests::make_request") → Statement.Triple 𝓤 (Wp.WpFn 𝓤 H (𝓣 .C) (𝓣 .Λ) (Function.fnOf 13 ps r xs m hs body)) (Function.plainOf 𝓤 H A 13 ps r Pre· Post·)
 
     module _ (Inv·0 : InvT-loop) (μ·0 : MeasureT-loop) where
-      abbrev at0 : Typed.TF T18 O4
+      abbrev at0 : Typed.TF T14 O4
       at0 = Typed.atNext O4
 
       abbrev at1 : Typed.TF T16 O4
-      at1 = λ Ψ. Typed.pass T16 T18 s14 (at0 Ψ)
+      at1 = λ Ψ. Typed.pass T16 T14 s14 (at0 Ψ)
 
-      abbrev at2 : Typed.TF T19 O4
+      abbrev at2 : Typed.TF T14 O4
       at2 = Typed.atExit 1 O4
 
       abbrev at3 : Typed.TF T16 O4
-      at3 = λ Ψ. Typed.pass T16 T19 s15 (at2 Ψ)
+      at3 = λ Ψ. Typed.pass T16 T14 s15 (at2 Ψ)
 
       abbrev at4 : Typed.TF T16 O4
       at4 = Scalar.Φcond T16 O4 17 (λ x. x) at1 at3
 
-      abbrev at5 : Typed.TF T63 O3
+      abbrev at5 : Typed.TF T14 O3
       at5 = λ Ψ. Typed.ask s60 (Typed.atNext O3 Ψ)
 
       abbrev at6 : Typed.TF T62 O3
-      at6 = λ Ψ. Typed.pass T62 T63 s59 (at5 Ψ)
+      at6 = λ Ψ. Typed.pass T62 T14 s59 (at5 Ψ)
 
       abbrev at7 : Typed.TF T61 O3
       at7 = λ Ψ. Typed.pass T61 T62 s58 (at6 Ψ)
 
-      abbrev at8 : Typed.TF T60 O3
-      at8 = λ Ψ. Typed.pass T60 T61 s57 (at7 Ψ)
+      abbrev at8 : Typed.TF T59 O3
+      at8 = λ Ψ. Typed.pass T59 T61 s57 (at7 Ψ)
 
       abbrev at9 : Typed.TF T59 O3
       at9 = λ Ψ. Typed.ask s56 (at8 Ψ)
 
-      abbrev at10 : Typed.TF T58 O3
+      abbrev at10 : Typed.TF T53 O3
       at10 = λ Ψ. Typed.ask s55 (at9 Ψ)
 
-      abbrev at11 : Typed.TF T57 O3
+      abbrev at11 : Typed.TF T51 O3
       at11 = λ Ψ. Typed.ask s54 (at10 Ψ)
 
       abbrev at12 : Typed.TF T56 O3
-      at12 = λ Ψ. Typed.pass T56 T57 s53 (at11 Ψ)
+      at12 = λ Ψ. Typed.pass T56 T51 s53 (at11 Ψ)
 
-      abbrev at13 : Typed.TF T55 O3
-      at13 = λ Ψ. Typed.pass T55 T56 s52 (at12 Ψ)
+      abbrev at13 : Typed.TF T54 O3
+      at13 = λ Ψ. Typed.pass T54 T56 s52 (at12 Ψ)
 
       abbrev at14 : Typed.TF T54 O3
       at14 = λ Ψ. Typed.ask s51 (at13 Ψ)
@@ -1034,41 +891,23 @@ module _ (claims· : Claims) where
       abbrev at16 : Typed.TF T51 O3
       at16 = λ Ψ. Typed.ask s49 (at15 Ψ)
 
-      abbrev at17 : Typed.TF T51 O3
-      at17 = λ Ψ. at16 Ψ
-
-      abbrev at18 : Typed.TF T48 O3
-      at18 = λ Ψ. Typed.both s47 (at17 Ψ)
-
-      abbrev at19 : Typed.TF T48 O3
-      at19 = λ Ψ. at18 Ψ
-
-      abbrev at20 : Typed.TF T48 O3
-      at20 = λ Ψ. at19 Ψ
+      abbrev at18 : Typed.TF T47 O3
+      at18 = λ Ψ. Typed.both s47 (at16 Ψ)
 
       abbrev at21 : Typed.TF T47 O3
-      at21 = λ Ψ. Typed.give s44 (at20 Ψ)
+      at21 = λ Ψ. Typed.give s44 (at18 Ψ)
 
-      abbrev at22 : Typed.TF T44 O3
+      abbrev at22 : Typed.TF T43 O3
       at22 = λ Ψ. Typed.both s43 (at21 Ψ)
 
-      abbrev at23 : Typed.TF T44 O3
-      at23 = λ Ψ. at22 Ψ
-
-      abbrev at24 : Typed.TF T44 O3
-      at24 = λ Ψ. at23 Ψ
-
       abbrev at25 : Typed.TF T43 O3
-      at25 = λ Ψ. Typed.give s40 (at24 Ψ)
+      at25 = λ Ψ. Typed.give s40 (at22 Ψ)
 
       abbrev at26 : Typed.TF T41 O3
       at26 = λ Ψ. Typed.both s39 (at25 Ψ)
 
-      abbrev at27 : Typed.TF T41 O3
-      at27 = λ Ψ. at26 Ψ
-
       abbrev at28 : Typed.TF T40 O3
-      at28 = λ Ψ. Typed.pass T40 T41 s37 (at27 Ψ)
+      at28 = λ Ψ. Typed.pass T40 T41 s37 (at26 Ψ)
 
       abbrev at29 : Typed.TF T39 O3
       at29 = λ Ψ. Typed.pass T39 T40 s36 (at28 Ψ)
@@ -1082,7 +921,7 @@ module _ (claims· : Claims) where
       abbrev at32 : Typed.TF T36 O3
       at32 = λ Ψ. Typed.pass T36 T37 s33 (at31 Ψ)
 
-      abbrev at33 : Typed.TF T35 O3
+      abbrev at33 : Typed.TF T34 O3
       at33 = λ Ψ. Typed.ask s32 (at32 Ψ)
 
       abbrev at34 : Typed.TF T34 O3
@@ -1097,7 +936,7 @@ module _ (claims· : Claims) where
       abbrev at37 : Typed.TF T31 O3
       at37 = λ Ψ. Typed.pass T31 T32 s28 (at36 Ψ)
 
-      abbrev at38 : Typed.TF T30 O3
+      abbrev at38 : Typed.TF T29 O3
       at38 = λ Ψ. Typed.ask s27 (at37 Ψ)
 
       abbrev at39 : Typed.TF T29 O3
@@ -1112,91 +951,82 @@ module _ (claims· : Claims) where
       abbrev at42 : Typed.TF T25 O3
       at42 = λ Ψ. Typed.give s23 (at41 Ψ)
 
-      abbrev at43 : Typed.TF T25 O3
-      at43 = λ Ψ. at42 Ψ
-
       abbrev at44 : Typed.TF T24 O3
-      at44 = λ Ψ. Typed.ask s21 (at43 Ψ)
+      at44 = λ Ψ. Typed.ask s21 (at42 Ψ)
 
       abbrev at45 : Typed.TF T22 O3
       at45 = λ Ψ. Typed.give s20 (at44 Ψ)
 
-      abbrev at46 : Typed.TF T22 O3
-      at46 = λ Ψ. at45 Ψ
-
       abbrev at47 : Typed.TF T21 O3
-      at47 = λ Ψ. Typed.ask s18 (at46 Ψ)
+      at47 = λ Ψ. Typed.ask s18 (at45 Ψ)
 
-      abbrev at48 : Typed.TF T17 O3
+      abbrev at48 : Typed.TF T14 O3
       at48 = λ Ψ. Typed.give s17 (at47 Ψ)
 
-      abbrev at49 : Typed.TF T17 O3
-      at49 = λ Ψ. at48 Ψ
-
       abbrev at50 : Typed.TF T16 O3
-      at50 = λ Ψ. at4 (Typed.wantNext T17 O3 (at49 Ψ) Ψ)
+      at50 = λ Ψ. at4 (Typed.wantNext T14 O3 (at48 Ψ) Ψ)
 
       abbrev at51 : Typed.TF T14 O3
       at51 = λ Ψ. Typed.ask s13 (at50 Ψ)
 
       abbrev at52 : Typed.TF T14 O2
-      at52 = Typed.LoopBy T14 O2 put0 (λ u vs. Inv·0 (Row.get 1 (T14 .locals) u .now) (Row.get 2 (T14 .locals) u .now) (Row.get 3 (T14 .locals) u .now) (Row.get 4 (T14 .locals) u .now) (Row.get 5 (T14 .locals) u .now) (Row.get 6 (T14 .locals) u .now) (Row.get 7 (T14 .locals) u .now) (Row.get 8 (T14 .locals) u .now) (Row.get 9 (T14 .locals) u .now)
-          (Row.get 10 (T14 .locals) u) (Row.get 11 (T14 .locals) u .now) (Row.get 12 (T14 .locals) u .now) (Row.get 13 (T14 .locals) u .now) (Row.get 14 (T14 .locals) u .now) (Row.get 15 (T14 .locals) u) (vs .0) (vs .1) (vs .2) (vs .3) (vs .4) (vs .5)) (λ u vs. μ·0 (Row.get 1 (T14 .locals) u .now) (Row.get 2 (T14 .locals) u .now)
-          (Row.get 3 (T14 .locals) u .now) (Row.get 4 (T14 .locals) u .now) (Row.get 5 (T14 .locals) u .now) (Row.get 6 (T14 .locals) u .now) (Row.get 7 (T14 .locals) u .now) (Row.get 8 (T14 .locals) u .now) (Row.get 9 (T14 .locals) u .now) (Row.get 10 (T14 .locals) u) (Row.get 11 (T14 .locals) u .now) (Row.get 12 (T14 .locals) u .now)
-          (Row.get 13 (T14 .locals) u .now) (Row.get 14 (T14 .locals) u .now) (Row.get 15 (T14 .locals) u) (vs .0) (vs .1) (vs .2) (vs .3) (vs .4) (vs .5)) at51
+      at52 = Typed.LoopBy T14 O2 put0 (λ u vs. Inv·0 (Row.get 1 (T14 .locals) u .now) (Row.get 2 (T14 .locals) u .now) (Row.get 3 (T14 .locals) u .now) (Row.get 4 (T14 .locals) u .now) (Row.get 5 (T14 .locals) u .now) (Row.get 6 (T14 .locals) u .now) (Row.get 7 (T14 .locals) u .now) (Row.get 8 (T14 .locals) u .now) (Row.get 9 (T14 .locals) u .now) (Row.get
+          10 (T14 .locals) u) (Row.get 11 (T14 .locals) u .now) (Row.get 12 (T14 .locals) u .now) (Row.get 13 (T14 .locals) u .now) (Row.get 14 (T14 .locals) u .now) (Row.get 15 (T14 .locals) u) (vs .0) (vs .1) (vs .2) (vs .3) (vs .4) (vs .5)) (λ u vs. μ·0 (Row.get 1 (T14 .locals) u .now) (Row.get 2 (T14 .locals) u .now) (Row.get 3 (T14 .locals) u .now) (Row.get
+          4 (T14 .locals) u .now) (Row.get 5 (T14 .locals) u .now) (Row.get 6 (T14 .locals) u .now) (Row.get 7 (T14 .locals) u .now) (Row.get 8 (T14 .locals) u .now) (Row.get 9 (T14 .locals) u .now) (Row.get 10 (T14 .locals) u) (Row.get 11 (T14 .locals) u .now) (Row.get 12 (T14 .locals) u .now) (Row.get 13 (T14 .locals) u .now) (Row.get 14 (T14 .locals) u .now)
+          (Row.get 15 (T14 .locals) u) (vs .0) (vs .1) (vs .2) (vs .3) (vs .4) (vs .5)) at51
 
       abbrev at53 : Typed.TF T14 O1
       at53 = λ Ψ. at52 (Typed.inBlock O1 Ψ)
 
-      abbrev at54 : Typed.TF T67 O0
+      abbrev at54 : Typed.TF T1 O0
       at54 = Typed.atRet O0
 
       abbrev at55 : Typed.TF T66 O0
-      at55 = λ Ψ. Typed.pass T66 T67 s63 (at54 Ψ)
+      at55 = λ Ψ. Typed.pass T66 T1 s63 (at54 Ψ)
 
       abbrev at56 : Typed.TF T65 O0
       at56 = λ Ψ. Typed.pass T65 T66 s62 (at55 Ψ)
 
-      abbrev at57 : Typed.TF T15 O0
-      at57 = λ Ψ. Typed.pass T15 T65 s61 (at56 Ψ)
+      abbrev at57 : Typed.TF T14 O0
+      at57 = λ Ψ. Typed.pass T14 T65 s61 (at56 Ψ)
 
       abbrev at58 : Typed.TF T14 O0
-      at58 = λ Ψ. at53 (Typed.wantNext T15 O0 (at57 Ψ) Ψ)
+      at58 = λ Ψ. at53 (Typed.wantNext T14 O0 (at57 Ψ) Ψ)
 
-      abbrev at59 : Typed.TF T13 O0
-      at59 = λ Ψ. Typed.pass T13 T14 s12 (at58 Ψ)
+      abbrev at59 : Typed.TF T0 O0
+      at59 = λ Ψ. Typed.pass T0 T14 s12 (at58 Ψ)
 
-      abbrev at60 : Typed.TF T12 O0
+      abbrev at60 : Typed.TF T0 O0
       at60 = λ Ψ. Typed.give s11 (at59 Ψ)
 
-      abbrev at61 : Typed.TF T11 O0
+      abbrev at61 : Typed.TF T0 O0
       at61 = λ Ψ. Typed.give s10 (at60 Ψ)
 
-      abbrev at62 : Typed.TF T10 O0
+      abbrev at62 : Typed.TF T0 O0
       at62 = λ Ψ. Typed.give s9 (at61 Ψ)
 
-      abbrev at63 : Typed.TF T9 O0
+      abbrev at63 : Typed.TF T0 O0
       at63 = λ Ψ. Typed.give s8 (at62 Ψ)
 
-      abbrev at64 : Typed.TF T8 O0
+      abbrev at64 : Typed.TF T0 O0
       at64 = λ Ψ. Typed.give s7 (at63 Ψ)
 
-      abbrev at65 : Typed.TF T7 O0
+      abbrev at65 : Typed.TF T0 O0
       at65 = λ Ψ. Typed.give s6 (at64 Ψ)
 
-      abbrev at66 : Typed.TF T6 O0
+      abbrev at66 : Typed.TF T0 O0
       at66 = λ Ψ. Typed.give s5 (at65 Ψ)
 
-      abbrev at67 : Typed.TF T5 O0
+      abbrev at67 : Typed.TF T0 O0
       at67 = λ Ψ. Typed.give s4 (at66 Ψ)
 
-      abbrev at68 : Typed.TF T4 O0
+      abbrev at68 : Typed.TF T0 O0
       at68 = λ Ψ. Typed.give s3 (at67 Ψ)
 
-      abbrev at69 : Typed.TF T3 O0
+      abbrev at69 : Typed.TF T0 O0
       at69 = λ Ψ. Typed.give s2 (at68 Ψ)
 
-      abbrev at70 : Typed.TF T2 O0
+      abbrev at70 : Typed.TF T0 O0
       at70 = λ Ψ. Typed.give s1 (at69 Ψ)
 
       abbrev at71 : Typed.TF T0 O0
@@ -1211,809 +1041,204 @@ module _ (claims· : Claims) where
 
       module _ (κs : Lifetimes.Lfts 13) (qs : Lifetimes.Shares 13) where
         abbrev g5 : List.List Row.Entry
-        g5 = List._∷_ (0, Rows.any-gone Syntax.tyUnit) (List._∷_ (
-          1,
-          Rows.sslice (Referent.rtF (Referent.fInt Syntax.w16)) ty·7 0,
-        ) (List._∷_ (
-          2,
-          Rows.sslice (Referent.rtF (Referent.fInt Syntax.w16)) ty·8 1,
-        ) (List._∷_ (
-          3,
-          Rows.sslice (Referent.rtF (Referent.fInt Syntax.w8)) ty·4 2,
-        ) (List._∷_ (
-          4,
-          Rows.sslice (Referent.rtF (Referent.fInt Syntax.w16)) ty·9 3,
-        ) (List._∷_ (
-          5,
-          Rows.sslice (Referent.rtF (Referent.fInt Syntax.w16)) ty·10 4,
-        ) (List._∷_ (
-          6,
-          Rows.sslice (Referent.rtF (Referent.fInt Syntax.w32)) ty·11 5,
-        ) (List._∷_ (
-          7,
-          Relend.mslice-owed (Referent.rtF (Referent.fInt Syntax.w16)) ty·12 6 13 (Row.lease (κs .1 .1 .1 .1 .1 .1 .0) (qs .1 .1 .1 .1 .1 .1 .0)),
-        ) (List._∷_ (
-          8,
-          Mut.mslice (Referent.rtF (Referent.fInt Syntax.w8)) ty·5 7,
-        ) (List._∷_ (
-          9,
-          Mut.mslice Rec.rt ty·1 8,
-        ) (List._∷_ (10, Rows.sc-here (Row.sInt Syntax.w64)) (List._∷_ (
-          11,
-          Rows.sslice (Referent.rtF (Referent.fInt Syntax.w8)) ty·6 9,
-        ) (List._∷_ (
-          12,
-          Rows.sslice (Referent.rtF (Referent.fInt Syntax.w16)) ty·13 10,
-        ) (List._∷_ (
-          13,
-          Mut.mslice (Referent.rtF (Referent.fInt Syntax.w16)) ty·14 11,
-        ) (List._∷_ (
-          14,
-          Mut.mslice (Referent.rtF (Referent.fInt Syntax.w32)) ty·15 12,
-        ) (List._∷_ (15, Rows.sc-here (Row.sInt Syntax.w64)) List.[])))))))))))))))
+        g5 = List._∷_ (0, Rows.any-gone Syntax.tyUnit) (List._∷_ (1, Rows.sslice (Referent.rtF (Referent.fInt Syntax.w16)) ty·7 0) (List._∷_ (2, Rows.sslice (Referent.rtF (Referent.fInt Syntax.w16)) ty·8 1) (List._∷_ (3, Rows.sslice (Referent.rtF (Referent.fInt Syntax.w8)) ty·4 2) (List._∷_ (4, Rows.sslice (Referent.rtF (Referent.fInt Syntax.w16)) ty·9 3)
+            (List._∷_ (5, Rows.sslice (Referent.rtF (Referent.fInt Syntax.w16)) ty·10 4) (List._∷_ (6, Rows.sslice (Referent.rtF (Referent.fInt Syntax.w32)) ty·11 5) (List._∷_ (7, Relend.mslice-owed (Referent.rtF (Referent.fInt Syntax.w16)) ty·12 6 13 (Row.lease (κs .1 .1 .1 .1 .1 .1 .0) (qs .1 .1 .1 .1 .1 .1 .0))) (List._∷_
+            (8, Mut.mslice (Referent.rtF (Referent.fInt Syntax.w8)) ty·5 7) (List._∷_ (9, Mut.mslice Rec.rt ty·1 8) (List._∷_ (10, Rows.sc-here (Row.sInt Syntax.w64)) (List._∷_ (11, Rows.sslice (Referent.rtF (Referent.fInt Syntax.w8)) ty·6 9) (List._∷_ (12, Rows.sslice (Referent.rtF (Referent.fInt Syntax.w16)) ty·13 10) (List._∷_
+            (13, Mut.mslice (Referent.rtF (Referent.fInt Syntax.w16)) ty·14 11) (List._∷_ (14, Mut.mslice (Referent.rtF (Referent.fInt Syntax.w32)) ty·15 12) (List._∷_ (15, Rows.sc-here (Row.sInt Syntax.w64)) List.[])))))))))))))))
 
         abbrev g8 : List.List Row.Entry
-        g8 = List._∷_ (0, Rows.any-gone Syntax.tyUnit) (List._∷_ (
-          1,
-          Rows.sslice (Referent.rtF (Referent.fInt Syntax.w16)) ty·7 0,
-        ) (List._∷_ (
-          2,
-          Rows.sslice (Referent.rtF (Referent.fInt Syntax.w16)) ty·8 1,
-        ) (List._∷_ (
-          3,
-          Rows.sslice (Referent.rtF (Referent.fInt Syntax.w8)) ty·4 2,
-        ) (List._∷_ (
-          4,
-          Rows.sslice (Referent.rtF (Referent.fInt Syntax.w16)) ty·9 3,
-        ) (List._∷_ (
-          5,
-          Rows.sslice (Referent.rtF (Referent.fInt Syntax.w16)) ty·10 4,
-        ) (List._∷_ (
-          6,
-          Rows.sslice (Referent.rtF (Referent.fInt Syntax.w32)) ty·11 5,
-        ) (List._∷_ (
-          7,
-          Relend.mslice-owed (Referent.rtF (Referent.fInt Syntax.w16)) ty·12 6 13 (Row.lease (κs .1 .1 .1 .1 .1 .1 .0) (qs .1 .1 .1 .1 .1 .1 .0)),
-        ) (List._∷_ (
-          8,
-          Relend.mslice-owed (Referent.rtF (Referent.fInt Syntax.w8)) ty·5 7 14 (Row.lease (κs .1 .1 .1 .1 .1 .1 .1 .0) (qs .1 .1 .1 .1 .1 .1 .1 .0)),
-        ) (List._∷_ (
-          9,
-          Mut.mslice Rec.rt ty·1 8,
-        ) (List._∷_ (10, Rows.sc-here (Row.sInt Syntax.w64)) (List._∷_ (
-          11,
-          Rows.sslice (Referent.rtF (Referent.fInt Syntax.w8)) ty·6 9,
-        ) (List._∷_ (
-          12,
-          Rows.sslice (Referent.rtF (Referent.fInt Syntax.w16)) ty·13 10,
-        ) (List._∷_ (
-          13,
-          Mut.mslice (Referent.rtF (Referent.fInt Syntax.w16)) ty·14 11,
-        ) (List._∷_ (
-          14,
-          Mut.mslice (Referent.rtF (Referent.fInt Syntax.w32)) ty·15 12,
-        ) (List._∷_ (15, Rows.sc-here (Row.sInt Syntax.w64)) List.[])))))))))))))))
+        g8 = List._∷_ (0, Rows.any-gone Syntax.tyUnit) (List._∷_ (1, Rows.sslice (Referent.rtF (Referent.fInt Syntax.w16)) ty·7 0) (List._∷_ (2, Rows.sslice (Referent.rtF (Referent.fInt Syntax.w16)) ty·8 1) (List._∷_ (3, Rows.sslice (Referent.rtF (Referent.fInt Syntax.w8)) ty·4 2) (List._∷_ (4, Rows.sslice (Referent.rtF (Referent.fInt Syntax.w16)) ty·9 3)
+            (List._∷_ (5, Rows.sslice (Referent.rtF (Referent.fInt Syntax.w16)) ty·10 4) (List._∷_ (6, Rows.sslice (Referent.rtF (Referent.fInt Syntax.w32)) ty·11 5) (List._∷_ (7, Relend.mslice-owed (Referent.rtF (Referent.fInt Syntax.w16)) ty·12 6 13 (Row.lease (κs .1 .1 .1 .1 .1 .1 .0) (qs .1 .1 .1 .1 .1 .1 .0))) (List._∷_
+            (8, Relend.mslice-owed (Referent.rtF (Referent.fInt Syntax.w8)) ty·5 7 14 (Row.lease (κs .1 .1 .1 .1 .1 .1 .1 .0) (qs .1 .1 .1 .1 .1 .1 .1 .0))) (List._∷_ (9, Mut.mslice Rec.rt ty·1 8) (List._∷_ (10, Rows.sc-here (Row.sInt Syntax.w64)) (List._∷_ (11, Rows.sslice (Referent.rtF (Referent.fInt Syntax.w8)) ty·6 9) (List._∷_
+            (12, Rows.sslice (Referent.rtF (Referent.fInt Syntax.w16)) ty·13 10) (List._∷_ (13, Mut.mslice (Referent.rtF (Referent.fInt Syntax.w16)) ty·14 11) (List._∷_ (14, Mut.mslice (Referent.rtF (Referent.fInt Syntax.w32)) ty·15 12) (List._∷_ (15, Rows.sc-here (Row.sInt Syntax.w64)) List.[])))))))))))))))
 
         abbrev g11 : List.List Row.Entry
-        g11 = List._∷_ (0, Rows.any-gone Syntax.tyUnit) (List._∷_ (
-          1,
-          Rows.sslice (Referent.rtF (Referent.fInt Syntax.w16)) ty·7 0,
-        ) (List._∷_ (
-          2,
-          Rows.sslice (Referent.rtF (Referent.fInt Syntax.w16)) ty·8 1,
-        ) (List._∷_ (
-          3,
-          Rows.sslice (Referent.rtF (Referent.fInt Syntax.w8)) ty·4 2,
-        ) (List._∷_ (
-          4,
-          Rows.sslice (Referent.rtF (Referent.fInt Syntax.w16)) ty·9 3,
-        ) (List._∷_ (
-          5,
-          Rows.sslice (Referent.rtF (Referent.fInt Syntax.w16)) ty·10 4,
-        ) (List._∷_ (
-          6,
-          Rows.sslice (Referent.rtF (Referent.fInt Syntax.w32)) ty·11 5,
-        ) (List._∷_ (
-          7,
-          Relend.mslice-owed (Referent.rtF (Referent.fInt Syntax.w16)) ty·12 6 13 (Row.lease (κs .1 .1 .1 .1 .1 .1 .0) (qs .1 .1 .1 .1 .1 .1 .0)),
-        ) (List._∷_ (
-          8,
-          Relend.mslice-owed (Referent.rtF (Referent.fInt Syntax.w8)) ty·5 7 14 (Row.lease (κs .1 .1 .1 .1 .1 .1 .1 .0) (qs .1 .1 .1 .1 .1 .1 .1 .0)),
-        ) (List._∷_ (
-          9,
-          Relend.mslice-owed Rec.rt ty·1 8 15 (Row.lease (κs .1 .1 .1 .1 .1 .1 .1 .1 .0) (qs .1 .1 .1 .1 .1 .1 .1 .1 .0)),
-        ) (List._∷_ (10, Rows.sc-here (Row.sInt Syntax.w64)) (List._∷_ (
-          11,
-          Rows.sslice (Referent.rtF (Referent.fInt Syntax.w8)) ty·6 9,
-        ) (List._∷_ (
-          12,
-          Rows.sslice (Referent.rtF (Referent.fInt Syntax.w16)) ty·13 10,
-        ) (List._∷_ (
-          13,
-          Mut.mslice (Referent.rtF (Referent.fInt Syntax.w16)) ty·14 11,
-        ) (List._∷_ (
-          14,
-          Mut.mslice (Referent.rtF (Referent.fInt Syntax.w32)) ty·15 12,
-        ) (List._∷_ (15, Rows.sc-here (Row.sInt Syntax.w64)) List.[])))))))))))))))
+        g11 = List._∷_ (0, Rows.any-gone Syntax.tyUnit) (List._∷_ (1, Rows.sslice (Referent.rtF (Referent.fInt Syntax.w16)) ty·7 0) (List._∷_ (2, Rows.sslice (Referent.rtF (Referent.fInt Syntax.w16)) ty·8 1) (List._∷_ (3, Rows.sslice (Referent.rtF (Referent.fInt Syntax.w8)) ty·4 2) (List._∷_ (4, Rows.sslice (Referent.rtF (Referent.fInt Syntax.w16)) ty·9 3)
+            (List._∷_ (5, Rows.sslice (Referent.rtF (Referent.fInt Syntax.w16)) ty·10 4) (List._∷_ (6, Rows.sslice (Referent.rtF (Referent.fInt Syntax.w32)) ty·11 5) (List._∷_ (7, Relend.mslice-owed (Referent.rtF (Referent.fInt Syntax.w16)) ty·12 6 13 (Row.lease (κs .1 .1 .1 .1 .1 .1 .0) (qs .1 .1 .1 .1 .1 .1 .0))) (List._∷_
+            (8, Relend.mslice-owed (Referent.rtF (Referent.fInt Syntax.w8)) ty·5 7 14 (Row.lease (κs .1 .1 .1 .1 .1 .1 .1 .0) (qs .1 .1 .1 .1 .1 .1 .1 .0))) (List._∷_ (9, Relend.mslice-owed Rec.rt ty·1 8 15 (Row.lease (κs .1 .1 .1 .1 .1 .1 .1 .1 .0) (qs .1 .1 .1 .1 .1 .1 .1 .1 .0))) (List._∷_ (10, Rows.sc-here (Row.sInt Syntax.w64)) (List._∷_
+            (11, Rows.sslice (Referent.rtF (Referent.fInt Syntax.w8)) ty·6 9) (List._∷_ (12, Rows.sslice (Referent.rtF (Referent.fInt Syntax.w16)) ty·13 10) (List._∷_ (13, Mut.mslice (Referent.rtF (Referent.fInt Syntax.w16)) ty·14 11) (List._∷_ (14, Mut.mslice (Referent.rtF (Referent.fInt Syntax.w32)) ty·15 12) (List._∷_ (15, Rows.sc-here (Row.sInt Syntax.w64))
+            List.[])))))))))))))))
 
         abbrev g25 : List.List Row.Entry
-        g25 = List._∷_ (0, Rows.any-gone Syntax.tyUnit) (List._∷_ (
-          1,
-          Rows.sslice (Referent.rtF (Referent.fInt Syntax.w16)) ty·7 0,
-        ) (List._∷_ (
-          2,
-          Rows.sslice (Referent.rtF (Referent.fInt Syntax.w16)) ty·8 1,
-        ) (List._∷_ (
-          3,
-          Rows.sslice (Referent.rtF (Referent.fInt Syntax.w8)) ty·4 2,
-        ) (List._∷_ (
-          4,
-          Rows.sslice (Referent.rtF (Referent.fInt Syntax.w16)) ty·9 3,
-        ) (List._∷_ (
-          5,
-          Rows.sslice (Referent.rtF (Referent.fInt Syntax.w16)) ty·10 4,
-        ) (List._∷_ (
-          6,
-          Rows.sslice (Referent.rtF (Referent.fInt Syntax.w32)) ty·11 5,
-        ) (List._∷_ (
-          7,
-          Mut.mslice (Referent.rtF (Referent.fInt Syntax.w16)) ty·12 6,
-        ) (List._∷_ (
-          8,
-          Relend.mslice-owed (Referent.rtF (Referent.fInt Syntax.w8)) ty·5 7 14 (Row.lease (κs .1 .1 .1 .1 .1 .1 .1 .0) (qs .1 .1 .1 .1 .1 .1 .1 .0)),
-        ) (List._∷_ (
-          9,
-          Relend.mslice-owed Rec.rt ty·1 8 15 (Row.lease (κs .1 .1 .1 .1 .1 .1 .1 .1 .0) (qs .1 .1 .1 .1 .1 .1 .1 .1 .0)),
-        ) (List._∷_ (10, Rows.sc-here (Row.sInt Syntax.w64)) (List._∷_ (
-          11,
-          Rows.sslice (Referent.rtF (Referent.fInt Syntax.w8)) ty·6 9,
-        ) (List._∷_ (
-          12,
-          Rows.sslice (Referent.rtF (Referent.fInt Syntax.w16)) ty·13 10,
-        ) (List._∷_ (
-          13,
-          Mut.mslice (Referent.rtF (Referent.fInt Syntax.w16)) ty·14 11,
-        ) (List._∷_ (
-          14,
-          Mut.mslice (Referent.rtF (Referent.fInt Syntax.w32)) ty·15 12,
-        ) (List._∷_ (15, Rows.sc-here (Row.sInt Syntax.w64)) List.[])))))))))))))))
+        g25 = List._∷_ (0, Rows.any-gone Syntax.tyUnit) (List._∷_ (1, Rows.sslice (Referent.rtF (Referent.fInt Syntax.w16)) ty·7 0) (List._∷_ (2, Rows.sslice (Referent.rtF (Referent.fInt Syntax.w16)) ty·8 1) (List._∷_ (3, Rows.sslice (Referent.rtF (Referent.fInt Syntax.w8)) ty·4 2) (List._∷_ (4, Rows.sslice (Referent.rtF (Referent.fInt Syntax.w16)) ty·9 3)
+            (List._∷_ (5, Rows.sslice (Referent.rtF (Referent.fInt Syntax.w16)) ty·10 4) (List._∷_ (6, Rows.sslice (Referent.rtF (Referent.fInt Syntax.w32)) ty·11 5) (List._∷_ (7, Mut.mslice (Referent.rtF (Referent.fInt Syntax.w16)) ty·12 6) (List._∷_
+            (8, Relend.mslice-owed (Referent.rtF (Referent.fInt Syntax.w8)) ty·5 7 14 (Row.lease (κs .1 .1 .1 .1 .1 .1 .1 .0) (qs .1 .1 .1 .1 .1 .1 .1 .0))) (List._∷_ (9, Relend.mslice-owed Rec.rt ty·1 8 15 (Row.lease (κs .1 .1 .1 .1 .1 .1 .1 .1 .0) (qs .1 .1 .1 .1 .1 .1 .1 .1 .0))) (List._∷_ (10, Rows.sc-here (Row.sInt Syntax.w64)) (List._∷_
+            (11, Rows.sslice (Referent.rtF (Referent.fInt Syntax.w8)) ty·6 9) (List._∷_ (12, Rows.sslice (Referent.rtF (Referent.fInt Syntax.w16)) ty·13 10) (List._∷_ (13, Mut.mslice (Referent.rtF (Referent.fInt Syntax.w16)) ty·14 11) (List._∷_ (14, Mut.mslice (Referent.rtF (Referent.fInt Syntax.w32)) ty·15 12) (List._∷_ (15, Rows.sc-here (Row.sInt Syntax.w64))
+            List.[])))))))))))))))
 
         abbrev g27 : List.List Row.Entry
-        g27 = List._∷_ (0, Rows.any-gone Syntax.tyUnit) (List._∷_ (
-          1,
-          Rows.sslice (Referent.rtF (Referent.fInt Syntax.w16)) ty·7 0,
-        ) (List._∷_ (
-          2,
-          Rows.sslice (Referent.rtF (Referent.fInt Syntax.w16)) ty·8 1,
-        ) (List._∷_ (
-          3,
-          Rows.sslice (Referent.rtF (Referent.fInt Syntax.w8)) ty·4 2,
-        ) (List._∷_ (
-          4,
-          Rows.sslice (Referent.rtF (Referent.fInt Syntax.w16)) ty·9 3,
-        ) (List._∷_ (
-          5,
-          Rows.sslice (Referent.rtF (Referent.fInt Syntax.w16)) ty·10 4,
-        ) (List._∷_ (
-          6,
-          Rows.sslice (Referent.rtF (Referent.fInt Syntax.w32)) ty·11 5,
-        ) (List._∷_ (
-          7,
-          Mut.mslice (Referent.rtF (Referent.fInt Syntax.w16)) ty·12 6,
-        ) (List._∷_ (
-          8,
-          Mut.mslice (Referent.rtF (Referent.fInt Syntax.w8)) ty·5 7,
-        ) (List._∷_ (
-          9,
-          Relend.mslice-owed Rec.rt ty·1 8 15 (Row.lease (κs .1 .1 .1 .1 .1 .1 .1 .1 .0) (qs .1 .1 .1 .1 .1 .1 .1 .1 .0)),
-        ) (List._∷_ (10, Rows.sc-here (Row.sInt Syntax.w64)) (List._∷_ (
-          11,
-          Rows.sslice (Referent.rtF (Referent.fInt Syntax.w8)) ty·6 9,
-        ) (List._∷_ (
-          12,
-          Rows.sslice (Referent.rtF (Referent.fInt Syntax.w16)) ty·13 10,
-        ) (List._∷_ (
-          13,
-          Mut.mslice (Referent.rtF (Referent.fInt Syntax.w16)) ty·14 11,
-        ) (List._∷_ (
-          14,
-          Mut.mslice (Referent.rtF (Referent.fInt Syntax.w32)) ty·15 12,
-        ) (List._∷_ (15, Rows.sc-here (Row.sInt Syntax.w64)) List.[])))))))))))))))
+        g27 = List._∷_ (0, Rows.any-gone Syntax.tyUnit) (List._∷_ (1, Rows.sslice (Referent.rtF (Referent.fInt Syntax.w16)) ty·7 0) (List._∷_ (2, Rows.sslice (Referent.rtF (Referent.fInt Syntax.w16)) ty·8 1) (List._∷_ (3, Rows.sslice (Referent.rtF (Referent.fInt Syntax.w8)) ty·4 2) (List._∷_ (4, Rows.sslice (Referent.rtF (Referent.fInt Syntax.w16)) ty·9 3)
+            (List._∷_ (5, Rows.sslice (Referent.rtF (Referent.fInt Syntax.w16)) ty·10 4) (List._∷_ (6, Rows.sslice (Referent.rtF (Referent.fInt Syntax.w32)) ty·11 5) (List._∷_ (7, Mut.mslice (Referent.rtF (Referent.fInt Syntax.w16)) ty·12 6) (List._∷_ (8, Mut.mslice (Referent.rtF (Referent.fInt Syntax.w8)) ty·5 7) (List._∷_
+            (9, Relend.mslice-owed Rec.rt ty·1 8 15 (Row.lease (κs .1 .1 .1 .1 .1 .1 .1 .1 .0) (qs .1 .1 .1 .1 .1 .1 .1 .1 .0))) (List._∷_ (10, Rows.sc-here (Row.sInt Syntax.w64)) (List._∷_ (11, Rows.sslice (Referent.rtF (Referent.fInt Syntax.w8)) ty·6 9) (List._∷_ (12, Rows.sslice (Referent.rtF (Referent.fInt Syntax.w16)) ty·13 10) (List._∷_
+            (13, Mut.mslice (Referent.rtF (Referent.fInt Syntax.w16)) ty·14 11) (List._∷_ (14, Mut.mslice (Referent.rtF (Referent.fInt Syntax.w32)) ty·15 12) (List._∷_ (15, Rows.sc-here (Row.sInt Syntax.w64)) List.[])))))))))))))))
+
+        abbrev slots·0 : List.List Row.Life
+        slots·0 = List._∷_ (Row.lease (κs .0) (qs .0)) (List._∷_ (Row.lease (κs .1 .0) (qs .1 .0)) (List._∷_ (Row.lease (κs .1 .1 .0) (qs .1 .1 .0)) (List._∷_ (Row.lease (κs .1 .1 .1 .0) (qs .1 .1 .1 .0)) (List._∷_ (Row.lease (κs .1 .1 .1 .1 .0) (qs .1 .1 .1 .1 .0)) (List._∷_ (Row.lease (κs .1 .1 .1 .1 .1 .0) (qs .1 .1 .1 .1 .1 .0)) (List._∷_ (Row.lease (κs
+            .1 .1 .1 .1 .1 .1 .0) (qs .1 .1 .1 .1 .1 .1 .0)) (List._∷_ (Row.lease (κs .1 .1 .1 .1 .1 .1 .1 .0) (qs .1 .1 .1 .1 .1 .1 .1 .0)) (List._∷_ (Row.lease (κs .1 .1 .1 .1 .1 .1 .1 .1 .0) (qs .1 .1 .1 .1 .1 .1 .1 .1 .0)) (List._∷_ (Row.lease (κs .1 .1 .1 .1 .1 .1 .1 .1 .1 .0) (qs .1 .1 .1 .1 .1 .1 .1 .1 .1 .0)) (List._∷_ (Row.lease (κs .1 .1 .1 .1 .1 .1 .1
+            .1 .1 .1 .0) (qs .1 .1 .1 .1 .1 .1 .1 .1 .1 .1 .0)) (List._∷_ (Row.lease (κs .1 .1 .1 .1 .1 .1 .1 .1 .1 .1 .1 .0) (qs .1 .1 .1 .1 .1 .1 .1 .1 .1 .1 .1 .0)) (List._∷_ (Row.lease (κs .1 .1 .1 .1 .1 .1 .1 .1 .1 .1 .1 .1 .0) (qs .1 .1 .1 .1 .1 .1 .1 .1 .1 .1 .1 .1 .0)) (List._∷_ Row.off (List._∷_ Row.off (List._∷_ Row.off List.[])))))))))))))))
+
+        abbrev slots·1 : List.List Row.Life
+        slots·1 = List._∷_ (Row.lease (κs .0) (qs .0)) (List._∷_ (Row.lease (κs .1 .0) (qs .1 .0)) (List._∷_ (Row.lease (κs .1 .1 .0) (qs .1 .1 .0)) (List._∷_ (Row.lease (κs .1 .1 .1 .0) (qs .1 .1 .1 .0)) (List._∷_ (Row.lease (κs .1 .1 .1 .1 .0) (qs .1 .1 .1 .1 .0)) (List._∷_ (Row.lease (κs .1 .1 .1 .1 .1 .0) (qs .1 .1 .1 .1 .1 .0)) (List._∷_ Row.off
+            (List._∷_ (Row.lease (κs .1 .1 .1 .1 .1 .1 .1 .0) (qs .1 .1 .1 .1 .1 .1 .1 .0)) (List._∷_ (Row.lease (κs .1 .1 .1 .1 .1 .1 .1 .1 .0) (qs .1 .1 .1 .1 .1 .1 .1 .1 .0)) (List._∷_ (Row.lease (κs .1 .1 .1 .1 .1 .1 .1 .1 .1 .0) (qs .1 .1 .1 .1 .1 .1 .1 .1 .1 .0)) (List._∷_ (Row.lease (κs .1 .1 .1 .1 .1 .1 .1 .1 .1 .1 .0) (qs .1 .1 .1 .1 .1 .1 .1 .1 .1 .1
+            .0)) (List._∷_ (Row.lease (κs .1 .1 .1 .1 .1 .1 .1 .1 .1 .1 .1 .0) (qs .1 .1 .1 .1 .1 .1 .1 .1 .1 .1 .1 .0)) (List._∷_ (Row.lease (κs .1 .1 .1 .1 .1 .1 .1 .1 .1 .1 .1 .1 .0) (qs .1 .1 .1 .1 .1 .1 .1 .1 .1 .1 .1 .1 .0)) (List._∷_ Row.alive (List._∷_ Row.off (List._∷_ Row.off List.[])))))))))))))))
+
+        abbrev slots·2 : List.List Row.Life
+        slots·2 = List._∷_ (Row.lease (κs .0) (qs .0)) (List._∷_ (Row.lease (κs .1 .0) (qs .1 .0)) (List._∷_ (Row.lease (κs .1 .1 .0) (qs .1 .1 .0)) (List._∷_ (Row.lease (κs .1 .1 .1 .0) (qs .1 .1 .1 .0)) (List._∷_ (Row.lease (κs .1 .1 .1 .1 .0) (qs .1 .1 .1 .1 .0)) (List._∷_ (Row.lease (κs .1 .1 .1 .1 .1 .0) (qs .1 .1 .1 .1 .1 .0)) (List._∷_ Row.off
+            (List._∷_ Row.off (List._∷_ (Row.lease (κs .1 .1 .1 .1 .1 .1 .1 .1 .0) (qs .1 .1 .1 .1 .1 .1 .1 .1 .0)) (List._∷_ (Row.lease (κs .1 .1 .1 .1 .1 .1 .1 .1 .1 .0) (qs .1 .1 .1 .1 .1 .1 .1 .1 .1 .0)) (List._∷_ (Row.lease (κs .1 .1 .1 .1 .1 .1 .1 .1 .1 .1 .0) (qs .1 .1 .1 .1 .1 .1 .1 .1 .1 .1 .0)) (List._∷_ (Row.lease (κs .1 .1 .1 .1 .1 .1 .1 .1 .1 .1 .1
+            .0) (qs .1 .1 .1 .1 .1 .1 .1 .1 .1 .1 .1 .0)) (List._∷_ (Row.lease (κs .1 .1 .1 .1 .1 .1 .1 .1 .1 .1 .1 .1 .0) (qs .1 .1 .1 .1 .1 .1 .1 .1 .1 .1 .1 .1 .0)) (List._∷_ Row.alive (List._∷_ Row.alive (List._∷_ Row.off List.[])))))))))))))))
+
+        abbrev slots·3 : List.List Row.Life
+        slots·3 = List._∷_ (Row.lease (κs .0) (qs .0)) (List._∷_ (Row.lease (κs .1 .0) (qs .1 .0)) (List._∷_ (Row.lease (κs .1 .1 .0) (qs .1 .1 .0)) (List._∷_ (Row.lease (κs .1 .1 .1 .0) (qs .1 .1 .1 .0)) (List._∷_ (Row.lease (κs .1 .1 .1 .1 .0) (qs .1 .1 .1 .1 .0)) (List._∷_ (Row.lease (κs .1 .1 .1 .1 .1 .0) (qs .1 .1 .1 .1 .1 .0)) (List._∷_ Row.off
+            (List._∷_ Row.off (List._∷_ Row.off (List._∷_ (Row.lease (κs .1 .1 .1 .1 .1 .1 .1 .1 .1 .0) (qs .1 .1 .1 .1 .1 .1 .1 .1 .1 .0)) (List._∷_ (Row.lease (κs .1 .1 .1 .1 .1 .1 .1 .1 .1 .1 .0) (qs .1 .1 .1 .1 .1 .1 .1 .1 .1 .1 .0)) (List._∷_ (Row.lease (κs .1 .1 .1 .1 .1 .1 .1 .1 .1 .1 .1 .0) (qs .1 .1 .1 .1 .1 .1 .1 .1 .1 .1 .1 .0)) (List._∷_ (Row.lease
+            (κs .1 .1 .1 .1 .1 .1 .1 .1 .1 .1 .1 .1 .0) (qs .1 .1 .1 .1 .1 .1 .1 .1 .1 .1 .1 .1 .0)) (List._∷_ Row.alive (List._∷_ Row.alive (List._∷_ Row.alive List.[])))))))))))))))
+
+        abbrev slots·4 : List.List Row.Life
+        slots·4 = List._∷_ (Row.lease (κs .0) (qs .0)) (List._∷_ (Row.lease (κs .1 .0) (qs .1 .0)) (List._∷_ (Row.lease (κs .1 .1 .0) (qs .1 .1 .0)) (List._∷_ (Row.lease (κs .1 .1 .1 .0) (qs .1 .1 .1 .0)) (List._∷_ (Row.lease (κs .1 .1 .1 .1 .0) (qs .1 .1 .1 .1 .0)) (List._∷_ (Row.lease (κs .1 .1 .1 .1 .1 .0) (qs .1 .1 .1 .1 .1 .0)) (List._∷_ (Row.lease (κs
+            .1 .1 .1 .1 .1 .1 .0) (qs .1 .1 .1 .1 .1 .1 .0)) (List._∷_ Row.off (List._∷_ Row.off (List._∷_ (Row.lease (κs .1 .1 .1 .1 .1 .1 .1 .1 .1 .0) (qs .1 .1 .1 .1 .1 .1 .1 .1 .1 .0)) (List._∷_ (Row.lease (κs .1 .1 .1 .1 .1 .1 .1 .1 .1 .1 .0) (qs .1 .1 .1 .1 .1 .1 .1 .1 .1 .1 .0)) (List._∷_ (Row.lease (κs .1 .1 .1 .1 .1 .1 .1 .1 .1 .1 .1 .0) (qs .1 .1 .1 .1
+            .1 .1 .1 .1 .1 .1 .1 .0)) (List._∷_ (Row.lease (κs .1 .1 .1 .1 .1 .1 .1 .1 .1 .1 .1 .1 .0) (qs .1 .1 .1 .1 .1 .1 .1 .1 .1 .1 .1 .1 .0)) (List._∷_ Row.dead (List._∷_ Row.alive (List._∷_ Row.alive List.[])))))))))))))))
+
+        abbrev slots·5 : List.List Row.Life
+        slots·5 = List._∷_ (Row.lease (κs .0) (qs .0)) (List._∷_ (Row.lease (κs .1 .0) (qs .1 .0)) (List._∷_ (Row.lease (κs .1 .1 .0) (qs .1 .1 .0)) (List._∷_ (Row.lease (κs .1 .1 .1 .0) (qs .1 .1 .1 .0)) (List._∷_ (Row.lease (κs .1 .1 .1 .1 .0) (qs .1 .1 .1 .1 .0)) (List._∷_ (Row.lease (κs .1 .1 .1 .1 .1 .0) (qs .1 .1 .1 .1 .1 .0)) (List._∷_ (Row.lease (κs
+            .1 .1 .1 .1 .1 .1 .0) (qs .1 .1 .1 .1 .1 .1 .0)) (List._∷_ (Row.lease (κs .1 .1 .1 .1 .1 .1 .1 .0) (qs .1 .1 .1 .1 .1 .1 .1 .0)) (List._∷_ Row.off (List._∷_ (Row.lease (κs .1 .1 .1 .1 .1 .1 .1 .1 .1 .0) (qs .1 .1 .1 .1 .1 .1 .1 .1 .1 .0)) (List._∷_ (Row.lease (κs .1 .1 .1 .1 .1 .1 .1 .1 .1 .1 .0) (qs .1 .1 .1 .1 .1 .1 .1 .1 .1 .1 .0)) (List._∷_
+            (Row.lease (κs .1 .1 .1 .1 .1 .1 .1 .1 .1 .1 .1 .0) (qs .1 .1 .1 .1 .1 .1 .1 .1 .1 .1 .1 .0)) (List._∷_ (Row.lease (κs .1 .1 .1 .1 .1 .1 .1 .1 .1 .1 .1 .1 .0) (qs .1 .1 .1 .1 .1 .1 .1 .1 .1 .1 .1 .1 .0)) (List._∷_ Row.off (List._∷_ Row.dead (List._∷_ Row.alive List.[])))))))))))))))
 
         abbrev G0 : Row.Cx
-        G0 = record {
-          locals = List._++_ t0 t1;
-          slots = List._∷_ (Row.lease (κs .0) (qs .0)) (List._∷_ (Row.lease (κs .1 .0) (qs .1 .0)) (List._∷_ (Row.lease (κs .1 .1 .0) (qs .1 .1 .0)) (List._∷_ (Row.lease (κs .1 .1 .1 .0) (qs .1 .1 .1 .0)) (List._∷_ (Row.lease (κs .1 .1 .1 .1 .0) (qs .1 .1 .1 .1 .0)) (List._∷_
-              (Row.lease (κs .1 .1 .1 .1 .1 .0) (qs .1 .1 .1 .1 .1 .0)) (List._∷_ (Row.lease (κs .1 .1 .1 .1 .1 .1 .0) (qs .1 .1 .1 .1 .1 .1 .0)) (List._∷_ (Row.lease (κs .1 .1 .1 .1 .1 .1 .1 .0) (qs .1 .1 .1 .1 .1 .1 .1 .0)) (List._∷_ (Row.lease (κs .1 .1 .1 .1 .1 .1 .1 .1 .0) (qs .1 .1 .1 .1 .1 .1 .1 .1 .0)) (List._∷_
-              (Row.lease (κs .1 .1 .1 .1 .1 .1 .1 .1 .1 .0) (qs .1 .1 .1 .1 .1 .1 .1 .1 .1 .0)) (List._∷_ (Row.lease (κs .1 .1 .1 .1 .1 .1 .1 .1 .1 .1 .0) (qs .1 .1 .1 .1 .1 .1 .1 .1 .1 .1 .0)) (List._∷_ (Row.lease (κs .1 .1 .1 .1 .1 .1 .1 .1 .1 .1 .1 .0) (qs .1 .1 .1 .1 .1 .1 .1 .1 .1 .1 .1 .0)) (List._∷_ (Row.lease (κs .1 .1 .1 .1 .1 .1 .1 .1 .1 .1 .1 .1 .0)
-              (qs .1 .1 .1 .1 .1 .1 .1 .1 .1 .1 .1 .1 .0)) (List._∷_ Row.off (List._∷_ Row.off (List._∷_ Row.off List.[])))))))))))))));
-        }
+        G0 = record { locals = T0 .locals; slots = slots·0 }
 
         abbrev G1 : Row.Cx
-        G1 = record {
-          locals = List._++_ t2 t1;
-          slots = List._∷_ (Row.lease (κs .0) (qs .0)) (List._∷_ (Row.lease (κs .1 .0) (qs .1 .0)) (List._∷_ (Row.lease (κs .1 .1 .0) (qs .1 .1 .0)) (List._∷_ (Row.lease (κs .1 .1 .1 .0) (qs .1 .1 .1 .0)) (List._∷_ (Row.lease (κs .1 .1 .1 .1 .0) (qs .1 .1 .1 .1 .0)) (List._∷_
-              (Row.lease (κs .1 .1 .1 .1 .1 .0) (qs .1 .1 .1 .1 .1 .0)) (List._∷_ (Row.lease (κs .1 .1 .1 .1 .1 .1 .0) (qs .1 .1 .1 .1 .1 .1 .0)) (List._∷_ (Row.lease (κs .1 .1 .1 .1 .1 .1 .1 .0) (qs .1 .1 .1 .1 .1 .1 .1 .0)) (List._∷_ (Row.lease (κs .1 .1 .1 .1 .1 .1 .1 .1 .0) (qs .1 .1 .1 .1 .1 .1 .1 .1 .0)) (List._∷_
-              (Row.lease (κs .1 .1 .1 .1 .1 .1 .1 .1 .1 .0) (qs .1 .1 .1 .1 .1 .1 .1 .1 .1 .0)) (List._∷_ (Row.lease (κs .1 .1 .1 .1 .1 .1 .1 .1 .1 .1 .0) (qs .1 .1 .1 .1 .1 .1 .1 .1 .1 .1 .0)) (List._∷_ (Row.lease (κs .1 .1 .1 .1 .1 .1 .1 .1 .1 .1 .1 .0) (qs .1 .1 .1 .1 .1 .1 .1 .1 .1 .1 .1 .0)) (List._∷_ (Row.lease (κs .1 .1 .1 .1 .1 .1 .1 .1 .1 .1 .1 .1 .0)
-              (qs .1 .1 .1 .1 .1 .1 .1 .1 .1 .1 .1 .1 .0)) (List._∷_ Row.off (List._∷_ Row.off (List._∷_ Row.off List.[])))))))))))))));
-        }
-
-        abbrev G2 : Row.Cx
-        G2 = record {
-          locals = List._++_ t0 t1;
-          slots = List._∷_ (Row.lease (κs .0) (qs .0)) (List._∷_ (Row.lease (κs .1 .0) (qs .1 .0)) (List._∷_ (Row.lease (κs .1 .1 .0) (qs .1 .1 .0)) (List._∷_ (Row.lease (κs .1 .1 .1 .0) (qs .1 .1 .1 .0)) (List._∷_ (Row.lease (κs .1 .1 .1 .1 .0) (qs .1 .1 .1 .1 .0)) (List._∷_
-              (Row.lease (κs .1 .1 .1 .1 .1 .0) (qs .1 .1 .1 .1 .1 .0)) (List._∷_ (Row.lease (κs .1 .1 .1 .1 .1 .1 .0) (qs .1 .1 .1 .1 .1 .1 .0)) (List._∷_ (Row.lease (κs .1 .1 .1 .1 .1 .1 .1 .0) (qs .1 .1 .1 .1 .1 .1 .1 .0)) (List._∷_ (Row.lease (κs .1 .1 .1 .1 .1 .1 .1 .1 .0) (qs .1 .1 .1 .1 .1 .1 .1 .1 .0)) (List._∷_
-              (Row.lease (κs .1 .1 .1 .1 .1 .1 .1 .1 .1 .0) (qs .1 .1 .1 .1 .1 .1 .1 .1 .1 .0)) (List._∷_ (Row.lease (κs .1 .1 .1 .1 .1 .1 .1 .1 .1 .1 .0) (qs .1 .1 .1 .1 .1 .1 .1 .1 .1 .1 .0)) (List._∷_ (Row.lease (κs .1 .1 .1 .1 .1 .1 .1 .1 .1 .1 .1 .0) (qs .1 .1 .1 .1 .1 .1 .1 .1 .1 .1 .1 .0)) (List._∷_ (Row.lease (κs .1 .1 .1 .1 .1 .1 .1 .1 .1 .1 .1 .1 .0)
-              (qs .1 .1 .1 .1 .1 .1 .1 .1 .1 .1 .1 .1 .0)) (List._∷_ Row.off (List._∷_ Row.off (List._∷_ Row.off List.[])))))))))))))));
-        }
-
-        abbrev G3 : Row.Cx
-        G3 = record {
-          locals = List._++_ t0 t1;
-          slots = List._∷_ (Row.lease (κs .0) (qs .0)) (List._∷_ (Row.lease (κs .1 .0) (qs .1 .0)) (List._∷_ (Row.lease (κs .1 .1 .0) (qs .1 .1 .0)) (List._∷_ (Row.lease (κs .1 .1 .1 .0) (qs .1 .1 .1 .0)) (List._∷_ (Row.lease (κs .1 .1 .1 .1 .0) (qs .1 .1 .1 .1 .0)) (List._∷_
-              (Row.lease (κs .1 .1 .1 .1 .1 .0) (qs .1 .1 .1 .1 .1 .0)) (List._∷_ (Row.lease (κs .1 .1 .1 .1 .1 .1 .0) (qs .1 .1 .1 .1 .1 .1 .0)) (List._∷_ (Row.lease (κs .1 .1 .1 .1 .1 .1 .1 .0) (qs .1 .1 .1 .1 .1 .1 .1 .0)) (List._∷_ (Row.lease (κs .1 .1 .1 .1 .1 .1 .1 .1 .0) (qs .1 .1 .1 .1 .1 .1 .1 .1 .0)) (List._∷_
-              (Row.lease (κs .1 .1 .1 .1 .1 .1 .1 .1 .1 .0) (qs .1 .1 .1 .1 .1 .1 .1 .1 .1 .0)) (List._∷_ (Row.lease (κs .1 .1 .1 .1 .1 .1 .1 .1 .1 .1 .0) (qs .1 .1 .1 .1 .1 .1 .1 .1 .1 .1 .0)) (List._∷_ (Row.lease (κs .1 .1 .1 .1 .1 .1 .1 .1 .1 .1 .1 .0) (qs .1 .1 .1 .1 .1 .1 .1 .1 .1 .1 .1 .0)) (List._∷_ (Row.lease (κs .1 .1 .1 .1 .1 .1 .1 .1 .1 .1 .1 .1 .0)
-              (qs .1 .1 .1 .1 .1 .1 .1 .1 .1 .1 .1 .1 .0)) (List._∷_ Row.off (List._∷_ Row.off (List._∷_ Row.off List.[])))))))))))))));
-        }
-
-        abbrev G4 : Row.Cx
-        G4 = record {
-          locals = List._++_ t0 t1;
-          slots = List._∷_ (Row.lease (κs .0) (qs .0)) (List._∷_ (Row.lease (κs .1 .0) (qs .1 .0)) (List._∷_ (Row.lease (κs .1 .1 .0) (qs .1 .1 .0)) (List._∷_ (Row.lease (κs .1 .1 .1 .0) (qs .1 .1 .1 .0)) (List._∷_ (Row.lease (κs .1 .1 .1 .1 .0) (qs .1 .1 .1 .1 .0)) (List._∷_
-              (Row.lease (κs .1 .1 .1 .1 .1 .0) (qs .1 .1 .1 .1 .1 .0)) (List._∷_ (Row.lease (κs .1 .1 .1 .1 .1 .1 .0) (qs .1 .1 .1 .1 .1 .1 .0)) (List._∷_ (Row.lease (κs .1 .1 .1 .1 .1 .1 .1 .0) (qs .1 .1 .1 .1 .1 .1 .1 .0)) (List._∷_ (Row.lease (κs .1 .1 .1 .1 .1 .1 .1 .1 .0) (qs .1 .1 .1 .1 .1 .1 .1 .1 .0)) (List._∷_
-              (Row.lease (κs .1 .1 .1 .1 .1 .1 .1 .1 .1 .0) (qs .1 .1 .1 .1 .1 .1 .1 .1 .1 .0)) (List._∷_ (Row.lease (κs .1 .1 .1 .1 .1 .1 .1 .1 .1 .1 .0) (qs .1 .1 .1 .1 .1 .1 .1 .1 .1 .1 .0)) (List._∷_ (Row.lease (κs .1 .1 .1 .1 .1 .1 .1 .1 .1 .1 .1 .0) (qs .1 .1 .1 .1 .1 .1 .1 .1 .1 .1 .1 .0)) (List._∷_ (Row.lease (κs .1 .1 .1 .1 .1 .1 .1 .1 .1 .1 .1 .1 .0)
-              (qs .1 .1 .1 .1 .1 .1 .1 .1 .1 .1 .1 .1 .0)) (List._∷_ Row.off (List._∷_ Row.off (List._∷_ Row.off List.[])))))))))))))));
-        }
-
-        abbrev G5 : Row.Cx
-        G5 = record {
-          locals = List._++_ t0 t1;
-          slots = List._∷_ (Row.lease (κs .0) (qs .0)) (List._∷_ (Row.lease (κs .1 .0) (qs .1 .0)) (List._∷_ (Row.lease (κs .1 .1 .0) (qs .1 .1 .0)) (List._∷_ (Row.lease (κs .1 .1 .1 .0) (qs .1 .1 .1 .0)) (List._∷_ (Row.lease (κs .1 .1 .1 .1 .0) (qs .1 .1 .1 .1 .0)) (List._∷_
-              (Row.lease (κs .1 .1 .1 .1 .1 .0) (qs .1 .1 .1 .1 .1 .0)) (List._∷_ (Row.lease (κs .1 .1 .1 .1 .1 .1 .0) (qs .1 .1 .1 .1 .1 .1 .0)) (List._∷_ (Row.lease (κs .1 .1 .1 .1 .1 .1 .1 .0) (qs .1 .1 .1 .1 .1 .1 .1 .0)) (List._∷_ (Row.lease (κs .1 .1 .1 .1 .1 .1 .1 .1 .0) (qs .1 .1 .1 .1 .1 .1 .1 .1 .0)) (List._∷_
-              (Row.lease (κs .1 .1 .1 .1 .1 .1 .1 .1 .1 .0) (qs .1 .1 .1 .1 .1 .1 .1 .1 .1 .0)) (List._∷_ (Row.lease (κs .1 .1 .1 .1 .1 .1 .1 .1 .1 .1 .0) (qs .1 .1 .1 .1 .1 .1 .1 .1 .1 .1 .0)) (List._∷_ (Row.lease (κs .1 .1 .1 .1 .1 .1 .1 .1 .1 .1 .1 .0) (qs .1 .1 .1 .1 .1 .1 .1 .1 .1 .1 .1 .0)) (List._∷_ (Row.lease (κs .1 .1 .1 .1 .1 .1 .1 .1 .1 .1 .1 .1 .0)
-              (qs .1 .1 .1 .1 .1 .1 .1 .1 .1 .1 .1 .1 .0)) (List._∷_ Row.off (List._∷_ Row.off (List._∷_ Row.off List.[])))))))))))))));
-        }
-
-        abbrev G6 : Row.Cx
-        G6 = record {
-          locals = List._++_ t0 t1;
-          slots = List._∷_ (Row.lease (κs .0) (qs .0)) (List._∷_ (Row.lease (κs .1 .0) (qs .1 .0)) (List._∷_ (Row.lease (κs .1 .1 .0) (qs .1 .1 .0)) (List._∷_ (Row.lease (κs .1 .1 .1 .0) (qs .1 .1 .1 .0)) (List._∷_ (Row.lease (κs .1 .1 .1 .1 .0) (qs .1 .1 .1 .1 .0)) (List._∷_
-              (Row.lease (κs .1 .1 .1 .1 .1 .0) (qs .1 .1 .1 .1 .1 .0)) (List._∷_ (Row.lease (κs .1 .1 .1 .1 .1 .1 .0) (qs .1 .1 .1 .1 .1 .1 .0)) (List._∷_ (Row.lease (κs .1 .1 .1 .1 .1 .1 .1 .0) (qs .1 .1 .1 .1 .1 .1 .1 .0)) (List._∷_ (Row.lease (κs .1 .1 .1 .1 .1 .1 .1 .1 .0) (qs .1 .1 .1 .1 .1 .1 .1 .1 .0)) (List._∷_
-              (Row.lease (κs .1 .1 .1 .1 .1 .1 .1 .1 .1 .0) (qs .1 .1 .1 .1 .1 .1 .1 .1 .1 .0)) (List._∷_ (Row.lease (κs .1 .1 .1 .1 .1 .1 .1 .1 .1 .1 .0) (qs .1 .1 .1 .1 .1 .1 .1 .1 .1 .1 .0)) (List._∷_ (Row.lease (κs .1 .1 .1 .1 .1 .1 .1 .1 .1 .1 .1 .0) (qs .1 .1 .1 .1 .1 .1 .1 .1 .1 .1 .1 .0)) (List._∷_ (Row.lease (κs .1 .1 .1 .1 .1 .1 .1 .1 .1 .1 .1 .1 .0)
-              (qs .1 .1 .1 .1 .1 .1 .1 .1 .1 .1 .1 .1 .0)) (List._∷_ Row.off (List._∷_ Row.off (List._∷_ Row.off List.[])))))))))))))));
-        }
-
-        abbrev G7 : Row.Cx
-        G7 = record {
-          locals = List._++_ t0 t1;
-          slots = List._∷_ (Row.lease (κs .0) (qs .0)) (List._∷_ (Row.lease (κs .1 .0) (qs .1 .0)) (List._∷_ (Row.lease (κs .1 .1 .0) (qs .1 .1 .0)) (List._∷_ (Row.lease (κs .1 .1 .1 .0) (qs .1 .1 .1 .0)) (List._∷_ (Row.lease (κs .1 .1 .1 .1 .0) (qs .1 .1 .1 .1 .0)) (List._∷_
-              (Row.lease (κs .1 .1 .1 .1 .1 .0) (qs .1 .1 .1 .1 .1 .0)) (List._∷_ (Row.lease (κs .1 .1 .1 .1 .1 .1 .0) (qs .1 .1 .1 .1 .1 .1 .0)) (List._∷_ (Row.lease (κs .1 .1 .1 .1 .1 .1 .1 .0) (qs .1 .1 .1 .1 .1 .1 .1 .0)) (List._∷_ (Row.lease (κs .1 .1 .1 .1 .1 .1 .1 .1 .0) (qs .1 .1 .1 .1 .1 .1 .1 .1 .0)) (List._∷_
-              (Row.lease (κs .1 .1 .1 .1 .1 .1 .1 .1 .1 .0) (qs .1 .1 .1 .1 .1 .1 .1 .1 .1 .0)) (List._∷_ (Row.lease (κs .1 .1 .1 .1 .1 .1 .1 .1 .1 .1 .0) (qs .1 .1 .1 .1 .1 .1 .1 .1 .1 .1 .0)) (List._∷_ (Row.lease (κs .1 .1 .1 .1 .1 .1 .1 .1 .1 .1 .1 .0) (qs .1 .1 .1 .1 .1 .1 .1 .1 .1 .1 .1 .0)) (List._∷_ (Row.lease (κs .1 .1 .1 .1 .1 .1 .1 .1 .1 .1 .1 .1 .0)
-              (qs .1 .1 .1 .1 .1 .1 .1 .1 .1 .1 .1 .1 .0)) (List._∷_ Row.off (List._∷_ Row.off (List._∷_ Row.off List.[])))))))))))))));
-        }
-
-        abbrev G8 : Row.Cx
-        G8 = record {
-          locals = List._++_ t0 t1;
-          slots = List._∷_ (Row.lease (κs .0) (qs .0)) (List._∷_ (Row.lease (κs .1 .0) (qs .1 .0)) (List._∷_ (Row.lease (κs .1 .1 .0) (qs .1 .1 .0)) (List._∷_ (Row.lease (κs .1 .1 .1 .0) (qs .1 .1 .1 .0)) (List._∷_ (Row.lease (κs .1 .1 .1 .1 .0) (qs .1 .1 .1 .1 .0)) (List._∷_
-              (Row.lease (κs .1 .1 .1 .1 .1 .0) (qs .1 .1 .1 .1 .1 .0)) (List._∷_ (Row.lease (κs .1 .1 .1 .1 .1 .1 .0) (qs .1 .1 .1 .1 .1 .1 .0)) (List._∷_ (Row.lease (κs .1 .1 .1 .1 .1 .1 .1 .0) (qs .1 .1 .1 .1 .1 .1 .1 .0)) (List._∷_ (Row.lease (κs .1 .1 .1 .1 .1 .1 .1 .1 .0) (qs .1 .1 .1 .1 .1 .1 .1 .1 .0)) (List._∷_
-              (Row.lease (κs .1 .1 .1 .1 .1 .1 .1 .1 .1 .0) (qs .1 .1 .1 .1 .1 .1 .1 .1 .1 .0)) (List._∷_ (Row.lease (κs .1 .1 .1 .1 .1 .1 .1 .1 .1 .1 .0) (qs .1 .1 .1 .1 .1 .1 .1 .1 .1 .1 .0)) (List._∷_ (Row.lease (κs .1 .1 .1 .1 .1 .1 .1 .1 .1 .1 .1 .0) (qs .1 .1 .1 .1 .1 .1 .1 .1 .1 .1 .1 .0)) (List._∷_ (Row.lease (κs .1 .1 .1 .1 .1 .1 .1 .1 .1 .1 .1 .1 .0)
-              (qs .1 .1 .1 .1 .1 .1 .1 .1 .1 .1 .1 .1 .0)) (List._∷_ Row.off (List._∷_ Row.off (List._∷_ Row.off List.[])))))))))))))));
-        }
-
-        abbrev G9 : Row.Cx
-        G9 = record {
-          locals = List._++_ t0 t1;
-          slots = List._∷_ (Row.lease (κs .0) (qs .0)) (List._∷_ (Row.lease (κs .1 .0) (qs .1 .0)) (List._∷_ (Row.lease (κs .1 .1 .0) (qs .1 .1 .0)) (List._∷_ (Row.lease (κs .1 .1 .1 .0) (qs .1 .1 .1 .0)) (List._∷_ (Row.lease (κs .1 .1 .1 .1 .0) (qs .1 .1 .1 .1 .0)) (List._∷_
-              (Row.lease (κs .1 .1 .1 .1 .1 .0) (qs .1 .1 .1 .1 .1 .0)) (List._∷_ (Row.lease (κs .1 .1 .1 .1 .1 .1 .0) (qs .1 .1 .1 .1 .1 .1 .0)) (List._∷_ (Row.lease (κs .1 .1 .1 .1 .1 .1 .1 .0) (qs .1 .1 .1 .1 .1 .1 .1 .0)) (List._∷_ (Row.lease (κs .1 .1 .1 .1 .1 .1 .1 .1 .0) (qs .1 .1 .1 .1 .1 .1 .1 .1 .0)) (List._∷_
-              (Row.lease (κs .1 .1 .1 .1 .1 .1 .1 .1 .1 .0) (qs .1 .1 .1 .1 .1 .1 .1 .1 .1 .0)) (List._∷_ (Row.lease (κs .1 .1 .1 .1 .1 .1 .1 .1 .1 .1 .0) (qs .1 .1 .1 .1 .1 .1 .1 .1 .1 .1 .0)) (List._∷_ (Row.lease (κs .1 .1 .1 .1 .1 .1 .1 .1 .1 .1 .1 .0) (qs .1 .1 .1 .1 .1 .1 .1 .1 .1 .1 .1 .0)) (List._∷_ (Row.lease (κs .1 .1 .1 .1 .1 .1 .1 .1 .1 .1 .1 .1 .0)
-              (qs .1 .1 .1 .1 .1 .1 .1 .1 .1 .1 .1 .1 .0)) (List._∷_ Row.off (List._∷_ Row.off (List._∷_ Row.off List.[])))))))))))))));
-        }
-
-        abbrev G10 : Row.Cx
-        G10 = record {
-          locals = List._++_ t0 t1;
-          slots = List._∷_ (Row.lease (κs .0) (qs .0)) (List._∷_ (Row.lease (κs .1 .0) (qs .1 .0)) (List._∷_ (Row.lease (κs .1 .1 .0) (qs .1 .1 .0)) (List._∷_ (Row.lease (κs .1 .1 .1 .0) (qs .1 .1 .1 .0)) (List._∷_ (Row.lease (κs .1 .1 .1 .1 .0) (qs .1 .1 .1 .1 .0)) (List._∷_
-              (Row.lease (κs .1 .1 .1 .1 .1 .0) (qs .1 .1 .1 .1 .1 .0)) (List._∷_ (Row.lease (κs .1 .1 .1 .1 .1 .1 .0) (qs .1 .1 .1 .1 .1 .1 .0)) (List._∷_ (Row.lease (κs .1 .1 .1 .1 .1 .1 .1 .0) (qs .1 .1 .1 .1 .1 .1 .1 .0)) (List._∷_ (Row.lease (κs .1 .1 .1 .1 .1 .1 .1 .1 .0) (qs .1 .1 .1 .1 .1 .1 .1 .1 .0)) (List._∷_
-              (Row.lease (κs .1 .1 .1 .1 .1 .1 .1 .1 .1 .0) (qs .1 .1 .1 .1 .1 .1 .1 .1 .1 .0)) (List._∷_ (Row.lease (κs .1 .1 .1 .1 .1 .1 .1 .1 .1 .1 .0) (qs .1 .1 .1 .1 .1 .1 .1 .1 .1 .1 .0)) (List._∷_ (Row.lease (κs .1 .1 .1 .1 .1 .1 .1 .1 .1 .1 .1 .0) (qs .1 .1 .1 .1 .1 .1 .1 .1 .1 .1 .1 .0)) (List._∷_ (Row.lease (κs .1 .1 .1 .1 .1 .1 .1 .1 .1 .1 .1 .1 .0)
-              (qs .1 .1 .1 .1 .1 .1 .1 .1 .1 .1 .1 .1 .0)) (List._∷_ Row.off (List._∷_ Row.off (List._∷_ Row.off List.[])))))))))))))));
-        }
-
-        abbrev G11 : Row.Cx
-        G11 = record {
-          locals = List._++_ t0 t1;
-          slots = List._∷_ (Row.lease (κs .0) (qs .0)) (List._∷_ (Row.lease (κs .1 .0) (qs .1 .0)) (List._∷_ (Row.lease (κs .1 .1 .0) (qs .1 .1 .0)) (List._∷_ (Row.lease (κs .1 .1 .1 .0) (qs .1 .1 .1 .0)) (List._∷_ (Row.lease (κs .1 .1 .1 .1 .0) (qs .1 .1 .1 .1 .0)) (List._∷_
-              (Row.lease (κs .1 .1 .1 .1 .1 .0) (qs .1 .1 .1 .1 .1 .0)) (List._∷_ (Row.lease (κs .1 .1 .1 .1 .1 .1 .0) (qs .1 .1 .1 .1 .1 .1 .0)) (List._∷_ (Row.lease (κs .1 .1 .1 .1 .1 .1 .1 .0) (qs .1 .1 .1 .1 .1 .1 .1 .0)) (List._∷_ (Row.lease (κs .1 .1 .1 .1 .1 .1 .1 .1 .0) (qs .1 .1 .1 .1 .1 .1 .1 .1 .0)) (List._∷_
-              (Row.lease (κs .1 .1 .1 .1 .1 .1 .1 .1 .1 .0) (qs .1 .1 .1 .1 .1 .1 .1 .1 .1 .0)) (List._∷_ (Row.lease (κs .1 .1 .1 .1 .1 .1 .1 .1 .1 .1 .0) (qs .1 .1 .1 .1 .1 .1 .1 .1 .1 .1 .0)) (List._∷_ (Row.lease (κs .1 .1 .1 .1 .1 .1 .1 .1 .1 .1 .1 .0) (qs .1 .1 .1 .1 .1 .1 .1 .1 .1 .1 .1 .0)) (List._∷_ (Row.lease (κs .1 .1 .1 .1 .1 .1 .1 .1 .1 .1 .1 .1 .0)
-              (qs .1 .1 .1 .1 .1 .1 .1 .1 .1 .1 .1 .1 .0)) (List._∷_ Row.off (List._∷_ Row.off (List._∷_ Row.off List.[])))))))))))))));
-        }
-
-        abbrev G12 : Row.Cx
-        G12 = record {
-          locals = List._++_ t0 t1;
-          slots = List._∷_ (Row.lease (κs .0) (qs .0)) (List._∷_ (Row.lease (κs .1 .0) (qs .1 .0)) (List._∷_ (Row.lease (κs .1 .1 .0) (qs .1 .1 .0)) (List._∷_ (Row.lease (κs .1 .1 .1 .0) (qs .1 .1 .1 .0)) (List._∷_ (Row.lease (κs .1 .1 .1 .1 .0) (qs .1 .1 .1 .1 .0)) (List._∷_
-              (Row.lease (κs .1 .1 .1 .1 .1 .0) (qs .1 .1 .1 .1 .1 .0)) (List._∷_ (Row.lease (κs .1 .1 .1 .1 .1 .1 .0) (qs .1 .1 .1 .1 .1 .1 .0)) (List._∷_ (Row.lease (κs .1 .1 .1 .1 .1 .1 .1 .0) (qs .1 .1 .1 .1 .1 .1 .1 .0)) (List._∷_ (Row.lease (κs .1 .1 .1 .1 .1 .1 .1 .1 .0) (qs .1 .1 .1 .1 .1 .1 .1 .1 .0)) (List._∷_
-              (Row.lease (κs .1 .1 .1 .1 .1 .1 .1 .1 .1 .0) (qs .1 .1 .1 .1 .1 .1 .1 .1 .1 .0)) (List._∷_ (Row.lease (κs .1 .1 .1 .1 .1 .1 .1 .1 .1 .1 .0) (qs .1 .1 .1 .1 .1 .1 .1 .1 .1 .1 .0)) (List._∷_ (Row.lease (κs .1 .1 .1 .1 .1 .1 .1 .1 .1 .1 .1 .0) (qs .1 .1 .1 .1 .1 .1 .1 .1 .1 .1 .1 .0)) (List._∷_ (Row.lease (κs .1 .1 .1 .1 .1 .1 .1 .1 .1 .1 .1 .1 .0)
-              (qs .1 .1 .1 .1 .1 .1 .1 .1 .1 .1 .1 .1 .0)) (List._∷_ Row.off (List._∷_ Row.off (List._∷_ Row.off List.[])))))))))))))));
-        }
-
-        abbrev G13 : Row.Cx
-        G13 = record {
-          locals = List._++_ t0 t1;
-          slots = List._∷_ (Row.lease (κs .0) (qs .0)) (List._∷_ (Row.lease (κs .1 .0) (qs .1 .0)) (List._∷_ (Row.lease (κs .1 .1 .0) (qs .1 .1 .0)) (List._∷_ (Row.lease (κs .1 .1 .1 .0) (qs .1 .1 .1 .0)) (List._∷_ (Row.lease (κs .1 .1 .1 .1 .0) (qs .1 .1 .1 .1 .0)) (List._∷_
-              (Row.lease (κs .1 .1 .1 .1 .1 .0) (qs .1 .1 .1 .1 .1 .0)) (List._∷_ (Row.lease (κs .1 .1 .1 .1 .1 .1 .0) (qs .1 .1 .1 .1 .1 .1 .0)) (List._∷_ (Row.lease (κs .1 .1 .1 .1 .1 .1 .1 .0) (qs .1 .1 .1 .1 .1 .1 .1 .0)) (List._∷_ (Row.lease (κs .1 .1 .1 .1 .1 .1 .1 .1 .0) (qs .1 .1 .1 .1 .1 .1 .1 .1 .0)) (List._∷_
-              (Row.lease (κs .1 .1 .1 .1 .1 .1 .1 .1 .1 .0) (qs .1 .1 .1 .1 .1 .1 .1 .1 .1 .0)) (List._∷_ (Row.lease (κs .1 .1 .1 .1 .1 .1 .1 .1 .1 .1 .0) (qs .1 .1 .1 .1 .1 .1 .1 .1 .1 .1 .0)) (List._∷_ (Row.lease (κs .1 .1 .1 .1 .1 .1 .1 .1 .1 .1 .1 .0) (qs .1 .1 .1 .1 .1 .1 .1 .1 .1 .1 .1 .0)) (List._∷_ (Row.lease (κs .1 .1 .1 .1 .1 .1 .1 .1 .1 .1 .1 .1 .0)
-              (qs .1 .1 .1 .1 .1 .1 .1 .1 .1 .1 .1 .1 .0)) (List._∷_ Row.off (List._∷_ Row.off (List._∷_ Row.off List.[])))))))))))))));
-        }
+        G1 = record { locals = T1 .locals; slots = slots·0 }
 
         abbrev G14 : Row.Cx
-        G14 = record {
-          locals = List._++_ t3 t1;
-          slots = List._∷_ (Row.lease (κs .0) (qs .0)) (List._∷_ (Row.lease (κs .1 .0) (qs .1 .0)) (List._∷_ (Row.lease (κs .1 .1 .0) (qs .1 .1 .0)) (List._∷_ (Row.lease (κs .1 .1 .1 .0) (qs .1 .1 .1 .0)) (List._∷_ (Row.lease (κs .1 .1 .1 .1 .0) (qs .1 .1 .1 .1 .0)) (List._∷_
-              (Row.lease (κs .1 .1 .1 .1 .1 .0) (qs .1 .1 .1 .1 .1 .0)) (List._∷_ (Row.lease (κs .1 .1 .1 .1 .1 .1 .0) (qs .1 .1 .1 .1 .1 .1 .0)) (List._∷_ (Row.lease (κs .1 .1 .1 .1 .1 .1 .1 .0) (qs .1 .1 .1 .1 .1 .1 .1 .0)) (List._∷_ (Row.lease (κs .1 .1 .1 .1 .1 .1 .1 .1 .0) (qs .1 .1 .1 .1 .1 .1 .1 .1 .0)) (List._∷_
-              (Row.lease (κs .1 .1 .1 .1 .1 .1 .1 .1 .1 .0) (qs .1 .1 .1 .1 .1 .1 .1 .1 .1 .0)) (List._∷_ (Row.lease (κs .1 .1 .1 .1 .1 .1 .1 .1 .1 .1 .0) (qs .1 .1 .1 .1 .1 .1 .1 .1 .1 .1 .0)) (List._∷_ (Row.lease (κs .1 .1 .1 .1 .1 .1 .1 .1 .1 .1 .1 .0) (qs .1 .1 .1 .1 .1 .1 .1 .1 .1 .1 .1 .0)) (List._∷_ (Row.lease (κs .1 .1 .1 .1 .1 .1 .1 .1 .1 .1 .1 .1 .0)
-              (qs .1 .1 .1 .1 .1 .1 .1 .1 .1 .1 .1 .1 .0)) (List._∷_ Row.off (List._∷_ Row.off (List._∷_ Row.off List.[])))))))))))))));
-        }
-
-        abbrev G15 : Row.Cx
-        G15 = record {
-          locals = List._++_ t3 t1;
-          slots = List._∷_ (Row.lease (κs .0) (qs .0)) (List._∷_ (Row.lease (κs .1 .0) (qs .1 .0)) (List._∷_ (Row.lease (κs .1 .1 .0) (qs .1 .1 .0)) (List._∷_ (Row.lease (κs .1 .1 .1 .0) (qs .1 .1 .1 .0)) (List._∷_ (Row.lease (κs .1 .1 .1 .1 .0) (qs .1 .1 .1 .1 .0)) (List._∷_
-              (Row.lease (κs .1 .1 .1 .1 .1 .0) (qs .1 .1 .1 .1 .1 .0)) (List._∷_ (Row.lease (κs .1 .1 .1 .1 .1 .1 .0) (qs .1 .1 .1 .1 .1 .1 .0)) (List._∷_ (Row.lease (κs .1 .1 .1 .1 .1 .1 .1 .0) (qs .1 .1 .1 .1 .1 .1 .1 .0)) (List._∷_ (Row.lease (κs .1 .1 .1 .1 .1 .1 .1 .1 .0) (qs .1 .1 .1 .1 .1 .1 .1 .1 .0)) (List._∷_
-              (Row.lease (κs .1 .1 .1 .1 .1 .1 .1 .1 .1 .0) (qs .1 .1 .1 .1 .1 .1 .1 .1 .1 .0)) (List._∷_ (Row.lease (κs .1 .1 .1 .1 .1 .1 .1 .1 .1 .1 .0) (qs .1 .1 .1 .1 .1 .1 .1 .1 .1 .1 .0)) (List._∷_ (Row.lease (κs .1 .1 .1 .1 .1 .1 .1 .1 .1 .1 .1 .0) (qs .1 .1 .1 .1 .1 .1 .1 .1 .1 .1 .1 .0)) (List._∷_ (Row.lease (κs .1 .1 .1 .1 .1 .1 .1 .1 .1 .1 .1 .1 .0)
-              (qs .1 .1 .1 .1 .1 .1 .1 .1 .1 .1 .1 .1 .0)) (List._∷_ Row.off (List._∷_ Row.off (List._∷_ Row.off List.[])))))))))))))));
-        }
+        G14 = record { locals = T14 .locals; slots = slots·0 }
 
         abbrev G16 : Row.Cx
-        G16 = record {
-          locals = List._++_ t3 t4;
-          slots = List._∷_ (Row.lease (κs .0) (qs .0)) (List._∷_ (Row.lease (κs .1 .0) (qs .1 .0)) (List._∷_ (Row.lease (κs .1 .1 .0) (qs .1 .1 .0)) (List._∷_ (Row.lease (κs .1 .1 .1 .0) (qs .1 .1 .1 .0)) (List._∷_ (Row.lease (κs .1 .1 .1 .1 .0) (qs .1 .1 .1 .1 .0)) (List._∷_
-              (Row.lease (κs .1 .1 .1 .1 .1 .0) (qs .1 .1 .1 .1 .1 .0)) (List._∷_ (Row.lease (κs .1 .1 .1 .1 .1 .1 .0) (qs .1 .1 .1 .1 .1 .1 .0)) (List._∷_ (Row.lease (κs .1 .1 .1 .1 .1 .1 .1 .0) (qs .1 .1 .1 .1 .1 .1 .1 .0)) (List._∷_ (Row.lease (κs .1 .1 .1 .1 .1 .1 .1 .1 .0) (qs .1 .1 .1 .1 .1 .1 .1 .1 .0)) (List._∷_
-              (Row.lease (κs .1 .1 .1 .1 .1 .1 .1 .1 .1 .0) (qs .1 .1 .1 .1 .1 .1 .1 .1 .1 .0)) (List._∷_ (Row.lease (κs .1 .1 .1 .1 .1 .1 .1 .1 .1 .1 .0) (qs .1 .1 .1 .1 .1 .1 .1 .1 .1 .1 .0)) (List._∷_ (Row.lease (κs .1 .1 .1 .1 .1 .1 .1 .1 .1 .1 .1 .0) (qs .1 .1 .1 .1 .1 .1 .1 .1 .1 .1 .1 .0)) (List._∷_ (Row.lease (κs .1 .1 .1 .1 .1 .1 .1 .1 .1 .1 .1 .1 .0)
-              (qs .1 .1 .1 .1 .1 .1 .1 .1 .1 .1 .1 .1 .0)) (List._∷_ Row.off (List._∷_ Row.off (List._∷_ Row.off List.[])))))))))))))));
-        }
-
-        abbrev G17 : Row.Cx
-        G17 = record {
-          locals = List._++_ t3 t1;
-          slots = List._∷_ (Row.lease (κs .0) (qs .0)) (List._∷_ (Row.lease (κs .1 .0) (qs .1 .0)) (List._∷_ (Row.lease (κs .1 .1 .0) (qs .1 .1 .0)) (List._∷_ (Row.lease (κs .1 .1 .1 .0) (qs .1 .1 .1 .0)) (List._∷_ (Row.lease (κs .1 .1 .1 .1 .0) (qs .1 .1 .1 .1 .0)) (List._∷_
-              (Row.lease (κs .1 .1 .1 .1 .1 .0) (qs .1 .1 .1 .1 .1 .0)) (List._∷_ (Row.lease (κs .1 .1 .1 .1 .1 .1 .0) (qs .1 .1 .1 .1 .1 .1 .0)) (List._∷_ (Row.lease (κs .1 .1 .1 .1 .1 .1 .1 .0) (qs .1 .1 .1 .1 .1 .1 .1 .0)) (List._∷_ (Row.lease (κs .1 .1 .1 .1 .1 .1 .1 .1 .0) (qs .1 .1 .1 .1 .1 .1 .1 .1 .0)) (List._∷_
-              (Row.lease (κs .1 .1 .1 .1 .1 .1 .1 .1 .1 .0) (qs .1 .1 .1 .1 .1 .1 .1 .1 .1 .0)) (List._∷_ (Row.lease (κs .1 .1 .1 .1 .1 .1 .1 .1 .1 .1 .0) (qs .1 .1 .1 .1 .1 .1 .1 .1 .1 .1 .0)) (List._∷_ (Row.lease (κs .1 .1 .1 .1 .1 .1 .1 .1 .1 .1 .1 .0) (qs .1 .1 .1 .1 .1 .1 .1 .1 .1 .1 .1 .0)) (List._∷_ (Row.lease (κs .1 .1 .1 .1 .1 .1 .1 .1 .1 .1 .1 .1 .0)
-              (qs .1 .1 .1 .1 .1 .1 .1 .1 .1 .1 .1 .1 .0)) (List._∷_ Row.off (List._∷_ Row.off (List._∷_ Row.off List.[])))))))))))))));
-        }
-
-        abbrev G18 : Row.Cx
-        G18 = record {
-          locals = List._++_ t3 t1;
-          slots = List._∷_ (Row.lease (κs .0) (qs .0)) (List._∷_ (Row.lease (κs .1 .0) (qs .1 .0)) (List._∷_ (Row.lease (κs .1 .1 .0) (qs .1 .1 .0)) (List._∷_ (Row.lease (κs .1 .1 .1 .0) (qs .1 .1 .1 .0)) (List._∷_ (Row.lease (κs .1 .1 .1 .1 .0) (qs .1 .1 .1 .1 .0)) (List._∷_
-              (Row.lease (κs .1 .1 .1 .1 .1 .0) (qs .1 .1 .1 .1 .1 .0)) (List._∷_ (Row.lease (κs .1 .1 .1 .1 .1 .1 .0) (qs .1 .1 .1 .1 .1 .1 .0)) (List._∷_ (Row.lease (κs .1 .1 .1 .1 .1 .1 .1 .0) (qs .1 .1 .1 .1 .1 .1 .1 .0)) (List._∷_ (Row.lease (κs .1 .1 .1 .1 .1 .1 .1 .1 .0) (qs .1 .1 .1 .1 .1 .1 .1 .1 .0)) (List._∷_
-              (Row.lease (κs .1 .1 .1 .1 .1 .1 .1 .1 .1 .0) (qs .1 .1 .1 .1 .1 .1 .1 .1 .1 .0)) (List._∷_ (Row.lease (κs .1 .1 .1 .1 .1 .1 .1 .1 .1 .1 .0) (qs .1 .1 .1 .1 .1 .1 .1 .1 .1 .1 .0)) (List._∷_ (Row.lease (κs .1 .1 .1 .1 .1 .1 .1 .1 .1 .1 .1 .0) (qs .1 .1 .1 .1 .1 .1 .1 .1 .1 .1 .1 .0)) (List._∷_ (Row.lease (κs .1 .1 .1 .1 .1 .1 .1 .1 .1 .1 .1 .1 .0)
-              (qs .1 .1 .1 .1 .1 .1 .1 .1 .1 .1 .1 .1 .0)) (List._∷_ Row.off (List._∷_ Row.off (List._∷_ Row.off List.[])))))))))))))));
-        }
-
-        abbrev G19 : Row.Cx
-        G19 = record {
-          locals = List._++_ t3 t1;
-          slots = List._∷_ (Row.lease (κs .0) (qs .0)) (List._∷_ (Row.lease (κs .1 .0) (qs .1 .0)) (List._∷_ (Row.lease (κs .1 .1 .0) (qs .1 .1 .0)) (List._∷_ (Row.lease (κs .1 .1 .1 .0) (qs .1 .1 .1 .0)) (List._∷_ (Row.lease (κs .1 .1 .1 .1 .0) (qs .1 .1 .1 .1 .0)) (List._∷_
-              (Row.lease (κs .1 .1 .1 .1 .1 .0) (qs .1 .1 .1 .1 .1 .0)) (List._∷_ (Row.lease (κs .1 .1 .1 .1 .1 .1 .0) (qs .1 .1 .1 .1 .1 .1 .0)) (List._∷_ (Row.lease (κs .1 .1 .1 .1 .1 .1 .1 .0) (qs .1 .1 .1 .1 .1 .1 .1 .0)) (List._∷_ (Row.lease (κs .1 .1 .1 .1 .1 .1 .1 .1 .0) (qs .1 .1 .1 .1 .1 .1 .1 .1 .0)) (List._∷_
-              (Row.lease (κs .1 .1 .1 .1 .1 .1 .1 .1 .1 .0) (qs .1 .1 .1 .1 .1 .1 .1 .1 .1 .0)) (List._∷_ (Row.lease (κs .1 .1 .1 .1 .1 .1 .1 .1 .1 .1 .0) (qs .1 .1 .1 .1 .1 .1 .1 .1 .1 .1 .0)) (List._∷_ (Row.lease (κs .1 .1 .1 .1 .1 .1 .1 .1 .1 .1 .1 .0) (qs .1 .1 .1 .1 .1 .1 .1 .1 .1 .1 .1 .0)) (List._∷_ (Row.lease (κs .1 .1 .1 .1 .1 .1 .1 .1 .1 .1 .1 .1 .0)
-              (qs .1 .1 .1 .1 .1 .1 .1 .1 .1 .1 .1 .1 .0)) (List._∷_ Row.off (List._∷_ Row.off (List._∷_ Row.off List.[])))))))))))))));
-        }
+        G16 = record { locals = T16 .locals; slots = slots·0 }
 
         abbrev G20 : Row.Cx
-        G20 = record {
-          locals = List._++_ t3 t1;
-          slots = List._∷_ (Row.lease (κs .0) (qs .0)) (List._∷_ (Row.lease (κs .1 .0) (qs .1 .0)) (List._∷_ (Row.lease (κs .1 .1 .0) (qs .1 .1 .0)) (List._∷_ (Row.lease (κs .1 .1 .1 .0) (qs .1 .1 .1 .0)) (List._∷_ (Row.lease (κs .1 .1 .1 .1 .0) (qs .1 .1 .1 .1 .0)) (List._∷_
-              (Row.lease (κs .1 .1 .1 .1 .1 .0) (qs .1 .1 .1 .1 .1 .0)) (List._∷_ (Row.lease (κs .1 .1 .1 .1 .1 .1 .0) (qs .1 .1 .1 .1 .1 .1 .0)) (List._∷_ (Row.lease (κs .1 .1 .1 .1 .1 .1 .1 .0) (qs .1 .1 .1 .1 .1 .1 .1 .0)) (List._∷_ (Row.lease (κs .1 .1 .1 .1 .1 .1 .1 .1 .0) (qs .1 .1 .1 .1 .1 .1 .1 .1 .0)) (List._∷_
-              (Row.lease (κs .1 .1 .1 .1 .1 .1 .1 .1 .1 .0) (qs .1 .1 .1 .1 .1 .1 .1 .1 .1 .0)) (List._∷_ (Row.lease (κs .1 .1 .1 .1 .1 .1 .1 .1 .1 .1 .0) (qs .1 .1 .1 .1 .1 .1 .1 .1 .1 .1 .0)) (List._∷_ (Row.lease (κs .1 .1 .1 .1 .1 .1 .1 .1 .1 .1 .1 .0) (qs .1 .1 .1 .1 .1 .1 .1 .1 .1 .1 .1 .0)) (List._∷_ (Row.lease (κs .1 .1 .1 .1 .1 .1 .1 .1 .1 .1 .1 .1 .0)
-              (qs .1 .1 .1 .1 .1 .1 .1 .1 .1 .1 .1 .1 .0)) (List._∷_ Row.alive (List._∷_ Row.off (List._∷_ Row.off List.[])))))))))))))));
-        }
+        G20 = record
+            { locals = T14 .locals; slots = List._∷_ (Row.lease (κs .0) (qs .0)) (List._∷_ (Row.lease (κs .1 .0) (qs .1 .0)) (List._∷_ (Row.lease (κs .1 .1 .0) (qs .1 .1 .0)) (List._∷_ (Row.lease (κs .1 .1 .1 .0) (qs .1 .1 .1 .0)) (List._∷_ (Row.lease (κs .1 .1 .1 .1 .0) (qs .1 .1 .1 .1 .0)) (List._∷_ (Row.lease (κs .1 .1 .1 .1 .1 .0) (qs .1 .1 .1 .1 .1 .0)) (List._∷_ (Row.lease (κs .1 .1 .1 .1 .1 .1 .0) (qs .1 .1 .1 .1 .1 .1 .0)) (List._∷_ (Row.lease (κs .1 .1 .1 .1 .1 .1 .1 .0) (qs .1 .1 .1 .1 .1 .1 .1 .0)) (List._∷_ (Row.lease (κs .1 .1 .1 .1 .1 .1 .1 .1 .0) (qs .1 .1 .1 .1 .1 .1 .1 .1 .0)) (List._∷_ (Row.lease (κs .1 .1 .1 .1 .1 .1 .1 .1 .1 .0) (qs .1 .1 .1 .1 .1 .1 .1 .1 .1 .0)) (List._∷_ (Row.lease (κs .1 .1 .1 .1 .1 .1 .1 .1 .1 .1 .0) (qs .1 .1 .1 .1 .1 .1 .1 .1 .1 .1 .0)) (List._∷_ (Row.lease (κs .1 .1 .1 .1 .1 .1 .1 .1 .1 .1 .1 .0) (qs .1 .1 .1 .1 .1 .1 .1 .1 .1 .1 .1 .0)) (List._∷_ (Row.lease (κs .1 .1 .1 .1 .1 .1 .1 .1 .1 .1 .1 .1 .0) (qs .1 .1 .1 .1 .1 .1 .1 .1 .1 .1 .1 .1 .0)) (List._∷_ Row.alive (List._∷_ Row.off (List._∷_ Row.off List.[]))))))))))))))) }
 
         abbrev G21 : Row.Cx
-        G21 = record {
-          locals = List._++_ g5 t6;
-          slots = List._∷_ (Row.lease (κs .0) (qs .0)) (List._∷_ (Row.lease (κs .1 .0) (qs .1 .0)) (List._∷_ (Row.lease (κs .1 .1 .0) (qs .1 .1 .0)) (List._∷_ (Row.lease (κs .1 .1 .1 .0) (qs .1 .1 .1 .0)) (List._∷_ (Row.lease (κs .1 .1 .1 .1 .0) (qs .1 .1 .1 .1 .0)) (List._∷_
-              (Row.lease (κs .1 .1 .1 .1 .1 .0) (qs .1 .1 .1 .1 .1 .0)) (List._∷_ Row.off (List._∷_ (Row.lease (κs .1 .1 .1 .1 .1 .1 .1 .0) (qs .1 .1 .1 .1 .1 .1 .1 .0)) (List._∷_ (Row.lease (κs .1 .1 .1 .1 .1 .1 .1 .1 .0) (qs .1 .1 .1 .1 .1 .1 .1 .1 .0)) (List._∷_ (Row.lease (κs .1 .1 .1 .1 .1 .1 .1 .1 .1 .0) (qs .1 .1 .1 .1 .1 .1 .1 .1 .1 .0)) (List._∷_
-              (Row.lease (κs .1 .1 .1 .1 .1 .1 .1 .1 .1 .1 .0) (qs .1 .1 .1 .1 .1 .1 .1 .1 .1 .1 .0)) (List._∷_ (Row.lease (κs .1 .1 .1 .1 .1 .1 .1 .1 .1 .1 .1 .0) (qs .1 .1 .1 .1 .1 .1 .1 .1 .1 .1 .1 .0)) (List._∷_ (Row.lease (κs .1 .1 .1 .1 .1 .1 .1 .1 .1 .1 .1 .1 .0) (qs .1 .1 .1 .1 .1 .1 .1 .1 .1 .1 .1 .1 .0))
-              (List._∷_ Row.alive (List._∷_ Row.off (List._∷_ Row.off List.[])))))))))))))));
-        }
+        G21 = record { locals = List._++_ g5 t6; slots = slots·1 }
 
         abbrev G22 : Row.Cx
-        G22 = record {
-          locals = List._++_ g5 t7;
-          slots = List._∷_ (Row.lease (κs .0) (qs .0)) (List._∷_ (Row.lease (κs .1 .0) (qs .1 .0)) (List._∷_ (Row.lease (κs .1 .1 .0) (qs .1 .1 .0)) (List._∷_ (Row.lease (κs .1 .1 .1 .0) (qs .1 .1 .1 .0)) (List._∷_ (Row.lease (κs .1 .1 .1 .1 .0) (qs .1 .1 .1 .1 .0)) (List._∷_
-              (Row.lease (κs .1 .1 .1 .1 .1 .0) (qs .1 .1 .1 .1 .1 .0)) (List._∷_ Row.off (List._∷_ (Row.lease (κs .1 .1 .1 .1 .1 .1 .1 .0) (qs .1 .1 .1 .1 .1 .1 .1 .0)) (List._∷_ (Row.lease (κs .1 .1 .1 .1 .1 .1 .1 .1 .0) (qs .1 .1 .1 .1 .1 .1 .1 .1 .0)) (List._∷_ (Row.lease (κs .1 .1 .1 .1 .1 .1 .1 .1 .1 .0) (qs .1 .1 .1 .1 .1 .1 .1 .1 .1 .0)) (List._∷_
-              (Row.lease (κs .1 .1 .1 .1 .1 .1 .1 .1 .1 .1 .0) (qs .1 .1 .1 .1 .1 .1 .1 .1 .1 .1 .0)) (List._∷_ (Row.lease (κs .1 .1 .1 .1 .1 .1 .1 .1 .1 .1 .1 .0) (qs .1 .1 .1 .1 .1 .1 .1 .1 .1 .1 .1 .0)) (List._∷_ (Row.lease (κs .1 .1 .1 .1 .1 .1 .1 .1 .1 .1 .1 .1 .0) (qs .1 .1 .1 .1 .1 .1 .1 .1 .1 .1 .1 .1 .0))
-              (List._∷_ Row.alive (List._∷_ Row.off (List._∷_ Row.off List.[])))))))))))))));
-        }
+        G22 = record { locals = List._++_ g5 t7; slots = slots·1 }
 
         abbrev G23 : Row.Cx
-        G23 = record {
-          locals = List._++_ g5 t7;
-          slots = List._∷_ (Row.lease (κs .0) (qs .0)) (List._∷_ (Row.lease (κs .1 .0) (qs .1 .0)) (List._∷_ (Row.lease (κs .1 .1 .0) (qs .1 .1 .0)) (List._∷_ (Row.lease (κs .1 .1 .1 .0) (qs .1 .1 .1 .0)) (List._∷_ (Row.lease (κs .1 .1 .1 .1 .0) (qs .1 .1 .1 .1 .0)) (List._∷_
-              (Row.lease (κs .1 .1 .1 .1 .1 .0) (qs .1 .1 .1 .1 .1 .0)) (List._∷_ Row.off (List._∷_ (Row.lease (κs .1 .1 .1 .1 .1 .1 .1 .0) (qs .1 .1 .1 .1 .1 .1 .1 .0)) (List._∷_ (Row.lease (κs .1 .1 .1 .1 .1 .1 .1 .1 .0) (qs .1 .1 .1 .1 .1 .1 .1 .1 .0)) (List._∷_ (Row.lease (κs .1 .1 .1 .1 .1 .1 .1 .1 .1 .0) (qs .1 .1 .1 .1 .1 .1 .1 .1 .1 .0)) (List._∷_
-              (Row.lease (κs .1 .1 .1 .1 .1 .1 .1 .1 .1 .1 .0) (qs .1 .1 .1 .1 .1 .1 .1 .1 .1 .1 .0)) (List._∷_ (Row.lease (κs .1 .1 .1 .1 .1 .1 .1 .1 .1 .1 .1 .0) (qs .1 .1 .1 .1 .1 .1 .1 .1 .1 .1 .1 .0)) (List._∷_ (Row.lease (κs .1 .1 .1 .1 .1 .1 .1 .1 .1 .1 .1 .1 .0) (qs .1 .1 .1 .1 .1 .1 .1 .1 .1 .1 .1 .1 .0))
-              (List._∷_ Row.alive (List._∷_ Row.alive (List._∷_ Row.off List.[])))))))))))))));
-        }
+        G23 = record
+            { locals = List._++_ g5 t7; slots = List._∷_ (Row.lease (κs .0) (qs .0)) (List._∷_ (Row.lease (κs .1 .0) (qs .1 .0)) (List._∷_ (Row.lease (κs .1 .1 .0) (qs .1 .1 .0)) (List._∷_ (Row.lease (κs .1 .1 .1 .0) (qs .1 .1 .1 .0)) (List._∷_ (Row.lease (κs .1 .1 .1 .1 .0) (qs .1 .1 .1 .1 .0)) (List._∷_ (Row.lease (κs .1 .1 .1 .1 .1 .0) (qs .1 .1 .1 .1 .1 .0)) (List._∷_ Row.off (List._∷_ (Row.lease (κs .1 .1 .1 .1 .1 .1 .1 .0) (qs .1 .1 .1 .1 .1 .1 .1 .0)) (List._∷_ (Row.lease (κs .1 .1 .1 .1 .1 .1 .1 .1 .0) (qs .1 .1 .1 .1 .1 .1 .1 .1 .0)) (List._∷_ (Row.lease (κs .1 .1 .1 .1 .1 .1 .1 .1 .1 .0) (qs .1 .1 .1 .1 .1 .1 .1 .1 .1 .0)) (List._∷_ (Row.lease (κs .1 .1 .1 .1 .1 .1 .1 .1 .1 .1 .0) (qs .1 .1 .1 .1 .1 .1 .1 .1 .1 .1 .0)) (List._∷_ (Row.lease (κs .1 .1 .1 .1 .1 .1 .1 .1 .1 .1 .1 .0) (qs .1 .1 .1 .1 .1 .1 .1 .1 .1 .1 .1 .0)) (List._∷_ (Row.lease (κs .1 .1 .1 .1 .1 .1 .1 .1 .1 .1 .1 .1 .0) (qs .1 .1 .1 .1 .1 .1 .1 .1 .1 .1 .1 .1 .0)) (List._∷_ Row.alive (List._∷_ Row.alive (List._∷_ Row.off List.[]))))))))))))))) }
 
         abbrev G24 : Row.Cx
-        G24 = record {
-          locals = List._++_ g8 t9;
-          slots = List._∷_ (Row.lease (κs .0) (qs .0)) (List._∷_ (Row.lease (κs .1 .0) (qs .1 .0)) (List._∷_ (Row.lease (κs .1 .1 .0) (qs .1 .1 .0)) (List._∷_ (Row.lease (κs .1 .1 .1 .0) (qs .1 .1 .1 .0)) (List._∷_ (Row.lease (κs .1 .1 .1 .1 .0) (qs .1 .1 .1 .1 .0)) (List._∷_
-              (Row.lease (κs .1 .1 .1 .1 .1 .0) (qs .1 .1 .1 .1 .1 .0)) (List._∷_ Row.off (List._∷_ Row.off (List._∷_ (Row.lease (κs .1 .1 .1 .1 .1 .1 .1 .1 .0) (qs .1 .1 .1 .1 .1 .1 .1 .1 .0)) (List._∷_ (Row.lease (κs .1 .1 .1 .1 .1 .1 .1 .1 .1 .0) (qs .1 .1 .1 .1 .1 .1 .1 .1 .1 .0)) (List._∷_ (Row.lease (κs .1 .1 .1 .1 .1 .1 .1 .1 .1 .1 .0)
-              (qs .1 .1 .1 .1 .1 .1 .1 .1 .1 .1 .0)) (List._∷_ (Row.lease (κs .1 .1 .1 .1 .1 .1 .1 .1 .1 .1 .1 .0) (qs .1 .1 .1 .1 .1 .1 .1 .1 .1 .1 .1 .0)) (List._∷_ (Row.lease (κs .1 .1 .1 .1 .1 .1 .1 .1 .1 .1 .1 .1 .0) (qs .1 .1 .1 .1 .1 .1 .1 .1 .1 .1 .1 .1 .0)) (List._∷_ Row.alive (List._∷_ Row.alive (List._∷_ Row.off List.[])))))))))))))));
-        }
+        G24 = record { locals = List._++_ g8 t9; slots = slots·2 }
 
         abbrev G25 : Row.Cx
-        G25 = record {
-          locals = List._++_ g8 t10;
-          slots = List._∷_ (Row.lease (κs .0) (qs .0)) (List._∷_ (Row.lease (κs .1 .0) (qs .1 .0)) (List._∷_ (Row.lease (κs .1 .1 .0) (qs .1 .1 .0)) (List._∷_ (Row.lease (κs .1 .1 .1 .0) (qs .1 .1 .1 .0)) (List._∷_ (Row.lease (κs .1 .1 .1 .1 .0) (qs .1 .1 .1 .1 .0)) (List._∷_
-              (Row.lease (κs .1 .1 .1 .1 .1 .0) (qs .1 .1 .1 .1 .1 .0)) (List._∷_ Row.off (List._∷_ Row.off (List._∷_ (Row.lease (κs .1 .1 .1 .1 .1 .1 .1 .1 .0) (qs .1 .1 .1 .1 .1 .1 .1 .1 .0)) (List._∷_ (Row.lease (κs .1 .1 .1 .1 .1 .1 .1 .1 .1 .0) (qs .1 .1 .1 .1 .1 .1 .1 .1 .1 .0)) (List._∷_ (Row.lease (κs .1 .1 .1 .1 .1 .1 .1 .1 .1 .1 .0)
-              (qs .1 .1 .1 .1 .1 .1 .1 .1 .1 .1 .0)) (List._∷_ (Row.lease (κs .1 .1 .1 .1 .1 .1 .1 .1 .1 .1 .1 .0) (qs .1 .1 .1 .1 .1 .1 .1 .1 .1 .1 .1 .0)) (List._∷_ (Row.lease (κs .1 .1 .1 .1 .1 .1 .1 .1 .1 .1 .1 .1 .0) (qs .1 .1 .1 .1 .1 .1 .1 .1 .1 .1 .1 .1 .0)) (List._∷_ Row.alive (List._∷_ Row.alive (List._∷_ Row.off List.[])))))))))))))));
-        }
+        G25 = record { locals = List._++_ g8 t10; slots = slots·2 }
 
         abbrev G26 : Row.Cx
-        G26 = record {
-          locals = List._++_ g8 t10;
-          slots = List._∷_ (Row.lease (κs .0) (qs .0)) (List._∷_ (Row.lease (κs .1 .0) (qs .1 .0)) (List._∷_ (Row.lease (κs .1 .1 .0) (qs .1 .1 .0)) (List._∷_ (Row.lease (κs .1 .1 .1 .0) (qs .1 .1 .1 .0)) (List._∷_ (Row.lease (κs .1 .1 .1 .1 .0) (qs .1 .1 .1 .1 .0)) (List._∷_
-              (Row.lease (κs .1 .1 .1 .1 .1 .0) (qs .1 .1 .1 .1 .1 .0)) (List._∷_ Row.off (List._∷_ Row.off (List._∷_ (Row.lease (κs .1 .1 .1 .1 .1 .1 .1 .1 .0) (qs .1 .1 .1 .1 .1 .1 .1 .1 .0)) (List._∷_ (Row.lease (κs .1 .1 .1 .1 .1 .1 .1 .1 .1 .0) (qs .1 .1 .1 .1 .1 .1 .1 .1 .1 .0)) (List._∷_ (Row.lease (κs .1 .1 .1 .1 .1 .1 .1 .1 .1 .1 .0)
-              (qs .1 .1 .1 .1 .1 .1 .1 .1 .1 .1 .0)) (List._∷_ (Row.lease (κs .1 .1 .1 .1 .1 .1 .1 .1 .1 .1 .1 .0) (qs .1 .1 .1 .1 .1 .1 .1 .1 .1 .1 .1 .0)) (List._∷_ (Row.lease (κs .1 .1 .1 .1 .1 .1 .1 .1 .1 .1 .1 .1 .0) (qs .1 .1 .1 .1 .1 .1 .1 .1 .1 .1 .1 .1 .0)) (List._∷_ Row.alive (List._∷_ Row.alive (List._∷_ Row.alive List.[])))))))))))))));
-        }
+        G26 = record
+            { locals = List._++_ g8 t10; slots = List._∷_ (Row.lease (κs .0) (qs .0)) (List._∷_ (Row.lease (κs .1 .0) (qs .1 .0)) (List._∷_ (Row.lease (κs .1 .1 .0) (qs .1 .1 .0)) (List._∷_ (Row.lease (κs .1 .1 .1 .0) (qs .1 .1 .1 .0)) (List._∷_ (Row.lease (κs .1 .1 .1 .1 .0) (qs .1 .1 .1 .1 .0)) (List._∷_ (Row.lease (κs .1 .1 .1 .1 .1 .0) (qs .1 .1 .1 .1 .1 .0)) (List._∷_ Row.off (List._∷_ Row.off (List._∷_ (Row.lease (κs .1 .1 .1 .1 .1 .1 .1 .1 .0) (qs .1 .1 .1 .1 .1 .1 .1 .1 .0)) (List._∷_ (Row.lease (κs .1 .1 .1 .1 .1 .1 .1 .1 .1 .0) (qs .1 .1 .1 .1 .1 .1 .1 .1 .1 .0)) (List._∷_ (Row.lease (κs .1 .1 .1 .1 .1 .1 .1 .1 .1 .1 .0) (qs .1 .1 .1 .1 .1 .1 .1 .1 .1 .1 .0)) (List._∷_ (Row.lease (κs .1 .1 .1 .1 .1 .1 .1 .1 .1 .1 .1 .0) (qs .1 .1 .1 .1 .1 .1 .1 .1 .1 .1 .1 .0)) (List._∷_ (Row.lease (κs .1 .1 .1 .1 .1 .1 .1 .1 .1 .1 .1 .1 .0) (qs .1 .1 .1 .1 .1 .1 .1 .1 .1 .1 .1 .1 .0)) (List._∷_ Row.alive (List._∷_ Row.alive (List._∷_ Row.alive List.[]))))))))))))))) }
 
         abbrev G27 : Row.Cx
-        G27 = record {
-          locals = List._++_ g11 t12;
-          slots = List._∷_ (Row.lease (κs .0) (qs .0)) (List._∷_ (Row.lease (κs .1 .0) (qs .1 .0)) (List._∷_ (Row.lease (κs .1 .1 .0) (qs .1 .1 .0)) (List._∷_ (Row.lease (κs .1 .1 .1 .0) (qs .1 .1 .1 .0)) (List._∷_ (Row.lease (κs .1 .1 .1 .1 .0) (qs .1 .1 .1 .1 .0)) (List._∷_
-              (Row.lease (κs .1 .1 .1 .1 .1 .0) (qs .1 .1 .1 .1 .1 .0)) (List._∷_ Row.off (List._∷_ Row.off (List._∷_ Row.off (List._∷_ (Row.lease (κs .1 .1 .1 .1 .1 .1 .1 .1 .1 .0) (qs .1 .1 .1 .1 .1 .1 .1 .1 .1 .0)) (List._∷_ (Row.lease (κs .1 .1 .1 .1 .1 .1 .1 .1 .1 .1 .0) (qs .1 .1 .1 .1 .1 .1 .1 .1 .1 .1 .0)) (List._∷_ (Row.lease
-              (κs .1 .1 .1 .1 .1 .1 .1 .1 .1 .1 .1 .0) (qs .1 .1 .1 .1 .1 .1 .1 .1 .1 .1 .1 .0)) (List._∷_ (Row.lease (κs .1 .1 .1 .1 .1 .1 .1 .1 .1 .1 .1 .1 .0) (qs .1 .1 .1 .1 .1 .1 .1 .1 .1 .1 .1 .1 .0)) (List._∷_ Row.alive (List._∷_ Row.alive (List._∷_ Row.alive List.[])))))))))))))));
-        }
+        G27 = record { locals = List._++_ g11 t12; slots = slots·3 }
 
         abbrev G28 : Row.Cx
-        G28 = record {
-          locals = List._++_ g11 t13;
-          slots = List._∷_ (Row.lease (κs .0) (qs .0)) (List._∷_ (Row.lease (κs .1 .0) (qs .1 .0)) (List._∷_ (Row.lease (κs .1 .1 .0) (qs .1 .1 .0)) (List._∷_ (Row.lease (κs .1 .1 .1 .0) (qs .1 .1 .1 .0)) (List._∷_ (Row.lease (κs .1 .1 .1 .1 .0) (qs .1 .1 .1 .1 .0)) (List._∷_
-              (Row.lease (κs .1 .1 .1 .1 .1 .0) (qs .1 .1 .1 .1 .1 .0)) (List._∷_ Row.off (List._∷_ Row.off (List._∷_ Row.off (List._∷_ (Row.lease (κs .1 .1 .1 .1 .1 .1 .1 .1 .1 .0) (qs .1 .1 .1 .1 .1 .1 .1 .1 .1 .0)) (List._∷_ (Row.lease (κs .1 .1 .1 .1 .1 .1 .1 .1 .1 .1 .0) (qs .1 .1 .1 .1 .1 .1 .1 .1 .1 .1 .0)) (List._∷_ (Row.lease
-              (κs .1 .1 .1 .1 .1 .1 .1 .1 .1 .1 .1 .0) (qs .1 .1 .1 .1 .1 .1 .1 .1 .1 .1 .1 .0)) (List._∷_ (Row.lease (κs .1 .1 .1 .1 .1 .1 .1 .1 .1 .1 .1 .1 .0) (qs .1 .1 .1 .1 .1 .1 .1 .1 .1 .1 .1 .1 .0)) (List._∷_ Row.alive (List._∷_ Row.alive (List._∷_ Row.alive List.[])))))))))))))));
-        }
+        G28 = record { locals = List._++_ g11 t13; slots = slots·3 }
 
         abbrev G29 : Row.Cx
-        G29 = record {
-          locals = List._++_ g11 t14;
-          slots = List._∷_ (Row.lease (κs .0) (qs .0)) (List._∷_ (Row.lease (κs .1 .0) (qs .1 .0)) (List._∷_ (Row.lease (κs .1 .1 .0) (qs .1 .1 .0)) (List._∷_ (Row.lease (κs .1 .1 .1 .0) (qs .1 .1 .1 .0)) (List._∷_ (Row.lease (κs .1 .1 .1 .1 .0) (qs .1 .1 .1 .1 .0)) (List._∷_
-              (Row.lease (κs .1 .1 .1 .1 .1 .0) (qs .1 .1 .1 .1 .1 .0)) (List._∷_ Row.off (List._∷_ Row.off (List._∷_ Row.off (List._∷_ (Row.lease (κs .1 .1 .1 .1 .1 .1 .1 .1 .1 .0) (qs .1 .1 .1 .1 .1 .1 .1 .1 .1 .0)) (List._∷_ (Row.lease (κs .1 .1 .1 .1 .1 .1 .1 .1 .1 .1 .0) (qs .1 .1 .1 .1 .1 .1 .1 .1 .1 .1 .0)) (List._∷_ (Row.lease
-              (κs .1 .1 .1 .1 .1 .1 .1 .1 .1 .1 .1 .0) (qs .1 .1 .1 .1 .1 .1 .1 .1 .1 .1 .1 .0)) (List._∷_ (Row.lease (κs .1 .1 .1 .1 .1 .1 .1 .1 .1 .1 .1 .1 .0) (qs .1 .1 .1 .1 .1 .1 .1 .1 .1 .1 .1 .1 .0)) (List._∷_ Row.alive (List._∷_ Row.alive (List._∷_ Row.alive List.[])))))))))))))));
-        }
-
-        abbrev G30 : Row.Cx
-        G30 = record {
-          locals = List._++_ g11 t14;
-          slots = List._∷_ (Row.lease (κs .0) (qs .0)) (List._∷_ (Row.lease (κs .1 .0) (qs .1 .0)) (List._∷_ (Row.lease (κs .1 .1 .0) (qs .1 .1 .0)) (List._∷_ (Row.lease (κs .1 .1 .1 .0) (qs .1 .1 .1 .0)) (List._∷_ (Row.lease (κs .1 .1 .1 .1 .0) (qs .1 .1 .1 .1 .0)) (List._∷_
-              (Row.lease (κs .1 .1 .1 .1 .1 .0) (qs .1 .1 .1 .1 .1 .0)) (List._∷_ Row.off (List._∷_ Row.off (List._∷_ Row.off (List._∷_ (Row.lease (κs .1 .1 .1 .1 .1 .1 .1 .1 .1 .0) (qs .1 .1 .1 .1 .1 .1 .1 .1 .1 .0)) (List._∷_ (Row.lease (κs .1 .1 .1 .1 .1 .1 .1 .1 .1 .1 .0) (qs .1 .1 .1 .1 .1 .1 .1 .1 .1 .1 .0)) (List._∷_ (Row.lease
-              (κs .1 .1 .1 .1 .1 .1 .1 .1 .1 .1 .1 .0) (qs .1 .1 .1 .1 .1 .1 .1 .1 .1 .1 .1 .0)) (List._∷_ (Row.lease (κs .1 .1 .1 .1 .1 .1 .1 .1 .1 .1 .1 .1 .0) (qs .1 .1 .1 .1 .1 .1 .1 .1 .1 .1 .1 .1 .0)) (List._∷_ Row.alive (List._∷_ Row.alive (List._∷_ Row.alive List.[])))))))))))))));
-        }
+        G29 = record { locals = List._++_ g11 t14; slots = slots·3 }
 
         abbrev G31 : Row.Cx
-        G31 = record {
-          locals = List._++_ g11 t15;
-          slots = List._∷_ (Row.lease (κs .0) (qs .0)) (List._∷_ (Row.lease (κs .1 .0) (qs .1 .0)) (List._∷_ (Row.lease (κs .1 .1 .0) (qs .1 .1 .0)) (List._∷_ (Row.lease (κs .1 .1 .1 .0) (qs .1 .1 .1 .0)) (List._∷_ (Row.lease (κs .1 .1 .1 .1 .0) (qs .1 .1 .1 .1 .0)) (List._∷_
-              (Row.lease (κs .1 .1 .1 .1 .1 .0) (qs .1 .1 .1 .1 .1 .0)) (List._∷_ Row.off (List._∷_ Row.off (List._∷_ Row.off (List._∷_ (Row.lease (κs .1 .1 .1 .1 .1 .1 .1 .1 .1 .0) (qs .1 .1 .1 .1 .1 .1 .1 .1 .1 .0)) (List._∷_ (Row.lease (κs .1 .1 .1 .1 .1 .1 .1 .1 .1 .1 .0) (qs .1 .1 .1 .1 .1 .1 .1 .1 .1 .1 .0)) (List._∷_ (Row.lease
-              (κs .1 .1 .1 .1 .1 .1 .1 .1 .1 .1 .1 .0) (qs .1 .1 .1 .1 .1 .1 .1 .1 .1 .1 .1 .0)) (List._∷_ (Row.lease (κs .1 .1 .1 .1 .1 .1 .1 .1 .1 .1 .1 .1 .0) (qs .1 .1 .1 .1 .1 .1 .1 .1 .1 .1 .1 .1 .0)) (List._∷_ Row.alive (List._∷_ Row.alive (List._∷_ Row.alive List.[])))))))))))))));
-        }
+        G31 = record { locals = List._++_ g11 t15; slots = slots·3 }
 
         abbrev G32 : Row.Cx
-        G32 = record {
-          locals = List._++_ g11 t16;
-          slots = List._∷_ (Row.lease (κs .0) (qs .0)) (List._∷_ (Row.lease (κs .1 .0) (qs .1 .0)) (List._∷_ (Row.lease (κs .1 .1 .0) (qs .1 .1 .0)) (List._∷_ (Row.lease (κs .1 .1 .1 .0) (qs .1 .1 .1 .0)) (List._∷_ (Row.lease (κs .1 .1 .1 .1 .0) (qs .1 .1 .1 .1 .0)) (List._∷_
-              (Row.lease (κs .1 .1 .1 .1 .1 .0) (qs .1 .1 .1 .1 .1 .0)) (List._∷_ Row.off (List._∷_ Row.off (List._∷_ Row.off (List._∷_ (Row.lease (κs .1 .1 .1 .1 .1 .1 .1 .1 .1 .0) (qs .1 .1 .1 .1 .1 .1 .1 .1 .1 .0)) (List._∷_ (Row.lease (κs .1 .1 .1 .1 .1 .1 .1 .1 .1 .1 .0) (qs .1 .1 .1 .1 .1 .1 .1 .1 .1 .1 .0)) (List._∷_ (Row.lease
-              (κs .1 .1 .1 .1 .1 .1 .1 .1 .1 .1 .1 .0) (qs .1 .1 .1 .1 .1 .1 .1 .1 .1 .1 .1 .0)) (List._∷_ (Row.lease (κs .1 .1 .1 .1 .1 .1 .1 .1 .1 .1 .1 .1 .0) (qs .1 .1 .1 .1 .1 .1 .1 .1 .1 .1 .1 .1 .0)) (List._∷_ Row.alive (List._∷_ Row.alive (List._∷_ Row.alive List.[])))))))))))))));
-        }
+        G32 = record { locals = List._++_ g11 t16; slots = slots·3 }
 
         abbrev G33 : Row.Cx
-        G33 = record {
-          locals = List._++_ g11 t17;
-          slots = List._∷_ (Row.lease (κs .0) (qs .0)) (List._∷_ (Row.lease (κs .1 .0) (qs .1 .0)) (List._∷_ (Row.lease (κs .1 .1 .0) (qs .1 .1 .0)) (List._∷_ (Row.lease (κs .1 .1 .1 .0) (qs .1 .1 .1 .0)) (List._∷_ (Row.lease (κs .1 .1 .1 .1 .0) (qs .1 .1 .1 .1 .0)) (List._∷_
-              (Row.lease (κs .1 .1 .1 .1 .1 .0) (qs .1 .1 .1 .1 .1 .0)) (List._∷_ Row.off (List._∷_ Row.off (List._∷_ Row.off (List._∷_ (Row.lease (κs .1 .1 .1 .1 .1 .1 .1 .1 .1 .0) (qs .1 .1 .1 .1 .1 .1 .1 .1 .1 .0)) (List._∷_ (Row.lease (κs .1 .1 .1 .1 .1 .1 .1 .1 .1 .1 .0) (qs .1 .1 .1 .1 .1 .1 .1 .1 .1 .1 .0)) (List._∷_ (Row.lease
-              (κs .1 .1 .1 .1 .1 .1 .1 .1 .1 .1 .1 .0) (qs .1 .1 .1 .1 .1 .1 .1 .1 .1 .1 .1 .0)) (List._∷_ (Row.lease (κs .1 .1 .1 .1 .1 .1 .1 .1 .1 .1 .1 .1 .0) (qs .1 .1 .1 .1 .1 .1 .1 .1 .1 .1 .1 .1 .0)) (List._∷_ Row.alive (List._∷_ Row.alive (List._∷_ Row.alive List.[])))))))))))))));
-        }
+        G33 = record { locals = List._++_ g11 t17; slots = slots·3 }
 
         abbrev G34 : Row.Cx
-        G34 = record {
-          locals = List._++_ g11 t18;
-          slots = List._∷_ (Row.lease (κs .0) (qs .0)) (List._∷_ (Row.lease (κs .1 .0) (qs .1 .0)) (List._∷_ (Row.lease (κs .1 .1 .0) (qs .1 .1 .0)) (List._∷_ (Row.lease (κs .1 .1 .1 .0) (qs .1 .1 .1 .0)) (List._∷_ (Row.lease (κs .1 .1 .1 .1 .0) (qs .1 .1 .1 .1 .0)) (List._∷_
-              (Row.lease (κs .1 .1 .1 .1 .1 .0) (qs .1 .1 .1 .1 .1 .0)) (List._∷_ Row.off (List._∷_ Row.off (List._∷_ Row.off (List._∷_ (Row.lease (κs .1 .1 .1 .1 .1 .1 .1 .1 .1 .0) (qs .1 .1 .1 .1 .1 .1 .1 .1 .1 .0)) (List._∷_ (Row.lease (κs .1 .1 .1 .1 .1 .1 .1 .1 .1 .1 .0) (qs .1 .1 .1 .1 .1 .1 .1 .1 .1 .1 .0)) (List._∷_ (Row.lease
-              (κs .1 .1 .1 .1 .1 .1 .1 .1 .1 .1 .1 .0) (qs .1 .1 .1 .1 .1 .1 .1 .1 .1 .1 .1 .0)) (List._∷_ (Row.lease (κs .1 .1 .1 .1 .1 .1 .1 .1 .1 .1 .1 .1 .0) (qs .1 .1 .1 .1 .1 .1 .1 .1 .1 .1 .1 .1 .0)) (List._∷_ Row.alive (List._∷_ Row.alive (List._∷_ Row.alive List.[])))))))))))))));
-        }
-
-        abbrev G35 : Row.Cx
-        G35 = record {
-          locals = List._++_ g11 t18;
-          slots = List._∷_ (Row.lease (κs .0) (qs .0)) (List._∷_ (Row.lease (κs .1 .0) (qs .1 .0)) (List._∷_ (Row.lease (κs .1 .1 .0) (qs .1 .1 .0)) (List._∷_ (Row.lease (κs .1 .1 .1 .0) (qs .1 .1 .1 .0)) (List._∷_ (Row.lease (κs .1 .1 .1 .1 .0) (qs .1 .1 .1 .1 .0)) (List._∷_
-              (Row.lease (κs .1 .1 .1 .1 .1 .0) (qs .1 .1 .1 .1 .1 .0)) (List._∷_ Row.off (List._∷_ Row.off (List._∷_ Row.off (List._∷_ (Row.lease (κs .1 .1 .1 .1 .1 .1 .1 .1 .1 .0) (qs .1 .1 .1 .1 .1 .1 .1 .1 .1 .0)) (List._∷_ (Row.lease (κs .1 .1 .1 .1 .1 .1 .1 .1 .1 .1 .0) (qs .1 .1 .1 .1 .1 .1 .1 .1 .1 .1 .0)) (List._∷_ (Row.lease
-              (κs .1 .1 .1 .1 .1 .1 .1 .1 .1 .1 .1 .0) (qs .1 .1 .1 .1 .1 .1 .1 .1 .1 .1 .1 .0)) (List._∷_ (Row.lease (κs .1 .1 .1 .1 .1 .1 .1 .1 .1 .1 .1 .1 .0) (qs .1 .1 .1 .1 .1 .1 .1 .1 .1 .1 .1 .1 .0)) (List._∷_ Row.alive (List._∷_ Row.alive (List._∷_ Row.alive List.[])))))))))))))));
-        }
+        G34 = record { locals = List._++_ g11 t18; slots = slots·3 }
 
         abbrev G36 : Row.Cx
-        G36 = record {
-          locals = List._++_ g11 t19;
-          slots = List._∷_ (Row.lease (κs .0) (qs .0)) (List._∷_ (Row.lease (κs .1 .0) (qs .1 .0)) (List._∷_ (Row.lease (κs .1 .1 .0) (qs .1 .1 .0)) (List._∷_ (Row.lease (κs .1 .1 .1 .0) (qs .1 .1 .1 .0)) (List._∷_ (Row.lease (κs .1 .1 .1 .1 .0) (qs .1 .1 .1 .1 .0)) (List._∷_
-              (Row.lease (κs .1 .1 .1 .1 .1 .0) (qs .1 .1 .1 .1 .1 .0)) (List._∷_ Row.off (List._∷_ Row.off (List._∷_ Row.off (List._∷_ (Row.lease (κs .1 .1 .1 .1 .1 .1 .1 .1 .1 .0) (qs .1 .1 .1 .1 .1 .1 .1 .1 .1 .0)) (List._∷_ (Row.lease (κs .1 .1 .1 .1 .1 .1 .1 .1 .1 .1 .0) (qs .1 .1 .1 .1 .1 .1 .1 .1 .1 .1 .0)) (List._∷_ (Row.lease
-              (κs .1 .1 .1 .1 .1 .1 .1 .1 .1 .1 .1 .0) (qs .1 .1 .1 .1 .1 .1 .1 .1 .1 .1 .1 .0)) (List._∷_ (Row.lease (κs .1 .1 .1 .1 .1 .1 .1 .1 .1 .1 .1 .1 .0) (qs .1 .1 .1 .1 .1 .1 .1 .1 .1 .1 .1 .1 .0)) (List._∷_ Row.alive (List._∷_ Row.alive (List._∷_ Row.alive List.[])))))))))))))));
-        }
+        G36 = record { locals = List._++_ g11 t19; slots = slots·3 }
 
         abbrev G37 : Row.Cx
-        G37 = record {
-          locals = List._++_ g11 t20;
-          slots = List._∷_ (Row.lease (κs .0) (qs .0)) (List._∷_ (Row.lease (κs .1 .0) (qs .1 .0)) (List._∷_ (Row.lease (κs .1 .1 .0) (qs .1 .1 .0)) (List._∷_ (Row.lease (κs .1 .1 .1 .0) (qs .1 .1 .1 .0)) (List._∷_ (Row.lease (κs .1 .1 .1 .1 .0) (qs .1 .1 .1 .1 .0)) (List._∷_
-              (Row.lease (κs .1 .1 .1 .1 .1 .0) (qs .1 .1 .1 .1 .1 .0)) (List._∷_ Row.off (List._∷_ Row.off (List._∷_ Row.off (List._∷_ (Row.lease (κs .1 .1 .1 .1 .1 .1 .1 .1 .1 .0) (qs .1 .1 .1 .1 .1 .1 .1 .1 .1 .0)) (List._∷_ (Row.lease (κs .1 .1 .1 .1 .1 .1 .1 .1 .1 .1 .0) (qs .1 .1 .1 .1 .1 .1 .1 .1 .1 .1 .0)) (List._∷_ (Row.lease
-              (κs .1 .1 .1 .1 .1 .1 .1 .1 .1 .1 .1 .0) (qs .1 .1 .1 .1 .1 .1 .1 .1 .1 .1 .1 .0)) (List._∷_ (Row.lease (κs .1 .1 .1 .1 .1 .1 .1 .1 .1 .1 .1 .1 .0) (qs .1 .1 .1 .1 .1 .1 .1 .1 .1 .1 .1 .1 .0)) (List._∷_ Row.alive (List._∷_ Row.alive (List._∷_ Row.alive List.[])))))))))))))));
-        }
+        G37 = record { locals = List._++_ g11 t20; slots = slots·3 }
 
         abbrev G38 : Row.Cx
-        G38 = record {
-          locals = List._++_ g11 t21;
-          slots = List._∷_ (Row.lease (κs .0) (qs .0)) (List._∷_ (Row.lease (κs .1 .0) (qs .1 .0)) (List._∷_ (Row.lease (κs .1 .1 .0) (qs .1 .1 .0)) (List._∷_ (Row.lease (κs .1 .1 .1 .0) (qs .1 .1 .1 .0)) (List._∷_ (Row.lease (κs .1 .1 .1 .1 .0) (qs .1 .1 .1 .1 .0)) (List._∷_
-              (Row.lease (κs .1 .1 .1 .1 .1 .0) (qs .1 .1 .1 .1 .1 .0)) (List._∷_ Row.off (List._∷_ Row.off (List._∷_ Row.off (List._∷_ (Row.lease (κs .1 .1 .1 .1 .1 .1 .1 .1 .1 .0) (qs .1 .1 .1 .1 .1 .1 .1 .1 .1 .0)) (List._∷_ (Row.lease (κs .1 .1 .1 .1 .1 .1 .1 .1 .1 .1 .0) (qs .1 .1 .1 .1 .1 .1 .1 .1 .1 .1 .0)) (List._∷_ (Row.lease
-              (κs .1 .1 .1 .1 .1 .1 .1 .1 .1 .1 .1 .0) (qs .1 .1 .1 .1 .1 .1 .1 .1 .1 .1 .1 .0)) (List._∷_ (Row.lease (κs .1 .1 .1 .1 .1 .1 .1 .1 .1 .1 .1 .1 .0) (qs .1 .1 .1 .1 .1 .1 .1 .1 .1 .1 .1 .1 .0)) (List._∷_ Row.alive (List._∷_ Row.alive (List._∷_ Row.alive List.[])))))))))))))));
-        }
+        G38 = record { locals = List._++_ g11 t21; slots = slots·3 }
 
         abbrev G39 : Row.Cx
-        G39 = record {
-          locals = List._++_ g11 t22;
-          slots = List._∷_ (Row.lease (κs .0) (qs .0)) (List._∷_ (Row.lease (κs .1 .0) (qs .1 .0)) (List._∷_ (Row.lease (κs .1 .1 .0) (qs .1 .1 .0)) (List._∷_ (Row.lease (κs .1 .1 .1 .0) (qs .1 .1 .1 .0)) (List._∷_ (Row.lease (κs .1 .1 .1 .1 .0) (qs .1 .1 .1 .1 .0)) (List._∷_
-              (Row.lease (κs .1 .1 .1 .1 .1 .0) (qs .1 .1 .1 .1 .1 .0)) (List._∷_ Row.off (List._∷_ Row.off (List._∷_ Row.off (List._∷_ (Row.lease (κs .1 .1 .1 .1 .1 .1 .1 .1 .1 .0) (qs .1 .1 .1 .1 .1 .1 .1 .1 .1 .0)) (List._∷_ (Row.lease (κs .1 .1 .1 .1 .1 .1 .1 .1 .1 .1 .0) (qs .1 .1 .1 .1 .1 .1 .1 .1 .1 .1 .0)) (List._∷_ (Row.lease
-              (κs .1 .1 .1 .1 .1 .1 .1 .1 .1 .1 .1 .0) (qs .1 .1 .1 .1 .1 .1 .1 .1 .1 .1 .1 .0)) (List._∷_ (Row.lease (κs .1 .1 .1 .1 .1 .1 .1 .1 .1 .1 .1 .1 .0) (qs .1 .1 .1 .1 .1 .1 .1 .1 .1 .1 .1 .1 .0)) (List._∷_ Row.alive (List._∷_ Row.alive (List._∷_ Row.alive List.[])))))))))))))));
-        }
+        G39 = record { locals = List._++_ g11 t22; slots = slots·3 }
 
         abbrev G40 : Row.Cx
-        G40 = record {
-          locals = List._++_ g11 t23;
-          slots = List._∷_ (Row.lease (κs .0) (qs .0)) (List._∷_ (Row.lease (κs .1 .0) (qs .1 .0)) (List._∷_ (Row.lease (κs .1 .1 .0) (qs .1 .1 .0)) (List._∷_ (Row.lease (κs .1 .1 .1 .0) (qs .1 .1 .1 .0)) (List._∷_ (Row.lease (κs .1 .1 .1 .1 .0) (qs .1 .1 .1 .1 .0)) (List._∷_
-              (Row.lease (κs .1 .1 .1 .1 .1 .0) (qs .1 .1 .1 .1 .1 .0)) (List._∷_ Row.off (List._∷_ Row.off (List._∷_ Row.off (List._∷_ (Row.lease (κs .1 .1 .1 .1 .1 .1 .1 .1 .1 .0) (qs .1 .1 .1 .1 .1 .1 .1 .1 .1 .0)) (List._∷_ (Row.lease (κs .1 .1 .1 .1 .1 .1 .1 .1 .1 .1 .0) (qs .1 .1 .1 .1 .1 .1 .1 .1 .1 .1 .0)) (List._∷_ (Row.lease
-              (κs .1 .1 .1 .1 .1 .1 .1 .1 .1 .1 .1 .0) (qs .1 .1 .1 .1 .1 .1 .1 .1 .1 .1 .1 .0)) (List._∷_ (Row.lease (κs .1 .1 .1 .1 .1 .1 .1 .1 .1 .1 .1 .1 .0) (qs .1 .1 .1 .1 .1 .1 .1 .1 .1 .1 .1 .1 .0)) (List._∷_ Row.alive (List._∷_ Row.alive (List._∷_ Row.alive List.[])))))))))))))));
-        }
+        G40 = record { locals = List._++_ g11 t23; slots = slots·3 }
 
         abbrev G41 : Row.Cx
-        G41 = record {
-          locals = List._++_ g11 t24;
-          slots = List._∷_ (Row.lease (κs .0) (qs .0)) (List._∷_ (Row.lease (κs .1 .0) (qs .1 .0)) (List._∷_ (Row.lease (κs .1 .1 .0) (qs .1 .1 .0)) (List._∷_ (Row.lease (κs .1 .1 .1 .0) (qs .1 .1 .1 .0)) (List._∷_ (Row.lease (κs .1 .1 .1 .1 .0) (qs .1 .1 .1 .1 .0)) (List._∷_
-              (Row.lease (κs .1 .1 .1 .1 .1 .0) (qs .1 .1 .1 .1 .1 .0)) (List._∷_ Row.off (List._∷_ Row.off (List._∷_ Row.off (List._∷_ (Row.lease (κs .1 .1 .1 .1 .1 .1 .1 .1 .1 .0) (qs .1 .1 .1 .1 .1 .1 .1 .1 .1 .0)) (List._∷_ (Row.lease (κs .1 .1 .1 .1 .1 .1 .1 .1 .1 .1 .0) (qs .1 .1 .1 .1 .1 .1 .1 .1 .1 .1 .0)) (List._∷_ (Row.lease
-              (κs .1 .1 .1 .1 .1 .1 .1 .1 .1 .1 .1 .0) (qs .1 .1 .1 .1 .1 .1 .1 .1 .1 .1 .1 .0)) (List._∷_ (Row.lease (κs .1 .1 .1 .1 .1 .1 .1 .1 .1 .1 .1 .1 .0) (qs .1 .1 .1 .1 .1 .1 .1 .1 .1 .1 .1 .1 .0)) (List._∷_ Row.alive (List._∷_ Row.alive (List._∷_ Row.alive List.[])))))))))))))));
-        }
+        G41 = record { locals = List._++_ g11 t24; slots = slots·3 }
 
         abbrev G42 : Row.Cx
-        G42 = record {
-          locals = List._++_ g11 t24;
-          slots = List._∷_ (Row.lease (κs .0) (qs .0)) (List._∷_ (Row.lease (κs .1 .0) (qs .1 .0)) (List._∷_ (Row.lease (κs .1 .1 .0) (qs .1 .1 .0)) (List._∷_ (Row.lease (κs .1 .1 .1 .0) (qs .1 .1 .1 .0)) (List._∷_ (Row.lease (κs .1 .1 .1 .1 .0) (qs .1 .1 .1 .1 .0)) (List._∷_
-              (Row.lease (κs .1 .1 .1 .1 .1 .0) (qs .1 .1 .1 .1 .1 .0)) (List._∷_ Row.off (List._∷_ Row.off (List._∷_ Row.off (List._∷_ (Row.lease (κs .1 .1 .1 .1 .1 .1 .1 .1 .1 .0) (qs .1 .1 .1 .1 .1 .1 .1 .1 .1 .0)) (List._∷_ (Row.lease (κs .1 .1 .1 .1 .1 .1 .1 .1 .1 .1 .0) (qs .1 .1 .1 .1 .1 .1 .1 .1 .1 .1 .0)) (List._∷_ (Row.lease
-              (κs .1 .1 .1 .1 .1 .1 .1 .1 .1 .1 .1 .0) (qs .1 .1 .1 .1 .1 .1 .1 .1 .1 .1 .1 .0)) (List._∷_ (Row.lease (κs .1 .1 .1 .1 .1 .1 .1 .1 .1 .1 .1 .1 .0) (qs .1 .1 .1 .1 .1 .1 .1 .1 .1 .1 .1 .1 .0)) (List._∷_ Row.dead (List._∷_ Row.alive (List._∷_ Row.alive List.[])))))))))))))));
-        }
+        G42 = record
+            { locals = List._++_ g11 t24; slots = List._∷_ (Row.lease (κs .0) (qs .0)) (List._∷_ (Row.lease (κs .1 .0) (qs .1 .0)) (List._∷_ (Row.lease (κs .1 .1 .0) (qs .1 .1 .0)) (List._∷_ (Row.lease (κs .1 .1 .1 .0) (qs .1 .1 .1 .0)) (List._∷_ (Row.lease (κs .1 .1 .1 .1 .0) (qs .1 .1 .1 .1 .0)) (List._∷_ (Row.lease (κs .1 .1 .1 .1 .1 .0) (qs .1 .1 .1 .1 .1 .0)) (List._∷_ Row.off (List._∷_ Row.off (List._∷_ Row.off (List._∷_ (Row.lease (κs .1 .1 .1 .1 .1 .1 .1 .1 .1 .0) (qs .1 .1 .1 .1 .1 .1 .1 .1 .1 .0)) (List._∷_ (Row.lease (κs .1 .1 .1 .1 .1 .1 .1 .1 .1 .1 .0) (qs .1 .1 .1 .1 .1 .1 .1 .1 .1 .1 .0)) (List._∷_ (Row.lease (κs .1 .1 .1 .1 .1 .1 .1 .1 .1 .1 .1 .0) (qs .1 .1 .1 .1 .1 .1 .1 .1 .1 .1 .1 .0)) (List._∷_ (Row.lease (κs .1 .1 .1 .1 .1 .1 .1 .1 .1 .1 .1 .1 .0) (qs .1 .1 .1 .1 .1 .1 .1 .1 .1 .1 .1 .1 .0)) (List._∷_ Row.dead (List._∷_ Row.alive (List._∷_ Row.alive List.[]))))))))))))))) }
 
         abbrev G43 : Row.Cx
-        G43 = record {
-          locals = List._++_ g25 t26;
-          slots = List._∷_ (Row.lease (κs .0) (qs .0)) (List._∷_ (Row.lease (κs .1 .0) (qs .1 .0)) (List._∷_ (Row.lease (κs .1 .1 .0) (qs .1 .1 .0)) (List._∷_ (Row.lease (κs .1 .1 .1 .0) (qs .1 .1 .1 .0)) (List._∷_ (Row.lease (κs .1 .1 .1 .1 .0) (qs .1 .1 .1 .1 .0)) (List._∷_
-              (Row.lease (κs .1 .1 .1 .1 .1 .0) (qs .1 .1 .1 .1 .1 .0)) (List._∷_ (Row.lease (κs .1 .1 .1 .1 .1 .1 .0) (qs .1 .1 .1 .1 .1 .1 .0)) (List._∷_ Row.off (List._∷_ Row.off (List._∷_ (Row.lease (κs .1 .1 .1 .1 .1 .1 .1 .1 .1 .0) (qs .1 .1 .1 .1 .1 .1 .1 .1 .1 .0)) (List._∷_ (Row.lease (κs .1 .1 .1 .1 .1 .1 .1 .1 .1 .1 .0)
-              (qs .1 .1 .1 .1 .1 .1 .1 .1 .1 .1 .0)) (List._∷_ (Row.lease (κs .1 .1 .1 .1 .1 .1 .1 .1 .1 .1 .1 .0) (qs .1 .1 .1 .1 .1 .1 .1 .1 .1 .1 .1 .0)) (List._∷_ (Row.lease (κs .1 .1 .1 .1 .1 .1 .1 .1 .1 .1 .1 .1 .0) (qs .1 .1 .1 .1 .1 .1 .1 .1 .1 .1 .1 .1 .0)) (List._∷_ Row.dead (List._∷_ Row.alive (List._∷_ Row.alive List.[])))))))))))))));
-        }
-
-        abbrev G44 : Row.Cx
-        G44 = record {
-          locals = List._++_ g25 t26;
-          slots = List._∷_ (Row.lease (κs .0) (qs .0)) (List._∷_ (Row.lease (κs .1 .0) (qs .1 .0)) (List._∷_ (Row.lease (κs .1 .1 .0) (qs .1 .1 .0)) (List._∷_ (Row.lease (κs .1 .1 .1 .0) (qs .1 .1 .1 .0)) (List._∷_ (Row.lease (κs .1 .1 .1 .1 .0) (qs .1 .1 .1 .1 .0)) (List._∷_
-              (Row.lease (κs .1 .1 .1 .1 .1 .0) (qs .1 .1 .1 .1 .1 .0)) (List._∷_ (Row.lease (κs .1 .1 .1 .1 .1 .1 .0) (qs .1 .1 .1 .1 .1 .1 .0)) (List._∷_ Row.off (List._∷_ Row.off (List._∷_ (Row.lease (κs .1 .1 .1 .1 .1 .1 .1 .1 .1 .0) (qs .1 .1 .1 .1 .1 .1 .1 .1 .1 .0)) (List._∷_ (Row.lease (κs .1 .1 .1 .1 .1 .1 .1 .1 .1 .1 .0)
-              (qs .1 .1 .1 .1 .1 .1 .1 .1 .1 .1 .0)) (List._∷_ (Row.lease (κs .1 .1 .1 .1 .1 .1 .1 .1 .1 .1 .1 .0) (qs .1 .1 .1 .1 .1 .1 .1 .1 .1 .1 .1 .0)) (List._∷_ (Row.lease (κs .1 .1 .1 .1 .1 .1 .1 .1 .1 .1 .1 .1 .0) (qs .1 .1 .1 .1 .1 .1 .1 .1 .1 .1 .1 .1 .0)) (List._∷_ Row.dead (List._∷_ Row.alive (List._∷_ Row.alive List.[])))))))))))))));
-        }
+        G43 = record { locals = List._++_ g25 t26; slots = slots·4 }
 
         abbrev G45 : Row.Cx
-        G45 = record {
-          locals = List._++_ g25 t26;
-          slots = List._∷_ (Row.lease (κs .0) (qs .0)) (List._∷_ (Row.lease (κs .1 .0) (qs .1 .0)) (List._∷_ (Row.lease (κs .1 .1 .0) (qs .1 .1 .0)) (List._∷_ (Row.lease (κs .1 .1 .1 .0) (qs .1 .1 .1 .0)) (List._∷_ (Row.lease (κs .1 .1 .1 .1 .0) (qs .1 .1 .1 .1 .0)) (List._∷_
-              (Row.lease (κs .1 .1 .1 .1 .1 .0) (qs .1 .1 .1 .1 .1 .0)) (List._∷_ (Row.lease (κs .1 .1 .1 .1 .1 .1 .0) (qs .1 .1 .1 .1 .1 .1 .0)) (List._∷_ Row.off (List._∷_ Row.off (List._∷_ (Row.lease (κs .1 .1 .1 .1 .1 .1 .1 .1 .1 .0) (qs .1 .1 .1 .1 .1 .1 .1 .1 .1 .0)) (List._∷_ (Row.lease (κs .1 .1 .1 .1 .1 .1 .1 .1 .1 .1 .0)
-              (qs .1 .1 .1 .1 .1 .1 .1 .1 .1 .1 .0)) (List._∷_ (Row.lease (κs .1 .1 .1 .1 .1 .1 .1 .1 .1 .1 .1 .0) (qs .1 .1 .1 .1 .1 .1 .1 .1 .1 .1 .1 .0)) (List._∷_ (Row.lease (κs .1 .1 .1 .1 .1 .1 .1 .1 .1 .1 .1 .1 .0) (qs .1 .1 .1 .1 .1 .1 .1 .1 .1 .1 .1 .1 .0)) (List._∷_ Row.off (List._∷_ Row.alive (List._∷_ Row.alive List.[])))))))))))))));
-        }
+        G45 = record
+            { locals = List._++_ g25 t26; slots = List._∷_ (Row.lease (κs .0) (qs .0)) (List._∷_ (Row.lease (κs .1 .0) (qs .1 .0)) (List._∷_ (Row.lease (κs .1 .1 .0) (qs .1 .1 .0)) (List._∷_ (Row.lease (κs .1 .1 .1 .0) (qs .1 .1 .1 .0)) (List._∷_ (Row.lease (κs .1 .1 .1 .1 .0) (qs .1 .1 .1 .1 .0)) (List._∷_ (Row.lease (κs .1 .1 .1 .1 .1 .0) (qs .1 .1 .1 .1 .1 .0)) (List._∷_ (Row.lease (κs .1 .1 .1 .1 .1 .1 .0) (qs .1 .1 .1 .1 .1 .1 .0)) (List._∷_ Row.off (List._∷_ Row.off (List._∷_ (Row.lease (κs .1 .1 .1 .1 .1 .1 .1 .1 .1 .0) (qs .1 .1 .1 .1 .1 .1 .1 .1 .1 .0)) (List._∷_ (Row.lease (κs .1 .1 .1 .1 .1 .1 .1 .1 .1 .1 .0) (qs .1 .1 .1 .1 .1 .1 .1 .1 .1 .1 .0)) (List._∷_ (Row.lease (κs .1 .1 .1 .1 .1 .1 .1 .1 .1 .1 .1 .0) (qs .1 .1 .1 .1 .1 .1 .1 .1 .1 .1 .1 .0)) (List._∷_ (Row.lease (κs .1 .1 .1 .1 .1 .1 .1 .1 .1 .1 .1 .1 .0) (qs .1 .1 .1 .1 .1 .1 .1 .1 .1 .1 .1 .1 .0)) (List._∷_ Row.off (List._∷_ Row.alive (List._∷_ Row.alive List.[]))))))))))))))) }
 
         abbrev G46 : Row.Cx
-        G46 = record {
-          locals = List._++_ g25 t26;
-          slots = List._∷_ (Row.lease (κs .0) (qs .0)) (List._∷_ (Row.lease (κs .1 .0) (qs .1 .0)) (List._∷_ (Row.lease (κs .1 .1 .0) (qs .1 .1 .0)) (List._∷_ (Row.lease (κs .1 .1 .1 .0) (qs .1 .1 .1 .0)) (List._∷_ (Row.lease (κs .1 .1 .1 .1 .0) (qs .1 .1 .1 .1 .0)) (List._∷_
-              (Row.lease (κs .1 .1 .1 .1 .1 .0) (qs .1 .1 .1 .1 .1 .0)) (List._∷_ (Row.lease (κs .1 .1 .1 .1 .1 .1 .0) (qs .1 .1 .1 .1 .1 .1 .0)) (List._∷_ Row.off (List._∷_ Row.off (List._∷_ (Row.lease (κs .1 .1 .1 .1 .1 .1 .1 .1 .1 .0) (qs .1 .1 .1 .1 .1 .1 .1 .1 .1 .0)) (List._∷_ (Row.lease (κs .1 .1 .1 .1 .1 .1 .1 .1 .1 .1 .0)
-              (qs .1 .1 .1 .1 .1 .1 .1 .1 .1 .1 .0)) (List._∷_ (Row.lease (κs .1 .1 .1 .1 .1 .1 .1 .1 .1 .1 .1 .0) (qs .1 .1 .1 .1 .1 .1 .1 .1 .1 .1 .1 .0)) (List._∷_ (Row.lease (κs .1 .1 .1 .1 .1 .1 .1 .1 .1 .1 .1 .1 .0) (qs .1 .1 .1 .1 .1 .1 .1 .1 .1 .1 .1 .1 .0)) (List._∷_ Row.off (List._∷_ Row.dead (List._∷_ Row.alive List.[])))))))))))))));
-        }
+        G46 = record
+            { locals = List._++_ g25 t26; slots = List._∷_ (Row.lease (κs .0) (qs .0)) (List._∷_ (Row.lease (κs .1 .0) (qs .1 .0)) (List._∷_ (Row.lease (κs .1 .1 .0) (qs .1 .1 .0)) (List._∷_ (Row.lease (κs .1 .1 .1 .0) (qs .1 .1 .1 .0)) (List._∷_ (Row.lease (κs .1 .1 .1 .1 .0) (qs .1 .1 .1 .1 .0)) (List._∷_ (Row.lease (κs .1 .1 .1 .1 .1 .0) (qs .1 .1 .1 .1 .1 .0)) (List._∷_ (Row.lease (κs .1 .1 .1 .1 .1 .1 .0) (qs .1 .1 .1 .1 .1 .1 .0)) (List._∷_ Row.off (List._∷_ Row.off (List._∷_ (Row.lease (κs .1 .1 .1 .1 .1 .1 .1 .1 .1 .0) (qs .1 .1 .1 .1 .1 .1 .1 .1 .1 .0)) (List._∷_ (Row.lease (κs .1 .1 .1 .1 .1 .1 .1 .1 .1 .1 .0) (qs .1 .1 .1 .1 .1 .1 .1 .1 .1 .1 .0)) (List._∷_ (Row.lease (κs .1 .1 .1 .1 .1 .1 .1 .1 .1 .1 .1 .0) (qs .1 .1 .1 .1 .1 .1 .1 .1 .1 .1 .1 .0)) (List._∷_ (Row.lease (κs .1 .1 .1 .1 .1 .1 .1 .1 .1 .1 .1 .1 .0) (qs .1 .1 .1 .1 .1 .1 .1 .1 .1 .1 .1 .1 .0)) (List._∷_ Row.off (List._∷_ Row.dead (List._∷_ Row.alive List.[]))))))))))))))) }
 
         abbrev G47 : Row.Cx
-        G47 = record {
-          locals = List._++_ g27 t28;
-          slots = List._∷_ (Row.lease (κs .0) (qs .0)) (List._∷_ (Row.lease (κs .1 .0) (qs .1 .0)) (List._∷_ (Row.lease (κs .1 .1 .0) (qs .1 .1 .0)) (List._∷_ (Row.lease (κs .1 .1 .1 .0) (qs .1 .1 .1 .0)) (List._∷_ (Row.lease (κs .1 .1 .1 .1 .0) (qs .1 .1 .1 .1 .0)) (List._∷_
-              (Row.lease (κs .1 .1 .1 .1 .1 .0) (qs .1 .1 .1 .1 .1 .0)) (List._∷_ (Row.lease (κs .1 .1 .1 .1 .1 .1 .0) (qs .1 .1 .1 .1 .1 .1 .0)) (List._∷_ (Row.lease (κs .1 .1 .1 .1 .1 .1 .1 .0) (qs .1 .1 .1 .1 .1 .1 .1 .0)) (List._∷_ Row.off (List._∷_ (Row.lease (κs .1 .1 .1 .1 .1 .1 .1 .1 .1 .0) (qs .1 .1 .1 .1 .1 .1 .1 .1 .1 .0)) (List._∷_ (Row.lease
-              (κs .1 .1 .1 .1 .1 .1 .1 .1 .1 .1 .0) (qs .1 .1 .1 .1 .1 .1 .1 .1 .1 .1 .0)) (List._∷_ (Row.lease (κs .1 .1 .1 .1 .1 .1 .1 .1 .1 .1 .1 .0) (qs .1 .1 .1 .1 .1 .1 .1 .1 .1 .1 .1 .0)) (List._∷_ (Row.lease (κs .1 .1 .1 .1 .1 .1 .1 .1 .1 .1 .1 .1 .0) (qs .1 .1 .1 .1 .1 .1 .1 .1 .1 .1 .1 .1 .0))
-              (List._∷_ Row.off (List._∷_ Row.dead (List._∷_ Row.alive List.[])))))))))))))));
-        }
-
-        abbrev G48 : Row.Cx
-        G48 = record {
-          locals = List._++_ g27 t28;
-          slots = List._∷_ (Row.lease (κs .0) (qs .0)) (List._∷_ (Row.lease (κs .1 .0) (qs .1 .0)) (List._∷_ (Row.lease (κs .1 .1 .0) (qs .1 .1 .0)) (List._∷_ (Row.lease (κs .1 .1 .1 .0) (qs .1 .1 .1 .0)) (List._∷_ (Row.lease (κs .1 .1 .1 .1 .0) (qs .1 .1 .1 .1 .0)) (List._∷_
-              (Row.lease (κs .1 .1 .1 .1 .1 .0) (qs .1 .1 .1 .1 .1 .0)) (List._∷_ (Row.lease (κs .1 .1 .1 .1 .1 .1 .0) (qs .1 .1 .1 .1 .1 .1 .0)) (List._∷_ (Row.lease (κs .1 .1 .1 .1 .1 .1 .1 .0) (qs .1 .1 .1 .1 .1 .1 .1 .0)) (List._∷_ Row.off (List._∷_ (Row.lease (κs .1 .1 .1 .1 .1 .1 .1 .1 .1 .0) (qs .1 .1 .1 .1 .1 .1 .1 .1 .1 .0)) (List._∷_ (Row.lease
-              (κs .1 .1 .1 .1 .1 .1 .1 .1 .1 .1 .0) (qs .1 .1 .1 .1 .1 .1 .1 .1 .1 .1 .0)) (List._∷_ (Row.lease (κs .1 .1 .1 .1 .1 .1 .1 .1 .1 .1 .1 .0) (qs .1 .1 .1 .1 .1 .1 .1 .1 .1 .1 .1 .0)) (List._∷_ (Row.lease (κs .1 .1 .1 .1 .1 .1 .1 .1 .1 .1 .1 .1 .0) (qs .1 .1 .1 .1 .1 .1 .1 .1 .1 .1 .1 .1 .0))
-              (List._∷_ Row.off (List._∷_ Row.dead (List._∷_ Row.alive List.[])))))))))))))));
-        }
+        G47 = record { locals = List._++_ g27 t28; slots = slots·5 }
 
         abbrev G49 : Row.Cx
-        G49 = record {
-          locals = List._++_ g27 t28;
-          slots = List._∷_ (Row.lease (κs .0) (qs .0)) (List._∷_ (Row.lease (κs .1 .0) (qs .1 .0)) (List._∷_ (Row.lease (κs .1 .1 .0) (qs .1 .1 .0)) (List._∷_ (Row.lease (κs .1 .1 .1 .0) (qs .1 .1 .1 .0)) (List._∷_ (Row.lease (κs .1 .1 .1 .1 .0) (qs .1 .1 .1 .1 .0)) (List._∷_
-              (Row.lease (κs .1 .1 .1 .1 .1 .0) (qs .1 .1 .1 .1 .1 .0)) (List._∷_ (Row.lease (κs .1 .1 .1 .1 .1 .1 .0) (qs .1 .1 .1 .1 .1 .1 .0)) (List._∷_ (Row.lease (κs .1 .1 .1 .1 .1 .1 .1 .0) (qs .1 .1 .1 .1 .1 .1 .1 .0)) (List._∷_ Row.off (List._∷_ (Row.lease (κs .1 .1 .1 .1 .1 .1 .1 .1 .1 .0) (qs .1 .1 .1 .1 .1 .1 .1 .1 .1 .0)) (List._∷_ (Row.lease
-              (κs .1 .1 .1 .1 .1 .1 .1 .1 .1 .1 .0) (qs .1 .1 .1 .1 .1 .1 .1 .1 .1 .1 .0)) (List._∷_ (Row.lease (κs .1 .1 .1 .1 .1 .1 .1 .1 .1 .1 .1 .0) (qs .1 .1 .1 .1 .1 .1 .1 .1 .1 .1 .1 .0)) (List._∷_ (Row.lease (κs .1 .1 .1 .1 .1 .1 .1 .1 .1 .1 .1 .1 .0) (qs .1 .1 .1 .1 .1 .1 .1 .1 .1 .1 .1 .1 .0))
-              (List._∷_ Row.off (List._∷_ Row.off (List._∷_ Row.alive List.[])))))))))))))));
-        }
+        G49 = record
+            { locals = List._++_ g27 t28; slots = List._∷_ (Row.lease (κs .0) (qs .0)) (List._∷_ (Row.lease (κs .1 .0) (qs .1 .0)) (List._∷_ (Row.lease (κs .1 .1 .0) (qs .1 .1 .0)) (List._∷_ (Row.lease (κs .1 .1 .1 .0) (qs .1 .1 .1 .0)) (List._∷_ (Row.lease (κs .1 .1 .1 .1 .0) (qs .1 .1 .1 .1 .0)) (List._∷_ (Row.lease (κs .1 .1 .1 .1 .1 .0) (qs .1 .1 .1 .1 .1 .0)) (List._∷_ (Row.lease (κs .1 .1 .1 .1 .1 .1 .0) (qs .1 .1 .1 .1 .1 .1 .0)) (List._∷_ (Row.lease (κs .1 .1 .1 .1 .1 .1 .1 .0) (qs .1 .1 .1 .1 .1 .1 .1 .0)) (List._∷_ Row.off (List._∷_ (Row.lease (κs .1 .1 .1 .1 .1 .1 .1 .1 .1 .0) (qs .1 .1 .1 .1 .1 .1 .1 .1 .1 .0)) (List._∷_ (Row.lease (κs .1 .1 .1 .1 .1 .1 .1 .1 .1 .1 .0) (qs .1 .1 .1 .1 .1 .1 .1 .1 .1 .1 .0)) (List._∷_ (Row.lease (κs .1 .1 .1 .1 .1 .1 .1 .1 .1 .1 .1 .0) (qs .1 .1 .1 .1 .1 .1 .1 .1 .1 .1 .1 .0)) (List._∷_ (Row.lease (κs .1 .1 .1 .1 .1 .1 .1 .1 .1 .1 .1 .1 .0) (qs .1 .1 .1 .1 .1 .1 .1 .1 .1 .1 .1 .1 .0)) (List._∷_ Row.off (List._∷_ Row.off (List._∷_ Row.alive List.[]))))))))))))))) }
 
         abbrev G50 : Row.Cx
-        G50 = record {
-          locals = List._++_ g27 t28;
-          slots = List._∷_ (Row.lease (κs .0) (qs .0)) (List._∷_ (Row.lease (κs .1 .0) (qs .1 .0)) (List._∷_ (Row.lease (κs .1 .1 .0) (qs .1 .1 .0)) (List._∷_ (Row.lease (κs .1 .1 .1 .0) (qs .1 .1 .1 .0)) (List._∷_ (Row.lease (κs .1 .1 .1 .1 .0) (qs .1 .1 .1 .1 .0)) (List._∷_
-              (Row.lease (κs .1 .1 .1 .1 .1 .0) (qs .1 .1 .1 .1 .1 .0)) (List._∷_ (Row.lease (κs .1 .1 .1 .1 .1 .1 .0) (qs .1 .1 .1 .1 .1 .1 .0)) (List._∷_ (Row.lease (κs .1 .1 .1 .1 .1 .1 .1 .0) (qs .1 .1 .1 .1 .1 .1 .1 .0)) (List._∷_ Row.off (List._∷_ (Row.lease (κs .1 .1 .1 .1 .1 .1 .1 .1 .1 .0) (qs .1 .1 .1 .1 .1 .1 .1 .1 .1 .0)) (List._∷_ (Row.lease
-              (κs .1 .1 .1 .1 .1 .1 .1 .1 .1 .1 .0) (qs .1 .1 .1 .1 .1 .1 .1 .1 .1 .1 .0)) (List._∷_ (Row.lease (κs .1 .1 .1 .1 .1 .1 .1 .1 .1 .1 .1 .0) (qs .1 .1 .1 .1 .1 .1 .1 .1 .1 .1 .1 .0)) (List._∷_ (Row.lease (κs .1 .1 .1 .1 .1 .1 .1 .1 .1 .1 .1 .1 .0) (qs .1 .1 .1 .1 .1 .1 .1 .1 .1 .1 .1 .1 .0))
-              (List._∷_ Row.off (List._∷_ Row.off (List._∷_ Row.dead List.[])))))))))))))));
-        }
+        G50 = record
+            { locals = List._++_ g27 t28; slots = List._∷_ (Row.lease (κs .0) (qs .0)) (List._∷_ (Row.lease (κs .1 .0) (qs .1 .0)) (List._∷_ (Row.lease (κs .1 .1 .0) (qs .1 .1 .0)) (List._∷_ (Row.lease (κs .1 .1 .1 .0) (qs .1 .1 .1 .0)) (List._∷_ (Row.lease (κs .1 .1 .1 .1 .0) (qs .1 .1 .1 .1 .0)) (List._∷_ (Row.lease (κs .1 .1 .1 .1 .1 .0) (qs .1 .1 .1 .1 .1 .0)) (List._∷_ (Row.lease (κs .1 .1 .1 .1 .1 .1 .0) (qs .1 .1 .1 .1 .1 .1 .0)) (List._∷_ (Row.lease (κs .1 .1 .1 .1 .1 .1 .1 .0) (qs .1 .1 .1 .1 .1 .1 .1 .0)) (List._∷_ Row.off (List._∷_ (Row.lease (κs .1 .1 .1 .1 .1 .1 .1 .1 .1 .0) (qs .1 .1 .1 .1 .1 .1 .1 .1 .1 .0)) (List._∷_ (Row.lease (κs .1 .1 .1 .1 .1 .1 .1 .1 .1 .1 .0) (qs .1 .1 .1 .1 .1 .1 .1 .1 .1 .1 .0)) (List._∷_ (Row.lease (κs .1 .1 .1 .1 .1 .1 .1 .1 .1 .1 .1 .0) (qs .1 .1 .1 .1 .1 .1 .1 .1 .1 .1 .1 .0)) (List._∷_ (Row.lease (κs .1 .1 .1 .1 .1 .1 .1 .1 .1 .1 .1 .1 .0) (qs .1 .1 .1 .1 .1 .1 .1 .1 .1 .1 .1 .1 .0)) (List._∷_ Row.off (List._∷_ Row.off (List._∷_ Row.dead List.[]))))))))))))))) }
 
         abbrev G51 : Row.Cx
-        G51 = record {
-          locals = List._++_ t3 t29;
-          slots = List._∷_ (Row.lease (κs .0) (qs .0)) (List._∷_ (Row.lease (κs .1 .0) (qs .1 .0)) (List._∷_ (Row.lease (κs .1 .1 .0) (qs .1 .1 .0)) (List._∷_ (Row.lease (κs .1 .1 .1 .0) (qs .1 .1 .1 .0)) (List._∷_ (Row.lease (κs .1 .1 .1 .1 .0) (qs .1 .1 .1 .1 .0)) (List._∷_
-              (Row.lease (κs .1 .1 .1 .1 .1 .0) (qs .1 .1 .1 .1 .1 .0)) (List._∷_ (Row.lease (κs .1 .1 .1 .1 .1 .1 .0) (qs .1 .1 .1 .1 .1 .1 .0)) (List._∷_ (Row.lease (κs .1 .1 .1 .1 .1 .1 .1 .0) (qs .1 .1 .1 .1 .1 .1 .1 .0)) (List._∷_ (Row.lease (κs .1 .1 .1 .1 .1 .1 .1 .1 .0) (qs .1 .1 .1 .1 .1 .1 .1 .1 .0)) (List._∷_
-              (Row.lease (κs .1 .1 .1 .1 .1 .1 .1 .1 .1 .0) (qs .1 .1 .1 .1 .1 .1 .1 .1 .1 .0)) (List._∷_ (Row.lease (κs .1 .1 .1 .1 .1 .1 .1 .1 .1 .1 .0) (qs .1 .1 .1 .1 .1 .1 .1 .1 .1 .1 .0)) (List._∷_ (Row.lease (κs .1 .1 .1 .1 .1 .1 .1 .1 .1 .1 .1 .0) (qs .1 .1 .1 .1 .1 .1 .1 .1 .1 .1 .1 .0)) (List._∷_ (Row.lease (κs .1 .1 .1 .1 .1 .1 .1 .1 .1 .1 .1 .1 .0)
-              (qs .1 .1 .1 .1 .1 .1 .1 .1 .1 .1 .1 .1 .0)) (List._∷_ Row.off (List._∷_ Row.off (List._∷_ Row.dead List.[])))))))))))))));
-        }
+        G51 = record
+            { locals = T51 .locals; slots = List._∷_ (Row.lease (κs .0) (qs .0)) (List._∷_ (Row.lease (κs .1 .0) (qs .1 .0)) (List._∷_ (Row.lease (κs .1 .1 .0) (qs .1 .1 .0)) (List._∷_ (Row.lease (κs .1 .1 .1 .0) (qs .1 .1 .1 .0)) (List._∷_ (Row.lease (κs .1 .1 .1 .1 .0) (qs .1 .1 .1 .1 .0)) (List._∷_ (Row.lease (κs .1 .1 .1 .1 .1 .0) (qs .1 .1 .1 .1 .1 .0)) (List._∷_ (Row.lease (κs .1 .1 .1 .1 .1 .1 .0) (qs .1 .1 .1 .1 .1 .1 .0)) (List._∷_ (Row.lease (κs .1 .1 .1 .1 .1 .1 .1 .0) (qs .1 .1 .1 .1 .1 .1 .1 .0)) (List._∷_ (Row.lease (κs .1 .1 .1 .1 .1 .1 .1 .1 .0) (qs .1 .1 .1 .1 .1 .1 .1 .1 .0)) (List._∷_ (Row.lease (κs .1 .1 .1 .1 .1 .1 .1 .1 .1 .0) (qs .1 .1 .1 .1 .1 .1 .1 .1 .1 .0)) (List._∷_ (Row.lease (κs .1 .1 .1 .1 .1 .1 .1 .1 .1 .1 .0) (qs .1 .1 .1 .1 .1 .1 .1 .1 .1 .1 .0)) (List._∷_ (Row.lease (κs .1 .1 .1 .1 .1 .1 .1 .1 .1 .1 .1 .0) (qs .1 .1 .1 .1 .1 .1 .1 .1 .1 .1 .1 .0)) (List._∷_ (Row.lease (κs .1 .1 .1 .1 .1 .1 .1 .1 .1 .1 .1 .1 .0) (qs .1 .1 .1 .1 .1 .1 .1 .1 .1 .1 .1 .1 .0)) (List._∷_ Row.off (List._∷_ Row.off (List._∷_ Row.dead List.[]))))))))))))))) }
 
         abbrev G52 : Row.Cx
-        G52 = record {
-          locals = List._++_ t3 t29;
-          slots = List._∷_ (Row.lease (κs .0) (qs .0)) (List._∷_ (Row.lease (κs .1 .0) (qs .1 .0)) (List._∷_ (Row.lease (κs .1 .1 .0) (qs .1 .1 .0)) (List._∷_ (Row.lease (κs .1 .1 .1 .0) (qs .1 .1 .1 .0)) (List._∷_ (Row.lease (κs .1 .1 .1 .1 .0) (qs .1 .1 .1 .1 .0)) (List._∷_
-              (Row.lease (κs .1 .1 .1 .1 .1 .0) (qs .1 .1 .1 .1 .1 .0)) (List._∷_ (Row.lease (κs .1 .1 .1 .1 .1 .1 .0) (qs .1 .1 .1 .1 .1 .1 .0)) (List._∷_ (Row.lease (κs .1 .1 .1 .1 .1 .1 .1 .0) (qs .1 .1 .1 .1 .1 .1 .1 .0)) (List._∷_ (Row.lease (κs .1 .1 .1 .1 .1 .1 .1 .1 .0) (qs .1 .1 .1 .1 .1 .1 .1 .1 .0)) (List._∷_
-              (Row.lease (κs .1 .1 .1 .1 .1 .1 .1 .1 .1 .0) (qs .1 .1 .1 .1 .1 .1 .1 .1 .1 .0)) (List._∷_ (Row.lease (κs .1 .1 .1 .1 .1 .1 .1 .1 .1 .1 .0) (qs .1 .1 .1 .1 .1 .1 .1 .1 .1 .1 .0)) (List._∷_ (Row.lease (κs .1 .1 .1 .1 .1 .1 .1 .1 .1 .1 .1 .0) (qs .1 .1 .1 .1 .1 .1 .1 .1 .1 .1 .1 .0)) (List._∷_ (Row.lease (κs .1 .1 .1 .1 .1 .1 .1 .1 .1 .1 .1 .1 .0)
-              (qs .1 .1 .1 .1 .1 .1 .1 .1 .1 .1 .1 .1 .0)) (List._∷_ Row.off (List._∷_ Row.off (List._∷_ Row.off List.[])))))))))))))));
-        }
+        G52 = record { locals = T51 .locals; slots = slots·0 }
 
         abbrev G53 : Row.Cx
-        G53 = record {
-          locals = List._++_ t3 t30;
-          slots = List._∷_ (Row.lease (κs .0) (qs .0)) (List._∷_ (Row.lease (κs .1 .0) (qs .1 .0)) (List._∷_ (Row.lease (κs .1 .1 .0) (qs .1 .1 .0)) (List._∷_ (Row.lease (κs .1 .1 .1 .0) (qs .1 .1 .1 .0)) (List._∷_ (Row.lease (κs .1 .1 .1 .1 .0) (qs .1 .1 .1 .1 .0)) (List._∷_
-              (Row.lease (κs .1 .1 .1 .1 .1 .0) (qs .1 .1 .1 .1 .1 .0)) (List._∷_ (Row.lease (κs .1 .1 .1 .1 .1 .1 .0) (qs .1 .1 .1 .1 .1 .1 .0)) (List._∷_ (Row.lease (κs .1 .1 .1 .1 .1 .1 .1 .0) (qs .1 .1 .1 .1 .1 .1 .1 .0)) (List._∷_ (Row.lease (κs .1 .1 .1 .1 .1 .1 .1 .1 .0) (qs .1 .1 .1 .1 .1 .1 .1 .1 .0)) (List._∷_
-              (Row.lease (κs .1 .1 .1 .1 .1 .1 .1 .1 .1 .0) (qs .1 .1 .1 .1 .1 .1 .1 .1 .1 .0)) (List._∷_ (Row.lease (κs .1 .1 .1 .1 .1 .1 .1 .1 .1 .1 .0) (qs .1 .1 .1 .1 .1 .1 .1 .1 .1 .1 .0)) (List._∷_ (Row.lease (κs .1 .1 .1 .1 .1 .1 .1 .1 .1 .1 .1 .0) (qs .1 .1 .1 .1 .1 .1 .1 .1 .1 .1 .1 .0)) (List._∷_ (Row.lease (κs .1 .1 .1 .1 .1 .1 .1 .1 .1 .1 .1 .1 .0)
-              (qs .1 .1 .1 .1 .1 .1 .1 .1 .1 .1 .1 .1 .0)) (List._∷_ Row.off (List._∷_ Row.off (List._∷_ Row.off List.[])))))))))))))));
-        }
+        G53 = record { locals = T53 .locals; slots = slots·0 }
 
         abbrev G54 : Row.Cx
-        G54 = record {
-          locals = List._++_ t3 t31;
-          slots = List._∷_ (Row.lease (κs .0) (qs .0)) (List._∷_ (Row.lease (κs .1 .0) (qs .1 .0)) (List._∷_ (Row.lease (κs .1 .1 .0) (qs .1 .1 .0)) (List._∷_ (Row.lease (κs .1 .1 .1 .0) (qs .1 .1 .1 .0)) (List._∷_ (Row.lease (κs .1 .1 .1 .1 .0) (qs .1 .1 .1 .1 .0)) (List._∷_
-              (Row.lease (κs .1 .1 .1 .1 .1 .0) (qs .1 .1 .1 .1 .1 .0)) (List._∷_ (Row.lease (κs .1 .1 .1 .1 .1 .1 .0) (qs .1 .1 .1 .1 .1 .1 .0)) (List._∷_ (Row.lease (κs .1 .1 .1 .1 .1 .1 .1 .0) (qs .1 .1 .1 .1 .1 .1 .1 .0)) (List._∷_ (Row.lease (κs .1 .1 .1 .1 .1 .1 .1 .1 .0) (qs .1 .1 .1 .1 .1 .1 .1 .1 .0)) (List._∷_
-              (Row.lease (κs .1 .1 .1 .1 .1 .1 .1 .1 .1 .0) (qs .1 .1 .1 .1 .1 .1 .1 .1 .1 .0)) (List._∷_ (Row.lease (κs .1 .1 .1 .1 .1 .1 .1 .1 .1 .1 .0) (qs .1 .1 .1 .1 .1 .1 .1 .1 .1 .1 .0)) (List._∷_ (Row.lease (κs .1 .1 .1 .1 .1 .1 .1 .1 .1 .1 .1 .0) (qs .1 .1 .1 .1 .1 .1 .1 .1 .1 .1 .1 .0)) (List._∷_ (Row.lease (κs .1 .1 .1 .1 .1 .1 .1 .1 .1 .1 .1 .1 .0)
-              (qs .1 .1 .1 .1 .1 .1 .1 .1 .1 .1 .1 .1 .0)) (List._∷_ Row.off (List._∷_ Row.off (List._∷_ Row.off List.[])))))))))))))));
-        }
-
-        abbrev G55 : Row.Cx
-        G55 = record {
-          locals = List._++_ t3 t31;
-          slots = List._∷_ (Row.lease (κs .0) (qs .0)) (List._∷_ (Row.lease (κs .1 .0) (qs .1 .0)) (List._∷_ (Row.lease (κs .1 .1 .0) (qs .1 .1 .0)) (List._∷_ (Row.lease (κs .1 .1 .1 .0) (qs .1 .1 .1 .0)) (List._∷_ (Row.lease (κs .1 .1 .1 .1 .0) (qs .1 .1 .1 .1 .0)) (List._∷_
-              (Row.lease (κs .1 .1 .1 .1 .1 .0) (qs .1 .1 .1 .1 .1 .0)) (List._∷_ (Row.lease (κs .1 .1 .1 .1 .1 .1 .0) (qs .1 .1 .1 .1 .1 .1 .0)) (List._∷_ (Row.lease (κs .1 .1 .1 .1 .1 .1 .1 .0) (qs .1 .1 .1 .1 .1 .1 .1 .0)) (List._∷_ (Row.lease (κs .1 .1 .1 .1 .1 .1 .1 .1 .0) (qs .1 .1 .1 .1 .1 .1 .1 .1 .0)) (List._∷_
-              (Row.lease (κs .1 .1 .1 .1 .1 .1 .1 .1 .1 .0) (qs .1 .1 .1 .1 .1 .1 .1 .1 .1 .0)) (List._∷_ (Row.lease (κs .1 .1 .1 .1 .1 .1 .1 .1 .1 .1 .0) (qs .1 .1 .1 .1 .1 .1 .1 .1 .1 .1 .0)) (List._∷_ (Row.lease (κs .1 .1 .1 .1 .1 .1 .1 .1 .1 .1 .1 .0) (qs .1 .1 .1 .1 .1 .1 .1 .1 .1 .1 .1 .0)) (List._∷_ (Row.lease (κs .1 .1 .1 .1 .1 .1 .1 .1 .1 .1 .1 .1 .0)
-              (qs .1 .1 .1 .1 .1 .1 .1 .1 .1 .1 .1 .1 .0)) (List._∷_ Row.off (List._∷_ Row.off (List._∷_ Row.off List.[])))))))))))))));
-        }
+        G54 = record { locals = T54 .locals; slots = slots·0 }
 
         abbrev G56 : Row.Cx
-        G56 = record {
-          locals = List._++_ t3 t32;
-          slots = List._∷_ (Row.lease (κs .0) (qs .0)) (List._∷_ (Row.lease (κs .1 .0) (qs .1 .0)) (List._∷_ (Row.lease (κs .1 .1 .0) (qs .1 .1 .0)) (List._∷_ (Row.lease (κs .1 .1 .1 .0) (qs .1 .1 .1 .0)) (List._∷_ (Row.lease (κs .1 .1 .1 .1 .0) (qs .1 .1 .1 .1 .0)) (List._∷_
-              (Row.lease (κs .1 .1 .1 .1 .1 .0) (qs .1 .1 .1 .1 .1 .0)) (List._∷_ (Row.lease (κs .1 .1 .1 .1 .1 .1 .0) (qs .1 .1 .1 .1 .1 .1 .0)) (List._∷_ (Row.lease (κs .1 .1 .1 .1 .1 .1 .1 .0) (qs .1 .1 .1 .1 .1 .1 .1 .0)) (List._∷_ (Row.lease (κs .1 .1 .1 .1 .1 .1 .1 .1 .0) (qs .1 .1 .1 .1 .1 .1 .1 .1 .0)) (List._∷_
-              (Row.lease (κs .1 .1 .1 .1 .1 .1 .1 .1 .1 .0) (qs .1 .1 .1 .1 .1 .1 .1 .1 .1 .0)) (List._∷_ (Row.lease (κs .1 .1 .1 .1 .1 .1 .1 .1 .1 .1 .0) (qs .1 .1 .1 .1 .1 .1 .1 .1 .1 .1 .0)) (List._∷_ (Row.lease (κs .1 .1 .1 .1 .1 .1 .1 .1 .1 .1 .1 .0) (qs .1 .1 .1 .1 .1 .1 .1 .1 .1 .1 .1 .0)) (List._∷_ (Row.lease (κs .1 .1 .1 .1 .1 .1 .1 .1 .1 .1 .1 .1 .0)
-              (qs .1 .1 .1 .1 .1 .1 .1 .1 .1 .1 .1 .1 .0)) (List._∷_ Row.off (List._∷_ Row.off (List._∷_ Row.off List.[])))))))))))))));
-        }
-
-        abbrev G57 : Row.Cx
-        G57 = record {
-          locals = List._++_ t3 t29;
-          slots = List._∷_ (Row.lease (κs .0) (qs .0)) (List._∷_ (Row.lease (κs .1 .0) (qs .1 .0)) (List._∷_ (Row.lease (κs .1 .1 .0) (qs .1 .1 .0)) (List._∷_ (Row.lease (κs .1 .1 .1 .0) (qs .1 .1 .1 .0)) (List._∷_ (Row.lease (κs .1 .1 .1 .1 .0) (qs .1 .1 .1 .1 .0)) (List._∷_
-              (Row.lease (κs .1 .1 .1 .1 .1 .0) (qs .1 .1 .1 .1 .1 .0)) (List._∷_ (Row.lease (κs .1 .1 .1 .1 .1 .1 .0) (qs .1 .1 .1 .1 .1 .1 .0)) (List._∷_ (Row.lease (κs .1 .1 .1 .1 .1 .1 .1 .0) (qs .1 .1 .1 .1 .1 .1 .1 .0)) (List._∷_ (Row.lease (κs .1 .1 .1 .1 .1 .1 .1 .1 .0) (qs .1 .1 .1 .1 .1 .1 .1 .1 .0)) (List._∷_
-              (Row.lease (κs .1 .1 .1 .1 .1 .1 .1 .1 .1 .0) (qs .1 .1 .1 .1 .1 .1 .1 .1 .1 .0)) (List._∷_ (Row.lease (κs .1 .1 .1 .1 .1 .1 .1 .1 .1 .1 .0) (qs .1 .1 .1 .1 .1 .1 .1 .1 .1 .1 .0)) (List._∷_ (Row.lease (κs .1 .1 .1 .1 .1 .1 .1 .1 .1 .1 .1 .0) (qs .1 .1 .1 .1 .1 .1 .1 .1 .1 .1 .1 .0)) (List._∷_ (Row.lease (κs .1 .1 .1 .1 .1 .1 .1 .1 .1 .1 .1 .1 .0)
-              (qs .1 .1 .1 .1 .1 .1 .1 .1 .1 .1 .1 .1 .0)) (List._∷_ Row.off (List._∷_ Row.off (List._∷_ Row.off List.[])))))))))))))));
-        }
-
-        abbrev G58 : Row.Cx
-        G58 = record {
-          locals = List._++_ t3 t30;
-          slots = List._∷_ (Row.lease (κs .0) (qs .0)) (List._∷_ (Row.lease (κs .1 .0) (qs .1 .0)) (List._∷_ (Row.lease (κs .1 .1 .0) (qs .1 .1 .0)) (List._∷_ (Row.lease (κs .1 .1 .1 .0) (qs .1 .1 .1 .0)) (List._∷_ (Row.lease (κs .1 .1 .1 .1 .0) (qs .1 .1 .1 .1 .0)) (List._∷_
-              (Row.lease (κs .1 .1 .1 .1 .1 .0) (qs .1 .1 .1 .1 .1 .0)) (List._∷_ (Row.lease (κs .1 .1 .1 .1 .1 .1 .0) (qs .1 .1 .1 .1 .1 .1 .0)) (List._∷_ (Row.lease (κs .1 .1 .1 .1 .1 .1 .1 .0) (qs .1 .1 .1 .1 .1 .1 .1 .0)) (List._∷_ (Row.lease (κs .1 .1 .1 .1 .1 .1 .1 .1 .0) (qs .1 .1 .1 .1 .1 .1 .1 .1 .0)) (List._∷_
-              (Row.lease (κs .1 .1 .1 .1 .1 .1 .1 .1 .1 .0) (qs .1 .1 .1 .1 .1 .1 .1 .1 .1 .0)) (List._∷_ (Row.lease (κs .1 .1 .1 .1 .1 .1 .1 .1 .1 .1 .0) (qs .1 .1 .1 .1 .1 .1 .1 .1 .1 .1 .0)) (List._∷_ (Row.lease (κs .1 .1 .1 .1 .1 .1 .1 .1 .1 .1 .1 .0) (qs .1 .1 .1 .1 .1 .1 .1 .1 .1 .1 .1 .0)) (List._∷_ (Row.lease (κs .1 .1 .1 .1 .1 .1 .1 .1 .1 .1 .1 .1 .0)
-              (qs .1 .1 .1 .1 .1 .1 .1 .1 .1 .1 .1 .1 .0)) (List._∷_ Row.off (List._∷_ Row.off (List._∷_ Row.off List.[])))))))))))))));
-        }
+        G56 = record { locals = T56 .locals; slots = slots·0 }
 
         abbrev G59 : Row.Cx
-        G59 = record {
-          locals = List._++_ t3 t33;
-          slots = List._∷_ (Row.lease (κs .0) (qs .0)) (List._∷_ (Row.lease (κs .1 .0) (qs .1 .0)) (List._∷_ (Row.lease (κs .1 .1 .0) (qs .1 .1 .0)) (List._∷_ (Row.lease (κs .1 .1 .1 .0) (qs .1 .1 .1 .0)) (List._∷_ (Row.lease (κs .1 .1 .1 .1 .0) (qs .1 .1 .1 .1 .0)) (List._∷_
-              (Row.lease (κs .1 .1 .1 .1 .1 .0) (qs .1 .1 .1 .1 .1 .0)) (List._∷_ (Row.lease (κs .1 .1 .1 .1 .1 .1 .0) (qs .1 .1 .1 .1 .1 .1 .0)) (List._∷_ (Row.lease (κs .1 .1 .1 .1 .1 .1 .1 .0) (qs .1 .1 .1 .1 .1 .1 .1 .0)) (List._∷_ (Row.lease (κs .1 .1 .1 .1 .1 .1 .1 .1 .0) (qs .1 .1 .1 .1 .1 .1 .1 .1 .0)) (List._∷_
-              (Row.lease (κs .1 .1 .1 .1 .1 .1 .1 .1 .1 .0) (qs .1 .1 .1 .1 .1 .1 .1 .1 .1 .0)) (List._∷_ (Row.lease (κs .1 .1 .1 .1 .1 .1 .1 .1 .1 .1 .0) (qs .1 .1 .1 .1 .1 .1 .1 .1 .1 .1 .0)) (List._∷_ (Row.lease (κs .1 .1 .1 .1 .1 .1 .1 .1 .1 .1 .1 .0) (qs .1 .1 .1 .1 .1 .1 .1 .1 .1 .1 .1 .0)) (List._∷_ (Row.lease (κs .1 .1 .1 .1 .1 .1 .1 .1 .1 .1 .1 .1 .0)
-              (qs .1 .1 .1 .1 .1 .1 .1 .1 .1 .1 .1 .1 .0)) (List._∷_ Row.off (List._∷_ Row.off (List._∷_ Row.off List.[])))))))))))))));
-        }
-
-        abbrev G60 : Row.Cx
-        G60 = record {
-          locals = List._++_ t3 t33;
-          slots = List._∷_ (Row.lease (κs .0) (qs .0)) (List._∷_ (Row.lease (κs .1 .0) (qs .1 .0)) (List._∷_ (Row.lease (κs .1 .1 .0) (qs .1 .1 .0)) (List._∷_ (Row.lease (κs .1 .1 .1 .0) (qs .1 .1 .1 .0)) (List._∷_ (Row.lease (κs .1 .1 .1 .1 .0) (qs .1 .1 .1 .1 .0)) (List._∷_
-              (Row.lease (κs .1 .1 .1 .1 .1 .0) (qs .1 .1 .1 .1 .1 .0)) (List._∷_ (Row.lease (κs .1 .1 .1 .1 .1 .1 .0) (qs .1 .1 .1 .1 .1 .1 .0)) (List._∷_ (Row.lease (κs .1 .1 .1 .1 .1 .1 .1 .0) (qs .1 .1 .1 .1 .1 .1 .1 .0)) (List._∷_ (Row.lease (κs .1 .1 .1 .1 .1 .1 .1 .1 .0) (qs .1 .1 .1 .1 .1 .1 .1 .1 .0)) (List._∷_
-              (Row.lease (κs .1 .1 .1 .1 .1 .1 .1 .1 .1 .0) (qs .1 .1 .1 .1 .1 .1 .1 .1 .1 .0)) (List._∷_ (Row.lease (κs .1 .1 .1 .1 .1 .1 .1 .1 .1 .1 .0) (qs .1 .1 .1 .1 .1 .1 .1 .1 .1 .1 .0)) (List._∷_ (Row.lease (κs .1 .1 .1 .1 .1 .1 .1 .1 .1 .1 .1 .0) (qs .1 .1 .1 .1 .1 .1 .1 .1 .1 .1 .1 .0)) (List._∷_ (Row.lease (κs .1 .1 .1 .1 .1 .1 .1 .1 .1 .1 .1 .1 .0)
-              (qs .1 .1 .1 .1 .1 .1 .1 .1 .1 .1 .1 .1 .0)) (List._∷_ Row.off (List._∷_ Row.off (List._∷_ Row.off List.[])))))))))))))));
-        }
+        G59 = record { locals = T59 .locals; slots = slots·0 }
 
         abbrev G61 : Row.Cx
-        G61 = record {
-          locals = List._++_ t3 t34;
-          slots = List._∷_ (Row.lease (κs .0) (qs .0)) (List._∷_ (Row.lease (κs .1 .0) (qs .1 .0)) (List._∷_ (Row.lease (κs .1 .1 .0) (qs .1 .1 .0)) (List._∷_ (Row.lease (κs .1 .1 .1 .0) (qs .1 .1 .1 .0)) (List._∷_ (Row.lease (κs .1 .1 .1 .1 .0) (qs .1 .1 .1 .1 .0)) (List._∷_
-              (Row.lease (κs .1 .1 .1 .1 .1 .0) (qs .1 .1 .1 .1 .1 .0)) (List._∷_ (Row.lease (κs .1 .1 .1 .1 .1 .1 .0) (qs .1 .1 .1 .1 .1 .1 .0)) (List._∷_ (Row.lease (κs .1 .1 .1 .1 .1 .1 .1 .0) (qs .1 .1 .1 .1 .1 .1 .1 .0)) (List._∷_ (Row.lease (κs .1 .1 .1 .1 .1 .1 .1 .1 .0) (qs .1 .1 .1 .1 .1 .1 .1 .1 .0)) (List._∷_
-              (Row.lease (κs .1 .1 .1 .1 .1 .1 .1 .1 .1 .0) (qs .1 .1 .1 .1 .1 .1 .1 .1 .1 .0)) (List._∷_ (Row.lease (κs .1 .1 .1 .1 .1 .1 .1 .1 .1 .1 .0) (qs .1 .1 .1 .1 .1 .1 .1 .1 .1 .1 .0)) (List._∷_ (Row.lease (κs .1 .1 .1 .1 .1 .1 .1 .1 .1 .1 .1 .0) (qs .1 .1 .1 .1 .1 .1 .1 .1 .1 .1 .1 .0)) (List._∷_ (Row.lease (κs .1 .1 .1 .1 .1 .1 .1 .1 .1 .1 .1 .1 .0)
-              (qs .1 .1 .1 .1 .1 .1 .1 .1 .1 .1 .1 .1 .0)) (List._∷_ Row.off (List._∷_ Row.off (List._∷_ Row.off List.[])))))))))))))));
-        }
+        G61 = record { locals = T61 .locals; slots = slots·0 }
 
         abbrev G62 : Row.Cx
-        G62 = record {
-          locals = List._++_ t3 t35;
-          slots = List._∷_ (Row.lease (κs .0) (qs .0)) (List._∷_ (Row.lease (κs .1 .0) (qs .1 .0)) (List._∷_ (Row.lease (κs .1 .1 .0) (qs .1 .1 .0)) (List._∷_ (Row.lease (κs .1 .1 .1 .0) (qs .1 .1 .1 .0)) (List._∷_ (Row.lease (κs .1 .1 .1 .1 .0) (qs .1 .1 .1 .1 .0)) (List._∷_
-              (Row.lease (κs .1 .1 .1 .1 .1 .0) (qs .1 .1 .1 .1 .1 .0)) (List._∷_ (Row.lease (κs .1 .1 .1 .1 .1 .1 .0) (qs .1 .1 .1 .1 .1 .1 .0)) (List._∷_ (Row.lease (κs .1 .1 .1 .1 .1 .1 .1 .0) (qs .1 .1 .1 .1 .1 .1 .1 .0)) (List._∷_ (Row.lease (κs .1 .1 .1 .1 .1 .1 .1 .1 .0) (qs .1 .1 .1 .1 .1 .1 .1 .1 .0)) (List._∷_
-              (Row.lease (κs .1 .1 .1 .1 .1 .1 .1 .1 .1 .0) (qs .1 .1 .1 .1 .1 .1 .1 .1 .1 .0)) (List._∷_ (Row.lease (κs .1 .1 .1 .1 .1 .1 .1 .1 .1 .1 .0) (qs .1 .1 .1 .1 .1 .1 .1 .1 .1 .1 .0)) (List._∷_ (Row.lease (κs .1 .1 .1 .1 .1 .1 .1 .1 .1 .1 .1 .0) (qs .1 .1 .1 .1 .1 .1 .1 .1 .1 .1 .1 .0)) (List._∷_ (Row.lease (κs .1 .1 .1 .1 .1 .1 .1 .1 .1 .1 .1 .1 .0)
-              (qs .1 .1 .1 .1 .1 .1 .1 .1 .1 .1 .1 .1 .0)) (List._∷_ Row.off (List._∷_ Row.off (List._∷_ Row.off List.[])))))))))))))));
-        }
-
-        abbrev G63 : Row.Cx
-        G63 = record {
-          locals = List._++_ t3 t1;
-          slots = List._∷_ (Row.lease (κs .0) (qs .0)) (List._∷_ (Row.lease (κs .1 .0) (qs .1 .0)) (List._∷_ (Row.lease (κs .1 .1 .0) (qs .1 .1 .0)) (List._∷_ (Row.lease (κs .1 .1 .1 .0) (qs .1 .1 .1 .0)) (List._∷_ (Row.lease (κs .1 .1 .1 .1 .0) (qs .1 .1 .1 .1 .0)) (List._∷_
-              (Row.lease (κs .1 .1 .1 .1 .1 .0) (qs .1 .1 .1 .1 .1 .0)) (List._∷_ (Row.lease (κs .1 .1 .1 .1 .1 .1 .0) (qs .1 .1 .1 .1 .1 .1 .0)) (List._∷_ (Row.lease (κs .1 .1 .1 .1 .1 .1 .1 .0) (qs .1 .1 .1 .1 .1 .1 .1 .0)) (List._∷_ (Row.lease (κs .1 .1 .1 .1 .1 .1 .1 .1 .0) (qs .1 .1 .1 .1 .1 .1 .1 .1 .0)) (List._∷_
-              (Row.lease (κs .1 .1 .1 .1 .1 .1 .1 .1 .1 .0) (qs .1 .1 .1 .1 .1 .1 .1 .1 .1 .0)) (List._∷_ (Row.lease (κs .1 .1 .1 .1 .1 .1 .1 .1 .1 .1 .0) (qs .1 .1 .1 .1 .1 .1 .1 .1 .1 .1 .0)) (List._∷_ (Row.lease (κs .1 .1 .1 .1 .1 .1 .1 .1 .1 .1 .1 .0) (qs .1 .1 .1 .1 .1 .1 .1 .1 .1 .1 .1 .0)) (List._∷_ (Row.lease (κs .1 .1 .1 .1 .1 .1 .1 .1 .1 .1 .1 .1 .0)
-              (qs .1 .1 .1 .1 .1 .1 .1 .1 .1 .1 .1 .1 .0)) (List._∷_ Row.off (List._∷_ Row.off (List._∷_ Row.off List.[])))))))))))))));
-        }
-
-        abbrev G64 : Row.Cx
-        G64 = record {
-          locals = List._++_ t3 t1;
-          slots = List._∷_ (Row.lease (κs .0) (qs .0)) (List._∷_ (Row.lease (κs .1 .0) (qs .1 .0)) (List._∷_ (Row.lease (κs .1 .1 .0) (qs .1 .1 .0)) (List._∷_ (Row.lease (κs .1 .1 .1 .0) (qs .1 .1 .1 .0)) (List._∷_ (Row.lease (κs .1 .1 .1 .1 .0) (qs .1 .1 .1 .1 .0)) (List._∷_
-              (Row.lease (κs .1 .1 .1 .1 .1 .0) (qs .1 .1 .1 .1 .1 .0)) (List._∷_ (Row.lease (κs .1 .1 .1 .1 .1 .1 .0) (qs .1 .1 .1 .1 .1 .1 .0)) (List._∷_ (Row.lease (κs .1 .1 .1 .1 .1 .1 .1 .0) (qs .1 .1 .1 .1 .1 .1 .1 .0)) (List._∷_ (Row.lease (κs .1 .1 .1 .1 .1 .1 .1 .1 .0) (qs .1 .1 .1 .1 .1 .1 .1 .1 .0)) (List._∷_
-              (Row.lease (κs .1 .1 .1 .1 .1 .1 .1 .1 .1 .0) (qs .1 .1 .1 .1 .1 .1 .1 .1 .1 .0)) (List._∷_ (Row.lease (κs .1 .1 .1 .1 .1 .1 .1 .1 .1 .1 .0) (qs .1 .1 .1 .1 .1 .1 .1 .1 .1 .1 .0)) (List._∷_ (Row.lease (κs .1 .1 .1 .1 .1 .1 .1 .1 .1 .1 .1 .0) (qs .1 .1 .1 .1 .1 .1 .1 .1 .1 .1 .1 .0)) (List._∷_ (Row.lease (κs .1 .1 .1 .1 .1 .1 .1 .1 .1 .1 .1 .1 .0)
-              (qs .1 .1 .1 .1 .1 .1 .1 .1 .1 .1 .1 .1 .0)) (List._∷_ Row.off (List._∷_ Row.off (List._∷_ Row.off List.[])))))))))))))));
-        }
+        G62 = record { locals = T62 .locals; slots = slots·0 }
 
         abbrev G65 : Row.Cx
-        G65 = record {
-          locals = List._++_ t36 t1;
-          slots = List._∷_ (Row.lease (κs .0) (qs .0)) (List._∷_ (Row.lease (κs .1 .0) (qs .1 .0)) (List._∷_ (Row.lease (κs .1 .1 .0) (qs .1 .1 .0)) (List._∷_ (Row.lease (κs .1 .1 .1 .0) (qs .1 .1 .1 .0)) (List._∷_ (Row.lease (κs .1 .1 .1 .1 .0) (qs .1 .1 .1 .1 .0)) (List._∷_
-              (Row.lease (κs .1 .1 .1 .1 .1 .0) (qs .1 .1 .1 .1 .1 .0)) (List._∷_ (Row.lease (κs .1 .1 .1 .1 .1 .1 .0) (qs .1 .1 .1 .1 .1 .1 .0)) (List._∷_ (Row.lease (κs .1 .1 .1 .1 .1 .1 .1 .0) (qs .1 .1 .1 .1 .1 .1 .1 .0)) (List._∷_ (Row.lease (κs .1 .1 .1 .1 .1 .1 .1 .1 .0) (qs .1 .1 .1 .1 .1 .1 .1 .1 .0)) (List._∷_
-              (Row.lease (κs .1 .1 .1 .1 .1 .1 .1 .1 .1 .0) (qs .1 .1 .1 .1 .1 .1 .1 .1 .1 .0)) (List._∷_ (Row.lease (κs .1 .1 .1 .1 .1 .1 .1 .1 .1 .1 .0) (qs .1 .1 .1 .1 .1 .1 .1 .1 .1 .1 .0)) (List._∷_ (Row.lease (κs .1 .1 .1 .1 .1 .1 .1 .1 .1 .1 .1 .0) (qs .1 .1 .1 .1 .1 .1 .1 .1 .1 .1 .1 .0)) (List._∷_ (Row.lease (κs .1 .1 .1 .1 .1 .1 .1 .1 .1 .1 .1 .1 .0)
-              (qs .1 .1 .1 .1 .1 .1 .1 .1 .1 .1 .1 .1 .0)) (List._∷_ Row.off (List._∷_ Row.off (List._∷_ Row.off List.[])))))))))))))));
-        }
+        G65 = record { locals = T65 .locals; slots = slots·0 }
 
         abbrev G66 : Row.Cx
-        G66 = record {
-          locals = List._++_ t37 t1;
-          slots = List._∷_ (Row.lease (κs .0) (qs .0)) (List._∷_ (Row.lease (κs .1 .0) (qs .1 .0)) (List._∷_ (Row.lease (κs .1 .1 .0) (qs .1 .1 .0)) (List._∷_ (Row.lease (κs .1 .1 .1 .0) (qs .1 .1 .1 .0)) (List._∷_ (Row.lease (κs .1 .1 .1 .1 .0) (qs .1 .1 .1 .1 .0)) (List._∷_
-              (Row.lease (κs .1 .1 .1 .1 .1 .0) (qs .1 .1 .1 .1 .1 .0)) (List._∷_ (Row.lease (κs .1 .1 .1 .1 .1 .1 .0) (qs .1 .1 .1 .1 .1 .1 .0)) (List._∷_ (Row.lease (κs .1 .1 .1 .1 .1 .1 .1 .0) (qs .1 .1 .1 .1 .1 .1 .1 .0)) (List._∷_ (Row.lease (κs .1 .1 .1 .1 .1 .1 .1 .1 .0) (qs .1 .1 .1 .1 .1 .1 .1 .1 .0)) (List._∷_
-              (Row.lease (κs .1 .1 .1 .1 .1 .1 .1 .1 .1 .0) (qs .1 .1 .1 .1 .1 .1 .1 .1 .1 .0)) (List._∷_ (Row.lease (κs .1 .1 .1 .1 .1 .1 .1 .1 .1 .1 .0) (qs .1 .1 .1 .1 .1 .1 .1 .1 .1 .1 .0)) (List._∷_ (Row.lease (κs .1 .1 .1 .1 .1 .1 .1 .1 .1 .1 .1 .0) (qs .1 .1 .1 .1 .1 .1 .1 .1 .1 .1 .1 .0)) (List._∷_ (Row.lease (κs .1 .1 .1 .1 .1 .1 .1 .1 .1 .1 .1 .1 .0)
-              (qs .1 .1 .1 .1 .1 .1 .1 .1 .1 .1 .1 .1 .0)) (List._∷_ Row.off (List._∷_ Row.off (List._∷_ Row.off List.[])))))))))))))));
-        }
-
-        abbrev G67 : Row.Cx
-        G67 = record {
-          locals = List._++_ t2 t1;
-          slots = List._∷_ (Row.lease (κs .0) (qs .0)) (List._∷_ (Row.lease (κs .1 .0) (qs .1 .0)) (List._∷_ (Row.lease (κs .1 .1 .0) (qs .1 .1 .0)) (List._∷_ (Row.lease (κs .1 .1 .1 .0) (qs .1 .1 .1 .0)) (List._∷_ (Row.lease (κs .1 .1 .1 .1 .0) (qs .1 .1 .1 .1 .0)) (List._∷_
-              (Row.lease (κs .1 .1 .1 .1 .1 .0) (qs .1 .1 .1 .1 .1 .0)) (List._∷_ (Row.lease (κs .1 .1 .1 .1 .1 .1 .0) (qs .1 .1 .1 .1 .1 .1 .0)) (List._∷_ (Row.lease (κs .1 .1 .1 .1 .1 .1 .1 .0) (qs .1 .1 .1 .1 .1 .1 .1 .0)) (List._∷_ (Row.lease (κs .1 .1 .1 .1 .1 .1 .1 .1 .0) (qs .1 .1 .1 .1 .1 .1 .1 .1 .0)) (List._∷_
-              (Row.lease (κs .1 .1 .1 .1 .1 .1 .1 .1 .1 .0) (qs .1 .1 .1 .1 .1 .1 .1 .1 .1 .0)) (List._∷_ (Row.lease (κs .1 .1 .1 .1 .1 .1 .1 .1 .1 .1 .0) (qs .1 .1 .1 .1 .1 .1 .1 .1 .1 .1 .0)) (List._∷_ (Row.lease (κs .1 .1 .1 .1 .1 .1 .1 .1 .1 .1 .1 .0) (qs .1 .1 .1 .1 .1 .1 .1 .1 .1 .1 .1 .0)) (List._∷_ (Row.lease (κs .1 .1 .1 .1 .1 .1 .1 .1 .1 .1 .1 .1 .0)
-              (qs .1 .1 .1 .1 .1 .1 .1 .1 .1 .1 .1 .1 .0)) (List._∷_ Row.off (List._∷_ Row.off (List._∷_ Row.off List.[])))))))))))))));
-        }
+        G66 = record { locals = T66 .locals; slots = slots·0 }
 
         abbrev Δ0 : Typed.Outs
         Δ0 = record { next = Option.none; exits = List.[]; returns = Option.some G1 }
 
         abbrev Δ1 : Typed.Outs
-        Δ1 = Typed.withNext (Option.some G15) Δ0
+        Δ1 = Typed.withNext (Option.some G14) Δ0
 
         abbrev Δ2 : Typed.Outs
         Δ2 = Typed.inBlock₀ Δ1
@@ -2022,444 +1247,162 @@ module _ (claims· : Claims) where
         Δ3 = Typed.inLoop₀ G14 Δ2
 
         abbrev Δ4 : Typed.Outs
-        Δ4 = Typed.withNext (Option.some G17) Δ3
+        Δ4 = Typed.withNext (Option.some G14) Δ3
 
         module _ {M : Type 1} (𝓤 : URA.URA M) (H : Wp.Heap 𝓤) (A : Atoms.Atoms 𝓤) (W : Kit.Given 𝓤 H A) (𝓣 : Wp.Tables 𝓤 H) (known : Knowns 𝓤 H A W 𝓣) (bs : List.List Nat.ℕ) (bd : Lifetimes.AllOutlive 13 (Kinds.osR r) κs) where
           abbrev E : Wp.Env 𝓤 H
           E = Frame.EnvOf 𝓤 H (List._∷_ (Kinds.tyR r) (Enter.tysP ps xs)) bs
 
-          d0 : Typed.Typed 𝓤 H A 𝓣 E G18 b2 Δ4 at0
+          d0 : Typed.Typed 𝓤 H A 𝓣 E G14 b2 Δ4 at0
           d0 = Typed.t-skip 𝓤 H A W 𝓣 E Δ4 tt
 
-          d1 : Typed.Typed 𝓤 H A 𝓣 E G16 b2 Δ4 at1
-          d1 = Typed.g-pre 𝓤 H A W 𝓣 E G16 G18 b2 Δ4 (Typed.pass T16 T18 s14) at0 (Scalar.g-room 𝓤 H A W E G16 17 Syntax.tyBool (Scalar.room-sc 𝓤 H A W Row.sBool)) d0
-
-          d2 : Typed.Typed 𝓤 H A 𝓣 E G19 b3 Δ4 at2
+          d2 : Typed.Typed 𝓤 H A 𝓣 E G14 b3 Δ4 at2
           d2 = Typed.t-exit 𝓤 H A W 𝓣 E 1 Δ4 tt
 
-          d3 : Typed.Typed 𝓤 H A 𝓣 E G16 b3 Δ4 at3
-          d3 = Typed.g-pre 𝓤 H A W 𝓣 E G16 G19 b3 Δ4 (Typed.pass T16 T19 s15) at2 (Scalar.g-room 𝓤 H A W E G16 17 Syntax.tyBool (Scalar.room-sc 𝓤 H A W Row.sBool)) d2
-
           d4 : Typed.Typed 𝓤 H A 𝓣 E G16 b4 Δ4 at4
-          d4 = Scalar.t-cond 𝓤 H A W E 𝓣 G16 17 (λ x. x) b2 b3 Δ4 at1 at3 (Scalar.reads-sc 𝓤 H A W Row.sBool) Path'.refl d1 d3
+          d4 = Scalar.t-cond 𝓤 H A W E 𝓣 G16 17 (λ x. x) b2 b3 Δ4 at1 at3 (Scalar.reads-sc 𝓤 H A W Row.sBool) Path'.refl (Typed.g-pre 𝓤 H A W 𝓣 E G16 G14 b2 Δ4 (Typed.pass T16 T14 s14) at0 (Scalar.g-room 𝓤 H A W E G16 17 Syntax.tyBool (Scalar.room-sc 𝓤 H A W Row.sBool)) d0) (Typed.g-pre 𝓤 H A W 𝓣 E G16 G14 b3 Δ4 (Typed.pass T16 T14 s15) at2 (Scalar.g-room 𝓤
+              H A W E G16 17 Syntax.tyBool (Scalar.room-sc 𝓤 H A W Row.sBool)) d2)
 
-          d5 : Typed.Typed 𝓤 H A 𝓣 E G63 b23 Δ3 at5
-          d5 = Typed.s-typed 𝓤 H A W 𝓣 E G63 b23 Δ3 (Typed.ask s60) tt (Scalar.t-op2 𝓤 H A W E 𝓣 G63 (Syntax.add Syntax.unsigned) (Scalar.oAt 15 (Syntax.tyInt Syntax.w64) (Row.valS (Row.sInt Syntax.w64))) (Scalar.oInt Syntax.w64 1) 15 (Rows.sc-here (Row.sInt Syntax.w64)) (Syntax.tyInt Syntax.w64) (Row.valS (Row.sInt Syntax.w64)) (Row.sInt Syntax.w64 .of)
+          d5 : Typed.Typed 𝓤 H A 𝓣 E G14 b23 Δ3 at5
+          d5 = Typed.s-typed 𝓤 H A W 𝓣 E G14 b23 Δ3 (Typed.ask s60) tt (Scalar.t-op2 𝓤 H A W E 𝓣 G14 (Syntax.add Syntax.unsigned) (Scalar.oAt 15 (Syntax.tyInt Syntax.w64) (Row.valS (Row.sInt Syntax.w64))) (Scalar.oInt Syntax.w64 1) 15 (Rows.sc-here (Row.sInt Syntax.w64)) (Syntax.tyInt Syntax.w64) (Row.valS (Row.sInt Syntax.w64)) (Row.sInt Syntax.w64 .of)
               (Scalar.reads-sc 𝓤 H A W (Row.sInt Syntax.w64), Path'.refl) tt (Scalar.room-sc 𝓤 H A W (Row.sInt Syntax.w64)) (Scalar.holds-sc 𝓤 H A W (Row.sInt Syntax.w64)) Path'.refl (λ u. Path'.refl) λ u. tt)
 
-          d6 : Typed.Typed 𝓤 H A 𝓣 E G62 b23 Δ3 at6
-          d6 = Typed.g-pre 𝓤 H A W 𝓣 E G62 G63 b23 Δ3 (Typed.pass T62 T63 s59) at5 (Scalar.g-room 𝓤 H A W E G62 30 Syntax.tyPtr (Scalar.room-sc 𝓤 H A W Row.sPtr)) d5
-
-          d7 : Typed.Typed 𝓤 H A 𝓣 E G61 b23 Δ3 at7
-          d7 = Typed.g-pre 𝓤 H A W 𝓣 E G61 G62 b23 Δ3 (Typed.pass T61 T62 s58) at6 (Scalar.g-room 𝓤 H A W E G61 26 (Syntax.tyInt Syntax.w64) (Scalar.room-sc 𝓤 H A W (Row.sInt Syntax.w64))) d6
-
-          d8 : Typed.Typed 𝓤 H A 𝓣 E G60 b23 Δ3 at8
-          d8 = Typed.g-pre 𝓤 H A W 𝓣 E G60 G61 b23 Δ3 (Typed.pass T60 T61 s57) at7 (Scalar.g-room 𝓤 H A W E G60 16 ty·16 (Local.room-whole 𝓤 H A W (Declared.row NumberedReply.the-type) ty·16 Path'.refl)) d7
-
           d9 : Typed.Typed 𝓤 H A 𝓣 E G59 b24 Δ3 at9
-          d9 = Typed.s-seq 𝓤 H A W 𝓣 E G59 G60 b22 b23 Δ3 (Typed.ask s56) at8 (Mut.t-sl-write 𝓤 H A W E 𝓣 (Referent.fInt Syntax.w32) G59 14 30 12 ty·15 (Row.lease (κs .1 .1 .1 .1 .1 .1 .1 .1 .1 .1 .1 .1 .0) (qs .1 .1 .1 .1 .1 .1 .1 .1 .1 .1 .1 .1 .0)) (Shared.bySize 4) (λ x. x) (λ x. x) (Scalar.oFld 16 (List._∷_ (Syntax.field 1) List.[])
-              (Syntax.tyInt Syntax.w32) 4 (Reads.fieldV NumberedReply.the-type Laws.the-laws 1)) (λ u. u .1 .1 .1 .1 .1 .1 .1 .1 .1 .1 .1 .1 .1 .1 .1 .0) (λ i o. Elements.at-mul o 4 i) (Reads'.as-is 𝓤 H A (Mut.mslice (Referent.rtF (Referent.fInt Syntax.w32)) ty·15 12)) (Reads'.as-is 𝓤 H A (Rows.sc-here Row.sPtr)) (
-                Reads.reads-field 𝓤 H A W
-                    NumberedReply.the-type Laws.the-laws 1 (Syntax.tyInt Syntax.w32) 4 Path'.refl,
-                Path'.refl,
-              ) Path'.refl tt Path'.refl λ u. Path'.refl) d8
+          d9 = Typed.s-seq 𝓤 H A W 𝓣 E G59 G59 b22 b23 Δ3 (Typed.ask s56) at8 (Mut.t-sl-write 𝓤 H A W E 𝓣 (Referent.fInt Syntax.w32) G59 14 30 12 ty·15 (Row.lease (κs .1 .1 .1 .1 .1 .1 .1 .1 .1 .1 .1 .1 .0) (qs .1 .1 .1 .1 .1 .1 .1 .1 .1 .1 .1 .1 .0)) (Shared.bySize 4) (λ x. x) (λ x. x) (Scalar.oFld 16 (List._∷_ (Syntax.field 1) List.[]) (Syntax.tyInt
+              Syntax.w32) 4 (Reads.fieldV NumberedReply.the-type Laws.the-laws 1)) (λ u. u .1 .1 .1 .1 .1 .1 .1 .1 .1 .1 .1 .1 .1 .1 .1 .0) (λ i o. Elements.at-mul o 4 i) (Reads'.as-is 𝓤 H A (Mut.mslice (Referent.rtF (Referent.fInt Syntax.w32)) ty·15 12)) (Reads'.as-is 𝓤 H A (Rows.sc-here Row.sPtr))
+              (Reads.reads-field 𝓤 H A W NumberedReply.the-type Laws.the-laws 1 (Syntax.tyInt Syntax.w32) 4 Path'.refl, Path'.refl) Path'.refl tt Path'.refl λ u. Path'.refl) (Typed.g-pre 𝓤 H A W 𝓣 E G59 G61 b23 Δ3 (Typed.pass T59 T61 s57) at7 (Scalar.g-room 𝓤 H A W E G59 16 ty·16 (Local.room-whole 𝓤 H A W (Declared.row NumberedReply.the-type) ty·16 Path'.refl))
+              (Typed.g-pre 𝓤 H A W 𝓣 E G61 G62 b23 Δ3 (Typed.pass T61 T62 s58) at6 (Scalar.g-room 𝓤 H A W E G61 26 (Syntax.tyInt Syntax.w64) (Scalar.room-sc 𝓤 H A W (Row.sInt Syntax.w64))) (Typed.g-pre 𝓤 H A W 𝓣 E G62 G14 b23 Δ3 (Typed.pass T62 T14 s59) at5 (Scalar.g-room 𝓤 H A W E G62 30 Syntax.tyPtr (Scalar.room-sc 𝓤 H A W Row.sPtr)) d5)))
 
-          d10 : Typed.Typed 𝓤 H A 𝓣 E G58 b25 Δ3 at10
-          d10 = Typed.s-seq 𝓤 H A W 𝓣 E G58 G59 b21 b24 Δ3 (Typed.ask s55) at9 (Scalar.t-op2 𝓤 H A W E 𝓣 G58 Syntax.offset (Scalar.oFld 14 (List._∷_ (Syntax.field 0) List.[]) ty·15 0 Reads'.ptrVal) (Scalar.oAt 26 (Syntax.tyInt Syntax.w64) (Row.valS (Row.sInt Syntax.w64))) 30 (Rows.sc-here Row.sPtr) Syntax.tyPtr (Row.valS Row.sPtr) (Row.sPtr .of) (
-            Mut.reads-mslice-ptr 𝓤 H A W (Referent.rtF (Referent.fInt Syntax.w32)) ty·15 12 0 Path'.refl,
-            Path'.refl,
-          ) (Scalar.reads-sc 𝓤 H A W (Row.sInt Syntax.w64), Path'.refl) (Reads'.room-gone 𝓤 H A Syntax.tyPtr) (Scalar.holds-sc 𝓤 H A W Row.sPtr) Path'.refl (λ u. Path'.refl) λ u. tt) d9
-
-          d11 : Typed.Typed 𝓤 H A 𝓣 E G57 b26 Δ3 at11
-          d11 = Typed.s-seq 𝓤 H A W 𝓣 E G57 G58 b20 b25 Δ3 (Typed.ask s54) at10 (Scalar.t-op2 𝓤 H A W E 𝓣 G57 (Syntax.mul Syntax.unsigned) (Scalar.oAt 15 (Syntax.tyInt Syntax.w64) (Row.valS (Row.sInt Syntax.w64))) (Scalar.oInt Syntax.w64 4) 26 (Rows.sc-here (Row.sInt Syntax.w64)) (Syntax.tyInt Syntax.w64) (Row.valS (Row.sInt Syntax.w64))
-              (Row.sInt Syntax.w64 .of) (Scalar.reads-sc 𝓤 H A W (Row.sInt Syntax.w64), Path'.refl) tt (Reads'.room-gone 𝓤 H A (Syntax.tyInt Syntax.w64)) (Scalar.holds-sc 𝓤 H A W (Row.sInt Syntax.w64)) Path'.refl (λ u. Path'.refl) λ u. tt) d10
-
-          d12 : Typed.Typed 𝓤 H A 𝓣 E G56 b26 Δ3 at12
-          d12 = Typed.g-pre 𝓤 H A W 𝓣 E G56 G57 b26 Δ3 (Typed.pass T56 T57 s53) at11 (Scalar.g-room 𝓤 H A W E G56 29 Syntax.tyPtr (Scalar.room-sc 𝓤 H A W Row.sPtr)) d11
-
-          d13 : Typed.Typed 𝓤 H A 𝓣 E G55 b26 Δ3 at13
-          d13 = Typed.g-pre 𝓤 H A W 𝓣 E G55 G56 b26 Δ3 (Typed.pass T55 T56 s52) at12 (Scalar.g-room 𝓤 H A W E G55 26 (Syntax.tyInt Syntax.w64) (Scalar.room-sc 𝓤 H A W (Row.sInt Syntax.w64))) d12
+          d11 : Typed.Typed 𝓤 H A 𝓣 E G52 b26 Δ3 at11
+          d11 = Typed.s-seq 𝓤 H A W 𝓣 E G52 G53 b20 b25 Δ3 (Typed.ask s54) at10 (Scalar.t-op2 𝓤 H A W E 𝓣 G52 (Syntax.mul Syntax.unsigned) (Scalar.oAt 15 (Syntax.tyInt Syntax.w64) (Row.valS (Row.sInt Syntax.w64))) (Scalar.oInt Syntax.w64 4) 26 (Rows.sc-here (Row.sInt Syntax.w64)) (Syntax.tyInt Syntax.w64) (Row.valS (Row.sInt Syntax.w64)) (Row.sInt Syntax.w64
+              .of) (Scalar.reads-sc 𝓤 H A W (Row.sInt Syntax.w64), Path'.refl) tt (Reads'.room-gone 𝓤 H A (Syntax.tyInt Syntax.w64)) (Scalar.holds-sc 𝓤 H A W (Row.sInt Syntax.w64)) Path'.refl (λ u. Path'.refl) λ u. tt) (Typed.s-seq 𝓤 H A W 𝓣 E G53 G59 b21 b24 Δ3 (Typed.ask s55) at9 (Scalar.t-op2 𝓤 H A W E 𝓣 G53 Syntax.offset (Scalar.oFld 14 (List._∷_
+              (Syntax.field 0) List.[]) ty·15 0 Reads'.ptrVal) (Scalar.oAt 26 (Syntax.tyInt Syntax.w64) (Row.valS (Row.sInt Syntax.w64))) 30 (Rows.sc-here Row.sPtr) Syntax.tyPtr (Row.valS Row.sPtr) (Row.sPtr .of) (Mut.reads-mslice-ptr 𝓤 H A W (Referent.rtF (Referent.fInt Syntax.w32)) ty·15 12 0 Path'.refl, Path'.refl)
+              (Scalar.reads-sc 𝓤 H A W (Row.sInt Syntax.w64), Path'.refl) (Reads'.room-gone 𝓤 H A Syntax.tyPtr) (Scalar.holds-sc 𝓤 H A W Row.sPtr) Path'.refl (λ u. Path'.refl) λ u. tt) d9)
 
           d14 : Typed.Typed 𝓤 H A 𝓣 E G54 b27 Δ3 at14
-          d14 = Typed.s-seq 𝓤 H A W 𝓣 E G54 G55 b19 b26 Δ3 (Typed.ask s51) at13 (Mut.t-sl-write 𝓤 H A W E 𝓣 (Referent.fInt Syntax.w16) G54 13 29 11 ty·14 (Row.lease (κs .1 .1 .1 .1 .1 .1 .1 .1 .1 .1 .1 .0) (qs .1 .1 .1 .1 .1 .1 .1 .1 .1 .1 .1 .0)) (Shared.bySize 2) (λ x. x) (λ x. x) (Scalar.oFld 16 (List._∷_ (Syntax.field 0) List.[])
-              (Syntax.tyInt Syntax.w16) 0 (Reads.fieldV NumberedReply.the-type Laws.the-laws 0)) (λ u. u .1 .1 .1 .1 .1 .1 .1 .1 .1 .1 .1 .1 .1 .1 .1 .0) (λ i o. Elements.at-mul o 2 i) (Reads'.as-is 𝓤 H A (Mut.mslice (Referent.rtF (Referent.fInt Syntax.w16)) ty·14 11)) (Reads'.as-is 𝓤 H A (Rows.sc-here Row.sPtr)) (
-                Reads.reads-field 𝓤 H A W
-                    NumberedReply.the-type Laws.the-laws 0 (Syntax.tyInt Syntax.w16) 0 Path'.refl,
-                Path'.refl,
-              ) Path'.refl tt Path'.refl λ u. Path'.refl) d13
-
-          d15 : Typed.Typed 𝓤 H A 𝓣 E G53 b28 Δ3 at15
-          d15 = Typed.s-seq 𝓤 H A W 𝓣 E G53 G54 b18 b27 Δ3 (Typed.ask s50) at14 (Scalar.t-op2 𝓤 H A W E 𝓣 G53 Syntax.offset (Scalar.oFld 13 (List._∷_ (Syntax.field 0) List.[]) ty·14 0 Reads'.ptrVal) (Scalar.oAt 26 (Syntax.tyInt Syntax.w64) (Row.valS (Row.sInt Syntax.w64))) 29 (Rows.sc-here Row.sPtr) Syntax.tyPtr (Row.valS Row.sPtr) (Row.sPtr .of) (
-            Mut.reads-mslice-ptr 𝓤 H A W (Referent.rtF (Referent.fInt Syntax.w16)) ty·14 11 0 Path'.refl,
-            Path'.refl,
-          ) (Scalar.reads-sc 𝓤 H A W (Row.sInt Syntax.w64), Path'.refl) (Reads'.room-gone 𝓤 H A Syntax.tyPtr) (Scalar.holds-sc 𝓤 H A W Row.sPtr) Path'.refl (λ u. Path'.refl) λ u. tt) d14
+          d14 = Typed.s-seq 𝓤 H A W 𝓣 E G54 G54 b19 b26 Δ3 (Typed.ask s51) at13 (Mut.t-sl-write 𝓤 H A W E 𝓣 (Referent.fInt Syntax.w16) G54 13 29 11 ty·14 (Row.lease (κs .1 .1 .1 .1 .1 .1 .1 .1 .1 .1 .1 .0) (qs .1 .1 .1 .1 .1 .1 .1 .1 .1 .1 .1 .0)) (Shared.bySize 2) (λ x. x) (λ x. x) (Scalar.oFld 16 (List._∷_ (Syntax.field 0) List.[]) (Syntax.tyInt
+              Syntax.w16) 0 (Reads.fieldV NumberedReply.the-type Laws.the-laws 0)) (λ u. u .1 .1 .1 .1 .1 .1 .1 .1 .1 .1 .1 .1 .1 .1 .1 .0) (λ i o. Elements.at-mul o 2 i) (Reads'.as-is 𝓤 H A (Mut.mslice (Referent.rtF (Referent.fInt Syntax.w16)) ty·14 11)) (Reads'.as-is 𝓤 H A (Rows.sc-here Row.sPtr))
+              (Reads.reads-field 𝓤 H A W NumberedReply.the-type Laws.the-laws 0 (Syntax.tyInt Syntax.w16) 0 Path'.refl, Path'.refl) Path'.refl tt Path'.refl λ u. Path'.refl) (Typed.g-pre 𝓤 H A W 𝓣 E G54 G56 b26 Δ3 (Typed.pass T54 T56 s52) at12 (Scalar.g-room 𝓤 H A W E G54 26 (Syntax.tyInt Syntax.w64) (Scalar.room-sc 𝓤 H A W (Row.sInt Syntax.w64))) (Typed.g-pre 𝓤
+              H A W 𝓣 E G56 G52 b26 Δ3 (Typed.pass T56 T51 s53) at11 (Scalar.g-room 𝓤 H A W E G56 29 Syntax.tyPtr (Scalar.room-sc 𝓤 H A W Row.sPtr)) d11))
 
           d16 : Typed.Typed 𝓤 H A 𝓣 E G52 b29 Δ3 at16
-          d16 = Typed.s-seq 𝓤 H A W 𝓣 E G52 G53 b17 b28 Δ3 (Typed.ask s49) at15 (Scalar.t-op2 𝓤 H A W E 𝓣 G52 (Syntax.mul Syntax.unsigned) (Scalar.oAt 15 (Syntax.tyInt Syntax.w64) (Row.valS (Row.sInt Syntax.w64))) (Scalar.oInt Syntax.w64 2) 26 (Rows.sc-here (Row.sInt Syntax.w64)) (Syntax.tyInt Syntax.w64) (Row.valS (Row.sInt Syntax.w64))
-              (Row.sInt Syntax.w64 .of) (Scalar.reads-sc 𝓤 H A W (Row.sInt Syntax.w64), Path'.refl) tt (Reads'.room-gone 𝓤 H A (Syntax.tyInt Syntax.w64)) (Scalar.holds-sc 𝓤 H A W (Row.sInt Syntax.w64)) Path'.refl (λ u. Path'.refl) λ u. tt) d15
-
-          d17 : Typed.Typed 𝓤 H A 𝓣 E G51 b29 Δ3 at17
-          d17 = Typed.g-pre 𝓤 H A W 𝓣 E G51 G52 b29 Δ3 (λ Ψ. Ψ) at16 (Lifetime.g-forget 𝓤 H A W E G51 15 Row.dead Path'.refl) d16
-
-          d18 : Typed.Typed 𝓤 H A 𝓣 E G50 b29 Δ3 at18
-          d18 = Typed.g-pre 𝓤 H A W 𝓣 E G50 G51 b29 Δ3 (Typed.both s47) at17 (Relend.g-back-sl 𝓤 H A W E Rec.rt G50 23 9 8 15 ty·1 ty·0 (Row.lease (κs .1 .1 .1 .1 .1 .1 .1 .1 .0) (qs .1 .1 .1 .1 .1 .1 .1 .1 .0)) (λ x. x) (λ x. x) (Reads'.as-is 𝓤 H A (Mut.msleft Rec.rt ty·0)) (Reads'.as-is 𝓤 H A (Relend.mslice-owed Rec.rt ty·1 8 15
-              (Row.lease (κs .1 .1 .1 .1 .1 .1 .1 .1 .0) (qs .1 .1 .1 .1 .1 .1 .1 .1 .0)))) Path'.refl Path'.refl) d17
-
-          d19 : Typed.Typed 𝓤 H A 𝓣 E G49 b29 Δ3 at19
-          d19 = Typed.g-pre 𝓤 H A W 𝓣 E G49 G50 b29 Δ3 (λ Ψ. Ψ) at18 (Lifetime.g-end 𝓤 H A W E G49 15 Path'.refl) d18
-
-          d20 : Typed.Typed 𝓤 H A 𝓣 E G48 b29 Δ3 at20
-          d20 = Typed.g-pre 𝓤 H A W 𝓣 E G48 G49 b29 Δ3 (λ Ψ. Ψ) at19 (Lifetime.g-forget 𝓤 H A W E G48 14 Row.dead Path'.refl) d19
+          d16 = Typed.s-seq 𝓤 H A W 𝓣 E G52 G53 b17 b28 Δ3 (Typed.ask s49) at15 (Scalar.t-op2 𝓤 H A W E 𝓣 G52 (Syntax.mul Syntax.unsigned) (Scalar.oAt 15 (Syntax.tyInt Syntax.w64) (Row.valS (Row.sInt Syntax.w64))) (Scalar.oInt Syntax.w64 2) 26 (Rows.sc-here (Row.sInt Syntax.w64)) (Syntax.tyInt Syntax.w64) (Row.valS (Row.sInt Syntax.w64)) (Row.sInt Syntax.w64
+              .of) (Scalar.reads-sc 𝓤 H A W (Row.sInt Syntax.w64), Path'.refl) tt (Reads'.room-gone 𝓤 H A (Syntax.tyInt Syntax.w64)) (Scalar.holds-sc 𝓤 H A W (Row.sInt Syntax.w64)) Path'.refl (λ u. Path'.refl) λ u. tt) (Typed.s-seq 𝓤 H A W 𝓣 E G53 G54 b18 b27 Δ3 (Typed.ask s50) at14 (Scalar.t-op2 𝓤 H A W E 𝓣 G53 Syntax.offset (Scalar.oFld 13 (List._∷_
+              (Syntax.field 0) List.[]) ty·14 0 Reads'.ptrVal) (Scalar.oAt 26 (Syntax.tyInt Syntax.w64) (Row.valS (Row.sInt Syntax.w64))) 29 (Rows.sc-here Row.sPtr) Syntax.tyPtr (Row.valS Row.sPtr) (Row.sPtr .of) (Mut.reads-mslice-ptr 𝓤 H A W (Referent.rtF (Referent.fInt Syntax.w16)) ty·14 11 0 Path'.refl, Path'.refl)
+              (Scalar.reads-sc 𝓤 H A W (Row.sInt Syntax.w64), Path'.refl) (Reads'.room-gone 𝓤 H A Syntax.tyPtr) (Scalar.holds-sc 𝓤 H A W Row.sPtr) Path'.refl (λ u. Path'.refl) λ u. tt) d14)
 
           d21 : Typed.Typed 𝓤 H A 𝓣 E G47 b29 Δ3 at21
-          d21 = Typed.g-pre 𝓤 H A W 𝓣 E G47 G48 b29 Δ3 (Typed.give s44) at20 (Know.g-sl-known 𝓤 H A W (Referent.fInt Syntax.w8) E G47 8 7 ty·5 (Row.lease (κs .1 .1 .1 .1 .1 .1 .1 .0) (qs .1 .1 .1 .1 .1 .1 .1 .0)) 0 (λ x. x) record { fits = Dec'.lit< tt } (Reads'.as-is 𝓤 H A (Mut.mslice (Referent.rtF (Referent.fInt Syntax.w8)) ty·5 7)) Path'.refl tt) d20
-
-          d22 : Typed.Typed 𝓤 H A 𝓣 E G46 b29 Δ3 at22
-          d22 = Typed.g-pre 𝓤 H A W 𝓣 E G46 G47 b29 Δ3 (Typed.both s43) at21 (Relend.g-back-sl 𝓤 H A W E (Referent.rtF (Referent.fInt Syntax.w8)) G46 21 8 7 14 ty·5 ty·2 (Row.lease (κs .1 .1 .1 .1 .1 .1 .1 .0) (qs .1 .1 .1 .1 .1 .1 .1 .0)) (λ x. x) (λ x. x) (Reads'.as-is 𝓤 H A (Mut.msleft (Referent.rtF (Referent.fInt Syntax.w8)) ty·2)) (Reads'.as-is 𝓤 H A
-              (Relend.mslice-owed (Referent.rtF (Referent.fInt Syntax.w8)) ty·5 7 14 (Row.lease (κs .1 .1 .1 .1 .1 .1 .1 .0) (qs .1 .1 .1 .1 .1 .1 .1 .0)))) Path'.refl Path'.refl) d21
-
-          d23 : Typed.Typed 𝓤 H A 𝓣 E G45 b29 Δ3 at23
-          d23 = Typed.g-pre 𝓤 H A W 𝓣 E G45 G46 b29 Δ3 (λ Ψ. Ψ) at22 (Lifetime.g-end 𝓤 H A W E G45 14 Path'.refl) d22
-
-          d24 : Typed.Typed 𝓤 H A 𝓣 E G44 b29 Δ3 at24
-          d24 = Typed.g-pre 𝓤 H A W 𝓣 E G44 G45 b29 Δ3 (λ Ψ. Ψ) at23 (Lifetime.g-forget 𝓤 H A W E G44 13 Row.dead Path'.refl) d23
+          d21 = Typed.g-pre 𝓤 H A W 𝓣 E G47 G47 b29 Δ3 (Typed.give s44) at18 (Know.g-sl-known 𝓤 H A W (Referent.fInt Syntax.w8) E G47 8 7 ty·5 (Row.lease (κs .1 .1 .1 .1 .1 .1 .1 .0) (qs .1 .1 .1 .1 .1 .1 .1 .0)) 0 (λ x. x) record { fits = Dec'.lit< tt } (Reads'.as-is 𝓤 H A (Mut.mslice (Referent.rtF (Referent.fInt Syntax.w8)) ty·5 7)) Path'.refl tt)
+              (Typed.g-pre 𝓤 H A W 𝓣 E G47 G49 b29 Δ3 (λ Ψ. Ψ) at18 (Lifetime.g-forget 𝓤 H A W E G47 14 Row.dead Path'.refl) (Typed.g-pre 𝓤 H A W 𝓣 E G49 G50 b29 Δ3 (λ Ψ. Ψ) at18 (Lifetime.g-end 𝓤 H A W E G49 15 Path'.refl) (Typed.g-pre 𝓤 H A W 𝓣 E G50 G51 b29 Δ3 (Typed.both s47) at16 (Relend.g-back-sl 𝓤 H A W E Rec.rt G50 23 9 8 15 ty·1 ty·0 (Row.lease (κs .1
+              .1 .1 .1 .1 .1 .1 .1 .0) (qs .1 .1 .1 .1 .1 .1 .1 .1 .0)) (λ x. x) (λ x. x) (Reads'.as-is 𝓤 H A (Mut.msleft Rec.rt ty·0)) (Reads'.as-is 𝓤 H A (Relend.mslice-owed Rec.rt ty·1 8 15 (Row.lease (κs .1 .1 .1 .1 .1 .1 .1 .1 .0) (qs .1 .1 .1 .1 .1 .1 .1 .1 .0)))) Path'.refl Path'.refl) (Typed.g-pre 𝓤 H A W 𝓣 E G51 G52 b29 Δ3 (λ Ψ. Ψ) at16
+              (Lifetime.g-forget 𝓤 H A W E G51 15 Row.dead Path'.refl) d16))))
 
           d25 : Typed.Typed 𝓤 H A 𝓣 E G43 b29 Δ3 at25
-          d25 = Typed.g-pre 𝓤 H A W 𝓣 E G43 G44 b29 Δ3 (Typed.give s40) at24 (Know.g-sl-known 𝓤 H A W (Referent.fInt Syntax.w16) E G43 7 6 ty·12 (Row.lease (κs .1 .1 .1 .1 .1 .1 .0) (qs .1 .1 .1 .1 .1 .1 .0)) 0 (λ x. x) record { fits = Dec'.lit< tt } (Reads'.as-is 𝓤 H A (Mut.mslice (Referent.rtF (Referent.fInt Syntax.w16)) ty·12 6)) Path'.refl tt) d24
-
-          d26 : Typed.Typed 𝓤 H A 𝓣 E G42 b29 Δ3 at26
-          d26 = Typed.g-pre 𝓤 H A W 𝓣 E G42 G43 b29 Δ3 (Typed.both s39) at25 (Relend.g-back-sl 𝓤 H A W E (Referent.rtF (Referent.fInt Syntax.w16)) G42 19 7 6 13 ty·12 ty·3 (Row.lease (κs .1 .1 .1 .1 .1 .1 .0) (qs .1 .1 .1 .1 .1 .1 .0)) (λ x. x) (λ x. x) (Reads'.as-is 𝓤 H A (Mut.msleft (Referent.rtF (Referent.fInt Syntax.w16)) ty·3)) (Reads'.as-is 𝓤 H A
-              (Relend.mslice-owed (Referent.rtF (Referent.fInt Syntax.w16)) ty·12 6 13 (Row.lease (κs .1 .1 .1 .1 .1 .1 .0) (qs .1 .1 .1 .1 .1 .1 .0)))) Path'.refl Path'.refl) d25
-
-          d27 : Typed.Typed 𝓤 H A 𝓣 E G41 b29 Δ3 at27
-          d27 = Typed.g-pre 𝓤 H A W 𝓣 E G41 G42 b29 Δ3 (λ Ψ. Ψ) at26 (Lifetime.g-end 𝓤 H A W E G41 13 Path'.refl) d26
-
-          d28 : Typed.Typed 𝓤 H A 𝓣 E G40 b29 Δ3 at28
-          d28 = Typed.g-pre 𝓤 H A W 𝓣 E G40 G41 b29 Δ3 (Typed.pass T40 T41 s37) at27 (Scalar.g-room 𝓤 H A W E G40 28 (Syntax.tyInt Syntax.w16) (Scalar.room-sc 𝓤 H A W (Row.sInt Syntax.w16))) d27
+          d25 = Typed.g-pre 𝓤 H A W 𝓣 E G43 G43 b29 Δ3 (Typed.give s40) at22 (Know.g-sl-known 𝓤 H A W (Referent.fInt Syntax.w16) E G43 7 6 ty·12 (Row.lease (κs .1 .1 .1 .1 .1 .1 .0) (qs .1 .1 .1 .1 .1 .1 .0)) 0 (λ x. x) record { fits = Dec'.lit< tt } (Reads'.as-is 𝓤 H A (Mut.mslice (Referent.rtF (Referent.fInt Syntax.w16)) ty·12 6)) Path'.refl tt)
+              (Typed.g-pre 𝓤 H A W 𝓣 E G43 G45 b29 Δ3 (λ Ψ. Ψ) at22 (Lifetime.g-forget 𝓤 H A W E G43 13 Row.dead Path'.refl) (Typed.g-pre 𝓤 H A W 𝓣 E G45 G46 b29 Δ3 (λ Ψ. Ψ) at22 (Lifetime.g-end 𝓤 H A W E G45 14 Path'.refl) (Typed.g-pre 𝓤 H A W 𝓣 E G46 G47 b29 Δ3 (Typed.both s43) at21 (Relend.g-back-sl 𝓤 H A W E (Referent.rtF (Referent.fInt Syntax.w8)) G46 21 8
+              7 14 ty·5 ty·2 (Row.lease (κs .1 .1 .1 .1 .1 .1 .1 .0) (qs .1 .1 .1 .1 .1 .1 .1 .0)) (λ x. x) (λ x. x) (Reads'.as-is 𝓤 H A (Mut.msleft (Referent.rtF (Referent.fInt Syntax.w8)) ty·2)) (Reads'.as-is 𝓤 H A (Relend.mslice-owed (Referent.rtF (Referent.fInt Syntax.w8)) ty·5 7 14 (Row.lease (κs .1 .1 .1 .1 .1 .1 .1 .0) (qs .1 .1 .1 .1 .1 .1 .1 .0))))
+              Path'.refl Path'.refl) d21)))
 
           d29 : Typed.Typed 𝓤 H A 𝓣 E G39 b29 Δ3 at29
-          d29 = Typed.g-pre 𝓤 H A W 𝓣 E G39 G40 b29 Δ3 (Typed.pass T39 T40 s36) at28 (Scalar.g-room 𝓤 H A W E G39 25 (Syntax.tyInt Syntax.w8) (Scalar.room-sc 𝓤 H A W (Row.sInt Syntax.w8))) d28
+          d29 = Typed.g-pre 𝓤 H A W 𝓣 E G39 G40 b29 Δ3 (Typed.pass T39 T40 s36) at28 (Scalar.g-room 𝓤 H A W E G39 25 (Syntax.tyInt Syntax.w8) (Scalar.room-sc 𝓤 H A W (Row.sInt Syntax.w8))) (Typed.g-pre 𝓤 H A W 𝓣 E G40 G41 b29 Δ3 (Typed.pass T40 T41 s37) at26 (Scalar.g-room 𝓤 H A W E G40 28 (Syntax.tyInt Syntax.w16) (Scalar.room-sc 𝓤 H A W (Row.sInt
+              Syntax.w16))) (Typed.g-pre 𝓤 H A W 𝓣 E G41 G42 b29 Δ3 (λ Ψ. Ψ) at26 (Lifetime.g-end 𝓤 H A W E G41 13 Path'.refl) (Typed.g-pre 𝓤 H A W 𝓣 E G42 G43 b29 Δ3 (Typed.both s39) at25 (Relend.g-back-sl 𝓤 H A W E (Referent.rtF (Referent.fInt Syntax.w16)) G42 19 7 6 13 ty·12 ty·3 (Row.lease (κs .1 .1 .1 .1 .1 .1 .0) (qs .1 .1 .1 .1 .1 .1 .0)) (λ x. x) (λ x.
+              x) (Reads'.as-is 𝓤 H A (Mut.msleft (Referent.rtF (Referent.fInt Syntax.w16)) ty·3)) (Reads'.as-is 𝓤 H A (Relend.mslice-owed (Referent.rtF (Referent.fInt Syntax.w16)) ty·12 6 13 (Row.lease (κs .1 .1 .1 .1 .1 .1 .0) (qs .1 .1 .1 .1 .1 .1 .0)))) Path'.refl Path'.refl) d25)))
 
           d30 : Typed.Typed 𝓤 H A 𝓣 E G38 b30 Δ3 at30
-          d30 = Typed.s-seq 𝓤 H A W 𝓣 E G38 G39 b16 b29 Δ3 (Typed.both s35) at29 (Plain.t-call-plain 𝓤 H A W 𝓣 9 ps·0 r·0 (claims· .0) (claims· .1) "dispatch::requests::make_request" known E (λ pos β. β) G38 (
-            record { pos = 1; ty = Syntax.tyRef (Syntax.named 0) Syntax.imm (Syntax.tyInt Syntax.w16); ref = λ x. x },
-            (
-              record {
-                pos = 2;
-                ty = Syntax.tyRef (Syntax.named 1) Syntax.imm (Syntax.tyInt Syntax.w16);
-                ref = λ x. x;
-              },
-              (
-                record { pos = 3; ty = Syntax.tyRef (Syntax.named 2) Syntax.imm (Syntax.tyInt Syntax.w8); ref = λ x. x },
-                (
-                  record { pos = 4; ty = Syntax.tyRef (Syntax.named 3) Syntax.imm (Syntax.tyInt Syntax.w16); ref = λ x. x },
-                  (
-                    record {
-                      pos = 5;
-                      ty = Syntax.tyRef (Syntax.named 4) Syntax.imm (Syntax.tyInt Syntax.w16);
-                      ref = λ x. x;
-                    },
-                    (
-                      record { pos = 6; ty = Syntax.tyRef (Syntax.named 5) Syntax.imm (Syntax.tyInt Syntax.w32); ref = λ x. x },
-                      (
-                        record { pos = 19; ty = Syntax.tyRef Syntax.erased Syntax.mut (Syntax.tyInt Syntax.w16); ref = λ x. x },
-                        (
-                          record {
-                            pos = 21;
-                            ty = Syntax.tyRef
-                                Syntax.erased Syntax.mut (Syntax.tyInt Syntax.w8);
-                            ref = λ x. x;
-                          },
-                          (record { pos = 23; ty = Syntax.tyRef Syntax.erased Syntax.mut Rec.behind; ref = λ x. x }, (Num.vAt 25 λ x. x, (Num.vAt 28 λ x. x, tt))),
-                        ),
-                      ),
-                    ),
-                  ),
-                ),
-              ),
-            ),
-          ) 16 (List._∷_ 0 (List._∷_ 1 (List._∷_ 2 (List._∷_ 3
-              (List._∷_ 4 (List._∷_ 5 (List._∷_ 13 (List._∷_ 14 (List._∷_ 15 List.[]))))))))) (Call.sub-id 𝓤 H A W (G38 .slots)) (
-                ShrSlice.spares-sslice 𝓤 H A W (Referent.rtF (Referent.fInt Syntax.w16)) ty·7 0,
-                Shared.reads-sslice 𝓤 H A W (Referent.rtF (Referent.fInt Syntax.w16)) ty·7 0,
-                Path'.refl,
-                (
-                  ShrSlice.spares-sslice 𝓤 H A W
-                      (Referent.rtF (Referent.fInt Syntax.w16)) ty·8 1,
-                  Shared.reads-sslice 𝓤 H A W (Referent.rtF (Referent.fInt Syntax.w16)) ty·8 1,
-                  Path'.refl,
-                  (
-                    ShrSlice.spares-sslice 𝓤 H A W (Referent.rtF (Referent.fInt Syntax.w8)) ty·4 2,
-                    Shared.reads-sslice 𝓤 H A W (Referent.rtF (Referent.fInt Syntax.w8)) ty·4 2,
-                    Path'.refl,
-                    (
-                      ShrSlice.spares-sslice 𝓤 H A W
-                          (Referent.rtF (Referent.fInt Syntax.w16)) ty·9 3,
-                      Shared.reads-sslice 𝓤 H A W (Referent.rtF (Referent.fInt Syntax.w16)) ty·9 3,
-                      Path'.refl,
-                      (
-                        ShrSlice.spares-sslice 𝓤 H A W (Referent.rtF (Referent.fInt Syntax.w16)) ty·10 4,
-                        Shared.reads-sslice 𝓤 H A W (Referent.rtF (Referent.fInt Syntax.w16)) ty·10 4,
-                        Path'.refl,
-                        (
-                          ShrSlice.spares-sslice 𝓤 H A
-                              W (Referent.rtF (Referent.fInt Syntax.w32)) ty·11 5,
-                          Shared.reads-sslice 𝓤 H A W (Referent.rtF (Referent.fInt Syntax.w32)) ty·11 5,
-                          Path'.refl,
-                          (
-                            Reads'.as-is 𝓤 H A (Mut.mslice (Referent.rtF (Referent.fInt Syntax.w16)) ty·3 13),
-                            Mut.reads-mslice 𝓤 H A W (Referent.rtF (Referent.fInt Syntax.w16)) ty·3 13,
-                            Path'.refl,
-                            (
-                              Reads'.as-is 𝓤 H A
-                                  (Mut.mslice (Referent.rtF (Referent.fInt Syntax.w8)) ty·2 14),
-                              Mut.reads-mslice 𝓤 H A W (Referent.rtF (Referent.fInt Syntax.w8)) ty·2 14,
-                              Path'.refl,
-                              (
-                                Reads'.as-is 𝓤 H A (Mut.mslice Rec.rt ty·0 15),
-                                Mut.reads-mslice 𝓤 H A W Rec.rt ty·0 15,
-                                Path'.refl,
-                                (
-                                  (Scalar.reads-sc 𝓤 H A W (Row.sInt Syntax.w8), Path'.refl),
-                                  (
-                                    (Scalar.reads-sc 𝓤 H A W (Row.sInt Syntax.w16), Path'.refl),
-                                    tt,
-                                  ),
-                                ),
-                              ),
-                            ),
-                          ),
-                        ),
-                      ),
-                    ),
-                  ),
-                ),
-              ) (Reads'.room-gone 𝓤 H A ty·16) (tt, (tt, (tt, (tt, (tt, (tt, (tt, (tt, (tt, tt))))))))) Path'.refl) d29
+          d30 = Typed.s-seq 𝓤 H A W 𝓣 E G38 G39 b16 b29 Δ3 (Typed.both s35) at29 (Plain.t-call-plain 𝓤 H A W 𝓣 9 ps·0 r·0 (claims· .0) (claims· .1) "dispatch::requests::make_request" known E (λ pos β. β) G38
+              (record { pos = 1; ty = ty·7; ref = λ x. x }, (record { pos = 2; ty = ty·8; ref = λ x. x }, (record { pos = 3; ty = ty·4; ref = λ x. x }, (record { pos = 4; ty = ty·9; ref = λ x. x }, (record { pos = 5; ty = ty·10; ref = λ x. x }, (record { pos = 6; ty = ty·11; ref = λ x. x }, (record { pos = 19; ty = ty·3; ref = λ x. x }, (record { pos = 21; ty = ty·2; ref = λ x. x }, (record { pos = 23; ty = ty·0; ref = λ x. x }, (Num.vAt 25 λ x. x, (Num.vAt 28 λ x. x, tt)))))))))))
+              16 (List._∷_ 0 (List._∷_ 1 (List._∷_ 2 (List._∷_ 3 (List._∷_ 4 (List._∷_ 5 (List._∷_ 13 (List._∷_ 14 (List._∷_ 15 List.[]))))))))) (Call.sub-id 𝓤 H A W (G38 .slots))
+              (ShrSlice.spares-sslice 𝓤 H A W (Referent.rtF (Referent.fInt Syntax.w16)) ty·7 0, Shared.reads-sslice 𝓤 H A W (Referent.rtF (Referent.fInt Syntax.w16)) ty·7 0, Path'.refl, (ShrSlice.spares-sslice 𝓤 H A W (Referent.rtF (Referent.fInt Syntax.w16)) ty·8 1, Shared.reads-sslice 𝓤 H A W (Referent.rtF (Referent.fInt Syntax.w16)) ty·8 1, Path'.refl, (ShrSlice.spares-sslice 𝓤 H A W (Referent.rtF (Referent.fInt Syntax.w8)) ty·4 2, Shared.reads-sslice 𝓤 H A W (Referent.rtF (Referent.fInt Syntax.w8)) ty·4 2, Path'.refl, (ShrSlice.spares-sslice 𝓤 H A W (Referent.rtF (Referent.fInt Syntax.w16)) ty·9 3, Shared.reads-sslice 𝓤 H A W (Referent.rtF (Referent.fInt Syntax.w16)) ty·9 3, Path'.refl, (ShrSlice.spares-sslice 𝓤 H A W (Referent.rtF (Referent.fInt Syntax.w16)) ty·10 4, Shared.reads-sslice 𝓤 H A W (Referent.rtF (Referent.fInt Syntax.w16)) ty·10 4, Path'.refl, (ShrSlice.spares-sslice 𝓤 H A W (Referent.rtF (Referent.fInt Syntax.w32)) ty·11 5, Shared.reads-sslice 𝓤 H A W (Referent.rtF (Referent.fInt Syntax.w32)) ty·11 5, Path'.refl, (Reads'.as-is 𝓤 H A (Mut.mslice (Referent.rtF (Referent.fInt Syntax.w16)) ty·3 13), Mut.reads-mslice 𝓤 H A W (Referent.rtF (Referent.fInt Syntax.w16)) ty·3 13, Path'.refl, (Reads'.as-is 𝓤 H A (Mut.mslice (Referent.rtF (Referent.fInt Syntax.w8)) ty·2 14), Mut.reads-mslice 𝓤 H A W (Referent.rtF (Referent.fInt Syntax.w8)) ty·2 14, Path'.refl, (Reads'.as-is 𝓤 H A (Mut.mslice Rec.rt ty·0 15), Mut.reads-mslice 𝓤 H A W Rec.rt ty·0 15, Path'.refl, ((Scalar.reads-sc 𝓤 H A W (Row.sInt Syntax.w8), Path'.refl), ((Scalar.reads-sc 𝓤 H A W (Row.sInt Syntax.w16), Path'.refl), tt)))))))))))
+              (Reads'.room-gone 𝓤 H A ty·16) (tt, (tt, (tt, (tt, (tt, (tt, (tt, (tt, (tt, tt))))))))) Path'.refl) d29
 
-          d31 : Typed.Typed 𝓤 H A 𝓣 E G37 b30 Δ3 at31
-          d31 = Typed.g-pre 𝓤 H A W 𝓣 E G37 G38 b30 Δ3 (Typed.pass T37 T38 s34) at30 (Scalar.g-room 𝓤 H A W E G37 27 Syntax.tyPtr (Scalar.room-sc 𝓤 H A W Row.sPtr)) d30
-
-          d32 : Typed.Typed 𝓤 H A 𝓣 E G36 b30 Δ3 at32
-          d32 = Typed.g-pre 𝓤 H A W 𝓣 E G36 G37 b30 Δ3 (Typed.pass T36 T37 s33) at31 (Scalar.g-room 𝓤 H A W E G36 26 (Syntax.tyInt Syntax.w64) (Scalar.room-sc 𝓤 H A W (Row.sInt Syntax.w64))) d31
-
-          d33 : Typed.Typed 𝓤 H A 𝓣 E G35 b31 Δ3 at33
-          d33 = Typed.s-seq 𝓤 H A W 𝓣 E G35 G36 b15 b30 Δ3 (Typed.ask s32) at32 (Shared.t-shs-read 𝓤 H A W E 𝓣 (Referent.fInt Syntax.w16) G35 12 27 28 10 ty·13 (Row.lease (κs .1 .1 .1 .1 .1 .1 .1 .1 .1 .1 .0) (qs .1 .1 .1 .1 .1 .1 .1 .1 .1 .1 .0)) (Rows.sc-here (Row.sInt Syntax.w16)) (Shared.bySize 2) 0 (λ x. x) (λ x. x) (Row.valS (Row.sInt Syntax.w16))
-              (Row.sInt Syntax.w16 .of) (λ u. u .1 .1 .1 .1 .1 .1 .1 .1 .1 .1 .1 .1 .1 .1 .1 .0) (λ i o. Elements.at-mul o 2 i) (Reads'.as-is 𝓤 H A (Rows.sslice (Referent.rtF (Referent.fInt Syntax.w16)) ty·13 10)) (Reads'.as-is 𝓤 H A (Rows.sc-here Row.sPtr)) (Reads'.room-gone 𝓤 H A (Syntax.tyInt Syntax.w16)) (Scalar.holds-sc 𝓤 H A W (Row.sInt Syntax.w16))
-              (λ u. Path'.refl) Path'.refl tt Path'.refl Path'.refl) d32
-
-          d34 : Typed.Typed 𝓤 H A 𝓣 E G34 b31 Δ3 at34
-          d34 = Typed.g-pre 𝓤 H A W 𝓣 E G34 G35 b31 Δ3 (Typed.give s31) at33 (Know.g-shs-known 𝓤 H A W (Referent.fInt Syntax.w16) E G34 12 10 ty·13 (Row.lease (κs .1 .1 .1 .1 .1 .1 .1 .1 .1 .1 .0) (qs .1 .1 .1 .1 .1 .1 .1 .1 .1 .1 .0)) 0 (λ x. x) record { fits = Dec'.lit< tt } (Reads'.as-is 𝓤 H A (Rows.sslice (Referent.rtF (Referent.fInt Syntax.w16)) ty·13
-              10)) Path'.refl tt) d33
+          d33 : Typed.Typed 𝓤 H A 𝓣 E G34 b31 Δ3 at33
+          d33 = Typed.s-seq 𝓤 H A W 𝓣 E G34 G36 b15 b30 Δ3 (Typed.ask s32) at32 (Shared.t-shs-read 𝓤 H A W E 𝓣 (Referent.fInt Syntax.w16) G34 12 27 28 10 ty·13 (Row.lease (κs .1 .1 .1 .1 .1 .1 .1 .1 .1 .1 .0) (qs .1 .1 .1 .1 .1 .1 .1 .1 .1 .1 .0)) (Rows.sc-here (Row.sInt Syntax.w16)) (Shared.bySize 2) 0 (λ x. x) (λ x. x) (Row.valS (Row.sInt Syntax.w16))
+              (Row.sInt Syntax.w16 .of) (λ u. u .1 .1 .1 .1 .1 .1 .1 .1 .1 .1 .1 .1 .1 .1 .1 .0) (λ i o. Elements.at-mul o 2 i) (Reads'.as-is 𝓤 H A (Rows.sslice (Referent.rtF (Referent.fInt Syntax.w16)) ty·13 10)) (Reads'.as-is 𝓤 H A (Rows.sc-here Row.sPtr)) (Reads'.room-gone 𝓤 H A (Syntax.tyInt Syntax.w16)) (Scalar.holds-sc 𝓤 H A W (Row.sInt Syntax.w16)) (λ u.
+              Path'.refl) Path'.refl tt Path'.refl Path'.refl) (Typed.g-pre 𝓤 H A W 𝓣 E G36 G37 b30 Δ3 (Typed.pass T36 T37 s33) at31 (Scalar.g-room 𝓤 H A W E G36 26 (Syntax.tyInt Syntax.w64) (Scalar.room-sc 𝓤 H A W (Row.sInt Syntax.w64))) (Typed.g-pre 𝓤 H A W 𝓣 E G37 G38 b30 Δ3 (Typed.pass T37 T38 s34) at30 (Scalar.g-room 𝓤 H A W E G37 27 Syntax.tyPtr
+              (Scalar.room-sc 𝓤 H A W Row.sPtr)) d30))
 
           d35 : Typed.Typed 𝓤 H A 𝓣 E G33 b32 Δ3 at35
-          d35 = Typed.s-seq 𝓤 H A W 𝓣 E G33 G34 b14 b31 Δ3 (Typed.ask s30) at34 (Scalar.t-op2 𝓤 H A W E 𝓣 G33 Syntax.offset (Scalar.oFld 12 (List._∷_ (Syntax.field 0) List.[]) ty·13 0 Reads'.ptrVal) (Scalar.oAt 26 (Syntax.tyInt Syntax.w64) (Row.valS (Row.sInt Syntax.w64))) 27 (Rows.sc-here Row.sPtr) Syntax.tyPtr (Row.valS Row.sPtr) (Row.sPtr .of) (
-            Shared.reads-sslice-ptr 𝓤 H A W (Referent.rtF (Referent.fInt Syntax.w16)) ty·13 10 0 Path'.refl,
-            Path'.refl,
-          ) (Scalar.reads-sc 𝓤 H A W (Row.sInt Syntax.w64), Path'.refl) (Reads'.room-gone 𝓤 H A Syntax.tyPtr) (Scalar.holds-sc 𝓤 H A W Row.sPtr) Path'.refl (λ u. Path'.refl) λ u. tt) d34
+          d35 = Typed.s-seq 𝓤 H A W 𝓣 E G33 G34 b14 b31 Δ3 (Typed.ask s30) at34 (Scalar.t-op2 𝓤 H A W E 𝓣 G33 Syntax.offset (Scalar.oFld 12 (List._∷_ (Syntax.field 0) List.[]) ty·13 0 Reads'.ptrVal) (Scalar.oAt 26 (Syntax.tyInt Syntax.w64) (Row.valS (Row.sInt Syntax.w64))) 27 (Rows.sc-here Row.sPtr) Syntax.tyPtr (Row.valS Row.sPtr) (Row.sPtr .of)
+              (Shared.reads-sslice-ptr 𝓤 H A W (Referent.rtF (Referent.fInt Syntax.w16)) ty·13 10 0 Path'.refl, Path'.refl) (Scalar.reads-sc 𝓤 H A W (Row.sInt Syntax.w64), Path'.refl) (Reads'.room-gone 𝓤 H A Syntax.tyPtr) (Scalar.holds-sc 𝓤 H A W Row.sPtr) Path'.refl (λ u. Path'.refl) λ u. tt) (Typed.g-pre 𝓤 H A W 𝓣 E G34 G34 b31 Δ3 (Typed.give s31) at33
+              (Know.g-shs-known 𝓤 H A W (Referent.fInt Syntax.w16) E G34 12 10 ty·13 (Row.lease (κs .1 .1 .1 .1 .1 .1 .1 .1 .1 .1 .0) (qs .1 .1 .1 .1 .1 .1 .1 .1 .1 .1 .0)) 0 (λ x. x) record { fits = Dec'.lit< tt } (Reads'.as-is 𝓤 H A (Rows.sslice (Referent.rtF (Referent.fInt Syntax.w16)) ty·13 10)) Path'.refl tt) d33)
 
-          d36 : Typed.Typed 𝓤 H A 𝓣 E G32 b33 Δ3 at36
-          d36 = Typed.s-seq 𝓤 H A W 𝓣 E G32 G33 b13 b32 Δ3 (Typed.ask s29) at35 (Scalar.t-op2 𝓤 H A W E 𝓣 G32 (Syntax.mul Syntax.unsigned) (Scalar.oAt 15 (Syntax.tyInt Syntax.w64) (Row.valS (Row.sInt Syntax.w64))) (Scalar.oInt Syntax.w64 2) 26 (Rows.sc-here (Row.sInt Syntax.w64)) (Syntax.tyInt Syntax.w64) (Row.valS (Row.sInt Syntax.w64))
-              (Row.sInt Syntax.w64 .of) (Scalar.reads-sc 𝓤 H A W (Row.sInt Syntax.w64), Path'.refl) tt (Reads'.room-gone 𝓤 H A (Syntax.tyInt Syntax.w64)) (Scalar.holds-sc 𝓤 H A W (Row.sInt Syntax.w64)) Path'.refl (λ u. Path'.refl) λ u. tt) d35
-
-          d37 : Typed.Typed 𝓤 H A 𝓣 E G31 b33 Δ3 at37
-          d37 = Typed.g-pre 𝓤 H A W 𝓣 E G31 G32 b33 Δ3 (Typed.pass T31 T32 s28) at36 (Scalar.g-room 𝓤 H A W E G31 24 Syntax.tyPtr (Scalar.room-sc 𝓤 H A W Row.sPtr)) d36
-
-          d38 : Typed.Typed 𝓤 H A 𝓣 E G30 b34 Δ3 at38
-          d38 = Typed.s-seq 𝓤 H A W 𝓣 E G30 G31 b12 b33 Δ3 (Typed.ask s27) at37 (Shared.t-shs-read 𝓤 H A W E 𝓣 (Referent.fInt Syntax.w8) G30 11 24 25 9 ty·6 (Row.lease (κs .1 .1 .1 .1 .1 .1 .1 .1 .1 .0) (qs .1 .1 .1 .1 .1 .1 .1 .1 .1 .0)) (Rows.sc-here (Row.sInt Syntax.w8)) Shared.byByte 0 (λ x. x) (λ x. x) (Row.valS (Row.sInt Syntax.w8))
-              (Row.sInt Syntax.w8 .of) (λ u. u .1 .1 .1 .1 .1 .1 .1 .1 .1 .1 .1 .1 .1 .1 .1 .0) (λ i o. Elements.at-byte o i) (Reads'.as-is 𝓤 H A (Rows.sslice (Referent.rtF (Referent.fInt Syntax.w8)) ty·6 9)) (Reads'.as-is 𝓤 H A (Rows.sc-here Row.sPtr)) (Reads'.room-gone 𝓤 H A (Syntax.tyInt Syntax.w8)) (Scalar.holds-sc 𝓤 H A W (Row.sInt Syntax.w8))
-              (λ u. Path'.refl) Path'.refl tt Path'.refl Path'.refl) d37
-
-          d39 : Typed.Typed 𝓤 H A 𝓣 E G29 b34 Δ3 at39
-          d39 = Typed.g-pre 𝓤 H A W 𝓣 E G29 G30 b34 Δ3 (Typed.give s26) at38 (Know.g-shs-known 𝓤 H A W (Referent.fInt Syntax.w8) E G29 11 9 ty·6 (Row.lease (κs .1 .1 .1 .1 .1 .1 .1 .1 .1 .0) (qs .1 .1 .1 .1 .1 .1 .1 .1 .1 .0)) 0 (λ x. x) record { fits = Dec'.lit< tt } (Reads'.as-is 𝓤 H A (Rows.sslice (Referent.rtF (Referent.fInt Syntax.w8)) ty·6 9))
-              Path'.refl tt) d38
+          d38 : Typed.Typed 𝓤 H A 𝓣 E G29 b34 Δ3 at38
+          d38 = Typed.s-seq 𝓤 H A W 𝓣 E G29 G31 b12 b33 Δ3 (Typed.ask s27) at37 (Shared.t-shs-read 𝓤 H A W E 𝓣 (Referent.fInt Syntax.w8) G29 11 24 25 9 ty·6 (Row.lease (κs .1 .1 .1 .1 .1 .1 .1 .1 .1 .0) (qs .1 .1 .1 .1 .1 .1 .1 .1 .1 .0)) (Rows.sc-here (Row.sInt Syntax.w8)) Shared.byByte 0 (λ x. x) (λ x. x) (Row.valS (Row.sInt Syntax.w8)) (Row.sInt Syntax.w8
+              .of) (λ u. u .1 .1 .1 .1 .1 .1 .1 .1 .1 .1 .1 .1 .1 .1 .1 .0) (λ i o. Elements.at-byte o i) (Reads'.as-is 𝓤 H A (Rows.sslice (Referent.rtF (Referent.fInt Syntax.w8)) ty·6 9)) (Reads'.as-is 𝓤 H A (Rows.sc-here Row.sPtr)) (Reads'.room-gone 𝓤 H A (Syntax.tyInt Syntax.w8)) (Scalar.holds-sc 𝓤 H A W (Row.sInt Syntax.w8)) (λ u. Path'.refl) Path'.refl tt
+              Path'.refl Path'.refl) (Typed.g-pre 𝓤 H A W 𝓣 E G31 G32 b33 Δ3 (Typed.pass T31 T32 s28) at36 (Scalar.g-room 𝓤 H A W E G31 24 Syntax.tyPtr (Scalar.room-sc 𝓤 H A W Row.sPtr)) (Typed.s-seq 𝓤 H A W 𝓣 E G32 G33 b13 b32 Δ3 (Typed.ask s29) at35 (Scalar.t-op2 𝓤 H A W E 𝓣 G32 (Syntax.mul Syntax.unsigned) (Scalar.oAt 15 (Syntax.tyInt Syntax.w64) (Row.valS
+              (Row.sInt Syntax.w64))) (Scalar.oInt Syntax.w64 2) 26 (Rows.sc-here (Row.sInt Syntax.w64)) (Syntax.tyInt Syntax.w64) (Row.valS (Row.sInt Syntax.w64)) (Row.sInt Syntax.w64 .of) (Scalar.reads-sc 𝓤 H A W (Row.sInt Syntax.w64), Path'.refl) tt (Reads'.room-gone 𝓤 H A (Syntax.tyInt Syntax.w64)) (Scalar.holds-sc 𝓤 H A W (Row.sInt Syntax.w64)) Path'.refl
+              (λ u. Path'.refl) λ u. tt) d35))
 
           d40 : Typed.Typed 𝓤 H A 𝓣 E G28 b35 Δ3 at40
-          d40 = Typed.s-seq 𝓤 H A W 𝓣 E G28 G29 b11 b34 Δ3 (Typed.ask s25) at39 (Scalar.t-op2 𝓤 H A W E 𝓣 G28 Syntax.offset (Scalar.oFld 11 (List._∷_ (Syntax.field 0) List.[]) ty·6 0 Reads'.ptrVal) (Scalar.oAt 15 (Syntax.tyInt Syntax.w64) (Row.valS (Row.sInt Syntax.w64))) 24 (Rows.sc-here Row.sPtr) Syntax.tyPtr (Row.valS Row.sPtr) (Row.sPtr .of) (
-            Shared.reads-sslice-ptr 𝓤 H A W (Referent.rtF (Referent.fInt Syntax.w8)) ty·6 9 0 Path'.refl,
-            Path'.refl,
-          ) (Scalar.reads-sc 𝓤 H A W (Row.sInt Syntax.w64), Path'.refl) (Reads'.room-gone 𝓤 H A Syntax.tyPtr) (Scalar.holds-sc 𝓤 H A W Row.sPtr) Path'.refl (λ u. Path'.refl) λ u. tt) d39
-
-          d41 : Typed.Typed 𝓤 H A 𝓣 E G27 b36 Δ3 at41
-          d41 = Typed.s-seq 𝓤 H A W 𝓣 E G27 G28 b10 b35 Δ3 (Typed.ask s24) at40 (Relend.t-sl-aggregate 𝓤 H A W E Rec.rt 𝓣 (Relend.asMut Rec.rt) G27 22 23 15 ty·0 ty·0 (λ x. x) (Scalar.oFld 9 (List._∷_ (Syntax.field 1) List.[]) (Syntax.tyInt Syntax.w64) 8 λ v. Shared.lenV (v .0)) (Reads'.as-is 𝓤 H A (Relend.msptr Rec.rt ty·0 15)) (Reads'.room-gone 𝓤 H A
-              (Syntax.tyStruct (List._∷_ 38 (List._∷_ 91 (List._∷_ 93 List.[]))) (Syntax.tcons ty·0 (Syntax.tcons (Syntax.tyInt Syntax.w64) Syntax.tnil)))) (Relend.reads-owed-len 𝓤 H A W Rec.rt ty·1 8 15 (Row.lease (κs .1 .1 .1 .1 .1 .1 .1 .1 .0) (qs .1 .1 .1 .1 .1 .1 .1 .1 .0)) 8 Path'.refl, Path'.refl) Path'.refl Path'.refl λ b o k. tt) d40
+          d40 = Typed.s-seq 𝓤 H A W 𝓣 E G28 G29 b11 b34 Δ3 (Typed.ask s25) at39 (Scalar.t-op2 𝓤 H A W E 𝓣 G28 Syntax.offset (Scalar.oFld 11 (List._∷_ (Syntax.field 0) List.[]) ty·6 0 Reads'.ptrVal) (Scalar.oAt 15 (Syntax.tyInt Syntax.w64) (Row.valS (Row.sInt Syntax.w64))) 24 (Rows.sc-here Row.sPtr) Syntax.tyPtr (Row.valS Row.sPtr) (Row.sPtr .of)
+              (Shared.reads-sslice-ptr 𝓤 H A W (Referent.rtF (Referent.fInt Syntax.w8)) ty·6 9 0 Path'.refl, Path'.refl) (Scalar.reads-sc 𝓤 H A W (Row.sInt Syntax.w64), Path'.refl) (Reads'.room-gone 𝓤 H A Syntax.tyPtr) (Scalar.holds-sc 𝓤 H A W Row.sPtr) Path'.refl (λ u. Path'.refl) λ u. tt) (Typed.g-pre 𝓤 H A W 𝓣 E G29 G29 b34 Δ3 (Typed.give s26) at38
+              (Know.g-shs-known 𝓤 H A W (Referent.fInt Syntax.w8) E G29 11 9 ty·6 (Row.lease (κs .1 .1 .1 .1 .1 .1 .1 .1 .1 .0) (qs .1 .1 .1 .1 .1 .1 .1 .1 .1 .0)) 0 (λ x. x) record { fits = Dec'.lit< tt } (Reads'.as-is 𝓤 H A (Rows.sslice (Referent.rtF (Referent.fInt Syntax.w8)) ty·6 9)) Path'.refl tt) d38)
 
           d42 : Typed.Typed 𝓤 H A 𝓣 E G26 b37 Δ3 at42
-          d42 = Typed.s-seq 𝓤 H A W 𝓣 E G26 G27 b9 b36 Δ3 (Typed.give s23) at41 (Relend.t-sl-relend 𝓤 H A W E Rec.rt 𝓣 G26 9 22 8 15 ty·1 ty·0 (Row.lease (κs .1 .1 .1 .1 .1 .1 .1 .1 .0) (qs .1 .1 .1 .1 .1 .1 .1 .1 .0)) 0 (λ x. x) (Reads'.as-is 𝓤 H A (Mut.mslice Rec.rt ty·1 8)) (Reads'.room-gone 𝓤 H A ty·0) Path'.refl tt Path'.refl Path'.refl Path'.refl
-              λ b o. tt) d41
-
-          d43 : Typed.Typed 𝓤 H A 𝓣 E G25 b37 Δ3 at43
-          d43 = Typed.g-pre 𝓤 H A W 𝓣 E G25 G26 b37 Δ3 (λ Ψ. Ψ) at42 (Lifetime.g-begin 𝓤 H A W E G25 15 (
-            tt,
-            (
-              tt,
-              (
-                tt,
-                (
-                  tt,
-                  (
-                    tt,
-                    (
-                      tt,
-                      (
-                        tt,
-                        (
-                          (tt, tt),
-                          (
-                            (tt, tt),
-                            (tt, (tt, (tt, (tt, (tt, (tt, (tt, (tt, (tt, (tt, (tt, (tt, (tt, (tt, (tt, (tt, (tt, (tt, (tt, (tt, (tt, (tt, tt)))))))))))))))))))))),
-                          ),
-                        ),
-                      ),
-                    ),
-                  ),
-                ),
-              ),
-            ),
-          )) d42
+          d42 = Typed.s-seq 𝓤 H A W 𝓣 E G26 G27 b9 b36 Δ3 (Typed.give s23) at41 (Relend.t-sl-relend 𝓤 H A W E Rec.rt 𝓣 G26 9 22 8 15 ty·1 ty·0 (Row.lease (κs .1 .1 .1 .1 .1 .1 .1 .1 .0) (qs .1 .1 .1 .1 .1 .1 .1 .1 .0)) 0 (λ x. x) (Reads'.as-is 𝓤 H A (Mut.mslice Rec.rt ty·1 8)) (Reads'.room-gone 𝓤 H A ty·0) Path'.refl tt Path'.refl Path'.refl Path'.refl λ b
+              o. tt) (Typed.s-seq 𝓤 H A W 𝓣 E G27 G28 b10 b35 Δ3 (Typed.ask s24) at40 (Relend.t-sl-aggregate 𝓤 H A W E Rec.rt 𝓣 (Relend.asMut Rec.rt) G27 22 23 15 ty·0 ty·0 (λ x. x) (Scalar.oFld 9 (List._∷_ (Syntax.field 1) List.[]) (Syntax.tyInt Syntax.w64) 8 λ v. Shared.lenV (v .0)) (Reads'.as-is 𝓤 H A (Relend.msptr Rec.rt ty·0 15)) (Reads'.room-gone 𝓤 H A
+              (Syntax.tyStruct (List._∷_ 38 (List._∷_ 91 (List._∷_ 93 List.[]))) (Syntax.tcons ty·0 (Syntax.tcons (Syntax.tyInt Syntax.w64) Syntax.tnil)))) (Relend.reads-owed-len 𝓤 H A W Rec.rt ty·1 8 15 (Row.lease (κs .1 .1 .1 .1 .1 .1 .1 .1 .0) (qs .1 .1 .1 .1 .1 .1 .1 .1 .0)) 8 Path'.refl, Path'.refl) Path'.refl Path'.refl λ b o k. tt) d40)
 
           d44 : Typed.Typed 𝓤 H A 𝓣 E G24 b38 Δ3 at44
-          d44 = Typed.s-seq 𝓤 H A W 𝓣 E G24 G25 b8 b37 Δ3 (Typed.ask s21) at43 (Relend.t-sl-aggregate 𝓤 H A W E (Referent.rtF (Referent.fInt Syntax.w8)) 𝓣 (Relend.asMut (Referent.rtF (Referent.fInt Syntax.w8))) G24 20 21 14 ty·2 ty·2 (λ x. x) (Scalar.oFld 8 (List._∷_ (Syntax.field 1) List.[]) (Syntax.tyInt Syntax.w64) 8 λ v. Shared.lenV (v .0)) (Reads'.as-is
-              𝓤 H A (Relend.msptr (Referent.rtF (Referent.fInt Syntax.w8)) ty·2 14)) (Reads'.room-gone 𝓤 H A (Syntax.tyStruct (List._∷_ 38 (List._∷_ 91 (List._∷_ 93 List.[]))) (Syntax.tcons ty·2 (Syntax.tcons (Syntax.tyInt Syntax.w64) Syntax.tnil)))) (
-                Relend.reads-owed-len 𝓤 H A W (Referent.rtF (Referent.fInt Syntax.w8)) ty·5 7 14
-                    (Row.lease (κs .1 .1 .1 .1 .1 .1 .1 .0) (qs .1 .1 .1 .1 .1 .1 .1 .0)) 8 Path'.refl,
-                Path'.refl,
-              ) Path'.refl Path'.refl λ b o k. tt) d43
-
-          d45 : Typed.Typed 𝓤 H A 𝓣 E G23 b39 Δ3 at45
-          d45 = Typed.s-seq 𝓤 H A W 𝓣 E G23 G24 b7 b38 Δ3 (Typed.give s20) at44 (Relend.t-sl-relend 𝓤 H A W E (Referent.rtF (Referent.fInt Syntax.w8)) 𝓣 G23 8 20 7 14 ty·5 ty·2 (Row.lease (κs .1 .1 .1 .1 .1 .1 .1 .0) (qs .1 .1 .1 .1 .1 .1 .1 .0)) 0 (λ x. x) (Reads'.as-is 𝓤 H A (Mut.mslice (Referent.rtF (Referent.fInt Syntax.w8)) ty·5 7)) (Reads'.room-gone 𝓤
-              H A ty·2) Path'.refl tt Path'.refl Path'.refl Path'.refl λ b o. tt) d44
-
-          d46 : Typed.Typed 𝓤 H A 𝓣 E G22 b39 Δ3 at46
-          d46 = Typed.g-pre 𝓤 H A W 𝓣 E G22 G23 b39 Δ3 (λ Ψ. Ψ) at45 (Lifetime.g-begin 𝓤 H A W E G22 14 (
-            tt,
-            (
-              tt,
-              (
-                tt,
-                (
-                  tt,
-                  (
-                    tt,
-                    (
-                      tt,
-                      (
-                        tt,
-                        ((tt, tt), (tt, (tt, (tt, (tt, (tt, (tt, (tt, (tt, (tt, (tt, (tt, (tt, (tt, (tt, (tt, (tt, (tt, (tt, (tt, (tt, (tt, (tt, (tt, tt)))))))))))))))))))))))),
-                      ),
-                    ),
-                  ),
-                ),
-              ),
-            ),
-          )) d45
+          d44 = Typed.s-seq 𝓤 H A W 𝓣 E G24 G25 b8 b37 Δ3 (Typed.ask s21) at42 (Relend.t-sl-aggregate 𝓤 H A W E (Referent.rtF (Referent.fInt Syntax.w8)) 𝓣 (Relend.asMut (Referent.rtF (Referent.fInt Syntax.w8))) G24 20 21 14 ty·2 ty·2 (λ x. x) (Scalar.oFld 8 (List._∷_ (Syntax.field 1) List.[]) (Syntax.tyInt Syntax.w64) 8 λ v. Shared.lenV (v .0)) (Reads'.as-is
+              𝓤 H A (Relend.msptr (Referent.rtF (Referent.fInt Syntax.w8)) ty·2 14)) (Reads'.room-gone 𝓤 H A (Syntax.tyStruct (List._∷_ 38 (List._∷_ 91 (List._∷_ 93 List.[]))) (Syntax.tcons ty·2 (Syntax.tcons (Syntax.tyInt Syntax.w64) Syntax.tnil))))
+              (Relend.reads-owed-len 𝓤 H A W (Referent.rtF (Referent.fInt Syntax.w8)) ty·5 7 14 (Row.lease (κs .1 .1 .1 .1 .1 .1 .1 .0) (qs .1 .1 .1 .1 .1 .1 .1 .0)) 8 Path'.refl, Path'.refl) Path'.refl Path'.refl λ b o k. tt) (Typed.g-pre 𝓤 H A W 𝓣 E G25 G26 b37 Δ3 (λ Ψ. Ψ) at42 (Lifetime.g-begin 𝓤 H A W E G25 15
+              (tt, (tt, (tt, (tt, (tt, (tt, (tt, ((tt, tt), ((tt, tt), (tt, (tt, (tt, (tt, (tt, (tt, (tt, (tt, (tt, (tt, (tt, (tt, (tt, (tt, (tt, (tt, (tt, (tt, (tt, (tt, (tt, (tt, tt)))))))))))))))))))))))))))))))) d42)
 
           d47 : Typed.Typed 𝓤 H A 𝓣 E G21 b40 Δ3 at47
-          d47 = Typed.s-seq 𝓤 H A W 𝓣 E G21 G22 b6 b39 Δ3 (Typed.ask s18) at46 (Relend.t-sl-aggregate 𝓤 H A W E (Referent.rtF (Referent.fInt Syntax.w16)) 𝓣 (Relend.asMut (Referent.rtF (Referent.fInt Syntax.w16))) G21 18 19 13 ty·3 ty·3 (λ x. x) (Scalar.oFld 7 (List._∷_ (Syntax.field 1) List.[]) (Syntax.tyInt Syntax.w64) 8 λ v. Shared.lenV (v .0))
-              (Reads'.as-is 𝓤 H A (Relend.msptr (Referent.rtF (Referent.fInt Syntax.w16)) ty·3 13)) (Reads'.room-gone 𝓤 H A (Syntax.tyStruct (List._∷_ 38 (List._∷_ 91 (List._∷_ 93 List.[]))) (Syntax.tcons ty·3 (Syntax.tcons (Syntax.tyInt Syntax.w64) Syntax.tnil)))) (
-                Relend.reads-owed-len 𝓤 H A W (Referent.rtF (Referent.fInt Syntax.w16)) ty·12 6 13
-                    (Row.lease (κs .1 .1 .1 .1 .1 .1 .0) (qs .1 .1 .1 .1 .1 .1 .0)) 8 Path'.refl,
-                Path'.refl,
-              ) Path'.refl Path'.refl λ b o k. tt) d46
-
-          d48 : Typed.Typed 𝓤 H A 𝓣 E G20 b41 Δ3 at48
-          d48 = Typed.s-seq 𝓤 H A W 𝓣 E G20 G21 b5 b40 Δ3 (Typed.give s17) at47 (Relend.t-sl-relend 𝓤 H A W E (Referent.rtF (Referent.fInt Syntax.w16)) 𝓣 G20 7 18 6 13 ty·12 ty·3 (Row.lease (κs .1 .1 .1 .1 .1 .1 .0) (qs .1 .1 .1 .1 .1 .1 .0)) 0 (λ x. x) (Reads'.as-is 𝓤 H A (Mut.mslice (Referent.rtF (Referent.fInt Syntax.w16)) ty·12 6)) (Reads'.room-gone 𝓤 H
-              A ty·3) Path'.refl tt Path'.refl Path'.refl Path'.refl λ b o. tt) d47
-
-          d49 : Typed.Typed 𝓤 H A 𝓣 E G17 b41 Δ3 at49
-          d49 = Typed.g-pre 𝓤 H A W 𝓣 E G17 G20 b41 Δ3 (λ Ψ. Ψ) at48 (Lifetime.g-begin 𝓤 H A W E G17 13 (
-            tt,
-            (
-              tt,
-              (
-                tt,
-                (
-                  tt,
-                  (
-                    tt,
-                    (tt, (tt, (tt, (tt, (tt, (tt, (tt, (tt, (tt, (tt, (tt, (tt, (tt, (tt, (tt, (tt, (tt, (tt, (tt, (tt, (tt, (tt, (tt, (tt, (tt, (tt, tt)))))))))))))))))))))))))),
-                  ),
-                ),
-              ),
-            ),
-          )) d48
+          d47 = Typed.s-seq 𝓤 H A W 𝓣 E G21 G22 b6 b39 Δ3 (Typed.ask s18) at45 (Relend.t-sl-aggregate 𝓤 H A W E (Referent.rtF (Referent.fInt Syntax.w16)) 𝓣 (Relend.asMut (Referent.rtF (Referent.fInt Syntax.w16))) G21 18 19 13 ty·3 ty·3 (λ x. x) (Scalar.oFld 7 (List._∷_ (Syntax.field 1) List.[]) (Syntax.tyInt Syntax.w64) 8 λ v. Shared.lenV (v .0))
+              (Reads'.as-is 𝓤 H A (Relend.msptr (Referent.rtF (Referent.fInt Syntax.w16)) ty·3 13)) (Reads'.room-gone 𝓤 H A (Syntax.tyStruct (List._∷_ 38 (List._∷_ 91 (List._∷_ 93 List.[]))) (Syntax.tcons ty·3 (Syntax.tcons (Syntax.tyInt Syntax.w64) Syntax.tnil))))
+              (Relend.reads-owed-len 𝓤 H A W (Referent.rtF (Referent.fInt Syntax.w16)) ty·12 6 13 (Row.lease (κs .1 .1 .1 .1 .1 .1 .0) (qs .1 .1 .1 .1 .1 .1 .0)) 8 Path'.refl, Path'.refl) Path'.refl Path'.refl λ b o k. tt) (Typed.g-pre 𝓤 H A W 𝓣 E G22 G23 b39 Δ3 (λ Ψ. Ψ) at45 (Lifetime.g-begin 𝓤 H A W E G22 14
+              (tt, (tt, (tt, (tt, (tt, (tt, (tt, ((tt, tt), (tt, (tt, (tt, (tt, (tt, (tt, (tt, (tt, (tt, (tt, (tt, (tt, (tt, (tt, (tt, (tt, (tt, (tt, (tt, (tt, (tt, (tt, (tt, tt)))))))))))))))))))))))))))))))) (Typed.s-seq 𝓤 H A W 𝓣 E G23 G24 b7 b38 Δ3 (Typed.give s20) at44 (Relend.t-sl-relend 𝓤 H A W E (Referent.rtF (Referent.fInt Syntax.w8)) 𝓣 G23 8 20 7 14
+              ty·5 ty·2 (Row.lease (κs .1 .1 .1 .1 .1 .1 .1 .0) (qs .1 .1 .1 .1 .1 .1 .1 .0)) 0 (λ x. x) (Reads'.as-is 𝓤 H A (Mut.mslice (Referent.rtF (Referent.fInt Syntax.w8)) ty·5 7)) (Reads'.room-gone 𝓤 H A ty·2) Path'.refl tt Path'.refl Path'.refl Path'.refl λ b o. tt) d44))
 
           d50 : Typed.Typed 𝓤 H A 𝓣 E G16 b42 Δ3 at50
-          d50 = Typed.t-seq 𝓤 H A W 𝓣 E G16 G17 b4 b41 Δ3 at4 at49 d4 d49
-
-          d51 : Typed.Typed 𝓤 H A 𝓣 E G14 b43 Δ3 at51
-          d51 = Typed.s-seq 𝓤 H A W 𝓣 E G14 G16 b1 b42 Δ3 (Typed.ask s13) at50 (Scalar.t-op2 𝓤 H A W E 𝓣 G14 (Syntax.lt Syntax.unsigned) (Scalar.oAt 15 (Syntax.tyInt Syntax.w64) (Row.valS (Row.sInt Syntax.w64))) (Scalar.oAt 10 (Syntax.tyInt Syntax.w64) (Row.valS (Row.sInt Syntax.w64))) 17 (Rows.sc-here Row.sBool) Syntax.tyBool (Row.valS Row.sBool)
-              (Row.sBool .of) (Scalar.reads-sc 𝓤 H A W (Row.sInt Syntax.w64), Path'.refl) (Scalar.reads-sc 𝓤 H A W (Row.sInt Syntax.w64), Path'.refl) (Reads'.room-gone 𝓤 H A Syntax.tyBool) (Scalar.holds-sc 𝓤 H A W Row.sBool) Path'.refl (λ u. Path'.refl) λ u. tt) d50
+          d50 = Typed.t-seq 𝓤 H A W 𝓣 E G16 G14 b4 b41 Δ3 at4 at48 d4 (Typed.g-pre 𝓤 H A W 𝓣 E G14 G20 b41 Δ3 (λ Ψ. Ψ) at48 (Lifetime.g-begin 𝓤 H A W E G14 13 (tt, (tt, (tt, (tt, (tt, (tt, (tt, (tt, (tt, (tt, (tt, (tt, (tt, (tt, (tt, (tt, (tt, (tt, (tt, (tt, (tt, (tt, (tt, (tt, (tt, (tt, (tt, (tt, (tt, (tt, (tt, tt))))))))))))))))))))))))))))))))
+              (Typed.s-seq 𝓤 H A W 𝓣 E G20 G21 b5 b40 Δ3 (Typed.give s17) at47 (Relend.t-sl-relend 𝓤 H A W E (Referent.rtF (Referent.fInt Syntax.w16)) 𝓣 G20 7 18 6 13 ty·12 ty·3 (Row.lease (κs .1 .1 .1 .1 .1 .1 .0) (qs .1 .1 .1 .1 .1 .1 .0)) 0 (λ x. x) (Reads'.as-is 𝓤 H A (Mut.mslice (Referent.rtF (Referent.fInt Syntax.w16)) ty·12 6)) (Reads'.room-gone 𝓤 H A
+              ty·3) Path'.refl tt Path'.refl Path'.refl Path'.refl λ b o. tt) d47))
 
           d52 : Typed.Typed 𝓤 H A 𝓣 E G14 b44 Δ2 at52
-          d52 = Typed.t-loop-by 𝓤 H A W 𝓣 E G14 b43 Δ2 put0 (λ u vs. Inv·0 (Row.get 1 (T14 .locals) u .now) (Row.get 2 (T14 .locals) u .now) (Row.get 3 (T14 .locals) u .now) (Row.get 4 (T14 .locals) u .now) (Row.get 5 (T14 .locals) u .now) (Row.get 6 (T14 .locals) u .now) (Row.get 7 (T14 .locals) u .now) (Row.get 8 (T14 .locals) u .now)
-              (Row.get 9 (T14 .locals) u .now) (Row.get 10 (T14 .locals) u) (Row.get 11 (T14 .locals) u .now) (Row.get 12 (T14 .locals) u .now) (Row.get 13 (T14 .locals) u .now) (Row.get 14 (T14 .locals) u .now) (Row.get 15 (T14 .locals) u) (vs .0) (vs .1) (vs .2) (vs .3) (vs .4) (vs .5)) (λ u vs. μ·0 (Row.get 1 (T14 .locals) u .now)
-              (Row.get 2 (T14 .locals) u .now) (Row.get 3 (T14 .locals) u .now) (Row.get 4 (T14 .locals) u .now) (Row.get 5 (T14 .locals) u .now) (Row.get 6 (T14 .locals) u .now) (Row.get 7 (T14 .locals) u .now) (Row.get 8 (T14 .locals) u .now) (Row.get 9 (T14 .locals) u .now) (Row.get 10 (T14 .locals) u) (Row.get 11 (T14 .locals) u .now)
-              (Row.get 12 (T14 .locals) u .now) (Row.get 13 (T14 .locals) u .now) (Row.get 14 (T14 .locals) u .now) (Row.get 15 (T14 .locals) u) (vs .0) (vs .1) (vs .2) (vs .3) (vs .4) (vs .5)) at51 d51
+          d52 = Typed.t-loop-by 𝓤 H A W 𝓣 E G14 b43 Δ2 put0 (λ u vs. Inv·0 (Row.get 1 (T14 .locals) u .now) (Row.get 2 (T14 .locals) u .now) (Row.get 3 (T14 .locals) u .now) (Row.get 4 (T14 .locals) u .now) (Row.get 5 (T14 .locals) u .now) (Row.get 6 (T14 .locals) u .now) (Row.get 7 (T14 .locals) u .now) (Row.get 8 (T14 .locals) u .now) (Row.get 9 (T14
+              .locals) u .now) (Row.get 10 (T14 .locals) u) (Row.get 11 (T14 .locals) u .now) (Row.get 12 (T14 .locals) u .now) (Row.get 13 (T14 .locals) u .now) (Row.get 14 (T14 .locals) u .now) (Row.get 15 (T14 .locals) u) (vs .0) (vs .1) (vs .2) (vs .3) (vs .4) (vs .5)) (λ u vs. μ·0 (Row.get 1 (T14 .locals) u .now) (Row.get 2 (T14 .locals) u .now) (Row.get 3
+              (T14 .locals) u .now) (Row.get 4 (T14 .locals) u .now) (Row.get 5 (T14 .locals) u .now) (Row.get 6 (T14 .locals) u .now) (Row.get 7 (T14 .locals) u .now) (Row.get 8 (T14 .locals) u .now) (Row.get 9 (T14 .locals) u .now) (Row.get 10 (T14 .locals) u) (Row.get 11 (T14 .locals) u .now) (Row.get 12 (T14 .locals) u .now) (Row.get 13 (T14 .locals) u .now)
+              (Row.get 14 (T14 .locals) u .now) (Row.get 15 (T14 .locals) u) (vs .0) (vs .1) (vs .2) (vs .3) (vs .4) (vs .5)) at51 (Typed.s-seq 𝓤 H A W 𝓣 E G14 G16 b1 b42 Δ3 (Typed.ask s13) at50 (Scalar.t-op2 𝓤 H A W E 𝓣 G14 (Syntax.lt Syntax.unsigned) (Scalar.oAt 15 (Syntax.tyInt Syntax.w64) (Row.valS (Row.sInt Syntax.w64))) (Scalar.oAt 10 (Syntax.tyInt
+              Syntax.w64) (Row.valS (Row.sInt Syntax.w64))) 17 (Rows.sc-here Row.sBool) Syntax.tyBool (Row.valS Row.sBool) (Row.sBool .of) (Scalar.reads-sc 𝓤 H A W (Row.sInt Syntax.w64), Path'.refl) (Scalar.reads-sc 𝓤 H A W (Row.sInt Syntax.w64), Path'.refl) (Reads'.room-gone 𝓤 H A Syntax.tyBool) (Scalar.holds-sc 𝓤 H A W Row.sBool) Path'.refl (λ u. Path'.refl) λ
+              u. tt) d50)
 
           d53 : Typed.Typed 𝓤 H A 𝓣 E G14 b45 Δ1 at53
           d53 = Typed.t-block 𝓤 H A W 𝓣 E G14 b44 Δ1 at52 d52
 
-          d54 : Typed.Typed 𝓤 H A 𝓣 E G67 b47 Δ0 at54
+          d54 : Typed.Typed 𝓤 H A 𝓣 E G1 b47 Δ0 at54
           d54 = Typed.t-return 𝓤 H A W 𝓣 E Δ0 tt
 
-          d55 : Typed.Typed 𝓤 H A 𝓣 E G66 b47 Δ0 at55
-          d55 = Typed.g-pre 𝓤 H A W 𝓣 E G66 G67 b47 Δ0 (Typed.pass T66 T67 s63) at54 (Scalar.g-room 𝓤 H A W E G66 10 (Syntax.tyInt Syntax.w64) (Scalar.room-sc 𝓤 H A W (Row.sInt Syntax.w64))) d54
-
-          d56 : Typed.Typed 𝓤 H A 𝓣 E G65 b47 Δ0 at56
-          d56 = Typed.g-pre 𝓤 H A W 𝓣 E G65 G66 b47 Δ0 (Typed.pass T65 T66 s62) at55 (Scalar.g-room 𝓤 H A W E G65 15 (Syntax.tyInt Syntax.w64) (Scalar.room-sc 𝓤 H A W (Row.sInt Syntax.w64))) d55
-
-          d57 : Typed.Typed 𝓤 H A 𝓣 E G15 b48 Δ0 at57
-          d57 = Typed.s-seq 𝓤 H A W 𝓣 E G15 G65 b46 b47 Δ0 (Typed.pass T15 T65 s61) at56 (Scalar.t-use 𝓤 H A W E 𝓣 G15 Scalar.oUnit 0 (Rows.sc-here Row.sUnit) Syntax.tyUnit (Row.valS Row.sUnit) (Row.sUnit .of) tt (Reads'.room-gone 𝓤 H A Syntax.tyUnit) (Scalar.holds-sc 𝓤 H A W Row.sUnit) Path'.refl (λ u. Path'.refl) λ u. tt) d56
-
           d58 : Typed.Typed 𝓤 H A 𝓣 E G14 b49 Δ0 at58
-          d58 = Typed.t-seq 𝓤 H A W 𝓣 E G14 G15 b45 b48 Δ0 at53 at57 d53 d57
+          d58 = Typed.t-seq 𝓤 H A W 𝓣 E G14 G14 b45 b48 Δ0 at53 at57 d53 (Typed.s-seq 𝓤 H A W 𝓣 E G14 G65 b46 b47 Δ0 (Typed.pass T14 T65 s61) at56 (Scalar.t-use 𝓤 H A W E 𝓣 G14 Scalar.oUnit 0 (Rows.sc-here Row.sUnit) Syntax.tyUnit (Row.valS Row.sUnit) (Row.sUnit .of) tt (Reads'.room-gone 𝓤 H A Syntax.tyUnit) (Scalar.holds-sc 𝓤 H A W Row.sUnit) Path'.refl (λ
+              u. Path'.refl) λ u. tt) (Typed.g-pre 𝓤 H A W 𝓣 E G65 G66 b47 Δ0 (Typed.pass T65 T66 s62) at55 (Scalar.g-room 𝓤 H A W E G65 15 (Syntax.tyInt Syntax.w64) (Scalar.room-sc 𝓤 H A W (Row.sInt Syntax.w64))) (Typed.g-pre 𝓤 H A W 𝓣 E G66 G1 b47 Δ0 (Typed.pass T66 T1 s63) at54 (Scalar.g-room 𝓤 H A W E G66 10 (Syntax.tyInt Syntax.w64) (Scalar.room-sc 𝓤 H A W
+              (Row.sInt Syntax.w64))) d54)))
 
-          d59 : Typed.Typed 𝓤 H A 𝓣 E G13 b50 Δ0 at59
-          d59 = Typed.s-seq 𝓤 H A W 𝓣 E G13 G14 b0 b49 Δ0 (Typed.pass T13 T14 s12) at58 (Scalar.t-use 𝓤 H A W E 𝓣 G13 (Scalar.oInt Syntax.w64 0) 15 (Rows.sc-here (Row.sInt Syntax.w64)) (Syntax.tyInt Syntax.w64) (Row.valS (Row.sInt Syntax.w64)) (Row.sInt Syntax.w64 .of) tt (Reads'.room-gone 𝓤 H A (Syntax.tyInt Syntax.w64))
-              (Scalar.holds-sc 𝓤 H A W (Row.sInt Syntax.w64)) Path'.refl (λ u. Path'.refl) λ u. tt) d58
+          d61 : Typed.Typed 𝓤 H A 𝓣 E G0 b50 Δ0 at61
+          d61 = Typed.g-pre 𝓤 H A W 𝓣 E G0 G0 b50 Δ0 (Typed.give s10) at60 (Know.g-sl-known 𝓤 H A W (Referent.fInt Syntax.w16) E G0 13 11 ty·14 (Row.lease (κs .1 .1 .1 .1 .1 .1 .1 .1 .1 .1 .1 .0) (qs .1 .1 .1 .1 .1 .1 .1 .1 .1 .1 .1 .0)) 0 (λ x. x) record { fits = Dec'.lit< tt } (Reads'.as-is 𝓤 H A (Mut.mslice (Referent.rtF (Referent.fInt Syntax.w16)) ty·14
+              11)) Path'.refl tt) (Typed.g-pre 𝓤 H A W 𝓣 E G0 G0 b50 Δ0 (Typed.give s11) at59 (Know.g-sl-known 𝓤 H A W (Referent.fInt Syntax.w32) E G0 14 12 ty·15 (Row.lease (κs .1 .1 .1 .1 .1 .1 .1 .1 .1 .1 .1 .1 .0) (qs .1 .1 .1 .1 .1 .1 .1 .1 .1 .1 .1 .1 .0)) 0 (λ x. x) record { fits = Dec'.lit< tt } (Reads'.as-is 𝓤 H A (Mut.mslice (Referent.rtF
+              (Referent.fInt Syntax.w32)) ty·15 12)) Path'.refl tt) (Typed.s-seq 𝓤 H A W 𝓣 E G0 G14 b0 b49 Δ0 (Typed.pass T0 T14 s12) at58 (Scalar.t-use 𝓤 H A W E 𝓣 G0 (Scalar.oInt Syntax.w64 0) 15 (Rows.sc-here (Row.sInt Syntax.w64)) (Syntax.tyInt Syntax.w64) (Row.valS (Row.sInt Syntax.w64)) (Row.sInt Syntax.w64 .of) tt (Reads'.room-gone 𝓤 H A (Syntax.tyInt
+              Syntax.w64)) (Scalar.holds-sc 𝓤 H A W (Row.sInt Syntax.w64)) Path'.refl (λ u. Path'.refl) λ u. tt) d58))
 
-          d60 : Typed.Typed 𝓤 H A 𝓣 E G12 b50 Δ0 at60
-          d60 = Typed.g-pre 𝓤 H A W 𝓣 E G12 G13 b50 Δ0 (Typed.give s11) at59 (Know.g-sl-known 𝓤 H A W (Referent.fInt Syntax.w32) E G12 14 12 ty·15 (Row.lease (κs .1 .1 .1 .1 .1 .1 .1 .1 .1 .1 .1 .1 .0) (qs .1 .1 .1 .1 .1 .1 .1 .1 .1 .1 .1 .1 .0)) 0 (λ x. x) record { fits = Dec'.lit< tt } (Reads'.as-is 𝓤 H A (Mut.mslice
-              (Referent.rtF (Referent.fInt Syntax.w32)) ty·15 12)) Path'.refl tt) d59
+          d64 : Typed.Typed 𝓤 H A 𝓣 E G0 b50 Δ0 at64
+          d64 = Typed.g-pre 𝓤 H A W 𝓣 E G0 G0 b50 Δ0 (Typed.give s7) at63 (Know.g-sl-known 𝓤 H A W (Referent.fInt Syntax.w8) E G0 8 7 ty·5 (Row.lease (κs .1 .1 .1 .1 .1 .1 .1 .0) (qs .1 .1 .1 .1 .1 .1 .1 .0)) 0 (λ x. x) record { fits = Dec'.lit< tt } (Reads'.as-is 𝓤 H A (Mut.mslice (Referent.rtF (Referent.fInt Syntax.w8)) ty·5 7)) Path'.refl tt) (Typed.g-pre
+              𝓤 H A W 𝓣 E G0 G0 b50 Δ0 (Typed.give s8) at62 (Know.g-shs-known 𝓤 H A W (Referent.fInt Syntax.w8) E G0 11 9 ty·6 (Row.lease (κs .1 .1 .1 .1 .1 .1 .1 .1 .1 .0) (qs .1 .1 .1 .1 .1 .1 .1 .1 .1 .0)) 0 (λ x. x) record { fits = Dec'.lit< tt } (Reads'.as-is 𝓤 H A (Rows.sslice (Referent.rtF (Referent.fInt Syntax.w8)) ty·6 9)) Path'.refl tt) (Typed.g-pre 𝓤
+              H A W 𝓣 E G0 G0 b50 Δ0 (Typed.give s9) at61 (Know.g-shs-known 𝓤 H A W (Referent.fInt Syntax.w16) E G0 12 10 ty·13 (Row.lease (κs .1 .1 .1 .1 .1 .1 .1 .1 .1 .1 .0) (qs .1 .1 .1 .1 .1 .1 .1 .1 .1 .1 .0)) 0 (λ x. x) record { fits = Dec'.lit< tt } (Reads'.as-is 𝓤 H A (Rows.sslice (Referent.rtF (Referent.fInt Syntax.w16)) ty·13 10)) Path'.refl tt) d61))
 
-          d61 : Typed.Typed 𝓤 H A 𝓣 E G11 b50 Δ0 at61
-          d61 = Typed.g-pre 𝓤 H A W 𝓣 E G11 G12 b50 Δ0 (Typed.give s10) at60 (Know.g-sl-known 𝓤 H A W (Referent.fInt Syntax.w16) E G11 13 11 ty·14 (Row.lease (κs .1 .1 .1 .1 .1 .1 .1 .1 .1 .1 .1 .0) (qs .1 .1 .1 .1 .1 .1 .1 .1 .1 .1 .1 .0)) 0 (λ x. x) record { fits = Dec'.lit< tt } (Reads'.as-is 𝓤 H A (Mut.mslice (Referent.rtF (Referent.fInt Syntax.w16))
-              ty·14 11)) Path'.refl tt) d60
+          d67 : Typed.Typed 𝓤 H A 𝓣 E G0 b50 Δ0 at67
+          d67 = Typed.g-pre 𝓤 H A W 𝓣 E G0 G0 b50 Δ0 (Typed.give s4) at66 (Know.g-shs-known 𝓤 H A W (Referent.fInt Syntax.w16) E G0 5 4 ty·10 (Row.lease (κs .1 .1 .1 .1 .0) (qs .1 .1 .1 .1 .0)) 0 (λ x. x) record { fits = Dec'.lit< tt } (Reads'.as-is 𝓤 H A (Rows.sslice (Referent.rtF (Referent.fInt Syntax.w16)) ty·10 4)) Path'.refl tt) (Typed.g-pre 𝓤 H A W 𝓣 E
+              G0 G0 b50 Δ0 (Typed.give s5) at65 (Know.g-shs-known 𝓤 H A W (Referent.fInt Syntax.w32) E G0 6 5 ty·11 (Row.lease (κs .1 .1 .1 .1 .1 .0) (qs .1 .1 .1 .1 .1 .0)) 0 (λ x. x) record { fits = Dec'.lit< tt } (Reads'.as-is 𝓤 H A (Rows.sslice (Referent.rtF (Referent.fInt Syntax.w32)) ty·11 5)) Path'.refl tt) (Typed.g-pre 𝓤 H A W 𝓣 E G0 G0 b50 Δ0
+              (Typed.give s6) at64 (Know.g-sl-known 𝓤 H A W (Referent.fInt Syntax.w16) E G0 7 6 ty·12 (Row.lease (κs .1 .1 .1 .1 .1 .1 .0) (qs .1 .1 .1 .1 .1 .1 .0)) 0 (λ x. x) record { fits = Dec'.lit< tt } (Reads'.as-is 𝓤 H A (Mut.mslice (Referent.rtF (Referent.fInt Syntax.w16)) ty·12 6)) Path'.refl tt) d64))
 
-          d62 : Typed.Typed 𝓤 H A 𝓣 E G10 b50 Δ0 at62
-          d62 = Typed.g-pre 𝓤 H A W 𝓣 E G10 G11 b50 Δ0 (Typed.give s9) at61 (Know.g-shs-known 𝓤 H A W (Referent.fInt Syntax.w16) E G10 12 10 ty·13 (Row.lease (κs .1 .1 .1 .1 .1 .1 .1 .1 .1 .1 .0) (qs .1 .1 .1 .1 .1 .1 .1 .1 .1 .1 .0)) 0 (λ x. x) record { fits = Dec'.lit< tt } (Reads'.as-is 𝓤 H A (Rows.sslice (Referent.rtF (Referent.fInt Syntax.w16)) ty·13
-              10)) Path'.refl tt) d61
-
-          d63 : Typed.Typed 𝓤 H A 𝓣 E G9 b50 Δ0 at63
-          d63 = Typed.g-pre 𝓤 H A W 𝓣 E G9 G10 b50 Δ0 (Typed.give s8) at62 (Know.g-shs-known 𝓤 H A W (Referent.fInt Syntax.w8) E G9 11 9 ty·6 (Row.lease (κs .1 .1 .1 .1 .1 .1 .1 .1 .1 .0) (qs .1 .1 .1 .1 .1 .1 .1 .1 .1 .0)) 0 (λ x. x) record { fits = Dec'.lit< tt } (Reads'.as-is 𝓤 H A (Rows.sslice (Referent.rtF (Referent.fInt Syntax.w8)) ty·6 9)) Path'.refl
-              tt) d62
-
-          d64 : Typed.Typed 𝓤 H A 𝓣 E G8 b50 Δ0 at64
-          d64 = Typed.g-pre 𝓤 H A W 𝓣 E G8 G9 b50 Δ0 (Typed.give s7) at63 (Know.g-sl-known 𝓤 H A W (Referent.fInt Syntax.w8) E G8 8 7 ty·5 (Row.lease (κs .1 .1 .1 .1 .1 .1 .1 .0) (qs .1 .1 .1 .1 .1 .1 .1 .0)) 0 (λ x. x) record { fits = Dec'.lit< tt } (Reads'.as-is 𝓤 H A (Mut.mslice (Referent.rtF (Referent.fInt Syntax.w8)) ty·5 7)) Path'.refl tt) d63
-
-          d65 : Typed.Typed 𝓤 H A 𝓣 E G7 b50 Δ0 at65
-          d65 = Typed.g-pre 𝓤 H A W 𝓣 E G7 G8 b50 Δ0 (Typed.give s6) at64 (Know.g-sl-known 𝓤 H A W (Referent.fInt Syntax.w16) E G7 7 6 ty·12 (Row.lease (κs .1 .1 .1 .1 .1 .1 .0) (qs .1 .1 .1 .1 .1 .1 .0)) 0 (λ x. x) record { fits = Dec'.lit< tt } (Reads'.as-is 𝓤 H A (Mut.mslice (Referent.rtF (Referent.fInt Syntax.w16)) ty·12 6)) Path'.refl tt) d64
-
-          d66 : Typed.Typed 𝓤 H A 𝓣 E G6 b50 Δ0 at66
-          d66 = Typed.g-pre 𝓤 H A W 𝓣 E G6 G7 b50 Δ0 (Typed.give s5) at65 (Know.g-shs-known 𝓤 H A W (Referent.fInt Syntax.w32) E G6 6 5 ty·11 (Row.lease (κs .1 .1 .1 .1 .1 .0) (qs .1 .1 .1 .1 .1 .0)) 0 (λ x. x) record { fits = Dec'.lit< tt } (Reads'.as-is 𝓤 H A (Rows.sslice (Referent.rtF (Referent.fInt Syntax.w32)) ty·11 5)) Path'.refl tt) d65
-
-          d67 : Typed.Typed 𝓤 H A 𝓣 E G5 b50 Δ0 at67
-          d67 = Typed.g-pre 𝓤 H A W 𝓣 E G5 G6 b50 Δ0 (Typed.give s4) at66 (Know.g-shs-known 𝓤 H A W (Referent.fInt Syntax.w16) E G5 5 4 ty·10 (Row.lease (κs .1 .1 .1 .1 .0) (qs .1 .1 .1 .1 .0)) 0 (λ x. x) record { fits = Dec'.lit< tt } (Reads'.as-is 𝓤 H A (Rows.sslice (Referent.rtF (Referent.fInt Syntax.w16)) ty·10 4)) Path'.refl tt) d66
-
-          d68 : Typed.Typed 𝓤 H A 𝓣 E G4 b50 Δ0 at68
-          d68 = Typed.g-pre 𝓤 H A W 𝓣 E G4 G5 b50 Δ0 (Typed.give s3) at67 (Know.g-shs-known 𝓤 H A W (Referent.fInt Syntax.w16) E G4 4 3 ty·9 (Row.lease (κs .1 .1 .1 .0) (qs .1 .1 .1 .0)) 0 (λ x. x) record { fits = Dec'.lit< tt } (Reads'.as-is 𝓤 H A (Rows.sslice (Referent.rtF (Referent.fInt Syntax.w16)) ty·9 3)) Path'.refl tt) d67
-
-          d69 : Typed.Typed 𝓤 H A 𝓣 E G3 b50 Δ0 at69
-          d69 = Typed.g-pre 𝓤 H A W 𝓣 E G3 G4 b50 Δ0 (Typed.give s2) at68 (Know.g-shs-known 𝓤 H A W (Referent.fInt Syntax.w8) E G3 3 2 ty·4 (Row.lease (κs .1 .1 .0) (qs .1 .1 .0)) 0 (λ x. x) record { fits = Dec'.lit< tt } (Reads'.as-is 𝓤 H A (Rows.sslice (Referent.rtF (Referent.fInt Syntax.w8)) ty·4 2)) Path'.refl tt) d68
-
-          d70 : Typed.Typed 𝓤 H A 𝓣 E G2 b50 Δ0 at70
-          d70 = Typed.g-pre 𝓤 H A W 𝓣 E G2 G3 b50 Δ0 (Typed.give s1) at69 (Know.g-shs-known 𝓤 H A W (Referent.fInt Syntax.w16) E G2 2 1 ty·8 (Row.lease (κs .1 .0) (qs .1 .0)) 0 (λ x. x) record { fits = Dec'.lit< tt } (Reads'.as-is 𝓤 H A (Rows.sslice (Referent.rtF (Referent.fInt Syntax.w16)) ty·8 1)) Path'.refl tt) d69
-
-          d71 : Typed.Typed 𝓤 H A 𝓣 E G0 b50 Δ0 at71
-          d71 = Typed.g-pre 𝓤 H A W 𝓣 E G0 G2 b50 Δ0 (Typed.give s0) at70 (Know.g-shs-known 𝓤 H A W (Referent.fInt Syntax.w16) E G0 1 0 ty·7 (Row.lease (κs .0) (qs .0)) 0 (λ x. x) record { fits = Dec'.lit< tt } (Reads'.as-is 𝓤 H A (Rows.sslice (Referent.rtF (Referent.fInt Syntax.w16)) ty·7 0)) Path'.refl tt) d70
+          d70 : Typed.Typed 𝓤 H A 𝓣 E G0 b50 Δ0 at70
+          d70 = Typed.g-pre 𝓤 H A W 𝓣 E G0 G0 b50 Δ0 (Typed.give s1) at69 (Know.g-shs-known 𝓤 H A W (Referent.fInt Syntax.w16) E G0 2 1 ty·8 (Row.lease (κs .1 .0) (qs .1 .0)) 0 (λ x. x) record { fits = Dec'.lit< tt } (Reads'.as-is 𝓤 H A (Rows.sslice (Referent.rtF (Referent.fInt Syntax.w16)) ty·8 1)) Path'.refl tt) (Typed.g-pre 𝓤 H A W 𝓣 E G0 G0 b50 Δ0
+              (Typed.give s2) at68 (Know.g-shs-known 𝓤 H A W (Referent.fInt Syntax.w8) E G0 3 2 ty·4 (Row.lease (κs .1 .1 .0) (qs .1 .1 .0)) 0 (λ x. x) record { fits = Dec'.lit< tt } (Reads'.as-is 𝓤 H A (Rows.sslice (Referent.rtF (Referent.fInt Syntax.w8)) ty·4 2)) Path'.refl tt) (Typed.g-pre 𝓤 H A W 𝓣 E G0 G0 b50 Δ0 (Typed.give s3) at67 (Know.g-shs-known 𝓤 H A
+              W (Referent.fInt Syntax.w16) E G0 4 3 ty·9 (Row.lease (κs .1 .1 .1 .0) (qs .1 .1 .1 .0)) 0 (λ x. x) record { fits = Dec'.lit< tt } (Reads'.as-is 𝓤 H A (Rows.sslice (Referent.rtF (Referent.fInt Syntax.w16)) ty·9 3)) Path'.refl tt) d67))
 
           pub typed : Typed.Typed 𝓤 H A 𝓣 E (Function.Γin 13 ps r xs m κs qs) b50 (Function.Δret 13 ps r xs m κs qs) Φ
-          typed = d71
+          typed = (Typed.g-pre 𝓤 H A W 𝓣 E G0 G0 b50 Δ0 (Typed.give s0) at70 (Know.g-shs-known 𝓤 H A W (Referent.fInt Syntax.w16) E G0 1 0 ty·7 (Row.lease (κs .0) (qs .0)) 0 (λ x. x) record { fits = Dec'.lit< tt } (Reads'.as-is 𝓤 H A (Rows.sslice (Referent.rtF (Referent.fInt Syntax.w16)) ty·7 0)) Path'.refl tt) d70)
 
       module _ (κs : Lifetimes.Lfts 13) where
         pub record Args : Type 0 where
@@ -2479,10 +1422,7 @@ module _ (claims· : Claims) where
           pub details : Kinds.Den {n = 13} κs (MutSlice.pMutS (Referent.rtF (Referent.fInt Syntax.w32)) 12 tt)
 
         abbrev pub dens : (a : Args) → Kinds.Dens κs ps
-        dens = λ a. (
-          a .drone-count,
-          (a .dependency-count, (a .names, (a .stop-counts, (a .locations, (a .times, (a .visited, (a .drone-flags, (a .dependencies, (a .count, (a .kinds, (a .numbers, (a .replies, (a .details, tt))))))))))))),
-        )
+        dens = λ a. (a .drone-count, (a .dependency-count, (a .names, (a .stop-counts, (a .locations, (a .times, (a .visited, (a .drone-flags, (a .dependencies, (a .count, (a .kinds, (a .numbers, (a .replies, (a .details, tt))))))))))))))
 
         module _ (args· : Args) where
           pub record Ranges : Type 0 where
@@ -2492,11 +1432,7 @@ module _ (claims· : Claims) where
       m0 = λ κs args. (tt, Enter.partsP κs 1 ps xs (dens κs args))
 
       abbrev W0 : (κs : Lifetimes.Lfts 13) → (args : Args κs) → Typed.Want O0
-      W0 = λ κs args. (
-        λ u. ⊥,
-        tt,
-        λ u. Enter.Fixs κs 1 ps xs (dens κs args) (u .1) × Post· κs (dens κs args) (Function.resV r κs (u .0)) (Clauses.atExit (Kinds.endedOf 13 ps r) κs (dens κs args) (Enter.lastsP κs 1 ps xs (dens κs args) (u .1))),
-      )
+      W0 = λ κs args. (λ u. ⊥, tt, λ u. Enter.Fixs κs 1 ps xs (dens κs args) (u .1) × Post· κs (dens κs args) (Function.resV r κs (u .0)) (Clauses.atExit (Kinds.endedOf 13 ps r) κs (dens κs args) (Enter.lastsP κs 1 ps xs (dens κs args) (u .1))))
 
       pub record Start : Type 0 where
         pub κs : Lifetimes.Lfts 13
@@ -2505,7 +1441,7 @@ module _ (claims· : Claims) where
         pub fits : Ranges κs args
         pub pre : Pre· κs (dens κs args)
 
-      abbrev pub m1 : (before : Start) → (given : s0 .gives (m0 (before .κs) (before .args))) → Typed.Mo T2
+      abbrev pub m1 : (before : Start) → (given : s0 .gives (m0 (before .κs) (before .args))) → Typed.Mo T0
       m1 = λ before given. s0 .next (m0 (before .κs) (before .args)) given
 
       module _ (before· : Start) where
@@ -2516,7 +1452,7 @@ module _ (claims· : Claims) where
         pub before : Start
         pub shared-slice-known : After-shared-slice-known·own before
 
-      abbrev pub m2 : (before : After-shared-slice-known) → (given : s1 .gives (m1 (before .before) (before .shared-slice-known .given))) → Typed.Mo T3
+      abbrev pub m2 : (before : After-shared-slice-known) → (given : s1 .gives (m1 (before .before) (before .shared-slice-known .given))) → Typed.Mo T0
       m2 = λ before given. s1 .next (m1 (before .before) (before .shared-slice-known .given)) given
 
       module _ (before· : After-shared-slice-known) where
@@ -2527,7 +1463,7 @@ module _ (claims· : Claims) where
         pub before : After-shared-slice-known
         pub shared-slice-known2 : After-shared-slice-known2·own before
 
-      abbrev pub m3 : (before : After-shared-slice-known2) → (given : s2 .gives (m2 (before .before) (before .shared-slice-known2 .given))) → Typed.Mo T4
+      abbrev pub m3 : (before : After-shared-slice-known2) → (given : s2 .gives (m2 (before .before) (before .shared-slice-known2 .given))) → Typed.Mo T0
       m3 = λ before given. s2 .next (m2 (before .before) (before .shared-slice-known2 .given)) given
 
       module _ (before· : After-shared-slice-known2) where
@@ -2538,7 +1474,7 @@ module _ (claims· : Claims) where
         pub before : After-shared-slice-known2
         pub shared-slice-known3 : After-shared-slice-known3·own before
 
-      abbrev pub m4 : (before : After-shared-slice-known3) → (given : s3 .gives (m3 (before .before) (before .shared-slice-known3 .given))) → Typed.Mo T5
+      abbrev pub m4 : (before : After-shared-slice-known3) → (given : s3 .gives (m3 (before .before) (before .shared-slice-known3 .given))) → Typed.Mo T0
       m4 = λ before given. s3 .next (m3 (before .before) (before .shared-slice-known3 .given)) given
 
       module _ (before· : After-shared-slice-known3) where
@@ -2549,7 +1485,7 @@ module _ (claims· : Claims) where
         pub before : After-shared-slice-known3
         pub shared-slice-known4 : After-shared-slice-known4·own before
 
-      abbrev pub m5 : (before : After-shared-slice-known4) → (given : s4 .gives (m4 (before .before) (before .shared-slice-known4 .given))) → Typed.Mo T6
+      abbrev pub m5 : (before : After-shared-slice-known4) → (given : s4 .gives (m4 (before .before) (before .shared-slice-known4 .given))) → Typed.Mo T0
       m5 = λ before given. s4 .next (m4 (before .before) (before .shared-slice-known4 .given)) given
 
       module _ (before· : After-shared-slice-known4) where
@@ -2560,7 +1496,7 @@ module _ (claims· : Claims) where
         pub before : After-shared-slice-known4
         pub shared-slice-known5 : After-shared-slice-known5·own before
 
-      abbrev pub m6 : (before : After-shared-slice-known5) → (given : s5 .gives (m5 (before .before) (before .shared-slice-known5 .given))) → Typed.Mo T7
+      abbrev pub m6 : (before : After-shared-slice-known5) → (given : s5 .gives (m5 (before .before) (before .shared-slice-known5 .given))) → Typed.Mo T0
       m6 = λ before given. s5 .next (m5 (before .before) (before .shared-slice-known5 .given)) given
 
       module _ (before· : After-shared-slice-known5) where
@@ -2571,7 +1507,7 @@ module _ (claims· : Claims) where
         pub before : After-shared-slice-known5
         pub shared-slice-known6 : After-shared-slice-known6·own before
 
-      abbrev pub m7 : (before : After-shared-slice-known6) → (given : s6 .gives (m6 (before .before) (before .shared-slice-known6 .given))) → Typed.Mo T8
+      abbrev pub m7 : (before : After-shared-slice-known6) → (given : s6 .gives (m6 (before .before) (before .shared-slice-known6 .given))) → Typed.Mo T0
       m7 = λ before given. s6 .next (m6 (before .before) (before .shared-slice-known6 .given)) given
 
       module _ (before· : After-shared-slice-known6) where
@@ -2582,7 +1518,7 @@ module _ (claims· : Claims) where
         pub before : After-shared-slice-known6
         pub slice-known : After-slice-known·own before
 
-      abbrev pub m8 : (before : After-slice-known) → (given : s7 .gives (m7 (before .before) (before .slice-known .given))) → Typed.Mo T9
+      abbrev pub m8 : (before : After-slice-known) → (given : s7 .gives (m7 (before .before) (before .slice-known .given))) → Typed.Mo T0
       m8 = λ before given. s7 .next (m7 (before .before) (before .slice-known .given)) given
 
       module _ (before· : After-slice-known) where
@@ -2593,7 +1529,7 @@ module _ (claims· : Claims) where
         pub before : After-slice-known
         pub slice-known2 : After-slice-known2·own before
 
-      abbrev pub m9 : (before : After-slice-known2) → (given : s8 .gives (m8 (before .before) (before .slice-known2 .given))) → Typed.Mo T10
+      abbrev pub m9 : (before : After-slice-known2) → (given : s8 .gives (m8 (before .before) (before .slice-known2 .given))) → Typed.Mo T0
       m9 = λ before given. s8 .next (m8 (before .before) (before .slice-known2 .given)) given
 
       module _ (before· : After-slice-known2) where
@@ -2604,7 +1540,7 @@ module _ (claims· : Claims) where
         pub before : After-slice-known2
         pub shared-slice-known7 : After-shared-slice-known7·own before
 
-      abbrev pub m10 : (before : After-shared-slice-known7) → (given : s9 .gives (m9 (before .before) (before .shared-slice-known7 .given))) → Typed.Mo T11
+      abbrev pub m10 : (before : After-shared-slice-known7) → (given : s9 .gives (m9 (before .before) (before .shared-slice-known7 .given))) → Typed.Mo T0
       m10 = λ before given. s9 .next (m9 (before .before) (before .shared-slice-known7 .given)) given
 
       module _ (before· : After-shared-slice-known7) where
@@ -2615,7 +1551,7 @@ module _ (claims· : Claims) where
         pub before : After-shared-slice-known7
         pub shared-slice-known8 : After-shared-slice-known8·own before
 
-      abbrev pub m11 : (before : After-shared-slice-known8) → (given : s10 .gives (m10 (before .before) (before .shared-slice-known8 .given))) → Typed.Mo T12
+      abbrev pub m11 : (before : After-shared-slice-known8) → (given : s10 .gives (m10 (before .before) (before .shared-slice-known8 .given))) → Typed.Mo T0
       m11 = λ before given. s10 .next (m10 (before .before) (before .shared-slice-known8 .given)) given
 
       module _ (before· : After-shared-slice-known8) where
@@ -2626,14 +1562,11 @@ module _ (claims· : Claims) where
         pub before : After-shared-slice-known8
         pub slice-known3 : After-slice-known3·own before
 
-      abbrev pub m12 : (before : After-slice-known3) → (given : s11 .gives (m11 (before .before) (before .slice-known3 .given))) → Typed.Mo T13
-      m12 = λ before given. s11 .next (m11 (before .before) (before .slice-known3 .given)) given
-
       abbrev pub m13 : (before : After-slice-known3) → (given : s11 .gives (m11 (before .before) (before .slice-known3 .given))) → Typed.Mo T14
-      m13 = λ before given. s12 (m12 before given)
+      m13 = λ before given. s12 (s11 .next (m11 (before .before) (before .slice-known3 .given)) given)
 
       abbrev W1 : (before : After-slice-known3) → (given : s11 .gives (m11 (before .before) (before .slice-known3 .given))) → Typed.Want O1
-      W1 = λ before given. Typed.wantNext T15 O0 (at57 (W0 (before .before .before .before .before .before .before .before .before .before .before .before .κs) (before .before .before .before .before .before .before .before .before .before .before .before .args))) (W0 (before .before .before .before .before .before .before .before .before .before .before
+      W1 = λ before given. Typed.wantNext T14 O0 (at57 (W0 (before .before .before .before .before .before .before .before .before .before .before .before .κs) (before .before .before .before .before .before .before .before .before .before .before .before .args))) (W0 (before .before .before .before .before .before .before .before .before .before .before
           .before .κs) (before .before .before .before .before .before .before .before .before .before .before .before .args))
 
       abbrev W2 : (before : After-slice-known3) → (given : s11 .gives (m11 (before .before) (before .slice-known3 .given))) → Typed.Want O2
@@ -2649,114 +1582,37 @@ module _ (claims· : Claims) where
 
       abbrev pub Need-loop-holds : Type 0
       Need-loop-holds = (c : After-slice-known4) → Inv·0 (Row.get 1 (T14 .locals) (m13 (c .before) (c .slice-known4 .given)) .now) (Row.get 2 (T14 .locals) (m13 (c .before) (c .slice-known4 .given)) .now) (Row.get 3 (T14 .locals) (m13 (c .before) (c .slice-known4 .given)) .now) (Row.get 4 (T14 .locals) (m13 (c .before) (c .slice-known4 .given)) .now)
-          (Row.get 5 (T14 .locals) (m13 (c .before) (c .slice-known4 .given)) .now) (Row.get 6 (T14 .locals) (m13 (c .before) (c .slice-known4 .given)) .now) (Row.get 7 (T14 .locals) (m13 (c .before) (c .slice-known4 .given)) .now) (Row.get 8 (T14 .locals) (m13 (c .before) (c .slice-known4 .given)) .now)
-          (Row.get 9 (T14 .locals) (m13 (c .before) (c .slice-known4 .given)) .now) (Row.get 10 (T14 .locals) (m13 (c .before) (c .slice-known4 .given))) (Row.get 11 (T14 .locals) (m13 (c .before) (c .slice-known4 .given)) .now) (Row.get 12 (T14 .locals) (m13 (c .before) (c .slice-known4 .given)) .now)
-          (Row.get 13 (T14 .locals) (m13 (c .before) (c .slice-known4 .given)) .now) (Row.get 14 (T14 .locals) (m13 (c .before) (c .slice-known4 .given)) .now) (Row.get 15 (T14 .locals) (m13 (c .before) (c .slice-known4 .given))) (Row.get 7 (T14 .locals) (m13 (c .before) (c .slice-known4 .given)) .now)
-          (Row.get 8 (T14 .locals) (m13 (c .before) (c .slice-known4 .given)) .now) (Row.get 9 (T14 .locals) (m13 (c .before) (c .slice-known4 .given)) .now) (Row.get 13 (T14 .locals) (m13 (c .before) (c .slice-known4 .given)) .now) (Row.get 14 (T14 .locals) (m13 (c .before) (c .slice-known4 .given)) .now)
-          (Row.get 15 (T14 .locals) (m13 (c .before) (c .slice-known4 .given)))
+          (Row.get 5 (T14 .locals) (m13 (c .before) (c .slice-known4 .given)) .now) (Row.get 6 (T14 .locals) (m13 (c .before) (c .slice-known4 .given)) .now) (Row.get 7 (T14 .locals) (m13 (c .before) (c .slice-known4 .given)) .now) (Row.get 8 (T14 .locals) (m13 (c .before) (c .slice-known4 .given)) .now) (Row.get 9 (T14 .locals) (m13 (c .before) (c .slice-known4
+          .given)) .now) (Row.get 10 (T14 .locals) (m13 (c .before) (c .slice-known4 .given))) (Row.get 11 (T14 .locals) (m13 (c .before) (c .slice-known4 .given)) .now) (Row.get 12 (T14 .locals) (m13 (c .before) (c .slice-known4 .given)) .now) (Row.get 13 (T14 .locals) (m13 (c .before) (c .slice-known4 .given)) .now) (Row.get 14 (T14 .locals) (m13 (c .before)
+          (c .slice-known4 .given)) .now) (Row.get 15 (T14 .locals) (m13 (c .before) (c .slice-known4 .given))) (Row.get 7 (T14 .locals) (m13 (c .before) (c .slice-known4 .given)) .now) (Row.get 8 (T14 .locals) (m13 (c .before) (c .slice-known4 .given)) .now) (Row.get 9 (T14 .locals) (m13 (c .before) (c .slice-known4 .given)) .now) (Row.get 13 (T14 .locals) (m13
+          (c .before) (c .slice-known4 .given)) .now) (Row.get 14 (T14 .locals) (m13 (c .before) (c .slice-known4 .given)) .now) (Row.get 15 (T14 .locals) (m13 (c .before) (c .slice-known4 .given)))
 
-      abbrev pub m14 : (before : After-slice-known4) → (visited : List.List (Referent.rtF (Referent.fInt Syntax.w16) .Denot)) → (drone-flags : List.List (Referent.rtF (Referent.fInt Syntax.w8) .Denot)) → (dependencies : List.List (Rec.rt .Denot)) → (replies : List.List (Referent.rtF (Referent.fInt Syntax.w16) .Denot)) →
-          (details : List.List (Referent.rtF (Referent.fInt Syntax.w32) .Denot)) → (i : Rows.sc-here (Row.sInt Syntax.w64) .Mod) → Typed.Mo T14
-      m14 = λ before visited drone-flags dependencies replies details i. Row.set 15 (
-        15,
-        Rows.sc-here (Row.sInt Syntax.w64),
-      ) i (Row.setRow 14 (
-        14,
-        Mut.mslice (Referent.rtF (Referent.fInt Syntax.w32)) ty·15 12,
-      ) (Row.setRow 13 (
-        13,
-        Mut.mslice (Referent.rtF (Referent.fInt Syntax.w16)) ty·14 11,
-      ) (Row.setRow 9 (
-        9,
-        Mut.mslice Rec.rt ty·1 8,
-      ) (Row.setRow 8 (
-        8,
-        Mut.mslice (Referent.rtF (Referent.fInt Syntax.w8)) ty·5 7,
-      ) (Row.setRow 7 (
-        7,
-        Mut.mslice (Referent.rtF (Referent.fInt Syntax.w16)) ty·12 6,
-      ) (T14 .locals)))))) (Row.set 14 (
-        14,
-        Mut.mslice (Referent.rtF (Referent.fInt Syntax.w32)) ty·15 12,
-      ) record {
-        ptr = Row.get 14 (T14 .locals) (m13 (before .before) (before .slice-known4 .given)) .ptr;
-        name = Row.get 14 (T14 .locals) (m13 (before .before) (before .slice-known4 .given)) .name;
-        now = details;
-      } (Row.setRow 13 (
-        13,
-        Mut.mslice (Referent.rtF (Referent.fInt Syntax.w16)) ty·14 11,
-      ) (Row.setRow 9 (
-        9,
-        Mut.mslice Rec.rt ty·1 8,
-      ) (Row.setRow 8 (
-        8,
-        Mut.mslice (Referent.rtF (Referent.fInt Syntax.w8)) ty·5 7,
-      ) (Row.setRow 7 (
-        7,
-        Mut.mslice (Referent.rtF (Referent.fInt Syntax.w16)) ty·12 6,
-      ) (T14 .locals))))) (Row.set 13 (
-        13,
-        Mut.mslice (Referent.rtF (Referent.fInt Syntax.w16)) ty·14 11,
-      ) record {
-        ptr = Row.get 13 (T14 .locals) (m13 (before .before) (before .slice-known4 .given)) .ptr;
-        name = Row.get 13 (T14 .locals) (m13 (before .before) (before .slice-known4 .given)) .name;
-        now = replies;
-      } (Row.setRow 9 (
-        9,
-        Mut.mslice Rec.rt ty·1 8,
-      ) (Row.setRow 8 (
-        8,
-        Mut.mslice (Referent.rtF (Referent.fInt Syntax.w8)) ty·5 7,
-      ) (Row.setRow 7 (
-        7,
-        Mut.mslice (Referent.rtF (Referent.fInt Syntax.w16)) ty·12 6,
-      ) (T14 .locals)))) (Row.set 9 (
-        9,
-        Mut.mslice Rec.rt ty·1 8,
-      ) record {
-        ptr = Row.get 9 (T14 .locals) (m13 (before .before) (before .slice-known4 .given)) .ptr;
-        name = Row.get 9 (T14 .locals) (m13 (before .before) (before .slice-known4 .given)) .name;
-        now = dependencies;
-      } (Row.setRow 8 (
-        8,
-        Mut.mslice (Referent.rtF (Referent.fInt Syntax.w8)) ty·5 7,
-      ) (Row.setRow 7 (
-        7,
-        Mut.mslice (Referent.rtF (Referent.fInt Syntax.w16)) ty·12 6,
-      ) (T14 .locals))) (Row.set 8 (
-        8,
-        Mut.mslice (Referent.rtF (Referent.fInt Syntax.w8)) ty·5 7,
-      ) record {
-        ptr = Row.get 8 (T14 .locals) (m13 (before .before) (before .slice-known4 .given)) .ptr;
-        name = Row.get 8 (T14 .locals) (m13 (before .before) (before .slice-known4 .given)) .name;
-        now = drone-flags;
-      } (Row.setRow 7 (
-        7,
-        Mut.mslice (Referent.rtF (Referent.fInt Syntax.w16)) ty·12 6,
-      ) (T14 .locals)) (Row.set 7 (
-        7,
-        Mut.mslice (Referent.rtF (Referent.fInt Syntax.w16)) ty·12 6,
-      ) record {
-        ptr = Row.get 7 (T14 .locals) (m13 (before .before) (before .slice-known4 .given)) .ptr;
-        name = Row.get 7 (T14 .locals) (m13 (before .before) (before .slice-known4 .given)) .name;
-        now = visited;
-      } (T14 .locals) (m13 (before .before) (before .slice-known4 .given)))))))
+      abbrev pub m14 : (before : After-slice-known4) → (visited : List.List (Referent.rtF (Referent.fInt Syntax.w16) .Denot)) → (drone-flags : List.List (Referent.rtF (Referent.fInt Syntax.w8) .Denot)) → (dependencies : List.List (Rec.rt .Denot)) → (replies : List.List (Referent.rtF (Referent.fInt Syntax.w16) .Denot)) → (details : List.List (Referent.rtF
+          (Referent.fInt Syntax.w32) .Denot)) → (i : Rows.sc-here (Row.sInt Syntax.w64) .Mod) → Typed.Mo T14
+      m14 = λ before visited drone-flags dependencies replies details i. Row.set 15 (15, Rows.sc-here (Row.sInt Syntax.w64)) i (Row.setRow 14 (14, Mut.mslice (Referent.rtF (Referent.fInt Syntax.w32)) ty·15 12) (Row.setRow 13 (13, Mut.mslice (Referent.rtF (Referent.fInt Syntax.w16)) ty·14 11) (Row.setRow 9 (9, Mut.mslice Rec.rt ty·1 8) (Row.setRow 8
+          (8, Mut.mslice (Referent.rtF (Referent.fInt Syntax.w8)) ty·5 7) (Row.setRow 7 (7, Mut.mslice (Referent.rtF (Referent.fInt Syntax.w16)) ty·12 6) (T14 .locals)))))) (Row.set 14 (14, Mut.mslice (Referent.rtF (Referent.fInt Syntax.w32)) ty·15 12) record
+          { ptr = Row.get 14 (T14 .locals) (m13 (before .before) (before .slice-known4 .given)) .ptr; name = Row.get 14 (T14 .locals) (m13 (before .before) (before .slice-known4 .given)) .name; now = details } (Row.setRow 13 (13, Mut.mslice (Referent.rtF (Referent.fInt Syntax.w16)) ty·14 11) (Row.setRow 9 (9, Mut.mslice Rec.rt ty·1 8) (Row.setRow 8
+          (8, Mut.mslice (Referent.rtF (Referent.fInt Syntax.w8)) ty·5 7) (Row.setRow 7 (7, Mut.mslice (Referent.rtF (Referent.fInt Syntax.w16)) ty·12 6) (T14 .locals))))) (Row.set 13 (13, Mut.mslice (Referent.rtF (Referent.fInt Syntax.w16)) ty·14 11) record
+          { ptr = Row.get 13 (T14 .locals) (m13 (before .before) (before .slice-known4 .given)) .ptr; name = Row.get 13 (T14 .locals) (m13 (before .before) (before .slice-known4 .given)) .name; now = replies } (Row.setRow 9 (9, Mut.mslice Rec.rt ty·1 8) (Row.setRow 8 (8, Mut.mslice (Referent.rtF (Referent.fInt Syntax.w8)) ty·5 7) (Row.setRow 7
+          (7, Mut.mslice (Referent.rtF (Referent.fInt Syntax.w16)) ty·12 6) (T14 .locals)))) (Row.set 9 (9, Mut.mslice Rec.rt ty·1 8) record { ptr = Row.get 9 (T14 .locals) (m13 (before .before) (before .slice-known4 .given)) .ptr; name = Row.get 9 (T14 .locals) (m13 (before .before) (before .slice-known4 .given)) .name; now = dependencies } (Row.setRow 8
+          (8, Mut.mslice (Referent.rtF (Referent.fInt Syntax.w8)) ty·5 7) (Row.setRow 7 (7, Mut.mslice (Referent.rtF (Referent.fInt Syntax.w16)) ty·12 6) (T14 .locals))) (Row.set 8 (8, Mut.mslice (Referent.rtF (Referent.fInt Syntax.w8)) ty·5 7) record
+          { ptr = Row.get 8 (T14 .locals) (m13 (before .before) (before .slice-known4 .given)) .ptr; name = Row.get 8 (T14 .locals) (m13 (before .before) (before .slice-known4 .given)) .name; now = drone-flags } (Row.setRow 7 (7, Mut.mslice (Referent.rtF (Referent.fInt Syntax.w16)) ty·12 6) (T14 .locals)) (Row.set 7
+          (7, Mut.mslice (Referent.rtF (Referent.fInt Syntax.w16)) ty·12 6) record { ptr = Row.get 7 (T14 .locals) (m13 (before .before) (before .slice-known4 .given)) .ptr; name = Row.get 7 (T14 .locals) (m13 (before .before) (before .slice-known4 .given)) .name; now = visited } (T14 .locals) (m13 (before .before) (before .slice-known4 .given)))))))
 
-      abbrev W3 : (before : After-slice-known4) → (visited : List.List (Referent.rtF (Referent.fInt Syntax.w16) .Denot)) → (drone-flags : List.List (Referent.rtF (Referent.fInt Syntax.w8) .Denot)) → (dependencies : List.List (Rec.rt .Denot)) → (replies : List.List (Referent.rtF (Referent.fInt Syntax.w16) .Denot)) →
-          (details : List.List (Referent.rtF (Referent.fInt Syntax.w32) .Denot)) → (i : Rows.sc-here (Row.sInt Syntax.w64) .Mod) → Typed.Want O3
-      W3 = λ before visited drone-flags dependencies replies details i. Typed.inLoop T14 O2 (Typed.Round T14 O2 put0 (λ u vs. Inv·0 (Row.get 1 (T14 .locals) u .now) (Row.get 2 (T14 .locals) u .now) (Row.get 3 (T14 .locals) u .now) (Row.get 4 (T14 .locals) u .now) (Row.get 5 (T14 .locals) u .now) (Row.get 6 (T14 .locals) u .now)
-          (Row.get 7 (T14 .locals) u .now) (Row.get 8 (T14 .locals) u .now) (Row.get 9 (T14 .locals) u .now) (Row.get 10 (T14 .locals) u) (Row.get 11 (T14 .locals) u .now) (Row.get 12 (T14 .locals) u .now) (Row.get 13 (T14 .locals) u .now) (Row.get 14 (T14 .locals) u .now) (Row.get 15 (T14 .locals) u) (vs .0) (vs .1) (vs .2) (vs .3) (vs .4) (vs .5))
-          (λ u vs. μ·0 (Row.get 1 (T14 .locals) u .now) (Row.get 2 (T14 .locals) u .now) (Row.get 3 (T14 .locals) u .now) (Row.get 4 (T14 .locals) u .now) (Row.get 5 (T14 .locals) u .now) (Row.get 6 (T14 .locals) u .now) (Row.get 7 (T14 .locals) u .now) (Row.get 8 (T14 .locals) u .now) (Row.get 9 (T14 .locals) u .now) (Row.get 10 (T14 .locals) u)
-          (Row.get 11 (T14 .locals) u .now) (Row.get 12 (T14 .locals) u .now) (Row.get 13 (T14 .locals) u .now) (Row.get 14 (T14 .locals) u .now) (Row.get 15 (T14 .locals) u) (vs .0) (vs .1) (vs .2) (vs .3) (vs .4) (vs .5)) at51 (m13 (before .before) (before .slice-known4 .given)) (visited, drone-flags, dependencies, replies, details, i))
-          (W2 (before .before) (before .slice-known4 .given))
+      abbrev W3 : (before : After-slice-known4) → (visited : List.List (Referent.rtF (Referent.fInt Syntax.w16) .Denot)) → (drone-flags : List.List (Referent.rtF (Referent.fInt Syntax.w8) .Denot)) → (dependencies : List.List (Rec.rt .Denot)) → (replies : List.List (Referent.rtF (Referent.fInt Syntax.w16) .Denot)) → (details : List.List (Referent.rtF
+          (Referent.fInt Syntax.w32) .Denot)) → (i : Rows.sc-here (Row.sInt Syntax.w64) .Mod) → Typed.Want O3
+      W3 = λ before visited drone-flags dependencies replies details i. Typed.inLoop T14 O2 (Typed.Round T14 O2 put0 (λ u vs. Inv·0 (Row.get 1 (T14 .locals) u .now) (Row.get 2 (T14 .locals) u .now) (Row.get 3 (T14 .locals) u .now) (Row.get 4 (T14 .locals) u .now) (Row.get 5 (T14 .locals) u .now) (Row.get 6 (T14 .locals) u .now) (Row.get 7 (T14 .locals) u
+          .now) (Row.get 8 (T14 .locals) u .now) (Row.get 9 (T14 .locals) u .now) (Row.get 10 (T14 .locals) u) (Row.get 11 (T14 .locals) u .now) (Row.get 12 (T14 .locals) u .now) (Row.get 13 (T14 .locals) u .now) (Row.get 14 (T14 .locals) u .now) (Row.get 15 (T14 .locals) u) (vs .0) (vs .1) (vs .2) (vs .3) (vs .4) (vs .5)) (λ u vs. μ·0 (Row.get 1 (T14 .locals) u
+          .now) (Row.get 2 (T14 .locals) u .now) (Row.get 3 (T14 .locals) u .now) (Row.get 4 (T14 .locals) u .now) (Row.get 5 (T14 .locals) u .now) (Row.get 6 (T14 .locals) u .now) (Row.get 7 (T14 .locals) u .now) (Row.get 8 (T14 .locals) u .now) (Row.get 9 (T14 .locals) u .now) (Row.get 10 (T14 .locals) u) (Row.get 11 (T14 .locals) u .now) (Row.get 12 (T14
+          .locals) u .now) (Row.get 13 (T14 .locals) u .now) (Row.get 14 (T14 .locals) u .now) (Row.get 15 (T14 .locals) u) (vs .0) (vs .1) (vs .2) (vs .3) (vs .4) (vs .5)) at51 (m13 (before .before) (before .slice-known4 .given)) (visited, drone-flags, dependencies, replies, details, i)) (W2 (before .before) (before .slice-known4 .given))
 
-      abbrev pub m15 : (before : After-slice-known4) → (visited : List.List (Referent.rtF (Referent.fInt Syntax.w16) .Denot)) → (drone-flags : List.List (Referent.rtF (Referent.fInt Syntax.w8) .Denot)) → (dependencies : List.List (Rec.rt .Denot)) → (replies : List.List (Referent.rtF (Referent.fInt Syntax.w16) .Denot)) →
-          (details : List.List (Referent.rtF (Referent.fInt Syntax.w32) .Denot)) → (i : Rows.sc-here (Row.sInt Syntax.w64) .Mod) → Typed.Mo T16
+      abbrev pub m15 : (before : After-slice-known4) → (visited : List.List (Referent.rtF (Referent.fInt Syntax.w16) .Denot)) → (drone-flags : List.List (Referent.rtF (Referent.fInt Syntax.w8) .Denot)) → (dependencies : List.List (Rec.rt .Denot)) → (replies : List.List (Referent.rtF (Referent.fInt Syntax.w16) .Denot)) → (details : List.List (Referent.rtF
+          (Referent.fInt Syntax.w32) .Denot)) → (i : Rows.sc-here (Row.sInt Syntax.w64) .Mod) → Typed.Mo T16
       m15 = λ before visited drone-flags dependencies replies details i. s13 .next (m14 before visited drone-flags dependencies replies details i)
 
-      abbrev W4 : (before : After-slice-known4) → (visited : List.List (Referent.rtF (Referent.fInt Syntax.w16) .Denot)) → (drone-flags : List.List (Referent.rtF (Referent.fInt Syntax.w8) .Denot)) → (dependencies : List.List (Rec.rt .Denot)) → (replies : List.List (Referent.rtF (Referent.fInt Syntax.w16) .Denot)) →
-          (details : List.List (Referent.rtF (Referent.fInt Syntax.w32) .Denot)) → (i : Rows.sc-here (Row.sInt Syntax.w64) .Mod) → Typed.Want O4
-      W4 = λ before visited drone-flags dependencies replies details i. Typed.wantNext T17 O3 (at49 (W3 before visited drone-flags dependencies replies details i)) (W3 before visited drone-flags dependencies replies details i)
+      abbrev W4 : (before : After-slice-known4) → (visited : List.List (Referent.rtF (Referent.fInt Syntax.w16) .Denot)) → (drone-flags : List.List (Referent.rtF (Referent.fInt Syntax.w8) .Denot)) → (dependencies : List.List (Rec.rt .Denot)) → (replies : List.List (Referent.rtF (Referent.fInt Syntax.w16) .Denot)) → (details : List.List (Referent.rtF
+          (Referent.fInt Syntax.w32) .Denot)) → (i : Rows.sc-here (Row.sInt Syntax.w64) .Mod) → Typed.Want O4
+      W4 = λ before visited drone-flags dependencies replies details i. Typed.wantNext T14 O3 (at48 (W3 before visited drone-flags dependencies replies details i)) (W3 before visited drone-flags dependencies replies details i)
 
       module _ (before· : After-slice-known4) where
         pub record At-loop·own : Type 0 where
@@ -2766,11 +1622,10 @@ module _ (claims· : Claims) where
           pub replies : List.List (Referent.rtF (Referent.fInt Syntax.w16) .Denot)
           pub details : List.List (Referent.rtF (Referent.fInt Syntax.w32) .Denot)
           pub i : Rows.sc-here (Row.sInt Syntax.w64) .Mod
-          pub inv : Inv·0 (Row.get 1 (T14 .locals) (m13 (before· .before) (before· .slice-known4 .given)) .now) (Row.get 2 (T14 .locals) (m13 (before· .before) (before· .slice-known4 .given)) .now) (Row.get 3 (T14 .locals) (m13 (before· .before) (before· .slice-known4 .given)) .now)
-              (Row.get 4 (T14 .locals) (m13 (before· .before) (before· .slice-known4 .given)) .now) (Row.get 5 (T14 .locals) (m13 (before· .before) (before· .slice-known4 .given)) .now) (Row.get 6 (T14 .locals) (m13 (before· .before) (before· .slice-known4 .given)) .now) (Row.get 7 (T14 .locals) (m13 (before· .before) (before· .slice-known4 .given)) .now)
-              (Row.get 8 (T14 .locals) (m13 (before· .before) (before· .slice-known4 .given)) .now) (Row.get 9 (T14 .locals) (m13 (before· .before) (before· .slice-known4 .given)) .now) (Row.get 10 (T14 .locals) (m13 (before· .before) (before· .slice-known4 .given))) (Row.get 11 (T14 .locals) (m13 (before· .before) (before· .slice-known4 .given)) .now)
-              (Row.get 12 (T14 .locals) (m13 (before· .before) (before· .slice-known4 .given)) .now) (Row.get 13 (T14 .locals) (m13 (before· .before) (before· .slice-known4 .given)) .now) (Row.get 14 (T14 .locals) (m13 (before· .before) (before· .slice-known4 .given)) .now) (Row.get 15 (T14 .locals) (m13 (before· .before) (before· .slice-known4 .given)))
-              visited drone-flags dependencies replies details i
+          pub inv : Inv·0 (Row.get 1 (T14 .locals) (m13 (before· .before) (before· .slice-known4 .given)) .now) (Row.get 2 (T14 .locals) (m13 (before· .before) (before· .slice-known4 .given)) .now) (Row.get 3 (T14 .locals) (m13 (before· .before) (before· .slice-known4 .given)) .now) (Row.get 4 (T14 .locals) (m13 (before· .before) (before· .slice-known4
+              .given)) .now) (Row.get 5 (T14 .locals) (m13 (before· .before) (before· .slice-known4 .given)) .now) (Row.get 6 (T14 .locals) (m13 (before· .before) (before· .slice-known4 .given)) .now) (Row.get 7 (T14 .locals) (m13 (before· .before) (before· .slice-known4 .given)) .now) (Row.get 8 (T14 .locals) (m13 (before· .before) (before· .slice-known4
+              .given)) .now) (Row.get 9 (T14 .locals) (m13 (before· .before) (before· .slice-known4 .given)) .now) (Row.get 10 (T14 .locals) (m13 (before· .before) (before· .slice-known4 .given))) (Row.get 11 (T14 .locals) (m13 (before· .before) (before· .slice-known4 .given)) .now) (Row.get 12 (T14 .locals) (m13 (before· .before) (before· .slice-known4 .given))
+              .now) (Row.get 13 (T14 .locals) (m13 (before· .before) (before· .slice-known4 .given)) .now) (Row.get 14 (T14 .locals) (m13 (before· .before) (before· .slice-known4 .given)) .now) (Row.get 15 (T14 .locals) (m13 (before· .before) (before· .slice-known4 .given))) visited drone-flags dependencies replies details i
 
       pub record At-loop : Type 0 where
         pub before : After-slice-known4
@@ -2778,33 +1633,30 @@ module _ (claims· : Claims) where
 
       module _ (before· : At-loop) where
         pub record In-loop·own : Type 0 where
-          pub taken : Nat._<_ (Row.get 15 (T14 .locals) (m14 (before· .before) (before· .loop .visited) (before· .loop .drone-flags) (before· .loop .dependencies) (before· .loop .replies) (before· .loop .details) (before· .loop .i))) (Row.get 10 (T14 .locals) (m14 (before· .before) (before· .loop .visited) (before· .loop .drone-flags)
-              (before· .loop .dependencies) (before· .loop .replies) (before· .loop .details) (before· .loop .i)))
+          pub taken : Nat._<_ (Row.get 15 (T14 .locals) (m14 (before· .before) (before· .loop .visited) (before· .loop .drone-flags) (before· .loop .dependencies) (before· .loop .replies) (before· .loop .details) (before· .loop .i))) (Row.get 10 (T14 .locals) (m14 (before· .before) (before· .loop .visited) (before· .loop .drone-flags) (before· .loop
+              .dependencies) (before· .loop .replies) (before· .loop .details) (before· .loop .i)))
 
       pub record In-loop : Type 0 where
         pub before : At-loop
         pub loop-test : In-loop·own before
 
-      abbrev pub m16 : (before : At-loop) → Typed.Mo T18
+      abbrev pub m16 : (before : At-loop) → Typed.Mo T14
       m16 = λ before. s14 (m15 (before .before) (before .loop .visited) (before .loop .drone-flags) (before .loop .dependencies) (before .loop .replies) (before .loop .details) (before .loop .i))
 
       module _ (before· : At-loop) where
         pub record After-loop·own : Type 0 where
-          pub left : Nat._≤_ (Row.get 10 (T14 .locals) (m14 (before· .before) (before· .loop .visited) (before· .loop .drone-flags) (before· .loop .dependencies) (before· .loop .replies) (before· .loop .details) (before· .loop .i))) (Row.get 15 (T14 .locals) (m14 (before· .before) (before· .loop .visited) (before· .loop .drone-flags)
-              (before· .loop .dependencies) (before· .loop .replies) (before· .loop .details) (before· .loop .i)))
+          pub left : Nat._≤_ (Row.get 10 (T14 .locals) (m14 (before· .before) (before· .loop .visited) (before· .loop .drone-flags) (before· .loop .dependencies) (before· .loop .replies) (before· .loop .details) (before· .loop .i))) (Row.get 15 (T14 .locals) (m14 (before· .before) (before· .loop .visited) (before· .loop .drone-flags) (before· .loop
+              .dependencies) (before· .loop .replies) (before· .loop .details) (before· .loop .i)))
 
       pub record After-loop : Type 0 where
         pub before : At-loop
         pub loop-test : After-loop·own before
 
-      abbrev pub m17 : (before : At-loop) → Typed.Mo T19
+      abbrev pub m17 : (before : At-loop) → Typed.Mo T14
       m17 = λ before. s15 (m15 (before .before) (before .loop .visited) (before .loop .drone-flags) (before .loop .dependencies) (before .loop .replies) (before .loop .details) (before .loop .i))
 
-      abbrev pub m18 : (before : In-loop) → (given : s17 .gives (m16 (before .before))) → Typed.Mo T21
-      m18 = λ before given. s17 .next (m16 (before .before)) given
-
       abbrev pub m19 : (before : In-loop) → (given : s17 .gives (m16 (before .before))) → Typed.Mo T22
-      m19 = λ before given. s18 .next (m18 before given)
+      m19 = λ before given. s18 .next (s17 .next (m16 (before .before)) given)
 
       module _ (before· : In-loop) where
         pub record After-make-request-arg·own : Type 0 where
@@ -2814,11 +1666,8 @@ module _ (claims· : Claims) where
         pub before : In-loop
         pub make-request-arg : After-make-request-arg·own before
 
-      abbrev pub m20 : (before : After-make-request-arg) → (given : s20 .gives (m19 (before .before) (before .make-request-arg .given))) → Typed.Mo T24
-      m20 = λ before given. s20 .next (m19 (before .before) (before .make-request-arg .given)) given
-
       abbrev pub m21 : (before : After-make-request-arg) → (given : s20 .gives (m19 (before .before) (before .make-request-arg .given))) → Typed.Mo T25
-      m21 = λ before given. s21 .next (m20 before given)
+      m21 = λ before given. s21 .next (s20 .next (m19 (before .before) (before .make-request-arg .given)) given)
 
       module _ (before· : After-make-request-arg) where
         pub record After-make-request-arg2·own : Type 0 where
@@ -2828,14 +1677,8 @@ module _ (claims· : Claims) where
         pub before : After-make-request-arg
         pub make-request-arg2 : After-make-request-arg2·own before
 
-      abbrev pub m22 : (before : After-make-request-arg2) → (given : s23 .gives (m21 (before .before) (before .make-request-arg2 .given))) → Typed.Mo T27
-      m22 = λ before given. s23 .next (m21 (before .before) (before .make-request-arg2 .given)) given
-
-      abbrev pub m23 : (before : After-make-request-arg2) → (given : s23 .gives (m21 (before .before) (before .make-request-arg2 .given))) → Typed.Mo T28
-      m23 = λ before given. s24 .next (m22 before given)
-
       abbrev pub m24 : (before : After-make-request-arg2) → (given : s23 .gives (m21 (before .before) (before .make-request-arg2 .given))) → Typed.Mo T29
-      m24 = λ before given. s25 .next (m23 before given)
+      m24 = λ before given. s25 .next (s24 .next (s23 .next (m21 (before .before) (before .make-request-arg2 .given)) given))
 
       module _ (before· : After-make-request-arg2) where
         pub record After-make-request-arg3·own : Type 0 where
@@ -2845,7 +1688,7 @@ module _ (claims· : Claims) where
         pub before : After-make-request-arg2
         pub make-request-arg3 : After-make-request-arg3·own before
 
-      abbrev pub m25 : (before : After-make-request-arg3) → (given : s26 .gives (m24 (before .before) (before .make-request-arg3 .given))) → Typed.Mo T30
+      abbrev pub m25 : (before : After-make-request-arg3) → (given : s26 .gives (m24 (before .before) (before .make-request-arg3 .given))) → Typed.Mo T29
       m25 = λ before given. s26 .next (m24 (before .before) (before .make-request-arg3 .given)) given
 
       module _ (before· : After-make-request-arg3) where
@@ -2857,24 +1700,18 @@ module _ (claims· : Claims) where
         pub shared-slice-known9 : After-shared-slice-known9·own before
 
       abbrev pub Need-shared-slice-read-make-request : Type 0
-      Need-shared-slice-read-make-request = (c : After-shared-slice-known9) → Shared.InSlice T30 11 24 (λ x. x) (λ u. u .1 .1 .1 .1 .1 .1 .1 .1 .1 .1 .1 .1 .1 .1 .1 .0) (m25 (c .before) (c .shared-slice-known9 .given))
-
-      abbrev pub m26 : (before : After-make-request-arg3) → (given : s26 .gives (m24 (before .before) (before .make-request-arg3 .given))) → Typed.Mo T31
-      m26 = λ before given. s27 .next (m25 before given)
+      Need-shared-slice-read-make-request = (c : After-shared-slice-known9) → Shared.InSlice T29 11 24 (λ x. x) (λ u. u .1 .1 .1 .1 .1 .1 .1 .1 .1 .1 .1 .1 .1 .1 .1 .0) (m25 (c .before) (c .shared-slice-known9 .given))
 
       abbrev pub m27 : (before : After-make-request-arg3) → (given : s26 .gives (m24 (before .before) (before .make-request-arg3 .given))) → Typed.Mo T32
-      m27 = λ before given. s28 (m26 before given)
+      m27 = λ before given. s28 (s27 .next (m25 before given))
 
       abbrev pub Need-mul-make-request : Type 0
       Need-mul-make-request = (c : After-shared-slice-known9) → s29 .asks (m27 (c .before) (c .shared-slice-known9 .given))
 
-      abbrev pub m28 : (before : After-make-request-arg3) → (given : s26 .gives (m24 (before .before) (before .make-request-arg3 .given))) → Typed.Mo T33
-      m28 = λ before given. s29 .next (m27 before given)
-
       abbrev pub m29 : (before : After-make-request-arg3) → (given : s26 .gives (m24 (before .before) (before .make-request-arg3 .given))) → Typed.Mo T34
-      m29 = λ before given. s30 .next (m28 before given)
+      m29 = λ before given. s30 .next (s29 .next (m27 before given))
 
-      abbrev pub m30 : (before : After-shared-slice-known9) → (given : s31 .gives (m29 (before .before) (before .shared-slice-known9 .given))) → Typed.Mo T35
+      abbrev pub m30 : (before : After-shared-slice-known9) → (given : s31 .gives (m29 (before .before) (before .shared-slice-known9 .given))) → Typed.Mo T34
       m30 = λ before given. s31 .next (m29 (before .before) (before .shared-slice-known9 .given)) given
 
       module _ (before· : After-shared-slice-known9) where
@@ -2886,16 +1723,10 @@ module _ (claims· : Claims) where
         pub shared-slice-known10 : After-shared-slice-known10·own before
 
       abbrev pub Need-shared-slice-read-make-request-2 : Type 0
-      Need-shared-slice-read-make-request-2 = (c : After-shared-slice-known10) → Shared.InSlice T35 12 27 (λ x. x) (λ u. u .1 .1 .1 .1 .1 .1 .1 .1 .1 .1 .1 .1 .1 .1 .1 .0) (m30 (c .before) (c .shared-slice-known10 .given))
-
-      abbrev pub m31 : (before : After-shared-slice-known9) → (given : s31 .gives (m29 (before .before) (before .shared-slice-known9 .given))) → Typed.Mo T36
-      m31 = λ before given. s32 .next (m30 before given)
-
-      abbrev pub m32 : (before : After-shared-slice-known9) → (given : s31 .gives (m29 (before .before) (before .shared-slice-known9 .given))) → Typed.Mo T37
-      m32 = λ before given. s33 (m31 before given)
+      Need-shared-slice-read-make-request-2 = (c : After-shared-slice-known10) → Shared.InSlice T34 12 27 (λ x. x) (λ u. u .1 .1 .1 .1 .1 .1 .1 .1 .1 .1 .1 .1 .1 .1 .1 .0) (m30 (c .before) (c .shared-slice-known10 .given))
 
       abbrev pub m33 : (before : After-shared-slice-known9) → (given : s31 .gives (m29 (before .before) (before .shared-slice-known9 .given))) → Typed.Mo T38
-      m33 = λ before given. s34 (m32 before given)
+      m33 = λ before given. s34 (s33 (s32 .next (m30 before given)))
 
       abbrev pub Need-make-request-requires : Type 0
       Need-make-request-requires = (c : After-shared-slice-known10) → s35 .asks (m33 (c .before) (c .shared-slice-known10 .given))
@@ -2905,100 +1736,17 @@ module _ (claims· : Claims) where
 
       module _ (before· : After-shared-slice-known10) where
         abbrev pub After-make-request·own : Type 0
-        After-make-request·own = Called.Called ps·0 r·0 (claims· .1) T38 (
-          record { pos = 1; ty = Syntax.tyRef (Syntax.named 0) Syntax.imm (Syntax.tyInt Syntax.w16); ref = λ x. x },
-          (
-            record { pos = 2; ty = Syntax.tyRef (Syntax.named 1) Syntax.imm (Syntax.tyInt Syntax.w16); ref = λ x. x },
-            (
-              record {
-                pos = 3;
-                ty = Syntax.tyRef (Syntax.named 2) Syntax.imm (Syntax.tyInt Syntax.w8);
-                ref = λ x. x;
-              },
-              (
-                record { pos = 4; ty = Syntax.tyRef (Syntax.named 3) Syntax.imm (Syntax.tyInt Syntax.w16); ref = λ x. x },
-                (
-                  record { pos = 5; ty = Syntax.tyRef (Syntax.named 4) Syntax.imm (Syntax.tyInt Syntax.w16); ref = λ x. x },
-                  (
-                    record {
-                      pos = 6;
-                      ty = Syntax.tyRef (Syntax.named 5) Syntax.imm (Syntax.tyInt Syntax.w32);
-                      ref = λ x. x;
-                    },
-                    (
-                      record { pos = 19; ty = Syntax.tyRef Syntax.erased Syntax.mut (Syntax.tyInt Syntax.w16); ref = λ x. x },
-                      (
-                        record { pos = 21; ty = Syntax.tyRef Syntax.erased Syntax.mut (Syntax.tyInt Syntax.w8); ref = λ x. x },
-                        (
-                          record {
-                            pos = 23;
-                            ty = Syntax.tyRef
-                                Syntax.erased Syntax.mut Rec.behind;
-                            ref = λ x. x;
-                          },
-                          (Num.vAt 25 λ x. x, (Num.vAt 28 λ x. x, tt)),
-                        ),
-                      ),
-                    ),
-                  ),
-                ),
-              ),
-            ),
-          ),
-        ) (m33 (before· .before) (before· .shared-slice-known10 .given))
+        After-make-request·own = Called.Called ps·0 r·0 (claims· .1) T38 args·0 (m33 (before· .before) (before· .shared-slice-known10 .given))
 
       pub record After-make-request : Type 0 where
         pub before : After-shared-slice-known10
         pub make-request : After-make-request·own before
 
       abbrev pub After-make-request·gave : (c : After-make-request) → s35 .gives (m33 (c .before .before) (c .before .shared-slice-known10 .given))
-      After-make-request·gave = λ c. Called.given ps·0 r·0 (claims· .1) T38 (
-        record { pos = 1; ty = Syntax.tyRef (Syntax.named 0) Syntax.imm (Syntax.tyInt Syntax.w16); ref = λ x. x },
-        (
-          record { pos = 2; ty = Syntax.tyRef (Syntax.named 1) Syntax.imm (Syntax.tyInt Syntax.w16); ref = λ x. x },
-          (
-            record {
-              pos = 3;
-              ty = Syntax.tyRef (Syntax.named 2) Syntax.imm (Syntax.tyInt Syntax.w8);
-              ref = λ x. x;
-            },
-            (
-              record { pos = 4; ty = Syntax.tyRef (Syntax.named 3) Syntax.imm (Syntax.tyInt Syntax.w16); ref = λ x. x },
-              (
-                record { pos = 5; ty = Syntax.tyRef (Syntax.named 4) Syntax.imm (Syntax.tyInt Syntax.w16); ref = λ x. x },
-                (
-                  record {
-                    pos = 6;
-                    ty = Syntax.tyRef (Syntax.named 5) Syntax.imm (Syntax.tyInt Syntax.w32);
-                    ref = λ x. x;
-                  },
-                  (
-                    record { pos = 19; ty = Syntax.tyRef Syntax.erased Syntax.mut (Syntax.tyInt Syntax.w16); ref = λ x. x },
-                    (
-                      record { pos = 21; ty = Syntax.tyRef Syntax.erased Syntax.mut (Syntax.tyInt Syntax.w8); ref = λ x. x },
-                      (
-                        record {
-                          pos = 23;
-                          ty = Syntax.tyRef
-                              Syntax.erased Syntax.mut Rec.behind;
-                          ref = λ x. x;
-                        },
-                        (Num.vAt 25 λ x. x, (Num.vAt 28 λ x. x, tt)),
-                      ),
-                    ),
-                  ),
-                ),
-              ),
-            ),
-          ),
-        ),
-      ) (m33 (c .before .before) (c .before .shared-slice-known10 .given)) (c .make-request)
-
-      abbrev pub m35 : (before : After-shared-slice-known10) → (given : s35 .gives (m33 (before .before) (before .shared-slice-known10 .given))) → Typed.Mo T40
-      m35 = λ before given. s36 (m34 before given)
+      After-make-request·gave = λ c. Called.given ps·0 r·0 (claims· .1) T38 args·0 (m33 (c .before .before) (c .before .shared-slice-known10 .given)) (c .make-request)
 
       abbrev pub m36 : (before : After-shared-slice-known10) → (given : s35 .gives (m33 (before .before) (before .shared-slice-known10 .given))) → Typed.Mo T41
-      m36 = λ before given. s37 (m35 before given)
+      m36 = λ before given. s37 (s36 (m34 before given))
 
       abbrev pub m37 : (before : After-make-request) → (given : s39 .gives (m36 (before .before) (After-make-request·gave before))) → Typed.Mo T43
       m37 = λ before given. s39 .next (m36 (before .before) (After-make-request·gave before)) given
@@ -3011,7 +1759,7 @@ module _ (claims· : Claims) where
         pub before : After-make-request
         pub visited : After-visited·own before
 
-      abbrev pub m38 : (before : After-visited) → (given : s40 .gives (m37 (before .before) (before .visited .given))) → Typed.Mo T44
+      abbrev pub m38 : (before : After-visited) → (given : s40 .gives (m37 (before .before) (before .visited .given))) → Typed.Mo T43
       m38 = λ before given. s40 .next (m37 (before .before) (before .visited .given)) given
 
       module _ (before· : After-visited) where
@@ -3033,7 +1781,7 @@ module _ (claims· : Claims) where
         pub before : After-slice-known5
         pub drone-flags : After-drone-flags·own before
 
-      abbrev pub m40 : (before : After-drone-flags) → (given : s44 .gives (m39 (before .before) (before .drone-flags .given))) → Typed.Mo T48
+      abbrev pub m40 : (before : After-drone-flags) → (given : s44 .gives (m39 (before .before) (before .drone-flags .given))) → Typed.Mo T47
       m40 = λ before given. s44 .next (m39 (before .before) (before .drone-flags .given)) given
 
       module _ (before· : After-drone-flags) where
@@ -3058,1091 +1806,140 @@ module _ (claims· : Claims) where
       abbrev pub Need-mul-replies : Type 0
       Need-mul-replies = (c : After-dependencies) → s49 .asks (m41 (c .before) (c .dependencies .given))
 
-      abbrev pub m42 : (before : After-slice-known6) → (given : s47 .gives (m40 (before .before) (before .slice-known6 .given))) → Typed.Mo T53
-      m42 = λ before given. s49 .next (m41 before given)
-
       abbrev pub m43 : (before : After-slice-known6) → (given : s47 .gives (m40 (before .before) (before .slice-known6 .given))) → Typed.Mo T54
-      m43 = λ before given. s50 .next (m42 before given)
+      m43 = λ before given. s50 .next (s49 .next (m41 before given))
 
       abbrev pub Need-slice-write-replies : Type 0
       Need-slice-write-replies = (c : After-dependencies) → Shared.InSlice T54 13 29 (λ x. x) (λ u. u .1 .1 .1 .1 .1 .1 .1 .1 .1 .1 .1 .1 .1 .1 .1 .0) (m43 (c .before) (c .dependencies .given))
 
-      abbrev pub m44 : (before : After-slice-known6) → (given : s47 .gives (m40 (before .before) (before .slice-known6 .given))) → Typed.Mo T55
-      m44 = λ before given. s51 .next (m43 before given)
-
-      abbrev pub m45 : (before : After-slice-known6) → (given : s47 .gives (m40 (before .before) (before .slice-known6 .given))) → Typed.Mo T56
-      m45 = λ before given. s52 (m44 before given)
-
-      abbrev pub m46 : (before : After-slice-known6) → (given : s47 .gives (m40 (before .before) (before .slice-known6 .given))) → Typed.Mo T57
-      m46 = λ before given. s53 (m45 before given)
+      abbrev pub m46 : (before : After-slice-known6) → (given : s47 .gives (m40 (before .before) (before .slice-known6 .given))) → Typed.Mo T51
+      m46 = λ before given. s53 (s52 (s51 .next (m43 before given)))
 
       abbrev pub Need-mul-details : Type 0
       Need-mul-details = (c : After-dependencies) → s54 .asks (m46 (c .before) (c .dependencies .given))
 
-      abbrev pub m47 : (before : After-slice-known6) → (given : s47 .gives (m40 (before .before) (before .slice-known6 .given))) → Typed.Mo T58
-      m47 = λ before given. s54 .next (m46 before given)
-
       abbrev pub m48 : (before : After-slice-known6) → (given : s47 .gives (m40 (before .before) (before .slice-known6 .given))) → Typed.Mo T59
-      m48 = λ before given. s55 .next (m47 before given)
+      m48 = λ before given. s55 .next (s54 .next (m46 before given))
 
       abbrev pub Need-slice-write-details : Type 0
       Need-slice-write-details = (c : After-dependencies) → Shared.InSlice T59 14 30 (λ x. x) (λ u. u .1 .1 .1 .1 .1 .1 .1 .1 .1 .1 .1 .1 .1 .1 .1 .0) (m48 (c .before) (c .dependencies .given))
 
-      abbrev pub m49 : (before : After-slice-known6) → (given : s47 .gives (m40 (before .before) (before .slice-known6 .given))) → Typed.Mo T60
-      m49 = λ before given. s56 .next (m48 before given)
-
-      abbrev pub m50 : (before : After-slice-known6) → (given : s47 .gives (m40 (before .before) (before .slice-known6 .given))) → Typed.Mo T61
-      m50 = λ before given. s57 (m49 before given)
-
-      abbrev pub m51 : (before : After-slice-known6) → (given : s47 .gives (m40 (before .before) (before .slice-known6 .given))) → Typed.Mo T62
-      m51 = λ before given. s58 (m50 before given)
-
-      abbrev pub m52 : (before : After-slice-known6) → (given : s47 .gives (m40 (before .before) (before .slice-known6 .given))) → Typed.Mo T63
-      m52 = λ before given. s59 (m51 before given)
+      abbrev pub m52 : (before : After-slice-known6) → (given : s47 .gives (m40 (before .before) (before .slice-known6 .given))) → Typed.Mo T14
+      m52 = λ before given. s59 (s58 (s57 (s56 .next (m48 before given))))
 
       abbrev pub Need-add-i : Type 0
       Need-add-i = (c : After-dependencies) → s60 .asks (m52 (c .before) (c .dependencies .given))
 
-      abbrev pub m53 : (before : After-slice-known6) → (given : s47 .gives (m40 (before .before) (before .slice-known6 .given))) → Typed.Mo T64
+      abbrev pub m53 : (before : After-slice-known6) → (given : s47 .gives (m40 (before .before) (before .slice-known6 .given))) → Typed.Mo T14
       m53 = λ before given. s60 .next (m52 before given)
 
       abbrev pub Need-loop-less : Type 0
-      Need-loop-less = (c : After-dependencies) → Nat._<_ (μ·0 (Row.get 1 (T14 .locals) (m13 (c .before .before .before .before .before .before .before .before .before .before .before .before .before .before) (c .before .before .before .before .before .before .before .before .before .before
-          .before .before .before .slice-known4 .given)) .now) (Row.get 2 (T14 .locals) (m13 (c .before .before .before .before .before .before .before .before .before .before .before .before .before .before) (c .before .before .before .before .before .before .before .before .before .before
-          .before .before .before .slice-known4 .given)) .now) (Row.get 3 (T14 .locals) (m13 (c .before .before .before .before .before .before .before .before .before .before .before .before .before .before) (c .before .before .before .before .before .before .before .before .before .before
-          .before .before .before .slice-known4 .given)) .now) (Row.get 4 (T14 .locals) (m13 (c .before .before .before .before .before .before .before .before .before .before .before .before .before .before) (c .before .before .before .before .before .before .before .before .before .before
-          .before .before .before .slice-known4 .given)) .now) (Row.get 5 (T14 .locals) (m13 (c .before .before .before .before .before .before .before .before .before .before .before .before .before .before) (c .before .before .before .before .before .before .before .before .before .before
-          .before .before .before .slice-known4 .given)) .now) (Row.get 6 (T14 .locals) (m13 (c .before .before .before .before .before .before .before .before .before .before .before .before .before .before) (c .before .before .before .before .before .before .before .before .before .before
-          .before .before .before .slice-known4 .given)) .now) (Row.get 7 (T14 .locals) (m13 (c .before .before .before .before .before .before .before .before .before .before .before .before .before .before) (c .before .before .before .before .before .before .before .before .before .before
-          .before .before .before .slice-known4 .given)) .now) (Row.get 8 (T14 .locals) (m13 (c .before .before .before .before .before .before .before .before .before .before .before .before .before .before) (c .before .before .before .before .before .before .before .before .before .before
-          .before .before .before .slice-known4 .given)) .now) (Row.get 9 (T14 .locals) (m13 (c .before .before .before .before .before .before .before .before .before .before .before .before .before .before) (c .before .before .before .before .before .before .before .before .before .before
-          .before .before .before .slice-known4 .given)) .now) (Row.get 10 (T14 .locals) (m13 (c .before .before .before .before .before .before .before .before .before .before .before .before .before .before) (c .before .before .before .before .before .before .before .before .before .before
-          .before .before .before .slice-known4 .given))) (Row.get 11 (T14 .locals) (m13 (c .before .before .before .before .before .before .before .before .before .before .before .before .before .before) (c .before .before .before .before .before .before .before .before .before .before
-          .before .before .before .slice-known4 .given)) .now) (Row.get 12 (T14 .locals) (m13 (c .before .before .before .before .before .before .before .before .before .before .before .before .before .before) (c .before .before .before .before .before .before .before .before .before .before
-          .before .before .before .slice-known4 .given)) .now) (Row.get 13 (T14 .locals) (m13 (c .before .before .before .before .before .before .before .before .before .before .before .before .before .before) (c .before .before .before .before .before .before .before .before .before .before
-          .before .before .before .slice-known4 .given)) .now) (Row.get 14 (T14 .locals) (m13 (c .before .before .before .before .before .before .before .before .before .before .before .before .before .before) (c .before .before .before .before .before .before .before .before .before .before
-          .before .before .before .slice-known4 .given)) .now) (Row.get 15 (T14 .locals) (m13 (c .before .before .before .before .before .before .before .before .before .before .before .before .before .before) (c .before .before .before .before .before .before .before .before .before .before
-          .before .before .before .slice-known4 .given))) (Row.get 7 (T14 .locals) (m53 (c .before) (c .dependencies .given)) .now) (Row.get 8 (T14 .locals) (m53 (c .before) (c .dependencies .given)) .now) (Row.get 9 (T14 .locals) (m53 (c .before) (c .dependencies .given)) .now) (Row.get 13 (T14 .locals) (m53 (c .before)
-          (c .dependencies .given)) .now) (Row.get 14 (T14 .locals) (m53 (c .before) (c .dependencies .given)) .now) (Row.get 15 (T14 .locals) (m53 (c .before) (c .dependencies .given)))) (μ·0 (Row.get 1 (T14 .locals) (m13 (c .before .before .before .before .before .before .before .before .before .before .before .before .before .before)
-          (c .before .before .before .before .before .before .before .before .before .before .before .before .before .slice-known4 .given)) .now) (Row.get 2 (T14 .locals) (m13 (c .before .before .before .before .before .before .before .before .before .before .before .before .before .before)
-          (c .before .before .before .before .before .before .before .before .before .before .before .before .before .slice-known4 .given)) .now) (Row.get 3 (T14 .locals) (m13 (c .before .before .before .before .before .before .before .before .before .before .before .before .before .before)
-          (c .before .before .before .before .before .before .before .before .before .before .before .before .before .slice-known4 .given)) .now) (Row.get 4 (T14 .locals) (m13 (c .before .before .before .before .before .before .before .before .before .before .before .before .before .before)
-          (c .before .before .before .before .before .before .before .before .before .before .before .before .before .slice-known4 .given)) .now) (Row.get 5 (T14 .locals) (m13 (c .before .before .before .before .before .before .before .before .before .before .before .before .before .before)
-          (c .before .before .before .before .before .before .before .before .before .before .before .before .before .slice-known4 .given)) .now) (Row.get 6 (T14 .locals) (m13 (c .before .before .before .before .before .before .before .before .before .before .before .before .before .before)
-          (c .before .before .before .before .before .before .before .before .before .before .before .before .before .slice-known4 .given)) .now) (Row.get 7 (T14 .locals) (m13 (c .before .before .before .before .before .before .before .before .before .before .before .before .before .before)
-          (c .before .before .before .before .before .before .before .before .before .before .before .before .before .slice-known4 .given)) .now) (Row.get 8 (T14 .locals) (m13 (c .before .before .before .before .before .before .before .before .before .before .before .before .before .before)
-          (c .before .before .before .before .before .before .before .before .before .before .before .before .before .slice-known4 .given)) .now) (Row.get 9 (T14 .locals) (m13 (c .before .before .before .before .before .before .before .before .before .before .before .before .before .before)
-          (c .before .before .before .before .before .before .before .before .before .before .before .before .before .slice-known4 .given)) .now) (Row.get 10 (T14 .locals) (m13 (c .before .before .before .before .before .before .before .before .before .before .before .before .before .before)
-          (c .before .before .before .before .before .before .before .before .before .before .before .before .before .slice-known4 .given))) (Row.get 11 (T14 .locals) (m13 (c .before .before .before .before .before .before .before .before .before .before .before .before .before .before)
-          (c .before .before .before .before .before .before .before .before .before .before .before .before .before .slice-known4 .given)) .now) (Row.get 12 (T14 .locals) (m13 (c .before .before .before .before .before .before .before .before .before .before .before .before .before .before)
-          (c .before .before .before .before .before .before .before .before .before .before .before .before .before .slice-known4 .given)) .now) (Row.get 13 (T14 .locals) (m13 (c .before .before .before .before .before .before .before .before .before .before .before .before .before .before)
-          (c .before .before .before .before .before .before .before .before .before .before .before .before .before .slice-known4 .given)) .now) (Row.get 14 (T14 .locals) (m13 (c .before .before .before .before .before .before .before .before .before .before .before .before .before .before)
-          (c .before .before .before .before .before .before .before .before .before .before .before .before .before .slice-known4 .given)) .now) (Row.get 15 (T14 .locals) (m13 (c .before .before .before .before .before .before .before .before .before .before .before .before .before .before)
-          (c .before .before .before .before .before .before .before .before .before .before .before .before .before .slice-known4 .given))) (c .before .before .before .before .before .before .before .before .before .before .before .before .loop .visited) (c .before .before .before .before .before .before .before .before .before .before
-          .before .before .loop .drone-flags) (c .before .before .before .before .before .before .before .before .before .before .before .before .loop .dependencies) (c .before .before .before .before .before .before .before .before .before .before .before .before .loop .replies)
-          (c .before .before .before .before .before .before .before .before .before .before .before .before .loop .details) (c .before .before .before .before .before .before .before .before .before .before .before .before .loop .i))
+      Need-loop-less = (c : After-dependencies) → Nat._<_ (μ·0 (Row.get 1 (T14 .locals) (m13 (c .before .before .before .before .before .before .before .before .before .before .before .before .before .before) (c .before .before .before .before .before .before .before .before .before .before .before .before .before .slice-known4 .given)) .now) (Row.get 2 (T14
+          .locals) (m13 (c .before .before .before .before .before .before .before .before .before .before .before .before .before .before) (c .before .before .before .before .before .before .before .before .before .before .before .before .before .slice-known4 .given)) .now) (Row.get 3 (T14 .locals) (m13 (c .before .before .before .before .before .before .before
+          .before .before .before .before .before .before .before) (c .before .before .before .before .before .before .before .before .before .before .before .before .before .slice-known4 .given)) .now) (Row.get 4 (T14 .locals) (m13 (c .before .before .before .before .before .before .before .before .before .before .before .before .before .before) (c .before
+          .before .before .before .before .before .before .before .before .before .before .before .before .slice-known4 .given)) .now) (Row.get 5 (T14 .locals) (m13 (c .before .before .before .before .before .before .before .before .before .before .before .before .before .before) (c .before .before .before .before .before .before .before .before .before .before
+          .before .before .before .slice-known4 .given)) .now) (Row.get 6 (T14 .locals) (m13 (c .before .before .before .before .before .before .before .before .before .before .before .before .before .before) (c .before .before .before .before .before .before .before .before .before .before .before .before .before .slice-known4 .given)) .now) (Row.get 7 (T14
+          .locals) (m13 (c .before .before .before .before .before .before .before .before .before .before .before .before .before .before) (c .before .before .before .before .before .before .before .before .before .before .before .before .before .slice-known4 .given)) .now) (Row.get 8 (T14 .locals) (m13 (c .before .before .before .before .before .before .before
+          .before .before .before .before .before .before .before) (c .before .before .before .before .before .before .before .before .before .before .before .before .before .slice-known4 .given)) .now) (Row.get 9 (T14 .locals) (m13 (c .before .before .before .before .before .before .before .before .before .before .before .before .before .before) (c .before
+          .before .before .before .before .before .before .before .before .before .before .before .before .slice-known4 .given)) .now) (Row.get 10 (T14 .locals) (m13 (c .before .before .before .before .before .before .before .before .before .before .before .before .before .before) (c .before .before .before .before .before .before .before .before .before .before
+          .before .before .before .slice-known4 .given))) (Row.get 11 (T14 .locals) (m13 (c .before .before .before .before .before .before .before .before .before .before .before .before .before .before) (c .before .before .before .before .before .before .before .before .before .before .before .before .before .slice-known4 .given)) .now) (Row.get 12 (T14
+          .locals) (m13 (c .before .before .before .before .before .before .before .before .before .before .before .before .before .before) (c .before .before .before .before .before .before .before .before .before .before .before .before .before .slice-known4 .given)) .now) (Row.get 13 (T14 .locals) (m13 (c .before .before .before .before .before .before
+          .before .before .before .before .before .before .before .before) (c .before .before .before .before .before .before .before .before .before .before .before .before .before .slice-known4 .given)) .now) (Row.get 14 (T14 .locals) (m13 (c .before .before .before .before .before .before .before .before .before .before .before .before .before .before) (c
+          .before .before .before .before .before .before .before .before .before .before .before .before .before .slice-known4 .given)) .now) (Row.get 15 (T14 .locals) (m13 (c .before .before .before .before .before .before .before .before .before .before .before .before .before .before) (c .before .before .before .before .before .before .before .before .before
+          .before .before .before .before .slice-known4 .given))) (Row.get 7 (T14 .locals) (m53 (c .before) (c .dependencies .given)) .now) (Row.get 8 (T14 .locals) (m53 (c .before) (c .dependencies .given)) .now) (Row.get 9 (T14 .locals) (m53 (c .before) (c .dependencies .given)) .now) (Row.get 13 (T14 .locals) (m53 (c .before) (c .dependencies .given)) .now)
+          (Row.get 14 (T14 .locals) (m53 (c .before) (c .dependencies .given)) .now) (Row.get 15 (T14 .locals) (m53 (c .before) (c .dependencies .given)))) (μ·0 (Row.get 1 (T14 .locals) (m13 (c .before .before .before .before .before .before .before .before .before .before .before .before .before .before) (c .before .before .before .before .before .before
+          .before .before .before .before .before .before .before .slice-known4 .given)) .now) (Row.get 2 (T14 .locals) (m13 (c .before .before .before .before .before .before .before .before .before .before .before .before .before .before) (c .before .before .before .before .before .before .before .before .before .before .before .before .before .slice-known4
+          .given)) .now) (Row.get 3 (T14 .locals) (m13 (c .before .before .before .before .before .before .before .before .before .before .before .before .before .before) (c .before .before .before .before .before .before .before .before .before .before .before .before .before .slice-known4 .given)) .now) (Row.get 4 (T14 .locals) (m13 (c .before .before .before
+          .before .before .before .before .before .before .before .before .before .before .before) (c .before .before .before .before .before .before .before .before .before .before .before .before .before .slice-known4 .given)) .now) (Row.get 5 (T14 .locals) (m13 (c .before .before .before .before .before .before .before .before .before .before .before .before
+          .before .before) (c .before .before .before .before .before .before .before .before .before .before .before .before .before .slice-known4 .given)) .now) (Row.get 6 (T14 .locals) (m13 (c .before .before .before .before .before .before .before .before .before .before .before .before .before .before) (c .before .before .before .before .before .before
+          .before .before .before .before .before .before .before .slice-known4 .given)) .now) (Row.get 7 (T14 .locals) (m13 (c .before .before .before .before .before .before .before .before .before .before .before .before .before .before) (c .before .before .before .before .before .before .before .before .before .before .before .before .before .slice-known4
+          .given)) .now) (Row.get 8 (T14 .locals) (m13 (c .before .before .before .before .before .before .before .before .before .before .before .before .before .before) (c .before .before .before .before .before .before .before .before .before .before .before .before .before .slice-known4 .given)) .now) (Row.get 9 (T14 .locals) (m13 (c .before .before .before
+          .before .before .before .before .before .before .before .before .before .before .before) (c .before .before .before .before .before .before .before .before .before .before .before .before .before .slice-known4 .given)) .now) (Row.get 10 (T14 .locals) (m13 (c .before .before .before .before .before .before .before .before .before .before .before .before
+          .before .before) (c .before .before .before .before .before .before .before .before .before .before .before .before .before .slice-known4 .given))) (Row.get 11 (T14 .locals) (m13 (c .before .before .before .before .before .before .before .before .before .before .before .before .before .before) (c .before .before .before .before .before .before .before
+          .before .before .before .before .before .before .slice-known4 .given)) .now) (Row.get 12 (T14 .locals) (m13 (c .before .before .before .before .before .before .before .before .before .before .before .before .before .before) (c .before .before .before .before .before .before .before .before .before .before .before .before .before .slice-known4 .given))
+          .now) (Row.get 13 (T14 .locals) (m13 (c .before .before .before .before .before .before .before .before .before .before .before .before .before .before) (c .before .before .before .before .before .before .before .before .before .before .before .before .before .slice-known4 .given)) .now) (Row.get 14 (T14 .locals) (m13 (c .before .before .before .before
+          .before .before .before .before .before .before .before .before .before .before) (c .before .before .before .before .before .before .before .before .before .before .before .before .before .slice-known4 .given)) .now) (Row.get 15 (T14 .locals) (m13 (c .before .before .before .before .before .before .before .before .before .before .before .before .before
+          .before) (c .before .before .before .before .before .before .before .before .before .before .before .before .before .slice-known4 .given))) (c .before .before .before .before .before .before .before .before .before .before .before .before .loop .visited) (c .before .before .before .before .before .before .before .before .before .before .before .before
+          .loop .drone-flags) (c .before .before .before .before .before .before .before .before .before .before .before .before .loop .dependencies) (c .before .before .before .before .before .before .before .before .before .before .before .before .loop .replies) (c .before .before .before .before .before .before .before .before .before .before .before .before
+          .loop .details) (c .before .before .before .before .before .before .before .before .before .before .before .before .loop .i))
 
       abbrev pub Need-loop-again : Type 0
-      Need-loop-again = (c : After-dependencies) → Inv·0 (Row.get 1 (T14 .locals) (m13 (c .before .before .before .before .before .before .before .before .before .before .before .before .before .before) (c .before .before .before .before .before .before .before .before .before .before
-          .before .before .before .slice-known4 .given)) .now) (Row.get 2 (T14 .locals) (m13 (c .before .before .before .before .before .before .before .before .before .before .before .before .before .before) (c .before .before .before .before .before .before .before .before .before .before
-          .before .before .before .slice-known4 .given)) .now) (Row.get 3 (T14 .locals) (m13 (c .before .before .before .before .before .before .before .before .before .before .before .before .before .before) (c .before .before .before .before .before .before .before .before .before .before
-          .before .before .before .slice-known4 .given)) .now) (Row.get 4 (T14 .locals) (m13 (c .before .before .before .before .before .before .before .before .before .before .before .before .before .before) (c .before .before .before .before .before .before .before .before .before .before
-          .before .before .before .slice-known4 .given)) .now) (Row.get 5 (T14 .locals) (m13 (c .before .before .before .before .before .before .before .before .before .before .before .before .before .before) (c .before .before .before .before .before .before .before .before .before .before
-          .before .before .before .slice-known4 .given)) .now) (Row.get 6 (T14 .locals) (m13 (c .before .before .before .before .before .before .before .before .before .before .before .before .before .before) (c .before .before .before .before .before .before .before .before .before .before
-          .before .before .before .slice-known4 .given)) .now) (Row.get 7 (T14 .locals) (m13 (c .before .before .before .before .before .before .before .before .before .before .before .before .before .before) (c .before .before .before .before .before .before .before .before .before .before
-          .before .before .before .slice-known4 .given)) .now) (Row.get 8 (T14 .locals) (m13 (c .before .before .before .before .before .before .before .before .before .before .before .before .before .before) (c .before .before .before .before .before .before .before .before .before .before
-          .before .before .before .slice-known4 .given)) .now) (Row.get 9 (T14 .locals) (m13 (c .before .before .before .before .before .before .before .before .before .before .before .before .before .before) (c .before .before .before .before .before .before .before .before .before .before
-          .before .before .before .slice-known4 .given)) .now) (Row.get 10 (T14 .locals) (m13 (c .before .before .before .before .before .before .before .before .before .before .before .before .before .before) (c .before .before .before .before .before .before .before .before .before .before
-          .before .before .before .slice-known4 .given))) (Row.get 11 (T14 .locals) (m13 (c .before .before .before .before .before .before .before .before .before .before .before .before .before .before) (c .before .before .before .before .before .before .before .before .before .before
-          .before .before .before .slice-known4 .given)) .now) (Row.get 12 (T14 .locals) (m13 (c .before .before .before .before .before .before .before .before .before .before .before .before .before .before) (c .before .before .before .before .before .before .before .before .before .before
-          .before .before .before .slice-known4 .given)) .now) (Row.get 13 (T14 .locals) (m13 (c .before .before .before .before .before .before .before .before .before .before .before .before .before .before) (c .before .before .before .before .before .before .before .before .before .before
-          .before .before .before .slice-known4 .given)) .now) (Row.get 14 (T14 .locals) (m13 (c .before .before .before .before .before .before .before .before .before .before .before .before .before .before) (c .before .before .before .before .before .before .before .before .before .before
-          .before .before .before .slice-known4 .given)) .now) (Row.get 15 (T14 .locals) (m13 (c .before .before .before .before .before .before .before .before .before .before .before .before .before .before) (c .before .before .before .before .before .before .before .before .before .before
-          .before .before .before .slice-known4 .given))) (Row.get 7 (T14 .locals) (m53 (c .before) (c .dependencies .given)) .now) (Row.get 8 (T14 .locals) (m53 (c .before) (c .dependencies .given)) .now) (Row.get 9 (T14 .locals) (m53 (c .before) (c .dependencies .given)) .now) (Row.get 13 (T14 .locals) (m53 (c .before)
-          (c .dependencies .given)) .now) (Row.get 14 (T14 .locals) (m53 (c .before) (c .dependencies .given)) .now) (Row.get 15 (T14 .locals) (m53 (c .before) (c .dependencies .given)))
+      Need-loop-again = (c : After-dependencies) → Inv·0 (Row.get 1 (T14 .locals) (m13 (c .before .before .before .before .before .before .before .before .before .before .before .before .before .before) (c .before .before .before .before .before .before .before .before .before .before .before .before .before .slice-known4 .given)) .now) (Row.get 2 (T14
+          .locals) (m13 (c .before .before .before .before .before .before .before .before .before .before .before .before .before .before) (c .before .before .before .before .before .before .before .before .before .before .before .before .before .slice-known4 .given)) .now) (Row.get 3 (T14 .locals) (m13 (c .before .before .before .before .before .before .before
+          .before .before .before .before .before .before .before) (c .before .before .before .before .before .before .before .before .before .before .before .before .before .slice-known4 .given)) .now) (Row.get 4 (T14 .locals) (m13 (c .before .before .before .before .before .before .before .before .before .before .before .before .before .before) (c .before
+          .before .before .before .before .before .before .before .before .before .before .before .before .slice-known4 .given)) .now) (Row.get 5 (T14 .locals) (m13 (c .before .before .before .before .before .before .before .before .before .before .before .before .before .before) (c .before .before .before .before .before .before .before .before .before .before
+          .before .before .before .slice-known4 .given)) .now) (Row.get 6 (T14 .locals) (m13 (c .before .before .before .before .before .before .before .before .before .before .before .before .before .before) (c .before .before .before .before .before .before .before .before .before .before .before .before .before .slice-known4 .given)) .now) (Row.get 7 (T14
+          .locals) (m13 (c .before .before .before .before .before .before .before .before .before .before .before .before .before .before) (c .before .before .before .before .before .before .before .before .before .before .before .before .before .slice-known4 .given)) .now) (Row.get 8 (T14 .locals) (m13 (c .before .before .before .before .before .before .before
+          .before .before .before .before .before .before .before) (c .before .before .before .before .before .before .before .before .before .before .before .before .before .slice-known4 .given)) .now) (Row.get 9 (T14 .locals) (m13 (c .before .before .before .before .before .before .before .before .before .before .before .before .before .before) (c .before
+          .before .before .before .before .before .before .before .before .before .before .before .before .slice-known4 .given)) .now) (Row.get 10 (T14 .locals) (m13 (c .before .before .before .before .before .before .before .before .before .before .before .before .before .before) (c .before .before .before .before .before .before .before .before .before .before
+          .before .before .before .slice-known4 .given))) (Row.get 11 (T14 .locals) (m13 (c .before .before .before .before .before .before .before .before .before .before .before .before .before .before) (c .before .before .before .before .before .before .before .before .before .before .before .before .before .slice-known4 .given)) .now) (Row.get 12 (T14
+          .locals) (m13 (c .before .before .before .before .before .before .before .before .before .before .before .before .before .before) (c .before .before .before .before .before .before .before .before .before .before .before .before .before .slice-known4 .given)) .now) (Row.get 13 (T14 .locals) (m13 (c .before .before .before .before .before .before
+          .before .before .before .before .before .before .before .before) (c .before .before .before .before .before .before .before .before .before .before .before .before .before .slice-known4 .given)) .now) (Row.get 14 (T14 .locals) (m13 (c .before .before .before .before .before .before .before .before .before .before .before .before .before .before) (c
+          .before .before .before .before .before .before .before .before .before .before .before .before .before .slice-known4 .given)) .now) (Row.get 15 (T14 .locals) (m13 (c .before .before .before .before .before .before .before .before .before .before .before .before .before .before) (c .before .before .before .before .before .before .before .before .before
+          .before .before .before .before .slice-known4 .given))) (Row.get 7 (T14 .locals) (m53 (c .before) (c .dependencies .given)) .now) (Row.get 8 (T14 .locals) (m53 (c .before) (c .dependencies .given)) .now) (Row.get 9 (T14 .locals) (m53 (c .before) (c .dependencies .given)) .now) (Row.get 13 (T14 .locals) (m53 (c .before) (c .dependencies .given)) .now)
+          (Row.get 14 (T14 .locals) (m53 (c .before) (c .dependencies .given)) .now) (Row.get 15 (T14 .locals) (m53 (c .before) (c .dependencies .given)))
 
-      abbrev pub m54 : (before : At-loop) → Typed.Mo T65
-      m54 = λ before. s61 (m17 before)
-
-      abbrev pub m55 : (before : At-loop) → Typed.Mo T66
-      m55 = λ before. s62 (m54 before)
-
-      abbrev pub m56 : (before : At-loop) → Typed.Mo T67
-      m56 = λ before. s63 (m55 before)
+      abbrev pub m56 : (before : At-loop) → Typed.Mo T1
+      m56 = λ before. s63 (s62 (s61 (m17 before)))
 
       abbrev pub Need-same-length : Type 0
-      Need-same-length = (c : After-loop) → MutSlice.SameLen (Row.get 7 (T67 .locals) (m56 (c .before))) (dens (c .before .before .before .before .before .before .before .before .before .before .before .before .before .before .κs) (c .before .before .before .before .before .before .before .before .before .before
-          .before .before .before .before .args) .1 .1 .1 .1 .1 .1 .0)
+      Need-same-length = (c : After-loop) → MutSlice.SameLen (Row.get 7 (T1 .locals) (m56 (c .before))) (dens (c .before .before .before .before .before .before .before .before .before .before .before .before .before .before .κs) (c .before .before .before .before .before .before .before .before .before .before .before .before .before .before .args) .1 .1 .1
+          .1 .1 .1 .0)
 
       abbrev pub Need-same-length-2 : Type 0
-      Need-same-length-2 = (c : After-loop) → MutSlice.SameLen (Row.get 8 (T67 .locals) (m56 (c .before))) (dens (c .before .before .before .before .before .before .before .before .before .before .before .before .before .before .κs) (c .before .before .before .before .before .before .before .before .before .before
-          .before .before .before .before .args) .1 .1 .1 .1 .1 .1 .1 .0)
+      Need-same-length-2 = (c : After-loop) → MutSlice.SameLen (Row.get 8 (T1 .locals) (m56 (c .before))) (dens (c .before .before .before .before .before .before .before .before .before .before .before .before .before .before .κs) (c .before .before .before .before .before .before .before .before .before .before .before .before .before .before .args) .1 .1
+          .1 .1 .1 .1 .1 .0)
 
       abbrev pub Need-same-length-3 : Type 0
-      Need-same-length-3 = (c : After-loop) → MutSlice.SameLen (Row.get 9 (T67 .locals) (m56 (c .before))) (dens (c .before .before .before .before .before .before .before .before .before .before .before .before .before .before .κs) (c .before .before .before .before .before .before .before .before .before .before
-          .before .before .before .before .args) .1 .1 .1 .1 .1 .1 .1 .1 .0)
+      Need-same-length-3 = (c : After-loop) → MutSlice.SameLen (Row.get 9 (T1 .locals) (m56 (c .before))) (dens (c .before .before .before .before .before .before .before .before .before .before .before .before .before .before .κs) (c .before .before .before .before .before .before .before .before .before .before .before .before .before .before .args) .1 .1
+          .1 .1 .1 .1 .1 .1 .0)
 
       abbrev pub Need-same-length-4 : Type 0
-      Need-same-length-4 = (c : After-loop) → MutSlice.SameLen (Row.get 13 (T67 .locals) (m56 (c .before))) (dens (c .before .before .before .before .before .before .before .before .before .before .before .before .before .before .κs) (c .before .before .before .before .before .before .before .before .before .before
-          .before .before .before .before .args) .1 .1 .1 .1 .1 .1 .1 .1 .1 .1 .1 .1 .0)
+      Need-same-length-4 = (c : After-loop) → MutSlice.SameLen (Row.get 13 (T1 .locals) (m56 (c .before))) (dens (c .before .before .before .before .before .before .before .before .before .before .before .before .before .before .κs) (c .before .before .before .before .before .before .before .before .before .before .before .before .before .before .args) .1 .1
+          .1 .1 .1 .1 .1 .1 .1 .1 .1 .1 .0)
 
       abbrev pub Need-same-length-5 : Type 0
-      Need-same-length-5 = (c : After-loop) → MutSlice.SameLen (Row.get 14 (T67 .locals) (m56 (c .before))) (dens (c .before .before .before .before .before .before .before .before .before .before .before .before .before .before .κs) (c .before .before .before .before .before .before .before .before .before .before
-          .before .before .before .before .args) .1 .1 .1 .1 .1 .1 .1 .1 .1 .1 .1 .1 .1 .0)
+      Need-same-length-5 = (c : After-loop) → MutSlice.SameLen (Row.get 14 (T1 .locals) (m56 (c .before))) (dens (c .before .before .before .before .before .before .before .before .before .before .before .before .before .before .κs) (c .before .before .before .before .before .before .before .before .before .before .before .before .before .before .args) .1 .1
+          .1 .1 .1 .1 .1 .1 .1 .1 .1 .1 .1 .0)
 
       abbrev pub Need-returns : Type 0
-      Need-returns = (c : After-loop) → Post· (c .before .before .before .before .before .before .before .before .before .before .before .before .before .before .κs) (dens (c .before .before .before .before .before .before .before .before .before .before .before .before .before .before .κs)
-          (c .before .before .before .before .before .before .before .before .before .before .before .before .before .before .args)) (Function.resV r (c .before .before .before .before .before .before .before .before .before .before .before .before .before .before .κs) (m56 (c .before) .0)) (Clauses.atExit (Kinds.endedOf 13 ps r)
-          (c .before .before .before .before .before .before .before .before .before .before .before .before .before .before .κs) (dens (c .before .before .before .before .before .before .before .before .before .before .before .before .before .before .κs) (c .before .before .before .before .before .before .before .before .before .before
-          .before .before .before .before .args)) (Enter.lastsP (c .before .before .before .before .before .before .before .before .before .before .before .before .before .before .κs) 1 ps xs (dens (c .before .before .before .before .before .before .before .before .before .before .before .before .before .before .κs)
-          (c .before .before .before .before .before .before .before .before .before .before .before .before .before .before .args)) (m56 (c .before) .1)))
+      Need-returns = (c : After-loop) → Post· (c .before .before .before .before .before .before .before .before .before .before .before .before .before .before .κs) (dens (c .before .before .before .before .before .before .before .before .before .before .before .before .before .before .κs) (c .before .before .before .before .before .before .before .before
+          .before .before .before .before .before .before .args)) (Function.resV r (c .before .before .before .before .before .before .before .before .before .before .before .before .before .before .κs) (m56 (c .before) .0)) (Clauses.atExit (Kinds.endedOf 13 ps r) (c .before .before .before .before .before .before .before .before .before .before .before .before
+          .before .before .κs) (dens (c .before .before .before .before .before .before .before .before .before .before .before .before .before .before .κs) (c .before .before .before .before .before .before .before .before .before .before .before .before .before .before .args)) (Enter.lastsP (c .before .before .before .before .before .before .before .before
+          .before .before .before .before .before .before .κs) 1 ps xs (dens (c .before .before .before .before .before .before .before .before .before .before .before .before .before .before .κs) (c .before .before .before .before .before .before .before .before .before .before .before .before .before .before .args)) (m56 (c .before) .1)))
 
-      module _ (loop-holds : Need-loop-holds) (shared-slice-read-make-request : Need-shared-slice-read-make-request) (mul-make-request : Need-mul-make-request) (shared-slice-read-make-request-2 : Need-shared-slice-read-make-request-2) (make-request-requires : Need-make-request-requires) (mul-replies : Need-mul-replies)
-          (slice-write-replies : Need-slice-write-replies) (mul-details : Need-mul-details) (slice-write-details : Need-slice-write-details) (add-i : Need-add-i) (loop-less : Need-loop-less) (loop-again : Need-loop-again) (same-length : Need-same-length) (same-length-2 : Need-same-length-2)
-          (same-length-3 : Need-same-length-3) (same-length-4 : Need-same-length-4) (same-length-5 : Need-same-length-5) (returns : Need-returns) where
+      module _ (loop-holds : Need-loop-holds) (shared-slice-read-make-request : Need-shared-slice-read-make-request) (mul-make-request : Need-mul-make-request) (shared-slice-read-make-request-2 : Need-shared-slice-read-make-request-2) (make-request-requires : Need-make-request-requires) (mul-replies : Need-mul-replies) (slice-write-replies :
+          Need-slice-write-replies) (mul-details : Need-mul-details) (slice-write-details : Need-slice-write-details) (add-i : Need-add-i) (loop-less : Need-loop-less) (loop-again : Need-loop-again) (same-length : Need-same-length) (same-length-2 : Need-same-length-2) (same-length-3 : Need-same-length-3) (same-length-4 : Need-same-length-4) (same-length-5 :
+          Need-same-length-5) (returns : Need-returns) where
         lay5 : (c : After-loop) → at57 (W0 (c .before .before .before .before .before .before .before .before .before .before .before .before .before .before .κs) (c .before .before .before .before .before .before .before .before .before .before .before .before .before .before .args)) (m17 (c .before))
-        lay5 = λ c. (
-          (
-            Path'.refl,
-            (
-              Path'.refl,
-              (
-                Path'.refl,
-                (
-                  Path'.refl,
-                  (
-                    Path'.refl,
-                    (
-                      Path'.refl,
-                      (
-                        MutSlice.fix-len (Row.get 7 (T67 .locals) (m56 (c .before)) .ptr) (Row.get 7 (T67 .locals) (m56 (c .before)) .name) (Row.get 7 (T67 .locals) (m56 (c .before)) .now) (dens (c .before .before .before .before .before .before .before .before
-                            .before .before .before .before .before .before .κs) (c .before .before .before .before .before .before .before .before .before .before .before .before .before .before .args) .1 .1 .1 .1 .1 .1 .0 .now) (same-length record { before = c .before; loop-test = c .loop-test }),
-                        (
-                          MutSlice.fix-len (Row.get 8 (T67 .locals) (m56 (c .before)) .ptr)
-                              (Row.get 8 (T67 .locals) (m56 (c .before)) .name) (Row.get 8 (T67 .locals) (m56 (c .before)) .now) (dens (c .before .before .before .before .before .before .before .before .before .before .before .before .before .before .κs) (c .before .before .before .before .before .before .before .before
-                              .before .before .before .before .before .before .args) .1 .1 .1 .1 .1 .1 .1 .0 .now) (same-length-2 record { before = c .before; loop-test = c .loop-test }),
-                          (
-                            MutSlice.fix-len (Row.get 9 (T67 .locals) (m56 (c .before)) .ptr) (Row.get 9 (T67 .locals) (m56 (c .before)) .name) (Row.get 9 (T67 .locals) (m56 (c .before)) .now) (dens
-                                (c .before .before .before .before .before .before .before .before .before .before .before .before .before .before .κs) (c .before .before .before .before .before .before .before .before .before .before .before .before .before .before .args) .1 .1 .1 .1 .1 .1 .1 .1 .0 .now) (same-length-3 record { before = c .before; loop-test = c .loop-test }),
-                            (
-                              tt,
-                              (
-                                Path'.refl,
-                                (
-                                  Path'.refl,
-                                  (
-                                    MutSlice.fix-len (Row.get 13 (T67 .locals) (m56 (c .before)) .ptr) (Row.get 13 (T67 .locals) (m56 (c .before)) .name) (Row.get 13 (T67 .locals) (m56 (c .before)) .now) (dens (c .before .before .before .before .before .before .before .before .before .before .before .before .before .before .κs)
-                                        (c .before .before .before .before .before .before .before .before .before .before .before .before .before .before .args) .1 .1 .1 .1 .1 .1 .1 .1 .1 .1 .1 .1 .0 .now) (same-length-4 record { before = c .before; loop-test = c .loop-test }),
-                                    (
-                                      MutSlice.fix-len (Row.get 14 (T67 .locals) (m56 (c .before)) .ptr) (Row.get 14 (T67 .locals) (m56
-                                          (c .before)) .name) (Row.get 14 (T67 .locals) (m56 (c .before)) .now) (dens (c .before .before .before .before .before .before .before .before .before .before .before .before .before .before .κs) (c .before .before .before .before .before .before .before .before .before .before .before .before .before
-                                          .before .args) .1 .1 .1 .1 .1 .1 .1 .1 .1 .1 .1 .1 .1 .0 .now) (same-length-5 record { before = c .before; loop-test = c .loop-test }),
-                                      tt,
-                                    ),
-                                  ),
-                                ),
-                              ),
-                            ),
-                          ),
-                        ),
-                      ),
-                    ),
-                  ),
-                ),
-              ),
-            ),
-          ),
-          returns record { before = c .before; loop-test = c .loop-test },
-        )
+        lay5 = λ c.
+            ((Path'.refl, (Path'.refl, (Path'.refl, (Path'.refl, (Path'.refl, (Path'.refl, (MutSlice.fix-len (Row.get 7 (T1 .locals) (m56 (c .before)) .ptr) (Row.get 7 (T1 .locals) (m56 (c .before)) .name) (Row.get 7 (T1 .locals) (m56 (c .before)) .now) (dens (c .before .before .before .before .before .before .before .before .before .before .before .before .before .before .κs) (c .before .before .before .before .before .before .before .before .before .before .before .before .before .before .args) .1 .1 .1 .1 .1 .1 .0 .now) (same-length record { before = c .before; loop-test = c .loop-test }), (MutSlice.fix-len (Row.get 8 (T1 .locals) (m56 (c .before)) .ptr) (Row.get 8 (T1 .locals) (m56 (c .before)) .name) (Row.get 8 (T1 .locals) (m56 (c .before)) .now) (dens (c .before .before .before .before .before .before .before .before .before .before .before .before .before .before .κs) (c .before .before .before .before .before .before .before .before .before .before .before .before .before .before .args) .1 .1 .1 .1 .1 .1 .1 .0 .now) (same-length-2 record { before = c .before; loop-test = c .loop-test }), (MutSlice.fix-len (Row.get 9 (T1 .locals) (m56 (c .before)) .ptr) (Row.get 9 (T1 .locals) (m56 (c .before)) .name) (Row.get 9 (T1 .locals) (m56 (c .before)) .now) (dens (c .before .before .before .before .before .before .before .before .before .before .before .before .before .before .κs) (c .before .before .before .before .before .before .before .before .before .before .before .before .before .before .args) .1 .1 .1 .1 .1 .1 .1 .1 .0 .now) (same-length-3 record { before = c .before; loop-test = c .loop-test }), (tt, (Path'.refl, (Path'.refl, (MutSlice.fix-len (Row.get 13 (T1 .locals) (m56 (c .before)) .ptr) (Row.get 13 (T1 .locals) (m56 (c .before)) .name) (Row.get 13 (T1 .locals) (m56 (c .before)) .now) (dens (c .before .before .before .before .before .before .before .before .before .before .before .before .before .before .κs) (c .before .before .before .before .before .before .before .before .before .before .before .before .before .before .args) .1 .1 .1 .1 .1 .1 .1 .1 .1 .1 .1 .1 .0 .now) (same-length-4 record { before = c .before; loop-test = c .loop-test }), (MutSlice.fix-len (Row.get 14 (T1 .locals) (m56 (c .before)) .ptr) (Row.get 14 (T1 .locals) (m56 (c .before)) .name) (Row.get 14 (T1 .locals) (m56 (c .before)) .now) (dens (c .before .before .before .before .before .before .before .before .before .before .before .before .before .before .κs) (c .before .before .before .before .before .before .before .before .before .before .before .before .before .before .args) .1 .1 .1 .1 .1 .1 .1 .1 .1 .1 .1 .1 .1 .0 .now) (same-length-5 record { before = c .before; loop-test = c .loop-test }), tt)))))))))))))), returns record { before = c .before; loop-test = c .loop-test })
 
-        lay4 : (c : After-make-request) → at29 (W3 (c .before .before .before .before .before .before .before .before) (c .before .before .before .before .before .before .before .loop .visited) (c .before .before .before .before .before .before .before .loop .drone-flags) (c .before .before .before .before .before .before .before .loop .dependencies)
-            (c .before .before .before .before .before .before .before .loop .replies) (c .before .before .before .before .before .before .before .loop .details) (c .before .before .before .before .before .before .before .loop .i)) (m34 (c .before) (After-make-request·gave c))
-        lay4 = λ c. (
-          Path'.refl,
-          λ g. λ g'. (
-            Path'.refl,
-            λ g''. λ g'3. (
-              Path'.refl,
-              λ g'4. (
-                mul-replies record {
-                  before = record {
-                    before = record {
-                      before = record { before = record { before = record { before = c .before; make-request = c .make-request }; visited = record { given = g } }; slice-known5 = record { given = g' } };
-                      drone-flags = record { given = g'' };
-                    };
-                    slice-known6 = record { given = g'3 };
-                  };
-                  dependencies = record { given = g'4 };
-                },
-                (
-                  tt,
-                  (
-                    (
-                      Path'.refl,
-                      Path'.refl,
-                      slice-write-replies record {
-                        before = record {
-                          before = record {
-                            before = record {
-                              before = record {
-                                before = record { before = c .before; make-request = c .make-request };
-                                visited = record { given = g };
-                              };
-                              slice-known5 = record { given = g' };
-                            };
-                            drone-flags = record { given = g'' };
-                          };
-                          slice-known6 = record { given = g'3 };
-                        };
-                        dependencies = record { given = g'4 };
-                      },
-                    ),
-                    (
-                      mul-details record {
-                        before = record {
-                          before = record {
-                            before = record {
-                              before = record {
-                                before = record {
-                                  before = c .before;
-                                  make-request = c .make-request;
-                                };
-                                visited = record { given = g };
-                              };
-                              slice-known5 = record { given = g' };
-                            };
-                            drone-flags = record { given = g'' };
-                          };
-                          slice-known6 = record { given = g'3 };
-                        };
-                        dependencies = record { given = g'4 };
-                      },
-                      (
-                        tt,
-                        (
-                          (
-                            Path'.refl,
-                            Path'.refl,
-                            slice-write-details record {
-                              before = record {
-                                before = record {
-                                  before = record { before = record { before = record { before = c .before; make-request = c .make-request }; visited = record { given = g } }; slice-known5 = record { given = g' } };
-                                  drone-flags = record { given = g'' };
-                                };
-                                slice-known6 = record { given = g'3 };
-                              };
-                              dependencies = record { given = g'4 };
-                            },
-                          ),
-                          (
-                            add-i record {
-                              before = record {
-                                before = record { before = record { before = record { before = record { before = c .before; make-request = c .make-request }; visited = record { given = g } }; slice-known5 = record { given = g' } }; drone-flags = record { given = g'' } };
-                                slice-known6 = record { given = g'3 };
-                              };
-                              dependencies = record { given = g'4 };
-                            },
-                            (
-                              μ·0
-                                  (Row.get 1 (T14 .locals) (m13 (c .before .before .before .before .before .before .before .before .before) (c .before .before .before .before .before .before .before .before .slice-known4 .given)) .now) (Row.get 2 (T14 .locals) (m13 (c .before .before .before .before .before .before .before .before .before)
-                                  (c .before .before .before .before .before .before .before .before .slice-known4 .given)) .now) (Row.get 3 (T14 .locals) (m13 (c .before .before .before .before .before .before .before .before .before) (c .before .before .before .before .before .before .before .before .slice-known4 .given)) .now) (Row.get 4 (T14 .locals) (m13
-                                  (c .before .before .before .before .before .before .before .before .before) (c .before .before .before .before .before .before .before .before .slice-known4 .given)) .now) (Row.get 5 (T14 .locals) (m13 (c .before .before .before .before .before .before .before .before .before) (c .before .before .before .before .before .before .before
-                                  .before .slice-known4 .given)) .now) (Row.get 6 (T14 .locals) (m13 (c .before .before .before .before .before .before .before .before .before) (c .before .before .before .before .before .before .before .before .slice-known4 .given)) .now) (Row.get 7 (T14 .locals) (m13 (c .before .before .before .before .before .before .before .before .before)
-                                  (c .before .before .before .before .before .before .before .before .slice-known4 .given)) .now) (Row.get 8 (T14 .locals) (m13 (c .before .before .before .before .before .before .before .before .before) (c .before .before .before .before .before .before .before .before .slice-known4 .given)) .now) (Row.get 9 (T14 .locals) (m13
-                                  (c .before .before .before .before .before .before .before .before .before) (c .before .before .before .before .before .before .before .before .slice-known4 .given)) .now) (Row.get 10 (T14 .locals) (m13 (c .before .before .before .before .before .before .before .before .before) (c .before .before .before .before .before .before .before
-                                  .before .slice-known4 .given))) (Row.get 11 (T14 .locals) (m13 (c .before .before .before .before .before .before .before .before .before) (c .before .before .before .before .before .before .before .before .slice-known4 .given)) .now) (Row.get 12 (T14 .locals) (m13 (c .before .before .before .before .before .before .before .before .before)
-                                  (c .before .before .before .before .before .before .before .before .slice-known4 .given)) .now) (Row.get 13 (T14 .locals) (m13 (c .before .before .before .before .before .before .before .before .before) (c .before .before .before .before .before .before .before .before .slice-known4 .given)) .now) (Row.get 14 (T14 .locals) (m13
-                                  (c .before .before .before .before .before .before .before .before .before) (c .before .before .before .before .before .before .before .before .slice-known4 .given)) .now) (Row.get 15 (T14 .locals) (m13 (c .before .before .before .before .before .before .before .before .before) (c .before .before .before .before .before .before .before
-                                  .before .slice-known4 .given))) (Row.get 7 (T14 .locals) (m53 record {
-                                    before = record { before = record { before = record { before = record { before = c .before; make-request = c .make-request }; visited = record { given = g } }; slice-known5 = record { given = g' } }; drone-flags = record { given = g'' } };
-                                    slice-known6 = record { given = g'3 };
-                                  } g'4) .now) (Row.get 8 (T14 .locals) (m53 record {
-                                    before = record { before = record { before = record { before = record { before = c .before; make-request = c .make-request }; visited = record { given = g } }; slice-known5 = record { given = g' } }; drone-flags = record { given = g'' } };
-                                    slice-known6 = record { given = g'3 };
-                                  } g'4) .now) (Row.get 9 (T14 .locals) (m53 record {
-                                    before = record { before = record { before = record { before = record { before = c .before; make-request = c .make-request }; visited = record { given = g } }; slice-known5 = record { given = g' } }; drone-flags = record { given = g'' } };
-                                    slice-known6 = record { given = g'3 };
-                                  } g'4) .now) (Row.get 13 (T14 .locals) (m53 record {
-                                    before = record { before = record { before = record { before = record { before = c .before; make-request = c .make-request }; visited = record { given = g } }; slice-known5 = record { given = g' } }; drone-flags = record { given = g'' } };
-                                    slice-known6 = record { given = g'3 };
-                                  } g'4) .now) (Row.get 14 (T14 .locals) (m53 record {
-                                    before = record { before = record { before = record { before = record { before = c .before; make-request = c .make-request }; visited = record { given = g } }; slice-known5 = record { given = g' } }; drone-flags = record { given = g'' } };
-                                    slice-known6 = record { given = g'3 };
-                                  } g'4) .now) (Row.get 15 (T14 .locals) (m53 record {
-                                    before = record { before = record { before = record { before = record { before = c .before; make-request = c .make-request }; visited = record { given = g } }; slice-known5 = record { given = g' } }; drone-flags = record { given = g'' } };
-                                    slice-known6 = record { given = g'3 };
-                                  } g'4)),
-                              loop-less record {
-                                before = record {
-                                  before = record { before = record { before = record { before = record { before = c .before; make-request = c .make-request }; visited = record { given = g } }; slice-known5 = record { given = g' } }; drone-flags = record { given = g'' } };
-                                  slice-known6 = record { given = g'3 };
-                                };
-                                dependencies = record { given = g'4 };
-                              },
-                              (
-                                (
-                                  Row.get 7 (T14 .locals) (m53 record {
-                                    before = record {
-                                      before = record { before = record { before = record { before = c .before; make-request = c .make-request }; visited = record { given = g } }; slice-known5 = record { given = g' } };
-                                      drone-flags = record { given = g'' };
-                                    };
-                                    slice-known6 = record { given = g'3 };
-                                  } g'4) .now,
-                                  Row.get 8 (T14 .locals) (m53 record {
-                                    before = record {
-                                      before = record { before = record { before = record { before = c .before; make-request = c .make-request }; visited = record { given = g } }; slice-known5 = record { given = g' } };
-                                      drone-flags = record { given = g'' };
-                                    };
-                                    slice-known6 = record { given = g'3 };
-                                  } g'4) .now,
-                                  Row.get 9 (T14 .locals) (m53 record {
-                                    before = record {
-                                      before = record { before = record { before = record { before = c .before; make-request = c .make-request }; visited = record { given = g } }; slice-known5 = record { given = g' } };
-                                      drone-flags = record { given = g'' };
-                                    };
-                                    slice-known6 = record { given = g'3 };
-                                  } g'4) .now,
-                                  Row.get 13 (T14 .locals) (m53 record {
-                                    before = record {
-                                      before = record { before = record { before = record { before = c .before; make-request = c .make-request }; visited = record { given = g } }; slice-known5 = record { given = g' } };
-                                      drone-flags = record { given = g'' };
-                                    };
-                                    slice-known6 = record { given = g'3 };
-                                  } g'4) .now,
-                                  Row.get 14 (T14 .locals) (m53 record {
-                                    before = record {
-                                      before = record { before = record { before = record { before = c .before; make-request = c .make-request }; visited = record { given = g } }; slice-known5 = record { given = g' } };
-                                      drone-flags = record { given = g'' };
-                                    };
-                                    slice-known6 = record { given = g'3 };
-                                  } g'4) .now,
-                                  Row.get 15 (T14 .locals) (m53 record {
-                                    before = record {
-                                      before = record { before = record { before = record { before = c .before; make-request = c .make-request }; visited = record { given = g } }; slice-known5 = record { given = g' } };
-                                      drone-flags = record { given = g'' };
-                                    };
-                                    slice-known6 = record { given = g'3 };
-                                  } g'4),
-                                ),
-                                Path'.refl {a = m53 record {
-                                  before = record {
-                                    before = record { before = record { before = record { before = c .before; make-request = c .make-request }; visited = record { given = g } }; slice-known5 = record { given = g' } };
-                                    drone-flags = record { given = g'' };
-                                  };
-                                  slice-known6 = record { given = g'3 };
-                                } g'4},
-                                loop-again record {
-                                  before = record {
-                                    before = record {
-                                      before = record { before = record { before = record { before = c .before; make-request = c .make-request }; visited = record { given = g } }; slice-known5 = record { given = g' } };
-                                      drone-flags = record { given = g'' };
-                                    };
-                                    slice-known6 = record { given = g'3 };
-                                  };
-                                  dependencies = record { given = g'4 };
-                                },
-                                Path'.refl {a = μ·0 (Row.get 1 (T14 .locals) (m13 (c .before .before .before .before .before .before .before .before .before) (c .before .before .before .before .before .before .before .before .slice-known4 .given)) .now)
-                                    (Row.get 2 (T14 .locals) (m13 (c .before .before .before .before .before .before .before .before .before) (c .before .before .before .before .before .before .before .before .slice-known4 .given)) .now) (Row.get 3 (T14 .locals) (m13 (c .before .before .before .before .before .before .before .before .before)
-                                    (c .before .before .before .before .before .before .before .before .slice-known4 .given)) .now) (Row.get 4 (T14 .locals) (m13 (c .before .before .before .before .before .before .before .before .before) (c .before .before .before .before .before .before .before .before .slice-known4 .given)) .now) (Row.get 5 (T14 .locals) (m13
-                                    (c .before .before .before .before .before .before .before .before .before) (c .before .before .before .before .before .before .before .before .slice-known4 .given)) .now) (Row.get 6 (T14 .locals) (m13 (c .before .before .before .before .before .before .before .before .before) (c .before .before .before .before .before .before .before
-                                    .before .slice-known4 .given)) .now) (Row.get 7 (T14 .locals) (m13 (c .before .before .before .before .before .before .before .before .before) (c .before .before .before .before .before .before .before .before .slice-known4 .given)) .now) (Row.get 8 (T14 .locals) (m13 (c .before .before .before .before .before .before .before .before .before)
-                                    (c .before .before .before .before .before .before .before .before .slice-known4 .given)) .now) (Row.get 9 (T14 .locals) (m13 (c .before .before .before .before .before .before .before .before .before) (c .before .before .before .before .before .before .before .before .slice-known4 .given)) .now) (Row.get 10 (T14 .locals) (m13
-                                    (c .before .before .before .before .before .before .before .before .before) (c .before .before .before .before .before .before .before .before .slice-known4 .given))) (Row.get 11 (T14 .locals) (m13 (c .before .before .before .before .before .before .before .before .before) (c .before .before .before .before .before .before .before
-                                    .before .slice-known4 .given)) .now) (Row.get 12 (T14 .locals) (m13 (c .before .before .before .before .before .before .before .before .before) (c .before .before .before .before .before .before .before .before .slice-known4 .given)) .now) (Row.get 13 (T14 .locals) (m13 (c .before .before .before .before .before .before .before .before .before)
-                                    (c .before .before .before .before .before .before .before .before .slice-known4 .given)) .now) (Row.get 14 (T14 .locals) (m13 (c .before .before .before .before .before .before .before .before .before) (c .before .before .before .before .before .before .before .before .slice-known4 .given)) .now) (Row.get 15 (T14 .locals) (m13
-                                    (c .before .before .before .before .before .before .before .before .before) (c .before .before .before .before .before .before .before .before .slice-known4 .given))) (Row.get 7 (T14 .locals) (m53 record {
-                                      before = record {
-                                        before = record {
-                                          before = record {
-                                            before = record { before = c .before; make-request = c .make-request };
-                                            visited = record { given = g };
-                                          };
-                                          slice-known5 = record { given = g' };
-                                        };
-                                        drone-flags = record { given = g'' };
-                                      };
-                                      slice-known6 = record { given = g'3 };
-                                    } g'4) .now) (Row.get 8 (T14 .locals) (m53 record {
-                                      before = record {
-                                        before = record {
-                                          before = record {
-                                            before = record { before = c .before; make-request = c .make-request };
-                                            visited = record { given = g };
-                                          };
-                                          slice-known5 = record { given = g' };
-                                        };
-                                        drone-flags = record { given = g'' };
-                                      };
-                                      slice-known6 = record { given = g'3 };
-                                    } g'4) .now) (Row.get 9 (T14 .locals) (m53 record {
-                                      before = record {
-                                        before = record {
-                                          before = record {
-                                            before = record { before = c .before; make-request = c .make-request };
-                                            visited = record { given = g };
-                                          };
-                                          slice-known5 = record { given = g' };
-                                        };
-                                        drone-flags = record { given = g'' };
-                                      };
-                                      slice-known6 = record { given = g'3 };
-                                    } g'4) .now) (Row.get 13 (T14 .locals) (m53 record {
-                                      before = record {
-                                        before = record {
-                                          before = record {
-                                            before = record { before = c .before; make-request = c .make-request };
-                                            visited = record { given = g };
-                                          };
-                                          slice-known5 = record { given = g' };
-                                        };
-                                        drone-flags = record { given = g'' };
-                                      };
-                                      slice-known6 = record { given = g'3 };
-                                    } g'4) .now) (Row.get 14 (T14 .locals) (m53 record {
-                                      before = record {
-                                        before = record {
-                                          before = record {
-                                            before = record { before = c .before; make-request = c .make-request };
-                                            visited = record { given = g };
-                                          };
-                                          slice-known5 = record { given = g' };
-                                        };
-                                        drone-flags = record { given = g'' };
-                                      };
-                                      slice-known6 = record { given = g'3 };
-                                    } g'4) .now) (Row.get 15 (T14 .locals) (m53 record {
-                                      before = record {
-                                        before = record {
-                                          before = record {
-                                            before = record { before = c .before; make-request = c .make-request };
-                                            visited = record { given = g };
-                                          };
-                                          slice-known5 = record { given = g' };
-                                        };
-                                        drone-flags = record { given = g'' };
-                                      };
-                                      slice-known6 = record { given = g'3 };
-                                    } g'4))},
-                              ),
-                            ),
-                          ),
-                        ),
-                      ),
-                    ),
-                  ),
-                ),
-              ),
-            ),
-          ),
-        )
+        lay4 : (c : After-make-request) → at29 (W3 (c .before .before .before .before .before .before .before .before) (c .before .before .before .before .before .before .before .loop .visited) (c .before .before .before .before .before .before .before .loop .drone-flags) (c .before .before .before .before .before .before .before .loop .dependencies) (c
+            .before .before .before .before .before .before .before .loop .replies) (c .before .before .before .before .before .before .before .loop .details) (c .before .before .before .before .before .before .before .loop .i)) (m34 (c .before) (After-make-request·gave c))
+        lay4 = λ c.
+            (Path'.refl, λ g. λ g'. (Path'.refl, λ g''. λ g'3. (Path'.refl, λ g'4. (mul-replies record { before = record { before = record { before = record { before = record { before = record { before = c .before; make-request = c .make-request }; visited = record { given = g } }; slice-known5 = record { given = g' } }; drone-flags = record { given = g'' } }; slice-known6 = record { given = g'3 } }; dependencies = record { given = g'4 } }, (tt, ((Path'.refl, Path'.refl, slice-write-replies record { before = record { before = record { before = record { before = record { before = record { before = c .before; make-request = c .make-request }; visited = record { given = g } }; slice-known5 = record { given = g' } }; drone-flags = record { given = g'' } }; slice-known6 = record { given = g'3 } }; dependencies = record { given = g'4 } }), (mul-details record { before = record { before = record { before = record { before = record { before = record { before = c .before; make-request = c .make-request }; visited = record { given = g } }; slice-known5 = record { given = g' } }; drone-flags = record { given = g'' } }; slice-known6 = record { given = g'3 } }; dependencies = record { given = g'4 } }, (tt, ((Path'.refl, Path'.refl, slice-write-details record { before = record { before = record { before = record { before = record { before = record { before = c .before; make-request = c .make-request }; visited = record { given = g } }; slice-known5 = record { given = g' } }; drone-flags = record { given = g'' } }; slice-known6 = record { given = g'3 } }; dependencies = record { given = g'4 } }), (add-i record { before = record { before = record { before = record { before = record { before = record { before = c .before; make-request = c .make-request }; visited = record { given = g } }; slice-known5 = record { given = g' } }; drone-flags = record { given = g'' } }; slice-known6 = record { given = g'3 } }; dependencies = record { given = g'4 } }, (μ·0 (Row.get 1 (T14 .locals) (m13 (c .before .before .before .before .before .before .before .before .before) (c .before .before .before .before .before .before .before .before .slice-known4 .given)) .now) (Row.get 2 (T14 .locals) (m13 (c .before .before .before .before .before .before .before .before .before) (c .before .before .before .before .before .before .before .before .slice-known4 .given)) .now) (Row.get 3 (T14 .locals) (m13 (c .before .before .before .before .before .before .before .before .before) (c .before .before .before .before .before .before .before .before .slice-known4 .given)) .now) (Row.get 4 (T14 .locals) (m13 (c .before .before .before .before .before .before .before .before .before) (c .before .before .before .before .before .before .before .before .slice-known4 .given)) .now) (Row.get 5 (T14 .locals) (m13 (c .before .before .before .before .before .before .before .before .before) (c .before .before .before .before .before .before .before .before .slice-known4 .given)) .now) (Row.get 6 (T14 .locals) (m13 (c .before .before .before .before .before .before .before .before .before) (c .before .before .before .before .before .before .before .before .slice-known4 .given)) .now) (Row.get 7 (T14 .locals) (m13 (c .before .before .before .before .before .before .before .before .before) (c .before .before .before .before .before .before .before .before .slice-known4 .given)) .now) (Row.get 8 (T14 .locals) (m13 (c .before .before .before .before .before .before .before .before .before) (c .before .before .before .before .before .before .before .before .slice-known4 .given)) .now) (Row.get 9 (T14 .locals) (m13 (c .before .before .before .before .before .before .before .before .before) (c .before .before .before .before .before .before .before .before .slice-known4 .given)) .now) (Row.get 10 (T14 .locals) (m13 (c .before .before .before .before .before .before .before .before .before) (c .before .before .before .before .before .before .before .before .slice-known4 .given))) (Row.get 11 (T14 .locals) (m13 (c .before .before .before .before .before .before .before .before .before) (c .before .before .before .before .before .before .before .before .slice-known4 .given)) .now) (Row.get 12 (T14 .locals) (m13 (c .before .before .before .before .before .before .before .before .before) (c .before .before .before .before .before .before .before .before .slice-known4 .given)) .now) (Row.get 13 (T14 .locals) (m13 (c .before .before .before .before .before .before .before .before .before) (c .before .before .before .before .before .before .before .before .slice-known4 .given)) .now) (Row.get 14 (T14 .locals) (m13 (c .before .before .before .before .before .before .before .before .before) (c .before .before .before .before .before .before .before .before .slice-known4 .given)) .now) (Row.get 15 (T14 .locals) (m13 (c .before .before .before .before .before .before .before .before .before) (c .before .before .before .before .before .before .before .before .slice-known4 .given))) (Row.get 7 (T14 .locals) (m53 record { before = record { before = record { before = record { before = record { before = c .before; make-request = c .make-request }; visited = record { given = g } }; slice-known5 = record { given = g' } }; drone-flags = record { given = g'' } }; slice-known6 = record { given = g'3 } } g'4) .now) (Row.get 8 (T14 .locals) (m53 record { before = record { before = record { before = record { before = record { before = c .before; make-request = c .make-request }; visited = record { given = g } }; slice-known5 = record { given = g' } }; drone-flags = record { given = g'' } }; slice-known6 = record { given = g'3 } } g'4) .now) (Row.get 9 (T14 .locals) (m53 record { before = record { before = record { before = record { before = record { before = c .before; make-request = c .make-request }; visited = record { given = g } }; slice-known5 = record { given = g' } }; drone-flags = record { given = g'' } }; slice-known6 = record { given = g'3 } } g'4) .now) (Row.get 13 (T14 .locals) (m53 record { before = record { before = record { before = record { before = record { before = c .before; make-request = c .make-request }; visited = record { given = g } }; slice-known5 = record { given = g' } }; drone-flags = record { given = g'' } }; slice-known6 = record { given = g'3 } } g'4) .now) (Row.get 14 (T14 .locals) (m53 record { before = record { before = record { before = record { before = record { before = c .before; make-request = c .make-request }; visited = record { given = g } }; slice-known5 = record { given = g' } }; drone-flags = record { given = g'' } }; slice-known6 = record { given = g'3 } } g'4) .now) (Row.get 15 (T14 .locals) (m53 record { before = record { before = record { before = record { before = record { before = c .before; make-request = c .make-request }; visited = record { given = g } }; slice-known5 = record { given = g' } }; drone-flags = record { given = g'' } }; slice-known6 = record { given = g'3 } } g'4)), loop-less record { before = record { before = record { before = record { before = record { before = record { before = c .before; make-request = c .make-request }; visited = record { given = g } }; slice-known5 = record { given = g' } }; drone-flags = record { given = g'' } }; slice-known6 = record { given = g'3 } }; dependencies = record { given = g'4 } }, ((Row.get 7 (T14 .locals) (m53 record { before = record { before = record { before = record { before = record { before = c .before; make-request = c .make-request }; visited = record { given = g } }; slice-known5 = record { given = g' } }; drone-flags = record { given = g'' } }; slice-known6 = record { given = g'3 } } g'4) .now, Row.get 8 (T14 .locals) (m53 record { before = record { before = record { before = record { before = record { before = c .before; make-request = c .make-request }; visited = record { given = g } }; slice-known5 = record { given = g' } }; drone-flags = record { given = g'' } }; slice-known6 = record { given = g'3 } } g'4) .now, Row.get 9 (T14 .locals) (m53 record { before = record { before = record { before = record { before = record { before = c .before; make-request = c .make-request }; visited = record { given = g } }; slice-known5 = record { given = g' } }; drone-flags = record { given = g'' } }; slice-known6 = record { given = g'3 } } g'4) .now, Row.get 13 (T14 .locals) (m53 record { before = record { before = record { before = record { before = record { before = c .before; make-request = c .make-request }; visited = record { given = g } }; slice-known5 = record { given = g' } }; drone-flags = record { given = g'' } }; slice-known6 = record { given = g'3 } } g'4) .now, Row.get 14 (T14 .locals) (m53 record { before = record { before = record { before = record { before = record { before = c .before; make-request = c .make-request }; visited = record { given = g } }; slice-known5 = record { given = g' } }; drone-flags = record { given = g'' } }; slice-known6 = record { given = g'3 } } g'4) .now, Row.get 15 (T14 .locals) (m53 record { before = record { before = record { before = record { before = record { before = c .before; make-request = c .make-request }; visited = record { given = g } }; slice-known5 = record { given = g' } }; drone-flags = record { given = g'' } }; slice-known6 = record { given = g'3 } } g'4)), Path'.refl {a = m53 record { before = record { before = record { before = record { before = record { before = c .before; make-request = c .make-request }; visited = record { given = g } }; slice-known5 = record { given = g' } }; drone-flags = record { given = g'' } }; slice-known6 = record { given = g'3 } } g'4}, loop-again record { before = record { before = record { before = record { before = record { before = record { before = c .before; make-request = c .make-request }; visited = record { given = g } }; slice-known5 = record { given = g' } }; drone-flags = record { given = g'' } }; slice-known6 = record { given = g'3 } }; dependencies = record { given = g'4 } }, Path'.refl {a = μ·0 (Row.get 1 (T14 .locals) (m13 (c .before .before .before .before .before .before .before .before .before) (c .before .before .before .before .before .before .before .before .slice-known4 .given)) .now) (Row.get 2 (T14 .locals) (m13 (c .before .before .before .before .before .before .before .before .before) (c .before .before .before .before .before .before .before .before .slice-known4 .given)) .now) (Row.get 3 (T14 .locals) (m13 (c .before .before .before .before .before .before .before .before .before) (c .before .before .before .before .before .before .before .before .slice-known4 .given)) .now) (Row.get 4 (T14 .locals) (m13 (c .before .before .before .before .before .before .before .before .before) (c .before .before .before .before .before .before .before .before .slice-known4 .given)) .now) (Row.get 5 (T14 .locals) (m13 (c .before .before .before .before .before .before .before .before .before) (c .before .before .before .before .before .before .before .before .slice-known4 .given)) .now) (Row.get 6 (T14 .locals) (m13 (c .before .before .before .before .before .before .before .before .before) (c .before .before .before .before .before .before .before .before .slice-known4 .given)) .now) (Row.get 7 (T14 .locals) (m13 (c .before .before .before .before .before .before .before .before .before) (c .before .before .before .before .before .before .before .before .slice-known4 .given)) .now) (Row.get 8 (T14 .locals) (m13 (c .before .before .before .before .before .before .before .before .before) (c .before .before .before .before .before .before .before .before .slice-known4 .given)) .now) (Row.get 9 (T14 .locals) (m13 (c .before .before .before .before .before .before .before .before .before) (c .before .before .before .before .before .before .before .before .slice-known4 .given)) .now) (Row.get 10 (T14 .locals) (m13 (c .before .before .before .before .before .before .before .before .before) (c .before .before .before .before .before .before .before .before .slice-known4 .given))) (Row.get 11 (T14 .locals) (m13 (c .before .before .before .before .before .before .before .before .before) (c .before .before .before .before .before .before .before .before .slice-known4 .given)) .now) (Row.get 12 (T14 .locals) (m13 (c .before .before .before .before .before .before .before .before .before) (c .before .before .before .before .before .before .before .before .slice-known4 .given)) .now) (Row.get 13 (T14 .locals) (m13 (c .before .before .before .before .before .before .before .before .before) (c .before .before .before .before .before .before .before .before .slice-known4 .given)) .now) (Row.get 14 (T14 .locals) (m13 (c .before .before .before .before .before .before .before .before .before) (c .before .before .before .before .before .before .before .before .slice-known4 .given)) .now) (Row.get 15 (T14 .locals) (m13 (c .before .before .before .before .before .before .before .before .before) (c .before .before .before .before .before .before .before .before .slice-known4 .given))) (Row.get 7 (T14 .locals) (m53 record { before = record { before = record { before = record { before = record { before = c .before; make-request = c .make-request }; visited = record { given = g } }; slice-known5 = record { given = g' } }; drone-flags = record { given = g'' } }; slice-known6 = record { given = g'3 } } g'4) .now) (Row.get 8 (T14 .locals) (m53 record { before = record { before = record { before = record { before = record { before = c .before; make-request = c .make-request }; visited = record { given = g } }; slice-known5 = record { given = g' } }; drone-flags = record { given = g'' } }; slice-known6 = record { given = g'3 } } g'4) .now) (Row.get 9 (T14 .locals) (m53 record { before = record { before = record { before = record { before = record { before = c .before; make-request = c .make-request }; visited = record { given = g } }; slice-known5 = record { given = g' } }; drone-flags = record { given = g'' } }; slice-known6 = record { given = g'3 } } g'4) .now) (Row.get 13 (T14 .locals) (m53 record { before = record { before = record { before = record { before = record { before = c .before; make-request = c .make-request }; visited = record { given = g } }; slice-known5 = record { given = g' } }; drone-flags = record { given = g'' } }; slice-known6 = record { given = g'3 } } g'4) .now) (Row.get 14 (T14 .locals) (m53 record { before = record { before = record { before = record { before = record { before = c .before; make-request = c .make-request }; visited = record { given = g } }; slice-known5 = record { given = g' } }; drone-flags = record { given = g'' } }; slice-known6 = record { given = g'3 } } g'4) .now) (Row.get 15 (T14 .locals) (m53 record { before = record { before = record { before = record { before = record { before = c .before; make-request = c .make-request }; visited = record { given = g } }; slice-known5 = record { given = g' } }; drone-flags = record { given = g'' } }; slice-known6 = record { given = g'3 } } g'4))}))))))))))))
 
-        lay3 : (c : In-loop) → at49 (W3 (c .before .before) (c .before .loop .visited) (c .before .loop .drone-flags) (c .before .loop .dependencies) (c .before .loop .replies) (c .before .loop .details) (c .before .loop .i)) (m16 (c .before))
-        lay3 = λ c. λ g. (
-          Path'.refl,
-          λ g'. (
-            Path'.refl,
-            λ g''. (
-              Path'.refl,
-              (
-                tt,
-                λ g'3. (
-                  (
-                    Path'.refl,
-                    Path'.refl,
-                    shared-slice-read-make-request record {
-                      before = record {
-                        before = record {
-                          before = record { before = record { before = c .before; loop-test = c .loop-test }; make-request-arg = record { given = g } };
-                          make-request-arg2 = record { given = g' };
-                        };
-                        make-request-arg3 = record { given = g'' };
-                      };
-                      shared-slice-known9 = record { given = g'3 };
-                    },
-                  ),
-                  (
-                    mul-make-request record {
-                      before = record {
-                        before = record {
-                          before = record { before = record { before = c .before; loop-test = c .loop-test }; make-request-arg = record { given = g } };
-                          make-request-arg2 = record { given = g' };
-                        };
-                        make-request-arg3 = record { given = g'' };
-                      };
-                      shared-slice-known9 = record { given = g'3 };
-                    },
-                    (
-                      tt,
-                      λ g'4. (
-                        (
-                          Path'.refl,
-                          Path'.refl,
-                          shared-slice-read-make-request-2 record {
-                            before = record {
-                              before = record {
-                                before = record {
-                                  before = record {
-                                    before = record {
-                                      before = c .before;
-                                      loop-test = c .loop-test;
-                                    };
-                                    make-request-arg = record { given = g };
-                                  };
-                                  make-request-arg2 = record { given = g' };
-                                };
-                                make-request-arg3 = record { given = g'' };
-                              };
-                              shared-slice-known9 = record { given = g'3 };
-                            };
-                            shared-slice-known10 = record { given = g'4 };
-                          },
-                        ),
-                        (
-                          make-request-requires record {
-                            before = record {
-                              before = record {
-                                before = record { before = record { before = record { before = c .before; loop-test = c .loop-test }; make-request-arg = record { given = g } }; make-request-arg2 = record { given = g' } };
-                                make-request-arg3 = record { given = g'' };
-                              };
-                              shared-slice-known9 = record { given = g'3 };
-                            };
-                            shared-slice-known10 = record { given = g'4 };
-                          },
-                          λ g'5. lay4 record {
-                            before = record {
-                              before = record {
-                                before = record { before = record { before = record { before = record { before = c .before; loop-test = c .loop-test }; make-request-arg = record { given = g } }; make-request-arg2 = record { given = g' } }; make-request-arg3 = record { given = g'' } };
-                                shared-slice-known9 = record { given = g'3 };
-                              };
-                              shared-slice-known10 = record { given = g'4 };
-                            };
-                            make-request = Called.called ps·0 r·0 (claims· .1) T38 (
-                              record { pos = 1; ty = Syntax.tyRef (Syntax.named 0) Syntax.imm (Syntax.tyInt Syntax.w16); ref = λ x. x },
-                              (
-                                record {
-                                  pos = 2;
-                                  ty = Syntax.tyRef (Syntax.named 1) Syntax.imm
-                                      (Syntax.tyInt Syntax.w16);
-                                  ref = λ x. x;
-                                },
-                                (
-                                  record { pos = 3; ty = Syntax.tyRef (Syntax.named 2) Syntax.imm (Syntax.tyInt Syntax.w8); ref = λ x. x },
-                                  (
-                                    record { pos = 4; ty = Syntax.tyRef (Syntax.named 3) Syntax.imm (Syntax.tyInt Syntax.w16); ref = λ x. x },
-                                    (
-                                      record {
-                                        pos = 5;
-                                        ty = Syntax.tyRef (Syntax.named 4) Syntax.imm
-                                            (Syntax.tyInt Syntax.w16);
-                                        ref = λ x. x;
-                                      },
-                                      (
-                                        record { pos = 6; ty = Syntax.tyRef (Syntax.named 5) Syntax.imm (Syntax.tyInt Syntax.w32); ref = λ x. x },
-                                        (
-                                          record { pos = 19; ty = Syntax.tyRef Syntax.erased Syntax.mut (Syntax.tyInt Syntax.w16); ref = λ x. x },
-                                          (
-                                            record {
-                                              pos = 21;
-                                              ty = Syntax.tyRef Syntax.erased Syntax.mut
-                                                  (Syntax.tyInt Syntax.w8);
-                                              ref = λ x. x;
-                                            },
-                                            (record { pos = 23; ty = Syntax.tyRef Syntax.erased Syntax.mut Rec.behind; ref = λ x. x }, (Num.vAt 25 λ x. x, (Num.vAt 28 λ x. x, tt))),
-                                          ),
-                                        ),
-                                      ),
-                                    ),
-                                  ),
-                                ),
-                              ),
-                            ) (m33 record {
-                              before = record {
-                                before = record {
-                                  before = record {
-                                    before = record { before = c .before; loop-test = c .loop-test };
-                                    make-request-arg = record { given = g };
-                                  };
-                                  make-request-arg2 = record { given = g' };
-                                };
-                                make-request-arg3 = record { given = g'' };
-                              };
-                              shared-slice-known9 = record { given = g'3 };
-                            } g'4) g'5;
-                          },
-                        ),
-                      ),
-                    ),
-                  ),
-                ),
-              ),
-            ),
-          ),
-        )
+        lay3 : (c : In-loop) → at48 (W3 (c .before .before) (c .before .loop .visited) (c .before .loop .drone-flags) (c .before .loop .dependencies) (c .before .loop .replies) (c .before .loop .details) (c .before .loop .i)) (m16 (c .before))
+        lay3 = λ c. λ g.
+            (Path'.refl, λ g'. (Path'.refl, λ g''. (Path'.refl, (tt, λ g'3. ((Path'.refl, Path'.refl, shared-slice-read-make-request record { before = record { before = record { before = record { before = record { before = c .before; loop-test = c .loop-test }; make-request-arg = record { given = g } }; make-request-arg2 = record { given = g' } }; make-request-arg3 = record { given = g'' } }; shared-slice-known9 = record { given = g'3 } }), (mul-make-request record { before = record { before = record { before = record { before = record { before = c .before; loop-test = c .loop-test }; make-request-arg = record { given = g } }; make-request-arg2 = record { given = g' } }; make-request-arg3 = record { given = g'' } }; shared-slice-known9 = record { given = g'3 } }, (tt, λ g'4. ((Path'.refl, Path'.refl, shared-slice-read-make-request-2 record { before = record { before = record { before = record { before = record { before = record { before = c .before; loop-test = c .loop-test }; make-request-arg = record { given = g } }; make-request-arg2 = record { given = g' } }; make-request-arg3 = record { given = g'' } }; shared-slice-known9 = record { given = g'3 } }; shared-slice-known10 = record { given = g'4 } }), (make-request-requires record { before = record { before = record { before = record { before = record { before = record { before = c .before; loop-test = c .loop-test }; make-request-arg = record { given = g } }; make-request-arg2 = record { given = g' } }; make-request-arg3 = record { given = g'' } }; shared-slice-known9 = record { given = g'3 } }; shared-slice-known10 = record { given = g'4 } }, λ g'5. lay4 record { before = record { before = record { before = record { before = record { before = record { before = record { before = c .before; loop-test = c .loop-test }; make-request-arg = record { given = g } }; make-request-arg2 = record { given = g' } }; make-request-arg3 = record { given = g'' } }; shared-slice-known9 = record { given = g'3 } }; shared-slice-known10 = record { given = g'4 } }; make-request = Called.called ps·0 r·0 (claims· .1) T38 args·0 (m33 record { before = record { before = record { before = record { before = record { before = c .before; loop-test = c .loop-test }; make-request-arg = record { given = g } }; make-request-arg2 = record { given = g' } }; make-request-arg3 = record { given = g'' } }; shared-slice-known9 = record { given = g'3 } } g'4) g'5 })))))))))
 
-        lay2 : (c : After-loop) → at3 (W4 (c .before .before) (c .before .loop .visited) (c .before .loop .drone-flags) (c .before .loop .dependencies) (c .before .loop .replies) (c .before .loop .details) (c .before .loop .i)) (m15 (c .before .before) (c .before .loop .visited) (c .before .loop .drone-flags) (c .before .loop .dependencies)
-            (c .before .loop .replies) (c .before .loop .details) (c .before .loop .i))
+        lay2 : (c : After-loop) → at3 (W4 (c .before .before) (c .before .loop .visited) (c .before .loop .drone-flags) (c .before .loop .dependencies) (c .before .loop .replies) (c .before .loop .details) (c .before .loop .i)) (m15 (c .before .before) (c .before .loop .visited) (c .before .loop .drone-flags) (c .before .loop .dependencies) (c .before .loop
+            .replies) (c .before .loop .details) (c .before .loop .i))
         lay2 = λ c. lay5 record { before = c .before; loop-test = c .loop-test }
 
-        lay1 : (c : In-loop) → at1 (W4 (c .before .before) (c .before .loop .visited) (c .before .loop .drone-flags) (c .before .loop .dependencies) (c .before .loop .replies) (c .before .loop .details) (c .before .loop .i)) (m15 (c .before .before) (c .before .loop .visited) (c .before .loop .drone-flags) (c .before .loop .dependencies)
-            (c .before .loop .replies) (c .before .loop .details) (c .before .loop .i))
+        lay1 : (c : In-loop) → at1 (W4 (c .before .before) (c .before .loop .visited) (c .before .loop .drone-flags) (c .before .loop .dependencies) (c .before .loop .replies) (c .before .loop .details) (c .before .loop .i)) (m15 (c .before .before) (c .before .loop .visited) (c .before .loop .drone-flags) (c .before .loop .dependencies) (c .before .loop
+            .replies) (c .before .loop .details) (c .before .loop .i))
         lay1 = λ c. lay3 record { before = c .before; loop-test = c .loop-test }
 
         pub laid : (c : Start) → at71 (W0 (c .κs) (c .args)) (m0 (c .κs) (c .args))
-        laid = λ c. λ g. λ g'. λ g''. λ g'3. λ g'4. λ g'5. λ g'6. λ g'7. λ g'8. λ g'9. λ g'10. λ g'11. (
-          (
-            (
-              Row.get 7 (T14 .locals) (m13 record {
-                before = record {
-                  before = record {
-                    before = record {
-                      before = record {
-                        before = record {
-                          before = record {
-                            before = record {
-                              before = record {
-                                before = record {
-                                  before = record {
-                                    before = c;
-                                    shared-slice-known = record { given = g };
-                                  };
-                                  shared-slice-known2 = record { given = g' };
-                                };
-                                shared-slice-known3 = record { given = g'' };
-                              };
-                              shared-slice-known4 = record { given = g'3 };
-                            };
-                            shared-slice-known5 = record { given = g'4 };
-                          };
-                          shared-slice-known6 = record { given = g'5 };
-                        };
-                        slice-known = record { given = g'6 };
-                      };
-                      slice-known2 = record { given = g'7 };
-                    };
-                    shared-slice-known7 = record { given = g'8 };
-                  };
-                  shared-slice-known8 = record { given = g'9 };
-                };
-                slice-known3 = record { given = g'10 };
-              } g'11) .now,
-              Row.get 8 (T14 .locals) (m13 record {
-                before = record {
-                  before = record {
-                    before = record {
-                      before = record {
-                        before = record {
-                          before = record {
-                            before = record { before = record { before = record { before = record { before = c; shared-slice-known = record { given = g } }; shared-slice-known2 = record { given = g' } }; shared-slice-known3 = record { given = g'' } }; shared-slice-known4 = record { given = g'3 } };
-                            shared-slice-known5 = record { given = g'4 };
-                          };
-                          shared-slice-known6 = record { given = g'5 };
-                        };
-                        slice-known = record { given = g'6 };
-                      };
-                      slice-known2 = record { given = g'7 };
-                    };
-                    shared-slice-known7 = record { given = g'8 };
-                  };
-                  shared-slice-known8 = record { given = g'9 };
-                };
-                slice-known3 = record { given = g'10 };
-              } g'11) .now,
-              Row.get 9 (T14 .locals) (m13 record {
-                before = record {
-                  before = record {
-                    before = record {
-                      before = record {
-                        before = record {
-                          before = record {
-                            before = record {
-                              before = record { before = record { before = record { before = c; shared-slice-known = record { given = g } }; shared-slice-known2 = record { given = g' } }; shared-slice-known3 = record { given = g'' } };
-                              shared-slice-known4 = record { given = g'3 };
-                            };
-                            shared-slice-known5 = record { given = g'4 };
-                          };
-                          shared-slice-known6 = record { given = g'5 };
-                        };
-                        slice-known = record { given = g'6 };
-                      };
-                      slice-known2 = record { given = g'7 };
-                    };
-                    shared-slice-known7 = record { given = g'8 };
-                  };
-                  shared-slice-known8 = record { given = g'9 };
-                };
-                slice-known3 = record { given = g'10 };
-              } g'11) .now,
-              Row.get 13 (T14 .locals) (m13 record {
-                before = record {
-                  before = record {
-                    before = record {
-                      before = record {
-                        before = record {
-                          before = record {
-                            before = record {
-                              before = record {
-                                before = record {
-                                  before = record { before = c; shared-slice-known = record { given = g } };
-                                  shared-slice-known2 = record { given = g' };
-                                };
-                                shared-slice-known3 = record { given = g'' };
-                              };
-                              shared-slice-known4 = record { given = g'3 };
-                            };
-                            shared-slice-known5 = record { given = g'4 };
-                          };
-                          shared-slice-known6 = record { given = g'5 };
-                        };
-                        slice-known = record { given = g'6 };
-                      };
-                      slice-known2 = record { given = g'7 };
-                    };
-                    shared-slice-known7 = record { given = g'8 };
-                  };
-                  shared-slice-known8 = record { given = g'9 };
-                };
-                slice-known3 = record { given = g'10 };
-              } g'11) .now,
-              Row.get 14 (T14 .locals) (m13 record {
-                before = record {
-                  before = record {
-                    before = record {
-                      before = record {
-                        before = record {
-                          before = record {
-                            before = record {
-                              before = record {
-                                before = record { before = record { before = c; shared-slice-known = record { given = g } }; shared-slice-known2 = record { given = g' } };
-                                shared-slice-known3 = record { given = g'' };
-                              };
-                              shared-slice-known4 = record { given = g'3 };
-                            };
-                            shared-slice-known5 = record { given = g'4 };
-                          };
-                          shared-slice-known6 = record { given = g'5 };
-                        };
-                        slice-known = record { given = g'6 };
-                      };
-                      slice-known2 = record { given = g'7 };
-                    };
-                    shared-slice-known7 = record { given = g'8 };
-                  };
-                  shared-slice-known8 = record { given = g'9 };
-                };
-                slice-known3 = record { given = g'10 };
-              } g'11) .now,
-              Row.get 15 (T14 .locals) (m13 record {
-                before = record {
-                  before = record {
-                    before = record {
-                      before = record {
-                        before = record {
-                          before = record {
-                            before = record { before = record { before = record { before = record { before = c; shared-slice-known = record { given = g } }; shared-slice-known2 = record { given = g' } }; shared-slice-known3 = record { given = g'' } }; shared-slice-known4 = record { given = g'3 } };
-                            shared-slice-known5 = record { given = g'4 };
-                          };
-                          shared-slice-known6 = record { given = g'5 };
-                        };
-                        slice-known = record { given = g'6 };
-                      };
-                      slice-known2 = record { given = g'7 };
-                    };
-                    shared-slice-known7 = record { given = g'8 };
-                  };
-                  shared-slice-known8 = record { given = g'9 };
-                };
-                slice-known3 = record { given = g'10 };
-              } g'11),
-            ),
-            Path'.refl {a = m13 record {
-              before = record {
-                before = record {
-                  before = record {
-                    before = record {
-                      before = record {
-                        before = record {
-                          before = record {
-                            before = record {
-                              before = record { before = record { before = c; shared-slice-known = record { given = g } }; shared-slice-known2 = record { given = g' } };
-                              shared-slice-known3 = record { given = g'' };
-                            };
-                            shared-slice-known4 = record { given = g'3 };
-                          };
-                          shared-slice-known5 = record { given = g'4 };
-                        };
-                        shared-slice-known6 = record { given = g'5 };
-                      };
-                      slice-known = record { given = g'6 };
-                    };
-                    slice-known2 = record { given = g'7 };
-                  };
-                  shared-slice-known7 = record { given = g'8 };
-                };
-                shared-slice-known8 = record { given = g'9 };
-              };
-              slice-known3 = record { given = g'10 };
-            } g'11},
-            loop-holds record {
-              before = record {
-                before = record {
-                  before = record {
-                    before = record {
-                      before = record {
-                        before = record {
-                          before = record {
-                            before = record {
-                              before = record {
-                                before = record {
-                                  before = record {
-                                    before = c;
-                                    shared-slice-known = record { given = g };
-                                  };
-                                  shared-slice-known2 = record { given = g' };
-                                };
-                                shared-slice-known3 = record { given = g'' };
-                              };
-                              shared-slice-known4 = record { given = g'3 };
-                            };
-                            shared-slice-known5 = record { given = g'4 };
-                          };
-                          shared-slice-known6 = record { given = g'5 };
-                        };
-                        slice-known = record { given = g'6 };
-                      };
-                      slice-known2 = record { given = g'7 };
-                    };
-                    shared-slice-known7 = record { given = g'8 };
-                  };
-                  shared-slice-known8 = record { given = g'9 };
-                };
-                slice-known3 = record { given = g'10 };
-              };
-              slice-known4 = record { given = g'11 };
-            },
-          ),
-          λ vs inv. (
-            tt,
-            (
-              λ taken. lay1 record {
-                before = record {
-                  before = record {
-                    before = record {
-                      before = record {
-                        before = record {
-                          before = record {
-                            before = record {
-                              before = record {
-                                before = record {
-                                  before = record {
-                                    before = record { before = record { before = record { before = c; shared-slice-known = record { given = g } }; shared-slice-known2 = record { given = g' } }; shared-slice-known3 = record { given = g'' } };
-                                    shared-slice-known4 = record { given = g'3 };
-                                  };
-                                  shared-slice-known5 = record { given = g'4 };
-                                };
-                                shared-slice-known6 = record { given = g'5 };
-                              };
-                              slice-known = record { given = g'6 };
-                            };
-                            slice-known2 = record { given = g'7 };
-                          };
-                          shared-slice-known7 = record { given = g'8 };
-                        };
-                        shared-slice-known8 = record { given = g'9 };
-                      };
-                      slice-known3 = record { given = g'10 };
-                    };
-                    slice-known4 = record { given = g'11 };
-                  };
-                  loop = record { visited = vs .0; drone-flags = vs .1; dependencies = vs .2; replies = vs .3; details = vs .4; i = vs .5; inv = inv };
-                };
-                loop-test = record {
-                  taken = Tests.ltb-true (Row.get 15 (T14 .locals) (m14 record {
-                    before = record {
-                      before = record {
-                        before = record {
-                          before = record {
-                            before = record {
-                              before = record {
-                                before = record {
-                                  before = record {
-                                    before = record { before = record { before = record { before = c; shared-slice-known = record { given = g } }; shared-slice-known2 = record { given = g' } }; shared-slice-known3 = record { given = g'' } };
-                                    shared-slice-known4 = record { given = g'3 };
-                                  };
-                                  shared-slice-known5 = record { given = g'4 };
-                                };
-                                shared-slice-known6 = record { given = g'5 };
-                              };
-                              slice-known = record { given = g'6 };
-                            };
-                            slice-known2 = record { given = g'7 };
-                          };
-                          shared-slice-known7 = record { given = g'8 };
-                        };
-                        shared-slice-known8 = record { given = g'9 };
-                      };
-                      slice-known3 = record { given = g'10 };
-                    };
-                    slice-known4 = record { given = g'11 };
-                  } (vs .0) (vs .1) (vs .2) (vs .3) (vs .4) (vs .5))) (Row.get 10 (T14 .locals) (m14 record {
-                    before = record {
-                      before = record {
-                        before = record {
-                          before = record {
-                            before = record {
-                              before = record {
-                                before = record {
-                                  before = record {
-                                    before = record {
-                                      before = record { before = record { before = c; shared-slice-known = record { given = g } }; shared-slice-known2 = record { given = g' } };
-                                      shared-slice-known3 = record { given = g'' };
-                                    };
-                                    shared-slice-known4 = record { given = g'3 };
-                                  };
-                                  shared-slice-known5 = record { given = g'4 };
-                                };
-                                shared-slice-known6 = record { given = g'5 };
-                              };
-                              slice-known = record { given = g'6 };
-                            };
-                            slice-known2 = record { given = g'7 };
-                          };
-                          shared-slice-known7 = record { given = g'8 };
-                        };
-                        shared-slice-known8 = record { given = g'9 };
-                      };
-                      slice-known3 = record { given = g'10 };
-                    };
-                    slice-known4 = record { given = g'11 };
-                  } (vs .0) (vs .1) (vs .2) (vs .3) (vs .4) (vs .5))) taken;
-                };
-              },
-              λ left. lay2 record {
-                before = record {
-                  before = record {
-                    before = record {
-                      before = record {
-                        before = record {
-                          before = record {
-                            before = record {
-                              before = record {
-                                before = record {
-                                  before = record {
-                                    before = record {
-                                      before = record {
-                                        before = record { before = c; shared-slice-known = record { given = g } };
-                                        shared-slice-known2 = record { given = g' };
-                                      };
-                                      shared-slice-known3 = record { given = g'' };
-                                    };
-                                    shared-slice-known4 = record { given = g'3 };
-                                  };
-                                  shared-slice-known5 = record { given = g'4 };
-                                };
-                                shared-slice-known6 = record { given = g'5 };
-                              };
-                              slice-known = record { given = g'6 };
-                            };
-                            slice-known2 = record { given = g'7 };
-                          };
-                          shared-slice-known7 = record { given = g'8 };
-                        };
-                        shared-slice-known8 = record { given = g'9 };
-                      };
-                      slice-known3 = record { given = g'10 };
-                    };
-                    slice-known4 = record { given = g'11 };
-                  };
-                  loop = record { visited = vs .0; drone-flags = vs .1; dependencies = vs .2; replies = vs .3; details = vs .4; i = vs .5; inv = inv };
-                };
-                loop-test = record {
-                  left = Tests.ltb-false (Row.get 15 (T14 .locals) (m14 record {
-                    before = record {
-                      before = record {
-                        before = record {
-                          before = record {
-                            before = record {
-                              before = record {
-                                before = record {
-                                  before = record {
-                                    before = record {
-                                      before = record {
-                                        before = record { before = c; shared-slice-known = record { given = g } };
-                                        shared-slice-known2 = record { given = g' };
-                                      };
-                                      shared-slice-known3 = record { given = g'' };
-                                    };
-                                    shared-slice-known4 = record { given = g'3 };
-                                  };
-                                  shared-slice-known5 = record { given = g'4 };
-                                };
-                                shared-slice-known6 = record { given = g'5 };
-                              };
-                              slice-known = record { given = g'6 };
-                            };
-                            slice-known2 = record { given = g'7 };
-                          };
-                          shared-slice-known7 = record { given = g'8 };
-                        };
-                        shared-slice-known8 = record { given = g'9 };
-                      };
-                      slice-known3 = record { given = g'10 };
-                    };
-                    slice-known4 = record { given = g'11 };
-                  } (vs .0) (vs .1) (vs .2) (vs .3) (vs .4) (vs .5))) (Row.get 10 (T14 .locals) (m14 record {
-                    before = record {
-                      before = record {
-                        before = record {
-                          before = record {
-                            before = record {
-                              before = record {
-                                before = record {
-                                  before = record { before = record { before = record { before = record { before = c; shared-slice-known = record { given = g } }; shared-slice-known2 = record { given = g' } }; shared-slice-known3 = record { given = g'' } }; shared-slice-known4 = record { given = g'3 } };
-                                  shared-slice-known5 = record { given = g'4 };
-                                };
-                                shared-slice-known6 = record { given = g'5 };
-                              };
-                              slice-known = record { given = g'6 };
-                            };
-                            slice-known2 = record { given = g'7 };
-                          };
-                          shared-slice-known7 = record { given = g'8 };
-                        };
-                        shared-slice-known8 = record { given = g'9 };
-                      };
-                      slice-known3 = record { given = g'10 };
-                    };
-                    slice-known4 = record { given = g'11 };
-                  } (vs .0) (vs .1) (vs .2) (vs .3) (vs .4) (vs .5))) left;
-                };
-              },
-            ),
-          ),
-        )
+        laid = λ c. λ g. λ g'. λ g''. λ g'3. λ g'4. λ g'5. λ g'6. λ g'7. λ g'8. λ g'9. λ g'10. λ g'11.
+            (((Row.get 7 (T14 .locals) (m13 record { before = record { before = record { before = record { before = record { before = record { before = record { before = record { before = record { before = record { before = record { before = c; shared-slice-known = record { given = g } }; shared-slice-known2 = record { given = g' } }; shared-slice-known3 = record { given = g'' } }; shared-slice-known4 = record { given = g'3 } }; shared-slice-known5 = record { given = g'4 } }; shared-slice-known6 = record { given = g'5 } }; slice-known = record { given = g'6 } }; slice-known2 = record { given = g'7 } }; shared-slice-known7 = record { given = g'8 } }; shared-slice-known8 = record { given = g'9 } }; slice-known3 = record { given = g'10 } } g'11) .now, Row.get 8 (T14 .locals) (m13 record { before = record { before = record { before = record { before = record { before = record { before = record { before = record { before = record { before = record { before = record { before = c; shared-slice-known = record { given = g } }; shared-slice-known2 = record { given = g' } }; shared-slice-known3 = record { given = g'' } }; shared-slice-known4 = record { given = g'3 } }; shared-slice-known5 = record { given = g'4 } }; shared-slice-known6 = record { given = g'5 } }; slice-known = record { given = g'6 } }; slice-known2 = record { given = g'7 } }; shared-slice-known7 = record { given = g'8 } }; shared-slice-known8 = record { given = g'9 } }; slice-known3 = record { given = g'10 } } g'11) .now, Row.get 9 (T14 .locals) (m13 record { before = record { before = record { before = record { before = record { before = record { before = record { before = record { before = record { before = record { before = record { before = c; shared-slice-known = record { given = g } }; shared-slice-known2 = record { given = g' } }; shared-slice-known3 = record { given = g'' } }; shared-slice-known4 = record { given = g'3 } }; shared-slice-known5 = record { given = g'4 } }; shared-slice-known6 = record { given = g'5 } }; slice-known = record { given = g'6 } }; slice-known2 = record { given = g'7 } }; shared-slice-known7 = record { given = g'8 } }; shared-slice-known8 = record { given = g'9 } }; slice-known3 = record { given = g'10 } } g'11) .now, Row.get 13 (T14 .locals) (m13 record { before = record { before = record { before = record { before = record { before = record { before = record { before = record { before = record { before = record { before = record { before = c; shared-slice-known = record { given = g } }; shared-slice-known2 = record { given = g' } }; shared-slice-known3 = record { given = g'' } }; shared-slice-known4 = record { given = g'3 } }; shared-slice-known5 = record { given = g'4 } }; shared-slice-known6 = record { given = g'5 } }; slice-known = record { given = g'6 } }; slice-known2 = record { given = g'7 } }; shared-slice-known7 = record { given = g'8 } }; shared-slice-known8 = record { given = g'9 } }; slice-known3 = record { given = g'10 } } g'11) .now, Row.get 14 (T14 .locals) (m13 record { before = record { before = record { before = record { before = record { before = record { before = record { before = record { before = record { before = record { before = record { before = c; shared-slice-known = record { given = g } }; shared-slice-known2 = record { given = g' } }; shared-slice-known3 = record { given = g'' } }; shared-slice-known4 = record { given = g'3 } }; shared-slice-known5 = record { given = g'4 } }; shared-slice-known6 = record { given = g'5 } }; slice-known = record { given = g'6 } }; slice-known2 = record { given = g'7 } }; shared-slice-known7 = record { given = g'8 } }; shared-slice-known8 = record { given = g'9 } }; slice-known3 = record { given = g'10 } } g'11) .now, Row.get 15 (T14 .locals) (m13 record { before = record { before = record { before = record { before = record { before = record { before = record { before = record { before = record { before = record { before = record { before = c; shared-slice-known = record { given = g } }; shared-slice-known2 = record { given = g' } }; shared-slice-known3 = record { given = g'' } }; shared-slice-known4 = record { given = g'3 } }; shared-slice-known5 = record { given = g'4 } }; shared-slice-known6 = record { given = g'5 } }; slice-known = record { given = g'6 } }; slice-known2 = record { given = g'7 } }; shared-slice-known7 = record { given = g'8 } }; shared-slice-known8 = record { given = g'9 } }; slice-known3 = record { given = g'10 } } g'11)), Path'.refl {a = m13 record { before = record { before = record { before = record { before = record { before = record { before = record { before = record { before = record { before = record { before = record { before = c; shared-slice-known = record { given = g } }; shared-slice-known2 = record { given = g' } }; shared-slice-known3 = record { given = g'' } }; shared-slice-known4 = record { given = g'3 } }; shared-slice-known5 = record { given = g'4 } }; shared-slice-known6 = record { given = g'5 } }; slice-known = record { given = g'6 } }; slice-known2 = record { given = g'7 } }; shared-slice-known7 = record { given = g'8 } }; shared-slice-known8 = record { given = g'9 } }; slice-known3 = record { given = g'10 } } g'11}, loop-holds record { before = record { before = record { before = record { before = record { before = record { before = record { before = record { before = record { before = record { before = record { before = record { before = c; shared-slice-known = record { given = g } }; shared-slice-known2 = record { given = g' } }; shared-slice-known3 = record { given = g'' } }; shared-slice-known4 = record { given = g'3 } }; shared-slice-known5 = record { given = g'4 } }; shared-slice-known6 = record { given = g'5 } }; slice-known = record { given = g'6 } }; slice-known2 = record { given = g'7 } }; shared-slice-known7 = record { given = g'8 } }; shared-slice-known8 = record { given = g'9 } }; slice-known3 = record { given = g'10 } }; slice-known4 = record { given = g'11 } }), λ vs inv. (tt, (λ taken. lay1 record { before = record { before = record { before = record { before = record { before = record { before = record { before = record { before = record { before = record { before = record { before = record { before = record { before = record { before = c; shared-slice-known = record { given = g } }; shared-slice-known2 = record { given = g' } }; shared-slice-known3 = record { given = g'' } }; shared-slice-known4 = record { given = g'3 } }; shared-slice-known5 = record { given = g'4 } }; shared-slice-known6 = record { given = g'5 } }; slice-known = record { given = g'6 } }; slice-known2 = record { given = g'7 } }; shared-slice-known7 = record { given = g'8 } }; shared-slice-known8 = record { given = g'9 } }; slice-known3 = record { given = g'10 } }; slice-known4 = record { given = g'11 } }; loop = record { visited = vs .0; drone-flags = vs .1; dependencies = vs .2; replies = vs .3; details = vs .4; i = vs .5; inv = inv } }; loop-test = record { taken = Tests.ltb-true (Row.get 15 (T14 .locals) (m14 record { before = record { before = record { before = record { before = record { before = record { before = record { before = record { before = record { before = record { before = record { before = record { before = c; shared-slice-known = record { given = g } }; shared-slice-known2 = record { given = g' } }; shared-slice-known3 = record { given = g'' } }; shared-slice-known4 = record { given = g'3 } }; shared-slice-known5 = record { given = g'4 } }; shared-slice-known6 = record { given = g'5 } }; slice-known = record { given = g'6 } }; slice-known2 = record { given = g'7 } }; shared-slice-known7 = record { given = g'8 } }; shared-slice-known8 = record { given = g'9 } }; slice-known3 = record { given = g'10 } }; slice-known4 = record { given = g'11 } } (vs .0) (vs .1) (vs .2) (vs .3) (vs .4) (vs .5))) (Row.get 10 (T14 .locals) (m14 record { before = record { before = record { before = record { before = record { before = record { before = record { before = record { before = record { before = record { before = record { before = record { before = c; shared-slice-known = record { given = g } }; shared-slice-known2 = record { given = g' } }; shared-slice-known3 = record { given = g'' } }; shared-slice-known4 = record { given = g'3 } }; shared-slice-known5 = record { given = g'4 } }; shared-slice-known6 = record { given = g'5 } }; slice-known = record { given = g'6 } }; slice-known2 = record { given = g'7 } }; shared-slice-known7 = record { given = g'8 } }; shared-slice-known8 = record { given = g'9 } }; slice-known3 = record { given = g'10 } }; slice-known4 = record { given = g'11 } } (vs .0) (vs .1) (vs .2) (vs .3) (vs .4) (vs .5))) taken } }, λ left. lay2 record { before = record { before = record { before = record { before = record { before = record { before = record { before = record { before = record { before = record { before = record { before = record { before = record { before = record { before = c; shared-slice-known = record { given = g } }; shared-slice-known2 = record { given = g' } }; shared-slice-known3 = record { given = g'' } }; shared-slice-known4 = record { given = g'3 } }; shared-slice-known5 = record { given = g'4 } }; shared-slice-known6 = record { given = g'5 } }; slice-known = record { given = g'6 } }; slice-known2 = record { given = g'7 } }; shared-slice-known7 = record { given = g'8 } }; shared-slice-known8 = record { given = g'9 } }; slice-known3 = record { given = g'10 } }; slice-known4 = record { given = g'11 } }; loop = record { visited = vs .0; drone-flags = vs .1; dependencies = vs .2; replies = vs .3; details = vs .4; i = vs .5; inv = inv } }; loop-test = record { left = Tests.ltb-false (Row.get 15 (T14 .locals) (m14 record { before = record { before = record { before = record { before = record { before = record { before = record { before = record { before = record { before = record { before = record { before = record { before = c; shared-slice-known = record { given = g } }; shared-slice-known2 = record { given = g' } }; shared-slice-known3 = record { given = g'' } }; shared-slice-known4 = record { given = g'3 } }; shared-slice-known5 = record { given = g'4 } }; shared-slice-known6 = record { given = g'5 } }; slice-known = record { given = g'6 } }; slice-known2 = record { given = g'7 } }; shared-slice-known7 = record { given = g'8 } }; shared-slice-known8 = record { given = g'9 } }; slice-known3 = record { given = g'10 } }; slice-known4 = record { given = g'11 } } (vs .0) (vs .1) (vs .2) (vs .3) (vs .4) (vs .5))) (Row.get 10 (T14 .locals) (m14 record { before = record { before = record { before = record { before = record { before = record { before = record { before = record { before = record { before = record { before = record { before = record { before = c; shared-slice-known = record { given = g } }; shared-slice-known2 = record { given = g' } }; shared-slice-known3 = record { given = g'' } }; shared-slice-known4 = record { given = g'3 } }; shared-slice-known5 = record { given = g'4 } }; shared-slice-known6 = record { given = g'5 } }; slice-known = record { given = g'6 } }; slice-known2 = record { given = g'7 } }; shared-slice-known7 = record { given = g'8 } }; shared-slice-known8 = record { given = g'9 } }; slice-known3 = record { given = g'10 } }; slice-known4 = record { given = g'11 } } (vs .0) (vs .1) (vs .2) (vs .3) (vs .4) (vs .5))) left } })))
 
         module _ (κs : Lifetimes.Lfts 13) (qs : Lifetimes.Shares 13) where
           pub asked : (a : Kinds.Dens κs ps) → (good : Kinds.GoodsP κs ps a) → (pre : Pre· κs a) → (bs : List.List Nat.ℕ) → Φ (Any.wantQ 13 ps r xs m κs qs a (Post· κs a)) (Function.init 13 ps r xs m κs qs a)
-          asked = λ a good pre bs. laid record {
-            κs = κs;
-            args = record {
-              drone-count = a .0;
-              dependency-count = a .1 .0;
-              names = a .1 .1 .0;
-              stop-counts = a .1 .1 .1 .0;
-              locations = a .1 .1 .1 .1 .0;
-              times = a .1 .1 .1 .1 .1 .0;
-              visited = a .1 .1 .1 .1 .1 .1 .0;
-              drone-flags = a .1 .1 .1 .1 .1 .1 .1 .0;
-              dependencies = a .1 .1 .1 .1 .1 .1 .1 .1 .0;
-              count = a .1 .1 .1 .1 .1 .1 .1 .1 .1 .0;
-              kinds = a .1 .1 .1 .1 .1 .1 .1 .1 .1 .1 .0;
-              numbers = a .1 .1 .1 .1 .1 .1 .1 .1 .1 .1 .1 .0;
-              replies = a .1 .1 .1 .1 .1 .1 .1 .1 .1 .1 .1 .1 .0;
-              details = a .1 .1 .1 .1 .1 .1 .1 .1 .1 .1 .1 .1 .1 .0;
-            };
-            good = good;
-            fits = record { count = record { fits = good .1 .1 .1 .1 .1 .1 .1 .1 .1 .0 .1 } };
-            pre = pre;
-          }
+          asked = λ a good pre bs. laid record
+              { κs = κs; args = record { drone-count = a .0; dependency-count = a .1 .0; names = a .1 .1 .0; stop-counts = a .1 .1 .1 .0; locations = a .1 .1 .1 .1 .0; times = a .1 .1 .1 .1 .1 .0; visited = a .1 .1 .1 .1 .1 .1 .0; drone-flags = a .1 .1 .1 .1 .1 .1 .1 .0; dependencies = a .1 .1 .1 .1 .1 .1 .1 .1 .0; count = a .1 .1 .1 .1 .1 .1 .1 .1 .1 .0; kinds = a .1 .1 .1 .1 .1 .1 .1 .1 .1 .1 .0; numbers = a .1 .1 .1 .1 .1 .1 .1 .1 .1 .1 .1 .0; replies = a .1 .1 .1 .1 .1 .1 .1 .1 .1 .1 .1 .1 .0; details = a .1 .1 .1 .1 .1 .1 .1 .1 .1 .1 .1 .1 .1 .0 }; good = good; fits = record { count = record { fits = good .1 .1 .1 .1 .1 .1 .1 .1 .1 .0 .1 } }; pre = pre }
 
         module _ {M : Type 1} (𝓤 : URA.URA M) (H : Wp.Heap 𝓤) (A : Atoms.Atoms 𝓤) (W : Kit.Given 𝓤 H A) (𝓣 : Wp.Tables 𝓤 H) (known0 : Plain.Known 𝓤 H A W 𝓣 9 ps·0 r·0 (claims· .0) (claims· .1) "dispatch::requests::make_request") where
           pub spec : Statement.Triple 𝓤 (Wp.WpFn 𝓤 H (𝓣 .C) (𝓣 .Λ) (Function.fnOf 13 ps r xs m hs body)) (Function.plainOf 𝓤 H A 13 ps r Pre· Post·)

@@ -1,4 +1,5 @@
 -- `handset::button::grant_all`: Lts, carried over by tools/lend.py. Assumes nothing.
+use borrow.Fn.Args.{ArgsT}
 use Rattle.records.proofs.Row as Rec
 use Prim.Native.Nat
 use Rattle.flat.proofs.replies.GrantReply
@@ -80,10 +81,12 @@ abbrev ty·9 : Syntax.Ty
 ty·9 = Syntax.tyRef (Syntax.named 6) Syntax.imm (Syntax.tyInt Syntax.w16)
 
 abbrev ty·10 : Syntax.Ty
-ty·10 = Syntax.tyEnum (List._∷_ 104 (List._∷_ 97 (List._∷_ 110 (List._∷_ 100 (List._∷_ 115 (List._∷_ 101 (List._∷_ 116 (List._∷_ 58 (List._∷_ 58 (List._∷_ 114 (List._∷_ 101 (List._∷_ 112 (List._∷_ 108 (List._∷_ 105 (List._∷_ 101 (List._∷_ 115 (List._∷_ 58 (List._∷_ 58 (List._∷_ 80 (List._∷_ 114 (List._∷_ 101 (List._∷_ 115 (List._∷_ 115 (List._∷_ 82 (List._∷_ 101 (List._∷_ 112 (List._∷_ 108 (List._∷_ 121 List.[])))))))))))))))))))))))))))) (Syntax.ttcons (Syntax.tcons (Syntax.tyInt Syntax.w32) Syntax.tnil) (Syntax.ttcons Syntax.tnil (Syntax.ttcons Syntax.tnil (Syntax.ttcons Syntax.tnil (Syntax.ttcons Syntax.tnil Syntax.ttnil)))))
+ty·10 = Syntax.tyEnum (List._∷_ 104 (List._∷_ 97 (List._∷_ 110 (List._∷_ 100 (List._∷_ 115 (List._∷_ 101 (List._∷_ 116 (List._∷_ 58 (List._∷_ 58 (List._∷_ 114 (List._∷_ 101 (List._∷_ 112 (List._∷_ 108 (List._∷_ 105 (List._∷_ 101 (List._∷_ 115 (List._∷_ 58 (List._∷_ 58 (List._∷_ 80 (List._∷_ 114 (List._∷_ 101 (List._∷_ 115 (List._∷_ 115 (List._∷_ 82 (List._∷_
+    101 (List._∷_ 112 (List._∷_ 108 (List._∷_ 121 List.[])))))))))))))))))))))))))))) (Syntax.ttcons (Syntax.tcons (Syntax.tyInt Syntax.w32) Syntax.tnil) (Syntax.ttcons Syntax.tnil (Syntax.ttcons Syntax.tnil (Syntax.ttcons Syntax.tnil (Syntax.ttcons Syntax.tnil Syntax.ttnil)))))
 
 abbrev ty·11 : Syntax.Ty
-ty·11 = Syntax.tyEnum (List._∷_ 102 (List._∷_ 108 (List._∷_ 97 (List._∷_ 116 (List._∷_ 58 (List._∷_ 58 (List._∷_ 114 (List._∷_ 101 (List._∷_ 112 (List._∷_ 108 (List._∷_ 105 (List._∷_ 101 (List._∷_ 115 (List._∷_ 58 (List._∷_ 58 (List._∷_ 71 (List._∷_ 114 (List._∷_ 97 (List._∷_ 110 (List._∷_ 116 (List._∷_ 82 (List._∷_ 101 (List._∷_ 112 (List._∷_ 108 (List._∷_ 121 List.[]))))))))))))))))))))))))) (Syntax.ttcons Syntax.tnil (Syntax.ttcons Syntax.tnil (Syntax.ttcons Syntax.tnil (Syntax.ttcons Syntax.tnil (Syntax.ttcons Syntax.tnil (Syntax.ttcons Syntax.tnil (Syntax.ttcons (Syntax.tcons (Syntax.tyInt Syntax.w64) Syntax.tnil) Syntax.ttnil)))))))
+ty·11 = Syntax.tyEnum (List._∷_ 102 (List._∷_ 108 (List._∷_ 97 (List._∷_ 116 (List._∷_ 58 (List._∷_ 58 (List._∷_ 114 (List._∷_ 101 (List._∷_ 112 (List._∷_ 108 (List._∷_ 105 (List._∷_ 101 (List._∷_ 115 (List._∷_ 58 (List._∷_ 58 (List._∷_ 71 (List._∷_ 114 (List._∷_ 97 (List._∷_ 110 (List._∷_ 116 (List._∷_ 82 (List._∷_ 101 (List._∷_ 112 (List._∷_ 108 (List._∷_
+    121 List.[]))))))))))))))))))))))))) (Syntax.ttcons Syntax.tnil (Syntax.ttcons Syntax.tnil (Syntax.ttcons Syntax.tnil (Syntax.ttcons Syntax.tnil (Syntax.ttcons Syntax.tnil (Syntax.ttcons Syntax.tnil (Syntax.ttcons (Syntax.tcons (Syntax.tyInt Syntax.w64) Syntax.tnil) Syntax.ttnil)))))))
 
 abbrev row·0 : Row.Row
 row·0 = Rows.any-gone ty·10
@@ -167,122 +170,61 @@ abbrev row·26 : Row.Row
 row·26 = Mut.msleft (Referent.rtF (Referent.fInt Syntax.w8)) ty·1
 
 abbrev pub ps : List.List (Kinds.PK 9)
-ps = List._∷_ (ShrSlice.pShrS (Referent.rtF (Referent.fInt Syntax.w16)) 0 tt) (List._∷_ (ShrSlice.pShrS (Referent.rtF (Referent.fInt Syntax.w16)) 1 tt) (List._∷_ (ShrSlice.pShrS (Referent.rtF (Referent.fInt Syntax.w8)) 2 tt) (List._∷_ (ShrSlice.pShrS (Referent.rtF (Referent.fInt Syntax.w16)) 3 tt) (List._∷_
-    (ShrSlice.pShrS (Referent.rtF (Referent.fInt Syntax.w16)) 4 tt) (List._∷_ (ShrSlice.pShrS (Referent.rtF (Referent.fInt Syntax.w32)) 5 tt) (List._∷_ (ShrSlice.pShrS (Referent.rtF (Referent.fInt Syntax.w16)) 6 tt) (List._∷_ (MutSlice.pMutS (Referent.rtF (Referent.fInt Syntax.w8)) 7 tt) (List._∷_ (ShrSlice.pShrS Rec.rt 8 tt) List.[]))))))))
+ps = List._∷_ (ShrSlice.pShrS (Referent.rtF (Referent.fInt Syntax.w16)) 0 tt) (List._∷_ (ShrSlice.pShrS (Referent.rtF (Referent.fInt Syntax.w16)) 1 tt) (List._∷_ (ShrSlice.pShrS (Referent.rtF (Referent.fInt Syntax.w8)) 2 tt) (List._∷_ (ShrSlice.pShrS (Referent.rtF (Referent.fInt Syntax.w16)) 3 tt) (List._∷_ (ShrSlice.pShrS (Referent.rtF (Referent.fInt
+    Syntax.w16)) 4 tt) (List._∷_ (ShrSlice.pShrS (Referent.rtF (Referent.fInt Syntax.w32)) 5 tt) (List._∷_ (ShrSlice.pShrS (Referent.rtF (Referent.fInt Syntax.w16)) 6 tt) (List._∷_ (MutSlice.pMutS (Referent.rtF (Referent.fInt Syntax.w8)) 7 tt) (List._∷_ (ShrSlice.pShrS Rec.rt 8 tt) List.[]))))))))
 
 abbrev pub r : Kinds.RK 9
-r = Value.rVal record {
-  ty = Declared.row PressReply.the-type;
-  one = Path'.refl;
-  val = Laws''.val PressReply.the-type Laws'.the-laws;
-  tells = Laws''.tells PressReply.the-type Laws'.the-laws;
-  still = Laws''.still PressReply.the-type Laws'.the-copy Exit.yes;
-  row = Rows.whole (Declared.row PressReply.the-type);
-  rd = λ x. x;
-  mk = λ x. x;
-} λ M 𝓤 H A W. record {
-  copies = Laws''.copy PressReply.the-type Laws'.the-copy 𝓤 H A W;
-  lawful = Laws''.lawful PressReply.the-type Laws'.the-laws 𝓤 H A W tt;
-  makes = Laws''.makes PressReply.the-type Laws'.the-plain 𝓤 H A;
-  in-mem = Local.mem-whole 𝓤 H A W (Declared.row PressReply.the-type);
-  of-mem = Local.whole-mem 𝓤 H A W (Declared.row PressReply.the-type);
-}
+r = Value.rVal record { ty = Declared.row PressReply.the-type; one = Path'.refl; val = Laws''.val PressReply.the-type Laws'.the-laws; tells = Laws''.tells PressReply.the-type Laws'.the-laws; still = Laws''.still PressReply.the-type Laws'.the-copy Exit.yes; row = Rows.whole (Declared.row PressReply.the-type); rd = λ x. x; mk = λ x. x } λ M 𝓤 H A W. record
+    { copies = Laws''.copy PressReply.the-type Laws'.the-copy 𝓤 H A W; lawful = Laws''.lawful PressReply.the-type Laws'.the-laws 𝓤 H A W tt; makes = Laws''.makes PressReply.the-type Laws'.the-plain 𝓤 H A; in-mem = Local.mem-whole 𝓤 H A W (Declared.row PressReply.the-type); of-mem = Local.whole-mem 𝓤 H A W (Declared.row PressReply.the-type) }
 
 abbrev pub xs : List.List Syntax.Ty
-xs = List._∷_ (Syntax.tyInt Syntax.w32) (List._∷_ (Syntax.tyInt Syntax.w8) (List._∷_ (Syntax.tyInt Syntax.w64) (List._∷_ ty·11 (List._∷_ Syntax.tyBool (List._∷_ ty·1 (List._∷_ (Syntax.tyStruct (List._∷_ 38 (List._∷_ 91 (List._∷_ 93 List.[]))) (Syntax.tcons ty·1 (Syntax.tcons (Syntax.tyInt Syntax.w64) Syntax.tnil))) List.[]))))))
+xs = List._∷_ (Syntax.tyInt Syntax.w32) (List._∷_ (Syntax.tyInt Syntax.w8) (List._∷_ (Syntax.tyInt Syntax.w64) (List._∷_ ty·11 (List._∷_ Syntax.tyBool (List._∷_ ty·1 (List._∷_ (Syntax.tyStruct (List._∷_ 38 (List._∷_ 91 (List._∷_ 93 List.[]))) (Syntax.tcons ty·1 (Syntax.tcons (Syntax.tyInt Syntax.w64) Syntax.tnil))) (List._∷_ (Syntax.tyInt Syntax.w64)
+    List.[])))))))
 
 abbrev pub m : Nat.ℕ
 m = 1
 
 abbrev pub ps·0 : List.List (Kinds.PK 9)
-ps·0 = List._∷_ (ShrSlice.pShrS (Referent.rtF (Referent.fInt Syntax.w16)) 0 tt) (List._∷_ (ShrSlice.pShrS (Referent.rtF (Referent.fInt Syntax.w16)) 1 tt) (List._∷_ (ShrSlice.pShrS (Referent.rtF (Referent.fInt Syntax.w8)) 2 tt) (List._∷_ (ShrSlice.pShrS (Referent.rtF (Referent.fInt Syntax.w16)) 3 tt) (List._∷_
-    (ShrSlice.pShrS (Referent.rtF (Referent.fInt Syntax.w16)) 4 tt) (List._∷_ (ShrSlice.pShrS (Referent.rtF (Referent.fInt Syntax.w32)) 5 tt) (List._∷_ (ShrSlice.pShrS (Referent.rtF (Referent.fInt Syntax.w16)) 6 tt) (List._∷_ (MutSlice.pMutS (Referent.rtF (Referent.fInt Syntax.w8)) 7 tt) (List._∷_ (ShrSlice.pShrS Rec.rt 8 tt)
-    (List._∷_ (Num.pNum Syntax.w64) List.[])))))))))
+ps·0 = List._∷_ (ShrSlice.pShrS (Referent.rtF (Referent.fInt Syntax.w16)) 0 tt) (List._∷_ (ShrSlice.pShrS (Referent.rtF (Referent.fInt Syntax.w16)) 1 tt) (List._∷_ (ShrSlice.pShrS (Referent.rtF (Referent.fInt Syntax.w8)) 2 tt) (List._∷_ (ShrSlice.pShrS (Referent.rtF (Referent.fInt Syntax.w16)) 3 tt) (List._∷_ (ShrSlice.pShrS (Referent.rtF (Referent.fInt
+    Syntax.w16)) 4 tt) (List._∷_ (ShrSlice.pShrS (Referent.rtF (Referent.fInt Syntax.w32)) 5 tt) (List._∷_ (ShrSlice.pShrS (Referent.rtF (Referent.fInt Syntax.w16)) 6 tt) (List._∷_ (MutSlice.pMutS (Referent.rtF (Referent.fInt Syntax.w8)) 7 tt) (List._∷_ (ShrSlice.pShrS Rec.rt 8 tt) (List._∷_ (Num.pNum Syntax.w64) List.[])))))))))
 
 abbrev pub r·0 : Kinds.RK 9
-r·0 = Value.rVal record {
-  ty = Declared.row GrantReply.the-type;
-  one = Path'.refl;
-  val = Laws''.val GrantReply.the-type Laws.the-laws;
-  tells = Laws''.tells GrantReply.the-type Laws.the-laws;
-  still = Laws''.still GrantReply.the-type Laws.the-copy Exit.yes;
-  row = Rows.whole (Declared.row GrantReply.the-type);
-  rd = λ x. x;
-  mk = λ x. x;
-} λ M 𝓤 H A W. record {
-  copies = Laws''.copy GrantReply.the-type Laws.the-copy 𝓤 H A W;
-  lawful = Laws''.lawful GrantReply.the-type Laws.the-laws 𝓤 H A W tt;
-  makes = Laws''.makes GrantReply.the-type Laws.the-plain 𝓤 H A;
-  in-mem = Local.mem-whole 𝓤 H A W (Declared.row GrantReply.the-type);
-  of-mem = Local.whole-mem 𝓤 H A W (Declared.row GrantReply.the-type);
-}
+r·0 = Value.rVal record { ty = Declared.row GrantReply.the-type; one = Path'.refl; val = Laws''.val GrantReply.the-type Laws.the-laws; tells = Laws''.tells GrantReply.the-type Laws.the-laws; still = Laws''.still GrantReply.the-type Laws.the-copy Exit.yes; row = Rows.whole (Declared.row GrantReply.the-type); rd = λ x. x; mk = λ x. x } λ M 𝓤 H A W. record
+    { copies = Laws''.copy GrantReply.the-type Laws.the-copy 𝓤 H A W; lawful = Laws''.lawful GrantReply.the-type Laws.the-laws 𝓤 H A W tt; makes = Laws''.makes GrantReply.the-type Laws.the-plain 𝓤 H A; in-mem = Local.mem-whole 𝓤 H A W (Declared.row GrantReply.the-type); of-mem = Local.whole-mem 𝓤 H A W (Declared.row GrantReply.the-type) }
 
 abbrev pub ps·1 : List.List (Kinds.PK 0)
-ps·1 = List._∷_ (Num.pNum Syntax.w32) (List._∷_ (Num.pNum Syntax.w64) (List._∷_ (Value.pVal record {
-  ty = Declared.row GrantReply.the-type;
-  one = Path'.refl;
-  val = Laws''.val GrantReply.the-type Laws.the-laws;
-  tells = Laws''.tells GrantReply.the-type Laws.the-laws;
-  still = Laws''.still GrantReply.the-type Laws.the-copy Exit.yes;
-  row = Rows.whole (Declared.row GrantReply.the-type);
-  rd = λ x. x;
-  mk = λ x. x;
-} λ M 𝓤 H A W. record {
-  copies = Laws''.copy GrantReply.the-type Laws.the-copy 𝓤 H A W;
-  lawful = Laws''.lawful GrantReply.the-type Laws.the-laws 𝓤 H A W tt;
-  makes = Laws''.makes GrantReply.the-type Laws.the-plain 𝓤 H A;
-  in-mem = Local.mem-whole 𝓤 H A W (Declared.row GrantReply.the-type);
-  of-mem = Local.whole-mem 𝓤 H A W (Declared.row GrantReply.the-type);
-}) List.[]))
+ps·1 = List._∷_ (Num.pNum Syntax.w32) (List._∷_ (Num.pNum Syntax.w64) (List._∷_ (Value.pVal record
+    { ty = Declared.row GrantReply.the-type; one = Path'.refl; val = Laws''.val GrantReply.the-type Laws.the-laws; tells = Laws''.tells GrantReply.the-type Laws.the-laws; still = Laws''.still GrantReply.the-type Laws.the-copy Exit.yes; row = Rows.whole (Declared.row GrantReply.the-type); rd = λ x. x; mk = λ x. x } λ M 𝓤 H A W. record
+    { copies = Laws''.copy GrantReply.the-type Laws.the-copy 𝓤 H A W; lawful = Laws''.lawful GrantReply.the-type Laws.the-laws 𝓤 H A W tt; makes = Laws''.makes GrantReply.the-type Laws.the-plain 𝓤 H A; in-mem = Local.mem-whole 𝓤 H A W (Declared.row GrantReply.the-type); of-mem = Local.whole-mem 𝓤 H A W (Declared.row GrantReply.the-type) }) List.[]))
 
 abbrev pub r·1 : Kinds.RK 0
 r·1 = Num.rNum Syntax.w32
 
 abbrev pub ps·2 : List.List (Kinds.PK 0)
-ps·2 = List._∷_ (Value.pVal record {
-  ty = Declared.row GrantReply.the-type;
-  one = Path'.refl;
-  val = Laws''.val GrantReply.the-type Laws.the-laws;
-  tells = Laws''.tells GrantReply.the-type Laws.the-laws;
-  still = Laws''.still GrantReply.the-type Laws.the-copy Exit.yes;
-  row = Rows.whole (Declared.row GrantReply.the-type);
-  rd = λ x. x;
-  mk = λ x. x;
-} λ M 𝓤 H A W. record {
-  copies = Laws''.copy GrantReply.the-type Laws.the-copy 𝓤 H A W;
-  lawful = Laws''.lawful GrantReply.the-type Laws.the-laws 𝓤 H A W tt;
-  makes = Laws''.makes GrantReply.the-type Laws.the-plain 𝓤 H A;
-  in-mem = Local.mem-whole 𝓤 H A W (Declared.row GrantReply.the-type);
-  of-mem = Local.whole-mem 𝓤 H A W (Declared.row GrantReply.the-type);
-}) List.[]
+ps·2 = List._∷_ (Value.pVal record { ty = Declared.row GrantReply.the-type; one = Path'.refl; val = Laws''.val GrantReply.the-type Laws.the-laws; tells = Laws''.tells GrantReply.the-type Laws.the-laws; still = Laws''.still GrantReply.the-type Laws.the-copy Exit.yes; row = Rows.whole (Declared.row GrantReply.the-type); rd = λ x. x; mk = λ x. x } λ M 𝓤 H A W.
+    record { copies = Laws''.copy GrantReply.the-type Laws.the-copy 𝓤 H A W; lawful = Laws''.lawful GrantReply.the-type Laws.the-laws 𝓤 H A W tt; makes = Laws''.makes GrantReply.the-type Laws.the-plain 𝓤 H A; in-mem = Local.mem-whole 𝓤 H A W (Declared.row GrantReply.the-type); of-mem = Local.whole-mem 𝓤 H A W (Declared.row GrantReply.the-type) }) List.[]
 
 abbrev pub r·2 : Kinds.RK 0
 r·2 = Num.rNum Syntax.w8
 
 abbrev pub ps·3 : List.List (Kinds.PK 0)
-ps·3 = List._∷_ (Num.pNum Syntax.w8) (List._∷_ (Num.pNum Syntax.w32) List.[])
+ps·3 = List._∷_ (Num.pNum Syntax.w64) (List._∷_ (Value.pVal record
+    { ty = Declared.row GrantReply.the-type; one = Path'.refl; val = Laws''.val GrantReply.the-type Laws.the-laws; tells = Laws''.tells GrantReply.the-type Laws.the-laws; still = Laws''.still GrantReply.the-type Laws.the-copy Exit.yes; row = Rows.whole (Declared.row GrantReply.the-type); rd = λ x. x; mk = λ x. x } λ M 𝓤 H A W. record
+    { copies = Laws''.copy GrantReply.the-type Laws.the-copy 𝓤 H A W; lawful = Laws''.lawful GrantReply.the-type Laws.the-laws 𝓤 H A W tt; makes = Laws''.makes GrantReply.the-type Laws.the-plain 𝓤 H A; in-mem = Local.mem-whole 𝓤 H A W (Declared.row GrantReply.the-type); of-mem = Local.whole-mem 𝓤 H A W (Declared.row GrantReply.the-type) }) List.[])
 
 abbrev pub r·3 : Kinds.RK 0
-r·3 = Value.rVal record {
-  ty = Declared.row PressReply.the-type;
-  one = Path'.refl;
-  val = Laws''.val PressReply.the-type Laws'.the-laws;
-  tells = Laws''.tells PressReply.the-type Laws'.the-laws;
-  still = Laws''.still PressReply.the-type Laws'.the-copy Exit.yes;
-  row = Rows.whole (Declared.row PressReply.the-type);
-  rd = λ x. x;
-  mk = λ x. x;
-} λ M 𝓤 H A W. record {
-  copies = Laws''.copy PressReply.the-type Laws'.the-copy 𝓤 H A W;
-  lawful = Laws''.lawful PressReply.the-type Laws'.the-laws 𝓤 H A W tt;
-  makes = Laws''.makes PressReply.the-type Laws'.the-plain 𝓤 H A;
-  in-mem = Local.mem-whole 𝓤 H A W (Declared.row PressReply.the-type);
-  of-mem = Local.whole-mem 𝓤 H A W (Declared.row PressReply.the-type);
-}
+r·3 = Num.rNum Syntax.w64
+
+abbrev pub ps·4 : List.List (Kinds.PK 0)
+ps·4 = List._∷_ (Num.pNum Syntax.w8) (List._∷_ (Num.pNum Syntax.w32) List.[])
+
+abbrev pub r·4 : Kinds.RK 0
+r·4 = Value.rVal record { ty = Declared.row PressReply.the-type; one = Path'.refl; val = Laws''.val PressReply.the-type Laws'.the-laws; tells = Laws''.tells PressReply.the-type Laws'.the-laws; still = Laws''.still PressReply.the-type Laws'.the-copy Exit.yes; row = Rows.whole (Declared.row PressReply.the-type); rd = λ x. x; mk = λ x. x } λ M 𝓤 H A W. record
+    { copies = Laws''.copy PressReply.the-type Laws'.the-copy 𝓤 H A W; lawful = Laws''.lawful PressReply.the-type Laws'.the-laws 𝓤 H A W tt; makes = Laws''.makes PressReply.the-type Laws'.the-plain 𝓤 H A; in-mem = Local.mem-whole 𝓤 H A W (Declared.row PressReply.the-type); of-mem = Local.whole-mem 𝓤 H A W (Declared.row PressReply.the-type) }
 
 abbrev pub hs : List.List Syntax.Home
 hs = List._∷_ Syntax.valueLocal (List._∷_ Syntax.valueLocal (List._∷_ Syntax.valueLocal (List._∷_ Syntax.valueLocal (List._∷_ Syntax.valueLocal (List._∷_ Syntax.valueLocal (List._∷_ Syntax.valueLocal (List._∷_ Syntax.valueLocal (List._∷_ Syntax.valueLocal (List._∷_ Syntax.valueLocal (List._∷_ Syntax.valueLocal (List._∷_ Syntax.valueLocal (List._∷_
-    Syntax.valueLocal (List._∷_ Syntax.valueLocal (List._∷_ Syntax.valueLocal (List._∷_ Syntax.valueLocal (List._∷_ Syntax.valueLocal List.[]))))))))))))))))
+    Syntax.valueLocal (List._∷_ Syntax.valueLocal (List._∷_ Syntax.valueLocal (List._∷_ Syntax.valueLocal (List._∷_ Syntax.valueLocal (List._∷_ Syntax.valueLocal List.[])))))))))))))))))
 
 abbrev b0 : Syntax.Body
 b0 = Syntax.assign (Syntax.place 10 List.[]) (Syntax.rvOpd (Syntax.int Syntax.w32 0))
@@ -312,8 +254,8 @@ abbrev b8 : Syntax.Body
 b8 = Syntax.assign (Syntax.place 16 List.[]) (Syntax.aggregate (List._∷_ (Syntax.copy (Syntax.place 15 List.[])) (List._∷_ (Syntax.copy (Syntax.place 8 (List._∷_ (Syntax.field 1) List.[]))) List.[])))
 
 abbrev b9 : Syntax.Body
-b9 = Syntax.call "conductor::calls::grant" (List._∷_ (Syntax.copy (Syntax.place 1 List.[])) (List._∷_ (Syntax.copy (Syntax.place 2 List.[])) (List._∷_ (Syntax.copy (Syntax.place 3 List.[])) (List._∷_ (Syntax.copy (Syntax.place 4 List.[])) (List._∷_ (Syntax.copy (Syntax.place 5 List.[])) (List._∷_ (Syntax.copy (Syntax.place 6 List.[])) (List._∷_
-    (Syntax.copy (Syntax.place 7 List.[])) (List._∷_ (Syntax.copy (Syntax.place 16 List.[])) (List._∷_ (Syntax.copy (Syntax.place 9 List.[])) (List._∷_ (Syntax.copy (Syntax.place 12 List.[])) List.[])))))))))) (Syntax.place 13 List.[])
+b9 = Syntax.call "conductor::calls::grant" (List._∷_ (Syntax.copy (Syntax.place 1 List.[])) (List._∷_ (Syntax.copy (Syntax.place 2 List.[])) (List._∷_ (Syntax.copy (Syntax.place 3 List.[])) (List._∷_ (Syntax.copy (Syntax.place 4 List.[])) (List._∷_ (Syntax.copy (Syntax.place 5 List.[])) (List._∷_ (Syntax.copy (Syntax.place 6 List.[])) (List._∷_ (Syntax.copy
+    (Syntax.place 7 List.[])) (List._∷_ (Syntax.copy (Syntax.place 16 List.[])) (List._∷_ (Syntax.copy (Syntax.place 9 List.[])) (List._∷_ (Syntax.copy (Syntax.place 12 List.[])) List.[])))))))))) (Syntax.place 13 List.[])
 
 abbrev b10 : Syntax.Body
 b10 = Syntax.call "handset::replies::with_bit" (List._∷_ (Syntax.copy (Syntax.place 10 List.[])) (List._∷_ (Syntax.copy (Syntax.place 12 List.[])) (List._∷_ (Syntax.copy (Syntax.place 13 List.[])) List.[]))) (Syntax.place 10 List.[])
@@ -322,220 +264,174 @@ abbrev b11 : Syntax.Body
 b11 = Syntax.call "handset::replies::unusable_number" (List._∷_ (Syntax.copy (Syntax.place 13 List.[])) List.[]) (Syntax.place 11 List.[])
 
 abbrev b12 : Syntax.Body
-b12 = Syntax.assign (Syntax.place 12 List.[]) (Syntax.op2 (Syntax.add Syntax.unsigned) (Syntax.copy (Syntax.place 12 List.[])) (Syntax.int Syntax.w64 1))
+b12 = Syntax.assign (Syntax.place 17 List.[]) (Syntax.op2 (Syntax.add Syntax.unsigned) (Syntax.copy (Syntax.place 12 List.[])) (Syntax.int Syntax.w64 1))
 
 abbrev b13 : Syntax.Body
-b13 = Syntax.seq b11 b12
+b13 = Syntax.call "handset::replies::next_asked" (List._∷_ (Syntax.copy (Syntax.place 17 List.[])) (List._∷_ (Syntax.copy (Syntax.place 13 List.[])) List.[])) (Syntax.place 12 List.[])
 
 abbrev b14 : Syntax.Body
-b14 = Syntax.seq b10 b13
+b14 = Syntax.seq b12 b13
 
 abbrev b15 : Syntax.Body
-b15 = Syntax.seq b9 b14
+b15 = Syntax.seq b11 b14
 
 abbrev b16 : Syntax.Body
-b16 = Syntax.seq b8 b15
+b16 = Syntax.seq b10 b15
 
 abbrev b17 : Syntax.Body
-b17 = Syntax.seq b7 b16
+b17 = Syntax.seq b9 b16
 
 abbrev b18 : Syntax.Body
-b18 = Syntax.seq b6 b17
+b18 = Syntax.seq b8 b17
 
 abbrev b19 : Syntax.Body
-b19 = Syntax.seq b3 b18
+b19 = Syntax.seq b7 b18
 
 abbrev b20 : Syntax.Body
-b20 = Syntax.loop b19
+b20 = Syntax.seq b6 b19
 
 abbrev b21 : Syntax.Body
-b21 = Syntax.block b20
+b21 = Syntax.seq b3 b20
 
 abbrev b22 : Syntax.Body
-b22 = Syntax.call "handset::replies::reply_with" (List._∷_ (Syntax.copy (Syntax.place 11 List.[])) (List._∷_ (Syntax.copy (Syntax.place 10 List.[])) List.[])) (Syntax.place 0 List.[])
+b22 = Syntax.loop b21
 
 abbrev b23 : Syntax.Body
-b23 = Syntax.return
+b23 = Syntax.block b22
 
 abbrev b24 : Syntax.Body
-b24 = Syntax.seq b22 b23
+b24 = Syntax.call "handset::replies::reply_with" (List._∷_ (Syntax.copy (Syntax.place 11 List.[])) (List._∷_ (Syntax.copy (Syntax.place 10 List.[])) List.[])) (Syntax.place 0 List.[])
 
 abbrev b25 : Syntax.Body
-b25 = Syntax.seq b21 b24
+b25 = Syntax.return
 
 abbrev b26 : Syntax.Body
-b26 = Syntax.seq b2 b25
+b26 = Syntax.seq b24 b25
 
 abbrev b27 : Syntax.Body
-b27 = Syntax.seq b1 b26
+b27 = Syntax.seq b23 b26
 
 abbrev b28 : Syntax.Body
-b28 = Syntax.seq b0 b27
+b28 = Syntax.seq b2 b27
+
+abbrev b29 : Syntax.Body
+b29 = Syntax.seq b1 b28
+
+abbrev b30 : Syntax.Body
+b30 = Syntax.seq b0 b29
 
 abbrev pub body : Syntax.Body
-body = b28
+body = b30
 
 abbrev pub Claims : Type 1
-Claims = Kinds.In 9 ps·0 × Kinds.Out 9 ps·0 r·0 × Kinds.In 0 ps·1 × Kinds.Out 0 ps·1 r·1 × Kinds.In 0 ps·2 × Kinds.Out 0 ps·2 r·2 × Kinds.In 0 ps·3 × Kinds.Out 0 ps·3 r·3
-
-abbrev pub t0 : List.List Row.Entry
-t0 = List._∷_ (0, row·0) (List._∷_ (1, row·1) (List._∷_ (2, row·2) (List._∷_ (3, row·3) (List._∷_ (4, row·4) (List._∷_ (5, row·5) (List._∷_ (6, row·6) (List._∷_ (7, row·7) (List._∷_ (8, row·8) (List._∷_ (9, row·9) (List._∷_ (10, row·10) (List._∷_ (11, row·11) (List._∷_ (12, row·12) (List._∷_ (13, row·13) (List._∷_ (14, row·14) (List._∷_ (15, row·15) List.[])))))))))))))))
+Claims = Kinds.In 9 ps·0 × Kinds.Out 9 ps·0 r·0 × Kinds.In 0 ps·1 × Kinds.Out 0 ps·1 r·1 × Kinds.In 0 ps·2 × Kinds.Out 0 ps·2 r·2 × Kinds.In 0 ps·3 × Kinds.Out 0 ps·3 r·3 × Kinds.In 0 ps·4 × Kinds.Out 0 ps·4 r·4
 
 abbrev pub t1 : List.List Row.Entry
-t1 = List._∷_ (16, row·16) List.[]
-
-abbrev pub t2 : List.List Row.Entry
-t2 = List._∷_ (0, row·17) (List._∷_ (1, row·1) (List._∷_ (2, row·2) (List._∷_ (3, row·3) (List._∷_ (4, row·4) (List._∷_ (5, row·5) (List._∷_ (6, row·6) (List._∷_ (7, row·7) (List._∷_ (8, row·8) (List._∷_ (9, row·9) (List._∷_ (10, row·10) (List._∷_ (11, row·11) (List._∷_ (12, row·12) (List._∷_ (13, row·13) (List._∷_ (14, row·14) (List._∷_ (15, row·15) List.[])))))))))))))))
-
-abbrev pub t3 : List.List Row.Entry
-t3 = List._∷_ (0, row·0) (List._∷_ (1, row·1) (List._∷_ (2, row·2) (List._∷_ (3, row·3) (List._∷_ (4, row·4) (List._∷_ (5, row·5) (List._∷_ (6, row·6) (List._∷_ (7, row·7) (List._∷_ (8, row·8) (List._∷_ (9, row·9) (List._∷_ (10, row·18) (List._∷_ (11, row·11) (List._∷_ (12, row·12) (List._∷_ (13, row·13) (List._∷_ (14, row·14) (List._∷_ (15, row·15) List.[])))))))))))))))
-
-abbrev pub t4 : List.List Row.Entry
-t4 = List._∷_ (0, row·0) (List._∷_ (1, row·1) (List._∷_ (2, row·2) (List._∷_ (3, row·3) (List._∷_ (4, row·4) (List._∷_ (5, row·5) (List._∷_ (6, row·6) (List._∷_ (7, row·7) (List._∷_ (8, row·8) (List._∷_ (9, row·9) (List._∷_ (10, row·18) (List._∷_ (11, row·19) (List._∷_ (12, row·12) (List._∷_ (13, row·13) (List._∷_ (14, row·14) (List._∷_ (15, row·15) List.[])))))))))))))))
+t1 = List._∷_ (16, row·16) (List._∷_ (17, row·12) List.[])
 
 abbrev pub t5 : List.List Row.Entry
-t5 = List._∷_ (0, row·0) (List._∷_ (1, row·1) (List._∷_ (2, row·2) (List._∷_ (3, row·3) (List._∷_ (4, row·4) (List._∷_ (5, row·5) (List._∷_ (6, row·6) (List._∷_ (7, row·7) (List._∷_ (8, row·8) (List._∷_ (9, row·9) (List._∷_ (10, row·18) (List._∷_ (11, row·19) (List._∷_ (12, row·20) (List._∷_ (13, row·13) (List._∷_ (14, row·14) (List._∷_ (15, row·15) List.[])))))))))))))))
-
-abbrev pub t6 : List.List Row.Entry
-t6 = List._∷_ (0, row·0) (List._∷_ (1, row·1) (List._∷_ (2, row·2) (List._∷_ (3, row·3) (List._∷_ (4, row·4) (List._∷_ (5, row·5) (List._∷_ (6, row·6) (List._∷_ (7, row·7) (List._∷_ (8, row·8) (List._∷_ (9, row·9) (List._∷_ (10, row·18) (List._∷_ (11, row·19) (List._∷_ (12, row·20) (List._∷_ (13, row·13) (List._∷_ (14, row·21) (List._∷_ (15, row·15) List.[])))))))))))))))
-
-abbrev pub t7 : List.List Row.Entry
-t7 = List._∷_ (0, row·0) (List._∷_ (1, row·1) (List._∷_ (2, row·2) (List._∷_ (3, row·3) (List._∷_ (4, row·4) (List._∷_ (5, row·5) (List._∷_ (6, row·6) (List._∷_ (7, row·7) (List._∷_ (8, row·8) (List._∷_ (9, row·9) (List._∷_ (10, row·18) (List._∷_ (11, row·11) (List._∷_ (12, row·20) (List._∷_ (13, row·13) (List._∷_ (14, row·14) (List._∷_ (15, row·15) List.[])))))))))))))))
-
-abbrev pub t8 : List.List Row.Entry
-t8 = List._∷_ (0, row·0) (List._∷_ (1, row·1) (List._∷_ (2, row·2) (List._∷_ (3, row·3) (List._∷_ (4, row·4) (List._∷_ (5, row·5) (List._∷_ (6, row·6) (List._∷_ (7, row·7) (List._∷_ (8, row·8) (List._∷_ (9, row·9) (List._∷_ (10, row·18) (List._∷_ (11, row·11) (List._∷_ (12, row·20) (List._∷_ (13, row·13) (List._∷_ (14, row·21) (List._∷_ (15, row·15) List.[])))))))))))))))
-
-abbrev pub t9 : List.List Row.Entry
-t9 = List._∷_ (0, row·0) (List._∷_ (1, row·1) (List._∷_ (2, row·2) (List._∷_ (3, row·3) (List._∷_ (4, row·4) (List._∷_ (5, row·5) (List._∷_ (6, row·6) (List._∷_ (7, row·7) (List._∷_ (8, row·22) (List._∷_ (9, row·9) (List._∷_ (10, row·18) (List._∷_ (11, row·11) (List._∷_ (12, row·20) (List._∷_ (13, row·13) (List._∷_ (14, row·14) (List._∷_ (15, row·23) List.[])))))))))))))))
-
-abbrev pub t10 : List.List Row.Entry
-t10 = List._∷_ (0, row·0) (List._∷_ (1, row·1) (List._∷_ (2, row·2) (List._∷_ (3, row·3) (List._∷_ (4, row·4) (List._∷_ (5, row·5) (List._∷_ (6, row·6) (List._∷_ (7, row·7) (List._∷_ (8, row·22) (List._∷_ (9, row·9) (List._∷_ (10, row·18) (List._∷_ (11, row·11) (List._∷_ (12, row·20) (List._∷_ (13, row·13) (List._∷_ (14, row·14) (List._∷_ (15, row·15) List.[])))))))))))))))
+t5 = List._∷_ (0, row·0) (List._∷_ (1, row·1) (List._∷_ (2, row·2) (List._∷_ (3, row·3) (List._∷_ (4, row·4) (List._∷_ (5, row·5) (List._∷_ (6, row·6) (List._∷_ (7, row·7) (List._∷_ (8, row·8) (List._∷_ (9, row·9) (List._∷_ (10, row·18) (List._∷_ (11, row·19) (List._∷_ (12, row·20) (List._∷_ (13, row·13) (List._∷_ (14, row·14) (List._∷_ (15, row·15)
+    List.[])))))))))))))))
 
 abbrev pub t11 : List.List Row.Entry
-t11 = List._∷_ (16, row·24) List.[]
-
-abbrev pub t12 : List.List Row.Entry
-t12 = List._∷_ (0, row·0) (List._∷_ (1, row·1) (List._∷_ (2, row·2) (List._∷_ (3, row·3) (List._∷_ (4, row·4) (List._∷_ (5, row·5) (List._∷_ (6, row·6) (List._∷_ (7, row·7) (List._∷_ (8, row·22) (List._∷_ (9, row·9) (List._∷_ (10, row·18) (List._∷_ (11, row·11) (List._∷_ (12, row·20) (List._∷_ (13, row·25) (List._∷_ (14, row·14) (List._∷_ (15, row·15) List.[])))))))))))))))
+t11 = List._∷_ (16, row·24) (List._∷_ (17, row·12) List.[])
 
 abbrev pub t13 : List.List Row.Entry
-t13 = List._∷_ (16, row·26) List.[]
-
-abbrev pub t14 : List.List Row.Entry
-t14 = List._∷_ (0, row·0) (List._∷_ (1, row·1) (List._∷_ (2, row·2) (List._∷_ (3, row·3) (List._∷_ (4, row·4) (List._∷_ (5, row·5) (List._∷_ (6, row·6) (List._∷_ (7, row·7) (List._∷_ (8, row·8) (List._∷_ (9, row·9) (List._∷_ (10, row·18) (List._∷_ (11, row·11) (List._∷_ (12, row·20) (List._∷_ (13, row·25) (List._∷_ (14, row·14) (List._∷_ (15, row·15) List.[])))))))))))))))
+t13 = List._∷_ (16, row·26) (List._∷_ (17, row·12) List.[])
 
 abbrev pub t15 : List.List Row.Entry
-t15 = List._∷_ (0, row·0) (List._∷_ (1, row·1) (List._∷_ (2, row·2) (List._∷_ (3, row·3) (List._∷_ (4, row·4) (List._∷_ (5, row·5) (List._∷_ (6, row·6) (List._∷_ (7, row·7) (List._∷_ (8, row·8) (List._∷_ (9, row·9) (List._∷_ (10, row·18) (List._∷_ (11, row·19) (List._∷_ (12, row·20) (List._∷_ (13, row·25) (List._∷_ (14, row·14) (List._∷_ (15, row·15) List.[])))))))))))))))
+t15 = List._∷_ (0, row·0) (List._∷_ (1, row·1) (List._∷_ (2, row·2) (List._∷_ (3, row·3) (List._∷_ (4, row·4) (List._∷_ (5, row·5) (List._∷_ (6, row·6) (List._∷_ (7, row·7) (List._∷_ (8, row·8) (List._∷_ (9, row·9) (List._∷_ (10, row·18) (List._∷_ (11, row·19) (List._∷_ (12, row·20) (List._∷_ (13, row·25) (List._∷_ (14, row·14) (List._∷_ (15, row·15)
+    List.[])))))))))))))))
 
 abbrev pub t16 : List.List Row.Entry
-t16 = List._∷_ (0, row·17) (List._∷_ (1, row·1) (List._∷_ (2, row·2) (List._∷_ (3, row·3) (List._∷_ (4, row·4) (List._∷_ (5, row·5) (List._∷_ (6, row·6) (List._∷_ (7, row·7) (List._∷_ (8, row·8) (List._∷_ (9, row·9) (List._∷_ (10, row·18) (List._∷_ (11, row·19) (List._∷_ (12, row·20) (List._∷_ (13, row·13) (List._∷_ (14, row·14) (List._∷_ (15, row·15) List.[])))))))))))))))
-
-abbrev pub t17 : List.List Row.Entry
-t17 = List._∷_ (0, row·17) (List._∷_ (1, row·1) (List._∷_ (2, row·2) (List._∷_ (3, row·3) (List._∷_ (4, row·4) (List._∷_ (5, row·5) (List._∷_ (6, row·6) (List._∷_ (7, row·7) (List._∷_ (8, row·8) (List._∷_ (9, row·9) (List._∷_ (10, row·10) (List._∷_ (11, row·19) (List._∷_ (12, row·20) (List._∷_ (13, row·13) (List._∷_ (14, row·14) (List._∷_ (15, row·15) List.[])))))))))))))))
-
-abbrev pub t18 : List.List Row.Entry
-t18 = List._∷_ (0, row·17) (List._∷_ (1, row·1) (List._∷_ (2, row·2) (List._∷_ (3, row·3) (List._∷_ (4, row·4) (List._∷_ (5, row·5) (List._∷_ (6, row·6) (List._∷_ (7, row·7) (List._∷_ (8, row·8) (List._∷_ (9, row·9) (List._∷_ (10, row·10) (List._∷_ (11, row·11) (List._∷_ (12, row·20) (List._∷_ (13, row·13) (List._∷_ (14, row·14) (List._∷_ (15, row·15) List.[])))))))))))))))
+t16 = List._∷_ (16, row·16) (List._∷_ (17, row·20) List.[])
 
 abbrev pub T0 : Row.Cx
-T0 = record { locals = List._++_ t0 t1; slots = List.[] }
+T0 = record
+    { locals = List._++_ (List._∷_ (0, row·0) (List._∷_ (1, row·1) (List._∷_ (2, row·2) (List._∷_ (3, row·3) (List._∷_ (4, row·4) (List._∷_ (5, row·5) (List._∷_ (6, row·6) (List._∷_ (7, row·7) (List._∷_ (8, row·8) (List._∷_ (9, row·9) (List._∷_ (10, row·10) (List._∷_ (11, row·11) (List._∷_ (12, row·12) (List._∷_ (13, row·13) (List._∷_ (14, row·14) (List._∷_ (15, row·15) List.[])))))))))))))))) t1; slots = List.[] }
 
 abbrev pub T1 : Row.Cx
-T1 = record { locals = List._++_ t2 t1; slots = List.[] }
-
-abbrev pub T2 : Row.Cx
-T2 = record { locals = List._++_ t0 t1; slots = List.[] }
-
-abbrev pub T3 : Row.Cx
-T3 = record { locals = List._++_ t0 t1; slots = List.[] }
-
-abbrev pub T4 : Row.Cx
-T4 = record { locals = List._++_ t0 t1; slots = List.[] }
-
-abbrev pub T5 : Row.Cx
-T5 = record { locals = List._++_ t0 t1; slots = List.[] }
-
-abbrev pub T6 : Row.Cx
-T6 = record { locals = List._++_ t0 t1; slots = List.[] }
-
-abbrev pub T7 : Row.Cx
-T7 = record { locals = List._++_ t0 t1; slots = List.[] }
-
-abbrev pub T8 : Row.Cx
-T8 = record { locals = List._++_ t0 t1; slots = List.[] }
-
-abbrev pub T9 : Row.Cx
-T9 = record { locals = List._++_ t0 t1; slots = List.[] }
+T1 = record
+    { locals = List._++_ (List._∷_ (0, row·17) (List._∷_ (1, row·1) (List._∷_ (2, row·2) (List._∷_ (3, row·3) (List._∷_ (4, row·4) (List._∷_ (5, row·5) (List._∷_ (6, row·6) (List._∷_ (7, row·7) (List._∷_ (8, row·8) (List._∷_ (9, row·9) (List._∷_ (10, row·10) (List._∷_ (11, row·11) (List._∷_ (12, row·12) (List._∷_ (13, row·13) (List._∷_ (14, row·14) (List._∷_ (15, row·15) List.[])))))))))))))))) t1; slots = List.[] }
 
 abbrev pub T10 : Row.Cx
-T10 = record { locals = List._++_ t3 t1; slots = List.[] }
+T10 = record
+    { locals = List._++_ (List._∷_ (0, row·0) (List._∷_ (1, row·1) (List._∷_ (2, row·2) (List._∷_ (3, row·3) (List._∷_ (4, row·4) (List._∷_ (5, row·5) (List._∷_ (6, row·6) (List._∷_ (7, row·7) (List._∷_ (8, row·8) (List._∷_ (9, row·9) (List._∷_ (10, row·18) (List._∷_ (11, row·11) (List._∷_ (12, row·12) (List._∷_ (13, row·13) (List._∷_ (14, row·14) (List._∷_ (15, row·15) List.[])))))))))))))))) t1; slots = List.[] }
 
 abbrev pub T11 : Row.Cx
-T11 = record { locals = List._++_ t4 t1; slots = List.[] }
+T11 = record
+    { locals = List._++_ (List._∷_ (0, row·0) (List._∷_ (1, row·1) (List._∷_ (2, row·2) (List._∷_ (3, row·3) (List._∷_ (4, row·4) (List._∷_ (5, row·5) (List._∷_ (6, row·6) (List._∷_ (7, row·7) (List._∷_ (8, row·8) (List._∷_ (9, row·9) (List._∷_ (10, row·18) (List._∷_ (11, row·19) (List._∷_ (12, row·12) (List._∷_ (13, row·13) (List._∷_ (14, row·14) (List._∷_ (15, row·15) List.[])))))))))))))))) t1; slots = List.[] }
 
 abbrev pub T12 : Row.Cx
 T12 = record { locals = List._++_ t5 t1; slots = List.[] }
 
-abbrev pub T13 : Row.Cx
-T13 = record { locals = List._++_ t5 t1; slots = List.[] }
-
 abbrev pub T14 : Row.Cx
-T14 = record { locals = List._++_ t6 t1; slots = List.[] }
+T14 = record
+    { locals = List._++_ (List._∷_ (0, row·0) (List._∷_ (1, row·1) (List._∷_ (2, row·2) (List._∷_ (3, row·3) (List._∷_ (4, row·4) (List._∷_ (5, row·5) (List._∷_ (6, row·6) (List._∷_ (7, row·7) (List._∷_ (8, row·8) (List._∷_ (9, row·9) (List._∷_ (10, row·18) (List._∷_ (11, row·19) (List._∷_ (12, row·20) (List._∷_ (13, row·13) (List._∷_ (14, row·21) (List._∷_ (15, row·15) List.[])))))))))))))))) t1; slots = List.[] }
 
 abbrev pub T15 : Row.Cx
-T15 = record { locals = List._++_ t7 t1; slots = List.[] }
+T15 = record
+    { locals = List._++_ (List._∷_ (0, row·0) (List._∷_ (1, row·1) (List._∷_ (2, row·2) (List._∷_ (3, row·3) (List._∷_ (4, row·4) (List._∷_ (5, row·5) (List._∷_ (6, row·6) (List._∷_ (7, row·7) (List._∷_ (8, row·8) (List._∷_ (9, row·9) (List._∷_ (10, row·18) (List._∷_ (11, row·11) (List._∷_ (12, row·20) (List._∷_ (13, row·13) (List._∷_ (14, row·14) (List._∷_ (15, row·15) List.[])))))))))))))))) t1; slots = List.[] }
 
 abbrev pub T16 : Row.Cx
-T16 = record { locals = List._++_ t8 t1; slots = List.[] }
-
-abbrev pub T17 : Row.Cx
-T17 = record { locals = List._++_ t7 t1; slots = List.[] }
-
-abbrev pub T18 : Row.Cx
-T18 = record { locals = List._++_ t5 t1; slots = List.[] }
+T16 = record
+    { locals = List._++_ (List._∷_ (0, row·0) (List._∷_ (1, row·1) (List._∷_ (2, row·2) (List._∷_ (3, row·3) (List._∷_ (4, row·4) (List._∷_ (5, row·5) (List._∷_ (6, row·6) (List._∷_ (7, row·7) (List._∷_ (8, row·8) (List._∷_ (9, row·9) (List._∷_ (10, row·18) (List._∷_ (11, row·11) (List._∷_ (12, row·20) (List._∷_ (13, row·13) (List._∷_ (14, row·21) (List._∷_ (15, row·15) List.[])))))))))))))))) t1; slots = List.[] }
 
 abbrev pub T20 : Row.Cx
-T20 = record { locals = List._++_ t9 t1; slots = List.[] }
+T20 = record
+    { locals = List._++_ (List._∷_ (0, row·0) (List._∷_ (1, row·1) (List._∷_ (2, row·2) (List._∷_ (3, row·3) (List._∷_ (4, row·4) (List._∷_ (5, row·5) (List._∷_ (6, row·6) (List._∷_ (7, row·7) (List._∷_ (8, row·22) (List._∷_ (9, row·9) (List._∷_ (10, row·18) (List._∷_ (11, row·11) (List._∷_ (12, row·20) (List._∷_ (13, row·13) (List._∷_ (14, row·14) (List._∷_ (15, row·23) List.[])))))))))))))))) t1; slots = List.[] }
 
 abbrev pub T21 : Row.Cx
-T21 = record { locals = List._++_ t10 t11; slots = List.[] }
+T21 = record
+    { locals = List._++_ (List._∷_ (0, row·0) (List._∷_ (1, row·1) (List._∷_ (2, row·2) (List._∷_ (3, row·3) (List._∷_ (4, row·4) (List._∷_ (5, row·5) (List._∷_ (6, row·6) (List._∷_ (7, row·7) (List._∷_ (8, row·22) (List._∷_ (9, row·9) (List._∷_ (10, row·18) (List._∷_ (11, row·11) (List._∷_ (12, row·20) (List._∷_ (13, row·13) (List._∷_ (14, row·14) (List._∷_ (15, row·15) List.[])))))))))))))))) t11; slots = List.[] }
 
 abbrev pub T22 : Row.Cx
-T22 = record { locals = List._++_ t12 t13; slots = List.[] }
+T22 = record
+    { locals = List._++_ (List._∷_ (0, row·0) (List._∷_ (1, row·1) (List._∷_ (2, row·2) (List._∷_ (3, row·3) (List._∷_ (4, row·4) (List._∷_ (5, row·5) (List._∷_ (6, row·6) (List._∷_ (7, row·7) (List._∷_ (8, row·22) (List._∷_ (9, row·9) (List._∷_ (10, row·18) (List._∷_ (11, row·11) (List._∷_ (12, row·20) (List._∷_ (13, row·25) (List._∷_ (14, row·14) (List._∷_ (15, row·15) List.[])))))))))))))))) t13; slots = List.[] }
 
 abbrev pub T24 : Row.Cx
-T24 = record { locals = List._++_ t14 t1; slots = List.[] }
-
-abbrev pub T25 : Row.Cx
-T25 = record { locals = List._++_ t14 t1; slots = List.[] }
-
-abbrev pub T27 : Row.Cx
-T27 = record { locals = List._++_ t14 t1; slots = List.[] }
+T24 = record
+    { locals = List._++_ (List._∷_ (0, row·0) (List._∷_ (1, row·1) (List._∷_ (2, row·2) (List._∷_ (3, row·3) (List._∷_ (4, row·4) (List._∷_ (5, row·5) (List._∷_ (6, row·6) (List._∷_ (7, row·7) (List._∷_ (8, row·8) (List._∷_ (9, row·9) (List._∷_ (10, row·18) (List._∷_ (11, row·11) (List._∷_ (12, row·20) (List._∷_ (13, row·25) (List._∷_ (14, row·14) (List._∷_ (15, row·15) List.[])))))))))))))))) t1; slots = List.[] }
 
 abbrev pub T28 : Row.Cx
 T28 = record { locals = List._++_ t15 t1; slots = List.[] }
 
 abbrev pub T29 : Row.Cx
-T29 = record { locals = List._++_ t5 t1; slots = List.[] }
+T29 = record { locals = List._++_ t15 t16; slots = List.[] }
 
 abbrev pub T30 : Row.Cx
-T30 = record { locals = List._++_ t5 t1; slots = List.[] }
-
-abbrev pub T31 : Row.Cx
-T31 = record { locals = List._++_ t16 t1; slots = List.[] }
+T30 = record
+    { locals = List._++_ (List._∷_ (0, row·0) (List._∷_ (1, row·1) (List._∷_ (2, row·2) (List._∷_ (3, row·3) (List._∷_ (4, row·4) (List._∷_ (5, row·5) (List._∷_ (6, row·6) (List._∷_ (7, row·7) (List._∷_ (8, row·8) (List._∷_ (9, row·9) (List._∷_ (10, row·18) (List._∷_ (11, row·19) (List._∷_ (12, row·12) (List._∷_ (13, row·25) (List._∷_ (14, row·14) (List._∷_ (15, row·15) List.[])))))))))))))))) t16; slots = List.[] }
 
 abbrev pub T32 : Row.Cx
-T32 = record { locals = List._++_ t17 t1; slots = List.[] }
-
-abbrev pub T33 : Row.Cx
-T33 = record { locals = List._++_ t18 t1; slots = List.[] }
+T32 = record { locals = List._++_ t5 t16; slots = List.[] }
 
 abbrev pub T34 : Row.Cx
-T34 = record { locals = List._++_ t2 t1; slots = List.[] }
+T34 = record
+    { locals = List._++_ (List._∷_ (0, row·17) (List._∷_ (1, row·1) (List._∷_ (2, row·2) (List._∷_ (3, row·3) (List._∷_ (4, row·4) (List._∷_ (5, row·5) (List._∷_ (6, row·6) (List._∷_ (7, row·7) (List._∷_ (8, row·8) (List._∷_ (9, row·9) (List._∷_ (10, row·18) (List._∷_ (11, row·19) (List._∷_ (12, row·20) (List._∷_ (13, row·13) (List._∷_ (14, row·14) (List._∷_ (15, row·15) List.[])))))))))))))))) t1; slots = List.[] }
+
+abbrev pub T35 : Row.Cx
+T35 = record
+    { locals = List._++_ (List._∷_ (0, row·17) (List._∷_ (1, row·1) (List._∷_ (2, row·2) (List._∷_ (3, row·3) (List._∷_ (4, row·4) (List._∷_ (5, row·5) (List._∷_ (6, row·6) (List._∷_ (7, row·7) (List._∷_ (8, row·8) (List._∷_ (9, row·9) (List._∷_ (10, row·10) (List._∷_ (11, row·19) (List._∷_ (12, row·20) (List._∷_ (13, row·13) (List._∷_ (14, row·14) (List._∷_ (15, row·15) List.[])))))))))))))))) t1; slots = List.[] }
+
+abbrev pub T36 : Row.Cx
+T36 = record
+    { locals = List._++_ (List._∷_ (0, row·17) (List._∷_ (1, row·1) (List._∷_ (2, row·2) (List._∷_ (3, row·3) (List._∷_ (4, row·4) (List._∷_ (5, row·5) (List._∷_ (6, row·6) (List._∷_ (7, row·7) (List._∷_ (8, row·8) (List._∷_ (9, row·9) (List._∷_ (10, row·10) (List._∷_ (11, row·11) (List._∷_ (12, row·20) (List._∷_ (13, row·13) (List._∷_ (14, row·14) (List._∷_ (15, row·15) List.[])))))))))))))))) t1; slots = List.[] }
+
+abbrev args·0 : ArgsT ps·0 (T21 .locals)
+args·0 = (record { pos = 1; ty = ty·4; ref = λ x. x }, (record { pos = 2; ty = ty·5; ref = λ x. x }, (record { pos = 3; ty = ty·2; ref = λ x. x }, (record { pos = 4; ty = ty·6; ref = λ x. x }, (record { pos = 5; ty = ty·7; ref = λ x. x }, (record { pos = 6; ty = ty·8; ref = λ x. x }, (record { pos = 7; ty = ty·9; ref = λ x. x }, (record { pos = 16; ty = ty·1; ref = λ x. x }, (record { pos = 9; ty = ty·0; ref = λ x. x }, (Num.vAt 12 λ x. x, tt))))))))))
+
+abbrev args·1 : ArgsT ps·1 (T24 .locals)
+args·1 = (Num.vAt 10 λ x. x, (Num.vAt 12 λ x. x, (record { pos = 13; st = List.[]; d = 0; at = λ x. x }, tt)))
+
+abbrev args·2 : ArgsT ps·3 (T30 .locals)
+args·2 = (Num.vAt 17 λ x. x, (record { pos = 13; st = List.[]; d = 0; at = λ x. x }, tt))
 
 abbrev pub O0 : Typed.Outs
 O0 = record { next = Option.none; exits = List.[]; returns = Option.some T1 }
 
 abbrev pub O1 : Typed.Outs
-O1 = Typed.withNext (Option.some T13) O0
+O1 = Typed.withNext (Option.some T12) O0
 
 abbrev pub O2 : Typed.Outs
 O2 = Typed.inBlock₀ O1
@@ -547,42 +443,42 @@ abbrev pub O4 : Typed.Outs
 O4 = Typed.withNext (Option.some T15) O3
 
 abbrev pub InvT-loop : Type 1
-InvT-loop = List.List (Referent.rtF (Referent.fInt Syntax.w16) .Denot) → List.List (Referent.rtF (Referent.fInt Syntax.w16) .Denot) → List.List (Referent.rtF (Referent.fInt Syntax.w8) .Denot) → List.List (Referent.rtF (Referent.fInt Syntax.w16) .Denot) → List.List (Referent.rtF (Referent.fInt Syntax.w16) .Denot) →
-    List.List (Referent.rtF (Referent.fInt Syntax.w32) .Denot) → List.List (Referent.rtF (Referent.fInt Syntax.w16) .Denot) → List.List (Referent.rtF (Referent.fInt Syntax.w8) .Denot) → List.List (Rec.rt .Denot) → Rows.sc-here (Row.sInt Syntax.w32) .Mod → Rows.sc-here (Row.sInt Syntax.w8) .Mod → Rows.sc-here (Row.sInt Syntax.w64) .Mod →
-    List.List (Referent.rtF (Referent.fInt Syntax.w8) .Denot) → Rows.sc-here (Row.sInt Syntax.w32) .Mod → Rows.sc-here (Row.sInt Syntax.w8) .Mod → Rows.sc-here (Row.sInt Syntax.w64) .Mod → Type 0
+InvT-loop = List.List (Referent.rtF (Referent.fInt Syntax.w16) .Denot) → List.List (Referent.rtF (Referent.fInt Syntax.w16) .Denot) → List.List (Referent.rtF (Referent.fInt Syntax.w8) .Denot) → List.List (Referent.rtF (Referent.fInt Syntax.w16) .Denot) → List.List (Referent.rtF (Referent.fInt Syntax.w16) .Denot) → List.List (Referent.rtF (Referent.fInt
+    Syntax.w32) .Denot) → List.List (Referent.rtF (Referent.fInt Syntax.w16) .Denot) → List.List (Referent.rtF (Referent.fInt Syntax.w8) .Denot) → List.List (Rec.rt .Denot) → Rows.sc-here (Row.sInt Syntax.w32) .Mod → Rows.sc-here (Row.sInt Syntax.w8) .Mod → Rows.sc-here (Row.sInt Syntax.w64) .Mod → List.List (Referent.rtF (Referent.fInt Syntax.w8) .Denot) →
+    Rows.sc-here (Row.sInt Syntax.w32) .Mod → Rows.sc-here (Row.sInt Syntax.w8) .Mod → Rows.sc-here (Row.sInt Syntax.w64) .Mod → Type 0
 
 abbrev pub MeasureT-loop : Type 0
-MeasureT-loop = List.List (Referent.rtF (Referent.fInt Syntax.w16) .Denot) → List.List (Referent.rtF (Referent.fInt Syntax.w16) .Denot) → List.List (Referent.rtF (Referent.fInt Syntax.w8) .Denot) → List.List (Referent.rtF (Referent.fInt Syntax.w16) .Denot) → List.List (Referent.rtF (Referent.fInt Syntax.w16) .Denot) →
-    List.List (Referent.rtF (Referent.fInt Syntax.w32) .Denot) → List.List (Referent.rtF (Referent.fInt Syntax.w16) .Denot) → List.List (Referent.rtF (Referent.fInt Syntax.w8) .Denot) → List.List (Rec.rt .Denot) → Rows.sc-here (Row.sInt Syntax.w32) .Mod → Rows.sc-here (Row.sInt Syntax.w8) .Mod → Rows.sc-here (Row.sInt Syntax.w64) .Mod →
-    List.List (Referent.rtF (Referent.fInt Syntax.w8) .Denot) → Rows.sc-here (Row.sInt Syntax.w32) .Mod → Rows.sc-here (Row.sInt Syntax.w8) .Mod → Rows.sc-here (Row.sInt Syntax.w64) .Mod → Nat.ℕ
+MeasureT-loop = List.List (Referent.rtF (Referent.fInt Syntax.w16) .Denot) → List.List (Referent.rtF (Referent.fInt Syntax.w16) .Denot) → List.List (Referent.rtF (Referent.fInt Syntax.w8) .Denot) → List.List (Referent.rtF (Referent.fInt Syntax.w16) .Denot) → List.List (Referent.rtF (Referent.fInt Syntax.w16) .Denot) → List.List (Referent.rtF (Referent.fInt
+    Syntax.w32) .Denot) → List.List (Referent.rtF (Referent.fInt Syntax.w16) .Denot) → List.List (Referent.rtF (Referent.fInt Syntax.w8) .Denot) → List.List (Rec.rt .Denot) → Rows.sc-here (Row.sInt Syntax.w32) .Mod → Rows.sc-here (Row.sInt Syntax.w8) .Mod → Rows.sc-here (Row.sInt Syntax.w64) .Mod → List.List (Referent.rtF (Referent.fInt Syntax.w8) .Denot) →
+    Rows.sc-here (Row.sInt Syntax.w32) .Mod → Rows.sc-here (Row.sInt Syntax.w8) .Mod → Rows.sc-here (Row.sInt Syntax.w64) .Mod → Nat.ℕ
 
 module _ (claims· : Claims) where
-  abbrev s0 : Typed.Gives T0 T2
+  abbrev s0 : Typed.Gives T0 T0
   s0 = Know.k-shs-known (Referent.fInt Syntax.w16) T0 1 0 ty·4 Row.off 0 λ x. x
 
-  abbrev s1 : Typed.Gives T2 T3
-  s1 = Know.k-shs-known (Referent.fInt Syntax.w16) T2 2 1 ty·5 Row.off 0 λ x. x
+  abbrev s1 : Typed.Gives T0 T0
+  s1 = Know.k-shs-known (Referent.fInt Syntax.w16) T0 2 1 ty·5 Row.off 0 λ x. x
 
-  abbrev s2 : Typed.Gives T3 T4
-  s2 = Know.k-shs-known (Referent.fInt Syntax.w8) T3 3 2 ty·2 Row.off 0 λ x. x
+  abbrev s2 : Typed.Gives T0 T0
+  s2 = Know.k-shs-known (Referent.fInt Syntax.w8) T0 3 2 ty·2 Row.off 0 λ x. x
 
-  abbrev s3 : Typed.Gives T4 T5
-  s3 = Know.k-shs-known (Referent.fInt Syntax.w16) T4 4 3 ty·6 Row.off 0 λ x. x
+  abbrev s3 : Typed.Gives T0 T0
+  s3 = Know.k-shs-known (Referent.fInt Syntax.w16) T0 4 3 ty·6 Row.off 0 λ x. x
 
-  abbrev s4 : Typed.Gives T5 T6
-  s4 = Know.k-shs-known (Referent.fInt Syntax.w16) T5 5 4 ty·7 Row.off 0 λ x. x
+  abbrev s4 : Typed.Gives T0 T0
+  s4 = Know.k-shs-known (Referent.fInt Syntax.w16) T0 5 4 ty·7 Row.off 0 λ x. x
 
-  abbrev s5 : Typed.Gives T6 T7
-  s5 = Know.k-shs-known (Referent.fInt Syntax.w32) T6 6 5 ty·8 Row.off 0 λ x. x
+  abbrev s5 : Typed.Gives T0 T0
+  s5 = Know.k-shs-known (Referent.fInt Syntax.w32) T0 6 5 ty·8 Row.off 0 λ x. x
 
-  abbrev s6 : Typed.Gives T7 T8
-  s6 = Know.k-shs-known (Referent.fInt Syntax.w16) T7 7 6 ty·9 Row.off 0 λ x. x
+  abbrev s6 : Typed.Gives T0 T0
+  s6 = Know.k-shs-known (Referent.fInt Syntax.w16) T0 7 6 ty·9 Row.off 0 λ x. x
 
-  abbrev s7 : Typed.Gives T8 T9
-  s7 = Know.k-sl-known (Referent.fInt Syntax.w8) T8 8 7 ty·3 Row.off 0 λ x. x
+  abbrev s7 : Typed.Gives T0 T0
+  s7 = Know.k-sl-known (Referent.fInt Syntax.w8) T0 8 7 ty·3 Row.off 0 λ x. x
 
-  abbrev s8 : Typed.Mo T9 → Typed.Mo T10
-  s8 = Scalar.n-use T9 (Scalar.oInt Syntax.w32 0) 10 (Rows.sc-here (Row.sInt Syntax.w32)) (Row.sInt Syntax.w32 .of)
+  abbrev s8 : Typed.Mo T0 → Typed.Mo T10
+  s8 = Scalar.n-use T0 (Scalar.oInt Syntax.w32 0) 10 (Rows.sc-here (Row.sInt Syntax.w32)) (Row.sInt Syntax.w32 .of)
 
   abbrev s9 : Typed.Mo T10 → Typed.Mo T11
   s9 = Scalar.n-use T10 (Scalar.oInt Syntax.w8 0) 11 (Rows.sc-here (Row.sInt Syntax.w8)) (Row.sInt Syntax.w8 .of)
@@ -596,10 +492,10 @@ module _ (claims· : Claims) where
   abbrev s12 : Typed.Mo T14 → Typed.Mo T16
   s12 = Scalar.n-room T14 11 (Syntax.tyInt Syntax.w8)
 
-  abbrev s13 : Typed.Mo T16 → Typed.Mo T17
+  abbrev s13 : Typed.Mo T16 → Typed.Mo T15
   s13 = Scalar.n-room T16 14 Syntax.tyBool
 
-  abbrev s14 : Typed.Mo T14 → Typed.Mo T18
+  abbrev s14 : Typed.Mo T14 → Typed.Mo T12
   s14 = Scalar.n-room T14 14 Syntax.tyBool
 
   abbrev s16 : Typed.Gives T15 T20
@@ -609,605 +505,284 @@ module _ (claims· : Claims) where
   s17 = Relend.k-sl-aggregate (Referent.rtF (Referent.fInt Syntax.w8)) (Relend.asMut (Referent.rtF (Referent.fInt Syntax.w8))) T20 15 16 9 ty·1 ty·1 (λ x. x) (Scalar.oFld 8 (List._∷_ (Syntax.field 1) List.[]) (Syntax.tyInt Syntax.w64) 8 λ v. Shared.lenV (v .0))
 
   abbrev s18 : Typed.Both T21 T22
-  s18 = Call.callB ps·0 r·0 (claims· .0) (claims· .1) T21 (
-    record { pos = 1; ty = Syntax.tyRef (Syntax.named 0) Syntax.imm (Syntax.tyInt Syntax.w16); ref = λ x. x },
-    (
-      record { pos = 2; ty = Syntax.tyRef (Syntax.named 1) Syntax.imm (Syntax.tyInt Syntax.w16); ref = λ x. x },
-      (
-        record {
-          pos = 3;
-          ty = Syntax.tyRef (Syntax.named 2) Syntax.imm (Syntax.tyInt Syntax.w8);
-          ref = λ x. x;
-        },
-        (
-          record { pos = 4; ty = Syntax.tyRef (Syntax.named 3) Syntax.imm (Syntax.tyInt Syntax.w16); ref = λ x. x },
-          (
-            record { pos = 5; ty = Syntax.tyRef (Syntax.named 4) Syntax.imm (Syntax.tyInt Syntax.w16); ref = λ x. x },
-            (
-              record {
-                pos = 6;
-                ty = Syntax.tyRef (Syntax.named 5) Syntax.imm (Syntax.tyInt Syntax.w32);
-                ref = λ x. x;
-              },
-              (
-                record { pos = 7; ty = Syntax.tyRef (Syntax.named 6) Syntax.imm (Syntax.tyInt Syntax.w16); ref = λ x. x },
-                (
-                  record { pos = 16; ty = Syntax.tyRef Syntax.erased Syntax.mut (Syntax.tyInt Syntax.w8); ref = λ x. x },
-                  (
-                    record {
-                      pos = 9;
-                      ty = Syntax.tyRef
-                          (Syntax.named 8) Syntax.imm Rec.behind;
-                      ref = λ x. x;
-                    },
-                    (Num.vAt 12 λ x. x, tt),
-                  ),
-                ),
-              ),
-            ),
-          ),
-        ),
-      ),
-    ),
-  ) 13 (List._∷_ 0 (List._∷_ 1 (List._∷_ 2 (List._∷_ 3 (List._∷_ 4 (List._∷_ 5 (List._∷_ 6 (List._∷_ 9 (List._∷_ 8 List.[]))))))))) ty·11
+  s18 = Call.callB ps·0 r·0 (claims· .0) (claims· .1) T21 args·0 13 (List._∷_ 0 (List._∷_ 1 (List._∷_ 2 (List._∷_ 3 (List._∷_ 4 (List._∷_ 5 (List._∷_ 6 (List._∷_ 9 (List._∷_ 8 List.[]))))))))) ty·11
 
   abbrev s20 : Typed.Both T22 T24
   s20 = Relend.k-back-sl (Referent.rtF (Referent.fInt Syntax.w8)) T22 16 8 7 9 ty·3 ty·1 Row.off (λ x. x) λ x. x
 
-  abbrev s21 : Typed.Gives T24 T25
+  abbrev s21 : Typed.Gives T24 T24
   s21 = Know.k-sl-known (Referent.fInt Syntax.w8) T24 8 7 ty·3 Row.off 0 λ x. x
 
-  abbrev s23 : Typed.Both T25 T27
-  s23 = Call.callB ps·1 r·1 (claims· .2) (claims· .3) T25 (
-    Num.vAt 10 λ x. x,
-    (Num.vAt 12 λ x. x, (record { pos = 13; st = List.[]; d = 0; at = λ x. x }, tt)),
-  ) 10 List.[] (Syntax.tyInt Syntax.w32)
+  abbrev s23 : Typed.Both T24 T24
+  s23 = Call.callB ps·1 r·1 (claims· .2) (claims· .3) T24 args·1 10 List.[] (Syntax.tyInt Syntax.w32)
 
-  abbrev s24 : Typed.Both T27 T28
-  s24 = Call.callB ps·2 r·2 (claims· .4) (claims· .5) T27 (
-    record { pos = 13; st = List.[]; d = 0; at = λ x. x },
-    tt,
-  ) 11 List.[] (Syntax.tyInt Syntax.w8)
+  abbrev s24 : Typed.Both T24 T28
+  s24 = Call.callB ps·2 r·2 (claims· .4) (claims· .5) T24 (record { pos = 13; st = List.[]; d = 0; at = λ x. x }, tt) 11 List.[] (Syntax.tyInt Syntax.w8)
 
-  abbrev s25 : Typed.Mo T28 → Typed.Mo T29
-  s25 = Scalar.n-room T28 13 ty·11
+  abbrev s25 : Typed.Asks T28 T29
+  s25 = Scalar.k-op2 T28 (Syntax.add Syntax.unsigned) (Scalar.oAt 12 (Syntax.tyInt Syntax.w64) (Row.valS (Row.sInt Syntax.w64))) (Scalar.oInt Syntax.w64 1) 17 (Rows.sc-here (Row.sInt Syntax.w64)) (Row.sInt Syntax.w64 .of)
 
-  abbrev s26 : Typed.Asks T29 T30
-  s26 = Scalar.k-op2 T29 (Syntax.add Syntax.unsigned) (Scalar.oAt 12 (Syntax.tyInt Syntax.w64) (Row.valS (Row.sInt Syntax.w64))) (Scalar.oInt Syntax.w64 1) 12 (Rows.sc-here (Row.sInt Syntax.w64)) (Row.sInt Syntax.w64 .of)
+  abbrev s26 : Typed.Mo T29 → Typed.Mo T30
+  s26 = Scalar.n-room T29 12 (Syntax.tyInt Syntax.w64)
 
-  abbrev s27 : Typed.Both T13 T31
-  s27 = Call.callB ps·3 r·3 (claims· .6) (claims· .7) T13 (
-    Num.vAt 11 λ x. x,
-    (Num.vAt 10 λ x. x, tt),
-  ) 0 List.[] ty·10
+  abbrev s27 : Typed.Both T30 T29
+  s27 = Call.callB ps·3 r·3 (claims· .6) (claims· .7) T30 args·2 12 List.[] (Syntax.tyInt Syntax.w64)
 
-  abbrev s28 : Typed.Mo T31 → Typed.Mo T32
-  s28 = Scalar.n-room T31 10 (Syntax.tyInt Syntax.w32)
+  abbrev s28 : Typed.Mo T29 → Typed.Mo T32
+  s28 = Scalar.n-room T29 13 ty·11
 
-  abbrev s29 : Typed.Mo T32 → Typed.Mo T33
-  s29 = Scalar.n-room T32 11 (Syntax.tyInt Syntax.w8)
+  abbrev s29 : Typed.Mo T32 → Typed.Mo T12
+  s29 = Scalar.n-room T32 17 (Syntax.tyInt Syntax.w64)
 
-  abbrev s30 : Typed.Mo T33 → Typed.Mo T34
-  s30 = Scalar.n-room T33 12 (Syntax.tyInt Syntax.w64)
+  abbrev s30 : Typed.Both T12 T34
+  s30 = Call.callB ps·4 r·4 (claims· .8) (claims· .9) T12 (Num.vAt 11 λ x. x, (Num.vAt 10 λ x. x, tt)) 0 List.[] ty·10
+
+  abbrev s31 : Typed.Mo T34 → Typed.Mo T35
+  s31 = Scalar.n-room T34 10 (Syntax.tyInt Syntax.w32)
+
+  abbrev s32 : Typed.Mo T35 → Typed.Mo T36
+  s32 = Scalar.n-room T35 11 (Syntax.tyInt Syntax.w8)
+
+  abbrev s33 : Typed.Mo T36 → Typed.Mo T1
+  s33 = Scalar.n-room T36 12 (Syntax.tyInt Syntax.w64)
 
   abbrev put0 : List.List (Referent.rtF (Referent.fInt Syntax.w8) .Denot) × Rows.sc-here (Row.sInt Syntax.w32) .Mod × Rows.sc-here (Row.sInt Syntax.w8) .Mod × Rows.sc-here (Row.sInt Syntax.w64) .Mod → Typed.Mo T12 → Typed.Mo T12
-  put0 = λ vs u. Row.set 12 (12, Rows.sc-here (Row.sInt Syntax.w64)) (vs .3) (T12 .locals) (Row.set 11 (11, Rows.sc-here (Row.sInt Syntax.w8)) (vs .2) (T12 .locals) (Row.set 10 (10, Rows.sc-here (Row.sInt Syntax.w32)) (vs .1) (T12 .locals) (Row.set 8 (8, Mut.mslice (Referent.rtF (Referent.fInt Syntax.w8)) ty·3 7) record {
-    ptr = Row.get 8 (T12 .locals) u .ptr;
-    name = Row.get 8 (T12 .locals) u .name;
-    now = vs .0;
-  } (T12 .locals) u)))
+  put0 = λ vs u. Row.set 12 (12, Rows.sc-here (Row.sInt Syntax.w64)) (vs .3) (T12 .locals) (Row.set 11 (11, Rows.sc-here (Row.sInt Syntax.w8)) (vs .2) (T12 .locals) (Row.set 10 (10, Rows.sc-here (Row.sInt Syntax.w32)) (vs .1) (T12 .locals) (Row.set 8 (8, Mut.mslice (Referent.rtF (Referent.fInt Syntax.w8)) ty·3 7) record
+      { ptr = Row.get 8 (T12 .locals) u .ptr; name = Row.get 8 (T12 .locals) u .name; now = vs .0 } (T12 .locals) u)))
 
   module _ (Pre· : (κs : Lifetimes.Lfts 9) → Kinds.Dens κs ps → Type 0) (Post· : (κs : Lifetimes.Lfts 9) → (a : Kinds.Dens κs ps) → Kinds.Plain 9 ps r κs) where
     module _ (M : Type 1) where
       abbrev pub Closed : Type 2
-      Closed = (𝓤 : URA.URA M) (H : Wp.Heap 𝓤) (A : Atoms.Atoms 𝓤) (W : Kit.Given 𝓤 H A) (𝓣 : Wp.Tables 𝓤 H) (known0 : Plain.Known 𝓤 H A W 𝓣 9 ps·0 r·0 (claims· .0) (claims· .1) "conductor::calls::grant") (known1 : Plain.Known 𝓤 H A W 𝓣 0 ps·1 r·1 (claims· .2) (claims· .3) "handset::replies::with_bit") (known2 : Plain.Known 𝓤 H A W 𝓣 0 ps·2 r·2
-          (claims· .4) (claims· .5) "handset::replies::unusable_number") (known3 : Plain.Known 𝓤 H A W 𝓣 0 ps·3 r·3 (claims· .6) (claims· .7) "handset::replies::reply_with") → Statement.Triple 𝓤 (Wp.WpFn 𝓤 H (𝓣 .C) (𝓣 .Λ) (Function.fnOf 9 ps r xs m hs body)) (Function.plainOf 𝓤 H A 9 ps r Pre· Post·)
+      Closed = (𝓤 : URA.URA M) (H : Wp.Heap 𝓤) (A : Atoms.Atoms 𝓤) (W : Kit.Given 𝓤 H A) (𝓣 : Wp.Tables 𝓤 H) (known0 : Plain.Known 𝓤 H A W 𝓣 9 ps·0 r·0 (claims· .0) (claims· .1) "conductor::calls::grant") (known1 : Plain.Known 𝓤 H A W 𝓣 0 ps·1 r·1 (claims· .2) (claims· .3) "handset::replies::with_bit") (known2 : Plain.Known 𝓤 H A W 𝓣 0 ps·2 r·2 (claims· .4)
+          (claims· .5) "handset::replies::unusable_number") (known3 : Plain.Known 𝓤 H A W 𝓣 0 ps·3 r·3 (claims· .6) (claims· .7) "handset::replies::next_asked") (known4 : Plain.Known 𝓤 H A W 𝓣 0 ps·4 r·4 (claims· .8) (claims· .9) "handset::replies::reply_with") → Statement.Triple 𝓤 (Wp.WpFn 𝓤 H (𝓣 .C) (𝓣 .Λ) (Function.fnOf 9 ps r xs m hs body)) (Function.plainOf
+          𝓤 H A 9 ps r Pre· Post·)
 
     module _ (Inv·0 : InvT-loop) (μ·0 : MeasureT-loop) where
-      abbrev at0 : Typed.TF T17 O4
+      abbrev at0 : Typed.TF T15 O4
       at0 = Typed.atNext O4
 
       abbrev at1 : Typed.TF T16 O4
-      at1 = λ Ψ. Typed.pass T16 T17 s13 (at0 Ψ)
+      at1 = λ Ψ. Typed.pass T16 T15 s13 (at0 Ψ)
 
       abbrev at2 : Typed.TF T14 O4
       at2 = λ Ψ. Typed.pass T14 T16 s12 (at1 Ψ)
 
-      abbrev at3 : Typed.TF T18 O4
+      abbrev at3 : Typed.TF T12 O4
       at3 = Typed.atExit 1 O4
 
       abbrev at4 : Typed.TF T14 O4
-      at4 = λ Ψ. Typed.pass T14 T18 s14 (at3 Ψ)
+      at4 = λ Ψ. Typed.pass T14 T12 s14 (at3 Ψ)
 
       abbrev at5 : Typed.TF T14 O4
       at5 = Scalar.Φcond T14 O4 14 (λ x. x) at2 at4
 
-      abbrev at6 : Typed.TF T29 O3
-      at6 = λ Ψ. Typed.ask s26 (Typed.atNext O3 Ψ)
+      abbrev at6 : Typed.TF T30 O3
+      at6 = λ Ψ. Typed.both s27 (Typed.pass T29 T32 s28 (Typed.pass T32 T12 s29 (Typed.atNext O3 Ψ)))
 
-      abbrev at7 : Typed.TF T28 O3
-      at7 = λ Ψ. Typed.pass T28 T29 s25 (at6 Ψ)
+      abbrev at7 : Typed.TF T29 O3
+      at7 = λ Ψ. Typed.pass T29 T30 s26 (at6 Ψ)
 
-      abbrev at8 : Typed.TF T27 O3
-      at8 = λ Ψ. Typed.both s24 (at7 Ψ)
+      abbrev at8 : Typed.TF T28 O3
+      at8 = λ Ψ. Typed.ask s25 (at7 Ψ)
 
-      abbrev at9 : Typed.TF T25 O3
-      at9 = λ Ψ. Typed.both s23 (at8 Ψ)
+      abbrev at9 : Typed.TF T24 O3
+      at9 = λ Ψ. Typed.both s24 (at8 Ψ)
 
-      abbrev at10 : Typed.TF T25 O3
-      at10 = λ Ψ. at9 Ψ
+      abbrev at10 : Typed.TF T24 O3
+      at10 = λ Ψ. Typed.both s23 (at9 Ψ)
 
-      abbrev at11 : Typed.TF T24 O3
-      at11 = λ Ψ. Typed.give s21 (at10 Ψ)
-
-      abbrev at12 : Typed.TF T22 O3
-      at12 = λ Ψ. Typed.both s20 (at11 Ψ)
+      abbrev at12 : Typed.TF T24 O3
+      at12 = λ Ψ. Typed.give s21 (at10 Ψ)
 
       abbrev at13 : Typed.TF T22 O3
-      at13 = λ Ψ. at12 Ψ
+      at13 = λ Ψ. Typed.both s20 (at12 Ψ)
 
-      abbrev at14 : Typed.TF T21 O3
-      at14 = λ Ψ. Typed.both s18 (at13 Ψ)
+      abbrev at15 : Typed.TF T21 O3
+      at15 = λ Ψ. Typed.both s18 (at13 Ψ)
 
-      abbrev at15 : Typed.TF T20 O3
-      at15 = λ Ψ. Typed.ask s17 (at14 Ψ)
-
-      abbrev at16 : Typed.TF T15 O3
-      at16 = λ Ψ. Typed.give s16 (at15 Ψ)
+      abbrev at16 : Typed.TF T20 O3
+      at16 = λ Ψ. Typed.ask s17 (at15 Ψ)
 
       abbrev at17 : Typed.TF T15 O3
-      at17 = λ Ψ. at16 Ψ
+      at17 = λ Ψ. Typed.give s16 (at16 Ψ)
 
-      abbrev at18 : Typed.TF T14 O3
-      at18 = λ Ψ. at5 (Typed.wantNext T15 O3 (at17 Ψ) Ψ)
+      abbrev at19 : Typed.TF T14 O3
+      at19 = λ Ψ. at5 (Typed.wantNext T15 O3 (at17 Ψ) Ψ)
 
-      abbrev at19 : Typed.TF T12 O3
-      at19 = λ Ψ. Typed.ask s11 (at18 Ψ)
+      abbrev at20 : Typed.TF T12 O3
+      at20 = λ Ψ. Typed.ask s11 (at19 Ψ)
 
-      abbrev at20 : Typed.TF T12 O2
-      at20 = Typed.LoopBy T12 O2 put0 (λ u vs. Inv·0 (Row.get 1 (T12 .locals) u .now) (Row.get 2 (T12 .locals) u .now) (Row.get 3 (T12 .locals) u .now) (Row.get 4 (T12 .locals) u .now) (Row.get 5 (T12 .locals) u .now) (Row.get 6 (T12 .locals) u .now) (Row.get 7 (T12 .locals) u .now) (Row.get 8 (T12 .locals) u .now) (Row.get 9 (T12 .locals) u .now)
-          (Row.get 10 (T12 .locals) u) (Row.get 11 (T12 .locals) u) (Row.get 12 (T12 .locals) u) (vs .0) (vs .1) (vs .2) (vs .3)) (λ u vs. μ·0 (Row.get 1 (T12 .locals) u .now) (Row.get 2 (T12 .locals) u .now) (Row.get 3 (T12 .locals) u .now) (Row.get 4 (T12 .locals) u .now) (Row.get 5 (T12 .locals) u .now) (Row.get 6 (T12 .locals) u .now)
-          (Row.get 7 (T12 .locals) u .now) (Row.get 8 (T12 .locals) u .now) (Row.get 9 (T12 .locals) u .now) (Row.get 10 (T12 .locals) u) (Row.get 11 (T12 .locals) u) (Row.get 12 (T12 .locals) u) (vs .0) (vs .1) (vs .2) (vs .3)) at19
+      abbrev at21 : Typed.TF T12 O2
+      at21 = Typed.LoopBy T12 O2 put0 (λ u vs. Inv·0 (Row.get 1 (T12 .locals) u .now) (Row.get 2 (T12 .locals) u .now) (Row.get 3 (T12 .locals) u .now) (Row.get 4 (T12 .locals) u .now) (Row.get 5 (T12 .locals) u .now) (Row.get 6 (T12 .locals) u .now) (Row.get 7 (T12 .locals) u .now) (Row.get 8 (T12 .locals) u .now) (Row.get 9 (T12 .locals) u .now) (Row.get
+          10 (T12 .locals) u) (Row.get 11 (T12 .locals) u) (Row.get 12 (T12 .locals) u) (vs .0) (vs .1) (vs .2) (vs .3)) (λ u vs. μ·0 (Row.get 1 (T12 .locals) u .now) (Row.get 2 (T12 .locals) u .now) (Row.get 3 (T12 .locals) u .now) (Row.get 4 (T12 .locals) u .now) (Row.get 5 (T12 .locals) u .now) (Row.get 6 (T12 .locals) u .now) (Row.get 7 (T12 .locals) u .now)
+          (Row.get 8 (T12 .locals) u .now) (Row.get 9 (T12 .locals) u .now) (Row.get 10 (T12 .locals) u) (Row.get 11 (T12 .locals) u) (Row.get 12 (T12 .locals) u) (vs .0) (vs .1) (vs .2) (vs .3)) at20
 
-      abbrev at21 : Typed.TF T12 O1
-      at21 = λ Ψ. at20 (Typed.inBlock O1 Ψ)
+      abbrev at22 : Typed.TF T12 O1
+      at22 = λ Ψ. at21 (Typed.inBlock O1 Ψ)
 
-      abbrev at22 : Typed.TF T34 O0
-      at22 = Typed.atRet O0
+      abbrev at23 : Typed.TF T1 O0
+      at23 = Typed.atRet O0
 
-      abbrev at23 : Typed.TF T33 O0
-      at23 = λ Ψ. Typed.pass T33 T34 s30 (at22 Ψ)
+      abbrev at24 : Typed.TF T36 O0
+      at24 = λ Ψ. Typed.pass T36 T1 s33 (at23 Ψ)
 
-      abbrev at24 : Typed.TF T32 O0
-      at24 = λ Ψ. Typed.pass T32 T33 s29 (at23 Ψ)
+      abbrev at25 : Typed.TF T35 O0
+      at25 = λ Ψ. Typed.pass T35 T36 s32 (at24 Ψ)
 
-      abbrev at25 : Typed.TF T31 O0
-      at25 = λ Ψ. Typed.pass T31 T32 s28 (at24 Ψ)
-
-      abbrev at26 : Typed.TF T13 O0
-      at26 = λ Ψ. Typed.both s27 (at25 Ψ)
+      abbrev at26 : Typed.TF T34 O0
+      at26 = λ Ψ. Typed.pass T34 T35 s31 (at25 Ψ)
 
       abbrev at27 : Typed.TF T12 O0
-      at27 = λ Ψ. at21 (Typed.wantNext T13 O0 (at26 Ψ) Ψ)
+      at27 = λ Ψ. Typed.both s30 (at26 Ψ)
 
-      abbrev at28 : Typed.TF T11 O0
-      at28 = λ Ψ. Typed.pass T11 T12 s10 (at27 Ψ)
+      abbrev at28 : Typed.TF T12 O0
+      at28 = λ Ψ. at22 (Typed.wantNext T12 O0 (at27 Ψ) Ψ)
 
-      abbrev at29 : Typed.TF T10 O0
-      at29 = λ Ψ. Typed.pass T10 T11 s9 (at28 Ψ)
+      abbrev at29 : Typed.TF T11 O0
+      at29 = λ Ψ. Typed.pass T11 T12 s10 (at28 Ψ)
 
-      abbrev at30 : Typed.TF T9 O0
-      at30 = λ Ψ. Typed.pass T9 T10 s8 (at29 Ψ)
+      abbrev at30 : Typed.TF T10 O0
+      at30 = λ Ψ. Typed.pass T10 T11 s9 (at29 Ψ)
 
-      abbrev at31 : Typed.TF T8 O0
-      at31 = λ Ψ. Typed.give s7 (at30 Ψ)
+      abbrev at31 : Typed.TF T0 O0
+      at31 = λ Ψ. Typed.pass T0 T10 s8 (at30 Ψ)
 
-      abbrev at32 : Typed.TF T7 O0
-      at32 = λ Ψ. Typed.give s6 (at31 Ψ)
+      abbrev at32 : Typed.TF T0 O0
+      at32 = λ Ψ. Typed.give s7 (at31 Ψ)
 
-      abbrev at33 : Typed.TF T6 O0
-      at33 = λ Ψ. Typed.give s5 (at32 Ψ)
+      abbrev at33 : Typed.TF T0 O0
+      at33 = λ Ψ. Typed.give s6 (at32 Ψ)
 
-      abbrev at34 : Typed.TF T5 O0
-      at34 = λ Ψ. Typed.give s4 (at33 Ψ)
+      abbrev at34 : Typed.TF T0 O0
+      at34 = λ Ψ. Typed.give s5 (at33 Ψ)
 
-      abbrev at35 : Typed.TF T4 O0
-      at35 = λ Ψ. Typed.give s3 (at34 Ψ)
+      abbrev at35 : Typed.TF T0 O0
+      at35 = λ Ψ. Typed.give s4 (at34 Ψ)
 
-      abbrev at36 : Typed.TF T3 O0
-      at36 = λ Ψ. Typed.give s2 (at35 Ψ)
+      abbrev at36 : Typed.TF T0 O0
+      at36 = λ Ψ. Typed.give s3 (at35 Ψ)
 
-      abbrev at37 : Typed.TF T2 O0
-      at37 = λ Ψ. Typed.give s1 (at36 Ψ)
+      abbrev at37 : Typed.TF T0 O0
+      at37 = λ Ψ. Typed.give s2 (at36 Ψ)
 
       abbrev at38 : Typed.TF T0 O0
-      at38 = λ Ψ. Typed.give s0 (at37 Ψ)
+      at38 = λ Ψ. Typed.give s1 (at37 Ψ)
+
+      abbrev at39 : Typed.TF T0 O0
+      at39 = λ Ψ. Typed.give s0 (at38 Ψ)
 
       abbrev pub Φ : Typed.TF T0 O0
-      Φ = at38
+      Φ = at39
 
       module _ {M : Type 1} (𝓤 : URA.URA M) (H : Wp.Heap 𝓤) (A : Atoms.Atoms 𝓤) (W : Kit.Given 𝓤 H A) (𝓣 : Wp.Tables 𝓤 H) where
         abbrev Knowns : Type 1
         Knowns = Plain.Known 𝓤 H A W 𝓣 9 ps·0 r·0 (claims· .0) (claims· .1) "conductor::calls::grant" × Plain.Known 𝓤 H A W 𝓣 0 ps·1 r·1 (claims· .2) (claims· .3) "handset::replies::with_bit" × Plain.Known 𝓤 H A W 𝓣 0 ps·2 r·2 (claims· .4) (claims· .5) "handset::replies::unusable_number" × Plain.Known 𝓤 H A W 𝓣 0 ps·3 r·3 (claims· .6) (claims· .7)
-            "handset::replies::reply_with"
+            "handset::replies::next_asked" × Plain.Known 𝓤 H A W 𝓣 0 ps·4 r·4 (claims· .8) (claims· .9) "handset::replies::reply_with"
 
       module _ (κs : Lifetimes.Lfts 9) (qs : Lifetimes.Shares 9) where
         abbrev g9 : List.List Row.Entry
-        g9 = List._∷_ (
-          0,
-          Rows.any-gone ty·10,
-        ) (List._∷_ (
-          1,
-          Rows.sslice (Referent.rtF (Referent.fInt Syntax.w16)) ty·4 0,
-        ) (List._∷_ (
-          2,
-          Rows.sslice (Referent.rtF (Referent.fInt Syntax.w16)) ty·5 1,
-        ) (List._∷_ (
-          3,
-          Rows.sslice (Referent.rtF (Referent.fInt Syntax.w8)) ty·2 2,
-        ) (List._∷_ (
-          4,
-          Rows.sslice (Referent.rtF (Referent.fInt Syntax.w16)) ty·6 3,
-        ) (List._∷_ (
-          5,
-          Rows.sslice (Referent.rtF (Referent.fInt Syntax.w16)) ty·7 4,
-        ) (List._∷_ (
-          6,
-          Rows.sslice (Referent.rtF (Referent.fInt Syntax.w32)) ty·8 5,
-        ) (List._∷_ (
-          7,
-          Rows.sslice (Referent.rtF (Referent.fInt Syntax.w16)) ty·9 6,
-        ) (List._∷_ (
-          8,
-          Relend.mslice-owed (Referent.rtF (Referent.fInt Syntax.w8)) ty·3 7 9 (Row.lease (κs .1 .1 .1 .1 .1 .1 .1 .0) (qs .1 .1 .1 .1 .1 .1 .1 .0)),
-        ) (List._∷_ (
-          9,
-          Rows.sslice Rec.rt ty·0 8,
-        ) (List._∷_ (10, Rows.sc-here (Row.sInt Syntax.w32)) (List._∷_ (
-          11,
-          Rows.any-gone (Syntax.tyInt Syntax.w8),
-        ) (List._∷_ (12, Rows.sc-here (Row.sInt Syntax.w64)) (List._∷_ (
-          13,
-          Rows.any-gone ty·11,
-        ) (List._∷_ (14, Rows.any-gone Syntax.tyBool) (List._∷_ (
-          15,
-          Relend.msptr (Referent.rtF (Referent.fInt Syntax.w8)) ty·1 9,
-        ) List.[])))))))))))))))
+        g9 = List._∷_ (0, Rows.any-gone ty·10) (List._∷_ (1, Rows.sslice (Referent.rtF (Referent.fInt Syntax.w16)) ty·4 0) (List._∷_ (2, Rows.sslice (Referent.rtF (Referent.fInt Syntax.w16)) ty·5 1) (List._∷_ (3, Rows.sslice (Referent.rtF (Referent.fInt Syntax.w8)) ty·2 2) (List._∷_ (4, Rows.sslice (Referent.rtF (Referent.fInt Syntax.w16)) ty·6 3) (List._∷_
+            (5, Rows.sslice (Referent.rtF (Referent.fInt Syntax.w16)) ty·7 4) (List._∷_ (6, Rows.sslice (Referent.rtF (Referent.fInt Syntax.w32)) ty·8 5) (List._∷_ (7, Rows.sslice (Referent.rtF (Referent.fInt Syntax.w16)) ty·9 6) (List._∷_
+            (8, Relend.mslice-owed (Referent.rtF (Referent.fInt Syntax.w8)) ty·3 7 9 (Row.lease (κs .1 .1 .1 .1 .1 .1 .1 .0) (qs .1 .1 .1 .1 .1 .1 .1 .0))) (List._∷_ (9, Rows.sslice Rec.rt ty·0 8) (List._∷_ (10, Rows.sc-here (Row.sInt Syntax.w32)) (List._∷_ (11, Rows.any-gone (Syntax.tyInt Syntax.w8)) (List._∷_ (12, Rows.sc-here (Row.sInt Syntax.w64)) (List._∷_
+            (13, Rows.any-gone ty·11) (List._∷_ (14, Rows.any-gone Syntax.tyBool) (List._∷_ (15, Relend.msptr (Referent.rtF (Referent.fInt Syntax.w8)) ty·1 9) List.[])))))))))))))))
 
         abbrev g10 : List.List Row.Entry
-        g10 = List._∷_ (
-          0,
-          Rows.any-gone ty·10,
-        ) (List._∷_ (
-          1,
-          Rows.sslice (Referent.rtF (Referent.fInt Syntax.w16)) ty·4 0,
-        ) (List._∷_ (
-          2,
-          Rows.sslice (Referent.rtF (Referent.fInt Syntax.w16)) ty·5 1,
-        ) (List._∷_ (
-          3,
-          Rows.sslice (Referent.rtF (Referent.fInt Syntax.w8)) ty·2 2,
-        ) (List._∷_ (
-          4,
-          Rows.sslice (Referent.rtF (Referent.fInt Syntax.w16)) ty·6 3,
-        ) (List._∷_ (
-          5,
-          Rows.sslice (Referent.rtF (Referent.fInt Syntax.w16)) ty·7 4,
-        ) (List._∷_ (
-          6,
-          Rows.sslice (Referent.rtF (Referent.fInt Syntax.w32)) ty·8 5,
-        ) (List._∷_ (
-          7,
-          Rows.sslice (Referent.rtF (Referent.fInt Syntax.w16)) ty·9 6,
-        ) (List._∷_ (
-          8,
-          Relend.mslice-owed (Referent.rtF (Referent.fInt Syntax.w8)) ty·3 7 9 (Row.lease (κs .1 .1 .1 .1 .1 .1 .1 .0) (qs .1 .1 .1 .1 .1 .1 .1 .0)),
-        ) (List._∷_ (
-          9,
-          Rows.sslice Rec.rt ty·0 8,
-        ) (List._∷_ (10, Rows.sc-here (Row.sInt Syntax.w32)) (List._∷_ (
-          11,
-          Rows.any-gone (Syntax.tyInt Syntax.w8),
-        ) (List._∷_ (12, Rows.sc-here (Row.sInt Syntax.w64)) (List._∷_ (
-          13,
-          Rows.any-gone ty·11,
-        ) (List._∷_ (14, Rows.any-gone Syntax.tyBool) (List._∷_ (
-          15,
-          Rows.any-gone ty·1,
-        ) List.[])))))))))))))))
+        g10 = List._∷_ (0, Rows.any-gone ty·10) (List._∷_ (1, Rows.sslice (Referent.rtF (Referent.fInt Syntax.w16)) ty·4 0) (List._∷_ (2, Rows.sslice (Referent.rtF (Referent.fInt Syntax.w16)) ty·5 1) (List._∷_ (3, Rows.sslice (Referent.rtF (Referent.fInt Syntax.w8)) ty·2 2) (List._∷_ (4, Rows.sslice (Referent.rtF (Referent.fInt Syntax.w16)) ty·6 3) (List._∷_
+            (5, Rows.sslice (Referent.rtF (Referent.fInt Syntax.w16)) ty·7 4) (List._∷_ (6, Rows.sslice (Referent.rtF (Referent.fInt Syntax.w32)) ty·8 5) (List._∷_ (7, Rows.sslice (Referent.rtF (Referent.fInt Syntax.w16)) ty·9 6) (List._∷_
+            (8, Relend.mslice-owed (Referent.rtF (Referent.fInt Syntax.w8)) ty·3 7 9 (Row.lease (κs .1 .1 .1 .1 .1 .1 .1 .0) (qs .1 .1 .1 .1 .1 .1 .1 .0))) (List._∷_ (9, Rows.sslice Rec.rt ty·0 8) (List._∷_ (10, Rows.sc-here (Row.sInt Syntax.w32)) (List._∷_ (11, Rows.any-gone (Syntax.tyInt Syntax.w8)) (List._∷_ (12, Rows.sc-here (Row.sInt Syntax.w64)) (List._∷_
+            (13, Rows.any-gone ty·11) (List._∷_ (14, Rows.any-gone Syntax.tyBool) (List._∷_ (15, Rows.any-gone ty·1) List.[])))))))))))))))
 
         abbrev g12 : List.List Row.Entry
-        g12 = List._∷_ (
-          0,
-          Rows.any-gone ty·10,
-        ) (List._∷_ (
-          1,
-          Rows.sslice (Referent.rtF (Referent.fInt Syntax.w16)) ty·4 0,
-        ) (List._∷_ (
-          2,
-          Rows.sslice (Referent.rtF (Referent.fInt Syntax.w16)) ty·5 1,
-        ) (List._∷_ (
-          3,
-          Rows.sslice (Referent.rtF (Referent.fInt Syntax.w8)) ty·2 2,
-        ) (List._∷_ (
-          4,
-          Rows.sslice (Referent.rtF (Referent.fInt Syntax.w16)) ty·6 3,
-        ) (List._∷_ (
-          5,
-          Rows.sslice (Referent.rtF (Referent.fInt Syntax.w16)) ty·7 4,
-        ) (List._∷_ (
-          6,
-          Rows.sslice (Referent.rtF (Referent.fInt Syntax.w32)) ty·8 5,
-        ) (List._∷_ (
-          7,
-          Rows.sslice (Referent.rtF (Referent.fInt Syntax.w16)) ty·9 6,
-        ) (List._∷_ (
-          8,
-          Relend.mslice-owed (Referent.rtF (Referent.fInt Syntax.w8)) ty·3 7 9 (Row.lease (κs .1 .1 .1 .1 .1 .1 .1 .0) (qs .1 .1 .1 .1 .1 .1 .1 .0)),
-        ) (List._∷_ (
-          9,
-          Rows.sslice Rec.rt ty·0 8,
-        ) (List._∷_ (10, Rows.sc-here (Row.sInt Syntax.w32)) (List._∷_ (
-          11,
-          Rows.any-gone (Syntax.tyInt Syntax.w8),
-        ) (List._∷_ (12, Rows.sc-here (Row.sInt Syntax.w64)) (List._∷_ (
-          13,
-          Rows.whole (Declared.row GrantReply.the-type),
-        ) (List._∷_ (14, Rows.any-gone Syntax.tyBool) (List._∷_ (
-          15,
-          Rows.any-gone ty·1,
-        ) List.[])))))))))))))))
+        g12 = List._∷_ (0, Rows.any-gone ty·10) (List._∷_ (1, Rows.sslice (Referent.rtF (Referent.fInt Syntax.w16)) ty·4 0) (List._∷_ (2, Rows.sslice (Referent.rtF (Referent.fInt Syntax.w16)) ty·5 1) (List._∷_ (3, Rows.sslice (Referent.rtF (Referent.fInt Syntax.w8)) ty·2 2) (List._∷_ (4, Rows.sslice (Referent.rtF (Referent.fInt Syntax.w16)) ty·6 3) (List._∷_
+            (5, Rows.sslice (Referent.rtF (Referent.fInt Syntax.w16)) ty·7 4) (List._∷_ (6, Rows.sslice (Referent.rtF (Referent.fInt Syntax.w32)) ty·8 5) (List._∷_ (7, Rows.sslice (Referent.rtF (Referent.fInt Syntax.w16)) ty·9 6) (List._∷_
+            (8, Relend.mslice-owed (Referent.rtF (Referent.fInt Syntax.w8)) ty·3 7 9 (Row.lease (κs .1 .1 .1 .1 .1 .1 .1 .0) (qs .1 .1 .1 .1 .1 .1 .1 .0))) (List._∷_ (9, Rows.sslice Rec.rt ty·0 8) (List._∷_ (10, Rows.sc-here (Row.sInt Syntax.w32)) (List._∷_ (11, Rows.any-gone (Syntax.tyInt Syntax.w8)) (List._∷_ (12, Rows.sc-here (Row.sInt Syntax.w64)) (List._∷_
+            (13, Rows.whole (Declared.row GrantReply.the-type)) (List._∷_ (14, Rows.any-gone Syntax.tyBool) (List._∷_ (15, Rows.any-gone ty·1) List.[])))))))))))))))
+
+        abbrev slots·0 : List.List Row.Life
+        slots·0 = List._∷_ (Row.lease (κs .0) (qs .0)) (List._∷_ (Row.lease (κs .1 .0) (qs .1 .0)) (List._∷_ (Row.lease (κs .1 .1 .0) (qs .1 .1 .0)) (List._∷_ (Row.lease (κs .1 .1 .1 .0) (qs .1 .1 .1 .0)) (List._∷_ (Row.lease (κs .1 .1 .1 .1 .0) (qs .1 .1 .1 .1 .0)) (List._∷_ (Row.lease (κs .1 .1 .1 .1 .1 .0) (qs .1 .1 .1 .1 .1 .0)) (List._∷_ (Row.lease (κs
+            .1 .1 .1 .1 .1 .1 .0) (qs .1 .1 .1 .1 .1 .1 .0)) (List._∷_ (Row.lease (κs .1 .1 .1 .1 .1 .1 .1 .0) (qs .1 .1 .1 .1 .1 .1 .1 .0)) (List._∷_ (Row.lease (κs .1 .1 .1 .1 .1 .1 .1 .1 .0) (qs .1 .1 .1 .1 .1 .1 .1 .1 .0)) (List._∷_ Row.off List.[])))))))))
+
+        abbrev slots·1 : List.List Row.Life
+        slots·1 = List._∷_ (Row.lease (κs .0) (qs .0)) (List._∷_ (Row.lease (κs .1 .0) (qs .1 .0)) (List._∷_ (Row.lease (κs .1 .1 .0) (qs .1 .1 .0)) (List._∷_ (Row.lease (κs .1 .1 .1 .0) (qs .1 .1 .1 .0)) (List._∷_ (Row.lease (κs .1 .1 .1 .1 .0) (qs .1 .1 .1 .1 .0)) (List._∷_ (Row.lease (κs .1 .1 .1 .1 .1 .0) (qs .1 .1 .1 .1 .1 .0)) (List._∷_ (Row.lease (κs
+            .1 .1 .1 .1 .1 .1 .0) (qs .1 .1 .1 .1 .1 .1 .0)) (List._∷_ Row.off (List._∷_ (Row.lease (κs .1 .1 .1 .1 .1 .1 .1 .1 .0) (qs .1 .1 .1 .1 .1 .1 .1 .1 .0)) (List._∷_ Row.alive List.[])))))))))
+
+        abbrev slots·2 : List.List Row.Life
+        slots·2 = List._∷_ (Row.lease (κs .0) (qs .0)) (List._∷_ (Row.lease (κs .1 .0) (qs .1 .0)) (List._∷_ (Row.lease (κs .1 .1 .0) (qs .1 .1 .0)) (List._∷_ (Row.lease (κs .1 .1 .1 .0) (qs .1 .1 .1 .0)) (List._∷_ (Row.lease (κs .1 .1 .1 .1 .0) (qs .1 .1 .1 .1 .0)) (List._∷_ (Row.lease (κs .1 .1 .1 .1 .1 .0) (qs .1 .1 .1 .1 .1 .0)) (List._∷_ (Row.lease (κs
+            .1 .1 .1 .1 .1 .1 .0) (qs .1 .1 .1 .1 .1 .1 .0)) (List._∷_ (Row.lease (κs .1 .1 .1 .1 .1 .1 .1 .0) (qs .1 .1 .1 .1 .1 .1 .1 .0)) (List._∷_ (Row.lease (κs .1 .1 .1 .1 .1 .1 .1 .1 .0) (qs .1 .1 .1 .1 .1 .1 .1 .1 .0)) (List._∷_ Row.dead List.[])))))))))
 
         abbrev G0 : Row.Cx
-        G0 = record {
-          locals = List._++_ t0 t1;
-          slots = List._∷_ (Row.lease (κs .0) (qs .0)) (List._∷_ (Row.lease (κs .1 .0) (qs .1 .0)) (List._∷_ (Row.lease (κs .1 .1 .0) (qs .1 .1 .0)) (List._∷_ (Row.lease (κs .1 .1 .1 .0) (qs .1 .1 .1 .0)) (List._∷_ (Row.lease (κs .1 .1 .1 .1 .0) (qs .1 .1 .1 .1 .0)) (List._∷_
-              (Row.lease (κs .1 .1 .1 .1 .1 .0) (qs .1 .1 .1 .1 .1 .0)) (List._∷_ (Row.lease (κs .1 .1 .1 .1 .1 .1 .0) (qs .1 .1 .1 .1 .1 .1 .0)) (List._∷_ (Row.lease (κs .1 .1 .1 .1 .1 .1 .1 .0) (qs .1 .1 .1 .1 .1 .1 .1 .0)) (List._∷_ (Row.lease (κs .1 .1 .1 .1 .1 .1 .1 .1 .0) (qs .1 .1 .1 .1 .1 .1 .1 .1 .0)) (List._∷_ Row.off List.[])))))))));
-        }
+        G0 = record { locals = T0 .locals; slots = slots·0 }
 
         abbrev G1 : Row.Cx
-        G1 = record {
-          locals = List._++_ t2 t1;
-          slots = List._∷_ (Row.lease (κs .0) (qs .0)) (List._∷_ (Row.lease (κs .1 .0) (qs .1 .0)) (List._∷_ (Row.lease (κs .1 .1 .0) (qs .1 .1 .0)) (List._∷_ (Row.lease (κs .1 .1 .1 .0) (qs .1 .1 .1 .0)) (List._∷_ (Row.lease (κs .1 .1 .1 .1 .0) (qs .1 .1 .1 .1 .0)) (List._∷_
-              (Row.lease (κs .1 .1 .1 .1 .1 .0) (qs .1 .1 .1 .1 .1 .0)) (List._∷_ (Row.lease (κs .1 .1 .1 .1 .1 .1 .0) (qs .1 .1 .1 .1 .1 .1 .0)) (List._∷_ (Row.lease (κs .1 .1 .1 .1 .1 .1 .1 .0) (qs .1 .1 .1 .1 .1 .1 .1 .0)) (List._∷_ (Row.lease (κs .1 .1 .1 .1 .1 .1 .1 .1 .0) (qs .1 .1 .1 .1 .1 .1 .1 .1 .0)) (List._∷_ Row.off List.[])))))))));
-        }
-
-        abbrev G2 : Row.Cx
-        G2 = record {
-          locals = List._++_ t0 t1;
-          slots = List._∷_ (Row.lease (κs .0) (qs .0)) (List._∷_ (Row.lease (κs .1 .0) (qs .1 .0)) (List._∷_ (Row.lease (κs .1 .1 .0) (qs .1 .1 .0)) (List._∷_ (Row.lease (κs .1 .1 .1 .0) (qs .1 .1 .1 .0)) (List._∷_ (Row.lease (κs .1 .1 .1 .1 .0) (qs .1 .1 .1 .1 .0)) (List._∷_
-              (Row.lease (κs .1 .1 .1 .1 .1 .0) (qs .1 .1 .1 .1 .1 .0)) (List._∷_ (Row.lease (κs .1 .1 .1 .1 .1 .1 .0) (qs .1 .1 .1 .1 .1 .1 .0)) (List._∷_ (Row.lease (κs .1 .1 .1 .1 .1 .1 .1 .0) (qs .1 .1 .1 .1 .1 .1 .1 .0)) (List._∷_ (Row.lease (κs .1 .1 .1 .1 .1 .1 .1 .1 .0) (qs .1 .1 .1 .1 .1 .1 .1 .1 .0)) (List._∷_ Row.off List.[])))))))));
-        }
-
-        abbrev G3 : Row.Cx
-        G3 = record {
-          locals = List._++_ t0 t1;
-          slots = List._∷_ (Row.lease (κs .0) (qs .0)) (List._∷_ (Row.lease (κs .1 .0) (qs .1 .0)) (List._∷_ (Row.lease (κs .1 .1 .0) (qs .1 .1 .0)) (List._∷_ (Row.lease (κs .1 .1 .1 .0) (qs .1 .1 .1 .0)) (List._∷_ (Row.lease (κs .1 .1 .1 .1 .0) (qs .1 .1 .1 .1 .0)) (List._∷_
-              (Row.lease (κs .1 .1 .1 .1 .1 .0) (qs .1 .1 .1 .1 .1 .0)) (List._∷_ (Row.lease (κs .1 .1 .1 .1 .1 .1 .0) (qs .1 .1 .1 .1 .1 .1 .0)) (List._∷_ (Row.lease (κs .1 .1 .1 .1 .1 .1 .1 .0) (qs .1 .1 .1 .1 .1 .1 .1 .0)) (List._∷_ (Row.lease (κs .1 .1 .1 .1 .1 .1 .1 .1 .0) (qs .1 .1 .1 .1 .1 .1 .1 .1 .0)) (List._∷_ Row.off List.[])))))))));
-        }
-
-        abbrev G4 : Row.Cx
-        G4 = record {
-          locals = List._++_ t0 t1;
-          slots = List._∷_ (Row.lease (κs .0) (qs .0)) (List._∷_ (Row.lease (κs .1 .0) (qs .1 .0)) (List._∷_ (Row.lease (κs .1 .1 .0) (qs .1 .1 .0)) (List._∷_ (Row.lease (κs .1 .1 .1 .0) (qs .1 .1 .1 .0)) (List._∷_ (Row.lease (κs .1 .1 .1 .1 .0) (qs .1 .1 .1 .1 .0)) (List._∷_
-              (Row.lease (κs .1 .1 .1 .1 .1 .0) (qs .1 .1 .1 .1 .1 .0)) (List._∷_ (Row.lease (κs .1 .1 .1 .1 .1 .1 .0) (qs .1 .1 .1 .1 .1 .1 .0)) (List._∷_ (Row.lease (κs .1 .1 .1 .1 .1 .1 .1 .0) (qs .1 .1 .1 .1 .1 .1 .1 .0)) (List._∷_ (Row.lease (κs .1 .1 .1 .1 .1 .1 .1 .1 .0) (qs .1 .1 .1 .1 .1 .1 .1 .1 .0)) (List._∷_ Row.off List.[])))))))));
-        }
-
-        abbrev G5 : Row.Cx
-        G5 = record {
-          locals = List._++_ t0 t1;
-          slots = List._∷_ (Row.lease (κs .0) (qs .0)) (List._∷_ (Row.lease (κs .1 .0) (qs .1 .0)) (List._∷_ (Row.lease (κs .1 .1 .0) (qs .1 .1 .0)) (List._∷_ (Row.lease (κs .1 .1 .1 .0) (qs .1 .1 .1 .0)) (List._∷_ (Row.lease (κs .1 .1 .1 .1 .0) (qs .1 .1 .1 .1 .0)) (List._∷_
-              (Row.lease (κs .1 .1 .1 .1 .1 .0) (qs .1 .1 .1 .1 .1 .0)) (List._∷_ (Row.lease (κs .1 .1 .1 .1 .1 .1 .0) (qs .1 .1 .1 .1 .1 .1 .0)) (List._∷_ (Row.lease (κs .1 .1 .1 .1 .1 .1 .1 .0) (qs .1 .1 .1 .1 .1 .1 .1 .0)) (List._∷_ (Row.lease (κs .1 .1 .1 .1 .1 .1 .1 .1 .0) (qs .1 .1 .1 .1 .1 .1 .1 .1 .0)) (List._∷_ Row.off List.[])))))))));
-        }
-
-        abbrev G6 : Row.Cx
-        G6 = record {
-          locals = List._++_ t0 t1;
-          slots = List._∷_ (Row.lease (κs .0) (qs .0)) (List._∷_ (Row.lease (κs .1 .0) (qs .1 .0)) (List._∷_ (Row.lease (κs .1 .1 .0) (qs .1 .1 .0)) (List._∷_ (Row.lease (κs .1 .1 .1 .0) (qs .1 .1 .1 .0)) (List._∷_ (Row.lease (κs .1 .1 .1 .1 .0) (qs .1 .1 .1 .1 .0)) (List._∷_
-              (Row.lease (κs .1 .1 .1 .1 .1 .0) (qs .1 .1 .1 .1 .1 .0)) (List._∷_ (Row.lease (κs .1 .1 .1 .1 .1 .1 .0) (qs .1 .1 .1 .1 .1 .1 .0)) (List._∷_ (Row.lease (κs .1 .1 .1 .1 .1 .1 .1 .0) (qs .1 .1 .1 .1 .1 .1 .1 .0)) (List._∷_ (Row.lease (κs .1 .1 .1 .1 .1 .1 .1 .1 .0) (qs .1 .1 .1 .1 .1 .1 .1 .1 .0)) (List._∷_ Row.off List.[])))))))));
-        }
-
-        abbrev G7 : Row.Cx
-        G7 = record {
-          locals = List._++_ t0 t1;
-          slots = List._∷_ (Row.lease (κs .0) (qs .0)) (List._∷_ (Row.lease (κs .1 .0) (qs .1 .0)) (List._∷_ (Row.lease (κs .1 .1 .0) (qs .1 .1 .0)) (List._∷_ (Row.lease (κs .1 .1 .1 .0) (qs .1 .1 .1 .0)) (List._∷_ (Row.lease (κs .1 .1 .1 .1 .0) (qs .1 .1 .1 .1 .0)) (List._∷_
-              (Row.lease (κs .1 .1 .1 .1 .1 .0) (qs .1 .1 .1 .1 .1 .0)) (List._∷_ (Row.lease (κs .1 .1 .1 .1 .1 .1 .0) (qs .1 .1 .1 .1 .1 .1 .0)) (List._∷_ (Row.lease (κs .1 .1 .1 .1 .1 .1 .1 .0) (qs .1 .1 .1 .1 .1 .1 .1 .0)) (List._∷_ (Row.lease (κs .1 .1 .1 .1 .1 .1 .1 .1 .0) (qs .1 .1 .1 .1 .1 .1 .1 .1 .0)) (List._∷_ Row.off List.[])))))))));
-        }
-
-        abbrev G8 : Row.Cx
-        G8 = record {
-          locals = List._++_ t0 t1;
-          slots = List._∷_ (Row.lease (κs .0) (qs .0)) (List._∷_ (Row.lease (κs .1 .0) (qs .1 .0)) (List._∷_ (Row.lease (κs .1 .1 .0) (qs .1 .1 .0)) (List._∷_ (Row.lease (κs .1 .1 .1 .0) (qs .1 .1 .1 .0)) (List._∷_ (Row.lease (κs .1 .1 .1 .1 .0) (qs .1 .1 .1 .1 .0)) (List._∷_
-              (Row.lease (κs .1 .1 .1 .1 .1 .0) (qs .1 .1 .1 .1 .1 .0)) (List._∷_ (Row.lease (κs .1 .1 .1 .1 .1 .1 .0) (qs .1 .1 .1 .1 .1 .1 .0)) (List._∷_ (Row.lease (κs .1 .1 .1 .1 .1 .1 .1 .0) (qs .1 .1 .1 .1 .1 .1 .1 .0)) (List._∷_ (Row.lease (κs .1 .1 .1 .1 .1 .1 .1 .1 .0) (qs .1 .1 .1 .1 .1 .1 .1 .1 .0)) (List._∷_ Row.off List.[])))))))));
-        }
-
-        abbrev G9 : Row.Cx
-        G9 = record {
-          locals = List._++_ t0 t1;
-          slots = List._∷_ (Row.lease (κs .0) (qs .0)) (List._∷_ (Row.lease (κs .1 .0) (qs .1 .0)) (List._∷_ (Row.lease (κs .1 .1 .0) (qs .1 .1 .0)) (List._∷_ (Row.lease (κs .1 .1 .1 .0) (qs .1 .1 .1 .0)) (List._∷_ (Row.lease (κs .1 .1 .1 .1 .0) (qs .1 .1 .1 .1 .0)) (List._∷_
-              (Row.lease (κs .1 .1 .1 .1 .1 .0) (qs .1 .1 .1 .1 .1 .0)) (List._∷_ (Row.lease (κs .1 .1 .1 .1 .1 .1 .0) (qs .1 .1 .1 .1 .1 .1 .0)) (List._∷_ (Row.lease (κs .1 .1 .1 .1 .1 .1 .1 .0) (qs .1 .1 .1 .1 .1 .1 .1 .0)) (List._∷_ (Row.lease (κs .1 .1 .1 .1 .1 .1 .1 .1 .0) (qs .1 .1 .1 .1 .1 .1 .1 .1 .0)) (List._∷_ Row.off List.[])))))))));
-        }
+        G1 = record { locals = T1 .locals; slots = slots·0 }
 
         abbrev G10 : Row.Cx
-        G10 = record {
-          locals = List._++_ t3 t1;
-          slots = List._∷_ (Row.lease (κs .0) (qs .0)) (List._∷_ (Row.lease (κs .1 .0) (qs .1 .0)) (List._∷_ (Row.lease (κs .1 .1 .0) (qs .1 .1 .0)) (List._∷_ (Row.lease (κs .1 .1 .1 .0) (qs .1 .1 .1 .0)) (List._∷_ (Row.lease (κs .1 .1 .1 .1 .0) (qs .1 .1 .1 .1 .0)) (List._∷_
-              (Row.lease (κs .1 .1 .1 .1 .1 .0) (qs .1 .1 .1 .1 .1 .0)) (List._∷_ (Row.lease (κs .1 .1 .1 .1 .1 .1 .0) (qs .1 .1 .1 .1 .1 .1 .0)) (List._∷_ (Row.lease (κs .1 .1 .1 .1 .1 .1 .1 .0) (qs .1 .1 .1 .1 .1 .1 .1 .0)) (List._∷_ (Row.lease (κs .1 .1 .1 .1 .1 .1 .1 .1 .0) (qs .1 .1 .1 .1 .1 .1 .1 .1 .0)) (List._∷_ Row.off List.[])))))))));
-        }
+        G10 = record { locals = T10 .locals; slots = slots·0 }
 
         abbrev G11 : Row.Cx
-        G11 = record {
-          locals = List._++_ t4 t1;
-          slots = List._∷_ (Row.lease (κs .0) (qs .0)) (List._∷_ (Row.lease (κs .1 .0) (qs .1 .0)) (List._∷_ (Row.lease (κs .1 .1 .0) (qs .1 .1 .0)) (List._∷_ (Row.lease (κs .1 .1 .1 .0) (qs .1 .1 .1 .0)) (List._∷_ (Row.lease (κs .1 .1 .1 .1 .0) (qs .1 .1 .1 .1 .0)) (List._∷_
-              (Row.lease (κs .1 .1 .1 .1 .1 .0) (qs .1 .1 .1 .1 .1 .0)) (List._∷_ (Row.lease (κs .1 .1 .1 .1 .1 .1 .0) (qs .1 .1 .1 .1 .1 .1 .0)) (List._∷_ (Row.lease (κs .1 .1 .1 .1 .1 .1 .1 .0) (qs .1 .1 .1 .1 .1 .1 .1 .0)) (List._∷_ (Row.lease (κs .1 .1 .1 .1 .1 .1 .1 .1 .0) (qs .1 .1 .1 .1 .1 .1 .1 .1 .0)) (List._∷_ Row.off List.[])))))))));
-        }
+        G11 = record { locals = T11 .locals; slots = slots·0 }
 
         abbrev G12 : Row.Cx
-        G12 = record {
-          locals = List._++_ t5 t1;
-          slots = List._∷_ (Row.lease (κs .0) (qs .0)) (List._∷_ (Row.lease (κs .1 .0) (qs .1 .0)) (List._∷_ (Row.lease (κs .1 .1 .0) (qs .1 .1 .0)) (List._∷_ (Row.lease (κs .1 .1 .1 .0) (qs .1 .1 .1 .0)) (List._∷_ (Row.lease (κs .1 .1 .1 .1 .0) (qs .1 .1 .1 .1 .0)) (List._∷_
-              (Row.lease (κs .1 .1 .1 .1 .1 .0) (qs .1 .1 .1 .1 .1 .0)) (List._∷_ (Row.lease (κs .1 .1 .1 .1 .1 .1 .0) (qs .1 .1 .1 .1 .1 .1 .0)) (List._∷_ (Row.lease (κs .1 .1 .1 .1 .1 .1 .1 .0) (qs .1 .1 .1 .1 .1 .1 .1 .0)) (List._∷_ (Row.lease (κs .1 .1 .1 .1 .1 .1 .1 .1 .0) (qs .1 .1 .1 .1 .1 .1 .1 .1 .0)) (List._∷_ Row.off List.[])))))))));
-        }
-
-        abbrev G13 : Row.Cx
-        G13 = record {
-          locals = List._++_ t5 t1;
-          slots = List._∷_ (Row.lease (κs .0) (qs .0)) (List._∷_ (Row.lease (κs .1 .0) (qs .1 .0)) (List._∷_ (Row.lease (κs .1 .1 .0) (qs .1 .1 .0)) (List._∷_ (Row.lease (κs .1 .1 .1 .0) (qs .1 .1 .1 .0)) (List._∷_ (Row.lease (κs .1 .1 .1 .1 .0) (qs .1 .1 .1 .1 .0)) (List._∷_
-              (Row.lease (κs .1 .1 .1 .1 .1 .0) (qs .1 .1 .1 .1 .1 .0)) (List._∷_ (Row.lease (κs .1 .1 .1 .1 .1 .1 .0) (qs .1 .1 .1 .1 .1 .1 .0)) (List._∷_ (Row.lease (κs .1 .1 .1 .1 .1 .1 .1 .0) (qs .1 .1 .1 .1 .1 .1 .1 .0)) (List._∷_ (Row.lease (κs .1 .1 .1 .1 .1 .1 .1 .1 .0) (qs .1 .1 .1 .1 .1 .1 .1 .1 .0)) (List._∷_ Row.off List.[])))))))));
-        }
+        G12 = record { locals = T12 .locals; slots = slots·0 }
 
         abbrev G14 : Row.Cx
-        G14 = record {
-          locals = List._++_ t6 t1;
-          slots = List._∷_ (Row.lease (κs .0) (qs .0)) (List._∷_ (Row.lease (κs .1 .0) (qs .1 .0)) (List._∷_ (Row.lease (κs .1 .1 .0) (qs .1 .1 .0)) (List._∷_ (Row.lease (κs .1 .1 .1 .0) (qs .1 .1 .1 .0)) (List._∷_ (Row.lease (κs .1 .1 .1 .1 .0) (qs .1 .1 .1 .1 .0)) (List._∷_
-              (Row.lease (κs .1 .1 .1 .1 .1 .0) (qs .1 .1 .1 .1 .1 .0)) (List._∷_ (Row.lease (κs .1 .1 .1 .1 .1 .1 .0) (qs .1 .1 .1 .1 .1 .1 .0)) (List._∷_ (Row.lease (κs .1 .1 .1 .1 .1 .1 .1 .0) (qs .1 .1 .1 .1 .1 .1 .1 .0)) (List._∷_ (Row.lease (κs .1 .1 .1 .1 .1 .1 .1 .1 .0) (qs .1 .1 .1 .1 .1 .1 .1 .1 .0)) (List._∷_ Row.off List.[])))))))));
-        }
+        G14 = record { locals = T14 .locals; slots = slots·0 }
 
         abbrev G15 : Row.Cx
-        G15 = record {
-          locals = List._++_ t7 t1;
-          slots = List._∷_ (Row.lease (κs .0) (qs .0)) (List._∷_ (Row.lease (κs .1 .0) (qs .1 .0)) (List._∷_ (Row.lease (κs .1 .1 .0) (qs .1 .1 .0)) (List._∷_ (Row.lease (κs .1 .1 .1 .0) (qs .1 .1 .1 .0)) (List._∷_ (Row.lease (κs .1 .1 .1 .1 .0) (qs .1 .1 .1 .1 .0)) (List._∷_
-              (Row.lease (κs .1 .1 .1 .1 .1 .0) (qs .1 .1 .1 .1 .1 .0)) (List._∷_ (Row.lease (κs .1 .1 .1 .1 .1 .1 .0) (qs .1 .1 .1 .1 .1 .1 .0)) (List._∷_ (Row.lease (κs .1 .1 .1 .1 .1 .1 .1 .0) (qs .1 .1 .1 .1 .1 .1 .1 .0)) (List._∷_ (Row.lease (κs .1 .1 .1 .1 .1 .1 .1 .1 .0) (qs .1 .1 .1 .1 .1 .1 .1 .1 .0)) (List._∷_ Row.off List.[])))))))));
-        }
+        G15 = record { locals = T15 .locals; slots = slots·0 }
 
         abbrev G16 : Row.Cx
-        G16 = record {
-          locals = List._++_ t8 t1;
-          slots = List._∷_ (Row.lease (κs .0) (qs .0)) (List._∷_ (Row.lease (κs .1 .0) (qs .1 .0)) (List._∷_ (Row.lease (κs .1 .1 .0) (qs .1 .1 .0)) (List._∷_ (Row.lease (κs .1 .1 .1 .0) (qs .1 .1 .1 .0)) (List._∷_ (Row.lease (κs .1 .1 .1 .1 .0) (qs .1 .1 .1 .1 .0)) (List._∷_
-              (Row.lease (κs .1 .1 .1 .1 .1 .0) (qs .1 .1 .1 .1 .1 .0)) (List._∷_ (Row.lease (κs .1 .1 .1 .1 .1 .1 .0) (qs .1 .1 .1 .1 .1 .1 .0)) (List._∷_ (Row.lease (κs .1 .1 .1 .1 .1 .1 .1 .0) (qs .1 .1 .1 .1 .1 .1 .1 .0)) (List._∷_ (Row.lease (κs .1 .1 .1 .1 .1 .1 .1 .1 .0) (qs .1 .1 .1 .1 .1 .1 .1 .1 .0)) (List._∷_ Row.off List.[])))))))));
-        }
-
-        abbrev G17 : Row.Cx
-        G17 = record {
-          locals = List._++_ t7 t1;
-          slots = List._∷_ (Row.lease (κs .0) (qs .0)) (List._∷_ (Row.lease (κs .1 .0) (qs .1 .0)) (List._∷_ (Row.lease (κs .1 .1 .0) (qs .1 .1 .0)) (List._∷_ (Row.lease (κs .1 .1 .1 .0) (qs .1 .1 .1 .0)) (List._∷_ (Row.lease (κs .1 .1 .1 .1 .0) (qs .1 .1 .1 .1 .0)) (List._∷_
-              (Row.lease (κs .1 .1 .1 .1 .1 .0) (qs .1 .1 .1 .1 .1 .0)) (List._∷_ (Row.lease (κs .1 .1 .1 .1 .1 .1 .0) (qs .1 .1 .1 .1 .1 .1 .0)) (List._∷_ (Row.lease (κs .1 .1 .1 .1 .1 .1 .1 .0) (qs .1 .1 .1 .1 .1 .1 .1 .0)) (List._∷_ (Row.lease (κs .1 .1 .1 .1 .1 .1 .1 .1 .0) (qs .1 .1 .1 .1 .1 .1 .1 .1 .0)) (List._∷_ Row.off List.[])))))))));
-        }
-
-        abbrev G18 : Row.Cx
-        G18 = record {
-          locals = List._++_ t5 t1;
-          slots = List._∷_ (Row.lease (κs .0) (qs .0)) (List._∷_ (Row.lease (κs .1 .0) (qs .1 .0)) (List._∷_ (Row.lease (κs .1 .1 .0) (qs .1 .1 .0)) (List._∷_ (Row.lease (κs .1 .1 .1 .0) (qs .1 .1 .1 .0)) (List._∷_ (Row.lease (κs .1 .1 .1 .1 .0) (qs .1 .1 .1 .1 .0)) (List._∷_
-              (Row.lease (κs .1 .1 .1 .1 .1 .0) (qs .1 .1 .1 .1 .1 .0)) (List._∷_ (Row.lease (κs .1 .1 .1 .1 .1 .1 .0) (qs .1 .1 .1 .1 .1 .1 .0)) (List._∷_ (Row.lease (κs .1 .1 .1 .1 .1 .1 .1 .0) (qs .1 .1 .1 .1 .1 .1 .1 .0)) (List._∷_ (Row.lease (κs .1 .1 .1 .1 .1 .1 .1 .1 .0) (qs .1 .1 .1 .1 .1 .1 .1 .1 .0)) (List._∷_ Row.off List.[])))))))));
-        }
+        G16 = record { locals = T16 .locals; slots = slots·0 }
 
         abbrev G19 : Row.Cx
-        G19 = record {
-          locals = List._++_ t7 t1;
-          slots = List._∷_ (Row.lease (κs .0) (qs .0)) (List._∷_ (Row.lease (κs .1 .0) (qs .1 .0)) (List._∷_ (Row.lease (κs .1 .1 .0) (qs .1 .1 .0)) (List._∷_ (Row.lease (κs .1 .1 .1 .0) (qs .1 .1 .1 .0)) (List._∷_ (Row.lease (κs .1 .1 .1 .1 .0) (qs .1 .1 .1 .1 .0)) (List._∷_
-              (Row.lease (κs .1 .1 .1 .1 .1 .0) (qs .1 .1 .1 .1 .1 .0)) (List._∷_ (Row.lease (κs .1 .1 .1 .1 .1 .1 .0) (qs .1 .1 .1 .1 .1 .1 .0)) (List._∷_ (Row.lease (κs .1 .1 .1 .1 .1 .1 .1 .0) (qs .1 .1 .1 .1 .1 .1 .1 .0)) (List._∷_ (Row.lease (κs .1 .1 .1 .1 .1 .1 .1 .1 .0) (qs .1 .1 .1 .1 .1 .1 .1 .1 .0)) (List._∷_ Row.alive List.[])))))))));
-        }
+        G19 = record
+            { locals = T15 .locals; slots = List._∷_ (Row.lease (κs .0) (qs .0)) (List._∷_ (Row.lease (κs .1 .0) (qs .1 .0)) (List._∷_ (Row.lease (κs .1 .1 .0) (qs .1 .1 .0)) (List._∷_ (Row.lease (κs .1 .1 .1 .0) (qs .1 .1 .1 .0)) (List._∷_ (Row.lease (κs .1 .1 .1 .1 .0) (qs .1 .1 .1 .1 .0)) (List._∷_ (Row.lease (κs .1 .1 .1 .1 .1 .0) (qs .1 .1 .1 .1 .1 .0)) (List._∷_ (Row.lease (κs .1 .1 .1 .1 .1 .1 .0) (qs .1 .1 .1 .1 .1 .1 .0)) (List._∷_ (Row.lease (κs .1 .1 .1 .1 .1 .1 .1 .0) (qs .1 .1 .1 .1 .1 .1 .1 .0)) (List._∷_ (Row.lease (κs .1 .1 .1 .1 .1 .1 .1 .1 .0) (qs .1 .1 .1 .1 .1 .1 .1 .1 .0)) (List._∷_ Row.alive List.[]))))))))) }
 
         abbrev G20 : Row.Cx
-        G20 = record {
-          locals = List._++_ g9 t1;
-          slots = List._∷_ (Row.lease (κs .0) (qs .0)) (List._∷_ (Row.lease (κs .1 .0) (qs .1 .0)) (List._∷_ (Row.lease (κs .1 .1 .0) (qs .1 .1 .0)) (List._∷_ (Row.lease (κs .1 .1 .1 .0) (qs .1 .1 .1 .0)) (List._∷_ (Row.lease (κs .1 .1 .1 .1 .0) (qs .1 .1 .1 .1 .0)) (List._∷_
-              (Row.lease (κs .1 .1 .1 .1 .1 .0) (qs .1 .1 .1 .1 .1 .0)) (List._∷_ (Row.lease (κs .1 .1 .1 .1 .1 .1 .0) (qs .1 .1 .1 .1 .1 .1 .0)) (List._∷_ Row.off (List._∷_ (Row.lease (κs .1 .1 .1 .1 .1 .1 .1 .1 .0) (qs .1 .1 .1 .1 .1 .1 .1 .1 .0)) (List._∷_ Row.alive List.[])))))))));
-        }
+        G20 = record { locals = List._++_ g9 t1; slots = slots·1 }
 
         abbrev G21 : Row.Cx
-        G21 = record {
-          locals = List._++_ g10 t11;
-          slots = List._∷_ (Row.lease (κs .0) (qs .0)) (List._∷_ (Row.lease (κs .1 .0) (qs .1 .0)) (List._∷_ (Row.lease (κs .1 .1 .0) (qs .1 .1 .0)) (List._∷_ (Row.lease (κs .1 .1 .1 .0) (qs .1 .1 .1 .0)) (List._∷_ (Row.lease (κs .1 .1 .1 .1 .0) (qs .1 .1 .1 .1 .0)) (List._∷_
-              (Row.lease (κs .1 .1 .1 .1 .1 .0) (qs .1 .1 .1 .1 .1 .0)) (List._∷_ (Row.lease (κs .1 .1 .1 .1 .1 .1 .0) (qs .1 .1 .1 .1 .1 .1 .0)) (List._∷_ Row.off (List._∷_ (Row.lease (κs .1 .1 .1 .1 .1 .1 .1 .1 .0) (qs .1 .1 .1 .1 .1 .1 .1 .1 .0)) (List._∷_ Row.alive List.[])))))))));
-        }
+        G21 = record { locals = List._++_ g10 t11; slots = slots·1 }
 
         abbrev G22 : Row.Cx
-        G22 = record {
-          locals = List._++_ g12 t13;
-          slots = List._∷_ (Row.lease (κs .0) (qs .0)) (List._∷_ (Row.lease (κs .1 .0) (qs .1 .0)) (List._∷_ (Row.lease (κs .1 .1 .0) (qs .1 .1 .0)) (List._∷_ (Row.lease (κs .1 .1 .1 .0) (qs .1 .1 .1 .0)) (List._∷_ (Row.lease (κs .1 .1 .1 .1 .0) (qs .1 .1 .1 .1 .0)) (List._∷_
-              (Row.lease (κs .1 .1 .1 .1 .1 .0) (qs .1 .1 .1 .1 .1 .0)) (List._∷_ (Row.lease (κs .1 .1 .1 .1 .1 .1 .0) (qs .1 .1 .1 .1 .1 .1 .0)) (List._∷_ Row.off (List._∷_ (Row.lease (κs .1 .1 .1 .1 .1 .1 .1 .1 .0) (qs .1 .1 .1 .1 .1 .1 .1 .1 .0)) (List._∷_ Row.alive List.[])))))))));
-        }
+        G22 = record { locals = List._++_ g12 t13; slots = slots·1 }
 
         abbrev G23 : Row.Cx
-        G23 = record {
-          locals = List._++_ g12 t13;
-          slots = List._∷_ (Row.lease (κs .0) (qs .0)) (List._∷_ (Row.lease (κs .1 .0) (qs .1 .0)) (List._∷_ (Row.lease (κs .1 .1 .0) (qs .1 .1 .0)) (List._∷_ (Row.lease (κs .1 .1 .1 .0) (qs .1 .1 .1 .0)) (List._∷_ (Row.lease (κs .1 .1 .1 .1 .0) (qs .1 .1 .1 .1 .0)) (List._∷_
-              (Row.lease (κs .1 .1 .1 .1 .1 .0) (qs .1 .1 .1 .1 .1 .0)) (List._∷_ (Row.lease (κs .1 .1 .1 .1 .1 .1 .0) (qs .1 .1 .1 .1 .1 .1 .0)) (List._∷_ Row.off (List._∷_ (Row.lease (κs .1 .1 .1 .1 .1 .1 .1 .1 .0) (qs .1 .1 .1 .1 .1 .1 .1 .1 .0)) (List._∷_ Row.dead List.[])))))))));
-        }
+        G23 = record
+            { locals = List._++_ g12 t13; slots = List._∷_ (Row.lease (κs .0) (qs .0)) (List._∷_ (Row.lease (κs .1 .0) (qs .1 .0)) (List._∷_ (Row.lease (κs .1 .1 .0) (qs .1 .1 .0)) (List._∷_ (Row.lease (κs .1 .1 .1 .0) (qs .1 .1 .1 .0)) (List._∷_ (Row.lease (κs .1 .1 .1 .1 .0) (qs .1 .1 .1 .1 .0)) (List._∷_ (Row.lease (κs .1 .1 .1 .1 .1 .0) (qs .1 .1 .1 .1 .1 .0)) (List._∷_ (Row.lease (κs .1 .1 .1 .1 .1 .1 .0) (qs .1 .1 .1 .1 .1 .1 .0)) (List._∷_ Row.off (List._∷_ (Row.lease (κs .1 .1 .1 .1 .1 .1 .1 .1 .0) (qs .1 .1 .1 .1 .1 .1 .1 .1 .0)) (List._∷_ Row.dead List.[]))))))))) }
 
         abbrev G24 : Row.Cx
-        G24 = record {
-          locals = List._++_ t14 t1;
-          slots = List._∷_ (Row.lease (κs .0) (qs .0)) (List._∷_ (Row.lease (κs .1 .0) (qs .1 .0)) (List._∷_ (Row.lease (κs .1 .1 .0) (qs .1 .1 .0)) (List._∷_ (Row.lease (κs .1 .1 .1 .0) (qs .1 .1 .1 .0)) (List._∷_ (Row.lease (κs .1 .1 .1 .1 .0) (qs .1 .1 .1 .1 .0)) (List._∷_
-              (Row.lease (κs .1 .1 .1 .1 .1 .0) (qs .1 .1 .1 .1 .1 .0)) (List._∷_ (Row.lease (κs .1 .1 .1 .1 .1 .1 .0) (qs .1 .1 .1 .1 .1 .1 .0)) (List._∷_ (Row.lease (κs .1 .1 .1 .1 .1 .1 .1 .0) (qs .1 .1 .1 .1 .1 .1 .1 .0)) (List._∷_ (Row.lease (κs .1 .1 .1 .1 .1 .1 .1 .1 .0) (qs .1 .1 .1 .1 .1 .1 .1 .1 .0)) (List._∷_ Row.dead List.[])))))))));
-        }
-
-        abbrev G25 : Row.Cx
-        G25 = record {
-          locals = List._++_ t14 t1;
-          slots = List._∷_ (Row.lease (κs .0) (qs .0)) (List._∷_ (Row.lease (κs .1 .0) (qs .1 .0)) (List._∷_ (Row.lease (κs .1 .1 .0) (qs .1 .1 .0)) (List._∷_ (Row.lease (κs .1 .1 .1 .0) (qs .1 .1 .1 .0)) (List._∷_ (Row.lease (κs .1 .1 .1 .1 .0) (qs .1 .1 .1 .1 .0)) (List._∷_
-              (Row.lease (κs .1 .1 .1 .1 .1 .0) (qs .1 .1 .1 .1 .1 .0)) (List._∷_ (Row.lease (κs .1 .1 .1 .1 .1 .1 .0) (qs .1 .1 .1 .1 .1 .1 .0)) (List._∷_ (Row.lease (κs .1 .1 .1 .1 .1 .1 .1 .0) (qs .1 .1 .1 .1 .1 .1 .1 .0)) (List._∷_ (Row.lease (κs .1 .1 .1 .1 .1 .1 .1 .1 .0) (qs .1 .1 .1 .1 .1 .1 .1 .1 .0)) (List._∷_ Row.dead List.[])))))))));
-        }
+        G24 = record { locals = T24 .locals; slots = slots·2 }
 
         abbrev G26 : Row.Cx
-        G26 = record {
-          locals = List._++_ t14 t1;
-          slots = List._∷_ (Row.lease (κs .0) (qs .0)) (List._∷_ (Row.lease (κs .1 .0) (qs .1 .0)) (List._∷_ (Row.lease (κs .1 .1 .0) (qs .1 .1 .0)) (List._∷_ (Row.lease (κs .1 .1 .1 .0) (qs .1 .1 .1 .0)) (List._∷_ (Row.lease (κs .1 .1 .1 .1 .0) (qs .1 .1 .1 .1 .0)) (List._∷_
-              (Row.lease (κs .1 .1 .1 .1 .1 .0) (qs .1 .1 .1 .1 .1 .0)) (List._∷_ (Row.lease (κs .1 .1 .1 .1 .1 .1 .0) (qs .1 .1 .1 .1 .1 .1 .0)) (List._∷_ (Row.lease (κs .1 .1 .1 .1 .1 .1 .1 .0) (qs .1 .1 .1 .1 .1 .1 .1 .0)) (List._∷_ (Row.lease (κs .1 .1 .1 .1 .1 .1 .1 .1 .0) (qs .1 .1 .1 .1 .1 .1 .1 .1 .0)) (List._∷_ Row.off List.[])))))))));
-        }
-
-        abbrev G27 : Row.Cx
-        G27 = record {
-          locals = List._++_ t14 t1;
-          slots = List._∷_ (Row.lease (κs .0) (qs .0)) (List._∷_ (Row.lease (κs .1 .0) (qs .1 .0)) (List._∷_ (Row.lease (κs .1 .1 .0) (qs .1 .1 .0)) (List._∷_ (Row.lease (κs .1 .1 .1 .0) (qs .1 .1 .1 .0)) (List._∷_ (Row.lease (κs .1 .1 .1 .1 .0) (qs .1 .1 .1 .1 .0)) (List._∷_
-              (Row.lease (κs .1 .1 .1 .1 .1 .0) (qs .1 .1 .1 .1 .1 .0)) (List._∷_ (Row.lease (κs .1 .1 .1 .1 .1 .1 .0) (qs .1 .1 .1 .1 .1 .1 .0)) (List._∷_ (Row.lease (κs .1 .1 .1 .1 .1 .1 .1 .0) (qs .1 .1 .1 .1 .1 .1 .1 .0)) (List._∷_ (Row.lease (κs .1 .1 .1 .1 .1 .1 .1 .1 .0) (qs .1 .1 .1 .1 .1 .1 .1 .1 .0)) (List._∷_ Row.off List.[])))))))));
-        }
+        G26 = record { locals = T24 .locals; slots = slots·0 }
 
         abbrev G28 : Row.Cx
-        G28 = record {
-          locals = List._++_ t15 t1;
-          slots = List._∷_ (Row.lease (κs .0) (qs .0)) (List._∷_ (Row.lease (κs .1 .0) (qs .1 .0)) (List._∷_ (Row.lease (κs .1 .1 .0) (qs .1 .1 .0)) (List._∷_ (Row.lease (κs .1 .1 .1 .0) (qs .1 .1 .1 .0)) (List._∷_ (Row.lease (κs .1 .1 .1 .1 .0) (qs .1 .1 .1 .1 .0)) (List._∷_
-              (Row.lease (κs .1 .1 .1 .1 .1 .0) (qs .1 .1 .1 .1 .1 .0)) (List._∷_ (Row.lease (κs .1 .1 .1 .1 .1 .1 .0) (qs .1 .1 .1 .1 .1 .1 .0)) (List._∷_ (Row.lease (κs .1 .1 .1 .1 .1 .1 .1 .0) (qs .1 .1 .1 .1 .1 .1 .1 .0)) (List._∷_ (Row.lease (κs .1 .1 .1 .1 .1 .1 .1 .1 .0) (qs .1 .1 .1 .1 .1 .1 .1 .1 .0)) (List._∷_ Row.off List.[])))))))));
-        }
+        G28 = record { locals = T28 .locals; slots = slots·0 }
 
         abbrev G29 : Row.Cx
-        G29 = record {
-          locals = List._++_ t5 t1;
-          slots = List._∷_ (Row.lease (κs .0) (qs .0)) (List._∷_ (Row.lease (κs .1 .0) (qs .1 .0)) (List._∷_ (Row.lease (κs .1 .1 .0) (qs .1 .1 .0)) (List._∷_ (Row.lease (κs .1 .1 .1 .0) (qs .1 .1 .1 .0)) (List._∷_ (Row.lease (κs .1 .1 .1 .1 .0) (qs .1 .1 .1 .1 .0)) (List._∷_
-              (Row.lease (κs .1 .1 .1 .1 .1 .0) (qs .1 .1 .1 .1 .1 .0)) (List._∷_ (Row.lease (κs .1 .1 .1 .1 .1 .1 .0) (qs .1 .1 .1 .1 .1 .1 .0)) (List._∷_ (Row.lease (κs .1 .1 .1 .1 .1 .1 .1 .0) (qs .1 .1 .1 .1 .1 .1 .1 .0)) (List._∷_ (Row.lease (κs .1 .1 .1 .1 .1 .1 .1 .1 .0) (qs .1 .1 .1 .1 .1 .1 .1 .1 .0)) (List._∷_ Row.off List.[])))))))));
-        }
+        G29 = record { locals = T29 .locals; slots = slots·0 }
 
         abbrev G30 : Row.Cx
-        G30 = record {
-          locals = List._++_ t5 t1;
-          slots = List._∷_ (Row.lease (κs .0) (qs .0)) (List._∷_ (Row.lease (κs .1 .0) (qs .1 .0)) (List._∷_ (Row.lease (κs .1 .1 .0) (qs .1 .1 .0)) (List._∷_ (Row.lease (κs .1 .1 .1 .0) (qs .1 .1 .1 .0)) (List._∷_ (Row.lease (κs .1 .1 .1 .1 .0) (qs .1 .1 .1 .1 .0)) (List._∷_
-              (Row.lease (κs .1 .1 .1 .1 .1 .0) (qs .1 .1 .1 .1 .1 .0)) (List._∷_ (Row.lease (κs .1 .1 .1 .1 .1 .1 .0) (qs .1 .1 .1 .1 .1 .1 .0)) (List._∷_ (Row.lease (κs .1 .1 .1 .1 .1 .1 .1 .0) (qs .1 .1 .1 .1 .1 .1 .1 .0)) (List._∷_ (Row.lease (κs .1 .1 .1 .1 .1 .1 .1 .1 .0) (qs .1 .1 .1 .1 .1 .1 .1 .1 .0)) (List._∷_ Row.off List.[])))))))));
-        }
-
-        abbrev G31 : Row.Cx
-        G31 = record {
-          locals = List._++_ t16 t1;
-          slots = List._∷_ (Row.lease (κs .0) (qs .0)) (List._∷_ (Row.lease (κs .1 .0) (qs .1 .0)) (List._∷_ (Row.lease (κs .1 .1 .0) (qs .1 .1 .0)) (List._∷_ (Row.lease (κs .1 .1 .1 .0) (qs .1 .1 .1 .0)) (List._∷_ (Row.lease (κs .1 .1 .1 .1 .0) (qs .1 .1 .1 .1 .0)) (List._∷_
-              (Row.lease (κs .1 .1 .1 .1 .1 .0) (qs .1 .1 .1 .1 .1 .0)) (List._∷_ (Row.lease (κs .1 .1 .1 .1 .1 .1 .0) (qs .1 .1 .1 .1 .1 .1 .0)) (List._∷_ (Row.lease (κs .1 .1 .1 .1 .1 .1 .1 .0) (qs .1 .1 .1 .1 .1 .1 .1 .0)) (List._∷_ (Row.lease (κs .1 .1 .1 .1 .1 .1 .1 .1 .0) (qs .1 .1 .1 .1 .1 .1 .1 .1 .0)) (List._∷_ Row.off List.[])))))))));
-        }
+        G30 = record { locals = T30 .locals; slots = slots·0 }
 
         abbrev G32 : Row.Cx
-        G32 = record {
-          locals = List._++_ t17 t1;
-          slots = List._∷_ (Row.lease (κs .0) (qs .0)) (List._∷_ (Row.lease (κs .1 .0) (qs .1 .0)) (List._∷_ (Row.lease (κs .1 .1 .0) (qs .1 .1 .0)) (List._∷_ (Row.lease (κs .1 .1 .1 .0) (qs .1 .1 .1 .0)) (List._∷_ (Row.lease (κs .1 .1 .1 .1 .0) (qs .1 .1 .1 .1 .0)) (List._∷_
-              (Row.lease (κs .1 .1 .1 .1 .1 .0) (qs .1 .1 .1 .1 .1 .0)) (List._∷_ (Row.lease (κs .1 .1 .1 .1 .1 .1 .0) (qs .1 .1 .1 .1 .1 .1 .0)) (List._∷_ (Row.lease (κs .1 .1 .1 .1 .1 .1 .1 .0) (qs .1 .1 .1 .1 .1 .1 .1 .0)) (List._∷_ (Row.lease (κs .1 .1 .1 .1 .1 .1 .1 .1 .0) (qs .1 .1 .1 .1 .1 .1 .1 .1 .0)) (List._∷_ Row.off List.[])))))))));
-        }
-
-        abbrev G33 : Row.Cx
-        G33 = record {
-          locals = List._++_ t18 t1;
-          slots = List._∷_ (Row.lease (κs .0) (qs .0)) (List._∷_ (Row.lease (κs .1 .0) (qs .1 .0)) (List._∷_ (Row.lease (κs .1 .1 .0) (qs .1 .1 .0)) (List._∷_ (Row.lease (κs .1 .1 .1 .0) (qs .1 .1 .1 .0)) (List._∷_ (Row.lease (κs .1 .1 .1 .1 .0) (qs .1 .1 .1 .1 .0)) (List._∷_
-              (Row.lease (κs .1 .1 .1 .1 .1 .0) (qs .1 .1 .1 .1 .1 .0)) (List._∷_ (Row.lease (κs .1 .1 .1 .1 .1 .1 .0) (qs .1 .1 .1 .1 .1 .1 .0)) (List._∷_ (Row.lease (κs .1 .1 .1 .1 .1 .1 .1 .0) (qs .1 .1 .1 .1 .1 .1 .1 .0)) (List._∷_ (Row.lease (κs .1 .1 .1 .1 .1 .1 .1 .1 .0) (qs .1 .1 .1 .1 .1 .1 .1 .1 .0)) (List._∷_ Row.off List.[])))))))));
-        }
+        G32 = record { locals = T32 .locals; slots = slots·0 }
 
         abbrev G34 : Row.Cx
-        G34 = record {
-          locals = List._++_ t2 t1;
-          slots = List._∷_ (Row.lease (κs .0) (qs .0)) (List._∷_ (Row.lease (κs .1 .0) (qs .1 .0)) (List._∷_ (Row.lease (κs .1 .1 .0) (qs .1 .1 .0)) (List._∷_ (Row.lease (κs .1 .1 .1 .0) (qs .1 .1 .1 .0)) (List._∷_ (Row.lease (κs .1 .1 .1 .1 .0) (qs .1 .1 .1 .1 .0)) (List._∷_
-              (Row.lease (κs .1 .1 .1 .1 .1 .0) (qs .1 .1 .1 .1 .1 .0)) (List._∷_ (Row.lease (κs .1 .1 .1 .1 .1 .1 .0) (qs .1 .1 .1 .1 .1 .1 .0)) (List._∷_ (Row.lease (κs .1 .1 .1 .1 .1 .1 .1 .0) (qs .1 .1 .1 .1 .1 .1 .1 .0)) (List._∷_ (Row.lease (κs .1 .1 .1 .1 .1 .1 .1 .1 .0) (qs .1 .1 .1 .1 .1 .1 .1 .1 .0)) (List._∷_ Row.off List.[])))))))));
-        }
+        G34 = record { locals = T34 .locals; slots = slots·0 }
+
+        abbrev G35 : Row.Cx
+        G35 = record { locals = T35 .locals; slots = slots·0 }
+
+        abbrev G36 : Row.Cx
+        G36 = record { locals = T36 .locals; slots = slots·0 }
 
         abbrev Δ0 : Typed.Outs
         Δ0 = record { next = Option.none; exits = List.[]; returns = Option.some G1 }
 
         abbrev Δ1 : Typed.Outs
-        Δ1 = Typed.withNext (Option.some G13) Δ0
+        Δ1 = Typed.withNext (Option.some G12) Δ0
 
         abbrev Δ2 : Typed.Outs
         Δ2 = Typed.inBlock₀ Δ1
@@ -1222,244 +797,97 @@ module _ (claims· : Claims) where
           abbrev E : Wp.Env 𝓤 H
           E = Frame.EnvOf 𝓤 H (List._∷_ (Kinds.tyR r) (Enter.tysP ps xs)) bs
 
-          d0 : Typed.Typed 𝓤 H A 𝓣 E G17 b4 Δ4 at0
+          d0 : Typed.Typed 𝓤 H A 𝓣 E G15 b4 Δ4 at0
           d0 = Typed.t-skip 𝓤 H A W 𝓣 E Δ4 tt
 
-          d1 : Typed.Typed 𝓤 H A 𝓣 E G16 b4 Δ4 at1
-          d1 = Typed.g-pre 𝓤 H A W 𝓣 E G16 G17 b4 Δ4 (Typed.pass T16 T17 s13) at0 (Scalar.g-room 𝓤 H A W E G16 14 Syntax.tyBool (Scalar.room-sc 𝓤 H A W Row.sBool)) d0
-
-          d2 : Typed.Typed 𝓤 H A 𝓣 E G14 b4 Δ4 at2
-          d2 = Typed.g-pre 𝓤 H A W 𝓣 E G14 G16 b4 Δ4 (Typed.pass T14 T16 s12) at1 (Scalar.g-room 𝓤 H A W E G14 11 (Syntax.tyInt Syntax.w8) (Scalar.room-sc 𝓤 H A W (Row.sInt Syntax.w8))) d1
-
-          d3 : Typed.Typed 𝓤 H A 𝓣 E G18 b5 Δ4 at3
+          d3 : Typed.Typed 𝓤 H A 𝓣 E G12 b5 Δ4 at3
           d3 = Typed.t-exit 𝓤 H A W 𝓣 E 1 Δ4 tt
 
-          d4 : Typed.Typed 𝓤 H A 𝓣 E G14 b5 Δ4 at4
-          d4 = Typed.g-pre 𝓤 H A W 𝓣 E G14 G18 b5 Δ4 (Typed.pass T14 T18 s14) at3 (Scalar.g-room 𝓤 H A W E G14 14 Syntax.tyBool (Scalar.room-sc 𝓤 H A W Row.sBool)) d3
-
           d5 : Typed.Typed 𝓤 H A 𝓣 E G14 b6 Δ4 at5
-          d5 = Scalar.t-cond 𝓤 H A W E 𝓣 G14 14 (λ x. x) b4 b5 Δ4 at2 at4 (Scalar.reads-sc 𝓤 H A W Row.sBool) Path'.refl d2 d4
+          d5 = Scalar.t-cond 𝓤 H A W E 𝓣 G14 14 (λ x. x) b4 b5 Δ4 at2 at4 (Scalar.reads-sc 𝓤 H A W Row.sBool) Path'.refl (Typed.g-pre 𝓤 H A W 𝓣 E G14 G16 b4 Δ4 (Typed.pass T14 T16 s12) at1 (Scalar.g-room 𝓤 H A W E G14 11 (Syntax.tyInt Syntax.w8) (Scalar.room-sc 𝓤 H A W (Row.sInt Syntax.w8))) (Typed.g-pre 𝓤 H A W 𝓣 E G16 G15 b4 Δ4 (Typed.pass T16 T15 s13) at0
+              (Scalar.g-room 𝓤 H A W E G16 14 Syntax.tyBool (Scalar.room-sc 𝓤 H A W Row.sBool)) d0)) (Typed.g-pre 𝓤 H A W 𝓣 E G14 G12 b5 Δ4 (Typed.pass T14 T12 s14) at3 (Scalar.g-room 𝓤 H A W E G14 14 Syntax.tyBool (Scalar.room-sc 𝓤 H A W Row.sBool)) d3)
 
-          d6 : Typed.Typed 𝓤 H A 𝓣 E G29 b12 Δ3 at6
-          d6 = Typed.s-typed 𝓤 H A W 𝓣 E G29 b12 Δ3 (Typed.ask s26) tt (Scalar.t-op2 𝓤 H A W E 𝓣 G29 (Syntax.add Syntax.unsigned) (Scalar.oAt 12 (Syntax.tyInt Syntax.w64) (Row.valS (Row.sInt Syntax.w64))) (Scalar.oInt Syntax.w64 1) 12 (Rows.sc-here (Row.sInt Syntax.w64)) (Syntax.tyInt Syntax.w64) (Row.valS (Row.sInt Syntax.w64)) (Row.sInt Syntax.w64 .of)
-              (Scalar.reads-sc 𝓤 H A W (Row.sInt Syntax.w64), Path'.refl) tt (Scalar.room-sc 𝓤 H A W (Row.sInt Syntax.w64)) (Scalar.holds-sc 𝓤 H A W (Row.sInt Syntax.w64)) Path'.refl (λ u. Path'.refl) λ u. tt)
+          d6 : Typed.Typed 𝓤 H A 𝓣 E G30 b13 Δ3 at6
+          d6 = Typed.s-typed 𝓤 H A W 𝓣 E G30 b13 Δ3 (λ Ψ. Typed.both s27 (Typed.pass T29 T32 s28 (Typed.pass T32 T12 s29 Ψ))) tt (Typed.g-post 𝓤 H A W 𝓣 E G30 G32 G12 b13 (λ Ψ. Typed.both s27 (Typed.pass T29 T32 s28 Ψ)) (Typed.pass T32 T12 s29) (Typed.g-post 𝓤 H A W 𝓣 E G30 G29 G32 b13 (Typed.both s27) (Typed.pass T29 T32 s28) (Plain.t-call-plain 𝓤 H A W 𝓣 0
+              ps·3 r·3 (claims· .6) (claims· .7) "handset::replies::next_asked" (known .3) E (λ pos β. β) G30 args·2 12 List.[] (Call.sub-id 𝓤 H A W (G30 .slots))
+              ((Scalar.reads-sc 𝓤 H A W (Row.sInt Syntax.w64), Path'.refl), ((Yields.yields-copy 𝓤 H A W (λ ρ. Unit) (Declared.row GrantReply.the-type) Path'.refl (Copies.cEnum GrantReply.the-type Laws.the-laws Laws.the-copy .copy 𝓤 H A W) (Rows.whole (Declared.row GrantReply.the-type)) (λ x. x) (λ x. x) (λ ρ told. Local.mem-whole 𝓤 H A W (Declared.row GrantReply.the-type) ρ) λ ρ told. Local.whole-mem 𝓤 H A W (Declared.row GrantReply.the-type) ρ, Path'.refl), tt))
+              (Reads.room-gone 𝓤 H A (Syntax.tyInt Syntax.w64)) tt Path'.refl) (Scalar.g-room 𝓤 H A W E G29 13 ty·11 (Local.room-whole 𝓤 H A W (Declared.row GrantReply.the-type) ty·11 Path'.refl))) (Scalar.g-room 𝓤 H A W E G32 17 (Syntax.tyInt Syntax.w64) (Scalar.room-sc 𝓤 H A W (Row.sInt Syntax.w64))))
 
-          d7 : Typed.Typed 𝓤 H A 𝓣 E G28 b12 Δ3 at7
-          d7 = Typed.g-pre 𝓤 H A W 𝓣 E G28 G29 b12 Δ3 (Typed.pass T28 T29 s25) at6 (Scalar.g-room 𝓤 H A W E G28 13 ty·11 (Local.room-whole 𝓤 H A W (Declared.row GrantReply.the-type) ty·11 Path'.refl)) d6
+          d9 : Typed.Typed 𝓤 H A 𝓣 E G26 b15 Δ3 at9
+          d9 = Typed.s-seq 𝓤 H A W 𝓣 E G26 G28 b11 b14 Δ3 (Typed.both s24) at8 (Plain.t-call-plain 𝓤 H A W 𝓣 0 ps·2 r·2 (claims· .4) (claims· .5) "handset::replies::unusable_number" (known .2) E (λ pos β. β) G26 (record { pos = 13; st = List.[]; d = 0; at = λ x. x }, tt) 11 List.[] (Call.sub-id 𝓤 H A W (G26 .slots))
+              ((Yields.yields-copy 𝓤 H A W (λ ρ. Unit) (Declared.row GrantReply.the-type) Path'.refl (Copies.cEnum GrantReply.the-type Laws.the-laws Laws.the-copy .copy 𝓤 H A W) (Rows.whole (Declared.row GrantReply.the-type)) (λ x. x) (λ x. x) (λ ρ told. Local.mem-whole 𝓤 H A W (Declared.row GrantReply.the-type) ρ) λ ρ told. Local.whole-mem 𝓤 H A W (Declared.row GrantReply.the-type) ρ, Path'.refl), tt)
+              (Reads.room-gone 𝓤 H A (Syntax.tyInt Syntax.w8)) tt Path'.refl) (Typed.s-seq 𝓤 H A W 𝓣 E G28 G29 b12 b13 Δ3 (Typed.ask s25) at7 (Scalar.t-op2 𝓤 H A W E 𝓣 G28 (Syntax.add Syntax.unsigned) (Scalar.oAt 12 (Syntax.tyInt Syntax.w64) (Row.valS (Row.sInt Syntax.w64))) (Scalar.oInt Syntax.w64 1) 17 (Rows.sc-here (Row.sInt Syntax.w64)) (Syntax.tyInt
+              Syntax.w64) (Row.valS (Row.sInt Syntax.w64)) (Row.sInt Syntax.w64 .of) (Scalar.reads-sc 𝓤 H A W (Row.sInt Syntax.w64), Path'.refl) tt (Reads.room-gone 𝓤 H A (Syntax.tyInt Syntax.w64)) (Scalar.holds-sc 𝓤 H A W (Row.sInt Syntax.w64)) Path'.refl (λ u. Path'.refl) λ u. tt) (Typed.g-pre 𝓤 H A W 𝓣 E G29 G30 b13 Δ3 (Typed.pass T29 T30 s26) at6
+              (Scalar.g-room 𝓤 H A W E G29 12 (Syntax.tyInt Syntax.w64) (Scalar.room-sc 𝓤 H A W (Row.sInt Syntax.w64))) d6))
 
-          d8 : Typed.Typed 𝓤 H A 𝓣 E G27 b13 Δ3 at8
-          d8 = Typed.s-seq 𝓤 H A W 𝓣 E G27 G28 b11 b12 Δ3 (Typed.both s24) at7 (Plain.t-call-plain 𝓤 H A W 𝓣 0 ps·2 r·2 (claims· .4) (claims· .5) "handset::replies::unusable_number" (known .2) E (λ pos β. β) G27 (record { pos = 13; st = List.[]; d = 0; at = λ x. x }, tt) 11 List.[] (Call.sub-id 𝓤 H A W (G27 .slots)) (
-            (
-              Yields.yields-copy 𝓤 H A W (λ ρ. Unit)
-                  (Declared.row GrantReply.the-type) Path'.refl (Copies.cEnum GrantReply.the-type Laws.the-laws Laws.the-copy .copy 𝓤 H A W) (Rows.whole (Declared.row GrantReply.the-type)) (λ x. x) (λ x. x) (λ ρ told. Local.mem-whole 𝓤 H A W (Declared.row GrantReply.the-type) ρ) λ ρ told. Local.whole-mem 𝓤 H A W (Declared.row GrantReply.the-type) ρ,
-              Path'.refl,
-            ),
-            tt,
-          ) (Reads.room-gone 𝓤 H A (Syntax.tyInt Syntax.w8)) tt Path'.refl) d7
+          d11 : Typed.Typed 𝓤 H A 𝓣 E G24 b16 Δ3 at10
+          d11 = Typed.g-pre 𝓤 H A W 𝓣 E G24 G26 b16 Δ3 (λ Ψ. Ψ) at10 (Lifetime.g-forget 𝓤 H A W E G24 9 Row.dead Path'.refl) (Typed.s-seq 𝓤 H A W 𝓣 E G26 G26 b10 b15 Δ3 (Typed.both s23) at9 (Plain.t-call-plain 𝓤 H A W 𝓣 0 ps·1 r·1 (claims· .2) (claims· .3) "handset::replies::with_bit" (known .1) E (λ pos β. β) G26 args·1 10 List.[] (Call.sub-id 𝓤 H A W (G26
+              .slots))
+              ((Scalar.reads-sc 𝓤 H A W (Row.sInt Syntax.w32), Path'.refl), ((Scalar.reads-sc 𝓤 H A W (Row.sInt Syntax.w64), Path'.refl), ((Yields.yields-copy 𝓤 H A W (λ ρ. Unit) (Declared.row GrantReply.the-type) Path'.refl (Copies.cEnum GrantReply.the-type Laws.the-laws Laws.the-copy .copy 𝓤 H A W) (Rows.whole (Declared.row GrantReply.the-type)) (λ x. x) (λ x. x) (λ ρ told. Local.mem-whole 𝓤 H A W (Declared.row GrantReply.the-type) ρ) λ ρ told. Local.whole-mem 𝓤 H A W (Declared.row GrantReply.the-type) ρ, Path'.refl), tt)))
+              (Scalar.room-sc 𝓤 H A W (Row.sInt Syntax.w32)) tt Path'.refl) d9)
 
-          d9 : Typed.Typed 𝓤 H A 𝓣 E G26 b14 Δ3 at9
-          d9 = Typed.s-seq 𝓤 H A W 𝓣 E G26 G27 b10 b13 Δ3 (Typed.both s23) at8 (Plain.t-call-plain 𝓤 H A W 𝓣 0 ps·1 r·1 (claims· .2) (claims· .3) "handset::replies::with_bit" (known .1) E (λ pos β. β) G26 (Num.vAt 10 λ x. x, (Num.vAt 12 λ x. x, (record { pos = 13; st = List.[]; d = 0; at = λ x. x }, tt))) 10 List.[] (Call.sub-id 𝓤 H A W (G26 .slots)) (
-            (Scalar.reads-sc 𝓤 H A W (Row.sInt Syntax.w32), Path'.refl),
-            (
-              (Scalar.reads-sc 𝓤 H A W (Row.sInt Syntax.w64), Path'.refl),
-              (
-                (
-                  Yields.yields-copy 𝓤 H A W (λ ρ. Unit) (Declared.row GrantReply.the-type) Path'.refl (Copies.cEnum GrantReply.the-type Laws.the-laws Laws.the-copy .copy 𝓤 H A W) (Rows.whole (Declared.row GrantReply.the-type)) (λ x. x)
-                      (λ x. x) (λ ρ told. Local.mem-whole 𝓤 H A W (Declared.row GrantReply.the-type) ρ) λ ρ told. Local.whole-mem 𝓤 H A W (Declared.row GrantReply.the-type) ρ,
-                  Path'.refl,
-                ),
-                tt,
-              ),
-            ),
-          ) (Scalar.room-sc 𝓤 H A W (Row.sInt Syntax.w32)) tt Path'.refl) d8
+          d14 : Typed.Typed 𝓤 H A 𝓣 E G22 b16 Δ3 at13
+          d14 = Typed.g-pre 𝓤 H A W 𝓣 E G22 G23 b16 Δ3 (λ Ψ. Ψ) at13 (Lifetime.g-end 𝓤 H A W E G22 9 Path'.refl) (Typed.g-pre 𝓤 H A W 𝓣 E G23 G24 b16 Δ3 (Typed.both s20) at12 (Relend.g-back-sl 𝓤 H A W E (Referent.rtF (Referent.fInt Syntax.w8)) G23 16 8 7 9 ty·3 ty·1 (Row.lease (κs .1 .1 .1 .1 .1 .1 .1 .0) (qs .1 .1 .1 .1 .1 .1 .1 .0)) (λ x. x) (λ x. x)
+              (Reads.as-is 𝓤 H A (Mut.msleft (Referent.rtF (Referent.fInt Syntax.w8)) ty·1)) (Reads.as-is 𝓤 H A (Relend.mslice-owed (Referent.rtF (Referent.fInt Syntax.w8)) ty·3 7 9 (Row.lease (κs .1 .1 .1 .1 .1 .1 .1 .0) (qs .1 .1 .1 .1 .1 .1 .1 .0)))) Path'.refl Path'.refl) (Typed.g-pre 𝓤 H A W 𝓣 E G24 G24 b16 Δ3 (Typed.give s21) at10 (Know.g-sl-known 𝓤 H A W
+              (Referent.fInt Syntax.w8) E G24 8 7 ty·3 (Row.lease (κs .1 .1 .1 .1 .1 .1 .1 .0) (qs .1 .1 .1 .1 .1 .1 .1 .0)) 0 (λ x. x) record { fits = Dec'.lit< tt } (Reads.as-is 𝓤 H A (Mut.mslice (Referent.rtF (Referent.fInt Syntax.w8)) ty·3 7)) Path'.refl tt) d11))
 
-          d10 : Typed.Typed 𝓤 H A 𝓣 E G25 b14 Δ3 at10
-          d10 = Typed.g-pre 𝓤 H A W 𝓣 E G25 G26 b14 Δ3 (λ Ψ. Ψ) at9 (Lifetime.g-forget 𝓤 H A W E G25 9 Row.dead Path'.refl) d9
+          d15 : Typed.Typed 𝓤 H A 𝓣 E G21 b17 Δ3 at15
+          d15 = Typed.s-seq 𝓤 H A W 𝓣 E G21 G22 b9 b16 Δ3 (Typed.both s18) at13 (Plain.t-call-plain 𝓤 H A W 𝓣 9 ps·0 r·0 (claims· .0) (claims· .1) "conductor::calls::grant" (known .0) E (λ pos β. β) G21
+              (record { pos = 1; ty = ty·4; ref = λ x. x }, (record { pos = 2; ty = ty·5; ref = λ x. x }, (record { pos = 3; ty = ty·2; ref = λ x. x }, (record { pos = 4; ty = ty·6; ref = λ x. x }, (record { pos = 5; ty = ty·7; ref = λ x. x }, (record { pos = 6; ty = ty·8; ref = λ x. x }, (record { pos = 7; ty = ty·9; ref = λ x. x }, (record { pos = 16; ty = ty·1; ref = λ x. x }, (record { pos = 9; ty = ty·0; ref = λ x. x }, (Num.vAt 12 λ x. x, tt))))))))))
+              13 (List._∷_ 0 (List._∷_ 1 (List._∷_ 2 (List._∷_ 3 (List._∷_ 4 (List._∷_ 5 (List._∷_ 6 (List._∷_ 9 (List._∷_ 8 List.[]))))))))) (Call.sub-id 𝓤 H A W (G21 .slots))
+              (ShrSlice.spares-sslice 𝓤 H A W (Referent.rtF (Referent.fInt Syntax.w16)) ty·4 0, Shared.reads-sslice 𝓤 H A W (Referent.rtF (Referent.fInt Syntax.w16)) ty·4 0, Path'.refl, (ShrSlice.spares-sslice 𝓤 H A W (Referent.rtF (Referent.fInt Syntax.w16)) ty·5 1, Shared.reads-sslice 𝓤 H A W (Referent.rtF (Referent.fInt Syntax.w16)) ty·5 1, Path'.refl, (ShrSlice.spares-sslice 𝓤 H A W (Referent.rtF (Referent.fInt Syntax.w8)) ty·2 2, Shared.reads-sslice 𝓤 H A W (Referent.rtF (Referent.fInt Syntax.w8)) ty·2 2, Path'.refl, (ShrSlice.spares-sslice 𝓤 H A W (Referent.rtF (Referent.fInt Syntax.w16)) ty·6 3, Shared.reads-sslice 𝓤 H A W (Referent.rtF (Referent.fInt Syntax.w16)) ty·6 3, Path'.refl, (ShrSlice.spares-sslice 𝓤 H A W (Referent.rtF (Referent.fInt Syntax.w16)) ty·7 4, Shared.reads-sslice 𝓤 H A W (Referent.rtF (Referent.fInt Syntax.w16)) ty·7 4, Path'.refl, (ShrSlice.spares-sslice 𝓤 H A W (Referent.rtF (Referent.fInt Syntax.w32)) ty·8 5, Shared.reads-sslice 𝓤 H A W (Referent.rtF (Referent.fInt Syntax.w32)) ty·8 5, Path'.refl, (ShrSlice.spares-sslice 𝓤 H A W (Referent.rtF (Referent.fInt Syntax.w16)) ty·9 6, Shared.reads-sslice 𝓤 H A W (Referent.rtF (Referent.fInt Syntax.w16)) ty·9 6, Path'.refl, (Reads.as-is 𝓤 H A (Mut.mslice (Referent.rtF (Referent.fInt Syntax.w8)) ty·1 9), Mut.reads-mslice 𝓤 H A W (Referent.rtF (Referent.fInt Syntax.w8)) ty·1 9, Path'.refl, (ShrSlice.spares-sslice 𝓤 H A W Rec.rt ty·0 8, Shared.reads-sslice 𝓤 H A W Rec.rt ty·0 8, Path'.refl, ((Scalar.reads-sc 𝓤 H A W (Row.sInt Syntax.w64), Path'.refl), tt))))))))))
+              (Reads.room-gone 𝓤 H A ty·11) (tt, (tt, (tt, (tt, (tt, (tt, (tt, (tt, (tt, tt))))))))) Path'.refl) d14
 
-          d11 : Typed.Typed 𝓤 H A 𝓣 E G24 b14 Δ3 at11
-          d11 = Typed.g-pre 𝓤 H A W 𝓣 E G24 G25 b14 Δ3 (Typed.give s21) at10 (Know.g-sl-known 𝓤 H A W (Referent.fInt Syntax.w8) E G24 8 7 ty·3 (Row.lease (κs .1 .1 .1 .1 .1 .1 .1 .0) (qs .1 .1 .1 .1 .1 .1 .1 .0)) 0 (λ x. x) record { fits = Dec'.lit< tt } (Reads.as-is 𝓤 H A (Mut.mslice (Referent.rtF (Referent.fInt Syntax.w8)) ty·3 7)) Path'.refl tt) d10
+          d17 : Typed.Typed 𝓤 H A 𝓣 E G19 b19 Δ3 at17
+          d17 = Typed.s-seq 𝓤 H A W 𝓣 E G19 G20 b7 b18 Δ3 (Typed.give s16) at16 (Relend.t-sl-relend 𝓤 H A W E (Referent.rtF (Referent.fInt Syntax.w8)) 𝓣 G19 8 15 7 9 ty·3 ty·1 (Row.lease (κs .1 .1 .1 .1 .1 .1 .1 .0) (qs .1 .1 .1 .1 .1 .1 .1 .0)) 0 (λ x. x) (Reads.as-is 𝓤 H A (Mut.mslice (Referent.rtF (Referent.fInt Syntax.w8)) ty·3 7)) (Reads.room-gone 𝓤 H A
+              ty·1) Path'.refl tt Path'.refl Path'.refl Path'.refl λ b o. tt) (Typed.s-seq 𝓤 H A W 𝓣 E G20 G21 b8 b17 Δ3 (Typed.ask s17) at15 (Relend.t-sl-aggregate 𝓤 H A W E (Referent.rtF (Referent.fInt Syntax.w8)) 𝓣 (Relend.asMut (Referent.rtF (Referent.fInt Syntax.w8))) G20 15 16 9 ty·1 ty·1 (λ x. x) (Scalar.oFld 8 (List._∷_ (Syntax.field 1) List.[])
+              (Syntax.tyInt Syntax.w64) 8 λ v. Shared.lenV (v .0)) (Reads.as-is 𝓤 H A (Relend.msptr (Referent.rtF (Referent.fInt Syntax.w8)) ty·1 9)) (Reads.room-gone 𝓤 H A (Syntax.tyStruct (List._∷_ 38 (List._∷_ 91 (List._∷_ 93 List.[]))) (Syntax.tcons ty·1 (Syntax.tcons (Syntax.tyInt Syntax.w64) Syntax.tnil))))
+              (Relend.reads-owed-len 𝓤 H A W (Referent.rtF (Referent.fInt Syntax.w8)) ty·3 7 9 (Row.lease (κs .1 .1 .1 .1 .1 .1 .1 .0) (qs .1 .1 .1 .1 .1 .1 .1 .0)) 8 Path'.refl, Path'.refl) Path'.refl Path'.refl λ b o k. tt) d15)
 
-          d12 : Typed.Typed 𝓤 H A 𝓣 E G23 b14 Δ3 at12
-          d12 = Typed.g-pre 𝓤 H A W 𝓣 E G23 G24 b14 Δ3 (Typed.both s20) at11 (Relend.g-back-sl 𝓤 H A W E (Referent.rtF (Referent.fInt Syntax.w8)) G23 16 8 7 9 ty·3 ty·1 (Row.lease (κs .1 .1 .1 .1 .1 .1 .1 .0) (qs .1 .1 .1 .1 .1 .1 .1 .0)) (λ x. x) (λ x. x) (Reads.as-is 𝓤 H A (Mut.msleft (Referent.rtF (Referent.fInt Syntax.w8)) ty·1)) (Reads.as-is 𝓤 H A
-              (Relend.mslice-owed (Referent.rtF (Referent.fInt Syntax.w8)) ty·3 7 9 (Row.lease (κs .1 .1 .1 .1 .1 .1 .1 .0) (qs .1 .1 .1 .1 .1 .1 .1 .0)))) Path'.refl Path'.refl) d11
+          d19 : Typed.Typed 𝓤 H A 𝓣 E G14 b20 Δ3 at19
+          d19 = Typed.t-seq 𝓤 H A W 𝓣 E G14 G15 b6 b19 Δ3 at5 at17 d5 (Typed.g-pre 𝓤 H A W 𝓣 E G15 G19 b19 Δ3 (λ Ψ. Ψ) at17 (Lifetime.g-begin 𝓤 H A W E G15 9 (tt, (tt, (tt, (tt, (tt, (tt, (tt, (tt, (tt, (tt, (tt, (tt, (tt, (tt, (tt, (tt, (tt, (tt, tt))))))))))))))))))) d17)
 
-          d13 : Typed.Typed 𝓤 H A 𝓣 E G22 b14 Δ3 at13
-          d13 = Typed.g-pre 𝓤 H A W 𝓣 E G22 G23 b14 Δ3 (λ Ψ. Ψ) at12 (Lifetime.g-end 𝓤 H A W E G22 9 Path'.refl) d12
+          d21 : Typed.Typed 𝓤 H A 𝓣 E G12 b22 Δ2 at21
+          d21 = Typed.t-loop-by 𝓤 H A W 𝓣 E G12 b21 Δ2 put0 (λ u vs. Inv·0 (Row.get 1 (T12 .locals) u .now) (Row.get 2 (T12 .locals) u .now) (Row.get 3 (T12 .locals) u .now) (Row.get 4 (T12 .locals) u .now) (Row.get 5 (T12 .locals) u .now) (Row.get 6 (T12 .locals) u .now) (Row.get 7 (T12 .locals) u .now) (Row.get 8 (T12 .locals) u .now) (Row.get 9 (T12
+              .locals) u .now) (Row.get 10 (T12 .locals) u) (Row.get 11 (T12 .locals) u) (Row.get 12 (T12 .locals) u) (vs .0) (vs .1) (vs .2) (vs .3)) (λ u vs. μ·0 (Row.get 1 (T12 .locals) u .now) (Row.get 2 (T12 .locals) u .now) (Row.get 3 (T12 .locals) u .now) (Row.get 4 (T12 .locals) u .now) (Row.get 5 (T12 .locals) u .now) (Row.get 6 (T12 .locals) u .now)
+              (Row.get 7 (T12 .locals) u .now) (Row.get 8 (T12 .locals) u .now) (Row.get 9 (T12 .locals) u .now) (Row.get 10 (T12 .locals) u) (Row.get 11 (T12 .locals) u) (Row.get 12 (T12 .locals) u) (vs .0) (vs .1) (vs .2) (vs .3)) at20 (Typed.s-seq 𝓤 H A W 𝓣 E G12 G14 b3 b20 Δ3 (Typed.ask s11) at19 (Scalar.t-op2 𝓤 H A W E 𝓣 G12 (Syntax.lt Syntax.unsigned)
+              (Scalar.oAt 12 (Syntax.tyInt Syntax.w64) (Row.valS (Row.sInt Syntax.w64))) (Scalar.oInt Syntax.w64 32) 14 (Rows.sc-here Row.sBool) Syntax.tyBool (Row.valS Row.sBool) (Row.sBool .of) (Scalar.reads-sc 𝓤 H A W (Row.sInt Syntax.w64), Path'.refl) tt (Reads.room-gone 𝓤 H A Syntax.tyBool) (Scalar.holds-sc 𝓤 H A W Row.sBool) Path'.refl (λ u. Path'.refl) λ
+              u. tt) d19)
 
-          d14 : Typed.Typed 𝓤 H A 𝓣 E G21 b15 Δ3 at14
-          d14 = Typed.s-seq 𝓤 H A W 𝓣 E G21 G22 b9 b14 Δ3 (Typed.both s18) at13 (Plain.t-call-plain 𝓤 H A W 𝓣 9 ps·0 r·0 (claims· .0) (claims· .1) "conductor::calls::grant" (known .0) E (λ pos β. β) G21 (
-            record { pos = 1; ty = Syntax.tyRef (Syntax.named 0) Syntax.imm (Syntax.tyInt Syntax.w16); ref = λ x. x },
-            (
-              record {
-                pos = 2;
-                ty = Syntax.tyRef (Syntax.named 1) Syntax.imm (Syntax.tyInt Syntax.w16);
-                ref = λ x. x;
-              },
-              (
-                record { pos = 3; ty = Syntax.tyRef (Syntax.named 2) Syntax.imm (Syntax.tyInt Syntax.w8); ref = λ x. x },
-                (
-                  record { pos = 4; ty = Syntax.tyRef (Syntax.named 3) Syntax.imm (Syntax.tyInt Syntax.w16); ref = λ x. x },
-                  (
-                    record {
-                      pos = 5;
-                      ty = Syntax.tyRef (Syntax.named 4) Syntax.imm (Syntax.tyInt Syntax.w16);
-                      ref = λ x. x;
-                    },
-                    (
-                      record { pos = 6; ty = Syntax.tyRef (Syntax.named 5) Syntax.imm (Syntax.tyInt Syntax.w32); ref = λ x. x },
-                      (
-                        record { pos = 7; ty = Syntax.tyRef (Syntax.named 6) Syntax.imm (Syntax.tyInt Syntax.w16); ref = λ x. x },
-                        (
-                          record {
-                            pos = 16;
-                            ty = Syntax.tyRef Syntax.erased Syntax.mut (Syntax.tyInt Syntax.w8);
-                            ref = λ x. x;
-                          },
-                          (record { pos = 9; ty = Syntax.tyRef (Syntax.named 8) Syntax.imm Rec.behind; ref = λ x. x }, (Num.vAt 12 λ x. x, tt)),
-                        ),
-                      ),
-                    ),
-                  ),
-                ),
-              ),
-            ),
-          ) 13 (List._∷_ 0 (List._∷_ 1 (List._∷_ 2 (List._∷_ 3
-              (List._∷_ 4 (List._∷_ 5 (List._∷_ 6 (List._∷_ 9 (List._∷_ 8 List.[]))))))))) (Call.sub-id 𝓤 H A W (G21 .slots)) (
-                ShrSlice.spares-sslice 𝓤 H A W (Referent.rtF (Referent.fInt Syntax.w16)) ty·4 0,
-                Shared.reads-sslice 𝓤 H A W (Referent.rtF (Referent.fInt Syntax.w16)) ty·4 0,
-                Path'.refl,
-                (
-                  ShrSlice.spares-sslice 𝓤 H A W
-                      (Referent.rtF (Referent.fInt Syntax.w16)) ty·5 1,
-                  Shared.reads-sslice 𝓤 H A W (Referent.rtF (Referent.fInt Syntax.w16)) ty·5 1,
-                  Path'.refl,
-                  (
-                    ShrSlice.spares-sslice 𝓤 H A W (Referent.rtF (Referent.fInt Syntax.w8)) ty·2 2,
-                    Shared.reads-sslice 𝓤 H A W (Referent.rtF (Referent.fInt Syntax.w8)) ty·2 2,
-                    Path'.refl,
-                    (
-                      ShrSlice.spares-sslice 𝓤 H A W
-                          (Referent.rtF (Referent.fInt Syntax.w16)) ty·6 3,
-                      Shared.reads-sslice 𝓤 H A W (Referent.rtF (Referent.fInt Syntax.w16)) ty·6 3,
-                      Path'.refl,
-                      (
-                        ShrSlice.spares-sslice 𝓤 H A W (Referent.rtF (Referent.fInt Syntax.w16)) ty·7 4,
-                        Shared.reads-sslice 𝓤 H A W (Referent.rtF (Referent.fInt Syntax.w16)) ty·7 4,
-                        Path'.refl,
-                        (
-                          ShrSlice.spares-sslice 𝓤 H A W
-                              (Referent.rtF (Referent.fInt Syntax.w32)) ty·8 5,
-                          Shared.reads-sslice 𝓤 H A W (Referent.rtF (Referent.fInt Syntax.w32)) ty·8 5,
-                          Path'.refl,
-                          (
-                            ShrSlice.spares-sslice 𝓤 H A W (Referent.rtF (Referent.fInt Syntax.w16)) ty·9 6,
-                            Shared.reads-sslice 𝓤 H A W (Referent.rtF (Referent.fInt Syntax.w16)) ty·9 6,
-                            Path'.refl,
-                            (
-                              Reads.as-is 𝓤 H A (Mut.mslice
-                                  (Referent.rtF (Referent.fInt Syntax.w8)) ty·1 9),
-                              Mut.reads-mslice 𝓤 H A W (Referent.rtF (Referent.fInt Syntax.w8)) ty·1 9,
-                              Path'.refl,
-                              (ShrSlice.spares-sslice 𝓤 H A W Rec.rt ty·0 8, Shared.reads-sslice 𝓤 H A W Rec.rt ty·0 8, Path'.refl, ((Scalar.reads-sc 𝓤 H A W (Row.sInt Syntax.w64), Path'.refl), tt)),
-                            ),
-                          ),
-                        ),
-                      ),
-                    ),
-                  ),
-                ),
-              )
-              (Reads.room-gone 𝓤 H A ty·11) (tt, (tt, (tt, (tt, (tt, (tt, (tt, (tt, (tt, tt))))))))) Path'.refl) d13
+          d22 : Typed.Typed 𝓤 H A 𝓣 E G12 b23 Δ1 at22
+          d22 = Typed.t-block 𝓤 H A W 𝓣 E G12 b22 Δ1 at21 d21
 
-          d15 : Typed.Typed 𝓤 H A 𝓣 E G20 b16 Δ3 at15
-          d15 = Typed.s-seq 𝓤 H A W 𝓣 E G20 G21 b8 b15 Δ3 (Typed.ask s17) at14 (Relend.t-sl-aggregate 𝓤 H A W E (Referent.rtF (Referent.fInt Syntax.w8)) 𝓣 (Relend.asMut (Referent.rtF (Referent.fInt Syntax.w8))) G20 15 16 9 ty·1 ty·1 (λ x. x) (Scalar.oFld 8 (List._∷_ (Syntax.field 1) List.[]) (Syntax.tyInt Syntax.w64) 8 λ v. Shared.lenV (v .0)) (Reads.as-is 𝓤
-              H A (Relend.msptr (Referent.rtF (Referent.fInt Syntax.w8)) ty·1 9)) (Reads.room-gone 𝓤 H A (Syntax.tyStruct (List._∷_ 38 (List._∷_ 91 (List._∷_ 93 List.[]))) (Syntax.tcons ty·1 (Syntax.tcons (Syntax.tyInt Syntax.w64) Syntax.tnil)))) (
-                Relend.reads-owed-len 𝓤 H A W (Referent.rtF (Referent.fInt Syntax.w8)) ty·3 7 9
-                    (Row.lease (κs .1 .1 .1 .1 .1 .1 .1 .0) (qs .1 .1 .1 .1 .1 .1 .1 .0)) 8 Path'.refl,
-                Path'.refl,
-              ) Path'.refl Path'.refl λ b o k. tt) d14
+          d23 : Typed.Typed 𝓤 H A 𝓣 E G1 b25 Δ0 at23
+          d23 = Typed.t-return 𝓤 H A W 𝓣 E Δ0 tt
 
-          d16 : Typed.Typed 𝓤 H A 𝓣 E G19 b17 Δ3 at16
-          d16 = Typed.s-seq 𝓤 H A W 𝓣 E G19 G20 b7 b16 Δ3 (Typed.give s16) at15 (Relend.t-sl-relend 𝓤 H A W E (Referent.rtF (Referent.fInt Syntax.w8)) 𝓣 G19 8 15 7 9 ty·3 ty·1 (Row.lease (κs .1 .1 .1 .1 .1 .1 .1 .0) (qs .1 .1 .1 .1 .1 .1 .1 .0)) 0 (λ x. x) (Reads.as-is 𝓤 H A (Mut.mslice (Referent.rtF (Referent.fInt Syntax.w8)) ty·3 7)) (Reads.room-gone 𝓤 H A
-              ty·1) Path'.refl tt Path'.refl Path'.refl Path'.refl λ b o. tt) d15
+          d27 : Typed.Typed 𝓤 H A 𝓣 E G12 b26 Δ0 at27
+          d27 = Typed.s-seq 𝓤 H A W 𝓣 E G12 G34 b24 b25 Δ0 (Typed.both s30) at26 (Plain.t-call-plain 𝓤 H A W 𝓣 0 ps·4 r·4 (claims· .8) (claims· .9) "handset::replies::reply_with" (known .4) E (λ pos β. β) G12 (Num.vAt 11 λ x. x, (Num.vAt 10 λ x. x, tt)) 0 List.[] (Call.sub-id 𝓤 H A W (G12 .slots))
+              ((Scalar.reads-sc 𝓤 H A W (Row.sInt Syntax.w8), Path'.refl), ((Scalar.reads-sc 𝓤 H A W (Row.sInt Syntax.w32), Path'.refl), tt)) (Reads.room-gone 𝓤 H A ty·10) tt Path'.refl) (Typed.g-pre 𝓤 H A W 𝓣 E G34 G35 b25 Δ0 (Typed.pass T34 T35 s31) at25 (Scalar.g-room 𝓤 H A W E G34 10 (Syntax.tyInt Syntax.w32) (Scalar.room-sc 𝓤 H A W (Row.sInt Syntax.w32)))
+              (Typed.g-pre 𝓤 H A W 𝓣 E G35 G36 b25 Δ0 (Typed.pass T35 T36 s32) at24 (Scalar.g-room 𝓤 H A W E G35 11 (Syntax.tyInt Syntax.w8) (Scalar.room-sc 𝓤 H A W (Row.sInt Syntax.w8))) (Typed.g-pre 𝓤 H A W 𝓣 E G36 G1 b25 Δ0 (Typed.pass T36 T1 s33) at23 (Scalar.g-room 𝓤 H A W E G36 12 (Syntax.tyInt Syntax.w64) (Scalar.room-sc 𝓤 H A W (Row.sInt Syntax.w64)))
+              d23)))
 
-          d17 : Typed.Typed 𝓤 H A 𝓣 E G15 b17 Δ3 at17
-          d17 = Typed.g-pre 𝓤 H A W 𝓣 E G15 G19 b17 Δ3 (λ Ψ. Ψ) at16 (Lifetime.g-begin 𝓤 H A W E G15 9 (tt, (tt, (tt, (tt, (tt, (tt, (tt, (tt, (tt, (tt, (tt, (tt, (tt, (tt, (tt, (tt, (tt, tt)))))))))))))))))) d16
+          d28 : Typed.Typed 𝓤 H A 𝓣 E G12 b27 Δ0 at28
+          d28 = Typed.t-seq 𝓤 H A W 𝓣 E G12 G12 b23 b26 Δ0 at22 at27 d22 d27
 
-          d18 : Typed.Typed 𝓤 H A 𝓣 E G14 b18 Δ3 at18
-          d18 = Typed.t-seq 𝓤 H A W 𝓣 E G14 G15 b6 b17 Δ3 at5 at17 d5 d17
+          d31 : Typed.Typed 𝓤 H A 𝓣 E G0 b30 Δ0 at31
+          d31 = Typed.s-seq 𝓤 H A W 𝓣 E G0 G10 b0 b29 Δ0 (Typed.pass T0 T10 s8) at30 (Scalar.t-use 𝓤 H A W E 𝓣 G0 (Scalar.oInt Syntax.w32 0) 10 (Rows.sc-here (Row.sInt Syntax.w32)) (Syntax.tyInt Syntax.w32) (Row.valS (Row.sInt Syntax.w32)) (Row.sInt Syntax.w32 .of) tt (Reads.room-gone 𝓤 H A (Syntax.tyInt Syntax.w32)) (Scalar.holds-sc 𝓤 H A W (Row.sInt
+              Syntax.w32)) Path'.refl (λ u. Path'.refl) λ u. tt) (Typed.s-seq 𝓤 H A W 𝓣 E G10 G11 b1 b28 Δ0 (Typed.pass T10 T11 s9) at29 (Scalar.t-use 𝓤 H A W E 𝓣 G10 (Scalar.oInt Syntax.w8 0) 11 (Rows.sc-here (Row.sInt Syntax.w8)) (Syntax.tyInt Syntax.w8) (Row.valS (Row.sInt Syntax.w8)) (Row.sInt Syntax.w8 .of) tt (Reads.room-gone 𝓤 H A (Syntax.tyInt
+              Syntax.w8)) (Scalar.holds-sc 𝓤 H A W (Row.sInt Syntax.w8)) Path'.refl (λ u. Path'.refl) λ u. tt) (Typed.s-seq 𝓤 H A W 𝓣 E G11 G12 b2 b27 Δ0 (Typed.pass T11 T12 s10) at28 (Scalar.t-use 𝓤 H A W E 𝓣 G11 (Scalar.oInt Syntax.w64 0) 12 (Rows.sc-here (Row.sInt Syntax.w64)) (Syntax.tyInt Syntax.w64) (Row.valS (Row.sInt Syntax.w64)) (Row.sInt Syntax.w64
+              .of) tt (Reads.room-gone 𝓤 H A (Syntax.tyInt Syntax.w64)) (Scalar.holds-sc 𝓤 H A W (Row.sInt Syntax.w64)) Path'.refl (λ u. Path'.refl) λ u. tt) d28))
 
-          d19 : Typed.Typed 𝓤 H A 𝓣 E G12 b19 Δ3 at19
-          d19 = Typed.s-seq 𝓤 H A W 𝓣 E G12 G14 b3 b18 Δ3 (Typed.ask s11) at18 (Scalar.t-op2 𝓤 H A W E 𝓣 G12 (Syntax.lt Syntax.unsigned) (Scalar.oAt 12 (Syntax.tyInt Syntax.w64) (Row.valS (Row.sInt Syntax.w64))) (Scalar.oInt Syntax.w64 32) 14 (Rows.sc-here Row.sBool) Syntax.tyBool (Row.valS Row.sBool) (Row.sBool .of)
-              (Scalar.reads-sc 𝓤 H A W (Row.sInt Syntax.w64), Path'.refl) tt (Reads.room-gone 𝓤 H A Syntax.tyBool) (Scalar.holds-sc 𝓤 H A W Row.sBool) Path'.refl (λ u. Path'.refl) λ u. tt) d18
+          d34 : Typed.Typed 𝓤 H A 𝓣 E G0 b30 Δ0 at34
+          d34 = Typed.g-pre 𝓤 H A W 𝓣 E G0 G0 b30 Δ0 (Typed.give s5) at33 (Know.g-shs-known 𝓤 H A W (Referent.fInt Syntax.w32) E G0 6 5 ty·8 (Row.lease (κs .1 .1 .1 .1 .1 .0) (qs .1 .1 .1 .1 .1 .0)) 0 (λ x. x) record { fits = Dec'.lit< tt } (Reads.as-is 𝓤 H A (Rows.sslice (Referent.rtF (Referent.fInt Syntax.w32)) ty·8 5)) Path'.refl tt) (Typed.g-pre 𝓤 H A W
+              𝓣 E G0 G0 b30 Δ0 (Typed.give s6) at32 (Know.g-shs-known 𝓤 H A W (Referent.fInt Syntax.w16) E G0 7 6 ty·9 (Row.lease (κs .1 .1 .1 .1 .1 .1 .0) (qs .1 .1 .1 .1 .1 .1 .0)) 0 (λ x. x) record { fits = Dec'.lit< tt } (Reads.as-is 𝓤 H A (Rows.sslice (Referent.rtF (Referent.fInt Syntax.w16)) ty·9 6)) Path'.refl tt) (Typed.g-pre 𝓤 H A W 𝓣 E G0 G0 b30 Δ0
+              (Typed.give s7) at31 (Know.g-sl-known 𝓤 H A W (Referent.fInt Syntax.w8) E G0 8 7 ty·3 (Row.lease (κs .1 .1 .1 .1 .1 .1 .1 .0) (qs .1 .1 .1 .1 .1 .1 .1 .0)) 0 (λ x. x) record { fits = Dec'.lit< tt } (Reads.as-is 𝓤 H A (Mut.mslice (Referent.rtF (Referent.fInt Syntax.w8)) ty·3 7)) Path'.refl tt) d31))
 
-          d20 : Typed.Typed 𝓤 H A 𝓣 E G12 b20 Δ2 at20
-          d20 = Typed.t-loop-by 𝓤 H A W 𝓣 E G12 b19 Δ2 put0 (λ u vs. Inv·0 (Row.get 1 (T12 .locals) u .now) (Row.get 2 (T12 .locals) u .now) (Row.get 3 (T12 .locals) u .now) (Row.get 4 (T12 .locals) u .now) (Row.get 5 (T12 .locals) u .now) (Row.get 6 (T12 .locals) u .now) (Row.get 7 (T12 .locals) u .now) (Row.get 8 (T12 .locals) u .now)
-              (Row.get 9 (T12 .locals) u .now) (Row.get 10 (T12 .locals) u) (Row.get 11 (T12 .locals) u) (Row.get 12 (T12 .locals) u) (vs .0) (vs .1) (vs .2) (vs .3)) (λ u vs. μ·0 (Row.get 1 (T12 .locals) u .now) (Row.get 2 (T12 .locals) u .now) (Row.get 3 (T12 .locals) u .now) (Row.get 4 (T12 .locals) u .now) (Row.get 5 (T12 .locals) u .now)
-              (Row.get 6 (T12 .locals) u .now) (Row.get 7 (T12 .locals) u .now) (Row.get 8 (T12 .locals) u .now) (Row.get 9 (T12 .locals) u .now) (Row.get 10 (T12 .locals) u) (Row.get 11 (T12 .locals) u) (Row.get 12 (T12 .locals) u) (vs .0) (vs .1) (vs .2) (vs .3)) at19 d19
+          d37 : Typed.Typed 𝓤 H A 𝓣 E G0 b30 Δ0 at37
+          d37 = Typed.g-pre 𝓤 H A W 𝓣 E G0 G0 b30 Δ0 (Typed.give s2) at36 (Know.g-shs-known 𝓤 H A W (Referent.fInt Syntax.w8) E G0 3 2 ty·2 (Row.lease (κs .1 .1 .0) (qs .1 .1 .0)) 0 (λ x. x) record { fits = Dec'.lit< tt } (Reads.as-is 𝓤 H A (Rows.sslice (Referent.rtF (Referent.fInt Syntax.w8)) ty·2 2)) Path'.refl tt) (Typed.g-pre 𝓤 H A W 𝓣 E G0 G0 b30 Δ0
+              (Typed.give s3) at35 (Know.g-shs-known 𝓤 H A W (Referent.fInt Syntax.w16) E G0 4 3 ty·6 (Row.lease (κs .1 .1 .1 .0) (qs .1 .1 .1 .0)) 0 (λ x. x) record { fits = Dec'.lit< tt } (Reads.as-is 𝓤 H A (Rows.sslice (Referent.rtF (Referent.fInt Syntax.w16)) ty·6 3)) Path'.refl tt) (Typed.g-pre 𝓤 H A W 𝓣 E G0 G0 b30 Δ0 (Typed.give s4) at34 (Know.g-shs-known
+              𝓤 H A W (Referent.fInt Syntax.w16) E G0 5 4 ty·7 (Row.lease (κs .1 .1 .1 .1 .0) (qs .1 .1 .1 .1 .0)) 0 (λ x. x) record { fits = Dec'.lit< tt } (Reads.as-is 𝓤 H A (Rows.sslice (Referent.rtF (Referent.fInt Syntax.w16)) ty·7 4)) Path'.refl tt) d34))
 
-          d21 : Typed.Typed 𝓤 H A 𝓣 E G12 b21 Δ1 at21
-          d21 = Typed.t-block 𝓤 H A W 𝓣 E G12 b20 Δ1 at20 d20
-
-          d22 : Typed.Typed 𝓤 H A 𝓣 E G34 b23 Δ0 at22
-          d22 = Typed.t-return 𝓤 H A W 𝓣 E Δ0 tt
-
-          d23 : Typed.Typed 𝓤 H A 𝓣 E G33 b23 Δ0 at23
-          d23 = Typed.g-pre 𝓤 H A W 𝓣 E G33 G34 b23 Δ0 (Typed.pass T33 T34 s30) at22 (Scalar.g-room 𝓤 H A W E G33 12 (Syntax.tyInt Syntax.w64) (Scalar.room-sc 𝓤 H A W (Row.sInt Syntax.w64))) d22
-
-          d24 : Typed.Typed 𝓤 H A 𝓣 E G32 b23 Δ0 at24
-          d24 = Typed.g-pre 𝓤 H A W 𝓣 E G32 G33 b23 Δ0 (Typed.pass T32 T33 s29) at23 (Scalar.g-room 𝓤 H A W E G32 11 (Syntax.tyInt Syntax.w8) (Scalar.room-sc 𝓤 H A W (Row.sInt Syntax.w8))) d23
-
-          d25 : Typed.Typed 𝓤 H A 𝓣 E G31 b23 Δ0 at25
-          d25 = Typed.g-pre 𝓤 H A W 𝓣 E G31 G32 b23 Δ0 (Typed.pass T31 T32 s28) at24 (Scalar.g-room 𝓤 H A W E G31 10 (Syntax.tyInt Syntax.w32) (Scalar.room-sc 𝓤 H A W (Row.sInt Syntax.w32))) d24
-
-          d26 : Typed.Typed 𝓤 H A 𝓣 E G13 b24 Δ0 at26
-          d26 = Typed.s-seq 𝓤 H A W 𝓣 E G13 G31 b22 b23 Δ0 (Typed.both s27) at25 (Plain.t-call-plain 𝓤 H A W 𝓣 0 ps·3 r·3 (claims· .6) (claims· .7) "handset::replies::reply_with" (known .3) E (λ pos β. β) G13 (Num.vAt 11 λ x. x, (Num.vAt 10 λ x. x, tt)) 0 List.[] (Call.sub-id 𝓤 H A W (G13 .slots)) (
-            (Scalar.reads-sc 𝓤 H A W (Row.sInt Syntax.w8), Path'.refl),
-            ((Scalar.reads-sc 𝓤 H A W (Row.sInt Syntax.w32), Path'.refl), tt),
-          ) (Reads.room-gone 𝓤 H A ty·10) tt Path'.refl) d25
-
-          d27 : Typed.Typed 𝓤 H A 𝓣 E G12 b25 Δ0 at27
-          d27 = Typed.t-seq 𝓤 H A W 𝓣 E G12 G13 b21 b24 Δ0 at21 at26 d21 d26
-
-          d28 : Typed.Typed 𝓤 H A 𝓣 E G11 b26 Δ0 at28
-          d28 = Typed.s-seq 𝓤 H A W 𝓣 E G11 G12 b2 b25 Δ0 (Typed.pass T11 T12 s10) at27 (Scalar.t-use 𝓤 H A W E 𝓣 G11 (Scalar.oInt Syntax.w64 0) 12 (Rows.sc-here (Row.sInt Syntax.w64)) (Syntax.tyInt Syntax.w64) (Row.valS (Row.sInt Syntax.w64)) (Row.sInt Syntax.w64 .of) tt (Reads.room-gone 𝓤 H A (Syntax.tyInt Syntax.w64))
-              (Scalar.holds-sc 𝓤 H A W (Row.sInt Syntax.w64)) Path'.refl (λ u. Path'.refl) λ u. tt) d27
-
-          d29 : Typed.Typed 𝓤 H A 𝓣 E G10 b27 Δ0 at29
-          d29 = Typed.s-seq 𝓤 H A W 𝓣 E G10 G11 b1 b26 Δ0 (Typed.pass T10 T11 s9) at28 (Scalar.t-use 𝓤 H A W E 𝓣 G10 (Scalar.oInt Syntax.w8 0) 11 (Rows.sc-here (Row.sInt Syntax.w8)) (Syntax.tyInt Syntax.w8) (Row.valS (Row.sInt Syntax.w8)) (Row.sInt Syntax.w8 .of) tt (Reads.room-gone 𝓤 H A (Syntax.tyInt Syntax.w8))
-              (Scalar.holds-sc 𝓤 H A W (Row.sInt Syntax.w8)) Path'.refl (λ u. Path'.refl) λ u. tt) d28
-
-          d30 : Typed.Typed 𝓤 H A 𝓣 E G9 b28 Δ0 at30
-          d30 = Typed.s-seq 𝓤 H A W 𝓣 E G9 G10 b0 b27 Δ0 (Typed.pass T9 T10 s8) at29 (Scalar.t-use 𝓤 H A W E 𝓣 G9 (Scalar.oInt Syntax.w32 0) 10 (Rows.sc-here (Row.sInt Syntax.w32)) (Syntax.tyInt Syntax.w32) (Row.valS (Row.sInt Syntax.w32)) (Row.sInt Syntax.w32 .of) tt (Reads.room-gone 𝓤 H A (Syntax.tyInt Syntax.w32))
-              (Scalar.holds-sc 𝓤 H A W (Row.sInt Syntax.w32)) Path'.refl (λ u. Path'.refl) λ u. tt) d29
-
-          d31 : Typed.Typed 𝓤 H A 𝓣 E G8 b28 Δ0 at31
-          d31 = Typed.g-pre 𝓤 H A W 𝓣 E G8 G9 b28 Δ0 (Typed.give s7) at30 (Know.g-sl-known 𝓤 H A W (Referent.fInt Syntax.w8) E G8 8 7 ty·3 (Row.lease (κs .1 .1 .1 .1 .1 .1 .1 .0) (qs .1 .1 .1 .1 .1 .1 .1 .0)) 0 (λ x. x) record { fits = Dec'.lit< tt } (Reads.as-is 𝓤 H A (Mut.mslice (Referent.rtF (Referent.fInt Syntax.w8)) ty·3 7)) Path'.refl tt) d30
-
-          d32 : Typed.Typed 𝓤 H A 𝓣 E G7 b28 Δ0 at32
-          d32 = Typed.g-pre 𝓤 H A W 𝓣 E G7 G8 b28 Δ0 (Typed.give s6) at31 (Know.g-shs-known 𝓤 H A W (Referent.fInt Syntax.w16) E G7 7 6 ty·9 (Row.lease (κs .1 .1 .1 .1 .1 .1 .0) (qs .1 .1 .1 .1 .1 .1 .0)) 0 (λ x. x) record { fits = Dec'.lit< tt } (Reads.as-is 𝓤 H A (Rows.sslice (Referent.rtF (Referent.fInt Syntax.w16)) ty·9 6)) Path'.refl tt) d31
-
-          d33 : Typed.Typed 𝓤 H A 𝓣 E G6 b28 Δ0 at33
-          d33 = Typed.g-pre 𝓤 H A W 𝓣 E G6 G7 b28 Δ0 (Typed.give s5) at32 (Know.g-shs-known 𝓤 H A W (Referent.fInt Syntax.w32) E G6 6 5 ty·8 (Row.lease (κs .1 .1 .1 .1 .1 .0) (qs .1 .1 .1 .1 .1 .0)) 0 (λ x. x) record { fits = Dec'.lit< tt } (Reads.as-is 𝓤 H A (Rows.sslice (Referent.rtF (Referent.fInt Syntax.w32)) ty·8 5)) Path'.refl tt) d32
-
-          d34 : Typed.Typed 𝓤 H A 𝓣 E G5 b28 Δ0 at34
-          d34 = Typed.g-pre 𝓤 H A W 𝓣 E G5 G6 b28 Δ0 (Typed.give s4) at33 (Know.g-shs-known 𝓤 H A W (Referent.fInt Syntax.w16) E G5 5 4 ty·7 (Row.lease (κs .1 .1 .1 .1 .0) (qs .1 .1 .1 .1 .0)) 0 (λ x. x) record { fits = Dec'.lit< tt } (Reads.as-is 𝓤 H A (Rows.sslice (Referent.rtF (Referent.fInt Syntax.w16)) ty·7 4)) Path'.refl tt) d33
-
-          d35 : Typed.Typed 𝓤 H A 𝓣 E G4 b28 Δ0 at35
-          d35 = Typed.g-pre 𝓤 H A W 𝓣 E G4 G5 b28 Δ0 (Typed.give s3) at34 (Know.g-shs-known 𝓤 H A W (Referent.fInt Syntax.w16) E G4 4 3 ty·6 (Row.lease (κs .1 .1 .1 .0) (qs .1 .1 .1 .0)) 0 (λ x. x) record { fits = Dec'.lit< tt } (Reads.as-is 𝓤 H A (Rows.sslice (Referent.rtF (Referent.fInt Syntax.w16)) ty·6 3)) Path'.refl tt) d34
-
-          d36 : Typed.Typed 𝓤 H A 𝓣 E G3 b28 Δ0 at36
-          d36 = Typed.g-pre 𝓤 H A W 𝓣 E G3 G4 b28 Δ0 (Typed.give s2) at35 (Know.g-shs-known 𝓤 H A W (Referent.fInt Syntax.w8) E G3 3 2 ty·2 (Row.lease (κs .1 .1 .0) (qs .1 .1 .0)) 0 (λ x. x) record { fits = Dec'.lit< tt } (Reads.as-is 𝓤 H A (Rows.sslice (Referent.rtF (Referent.fInt Syntax.w8)) ty·2 2)) Path'.refl tt) d35
-
-          d37 : Typed.Typed 𝓤 H A 𝓣 E G2 b28 Δ0 at37
-          d37 = Typed.g-pre 𝓤 H A W 𝓣 E G2 G3 b28 Δ0 (Typed.give s1) at36 (Know.g-shs-known 𝓤 H A W (Referent.fInt Syntax.w16) E G2 2 1 ty·5 (Row.lease (κs .1 .0) (qs .1 .0)) 0 (λ x. x) record { fits = Dec'.lit< tt } (Reads.as-is 𝓤 H A (Rows.sslice (Referent.rtF (Referent.fInt Syntax.w16)) ty·5 1)) Path'.refl tt) d36
-
-          d38 : Typed.Typed 𝓤 H A 𝓣 E G0 b28 Δ0 at38
-          d38 = Typed.g-pre 𝓤 H A W 𝓣 E G0 G2 b28 Δ0 (Typed.give s0) at37 (Know.g-shs-known 𝓤 H A W (Referent.fInt Syntax.w16) E G0 1 0 ty·4 (Row.lease (κs .0) (qs .0)) 0 (λ x. x) record { fits = Dec'.lit< tt } (Reads.as-is 𝓤 H A (Rows.sslice (Referent.rtF (Referent.fInt Syntax.w16)) ty·4 0)) Path'.refl tt) d37
-
-          pub typed : Typed.Typed 𝓤 H A 𝓣 E (Function.Γin 9 ps r xs m κs qs) b28 (Function.Δret 9 ps r xs m κs qs) Φ
-          typed = d38
+          pub typed : Typed.Typed 𝓤 H A 𝓣 E (Function.Γin 9 ps r xs m κs qs) b30 (Function.Δret 9 ps r xs m κs qs) Φ
+          typed = (Typed.g-pre 𝓤 H A W 𝓣 E G0 G0 b30 Δ0 (Typed.give s0) at38 (Know.g-shs-known 𝓤 H A W (Referent.fInt Syntax.w16) E G0 1 0 ty·4 (Row.lease (κs .0) (qs .0)) 0 (λ x. x) record { fits = Dec'.lit< tt } (Reads.as-is 𝓤 H A (Rows.sslice (Referent.rtF (Referent.fInt Syntax.w16)) ty·4 0)) Path'.refl tt) (Typed.g-pre 𝓤 H A W 𝓣 E G0 G0 b30 Δ0
+              (Typed.give s1) at37 (Know.g-shs-known 𝓤 H A W (Referent.fInt Syntax.w16) E G0 2 1 ty·5 (Row.lease (κs .1 .0) (qs .1 .0)) 0 (λ x. x) record { fits = Dec'.lit< tt } (Reads.as-is 𝓤 H A (Rows.sslice (Referent.rtF (Referent.fInt Syntax.w16)) ty·5 1)) Path'.refl tt) d37))
 
       module _ (κs : Lifetimes.Lfts 9) where
         pub record Args : Type 0 where
@@ -1474,20 +902,13 @@ module _ (claims· : Claims) where
           pub dependencies : Kinds.Den {n = 9} κs (ShrSlice.pShrS Rec.rt 8 tt)
 
         abbrev pub dens : (a : Args) → Kinds.Dens κs ps
-        dens = λ a. (
-          a .drone-count,
-          (a .dependency-count, (a .names, (a .stop-counts, (a .locations, (a .times, (a .visited, (a .drone-flags, (a .dependencies, tt)))))))),
-        )
+        dens = λ a. (a .drone-count, (a .dependency-count, (a .names, (a .stop-counts, (a .locations, (a .times, (a .visited, (a .drone-flags, (a .dependencies, tt)))))))))
 
       abbrev pub m0 : (κs : Lifetimes.Lfts 9) → (args : Args κs) → Typed.Mo T0
       m0 = λ κs args. (tt, Enter.partsP κs 1 ps xs (dens κs args))
 
       abbrev W0 : (κs : Lifetimes.Lfts 9) → (args : Args κs) → Typed.Want O0
-      W0 = λ κs args. (
-        λ u. ⊥,
-        tt,
-        λ u. Enter.Fixs κs 1 ps xs (dens κs args) (u .1) × Post· κs (dens κs args) (Function.resV r κs (u .0)) (Clauses.atExit (Kinds.endedOf 9 ps r) κs (dens κs args) (Enter.lastsP κs 1 ps xs (dens κs args) (u .1))),
-      )
+      W0 = λ κs args. (λ u. ⊥, tt, λ u. Enter.Fixs κs 1 ps xs (dens κs args) (u .1) × Post· κs (dens κs args) (Function.resV r κs (u .0)) (Clauses.atExit (Kinds.endedOf 9 ps r) κs (dens κs args) (Enter.lastsP κs 1 ps xs (dens κs args) (u .1))))
 
       pub record Start : Type 0 where
         pub κs : Lifetimes.Lfts 9
@@ -1495,7 +916,7 @@ module _ (claims· : Claims) where
         pub good : Kinds.GoodsP κs ps (dens κs args)
         pub pre : Pre· κs (dens κs args)
 
-      abbrev pub m1 : (before : Start) → (given : s0 .gives (m0 (before .κs) (before .args))) → Typed.Mo T2
+      abbrev pub m1 : (before : Start) → (given : s0 .gives (m0 (before .κs) (before .args))) → Typed.Mo T0
       m1 = λ before given. s0 .next (m0 (before .κs) (before .args)) given
 
       module _ (before· : Start) where
@@ -1506,7 +927,7 @@ module _ (claims· : Claims) where
         pub before : Start
         pub shared-slice-known : After-shared-slice-known·own before
 
-      abbrev pub m2 : (before : After-shared-slice-known) → (given : s1 .gives (m1 (before .before) (before .shared-slice-known .given))) → Typed.Mo T3
+      abbrev pub m2 : (before : After-shared-slice-known) → (given : s1 .gives (m1 (before .before) (before .shared-slice-known .given))) → Typed.Mo T0
       m2 = λ before given. s1 .next (m1 (before .before) (before .shared-slice-known .given)) given
 
       module _ (before· : After-shared-slice-known) where
@@ -1517,7 +938,7 @@ module _ (claims· : Claims) where
         pub before : After-shared-slice-known
         pub shared-slice-known2 : After-shared-slice-known2·own before
 
-      abbrev pub m3 : (before : After-shared-slice-known2) → (given : s2 .gives (m2 (before .before) (before .shared-slice-known2 .given))) → Typed.Mo T4
+      abbrev pub m3 : (before : After-shared-slice-known2) → (given : s2 .gives (m2 (before .before) (before .shared-slice-known2 .given))) → Typed.Mo T0
       m3 = λ before given. s2 .next (m2 (before .before) (before .shared-slice-known2 .given)) given
 
       module _ (before· : After-shared-slice-known2) where
@@ -1528,7 +949,7 @@ module _ (claims· : Claims) where
         pub before : After-shared-slice-known2
         pub shared-slice-known3 : After-shared-slice-known3·own before
 
-      abbrev pub m4 : (before : After-shared-slice-known3) → (given : s3 .gives (m3 (before .before) (before .shared-slice-known3 .given))) → Typed.Mo T5
+      abbrev pub m4 : (before : After-shared-slice-known3) → (given : s3 .gives (m3 (before .before) (before .shared-slice-known3 .given))) → Typed.Mo T0
       m4 = λ before given. s3 .next (m3 (before .before) (before .shared-slice-known3 .given)) given
 
       module _ (before· : After-shared-slice-known3) where
@@ -1539,7 +960,7 @@ module _ (claims· : Claims) where
         pub before : After-shared-slice-known3
         pub shared-slice-known4 : After-shared-slice-known4·own before
 
-      abbrev pub m5 : (before : After-shared-slice-known4) → (given : s4 .gives (m4 (before .before) (before .shared-slice-known4 .given))) → Typed.Mo T6
+      abbrev pub m5 : (before : After-shared-slice-known4) → (given : s4 .gives (m4 (before .before) (before .shared-slice-known4 .given))) → Typed.Mo T0
       m5 = λ before given. s4 .next (m4 (before .before) (before .shared-slice-known4 .given)) given
 
       module _ (before· : After-shared-slice-known4) where
@@ -1550,7 +971,7 @@ module _ (claims· : Claims) where
         pub before : After-shared-slice-known4
         pub shared-slice-known5 : After-shared-slice-known5·own before
 
-      abbrev pub m6 : (before : After-shared-slice-known5) → (given : s5 .gives (m5 (before .before) (before .shared-slice-known5 .given))) → Typed.Mo T7
+      abbrev pub m6 : (before : After-shared-slice-known5) → (given : s5 .gives (m5 (before .before) (before .shared-slice-known5 .given))) → Typed.Mo T0
       m6 = λ before given. s5 .next (m5 (before .before) (before .shared-slice-known5 .given)) given
 
       module _ (before· : After-shared-slice-known5) where
@@ -1561,7 +982,7 @@ module _ (claims· : Claims) where
         pub before : After-shared-slice-known5
         pub shared-slice-known6 : After-shared-slice-known6·own before
 
-      abbrev pub m7 : (before : After-shared-slice-known6) → (given : s6 .gives (m6 (before .before) (before .shared-slice-known6 .given))) → Typed.Mo T8
+      abbrev pub m7 : (before : After-shared-slice-known6) → (given : s6 .gives (m6 (before .before) (before .shared-slice-known6 .given))) → Typed.Mo T0
       m7 = λ before given. s6 .next (m6 (before .before) (before .shared-slice-known6 .given)) given
 
       module _ (before· : After-shared-slice-known6) where
@@ -1572,20 +993,11 @@ module _ (claims· : Claims) where
         pub before : After-shared-slice-known6
         pub shared-slice-known7 : After-shared-slice-known7·own before
 
-      abbrev pub m8 : (before : After-shared-slice-known7) → (given : s7 .gives (m7 (before .before) (before .shared-slice-known7 .given))) → Typed.Mo T9
-      m8 = λ before given. s7 .next (m7 (before .before) (before .shared-slice-known7 .given)) given
-
-      abbrev pub m9 : (before : After-shared-slice-known7) → (given : s7 .gives (m7 (before .before) (before .shared-slice-known7 .given))) → Typed.Mo T10
-      m9 = λ before given. s8 (m8 before given)
-
-      abbrev pub m10 : (before : After-shared-slice-known7) → (given : s7 .gives (m7 (before .before) (before .shared-slice-known7 .given))) → Typed.Mo T11
-      m10 = λ before given. s9 (m9 before given)
-
       abbrev pub m11 : (before : After-shared-slice-known7) → (given : s7 .gives (m7 (before .before) (before .shared-slice-known7 .given))) → Typed.Mo T12
-      m11 = λ before given. s10 (m10 before given)
+      m11 = λ before given. s10 (s9 (s8 (s7 .next (m7 (before .before) (before .shared-slice-known7 .given)) given)))
 
       abbrev W1 : (before : After-shared-slice-known7) → (given : s7 .gives (m7 (before .before) (before .shared-slice-known7 .given))) → Typed.Want O1
-      W1 = λ before given. Typed.wantNext T13 O0 (at26 (W0 (before .before .before .before .before .before .before .before .κs) (before .before .before .before .before .before .before .before .args))) (W0 (before .before .before .before .before .before .before .before .κs) (before .before .before .before .before .before .before .before .args))
+      W1 = λ before given. Typed.wantNext T12 O0 (at27 (W0 (before .before .before .before .before .before .before .before .κs) (before .before .before .before .before .before .before .before .args))) (W0 (before .before .before .before .before .before .before .before .κs) (before .before .before .before .before .before .before .before .args))
 
       abbrev W2 : (before : After-shared-slice-known7) → (given : s7 .gives (m7 (before .before) (before .shared-slice-known7 .given))) → Typed.Want O2
       W2 = λ before given. Typed.inBlock O1 (W1 before given)
@@ -1599,36 +1011,21 @@ module _ (claims· : Claims) where
         pub slice-known : After-slice-known·own before
 
       abbrev pub Need-loop-holds : Type 0
-      Need-loop-holds = (c : After-slice-known) → Inv·0 (Row.get 1 (T12 .locals) (m11 (c .before) (c .slice-known .given)) .now) (Row.get 2 (T12 .locals) (m11 (c .before) (c .slice-known .given)) .now) (Row.get 3 (T12 .locals) (m11 (c .before) (c .slice-known .given)) .now) (Row.get 4 (T12 .locals) (m11 (c .before) (c .slice-known .given)) .now)
-          (Row.get 5 (T12 .locals) (m11 (c .before) (c .slice-known .given)) .now) (Row.get 6 (T12 .locals) (m11 (c .before) (c .slice-known .given)) .now) (Row.get 7 (T12 .locals) (m11 (c .before) (c .slice-known .given)) .now) (Row.get 8 (T12 .locals) (m11 (c .before) (c .slice-known .given)) .now)
-          (Row.get 9 (T12 .locals) (m11 (c .before) (c .slice-known .given)) .now) (Row.get 10 (T12 .locals) (m11 (c .before) (c .slice-known .given))) (Row.get 11 (T12 .locals) (m11 (c .before) (c .slice-known .given))) (Row.get 12 (T12 .locals) (m11 (c .before) (c .slice-known .given)))
-          (Row.get 8 (T12 .locals) (m11 (c .before) (c .slice-known .given)) .now) (Row.get 10 (T12 .locals) (m11 (c .before) (c .slice-known .given))) (Row.get 11 (T12 .locals) (m11 (c .before) (c .slice-known .given))) (Row.get 12 (T12 .locals) (m11 (c .before) (c .slice-known .given)))
+      Need-loop-holds = (c : After-slice-known) → Inv·0 (Row.get 1 (T12 .locals) (m11 (c .before) (c .slice-known .given)) .now) (Row.get 2 (T12 .locals) (m11 (c .before) (c .slice-known .given)) .now) (Row.get 3 (T12 .locals) (m11 (c .before) (c .slice-known .given)) .now) (Row.get 4 (T12 .locals) (m11 (c .before) (c .slice-known .given)) .now) (Row.get 5
+          (T12 .locals) (m11 (c .before) (c .slice-known .given)) .now) (Row.get 6 (T12 .locals) (m11 (c .before) (c .slice-known .given)) .now) (Row.get 7 (T12 .locals) (m11 (c .before) (c .slice-known .given)) .now) (Row.get 8 (T12 .locals) (m11 (c .before) (c .slice-known .given)) .now) (Row.get 9 (T12 .locals) (m11 (c .before) (c .slice-known .given)) .now)
+          (Row.get 10 (T12 .locals) (m11 (c .before) (c .slice-known .given))) (Row.get 11 (T12 .locals) (m11 (c .before) (c .slice-known .given))) (Row.get 12 (T12 .locals) (m11 (c .before) (c .slice-known .given))) (Row.get 8 (T12 .locals) (m11 (c .before) (c .slice-known .given)) .now) (Row.get 10 (T12 .locals) (m11 (c .before) (c .slice-known .given)))
+          (Row.get 11 (T12 .locals) (m11 (c .before) (c .slice-known .given))) (Row.get 12 (T12 .locals) (m11 (c .before) (c .slice-known .given)))
 
       abbrev pub m12 : (before : After-slice-known) → (drone-flags : List.List (Referent.rtF (Referent.fInt Syntax.w8) .Denot)) → (bits : Rows.sc-here (Row.sInt Syntax.w32) .Mod) → (unusable-by : Rows.sc-here (Row.sInt Syntax.w8) .Mod) → (drone : Rows.sc-here (Row.sInt Syntax.w64) .Mod) → Typed.Mo T12
-      m12 = λ before drone-flags bits unusable-by drone. Row.set 12 (
-        12,
-        Rows.sc-here (Row.sInt Syntax.w64),
-      ) drone (Row.setRow 11 (11, Rows.sc-here (Row.sInt Syntax.w8)) (Row.setRow 10 (
-        10,
-        Rows.sc-here (Row.sInt Syntax.w32),
-      ) (Row.setRow 8 (
-        8,
-        Mut.mslice (Referent.rtF (Referent.fInt Syntax.w8)) ty·3 7,
-      ) (T12 .locals)))) (Row.set 11 (11, Rows.sc-here (Row.sInt Syntax.w8)) unusable-by (Row.setRow 10 (10, Rows.sc-here (Row.sInt Syntax.w32)) (Row.setRow 8 (8, Mut.mslice (Referent.rtF (Referent.fInt Syntax.w8)) ty·3 7) (T12 .locals))) (Row.set 10 (10, Rows.sc-here (Row.sInt Syntax.w32)) bits (Row.setRow 8 (
-        8,
-        Mut.mslice
-            (Referent.rtF (Referent.fInt Syntax.w8)) ty·3 7,
-      ) (T12 .locals)) (Row.set 8 (8, Mut.mslice (Referent.rtF (Referent.fInt Syntax.w8)) ty·3 7) record {
-        ptr = Row.get 8 (T12 .locals) (m11 (before .before) (before .slice-known .given)) .ptr;
-        name = Row.get 8 (T12 .locals) (m11 (before .before) (before .slice-known .given)) .name;
-        now = drone-flags;
-      } (T12 .locals) (m11 (before .before) (before .slice-known .given)))))
+      m12 = λ before drone-flags bits unusable-by drone. Row.set 12 (12, Rows.sc-here (Row.sInt Syntax.w64)) drone (Row.setRow 11 (11, Rows.sc-here (Row.sInt Syntax.w8)) (Row.setRow 10 (10, Rows.sc-here (Row.sInt Syntax.w32)) (Row.setRow 8 (8, Mut.mslice (Referent.rtF (Referent.fInt Syntax.w8)) ty·3 7) (T12 .locals)))) (Row.set 11
+          (11, Rows.sc-here (Row.sInt Syntax.w8)) unusable-by (Row.setRow 10 (10, Rows.sc-here (Row.sInt Syntax.w32)) (Row.setRow 8 (8, Mut.mslice (Referent.rtF (Referent.fInt Syntax.w8)) ty·3 7) (T12 .locals))) (Row.set 10 (10, Rows.sc-here (Row.sInt Syntax.w32)) bits (Row.setRow 8 (8, Mut.mslice (Referent.rtF (Referent.fInt Syntax.w8)) ty·3 7) (T12 .locals))
+          (Row.set 8 (8, Mut.mslice (Referent.rtF (Referent.fInt Syntax.w8)) ty·3 7) record { ptr = Row.get 8 (T12 .locals) (m11 (before .before) (before .slice-known .given)) .ptr; name = Row.get 8 (T12 .locals) (m11 (before .before) (before .slice-known .given)) .name; now = drone-flags } (T12 .locals) (m11 (before .before) (before .slice-known .given)))))
 
       abbrev W3 : (before : After-slice-known) → (drone-flags : List.List (Referent.rtF (Referent.fInt Syntax.w8) .Denot)) → (bits : Rows.sc-here (Row.sInt Syntax.w32) .Mod) → (unusable-by : Rows.sc-here (Row.sInt Syntax.w8) .Mod) → (drone : Rows.sc-here (Row.sInt Syntax.w64) .Mod) → Typed.Want O3
-      W3 = λ before drone-flags bits unusable-by drone. Typed.inLoop T12 O2 (Typed.Round T12 O2 put0 (λ u vs. Inv·0 (Row.get 1 (T12 .locals) u .now) (Row.get 2 (T12 .locals) u .now) (Row.get 3 (T12 .locals) u .now) (Row.get 4 (T12 .locals) u .now) (Row.get 5 (T12 .locals) u .now) (Row.get 6 (T12 .locals) u .now) (Row.get 7 (T12 .locals) u .now)
-          (Row.get 8 (T12 .locals) u .now) (Row.get 9 (T12 .locals) u .now) (Row.get 10 (T12 .locals) u) (Row.get 11 (T12 .locals) u) (Row.get 12 (T12 .locals) u) (vs .0) (vs .1) (vs .2) (vs .3)) (λ u vs. μ·0 (Row.get 1 (T12 .locals) u .now) (Row.get 2 (T12 .locals) u .now) (Row.get 3 (T12 .locals) u .now) (Row.get 4 (T12 .locals) u .now)
-          (Row.get 5 (T12 .locals) u .now) (Row.get 6 (T12 .locals) u .now) (Row.get 7 (T12 .locals) u .now) (Row.get 8 (T12 .locals) u .now) (Row.get 9 (T12 .locals) u .now) (Row.get 10 (T12 .locals) u) (Row.get 11 (T12 .locals) u) (Row.get 12 (T12 .locals) u) (vs .0) (vs .1) (vs .2) (vs .3)) at19 (m11 (before .before) (before .slice-known .given))
-          (drone-flags, bits, unusable-by, drone)) (W2 (before .before) (before .slice-known .given))
+      W3 = λ before drone-flags bits unusable-by drone. Typed.inLoop T12 O2 (Typed.Round T12 O2 put0 (λ u vs. Inv·0 (Row.get 1 (T12 .locals) u .now) (Row.get 2 (T12 .locals) u .now) (Row.get 3 (T12 .locals) u .now) (Row.get 4 (T12 .locals) u .now) (Row.get 5 (T12 .locals) u .now) (Row.get 6 (T12 .locals) u .now) (Row.get 7 (T12 .locals) u .now) (Row.get 8
+          (T12 .locals) u .now) (Row.get 9 (T12 .locals) u .now) (Row.get 10 (T12 .locals) u) (Row.get 11 (T12 .locals) u) (Row.get 12 (T12 .locals) u) (vs .0) (vs .1) (vs .2) (vs .3)) (λ u vs. μ·0 (Row.get 1 (T12 .locals) u .now) (Row.get 2 (T12 .locals) u .now) (Row.get 3 (T12 .locals) u .now) (Row.get 4 (T12 .locals) u .now) (Row.get 5 (T12 .locals) u .now)
+          (Row.get 6 (T12 .locals) u .now) (Row.get 7 (T12 .locals) u .now) (Row.get 8 (T12 .locals) u .now) (Row.get 9 (T12 .locals) u .now) (Row.get 10 (T12 .locals) u) (Row.get 11 (T12 .locals) u) (Row.get 12 (T12 .locals) u) (vs .0) (vs .1) (vs .2) (vs .3)) at20 (m11 (before .before) (before .slice-known .given)) (drone-flags, bits, unusable-by, drone)) (W2
+          (before .before) (before .slice-known .given))
 
       abbrev pub m13 : (before : After-slice-known) → (drone-flags : List.List (Referent.rtF (Referent.fInt Syntax.w8) .Denot)) → (bits : Rows.sc-here (Row.sInt Syntax.w32) .Mod) → (unusable-by : Rows.sc-here (Row.sInt Syntax.w8) .Mod) → (drone : Rows.sc-here (Row.sInt Syntax.w64) .Mod) → Typed.Mo T14
       m13 = λ before drone-flags bits unusable-by drone. s11 .next (m12 before drone-flags bits unusable-by drone)
@@ -1642,10 +1039,10 @@ module _ (claims· : Claims) where
           pub bits : Rows.sc-here (Row.sInt Syntax.w32) .Mod
           pub unusable-by : Rows.sc-here (Row.sInt Syntax.w8) .Mod
           pub drone : Rows.sc-here (Row.sInt Syntax.w64) .Mod
-          pub inv : Inv·0 (Row.get 1 (T12 .locals) (m11 (before· .before) (before· .slice-known .given)) .now) (Row.get 2 (T12 .locals) (m11 (before· .before) (before· .slice-known .given)) .now) (Row.get 3 (T12 .locals) (m11 (before· .before) (before· .slice-known .given)) .now)
-              (Row.get 4 (T12 .locals) (m11 (before· .before) (before· .slice-known .given)) .now) (Row.get 5 (T12 .locals) (m11 (before· .before) (before· .slice-known .given)) .now) (Row.get 6 (T12 .locals) (m11 (before· .before) (before· .slice-known .given)) .now) (Row.get 7 (T12 .locals) (m11 (before· .before) (before· .slice-known .given)) .now)
-              (Row.get 8 (T12 .locals) (m11 (before· .before) (before· .slice-known .given)) .now) (Row.get 9 (T12 .locals) (m11 (before· .before) (before· .slice-known .given)) .now) (Row.get 10 (T12 .locals) (m11 (before· .before) (before· .slice-known .given))) (Row.get 11 (T12 .locals) (m11 (before· .before) (before· .slice-known .given)))
-              (Row.get 12 (T12 .locals) (m11 (before· .before) (before· .slice-known .given))) drone-flags bits unusable-by drone
+          pub inv : Inv·0 (Row.get 1 (T12 .locals) (m11 (before· .before) (before· .slice-known .given)) .now) (Row.get 2 (T12 .locals) (m11 (before· .before) (before· .slice-known .given)) .now) (Row.get 3 (T12 .locals) (m11 (before· .before) (before· .slice-known .given)) .now) (Row.get 4 (T12 .locals) (m11 (before· .before) (before· .slice-known .given))
+              .now) (Row.get 5 (T12 .locals) (m11 (before· .before) (before· .slice-known .given)) .now) (Row.get 6 (T12 .locals) (m11 (before· .before) (before· .slice-known .given)) .now) (Row.get 7 (T12 .locals) (m11 (before· .before) (before· .slice-known .given)) .now) (Row.get 8 (T12 .locals) (m11 (before· .before) (before· .slice-known .given)) .now)
+              (Row.get 9 (T12 .locals) (m11 (before· .before) (before· .slice-known .given)) .now) (Row.get 10 (T12 .locals) (m11 (before· .before) (before· .slice-known .given))) (Row.get 11 (T12 .locals) (m11 (before· .before) (before· .slice-known .given))) (Row.get 12 (T12 .locals) (m11 (before· .before) (before· .slice-known .given))) drone-flags bits
+              unusable-by drone
 
       pub record At-loop : Type 0 where
         pub before : After-slice-known
@@ -1659,11 +1056,8 @@ module _ (claims· : Claims) where
         pub before : At-loop
         pub loop-test : In-loop·own before
 
-      abbrev pub m14 : (before : At-loop) → Typed.Mo T16
-      m14 = λ before. s12 (m13 (before .before) (before .loop .drone-flags) (before .loop .bits) (before .loop .unusable-by) (before .loop .drone))
-
-      abbrev pub m15 : (before : At-loop) → Typed.Mo T17
-      m15 = λ before. s13 (m14 before)
+      abbrev pub m15 : (before : At-loop) → Typed.Mo T15
+      m15 = λ before. s13 (s12 (m13 (before .before) (before .loop .drone-flags) (before .loop .bits) (before .loop .unusable-by) (before .loop .drone)))
 
       module _ (before· : At-loop) where
         pub record After-loop·own : Type 0 where
@@ -1673,14 +1067,11 @@ module _ (claims· : Claims) where
         pub before : At-loop
         pub loop-test : After-loop·own before
 
-      abbrev pub m16 : (before : At-loop) → Typed.Mo T18
+      abbrev pub m16 : (before : At-loop) → Typed.Mo T12
       m16 = λ before. s14 (m13 (before .before) (before .loop .drone-flags) (before .loop .bits) (before .loop .unusable-by) (before .loop .drone))
 
-      abbrev pub m17 : (before : In-loop) → (given : s16 .gives (m15 (before .before))) → Typed.Mo T20
-      m17 = λ before given. s16 .next (m15 (before .before)) given
-
       abbrev pub m18 : (before : In-loop) → (given : s16 .gives (m15 (before .before))) → Typed.Mo T21
-      m18 = λ before given. s17 .next (m17 before given)
+      m18 = λ before given. s17 .next (s16 .next (m15 (before .before)) given)
 
       module _ (before· : In-loop) where
         pub record After-grant-arg·own : Type 0 where
@@ -1698,94 +1089,14 @@ module _ (claims· : Claims) where
 
       module _ (before· : After-grant-arg) where
         abbrev pub After-grant·own : Type 0
-        After-grant·own = Called.Called ps·0 r·0 (claims· .1) T21 (
-          record { pos = 1; ty = Syntax.tyRef (Syntax.named 0) Syntax.imm (Syntax.tyInt Syntax.w16); ref = λ x. x },
-          (
-            record { pos = 2; ty = Syntax.tyRef (Syntax.named 1) Syntax.imm (Syntax.tyInt Syntax.w16); ref = λ x. x },
-            (
-              record {
-                pos = 3;
-                ty = Syntax.tyRef (Syntax.named 2) Syntax.imm (Syntax.tyInt Syntax.w8);
-                ref = λ x. x;
-              },
-              (
-                record { pos = 4; ty = Syntax.tyRef (Syntax.named 3) Syntax.imm (Syntax.tyInt Syntax.w16); ref = λ x. x },
-                (
-                  record { pos = 5; ty = Syntax.tyRef (Syntax.named 4) Syntax.imm (Syntax.tyInt Syntax.w16); ref = λ x. x },
-                  (
-                    record {
-                      pos = 6;
-                      ty = Syntax.tyRef (Syntax.named 5) Syntax.imm (Syntax.tyInt Syntax.w32);
-                      ref = λ x. x;
-                    },
-                    (
-                      record { pos = 7; ty = Syntax.tyRef (Syntax.named 6) Syntax.imm (Syntax.tyInt Syntax.w16); ref = λ x. x },
-                      (
-                        record { pos = 16; ty = Syntax.tyRef Syntax.erased Syntax.mut (Syntax.tyInt Syntax.w8); ref = λ x. x },
-                        (
-                          record {
-                            pos = 9;
-                            ty = Syntax.tyRef
-                                (Syntax.named 8) Syntax.imm Rec.behind;
-                            ref = λ x. x;
-                          },
-                          (Num.vAt 12 λ x. x, tt),
-                        ),
-                      ),
-                    ),
-                  ),
-                ),
-              ),
-            ),
-          ),
-        ) (m18 (before· .before) (before· .grant-arg .given))
+        After-grant·own = Called.Called ps·0 r·0 (claims· .1) T21 args·0 (m18 (before· .before) (before· .grant-arg .given))
 
       pub record After-grant : Type 0 where
         pub before : After-grant-arg
         pub grant : After-grant·own before
 
       abbrev pub After-grant·gave : (c : After-grant) → s18 .gives (m18 (c .before .before) (c .before .grant-arg .given))
-      After-grant·gave = λ c. Called.given ps·0 r·0 (claims· .1) T21 (
-        record { pos = 1; ty = Syntax.tyRef (Syntax.named 0) Syntax.imm (Syntax.tyInt Syntax.w16); ref = λ x. x },
-        (
-          record { pos = 2; ty = Syntax.tyRef (Syntax.named 1) Syntax.imm (Syntax.tyInt Syntax.w16); ref = λ x. x },
-          (
-            record {
-              pos = 3;
-              ty = Syntax.tyRef (Syntax.named 2) Syntax.imm (Syntax.tyInt Syntax.w8);
-              ref = λ x. x;
-            },
-            (
-              record { pos = 4; ty = Syntax.tyRef (Syntax.named 3) Syntax.imm (Syntax.tyInt Syntax.w16); ref = λ x. x },
-              (
-                record { pos = 5; ty = Syntax.tyRef (Syntax.named 4) Syntax.imm (Syntax.tyInt Syntax.w16); ref = λ x. x },
-                (
-                  record {
-                    pos = 6;
-                    ty = Syntax.tyRef (Syntax.named 5) Syntax.imm (Syntax.tyInt Syntax.w32);
-                    ref = λ x. x;
-                  },
-                  (
-                    record { pos = 7; ty = Syntax.tyRef (Syntax.named 6) Syntax.imm (Syntax.tyInt Syntax.w16); ref = λ x. x },
-                    (
-                      record { pos = 16; ty = Syntax.tyRef Syntax.erased Syntax.mut (Syntax.tyInt Syntax.w8); ref = λ x. x },
-                      (
-                        record {
-                          pos = 9;
-                          ty = Syntax.tyRef
-                              (Syntax.named 8) Syntax.imm Rec.behind;
-                          ref = λ x. x;
-                        },
-                        (Num.vAt 12 λ x. x, tt),
-                      ),
-                    ),
-                  ),
-                ),
-              ),
-            ),
-          ),
-        ),
-      ) (m18 (c .before .before) (c .before .grant-arg .given)) (c .grant)
+      After-grant·gave = λ c. Called.given ps·0 r·0 (claims· .1) T21 args·0 (m18 (c .before .before) (c .before .grant-arg .given)) (c .grant)
 
       abbrev pub m20 : (before : After-grant) → (given : s20 .gives (m19 (before .before) (After-grant·gave before))) → Typed.Mo T24
       m20 = λ before given. s20 .next (m19 (before .before) (After-grant·gave before)) given
@@ -1798,7 +1109,7 @@ module _ (claims· : Claims) where
         pub before : After-grant
         pub drone-flags : After-drone-flags·own before
 
-      abbrev pub m21 : (before : After-drone-flags) → (given : s21 .gives (m20 (before .before) (before .drone-flags .given))) → Typed.Mo T25
+      abbrev pub m21 : (before : After-drone-flags) → (given : s21 .gives (m20 (before .before) (before .drone-flags .given))) → Typed.Mo T24
       m21 = λ before given. s21 .next (m20 (before .before) (before .drone-flags .given)) given
 
       module _ (before· : After-drone-flags) where
@@ -1812,25 +1123,19 @@ module _ (claims· : Claims) where
       abbrev pub Need-with-bit-requires : Type 0
       Need-with-bit-requires = (c : After-slice-known2) → s23 .asks (m21 (c .before) (c .slice-known2 .given))
 
-      abbrev pub m22 : (before : After-slice-known2) → (given : s23 .gives (m21 (before .before) (before .slice-known2 .given))) → Typed.Mo T27
+      abbrev pub m22 : (before : After-slice-known2) → (given : s23 .gives (m21 (before .before) (before .slice-known2 .given))) → Typed.Mo T24
       m22 = λ before given. s23 .next (m21 (before .before) (before .slice-known2 .given)) given
 
       module _ (before· : After-slice-known2) where
         abbrev pub After-with-bit·own : Type 0
-        After-with-bit·own = Called.Called ps·1 r·1 (claims· .3) T25 (
-          Num.vAt 10 λ x. x,
-          (Num.vAt 12 λ x. x, (record { pos = 13; st = List.[]; d = 0; at = λ x. x }, tt)),
-        ) (m21 (before· .before) (before· .slice-known2 .given))
+        After-with-bit·own = Called.Called ps·1 r·1 (claims· .3) T24 args·1 (m21 (before· .before) (before· .slice-known2 .given))
 
       pub record After-with-bit : Type 0 where
         pub before : After-slice-known2
         pub with-bit : After-with-bit·own before
 
       abbrev pub After-with-bit·gave : (c : After-with-bit) → s23 .gives (m21 (c .before .before) (c .before .slice-known2 .given))
-      After-with-bit·gave = λ c. Called.given ps·1 r·1 (claims· .3) T25 (
-        Num.vAt 10 λ x. x,
-        (Num.vAt 12 λ x. x, (record { pos = 13; st = List.[]; d = 0; at = λ x. x }, tt)),
-      ) (m21 (c .before .before) (c .before .slice-known2 .given)) (c .with-bit)
+      After-with-bit·gave = λ c. Called.given ps·1 r·1 (claims· .3) T24 args·1 (m21 (c .before .before) (c .before .slice-known2 .given)) (c .with-bit)
 
       abbrev pub Need-unusable-number-requires : Type 0
       Need-unusable-number-requires = (c : After-with-bit) → s24 .asks (m22 (c .before) (After-with-bit·gave c))
@@ -1840,253 +1145,122 @@ module _ (claims· : Claims) where
 
       module _ (before· : After-with-bit) where
         abbrev pub After-unusable-number·own : Type 0
-        After-unusable-number·own = Called.Called ps·2 r·2 (claims· .5) T27 (
-          record { pos = 13; st = List.[]; d = 0; at = λ x. x },
-          tt,
-        ) (m22 (before· .before) (After-with-bit·gave before·))
+        After-unusable-number·own = Called.Called ps·2 r·2 (claims· .5) T24 (record { pos = 13; st = List.[]; d = 0; at = λ x. x }, tt) (m22 (before· .before) (After-with-bit·gave before·))
 
       pub record After-unusable-number : Type 0 where
         pub before : After-with-bit
         pub unusable-number : After-unusable-number·own before
 
       abbrev pub After-unusable-number·gave : (c : After-unusable-number) → s24 .gives (m22 (c .before .before) (After-with-bit·gave (c .before)))
-      After-unusable-number·gave = λ c. Called.given ps·2 r·2 (claims· .5) T27 (
-        record { pos = 13; st = List.[]; d = 0; at = λ x. x },
-        tt,
-      ) (m22 (c .before .before) (After-with-bit·gave (c .before))) (c .unusable-number)
+      After-unusable-number·gave = λ c. Called.given ps·2 r·2 (claims· .5) T24 (record { pos = 13; st = List.[]; d = 0; at = λ x. x }, tt) (m22 (c .before .before) (After-with-bit·gave (c .before))) (c .unusable-number)
 
-      abbrev pub m24 : (before : After-with-bit) → (given : s24 .gives (m22 (before .before) (After-with-bit·gave before))) → Typed.Mo T29
-      m24 = λ before given. s25 (m23 before given)
-
-      abbrev pub Need-add-drone : Type 0
-      Need-add-drone = (c : After-unusable-number) → s26 .asks (m24 (c .before) (After-unusable-number·gave c))
+      abbrev pub Need-add-next-asked : Type 0
+      Need-add-next-asked = (c : After-unusable-number) → s25 .asks (m23 (c .before) (After-unusable-number·gave c))
 
       abbrev pub m25 : (before : After-with-bit) → (given : s24 .gives (m22 (before .before) (After-with-bit·gave before))) → Typed.Mo T30
-      m25 = λ before given. s26 .next (m24 before given)
+      m25 = λ before given. s26 (s25 .next (m23 before given))
+
+      abbrev pub Need-next-asked-requires : Type 0
+      Need-next-asked-requires = (c : After-unusable-number) → s27 .asks (m25 (c .before) (After-unusable-number·gave c))
+
+      abbrev pub m28 : (before : After-unusable-number) → (given : s27 .gives (m25 (before .before) (After-unusable-number·gave before))) → Typed.Mo T12
+      m28 = λ before given. s29 (s28 (s27 .next (m25 (before .before) (After-unusable-number·gave before)) given))
+
+      module _ (before· : After-unusable-number) where
+        abbrev pub After-next-asked·own : Type 0
+        After-next-asked·own = Called.Called ps·3 r·3 (claims· .7) T30 args·2 (m25 (before· .before) (After-unusable-number·gave before·))
+
+      pub record After-next-asked : Type 0 where
+        pub before : After-unusable-number
+        pub next-asked : After-next-asked·own before
+
+      abbrev pub After-next-asked·gave : (c : After-next-asked) → s27 .gives (m25 (c .before .before) (After-unusable-number·gave (c .before)))
+      After-next-asked·gave = λ c. Called.given ps·3 r·3 (claims· .7) T30 args·2 (m25 (c .before .before) (After-unusable-number·gave (c .before))) (c .next-asked)
 
       abbrev pub Need-loop-less : Type 0
-      Need-loop-less = (c : After-unusable-number) → Nat._<_ (μ·0 (Row.get 1 (T12 .locals) (m11 (c .before .before .before .before .before .before .before .before .before) (c .before .before .before .before .before .before .before .before .slice-known .given)) .now) (Row.get 2 (T12 .locals) (m11
-          (c .before .before .before .before .before .before .before .before .before) (c .before .before .before .before .before .before .before .before .slice-known .given)) .now) (Row.get 3 (T12 .locals) (m11 (c .before .before .before .before .before .before .before .before .before)
-          (c .before .before .before .before .before .before .before .before .slice-known .given)) .now) (Row.get 4 (T12 .locals) (m11 (c .before .before .before .before .before .before .before .before .before) (c .before .before .before .before .before .before .before .before .slice-known .given)) .now) (Row.get 5 (T12 .locals) (m11
-          (c .before .before .before .before .before .before .before .before .before) (c .before .before .before .before .before .before .before .before .slice-known .given)) .now) (Row.get 6 (T12 .locals) (m11 (c .before .before .before .before .before .before .before .before .before)
-          (c .before .before .before .before .before .before .before .before .slice-known .given)) .now) (Row.get 7 (T12 .locals) (m11 (c .before .before .before .before .before .before .before .before .before) (c .before .before .before .before .before .before .before .before .slice-known .given)) .now) (Row.get 8 (T12 .locals) (m11
-          (c .before .before .before .before .before .before .before .before .before) (c .before .before .before .before .before .before .before .before .slice-known .given)) .now) (Row.get 9 (T12 .locals) (m11 (c .before .before .before .before .before .before .before .before .before)
-          (c .before .before .before .before .before .before .before .before .slice-known .given)) .now) (Row.get 10 (T12 .locals) (m11 (c .before .before .before .before .before .before .before .before .before) (c .before .before .before .before .before .before .before .before .slice-known .given))) (Row.get 11 (T12 .locals) (m11
-          (c .before .before .before .before .before .before .before .before .before) (c .before .before .before .before .before .before .before .before .slice-known .given))) (Row.get 12 (T12 .locals) (m11 (c .before .before .before .before .before .before .before .before .before)
-          (c .before .before .before .before .before .before .before .before .slice-known .given))) (Row.get 8 (T12 .locals) (m25 (c .before) (After-unusable-number·gave c)) .now) (Row.get 10 (T12 .locals) (m25 (c .before) (After-unusable-number·gave c))) (Row.get 11 (T12 .locals) (m25 (c .before) (After-unusable-number·gave c))) (Row.get 12 (T12 .locals)
-          (m25 (c .before) (After-unusable-number·gave c)))) (μ·0 (Row.get 1 (T12 .locals) (m11 (c .before .before .before .before .before .before .before .before .before) (c .before .before .before .before .before .before .before .before .slice-known .given)) .now) (Row.get 2 (T12 .locals) (m11
-          (c .before .before .before .before .before .before .before .before .before) (c .before .before .before .before .before .before .before .before .slice-known .given)) .now) (Row.get 3 (T12 .locals) (m11 (c .before .before .before .before .before .before .before .before .before)
-          (c .before .before .before .before .before .before .before .before .slice-known .given)) .now) (Row.get 4 (T12 .locals) (m11 (c .before .before .before .before .before .before .before .before .before) (c .before .before .before .before .before .before .before .before .slice-known .given)) .now) (Row.get 5 (T12 .locals) (m11
-          (c .before .before .before .before .before .before .before .before .before) (c .before .before .before .before .before .before .before .before .slice-known .given)) .now) (Row.get 6 (T12 .locals) (m11 (c .before .before .before .before .before .before .before .before .before)
-          (c .before .before .before .before .before .before .before .before .slice-known .given)) .now) (Row.get 7 (T12 .locals) (m11 (c .before .before .before .before .before .before .before .before .before) (c .before .before .before .before .before .before .before .before .slice-known .given)) .now) (Row.get 8 (T12 .locals) (m11
-          (c .before .before .before .before .before .before .before .before .before) (c .before .before .before .before .before .before .before .before .slice-known .given)) .now) (Row.get 9 (T12 .locals) (m11 (c .before .before .before .before .before .before .before .before .before)
-          (c .before .before .before .before .before .before .before .before .slice-known .given)) .now) (Row.get 10 (T12 .locals) (m11 (c .before .before .before .before .before .before .before .before .before) (c .before .before .before .before .before .before .before .before .slice-known .given))) (Row.get 11 (T12 .locals) (m11
-          (c .before .before .before .before .before .before .before .before .before) (c .before .before .before .before .before .before .before .before .slice-known .given))) (Row.get 12 (T12 .locals) (m11 (c .before .before .before .before .before .before .before .before .before)
-          (c .before .before .before .before .before .before .before .before .slice-known .given))) (c .before .before .before .before .before .before .before .loop .drone-flags) (c .before .before .before .before .before .before .before .loop .bits) (c .before .before .before .before .before .before .before .loop .unusable-by)
-          (c .before .before .before .before .before .before .before .loop .drone))
+      Need-loop-less = (c : After-next-asked) → Nat._<_ (μ·0 (Row.get 1 (T12 .locals) (m11 (c .before .before .before .before .before .before .before .before .before .before) (c .before .before .before .before .before .before .before .before .before .slice-known .given)) .now) (Row.get 2 (T12 .locals) (m11 (c .before .before .before .before .before .before
+          .before .before .before .before) (c .before .before .before .before .before .before .before .before .before .slice-known .given)) .now) (Row.get 3 (T12 .locals) (m11 (c .before .before .before .before .before .before .before .before .before .before) (c .before .before .before .before .before .before .before .before .before .slice-known .given)) .now)
+          (Row.get 4 (T12 .locals) (m11 (c .before .before .before .before .before .before .before .before .before .before) (c .before .before .before .before .before .before .before .before .before .slice-known .given)) .now) (Row.get 5 (T12 .locals) (m11 (c .before .before .before .before .before .before .before .before .before .before) (c .before .before
+          .before .before .before .before .before .before .before .slice-known .given)) .now) (Row.get 6 (T12 .locals) (m11 (c .before .before .before .before .before .before .before .before .before .before) (c .before .before .before .before .before .before .before .before .before .slice-known .given)) .now) (Row.get 7 (T12 .locals) (m11 (c .before .before
+          .before .before .before .before .before .before .before .before) (c .before .before .before .before .before .before .before .before .before .slice-known .given)) .now) (Row.get 8 (T12 .locals) (m11 (c .before .before .before .before .before .before .before .before .before .before) (c .before .before .before .before .before .before .before .before
+          .before .slice-known .given)) .now) (Row.get 9 (T12 .locals) (m11 (c .before .before .before .before .before .before .before .before .before .before) (c .before .before .before .before .before .before .before .before .before .slice-known .given)) .now) (Row.get 10 (T12 .locals) (m11 (c .before .before .before .before .before .before .before .before
+          .before .before) (c .before .before .before .before .before .before .before .before .before .slice-known .given))) (Row.get 11 (T12 .locals) (m11 (c .before .before .before .before .before .before .before .before .before .before) (c .before .before .before .before .before .before .before .before .before .slice-known .given))) (Row.get 12 (T12 .locals)
+          (m11 (c .before .before .before .before .before .before .before .before .before .before) (c .before .before .before .before .before .before .before .before .before .slice-known .given))) (Row.get 8 (T12 .locals) (m28 (c .before) (After-next-asked·gave c)) .now) (Row.get 10 (T12 .locals) (m28 (c .before) (After-next-asked·gave c))) (Row.get 11 (T12
+          .locals) (m28 (c .before) (After-next-asked·gave c))) (Row.get 12 (T12 .locals) (m28 (c .before) (After-next-asked·gave c)))) (μ·0 (Row.get 1 (T12 .locals) (m11 (c .before .before .before .before .before .before .before .before .before .before) (c .before .before .before .before .before .before .before .before .before .slice-known .given)) .now)
+          (Row.get 2 (T12 .locals) (m11 (c .before .before .before .before .before .before .before .before .before .before) (c .before .before .before .before .before .before .before .before .before .slice-known .given)) .now) (Row.get 3 (T12 .locals) (m11 (c .before .before .before .before .before .before .before .before .before .before) (c .before .before
+          .before .before .before .before .before .before .before .slice-known .given)) .now) (Row.get 4 (T12 .locals) (m11 (c .before .before .before .before .before .before .before .before .before .before) (c .before .before .before .before .before .before .before .before .before .slice-known .given)) .now) (Row.get 5 (T12 .locals) (m11 (c .before .before
+          .before .before .before .before .before .before .before .before) (c .before .before .before .before .before .before .before .before .before .slice-known .given)) .now) (Row.get 6 (T12 .locals) (m11 (c .before .before .before .before .before .before .before .before .before .before) (c .before .before .before .before .before .before .before .before
+          .before .slice-known .given)) .now) (Row.get 7 (T12 .locals) (m11 (c .before .before .before .before .before .before .before .before .before .before) (c .before .before .before .before .before .before .before .before .before .slice-known .given)) .now) (Row.get 8 (T12 .locals) (m11 (c .before .before .before .before .before .before .before .before
+          .before .before) (c .before .before .before .before .before .before .before .before .before .slice-known .given)) .now) (Row.get 9 (T12 .locals) (m11 (c .before .before .before .before .before .before .before .before .before .before) (c .before .before .before .before .before .before .before .before .before .slice-known .given)) .now) (Row.get 10 (T12
+          .locals) (m11 (c .before .before .before .before .before .before .before .before .before .before) (c .before .before .before .before .before .before .before .before .before .slice-known .given))) (Row.get 11 (T12 .locals) (m11 (c .before .before .before .before .before .before .before .before .before .before) (c .before .before .before .before .before
+          .before .before .before .before .slice-known .given))) (Row.get 12 (T12 .locals) (m11 (c .before .before .before .before .before .before .before .before .before .before) (c .before .before .before .before .before .before .before .before .before .slice-known .given))) (c .before .before .before .before .before .before .before .before .loop .drone-flags)
+          (c .before .before .before .before .before .before .before .before .loop .bits) (c .before .before .before .before .before .before .before .before .loop .unusable-by) (c .before .before .before .before .before .before .before .before .loop .drone))
 
       abbrev pub Need-loop-again : Type 0
-      Need-loop-again = (c : After-unusable-number) → Inv·0 (Row.get 1 (T12 .locals) (m11 (c .before .before .before .before .before .before .before .before .before) (c .before .before .before .before .before .before .before .before .slice-known .given)) .now) (Row.get 2 (T12 .locals) (m11
-          (c .before .before .before .before .before .before .before .before .before) (c .before .before .before .before .before .before .before .before .slice-known .given)) .now) (Row.get 3 (T12 .locals) (m11 (c .before .before .before .before .before .before .before .before .before)
-          (c .before .before .before .before .before .before .before .before .slice-known .given)) .now) (Row.get 4 (T12 .locals) (m11 (c .before .before .before .before .before .before .before .before .before) (c .before .before .before .before .before .before .before .before .slice-known .given)) .now) (Row.get 5 (T12 .locals) (m11
-          (c .before .before .before .before .before .before .before .before .before) (c .before .before .before .before .before .before .before .before .slice-known .given)) .now) (Row.get 6 (T12 .locals) (m11 (c .before .before .before .before .before .before .before .before .before)
-          (c .before .before .before .before .before .before .before .before .slice-known .given)) .now) (Row.get 7 (T12 .locals) (m11 (c .before .before .before .before .before .before .before .before .before) (c .before .before .before .before .before .before .before .before .slice-known .given)) .now) (Row.get 8 (T12 .locals) (m11
-          (c .before .before .before .before .before .before .before .before .before) (c .before .before .before .before .before .before .before .before .slice-known .given)) .now) (Row.get 9 (T12 .locals) (m11 (c .before .before .before .before .before .before .before .before .before)
-          (c .before .before .before .before .before .before .before .before .slice-known .given)) .now) (Row.get 10 (T12 .locals) (m11 (c .before .before .before .before .before .before .before .before .before) (c .before .before .before .before .before .before .before .before .slice-known .given))) (Row.get 11 (T12 .locals) (m11
-          (c .before .before .before .before .before .before .before .before .before) (c .before .before .before .before .before .before .before .before .slice-known .given))) (Row.get 12 (T12 .locals) (m11 (c .before .before .before .before .before .before .before .before .before)
-          (c .before .before .before .before .before .before .before .before .slice-known .given))) (Row.get 8 (T12 .locals) (m25 (c .before) (After-unusable-number·gave c)) .now) (Row.get 10 (T12 .locals) (m25 (c .before) (After-unusable-number·gave c))) (Row.get 11 (T12 .locals) (m25 (c .before) (After-unusable-number·gave c))) (Row.get 12 (T12 .locals)
-          (m25 (c .before) (After-unusable-number·gave c)))
+      Need-loop-again = (c : After-next-asked) → Inv·0 (Row.get 1 (T12 .locals) (m11 (c .before .before .before .before .before .before .before .before .before .before) (c .before .before .before .before .before .before .before .before .before .slice-known .given)) .now) (Row.get 2 (T12 .locals) (m11 (c .before .before .before .before .before .before .before
+          .before .before .before) (c .before .before .before .before .before .before .before .before .before .slice-known .given)) .now) (Row.get 3 (T12 .locals) (m11 (c .before .before .before .before .before .before .before .before .before .before) (c .before .before .before .before .before .before .before .before .before .slice-known .given)) .now) (Row.get
+          4 (T12 .locals) (m11 (c .before .before .before .before .before .before .before .before .before .before) (c .before .before .before .before .before .before .before .before .before .slice-known .given)) .now) (Row.get 5 (T12 .locals) (m11 (c .before .before .before .before .before .before .before .before .before .before) (c .before .before .before
+          .before .before .before .before .before .before .slice-known .given)) .now) (Row.get 6 (T12 .locals) (m11 (c .before .before .before .before .before .before .before .before .before .before) (c .before .before .before .before .before .before .before .before .before .slice-known .given)) .now) (Row.get 7 (T12 .locals) (m11 (c .before .before .before
+          .before .before .before .before .before .before .before) (c .before .before .before .before .before .before .before .before .before .slice-known .given)) .now) (Row.get 8 (T12 .locals) (m11 (c .before .before .before .before .before .before .before .before .before .before) (c .before .before .before .before .before .before .before .before .before
+          .slice-known .given)) .now) (Row.get 9 (T12 .locals) (m11 (c .before .before .before .before .before .before .before .before .before .before) (c .before .before .before .before .before .before .before .before .before .slice-known .given)) .now) (Row.get 10 (T12 .locals) (m11 (c .before .before .before .before .before .before .before .before .before
+          .before) (c .before .before .before .before .before .before .before .before .before .slice-known .given))) (Row.get 11 (T12 .locals) (m11 (c .before .before .before .before .before .before .before .before .before .before) (c .before .before .before .before .before .before .before .before .before .slice-known .given))) (Row.get 12 (T12 .locals) (m11 (c
+          .before .before .before .before .before .before .before .before .before .before) (c .before .before .before .before .before .before .before .before .before .slice-known .given))) (Row.get 8 (T12 .locals) (m28 (c .before) (After-next-asked·gave c)) .now) (Row.get 10 (T12 .locals) (m28 (c .before) (After-next-asked·gave c))) (Row.get 11 (T12 .locals)
+          (m28 (c .before) (After-next-asked·gave c))) (Row.get 12 (T12 .locals) (m28 (c .before) (After-next-asked·gave c)))
 
       abbrev pub Need-reply-with-requires : Type 0
-      Need-reply-with-requires = (c : After-loop) → s27 .asks (m16 (c .before))
+      Need-reply-with-requires = (c : After-loop) → s30 .asks (m16 (c .before))
 
-      abbrev pub m26 : (before : After-loop) → (given : s27 .gives (m16 (before .before))) → Typed.Mo T31
-      m26 = λ before given. s27 .next (m16 (before .before)) given
+      abbrev pub m29 : (before : After-loop) → (given : s30 .gives (m16 (before .before))) → Typed.Mo T34
+      m29 = λ before given. s30 .next (m16 (before .before)) given
 
       module _ (before· : After-loop) where
         abbrev pub After-reply-with·own : Type 0
-        After-reply-with·own = Called.Called ps·3 r·3 (claims· .7) T13 (
-          Num.vAt 11 λ x. x,
-          (Num.vAt 10 λ x. x, tt),
-        ) (m16 (before· .before))
+        After-reply-with·own = Called.Called ps·4 r·4 (claims· .9) T12 (Num.vAt 11 λ x. x, (Num.vAt 10 λ x. x, tt)) (m16 (before· .before))
 
       pub record After-reply-with : Type 0 where
         pub before : After-loop
         pub reply-with : After-reply-with·own before
 
-      abbrev pub After-reply-with·gave : (c : After-reply-with) → s27 .gives (m16 (c .before .before))
-      After-reply-with·gave = λ c. Called.given ps·3 r·3 (claims· .7) T13 (
-        Num.vAt 11 λ x. x,
-        (Num.vAt 10 λ x. x, tt),
-      ) (m16 (c .before .before)) (c .reply-with)
+      abbrev pub After-reply-with·gave : (c : After-reply-with) → s30 .gives (m16 (c .before .before))
+      After-reply-with·gave = λ c. Called.given ps·4 r·4 (claims· .9) T12 (Num.vAt 11 λ x. x, (Num.vAt 10 λ x. x, tt)) (m16 (c .before .before)) (c .reply-with)
 
-      abbrev pub m27 : (before : After-loop) → (given : s27 .gives (m16 (before .before))) → Typed.Mo T32
-      m27 = λ before given. s28 (m26 before given)
-
-      abbrev pub m28 : (before : After-loop) → (given : s27 .gives (m16 (before .before))) → Typed.Mo T33
-      m28 = λ before given. s29 (m27 before given)
-
-      abbrev pub m29 : (before : After-loop) → (given : s27 .gives (m16 (before .before))) → Typed.Mo T34
-      m29 = λ before given. s30 (m28 before given)
+      abbrev pub m32 : (before : After-loop) → (given : s30 .gives (m16 (before .before))) → Typed.Mo T1
+      m32 = λ before given. s33 (s32 (s31 (m29 before given)))
 
       abbrev pub Need-same-length : Type 0
-      Need-same-length = (c : After-reply-with) → MutSlice.SameLen (Row.get 8 (T34 .locals) (m29 (c .before) (After-reply-with·gave c))) (dens (c .before .before .before .before .before .before .before .before .before .before .before .κs) (c .before .before .before .before .before .before .before .before .before .before
-          .before .args) .1 .1 .1 .1 .1 .1 .1 .0)
+      Need-same-length = (c : After-reply-with) → MutSlice.SameLen (Row.get 8 (T1 .locals) (m32 (c .before) (After-reply-with·gave c))) (dens (c .before .before .before .before .before .before .before .before .before .before .before .κs) (c .before .before .before .before .before .before .before .before .before .before .before .args) .1 .1 .1 .1 .1 .1 .1 .0)
 
       abbrev pub Need-returns : Type 0
-      Need-returns = (c : After-reply-with) → Post· (c .before .before .before .before .before .before .before .before .before .before .before .κs) (dens (c .before .before .before .before .before .before .before .before .before .before .before .κs) (c .before .before .before .before .before .before .before .before .before .before
-          .before .args)) (Function.resV r (c .before .before .before .before .before .before .before .before .before .before .before .κs) (m29 (c .before) (After-reply-with·gave c) .0)) (Clauses.atExit (Kinds.endedOf 9 ps r) (c .before .before .before .before .before .before .before .before .before .before .before .κs) (dens
-          (c .before .before .before .before .before .before .before .before .before .before .before .κs) (c .before .before .before .before .before .before .before .before .before .before .before .args)) (Enter.lastsP (c .before .before .before .before .before .before .before .before .before .before .before .κs) 1 ps xs (dens
-          (c .before .before .before .before .before .before .before .before .before .before .before .κs) (c .before .before .before .before .before .before .before .before .before .before .before .args)) (m29 (c .before) (After-reply-with·gave c) .1)))
+      Need-returns = (c : After-reply-with) → Post· (c .before .before .before .before .before .before .before .before .before .before .before .κs) (dens (c .before .before .before .before .before .before .before .before .before .before .before .κs) (c .before .before .before .before .before .before .before .before .before .before .before .args))
+          (Function.resV r (c .before .before .before .before .before .before .before .before .before .before .before .κs) (m32 (c .before) (After-reply-with·gave c) .0)) (Clauses.atExit (Kinds.endedOf 9 ps r) (c .before .before .before .before .before .before .before .before .before .before .before .κs) (dens (c .before .before .before .before .before .before
+          .before .before .before .before .before .κs) (c .before .before .before .before .before .before .before .before .before .before .before .args)) (Enter.lastsP (c .before .before .before .before .before .before .before .before .before .before .before .κs) 1 ps xs (dens (c .before .before .before .before .before .before .before .before .before .before
+          .before .κs) (c .before .before .before .before .before .before .before .before .before .before .before .args)) (m32 (c .before) (After-reply-with·gave c) .1)))
 
-      module _ (loop-holds : Need-loop-holds) (grant-requires : Need-grant-requires) (with-bit-requires : Need-with-bit-requires) (unusable-number-requires : Need-unusable-number-requires) (add-drone : Need-add-drone) (loop-less : Need-loop-less) (loop-again : Need-loop-again) (reply-with-requires : Need-reply-with-requires) (same-length : Need-same-length)
-          (returns : Need-returns) where
-        lay8 : (c : After-reply-with) → at25 (W0 (c .before .before .before .before .before .before .before .before .before .before .before .κs) (c .before .before .before .before .before .before .before .before .before .before .before .args)) (m26 (c .before) (After-reply-with·gave c))
-        lay8 = λ c. (
-          (
-            Path'.refl,
-            (
-              Path'.refl,
-              (
-                Path'.refl,
-                (
-                  Path'.refl,
-                  (
-                    Path'.refl,
-                    (
-                      Path'.refl,
-                      (
-                        Path'.refl,
-                        (
-                          MutSlice.fix-len (Row.get 8 (T34 .locals) (m29 (c .before) (After-reply-with·gave c)) .ptr) (Row.get 8 (T34 .locals) (m29 (c .before) (After-reply-with·gave c)) .name) (Row.get 8
-                              (T34 .locals) (m29 (c .before) (After-reply-with·gave c)) .now) (dens (c .before .before .before .before .before .before .before .before .before .before .before .κs) (c .before .before .before .before .before .before .before .before .before .before .before .args) .1 .1 .1 .1 .1 .1 .1 .0 .now) (same-length
-                              record { before = c .before; reply-with = c .reply-with }),
-                          (Path'.refl, tt),
-                        ),
-                      ),
-                    ),
-                  ),
-                ),
-              ),
-            ),
-          ),
-          returns record { before = c .before; reply-with = c .reply-with },
-        )
+      module _ (loop-holds : Need-loop-holds) (grant-requires : Need-grant-requires) (with-bit-requires : Need-with-bit-requires) (unusable-number-requires : Need-unusable-number-requires) (add-next-asked : Need-add-next-asked) (next-asked-requires : Need-next-asked-requires) (loop-less : Need-loop-less) (loop-again : Need-loop-again) (reply-with-requires :
+          Need-reply-with-requires) (same-length : Need-same-length) (returns : Need-returns) where
+        lay8 : (c : After-reply-with) → at26 (W0 (c .before .before .before .before .before .before .before .before .before .before .before .κs) (c .before .before .before .before .before .before .before .before .before .before .before .args)) (m29 (c .before) (After-reply-with·gave c))
+        lay8 = λ c.
+            ((Path'.refl, (Path'.refl, (Path'.refl, (Path'.refl, (Path'.refl, (Path'.refl, (Path'.refl, (MutSlice.fix-len (Row.get 8 (T1 .locals) (m32 (c .before) (After-reply-with·gave c)) .ptr) (Row.get 8 (T1 .locals) (m32 (c .before) (After-reply-with·gave c)) .name) (Row.get 8 (T1 .locals) (m32 (c .before) (After-reply-with·gave c)) .now) (dens (c .before .before .before .before .before .before .before .before .before .before .before .κs) (c .before .before .before .before .before .before .before .before .before .before .before .args) .1 .1 .1 .1 .1 .1 .1 .0 .now) (same-length record { before = c .before; reply-with = c .reply-with }), (Path'.refl, tt))))))))), returns record { before = c .before; reply-with = c .reply-with })
 
-        lay7 : (c : After-loop) → at26 (W0 (c .before .before .before .before .before .before .before .before .before .before .κs) (c .before .before .before .before .before .before .before .before .before .before .args)) (m16 (c .before))
-        lay7 = λ c. (
-          reply-with-requires record { before = c .before; loop-test = c .loop-test },
-          λ g. lay8 record { before = record { before = c .before; loop-test = c .loop-test }; reply-with = Called.called ps·3 r·3 (claims· .7) T13 (Num.vAt 11 λ x. x, (Num.vAt 10 λ x. x, tt)) (m16 (c .before)) g },
-        )
+        lay7 : (c : After-loop) → at27 (W0 (c .before .before .before .before .before .before .before .before .before .before .κs) (c .before .before .before .before .before .before .before .before .before .before .args)) (m16 (c .before))
+        lay7 = λ c. (reply-with-requires record { before = c .before; loop-test = c .loop-test }, λ g. lay8 record { before = record { before = c .before; loop-test = c .loop-test }; reply-with = Called.called ps·4 r·4 (claims· .9) T12 (Num.vAt 11 λ x. x, (Num.vAt 10 λ x. x, tt)) (m16 (c .before)) g })
 
-        lay6 : (c : After-unusable-number) → at7 (W3 (c .before .before .before .before .before .before .before .before) (c .before .before .before .before .before .before .before .loop .drone-flags) (c .before .before .before .before .before .before .before .loop .bits) (c .before .before .before .before .before .before .before .loop .unusable-by)
-            (c .before .before .before .before .before .before .before .loop .drone)) (m23 (c .before) (After-unusable-number·gave c))
-        lay6 = λ c. (
-          add-drone record { before = c .before; unusable-number = c .unusable-number },
-          (
-            μ·0 (Row.get 1 (T12 .locals) (m11 (c .before .before .before .before .before .before .before .before .before) (c .before .before .before .before .before .before .before .before .slice-known .given)) .now) (Row.get 2 (T12 .locals) (m11
-                (c .before .before .before .before .before .before .before .before .before) (c .before .before .before .before .before .before .before .before .slice-known .given)) .now) (Row.get 3 (T12 .locals) (m11 (c .before .before .before .before .before .before .before .before .before)
-                (c .before .before .before .before .before .before .before .before .slice-known .given)) .now) (Row.get 4 (T12 .locals) (m11 (c .before .before .before .before .before .before .before .before .before) (c .before .before .before .before .before .before .before .before .slice-known .given)) .now) (Row.get 5 (T12 .locals) (m11
-                (c .before .before .before .before .before .before .before .before .before) (c .before .before .before .before .before .before .before .before .slice-known .given)) .now) (Row.get 6 (T12 .locals) (m11 (c .before .before .before .before .before .before .before .before .before)
-                (c .before .before .before .before .before .before .before .before .slice-known .given)) .now) (Row.get 7 (T12 .locals) (m11 (c .before .before .before .before .before .before .before .before .before) (c .before .before .before .before .before .before .before .before .slice-known .given)) .now) (Row.get 8 (T12 .locals) (m11
-                (c .before .before .before .before .before .before .before .before .before) (c .before .before .before .before .before .before .before .before .slice-known .given)) .now) (Row.get 9 (T12 .locals) (m11 (c .before .before .before .before .before .before .before .before .before)
-                (c .before .before .before .before .before .before .before .before .slice-known .given)) .now) (Row.get 10 (T12 .locals) (m11 (c .before .before .before .before .before .before .before .before .before) (c .before .before .before .before .before .before .before .before .slice-known .given))) (Row.get 11 (T12 .locals) (m11
-                (c .before .before .before .before .before .before .before .before .before) (c .before .before .before .before .before .before .before .before .slice-known .given))) (Row.get 12 (T12 .locals) (m11 (c .before .before .before .before .before .before .before .before .before)
-                (c .before .before .before .before .before .before .before .before .slice-known .given))) (Row.get 8 (T12 .locals) (m25 (c .before) (After-unusable-number·gave c)) .now) (Row.get 10 (T12 .locals) (m25 (c .before) (After-unusable-number·gave c))) (Row.get 11 (T12 .locals) (m25 (c .before) (After-unusable-number·gave c)))
-                (Row.get 12 (T12 .locals) (m25 (c .before) (After-unusable-number·gave c))),
-            loop-less record { before = c .before; unusable-number = c .unusable-number },
-            (
-              (
-                Row.get 8 (T12 .locals) (m25 (c .before) (After-unusable-number·gave c)) .now,
-                Row.get 10 (T12 .locals) (m25 (c .before) (After-unusable-number·gave c)),
-                Row.get 11 (T12 .locals) (m25 (c .before) (After-unusable-number·gave c)),
-                Row.get 12 (T12 .locals) (m25 (c .before) (After-unusable-number·gave c)),
-              ),
-              Path'.refl {a = m25 (c .before) (After-unusable-number·gave c)},
-              loop-again record { before = c .before; unusable-number = c .unusable-number },
-              Path'.refl {a = μ·0 (Row.get 1 (T12 .locals) (m11
-                  (c .before .before .before .before .before .before .before .before .before) (c .before .before .before .before .before .before .before .before .slice-known .given)) .now) (Row.get 2 (T12 .locals) (m11 (c .before .before .before .before .before .before .before .before .before)
-                  (c .before .before .before .before .before .before .before .before .slice-known .given)) .now) (Row.get 3 (T12 .locals) (m11 (c .before .before .before .before .before .before .before .before .before) (c .before .before .before .before .before .before .before .before .slice-known .given)) .now) (Row.get 4 (T12 .locals) (m11
-                  (c .before .before .before .before .before .before .before .before .before) (c .before .before .before .before .before .before .before .before .slice-known .given)) .now) (Row.get 5 (T12 .locals) (m11 (c .before .before .before .before .before .before .before .before .before)
-                  (c .before .before .before .before .before .before .before .before .slice-known .given)) .now) (Row.get 6 (T12 .locals) (m11 (c .before .before .before .before .before .before .before .before .before) (c .before .before .before .before .before .before .before .before .slice-known .given)) .now) (Row.get 7 (T12 .locals) (m11
-                  (c .before .before .before .before .before .before .before .before .before) (c .before .before .before .before .before .before .before .before .slice-known .given)) .now) (Row.get 8 (T12 .locals) (m11 (c .before .before .before .before .before .before .before .before .before)
-                  (c .before .before .before .before .before .before .before .before .slice-known .given)) .now) (Row.get 9 (T12 .locals) (m11 (c .before .before .before .before .before .before .before .before .before) (c .before .before .before .before .before .before .before .before .slice-known .given)) .now) (Row.get 10 (T12 .locals) (m11
-                  (c .before .before .before .before .before .before .before .before .before) (c .before .before .before .before .before .before .before .before .slice-known .given))) (Row.get 11 (T12 .locals) (m11 (c .before .before .before .before .before .before .before .before .before)
-                  (c .before .before .before .before .before .before .before .before .slice-known .given))) (Row.get 12 (T12 .locals) (m11 (c .before .before .before .before .before .before .before .before .before) (c .before .before .before .before .before .before .before .before .slice-known
-                  .given))) (Row.get 8 (T12 .locals) (m25 (c .before) (After-unusable-number·gave c)) .now) (Row.get 10 (T12 .locals) (m25 (c .before) (After-unusable-number·gave c))) (Row.get 11 (T12 .locals) (m25 (c .before) (After-unusable-number·gave c))) (Row.get 12 (T12 .locals) (m25 (c .before) (After-unusable-number·gave c)))},
-            ),
-          ),
-        )
+        lay6 : (c : After-unusable-number) → at8 (W3 (c .before .before .before .before .before .before .before .before) (c .before .before .before .before .before .before .before .loop .drone-flags) (c .before .before .before .before .before .before .before .loop .bits) (c .before .before .before .before .before .before .before .loop .unusable-by) (c
+            .before .before .before .before .before .before .before .loop .drone)) (m23 (c .before) (After-unusable-number·gave c))
+        lay6 = λ c.
+            (add-next-asked record { before = c .before; unusable-number = c .unusable-number }, (next-asked-requires record { before = c .before; unusable-number = c .unusable-number }, λ g. (μ·0 (Row.get 1 (T12 .locals) (m11 (c .before .before .before .before .before .before .before .before .before) (c .before .before .before .before .before .before .before .before .slice-known .given)) .now) (Row.get 2 (T12 .locals) (m11 (c .before .before .before .before .before .before .before .before .before) (c .before .before .before .before .before .before .before .before .slice-known .given)) .now) (Row.get 3 (T12 .locals) (m11 (c .before .before .before .before .before .before .before .before .before) (c .before .before .before .before .before .before .before .before .slice-known .given)) .now) (Row.get 4 (T12 .locals) (m11 (c .before .before .before .before .before .before .before .before .before) (c .before .before .before .before .before .before .before .before .slice-known .given)) .now) (Row.get 5 (T12 .locals) (m11 (c .before .before .before .before .before .before .before .before .before) (c .before .before .before .before .before .before .before .before .slice-known .given)) .now) (Row.get 6 (T12 .locals) (m11 (c .before .before .before .before .before .before .before .before .before) (c .before .before .before .before .before .before .before .before .slice-known .given)) .now) (Row.get 7 (T12 .locals) (m11 (c .before .before .before .before .before .before .before .before .before) (c .before .before .before .before .before .before .before .before .slice-known .given)) .now) (Row.get 8 (T12 .locals) (m11 (c .before .before .before .before .before .before .before .before .before) (c .before .before .before .before .before .before .before .before .slice-known .given)) .now) (Row.get 9 (T12 .locals) (m11 (c .before .before .before .before .before .before .before .before .before) (c .before .before .before .before .before .before .before .before .slice-known .given)) .now) (Row.get 10 (T12 .locals) (m11 (c .before .before .before .before .before .before .before .before .before) (c .before .before .before .before .before .before .before .before .slice-known .given))) (Row.get 11 (T12 .locals) (m11 (c .before .before .before .before .before .before .before .before .before) (c .before .before .before .before .before .before .before .before .slice-known .given))) (Row.get 12 (T12 .locals) (m11 (c .before .before .before .before .before .before .before .before .before) (c .before .before .before .before .before .before .before .before .slice-known .given))) (Row.get 8 (T12 .locals) (m28 record { before = c .before; unusable-number = c .unusable-number } g) .now) (Row.get 10 (T12 .locals) (m28 record { before = c .before; unusable-number = c .unusable-number } g)) (Row.get 11 (T12 .locals) (m28 record { before = c .before; unusable-number = c .unusable-number } g)) (Row.get 12 (T12 .locals) (m28 record { before = c .before; unusable-number = c .unusable-number } g)), loop-less record { before = record { before = c .before; unusable-number = c .unusable-number }; next-asked = Called.called ps·3 r·3 (claims· .7) T30 args·2 (m25 (c .before) (After-unusable-number·gave c)) g }, ((Row.get 8 (T12 .locals) (m28 record { before = c .before; unusable-number = c .unusable-number } g) .now, Row.get 10 (T12 .locals) (m28 record { before = c .before; unusable-number = c .unusable-number } g), Row.get 11 (T12 .locals) (m28 record { before = c .before; unusable-number = c .unusable-number } g), Row.get 12 (T12 .locals) (m28 record { before = c .before; unusable-number = c .unusable-number } g)), Path'.refl {a = m28 record { before = c .before; unusable-number = c .unusable-number } g}, loop-again record { before = record { before = c .before; unusable-number = c .unusable-number }; next-asked = Called.called ps·3 r·3 (claims· .7) T30 args·2 (m25 (c .before) (After-unusable-number·gave c)) g }, Path'.refl {a = μ·0 (Row.get 1 (T12 .locals) (m11 (c .before .before .before .before .before .before .before .before .before) (c .before .before .before .before .before .before .before .before .slice-known .given)) .now) (Row.get 2 (T12 .locals) (m11 (c .before .before .before .before .before .before .before .before .before) (c .before .before .before .before .before .before .before .before .slice-known .given)) .now) (Row.get 3 (T12 .locals) (m11 (c .before .before .before .before .before .before .before .before .before) (c .before .before .before .before .before .before .before .before .slice-known .given)) .now) (Row.get 4 (T12 .locals) (m11 (c .before .before .before .before .before .before .before .before .before) (c .before .before .before .before .before .before .before .before .slice-known .given)) .now) (Row.get 5 (T12 .locals) (m11 (c .before .before .before .before .before .before .before .before .before) (c .before .before .before .before .before .before .before .before .slice-known .given)) .now) (Row.get 6 (T12 .locals) (m11 (c .before .before .before .before .before .before .before .before .before) (c .before .before .before .before .before .before .before .before .slice-known .given)) .now) (Row.get 7 (T12 .locals) (m11 (c .before .before .before .before .before .before .before .before .before) (c .before .before .before .before .before .before .before .before .slice-known .given)) .now) (Row.get 8 (T12 .locals) (m11 (c .before .before .before .before .before .before .before .before .before) (c .before .before .before .before .before .before .before .before .slice-known .given)) .now) (Row.get 9 (T12 .locals) (m11 (c .before .before .before .before .before .before .before .before .before) (c .before .before .before .before .before .before .before .before .slice-known .given)) .now) (Row.get 10 (T12 .locals) (m11 (c .before .before .before .before .before .before .before .before .before) (c .before .before .before .before .before .before .before .before .slice-known .given))) (Row.get 11 (T12 .locals) (m11 (c .before .before .before .before .before .before .before .before .before) (c .before .before .before .before .before .before .before .before .slice-known .given))) (Row.get 12 (T12 .locals) (m11 (c .before .before .before .before .before .before .before .before .before) (c .before .before .before .before .before .before .before .before .slice-known .given))) (Row.get 8 (T12 .locals) (m28 record { before = c .before; unusable-number = c .unusable-number } g) .now) (Row.get 10 (T12 .locals) (m28 record { before = c .before; unusable-number = c .unusable-number } g)) (Row.get 11 (T12 .locals) (m28 record { before = c .before; unusable-number = c .unusable-number } g)) (Row.get 12 (T12 .locals) (m28 record { before = c .before; unusable-number = c .unusable-number } g))}))))
 
-        lay5 : (c : After-with-bit) → at8 (W3 (c .before .before .before .before .before .before .before) (c .before .before .before .before .before .before .loop .drone-flags) (c .before .before .before .before .before .before .loop .bits) (c .before .before .before .before .before .before .loop .unusable-by)
-            (c .before .before .before .before .before .before .loop .drone)) (m22 (c .before) (After-with-bit·gave c))
-        lay5 = λ c. (
-          unusable-number-requires record { before = c .before; with-bit = c .with-bit },
-          λ g. lay6 record { before = record { before = c .before; with-bit = c .with-bit }; unusable-number = Called.called ps·2 r·2 (claims· .5) T27 (record { pos = 13; st = List.[]; d = 0; at = λ x. x }, tt) (m22 (c .before) (After-with-bit·gave c)) g },
-        )
+        lay5 : (c : After-with-bit) → at9 (W3 (c .before .before .before .before .before .before .before) (c .before .before .before .before .before .before .loop .drone-flags) (c .before .before .before .before .before .before .loop .bits) (c .before .before .before .before .before .before .loop .unusable-by) (c .before .before .before .before .before
+            .before .loop .drone)) (m22 (c .before) (After-with-bit·gave c))
+        lay5 = λ c. (unusable-number-requires record { before = c .before; with-bit = c .with-bit }, λ g. lay6 record { before = record { before = c .before; with-bit = c .with-bit }; unusable-number = Called.called ps·2 r·2 (claims· .5) T24 (record { pos = 13; st = List.[]; d = 0; at = λ x. x }, tt) (m22 (c .before) (After-with-bit·gave c)) g })
 
         lay4 : (c : After-grant) → at13 (W3 (c .before .before .before .before) (c .before .before .before .loop .drone-flags) (c .before .before .before .loop .bits) (c .before .before .before .loop .unusable-by) (c .before .before .before .loop .drone)) (m19 (c .before) (After-grant·gave c))
-        lay4 = λ c. (
-          Path'.refl,
-          λ g. λ g'. (
-            with-bit-requires record { before = record { before = record { before = c .before; grant = c .grant }; drone-flags = record { given = g } }; slice-known2 = record { given = g' } },
-            λ g''. lay5 record {
-              before = record {
-                before = record {
-                  before = record { before = c .before; grant = c .grant };
-                  drone-flags = record { given = g };
-                };
-                slice-known2 = record { given = g' };
-              };
-              with-bit = Called.called ps·1 r·1 (claims· .3) T25 (Num.vAt 10 λ x. x, (Num.vAt 12 λ x. x, (record { pos = 13; st = List.[]; d = 0; at = λ x. x }, tt))) (m21 record {
-                before = record { before = c .before; grant = c .grant };
-                drone-flags = record { given = g };
-              } g') g'';
-            },
-          ),
-        )
+        lay4 = λ c.
+            (Path'.refl, λ g. λ g'. (with-bit-requires record { before = record { before = record { before = c .before; grant = c .grant }; drone-flags = record { given = g } }; slice-known2 = record { given = g' } }, λ g''. lay5 record { before = record { before = record { before = record { before = c .before; grant = c .grant }; drone-flags = record { given = g } }; slice-known2 = record { given = g' } }; with-bit = Called.called ps·1 r·1 (claims· .3) T24 args·1 (m21 record { before = record { before = c .before; grant = c .grant }; drone-flags = record { given = g } } g') g'' }))
 
         lay3 : (c : In-loop) → at17 (W3 (c .before .before) (c .before .loop .drone-flags) (c .before .loop .bits) (c .before .loop .unusable-by) (c .before .loop .drone)) (m15 (c .before))
-        lay3 = λ c. λ g. (
-          Path'.refl,
-          (
-            grant-requires record { before = record { before = c .before; loop-test = c .loop-test }; grant-arg = record { given = g } },
-            λ g'. lay4 record {
-              before = record { before = record { before = c .before; loop-test = c .loop-test }; grant-arg = record { given = g } };
-              grant = Called.called ps·0 r·0 (claims· .1) T21 (
-                record { pos = 1; ty = Syntax.tyRef (Syntax.named 0) Syntax.imm (Syntax.tyInt Syntax.w16); ref = λ x. x },
-                (
-                  record { pos = 2; ty = Syntax.tyRef (Syntax.named 1) Syntax.imm (Syntax.tyInt Syntax.w16); ref = λ x. x },
-                  (
-                    record { pos = 3; ty = Syntax.tyRef (Syntax.named 2) Syntax.imm (Syntax.tyInt Syntax.w8); ref = λ x. x },
-                    (
-                      record {
-                        pos = 4;
-                        ty = Syntax.tyRef (Syntax.named 3) Syntax.imm (Syntax.tyInt Syntax.w16);
-                        ref = λ x. x;
-                      },
-                      (
-                        record { pos = 5; ty = Syntax.tyRef (Syntax.named 4) Syntax.imm (Syntax.tyInt Syntax.w16); ref = λ x. x },
-                        (
-                          record { pos = 6; ty = Syntax.tyRef (Syntax.named 5) Syntax.imm (Syntax.tyInt Syntax.w32); ref = λ x. x },
-                          (
-                            record {
-                              pos = 7;
-                              ty = Syntax.tyRef
-                                  (Syntax.named 6) Syntax.imm (Syntax.tyInt Syntax.w16);
-                              ref = λ x. x;
-                            },
-                            (record { pos = 16; ty = Syntax.tyRef Syntax.erased Syntax.mut (Syntax.tyInt Syntax.w8); ref = λ x. x }, (record { pos = 9; ty = Syntax.tyRef (Syntax.named 8) Syntax.imm Rec.behind; ref = λ x. x }, (Num.vAt 12 λ x. x, tt))),
-                          ),
-                        ),
-                      ),
-                    ),
-                  ),
-                ),
-              ) (m18 record { before = c .before; loop-test = c .loop-test } g) g';
-            },
-          ),
-        )
+        lay3 = λ c. λ g.
+            (Path'.refl, (grant-requires record { before = record { before = c .before; loop-test = c .loop-test }; grant-arg = record { given = g } }, λ g'. lay4 record { before = record { before = record { before = c .before; loop-test = c .loop-test }; grant-arg = record { given = g } }; grant = Called.called ps·0 r·0 (claims· .1) T21 args·0 (m18 record { before = c .before; loop-test = c .loop-test } g) g' }))
 
         lay2 : (c : After-loop) → at4 (W4 (c .before .before) (c .before .loop .drone-flags) (c .before .loop .bits) (c .before .loop .unusable-by) (c .before .loop .drone)) (m13 (c .before .before) (c .before .loop .drone-flags) (c .before .loop .bits) (c .before .loop .unusable-by) (c .before .loop .drone))
         lay2 = λ c. lay7 record { before = c .before; loop-test = c .loop-test }
@@ -2094,191 +1268,16 @@ module _ (claims· : Claims) where
         lay1 : (c : In-loop) → at2 (W4 (c .before .before) (c .before .loop .drone-flags) (c .before .loop .bits) (c .before .loop .unusable-by) (c .before .loop .drone)) (m13 (c .before .before) (c .before .loop .drone-flags) (c .before .loop .bits) (c .before .loop .unusable-by) (c .before .loop .drone))
         lay1 = λ c. lay3 record { before = c .before; loop-test = c .loop-test }
 
-        pub laid : (c : Start) → at38 (W0 (c .κs) (c .args)) (m0 (c .κs) (c .args))
-        laid = λ c. λ g. λ g'. λ g''. λ g'3. λ g'4. λ g'5. λ g'6. λ g'7. (
-          (
-            (
-              Row.get 8 (T12 .locals) (m11 record {
-                before = record {
-                  before = record {
-                    before = record {
-                      before = record {
-                        before = record { before = record { before = c; shared-slice-known = record { given = g } }; shared-slice-known2 = record { given = g' } };
-                        shared-slice-known3 = record { given = g'' };
-                      };
-                      shared-slice-known4 = record { given = g'3 };
-                    };
-                    shared-slice-known5 = record { given = g'4 };
-                  };
-                  shared-slice-known6 = record { given = g'5 };
-                };
-                shared-slice-known7 = record { given = g'6 };
-              } g'7) .now,
-              Row.get 10 (T12 .locals) (m11 record {
-                before = record {
-                  before = record {
-                    before = record {
-                      before = record { before = record { before = record { before = c; shared-slice-known = record { given = g } }; shared-slice-known2 = record { given = g' } }; shared-slice-known3 = record { given = g'' } };
-                      shared-slice-known4 = record { given = g'3 };
-                    };
-                    shared-slice-known5 = record { given = g'4 };
-                  };
-                  shared-slice-known6 = record { given = g'5 };
-                };
-                shared-slice-known7 = record { given = g'6 };
-              } g'7),
-              Row.get 11 (T12 .locals) (m11 record {
-                before = record {
-                  before = record {
-                    before = record {
-                      before = record {
-                        before = record {
-                          before = record { before = c; shared-slice-known = record { given = g } };
-                          shared-slice-known2 = record { given = g' };
-                        };
-                        shared-slice-known3 = record { given = g'' };
-                      };
-                      shared-slice-known4 = record { given = g'3 };
-                    };
-                    shared-slice-known5 = record { given = g'4 };
-                  };
-                  shared-slice-known6 = record { given = g'5 };
-                };
-                shared-slice-known7 = record { given = g'6 };
-              } g'7),
-              Row.get 12 (T12 .locals) (m11 record {
-                before = record {
-                  before = record {
-                    before = record { before = record { before = record { before = record { before = c; shared-slice-known = record { given = g } }; shared-slice-known2 = record { given = g' } }; shared-slice-known3 = record { given = g'' } }; shared-slice-known4 = record { given = g'3 } };
-                    shared-slice-known5 = record { given = g'4 };
-                  };
-                  shared-slice-known6 = record { given = g'5 };
-                };
-                shared-slice-known7 = record { given = g'6 };
-              } g'7),
-            ),
-            Path'.refl {a = m11 record {
-              before = record {
-                before = record {
-                  before = record {
-                    before = record {
-                      before = record {
-                        before = record {
-                          before = c;
-                          shared-slice-known = record { given = g };
-                        };
-                        shared-slice-known2 = record { given = g' };
-                      };
-                      shared-slice-known3 = record { given = g'' };
-                    };
-                    shared-slice-known4 = record { given = g'3 };
-                  };
-                  shared-slice-known5 = record { given = g'4 };
-                };
-                shared-slice-known6 = record { given = g'5 };
-              };
-              shared-slice-known7 = record { given = g'6 };
-            } g'7},
-            loop-holds record {
-              before = record {
-                before = record {
-                  before = record {
-                    before = record { before = record { before = record { before = record { before = c; shared-slice-known = record { given = g } }; shared-slice-known2 = record { given = g' } }; shared-slice-known3 = record { given = g'' } }; shared-slice-known4 = record { given = g'3 } };
-                    shared-slice-known5 = record { given = g'4 };
-                  };
-                  shared-slice-known6 = record { given = g'5 };
-                };
-                shared-slice-known7 = record { given = g'6 };
-              };
-              slice-known = record { given = g'7 };
-            },
-          ),
-          λ vs inv. (
-            tt,
-            (
-              λ taken. lay1 record {
-                before = record {
-                  before = record {
-                    before = record {
-                      before = record {
-                        before = record {
-                          before = record {
-                            before = record { before = record { before = record { before = c; shared-slice-known = record { given = g } }; shared-slice-known2 = record { given = g' } }; shared-slice-known3 = record { given = g'' } };
-                            shared-slice-known4 = record { given = g'3 };
-                          };
-                          shared-slice-known5 = record { given = g'4 };
-                        };
-                        shared-slice-known6 = record { given = g'5 };
-                      };
-                      shared-slice-known7 = record { given = g'6 };
-                    };
-                    slice-known = record { given = g'7 };
-                  };
-                  loop = record { drone-flags = vs .0; bits = vs .1; unusable-by = vs .2; drone = vs .3; inv = inv };
-                };
-                loop-test = record {
-                  taken = Tests.ltb-true (Row.get 12 (T12 .locals) (m12 record {
-                    before = record {
-                      before = record {
-                        before = record {
-                          before = record { before = record { before = record { before = record { before = c; shared-slice-known = record { given = g } }; shared-slice-known2 = record { given = g' } }; shared-slice-known3 = record { given = g'' } }; shared-slice-known4 = record { given = g'3 } };
-                          shared-slice-known5 = record { given = g'4 };
-                        };
-                        shared-slice-known6 = record { given = g'5 };
-                      };
-                      shared-slice-known7 = record { given = g'6 };
-                    };
-                    slice-known = record { given = g'7 };
-                  } (vs .0) (vs .1) (vs .2) (vs .3))) 32 taken;
-                };
-              },
-              λ left. lay2 record {
-                before = record {
-                  before = record {
-                    before = record {
-                      before = record {
-                        before = record {
-                          before = record { before = record { before = record { before = record { before = c; shared-slice-known = record { given = g } }; shared-slice-known2 = record { given = g' } }; shared-slice-known3 = record { given = g'' } }; shared-slice-known4 = record { given = g'3 } };
-                          shared-slice-known5 = record { given = g'4 };
-                        };
-                        shared-slice-known6 = record { given = g'5 };
-                      };
-                      shared-slice-known7 = record { given = g'6 };
-                    };
-                    slice-known = record { given = g'7 };
-                  };
-                  loop = record { drone-flags = vs .0; bits = vs .1; unusable-by = vs .2; drone = vs .3; inv = inv };
-                };
-                loop-test = record {
-                  left = Tests.ltb-false (Row.get 12 (T12 .locals) (m12 record {
-                    before = record {
-                      before = record {
-                        before = record {
-                          before = record { before = record { before = record { before = record { before = c; shared-slice-known = record { given = g } }; shared-slice-known2 = record { given = g' } }; shared-slice-known3 = record { given = g'' } }; shared-slice-known4 = record { given = g'3 } };
-                          shared-slice-known5 = record { given = g'4 };
-                        };
-                        shared-slice-known6 = record { given = g'5 };
-                      };
-                      shared-slice-known7 = record { given = g'6 };
-                    };
-                    slice-known = record { given = g'7 };
-                  } (vs .0) (vs .1) (vs .2) (vs .3))) 32 left;
-                };
-              },
-            ),
-          ),
-        )
+        pub laid : (c : Start) → at39 (W0 (c .κs) (c .args)) (m0 (c .κs) (c .args))
+        laid = λ c. λ g. λ g'. λ g''. λ g'3. λ g'4. λ g'5. λ g'6. λ g'7.
+            (((Row.get 8 (T12 .locals) (m11 record { before = record { before = record { before = record { before = record { before = record { before = record { before = c; shared-slice-known = record { given = g } }; shared-slice-known2 = record { given = g' } }; shared-slice-known3 = record { given = g'' } }; shared-slice-known4 = record { given = g'3 } }; shared-slice-known5 = record { given = g'4 } }; shared-slice-known6 = record { given = g'5 } }; shared-slice-known7 = record { given = g'6 } } g'7) .now, Row.get 10 (T12 .locals) (m11 record { before = record { before = record { before = record { before = record { before = record { before = record { before = c; shared-slice-known = record { given = g } }; shared-slice-known2 = record { given = g' } }; shared-slice-known3 = record { given = g'' } }; shared-slice-known4 = record { given = g'3 } }; shared-slice-known5 = record { given = g'4 } }; shared-slice-known6 = record { given = g'5 } }; shared-slice-known7 = record { given = g'6 } } g'7), Row.get 11 (T12 .locals) (m11 record { before = record { before = record { before = record { before = record { before = record { before = record { before = c; shared-slice-known = record { given = g } }; shared-slice-known2 = record { given = g' } }; shared-slice-known3 = record { given = g'' } }; shared-slice-known4 = record { given = g'3 } }; shared-slice-known5 = record { given = g'4 } }; shared-slice-known6 = record { given = g'5 } }; shared-slice-known7 = record { given = g'6 } } g'7), Row.get 12 (T12 .locals) (m11 record { before = record { before = record { before = record { before = record { before = record { before = record { before = c; shared-slice-known = record { given = g } }; shared-slice-known2 = record { given = g' } }; shared-slice-known3 = record { given = g'' } }; shared-slice-known4 = record { given = g'3 } }; shared-slice-known5 = record { given = g'4 } }; shared-slice-known6 = record { given = g'5 } }; shared-slice-known7 = record { given = g'6 } } g'7)), Path'.refl {a = m11 record { before = record { before = record { before = record { before = record { before = record { before = record { before = c; shared-slice-known = record { given = g } }; shared-slice-known2 = record { given = g' } }; shared-slice-known3 = record { given = g'' } }; shared-slice-known4 = record { given = g'3 } }; shared-slice-known5 = record { given = g'4 } }; shared-slice-known6 = record { given = g'5 } }; shared-slice-known7 = record { given = g'6 } } g'7}, loop-holds record { before = record { before = record { before = record { before = record { before = record { before = record { before = record { before = c; shared-slice-known = record { given = g } }; shared-slice-known2 = record { given = g' } }; shared-slice-known3 = record { given = g'' } }; shared-slice-known4 = record { given = g'3 } }; shared-slice-known5 = record { given = g'4 } }; shared-slice-known6 = record { given = g'5 } }; shared-slice-known7 = record { given = g'6 } }; slice-known = record { given = g'7 } }), λ vs inv. (tt, (λ taken. lay1 record { before = record { before = record { before = record { before = record { before = record { before = record { before = record { before = record { before = record { before = c; shared-slice-known = record { given = g } }; shared-slice-known2 = record { given = g' } }; shared-slice-known3 = record { given = g'' } }; shared-slice-known4 = record { given = g'3 } }; shared-slice-known5 = record { given = g'4 } }; shared-slice-known6 = record { given = g'5 } }; shared-slice-known7 = record { given = g'6 } }; slice-known = record { given = g'7 } }; loop = record { drone-flags = vs .0; bits = vs .1; unusable-by = vs .2; drone = vs .3; inv = inv } }; loop-test = record { taken = Tests.ltb-true (Row.get 12 (T12 .locals) (m12 record { before = record { before = record { before = record { before = record { before = record { before = record { before = record { before = c; shared-slice-known = record { given = g } }; shared-slice-known2 = record { given = g' } }; shared-slice-known3 = record { given = g'' } }; shared-slice-known4 = record { given = g'3 } }; shared-slice-known5 = record { given = g'4 } }; shared-slice-known6 = record { given = g'5 } }; shared-slice-known7 = record { given = g'6 } }; slice-known = record { given = g'7 } } (vs .0) (vs .1) (vs .2) (vs .3))) 32 taken } }, λ left. lay2 record { before = record { before = record { before = record { before = record { before = record { before = record { before = record { before = record { before = record { before = c; shared-slice-known = record { given = g } }; shared-slice-known2 = record { given = g' } }; shared-slice-known3 = record { given = g'' } }; shared-slice-known4 = record { given = g'3 } }; shared-slice-known5 = record { given = g'4 } }; shared-slice-known6 = record { given = g'5 } }; shared-slice-known7 = record { given = g'6 } }; slice-known = record { given = g'7 } }; loop = record { drone-flags = vs .0; bits = vs .1; unusable-by = vs .2; drone = vs .3; inv = inv } }; loop-test = record { left = Tests.ltb-false (Row.get 12 (T12 .locals) (m12 record { before = record { before = record { before = record { before = record { before = record { before = record { before = record { before = c; shared-slice-known = record { given = g } }; shared-slice-known2 = record { given = g' } }; shared-slice-known3 = record { given = g'' } }; shared-slice-known4 = record { given = g'3 } }; shared-slice-known5 = record { given = g'4 } }; shared-slice-known6 = record { given = g'5 } }; shared-slice-known7 = record { given = g'6 } }; slice-known = record { given = g'7 } } (vs .0) (vs .1) (vs .2) (vs .3))) 32 left } })))
 
         module _ (κs : Lifetimes.Lfts 9) (qs : Lifetimes.Shares 9) where
           pub asked : (a : Kinds.Dens κs ps) → (good : Kinds.GoodsP κs ps a) → (pre : Pre· κs a) → (bs : List.List Nat.ℕ) → Φ (Any.wantQ 9 ps r xs m κs qs a (Post· κs a)) (Function.init 9 ps r xs m κs qs a)
-          asked = λ a good pre bs. laid record {
-            κs = κs;
-            args = record { drone-count = a .0; dependency-count = a .1 .0; names = a .1 .1 .0; stop-counts = a .1 .1 .1 .0; locations = a .1 .1 .1 .1 .0; times = a .1 .1 .1 .1 .1 .0; visited = a .1 .1 .1 .1 .1 .1 .0; drone-flags = a .1 .1 .1 .1 .1 .1 .1 .0; dependencies = a .1 .1 .1 .1 .1 .1 .1 .1 .0 };
-            good = good;
-            pre = pre;
-          }
+          asked = λ a good pre bs. laid record
+              { κs = κs; args = record { drone-count = a .0; dependency-count = a .1 .0; names = a .1 .1 .0; stop-counts = a .1 .1 .1 .0; locations = a .1 .1 .1 .1 .0; times = a .1 .1 .1 .1 .1 .0; visited = a .1 .1 .1 .1 .1 .1 .0; drone-flags = a .1 .1 .1 .1 .1 .1 .1 .0; dependencies = a .1 .1 .1 .1 .1 .1 .1 .1 .0 }; good = good; pre = pre }
 
         module _ {M : Type 1} (𝓤 : URA.URA M) (H : Wp.Heap 𝓤) (A : Atoms.Atoms 𝓤) (W : Kit.Given 𝓤 H A) (𝓣 : Wp.Tables 𝓤 H) (known0 : Plain.Known 𝓤 H A W 𝓣 9 ps·0 r·0 (claims· .0) (claims· .1) "conductor::calls::grant") (known1 : Plain.Known 𝓤 H A W 𝓣 0 ps·1 r·1 (claims· .2) (claims· .3) "handset::replies::with_bit") (known2 : Plain.Known 𝓤 H A W 𝓣 0 ps·2
-            r·2 (claims· .4) (claims· .5) "handset::replies::unusable_number") (known3 : Plain.Known 𝓤 H A W 𝓣 0 ps·3 r·3 (claims· .6) (claims· .7) "handset::replies::reply_with") where
+            r·2 (claims· .4) (claims· .5) "handset::replies::unusable_number") (known3 : Plain.Known 𝓤 H A W 𝓣 0 ps·3 r·3 (claims· .6) (claims· .7) "handset::replies::next_asked") (known4 : Plain.Known 𝓤 H A W 𝓣 0 ps·4 r·4 (claims· .8) (claims· .9) "handset::replies::reply_with") where
           pub spec : Statement.Triple 𝓤 (Wp.WpFn 𝓤 H (𝓣 .C) (𝓣 .Λ) (Function.fnOf 9 ps r xs m hs body)) (Function.plainOf 𝓤 H A 9 ps r Pre· Post·)
-          spec = Plain.t-fn-plain 𝓤 H A W 𝓣 9 ps r xs m hs body (λ κs qs bs. Φ) (λ κs qs bs bd. typed κs qs 𝓤 H A W 𝓣 (known0, known1, known2, known3) bs bd) Pre· Post· asked
+          spec = Plain.t-fn-plain 𝓤 H A W 𝓣 9 ps r xs m hs body (λ κs qs bs. Φ) (λ κs qs bs bd. typed κs qs 𝓤 H A W 𝓣 (known0, known1, known2, known3, known4) bs bd) Pre· Post· asked

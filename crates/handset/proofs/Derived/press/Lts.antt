@@ -1,4 +1,5 @@
 -- `handset::button::press`: Lts, carried over by tools/lend.py. Assumes nothing.
+use borrow.Fn.Args.{ArgsT}
 use Rattle.records.proofs.Row as Rec
 use Prim.Native.Nat
 use Rattle.flat.proofs.replies.ArriveReply
@@ -90,13 +91,16 @@ abbrev ty·11 : Syntax.Ty
 ty·11 = Syntax.tyRef (Syntax.named 6) Syntax.mut (Syntax.tyInt Syntax.w16)
 
 abbrev ty·12 : Syntax.Ty
-ty·12 = Syntax.tyEnum (List._∷_ 104 (List._∷_ 97 (List._∷_ 110 (List._∷_ 100 (List._∷_ 115 (List._∷_ 101 (List._∷_ 116 (List._∷_ 58 (List._∷_ 58 (List._∷_ 114 (List._∷_ 101 (List._∷_ 112 (List._∷_ 108 (List._∷_ 105 (List._∷_ 101 (List._∷_ 115 (List._∷_ 58 (List._∷_ 58 (List._∷_ 82 (List._∷_ 101 (List._∷_ 112 (List._∷_ 111 (List._∷_ 114 (List._∷_ 116 List.[])))))))))))))))))))))))) (Syntax.ttcons Syntax.tnil (Syntax.ttcons (Syntax.tcons (Syntax.tyInt Syntax.w64) Syntax.tnil) Syntax.ttnil))
+ty·12 = Syntax.tyEnum (List._∷_ 104 (List._∷_ 97 (List._∷_ 110 (List._∷_ 100 (List._∷_ 115 (List._∷_ 101 (List._∷_ 116 (List._∷_ 58 (List._∷_ 58 (List._∷_ 114 (List._∷_ 101 (List._∷_ 112 (List._∷_ 108 (List._∷_ 105 (List._∷_ 101 (List._∷_ 115 (List._∷_ 58 (List._∷_ 58 (List._∷_ 82 (List._∷_ 101 (List._∷_ 112 (List._∷_ 111 (List._∷_ 114 (List._∷_ 116
+    List.[])))))))))))))))))))))))) (Syntax.ttcons Syntax.tnil (Syntax.ttcons (Syntax.tcons (Syntax.tyInt Syntax.w64) Syntax.tnil) Syntax.ttnil))
 
 abbrev ty·13 : Syntax.Ty
-ty·13 = Syntax.tyEnum (List._∷_ 102 (List._∷_ 108 (List._∷_ 97 (List._∷_ 116 (List._∷_ 58 (List._∷_ 58 (List._∷_ 114 (List._∷_ 101 (List._∷_ 112 (List._∷_ 108 (List._∷_ 105 (List._∷_ 101 (List._∷_ 115 (List._∷_ 58 (List._∷_ 58 (List._∷_ 65 (List._∷_ 114 (List._∷_ 114 (List._∷_ 105 (List._∷_ 118 (List._∷_ 101 (List._∷_ 82 (List._∷_ 101 (List._∷_ 112 (List._∷_ 108 (List._∷_ 121 List.[])))))))))))))))))))))))))) (Syntax.ttcons Syntax.tnil (Syntax.ttcons Syntax.tnil (Syntax.ttcons Syntax.tnil (Syntax.ttcons Syntax.tnil (Syntax.ttcons Syntax.tnil Syntax.ttnil)))))
+ty·13 = Syntax.tyEnum (List._∷_ 102 (List._∷_ 108 (List._∷_ 97 (List._∷_ 116 (List._∷_ 58 (List._∷_ 58 (List._∷_ 114 (List._∷_ 101 (List._∷_ 112 (List._∷_ 108 (List._∷_ 105 (List._∷_ 101 (List._∷_ 115 (List._∷_ 58 (List._∷_ 58 (List._∷_ 65 (List._∷_ 114 (List._∷_ 114 (List._∷_ 105 (List._∷_ 118 (List._∷_ 101 (List._∷_ 82 (List._∷_ 101 (List._∷_ 112 (List._∷_
+    108 (List._∷_ 121 List.[])))))))))))))))))))))))))) (Syntax.ttcons Syntax.tnil (Syntax.ttcons Syntax.tnil (Syntax.ttcons Syntax.tnil (Syntax.ttcons Syntax.tnil (Syntax.ttcons Syntax.tnil Syntax.ttnil)))))
 
 abbrev ty·14 : Syntax.Ty
-ty·14 = Syntax.tyEnum (List._∷_ 104 (List._∷_ 97 (List._∷_ 110 (List._∷_ 100 (List._∷_ 115 (List._∷_ 101 (List._∷_ 116 (List._∷_ 58 (List._∷_ 58 (List._∷_ 114 (List._∷_ 101 (List._∷_ 112 (List._∷_ 108 (List._∷_ 105 (List._∷_ 101 (List._∷_ 115 (List._∷_ 58 (List._∷_ 58 (List._∷_ 80 (List._∷_ 114 (List._∷_ 101 (List._∷_ 115 (List._∷_ 115 (List._∷_ 82 (List._∷_ 101 (List._∷_ 112 (List._∷_ 108 (List._∷_ 121 List.[])))))))))))))))))))))))))))) (Syntax.ttcons (Syntax.tcons (Syntax.tyInt Syntax.w32) Syntax.tnil) (Syntax.ttcons Syntax.tnil (Syntax.ttcons Syntax.tnil (Syntax.ttcons Syntax.tnil (Syntax.ttcons Syntax.tnil Syntax.ttnil)))))
+ty·14 = Syntax.tyEnum (List._∷_ 104 (List._∷_ 97 (List._∷_ 110 (List._∷_ 100 (List._∷_ 115 (List._∷_ 101 (List._∷_ 116 (List._∷_ 58 (List._∷_ 58 (List._∷_ 114 (List._∷_ 101 (List._∷_ 112 (List._∷_ 108 (List._∷_ 105 (List._∷_ 101 (List._∷_ 115 (List._∷_ 58 (List._∷_ 58 (List._∷_ 80 (List._∷_ 114 (List._∷_ 101 (List._∷_ 115 (List._∷_ 115 (List._∷_ 82 (List._∷_
+    101 (List._∷_ 112 (List._∷_ 108 (List._∷_ 121 List.[])))))))))))))))))))))))))))) (Syntax.ttcons (Syntax.tcons (Syntax.tyInt Syntax.w32) Syntax.tnil) (Syntax.ttcons Syntax.tnil (Syntax.ttcons Syntax.tnil (Syntax.ttcons Syntax.tnil (Syntax.ttcons Syntax.tnil Syntax.ttnil)))))
 
 abbrev row·0 : Row.Row
 row·0 = Rows.any-gone ty·14
@@ -234,194 +238,58 @@ abbrev row·44 : Row.Row
 row·44 = Mut.mslice (Referent.rtF (Referent.fInt Syntax.w8)) ty·1 14
 
 abbrev pub ps : List.List (Kinds.PK 9)
-ps = List._∷_ (ShrSlice.pShrS (Referent.rtF (Referent.fInt Syntax.w16)) 0 tt) (List._∷_ (ShrSlice.pShrS (Referent.rtF (Referent.fInt Syntax.w16)) 1 tt) (List._∷_ (ShrSlice.pShrS (Referent.rtF (Referent.fInt Syntax.w8)) 2 tt) (List._∷_ (ShrSlice.pShrS (Referent.rtF (Referent.fInt Syntax.w16)) 3 tt) (List._∷_
-    (ShrSlice.pShrS (Referent.rtF (Referent.fInt Syntax.w16)) 4 tt) (List._∷_ (ShrSlice.pShrS (Referent.rtF (Referent.fInt Syntax.w32)) 5 tt) (List._∷_ (MutSlice.pMutS (Referent.rtF (Referent.fInt Syntax.w16)) 6 tt) (List._∷_ (MutSlice.pMutS (Referent.rtF (Referent.fInt Syntax.w8)) 7 tt) (List._∷_ (ShrSlice.pShrS Rec.rt 8 tt) (List._∷_ (Value.pVal record {
-      ty = Declared.row Report.the-type;
-      one = Path'.refl;
-      val = Laws'3.val Report.the-type Laws''.the-laws;
-      tells = Laws'3.tells Report.the-type Laws''.the-laws;
-      still = Laws'3.still Report.the-type Laws''.the-copy Exit.yes;
-      row = Rows.whole (Declared.row Report.the-type);
-      rd = λ x. x;
-      mk = λ x. x;
-    } λ M 𝓤 H A W. record {
-      copies = Laws'3.copy Report.the-type Laws''.the-copy 𝓤 H A W;
-      lawful = Laws'3.lawful Report.the-type Laws''.the-laws 𝓤 H A W tt;
-      makes = Laws'3.makes Report.the-type Laws''.the-plain 𝓤 H A;
-      in-mem = Local.mem-whole 𝓤 H A W (Declared.row Report.the-type);
-      of-mem = Local.whole-mem 𝓤 H A W (Declared.row Report.the-type);
-    }) List.[])))))))))
+ps = List._∷_ (ShrSlice.pShrS (Referent.rtF (Referent.fInt Syntax.w16)) 0 tt) (List._∷_ (ShrSlice.pShrS (Referent.rtF (Referent.fInt Syntax.w16)) 1 tt) (List._∷_ (ShrSlice.pShrS (Referent.rtF (Referent.fInt Syntax.w8)) 2 tt) (List._∷_ (ShrSlice.pShrS (Referent.rtF (Referent.fInt Syntax.w16)) 3 tt) (List._∷_ (ShrSlice.pShrS (Referent.rtF (Referent.fInt
+    Syntax.w16)) 4 tt) (List._∷_ (ShrSlice.pShrS (Referent.rtF (Referent.fInt Syntax.w32)) 5 tt) (List._∷_ (MutSlice.pMutS (Referent.rtF (Referent.fInt Syntax.w16)) 6 tt) (List._∷_ (MutSlice.pMutS (Referent.rtF (Referent.fInt Syntax.w8)) 7 tt) (List._∷_ (ShrSlice.pShrS Rec.rt 8 tt) (List._∷_ (Value.pVal record
+    { ty = Declared.row Report.the-type; one = Path'.refl; val = Laws'3.val Report.the-type Laws''.the-laws; tells = Laws'3.tells Report.the-type Laws''.the-laws; still = Laws'3.still Report.the-type Laws''.the-copy Exit.yes; row = Rows.whole (Declared.row Report.the-type); rd = λ x. x; mk = λ x. x } λ M 𝓤 H A W. record
+    { copies = Laws'3.copy Report.the-type Laws''.the-copy 𝓤 H A W; lawful = Laws'3.lawful Report.the-type Laws''.the-laws 𝓤 H A W tt; makes = Laws'3.makes Report.the-type Laws''.the-plain 𝓤 H A; in-mem = Local.mem-whole 𝓤 H A W (Declared.row Report.the-type); of-mem = Local.whole-mem 𝓤 H A W (Declared.row Report.the-type) }) List.[])))))))))
 
 abbrev pub r : Kinds.RK 9
-r = Value.rVal record {
-  ty = Declared.row PressReply.the-type;
-  one = Path'.refl;
-  val = Laws'3.val PressReply.the-type Laws'.the-laws;
-  tells = Laws'3.tells PressReply.the-type Laws'.the-laws;
-  still = Laws'3.still PressReply.the-type Laws'.the-copy Exit.yes;
-  row = Rows.whole (Declared.row PressReply.the-type);
-  rd = λ x. x;
-  mk = λ x. x;
-} λ M 𝓤 H A W. record {
-  copies = Laws'3.copy PressReply.the-type Laws'.the-copy 𝓤 H A W;
-  lawful = Laws'3.lawful PressReply.the-type Laws'.the-laws 𝓤 H A W tt;
-  makes = Laws'3.makes PressReply.the-type Laws'.the-plain 𝓤 H A;
-  in-mem = Local.mem-whole 𝓤 H A W (Declared.row PressReply.the-type);
-  of-mem = Local.whole-mem 𝓤 H A W (Declared.row PressReply.the-type);
-}
+r = Value.rVal record { ty = Declared.row PressReply.the-type; one = Path'.refl; val = Laws'3.val PressReply.the-type Laws'.the-laws; tells = Laws'3.tells PressReply.the-type Laws'.the-laws; still = Laws'3.still PressReply.the-type Laws'.the-copy Exit.yes; row = Rows.whole (Declared.row PressReply.the-type); rd = λ x. x; mk = λ x. x } λ M 𝓤 H A W. record
+    { copies = Laws'3.copy PressReply.the-type Laws'.the-copy 𝓤 H A W; lawful = Laws'3.lawful PressReply.the-type Laws'.the-laws 𝓤 H A W tt; makes = Laws'3.makes PressReply.the-type Laws'.the-plain 𝓤 H A; in-mem = Local.mem-whole 𝓤 H A W (Declared.row PressReply.the-type); of-mem = Local.whole-mem 𝓤 H A W (Declared.row PressReply.the-type) }
 
 abbrev pub xs : List.List Syntax.Ty
-xs = List._∷_ ty·13 (List._∷_ Syntax.tyBool (List._∷_ ty·2 (List._∷_ (Syntax.tyStruct (List._∷_ 38 (List._∷_ 91 (List._∷_ 93 List.[]))) (Syntax.tcons ty·2 (Syntax.tcons (Syntax.tyInt Syntax.w64) Syntax.tnil))) (List._∷_ ty·1 (List._∷_ (Syntax.tyStruct (List._∷_ 38 (List._∷_ 91 (List._∷_ 93 List.[]))) (Syntax.tcons ty·1
-    (Syntax.tcons (Syntax.tyInt Syntax.w64) Syntax.tnil))) (List._∷_ (Syntax.tyInt Syntax.w64) (List._∷_ Syntax.tyBool (List._∷_ Syntax.tyBool (List._∷_ ty·3 (List._∷_ (Syntax.tyStruct (List._∷_ 38 (List._∷_ 91 (List._∷_ 93 List.[]))) (Syntax.tcons ty·3 (Syntax.tcons (Syntax.tyInt Syntax.w64) Syntax.tnil))) (List._∷_ ty·1 (List._∷_ (Syntax.tyStruct
-    (List._∷_ 38 (List._∷_ 91 (List._∷_ 93 List.[]))) (Syntax.tcons ty·1 (Syntax.tcons (Syntax.tyInt Syntax.w64) Syntax.tnil))) (List._∷_ ty·3 (List._∷_ (Syntax.tyStruct (List._∷_ 38 (List._∷_ 91 (List._∷_ 93 List.[]))) (Syntax.tcons ty·3 (Syntax.tcons (Syntax.tyInt Syntax.w64) Syntax.tnil))) (List._∷_ ty·1 (List._∷_ (Syntax.tyStruct
-    (List._∷_ 38 (List._∷_ 91 (List._∷_ 93 List.[]))) (Syntax.tcons ty·1 (Syntax.tcons (Syntax.tyInt Syntax.w64) Syntax.tnil))) List.[]))))))))))))))))
+xs = List._∷_ ty·13 (List._∷_ Syntax.tyBool (List._∷_ ty·2 (List._∷_ (Syntax.tyStruct (List._∷_ 38 (List._∷_ 91 (List._∷_ 93 List.[]))) (Syntax.tcons ty·2 (Syntax.tcons (Syntax.tyInt Syntax.w64) Syntax.tnil))) (List._∷_ ty·1 (List._∷_ (Syntax.tyStruct (List._∷_ 38 (List._∷_ 91 (List._∷_ 93 List.[]))) (Syntax.tcons ty·1 (Syntax.tcons (Syntax.tyInt Syntax.w64)
+    Syntax.tnil))) (List._∷_ (Syntax.tyInt Syntax.w64) (List._∷_ Syntax.tyBool (List._∷_ Syntax.tyBool (List._∷_ ty·3 (List._∷_ (Syntax.tyStruct (List._∷_ 38 (List._∷_ 91 (List._∷_ 93 List.[]))) (Syntax.tcons ty·3 (Syntax.tcons (Syntax.tyInt Syntax.w64) Syntax.tnil))) (List._∷_ ty·1 (List._∷_ (Syntax.tyStruct (List._∷_ 38 (List._∷_ 91 (List._∷_ 93 List.[])))
+    (Syntax.tcons ty·1 (Syntax.tcons (Syntax.tyInt Syntax.w64) Syntax.tnil))) (List._∷_ ty·3 (List._∷_ (Syntax.tyStruct (List._∷_ 38 (List._∷_ 91 (List._∷_ 93 List.[]))) (Syntax.tcons ty·3 (Syntax.tcons (Syntax.tyInt Syntax.w64) Syntax.tnil))) (List._∷_ ty·1 (List._∷_ (Syntax.tyStruct (List._∷_ 38 (List._∷_ 91 (List._∷_ 93 List.[]))) (Syntax.tcons ty·1
+    (Syntax.tcons (Syntax.tyInt Syntax.w64) Syntax.tnil))) List.[]))))))))))))))))
 
 abbrev pub m : Nat.ℕ
 m = 6
 
 abbrev pub ps·0 : List.List (Kinds.PK 0)
-ps·0 = List._∷_ (Value.pVal record {
-  ty = Declared.row Report.the-type;
-  one = Path'.refl;
-  val = Laws'3.val Report.the-type Laws''.the-laws;
-  tells = Laws'3.tells Report.the-type Laws''.the-laws;
-  still = Laws'3.still Report.the-type Laws''.the-copy Exit.yes;
-  row = Rows.whole (Declared.row Report.the-type);
-  rd = λ x. x;
-  mk = λ x. x;
-} λ M 𝓤 H A W. record {
-  copies = Laws'3.copy Report.the-type Laws''.the-copy 𝓤 H A W;
-  lawful = Laws'3.lawful Report.the-type Laws''.the-laws 𝓤 H A W tt;
-  makes = Laws'3.makes Report.the-type Laws''.the-plain 𝓤 H A;
-  in-mem = Local.mem-whole 𝓤 H A W (Declared.row Report.the-type);
-  of-mem = Local.whole-mem 𝓤 H A W (Declared.row Report.the-type);
-}) List.[]
+ps·0 = List._∷_ (Value.pVal record { ty = Declared.row Report.the-type; one = Path'.refl; val = Laws'3.val Report.the-type Laws''.the-laws; tells = Laws'3.tells Report.the-type Laws''.the-laws; still = Laws'3.still Report.the-type Laws''.the-copy Exit.yes; row = Rows.whole (Declared.row Report.the-type); rd = λ x. x; mk = λ x. x } λ M 𝓤 H A W. record
+    { copies = Laws'3.copy Report.the-type Laws''.the-copy 𝓤 H A W; lawful = Laws'3.lawful Report.the-type Laws''.the-laws 𝓤 H A W tt; makes = Laws'3.makes Report.the-type Laws''.the-plain 𝓤 H A; in-mem = Local.mem-whole 𝓤 H A W (Declared.row Report.the-type); of-mem = Local.whole-mem 𝓤 H A W (Declared.row Report.the-type) }) List.[]
 
 abbrev pub r·0 : Kinds.RK 0
 r·0 = Bool.rBool
-
-abbrev pub ps·1 : List.List (Kinds.PK 0)
-ps·1 = List._∷_ (Value.pVal record {
-  ty = Declared.row Report.the-type;
-  one = Path'.refl;
-  val = Laws'3.val Report.the-type Laws''.the-laws;
-  tells = Laws'3.tells Report.the-type Laws''.the-laws;
-  still = Laws'3.still Report.the-type Laws''.the-copy Exit.yes;
-  row = Rows.whole (Declared.row Report.the-type);
-  rd = λ x. x;
-  mk = λ x. x;
-} λ M 𝓤 H A W. record {
-  copies = Laws'3.copy Report.the-type Laws''.the-copy 𝓤 H A W;
-  lawful = Laws'3.lawful Report.the-type Laws''.the-laws 𝓤 H A W tt;
-  makes = Laws'3.makes Report.the-type Laws''.the-plain 𝓤 H A;
-  in-mem = Local.mem-whole 𝓤 H A W (Declared.row Report.the-type);
-  of-mem = Local.whole-mem 𝓤 H A W (Declared.row Report.the-type);
-}) List.[]
 
 abbrev pub r·1 : Kinds.RK 0
 r·1 = Num.rNum Syntax.w64
 
 abbrev pub ps·2 : List.List (Kinds.PK 9)
-ps·2 = List._∷_ (ShrSlice.pShrS (Referent.rtF (Referent.fInt Syntax.w16)) 0 tt) (List._∷_ (ShrSlice.pShrS (Referent.rtF (Referent.fInt Syntax.w16)) 1 tt) (List._∷_ (ShrSlice.pShrS (Referent.rtF (Referent.fInt Syntax.w8)) 2 tt) (List._∷_ (ShrSlice.pShrS (Referent.rtF (Referent.fInt Syntax.w16)) 3 tt) (List._∷_
-    (ShrSlice.pShrS (Referent.rtF (Referent.fInt Syntax.w16)) 4 tt) (List._∷_ (ShrSlice.pShrS (Referent.rtF (Referent.fInt Syntax.w32)) 5 tt) (List._∷_ (MutSlice.pMutS (Referent.rtF (Referent.fInt Syntax.w16)) 6 tt) (List._∷_ (MutSlice.pMutS (Referent.rtF (Referent.fInt Syntax.w8)) 7 tt) (List._∷_ (ShrSlice.pShrS Rec.rt 8 tt)
-    (List._∷_ (Num.pNum Syntax.w64) List.[])))))))))
+ps·2 = List._∷_ (ShrSlice.pShrS (Referent.rtF (Referent.fInt Syntax.w16)) 0 tt) (List._∷_ (ShrSlice.pShrS (Referent.rtF (Referent.fInt Syntax.w16)) 1 tt) (List._∷_ (ShrSlice.pShrS (Referent.rtF (Referent.fInt Syntax.w8)) 2 tt) (List._∷_ (ShrSlice.pShrS (Referent.rtF (Referent.fInt Syntax.w16)) 3 tt) (List._∷_ (ShrSlice.pShrS (Referent.rtF (Referent.fInt
+    Syntax.w16)) 4 tt) (List._∷_ (ShrSlice.pShrS (Referent.rtF (Referent.fInt Syntax.w32)) 5 tt) (List._∷_ (MutSlice.pMutS (Referent.rtF (Referent.fInt Syntax.w16)) 6 tt) (List._∷_ (MutSlice.pMutS (Referent.rtF (Referent.fInt Syntax.w8)) 7 tt) (List._∷_ (ShrSlice.pShrS Rec.rt 8 tt) (List._∷_ (Num.pNum Syntax.w64) List.[])))))))))
 
 abbrev pub r·2 : Kinds.RK 9
-r·2 = Value.rVal record {
-  ty = Declared.row ArriveReply.the-type;
-  one = Path'.refl;
-  val = Laws'3.val ArriveReply.the-type Laws.the-laws;
-  tells = Laws'3.tells ArriveReply.the-type Laws.the-laws;
-  still = Laws'3.still ArriveReply.the-type Laws.the-copy Exit.yes;
-  row = Rows.whole (Declared.row ArriveReply.the-type);
-  rd = λ x. x;
-  mk = λ x. x;
-} λ M 𝓤 H A W. record {
-  copies = Laws'3.copy ArriveReply.the-type Laws.the-copy 𝓤 H A W;
-  lawful = Laws'3.lawful ArriveReply.the-type Laws.the-laws 𝓤 H A W tt;
-  makes = Laws'3.makes ArriveReply.the-type Laws.the-plain 𝓤 H A;
-  in-mem = Local.mem-whole 𝓤 H A W (Declared.row ArriveReply.the-type);
-  of-mem = Local.whole-mem 𝓤 H A W (Declared.row ArriveReply.the-type);
-}
+r·2 = Value.rVal record { ty = Declared.row ArriveReply.the-type; one = Path'.refl; val = Laws'3.val ArriveReply.the-type Laws.the-laws; tells = Laws'3.tells ArriveReply.the-type Laws.the-laws; still = Laws'3.still ArriveReply.the-type Laws.the-copy Exit.yes; row = Rows.whole (Declared.row ArriveReply.the-type); rd = λ x. x; mk = λ x. x } λ M 𝓤 H A W. record
+    { copies = Laws'3.copy ArriveReply.the-type Laws.the-copy 𝓤 H A W; lawful = Laws'3.lawful ArriveReply.the-type Laws.the-laws 𝓤 H A W tt; makes = Laws'3.makes ArriveReply.the-type Laws.the-plain 𝓤 H A; in-mem = Local.mem-whole 𝓤 H A W (Declared.row ArriveReply.the-type); of-mem = Local.whole-mem 𝓤 H A W (Declared.row ArriveReply.the-type) }
 
 abbrev pub ps·3 : List.List (Kinds.PK 0)
-ps·3 = List._∷_ (Value.pVal record {
-  ty = Declared.row ArriveReply.the-type;
-  one = Path'.refl;
-  val = Laws'3.val ArriveReply.the-type Laws.the-laws;
-  tells = Laws'3.tells ArriveReply.the-type Laws.the-laws;
-  still = Laws'3.still ArriveReply.the-type Laws.the-copy Exit.yes;
-  row = Rows.whole (Declared.row ArriveReply.the-type);
-  rd = λ x. x;
-  mk = λ x. x;
-} λ M 𝓤 H A W. record {
-  copies = Laws'3.copy ArriveReply.the-type Laws.the-copy 𝓤 H A W;
-  lawful = Laws'3.lawful ArriveReply.the-type Laws.the-laws 𝓤 H A W tt;
-  makes = Laws'3.makes ArriveReply.the-type Laws.the-plain 𝓤 H A;
-  in-mem = Local.mem-whole 𝓤 H A W (Declared.row ArriveReply.the-type);
-  of-mem = Local.whole-mem 𝓤 H A W (Declared.row ArriveReply.the-type);
-}) List.[]
-
-abbrev pub r·3 : Kinds.RK 0
-r·3 = Bool.rBool
-
-abbrev pub ps·4 : List.List (Kinds.PK 0)
-ps·4 = List._∷_ (Value.pVal record {
-  ty = Declared.row ArriveReply.the-type;
-  one = Path'.refl;
-  val = Laws'3.val ArriveReply.the-type Laws.the-laws;
-  tells = Laws'3.tells ArriveReply.the-type Laws.the-laws;
-  still = Laws'3.still ArriveReply.the-type Laws.the-copy Exit.yes;
-  row = Rows.whole (Declared.row ArriveReply.the-type);
-  rd = λ x. x;
-  mk = λ x. x;
-} λ M 𝓤 H A W. record {
-  copies = Laws'3.copy ArriveReply.the-type Laws.the-copy 𝓤 H A W;
-  lawful = Laws'3.lawful ArriveReply.the-type Laws.the-laws 𝓤 H A W tt;
-  makes = Laws'3.makes ArriveReply.the-type Laws.the-plain 𝓤 H A;
-  in-mem = Local.mem-whole 𝓤 H A W (Declared.row ArriveReply.the-type);
-  of-mem = Local.whole-mem 𝓤 H A W (Declared.row ArriveReply.the-type);
-}) List.[]
+ps·3 = List._∷_ (Value.pVal record { ty = Declared.row ArriveReply.the-type; one = Path'.refl; val = Laws'3.val ArriveReply.the-type Laws.the-laws; tells = Laws'3.tells ArriveReply.the-type Laws.the-laws; still = Laws'3.still ArriveReply.the-type Laws.the-copy Exit.yes; row = Rows.whole (Declared.row ArriveReply.the-type); rd = λ x. x; mk = λ x. x } λ M 𝓤 H
+    A W. record { copies = Laws'3.copy ArriveReply.the-type Laws.the-copy 𝓤 H A W; lawful = Laws'3.lawful ArriveReply.the-type Laws.the-laws 𝓤 H A W tt; makes = Laws'3.makes ArriveReply.the-type Laws.the-plain 𝓤 H A; in-mem = Local.mem-whole 𝓤 H A W (Declared.row ArriveReply.the-type); of-mem = Local.whole-mem 𝓤 H A W (Declared.row ArriveReply.the-type) })
+    List.[]
 
 abbrev pub r·4 : Kinds.RK 0
-r·4 = Value.rVal record {
-  ty = Declared.row PressReply.the-type;
-  one = Path'.refl;
-  val = Laws'3.val PressReply.the-type Laws'.the-laws;
-  tells = Laws'3.tells PressReply.the-type Laws'.the-laws;
-  still = Laws'3.still PressReply.the-type Laws'.the-copy Exit.yes;
-  row = Rows.whole (Declared.row PressReply.the-type);
-  rd = λ x. x;
-  mk = λ x. x;
-} λ M 𝓤 H A W. record {
-  copies = Laws'3.copy PressReply.the-type Laws'.the-copy 𝓤 H A W;
-  lawful = Laws'3.lawful PressReply.the-type Laws'.the-laws 𝓤 H A W tt;
-  makes = Laws'3.makes PressReply.the-type Laws'.the-plain 𝓤 H A;
-  in-mem = Local.mem-whole 𝓤 H A W (Declared.row PressReply.the-type);
-  of-mem = Local.whole-mem 𝓤 H A W (Declared.row PressReply.the-type);
-}
+r·4 = Value.rVal record { ty = Declared.row PressReply.the-type; one = Path'.refl; val = Laws'3.val PressReply.the-type Laws'.the-laws; tells = Laws'3.tells PressReply.the-type Laws'.the-laws; still = Laws'3.still PressReply.the-type Laws'.the-copy Exit.yes; row = Rows.whole (Declared.row PressReply.the-type); rd = λ x. x; mk = λ x. x } λ M 𝓤 H A W. record
+    { copies = Laws'3.copy PressReply.the-type Laws'.the-copy 𝓤 H A W; lawful = Laws'3.lawful PressReply.the-type Laws'.the-laws 𝓤 H A W tt; makes = Laws'3.makes PressReply.the-type Laws'.the-plain 𝓤 H A; in-mem = Local.mem-whole 𝓤 H A W (Declared.row PressReply.the-type); of-mem = Local.whole-mem 𝓤 H A W (Declared.row PressReply.the-type) }
 
 abbrev pub ps·5 : List.List (Kinds.PK 9)
-ps·5 = List._∷_ (ShrSlice.pShrS (Referent.rtF (Referent.fInt Syntax.w16)) 0 tt) (List._∷_ (ShrSlice.pShrS (Referent.rtF (Referent.fInt Syntax.w16)) 1 tt) (List._∷_ (ShrSlice.pShrS (Referent.rtF (Referent.fInt Syntax.w8)) 2 tt) (List._∷_ (ShrSlice.pShrS (Referent.rtF (Referent.fInt Syntax.w16)) 3 tt) (List._∷_
-    (ShrSlice.pShrS (Referent.rtF (Referent.fInt Syntax.w16)) 4 tt) (List._∷_ (ShrSlice.pShrS (Referent.rtF (Referent.fInt Syntax.w32)) 5 tt) (List._∷_ (ShrSlice.pShrS (Referent.rtF (Referent.fInt Syntax.w16)) 6 tt) (List._∷_ (MutSlice.pMutS (Referent.rtF (Referent.fInt Syntax.w8)) 7 tt) (List._∷_ (ShrSlice.pShrS Rec.rt 8 tt) List.[]))))))))
+ps·5 = List._∷_ (ShrSlice.pShrS (Referent.rtF (Referent.fInt Syntax.w16)) 0 tt) (List._∷_ (ShrSlice.pShrS (Referent.rtF (Referent.fInt Syntax.w16)) 1 tt) (List._∷_ (ShrSlice.pShrS (Referent.rtF (Referent.fInt Syntax.w8)) 2 tt) (List._∷_ (ShrSlice.pShrS (Referent.rtF (Referent.fInt Syntax.w16)) 3 tt) (List._∷_ (ShrSlice.pShrS (Referent.rtF (Referent.fInt
+    Syntax.w16)) 4 tt) (List._∷_ (ShrSlice.pShrS (Referent.rtF (Referent.fInt Syntax.w32)) 5 tt) (List._∷_ (ShrSlice.pShrS (Referent.rtF (Referent.fInt Syntax.w16)) 6 tt) (List._∷_ (MutSlice.pMutS (Referent.rtF (Referent.fInt Syntax.w8)) 7 tt) (List._∷_ (ShrSlice.pShrS Rec.rt 8 tt) List.[]))))))))
 
 abbrev pub r·5 : Kinds.RK 9
-r·5 = Value.rVal record {
-  ty = Declared.row PressReply.the-type;
-  one = Path'.refl;
-  val = Laws'3.val PressReply.the-type Laws'.the-laws;
-  tells = Laws'3.tells PressReply.the-type Laws'.the-laws;
-  still = Laws'3.still PressReply.the-type Laws'.the-copy Exit.yes;
-  row = Rows.whole (Declared.row PressReply.the-type);
-  rd = λ x. x;
-  mk = λ x. x;
-} λ M 𝓤 H A W. record {
-  copies = Laws'3.copy PressReply.the-type Laws'.the-copy 𝓤 H A W;
-  lawful = Laws'3.lawful PressReply.the-type Laws'.the-laws 𝓤 H A W tt;
-  makes = Laws'3.makes PressReply.the-type Laws'.the-plain 𝓤 H A;
-  in-mem = Local.mem-whole 𝓤 H A W (Declared.row PressReply.the-type);
-  of-mem = Local.whole-mem 𝓤 H A W (Declared.row PressReply.the-type);
-}
+r·5 = Value.rVal record { ty = Declared.row PressReply.the-type; one = Path'.refl; val = Laws'3.val PressReply.the-type Laws'.the-laws; tells = Laws'3.tells PressReply.the-type Laws'.the-laws; still = Laws'3.still PressReply.the-type Laws'.the-copy Exit.yes; row = Rows.whole (Declared.row PressReply.the-type); rd = λ x. x; mk = λ x. x } λ M 𝓤 H A W. record
+    { copies = Laws'3.copy PressReply.the-type Laws'.the-copy 𝓤 H A W; lawful = Laws'3.lawful PressReply.the-type Laws'.the-laws 𝓤 H A W tt; makes = Laws'3.makes PressReply.the-type Laws'.the-plain 𝓤 H A; in-mem = Local.mem-whole 𝓤 H A W (Declared.row PressReply.the-type); of-mem = Local.whole-mem 𝓤 H A W (Declared.row PressReply.the-type) }
 
 abbrev pub hs : List.List Syntax.Home
 hs = List._∷_ Syntax.valueLocal (List._∷_ Syntax.valueLocal (List._∷_ Syntax.valueLocal (List._∷_ Syntax.valueLocal (List._∷_ Syntax.valueLocal (List._∷_ Syntax.valueLocal (List._∷_ Syntax.valueLocal (List._∷_ Syntax.valueLocal (List._∷_ Syntax.valueLocal (List._∷_ Syntax.valueLocal (List._∷_ Syntax.valueLocal (List._∷_ Syntax.valueLocal (List._∷_
@@ -447,8 +315,8 @@ abbrev b5 : Syntax.Body
 b5 = Syntax.call "handset::replies::drone_of" (List._∷_ (Syntax.copy (Syntax.place 10 List.[])) List.[]) (Syntax.place 17 List.[])
 
 abbrev b6 : Syntax.Body
-b6 = Syntax.call "conductor::calls::arrive" (List._∷_ (Syntax.copy (Syntax.place 1 List.[])) (List._∷_ (Syntax.copy (Syntax.place 2 List.[])) (List._∷_ (Syntax.copy (Syntax.place 3 List.[])) (List._∷_ (Syntax.copy (Syntax.place 4 List.[])) (List._∷_ (Syntax.copy (Syntax.place 5 List.[])) (List._∷_ (Syntax.copy (Syntax.place 6 List.[])) (List._∷_
-    (Syntax.copy (Syntax.place 14 List.[])) (List._∷_ (Syntax.copy (Syntax.place 16 List.[])) (List._∷_ (Syntax.copy (Syntax.place 9 List.[])) (List._∷_ (Syntax.copy (Syntax.place 17 List.[])) List.[])))))))))) (Syntax.place 11 List.[])
+b6 = Syntax.call "conductor::calls::arrive" (List._∷_ (Syntax.copy (Syntax.place 1 List.[])) (List._∷_ (Syntax.copy (Syntax.place 2 List.[])) (List._∷_ (Syntax.copy (Syntax.place 3 List.[])) (List._∷_ (Syntax.copy (Syntax.place 4 List.[])) (List._∷_ (Syntax.copy (Syntax.place 5 List.[])) (List._∷_ (Syntax.copy (Syntax.place 6 List.[])) (List._∷_ (Syntax.copy
+    (Syntax.place 14 List.[])) (List._∷_ (Syntax.copy (Syntax.place 16 List.[])) (List._∷_ (Syntax.copy (Syntax.place 9 List.[])) (List._∷_ (Syntax.copy (Syntax.place 17 List.[])) List.[])))))))))) (Syntax.place 11 List.[])
 
 abbrev b7 : Syntax.Body
 b7 = Syntax.call "handset::replies::is_arrived" (List._∷_ (Syntax.copy (Syntax.place 11 List.[])) List.[]) (Syntax.place 18 List.[])
@@ -582,34 +450,18 @@ abbrev pub body : Syntax.Body
 body = b48
 
 abbrev pub Claims : Type 1
-Claims = Kinds.In 0 ps·0 × Kinds.Out 0 ps·0 r·0 × Kinds.In 0 ps·1 × Kinds.Out 0 ps·1 r·1 × Kinds.In 9 ps·2 × Kinds.Out 9 ps·2 r·2 × Kinds.In 0 ps·3 × Kinds.Out 0 ps·3 r·3 × Kinds.In 0 ps·4 × Kinds.Out 0 ps·4 r·4 × Kinds.In 9 ps·5 × Kinds.Out 9 ps·5 r·5
-
-abbrev pub t0 : List.List Row.Entry
-t0 = List._∷_ (0, row·0) (List._∷_ (1, row·1) (List._∷_ (2, row·2) (List._∷_ (3, row·3) (List._∷_ (4, row·4) (List._∷_ (5, row·5) (List._∷_ (6, row·6) (List._∷_ (7, row·7) (List._∷_ (8, row·8) (List._∷_ (9, row·9) (List._∷_ (10, row·10) (List._∷_ (11, row·11) (List._∷_ (12, row·12) (List._∷_ (13, row·13) (List._∷_ (14, row·14) (List._∷_ (15, row·15) List.[])))))))))))))))
+Claims = Kinds.In 0 ps·0 × Kinds.Out 0 ps·0 r·0 × Kinds.In 0 ps·0 × Kinds.Out 0 ps·0 r·1 × Kinds.In 9 ps·2 × Kinds.Out 9 ps·2 r·2 × Kinds.In 0 ps·3 × Kinds.Out 0 ps·3 r·0 × Kinds.In 0 ps·3 × Kinds.Out 0 ps·3 r·4 × Kinds.In 9 ps·5 × Kinds.Out 9 ps·5 r·5
 
 abbrev pub t1 : List.List Row.Entry
 t1 = List._∷_ (16, row·16) (List._∷_ (17, row·17) (List._∷_ (18, row·12) (List._∷_ (19, row·12) (List._∷_ (20, row·18) (List._∷_ (21, row·19) (List._∷_ (22, row·15) (List._∷_ (23, row·16) (List._∷_ (24, row·18) (List._∷_ (25, row·19) (List._∷_ (26, row·15) (List._∷_ (27, row·16) List.[])))))))))))
 
-abbrev pub t2 : List.List Row.Entry
-t2 = List._∷_ (0, row·20) (List._∷_ (1, row·1) (List._∷_ (2, row·2) (List._∷_ (3, row·3) (List._∷_ (4, row·4) (List._∷_ (5, row·5) (List._∷_ (6, row·6) (List._∷_ (7, row·7) (List._∷_ (8, row·8) (List._∷_ (9, row·9) (List._∷_ (10, row·21) (List._∷_ (11, row·11) (List._∷_ (12, row·12) (List._∷_ (13, row·13) (List._∷_ (14, row·14) (List._∷_ (15, row·15) List.[])))))))))))))))
-
-abbrev pub t3 : List.List Row.Entry
-t3 = List._∷_ (0, row·0) (List._∷_ (1, row·1) (List._∷_ (2, row·2) (List._∷_ (3, row·3) (List._∷_ (4, row·4) (List._∷_ (5, row·5) (List._∷_ (6, row·6) (List._∷_ (7, row·7) (List._∷_ (8, row·8) (List._∷_ (9, row·9) (List._∷_ (10, row·10) (List._∷_ (11, row·11) (List._∷_ (12, row·22) (List._∷_ (13, row·13) (List._∷_ (14, row·14) (List._∷_ (15, row·15) List.[])))))))))))))))
-
 abbrev pub t4 : List.List Row.Entry
-t4 = List._∷_ (0, row·0) (List._∷_ (1, row·1) (List._∷_ (2, row·2) (List._∷_ (3, row·3) (List._∷_ (4, row·4) (List._∷_ (5, row·5) (List._∷_ (6, row·6) (List._∷_ (7, row·7) (List._∷_ (8, row·8) (List._∷_ (9, row·9) (List._∷_ (10, row·21) (List._∷_ (11, row·11) (List._∷_ (12, row·12) (List._∷_ (13, row·13) (List._∷_ (14, row·14) (List._∷_ (15, row·15) List.[])))))))))))))))
-
-abbrev pub t5 : List.List Row.Entry
-t5 = List._∷_ (0, row·0) (List._∷_ (1, row·1) (List._∷_ (2, row·2) (List._∷_ (3, row·3) (List._∷_ (4, row·4) (List._∷_ (5, row·5) (List._∷_ (6, row·6) (List._∷_ (7, row·23) (List._∷_ (8, row·8) (List._∷_ (9, row·9) (List._∷_ (10, row·10) (List._∷_ (11, row·11) (List._∷_ (12, row·12) (List._∷_ (13, row·24) (List._∷_ (14, row·14) (List._∷_ (15, row·15) List.[])))))))))))))))
-
-abbrev pub t6 : List.List Row.Entry
-t6 = List._∷_ (0, row·0) (List._∷_ (1, row·1) (List._∷_ (2, row·2) (List._∷_ (3, row·3) (List._∷_ (4, row·4) (List._∷_ (5, row·5) (List._∷_ (6, row·6) (List._∷_ (7, row·23) (List._∷_ (8, row·8) (List._∷_ (9, row·9) (List._∷_ (10, row·10) (List._∷_ (11, row·11) (List._∷_ (12, row·12) (List._∷_ (13, row·13) (List._∷_ (14, row·25) (List._∷_ (15, row·15) List.[])))))))))))))))
-
-abbrev pub t7 : List.List Row.Entry
-t7 = List._∷_ (0, row·0) (List._∷_ (1, row·1) (List._∷_ (2, row·2) (List._∷_ (3, row·3) (List._∷_ (4, row·4) (List._∷_ (5, row·5) (List._∷_ (6, row·6) (List._∷_ (7, row·23) (List._∷_ (8, row·26) (List._∷_ (9, row·9) (List._∷_ (10, row·10) (List._∷_ (11, row·11) (List._∷_ (12, row·12) (List._∷_ (13, row·13) (List._∷_ (14, row·25) (List._∷_ (15, row·27) List.[])))))))))))))))
+t4 = List._∷_ (0, row·0) (List._∷_ (1, row·1) (List._∷_ (2, row·2) (List._∷_ (3, row·3) (List._∷_ (4, row·4) (List._∷_ (5, row·5) (List._∷_ (6, row·6) (List._∷_ (7, row·7) (List._∷_ (8, row·8) (List._∷_ (9, row·9) (List._∷_ (10, row·21) (List._∷_ (11, row·11) (List._∷_ (12, row·12) (List._∷_ (13, row·13) (List._∷_ (14, row·14) (List._∷_ (15, row·15)
+    List.[])))))))))))))))
 
 abbrev pub t8 : List.List Row.Entry
-t8 = List._∷_ (0, row·0) (List._∷_ (1, row·1) (List._∷_ (2, row·2) (List._∷_ (3, row·3) (List._∷_ (4, row·4) (List._∷_ (5, row·5) (List._∷_ (6, row·6) (List._∷_ (7, row·23) (List._∷_ (8, row·26) (List._∷_ (9, row·9) (List._∷_ (10, row·10) (List._∷_ (11, row·11) (List._∷_ (12, row·12) (List._∷_ (13, row·13) (List._∷_ (14, row·25) (List._∷_ (15, row·15) List.[])))))))))))))))
+t8 = List._∷_ (0, row·0) (List._∷_ (1, row·1) (List._∷_ (2, row·2) (List._∷_ (3, row·3) (List._∷_ (4, row·4) (List._∷_ (5, row·5) (List._∷_ (6, row·6) (List._∷_ (7, row·23) (List._∷_ (8, row·26) (List._∷_ (9, row·9) (List._∷_ (10, row·10) (List._∷_ (11, row·11) (List._∷_ (12, row·12) (List._∷_ (13, row·13) (List._∷_ (14, row·25) (List._∷_ (15, row·15)
+    List.[])))))))))))))))
 
 abbrev pub t9 : List.List Row.Entry
 t9 = List._∷_ (16, row·28) (List._∷_ (17, row·17) (List._∷_ (18, row·12) (List._∷_ (19, row·12) (List._∷_ (20, row·18) (List._∷_ (21, row·19) (List._∷_ (22, row·15) (List._∷_ (23, row·16) (List._∷_ (24, row·18) (List._∷_ (25, row·19) (List._∷_ (26, row·15) (List._∷_ (27, row·16) List.[])))))))))))
@@ -617,11 +469,9 @@ t9 = List._∷_ (16, row·28) (List._∷_ (17, row·17) (List._∷_ (18, row·12
 abbrev pub t10 : List.List Row.Entry
 t10 = List._∷_ (16, row·28) (List._∷_ (17, row·29) (List._∷_ (18, row·12) (List._∷_ (19, row·12) (List._∷_ (20, row·18) (List._∷_ (21, row·19) (List._∷_ (22, row·15) (List._∷_ (23, row·16) (List._∷_ (24, row·18) (List._∷_ (25, row·19) (List._∷_ (26, row·15) (List._∷_ (27, row·16) List.[])))))))))))
 
-abbrev pub t11 : List.List Row.Entry
-t11 = List._∷_ (0, row·0) (List._∷_ (1, row·1) (List._∷_ (2, row·2) (List._∷_ (3, row·3) (List._∷_ (4, row·4) (List._∷_ (5, row·5) (List._∷_ (6, row·6) (List._∷_ (7, row·23) (List._∷_ (8, row·26) (List._∷_ (9, row·9) (List._∷_ (10, row·21) (List._∷_ (11, row·11) (List._∷_ (12, row·12) (List._∷_ (13, row·13) (List._∷_ (14, row·25) (List._∷_ (15, row·15) List.[])))))))))))))))
-
 abbrev pub t12 : List.List Row.Entry
-t12 = List._∷_ (0, row·0) (List._∷_ (1, row·1) (List._∷_ (2, row·2) (List._∷_ (3, row·3) (List._∷_ (4, row·4) (List._∷_ (5, row·5) (List._∷_ (6, row·6) (List._∷_ (7, row·23) (List._∷_ (8, row·26) (List._∷_ (9, row·9) (List._∷_ (10, row·21) (List._∷_ (11, row·30) (List._∷_ (12, row·12) (List._∷_ (13, row·13) (List._∷_ (14, row·31) (List._∷_ (15, row·15) List.[])))))))))))))))
+t12 = List._∷_ (0, row·0) (List._∷_ (1, row·1) (List._∷_ (2, row·2) (List._∷_ (3, row·3) (List._∷_ (4, row·4) (List._∷_ (5, row·5) (List._∷_ (6, row·6) (List._∷_ (7, row·23) (List._∷_ (8, row·26) (List._∷_ (9, row·9) (List._∷_ (10, row·21) (List._∷_ (11, row·30) (List._∷_ (12, row·12) (List._∷_ (13, row·13) (List._∷_ (14, row·31) (List._∷_ (15, row·15)
+    List.[])))))))))))))))
 
 abbrev pub t13 : List.List Row.Entry
 t13 = List._∷_ (16, row·32) (List._∷_ (17, row·29) (List._∷_ (18, row·12) (List._∷_ (19, row·12) (List._∷_ (20, row·18) (List._∷_ (21, row·19) (List._∷_ (22, row·15) (List._∷_ (23, row·16) (List._∷_ (24, row·18) (List._∷_ (25, row·19) (List._∷_ (26, row·15) (List._∷_ (27, row·16) List.[])))))))))))
@@ -629,26 +479,16 @@ t13 = List._∷_ (16, row·32) (List._∷_ (17, row·29) (List._∷_ (18, row·1
 abbrev pub t14 : List.List Row.Entry
 t14 = List._∷_ (16, row·32) (List._∷_ (17, row·17) (List._∷_ (18, row·12) (List._∷_ (19, row·12) (List._∷_ (20, row·18) (List._∷_ (21, row·19) (List._∷_ (22, row·15) (List._∷_ (23, row·16) (List._∷_ (24, row·18) (List._∷_ (25, row·19) (List._∷_ (26, row·15) (List._∷_ (27, row·16) List.[])))))))))))
 
-abbrev pub t15 : List.List Row.Entry
-t15 = List._∷_ (0, row·0) (List._∷_ (1, row·1) (List._∷_ (2, row·2) (List._∷_ (3, row·3) (List._∷_ (4, row·4) (List._∷_ (5, row·5) (List._∷_ (6, row·6) (List._∷_ (7, row·7) (List._∷_ (8, row·26) (List._∷_ (9, row·9) (List._∷_ (10, row·21) (List._∷_ (11, row·30) (List._∷_ (12, row·12) (List._∷_ (13, row·13) (List._∷_ (14, row·14) (List._∷_ (15, row·15) List.[])))))))))))))))
-
 abbrev pub t16 : List.List Row.Entry
-t16 = List._∷_ (0, row·0) (List._∷_ (1, row·1) (List._∷_ (2, row·2) (List._∷_ (3, row·3) (List._∷_ (4, row·4) (List._∷_ (5, row·5) (List._∷_ (6, row·6) (List._∷_ (7, row·7) (List._∷_ (8, row·8) (List._∷_ (9, row·9) (List._∷_ (10, row·21) (List._∷_ (11, row·30) (List._∷_ (12, row·12) (List._∷_ (13, row·13) (List._∷_ (14, row·14) (List._∷_ (15, row·15) List.[])))))))))))))))
-
-abbrev pub t17 : List.List Row.Entry
-t17 = List._∷_ (16, row·16) (List._∷_ (17, row·17) (List._∷_ (18, row·22) (List._∷_ (19, row·12) (List._∷_ (20, row·18) (List._∷_ (21, row·19) (List._∷_ (22, row·15) (List._∷_ (23, row·16) (List._∷_ (24, row·18) (List._∷_ (25, row·19) (List._∷_ (26, row·15) (List._∷_ (27, row·16) List.[])))))))))))
-
-abbrev pub t18 : List.List Row.Entry
-t18 = List._∷_ (16, row·16) (List._∷_ (17, row·17) (List._∷_ (18, row·22) (List._∷_ (19, row·22) (List._∷_ (20, row·18) (List._∷_ (21, row·19) (List._∷_ (22, row·15) (List._∷_ (23, row·16) (List._∷_ (24, row·18) (List._∷_ (25, row·19) (List._∷_ (26, row·15) (List._∷_ (27, row·16) List.[])))))))))))
+t16 = List._∷_ (0, row·0) (List._∷_ (1, row·1) (List._∷_ (2, row·2) (List._∷_ (3, row·3) (List._∷_ (4, row·4) (List._∷_ (5, row·5) (List._∷_ (6, row·6) (List._∷_ (7, row·7) (List._∷_ (8, row·8) (List._∷_ (9, row·9) (List._∷_ (10, row·21) (List._∷_ (11, row·30) (List._∷_ (12, row·12) (List._∷_ (13, row·13) (List._∷_ (14, row·14) (List._∷_ (15, row·15)
+    List.[])))))))))))))))
 
 abbrev pub t19 : List.List Row.Entry
 t19 = List._∷_ (16, row·16) (List._∷_ (17, row·17) (List._∷_ (18, row·12) (List._∷_ (19, row·22) (List._∷_ (20, row·18) (List._∷_ (21, row·19) (List._∷_ (22, row·15) (List._∷_ (23, row·16) (List._∷_ (24, row·18) (List._∷_ (25, row·19) (List._∷_ (26, row·15) (List._∷_ (27, row·16) List.[])))))))))))
 
-abbrev pub t20 : List.List Row.Entry
-t20 = List._∷_ (0, row·20) (List._∷_ (1, row·1) (List._∷_ (2, row·2) (List._∷_ (3, row·3) (List._∷_ (4, row·4) (List._∷_ (5, row·5) (List._∷_ (6, row·6) (List._∷_ (7, row·7) (List._∷_ (8, row·8) (List._∷_ (9, row·9) (List._∷_ (10, row·21) (List._∷_ (11, row·30) (List._∷_ (12, row·12) (List._∷_ (13, row·13) (List._∷_ (14, row·14) (List._∷_ (15, row·15) List.[])))))))))))))))
-
 abbrev pub t21 : List.List Row.Entry
-t21 = List._∷_ (0, row·0) (List._∷_ (1, row·1) (List._∷_ (2, row·2) (List._∷_ (3, row·3) (List._∷_ (4, row·4) (List._∷_ (5, row·5) (List._∷_ (6, row·6) (List._∷_ (7, row·33) (List._∷_ (8, row·8) (List._∷_ (9, row·9) (List._∷_ (10, row·21) (List._∷_ (11, row·11) (List._∷_ (12, row·12) (List._∷_ (13, row·13) (List._∷_ (14, row·14) (List._∷_ (15, row·15) List.[])))))))))))))))
+t21 = List._∷_ (0, row·0) (List._∷_ (1, row·1) (List._∷_ (2, row·2) (List._∷_ (3, row·3) (List._∷_ (4, row·4) (List._∷_ (5, row·5) (List._∷_ (6, row·6) (List._∷_ (7, row·33) (List._∷_ (8, row·8) (List._∷_ (9, row·9) (List._∷_ (10, row·21) (List._∷_ (11, row·11) (List._∷_ (12, row·12) (List._∷_ (13, row·13) (List._∷_ (14, row·14) (List._∷_ (15, row·15)
+    List.[])))))))))))))))
 
 abbrev pub t22 : List.List Row.Entry
 t22 = List._∷_ (16, row·16) (List._∷_ (17, row·17) (List._∷_ (18, row·12) (List._∷_ (19, row·12) (List._∷_ (20, row·34) (List._∷_ (21, row·19) (List._∷_ (22, row·15) (List._∷_ (23, row·16) (List._∷_ (24, row·18) (List._∷_ (25, row·19) (List._∷_ (26, row·15) (List._∷_ (27, row·16) List.[])))))))))))
@@ -657,7 +497,8 @@ abbrev pub t23 : List.List Row.Entry
 t23 = List._∷_ (16, row·16) (List._∷_ (17, row·17) (List._∷_ (18, row·12) (List._∷_ (19, row·12) (List._∷_ (20, row·18) (List._∷_ (21, row·35) (List._∷_ (22, row·15) (List._∷_ (23, row·16) (List._∷_ (24, row·18) (List._∷_ (25, row·19) (List._∷_ (26, row·15) (List._∷_ (27, row·16) List.[])))))))))))
 
 abbrev pub t24 : List.List Row.Entry
-t24 = List._∷_ (0, row·0) (List._∷_ (1, row·1) (List._∷_ (2, row·2) (List._∷_ (3, row·3) (List._∷_ (4, row·4) (List._∷_ (5, row·5) (List._∷_ (6, row·6) (List._∷_ (7, row·33) (List._∷_ (8, row·36) (List._∷_ (9, row·9) (List._∷_ (10, row·21) (List._∷_ (11, row·11) (List._∷_ (12, row·12) (List._∷_ (13, row·13) (List._∷_ (14, row·14) (List._∷_ (15, row·15) List.[])))))))))))))))
+t24 = List._∷_ (0, row·0) (List._∷_ (1, row·1) (List._∷_ (2, row·2) (List._∷_ (3, row·3) (List._∷_ (4, row·4) (List._∷_ (5, row·5) (List._∷_ (6, row·6) (List._∷_ (7, row·33) (List._∷_ (8, row·36) (List._∷_ (9, row·9) (List._∷_ (10, row·21) (List._∷_ (11, row·11) (List._∷_ (12, row·12) (List._∷_ (13, row·13) (List._∷_ (14, row·14) (List._∷_ (15, row·15)
+    List.[])))))))))))))))
 
 abbrev pub t25 : List.List Row.Entry
 t25 = List._∷_ (16, row·16) (List._∷_ (17, row·17) (List._∷_ (18, row·12) (List._∷_ (19, row·12) (List._∷_ (20, row·18) (List._∷_ (21, row·35) (List._∷_ (22, row·37) (List._∷_ (23, row·16) (List._∷_ (24, row·18) (List._∷_ (25, row·19) (List._∷_ (26, row·15) (List._∷_ (27, row·16) List.[])))))))))))
@@ -666,7 +507,8 @@ abbrev pub t26 : List.List Row.Entry
 t26 = List._∷_ (16, row·16) (List._∷_ (17, row·17) (List._∷_ (18, row·12) (List._∷_ (19, row·12) (List._∷_ (20, row·18) (List._∷_ (21, row·35) (List._∷_ (22, row·15) (List._∷_ (23, row·38) (List._∷_ (24, row·18) (List._∷_ (25, row·19) (List._∷_ (26, row·15) (List._∷_ (27, row·16) List.[])))))))))))
 
 abbrev pub t27 : List.List Row.Entry
-t27 = List._∷_ (0, row·20) (List._∷_ (1, row·1) (List._∷_ (2, row·2) (List._∷_ (3, row·3) (List._∷_ (4, row·4) (List._∷_ (5, row·5) (List._∷_ (6, row·6) (List._∷_ (7, row·33) (List._∷_ (8, row·36) (List._∷_ (9, row·9) (List._∷_ (10, row·21) (List._∷_ (11, row·11) (List._∷_ (12, row·12) (List._∷_ (13, row·13) (List._∷_ (14, row·14) (List._∷_ (15, row·15) List.[])))))))))))))))
+t27 = List._∷_ (0, row·20) (List._∷_ (1, row·1) (List._∷_ (2, row·2) (List._∷_ (3, row·3) (List._∷_ (4, row·4) (List._∷_ (5, row·5) (List._∷_ (6, row·6) (List._∷_ (7, row·33) (List._∷_ (8, row·36) (List._∷_ (9, row·9) (List._∷_ (10, row·21) (List._∷_ (11, row·11) (List._∷_ (12, row·12) (List._∷_ (13, row·13) (List._∷_ (14, row·14) (List._∷_ (15, row·15)
+    List.[])))))))))))))))
 
 abbrev pub t28 : List.List Row.Entry
 t28 = List._∷_ (16, row·16) (List._∷_ (17, row·17) (List._∷_ (18, row·12) (List._∷_ (19, row·12) (List._∷_ (20, row·18) (List._∷_ (21, row·35) (List._∷_ (22, row·15) (List._∷_ (23, row·32) (List._∷_ (24, row·18) (List._∷_ (25, row·19) (List._∷_ (26, row·15) (List._∷_ (27, row·16) List.[])))))))))))
@@ -674,14 +516,9 @@ t28 = List._∷_ (16, row·16) (List._∷_ (17, row·17) (List._∷_ (18, row·1
 abbrev pub t29 : List.List Row.Entry
 t29 = List._∷_ (16, row·16) (List._∷_ (17, row·17) (List._∷_ (18, row·12) (List._∷_ (19, row·12) (List._∷_ (20, row·18) (List._∷_ (21, row·19) (List._∷_ (22, row·15) (List._∷_ (23, row·32) (List._∷_ (24, row·18) (List._∷_ (25, row·19) (List._∷_ (26, row·15) (List._∷_ (27, row·16) List.[])))))))))))
 
-abbrev pub t30 : List.List Row.Entry
-t30 = List._∷_ (0, row·20) (List._∷_ (1, row·1) (List._∷_ (2, row·2) (List._∷_ (3, row·3) (List._∷_ (4, row·4) (List._∷_ (5, row·5) (List._∷_ (6, row·6) (List._∷_ (7, row·7) (List._∷_ (8, row·36) (List._∷_ (9, row·9) (List._∷_ (10, row·21) (List._∷_ (11, row·11) (List._∷_ (12, row·12) (List._∷_ (13, row·13) (List._∷_ (14, row·14) (List._∷_ (15, row·15) List.[])))))))))))))))
-
-abbrev pub t31 : List.List Row.Entry
-t31 = List._∷_ (0, row·0) (List._∷_ (1, row·1) (List._∷_ (2, row·2) (List._∷_ (3, row·3) (List._∷_ (4, row·4) (List._∷_ (5, row·5) (List._∷_ (6, row·6) (List._∷_ (7, row·7) (List._∷_ (8, row·8) (List._∷_ (9, row·9) (List._∷_ (10, row·21) (List._∷_ (11, row·11) (List._∷_ (12, row·22) (List._∷_ (13, row·13) (List._∷_ (14, row·14) (List._∷_ (15, row·15) List.[])))))))))))))))
-
 abbrev pub t32 : List.List Row.Entry
-t32 = List._∷_ (0, row·0) (List._∷_ (1, row·1) (List._∷_ (2, row·2) (List._∷_ (3, row·3) (List._∷_ (4, row·4) (List._∷_ (5, row·5) (List._∷_ (6, row·6) (List._∷_ (7, row·39) (List._∷_ (8, row·8) (List._∷_ (9, row·9) (List._∷_ (10, row·21) (List._∷_ (11, row·11) (List._∷_ (12, row·12) (List._∷_ (13, row·13) (List._∷_ (14, row·14) (List._∷_ (15, row·15) List.[])))))))))))))))
+t32 = List._∷_ (0, row·0) (List._∷_ (1, row·1) (List._∷_ (2, row·2) (List._∷_ (3, row·3) (List._∷_ (4, row·4) (List._∷_ (5, row·5) (List._∷_ (6, row·6) (List._∷_ (7, row·39) (List._∷_ (8, row·8) (List._∷_ (9, row·9) (List._∷_ (10, row·21) (List._∷_ (11, row·11) (List._∷_ (12, row·12) (List._∷_ (13, row·13) (List._∷_ (14, row·14) (List._∷_ (15, row·15)
+    List.[])))))))))))))))
 
 abbrev pub t33 : List.List Row.Entry
 t33 = List._∷_ (16, row·16) (List._∷_ (17, row·17) (List._∷_ (18, row·12) (List._∷_ (19, row·12) (List._∷_ (20, row·18) (List._∷_ (21, row·19) (List._∷_ (22, row·15) (List._∷_ (23, row·16) (List._∷_ (24, row·40) (List._∷_ (25, row·19) (List._∷_ (26, row·15) (List._∷_ (27, row·16) List.[])))))))))))
@@ -690,7 +527,8 @@ abbrev pub t34 : List.List Row.Entry
 t34 = List._∷_ (16, row·16) (List._∷_ (17, row·17) (List._∷_ (18, row·12) (List._∷_ (19, row·12) (List._∷_ (20, row·18) (List._∷_ (21, row·19) (List._∷_ (22, row·15) (List._∷_ (23, row·16) (List._∷_ (24, row·18) (List._∷_ (25, row·41) (List._∷_ (26, row·15) (List._∷_ (27, row·16) List.[])))))))))))
 
 abbrev pub t35 : List.List Row.Entry
-t35 = List._∷_ (0, row·0) (List._∷_ (1, row·1) (List._∷_ (2, row·2) (List._∷_ (3, row·3) (List._∷_ (4, row·4) (List._∷_ (5, row·5) (List._∷_ (6, row·6) (List._∷_ (7, row·39) (List._∷_ (8, row·42) (List._∷_ (9, row·9) (List._∷_ (10, row·21) (List._∷_ (11, row·11) (List._∷_ (12, row·12) (List._∷_ (13, row·13) (List._∷_ (14, row·14) (List._∷_ (15, row·15) List.[])))))))))))))))
+t35 = List._∷_ (0, row·0) (List._∷_ (1, row·1) (List._∷_ (2, row·2) (List._∷_ (3, row·3) (List._∷_ (4, row·4) (List._∷_ (5, row·5) (List._∷_ (6, row·6) (List._∷_ (7, row·39) (List._∷_ (8, row·42) (List._∷_ (9, row·9) (List._∷_ (10, row·21) (List._∷_ (11, row·11) (List._∷_ (12, row·12) (List._∷_ (13, row·13) (List._∷_ (14, row·14) (List._∷_ (15, row·15)
+    List.[])))))))))))))))
 
 abbrev pub t36 : List.List Row.Entry
 t36 = List._∷_ (16, row·16) (List._∷_ (17, row·17) (List._∷_ (18, row·12) (List._∷_ (19, row·12) (List._∷_ (20, row·18) (List._∷_ (21, row·19) (List._∷_ (22, row·15) (List._∷_ (23, row·16) (List._∷_ (24, row·18) (List._∷_ (25, row·41) (List._∷_ (26, row·43) (List._∷_ (27, row·16) List.[])))))))))))
@@ -699,7 +537,8 @@ abbrev pub t37 : List.List Row.Entry
 t37 = List._∷_ (16, row·16) (List._∷_ (17, row·17) (List._∷_ (18, row·12) (List._∷_ (19, row·12) (List._∷_ (20, row·18) (List._∷_ (21, row·19) (List._∷_ (22, row·15) (List._∷_ (23, row·16) (List._∷_ (24, row·18) (List._∷_ (25, row·41) (List._∷_ (26, row·15) (List._∷_ (27, row·44) List.[])))))))))))
 
 abbrev pub t38 : List.List Row.Entry
-t38 = List._∷_ (0, row·20) (List._∷_ (1, row·1) (List._∷_ (2, row·2) (List._∷_ (3, row·3) (List._∷_ (4, row·4) (List._∷_ (5, row·5) (List._∷_ (6, row·6) (List._∷_ (7, row·39) (List._∷_ (8, row·42) (List._∷_ (9, row·9) (List._∷_ (10, row·21) (List._∷_ (11, row·11) (List._∷_ (12, row·12) (List._∷_ (13, row·13) (List._∷_ (14, row·14) (List._∷_ (15, row·15) List.[])))))))))))))))
+t38 = List._∷_ (0, row·20) (List._∷_ (1, row·1) (List._∷_ (2, row·2) (List._∷_ (3, row·3) (List._∷_ (4, row·4) (List._∷_ (5, row·5) (List._∷_ (6, row·6) (List._∷_ (7, row·39) (List._∷_ (8, row·42) (List._∷_ (9, row·9) (List._∷_ (10, row·21) (List._∷_ (11, row·11) (List._∷_ (12, row·12) (List._∷_ (13, row·13) (List._∷_ (14, row·14) (List._∷_ (15, row·15)
+    List.[])))))))))))))))
 
 abbrev pub t39 : List.List Row.Entry
 t39 = List._∷_ (16, row·16) (List._∷_ (17, row·17) (List._∷_ (18, row·12) (List._∷_ (19, row·12) (List._∷_ (20, row·18) (List._∷_ (21, row·19) (List._∷_ (22, row·15) (List._∷_ (23, row·16) (List._∷_ (24, row·18) (List._∷_ (25, row·41) (List._∷_ (26, row·15) (List._∷_ (27, row·32) List.[])))))))))))
@@ -707,56 +546,32 @@ t39 = List._∷_ (16, row·16) (List._∷_ (17, row·17) (List._∷_ (18, row·1
 abbrev pub t40 : List.List Row.Entry
 t40 = List._∷_ (16, row·16) (List._∷_ (17, row·17) (List._∷_ (18, row·12) (List._∷_ (19, row·12) (List._∷_ (20, row·18) (List._∷_ (21, row·19) (List._∷_ (22, row·15) (List._∷_ (23, row·16) (List._∷_ (24, row·18) (List._∷_ (25, row·19) (List._∷_ (26, row·15) (List._∷_ (27, row·32) List.[])))))))))))
 
-abbrev pub t41 : List.List Row.Entry
-t41 = List._∷_ (0, row·20) (List._∷_ (1, row·1) (List._∷_ (2, row·2) (List._∷_ (3, row·3) (List._∷_ (4, row·4) (List._∷_ (5, row·5) (List._∷_ (6, row·6) (List._∷_ (7, row·7) (List._∷_ (8, row·42) (List._∷_ (9, row·9) (List._∷_ (10, row·21) (List._∷_ (11, row·11) (List._∷_ (12, row·12) (List._∷_ (13, row·13) (List._∷_ (14, row·14) (List._∷_ (15, row·15) List.[])))))))))))))))
-
 abbrev pub T0 : Row.Cx
-T0 = record { locals = List._++_ t0 t1; slots = List.[] }
+T0 = record
+    { locals = List._++_ (List._∷_ (0, row·0) (List._∷_ (1, row·1) (List._∷_ (2, row·2) (List._∷_ (3, row·3) (List._∷_ (4, row·4) (List._∷_ (5, row·5) (List._∷_ (6, row·6) (List._∷_ (7, row·7) (List._∷_ (8, row·8) (List._∷_ (9, row·9) (List._∷_ (10, row·10) (List._∷_ (11, row·11) (List._∷_ (12, row·12) (List._∷_ (13, row·13) (List._∷_ (14, row·14) (List._∷_ (15, row·15) List.[])))))))))))))))) t1; slots = List.[] }
 
 abbrev pub T1 : Row.Cx
-T1 = record { locals = List._++_ t2 t1; slots = List.[] }
-
-abbrev pub T2 : Row.Cx
-T2 = record { locals = List._++_ t0 t1; slots = List.[] }
-
-abbrev pub T3 : Row.Cx
-T3 = record { locals = List._++_ t0 t1; slots = List.[] }
-
-abbrev pub T4 : Row.Cx
-T4 = record { locals = List._++_ t0 t1; slots = List.[] }
-
-abbrev pub T5 : Row.Cx
-T5 = record { locals = List._++_ t0 t1; slots = List.[] }
-
-abbrev pub T6 : Row.Cx
-T6 = record { locals = List._++_ t0 t1; slots = List.[] }
-
-abbrev pub T7 : Row.Cx
-T7 = record { locals = List._++_ t0 t1; slots = List.[] }
-
-abbrev pub T8 : Row.Cx
-T8 = record { locals = List._++_ t0 t1; slots = List.[] }
-
-abbrev pub T9 : Row.Cx
-T9 = record { locals = List._++_ t0 t1; slots = List.[] }
+T1 = record
+    { locals = List._++_ (List._∷_ (0, row·20) (List._∷_ (1, row·1) (List._∷_ (2, row·2) (List._∷_ (3, row·3) (List._∷_ (4, row·4) (List._∷_ (5, row·5) (List._∷_ (6, row·6) (List._∷_ (7, row·7) (List._∷_ (8, row·8) (List._∷_ (9, row·9) (List._∷_ (10, row·21) (List._∷_ (11, row·11) (List._∷_ (12, row·12) (List._∷_ (13, row·13) (List._∷_ (14, row·14) (List._∷_ (15, row·15) List.[])))))))))))))))) t1; slots = List.[] }
 
 abbrev pub T10 : Row.Cx
-T10 = record { locals = List._++_ t3 t1; slots = List.[] }
+T10 = record
+    { locals = List._++_ (List._∷_ (0, row·0) (List._∷_ (1, row·1) (List._∷_ (2, row·2) (List._∷_ (3, row·3) (List._∷_ (4, row·4) (List._∷_ (5, row·5) (List._∷_ (6, row·6) (List._∷_ (7, row·7) (List._∷_ (8, row·8) (List._∷_ (9, row·9) (List._∷_ (10, row·10) (List._∷_ (11, row·11) (List._∷_ (12, row·22) (List._∷_ (13, row·13) (List._∷_ (14, row·14) (List._∷_ (15, row·15) List.[])))))))))))))))) t1; slots = List.[] }
 
 abbrev pub T11 : Row.Cx
 T11 = record { locals = List._++_ t4 t1; slots = List.[] }
 
-abbrev pub T12 : Row.Cx
-T12 = record { locals = List._++_ t0 t1; slots = List.[] }
-
 abbrev pub T14 : Row.Cx
-T14 = record { locals = List._++_ t5 t1; slots = List.[] }
+T14 = record
+    { locals = List._++_ (List._∷_ (0, row·0) (List._∷_ (1, row·1) (List._∷_ (2, row·2) (List._∷_ (3, row·3) (List._∷_ (4, row·4) (List._∷_ (5, row·5) (List._∷_ (6, row·6) (List._∷_ (7, row·23) (List._∷_ (8, row·8) (List._∷_ (9, row·9) (List._∷_ (10, row·10) (List._∷_ (11, row·11) (List._∷_ (12, row·12) (List._∷_ (13, row·24) (List._∷_ (14, row·14) (List._∷_ (15, row·15) List.[])))))))))))))))) t1; slots = List.[] }
 
 abbrev pub T15 : Row.Cx
-T15 = record { locals = List._++_ t6 t1; slots = List.[] }
+T15 = record
+    { locals = List._++_ (List._∷_ (0, row·0) (List._∷_ (1, row·1) (List._∷_ (2, row·2) (List._∷_ (3, row·3) (List._∷_ (4, row·4) (List._∷_ (5, row·5) (List._∷_ (6, row·6) (List._∷_ (7, row·23) (List._∷_ (8, row·8) (List._∷_ (9, row·9) (List._∷_ (10, row·10) (List._∷_ (11, row·11) (List._∷_ (12, row·12) (List._∷_ (13, row·13) (List._∷_ (14, row·25) (List._∷_ (15, row·15) List.[])))))))))))))))) t1; slots = List.[] }
 
 abbrev pub T17 : Row.Cx
-T17 = record { locals = List._++_ t7 t1; slots = List.[] }
+T17 = record
+    { locals = List._++_ (List._∷_ (0, row·0) (List._∷_ (1, row·1) (List._∷_ (2, row·2) (List._∷_ (3, row·3) (List._∷_ (4, row·4) (List._∷_ (5, row·5) (List._∷_ (6, row·6) (List._∷_ (7, row·23) (List._∷_ (8, row·26) (List._∷_ (9, row·9) (List._∷_ (10, row·10) (List._∷_ (11, row·11) (List._∷_ (12, row·12) (List._∷_ (13, row·13) (List._∷_ (14, row·25) (List._∷_ (15, row·27) List.[])))))))))))))))) t1; slots = List.[] }
 
 abbrev pub T18 : Row.Cx
 T18 = record { locals = List._++_ t8 t9; slots = List.[] }
@@ -765,7 +580,8 @@ abbrev pub T19 : Row.Cx
 T19 = record { locals = List._++_ t8 t10; slots = List.[] }
 
 abbrev pub T20 : Row.Cx
-T20 = record { locals = List._++_ t11 t10; slots = List.[] }
+T20 = record
+    { locals = List._++_ (List._∷_ (0, row·0) (List._∷_ (1, row·1) (List._∷_ (2, row·2) (List._∷_ (3, row·3) (List._∷_ (4, row·4) (List._∷_ (5, row·5) (List._∷_ (6, row·6) (List._∷_ (7, row·23) (List._∷_ (8, row·26) (List._∷_ (9, row·9) (List._∷_ (10, row·21) (List._∷_ (11, row·11) (List._∷_ (12, row·12) (List._∷_ (13, row·13) (List._∷_ (14, row·25) (List._∷_ (15, row·15) List.[])))))))))))))))) t10; slots = List.[] }
 
 abbrev pub T21 : Row.Cx
 T21 = record { locals = List._++_ t12 t13; slots = List.[] }
@@ -774,43 +590,27 @@ abbrev pub T22 : Row.Cx
 T22 = record { locals = List._++_ t12 t14; slots = List.[] }
 
 abbrev pub T24 : Row.Cx
-T24 = record { locals = List._++_ t15 t14; slots = List.[] }
-
-abbrev pub T25 : Row.Cx
-T25 = record { locals = List._++_ t15 t14; slots = List.[] }
+T24 = record
+    { locals = List._++_ (List._∷_ (0, row·0) (List._∷_ (1, row·1) (List._∷_ (2, row·2) (List._∷_ (3, row·3) (List._∷_ (4, row·4) (List._∷_ (5, row·5) (List._∷_ (6, row·6) (List._∷_ (7, row·7) (List._∷_ (8, row·26) (List._∷_ (9, row·9) (List._∷_ (10, row·21) (List._∷_ (11, row·30) (List._∷_ (12, row·12) (List._∷_ (13, row·13) (List._∷_ (14, row·14) (List._∷_ (15, row·15) List.[])))))))))))))))) t14; slots = List.[] }
 
 abbrev pub T28 : Row.Cx
 T28 = record { locals = List._++_ t16 t1; slots = List.[] }
 
-abbrev pub T29 : Row.Cx
-T29 = record { locals = List._++_ t16 t1; slots = List.[] }
-
 abbrev pub T31 : Row.Cx
-T31 = record { locals = List._++_ t16 t17; slots = List.[] }
+T31 = record { locals = List._++_ t16 (List._∷_ (16, row·16) (List._∷_ (17, row·17) (List._∷_ (18, row·22) (List._∷_ (19, row·12) (List._∷_ (20, row·18) (List._∷_ (21, row·19) (List._∷_ (22, row·15) (List._∷_ (23, row·16) (List._∷_ (24, row·18) (List._∷_ (25, row·19) (List._∷_ (26, row·15) (List._∷_ (27, row·16) List.[])))))))))))); slots = List.[] }
 
 abbrev pub T32 : Row.Cx
-T32 = record { locals = List._++_ t16 t18; slots = List.[] }
-
-abbrev pub T33 : Row.Cx
-T33 = record { locals = List._++_ t4 t1; slots = List.[] }
+T32 = record { locals = List._++_ t16 (List._∷_ (16, row·16) (List._∷_ (17, row·17) (List._∷_ (18, row·22) (List._∷_ (19, row·22) (List._∷_ (20, row·18) (List._∷_ (21, row·19) (List._∷_ (22, row·15) (List._∷_ (23, row·16) (List._∷_ (24, row·18) (List._∷_ (25, row·19) (List._∷_ (26, row·15) (List._∷_ (27, row·16) List.[])))))))))))); slots = List.[] }
 
 abbrev pub T34 : Row.Cx
 T34 = record { locals = List._++_ t16 t19; slots = List.[] }
 
-abbrev pub T35 : Row.Cx
-T35 = record { locals = List._++_ t16 t1; slots = List.[] }
-
 abbrev pub T36 : Row.Cx
-T36 = record { locals = List._++_ t20 t1; slots = List.[] }
-
-abbrev pub T37 : Row.Cx
-T37 = record { locals = List._++_ t2 t1; slots = List.[] }
+T36 = record
+    { locals = List._++_ (List._∷_ (0, row·20) (List._∷_ (1, row·1) (List._∷_ (2, row·2) (List._∷_ (3, row·3) (List._∷_ (4, row·4) (List._∷_ (5, row·5) (List._∷_ (6, row·6) (List._∷_ (7, row·7) (List._∷_ (8, row·8) (List._∷_ (9, row·9) (List._∷_ (10, row·21) (List._∷_ (11, row·30) (List._∷_ (12, row·12) (List._∷_ (13, row·13) (List._∷_ (14, row·14) (List._∷_ (15, row·15) List.[])))))))))))))))) t1; slots = List.[] }
 
 abbrev pub T38 : Row.Cx
 T38 = record { locals = List._++_ t4 t19; slots = List.[] }
-
-abbrev pub T39 : Row.Cx
-T39 = record { locals = List._++_ t4 t1; slots = List.[] }
 
 abbrev pub T41 : Row.Cx
 T41 = record { locals = List._++_ t21 t22; slots = List.[] }
@@ -831,19 +631,12 @@ abbrev pub T47 : Row.Cx
 T47 = record { locals = List._++_ t27 t29; slots = List.[] }
 
 abbrev pub T49 : Row.Cx
-T49 = record { locals = List._++_ t30 t29; slots = List.[] }
-
-abbrev pub T52 : Row.Cx
-T52 = record { locals = List._++_ t2 t1; slots = List.[] }
-
-abbrev pub T53 : Row.Cx
-T53 = record { locals = List._++_ t2 t1; slots = List.[] }
+T49 = record
+    { locals = List._++_ (List._∷_ (0, row·20) (List._∷_ (1, row·1) (List._∷_ (2, row·2) (List._∷_ (3, row·3) (List._∷_ (4, row·4) (List._∷_ (5, row·5) (List._∷_ (6, row·6) (List._∷_ (7, row·7) (List._∷_ (8, row·36) (List._∷_ (9, row·9) (List._∷_ (10, row·21) (List._∷_ (11, row·11) (List._∷_ (12, row·12) (List._∷_ (13, row·13) (List._∷_ (14, row·14) (List._∷_ (15, row·15) List.[])))))))))))))))) t29; slots = List.[] }
 
 abbrev pub T55 : Row.Cx
-T55 = record { locals = List._++_ t31 t1; slots = List.[] }
-
-abbrev pub T56 : Row.Cx
-T56 = record { locals = List._++_ t4 t1; slots = List.[] }
+T55 = record
+    { locals = List._++_ (List._∷_ (0, row·0) (List._∷_ (1, row·1) (List._∷_ (2, row·2) (List._∷_ (3, row·3) (List._∷_ (4, row·4) (List._∷_ (5, row·5) (List._∷_ (6, row·6) (List._∷_ (7, row·7) (List._∷_ (8, row·8) (List._∷_ (9, row·9) (List._∷_ (10, row·21) (List._∷_ (11, row·11) (List._∷_ (12, row·22) (List._∷_ (13, row·13) (List._∷_ (14, row·14) (List._∷_ (15, row·15) List.[])))))))))))))))) t1; slots = List.[] }
 
 abbrev pub T58 : Row.Cx
 T58 = record { locals = List._++_ t32 t33; slots = List.[] }
@@ -864,13 +657,17 @@ abbrev pub T64 : Row.Cx
 T64 = record { locals = List._++_ t38 t40; slots = List.[] }
 
 abbrev pub T66 : Row.Cx
-T66 = record { locals = List._++_ t41 t40; slots = List.[] }
+T66 = record
+    { locals = List._++_ (List._∷_ (0, row·20) (List._∷_ (1, row·1) (List._∷_ (2, row·2) (List._∷_ (3, row·3) (List._∷_ (4, row·4) (List._∷_ (5, row·5) (List._∷_ (6, row·6) (List._∷_ (7, row·7) (List._∷_ (8, row·42) (List._∷_ (9, row·9) (List._∷_ (10, row·21) (List._∷_ (11, row·11) (List._∷_ (12, row·12) (List._∷_ (13, row·13) (List._∷_ (14, row·14) (List._∷_ (15, row·15) List.[])))))))))))))))) t40; slots = List.[] }
 
-abbrev pub T69 : Row.Cx
-T69 = record { locals = List._++_ t2 t1; slots = List.[] }
+abbrev args·0 : ArgsT ps·2 (T20 .locals)
+args·0 = (record { pos = 1; ty = ty·6; ref = λ x. x }, (record { pos = 2; ty = ty·7; ref = λ x. x }, (record { pos = 3; ty = ty·4; ref = λ x. x }, (record { pos = 4; ty = ty·8; ref = λ x. x }, (record { pos = 5; ty = ty·9; ref = λ x. x }, (record { pos = 6; ty = ty·10; ref = λ x. x }, (record { pos = 14; ty = ty·2; ref = λ x. x }, (record { pos = 16; ty = ty·1; ref = λ x. x }, (record { pos = 9; ty = ty·0; ref = λ x. x }, (Num.vAt 17 λ x. x, tt))))))))))
 
-abbrev pub T70 : Row.Cx
-T70 = record { locals = List._++_ t2 t1; slots = List.[] }
+abbrev args·1 : ArgsT ps·5 (T45 .locals)
+args·1 = (record { pos = 1; ty = ty·6; ref = λ x. x }, (record { pos = 2; ty = ty·7; ref = λ x. x }, (record { pos = 3; ty = ty·4; ref = λ x. x }, (record { pos = 4; ty = ty·8; ref = λ x. x }, (record { pos = 5; ty = ty·9; ref = λ x. x }, (record { pos = 6; ty = ty·10; ref = λ x. x }, (record { pos = 21; ty = ty·3; ref = λ x. x }, (record { pos = 23; ty = ty·1; ref = λ x. x }, (record { pos = 9; ty = ty·0; ref = λ x. x }, tt)))))))))
+
+abbrev args·2 : ArgsT ps·5 (T62 .locals)
+args·2 = (record { pos = 1; ty = ty·6; ref = λ x. x }, (record { pos = 2; ty = ty·7; ref = λ x. x }, (record { pos = 3; ty = ty·4; ref = λ x. x }, (record { pos = 4; ty = ty·8; ref = λ x. x }, (record { pos = 5; ty = ty·9; ref = λ x. x }, (record { pos = 6; ty = ty·10; ref = λ x. x }, (record { pos = 25; ty = ty·3; ref = λ x. x }, (record { pos = 27; ty = ty·1; ref = λ x. x }, (record { pos = 9; ty = ty·0; ref = λ x. x }, tt)))))))))
 
 abbrev pub O0 : Typed.Outs
 O0 = record { next = Option.none; exits = List.[]; returns = Option.some T1 }
@@ -879,44 +676,41 @@ abbrev pub O1 : Typed.Outs
 O1 = Typed.withNext (Option.some T11) O0
 
 abbrev pub O2 : Typed.Outs
-O2 = Typed.withNext (Option.some T33) O1
+O2 = Typed.withNext (Option.some T11) O1
 
 module _ (claims· : Claims) where
-  abbrev s0 : Typed.Gives T0 T2
+  abbrev s0 : Typed.Gives T0 T0
   s0 = Know.k-shs-known (Referent.fInt Syntax.w16) T0 1 0 ty·6 Row.off 0 λ x. x
 
-  abbrev s1 : Typed.Gives T2 T3
-  s1 = Know.k-shs-known (Referent.fInt Syntax.w16) T2 2 1 ty·7 Row.off 0 λ x. x
+  abbrev s1 : Typed.Gives T0 T0
+  s1 = Know.k-shs-known (Referent.fInt Syntax.w16) T0 2 1 ty·7 Row.off 0 λ x. x
 
-  abbrev s2 : Typed.Gives T3 T4
-  s2 = Know.k-shs-known (Referent.fInt Syntax.w8) T3 3 2 ty·4 Row.off 0 λ x. x
+  abbrev s2 : Typed.Gives T0 T0
+  s2 = Know.k-shs-known (Referent.fInt Syntax.w8) T0 3 2 ty·4 Row.off 0 λ x. x
 
-  abbrev s3 : Typed.Gives T4 T5
-  s3 = Know.k-shs-known (Referent.fInt Syntax.w16) T4 4 3 ty·8 Row.off 0 λ x. x
+  abbrev s3 : Typed.Gives T0 T0
+  s3 = Know.k-shs-known (Referent.fInt Syntax.w16) T0 4 3 ty·8 Row.off 0 λ x. x
 
-  abbrev s4 : Typed.Gives T5 T6
-  s4 = Know.k-shs-known (Referent.fInt Syntax.w16) T5 5 4 ty·9 Row.off 0 λ x. x
+  abbrev s4 : Typed.Gives T0 T0
+  s4 = Know.k-shs-known (Referent.fInt Syntax.w16) T0 5 4 ty·9 Row.off 0 λ x. x
 
-  abbrev s5 : Typed.Gives T6 T7
-  s5 = Know.k-shs-known (Referent.fInt Syntax.w32) T6 6 5 ty·10 Row.off 0 λ x. x
+  abbrev s5 : Typed.Gives T0 T0
+  s5 = Know.k-shs-known (Referent.fInt Syntax.w32) T0 6 5 ty·10 Row.off 0 λ x. x
 
-  abbrev s6 : Typed.Gives T7 T8
-  s6 = Know.k-sl-known (Referent.fInt Syntax.w16) T7 7 6 ty·11 Row.off 0 λ x. x
+  abbrev s6 : Typed.Gives T0 T0
+  s6 = Know.k-sl-known (Referent.fInt Syntax.w16) T0 7 6 ty·11 Row.off 0 λ x. x
 
-  abbrev s7 : Typed.Gives T8 T9
-  s7 = Know.k-sl-known (Referent.fInt Syntax.w8) T8 8 7 ty·5 Row.off 0 λ x. x
+  abbrev s7 : Typed.Gives T0 T0
+  s7 = Know.k-sl-known (Referent.fInt Syntax.w8) T0 8 7 ty·5 Row.off 0 λ x. x
 
-  abbrev s8 : Typed.Both T9 T10
-  s8 = Call.callB ps·0 r·0 (claims· .0) (claims· .1) T9 (
-    record { pos = 10; st = List.[]; d = 0; at = λ x. x },
-    tt,
-  ) 12 List.[] Syntax.tyBool
+  abbrev s8 : Typed.Both T0 T10
+  s8 = Call.callB ps·0 r·0 (claims· .0) (claims· .1) T0 (record { pos = 10; st = List.[]; d = 0; at = λ x. x }, tt) 12 List.[] Syntax.tyBool
 
-  abbrev s9 : Typed.Mo T10 → Typed.Mo T12
+  abbrev s9 : Typed.Mo T10 → Typed.Mo T0
   s9 = Scalar.n-room T10 12 Syntax.tyBool
 
-  abbrev s11 : Typed.Gives T12 T14
-  s11 = Relend.k-sl-relend (Referent.rtF (Referent.fInt Syntax.w16)) T12 7 13 6 9 ty·11 ty·2 Row.off λ x. x
+  abbrev s11 : Typed.Gives T0 T14
+  s11 = Relend.k-sl-relend (Referent.rtF (Referent.fInt Syntax.w16)) T0 7 13 6 9 ty·11 ty·2 Row.off λ x. x
 
   abbrev s12 : Typed.Asks T14 T15
   s12 = Relend.k-sl-aggregate (Referent.rtF (Referent.fInt Syntax.w16)) (Relend.asMut (Referent.rtF (Referent.fInt Syntax.w16))) T14 13 14 9 ty·2 ty·2 (λ x. x) (Scalar.oFld 7 (List._∷_ (Syntax.field 1) List.[]) (Syntax.tyInt Syntax.w64) 8 λ v. Shared.lenV (v .0))
@@ -928,56 +722,13 @@ module _ (claims· : Claims) where
   s15 = Relend.k-sl-aggregate (Referent.rtF (Referent.fInt Syntax.w8)) (Relend.asMut (Referent.rtF (Referent.fInt Syntax.w8))) T17 15 16 10 ty·1 ty·1 (λ x. x) (Scalar.oFld 8 (List._∷_ (Syntax.field 1) List.[]) (Syntax.tyInt Syntax.w64) 8 λ v. Shared.lenV (v .0))
 
   abbrev s16 : Typed.Both T18 T19
-  s16 = Call.callB ps·1 r·1 (claims· .2) (claims· .3) T18 (
-    record { pos = 10; st = List.[]; d = 0; at = λ x. x },
-    tt,
-  ) 17 List.[] (Syntax.tyInt Syntax.w64)
+  s16 = Call.callB ps·0 r·1 (claims· .2) (claims· .3) T18 (record { pos = 10; st = List.[]; d = 0; at = λ x. x }, tt) 17 List.[] (Syntax.tyInt Syntax.w64)
 
   abbrev s17 : Typed.Mo T19 → Typed.Mo T20
   s17 = Scalar.n-room T19 10 ty·12
 
   abbrev s18 : Typed.Both T20 T21
-  s18 = Call.callB ps·2 r·2 (claims· .4) (claims· .5) T20 (
-    record { pos = 1; ty = Syntax.tyRef (Syntax.named 0) Syntax.imm (Syntax.tyInt Syntax.w16); ref = λ x. x },
-    (
-      record { pos = 2; ty = Syntax.tyRef (Syntax.named 1) Syntax.imm (Syntax.tyInt Syntax.w16); ref = λ x. x },
-      (
-        record {
-          pos = 3;
-          ty = Syntax.tyRef (Syntax.named 2) Syntax.imm (Syntax.tyInt Syntax.w8);
-          ref = λ x. x;
-        },
-        (
-          record { pos = 4; ty = Syntax.tyRef (Syntax.named 3) Syntax.imm (Syntax.tyInt Syntax.w16); ref = λ x. x },
-          (
-            record { pos = 5; ty = Syntax.tyRef (Syntax.named 4) Syntax.imm (Syntax.tyInt Syntax.w16); ref = λ x. x },
-            (
-              record {
-                pos = 6;
-                ty = Syntax.tyRef (Syntax.named 5) Syntax.imm (Syntax.tyInt Syntax.w32);
-                ref = λ x. x;
-              },
-              (
-                record { pos = 14; ty = Syntax.tyRef Syntax.erased Syntax.mut (Syntax.tyInt Syntax.w16); ref = λ x. x },
-                (
-                  record { pos = 16; ty = Syntax.tyRef Syntax.erased Syntax.mut (Syntax.tyInt Syntax.w8); ref = λ x. x },
-                  (
-                    record {
-                      pos = 9;
-                      ty = Syntax.tyRef
-                          (Syntax.named 8) Syntax.imm Rec.behind;
-                      ref = λ x. x;
-                    },
-                    (Num.vAt 17 λ x. x, tt),
-                  ),
-                ),
-              ),
-            ),
-          ),
-        ),
-      ),
-    ),
-  ) 11 (List._∷_ 0 (List._∷_ 1 (List._∷_ 2 (List._∷_ 3 (List._∷_ 4 (List._∷_ 5 (List._∷_ 9 (List._∷_ 10 (List._∷_ 8 List.[]))))))))) ty·13
+  s18 = Call.callB ps·2 r·2 (claims· .4) (claims· .5) T20 args·0 11 (List._∷_ 0 (List._∷_ 1 (List._∷_ 2 (List._∷_ 3 (List._∷_ 4 (List._∷_ 5 (List._∷_ 9 (List._∷_ 10 (List._∷_ 8 List.[]))))))))) ty·13
 
   abbrev s19 : Typed.Mo T21 → Typed.Mo T22
   s19 = Scalar.n-room T21 17 (Syntax.tyInt Syntax.w64)
@@ -985,20 +736,17 @@ module _ (claims· : Claims) where
   abbrev s21 : Typed.Both T22 T24
   s21 = Relend.k-back-sl (Referent.rtF (Referent.fInt Syntax.w16)) T22 14 7 6 9 ty·11 ty·2 Row.off (λ x. x) λ x. x
 
-  abbrev s22 : Typed.Gives T24 T25
+  abbrev s22 : Typed.Gives T24 T24
   s22 = Know.k-sl-known (Referent.fInt Syntax.w16) T24 7 6 ty·11 Row.off 0 λ x. x
 
-  abbrev s25 : Typed.Both T25 T28
-  s25 = Relend.k-back-sl (Referent.rtF (Referent.fInt Syntax.w8)) T25 16 8 7 10 ty·5 ty·1 Row.off (λ x. x) λ x. x
+  abbrev s25 : Typed.Both T24 T28
+  s25 = Relend.k-back-sl (Referent.rtF (Referent.fInt Syntax.w8)) T24 16 8 7 10 ty·5 ty·1 Row.off (λ x. x) λ x. x
 
-  abbrev s26 : Typed.Gives T28 T29
+  abbrev s26 : Typed.Gives T28 T28
   s26 = Know.k-sl-known (Referent.fInt Syntax.w8) T28 8 7 ty·5 Row.off 0 λ x. x
 
-  abbrev s28 : Typed.Both T29 T31
-  s28 = Call.callB ps·3 r·3 (claims· .6) (claims· .7) T29 (
-    record { pos = 11; st = List.[]; d = 0; at = λ x. x },
-    tt,
-  ) 18 List.[] Syntax.tyBool
+  abbrev s28 : Typed.Both T28 T31
+  s28 = Call.callB ps·3 r·0 (claims· .6) (claims· .7) T28 (record { pos = 11; st = List.[]; d = 0; at = λ x. x }, tt) 18 List.[] Syntax.tyBool
 
   abbrev s29 : Typed.Asks T31 T32
   s29 = Scalar.k-op1 T31 Syntax.bitNot (Scalar.oAt 18 Syntax.tyBool (Row.valS Row.sBool)) 19 (Rows.sc-here Row.sBool) (Row.sBool .of)
@@ -1006,26 +754,23 @@ module _ (claims· : Claims) where
   abbrev s30 : Typed.Mo T32 → Typed.Mo T34
   s30 = Scalar.n-room T32 18 Syntax.tyBool
 
-  abbrev s31 : Typed.Mo T34 → Typed.Mo T35
+  abbrev s31 : Typed.Mo T34 → Typed.Mo T28
   s31 = Scalar.n-room T34 19 Syntax.tyBool
 
-  abbrev s32 : Typed.Both T35 T36
-  s32 = Call.callB ps·4 r·4 (claims· .8) (claims· .9) T35 (
-    record { pos = 11; st = List.[]; d = 0; at = λ x. x },
-    tt,
-  ) 0 List.[] ty·14
+  abbrev s32 : Typed.Both T28 T36
+  s32 = Call.callB ps·3 r·4 (claims· .8) (claims· .9) T28 (record { pos = 11; st = List.[]; d = 0; at = λ x. x }, tt) 0 List.[] ty·14
 
-  abbrev s33 : Typed.Mo T36 → Typed.Mo T37
+  abbrev s33 : Typed.Mo T36 → Typed.Mo T1
   s33 = Scalar.n-room T36 11 ty·13
 
   abbrev s34 : Typed.Mo T34 → Typed.Mo T38
   s34 = Scalar.n-room T34 11 ty·13
 
-  abbrev s35 : Typed.Mo T38 → Typed.Mo T39
+  abbrev s35 : Typed.Mo T38 → Typed.Mo T11
   s35 = Scalar.n-room T38 19 Syntax.tyBool
 
-  abbrev s37 : Typed.Gives T33 T41
-  s37 = Reshare.k-sl-reshare (Referent.rtF (Referent.fInt Syntax.w16)) T33 7 20 6 11 ty·11 ty·3 Row.off λ x. x
+  abbrev s37 : Typed.Gives T11 T41
+  s37 = Reshare.k-sl-reshare (Referent.rtF (Referent.fInt Syntax.w16)) T11 7 20 6 11 ty·11 ty·3 Row.off λ x. x
 
   abbrev s38 : Typed.Asks T41 T42
   s38 = Relend.k-sl-aggregate (Referent.rtF (Referent.fInt Syntax.w16)) (Relend.asShr (Referent.rtF (Referent.fInt Syntax.w16))) T41 20 21 11 ty·3 ty·3 (λ x. x) (Scalar.oFld 7 (List._∷_ (Syntax.field 1) List.[]) (Syntax.tyInt Syntax.w64) 8 λ v. Shared.lenV (v .0))
@@ -1037,47 +782,7 @@ module _ (claims· : Claims) where
   s41 = Relend.k-sl-aggregate (Referent.rtF (Referent.fInt Syntax.w8)) (Relend.asMut (Referent.rtF (Referent.fInt Syntax.w8))) T44 22 23 12 ty·1 ty·1 (λ x. x) (Scalar.oFld 8 (List._∷_ (Syntax.field 1) List.[]) (Syntax.tyInt Syntax.w64) 8 λ v. Shared.lenV (v .0))
 
   abbrev s42 : Typed.Both T45 T46
-  s42 = Call.callB ps·5 r·5 (claims· .10) (claims· .11) T45 (
-    record { pos = 1; ty = Syntax.tyRef (Syntax.named 0) Syntax.imm (Syntax.tyInt Syntax.w16); ref = λ x. x },
-    (
-      record { pos = 2; ty = Syntax.tyRef (Syntax.named 1) Syntax.imm (Syntax.tyInt Syntax.w16); ref = λ x. x },
-      (
-        record {
-          pos = 3;
-          ty = Syntax.tyRef (Syntax.named 2) Syntax.imm (Syntax.tyInt Syntax.w8);
-          ref = λ x. x;
-        },
-        (
-          record { pos = 4; ty = Syntax.tyRef (Syntax.named 3) Syntax.imm (Syntax.tyInt Syntax.w16); ref = λ x. x },
-          (
-            record { pos = 5; ty = Syntax.tyRef (Syntax.named 4) Syntax.imm (Syntax.tyInt Syntax.w16); ref = λ x. x },
-            (
-              record {
-                pos = 6;
-                ty = Syntax.tyRef (Syntax.named 5) Syntax.imm (Syntax.tyInt Syntax.w32);
-                ref = λ x. x;
-              },
-              (
-                record { pos = 21; ty = Syntax.tyRef Syntax.erased Syntax.imm (Syntax.tyInt Syntax.w16); ref = λ x. x },
-                (
-                  record { pos = 23; ty = Syntax.tyRef Syntax.erased Syntax.mut (Syntax.tyInt Syntax.w8); ref = λ x. x },
-                  (
-                    record {
-                      pos = 9;
-                      ty = Syntax.tyRef
-                          (Syntax.named 8) Syntax.imm Rec.behind;
-                      ref = λ x. x;
-                    },
-                    tt,
-                  ),
-                ),
-              ),
-            ),
-          ),
-        ),
-      ),
-    ),
-  ) 0 (List._∷_ 0 (List._∷_ 1 (List._∷_ 2 (List._∷_ 3 (List._∷_ 4 (List._∷_ 5 (List._∷_ 11 (List._∷_ 12 (List._∷_ 8 List.[]))))))))) ty·14
+  s42 = Call.callB ps·5 r·5 (claims· .10) (claims· .11) T45 args·1 0 (List._∷_ 0 (List._∷_ 1 (List._∷_ 2 (List._∷_ 3 (List._∷_ 4 (List._∷_ 5 (List._∷_ 11 (List._∷_ 12 (List._∷_ 8 List.[]))))))))) ty·14
 
   abbrev s43 : Typed.Mo T46 → Typed.Mo T47
   s43 = Scalar.n-room T46 21 (Syntax.tyStruct (List._∷_ 38 (List._∷_ 91 (List._∷_ 93 List.[]))) (Syntax.tcons ty·3 (Syntax.tcons (Syntax.tyInt Syntax.w64) Syntax.tnil)))
@@ -1085,16 +790,16 @@ module _ (claims· : Claims) where
   abbrev s45 : Typed.Mo T47 → Typed.Mo T49
   s45 = Reshare.n-back-sl-shr (Referent.rtF (Referent.fInt Syntax.w16)) T47 7 6 11 ty·11 Row.off λ x. x
 
-  abbrev s48 : Typed.Both T49 T52
+  abbrev s48 : Typed.Both T49 T1
   s48 = Relend.k-back-sl (Referent.rtF (Referent.fInt Syntax.w8)) T49 23 8 7 12 ty·5 ty·1 Row.off (λ x. x) λ x. x
 
-  abbrev s49 : Typed.Gives T52 T53
-  s49 = Know.k-sl-known (Referent.fInt Syntax.w8) T52 8 7 ty·5 Row.off 0 λ x. x
+  abbrev s49 : Typed.Gives T1 T1
+  s49 = Know.k-sl-known (Referent.fInt Syntax.w8) T1 8 7 ty·5 Row.off 0 λ x. x
 
   abbrev s51 : Typed.Mo T10 → Typed.Mo T55
   s51 = Scalar.n-room T10 10 ty·12
 
-  abbrev s52 : Typed.Mo T55 → Typed.Mo T56
+  abbrev s52 : Typed.Mo T55 → Typed.Mo T11
   s52 = Scalar.n-room T55 12 Syntax.tyBool
 
   abbrev s54 : Typed.Gives T11 T58
@@ -1110,47 +815,7 @@ module _ (claims· : Claims) where
   s58 = Relend.k-sl-aggregate (Referent.rtF (Referent.fInt Syntax.w8)) (Relend.asMut (Referent.rtF (Referent.fInt Syntax.w8))) T61 26 27 14 ty·1 ty·1 (λ x. x) (Scalar.oFld 8 (List._∷_ (Syntax.field 1) List.[]) (Syntax.tyInt Syntax.w64) 8 λ v. Shared.lenV (v .0))
 
   abbrev s59 : Typed.Both T62 T63
-  s59 = Call.callB ps·5 r·5 (claims· .10) (claims· .11) T62 (
-    record { pos = 1; ty = Syntax.tyRef (Syntax.named 0) Syntax.imm (Syntax.tyInt Syntax.w16); ref = λ x. x },
-    (
-      record { pos = 2; ty = Syntax.tyRef (Syntax.named 1) Syntax.imm (Syntax.tyInt Syntax.w16); ref = λ x. x },
-      (
-        record {
-          pos = 3;
-          ty = Syntax.tyRef (Syntax.named 2) Syntax.imm (Syntax.tyInt Syntax.w8);
-          ref = λ x. x;
-        },
-        (
-          record { pos = 4; ty = Syntax.tyRef (Syntax.named 3) Syntax.imm (Syntax.tyInt Syntax.w16); ref = λ x. x },
-          (
-            record { pos = 5; ty = Syntax.tyRef (Syntax.named 4) Syntax.imm (Syntax.tyInt Syntax.w16); ref = λ x. x },
-            (
-              record {
-                pos = 6;
-                ty = Syntax.tyRef (Syntax.named 5) Syntax.imm (Syntax.tyInt Syntax.w32);
-                ref = λ x. x;
-              },
-              (
-                record { pos = 25; ty = Syntax.tyRef Syntax.erased Syntax.imm (Syntax.tyInt Syntax.w16); ref = λ x. x },
-                (
-                  record { pos = 27; ty = Syntax.tyRef Syntax.erased Syntax.mut (Syntax.tyInt Syntax.w8); ref = λ x. x },
-                  (
-                    record {
-                      pos = 9;
-                      ty = Syntax.tyRef
-                          (Syntax.named 8) Syntax.imm Rec.behind;
-                      ref = λ x. x;
-                    },
-                    tt,
-                  ),
-                ),
-              ),
-            ),
-          ),
-        ),
-      ),
-    ),
-  ) 0 (List._∷_ 0 (List._∷_ 1 (List._∷_ 2 (List._∷_ 3 (List._∷_ 4 (List._∷_ 5 (List._∷_ 13 (List._∷_ 14 (List._∷_ 8 List.[]))))))))) ty·14
+  s59 = Call.callB ps·5 r·5 (claims· .10) (claims· .11) T62 args·2 0 (List._∷_ 0 (List._∷_ 1 (List._∷_ 2 (List._∷_ 3 (List._∷_ 4 (List._∷_ 5 (List._∷_ 13 (List._∷_ 14 (List._∷_ 8 List.[]))))))))) ty·14
 
   abbrev s60 : Typed.Mo T63 → Typed.Mo T64
   s60 = Scalar.n-room T63 25 (Syntax.tyStruct (List._∷_ 38 (List._∷_ 91 (List._∷_ 93 List.[]))) (Syntax.tcons ty·3 (Syntax.tcons (Syntax.tyInt Syntax.w64) Syntax.tnil)))
@@ -1158,37 +823,37 @@ module _ (claims· : Claims) where
   abbrev s62 : Typed.Mo T64 → Typed.Mo T66
   s62 = Reshare.n-back-sl-shr (Referent.rtF (Referent.fInt Syntax.w16)) T64 7 6 13 ty·11 Row.off λ x. x
 
-  abbrev s65 : Typed.Both T66 T69
+  abbrev s65 : Typed.Both T66 T1
   s65 = Relend.k-back-sl (Referent.rtF (Referent.fInt Syntax.w8)) T66 27 8 7 14 ty·5 ty·1 Row.off (λ x. x) λ x. x
 
-  abbrev s66 : Typed.Gives T69 T70
-  s66 = Know.k-sl-known (Referent.fInt Syntax.w8) T69 8 7 ty·5 Row.off 0 λ x. x
+  abbrev s66 : Typed.Gives T1 T1
+  s66 = Know.k-sl-known (Referent.fInt Syntax.w8) T1 8 7 ty·5 Row.off 0 λ x. x
 
   module _ (Pre· : (κs : Lifetimes.Lfts 9) → Kinds.Dens κs ps → Type 0) (Post· : (κs : Lifetimes.Lfts 9) → (a : Kinds.Dens κs ps) → Kinds.Plain 9 ps r κs) where
     module _ (M : Type 1) where
       abbrev pub Closed : Type 2
-      Closed = (𝓤 : URA.URA M) (H : Wp.Heap 𝓤) (A : Atoms.Atoms 𝓤) (W : Kit.Given 𝓤 H A) (𝓣 : Wp.Tables 𝓤 H) (known0 : Plain.Known 𝓤 H A W 𝓣 0 ps·0 r·0 (claims· .0) (claims· .1) "handset::replies::is_reported") (known1 : Plain.Known 𝓤 H A W 𝓣 0 ps·1 r·1 (claims· .2) (claims· .3) "handset::replies::drone_of") (known2 : Plain.Known 𝓤 H A W 𝓣 9 ps·2 r·2
-          (claims· .4) (claims· .5) "conductor::calls::arrive") (known3 : Plain.Known 𝓤 H A W 𝓣 0 ps·3 r·3 (claims· .6) (claims· .7) "handset::replies::is_arrived") (known4 : Plain.Known 𝓤 H A W 𝓣 0 ps·4 r·4 (claims· .8) (claims· .9) "handset::replies::refusal_of") (known5 : Plain.Known 𝓤 H A W 𝓣 9 ps·5 r·5 (claims· .10)
-          (claims· .11) "handset::button::grant_all") → Statement.Triple 𝓤 (Wp.WpFn 𝓤 H (𝓣 .C) (𝓣 .Λ) (Function.fnOf 9 ps r xs m hs body)) (Function.plainOf 𝓤 H A 9 ps r Pre· Post·)
+      Closed = (𝓤 : URA.URA M) (H : Wp.Heap 𝓤) (A : Atoms.Atoms 𝓤) (W : Kit.Given 𝓤 H A) (𝓣 : Wp.Tables 𝓤 H) (known0 : Plain.Known 𝓤 H A W 𝓣 0 ps·0 r·0 (claims· .0) (claims· .1) "handset::replies::is_reported") (known1 : Plain.Known 𝓤 H A W 𝓣 0 ps·0 r·1 (claims· .2) (claims· .3) "handset::replies::drone_of") (known2 : Plain.Known 𝓤 H A W 𝓣 9 ps·2 r·2
+          (claims· .4) (claims· .5) "conductor::calls::arrive") (known3 : Plain.Known 𝓤 H A W 𝓣 0 ps·3 r·0 (claims· .6) (claims· .7) "handset::replies::is_arrived") (known4 : Plain.Known 𝓤 H A W 𝓣 0 ps·3 r·4 (claims· .8) (claims· .9) "handset::replies::refusal_of") (known5 : Plain.Known 𝓤 H A W 𝓣 9 ps·5 r·5 (claims· .10) (claims· .11)
+          "handset::button::grant_all") → Statement.Triple 𝓤 (Wp.WpFn 𝓤 H (𝓣 .C) (𝓣 .Λ) (Function.fnOf 9 ps r xs m hs body)) (Function.plainOf 𝓤 H A 9 ps r Pre· Post·)
 
     module _ where
-      abbrev at0 : Typed.TF T37 O2
+      abbrev at0 : Typed.TF T1 O2
       at0 = Typed.atRet O2
 
       abbrev at1 : Typed.TF T36 O2
-      at1 = λ Ψ. Typed.pass T36 T37 s33 (at0 Ψ)
+      at1 = λ Ψ. Typed.pass T36 T1 s33 (at0 Ψ)
 
-      abbrev at2 : Typed.TF T35 O2
+      abbrev at2 : Typed.TF T28 O2
       at2 = λ Ψ. Typed.both s32 (at1 Ψ)
 
       abbrev at3 : Typed.TF T34 O2
-      at3 = λ Ψ. Typed.pass T34 T35 s31 (at2 Ψ)
+      at3 = λ Ψ. Typed.pass T34 T28 s31 (at2 Ψ)
 
-      abbrev at4 : Typed.TF T39 O2
+      abbrev at4 : Typed.TF T11 O2
       at4 = Typed.atNext O2
 
       abbrev at5 : Typed.TF T38 O2
-      at5 = λ Ψ. Typed.pass T38 T39 s35 (at4 Ψ)
+      at5 = λ Ψ. Typed.pass T38 T11 s35 (at4 Ψ)
 
       abbrev at6 : Typed.TF T34 O2
       at6 = λ Ψ. Typed.pass T34 T38 s34 (at5 Ψ)
@@ -1199,32 +864,20 @@ module _ (claims· : Claims) where
       abbrev at8 : Typed.TF T32 O2
       at8 = λ Ψ. Typed.pass T32 T34 s30 (at7 Ψ)
 
-      abbrev at9 : Typed.TF T53 O1
+      abbrev at9 : Typed.TF T1 O1
       at9 = Typed.atRet O1
 
-      abbrev at10 : Typed.TF T53 O1
-      at10 = λ Ψ. at9 Ψ
-
-      abbrev at11 : Typed.TF T52 O1
-      at11 = λ Ψ. Typed.give s49 (at10 Ψ)
+      abbrev at11 : Typed.TF T1 O1
+      at11 = λ Ψ. Typed.give s49 (at9 Ψ)
 
       abbrev at12 : Typed.TF T49 O1
       at12 = λ Ψ. Typed.both s48 (at11 Ψ)
 
-      abbrev at13 : Typed.TF T49 O1
-      at13 = λ Ψ. at12 Ψ
-
-      abbrev at14 : Typed.TF T49 O1
-      at14 = λ Ψ. at13 Ψ
-
       abbrev at15 : Typed.TF T47 O1
-      at15 = λ Ψ. Typed.pass T47 T49 s45 (at14 Ψ)
-
-      abbrev at16 : Typed.TF T47 O1
-      at16 = λ Ψ. at15 Ψ
+      at15 = λ Ψ. Typed.pass T47 T49 s45 (at12 Ψ)
 
       abbrev at17 : Typed.TF T46 O1
-      at17 = λ Ψ. Typed.pass T46 T47 s43 (at16 Ψ)
+      at17 = λ Ψ. Typed.pass T46 T47 s43 (at15 Ψ)
 
       abbrev at18 : Typed.TF T45 O1
       at18 = λ Ψ. Typed.both s42 (at17 Ψ)
@@ -1235,53 +888,35 @@ module _ (claims· : Claims) where
       abbrev at20 : Typed.TF T42 O1
       at20 = λ Ψ. Typed.give s40 (at19 Ψ)
 
-      abbrev at21 : Typed.TF T42 O1
-      at21 = λ Ψ. at20 Ψ
-
       abbrev at22 : Typed.TF T41 O1
-      at22 = λ Ψ. Typed.ask s38 (at21 Ψ)
+      at22 = λ Ψ. Typed.ask s38 (at20 Ψ)
 
-      abbrev at23 : Typed.TF T33 O1
+      abbrev at23 : Typed.TF T11 O1
       at23 = λ Ψ. Typed.give s37 (at22 Ψ)
 
-      abbrev at24 : Typed.TF T33 O1
-      at24 = λ Ψ. at23 Ψ
-
       abbrev at25 : Typed.TF T32 O1
-      at25 = λ Ψ. at8 (Typed.wantNext T33 O1 (at24 Ψ) Ψ)
+      at25 = λ Ψ. at8 (Typed.wantNext T11 O1 (at23 Ψ) Ψ)
 
       abbrev at26 : Typed.TF T31 O1
       at26 = λ Ψ. Typed.ask s29 (at25 Ψ)
 
-      abbrev at27 : Typed.TF T29 O1
+      abbrev at27 : Typed.TF T28 O1
       at27 = λ Ψ. Typed.both s28 (at26 Ψ)
 
-      abbrev at28 : Typed.TF T29 O1
-      at28 = λ Ψ. at27 Ψ
-
       abbrev at29 : Typed.TF T28 O1
-      at29 = λ Ψ. Typed.give s26 (at28 Ψ)
+      at29 = λ Ψ. Typed.give s26 (at27 Ψ)
 
-      abbrev at30 : Typed.TF T25 O1
+      abbrev at30 : Typed.TF T24 O1
       at30 = λ Ψ. Typed.both s25 (at29 Ψ)
 
-      abbrev at31 : Typed.TF T25 O1
-      at31 = λ Ψ. at30 Ψ
-
-      abbrev at32 : Typed.TF T25 O1
-      at32 = λ Ψ. at31 Ψ
-
       abbrev at33 : Typed.TF T24 O1
-      at33 = λ Ψ. Typed.give s22 (at32 Ψ)
+      at33 = λ Ψ. Typed.give s22 (at30 Ψ)
 
       abbrev at34 : Typed.TF T22 O1
       at34 = λ Ψ. Typed.both s21 (at33 Ψ)
 
-      abbrev at35 : Typed.TF T22 O1
-      at35 = λ Ψ. at34 Ψ
-
       abbrev at36 : Typed.TF T21 O1
-      at36 = λ Ψ. Typed.pass T21 T22 s19 (at35 Ψ)
+      at36 = λ Ψ. Typed.pass T21 T22 s19 (at34 Ψ)
 
       abbrev at37 : Typed.TF T20 O1
       at37 = λ Ψ. Typed.both s18 (at36 Ψ)
@@ -1298,26 +933,20 @@ module _ (claims· : Claims) where
       abbrev at41 : Typed.TF T15 O1
       at41 = λ Ψ. Typed.give s14 (at40 Ψ)
 
-      abbrev at42 : Typed.TF T15 O1
-      at42 = λ Ψ. at41 Ψ
-
       abbrev at43 : Typed.TF T14 O1
-      at43 = λ Ψ. Typed.ask s12 (at42 Ψ)
+      at43 = λ Ψ. Typed.ask s12 (at41 Ψ)
 
-      abbrev at44 : Typed.TF T12 O1
+      abbrev at44 : Typed.TF T0 O1
       at44 = λ Ψ. Typed.give s11 (at43 Ψ)
 
-      abbrev at45 : Typed.TF T12 O1
-      at45 = λ Ψ. at44 Ψ
-
       abbrev at46 : Typed.TF T10 O1
-      at46 = λ Ψ. Typed.pass T10 T12 s9 (at45 Ψ)
+      at46 = λ Ψ. Typed.pass T10 T0 s9 (at44 Ψ)
 
-      abbrev at47 : Typed.TF T56 O1
+      abbrev at47 : Typed.TF T11 O1
       at47 = Typed.atNext O1
 
       abbrev at48 : Typed.TF T55 O1
-      at48 = λ Ψ. Typed.pass T55 T56 s52 (at47 Ψ)
+      at48 = λ Ψ. Typed.pass T55 T11 s52 (at47 Ψ)
 
       abbrev at49 : Typed.TF T10 O1
       at49 = λ Ψ. Typed.pass T10 T55 s51 (at48 Ψ)
@@ -1325,32 +954,20 @@ module _ (claims· : Claims) where
       abbrev at50 : Typed.TF T10 O1
       at50 = Scalar.Φcond T10 O1 12 (λ x. x) at46 at49
 
-      abbrev at51 : Typed.TF T70 O0
+      abbrev at51 : Typed.TF T1 O0
       at51 = Typed.atRet O0
 
-      abbrev at52 : Typed.TF T70 O0
-      at52 = λ Ψ. at51 Ψ
-
-      abbrev at53 : Typed.TF T69 O0
-      at53 = λ Ψ. Typed.give s66 (at52 Ψ)
+      abbrev at53 : Typed.TF T1 O0
+      at53 = λ Ψ. Typed.give s66 (at51 Ψ)
 
       abbrev at54 : Typed.TF T66 O0
       at54 = λ Ψ. Typed.both s65 (at53 Ψ)
 
-      abbrev at55 : Typed.TF T66 O0
-      at55 = λ Ψ. at54 Ψ
-
-      abbrev at56 : Typed.TF T66 O0
-      at56 = λ Ψ. at55 Ψ
-
       abbrev at57 : Typed.TF T64 O0
-      at57 = λ Ψ. Typed.pass T64 T66 s62 (at56 Ψ)
-
-      abbrev at58 : Typed.TF T64 O0
-      at58 = λ Ψ. at57 Ψ
+      at57 = λ Ψ. Typed.pass T64 T66 s62 (at54 Ψ)
 
       abbrev at59 : Typed.TF T63 O0
-      at59 = λ Ψ. Typed.pass T63 T64 s60 (at58 Ψ)
+      at59 = λ Ψ. Typed.pass T63 T64 s60 (at57 Ψ)
 
       abbrev at60 : Typed.TF T62 O0
       at60 = λ Ψ. Typed.both s59 (at59 Ψ)
@@ -1361,43 +978,37 @@ module _ (claims· : Claims) where
       abbrev at62 : Typed.TF T59 O0
       at62 = λ Ψ. Typed.give s57 (at61 Ψ)
 
-      abbrev at63 : Typed.TF T59 O0
-      at63 = λ Ψ. at62 Ψ
-
       abbrev at64 : Typed.TF T58 O0
-      at64 = λ Ψ. Typed.ask s55 (at63 Ψ)
+      at64 = λ Ψ. Typed.ask s55 (at62 Ψ)
 
       abbrev at65 : Typed.TF T11 O0
       at65 = λ Ψ. Typed.give s54 (at64 Ψ)
 
-      abbrev at66 : Typed.TF T11 O0
-      at66 = λ Ψ. at65 Ψ
-
       abbrev at67 : Typed.TF T10 O0
-      at67 = λ Ψ. at50 (Typed.wantNext T11 O0 (at66 Ψ) Ψ)
+      at67 = λ Ψ. at50 (Typed.wantNext T11 O0 (at65 Ψ) Ψ)
 
-      abbrev at68 : Typed.TF T9 O0
+      abbrev at68 : Typed.TF T0 O0
       at68 = λ Ψ. Typed.both s8 (at67 Ψ)
 
-      abbrev at69 : Typed.TF T8 O0
+      abbrev at69 : Typed.TF T0 O0
       at69 = λ Ψ. Typed.give s7 (at68 Ψ)
 
-      abbrev at70 : Typed.TF T7 O0
+      abbrev at70 : Typed.TF T0 O0
       at70 = λ Ψ. Typed.give s6 (at69 Ψ)
 
-      abbrev at71 : Typed.TF T6 O0
+      abbrev at71 : Typed.TF T0 O0
       at71 = λ Ψ. Typed.give s5 (at70 Ψ)
 
-      abbrev at72 : Typed.TF T5 O0
+      abbrev at72 : Typed.TF T0 O0
       at72 = λ Ψ. Typed.give s4 (at71 Ψ)
 
-      abbrev at73 : Typed.TF T4 O0
+      abbrev at73 : Typed.TF T0 O0
       at73 = λ Ψ. Typed.give s3 (at72 Ψ)
 
-      abbrev at74 : Typed.TF T3 O0
+      abbrev at74 : Typed.TF T0 O0
       at74 = λ Ψ. Typed.give s2 (at73 Ψ)
 
-      abbrev at75 : Typed.TF T2 O0
+      abbrev at75 : Typed.TF T0 O0
       at75 = λ Ψ. Typed.give s1 (at74 Ψ)
 
       abbrev at76 : Typed.TF T0 O0
@@ -1408,1264 +1019,318 @@ module _ (claims· : Claims) where
 
       module _ {M : Type 1} (𝓤 : URA.URA M) (H : Wp.Heap 𝓤) (A : Atoms.Atoms 𝓤) (W : Kit.Given 𝓤 H A) (𝓣 : Wp.Tables 𝓤 H) where
         abbrev Knowns : Type 1
-        Knowns = Plain.Known 𝓤 H A W 𝓣 0 ps·0 r·0 (claims· .0) (claims· .1) "handset::replies::is_reported" × Plain.Known 𝓤 H A W 𝓣 0 ps·1 r·1 (claims· .2) (claims· .3) "handset::replies::drone_of" × Plain.Known 𝓤 H A W 𝓣 9 ps·2 r·2 (claims· .4) (claims· .5) "conductor::calls::arrive" × Plain.Known 𝓤 H A W 𝓣 0 ps·3 r·3 (claims· .6) (claims· .7)
-            "handset::replies::is_arrived" × Plain.Known 𝓤 H A W 𝓣 0 ps·4 r·4 (claims· .8) (claims· .9) "handset::replies::refusal_of" × Plain.Known 𝓤 H A W 𝓣 9 ps·5 r·5 (claims· .10) (claims· .11) "handset::button::grant_all"
+        Knowns = Plain.Known 𝓤 H A W 𝓣 0 ps·0 r·0 (claims· .0) (claims· .1) "handset::replies::is_reported" × Plain.Known 𝓤 H A W 𝓣 0 ps·0 r·1 (claims· .2) (claims· .3) "handset::replies::drone_of" × Plain.Known 𝓤 H A W 𝓣 9 ps·2 r·2 (claims· .4) (claims· .5) "conductor::calls::arrive" × Plain.Known 𝓤 H A W 𝓣 0 ps·3 r·0 (claims· .6) (claims· .7)
+            "handset::replies::is_arrived" × Plain.Known 𝓤 H A W 𝓣 0 ps·3 r·4 (claims· .8) (claims· .9) "handset::replies::refusal_of" × Plain.Known 𝓤 H A W 𝓣 9 ps·5 r·5 (claims· .10) (claims· .11) "handset::button::grant_all"
 
       module _ (κs : Lifetimes.Lfts 9) (qs : Lifetimes.Shares 9) where
         abbrev g5 : List.List Row.Entry
-        g5 = List._∷_ (
-          0,
-          Rows.any-gone ty·14,
-        ) (List._∷_ (
-          1,
-          Rows.sslice (Referent.rtF (Referent.fInt Syntax.w16)) ty·6 0,
-        ) (List._∷_ (
-          2,
-          Rows.sslice (Referent.rtF (Referent.fInt Syntax.w16)) ty·7 1,
-        ) (List._∷_ (
-          3,
-          Rows.sslice (Referent.rtF (Referent.fInt Syntax.w8)) ty·4 2,
-        ) (List._∷_ (
-          4,
-          Rows.sslice (Referent.rtF (Referent.fInt Syntax.w16)) ty·8 3,
-        ) (List._∷_ (
-          5,
-          Rows.sslice (Referent.rtF (Referent.fInt Syntax.w16)) ty·9 4,
-        ) (List._∷_ (
-          6,
-          Rows.sslice (Referent.rtF (Referent.fInt Syntax.w32)) ty·10 5,
-        ) (List._∷_ (
-          7,
-          Relend.mslice-owed (Referent.rtF (Referent.fInt Syntax.w16)) ty·11 6 9 (Row.lease (κs .1 .1 .1 .1 .1 .1 .0) (qs .1 .1 .1 .1 .1 .1 .0)),
-        ) (List._∷_ (
-          8,
-          Mut.mslice (Referent.rtF (Referent.fInt Syntax.w8)) ty·5 7,
-        ) (List._∷_ (
-          9,
-          Rows.sslice Rec.rt ty·0 8,
-        ) (List._∷_ (10, Rows.whole (Declared.row Report.the-type)) (List._∷_ (
-          11,
-          Rows.any-gone ty·13,
-        ) (List._∷_ (12, Rows.any-gone Syntax.tyBool) (List._∷_ (
-          13,
-          Relend.msptr (Referent.rtF (Referent.fInt Syntax.w16)) ty·2 9,
-        ) (List._∷_ (
-          14,
-          Rows.any-gone (Syntax.tyStruct (List._∷_ 38 (List._∷_ 91 (List._∷_ 93 List.[]))) (Syntax.tcons ty·2 (Syntax.tcons (Syntax.tyInt Syntax.w64) Syntax.tnil))),
-        ) (List._∷_ (
-          15,
-          Rows.any-gone ty·1,
-        ) List.[])))))))))))))))
+        g5 = List._∷_ (0, Rows.any-gone ty·14) (List._∷_ (1, Rows.sslice (Referent.rtF (Referent.fInt Syntax.w16)) ty·6 0) (List._∷_ (2, Rows.sslice (Referent.rtF (Referent.fInt Syntax.w16)) ty·7 1) (List._∷_ (3, Rows.sslice (Referent.rtF (Referent.fInt Syntax.w8)) ty·4 2) (List._∷_ (4, Rows.sslice (Referent.rtF (Referent.fInt Syntax.w16)) ty·8 3) (List._∷_
+            (5, Rows.sslice (Referent.rtF (Referent.fInt Syntax.w16)) ty·9 4) (List._∷_ (6, Rows.sslice (Referent.rtF (Referent.fInt Syntax.w32)) ty·10 5) (List._∷_ (7, Relend.mslice-owed (Referent.rtF (Referent.fInt Syntax.w16)) ty·11 6 9 (Row.lease (κs .1 .1 .1 .1 .1 .1 .0) (qs .1 .1 .1 .1 .1 .1 .0))) (List._∷_
+            (8, Mut.mslice (Referent.rtF (Referent.fInt Syntax.w8)) ty·5 7) (List._∷_ (9, Rows.sslice Rec.rt ty·0 8) (List._∷_ (10, Rows.whole (Declared.row Report.the-type)) (List._∷_ (11, Rows.any-gone ty·13) (List._∷_ (12, Rows.any-gone Syntax.tyBool) (List._∷_ (13, Relend.msptr (Referent.rtF (Referent.fInt Syntax.w16)) ty·2 9) (List._∷_
+            (14, Rows.any-gone (Syntax.tyStruct (List._∷_ 38 (List._∷_ 91 (List._∷_ 93 List.[]))) (Syntax.tcons ty·2 (Syntax.tcons (Syntax.tyInt Syntax.w64) Syntax.tnil)))) (List._∷_ (15, Rows.any-gone ty·1) List.[])))))))))))))))
 
         abbrev g6 : List.List Row.Entry
-        g6 = List._∷_ (
-          0,
-          Rows.any-gone ty·14,
-        ) (List._∷_ (
-          1,
-          Rows.sslice (Referent.rtF (Referent.fInt Syntax.w16)) ty·6 0,
-        ) (List._∷_ (
-          2,
-          Rows.sslice (Referent.rtF (Referent.fInt Syntax.w16)) ty·7 1,
-        ) (List._∷_ (
-          3,
-          Rows.sslice (Referent.rtF (Referent.fInt Syntax.w8)) ty·4 2,
-        ) (List._∷_ (
-          4,
-          Rows.sslice (Referent.rtF (Referent.fInt Syntax.w16)) ty·8 3,
-        ) (List._∷_ (
-          5,
-          Rows.sslice (Referent.rtF (Referent.fInt Syntax.w16)) ty·9 4,
-        ) (List._∷_ (
-          6,
-          Rows.sslice (Referent.rtF (Referent.fInt Syntax.w32)) ty·10 5,
-        ) (List._∷_ (
-          7,
-          Relend.mslice-owed (Referent.rtF (Referent.fInt Syntax.w16)) ty·11 6 9 (Row.lease (κs .1 .1 .1 .1 .1 .1 .0) (qs .1 .1 .1 .1 .1 .1 .0)),
-        ) (List._∷_ (
-          8,
-          Mut.mslice (Referent.rtF (Referent.fInt Syntax.w8)) ty·5 7,
-        ) (List._∷_ (
-          9,
-          Rows.sslice Rec.rt ty·0 8,
-        ) (List._∷_ (10, Rows.whole (Declared.row Report.the-type)) (List._∷_ (
-          11,
-          Rows.any-gone ty·13,
-        ) (List._∷_ (12, Rows.any-gone Syntax.tyBool) (List._∷_ (
-          13,
-          Rows.any-gone ty·2,
-        ) (List._∷_ (
-          14,
-          Mut.mslice (Referent.rtF (Referent.fInt Syntax.w16)) ty·2 9,
-        ) (List._∷_ (
-          15,
-          Rows.any-gone ty·1,
-        ) List.[])))))))))))))))
+        g6 = List._∷_ (0, Rows.any-gone ty·14) (List._∷_ (1, Rows.sslice (Referent.rtF (Referent.fInt Syntax.w16)) ty·6 0) (List._∷_ (2, Rows.sslice (Referent.rtF (Referent.fInt Syntax.w16)) ty·7 1) (List._∷_ (3, Rows.sslice (Referent.rtF (Referent.fInt Syntax.w8)) ty·4 2) (List._∷_ (4, Rows.sslice (Referent.rtF (Referent.fInt Syntax.w16)) ty·8 3) (List._∷_
+            (5, Rows.sslice (Referent.rtF (Referent.fInt Syntax.w16)) ty·9 4) (List._∷_ (6, Rows.sslice (Referent.rtF (Referent.fInt Syntax.w32)) ty·10 5) (List._∷_ (7, Relend.mslice-owed (Referent.rtF (Referent.fInt Syntax.w16)) ty·11 6 9 (Row.lease (κs .1 .1 .1 .1 .1 .1 .0) (qs .1 .1 .1 .1 .1 .1 .0))) (List._∷_
+            (8, Mut.mslice (Referent.rtF (Referent.fInt Syntax.w8)) ty·5 7) (List._∷_ (9, Rows.sslice Rec.rt ty·0 8) (List._∷_ (10, Rows.whole (Declared.row Report.the-type)) (List._∷_ (11, Rows.any-gone ty·13) (List._∷_ (12, Rows.any-gone Syntax.tyBool) (List._∷_ (13, Rows.any-gone ty·2) (List._∷_
+            (14, Mut.mslice (Referent.rtF (Referent.fInt Syntax.w16)) ty·2 9) (List._∷_ (15, Rows.any-gone ty·1) List.[])))))))))))))))
 
         abbrev g7 : List.List Row.Entry
-        g7 = List._∷_ (
-          0,
-          Rows.any-gone ty·14,
-        ) (List._∷_ (
-          1,
-          Rows.sslice (Referent.rtF (Referent.fInt Syntax.w16)) ty·6 0,
-        ) (List._∷_ (
-          2,
-          Rows.sslice (Referent.rtF (Referent.fInt Syntax.w16)) ty·7 1,
-        ) (List._∷_ (
-          3,
-          Rows.sslice (Referent.rtF (Referent.fInt Syntax.w8)) ty·4 2,
-        ) (List._∷_ (
-          4,
-          Rows.sslice (Referent.rtF (Referent.fInt Syntax.w16)) ty·8 3,
-        ) (List._∷_ (
-          5,
-          Rows.sslice (Referent.rtF (Referent.fInt Syntax.w16)) ty·9 4,
-        ) (List._∷_ (
-          6,
-          Rows.sslice (Referent.rtF (Referent.fInt Syntax.w32)) ty·10 5,
-        ) (List._∷_ (
-          7,
-          Relend.mslice-owed (Referent.rtF (Referent.fInt Syntax.w16)) ty·11 6 9 (Row.lease (κs .1 .1 .1 .1 .1 .1 .0) (qs .1 .1 .1 .1 .1 .1 .0)),
-        ) (List._∷_ (
-          8,
-          Relend.mslice-owed (Referent.rtF (Referent.fInt Syntax.w8)) ty·5 7 10 (Row.lease (κs .1 .1 .1 .1 .1 .1 .1 .0) (qs .1 .1 .1 .1 .1 .1 .1 .0)),
-        ) (List._∷_ (
-          9,
-          Rows.sslice Rec.rt ty·0 8,
-        ) (List._∷_ (10, Rows.whole (Declared.row Report.the-type)) (List._∷_ (
-          11,
-          Rows.any-gone ty·13,
-        ) (List._∷_ (12, Rows.any-gone Syntax.tyBool) (List._∷_ (
-          13,
-          Rows.any-gone ty·2,
-        ) (List._∷_ (
-          14,
-          Mut.mslice (Referent.rtF (Referent.fInt Syntax.w16)) ty·2 9,
-        ) (List._∷_ (
-          15,
-          Relend.msptr (Referent.rtF (Referent.fInt Syntax.w8)) ty·1 10,
-        ) List.[])))))))))))))))
+        g7 = List._∷_ (0, Rows.any-gone ty·14) (List._∷_ (1, Rows.sslice (Referent.rtF (Referent.fInt Syntax.w16)) ty·6 0) (List._∷_ (2, Rows.sslice (Referent.rtF (Referent.fInt Syntax.w16)) ty·7 1) (List._∷_ (3, Rows.sslice (Referent.rtF (Referent.fInt Syntax.w8)) ty·4 2) (List._∷_ (4, Rows.sslice (Referent.rtF (Referent.fInt Syntax.w16)) ty·8 3) (List._∷_
+            (5, Rows.sslice (Referent.rtF (Referent.fInt Syntax.w16)) ty·9 4) (List._∷_ (6, Rows.sslice (Referent.rtF (Referent.fInt Syntax.w32)) ty·10 5) (List._∷_ (7, Relend.mslice-owed (Referent.rtF (Referent.fInt Syntax.w16)) ty·11 6 9 (Row.lease (κs .1 .1 .1 .1 .1 .1 .0) (qs .1 .1 .1 .1 .1 .1 .0))) (List._∷_
+            (8, Relend.mslice-owed (Referent.rtF (Referent.fInt Syntax.w8)) ty·5 7 10 (Row.lease (κs .1 .1 .1 .1 .1 .1 .1 .0) (qs .1 .1 .1 .1 .1 .1 .1 .0))) (List._∷_ (9, Rows.sslice Rec.rt ty·0 8) (List._∷_ (10, Rows.whole (Declared.row Report.the-type)) (List._∷_ (11, Rows.any-gone ty·13) (List._∷_ (12, Rows.any-gone Syntax.tyBool) (List._∷_
+            (13, Rows.any-gone ty·2) (List._∷_ (14, Mut.mslice (Referent.rtF (Referent.fInt Syntax.w16)) ty·2 9) (List._∷_ (15, Relend.msptr (Referent.rtF (Referent.fInt Syntax.w8)) ty·1 10) List.[])))))))))))))))
 
         abbrev g8 : List.List Row.Entry
-        g8 = List._∷_ (
-          0,
-          Rows.any-gone ty·14,
-        ) (List._∷_ (
-          1,
-          Rows.sslice (Referent.rtF (Referent.fInt Syntax.w16)) ty·6 0,
-        ) (List._∷_ (
-          2,
-          Rows.sslice (Referent.rtF (Referent.fInt Syntax.w16)) ty·7 1,
-        ) (List._∷_ (
-          3,
-          Rows.sslice (Referent.rtF (Referent.fInt Syntax.w8)) ty·4 2,
-        ) (List._∷_ (
-          4,
-          Rows.sslice (Referent.rtF (Referent.fInt Syntax.w16)) ty·8 3,
-        ) (List._∷_ (
-          5,
-          Rows.sslice (Referent.rtF (Referent.fInt Syntax.w16)) ty·9 4,
-        ) (List._∷_ (
-          6,
-          Rows.sslice (Referent.rtF (Referent.fInt Syntax.w32)) ty·10 5,
-        ) (List._∷_ (
-          7,
-          Relend.mslice-owed (Referent.rtF (Referent.fInt Syntax.w16)) ty·11 6 9 (Row.lease (κs .1 .1 .1 .1 .1 .1 .0) (qs .1 .1 .1 .1 .1 .1 .0)),
-        ) (List._∷_ (
-          8,
-          Relend.mslice-owed (Referent.rtF (Referent.fInt Syntax.w8)) ty·5 7 10 (Row.lease (κs .1 .1 .1 .1 .1 .1 .1 .0) (qs .1 .1 .1 .1 .1 .1 .1 .0)),
-        ) (List._∷_ (
-          9,
-          Rows.sslice Rec.rt ty·0 8,
-        ) (List._∷_ (10, Rows.whole (Declared.row Report.the-type)) (List._∷_ (
-          11,
-          Rows.any-gone ty·13,
-        ) (List._∷_ (12, Rows.any-gone Syntax.tyBool) (List._∷_ (
-          13,
-          Rows.any-gone ty·2,
-        ) (List._∷_ (
-          14,
-          Mut.mslice (Referent.rtF (Referent.fInt Syntax.w16)) ty·2 9,
-        ) (List._∷_ (
-          15,
-          Rows.any-gone ty·1,
-        ) List.[])))))))))))))))
+        g8 = List._∷_ (0, Rows.any-gone ty·14) (List._∷_ (1, Rows.sslice (Referent.rtF (Referent.fInt Syntax.w16)) ty·6 0) (List._∷_ (2, Rows.sslice (Referent.rtF (Referent.fInt Syntax.w16)) ty·7 1) (List._∷_ (3, Rows.sslice (Referent.rtF (Referent.fInt Syntax.w8)) ty·4 2) (List._∷_ (4, Rows.sslice (Referent.rtF (Referent.fInt Syntax.w16)) ty·8 3) (List._∷_
+            (5, Rows.sslice (Referent.rtF (Referent.fInt Syntax.w16)) ty·9 4) (List._∷_ (6, Rows.sslice (Referent.rtF (Referent.fInt Syntax.w32)) ty·10 5) (List._∷_ (7, Relend.mslice-owed (Referent.rtF (Referent.fInt Syntax.w16)) ty·11 6 9 (Row.lease (κs .1 .1 .1 .1 .1 .1 .0) (qs .1 .1 .1 .1 .1 .1 .0))) (List._∷_
+            (8, Relend.mslice-owed (Referent.rtF (Referent.fInt Syntax.w8)) ty·5 7 10 (Row.lease (κs .1 .1 .1 .1 .1 .1 .1 .0) (qs .1 .1 .1 .1 .1 .1 .1 .0))) (List._∷_ (9, Rows.sslice Rec.rt ty·0 8) (List._∷_ (10, Rows.whole (Declared.row Report.the-type)) (List._∷_ (11, Rows.any-gone ty·13) (List._∷_ (12, Rows.any-gone Syntax.tyBool) (List._∷_
+            (13, Rows.any-gone ty·2) (List._∷_ (14, Mut.mslice (Referent.rtF (Referent.fInt Syntax.w16)) ty·2 9) (List._∷_ (15, Rows.any-gone ty·1) List.[])))))))))))))))
 
         abbrev g11 : List.List Row.Entry
-        g11 = List._∷_ (
-          0,
-          Rows.any-gone ty·14,
-        ) (List._∷_ (
-          1,
-          Rows.sslice (Referent.rtF (Referent.fInt Syntax.w16)) ty·6 0,
-        ) (List._∷_ (
-          2,
-          Rows.sslice (Referent.rtF (Referent.fInt Syntax.w16)) ty·7 1,
-        ) (List._∷_ (
-          3,
-          Rows.sslice (Referent.rtF (Referent.fInt Syntax.w8)) ty·4 2,
-        ) (List._∷_ (
-          4,
-          Rows.sslice (Referent.rtF (Referent.fInt Syntax.w16)) ty·8 3,
-        ) (List._∷_ (
-          5,
-          Rows.sslice (Referent.rtF (Referent.fInt Syntax.w16)) ty·9 4,
-        ) (List._∷_ (
-          6,
-          Rows.sslice (Referent.rtF (Referent.fInt Syntax.w32)) ty·10 5,
-        ) (List._∷_ (
-          7,
-          Relend.mslice-owed (Referent.rtF (Referent.fInt Syntax.w16)) ty·11 6 9 (Row.lease (κs .1 .1 .1 .1 .1 .1 .0) (qs .1 .1 .1 .1 .1 .1 .0)),
-        ) (List._∷_ (
-          8,
-          Relend.mslice-owed (Referent.rtF (Referent.fInt Syntax.w8)) ty·5 7 10 (Row.lease (κs .1 .1 .1 .1 .1 .1 .1 .0) (qs .1 .1 .1 .1 .1 .1 .1 .0)),
-        ) (List._∷_ (
-          9,
-          Rows.sslice Rec.rt ty·0 8,
-        ) (List._∷_ (
-          10,
-          Rows.any-gone ty·12,
-        ) (List._∷_ (
-          11,
-          Rows.any-gone ty·13,
-        ) (List._∷_ (12, Rows.any-gone Syntax.tyBool) (List._∷_ (
-          13,
-          Rows.any-gone ty·2,
-        ) (List._∷_ (
-          14,
-          Mut.mslice (Referent.rtF (Referent.fInt Syntax.w16)) ty·2 9,
-        ) (List._∷_ (
-          15,
-          Rows.any-gone ty·1,
-        ) List.[])))))))))))))))
+        g11 = List._∷_ (0, Rows.any-gone ty·14) (List._∷_ (1, Rows.sslice (Referent.rtF (Referent.fInt Syntax.w16)) ty·6 0) (List._∷_ (2, Rows.sslice (Referent.rtF (Referent.fInt Syntax.w16)) ty·7 1) (List._∷_ (3, Rows.sslice (Referent.rtF (Referent.fInt Syntax.w8)) ty·4 2) (List._∷_ (4, Rows.sslice (Referent.rtF (Referent.fInt Syntax.w16)) ty·8 3) (List._∷_
+            (5, Rows.sslice (Referent.rtF (Referent.fInt Syntax.w16)) ty·9 4) (List._∷_ (6, Rows.sslice (Referent.rtF (Referent.fInt Syntax.w32)) ty·10 5) (List._∷_ (7, Relend.mslice-owed (Referent.rtF (Referent.fInt Syntax.w16)) ty·11 6 9 (Row.lease (κs .1 .1 .1 .1 .1 .1 .0) (qs .1 .1 .1 .1 .1 .1 .0))) (List._∷_
+            (8, Relend.mslice-owed (Referent.rtF (Referent.fInt Syntax.w8)) ty·5 7 10 (Row.lease (κs .1 .1 .1 .1 .1 .1 .1 .0) (qs .1 .1 .1 .1 .1 .1 .1 .0))) (List._∷_ (9, Rows.sslice Rec.rt ty·0 8) (List._∷_ (10, Rows.any-gone ty·12) (List._∷_ (11, Rows.any-gone ty·13) (List._∷_ (12, Rows.any-gone Syntax.tyBool) (List._∷_ (13, Rows.any-gone ty·2) (List._∷_
+            (14, Mut.mslice (Referent.rtF (Referent.fInt Syntax.w16)) ty·2 9) (List._∷_ (15, Rows.any-gone ty·1) List.[])))))))))))))))
 
         abbrev g12 : List.List Row.Entry
-        g12 = List._∷_ (
-          0,
-          Rows.any-gone ty·14,
-        ) (List._∷_ (
-          1,
-          Rows.sslice (Referent.rtF (Referent.fInt Syntax.w16)) ty·6 0,
-        ) (List._∷_ (
-          2,
-          Rows.sslice (Referent.rtF (Referent.fInt Syntax.w16)) ty·7 1,
-        ) (List._∷_ (
-          3,
-          Rows.sslice (Referent.rtF (Referent.fInt Syntax.w8)) ty·4 2,
-        ) (List._∷_ (
-          4,
-          Rows.sslice (Referent.rtF (Referent.fInt Syntax.w16)) ty·8 3,
-        ) (List._∷_ (
-          5,
-          Rows.sslice (Referent.rtF (Referent.fInt Syntax.w16)) ty·9 4,
-        ) (List._∷_ (
-          6,
-          Rows.sslice (Referent.rtF (Referent.fInt Syntax.w32)) ty·10 5,
-        ) (List._∷_ (
-          7,
-          Relend.mslice-owed (Referent.rtF (Referent.fInt Syntax.w16)) ty·11 6 9 (Row.lease (κs .1 .1 .1 .1 .1 .1 .0) (qs .1 .1 .1 .1 .1 .1 .0)),
-        ) (List._∷_ (
-          8,
-          Relend.mslice-owed (Referent.rtF (Referent.fInt Syntax.w8)) ty·5 7 10 (Row.lease (κs .1 .1 .1 .1 .1 .1 .1 .0) (qs .1 .1 .1 .1 .1 .1 .1 .0)),
-        ) (List._∷_ (
-          9,
-          Rows.sslice Rec.rt ty·0 8,
-        ) (List._∷_ (
-          10,
-          Rows.any-gone ty·12,
-        ) (List._∷_ (11, Rows.whole (Declared.row ArriveReply.the-type)) (List._∷_ (
-          12,
-          Rows.any-gone Syntax.tyBool,
-        ) (List._∷_ (
-          13,
-          Rows.any-gone ty·2,
-        ) (List._∷_ (
-          14,
-          Mut.msleft (Referent.rtF (Referent.fInt Syntax.w16)) ty·2,
-        ) (List._∷_ (
-          15,
-          Rows.any-gone ty·1,
-        ) List.[])))))))))))))))
+        g12 = List._∷_ (0, Rows.any-gone ty·14) (List._∷_ (1, Rows.sslice (Referent.rtF (Referent.fInt Syntax.w16)) ty·6 0) (List._∷_ (2, Rows.sslice (Referent.rtF (Referent.fInt Syntax.w16)) ty·7 1) (List._∷_ (3, Rows.sslice (Referent.rtF (Referent.fInt Syntax.w8)) ty·4 2) (List._∷_ (4, Rows.sslice (Referent.rtF (Referent.fInt Syntax.w16)) ty·8 3) (List._∷_
+            (5, Rows.sslice (Referent.rtF (Referent.fInt Syntax.w16)) ty·9 4) (List._∷_ (6, Rows.sslice (Referent.rtF (Referent.fInt Syntax.w32)) ty·10 5) (List._∷_ (7, Relend.mslice-owed (Referent.rtF (Referent.fInt Syntax.w16)) ty·11 6 9 (Row.lease (κs .1 .1 .1 .1 .1 .1 .0) (qs .1 .1 .1 .1 .1 .1 .0))) (List._∷_
+            (8, Relend.mslice-owed (Referent.rtF (Referent.fInt Syntax.w8)) ty·5 7 10 (Row.lease (κs .1 .1 .1 .1 .1 .1 .1 .0) (qs .1 .1 .1 .1 .1 .1 .1 .0))) (List._∷_ (9, Rows.sslice Rec.rt ty·0 8) (List._∷_ (10, Rows.any-gone ty·12) (List._∷_ (11, Rows.whole (Declared.row ArriveReply.the-type)) (List._∷_ (12, Rows.any-gone Syntax.tyBool) (List._∷_
+            (13, Rows.any-gone ty·2) (List._∷_ (14, Mut.msleft (Referent.rtF (Referent.fInt Syntax.w16)) ty·2) (List._∷_ (15, Rows.any-gone ty·1) List.[])))))))))))))))
 
         abbrev g15 : List.List Row.Entry
-        g15 = List._∷_ (
-          0,
-          Rows.any-gone ty·14,
-        ) (List._∷_ (
-          1,
-          Rows.sslice (Referent.rtF (Referent.fInt Syntax.w16)) ty·6 0,
-        ) (List._∷_ (
-          2,
-          Rows.sslice (Referent.rtF (Referent.fInt Syntax.w16)) ty·7 1,
-        ) (List._∷_ (
-          3,
-          Rows.sslice (Referent.rtF (Referent.fInt Syntax.w8)) ty·4 2,
-        ) (List._∷_ (
-          4,
-          Rows.sslice (Referent.rtF (Referent.fInt Syntax.w16)) ty·8 3,
-        ) (List._∷_ (
-          5,
-          Rows.sslice (Referent.rtF (Referent.fInt Syntax.w16)) ty·9 4,
-        ) (List._∷_ (
-          6,
-          Rows.sslice (Referent.rtF (Referent.fInt Syntax.w32)) ty·10 5,
-        ) (List._∷_ (
-          7,
-          Mut.mslice (Referent.rtF (Referent.fInt Syntax.w16)) ty·11 6,
-        ) (List._∷_ (
-          8,
-          Relend.mslice-owed (Referent.rtF (Referent.fInt Syntax.w8)) ty·5 7 10 (Row.lease (κs .1 .1 .1 .1 .1 .1 .1 .0) (qs .1 .1 .1 .1 .1 .1 .1 .0)),
-        ) (List._∷_ (
-          9,
-          Rows.sslice Rec.rt ty·0 8,
-        ) (List._∷_ (
-          10,
-          Rows.any-gone ty·12,
-        ) (List._∷_ (11, Rows.whole (Declared.row ArriveReply.the-type)) (List._∷_ (
-          12,
-          Rows.any-gone Syntax.tyBool,
-        ) (List._∷_ (
-          13,
-          Rows.any-gone ty·2,
-        ) (List._∷_ (
-          14,
-          Rows.any-gone (Syntax.tyStruct (List._∷_ 38 (List._∷_ 91 (List._∷_ 93 List.[]))) (Syntax.tcons ty·2 (Syntax.tcons (Syntax.tyInt Syntax.w64) Syntax.tnil))),
-        ) (List._∷_ (
-          15,
-          Rows.any-gone ty·1,
-        ) List.[])))))))))))))))
+        g15 = List._∷_ (0, Rows.any-gone ty·14) (List._∷_ (1, Rows.sslice (Referent.rtF (Referent.fInt Syntax.w16)) ty·6 0) (List._∷_ (2, Rows.sslice (Referent.rtF (Referent.fInt Syntax.w16)) ty·7 1) (List._∷_ (3, Rows.sslice (Referent.rtF (Referent.fInt Syntax.w8)) ty·4 2) (List._∷_ (4, Rows.sslice (Referent.rtF (Referent.fInt Syntax.w16)) ty·8 3) (List._∷_
+            (5, Rows.sslice (Referent.rtF (Referent.fInt Syntax.w16)) ty·9 4) (List._∷_ (6, Rows.sslice (Referent.rtF (Referent.fInt Syntax.w32)) ty·10 5) (List._∷_ (7, Mut.mslice (Referent.rtF (Referent.fInt Syntax.w16)) ty·11 6) (List._∷_
+            (8, Relend.mslice-owed (Referent.rtF (Referent.fInt Syntax.w8)) ty·5 7 10 (Row.lease (κs .1 .1 .1 .1 .1 .1 .1 .0) (qs .1 .1 .1 .1 .1 .1 .1 .0))) (List._∷_ (9, Rows.sslice Rec.rt ty·0 8) (List._∷_ (10, Rows.any-gone ty·12) (List._∷_ (11, Rows.whole (Declared.row ArriveReply.the-type)) (List._∷_ (12, Rows.any-gone Syntax.tyBool) (List._∷_
+            (13, Rows.any-gone ty·2) (List._∷_ (14, Rows.any-gone (Syntax.tyStruct (List._∷_ 38 (List._∷_ 91 (List._∷_ 93 List.[]))) (Syntax.tcons ty·2 (Syntax.tcons (Syntax.tyInt Syntax.w64) Syntax.tnil)))) (List._∷_ (15, Rows.any-gone ty·1) List.[])))))))))))))))
 
         abbrev g21 : List.List Row.Entry
-        g21 = List._∷_ (
-          0,
-          Rows.any-gone ty·14,
-        ) (List._∷_ (
-          1,
-          Rows.sslice (Referent.rtF (Referent.fInt Syntax.w16)) ty·6 0,
-        ) (List._∷_ (
-          2,
-          Rows.sslice (Referent.rtF (Referent.fInt Syntax.w16)) ty·7 1,
-        ) (List._∷_ (
-          3,
-          Rows.sslice (Referent.rtF (Referent.fInt Syntax.w8)) ty·4 2,
-        ) (List._∷_ (
-          4,
-          Rows.sslice (Referent.rtF (Referent.fInt Syntax.w16)) ty·8 3,
-        ) (List._∷_ (
-          5,
-          Rows.sslice (Referent.rtF (Referent.fInt Syntax.w16)) ty·9 4,
-        ) (List._∷_ (
-          6,
-          Rows.sslice (Referent.rtF (Referent.fInt Syntax.w32)) ty·10 5,
-        ) (List._∷_ (
-          7,
-          Reshare.mslice-owedS (Referent.rtF (Referent.fInt Syntax.w16)) ty·11 6 11 (Row.lease (κs .1 .1 .1 .1 .1 .1 .0) (qs .1 .1 .1 .1 .1 .1 .0)),
-        ) (List._∷_ (
-          8,
-          Mut.mslice (Referent.rtF (Referent.fInt Syntax.w8)) ty·5 7,
-        ) (List._∷_ (
-          9,
-          Rows.sslice Rec.rt ty·0 8,
-        ) (List._∷_ (
-          10,
-          Rows.any-gone ty·12,
-        ) (List._∷_ (
-          11,
-          Rows.any-gone ty·13,
-        ) (List._∷_ (12, Rows.any-gone Syntax.tyBool) (List._∷_ (
-          13,
-          Rows.any-gone ty·2,
-        ) (List._∷_ (
-          14,
-          Rows.any-gone (Syntax.tyStruct (List._∷_ 38 (List._∷_ 91 (List._∷_ 93 List.[]))) (Syntax.tcons ty·2 (Syntax.tcons (Syntax.tyInt Syntax.w64) Syntax.tnil))),
-        ) (List._∷_ (
-          15,
-          Rows.any-gone ty·1,
-        ) List.[])))))))))))))))
+        g21 = List._∷_ (0, Rows.any-gone ty·14) (List._∷_ (1, Rows.sslice (Referent.rtF (Referent.fInt Syntax.w16)) ty·6 0) (List._∷_ (2, Rows.sslice (Referent.rtF (Referent.fInt Syntax.w16)) ty·7 1) (List._∷_ (3, Rows.sslice (Referent.rtF (Referent.fInt Syntax.w8)) ty·4 2) (List._∷_ (4, Rows.sslice (Referent.rtF (Referent.fInt Syntax.w16)) ty·8 3) (List._∷_
+            (5, Rows.sslice (Referent.rtF (Referent.fInt Syntax.w16)) ty·9 4) (List._∷_ (6, Rows.sslice (Referent.rtF (Referent.fInt Syntax.w32)) ty·10 5) (List._∷_ (7, Reshare.mslice-owedS (Referent.rtF (Referent.fInt Syntax.w16)) ty·11 6 11 (Row.lease (κs .1 .1 .1 .1 .1 .1 .0) (qs .1 .1 .1 .1 .1 .1 .0))) (List._∷_
+            (8, Mut.mslice (Referent.rtF (Referent.fInt Syntax.w8)) ty·5 7) (List._∷_ (9, Rows.sslice Rec.rt ty·0 8) (List._∷_ (10, Rows.any-gone ty·12) (List._∷_ (11, Rows.any-gone ty·13) (List._∷_ (12, Rows.any-gone Syntax.tyBool) (List._∷_ (13, Rows.any-gone ty·2) (List._∷_
+            (14, Rows.any-gone (Syntax.tyStruct (List._∷_ 38 (List._∷_ 91 (List._∷_ 93 List.[]))) (Syntax.tcons ty·2 (Syntax.tcons (Syntax.tyInt Syntax.w64) Syntax.tnil)))) (List._∷_ (15, Rows.any-gone ty·1) List.[])))))))))))))))
 
         abbrev g24 : List.List Row.Entry
-        g24 = List._∷_ (
-          0,
-          Rows.any-gone ty·14,
-        ) (List._∷_ (
-          1,
-          Rows.sslice (Referent.rtF (Referent.fInt Syntax.w16)) ty·6 0,
-        ) (List._∷_ (
-          2,
-          Rows.sslice (Referent.rtF (Referent.fInt Syntax.w16)) ty·7 1,
-        ) (List._∷_ (
-          3,
-          Rows.sslice (Referent.rtF (Referent.fInt Syntax.w8)) ty·4 2,
-        ) (List._∷_ (
-          4,
-          Rows.sslice (Referent.rtF (Referent.fInt Syntax.w16)) ty·8 3,
-        ) (List._∷_ (
-          5,
-          Rows.sslice (Referent.rtF (Referent.fInt Syntax.w16)) ty·9 4,
-        ) (List._∷_ (
-          6,
-          Rows.sslice (Referent.rtF (Referent.fInt Syntax.w32)) ty·10 5,
-        ) (List._∷_ (
-          7,
-          Reshare.mslice-owedS (Referent.rtF (Referent.fInt Syntax.w16)) ty·11 6 11 (Row.lease (κs .1 .1 .1 .1 .1 .1 .0) (qs .1 .1 .1 .1 .1 .1 .0)),
-        ) (List._∷_ (
-          8,
-          Relend.mslice-owed (Referent.rtF (Referent.fInt Syntax.w8)) ty·5 7 12 (Row.lease (κs .1 .1 .1 .1 .1 .1 .1 .0) (qs .1 .1 .1 .1 .1 .1 .1 .0)),
-        ) (List._∷_ (
-          9,
-          Rows.sslice Rec.rt ty·0 8,
-        ) (List._∷_ (
-          10,
-          Rows.any-gone ty·12,
-        ) (List._∷_ (
-          11,
-          Rows.any-gone ty·13,
-        ) (List._∷_ (12, Rows.any-gone Syntax.tyBool) (List._∷_ (
-          13,
-          Rows.any-gone ty·2,
-        ) (List._∷_ (
-          14,
-          Rows.any-gone (Syntax.tyStruct (List._∷_ 38 (List._∷_ 91 (List._∷_ 93 List.[]))) (Syntax.tcons ty·2 (Syntax.tcons (Syntax.tyInt Syntax.w64) Syntax.tnil))),
-        ) (List._∷_ (
-          15,
-          Rows.any-gone ty·1,
-        ) List.[])))))))))))))))
+        g24 = List._∷_ (0, Rows.any-gone ty·14) (List._∷_ (1, Rows.sslice (Referent.rtF (Referent.fInt Syntax.w16)) ty·6 0) (List._∷_ (2, Rows.sslice (Referent.rtF (Referent.fInt Syntax.w16)) ty·7 1) (List._∷_ (3, Rows.sslice (Referent.rtF (Referent.fInt Syntax.w8)) ty·4 2) (List._∷_ (4, Rows.sslice (Referent.rtF (Referent.fInt Syntax.w16)) ty·8 3) (List._∷_
+            (5, Rows.sslice (Referent.rtF (Referent.fInt Syntax.w16)) ty·9 4) (List._∷_ (6, Rows.sslice (Referent.rtF (Referent.fInt Syntax.w32)) ty·10 5) (List._∷_ (7, Reshare.mslice-owedS (Referent.rtF (Referent.fInt Syntax.w16)) ty·11 6 11 (Row.lease (κs .1 .1 .1 .1 .1 .1 .0) (qs .1 .1 .1 .1 .1 .1 .0))) (List._∷_
+            (8, Relend.mslice-owed (Referent.rtF (Referent.fInt Syntax.w8)) ty·5 7 12 (Row.lease (κs .1 .1 .1 .1 .1 .1 .1 .0) (qs .1 .1 .1 .1 .1 .1 .1 .0))) (List._∷_ (9, Rows.sslice Rec.rt ty·0 8) (List._∷_ (10, Rows.any-gone ty·12) (List._∷_ (11, Rows.any-gone ty·13) (List._∷_ (12, Rows.any-gone Syntax.tyBool) (List._∷_ (13, Rows.any-gone ty·2) (List._∷_
+            (14, Rows.any-gone (Syntax.tyStruct (List._∷_ 38 (List._∷_ 91 (List._∷_ 93 List.[]))) (Syntax.tcons ty·2 (Syntax.tcons (Syntax.tyInt Syntax.w64) Syntax.tnil)))) (List._∷_ (15, Rows.any-gone ty·1) List.[])))))))))))))))
 
         abbrev g27 : List.List Row.Entry
-        g27 = List._∷_ (0, Rows.whole (Declared.row PressReply.the-type)) (List._∷_ (
-          1,
-          Rows.sslice (Referent.rtF (Referent.fInt Syntax.w16)) ty·6 0,
-        ) (List._∷_ (
-          2,
-          Rows.sslice (Referent.rtF (Referent.fInt Syntax.w16)) ty·7 1,
-        ) (List._∷_ (
-          3,
-          Rows.sslice (Referent.rtF (Referent.fInt Syntax.w8)) ty·4 2,
-        ) (List._∷_ (
-          4,
-          Rows.sslice (Referent.rtF (Referent.fInt Syntax.w16)) ty·8 3,
-        ) (List._∷_ (
-          5,
-          Rows.sslice (Referent.rtF (Referent.fInt Syntax.w16)) ty·9 4,
-        ) (List._∷_ (
-          6,
-          Rows.sslice (Referent.rtF (Referent.fInt Syntax.w32)) ty·10 5,
-        ) (List._∷_ (
-          7,
-          Reshare.mslice-owedS (Referent.rtF (Referent.fInt Syntax.w16)) ty·11 6 11 (Row.lease (κs .1 .1 .1 .1 .1 .1 .0) (qs .1 .1 .1 .1 .1 .1 .0)),
-        ) (List._∷_ (
-          8,
-          Relend.mslice-owed (Referent.rtF (Referent.fInt Syntax.w8)) ty·5 7 12 (Row.lease (κs .1 .1 .1 .1 .1 .1 .1 .0) (qs .1 .1 .1 .1 .1 .1 .1 .0)),
-        ) (List._∷_ (
-          9,
-          Rows.sslice Rec.rt ty·0 8,
-        ) (List._∷_ (
-          10,
-          Rows.any-gone ty·12,
-        ) (List._∷_ (
-          11,
-          Rows.any-gone ty·13,
-        ) (List._∷_ (12, Rows.any-gone Syntax.tyBool) (List._∷_ (
-          13,
-          Rows.any-gone ty·2,
-        ) (List._∷_ (
-          14,
-          Rows.any-gone (Syntax.tyStruct (List._∷_ 38 (List._∷_ 91 (List._∷_ 93 List.[]))) (Syntax.tcons ty·2 (Syntax.tcons (Syntax.tyInt Syntax.w64) Syntax.tnil))),
-        ) (List._∷_ (
-          15,
-          Rows.any-gone ty·1,
-        ) List.[])))))))))))))))
+        g27 = List._∷_ (0, Rows.whole (Declared.row PressReply.the-type)) (List._∷_ (1, Rows.sslice (Referent.rtF (Referent.fInt Syntax.w16)) ty·6 0) (List._∷_ (2, Rows.sslice (Referent.rtF (Referent.fInt Syntax.w16)) ty·7 1) (List._∷_ (3, Rows.sslice (Referent.rtF (Referent.fInt Syntax.w8)) ty·4 2) (List._∷_
+            (4, Rows.sslice (Referent.rtF (Referent.fInt Syntax.w16)) ty·8 3) (List._∷_ (5, Rows.sslice (Referent.rtF (Referent.fInt Syntax.w16)) ty·9 4) (List._∷_ (6, Rows.sslice (Referent.rtF (Referent.fInt Syntax.w32)) ty·10 5) (List._∷_
+            (7, Reshare.mslice-owedS (Referent.rtF (Referent.fInt Syntax.w16)) ty·11 6 11 (Row.lease (κs .1 .1 .1 .1 .1 .1 .0) (qs .1 .1 .1 .1 .1 .1 .0))) (List._∷_ (8, Relend.mslice-owed (Referent.rtF (Referent.fInt Syntax.w8)) ty·5 7 12 (Row.lease (κs .1 .1 .1 .1 .1 .1 .1 .0) (qs .1 .1 .1 .1 .1 .1 .1 .0))) (List._∷_ (9, Rows.sslice Rec.rt ty·0 8) (List._∷_
+            (10, Rows.any-gone ty·12) (List._∷_ (11, Rows.any-gone ty·13) (List._∷_ (12, Rows.any-gone Syntax.tyBool) (List._∷_ (13, Rows.any-gone ty·2) (List._∷_ (14, Rows.any-gone (Syntax.tyStruct (List._∷_ 38 (List._∷_ 91 (List._∷_ 93 List.[]))) (Syntax.tcons ty·2 (Syntax.tcons (Syntax.tyInt Syntax.w64) Syntax.tnil)))) (List._∷_ (15, Rows.any-gone ty·1)
+            List.[])))))))))))))))
 
         abbrev g30 : List.List Row.Entry
-        g30 = List._∷_ (0, Rows.whole (Declared.row PressReply.the-type)) (List._∷_ (
-          1,
-          Rows.sslice (Referent.rtF (Referent.fInt Syntax.w16)) ty·6 0,
-        ) (List._∷_ (
-          2,
-          Rows.sslice (Referent.rtF (Referent.fInt Syntax.w16)) ty·7 1,
-        ) (List._∷_ (
-          3,
-          Rows.sslice (Referent.rtF (Referent.fInt Syntax.w8)) ty·4 2,
-        ) (List._∷_ (
-          4,
-          Rows.sslice (Referent.rtF (Referent.fInt Syntax.w16)) ty·8 3,
-        ) (List._∷_ (
-          5,
-          Rows.sslice (Referent.rtF (Referent.fInt Syntax.w16)) ty·9 4,
-        ) (List._∷_ (
-          6,
-          Rows.sslice (Referent.rtF (Referent.fInt Syntax.w32)) ty·10 5,
-        ) (List._∷_ (
-          7,
-          Mut.mslice (Referent.rtF (Referent.fInt Syntax.w16)) ty·11 6,
-        ) (List._∷_ (
-          8,
-          Relend.mslice-owed (Referent.rtF (Referent.fInt Syntax.w8)) ty·5 7 12 (Row.lease (κs .1 .1 .1 .1 .1 .1 .1 .0) (qs .1 .1 .1 .1 .1 .1 .1 .0)),
-        ) (List._∷_ (
-          9,
-          Rows.sslice Rec.rt ty·0 8,
-        ) (List._∷_ (
-          10,
-          Rows.any-gone ty·12,
-        ) (List._∷_ (
-          11,
-          Rows.any-gone ty·13,
-        ) (List._∷_ (12, Rows.any-gone Syntax.tyBool) (List._∷_ (
-          13,
-          Rows.any-gone ty·2,
-        ) (List._∷_ (
-          14,
-          Rows.any-gone (Syntax.tyStruct (List._∷_ 38 (List._∷_ 91 (List._∷_ 93 List.[]))) (Syntax.tcons ty·2 (Syntax.tcons (Syntax.tyInt Syntax.w64) Syntax.tnil))),
-        ) (List._∷_ (
-          15,
-          Rows.any-gone ty·1,
-        ) List.[])))))))))))))))
+        g30 = List._∷_ (0, Rows.whole (Declared.row PressReply.the-type)) (List._∷_ (1, Rows.sslice (Referent.rtF (Referent.fInt Syntax.w16)) ty·6 0) (List._∷_ (2, Rows.sslice (Referent.rtF (Referent.fInt Syntax.w16)) ty·7 1) (List._∷_ (3, Rows.sslice (Referent.rtF (Referent.fInt Syntax.w8)) ty·4 2) (List._∷_
+            (4, Rows.sslice (Referent.rtF (Referent.fInt Syntax.w16)) ty·8 3) (List._∷_ (5, Rows.sslice (Referent.rtF (Referent.fInt Syntax.w16)) ty·9 4) (List._∷_ (6, Rows.sslice (Referent.rtF (Referent.fInt Syntax.w32)) ty·10 5) (List._∷_ (7, Mut.mslice (Referent.rtF (Referent.fInt Syntax.w16)) ty·11 6) (List._∷_
+            (8, Relend.mslice-owed (Referent.rtF (Referent.fInt Syntax.w8)) ty·5 7 12 (Row.lease (κs .1 .1 .1 .1 .1 .1 .1 .0) (qs .1 .1 .1 .1 .1 .1 .1 .0))) (List._∷_ (9, Rows.sslice Rec.rt ty·0 8) (List._∷_ (10, Rows.any-gone ty·12) (List._∷_ (11, Rows.any-gone ty·13) (List._∷_ (12, Rows.any-gone Syntax.tyBool) (List._∷_ (13, Rows.any-gone ty·2) (List._∷_
+            (14, Rows.any-gone (Syntax.tyStruct (List._∷_ 38 (List._∷_ 91 (List._∷_ 93 List.[]))) (Syntax.tcons ty·2 (Syntax.tcons (Syntax.tyInt Syntax.w64) Syntax.tnil)))) (List._∷_ (15, Rows.any-gone ty·1) List.[])))))))))))))))
 
         abbrev g32 : List.List Row.Entry
-        g32 = List._∷_ (
-          0,
-          Rows.any-gone ty·14,
-        ) (List._∷_ (
-          1,
-          Rows.sslice (Referent.rtF (Referent.fInt Syntax.w16)) ty·6 0,
-        ) (List._∷_ (
-          2,
-          Rows.sslice (Referent.rtF (Referent.fInt Syntax.w16)) ty·7 1,
-        ) (List._∷_ (
-          3,
-          Rows.sslice (Referent.rtF (Referent.fInt Syntax.w8)) ty·4 2,
-        ) (List._∷_ (
-          4,
-          Rows.sslice (Referent.rtF (Referent.fInt Syntax.w16)) ty·8 3,
-        ) (List._∷_ (
-          5,
-          Rows.sslice (Referent.rtF (Referent.fInt Syntax.w16)) ty·9 4,
-        ) (List._∷_ (
-          6,
-          Rows.sslice (Referent.rtF (Referent.fInt Syntax.w32)) ty·10 5,
-        ) (List._∷_ (
-          7,
-          Reshare.mslice-owedS (Referent.rtF (Referent.fInt Syntax.w16)) ty·11 6 13 (Row.lease (κs .1 .1 .1 .1 .1 .1 .0) (qs .1 .1 .1 .1 .1 .1 .0)),
-        ) (List._∷_ (
-          8,
-          Mut.mslice (Referent.rtF (Referent.fInt Syntax.w8)) ty·5 7,
-        ) (List._∷_ (
-          9,
-          Rows.sslice Rec.rt ty·0 8,
-        ) (List._∷_ (
-          10,
-          Rows.any-gone ty·12,
-        ) (List._∷_ (
-          11,
-          Rows.any-gone ty·13,
-        ) (List._∷_ (12, Rows.any-gone Syntax.tyBool) (List._∷_ (
-          13,
-          Rows.any-gone ty·2,
-        ) (List._∷_ (
-          14,
-          Rows.any-gone (Syntax.tyStruct (List._∷_ 38 (List._∷_ 91 (List._∷_ 93 List.[]))) (Syntax.tcons ty·2 (Syntax.tcons (Syntax.tyInt Syntax.w64) Syntax.tnil))),
-        ) (List._∷_ (
-          15,
-          Rows.any-gone ty·1,
-        ) List.[])))))))))))))))
+        g32 = List._∷_ (0, Rows.any-gone ty·14) (List._∷_ (1, Rows.sslice (Referent.rtF (Referent.fInt Syntax.w16)) ty·6 0) (List._∷_ (2, Rows.sslice (Referent.rtF (Referent.fInt Syntax.w16)) ty·7 1) (List._∷_ (3, Rows.sslice (Referent.rtF (Referent.fInt Syntax.w8)) ty·4 2) (List._∷_ (4, Rows.sslice (Referent.rtF (Referent.fInt Syntax.w16)) ty·8 3) (List._∷_
+            (5, Rows.sslice (Referent.rtF (Referent.fInt Syntax.w16)) ty·9 4) (List._∷_ (6, Rows.sslice (Referent.rtF (Referent.fInt Syntax.w32)) ty·10 5) (List._∷_ (7, Reshare.mslice-owedS (Referent.rtF (Referent.fInt Syntax.w16)) ty·11 6 13 (Row.lease (κs .1 .1 .1 .1 .1 .1 .0) (qs .1 .1 .1 .1 .1 .1 .0))) (List._∷_
+            (8, Mut.mslice (Referent.rtF (Referent.fInt Syntax.w8)) ty·5 7) (List._∷_ (9, Rows.sslice Rec.rt ty·0 8) (List._∷_ (10, Rows.any-gone ty·12) (List._∷_ (11, Rows.any-gone ty·13) (List._∷_ (12, Rows.any-gone Syntax.tyBool) (List._∷_ (13, Rows.any-gone ty·2) (List._∷_
+            (14, Rows.any-gone (Syntax.tyStruct (List._∷_ 38 (List._∷_ 91 (List._∷_ 93 List.[]))) (Syntax.tcons ty·2 (Syntax.tcons (Syntax.tyInt Syntax.w64) Syntax.tnil)))) (List._∷_ (15, Rows.any-gone ty·1) List.[])))))))))))))))
 
         abbrev g35 : List.List Row.Entry
-        g35 = List._∷_ (
-          0,
-          Rows.any-gone ty·14,
-        ) (List._∷_ (
-          1,
-          Rows.sslice (Referent.rtF (Referent.fInt Syntax.w16)) ty·6 0,
-        ) (List._∷_ (
-          2,
-          Rows.sslice (Referent.rtF (Referent.fInt Syntax.w16)) ty·7 1,
-        ) (List._∷_ (
-          3,
-          Rows.sslice (Referent.rtF (Referent.fInt Syntax.w8)) ty·4 2,
-        ) (List._∷_ (
-          4,
-          Rows.sslice (Referent.rtF (Referent.fInt Syntax.w16)) ty·8 3,
-        ) (List._∷_ (
-          5,
-          Rows.sslice (Referent.rtF (Referent.fInt Syntax.w16)) ty·9 4,
-        ) (List._∷_ (
-          6,
-          Rows.sslice (Referent.rtF (Referent.fInt Syntax.w32)) ty·10 5,
-        ) (List._∷_ (
-          7,
-          Reshare.mslice-owedS (Referent.rtF (Referent.fInt Syntax.w16)) ty·11 6 13 (Row.lease (κs .1 .1 .1 .1 .1 .1 .0) (qs .1 .1 .1 .1 .1 .1 .0)),
-        ) (List._∷_ (
-          8,
-          Relend.mslice-owed (Referent.rtF (Referent.fInt Syntax.w8)) ty·5 7 14 (Row.lease (κs .1 .1 .1 .1 .1 .1 .1 .0) (qs .1 .1 .1 .1 .1 .1 .1 .0)),
-        ) (List._∷_ (
-          9,
-          Rows.sslice Rec.rt ty·0 8,
-        ) (List._∷_ (
-          10,
-          Rows.any-gone ty·12,
-        ) (List._∷_ (
-          11,
-          Rows.any-gone ty·13,
-        ) (List._∷_ (12, Rows.any-gone Syntax.tyBool) (List._∷_ (
-          13,
-          Rows.any-gone ty·2,
-        ) (List._∷_ (
-          14,
-          Rows.any-gone (Syntax.tyStruct (List._∷_ 38 (List._∷_ 91 (List._∷_ 93 List.[]))) (Syntax.tcons ty·2 (Syntax.tcons (Syntax.tyInt Syntax.w64) Syntax.tnil))),
-        ) (List._∷_ (
-          15,
-          Rows.any-gone ty·1,
-        ) List.[])))))))))))))))
+        g35 = List._∷_ (0, Rows.any-gone ty·14) (List._∷_ (1, Rows.sslice (Referent.rtF (Referent.fInt Syntax.w16)) ty·6 0) (List._∷_ (2, Rows.sslice (Referent.rtF (Referent.fInt Syntax.w16)) ty·7 1) (List._∷_ (3, Rows.sslice (Referent.rtF (Referent.fInt Syntax.w8)) ty·4 2) (List._∷_ (4, Rows.sslice (Referent.rtF (Referent.fInt Syntax.w16)) ty·8 3) (List._∷_
+            (5, Rows.sslice (Referent.rtF (Referent.fInt Syntax.w16)) ty·9 4) (List._∷_ (6, Rows.sslice (Referent.rtF (Referent.fInt Syntax.w32)) ty·10 5) (List._∷_ (7, Reshare.mslice-owedS (Referent.rtF (Referent.fInt Syntax.w16)) ty·11 6 13 (Row.lease (κs .1 .1 .1 .1 .1 .1 .0) (qs .1 .1 .1 .1 .1 .1 .0))) (List._∷_
+            (8, Relend.mslice-owed (Referent.rtF (Referent.fInt Syntax.w8)) ty·5 7 14 (Row.lease (κs .1 .1 .1 .1 .1 .1 .1 .0) (qs .1 .1 .1 .1 .1 .1 .1 .0))) (List._∷_ (9, Rows.sslice Rec.rt ty·0 8) (List._∷_ (10, Rows.any-gone ty·12) (List._∷_ (11, Rows.any-gone ty·13) (List._∷_ (12, Rows.any-gone Syntax.tyBool) (List._∷_ (13, Rows.any-gone ty·2) (List._∷_
+            (14, Rows.any-gone (Syntax.tyStruct (List._∷_ 38 (List._∷_ 91 (List._∷_ 93 List.[]))) (Syntax.tcons ty·2 (Syntax.tcons (Syntax.tyInt Syntax.w64) Syntax.tnil)))) (List._∷_ (15, Rows.any-gone ty·1) List.[])))))))))))))))
 
         abbrev g38 : List.List Row.Entry
-        g38 = List._∷_ (0, Rows.whole (Declared.row PressReply.the-type)) (List._∷_ (
-          1,
-          Rows.sslice (Referent.rtF (Referent.fInt Syntax.w16)) ty·6 0,
-        ) (List._∷_ (
-          2,
-          Rows.sslice (Referent.rtF (Referent.fInt Syntax.w16)) ty·7 1,
-        ) (List._∷_ (
-          3,
-          Rows.sslice (Referent.rtF (Referent.fInt Syntax.w8)) ty·4 2,
-        ) (List._∷_ (
-          4,
-          Rows.sslice (Referent.rtF (Referent.fInt Syntax.w16)) ty·8 3,
-        ) (List._∷_ (
-          5,
-          Rows.sslice (Referent.rtF (Referent.fInt Syntax.w16)) ty·9 4,
-        ) (List._∷_ (
-          6,
-          Rows.sslice (Referent.rtF (Referent.fInt Syntax.w32)) ty·10 5,
-        ) (List._∷_ (
-          7,
-          Reshare.mslice-owedS (Referent.rtF (Referent.fInt Syntax.w16)) ty·11 6 13 (Row.lease (κs .1 .1 .1 .1 .1 .1 .0) (qs .1 .1 .1 .1 .1 .1 .0)),
-        ) (List._∷_ (
-          8,
-          Relend.mslice-owed (Referent.rtF (Referent.fInt Syntax.w8)) ty·5 7 14 (Row.lease (κs .1 .1 .1 .1 .1 .1 .1 .0) (qs .1 .1 .1 .1 .1 .1 .1 .0)),
-        ) (List._∷_ (
-          9,
-          Rows.sslice Rec.rt ty·0 8,
-        ) (List._∷_ (
-          10,
-          Rows.any-gone ty·12,
-        ) (List._∷_ (
-          11,
-          Rows.any-gone ty·13,
-        ) (List._∷_ (12, Rows.any-gone Syntax.tyBool) (List._∷_ (
-          13,
-          Rows.any-gone ty·2,
-        ) (List._∷_ (
-          14,
-          Rows.any-gone (Syntax.tyStruct (List._∷_ 38 (List._∷_ 91 (List._∷_ 93 List.[]))) (Syntax.tcons ty·2 (Syntax.tcons (Syntax.tyInt Syntax.w64) Syntax.tnil))),
-        ) (List._∷_ (
-          15,
-          Rows.any-gone ty·1,
-        ) List.[])))))))))))))))
+        g38 = List._∷_ (0, Rows.whole (Declared.row PressReply.the-type)) (List._∷_ (1, Rows.sslice (Referent.rtF (Referent.fInt Syntax.w16)) ty·6 0) (List._∷_ (2, Rows.sslice (Referent.rtF (Referent.fInt Syntax.w16)) ty·7 1) (List._∷_ (3, Rows.sslice (Referent.rtF (Referent.fInt Syntax.w8)) ty·4 2) (List._∷_
+            (4, Rows.sslice (Referent.rtF (Referent.fInt Syntax.w16)) ty·8 3) (List._∷_ (5, Rows.sslice (Referent.rtF (Referent.fInt Syntax.w16)) ty·9 4) (List._∷_ (6, Rows.sslice (Referent.rtF (Referent.fInt Syntax.w32)) ty·10 5) (List._∷_
+            (7, Reshare.mslice-owedS (Referent.rtF (Referent.fInt Syntax.w16)) ty·11 6 13 (Row.lease (κs .1 .1 .1 .1 .1 .1 .0) (qs .1 .1 .1 .1 .1 .1 .0))) (List._∷_ (8, Relend.mslice-owed (Referent.rtF (Referent.fInt Syntax.w8)) ty·5 7 14 (Row.lease (κs .1 .1 .1 .1 .1 .1 .1 .0) (qs .1 .1 .1 .1 .1 .1 .1 .0))) (List._∷_ (9, Rows.sslice Rec.rt ty·0 8) (List._∷_
+            (10, Rows.any-gone ty·12) (List._∷_ (11, Rows.any-gone ty·13) (List._∷_ (12, Rows.any-gone Syntax.tyBool) (List._∷_ (13, Rows.any-gone ty·2) (List._∷_ (14, Rows.any-gone (Syntax.tyStruct (List._∷_ 38 (List._∷_ 91 (List._∷_ 93 List.[]))) (Syntax.tcons ty·2 (Syntax.tcons (Syntax.tyInt Syntax.w64) Syntax.tnil)))) (List._∷_ (15, Rows.any-gone ty·1)
+            List.[])))))))))))))))
 
         abbrev g41 : List.List Row.Entry
-        g41 = List._∷_ (0, Rows.whole (Declared.row PressReply.the-type)) (List._∷_ (
-          1,
-          Rows.sslice (Referent.rtF (Referent.fInt Syntax.w16)) ty·6 0,
-        ) (List._∷_ (
-          2,
-          Rows.sslice (Referent.rtF (Referent.fInt Syntax.w16)) ty·7 1,
-        ) (List._∷_ (
-          3,
-          Rows.sslice (Referent.rtF (Referent.fInt Syntax.w8)) ty·4 2,
-        ) (List._∷_ (
-          4,
-          Rows.sslice (Referent.rtF (Referent.fInt Syntax.w16)) ty·8 3,
-        ) (List._∷_ (
-          5,
-          Rows.sslice (Referent.rtF (Referent.fInt Syntax.w16)) ty·9 4,
-        ) (List._∷_ (
-          6,
-          Rows.sslice (Referent.rtF (Referent.fInt Syntax.w32)) ty·10 5,
-        ) (List._∷_ (
-          7,
-          Mut.mslice (Referent.rtF (Referent.fInt Syntax.w16)) ty·11 6,
-        ) (List._∷_ (
-          8,
-          Relend.mslice-owed (Referent.rtF (Referent.fInt Syntax.w8)) ty·5 7 14 (Row.lease (κs .1 .1 .1 .1 .1 .1 .1 .0) (qs .1 .1 .1 .1 .1 .1 .1 .0)),
-        ) (List._∷_ (
-          9,
-          Rows.sslice Rec.rt ty·0 8,
-        ) (List._∷_ (
-          10,
-          Rows.any-gone ty·12,
-        ) (List._∷_ (
-          11,
-          Rows.any-gone ty·13,
-        ) (List._∷_ (12, Rows.any-gone Syntax.tyBool) (List._∷_ (
-          13,
-          Rows.any-gone ty·2,
-        ) (List._∷_ (
-          14,
-          Rows.any-gone (Syntax.tyStruct (List._∷_ 38 (List._∷_ 91 (List._∷_ 93 List.[]))) (Syntax.tcons ty·2 (Syntax.tcons (Syntax.tyInt Syntax.w64) Syntax.tnil))),
-        ) (List._∷_ (
-          15,
-          Rows.any-gone ty·1,
-        ) List.[])))))))))))))))
+        g41 = List._∷_ (0, Rows.whole (Declared.row PressReply.the-type)) (List._∷_ (1, Rows.sslice (Referent.rtF (Referent.fInt Syntax.w16)) ty·6 0) (List._∷_ (2, Rows.sslice (Referent.rtF (Referent.fInt Syntax.w16)) ty·7 1) (List._∷_ (3, Rows.sslice (Referent.rtF (Referent.fInt Syntax.w8)) ty·4 2) (List._∷_
+            (4, Rows.sslice (Referent.rtF (Referent.fInt Syntax.w16)) ty·8 3) (List._∷_ (5, Rows.sslice (Referent.rtF (Referent.fInt Syntax.w16)) ty·9 4) (List._∷_ (6, Rows.sslice (Referent.rtF (Referent.fInt Syntax.w32)) ty·10 5) (List._∷_ (7, Mut.mslice (Referent.rtF (Referent.fInt Syntax.w16)) ty·11 6) (List._∷_
+            (8, Relend.mslice-owed (Referent.rtF (Referent.fInt Syntax.w8)) ty·5 7 14 (Row.lease (κs .1 .1 .1 .1 .1 .1 .1 .0) (qs .1 .1 .1 .1 .1 .1 .1 .0))) (List._∷_ (9, Rows.sslice Rec.rt ty·0 8) (List._∷_ (10, Rows.any-gone ty·12) (List._∷_ (11, Rows.any-gone ty·13) (List._∷_ (12, Rows.any-gone Syntax.tyBool) (List._∷_ (13, Rows.any-gone ty·2) (List._∷_
+            (14, Rows.any-gone (Syntax.tyStruct (List._∷_ 38 (List._∷_ 91 (List._∷_ 93 List.[]))) (Syntax.tcons ty·2 (Syntax.tcons (Syntax.tyInt Syntax.w64) Syntax.tnil)))) (List._∷_ (15, Rows.any-gone ty·1) List.[])))))))))))))))
+
+        abbrev slots·0 : List.List Row.Life
+        slots·0 = List._∷_ (Row.lease (κs .0) (qs .0)) (List._∷_ (Row.lease (κs .1 .0) (qs .1 .0)) (List._∷_ (Row.lease (κs .1 .1 .0) (qs .1 .1 .0)) (List._∷_ (Row.lease (κs .1 .1 .1 .0) (qs .1 .1 .1 .0)) (List._∷_ (Row.lease (κs .1 .1 .1 .1 .0) (qs .1 .1 .1 .1 .0)) (List._∷_ (Row.lease (κs .1 .1 .1 .1 .1 .0) (qs .1 .1 .1 .1 .1 .0)) (List._∷_ (Row.lease (κs
+            .1 .1 .1 .1 .1 .1 .0) (qs .1 .1 .1 .1 .1 .1 .0)) (List._∷_ (Row.lease (κs .1 .1 .1 .1 .1 .1 .1 .0) (qs .1 .1 .1 .1 .1 .1 .1 .0)) (List._∷_ (Row.lease (κs .1 .1 .1 .1 .1 .1 .1 .1 .0) (qs .1 .1 .1 .1 .1 .1 .1 .1 .0)) (List._∷_ Row.off (List._∷_ Row.off (List._∷_ Row.off (List._∷_ Row.off (List._∷_ Row.off (List._∷_ Row.off List.[]))))))))))))))
+
+        abbrev slots·1 : List.List Row.Life
+        slots·1 = List._∷_ (Row.lease (κs .0) (qs .0)) (List._∷_ (Row.lease (κs .1 .0) (qs .1 .0)) (List._∷_ (Row.lease (κs .1 .1 .0) (qs .1 .1 .0)) (List._∷_ (Row.lease (κs .1 .1 .1 .0) (qs .1 .1 .1 .0)) (List._∷_ (Row.lease (κs .1 .1 .1 .1 .0) (qs .1 .1 .1 .1 .0)) (List._∷_ (Row.lease (κs .1 .1 .1 .1 .1 .0) (qs .1 .1 .1 .1 .1 .0)) (List._∷_ Row.off
+            (List._∷_ (Row.lease (κs .1 .1 .1 .1 .1 .1 .1 .0) (qs .1 .1 .1 .1 .1 .1 .1 .0)) (List._∷_ (Row.lease (κs .1 .1 .1 .1 .1 .1 .1 .1 .0) (qs .1 .1 .1 .1 .1 .1 .1 .1 .0)) (List._∷_ Row.alive (List._∷_ Row.off (List._∷_ Row.off (List._∷_ Row.off (List._∷_ Row.off (List._∷_ Row.off List.[]))))))))))))))
+
+        abbrev slots·2 : List.List Row.Life
+        slots·2 = List._∷_ (Row.lease (κs .0) (qs .0)) (List._∷_ (Row.lease (κs .1 .0) (qs .1 .0)) (List._∷_ (Row.lease (κs .1 .1 .0) (qs .1 .1 .0)) (List._∷_ (Row.lease (κs .1 .1 .1 .0) (qs .1 .1 .1 .0)) (List._∷_ (Row.lease (κs .1 .1 .1 .1 .0) (qs .1 .1 .1 .1 .0)) (List._∷_ (Row.lease (κs .1 .1 .1 .1 .1 .0) (qs .1 .1 .1 .1 .1 .0)) (List._∷_ Row.off
+            (List._∷_ Row.off (List._∷_ (Row.lease (κs .1 .1 .1 .1 .1 .1 .1 .1 .0) (qs .1 .1 .1 .1 .1 .1 .1 .1 .0)) (List._∷_ Row.alive (List._∷_ Row.alive (List._∷_ Row.off (List._∷_ Row.off (List._∷_ Row.off (List._∷_ Row.off List.[]))))))))))))))
+
+        abbrev slots·3 : List.List Row.Life
+        slots·3 = List._∷_ (Row.lease (κs .0) (qs .0)) (List._∷_ (Row.lease (κs .1 .0) (qs .1 .0)) (List._∷_ (Row.lease (κs .1 .1 .0) (qs .1 .1 .0)) (List._∷_ (Row.lease (κs .1 .1 .1 .0) (qs .1 .1 .1 .0)) (List._∷_ (Row.lease (κs .1 .1 .1 .1 .0) (qs .1 .1 .1 .1 .0)) (List._∷_ (Row.lease (κs .1 .1 .1 .1 .1 .0) (qs .1 .1 .1 .1 .1 .0)) (List._∷_ (Row.lease (κs
+            .1 .1 .1 .1 .1 .1 .0) (qs .1 .1 .1 .1 .1 .1 .0)) (List._∷_ Row.off (List._∷_ (Row.lease (κs .1 .1 .1 .1 .1 .1 .1 .1 .0) (qs .1 .1 .1 .1 .1 .1 .1 .1 .0)) (List._∷_ Row.dead (List._∷_ Row.alive (List._∷_ Row.off (List._∷_ Row.off (List._∷_ Row.off (List._∷_ Row.off List.[]))))))))))))))
+
+        abbrev slots·4 : List.List Row.Life
+        slots·4 = List._∷_ (Row.lease (κs .0) (qs .0)) (List._∷_ (Row.lease (κs .1 .0) (qs .1 .0)) (List._∷_ (Row.lease (κs .1 .1 .0) (qs .1 .1 .0)) (List._∷_ (Row.lease (κs .1 .1 .1 .0) (qs .1 .1 .1 .0)) (List._∷_ (Row.lease (κs .1 .1 .1 .1 .0) (qs .1 .1 .1 .1 .0)) (List._∷_ (Row.lease (κs .1 .1 .1 .1 .1 .0) (qs .1 .1 .1 .1 .1 .0)) (List._∷_ (Row.lease (κs
+            .1 .1 .1 .1 .1 .1 .0) (qs .1 .1 .1 .1 .1 .1 .0)) (List._∷_ (Row.lease (κs .1 .1 .1 .1 .1 .1 .1 .0) (qs .1 .1 .1 .1 .1 .1 .1 .0)) (List._∷_ (Row.lease (κs .1 .1 .1 .1 .1 .1 .1 .1 .0) (qs .1 .1 .1 .1 .1 .1 .1 .1 .0)) (List._∷_ Row.off (List._∷_ Row.dead (List._∷_ Row.off (List._∷_ Row.off (List._∷_ Row.off (List._∷_ Row.off List.[]))))))))))))))
+
+        abbrev slots·5 : List.List Row.Life
+        slots·5 = List._∷_ (Row.lease (κs .0) (qs .0)) (List._∷_ (Row.lease (κs .1 .0) (qs .1 .0)) (List._∷_ (Row.lease (κs .1 .1 .0) (qs .1 .1 .0)) (List._∷_ (Row.lease (κs .1 .1 .1 .0) (qs .1 .1 .1 .0)) (List._∷_ (Row.lease (κs .1 .1 .1 .1 .0) (qs .1 .1 .1 .1 .0)) (List._∷_ (Row.lease (κs .1 .1 .1 .1 .1 .0) (qs .1 .1 .1 .1 .1 .0)) (List._∷_ Row.off
+            (List._∷_ (Row.lease (κs .1 .1 .1 .1 .1 .1 .1 .0) (qs .1 .1 .1 .1 .1 .1 .1 .0)) (List._∷_ (Row.lease (κs .1 .1 .1 .1 .1 .1 .1 .1 .0) (qs .1 .1 .1 .1 .1 .1 .1 .1 .0)) (List._∷_ Row.off (List._∷_ Row.off (List._∷_ Row.alive (List._∷_ Row.off (List._∷_ Row.off (List._∷_ Row.off List.[]))))))))))))))
+
+        abbrev slots·6 : List.List Row.Life
+        slots·6 = List._∷_ (Row.lease (κs .0) (qs .0)) (List._∷_ (Row.lease (κs .1 .0) (qs .1 .0)) (List._∷_ (Row.lease (κs .1 .1 .0) (qs .1 .1 .0)) (List._∷_ (Row.lease (κs .1 .1 .1 .0) (qs .1 .1 .1 .0)) (List._∷_ (Row.lease (κs .1 .1 .1 .1 .0) (qs .1 .1 .1 .1 .0)) (List._∷_ (Row.lease (κs .1 .1 .1 .1 .1 .0) (qs .1 .1 .1 .1 .1 .0)) (List._∷_ Row.off
+            (List._∷_ Row.off (List._∷_ (Row.lease (κs .1 .1 .1 .1 .1 .1 .1 .1 .0) (qs .1 .1 .1 .1 .1 .1 .1 .1 .0)) (List._∷_ Row.off (List._∷_ Row.off (List._∷_ Row.alive (List._∷_ Row.alive (List._∷_ Row.off (List._∷_ Row.off List.[]))))))))))))))
+
+        abbrev slots·7 : List.List Row.Life
+        slots·7 = List._∷_ (Row.lease (κs .0) (qs .0)) (List._∷_ (Row.lease (κs .1 .0) (qs .1 .0)) (List._∷_ (Row.lease (κs .1 .1 .0) (qs .1 .1 .0)) (List._∷_ (Row.lease (κs .1 .1 .1 .0) (qs .1 .1 .1 .0)) (List._∷_ (Row.lease (κs .1 .1 .1 .1 .0) (qs .1 .1 .1 .1 .0)) (List._∷_ (Row.lease (κs .1 .1 .1 .1 .1 .0) (qs .1 .1 .1 .1 .1 .0)) (List._∷_ (Row.lease (κs
+            .1 .1 .1 .1 .1 .1 .0) (qs .1 .1 .1 .1 .1 .1 .0)) (List._∷_ (Row.lease (κs .1 .1 .1 .1 .1 .1 .1 .0) (qs .1 .1 .1 .1 .1 .1 .1 .0)) (List._∷_ (Row.lease (κs .1 .1 .1 .1 .1 .1 .1 .1 .0) (qs .1 .1 .1 .1 .1 .1 .1 .1 .0)) (List._∷_ Row.off (List._∷_ Row.off (List._∷_ Row.off (List._∷_ Row.dead (List._∷_ Row.off (List._∷_ Row.off List.[]))))))))))))))
+
+        abbrev slots·8 : List.List Row.Life
+        slots·8 = List._∷_ (Row.lease (κs .0) (qs .0)) (List._∷_ (Row.lease (κs .1 .0) (qs .1 .0)) (List._∷_ (Row.lease (κs .1 .1 .0) (qs .1 .1 .0)) (List._∷_ (Row.lease (κs .1 .1 .1 .0) (qs .1 .1 .1 .0)) (List._∷_ (Row.lease (κs .1 .1 .1 .1 .0) (qs .1 .1 .1 .1 .0)) (List._∷_ (Row.lease (κs .1 .1 .1 .1 .1 .0) (qs .1 .1 .1 .1 .1 .0)) (List._∷_ Row.off
+            (List._∷_ (Row.lease (κs .1 .1 .1 .1 .1 .1 .1 .0) (qs .1 .1 .1 .1 .1 .1 .1 .0)) (List._∷_ (Row.lease (κs .1 .1 .1 .1 .1 .1 .1 .1 .0) (qs .1 .1 .1 .1 .1 .1 .1 .1 .0)) (List._∷_ Row.off (List._∷_ Row.off (List._∷_ Row.off (List._∷_ Row.off (List._∷_ Row.alive (List._∷_ Row.off List.[]))))))))))))))
+
+        abbrev slots·9 : List.List Row.Life
+        slots·9 = List._∷_ (Row.lease (κs .0) (qs .0)) (List._∷_ (Row.lease (κs .1 .0) (qs .1 .0)) (List._∷_ (Row.lease (κs .1 .1 .0) (qs .1 .1 .0)) (List._∷_ (Row.lease (κs .1 .1 .1 .0) (qs .1 .1 .1 .0)) (List._∷_ (Row.lease (κs .1 .1 .1 .1 .0) (qs .1 .1 .1 .1 .0)) (List._∷_ (Row.lease (κs .1 .1 .1 .1 .1 .0) (qs .1 .1 .1 .1 .1 .0)) (List._∷_ Row.off
+            (List._∷_ Row.off (List._∷_ (Row.lease (κs .1 .1 .1 .1 .1 .1 .1 .1 .0) (qs .1 .1 .1 .1 .1 .1 .1 .1 .0)) (List._∷_ Row.off (List._∷_ Row.off (List._∷_ Row.off (List._∷_ Row.off (List._∷_ Row.alive (List._∷_ Row.alive List.[]))))))))))))))
+
+        abbrev slots·10 : List.List Row.Life
+        slots·10 = List._∷_ (Row.lease (κs .0) (qs .0)) (List._∷_ (Row.lease (κs .1 .0) (qs .1 .0)) (List._∷_ (Row.lease (κs .1 .1 .0) (qs .1 .1 .0)) (List._∷_ (Row.lease (κs .1 .1 .1 .0) (qs .1 .1 .1 .0)) (List._∷_ (Row.lease (κs .1 .1 .1 .1 .0) (qs .1 .1 .1 .1 .0)) (List._∷_ (Row.lease (κs .1 .1 .1 .1 .1 .0) (qs .1 .1 .1 .1 .1 .0)) (List._∷_ (Row.lease (κs
+            .1 .1 .1 .1 .1 .1 .0) (qs .1 .1 .1 .1 .1 .1 .0)) (List._∷_ (Row.lease (κs .1 .1 .1 .1 .1 .1 .1 .0) (qs .1 .1 .1 .1 .1 .1 .1 .0)) (List._∷_ (Row.lease (κs .1 .1 .1 .1 .1 .1 .1 .1 .0) (qs .1 .1 .1 .1 .1 .1 .1 .1 .0)) (List._∷_ Row.off (List._∷_ Row.off (List._∷_ Row.off (List._∷_ Row.off (List._∷_ Row.off (List._∷_ Row.dead List.[]))))))))))))))
 
         abbrev G0 : Row.Cx
-        G0 = record {
-          locals = List._++_ t0 t1;
-          slots = List._∷_ (Row.lease (κs .0) (qs .0)) (List._∷_ (Row.lease (κs .1 .0) (qs .1 .0)) (List._∷_ (Row.lease (κs .1 .1 .0) (qs .1 .1 .0)) (List._∷_ (Row.lease (κs .1 .1 .1 .0) (qs .1 .1 .1 .0)) (List._∷_ (Row.lease (κs .1 .1 .1 .1 .0) (qs .1 .1 .1 .1 .0)) (List._∷_
-              (Row.lease (κs .1 .1 .1 .1 .1 .0) (qs .1 .1 .1 .1 .1 .0)) (List._∷_ (Row.lease (κs .1 .1 .1 .1 .1 .1 .0) (qs .1 .1 .1 .1 .1 .1 .0)) (List._∷_ (Row.lease (κs .1 .1 .1 .1 .1 .1 .1 .0) (qs .1 .1 .1 .1 .1 .1 .1 .0)) (List._∷_ (Row.lease (κs .1 .1 .1 .1 .1 .1 .1 .1 .0) (qs .1 .1 .1 .1 .1 .1 .1 .1 .0)) (List._∷_ Row.off (List._∷_ Row.off (List._∷_
-              Row.off (List._∷_ Row.off (List._∷_ Row.off (List._∷_ Row.off List.[]))))))))))))));
-        }
+        G0 = record { locals = T0 .locals; slots = slots·0 }
 
         abbrev G1 : Row.Cx
-        G1 = record {
-          locals = List._++_ t2 t1;
-          slots = List._∷_ (Row.lease (κs .0) (qs .0)) (List._∷_ (Row.lease (κs .1 .0) (qs .1 .0)) (List._∷_ (Row.lease (κs .1 .1 .0) (qs .1 .1 .0)) (List._∷_ (Row.lease (κs .1 .1 .1 .0) (qs .1 .1 .1 .0)) (List._∷_ (Row.lease (κs .1 .1 .1 .1 .0) (qs .1 .1 .1 .1 .0)) (List._∷_
-              (Row.lease (κs .1 .1 .1 .1 .1 .0) (qs .1 .1 .1 .1 .1 .0)) (List._∷_ (Row.lease (κs .1 .1 .1 .1 .1 .1 .0) (qs .1 .1 .1 .1 .1 .1 .0)) (List._∷_ (Row.lease (κs .1 .1 .1 .1 .1 .1 .1 .0) (qs .1 .1 .1 .1 .1 .1 .1 .0)) (List._∷_ (Row.lease (κs .1 .1 .1 .1 .1 .1 .1 .1 .0) (qs .1 .1 .1 .1 .1 .1 .1 .1 .0)) (List._∷_ Row.off (List._∷_ Row.off (List._∷_
-              Row.off (List._∷_ Row.off (List._∷_ Row.off (List._∷_ Row.off List.[]))))))))))))));
-        }
-
-        abbrev G2 : Row.Cx
-        G2 = record {
-          locals = List._++_ t0 t1;
-          slots = List._∷_ (Row.lease (κs .0) (qs .0)) (List._∷_ (Row.lease (κs .1 .0) (qs .1 .0)) (List._∷_ (Row.lease (κs .1 .1 .0) (qs .1 .1 .0)) (List._∷_ (Row.lease (κs .1 .1 .1 .0) (qs .1 .1 .1 .0)) (List._∷_ (Row.lease (κs .1 .1 .1 .1 .0) (qs .1 .1 .1 .1 .0)) (List._∷_
-              (Row.lease (κs .1 .1 .1 .1 .1 .0) (qs .1 .1 .1 .1 .1 .0)) (List._∷_ (Row.lease (κs .1 .1 .1 .1 .1 .1 .0) (qs .1 .1 .1 .1 .1 .1 .0)) (List._∷_ (Row.lease (κs .1 .1 .1 .1 .1 .1 .1 .0) (qs .1 .1 .1 .1 .1 .1 .1 .0)) (List._∷_ (Row.lease (κs .1 .1 .1 .1 .1 .1 .1 .1 .0) (qs .1 .1 .1 .1 .1 .1 .1 .1 .0)) (List._∷_ Row.off (List._∷_ Row.off (List._∷_
-              Row.off (List._∷_ Row.off (List._∷_ Row.off (List._∷_ Row.off List.[]))))))))))))));
-        }
-
-        abbrev G3 : Row.Cx
-        G3 = record {
-          locals = List._++_ t0 t1;
-          slots = List._∷_ (Row.lease (κs .0) (qs .0)) (List._∷_ (Row.lease (κs .1 .0) (qs .1 .0)) (List._∷_ (Row.lease (κs .1 .1 .0) (qs .1 .1 .0)) (List._∷_ (Row.lease (κs .1 .1 .1 .0) (qs .1 .1 .1 .0)) (List._∷_ (Row.lease (κs .1 .1 .1 .1 .0) (qs .1 .1 .1 .1 .0)) (List._∷_
-              (Row.lease (κs .1 .1 .1 .1 .1 .0) (qs .1 .1 .1 .1 .1 .0)) (List._∷_ (Row.lease (κs .1 .1 .1 .1 .1 .1 .0) (qs .1 .1 .1 .1 .1 .1 .0)) (List._∷_ (Row.lease (κs .1 .1 .1 .1 .1 .1 .1 .0) (qs .1 .1 .1 .1 .1 .1 .1 .0)) (List._∷_ (Row.lease (κs .1 .1 .1 .1 .1 .1 .1 .1 .0) (qs .1 .1 .1 .1 .1 .1 .1 .1 .0)) (List._∷_ Row.off (List._∷_ Row.off (List._∷_
-              Row.off (List._∷_ Row.off (List._∷_ Row.off (List._∷_ Row.off List.[]))))))))))))));
-        }
-
-        abbrev G4 : Row.Cx
-        G4 = record {
-          locals = List._++_ t0 t1;
-          slots = List._∷_ (Row.lease (κs .0) (qs .0)) (List._∷_ (Row.lease (κs .1 .0) (qs .1 .0)) (List._∷_ (Row.lease (κs .1 .1 .0) (qs .1 .1 .0)) (List._∷_ (Row.lease (κs .1 .1 .1 .0) (qs .1 .1 .1 .0)) (List._∷_ (Row.lease (κs .1 .1 .1 .1 .0) (qs .1 .1 .1 .1 .0)) (List._∷_
-              (Row.lease (κs .1 .1 .1 .1 .1 .0) (qs .1 .1 .1 .1 .1 .0)) (List._∷_ (Row.lease (κs .1 .1 .1 .1 .1 .1 .0) (qs .1 .1 .1 .1 .1 .1 .0)) (List._∷_ (Row.lease (κs .1 .1 .1 .1 .1 .1 .1 .0) (qs .1 .1 .1 .1 .1 .1 .1 .0)) (List._∷_ (Row.lease (κs .1 .1 .1 .1 .1 .1 .1 .1 .0) (qs .1 .1 .1 .1 .1 .1 .1 .1 .0)) (List._∷_ Row.off (List._∷_ Row.off (List._∷_
-              Row.off (List._∷_ Row.off (List._∷_ Row.off (List._∷_ Row.off List.[]))))))))))))));
-        }
-
-        abbrev G5 : Row.Cx
-        G5 = record {
-          locals = List._++_ t0 t1;
-          slots = List._∷_ (Row.lease (κs .0) (qs .0)) (List._∷_ (Row.lease (κs .1 .0) (qs .1 .0)) (List._∷_ (Row.lease (κs .1 .1 .0) (qs .1 .1 .0)) (List._∷_ (Row.lease (κs .1 .1 .1 .0) (qs .1 .1 .1 .0)) (List._∷_ (Row.lease (κs .1 .1 .1 .1 .0) (qs .1 .1 .1 .1 .0)) (List._∷_
-              (Row.lease (κs .1 .1 .1 .1 .1 .0) (qs .1 .1 .1 .1 .1 .0)) (List._∷_ (Row.lease (κs .1 .1 .1 .1 .1 .1 .0) (qs .1 .1 .1 .1 .1 .1 .0)) (List._∷_ (Row.lease (κs .1 .1 .1 .1 .1 .1 .1 .0) (qs .1 .1 .1 .1 .1 .1 .1 .0)) (List._∷_ (Row.lease (κs .1 .1 .1 .1 .1 .1 .1 .1 .0) (qs .1 .1 .1 .1 .1 .1 .1 .1 .0)) (List._∷_ Row.off (List._∷_ Row.off (List._∷_
-              Row.off (List._∷_ Row.off (List._∷_ Row.off (List._∷_ Row.off List.[]))))))))))))));
-        }
-
-        abbrev G6 : Row.Cx
-        G6 = record {
-          locals = List._++_ t0 t1;
-          slots = List._∷_ (Row.lease (κs .0) (qs .0)) (List._∷_ (Row.lease (κs .1 .0) (qs .1 .0)) (List._∷_ (Row.lease (κs .1 .1 .0) (qs .1 .1 .0)) (List._∷_ (Row.lease (κs .1 .1 .1 .0) (qs .1 .1 .1 .0)) (List._∷_ (Row.lease (κs .1 .1 .1 .1 .0) (qs .1 .1 .1 .1 .0)) (List._∷_
-              (Row.lease (κs .1 .1 .1 .1 .1 .0) (qs .1 .1 .1 .1 .1 .0)) (List._∷_ (Row.lease (κs .1 .1 .1 .1 .1 .1 .0) (qs .1 .1 .1 .1 .1 .1 .0)) (List._∷_ (Row.lease (κs .1 .1 .1 .1 .1 .1 .1 .0) (qs .1 .1 .1 .1 .1 .1 .1 .0)) (List._∷_ (Row.lease (κs .1 .1 .1 .1 .1 .1 .1 .1 .0) (qs .1 .1 .1 .1 .1 .1 .1 .1 .0)) (List._∷_ Row.off (List._∷_ Row.off (List._∷_
-              Row.off (List._∷_ Row.off (List._∷_ Row.off (List._∷_ Row.off List.[]))))))))))))));
-        }
-
-        abbrev G7 : Row.Cx
-        G7 = record {
-          locals = List._++_ t0 t1;
-          slots = List._∷_ (Row.lease (κs .0) (qs .0)) (List._∷_ (Row.lease (κs .1 .0) (qs .1 .0)) (List._∷_ (Row.lease (κs .1 .1 .0) (qs .1 .1 .0)) (List._∷_ (Row.lease (κs .1 .1 .1 .0) (qs .1 .1 .1 .0)) (List._∷_ (Row.lease (κs .1 .1 .1 .1 .0) (qs .1 .1 .1 .1 .0)) (List._∷_
-              (Row.lease (κs .1 .1 .1 .1 .1 .0) (qs .1 .1 .1 .1 .1 .0)) (List._∷_ (Row.lease (κs .1 .1 .1 .1 .1 .1 .0) (qs .1 .1 .1 .1 .1 .1 .0)) (List._∷_ (Row.lease (κs .1 .1 .1 .1 .1 .1 .1 .0) (qs .1 .1 .1 .1 .1 .1 .1 .0)) (List._∷_ (Row.lease (κs .1 .1 .1 .1 .1 .1 .1 .1 .0) (qs .1 .1 .1 .1 .1 .1 .1 .1 .0)) (List._∷_ Row.off (List._∷_ Row.off (List._∷_
-              Row.off (List._∷_ Row.off (List._∷_ Row.off (List._∷_ Row.off List.[]))))))))))))));
-        }
-
-        abbrev G8 : Row.Cx
-        G8 = record {
-          locals = List._++_ t0 t1;
-          slots = List._∷_ (Row.lease (κs .0) (qs .0)) (List._∷_ (Row.lease (κs .1 .0) (qs .1 .0)) (List._∷_ (Row.lease (κs .1 .1 .0) (qs .1 .1 .0)) (List._∷_ (Row.lease (κs .1 .1 .1 .0) (qs .1 .1 .1 .0)) (List._∷_ (Row.lease (κs .1 .1 .1 .1 .0) (qs .1 .1 .1 .1 .0)) (List._∷_
-              (Row.lease (κs .1 .1 .1 .1 .1 .0) (qs .1 .1 .1 .1 .1 .0)) (List._∷_ (Row.lease (κs .1 .1 .1 .1 .1 .1 .0) (qs .1 .1 .1 .1 .1 .1 .0)) (List._∷_ (Row.lease (κs .1 .1 .1 .1 .1 .1 .1 .0) (qs .1 .1 .1 .1 .1 .1 .1 .0)) (List._∷_ (Row.lease (κs .1 .1 .1 .1 .1 .1 .1 .1 .0) (qs .1 .1 .1 .1 .1 .1 .1 .1 .0)) (List._∷_ Row.off (List._∷_ Row.off (List._∷_
-              Row.off (List._∷_ Row.off (List._∷_ Row.off (List._∷_ Row.off List.[]))))))))))))));
-        }
-
-        abbrev G9 : Row.Cx
-        G9 = record {
-          locals = List._++_ t0 t1;
-          slots = List._∷_ (Row.lease (κs .0) (qs .0)) (List._∷_ (Row.lease (κs .1 .0) (qs .1 .0)) (List._∷_ (Row.lease (κs .1 .1 .0) (qs .1 .1 .0)) (List._∷_ (Row.lease (κs .1 .1 .1 .0) (qs .1 .1 .1 .0)) (List._∷_ (Row.lease (κs .1 .1 .1 .1 .0) (qs .1 .1 .1 .1 .0)) (List._∷_
-              (Row.lease (κs .1 .1 .1 .1 .1 .0) (qs .1 .1 .1 .1 .1 .0)) (List._∷_ (Row.lease (κs .1 .1 .1 .1 .1 .1 .0) (qs .1 .1 .1 .1 .1 .1 .0)) (List._∷_ (Row.lease (κs .1 .1 .1 .1 .1 .1 .1 .0) (qs .1 .1 .1 .1 .1 .1 .1 .0)) (List._∷_ (Row.lease (κs .1 .1 .1 .1 .1 .1 .1 .1 .0) (qs .1 .1 .1 .1 .1 .1 .1 .1 .0)) (List._∷_ Row.off (List._∷_ Row.off (List._∷_
-              Row.off (List._∷_ Row.off (List._∷_ Row.off (List._∷_ Row.off List.[]))))))))))))));
-        }
+        G1 = record { locals = T1 .locals; slots = slots·0 }
 
         abbrev G10 : Row.Cx
-        G10 = record {
-          locals = List._++_ t3 t1;
-          slots = List._∷_ (Row.lease (κs .0) (qs .0)) (List._∷_ (Row.lease (κs .1 .0) (qs .1 .0)) (List._∷_ (Row.lease (κs .1 .1 .0) (qs .1 .1 .0)) (List._∷_ (Row.lease (κs .1 .1 .1 .0) (qs .1 .1 .1 .0)) (List._∷_ (Row.lease (κs .1 .1 .1 .1 .0) (qs .1 .1 .1 .1 .0)) (List._∷_
-              (Row.lease (κs .1 .1 .1 .1 .1 .0) (qs .1 .1 .1 .1 .1 .0)) (List._∷_ (Row.lease (κs .1 .1 .1 .1 .1 .1 .0) (qs .1 .1 .1 .1 .1 .1 .0)) (List._∷_ (Row.lease (κs .1 .1 .1 .1 .1 .1 .1 .0) (qs .1 .1 .1 .1 .1 .1 .1 .0)) (List._∷_ (Row.lease (κs .1 .1 .1 .1 .1 .1 .1 .1 .0) (qs .1 .1 .1 .1 .1 .1 .1 .1 .0)) (List._∷_ Row.off (List._∷_ Row.off (List._∷_
-              Row.off (List._∷_ Row.off (List._∷_ Row.off (List._∷_ Row.off List.[]))))))))))))));
-        }
+        G10 = record { locals = T10 .locals; slots = slots·0 }
 
         abbrev G11 : Row.Cx
-        G11 = record {
-          locals = List._++_ t4 t1;
-          slots = List._∷_ (Row.lease (κs .0) (qs .0)) (List._∷_ (Row.lease (κs .1 .0) (qs .1 .0)) (List._∷_ (Row.lease (κs .1 .1 .0) (qs .1 .1 .0)) (List._∷_ (Row.lease (κs .1 .1 .1 .0) (qs .1 .1 .1 .0)) (List._∷_ (Row.lease (κs .1 .1 .1 .1 .0) (qs .1 .1 .1 .1 .0)) (List._∷_
-              (Row.lease (κs .1 .1 .1 .1 .1 .0) (qs .1 .1 .1 .1 .1 .0)) (List._∷_ (Row.lease (κs .1 .1 .1 .1 .1 .1 .0) (qs .1 .1 .1 .1 .1 .1 .0)) (List._∷_ (Row.lease (κs .1 .1 .1 .1 .1 .1 .1 .0) (qs .1 .1 .1 .1 .1 .1 .1 .0)) (List._∷_ (Row.lease (κs .1 .1 .1 .1 .1 .1 .1 .1 .0) (qs .1 .1 .1 .1 .1 .1 .1 .1 .0)) (List._∷_ Row.off (List._∷_ Row.off (List._∷_
-              Row.off (List._∷_ Row.off (List._∷_ Row.off (List._∷_ Row.off List.[]))))))))))))));
-        }
-
-        abbrev G12 : Row.Cx
-        G12 = record {
-          locals = List._++_ t0 t1;
-          slots = List._∷_ (Row.lease (κs .0) (qs .0)) (List._∷_ (Row.lease (κs .1 .0) (qs .1 .0)) (List._∷_ (Row.lease (κs .1 .1 .0) (qs .1 .1 .0)) (List._∷_ (Row.lease (κs .1 .1 .1 .0) (qs .1 .1 .1 .0)) (List._∷_ (Row.lease (κs .1 .1 .1 .1 .0) (qs .1 .1 .1 .1 .0)) (List._∷_
-              (Row.lease (κs .1 .1 .1 .1 .1 .0) (qs .1 .1 .1 .1 .1 .0)) (List._∷_ (Row.lease (κs .1 .1 .1 .1 .1 .1 .0) (qs .1 .1 .1 .1 .1 .1 .0)) (List._∷_ (Row.lease (κs .1 .1 .1 .1 .1 .1 .1 .0) (qs .1 .1 .1 .1 .1 .1 .1 .0)) (List._∷_ (Row.lease (κs .1 .1 .1 .1 .1 .1 .1 .1 .0) (qs .1 .1 .1 .1 .1 .1 .1 .1 .0)) (List._∷_ Row.off (List._∷_ Row.off (List._∷_
-              Row.off (List._∷_ Row.off (List._∷_ Row.off (List._∷_ Row.off List.[]))))))))))))));
-        }
+        G11 = record { locals = T11 .locals; slots = slots·0 }
 
         abbrev G13 : Row.Cx
-        G13 = record {
-          locals = List._++_ t0 t1;
-          slots = List._∷_ (Row.lease (κs .0) (qs .0)) (List._∷_ (Row.lease (κs .1 .0) (qs .1 .0)) (List._∷_ (Row.lease (κs .1 .1 .0) (qs .1 .1 .0)) (List._∷_ (Row.lease (κs .1 .1 .1 .0) (qs .1 .1 .1 .0)) (List._∷_ (Row.lease (κs .1 .1 .1 .1 .0) (qs .1 .1 .1 .1 .0)) (List._∷_
-              (Row.lease (κs .1 .1 .1 .1 .1 .0) (qs .1 .1 .1 .1 .1 .0)) (List._∷_ (Row.lease (κs .1 .1 .1 .1 .1 .1 .0) (qs .1 .1 .1 .1 .1 .1 .0)) (List._∷_ (Row.lease (κs .1 .1 .1 .1 .1 .1 .1 .0) (qs .1 .1 .1 .1 .1 .1 .1 .0)) (List._∷_ (Row.lease (κs .1 .1 .1 .1 .1 .1 .1 .1 .0) (qs .1 .1 .1 .1 .1 .1 .1 .1 .0)) (List._∷_ Row.alive (List._∷_ Row.off (List._∷_
-              Row.off (List._∷_ Row.off (List._∷_ Row.off (List._∷_ Row.off List.[]))))))))))))));
-        }
+        G13 = record
+            { locals = T0 .locals; slots = List._∷_ (Row.lease (κs .0) (qs .0)) (List._∷_ (Row.lease (κs .1 .0) (qs .1 .0)) (List._∷_ (Row.lease (κs .1 .1 .0) (qs .1 .1 .0)) (List._∷_ (Row.lease (κs .1 .1 .1 .0) (qs .1 .1 .1 .0)) (List._∷_ (Row.lease (κs .1 .1 .1 .1 .0) (qs .1 .1 .1 .1 .0)) (List._∷_ (Row.lease (κs .1 .1 .1 .1 .1 .0) (qs .1 .1 .1 .1 .1 .0)) (List._∷_ (Row.lease (κs .1 .1 .1 .1 .1 .1 .0) (qs .1 .1 .1 .1 .1 .1 .0)) (List._∷_ (Row.lease (κs .1 .1 .1 .1 .1 .1 .1 .0) (qs .1 .1 .1 .1 .1 .1 .1 .0)) (List._∷_ (Row.lease (κs .1 .1 .1 .1 .1 .1 .1 .1 .0) (qs .1 .1 .1 .1 .1 .1 .1 .1 .0)) (List._∷_ Row.alive (List._∷_ Row.off (List._∷_ Row.off (List._∷_ Row.off (List._∷_ Row.off (List._∷_ Row.off List.[])))))))))))))) }
 
         abbrev G14 : Row.Cx
-        G14 = record {
-          locals = List._++_ g5 t1;
-          slots = List._∷_ (Row.lease (κs .0) (qs .0)) (List._∷_ (Row.lease (κs .1 .0) (qs .1 .0)) (List._∷_ (Row.lease (κs .1 .1 .0) (qs .1 .1 .0)) (List._∷_ (Row.lease (κs .1 .1 .1 .0) (qs .1 .1 .1 .0)) (List._∷_ (Row.lease (κs .1 .1 .1 .1 .0) (qs .1 .1 .1 .1 .0)) (List._∷_
-              (Row.lease (κs .1 .1 .1 .1 .1 .0) (qs .1 .1 .1 .1 .1 .0)) (List._∷_ Row.off (List._∷_ (Row.lease (κs .1 .1 .1 .1 .1 .1 .1 .0) (qs .1 .1 .1 .1 .1 .1 .1 .0)) (List._∷_ (Row.lease (κs .1 .1 .1 .1 .1 .1 .1 .1 .0) (qs .1 .1 .1 .1 .1 .1 .1 .1 .0)) (List._∷_ Row.alive (List._∷_ Row.off (List._∷_ Row.off
-              (List._∷_ Row.off (List._∷_ Row.off (List._∷_ Row.off List.[]))))))))))))));
-        }
+        G14 = record { locals = List._++_ g5 t1; slots = slots·1 }
 
         abbrev G15 : Row.Cx
-        G15 = record {
-          locals = List._++_ g6 t1;
-          slots = List._∷_ (Row.lease (κs .0) (qs .0)) (List._∷_ (Row.lease (κs .1 .0) (qs .1 .0)) (List._∷_ (Row.lease (κs .1 .1 .0) (qs .1 .1 .0)) (List._∷_ (Row.lease (κs .1 .1 .1 .0) (qs .1 .1 .1 .0)) (List._∷_ (Row.lease (κs .1 .1 .1 .1 .0) (qs .1 .1 .1 .1 .0)) (List._∷_
-              (Row.lease (κs .1 .1 .1 .1 .1 .0) (qs .1 .1 .1 .1 .1 .0)) (List._∷_ Row.off (List._∷_ (Row.lease (κs .1 .1 .1 .1 .1 .1 .1 .0) (qs .1 .1 .1 .1 .1 .1 .1 .0)) (List._∷_ (Row.lease (κs .1 .1 .1 .1 .1 .1 .1 .1 .0) (qs .1 .1 .1 .1 .1 .1 .1 .1 .0)) (List._∷_ Row.alive (List._∷_ Row.off (List._∷_ Row.off
-              (List._∷_ Row.off (List._∷_ Row.off (List._∷_ Row.off List.[]))))))))))))));
-        }
+        G15 = record { locals = List._++_ g6 t1; slots = slots·1 }
 
         abbrev G16 : Row.Cx
-        G16 = record {
-          locals = List._++_ g6 t1;
-          slots = List._∷_ (Row.lease (κs .0) (qs .0)) (List._∷_ (Row.lease (κs .1 .0) (qs .1 .0)) (List._∷_ (Row.lease (κs .1 .1 .0) (qs .1 .1 .0)) (List._∷_ (Row.lease (κs .1 .1 .1 .0) (qs .1 .1 .1 .0)) (List._∷_ (Row.lease (κs .1 .1 .1 .1 .0) (qs .1 .1 .1 .1 .0)) (List._∷_
-              (Row.lease (κs .1 .1 .1 .1 .1 .0) (qs .1 .1 .1 .1 .1 .0)) (List._∷_ Row.off (List._∷_ (Row.lease (κs .1 .1 .1 .1 .1 .1 .1 .0) (qs .1 .1 .1 .1 .1 .1 .1 .0)) (List._∷_ (Row.lease (κs .1 .1 .1 .1 .1 .1 .1 .1 .0) (qs .1 .1 .1 .1 .1 .1 .1 .1 .0)) (List._∷_ Row.alive (List._∷_ Row.alive (List._∷_ Row.off
-              (List._∷_ Row.off (List._∷_ Row.off (List._∷_ Row.off List.[]))))))))))))));
-        }
+        G16 = record
+            { locals = List._++_ g6 t1; slots = List._∷_ (Row.lease (κs .0) (qs .0)) (List._∷_ (Row.lease (κs .1 .0) (qs .1 .0)) (List._∷_ (Row.lease (κs .1 .1 .0) (qs .1 .1 .0)) (List._∷_ (Row.lease (κs .1 .1 .1 .0) (qs .1 .1 .1 .0)) (List._∷_ (Row.lease (κs .1 .1 .1 .1 .0) (qs .1 .1 .1 .1 .0)) (List._∷_ (Row.lease (κs .1 .1 .1 .1 .1 .0) (qs .1 .1 .1 .1 .1 .0)) (List._∷_ Row.off (List._∷_ (Row.lease (κs .1 .1 .1 .1 .1 .1 .1 .0) (qs .1 .1 .1 .1 .1 .1 .1 .0)) (List._∷_ (Row.lease (κs .1 .1 .1 .1 .1 .1 .1 .1 .0) (qs .1 .1 .1 .1 .1 .1 .1 .1 .0)) (List._∷_ Row.alive (List._∷_ Row.alive (List._∷_ Row.off (List._∷_ Row.off (List._∷_ Row.off (List._∷_ Row.off List.[])))))))))))))) }
 
         abbrev G17 : Row.Cx
-        G17 = record {
-          locals = List._++_ g7 t1;
-          slots = List._∷_ (Row.lease (κs .0) (qs .0)) (List._∷_ (Row.lease (κs .1 .0) (qs .1 .0)) (List._∷_ (Row.lease (κs .1 .1 .0) (qs .1 .1 .0)) (List._∷_ (Row.lease (κs .1 .1 .1 .0) (qs .1 .1 .1 .0)) (List._∷_ (Row.lease (κs .1 .1 .1 .1 .0) (qs .1 .1 .1 .1 .0)) (List._∷_
-              (Row.lease (κs .1 .1 .1 .1 .1 .0) (qs .1 .1 .1 .1 .1 .0)) (List._∷_ Row.off (List._∷_ Row.off (List._∷_ (Row.lease (κs .1 .1 .1 .1 .1 .1 .1 .1 .0) (qs .1 .1 .1 .1 .1 .1 .1 .1 .0)) (List._∷_ Row.alive (List._∷_ Row.alive (List._∷_ Row.off (List._∷_ Row.off (List._∷_ Row.off (List._∷_ Row.off List.[]))))))))))))));
-        }
+        G17 = record { locals = List._++_ g7 t1; slots = slots·2 }
 
         abbrev G18 : Row.Cx
-        G18 = record {
-          locals = List._++_ g8 t9;
-          slots = List._∷_ (Row.lease (κs .0) (qs .0)) (List._∷_ (Row.lease (κs .1 .0) (qs .1 .0)) (List._∷_ (Row.lease (κs .1 .1 .0) (qs .1 .1 .0)) (List._∷_ (Row.lease (κs .1 .1 .1 .0) (qs .1 .1 .1 .0)) (List._∷_ (Row.lease (κs .1 .1 .1 .1 .0) (qs .1 .1 .1 .1 .0)) (List._∷_
-              (Row.lease (κs .1 .1 .1 .1 .1 .0) (qs .1 .1 .1 .1 .1 .0)) (List._∷_ Row.off (List._∷_ Row.off (List._∷_ (Row.lease (κs .1 .1 .1 .1 .1 .1 .1 .1 .0) (qs .1 .1 .1 .1 .1 .1 .1 .1 .0)) (List._∷_ Row.alive (List._∷_ Row.alive (List._∷_ Row.off (List._∷_ Row.off (List._∷_ Row.off (List._∷_ Row.off List.[]))))))))))))));
-        }
+        G18 = record { locals = List._++_ g8 t9; slots = slots·2 }
 
         abbrev G19 : Row.Cx
-        G19 = record {
-          locals = List._++_ g8 t10;
-          slots = List._∷_ (Row.lease (κs .0) (qs .0)) (List._∷_ (Row.lease (κs .1 .0) (qs .1 .0)) (List._∷_ (Row.lease (κs .1 .1 .0) (qs .1 .1 .0)) (List._∷_ (Row.lease (κs .1 .1 .1 .0) (qs .1 .1 .1 .0)) (List._∷_ (Row.lease (κs .1 .1 .1 .1 .0) (qs .1 .1 .1 .1 .0)) (List._∷_
-              (Row.lease (κs .1 .1 .1 .1 .1 .0) (qs .1 .1 .1 .1 .1 .0)) (List._∷_ Row.off (List._∷_ Row.off (List._∷_ (Row.lease (κs .1 .1 .1 .1 .1 .1 .1 .1 .0) (qs .1 .1 .1 .1 .1 .1 .1 .1 .0)) (List._∷_ Row.alive (List._∷_ Row.alive (List._∷_ Row.off (List._∷_ Row.off (List._∷_ Row.off (List._∷_ Row.off List.[]))))))))))))));
-        }
+        G19 = record { locals = List._++_ g8 t10; slots = slots·2 }
 
         abbrev G20 : Row.Cx
-        G20 = record {
-          locals = List._++_ g11 t10;
-          slots = List._∷_ (Row.lease (κs .0) (qs .0)) (List._∷_ (Row.lease (κs .1 .0) (qs .1 .0)) (List._∷_ (Row.lease (κs .1 .1 .0) (qs .1 .1 .0)) (List._∷_ (Row.lease (κs .1 .1 .1 .0) (qs .1 .1 .1 .0)) (List._∷_ (Row.lease (κs .1 .1 .1 .1 .0) (qs .1 .1 .1 .1 .0)) (List._∷_
-              (Row.lease (κs .1 .1 .1 .1 .1 .0) (qs .1 .1 .1 .1 .1 .0)) (List._∷_ Row.off (List._∷_ Row.off (List._∷_ (Row.lease (κs .1 .1 .1 .1 .1 .1 .1 .1 .0) (qs .1 .1 .1 .1 .1 .1 .1 .1 .0)) (List._∷_ Row.alive (List._∷_ Row.alive (List._∷_ Row.off (List._∷_ Row.off (List._∷_ Row.off (List._∷_ Row.off List.[]))))))))))))));
-        }
+        G20 = record { locals = List._++_ g11 t10; slots = slots·2 }
 
         abbrev G21 : Row.Cx
-        G21 = record {
-          locals = List._++_ g12 t13;
-          slots = List._∷_ (Row.lease (κs .0) (qs .0)) (List._∷_ (Row.lease (κs .1 .0) (qs .1 .0)) (List._∷_ (Row.lease (κs .1 .1 .0) (qs .1 .1 .0)) (List._∷_ (Row.lease (κs .1 .1 .1 .0) (qs .1 .1 .1 .0)) (List._∷_ (Row.lease (κs .1 .1 .1 .1 .0) (qs .1 .1 .1 .1 .0)) (List._∷_
-              (Row.lease (κs .1 .1 .1 .1 .1 .0) (qs .1 .1 .1 .1 .1 .0)) (List._∷_ Row.off (List._∷_ Row.off (List._∷_ (Row.lease (κs .1 .1 .1 .1 .1 .1 .1 .1 .0) (qs .1 .1 .1 .1 .1 .1 .1 .1 .0)) (List._∷_ Row.alive (List._∷_ Row.alive (List._∷_ Row.off (List._∷_ Row.off (List._∷_ Row.off (List._∷_ Row.off List.[]))))))))))))));
-        }
+        G21 = record { locals = List._++_ g12 t13; slots = slots·2 }
 
         abbrev G22 : Row.Cx
-        G22 = record {
-          locals = List._++_ g12 t14;
-          slots = List._∷_ (Row.lease (κs .0) (qs .0)) (List._∷_ (Row.lease (κs .1 .0) (qs .1 .0)) (List._∷_ (Row.lease (κs .1 .1 .0) (qs .1 .1 .0)) (List._∷_ (Row.lease (κs .1 .1 .1 .0) (qs .1 .1 .1 .0)) (List._∷_ (Row.lease (κs .1 .1 .1 .1 .0) (qs .1 .1 .1 .1 .0)) (List._∷_
-              (Row.lease (κs .1 .1 .1 .1 .1 .0) (qs .1 .1 .1 .1 .1 .0)) (List._∷_ Row.off (List._∷_ Row.off (List._∷_ (Row.lease (κs .1 .1 .1 .1 .1 .1 .1 .1 .0) (qs .1 .1 .1 .1 .1 .1 .1 .1 .0)) (List._∷_ Row.alive (List._∷_ Row.alive (List._∷_ Row.off (List._∷_ Row.off (List._∷_ Row.off (List._∷_ Row.off List.[]))))))))))))));
-        }
+        G22 = record { locals = List._++_ g12 t14; slots = slots·2 }
 
         abbrev G23 : Row.Cx
-        G23 = record {
-          locals = List._++_ g12 t14;
-          slots = List._∷_ (Row.lease (κs .0) (qs .0)) (List._∷_ (Row.lease (κs .1 .0) (qs .1 .0)) (List._∷_ (Row.lease (κs .1 .1 .0) (qs .1 .1 .0)) (List._∷_ (Row.lease (κs .1 .1 .1 .0) (qs .1 .1 .1 .0)) (List._∷_ (Row.lease (κs .1 .1 .1 .1 .0) (qs .1 .1 .1 .1 .0)) (List._∷_
-              (Row.lease (κs .1 .1 .1 .1 .1 .0) (qs .1 .1 .1 .1 .1 .0)) (List._∷_ Row.off (List._∷_ Row.off (List._∷_ (Row.lease (κs .1 .1 .1 .1 .1 .1 .1 .1 .0) (qs .1 .1 .1 .1 .1 .1 .1 .1 .0)) (List._∷_ Row.dead (List._∷_ Row.alive (List._∷_ Row.off (List._∷_ Row.off (List._∷_ Row.off (List._∷_ Row.off List.[]))))))))))))));
-        }
+        G23 = record
+            { locals = List._++_ g12 t14; slots = List._∷_ (Row.lease (κs .0) (qs .0)) (List._∷_ (Row.lease (κs .1 .0) (qs .1 .0)) (List._∷_ (Row.lease (κs .1 .1 .0) (qs .1 .1 .0)) (List._∷_ (Row.lease (κs .1 .1 .1 .0) (qs .1 .1 .1 .0)) (List._∷_ (Row.lease (κs .1 .1 .1 .1 .0) (qs .1 .1 .1 .1 .0)) (List._∷_ (Row.lease (κs .1 .1 .1 .1 .1 .0) (qs .1 .1 .1 .1 .1 .0)) (List._∷_ Row.off (List._∷_ Row.off (List._∷_ (Row.lease (κs .1 .1 .1 .1 .1 .1 .1 .1 .0) (qs .1 .1 .1 .1 .1 .1 .1 .1 .0)) (List._∷_ Row.dead (List._∷_ Row.alive (List._∷_ Row.off (List._∷_ Row.off (List._∷_ Row.off (List._∷_ Row.off List.[])))))))))))))) }
 
         abbrev G24 : Row.Cx
-        G24 = record {
-          locals = List._++_ g15 t14;
-          slots = List._∷_ (Row.lease (κs .0) (qs .0)) (List._∷_ (Row.lease (κs .1 .0) (qs .1 .0)) (List._∷_ (Row.lease (κs .1 .1 .0) (qs .1 .1 .0)) (List._∷_ (Row.lease (κs .1 .1 .1 .0) (qs .1 .1 .1 .0)) (List._∷_ (Row.lease (κs .1 .1 .1 .1 .0) (qs .1 .1 .1 .1 .0)) (List._∷_
-              (Row.lease (κs .1 .1 .1 .1 .1 .0) (qs .1 .1 .1 .1 .1 .0)) (List._∷_ (Row.lease (κs .1 .1 .1 .1 .1 .1 .0) (qs .1 .1 .1 .1 .1 .1 .0)) (List._∷_ Row.off (List._∷_ (Row.lease (κs .1 .1 .1 .1 .1 .1 .1 .1 .0) (qs .1 .1 .1 .1 .1 .1 .1 .1 .0)) (List._∷_ Row.dead (List._∷_ Row.alive (List._∷_ Row.off
-              (List._∷_ Row.off (List._∷_ Row.off (List._∷_ Row.off List.[]))))))))))))));
-        }
-
-        abbrev G25 : Row.Cx
-        G25 = record {
-          locals = List._++_ g15 t14;
-          slots = List._∷_ (Row.lease (κs .0) (qs .0)) (List._∷_ (Row.lease (κs .1 .0) (qs .1 .0)) (List._∷_ (Row.lease (κs .1 .1 .0) (qs .1 .1 .0)) (List._∷_ (Row.lease (κs .1 .1 .1 .0) (qs .1 .1 .1 .0)) (List._∷_ (Row.lease (κs .1 .1 .1 .1 .0) (qs .1 .1 .1 .1 .0)) (List._∷_
-              (Row.lease (κs .1 .1 .1 .1 .1 .0) (qs .1 .1 .1 .1 .1 .0)) (List._∷_ (Row.lease (κs .1 .1 .1 .1 .1 .1 .0) (qs .1 .1 .1 .1 .1 .1 .0)) (List._∷_ Row.off (List._∷_ (Row.lease (κs .1 .1 .1 .1 .1 .1 .1 .1 .0) (qs .1 .1 .1 .1 .1 .1 .1 .1 .0)) (List._∷_ Row.dead (List._∷_ Row.alive (List._∷_ Row.off
-              (List._∷_ Row.off (List._∷_ Row.off (List._∷_ Row.off List.[]))))))))))))));
-        }
+        G24 = record { locals = List._++_ g15 t14; slots = slots·3 }
 
         abbrev G26 : Row.Cx
-        G26 = record {
-          locals = List._++_ g15 t14;
-          slots = List._∷_ (Row.lease (κs .0) (qs .0)) (List._∷_ (Row.lease (κs .1 .0) (qs .1 .0)) (List._∷_ (Row.lease (κs .1 .1 .0) (qs .1 .1 .0)) (List._∷_ (Row.lease (κs .1 .1 .1 .0) (qs .1 .1 .1 .0)) (List._∷_ (Row.lease (κs .1 .1 .1 .1 .0) (qs .1 .1 .1 .1 .0)) (List._∷_
-              (Row.lease (κs .1 .1 .1 .1 .1 .0) (qs .1 .1 .1 .1 .1 .0)) (List._∷_ (Row.lease (κs .1 .1 .1 .1 .1 .1 .0) (qs .1 .1 .1 .1 .1 .1 .0)) (List._∷_ Row.off (List._∷_ (Row.lease (κs .1 .1 .1 .1 .1 .1 .1 .1 .0) (qs .1 .1 .1 .1 .1 .1 .1 .1 .0)) (List._∷_ Row.off (List._∷_ Row.alive (List._∷_ Row.off
-              (List._∷_ Row.off (List._∷_ Row.off (List._∷_ Row.off List.[]))))))))))))));
-        }
+        G26 = record
+            { locals = List._++_ g15 t14; slots = List._∷_ (Row.lease (κs .0) (qs .0)) (List._∷_ (Row.lease (κs .1 .0) (qs .1 .0)) (List._∷_ (Row.lease (κs .1 .1 .0) (qs .1 .1 .0)) (List._∷_ (Row.lease (κs .1 .1 .1 .0) (qs .1 .1 .1 .0)) (List._∷_ (Row.lease (κs .1 .1 .1 .1 .0) (qs .1 .1 .1 .1 .0)) (List._∷_ (Row.lease (κs .1 .1 .1 .1 .1 .0) (qs .1 .1 .1 .1 .1 .0)) (List._∷_ (Row.lease (κs .1 .1 .1 .1 .1 .1 .0) (qs .1 .1 .1 .1 .1 .1 .0)) (List._∷_ Row.off (List._∷_ (Row.lease (κs .1 .1 .1 .1 .1 .1 .1 .1 .0) (qs .1 .1 .1 .1 .1 .1 .1 .1 .0)) (List._∷_ Row.off (List._∷_ Row.alive (List._∷_ Row.off (List._∷_ Row.off (List._∷_ Row.off (List._∷_ Row.off List.[])))))))))))))) }
 
         abbrev G27 : Row.Cx
-        G27 = record {
-          locals = List._++_ g15 t14;
-          slots = List._∷_ (Row.lease (κs .0) (qs .0)) (List._∷_ (Row.lease (κs .1 .0) (qs .1 .0)) (List._∷_ (Row.lease (κs .1 .1 .0) (qs .1 .1 .0)) (List._∷_ (Row.lease (κs .1 .1 .1 .0) (qs .1 .1 .1 .0)) (List._∷_ (Row.lease (κs .1 .1 .1 .1 .0) (qs .1 .1 .1 .1 .0)) (List._∷_
-              (Row.lease (κs .1 .1 .1 .1 .1 .0) (qs .1 .1 .1 .1 .1 .0)) (List._∷_ (Row.lease (κs .1 .1 .1 .1 .1 .1 .0) (qs .1 .1 .1 .1 .1 .1 .0)) (List._∷_ Row.off (List._∷_ (Row.lease (κs .1 .1 .1 .1 .1 .1 .1 .1 .0) (qs .1 .1 .1 .1 .1 .1 .1 .1 .0)) (List._∷_ Row.off (List._∷_ Row.dead (List._∷_ Row.off
-              (List._∷_ Row.off (List._∷_ Row.off (List._∷_ Row.off List.[]))))))))))))));
-        }
+        G27 = record
+            { locals = List._++_ g15 t14; slots = List._∷_ (Row.lease (κs .0) (qs .0)) (List._∷_ (Row.lease (κs .1 .0) (qs .1 .0)) (List._∷_ (Row.lease (κs .1 .1 .0) (qs .1 .1 .0)) (List._∷_ (Row.lease (κs .1 .1 .1 .0) (qs .1 .1 .1 .0)) (List._∷_ (Row.lease (κs .1 .1 .1 .1 .0) (qs .1 .1 .1 .1 .0)) (List._∷_ (Row.lease (κs .1 .1 .1 .1 .1 .0) (qs .1 .1 .1 .1 .1 .0)) (List._∷_ (Row.lease (κs .1 .1 .1 .1 .1 .1 .0) (qs .1 .1 .1 .1 .1 .1 .0)) (List._∷_ Row.off (List._∷_ (Row.lease (κs .1 .1 .1 .1 .1 .1 .1 .1 .0) (qs .1 .1 .1 .1 .1 .1 .1 .1 .0)) (List._∷_ Row.off (List._∷_ Row.dead (List._∷_ Row.off (List._∷_ Row.off (List._∷_ Row.off (List._∷_ Row.off List.[])))))))))))))) }
 
         abbrev G28 : Row.Cx
-        G28 = record {
-          locals = List._++_ t16 t1;
-          slots = List._∷_ (Row.lease (κs .0) (qs .0)) (List._∷_ (Row.lease (κs .1 .0) (qs .1 .0)) (List._∷_ (Row.lease (κs .1 .1 .0) (qs .1 .1 .0)) (List._∷_ (Row.lease (κs .1 .1 .1 .0) (qs .1 .1 .1 .0)) (List._∷_ (Row.lease (κs .1 .1 .1 .1 .0) (qs .1 .1 .1 .1 .0)) (List._∷_
-              (Row.lease (κs .1 .1 .1 .1 .1 .0) (qs .1 .1 .1 .1 .1 .0)) (List._∷_ (Row.lease (κs .1 .1 .1 .1 .1 .1 .0) (qs .1 .1 .1 .1 .1 .1 .0)) (List._∷_ (Row.lease (κs .1 .1 .1 .1 .1 .1 .1 .0) (qs .1 .1 .1 .1 .1 .1 .1 .0)) (List._∷_ (Row.lease (κs .1 .1 .1 .1 .1 .1 .1 .1 .0) (qs .1 .1 .1 .1 .1 .1 .1 .1 .0)) (List._∷_ Row.off (List._∷_ Row.dead (List._∷_
-              Row.off (List._∷_ Row.off (List._∷_ Row.off (List._∷_ Row.off List.[]))))))))))))));
-        }
-
-        abbrev G29 : Row.Cx
-        G29 = record {
-          locals = List._++_ t16 t1;
-          slots = List._∷_ (Row.lease (κs .0) (qs .0)) (List._∷_ (Row.lease (κs .1 .0) (qs .1 .0)) (List._∷_ (Row.lease (κs .1 .1 .0) (qs .1 .1 .0)) (List._∷_ (Row.lease (κs .1 .1 .1 .0) (qs .1 .1 .1 .0)) (List._∷_ (Row.lease (κs .1 .1 .1 .1 .0) (qs .1 .1 .1 .1 .0)) (List._∷_
-              (Row.lease (κs .1 .1 .1 .1 .1 .0) (qs .1 .1 .1 .1 .1 .0)) (List._∷_ (Row.lease (κs .1 .1 .1 .1 .1 .1 .0) (qs .1 .1 .1 .1 .1 .1 .0)) (List._∷_ (Row.lease (κs .1 .1 .1 .1 .1 .1 .1 .0) (qs .1 .1 .1 .1 .1 .1 .1 .0)) (List._∷_ (Row.lease (κs .1 .1 .1 .1 .1 .1 .1 .1 .0) (qs .1 .1 .1 .1 .1 .1 .1 .1 .0)) (List._∷_ Row.off (List._∷_ Row.dead (List._∷_
-              Row.off (List._∷_ Row.off (List._∷_ Row.off (List._∷_ Row.off List.[]))))))))))))));
-        }
+        G28 = record { locals = T28 .locals; slots = slots·4 }
 
         abbrev G30 : Row.Cx
-        G30 = record {
-          locals = List._++_ t16 t1;
-          slots = List._∷_ (Row.lease (κs .0) (qs .0)) (List._∷_ (Row.lease (κs .1 .0) (qs .1 .0)) (List._∷_ (Row.lease (κs .1 .1 .0) (qs .1 .1 .0)) (List._∷_ (Row.lease (κs .1 .1 .1 .0) (qs .1 .1 .1 .0)) (List._∷_ (Row.lease (κs .1 .1 .1 .1 .0) (qs .1 .1 .1 .1 .0)) (List._∷_
-              (Row.lease (κs .1 .1 .1 .1 .1 .0) (qs .1 .1 .1 .1 .1 .0)) (List._∷_ (Row.lease (κs .1 .1 .1 .1 .1 .1 .0) (qs .1 .1 .1 .1 .1 .1 .0)) (List._∷_ (Row.lease (κs .1 .1 .1 .1 .1 .1 .1 .0) (qs .1 .1 .1 .1 .1 .1 .1 .0)) (List._∷_ (Row.lease (κs .1 .1 .1 .1 .1 .1 .1 .1 .0) (qs .1 .1 .1 .1 .1 .1 .1 .1 .0)) (List._∷_ Row.off (List._∷_ Row.off (List._∷_
-              Row.off (List._∷_ Row.off (List._∷_ Row.off (List._∷_ Row.off List.[]))))))))))))));
-        }
+        G30 = record { locals = T28 .locals; slots = slots·0 }
 
         abbrev G31 : Row.Cx
-        G31 = record {
-          locals = List._++_ t16 t17;
-          slots = List._∷_ (Row.lease (κs .0) (qs .0)) (List._∷_ (Row.lease (κs .1 .0) (qs .1 .0)) (List._∷_ (Row.lease (κs .1 .1 .0) (qs .1 .1 .0)) (List._∷_ (Row.lease (κs .1 .1 .1 .0) (qs .1 .1 .1 .0)) (List._∷_ (Row.lease (κs .1 .1 .1 .1 .0) (qs .1 .1 .1 .1 .0)) (List._∷_
-              (Row.lease (κs .1 .1 .1 .1 .1 .0) (qs .1 .1 .1 .1 .1 .0)) (List._∷_ (Row.lease (κs .1 .1 .1 .1 .1 .1 .0) (qs .1 .1 .1 .1 .1 .1 .0)) (List._∷_ (Row.lease (κs .1 .1 .1 .1 .1 .1 .1 .0) (qs .1 .1 .1 .1 .1 .1 .1 .0)) (List._∷_ (Row.lease (κs .1 .1 .1 .1 .1 .1 .1 .1 .0) (qs .1 .1 .1 .1 .1 .1 .1 .1 .0)) (List._∷_ Row.off (List._∷_ Row.off (List._∷_
-              Row.off (List._∷_ Row.off (List._∷_ Row.off (List._∷_ Row.off List.[]))))))))))))));
-        }
+        G31 = record { locals = T31 .locals; slots = slots·0 }
 
         abbrev G32 : Row.Cx
-        G32 = record {
-          locals = List._++_ t16 t18;
-          slots = List._∷_ (Row.lease (κs .0) (qs .0)) (List._∷_ (Row.lease (κs .1 .0) (qs .1 .0)) (List._∷_ (Row.lease (κs .1 .1 .0) (qs .1 .1 .0)) (List._∷_ (Row.lease (κs .1 .1 .1 .0) (qs .1 .1 .1 .0)) (List._∷_ (Row.lease (κs .1 .1 .1 .1 .0) (qs .1 .1 .1 .1 .0)) (List._∷_
-              (Row.lease (κs .1 .1 .1 .1 .1 .0) (qs .1 .1 .1 .1 .1 .0)) (List._∷_ (Row.lease (κs .1 .1 .1 .1 .1 .1 .0) (qs .1 .1 .1 .1 .1 .1 .0)) (List._∷_ (Row.lease (κs .1 .1 .1 .1 .1 .1 .1 .0) (qs .1 .1 .1 .1 .1 .1 .1 .0)) (List._∷_ (Row.lease (κs .1 .1 .1 .1 .1 .1 .1 .1 .0) (qs .1 .1 .1 .1 .1 .1 .1 .1 .0)) (List._∷_ Row.off (List._∷_ Row.off (List._∷_
-              Row.off (List._∷_ Row.off (List._∷_ Row.off (List._∷_ Row.off List.[]))))))))))))));
-        }
-
-        abbrev G33 : Row.Cx
-        G33 = record {
-          locals = List._++_ t4 t1;
-          slots = List._∷_ (Row.lease (κs .0) (qs .0)) (List._∷_ (Row.lease (κs .1 .0) (qs .1 .0)) (List._∷_ (Row.lease (κs .1 .1 .0) (qs .1 .1 .0)) (List._∷_ (Row.lease (κs .1 .1 .1 .0) (qs .1 .1 .1 .0)) (List._∷_ (Row.lease (κs .1 .1 .1 .1 .0) (qs .1 .1 .1 .1 .0)) (List._∷_
-              (Row.lease (κs .1 .1 .1 .1 .1 .0) (qs .1 .1 .1 .1 .1 .0)) (List._∷_ (Row.lease (κs .1 .1 .1 .1 .1 .1 .0) (qs .1 .1 .1 .1 .1 .1 .0)) (List._∷_ (Row.lease (κs .1 .1 .1 .1 .1 .1 .1 .0) (qs .1 .1 .1 .1 .1 .1 .1 .0)) (List._∷_ (Row.lease (κs .1 .1 .1 .1 .1 .1 .1 .1 .0) (qs .1 .1 .1 .1 .1 .1 .1 .1 .0)) (List._∷_ Row.off (List._∷_ Row.off (List._∷_
-              Row.off (List._∷_ Row.off (List._∷_ Row.off (List._∷_ Row.off List.[]))))))))))))));
-        }
+        G32 = record { locals = T32 .locals; slots = slots·0 }
 
         abbrev G34 : Row.Cx
-        G34 = record {
-          locals = List._++_ t16 t19;
-          slots = List._∷_ (Row.lease (κs .0) (qs .0)) (List._∷_ (Row.lease (κs .1 .0) (qs .1 .0)) (List._∷_ (Row.lease (κs .1 .1 .0) (qs .1 .1 .0)) (List._∷_ (Row.lease (κs .1 .1 .1 .0) (qs .1 .1 .1 .0)) (List._∷_ (Row.lease (κs .1 .1 .1 .1 .0) (qs .1 .1 .1 .1 .0)) (List._∷_
-              (Row.lease (κs .1 .1 .1 .1 .1 .0) (qs .1 .1 .1 .1 .1 .0)) (List._∷_ (Row.lease (κs .1 .1 .1 .1 .1 .1 .0) (qs .1 .1 .1 .1 .1 .1 .0)) (List._∷_ (Row.lease (κs .1 .1 .1 .1 .1 .1 .1 .0) (qs .1 .1 .1 .1 .1 .1 .1 .0)) (List._∷_ (Row.lease (κs .1 .1 .1 .1 .1 .1 .1 .1 .0) (qs .1 .1 .1 .1 .1 .1 .1 .1 .0)) (List._∷_ Row.off (List._∷_ Row.off (List._∷_
-              Row.off (List._∷_ Row.off (List._∷_ Row.off (List._∷_ Row.off List.[]))))))))))))));
-        }
-
-        abbrev G35 : Row.Cx
-        G35 = record {
-          locals = List._++_ t16 t1;
-          slots = List._∷_ (Row.lease (κs .0) (qs .0)) (List._∷_ (Row.lease (κs .1 .0) (qs .1 .0)) (List._∷_ (Row.lease (κs .1 .1 .0) (qs .1 .1 .0)) (List._∷_ (Row.lease (κs .1 .1 .1 .0) (qs .1 .1 .1 .0)) (List._∷_ (Row.lease (κs .1 .1 .1 .1 .0) (qs .1 .1 .1 .1 .0)) (List._∷_
-              (Row.lease (κs .1 .1 .1 .1 .1 .0) (qs .1 .1 .1 .1 .1 .0)) (List._∷_ (Row.lease (κs .1 .1 .1 .1 .1 .1 .0) (qs .1 .1 .1 .1 .1 .1 .0)) (List._∷_ (Row.lease (κs .1 .1 .1 .1 .1 .1 .1 .0) (qs .1 .1 .1 .1 .1 .1 .1 .0)) (List._∷_ (Row.lease (κs .1 .1 .1 .1 .1 .1 .1 .1 .0) (qs .1 .1 .1 .1 .1 .1 .1 .1 .0)) (List._∷_ Row.off (List._∷_ Row.off (List._∷_
-              Row.off (List._∷_ Row.off (List._∷_ Row.off (List._∷_ Row.off List.[]))))))))))))));
-        }
+        G34 = record { locals = T34 .locals; slots = slots·0 }
 
         abbrev G36 : Row.Cx
-        G36 = record {
-          locals = List._++_ t20 t1;
-          slots = List._∷_ (Row.lease (κs .0) (qs .0)) (List._∷_ (Row.lease (κs .1 .0) (qs .1 .0)) (List._∷_ (Row.lease (κs .1 .1 .0) (qs .1 .1 .0)) (List._∷_ (Row.lease (κs .1 .1 .1 .0) (qs .1 .1 .1 .0)) (List._∷_ (Row.lease (κs .1 .1 .1 .1 .0) (qs .1 .1 .1 .1 .0)) (List._∷_
-              (Row.lease (κs .1 .1 .1 .1 .1 .0) (qs .1 .1 .1 .1 .1 .0)) (List._∷_ (Row.lease (κs .1 .1 .1 .1 .1 .1 .0) (qs .1 .1 .1 .1 .1 .1 .0)) (List._∷_ (Row.lease (κs .1 .1 .1 .1 .1 .1 .1 .0) (qs .1 .1 .1 .1 .1 .1 .1 .0)) (List._∷_ (Row.lease (κs .1 .1 .1 .1 .1 .1 .1 .1 .0) (qs .1 .1 .1 .1 .1 .1 .1 .1 .0)) (List._∷_ Row.off (List._∷_ Row.off (List._∷_
-              Row.off (List._∷_ Row.off (List._∷_ Row.off (List._∷_ Row.off List.[]))))))))))))));
-        }
-
-        abbrev G37 : Row.Cx
-        G37 = record {
-          locals = List._++_ t2 t1;
-          slots = List._∷_ (Row.lease (κs .0) (qs .0)) (List._∷_ (Row.lease (κs .1 .0) (qs .1 .0)) (List._∷_ (Row.lease (κs .1 .1 .0) (qs .1 .1 .0)) (List._∷_ (Row.lease (κs .1 .1 .1 .0) (qs .1 .1 .1 .0)) (List._∷_ (Row.lease (κs .1 .1 .1 .1 .0) (qs .1 .1 .1 .1 .0)) (List._∷_
-              (Row.lease (κs .1 .1 .1 .1 .1 .0) (qs .1 .1 .1 .1 .1 .0)) (List._∷_ (Row.lease (κs .1 .1 .1 .1 .1 .1 .0) (qs .1 .1 .1 .1 .1 .1 .0)) (List._∷_ (Row.lease (κs .1 .1 .1 .1 .1 .1 .1 .0) (qs .1 .1 .1 .1 .1 .1 .1 .0)) (List._∷_ (Row.lease (κs .1 .1 .1 .1 .1 .1 .1 .1 .0) (qs .1 .1 .1 .1 .1 .1 .1 .1 .0)) (List._∷_ Row.off (List._∷_ Row.off (List._∷_
-              Row.off (List._∷_ Row.off (List._∷_ Row.off (List._∷_ Row.off List.[]))))))))))))));
-        }
+        G36 = record { locals = T36 .locals; slots = slots·0 }
 
         abbrev G38 : Row.Cx
-        G38 = record {
-          locals = List._++_ t4 t19;
-          slots = List._∷_ (Row.lease (κs .0) (qs .0)) (List._∷_ (Row.lease (κs .1 .0) (qs .1 .0)) (List._∷_ (Row.lease (κs .1 .1 .0) (qs .1 .1 .0)) (List._∷_ (Row.lease (κs .1 .1 .1 .0) (qs .1 .1 .1 .0)) (List._∷_ (Row.lease (κs .1 .1 .1 .1 .0) (qs .1 .1 .1 .1 .0)) (List._∷_
-              (Row.lease (κs .1 .1 .1 .1 .1 .0) (qs .1 .1 .1 .1 .1 .0)) (List._∷_ (Row.lease (κs .1 .1 .1 .1 .1 .1 .0) (qs .1 .1 .1 .1 .1 .1 .0)) (List._∷_ (Row.lease (κs .1 .1 .1 .1 .1 .1 .1 .0) (qs .1 .1 .1 .1 .1 .1 .1 .0)) (List._∷_ (Row.lease (κs .1 .1 .1 .1 .1 .1 .1 .1 .0) (qs .1 .1 .1 .1 .1 .1 .1 .1 .0)) (List._∷_ Row.off (List._∷_ Row.off (List._∷_
-              Row.off (List._∷_ Row.off (List._∷_ Row.off (List._∷_ Row.off List.[]))))))))))))));
-        }
-
-        abbrev G39 : Row.Cx
-        G39 = record {
-          locals = List._++_ t4 t1;
-          slots = List._∷_ (Row.lease (κs .0) (qs .0)) (List._∷_ (Row.lease (κs .1 .0) (qs .1 .0)) (List._∷_ (Row.lease (κs .1 .1 .0) (qs .1 .1 .0)) (List._∷_ (Row.lease (κs .1 .1 .1 .0) (qs .1 .1 .1 .0)) (List._∷_ (Row.lease (κs .1 .1 .1 .1 .0) (qs .1 .1 .1 .1 .0)) (List._∷_
-              (Row.lease (κs .1 .1 .1 .1 .1 .0) (qs .1 .1 .1 .1 .1 .0)) (List._∷_ (Row.lease (κs .1 .1 .1 .1 .1 .1 .0) (qs .1 .1 .1 .1 .1 .1 .0)) (List._∷_ (Row.lease (κs .1 .1 .1 .1 .1 .1 .1 .0) (qs .1 .1 .1 .1 .1 .1 .1 .0)) (List._∷_ (Row.lease (κs .1 .1 .1 .1 .1 .1 .1 .1 .0) (qs .1 .1 .1 .1 .1 .1 .1 .1 .0)) (List._∷_ Row.off (List._∷_ Row.off (List._∷_
-              Row.off (List._∷_ Row.off (List._∷_ Row.off (List._∷_ Row.off List.[]))))))))))))));
-        }
+        G38 = record { locals = T38 .locals; slots = slots·0 }
 
         abbrev G40 : Row.Cx
-        G40 = record {
-          locals = List._++_ t4 t1;
-          slots = List._∷_ (Row.lease (κs .0) (qs .0)) (List._∷_ (Row.lease (κs .1 .0) (qs .1 .0)) (List._∷_ (Row.lease (κs .1 .1 .0) (qs .1 .1 .0)) (List._∷_ (Row.lease (κs .1 .1 .1 .0) (qs .1 .1 .1 .0)) (List._∷_ (Row.lease (κs .1 .1 .1 .1 .0) (qs .1 .1 .1 .1 .0)) (List._∷_
-              (Row.lease (κs .1 .1 .1 .1 .1 .0) (qs .1 .1 .1 .1 .1 .0)) (List._∷_ (Row.lease (κs .1 .1 .1 .1 .1 .1 .0) (qs .1 .1 .1 .1 .1 .1 .0)) (List._∷_ (Row.lease (κs .1 .1 .1 .1 .1 .1 .1 .0) (qs .1 .1 .1 .1 .1 .1 .1 .0)) (List._∷_ (Row.lease (κs .1 .1 .1 .1 .1 .1 .1 .1 .0) (qs .1 .1 .1 .1 .1 .1 .1 .1 .0)) (List._∷_ Row.off (List._∷_ Row.off (List._∷_
-              Row.alive (List._∷_ Row.off (List._∷_ Row.off (List._∷_ Row.off List.[]))))))))))))));
-        }
+        G40 = record
+            { locals = T11 .locals; slots = List._∷_ (Row.lease (κs .0) (qs .0)) (List._∷_ (Row.lease (κs .1 .0) (qs .1 .0)) (List._∷_ (Row.lease (κs .1 .1 .0) (qs .1 .1 .0)) (List._∷_ (Row.lease (κs .1 .1 .1 .0) (qs .1 .1 .1 .0)) (List._∷_ (Row.lease (κs .1 .1 .1 .1 .0) (qs .1 .1 .1 .1 .0)) (List._∷_ (Row.lease (κs .1 .1 .1 .1 .1 .0) (qs .1 .1 .1 .1 .1 .0)) (List._∷_ (Row.lease (κs .1 .1 .1 .1 .1 .1 .0) (qs .1 .1 .1 .1 .1 .1 .0)) (List._∷_ (Row.lease (κs .1 .1 .1 .1 .1 .1 .1 .0) (qs .1 .1 .1 .1 .1 .1 .1 .0)) (List._∷_ (Row.lease (κs .1 .1 .1 .1 .1 .1 .1 .1 .0) (qs .1 .1 .1 .1 .1 .1 .1 .1 .0)) (List._∷_ Row.off (List._∷_ Row.off (List._∷_ Row.alive (List._∷_ Row.off (List._∷_ Row.off (List._∷_ Row.off List.[])))))))))))))) }
 
         abbrev G41 : Row.Cx
-        G41 = record {
-          locals = List._++_ g21 t22;
-          slots = List._∷_ (Row.lease (κs .0) (qs .0)) (List._∷_ (Row.lease (κs .1 .0) (qs .1 .0)) (List._∷_ (Row.lease (κs .1 .1 .0) (qs .1 .1 .0)) (List._∷_ (Row.lease (κs .1 .1 .1 .0) (qs .1 .1 .1 .0)) (List._∷_ (Row.lease (κs .1 .1 .1 .1 .0) (qs .1 .1 .1 .1 .0)) (List._∷_
-              (Row.lease (κs .1 .1 .1 .1 .1 .0) (qs .1 .1 .1 .1 .1 .0)) (List._∷_ Row.off (List._∷_ (Row.lease (κs .1 .1 .1 .1 .1 .1 .1 .0) (qs .1 .1 .1 .1 .1 .1 .1 .0)) (List._∷_ (Row.lease (κs .1 .1 .1 .1 .1 .1 .1 .1 .0) (qs .1 .1 .1 .1 .1 .1 .1 .1 .0)) (List._∷_ Row.off (List._∷_ Row.off (List._∷_ Row.alive
-              (List._∷_ Row.off (List._∷_ Row.off (List._∷_ Row.off List.[]))))))))))))));
-        }
+        G41 = record { locals = List._++_ g21 t22; slots = slots·5 }
 
         abbrev G42 : Row.Cx
-        G42 = record {
-          locals = List._++_ g21 t23;
-          slots = List._∷_ (Row.lease (κs .0) (qs .0)) (List._∷_ (Row.lease (κs .1 .0) (qs .1 .0)) (List._∷_ (Row.lease (κs .1 .1 .0) (qs .1 .1 .0)) (List._∷_ (Row.lease (κs .1 .1 .1 .0) (qs .1 .1 .1 .0)) (List._∷_ (Row.lease (κs .1 .1 .1 .1 .0) (qs .1 .1 .1 .1 .0)) (List._∷_
-              (Row.lease (κs .1 .1 .1 .1 .1 .0) (qs .1 .1 .1 .1 .1 .0)) (List._∷_ Row.off (List._∷_ (Row.lease (κs .1 .1 .1 .1 .1 .1 .1 .0) (qs .1 .1 .1 .1 .1 .1 .1 .0)) (List._∷_ (Row.lease (κs .1 .1 .1 .1 .1 .1 .1 .1 .0) (qs .1 .1 .1 .1 .1 .1 .1 .1 .0)) (List._∷_ Row.off (List._∷_ Row.off (List._∷_ Row.alive
-              (List._∷_ Row.off (List._∷_ Row.off (List._∷_ Row.off List.[]))))))))))))));
-        }
+        G42 = record { locals = List._++_ g21 t23; slots = slots·5 }
 
         abbrev G43 : Row.Cx
-        G43 = record {
-          locals = List._++_ g21 t23;
-          slots = List._∷_ (Row.lease (κs .0) (qs .0)) (List._∷_ (Row.lease (κs .1 .0) (qs .1 .0)) (List._∷_ (Row.lease (κs .1 .1 .0) (qs .1 .1 .0)) (List._∷_ (Row.lease (κs .1 .1 .1 .0) (qs .1 .1 .1 .0)) (List._∷_ (Row.lease (κs .1 .1 .1 .1 .0) (qs .1 .1 .1 .1 .0)) (List._∷_
-              (Row.lease (κs .1 .1 .1 .1 .1 .0) (qs .1 .1 .1 .1 .1 .0)) (List._∷_ Row.off (List._∷_ (Row.lease (κs .1 .1 .1 .1 .1 .1 .1 .0) (qs .1 .1 .1 .1 .1 .1 .1 .0)) (List._∷_ (Row.lease (κs .1 .1 .1 .1 .1 .1 .1 .1 .0) (qs .1 .1 .1 .1 .1 .1 .1 .1 .0)) (List._∷_ Row.off (List._∷_ Row.off (List._∷_ Row.alive
-              (List._∷_ Row.alive (List._∷_ Row.off (List._∷_ Row.off List.[]))))))))))))));
-        }
+        G43 = record
+            { locals = List._++_ g21 t23; slots = List._∷_ (Row.lease (κs .0) (qs .0)) (List._∷_ (Row.lease (κs .1 .0) (qs .1 .0)) (List._∷_ (Row.lease (κs .1 .1 .0) (qs .1 .1 .0)) (List._∷_ (Row.lease (κs .1 .1 .1 .0) (qs .1 .1 .1 .0)) (List._∷_ (Row.lease (κs .1 .1 .1 .1 .0) (qs .1 .1 .1 .1 .0)) (List._∷_ (Row.lease (κs .1 .1 .1 .1 .1 .0) (qs .1 .1 .1 .1 .1 .0)) (List._∷_ Row.off (List._∷_ (Row.lease (κs .1 .1 .1 .1 .1 .1 .1 .0) (qs .1 .1 .1 .1 .1 .1 .1 .0)) (List._∷_ (Row.lease (κs .1 .1 .1 .1 .1 .1 .1 .1 .0) (qs .1 .1 .1 .1 .1 .1 .1 .1 .0)) (List._∷_ Row.off (List._∷_ Row.off (List._∷_ Row.alive (List._∷_ Row.alive (List._∷_ Row.off (List._∷_ Row.off List.[])))))))))))))) }
 
         abbrev G44 : Row.Cx
-        G44 = record {
-          locals = List._++_ g24 t25;
-          slots = List._∷_ (Row.lease (κs .0) (qs .0)) (List._∷_ (Row.lease (κs .1 .0) (qs .1 .0)) (List._∷_ (Row.lease (κs .1 .1 .0) (qs .1 .1 .0)) (List._∷_ (Row.lease (κs .1 .1 .1 .0) (qs .1 .1 .1 .0)) (List._∷_ (Row.lease (κs .1 .1 .1 .1 .0) (qs .1 .1 .1 .1 .0)) (List._∷_
-              (Row.lease (κs .1 .1 .1 .1 .1 .0) (qs .1 .1 .1 .1 .1 .0)) (List._∷_ Row.off (List._∷_ Row.off (List._∷_ (Row.lease (κs .1 .1 .1 .1 .1 .1 .1 .1 .0) (qs .1 .1 .1 .1 .1 .1 .1 .1 .0)) (List._∷_ Row.off (List._∷_ Row.off (List._∷_ Row.alive (List._∷_ Row.alive (List._∷_ Row.off (List._∷_ Row.off List.[]))))))))))))));
-        }
+        G44 = record { locals = List._++_ g24 t25; slots = slots·6 }
 
         abbrev G45 : Row.Cx
-        G45 = record {
-          locals = List._++_ g24 t26;
-          slots = List._∷_ (Row.lease (κs .0) (qs .0)) (List._∷_ (Row.lease (κs .1 .0) (qs .1 .0)) (List._∷_ (Row.lease (κs .1 .1 .0) (qs .1 .1 .0)) (List._∷_ (Row.lease (κs .1 .1 .1 .0) (qs .1 .1 .1 .0)) (List._∷_ (Row.lease (κs .1 .1 .1 .1 .0) (qs .1 .1 .1 .1 .0)) (List._∷_
-              (Row.lease (κs .1 .1 .1 .1 .1 .0) (qs .1 .1 .1 .1 .1 .0)) (List._∷_ Row.off (List._∷_ Row.off (List._∷_ (Row.lease (κs .1 .1 .1 .1 .1 .1 .1 .1 .0) (qs .1 .1 .1 .1 .1 .1 .1 .1 .0)) (List._∷_ Row.off (List._∷_ Row.off (List._∷_ Row.alive (List._∷_ Row.alive (List._∷_ Row.off (List._∷_ Row.off List.[]))))))))))))));
-        }
+        G45 = record { locals = List._++_ g24 t26; slots = slots·6 }
 
         abbrev G46 : Row.Cx
-        G46 = record {
-          locals = List._++_ g27 t28;
-          slots = List._∷_ (Row.lease (κs .0) (qs .0)) (List._∷_ (Row.lease (κs .1 .0) (qs .1 .0)) (List._∷_ (Row.lease (κs .1 .1 .0) (qs .1 .1 .0)) (List._∷_ (Row.lease (κs .1 .1 .1 .0) (qs .1 .1 .1 .0)) (List._∷_ (Row.lease (κs .1 .1 .1 .1 .0) (qs .1 .1 .1 .1 .0)) (List._∷_
-              (Row.lease (κs .1 .1 .1 .1 .1 .0) (qs .1 .1 .1 .1 .1 .0)) (List._∷_ Row.off (List._∷_ Row.off (List._∷_ (Row.lease (κs .1 .1 .1 .1 .1 .1 .1 .1 .0) (qs .1 .1 .1 .1 .1 .1 .1 .1 .0)) (List._∷_ Row.off (List._∷_ Row.off (List._∷_ Row.alive (List._∷_ Row.alive (List._∷_ Row.off (List._∷_ Row.off List.[]))))))))))))));
-        }
+        G46 = record { locals = List._++_ g27 t28; slots = slots·6 }
 
         abbrev G47 : Row.Cx
-        G47 = record {
-          locals = List._++_ g27 t29;
-          slots = List._∷_ (Row.lease (κs .0) (qs .0)) (List._∷_ (Row.lease (κs .1 .0) (qs .1 .0)) (List._∷_ (Row.lease (κs .1 .1 .0) (qs .1 .1 .0)) (List._∷_ (Row.lease (κs .1 .1 .1 .0) (qs .1 .1 .1 .0)) (List._∷_ (Row.lease (κs .1 .1 .1 .1 .0) (qs .1 .1 .1 .1 .0)) (List._∷_
-              (Row.lease (κs .1 .1 .1 .1 .1 .0) (qs .1 .1 .1 .1 .1 .0)) (List._∷_ Row.off (List._∷_ Row.off (List._∷_ (Row.lease (κs .1 .1 .1 .1 .1 .1 .1 .1 .0) (qs .1 .1 .1 .1 .1 .1 .1 .1 .0)) (List._∷_ Row.off (List._∷_ Row.off (List._∷_ Row.alive (List._∷_ Row.alive (List._∷_ Row.off (List._∷_ Row.off List.[]))))))))))))));
-        }
+        G47 = record { locals = List._++_ g27 t29; slots = slots·6 }
 
         abbrev G48 : Row.Cx
-        G48 = record {
-          locals = List._++_ g27 t29;
-          slots = List._∷_ (Row.lease (κs .0) (qs .0)) (List._∷_ (Row.lease (κs .1 .0) (qs .1 .0)) (List._∷_ (Row.lease (κs .1 .1 .0) (qs .1 .1 .0)) (List._∷_ (Row.lease (κs .1 .1 .1 .0) (qs .1 .1 .1 .0)) (List._∷_ (Row.lease (κs .1 .1 .1 .1 .0) (qs .1 .1 .1 .1 .0)) (List._∷_
-              (Row.lease (κs .1 .1 .1 .1 .1 .0) (qs .1 .1 .1 .1 .1 .0)) (List._∷_ Row.off (List._∷_ Row.off (List._∷_ (Row.lease (κs .1 .1 .1 .1 .1 .1 .1 .1 .0) (qs .1 .1 .1 .1 .1 .1 .1 .1 .0)) (List._∷_ Row.off (List._∷_ Row.off (List._∷_ Row.dead (List._∷_ Row.alive (List._∷_ Row.off (List._∷_ Row.off List.[]))))))))))))));
-        }
+        G48 = record
+            { locals = List._++_ g27 t29; slots = List._∷_ (Row.lease (κs .0) (qs .0)) (List._∷_ (Row.lease (κs .1 .0) (qs .1 .0)) (List._∷_ (Row.lease (κs .1 .1 .0) (qs .1 .1 .0)) (List._∷_ (Row.lease (κs .1 .1 .1 .0) (qs .1 .1 .1 .0)) (List._∷_ (Row.lease (κs .1 .1 .1 .1 .0) (qs .1 .1 .1 .1 .0)) (List._∷_ (Row.lease (κs .1 .1 .1 .1 .1 .0) (qs .1 .1 .1 .1 .1 .0)) (List._∷_ Row.off (List._∷_ Row.off (List._∷_ (Row.lease (κs .1 .1 .1 .1 .1 .1 .1 .1 .0) (qs .1 .1 .1 .1 .1 .1 .1 .1 .0)) (List._∷_ Row.off (List._∷_ Row.off (List._∷_ Row.dead (List._∷_ Row.alive (List._∷_ Row.off (List._∷_ Row.off List.[])))))))))))))) }
 
         abbrev G49 : Row.Cx
-        G49 = record {
-          locals = List._++_ g30 t29;
-          slots = List._∷_ (Row.lease (κs .0) (qs .0)) (List._∷_ (Row.lease (κs .1 .0) (qs .1 .0)) (List._∷_ (Row.lease (κs .1 .1 .0) (qs .1 .1 .0)) (List._∷_ (Row.lease (κs .1 .1 .1 .0) (qs .1 .1 .1 .0)) (List._∷_ (Row.lease (κs .1 .1 .1 .1 .0) (qs .1 .1 .1 .1 .0)) (List._∷_
-              (Row.lease (κs .1 .1 .1 .1 .1 .0) (qs .1 .1 .1 .1 .1 .0)) (List._∷_ (Row.lease (κs .1 .1 .1 .1 .1 .1 .0) (qs .1 .1 .1 .1 .1 .1 .0)) (List._∷_ Row.off (List._∷_ (Row.lease (κs .1 .1 .1 .1 .1 .1 .1 .1 .0) (qs .1 .1 .1 .1 .1 .1 .1 .1 .0)) (List._∷_ Row.off (List._∷_ Row.off (List._∷_ Row.dead
-              (List._∷_ Row.alive (List._∷_ Row.off (List._∷_ Row.off List.[]))))))))))))));
-        }
+        G49 = record
+            { locals = List._++_ g30 t29; slots = List._∷_ (Row.lease (κs .0) (qs .0)) (List._∷_ (Row.lease (κs .1 .0) (qs .1 .0)) (List._∷_ (Row.lease (κs .1 .1 .0) (qs .1 .1 .0)) (List._∷_ (Row.lease (κs .1 .1 .1 .0) (qs .1 .1 .1 .0)) (List._∷_ (Row.lease (κs .1 .1 .1 .1 .0) (qs .1 .1 .1 .1 .0)) (List._∷_ (Row.lease (κs .1 .1 .1 .1 .1 .0) (qs .1 .1 .1 .1 .1 .0)) (List._∷_ (Row.lease (κs .1 .1 .1 .1 .1 .1 .0) (qs .1 .1 .1 .1 .1 .1 .0)) (List._∷_ Row.off (List._∷_ (Row.lease (κs .1 .1 .1 .1 .1 .1 .1 .1 .0) (qs .1 .1 .1 .1 .1 .1 .1 .1 .0)) (List._∷_ Row.off (List._∷_ Row.off (List._∷_ Row.dead (List._∷_ Row.alive (List._∷_ Row.off (List._∷_ Row.off List.[])))))))))))))) }
 
         abbrev G50 : Row.Cx
-        G50 = record {
-          locals = List._++_ g30 t29;
-          slots = List._∷_ (Row.lease (κs .0) (qs .0)) (List._∷_ (Row.lease (κs .1 .0) (qs .1 .0)) (List._∷_ (Row.lease (κs .1 .1 .0) (qs .1 .1 .0)) (List._∷_ (Row.lease (κs .1 .1 .1 .0) (qs .1 .1 .1 .0)) (List._∷_ (Row.lease (κs .1 .1 .1 .1 .0) (qs .1 .1 .1 .1 .0)) (List._∷_
-              (Row.lease (κs .1 .1 .1 .1 .1 .0) (qs .1 .1 .1 .1 .1 .0)) (List._∷_ (Row.lease (κs .1 .1 .1 .1 .1 .1 .0) (qs .1 .1 .1 .1 .1 .1 .0)) (List._∷_ Row.off (List._∷_ (Row.lease (κs .1 .1 .1 .1 .1 .1 .1 .1 .0) (qs .1 .1 .1 .1 .1 .1 .1 .1 .0)) (List._∷_ Row.off (List._∷_ Row.off (List._∷_ Row.off
-              (List._∷_ Row.alive (List._∷_ Row.off (List._∷_ Row.off List.[]))))))))))))));
-        }
+        G50 = record
+            { locals = List._++_ g30 t29; slots = List._∷_ (Row.lease (κs .0) (qs .0)) (List._∷_ (Row.lease (κs .1 .0) (qs .1 .0)) (List._∷_ (Row.lease (κs .1 .1 .0) (qs .1 .1 .0)) (List._∷_ (Row.lease (κs .1 .1 .1 .0) (qs .1 .1 .1 .0)) (List._∷_ (Row.lease (κs .1 .1 .1 .1 .0) (qs .1 .1 .1 .1 .0)) (List._∷_ (Row.lease (κs .1 .1 .1 .1 .1 .0) (qs .1 .1 .1 .1 .1 .0)) (List._∷_ (Row.lease (κs .1 .1 .1 .1 .1 .1 .0) (qs .1 .1 .1 .1 .1 .1 .0)) (List._∷_ Row.off (List._∷_ (Row.lease (κs .1 .1 .1 .1 .1 .1 .1 .1 .0) (qs .1 .1 .1 .1 .1 .1 .1 .1 .0)) (List._∷_ Row.off (List._∷_ Row.off (List._∷_ Row.off (List._∷_ Row.alive (List._∷_ Row.off (List._∷_ Row.off List.[])))))))))))))) }
 
         abbrev G51 : Row.Cx
-        G51 = record {
-          locals = List._++_ g30 t29;
-          slots = List._∷_ (Row.lease (κs .0) (qs .0)) (List._∷_ (Row.lease (κs .1 .0) (qs .1 .0)) (List._∷_ (Row.lease (κs .1 .1 .0) (qs .1 .1 .0)) (List._∷_ (Row.lease (κs .1 .1 .1 .0) (qs .1 .1 .1 .0)) (List._∷_ (Row.lease (κs .1 .1 .1 .1 .0) (qs .1 .1 .1 .1 .0)) (List._∷_
-              (Row.lease (κs .1 .1 .1 .1 .1 .0) (qs .1 .1 .1 .1 .1 .0)) (List._∷_ (Row.lease (κs .1 .1 .1 .1 .1 .1 .0) (qs .1 .1 .1 .1 .1 .1 .0)) (List._∷_ Row.off (List._∷_ (Row.lease (κs .1 .1 .1 .1 .1 .1 .1 .1 .0) (qs .1 .1 .1 .1 .1 .1 .1 .1 .0)) (List._∷_ Row.off (List._∷_ Row.off (List._∷_ Row.off
-              (List._∷_ Row.dead (List._∷_ Row.off (List._∷_ Row.off List.[]))))))))))))));
-        }
+        G51 = record
+            { locals = List._++_ g30 t29; slots = List._∷_ (Row.lease (κs .0) (qs .0)) (List._∷_ (Row.lease (κs .1 .0) (qs .1 .0)) (List._∷_ (Row.lease (κs .1 .1 .0) (qs .1 .1 .0)) (List._∷_ (Row.lease (κs .1 .1 .1 .0) (qs .1 .1 .1 .0)) (List._∷_ (Row.lease (κs .1 .1 .1 .1 .0) (qs .1 .1 .1 .1 .0)) (List._∷_ (Row.lease (κs .1 .1 .1 .1 .1 .0) (qs .1 .1 .1 .1 .1 .0)) (List._∷_ (Row.lease (κs .1 .1 .1 .1 .1 .1 .0) (qs .1 .1 .1 .1 .1 .1 .0)) (List._∷_ Row.off (List._∷_ (Row.lease (κs .1 .1 .1 .1 .1 .1 .1 .1 .0) (qs .1 .1 .1 .1 .1 .1 .1 .1 .0)) (List._∷_ Row.off (List._∷_ Row.off (List._∷_ Row.off (List._∷_ Row.dead (List._∷_ Row.off (List._∷_ Row.off List.[])))))))))))))) }
 
         abbrev G52 : Row.Cx
-        G52 = record {
-          locals = List._++_ t2 t1;
-          slots = List._∷_ (Row.lease (κs .0) (qs .0)) (List._∷_ (Row.lease (κs .1 .0) (qs .1 .0)) (List._∷_ (Row.lease (κs .1 .1 .0) (qs .1 .1 .0)) (List._∷_ (Row.lease (κs .1 .1 .1 .0) (qs .1 .1 .1 .0)) (List._∷_ (Row.lease (κs .1 .1 .1 .1 .0) (qs .1 .1 .1 .1 .0)) (List._∷_
-              (Row.lease (κs .1 .1 .1 .1 .1 .0) (qs .1 .1 .1 .1 .1 .0)) (List._∷_ (Row.lease (κs .1 .1 .1 .1 .1 .1 .0) (qs .1 .1 .1 .1 .1 .1 .0)) (List._∷_ (Row.lease (κs .1 .1 .1 .1 .1 .1 .1 .0) (qs .1 .1 .1 .1 .1 .1 .1 .0)) (List._∷_ (Row.lease (κs .1 .1 .1 .1 .1 .1 .1 .1 .0) (qs .1 .1 .1 .1 .1 .1 .1 .1 .0)) (List._∷_ Row.off (List._∷_ Row.off (List._∷_
-              Row.off (List._∷_ Row.dead (List._∷_ Row.off (List._∷_ Row.off List.[]))))))))))))));
-        }
-
-        abbrev G53 : Row.Cx
-        G53 = record {
-          locals = List._++_ t2 t1;
-          slots = List._∷_ (Row.lease (κs .0) (qs .0)) (List._∷_ (Row.lease (κs .1 .0) (qs .1 .0)) (List._∷_ (Row.lease (κs .1 .1 .0) (qs .1 .1 .0)) (List._∷_ (Row.lease (κs .1 .1 .1 .0) (qs .1 .1 .1 .0)) (List._∷_ (Row.lease (κs .1 .1 .1 .1 .0) (qs .1 .1 .1 .1 .0)) (List._∷_
-              (Row.lease (κs .1 .1 .1 .1 .1 .0) (qs .1 .1 .1 .1 .1 .0)) (List._∷_ (Row.lease (κs .1 .1 .1 .1 .1 .1 .0) (qs .1 .1 .1 .1 .1 .1 .0)) (List._∷_ (Row.lease (κs .1 .1 .1 .1 .1 .1 .1 .0) (qs .1 .1 .1 .1 .1 .1 .1 .0)) (List._∷_ (Row.lease (κs .1 .1 .1 .1 .1 .1 .1 .1 .0) (qs .1 .1 .1 .1 .1 .1 .1 .1 .0)) (List._∷_ Row.off (List._∷_ Row.off (List._∷_
-              Row.off (List._∷_ Row.dead (List._∷_ Row.off (List._∷_ Row.off List.[]))))))))))))));
-        }
-
-        abbrev G54 : Row.Cx
-        G54 = record {
-          locals = List._++_ t2 t1;
-          slots = List._∷_ (Row.lease (κs .0) (qs .0)) (List._∷_ (Row.lease (κs .1 .0) (qs .1 .0)) (List._∷_ (Row.lease (κs .1 .1 .0) (qs .1 .1 .0)) (List._∷_ (Row.lease (κs .1 .1 .1 .0) (qs .1 .1 .1 .0)) (List._∷_ (Row.lease (κs .1 .1 .1 .1 .0) (qs .1 .1 .1 .1 .0)) (List._∷_
-              (Row.lease (κs .1 .1 .1 .1 .1 .0) (qs .1 .1 .1 .1 .1 .0)) (List._∷_ (Row.lease (κs .1 .1 .1 .1 .1 .1 .0) (qs .1 .1 .1 .1 .1 .1 .0)) (List._∷_ (Row.lease (κs .1 .1 .1 .1 .1 .1 .1 .0) (qs .1 .1 .1 .1 .1 .1 .1 .0)) (List._∷_ (Row.lease (κs .1 .1 .1 .1 .1 .1 .1 .1 .0) (qs .1 .1 .1 .1 .1 .1 .1 .1 .0)) (List._∷_ Row.off (List._∷_ Row.off (List._∷_
-              Row.off (List._∷_ Row.off (List._∷_ Row.off (List._∷_ Row.off List.[]))))))))))))));
-        }
+        G52 = record { locals = T1 .locals; slots = slots·7 }
 
         abbrev G55 : Row.Cx
-        G55 = record {
-          locals = List._++_ t31 t1;
-          slots = List._∷_ (Row.lease (κs .0) (qs .0)) (List._∷_ (Row.lease (κs .1 .0) (qs .1 .0)) (List._∷_ (Row.lease (κs .1 .1 .0) (qs .1 .1 .0)) (List._∷_ (Row.lease (κs .1 .1 .1 .0) (qs .1 .1 .1 .0)) (List._∷_ (Row.lease (κs .1 .1 .1 .1 .0) (qs .1 .1 .1 .1 .0)) (List._∷_
-              (Row.lease (κs .1 .1 .1 .1 .1 .0) (qs .1 .1 .1 .1 .1 .0)) (List._∷_ (Row.lease (κs .1 .1 .1 .1 .1 .1 .0) (qs .1 .1 .1 .1 .1 .1 .0)) (List._∷_ (Row.lease (κs .1 .1 .1 .1 .1 .1 .1 .0) (qs .1 .1 .1 .1 .1 .1 .1 .0)) (List._∷_ (Row.lease (κs .1 .1 .1 .1 .1 .1 .1 .1 .0) (qs .1 .1 .1 .1 .1 .1 .1 .1 .0)) (List._∷_ Row.off (List._∷_ Row.off (List._∷_
-              Row.off (List._∷_ Row.off (List._∷_ Row.off (List._∷_ Row.off List.[]))))))))))))));
-        }
-
-        abbrev G56 : Row.Cx
-        G56 = record {
-          locals = List._++_ t4 t1;
-          slots = List._∷_ (Row.lease (κs .0) (qs .0)) (List._∷_ (Row.lease (κs .1 .0) (qs .1 .0)) (List._∷_ (Row.lease (κs .1 .1 .0) (qs .1 .1 .0)) (List._∷_ (Row.lease (κs .1 .1 .1 .0) (qs .1 .1 .1 .0)) (List._∷_ (Row.lease (κs .1 .1 .1 .1 .0) (qs .1 .1 .1 .1 .0)) (List._∷_
-              (Row.lease (κs .1 .1 .1 .1 .1 .0) (qs .1 .1 .1 .1 .1 .0)) (List._∷_ (Row.lease (κs .1 .1 .1 .1 .1 .1 .0) (qs .1 .1 .1 .1 .1 .1 .0)) (List._∷_ (Row.lease (κs .1 .1 .1 .1 .1 .1 .1 .0) (qs .1 .1 .1 .1 .1 .1 .1 .0)) (List._∷_ (Row.lease (κs .1 .1 .1 .1 .1 .1 .1 .1 .0) (qs .1 .1 .1 .1 .1 .1 .1 .1 .0)) (List._∷_ Row.off (List._∷_ Row.off (List._∷_
-              Row.off (List._∷_ Row.off (List._∷_ Row.off (List._∷_ Row.off List.[]))))))))))))));
-        }
+        G55 = record { locals = T55 .locals; slots = slots·0 }
 
         abbrev G57 : Row.Cx
-        G57 = record {
-          locals = List._++_ t4 t1;
-          slots = List._∷_ (Row.lease (κs .0) (qs .0)) (List._∷_ (Row.lease (κs .1 .0) (qs .1 .0)) (List._∷_ (Row.lease (κs .1 .1 .0) (qs .1 .1 .0)) (List._∷_ (Row.lease (κs .1 .1 .1 .0) (qs .1 .1 .1 .0)) (List._∷_ (Row.lease (κs .1 .1 .1 .1 .0) (qs .1 .1 .1 .1 .0)) (List._∷_
-              (Row.lease (κs .1 .1 .1 .1 .1 .0) (qs .1 .1 .1 .1 .1 .0)) (List._∷_ (Row.lease (κs .1 .1 .1 .1 .1 .1 .0) (qs .1 .1 .1 .1 .1 .1 .0)) (List._∷_ (Row.lease (κs .1 .1 .1 .1 .1 .1 .1 .0) (qs .1 .1 .1 .1 .1 .1 .1 .0)) (List._∷_ (Row.lease (κs .1 .1 .1 .1 .1 .1 .1 .1 .0) (qs .1 .1 .1 .1 .1 .1 .1 .1 .0)) (List._∷_ Row.off (List._∷_ Row.off (List._∷_
-              Row.off (List._∷_ Row.off (List._∷_ Row.alive (List._∷_ Row.off List.[]))))))))))))));
-        }
+        G57 = record
+            { locals = T11 .locals; slots = List._∷_ (Row.lease (κs .0) (qs .0)) (List._∷_ (Row.lease (κs .1 .0) (qs .1 .0)) (List._∷_ (Row.lease (κs .1 .1 .0) (qs .1 .1 .0)) (List._∷_ (Row.lease (κs .1 .1 .1 .0) (qs .1 .1 .1 .0)) (List._∷_ (Row.lease (κs .1 .1 .1 .1 .0) (qs .1 .1 .1 .1 .0)) (List._∷_ (Row.lease (κs .1 .1 .1 .1 .1 .0) (qs .1 .1 .1 .1 .1 .0)) (List._∷_ (Row.lease (κs .1 .1 .1 .1 .1 .1 .0) (qs .1 .1 .1 .1 .1 .1 .0)) (List._∷_ (Row.lease (κs .1 .1 .1 .1 .1 .1 .1 .0) (qs .1 .1 .1 .1 .1 .1 .1 .0)) (List._∷_ (Row.lease (κs .1 .1 .1 .1 .1 .1 .1 .1 .0) (qs .1 .1 .1 .1 .1 .1 .1 .1 .0)) (List._∷_ Row.off (List._∷_ Row.off (List._∷_ Row.off (List._∷_ Row.off (List._∷_ Row.alive (List._∷_ Row.off List.[])))))))))))))) }
 
         abbrev G58 : Row.Cx
-        G58 = record {
-          locals = List._++_ g32 t33;
-          slots = List._∷_ (Row.lease (κs .0) (qs .0)) (List._∷_ (Row.lease (κs .1 .0) (qs .1 .0)) (List._∷_ (Row.lease (κs .1 .1 .0) (qs .1 .1 .0)) (List._∷_ (Row.lease (κs .1 .1 .1 .0) (qs .1 .1 .1 .0)) (List._∷_ (Row.lease (κs .1 .1 .1 .1 .0) (qs .1 .1 .1 .1 .0)) (List._∷_
-              (Row.lease (κs .1 .1 .1 .1 .1 .0) (qs .1 .1 .1 .1 .1 .0)) (List._∷_ Row.off (List._∷_ (Row.lease (κs .1 .1 .1 .1 .1 .1 .1 .0) (qs .1 .1 .1 .1 .1 .1 .1 .0)) (List._∷_ (Row.lease (κs .1 .1 .1 .1 .1 .1 .1 .1 .0) (qs .1 .1 .1 .1 .1 .1 .1 .1 .0)) (List._∷_ Row.off (List._∷_ Row.off (List._∷_ Row.off
-              (List._∷_ Row.off (List._∷_ Row.alive (List._∷_ Row.off List.[]))))))))))))));
-        }
+        G58 = record { locals = List._++_ g32 t33; slots = slots·8 }
 
         abbrev G59 : Row.Cx
-        G59 = record {
-          locals = List._++_ g32 t34;
-          slots = List._∷_ (Row.lease (κs .0) (qs .0)) (List._∷_ (Row.lease (κs .1 .0) (qs .1 .0)) (List._∷_ (Row.lease (κs .1 .1 .0) (qs .1 .1 .0)) (List._∷_ (Row.lease (κs .1 .1 .1 .0) (qs .1 .1 .1 .0)) (List._∷_ (Row.lease (κs .1 .1 .1 .1 .0) (qs .1 .1 .1 .1 .0)) (List._∷_
-              (Row.lease (κs .1 .1 .1 .1 .1 .0) (qs .1 .1 .1 .1 .1 .0)) (List._∷_ Row.off (List._∷_ (Row.lease (κs .1 .1 .1 .1 .1 .1 .1 .0) (qs .1 .1 .1 .1 .1 .1 .1 .0)) (List._∷_ (Row.lease (κs .1 .1 .1 .1 .1 .1 .1 .1 .0) (qs .1 .1 .1 .1 .1 .1 .1 .1 .0)) (List._∷_ Row.off (List._∷_ Row.off (List._∷_ Row.off
-              (List._∷_ Row.off (List._∷_ Row.alive (List._∷_ Row.off List.[]))))))))))))));
-        }
+        G59 = record { locals = List._++_ g32 t34; slots = slots·8 }
 
         abbrev G60 : Row.Cx
-        G60 = record {
-          locals = List._++_ g32 t34;
-          slots = List._∷_ (Row.lease (κs .0) (qs .0)) (List._∷_ (Row.lease (κs .1 .0) (qs .1 .0)) (List._∷_ (Row.lease (κs .1 .1 .0) (qs .1 .1 .0)) (List._∷_ (Row.lease (κs .1 .1 .1 .0) (qs .1 .1 .1 .0)) (List._∷_ (Row.lease (κs .1 .1 .1 .1 .0) (qs .1 .1 .1 .1 .0)) (List._∷_
-              (Row.lease (κs .1 .1 .1 .1 .1 .0) (qs .1 .1 .1 .1 .1 .0)) (List._∷_ Row.off (List._∷_ (Row.lease (κs .1 .1 .1 .1 .1 .1 .1 .0) (qs .1 .1 .1 .1 .1 .1 .1 .0)) (List._∷_ (Row.lease (κs .1 .1 .1 .1 .1 .1 .1 .1 .0) (qs .1 .1 .1 .1 .1 .1 .1 .1 .0)) (List._∷_ Row.off (List._∷_ Row.off (List._∷_ Row.off
-              (List._∷_ Row.off (List._∷_ Row.alive (List._∷_ Row.alive List.[]))))))))))))));
-        }
+        G60 = record
+            { locals = List._++_ g32 t34; slots = List._∷_ (Row.lease (κs .0) (qs .0)) (List._∷_ (Row.lease (κs .1 .0) (qs .1 .0)) (List._∷_ (Row.lease (κs .1 .1 .0) (qs .1 .1 .0)) (List._∷_ (Row.lease (κs .1 .1 .1 .0) (qs .1 .1 .1 .0)) (List._∷_ (Row.lease (κs .1 .1 .1 .1 .0) (qs .1 .1 .1 .1 .0)) (List._∷_ (Row.lease (κs .1 .1 .1 .1 .1 .0) (qs .1 .1 .1 .1 .1 .0)) (List._∷_ Row.off (List._∷_ (Row.lease (κs .1 .1 .1 .1 .1 .1 .1 .0) (qs .1 .1 .1 .1 .1 .1 .1 .0)) (List._∷_ (Row.lease (κs .1 .1 .1 .1 .1 .1 .1 .1 .0) (qs .1 .1 .1 .1 .1 .1 .1 .1 .0)) (List._∷_ Row.off (List._∷_ Row.off (List._∷_ Row.off (List._∷_ Row.off (List._∷_ Row.alive (List._∷_ Row.alive List.[])))))))))))))) }
 
         abbrev G61 : Row.Cx
-        G61 = record {
-          locals = List._++_ g35 t36;
-          slots = List._∷_ (Row.lease (κs .0) (qs .0)) (List._∷_ (Row.lease (κs .1 .0) (qs .1 .0)) (List._∷_ (Row.lease (κs .1 .1 .0) (qs .1 .1 .0)) (List._∷_ (Row.lease (κs .1 .1 .1 .0) (qs .1 .1 .1 .0)) (List._∷_ (Row.lease (κs .1 .1 .1 .1 .0) (qs .1 .1 .1 .1 .0)) (List._∷_
-              (Row.lease (κs .1 .1 .1 .1 .1 .0) (qs .1 .1 .1 .1 .1 .0)) (List._∷_ Row.off (List._∷_ Row.off (List._∷_ (Row.lease (κs .1 .1 .1 .1 .1 .1 .1 .1 .0) (qs .1 .1 .1 .1 .1 .1 .1 .1 .0)) (List._∷_ Row.off (List._∷_ Row.off (List._∷_ Row.off (List._∷_ Row.off (List._∷_ Row.alive (List._∷_ Row.alive List.[]))))))))))))));
-        }
+        G61 = record { locals = List._++_ g35 t36; slots = slots·9 }
 
         abbrev G62 : Row.Cx
-        G62 = record {
-          locals = List._++_ g35 t37;
-          slots = List._∷_ (Row.lease (κs .0) (qs .0)) (List._∷_ (Row.lease (κs .1 .0) (qs .1 .0)) (List._∷_ (Row.lease (κs .1 .1 .0) (qs .1 .1 .0)) (List._∷_ (Row.lease (κs .1 .1 .1 .0) (qs .1 .1 .1 .0)) (List._∷_ (Row.lease (κs .1 .1 .1 .1 .0) (qs .1 .1 .1 .1 .0)) (List._∷_
-              (Row.lease (κs .1 .1 .1 .1 .1 .0) (qs .1 .1 .1 .1 .1 .0)) (List._∷_ Row.off (List._∷_ Row.off (List._∷_ (Row.lease (κs .1 .1 .1 .1 .1 .1 .1 .1 .0) (qs .1 .1 .1 .1 .1 .1 .1 .1 .0)) (List._∷_ Row.off (List._∷_ Row.off (List._∷_ Row.off (List._∷_ Row.off (List._∷_ Row.alive (List._∷_ Row.alive List.[]))))))))))))));
-        }
+        G62 = record { locals = List._++_ g35 t37; slots = slots·9 }
 
         abbrev G63 : Row.Cx
-        G63 = record {
-          locals = List._++_ g38 t39;
-          slots = List._∷_ (Row.lease (κs .0) (qs .0)) (List._∷_ (Row.lease (κs .1 .0) (qs .1 .0)) (List._∷_ (Row.lease (κs .1 .1 .0) (qs .1 .1 .0)) (List._∷_ (Row.lease (κs .1 .1 .1 .0) (qs .1 .1 .1 .0)) (List._∷_ (Row.lease (κs .1 .1 .1 .1 .0) (qs .1 .1 .1 .1 .0)) (List._∷_
-              (Row.lease (κs .1 .1 .1 .1 .1 .0) (qs .1 .1 .1 .1 .1 .0)) (List._∷_ Row.off (List._∷_ Row.off (List._∷_ (Row.lease (κs .1 .1 .1 .1 .1 .1 .1 .1 .0) (qs .1 .1 .1 .1 .1 .1 .1 .1 .0)) (List._∷_ Row.off (List._∷_ Row.off (List._∷_ Row.off (List._∷_ Row.off (List._∷_ Row.alive (List._∷_ Row.alive List.[]))))))))))))));
-        }
+        G63 = record { locals = List._++_ g38 t39; slots = slots·9 }
 
         abbrev G64 : Row.Cx
-        G64 = record {
-          locals = List._++_ g38 t40;
-          slots = List._∷_ (Row.lease (κs .0) (qs .0)) (List._∷_ (Row.lease (κs .1 .0) (qs .1 .0)) (List._∷_ (Row.lease (κs .1 .1 .0) (qs .1 .1 .0)) (List._∷_ (Row.lease (κs .1 .1 .1 .0) (qs .1 .1 .1 .0)) (List._∷_ (Row.lease (κs .1 .1 .1 .1 .0) (qs .1 .1 .1 .1 .0)) (List._∷_
-              (Row.lease (κs .1 .1 .1 .1 .1 .0) (qs .1 .1 .1 .1 .1 .0)) (List._∷_ Row.off (List._∷_ Row.off (List._∷_ (Row.lease (κs .1 .1 .1 .1 .1 .1 .1 .1 .0) (qs .1 .1 .1 .1 .1 .1 .1 .1 .0)) (List._∷_ Row.off (List._∷_ Row.off (List._∷_ Row.off (List._∷_ Row.off (List._∷_ Row.alive (List._∷_ Row.alive List.[]))))))))))))));
-        }
+        G64 = record { locals = List._++_ g38 t40; slots = slots·9 }
 
         abbrev G65 : Row.Cx
-        G65 = record {
-          locals = List._++_ g38 t40;
-          slots = List._∷_ (Row.lease (κs .0) (qs .0)) (List._∷_ (Row.lease (κs .1 .0) (qs .1 .0)) (List._∷_ (Row.lease (κs .1 .1 .0) (qs .1 .1 .0)) (List._∷_ (Row.lease (κs .1 .1 .1 .0) (qs .1 .1 .1 .0)) (List._∷_ (Row.lease (κs .1 .1 .1 .1 .0) (qs .1 .1 .1 .1 .0)) (List._∷_
-              (Row.lease (κs .1 .1 .1 .1 .1 .0) (qs .1 .1 .1 .1 .1 .0)) (List._∷_ Row.off (List._∷_ Row.off (List._∷_ (Row.lease (κs .1 .1 .1 .1 .1 .1 .1 .1 .0) (qs .1 .1 .1 .1 .1 .1 .1 .1 .0)) (List._∷_ Row.off (List._∷_ Row.off (List._∷_ Row.off (List._∷_ Row.off (List._∷_ Row.dead (List._∷_ Row.alive List.[]))))))))))))));
-        }
+        G65 = record
+            { locals = List._++_ g38 t40; slots = List._∷_ (Row.lease (κs .0) (qs .0)) (List._∷_ (Row.lease (κs .1 .0) (qs .1 .0)) (List._∷_ (Row.lease (κs .1 .1 .0) (qs .1 .1 .0)) (List._∷_ (Row.lease (κs .1 .1 .1 .0) (qs .1 .1 .1 .0)) (List._∷_ (Row.lease (κs .1 .1 .1 .1 .0) (qs .1 .1 .1 .1 .0)) (List._∷_ (Row.lease (κs .1 .1 .1 .1 .1 .0) (qs .1 .1 .1 .1 .1 .0)) (List._∷_ Row.off (List._∷_ Row.off (List._∷_ (Row.lease (κs .1 .1 .1 .1 .1 .1 .1 .1 .0) (qs .1 .1 .1 .1 .1 .1 .1 .1 .0)) (List._∷_ Row.off (List._∷_ Row.off (List._∷_ Row.off (List._∷_ Row.off (List._∷_ Row.dead (List._∷_ Row.alive List.[])))))))))))))) }
 
         abbrev G66 : Row.Cx
-        G66 = record {
-          locals = List._++_ g41 t40;
-          slots = List._∷_ (Row.lease (κs .0) (qs .0)) (List._∷_ (Row.lease (κs .1 .0) (qs .1 .0)) (List._∷_ (Row.lease (κs .1 .1 .0) (qs .1 .1 .0)) (List._∷_ (Row.lease (κs .1 .1 .1 .0) (qs .1 .1 .1 .0)) (List._∷_ (Row.lease (κs .1 .1 .1 .1 .0) (qs .1 .1 .1 .1 .0)) (List._∷_
-              (Row.lease (κs .1 .1 .1 .1 .1 .0) (qs .1 .1 .1 .1 .1 .0)) (List._∷_ (Row.lease (κs .1 .1 .1 .1 .1 .1 .0) (qs .1 .1 .1 .1 .1 .1 .0)) (List._∷_ Row.off (List._∷_ (Row.lease (κs .1 .1 .1 .1 .1 .1 .1 .1 .0) (qs .1 .1 .1 .1 .1 .1 .1 .1 .0)) (List._∷_ Row.off (List._∷_ Row.off (List._∷_ Row.off
-              (List._∷_ Row.off (List._∷_ Row.dead (List._∷_ Row.alive List.[]))))))))))))));
-        }
+        G66 = record
+            { locals = List._++_ g41 t40; slots = List._∷_ (Row.lease (κs .0) (qs .0)) (List._∷_ (Row.lease (κs .1 .0) (qs .1 .0)) (List._∷_ (Row.lease (κs .1 .1 .0) (qs .1 .1 .0)) (List._∷_ (Row.lease (κs .1 .1 .1 .0) (qs .1 .1 .1 .0)) (List._∷_ (Row.lease (κs .1 .1 .1 .1 .0) (qs .1 .1 .1 .1 .0)) (List._∷_ (Row.lease (κs .1 .1 .1 .1 .1 .0) (qs .1 .1 .1 .1 .1 .0)) (List._∷_ (Row.lease (κs .1 .1 .1 .1 .1 .1 .0) (qs .1 .1 .1 .1 .1 .1 .0)) (List._∷_ Row.off (List._∷_ (Row.lease (κs .1 .1 .1 .1 .1 .1 .1 .1 .0) (qs .1 .1 .1 .1 .1 .1 .1 .1 .0)) (List._∷_ Row.off (List._∷_ Row.off (List._∷_ Row.off (List._∷_ Row.off (List._∷_ Row.dead (List._∷_ Row.alive List.[])))))))))))))) }
 
         abbrev G67 : Row.Cx
-        G67 = record {
-          locals = List._++_ g41 t40;
-          slots = List._∷_ (Row.lease (κs .0) (qs .0)) (List._∷_ (Row.lease (κs .1 .0) (qs .1 .0)) (List._∷_ (Row.lease (κs .1 .1 .0) (qs .1 .1 .0)) (List._∷_ (Row.lease (κs .1 .1 .1 .0) (qs .1 .1 .1 .0)) (List._∷_ (Row.lease (κs .1 .1 .1 .1 .0) (qs .1 .1 .1 .1 .0)) (List._∷_
-              (Row.lease (κs .1 .1 .1 .1 .1 .0) (qs .1 .1 .1 .1 .1 .0)) (List._∷_ (Row.lease (κs .1 .1 .1 .1 .1 .1 .0) (qs .1 .1 .1 .1 .1 .1 .0)) (List._∷_ Row.off (List._∷_ (Row.lease (κs .1 .1 .1 .1 .1 .1 .1 .1 .0) (qs .1 .1 .1 .1 .1 .1 .1 .1 .0)) (List._∷_ Row.off (List._∷_ Row.off (List._∷_ Row.off
-              (List._∷_ Row.off (List._∷_ Row.off (List._∷_ Row.alive List.[]))))))))))))));
-        }
+        G67 = record
+            { locals = List._++_ g41 t40; slots = List._∷_ (Row.lease (κs .0) (qs .0)) (List._∷_ (Row.lease (κs .1 .0) (qs .1 .0)) (List._∷_ (Row.lease (κs .1 .1 .0) (qs .1 .1 .0)) (List._∷_ (Row.lease (κs .1 .1 .1 .0) (qs .1 .1 .1 .0)) (List._∷_ (Row.lease (κs .1 .1 .1 .1 .0) (qs .1 .1 .1 .1 .0)) (List._∷_ (Row.lease (κs .1 .1 .1 .1 .1 .0) (qs .1 .1 .1 .1 .1 .0)) (List._∷_ (Row.lease (κs .1 .1 .1 .1 .1 .1 .0) (qs .1 .1 .1 .1 .1 .1 .0)) (List._∷_ Row.off (List._∷_ (Row.lease (κs .1 .1 .1 .1 .1 .1 .1 .1 .0) (qs .1 .1 .1 .1 .1 .1 .1 .1 .0)) (List._∷_ Row.off (List._∷_ Row.off (List._∷_ Row.off (List._∷_ Row.off (List._∷_ Row.off (List._∷_ Row.alive List.[])))))))))))))) }
 
         abbrev G68 : Row.Cx
-        G68 = record {
-          locals = List._++_ g41 t40;
-          slots = List._∷_ (Row.lease (κs .0) (qs .0)) (List._∷_ (Row.lease (κs .1 .0) (qs .1 .0)) (List._∷_ (Row.lease (κs .1 .1 .0) (qs .1 .1 .0)) (List._∷_ (Row.lease (κs .1 .1 .1 .0) (qs .1 .1 .1 .0)) (List._∷_ (Row.lease (κs .1 .1 .1 .1 .0) (qs .1 .1 .1 .1 .0)) (List._∷_
-              (Row.lease (κs .1 .1 .1 .1 .1 .0) (qs .1 .1 .1 .1 .1 .0)) (List._∷_ (Row.lease (κs .1 .1 .1 .1 .1 .1 .0) (qs .1 .1 .1 .1 .1 .1 .0)) (List._∷_ Row.off (List._∷_ (Row.lease (κs .1 .1 .1 .1 .1 .1 .1 .1 .0) (qs .1 .1 .1 .1 .1 .1 .1 .1 .0)) (List._∷_ Row.off (List._∷_ Row.off (List._∷_ Row.off
-              (List._∷_ Row.off (List._∷_ Row.off (List._∷_ Row.dead List.[]))))))))))))));
-        }
+        G68 = record
+            { locals = List._++_ g41 t40; slots = List._∷_ (Row.lease (κs .0) (qs .0)) (List._∷_ (Row.lease (κs .1 .0) (qs .1 .0)) (List._∷_ (Row.lease (κs .1 .1 .0) (qs .1 .1 .0)) (List._∷_ (Row.lease (κs .1 .1 .1 .0) (qs .1 .1 .1 .0)) (List._∷_ (Row.lease (κs .1 .1 .1 .1 .0) (qs .1 .1 .1 .1 .0)) (List._∷_ (Row.lease (κs .1 .1 .1 .1 .1 .0) (qs .1 .1 .1 .1 .1 .0)) (List._∷_ (Row.lease (κs .1 .1 .1 .1 .1 .1 .0) (qs .1 .1 .1 .1 .1 .1 .0)) (List._∷_ Row.off (List._∷_ (Row.lease (κs .1 .1 .1 .1 .1 .1 .1 .1 .0) (qs .1 .1 .1 .1 .1 .1 .1 .1 .0)) (List._∷_ Row.off (List._∷_ Row.off (List._∷_ Row.off (List._∷_ Row.off (List._∷_ Row.off (List._∷_ Row.dead List.[])))))))))))))) }
 
         abbrev G69 : Row.Cx
-        G69 = record {
-          locals = List._++_ t2 t1;
-          slots = List._∷_ (Row.lease (κs .0) (qs .0)) (List._∷_ (Row.lease (κs .1 .0) (qs .1 .0)) (List._∷_ (Row.lease (κs .1 .1 .0) (qs .1 .1 .0)) (List._∷_ (Row.lease (κs .1 .1 .1 .0) (qs .1 .1 .1 .0)) (List._∷_ (Row.lease (κs .1 .1 .1 .1 .0) (qs .1 .1 .1 .1 .0)) (List._∷_
-              (Row.lease (κs .1 .1 .1 .1 .1 .0) (qs .1 .1 .1 .1 .1 .0)) (List._∷_ (Row.lease (κs .1 .1 .1 .1 .1 .1 .0) (qs .1 .1 .1 .1 .1 .1 .0)) (List._∷_ (Row.lease (κs .1 .1 .1 .1 .1 .1 .1 .0) (qs .1 .1 .1 .1 .1 .1 .1 .0)) (List._∷_ (Row.lease (κs .1 .1 .1 .1 .1 .1 .1 .1 .0) (qs .1 .1 .1 .1 .1 .1 .1 .1 .0)) (List._∷_ Row.off (List._∷_ Row.off (List._∷_
-              Row.off (List._∷_ Row.off (List._∷_ Row.off (List._∷_ Row.dead List.[]))))))))))))));
-        }
-
-        abbrev G70 : Row.Cx
-        G70 = record {
-          locals = List._++_ t2 t1;
-          slots = List._∷_ (Row.lease (κs .0) (qs .0)) (List._∷_ (Row.lease (κs .1 .0) (qs .1 .0)) (List._∷_ (Row.lease (κs .1 .1 .0) (qs .1 .1 .0)) (List._∷_ (Row.lease (κs .1 .1 .1 .0) (qs .1 .1 .1 .0)) (List._∷_ (Row.lease (κs .1 .1 .1 .1 .0) (qs .1 .1 .1 .1 .0)) (List._∷_
-              (Row.lease (κs .1 .1 .1 .1 .1 .0) (qs .1 .1 .1 .1 .1 .0)) (List._∷_ (Row.lease (κs .1 .1 .1 .1 .1 .1 .0) (qs .1 .1 .1 .1 .1 .1 .0)) (List._∷_ (Row.lease (κs .1 .1 .1 .1 .1 .1 .1 .0) (qs .1 .1 .1 .1 .1 .1 .1 .0)) (List._∷_ (Row.lease (κs .1 .1 .1 .1 .1 .1 .1 .1 .0) (qs .1 .1 .1 .1 .1 .1 .1 .1 .0)) (List._∷_ Row.off (List._∷_ Row.off (List._∷_
-              Row.off (List._∷_ Row.off (List._∷_ Row.off (List._∷_ Row.dead List.[]))))))))))))));
-        }
-
-        abbrev G71 : Row.Cx
-        G71 = record {
-          locals = List._++_ t2 t1;
-          slots = List._∷_ (Row.lease (κs .0) (qs .0)) (List._∷_ (Row.lease (κs .1 .0) (qs .1 .0)) (List._∷_ (Row.lease (κs .1 .1 .0) (qs .1 .1 .0)) (List._∷_ (Row.lease (κs .1 .1 .1 .0) (qs .1 .1 .1 .0)) (List._∷_ (Row.lease (κs .1 .1 .1 .1 .0) (qs .1 .1 .1 .1 .0)) (List._∷_
-              (Row.lease (κs .1 .1 .1 .1 .1 .0) (qs .1 .1 .1 .1 .1 .0)) (List._∷_ (Row.lease (κs .1 .1 .1 .1 .1 .1 .0) (qs .1 .1 .1 .1 .1 .1 .0)) (List._∷_ (Row.lease (κs .1 .1 .1 .1 .1 .1 .1 .0) (qs .1 .1 .1 .1 .1 .1 .1 .0)) (List._∷_ (Row.lease (κs .1 .1 .1 .1 .1 .1 .1 .1 .0) (qs .1 .1 .1 .1 .1 .1 .1 .1 .0)) (List._∷_ Row.off (List._∷_ Row.off (List._∷_
-              Row.off (List._∷_ Row.off (List._∷_ Row.off (List._∷_ Row.off List.[]))))))))))))));
-        }
+        G69 = record { locals = T1 .locals; slots = slots·10 }
 
         abbrev Δ0 : Typed.Outs
         Δ0 = record { next = Option.none; exits = List.[]; returns = Option.some G1 }
@@ -2674,565 +1339,172 @@ module _ (claims· : Claims) where
         Δ1 = Typed.withNext (Option.some G11) Δ0
 
         abbrev Δ2 : Typed.Outs
-        Δ2 = Typed.withNext (Option.some G33) Δ1
+        Δ2 = Typed.withNext (Option.some G11) Δ1
 
         module _ {M : Type 1} (𝓤 : URA.URA M) (H : Wp.Heap 𝓤) (A : Atoms.Atoms 𝓤) (W : Kit.Given 𝓤 H A) (𝓣 : Wp.Tables 𝓤 H) (known : Knowns 𝓤 H A W 𝓣) (bs : List.List Nat.ℕ) (bd : Lifetimes.AllOutlive 9 (Kinds.osR r) κs) where
           abbrev E : Wp.Env 𝓤 H
           E = Frame.EnvOf 𝓤 H (List._∷_ (Kinds.tyR r) (Enter.tysP ps xs)) bs
 
-          d0 : Typed.Typed 𝓤 H A 𝓣 E G37 b10 Δ2 at0
+          d0 : Typed.Typed 𝓤 H A 𝓣 E G1 b10 Δ2 at0
           d0 = Typed.t-return 𝓤 H A W 𝓣 E Δ2 tt
 
-          d1 : Typed.Typed 𝓤 H A 𝓣 E G36 b10 Δ2 at1
-          d1 = Typed.g-pre 𝓤 H A W 𝓣 E G36 G37 b10 Δ2 (Typed.pass T36 T37 s33) at0 (Scalar.g-room 𝓤 H A W E G36 11 ty·13 (Local.room-whole 𝓤 H A W (Declared.row ArriveReply.the-type) ty·13 Path'.refl)) d0
+          d2 : Typed.Typed 𝓤 H A 𝓣 E G30 b11 Δ2 at2
+          d2 = Typed.s-seq 𝓤 H A W 𝓣 E G30 G36 b9 b10 Δ2 (Typed.both s32) at1 (Plain.t-call-plain 𝓤 H A W 𝓣 0 ps·3 r·4 (claims· .8) (claims· .9) "handset::replies::refusal_of" (known .4) E (λ pos β. β) G30 (record { pos = 11; st = List.[]; d = 0; at = λ x. x }, tt) 0 List.[] (Call.sub-id 𝓤 H A W (G30 .slots))
+              ((Yields.yields-copy 𝓤 H A W (λ ρ. Unit) (Declared.row ArriveReply.the-type) Path'.refl (Copies.cEnum ArriveReply.the-type Laws.the-laws Laws.the-copy .copy 𝓤 H A W) (Rows.whole (Declared.row ArriveReply.the-type)) (λ x. x) (λ x. x) (λ ρ told. Local.mem-whole 𝓤 H A W (Declared.row ArriveReply.the-type) ρ) λ ρ told. Local.whole-mem 𝓤 H A W (Declared.row ArriveReply.the-type) ρ, Path'.refl), tt)
+              (Reads.room-gone 𝓤 H A ty·14) tt Path'.refl) (Typed.g-pre 𝓤 H A W 𝓣 E G36 G1 b10 Δ2 (Typed.pass T36 T1 s33) at0 (Scalar.g-room 𝓤 H A W E G36 11 ty·13 (Local.room-whole 𝓤 H A W (Declared.row ArriveReply.the-type) ty·13 Path'.refl)) d0)
 
-          d2 : Typed.Typed 𝓤 H A 𝓣 E G35 b11 Δ2 at2
-          d2 = Typed.s-seq 𝓤 H A W 𝓣 E G35 G36 b9 b10 Δ2 (Typed.both s32) at1 (Plain.t-call-plain 𝓤 H A W 𝓣 0 ps·4 r·4 (claims· .8) (claims· .9) "handset::replies::refusal_of" (known .4) E (λ pos β. β) G35 (record { pos = 11; st = List.[]; d = 0; at = λ x. x }, tt) 0 List.[] (Call.sub-id 𝓤 H A W (G35 .slots)) (
-            (
-              Yields.yields-copy 𝓤 H A W (λ ρ. Unit)
-                  (Declared.row ArriveReply.the-type) Path'.refl (Copies.cEnum ArriveReply.the-type Laws.the-laws Laws.the-copy .copy 𝓤 H A W) (Rows.whole (Declared.row ArriveReply.the-type)) (λ x. x) (λ x. x) (λ ρ told. Local.mem-whole 𝓤 H A W (Declared.row ArriveReply.the-type) ρ) λ ρ told. Local.whole-mem 𝓤 H A W (Declared.row ArriveReply.the-type) ρ,
-              Path'.refl,
-            ),
-            tt,
-          ) (Reads.room-gone 𝓤 H A ty·14) tt Path'.refl) d1
-
-          d3 : Typed.Typed 𝓤 H A 𝓣 E G34 b11 Δ2 at3
-          d3 = Typed.g-pre 𝓤 H A W 𝓣 E G34 G35 b11 Δ2 (Typed.pass T34 T35 s31) at2 (Scalar.g-room 𝓤 H A W E G34 19 Syntax.tyBool (Scalar.room-sc 𝓤 H A W Row.sBool)) d2
-
-          d4 : Typed.Typed 𝓤 H A 𝓣 E G39 b12 Δ2 at4
+          d4 : Typed.Typed 𝓤 H A 𝓣 E G11 b12 Δ2 at4
           d4 = Typed.t-skip 𝓤 H A W 𝓣 E Δ2 tt
 
-          d5 : Typed.Typed 𝓤 H A 𝓣 E G38 b12 Δ2 at5
-          d5 = Typed.g-pre 𝓤 H A W 𝓣 E G38 G39 b12 Δ2 (Typed.pass T38 T39 s35) at4 (Scalar.g-room 𝓤 H A W E G38 19 Syntax.tyBool (Scalar.room-sc 𝓤 H A W Row.sBool)) d4
-
-          d6 : Typed.Typed 𝓤 H A 𝓣 E G34 b12 Δ2 at6
-          d6 = Typed.g-pre 𝓤 H A W 𝓣 E G34 G38 b12 Δ2 (Typed.pass T34 T38 s34) at5 (Scalar.g-room 𝓤 H A W E G34 11 ty·13 (Local.room-whole 𝓤 H A W (Declared.row ArriveReply.the-type) ty·13 Path'.refl)) d5
-
           d7 : Typed.Typed 𝓤 H A 𝓣 E G34 b13 Δ2 at7
-          d7 = Scalar.t-cond 𝓤 H A W E 𝓣 G34 19 (λ x. x) b11 b12 Δ2 at3 at6 (Scalar.reads-sc 𝓤 H A W Row.sBool) Path'.refl d3 d6
+          d7 = Scalar.t-cond 𝓤 H A W E 𝓣 G34 19 (λ x. x) b11 b12 Δ2 at3 at6 (Scalar.reads-sc 𝓤 H A W Row.sBool) Path'.refl (Typed.g-pre 𝓤 H A W 𝓣 E G34 G30 b11 Δ2 (Typed.pass T34 T28 s31) at2 (Scalar.g-room 𝓤 H A W E G34 19 Syntax.tyBool (Scalar.room-sc 𝓤 H A W Row.sBool)) d2) (Typed.g-pre 𝓤 H A W 𝓣 E G34 G38 b12 Δ2 (Typed.pass T34 T38 s34) at5
+              (Scalar.g-room 𝓤 H A W E G34 11 ty·13 (Local.room-whole 𝓤 H A W (Declared.row ArriveReply.the-type) ty·13 Path'.refl)) (Typed.g-pre 𝓤 H A W 𝓣 E G38 G11 b12 Δ2 (Typed.pass T38 T11 s35) at4 (Scalar.g-room 𝓤 H A W E G38 19 Syntax.tyBool (Scalar.room-sc 𝓤 H A W Row.sBool)) d4))
 
-          d8 : Typed.Typed 𝓤 H A 𝓣 E G32 b13 Δ2 at8
-          d8 = Typed.g-pre 𝓤 H A W 𝓣 E G32 G34 b13 Δ2 (Typed.pass T32 T34 s30) at7 (Scalar.g-room 𝓤 H A W E G32 18 Syntax.tyBool (Scalar.room-sc 𝓤 H A W Row.sBool)) d7
-
-          d9 : Typed.Typed 𝓤 H A 𝓣 E G54 b19 Δ1 at9
+          d9 : Typed.Typed 𝓤 H A 𝓣 E G1 b19 Δ1 at9
           d9 = Typed.t-return 𝓤 H A W 𝓣 E Δ1 tt
-
-          d10 : Typed.Typed 𝓤 H A 𝓣 E G53 b19 Δ1 at10
-          d10 = Typed.g-pre 𝓤 H A W 𝓣 E G53 G54 b19 Δ1 (λ Ψ. Ψ) at9 (Lifetime.g-forget 𝓤 H A W E G53 12 Row.dead Path'.refl) d9
-
-          d11 : Typed.Typed 𝓤 H A 𝓣 E G52 b19 Δ1 at11
-          d11 = Typed.g-pre 𝓤 H A W 𝓣 E G52 G53 b19 Δ1 (Typed.give s49) at10 (Know.g-sl-known 𝓤 H A W (Referent.fInt Syntax.w8) E G52 8 7 ty·5 (Row.lease (κs .1 .1 .1 .1 .1 .1 .1 .0) (qs .1 .1 .1 .1 .1 .1 .1 .0)) 0 (λ x. x) record { fits = Dec'.lit< tt } (Reads.as-is 𝓤 H A (Mut.mslice (Referent.rtF (Referent.fInt Syntax.w8)) ty·5 7)) Path'.refl tt) d10
 
           d12 : Typed.Typed 𝓤 H A 𝓣 E G51 b19 Δ1 at12
           d12 = Typed.g-pre 𝓤 H A W 𝓣 E G51 G52 b19 Δ1 (Typed.both s48) at11 (Relend.g-back-sl 𝓤 H A W E (Referent.rtF (Referent.fInt Syntax.w8)) G51 23 8 7 12 ty·5 ty·1 (Row.lease (κs .1 .1 .1 .1 .1 .1 .1 .0) (qs .1 .1 .1 .1 .1 .1 .1 .0)) (λ x. x) (λ x. x) (Reads.as-is 𝓤 H A (Mut.msleft (Referent.rtF (Referent.fInt Syntax.w8)) ty·1)) (Reads.as-is 𝓤 H A
-              (Relend.mslice-owed (Referent.rtF (Referent.fInt Syntax.w8)) ty·5 7 12 (Row.lease (κs .1 .1 .1 .1 .1 .1 .1 .0) (qs .1 .1 .1 .1 .1 .1 .1 .0)))) Path'.refl Path'.refl) d11
-
-          d13 : Typed.Typed 𝓤 H A 𝓣 E G50 b19 Δ1 at13
-          d13 = Typed.g-pre 𝓤 H A W 𝓣 E G50 G51 b19 Δ1 (λ Ψ. Ψ) at12 (Lifetime.g-end 𝓤 H A W E G50 12 Path'.refl) d12
-
-          d14 : Typed.Typed 𝓤 H A 𝓣 E G49 b19 Δ1 at14
-          d14 = Typed.g-pre 𝓤 H A W 𝓣 E G49 G50 b19 Δ1 (λ Ψ. Ψ) at13 (Lifetime.g-forget 𝓤 H A W E G49 11 Row.dead Path'.refl) d13
-
-          d15 : Typed.Typed 𝓤 H A 𝓣 E G48 b19 Δ1 at15
-          d15 = Typed.g-pre 𝓤 H A W 𝓣 E G48 G49 b19 Δ1 (Typed.pass T47 T49 s45) at14 (Reshare.g-back-sl-shr 𝓤 H A W E (Referent.rtF (Referent.fInt Syntax.w16)) G48 7 6 11 ty·11 (Row.lease (κs .1 .1 .1 .1 .1 .1 .0) (qs .1 .1 .1 .1 .1 .1 .0)) (λ x. x) (Reads.as-is 𝓤 H A (Reshare.mslice-owedS (Referent.rtF (Referent.fInt Syntax.w16)) ty·11 6 11
-              (Row.lease (κs .1 .1 .1 .1 .1 .1 .0) (qs .1 .1 .1 .1 .1 .1 .0)))) Path'.refl Path'.refl) d14
-
-          d16 : Typed.Typed 𝓤 H A 𝓣 E G47 b19 Δ1 at16
-          d16 = Typed.g-pre 𝓤 H A W 𝓣 E G47 G48 b19 Δ1 (λ Ψ. Ψ) at15 (Lifetime.g-end 𝓤 H A W E G47 11 Path'.refl) d15
+              (Relend.mslice-owed (Referent.rtF (Referent.fInt Syntax.w8)) ty·5 7 12 (Row.lease (κs .1 .1 .1 .1 .1 .1 .1 .0) (qs .1 .1 .1 .1 .1 .1 .1 .0)))) Path'.refl Path'.refl) (Typed.g-pre 𝓤 H A W 𝓣 E G52 G52 b19 Δ1 (Typed.give s49) at9 (Know.g-sl-known 𝓤 H A W (Referent.fInt Syntax.w8) E G52 8 7 ty·5 (Row.lease (κs .1 .1 .1 .1 .1 .1 .1 .0) (qs .1 .1 .1 .1
+              .1 .1 .1 .0)) 0 (λ x. x) record { fits = Dec'.lit< tt } (Reads.as-is 𝓤 H A (Mut.mslice (Referent.rtF (Referent.fInt Syntax.w8)) ty·5 7)) Path'.refl tt) (Typed.g-pre 𝓤 H A W 𝓣 E G52 G1 b19 Δ1 (λ Ψ. Ψ) at9 (Lifetime.g-forget 𝓤 H A W E G52 12 Row.dead Path'.refl) d9))
 
           d17 : Typed.Typed 𝓤 H A 𝓣 E G46 b19 Δ1 at17
-          d17 = Typed.g-pre 𝓤 H A W 𝓣 E G46 G47 b19 Δ1 (Typed.pass T46 T47 s43) at16 (Scalar.g-room 𝓤 H A W E G46 21 (Syntax.tyStruct (List._∷_ 38 (List._∷_ 91 (List._∷_ 93 List.[]))) (Syntax.tcons ty·3 (Syntax.tcons (Syntax.tyInt Syntax.w64) Syntax.tnil))) (Shared.room-sslice 𝓤 H A W (Referent.rtF (Referent.fInt Syntax.w16)) ty·3 11)) d16
+          d17 = Typed.g-pre 𝓤 H A W 𝓣 E G46 G47 b19 Δ1 (Typed.pass T46 T47 s43) at15 (Scalar.g-room 𝓤 H A W E G46 21 (Syntax.tyStruct (List._∷_ 38 (List._∷_ 91 (List._∷_ 93 List.[]))) (Syntax.tcons ty·3 (Syntax.tcons (Syntax.tyInt Syntax.w64) Syntax.tnil))) (Shared.room-sslice 𝓤 H A W (Referent.rtF (Referent.fInt Syntax.w16)) ty·3 11)) (Typed.g-pre 𝓤 H A W 𝓣
+              E G47 G48 b19 Δ1 (λ Ψ. Ψ) at15 (Lifetime.g-end 𝓤 H A W E G47 11 Path'.refl) (Typed.g-pre 𝓤 H A W 𝓣 E G48 G49 b19 Δ1 (Typed.pass T47 T49 s45) at12 (Reshare.g-back-sl-shr 𝓤 H A W E (Referent.rtF (Referent.fInt Syntax.w16)) G48 7 6 11 ty·11 (Row.lease (κs .1 .1 .1 .1 .1 .1 .0) (qs .1 .1 .1 .1 .1 .1 .0)) (λ x. x) (Reads.as-is 𝓤 H A
+              (Reshare.mslice-owedS (Referent.rtF (Referent.fInt Syntax.w16)) ty·11 6 11 (Row.lease (κs .1 .1 .1 .1 .1 .1 .0) (qs .1 .1 .1 .1 .1 .1 .0)))) Path'.refl Path'.refl) (Typed.g-pre 𝓤 H A W 𝓣 E G49 G50 b19 Δ1 (λ Ψ. Ψ) at12 (Lifetime.g-forget 𝓤 H A W E G49 11 Row.dead Path'.refl) (Typed.g-pre 𝓤 H A W 𝓣 E G50 G51 b19 Δ1 (λ Ψ. Ψ) at12 (Lifetime.g-end 𝓤 H A
+              W E G50 12 Path'.refl) d12))))
 
           d18 : Typed.Typed 𝓤 H A 𝓣 E G45 b20 Δ1 at18
-          d18 = Typed.s-seq 𝓤 H A W 𝓣 E G45 G46 b18 b19 Δ1 (Typed.both s42) at17 (Plain.t-call-plain 𝓤 H A W 𝓣 9 ps·5 r·5 (claims· .10) (claims· .11) "handset::button::grant_all" (known .5) E (λ pos β. β) G45 (
-            record { pos = 1; ty = Syntax.tyRef (Syntax.named 0) Syntax.imm (Syntax.tyInt Syntax.w16); ref = λ x. x },
-            (
-              record {
-                pos = 2;
-                ty = Syntax.tyRef (Syntax.named 1) Syntax.imm (Syntax.tyInt Syntax.w16);
-                ref = λ x. x;
-              },
-              (
-                record { pos = 3; ty = Syntax.tyRef (Syntax.named 2) Syntax.imm (Syntax.tyInt Syntax.w8); ref = λ x. x },
-                (
-                  record { pos = 4; ty = Syntax.tyRef (Syntax.named 3) Syntax.imm (Syntax.tyInt Syntax.w16); ref = λ x. x },
-                  (
-                    record {
-                      pos = 5;
-                      ty = Syntax.tyRef (Syntax.named 4) Syntax.imm (Syntax.tyInt Syntax.w16);
-                      ref = λ x. x;
-                    },
-                    (
-                      record { pos = 6; ty = Syntax.tyRef (Syntax.named 5) Syntax.imm (Syntax.tyInt Syntax.w32); ref = λ x. x },
-                      (
-                        record { pos = 21; ty = Syntax.tyRef Syntax.erased Syntax.imm (Syntax.tyInt Syntax.w16); ref = λ x. x },
-                        (
-                          record {
-                            pos = 23;
-                            ty = Syntax.tyRef
-                                Syntax.erased Syntax.mut (Syntax.tyInt Syntax.w8);
-                            ref = λ x. x;
-                          },
-                          (record { pos = 9; ty = Syntax.tyRef (Syntax.named 8) Syntax.imm Rec.behind; ref = λ x. x }, tt),
-                        ),
-                      ),
-                    ),
-                  ),
-                ),
-              ),
-            ),
-          ) 0 (List._∷_ 0 (List._∷_ 1 (List._∷_ 2 (List._∷_ 3 (List._∷_ 4 (List._∷_ 5 (List._∷_ 11 (List._∷_ 12 (List._∷_ 8 List.[])))))))))
-              (Call.sub-id 𝓤 H A W (G45 .slots)) (
-                ShrSlice.spares-sslice 𝓤 H A W (Referent.rtF (Referent.fInt Syntax.w16)) ty·6 0,
-                Shared.reads-sslice 𝓤 H A W (Referent.rtF (Referent.fInt Syntax.w16)) ty·6 0,
-                Path'.refl,
-                (
-                  ShrSlice.spares-sslice 𝓤 H A W (Referent.rtF (Referent.fInt Syntax.w16)) ty·7 1,
-                  Shared.reads-sslice 𝓤 H A W
-                      (Referent.rtF (Referent.fInt Syntax.w16)) ty·7 1,
-                  Path'.refl,
-                  (
-                    ShrSlice.spares-sslice 𝓤 H A W (Referent.rtF (Referent.fInt Syntax.w8)) ty·4 2,
-                    Shared.reads-sslice 𝓤 H A W (Referent.rtF (Referent.fInt Syntax.w8)) ty·4 2,
-                    Path'.refl,
-                    (
-                      ShrSlice.spares-sslice 𝓤 H A W (Referent.rtF (Referent.fInt Syntax.w16)) ty·8 3,
-                      Shared.reads-sslice 𝓤 H A W
-                          (Referent.rtF (Referent.fInt Syntax.w16)) ty·8 3,
-                      Path'.refl,
-                      (
-                        ShrSlice.spares-sslice 𝓤 H A W (Referent.rtF (Referent.fInt Syntax.w16)) ty·9 4,
-                        Shared.reads-sslice 𝓤 H A W (Referent.rtF (Referent.fInt Syntax.w16)) ty·9 4,
-                        Path'.refl,
-                        (
-                          ShrSlice.spares-sslice 𝓤 H A W (Referent.rtF (Referent.fInt Syntax.w32)) ty·10 5,
-                          Shared.reads-sslice 𝓤 H A W
-                              (Referent.rtF (Referent.fInt Syntax.w32)) ty·10 5,
-                          Path'.refl,
-                          (
-                            ShrSlice.spares-sslice 𝓤 H A W (Referent.rtF (Referent.fInt Syntax.w16)) ty·3 11,
-                            Shared.reads-sslice 𝓤 H A W (Referent.rtF (Referent.fInt Syntax.w16)) ty·3 11,
-                            Path'.refl,
-                            (
-                              Reads.as-is 𝓤 H A (Mut.mslice (Referent.rtF (Referent.fInt Syntax.w8)) ty·1 12),
-                              Mut.reads-mslice 𝓤 H A W
-                                  (Referent.rtF (Referent.fInt Syntax.w8)) ty·1 12,
-                              Path'.refl,
-                              (ShrSlice.spares-sslice 𝓤 H A W Rec.rt ty·0 8, Shared.reads-sslice 𝓤 H A W Rec.rt ty·0 8, Path'.refl, tt),
-                            ),
-                          ),
-                        ),
-                      ),
-                    ),
-                  ),
-                ),
-              ) (Reads.room-gone 𝓤 H A ty·14) (tt, (tt, (tt, (tt, (tt, (tt, (tt, (tt, (tt, tt))))))))) Path'.refl) d17
-
-          d19 : Typed.Typed 𝓤 H A 𝓣 E G44 b21 Δ1 at19
-          d19 = Typed.s-seq 𝓤 H A W 𝓣 E G44 G45 b17 b20 Δ1 (Typed.ask s41) at18 (Relend.t-sl-aggregate 𝓤 H A W E (Referent.rtF (Referent.fInt Syntax.w8)) 𝓣 (Relend.asMut (Referent.rtF (Referent.fInt Syntax.w8))) G44 22 23 12 ty·1 ty·1 (λ x. x) (Scalar.oFld 8 (List._∷_ (Syntax.field 1) List.[]) (Syntax.tyInt Syntax.w64) 8 λ v. Shared.lenV (v .0)) (Reads.as-is
-              𝓤 H A (Relend.msptr (Referent.rtF (Referent.fInt Syntax.w8)) ty·1 12)) (Reads.room-gone 𝓤 H A (Syntax.tyStruct (List._∷_ 38 (List._∷_ 91 (List._∷_ 93 List.[]))) (Syntax.tcons ty·1 (Syntax.tcons (Syntax.tyInt Syntax.w64) Syntax.tnil)))) (
-                Relend.reads-owed-len 𝓤 H A W (Referent.rtF (Referent.fInt Syntax.w8)) ty·5 7 12
-                    (Row.lease (κs .1 .1 .1 .1 .1 .1 .1 .0) (qs .1 .1 .1 .1 .1 .1 .1 .0)) 8 Path'.refl,
-                Path'.refl,
-              ) Path'.refl Path'.refl λ b o k. tt) d18
+          d18 = Typed.s-seq 𝓤 H A W 𝓣 E G45 G46 b18 b19 Δ1 (Typed.both s42) at17 (Plain.t-call-plain 𝓤 H A W 𝓣 9 ps·5 r·5 (claims· .10) (claims· .11) "handset::button::grant_all" (known .5) E (λ pos β. β) G45
+              (record { pos = 1; ty = ty·6; ref = λ x. x }, (record { pos = 2; ty = ty·7; ref = λ x. x }, (record { pos = 3; ty = ty·4; ref = λ x. x }, (record { pos = 4; ty = ty·8; ref = λ x. x }, (record { pos = 5; ty = ty·9; ref = λ x. x }, (record { pos = 6; ty = ty·10; ref = λ x. x }, (record { pos = 21; ty = ty·3; ref = λ x. x }, (record { pos = 23; ty = ty·1; ref = λ x. x }, (record { pos = 9; ty = ty·0; ref = λ x. x }, tt)))))))))
+              0 (List._∷_ 0 (List._∷_ 1 (List._∷_ 2 (List._∷_ 3 (List._∷_ 4 (List._∷_ 5 (List._∷_ 11 (List._∷_ 12 (List._∷_ 8 List.[]))))))))) (Call.sub-id 𝓤 H A W (G45 .slots))
+              (ShrSlice.spares-sslice 𝓤 H A W (Referent.rtF (Referent.fInt Syntax.w16)) ty·6 0, Shared.reads-sslice 𝓤 H A W (Referent.rtF (Referent.fInt Syntax.w16)) ty·6 0, Path'.refl, (ShrSlice.spares-sslice 𝓤 H A W (Referent.rtF (Referent.fInt Syntax.w16)) ty·7 1, Shared.reads-sslice 𝓤 H A W (Referent.rtF (Referent.fInt Syntax.w16)) ty·7 1, Path'.refl, (ShrSlice.spares-sslice 𝓤 H A W (Referent.rtF (Referent.fInt Syntax.w8)) ty·4 2, Shared.reads-sslice 𝓤 H A W (Referent.rtF (Referent.fInt Syntax.w8)) ty·4 2, Path'.refl, (ShrSlice.spares-sslice 𝓤 H A W (Referent.rtF (Referent.fInt Syntax.w16)) ty·8 3, Shared.reads-sslice 𝓤 H A W (Referent.rtF (Referent.fInt Syntax.w16)) ty·8 3, Path'.refl, (ShrSlice.spares-sslice 𝓤 H A W (Referent.rtF (Referent.fInt Syntax.w16)) ty·9 4, Shared.reads-sslice 𝓤 H A W (Referent.rtF (Referent.fInt Syntax.w16)) ty·9 4, Path'.refl, (ShrSlice.spares-sslice 𝓤 H A W (Referent.rtF (Referent.fInt Syntax.w32)) ty·10 5, Shared.reads-sslice 𝓤 H A W (Referent.rtF (Referent.fInt Syntax.w32)) ty·10 5, Path'.refl, (ShrSlice.spares-sslice 𝓤 H A W (Referent.rtF (Referent.fInt Syntax.w16)) ty·3 11, Shared.reads-sslice 𝓤 H A W (Referent.rtF (Referent.fInt Syntax.w16)) ty·3 11, Path'.refl, (Reads.as-is 𝓤 H A (Mut.mslice (Referent.rtF (Referent.fInt Syntax.w8)) ty·1 12), Mut.reads-mslice 𝓤 H A W (Referent.rtF (Referent.fInt Syntax.w8)) ty·1 12, Path'.refl, (ShrSlice.spares-sslice 𝓤 H A W Rec.rt ty·0 8, Shared.reads-sslice 𝓤 H A W Rec.rt ty·0 8, Path'.refl, tt)))))))))
+              (Reads.room-gone 𝓤 H A ty·14) (tt, (tt, (tt, (tt, (tt, (tt, (tt, (tt, (tt, tt))))))))) Path'.refl) d17
 
           d20 : Typed.Typed 𝓤 H A 𝓣 E G43 b22 Δ1 at20
           d20 = Typed.s-seq 𝓤 H A W 𝓣 E G43 G44 b16 b21 Δ1 (Typed.give s40) at19 (Relend.t-sl-relend 𝓤 H A W E (Referent.rtF (Referent.fInt Syntax.w8)) 𝓣 G43 8 22 7 12 ty·5 ty·1 (Row.lease (κs .1 .1 .1 .1 .1 .1 .1 .0) (qs .1 .1 .1 .1 .1 .1 .1 .0)) 0 (λ x. x) (Reads.as-is 𝓤 H A (Mut.mslice (Referent.rtF (Referent.fInt Syntax.w8)) ty·5 7)) (Reads.room-gone 𝓤 H
-              A ty·1) Path'.refl tt Path'.refl Path'.refl Path'.refl λ b o. tt) d19
-
-          d21 : Typed.Typed 𝓤 H A 𝓣 E G42 b22 Δ1 at21
-          d21 = Typed.g-pre 𝓤 H A W 𝓣 E G42 G43 b22 Δ1 (λ Ψ. Ψ) at20 (Lifetime.g-begin 𝓤 H A W E G42 12 (tt, (tt, (tt, (tt, (tt, (tt, (tt, ((tt, tt), (tt, (tt, (tt, (tt, (tt, (tt, (tt, (tt, (tt, (tt, (tt, (tt, (tt, (tt, (tt, (tt, (tt, (tt, (tt, (tt, tt))))))))))))))))))))))))))))) d20
+              A ty·1) Path'.refl tt Path'.refl Path'.refl Path'.refl λ b o. tt) (Typed.s-seq 𝓤 H A W 𝓣 E G44 G45 b17 b20 Δ1 (Typed.ask s41) at18 (Relend.t-sl-aggregate 𝓤 H A W E (Referent.rtF (Referent.fInt Syntax.w8)) 𝓣 (Relend.asMut (Referent.rtF (Referent.fInt Syntax.w8))) G44 22 23 12 ty·1 ty·1 (λ x. x) (Scalar.oFld 8 (List._∷_ (Syntax.field 1) List.[])
+              (Syntax.tyInt Syntax.w64) 8 λ v. Shared.lenV (v .0)) (Reads.as-is 𝓤 H A (Relend.msptr (Referent.rtF (Referent.fInt Syntax.w8)) ty·1 12)) (Reads.room-gone 𝓤 H A (Syntax.tyStruct (List._∷_ 38 (List._∷_ 91 (List._∷_ 93 List.[]))) (Syntax.tcons ty·1 (Syntax.tcons (Syntax.tyInt Syntax.w64) Syntax.tnil))))
+              (Relend.reads-owed-len 𝓤 H A W (Referent.rtF (Referent.fInt Syntax.w8)) ty·5 7 12 (Row.lease (κs .1 .1 .1 .1 .1 .1 .1 .0) (qs .1 .1 .1 .1 .1 .1 .1 .0)) 8 Path'.refl, Path'.refl) Path'.refl Path'.refl λ b o k. tt) d18)
 
           d22 : Typed.Typed 𝓤 H A 𝓣 E G41 b23 Δ1 at22
-          d22 = Typed.s-seq 𝓤 H A W 𝓣 E G41 G42 b15 b22 Δ1 (Typed.ask s38) at21 (Relend.t-sl-aggregate 𝓤 H A W E (Referent.rtF (Referent.fInt Syntax.w16)) 𝓣 (Relend.asShr (Referent.rtF (Referent.fInt Syntax.w16))) G41 20 21 11 ty·3 ty·3 (λ x. x) (Scalar.oFld 7 (List._∷_ (Syntax.field 1) List.[]) (Syntax.tyInt Syntax.w64) 8 λ v. Shared.lenV (v .0))
-              (Reads.as-is 𝓤 H A (Relend.ssptr (Referent.rtF (Referent.fInt Syntax.w16)) ty·3 11)) (Reads.room-gone 𝓤 H A (Syntax.tyStruct (List._∷_ 38 (List._∷_ 91 (List._∷_ 93 List.[]))) (Syntax.tcons ty·3 (Syntax.tcons (Syntax.tyInt Syntax.w64) Syntax.tnil)))) (
-                Reshare.reads-owedS-len 𝓤 H A W (Referent.rtF (Referent.fInt Syntax.w16)) ty·11 6 11
-                    (Row.lease (κs .1 .1 .1 .1 .1 .1 .0) (qs .1 .1 .1 .1 .1 .1 .0)) 8 Path'.refl,
-                Path'.refl,
-              ) Path'.refl Path'.refl λ b o k. tt) d21
-
-          d23 : Typed.Typed 𝓤 H A 𝓣 E G40 b24 Δ1 at23
-          d23 = Typed.s-seq 𝓤 H A W 𝓣 E G40 G41 b14 b23 Δ1 (Typed.give s37) at22 (Reshare.t-sl-reshare 𝓤 H A W E (Referent.rtF (Referent.fInt Syntax.w16)) 𝓣 G40 7 20 6 11 ty·11 ty·3 (Row.lease (κs .1 .1 .1 .1 .1 .1 .0) (qs .1 .1 .1 .1 .1 .1 .0)) 0 (λ x. x) (Reads.as-is 𝓤 H A (Mut.mslice (Referent.rtF (Referent.fInt Syntax.w16)) ty·11 6)) (Reads.room-gone 𝓤 H
-              A ty·3) Path'.refl tt Path'.refl Path'.refl Path'.refl λ b o. tt) d22
-
-          d24 : Typed.Typed 𝓤 H A 𝓣 E G33 b24 Δ1 at24
-          d24 = Typed.g-pre 𝓤 H A W 𝓣 E G33 G40 b24 Δ1 (λ Ψ. Ψ) at23 (Lifetime.g-begin 𝓤 H A W E G33 11 (tt, (tt, (tt, (tt, (tt, (tt, (tt, (tt, (tt, (tt, (tt, (tt, (tt, (tt, (tt, (tt, (tt, (tt, (tt, (tt, (tt, (tt, (tt, (tt, (tt, (tt, (tt, (tt, tt))))))))))))))))))))))))))))) d23
+          d22 = Typed.s-seq 𝓤 H A W 𝓣 E G41 G42 b15 b22 Δ1 (Typed.ask s38) at20 (Relend.t-sl-aggregate 𝓤 H A W E (Referent.rtF (Referent.fInt Syntax.w16)) 𝓣 (Relend.asShr (Referent.rtF (Referent.fInt Syntax.w16))) G41 20 21 11 ty·3 ty·3 (λ x. x) (Scalar.oFld 7 (List._∷_ (Syntax.field 1) List.[]) (Syntax.tyInt Syntax.w64) 8 λ v. Shared.lenV (v .0))
+              (Reads.as-is 𝓤 H A (Relend.ssptr (Referent.rtF (Referent.fInt Syntax.w16)) ty·3 11)) (Reads.room-gone 𝓤 H A (Syntax.tyStruct (List._∷_ 38 (List._∷_ 91 (List._∷_ 93 List.[]))) (Syntax.tcons ty·3 (Syntax.tcons (Syntax.tyInt Syntax.w64) Syntax.tnil))))
+              (Reshare.reads-owedS-len 𝓤 H A W (Referent.rtF (Referent.fInt Syntax.w16)) ty·11 6 11 (Row.lease (κs .1 .1 .1 .1 .1 .1 .0) (qs .1 .1 .1 .1 .1 .1 .0)) 8 Path'.refl, Path'.refl) Path'.refl Path'.refl λ b o k. tt) (Typed.g-pre 𝓤 H A W 𝓣 E G42 G43 b22 Δ1 (λ Ψ. Ψ) at20 (Lifetime.g-begin 𝓤 H A W E G42 12
+              (tt, (tt, (tt, (tt, (tt, (tt, (tt, ((tt, tt), (tt, (tt, (tt, (tt, (tt, (tt, (tt, (tt, (tt, (tt, (tt, (tt, (tt, (tt, (tt, (tt, (tt, (tt, (tt, (tt, tt))))))))))))))))))))))))))))) d20)
 
           d25 : Typed.Typed 𝓤 H A 𝓣 E G32 b25 Δ1 at25
-          d25 = Typed.t-seq 𝓤 H A W 𝓣 E G32 G33 b13 b24 Δ1 at8 at24 d8 d24
-
-          d26 : Typed.Typed 𝓤 H A 𝓣 E G31 b26 Δ1 at26
-          d26 = Typed.s-seq 𝓤 H A W 𝓣 E G31 G32 b8 b25 Δ1 (Typed.ask s29) at25 (Scalar.t-op1 𝓤 H A W E 𝓣 G31 Syntax.bitNot (Scalar.oAt 18 Syntax.tyBool (Row.valS Row.sBool)) 19 (Rows.sc-here Row.sBool) Syntax.tyBool (Row.valS Row.sBool) (Row.sBool .of) (Scalar.reads-sc 𝓤 H A W Row.sBool, Path'.refl) (Reads.room-gone 𝓤 H A Syntax.tyBool)
-              (Scalar.holds-sc 𝓤 H A W Row.sBool) Path'.refl (λ u. Path'.refl) λ u. tt) d25
+          d25 = Typed.t-seq 𝓤 H A W 𝓣 E G32 G11 b13 b24 Δ1 at8 at23 (Typed.g-pre 𝓤 H A W 𝓣 E G32 G34 b13 Δ2 (Typed.pass T32 T34 s30) at7 (Scalar.g-room 𝓤 H A W E G32 18 Syntax.tyBool (Scalar.room-sc 𝓤 H A W Row.sBool)) d7) (Typed.g-pre 𝓤 H A W 𝓣 E G11 G40 b24 Δ1 (λ Ψ. Ψ) at23 (Lifetime.g-begin 𝓤 H A W E G11 11
+              (tt, (tt, (tt, (tt, (tt, (tt, (tt, (tt, (tt, (tt, (tt, (tt, (tt, (tt, (tt, (tt, (tt, (tt, (tt, (tt, (tt, (tt, (tt, (tt, (tt, (tt, (tt, (tt, tt))))))))))))))))))))))))))))) (Typed.s-seq 𝓤 H A W 𝓣 E G40 G41 b14 b23 Δ1 (Typed.give s37) at22 (Reshare.t-sl-reshare 𝓤 H A W E (Referent.rtF (Referent.fInt Syntax.w16)) 𝓣 G40 7 20 6 11 ty·11 ty·3 (Row.lease
+              (κs .1 .1 .1 .1 .1 .1 .0) (qs .1 .1 .1 .1 .1 .1 .0)) 0 (λ x. x) (Reads.as-is 𝓤 H A (Mut.mslice (Referent.rtF (Referent.fInt Syntax.w16)) ty·11 6)) (Reads.room-gone 𝓤 H A ty·3) Path'.refl tt Path'.refl Path'.refl Path'.refl λ b o. tt) d22))
 
           d27 : Typed.Typed 𝓤 H A 𝓣 E G30 b27 Δ1 at27
-          d27 = Typed.s-seq 𝓤 H A W 𝓣 E G30 G31 b7 b26 Δ1 (Typed.both s28) at26 (Plain.t-call-plain 𝓤 H A W 𝓣 0 ps·3 r·3 (claims· .6) (claims· .7) "handset::replies::is_arrived" (known .3) E (λ pos β. β) G30 (record { pos = 11; st = List.[]; d = 0; at = λ x. x }, tt) 18 List.[] (Call.sub-id 𝓤 H A W (G30 .slots)) (
-            (
-              Yields.yields-copy 𝓤 H A W (λ ρ. Unit)
-                  (Declared.row ArriveReply.the-type) Path'.refl (Copies.cEnum ArriveReply.the-type Laws.the-laws Laws.the-copy .copy 𝓤 H A W) (Rows.whole (Declared.row ArriveReply.the-type)) (λ x. x) (λ x. x) (λ ρ told. Local.mem-whole 𝓤 H A W (Declared.row ArriveReply.the-type) ρ) λ ρ told. Local.whole-mem 𝓤 H A W (Declared.row ArriveReply.the-type) ρ,
-              Path'.refl,
-            ),
-            tt,
-          ) (Reads.room-gone 𝓤 H A Syntax.tyBool) tt Path'.refl) d26
-
-          d28 : Typed.Typed 𝓤 H A 𝓣 E G29 b27 Δ1 at28
-          d28 = Typed.g-pre 𝓤 H A W 𝓣 E G29 G30 b27 Δ1 (λ Ψ. Ψ) at27 (Lifetime.g-forget 𝓤 H A W E G29 10 Row.dead Path'.refl) d27
-
-          d29 : Typed.Typed 𝓤 H A 𝓣 E G28 b27 Δ1 at29
-          d29 = Typed.g-pre 𝓤 H A W 𝓣 E G28 G29 b27 Δ1 (Typed.give s26) at28 (Know.g-sl-known 𝓤 H A W (Referent.fInt Syntax.w8) E G28 8 7 ty·5 (Row.lease (κs .1 .1 .1 .1 .1 .1 .1 .0) (qs .1 .1 .1 .1 .1 .1 .1 .0)) 0 (λ x. x) record { fits = Dec'.lit< tt } (Reads.as-is 𝓤 H A (Mut.mslice (Referent.rtF (Referent.fInt Syntax.w8)) ty·5 7)) Path'.refl tt) d28
+          d27 = Typed.s-seq 𝓤 H A W 𝓣 E G30 G31 b7 b26 Δ1 (Typed.both s28) at26 (Plain.t-call-plain 𝓤 H A W 𝓣 0 ps·3 r·0 (claims· .6) (claims· .7) "handset::replies::is_arrived" (known .3) E (λ pos β. β) G30 (record { pos = 11; st = List.[]; d = 0; at = λ x. x }, tt) 18 List.[] (Call.sub-id 𝓤 H A W (G30 .slots))
+              ((Yields.yields-copy 𝓤 H A W (λ ρ. Unit) (Declared.row ArriveReply.the-type) Path'.refl (Copies.cEnum ArriveReply.the-type Laws.the-laws Laws.the-copy .copy 𝓤 H A W) (Rows.whole (Declared.row ArriveReply.the-type)) (λ x. x) (λ x. x) (λ ρ told. Local.mem-whole 𝓤 H A W (Declared.row ArriveReply.the-type) ρ) λ ρ told. Local.whole-mem 𝓤 H A W (Declared.row ArriveReply.the-type) ρ, Path'.refl), tt)
+              (Reads.room-gone 𝓤 H A Syntax.tyBool) tt Path'.refl) (Typed.s-seq 𝓤 H A W 𝓣 E G31 G32 b8 b25 Δ1 (Typed.ask s29) at25 (Scalar.t-op1 𝓤 H A W E 𝓣 G31 Syntax.bitNot (Scalar.oAt 18 Syntax.tyBool (Row.valS Row.sBool)) 19 (Rows.sc-here Row.sBool) Syntax.tyBool (Row.valS Row.sBool) (Row.sBool .of) (Scalar.reads-sc 𝓤 H A W Row.sBool, Path'.refl)
+              (Reads.room-gone 𝓤 H A Syntax.tyBool) (Scalar.holds-sc 𝓤 H A W Row.sBool) Path'.refl (λ u. Path'.refl) λ u. tt) d25)
 
           d30 : Typed.Typed 𝓤 H A 𝓣 E G27 b27 Δ1 at30
           d30 = Typed.g-pre 𝓤 H A W 𝓣 E G27 G28 b27 Δ1 (Typed.both s25) at29 (Relend.g-back-sl 𝓤 H A W E (Referent.rtF (Referent.fInt Syntax.w8)) G27 16 8 7 10 ty·5 ty·1 (Row.lease (κs .1 .1 .1 .1 .1 .1 .1 .0) (qs .1 .1 .1 .1 .1 .1 .1 .0)) (λ x. x) (λ x. x) (Reads.as-is 𝓤 H A (Mut.msleft (Referent.rtF (Referent.fInt Syntax.w8)) ty·1)) (Reads.as-is 𝓤 H A
-              (Relend.mslice-owed (Referent.rtF (Referent.fInt Syntax.w8)) ty·5 7 10 (Row.lease (κs .1 .1 .1 .1 .1 .1 .1 .0) (qs .1 .1 .1 .1 .1 .1 .1 .0)))) Path'.refl Path'.refl) d29
-
-          d31 : Typed.Typed 𝓤 H A 𝓣 E G26 b27 Δ1 at31
-          d31 = Typed.g-pre 𝓤 H A W 𝓣 E G26 G27 b27 Δ1 (λ Ψ. Ψ) at30 (Lifetime.g-end 𝓤 H A W E G26 10 Path'.refl) d30
-
-          d32 : Typed.Typed 𝓤 H A 𝓣 E G25 b27 Δ1 at32
-          d32 = Typed.g-pre 𝓤 H A W 𝓣 E G25 G26 b27 Δ1 (λ Ψ. Ψ) at31 (Lifetime.g-forget 𝓤 H A W E G25 9 Row.dead Path'.refl) d31
-
-          d33 : Typed.Typed 𝓤 H A 𝓣 E G24 b27 Δ1 at33
-          d33 = Typed.g-pre 𝓤 H A W 𝓣 E G24 G25 b27 Δ1 (Typed.give s22) at32 (Know.g-sl-known 𝓤 H A W (Referent.fInt Syntax.w16) E G24 7 6 ty·11 (Row.lease (κs .1 .1 .1 .1 .1 .1 .0) (qs .1 .1 .1 .1 .1 .1 .0)) 0 (λ x. x) record { fits = Dec'.lit< tt } (Reads.as-is 𝓤 H A (Mut.mslice (Referent.rtF (Referent.fInt Syntax.w16)) ty·11 6)) Path'.refl tt) d32
+              (Relend.mslice-owed (Referent.rtF (Referent.fInt Syntax.w8)) ty·5 7 10 (Row.lease (κs .1 .1 .1 .1 .1 .1 .1 .0) (qs .1 .1 .1 .1 .1 .1 .1 .0)))) Path'.refl Path'.refl) (Typed.g-pre 𝓤 H A W 𝓣 E G28 G28 b27 Δ1 (Typed.give s26) at27 (Know.g-sl-known 𝓤 H A W (Referent.fInt Syntax.w8) E G28 8 7 ty·5 (Row.lease (κs .1 .1 .1 .1 .1 .1 .1 .0) (qs .1 .1 .1 .1
+              .1 .1 .1 .0)) 0 (λ x. x) record { fits = Dec'.lit< tt } (Reads.as-is 𝓤 H A (Mut.mslice (Referent.rtF (Referent.fInt Syntax.w8)) ty·5 7)) Path'.refl tt) (Typed.g-pre 𝓤 H A W 𝓣 E G28 G30 b27 Δ1 (λ Ψ. Ψ) at27 (Lifetime.g-forget 𝓤 H A W E G28 10 Row.dead Path'.refl) d27))
 
           d34 : Typed.Typed 𝓤 H A 𝓣 E G23 b27 Δ1 at34
           d34 = Typed.g-pre 𝓤 H A W 𝓣 E G23 G24 b27 Δ1 (Typed.both s21) at33 (Relend.g-back-sl 𝓤 H A W E (Referent.rtF (Referent.fInt Syntax.w16)) G23 14 7 6 9 ty·11 ty·2 (Row.lease (κs .1 .1 .1 .1 .1 .1 .0) (qs .1 .1 .1 .1 .1 .1 .0)) (λ x. x) (λ x. x) (Reads.as-is 𝓤 H A (Mut.msleft (Referent.rtF (Referent.fInt Syntax.w16)) ty·2)) (Reads.as-is 𝓤 H A
-              (Relend.mslice-owed (Referent.rtF (Referent.fInt Syntax.w16)) ty·11 6 9 (Row.lease (κs .1 .1 .1 .1 .1 .1 .0) (qs .1 .1 .1 .1 .1 .1 .0)))) Path'.refl Path'.refl) d33
-
-          d35 : Typed.Typed 𝓤 H A 𝓣 E G22 b27 Δ1 at35
-          d35 = Typed.g-pre 𝓤 H A W 𝓣 E G22 G23 b27 Δ1 (λ Ψ. Ψ) at34 (Lifetime.g-end 𝓤 H A W E G22 9 Path'.refl) d34
-
-          d36 : Typed.Typed 𝓤 H A 𝓣 E G21 b27 Δ1 at36
-          d36 = Typed.g-pre 𝓤 H A W 𝓣 E G21 G22 b27 Δ1 (Typed.pass T21 T22 s19) at35 (Scalar.g-room 𝓤 H A W E G21 17 (Syntax.tyInt Syntax.w64) (Scalar.room-sc 𝓤 H A W (Row.sInt Syntax.w64))) d35
+              (Relend.mslice-owed (Referent.rtF (Referent.fInt Syntax.w16)) ty·11 6 9 (Row.lease (κs .1 .1 .1 .1 .1 .1 .0) (qs .1 .1 .1 .1 .1 .1 .0)))) Path'.refl Path'.refl) (Typed.g-pre 𝓤 H A W 𝓣 E G24 G24 b27 Δ1 (Typed.give s22) at30 (Know.g-sl-known 𝓤 H A W (Referent.fInt Syntax.w16) E G24 7 6 ty·11 (Row.lease (κs .1 .1 .1 .1 .1 .1 .0) (qs .1 .1 .1 .1 .1 .1
+              .0)) 0 (λ x. x) record { fits = Dec'.lit< tt } (Reads.as-is 𝓤 H A (Mut.mslice (Referent.rtF (Referent.fInt Syntax.w16)) ty·11 6)) Path'.refl tt) (Typed.g-pre 𝓤 H A W 𝓣 E G24 G26 b27 Δ1 (λ Ψ. Ψ) at30 (Lifetime.g-forget 𝓤 H A W E G24 9 Row.dead Path'.refl) (Typed.g-pre 𝓤 H A W 𝓣 E G26 G27 b27 Δ1 (λ Ψ. Ψ) at30 (Lifetime.g-end 𝓤 H A W E G26 10
+              Path'.refl) d30)))
 
           d37 : Typed.Typed 𝓤 H A 𝓣 E G20 b28 Δ1 at37
-          d37 = Typed.s-seq 𝓤 H A W 𝓣 E G20 G21 b6 b27 Δ1 (Typed.both s18) at36 (Plain.t-call-plain 𝓤 H A W 𝓣 9 ps·2 r·2 (claims· .4) (claims· .5) "conductor::calls::arrive" (known .2) E (λ pos β. β) G20 (
-            record { pos = 1; ty = Syntax.tyRef (Syntax.named 0) Syntax.imm (Syntax.tyInt Syntax.w16); ref = λ x. x },
-            (
-              record {
-                pos = 2;
-                ty = Syntax.tyRef (Syntax.named 1) Syntax.imm (Syntax.tyInt Syntax.w16);
-                ref = λ x. x;
-              },
-              (
-                record { pos = 3; ty = Syntax.tyRef (Syntax.named 2) Syntax.imm (Syntax.tyInt Syntax.w8); ref = λ x. x },
-                (
-                  record { pos = 4; ty = Syntax.tyRef (Syntax.named 3) Syntax.imm (Syntax.tyInt Syntax.w16); ref = λ x. x },
-                  (
-                    record {
-                      pos = 5;
-                      ty = Syntax.tyRef (Syntax.named 4) Syntax.imm (Syntax.tyInt Syntax.w16);
-                      ref = λ x. x;
-                    },
-                    (
-                      record { pos = 6; ty = Syntax.tyRef (Syntax.named 5) Syntax.imm (Syntax.tyInt Syntax.w32); ref = λ x. x },
-                      (
-                        record { pos = 14; ty = Syntax.tyRef Syntax.erased Syntax.mut (Syntax.tyInt Syntax.w16); ref = λ x. x },
-                        (
-                          record {
-                            pos = 16;
-                            ty = Syntax.tyRef
-                                Syntax.erased Syntax.mut (Syntax.tyInt Syntax.w8);
-                            ref = λ x. x;
-                          },
-                          (record { pos = 9; ty = Syntax.tyRef (Syntax.named 8) Syntax.imm Rec.behind; ref = λ x. x }, (Num.vAt 17 λ x. x, tt)),
-                        ),
-                      ),
-                    ),
-                  ),
-                ),
-              ),
-            ),
-          ) 11 (List._∷_ 0 (List._∷_ 1 (List._∷_ 2 (List._∷_ 3 (List._∷_ 4 (List._∷_ 5 (List._∷_ 9 (List._∷_ 10 (List._∷_ 8 List.[])))))))))
-              (Call.sub-id 𝓤 H A W (G20 .slots)) (
-                ShrSlice.spares-sslice 𝓤 H A W (Referent.rtF (Referent.fInt Syntax.w16)) ty·6 0,
-                Shared.reads-sslice 𝓤 H A W (Referent.rtF (Referent.fInt Syntax.w16)) ty·6 0,
-                Path'.refl,
-                (
-                  ShrSlice.spares-sslice 𝓤 H A W (Referent.rtF (Referent.fInt Syntax.w16)) ty·7 1,
-                  Shared.reads-sslice 𝓤 H A W
-                      (Referent.rtF (Referent.fInt Syntax.w16)) ty·7 1,
-                  Path'.refl,
-                  (
-                    ShrSlice.spares-sslice 𝓤 H A W (Referent.rtF (Referent.fInt Syntax.w8)) ty·4 2,
-                    Shared.reads-sslice 𝓤 H A W (Referent.rtF (Referent.fInt Syntax.w8)) ty·4 2,
-                    Path'.refl,
-                    (
-                      ShrSlice.spares-sslice 𝓤 H A W (Referent.rtF (Referent.fInt Syntax.w16)) ty·8 3,
-                      Shared.reads-sslice 𝓤 H A W
-                          (Referent.rtF (Referent.fInt Syntax.w16)) ty·8 3,
-                      Path'.refl,
-                      (
-                        ShrSlice.spares-sslice 𝓤 H A W (Referent.rtF (Referent.fInt Syntax.w16)) ty·9 4,
-                        Shared.reads-sslice 𝓤 H A W (Referent.rtF (Referent.fInt Syntax.w16)) ty·9 4,
-                        Path'.refl,
-                        (
-                          ShrSlice.spares-sslice 𝓤 H A W (Referent.rtF (Referent.fInt Syntax.w32)) ty·10 5,
-                          Shared.reads-sslice 𝓤 H A W
-                              (Referent.rtF (Referent.fInt Syntax.w32)) ty·10 5,
-                          Path'.refl,
-                          (
-                            Reads.as-is 𝓤 H A (Mut.mslice (Referent.rtF (Referent.fInt Syntax.w16)) ty·2 9),
-                            Mut.reads-mslice 𝓤 H A W (Referent.rtF (Referent.fInt Syntax.w16)) ty·2 9,
-                            Path'.refl,
-                            (
-                              Reads.as-is 𝓤 H A (Mut.mslice (Referent.rtF (Referent.fInt Syntax.w8)) ty·1 10),
-                              Mut.reads-mslice 𝓤 H A W
-                                  (Referent.rtF (Referent.fInt Syntax.w8)) ty·1 10,
-                              Path'.refl,
-                              (ShrSlice.spares-sslice 𝓤 H A W Rec.rt ty·0 8, Shared.reads-sslice 𝓤 H A W Rec.rt ty·0 8, Path'.refl, ((Scalar.reads-sc 𝓤 H A W (Row.sInt Syntax.w64), Path'.refl), tt)),
-                            ),
-                          ),
-                        ),
-                      ),
-                    ),
-                  ),
-                ),
-              ) (Reads.room-gone 𝓤 H A ty·13) (tt, (tt, (tt, (tt, (tt, (tt, (tt, (tt, (tt, tt)))))))))
-              Path'.refl) d36
-
-          d38 : Typed.Typed 𝓤 H A 𝓣 E G19 b28 Δ1 at38
-          d38 = Typed.g-pre 𝓤 H A W 𝓣 E G19 G20 b28 Δ1 (Typed.pass T19 T20 s17) at37 (Scalar.g-room 𝓤 H A W E G19 10 ty·12 (Local.room-whole 𝓤 H A W (Declared.row Report.the-type) ty·12 Path'.refl)) d37
+          d37 = Typed.s-seq 𝓤 H A W 𝓣 E G20 G21 b6 b27 Δ1 (Typed.both s18) at36 (Plain.t-call-plain 𝓤 H A W 𝓣 9 ps·2 r·2 (claims· .4) (claims· .5) "conductor::calls::arrive" (known .2) E (λ pos β. β) G20
+              (record { pos = 1; ty = ty·6; ref = λ x. x }, (record { pos = 2; ty = ty·7; ref = λ x. x }, (record { pos = 3; ty = ty·4; ref = λ x. x }, (record { pos = 4; ty = ty·8; ref = λ x. x }, (record { pos = 5; ty = ty·9; ref = λ x. x }, (record { pos = 6; ty = ty·10; ref = λ x. x }, (record { pos = 14; ty = ty·2; ref = λ x. x }, (record { pos = 16; ty = ty·1; ref = λ x. x }, (record { pos = 9; ty = ty·0; ref = λ x. x }, (Num.vAt 17 λ x. x, tt))))))))))
+              11 (List._∷_ 0 (List._∷_ 1 (List._∷_ 2 (List._∷_ 3 (List._∷_ 4 (List._∷_ 5 (List._∷_ 9 (List._∷_ 10 (List._∷_ 8 List.[]))))))))) (Call.sub-id 𝓤 H A W (G20 .slots))
+              (ShrSlice.spares-sslice 𝓤 H A W (Referent.rtF (Referent.fInt Syntax.w16)) ty·6 0, Shared.reads-sslice 𝓤 H A W (Referent.rtF (Referent.fInt Syntax.w16)) ty·6 0, Path'.refl, (ShrSlice.spares-sslice 𝓤 H A W (Referent.rtF (Referent.fInt Syntax.w16)) ty·7 1, Shared.reads-sslice 𝓤 H A W (Referent.rtF (Referent.fInt Syntax.w16)) ty·7 1, Path'.refl, (ShrSlice.spares-sslice 𝓤 H A W (Referent.rtF (Referent.fInt Syntax.w8)) ty·4 2, Shared.reads-sslice 𝓤 H A W (Referent.rtF (Referent.fInt Syntax.w8)) ty·4 2, Path'.refl, (ShrSlice.spares-sslice 𝓤 H A W (Referent.rtF (Referent.fInt Syntax.w16)) ty·8 3, Shared.reads-sslice 𝓤 H A W (Referent.rtF (Referent.fInt Syntax.w16)) ty·8 3, Path'.refl, (ShrSlice.spares-sslice 𝓤 H A W (Referent.rtF (Referent.fInt Syntax.w16)) ty·9 4, Shared.reads-sslice 𝓤 H A W (Referent.rtF (Referent.fInt Syntax.w16)) ty·9 4, Path'.refl, (ShrSlice.spares-sslice 𝓤 H A W (Referent.rtF (Referent.fInt Syntax.w32)) ty·10 5, Shared.reads-sslice 𝓤 H A W (Referent.rtF (Referent.fInt Syntax.w32)) ty·10 5, Path'.refl, (Reads.as-is 𝓤 H A (Mut.mslice (Referent.rtF (Referent.fInt Syntax.w16)) ty·2 9), Mut.reads-mslice 𝓤 H A W (Referent.rtF (Referent.fInt Syntax.w16)) ty·2 9, Path'.refl, (Reads.as-is 𝓤 H A (Mut.mslice (Referent.rtF (Referent.fInt Syntax.w8)) ty·1 10), Mut.reads-mslice 𝓤 H A W (Referent.rtF (Referent.fInt Syntax.w8)) ty·1 10, Path'.refl, (ShrSlice.spares-sslice 𝓤 H A W Rec.rt ty·0 8, Shared.reads-sslice 𝓤 H A W Rec.rt ty·0 8, Path'.refl, ((Scalar.reads-sc 𝓤 H A W (Row.sInt Syntax.w64), Path'.refl), tt))))))))))
+              (Reads.room-gone 𝓤 H A ty·13) (tt, (tt, (tt, (tt, (tt, (tt, (tt, (tt, (tt, tt))))))))) Path'.refl) (Typed.g-pre 𝓤 H A W 𝓣 E G21 G22 b27 Δ1 (Typed.pass T21 T22 s19) at34 (Scalar.g-room 𝓤 H A W E G21 17 (Syntax.tyInt Syntax.w64) (Scalar.room-sc 𝓤 H A W (Row.sInt Syntax.w64))) (Typed.g-pre 𝓤 H A W 𝓣 E G22 G23 b27 Δ1 (λ Ψ. Ψ) at34 (Lifetime.g-end 𝓤 H A
+              W E G22 9 Path'.refl) d34))
 
           d39 : Typed.Typed 𝓤 H A 𝓣 E G18 b29 Δ1 at39
-          d39 = Typed.s-seq 𝓤 H A W 𝓣 E G18 G19 b5 b28 Δ1 (Typed.both s16) at38 (Plain.t-call-plain 𝓤 H A W 𝓣 0 ps·1 r·1 (claims· .2) (claims· .3) "handset::replies::drone_of" (known .1) E (λ pos β. β) G18 (record { pos = 10; st = List.[]; d = 0; at = λ x. x }, tt) 17 List.[] (Call.sub-id 𝓤 H A W (G18 .slots)) (
-            (
-              Yields.yields-copy 𝓤 H A W (λ ρ. Unit)
-                  (Declared.row Report.the-type) Path'.refl (Copies.cEnum Report.the-type Laws''.the-laws Laws''.the-copy .copy 𝓤 H A W) (Rows.whole (Declared.row Report.the-type)) (λ x. x) (λ x. x) (λ ρ told. Local.mem-whole 𝓤 H A W (Declared.row Report.the-type) ρ) λ ρ told. Local.whole-mem 𝓤 H A W (Declared.row Report.the-type) ρ,
-              Path'.refl,
-            ),
-            tt,
-          )
-              (Reads.room-gone 𝓤 H A (Syntax.tyInt Syntax.w64)) tt Path'.refl) d38
-
-          d40 : Typed.Typed 𝓤 H A 𝓣 E G17 b30 Δ1 at40
-          d40 = Typed.s-seq 𝓤 H A W 𝓣 E G17 G18 b4 b29 Δ1 (Typed.ask s15) at39 (Relend.t-sl-aggregate 𝓤 H A W E (Referent.rtF (Referent.fInt Syntax.w8)) 𝓣 (Relend.asMut (Referent.rtF (Referent.fInt Syntax.w8))) G17 15 16 10 ty·1 ty·1 (λ x. x) (Scalar.oFld 8 (List._∷_ (Syntax.field 1) List.[]) (Syntax.tyInt Syntax.w64) 8 λ v. Shared.lenV (v .0)) (Reads.as-is
-              𝓤 H A (Relend.msptr (Referent.rtF (Referent.fInt Syntax.w8)) ty·1 10)) (Reads.room-gone 𝓤 H A (Syntax.tyStruct (List._∷_ 38 (List._∷_ 91 (List._∷_ 93 List.[]))) (Syntax.tcons ty·1 (Syntax.tcons (Syntax.tyInt Syntax.w64) Syntax.tnil)))) (
-                Relend.reads-owed-len 𝓤 H A W (Referent.rtF (Referent.fInt Syntax.w8)) ty·5 7 10
-                    (Row.lease (κs .1 .1 .1 .1 .1 .1 .1 .0) (qs .1 .1 .1 .1 .1 .1 .1 .0)) 8 Path'.refl,
-                Path'.refl,
-              ) Path'.refl Path'.refl λ b o k. tt) d39
+          d39 = Typed.s-seq 𝓤 H A W 𝓣 E G18 G19 b5 b28 Δ1 (Typed.both s16) at38 (Plain.t-call-plain 𝓤 H A W 𝓣 0 ps·0 r·1 (claims· .2) (claims· .3) "handset::replies::drone_of" (known .1) E (λ pos β. β) G18 (record { pos = 10; st = List.[]; d = 0; at = λ x. x }, tt) 17 List.[] (Call.sub-id 𝓤 H A W (G18 .slots))
+              ((Yields.yields-copy 𝓤 H A W (λ ρ. Unit) (Declared.row Report.the-type) Path'.refl (Copies.cEnum Report.the-type Laws''.the-laws Laws''.the-copy .copy 𝓤 H A W) (Rows.whole (Declared.row Report.the-type)) (λ x. x) (λ x. x) (λ ρ told. Local.mem-whole 𝓤 H A W (Declared.row Report.the-type) ρ) λ ρ told. Local.whole-mem 𝓤 H A W (Declared.row Report.the-type) ρ, Path'.refl), tt)
+              (Reads.room-gone 𝓤 H A (Syntax.tyInt Syntax.w64)) tt Path'.refl) (Typed.g-pre 𝓤 H A W 𝓣 E G19 G20 b28 Δ1 (Typed.pass T19 T20 s17) at37 (Scalar.g-room 𝓤 H A W E G19 10 ty·12 (Local.room-whole 𝓤 H A W (Declared.row Report.the-type) ty·12 Path'.refl)) d37)
 
           d41 : Typed.Typed 𝓤 H A 𝓣 E G16 b31 Δ1 at41
           d41 = Typed.s-seq 𝓤 H A W 𝓣 E G16 G17 b3 b30 Δ1 (Typed.give s14) at40 (Relend.t-sl-relend 𝓤 H A W E (Referent.rtF (Referent.fInt Syntax.w8)) 𝓣 G16 8 15 7 10 ty·5 ty·1 (Row.lease (κs .1 .1 .1 .1 .1 .1 .1 .0) (qs .1 .1 .1 .1 .1 .1 .1 .0)) 0 (λ x. x) (Reads.as-is 𝓤 H A (Mut.mslice (Referent.rtF (Referent.fInt Syntax.w8)) ty·5 7)) (Reads.room-gone 𝓤 H
-              A ty·1) Path'.refl tt Path'.refl Path'.refl Path'.refl λ b o. tt) d40
-
-          d42 : Typed.Typed 𝓤 H A 𝓣 E G15 b31 Δ1 at42
-          d42 = Typed.g-pre 𝓤 H A W 𝓣 E G15 G16 b31 Δ1 (λ Ψ. Ψ) at41 (Lifetime.g-begin 𝓤 H A W E G15 10 (tt, (tt, (tt, (tt, (tt, (tt, (tt, ((tt, tt), (tt, (tt, (tt, (tt, (tt, (tt, (tt, (tt, (tt, (tt, (tt, (tt, (tt, (tt, (tt, (tt, (tt, (tt, (tt, (tt, tt))))))))))))))))))))))))))))) d41
+              A ty·1) Path'.refl tt Path'.refl Path'.refl Path'.refl λ b o. tt) (Typed.s-seq 𝓤 H A W 𝓣 E G17 G18 b4 b29 Δ1 (Typed.ask s15) at39 (Relend.t-sl-aggregate 𝓤 H A W E (Referent.rtF (Referent.fInt Syntax.w8)) 𝓣 (Relend.asMut (Referent.rtF (Referent.fInt Syntax.w8))) G17 15 16 10 ty·1 ty·1 (λ x. x) (Scalar.oFld 8 (List._∷_ (Syntax.field 1) List.[])
+              (Syntax.tyInt Syntax.w64) 8 λ v. Shared.lenV (v .0)) (Reads.as-is 𝓤 H A (Relend.msptr (Referent.rtF (Referent.fInt Syntax.w8)) ty·1 10)) (Reads.room-gone 𝓤 H A (Syntax.tyStruct (List._∷_ 38 (List._∷_ 91 (List._∷_ 93 List.[]))) (Syntax.tcons ty·1 (Syntax.tcons (Syntax.tyInt Syntax.w64) Syntax.tnil))))
+              (Relend.reads-owed-len 𝓤 H A W (Referent.rtF (Referent.fInt Syntax.w8)) ty·5 7 10 (Row.lease (κs .1 .1 .1 .1 .1 .1 .1 .0) (qs .1 .1 .1 .1 .1 .1 .1 .0)) 8 Path'.refl, Path'.refl) Path'.refl Path'.refl λ b o k. tt) d39)
 
           d43 : Typed.Typed 𝓤 H A 𝓣 E G14 b32 Δ1 at43
-          d43 = Typed.s-seq 𝓤 H A W 𝓣 E G14 G15 b2 b31 Δ1 (Typed.ask s12) at42 (Relend.t-sl-aggregate 𝓤 H A W E (Referent.rtF (Referent.fInt Syntax.w16)) 𝓣 (Relend.asMut (Referent.rtF (Referent.fInt Syntax.w16))) G14 13 14 9 ty·2 ty·2 (λ x. x) (Scalar.oFld 7 (List._∷_ (Syntax.field 1) List.[]) (Syntax.tyInt Syntax.w64) 8 λ v. Shared.lenV (v .0)) (Reads.as-is
-              𝓤 H A (Relend.msptr (Referent.rtF (Referent.fInt Syntax.w16)) ty·2 9)) (Reads.room-gone 𝓤 H A (Syntax.tyStruct (List._∷_ 38 (List._∷_ 91 (List._∷_ 93 List.[]))) (Syntax.tcons ty·2 (Syntax.tcons (Syntax.tyInt Syntax.w64) Syntax.tnil)))) (
-                Relend.reads-owed-len 𝓤 H A W (Referent.rtF (Referent.fInt Syntax.w16)) ty·11 6 9
-                    (Row.lease (κs .1 .1 .1 .1 .1 .1 .0) (qs .1 .1 .1 .1 .1 .1 .0)) 8 Path'.refl,
-                Path'.refl,
-              ) Path'.refl Path'.refl λ b o k. tt) d42
+          d43 = Typed.s-seq 𝓤 H A W 𝓣 E G14 G15 b2 b31 Δ1 (Typed.ask s12) at41 (Relend.t-sl-aggregate 𝓤 H A W E (Referent.rtF (Referent.fInt Syntax.w16)) 𝓣 (Relend.asMut (Referent.rtF (Referent.fInt Syntax.w16))) G14 13 14 9 ty·2 ty·2 (λ x. x) (Scalar.oFld 7 (List._∷_ (Syntax.field 1) List.[]) (Syntax.tyInt Syntax.w64) 8 λ v. Shared.lenV (v .0)) (Reads.as-is
+              𝓤 H A (Relend.msptr (Referent.rtF (Referent.fInt Syntax.w16)) ty·2 9)) (Reads.room-gone 𝓤 H A (Syntax.tyStruct (List._∷_ 38 (List._∷_ 91 (List._∷_ 93 List.[]))) (Syntax.tcons ty·2 (Syntax.tcons (Syntax.tyInt Syntax.w64) Syntax.tnil))))
+              (Relend.reads-owed-len 𝓤 H A W (Referent.rtF (Referent.fInt Syntax.w16)) ty·11 6 9 (Row.lease (κs .1 .1 .1 .1 .1 .1 .0) (qs .1 .1 .1 .1 .1 .1 .0)) 8 Path'.refl, Path'.refl) Path'.refl Path'.refl λ b o k. tt) (Typed.g-pre 𝓤 H A W 𝓣 E G15 G16 b31 Δ1 (λ Ψ. Ψ) at41 (Lifetime.g-begin 𝓤 H A W E G15 10
+              (tt, (tt, (tt, (tt, (tt, (tt, (tt, ((tt, tt), (tt, (tt, (tt, (tt, (tt, (tt, (tt, (tt, (tt, (tt, (tt, (tt, (tt, (tt, (tt, (tt, (tt, (tt, (tt, (tt, tt))))))))))))))))))))))))))))) d41)
 
-          d44 : Typed.Typed 𝓤 H A 𝓣 E G13 b33 Δ1 at44
-          d44 = Typed.s-seq 𝓤 H A W 𝓣 E G13 G14 b1 b32 Δ1 (Typed.give s11) at43 (Relend.t-sl-relend 𝓤 H A W E (Referent.rtF (Referent.fInt Syntax.w16)) 𝓣 G13 7 13 6 9 ty·11 ty·2 (Row.lease (κs .1 .1 .1 .1 .1 .1 .0) (qs .1 .1 .1 .1 .1 .1 .0)) 0 (λ x. x) (Reads.as-is 𝓤 H A (Mut.mslice (Referent.rtF (Referent.fInt Syntax.w16)) ty·11 6)) (Reads.room-gone 𝓤 H A
-              ty·2) Path'.refl tt Path'.refl Path'.refl Path'.refl λ b o. tt) d43
-
-          d45 : Typed.Typed 𝓤 H A 𝓣 E G12 b33 Δ1 at45
-          d45 = Typed.g-pre 𝓤 H A W 𝓣 E G12 G13 b33 Δ1 (λ Ψ. Ψ) at44 (Lifetime.g-begin 𝓤 H A W E G12 9 (tt, (tt, (tt, (tt, (tt, (tt, (tt, (tt, (tt, (tt, (tt, (tt, (tt, (tt, (tt, (tt, (tt, (tt, (tt, (tt, (tt, (tt, (tt, (tt, (tt, (tt, (tt, (tt, tt))))))))))))))))))))))))))))) d44
-
-          d46 : Typed.Typed 𝓤 H A 𝓣 E G10 b33 Δ1 at46
-          d46 = Typed.g-pre 𝓤 H A W 𝓣 E G10 G12 b33 Δ1 (Typed.pass T10 T12 s9) at45 (Scalar.g-room 𝓤 H A W E G10 12 Syntax.tyBool (Scalar.room-sc 𝓤 H A W Row.sBool)) d45
-
-          d47 : Typed.Typed 𝓤 H A 𝓣 E G56 b34 Δ1 at47
+          d47 : Typed.Typed 𝓤 H A 𝓣 E G11 b34 Δ1 at47
           d47 = Typed.t-skip 𝓤 H A W 𝓣 E Δ1 tt
 
-          d48 : Typed.Typed 𝓤 H A 𝓣 E G55 b34 Δ1 at48
-          d48 = Typed.g-pre 𝓤 H A W 𝓣 E G55 G56 b34 Δ1 (Typed.pass T55 T56 s52) at47 (Scalar.g-room 𝓤 H A W E G55 12 Syntax.tyBool (Scalar.room-sc 𝓤 H A W Row.sBool)) d47
-
-          d49 : Typed.Typed 𝓤 H A 𝓣 E G10 b34 Δ1 at49
-          d49 = Typed.g-pre 𝓤 H A W 𝓣 E G10 G55 b34 Δ1 (Typed.pass T10 T55 s51) at48 (Scalar.g-room 𝓤 H A W E G10 10 ty·12 (Local.room-whole 𝓤 H A W (Declared.row Report.the-type) ty·12 Path'.refl)) d48
-
           d50 : Typed.Typed 𝓤 H A 𝓣 E G10 b35 Δ1 at50
-          d50 = Scalar.t-cond 𝓤 H A W E 𝓣 G10 12 (λ x. x) b33 b34 Δ1 at46 at49 (Scalar.reads-sc 𝓤 H A W Row.sBool) Path'.refl d46 d49
+          d50 = Scalar.t-cond 𝓤 H A W E 𝓣 G10 12 (λ x. x) b33 b34 Δ1 at46 at49 (Scalar.reads-sc 𝓤 H A W Row.sBool) Path'.refl (Typed.g-pre 𝓤 H A W 𝓣 E G10 G0 b33 Δ1 (Typed.pass T10 T0 s9) at44 (Scalar.g-room 𝓤 H A W E G10 12 Syntax.tyBool (Scalar.room-sc 𝓤 H A W Row.sBool)) (Typed.g-pre 𝓤 H A W 𝓣 E G0 G13 b33 Δ1 (λ Ψ. Ψ) at44 (Lifetime.g-begin 𝓤 H A W E G0 9
+              (tt, (tt, (tt, (tt, (tt, (tt, (tt, (tt, (tt, (tt, (tt, (tt, (tt, (tt, (tt, (tt, (tt, (tt, (tt, (tt, (tt, (tt, (tt, (tt, (tt, (tt, (tt, (tt, tt))))))))))))))))))))))))))))) (Typed.s-seq 𝓤 H A W 𝓣 E G13 G14 b1 b32 Δ1 (Typed.give s11) at43 (Relend.t-sl-relend 𝓤 H A W E (Referent.rtF (Referent.fInt Syntax.w16)) 𝓣 G13 7 13 6 9 ty·11 ty·2 (Row.lease (κs
+              .1 .1 .1 .1 .1 .1 .0) (qs .1 .1 .1 .1 .1 .1 .0)) 0 (λ x. x) (Reads.as-is 𝓤 H A (Mut.mslice (Referent.rtF (Referent.fInt Syntax.w16)) ty·11 6)) (Reads.room-gone 𝓤 H A ty·2) Path'.refl tt Path'.refl Path'.refl Path'.refl λ b o. tt) d43))) (Typed.g-pre 𝓤 H A W 𝓣 E G10 G55 b34 Δ1 (Typed.pass T10 T55 s51) at48 (Scalar.g-room 𝓤 H A W E G10 10 ty·12
+              (Local.room-whole 𝓤 H A W (Declared.row Report.the-type) ty·12 Path'.refl)) (Typed.g-pre 𝓤 H A W 𝓣 E G55 G11 b34 Δ1 (Typed.pass T55 T11 s52) at47 (Scalar.g-room 𝓤 H A W E G55 12 Syntax.tyBool (Scalar.room-sc 𝓤 H A W Row.sBool)) d47))
 
-          d51 : Typed.Typed 𝓤 H A 𝓣 E G71 b41 Δ0 at51
+          d51 : Typed.Typed 𝓤 H A 𝓣 E G1 b41 Δ0 at51
           d51 = Typed.t-return 𝓤 H A W 𝓣 E Δ0 tt
-
-          d52 : Typed.Typed 𝓤 H A 𝓣 E G70 b41 Δ0 at52
-          d52 = Typed.g-pre 𝓤 H A W 𝓣 E G70 G71 b41 Δ0 (λ Ψ. Ψ) at51 (Lifetime.g-forget 𝓤 H A W E G70 14 Row.dead Path'.refl) d51
-
-          d53 : Typed.Typed 𝓤 H A 𝓣 E G69 b41 Δ0 at53
-          d53 = Typed.g-pre 𝓤 H A W 𝓣 E G69 G70 b41 Δ0 (Typed.give s66) at52 (Know.g-sl-known 𝓤 H A W (Referent.fInt Syntax.w8) E G69 8 7 ty·5 (Row.lease (κs .1 .1 .1 .1 .1 .1 .1 .0) (qs .1 .1 .1 .1 .1 .1 .1 .0)) 0 (λ x. x) record { fits = Dec'.lit< tt } (Reads.as-is 𝓤 H A (Mut.mslice (Referent.rtF (Referent.fInt Syntax.w8)) ty·5 7)) Path'.refl tt) d52
 
           d54 : Typed.Typed 𝓤 H A 𝓣 E G68 b41 Δ0 at54
           d54 = Typed.g-pre 𝓤 H A W 𝓣 E G68 G69 b41 Δ0 (Typed.both s65) at53 (Relend.g-back-sl 𝓤 H A W E (Referent.rtF (Referent.fInt Syntax.w8)) G68 27 8 7 14 ty·5 ty·1 (Row.lease (κs .1 .1 .1 .1 .1 .1 .1 .0) (qs .1 .1 .1 .1 .1 .1 .1 .0)) (λ x. x) (λ x. x) (Reads.as-is 𝓤 H A (Mut.msleft (Referent.rtF (Referent.fInt Syntax.w8)) ty·1)) (Reads.as-is 𝓤 H A
-              (Relend.mslice-owed (Referent.rtF (Referent.fInt Syntax.w8)) ty·5 7 14 (Row.lease (κs .1 .1 .1 .1 .1 .1 .1 .0) (qs .1 .1 .1 .1 .1 .1 .1 .0)))) Path'.refl Path'.refl) d53
-
-          d55 : Typed.Typed 𝓤 H A 𝓣 E G67 b41 Δ0 at55
-          d55 = Typed.g-pre 𝓤 H A W 𝓣 E G67 G68 b41 Δ0 (λ Ψ. Ψ) at54 (Lifetime.g-end 𝓤 H A W E G67 14 Path'.refl) d54
-
-          d56 : Typed.Typed 𝓤 H A 𝓣 E G66 b41 Δ0 at56
-          d56 = Typed.g-pre 𝓤 H A W 𝓣 E G66 G67 b41 Δ0 (λ Ψ. Ψ) at55 (Lifetime.g-forget 𝓤 H A W E G66 13 Row.dead Path'.refl) d55
-
-          d57 : Typed.Typed 𝓤 H A 𝓣 E G65 b41 Δ0 at57
-          d57 = Typed.g-pre 𝓤 H A W 𝓣 E G65 G66 b41 Δ0 (Typed.pass T64 T66 s62) at56 (Reshare.g-back-sl-shr 𝓤 H A W E (Referent.rtF (Referent.fInt Syntax.w16)) G65 7 6 13 ty·11 (Row.lease (κs .1 .1 .1 .1 .1 .1 .0) (qs .1 .1 .1 .1 .1 .1 .0)) (λ x. x) (Reads.as-is 𝓤 H A (Reshare.mslice-owedS (Referent.rtF (Referent.fInt Syntax.w16)) ty·11 6 13
-              (Row.lease (κs .1 .1 .1 .1 .1 .1 .0) (qs .1 .1 .1 .1 .1 .1 .0)))) Path'.refl Path'.refl) d56
-
-          d58 : Typed.Typed 𝓤 H A 𝓣 E G64 b41 Δ0 at58
-          d58 = Typed.g-pre 𝓤 H A W 𝓣 E G64 G65 b41 Δ0 (λ Ψ. Ψ) at57 (Lifetime.g-end 𝓤 H A W E G64 13 Path'.refl) d57
+              (Relend.mslice-owed (Referent.rtF (Referent.fInt Syntax.w8)) ty·5 7 14 (Row.lease (κs .1 .1 .1 .1 .1 .1 .1 .0) (qs .1 .1 .1 .1 .1 .1 .1 .0)))) Path'.refl Path'.refl) (Typed.g-pre 𝓤 H A W 𝓣 E G69 G69 b41 Δ0 (Typed.give s66) at51 (Know.g-sl-known 𝓤 H A W (Referent.fInt Syntax.w8) E G69 8 7 ty·5 (Row.lease (κs .1 .1 .1 .1 .1 .1 .1 .0) (qs .1 .1 .1 .1
+              .1 .1 .1 .0)) 0 (λ x. x) record { fits = Dec'.lit< tt } (Reads.as-is 𝓤 H A (Mut.mslice (Referent.rtF (Referent.fInt Syntax.w8)) ty·5 7)) Path'.refl tt) (Typed.g-pre 𝓤 H A W 𝓣 E G69 G1 b41 Δ0 (λ Ψ. Ψ) at51 (Lifetime.g-forget 𝓤 H A W E G69 14 Row.dead Path'.refl) d51))
 
           d59 : Typed.Typed 𝓤 H A 𝓣 E G63 b41 Δ0 at59
-          d59 = Typed.g-pre 𝓤 H A W 𝓣 E G63 G64 b41 Δ0 (Typed.pass T63 T64 s60) at58 (Scalar.g-room 𝓤 H A W E G63 25 (Syntax.tyStruct (List._∷_ 38 (List._∷_ 91 (List._∷_ 93 List.[]))) (Syntax.tcons ty·3 (Syntax.tcons (Syntax.tyInt Syntax.w64) Syntax.tnil))) (Shared.room-sslice 𝓤 H A W (Referent.rtF (Referent.fInt Syntax.w16)) ty·3 13)) d58
+          d59 = Typed.g-pre 𝓤 H A W 𝓣 E G63 G64 b41 Δ0 (Typed.pass T63 T64 s60) at57 (Scalar.g-room 𝓤 H A W E G63 25 (Syntax.tyStruct (List._∷_ 38 (List._∷_ 91 (List._∷_ 93 List.[]))) (Syntax.tcons ty·3 (Syntax.tcons (Syntax.tyInt Syntax.w64) Syntax.tnil))) (Shared.room-sslice 𝓤 H A W (Referent.rtF (Referent.fInt Syntax.w16)) ty·3 13)) (Typed.g-pre 𝓤 H A W 𝓣
+              E G64 G65 b41 Δ0 (λ Ψ. Ψ) at57 (Lifetime.g-end 𝓤 H A W E G64 13 Path'.refl) (Typed.g-pre 𝓤 H A W 𝓣 E G65 G66 b41 Δ0 (Typed.pass T64 T66 s62) at54 (Reshare.g-back-sl-shr 𝓤 H A W E (Referent.rtF (Referent.fInt Syntax.w16)) G65 7 6 13 ty·11 (Row.lease (κs .1 .1 .1 .1 .1 .1 .0) (qs .1 .1 .1 .1 .1 .1 .0)) (λ x. x) (Reads.as-is 𝓤 H A
+              (Reshare.mslice-owedS (Referent.rtF (Referent.fInt Syntax.w16)) ty·11 6 13 (Row.lease (κs .1 .1 .1 .1 .1 .1 .0) (qs .1 .1 .1 .1 .1 .1 .0)))) Path'.refl Path'.refl) (Typed.g-pre 𝓤 H A W 𝓣 E G66 G67 b41 Δ0 (λ Ψ. Ψ) at54 (Lifetime.g-forget 𝓤 H A W E G66 13 Row.dead Path'.refl) (Typed.g-pre 𝓤 H A W 𝓣 E G67 G68 b41 Δ0 (λ Ψ. Ψ) at54 (Lifetime.g-end 𝓤 H A
+              W E G67 14 Path'.refl) d54))))
 
           d60 : Typed.Typed 𝓤 H A 𝓣 E G62 b42 Δ0 at60
-          d60 = Typed.s-seq 𝓤 H A W 𝓣 E G62 G63 b40 b41 Δ0 (Typed.both s59) at59 (Plain.t-call-plain 𝓤 H A W 𝓣 9 ps·5 r·5 (claims· .10) (claims· .11) "handset::button::grant_all" (known .5) E (λ pos β. β) G62 (
-            record { pos = 1; ty = Syntax.tyRef (Syntax.named 0) Syntax.imm (Syntax.tyInt Syntax.w16); ref = λ x. x },
-            (
-              record {
-                pos = 2;
-                ty = Syntax.tyRef (Syntax.named 1) Syntax.imm (Syntax.tyInt Syntax.w16);
-                ref = λ x. x;
-              },
-              (
-                record { pos = 3; ty = Syntax.tyRef (Syntax.named 2) Syntax.imm (Syntax.tyInt Syntax.w8); ref = λ x. x },
-                (
-                  record { pos = 4; ty = Syntax.tyRef (Syntax.named 3) Syntax.imm (Syntax.tyInt Syntax.w16); ref = λ x. x },
-                  (
-                    record {
-                      pos = 5;
-                      ty = Syntax.tyRef (Syntax.named 4) Syntax.imm (Syntax.tyInt Syntax.w16);
-                      ref = λ x. x;
-                    },
-                    (
-                      record { pos = 6; ty = Syntax.tyRef (Syntax.named 5) Syntax.imm (Syntax.tyInt Syntax.w32); ref = λ x. x },
-                      (
-                        record { pos = 25; ty = Syntax.tyRef Syntax.erased Syntax.imm (Syntax.tyInt Syntax.w16); ref = λ x. x },
-                        (
-                          record {
-                            pos = 27;
-                            ty = Syntax.tyRef
-                                Syntax.erased Syntax.mut (Syntax.tyInt Syntax.w8);
-                            ref = λ x. x;
-                          },
-                          (record { pos = 9; ty = Syntax.tyRef (Syntax.named 8) Syntax.imm Rec.behind; ref = λ x. x }, tt),
-                        ),
-                      ),
-                    ),
-                  ),
-                ),
-              ),
-            ),
-          ) 0 (List._∷_ 0 (List._∷_ 1 (List._∷_ 2 (List._∷_ 3 (List._∷_ 4 (List._∷_ 5 (List._∷_ 13 (List._∷_ 14 (List._∷_ 8 List.[])))))))))
-              (Call.sub-id 𝓤 H A W (G62 .slots)) (
-                ShrSlice.spares-sslice 𝓤 H A W (Referent.rtF (Referent.fInt Syntax.w16)) ty·6 0,
-                Shared.reads-sslice 𝓤 H A W (Referent.rtF (Referent.fInt Syntax.w16)) ty·6 0,
-                Path'.refl,
-                (
-                  ShrSlice.spares-sslice 𝓤 H A W (Referent.rtF (Referent.fInt Syntax.w16)) ty·7 1,
-                  Shared.reads-sslice 𝓤 H A W
-                      (Referent.rtF (Referent.fInt Syntax.w16)) ty·7 1,
-                  Path'.refl,
-                  (
-                    ShrSlice.spares-sslice 𝓤 H A W (Referent.rtF (Referent.fInt Syntax.w8)) ty·4 2,
-                    Shared.reads-sslice 𝓤 H A W (Referent.rtF (Referent.fInt Syntax.w8)) ty·4 2,
-                    Path'.refl,
-                    (
-                      ShrSlice.spares-sslice 𝓤 H A W (Referent.rtF (Referent.fInt Syntax.w16)) ty·8 3,
-                      Shared.reads-sslice 𝓤 H A W
-                          (Referent.rtF (Referent.fInt Syntax.w16)) ty·8 3,
-                      Path'.refl,
-                      (
-                        ShrSlice.spares-sslice 𝓤 H A W (Referent.rtF (Referent.fInt Syntax.w16)) ty·9 4,
-                        Shared.reads-sslice 𝓤 H A W (Referent.rtF (Referent.fInt Syntax.w16)) ty·9 4,
-                        Path'.refl,
-                        (
-                          ShrSlice.spares-sslice 𝓤 H A W (Referent.rtF (Referent.fInt Syntax.w32)) ty·10 5,
-                          Shared.reads-sslice 𝓤 H A W
-                              (Referent.rtF (Referent.fInt Syntax.w32)) ty·10 5,
-                          Path'.refl,
-                          (
-                            ShrSlice.spares-sslice 𝓤 H A W (Referent.rtF (Referent.fInt Syntax.w16)) ty·3 13,
-                            Shared.reads-sslice 𝓤 H A W (Referent.rtF (Referent.fInt Syntax.w16)) ty·3 13,
-                            Path'.refl,
-                            (
-                              Reads.as-is 𝓤 H A (Mut.mslice (Referent.rtF (Referent.fInt Syntax.w8)) ty·1 14),
-                              Mut.reads-mslice 𝓤 H A W
-                                  (Referent.rtF (Referent.fInt Syntax.w8)) ty·1 14,
-                              Path'.refl,
-                              (ShrSlice.spares-sslice 𝓤 H A W Rec.rt ty·0 8, Shared.reads-sslice 𝓤 H A W Rec.rt ty·0 8, Path'.refl, tt),
-                            ),
-                          ),
-                        ),
-                      ),
-                    ),
-                  ),
-                ),
-              ) (Reads.room-gone 𝓤 H A ty·14) (tt, (tt, (tt, (tt, (tt, (tt, (tt, (tt, (tt, tt))))))))) Path'.refl) d59
-
-          d61 : Typed.Typed 𝓤 H A 𝓣 E G61 b43 Δ0 at61
-          d61 = Typed.s-seq 𝓤 H A W 𝓣 E G61 G62 b39 b42 Δ0 (Typed.ask s58) at60 (Relend.t-sl-aggregate 𝓤 H A W E (Referent.rtF (Referent.fInt Syntax.w8)) 𝓣 (Relend.asMut (Referent.rtF (Referent.fInt Syntax.w8))) G61 26 27 14 ty·1 ty·1 (λ x. x) (Scalar.oFld 8 (List._∷_ (Syntax.field 1) List.[]) (Syntax.tyInt Syntax.w64) 8 λ v. Shared.lenV (v .0)) (Reads.as-is
-              𝓤 H A (Relend.msptr (Referent.rtF (Referent.fInt Syntax.w8)) ty·1 14)) (Reads.room-gone 𝓤 H A (Syntax.tyStruct (List._∷_ 38 (List._∷_ 91 (List._∷_ 93 List.[]))) (Syntax.tcons ty·1 (Syntax.tcons (Syntax.tyInt Syntax.w64) Syntax.tnil)))) (
-                Relend.reads-owed-len 𝓤 H A W (Referent.rtF (Referent.fInt Syntax.w8)) ty·5 7 14
-                    (Row.lease (κs .1 .1 .1 .1 .1 .1 .1 .0) (qs .1 .1 .1 .1 .1 .1 .1 .0)) 8 Path'.refl,
-                Path'.refl,
-              ) Path'.refl Path'.refl λ b o k. tt) d60
+          d60 = Typed.s-seq 𝓤 H A W 𝓣 E G62 G63 b40 b41 Δ0 (Typed.both s59) at59 (Plain.t-call-plain 𝓤 H A W 𝓣 9 ps·5 r·5 (claims· .10) (claims· .11) "handset::button::grant_all" (known .5) E (λ pos β. β) G62
+              (record { pos = 1; ty = ty·6; ref = λ x. x }, (record { pos = 2; ty = ty·7; ref = λ x. x }, (record { pos = 3; ty = ty·4; ref = λ x. x }, (record { pos = 4; ty = ty·8; ref = λ x. x }, (record { pos = 5; ty = ty·9; ref = λ x. x }, (record { pos = 6; ty = ty·10; ref = λ x. x }, (record { pos = 25; ty = ty·3; ref = λ x. x }, (record { pos = 27; ty = ty·1; ref = λ x. x }, (record { pos = 9; ty = ty·0; ref = λ x. x }, tt)))))))))
+              0 (List._∷_ 0 (List._∷_ 1 (List._∷_ 2 (List._∷_ 3 (List._∷_ 4 (List._∷_ 5 (List._∷_ 13 (List._∷_ 14 (List._∷_ 8 List.[]))))))))) (Call.sub-id 𝓤 H A W (G62 .slots))
+              (ShrSlice.spares-sslice 𝓤 H A W (Referent.rtF (Referent.fInt Syntax.w16)) ty·6 0, Shared.reads-sslice 𝓤 H A W (Referent.rtF (Referent.fInt Syntax.w16)) ty·6 0, Path'.refl, (ShrSlice.spares-sslice 𝓤 H A W (Referent.rtF (Referent.fInt Syntax.w16)) ty·7 1, Shared.reads-sslice 𝓤 H A W (Referent.rtF (Referent.fInt Syntax.w16)) ty·7 1, Path'.refl, (ShrSlice.spares-sslice 𝓤 H A W (Referent.rtF (Referent.fInt Syntax.w8)) ty·4 2, Shared.reads-sslice 𝓤 H A W (Referent.rtF (Referent.fInt Syntax.w8)) ty·4 2, Path'.refl, (ShrSlice.spares-sslice 𝓤 H A W (Referent.rtF (Referent.fInt Syntax.w16)) ty·8 3, Shared.reads-sslice 𝓤 H A W (Referent.rtF (Referent.fInt Syntax.w16)) ty·8 3, Path'.refl, (ShrSlice.spares-sslice 𝓤 H A W (Referent.rtF (Referent.fInt Syntax.w16)) ty·9 4, Shared.reads-sslice 𝓤 H A W (Referent.rtF (Referent.fInt Syntax.w16)) ty·9 4, Path'.refl, (ShrSlice.spares-sslice 𝓤 H A W (Referent.rtF (Referent.fInt Syntax.w32)) ty·10 5, Shared.reads-sslice 𝓤 H A W (Referent.rtF (Referent.fInt Syntax.w32)) ty·10 5, Path'.refl, (ShrSlice.spares-sslice 𝓤 H A W (Referent.rtF (Referent.fInt Syntax.w16)) ty·3 13, Shared.reads-sslice 𝓤 H A W (Referent.rtF (Referent.fInt Syntax.w16)) ty·3 13, Path'.refl, (Reads.as-is 𝓤 H A (Mut.mslice (Referent.rtF (Referent.fInt Syntax.w8)) ty·1 14), Mut.reads-mslice 𝓤 H A W (Referent.rtF (Referent.fInt Syntax.w8)) ty·1 14, Path'.refl, (ShrSlice.spares-sslice 𝓤 H A W Rec.rt ty·0 8, Shared.reads-sslice 𝓤 H A W Rec.rt ty·0 8, Path'.refl, tt)))))))))
+              (Reads.room-gone 𝓤 H A ty·14) (tt, (tt, (tt, (tt, (tt, (tt, (tt, (tt, (tt, tt))))))))) Path'.refl) d59
 
           d62 : Typed.Typed 𝓤 H A 𝓣 E G60 b44 Δ0 at62
           d62 = Typed.s-seq 𝓤 H A W 𝓣 E G60 G61 b38 b43 Δ0 (Typed.give s57) at61 (Relend.t-sl-relend 𝓤 H A W E (Referent.rtF (Referent.fInt Syntax.w8)) 𝓣 G60 8 26 7 14 ty·5 ty·1 (Row.lease (κs .1 .1 .1 .1 .1 .1 .1 .0) (qs .1 .1 .1 .1 .1 .1 .1 .0)) 0 (λ x. x) (Reads.as-is 𝓤 H A (Mut.mslice (Referent.rtF (Referent.fInt Syntax.w8)) ty·5 7)) (Reads.room-gone 𝓤 H
-              A ty·1) Path'.refl tt Path'.refl Path'.refl Path'.refl λ b o. tt) d61
-
-          d63 : Typed.Typed 𝓤 H A 𝓣 E G59 b44 Δ0 at63
-          d63 = Typed.g-pre 𝓤 H A W 𝓣 E G59 G60 b44 Δ0 (λ Ψ. Ψ) at62 (Lifetime.g-begin 𝓤 H A W E G59 14 (tt, (tt, (tt, (tt, (tt, (tt, (tt, ((tt, tt), (tt, (tt, (tt, (tt, (tt, (tt, (tt, (tt, (tt, (tt, (tt, (tt, (tt, (tt, (tt, (tt, (tt, (tt, (tt, (tt, tt))))))))))))))))))))))))))))) d62
+              A ty·1) Path'.refl tt Path'.refl Path'.refl Path'.refl λ b o. tt) (Typed.s-seq 𝓤 H A W 𝓣 E G61 G62 b39 b42 Δ0 (Typed.ask s58) at60 (Relend.t-sl-aggregate 𝓤 H A W E (Referent.rtF (Referent.fInt Syntax.w8)) 𝓣 (Relend.asMut (Referent.rtF (Referent.fInt Syntax.w8))) G61 26 27 14 ty·1 ty·1 (λ x. x) (Scalar.oFld 8 (List._∷_ (Syntax.field 1) List.[])
+              (Syntax.tyInt Syntax.w64) 8 λ v. Shared.lenV (v .0)) (Reads.as-is 𝓤 H A (Relend.msptr (Referent.rtF (Referent.fInt Syntax.w8)) ty·1 14)) (Reads.room-gone 𝓤 H A (Syntax.tyStruct (List._∷_ 38 (List._∷_ 91 (List._∷_ 93 List.[]))) (Syntax.tcons ty·1 (Syntax.tcons (Syntax.tyInt Syntax.w64) Syntax.tnil))))
+              (Relend.reads-owed-len 𝓤 H A W (Referent.rtF (Referent.fInt Syntax.w8)) ty·5 7 14 (Row.lease (κs .1 .1 .1 .1 .1 .1 .1 .0) (qs .1 .1 .1 .1 .1 .1 .1 .0)) 8 Path'.refl, Path'.refl) Path'.refl Path'.refl λ b o k. tt) d60)
 
           d64 : Typed.Typed 𝓤 H A 𝓣 E G58 b45 Δ0 at64
-          d64 = Typed.s-seq 𝓤 H A W 𝓣 E G58 G59 b37 b44 Δ0 (Typed.ask s55) at63 (Relend.t-sl-aggregate 𝓤 H A W E (Referent.rtF (Referent.fInt Syntax.w16)) 𝓣 (Relend.asShr (Referent.rtF (Referent.fInt Syntax.w16))) G58 24 25 13 ty·3 ty·3 (λ x. x) (Scalar.oFld 7 (List._∷_ (Syntax.field 1) List.[]) (Syntax.tyInt Syntax.w64) 8 λ v. Shared.lenV (v .0))
-              (Reads.as-is 𝓤 H A (Relend.ssptr (Referent.rtF (Referent.fInt Syntax.w16)) ty·3 13)) (Reads.room-gone 𝓤 H A (Syntax.tyStruct (List._∷_ 38 (List._∷_ 91 (List._∷_ 93 List.[]))) (Syntax.tcons ty·3 (Syntax.tcons (Syntax.tyInt Syntax.w64) Syntax.tnil)))) (
-                Reshare.reads-owedS-len 𝓤 H A W (Referent.rtF (Referent.fInt Syntax.w16)) ty·11 6 13
-                    (Row.lease (κs .1 .1 .1 .1 .1 .1 .0) (qs .1 .1 .1 .1 .1 .1 .0)) 8 Path'.refl,
-                Path'.refl,
-              ) Path'.refl Path'.refl λ b o k. tt) d63
-
-          d65 : Typed.Typed 𝓤 H A 𝓣 E G57 b46 Δ0 at65
-          d65 = Typed.s-seq 𝓤 H A W 𝓣 E G57 G58 b36 b45 Δ0 (Typed.give s54) at64 (Reshare.t-sl-reshare 𝓤 H A W E (Referent.rtF (Referent.fInt Syntax.w16)) 𝓣 G57 7 24 6 13 ty·11 ty·3 (Row.lease (κs .1 .1 .1 .1 .1 .1 .0) (qs .1 .1 .1 .1 .1 .1 .0)) 0 (λ x. x) (Reads.as-is 𝓤 H A (Mut.mslice (Referent.rtF (Referent.fInt Syntax.w16)) ty·11 6)) (Reads.room-gone 𝓤 H
-              A ty·3) Path'.refl tt Path'.refl Path'.refl Path'.refl λ b o. tt) d64
-
-          d66 : Typed.Typed 𝓤 H A 𝓣 E G11 b46 Δ0 at66
-          d66 = Typed.g-pre 𝓤 H A W 𝓣 E G11 G57 b46 Δ0 (λ Ψ. Ψ) at65 (Lifetime.g-begin 𝓤 H A W E G11 13 (tt, (tt, (tt, (tt, (tt, (tt, (tt, (tt, (tt, (tt, (tt, (tt, (tt, (tt, (tt, (tt, (tt, (tt, (tt, (tt, (tt, (tt, (tt, (tt, (tt, (tt, (tt, (tt, tt))))))))))))))))))))))))))))) d65
+          d64 = Typed.s-seq 𝓤 H A W 𝓣 E G58 G59 b37 b44 Δ0 (Typed.ask s55) at62 (Relend.t-sl-aggregate 𝓤 H A W E (Referent.rtF (Referent.fInt Syntax.w16)) 𝓣 (Relend.asShr (Referent.rtF (Referent.fInt Syntax.w16))) G58 24 25 13 ty·3 ty·3 (λ x. x) (Scalar.oFld 7 (List._∷_ (Syntax.field 1) List.[]) (Syntax.tyInt Syntax.w64) 8 λ v. Shared.lenV (v .0))
+              (Reads.as-is 𝓤 H A (Relend.ssptr (Referent.rtF (Referent.fInt Syntax.w16)) ty·3 13)) (Reads.room-gone 𝓤 H A (Syntax.tyStruct (List._∷_ 38 (List._∷_ 91 (List._∷_ 93 List.[]))) (Syntax.tcons ty·3 (Syntax.tcons (Syntax.tyInt Syntax.w64) Syntax.tnil))))
+              (Reshare.reads-owedS-len 𝓤 H A W (Referent.rtF (Referent.fInt Syntax.w16)) ty·11 6 13 (Row.lease (κs .1 .1 .1 .1 .1 .1 .0) (qs .1 .1 .1 .1 .1 .1 .0)) 8 Path'.refl, Path'.refl) Path'.refl Path'.refl λ b o k. tt) (Typed.g-pre 𝓤 H A W 𝓣 E G59 G60 b44 Δ0 (λ Ψ. Ψ) at62 (Lifetime.g-begin 𝓤 H A W E G59 14
+              (tt, (tt, (tt, (tt, (tt, (tt, (tt, ((tt, tt), (tt, (tt, (tt, (tt, (tt, (tt, (tt, (tt, (tt, (tt, (tt, (tt, (tt, (tt, (tt, (tt, (tt, (tt, (tt, (tt, tt))))))))))))))))))))))))))))) d62)
 
           d67 : Typed.Typed 𝓤 H A 𝓣 E G10 b47 Δ0 at67
-          d67 = Typed.t-seq 𝓤 H A W 𝓣 E G10 G11 b35 b46 Δ0 at50 at66 d50 d66
+          d67 = Typed.t-seq 𝓤 H A W 𝓣 E G10 G11 b35 b46 Δ0 at50 at65 d50 (Typed.g-pre 𝓤 H A W 𝓣 E G11 G57 b46 Δ0 (λ Ψ. Ψ) at65 (Lifetime.g-begin 𝓤 H A W E G11 13 (tt, (tt, (tt, (tt, (tt, (tt, (tt, (tt, (tt, (tt, (tt, (tt, (tt, (tt, (tt, (tt, (tt, (tt, (tt, (tt, (tt, (tt, (tt, (tt, (tt, (tt, (tt, (tt, tt))))))))))))))))))))))))))))) (Typed.s-seq 𝓤 H A W 𝓣 E
+              G57 G58 b36 b45 Δ0 (Typed.give s54) at64 (Reshare.t-sl-reshare 𝓤 H A W E (Referent.rtF (Referent.fInt Syntax.w16)) 𝓣 G57 7 24 6 13 ty·11 ty·3 (Row.lease (κs .1 .1 .1 .1 .1 .1 .0) (qs .1 .1 .1 .1 .1 .1 .0)) 0 (λ x. x) (Reads.as-is 𝓤 H A (Mut.mslice (Referent.rtF (Referent.fInt Syntax.w16)) ty·11 6)) (Reads.room-gone 𝓤 H A ty·3) Path'.refl tt
+              Path'.refl Path'.refl Path'.refl λ b o. tt) d64))
 
-          d68 : Typed.Typed 𝓤 H A 𝓣 E G9 b48 Δ0 at68
-          d68 = Typed.s-seq 𝓤 H A W 𝓣 E G9 G10 b0 b47 Δ0 (Typed.both s8) at67 (Plain.t-call-plain 𝓤 H A W 𝓣 0 ps·0 r·0 (claims· .0) (claims· .1) "handset::replies::is_reported" (known .0) E (λ pos β. β) G9 (record { pos = 10; st = List.[]; d = 0; at = λ x. x }, tt) 12 List.[] (Call.sub-id 𝓤 H A W (G9 .slots)) (
-            (
-              Yields.yields-copy 𝓤 H A W (λ ρ. Unit)
-                  (Declared.row Report.the-type) Path'.refl (Copies.cEnum Report.the-type Laws''.the-laws Laws''.the-copy .copy 𝓤 H A W) (Rows.whole (Declared.row Report.the-type)) (λ x. x) (λ x. x) (λ ρ told. Local.mem-whole 𝓤 H A W (Declared.row Report.the-type) ρ) λ ρ told. Local.whole-mem 𝓤 H A W (Declared.row Report.the-type) ρ,
-              Path'.refl,
-            ),
-            tt,
-          )
-              (Reads.room-gone 𝓤 H A Syntax.tyBool) tt Path'.refl) d67
+          d69 : Typed.Typed 𝓤 H A 𝓣 E G0 b48 Δ0 at69
+          d69 = Typed.g-pre 𝓤 H A W 𝓣 E G0 G0 b48 Δ0 (Typed.give s7) at68 (Know.g-sl-known 𝓤 H A W (Referent.fInt Syntax.w8) E G0 8 7 ty·5 (Row.lease (κs .1 .1 .1 .1 .1 .1 .1 .0) (qs .1 .1 .1 .1 .1 .1 .1 .0)) 0 (λ x. x) record { fits = Dec'.lit< tt } (Reads.as-is 𝓤 H A (Mut.mslice (Referent.rtF (Referent.fInt Syntax.w8)) ty·5 7)) Path'.refl tt) (Typed.s-seq
+              𝓤 H A W 𝓣 E G0 G10 b0 b47 Δ0 (Typed.both s8) at67 (Plain.t-call-plain 𝓤 H A W 𝓣 0 ps·0 r·0 (claims· .0) (claims· .1) "handset::replies::is_reported" (known .0) E (λ pos β. β) G0 (record { pos = 10; st = List.[]; d = 0; at = λ x. x }, tt) 12 List.[] (Call.sub-id 𝓤 H A W (G0 .slots))
+              ((Yields.yields-copy 𝓤 H A W (λ ρ. Unit) (Declared.row Report.the-type) Path'.refl (Copies.cEnum Report.the-type Laws''.the-laws Laws''.the-copy .copy 𝓤 H A W) (Rows.whole (Declared.row Report.the-type)) (λ x. x) (λ x. x) (λ ρ told. Local.mem-whole 𝓤 H A W (Declared.row Report.the-type) ρ) λ ρ told. Local.whole-mem 𝓤 H A W (Declared.row Report.the-type) ρ, Path'.refl), tt)
+              (Reads.room-gone 𝓤 H A Syntax.tyBool) tt Path'.refl) d67)
 
-          d69 : Typed.Typed 𝓤 H A 𝓣 E G8 b48 Δ0 at69
-          d69 = Typed.g-pre 𝓤 H A W 𝓣 E G8 G9 b48 Δ0 (Typed.give s7) at68 (Know.g-sl-known 𝓤 H A W (Referent.fInt Syntax.w8) E G8 8 7 ty·5 (Row.lease (κs .1 .1 .1 .1 .1 .1 .1 .0) (qs .1 .1 .1 .1 .1 .1 .1 .0)) 0 (λ x. x) record { fits = Dec'.lit< tt } (Reads.as-is 𝓤 H A (Mut.mslice (Referent.rtF (Referent.fInt Syntax.w8)) ty·5 7)) Path'.refl tt) d68
+          d72 : Typed.Typed 𝓤 H A 𝓣 E G0 b48 Δ0 at72
+          d72 = Typed.g-pre 𝓤 H A W 𝓣 E G0 G0 b48 Δ0 (Typed.give s4) at71 (Know.g-shs-known 𝓤 H A W (Referent.fInt Syntax.w16) E G0 5 4 ty·9 (Row.lease (κs .1 .1 .1 .1 .0) (qs .1 .1 .1 .1 .0)) 0 (λ x. x) record { fits = Dec'.lit< tt } (Reads.as-is 𝓤 H A (Rows.sslice (Referent.rtF (Referent.fInt Syntax.w16)) ty·9 4)) Path'.refl tt) (Typed.g-pre 𝓤 H A W 𝓣 E G0
+              G0 b48 Δ0 (Typed.give s5) at70 (Know.g-shs-known 𝓤 H A W (Referent.fInt Syntax.w32) E G0 6 5 ty·10 (Row.lease (κs .1 .1 .1 .1 .1 .0) (qs .1 .1 .1 .1 .1 .0)) 0 (λ x. x) record { fits = Dec'.lit< tt } (Reads.as-is 𝓤 H A (Rows.sslice (Referent.rtF (Referent.fInt Syntax.w32)) ty·10 5)) Path'.refl tt) (Typed.g-pre 𝓤 H A W 𝓣 E G0 G0 b48 Δ0 (Typed.give
+              s6) at69 (Know.g-sl-known 𝓤 H A W (Referent.fInt Syntax.w16) E G0 7 6 ty·11 (Row.lease (κs .1 .1 .1 .1 .1 .1 .0) (qs .1 .1 .1 .1 .1 .1 .0)) 0 (λ x. x) record { fits = Dec'.lit< tt } (Reads.as-is 𝓤 H A (Mut.mslice (Referent.rtF (Referent.fInt Syntax.w16)) ty·11 6)) Path'.refl tt) d69))
 
-          d70 : Typed.Typed 𝓤 H A 𝓣 E G7 b48 Δ0 at70
-          d70 = Typed.g-pre 𝓤 H A W 𝓣 E G7 G8 b48 Δ0 (Typed.give s6) at69 (Know.g-sl-known 𝓤 H A W (Referent.fInt Syntax.w16) E G7 7 6 ty·11 (Row.lease (κs .1 .1 .1 .1 .1 .1 .0) (qs .1 .1 .1 .1 .1 .1 .0)) 0 (λ x. x) record { fits = Dec'.lit< tt } (Reads.as-is 𝓤 H A (Mut.mslice (Referent.rtF (Referent.fInt Syntax.w16)) ty·11 6)) Path'.refl tt) d69
-
-          d71 : Typed.Typed 𝓤 H A 𝓣 E G6 b48 Δ0 at71
-          d71 = Typed.g-pre 𝓤 H A W 𝓣 E G6 G7 b48 Δ0 (Typed.give s5) at70 (Know.g-shs-known 𝓤 H A W (Referent.fInt Syntax.w32) E G6 6 5 ty·10 (Row.lease (κs .1 .1 .1 .1 .1 .0) (qs .1 .1 .1 .1 .1 .0)) 0 (λ x. x) record { fits = Dec'.lit< tt } (Reads.as-is 𝓤 H A (Rows.sslice (Referent.rtF (Referent.fInt Syntax.w32)) ty·10 5)) Path'.refl tt) d70
-
-          d72 : Typed.Typed 𝓤 H A 𝓣 E G5 b48 Δ0 at72
-          d72 = Typed.g-pre 𝓤 H A W 𝓣 E G5 G6 b48 Δ0 (Typed.give s4) at71 (Know.g-shs-known 𝓤 H A W (Referent.fInt Syntax.w16) E G5 5 4 ty·9 (Row.lease (κs .1 .1 .1 .1 .0) (qs .1 .1 .1 .1 .0)) 0 (λ x. x) record { fits = Dec'.lit< tt } (Reads.as-is 𝓤 H A (Rows.sslice (Referent.rtF (Referent.fInt Syntax.w16)) ty·9 4)) Path'.refl tt) d71
-
-          d73 : Typed.Typed 𝓤 H A 𝓣 E G4 b48 Δ0 at73
-          d73 = Typed.g-pre 𝓤 H A W 𝓣 E G4 G5 b48 Δ0 (Typed.give s3) at72 (Know.g-shs-known 𝓤 H A W (Referent.fInt Syntax.w16) E G4 4 3 ty·8 (Row.lease (κs .1 .1 .1 .0) (qs .1 .1 .1 .0)) 0 (λ x. x) record { fits = Dec'.lit< tt } (Reads.as-is 𝓤 H A (Rows.sslice (Referent.rtF (Referent.fInt Syntax.w16)) ty·8 3)) Path'.refl tt) d72
-
-          d74 : Typed.Typed 𝓤 H A 𝓣 E G3 b48 Δ0 at74
-          d74 = Typed.g-pre 𝓤 H A W 𝓣 E G3 G4 b48 Δ0 (Typed.give s2) at73 (Know.g-shs-known 𝓤 H A W (Referent.fInt Syntax.w8) E G3 3 2 ty·4 (Row.lease (κs .1 .1 .0) (qs .1 .1 .0)) 0 (λ x. x) record { fits = Dec'.lit< tt } (Reads.as-is 𝓤 H A (Rows.sslice (Referent.rtF (Referent.fInt Syntax.w8)) ty·4 2)) Path'.refl tt) d73
-
-          d75 : Typed.Typed 𝓤 H A 𝓣 E G2 b48 Δ0 at75
-          d75 = Typed.g-pre 𝓤 H A W 𝓣 E G2 G3 b48 Δ0 (Typed.give s1) at74 (Know.g-shs-known 𝓤 H A W (Referent.fInt Syntax.w16) E G2 2 1 ty·7 (Row.lease (κs .1 .0) (qs .1 .0)) 0 (λ x. x) record { fits = Dec'.lit< tt } (Reads.as-is 𝓤 H A (Rows.sslice (Referent.rtF (Referent.fInt Syntax.w16)) ty·7 1)) Path'.refl tt) d74
-
-          d76 : Typed.Typed 𝓤 H A 𝓣 E G0 b48 Δ0 at76
-          d76 = Typed.g-pre 𝓤 H A W 𝓣 E G0 G2 b48 Δ0 (Typed.give s0) at75 (Know.g-shs-known 𝓤 H A W (Referent.fInt Syntax.w16) E G0 1 0 ty·6 (Row.lease (κs .0) (qs .0)) 0 (λ x. x) record { fits = Dec'.lit< tt } (Reads.as-is 𝓤 H A (Rows.sslice (Referent.rtF (Referent.fInt Syntax.w16)) ty·6 0)) Path'.refl tt) d75
+          d75 : Typed.Typed 𝓤 H A 𝓣 E G0 b48 Δ0 at75
+          d75 = Typed.g-pre 𝓤 H A W 𝓣 E G0 G0 b48 Δ0 (Typed.give s1) at74 (Know.g-shs-known 𝓤 H A W (Referent.fInt Syntax.w16) E G0 2 1 ty·7 (Row.lease (κs .1 .0) (qs .1 .0)) 0 (λ x. x) record { fits = Dec'.lit< tt } (Reads.as-is 𝓤 H A (Rows.sslice (Referent.rtF (Referent.fInt Syntax.w16)) ty·7 1)) Path'.refl tt) (Typed.g-pre 𝓤 H A W 𝓣 E G0 G0 b48 Δ0
+              (Typed.give s2) at73 (Know.g-shs-known 𝓤 H A W (Referent.fInt Syntax.w8) E G0 3 2 ty·4 (Row.lease (κs .1 .1 .0) (qs .1 .1 .0)) 0 (λ x. x) record { fits = Dec'.lit< tt } (Reads.as-is 𝓤 H A (Rows.sslice (Referent.rtF (Referent.fInt Syntax.w8)) ty·4 2)) Path'.refl tt) (Typed.g-pre 𝓤 H A W 𝓣 E G0 G0 b48 Δ0 (Typed.give s3) at72 (Know.g-shs-known 𝓤 H A W
+              (Referent.fInt Syntax.w16) E G0 4 3 ty·8 (Row.lease (κs .1 .1 .1 .0) (qs .1 .1 .1 .0)) 0 (λ x. x) record { fits = Dec'.lit< tt } (Reads.as-is 𝓤 H A (Rows.sslice (Referent.rtF (Referent.fInt Syntax.w16)) ty·8 3)) Path'.refl tt) d72))
 
           pub typed : Typed.Typed 𝓤 H A 𝓣 E (Function.Γin 9 ps r xs m κs qs) b48 (Function.Δret 9 ps r xs m κs qs) Φ
-          typed = d76
+          typed = (Typed.g-pre 𝓤 H A W 𝓣 E G0 G0 b48 Δ0 (Typed.give s0) at75 (Know.g-shs-known 𝓤 H A W (Referent.fInt Syntax.w16) E G0 1 0 ty·6 (Row.lease (κs .0) (qs .0)) 0 (λ x. x) record { fits = Dec'.lit< tt } (Reads.as-is 𝓤 H A (Rows.sslice (Referent.rtF (Referent.fInt Syntax.w16)) ty·6 0)) Path'.refl tt) d75)
 
       module _ (κs : Lifetimes.Lfts 9) where
         pub record Args : Type 0 where
@@ -3245,38 +1517,17 @@ module _ (claims· : Claims) where
           pub visited : Kinds.Den {n = 9} κs (MutSlice.pMutS (Referent.rtF (Referent.fInt Syntax.w16)) 6 tt)
           pub drone-flags : Kinds.Den {n = 9} κs (MutSlice.pMutS (Referent.rtF (Referent.fInt Syntax.w8)) 7 tt)
           pub dependencies : Kinds.Den {n = 9} κs (ShrSlice.pShrS Rec.rt 8 tt)
-          pub report : Kinds.Den {n = 9} κs (Value.pVal record {
-            ty = Declared.row Report.the-type;
-            one = Path'.refl;
-            val = Laws'3.val Report.the-type Laws''.the-laws;
-            tells = Laws'3.tells Report.the-type Laws''.the-laws;
-            still = Laws'3.still Report.the-type Laws''.the-copy Exit.yes;
-            row = Rows.whole (Declared.row Report.the-type);
-            rd = λ x. x;
-            mk = λ x. x;
-          } λ M 𝓤 H A W. record {
-            copies = Laws'3.copy Report.the-type Laws''.the-copy 𝓤 H A W;
-            lawful = Laws'3.lawful Report.the-type Laws''.the-laws 𝓤 H A W tt;
-            makes = Laws'3.makes Report.the-type Laws''.the-plain 𝓤 H A;
-            in-mem = Local.mem-whole 𝓤 H A W (Declared.row Report.the-type);
-            of-mem = Local.whole-mem 𝓤 H A W (Declared.row Report.the-type);
-          })
+          pub report : Kinds.Den {n = 9} κs (Value.pVal record { ty = Declared.row Report.the-type; one = Path'.refl; val = Laws'3.val Report.the-type Laws''.the-laws; tells = Laws'3.tells Report.the-type Laws''.the-laws; still = Laws'3.still Report.the-type Laws''.the-copy Exit.yes; row = Rows.whole (Declared.row Report.the-type); rd = λ x. x; mk = λ x. x }
+              λ M 𝓤 H A W. record { copies = Laws'3.copy Report.the-type Laws''.the-copy 𝓤 H A W; lawful = Laws'3.lawful Report.the-type Laws''.the-laws 𝓤 H A W tt; makes = Laws'3.makes Report.the-type Laws''.the-plain 𝓤 H A; in-mem = Local.mem-whole 𝓤 H A W (Declared.row Report.the-type); of-mem = Local.whole-mem 𝓤 H A W (Declared.row Report.the-type) })
 
         abbrev pub dens : (a : Args) → Kinds.Dens κs ps
-        dens = λ a. (
-          a .drone-count,
-          (a .dependency-count, (a .names, (a .stop-counts, (a .locations, (a .times, (a .visited, (a .drone-flags, (a .dependencies, (a .report, tt))))))))),
-        )
+        dens = λ a. (a .drone-count, (a .dependency-count, (a .names, (a .stop-counts, (a .locations, (a .times, (a .visited, (a .drone-flags, (a .dependencies, (a .report, tt))))))))))
 
       abbrev pub m0 : (κs : Lifetimes.Lfts 9) → (args : Args κs) → Typed.Mo T0
       m0 = λ κs args. (tt, Enter.partsP κs 1 ps xs (dens κs args))
 
       abbrev W0 : (κs : Lifetimes.Lfts 9) → (args : Args κs) → Typed.Want O0
-      W0 = λ κs args. (
-        λ u. ⊥,
-        tt,
-        λ u. Enter.Fixs κs 1 ps xs (dens κs args) (u .1) × Post· κs (dens κs args) (Function.resV r κs (u .0)) (Clauses.atExit (Kinds.endedOf 9 ps r) κs (dens κs args) (Enter.lastsP κs 1 ps xs (dens κs args) (u .1))),
-      )
+      W0 = λ κs args. (λ u. ⊥, tt, λ u. Enter.Fixs κs 1 ps xs (dens κs args) (u .1) × Post· κs (dens κs args) (Function.resV r κs (u .0)) (Clauses.atExit (Kinds.endedOf 9 ps r) κs (dens κs args) (Enter.lastsP κs 1 ps xs (dens κs args) (u .1))))
 
       pub record Start : Type 0 where
         pub κs : Lifetimes.Lfts 9
@@ -3284,7 +1535,7 @@ module _ (claims· : Claims) where
         pub good : Kinds.GoodsP κs ps (dens κs args)
         pub pre : Pre· κs (dens κs args)
 
-      abbrev pub m1 : (before : Start) → (given : s0 .gives (m0 (before .κs) (before .args))) → Typed.Mo T2
+      abbrev pub m1 : (before : Start) → (given : s0 .gives (m0 (before .κs) (before .args))) → Typed.Mo T0
       m1 = λ before given. s0 .next (m0 (before .κs) (before .args)) given
 
       module _ (before· : Start) where
@@ -3295,7 +1546,7 @@ module _ (claims· : Claims) where
         pub before : Start
         pub shared-slice-known : After-shared-slice-known·own before
 
-      abbrev pub m2 : (before : After-shared-slice-known) → (given : s1 .gives (m1 (before .before) (before .shared-slice-known .given))) → Typed.Mo T3
+      abbrev pub m2 : (before : After-shared-slice-known) → (given : s1 .gives (m1 (before .before) (before .shared-slice-known .given))) → Typed.Mo T0
       m2 = λ before given. s1 .next (m1 (before .before) (before .shared-slice-known .given)) given
 
       module _ (before· : After-shared-slice-known) where
@@ -3306,7 +1557,7 @@ module _ (claims· : Claims) where
         pub before : After-shared-slice-known
         pub shared-slice-known2 : After-shared-slice-known2·own before
 
-      abbrev pub m3 : (before : After-shared-slice-known2) → (given : s2 .gives (m2 (before .before) (before .shared-slice-known2 .given))) → Typed.Mo T4
+      abbrev pub m3 : (before : After-shared-slice-known2) → (given : s2 .gives (m2 (before .before) (before .shared-slice-known2 .given))) → Typed.Mo T0
       m3 = λ before given. s2 .next (m2 (before .before) (before .shared-slice-known2 .given)) given
 
       module _ (before· : After-shared-slice-known2) where
@@ -3317,7 +1568,7 @@ module _ (claims· : Claims) where
         pub before : After-shared-slice-known2
         pub shared-slice-known3 : After-shared-slice-known3·own before
 
-      abbrev pub m4 : (before : After-shared-slice-known3) → (given : s3 .gives (m3 (before .before) (before .shared-slice-known3 .given))) → Typed.Mo T5
+      abbrev pub m4 : (before : After-shared-slice-known3) → (given : s3 .gives (m3 (before .before) (before .shared-slice-known3 .given))) → Typed.Mo T0
       m4 = λ before given. s3 .next (m3 (before .before) (before .shared-slice-known3 .given)) given
 
       module _ (before· : After-shared-slice-known3) where
@@ -3328,7 +1579,7 @@ module _ (claims· : Claims) where
         pub before : After-shared-slice-known3
         pub shared-slice-known4 : After-shared-slice-known4·own before
 
-      abbrev pub m5 : (before : After-shared-slice-known4) → (given : s4 .gives (m4 (before .before) (before .shared-slice-known4 .given))) → Typed.Mo T6
+      abbrev pub m5 : (before : After-shared-slice-known4) → (given : s4 .gives (m4 (before .before) (before .shared-slice-known4 .given))) → Typed.Mo T0
       m5 = λ before given. s4 .next (m4 (before .before) (before .shared-slice-known4 .given)) given
 
       module _ (before· : After-shared-slice-known4) where
@@ -3339,7 +1590,7 @@ module _ (claims· : Claims) where
         pub before : After-shared-slice-known4
         pub shared-slice-known5 : After-shared-slice-known5·own before
 
-      abbrev pub m6 : (before : After-shared-slice-known5) → (given : s5 .gives (m5 (before .before) (before .shared-slice-known5 .given))) → Typed.Mo T7
+      abbrev pub m6 : (before : After-shared-slice-known5) → (given : s5 .gives (m5 (before .before) (before .shared-slice-known5 .given))) → Typed.Mo T0
       m6 = λ before given. s5 .next (m5 (before .before) (before .shared-slice-known5 .given)) given
 
       module _ (before· : After-shared-slice-known5) where
@@ -3350,7 +1601,7 @@ module _ (claims· : Claims) where
         pub before : After-shared-slice-known5
         pub shared-slice-known6 : After-shared-slice-known6·own before
 
-      abbrev pub m7 : (before : After-shared-slice-known6) → (given : s6 .gives (m6 (before .before) (before .shared-slice-known6 .given))) → Typed.Mo T8
+      abbrev pub m7 : (before : After-shared-slice-known6) → (given : s6 .gives (m6 (before .before) (before .shared-slice-known6 .given))) → Typed.Mo T0
       m7 = λ before given. s6 .next (m6 (before .before) (before .shared-slice-known6 .given)) given
 
       module _ (before· : After-shared-slice-known6) where
@@ -3361,7 +1612,7 @@ module _ (claims· : Claims) where
         pub before : After-shared-slice-known6
         pub slice-known : After-slice-known·own before
 
-      abbrev pub m8 : (before : After-slice-known) → (given : s7 .gives (m7 (before .before) (before .slice-known .given))) → Typed.Mo T9
+      abbrev pub m8 : (before : After-slice-known) → (given : s7 .gives (m7 (before .before) (before .slice-known .given))) → Typed.Mo T0
       m8 = λ before given. s7 .next (m7 (before .before) (before .slice-known .given)) given
 
       module _ (before· : After-slice-known) where
@@ -3380,26 +1631,20 @@ module _ (claims· : Claims) where
 
       module _ (before· : After-slice-known2) where
         abbrev pub After-is-reported·own : Type 0
-        After-is-reported·own = Called.Called ps·0 r·0 (claims· .1) T9 (
-          record { pos = 10; st = List.[]; d = 0; at = λ x. x },
-          tt,
-        ) (m8 (before· .before) (before· .slice-known2 .given))
+        After-is-reported·own = Called.Called ps·0 r·0 (claims· .1) T0 (record { pos = 10; st = List.[]; d = 0; at = λ x. x }, tt) (m8 (before· .before) (before· .slice-known2 .given))
 
       pub record After-is-reported : Type 0 where
         pub before : After-slice-known2
         pub is-reported : After-is-reported·own before
 
       abbrev pub After-is-reported·gave : (c : After-is-reported) → s8 .gives (m8 (c .before .before) (c .before .slice-known2 .given))
-      After-is-reported·gave = λ c. Called.given ps·0 r·0 (claims· .1) T9 (
-        record { pos = 10; st = List.[]; d = 0; at = λ x. x },
-        tt,
-      ) (m8 (c .before .before) (c .before .slice-known2 .given)) (c .is-reported)
+      After-is-reported·gave = λ c. Called.given ps·0 r·0 (claims· .1) T0 (record { pos = 10; st = List.[]; d = 0; at = λ x. x }, tt) (m8 (c .before .before) (c .before .slice-known2 .given)) (c .is-reported)
 
       abbrev W1 : (before : After-slice-known2) → (given : s8 .gives (m8 (before .before) (before .slice-known2 .given))) → Typed.Want O1
-      W1 = λ before given. Typed.wantNext T11 O0 (at66 (W0 (before .before .before .before .before .before .before .before .before .κs) (before .before .before .before .before .before .before .before .before .args))) (W0 (before .before .before .before .before .before .before .before .before .κs)
-          (before .before .before .before .before .before .before .before .before .args))
+      W1 = λ before given. Typed.wantNext T11 O0 (at65 (W0 (before .before .before .before .before .before .before .before .before .κs) (before .before .before .before .before .before .before .before .before .args))) (W0 (before .before .before .before .before .before .before .before .before .κs) (before .before .before .before .before .before .before
+          .before .before .args))
 
-      abbrev pub m10 : (before : After-is-reported) → Typed.Mo T12
+      abbrev pub m10 : (before : After-is-reported) → Typed.Mo T0
       m10 = λ before. s9 (m9 (before .before) (After-is-reported·gave before))
 
       module _ (before· : After-is-reported) where
@@ -3410,11 +1655,8 @@ module _ (claims· : Claims) where
         pub before : After-is-reported
         pub if1 : Then1·own before
 
-      abbrev pub m11 : (before : Then1) → (given : s11 .gives (m10 (before .before))) → Typed.Mo T14
-      m11 = λ before given. s11 .next (m10 (before .before)) given
-
       abbrev pub m12 : (before : Then1) → (given : s11 .gives (m10 (before .before))) → Typed.Mo T15
-      m12 = λ before given. s12 .next (m11 before given)
+      m12 = λ before given. s12 .next (s11 .next (m10 (before .before)) given)
 
       module _ (before· : Then1) where
         pub record After-arrive-arg·own : Type 0 where
@@ -3424,11 +1666,8 @@ module _ (claims· : Claims) where
         pub before : Then1
         pub arrive-arg : After-arrive-arg·own before
 
-      abbrev pub m13 : (before : After-arrive-arg) → (given : s14 .gives (m12 (before .before) (before .arrive-arg .given))) → Typed.Mo T17
-      m13 = λ before given. s14 .next (m12 (before .before) (before .arrive-arg .given)) given
-
       abbrev pub m14 : (before : After-arrive-arg) → (given : s14 .gives (m12 (before .before) (before .arrive-arg .given))) → Typed.Mo T18
-      m14 = λ before given. s15 .next (m13 before given)
+      m14 = λ before given. s15 .next (s14 .next (m12 (before .before) (before .arrive-arg .given)) given)
 
       module _ (before· : After-arrive-arg) where
         pub record After-arrive-arg2·own : Type 0 where
@@ -3446,20 +1685,14 @@ module _ (claims· : Claims) where
 
       module _ (before· : After-arrive-arg2) where
         abbrev pub After-drone-of·own : Type 0
-        After-drone-of·own = Called.Called ps·1 r·1 (claims· .3) T18 (
-          record { pos = 10; st = List.[]; d = 0; at = λ x. x },
-          tt,
-        ) (m14 (before· .before) (before· .arrive-arg2 .given))
+        After-drone-of·own = Called.Called ps·0 r·1 (claims· .3) T18 (record { pos = 10; st = List.[]; d = 0; at = λ x. x }, tt) (m14 (before· .before) (before· .arrive-arg2 .given))
 
       pub record After-drone-of : Type 0 where
         pub before : After-arrive-arg2
         pub drone-of : After-drone-of·own before
 
       abbrev pub After-drone-of·gave : (c : After-drone-of) → s16 .gives (m14 (c .before .before) (c .before .arrive-arg2 .given))
-      After-drone-of·gave = λ c. Called.given ps·1 r·1 (claims· .3) T18 (
-        record { pos = 10; st = List.[]; d = 0; at = λ x. x },
-        tt,
-      ) (m14 (c .before .before) (c .before .arrive-arg2 .given)) (c .drone-of)
+      After-drone-of·gave = λ c. Called.given ps·0 r·1 (claims· .3) T18 (record { pos = 10; st = List.[]; d = 0; at = λ x. x }, tt) (m14 (c .before .before) (c .before .arrive-arg2 .given)) (c .drone-of)
 
       abbrev pub m16 : (before : After-arrive-arg2) → (given : s16 .gives (m14 (before .before) (before .arrive-arg2 .given))) → Typed.Mo T20
       m16 = λ before given. s17 (m15 before given)
@@ -3472,94 +1705,14 @@ module _ (claims· : Claims) where
 
       module _ (before· : After-drone-of) where
         abbrev pub After-arrive·own : Type 0
-        After-arrive·own = Called.Called ps·2 r·2 (claims· .5) T20 (
-          record { pos = 1; ty = Syntax.tyRef (Syntax.named 0) Syntax.imm (Syntax.tyInt Syntax.w16); ref = λ x. x },
-          (
-            record { pos = 2; ty = Syntax.tyRef (Syntax.named 1) Syntax.imm (Syntax.tyInt Syntax.w16); ref = λ x. x },
-            (
-              record {
-                pos = 3;
-                ty = Syntax.tyRef (Syntax.named 2) Syntax.imm (Syntax.tyInt Syntax.w8);
-                ref = λ x. x;
-              },
-              (
-                record { pos = 4; ty = Syntax.tyRef (Syntax.named 3) Syntax.imm (Syntax.tyInt Syntax.w16); ref = λ x. x },
-                (
-                  record { pos = 5; ty = Syntax.tyRef (Syntax.named 4) Syntax.imm (Syntax.tyInt Syntax.w16); ref = λ x. x },
-                  (
-                    record {
-                      pos = 6;
-                      ty = Syntax.tyRef (Syntax.named 5) Syntax.imm (Syntax.tyInt Syntax.w32);
-                      ref = λ x. x;
-                    },
-                    (
-                      record { pos = 14; ty = Syntax.tyRef Syntax.erased Syntax.mut (Syntax.tyInt Syntax.w16); ref = λ x. x },
-                      (
-                        record { pos = 16; ty = Syntax.tyRef Syntax.erased Syntax.mut (Syntax.tyInt Syntax.w8); ref = λ x. x },
-                        (
-                          record {
-                            pos = 9;
-                            ty = Syntax.tyRef
-                                (Syntax.named 8) Syntax.imm Rec.behind;
-                            ref = λ x. x;
-                          },
-                          (Num.vAt 17 λ x. x, tt),
-                        ),
-                      ),
-                    ),
-                  ),
-                ),
-              ),
-            ),
-          ),
-        ) (m16 (before· .before) (After-drone-of·gave before·))
+        After-arrive·own = Called.Called ps·2 r·2 (claims· .5) T20 args·0 (m16 (before· .before) (After-drone-of·gave before·))
 
       pub record After-arrive : Type 0 where
         pub before : After-drone-of
         pub arrive : After-arrive·own before
 
       abbrev pub After-arrive·gave : (c : After-arrive) → s18 .gives (m16 (c .before .before) (After-drone-of·gave (c .before)))
-      After-arrive·gave = λ c. Called.given ps·2 r·2 (claims· .5) T20 (
-        record { pos = 1; ty = Syntax.tyRef (Syntax.named 0) Syntax.imm (Syntax.tyInt Syntax.w16); ref = λ x. x },
-        (
-          record { pos = 2; ty = Syntax.tyRef (Syntax.named 1) Syntax.imm (Syntax.tyInt Syntax.w16); ref = λ x. x },
-          (
-            record {
-              pos = 3;
-              ty = Syntax.tyRef (Syntax.named 2) Syntax.imm (Syntax.tyInt Syntax.w8);
-              ref = λ x. x;
-            },
-            (
-              record { pos = 4; ty = Syntax.tyRef (Syntax.named 3) Syntax.imm (Syntax.tyInt Syntax.w16); ref = λ x. x },
-              (
-                record { pos = 5; ty = Syntax.tyRef (Syntax.named 4) Syntax.imm (Syntax.tyInt Syntax.w16); ref = λ x. x },
-                (
-                  record {
-                    pos = 6;
-                    ty = Syntax.tyRef (Syntax.named 5) Syntax.imm (Syntax.tyInt Syntax.w32);
-                    ref = λ x. x;
-                  },
-                  (
-                    record { pos = 14; ty = Syntax.tyRef Syntax.erased Syntax.mut (Syntax.tyInt Syntax.w16); ref = λ x. x },
-                    (
-                      record { pos = 16; ty = Syntax.tyRef Syntax.erased Syntax.mut (Syntax.tyInt Syntax.w8); ref = λ x. x },
-                      (
-                        record {
-                          pos = 9;
-                          ty = Syntax.tyRef
-                              (Syntax.named 8) Syntax.imm Rec.behind;
-                          ref = λ x. x;
-                        },
-                        (Num.vAt 17 λ x. x, tt),
-                      ),
-                    ),
-                  ),
-                ),
-              ),
-            ),
-          ),
-        ),
-      ) (m16 (c .before .before) (After-drone-of·gave (c .before))) (c .arrive)
+      After-arrive·gave = λ c. Called.given ps·2 r·2 (claims· .5) T20 args·0 (m16 (c .before .before) (After-drone-of·gave (c .before))) (c .arrive)
 
       abbrev pub m18 : (before : After-drone-of) → (given : s18 .gives (m16 (before .before) (After-drone-of·gave before))) → Typed.Mo T22
       m18 = λ before given. s19 (m17 before given)
@@ -3575,7 +1728,7 @@ module _ (claims· : Claims) where
         pub before : After-arrive
         pub visited : After-visited·own before
 
-      abbrev pub m20 : (before : After-visited) → (given : s22 .gives (m19 (before .before) (before .visited .given))) → Typed.Mo T25
+      abbrev pub m20 : (before : After-visited) → (given : s22 .gives (m19 (before .before) (before .visited .given))) → Typed.Mo T24
       m20 = λ before given. s22 .next (m19 (before .before) (before .visited .given)) given
 
       module _ (before· : After-visited) where
@@ -3597,7 +1750,7 @@ module _ (claims· : Claims) where
         pub before : After-slice-known3
         pub drone-flags : After-drone-flags·own before
 
-      abbrev pub m22 : (before : After-drone-flags) → (given : s26 .gives (m21 (before .before) (before .drone-flags .given))) → Typed.Mo T29
+      abbrev pub m22 : (before : After-drone-flags) → (given : s26 .gives (m21 (before .before) (before .drone-flags .given))) → Typed.Mo T28
       m22 = λ before given. s26 .next (m21 (before .before) (before .drone-flags .given)) given
 
       module _ (before· : After-drone-flags) where
@@ -3616,32 +1769,23 @@ module _ (claims· : Claims) where
 
       module _ (before· : After-slice-known4) where
         abbrev pub After-is-arrived·own : Type 0
-        After-is-arrived·own = Called.Called ps·3 r·3 (claims· .7) T29 (
-          record { pos = 11; st = List.[]; d = 0; at = λ x. x },
-          tt,
-        ) (m22 (before· .before) (before· .slice-known4 .given))
+        After-is-arrived·own = Called.Called ps·3 r·0 (claims· .7) T28 (record { pos = 11; st = List.[]; d = 0; at = λ x. x }, tt) (m22 (before· .before) (before· .slice-known4 .given))
 
       pub record After-is-arrived : Type 0 where
         pub before : After-slice-known4
         pub is-arrived : After-is-arrived·own before
 
       abbrev pub After-is-arrived·gave : (c : After-is-arrived) → s28 .gives (m22 (c .before .before) (c .before .slice-known4 .given))
-      After-is-arrived·gave = λ c. Called.given ps·3 r·3 (claims· .7) T29 (
-        record { pos = 11; st = List.[]; d = 0; at = λ x. x },
-        tt,
-      ) (m22 (c .before .before) (c .before .slice-known4 .given)) (c .is-arrived)
-
-      abbrev pub m24 : (before : After-slice-known4) → (given : s28 .gives (m22 (before .before) (before .slice-known4 .given))) → Typed.Mo T32
-      m24 = λ before given. s29 .next (m23 before given)
+      After-is-arrived·gave = λ c. Called.given ps·3 r·0 (claims· .7) T28 (record { pos = 11; st = List.[]; d = 0; at = λ x. x }, tt) (m22 (c .before .before) (c .before .slice-known4 .given)) (c .is-arrived)
 
       abbrev W2 : (before : After-slice-known4) → (given : s28 .gives (m22 (before .before) (before .slice-known4 .given))) → Typed.Want O2
-      W2 = λ before given. Typed.wantNext T33 O1 (at24 (W1 (before .before .before .before .before .before .before .before .before .before .before) (After-is-reported·gave (before .before .before .before .before .before .before .before .before .before)))) (W1 (before .before .before .before .before .before .before .before .before .before .before)
+      W2 = λ before given. Typed.wantNext T11 O1 (at23 (W1 (before .before .before .before .before .before .before .before .before .before .before) (After-is-reported·gave (before .before .before .before .before .before .before .before .before .before)))) (W1 (before .before .before .before .before .before .before .before .before .before .before)
           (After-is-reported·gave (before .before .before .before .before .before .before .before .before .before)))
 
       abbrev pub m25 : (before : After-slice-known4) → (given : s28 .gives (m22 (before .before) (before .slice-known4 .given))) → Typed.Mo T34
-      m25 = λ before given. s30 (m24 before given)
+      m25 = λ before given. s30 (s29 .next (m23 before given))
 
-      abbrev pub m26 : (before : After-is-arrived) → Typed.Mo T35
+      abbrev pub m26 : (before : After-is-arrived) → Typed.Mo T28
       m26 = λ before. s31 (m25 (before .before) (After-is-arrived·gave before))
 
       module _ (before· : After-is-arrived) where
@@ -3660,46 +1804,36 @@ module _ (claims· : Claims) where
 
       module _ (before· : Then2) where
         abbrev pub After-refusal-of·own : Type 0
-        After-refusal-of·own = Called.Called ps·4 r·4 (claims· .9) T35 (
-          record { pos = 11; st = List.[]; d = 0; at = λ x. x },
-          tt,
-        ) (m26 (before· .before))
+        After-refusal-of·own = Called.Called ps·3 r·4 (claims· .9) T28 (record { pos = 11; st = List.[]; d = 0; at = λ x. x }, tt) (m26 (before· .before))
 
       pub record After-refusal-of : Type 0 where
         pub before : Then2
         pub refusal-of : After-refusal-of·own before
 
       abbrev pub After-refusal-of·gave : (c : After-refusal-of) → s32 .gives (m26 (c .before .before))
-      After-refusal-of·gave = λ c. Called.given ps·4 r·4 (claims· .9) T35 (
-        record { pos = 11; st = List.[]; d = 0; at = λ x. x },
-        tt,
-      ) (m26 (c .before .before)) (c .refusal-of)
+      After-refusal-of·gave = λ c. Called.given ps·3 r·4 (claims· .9) T28 (record { pos = 11; st = List.[]; d = 0; at = λ x. x }, tt) (m26 (c .before .before)) (c .refusal-of)
 
-      abbrev pub m28 : (before : Then2) → (given : s32 .gives (m26 (before .before))) → Typed.Mo T37
+      abbrev pub m28 : (before : Then2) → (given : s32 .gives (m26 (before .before))) → Typed.Mo T1
       m28 = λ before given. s33 (m27 before given)
 
       abbrev pub Need-same-length : Type 0
-      Need-same-length = (c : After-refusal-of) → MutSlice.SameLen (Row.get 7 (T37 .locals) (m28 (c .before) (After-refusal-of·gave c))) (dens (c .before .before .before .before .before .before .before .before .before .before .before .before .before .before .before .before .before .before .before .before .before .κs)
-          (c .before .before .before .before .before .before .before .before .before .before .before .before .before .before .before .before .before .before .before .before .before .args) .1 .1 .1 .1 .1 .1 .0)
+      Need-same-length = (c : After-refusal-of) → MutSlice.SameLen (Row.get 7 (T1 .locals) (m28 (c .before) (After-refusal-of·gave c))) (dens (c .before .before .before .before .before .before .before .before .before .before .before .before .before .before .before .before .before .before .before .before .before .κs) (c .before .before .before .before .before
+          .before .before .before .before .before .before .before .before .before .before .before .before .before .before .before .before .args) .1 .1 .1 .1 .1 .1 .0)
 
       abbrev pub Need-same-length-2 : Type 0
-      Need-same-length-2 = (c : After-refusal-of) → MutSlice.SameLen (Row.get 8 (T37 .locals) (m28 (c .before) (After-refusal-of·gave c))) (dens (c .before .before .before .before .before .before .before .before .before .before .before .before .before .before .before .before .before .before .before .before .before .κs)
-          (c .before .before .before .before .before .before .before .before .before .before .before .before .before .before .before .before .before .before .before .before .before .args) .1 .1 .1 .1 .1 .1 .1 .0)
+      Need-same-length-2 = (c : After-refusal-of) → MutSlice.SameLen (Row.get 8 (T1 .locals) (m28 (c .before) (After-refusal-of·gave c))) (dens (c .before .before .before .before .before .before .before .before .before .before .before .before .before .before .before .before .before .before .before .before .before .κs) (c .before .before .before .before
+          .before .before .before .before .before .before .before .before .before .before .before .before .before .before .before .before .before .args) .1 .1 .1 .1 .1 .1 .1 .0)
 
       abbrev pub Need-returns : Type 0
-      Need-returns = (c : After-refusal-of) → Post· (c .before .before .before .before .before .before .before .before .before .before .before .before .before .before .before .before .before .before .before .before .before .κs) (dens (c .before .before .before .before .before .before .before .before .before .before
-          .before .before .before .before .before .before .before .before .before .before .before .κs) (c .before .before .before .before .before .before .before .before .before .before .before .before .before .before .before .before .before .before .before .before .before .args)) (Function.resV r
-          (c .before .before .before .before .before .before .before .before .before .before .before .before .before .before .before .before .before .before .before .before .before .κs) (m28 (c .before) (After-refusal-of·gave c) .0)) (Clauses.atExit (Kinds.endedOf 9 ps r) (c .before .before .before .before .before .before .before .before .before .before
-          .before .before .before .before .before .before .before .before .before .before .before .κs) (dens (c .before .before .before .before .before .before .before .before .before .before .before .before .before .before .before .before .before .before .before .before .before .κs)
-          (c .before .before .before .before .before .before .before .before .before .before .before .before .before .before .before .before .before .before .before .before .before .args)) (Enter.lastsP (c .before .before .before .before .before .before .before .before .before .before
-          .before .before .before .before .before .before .before .before .before .before .before .κs) 1 ps xs (dens (c .before .before .before .before .before .before .before .before .before .before .before .before .before .before .before .before .before .before .before .before .before .κs)
-          (c .before .before .before .before .before .before .before .before .before .before .before .before .before .before .before .before .before .before .before .before .before .args)) (m28 (c .before) (After-refusal-of·gave c) .1)))
+      Need-returns = (c : After-refusal-of) → Post· (c .before .before .before .before .before .before .before .before .before .before .before .before .before .before .before .before .before .before .before .before .before .κs) (dens (c .before .before .before .before .before .before .before .before .before .before .before .before .before .before .before
+          .before .before .before .before .before .before .κs) (c .before .before .before .before .before .before .before .before .before .before .before .before .before .before .before .before .before .before .before .before .before .args)) (Function.resV r (c .before .before .before .before .before .before .before .before .before .before .before .before
+          .before .before .before .before .before .before .before .before .before .κs) (m28 (c .before) (After-refusal-of·gave c) .0)) (Clauses.atExit (Kinds.endedOf 9 ps r) (c .before .before .before .before .before .before .before .before .before .before .before .before .before .before .before .before .before .before .before .before .before .κs) (dens (c
+          .before .before .before .before .before .before .before .before .before .before .before .before .before .before .before .before .before .before .before .before .before .κs) (c .before .before .before .before .before .before .before .before .before .before .before .before .before .before .before .before .before .before .before .before .before .args))
+          (Enter.lastsP (c .before .before .before .before .before .before .before .before .before .before .before .before .before .before .before .before .before .before .before .before .before .κs) 1 ps xs (dens (c .before .before .before .before .before .before .before .before .before .before .before .before .before .before .before .before .before .before
+          .before .before .before .κs) (c .before .before .before .before .before .before .before .before .before .before .before .before .before .before .before .before .before .before .before .before .before .args)) (m28 (c .before) (After-refusal-of·gave c) .1)))
 
-      abbrev pub m29 : (before : After-is-arrived) → Typed.Mo T38
-      m29 = λ before. s34 (m25 (before .before) (After-is-arrived·gave before))
-
-      abbrev pub m30 : (before : After-is-arrived) → Typed.Mo T39
-      m30 = λ before. s35 (m29 before)
+      abbrev pub m30 : (before : After-is-arrived) → Typed.Mo T11
+      m30 = λ before. s35 (s34 (m25 (before .before) (After-is-arrived·gave before)))
 
       module _ (before· : After-is-arrived) where
         pub record Else2·own : Type 0 where
@@ -3709,11 +1843,8 @@ module _ (claims· : Claims) where
         pub before : After-is-arrived
         pub if2 : Else2·own before
 
-      abbrev pub m31 : (before : Else2) → (given : s37 .gives (m30 (before .before))) → Typed.Mo T41
-      m31 = λ before given. s37 .next (m30 (before .before)) given
-
       abbrev pub m32 : (before : Else2) → (given : s37 .gives (m30 (before .before))) → Typed.Mo T42
-      m32 = λ before given. s38 .next (m31 before given)
+      m32 = λ before given. s38 .next (s37 .next (m30 (before .before)) given)
 
       module _ (before· : Else2) where
         pub record After-grant-all-arg·own : Type 0 where
@@ -3723,11 +1854,8 @@ module _ (claims· : Claims) where
         pub before : Else2
         pub grant-all-arg : After-grant-all-arg·own before
 
-      abbrev pub m33 : (before : After-grant-all-arg) → (given : s40 .gives (m32 (before .before) (before .grant-all-arg .given))) → Typed.Mo T44
-      m33 = λ before given. s40 .next (m32 (before .before) (before .grant-all-arg .given)) given
-
       abbrev pub m34 : (before : After-grant-all-arg) → (given : s40 .gives (m32 (before .before) (before .grant-all-arg .given))) → Typed.Mo T45
-      m34 = λ before given. s41 .next (m33 before given)
+      m34 = λ before given. s41 .next (s40 .next (m32 (before .before) (before .grant-all-arg .given)) given)
 
       module _ (before· : After-grant-all-arg) where
         pub record After-grant-all-arg2·own : Type 0 where
@@ -3745,102 +1873,19 @@ module _ (claims· : Claims) where
 
       module _ (before· : After-grant-all-arg2) where
         abbrev pub After-grant-all·own : Type 0
-        After-grant-all·own = Called.Called ps·5 r·5 (claims· .11) T45 (
-          record { pos = 1; ty = Syntax.tyRef (Syntax.named 0) Syntax.imm (Syntax.tyInt Syntax.w16); ref = λ x. x },
-          (
-            record { pos = 2; ty = Syntax.tyRef (Syntax.named 1) Syntax.imm (Syntax.tyInt Syntax.w16); ref = λ x. x },
-            (
-              record {
-                pos = 3;
-                ty = Syntax.tyRef (Syntax.named 2) Syntax.imm (Syntax.tyInt Syntax.w8);
-                ref = λ x. x;
-              },
-              (
-                record { pos = 4; ty = Syntax.tyRef (Syntax.named 3) Syntax.imm (Syntax.tyInt Syntax.w16); ref = λ x. x },
-                (
-                  record { pos = 5; ty = Syntax.tyRef (Syntax.named 4) Syntax.imm (Syntax.tyInt Syntax.w16); ref = λ x. x },
-                  (
-                    record {
-                      pos = 6;
-                      ty = Syntax.tyRef (Syntax.named 5) Syntax.imm (Syntax.tyInt Syntax.w32);
-                      ref = λ x. x;
-                    },
-                    (
-                      record { pos = 21; ty = Syntax.tyRef Syntax.erased Syntax.imm (Syntax.tyInt Syntax.w16); ref = λ x. x },
-                      (
-                        record { pos = 23; ty = Syntax.tyRef Syntax.erased Syntax.mut (Syntax.tyInt Syntax.w8); ref = λ x. x },
-                        (
-                          record {
-                            pos = 9;
-                            ty = Syntax.tyRef
-                                (Syntax.named 8) Syntax.imm Rec.behind;
-                            ref = λ x. x;
-                          },
-                          tt,
-                        ),
-                      ),
-                    ),
-                  ),
-                ),
-              ),
-            ),
-          ),
-        ) (m34 (before· .before) (before· .grant-all-arg2 .given))
+        After-grant-all·own = Called.Called ps·5 r·5 (claims· .11) T45 args·1 (m34 (before· .before) (before· .grant-all-arg2 .given))
 
       pub record After-grant-all : Type 0 where
         pub before : After-grant-all-arg2
         pub grant-all : After-grant-all·own before
 
       abbrev pub After-grant-all·gave : (c : After-grant-all) → s42 .gives (m34 (c .before .before) (c .before .grant-all-arg2 .given))
-      After-grant-all·gave = λ c. Called.given ps·5 r·5 (claims· .11) T45 (
-        record { pos = 1; ty = Syntax.tyRef (Syntax.named 0) Syntax.imm (Syntax.tyInt Syntax.w16); ref = λ x. x },
-        (
-          record { pos = 2; ty = Syntax.tyRef (Syntax.named 1) Syntax.imm (Syntax.tyInt Syntax.w16); ref = λ x. x },
-          (
-            record {
-              pos = 3;
-              ty = Syntax.tyRef (Syntax.named 2) Syntax.imm (Syntax.tyInt Syntax.w8);
-              ref = λ x. x;
-            },
-            (
-              record { pos = 4; ty = Syntax.tyRef (Syntax.named 3) Syntax.imm (Syntax.tyInt Syntax.w16); ref = λ x. x },
-              (
-                record { pos = 5; ty = Syntax.tyRef (Syntax.named 4) Syntax.imm (Syntax.tyInt Syntax.w16); ref = λ x. x },
-                (
-                  record {
-                    pos = 6;
-                    ty = Syntax.tyRef (Syntax.named 5) Syntax.imm (Syntax.tyInt Syntax.w32);
-                    ref = λ x. x;
-                  },
-                  (
-                    record { pos = 21; ty = Syntax.tyRef Syntax.erased Syntax.imm (Syntax.tyInt Syntax.w16); ref = λ x. x },
-                    (
-                      record { pos = 23; ty = Syntax.tyRef Syntax.erased Syntax.mut (Syntax.tyInt Syntax.w8); ref = λ x. x },
-                      (
-                        record {
-                          pos = 9;
-                          ty = Syntax.tyRef
-                              (Syntax.named 8) Syntax.imm Rec.behind;
-                          ref = λ x. x;
-                        },
-                        tt,
-                      ),
-                    ),
-                  ),
-                ),
-              ),
-            ),
-          ),
-        ),
-      ) (m34 (c .before .before) (c .before .grant-all-arg2 .given)) (c .grant-all)
-
-      abbrev pub m36 : (before : After-grant-all-arg2) → (given : s42 .gives (m34 (before .before) (before .grant-all-arg2 .given))) → Typed.Mo T47
-      m36 = λ before given. s43 (m35 before given)
+      After-grant-all·gave = λ c. Called.given ps·5 r·5 (claims· .11) T45 args·1 (m34 (c .before .before) (c .before .grant-all-arg2 .given)) (c .grant-all)
 
       abbrev pub m37 : (before : After-grant-all-arg2) → (given : s42 .gives (m34 (before .before) (before .grant-all-arg2 .given))) → Typed.Mo T49
-      m37 = λ before given. s45 (m36 before given)
+      m37 = λ before given. s45 (s43 (m35 before given))
 
-      abbrev pub m38 : (before : After-grant-all) → (given : s48 .gives (m37 (before .before) (After-grant-all·gave before))) → Typed.Mo T52
+      abbrev pub m38 : (before : After-grant-all) → (given : s48 .gives (m37 (before .before) (After-grant-all·gave before))) → Typed.Mo T1
       m38 = λ before given. s48 .next (m37 (before .before) (After-grant-all·gave before)) given
 
       module _ (before· : After-grant-all) where
@@ -3851,7 +1896,7 @@ module _ (claims· : Claims) where
         pub before : After-grant-all
         pub drone-flags2 : After-drone-flags2·own before
 
-      abbrev pub m39 : (before : After-drone-flags2) → (given : s49 .gives (m38 (before .before) (before .drone-flags2 .given))) → Typed.Mo T53
+      abbrev pub m39 : (before : After-drone-flags2) → (given : s49 .gives (m38 (before .before) (before .drone-flags2 .given))) → Typed.Mo T1
       m39 = λ before given. s49 .next (m38 (before .before) (before .drone-flags2 .given)) given
 
       module _ (before· : After-drone-flags2) where
@@ -3863,28 +1908,24 @@ module _ (claims· : Claims) where
         pub slice-known5 : After-slice-known5·own before
 
       abbrev pub Need-same-length-3 : Type 0
-      Need-same-length-3 = (c : After-slice-known5) → MutSlice.SameLen (Row.get 7 (T53 .locals) (m39 (c .before) (c .slice-known5 .given))) (dens (c .before .before .before .before .before .before .before .before .before .before .before .before .before .before .before .before .before .before .before .before .before .before .before .before .before .κs)
-          (c .before .before .before .before .before .before .before .before .before .before .before .before .before .before .before .before .before .before .before .before .before .before .before .before .before .args) .1 .1 .1 .1 .1 .1 .0)
+      Need-same-length-3 = (c : After-slice-known5) → MutSlice.SameLen (Row.get 7 (T1 .locals) (m39 (c .before) (c .slice-known5 .given))) (dens (c .before .before .before .before .before .before .before .before .before .before .before .before .before .before .before .before .before .before .before .before .before .before .before .before .before .κs) (c
+          .before .before .before .before .before .before .before .before .before .before .before .before .before .before .before .before .before .before .before .before .before .before .before .before .before .args) .1 .1 .1 .1 .1 .1 .0)
 
       abbrev pub Need-same-length-4 : Type 0
-      Need-same-length-4 = (c : After-slice-known5) → MutSlice.SameLen (Row.get 8 (T53 .locals) (m39 (c .before) (c .slice-known5 .given))) (dens (c .before .before .before .before .before .before .before .before .before .before .before .before .before .before .before .before .before .before .before .before .before .before .before .before .before .κs)
-          (c .before .before .before .before .before .before .before .before .before .before .before .before .before .before .before .before .before .before .before .before .before .before .before .before .before .args) .1 .1 .1 .1 .1 .1 .1 .0)
+      Need-same-length-4 = (c : After-slice-known5) → MutSlice.SameLen (Row.get 8 (T1 .locals) (m39 (c .before) (c .slice-known5 .given))) (dens (c .before .before .before .before .before .before .before .before .before .before .before .before .before .before .before .before .before .before .before .before .before .before .before .before .before .κs) (c
+          .before .before .before .before .before .before .before .before .before .before .before .before .before .before .before .before .before .before .before .before .before .before .before .before .before .args) .1 .1 .1 .1 .1 .1 .1 .0)
 
       abbrev pub Need-returns-2 : Type 0
-      Need-returns-2 = (c : After-slice-known5) → Post· (c .before .before .before .before .before .before .before .before .before .before .before .before .before .before .before .before .before .before .before .before .before .before .before .before .before .κs) (dens (c .before .before .before .before .before .before .before .before .before .before
-          .before .before .before .before .before .before .before .before .before .before .before .before .before .before .before .κs) (c .before .before .before .before .before .before .before .before .before .before .before .before .before .before .before .before .before .before .before .before .before
-          .before .before .before .before .args)) (Function.resV r (c .before .before .before .before .before .before .before .before .before .before .before .before .before .before .before .before .before .before .before .before .before .before .before .before .before .κs) (m39 (c .before) (c .slice-known5 .given) .0)) (Clauses.atExit (Kinds.endedOf 9 ps r)
-          (c .before .before .before .before .before .before .before .before .before .before .before .before .before .before .before .before .before .before .before .before .before .before .before .before .before .κs) (dens (c .before .before .before .before .before .before .before .before .before .before
-          .before .before .before .before .before .before .before .before .before .before .before .before .before .before .before .κs) (c .before .before .before .before .before .before .before .before .before .before .before .before .before .before .before .before .before .before .before .before .before .before .before .before .before .args)) (Enter.lastsP
-          (c .before .before .before .before .before .before .before .before .before .before .before .before .before .before .before .before .before .before .before .before .before .before .before .before .before .κs) 1 ps xs (dens (c .before .before .before .before .before .before .before .before .before .before
-          .before .before .before .before .before .before .before .before .before .before .before .before .before .before .before .κs) (c .before .before .before .before .before .before .before .before .before .before .before .before .before .before .before .before .before .before .before .before .before
-          .before .before .before .before .args)) (m39 (c .before) (c .slice-known5 .given) .1)))
+      Need-returns-2 = (c : After-slice-known5) → Post· (c .before .before .before .before .before .before .before .before .before .before .before .before .before .before .before .before .before .before .before .before .before .before .before .before .before .κs) (dens (c .before .before .before .before .before .before .before .before .before .before .before
+          .before .before .before .before .before .before .before .before .before .before .before .before .before .before .κs) (c .before .before .before .before .before .before .before .before .before .before .before .before .before .before .before .before .before .before .before .before .before .before .before .before .before .args)) (Function.resV r (c
+          .before .before .before .before .before .before .before .before .before .before .before .before .before .before .before .before .before .before .before .before .before .before .before .before .before .κs) (m39 (c .before) (c .slice-known5 .given) .0)) (Clauses.atExit (Kinds.endedOf 9 ps r) (c .before .before .before .before .before .before .before
+          .before .before .before .before .before .before .before .before .before .before .before .before .before .before .before .before .before .before .κs) (dens (c .before .before .before .before .before .before .before .before .before .before .before .before .before .before .before .before .before .before .before .before .before .before .before .before
+          .before .κs) (c .before .before .before .before .before .before .before .before .before .before .before .before .before .before .before .before .before .before .before .before .before .before .before .before .before .args)) (Enter.lastsP (c .before .before .before .before .before .before .before .before .before .before .before .before .before .before
+          .before .before .before .before .before .before .before .before .before .before .before .κs) 1 ps xs (dens (c .before .before .before .before .before .before .before .before .before .before .before .before .before .before .before .before .before .before .before .before .before .before .before .before .before .κs) (c .before .before .before .before
+          .before .before .before .before .before .before .before .before .before .before .before .before .before .before .before .before .before .before .before .before .before .args)) (m39 (c .before) (c .slice-known5 .given) .1)))
 
-      abbrev pub m40 : (before : After-is-reported) → Typed.Mo T55
-      m40 = λ before. s51 (m9 (before .before) (After-is-reported·gave before))
-
-      abbrev pub m41 : (before : After-is-reported) → Typed.Mo T56
-      m41 = λ before. s52 (m40 before)
+      abbrev pub m41 : (before : After-is-reported) → Typed.Mo T11
+      m41 = λ before. s52 (s51 (m9 (before .before) (After-is-reported·gave before)))
 
       module _ (before· : After-is-reported) where
         pub record Else1·own : Type 0 where
@@ -3894,11 +1935,8 @@ module _ (claims· : Claims) where
         pub before : After-is-reported
         pub if1 : Else1·own before
 
-      abbrev pub m42 : (before : Else1) → (given : s54 .gives (m41 (before .before))) → Typed.Mo T58
-      m42 = λ before given. s54 .next (m41 (before .before)) given
-
       abbrev pub m43 : (before : Else1) → (given : s54 .gives (m41 (before .before))) → Typed.Mo T59
-      m43 = λ before given. s55 .next (m42 before given)
+      m43 = λ before given. s55 .next (s54 .next (m41 (before .before)) given)
 
       module _ (before· : Else1) where
         pub record After-grant-all-arg3·own : Type 0 where
@@ -3908,11 +1946,8 @@ module _ (claims· : Claims) where
         pub before : Else1
         pub grant-all-arg3 : After-grant-all-arg3·own before
 
-      abbrev pub m44 : (before : After-grant-all-arg3) → (given : s57 .gives (m43 (before .before) (before .grant-all-arg3 .given))) → Typed.Mo T61
-      m44 = λ before given. s57 .next (m43 (before .before) (before .grant-all-arg3 .given)) given
-
       abbrev pub m45 : (before : After-grant-all-arg3) → (given : s57 .gives (m43 (before .before) (before .grant-all-arg3 .given))) → Typed.Mo T62
-      m45 = λ before given. s58 .next (m44 before given)
+      m45 = λ before given. s58 .next (s57 .next (m43 (before .before) (before .grant-all-arg3 .given)) given)
 
       module _ (before· : After-grant-all-arg3) where
         pub record After-grant-all-arg4·own : Type 0 where
@@ -3930,102 +1965,19 @@ module _ (claims· : Claims) where
 
       module _ (before· : After-grant-all-arg4) where
         abbrev pub After-grant-all2·own : Type 0
-        After-grant-all2·own = Called.Called ps·5 r·5 (claims· .11) T62 (
-          record { pos = 1; ty = Syntax.tyRef (Syntax.named 0) Syntax.imm (Syntax.tyInt Syntax.w16); ref = λ x. x },
-          (
-            record { pos = 2; ty = Syntax.tyRef (Syntax.named 1) Syntax.imm (Syntax.tyInt Syntax.w16); ref = λ x. x },
-            (
-              record {
-                pos = 3;
-                ty = Syntax.tyRef (Syntax.named 2) Syntax.imm (Syntax.tyInt Syntax.w8);
-                ref = λ x. x;
-              },
-              (
-                record { pos = 4; ty = Syntax.tyRef (Syntax.named 3) Syntax.imm (Syntax.tyInt Syntax.w16); ref = λ x. x },
-                (
-                  record { pos = 5; ty = Syntax.tyRef (Syntax.named 4) Syntax.imm (Syntax.tyInt Syntax.w16); ref = λ x. x },
-                  (
-                    record {
-                      pos = 6;
-                      ty = Syntax.tyRef (Syntax.named 5) Syntax.imm (Syntax.tyInt Syntax.w32);
-                      ref = λ x. x;
-                    },
-                    (
-                      record { pos = 25; ty = Syntax.tyRef Syntax.erased Syntax.imm (Syntax.tyInt Syntax.w16); ref = λ x. x },
-                      (
-                        record { pos = 27; ty = Syntax.tyRef Syntax.erased Syntax.mut (Syntax.tyInt Syntax.w8); ref = λ x. x },
-                        (
-                          record {
-                            pos = 9;
-                            ty = Syntax.tyRef
-                                (Syntax.named 8) Syntax.imm Rec.behind;
-                            ref = λ x. x;
-                          },
-                          tt,
-                        ),
-                      ),
-                    ),
-                  ),
-                ),
-              ),
-            ),
-          ),
-        ) (m45 (before· .before) (before· .grant-all-arg4 .given))
+        After-grant-all2·own = Called.Called ps·5 r·5 (claims· .11) T62 args·2 (m45 (before· .before) (before· .grant-all-arg4 .given))
 
       pub record After-grant-all2 : Type 0 where
         pub before : After-grant-all-arg4
         pub grant-all2 : After-grant-all2·own before
 
       abbrev pub After-grant-all2·gave : (c : After-grant-all2) → s59 .gives (m45 (c .before .before) (c .before .grant-all-arg4 .given))
-      After-grant-all2·gave = λ c. Called.given ps·5 r·5 (claims· .11) T62 (
-        record { pos = 1; ty = Syntax.tyRef (Syntax.named 0) Syntax.imm (Syntax.tyInt Syntax.w16); ref = λ x. x },
-        (
-          record { pos = 2; ty = Syntax.tyRef (Syntax.named 1) Syntax.imm (Syntax.tyInt Syntax.w16); ref = λ x. x },
-          (
-            record {
-              pos = 3;
-              ty = Syntax.tyRef (Syntax.named 2) Syntax.imm (Syntax.tyInt Syntax.w8);
-              ref = λ x. x;
-            },
-            (
-              record { pos = 4; ty = Syntax.tyRef (Syntax.named 3) Syntax.imm (Syntax.tyInt Syntax.w16); ref = λ x. x },
-              (
-                record { pos = 5; ty = Syntax.tyRef (Syntax.named 4) Syntax.imm (Syntax.tyInt Syntax.w16); ref = λ x. x },
-                (
-                  record {
-                    pos = 6;
-                    ty = Syntax.tyRef (Syntax.named 5) Syntax.imm (Syntax.tyInt Syntax.w32);
-                    ref = λ x. x;
-                  },
-                  (
-                    record { pos = 25; ty = Syntax.tyRef Syntax.erased Syntax.imm (Syntax.tyInt Syntax.w16); ref = λ x. x },
-                    (
-                      record { pos = 27; ty = Syntax.tyRef Syntax.erased Syntax.mut (Syntax.tyInt Syntax.w8); ref = λ x. x },
-                      (
-                        record {
-                          pos = 9;
-                          ty = Syntax.tyRef
-                              (Syntax.named 8) Syntax.imm Rec.behind;
-                          ref = λ x. x;
-                        },
-                        tt,
-                      ),
-                    ),
-                  ),
-                ),
-              ),
-            ),
-          ),
-        ),
-      ) (m45 (c .before .before) (c .before .grant-all-arg4 .given)) (c .grant-all2)
-
-      abbrev pub m47 : (before : After-grant-all-arg4) → (given : s59 .gives (m45 (before .before) (before .grant-all-arg4 .given))) → Typed.Mo T64
-      m47 = λ before given. s60 (m46 before given)
+      After-grant-all2·gave = λ c. Called.given ps·5 r·5 (claims· .11) T62 args·2 (m45 (c .before .before) (c .before .grant-all-arg4 .given)) (c .grant-all2)
 
       abbrev pub m48 : (before : After-grant-all-arg4) → (given : s59 .gives (m45 (before .before) (before .grant-all-arg4 .given))) → Typed.Mo T66
-      m48 = λ before given. s62 (m47 before given)
+      m48 = λ before given. s62 (s60 (m46 before given))
 
-      abbrev pub m49 : (before : After-grant-all2) → (given : s65 .gives (m48 (before .before) (After-grant-all2·gave before))) → Typed.Mo T69
+      abbrev pub m49 : (before : After-grant-all2) → (given : s65 .gives (m48 (before .before) (After-grant-all2·gave before))) → Typed.Mo T1
       m49 = λ before given. s65 .next (m48 (before .before) (After-grant-all2·gave before)) given
 
       module _ (before· : After-grant-all2) where
@@ -4036,7 +1988,7 @@ module _ (claims· : Claims) where
         pub before : After-grant-all2
         pub drone-flags3 : After-drone-flags3·own before
 
-      abbrev pub m50 : (before : After-drone-flags3) → (given : s66 .gives (m49 (before .before) (before .drone-flags3 .given))) → Typed.Mo T70
+      abbrev pub m50 : (before : After-drone-flags3) → (given : s66 .gives (m49 (before .before) (before .drone-flags3 .given))) → Typed.Mo T1
       m50 = λ before given. s66 .next (m49 (before .before) (before .drone-flags3 .given)) given
 
       module _ (before· : After-drone-flags3) where
@@ -4048,435 +2000,68 @@ module _ (claims· : Claims) where
         pub slice-known6 : After-slice-known6·own before
 
       abbrev pub Need-same-length-5 : Type 0
-      Need-same-length-5 = (c : After-slice-known6) → MutSlice.SameLen (Row.get 7 (T70 .locals) (m50 (c .before) (c .slice-known6 .given))) (dens (c .before .before .before .before .before .before .before .before .before .before .before .before .before .before .before .κs) (c .before .before .before .before .before .before .before .before .before .before
+      Need-same-length-5 = (c : After-slice-known6) → MutSlice.SameLen (Row.get 7 (T1 .locals) (m50 (c .before) (c .slice-known6 .given))) (dens (c .before .before .before .before .before .before .before .before .before .before .before .before .before .before .before .κs) (c .before .before .before .before .before .before .before .before .before .before
           .before .before .before .before .before .args) .1 .1 .1 .1 .1 .1 .0)
 
       abbrev pub Need-same-length-6 : Type 0
-      Need-same-length-6 = (c : After-slice-known6) → MutSlice.SameLen (Row.get 8 (T70 .locals) (m50 (c .before) (c .slice-known6 .given))) (dens (c .before .before .before .before .before .before .before .before .before .before .before .before .before .before .before .κs) (c .before .before .before .before .before .before .before .before .before .before
+      Need-same-length-6 = (c : After-slice-known6) → MutSlice.SameLen (Row.get 8 (T1 .locals) (m50 (c .before) (c .slice-known6 .given))) (dens (c .before .before .before .before .before .before .before .before .before .before .before .before .before .before .before .κs) (c .before .before .before .before .before .before .before .before .before .before
           .before .before .before .before .before .args) .1 .1 .1 .1 .1 .1 .1 .0)
 
       abbrev pub Need-returns-3 : Type 0
-      Need-returns-3 = (c : After-slice-known6) → Post· (c .before .before .before .before .before .before .before .before .before .before .before .before .before .before .before .κs) (dens (c .before .before .before .before .before .before .before .before .before .before .before .before .before .before .before .κs)
-          (c .before .before .before .before .before .before .before .before .before .before .before .before .before .before .before .args)) (Function.resV r (c .before .before .before .before .before .before .before .before .before .before .before .before .before .before .before .κs) (m50 (c .before)
-          (c .slice-known6 .given) .0)) (Clauses.atExit (Kinds.endedOf 9 ps r) (c .before .before .before .before .before .before .before .before .before .before .before .before .before .before .before .κs) (dens (c .before .before .before .before .before .before .before .before .before .before .before .before .before .before .before .κs)
-          (c .before .before .before .before .before .before .before .before .before .before .before .before .before .before .before .args)) (Enter.lastsP (c .before .before .before .before .before .before .before .before .before .before .before .before .before .before .before .κs) 1 ps xs (dens
-          (c .before .before .before .before .before .before .before .before .before .before .before .before .before .before .before .κs) (c .before .before .before .before .before .before .before .before .before .before .before .before .before .before .before .args)) (m50 (c .before) (c .slice-known6 .given) .1)))
+      Need-returns-3 = (c : After-slice-known6) → Post· (c .before .before .before .before .before .before .before .before .before .before .before .before .before .before .before .κs) (dens (c .before .before .before .before .before .before .before .before .before .before .before .before .before .before .before .κs) (c .before .before .before .before .before
+          .before .before .before .before .before .before .before .before .before .before .args)) (Function.resV r (c .before .before .before .before .before .before .before .before .before .before .before .before .before .before .before .κs) (m50 (c .before) (c .slice-known6 .given) .0)) (Clauses.atExit (Kinds.endedOf 9 ps r) (c .before .before .before .before
+          .before .before .before .before .before .before .before .before .before .before .before .κs) (dens (c .before .before .before .before .before .before .before .before .before .before .before .before .before .before .before .κs) (c .before .before .before .before .before .before .before .before .before .before .before .before .before .before .before
+          .args)) (Enter.lastsP (c .before .before .before .before .before .before .before .before .before .before .before .before .before .before .before .κs) 1 ps xs (dens (c .before .before .before .before .before .before .before .before .before .before .before .before .before .before .before .κs) (c .before .before .before .before .before .before .before
+          .before .before .before .before .before .before .before .before .args)) (m50 (c .before) (c .slice-known6 .given) .1)))
 
       module _ (is-reported-requires : Need-is-reported-requires) (drone-of-requires : Need-drone-of-requires) (arrive-requires : Need-arrive-requires) (is-arrived-requires : Need-is-arrived-requires) (refusal-of-requires : Need-refusal-of-requires) (same-length : Need-same-length) (same-length-2 : Need-same-length-2) (returns : Need-returns)
           (grant-all-requires : Need-grant-all-requires) (same-length-3 : Need-same-length-3) (same-length-4 : Need-same-length-4) (returns-2 : Need-returns-2) (grant-all-requires-2 : Need-grant-all-requires-2) (same-length-5 : Need-same-length-5) (same-length-6 : Need-same-length-6) (returns-3 : Need-returns-3) where
         lay9 : (c : After-grant-all2) → at59 (W0 (c .before .before .before .before .before .before .before .before .before .before .before .before .before .κs) (c .before .before .before .before .before .before .before .before .before .before .before .before .before .args)) (m46 (c .before) (After-grant-all2·gave c))
-        lay9 = λ c. (
-          Path'.refl,
-          λ g. λ g'. (
-            (
-              Path'.refl,
-              (
-                Path'.refl,
-                (
-                  Path'.refl,
-                  (
-                    Path'.refl,
-                    (
-                      Path'.refl,
-                      (
-                        Path'.refl,
-                        (
-                          MutSlice.fix-len (Row.get 7 (T70 .locals) (m50 record { before = record { before = c .before; grant-all2 = c .grant-all2 }; drone-flags3 = record { given = g } } g') .ptr) (Row.get 7 (T70 .locals) (m50 record {
-                            before = record { before = c .before; grant-all2 = c .grant-all2 };
-                            drone-flags3 = record { given = g };
-                          } g') .name) (Row.get 7 (T70 .locals) (m50 record { before = record { before = c .before; grant-all2 = c .grant-all2 }; drone-flags3 = record { given = g } } g') .now) (dens (c .before .before .before .before .before .before .before .before
-                              .before .before .before .before .before .κs) (c .before .before .before .before .before .before .before .before .before .before .before .before .before .args) .1 .1 .1 .1 .1 .1 .0 .now) (same-length-5 record {
-                                before = record { before = record { before = c .before; grant-all2 = c .grant-all2 }; drone-flags3 = record { given = g } };
-                                slice-known6 = record { given = g' };
-                              }),
-                          (
-                            MutSlice.fix-len (Row.get 8 (T70 .locals) (m50 record { before = record { before = c .before; grant-all2 = c .grant-all2 }; drone-flags3 = record { given = g } } g') .ptr) (Row.get 8 (T70 .locals) (m50 record {
-                              before = record { before = c .before; grant-all2 = c .grant-all2 };
-                              drone-flags3 = record { given = g };
-                            } g') .name) (Row.get 8 (T70 .locals) (m50 record { before = record { before = c .before; grant-all2 = c .grant-all2 }; drone-flags3 = record { given = g } } g') .now) (dens (c .before .before .before .before .before .before .before .before .before .before .before .before .before .κs)
-                                (c .before .before .before .before .before .before .before .before .before .before .before .before .before .args) .1 .1 .1 .1 .1 .1 .1 .0 .now) (same-length-6 record { before = record { before = record { before = c .before; grant-all2 = c .grant-all2 }; drone-flags3 = record { given = g } }; slice-known6 = record { given = g' } }),
-                            (Path'.refl, (tt, tt)),
-                          ),
-                        ),
-                      ),
-                    ),
-                  ),
-                ),
-              ),
-            ),
-            returns-3 record { before = record { before = record { before = c .before; grant-all2 = c .grant-all2 }; drone-flags3 = record { given = g } }; slice-known6 = record { given = g' } },
-          ),
-        )
+        lay9 = λ c.
+            (Path'.refl, λ g. λ g'. ((Path'.refl, (Path'.refl, (Path'.refl, (Path'.refl, (Path'.refl, (Path'.refl, (MutSlice.fix-len (Row.get 7 (T1 .locals) (m50 record { before = record { before = c .before; grant-all2 = c .grant-all2 }; drone-flags3 = record { given = g } } g') .ptr) (Row.get 7 (T1 .locals) (m50 record { before = record { before = c .before; grant-all2 = c .grant-all2 }; drone-flags3 = record { given = g } } g') .name) (Row.get 7 (T1 .locals) (m50 record { before = record { before = c .before; grant-all2 = c .grant-all2 }; drone-flags3 = record { given = g } } g') .now) (dens (c .before .before .before .before .before .before .before .before .before .before .before .before .before .κs) (c .before .before .before .before .before .before .before .before .before .before .before .before .before .args) .1 .1 .1 .1 .1 .1 .0 .now) (same-length-5 record { before = record { before = record { before = c .before; grant-all2 = c .grant-all2 }; drone-flags3 = record { given = g } }; slice-known6 = record { given = g' } }), (MutSlice.fix-len (Row.get 8 (T1 .locals) (m50 record { before = record { before = c .before; grant-all2 = c .grant-all2 }; drone-flags3 = record { given = g } } g') .ptr) (Row.get 8 (T1 .locals) (m50 record { before = record { before = c .before; grant-all2 = c .grant-all2 }; drone-flags3 = record { given = g } } g') .name) (Row.get 8 (T1 .locals) (m50 record { before = record { before = c .before; grant-all2 = c .grant-all2 }; drone-flags3 = record { given = g } } g') .now) (dens (c .before .before .before .before .before .before .before .before .before .before .before .before .before .κs) (c .before .before .before .before .before .before .before .before .before .before .before .before .before .args) .1 .1 .1 .1 .1 .1 .1 .0 .now) (same-length-6 record { before = record { before = record { before = c .before; grant-all2 = c .grant-all2 }; drone-flags3 = record { given = g } }; slice-known6 = record { given = g' } }), (Path'.refl, (tt, tt)))))))))), returns-3 record { before = record { before = record { before = c .before; grant-all2 = c .grant-all2 }; drone-flags3 = record { given = g } }; slice-known6 = record { given = g' } }))
 
-        lay8 : (c : Else1) → at66 (W0 (c .before .before .before .before .before .before .before .before .before .before .κs) (c .before .before .before .before .before .before .before .before .before .before .args)) (m41 (c .before))
-        lay8 = λ c. λ g. (
-          Path'.refl,
-          λ g'. (
-            Path'.refl,
-            (
-              grant-all-requires-2 record { before = record { before = record { before = c .before; if1 = c .if1 }; grant-all-arg3 = record { given = g } }; grant-all-arg4 = record { given = g' } },
-              λ g''. lay9 record {
-                before = record {
-                  before = record {
-                    before = record { before = c .before; if1 = c .if1 };
-                    grant-all-arg3 = record { given = g };
-                  };
-                  grant-all-arg4 = record { given = g' };
-                };
-                grant-all2 = Called.called ps·5 r·5 (claims· .11) T62 (
-                  record { pos = 1; ty = Syntax.tyRef (Syntax.named 0) Syntax.imm (Syntax.tyInt Syntax.w16); ref = λ x. x },
-                  (
-                    record {
-                      pos = 2;
-                      ty = Syntax.tyRef (Syntax.named 1) Syntax.imm (Syntax.tyInt Syntax.w16);
-                      ref = λ x. x;
-                    },
-                    (
-                      record { pos = 3; ty = Syntax.tyRef (Syntax.named 2) Syntax.imm (Syntax.tyInt Syntax.w8); ref = λ x. x },
-                      (
-                        record { pos = 4; ty = Syntax.tyRef (Syntax.named 3) Syntax.imm (Syntax.tyInt Syntax.w16); ref = λ x. x },
-                        (
-                          record { pos = 5; ty = Syntax.tyRef (Syntax.named 4) Syntax.imm (Syntax.tyInt Syntax.w16); ref = λ x. x },
-                          (
-                            record { pos = 6; ty = Syntax.tyRef (Syntax.named 5) Syntax.imm (Syntax.tyInt Syntax.w32); ref = λ x. x },
-                            (
-                              record { pos = 25; ty = Syntax.tyRef Syntax.erased Syntax.imm (Syntax.tyInt Syntax.w16); ref = λ x. x },
-                              (
-                                record { pos = 27; ty = Syntax.tyRef Syntax.erased Syntax.mut (Syntax.tyInt Syntax.w8); ref = λ x. x },
-                                (
-                                  record {
-                                    pos = 9;
-                                    ty = Syntax.tyRef (Syntax.named 8) Syntax.imm Rec.behind;
-                                    ref = λ x. x;
-                                  },
-                                  tt,
-                                ),
-                              ),
-                            ),
-                          ),
-                        ),
-                      ),
-                    ),
-                  ),
-                ) (m45 record { before = record { before = c .before; if1 = c .if1 }; grant-all-arg3 = record { given = g } } g') g'';
-              },
-            ),
-          ),
-        )
+        lay8 : (c : Else1) → at65 (W0 (c .before .before .before .before .before .before .before .before .before .before .κs) (c .before .before .before .before .before .before .before .before .before .before .args)) (m41 (c .before))
+        lay8 = λ c. λ g.
+            (Path'.refl, λ g'. (Path'.refl, (grant-all-requires-2 record { before = record { before = record { before = c .before; if1 = c .if1 }; grant-all-arg3 = record { given = g } }; grant-all-arg4 = record { given = g' } }, λ g''. lay9 record { before = record { before = record { before = record { before = c .before; if1 = c .if1 }; grant-all-arg3 = record { given = g } }; grant-all-arg4 = record { given = g' } }; grant-all2 = Called.called ps·5 r·5 (claims· .11) T62 args·2 (m45 record { before = record { before = c .before; if1 = c .if1 }; grant-all-arg3 = record { given = g } } g') g'' })))
 
         lay7 : (c : After-grant-all) → at17 (W1 (c .before .before .before .before .before .before .before .before .before .before .before .before .before .before .before) (After-is-reported·gave (c .before .before .before .before .before .before .before .before .before .before .before .before .before .before))) (m35 (c .before) (After-grant-all·gave c))
-        lay7 = λ c. (
-          Path'.refl,
-          λ g. λ g'. (
-            (
-              Path'.refl,
-              (
-                Path'.refl,
-                (
-                  Path'.refl,
-                  (
-                    Path'.refl,
-                    (
-                      Path'.refl,
-                      (
-                        Path'.refl,
-                        (
-                          MutSlice.fix-len (Row.get 7 (T53 .locals) (m39 record { before = record { before = c .before; grant-all = c .grant-all }; drone-flags2 = record { given = g } } g') .ptr) (Row.get 7 (T53 .locals) (m39 record {
-                            before = record { before = c .before; grant-all = c .grant-all };
-                            drone-flags2 = record { given = g };
-                          } g') .name) (Row.get 7 (T53 .locals) (m39 record { before = record { before = c .before; grant-all = c .grant-all }; drone-flags2 = record { given = g } } g') .now) (dens (c .before .before .before .before .before .before .before .before
-                              .before .before .before .before .before .before .before .before .before .before .before .before .before .before .before .κs) (c .before .before .before .before .before .before .before .before .before .before .before .before .before .before .before .before .before .before .before .before .before .before .before .args) .1 .1 .1 .1 .1 .1 .0 .now)
-                              (same-length-3 record { before = record { before = record { before = c .before; grant-all = c .grant-all }; drone-flags2 = record { given = g } }; slice-known5 = record { given = g' } }),
-                          (
-                            MutSlice.fix-len (Row.get 8 (T53 .locals) (m39 record {
-                              before = record { before = c .before; grant-all = c .grant-all };
-                              drone-flags2 = record { given = g };
-                            } g') .ptr) (Row.get 8 (T53 .locals) (m39 record { before = record { before = c .before; grant-all = c .grant-all }; drone-flags2 = record { given = g } } g') .name) (Row.get 8 (T53 .locals) (m39 record {
-                              before = record { before = c .before; grant-all = c .grant-all };
-                              drone-flags2 = record { given = g };
-                            } g') .now) (dens (c .before .before .before .before .before .before .before .before .before .before .before .before .before .before .before .before .before .before .before .before .before .before .before .κs) (c .before .before .before .before .before .before .before .before .before .before .before .before .before .before .before .before
-                                .before .before .before .before .before .before .before .args) .1 .1 .1 .1 .1 .1 .1 .0 .now) (same-length-4 record { before = record { before = record { before = c .before; grant-all = c .grant-all }; drone-flags2 = record { given = g } }; slice-known5 = record { given = g' } }),
-                            (Path'.refl, (tt, tt)),
-                          ),
-                        ),
-                      ),
-                    ),
-                  ),
-                ),
-              ),
-            ),
-            returns-2 record { before = record { before = record { before = c .before; grant-all = c .grant-all }; drone-flags2 = record { given = g } }; slice-known5 = record { given = g' } },
-          ),
-        )
+        lay7 = λ c.
+            (Path'.refl, λ g. λ g'. ((Path'.refl, (Path'.refl, (Path'.refl, (Path'.refl, (Path'.refl, (Path'.refl, (MutSlice.fix-len (Row.get 7 (T1 .locals) (m39 record { before = record { before = c .before; grant-all = c .grant-all }; drone-flags2 = record { given = g } } g') .ptr) (Row.get 7 (T1 .locals) (m39 record { before = record { before = c .before; grant-all = c .grant-all }; drone-flags2 = record { given = g } } g') .name) (Row.get 7 (T1 .locals) (m39 record { before = record { before = c .before; grant-all = c .grant-all }; drone-flags2 = record { given = g } } g') .now) (dens (c .before .before .before .before .before .before .before .before .before .before .before .before .before .before .before .before .before .before .before .before .before .before .before .κs) (c .before .before .before .before .before .before .before .before .before .before .before .before .before .before .before .before .before .before .before .before .before .before .before .args) .1 .1 .1 .1 .1 .1 .0 .now) (same-length-3 record { before = record { before = record { before = c .before; grant-all = c .grant-all }; drone-flags2 = record { given = g } }; slice-known5 = record { given = g' } }), (MutSlice.fix-len (Row.get 8 (T1 .locals) (m39 record { before = record { before = c .before; grant-all = c .grant-all }; drone-flags2 = record { given = g } } g') .ptr) (Row.get 8 (T1 .locals) (m39 record { before = record { before = c .before; grant-all = c .grant-all }; drone-flags2 = record { given = g } } g') .name) (Row.get 8 (T1 .locals) (m39 record { before = record { before = c .before; grant-all = c .grant-all }; drone-flags2 = record { given = g } } g') .now) (dens (c .before .before .before .before .before .before .before .before .before .before .before .before .before .before .before .before .before .before .before .before .before .before .before .κs) (c .before .before .before .before .before .before .before .before .before .before .before .before .before .before .before .before .before .before .before .before .before .before .before .args) .1 .1 .1 .1 .1 .1 .1 .0 .now) (same-length-4 record { before = record { before = record { before = c .before; grant-all = c .grant-all }; drone-flags2 = record { given = g } }; slice-known5 = record { given = g' } }), (Path'.refl, (tt, tt)))))))))), returns-2 record { before = record { before = record { before = c .before; grant-all = c .grant-all }; drone-flags2 = record { given = g } }; slice-known5 = record { given = g' } }))
 
-        lay6 : (c : Else2) → at24 (W1 (c .before .before .before .before .before .before .before .before .before .before .before .before) (After-is-reported·gave (c .before .before .before .before .before .before .before .before .before .before .before))) (m30 (c .before))
-        lay6 = λ c. λ g. (
-          Path'.refl,
-          λ g'. (
-            Path'.refl,
-            (
-              grant-all-requires record { before = record { before = record { before = c .before; if2 = c .if2 }; grant-all-arg = record { given = g } }; grant-all-arg2 = record { given = g' } },
-              λ g''. lay7 record {
-                before = record {
-                  before = record {
-                    before = record { before = c .before; if2 = c .if2 };
-                    grant-all-arg = record { given = g };
-                  };
-                  grant-all-arg2 = record { given = g' };
-                };
-                grant-all = Called.called ps·5 r·5 (claims· .11) T45 (
-                  record { pos = 1; ty = Syntax.tyRef (Syntax.named 0) Syntax.imm (Syntax.tyInt Syntax.w16); ref = λ x. x },
-                  (
-                    record {
-                      pos = 2;
-                      ty = Syntax.tyRef (Syntax.named 1) Syntax.imm (Syntax.tyInt Syntax.w16);
-                      ref = λ x. x;
-                    },
-                    (
-                      record { pos = 3; ty = Syntax.tyRef (Syntax.named 2) Syntax.imm (Syntax.tyInt Syntax.w8); ref = λ x. x },
-                      (
-                        record { pos = 4; ty = Syntax.tyRef (Syntax.named 3) Syntax.imm (Syntax.tyInt Syntax.w16); ref = λ x. x },
-                        (
-                          record { pos = 5; ty = Syntax.tyRef (Syntax.named 4) Syntax.imm (Syntax.tyInt Syntax.w16); ref = λ x. x },
-                          (
-                            record { pos = 6; ty = Syntax.tyRef (Syntax.named 5) Syntax.imm (Syntax.tyInt Syntax.w32); ref = λ x. x },
-                            (
-                              record { pos = 21; ty = Syntax.tyRef Syntax.erased Syntax.imm (Syntax.tyInt Syntax.w16); ref = λ x. x },
-                              (
-                                record { pos = 23; ty = Syntax.tyRef Syntax.erased Syntax.mut (Syntax.tyInt Syntax.w8); ref = λ x. x },
-                                (
-                                  record {
-                                    pos = 9;
-                                    ty = Syntax.tyRef (Syntax.named 8) Syntax.imm Rec.behind;
-                                    ref = λ x. x;
-                                  },
-                                  tt,
-                                ),
-                              ),
-                            ),
-                          ),
-                        ),
-                      ),
-                    ),
-                  ),
-                ) (m34 record { before = record { before = c .before; if2 = c .if2 }; grant-all-arg = record { given = g } } g') g'';
-              },
-            ),
-          ),
-        )
+        lay6 : (c : Else2) → at23 (W1 (c .before .before .before .before .before .before .before .before .before .before .before .before) (After-is-reported·gave (c .before .before .before .before .before .before .before .before .before .before .before))) (m30 (c .before))
+        lay6 = λ c. λ g.
+            (Path'.refl, λ g'. (Path'.refl, (grant-all-requires record { before = record { before = record { before = c .before; if2 = c .if2 }; grant-all-arg = record { given = g } }; grant-all-arg2 = record { given = g' } }, λ g''. lay7 record { before = record { before = record { before = record { before = c .before; if2 = c .if2 }; grant-all-arg = record { given = g } }; grant-all-arg2 = record { given = g' } }; grant-all = Called.called ps·5 r·5 (claims· .11) T45 args·1 (m34 record { before = record { before = c .before; if2 = c .if2 }; grant-all-arg = record { given = g } } g') g'' })))
 
         lay5 : (c : After-refusal-of) → at1 (W2 (c .before .before .before) (After-is-arrived·gave (c .before .before))) (m27 (c .before) (After-refusal-of·gave c))
-        lay5 = λ c. (
-          (
-            Path'.refl,
-            (
-              Path'.refl,
-              (
-                Path'.refl,
-                (
-                  Path'.refl,
-                  (
-                    Path'.refl,
-                    (
-                      Path'.refl,
-                      (
-                        MutSlice.fix-len (Row.get 7 (T37 .locals) (m28 (c .before) (After-refusal-of·gave c)) .ptr) (Row.get 7 (T37 .locals) (m28 (c .before) (After-refusal-of·gave c)) .name) (Row.get 7 (T37 .locals) (m28 (c .before) (After-refusal-of·gave c)) .now) (dens
-                            (c .before .before .before .before .before .before .before .before .before .before .before .before .before .before .before .before .before .before .before .before .before .κs) (c .before .before .before .before .before .before .before .before .before .before .before .before .before .before .before .before .before
-                            .before .before .before .before .args) .1 .1 .1 .1 .1 .1 .0 .now) (same-length record { before = c .before; refusal-of = c .refusal-of }),
-                        (
-                          MutSlice.fix-len (Row.get 8 (T37 .locals) (m28 (c .before) (After-refusal-of·gave c)) .ptr) (Row.get 8 (T37 .locals) (m28 (c .before) (After-refusal-of·gave c)) .name) (Row.get 8
-                              (T37 .locals) (m28 (c .before) (After-refusal-of·gave c)) .now) (dens (c .before .before .before .before .before .before .before .before .before .before .before .before .before .before .before .before .before .before .before .before .before .κs) (c .before .before .before .before .before .before .before .before
-                              .before .before .before .before .before .before .before .before .before .before .before .before .before .args) .1 .1 .1 .1 .1 .1 .1 .0 .now) (same-length-2 record { before = c .before; refusal-of = c .refusal-of }),
-                          (Path'.refl, (tt, tt)),
-                        ),
-                      ),
-                    ),
-                  ),
-                ),
-              ),
-            ),
-          ),
-          returns record { before = c .before; refusal-of = c .refusal-of },
-        )
+        lay5 = λ c.
+            ((Path'.refl, (Path'.refl, (Path'.refl, (Path'.refl, (Path'.refl, (Path'.refl, (MutSlice.fix-len (Row.get 7 (T1 .locals) (m28 (c .before) (After-refusal-of·gave c)) .ptr) (Row.get 7 (T1 .locals) (m28 (c .before) (After-refusal-of·gave c)) .name) (Row.get 7 (T1 .locals) (m28 (c .before) (After-refusal-of·gave c)) .now) (dens (c .before .before .before .before .before .before .before .before .before .before .before .before .before .before .before .before .before .before .before .before .before .κs) (c .before .before .before .before .before .before .before .before .before .before .before .before .before .before .before .before .before .before .before .before .before .args) .1 .1 .1 .1 .1 .1 .0 .now) (same-length record { before = c .before; refusal-of = c .refusal-of }), (MutSlice.fix-len (Row.get 8 (T1 .locals) (m28 (c .before) (After-refusal-of·gave c)) .ptr) (Row.get 8 (T1 .locals) (m28 (c .before) (After-refusal-of·gave c)) .name) (Row.get 8 (T1 .locals) (m28 (c .before) (After-refusal-of·gave c)) .now) (dens (c .before .before .before .before .before .before .before .before .before .before .before .before .before .before .before .before .before .before .before .before .before .κs) (c .before .before .before .before .before .before .before .before .before .before .before .before .before .before .before .before .before .before .before .before .before .args) .1 .1 .1 .1 .1 .1 .1 .0 .now) (same-length-2 record { before = c .before; refusal-of = c .refusal-of }), (Path'.refl, (tt, tt)))))))))), returns record { before = c .before; refusal-of = c .refusal-of })
 
         lay4 : (c : After-is-arrived) → at26 (W1 (c .before .before .before .before .before .before .before .before .before .before .before) (After-is-reported·gave (c .before .before .before .before .before .before .before .before .before .before))) (m23 (c .before) (After-is-arrived·gave c))
-        lay4 = λ c. (
-          tt,
-          (
-            λ taken. (
-              refusal-of-requires record { before = record { before = c .before; is-arrived = c .is-arrived }; if2 = record { taken = taken } },
-              λ g. lay5 record {
-                before = record { before = record { before = c .before; is-arrived = c .is-arrived }; if2 = record { taken = taken } };
-                refusal-of = Called.called ps·4 r·4 (claims· .9) T35 (record { pos = 11; st = List.[]; d = 0; at = λ x. x }, tt) (m26 record { before = c .before; is-arrived = c .is-arrived }) g;
-              },
-            ),
-            λ left. lay6 record { before = record { before = c .before; is-arrived = c .is-arrived }; if2 = record { left = left } },
-          ),
-        )
+        lay4 = λ c.
+            (tt, (λ taken. (refusal-of-requires record { before = record { before = c .before; is-arrived = c .is-arrived }; if2 = record { taken = taken } }, λ g. lay5 record { before = record { before = record { before = c .before; is-arrived = c .is-arrived }; if2 = record { taken = taken } }; refusal-of = Called.called ps·3 r·4 (claims· .9) T28 (record { pos = 11; st = List.[]; d = 0; at = λ x. x }, tt) (m26 record { before = c .before; is-arrived = c .is-arrived }) g }), λ left. lay6 record { before = record { before = c .before; is-arrived = c .is-arrived }; if2 = record { left = left } }))
 
         lay3 : (c : After-arrive) → at36 (W1 (c .before .before .before .before .before .before) (After-is-reported·gave (c .before .before .before .before .before))) (m17 (c .before) (After-arrive·gave c))
-        lay3 = λ c. (
-          Path'.refl,
-          λ g. λ g'. (
-            Path'.refl,
-            λ g''. λ g'3. (
-              is-arrived-requires record {
-                before = record { before = record { before = record { before = record { before = c .before; arrive = c .arrive }; visited = record { given = g } }; slice-known3 = record { given = g' } }; drone-flags = record { given = g'' } };
-                slice-known4 = record { given = g'3 };
-              },
-              λ g'4. lay4 record {
-                before = record {
-                  before = record { before = record { before = record { before = record { before = c .before; arrive = c .arrive }; visited = record { given = g } }; slice-known3 = record { given = g' } }; drone-flags = record { given = g'' } };
-                  slice-known4 = record { given = g'3 };
-                };
-                is-arrived = Called.called ps·3 r·3 (claims· .7) T29 (record { pos = 11; st = List.[]; d = 0; at = λ x. x }, tt) (m22 record {
-                  before = record { before = record { before = record { before = c .before; arrive = c .arrive }; visited = record { given = g } }; slice-known3 = record { given = g' } };
-                  drone-flags = record { given = g'' };
-                } g'3) g'4;
-              },
-            ),
-          ),
-        )
+        lay3 = λ c.
+            (Path'.refl, λ g. λ g'. (Path'.refl, λ g''. λ g'3. (is-arrived-requires record { before = record { before = record { before = record { before = record { before = c .before; arrive = c .arrive }; visited = record { given = g } }; slice-known3 = record { given = g' } }; drone-flags = record { given = g'' } }; slice-known4 = record { given = g'3 } }, λ g'4. lay4 record { before = record { before = record { before = record { before = record { before = record { before = c .before; arrive = c .arrive }; visited = record { given = g } }; slice-known3 = record { given = g' } }; drone-flags = record { given = g'' } }; slice-known4 = record { given = g'3 } }; is-arrived = Called.called ps·3 r·0 (claims· .7) T28 (record { pos = 11; st = List.[]; d = 0; at = λ x. x }, tt) (m22 record { before = record { before = record { before = record { before = c .before; arrive = c .arrive }; visited = record { given = g } }; slice-known3 = record { given = g' } }; drone-flags = record { given = g'' } } g'3) g'4 })))
 
         lay2 : (c : After-drone-of) → at38 (W1 (c .before .before .before .before .before) (After-is-reported·gave (c .before .before .before .before))) (m15 (c .before) (After-drone-of·gave c))
-        lay2 = λ c. (
-          arrive-requires record { before = c .before; drone-of = c .drone-of },
-          λ g. lay3 record {
-            before = record { before = c .before; drone-of = c .drone-of };
-            arrive = Called.called ps·2 r·2 (claims· .5) T20 (
-              record { pos = 1; ty = Syntax.tyRef (Syntax.named 0) Syntax.imm (Syntax.tyInt Syntax.w16); ref = λ x. x },
-              (
-                record {
-                  pos = 2;
-                  ty = Syntax.tyRef (Syntax.named 1) Syntax.imm (Syntax.tyInt Syntax.w16);
-                  ref = λ x. x;
-                },
-                (
-                  record { pos = 3; ty = Syntax.tyRef (Syntax.named 2) Syntax.imm (Syntax.tyInt Syntax.w8); ref = λ x. x },
-                  (
-                    record { pos = 4; ty = Syntax.tyRef (Syntax.named 3) Syntax.imm (Syntax.tyInt Syntax.w16); ref = λ x. x },
-                    (
-                      record {
-                        pos = 5;
-                        ty = Syntax.tyRef (Syntax.named 4) Syntax.imm (Syntax.tyInt Syntax.w16);
-                        ref = λ x. x;
-                      },
-                      (
-                        record { pos = 6; ty = Syntax.tyRef (Syntax.named 5) Syntax.imm (Syntax.tyInt Syntax.w32); ref = λ x. x },
-                        (
-                          record { pos = 14; ty = Syntax.tyRef Syntax.erased Syntax.mut (Syntax.tyInt Syntax.w16); ref = λ x. x },
-                          (
-                            record {
-                              pos = 16;
-                              ty = Syntax.tyRef Syntax.erased Syntax.mut (Syntax.tyInt Syntax.w8);
-                              ref = λ x. x;
-                            },
-                            (record { pos = 9; ty = Syntax.tyRef (Syntax.named 8) Syntax.imm Rec.behind; ref = λ x. x }, (Num.vAt 17 λ x. x, tt)),
-                          ),
-                        ),
-                      ),
-                    ),
-                  ),
-                ),
-              ),
-            ) (m16 (c .before) (After-drone-of·gave c)) g;
-          },
-        )
+        lay2 = λ c. (arrive-requires record { before = c .before; drone-of = c .drone-of }, λ g. lay3 record { before = record { before = c .before; drone-of = c .drone-of }; arrive = Called.called ps·2 r·2 (claims· .5) T20 args·0 (m16 (c .before) (After-drone-of·gave c)) g })
 
         lay1 : (c : After-is-reported) → at67 (W0 (c .before .before .before .before .before .before .before .before .before .κs) (c .before .before .before .before .before .before .before .before .before .args)) (m9 (c .before) (After-is-reported·gave c))
-        lay1 = λ c. (
-          λ taken. λ g. (
-            Path'.refl,
-            λ g'. (
-              Path'.refl,
-              (
-                drone-of-requires record { before = record { before = record { before = record { before = c .before; is-reported = c .is-reported }; if1 = record { taken = taken } }; arrive-arg = record { given = g } }; arrive-arg2 = record { given = g' } },
-                λ g''. lay2 record {
-                  before = record {
-                    before = record { before = record { before = record { before = c .before; is-reported = c .is-reported }; if1 = record { taken = taken } }; arrive-arg = record { given = g } };
-                    arrive-arg2 = record { given = g' };
-                  };
-                  drone-of = Called.called ps·1 r·1 (claims· .3) T18 (record { pos = 10; st = List.[]; d = 0; at = λ x. x }, tt) (m14 record {
-                    before = record { before = record { before = c .before; is-reported = c .is-reported }; if1 = record { taken = taken } };
-                    arrive-arg = record { given = g };
-                  } g') g'';
-                },
-              ),
-            ),
-          ),
-          λ left. lay8 record { before = record { before = c .before; is-reported = c .is-reported }; if1 = record { left = left } },
-        )
+        lay1 = λ c.
+            (λ taken. λ g. (Path'.refl, λ g'. (Path'.refl, (drone-of-requires record { before = record { before = record { before = record { before = c .before; is-reported = c .is-reported }; if1 = record { taken = taken } }; arrive-arg = record { given = g } }; arrive-arg2 = record { given = g' } }, λ g''. lay2 record { before = record { before = record { before = record { before = record { before = c .before; is-reported = c .is-reported }; if1 = record { taken = taken } }; arrive-arg = record { given = g } }; arrive-arg2 = record { given = g' } }; drone-of = Called.called ps·0 r·1 (claims· .3) T18 (record { pos = 10; st = List.[]; d = 0; at = λ x. x }, tt) (m14 record { before = record { before = record { before = c .before; is-reported = c .is-reported }; if1 = record { taken = taken } }; arrive-arg = record { given = g } } g') g'' }))), λ left. lay8 record { before = record { before = c .before; is-reported = c .is-reported }; if1 = record { left = left } })
 
         pub laid : (c : Start) → at76 (W0 (c .κs) (c .args)) (m0 (c .κs) (c .args))
-        laid = λ c. λ g. λ g'. λ g''. λ g'3. λ g'4. λ g'5. λ g'6. λ g'7. (
-          is-reported-requires record {
-            before = record {
-              before = record {
-                before = record {
-                  before = record {
-                    before = record {
-                      before = record { before = record { before = c; shared-slice-known = record { given = g } }; shared-slice-known2 = record { given = g' } };
-                      shared-slice-known3 = record { given = g'' };
-                    };
-                    shared-slice-known4 = record { given = g'3 };
-                  };
-                  shared-slice-known5 = record { given = g'4 };
-                };
-                shared-slice-known6 = record { given = g'5 };
-              };
-              slice-known = record { given = g'6 };
-            };
-            slice-known2 = record { given = g'7 };
-          },
-          λ g'8. lay1 record {
-            before = record {
-              before = record {
-                before = record {
-                  before = record {
-                    before = record { before = record { before = record { before = record { before = c; shared-slice-known = record { given = g } }; shared-slice-known2 = record { given = g' } }; shared-slice-known3 = record { given = g'' } }; shared-slice-known4 = record { given = g'3 } };
-                    shared-slice-known5 = record { given = g'4 };
-                  };
-                  shared-slice-known6 = record { given = g'5 };
-                };
-                slice-known = record { given = g'6 };
-              };
-              slice-known2 = record { given = g'7 };
-            };
-            is-reported = Called.called ps·0 r·0 (claims· .1) T9 (record { pos = 10; st = List.[]; d = 0; at = λ x. x }, tt) (m8 record {
-              before = record {
-                before = record {
-                  before = record { before = record { before = record { before = record { before = c; shared-slice-known = record { given = g } }; shared-slice-known2 = record { given = g' } }; shared-slice-known3 = record { given = g'' } }; shared-slice-known4 = record { given = g'3 } };
-                  shared-slice-known5 = record { given = g'4 };
-                };
-                shared-slice-known6 = record { given = g'5 };
-              };
-              slice-known = record { given = g'6 };
-            } g'7) g'8;
-          },
-        )
+        laid = λ c. λ g. λ g'. λ g''. λ g'3. λ g'4. λ g'5. λ g'6. λ g'7.
+            (is-reported-requires record { before = record { before = record { before = record { before = record { before = record { before = record { before = record { before = c; shared-slice-known = record { given = g } }; shared-slice-known2 = record { given = g' } }; shared-slice-known3 = record { given = g'' } }; shared-slice-known4 = record { given = g'3 } }; shared-slice-known5 = record { given = g'4 } }; shared-slice-known6 = record { given = g'5 } }; slice-known = record { given = g'6 } }; slice-known2 = record { given = g'7 } }, λ g'8. lay1 record { before = record { before = record { before = record { before = record { before = record { before = record { before = record { before = record { before = c; shared-slice-known = record { given = g } }; shared-slice-known2 = record { given = g' } }; shared-slice-known3 = record { given = g'' } }; shared-slice-known4 = record { given = g'3 } }; shared-slice-known5 = record { given = g'4 } }; shared-slice-known6 = record { given = g'5 } }; slice-known = record { given = g'6 } }; slice-known2 = record { given = g'7 } }; is-reported = Called.called ps·0 r·0 (claims· .1) T0 (record { pos = 10; st = List.[]; d = 0; at = λ x. x }, tt) (m8 record { before = record { before = record { before = record { before = record { before = record { before = record { before = c; shared-slice-known = record { given = g } }; shared-slice-known2 = record { given = g' } }; shared-slice-known3 = record { given = g'' } }; shared-slice-known4 = record { given = g'3 } }; shared-slice-known5 = record { given = g'4 } }; shared-slice-known6 = record { given = g'5 } }; slice-known = record { given = g'6 } } g'7) g'8 })
 
         module _ (κs : Lifetimes.Lfts 9) (qs : Lifetimes.Shares 9) where
           pub asked : (a : Kinds.Dens κs ps) → (good : Kinds.GoodsP κs ps a) → (pre : Pre· κs a) → (bs : List.List Nat.ℕ) → Φ (Any.wantQ 9 ps r xs m κs qs a (Post· κs a)) (Function.init 9 ps r xs m κs qs a)
-          asked = λ a good pre bs. laid record {
-            κs = κs;
-            args = record {
-              drone-count = a .0;
-              dependency-count = a .1 .0;
-              names = a .1 .1 .0;
-              stop-counts = a .1 .1 .1 .0;
-              locations = a .1 .1 .1 .1 .0;
-              times = a .1 .1 .1 .1 .1 .0;
-              visited = a .1 .1 .1 .1 .1 .1 .0;
-              drone-flags = a .1 .1 .1 .1 .1 .1 .1 .0;
-              dependencies = a .1 .1 .1 .1 .1 .1 .1 .1 .0;
-              report = a .1 .1 .1 .1 .1 .1 .1 .1 .1 .0;
-            };
-            good = good;
-            pre = pre;
-          }
+          asked = λ a good pre bs. laid record
+              { κs = κs; args = record { drone-count = a .0; dependency-count = a .1 .0; names = a .1 .1 .0; stop-counts = a .1 .1 .1 .0; locations = a .1 .1 .1 .1 .0; times = a .1 .1 .1 .1 .1 .0; visited = a .1 .1 .1 .1 .1 .1 .0; drone-flags = a .1 .1 .1 .1 .1 .1 .1 .0; dependencies = a .1 .1 .1 .1 .1 .1 .1 .1 .0; report = a .1 .1 .1 .1 .1 .1 .1 .1 .1 .0 }; good = good; pre = pre }
 
-        module _ {M : Type 1} (𝓤 : URA.URA M) (H : Wp.Heap 𝓤) (A : Atoms.Atoms 𝓤) (W : Kit.Given 𝓤 H A) (𝓣 : Wp.Tables 𝓤 H) (known0 : Plain.Known 𝓤 H A W 𝓣 0 ps·0 r·0 (claims· .0) (claims· .1) "handset::replies::is_reported") (known1 : Plain.Known 𝓤 H A W 𝓣 0 ps·1 r·1 (claims· .2) (claims· .3) "handset::replies::drone_of") (known2 : Plain.Known 𝓤 H A W 𝓣 9
-            ps·2 r·2 (claims· .4) (claims· .5) "conductor::calls::arrive") (known3 : Plain.Known 𝓤 H A W 𝓣 0 ps·3 r·3 (claims· .6) (claims· .7) "handset::replies::is_arrived") (known4 : Plain.Known 𝓤 H A W 𝓣 0 ps·4 r·4 (claims· .8) (claims· .9) "handset::replies::refusal_of") (known5 : Plain.Known 𝓤 H A W 𝓣 9 ps·5 r·5 (claims· .10) (claims· .11)
+        module _ {M : Type 1} (𝓤 : URA.URA M) (H : Wp.Heap 𝓤) (A : Atoms.Atoms 𝓤) (W : Kit.Given 𝓤 H A) (𝓣 : Wp.Tables 𝓤 H) (known0 : Plain.Known 𝓤 H A W 𝓣 0 ps·0 r·0 (claims· .0) (claims· .1) "handset::replies::is_reported") (known1 : Plain.Known 𝓤 H A W 𝓣 0 ps·0 r·1 (claims· .2) (claims· .3) "handset::replies::drone_of") (known2 : Plain.Known 𝓤 H A W 𝓣 9
+            ps·2 r·2 (claims· .4) (claims· .5) "conductor::calls::arrive") (known3 : Plain.Known 𝓤 H A W 𝓣 0 ps·3 r·0 (claims· .6) (claims· .7) "handset::replies::is_arrived") (known4 : Plain.Known 𝓤 H A W 𝓣 0 ps·3 r·4 (claims· .8) (claims· .9) "handset::replies::refusal_of") (known5 : Plain.Known 𝓤 H A W 𝓣 9 ps·5 r·5 (claims· .10) (claims· .11)
             "handset::button::grant_all") where
           pub spec : Statement.Triple 𝓤 (Wp.WpFn 𝓤 H (𝓣 .C) (𝓣 .Λ) (Function.fnOf 9 ps r xs m hs body)) (Function.plainOf 𝓤 H A 9 ps r Pre· Post·)
           spec = Plain.t-fn-plain 𝓤 H A W 𝓣 9 ps r xs m hs body (λ κs qs bs. Φ) (λ κs qs bs bd. typed κs qs 𝓤 H A W 𝓣 (known0, known1, known2, known3, known4, known5) bs bd) Pre· Post· asked

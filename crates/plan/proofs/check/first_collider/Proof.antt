@@ -18,16 +18,16 @@ use Rattle.plan.proofs.check.first_collider.Lts as lts
 use Rattle.plan.proofs.check.partner_of.Reads as partner-of-reads
 
 abbrev Inv-loop : tie.InvT-loop
-Inv-loop owners locations times n first next v₀ v = (v ≤ n) × (firstBelow v (λ v. ltb (partner (visitsOf owners [] locations times n) v) n) ≡ v)
+Inv-loop owners locations times n first next skip v₀ v = (v ≤ n) × (firstBelow v (λ v. ltb (partner (visitsOf owners [] locations times n) v) n) ≡ v)
 
 abbrev μ-loop : tie.MeasureT-loop
-μ-loop owners locations times n first next v₀ v = n - v
+μ-loop owners locations times n first next skip v₀ v = n - v
 
 loop-holds : tie.Need-loop-holds Inv-loop μ-loop
 loop-holds c = (search needs, first-none _)
 
 partner-of-requires : tie.Need-partner-of-requires Inv-loop μ-loop
-partner-of-requires c κs = (c .before .before .before .before .before .pre .0, c .before .before .before .before .before .pre .1, c .loop-test .taken)
+partner-of-requires c κs = (c .before .before .before .before .before .pre .0, c .before .before .before .before .before .pre .1, c .before .before .before .before .before .pre .2, c .loop-test .taken)
 
 returns : tie.Need-returns Inv-loop μ-loop
 unfolding collider

@@ -1,16 +1,16 @@
--- The counter is the number of dependencies with a first stop before v.
+-- The counter is the number of dependencies with a first stop before v, and is within the full size.
 use borrow.Author.Needs.{needs}
-use Prim.Native.Nat.{_*_, _-_, _≤_}
+use Prim.Native.Nat.{_-_, _≤_}
 use mathlib.Core.Path.{_≡_, _∙_}
 use native.Mathlib.Omega.{arith}
 use mathlib.Core.List.{[]}
 use Rattle.tables.specs.Limits.{limits}
-use Rattle.plan.proofs.Unread.{total-any}
+use Rattle.plan.proofs.Unread.{counted-any}
 use Rattle.plan.specs.Visits.{visitsOf}
 use Rattle.below.specs.Below.{countBelow, sumBelow}
-use Rattle.below.proofs.Sum.{sum-none, sum-turn, sum-end}
+use Rattle.below.proofs.Sum.{sum-none, sum-turn}
 use Rattle.plan.specs.Dependencies.{follows}
-use Rattle.plan.proofs.ColumnsLaws.{row-few}
+use Rattle.plan.proofs.ColumnsLaws.{row-few, counted-past, counted-end}
 use Rattle.plan.proofs.dependencies.count_dependencies.Statement.{statement}
 use Rattle.plan.proofs.dependencies.count_dependencies.Tie as tie
 use Rattle.plan.proofs.dependencies.count_dependencies.Reads as reads
@@ -18,19 +18,25 @@ use Rattle.plan.proofs.dependencies.count_dependencies.Lts as lts
 use Rattle.plan.proofs.dependencies.count_row.Reads as count-row-reads
 
 abbrev Inv-loop : tie.InvT-loop
-Inv-loop owners locations times n first next c₀ v₀ c v = (v ≤ n) × (c ≡ sumBelow v (λ u. countBelow n (follows (visitsOf owners [] locations times n) u))) × (c ≤ limits .stops * v)
+Inv-loop owners locations times n first next skip c₀ v₀ c v = (v ≤ n) × (c ≡ sumBelow v (λ u. countBelow n (follows (visitsOf owners [] locations times n) u))) × (c ≤ limits .dependencies)
 
 abbrev μ-loop : tie.MeasureT-loop
-μ-loop owners locations times n first next c₀ v₀ c v = n - v
+μ-loop owners locations times n first next skip c₀ v₀ c v = n - v
 
 loop-holds : tie.Need-loop-holds Inv-loop μ-loop
 loop-holds c = (search needs, sum-none _ 0, search needs)
 
 count-row-requires : tie.Need-count-row-requires Inv-loop μ-loop
-count-row-requires c κs = (c .before .before .before .before .before .pre .0, c .before .before .before .before .before .pre .1, c .loop-test .taken)
+count-row-requires c κs = (c .before .before .before .before .before .pre .0, c .before .before .before .before .before .pre .1, c .before .before .before .before .before .pre .2, c .loop-test .taken)
 
 add-c : tie.Need-add-c Inv-loop μ-loop
 add-c c = omega (arith, row-few _ _ _ (c .count-row .ensures []), c .before .before .before .before .before .before .pre .0 .few)
+
+add-result : tie.Need-add-result Inv-loop μ-loop
+add-result c = search needs
+
+returns : tie.Need-returns Inv-loop μ-loop
+returns c = λ numbers. counted-past _ _ _ _ _ _ (c .before .before .loop-test .taken) (c .before .before .before .loop .inv .1) (c .before .count-row .ensures []) (c .if1 .taken) ∙ counted-any _ _ _
 
 add-v : tie.Need-add-v Inv-loop μ-loop
 add-v c = search needs
@@ -39,10 +45,10 @@ loop-less : tie.Need-loop-less Inv-loop μ-loop
 loop-less c = search needs
 
 loop-again : tie.Need-loop-again Inv-loop μ-loop
-loop-again c = (omega arith, sum-turn _ _ _ _ (c .before .before .loop .inv .1) (c .count-row .ensures []), omega (arith, row-few _ _ _ (c .count-row .ensures []), c .before .before .before .before .before .before .pre .0 .few))
+loop-again c = (omega arith, sum-turn _ _ _ _ (c .before .before .before .loop .inv .1) (c .before .count-row .ensures []), c .if1 .left)
 
-returns : tie.Need-returns Inv-loop μ-loop
-returns c = λ numbers. sum-end _ _ _ _ (c .before .loop .inv .0) (c .loop-test .left) (c .before .loop .inv .1) ∙ total-any _ _
+returns-2 : tie.Need-returns-2 Inv-loop μ-loop
+returns-2 c = λ numbers. counted-end _ _ _ _ _ (c .before .loop .inv .0) (c .loop-test .left) (c .before .loop .inv .1) (c .before .loop .inv .2) ∙ counted-any _ _ _
 
 pub count-dependencies-spec : {M : Type 1} → statement M
 count-dependencies-spec =
@@ -53,7 +59,9 @@ count-dependencies-spec =
     loop-holds
     count-row-requires
     add-c
+    add-result
+    returns
     add-v
     loop-less
     loop-again
-    returns)
+    returns-2)

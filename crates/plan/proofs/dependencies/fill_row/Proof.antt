@@ -10,56 +10,58 @@ use Rattle.below.specs.Below.{at}
 use Rattle.plan.specs.Columns.{columnsWith}
 use Rattle.plan.specs.Room.{ColumnsRoom}
 use Rattle.plan.proofs.SharingLaws.{elsewhere, walk-from, walk-within, walk-past}
-use Rattle.plan.proofs.ColumnsLaws.{RowTo, row-none, row-skip, row-take, row-lengths, row-room, row-end, cursor-none, cursor-skip, cursor-take, cursor-end, row-start-at, row-more-at}
+use Rattle.plan.proofs.StretchLaws.{after-past}
+use Rattle.plan.proofs.ColumnsLaws.{RowTo, row-none, row-skip, row-take, row-lengths, row-room, row-end, cursor-none, cursor-skip, cursor-take, cursor-end, row-start-at, row-more-at, row-past-at}
 use Rattle.plan.proofs.dependencies.fill_row.Statement.{statement}
 use Rattle.plan.proofs.dependencies.fill_row.Tie as tie
 use Rattle.plan.proofs.dependencies.fill_row.Reads as reads
 use Rattle.plan.proofs.dependencies.fill_row.Lts as lts
 use Rattle.plan.proofs.dependencies.flag_of.Reads as flag-of-reads
 use Rattle.plan.proofs.dependencies.follows_at.Reads as follows-at-reads
+use Rattle.plan.proofs.sharing.after_stop.Reads as after-stop-reads
 
 abbrev Inv-loop : tie.InvT-loop
-Inv-loop owners numbers locations times n first next v c first-drones₀ first-stops₀ second-drones₀ second-stops₀ flags₀ k₀ w₀ first-drones first-stops second-drones second-stops flags k w =
+Inv-loop owners numbers locations times n first next skip v c first-drones₀ first-stops₀ second-drones₀ second-stops₀ flags₀ k₀ w₀ first-drones first-stops second-drones second-stops flags k w =
     (w ≤ n)
     × RowTo (visitsOf owners numbers locations times n) v c (columnsWith first-drones₀ first-stops₀ second-drones₀ second-stops₀ flags₀) k first-drones first-stops second-drones second-stops flags w
     × (w < n → at locations w ≡ at locations v)
 
 abbrev μ-loop : tie.MeasureT-loop
-μ-loop owners numbers locations times n first next v c first-drones₀ first-stops₀ second-drones₀ second-stops₀ flags₀ k₀ w₀ first-drones first-stops second-drones second-stops flags k w = n - w
+μ-loop owners numbers locations times n first next skip v c first-drones₀ first-stops₀ second-drones₀ second-stops₀ flags₀ k₀ w₀ first-drones first-stops second-drones second-stops flags k w = n - w
 
 -- where w follows v, there is room for the entry
 room : (c : tie.Else1 Inv-loop μ-loop) → ColumnsRoom (c .before .before .before .loop .k + 1) (columnsWith (c .before .before .before .loop .first-drones) (c .before .before .before .loop .first-stops) (c .before .before .before .loop .second-drones) (c .before .before .before .loop .second-stops) (c .before .before .before .loop .flags))
 room c = row-room _ _ _ _ _ _ _ _ _ _ (c .before .before .before .loop .inv .1 .1) _ (c .before .before .before .loop .inv .1 .0) (sym (c .before .follows-at .ensures [] 0 ∙ follows-any _ _ _ _ _) ∙ not-false _ (c .if1 .left)) (c .before .before .loop-test .taken) (c .before .before .before .before .before .before .before .before .before .before .before .before .before .before .pre .1)
 
 mul-w : tie.Need-mul-w Inv-loop μ-loop
-mul-w c = omega (arith, c .before .before .before .before .before .before .before .before .before .pre .0 .0 .visits .few, c .before .before .before .before .before .before .before .before .before .pre .0 .2)
+mul-w c = omega (arith, c .before .before .before .before .before .before .before .before .before .pre .0 .0 .visits .few, c .before .before .before .before .before .before .before .before .before .pre .0 .3)
 
 element-copy-out-w : tie.Need-element-copy-out-w Inv-loop μ-loop
-element-copy-out-w c = omega (arith, c .before .before .before .before .before .before .before .before .before .pre .0 .0 .visits .few, c .before .before .before .before .before .before .before .before .before .pre .0 .2)
+element-copy-out-w c = omega (arith, c .before .before .before .before .before .before .before .before .before .pre .0 .0 .visits .few, c .before .before .before .before .before .before .before .before .before .pre .0 .3)
 
 cast-w : tie.Need-cast-w Inv-loop μ-loop
-cast-w c = omega (arith, c .before .before .before .before .before .before .before .before .before .before .pre .0 .0 .visits .few, c .before .before .before .before .before .before .before .before .before .before .pre .0 .2, walk-from _ _ _ _ (c .before .before .before .before .before .before .before .before .before .before .pre .0 .1) (c .before .before .before .before .before .before .before .before .before .before .args .v) (c .before .before .before .before .before .before .before .before .before .before .pre .0 .2))
+cast-w c = omega (arith, c .before .before .before .before .before .before .before .before .before .before .pre .0 .0 .visits .few, c .before .before .before .before .before .before .before .before .before .before .pre .0 .3, walk-from _ _ _ _ (c .before .before .before .before .before .before .before .before .before .before .pre .0 .1) (c .before .before .before .before .before .before .before .before .before .before .args .v) (c .before .before .before .before .before .before .before .before .before .before .pre .0 .3))
 
 loop-holds : tie.Need-loop-holds Inv-loop μ-loop
-loop-holds c = row-start-at _ _ _ _ _ _ _ _ _ _ (elsewhere _ _ _ _ _) _ _ (c .before .before .before .before .before .before .before .before .before .before .pre .0 .1) _ (c .before .before .before .before .before .before .before .before .before .before .pre .0 .2) (cursor-none _ _, row-none _ _ _ _) refl
+loop-holds c = row-start-at _ _ _ _ _ _ _ _ _ _ (elsewhere _ _ _ _ _) _ _ (c .before .before .before .before .before .before .before .before .before .before .pre .0 .1) _ (c .before .before .before .before .before .before .before .before .before .before .pre .0 .3) (cursor-none _ _, row-none _ _ _ _) refl
 
 follows-at-requires : tie.Need-follows-at-requires Inv-loop μ-loop
 follows-at-requires c κs = omega (arith, c .before .before .before .before .before .before .before .before .before .before .before .before .pre)
 
-mul-w-2 : tie.Need-mul-w-2 Inv-loop μ-loop
-mul-w-2 c = omega (arith, c .before .before .before .before .before .before .before .before .before .before .before .before .before .before .pre .0 .0 .visits .few, c .before .before .loop-test)
+shared-slice-read-after-stop : tie.Need-shared-slice-read-after-stop Inv-loop μ-loop
+shared-slice-read-after-stop c = omega (arith, c .before .before .before .before .before .before .before .before .before .before .before .before .before .before .before .pre .0 .0 .visits .has-owners, c .before .before .before .loop-test)
 
-element-copy-out-w-2 : tie.Need-element-copy-out-w-2 Inv-loop μ-loop
-element-copy-out-w-2 c = omega (arith, c .before .before .before .before .before .before .before .before .before .before .before .before .before .before .pre .0 .0 .visits .few, c .before .before .loop-test)
+shared-slice-read-after-stop-2 : tie.Need-shared-slice-read-after-stop-2 Inv-loop μ-loop
+shared-slice-read-after-stop-2 c = omega (arith, c .before .before .before .before .before .before .before .before .before .before .before .before .before .before .before .before .pre .0 .0 .visits .has-owners, c .before .before .before .before .before .before .before .before .before .before .before .before .before .before .before .before .pre .0 .3)
 
-cast-w-2 : tie.Need-cast-w-2 Inv-loop μ-loop
-cast-w-2 c = omega (arith, c .before .before .before .before .before .before .before .before .before .before .before .before .before .before .before .pre .0 .0 .visits .few, walk-within _ _ _ _ (c .before .before .before .before .before .before .before .before .before .before .before .before .before .before .before .pre .0 .1) (c .before .before .before .before .loop .w) (c .before .before .before .loop-test .taken))
+after-stop-requires : tie.Need-after-stop-requires Inv-loop μ-loop
+after-stop-requires c κs = omega (arith, c .before .before .before .before .before .before .before .before .before .before .before .before .before .before .before .before .pre .0 .0 .visits .few, c .before .before .before .before .loop-test)
 
 loop-less : tie.Need-loop-less Inv-loop μ-loop
-loop-less c = omega (arith, walk-past _ _ _ _ (c .before .before .before .before .before .before .before .before .before .before .before .before .before .before .before .pre .0 .1) (c .before .before .before .before .loop .w) _ (c .before .before .before .loop-test .taken) refl, c .before .before .before .loop-test)
+loop-less c = omega (arith, after-past _ _ _ _ _ _ (c .before .before .before .before .before .before .before .before .before .before .before .before .before .before .before .before .before .pre .0 .1) (c .before .before .before .before .before .before .before .before .before .before .before .before .before .before .before .before .before .pre .0 .2) (c .before .before .before .before .before .before .loop .w) (c .after-stop .result) (c .before .before .before .before .before .loop-test .taken) _ (c .after-stop .ensures), c .before .before .before .before .before .loop-test)
 
 loop-again : tie.Need-loop-again Inv-loop μ-loop
-loop-again c = row-more-at _ _ _ _ _ _ _ _ _ _ (elsewhere _ _ _ _ _) _ _ (c .before .before .before .before .before .before .before .before .before .before .before .before .before .before .before .pre .0 .1) _ _ (c .before .before .before .loop-test .taken) (c .before .before .before .before .loop .inv .2 (c .before .before .before .loop-test .taken)) (cursor-skip _ _ _ _ (c .before .before .before .before .loop .inv .1 .0) (sym (c .before .before .follows-at .ensures [] 0 ∙ follows-any _ _ _ _ _) ∙ not-true _ (c .before .if1 .taken)), row-skip _ _ _ _ _ _ _ _ _ _ (c .before .before .before .before .loop .inv .1 .1) (sym (c .before .before .follows-at .ensures [] 0 ∙ follows-any _ _ _ _ _) ∙ not-true _ (c .before .if1 .taken))) refl
+loop-again c = row-past-at _ _ _ _ _ _ _ _ _ _ (elsewhere _ _ _ _ _) _ _ (c .before .before .before .before .before .before .before .before .before .before .before .before .before .before .before .before .before .pre .0 .1) _ (c .before .before .before .before .before .before .before .before .before .before .before .before .before .before .before .before .before .pre .0 .2) _ _ (c .before .before .before .before .before .loop-test .taken) (c .before .before .before .before .before .before .loop .inv .2 (c .before .before .before .before .before .loop-test .taken)) (cursor-skip _ _ _ _ (c .before .before .before .before .before .before .loop .inv .1 .0) (sym (c .before .before .before .before .follows-at .ensures [] 0 ∙ follows-any _ _ _ _ _) ∙ not-true _ (c .before .before .before .if1 .taken)), row-skip _ _ _ _ _ _ _ _ _ _ (c .before .before .before .before .before .before .loop .inv .1 .1) (sym (c .before .before .before .before .follows-at .ensures [] 0 ∙ follows-any _ _ _ _ _) ∙ not-true _ (c .before .before .before .if1 .taken))) (c .after-stop .ensures)
 
 shared-slice-read-first-drones : tie.Need-shared-slice-read-first-drones Inv-loop μ-loop
 shared-slice-read-first-drones c = omega (arith, c .before .before .before .before .before .before .before .before .before .before .before .before .before .before .before .pre)
@@ -106,14 +108,14 @@ slice-write-flags c = omega (arith, room (c .before .before .before .before .bef
 add-k : tie.Need-add-k Inv-loop μ-loop
 add-k c = omega (arith, room (c .before .before .before .before .before) .dependencies-fit)
 
-mul-w-3 : tie.Need-mul-w-3 Inv-loop μ-loop
-mul-w-3 c = omega (arith, c .before .before .before .before .before .before .before .before .before .before .before .before .before .before .before .before .before .before .before .pre .0 .0 .visits .few, c .before .before .before .before .before .before .before .loop-test)
+mul-w-2 : tie.Need-mul-w-2 Inv-loop μ-loop
+mul-w-2 c = omega (arith, c .before .before .before .before .before .before .before .before .before .before .before .before .before .before .before .before .before .before .before .pre .0 .0 .visits .few, c .before .before .before .before .before .before .before .loop-test)
 
-element-copy-out-w-3 : tie.Need-element-copy-out-w-3 Inv-loop μ-loop
-element-copy-out-w-3 c = omega (arith, c .before .before .before .before .before .before .before .before .before .before .before .before .before .before .before .before .before .before .before .pre .0 .0 .visits .few, c .before .before .before .before .before .before .before .loop-test)
+element-copy-out-w-2 : tie.Need-element-copy-out-w-2 Inv-loop μ-loop
+element-copy-out-w-2 c = omega (arith, c .before .before .before .before .before .before .before .before .before .before .before .before .before .before .before .before .before .before .before .pre .0 .0 .visits .few, c .before .before .before .before .before .before .before .loop-test)
 
-cast-w-3 : tie.Need-cast-w-3 Inv-loop μ-loop
-cast-w-3 c = omega (arith, c .before .before .before .before .before .before .before .before .before .before .before .before .before .before .before .before .before .before .before .before .pre .0 .0 .visits .few, walk-within _ _ _ _ (c .before .before .before .before .before .before .before .before .before .before .before .before .before .before .before .before .before .before .before .before .pre .0 .1) (c .before .before .before .before .before .before .before .before .before .loop .w) (c .before .before .before .before .before .before .before .before .loop-test .taken))
+cast-w-2 : tie.Need-cast-w-2 Inv-loop μ-loop
+cast-w-2 c = omega (arith, c .before .before .before .before .before .before .before .before .before .before .before .before .before .before .before .before .before .before .before .before .pre .0 .0 .visits .few, walk-within _ _ _ _ (c .before .before .before .before .before .before .before .before .before .before .before .before .before .before .before .before .before .before .before .before .pre .0 .1) (c .before .before .before .before .before .before .before .before .before .loop .w) (c .before .before .before .before .before .before .before .before .loop-test .taken))
 
 loop-less-2 : tie.Need-loop-less-2 Inv-loop μ-loop
 loop-less-2 c = omega (arith, walk-past _ _ _ _ (c .before .before .before .before .before .before .before .before .before .before .before .before .before .before .before .before .before .before .before .before .pre .0 .1) (c .before .before .before .before .before .before .before .before .before .loop .w) _ (c .before .before .before .before .before .before .before .before .loop-test .taken) refl, c .before .before .before .before .before .before .before .before .loop-test)
@@ -150,9 +152,9 @@ fill-row-spec =
     cast-w
     loop-holds
     follows-at-requires
-    mul-w-2
-    element-copy-out-w-2
-    cast-w-2
+    shared-slice-read-after-stop
+    shared-slice-read-after-stop-2
+    after-stop-requires
     loop-less
     loop-again
     shared-slice-read-first-drones
@@ -170,9 +172,9 @@ fill-row-spec =
     flag-of-requires
     slice-write-flags
     add-k
-    mul-w-3
-    element-copy-out-w-3
-    cast-w-3
+    mul-w-2
+    element-copy-out-w-2
+    cast-w-2
     loop-less-2
     loop-again-2
     same-length

@@ -16,19 +16,19 @@ use Rattle.plan.proofs.dependencies.fill_rows.Lts as lts
 use Rattle.plan.proofs.dependencies.fill_row.Reads as fill-row-reads
 
 abbrev Inv-loop : tie.InvT-loop
-Inv-loop owners numbers locations times n first next first-drones₀ first-stops₀ second-drones₀ second-stops₀ flags₀ k₀ v₀ first-drones first-stops second-drones second-stops flags k v =
+Inv-loop owners numbers locations times n first next skip first-drones₀ first-stops₀ second-drones₀ second-stops₀ flags₀ k₀ v₀ first-drones first-stops second-drones second-stops flags k v =
     (v ≤ n)
     × (k ≡ sumBelow v (λ u. countBelow n (follows (visitsOf owners numbers locations times n) u)))
     × (columnsWith first-drones first-stops second-drones second-stops flags ≡ rowsWritten (visitsOf owners numbers locations times n) v (columnsWith first-drones₀ first-stops₀ second-drones₀ second-stops₀ flags₀))
 
 abbrev μ-loop : tie.MeasureT-loop
-μ-loop owners numbers locations times n first next first-drones₀ first-stops₀ second-drones₀ second-stops₀ flags₀ k₀ v₀ first-drones first-stops second-drones second-stops flags k v = n - v
+μ-loop owners numbers locations times n first next skip first-drones₀ first-stops₀ second-drones₀ second-stops₀ flags₀ k₀ v₀ first-drones first-stops second-drones second-stops flags k v = n - v
 
 loop-holds : tie.Need-loop-holds Inv-loop μ-loop
 loop-holds c = (search needs, sum-none _ 0, rows-none _ _)
 
 fill-row-requires : tie.Need-fill-row-requires Inv-loop μ-loop
-fill-row-requires c κs = ((c .before .before .before .before .before .before .before .before .before .before .before .before .before .before .before .before .pre .0 .0, c .before .before .before .before .before .before .before .before .before .before .before .before .before .before .before .before .pre .0 .1, c .before .before .before .before .before .loop-test .taken), rows-room _ _ _ _ (c .before .before .before .before .before .before .loop .inv .2) _ (c .before .before .before .before .before .before .loop .inv .1) (c .before .before .before .before .before .loop-test .taken) (c .before .before .before .before .before .before .before .before .before .before .before .before .before .before .before .before .pre .1))
+fill-row-requires c κs = ((c .before .before .before .before .before .before .before .before .before .before .before .before .before .before .before .before .pre .0 .0, c .before .before .before .before .before .before .before .before .before .before .before .before .before .before .before .before .pre .0 .1, c .before .before .before .before .before .before .before .before .before .before .before .before .before .before .before .before .pre .0 .2, c .before .before .before .before .before .loop-test .taken), rows-room _ _ _ _ (c .before .before .before .before .before .before .loop .inv .2) _ (c .before .before .before .before .before .before .loop .inv .1) (c .before .before .before .before .before .loop-test .taken) (c .before .before .before .before .before .before .before .before .before .before .before .before .before .before .before .before .pre .1))
 
 add-v : tie.Need-add-v Inv-loop μ-loop
 add-v c = omega (arith, c .before .before .before .before .before .before .before .before .before .before .before .before .before .before .before .before .loop-test, c .before .before .before .before .before .before .before .before .before .before .before .before .before .before .before .before .before .before .before .before .before .before .before .before .before .before .before .pre)

@@ -1,4 +1,5 @@
 -- `presses::runs::press_each`: Lts, carried over by tools/lend.py. Assumes nothing.
+use borrow.Fn.Args.{ArgsT}
 use Rattle.records.proofs.Row as Rec
 use Prim.Native.Nat
 use Rattle.handset.proofs.replies.PressReply
@@ -91,13 +92,16 @@ abbrev ty·11 : Syntax.Ty
 ty·11 = Syntax.tyRef (Syntax.named 9) Syntax.imm (Syntax.tyInt Syntax.w16)
 
 abbrev ty·12 : Syntax.Ty
-ty·12 = Syntax.tyStruct (List._∷_ 112 (List._∷_ 114 (List._∷_ 101 (List._∷_ 115 (List._∷_ 115 (List._∷_ 101 (List._∷_ 115 (List._∷_ 58 (List._∷_ 58 (List._∷_ 97 (List._∷_ 110 (List._∷_ 115 (List._∷_ 119 (List._∷_ 101 (List._∷_ 114 (List._∷_ 115 (List._∷_ 58 (List._∷_ 58 (List._∷_ 83 (List._∷_ 104 (List._∷_ 111 (List._∷_ 119 (List._∷_ 110 List.[]))))))))))))))))))))))) (Syntax.tcons (Syntax.tyInt Syntax.w64) (Syntax.tcons (Syntax.tyInt Syntax.w32) Syntax.tnil))
+ty·12 = Syntax.tyStruct (List._∷_ 112 (List._∷_ 114 (List._∷_ 101 (List._∷_ 115 (List._∷_ 115 (List._∷_ 101 (List._∷_ 115 (List._∷_ 58 (List._∷_ 58 (List._∷_ 97 (List._∷_ 110 (List._∷_ 115 (List._∷_ 119 (List._∷_ 101 (List._∷_ 114 (List._∷_ 115 (List._∷_ 58 (List._∷_ 58 (List._∷_ 83 (List._∷_ 104 (List._∷_ 111 (List._∷_ 119 (List._∷_ 110
+    List.[]))))))))))))))))))))))) (Syntax.tcons (Syntax.tyInt Syntax.w64) (Syntax.tcons (Syntax.tyInt Syntax.w32) Syntax.tnil))
 
 abbrev ty·13 : Syntax.Ty
-ty·13 = Syntax.tyEnum (List._∷_ 104 (List._∷_ 97 (List._∷_ 110 (List._∷_ 100 (List._∷_ 115 (List._∷_ 101 (List._∷_ 116 (List._∷_ 58 (List._∷_ 58 (List._∷_ 114 (List._∷_ 101 (List._∷_ 112 (List._∷_ 108 (List._∷_ 105 (List._∷_ 101 (List._∷_ 115 (List._∷_ 58 (List._∷_ 58 (List._∷_ 82 (List._∷_ 101 (List._∷_ 112 (List._∷_ 111 (List._∷_ 114 (List._∷_ 116 List.[])))))))))))))))))))))))) (Syntax.ttcons Syntax.tnil (Syntax.ttcons (Syntax.tcons (Syntax.tyInt Syntax.w64) Syntax.tnil) Syntax.ttnil))
+ty·13 = Syntax.tyEnum (List._∷_ 104 (List._∷_ 97 (List._∷_ 110 (List._∷_ 100 (List._∷_ 115 (List._∷_ 101 (List._∷_ 116 (List._∷_ 58 (List._∷_ 58 (List._∷_ 114 (List._∷_ 101 (List._∷_ 112 (List._∷_ 108 (List._∷_ 105 (List._∷_ 101 (List._∷_ 115 (List._∷_ 58 (List._∷_ 58 (List._∷_ 82 (List._∷_ 101 (List._∷_ 112 (List._∷_ 111 (List._∷_ 114 (List._∷_ 116
+    List.[])))))))))))))))))))))))) (Syntax.ttcons Syntax.tnil (Syntax.ttcons (Syntax.tcons (Syntax.tyInt Syntax.w64) Syntax.tnil) Syntax.ttnil))
 
 abbrev ty·14 : Syntax.Ty
-ty·14 = Syntax.tyEnum (List._∷_ 104 (List._∷_ 97 (List._∷_ 110 (List._∷_ 100 (List._∷_ 115 (List._∷_ 101 (List._∷_ 116 (List._∷_ 58 (List._∷_ 58 (List._∷_ 114 (List._∷_ 101 (List._∷_ 112 (List._∷_ 108 (List._∷_ 105 (List._∷_ 101 (List._∷_ 115 (List._∷_ 58 (List._∷_ 58 (List._∷_ 80 (List._∷_ 114 (List._∷_ 101 (List._∷_ 115 (List._∷_ 115 (List._∷_ 82 (List._∷_ 101 (List._∷_ 112 (List._∷_ 108 (List._∷_ 121 List.[])))))))))))))))))))))))))))) (Syntax.ttcons (Syntax.tcons (Syntax.tyInt Syntax.w32) Syntax.tnil) (Syntax.ttcons Syntax.tnil (Syntax.ttcons Syntax.tnil (Syntax.ttcons Syntax.tnil (Syntax.ttcons Syntax.tnil Syntax.ttnil)))))
+ty·14 = Syntax.tyEnum (List._∷_ 104 (List._∷_ 97 (List._∷_ 110 (List._∷_ 100 (List._∷_ 115 (List._∷_ 101 (List._∷_ 116 (List._∷_ 58 (List._∷_ 58 (List._∷_ 114 (List._∷_ 101 (List._∷_ 112 (List._∷_ 108 (List._∷_ 105 (List._∷_ 101 (List._∷_ 115 (List._∷_ 58 (List._∷_ 58 (List._∷_ 80 (List._∷_ 114 (List._∷_ 101 (List._∷_ 115 (List._∷_ 115 (List._∷_ 82 (List._∷_
+    101 (List._∷_ 112 (List._∷_ 108 (List._∷_ 121 List.[])))))))))))))))))))))))))))) (Syntax.ttcons (Syntax.tcons (Syntax.tyInt Syntax.w32) Syntax.tnil) (Syntax.ttcons Syntax.tnil (Syntax.ttcons Syntax.tnil (Syntax.ttcons Syntax.tnil (Syntax.ttcons Syntax.tnil Syntax.ttnil)))))
 
 abbrev row·0 : Row.Row
 row·0 = Rows.any-gone ty·12
@@ -202,27 +206,13 @@ abbrev row·33 : Row.Row
 row·33 = Mut.msleft (Referent.rtF (Referent.fInt Syntax.w8)) ty·1
 
 abbrev pub ps : List.List (Kinds.PK 10)
-ps = List._∷_ (ShrSlice.pShrS (Referent.rtF (Referent.fInt Syntax.w16)) 0 tt) (List._∷_ (ShrSlice.pShrS (Referent.rtF (Referent.fInt Syntax.w16)) 1 tt) (List._∷_ (ShrSlice.pShrS (Referent.rtF (Referent.fInt Syntax.w8)) 2 tt) (List._∷_ (ShrSlice.pShrS (Referent.rtF (Referent.fInt Syntax.w16)) 3 tt) (List._∷_
-    (ShrSlice.pShrS (Referent.rtF (Referent.fInt Syntax.w16)) 4 tt) (List._∷_ (ShrSlice.pShrS (Referent.rtF (Referent.fInt Syntax.w32)) 5 tt) (List._∷_ (MutSlice.pMutS (Referent.rtF (Referent.fInt Syntax.w16)) 6 tt) (List._∷_ (MutSlice.pMutS (Referent.rtF (Referent.fInt Syntax.w8)) 7 tt) (List._∷_ (ShrSlice.pShrS Rec.rt 8 tt) (List._∷_ (Num.pNum Syntax.w64)
-    (List._∷_ (ShrSlice.pShrS (Referent.rtF (Referent.fInt Syntax.w16)) 9 tt) List.[]))))))))))
+ps = List._∷_ (ShrSlice.pShrS (Referent.rtF (Referent.fInt Syntax.w16)) 0 tt) (List._∷_ (ShrSlice.pShrS (Referent.rtF (Referent.fInt Syntax.w16)) 1 tt) (List._∷_ (ShrSlice.pShrS (Referent.rtF (Referent.fInt Syntax.w8)) 2 tt) (List._∷_ (ShrSlice.pShrS (Referent.rtF (Referent.fInt Syntax.w16)) 3 tt) (List._∷_ (ShrSlice.pShrS (Referent.rtF (Referent.fInt
+    Syntax.w16)) 4 tt) (List._∷_ (ShrSlice.pShrS (Referent.rtF (Referent.fInt Syntax.w32)) 5 tt) (List._∷_ (MutSlice.pMutS (Referent.rtF (Referent.fInt Syntax.w16)) 6 tt) (List._∷_ (MutSlice.pMutS (Referent.rtF (Referent.fInt Syntax.w8)) 7 tt) (List._∷_ (ShrSlice.pShrS Rec.rt 8 tt) (List._∷_ (Num.pNum Syntax.w64) (List._∷_ (ShrSlice.pShrS (Referent.rtF
+    (Referent.fInt Syntax.w16)) 9 tt) List.[]))))))))))
 
 abbrev pub r : Kinds.RK 10
-r = Value.rVal record {
-  ty = Declared'.row Shown.the-type;
-  one = Path'.refl;
-  val = Laws'4.val Shown.the-type Laws''.the-laws;
-  tells = Laws'4.tells Shown.the-type Laws''.the-laws;
-  still = Laws'4.still Shown.the-type Laws''.the-copy Exit.yes;
-  row = Rows.whole (Declared'.row Shown.the-type);
-  rd = λ x. x;
-  mk = λ x. x;
-} λ M 𝓤 H A W. record {
-  copies = Laws'4.copy Shown.the-type Laws''.the-copy 𝓤 H A W;
-  lawful = Laws'4.lawful Shown.the-type Laws''.the-laws 𝓤 H A W;
-  makes = Laws'4.makes Shown.the-type Laws''.the-plain 𝓤 H A;
-  in-mem = Local.mem-whole 𝓤 H A W (Declared'.row Shown.the-type);
-  of-mem = Local.whole-mem 𝓤 H A W (Declared'.row Shown.the-type);
-}
+r = Value.rVal record { ty = Declared'.row Shown.the-type; one = Path'.refl; val = Laws'4.val Shown.the-type Laws''.the-laws; tells = Laws'4.tells Shown.the-type Laws''.the-laws; still = Laws'4.still Shown.the-type Laws''.the-copy Exit.yes; row = Rows.whole (Declared'.row Shown.the-type); rd = λ x. x; mk = λ x. x } λ M 𝓤 H A W. record
+    { copies = Laws'4.copy Shown.the-type Laws''.the-copy 𝓤 H A W; lawful = Laws'4.lawful Shown.the-type Laws''.the-laws 𝓤 H A W; makes = Laws'4.makes Shown.the-type Laws''.the-plain 𝓤 H A; in-mem = Local.mem-whole 𝓤 H A W (Declared'.row Shown.the-type); of-mem = Local.whole-mem 𝓤 H A W (Declared'.row Shown.the-type) }
 
 abbrev pub xs : List.List Syntax.Ty
 xs = List._∷_ (Syntax.tyInt Syntax.w64) (List._∷_ (Syntax.tyInt Syntax.w32) (List._∷_ (Syntax.tyInt Syntax.w64) (List._∷_ ty·14 (List._∷_ Syntax.tyBool (List._∷_ ty·2 (List._∷_ (Syntax.tyStruct (List._∷_ 38 (List._∷_ 91 (List._∷_ 93 List.[]))) (Syntax.tcons ty·2 (Syntax.tcons (Syntax.tyInt Syntax.w64) Syntax.tnil))) (List._∷_ ty·1 (List._∷_ (Syntax.tyStruct
@@ -235,98 +225,25 @@ abbrev pub ps·0 : List.List (Kinds.PK 1)
 ps·0 = List._∷_ (ShrSlice.pShrS (Referent.rtF (Referent.fInt Syntax.w16)) 0 tt) (List._∷_ (Num.pNum Syntax.w64) List.[])
 
 abbrev pub r·0 : Kinds.RK 1
-r·0 = Value.rVal record {
-  ty = Declared.row Report.the-type;
-  one = Path'.refl;
-  val = Laws'3.val Report.the-type Laws'.the-laws;
-  tells = Laws'3.tells Report.the-type Laws'.the-laws;
-  still = Laws'3.still Report.the-type Laws'.the-copy Exit.yes;
-  row = Rows.whole (Declared.row Report.the-type);
-  rd = λ x. x;
-  mk = λ x. x;
-} λ M 𝓤 H A W. record {
-  copies = Laws'3.copy Report.the-type Laws'.the-copy 𝓤 H A W;
-  lawful = Laws'3.lawful Report.the-type Laws'.the-laws 𝓤 H A W tt;
-  makes = Laws'3.makes Report.the-type Laws'.the-plain 𝓤 H A;
-  in-mem = Local.mem-whole 𝓤 H A W (Declared.row Report.the-type);
-  of-mem = Local.whole-mem 𝓤 H A W (Declared.row Report.the-type);
-}
+r·0 = Value.rVal record { ty = Declared.row Report.the-type; one = Path'.refl; val = Laws'3.val Report.the-type Laws'.the-laws; tells = Laws'3.tells Report.the-type Laws'.the-laws; still = Laws'3.still Report.the-type Laws'.the-copy Exit.yes; row = Rows.whole (Declared.row Report.the-type); rd = λ x. x; mk = λ x. x } λ M 𝓤 H A W. record
+    { copies = Laws'3.copy Report.the-type Laws'.the-copy 𝓤 H A W; lawful = Laws'3.lawful Report.the-type Laws'.the-laws 𝓤 H A W tt; makes = Laws'3.makes Report.the-type Laws'.the-plain 𝓤 H A; in-mem = Local.mem-whole 𝓤 H A W (Declared.row Report.the-type); of-mem = Local.whole-mem 𝓤 H A W (Declared.row Report.the-type) }
 
 abbrev pub ps·1 : List.List (Kinds.PK 9)
-ps·1 = List._∷_ (ShrSlice.pShrS (Referent.rtF (Referent.fInt Syntax.w16)) 0 tt) (List._∷_ (ShrSlice.pShrS (Referent.rtF (Referent.fInt Syntax.w16)) 1 tt) (List._∷_ (ShrSlice.pShrS (Referent.rtF (Referent.fInt Syntax.w8)) 2 tt) (List._∷_ (ShrSlice.pShrS (Referent.rtF (Referent.fInt Syntax.w16)) 3 tt) (List._∷_
-    (ShrSlice.pShrS (Referent.rtF (Referent.fInt Syntax.w16)) 4 tt) (List._∷_ (ShrSlice.pShrS (Referent.rtF (Referent.fInt Syntax.w32)) 5 tt) (List._∷_ (MutSlice.pMutS (Referent.rtF (Referent.fInt Syntax.w16)) 6 tt) (List._∷_ (MutSlice.pMutS (Referent.rtF (Referent.fInt Syntax.w8)) 7 tt) (List._∷_ (ShrSlice.pShrS Rec.rt 8 tt) (List._∷_ (Value.pVal record {
-      ty = Declared.row Report.the-type;
-      one = Path'.refl;
-      val = Laws'3.val Report.the-type Laws'.the-laws;
-      tells = Laws'3.tells Report.the-type Laws'.the-laws;
-      still = Laws'3.still Report.the-type Laws'.the-copy Exit.yes;
-      row = Rows.whole (Declared.row Report.the-type);
-      rd = λ x. x;
-      mk = λ x. x;
-    } λ M 𝓤 H A W. record {
-      copies = Laws'3.copy Report.the-type Laws'.the-copy 𝓤 H A W;
-      lawful = Laws'3.lawful Report.the-type Laws'.the-laws 𝓤 H A W tt;
-      makes = Laws'3.makes Report.the-type Laws'.the-plain 𝓤 H A;
-      in-mem = Local.mem-whole 𝓤 H A W (Declared.row Report.the-type);
-      of-mem = Local.whole-mem 𝓤 H A W (Declared.row Report.the-type);
-    }) List.[])))))))))
+ps·1 = List._∷_ (ShrSlice.pShrS (Referent.rtF (Referent.fInt Syntax.w16)) 0 tt) (List._∷_ (ShrSlice.pShrS (Referent.rtF (Referent.fInt Syntax.w16)) 1 tt) (List._∷_ (ShrSlice.pShrS (Referent.rtF (Referent.fInt Syntax.w8)) 2 tt) (List._∷_ (ShrSlice.pShrS (Referent.rtF (Referent.fInt Syntax.w16)) 3 tt) (List._∷_ (ShrSlice.pShrS (Referent.rtF (Referent.fInt
+    Syntax.w16)) 4 tt) (List._∷_ (ShrSlice.pShrS (Referent.rtF (Referent.fInt Syntax.w32)) 5 tt) (List._∷_ (MutSlice.pMutS (Referent.rtF (Referent.fInt Syntax.w16)) 6 tt) (List._∷_ (MutSlice.pMutS (Referent.rtF (Referent.fInt Syntax.w8)) 7 tt) (List._∷_ (ShrSlice.pShrS Rec.rt 8 tt) (List._∷_ (Value.pVal record
+    { ty = Declared.row Report.the-type; one = Path'.refl; val = Laws'3.val Report.the-type Laws'.the-laws; tells = Laws'3.tells Report.the-type Laws'.the-laws; still = Laws'3.still Report.the-type Laws'.the-copy Exit.yes; row = Rows.whole (Declared.row Report.the-type); rd = λ x. x; mk = λ x. x } λ M 𝓤 H A W. record
+    { copies = Laws'3.copy Report.the-type Laws'.the-copy 𝓤 H A W; lawful = Laws'3.lawful Report.the-type Laws'.the-laws 𝓤 H A W tt; makes = Laws'3.makes Report.the-type Laws'.the-plain 𝓤 H A; in-mem = Local.mem-whole 𝓤 H A W (Declared.row Report.the-type); of-mem = Local.whole-mem 𝓤 H A W (Declared.row Report.the-type) }) List.[])))))))))
 
 abbrev pub r·1 : Kinds.RK 9
-r·1 = Value.rVal record {
-  ty = Declared.row PressReply.the-type;
-  one = Path'.refl;
-  val = Laws'3.val PressReply.the-type Laws.the-laws;
-  tells = Laws'3.tells PressReply.the-type Laws.the-laws;
-  still = Laws'3.still PressReply.the-type Laws.the-copy Exit.yes;
-  row = Rows.whole (Declared.row PressReply.the-type);
-  rd = λ x. x;
-  mk = λ x. x;
-} λ M 𝓤 H A W. record {
-  copies = Laws'3.copy PressReply.the-type Laws.the-copy 𝓤 H A W;
-  lawful = Laws'3.lawful PressReply.the-type Laws.the-laws 𝓤 H A W tt;
-  makes = Laws'3.makes PressReply.the-type Laws.the-plain 𝓤 H A;
-  in-mem = Local.mem-whole 𝓤 H A W (Declared.row PressReply.the-type);
-  of-mem = Local.whole-mem 𝓤 H A W (Declared.row PressReply.the-type);
-}
+r·1 = Value.rVal record { ty = Declared.row PressReply.the-type; one = Path'.refl; val = Laws'3.val PressReply.the-type Laws.the-laws; tells = Laws'3.tells PressReply.the-type Laws.the-laws; still = Laws'3.still PressReply.the-type Laws.the-copy Exit.yes; row = Rows.whole (Declared.row PressReply.the-type); rd = λ x. x; mk = λ x. x } λ M 𝓤 H A W. record
+    { copies = Laws'3.copy PressReply.the-type Laws.the-copy 𝓤 H A W; lawful = Laws'3.lawful PressReply.the-type Laws.the-laws 𝓤 H A W tt; makes = Laws'3.makes PressReply.the-type Laws.the-plain 𝓤 H A; in-mem = Local.mem-whole 𝓤 H A W (Declared.row PressReply.the-type); of-mem = Local.whole-mem 𝓤 H A W (Declared.row PressReply.the-type) }
 
 abbrev pub ps·2 : List.List (Kinds.PK 0)
-ps·2 = List._∷_ (Value.pVal record {
-  ty = Declared.row PressReply.the-type;
-  one = Path'.refl;
-  val = Laws'3.val PressReply.the-type Laws.the-laws;
-  tells = Laws'3.tells PressReply.the-type Laws.the-laws;
-  still = Laws'3.still PressReply.the-type Laws.the-copy Exit.yes;
-  row = Rows.whole (Declared.row PressReply.the-type);
-  rd = λ x. x;
-  mk = λ x. x;
-} λ M 𝓤 H A W. record {
-  copies = Laws'3.copy PressReply.the-type Laws.the-copy 𝓤 H A W;
-  lawful = Laws'3.lawful PressReply.the-type Laws.the-laws 𝓤 H A W tt;
-  makes = Laws'3.makes PressReply.the-type Laws.the-plain 𝓤 H A;
-  in-mem = Local.mem-whole 𝓤 H A W (Declared.row PressReply.the-type);
-  of-mem = Local.whole-mem 𝓤 H A W (Declared.row PressReply.the-type);
-}) List.[]
+ps·2 = List._∷_ (Value.pVal record { ty = Declared.row PressReply.the-type; one = Path'.refl; val = Laws'3.val PressReply.the-type Laws.the-laws; tells = Laws'3.tells PressReply.the-type Laws.the-laws; still = Laws'3.still PressReply.the-type Laws.the-copy Exit.yes; row = Rows.whole (Declared.row PressReply.the-type); rd = λ x. x; mk = λ x. x } λ M 𝓤 H A W.
+    record { copies = Laws'3.copy PressReply.the-type Laws.the-copy 𝓤 H A W; lawful = Laws'3.lawful PressReply.the-type Laws.the-laws 𝓤 H A W tt; makes = Laws'3.makes PressReply.the-type Laws.the-plain 𝓤 H A; in-mem = Local.mem-whole 𝓤 H A W (Declared.row PressReply.the-type); of-mem = Local.whole-mem 𝓤 H A W (Declared.row PressReply.the-type) }) List.[]
 
 abbrev pub r·2 : Kinds.RK 0
 r·2 = Num.rNum Syntax.w64
-
-abbrev pub ps·3 : List.List (Kinds.PK 0)
-ps·3 = List._∷_ (Value.pVal record {
-  ty = Declared.row PressReply.the-type;
-  one = Path'.refl;
-  val = Laws'3.val PressReply.the-type Laws.the-laws;
-  tells = Laws'3.tells PressReply.the-type Laws.the-laws;
-  still = Laws'3.still PressReply.the-type Laws.the-copy Exit.yes;
-  row = Rows.whole (Declared.row PressReply.the-type);
-  rd = λ x. x;
-  mk = λ x. x;
-} λ M 𝓤 H A W. record {
-  copies = Laws'3.copy PressReply.the-type Laws.the-copy 𝓤 H A W;
-  lawful = Laws'3.lawful PressReply.the-type Laws.the-laws 𝓤 H A W tt;
-  makes = Laws'3.makes PressReply.the-type Laws.the-plain 𝓤 H A;
-  in-mem = Local.mem-whole 𝓤 H A W (Declared.row PressReply.the-type);
-  of-mem = Local.whole-mem 𝓤 H A W (Declared.row PressReply.the-type);
-}) List.[]
 
 abbrev pub r·3 : Kinds.RK 0
 r·3 = Num.rNum Syntax.w32
@@ -335,22 +252,8 @@ abbrev pub ps·4 : List.List (Kinds.PK 0)
 ps·4 = List._∷_ (Num.pNum Syntax.w64) (List._∷_ (Num.pNum Syntax.w32) List.[])
 
 abbrev pub r·4 : Kinds.RK 0
-r·4 = Value.rVal record {
-  ty = Declared'.row Shown.the-type;
-  one = Path'.refl;
-  val = Laws'4.val Shown.the-type Laws''.the-laws;
-  tells = Laws'4.tells Shown.the-type Laws''.the-laws;
-  still = Laws'4.still Shown.the-type Laws''.the-copy Exit.yes;
-  row = Rows.whole (Declared'.row Shown.the-type);
-  rd = λ x. x;
-  mk = λ x. x;
-} λ M 𝓤 H A W. record {
-  copies = Laws'4.copy Shown.the-type Laws''.the-copy 𝓤 H A W;
-  lawful = Laws'4.lawful Shown.the-type Laws''.the-laws 𝓤 H A W;
-  makes = Laws'4.makes Shown.the-type Laws''.the-plain 𝓤 H A;
-  in-mem = Local.mem-whole 𝓤 H A W (Declared'.row Shown.the-type);
-  of-mem = Local.whole-mem 𝓤 H A W (Declared'.row Shown.the-type);
-}
+r·4 = Value.rVal record { ty = Declared'.row Shown.the-type; one = Path'.refl; val = Laws'4.val Shown.the-type Laws''.the-laws; tells = Laws'4.tells Shown.the-type Laws''.the-laws; still = Laws'4.still Shown.the-type Laws''.the-copy Exit.yes; row = Rows.whole (Declared'.row Shown.the-type); rd = λ x. x; mk = λ x. x } λ M 𝓤 H A W. record
+    { copies = Laws'4.copy Shown.the-type Laws''.the-copy 𝓤 H A W; lawful = Laws'4.lawful Shown.the-type Laws''.the-laws 𝓤 H A W; makes = Laws'4.makes Shown.the-type Laws''.the-plain 𝓤 H A; in-mem = Local.mem-whole 𝓤 H A W (Declared'.row Shown.the-type); of-mem = Local.whole-mem 𝓤 H A W (Declared'.row Shown.the-type) }
 
 abbrev pub hs : List.List Syntax.Home
 hs = List._∷_ Syntax.valueLocal (List._∷_ Syntax.valueLocal (List._∷_ Syntax.valueLocal (List._∷_ Syntax.valueLocal (List._∷_ Syntax.valueLocal (List._∷_ Syntax.valueLocal (List._∷_ Syntax.valueLocal (List._∷_ Syntax.valueLocal (List._∷_ Syntax.valueLocal (List._∷_ Syntax.valueLocal (List._∷_ Syntax.valueLocal (List._∷_ Syntax.valueLocal (List._∷_
@@ -393,8 +296,8 @@ abbrev b11 : Syntax.Body
 b11 = Syntax.call "presses::answers::report_at" (List._∷_ (Syntax.copy (Syntax.place 11 List.[])) (List._∷_ (Syntax.copy (Syntax.place 14 List.[])) List.[])) (Syntax.place 21 List.[])
 
 abbrev b12 : Syntax.Body
-b12 = Syntax.call "handset::button::press" (List._∷_ (Syntax.copy (Syntax.place 1 List.[])) (List._∷_ (Syntax.copy (Syntax.place 2 List.[])) (List._∷_ (Syntax.copy (Syntax.place 3 List.[])) (List._∷_ (Syntax.copy (Syntax.place 4 List.[])) (List._∷_ (Syntax.copy (Syntax.place 5 List.[])) (List._∷_ (Syntax.copy (Syntax.place 6 List.[])) (List._∷_
-    (Syntax.copy (Syntax.place 18 List.[])) (List._∷_ (Syntax.copy (Syntax.place 20 List.[])) (List._∷_ (Syntax.copy (Syntax.place 9 List.[])) (List._∷_ (Syntax.copy (Syntax.place 21 List.[])) List.[])))))))))) (Syntax.place 15 List.[])
+b12 = Syntax.call "handset::button::press" (List._∷_ (Syntax.copy (Syntax.place 1 List.[])) (List._∷_ (Syntax.copy (Syntax.place 2 List.[])) (List._∷_ (Syntax.copy (Syntax.place 3 List.[])) (List._∷_ (Syntax.copy (Syntax.place 4 List.[])) (List._∷_ (Syntax.copy (Syntax.place 5 List.[])) (List._∷_ (Syntax.copy (Syntax.place 6 List.[])) (List._∷_ (Syntax.copy
+    (Syntax.place 18 List.[])) (List._∷_ (Syntax.copy (Syntax.place 20 List.[])) (List._∷_ (Syntax.copy (Syntax.place 9 List.[])) (List._∷_ (Syntax.copy (Syntax.place 21 List.[])) List.[])))))))))) (Syntax.place 15 List.[])
 
 abbrev b13 : Syntax.Body
 b13 = Syntax.call "presses::answers::number_in" (List._∷_ (Syntax.copy (Syntax.place 15 List.[])) List.[]) (Syntax.place 12 List.[])
@@ -466,37 +369,25 @@ abbrev pub body : Syntax.Body
 body = b34
 
 abbrev pub Claims : Type 1
-Claims = Kinds.In 1 ps·0 × Kinds.Out 1 ps·0 r·0 × Kinds.In 9 ps·1 × Kinds.Out 9 ps·1 r·1 × Kinds.In 0 ps·2 × Kinds.Out 0 ps·2 r·2 × Kinds.In 0 ps·3 × Kinds.Out 0 ps·3 r·3 × Kinds.In 0 ps·4 × Kinds.Out 0 ps·4 r·4
-
-abbrev pub t0 : List.List Row.Entry
-t0 = List._∷_ (0, row·0) (List._∷_ (1, row·1) (List._∷_ (2, row·2) (List._∷_ (3, row·3) (List._∷_ (4, row·4) (List._∷_ (5, row·5) (List._∷_ (6, row·6) (List._∷_ (7, row·7) (List._∷_ (8, row·8) (List._∷_ (9, row·9) (List._∷_ (10, row·10) (List._∷_ (11, row·11) (List._∷_ (12, row·12) (List._∷_ (13, row·13) (List._∷_ (14, row·12) (List._∷_ (15, row·14) List.[])))))))))))))))
+Claims = Kinds.In 1 ps·0 × Kinds.Out 1 ps·0 r·0 × Kinds.In 9 ps·1 × Kinds.Out 9 ps·1 r·1 × Kinds.In 0 ps·2 × Kinds.Out 0 ps·2 r·2 × Kinds.In 0 ps·2 × Kinds.Out 0 ps·2 r·3 × Kinds.In 0 ps·4 × Kinds.Out 0 ps·4 r·4
 
 abbrev pub t1 : List.List Row.Entry
 t1 = List._∷_ (16, row·15) (List._∷_ (17, row·16) (List._∷_ (18, row·17) (List._∷_ (19, row·18) (List._∷_ (20, row·19) (List._∷_ (21, row·20) List.[])))))
 
-abbrev pub t2 : List.List Row.Entry
-t2 = List._∷_ (0, row·21) (List._∷_ (1, row·1) (List._∷_ (2, row·2) (List._∷_ (3, row·3) (List._∷_ (4, row·4) (List._∷_ (5, row·5) (List._∷_ (6, row·6) (List._∷_ (7, row·7) (List._∷_ (8, row·8) (List._∷_ (9, row·9) (List._∷_ (10, row·12) (List._∷_ (11, row·11) (List._∷_ (12, row·12) (List._∷_ (13, row·13) (List._∷_ (14, row·12) (List._∷_ (15, row·14) List.[])))))))))))))))
-
-abbrev pub t3 : List.List Row.Entry
-t3 = List._∷_ (0, row·0) (List._∷_ (1, row·1) (List._∷_ (2, row·2) (List._∷_ (3, row·3) (List._∷_ (4, row·4) (List._∷_ (5, row·5) (List._∷_ (6, row·6) (List._∷_ (7, row·7) (List._∷_ (8, row·8) (List._∷_ (9, row·9) (List._∷_ (10, row·10) (List._∷_ (11, row·11) (List._∷_ (12, row·10) (List._∷_ (13, row·13) (List._∷_ (14, row·12) (List._∷_ (15, row·14) List.[])))))))))))))))
-
-abbrev pub t4 : List.List Row.Entry
-t4 = List._∷_ (0, row·0) (List._∷_ (1, row·1) (List._∷_ (2, row·2) (List._∷_ (3, row·3) (List._∷_ (4, row·4) (List._∷_ (5, row·5) (List._∷_ (6, row·6) (List._∷_ (7, row·7) (List._∷_ (8, row·8) (List._∷_ (9, row·9) (List._∷_ (10, row·10) (List._∷_ (11, row·11) (List._∷_ (12, row·10) (List._∷_ (13, row·22) (List._∷_ (14, row·12) (List._∷_ (15, row·14) List.[])))))))))))))))
-
 abbrev pub t5 : List.List Row.Entry
-t5 = List._∷_ (0, row·0) (List._∷_ (1, row·1) (List._∷_ (2, row·2) (List._∷_ (3, row·3) (List._∷_ (4, row·4) (List._∷_ (5, row·5) (List._∷_ (6, row·6) (List._∷_ (7, row·7) (List._∷_ (8, row·8) (List._∷_ (9, row·9) (List._∷_ (10, row·10) (List._∷_ (11, row·11) (List._∷_ (12, row·10) (List._∷_ (13, row·22) (List._∷_ (14, row·10) (List._∷_ (15, row·14) List.[])))))))))))))))
+t5 = List._∷_ (0, row·0) (List._∷_ (1, row·1) (List._∷_ (2, row·2) (List._∷_ (3, row·3) (List._∷_ (4, row·4) (List._∷_ (5, row·5) (List._∷_ (6, row·6) (List._∷_ (7, row·7) (List._∷_ (8, row·8) (List._∷_ (9, row·9) (List._∷_ (10, row·10) (List._∷_ (11, row·11) (List._∷_ (12, row·10) (List._∷_ (13, row·22) (List._∷_ (14, row·10) (List._∷_ (15, row·14)
+    List.[])))))))))))))))
 
 abbrev pub t6 : List.List Row.Entry
 t6 = List._∷_ (16, row·23) (List._∷_ (17, row·16) (List._∷_ (18, row·17) (List._∷_ (19, row·18) (List._∷_ (20, row·19) (List._∷_ (21, row·20) List.[])))))
 
 abbrev pub t7 : List.List Row.Entry
-t7 = List._∷_ (0, row·0) (List._∷_ (1, row·1) (List._∷_ (2, row·2) (List._∷_ (3, row·3) (List._∷_ (4, row·4) (List._∷_ (5, row·5) (List._∷_ (6, row·6) (List._∷_ (7, row·7) (List._∷_ (8, row·8) (List._∷_ (9, row·9) (List._∷_ (10, row·10) (List._∷_ (11, row·11) (List._∷_ (12, row·12) (List._∷_ (13, row·13) (List._∷_ (14, row·10) (List._∷_ (15, row·14) List.[])))))))))))))))
-
-abbrev pub t8 : List.List Row.Entry
-t8 = List._∷_ (0, row·0) (List._∷_ (1, row·1) (List._∷_ (2, row·2) (List._∷_ (3, row·3) (List._∷_ (4, row·4) (List._∷_ (5, row·5) (List._∷_ (6, row·6) (List._∷_ (7, row·7) (List._∷_ (8, row·8) (List._∷_ (9, row·9) (List._∷_ (10, row·10) (List._∷_ (11, row·11) (List._∷_ (12, row·12) (List._∷_ (13, row·22) (List._∷_ (14, row·10) (List._∷_ (15, row·14) List.[])))))))))))))))
+t7 = List._∷_ (0, row·0) (List._∷_ (1, row·1) (List._∷_ (2, row·2) (List._∷_ (3, row·3) (List._∷_ (4, row·4) (List._∷_ (5, row·5) (List._∷_ (6, row·6) (List._∷_ (7, row·7) (List._∷_ (8, row·8) (List._∷_ (9, row·9) (List._∷_ (10, row·10) (List._∷_ (11, row·11) (List._∷_ (12, row·12) (List._∷_ (13, row·13) (List._∷_ (14, row·10) (List._∷_ (15, row·14)
+    List.[])))))))))))))))
 
 abbrev pub t9 : List.List Row.Entry
-t9 = List._∷_ (0, row·0) (List._∷_ (1, row·1) (List._∷_ (2, row·2) (List._∷_ (3, row·3) (List._∷_ (4, row·4) (List._∷_ (5, row·5) (List._∷_ (6, row·6) (List._∷_ (7, row·24) (List._∷_ (8, row·8) (List._∷_ (9, row·9) (List._∷_ (10, row·10) (List._∷_ (11, row·11) (List._∷_ (12, row·12) (List._∷_ (13, row·13) (List._∷_ (14, row·10) (List._∷_ (15, row·14) List.[])))))))))))))))
+t9 = List._∷_ (0, row·0) (List._∷_ (1, row·1) (List._∷_ (2, row·2) (List._∷_ (3, row·3) (List._∷_ (4, row·4) (List._∷_ (5, row·5) (List._∷_ (6, row·6) (List._∷_ (7, row·24) (List._∷_ (8, row·8) (List._∷_ (9, row·9) (List._∷_ (10, row·10) (List._∷_ (11, row·11) (List._∷_ (12, row·12) (List._∷_ (13, row·13) (List._∷_ (14, row·10) (List._∷_ (15, row·14)
+    List.[])))))))))))))))
 
 abbrev pub t10 : List.List Row.Entry
 t10 = List._∷_ (16, row·15) (List._∷_ (17, row·25) (List._∷_ (18, row·17) (List._∷_ (19, row·18) (List._∷_ (20, row·19) (List._∷_ (21, row·20) List.[])))))
@@ -505,7 +396,8 @@ abbrev pub t11 : List.List Row.Entry
 t11 = List._∷_ (16, row·15) (List._∷_ (17, row·16) (List._∷_ (18, row·26) (List._∷_ (19, row·18) (List._∷_ (20, row·19) (List._∷_ (21, row·20) List.[])))))
 
 abbrev pub t12 : List.List Row.Entry
-t12 = List._∷_ (0, row·0) (List._∷_ (1, row·1) (List._∷_ (2, row·2) (List._∷_ (3, row·3) (List._∷_ (4, row·4) (List._∷_ (5, row·5) (List._∷_ (6, row·6) (List._∷_ (7, row·24) (List._∷_ (8, row·27) (List._∷_ (9, row·9) (List._∷_ (10, row·10) (List._∷_ (11, row·11) (List._∷_ (12, row·12) (List._∷_ (13, row·13) (List._∷_ (14, row·10) (List._∷_ (15, row·14) List.[])))))))))))))))
+t12 = List._∷_ (0, row·0) (List._∷_ (1, row·1) (List._∷_ (2, row·2) (List._∷_ (3, row·3) (List._∷_ (4, row·4) (List._∷_ (5, row·5) (List._∷_ (6, row·6) (List._∷_ (7, row·24) (List._∷_ (8, row·27) (List._∷_ (9, row·9) (List._∷_ (10, row·10) (List._∷_ (11, row·11) (List._∷_ (12, row·12) (List._∷_ (13, row·13) (List._∷_ (14, row·10) (List._∷_ (15, row·14)
+    List.[])))))))))))))))
 
 abbrev pub t13 : List.List Row.Entry
 t13 = List._∷_ (16, row·15) (List._∷_ (17, row·16) (List._∷_ (18, row·26) (List._∷_ (19, row·28) (List._∷_ (20, row·19) (List._∷_ (21, row·20) List.[])))))
@@ -517,7 +409,8 @@ abbrev pub t15 : List.List Row.Entry
 t15 = List._∷_ (16, row·15) (List._∷_ (17, row·16) (List._∷_ (18, row·26) (List._∷_ (19, row·18) (List._∷_ (20, row·29) (List._∷_ (21, row·30) List.[])))))
 
 abbrev pub t16 : List.List Row.Entry
-t16 = List._∷_ (0, row·0) (List._∷_ (1, row·1) (List._∷_ (2, row·2) (List._∷_ (3, row·3) (List._∷_ (4, row·4) (List._∷_ (5, row·5) (List._∷_ (6, row·6) (List._∷_ (7, row·24) (List._∷_ (8, row·27) (List._∷_ (9, row·9) (List._∷_ (10, row·10) (List._∷_ (11, row·11) (List._∷_ (12, row·12) (List._∷_ (13, row·13) (List._∷_ (14, row·10) (List._∷_ (15, row·31) List.[])))))))))))))))
+t16 = List._∷_ (0, row·0) (List._∷_ (1, row·1) (List._∷_ (2, row·2) (List._∷_ (3, row·3) (List._∷_ (4, row·4) (List._∷_ (5, row·5) (List._∷_ (6, row·6) (List._∷_ (7, row·24) (List._∷_ (8, row·27) (List._∷_ (9, row·9) (List._∷_ (10, row·10) (List._∷_ (11, row·11) (List._∷_ (12, row·12) (List._∷_ (13, row·13) (List._∷_ (14, row·10) (List._∷_ (15, row·31)
+    List.[])))))))))))))))
 
 abbrev pub t17 : List.List Row.Entry
 t17 = List._∷_ (16, row·15) (List._∷_ (17, row·16) (List._∷_ (18, row·32) (List._∷_ (19, row·18) (List._∷_ (20, row·33) (List._∷_ (21, row·30) List.[])))))
@@ -525,77 +418,27 @@ t17 = List._∷_ (16, row·15) (List._∷_ (17, row·16) (List._∷_ (18, row·3
 abbrev pub t18 : List.List Row.Entry
 t18 = List._∷_ (16, row·15) (List._∷_ (17, row·16) (List._∷_ (18, row·32) (List._∷_ (19, row·18) (List._∷_ (20, row·33) (List._∷_ (21, row·20) List.[])))))
 
-abbrev pub t19 : List.List Row.Entry
-t19 = List._∷_ (0, row·0) (List._∷_ (1, row·1) (List._∷_ (2, row·2) (List._∷_ (3, row·3) (List._∷_ (4, row·4) (List._∷_ (5, row·5) (List._∷_ (6, row·6) (List._∷_ (7, row·7) (List._∷_ (8, row·27) (List._∷_ (9, row·9) (List._∷_ (10, row·10) (List._∷_ (11, row·11) (List._∷_ (12, row·12) (List._∷_ (13, row·13) (List._∷_ (14, row·10) (List._∷_ (15, row·31) List.[])))))))))))))))
-
 abbrev pub t20 : List.List Row.Entry
 t20 = List._∷_ (16, row·15) (List._∷_ (17, row·16) (List._∷_ (18, row·17) (List._∷_ (19, row·18) (List._∷_ (20, row·33) (List._∷_ (21, row·20) List.[])))))
 
-abbrev pub t21 : List.List Row.Entry
-t21 = List._∷_ (0, row·0) (List._∷_ (1, row·1) (List._∷_ (2, row·2) (List._∷_ (3, row·3) (List._∷_ (4, row·4) (List._∷_ (5, row·5) (List._∷_ (6, row·6) (List._∷_ (7, row·7) (List._∷_ (8, row·8) (List._∷_ (9, row·9) (List._∷_ (10, row·10) (List._∷_ (11, row·11) (List._∷_ (12, row·12) (List._∷_ (13, row·13) (List._∷_ (14, row·10) (List._∷_ (15, row·31) List.[])))))))))))))))
-
-abbrev pub t22 : List.List Row.Entry
-t22 = List._∷_ (0, row·0) (List._∷_ (1, row·1) (List._∷_ (2, row·2) (List._∷_ (3, row·3) (List._∷_ (4, row·4) (List._∷_ (5, row·5) (List._∷_ (6, row·6) (List._∷_ (7, row·7) (List._∷_ (8, row·8) (List._∷_ (9, row·9) (List._∷_ (10, row·10) (List._∷_ (11, row·11) (List._∷_ (12, row·10) (List._∷_ (13, row·13) (List._∷_ (14, row·10) (List._∷_ (15, row·31) List.[])))))))))))))))
-
-abbrev pub t23 : List.List Row.Entry
-t23 = List._∷_ (0, row·0) (List._∷_ (1, row·1) (List._∷_ (2, row·2) (List._∷_ (3, row·3) (List._∷_ (4, row·4) (List._∷_ (5, row·5) (List._∷_ (6, row·6) (List._∷_ (7, row·7) (List._∷_ (8, row·8) (List._∷_ (9, row·9) (List._∷_ (10, row·10) (List._∷_ (11, row·11) (List._∷_ (12, row·10) (List._∷_ (13, row·22) (List._∷_ (14, row·10) (List._∷_ (15, row·31) List.[])))))))))))))))
-
-abbrev pub t24 : List.List Row.Entry
-t24 = List._∷_ (0, row·21) (List._∷_ (1, row·1) (List._∷_ (2, row·2) (List._∷_ (3, row·3) (List._∷_ (4, row·4) (List._∷_ (5, row·5) (List._∷_ (6, row·6) (List._∷_ (7, row·7) (List._∷_ (8, row·8) (List._∷_ (9, row·9) (List._∷_ (10, row·10) (List._∷_ (11, row·11) (List._∷_ (12, row·10) (List._∷_ (13, row·22) (List._∷_ (14, row·10) (List._∷_ (15, row·14) List.[])))))))))))))))
-
-abbrev pub t25 : List.List Row.Entry
-t25 = List._∷_ (0, row·21) (List._∷_ (1, row·1) (List._∷_ (2, row·2) (List._∷_ (3, row·3) (List._∷_ (4, row·4) (List._∷_ (5, row·5) (List._∷_ (6, row·6) (List._∷_ (7, row·7) (List._∷_ (8, row·8) (List._∷_ (9, row·9) (List._∷_ (10, row·10) (List._∷_ (11, row·11) (List._∷_ (12, row·12) (List._∷_ (13, row·22) (List._∷_ (14, row·10) (List._∷_ (15, row·14) List.[])))))))))))))))
-
-abbrev pub t26 : List.List Row.Entry
-t26 = List._∷_ (0, row·21) (List._∷_ (1, row·1) (List._∷_ (2, row·2) (List._∷_ (3, row·3) (List._∷_ (4, row·4) (List._∷_ (5, row·5) (List._∷_ (6, row·6) (List._∷_ (7, row·7) (List._∷_ (8, row·8) (List._∷_ (9, row·9) (List._∷_ (10, row·10) (List._∷_ (11, row·11) (List._∷_ (12, row·12) (List._∷_ (13, row·13) (List._∷_ (14, row·10) (List._∷_ (15, row·14) List.[])))))))))))))))
-
-abbrev pub t27 : List.List Row.Entry
-t27 = List._∷_ (0, row·21) (List._∷_ (1, row·1) (List._∷_ (2, row·2) (List._∷_ (3, row·3) (List._∷_ (4, row·4) (List._∷_ (5, row·5) (List._∷_ (6, row·6) (List._∷_ (7, row·7) (List._∷_ (8, row·8) (List._∷_ (9, row·9) (List._∷_ (10, row·10) (List._∷_ (11, row·11) (List._∷_ (12, row·12) (List._∷_ (13, row·13) (List._∷_ (14, row·12) (List._∷_ (15, row·14) List.[])))))))))))))))
-
 abbrev pub T0 : Row.Cx
-T0 = record { locals = List._++_ t0 t1; slots = List.[] }
+T0 = record
+    { locals = List._++_ (List._∷_ (0, row·0) (List._∷_ (1, row·1) (List._∷_ (2, row·2) (List._∷_ (3, row·3) (List._∷_ (4, row·4) (List._∷_ (5, row·5) (List._∷_ (6, row·6) (List._∷_ (7, row·7) (List._∷_ (8, row·8) (List._∷_ (9, row·9) (List._∷_ (10, row·10) (List._∷_ (11, row·11) (List._∷_ (12, row·12) (List._∷_ (13, row·13) (List._∷_ (14, row·12) (List._∷_ (15, row·14) List.[])))))))))))))))) t1; slots = List.[] }
 
 abbrev pub T1 : Row.Cx
-T1 = record { locals = List._++_ t2 t1; slots = List.[] }
-
-abbrev pub T2 : Row.Cx
-T2 = record { locals = List._++_ t0 t1; slots = List.[] }
-
-abbrev pub T3 : Row.Cx
-T3 = record { locals = List._++_ t0 t1; slots = List.[] }
-
-abbrev pub T4 : Row.Cx
-T4 = record { locals = List._++_ t0 t1; slots = List.[] }
-
-abbrev pub T5 : Row.Cx
-T5 = record { locals = List._++_ t0 t1; slots = List.[] }
-
-abbrev pub T6 : Row.Cx
-T6 = record { locals = List._++_ t0 t1; slots = List.[] }
-
-abbrev pub T7 : Row.Cx
-T7 = record { locals = List._++_ t0 t1; slots = List.[] }
-
-abbrev pub T8 : Row.Cx
-T8 = record { locals = List._++_ t0 t1; slots = List.[] }
-
-abbrev pub T9 : Row.Cx
-T9 = record { locals = List._++_ t0 t1; slots = List.[] }
-
-abbrev pub T10 : Row.Cx
-T10 = record { locals = List._++_ t0 t1; slots = List.[] }
+T1 = record
+    { locals = List._++_ (List._∷_ (0, row·21) (List._∷_ (1, row·1) (List._∷_ (2, row·2) (List._∷_ (3, row·3) (List._∷_ (4, row·4) (List._∷_ (5, row·5) (List._∷_ (6, row·6) (List._∷_ (7, row·7) (List._∷_ (8, row·8) (List._∷_ (9, row·9) (List._∷_ (10, row·12) (List._∷_ (11, row·11) (List._∷_ (12, row·12) (List._∷_ (13, row·13) (List._∷_ (14, row·12) (List._∷_ (15, row·14) List.[])))))))))))))))) t1; slots = List.[] }
 
 abbrev pub T11 : Row.Cx
-T11 = record { locals = List._++_ t3 t1; slots = List.[] }
+T11 = record
+    { locals = List._++_ (List._∷_ (0, row·0) (List._∷_ (1, row·1) (List._∷_ (2, row·2) (List._∷_ (3, row·3) (List._∷_ (4, row·4) (List._∷_ (5, row·5) (List._∷_ (6, row·6) (List._∷_ (7, row·7) (List._∷_ (8, row·8) (List._∷_ (9, row·9) (List._∷_ (10, row·10) (List._∷_ (11, row·11) (List._∷_ (12, row·10) (List._∷_ (13, row·13) (List._∷_ (14, row·12) (List._∷_ (15, row·14) List.[])))))))))))))))) t1; slots = List.[] }
 
 abbrev pub T12 : Row.Cx
-T12 = record { locals = List._++_ t4 t1; slots = List.[] }
+T12 = record
+    { locals = List._++_ (List._∷_ (0, row·0) (List._∷_ (1, row·1) (List._∷_ (2, row·2) (List._∷_ (3, row·3) (List._∷_ (4, row·4) (List._∷_ (5, row·5) (List._∷_ (6, row·6) (List._∷_ (7, row·7) (List._∷_ (8, row·8) (List._∷_ (9, row·9) (List._∷_ (10, row·10) (List._∷_ (11, row·11) (List._∷_ (12, row·10) (List._∷_ (13, row·22) (List._∷_ (14, row·12) (List._∷_ (15, row·14) List.[])))))))))))))))) t1; slots = List.[] }
 
 abbrev pub T13 : Row.Cx
 T13 = record { locals = List._++_ t5 t1; slots = List.[] }
-
-abbrev pub T14 : Row.Cx
-T14 = record { locals = List._++_ t5 t1; slots = List.[] }
 
 abbrev pub T15 : Row.Cx
 T15 = record { locals = List._++_ t5 t6; slots = List.[] }
@@ -604,16 +447,11 @@ abbrev pub T16 : Row.Cx
 T16 = record { locals = List._++_ t7 t1; slots = List.[] }
 
 abbrev pub T17 : Row.Cx
-T17 = record { locals = List._++_ t8 t6; slots = List.[] }
+T17 = record
+    { locals = List._++_ (List._∷_ (0, row·0) (List._∷_ (1, row·1) (List._∷_ (2, row·2) (List._∷_ (3, row·3) (List._∷_ (4, row·4) (List._∷_ (5, row·5) (List._∷_ (6, row·6) (List._∷_ (7, row·7) (List._∷_ (8, row·8) (List._∷_ (9, row·9) (List._∷_ (10, row·10) (List._∷_ (11, row·11) (List._∷_ (12, row·12) (List._∷_ (13, row·22) (List._∷_ (14, row·10) (List._∷_ (15, row·14) List.[])))))))))))))))) t6; slots = List.[] }
 
 abbrev pub T18 : Row.Cx
 T18 = record { locals = List._++_ t7 t6; slots = List.[] }
-
-abbrev pub T19 : Row.Cx
-T19 = record { locals = List._++_ t7 t1; slots = List.[] }
-
-abbrev pub T20 : Row.Cx
-T20 = record { locals = List._++_ t5 t1; slots = List.[] }
 
 abbrev pub T22 : Row.Cx
 T22 = record { locals = List._++_ t9 t10; slots = List.[] }
@@ -637,49 +475,48 @@ abbrev pub T29 : Row.Cx
 T29 = record { locals = List._++_ t16 t18; slots = List.[] }
 
 abbrev pub T31 : Row.Cx
-T31 = record { locals = List._++_ t19 t20; slots = List.[] }
-
-abbrev pub T32 : Row.Cx
-T32 = record { locals = List._++_ t19 t20; slots = List.[] }
+T31 = record
+    { locals = List._++_ (List._∷_ (0, row·0) (List._∷_ (1, row·1) (List._∷_ (2, row·2) (List._∷_ (3, row·3) (List._∷_ (4, row·4) (List._∷_ (5, row·5) (List._∷_ (6, row·6) (List._∷_ (7, row·7) (List._∷_ (8, row·27) (List._∷_ (9, row·9) (List._∷_ (10, row·10) (List._∷_ (11, row·11) (List._∷_ (12, row·12) (List._∷_ (13, row·13) (List._∷_ (14, row·10) (List._∷_ (15, row·31) List.[])))))))))))))))) t20; slots = List.[] }
 
 abbrev pub T35 : Row.Cx
-T35 = record { locals = List._++_ t21 t1; slots = List.[] }
-
-abbrev pub T36 : Row.Cx
-T36 = record { locals = List._++_ t21 t1; slots = List.[] }
+T35 = record
+    { locals = List._++_ (List._∷_ (0, row·0) (List._∷_ (1, row·1) (List._∷_ (2, row·2) (List._∷_ (3, row·3) (List._∷_ (4, row·4) (List._∷_ (5, row·5) (List._∷_ (6, row·6) (List._∷_ (7, row·7) (List._∷_ (8, row·8) (List._∷_ (9, row·9) (List._∷_ (10, row·10) (List._∷_ (11, row·11) (List._∷_ (12, row·12) (List._∷_ (13, row·13) (List._∷_ (14, row·10) (List._∷_ (15, row·31) List.[])))))))))))))))) t1; slots = List.[] }
 
 abbrev pub T38 : Row.Cx
-T38 = record { locals = List._++_ t22 t1; slots = List.[] }
+T38 = record
+    { locals = List._++_ (List._∷_ (0, row·0) (List._∷_ (1, row·1) (List._∷_ (2, row·2) (List._∷_ (3, row·3) (List._∷_ (4, row·4) (List._∷_ (5, row·5) (List._∷_ (6, row·6) (List._∷_ (7, row·7) (List._∷_ (8, row·8) (List._∷_ (9, row·9) (List._∷_ (10, row·10) (List._∷_ (11, row·11) (List._∷_ (12, row·10) (List._∷_ (13, row·13) (List._∷_ (14, row·10) (List._∷_ (15, row·31) List.[])))))))))))))))) t1; slots = List.[] }
 
 abbrev pub T39 : Row.Cx
-T39 = record { locals = List._++_ t23 t1; slots = List.[] }
-
-abbrev pub T40 : Row.Cx
-T40 = record { locals = List._++_ t5 t1; slots = List.[] }
-
-abbrev pub T41 : Row.Cx
-T41 = record { locals = List._++_ t5 t1; slots = List.[] }
+T39 = record
+    { locals = List._++_ (List._∷_ (0, row·0) (List._∷_ (1, row·1) (List._∷_ (2, row·2) (List._∷_ (3, row·3) (List._∷_ (4, row·4) (List._∷_ (5, row·5) (List._∷_ (6, row·6) (List._∷_ (7, row·7) (List._∷_ (8, row·8) (List._∷_ (9, row·9) (List._∷_ (10, row·10) (List._∷_ (11, row·11) (List._∷_ (12, row·10) (List._∷_ (13, row·22) (List._∷_ (14, row·10) (List._∷_ (15, row·31) List.[])))))))))))))))) t1; slots = List.[] }
 
 abbrev pub T42 : Row.Cx
-T42 = record { locals = List._++_ t24 t1; slots = List.[] }
+T42 = record
+    { locals = List._++_ (List._∷_ (0, row·21) (List._∷_ (1, row·1) (List._∷_ (2, row·2) (List._∷_ (3, row·3) (List._∷_ (4, row·4) (List._∷_ (5, row·5) (List._∷_ (6, row·6) (List._∷_ (7, row·7) (List._∷_ (8, row·8) (List._∷_ (9, row·9) (List._∷_ (10, row·10) (List._∷_ (11, row·11) (List._∷_ (12, row·10) (List._∷_ (13, row·22) (List._∷_ (14, row·10) (List._∷_ (15, row·14) List.[])))))))))))))))) t1; slots = List.[] }
 
 abbrev pub T43 : Row.Cx
-T43 = record { locals = List._++_ t25 t1; slots = List.[] }
+T43 = record
+    { locals = List._++_ (List._∷_ (0, row·21) (List._∷_ (1, row·1) (List._∷_ (2, row·2) (List._∷_ (3, row·3) (List._∷_ (4, row·4) (List._∷_ (5, row·5) (List._∷_ (6, row·6) (List._∷_ (7, row·7) (List._∷_ (8, row·8) (List._∷_ (9, row·9) (List._∷_ (10, row·10) (List._∷_ (11, row·11) (List._∷_ (12, row·12) (List._∷_ (13, row·22) (List._∷_ (14, row·10) (List._∷_ (15, row·14) List.[])))))))))))))))) t1; slots = List.[] }
 
 abbrev pub T44 : Row.Cx
-T44 = record { locals = List._++_ t26 t1; slots = List.[] }
+T44 = record
+    { locals = List._++_ (List._∷_ (0, row·21) (List._∷_ (1, row·1) (List._∷_ (2, row·2) (List._∷_ (3, row·3) (List._∷_ (4, row·4) (List._∷_ (5, row·5) (List._∷_ (6, row·6) (List._∷_ (7, row·7) (List._∷_ (8, row·8) (List._∷_ (9, row·9) (List._∷_ (10, row·10) (List._∷_ (11, row·11) (List._∷_ (12, row·12) (List._∷_ (13, row·13) (List._∷_ (14, row·10) (List._∷_ (15, row·14) List.[])))))))))))))))) t1; slots = List.[] }
 
 abbrev pub T45 : Row.Cx
-T45 = record { locals = List._++_ t27 t1; slots = List.[] }
+T45 = record
+    { locals = List._++_ (List._∷_ (0, row·21) (List._∷_ (1, row·1) (List._∷_ (2, row·2) (List._∷_ (3, row·3) (List._∷_ (4, row·4) (List._∷_ (5, row·5) (List._∷_ (6, row·6) (List._∷_ (7, row·7) (List._∷_ (8, row·8) (List._∷_ (9, row·9) (List._∷_ (10, row·10) (List._∷_ (11, row·11) (List._∷_ (12, row·12) (List._∷_ (13, row·13) (List._∷_ (14, row·12) (List._∷_ (15, row·14) List.[])))))))))))))))) t1; slots = List.[] }
 
-abbrev pub T46 : Row.Cx
-T46 = record { locals = List._++_ t2 t1; slots = List.[] }
+abbrev args·0 : ArgsT ps·0 (T26 .locals)
+args·0 = (record { pos = 11; ty = ty·11; ref = λ x. x }, (Num.vAt 14 λ x. x, tt))
+
+abbrev args·1 : ArgsT ps·1 (T27 .locals)
+args·1 = (record { pos = 1; ty = ty·5; ref = λ x. x }, (record { pos = 2; ty = ty·6; ref = λ x. x }, (record { pos = 3; ty = ty·3; ref = λ x. x }, (record { pos = 4; ty = ty·7; ref = λ x. x }, (record { pos = 5; ty = ty·8; ref = λ x. x }, (record { pos = 6; ty = ty·9; ref = λ x. x }, (record { pos = 18; ty = ty·2; ref = λ x. x }, (record { pos = 20; ty = ty·1; ref = λ x. x }, (record { pos = 9; ty = ty·0; ref = λ x. x }, (record { pos = 21; st = List.[]; d = 0; at = λ x. x }, tt))))))))))
 
 abbrev pub O0 : Typed.Outs
 O0 = record { next = Option.none; exits = List.[]; returns = Option.some T1 }
 
 abbrev pub O1 : Typed.Outs
-O1 = Typed.withNext (Option.some T14) O0
+O1 = Typed.withNext (Option.some T13) O0
 
 abbrev pub O2 : Typed.Outs
 O2 = Typed.inBlock₀ O1
@@ -691,45 +528,45 @@ abbrev pub O4 : Typed.Outs
 O4 = Typed.withNext (Option.some T16) O3
 
 abbrev pub InvT-loop : Type 1
-InvT-loop = List.List (Referent.rtF (Referent.fInt Syntax.w16) .Denot) → List.List (Referent.rtF (Referent.fInt Syntax.w16) .Denot) → List.List (Referent.rtF (Referent.fInt Syntax.w8) .Denot) → List.List (Referent.rtF (Referent.fInt Syntax.w16) .Denot) → List.List (Referent.rtF (Referent.fInt Syntax.w16) .Denot) →
-    List.List (Referent.rtF (Referent.fInt Syntax.w32) .Denot) → List.List (Referent.rtF (Referent.fInt Syntax.w16) .Denot) → List.List (Referent.rtF (Referent.fInt Syntax.w8) .Denot) → List.List (Rec.rt .Denot) → Rows.sc-here (Row.sInt Syntax.w64) .Mod → List.List (Referent.rtF (Referent.fInt Syntax.w16) .Denot) → Rows.sc-here (Row.sInt Syntax.w64) .Mod →
-    Rows.sc-here (Row.sInt Syntax.w32) .Mod → Rows.sc-here (Row.sInt Syntax.w64) .Mod → List.List (Referent.rtF (Referent.fInt Syntax.w16) .Denot) → List.List (Referent.rtF (Referent.fInt Syntax.w8) .Denot) → Rows.sc-here (Row.sInt Syntax.w64) .Mod → Rows.sc-here (Row.sInt Syntax.w32) .Mod → Rows.sc-here (Row.sInt Syntax.w64) .Mod → Type 0
+InvT-loop = List.List (Referent.rtF (Referent.fInt Syntax.w16) .Denot) → List.List (Referent.rtF (Referent.fInt Syntax.w16) .Denot) → List.List (Referent.rtF (Referent.fInt Syntax.w8) .Denot) → List.List (Referent.rtF (Referent.fInt Syntax.w16) .Denot) → List.List (Referent.rtF (Referent.fInt Syntax.w16) .Denot) → List.List (Referent.rtF (Referent.fInt
+    Syntax.w32) .Denot) → List.List (Referent.rtF (Referent.fInt Syntax.w16) .Denot) → List.List (Referent.rtF (Referent.fInt Syntax.w8) .Denot) → List.List (Rec.rt .Denot) → Rows.sc-here (Row.sInt Syntax.w64) .Mod → List.List (Referent.rtF (Referent.fInt Syntax.w16) .Denot) → Rows.sc-here (Row.sInt Syntax.w64) .Mod → Rows.sc-here (Row.sInt Syntax.w32) .Mod →
+    Rows.sc-here (Row.sInt Syntax.w64) .Mod → List.List (Referent.rtF (Referent.fInt Syntax.w16) .Denot) → List.List (Referent.rtF (Referent.fInt Syntax.w8) .Denot) → Rows.sc-here (Row.sInt Syntax.w64) .Mod → Rows.sc-here (Row.sInt Syntax.w32) .Mod → Rows.sc-here (Row.sInt Syntax.w64) .Mod → Type 0
 
 abbrev pub MeasureT-loop : Type 0
-MeasureT-loop = List.List (Referent.rtF (Referent.fInt Syntax.w16) .Denot) → List.List (Referent.rtF (Referent.fInt Syntax.w16) .Denot) → List.List (Referent.rtF (Referent.fInt Syntax.w8) .Denot) → List.List (Referent.rtF (Referent.fInt Syntax.w16) .Denot) → List.List (Referent.rtF (Referent.fInt Syntax.w16) .Denot) →
-    List.List (Referent.rtF (Referent.fInt Syntax.w32) .Denot) → List.List (Referent.rtF (Referent.fInt Syntax.w16) .Denot) → List.List (Referent.rtF (Referent.fInt Syntax.w8) .Denot) → List.List (Rec.rt .Denot) → Rows.sc-here (Row.sInt Syntax.w64) .Mod → List.List (Referent.rtF (Referent.fInt Syntax.w16) .Denot) → Rows.sc-here (Row.sInt Syntax.w64) .Mod →
-    Rows.sc-here (Row.sInt Syntax.w32) .Mod → Rows.sc-here (Row.sInt Syntax.w64) .Mod → List.List (Referent.rtF (Referent.fInt Syntax.w16) .Denot) → List.List (Referent.rtF (Referent.fInt Syntax.w8) .Denot) → Rows.sc-here (Row.sInt Syntax.w64) .Mod → Rows.sc-here (Row.sInt Syntax.w32) .Mod → Rows.sc-here (Row.sInt Syntax.w64) .Mod → Nat.ℕ
+MeasureT-loop = List.List (Referent.rtF (Referent.fInt Syntax.w16) .Denot) → List.List (Referent.rtF (Referent.fInt Syntax.w16) .Denot) → List.List (Referent.rtF (Referent.fInt Syntax.w8) .Denot) → List.List (Referent.rtF (Referent.fInt Syntax.w16) .Denot) → List.List (Referent.rtF (Referent.fInt Syntax.w16) .Denot) → List.List (Referent.rtF (Referent.fInt
+    Syntax.w32) .Denot) → List.List (Referent.rtF (Referent.fInt Syntax.w16) .Denot) → List.List (Referent.rtF (Referent.fInt Syntax.w8) .Denot) → List.List (Rec.rt .Denot) → Rows.sc-here (Row.sInt Syntax.w64) .Mod → List.List (Referent.rtF (Referent.fInt Syntax.w16) .Denot) → Rows.sc-here (Row.sInt Syntax.w64) .Mod → Rows.sc-here (Row.sInt Syntax.w32) .Mod →
+    Rows.sc-here (Row.sInt Syntax.w64) .Mod → List.List (Referent.rtF (Referent.fInt Syntax.w16) .Denot) → List.List (Referent.rtF (Referent.fInt Syntax.w8) .Denot) → Rows.sc-here (Row.sInt Syntax.w64) .Mod → Rows.sc-here (Row.sInt Syntax.w32) .Mod → Rows.sc-here (Row.sInt Syntax.w64) .Mod → Nat.ℕ
 
 module _ (claims· : Claims) where
-  abbrev s0 : Typed.Gives T0 T2
+  abbrev s0 : Typed.Gives T0 T0
   s0 = Know.k-shs-known (Referent.fInt Syntax.w16) T0 1 0 ty·5 Row.off 0 λ x. x
 
-  abbrev s1 : Typed.Gives T2 T3
-  s1 = Know.k-shs-known (Referent.fInt Syntax.w16) T2 2 1 ty·6 Row.off 0 λ x. x
+  abbrev s1 : Typed.Gives T0 T0
+  s1 = Know.k-shs-known (Referent.fInt Syntax.w16) T0 2 1 ty·6 Row.off 0 λ x. x
 
-  abbrev s2 : Typed.Gives T3 T4
-  s2 = Know.k-shs-known (Referent.fInt Syntax.w8) T3 3 2 ty·3 Row.off 0 λ x. x
+  abbrev s2 : Typed.Gives T0 T0
+  s2 = Know.k-shs-known (Referent.fInt Syntax.w8) T0 3 2 ty·3 Row.off 0 λ x. x
 
-  abbrev s3 : Typed.Gives T4 T5
-  s3 = Know.k-shs-known (Referent.fInt Syntax.w16) T4 4 3 ty·7 Row.off 0 λ x. x
+  abbrev s3 : Typed.Gives T0 T0
+  s3 = Know.k-shs-known (Referent.fInt Syntax.w16) T0 4 3 ty·7 Row.off 0 λ x. x
 
-  abbrev s4 : Typed.Gives T5 T6
-  s4 = Know.k-shs-known (Referent.fInt Syntax.w16) T5 5 4 ty·8 Row.off 0 λ x. x
+  abbrev s4 : Typed.Gives T0 T0
+  s4 = Know.k-shs-known (Referent.fInt Syntax.w16) T0 5 4 ty·8 Row.off 0 λ x. x
 
-  abbrev s5 : Typed.Gives T6 T7
-  s5 = Know.k-shs-known (Referent.fInt Syntax.w32) T6 6 5 ty·9 Row.off 0 λ x. x
+  abbrev s5 : Typed.Gives T0 T0
+  s5 = Know.k-shs-known (Referent.fInt Syntax.w32) T0 6 5 ty·9 Row.off 0 λ x. x
 
-  abbrev s6 : Typed.Gives T7 T8
-  s6 = Know.k-sl-known (Referent.fInt Syntax.w16) T7 7 6 ty·10 Row.off 0 λ x. x
+  abbrev s6 : Typed.Gives T0 T0
+  s6 = Know.k-sl-known (Referent.fInt Syntax.w16) T0 7 6 ty·10 Row.off 0 λ x. x
 
-  abbrev s7 : Typed.Gives T8 T9
-  s7 = Know.k-sl-known (Referent.fInt Syntax.w8) T8 8 7 ty·4 Row.off 0 λ x. x
+  abbrev s7 : Typed.Gives T0 T0
+  s7 = Know.k-sl-known (Referent.fInt Syntax.w8) T0 8 7 ty·4 Row.off 0 λ x. x
 
-  abbrev s8 : Typed.Gives T9 T10
-  s8 = Know.k-shs-known (Referent.fInt Syntax.w16) T9 11 9 ty·11 Row.off 0 λ x. x
+  abbrev s8 : Typed.Gives T0 T0
+  s8 = Know.k-shs-known (Referent.fInt Syntax.w16) T0 11 9 ty·11 Row.off 0 λ x. x
 
-  abbrev s9 : Typed.Mo T10 → Typed.Mo T11
-  s9 = Scalar.n-use T10 (Scalar.oInt Syntax.w64 0) 12 (Rows.sc-here (Row.sInt Syntax.w64)) (Row.sInt Syntax.w64 .of)
+  abbrev s9 : Typed.Mo T0 → Typed.Mo T11
+  s9 = Scalar.n-use T0 (Scalar.oInt Syntax.w64 0) 12 (Rows.sc-here (Row.sInt Syntax.w64)) (Row.sInt Syntax.w64 .of)
 
   abbrev s10 : Typed.Mo T11 → Typed.Mo T12
   s10 = Scalar.n-use T11 (Scalar.oInt Syntax.w32 0) 13 (Rows.sc-here (Row.sInt Syntax.w32)) (Row.sInt Syntax.w32 .of)
@@ -746,10 +583,10 @@ module _ (claims· : Claims) where
   abbrev s14 : Typed.Mo T17 → Typed.Mo T18
   s14 = Scalar.n-room T17 13 (Syntax.tyInt Syntax.w32)
 
-  abbrev s15 : Typed.Mo T18 → Typed.Mo T19
+  abbrev s15 : Typed.Mo T18 → Typed.Mo T16
   s15 = Scalar.n-room T18 16 Syntax.tyBool
 
-  abbrev s16 : Typed.Mo T15 → Typed.Mo T20
+  abbrev s16 : Typed.Mo T15 → Typed.Mo T13
   s16 = Scalar.n-room T15 16 Syntax.tyBool
 
   abbrev s18 : Typed.Gives T16 T22
@@ -765,53 +602,10 @@ module _ (claims· : Claims) where
   s22 = Relend.k-sl-aggregate (Referent.rtF (Referent.fInt Syntax.w8)) (Relend.asMut (Referent.rtF (Referent.fInt Syntax.w8))) T25 19 20 11 ty·1 ty·1 (λ x. x) (Scalar.oFld 8 (List._∷_ (Syntax.field 1) List.[]) (Syntax.tyInt Syntax.w64) 8 λ v. Shared.lenV (v .0))
 
   abbrev s23 : Typed.Both T26 T27
-  s23 = Call.callB ps·0 r·0 (claims· .0) (claims· .1) T26 (
-    record { pos = 11; ty = Syntax.tyRef (Syntax.named 9) Syntax.imm (Syntax.tyInt Syntax.w16); ref = λ x. x },
-    (Num.vAt 14 λ x. x, tt),
-  ) 21 (List._∷_ 9 List.[]) ty·13
+  s23 = Call.callB ps·0 r·0 (claims· .0) (claims· .1) T26 args·0 21 (List._∷_ 9 List.[]) ty·13
 
   abbrev s24 : Typed.Both T27 T28
-  s24 = Call.callB ps·1 r·1 (claims· .2) (claims· .3) T27 (
-    record { pos = 1; ty = Syntax.tyRef (Syntax.named 0) Syntax.imm (Syntax.tyInt Syntax.w16); ref = λ x. x },
-    (
-      record { pos = 2; ty = Syntax.tyRef (Syntax.named 1) Syntax.imm (Syntax.tyInt Syntax.w16); ref = λ x. x },
-      (
-        record {
-          pos = 3;
-          ty = Syntax.tyRef (Syntax.named 2) Syntax.imm (Syntax.tyInt Syntax.w8);
-          ref = λ x. x;
-        },
-        (
-          record { pos = 4; ty = Syntax.tyRef (Syntax.named 3) Syntax.imm (Syntax.tyInt Syntax.w16); ref = λ x. x },
-          (
-            record { pos = 5; ty = Syntax.tyRef (Syntax.named 4) Syntax.imm (Syntax.tyInt Syntax.w16); ref = λ x. x },
-            (
-              record {
-                pos = 6;
-                ty = Syntax.tyRef (Syntax.named 5) Syntax.imm (Syntax.tyInt Syntax.w32);
-                ref = λ x. x;
-              },
-              (
-                record { pos = 18; ty = Syntax.tyRef Syntax.erased Syntax.mut (Syntax.tyInt Syntax.w16); ref = λ x. x },
-                (
-                  record { pos = 20; ty = Syntax.tyRef Syntax.erased Syntax.mut (Syntax.tyInt Syntax.w8); ref = λ x. x },
-                  (
-                    record {
-                      pos = 9;
-                      ty = Syntax.tyRef
-                          (Syntax.named 8) Syntax.imm Rec.behind;
-                      ref = λ x. x;
-                    },
-                    (record { pos = 21; st = List.[]; d = 0; at = λ x. x }, tt),
-                  ),
-                ),
-              ),
-            ),
-          ),
-        ),
-      ),
-    ),
-  ) 15 (List._∷_ 0 (List._∷_ 1 (List._∷_ 2 (List._∷_ 3 (List._∷_ 4 (List._∷_ 5 (List._∷_ 10 (List._∷_ 11 (List._∷_ 8 List.[]))))))))) ty·14
+  s24 = Call.callB ps·1 r·1 (claims· .2) (claims· .3) T27 args·1 15 (List._∷_ 0 (List._∷_ 1 (List._∷_ 2 (List._∷_ 3 (List._∷_ 4 (List._∷_ 5 (List._∷_ 10 (List._∷_ 11 (List._∷_ 8 List.[]))))))))) ty·14
 
   abbrev s25 : Typed.Mo T28 → Typed.Mo T29
   s25 = Scalar.n-room T28 21 ty·13
@@ -819,38 +613,29 @@ module _ (claims· : Claims) where
   abbrev s27 : Typed.Both T29 T31
   s27 = Relend.k-back-sl (Referent.rtF (Referent.fInt Syntax.w16)) T29 18 7 6 10 ty·10 ty·2 Row.off (λ x. x) λ x. x
 
-  abbrev s28 : Typed.Gives T31 T32
+  abbrev s28 : Typed.Gives T31 T31
   s28 = Know.k-sl-known (Referent.fInt Syntax.w16) T31 7 6 ty·10 Row.off 0 λ x. x
 
-  abbrev s31 : Typed.Both T32 T35
-  s31 = Relend.k-back-sl (Referent.rtF (Referent.fInt Syntax.w8)) T32 20 8 7 11 ty·4 ty·1 Row.off (λ x. x) λ x. x
+  abbrev s31 : Typed.Both T31 T35
+  s31 = Relend.k-back-sl (Referent.rtF (Referent.fInt Syntax.w8)) T31 20 8 7 11 ty·4 ty·1 Row.off (λ x. x) λ x. x
 
-  abbrev s32 : Typed.Gives T35 T36
+  abbrev s32 : Typed.Gives T35 T35
   s32 = Know.k-sl-known (Referent.fInt Syntax.w8) T35 8 7 ty·4 Row.off 0 λ x. x
 
-  abbrev s34 : Typed.Both T36 T38
-  s34 = Call.callB ps·2 r·2 (claims· .4) (claims· .5) T36 (
-    record { pos = 15; st = List.[]; d = 0; at = λ x. x },
-    tt,
-  ) 12 List.[] (Syntax.tyInt Syntax.w64)
+  abbrev s34 : Typed.Both T35 T38
+  s34 = Call.callB ps·2 r·2 (claims· .4) (claims· .5) T35 (record { pos = 15; st = List.[]; d = 0; at = λ x. x }, tt) 12 List.[] (Syntax.tyInt Syntax.w64)
 
   abbrev s35 : Typed.Both T38 T39
-  s35 = Call.callB ps·3 r·3 (claims· .6) (claims· .7) T38 (
-    record { pos = 15; st = List.[]; d = 0; at = λ x. x },
-    tt,
-  ) 13 List.[] (Syntax.tyInt Syntax.w32)
+  s35 = Call.callB ps·2 r·3 (claims· .6) (claims· .7) T38 (record { pos = 15; st = List.[]; d = 0; at = λ x. x }, tt) 13 List.[] (Syntax.tyInt Syntax.w32)
 
-  abbrev s36 : Typed.Mo T39 → Typed.Mo T40
+  abbrev s36 : Typed.Mo T39 → Typed.Mo T13
   s36 = Scalar.n-room T39 15 ty·14
 
-  abbrev s37 : Typed.Asks T40 T41
-  s37 = Scalar.k-op2 T40 (Syntax.add Syntax.unsigned) (Scalar.oAt 14 (Syntax.tyInt Syntax.w64) (Row.valS (Row.sInt Syntax.w64))) (Scalar.oInt Syntax.w64 1) 14 (Rows.sc-here (Row.sInt Syntax.w64)) (Row.sInt Syntax.w64 .of)
+  abbrev s37 : Typed.Asks T13 T13
+  s37 = Scalar.k-op2 T13 (Syntax.add Syntax.unsigned) (Scalar.oAt 14 (Syntax.tyInt Syntax.w64) (Row.valS (Row.sInt Syntax.w64))) (Scalar.oInt Syntax.w64 1) 14 (Rows.sc-here (Row.sInt Syntax.w64)) (Row.sInt Syntax.w64 .of)
 
-  abbrev s38 : Typed.Both T14 T42
-  s38 = Call.callB ps·4 r·4 (claims· .8) (claims· .9) T14 (
-    Num.vAt 12 λ x. x,
-    (Num.vAt 13 λ x. x, tt),
-  ) 0 List.[] ty·12
+  abbrev s38 : Typed.Both T13 T42
+  s38 = Call.callB ps·4 r·4 (claims· .8) (claims· .9) T13 (Num.vAt 12 λ x. x, (Num.vAt 13 λ x. x, tt)) 0 List.[] ty·12
 
   abbrev s39 : Typed.Mo T42 → Typed.Mo T43
   s39 = Scalar.n-room T42 12 (Syntax.tyInt Syntax.w64)
@@ -861,29 +646,26 @@ module _ (claims· : Claims) where
   abbrev s41 : Typed.Mo T44 → Typed.Mo T45
   s41 = Scalar.n-room T44 14 (Syntax.tyInt Syntax.w64)
 
-  abbrev s42 : Typed.Mo T45 → Typed.Mo T46
+  abbrev s42 : Typed.Mo T45 → Typed.Mo T1
   s42 = Scalar.n-room T45 10 (Syntax.tyInt Syntax.w64)
 
   abbrev put0 : List.List (Referent.rtF (Referent.fInt Syntax.w16) .Denot) × List.List (Referent.rtF (Referent.fInt Syntax.w8) .Denot) × Rows.sc-here (Row.sInt Syntax.w64) .Mod × Rows.sc-here (Row.sInt Syntax.w32) .Mod × Rows.sc-here (Row.sInt Syntax.w64) .Mod → Typed.Mo T13 → Typed.Mo T13
-  put0 = λ vs u. Row.set 14 (14, Rows.sc-here (Row.sInt Syntax.w64)) (vs .4) (T13 .locals) (Row.set 13 (13, Rows.sc-here (Row.sInt Syntax.w32)) (vs .3) (T13 .locals) (Row.set 12 (12, Rows.sc-here (Row.sInt Syntax.w64)) (vs .2) (T13 .locals) (Row.set 8 (8, Mut.mslice (Referent.rtF (Referent.fInt Syntax.w8)) ty·4 7) record {
-    ptr = Row.get 8 (T13 .locals) u .ptr;
-    name = Row.get 8 (T13 .locals) u .name;
-    now = vs .1;
-  } (T13 .locals) (Row.set 7 (7, Mut.mslice (Referent.rtF (Referent.fInt Syntax.w16)) ty·10 6) record { ptr = Row.get 7 (T13 .locals) u .ptr; name = Row.get 7 (T13 .locals) u .name; now = vs .0 } (T13 .locals) u))))
+  put0 = λ vs u. Row.set 14 (14, Rows.sc-here (Row.sInt Syntax.w64)) (vs .4) (T13 .locals) (Row.set 13 (13, Rows.sc-here (Row.sInt Syntax.w32)) (vs .3) (T13 .locals) (Row.set 12 (12, Rows.sc-here (Row.sInt Syntax.w64)) (vs .2) (T13 .locals) (Row.set 8 (8, Mut.mslice (Referent.rtF (Referent.fInt Syntax.w8)) ty·4 7) record
+      { ptr = Row.get 8 (T13 .locals) u .ptr; name = Row.get 8 (T13 .locals) u .name; now = vs .1 } (T13 .locals) (Row.set 7 (7, Mut.mslice (Referent.rtF (Referent.fInt Syntax.w16)) ty·10 6) record { ptr = Row.get 7 (T13 .locals) u .ptr; name = Row.get 7 (T13 .locals) u .name; now = vs .0 } (T13 .locals) u))))
 
   module _ (Pre· : (κs : Lifetimes.Lfts 10) → Kinds.Dens κs ps → Type 0) (Post· : (κs : Lifetimes.Lfts 10) → (a : Kinds.Dens κs ps) → Kinds.Plain 10 ps r κs) where
     module _ (M : Type 1) where
       abbrev pub Closed : Type 2
-      Closed = (𝓤 : URA.URA M) (H : Wp.Heap 𝓤) (A : Atoms.Atoms 𝓤) (W : Kit.Given 𝓤 H A) (𝓣 : Wp.Tables 𝓤 H) (known0 : Plain.Known 𝓤 H A W 𝓣 1 ps·0 r·0 (claims· .0) (claims· .1) "presses::answers::report_at") (known1 : Plain.Known 𝓤 H A W 𝓣 9 ps·1 r·1 (claims· .2) (claims· .3) "handset::button::press") (known2 : Plain.Known 𝓤 H A W 𝓣 0 ps·2 r·2
-          (claims· .4) (claims· .5) "presses::answers::number_in") (known3 : Plain.Known 𝓤 H A W 𝓣 0 ps·3 r·3 (claims· .6) (claims· .7) "presses::answers::bits_in") (known4 : Plain.Known 𝓤 H A W 𝓣 0 ps·4 r·4 (claims· .8) (claims· .9) "presses::answers::show") → Statement.Triple
-          𝓤 (Wp.WpFn 𝓤 H (𝓣 .C) (𝓣 .Λ) (Function.fnOf 10 ps r xs m hs body)) (Function.plainOf 𝓤 H A 10 ps r Pre· Post·)
+      Closed = (𝓤 : URA.URA M) (H : Wp.Heap 𝓤) (A : Atoms.Atoms 𝓤) (W : Kit.Given 𝓤 H A) (𝓣 : Wp.Tables 𝓤 H) (known0 : Plain.Known 𝓤 H A W 𝓣 1 ps·0 r·0 (claims· .0) (claims· .1) "presses::answers::report_at") (known1 : Plain.Known 𝓤 H A W 𝓣 9 ps·1 r·1 (claims· .2) (claims· .3) "handset::button::press") (known2 : Plain.Known 𝓤 H A W 𝓣 0 ps·2 r·2 (claims· .4)
+          (claims· .5) "presses::answers::number_in") (known3 : Plain.Known 𝓤 H A W 𝓣 0 ps·2 r·3 (claims· .6) (claims· .7) "presses::answers::bits_in") (known4 : Plain.Known 𝓤 H A W 𝓣 0 ps·4 r·4 (claims· .8) (claims· .9) "presses::answers::show") → Statement.Triple 𝓤 (Wp.WpFn 𝓤 H (𝓣 .C) (𝓣 .Λ) (Function.fnOf 10 ps r xs m hs body)) (Function.plainOf 𝓤 H A 10 ps r
+          Pre· Post·)
 
     module _ (Inv·0 : InvT-loop) (μ·0 : MeasureT-loop) where
-      abbrev at0 : Typed.TF T19 O4
+      abbrev at0 : Typed.TF T16 O4
       at0 = Typed.atNext O4
 
       abbrev at1 : Typed.TF T18 O4
-      at1 = λ Ψ. Typed.pass T18 T19 s15 (at0 Ψ)
+      at1 = λ Ψ. Typed.pass T18 T16 s15 (at0 Ψ)
 
       abbrev at2 : Typed.TF T17 O4
       at2 = λ Ψ. Typed.pass T17 T18 s14 (at1 Ψ)
@@ -891,53 +673,41 @@ module _ (claims· : Claims) where
       abbrev at3 : Typed.TF T15 O4
       at3 = λ Ψ. Typed.pass T15 T17 s13 (at2 Ψ)
 
-      abbrev at4 : Typed.TF T20 O4
+      abbrev at4 : Typed.TF T13 O4
       at4 = Typed.atExit 1 O4
 
       abbrev at5 : Typed.TF T15 O4
-      at5 = λ Ψ. Typed.pass T15 T20 s16 (at4 Ψ)
+      at5 = λ Ψ. Typed.pass T15 T13 s16 (at4 Ψ)
 
       abbrev at6 : Typed.TF T15 O4
       at6 = Scalar.Φcond T15 O4 16 (λ x. x) at3 at5
 
-      abbrev at7 : Typed.TF T40 O3
+      abbrev at7 : Typed.TF T13 O3
       at7 = λ Ψ. Typed.ask s37 (Typed.atNext O3 Ψ)
 
       abbrev at8 : Typed.TF T39 O3
-      at8 = λ Ψ. Typed.pass T39 T40 s36 (at7 Ψ)
+      at8 = λ Ψ. Typed.pass T39 T13 s36 (at7 Ψ)
 
       abbrev at9 : Typed.TF T38 O3
       at9 = λ Ψ. Typed.both s35 (at8 Ψ)
 
-      abbrev at10 : Typed.TF T36 O3
+      abbrev at10 : Typed.TF T35 O3
       at10 = λ Ψ. Typed.both s34 (at9 Ψ)
 
-      abbrev at11 : Typed.TF T36 O3
-      at11 = λ Ψ. at10 Ψ
-
       abbrev at12 : Typed.TF T35 O3
-      at12 = λ Ψ. Typed.give s32 (at11 Ψ)
+      at12 = λ Ψ. Typed.give s32 (at10 Ψ)
 
-      abbrev at13 : Typed.TF T32 O3
+      abbrev at13 : Typed.TF T31 O3
       at13 = λ Ψ. Typed.both s31 (at12 Ψ)
 
-      abbrev at14 : Typed.TF T32 O3
-      at14 = λ Ψ. at13 Ψ
-
-      abbrev at15 : Typed.TF T32 O3
-      at15 = λ Ψ. at14 Ψ
-
       abbrev at16 : Typed.TF T31 O3
-      at16 = λ Ψ. Typed.give s28 (at15 Ψ)
+      at16 = λ Ψ. Typed.give s28 (at13 Ψ)
 
       abbrev at17 : Typed.TF T29 O3
       at17 = λ Ψ. Typed.both s27 (at16 Ψ)
 
-      abbrev at18 : Typed.TF T29 O3
-      at18 = λ Ψ. at17 Ψ
-
       abbrev at19 : Typed.TF T28 O3
-      at19 = λ Ψ. Typed.pass T28 T29 s25 (at18 Ψ)
+      at19 = λ Ψ. Typed.pass T28 T29 s25 (at17 Ψ)
 
       abbrev at20 : Typed.TF T27 O3
       at20 = λ Ψ. Typed.both s24 (at19 Ψ)
@@ -951,38 +721,31 @@ module _ (claims· : Claims) where
       abbrev at23 : Typed.TF T23 O3
       at23 = λ Ψ. Typed.give s21 (at22 Ψ)
 
-      abbrev at24 : Typed.TF T23 O3
-      at24 = λ Ψ. at23 Ψ
-
       abbrev at25 : Typed.TF T22 O3
-      at25 = λ Ψ. Typed.ask s19 (at24 Ψ)
+      at25 = λ Ψ. Typed.ask s19 (at23 Ψ)
 
       abbrev at26 : Typed.TF T16 O3
       at26 = λ Ψ. Typed.give s18 (at25 Ψ)
 
-      abbrev at27 : Typed.TF T16 O3
-      at27 = λ Ψ. at26 Ψ
-
       abbrev at28 : Typed.TF T15 O3
-      at28 = λ Ψ. at6 (Typed.wantNext T16 O3 (at27 Ψ) Ψ)
+      at28 = λ Ψ. at6 (Typed.wantNext T16 O3 (at26 Ψ) Ψ)
 
       abbrev at29 : Typed.TF T13 O3
       at29 = λ Ψ. Typed.ask s12 (at28 Ψ)
 
       abbrev at30 : Typed.TF T13 O2
-      at30 = Typed.LoopBy T13 O2 put0 (λ u vs. Inv·0 (Row.get 1 (T13 .locals) u .now) (Row.get 2 (T13 .locals) u .now) (Row.get 3 (T13 .locals) u .now) (Row.get 4 (T13 .locals) u .now) (Row.get 5 (T13 .locals) u .now) (Row.get 6 (T13 .locals) u .now) (Row.get 7 (T13 .locals) u .now) (Row.get 8 (T13 .locals) u .now) (Row.get 9 (T13 .locals) u .now)
-          (Row.get 10 (T13 .locals) u) (Row.get 11 (T13 .locals) u .now) (Row.get 12 (T13 .locals) u) (Row.get 13 (T13 .locals) u) (Row.get 14 (T13 .locals) u) (vs .0) (vs .1) (vs .2) (vs .3) (vs .4)) (λ u vs. μ·0 (Row.get 1 (T13 .locals) u .now) (Row.get 2 (T13 .locals) u .now) (Row.get 3 (T13 .locals) u .now) (Row.get 4 (T13 .locals) u .now)
-          (Row.get 5 (T13 .locals) u .now) (Row.get 6 (T13 .locals) u .now) (Row.get 7 (T13 .locals) u .now) (Row.get 8 (T13 .locals) u .now) (Row.get 9 (T13 .locals) u .now) (Row.get 10 (T13 .locals) u) (Row.get 11 (T13 .locals) u .now) (Row.get 12 (T13 .locals) u) (Row.get 13 (T13 .locals) u) (Row.get 14 (T13 .locals) u) (vs .0) (vs .1) (vs .2) (vs .3)
-          (vs .4)) at29
+      at30 = Typed.LoopBy T13 O2 put0 (λ u vs. Inv·0 (Row.get 1 (T13 .locals) u .now) (Row.get 2 (T13 .locals) u .now) (Row.get 3 (T13 .locals) u .now) (Row.get 4 (T13 .locals) u .now) (Row.get 5 (T13 .locals) u .now) (Row.get 6 (T13 .locals) u .now) (Row.get 7 (T13 .locals) u .now) (Row.get 8 (T13 .locals) u .now) (Row.get 9 (T13 .locals) u .now) (Row.get
+          10 (T13 .locals) u) (Row.get 11 (T13 .locals) u .now) (Row.get 12 (T13 .locals) u) (Row.get 13 (T13 .locals) u) (Row.get 14 (T13 .locals) u) (vs .0) (vs .1) (vs .2) (vs .3) (vs .4)) (λ u vs. μ·0 (Row.get 1 (T13 .locals) u .now) (Row.get 2 (T13 .locals) u .now) (Row.get 3 (T13 .locals) u .now) (Row.get 4 (T13 .locals) u .now) (Row.get 5 (T13 .locals) u
+          .now) (Row.get 6 (T13 .locals) u .now) (Row.get 7 (T13 .locals) u .now) (Row.get 8 (T13 .locals) u .now) (Row.get 9 (T13 .locals) u .now) (Row.get 10 (T13 .locals) u) (Row.get 11 (T13 .locals) u .now) (Row.get 12 (T13 .locals) u) (Row.get 13 (T13 .locals) u) (Row.get 14 (T13 .locals) u) (vs .0) (vs .1) (vs .2) (vs .3) (vs .4)) at29
 
       abbrev at31 : Typed.TF T13 O1
       at31 = λ Ψ. at30 (Typed.inBlock O1 Ψ)
 
-      abbrev at32 : Typed.TF T46 O0
+      abbrev at32 : Typed.TF T1 O0
       at32 = Typed.atRet O0
 
       abbrev at33 : Typed.TF T45 O0
-      at33 = λ Ψ. Typed.pass T45 T46 s42 (at32 Ψ)
+      at33 = λ Ψ. Typed.pass T45 T1 s42 (at32 Ψ)
 
       abbrev at34 : Typed.TF T44 O0
       at34 = λ Ψ. Typed.pass T44 T45 s41 (at33 Ψ)
@@ -993,11 +756,11 @@ module _ (claims· : Claims) where
       abbrev at36 : Typed.TF T42 O0
       at36 = λ Ψ. Typed.pass T42 T43 s39 (at35 Ψ)
 
-      abbrev at37 : Typed.TF T14 O0
+      abbrev at37 : Typed.TF T13 O0
       at37 = λ Ψ. Typed.both s38 (at36 Ψ)
 
       abbrev at38 : Typed.TF T13 O0
-      at38 = λ Ψ. at31 (Typed.wantNext T14 O0 (at37 Ψ) Ψ)
+      at38 = λ Ψ. at31 (Typed.wantNext T13 O0 (at37 Ψ) Ψ)
 
       abbrev at39 : Typed.TF T12 O0
       at39 = λ Ψ. Typed.pass T12 T13 s11 (at38 Ψ)
@@ -1005,31 +768,31 @@ module _ (claims· : Claims) where
       abbrev at40 : Typed.TF T11 O0
       at40 = λ Ψ. Typed.pass T11 T12 s10 (at39 Ψ)
 
-      abbrev at41 : Typed.TF T10 O0
-      at41 = λ Ψ. Typed.pass T10 T11 s9 (at40 Ψ)
+      abbrev at41 : Typed.TF T0 O0
+      at41 = λ Ψ. Typed.pass T0 T11 s9 (at40 Ψ)
 
-      abbrev at42 : Typed.TF T9 O0
+      abbrev at42 : Typed.TF T0 O0
       at42 = λ Ψ. Typed.give s8 (at41 Ψ)
 
-      abbrev at43 : Typed.TF T8 O0
+      abbrev at43 : Typed.TF T0 O0
       at43 = λ Ψ. Typed.give s7 (at42 Ψ)
 
-      abbrev at44 : Typed.TF T7 O0
+      abbrev at44 : Typed.TF T0 O0
       at44 = λ Ψ. Typed.give s6 (at43 Ψ)
 
-      abbrev at45 : Typed.TF T6 O0
+      abbrev at45 : Typed.TF T0 O0
       at45 = λ Ψ. Typed.give s5 (at44 Ψ)
 
-      abbrev at46 : Typed.TF T5 O0
+      abbrev at46 : Typed.TF T0 O0
       at46 = λ Ψ. Typed.give s4 (at45 Ψ)
 
-      abbrev at47 : Typed.TF T4 O0
+      abbrev at47 : Typed.TF T0 O0
       at47 = λ Ψ. Typed.give s3 (at46 Ψ)
 
-      abbrev at48 : Typed.TF T3 O0
+      abbrev at48 : Typed.TF T0 O0
       at48 = λ Ψ. Typed.give s2 (at47 Ψ)
 
-      abbrev at49 : Typed.TF T2 O0
+      abbrev at49 : Typed.TF T0 O0
       at49 = λ Ψ. Typed.give s1 (at48 Ψ)
 
       abbrev at50 : Typed.TF T0 O0
@@ -1040,553 +803,156 @@ module _ (claims· : Claims) where
 
       module _ {M : Type 1} (𝓤 : URA.URA M) (H : Wp.Heap 𝓤) (A : Atoms.Atoms 𝓤) (W : Kit.Given 𝓤 H A) (𝓣 : Wp.Tables 𝓤 H) where
         abbrev Knowns : Type 1
-        Knowns = Plain.Known 𝓤 H A W 𝓣 1 ps·0 r·0 (claims· .0) (claims· .1) "presses::answers::report_at" × Plain.Known 𝓤 H A W 𝓣 9 ps·1 r·1 (claims· .2) (claims· .3) "handset::button::press" × Plain.Known 𝓤 H A W 𝓣 0 ps·2 r·2 (claims· .4) (claims· .5) "presses::answers::number_in" × Plain.Known 𝓤 H A W 𝓣 0 ps·3 r·3 (claims· .6) (claims· .7)
+        Knowns = Plain.Known 𝓤 H A W 𝓣 1 ps·0 r·0 (claims· .0) (claims· .1) "presses::answers::report_at" × Plain.Known 𝓤 H A W 𝓣 9 ps·1 r·1 (claims· .2) (claims· .3) "handset::button::press" × Plain.Known 𝓤 H A W 𝓣 0 ps·2 r·2 (claims· .4) (claims· .5) "presses::answers::number_in" × Plain.Known 𝓤 H A W 𝓣 0 ps·2 r·3 (claims· .6) (claims· .7)
             "presses::answers::bits_in" × Plain.Known 𝓤 H A W 𝓣 0 ps·4 r·4 (claims· .8) (claims· .9) "presses::answers::show"
 
       module _ (κs : Lifetimes.Lfts 10) (qs : Lifetimes.Shares 10) where
         abbrev g9 : List.List Row.Entry
-        g9 = List._∷_ (
-          0,
-          Rows.any-gone ty·12,
-        ) (List._∷_ (
-          1,
-          Rows.sslice (Referent.rtF (Referent.fInt Syntax.w16)) ty·5 0,
-        ) (List._∷_ (
-          2,
-          Rows.sslice (Referent.rtF (Referent.fInt Syntax.w16)) ty·6 1,
-        ) (List._∷_ (
-          3,
-          Rows.sslice (Referent.rtF (Referent.fInt Syntax.w8)) ty·3 2,
-        ) (List._∷_ (
-          4,
-          Rows.sslice (Referent.rtF (Referent.fInt Syntax.w16)) ty·7 3,
-        ) (List._∷_ (
-          5,
-          Rows.sslice (Referent.rtF (Referent.fInt Syntax.w16)) ty·8 4,
-        ) (List._∷_ (
-          6,
-          Rows.sslice (Referent.rtF (Referent.fInt Syntax.w32)) ty·9 5,
-        ) (List._∷_ (
-          7,
-          Relend.mslice-owed (Referent.rtF (Referent.fInt Syntax.w16)) ty·10 6 10 (Row.lease (κs .1 .1 .1 .1 .1 .1 .0) (qs .1 .1 .1 .1 .1 .1 .0)),
-        ) (List._∷_ (
-          8,
-          Mut.mslice (Referent.rtF (Referent.fInt Syntax.w8)) ty·4 7,
-        ) (List._∷_ (
-          9,
-          Rows.sslice Rec.rt ty·0 8,
-        ) (List._∷_ (10, Rows.sc-here (Row.sInt Syntax.w64)) (List._∷_ (
-          11,
-          Rows.sslice (Referent.rtF (Referent.fInt Syntax.w16)) ty·11 9,
-        ) (List._∷_ (12, Rows.any-gone (Syntax.tyInt Syntax.w64)) (List._∷_ (
-          13,
-          Rows.any-gone (Syntax.tyInt Syntax.w32),
-        ) (List._∷_ (14, Rows.sc-here (Row.sInt Syntax.w64)) (List._∷_ (
-          15,
-          Rows.any-gone ty·14,
-        ) List.[])))))))))))))))
+        g9 = List._∷_ (0, Rows.any-gone ty·12) (List._∷_ (1, Rows.sslice (Referent.rtF (Referent.fInt Syntax.w16)) ty·5 0) (List._∷_ (2, Rows.sslice (Referent.rtF (Referent.fInt Syntax.w16)) ty·6 1) (List._∷_ (3, Rows.sslice (Referent.rtF (Referent.fInt Syntax.w8)) ty·3 2) (List._∷_ (4, Rows.sslice (Referent.rtF (Referent.fInt Syntax.w16)) ty·7 3) (List._∷_
+            (5, Rows.sslice (Referent.rtF (Referent.fInt Syntax.w16)) ty·8 4) (List._∷_ (6, Rows.sslice (Referent.rtF (Referent.fInt Syntax.w32)) ty·9 5) (List._∷_ (7, Relend.mslice-owed (Referent.rtF (Referent.fInt Syntax.w16)) ty·10 6 10 (Row.lease (κs .1 .1 .1 .1 .1 .1 .0) (qs .1 .1 .1 .1 .1 .1 .0))) (List._∷_
+            (8, Mut.mslice (Referent.rtF (Referent.fInt Syntax.w8)) ty·4 7) (List._∷_ (9, Rows.sslice Rec.rt ty·0 8) (List._∷_ (10, Rows.sc-here (Row.sInt Syntax.w64)) (List._∷_ (11, Rows.sslice (Referent.rtF (Referent.fInt Syntax.w16)) ty·11 9) (List._∷_ (12, Rows.any-gone (Syntax.tyInt Syntax.w64)) (List._∷_ (13, Rows.any-gone (Syntax.tyInt Syntax.w32))
+            (List._∷_ (14, Rows.sc-here (Row.sInt Syntax.w64)) (List._∷_ (15, Rows.any-gone ty·14) List.[])))))))))))))))
 
         abbrev g12 : List.List Row.Entry
-        g12 = List._∷_ (
-          0,
-          Rows.any-gone ty·12,
-        ) (List._∷_ (
-          1,
-          Rows.sslice (Referent.rtF (Referent.fInt Syntax.w16)) ty·5 0,
-        ) (List._∷_ (
-          2,
-          Rows.sslice (Referent.rtF (Referent.fInt Syntax.w16)) ty·6 1,
-        ) (List._∷_ (
-          3,
-          Rows.sslice (Referent.rtF (Referent.fInt Syntax.w8)) ty·3 2,
-        ) (List._∷_ (
-          4,
-          Rows.sslice (Referent.rtF (Referent.fInt Syntax.w16)) ty·7 3,
-        ) (List._∷_ (
-          5,
-          Rows.sslice (Referent.rtF (Referent.fInt Syntax.w16)) ty·8 4,
-        ) (List._∷_ (
-          6,
-          Rows.sslice (Referent.rtF (Referent.fInt Syntax.w32)) ty·9 5,
-        ) (List._∷_ (
-          7,
-          Relend.mslice-owed (Referent.rtF (Referent.fInt Syntax.w16)) ty·10 6 10 (Row.lease (κs .1 .1 .1 .1 .1 .1 .0) (qs .1 .1 .1 .1 .1 .1 .0)),
-        ) (List._∷_ (
-          8,
-          Relend.mslice-owed (Referent.rtF (Referent.fInt Syntax.w8)) ty·4 7 11 (Row.lease (κs .1 .1 .1 .1 .1 .1 .1 .0) (qs .1 .1 .1 .1 .1 .1 .1 .0)),
-        ) (List._∷_ (
-          9,
-          Rows.sslice Rec.rt ty·0 8,
-        ) (List._∷_ (10, Rows.sc-here (Row.sInt Syntax.w64)) (List._∷_ (
-          11,
-          Rows.sslice (Referent.rtF (Referent.fInt Syntax.w16)) ty·11 9,
-        ) (List._∷_ (12, Rows.any-gone (Syntax.tyInt Syntax.w64)) (List._∷_ (
-          13,
-          Rows.any-gone (Syntax.tyInt Syntax.w32),
-        ) (List._∷_ (14, Rows.sc-here (Row.sInt Syntax.w64)) (List._∷_ (
-          15,
-          Rows.any-gone ty·14,
-        ) List.[])))))))))))))))
+        g12 = List._∷_ (0, Rows.any-gone ty·12) (List._∷_ (1, Rows.sslice (Referent.rtF (Referent.fInt Syntax.w16)) ty·5 0) (List._∷_ (2, Rows.sslice (Referent.rtF (Referent.fInt Syntax.w16)) ty·6 1) (List._∷_ (3, Rows.sslice (Referent.rtF (Referent.fInt Syntax.w8)) ty·3 2) (List._∷_ (4, Rows.sslice (Referent.rtF (Referent.fInt Syntax.w16)) ty·7 3) (List._∷_
+            (5, Rows.sslice (Referent.rtF (Referent.fInt Syntax.w16)) ty·8 4) (List._∷_ (6, Rows.sslice (Referent.rtF (Referent.fInt Syntax.w32)) ty·9 5) (List._∷_ (7, Relend.mslice-owed (Referent.rtF (Referent.fInt Syntax.w16)) ty·10 6 10 (Row.lease (κs .1 .1 .1 .1 .1 .1 .0) (qs .1 .1 .1 .1 .1 .1 .0))) (List._∷_
+            (8, Relend.mslice-owed (Referent.rtF (Referent.fInt Syntax.w8)) ty·4 7 11 (Row.lease (κs .1 .1 .1 .1 .1 .1 .1 .0) (qs .1 .1 .1 .1 .1 .1 .1 .0))) (List._∷_ (9, Rows.sslice Rec.rt ty·0 8) (List._∷_ (10, Rows.sc-here (Row.sInt Syntax.w64)) (List._∷_ (11, Rows.sslice (Referent.rtF (Referent.fInt Syntax.w16)) ty·11 9) (List._∷_
+            (12, Rows.any-gone (Syntax.tyInt Syntax.w64)) (List._∷_ (13, Rows.any-gone (Syntax.tyInt Syntax.w32)) (List._∷_ (14, Rows.sc-here (Row.sInt Syntax.w64)) (List._∷_ (15, Rows.any-gone ty·14) List.[])))))))))))))))
 
         abbrev g16 : List.List Row.Entry
-        g16 = List._∷_ (
-          0,
-          Rows.any-gone ty·12,
-        ) (List._∷_ (
-          1,
-          Rows.sslice (Referent.rtF (Referent.fInt Syntax.w16)) ty·5 0,
-        ) (List._∷_ (
-          2,
-          Rows.sslice (Referent.rtF (Referent.fInt Syntax.w16)) ty·6 1,
-        ) (List._∷_ (
-          3,
-          Rows.sslice (Referent.rtF (Referent.fInt Syntax.w8)) ty·3 2,
-        ) (List._∷_ (
-          4,
-          Rows.sslice (Referent.rtF (Referent.fInt Syntax.w16)) ty·7 3,
-        ) (List._∷_ (
-          5,
-          Rows.sslice (Referent.rtF (Referent.fInt Syntax.w16)) ty·8 4,
-        ) (List._∷_ (
-          6,
-          Rows.sslice (Referent.rtF (Referent.fInt Syntax.w32)) ty·9 5,
-        ) (List._∷_ (
-          7,
-          Relend.mslice-owed (Referent.rtF (Referent.fInt Syntax.w16)) ty·10 6 10 (Row.lease (κs .1 .1 .1 .1 .1 .1 .0) (qs .1 .1 .1 .1 .1 .1 .0)),
-        ) (List._∷_ (
-          8,
-          Relend.mslice-owed (Referent.rtF (Referent.fInt Syntax.w8)) ty·4 7 11 (Row.lease (κs .1 .1 .1 .1 .1 .1 .1 .0) (qs .1 .1 .1 .1 .1 .1 .1 .0)),
-        ) (List._∷_ (
-          9,
-          Rows.sslice Rec.rt ty·0 8,
-        ) (List._∷_ (10, Rows.sc-here (Row.sInt Syntax.w64)) (List._∷_ (
-          11,
-          Rows.sslice (Referent.rtF (Referent.fInt Syntax.w16)) ty·11 9,
-        ) (List._∷_ (12, Rows.any-gone (Syntax.tyInt Syntax.w64)) (List._∷_ (
-          13,
-          Rows.any-gone (Syntax.tyInt Syntax.w32),
-        ) (List._∷_ (14, Rows.sc-here (Row.sInt Syntax.w64)) (List._∷_ (
-          15,
-          Rows.whole (Declared.row PressReply.the-type),
-        ) List.[])))))))))))))))
+        g16 = List._∷_ (0, Rows.any-gone ty·12) (List._∷_ (1, Rows.sslice (Referent.rtF (Referent.fInt Syntax.w16)) ty·5 0) (List._∷_ (2, Rows.sslice (Referent.rtF (Referent.fInt Syntax.w16)) ty·6 1) (List._∷_ (3, Rows.sslice (Referent.rtF (Referent.fInt Syntax.w8)) ty·3 2) (List._∷_ (4, Rows.sslice (Referent.rtF (Referent.fInt Syntax.w16)) ty·7 3) (List._∷_
+            (5, Rows.sslice (Referent.rtF (Referent.fInt Syntax.w16)) ty·8 4) (List._∷_ (6, Rows.sslice (Referent.rtF (Referent.fInt Syntax.w32)) ty·9 5) (List._∷_ (7, Relend.mslice-owed (Referent.rtF (Referent.fInt Syntax.w16)) ty·10 6 10 (Row.lease (κs .1 .1 .1 .1 .1 .1 .0) (qs .1 .1 .1 .1 .1 .1 .0))) (List._∷_
+            (8, Relend.mslice-owed (Referent.rtF (Referent.fInt Syntax.w8)) ty·4 7 11 (Row.lease (κs .1 .1 .1 .1 .1 .1 .1 .0) (qs .1 .1 .1 .1 .1 .1 .1 .0))) (List._∷_ (9, Rows.sslice Rec.rt ty·0 8) (List._∷_ (10, Rows.sc-here (Row.sInt Syntax.w64)) (List._∷_ (11, Rows.sslice (Referent.rtF (Referent.fInt Syntax.w16)) ty·11 9) (List._∷_
+            (12, Rows.any-gone (Syntax.tyInt Syntax.w64)) (List._∷_ (13, Rows.any-gone (Syntax.tyInt Syntax.w32)) (List._∷_ (14, Rows.sc-here (Row.sInt Syntax.w64)) (List._∷_ (15, Rows.whole (Declared.row PressReply.the-type)) List.[])))))))))))))))
 
         abbrev g19 : List.List Row.Entry
-        g19 = List._∷_ (
-          0,
-          Rows.any-gone ty·12,
-        ) (List._∷_ (
-          1,
-          Rows.sslice (Referent.rtF (Referent.fInt Syntax.w16)) ty·5 0,
-        ) (List._∷_ (
-          2,
-          Rows.sslice (Referent.rtF (Referent.fInt Syntax.w16)) ty·6 1,
-        ) (List._∷_ (
-          3,
-          Rows.sslice (Referent.rtF (Referent.fInt Syntax.w8)) ty·3 2,
-        ) (List._∷_ (
-          4,
-          Rows.sslice (Referent.rtF (Referent.fInt Syntax.w16)) ty·7 3,
-        ) (List._∷_ (
-          5,
-          Rows.sslice (Referent.rtF (Referent.fInt Syntax.w16)) ty·8 4,
-        ) (List._∷_ (
-          6,
-          Rows.sslice (Referent.rtF (Referent.fInt Syntax.w32)) ty·9 5,
-        ) (List._∷_ (
-          7,
-          Mut.mslice (Referent.rtF (Referent.fInt Syntax.w16)) ty·10 6,
-        ) (List._∷_ (
-          8,
-          Relend.mslice-owed (Referent.rtF (Referent.fInt Syntax.w8)) ty·4 7 11 (Row.lease (κs .1 .1 .1 .1 .1 .1 .1 .0) (qs .1 .1 .1 .1 .1 .1 .1 .0)),
-        ) (List._∷_ (
-          9,
-          Rows.sslice Rec.rt ty·0 8,
-        ) (List._∷_ (10, Rows.sc-here (Row.sInt Syntax.w64)) (List._∷_ (
-          11,
-          Rows.sslice (Referent.rtF (Referent.fInt Syntax.w16)) ty·11 9,
-        ) (List._∷_ (12, Rows.any-gone (Syntax.tyInt Syntax.w64)) (List._∷_ (
-          13,
-          Rows.any-gone (Syntax.tyInt Syntax.w32),
-        ) (List._∷_ (14, Rows.sc-here (Row.sInt Syntax.w64)) (List._∷_ (
-          15,
-          Rows.whole (Declared.row PressReply.the-type),
-        ) List.[])))))))))))))))
+        g19 = List._∷_ (0, Rows.any-gone ty·12) (List._∷_ (1, Rows.sslice (Referent.rtF (Referent.fInt Syntax.w16)) ty·5 0) (List._∷_ (2, Rows.sslice (Referent.rtF (Referent.fInt Syntax.w16)) ty·6 1) (List._∷_ (3, Rows.sslice (Referent.rtF (Referent.fInt Syntax.w8)) ty·3 2) (List._∷_ (4, Rows.sslice (Referent.rtF (Referent.fInt Syntax.w16)) ty·7 3) (List._∷_
+            (5, Rows.sslice (Referent.rtF (Referent.fInt Syntax.w16)) ty·8 4) (List._∷_ (6, Rows.sslice (Referent.rtF (Referent.fInt Syntax.w32)) ty·9 5) (List._∷_ (7, Mut.mslice (Referent.rtF (Referent.fInt Syntax.w16)) ty·10 6) (List._∷_
+            (8, Relend.mslice-owed (Referent.rtF (Referent.fInt Syntax.w8)) ty·4 7 11 (Row.lease (κs .1 .1 .1 .1 .1 .1 .1 .0) (qs .1 .1 .1 .1 .1 .1 .1 .0))) (List._∷_ (9, Rows.sslice Rec.rt ty·0 8) (List._∷_ (10, Rows.sc-here (Row.sInt Syntax.w64)) (List._∷_ (11, Rows.sslice (Referent.rtF (Referent.fInt Syntax.w16)) ty·11 9) (List._∷_
+            (12, Rows.any-gone (Syntax.tyInt Syntax.w64)) (List._∷_ (13, Rows.any-gone (Syntax.tyInt Syntax.w32)) (List._∷_ (14, Rows.sc-here (Row.sInt Syntax.w64)) (List._∷_ (15, Rows.whole (Declared.row PressReply.the-type)) List.[])))))))))))))))
+
+        abbrev slots·0 : List.List Row.Life
+        slots·0 = List._∷_ (Row.lease (κs .0) (qs .0)) (List._∷_ (Row.lease (κs .1 .0) (qs .1 .0)) (List._∷_ (Row.lease (κs .1 .1 .0) (qs .1 .1 .0)) (List._∷_ (Row.lease (κs .1 .1 .1 .0) (qs .1 .1 .1 .0)) (List._∷_ (Row.lease (κs .1 .1 .1 .1 .0) (qs .1 .1 .1 .1 .0)) (List._∷_ (Row.lease (κs .1 .1 .1 .1 .1 .0) (qs .1 .1 .1 .1 .1 .0)) (List._∷_ (Row.lease (κs
+            .1 .1 .1 .1 .1 .1 .0) (qs .1 .1 .1 .1 .1 .1 .0)) (List._∷_ (Row.lease (κs .1 .1 .1 .1 .1 .1 .1 .0) (qs .1 .1 .1 .1 .1 .1 .1 .0)) (List._∷_ (Row.lease (κs .1 .1 .1 .1 .1 .1 .1 .1 .0) (qs .1 .1 .1 .1 .1 .1 .1 .1 .0)) (List._∷_ (Row.lease (κs .1 .1 .1 .1 .1 .1 .1 .1 .1 .0) (qs .1 .1 .1 .1 .1 .1 .1 .1 .1 .0)) (List._∷_ Row.off (List._∷_ Row.off
+            List.[])))))))))))
+
+        abbrev slots·1 : List.List Row.Life
+        slots·1 = List._∷_ (Row.lease (κs .0) (qs .0)) (List._∷_ (Row.lease (κs .1 .0) (qs .1 .0)) (List._∷_ (Row.lease (κs .1 .1 .0) (qs .1 .1 .0)) (List._∷_ (Row.lease (κs .1 .1 .1 .0) (qs .1 .1 .1 .0)) (List._∷_ (Row.lease (κs .1 .1 .1 .1 .0) (qs .1 .1 .1 .1 .0)) (List._∷_ (Row.lease (κs .1 .1 .1 .1 .1 .0) (qs .1 .1 .1 .1 .1 .0)) (List._∷_ Row.off
+            (List._∷_ (Row.lease (κs .1 .1 .1 .1 .1 .1 .1 .0) (qs .1 .1 .1 .1 .1 .1 .1 .0)) (List._∷_ (Row.lease (κs .1 .1 .1 .1 .1 .1 .1 .1 .0) (qs .1 .1 .1 .1 .1 .1 .1 .1 .0)) (List._∷_ (Row.lease (κs .1 .1 .1 .1 .1 .1 .1 .1 .1 .0) (qs .1 .1 .1 .1 .1 .1 .1 .1 .1 .0)) (List._∷_ Row.alive (List._∷_ Row.off List.[])))))))))))
+
+        abbrev slots·2 : List.List Row.Life
+        slots·2 = List._∷_ (Row.lease (κs .0) (qs .0)) (List._∷_ (Row.lease (κs .1 .0) (qs .1 .0)) (List._∷_ (Row.lease (κs .1 .1 .0) (qs .1 .1 .0)) (List._∷_ (Row.lease (κs .1 .1 .1 .0) (qs .1 .1 .1 .0)) (List._∷_ (Row.lease (κs .1 .1 .1 .1 .0) (qs .1 .1 .1 .1 .0)) (List._∷_ (Row.lease (κs .1 .1 .1 .1 .1 .0) (qs .1 .1 .1 .1 .1 .0)) (List._∷_ Row.off
+            (List._∷_ Row.off (List._∷_ (Row.lease (κs .1 .1 .1 .1 .1 .1 .1 .1 .0) (qs .1 .1 .1 .1 .1 .1 .1 .1 .0)) (List._∷_ (Row.lease (κs .1 .1 .1 .1 .1 .1 .1 .1 .1 .0) (qs .1 .1 .1 .1 .1 .1 .1 .1 .1 .0)) (List._∷_ Row.alive (List._∷_ Row.alive List.[])))))))))))
+
+        abbrev slots·3 : List.List Row.Life
+        slots·3 = List._∷_ (Row.lease (κs .0) (qs .0)) (List._∷_ (Row.lease (κs .1 .0) (qs .1 .0)) (List._∷_ (Row.lease (κs .1 .1 .0) (qs .1 .1 .0)) (List._∷_ (Row.lease (κs .1 .1 .1 .0) (qs .1 .1 .1 .0)) (List._∷_ (Row.lease (κs .1 .1 .1 .1 .0) (qs .1 .1 .1 .1 .0)) (List._∷_ (Row.lease (κs .1 .1 .1 .1 .1 .0) (qs .1 .1 .1 .1 .1 .0)) (List._∷_ (Row.lease (κs
+            .1 .1 .1 .1 .1 .1 .0) (qs .1 .1 .1 .1 .1 .1 .0)) (List._∷_ Row.off (List._∷_ (Row.lease (κs .1 .1 .1 .1 .1 .1 .1 .1 .0) (qs .1 .1 .1 .1 .1 .1 .1 .1 .0)) (List._∷_ (Row.lease (κs .1 .1 .1 .1 .1 .1 .1 .1 .1 .0) (qs .1 .1 .1 .1 .1 .1 .1 .1 .1 .0)) (List._∷_ Row.dead (List._∷_ Row.alive List.[])))))))))))
+
+        abbrev slots·4 : List.List Row.Life
+        slots·4 = List._∷_ (Row.lease (κs .0) (qs .0)) (List._∷_ (Row.lease (κs .1 .0) (qs .1 .0)) (List._∷_ (Row.lease (κs .1 .1 .0) (qs .1 .1 .0)) (List._∷_ (Row.lease (κs .1 .1 .1 .0) (qs .1 .1 .1 .0)) (List._∷_ (Row.lease (κs .1 .1 .1 .1 .0) (qs .1 .1 .1 .1 .0)) (List._∷_ (Row.lease (κs .1 .1 .1 .1 .1 .0) (qs .1 .1 .1 .1 .1 .0)) (List._∷_ (Row.lease (κs
+            .1 .1 .1 .1 .1 .1 .0) (qs .1 .1 .1 .1 .1 .1 .0)) (List._∷_ (Row.lease (κs .1 .1 .1 .1 .1 .1 .1 .0) (qs .1 .1 .1 .1 .1 .1 .1 .0)) (List._∷_ (Row.lease (κs .1 .1 .1 .1 .1 .1 .1 .1 .0) (qs .1 .1 .1 .1 .1 .1 .1 .1 .0)) (List._∷_ (Row.lease (κs .1 .1 .1 .1 .1 .1 .1 .1 .1 .0) (qs .1 .1 .1 .1 .1 .1 .1 .1 .1 .0)) (List._∷_ Row.off (List._∷_ Row.dead
+            List.[])))))))))))
 
         abbrev G0 : Row.Cx
-        G0 = record {
-          locals = List._++_ t0 t1;
-          slots = List._∷_ (Row.lease (κs .0) (qs .0)) (List._∷_ (Row.lease (κs .1 .0) (qs .1 .0)) (List._∷_ (Row.lease (κs .1 .1 .0) (qs .1 .1 .0)) (List._∷_ (Row.lease (κs .1 .1 .1 .0) (qs .1 .1 .1 .0)) (List._∷_ (Row.lease (κs .1 .1 .1 .1 .0) (qs .1 .1 .1 .1 .0)) (List._∷_
-              (Row.lease (κs .1 .1 .1 .1 .1 .0) (qs .1 .1 .1 .1 .1 .0)) (List._∷_ (Row.lease (κs .1 .1 .1 .1 .1 .1 .0) (qs .1 .1 .1 .1 .1 .1 .0)) (List._∷_ (Row.lease (κs .1 .1 .1 .1 .1 .1 .1 .0) (qs .1 .1 .1 .1 .1 .1 .1 .0)) (List._∷_ (Row.lease (κs .1 .1 .1 .1 .1 .1 .1 .1 .0) (qs .1 .1 .1 .1 .1 .1 .1 .1 .0)) (List._∷_
-              (Row.lease (κs .1 .1 .1 .1 .1 .1 .1 .1 .1 .0) (qs .1 .1 .1 .1 .1 .1 .1 .1 .1 .0)) (List._∷_ Row.off (List._∷_ Row.off List.[])))))))))));
-        }
+        G0 = record { locals = T0 .locals; slots = slots·0 }
 
         abbrev G1 : Row.Cx
-        G1 = record {
-          locals = List._++_ t2 t1;
-          slots = List._∷_ (Row.lease (κs .0) (qs .0)) (List._∷_ (Row.lease (κs .1 .0) (qs .1 .0)) (List._∷_ (Row.lease (κs .1 .1 .0) (qs .1 .1 .0)) (List._∷_ (Row.lease (κs .1 .1 .1 .0) (qs .1 .1 .1 .0)) (List._∷_ (Row.lease (κs .1 .1 .1 .1 .0) (qs .1 .1 .1 .1 .0)) (List._∷_
-              (Row.lease (κs .1 .1 .1 .1 .1 .0) (qs .1 .1 .1 .1 .1 .0)) (List._∷_ (Row.lease (κs .1 .1 .1 .1 .1 .1 .0) (qs .1 .1 .1 .1 .1 .1 .0)) (List._∷_ (Row.lease (κs .1 .1 .1 .1 .1 .1 .1 .0) (qs .1 .1 .1 .1 .1 .1 .1 .0)) (List._∷_ (Row.lease (κs .1 .1 .1 .1 .1 .1 .1 .1 .0) (qs .1 .1 .1 .1 .1 .1 .1 .1 .0)) (List._∷_
-              (Row.lease (κs .1 .1 .1 .1 .1 .1 .1 .1 .1 .0) (qs .1 .1 .1 .1 .1 .1 .1 .1 .1 .0)) (List._∷_ Row.off (List._∷_ Row.off List.[])))))))))));
-        }
-
-        abbrev G2 : Row.Cx
-        G2 = record {
-          locals = List._++_ t0 t1;
-          slots = List._∷_ (Row.lease (κs .0) (qs .0)) (List._∷_ (Row.lease (κs .1 .0) (qs .1 .0)) (List._∷_ (Row.lease (κs .1 .1 .0) (qs .1 .1 .0)) (List._∷_ (Row.lease (κs .1 .1 .1 .0) (qs .1 .1 .1 .0)) (List._∷_ (Row.lease (κs .1 .1 .1 .1 .0) (qs .1 .1 .1 .1 .0)) (List._∷_
-              (Row.lease (κs .1 .1 .1 .1 .1 .0) (qs .1 .1 .1 .1 .1 .0)) (List._∷_ (Row.lease (κs .1 .1 .1 .1 .1 .1 .0) (qs .1 .1 .1 .1 .1 .1 .0)) (List._∷_ (Row.lease (κs .1 .1 .1 .1 .1 .1 .1 .0) (qs .1 .1 .1 .1 .1 .1 .1 .0)) (List._∷_ (Row.lease (κs .1 .1 .1 .1 .1 .1 .1 .1 .0) (qs .1 .1 .1 .1 .1 .1 .1 .1 .0)) (List._∷_
-              (Row.lease (κs .1 .1 .1 .1 .1 .1 .1 .1 .1 .0) (qs .1 .1 .1 .1 .1 .1 .1 .1 .1 .0)) (List._∷_ Row.off (List._∷_ Row.off List.[])))))))))));
-        }
-
-        abbrev G3 : Row.Cx
-        G3 = record {
-          locals = List._++_ t0 t1;
-          slots = List._∷_ (Row.lease (κs .0) (qs .0)) (List._∷_ (Row.lease (κs .1 .0) (qs .1 .0)) (List._∷_ (Row.lease (κs .1 .1 .0) (qs .1 .1 .0)) (List._∷_ (Row.lease (κs .1 .1 .1 .0) (qs .1 .1 .1 .0)) (List._∷_ (Row.lease (κs .1 .1 .1 .1 .0) (qs .1 .1 .1 .1 .0)) (List._∷_
-              (Row.lease (κs .1 .1 .1 .1 .1 .0) (qs .1 .1 .1 .1 .1 .0)) (List._∷_ (Row.lease (κs .1 .1 .1 .1 .1 .1 .0) (qs .1 .1 .1 .1 .1 .1 .0)) (List._∷_ (Row.lease (κs .1 .1 .1 .1 .1 .1 .1 .0) (qs .1 .1 .1 .1 .1 .1 .1 .0)) (List._∷_ (Row.lease (κs .1 .1 .1 .1 .1 .1 .1 .1 .0) (qs .1 .1 .1 .1 .1 .1 .1 .1 .0)) (List._∷_
-              (Row.lease (κs .1 .1 .1 .1 .1 .1 .1 .1 .1 .0) (qs .1 .1 .1 .1 .1 .1 .1 .1 .1 .0)) (List._∷_ Row.off (List._∷_ Row.off List.[])))))))))));
-        }
-
-        abbrev G4 : Row.Cx
-        G4 = record {
-          locals = List._++_ t0 t1;
-          slots = List._∷_ (Row.lease (κs .0) (qs .0)) (List._∷_ (Row.lease (κs .1 .0) (qs .1 .0)) (List._∷_ (Row.lease (κs .1 .1 .0) (qs .1 .1 .0)) (List._∷_ (Row.lease (κs .1 .1 .1 .0) (qs .1 .1 .1 .0)) (List._∷_ (Row.lease (κs .1 .1 .1 .1 .0) (qs .1 .1 .1 .1 .0)) (List._∷_
-              (Row.lease (κs .1 .1 .1 .1 .1 .0) (qs .1 .1 .1 .1 .1 .0)) (List._∷_ (Row.lease (κs .1 .1 .1 .1 .1 .1 .0) (qs .1 .1 .1 .1 .1 .1 .0)) (List._∷_ (Row.lease (κs .1 .1 .1 .1 .1 .1 .1 .0) (qs .1 .1 .1 .1 .1 .1 .1 .0)) (List._∷_ (Row.lease (κs .1 .1 .1 .1 .1 .1 .1 .1 .0) (qs .1 .1 .1 .1 .1 .1 .1 .1 .0)) (List._∷_
-              (Row.lease (κs .1 .1 .1 .1 .1 .1 .1 .1 .1 .0) (qs .1 .1 .1 .1 .1 .1 .1 .1 .1 .0)) (List._∷_ Row.off (List._∷_ Row.off List.[])))))))))));
-        }
-
-        abbrev G5 : Row.Cx
-        G5 = record {
-          locals = List._++_ t0 t1;
-          slots = List._∷_ (Row.lease (κs .0) (qs .0)) (List._∷_ (Row.lease (κs .1 .0) (qs .1 .0)) (List._∷_ (Row.lease (κs .1 .1 .0) (qs .1 .1 .0)) (List._∷_ (Row.lease (κs .1 .1 .1 .0) (qs .1 .1 .1 .0)) (List._∷_ (Row.lease (κs .1 .1 .1 .1 .0) (qs .1 .1 .1 .1 .0)) (List._∷_
-              (Row.lease (κs .1 .1 .1 .1 .1 .0) (qs .1 .1 .1 .1 .1 .0)) (List._∷_ (Row.lease (κs .1 .1 .1 .1 .1 .1 .0) (qs .1 .1 .1 .1 .1 .1 .0)) (List._∷_ (Row.lease (κs .1 .1 .1 .1 .1 .1 .1 .0) (qs .1 .1 .1 .1 .1 .1 .1 .0)) (List._∷_ (Row.lease (κs .1 .1 .1 .1 .1 .1 .1 .1 .0) (qs .1 .1 .1 .1 .1 .1 .1 .1 .0)) (List._∷_
-              (Row.lease (κs .1 .1 .1 .1 .1 .1 .1 .1 .1 .0) (qs .1 .1 .1 .1 .1 .1 .1 .1 .1 .0)) (List._∷_ Row.off (List._∷_ Row.off List.[])))))))))));
-        }
-
-        abbrev G6 : Row.Cx
-        G6 = record {
-          locals = List._++_ t0 t1;
-          slots = List._∷_ (Row.lease (κs .0) (qs .0)) (List._∷_ (Row.lease (κs .1 .0) (qs .1 .0)) (List._∷_ (Row.lease (κs .1 .1 .0) (qs .1 .1 .0)) (List._∷_ (Row.lease (κs .1 .1 .1 .0) (qs .1 .1 .1 .0)) (List._∷_ (Row.lease (κs .1 .1 .1 .1 .0) (qs .1 .1 .1 .1 .0)) (List._∷_
-              (Row.lease (κs .1 .1 .1 .1 .1 .0) (qs .1 .1 .1 .1 .1 .0)) (List._∷_ (Row.lease (κs .1 .1 .1 .1 .1 .1 .0) (qs .1 .1 .1 .1 .1 .1 .0)) (List._∷_ (Row.lease (κs .1 .1 .1 .1 .1 .1 .1 .0) (qs .1 .1 .1 .1 .1 .1 .1 .0)) (List._∷_ (Row.lease (κs .1 .1 .1 .1 .1 .1 .1 .1 .0) (qs .1 .1 .1 .1 .1 .1 .1 .1 .0)) (List._∷_
-              (Row.lease (κs .1 .1 .1 .1 .1 .1 .1 .1 .1 .0) (qs .1 .1 .1 .1 .1 .1 .1 .1 .1 .0)) (List._∷_ Row.off (List._∷_ Row.off List.[])))))))))));
-        }
-
-        abbrev G7 : Row.Cx
-        G7 = record {
-          locals = List._++_ t0 t1;
-          slots = List._∷_ (Row.lease (κs .0) (qs .0)) (List._∷_ (Row.lease (κs .1 .0) (qs .1 .0)) (List._∷_ (Row.lease (κs .1 .1 .0) (qs .1 .1 .0)) (List._∷_ (Row.lease (κs .1 .1 .1 .0) (qs .1 .1 .1 .0)) (List._∷_ (Row.lease (κs .1 .1 .1 .1 .0) (qs .1 .1 .1 .1 .0)) (List._∷_
-              (Row.lease (κs .1 .1 .1 .1 .1 .0) (qs .1 .1 .1 .1 .1 .0)) (List._∷_ (Row.lease (κs .1 .1 .1 .1 .1 .1 .0) (qs .1 .1 .1 .1 .1 .1 .0)) (List._∷_ (Row.lease (κs .1 .1 .1 .1 .1 .1 .1 .0) (qs .1 .1 .1 .1 .1 .1 .1 .0)) (List._∷_ (Row.lease (κs .1 .1 .1 .1 .1 .1 .1 .1 .0) (qs .1 .1 .1 .1 .1 .1 .1 .1 .0)) (List._∷_
-              (Row.lease (κs .1 .1 .1 .1 .1 .1 .1 .1 .1 .0) (qs .1 .1 .1 .1 .1 .1 .1 .1 .1 .0)) (List._∷_ Row.off (List._∷_ Row.off List.[])))))))))));
-        }
-
-        abbrev G8 : Row.Cx
-        G8 = record {
-          locals = List._++_ t0 t1;
-          slots = List._∷_ (Row.lease (κs .0) (qs .0)) (List._∷_ (Row.lease (κs .1 .0) (qs .1 .0)) (List._∷_ (Row.lease (κs .1 .1 .0) (qs .1 .1 .0)) (List._∷_ (Row.lease (κs .1 .1 .1 .0) (qs .1 .1 .1 .0)) (List._∷_ (Row.lease (κs .1 .1 .1 .1 .0) (qs .1 .1 .1 .1 .0)) (List._∷_
-              (Row.lease (κs .1 .1 .1 .1 .1 .0) (qs .1 .1 .1 .1 .1 .0)) (List._∷_ (Row.lease (κs .1 .1 .1 .1 .1 .1 .0) (qs .1 .1 .1 .1 .1 .1 .0)) (List._∷_ (Row.lease (κs .1 .1 .1 .1 .1 .1 .1 .0) (qs .1 .1 .1 .1 .1 .1 .1 .0)) (List._∷_ (Row.lease (κs .1 .1 .1 .1 .1 .1 .1 .1 .0) (qs .1 .1 .1 .1 .1 .1 .1 .1 .0)) (List._∷_
-              (Row.lease (κs .1 .1 .1 .1 .1 .1 .1 .1 .1 .0) (qs .1 .1 .1 .1 .1 .1 .1 .1 .1 .0)) (List._∷_ Row.off (List._∷_ Row.off List.[])))))))))));
-        }
-
-        abbrev G9 : Row.Cx
-        G9 = record {
-          locals = List._++_ t0 t1;
-          slots = List._∷_ (Row.lease (κs .0) (qs .0)) (List._∷_ (Row.lease (κs .1 .0) (qs .1 .0)) (List._∷_ (Row.lease (κs .1 .1 .0) (qs .1 .1 .0)) (List._∷_ (Row.lease (κs .1 .1 .1 .0) (qs .1 .1 .1 .0)) (List._∷_ (Row.lease (κs .1 .1 .1 .1 .0) (qs .1 .1 .1 .1 .0)) (List._∷_
-              (Row.lease (κs .1 .1 .1 .1 .1 .0) (qs .1 .1 .1 .1 .1 .0)) (List._∷_ (Row.lease (κs .1 .1 .1 .1 .1 .1 .0) (qs .1 .1 .1 .1 .1 .1 .0)) (List._∷_ (Row.lease (κs .1 .1 .1 .1 .1 .1 .1 .0) (qs .1 .1 .1 .1 .1 .1 .1 .0)) (List._∷_ (Row.lease (κs .1 .1 .1 .1 .1 .1 .1 .1 .0) (qs .1 .1 .1 .1 .1 .1 .1 .1 .0)) (List._∷_
-              (Row.lease (κs .1 .1 .1 .1 .1 .1 .1 .1 .1 .0) (qs .1 .1 .1 .1 .1 .1 .1 .1 .1 .0)) (List._∷_ Row.off (List._∷_ Row.off List.[])))))))))));
-        }
-
-        abbrev G10 : Row.Cx
-        G10 = record {
-          locals = List._++_ t0 t1;
-          slots = List._∷_ (Row.lease (κs .0) (qs .0)) (List._∷_ (Row.lease (κs .1 .0) (qs .1 .0)) (List._∷_ (Row.lease (κs .1 .1 .0) (qs .1 .1 .0)) (List._∷_ (Row.lease (κs .1 .1 .1 .0) (qs .1 .1 .1 .0)) (List._∷_ (Row.lease (κs .1 .1 .1 .1 .0) (qs .1 .1 .1 .1 .0)) (List._∷_
-              (Row.lease (κs .1 .1 .1 .1 .1 .0) (qs .1 .1 .1 .1 .1 .0)) (List._∷_ (Row.lease (κs .1 .1 .1 .1 .1 .1 .0) (qs .1 .1 .1 .1 .1 .1 .0)) (List._∷_ (Row.lease (κs .1 .1 .1 .1 .1 .1 .1 .0) (qs .1 .1 .1 .1 .1 .1 .1 .0)) (List._∷_ (Row.lease (κs .1 .1 .1 .1 .1 .1 .1 .1 .0) (qs .1 .1 .1 .1 .1 .1 .1 .1 .0)) (List._∷_
-              (Row.lease (κs .1 .1 .1 .1 .1 .1 .1 .1 .1 .0) (qs .1 .1 .1 .1 .1 .1 .1 .1 .1 .0)) (List._∷_ Row.off (List._∷_ Row.off List.[])))))))))));
-        }
+        G1 = record { locals = T1 .locals; slots = slots·0 }
 
         abbrev G11 : Row.Cx
-        G11 = record {
-          locals = List._++_ t3 t1;
-          slots = List._∷_ (Row.lease (κs .0) (qs .0)) (List._∷_ (Row.lease (κs .1 .0) (qs .1 .0)) (List._∷_ (Row.lease (κs .1 .1 .0) (qs .1 .1 .0)) (List._∷_ (Row.lease (κs .1 .1 .1 .0) (qs .1 .1 .1 .0)) (List._∷_ (Row.lease (κs .1 .1 .1 .1 .0) (qs .1 .1 .1 .1 .0)) (List._∷_
-              (Row.lease (κs .1 .1 .1 .1 .1 .0) (qs .1 .1 .1 .1 .1 .0)) (List._∷_ (Row.lease (κs .1 .1 .1 .1 .1 .1 .0) (qs .1 .1 .1 .1 .1 .1 .0)) (List._∷_ (Row.lease (κs .1 .1 .1 .1 .1 .1 .1 .0) (qs .1 .1 .1 .1 .1 .1 .1 .0)) (List._∷_ (Row.lease (κs .1 .1 .1 .1 .1 .1 .1 .1 .0) (qs .1 .1 .1 .1 .1 .1 .1 .1 .0)) (List._∷_
-              (Row.lease (κs .1 .1 .1 .1 .1 .1 .1 .1 .1 .0) (qs .1 .1 .1 .1 .1 .1 .1 .1 .1 .0)) (List._∷_ Row.off (List._∷_ Row.off List.[])))))))))));
-        }
+        G11 = record { locals = T11 .locals; slots = slots·0 }
 
         abbrev G12 : Row.Cx
-        G12 = record {
-          locals = List._++_ t4 t1;
-          slots = List._∷_ (Row.lease (κs .0) (qs .0)) (List._∷_ (Row.lease (κs .1 .0) (qs .1 .0)) (List._∷_ (Row.lease (κs .1 .1 .0) (qs .1 .1 .0)) (List._∷_ (Row.lease (κs .1 .1 .1 .0) (qs .1 .1 .1 .0)) (List._∷_ (Row.lease (κs .1 .1 .1 .1 .0) (qs .1 .1 .1 .1 .0)) (List._∷_
-              (Row.lease (κs .1 .1 .1 .1 .1 .0) (qs .1 .1 .1 .1 .1 .0)) (List._∷_ (Row.lease (κs .1 .1 .1 .1 .1 .1 .0) (qs .1 .1 .1 .1 .1 .1 .0)) (List._∷_ (Row.lease (κs .1 .1 .1 .1 .1 .1 .1 .0) (qs .1 .1 .1 .1 .1 .1 .1 .0)) (List._∷_ (Row.lease (κs .1 .1 .1 .1 .1 .1 .1 .1 .0) (qs .1 .1 .1 .1 .1 .1 .1 .1 .0)) (List._∷_
-              (Row.lease (κs .1 .1 .1 .1 .1 .1 .1 .1 .1 .0) (qs .1 .1 .1 .1 .1 .1 .1 .1 .1 .0)) (List._∷_ Row.off (List._∷_ Row.off List.[])))))))))));
-        }
+        G12 = record { locals = T12 .locals; slots = slots·0 }
 
         abbrev G13 : Row.Cx
-        G13 = record {
-          locals = List._++_ t5 t1;
-          slots = List._∷_ (Row.lease (κs .0) (qs .0)) (List._∷_ (Row.lease (κs .1 .0) (qs .1 .0)) (List._∷_ (Row.lease (κs .1 .1 .0) (qs .1 .1 .0)) (List._∷_ (Row.lease (κs .1 .1 .1 .0) (qs .1 .1 .1 .0)) (List._∷_ (Row.lease (κs .1 .1 .1 .1 .0) (qs .1 .1 .1 .1 .0)) (List._∷_
-              (Row.lease (κs .1 .1 .1 .1 .1 .0) (qs .1 .1 .1 .1 .1 .0)) (List._∷_ (Row.lease (κs .1 .1 .1 .1 .1 .1 .0) (qs .1 .1 .1 .1 .1 .1 .0)) (List._∷_ (Row.lease (κs .1 .1 .1 .1 .1 .1 .1 .0) (qs .1 .1 .1 .1 .1 .1 .1 .0)) (List._∷_ (Row.lease (κs .1 .1 .1 .1 .1 .1 .1 .1 .0) (qs .1 .1 .1 .1 .1 .1 .1 .1 .0)) (List._∷_
-              (Row.lease (κs .1 .1 .1 .1 .1 .1 .1 .1 .1 .0) (qs .1 .1 .1 .1 .1 .1 .1 .1 .1 .0)) (List._∷_ Row.off (List._∷_ Row.off List.[])))))))))));
-        }
-
-        abbrev G14 : Row.Cx
-        G14 = record {
-          locals = List._++_ t5 t1;
-          slots = List._∷_ (Row.lease (κs .0) (qs .0)) (List._∷_ (Row.lease (κs .1 .0) (qs .1 .0)) (List._∷_ (Row.lease (κs .1 .1 .0) (qs .1 .1 .0)) (List._∷_ (Row.lease (κs .1 .1 .1 .0) (qs .1 .1 .1 .0)) (List._∷_ (Row.lease (κs .1 .1 .1 .1 .0) (qs .1 .1 .1 .1 .0)) (List._∷_
-              (Row.lease (κs .1 .1 .1 .1 .1 .0) (qs .1 .1 .1 .1 .1 .0)) (List._∷_ (Row.lease (κs .1 .1 .1 .1 .1 .1 .0) (qs .1 .1 .1 .1 .1 .1 .0)) (List._∷_ (Row.lease (κs .1 .1 .1 .1 .1 .1 .1 .0) (qs .1 .1 .1 .1 .1 .1 .1 .0)) (List._∷_ (Row.lease (κs .1 .1 .1 .1 .1 .1 .1 .1 .0) (qs .1 .1 .1 .1 .1 .1 .1 .1 .0)) (List._∷_
-              (Row.lease (κs .1 .1 .1 .1 .1 .1 .1 .1 .1 .0) (qs .1 .1 .1 .1 .1 .1 .1 .1 .1 .0)) (List._∷_ Row.off (List._∷_ Row.off List.[])))))))))));
-        }
+        G13 = record { locals = T13 .locals; slots = slots·0 }
 
         abbrev G15 : Row.Cx
-        G15 = record {
-          locals = List._++_ t5 t6;
-          slots = List._∷_ (Row.lease (κs .0) (qs .0)) (List._∷_ (Row.lease (κs .1 .0) (qs .1 .0)) (List._∷_ (Row.lease (κs .1 .1 .0) (qs .1 .1 .0)) (List._∷_ (Row.lease (κs .1 .1 .1 .0) (qs .1 .1 .1 .0)) (List._∷_ (Row.lease (κs .1 .1 .1 .1 .0) (qs .1 .1 .1 .1 .0)) (List._∷_
-              (Row.lease (κs .1 .1 .1 .1 .1 .0) (qs .1 .1 .1 .1 .1 .0)) (List._∷_ (Row.lease (κs .1 .1 .1 .1 .1 .1 .0) (qs .1 .1 .1 .1 .1 .1 .0)) (List._∷_ (Row.lease (κs .1 .1 .1 .1 .1 .1 .1 .0) (qs .1 .1 .1 .1 .1 .1 .1 .0)) (List._∷_ (Row.lease (κs .1 .1 .1 .1 .1 .1 .1 .1 .0) (qs .1 .1 .1 .1 .1 .1 .1 .1 .0)) (List._∷_
-              (Row.lease (κs .1 .1 .1 .1 .1 .1 .1 .1 .1 .0) (qs .1 .1 .1 .1 .1 .1 .1 .1 .1 .0)) (List._∷_ Row.off (List._∷_ Row.off List.[])))))))))));
-        }
+        G15 = record { locals = T15 .locals; slots = slots·0 }
 
         abbrev G16 : Row.Cx
-        G16 = record {
-          locals = List._++_ t7 t1;
-          slots = List._∷_ (Row.lease (κs .0) (qs .0)) (List._∷_ (Row.lease (κs .1 .0) (qs .1 .0)) (List._∷_ (Row.lease (κs .1 .1 .0) (qs .1 .1 .0)) (List._∷_ (Row.lease (κs .1 .1 .1 .0) (qs .1 .1 .1 .0)) (List._∷_ (Row.lease (κs .1 .1 .1 .1 .0) (qs .1 .1 .1 .1 .0)) (List._∷_
-              (Row.lease (κs .1 .1 .1 .1 .1 .0) (qs .1 .1 .1 .1 .1 .0)) (List._∷_ (Row.lease (κs .1 .1 .1 .1 .1 .1 .0) (qs .1 .1 .1 .1 .1 .1 .0)) (List._∷_ (Row.lease (κs .1 .1 .1 .1 .1 .1 .1 .0) (qs .1 .1 .1 .1 .1 .1 .1 .0)) (List._∷_ (Row.lease (κs .1 .1 .1 .1 .1 .1 .1 .1 .0) (qs .1 .1 .1 .1 .1 .1 .1 .1 .0)) (List._∷_
-              (Row.lease (κs .1 .1 .1 .1 .1 .1 .1 .1 .1 .0) (qs .1 .1 .1 .1 .1 .1 .1 .1 .1 .0)) (List._∷_ Row.off (List._∷_ Row.off List.[])))))))))));
-        }
+        G16 = record { locals = T16 .locals; slots = slots·0 }
 
         abbrev G17 : Row.Cx
-        G17 = record {
-          locals = List._++_ t8 t6;
-          slots = List._∷_ (Row.lease (κs .0) (qs .0)) (List._∷_ (Row.lease (κs .1 .0) (qs .1 .0)) (List._∷_ (Row.lease (κs .1 .1 .0) (qs .1 .1 .0)) (List._∷_ (Row.lease (κs .1 .1 .1 .0) (qs .1 .1 .1 .0)) (List._∷_ (Row.lease (κs .1 .1 .1 .1 .0) (qs .1 .1 .1 .1 .0)) (List._∷_
-              (Row.lease (κs .1 .1 .1 .1 .1 .0) (qs .1 .1 .1 .1 .1 .0)) (List._∷_ (Row.lease (κs .1 .1 .1 .1 .1 .1 .0) (qs .1 .1 .1 .1 .1 .1 .0)) (List._∷_ (Row.lease (κs .1 .1 .1 .1 .1 .1 .1 .0) (qs .1 .1 .1 .1 .1 .1 .1 .0)) (List._∷_ (Row.lease (κs .1 .1 .1 .1 .1 .1 .1 .1 .0) (qs .1 .1 .1 .1 .1 .1 .1 .1 .0)) (List._∷_
-              (Row.lease (κs .1 .1 .1 .1 .1 .1 .1 .1 .1 .0) (qs .1 .1 .1 .1 .1 .1 .1 .1 .1 .0)) (List._∷_ Row.off (List._∷_ Row.off List.[])))))))))));
-        }
+        G17 = record { locals = T17 .locals; slots = slots·0 }
 
         abbrev G18 : Row.Cx
-        G18 = record {
-          locals = List._++_ t7 t6;
-          slots = List._∷_ (Row.lease (κs .0) (qs .0)) (List._∷_ (Row.lease (κs .1 .0) (qs .1 .0)) (List._∷_ (Row.lease (κs .1 .1 .0) (qs .1 .1 .0)) (List._∷_ (Row.lease (κs .1 .1 .1 .0) (qs .1 .1 .1 .0)) (List._∷_ (Row.lease (κs .1 .1 .1 .1 .0) (qs .1 .1 .1 .1 .0)) (List._∷_
-              (Row.lease (κs .1 .1 .1 .1 .1 .0) (qs .1 .1 .1 .1 .1 .0)) (List._∷_ (Row.lease (κs .1 .1 .1 .1 .1 .1 .0) (qs .1 .1 .1 .1 .1 .1 .0)) (List._∷_ (Row.lease (κs .1 .1 .1 .1 .1 .1 .1 .0) (qs .1 .1 .1 .1 .1 .1 .1 .0)) (List._∷_ (Row.lease (κs .1 .1 .1 .1 .1 .1 .1 .1 .0) (qs .1 .1 .1 .1 .1 .1 .1 .1 .0)) (List._∷_
-              (Row.lease (κs .1 .1 .1 .1 .1 .1 .1 .1 .1 .0) (qs .1 .1 .1 .1 .1 .1 .1 .1 .1 .0)) (List._∷_ Row.off (List._∷_ Row.off List.[])))))))))));
-        }
-
-        abbrev G19 : Row.Cx
-        G19 = record {
-          locals = List._++_ t7 t1;
-          slots = List._∷_ (Row.lease (κs .0) (qs .0)) (List._∷_ (Row.lease (κs .1 .0) (qs .1 .0)) (List._∷_ (Row.lease (κs .1 .1 .0) (qs .1 .1 .0)) (List._∷_ (Row.lease (κs .1 .1 .1 .0) (qs .1 .1 .1 .0)) (List._∷_ (Row.lease (κs .1 .1 .1 .1 .0) (qs .1 .1 .1 .1 .0)) (List._∷_
-              (Row.lease (κs .1 .1 .1 .1 .1 .0) (qs .1 .1 .1 .1 .1 .0)) (List._∷_ (Row.lease (κs .1 .1 .1 .1 .1 .1 .0) (qs .1 .1 .1 .1 .1 .1 .0)) (List._∷_ (Row.lease (κs .1 .1 .1 .1 .1 .1 .1 .0) (qs .1 .1 .1 .1 .1 .1 .1 .0)) (List._∷_ (Row.lease (κs .1 .1 .1 .1 .1 .1 .1 .1 .0) (qs .1 .1 .1 .1 .1 .1 .1 .1 .0)) (List._∷_
-              (Row.lease (κs .1 .1 .1 .1 .1 .1 .1 .1 .1 .0) (qs .1 .1 .1 .1 .1 .1 .1 .1 .1 .0)) (List._∷_ Row.off (List._∷_ Row.off List.[])))))))))));
-        }
-
-        abbrev G20 : Row.Cx
-        G20 = record {
-          locals = List._++_ t5 t1;
-          slots = List._∷_ (Row.lease (κs .0) (qs .0)) (List._∷_ (Row.lease (κs .1 .0) (qs .1 .0)) (List._∷_ (Row.lease (κs .1 .1 .0) (qs .1 .1 .0)) (List._∷_ (Row.lease (κs .1 .1 .1 .0) (qs .1 .1 .1 .0)) (List._∷_ (Row.lease (κs .1 .1 .1 .1 .0) (qs .1 .1 .1 .1 .0)) (List._∷_
-              (Row.lease (κs .1 .1 .1 .1 .1 .0) (qs .1 .1 .1 .1 .1 .0)) (List._∷_ (Row.lease (κs .1 .1 .1 .1 .1 .1 .0) (qs .1 .1 .1 .1 .1 .1 .0)) (List._∷_ (Row.lease (κs .1 .1 .1 .1 .1 .1 .1 .0) (qs .1 .1 .1 .1 .1 .1 .1 .0)) (List._∷_ (Row.lease (κs .1 .1 .1 .1 .1 .1 .1 .1 .0) (qs .1 .1 .1 .1 .1 .1 .1 .1 .0)) (List._∷_
-              (Row.lease (κs .1 .1 .1 .1 .1 .1 .1 .1 .1 .0) (qs .1 .1 .1 .1 .1 .1 .1 .1 .1 .0)) (List._∷_ Row.off (List._∷_ Row.off List.[])))))))))));
-        }
+        G18 = record { locals = T18 .locals; slots = slots·0 }
 
         abbrev G21 : Row.Cx
-        G21 = record {
-          locals = List._++_ t7 t1;
-          slots = List._∷_ (Row.lease (κs .0) (qs .0)) (List._∷_ (Row.lease (κs .1 .0) (qs .1 .0)) (List._∷_ (Row.lease (κs .1 .1 .0) (qs .1 .1 .0)) (List._∷_ (Row.lease (κs .1 .1 .1 .0) (qs .1 .1 .1 .0)) (List._∷_ (Row.lease (κs .1 .1 .1 .1 .0) (qs .1 .1 .1 .1 .0)) (List._∷_
-              (Row.lease (κs .1 .1 .1 .1 .1 .0) (qs .1 .1 .1 .1 .1 .0)) (List._∷_ (Row.lease (κs .1 .1 .1 .1 .1 .1 .0) (qs .1 .1 .1 .1 .1 .1 .0)) (List._∷_ (Row.lease (κs .1 .1 .1 .1 .1 .1 .1 .0) (qs .1 .1 .1 .1 .1 .1 .1 .0)) (List._∷_ (Row.lease (κs .1 .1 .1 .1 .1 .1 .1 .1 .0) (qs .1 .1 .1 .1 .1 .1 .1 .1 .0)) (List._∷_
-              (Row.lease (κs .1 .1 .1 .1 .1 .1 .1 .1 .1 .0) (qs .1 .1 .1 .1 .1 .1 .1 .1 .1 .0)) (List._∷_ Row.alive (List._∷_ Row.off List.[])))))))))));
-        }
+        G21 = record
+            { locals = T16 .locals; slots = List._∷_ (Row.lease (κs .0) (qs .0)) (List._∷_ (Row.lease (κs .1 .0) (qs .1 .0)) (List._∷_ (Row.lease (κs .1 .1 .0) (qs .1 .1 .0)) (List._∷_ (Row.lease (κs .1 .1 .1 .0) (qs .1 .1 .1 .0)) (List._∷_ (Row.lease (κs .1 .1 .1 .1 .0) (qs .1 .1 .1 .1 .0)) (List._∷_ (Row.lease (κs .1 .1 .1 .1 .1 .0) (qs .1 .1 .1 .1 .1 .0)) (List._∷_ (Row.lease (κs .1 .1 .1 .1 .1 .1 .0) (qs .1 .1 .1 .1 .1 .1 .0)) (List._∷_ (Row.lease (κs .1 .1 .1 .1 .1 .1 .1 .0) (qs .1 .1 .1 .1 .1 .1 .1 .0)) (List._∷_ (Row.lease (κs .1 .1 .1 .1 .1 .1 .1 .1 .0) (qs .1 .1 .1 .1 .1 .1 .1 .1 .0)) (List._∷_ (Row.lease (κs .1 .1 .1 .1 .1 .1 .1 .1 .1 .0) (qs .1 .1 .1 .1 .1 .1 .1 .1 .1 .0)) (List._∷_ Row.alive (List._∷_ Row.off List.[]))))))))))) }
 
         abbrev G22 : Row.Cx
-        G22 = record {
-          locals = List._++_ g9 t10;
-          slots = List._∷_ (Row.lease (κs .0) (qs .0)) (List._∷_ (Row.lease (κs .1 .0) (qs .1 .0)) (List._∷_ (Row.lease (κs .1 .1 .0) (qs .1 .1 .0)) (List._∷_ (Row.lease (κs .1 .1 .1 .0) (qs .1 .1 .1 .0)) (List._∷_ (Row.lease (κs .1 .1 .1 .1 .0) (qs .1 .1 .1 .1 .0)) (List._∷_
-              (Row.lease (κs .1 .1 .1 .1 .1 .0) (qs .1 .1 .1 .1 .1 .0)) (List._∷_ Row.off (List._∷_ (Row.lease (κs .1 .1 .1 .1 .1 .1 .1 .0) (qs .1 .1 .1 .1 .1 .1 .1 .0)) (List._∷_ (Row.lease (κs .1 .1 .1 .1 .1 .1 .1 .1 .0) (qs .1 .1 .1 .1 .1 .1 .1 .1 .0)) (List._∷_ (Row.lease (κs .1 .1 .1 .1 .1 .1 .1 .1 .1 .0) (qs .1 .1 .1 .1 .1 .1 .1 .1 .1 .0))
-              (List._∷_ Row.alive (List._∷_ Row.off List.[])))))))))));
-        }
+        G22 = record { locals = List._++_ g9 t10; slots = slots·1 }
 
         abbrev G23 : Row.Cx
-        G23 = record {
-          locals = List._++_ g9 t11;
-          slots = List._∷_ (Row.lease (κs .0) (qs .0)) (List._∷_ (Row.lease (κs .1 .0) (qs .1 .0)) (List._∷_ (Row.lease (κs .1 .1 .0) (qs .1 .1 .0)) (List._∷_ (Row.lease (κs .1 .1 .1 .0) (qs .1 .1 .1 .0)) (List._∷_ (Row.lease (κs .1 .1 .1 .1 .0) (qs .1 .1 .1 .1 .0)) (List._∷_
-              (Row.lease (κs .1 .1 .1 .1 .1 .0) (qs .1 .1 .1 .1 .1 .0)) (List._∷_ Row.off (List._∷_ (Row.lease (κs .1 .1 .1 .1 .1 .1 .1 .0) (qs .1 .1 .1 .1 .1 .1 .1 .0)) (List._∷_ (Row.lease (κs .1 .1 .1 .1 .1 .1 .1 .1 .0) (qs .1 .1 .1 .1 .1 .1 .1 .1 .0)) (List._∷_ (Row.lease (κs .1 .1 .1 .1 .1 .1 .1 .1 .1 .0) (qs .1 .1 .1 .1 .1 .1 .1 .1 .1 .0))
-              (List._∷_ Row.alive (List._∷_ Row.off List.[])))))))))));
-        }
+        G23 = record { locals = List._++_ g9 t11; slots = slots·1 }
 
         abbrev G24 : Row.Cx
-        G24 = record {
-          locals = List._++_ g9 t11;
-          slots = List._∷_ (Row.lease (κs .0) (qs .0)) (List._∷_ (Row.lease (κs .1 .0) (qs .1 .0)) (List._∷_ (Row.lease (κs .1 .1 .0) (qs .1 .1 .0)) (List._∷_ (Row.lease (κs .1 .1 .1 .0) (qs .1 .1 .1 .0)) (List._∷_ (Row.lease (κs .1 .1 .1 .1 .0) (qs .1 .1 .1 .1 .0)) (List._∷_
-              (Row.lease (κs .1 .1 .1 .1 .1 .0) (qs .1 .1 .1 .1 .1 .0)) (List._∷_ Row.off (List._∷_ (Row.lease (κs .1 .1 .1 .1 .1 .1 .1 .0) (qs .1 .1 .1 .1 .1 .1 .1 .0)) (List._∷_ (Row.lease (κs .1 .1 .1 .1 .1 .1 .1 .1 .0) (qs .1 .1 .1 .1 .1 .1 .1 .1 .0)) (List._∷_ (Row.lease (κs .1 .1 .1 .1 .1 .1 .1 .1 .1 .0) (qs .1 .1 .1 .1 .1 .1 .1 .1 .1 .0))
-              (List._∷_ Row.alive (List._∷_ Row.alive List.[])))))))))));
-        }
+        G24 = record
+            { locals = List._++_ g9 t11; slots = List._∷_ (Row.lease (κs .0) (qs .0)) (List._∷_ (Row.lease (κs .1 .0) (qs .1 .0)) (List._∷_ (Row.lease (κs .1 .1 .0) (qs .1 .1 .0)) (List._∷_ (Row.lease (κs .1 .1 .1 .0) (qs .1 .1 .1 .0)) (List._∷_ (Row.lease (κs .1 .1 .1 .1 .0) (qs .1 .1 .1 .1 .0)) (List._∷_ (Row.lease (κs .1 .1 .1 .1 .1 .0) (qs .1 .1 .1 .1 .1 .0)) (List._∷_ Row.off (List._∷_ (Row.lease (κs .1 .1 .1 .1 .1 .1 .1 .0) (qs .1 .1 .1 .1 .1 .1 .1 .0)) (List._∷_ (Row.lease (κs .1 .1 .1 .1 .1 .1 .1 .1 .0) (qs .1 .1 .1 .1 .1 .1 .1 .1 .0)) (List._∷_ (Row.lease (κs .1 .1 .1 .1 .1 .1 .1 .1 .1 .0) (qs .1 .1 .1 .1 .1 .1 .1 .1 .1 .0)) (List._∷_ Row.alive (List._∷_ Row.alive List.[]))))))))))) }
 
         abbrev G25 : Row.Cx
-        G25 = record {
-          locals = List._++_ g12 t13;
-          slots = List._∷_ (Row.lease (κs .0) (qs .0)) (List._∷_ (Row.lease (κs .1 .0) (qs .1 .0)) (List._∷_ (Row.lease (κs .1 .1 .0) (qs .1 .1 .0)) (List._∷_ (Row.lease (κs .1 .1 .1 .0) (qs .1 .1 .1 .0)) (List._∷_ (Row.lease (κs .1 .1 .1 .1 .0) (qs .1 .1 .1 .1 .0)) (List._∷_
-              (Row.lease (κs .1 .1 .1 .1 .1 .0) (qs .1 .1 .1 .1 .1 .0)) (List._∷_ Row.off (List._∷_ Row.off (List._∷_ (Row.lease (κs .1 .1 .1 .1 .1 .1 .1 .1 .0) (qs .1 .1 .1 .1 .1 .1 .1 .1 .0)) (List._∷_ (Row.lease (κs .1 .1 .1 .1 .1 .1 .1 .1 .1 .0) (qs .1 .1 .1 .1 .1 .1 .1 .1 .1 .0)) (List._∷_ Row.alive (List._∷_ Row.alive List.[])))))))))));
-        }
+        G25 = record { locals = List._++_ g12 t13; slots = slots·2 }
 
         abbrev G26 : Row.Cx
-        G26 = record {
-          locals = List._++_ g12 t14;
-          slots = List._∷_ (Row.lease (κs .0) (qs .0)) (List._∷_ (Row.lease (κs .1 .0) (qs .1 .0)) (List._∷_ (Row.lease (κs .1 .1 .0) (qs .1 .1 .0)) (List._∷_ (Row.lease (κs .1 .1 .1 .0) (qs .1 .1 .1 .0)) (List._∷_ (Row.lease (κs .1 .1 .1 .1 .0) (qs .1 .1 .1 .1 .0)) (List._∷_
-              (Row.lease (κs .1 .1 .1 .1 .1 .0) (qs .1 .1 .1 .1 .1 .0)) (List._∷_ Row.off (List._∷_ Row.off (List._∷_ (Row.lease (κs .1 .1 .1 .1 .1 .1 .1 .1 .0) (qs .1 .1 .1 .1 .1 .1 .1 .1 .0)) (List._∷_ (Row.lease (κs .1 .1 .1 .1 .1 .1 .1 .1 .1 .0) (qs .1 .1 .1 .1 .1 .1 .1 .1 .1 .0)) (List._∷_ Row.alive (List._∷_ Row.alive List.[])))))))))));
-        }
+        G26 = record { locals = List._++_ g12 t14; slots = slots·2 }
 
         abbrev G27 : Row.Cx
-        G27 = record {
-          locals = List._++_ g12 t15;
-          slots = List._∷_ (Row.lease (κs .0) (qs .0)) (List._∷_ (Row.lease (κs .1 .0) (qs .1 .0)) (List._∷_ (Row.lease (κs .1 .1 .0) (qs .1 .1 .0)) (List._∷_ (Row.lease (κs .1 .1 .1 .0) (qs .1 .1 .1 .0)) (List._∷_ (Row.lease (κs .1 .1 .1 .1 .0) (qs .1 .1 .1 .1 .0)) (List._∷_
-              (Row.lease (κs .1 .1 .1 .1 .1 .0) (qs .1 .1 .1 .1 .1 .0)) (List._∷_ Row.off (List._∷_ Row.off (List._∷_ (Row.lease (κs .1 .1 .1 .1 .1 .1 .1 .1 .0) (qs .1 .1 .1 .1 .1 .1 .1 .1 .0)) (List._∷_ (Row.lease (κs .1 .1 .1 .1 .1 .1 .1 .1 .1 .0) (qs .1 .1 .1 .1 .1 .1 .1 .1 .1 .0)) (List._∷_ Row.alive (List._∷_ Row.alive List.[])))))))))));
-        }
+        G27 = record { locals = List._++_ g12 t15; slots = slots·2 }
 
         abbrev G28 : Row.Cx
-        G28 = record {
-          locals = List._++_ g16 t17;
-          slots = List._∷_ (Row.lease (κs .0) (qs .0)) (List._∷_ (Row.lease (κs .1 .0) (qs .1 .0)) (List._∷_ (Row.lease (κs .1 .1 .0) (qs .1 .1 .0)) (List._∷_ (Row.lease (κs .1 .1 .1 .0) (qs .1 .1 .1 .0)) (List._∷_ (Row.lease (κs .1 .1 .1 .1 .0) (qs .1 .1 .1 .1 .0)) (List._∷_
-              (Row.lease (κs .1 .1 .1 .1 .1 .0) (qs .1 .1 .1 .1 .1 .0)) (List._∷_ Row.off (List._∷_ Row.off (List._∷_ (Row.lease (κs .1 .1 .1 .1 .1 .1 .1 .1 .0) (qs .1 .1 .1 .1 .1 .1 .1 .1 .0)) (List._∷_ (Row.lease (κs .1 .1 .1 .1 .1 .1 .1 .1 .1 .0) (qs .1 .1 .1 .1 .1 .1 .1 .1 .1 .0)) (List._∷_ Row.alive (List._∷_ Row.alive List.[])))))))))));
-        }
+        G28 = record { locals = List._++_ g16 t17; slots = slots·2 }
 
         abbrev G29 : Row.Cx
-        G29 = record {
-          locals = List._++_ g16 t18;
-          slots = List._∷_ (Row.lease (κs .0) (qs .0)) (List._∷_ (Row.lease (κs .1 .0) (qs .1 .0)) (List._∷_ (Row.lease (κs .1 .1 .0) (qs .1 .1 .0)) (List._∷_ (Row.lease (κs .1 .1 .1 .0) (qs .1 .1 .1 .0)) (List._∷_ (Row.lease (κs .1 .1 .1 .1 .0) (qs .1 .1 .1 .1 .0)) (List._∷_
-              (Row.lease (κs .1 .1 .1 .1 .1 .0) (qs .1 .1 .1 .1 .1 .0)) (List._∷_ Row.off (List._∷_ Row.off (List._∷_ (Row.lease (κs .1 .1 .1 .1 .1 .1 .1 .1 .0) (qs .1 .1 .1 .1 .1 .1 .1 .1 .0)) (List._∷_ (Row.lease (κs .1 .1 .1 .1 .1 .1 .1 .1 .1 .0) (qs .1 .1 .1 .1 .1 .1 .1 .1 .1 .0)) (List._∷_ Row.alive (List._∷_ Row.alive List.[])))))))))));
-        }
+        G29 = record { locals = List._++_ g16 t18; slots = slots·2 }
 
         abbrev G30 : Row.Cx
-        G30 = record {
-          locals = List._++_ g16 t18;
-          slots = List._∷_ (Row.lease (κs .0) (qs .0)) (List._∷_ (Row.lease (κs .1 .0) (qs .1 .0)) (List._∷_ (Row.lease (κs .1 .1 .0) (qs .1 .1 .0)) (List._∷_ (Row.lease (κs .1 .1 .1 .0) (qs .1 .1 .1 .0)) (List._∷_ (Row.lease (κs .1 .1 .1 .1 .0) (qs .1 .1 .1 .1 .0)) (List._∷_
-              (Row.lease (κs .1 .1 .1 .1 .1 .0) (qs .1 .1 .1 .1 .1 .0)) (List._∷_ Row.off (List._∷_ Row.off (List._∷_ (Row.lease (κs .1 .1 .1 .1 .1 .1 .1 .1 .0) (qs .1 .1 .1 .1 .1 .1 .1 .1 .0)) (List._∷_ (Row.lease (κs .1 .1 .1 .1 .1 .1 .1 .1 .1 .0) (qs .1 .1 .1 .1 .1 .1 .1 .1 .1 .0)) (List._∷_ Row.dead (List._∷_ Row.alive List.[])))))))))));
-        }
+        G30 = record
+            { locals = List._++_ g16 t18; slots = List._∷_ (Row.lease (κs .0) (qs .0)) (List._∷_ (Row.lease (κs .1 .0) (qs .1 .0)) (List._∷_ (Row.lease (κs .1 .1 .0) (qs .1 .1 .0)) (List._∷_ (Row.lease (κs .1 .1 .1 .0) (qs .1 .1 .1 .0)) (List._∷_ (Row.lease (κs .1 .1 .1 .1 .0) (qs .1 .1 .1 .1 .0)) (List._∷_ (Row.lease (κs .1 .1 .1 .1 .1 .0) (qs .1 .1 .1 .1 .1 .0)) (List._∷_ Row.off (List._∷_ Row.off (List._∷_ (Row.lease (κs .1 .1 .1 .1 .1 .1 .1 .1 .0) (qs .1 .1 .1 .1 .1 .1 .1 .1 .0)) (List._∷_ (Row.lease (κs .1 .1 .1 .1 .1 .1 .1 .1 .1 .0) (qs .1 .1 .1 .1 .1 .1 .1 .1 .1 .0)) (List._∷_ Row.dead (List._∷_ Row.alive List.[]))))))))))) }
 
         abbrev G31 : Row.Cx
-        G31 = record {
-          locals = List._++_ g19 t20;
-          slots = List._∷_ (Row.lease (κs .0) (qs .0)) (List._∷_ (Row.lease (κs .1 .0) (qs .1 .0)) (List._∷_ (Row.lease (κs .1 .1 .0) (qs .1 .1 .0)) (List._∷_ (Row.lease (κs .1 .1 .1 .0) (qs .1 .1 .1 .0)) (List._∷_ (Row.lease (κs .1 .1 .1 .1 .0) (qs .1 .1 .1 .1 .0)) (List._∷_
-              (Row.lease (κs .1 .1 .1 .1 .1 .0) (qs .1 .1 .1 .1 .1 .0)) (List._∷_ (Row.lease (κs .1 .1 .1 .1 .1 .1 .0) (qs .1 .1 .1 .1 .1 .1 .0)) (List._∷_ Row.off (List._∷_ (Row.lease (κs .1 .1 .1 .1 .1 .1 .1 .1 .0) (qs .1 .1 .1 .1 .1 .1 .1 .1 .0)) (List._∷_ (Row.lease (κs .1 .1 .1 .1 .1 .1 .1 .1 .1 .0) (qs .1 .1 .1 .1 .1 .1 .1 .1 .1 .0))
-              (List._∷_ Row.dead (List._∷_ Row.alive List.[])))))))))));
-        }
-
-        abbrev G32 : Row.Cx
-        G32 = record {
-          locals = List._++_ g19 t20;
-          slots = List._∷_ (Row.lease (κs .0) (qs .0)) (List._∷_ (Row.lease (κs .1 .0) (qs .1 .0)) (List._∷_ (Row.lease (κs .1 .1 .0) (qs .1 .1 .0)) (List._∷_ (Row.lease (κs .1 .1 .1 .0) (qs .1 .1 .1 .0)) (List._∷_ (Row.lease (κs .1 .1 .1 .1 .0) (qs .1 .1 .1 .1 .0)) (List._∷_
-              (Row.lease (κs .1 .1 .1 .1 .1 .0) (qs .1 .1 .1 .1 .1 .0)) (List._∷_ (Row.lease (κs .1 .1 .1 .1 .1 .1 .0) (qs .1 .1 .1 .1 .1 .1 .0)) (List._∷_ Row.off (List._∷_ (Row.lease (κs .1 .1 .1 .1 .1 .1 .1 .1 .0) (qs .1 .1 .1 .1 .1 .1 .1 .1 .0)) (List._∷_ (Row.lease (κs .1 .1 .1 .1 .1 .1 .1 .1 .1 .0) (qs .1 .1 .1 .1 .1 .1 .1 .1 .1 .0))
-              (List._∷_ Row.dead (List._∷_ Row.alive List.[])))))))))));
-        }
+        G31 = record { locals = List._++_ g19 t20; slots = slots·3 }
 
         abbrev G33 : Row.Cx
-        G33 = record {
-          locals = List._++_ g19 t20;
-          slots = List._∷_ (Row.lease (κs .0) (qs .0)) (List._∷_ (Row.lease (κs .1 .0) (qs .1 .0)) (List._∷_ (Row.lease (κs .1 .1 .0) (qs .1 .1 .0)) (List._∷_ (Row.lease (κs .1 .1 .1 .0) (qs .1 .1 .1 .0)) (List._∷_ (Row.lease (κs .1 .1 .1 .1 .0) (qs .1 .1 .1 .1 .0)) (List._∷_
-              (Row.lease (κs .1 .1 .1 .1 .1 .0) (qs .1 .1 .1 .1 .1 .0)) (List._∷_ (Row.lease (κs .1 .1 .1 .1 .1 .1 .0) (qs .1 .1 .1 .1 .1 .1 .0)) (List._∷_ Row.off (List._∷_ (Row.lease (κs .1 .1 .1 .1 .1 .1 .1 .1 .0) (qs .1 .1 .1 .1 .1 .1 .1 .1 .0)) (List._∷_ (Row.lease (κs .1 .1 .1 .1 .1 .1 .1 .1 .1 .0) (qs .1 .1 .1 .1 .1 .1 .1 .1 .1 .0))
-              (List._∷_ Row.off (List._∷_ Row.alive List.[])))))))))));
-        }
+        G33 = record
+            { locals = List._++_ g19 t20; slots = List._∷_ (Row.lease (κs .0) (qs .0)) (List._∷_ (Row.lease (κs .1 .0) (qs .1 .0)) (List._∷_ (Row.lease (κs .1 .1 .0) (qs .1 .1 .0)) (List._∷_ (Row.lease (κs .1 .1 .1 .0) (qs .1 .1 .1 .0)) (List._∷_ (Row.lease (κs .1 .1 .1 .1 .0) (qs .1 .1 .1 .1 .0)) (List._∷_ (Row.lease (κs .1 .1 .1 .1 .1 .0) (qs .1 .1 .1 .1 .1 .0)) (List._∷_ (Row.lease (κs .1 .1 .1 .1 .1 .1 .0) (qs .1 .1 .1 .1 .1 .1 .0)) (List._∷_ Row.off (List._∷_ (Row.lease (κs .1 .1 .1 .1 .1 .1 .1 .1 .0) (qs .1 .1 .1 .1 .1 .1 .1 .1 .0)) (List._∷_ (Row.lease (κs .1 .1 .1 .1 .1 .1 .1 .1 .1 .0) (qs .1 .1 .1 .1 .1 .1 .1 .1 .1 .0)) (List._∷_ Row.off (List._∷_ Row.alive List.[]))))))))))) }
 
         abbrev G34 : Row.Cx
-        G34 = record {
-          locals = List._++_ g19 t20;
-          slots = List._∷_ (Row.lease (κs .0) (qs .0)) (List._∷_ (Row.lease (κs .1 .0) (qs .1 .0)) (List._∷_ (Row.lease (κs .1 .1 .0) (qs .1 .1 .0)) (List._∷_ (Row.lease (κs .1 .1 .1 .0) (qs .1 .1 .1 .0)) (List._∷_ (Row.lease (κs .1 .1 .1 .1 .0) (qs .1 .1 .1 .1 .0)) (List._∷_
-              (Row.lease (κs .1 .1 .1 .1 .1 .0) (qs .1 .1 .1 .1 .1 .0)) (List._∷_ (Row.lease (κs .1 .1 .1 .1 .1 .1 .0) (qs .1 .1 .1 .1 .1 .1 .0)) (List._∷_ Row.off (List._∷_ (Row.lease (κs .1 .1 .1 .1 .1 .1 .1 .1 .0) (qs .1 .1 .1 .1 .1 .1 .1 .1 .0)) (List._∷_ (Row.lease (κs .1 .1 .1 .1 .1 .1 .1 .1 .1 .0) (qs .1 .1 .1 .1 .1 .1 .1 .1 .1 .0))
-              (List._∷_ Row.off (List._∷_ Row.dead List.[])))))))))));
-        }
+        G34 = record
+            { locals = List._++_ g19 t20; slots = List._∷_ (Row.lease (κs .0) (qs .0)) (List._∷_ (Row.lease (κs .1 .0) (qs .1 .0)) (List._∷_ (Row.lease (κs .1 .1 .0) (qs .1 .1 .0)) (List._∷_ (Row.lease (κs .1 .1 .1 .0) (qs .1 .1 .1 .0)) (List._∷_ (Row.lease (κs .1 .1 .1 .1 .0) (qs .1 .1 .1 .1 .0)) (List._∷_ (Row.lease (κs .1 .1 .1 .1 .1 .0) (qs .1 .1 .1 .1 .1 .0)) (List._∷_ (Row.lease (κs .1 .1 .1 .1 .1 .1 .0) (qs .1 .1 .1 .1 .1 .1 .0)) (List._∷_ Row.off (List._∷_ (Row.lease (κs .1 .1 .1 .1 .1 .1 .1 .1 .0) (qs .1 .1 .1 .1 .1 .1 .1 .1 .0)) (List._∷_ (Row.lease (κs .1 .1 .1 .1 .1 .1 .1 .1 .1 .0) (qs .1 .1 .1 .1 .1 .1 .1 .1 .1 .0)) (List._∷_ Row.off (List._∷_ Row.dead List.[]))))))))))) }
 
         abbrev G35 : Row.Cx
-        G35 = record {
-          locals = List._++_ t21 t1;
-          slots = List._∷_ (Row.lease (κs .0) (qs .0)) (List._∷_ (Row.lease (κs .1 .0) (qs .1 .0)) (List._∷_ (Row.lease (κs .1 .1 .0) (qs .1 .1 .0)) (List._∷_ (Row.lease (κs .1 .1 .1 .0) (qs .1 .1 .1 .0)) (List._∷_ (Row.lease (κs .1 .1 .1 .1 .0) (qs .1 .1 .1 .1 .0)) (List._∷_
-              (Row.lease (κs .1 .1 .1 .1 .1 .0) (qs .1 .1 .1 .1 .1 .0)) (List._∷_ (Row.lease (κs .1 .1 .1 .1 .1 .1 .0) (qs .1 .1 .1 .1 .1 .1 .0)) (List._∷_ (Row.lease (κs .1 .1 .1 .1 .1 .1 .1 .0) (qs .1 .1 .1 .1 .1 .1 .1 .0)) (List._∷_ (Row.lease (κs .1 .1 .1 .1 .1 .1 .1 .1 .0) (qs .1 .1 .1 .1 .1 .1 .1 .1 .0)) (List._∷_
-              (Row.lease (κs .1 .1 .1 .1 .1 .1 .1 .1 .1 .0) (qs .1 .1 .1 .1 .1 .1 .1 .1 .1 .0)) (List._∷_ Row.off (List._∷_ Row.dead List.[])))))))))));
-        }
-
-        abbrev G36 : Row.Cx
-        G36 = record {
-          locals = List._++_ t21 t1;
-          slots = List._∷_ (Row.lease (κs .0) (qs .0)) (List._∷_ (Row.lease (κs .1 .0) (qs .1 .0)) (List._∷_ (Row.lease (κs .1 .1 .0) (qs .1 .1 .0)) (List._∷_ (Row.lease (κs .1 .1 .1 .0) (qs .1 .1 .1 .0)) (List._∷_ (Row.lease (κs .1 .1 .1 .1 .0) (qs .1 .1 .1 .1 .0)) (List._∷_
-              (Row.lease (κs .1 .1 .1 .1 .1 .0) (qs .1 .1 .1 .1 .1 .0)) (List._∷_ (Row.lease (κs .1 .1 .1 .1 .1 .1 .0) (qs .1 .1 .1 .1 .1 .1 .0)) (List._∷_ (Row.lease (κs .1 .1 .1 .1 .1 .1 .1 .0) (qs .1 .1 .1 .1 .1 .1 .1 .0)) (List._∷_ (Row.lease (κs .1 .1 .1 .1 .1 .1 .1 .1 .0) (qs .1 .1 .1 .1 .1 .1 .1 .1 .0)) (List._∷_
-              (Row.lease (κs .1 .1 .1 .1 .1 .1 .1 .1 .1 .0) (qs .1 .1 .1 .1 .1 .1 .1 .1 .1 .0)) (List._∷_ Row.off (List._∷_ Row.dead List.[])))))))))));
-        }
+        G35 = record { locals = T35 .locals; slots = slots·4 }
 
         abbrev G37 : Row.Cx
-        G37 = record {
-          locals = List._++_ t21 t1;
-          slots = List._∷_ (Row.lease (κs .0) (qs .0)) (List._∷_ (Row.lease (κs .1 .0) (qs .1 .0)) (List._∷_ (Row.lease (κs .1 .1 .0) (qs .1 .1 .0)) (List._∷_ (Row.lease (κs .1 .1 .1 .0) (qs .1 .1 .1 .0)) (List._∷_ (Row.lease (κs .1 .1 .1 .1 .0) (qs .1 .1 .1 .1 .0)) (List._∷_
-              (Row.lease (κs .1 .1 .1 .1 .1 .0) (qs .1 .1 .1 .1 .1 .0)) (List._∷_ (Row.lease (κs .1 .1 .1 .1 .1 .1 .0) (qs .1 .1 .1 .1 .1 .1 .0)) (List._∷_ (Row.lease (κs .1 .1 .1 .1 .1 .1 .1 .0) (qs .1 .1 .1 .1 .1 .1 .1 .0)) (List._∷_ (Row.lease (κs .1 .1 .1 .1 .1 .1 .1 .1 .0) (qs .1 .1 .1 .1 .1 .1 .1 .1 .0)) (List._∷_
-              (Row.lease (κs .1 .1 .1 .1 .1 .1 .1 .1 .1 .0) (qs .1 .1 .1 .1 .1 .1 .1 .1 .1 .0)) (List._∷_ Row.off (List._∷_ Row.off List.[])))))))))));
-        }
+        G37 = record { locals = T35 .locals; slots = slots·0 }
 
         abbrev G38 : Row.Cx
-        G38 = record {
-          locals = List._++_ t22 t1;
-          slots = List._∷_ (Row.lease (κs .0) (qs .0)) (List._∷_ (Row.lease (κs .1 .0) (qs .1 .0)) (List._∷_ (Row.lease (κs .1 .1 .0) (qs .1 .1 .0)) (List._∷_ (Row.lease (κs .1 .1 .1 .0) (qs .1 .1 .1 .0)) (List._∷_ (Row.lease (κs .1 .1 .1 .1 .0) (qs .1 .1 .1 .1 .0)) (List._∷_
-              (Row.lease (κs .1 .1 .1 .1 .1 .0) (qs .1 .1 .1 .1 .1 .0)) (List._∷_ (Row.lease (κs .1 .1 .1 .1 .1 .1 .0) (qs .1 .1 .1 .1 .1 .1 .0)) (List._∷_ (Row.lease (κs .1 .1 .1 .1 .1 .1 .1 .0) (qs .1 .1 .1 .1 .1 .1 .1 .0)) (List._∷_ (Row.lease (κs .1 .1 .1 .1 .1 .1 .1 .1 .0) (qs .1 .1 .1 .1 .1 .1 .1 .1 .0)) (List._∷_
-              (Row.lease (κs .1 .1 .1 .1 .1 .1 .1 .1 .1 .0) (qs .1 .1 .1 .1 .1 .1 .1 .1 .1 .0)) (List._∷_ Row.off (List._∷_ Row.off List.[])))))))))));
-        }
+        G38 = record { locals = T38 .locals; slots = slots·0 }
 
         abbrev G39 : Row.Cx
-        G39 = record {
-          locals = List._++_ t23 t1;
-          slots = List._∷_ (Row.lease (κs .0) (qs .0)) (List._∷_ (Row.lease (κs .1 .0) (qs .1 .0)) (List._∷_ (Row.lease (κs .1 .1 .0) (qs .1 .1 .0)) (List._∷_ (Row.lease (κs .1 .1 .1 .0) (qs .1 .1 .1 .0)) (List._∷_ (Row.lease (κs .1 .1 .1 .1 .0) (qs .1 .1 .1 .1 .0)) (List._∷_
-              (Row.lease (κs .1 .1 .1 .1 .1 .0) (qs .1 .1 .1 .1 .1 .0)) (List._∷_ (Row.lease (κs .1 .1 .1 .1 .1 .1 .0) (qs .1 .1 .1 .1 .1 .1 .0)) (List._∷_ (Row.lease (κs .1 .1 .1 .1 .1 .1 .1 .0) (qs .1 .1 .1 .1 .1 .1 .1 .0)) (List._∷_ (Row.lease (κs .1 .1 .1 .1 .1 .1 .1 .1 .0) (qs .1 .1 .1 .1 .1 .1 .1 .1 .0)) (List._∷_
-              (Row.lease (κs .1 .1 .1 .1 .1 .1 .1 .1 .1 .0) (qs .1 .1 .1 .1 .1 .1 .1 .1 .1 .0)) (List._∷_ Row.off (List._∷_ Row.off List.[])))))))))));
-        }
-
-        abbrev G40 : Row.Cx
-        G40 = record {
-          locals = List._++_ t5 t1;
-          slots = List._∷_ (Row.lease (κs .0) (qs .0)) (List._∷_ (Row.lease (κs .1 .0) (qs .1 .0)) (List._∷_ (Row.lease (κs .1 .1 .0) (qs .1 .1 .0)) (List._∷_ (Row.lease (κs .1 .1 .1 .0) (qs .1 .1 .1 .0)) (List._∷_ (Row.lease (κs .1 .1 .1 .1 .0) (qs .1 .1 .1 .1 .0)) (List._∷_
-              (Row.lease (κs .1 .1 .1 .1 .1 .0) (qs .1 .1 .1 .1 .1 .0)) (List._∷_ (Row.lease (κs .1 .1 .1 .1 .1 .1 .0) (qs .1 .1 .1 .1 .1 .1 .0)) (List._∷_ (Row.lease (κs .1 .1 .1 .1 .1 .1 .1 .0) (qs .1 .1 .1 .1 .1 .1 .1 .0)) (List._∷_ (Row.lease (κs .1 .1 .1 .1 .1 .1 .1 .1 .0) (qs .1 .1 .1 .1 .1 .1 .1 .1 .0)) (List._∷_
-              (Row.lease (κs .1 .1 .1 .1 .1 .1 .1 .1 .1 .0) (qs .1 .1 .1 .1 .1 .1 .1 .1 .1 .0)) (List._∷_ Row.off (List._∷_ Row.off List.[])))))))))));
-        }
-
-        abbrev G41 : Row.Cx
-        G41 = record {
-          locals = List._++_ t5 t1;
-          slots = List._∷_ (Row.lease (κs .0) (qs .0)) (List._∷_ (Row.lease (κs .1 .0) (qs .1 .0)) (List._∷_ (Row.lease (κs .1 .1 .0) (qs .1 .1 .0)) (List._∷_ (Row.lease (κs .1 .1 .1 .0) (qs .1 .1 .1 .0)) (List._∷_ (Row.lease (κs .1 .1 .1 .1 .0) (qs .1 .1 .1 .1 .0)) (List._∷_
-              (Row.lease (κs .1 .1 .1 .1 .1 .0) (qs .1 .1 .1 .1 .1 .0)) (List._∷_ (Row.lease (κs .1 .1 .1 .1 .1 .1 .0) (qs .1 .1 .1 .1 .1 .1 .0)) (List._∷_ (Row.lease (κs .1 .1 .1 .1 .1 .1 .1 .0) (qs .1 .1 .1 .1 .1 .1 .1 .0)) (List._∷_ (Row.lease (κs .1 .1 .1 .1 .1 .1 .1 .1 .0) (qs .1 .1 .1 .1 .1 .1 .1 .1 .0)) (List._∷_
-              (Row.lease (κs .1 .1 .1 .1 .1 .1 .1 .1 .1 .0) (qs .1 .1 .1 .1 .1 .1 .1 .1 .1 .0)) (List._∷_ Row.off (List._∷_ Row.off List.[])))))))))));
-        }
+        G39 = record { locals = T39 .locals; slots = slots·0 }
 
         abbrev G42 : Row.Cx
-        G42 = record {
-          locals = List._++_ t24 t1;
-          slots = List._∷_ (Row.lease (κs .0) (qs .0)) (List._∷_ (Row.lease (κs .1 .0) (qs .1 .0)) (List._∷_ (Row.lease (κs .1 .1 .0) (qs .1 .1 .0)) (List._∷_ (Row.lease (κs .1 .1 .1 .0) (qs .1 .1 .1 .0)) (List._∷_ (Row.lease (κs .1 .1 .1 .1 .0) (qs .1 .1 .1 .1 .0)) (List._∷_
-              (Row.lease (κs .1 .1 .1 .1 .1 .0) (qs .1 .1 .1 .1 .1 .0)) (List._∷_ (Row.lease (κs .1 .1 .1 .1 .1 .1 .0) (qs .1 .1 .1 .1 .1 .1 .0)) (List._∷_ (Row.lease (κs .1 .1 .1 .1 .1 .1 .1 .0) (qs .1 .1 .1 .1 .1 .1 .1 .0)) (List._∷_ (Row.lease (κs .1 .1 .1 .1 .1 .1 .1 .1 .0) (qs .1 .1 .1 .1 .1 .1 .1 .1 .0)) (List._∷_
-              (Row.lease (κs .1 .1 .1 .1 .1 .1 .1 .1 .1 .0) (qs .1 .1 .1 .1 .1 .1 .1 .1 .1 .0)) (List._∷_ Row.off (List._∷_ Row.off List.[])))))))))));
-        }
+        G42 = record { locals = T42 .locals; slots = slots·0 }
 
         abbrev G43 : Row.Cx
-        G43 = record {
-          locals = List._++_ t25 t1;
-          slots = List._∷_ (Row.lease (κs .0) (qs .0)) (List._∷_ (Row.lease (κs .1 .0) (qs .1 .0)) (List._∷_ (Row.lease (κs .1 .1 .0) (qs .1 .1 .0)) (List._∷_ (Row.lease (κs .1 .1 .1 .0) (qs .1 .1 .1 .0)) (List._∷_ (Row.lease (κs .1 .1 .1 .1 .0) (qs .1 .1 .1 .1 .0)) (List._∷_
-              (Row.lease (κs .1 .1 .1 .1 .1 .0) (qs .1 .1 .1 .1 .1 .0)) (List._∷_ (Row.lease (κs .1 .1 .1 .1 .1 .1 .0) (qs .1 .1 .1 .1 .1 .1 .0)) (List._∷_ (Row.lease (κs .1 .1 .1 .1 .1 .1 .1 .0) (qs .1 .1 .1 .1 .1 .1 .1 .0)) (List._∷_ (Row.lease (κs .1 .1 .1 .1 .1 .1 .1 .1 .0) (qs .1 .1 .1 .1 .1 .1 .1 .1 .0)) (List._∷_
-              (Row.lease (κs .1 .1 .1 .1 .1 .1 .1 .1 .1 .0) (qs .1 .1 .1 .1 .1 .1 .1 .1 .1 .0)) (List._∷_ Row.off (List._∷_ Row.off List.[])))))))))));
-        }
+        G43 = record { locals = T43 .locals; slots = slots·0 }
 
         abbrev G44 : Row.Cx
-        G44 = record {
-          locals = List._++_ t26 t1;
-          slots = List._∷_ (Row.lease (κs .0) (qs .0)) (List._∷_ (Row.lease (κs .1 .0) (qs .1 .0)) (List._∷_ (Row.lease (κs .1 .1 .0) (qs .1 .1 .0)) (List._∷_ (Row.lease (κs .1 .1 .1 .0) (qs .1 .1 .1 .0)) (List._∷_ (Row.lease (κs .1 .1 .1 .1 .0) (qs .1 .1 .1 .1 .0)) (List._∷_
-              (Row.lease (κs .1 .1 .1 .1 .1 .0) (qs .1 .1 .1 .1 .1 .0)) (List._∷_ (Row.lease (κs .1 .1 .1 .1 .1 .1 .0) (qs .1 .1 .1 .1 .1 .1 .0)) (List._∷_ (Row.lease (κs .1 .1 .1 .1 .1 .1 .1 .0) (qs .1 .1 .1 .1 .1 .1 .1 .0)) (List._∷_ (Row.lease (κs .1 .1 .1 .1 .1 .1 .1 .1 .0) (qs .1 .1 .1 .1 .1 .1 .1 .1 .0)) (List._∷_
-              (Row.lease (κs .1 .1 .1 .1 .1 .1 .1 .1 .1 .0) (qs .1 .1 .1 .1 .1 .1 .1 .1 .1 .0)) (List._∷_ Row.off (List._∷_ Row.off List.[])))))))))));
-        }
+        G44 = record { locals = T44 .locals; slots = slots·0 }
 
         abbrev G45 : Row.Cx
-        G45 = record {
-          locals = List._++_ t27 t1;
-          slots = List._∷_ (Row.lease (κs .0) (qs .0)) (List._∷_ (Row.lease (κs .1 .0) (qs .1 .0)) (List._∷_ (Row.lease (κs .1 .1 .0) (qs .1 .1 .0)) (List._∷_ (Row.lease (κs .1 .1 .1 .0) (qs .1 .1 .1 .0)) (List._∷_ (Row.lease (κs .1 .1 .1 .1 .0) (qs .1 .1 .1 .1 .0)) (List._∷_
-              (Row.lease (κs .1 .1 .1 .1 .1 .0) (qs .1 .1 .1 .1 .1 .0)) (List._∷_ (Row.lease (κs .1 .1 .1 .1 .1 .1 .0) (qs .1 .1 .1 .1 .1 .1 .0)) (List._∷_ (Row.lease (κs .1 .1 .1 .1 .1 .1 .1 .0) (qs .1 .1 .1 .1 .1 .1 .1 .0)) (List._∷_ (Row.lease (κs .1 .1 .1 .1 .1 .1 .1 .1 .0) (qs .1 .1 .1 .1 .1 .1 .1 .1 .0)) (List._∷_
-              (Row.lease (κs .1 .1 .1 .1 .1 .1 .1 .1 .1 .0) (qs .1 .1 .1 .1 .1 .1 .1 .1 .1 .0)) (List._∷_ Row.off (List._∷_ Row.off List.[])))))))))));
-        }
-
-        abbrev G46 : Row.Cx
-        G46 = record {
-          locals = List._++_ t2 t1;
-          slots = List._∷_ (Row.lease (κs .0) (qs .0)) (List._∷_ (Row.lease (κs .1 .0) (qs .1 .0)) (List._∷_ (Row.lease (κs .1 .1 .0) (qs .1 .1 .0)) (List._∷_ (Row.lease (κs .1 .1 .1 .0) (qs .1 .1 .1 .0)) (List._∷_ (Row.lease (κs .1 .1 .1 .1 .0) (qs .1 .1 .1 .1 .0)) (List._∷_
-              (Row.lease (κs .1 .1 .1 .1 .1 .0) (qs .1 .1 .1 .1 .1 .0)) (List._∷_ (Row.lease (κs .1 .1 .1 .1 .1 .1 .0) (qs .1 .1 .1 .1 .1 .1 .0)) (List._∷_ (Row.lease (κs .1 .1 .1 .1 .1 .1 .1 .0) (qs .1 .1 .1 .1 .1 .1 .1 .0)) (List._∷_ (Row.lease (κs .1 .1 .1 .1 .1 .1 .1 .1 .0) (qs .1 .1 .1 .1 .1 .1 .1 .1 .0)) (List._∷_
-              (Row.lease (κs .1 .1 .1 .1 .1 .1 .1 .1 .1 .0) (qs .1 .1 .1 .1 .1 .1 .1 .1 .1 .0)) (List._∷_ Row.off (List._∷_ Row.off List.[])))))))))));
-        }
+        G45 = record { locals = T45 .locals; slots = slots·0 }
 
         abbrev Δ0 : Typed.Outs
         Δ0 = record { next = Option.none; exits = List.[]; returns = Option.some G1 }
 
         abbrev Δ1 : Typed.Outs
-        Δ1 = Typed.withNext (Option.some G14) Δ0
+        Δ1 = Typed.withNext (Option.some G13) Δ0
 
         abbrev Δ2 : Typed.Outs
         Δ2 = Typed.inBlock₀ Δ1
@@ -1601,295 +967,108 @@ module _ (claims· : Claims) where
           abbrev E : Wp.Env 𝓤 H
           E = Frame.EnvOf 𝓤 H (List._∷_ (Kinds.tyR r) (Enter.tysP ps xs)) bs
 
-          d0 : Typed.Typed 𝓤 H A 𝓣 E G19 b4 Δ4 at0
+          d0 : Typed.Typed 𝓤 H A 𝓣 E G16 b4 Δ4 at0
           d0 = Typed.t-skip 𝓤 H A W 𝓣 E Δ4 tt
 
-          d1 : Typed.Typed 𝓤 H A 𝓣 E G18 b4 Δ4 at1
-          d1 = Typed.g-pre 𝓤 H A W 𝓣 E G18 G19 b4 Δ4 (Typed.pass T18 T19 s15) at0 (Scalar.g-room 𝓤 H A W E G18 16 Syntax.tyBool (Scalar.room-sc 𝓤 H A W Row.sBool)) d0
-
-          d2 : Typed.Typed 𝓤 H A 𝓣 E G17 b4 Δ4 at2
-          d2 = Typed.g-pre 𝓤 H A W 𝓣 E G17 G18 b4 Δ4 (Typed.pass T17 T18 s14) at1 (Scalar.g-room 𝓤 H A W E G17 13 (Syntax.tyInt Syntax.w32) (Scalar.room-sc 𝓤 H A W (Row.sInt Syntax.w32))) d1
-
-          d3 : Typed.Typed 𝓤 H A 𝓣 E G15 b4 Δ4 at3
-          d3 = Typed.g-pre 𝓤 H A W 𝓣 E G15 G17 b4 Δ4 (Typed.pass T15 T17 s13) at2 (Scalar.g-room 𝓤 H A W E G15 12 (Syntax.tyInt Syntax.w64) (Scalar.room-sc 𝓤 H A W (Row.sInt Syntax.w64))) d2
-
-          d4 : Typed.Typed 𝓤 H A 𝓣 E G20 b5 Δ4 at4
+          d4 : Typed.Typed 𝓤 H A 𝓣 E G13 b5 Δ4 at4
           d4 = Typed.t-exit 𝓤 H A W 𝓣 E 1 Δ4 tt
 
-          d5 : Typed.Typed 𝓤 H A 𝓣 E G15 b5 Δ4 at5
-          d5 = Typed.g-pre 𝓤 H A W 𝓣 E G15 G20 b5 Δ4 (Typed.pass T15 T20 s16) at4 (Scalar.g-room 𝓤 H A W E G15 16 Syntax.tyBool (Scalar.room-sc 𝓤 H A W Row.sBool)) d4
-
           d6 : Typed.Typed 𝓤 H A 𝓣 E G15 b6 Δ4 at6
-          d6 = Scalar.t-cond 𝓤 H A W E 𝓣 G15 16 (λ x. x) b4 b5 Δ4 at3 at5 (Scalar.reads-sc 𝓤 H A W Row.sBool) Path'.refl d3 d5
+          d6 = Scalar.t-cond 𝓤 H A W E 𝓣 G15 16 (λ x. x) b4 b5 Δ4 at3 at5 (Scalar.reads-sc 𝓤 H A W Row.sBool) Path'.refl (Typed.g-pre 𝓤 H A W 𝓣 E G15 G17 b4 Δ4 (Typed.pass T15 T17 s13) at2 (Scalar.g-room 𝓤 H A W E G15 12 (Syntax.tyInt Syntax.w64) (Scalar.room-sc 𝓤 H A W (Row.sInt Syntax.w64))) (Typed.g-pre 𝓤 H A W 𝓣 E G17 G18 b4 Δ4 (Typed.pass T17 T18 s14)
+              at1 (Scalar.g-room 𝓤 H A W E G17 13 (Syntax.tyInt Syntax.w32) (Scalar.room-sc 𝓤 H A W (Row.sInt Syntax.w32))) (Typed.g-pre 𝓤 H A W 𝓣 E G18 G16 b4 Δ4 (Typed.pass T18 T16 s15) at0 (Scalar.g-room 𝓤 H A W E G18 16 Syntax.tyBool (Scalar.room-sc 𝓤 H A W Row.sBool)) d0))) (Typed.g-pre 𝓤 H A W 𝓣 E G15 G13 b5 Δ4 (Typed.pass T15 T13 s16) at4 (Scalar.g-room 𝓤
+              H A W E G15 16 Syntax.tyBool (Scalar.room-sc 𝓤 H A W Row.sBool)) d4)
 
-          d7 : Typed.Typed 𝓤 H A 𝓣 E G40 b15 Δ3 at7
-          d7 = Typed.s-typed 𝓤 H A W 𝓣 E G40 b15 Δ3 (Typed.ask s37) tt (Scalar.t-op2 𝓤 H A W E 𝓣 G40 (Syntax.add Syntax.unsigned) (Scalar.oAt 14 (Syntax.tyInt Syntax.w64) (Row.valS (Row.sInt Syntax.w64))) (Scalar.oInt Syntax.w64 1) 14 (Rows.sc-here (Row.sInt Syntax.w64)) (Syntax.tyInt Syntax.w64) (Row.valS (Row.sInt Syntax.w64)) (Row.sInt Syntax.w64 .of)
+          d7 : Typed.Typed 𝓤 H A 𝓣 E G13 b15 Δ3 at7
+          d7 = Typed.s-typed 𝓤 H A W 𝓣 E G13 b15 Δ3 (Typed.ask s37) tt (Scalar.t-op2 𝓤 H A W E 𝓣 G13 (Syntax.add Syntax.unsigned) (Scalar.oAt 14 (Syntax.tyInt Syntax.w64) (Row.valS (Row.sInt Syntax.w64))) (Scalar.oInt Syntax.w64 1) 14 (Rows.sc-here (Row.sInt Syntax.w64)) (Syntax.tyInt Syntax.w64) (Row.valS (Row.sInt Syntax.w64)) (Row.sInt Syntax.w64 .of)
               (Scalar.reads-sc 𝓤 H A W (Row.sInt Syntax.w64), Path'.refl) tt (Scalar.room-sc 𝓤 H A W (Row.sInt Syntax.w64)) (Scalar.holds-sc 𝓤 H A W (Row.sInt Syntax.w64)) Path'.refl (λ u. Path'.refl) λ u. tt)
 
-          d8 : Typed.Typed 𝓤 H A 𝓣 E G39 b15 Δ3 at8
-          d8 = Typed.g-pre 𝓤 H A W 𝓣 E G39 G40 b15 Δ3 (Typed.pass T39 T40 s36) at7 (Scalar.g-room 𝓤 H A W E G39 15 ty·14 (Local.room-whole 𝓤 H A W (Declared.row PressReply.the-type) ty·14 Path'.refl)) d7
-
           d9 : Typed.Typed 𝓤 H A 𝓣 E G38 b16 Δ3 at9
-          d9 = Typed.s-seq 𝓤 H A W 𝓣 E G38 G39 b14 b15 Δ3 (Typed.both s35) at8 (Plain.t-call-plain 𝓤 H A W 𝓣 0 ps·3 r·3 (claims· .6) (claims· .7) "presses::answers::bits_in" (known .3) E (λ pos β. β) G38 (record { pos = 15; st = List.[]; d = 0; at = λ x. x }, tt) 13 List.[] (Call.sub-id 𝓤 H A W (G38 .slots)) (
-            (
-              Yields.yields-copy 𝓤 H A W (λ ρ. Unit)
-                  (Declared.row PressReply.the-type) Path'.refl (Copies.cEnum PressReply.the-type Laws.the-laws Laws.the-copy .copy 𝓤 H A W) (Rows.whole (Declared.row PressReply.the-type)) (λ x. x) (λ x. x) (λ ρ told. Local.mem-whole 𝓤 H A W (Declared.row PressReply.the-type) ρ) λ ρ told. Local.whole-mem 𝓤 H A W (Declared.row PressReply.the-type) ρ,
-              Path'.refl,
-            ),
-            tt,
-          ) (Reads.room-gone 𝓤 H A (Syntax.tyInt Syntax.w32)) tt Path'.refl) d8
-
-          d10 : Typed.Typed 𝓤 H A 𝓣 E G37 b17 Δ3 at10
-          d10 = Typed.s-seq 𝓤 H A W 𝓣 E G37 G38 b13 b16 Δ3 (Typed.both s34) at9 (Plain.t-call-plain 𝓤 H A W 𝓣 0 ps·2 r·2 (claims· .4) (claims· .5) "presses::answers::number_in" (known .2) E (λ pos β. β) G37 (record { pos = 15; st = List.[]; d = 0; at = λ x. x }, tt) 12 List.[] (Call.sub-id 𝓤 H A W (G37 .slots)) (
-            (
-              Yields.yields-copy 𝓤 H A W (λ ρ. Unit)
-                  (Declared.row PressReply.the-type) Path'.refl (Copies.cEnum PressReply.the-type Laws.the-laws Laws.the-copy .copy 𝓤 H A W) (Rows.whole (Declared.row PressReply.the-type)) (λ x. x) (λ x. x) (λ ρ told. Local.mem-whole 𝓤 H A W (Declared.row PressReply.the-type) ρ) λ ρ told. Local.whole-mem 𝓤 H A W (Declared.row PressReply.the-type) ρ,
-              Path'.refl,
-            ),
-            tt,
-          ) (Reads.room-gone 𝓤 H A (Syntax.tyInt Syntax.w64)) tt Path'.refl) d9
-
-          d11 : Typed.Typed 𝓤 H A 𝓣 E G36 b17 Δ3 at11
-          d11 = Typed.g-pre 𝓤 H A W 𝓣 E G36 G37 b17 Δ3 (λ Ψ. Ψ) at10 (Lifetime.g-forget 𝓤 H A W E G36 11 Row.dead Path'.refl) d10
+          d9 = Typed.s-seq 𝓤 H A W 𝓣 E G38 G39 b14 b15 Δ3 (Typed.both s35) at8 (Plain.t-call-plain 𝓤 H A W 𝓣 0 ps·2 r·3 (claims· .6) (claims· .7) "presses::answers::bits_in" (known .3) E (λ pos β. β) G38 (record { pos = 15; st = List.[]; d = 0; at = λ x. x }, tt) 13 List.[] (Call.sub-id 𝓤 H A W (G38 .slots))
+              ((Yields.yields-copy 𝓤 H A W (λ ρ. Unit) (Declared.row PressReply.the-type) Path'.refl (Copies.cEnum PressReply.the-type Laws.the-laws Laws.the-copy .copy 𝓤 H A W) (Rows.whole (Declared.row PressReply.the-type)) (λ x. x) (λ x. x) (λ ρ told. Local.mem-whole 𝓤 H A W (Declared.row PressReply.the-type) ρ) λ ρ told. Local.whole-mem 𝓤 H A W (Declared.row PressReply.the-type) ρ, Path'.refl), tt)
+              (Reads.room-gone 𝓤 H A (Syntax.tyInt Syntax.w32)) tt Path'.refl) (Typed.g-pre 𝓤 H A W 𝓣 E G39 G13 b15 Δ3 (Typed.pass T39 T13 s36) at7 (Scalar.g-room 𝓤 H A W E G39 15 ty·14 (Local.room-whole 𝓤 H A W (Declared.row PressReply.the-type) ty·14 Path'.refl)) d7)
 
           d12 : Typed.Typed 𝓤 H A 𝓣 E G35 b17 Δ3 at12
-          d12 = Typed.g-pre 𝓤 H A W 𝓣 E G35 G36 b17 Δ3 (Typed.give s32) at11 (Know.g-sl-known 𝓤 H A W (Referent.fInt Syntax.w8) E G35 8 7 ty·4 (Row.lease (κs .1 .1 .1 .1 .1 .1 .1 .0) (qs .1 .1 .1 .1 .1 .1 .1 .0)) 0 (λ x. x) record { fits = Dec'.lit< tt } (Reads.as-is 𝓤 H A (Mut.mslice (Referent.rtF (Referent.fInt Syntax.w8)) ty·4 7)) Path'.refl tt) d11
-
-          d13 : Typed.Typed 𝓤 H A 𝓣 E G34 b17 Δ3 at13
-          d13 = Typed.g-pre 𝓤 H A W 𝓣 E G34 G35 b17 Δ3 (Typed.both s31) at12 (Relend.g-back-sl 𝓤 H A W E (Referent.rtF (Referent.fInt Syntax.w8)) G34 20 8 7 11 ty·4 ty·1 (Row.lease (κs .1 .1 .1 .1 .1 .1 .1 .0) (qs .1 .1 .1 .1 .1 .1 .1 .0)) (λ x. x) (λ x. x) (Reads.as-is 𝓤 H A (Mut.msleft (Referent.rtF (Referent.fInt Syntax.w8)) ty·1)) (Reads.as-is 𝓤 H A
-              (Relend.mslice-owed (Referent.rtF (Referent.fInt Syntax.w8)) ty·4 7 11 (Row.lease (κs .1 .1 .1 .1 .1 .1 .1 .0) (qs .1 .1 .1 .1 .1 .1 .1 .0)))) Path'.refl Path'.refl) d12
-
-          d14 : Typed.Typed 𝓤 H A 𝓣 E G33 b17 Δ3 at14
-          d14 = Typed.g-pre 𝓤 H A W 𝓣 E G33 G34 b17 Δ3 (λ Ψ. Ψ) at13 (Lifetime.g-end 𝓤 H A W E G33 11 Path'.refl) d13
-
-          d15 : Typed.Typed 𝓤 H A 𝓣 E G32 b17 Δ3 at15
-          d15 = Typed.g-pre 𝓤 H A W 𝓣 E G32 G33 b17 Δ3 (λ Ψ. Ψ) at14 (Lifetime.g-forget 𝓤 H A W E G32 10 Row.dead Path'.refl) d14
+          d12 = Typed.g-pre 𝓤 H A W 𝓣 E G35 G35 b17 Δ3 (Typed.give s32) at10 (Know.g-sl-known 𝓤 H A W (Referent.fInt Syntax.w8) E G35 8 7 ty·4 (Row.lease (κs .1 .1 .1 .1 .1 .1 .1 .0) (qs .1 .1 .1 .1 .1 .1 .1 .0)) 0 (λ x. x) record { fits = Dec'.lit< tt } (Reads.as-is 𝓤 H A (Mut.mslice (Referent.rtF (Referent.fInt Syntax.w8)) ty·4 7)) Path'.refl tt)
+              (Typed.g-pre 𝓤 H A W 𝓣 E G35 G37 b17 Δ3 (λ Ψ. Ψ) at10 (Lifetime.g-forget 𝓤 H A W E G35 11 Row.dead Path'.refl) (Typed.s-seq 𝓤 H A W 𝓣 E G37 G38 b13 b16 Δ3 (Typed.both s34) at9 (Plain.t-call-plain 𝓤 H A W 𝓣 0 ps·2 r·2 (claims· .4) (claims· .5) "presses::answers::number_in" (known .2) E (λ pos β. β) G37
+              (record { pos = 15; st = List.[]; d = 0; at = λ x. x }, tt) 12 List.[] (Call.sub-id 𝓤 H A W (G37 .slots))
+              ((Yields.yields-copy 𝓤 H A W (λ ρ. Unit) (Declared.row PressReply.the-type) Path'.refl (Copies.cEnum PressReply.the-type Laws.the-laws Laws.the-copy .copy 𝓤 H A W) (Rows.whole (Declared.row PressReply.the-type)) (λ x. x) (λ x. x) (λ ρ told. Local.mem-whole 𝓤 H A W (Declared.row PressReply.the-type) ρ) λ ρ told. Local.whole-mem 𝓤 H A W (Declared.row PressReply.the-type) ρ, Path'.refl), tt)
+              (Reads.room-gone 𝓤 H A (Syntax.tyInt Syntax.w64)) tt Path'.refl) d9))
 
           d16 : Typed.Typed 𝓤 H A 𝓣 E G31 b17 Δ3 at16
-          d16 = Typed.g-pre 𝓤 H A W 𝓣 E G31 G32 b17 Δ3 (Typed.give s28) at15 (Know.g-sl-known 𝓤 H A W (Referent.fInt Syntax.w16) E G31 7 6 ty·10 (Row.lease (κs .1 .1 .1 .1 .1 .1 .0) (qs .1 .1 .1 .1 .1 .1 .0)) 0 (λ x. x) record { fits = Dec'.lit< tt } (Reads.as-is 𝓤 H A (Mut.mslice (Referent.rtF (Referent.fInt Syntax.w16)) ty·10 6)) Path'.refl tt) d15
-
-          d17 : Typed.Typed 𝓤 H A 𝓣 E G30 b17 Δ3 at17
-          d17 = Typed.g-pre 𝓤 H A W 𝓣 E G30 G31 b17 Δ3 (Typed.both s27) at16 (Relend.g-back-sl 𝓤 H A W E (Referent.rtF (Referent.fInt Syntax.w16)) G30 18 7 6 10 ty·10 ty·2 (Row.lease (κs .1 .1 .1 .1 .1 .1 .0) (qs .1 .1 .1 .1 .1 .1 .0)) (λ x. x) (λ x. x) (Reads.as-is 𝓤 H A (Mut.msleft (Referent.rtF (Referent.fInt Syntax.w16)) ty·2)) (Reads.as-is 𝓤 H A
-              (Relend.mslice-owed (Referent.rtF (Referent.fInt Syntax.w16)) ty·10 6 10 (Row.lease (κs .1 .1 .1 .1 .1 .1 .0) (qs .1 .1 .1 .1 .1 .1 .0)))) Path'.refl Path'.refl) d16
-
-          d18 : Typed.Typed 𝓤 H A 𝓣 E G29 b17 Δ3 at18
-          d18 = Typed.g-pre 𝓤 H A W 𝓣 E G29 G30 b17 Δ3 (λ Ψ. Ψ) at17 (Lifetime.g-end 𝓤 H A W E G29 10 Path'.refl) d17
-
-          d19 : Typed.Typed 𝓤 H A 𝓣 E G28 b17 Δ3 at19
-          d19 = Typed.g-pre 𝓤 H A W 𝓣 E G28 G29 b17 Δ3 (Typed.pass T28 T29 s25) at18 (Scalar.g-room 𝓤 H A W E G28 21 ty·13 (Local.room-whole 𝓤 H A W (Declared.row Report.the-type) ty·13 Path'.refl)) d18
+          d16 = Typed.g-pre 𝓤 H A W 𝓣 E G31 G31 b17 Δ3 (Typed.give s28) at13 (Know.g-sl-known 𝓤 H A W (Referent.fInt Syntax.w16) E G31 7 6 ty·10 (Row.lease (κs .1 .1 .1 .1 .1 .1 .0) (qs .1 .1 .1 .1 .1 .1 .0)) 0 (λ x. x) record { fits = Dec'.lit< tt } (Reads.as-is 𝓤 H A (Mut.mslice (Referent.rtF (Referent.fInt Syntax.w16)) ty·10 6)) Path'.refl tt)
+              (Typed.g-pre 𝓤 H A W 𝓣 E G31 G33 b17 Δ3 (λ Ψ. Ψ) at13 (Lifetime.g-forget 𝓤 H A W E G31 10 Row.dead Path'.refl) (Typed.g-pre 𝓤 H A W 𝓣 E G33 G34 b17 Δ3 (λ Ψ. Ψ) at13 (Lifetime.g-end 𝓤 H A W E G33 11 Path'.refl) (Typed.g-pre 𝓤 H A W 𝓣 E G34 G35 b17 Δ3 (Typed.both s31) at12 (Relend.g-back-sl 𝓤 H A W E (Referent.rtF (Referent.fInt Syntax.w8)) G34 20 8
+              7 11 ty·4 ty·1 (Row.lease (κs .1 .1 .1 .1 .1 .1 .1 .0) (qs .1 .1 .1 .1 .1 .1 .1 .0)) (λ x. x) (λ x. x) (Reads.as-is 𝓤 H A (Mut.msleft (Referent.rtF (Referent.fInt Syntax.w8)) ty·1)) (Reads.as-is 𝓤 H A (Relend.mslice-owed (Referent.rtF (Referent.fInt Syntax.w8)) ty·4 7 11 (Row.lease (κs .1 .1 .1 .1 .1 .1 .1 .0) (qs .1 .1 .1 .1 .1 .1 .1 .0))))
+              Path'.refl Path'.refl) d12)))
 
           d20 : Typed.Typed 𝓤 H A 𝓣 E G27 b18 Δ3 at20
-          d20 = Typed.s-seq 𝓤 H A W 𝓣 E G27 G28 b12 b17 Δ3 (Typed.both s24) at19 (Plain.t-call-plain 𝓤 H A W 𝓣 9 ps·1 r·1 (claims· .2) (claims· .3) "handset::button::press" (known .1) E (λ pos β. β) G27 (
-            record { pos = 1; ty = Syntax.tyRef (Syntax.named 0) Syntax.imm (Syntax.tyInt Syntax.w16); ref = λ x. x },
-            (
-              record {
-                pos = 2;
-                ty = Syntax.tyRef (Syntax.named 1) Syntax.imm (Syntax.tyInt Syntax.w16);
-                ref = λ x. x;
-              },
-              (
-                record { pos = 3; ty = Syntax.tyRef (Syntax.named 2) Syntax.imm (Syntax.tyInt Syntax.w8); ref = λ x. x },
-                (
-                  record { pos = 4; ty = Syntax.tyRef (Syntax.named 3) Syntax.imm (Syntax.tyInt Syntax.w16); ref = λ x. x },
-                  (
-                    record {
-                      pos = 5;
-                      ty = Syntax.tyRef (Syntax.named 4) Syntax.imm (Syntax.tyInt Syntax.w16);
-                      ref = λ x. x;
-                    },
-                    (
-                      record { pos = 6; ty = Syntax.tyRef (Syntax.named 5) Syntax.imm (Syntax.tyInt Syntax.w32); ref = λ x. x },
-                      (
-                        record { pos = 18; ty = Syntax.tyRef Syntax.erased Syntax.mut (Syntax.tyInt Syntax.w16); ref = λ x. x },
-                        (
-                          record {
-                            pos = 20;
-                            ty = Syntax.tyRef
-                                Syntax.erased Syntax.mut (Syntax.tyInt Syntax.w8);
-                            ref = λ x. x;
-                          },
-                          (record { pos = 9; ty = Syntax.tyRef (Syntax.named 8) Syntax.imm Rec.behind; ref = λ x. x }, (record { pos = 21; st = List.[]; d = 0; at = λ x. x }, tt)),
-                        ),
-                      ),
-                    ),
-                  ),
-                ),
-              ),
-            ),
-          ) 15 (List._∷_ 0 (List._∷_ 1 (List._∷_ 2 (List._∷_ 3
-              (List._∷_ 4 (List._∷_ 5 (List._∷_ 10 (List._∷_ 11 (List._∷_ 8 List.[]))))))))) (Call.sub-id 𝓤 H A W (G27 .slots)) (
-                ShrSlice.spares-sslice 𝓤 H A W (Referent.rtF (Referent.fInt Syntax.w16)) ty·5 0,
-                Shared.reads-sslice 𝓤 H A W (Referent.rtF (Referent.fInt Syntax.w16)) ty·5 0,
-                Path'.refl,
-                (
-                  ShrSlice.spares-sslice 𝓤 H A W
-                      (Referent.rtF (Referent.fInt Syntax.w16)) ty·6 1,
-                  Shared.reads-sslice 𝓤 H A W (Referent.rtF (Referent.fInt Syntax.w16)) ty·6 1,
-                  Path'.refl,
-                  (
-                    ShrSlice.spares-sslice 𝓤 H A W (Referent.rtF (Referent.fInt Syntax.w8)) ty·3 2,
-                    Shared.reads-sslice 𝓤 H A W (Referent.rtF (Referent.fInt Syntax.w8)) ty·3 2,
-                    Path'.refl,
-                    (
-                      ShrSlice.spares-sslice 𝓤 H A W
-                          (Referent.rtF (Referent.fInt Syntax.w16)) ty·7 3,
-                      Shared.reads-sslice 𝓤 H A W (Referent.rtF (Referent.fInt Syntax.w16)) ty·7 3,
-                      Path'.refl,
-                      (
-                        ShrSlice.spares-sslice 𝓤 H A W (Referent.rtF (Referent.fInt Syntax.w16)) ty·8 4,
-                        Shared.reads-sslice 𝓤 H A W (Referent.rtF (Referent.fInt Syntax.w16)) ty·8 4,
-                        Path'.refl,
-                        (
-                          ShrSlice.spares-sslice 𝓤 H A W
-                              (Referent.rtF (Referent.fInt Syntax.w32)) ty·9 5,
-                          Shared.reads-sslice 𝓤 H A W (Referent.rtF (Referent.fInt Syntax.w32)) ty·9 5,
-                          Path'.refl,
-                          (
-                            Reads.as-is 𝓤 H A (Mut.mslice (Referent.rtF (Referent.fInt Syntax.w16)) ty·2 10),
-                            Mut.reads-mslice 𝓤 H A W (Referent.rtF (Referent.fInt Syntax.w16)) ty·2 10,
-                            Path'.refl,
-                            (
-                              Reads.as-is 𝓤 H A (Mut.mslice
-                                  (Referent.rtF (Referent.fInt Syntax.w8)) ty·1 11),
-                              Mut.reads-mslice 𝓤 H A W (Referent.rtF (Referent.fInt Syntax.w8)) ty·1 11,
-                              Path'.refl,
-                              (
-                                ShrSlice.spares-sslice 𝓤 H A W Rec.rt ty·0 8,
-                                Shared.reads-sslice 𝓤 H A W Rec.rt ty·0 8,
-                                Path'.refl,
-                                (
-                                  (
-                                    Yields.yields-copy 𝓤 H A W (λ ρ. Unit) (Declared.row Report.the-type) Path'.refl (Copies.cEnum
-                                        Report.the-type Laws'.the-laws Laws'.the-copy .copy 𝓤 H A W) (Rows.whole (Declared.row Report.the-type)) (λ x. x) (λ x. x) (λ ρ told. Local.mem-whole 𝓤 H A W (Declared.row Report.the-type) ρ) λ ρ told. Local.whole-mem 𝓤 H A W (Declared.row Report.the-type) ρ,
-                                    Path'.refl,
-                                  ),
-                                  tt,
-                                ),
-                              ),
-                            ),
-                          ),
-                        ),
-                      ),
-                    ),
-                  ),
-                ),
-              ) (Reads.room-gone 𝓤 H A ty·14)
-              (tt, (tt, (tt, (tt, (tt, (tt, (tt, (tt, (tt, tt))))))))) Path'.refl) d19
-
-          d21 : Typed.Typed 𝓤 H A 𝓣 E G26 b19 Δ3 at21
-          d21 = Typed.s-seq 𝓤 H A W 𝓣 E G26 G27 b11 b18 Δ3 (Typed.both s23) at20 (Plain.t-call-plain 𝓤 H A W 𝓣 1 ps·0 r·0 (claims· .0) (claims· .1) "presses::answers::report_at" (known .0) E (λ pos β. β) G26 (record { pos = 11; ty = Syntax.tyRef (Syntax.named 9) Syntax.imm (Syntax.tyInt Syntax.w16); ref = λ x. x }, (Num.vAt 14 λ x. x, tt)) 21
-              (List._∷_ 9 List.[]) (Call.sub-id 𝓤 H A W (G26 .slots)) (ShrSlice.spares-sslice 𝓤 H A W (Referent.rtF (Referent.fInt Syntax.w16)) ty·11 9, Shared.reads-sslice 𝓤 H A W (Referent.rtF (Referent.fInt Syntax.w16)) ty·11 9, Path'.refl, ((Scalar.reads-sc 𝓤 H A W (Row.sInt Syntax.w64), Path'.refl), tt)) (Reads.room-gone 𝓤 H A ty·13) (tt, tt)
-              Path'.refl) d20
+          d20 = Typed.s-seq 𝓤 H A W 𝓣 E G27 G28 b12 b17 Δ3 (Typed.both s24) at19 (Plain.t-call-plain 𝓤 H A W 𝓣 9 ps·1 r·1 (claims· .2) (claims· .3) "handset::button::press" (known .1) E (λ pos β. β) G27
+              (record { pos = 1; ty = ty·5; ref = λ x. x }, (record { pos = 2; ty = ty·6; ref = λ x. x }, (record { pos = 3; ty = ty·3; ref = λ x. x }, (record { pos = 4; ty = ty·7; ref = λ x. x }, (record { pos = 5; ty = ty·8; ref = λ x. x }, (record { pos = 6; ty = ty·9; ref = λ x. x }, (record { pos = 18; ty = ty·2; ref = λ x. x }, (record { pos = 20; ty = ty·1; ref = λ x. x }, (record { pos = 9; ty = ty·0; ref = λ x. x }, (record { pos = 21; st = List.[]; d = 0; at = λ x. x }, tt))))))))))
+              15 (List._∷_ 0 (List._∷_ 1 (List._∷_ 2 (List._∷_ 3 (List._∷_ 4 (List._∷_ 5 (List._∷_ 10 (List._∷_ 11 (List._∷_ 8 List.[]))))))))) (Call.sub-id 𝓤 H A W (G27 .slots))
+              (ShrSlice.spares-sslice 𝓤 H A W (Referent.rtF (Referent.fInt Syntax.w16)) ty·5 0, Shared.reads-sslice 𝓤 H A W (Referent.rtF (Referent.fInt Syntax.w16)) ty·5 0, Path'.refl, (ShrSlice.spares-sslice 𝓤 H A W (Referent.rtF (Referent.fInt Syntax.w16)) ty·6 1, Shared.reads-sslice 𝓤 H A W (Referent.rtF (Referent.fInt Syntax.w16)) ty·6 1, Path'.refl, (ShrSlice.spares-sslice 𝓤 H A W (Referent.rtF (Referent.fInt Syntax.w8)) ty·3 2, Shared.reads-sslice 𝓤 H A W (Referent.rtF (Referent.fInt Syntax.w8)) ty·3 2, Path'.refl, (ShrSlice.spares-sslice 𝓤 H A W (Referent.rtF (Referent.fInt Syntax.w16)) ty·7 3, Shared.reads-sslice 𝓤 H A W (Referent.rtF (Referent.fInt Syntax.w16)) ty·7 3, Path'.refl, (ShrSlice.spares-sslice 𝓤 H A W (Referent.rtF (Referent.fInt Syntax.w16)) ty·8 4, Shared.reads-sslice 𝓤 H A W (Referent.rtF (Referent.fInt Syntax.w16)) ty·8 4, Path'.refl, (ShrSlice.spares-sslice 𝓤 H A W (Referent.rtF (Referent.fInt Syntax.w32)) ty·9 5, Shared.reads-sslice 𝓤 H A W (Referent.rtF (Referent.fInt Syntax.w32)) ty·9 5, Path'.refl, (Reads.as-is 𝓤 H A (Mut.mslice (Referent.rtF (Referent.fInt Syntax.w16)) ty·2 10), Mut.reads-mslice 𝓤 H A W (Referent.rtF (Referent.fInt Syntax.w16)) ty·2 10, Path'.refl, (Reads.as-is 𝓤 H A (Mut.mslice (Referent.rtF (Referent.fInt Syntax.w8)) ty·1 11), Mut.reads-mslice 𝓤 H A W (Referent.rtF (Referent.fInt Syntax.w8)) ty·1 11, Path'.refl, (ShrSlice.spares-sslice 𝓤 H A W Rec.rt ty·0 8, Shared.reads-sslice 𝓤 H A W Rec.rt ty·0 8, Path'.refl, ((Yields.yields-copy 𝓤 H A W (λ ρ. Unit) (Declared.row Report.the-type) Path'.refl (Copies.cEnum Report.the-type Laws'.the-laws Laws'.the-copy .copy 𝓤 H A W) (Rows.whole (Declared.row Report.the-type)) (λ x. x) (λ x. x) (λ ρ told. Local.mem-whole 𝓤 H A W (Declared.row Report.the-type) ρ) λ ρ told. Local.whole-mem 𝓤 H A W (Declared.row Report.the-type) ρ, Path'.refl), tt))))))))))
+              (Reads.room-gone 𝓤 H A ty·14) (tt, (tt, (tt, (tt, (tt, (tt, (tt, (tt, (tt, tt))))))))) Path'.refl) (Typed.g-pre 𝓤 H A W 𝓣 E G28 G29 b17 Δ3 (Typed.pass T28 T29 s25) at17 (Scalar.g-room 𝓤 H A W E G28 21 ty·13 (Local.room-whole 𝓤 H A W (Declared.row Report.the-type) ty·13 Path'.refl)) (Typed.g-pre 𝓤 H A W 𝓣 E G29 G30 b17 Δ3 (λ Ψ. Ψ) at17
+              (Lifetime.g-end 𝓤 H A W E G29 10 Path'.refl) (Typed.g-pre 𝓤 H A W 𝓣 E G30 G31 b17 Δ3 (Typed.both s27) at16 (Relend.g-back-sl 𝓤 H A W E (Referent.rtF (Referent.fInt Syntax.w16)) G30 18 7 6 10 ty·10 ty·2 (Row.lease (κs .1 .1 .1 .1 .1 .1 .0) (qs .1 .1 .1 .1 .1 .1 .0)) (λ x. x) (λ x. x) (Reads.as-is 𝓤 H A (Mut.msleft (Referent.rtF (Referent.fInt
+              Syntax.w16)) ty·2)) (Reads.as-is 𝓤 H A (Relend.mslice-owed (Referent.rtF (Referent.fInt Syntax.w16)) ty·10 6 10 (Row.lease (κs .1 .1 .1 .1 .1 .1 .0) (qs .1 .1 .1 .1 .1 .1 .0)))) Path'.refl Path'.refl) d16)))
 
           d22 : Typed.Typed 𝓤 H A 𝓣 E G25 b20 Δ3 at22
           d22 = Typed.s-seq 𝓤 H A W 𝓣 E G25 G26 b10 b19 Δ3 (Typed.ask s22) at21 (Relend.t-sl-aggregate 𝓤 H A W E (Referent.rtF (Referent.fInt Syntax.w8)) 𝓣 (Relend.asMut (Referent.rtF (Referent.fInt Syntax.w8))) G25 19 20 11 ty·1 ty·1 (λ x. x) (Scalar.oFld 8 (List._∷_ (Syntax.field 1) List.[]) (Syntax.tyInt Syntax.w64) 8 λ v. Shared.lenV (v .0)) (Reads.as-is
-              𝓤 H A (Relend.msptr (Referent.rtF (Referent.fInt Syntax.w8)) ty·1 11)) (Reads.room-gone 𝓤 H A (Syntax.tyStruct (List._∷_ 38 (List._∷_ 91 (List._∷_ 93 List.[]))) (Syntax.tcons ty·1 (Syntax.tcons (Syntax.tyInt Syntax.w64) Syntax.tnil)))) (
-                Relend.reads-owed-len 𝓤 H A W (Referent.rtF (Referent.fInt Syntax.w8)) ty·4 7 11
-                    (Row.lease (κs .1 .1 .1 .1 .1 .1 .1 .0) (qs .1 .1 .1 .1 .1 .1 .1 .0)) 8 Path'.refl,
-                Path'.refl,
-              ) Path'.refl Path'.refl λ b o k. tt) d21
-
-          d23 : Typed.Typed 𝓤 H A 𝓣 E G24 b21 Δ3 at23
-          d23 = Typed.s-seq 𝓤 H A W 𝓣 E G24 G25 b9 b20 Δ3 (Typed.give s21) at22 (Relend.t-sl-relend 𝓤 H A W E (Referent.rtF (Referent.fInt Syntax.w8)) 𝓣 G24 8 19 7 11 ty·4 ty·1 (Row.lease (κs .1 .1 .1 .1 .1 .1 .1 .0) (qs .1 .1 .1 .1 .1 .1 .1 .0)) 0 (λ x. x) (Reads.as-is 𝓤 H A (Mut.mslice (Referent.rtF (Referent.fInt Syntax.w8)) ty·4 7)) (Reads.room-gone 𝓤 H
-              A ty·1) Path'.refl tt Path'.refl Path'.refl Path'.refl λ b o. tt) d22
-
-          d24 : Typed.Typed 𝓤 H A 𝓣 E G23 b21 Δ3 at24
-          d24 = Typed.g-pre 𝓤 H A W 𝓣 E G23 G24 b21 Δ3 (λ Ψ. Ψ) at23 (Lifetime.g-begin 𝓤 H A W E G23 11 (tt, (tt, (tt, (tt, (tt, (tt, (tt, ((tt, tt), (tt, (tt, (tt, (tt, (tt, (tt, (tt, (tt, (tt, (tt, (tt, (tt, (tt, (tt, tt))))))))))))))))))))))) d23
+              𝓤 H A (Relend.msptr (Referent.rtF (Referent.fInt Syntax.w8)) ty·1 11)) (Reads.room-gone 𝓤 H A (Syntax.tyStruct (List._∷_ 38 (List._∷_ 91 (List._∷_ 93 List.[]))) (Syntax.tcons ty·1 (Syntax.tcons (Syntax.tyInt Syntax.w64) Syntax.tnil))))
+              (Relend.reads-owed-len 𝓤 H A W (Referent.rtF (Referent.fInt Syntax.w8)) ty·4 7 11 (Row.lease (κs .1 .1 .1 .1 .1 .1 .1 .0) (qs .1 .1 .1 .1 .1 .1 .1 .0)) 8 Path'.refl, Path'.refl) Path'.refl Path'.refl λ b o k. tt) (Typed.s-seq 𝓤 H A W 𝓣 E G26 G27 b11 b18 Δ3 (Typed.both s23) at20 (Plain.t-call-plain 𝓤 H A W 𝓣 1 ps·0 r·0 (claims· .0) (claims· .1)
+              "presses::answers::report_at" (known .0) E (λ pos β. β) G26 (record { pos = 11; ty = ty·11; ref = λ x. x }, (Num.vAt 14 λ x. x, tt)) 21 (List._∷_ 9 List.[]) (Call.sub-id 𝓤 H A W (G26 .slots))
+              (ShrSlice.spares-sslice 𝓤 H A W (Referent.rtF (Referent.fInt Syntax.w16)) ty·11 9, Shared.reads-sslice 𝓤 H A W (Referent.rtF (Referent.fInt Syntax.w16)) ty·11 9, Path'.refl, ((Scalar.reads-sc 𝓤 H A W (Row.sInt Syntax.w64), Path'.refl), tt)) (Reads.room-gone 𝓤 H A ty·13) (tt, tt) Path'.refl) d20)
 
           d25 : Typed.Typed 𝓤 H A 𝓣 E G22 b22 Δ3 at25
-          d25 = Typed.s-seq 𝓤 H A W 𝓣 E G22 G23 b8 b21 Δ3 (Typed.ask s19) at24 (Relend.t-sl-aggregate 𝓤 H A W E (Referent.rtF (Referent.fInt Syntax.w16)) 𝓣 (Relend.asMut (Referent.rtF (Referent.fInt Syntax.w16))) G22 17 18 10 ty·2 ty·2 (λ x. x) (Scalar.oFld 7 (List._∷_ (Syntax.field 1) List.[]) (Syntax.tyInt Syntax.w64) 8 λ v. Shared.lenV (v .0))
-              (Reads.as-is 𝓤 H A (Relend.msptr (Referent.rtF (Referent.fInt Syntax.w16)) ty·2 10)) (Reads.room-gone 𝓤 H A (Syntax.tyStruct (List._∷_ 38 (List._∷_ 91 (List._∷_ 93 List.[]))) (Syntax.tcons ty·2 (Syntax.tcons (Syntax.tyInt Syntax.w64) Syntax.tnil)))) (
-                Relend.reads-owed-len 𝓤 H A W (Referent.rtF (Referent.fInt Syntax.w16)) ty·10 6 10
-                    (Row.lease (κs .1 .1 .1 .1 .1 .1 .0) (qs .1 .1 .1 .1 .1 .1 .0)) 8 Path'.refl,
-                Path'.refl,
-              ) Path'.refl Path'.refl λ b o k. tt) d24
-
-          d26 : Typed.Typed 𝓤 H A 𝓣 E G21 b23 Δ3 at26
-          d26 = Typed.s-seq 𝓤 H A W 𝓣 E G21 G22 b7 b22 Δ3 (Typed.give s18) at25 (Relend.t-sl-relend 𝓤 H A W E (Referent.rtF (Referent.fInt Syntax.w16)) 𝓣 G21 7 17 6 10 ty·10 ty·2 (Row.lease (κs .1 .1 .1 .1 .1 .1 .0) (qs .1 .1 .1 .1 .1 .1 .0)) 0 (λ x. x) (Reads.as-is 𝓤 H A (Mut.mslice (Referent.rtF (Referent.fInt Syntax.w16)) ty·10 6)) (Reads.room-gone 𝓤 H A
-              ty·2) Path'.refl tt Path'.refl Path'.refl Path'.refl λ b o. tt) d25
-
-          d27 : Typed.Typed 𝓤 H A 𝓣 E G16 b23 Δ3 at27
-          d27 = Typed.g-pre 𝓤 H A W 𝓣 E G16 G21 b23 Δ3 (λ Ψ. Ψ) at26 (Lifetime.g-begin 𝓤 H A W E G16 10 (tt, (tt, (tt, (tt, (tt, (tt, (tt, (tt, (tt, (tt, (tt, (tt, (tt, (tt, (tt, (tt, (tt, (tt, (tt, (tt, (tt, (tt, tt))))))))))))))))))))))) d26
+          d25 = Typed.s-seq 𝓤 H A W 𝓣 E G22 G23 b8 b21 Δ3 (Typed.ask s19) at23 (Relend.t-sl-aggregate 𝓤 H A W E (Referent.rtF (Referent.fInt Syntax.w16)) 𝓣 (Relend.asMut (Referent.rtF (Referent.fInt Syntax.w16))) G22 17 18 10 ty·2 ty·2 (λ x. x) (Scalar.oFld 7 (List._∷_ (Syntax.field 1) List.[]) (Syntax.tyInt Syntax.w64) 8 λ v. Shared.lenV (v .0))
+              (Reads.as-is 𝓤 H A (Relend.msptr (Referent.rtF (Referent.fInt Syntax.w16)) ty·2 10)) (Reads.room-gone 𝓤 H A (Syntax.tyStruct (List._∷_ 38 (List._∷_ 91 (List._∷_ 93 List.[]))) (Syntax.tcons ty·2 (Syntax.tcons (Syntax.tyInt Syntax.w64) Syntax.tnil))))
+              (Relend.reads-owed-len 𝓤 H A W (Referent.rtF (Referent.fInt Syntax.w16)) ty·10 6 10 (Row.lease (κs .1 .1 .1 .1 .1 .1 .0) (qs .1 .1 .1 .1 .1 .1 .0)) 8 Path'.refl, Path'.refl) Path'.refl Path'.refl λ b o k. tt) (Typed.g-pre 𝓤 H A W 𝓣 E G23 G24 b21 Δ3 (λ Ψ. Ψ) at23 (Lifetime.g-begin 𝓤 H A W E G23 11
+              (tt, (tt, (tt, (tt, (tt, (tt, (tt, ((tt, tt), (tt, (tt, (tt, (tt, (tt, (tt, (tt, (tt, (tt, (tt, (tt, (tt, (tt, (tt, tt))))))))))))))))))))))) (Typed.s-seq 𝓤 H A W 𝓣 E G24 G25 b9 b20 Δ3 (Typed.give s21) at22 (Relend.t-sl-relend 𝓤 H A W E (Referent.rtF (Referent.fInt Syntax.w8)) 𝓣 G24 8 19 7 11 ty·4 ty·1 (Row.lease (κs .1 .1 .1 .1 .1 .1 .1 .0) (qs .1
+              .1 .1 .1 .1 .1 .1 .0)) 0 (λ x. x) (Reads.as-is 𝓤 H A (Mut.mslice (Referent.rtF (Referent.fInt Syntax.w8)) ty·4 7)) (Reads.room-gone 𝓤 H A ty·1) Path'.refl tt Path'.refl Path'.refl Path'.refl λ b o. tt) d22))
 
           d28 : Typed.Typed 𝓤 H A 𝓣 E G15 b24 Δ3 at28
-          d28 = Typed.t-seq 𝓤 H A W 𝓣 E G15 G16 b6 b23 Δ3 at6 at27 d6 d27
-
-          d29 : Typed.Typed 𝓤 H A 𝓣 E G13 b25 Δ3 at29
-          d29 = Typed.s-seq 𝓤 H A W 𝓣 E G13 G15 b3 b24 Δ3 (Typed.ask s12) at28 (Scalar.t-op2 𝓤 H A W E 𝓣 G13 (Syntax.lt Syntax.unsigned) (Scalar.oAt 14 (Syntax.tyInt Syntax.w64) (Row.valS (Row.sInt Syntax.w64))) (Scalar.oAt 10 (Syntax.tyInt Syntax.w64) (Row.valS (Row.sInt Syntax.w64))) 16 (Rows.sc-here Row.sBool) Syntax.tyBool (Row.valS Row.sBool)
-              (Row.sBool .of) (Scalar.reads-sc 𝓤 H A W (Row.sInt Syntax.w64), Path'.refl) (Scalar.reads-sc 𝓤 H A W (Row.sInt Syntax.w64), Path'.refl) (Reads.room-gone 𝓤 H A Syntax.tyBool) (Scalar.holds-sc 𝓤 H A W Row.sBool) Path'.refl (λ u. Path'.refl) λ u. tt) d28
+          d28 = Typed.t-seq 𝓤 H A W 𝓣 E G15 G16 b6 b23 Δ3 at6 at26 d6 (Typed.g-pre 𝓤 H A W 𝓣 E G16 G21 b23 Δ3 (λ Ψ. Ψ) at26 (Lifetime.g-begin 𝓤 H A W E G16 10 (tt, (tt, (tt, (tt, (tt, (tt, (tt, (tt, (tt, (tt, (tt, (tt, (tt, (tt, (tt, (tt, (tt, (tt, (tt, (tt, (tt, (tt, tt))))))))))))))))))))))) (Typed.s-seq 𝓤 H A W 𝓣 E G21 G22 b7 b22 Δ3 (Typed.give s18) at25
+              (Relend.t-sl-relend 𝓤 H A W E (Referent.rtF (Referent.fInt Syntax.w16)) 𝓣 G21 7 17 6 10 ty·10 ty·2 (Row.lease (κs .1 .1 .1 .1 .1 .1 .0) (qs .1 .1 .1 .1 .1 .1 .0)) 0 (λ x. x) (Reads.as-is 𝓤 H A (Mut.mslice (Referent.rtF (Referent.fInt Syntax.w16)) ty·10 6)) (Reads.room-gone 𝓤 H A ty·2) Path'.refl tt Path'.refl Path'.refl Path'.refl λ b o. tt) d25))
 
           d30 : Typed.Typed 𝓤 H A 𝓣 E G13 b26 Δ2 at30
-          d30 = Typed.t-loop-by 𝓤 H A W 𝓣 E G13 b25 Δ2 put0 (λ u vs. Inv·0 (Row.get 1 (T13 .locals) u .now) (Row.get 2 (T13 .locals) u .now) (Row.get 3 (T13 .locals) u .now) (Row.get 4 (T13 .locals) u .now) (Row.get 5 (T13 .locals) u .now) (Row.get 6 (T13 .locals) u .now) (Row.get 7 (T13 .locals) u .now) (Row.get 8 (T13 .locals) u .now)
-              (Row.get 9 (T13 .locals) u .now) (Row.get 10 (T13 .locals) u) (Row.get 11 (T13 .locals) u .now) (Row.get 12 (T13 .locals) u) (Row.get 13 (T13 .locals) u) (Row.get 14 (T13 .locals) u) (vs .0) (vs .1) (vs .2) (vs .3) (vs .4)) (λ u vs. μ·0 (Row.get 1 (T13 .locals) u .now) (Row.get 2 (T13 .locals) u .now) (Row.get 3 (T13 .locals) u .now)
-              (Row.get 4 (T13 .locals) u .now) (Row.get 5 (T13 .locals) u .now) (Row.get 6 (T13 .locals) u .now) (Row.get 7 (T13 .locals) u .now) (Row.get 8 (T13 .locals) u .now) (Row.get 9 (T13 .locals) u .now) (Row.get 10 (T13 .locals) u) (Row.get 11 (T13 .locals) u .now) (Row.get 12 (T13 .locals) u) (Row.get 13 (T13 .locals) u)
-              (Row.get 14 (T13 .locals) u) (vs .0) (vs .1) (vs .2) (vs .3) (vs .4)) at29 d29
+          d30 = Typed.t-loop-by 𝓤 H A W 𝓣 E G13 b25 Δ2 put0 (λ u vs. Inv·0 (Row.get 1 (T13 .locals) u .now) (Row.get 2 (T13 .locals) u .now) (Row.get 3 (T13 .locals) u .now) (Row.get 4 (T13 .locals) u .now) (Row.get 5 (T13 .locals) u .now) (Row.get 6 (T13 .locals) u .now) (Row.get 7 (T13 .locals) u .now) (Row.get 8 (T13 .locals) u .now) (Row.get 9 (T13
+              .locals) u .now) (Row.get 10 (T13 .locals) u) (Row.get 11 (T13 .locals) u .now) (Row.get 12 (T13 .locals) u) (Row.get 13 (T13 .locals) u) (Row.get 14 (T13 .locals) u) (vs .0) (vs .1) (vs .2) (vs .3) (vs .4)) (λ u vs. μ·0 (Row.get 1 (T13 .locals) u .now) (Row.get 2 (T13 .locals) u .now) (Row.get 3 (T13 .locals) u .now) (Row.get 4 (T13 .locals) u
+              .now) (Row.get 5 (T13 .locals) u .now) (Row.get 6 (T13 .locals) u .now) (Row.get 7 (T13 .locals) u .now) (Row.get 8 (T13 .locals) u .now) (Row.get 9 (T13 .locals) u .now) (Row.get 10 (T13 .locals) u) (Row.get 11 (T13 .locals) u .now) (Row.get 12 (T13 .locals) u) (Row.get 13 (T13 .locals) u) (Row.get 14 (T13 .locals) u) (vs .0) (vs .1) (vs .2) (vs
+              .3) (vs .4)) at29 (Typed.s-seq 𝓤 H A W 𝓣 E G13 G15 b3 b24 Δ3 (Typed.ask s12) at28 (Scalar.t-op2 𝓤 H A W E 𝓣 G13 (Syntax.lt Syntax.unsigned) (Scalar.oAt 14 (Syntax.tyInt Syntax.w64) (Row.valS (Row.sInt Syntax.w64))) (Scalar.oAt 10 (Syntax.tyInt Syntax.w64) (Row.valS (Row.sInt Syntax.w64))) 16 (Rows.sc-here Row.sBool) Syntax.tyBool (Row.valS
+              Row.sBool) (Row.sBool .of) (Scalar.reads-sc 𝓤 H A W (Row.sInt Syntax.w64), Path'.refl) (Scalar.reads-sc 𝓤 H A W (Row.sInt Syntax.w64), Path'.refl) (Reads.room-gone 𝓤 H A Syntax.tyBool) (Scalar.holds-sc 𝓤 H A W Row.sBool) Path'.refl (λ u. Path'.refl) λ u. tt) d28)
 
           d31 : Typed.Typed 𝓤 H A 𝓣 E G13 b27 Δ1 at31
           d31 = Typed.t-block 𝓤 H A W 𝓣 E G13 b26 Δ1 at30 d30
 
-          d32 : Typed.Typed 𝓤 H A 𝓣 E G46 b29 Δ0 at32
+          d32 : Typed.Typed 𝓤 H A 𝓣 E G1 b29 Δ0 at32
           d32 = Typed.t-return 𝓤 H A W 𝓣 E Δ0 tt
 
-          d33 : Typed.Typed 𝓤 H A 𝓣 E G45 b29 Δ0 at33
-          d33 = Typed.g-pre 𝓤 H A W 𝓣 E G45 G46 b29 Δ0 (Typed.pass T45 T46 s42) at32 (Scalar.g-room 𝓤 H A W E G45 10 (Syntax.tyInt Syntax.w64) (Scalar.room-sc 𝓤 H A W (Row.sInt Syntax.w64))) d32
-
-          d34 : Typed.Typed 𝓤 H A 𝓣 E G44 b29 Δ0 at34
-          d34 = Typed.g-pre 𝓤 H A W 𝓣 E G44 G45 b29 Δ0 (Typed.pass T44 T45 s41) at33 (Scalar.g-room 𝓤 H A W E G44 14 (Syntax.tyInt Syntax.w64) (Scalar.room-sc 𝓤 H A W (Row.sInt Syntax.w64))) d33
-
-          d35 : Typed.Typed 𝓤 H A 𝓣 E G43 b29 Δ0 at35
-          d35 = Typed.g-pre 𝓤 H A W 𝓣 E G43 G44 b29 Δ0 (Typed.pass T43 T44 s40) at34 (Scalar.g-room 𝓤 H A W E G43 13 (Syntax.tyInt Syntax.w32) (Scalar.room-sc 𝓤 H A W (Row.sInt Syntax.w32))) d34
-
-          d36 : Typed.Typed 𝓤 H A 𝓣 E G42 b29 Δ0 at36
-          d36 = Typed.g-pre 𝓤 H A W 𝓣 E G42 G43 b29 Δ0 (Typed.pass T42 T43 s39) at35 (Scalar.g-room 𝓤 H A W E G42 12 (Syntax.tyInt Syntax.w64) (Scalar.room-sc 𝓤 H A W (Row.sInt Syntax.w64))) d35
-
-          d37 : Typed.Typed 𝓤 H A 𝓣 E G14 b30 Δ0 at37
-          d37 = Typed.s-seq 𝓤 H A W 𝓣 E G14 G42 b28 b29 Δ0 (Typed.both s38) at36 (Plain.t-call-plain 𝓤 H A W 𝓣 0 ps·4 r·4 (claims· .8) (claims· .9) "presses::answers::show" (known .4) E (λ pos β. β) G14 (Num.vAt 12 λ x. x, (Num.vAt 13 λ x. x, tt)) 0 List.[] (Call.sub-id 𝓤 H A W (G14 .slots)) (
-            (Scalar.reads-sc 𝓤 H A W (Row.sInt Syntax.w64), Path'.refl),
-            ((Scalar.reads-sc 𝓤 H A W (Row.sInt Syntax.w32), Path'.refl), tt),
-          ) (Reads.room-gone 𝓤 H A ty·12) tt Path'.refl) d36
+          d37 : Typed.Typed 𝓤 H A 𝓣 E G13 b30 Δ0 at37
+          d37 = Typed.s-seq 𝓤 H A W 𝓣 E G13 G42 b28 b29 Δ0 (Typed.both s38) at36 (Plain.t-call-plain 𝓤 H A W 𝓣 0 ps·4 r·4 (claims· .8) (claims· .9) "presses::answers::show" (known .4) E (λ pos β. β) G13 (Num.vAt 12 λ x. x, (Num.vAt 13 λ x. x, tt)) 0 List.[] (Call.sub-id 𝓤 H A W (G13 .slots))
+              ((Scalar.reads-sc 𝓤 H A W (Row.sInt Syntax.w64), Path'.refl), ((Scalar.reads-sc 𝓤 H A W (Row.sInt Syntax.w32), Path'.refl), tt)) (Reads.room-gone 𝓤 H A ty·12) tt Path'.refl) (Typed.g-pre 𝓤 H A W 𝓣 E G42 G43 b29 Δ0 (Typed.pass T42 T43 s39) at35 (Scalar.g-room 𝓤 H A W E G42 12 (Syntax.tyInt Syntax.w64) (Scalar.room-sc 𝓤 H A W (Row.sInt Syntax.w64)))
+              (Typed.g-pre 𝓤 H A W 𝓣 E G43 G44 b29 Δ0 (Typed.pass T43 T44 s40) at34 (Scalar.g-room 𝓤 H A W E G43 13 (Syntax.tyInt Syntax.w32) (Scalar.room-sc 𝓤 H A W (Row.sInt Syntax.w32))) (Typed.g-pre 𝓤 H A W 𝓣 E G44 G45 b29 Δ0 (Typed.pass T44 T45 s41) at33 (Scalar.g-room 𝓤 H A W E G44 14 (Syntax.tyInt Syntax.w64) (Scalar.room-sc 𝓤 H A W (Row.sInt
+              Syntax.w64))) (Typed.g-pre 𝓤 H A W 𝓣 E G45 G1 b29 Δ0 (Typed.pass T45 T1 s42) at32 (Scalar.g-room 𝓤 H A W E G45 10 (Syntax.tyInt Syntax.w64) (Scalar.room-sc 𝓤 H A W (Row.sInt Syntax.w64))) d32))))
 
           d38 : Typed.Typed 𝓤 H A 𝓣 E G13 b31 Δ0 at38
-          d38 = Typed.t-seq 𝓤 H A W 𝓣 E G13 G14 b27 b30 Δ0 at31 at37 d31 d37
+          d38 = Typed.t-seq 𝓤 H A W 𝓣 E G13 G13 b27 b30 Δ0 at31 at37 d31 d37
 
-          d39 : Typed.Typed 𝓤 H A 𝓣 E G12 b32 Δ0 at39
-          d39 = Typed.s-seq 𝓤 H A W 𝓣 E G12 G13 b2 b31 Δ0 (Typed.pass T12 T13 s11) at38 (Scalar.t-use 𝓤 H A W E 𝓣 G12 (Scalar.oInt Syntax.w64 0) 14 (Rows.sc-here (Row.sInt Syntax.w64)) (Syntax.tyInt Syntax.w64) (Row.valS (Row.sInt Syntax.w64)) (Row.sInt Syntax.w64 .of) tt (Reads.room-gone 𝓤 H A (Syntax.tyInt Syntax.w64))
-              (Scalar.holds-sc 𝓤 H A W (Row.sInt Syntax.w64)) Path'.refl (λ u. Path'.refl) λ u. tt) d38
+          d41 : Typed.Typed 𝓤 H A 𝓣 E G0 b34 Δ0 at41
+          d41 = Typed.s-seq 𝓤 H A W 𝓣 E G0 G11 b0 b33 Δ0 (Typed.pass T0 T11 s9) at40 (Scalar.t-use 𝓤 H A W E 𝓣 G0 (Scalar.oInt Syntax.w64 0) 12 (Rows.sc-here (Row.sInt Syntax.w64)) (Syntax.tyInt Syntax.w64) (Row.valS (Row.sInt Syntax.w64)) (Row.sInt Syntax.w64 .of) tt (Reads.room-gone 𝓤 H A (Syntax.tyInt Syntax.w64)) (Scalar.holds-sc 𝓤 H A W (Row.sInt
+              Syntax.w64)) Path'.refl (λ u. Path'.refl) λ u. tt) (Typed.s-seq 𝓤 H A W 𝓣 E G11 G12 b1 b32 Δ0 (Typed.pass T11 T12 s10) at39 (Scalar.t-use 𝓤 H A W E 𝓣 G11 (Scalar.oInt Syntax.w32 0) 13 (Rows.sc-here (Row.sInt Syntax.w32)) (Syntax.tyInt Syntax.w32) (Row.valS (Row.sInt Syntax.w32)) (Row.sInt Syntax.w32 .of) tt (Reads.room-gone 𝓤 H A (Syntax.tyInt
+              Syntax.w32)) (Scalar.holds-sc 𝓤 H A W (Row.sInt Syntax.w32)) Path'.refl (λ u. Path'.refl) λ u. tt) (Typed.s-seq 𝓤 H A W 𝓣 E G12 G13 b2 b31 Δ0 (Typed.pass T12 T13 s11) at38 (Scalar.t-use 𝓤 H A W E 𝓣 G12 (Scalar.oInt Syntax.w64 0) 14 (Rows.sc-here (Row.sInt Syntax.w64)) (Syntax.tyInt Syntax.w64) (Row.valS (Row.sInt Syntax.w64)) (Row.sInt Syntax.w64
+              .of) tt (Reads.room-gone 𝓤 H A (Syntax.tyInt Syntax.w64)) (Scalar.holds-sc 𝓤 H A W (Row.sInt Syntax.w64)) Path'.refl (λ u. Path'.refl) λ u. tt) d38))
 
-          d40 : Typed.Typed 𝓤 H A 𝓣 E G11 b33 Δ0 at40
-          d40 = Typed.s-seq 𝓤 H A W 𝓣 E G11 G12 b1 b32 Δ0 (Typed.pass T11 T12 s10) at39 (Scalar.t-use 𝓤 H A W E 𝓣 G11 (Scalar.oInt Syntax.w32 0) 13 (Rows.sc-here (Row.sInt Syntax.w32)) (Syntax.tyInt Syntax.w32) (Row.valS (Row.sInt Syntax.w32)) (Row.sInt Syntax.w32 .of) tt (Reads.room-gone 𝓤 H A (Syntax.tyInt Syntax.w32))
-              (Scalar.holds-sc 𝓤 H A W (Row.sInt Syntax.w32)) Path'.refl (λ u. Path'.refl) λ u. tt) d39
+          d44 : Typed.Typed 𝓤 H A 𝓣 E G0 b34 Δ0 at44
+          d44 = Typed.g-pre 𝓤 H A W 𝓣 E G0 G0 b34 Δ0 (Typed.give s6) at43 (Know.g-sl-known 𝓤 H A W (Referent.fInt Syntax.w16) E G0 7 6 ty·10 (Row.lease (κs .1 .1 .1 .1 .1 .1 .0) (qs .1 .1 .1 .1 .1 .1 .0)) 0 (λ x. x) record { fits = Dec'.lit< tt } (Reads.as-is 𝓤 H A (Mut.mslice (Referent.rtF (Referent.fInt Syntax.w16)) ty·10 6)) Path'.refl tt) (Typed.g-pre 𝓤
+              H A W 𝓣 E G0 G0 b34 Δ0 (Typed.give s7) at42 (Know.g-sl-known 𝓤 H A W (Referent.fInt Syntax.w8) E G0 8 7 ty·4 (Row.lease (κs .1 .1 .1 .1 .1 .1 .1 .0) (qs .1 .1 .1 .1 .1 .1 .1 .0)) 0 (λ x. x) record { fits = Dec'.lit< tt } (Reads.as-is 𝓤 H A (Mut.mslice (Referent.rtF (Referent.fInt Syntax.w8)) ty·4 7)) Path'.refl tt) (Typed.g-pre 𝓤 H A W 𝓣 E G0 G0
+              b34 Δ0 (Typed.give s8) at41 (Know.g-shs-known 𝓤 H A W (Referent.fInt Syntax.w16) E G0 11 9 ty·11 (Row.lease (κs .1 .1 .1 .1 .1 .1 .1 .1 .1 .0) (qs .1 .1 .1 .1 .1 .1 .1 .1 .1 .0)) 0 (λ x. x) record { fits = Dec'.lit< tt } (Reads.as-is 𝓤 H A (Rows.sslice (Referent.rtF (Referent.fInt Syntax.w16)) ty·11 9)) Path'.refl tt) d41))
 
-          d41 : Typed.Typed 𝓤 H A 𝓣 E G10 b34 Δ0 at41
-          d41 = Typed.s-seq 𝓤 H A W 𝓣 E G10 G11 b0 b33 Δ0 (Typed.pass T10 T11 s9) at40 (Scalar.t-use 𝓤 H A W E 𝓣 G10 (Scalar.oInt Syntax.w64 0) 12 (Rows.sc-here (Row.sInt Syntax.w64)) (Syntax.tyInt Syntax.w64) (Row.valS (Row.sInt Syntax.w64)) (Row.sInt Syntax.w64 .of) tt (Reads.room-gone 𝓤 H A (Syntax.tyInt Syntax.w64))
-              (Scalar.holds-sc 𝓤 H A W (Row.sInt Syntax.w64)) Path'.refl (λ u. Path'.refl) λ u. tt) d40
-
-          d42 : Typed.Typed 𝓤 H A 𝓣 E G9 b34 Δ0 at42
-          d42 = Typed.g-pre 𝓤 H A W 𝓣 E G9 G10 b34 Δ0 (Typed.give s8) at41 (Know.g-shs-known 𝓤 H A W (Referent.fInt Syntax.w16) E G9 11 9 ty·11 (Row.lease (κs .1 .1 .1 .1 .1 .1 .1 .1 .1 .0) (qs .1 .1 .1 .1 .1 .1 .1 .1 .1 .0)) 0 (λ x. x) record { fits = Dec'.lit< tt } (Reads.as-is 𝓤 H A (Rows.sslice (Referent.rtF (Referent.fInt Syntax.w16)) ty·11 9))
-              Path'.refl tt) d41
-
-          d43 : Typed.Typed 𝓤 H A 𝓣 E G8 b34 Δ0 at43
-          d43 = Typed.g-pre 𝓤 H A W 𝓣 E G8 G9 b34 Δ0 (Typed.give s7) at42 (Know.g-sl-known 𝓤 H A W (Referent.fInt Syntax.w8) E G8 8 7 ty·4 (Row.lease (κs .1 .1 .1 .1 .1 .1 .1 .0) (qs .1 .1 .1 .1 .1 .1 .1 .0)) 0 (λ x. x) record { fits = Dec'.lit< tt } (Reads.as-is 𝓤 H A (Mut.mslice (Referent.rtF (Referent.fInt Syntax.w8)) ty·4 7)) Path'.refl tt) d42
-
-          d44 : Typed.Typed 𝓤 H A 𝓣 E G7 b34 Δ0 at44
-          d44 = Typed.g-pre 𝓤 H A W 𝓣 E G7 G8 b34 Δ0 (Typed.give s6) at43 (Know.g-sl-known 𝓤 H A W (Referent.fInt Syntax.w16) E G7 7 6 ty·10 (Row.lease (κs .1 .1 .1 .1 .1 .1 .0) (qs .1 .1 .1 .1 .1 .1 .0)) 0 (λ x. x) record { fits = Dec'.lit< tt } (Reads.as-is 𝓤 H A (Mut.mslice (Referent.rtF (Referent.fInt Syntax.w16)) ty·10 6)) Path'.refl tt) d43
-
-          d45 : Typed.Typed 𝓤 H A 𝓣 E G6 b34 Δ0 at45
-          d45 = Typed.g-pre 𝓤 H A W 𝓣 E G6 G7 b34 Δ0 (Typed.give s5) at44 (Know.g-shs-known 𝓤 H A W (Referent.fInt Syntax.w32) E G6 6 5 ty·9 (Row.lease (κs .1 .1 .1 .1 .1 .0) (qs .1 .1 .1 .1 .1 .0)) 0 (λ x. x) record { fits = Dec'.lit< tt } (Reads.as-is 𝓤 H A (Rows.sslice (Referent.rtF (Referent.fInt Syntax.w32)) ty·9 5)) Path'.refl tt) d44
-
-          d46 : Typed.Typed 𝓤 H A 𝓣 E G5 b34 Δ0 at46
-          d46 = Typed.g-pre 𝓤 H A W 𝓣 E G5 G6 b34 Δ0 (Typed.give s4) at45 (Know.g-shs-known 𝓤 H A W (Referent.fInt Syntax.w16) E G5 5 4 ty·8 (Row.lease (κs .1 .1 .1 .1 .0) (qs .1 .1 .1 .1 .0)) 0 (λ x. x) record { fits = Dec'.lit< tt } (Reads.as-is 𝓤 H A (Rows.sslice (Referent.rtF (Referent.fInt Syntax.w16)) ty·8 4)) Path'.refl tt) d45
-
-          d47 : Typed.Typed 𝓤 H A 𝓣 E G4 b34 Δ0 at47
-          d47 = Typed.g-pre 𝓤 H A W 𝓣 E G4 G5 b34 Δ0 (Typed.give s3) at46 (Know.g-shs-known 𝓤 H A W (Referent.fInt Syntax.w16) E G4 4 3 ty·7 (Row.lease (κs .1 .1 .1 .0) (qs .1 .1 .1 .0)) 0 (λ x. x) record { fits = Dec'.lit< tt } (Reads.as-is 𝓤 H A (Rows.sslice (Referent.rtF (Referent.fInt Syntax.w16)) ty·7 3)) Path'.refl tt) d46
-
-          d48 : Typed.Typed 𝓤 H A 𝓣 E G3 b34 Δ0 at48
-          d48 = Typed.g-pre 𝓤 H A W 𝓣 E G3 G4 b34 Δ0 (Typed.give s2) at47 (Know.g-shs-known 𝓤 H A W (Referent.fInt Syntax.w8) E G3 3 2 ty·3 (Row.lease (κs .1 .1 .0) (qs .1 .1 .0)) 0 (λ x. x) record { fits = Dec'.lit< tt } (Reads.as-is 𝓤 H A (Rows.sslice (Referent.rtF (Referent.fInt Syntax.w8)) ty·3 2)) Path'.refl tt) d47
-
-          d49 : Typed.Typed 𝓤 H A 𝓣 E G2 b34 Δ0 at49
-          d49 = Typed.g-pre 𝓤 H A W 𝓣 E G2 G3 b34 Δ0 (Typed.give s1) at48 (Know.g-shs-known 𝓤 H A W (Referent.fInt Syntax.w16) E G2 2 1 ty·6 (Row.lease (κs .1 .0) (qs .1 .0)) 0 (λ x. x) record { fits = Dec'.lit< tt } (Reads.as-is 𝓤 H A (Rows.sslice (Referent.rtF (Referent.fInt Syntax.w16)) ty·6 1)) Path'.refl tt) d48
+          d47 : Typed.Typed 𝓤 H A 𝓣 E G0 b34 Δ0 at47
+          d47 = Typed.g-pre 𝓤 H A W 𝓣 E G0 G0 b34 Δ0 (Typed.give s3) at46 (Know.g-shs-known 𝓤 H A W (Referent.fInt Syntax.w16) E G0 4 3 ty·7 (Row.lease (κs .1 .1 .1 .0) (qs .1 .1 .1 .0)) 0 (λ x. x) record { fits = Dec'.lit< tt } (Reads.as-is 𝓤 H A (Rows.sslice (Referent.rtF (Referent.fInt Syntax.w16)) ty·7 3)) Path'.refl tt) (Typed.g-pre 𝓤 H A W 𝓣 E G0 G0
+              b34 Δ0 (Typed.give s4) at45 (Know.g-shs-known 𝓤 H A W (Referent.fInt Syntax.w16) E G0 5 4 ty·8 (Row.lease (κs .1 .1 .1 .1 .0) (qs .1 .1 .1 .1 .0)) 0 (λ x. x) record { fits = Dec'.lit< tt } (Reads.as-is 𝓤 H A (Rows.sslice (Referent.rtF (Referent.fInt Syntax.w16)) ty·8 4)) Path'.refl tt) (Typed.g-pre 𝓤 H A W 𝓣 E G0 G0 b34 Δ0 (Typed.give s5) at44
+              (Know.g-shs-known 𝓤 H A W (Referent.fInt Syntax.w32) E G0 6 5 ty·9 (Row.lease (κs .1 .1 .1 .1 .1 .0) (qs .1 .1 .1 .1 .1 .0)) 0 (λ x. x) record { fits = Dec'.lit< tt } (Reads.as-is 𝓤 H A (Rows.sslice (Referent.rtF (Referent.fInt Syntax.w32)) ty·9 5)) Path'.refl tt) d44))
 
           d50 : Typed.Typed 𝓤 H A 𝓣 E G0 b34 Δ0 at50
-          d50 = Typed.g-pre 𝓤 H A W 𝓣 E G0 G2 b34 Δ0 (Typed.give s0) at49 (Know.g-shs-known 𝓤 H A W (Referent.fInt Syntax.w16) E G0 1 0 ty·5 (Row.lease (κs .0) (qs .0)) 0 (λ x. x) record { fits = Dec'.lit< tt } (Reads.as-is 𝓤 H A (Rows.sslice (Referent.rtF (Referent.fInt Syntax.w16)) ty·5 0)) Path'.refl tt) d49
+          d50 = Typed.g-pre 𝓤 H A W 𝓣 E G0 G0 b34 Δ0 (Typed.give s0) at49 (Know.g-shs-known 𝓤 H A W (Referent.fInt Syntax.w16) E G0 1 0 ty·5 (Row.lease (κs .0) (qs .0)) 0 (λ x. x) record { fits = Dec'.lit< tt } (Reads.as-is 𝓤 H A (Rows.sslice (Referent.rtF (Referent.fInt Syntax.w16)) ty·5 0)) Path'.refl tt) (Typed.g-pre 𝓤 H A W 𝓣 E G0 G0 b34 Δ0 (Typed.give
+              s1) at48 (Know.g-shs-known 𝓤 H A W (Referent.fInt Syntax.w16) E G0 2 1 ty·6 (Row.lease (κs .1 .0) (qs .1 .0)) 0 (λ x. x) record { fits = Dec'.lit< tt } (Reads.as-is 𝓤 H A (Rows.sslice (Referent.rtF (Referent.fInt Syntax.w16)) ty·6 1)) Path'.refl tt) (Typed.g-pre 𝓤 H A W 𝓣 E G0 G0 b34 Δ0 (Typed.give s2) at47 (Know.g-shs-known 𝓤 H A W (Referent.fInt
+              Syntax.w8) E G0 3 2 ty·3 (Row.lease (κs .1 .1 .0) (qs .1 .1 .0)) 0 (λ x. x) record { fits = Dec'.lit< tt } (Reads.as-is 𝓤 H A (Rows.sslice (Referent.rtF (Referent.fInt Syntax.w8)) ty·3 2)) Path'.refl tt) d47))
 
           pub typed : Typed.Typed 𝓤 H A 𝓣 E (Function.Γin 10 ps r xs m κs qs) b34 (Function.Δret 10 ps r xs m κs qs) Φ
           typed = d50
@@ -1909,10 +1088,7 @@ module _ (claims· : Claims) where
           pub reported : Kinds.Den {n = 10} κs (ShrSlice.pShrS (Referent.rtF (Referent.fInt Syntax.w16)) 9 tt)
 
         abbrev pub dens : (a : Args) → Kinds.Dens κs ps
-        dens = λ a. (
-          a .drone-count,
-          (a .dependency-count, (a .names, (a .stop-counts, (a .locations, (a .times, (a .visited, (a .drone-flags, (a .dependencies, (a .count, (a .reported, tt)))))))))),
-        )
+        dens = λ a. (a .drone-count, (a .dependency-count, (a .names, (a .stop-counts, (a .locations, (a .times, (a .visited, (a .drone-flags, (a .dependencies, (a .count, (a .reported, tt)))))))))))
 
         module _ (args· : Args) where
           pub record Ranges : Type 0 where
@@ -1922,11 +1098,7 @@ module _ (claims· : Claims) where
       m0 = λ κs args. (tt, Enter.partsP κs 1 ps xs (dens κs args))
 
       abbrev W0 : (κs : Lifetimes.Lfts 10) → (args : Args κs) → Typed.Want O0
-      W0 = λ κs args. (
-        λ u. ⊥,
-        tt,
-        λ u. Enter.Fixs κs 1 ps xs (dens κs args) (u .1) × Post· κs (dens κs args) (Function.resV r κs (u .0)) (Clauses.atExit (Kinds.endedOf 10 ps r) κs (dens κs args) (Enter.lastsP κs 1 ps xs (dens κs args) (u .1))),
-      )
+      W0 = λ κs args. (λ u. ⊥, tt, λ u. Enter.Fixs κs 1 ps xs (dens κs args) (u .1) × Post· κs (dens κs args) (Function.resV r κs (u .0)) (Clauses.atExit (Kinds.endedOf 10 ps r) κs (dens κs args) (Enter.lastsP κs 1 ps xs (dens κs args) (u .1))))
 
       pub record Start : Type 0 where
         pub κs : Lifetimes.Lfts 10
@@ -1935,7 +1107,7 @@ module _ (claims· : Claims) where
         pub fits : Ranges κs args
         pub pre : Pre· κs (dens κs args)
 
-      abbrev pub m1 : (before : Start) → (given : s0 .gives (m0 (before .κs) (before .args))) → Typed.Mo T2
+      abbrev pub m1 : (before : Start) → (given : s0 .gives (m0 (before .κs) (before .args))) → Typed.Mo T0
       m1 = λ before given. s0 .next (m0 (before .κs) (before .args)) given
 
       module _ (before· : Start) where
@@ -1946,7 +1118,7 @@ module _ (claims· : Claims) where
         pub before : Start
         pub shared-slice-known : After-shared-slice-known·own before
 
-      abbrev pub m2 : (before : After-shared-slice-known) → (given : s1 .gives (m1 (before .before) (before .shared-slice-known .given))) → Typed.Mo T3
+      abbrev pub m2 : (before : After-shared-slice-known) → (given : s1 .gives (m1 (before .before) (before .shared-slice-known .given))) → Typed.Mo T0
       m2 = λ before given. s1 .next (m1 (before .before) (before .shared-slice-known .given)) given
 
       module _ (before· : After-shared-slice-known) where
@@ -1957,7 +1129,7 @@ module _ (claims· : Claims) where
         pub before : After-shared-slice-known
         pub shared-slice-known2 : After-shared-slice-known2·own before
 
-      abbrev pub m3 : (before : After-shared-slice-known2) → (given : s2 .gives (m2 (before .before) (before .shared-slice-known2 .given))) → Typed.Mo T4
+      abbrev pub m3 : (before : After-shared-slice-known2) → (given : s2 .gives (m2 (before .before) (before .shared-slice-known2 .given))) → Typed.Mo T0
       m3 = λ before given. s2 .next (m2 (before .before) (before .shared-slice-known2 .given)) given
 
       module _ (before· : After-shared-slice-known2) where
@@ -1968,7 +1140,7 @@ module _ (claims· : Claims) where
         pub before : After-shared-slice-known2
         pub shared-slice-known3 : After-shared-slice-known3·own before
 
-      abbrev pub m4 : (before : After-shared-slice-known3) → (given : s3 .gives (m3 (before .before) (before .shared-slice-known3 .given))) → Typed.Mo T5
+      abbrev pub m4 : (before : After-shared-slice-known3) → (given : s3 .gives (m3 (before .before) (before .shared-slice-known3 .given))) → Typed.Mo T0
       m4 = λ before given. s3 .next (m3 (before .before) (before .shared-slice-known3 .given)) given
 
       module _ (before· : After-shared-slice-known3) where
@@ -1979,7 +1151,7 @@ module _ (claims· : Claims) where
         pub before : After-shared-slice-known3
         pub shared-slice-known4 : After-shared-slice-known4·own before
 
-      abbrev pub m5 : (before : After-shared-slice-known4) → (given : s4 .gives (m4 (before .before) (before .shared-slice-known4 .given))) → Typed.Mo T6
+      abbrev pub m5 : (before : After-shared-slice-known4) → (given : s4 .gives (m4 (before .before) (before .shared-slice-known4 .given))) → Typed.Mo T0
       m5 = λ before given. s4 .next (m4 (before .before) (before .shared-slice-known4 .given)) given
 
       module _ (before· : After-shared-slice-known4) where
@@ -1990,7 +1162,7 @@ module _ (claims· : Claims) where
         pub before : After-shared-slice-known4
         pub shared-slice-known5 : After-shared-slice-known5·own before
 
-      abbrev pub m6 : (before : After-shared-slice-known5) → (given : s5 .gives (m5 (before .before) (before .shared-slice-known5 .given))) → Typed.Mo T7
+      abbrev pub m6 : (before : After-shared-slice-known5) → (given : s5 .gives (m5 (before .before) (before .shared-slice-known5 .given))) → Typed.Mo T0
       m6 = λ before given. s5 .next (m5 (before .before) (before .shared-slice-known5 .given)) given
 
       module _ (before· : After-shared-slice-known5) where
@@ -2001,7 +1173,7 @@ module _ (claims· : Claims) where
         pub before : After-shared-slice-known5
         pub shared-slice-known6 : After-shared-slice-known6·own before
 
-      abbrev pub m7 : (before : After-shared-slice-known6) → (given : s6 .gives (m6 (before .before) (before .shared-slice-known6 .given))) → Typed.Mo T8
+      abbrev pub m7 : (before : After-shared-slice-known6) → (given : s6 .gives (m6 (before .before) (before .shared-slice-known6 .given))) → Typed.Mo T0
       m7 = λ before given. s6 .next (m6 (before .before) (before .shared-slice-known6 .given)) given
 
       module _ (before· : After-shared-slice-known6) where
@@ -2012,7 +1184,7 @@ module _ (claims· : Claims) where
         pub before : After-shared-slice-known6
         pub slice-known : After-slice-known·own before
 
-      abbrev pub m8 : (before : After-slice-known) → (given : s7 .gives (m7 (before .before) (before .slice-known .given))) → Typed.Mo T9
+      abbrev pub m8 : (before : After-slice-known) → (given : s7 .gives (m7 (before .before) (before .slice-known .given))) → Typed.Mo T0
       m8 = λ before given. s7 .next (m7 (before .before) (before .slice-known .given)) given
 
       module _ (before· : After-slice-known) where
@@ -2023,21 +1195,12 @@ module _ (claims· : Claims) where
         pub before : After-slice-known
         pub slice-known2 : After-slice-known2·own before
 
-      abbrev pub m9 : (before : After-slice-known2) → (given : s8 .gives (m8 (before .before) (before .slice-known2 .given))) → Typed.Mo T10
-      m9 = λ before given. s8 .next (m8 (before .before) (before .slice-known2 .given)) given
-
-      abbrev pub m10 : (before : After-slice-known2) → (given : s8 .gives (m8 (before .before) (before .slice-known2 .given))) → Typed.Mo T11
-      m10 = λ before given. s9 (m9 before given)
-
-      abbrev pub m11 : (before : After-slice-known2) → (given : s8 .gives (m8 (before .before) (before .slice-known2 .given))) → Typed.Mo T12
-      m11 = λ before given. s10 (m10 before given)
-
       abbrev pub m12 : (before : After-slice-known2) → (given : s8 .gives (m8 (before .before) (before .slice-known2 .given))) → Typed.Mo T13
-      m12 = λ before given. s11 (m11 before given)
+      m12 = λ before given. s11 (s10 (s9 (s8 .next (m8 (before .before) (before .slice-known2 .given)) given)))
 
       abbrev W1 : (before : After-slice-known2) → (given : s8 .gives (m8 (before .before) (before .slice-known2 .given))) → Typed.Want O1
-      W1 = λ before given. Typed.wantNext T14 O0 (at37 (W0 (before .before .before .before .before .before .before .before .before .κs) (before .before .before .before .before .before .before .before .before .args))) (W0 (before .before .before .before .before .before .before .before .before .κs)
-          (before .before .before .before .before .before .before .before .before .args))
+      W1 = λ before given. Typed.wantNext T13 O0 (at37 (W0 (before .before .before .before .before .before .before .before .before .κs) (before .before .before .before .before .before .before .before .before .args))) (W0 (before .before .before .before .before .before .before .before .before .κs) (before .before .before .before .before .before .before
+          .before .before .args))
 
       abbrev W2 : (before : After-slice-known2) → (given : s8 .gives (m8 (before .before) (before .slice-known2 .given))) → Typed.Want O2
       W2 = λ before given. Typed.inBlock O1 (W1 before given)
@@ -2051,52 +1214,35 @@ module _ (claims· : Claims) where
         pub shared-slice-known7 : After-shared-slice-known7·own before
 
       abbrev pub Need-loop-holds : Type 0
-      Need-loop-holds = (c : After-shared-slice-known7) → Inv·0 (Row.get 1 (T13 .locals) (m12 (c .before) (c .shared-slice-known7 .given)) .now) (Row.get 2 (T13 .locals) (m12 (c .before) (c .shared-slice-known7 .given)) .now) (Row.get 3 (T13 .locals) (m12 (c .before) (c .shared-slice-known7 .given)) .now)
-          (Row.get 4 (T13 .locals) (m12 (c .before) (c .shared-slice-known7 .given)) .now) (Row.get 5 (T13 .locals) (m12 (c .before) (c .shared-slice-known7 .given)) .now) (Row.get 6 (T13 .locals) (m12 (c .before) (c .shared-slice-known7 .given)) .now) (Row.get 7 (T13 .locals) (m12 (c .before) (c .shared-slice-known7 .given)) .now)
-          (Row.get 8 (T13 .locals) (m12 (c .before) (c .shared-slice-known7 .given)) .now) (Row.get 9 (T13 .locals) (m12 (c .before) (c .shared-slice-known7 .given)) .now) (Row.get 10 (T13 .locals) (m12 (c .before) (c .shared-slice-known7 .given))) (Row.get 11 (T13 .locals) (m12 (c .before) (c .shared-slice-known7 .given)) .now)
-          (Row.get 12 (T13 .locals) (m12 (c .before) (c .shared-slice-known7 .given))) (Row.get 13 (T13 .locals) (m12 (c .before) (c .shared-slice-known7 .given))) (Row.get 14 (T13 .locals) (m12 (c .before) (c .shared-slice-known7 .given))) (Row.get 7 (T13 .locals) (m12 (c .before) (c .shared-slice-known7 .given)) .now)
-          (Row.get 8 (T13 .locals) (m12 (c .before) (c .shared-slice-known7 .given)) .now) (Row.get 12 (T13 .locals) (m12 (c .before) (c .shared-slice-known7 .given))) (Row.get 13 (T13 .locals) (m12 (c .before) (c .shared-slice-known7 .given))) (Row.get 14 (T13 .locals) (m12 (c .before) (c .shared-slice-known7 .given)))
+      Need-loop-holds = (c : After-shared-slice-known7) → Inv·0 (Row.get 1 (T13 .locals) (m12 (c .before) (c .shared-slice-known7 .given)) .now) (Row.get 2 (T13 .locals) (m12 (c .before) (c .shared-slice-known7 .given)) .now) (Row.get 3 (T13 .locals) (m12 (c .before) (c .shared-slice-known7 .given)) .now) (Row.get 4 (T13 .locals) (m12 (c .before) (c
+          .shared-slice-known7 .given)) .now) (Row.get 5 (T13 .locals) (m12 (c .before) (c .shared-slice-known7 .given)) .now) (Row.get 6 (T13 .locals) (m12 (c .before) (c .shared-slice-known7 .given)) .now) (Row.get 7 (T13 .locals) (m12 (c .before) (c .shared-slice-known7 .given)) .now) (Row.get 8 (T13 .locals) (m12 (c .before) (c .shared-slice-known7 .given))
+          .now) (Row.get 9 (T13 .locals) (m12 (c .before) (c .shared-slice-known7 .given)) .now) (Row.get 10 (T13 .locals) (m12 (c .before) (c .shared-slice-known7 .given))) (Row.get 11 (T13 .locals) (m12 (c .before) (c .shared-slice-known7 .given)) .now) (Row.get 12 (T13 .locals) (m12 (c .before) (c .shared-slice-known7 .given))) (Row.get 13 (T13 .locals) (m12
+          (c .before) (c .shared-slice-known7 .given))) (Row.get 14 (T13 .locals) (m12 (c .before) (c .shared-slice-known7 .given))) (Row.get 7 (T13 .locals) (m12 (c .before) (c .shared-slice-known7 .given)) .now) (Row.get 8 (T13 .locals) (m12 (c .before) (c .shared-slice-known7 .given)) .now) (Row.get 12 (T13 .locals) (m12 (c .before) (c .shared-slice-known7
+          .given))) (Row.get 13 (T13 .locals) (m12 (c .before) (c .shared-slice-known7 .given))) (Row.get 14 (T13 .locals) (m12 (c .before) (c .shared-slice-known7 .given)))
 
-      abbrev pub m13 : (before : After-shared-slice-known7) → (visited : List.List (Referent.rtF (Referent.fInt Syntax.w16) .Denot)) → (drone-flags : List.List (Referent.rtF (Referent.fInt Syntax.w8) .Denot)) → (number : Rows.sc-here (Row.sInt Syntax.w64) .Mod) → (bits : Rows.sc-here (Row.sInt Syntax.w32) .Mod) →
-          (i : Rows.sc-here (Row.sInt Syntax.w64) .Mod) → Typed.Mo T13
-      m13 = λ before visited drone-flags number bits i. Row.set 14 (
-        14,
-        Rows.sc-here (Row.sInt Syntax.w64),
-      ) i (Row.setRow 13 (13, Rows.sc-here (Row.sInt Syntax.w32)) (Row.setRow 12 (
-        12,
-        Rows.sc-here (Row.sInt Syntax.w64),
-      ) (Row.setRow 8 (
-        8,
-        Mut.mslice (Referent.rtF (Referent.fInt Syntax.w8)) ty·4 7,
-      ) (Row.setRow 7 (
-        7,
-        Mut.mslice (Referent.rtF (Referent.fInt Syntax.w16)) ty·10 6,
-      ) (T13 .locals))))) (Row.set 13 (13, Rows.sc-here (Row.sInt Syntax.w32)) bits (Row.setRow 12 (12, Rows.sc-here (Row.sInt Syntax.w64)) (Row.setRow 8 (8, Mut.mslice (Referent.rtF (Referent.fInt Syntax.w8)) ty·4 7) (Row.setRow 7 (7, Mut.mslice (Referent.rtF (Referent.fInt Syntax.w16)) ty·10 6) (T13 .locals))))
-          (Row.set 12 (12, Rows.sc-here (Row.sInt Syntax.w64)) number (Row.setRow 8 (8, Mut.mslice (Referent.rtF (Referent.fInt Syntax.w8)) ty·4 7) (Row.setRow 7 (7, Mut.mslice (Referent.rtF (Referent.fInt Syntax.w16)) ty·10 6) (T13 .locals))) (Row.set 8 (8, Mut.mslice (Referent.rtF (Referent.fInt Syntax.w8)) ty·4 7) record {
-            ptr = Row.get 8
-                (T13 .locals) (m12 (before .before) (before .shared-slice-known7 .given)) .ptr;
-            name = Row.get 8 (T13 .locals) (m12 (before .before) (before .shared-slice-known7 .given)) .name;
-            now = drone-flags;
-          } (Row.setRow 7 (7, Mut.mslice (Referent.rtF (Referent.fInt Syntax.w16)) ty·10 6) (T13 .locals)) (Row.set 7 (
-            7,
-            Mut.mslice
-                (Referent.rtF (Referent.fInt Syntax.w16)) ty·10 6,
-          ) record { ptr = Row.get 7 (T13 .locals) (m12 (before .before) (before .shared-slice-known7 .given)) .ptr; name = Row.get 7 (T13 .locals) (m12 (before .before) (before .shared-slice-known7 .given)) .name; now = visited } (T13 .locals) (m12 (before .before) (before .shared-slice-known7 .given))))))
+      abbrev pub m13 : (before : After-shared-slice-known7) → (visited : List.List (Referent.rtF (Referent.fInt Syntax.w16) .Denot)) → (drone-flags : List.List (Referent.rtF (Referent.fInt Syntax.w8) .Denot)) → (number : Rows.sc-here (Row.sInt Syntax.w64) .Mod) → (bits : Rows.sc-here (Row.sInt Syntax.w32) .Mod) → (i : Rows.sc-here (Row.sInt Syntax.w64) .Mod)
+          → Typed.Mo T13
+      m13 = λ before visited drone-flags number bits i. Row.set 14 (14, Rows.sc-here (Row.sInt Syntax.w64)) i (Row.setRow 13 (13, Rows.sc-here (Row.sInt Syntax.w32)) (Row.setRow 12 (12, Rows.sc-here (Row.sInt Syntax.w64)) (Row.setRow 8 (8, Mut.mslice (Referent.rtF (Referent.fInt Syntax.w8)) ty·4 7) (Row.setRow 7
+          (7, Mut.mslice (Referent.rtF (Referent.fInt Syntax.w16)) ty·10 6) (T13 .locals))))) (Row.set 13 (13, Rows.sc-here (Row.sInt Syntax.w32)) bits (Row.setRow 12 (12, Rows.sc-here (Row.sInt Syntax.w64)) (Row.setRow 8 (8, Mut.mslice (Referent.rtF (Referent.fInt Syntax.w8)) ty·4 7) (Row.setRow 7
+          (7, Mut.mslice (Referent.rtF (Referent.fInt Syntax.w16)) ty·10 6) (T13 .locals)))) (Row.set 12 (12, Rows.sc-here (Row.sInt Syntax.w64)) number (Row.setRow 8 (8, Mut.mslice (Referent.rtF (Referent.fInt Syntax.w8)) ty·4 7) (Row.setRow 7 (7, Mut.mslice (Referent.rtF (Referent.fInt Syntax.w16)) ty·10 6) (T13 .locals))) (Row.set 8
+          (8, Mut.mslice (Referent.rtF (Referent.fInt Syntax.w8)) ty·4 7) record { ptr = Row.get 8 (T13 .locals) (m12 (before .before) (before .shared-slice-known7 .given)) .ptr; name = Row.get 8 (T13 .locals) (m12 (before .before) (before .shared-slice-known7 .given)) .name; now = drone-flags } (Row.setRow 7
+          (7, Mut.mslice (Referent.rtF (Referent.fInt Syntax.w16)) ty·10 6) (T13 .locals)) (Row.set 7 (7, Mut.mslice (Referent.rtF (Referent.fInt Syntax.w16)) ty·10 6) record
+          { ptr = Row.get 7 (T13 .locals) (m12 (before .before) (before .shared-slice-known7 .given)) .ptr; name = Row.get 7 (T13 .locals) (m12 (before .before) (before .shared-slice-known7 .given)) .name; now = visited } (T13 .locals) (m12 (before .before) (before .shared-slice-known7 .given))))))
 
       abbrev W3 : (before : After-shared-slice-known7) → (visited : List.List (Referent.rtF (Referent.fInt Syntax.w16) .Denot)) → (drone-flags : List.List (Referent.rtF (Referent.fInt Syntax.w8) .Denot)) → (number : Rows.sc-here (Row.sInt Syntax.w64) .Mod) → (bits : Rows.sc-here (Row.sInt Syntax.w32) .Mod) → (i : Rows.sc-here (Row.sInt Syntax.w64) .Mod) →
           Typed.Want O3
-      W3 = λ before visited drone-flags number bits i. Typed.inLoop T13 O2 (Typed.Round T13 O2 put0 (λ u vs. Inv·0 (Row.get 1 (T13 .locals) u .now) (Row.get 2 (T13 .locals) u .now) (Row.get 3 (T13 .locals) u .now) (Row.get 4 (T13 .locals) u .now) (Row.get 5 (T13 .locals) u .now) (Row.get 6 (T13 .locals) u .now) (Row.get 7 (T13 .locals) u .now)
-          (Row.get 8 (T13 .locals) u .now) (Row.get 9 (T13 .locals) u .now) (Row.get 10 (T13 .locals) u) (Row.get 11 (T13 .locals) u .now) (Row.get 12 (T13 .locals) u) (Row.get 13 (T13 .locals) u) (Row.get 14 (T13 .locals) u) (vs .0) (vs .1) (vs .2) (vs .3) (vs .4)) (λ u vs. μ·0 (Row.get 1 (T13 .locals) u .now) (Row.get 2 (T13 .locals) u .now)
-          (Row.get 3 (T13 .locals) u .now) (Row.get 4 (T13 .locals) u .now) (Row.get 5 (T13 .locals) u .now) (Row.get 6 (T13 .locals) u .now) (Row.get 7 (T13 .locals) u .now) (Row.get 8 (T13 .locals) u .now) (Row.get 9 (T13 .locals) u .now) (Row.get 10 (T13 .locals) u) (Row.get 11 (T13 .locals) u .now) (Row.get 12 (T13 .locals) u)
-          (Row.get 13 (T13 .locals) u) (Row.get 14 (T13 .locals) u) (vs .0) (vs .1) (vs .2) (vs .3) (vs .4)) at29 (m12 (before .before) (before .shared-slice-known7 .given)) (visited, drone-flags, number, bits, i)) (W2 (before .before) (before .shared-slice-known7 .given))
+      W3 = λ before visited drone-flags number bits i. Typed.inLoop T13 O2 (Typed.Round T13 O2 put0 (λ u vs. Inv·0 (Row.get 1 (T13 .locals) u .now) (Row.get 2 (T13 .locals) u .now) (Row.get 3 (T13 .locals) u .now) (Row.get 4 (T13 .locals) u .now) (Row.get 5 (T13 .locals) u .now) (Row.get 6 (T13 .locals) u .now) (Row.get 7 (T13 .locals) u .now) (Row.get 8
+          (T13 .locals) u .now) (Row.get 9 (T13 .locals) u .now) (Row.get 10 (T13 .locals) u) (Row.get 11 (T13 .locals) u .now) (Row.get 12 (T13 .locals) u) (Row.get 13 (T13 .locals) u) (Row.get 14 (T13 .locals) u) (vs .0) (vs .1) (vs .2) (vs .3) (vs .4)) (λ u vs. μ·0 (Row.get 1 (T13 .locals) u .now) (Row.get 2 (T13 .locals) u .now) (Row.get 3 (T13 .locals) u
+          .now) (Row.get 4 (T13 .locals) u .now) (Row.get 5 (T13 .locals) u .now) (Row.get 6 (T13 .locals) u .now) (Row.get 7 (T13 .locals) u .now) (Row.get 8 (T13 .locals) u .now) (Row.get 9 (T13 .locals) u .now) (Row.get 10 (T13 .locals) u) (Row.get 11 (T13 .locals) u .now) (Row.get 12 (T13 .locals) u) (Row.get 13 (T13 .locals) u) (Row.get 14 (T13 .locals) u)
+          (vs .0) (vs .1) (vs .2) (vs .3) (vs .4)) at29 (m12 (before .before) (before .shared-slice-known7 .given)) (visited, drone-flags, number, bits, i)) (W2 (before .before) (before .shared-slice-known7 .given))
 
-      abbrev pub m14 : (before : After-shared-slice-known7) → (visited : List.List (Referent.rtF (Referent.fInt Syntax.w16) .Denot)) → (drone-flags : List.List (Referent.rtF (Referent.fInt Syntax.w8) .Denot)) → (number : Rows.sc-here (Row.sInt Syntax.w64) .Mod) → (bits : Rows.sc-here (Row.sInt Syntax.w32) .Mod) →
-          (i : Rows.sc-here (Row.sInt Syntax.w64) .Mod) → Typed.Mo T15
+      abbrev pub m14 : (before : After-shared-slice-known7) → (visited : List.List (Referent.rtF (Referent.fInt Syntax.w16) .Denot)) → (drone-flags : List.List (Referent.rtF (Referent.fInt Syntax.w8) .Denot)) → (number : Rows.sc-here (Row.sInt Syntax.w64) .Mod) → (bits : Rows.sc-here (Row.sInt Syntax.w32) .Mod) → (i : Rows.sc-here (Row.sInt Syntax.w64) .Mod)
+          → Typed.Mo T15
       m14 = λ before visited drone-flags number bits i. s12 .next (m13 before visited drone-flags number bits i)
 
       abbrev W4 : (before : After-shared-slice-known7) → (visited : List.List (Referent.rtF (Referent.fInt Syntax.w16) .Denot)) → (drone-flags : List.List (Referent.rtF (Referent.fInt Syntax.w8) .Denot)) → (number : Rows.sc-here (Row.sInt Syntax.w64) .Mod) → (bits : Rows.sc-here (Row.sInt Syntax.w32) .Mod) → (i : Rows.sc-here (Row.sInt Syntax.w64) .Mod) →
           Typed.Want O4
-      W4 = λ before visited drone-flags number bits i. Typed.wantNext T16 O3 (at27 (W3 before visited drone-flags number bits i)) (W3 before visited drone-flags number bits i)
+      W4 = λ before visited drone-flags number bits i. Typed.wantNext T16 O3 (at26 (W3 before visited drone-flags number bits i)) (W3 before visited drone-flags number bits i)
 
       module _ (before· : After-shared-slice-known7) where
         pub record At-loop·own : Type 0 where
@@ -2105,11 +1251,10 @@ module _ (claims· : Claims) where
           pub number : Rows.sc-here (Row.sInt Syntax.w64) .Mod
           pub bits : Rows.sc-here (Row.sInt Syntax.w32) .Mod
           pub i : Rows.sc-here (Row.sInt Syntax.w64) .Mod
-          pub inv : Inv·0 (Row.get 1 (T13 .locals) (m12 (before· .before) (before· .shared-slice-known7 .given)) .now) (Row.get 2 (T13 .locals) (m12 (before· .before) (before· .shared-slice-known7 .given)) .now) (Row.get 3 (T13 .locals) (m12 (before· .before) (before· .shared-slice-known7 .given)) .now) (Row.get 4 (T13 .locals)
-              (m12 (before· .before) (before· .shared-slice-known7 .given)) .now) (Row.get 5 (T13 .locals) (m12 (before· .before) (before· .shared-slice-known7 .given)) .now) (Row.get 6 (T13 .locals) (m12 (before· .before) (before· .shared-slice-known7 .given)) .now) (Row.get 7 (T13 .locals) (m12 (before· .before) (before· .shared-slice-known7 .given)) .now)
-              (Row.get 8 (T13 .locals) (m12 (before· .before) (before· .shared-slice-known7 .given)) .now) (Row.get 9 (T13 .locals) (m12 (before· .before) (before· .shared-slice-known7 .given)) .now) (Row.get 10 (T13 .locals) (m12 (before· .before) (before· .shared-slice-known7 .given))) (Row.get 11 (T13 .locals)
-              (m12 (before· .before) (before· .shared-slice-known7 .given)) .now) (Row.get 12 (T13 .locals) (m12 (before· .before) (before· .shared-slice-known7 .given))) (Row.get 13 (T13 .locals) (m12 (before· .before) (before· .shared-slice-known7 .given))) (Row.get 14 (T13 .locals) (m12 (before· .before) (before· .shared-slice-known7 .given))) visited
-              drone-flags number bits i
+          pub inv : Inv·0 (Row.get 1 (T13 .locals) (m12 (before· .before) (before· .shared-slice-known7 .given)) .now) (Row.get 2 (T13 .locals) (m12 (before· .before) (before· .shared-slice-known7 .given)) .now) (Row.get 3 (T13 .locals) (m12 (before· .before) (before· .shared-slice-known7 .given)) .now) (Row.get 4 (T13 .locals) (m12 (before· .before)
+              (before· .shared-slice-known7 .given)) .now) (Row.get 5 (T13 .locals) (m12 (before· .before) (before· .shared-slice-known7 .given)) .now) (Row.get 6 (T13 .locals) (m12 (before· .before) (before· .shared-slice-known7 .given)) .now) (Row.get 7 (T13 .locals) (m12 (before· .before) (before· .shared-slice-known7 .given)) .now) (Row.get 8 (T13 .locals)
+              (m12 (before· .before) (before· .shared-slice-known7 .given)) .now) (Row.get 9 (T13 .locals) (m12 (before· .before) (before· .shared-slice-known7 .given)) .now) (Row.get 10 (T13 .locals) (m12 (before· .before) (before· .shared-slice-known7 .given))) (Row.get 11 (T13 .locals) (m12 (before· .before) (before· .shared-slice-known7 .given)) .now)
+              (Row.get 12 (T13 .locals) (m12 (before· .before) (before· .shared-slice-known7 .given))) (Row.get 13 (T13 .locals) (m12 (before· .before) (before· .shared-slice-known7 .given))) (Row.get 14 (T13 .locals) (m12 (before· .before) (before· .shared-slice-known7 .given))) visited drone-flags number bits i
 
       pub record At-loop : Type 0 where
         pub before : After-shared-slice-known7
@@ -2117,39 +1262,30 @@ module _ (claims· : Claims) where
 
       module _ (before· : At-loop) where
         pub record In-loop·own : Type 0 where
-          pub taken : Nat._<_ (Row.get 14 (T13 .locals) (m13 (before· .before) (before· .loop .visited) (before· .loop .drone-flags) (before· .loop .number) (before· .loop .bits) (before· .loop .i))) (Row.get 10 (T13 .locals) (m13 (before· .before) (before· .loop .visited) (before· .loop .drone-flags) (before· .loop .number) (before· .loop .bits)
-              (before· .loop .i)))
+          pub taken : Nat._<_ (Row.get 14 (T13 .locals) (m13 (before· .before) (before· .loop .visited) (before· .loop .drone-flags) (before· .loop .number) (before· .loop .bits) (before· .loop .i))) (Row.get 10 (T13 .locals) (m13 (before· .before) (before· .loop .visited) (before· .loop .drone-flags) (before· .loop .number) (before· .loop .bits) (before·
+              .loop .i)))
 
       pub record In-loop : Type 0 where
         pub before : At-loop
         pub loop-test : In-loop·own before
 
-      abbrev pub m15 : (before : At-loop) → Typed.Mo T17
-      m15 = λ before. s13 (m14 (before .before) (before .loop .visited) (before .loop .drone-flags) (before .loop .number) (before .loop .bits) (before .loop .i))
-
-      abbrev pub m16 : (before : At-loop) → Typed.Mo T18
-      m16 = λ before. s14 (m15 before)
-
-      abbrev pub m17 : (before : At-loop) → Typed.Mo T19
-      m17 = λ before. s15 (m16 before)
+      abbrev pub m17 : (before : At-loop) → Typed.Mo T16
+      m17 = λ before. s15 (s14 (s13 (m14 (before .before) (before .loop .visited) (before .loop .drone-flags) (before .loop .number) (before .loop .bits) (before .loop .i))))
 
       module _ (before· : At-loop) where
         pub record After-loop·own : Type 0 where
-          pub left : Nat._≤_ (Row.get 10 (T13 .locals) (m13 (before· .before) (before· .loop .visited) (before· .loop .drone-flags) (before· .loop .number) (before· .loop .bits) (before· .loop .i))) (Row.get 14 (T13 .locals) (m13 (before· .before) (before· .loop .visited) (before· .loop .drone-flags) (before· .loop .number) (before· .loop .bits)
-              (before· .loop .i)))
+          pub left : Nat._≤_ (Row.get 10 (T13 .locals) (m13 (before· .before) (before· .loop .visited) (before· .loop .drone-flags) (before· .loop .number) (before· .loop .bits) (before· .loop .i))) (Row.get 14 (T13 .locals) (m13 (before· .before) (before· .loop .visited) (before· .loop .drone-flags) (before· .loop .number) (before· .loop .bits) (before·
+              .loop .i)))
 
       pub record After-loop : Type 0 where
         pub before : At-loop
         pub loop-test : After-loop·own before
 
-      abbrev pub m18 : (before : At-loop) → Typed.Mo T20
+      abbrev pub m18 : (before : At-loop) → Typed.Mo T13
       m18 = λ before. s16 (m14 (before .before) (before .loop .visited) (before .loop .drone-flags) (before .loop .number) (before .loop .bits) (before .loop .i))
 
-      abbrev pub m19 : (before : In-loop) → (given : s18 .gives (m17 (before .before))) → Typed.Mo T22
-      m19 = λ before given. s18 .next (m17 (before .before)) given
-
       abbrev pub m20 : (before : In-loop) → (given : s18 .gives (m17 (before .before))) → Typed.Mo T23
-      m20 = λ before given. s19 .next (m19 before given)
+      m20 = λ before given. s19 .next (s18 .next (m17 (before .before)) given)
 
       module _ (before· : In-loop) where
         pub record After-press-arg·own : Type 0 where
@@ -2159,11 +1295,8 @@ module _ (claims· : Claims) where
         pub before : In-loop
         pub press-arg : After-press-arg·own before
 
-      abbrev pub m21 : (before : After-press-arg) → (given : s21 .gives (m20 (before .before) (before .press-arg .given))) → Typed.Mo T25
-      m21 = λ before given. s21 .next (m20 (before .before) (before .press-arg .given)) given
-
       abbrev pub m22 : (before : After-press-arg) → (given : s21 .gives (m20 (before .before) (before .press-arg .given))) → Typed.Mo T26
-      m22 = λ before given. s22 .next (m21 before given)
+      m22 = λ before given. s22 .next (s21 .next (m20 (before .before) (before .press-arg .given)) given)
 
       module _ (before· : After-press-arg) where
         pub record After-press-arg2·own : Type 0 where
@@ -2181,20 +1314,14 @@ module _ (claims· : Claims) where
 
       module _ (before· : After-press-arg2) where
         abbrev pub After-report-at·own : Type 0
-        After-report-at·own = Called.Called ps·0 r·0 (claims· .1) T26 (
-          record { pos = 11; ty = Syntax.tyRef (Syntax.named 9) Syntax.imm (Syntax.tyInt Syntax.w16); ref = λ x. x },
-          (Num.vAt 14 λ x. x, tt),
-        ) (m22 (before· .before) (before· .press-arg2 .given))
+        After-report-at·own = Called.Called ps·0 r·0 (claims· .1) T26 args·0 (m22 (before· .before) (before· .press-arg2 .given))
 
       pub record After-report-at : Type 0 where
         pub before : After-press-arg2
         pub report-at : After-report-at·own before
 
       abbrev pub After-report-at·gave : (c : After-report-at) → s23 .gives (m22 (c .before .before) (c .before .press-arg2 .given))
-      After-report-at·gave = λ c. Called.given ps·0 r·0 (claims· .1) T26 (
-        record { pos = 11; ty = Syntax.tyRef (Syntax.named 9) Syntax.imm (Syntax.tyInt Syntax.w16); ref = λ x. x },
-        (Num.vAt 14 λ x. x, tt),
-      ) (m22 (c .before .before) (c .before .press-arg2 .given)) (c .report-at)
+      After-report-at·gave = λ c. Called.given ps·0 r·0 (claims· .1) T26 args·0 (m22 (c .before .before) (c .before .press-arg2 .given)) (c .report-at)
 
       abbrev pub Need-press-requires : Type 0
       Need-press-requires = (c : After-report-at) → s24 .asks (m23 (c .before) (After-report-at·gave c))
@@ -2204,94 +1331,14 @@ module _ (claims· : Claims) where
 
       module _ (before· : After-report-at) where
         abbrev pub After-press·own : Type 0
-        After-press·own = Called.Called ps·1 r·1 (claims· .3) T27 (
-          record { pos = 1; ty = Syntax.tyRef (Syntax.named 0) Syntax.imm (Syntax.tyInt Syntax.w16); ref = λ x. x },
-          (
-            record { pos = 2; ty = Syntax.tyRef (Syntax.named 1) Syntax.imm (Syntax.tyInt Syntax.w16); ref = λ x. x },
-            (
-              record {
-                pos = 3;
-                ty = Syntax.tyRef (Syntax.named 2) Syntax.imm (Syntax.tyInt Syntax.w8);
-                ref = λ x. x;
-              },
-              (
-                record { pos = 4; ty = Syntax.tyRef (Syntax.named 3) Syntax.imm (Syntax.tyInt Syntax.w16); ref = λ x. x },
-                (
-                  record { pos = 5; ty = Syntax.tyRef (Syntax.named 4) Syntax.imm (Syntax.tyInt Syntax.w16); ref = λ x. x },
-                  (
-                    record {
-                      pos = 6;
-                      ty = Syntax.tyRef (Syntax.named 5) Syntax.imm (Syntax.tyInt Syntax.w32);
-                      ref = λ x. x;
-                    },
-                    (
-                      record { pos = 18; ty = Syntax.tyRef Syntax.erased Syntax.mut (Syntax.tyInt Syntax.w16); ref = λ x. x },
-                      (
-                        record { pos = 20; ty = Syntax.tyRef Syntax.erased Syntax.mut (Syntax.tyInt Syntax.w8); ref = λ x. x },
-                        (
-                          record {
-                            pos = 9;
-                            ty = Syntax.tyRef
-                                (Syntax.named 8) Syntax.imm Rec.behind;
-                            ref = λ x. x;
-                          },
-                          (record { pos = 21; st = List.[]; d = 0; at = λ x. x }, tt),
-                        ),
-                      ),
-                    ),
-                  ),
-                ),
-              ),
-            ),
-          ),
-        ) (m23 (before· .before) (After-report-at·gave before·))
+        After-press·own = Called.Called ps·1 r·1 (claims· .3) T27 args·1 (m23 (before· .before) (After-report-at·gave before·))
 
       pub record After-press : Type 0 where
         pub before : After-report-at
         pub press : After-press·own before
 
       abbrev pub After-press·gave : (c : After-press) → s24 .gives (m23 (c .before .before) (After-report-at·gave (c .before)))
-      After-press·gave = λ c. Called.given ps·1 r·1 (claims· .3) T27 (
-        record { pos = 1; ty = Syntax.tyRef (Syntax.named 0) Syntax.imm (Syntax.tyInt Syntax.w16); ref = λ x. x },
-        (
-          record { pos = 2; ty = Syntax.tyRef (Syntax.named 1) Syntax.imm (Syntax.tyInt Syntax.w16); ref = λ x. x },
-          (
-            record {
-              pos = 3;
-              ty = Syntax.tyRef (Syntax.named 2) Syntax.imm (Syntax.tyInt Syntax.w8);
-              ref = λ x. x;
-            },
-            (
-              record { pos = 4; ty = Syntax.tyRef (Syntax.named 3) Syntax.imm (Syntax.tyInt Syntax.w16); ref = λ x. x },
-              (
-                record { pos = 5; ty = Syntax.tyRef (Syntax.named 4) Syntax.imm (Syntax.tyInt Syntax.w16); ref = λ x. x },
-                (
-                  record {
-                    pos = 6;
-                    ty = Syntax.tyRef (Syntax.named 5) Syntax.imm (Syntax.tyInt Syntax.w32);
-                    ref = λ x. x;
-                  },
-                  (
-                    record { pos = 18; ty = Syntax.tyRef Syntax.erased Syntax.mut (Syntax.tyInt Syntax.w16); ref = λ x. x },
-                    (
-                      record { pos = 20; ty = Syntax.tyRef Syntax.erased Syntax.mut (Syntax.tyInt Syntax.w8); ref = λ x. x },
-                      (
-                        record {
-                          pos = 9;
-                          ty = Syntax.tyRef
-                              (Syntax.named 8) Syntax.imm Rec.behind;
-                          ref = λ x. x;
-                        },
-                        (record { pos = 21; st = List.[]; d = 0; at = λ x. x }, tt),
-                      ),
-                    ),
-                  ),
-                ),
-              ),
-            ),
-          ),
-        ),
-      ) (m23 (c .before .before) (After-report-at·gave (c .before))) (c .press)
+      After-press·gave = λ c. Called.given ps·1 r·1 (claims· .3) T27 args·1 (m23 (c .before .before) (After-report-at·gave (c .before))) (c .press)
 
       abbrev pub m25 : (before : After-report-at) → (given : s24 .gives (m23 (before .before) (After-report-at·gave before))) → Typed.Mo T29
       m25 = λ before given. s25 (m24 before given)
@@ -2307,7 +1354,7 @@ module _ (claims· : Claims) where
         pub before : After-press
         pub visited : After-visited·own before
 
-      abbrev pub m27 : (before : After-visited) → (given : s28 .gives (m26 (before .before) (before .visited .given))) → Typed.Mo T32
+      abbrev pub m27 : (before : After-visited) → (given : s28 .gives (m26 (before .before) (before .visited .given))) → Typed.Mo T31
       m27 = λ before given. s28 .next (m26 (before .before) (before .visited .given)) given
 
       module _ (before· : After-visited) where
@@ -2329,7 +1376,7 @@ module _ (claims· : Claims) where
         pub before : After-slice-known3
         pub drone-flags : After-drone-flags·own before
 
-      abbrev pub m29 : (before : After-drone-flags) → (given : s32 .gives (m28 (before .before) (before .drone-flags .given))) → Typed.Mo T36
+      abbrev pub m29 : (before : After-drone-flags) → (given : s32 .gives (m28 (before .before) (before .drone-flags .given))) → Typed.Mo T35
       m29 = λ before given. s32 .next (m28 (before .before) (before .drone-flags .given)) given
 
       module _ (before· : After-drone-flags) where
@@ -2348,20 +1395,14 @@ module _ (claims· : Claims) where
 
       module _ (before· : After-slice-known4) where
         abbrev pub After-number-in·own : Type 0
-        After-number-in·own = Called.Called ps·2 r·2 (claims· .5) T36 (
-          record { pos = 15; st = List.[]; d = 0; at = λ x. x },
-          tt,
-        ) (m29 (before· .before) (before· .slice-known4 .given))
+        After-number-in·own = Called.Called ps·2 r·2 (claims· .5) T35 (record { pos = 15; st = List.[]; d = 0; at = λ x. x }, tt) (m29 (before· .before) (before· .slice-known4 .given))
 
       pub record After-number-in : Type 0 where
         pub before : After-slice-known4
         pub number-in : After-number-in·own before
 
       abbrev pub After-number-in·gave : (c : After-number-in) → s34 .gives (m29 (c .before .before) (c .before .slice-known4 .given))
-      After-number-in·gave = λ c. Called.given ps·2 r·2 (claims· .5) T36 (
-        record { pos = 15; st = List.[]; d = 0; at = λ x. x },
-        tt,
-      ) (m29 (c .before .before) (c .before .slice-known4 .given)) (c .number-in)
+      After-number-in·gave = λ c. Called.given ps·2 r·2 (claims· .5) T35 (record { pos = 15; st = List.[]; d = 0; at = λ x. x }, tt) (m29 (c .before .before) (c .before .slice-known4 .given)) (c .number-in)
 
       abbrev pub Need-bits-in-requires : Type 0
       Need-bits-in-requires = (c : After-number-in) → s35 .asks (m30 (c .before) (After-number-in·gave c))
@@ -2371,79 +1412,64 @@ module _ (claims· : Claims) where
 
       module _ (before· : After-number-in) where
         abbrev pub After-bits-in·own : Type 0
-        After-bits-in·own = Called.Called ps·3 r·3 (claims· .7) T38 (
-          record { pos = 15; st = List.[]; d = 0; at = λ x. x },
-          tt,
-        ) (m30 (before· .before) (After-number-in·gave before·))
+        After-bits-in·own = Called.Called ps·2 r·3 (claims· .7) T38 (record { pos = 15; st = List.[]; d = 0; at = λ x. x }, tt) (m30 (before· .before) (After-number-in·gave before·))
 
       pub record After-bits-in : Type 0 where
         pub before : After-number-in
         pub bits-in : After-bits-in·own before
 
       abbrev pub After-bits-in·gave : (c : After-bits-in) → s35 .gives (m30 (c .before .before) (After-number-in·gave (c .before)))
-      After-bits-in·gave = λ c. Called.given ps·3 r·3 (claims· .7) T38 (
-        record { pos = 15; st = List.[]; d = 0; at = λ x. x },
-        tt,
-      ) (m30 (c .before .before) (After-number-in·gave (c .before))) (c .bits-in)
+      After-bits-in·gave = λ c. Called.given ps·2 r·3 (claims· .7) T38 (record { pos = 15; st = List.[]; d = 0; at = λ x. x }, tt) (m30 (c .before .before) (After-number-in·gave (c .before))) (c .bits-in)
 
-      abbrev pub m32 : (before : After-number-in) → (given : s35 .gives (m30 (before .before) (After-number-in·gave before))) → Typed.Mo T40
+      abbrev pub m32 : (before : After-number-in) → (given : s35 .gives (m30 (before .before) (After-number-in·gave before))) → Typed.Mo T13
       m32 = λ before given. s36 (m31 before given)
 
       abbrev pub Need-add-i : Type 0
       Need-add-i = (c : After-bits-in) → s37 .asks (m32 (c .before) (After-bits-in·gave c))
 
-      abbrev pub m33 : (before : After-number-in) → (given : s35 .gives (m30 (before .before) (After-number-in·gave before))) → Typed.Mo T41
+      abbrev pub m33 : (before : After-number-in) → (given : s35 .gives (m30 (before .before) (After-number-in·gave before))) → Typed.Mo T13
       m33 = λ before given. s37 .next (m32 before given)
 
       abbrev pub Need-loop-less : Type 0
       Need-loop-less = (c : After-bits-in) → Nat._<_ (μ·0 (Row.get 1 (T13 .locals) (m12 (c .before .before .before .before .before .before .before .before .before .before .before .before .before) (c .before .before .before .before .before .before .before .before .before .before .before .before .shared-slice-known7 .given)) .now) (Row.get 2 (T13 .locals) (m12
-          (c .before .before .before .before .before .before .before .before .before .before .before .before .before) (c .before .before .before .before .before .before .before .before .before .before .before .before .shared-slice-known7 .given)) .now) (Row.get 3 (T13 .locals) (m12
-          (c .before .before .before .before .before .before .before .before .before .before .before .before .before) (c .before .before .before .before .before .before .before .before .before .before .before .before .shared-slice-known7 .given)) .now) (Row.get 4 (T13 .locals) (m12
-          (c .before .before .before .before .before .before .before .before .before .before .before .before .before) (c .before .before .before .before .before .before .before .before .before .before .before .before .shared-slice-known7 .given)) .now) (Row.get 5 (T13 .locals) (m12
-          (c .before .before .before .before .before .before .before .before .before .before .before .before .before) (c .before .before .before .before .before .before .before .before .before .before .before .before .shared-slice-known7 .given)) .now) (Row.get 6 (T13 .locals) (m12
-          (c .before .before .before .before .before .before .before .before .before .before .before .before .before) (c .before .before .before .before .before .before .before .before .before .before .before .before .shared-slice-known7 .given)) .now) (Row.get 7 (T13 .locals) (m12
-          (c .before .before .before .before .before .before .before .before .before .before .before .before .before) (c .before .before .before .before .before .before .before .before .before .before .before .before .shared-slice-known7 .given)) .now) (Row.get 8 (T13 .locals) (m12
-          (c .before .before .before .before .before .before .before .before .before .before .before .before .before) (c .before .before .before .before .before .before .before .before .before .before .before .before .shared-slice-known7 .given)) .now) (Row.get 9 (T13 .locals) (m12
-          (c .before .before .before .before .before .before .before .before .before .before .before .before .before) (c .before .before .before .before .before .before .before .before .before .before .before .before .shared-slice-known7 .given)) .now) (Row.get 10 (T13 .locals) (m12
-          (c .before .before .before .before .before .before .before .before .before .before .before .before .before) (c .before .before .before .before .before .before .before .before .before .before .before .before .shared-slice-known7 .given))) (Row.get 11 (T13 .locals) (m12
-          (c .before .before .before .before .before .before .before .before .before .before .before .before .before) (c .before .before .before .before .before .before .before .before .before .before .before .before .shared-slice-known7 .given)) .now) (Row.get 12 (T13 .locals) (m12
-          (c .before .before .before .before .before .before .before .before .before .before .before .before .before) (c .before .before .before .before .before .before .before .before .before .before .before .before .shared-slice-known7 .given))) (Row.get 13 (T13 .locals) (m12
-          (c .before .before .before .before .before .before .before .before .before .before .before .before .before) (c .before .before .before .before .before .before .before .before .before .before .before .before .shared-slice-known7 .given))) (Row.get 14 (T13 .locals) (m12
-          (c .before .before .before .before .before .before .before .before .before .before .before .before .before) (c .before .before .before .before .before .before .before .before .before .before .before .before .shared-slice-known7 .given))) (Row.get 7 (T13 .locals) (m33 (c .before)
-          (After-bits-in·gave c)) .now) (Row.get 8 (T13 .locals) (m33 (c .before) (After-bits-in·gave c)) .now) (Row.get 12 (T13 .locals) (m33 (c .before) (After-bits-in·gave c))) (Row.get 13 (T13 .locals) (m33 (c .before) (After-bits-in·gave c))) (Row.get 14 (T13 .locals) (m33 (c .before) (After-bits-in·gave c)))) (μ·0 (Row.get 1 (T13 .locals) (m12
-          (c .before .before .before .before .before .before .before .before .before .before .before .before .before) (c .before .before .before .before .before .before .before .before .before .before .before .before .shared-slice-known7 .given)) .now) (Row.get 2 (T13 .locals) (m12
-          (c .before .before .before .before .before .before .before .before .before .before .before .before .before) (c .before .before .before .before .before .before .before .before .before .before .before .before .shared-slice-known7 .given)) .now) (Row.get 3 (T13 .locals) (m12
-          (c .before .before .before .before .before .before .before .before .before .before .before .before .before) (c .before .before .before .before .before .before .before .before .before .before .before .before .shared-slice-known7 .given)) .now) (Row.get 4 (T13 .locals) (m12
-          (c .before .before .before .before .before .before .before .before .before .before .before .before .before) (c .before .before .before .before .before .before .before .before .before .before .before .before .shared-slice-known7 .given)) .now) (Row.get 5 (T13 .locals) (m12
-          (c .before .before .before .before .before .before .before .before .before .before .before .before .before) (c .before .before .before .before .before .before .before .before .before .before .before .before .shared-slice-known7 .given)) .now) (Row.get 6 (T13 .locals) (m12
-          (c .before .before .before .before .before .before .before .before .before .before .before .before .before) (c .before .before .before .before .before .before .before .before .before .before .before .before .shared-slice-known7 .given)) .now) (Row.get 7 (T13 .locals) (m12
-          (c .before .before .before .before .before .before .before .before .before .before .before .before .before) (c .before .before .before .before .before .before .before .before .before .before .before .before .shared-slice-known7 .given)) .now) (Row.get 8 (T13 .locals) (m12
-          (c .before .before .before .before .before .before .before .before .before .before .before .before .before) (c .before .before .before .before .before .before .before .before .before .before .before .before .shared-slice-known7 .given)) .now) (Row.get 9 (T13 .locals) (m12
-          (c .before .before .before .before .before .before .before .before .before .before .before .before .before) (c .before .before .before .before .before .before .before .before .before .before .before .before .shared-slice-known7 .given)) .now) (Row.get 10 (T13 .locals) (m12
-          (c .before .before .before .before .before .before .before .before .before .before .before .before .before) (c .before .before .before .before .before .before .before .before .before .before .before .before .shared-slice-known7 .given))) (Row.get 11 (T13 .locals) (m12
-          (c .before .before .before .before .before .before .before .before .before .before .before .before .before) (c .before .before .before .before .before .before .before .before .before .before .before .before .shared-slice-known7 .given)) .now) (Row.get 12 (T13 .locals) (m12
-          (c .before .before .before .before .before .before .before .before .before .before .before .before .before) (c .before .before .before .before .before .before .before .before .before .before .before .before .shared-slice-known7 .given))) (Row.get 13 (T13 .locals) (m12
-          (c .before .before .before .before .before .before .before .before .before .before .before .before .before) (c .before .before .before .before .before .before .before .before .before .before .before .before .shared-slice-known7 .given))) (Row.get 14 (T13 .locals) (m12
-          (c .before .before .before .before .before .before .before .before .before .before .before .before .before) (c .before .before .before .before .before .before .before .before .before .before .before .before .shared-slice-known7 .given))) (c .before .before .before .before .before .before .before .before .before .before .before .loop .visited)
-          (c .before .before .before .before .before .before .before .before .before .before .before .loop .drone-flags) (c .before .before .before .before .before .before .before .before .before .before .before .loop .number) (c .before .before .before .before .before .before .before .before .before .before .before .loop .bits)
-          (c .before .before .before .before .before .before .before .before .before .before .before .loop .i))
+          (c .before .before .before .before .before .before .before .before .before .before .before .before .before) (c .before .before .before .before .before .before .before .before .before .before .before .before .shared-slice-known7 .given)) .now) (Row.get 3 (T13 .locals) (m12 (c .before .before .before .before .before .before .before .before .before
+          .before .before .before .before) (c .before .before .before .before .before .before .before .before .before .before .before .before .shared-slice-known7 .given)) .now) (Row.get 4 (T13 .locals) (m12 (c .before .before .before .before .before .before .before .before .before .before .before .before .before) (c .before .before .before .before .before
+          .before .before .before .before .before .before .before .shared-slice-known7 .given)) .now) (Row.get 5 (T13 .locals) (m12 (c .before .before .before .before .before .before .before .before .before .before .before .before .before) (c .before .before .before .before .before .before .before .before .before .before .before .before .shared-slice-known7
+          .given)) .now) (Row.get 6 (T13 .locals) (m12 (c .before .before .before .before .before .before .before .before .before .before .before .before .before) (c .before .before .before .before .before .before .before .before .before .before .before .before .shared-slice-known7 .given)) .now) (Row.get 7 (T13 .locals) (m12 (c .before .before .before .before
+          .before .before .before .before .before .before .before .before .before) (c .before .before .before .before .before .before .before .before .before .before .before .before .shared-slice-known7 .given)) .now) (Row.get 8 (T13 .locals) (m12 (c .before .before .before .before .before .before .before .before .before .before .before .before .before) (c
+          .before .before .before .before .before .before .before .before .before .before .before .before .shared-slice-known7 .given)) .now) (Row.get 9 (T13 .locals) (m12 (c .before .before .before .before .before .before .before .before .before .before .before .before .before) (c .before .before .before .before .before .before .before .before .before .before
+          .before .before .shared-slice-known7 .given)) .now) (Row.get 10 (T13 .locals) (m12 (c .before .before .before .before .before .before .before .before .before .before .before .before .before) (c .before .before .before .before .before .before .before .before .before .before .before .before .shared-slice-known7 .given))) (Row.get 11 (T13 .locals) (m12 (c
+          .before .before .before .before .before .before .before .before .before .before .before .before .before) (c .before .before .before .before .before .before .before .before .before .before .before .before .shared-slice-known7 .given)) .now) (Row.get 12 (T13 .locals) (m12 (c .before .before .before .before .before .before .before .before .before .before
+          .before .before .before) (c .before .before .before .before .before .before .before .before .before .before .before .before .shared-slice-known7 .given))) (Row.get 13 (T13 .locals) (m12 (c .before .before .before .before .before .before .before .before .before .before .before .before .before) (c .before .before .before .before .before .before .before
+          .before .before .before .before .before .shared-slice-known7 .given))) (Row.get 14 (T13 .locals) (m12 (c .before .before .before .before .before .before .before .before .before .before .before .before .before) (c .before .before .before .before .before .before .before .before .before .before .before .before .shared-slice-known7 .given))) (Row.get 7
+          (T13 .locals) (m33 (c .before) (After-bits-in·gave c)) .now) (Row.get 8 (T13 .locals) (m33 (c .before) (After-bits-in·gave c)) .now) (Row.get 12 (T13 .locals) (m33 (c .before) (After-bits-in·gave c))) (Row.get 13 (T13 .locals) (m33 (c .before) (After-bits-in·gave c))) (Row.get 14 (T13 .locals) (m33 (c .before) (After-bits-in·gave c)))) (μ·0 (Row.get 1
+          (T13 .locals) (m12 (c .before .before .before .before .before .before .before .before .before .before .before .before .before) (c .before .before .before .before .before .before .before .before .before .before .before .before .shared-slice-known7 .given)) .now) (Row.get 2 (T13 .locals) (m12 (c .before .before .before .before .before .before .before
+          .before .before .before .before .before .before) (c .before .before .before .before .before .before .before .before .before .before .before .before .shared-slice-known7 .given)) .now) (Row.get 3 (T13 .locals) (m12 (c .before .before .before .before .before .before .before .before .before .before .before .before .before) (c .before .before .before
+          .before .before .before .before .before .before .before .before .before .shared-slice-known7 .given)) .now) (Row.get 4 (T13 .locals) (m12 (c .before .before .before .before .before .before .before .before .before .before .before .before .before) (c .before .before .before .before .before .before .before .before .before .before .before .before
+          .shared-slice-known7 .given)) .now) (Row.get 5 (T13 .locals) (m12 (c .before .before .before .before .before .before .before .before .before .before .before .before .before) (c .before .before .before .before .before .before .before .before .before .before .before .before .shared-slice-known7 .given)) .now) (Row.get 6 (T13 .locals) (m12 (c .before
+          .before .before .before .before .before .before .before .before .before .before .before .before) (c .before .before .before .before .before .before .before .before .before .before .before .before .shared-slice-known7 .given)) .now) (Row.get 7 (T13 .locals) (m12 (c .before .before .before .before .before .before .before .before .before .before .before
+          .before .before) (c .before .before .before .before .before .before .before .before .before .before .before .before .shared-slice-known7 .given)) .now) (Row.get 8 (T13 .locals) (m12 (c .before .before .before .before .before .before .before .before .before .before .before .before .before) (c .before .before .before .before .before .before .before
+          .before .before .before .before .before .shared-slice-known7 .given)) .now) (Row.get 9 (T13 .locals) (m12 (c .before .before .before .before .before .before .before .before .before .before .before .before .before) (c .before .before .before .before .before .before .before .before .before .before .before .before .shared-slice-known7 .given)) .now)
+          (Row.get 10 (T13 .locals) (m12 (c .before .before .before .before .before .before .before .before .before .before .before .before .before) (c .before .before .before .before .before .before .before .before .before .before .before .before .shared-slice-known7 .given))) (Row.get 11 (T13 .locals) (m12 (c .before .before .before .before .before .before
+          .before .before .before .before .before .before .before) (c .before .before .before .before .before .before .before .before .before .before .before .before .shared-slice-known7 .given)) .now) (Row.get 12 (T13 .locals) (m12 (c .before .before .before .before .before .before .before .before .before .before .before .before .before) (c .before .before
+          .before .before .before .before .before .before .before .before .before .before .shared-slice-known7 .given))) (Row.get 13 (T13 .locals) (m12 (c .before .before .before .before .before .before .before .before .before .before .before .before .before) (c .before .before .before .before .before .before .before .before .before .before .before .before
+          .shared-slice-known7 .given))) (Row.get 14 (T13 .locals) (m12 (c .before .before .before .before .before .before .before .before .before .before .before .before .before) (c .before .before .before .before .before .before .before .before .before .before .before .before .shared-slice-known7 .given))) (c .before .before .before .before .before .before
+          .before .before .before .before .before .loop .visited) (c .before .before .before .before .before .before .before .before .before .before .before .loop .drone-flags) (c .before .before .before .before .before .before .before .before .before .before .before .loop .number) (c .before .before .before .before .before .before .before .before .before
+          .before .before .loop .bits) (c .before .before .before .before .before .before .before .before .before .before .before .loop .i))
 
       abbrev pub Need-loop-again : Type 0
-      Need-loop-again = (c : After-bits-in) → Inv·0 (Row.get 1 (T13 .locals) (m12 (c .before .before .before .before .before .before .before .before .before .before .before .before .before) (c .before .before .before .before .before .before .before .before .before .before .before .before .shared-slice-known7 .given)) .now) (Row.get 2 (T13 .locals) (m12
-          (c .before .before .before .before .before .before .before .before .before .before .before .before .before) (c .before .before .before .before .before .before .before .before .before .before .before .before .shared-slice-known7 .given)) .now) (Row.get 3 (T13 .locals) (m12
-          (c .before .before .before .before .before .before .before .before .before .before .before .before .before) (c .before .before .before .before .before .before .before .before .before .before .before .before .shared-slice-known7 .given)) .now) (Row.get 4 (T13 .locals) (m12
-          (c .before .before .before .before .before .before .before .before .before .before .before .before .before) (c .before .before .before .before .before .before .before .before .before .before .before .before .shared-slice-known7 .given)) .now) (Row.get 5 (T13 .locals) (m12
-          (c .before .before .before .before .before .before .before .before .before .before .before .before .before) (c .before .before .before .before .before .before .before .before .before .before .before .before .shared-slice-known7 .given)) .now) (Row.get 6 (T13 .locals) (m12
-          (c .before .before .before .before .before .before .before .before .before .before .before .before .before) (c .before .before .before .before .before .before .before .before .before .before .before .before .shared-slice-known7 .given)) .now) (Row.get 7 (T13 .locals) (m12
-          (c .before .before .before .before .before .before .before .before .before .before .before .before .before) (c .before .before .before .before .before .before .before .before .before .before .before .before .shared-slice-known7 .given)) .now) (Row.get 8 (T13 .locals) (m12
-          (c .before .before .before .before .before .before .before .before .before .before .before .before .before) (c .before .before .before .before .before .before .before .before .before .before .before .before .shared-slice-known7 .given)) .now) (Row.get 9 (T13 .locals) (m12
-          (c .before .before .before .before .before .before .before .before .before .before .before .before .before) (c .before .before .before .before .before .before .before .before .before .before .before .before .shared-slice-known7 .given)) .now) (Row.get 10 (T13 .locals) (m12
-          (c .before .before .before .before .before .before .before .before .before .before .before .before .before) (c .before .before .before .before .before .before .before .before .before .before .before .before .shared-slice-known7 .given))) (Row.get 11 (T13 .locals) (m12
-          (c .before .before .before .before .before .before .before .before .before .before .before .before .before) (c .before .before .before .before .before .before .before .before .before .before .before .before .shared-slice-known7 .given)) .now) (Row.get 12 (T13 .locals) (m12
-          (c .before .before .before .before .before .before .before .before .before .before .before .before .before) (c .before .before .before .before .before .before .before .before .before .before .before .before .shared-slice-known7 .given))) (Row.get 13 (T13 .locals) (m12
-          (c .before .before .before .before .before .before .before .before .before .before .before .before .before) (c .before .before .before .before .before .before .before .before .before .before .before .before .shared-slice-known7 .given))) (Row.get 14 (T13 .locals) (m12
-          (c .before .before .before .before .before .before .before .before .before .before .before .before .before) (c .before .before .before .before .before .before .before .before .before .before .before .before .shared-slice-known7 .given))) (Row.get 7 (T13 .locals) (m33 (c .before)
-          (After-bits-in·gave c)) .now) (Row.get 8 (T13 .locals) (m33 (c .before) (After-bits-in·gave c)) .now) (Row.get 12 (T13 .locals) (m33 (c .before) (After-bits-in·gave c))) (Row.get 13 (T13 .locals) (m33 (c .before) (After-bits-in·gave c))) (Row.get 14 (T13 .locals) (m33 (c .before) (After-bits-in·gave c)))
+      Need-loop-again = (c : After-bits-in) → Inv·0 (Row.get 1 (T13 .locals) (m12 (c .before .before .before .before .before .before .before .before .before .before .before .before .before) (c .before .before .before .before .before .before .before .before .before .before .before .before .shared-slice-known7 .given)) .now) (Row.get 2 (T13 .locals) (m12 (c
+          .before .before .before .before .before .before .before .before .before .before .before .before .before) (c .before .before .before .before .before .before .before .before .before .before .before .before .shared-slice-known7 .given)) .now) (Row.get 3 (T13 .locals) (m12 (c .before .before .before .before .before .before .before .before .before .before
+          .before .before .before) (c .before .before .before .before .before .before .before .before .before .before .before .before .shared-slice-known7 .given)) .now) (Row.get 4 (T13 .locals) (m12 (c .before .before .before .before .before .before .before .before .before .before .before .before .before) (c .before .before .before .before .before .before
+          .before .before .before .before .before .before .shared-slice-known7 .given)) .now) (Row.get 5 (T13 .locals) (m12 (c .before .before .before .before .before .before .before .before .before .before .before .before .before) (c .before .before .before .before .before .before .before .before .before .before .before .before .shared-slice-known7 .given))
+          .now) (Row.get 6 (T13 .locals) (m12 (c .before .before .before .before .before .before .before .before .before .before .before .before .before) (c .before .before .before .before .before .before .before .before .before .before .before .before .shared-slice-known7 .given)) .now) (Row.get 7 (T13 .locals) (m12 (c .before .before .before .before .before
+          .before .before .before .before .before .before .before .before) (c .before .before .before .before .before .before .before .before .before .before .before .before .shared-slice-known7 .given)) .now) (Row.get 8 (T13 .locals) (m12 (c .before .before .before .before .before .before .before .before .before .before .before .before .before) (c .before
+          .before .before .before .before .before .before .before .before .before .before .before .shared-slice-known7 .given)) .now) (Row.get 9 (T13 .locals) (m12 (c .before .before .before .before .before .before .before .before .before .before .before .before .before) (c .before .before .before .before .before .before .before .before .before .before .before
+          .before .shared-slice-known7 .given)) .now) (Row.get 10 (T13 .locals) (m12 (c .before .before .before .before .before .before .before .before .before .before .before .before .before) (c .before .before .before .before .before .before .before .before .before .before .before .before .shared-slice-known7 .given))) (Row.get 11 (T13 .locals) (m12 (c .before
+          .before .before .before .before .before .before .before .before .before .before .before .before) (c .before .before .before .before .before .before .before .before .before .before .before .before .shared-slice-known7 .given)) .now) (Row.get 12 (T13 .locals) (m12 (c .before .before .before .before .before .before .before .before .before .before .before
+          .before .before) (c .before .before .before .before .before .before .before .before .before .before .before .before .shared-slice-known7 .given))) (Row.get 13 (T13 .locals) (m12 (c .before .before .before .before .before .before .before .before .before .before .before .before .before) (c .before .before .before .before .before .before .before .before
+          .before .before .before .before .shared-slice-known7 .given))) (Row.get 14 (T13 .locals) (m12 (c .before .before .before .before .before .before .before .before .before .before .before .before .before) (c .before .before .before .before .before .before .before .before .before .before .before .before .shared-slice-known7 .given))) (Row.get 7 (T13
+          .locals) (m33 (c .before) (After-bits-in·gave c)) .now) (Row.get 8 (T13 .locals) (m33 (c .before) (After-bits-in·gave c)) .now) (Row.get 12 (T13 .locals) (m33 (c .before) (After-bits-in·gave c))) (Row.get 13 (T13 .locals) (m33 (c .before) (After-bits-in·gave c))) (Row.get 14 (T13 .locals) (m33 (c .before) (After-bits-in·gave c)))
 
       abbrev pub Need-show-requires : Type 0
       Need-show-requires = (c : After-loop) → s38 .asks (m18 (c .before))
@@ -2453,238 +1479,63 @@ module _ (claims· : Claims) where
 
       module _ (before· : After-loop) where
         abbrev pub After-show·own : Type 0
-        After-show·own = Called.Called ps·4 r·4 (claims· .9) T14 (
-          Num.vAt 12 λ x. x,
-          (Num.vAt 13 λ x. x, tt),
-        ) (m18 (before· .before))
+        After-show·own = Called.Called ps·4 r·4 (claims· .9) T13 (Num.vAt 12 λ x. x, (Num.vAt 13 λ x. x, tt)) (m18 (before· .before))
 
       pub record After-show : Type 0 where
         pub before : After-loop
         pub show : After-show·own before
 
       abbrev pub After-show·gave : (c : After-show) → s38 .gives (m18 (c .before .before))
-      After-show·gave = λ c. Called.given ps·4 r·4 (claims· .9) T14 (
-        Num.vAt 12 λ x. x,
-        (Num.vAt 13 λ x. x, tt),
-      ) (m18 (c .before .before)) (c .show)
+      After-show·gave = λ c. Called.given ps·4 r·4 (claims· .9) T13 (Num.vAt 12 λ x. x, (Num.vAt 13 λ x. x, tt)) (m18 (c .before .before)) (c .show)
 
-      abbrev pub m35 : (before : After-loop) → (given : s38 .gives (m18 (before .before))) → Typed.Mo T43
-      m35 = λ before given. s39 (m34 before given)
-
-      abbrev pub m36 : (before : After-loop) → (given : s38 .gives (m18 (before .before))) → Typed.Mo T44
-      m36 = λ before given. s40 (m35 before given)
-
-      abbrev pub m37 : (before : After-loop) → (given : s38 .gives (m18 (before .before))) → Typed.Mo T45
-      m37 = λ before given. s41 (m36 before given)
-
-      abbrev pub m38 : (before : After-loop) → (given : s38 .gives (m18 (before .before))) → Typed.Mo T46
-      m38 = λ before given. s42 (m37 before given)
+      abbrev pub m38 : (before : After-loop) → (given : s38 .gives (m18 (before .before))) → Typed.Mo T1
+      m38 = λ before given. s42 (s41 (s40 (s39 (m34 before given))))
 
       abbrev pub Need-same-length : Type 0
-      Need-same-length = (c : After-show) → MutSlice.SameLen (Row.get 7 (T46 .locals) (m38 (c .before) (After-show·gave c))) (dens (c .before .before .before .before .before .before .before .before .before .before .before .before .κs) (c .before .before .before .before .before .before .before .before .before .before
-          .before .before .args) .1 .1 .1 .1 .1 .1 .0)
+      Need-same-length = (c : After-show) → MutSlice.SameLen (Row.get 7 (T1 .locals) (m38 (c .before) (After-show·gave c))) (dens (c .before .before .before .before .before .before .before .before .before .before .before .before .κs) (c .before .before .before .before .before .before .before .before .before .before .before .before .args) .1 .1 .1 .1 .1 .1
+          .0)
 
       abbrev pub Need-same-length-2 : Type 0
-      Need-same-length-2 = (c : After-show) → MutSlice.SameLen (Row.get 8 (T46 .locals) (m38 (c .before) (After-show·gave c))) (dens (c .before .before .before .before .before .before .before .before .before .before .before .before .κs) (c .before .before .before .before .before .before .before .before .before .before
-          .before .before .args) .1 .1 .1 .1 .1 .1 .1 .0)
+      Need-same-length-2 = (c : After-show) → MutSlice.SameLen (Row.get 8 (T1 .locals) (m38 (c .before) (After-show·gave c))) (dens (c .before .before .before .before .before .before .before .before .before .before .before .before .κs) (c .before .before .before .before .before .before .before .before .before .before .before .before .args) .1 .1 .1 .1 .1 .1
+          .1 .0)
 
       abbrev pub Need-returns : Type 0
-      Need-returns = (c : After-show) → Post· (c .before .before .before .before .before .before .before .before .before .before .before .before .κs) (dens (c .before .before .before .before .before .before .before .before .before .before .before .before .κs) (c .before .before .before .before .before .before .before .before .before .before
-          .before .before .args)) (Function.resV r (c .before .before .before .before .before .before .before .before .before .before .before .before .κs) (m38 (c .before) (After-show·gave c) .0)) (Clauses.atExit (Kinds.endedOf 10 ps r) (c .before .before .before .before .before .before .before .before .before .before .before .before .κs) (dens
-          (c .before .before .before .before .before .before .before .before .before .before .before .before .κs) (c .before .before .before .before .before .before .before .before .before .before .before .before .args)) (Enter.lastsP (c .before .before .before .before .before .before .before .before .before .before .before .before .κs) 1 ps xs (dens
-          (c .before .before .before .before .before .before .before .before .before .before .before .before .κs) (c .before .before .before .before .before .before .before .before .before .before .before .before .args)) (m38 (c .before) (After-show·gave c) .1)))
+      Need-returns = (c : After-show) → Post· (c .before .before .before .before .before .before .before .before .before .before .before .before .κs) (dens (c .before .before .before .before .before .before .before .before .before .before .before .before .κs) (c .before .before .before .before .before .before .before .before .before .before .before .before
+          .args)) (Function.resV r (c .before .before .before .before .before .before .before .before .before .before .before .before .κs) (m38 (c .before) (After-show·gave c) .0)) (Clauses.atExit (Kinds.endedOf 10 ps r) (c .before .before .before .before .before .before .before .before .before .before .before .before .κs) (dens (c .before .before .before
+          .before .before .before .before .before .before .before .before .before .κs) (c .before .before .before .before .before .before .before .before .before .before .before .before .args)) (Enter.lastsP (c .before .before .before .before .before .before .before .before .before .before .before .before .κs) 1 ps xs (dens (c .before .before .before .before
+          .before .before .before .before .before .before .before .before .κs) (c .before .before .before .before .before .before .before .before .before .before .before .before .args)) (m38 (c .before) (After-show·gave c) .1)))
 
-      module _ (loop-holds : Need-loop-holds) (report-at-requires : Need-report-at-requires) (press-requires : Need-press-requires) (number-in-requires : Need-number-in-requires) (bits-in-requires : Need-bits-in-requires) (add-i : Need-add-i) (loop-less : Need-loop-less) (loop-again : Need-loop-again)
-          (show-requires : Need-show-requires) (same-length : Need-same-length) (same-length-2 : Need-same-length-2) (returns : Need-returns) where
+      module _ (loop-holds : Need-loop-holds) (report-at-requires : Need-report-at-requires) (press-requires : Need-press-requires) (number-in-requires : Need-number-in-requires) (bits-in-requires : Need-bits-in-requires) (add-i : Need-add-i) (loop-less : Need-loop-less) (loop-again : Need-loop-again) (show-requires : Need-show-requires) (same-length :
+          Need-same-length) (same-length-2 : Need-same-length-2) (returns : Need-returns) where
         lay9 : (c : After-show) → at36 (W0 (c .before .before .before .before .before .before .before .before .before .before .before .before .κs) (c .before .before .before .before .before .before .before .before .before .before .before .before .args)) (m34 (c .before) (After-show·gave c))
-        lay9 = λ c. (
-          (
-            Path'.refl,
-            (
-              Path'.refl,
-              (
-                Path'.refl,
-                (
-                  Path'.refl,
-                  (
-                    Path'.refl,
-                    (
-                      Path'.refl,
-                      (
-                        MutSlice.fix-len (Row.get 7 (T46 .locals) (m38 (c .before) (After-show·gave c)) .ptr) (Row.get 7 (T46 .locals) (m38 (c .before) (After-show·gave c)) .name) (Row.get 7 (T46 .locals) (m38 (c .before) (After-show·gave c)) .now) (dens
-                            (c .before .before .before .before .before .before .before .before .before .before .before .before .κs) (c .before .before .before .before .before .before .before .before .before .before .before .before .args) .1 .1 .1 .1 .1 .1 .0 .now) (same-length record { before = c .before; show = c .show }),
-                        (
-                          MutSlice.fix-len (Row.get 8 (T46 .locals) (m38 (c .before) (After-show·gave c)) .ptr) (Row.get 8 (T46 .locals) (m38 (c .before) (After-show·gave c)) .name) (Row.get 8 (T46 .locals) (m38 (c .before) (After-show·gave c)) .now) (dens (c .before .before .before .before .before .before .before .before .before .before .before .before .κs)
-                              (c .before .before .before .before .before .before .before .before .before .before .before .before .args) .1 .1 .1 .1 .1 .1 .1 .0 .now) (same-length-2 record { before = c .before; show = c .show }),
-                          (Path'.refl, (tt, (Path'.refl, tt))),
-                        ),
-                      ),
-                    ),
-                  ),
-                ),
-              ),
-            ),
-          ),
-          returns record { before = c .before; show = c .show },
-        )
+        lay9 = λ c.
+            ((Path'.refl, (Path'.refl, (Path'.refl, (Path'.refl, (Path'.refl, (Path'.refl, (MutSlice.fix-len (Row.get 7 (T1 .locals) (m38 (c .before) (After-show·gave c)) .ptr) (Row.get 7 (T1 .locals) (m38 (c .before) (After-show·gave c)) .name) (Row.get 7 (T1 .locals) (m38 (c .before) (After-show·gave c)) .now) (dens (c .before .before .before .before .before .before .before .before .before .before .before .before .κs) (c .before .before .before .before .before .before .before .before .before .before .before .before .args) .1 .1 .1 .1 .1 .1 .0 .now) (same-length record { before = c .before; show = c .show }), (MutSlice.fix-len (Row.get 8 (T1 .locals) (m38 (c .before) (After-show·gave c)) .ptr) (Row.get 8 (T1 .locals) (m38 (c .before) (After-show·gave c)) .name) (Row.get 8 (T1 .locals) (m38 (c .before) (After-show·gave c)) .now) (dens (c .before .before .before .before .before .before .before .before .before .before .before .before .κs) (c .before .before .before .before .before .before .before .before .before .before .before .before .args) .1 .1 .1 .1 .1 .1 .1 .0 .now) (same-length-2 record { before = c .before; show = c .show }), (Path'.refl, (tt, (Path'.refl, tt))))))))))), returns record { before = c .before; show = c .show })
 
         lay8 : (c : After-loop) → at37 (W0 (c .before .before .before .before .before .before .before .before .before .before .before .κs) (c .before .before .before .before .before .before .before .before .before .before .before .args)) (m18 (c .before))
-        lay8 = λ c. (
-          show-requires record { before = c .before; loop-test = c .loop-test },
-          λ g. lay9 record { before = record { before = c .before; loop-test = c .loop-test }; show = Called.called ps·4 r·4 (claims· .9) T14 (Num.vAt 12 λ x. x, (Num.vAt 13 λ x. x, tt)) (m18 (c .before)) g },
-        )
+        lay8 = λ c. (show-requires record { before = c .before; loop-test = c .loop-test }, λ g. lay9 record { before = record { before = c .before; loop-test = c .loop-test }; show = Called.called ps·4 r·4 (claims· .9) T13 (Num.vAt 12 λ x. x, (Num.vAt 13 λ x. x, tt)) (m18 (c .before)) g })
 
-        lay7 : (c : After-bits-in) → at8 (W3 (c .before .before .before .before .before .before .before .before .before .before .before .before) (c .before .before .before .before .before .before .before .before .before .before .before .loop .visited) (c .before .before .before .before .before .before .before .before .before .before
-            .before .loop .drone-flags) (c .before .before .before .before .before .before .before .before .before .before .before .loop .number) (c .before .before .before .before .before .before .before .before .before .before .before .loop .bits) (c .before .before .before .before .before .before .before .before .before .before
-            .before .loop .i)) (m31 (c .before) (After-bits-in·gave c))
-        lay7 = λ c. (
-          add-i record { before = c .before; bits-in = c .bits-in },
-          (
-            μ·0 (Row.get 1 (T13 .locals) (m12 (c .before .before .before .before .before .before .before .before .before .before .before .before .before) (c .before .before .before .before .before .before .before .before .before .before
-                .before .before .shared-slice-known7 .given)) .now) (Row.get 2 (T13 .locals) (m12 (c .before .before .before .before .before .before .before .before .before .before .before .before .before) (c .before .before .before .before .before .before .before .before .before .before
-                .before .before .shared-slice-known7 .given)) .now) (Row.get 3 (T13 .locals) (m12 (c .before .before .before .before .before .before .before .before .before .before .before .before .before) (c .before .before .before .before .before .before .before .before .before .before
-                .before .before .shared-slice-known7 .given)) .now) (Row.get 4 (T13 .locals) (m12 (c .before .before .before .before .before .before .before .before .before .before .before .before .before) (c .before .before .before .before .before .before .before .before .before .before
-                .before .before .shared-slice-known7 .given)) .now) (Row.get 5 (T13 .locals) (m12 (c .before .before .before .before .before .before .before .before .before .before .before .before .before) (c .before .before .before .before .before .before .before .before .before .before
-                .before .before .shared-slice-known7 .given)) .now) (Row.get 6 (T13 .locals) (m12 (c .before .before .before .before .before .before .before .before .before .before .before .before .before) (c .before .before .before .before .before .before .before .before .before .before
-                .before .before .shared-slice-known7 .given)) .now) (Row.get 7 (T13 .locals) (m12 (c .before .before .before .before .before .before .before .before .before .before .before .before .before) (c .before .before .before .before .before .before .before .before .before .before
-                .before .before .shared-slice-known7 .given)) .now) (Row.get 8 (T13 .locals) (m12 (c .before .before .before .before .before .before .before .before .before .before .before .before .before) (c .before .before .before .before .before .before .before .before .before .before
-                .before .before .shared-slice-known7 .given)) .now) (Row.get 9 (T13 .locals) (m12 (c .before .before .before .before .before .before .before .before .before .before .before .before .before) (c .before .before .before .before .before .before .before .before .before .before
-                .before .before .shared-slice-known7 .given)) .now) (Row.get 10 (T13 .locals) (m12 (c .before .before .before .before .before .before .before .before .before .before .before .before .before) (c .before .before .before .before .before .before .before .before .before .before
-                .before .before .shared-slice-known7 .given))) (Row.get 11 (T13 .locals) (m12 (c .before .before .before .before .before .before .before .before .before .before .before .before .before) (c .before .before .before .before .before .before .before .before .before .before
-                .before .before .shared-slice-known7 .given)) .now) (Row.get 12 (T13 .locals) (m12 (c .before .before .before .before .before .before .before .before .before .before .before .before .before) (c .before .before .before .before .before .before .before .before .before .before
-                .before .before .shared-slice-known7 .given))) (Row.get 13 (T13 .locals) (m12 (c .before .before .before .before .before .before .before .before .before .before .before .before .before) (c .before .before .before .before .before .before .before .before .before .before .before .before .shared-slice-known7 .given))) (Row.get 14 (T13 .locals) (m12
-                (c .before .before .before .before .before .before .before .before .before .before .before .before .before) (c .before .before .before .before .before .before .before .before .before .before .before .before .shared-slice-known7 .given))) (Row.get 7 (T13 .locals) (m33
-                (c .before) (After-bits-in·gave c)) .now) (Row.get 8 (T13 .locals) (m33 (c .before) (After-bits-in·gave c)) .now) (Row.get 12 (T13 .locals) (m33 (c .before) (After-bits-in·gave c))) (Row.get 13 (T13 .locals) (m33 (c .before) (After-bits-in·gave c))) (Row.get 14 (T13 .locals) (m33 (c .before) (After-bits-in·gave c))),
-            loop-less record { before = c .before; bits-in = c .bits-in },
-            (
-              (
-                Row.get 7 (T13 .locals) (m33 (c .before) (After-bits-in·gave c)) .now,
-                Row.get 8 (T13 .locals) (m33 (c .before) (After-bits-in·gave c)) .now,
-                Row.get 12 (T13 .locals) (m33 (c .before) (After-bits-in·gave c)),
-                Row.get 13 (T13 .locals) (m33 (c .before) (After-bits-in·gave c)),
-                Row.get 14 (T13 .locals) (m33 (c .before) (After-bits-in·gave c)),
-              ),
-              Path'.refl {a = m33 (c .before) (After-bits-in·gave c)},
-              loop-again record { before = c .before; bits-in = c .bits-in },
-              Path'.refl {a = μ·0 (Row.get 1 (T13 .locals) (m12 (c .before .before .before .before .before .before .before .before .before .before .before .before .before)
-                  (c .before .before .before .before .before .before .before .before .before .before .before .before .shared-slice-known7 .given)) .now) (Row.get 2 (T13 .locals) (m12 (c .before .before .before .before .before .before .before .before .before .before .before .before .before) (c .before .before .before .before .before .before .before .before .before
-                  .before .before .before .shared-slice-known7 .given)) .now) (Row.get 3 (T13 .locals) (m12 (c .before .before .before .before .before .before .before .before .before .before .before .before .before) (c .before .before .before .before .before .before .before .before .before .before .before .before .shared-slice-known7 .given)) .now) (Row.get 4
-                  (T13 .locals) (m12 (c .before .before .before .before .before .before .before .before .before .before .before .before .before) (c .before .before .before .before .before .before .before .before .before .before .before .before .shared-slice-known7 .given)) .now) (Row.get 5 (T13 .locals) (m12
-                  (c .before .before .before .before .before .before .before .before .before .before .before .before .before) (c .before .before .before .before .before .before .before .before .before .before .before .before .shared-slice-known7 .given)) .now) (Row.get 6 (T13 .locals) (m12 (c .before .before .before .before .before .before .before .before .before
-                  .before .before .before .before) (c .before .before .before .before .before .before .before .before .before .before .before .before .shared-slice-known7 .given)) .now) (Row.get 7 (T13 .locals) (m12 (c .before .before .before .before .before .before .before .before .before .before .before .before .before)
-                  (c .before .before .before .before .before .before .before .before .before .before .before .before .shared-slice-known7 .given)) .now) (Row.get 8 (T13 .locals) (m12 (c .before .before .before .before .before .before .before .before .before .before .before .before .before) (c .before .before .before .before .before .before .before .before .before
-                  .before .before .before .shared-slice-known7 .given)) .now) (Row.get 9 (T13 .locals) (m12 (c .before .before .before .before .before .before .before .before .before .before .before .before .before) (c .before .before .before .before .before .before .before .before .before .before .before .before .shared-slice-known7 .given)) .now) (Row.get 10
-                  (T13 .locals) (m12 (c .before .before .before .before .before .before .before .before .before .before .before .before .before) (c .before .before .before .before .before .before .before .before .before .before .before .before .shared-slice-known7 .given))) (Row.get 11 (T13 .locals) (m12
-                  (c .before .before .before .before .before .before .before .before .before .before .before .before .before) (c .before .before .before .before .before .before .before .before .before .before .before .before .shared-slice-known7 .given)) .now) (Row.get 12 (T13 .locals) (m12 (c .before .before .before .before .before .before .before .before .before
-                  .before .before .before .before) (c .before .before .before .before .before .before .before .before .before .before .before .before .shared-slice-known7 .given))) (Row.get 13 (T13 .locals) (m12 (c .before .before .before .before .before .before .before .before .before .before .before .before .before)
-                  (c .before .before .before .before .before .before .before .before .before .before .before .before .shared-slice-known7 .given))) (Row.get 14 (T13 .locals) (m12 (c .before .before .before .before .before .before .before .before .before .before .before .before .before) (c .before .before .before .before .before .before .before .before .before
-                  .before .before .before .shared-slice-known7 .given))) (Row.get 7 (T13 .locals) (m33 (c .before) (After-bits-in·gave c)) .now) (Row.get 8 (T13 .locals) (m33 (c .before) (After-bits-in·gave c)) .now) (Row.get 12 (T13 .locals) (m33 (c .before) (After-bits-in·gave c))) (Row.get 13 (T13 .locals) (m33 (c .before)
-                  (After-bits-in·gave c))) (Row.get 14 (T13 .locals) (m33 (c .before) (After-bits-in·gave c)))},
-            ),
-          ),
-        )
+        lay7 : (c : After-bits-in) → at8 (W3 (c .before .before .before .before .before .before .before .before .before .before .before .before) (c .before .before .before .before .before .before .before .before .before .before .before .loop .visited) (c .before .before .before .before .before .before .before .before .before .before .before .loop
+            .drone-flags) (c .before .before .before .before .before .before .before .before .before .before .before .loop .number) (c .before .before .before .before .before .before .before .before .before .before .before .loop .bits) (c .before .before .before .before .before .before .before .before .before .before .before .loop .i)) (m31 (c .before)
+            (After-bits-in·gave c))
+        lay7 = λ c.
+            (add-i record { before = c .before; bits-in = c .bits-in }, (μ·0 (Row.get 1 (T13 .locals) (m12 (c .before .before .before .before .before .before .before .before .before .before .before .before .before) (c .before .before .before .before .before .before .before .before .before .before .before .before .shared-slice-known7 .given)) .now) (Row.get 2 (T13 .locals) (m12 (c .before .before .before .before .before .before .before .before .before .before .before .before .before) (c .before .before .before .before .before .before .before .before .before .before .before .before .shared-slice-known7 .given)) .now) (Row.get 3 (T13 .locals) (m12 (c .before .before .before .before .before .before .before .before .before .before .before .before .before) (c .before .before .before .before .before .before .before .before .before .before .before .before .shared-slice-known7 .given)) .now) (Row.get 4 (T13 .locals) (m12 (c .before .before .before .before .before .before .before .before .before .before .before .before .before) (c .before .before .before .before .before .before .before .before .before .before .before .before .shared-slice-known7 .given)) .now) (Row.get 5 (T13 .locals) (m12 (c .before .before .before .before .before .before .before .before .before .before .before .before .before) (c .before .before .before .before .before .before .before .before .before .before .before .before .shared-slice-known7 .given)) .now) (Row.get 6 (T13 .locals) (m12 (c .before .before .before .before .before .before .before .before .before .before .before .before .before) (c .before .before .before .before .before .before .before .before .before .before .before .before .shared-slice-known7 .given)) .now) (Row.get 7 (T13 .locals) (m12 (c .before .before .before .before .before .before .before .before .before .before .before .before .before) (c .before .before .before .before .before .before .before .before .before .before .before .before .shared-slice-known7 .given)) .now) (Row.get 8 (T13 .locals) (m12 (c .before .before .before .before .before .before .before .before .before .before .before .before .before) (c .before .before .before .before .before .before .before .before .before .before .before .before .shared-slice-known7 .given)) .now) (Row.get 9 (T13 .locals) (m12 (c .before .before .before .before .before .before .before .before .before .before .before .before .before) (c .before .before .before .before .before .before .before .before .before .before .before .before .shared-slice-known7 .given)) .now) (Row.get 10 (T13 .locals) (m12 (c .before .before .before .before .before .before .before .before .before .before .before .before .before) (c .before .before .before .before .before .before .before .before .before .before .before .before .shared-slice-known7 .given))) (Row.get 11 (T13 .locals) (m12 (c .before .before .before .before .before .before .before .before .before .before .before .before .before) (c .before .before .before .before .before .before .before .before .before .before .before .before .shared-slice-known7 .given)) .now) (Row.get 12 (T13 .locals) (m12 (c .before .before .before .before .before .before .before .before .before .before .before .before .before) (c .before .before .before .before .before .before .before .before .before .before .before .before .shared-slice-known7 .given))) (Row.get 13 (T13 .locals) (m12 (c .before .before .before .before .before .before .before .before .before .before .before .before .before) (c .before .before .before .before .before .before .before .before .before .before .before .before .shared-slice-known7 .given))) (Row.get 14 (T13 .locals) (m12 (c .before .before .before .before .before .before .before .before .before .before .before .before .before) (c .before .before .before .before .before .before .before .before .before .before .before .before .shared-slice-known7 .given))) (Row.get 7 (T13 .locals) (m33 (c .before) (After-bits-in·gave c)) .now) (Row.get 8 (T13 .locals) (m33 (c .before) (After-bits-in·gave c)) .now) (Row.get 12 (T13 .locals) (m33 (c .before) (After-bits-in·gave c))) (Row.get 13 (T13 .locals) (m33 (c .before) (After-bits-in·gave c))) (Row.get 14 (T13 .locals) (m33 (c .before) (After-bits-in·gave c))), loop-less record { before = c .before; bits-in = c .bits-in }, ((Row.get 7 (T13 .locals) (m33 (c .before) (After-bits-in·gave c)) .now, Row.get 8 (T13 .locals) (m33 (c .before) (After-bits-in·gave c)) .now, Row.get 12 (T13 .locals) (m33 (c .before) (After-bits-in·gave c)), Row.get 13 (T13 .locals) (m33 (c .before) (After-bits-in·gave c)), Row.get 14 (T13 .locals) (m33 (c .before) (After-bits-in·gave c))), Path'.refl {a = m33 (c .before) (After-bits-in·gave c)}, loop-again record { before = c .before; bits-in = c .bits-in }, Path'.refl {a = μ·0 (Row.get 1 (T13 .locals) (m12 (c .before .before .before .before .before .before .before .before .before .before .before .before .before) (c .before .before .before .before .before .before .before .before .before .before .before .before .shared-slice-known7 .given)) .now) (Row.get 2 (T13 .locals) (m12 (c .before .before .before .before .before .before .before .before .before .before .before .before .before) (c .before .before .before .before .before .before .before .before .before .before .before .before .shared-slice-known7 .given)) .now) (Row.get 3 (T13 .locals) (m12 (c .before .before .before .before .before .before .before .before .before .before .before .before .before) (c .before .before .before .before .before .before .before .before .before .before .before .before .shared-slice-known7 .given)) .now) (Row.get 4 (T13 .locals) (m12 (c .before .before .before .before .before .before .before .before .before .before .before .before .before) (c .before .before .before .before .before .before .before .before .before .before .before .before .shared-slice-known7 .given)) .now) (Row.get 5 (T13 .locals) (m12 (c .before .before .before .before .before .before .before .before .before .before .before .before .before) (c .before .before .before .before .before .before .before .before .before .before .before .before .shared-slice-known7 .given)) .now) (Row.get 6 (T13 .locals) (m12 (c .before .before .before .before .before .before .before .before .before .before .before .before .before) (c .before .before .before .before .before .before .before .before .before .before .before .before .shared-slice-known7 .given)) .now) (Row.get 7 (T13 .locals) (m12 (c .before .before .before .before .before .before .before .before .before .before .before .before .before) (c .before .before .before .before .before .before .before .before .before .before .before .before .shared-slice-known7 .given)) .now) (Row.get 8 (T13 .locals) (m12 (c .before .before .before .before .before .before .before .before .before .before .before .before .before) (c .before .before .before .before .before .before .before .before .before .before .before .before .shared-slice-known7 .given)) .now) (Row.get 9 (T13 .locals) (m12 (c .before .before .before .before .before .before .before .before .before .before .before .before .before) (c .before .before .before .before .before .before .before .before .before .before .before .before .shared-slice-known7 .given)) .now) (Row.get 10 (T13 .locals) (m12 (c .before .before .before .before .before .before .before .before .before .before .before .before .before) (c .before .before .before .before .before .before .before .before .before .before .before .before .shared-slice-known7 .given))) (Row.get 11 (T13 .locals) (m12 (c .before .before .before .before .before .before .before .before .before .before .before .before .before) (c .before .before .before .before .before .before .before .before .before .before .before .before .shared-slice-known7 .given)) .now) (Row.get 12 (T13 .locals) (m12 (c .before .before .before .before .before .before .before .before .before .before .before .before .before) (c .before .before .before .before .before .before .before .before .before .before .before .before .shared-slice-known7 .given))) (Row.get 13 (T13 .locals) (m12 (c .before .before .before .before .before .before .before .before .before .before .before .before .before) (c .before .before .before .before .before .before .before .before .before .before .before .before .shared-slice-known7 .given))) (Row.get 14 (T13 .locals) (m12 (c .before .before .before .before .before .before .before .before .before .before .before .before .before) (c .before .before .before .before .before .before .before .before .before .before .before .before .shared-slice-known7 .given))) (Row.get 7 (T13 .locals) (m33 (c .before) (After-bits-in·gave c)) .now) (Row.get 8 (T13 .locals) (m33 (c .before) (After-bits-in·gave c)) .now) (Row.get 12 (T13 .locals) (m33 (c .before) (After-bits-in·gave c))) (Row.get 13 (T13 .locals) (m33 (c .before) (After-bits-in·gave c))) (Row.get 14 (T13 .locals) (m33 (c .before) (After-bits-in·gave c)))})))
 
-        lay6 : (c : After-number-in) → at9 (W3 (c .before .before .before .before .before .before .before .before .before .before .before) (c .before .before .before .before .before .before .before .before .before .before .loop .visited) (c .before .before .before .before .before .before .before .before .before .before .loop .drone-flags)
-            (c .before .before .before .before .before .before .before .before .before .before .loop .number) (c .before .before .before .before .before .before .before .before .before .before .loop .bits) (c .before .before .before .before .before .before .before .before .before .before .loop .i)) (m30 (c .before) (After-number-in·gave c))
-        lay6 = λ c. (
-          bits-in-requires record { before = c .before; number-in = c .number-in },
-          λ g. lay7 record { before = record { before = c .before; number-in = c .number-in }; bits-in = Called.called ps·3 r·3 (claims· .7) T38 (record { pos = 15; st = List.[]; d = 0; at = λ x. x }, tt) (m30 (c .before) (After-number-in·gave c)) g },
-        )
+        lay6 : (c : After-number-in) → at9 (W3 (c .before .before .before .before .before .before .before .before .before .before .before) (c .before .before .before .before .before .before .before .before .before .before .loop .visited) (c .before .before .before .before .before .before .before .before .before .before .loop .drone-flags) (c .before .before
+            .before .before .before .before .before .before .before .before .loop .number) (c .before .before .before .before .before .before .before .before .before .before .loop .bits) (c .before .before .before .before .before .before .before .before .before .before .loop .i)) (m30 (c .before) (After-number-in·gave c))
+        lay6 = λ c. (bits-in-requires record { before = c .before; number-in = c .number-in }, λ g. lay7 record { before = record { before = c .before; number-in = c .number-in }; bits-in = Called.called ps·2 r·3 (claims· .7) T38 (record { pos = 15; st = List.[]; d = 0; at = λ x. x }, tt) (m30 (c .before) (After-number-in·gave c)) g })
 
-        lay5 : (c : After-press) → at19 (W3 (c .before .before .before .before .before .before) (c .before .before .before .before .before .loop .visited) (c .before .before .before .before .before .loop .drone-flags) (c .before .before .before .before .before .loop .number) (c .before .before .before .before .before .loop .bits)
-            (c .before .before .before .before .before .loop .i)) (m24 (c .before) (After-press·gave c))
-        lay5 = λ c. (
-          Path'.refl,
-          λ g. λ g'. (
-            Path'.refl,
-            λ g''. λ g'3. (
-              number-in-requires record {
-                before = record { before = record { before = record { before = record { before = c .before; press = c .press }; visited = record { given = g } }; slice-known3 = record { given = g' } }; drone-flags = record { given = g'' } };
-                slice-known4 = record { given = g'3 };
-              },
-              λ g'4. lay6 record {
-                before = record {
-                  before = record { before = record { before = record { before = record { before = c .before; press = c .press }; visited = record { given = g } }; slice-known3 = record { given = g' } }; drone-flags = record { given = g'' } };
-                  slice-known4 = record { given = g'3 };
-                };
-                number-in = Called.called ps·2 r·2 (claims· .5) T36 (record { pos = 15; st = List.[]; d = 0; at = λ x. x }, tt) (m29 record {
-                  before = record { before = record { before = record { before = c .before; press = c .press }; visited = record { given = g } }; slice-known3 = record { given = g' } };
-                  drone-flags = record { given = g'' };
-                } g'3) g'4;
-              },
-            ),
-          ),
-        )
+        lay5 : (c : After-press) → at19 (W3 (c .before .before .before .before .before .before) (c .before .before .before .before .before .loop .visited) (c .before .before .before .before .before .loop .drone-flags) (c .before .before .before .before .before .loop .number) (c .before .before .before .before .before .loop .bits) (c .before .before .before
+            .before .before .loop .i)) (m24 (c .before) (After-press·gave c))
+        lay5 = λ c.
+            (Path'.refl, λ g. λ g'. (Path'.refl, λ g''. λ g'3. (number-in-requires record { before = record { before = record { before = record { before = record { before = c .before; press = c .press }; visited = record { given = g } }; slice-known3 = record { given = g' } }; drone-flags = record { given = g'' } }; slice-known4 = record { given = g'3 } }, λ g'4. lay6 record { before = record { before = record { before = record { before = record { before = record { before = c .before; press = c .press }; visited = record { given = g } }; slice-known3 = record { given = g' } }; drone-flags = record { given = g'' } }; slice-known4 = record { given = g'3 } }; number-in = Called.called ps·2 r·2 (claims· .5) T35 (record { pos = 15; st = List.[]; d = 0; at = λ x. x }, tt) (m29 record { before = record { before = record { before = record { before = c .before; press = c .press }; visited = record { given = g } }; slice-known3 = record { given = g' } }; drone-flags = record { given = g'' } } g'3) g'4 })))
 
-        lay4 : (c : After-report-at) → at20 (W3 (c .before .before .before .before .before) (c .before .before .before .before .loop .visited) (c .before .before .before .before .loop .drone-flags) (c .before .before .before .before .loop .number) (c .before .before .before .before .loop .bits) (c .before .before .before .before .loop .i))
-            (m23 (c .before) (After-report-at·gave c))
-        lay4 = λ c. (
-          press-requires record { before = c .before; report-at = c .report-at },
-          λ g. lay5 record {
-            before = record { before = c .before; report-at = c .report-at };
-            press = Called.called ps·1 r·1 (claims· .3) T27 (
-              record { pos = 1; ty = Syntax.tyRef (Syntax.named 0) Syntax.imm (Syntax.tyInt Syntax.w16); ref = λ x. x },
-              (
-                record {
-                  pos = 2;
-                  ty = Syntax.tyRef (Syntax.named 1) Syntax.imm (Syntax.tyInt Syntax.w16);
-                  ref = λ x. x;
-                },
-                (
-                  record { pos = 3; ty = Syntax.tyRef (Syntax.named 2) Syntax.imm (Syntax.tyInt Syntax.w8); ref = λ x. x },
-                  (
-                    record { pos = 4; ty = Syntax.tyRef (Syntax.named 3) Syntax.imm (Syntax.tyInt Syntax.w16); ref = λ x. x },
-                    (
-                      record {
-                        pos = 5;
-                        ty = Syntax.tyRef (Syntax.named 4) Syntax.imm (Syntax.tyInt Syntax.w16);
-                        ref = λ x. x;
-                      },
-                      (
-                        record { pos = 6; ty = Syntax.tyRef (Syntax.named 5) Syntax.imm (Syntax.tyInt Syntax.w32); ref = λ x. x },
-                        (
-                          record { pos = 18; ty = Syntax.tyRef Syntax.erased Syntax.mut (Syntax.tyInt Syntax.w16); ref = λ x. x },
-                          (
-                            record {
-                              pos = 20;
-                              ty = Syntax.tyRef Syntax.erased Syntax.mut (Syntax.tyInt Syntax.w8);
-                              ref = λ x. x;
-                            },
-                            (record { pos = 9; ty = Syntax.tyRef (Syntax.named 8) Syntax.imm Rec.behind; ref = λ x. x }, (record { pos = 21; st = List.[]; d = 0; at = λ x. x }, tt)),
-                          ),
-                        ),
-                      ),
-                    ),
-                  ),
-                ),
-              ),
-            ) (m23 (c .before) (After-report-at·gave c)) g;
-          },
-        )
+        lay4 : (c : After-report-at) → at20 (W3 (c .before .before .before .before .before) (c .before .before .before .before .loop .visited) (c .before .before .before .before .loop .drone-flags) (c .before .before .before .before .loop .number) (c .before .before .before .before .loop .bits) (c .before .before .before .before .loop .i)) (m23 (c .before)
+            (After-report-at·gave c))
+        lay4 = λ c. (press-requires record { before = c .before; report-at = c .report-at }, λ g. lay5 record { before = record { before = c .before; report-at = c .report-at }; press = Called.called ps·1 r·1 (claims· .3) T27 args·1 (m23 (c .before) (After-report-at·gave c)) g })
 
-        lay3 : (c : In-loop) → at27 (W3 (c .before .before) (c .before .loop .visited) (c .before .loop .drone-flags) (c .before .loop .number) (c .before .loop .bits) (c .before .loop .i)) (m17 (c .before))
-        lay3 = λ c. λ g. (
-          Path'.refl,
-          λ g'. (
-            Path'.refl,
-            (
-              report-at-requires record { before = record { before = record { before = c .before; loop-test = c .loop-test }; press-arg = record { given = g } }; press-arg2 = record { given = g' } },
-              λ g''. lay4 record {
-                before = record {
-                  before = record {
-                    before = record { before = c .before; loop-test = c .loop-test };
-                    press-arg = record { given = g };
-                  };
-                  press-arg2 = record { given = g' };
-                };
-                report-at = Called.called ps·0 r·0 (claims· .1) T26 (record { pos = 11; ty = Syntax.tyRef (Syntax.named 9) Syntax.imm (Syntax.tyInt Syntax.w16); ref = λ x. x }, (Num.vAt 14 λ x. x, tt)) (m22 record {
-                  before = record { before = c .before; loop-test = c .loop-test };
-                  press-arg = record { given = g };
-                } g') g'';
-              },
-            ),
-          ),
-        )
+        lay3 : (c : In-loop) → at26 (W3 (c .before .before) (c .before .loop .visited) (c .before .loop .drone-flags) (c .before .loop .number) (c .before .loop .bits) (c .before .loop .i)) (m17 (c .before))
+        lay3 = λ c. λ g.
+            (Path'.refl, λ g'. (Path'.refl, (report-at-requires record { before = record { before = record { before = c .before; loop-test = c .loop-test }; press-arg = record { given = g } }; press-arg2 = record { given = g' } }, λ g''. lay4 record { before = record { before = record { before = record { before = c .before; loop-test = c .loop-test }; press-arg = record { given = g } }; press-arg2 = record { given = g' } }; report-at = Called.called ps·0 r·0 (claims· .1) T26 args·0 (m22 record { before = record { before = c .before; loop-test = c .loop-test }; press-arg = record { given = g } } g') g'' })))
 
         lay2 : (c : After-loop) → at5 (W4 (c .before .before) (c .before .loop .visited) (c .before .loop .drone-flags) (c .before .loop .number) (c .before .loop .bits) (c .before .loop .i)) (m14 (c .before .before) (c .before .loop .visited) (c .before .loop .drone-flags) (c .before .loop .number) (c .before .loop .bits) (c .before .loop .i))
         lay2 = λ c. lay8 record { before = c .before; loop-test = c .loop-test }
@@ -2693,303 +1544,15 @@ module _ (claims· : Claims) where
         lay1 = λ c. lay3 record { before = c .before; loop-test = c .loop-test }
 
         pub laid : (c : Start) → at50 (W0 (c .κs) (c .args)) (m0 (c .κs) (c .args))
-        laid = λ c. λ g. λ g'. λ g''. λ g'3. λ g'4. λ g'5. λ g'6. λ g'7. λ g'8. (
-          (
-            (
-              Row.get 7 (T13 .locals) (m12 record {
-                before = record {
-                  before = record {
-                    before = record {
-                      before = record {
-                        before = record {
-                          before = record { before = record { before = c; shared-slice-known = record { given = g } }; shared-slice-known2 = record { given = g' } };
-                          shared-slice-known3 = record { given = g'' };
-                        };
-                        shared-slice-known4 = record { given = g'3 };
-                      };
-                      shared-slice-known5 = record { given = g'4 };
-                    };
-                    shared-slice-known6 = record { given = g'5 };
-                  };
-                  slice-known = record { given = g'6 };
-                };
-                slice-known2 = record { given = g'7 };
-              } g'8) .now,
-              Row.get 8 (T13 .locals) (m12 record {
-                before = record {
-                  before = record {
-                    before = record {
-                      before = record { before = record { before = record { before = record { before = c; shared-slice-known = record { given = g } }; shared-slice-known2 = record { given = g' } }; shared-slice-known3 = record { given = g'' } }; shared-slice-known4 = record { given = g'3 } };
-                      shared-slice-known5 = record { given = g'4 };
-                    };
-                    shared-slice-known6 = record { given = g'5 };
-                  };
-                  slice-known = record { given = g'6 };
-                };
-                slice-known2 = record { given = g'7 };
-              } g'8) .now,
-              Row.get 12 (T13 .locals) (m12 record {
-                before = record {
-                  before = record {
-                    before = record {
-                      before = record {
-                        before = record {
-                          before = record {
-                            before = record { before = c; shared-slice-known = record { given = g } };
-                            shared-slice-known2 = record { given = g' };
-                          };
-                          shared-slice-known3 = record { given = g'' };
-                        };
-                        shared-slice-known4 = record { given = g'3 };
-                      };
-                      shared-slice-known5 = record { given = g'4 };
-                    };
-                    shared-slice-known6 = record { given = g'5 };
-                  };
-                  slice-known = record { given = g'6 };
-                };
-                slice-known2 = record { given = g'7 };
-              } g'8),
-              Row.get 13 (T13 .locals) (m12 record {
-                before = record {
-                  before = record {
-                    before = record {
-                      before = record {
-                        before = record {
-                          before = record {
-                            before = record { before = c; shared-slice-known = record { given = g } };
-                            shared-slice-known2 = record { given = g' };
-                          };
-                          shared-slice-known3 = record { given = g'' };
-                        };
-                        shared-slice-known4 = record { given = g'3 };
-                      };
-                      shared-slice-known5 = record { given = g'4 };
-                    };
-                    shared-slice-known6 = record { given = g'5 };
-                  };
-                  slice-known = record { given = g'6 };
-                };
-                slice-known2 = record { given = g'7 };
-              } g'8),
-              Row.get 14 (T13 .locals) (m12 record {
-                before = record {
-                  before = record {
-                    before = record {
-                      before = record {
-                        before = record { before = record { before = record { before = c; shared-slice-known = record { given = g } }; shared-slice-known2 = record { given = g' } }; shared-slice-known3 = record { given = g'' } };
-                        shared-slice-known4 = record { given = g'3 };
-                      };
-                      shared-slice-known5 = record { given = g'4 };
-                    };
-                    shared-slice-known6 = record { given = g'5 };
-                  };
-                  slice-known = record { given = g'6 };
-                };
-                slice-known2 = record { given = g'7 };
-              } g'8),
-            ),
-            Path'.refl {a = m12 record {
-              before = record {
-                before = record {
-                  before = record {
-                    before = record {
-                      before = record { before = record { before = record { before = c; shared-slice-known = record { given = g } }; shared-slice-known2 = record { given = g' } }; shared-slice-known3 = record { given = g'' } };
-                      shared-slice-known4 = record { given = g'3 };
-                    };
-                    shared-slice-known5 = record { given = g'4 };
-                  };
-                  shared-slice-known6 = record { given = g'5 };
-                };
-                slice-known = record { given = g'6 };
-              };
-              slice-known2 = record { given = g'7 };
-            } g'8},
-            loop-holds record {
-              before = record {
-                before = record {
-                  before = record {
-                    before = record {
-                      before = record {
-                        before = record {
-                          before = record {
-                            before = record {
-                              before = c;
-                              shared-slice-known = record { given = g };
-                            };
-                            shared-slice-known2 = record { given = g' };
-                          };
-                          shared-slice-known3 = record { given = g'' };
-                        };
-                        shared-slice-known4 = record { given = g'3 };
-                      };
-                      shared-slice-known5 = record { given = g'4 };
-                    };
-                    shared-slice-known6 = record { given = g'5 };
-                  };
-                  slice-known = record { given = g'6 };
-                };
-                slice-known2 = record { given = g'7 };
-              };
-              shared-slice-known7 = record { given = g'8 };
-            },
-          ),
-          λ vs inv. (
-            tt,
-            (
-              λ taken. lay1 record {
-                before = record {
-                  before = record {
-                    before = record {
-                      before = record {
-                        before = record {
-                          before = record {
-                            before = record {
-                              before = record {
-                                before = record {
-                                  before = record {
-                                    before = c;
-                                    shared-slice-known = record { given = g };
-                                  };
-                                  shared-slice-known2 = record { given = g' };
-                                };
-                                shared-slice-known3 = record { given = g'' };
-                              };
-                              shared-slice-known4 = record { given = g'3 };
-                            };
-                            shared-slice-known5 = record { given = g'4 };
-                          };
-                          shared-slice-known6 = record { given = g'5 };
-                        };
-                        slice-known = record { given = g'6 };
-                      };
-                      slice-known2 = record { given = g'7 };
-                    };
-                    shared-slice-known7 = record { given = g'8 };
-                  };
-                  loop = record { visited = vs .0; drone-flags = vs .1; number = vs .2; bits = vs .3; i = vs .4; inv = inv };
-                };
-                loop-test = record {
-                  taken = Tests.ltb-true (Row.get 14 (T13 .locals) (m13 record {
-                    before = record {
-                      before = record {
-                        before = record {
-                          before = record { before = record { before = record { before = record { before = record { before = c; shared-slice-known = record { given = g } }; shared-slice-known2 = record { given = g' } }; shared-slice-known3 = record { given = g'' } }; shared-slice-known4 = record { given = g'3 } }; shared-slice-known5 = record { given = g'4 } };
-                          shared-slice-known6 = record { given = g'5 };
-                        };
-                        slice-known = record { given = g'6 };
-                      };
-                      slice-known2 = record { given = g'7 };
-                    };
-                    shared-slice-known7 = record { given = g'8 };
-                  } (vs .0) (vs .1) (vs .2) (vs .3) (vs .4))) (Row.get 10 (T13 .locals) (m13 record {
-                    before = record {
-                      before = record {
-                        before = record {
-                          before = record {
-                            before = record { before = record { before = record { before = record { before = c; shared-slice-known = record { given = g } }; shared-slice-known2 = record { given = g' } }; shared-slice-known3 = record { given = g'' } }; shared-slice-known4 = record { given = g'3 } };
-                            shared-slice-known5 = record { given = g'4 };
-                          };
-                          shared-slice-known6 = record { given = g'5 };
-                        };
-                        slice-known = record { given = g'6 };
-                      };
-                      slice-known2 = record { given = g'7 };
-                    };
-                    shared-slice-known7 = record { given = g'8 };
-                  } (vs .0) (vs .1) (vs .2) (vs .3) (vs .4))) taken;
-                };
-              },
-              λ left. lay2 record {
-                before = record {
-                  before = record {
-                    before = record {
-                      before = record {
-                        before = record {
-                          before = record { before = record { before = record { before = record { before = record { before = c; shared-slice-known = record { given = g } }; shared-slice-known2 = record { given = g' } }; shared-slice-known3 = record { given = g'' } }; shared-slice-known4 = record { given = g'3 } }; shared-slice-known5 = record { given = g'4 } };
-                          shared-slice-known6 = record { given = g'5 };
-                        };
-                        slice-known = record { given = g'6 };
-                      };
-                      slice-known2 = record { given = g'7 };
-                    };
-                    shared-slice-known7 = record { given = g'8 };
-                  };
-                  loop = record { visited = vs .0; drone-flags = vs .1; number = vs .2; bits = vs .3; i = vs .4; inv = inv };
-                };
-                loop-test = record {
-                  left = Tests.ltb-false (Row.get 14 (T13 .locals) (m13 record {
-                    before = record {
-                      before = record {
-                        before = record {
-                          before = record {
-                            before = record {
-                              before = record {
-                                before = record { before = record { before = c; shared-slice-known = record { given = g } }; shared-slice-known2 = record { given = g' } };
-                                shared-slice-known3 = record { given = g'' };
-                              };
-                              shared-slice-known4 = record { given = g'3 };
-                            };
-                            shared-slice-known5 = record { given = g'4 };
-                          };
-                          shared-slice-known6 = record { given = g'5 };
-                        };
-                        slice-known = record { given = g'6 };
-                      };
-                      slice-known2 = record { given = g'7 };
-                    };
-                    shared-slice-known7 = record { given = g'8 };
-                  } (vs .0) (vs .1) (vs .2) (vs .3) (vs .4))) (Row.get 10 (T13 .locals) (m13 record {
-                    before = record {
-                      before = record {
-                        before = record {
-                          before = record {
-                            before = record {
-                              before = record {
-                                before = record { before = record { before = c; shared-slice-known = record { given = g } }; shared-slice-known2 = record { given = g' } };
-                                shared-slice-known3 = record { given = g'' };
-                              };
-                              shared-slice-known4 = record { given = g'3 };
-                            };
-                            shared-slice-known5 = record { given = g'4 };
-                          };
-                          shared-slice-known6 = record { given = g'5 };
-                        };
-                        slice-known = record { given = g'6 };
-                      };
-                      slice-known2 = record { given = g'7 };
-                    };
-                    shared-slice-known7 = record { given = g'8 };
-                  } (vs .0) (vs .1) (vs .2) (vs .3) (vs .4))) left;
-                };
-              },
-            ),
-          ),
-        )
+        laid = λ c. λ g. λ g'. λ g''. λ g'3. λ g'4. λ g'5. λ g'6. λ g'7. λ g'8.
+            (((Row.get 7 (T13 .locals) (m12 record { before = record { before = record { before = record { before = record { before = record { before = record { before = record { before = c; shared-slice-known = record { given = g } }; shared-slice-known2 = record { given = g' } }; shared-slice-known3 = record { given = g'' } }; shared-slice-known4 = record { given = g'3 } }; shared-slice-known5 = record { given = g'4 } }; shared-slice-known6 = record { given = g'5 } }; slice-known = record { given = g'6 } }; slice-known2 = record { given = g'7 } } g'8) .now, Row.get 8 (T13 .locals) (m12 record { before = record { before = record { before = record { before = record { before = record { before = record { before = record { before = c; shared-slice-known = record { given = g } }; shared-slice-known2 = record { given = g' } }; shared-slice-known3 = record { given = g'' } }; shared-slice-known4 = record { given = g'3 } }; shared-slice-known5 = record { given = g'4 } }; shared-slice-known6 = record { given = g'5 } }; slice-known = record { given = g'6 } }; slice-known2 = record { given = g'7 } } g'8) .now, Row.get 12 (T13 .locals) (m12 record { before = record { before = record { before = record { before = record { before = record { before = record { before = record { before = c; shared-slice-known = record { given = g } }; shared-slice-known2 = record { given = g' } }; shared-slice-known3 = record { given = g'' } }; shared-slice-known4 = record { given = g'3 } }; shared-slice-known5 = record { given = g'4 } }; shared-slice-known6 = record { given = g'5 } }; slice-known = record { given = g'6 } }; slice-known2 = record { given = g'7 } } g'8), Row.get 13 (T13 .locals) (m12 record { before = record { before = record { before = record { before = record { before = record { before = record { before = record { before = c; shared-slice-known = record { given = g } }; shared-slice-known2 = record { given = g' } }; shared-slice-known3 = record { given = g'' } }; shared-slice-known4 = record { given = g'3 } }; shared-slice-known5 = record { given = g'4 } }; shared-slice-known6 = record { given = g'5 } }; slice-known = record { given = g'6 } }; slice-known2 = record { given = g'7 } } g'8), Row.get 14 (T13 .locals) (m12 record { before = record { before = record { before = record { before = record { before = record { before = record { before = record { before = c; shared-slice-known = record { given = g } }; shared-slice-known2 = record { given = g' } }; shared-slice-known3 = record { given = g'' } }; shared-slice-known4 = record { given = g'3 } }; shared-slice-known5 = record { given = g'4 } }; shared-slice-known6 = record { given = g'5 } }; slice-known = record { given = g'6 } }; slice-known2 = record { given = g'7 } } g'8)), Path'.refl {a = m12 record { before = record { before = record { before = record { before = record { before = record { before = record { before = record { before = c; shared-slice-known = record { given = g } }; shared-slice-known2 = record { given = g' } }; shared-slice-known3 = record { given = g'' } }; shared-slice-known4 = record { given = g'3 } }; shared-slice-known5 = record { given = g'4 } }; shared-slice-known6 = record { given = g'5 } }; slice-known = record { given = g'6 } }; slice-known2 = record { given = g'7 } } g'8}, loop-holds record { before = record { before = record { before = record { before = record { before = record { before = record { before = record { before = record { before = c; shared-slice-known = record { given = g } }; shared-slice-known2 = record { given = g' } }; shared-slice-known3 = record { given = g'' } }; shared-slice-known4 = record { given = g'3 } }; shared-slice-known5 = record { given = g'4 } }; shared-slice-known6 = record { given = g'5 } }; slice-known = record { given = g'6 } }; slice-known2 = record { given = g'7 } }; shared-slice-known7 = record { given = g'8 } }), λ vs inv. (tt, (λ taken. lay1 record { before = record { before = record { before = record { before = record { before = record { before = record { before = record { before = record { before = record { before = record { before = c; shared-slice-known = record { given = g } }; shared-slice-known2 = record { given = g' } }; shared-slice-known3 = record { given = g'' } }; shared-slice-known4 = record { given = g'3 } }; shared-slice-known5 = record { given = g'4 } }; shared-slice-known6 = record { given = g'5 } }; slice-known = record { given = g'6 } }; slice-known2 = record { given = g'7 } }; shared-slice-known7 = record { given = g'8 } }; loop = record { visited = vs .0; drone-flags = vs .1; number = vs .2; bits = vs .3; i = vs .4; inv = inv } }; loop-test = record { taken = Tests.ltb-true (Row.get 14 (T13 .locals) (m13 record { before = record { before = record { before = record { before = record { before = record { before = record { before = record { before = record { before = c; shared-slice-known = record { given = g } }; shared-slice-known2 = record { given = g' } }; shared-slice-known3 = record { given = g'' } }; shared-slice-known4 = record { given = g'3 } }; shared-slice-known5 = record { given = g'4 } }; shared-slice-known6 = record { given = g'5 } }; slice-known = record { given = g'6 } }; slice-known2 = record { given = g'7 } }; shared-slice-known7 = record { given = g'8 } } (vs .0) (vs .1) (vs .2) (vs .3) (vs .4))) (Row.get 10 (T13 .locals) (m13 record { before = record { before = record { before = record { before = record { before = record { before = record { before = record { before = record { before = c; shared-slice-known = record { given = g } }; shared-slice-known2 = record { given = g' } }; shared-slice-known3 = record { given = g'' } }; shared-slice-known4 = record { given = g'3 } }; shared-slice-known5 = record { given = g'4 } }; shared-slice-known6 = record { given = g'5 } }; slice-known = record { given = g'6 } }; slice-known2 = record { given = g'7 } }; shared-slice-known7 = record { given = g'8 } } (vs .0) (vs .1) (vs .2) (vs .3) (vs .4))) taken } }, λ left. lay2 record { before = record { before = record { before = record { before = record { before = record { before = record { before = record { before = record { before = record { before = record { before = c; shared-slice-known = record { given = g } }; shared-slice-known2 = record { given = g' } }; shared-slice-known3 = record { given = g'' } }; shared-slice-known4 = record { given = g'3 } }; shared-slice-known5 = record { given = g'4 } }; shared-slice-known6 = record { given = g'5 } }; slice-known = record { given = g'6 } }; slice-known2 = record { given = g'7 } }; shared-slice-known7 = record { given = g'8 } }; loop = record { visited = vs .0; drone-flags = vs .1; number = vs .2; bits = vs .3; i = vs .4; inv = inv } }; loop-test = record { left = Tests.ltb-false (Row.get 14 (T13 .locals) (m13 record { before = record { before = record { before = record { before = record { before = record { before = record { before = record { before = record { before = c; shared-slice-known = record { given = g } }; shared-slice-known2 = record { given = g' } }; shared-slice-known3 = record { given = g'' } }; shared-slice-known4 = record { given = g'3 } }; shared-slice-known5 = record { given = g'4 } }; shared-slice-known6 = record { given = g'5 } }; slice-known = record { given = g'6 } }; slice-known2 = record { given = g'7 } }; shared-slice-known7 = record { given = g'8 } } (vs .0) (vs .1) (vs .2) (vs .3) (vs .4))) (Row.get 10 (T13 .locals) (m13 record { before = record { before = record { before = record { before = record { before = record { before = record { before = record { before = record { before = c; shared-slice-known = record { given = g } }; shared-slice-known2 = record { given = g' } }; shared-slice-known3 = record { given = g'' } }; shared-slice-known4 = record { given = g'3 } }; shared-slice-known5 = record { given = g'4 } }; shared-slice-known6 = record { given = g'5 } }; slice-known = record { given = g'6 } }; slice-known2 = record { given = g'7 } }; shared-slice-known7 = record { given = g'8 } } (vs .0) (vs .1) (vs .2) (vs .3) (vs .4))) left } })))
 
         module _ (κs : Lifetimes.Lfts 10) (qs : Lifetimes.Shares 10) where
           pub asked : (a : Kinds.Dens κs ps) → (good : Kinds.GoodsP κs ps a) → (pre : Pre· κs a) → (bs : List.List Nat.ℕ) → Φ (Any.wantQ 10 ps r xs m κs qs a (Post· κs a)) (Function.init 10 ps r xs m κs qs a)
-          asked = λ a good pre bs. laid record {
-            κs = κs;
-            args = record {
-              drone-count = a .0;
-              dependency-count = a .1 .0;
-              names = a .1 .1 .0;
-              stop-counts = a .1 .1 .1 .0;
-              locations = a .1 .1 .1 .1 .0;
-              times = a .1 .1 .1 .1 .1 .0;
-              visited = a .1 .1 .1 .1 .1 .1 .0;
-              drone-flags = a .1 .1 .1 .1 .1 .1 .1 .0;
-              dependencies = a .1 .1 .1 .1 .1 .1 .1 .1 .0;
-              count = a .1 .1 .1 .1 .1 .1 .1 .1 .1 .0;
-              reported = a .1 .1 .1 .1 .1 .1 .1 .1 .1 .1 .0;
-            };
-            good = good;
-            fits = record { count = record { fits = good .1 .1 .1 .1 .1 .1 .1 .1 .1 .0 .1 } };
-            pre = pre;
-          }
+          asked = λ a good pre bs. laid record
+              { κs = κs; args = record { drone-count = a .0; dependency-count = a .1 .0; names = a .1 .1 .0; stop-counts = a .1 .1 .1 .0; locations = a .1 .1 .1 .1 .0; times = a .1 .1 .1 .1 .1 .0; visited = a .1 .1 .1 .1 .1 .1 .0; drone-flags = a .1 .1 .1 .1 .1 .1 .1 .0; dependencies = a .1 .1 .1 .1 .1 .1 .1 .1 .0; count = a .1 .1 .1 .1 .1 .1 .1 .1 .1 .0; reported = a .1 .1 .1 .1 .1 .1 .1 .1 .1 .1 .0 }; good = good; fits = record { count = record { fits = good .1 .1 .1 .1 .1 .1 .1 .1 .1 .0 .1 } }; pre = pre }
 
         module _ {M : Type 1} (𝓤 : URA.URA M) (H : Wp.Heap 𝓤) (A : Atoms.Atoms 𝓤) (W : Kit.Given 𝓤 H A) (𝓣 : Wp.Tables 𝓤 H) (known0 : Plain.Known 𝓤 H A W 𝓣 1 ps·0 r·0 (claims· .0) (claims· .1) "presses::answers::report_at") (known1 : Plain.Known 𝓤 H A W 𝓣 9 ps·1 r·1 (claims· .2) (claims· .3) "handset::button::press") (known2 : Plain.Known 𝓤 H A W 𝓣 0 ps·2
-            r·2 (claims· .4) (claims· .5) "presses::answers::number_in") (known3 : Plain.Known 𝓤 H A W 𝓣 0 ps·3 r·3 (claims· .6) (claims· .7) "presses::answers::bits_in") (known4 : Plain.Known 𝓤 H A W 𝓣 0 ps·4 r·4 (claims· .8) (claims· .9) "presses::answers::show") where
+            r·2 (claims· .4) (claims· .5) "presses::answers::number_in") (known3 : Plain.Known 𝓤 H A W 𝓣 0 ps·2 r·3 (claims· .6) (claims· .7) "presses::answers::bits_in") (known4 : Plain.Known 𝓤 H A W 𝓣 0 ps·4 r·4 (claims· .8) (claims· .9) "presses::answers::show") where
           pub spec : Statement.Triple 𝓤 (Wp.WpFn 𝓤 H (𝓣 .C) (𝓣 .Λ) (Function.fnOf 10 ps r xs m hs body)) (Function.plainOf 𝓤 H A 10 ps r Pre· Post·)
           spec = Plain.t-fn-plain 𝓤 H A W 𝓣 10 ps r xs m hs body (λ κs qs bs. Φ) (λ κs qs bs bd. typed κs qs 𝓤 H A W 𝓣 (known0, known1, known2, known3, known4) bs bd) Pre· Post· asked

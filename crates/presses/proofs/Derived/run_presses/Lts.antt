@@ -1,4 +1,5 @@
 -- `presses::runs::run_presses`: Lts, carried over by tools/lend.py. Assumes nothing.
+use borrow.Fn.Args.{ArgsT}
 use Rattle.records.proofs.Row as Rec
 use Prim.Native.Nat
 use Rattle.presses.proofs.answers.Shown
@@ -120,10 +121,12 @@ abbrev ty·17 : Syntax.Ty
 ty·17 = Syntax.tyRef Syntax.erased Syntax.imm (Syntax.tyArray Rec.behind 2048)
 
 abbrev ty·18 : Syntax.Ty
-ty·18 = Syntax.tyStruct (List._∷_ 112 (List._∷_ 108 (List._∷_ 97 (List._∷_ 110 (List._∷_ 58 (List._∷_ 58 (List._∷_ 99 (List._∷_ 104 (List._∷_ 101 (List._∷_ 99 (List._∷_ 107 (List._∷_ 58 (List._∷_ 58 (List._∷_ 83 (List._∷_ 116 (List._∷_ 111 (List._∷_ 112 (List._∷_ 65 (List._∷_ 116 List.[]))))))))))))))))))) (Syntax.tcons (Syntax.tyInt Syntax.w64) (Syntax.tcons (Syntax.tyInt Syntax.w64) Syntax.tnil))
+ty·18 = Syntax.tyStruct (List._∷_ 112 (List._∷_ 108 (List._∷_ 97 (List._∷_ 110 (List._∷_ 58 (List._∷_ 58 (List._∷_ 99 (List._∷_ 104 (List._∷_ 101 (List._∷_ 99 (List._∷_ 107 (List._∷_ 58 (List._∷_ 58 (List._∷_ 83 (List._∷_ 116 (List._∷_ 111 (List._∷_ 112 (List._∷_ 65 (List._∷_ 116 List.[]))))))))))))))))))) (Syntax.tcons (Syntax.tyInt Syntax.w64)
+    (Syntax.tcons (Syntax.tyInt Syntax.w64) Syntax.tnil))
 
 abbrev ty·19 : Syntax.Ty
-ty·19 = Syntax.tyStruct (List._∷_ 112 (List._∷_ 114 (List._∷_ 101 (List._∷_ 115 (List._∷_ 115 (List._∷_ 101 (List._∷_ 115 (List._∷_ 58 (List._∷_ 58 (List._∷_ 97 (List._∷_ 110 (List._∷_ 115 (List._∷_ 119 (List._∷_ 101 (List._∷_ 114 (List._∷_ 115 (List._∷_ 58 (List._∷_ 58 (List._∷_ 83 (List._∷_ 104 (List._∷_ 111 (List._∷_ 119 (List._∷_ 110 List.[]))))))))))))))))))))))) (Syntax.tcons (Syntax.tyInt Syntax.w64) (Syntax.tcons (Syntax.tyInt Syntax.w32) Syntax.tnil))
+ty·19 = Syntax.tyStruct (List._∷_ 112 (List._∷_ 114 (List._∷_ 101 (List._∷_ 115 (List._∷_ 115 (List._∷_ 101 (List._∷_ 115 (List._∷_ 58 (List._∷_ 58 (List._∷_ 97 (List._∷_ 110 (List._∷_ 115 (List._∷_ 119 (List._∷_ 101 (List._∷_ 114 (List._∷_ 115 (List._∷_ 58 (List._∷_ 58 (List._∷_ 83 (List._∷_ 104 (List._∷_ 111 (List._∷_ 119 (List._∷_ 110
+    List.[]))))))))))))))))))))))) (Syntax.tcons (Syntax.tyInt Syntax.w64) (Syntax.tcons (Syntax.tyInt Syntax.w32) Syntax.tnil))
 
 abbrev row·0 : Row.Row
 row·0 = Rows'.any-gone ty·19
@@ -159,7 +162,11 @@ abbrev row·10 : Row.Row
 row·10 = Rows'.any-gone (Syntax.tyArray Rec.mir 2048)
 
 abbrev row·11 : Row.Row
-row·11 = Rows'.any-gone (Syntax.tyEnum (List._∷_ 114 (List._∷_ 101 (List._∷_ 97 (List._∷_ 100 (List._∷_ 105 (List._∷_ 110 (List._∷_ 103 (List._∷_ 58 (List._∷_ 58 (List._∷_ 114 (List._∷_ 101 (List._∷_ 112 (List._∷_ 108 (List._∷_ 105 (List._∷_ 101 (List._∷_ 115 (List._∷_ 58 (List._∷_ 58 (List._∷_ 82 (List._∷_ 101 (List._∷_ 97 (List._∷_ 100 (List._∷_ 105 (List._∷_ 110 (List._∷_ 103 List.[]))))))))))))))))))))))))) (Syntax.ttcons Syntax.tnil (Syntax.ttcons (Syntax.tcons (Syntax.tyEnum (List._∷_ 114 (List._∷_ 101 (List._∷_ 97 (List._∷_ 100 (List._∷_ 105 (List._∷_ 110 (List._∷_ 103 (List._∷_ 58 (List._∷_ 58 (List._∷_ 114 (List._∷_ 101 (List._∷_ 112 (List._∷_ 108 (List._∷_ 105 (List._∷_ 101 (List._∷_ 115 (List._∷_ 58 (List._∷_ 58 (List._∷_ 82 (List._∷_ 101 (List._∷_ 102 (List._∷_ 117 (List._∷_ 115 (List._∷_ 97 (List._∷_ 108 List.[]))))))))))))))))))))))))) (Syntax.ttcons Syntax.tnil (Syntax.ttcons (Syntax.tcons (Syntax.tyInt Syntax.w64) Syntax.tnil) (Syntax.ttcons (Syntax.tcons (Syntax.tyInt Syntax.w64) Syntax.tnil) (Syntax.ttcons (Syntax.tcons (Syntax.tyInt Syntax.w64) Syntax.tnil) (Syntax.ttcons (Syntax.tcons (Syntax.tyInt Syntax.w64) Syntax.tnil) (Syntax.ttcons (Syntax.tcons (Syntax.tyInt Syntax.w64) Syntax.tnil) (Syntax.ttcons (Syntax.tcons (Syntax.tyInt Syntax.w64) Syntax.tnil) (Syntax.ttcons (Syntax.tcons ty·18 Syntax.tnil) (Syntax.ttcons (Syntax.tcons ty·18 Syntax.tnil) (Syntax.ttcons (Syntax.tcons ty·18 Syntax.tnil) (Syntax.ttcons (Syntax.tcons ty·18 (Syntax.tcons ty·18 Syntax.tnil)) (Syntax.ttcons Syntax.tnil Syntax.ttnil))))))))))))) Syntax.tnil) Syntax.ttnil)))
+row·11 = Rows'.any-gone (Syntax.tyEnum (List._∷_ 114 (List._∷_ 101 (List._∷_ 97 (List._∷_ 100 (List._∷_ 105 (List._∷_ 110 (List._∷_ 103 (List._∷_ 58 (List._∷_ 58 (List._∷_ 114 (List._∷_ 101 (List._∷_ 112 (List._∷_ 108 (List._∷_ 105 (List._∷_ 101 (List._∷_ 115 (List._∷_ 58 (List._∷_ 58 (List._∷_ 82 (List._∷_ 101 (List._∷_ 97 (List._∷_ 100 (List._∷_ 105
+    (List._∷_ 110 (List._∷_ 103 List.[]))))))))))))))))))))))))) (Syntax.ttcons Syntax.tnil (Syntax.ttcons (Syntax.tcons (Syntax.tyEnum (List._∷_ 114 (List._∷_ 101 (List._∷_ 97 (List._∷_ 100 (List._∷_ 105 (List._∷_ 110 (List._∷_ 103 (List._∷_ 58 (List._∷_ 58 (List._∷_ 114 (List._∷_ 101 (List._∷_ 112 (List._∷_ 108 (List._∷_ 105 (List._∷_ 101 (List._∷_ 115
+    (List._∷_ 58 (List._∷_ 58 (List._∷_ 82 (List._∷_ 101 (List._∷_ 102 (List._∷_ 117 (List._∷_ 115 (List._∷_ 97 (List._∷_ 108 List.[]))))))))))))))))))))))))) (Syntax.ttcons Syntax.tnil (Syntax.ttcons (Syntax.tcons (Syntax.tyInt Syntax.w64) Syntax.tnil) (Syntax.ttcons (Syntax.tcons (Syntax.tyInt Syntax.w64) Syntax.tnil) (Syntax.ttcons (Syntax.tcons (Syntax.tyInt
+    Syntax.w64) Syntax.tnil) (Syntax.ttcons (Syntax.tcons (Syntax.tyInt Syntax.w64) Syntax.tnil) (Syntax.ttcons (Syntax.tcons (Syntax.tyInt Syntax.w64) Syntax.tnil) (Syntax.ttcons (Syntax.tcons (Syntax.tyInt Syntax.w64) Syntax.tnil) (Syntax.ttcons (Syntax.tcons ty·18 Syntax.tnil) (Syntax.ttcons (Syntax.tcons ty·18 Syntax.tnil) (Syntax.ttcons (Syntax.tcons ty·18
+    Syntax.tnil) (Syntax.ttcons (Syntax.tcons ty·18 (Syntax.tcons ty·18 Syntax.tnil)) (Syntax.ttcons Syntax.tnil Syntax.ttnil))))))))))))) Syntax.tnil) Syntax.ttnil)))
 
 abbrev row·12 : Row.Row
 row·12 = Rows'.any-gone (Syntax.tyInt Syntax.w64)
@@ -462,40 +469,26 @@ abbrev pub ps : List.List (Kinds.PK 2)
 ps = List._∷_ (ShrSlice.pShrS (Referent.rtF (Referent.fInt Syntax.w8)) 0 tt) (List._∷_ (Num.pNum Syntax.w64) (List._∷_ (ShrSlice.pShrS (Referent.rtF (Referent.fInt Syntax.w16)) 1 tt) List.[]))
 
 abbrev pub r : Kinds.RK 2
-r = Value.rVal record {
-  ty = Declared'.row Shown.the-type;
-  one = Path'.refl;
-  val = Laws'3.val Shown.the-type Laws.the-laws;
-  tells = Laws'3.tells Shown.the-type Laws.the-laws;
-  still = Laws'3.still Shown.the-type Laws.the-copy Exit.yes;
-  row = Rows'.whole (Declared'.row Shown.the-type);
-  rd = λ x. x;
-  mk = λ x. x;
-} λ M 𝓤 H A W. record {
-  copies = Laws'3.copy Shown.the-type Laws.the-copy 𝓤 H A W;
-  lawful = Laws'3.lawful Shown.the-type Laws.the-laws 𝓤 H A W;
-  makes = Laws'3.makes Shown.the-type Laws.the-plain 𝓤 H A;
-  in-mem = Local.mem-whole 𝓤 H A W (Declared'.row Shown.the-type);
-  of-mem = Local.whole-mem 𝓤 H A W (Declared'.row Shown.the-type);
-}
+r = Value.rVal record { ty = Declared'.row Shown.the-type; one = Path'.refl; val = Laws'3.val Shown.the-type Laws.the-laws; tells = Laws'3.tells Shown.the-type Laws.the-laws; still = Laws'3.still Shown.the-type Laws.the-copy Exit.yes; row = Rows'.whole (Declared'.row Shown.the-type); rd = λ x. x; mk = λ x. x } λ M 𝓤 H A W. record
+    { copies = Laws'3.copy Shown.the-type Laws.the-copy 𝓤 H A W; lawful = Laws'3.lawful Shown.the-type Laws.the-laws 𝓤 H A W; makes = Laws'3.makes Shown.the-type Laws.the-plain 𝓤 H A; in-mem = Local.mem-whole 𝓤 H A W (Declared'.row Shown.the-type); of-mem = Local.whole-mem 𝓤 H A W (Declared'.row Shown.the-type) }
 
 abbrev pub xs : List.List Syntax.Ty
 xs = List._∷_ ty·0 (List._∷_ ty·0 (List._∷_ ty·2 (List._∷_ ty·3 (List._∷_ ty·4 (List._∷_ ty·5 (List._∷_ ty·3 (List._∷_ ty·1 (List._∷_ (Syntax.tyArray Rec.mir 2048) (List._∷_ (Syntax.tyEnum (List._∷_ 114 (List._∷_ 101 (List._∷_ 97 (List._∷_ 100 (List._∷_ 105 (List._∷_ 110 (List._∷_ 103 (List._∷_ 58 (List._∷_ 58 (List._∷_ 114 (List._∷_ 101 (List._∷_ 112
-    (List._∷_ 108 (List._∷_ 105 (List._∷_ 101 (List._∷_ 115 (List._∷_ 58 (List._∷_ 58 (List._∷_ 82 (List._∷_ 101 (List._∷_ 97 (List._∷_ 100 (List._∷_ 105 (List._∷_ 110 (List._∷_ 103 List.[]))))))))))))))))))))))))) (Syntax.ttcons Syntax.tnil (Syntax.ttcons (Syntax.tcons (Syntax.tyEnum (List._∷_ 114 (List._∷_ 101 (List._∷_ 97 (List._∷_ 100 (List._∷_ 105
-    (List._∷_ 110 (List._∷_ 103 (List._∷_ 58 (List._∷_ 58 (List._∷_ 114 (List._∷_ 101 (List._∷_ 112 (List._∷_ 108 (List._∷_ 105 (List._∷_ 101 (List._∷_ 115 (List._∷_ 58 (List._∷_ 58 (List._∷_ 82 (List._∷_ 101 (List._∷_ 102 (List._∷_ 117 (List._∷_ 115 (List._∷_ 97 (List._∷_ 108 List.[]))))))))))))))))))))))))) (Syntax.ttcons Syntax.tnil (Syntax.ttcons
-    (Syntax.tcons (Syntax.tyInt Syntax.w64) Syntax.tnil) (Syntax.ttcons (Syntax.tcons (Syntax.tyInt Syntax.w64) Syntax.tnil) (Syntax.ttcons (Syntax.tcons (Syntax.tyInt Syntax.w64) Syntax.tnil) (Syntax.ttcons (Syntax.tcons (Syntax.tyInt Syntax.w64) Syntax.tnil) (Syntax.ttcons (Syntax.tcons (Syntax.tyInt Syntax.w64) Syntax.tnil) (Syntax.ttcons
-    (Syntax.tcons (Syntax.tyInt Syntax.w64) Syntax.tnil) (Syntax.ttcons (Syntax.tcons ty·18 Syntax.tnil) (Syntax.ttcons (Syntax.tcons ty·18 Syntax.tnil) (Syntax.ttcons (Syntax.tcons ty·18 Syntax.tnil) (Syntax.ttcons (Syntax.tcons ty·18 (Syntax.tcons ty·18 Syntax.tnil)) (Syntax.ttcons Syntax.tnil Syntax.ttnil))))))))))))) Syntax.tnil) Syntax.ttnil)))
-    (List._∷_ (Syntax.tyInt Syntax.w64) (List._∷_ Rec.mir (List._∷_ (Syntax.tyRef Syntax.erased Syntax.mut ty·0) (List._∷_ (Syntax.tyStruct (List._∷_ 38 (List._∷_ 91 (List._∷_ 93 List.[]))) (Syntax.tcons ty·10 (Syntax.tcons (Syntax.tyInt Syntax.w64) Syntax.tnil))) (List._∷_ (Syntax.tyRef Syntax.erased Syntax.mut ty·0) (List._∷_ (Syntax.tyStruct
-    (List._∷_ 38 (List._∷_ 91 (List._∷_ 93 List.[]))) (Syntax.tcons ty·10 (Syntax.tcons (Syntax.tyInt Syntax.w64) Syntax.tnil))) (List._∷_ (Syntax.tyRef Syntax.erased Syntax.mut ty·2) (List._∷_ (Syntax.tyStruct (List._∷_ 38 (List._∷_ 91 (List._∷_ 93 List.[]))) (Syntax.tcons ty·8 (Syntax.tcons (Syntax.tyInt Syntax.w64) Syntax.tnil))) (List._∷_
-    (Syntax.tyRef Syntax.erased Syntax.mut ty·3) (List._∷_ (Syntax.tyStruct (List._∷_ 38 (List._∷_ 91 (List._∷_ 93 List.[]))) (Syntax.tcons ty·10 (Syntax.tcons (Syntax.tyInt Syntax.w64) Syntax.tnil))) (List._∷_ (Syntax.tyRef Syntax.erased Syntax.mut ty·4) (List._∷_ (Syntax.tyStruct (List._∷_ 38 (List._∷_ 91 (List._∷_ 93 List.[]))) (Syntax.tcons ty·10
-    (Syntax.tcons (Syntax.tyInt Syntax.w64) Syntax.tnil))) (List._∷_ (Syntax.tyRef Syntax.erased Syntax.mut ty·5) (List._∷_ (Syntax.tyStruct (List._∷_ 38 (List._∷_ 91 (List._∷_ 93 List.[]))) (Syntax.tcons ty·11 (Syntax.tcons (Syntax.tyInt Syntax.w64) Syntax.tnil))) (List._∷_ (Syntax.tyRef Syntax.erased Syntax.mut ty·3) (List._∷_ (Syntax.tyStruct
-    (List._∷_ 38 (List._∷_ 91 (List._∷_ 93 List.[]))) (Syntax.tcons ty·10 (Syntax.tcons (Syntax.tyInt Syntax.w64) Syntax.tnil))) (List._∷_ (Syntax.tyRef Syntax.erased Syntax.mut ty·1) (List._∷_ (Syntax.tyStruct (List._∷_ 38 (List._∷_ 91 (List._∷_ 93 List.[]))) (Syntax.tcons ty·8 (Syntax.tcons (Syntax.tyInt Syntax.w64) Syntax.tnil))) (List._∷_ ty·16 (List._∷_
-    (Syntax.tyStruct (List._∷_ 38 (List._∷_ 91 (List._∷_ 93 List.[]))) (Syntax.tcons ty·6 (Syntax.tcons (Syntax.tyInt Syntax.w64) Syntax.tnil))) (List._∷_ Syntax.tyBool (List._∷_ (Syntax.tyRef Syntax.erased Syntax.imm ty·0) (List._∷_ (Syntax.tyStruct (List._∷_ 38 (List._∷_ 91 (List._∷_ 93 List.[]))) (Syntax.tcons ty·12
-    (Syntax.tcons (Syntax.tyInt Syntax.w64) Syntax.tnil))) (List._∷_ (Syntax.tyRef Syntax.erased Syntax.imm ty·0) (List._∷_ (Syntax.tyStruct (List._∷_ 38 (List._∷_ 91 (List._∷_ 93 List.[]))) (Syntax.tcons ty·12 (Syntax.tcons (Syntax.tyInt Syntax.w64) Syntax.tnil))) (List._∷_ (Syntax.tyRef Syntax.erased Syntax.imm ty·2) (List._∷_ (Syntax.tyStruct
-    (List._∷_ 38 (List._∷_ 91 (List._∷_ 93 List.[]))) (Syntax.tcons ty·9 (Syntax.tcons (Syntax.tyInt Syntax.w64) Syntax.tnil))) (List._∷_ (Syntax.tyRef Syntax.erased Syntax.imm ty·3) (List._∷_ (Syntax.tyStruct (List._∷_ 38 (List._∷_ 91 (List._∷_ 93 List.[]))) (Syntax.tcons ty·12 (Syntax.tcons (Syntax.tyInt Syntax.w64) Syntax.tnil))) (List._∷_
-    (Syntax.tyRef Syntax.erased Syntax.imm ty·4) (List._∷_ (Syntax.tyStruct (List._∷_ 38 (List._∷_ 91 (List._∷_ 93 List.[]))) (Syntax.tcons ty·12 (Syntax.tcons (Syntax.tyInt Syntax.w64) Syntax.tnil))) (List._∷_ (Syntax.tyRef Syntax.erased Syntax.imm ty·5) (List._∷_ (Syntax.tyStruct (List._∷_ 38 (List._∷_ 91 (List._∷_ 93 List.[]))) (Syntax.tcons ty·13
-    (Syntax.tcons (Syntax.tyInt Syntax.w64) Syntax.tnil))) (List._∷_ (Syntax.tyRef Syntax.erased Syntax.mut ty·3) (List._∷_ (Syntax.tyStruct (List._∷_ 38 (List._∷_ 91 (List._∷_ 93 List.[]))) (Syntax.tcons ty·10 (Syntax.tcons (Syntax.tyInt Syntax.w64) Syntax.tnil))) (List._∷_ (Syntax.tyRef Syntax.erased Syntax.mut ty·1) (List._∷_ (Syntax.tyStruct
-    (List._∷_ 38 (List._∷_ 91 (List._∷_ 93 List.[]))) (Syntax.tcons ty·8 (Syntax.tcons (Syntax.tyInt Syntax.w64) Syntax.tnil))) (List._∷_ ty·17 (List._∷_ (Syntax.tyStruct (List._∷_ 38 (List._∷_ 91 (List._∷_ 93 List.[]))) (Syntax.tcons ty·7 (Syntax.tcons (Syntax.tyInt Syntax.w64) Syntax.tnil))) List.[]))))))))))))))))))))))))))))))))))))))))))))))))
+    (List._∷_ 108 (List._∷_ 105 (List._∷_ 101 (List._∷_ 115 (List._∷_ 58 (List._∷_ 58 (List._∷_ 82 (List._∷_ 101 (List._∷_ 97 (List._∷_ 100 (List._∷_ 105 (List._∷_ 110 (List._∷_ 103 List.[]))))))))))))))))))))))))) (Syntax.ttcons Syntax.tnil (Syntax.ttcons (Syntax.tcons (Syntax.tyEnum (List._∷_ 114 (List._∷_ 101 (List._∷_ 97 (List._∷_ 100 (List._∷_ 105 (List._∷_
+    110 (List._∷_ 103 (List._∷_ 58 (List._∷_ 58 (List._∷_ 114 (List._∷_ 101 (List._∷_ 112 (List._∷_ 108 (List._∷_ 105 (List._∷_ 101 (List._∷_ 115 (List._∷_ 58 (List._∷_ 58 (List._∷_ 82 (List._∷_ 101 (List._∷_ 102 (List._∷_ 117 (List._∷_ 115 (List._∷_ 97 (List._∷_ 108 List.[]))))))))))))))))))))))))) (Syntax.ttcons Syntax.tnil (Syntax.ttcons (Syntax.tcons
+    (Syntax.tyInt Syntax.w64) Syntax.tnil) (Syntax.ttcons (Syntax.tcons (Syntax.tyInt Syntax.w64) Syntax.tnil) (Syntax.ttcons (Syntax.tcons (Syntax.tyInt Syntax.w64) Syntax.tnil) (Syntax.ttcons (Syntax.tcons (Syntax.tyInt Syntax.w64) Syntax.tnil) (Syntax.ttcons (Syntax.tcons (Syntax.tyInt Syntax.w64) Syntax.tnil) (Syntax.ttcons (Syntax.tcons (Syntax.tyInt
+    Syntax.w64) Syntax.tnil) (Syntax.ttcons (Syntax.tcons ty·18 Syntax.tnil) (Syntax.ttcons (Syntax.tcons ty·18 Syntax.tnil) (Syntax.ttcons (Syntax.tcons ty·18 Syntax.tnil) (Syntax.ttcons (Syntax.tcons ty·18 (Syntax.tcons ty·18 Syntax.tnil)) (Syntax.ttcons Syntax.tnil Syntax.ttnil))))))))))))) Syntax.tnil) Syntax.ttnil))) (List._∷_ (Syntax.tyInt Syntax.w64)
+    (List._∷_ Rec.mir (List._∷_ (Syntax.tyRef Syntax.erased Syntax.mut ty·0) (List._∷_ (Syntax.tyStruct (List._∷_ 38 (List._∷_ 91 (List._∷_ 93 List.[]))) (Syntax.tcons ty·10 (Syntax.tcons (Syntax.tyInt Syntax.w64) Syntax.tnil))) (List._∷_ (Syntax.tyRef Syntax.erased Syntax.mut ty·0) (List._∷_ (Syntax.tyStruct (List._∷_ 38 (List._∷_ 91 (List._∷_ 93 List.[])))
+    (Syntax.tcons ty·10 (Syntax.tcons (Syntax.tyInt Syntax.w64) Syntax.tnil))) (List._∷_ (Syntax.tyRef Syntax.erased Syntax.mut ty·2) (List._∷_ (Syntax.tyStruct (List._∷_ 38 (List._∷_ 91 (List._∷_ 93 List.[]))) (Syntax.tcons ty·8 (Syntax.tcons (Syntax.tyInt Syntax.w64) Syntax.tnil))) (List._∷_ (Syntax.tyRef Syntax.erased Syntax.mut ty·3) (List._∷_
+    (Syntax.tyStruct (List._∷_ 38 (List._∷_ 91 (List._∷_ 93 List.[]))) (Syntax.tcons ty·10 (Syntax.tcons (Syntax.tyInt Syntax.w64) Syntax.tnil))) (List._∷_ (Syntax.tyRef Syntax.erased Syntax.mut ty·4) (List._∷_ (Syntax.tyStruct (List._∷_ 38 (List._∷_ 91 (List._∷_ 93 List.[]))) (Syntax.tcons ty·10 (Syntax.tcons (Syntax.tyInt Syntax.w64) Syntax.tnil))) (List._∷_
+    (Syntax.tyRef Syntax.erased Syntax.mut ty·5) (List._∷_ (Syntax.tyStruct (List._∷_ 38 (List._∷_ 91 (List._∷_ 93 List.[]))) (Syntax.tcons ty·11 (Syntax.tcons (Syntax.tyInt Syntax.w64) Syntax.tnil))) (List._∷_ (Syntax.tyRef Syntax.erased Syntax.mut ty·3) (List._∷_ (Syntax.tyStruct (List._∷_ 38 (List._∷_ 91 (List._∷_ 93 List.[]))) (Syntax.tcons ty·10
+    (Syntax.tcons (Syntax.tyInt Syntax.w64) Syntax.tnil))) (List._∷_ (Syntax.tyRef Syntax.erased Syntax.mut ty·1) (List._∷_ (Syntax.tyStruct (List._∷_ 38 (List._∷_ 91 (List._∷_ 93 List.[]))) (Syntax.tcons ty·8 (Syntax.tcons (Syntax.tyInt Syntax.w64) Syntax.tnil))) (List._∷_ ty·16 (List._∷_ (Syntax.tyStruct (List._∷_ 38 (List._∷_ 91 (List._∷_ 93 List.[])))
+    (Syntax.tcons ty·6 (Syntax.tcons (Syntax.tyInt Syntax.w64) Syntax.tnil))) (List._∷_ Syntax.tyBool (List._∷_ (Syntax.tyRef Syntax.erased Syntax.imm ty·0) (List._∷_ (Syntax.tyStruct (List._∷_ 38 (List._∷_ 91 (List._∷_ 93 List.[]))) (Syntax.tcons ty·12 (Syntax.tcons (Syntax.tyInt Syntax.w64) Syntax.tnil))) (List._∷_ (Syntax.tyRef Syntax.erased Syntax.imm ty·0)
+    (List._∷_ (Syntax.tyStruct (List._∷_ 38 (List._∷_ 91 (List._∷_ 93 List.[]))) (Syntax.tcons ty·12 (Syntax.tcons (Syntax.tyInt Syntax.w64) Syntax.tnil))) (List._∷_ (Syntax.tyRef Syntax.erased Syntax.imm ty·2) (List._∷_ (Syntax.tyStruct (List._∷_ 38 (List._∷_ 91 (List._∷_ 93 List.[]))) (Syntax.tcons ty·9 (Syntax.tcons (Syntax.tyInt Syntax.w64) Syntax.tnil)))
+    (List._∷_ (Syntax.tyRef Syntax.erased Syntax.imm ty·3) (List._∷_ (Syntax.tyStruct (List._∷_ 38 (List._∷_ 91 (List._∷_ 93 List.[]))) (Syntax.tcons ty·12 (Syntax.tcons (Syntax.tyInt Syntax.w64) Syntax.tnil))) (List._∷_ (Syntax.tyRef Syntax.erased Syntax.imm ty·4) (List._∷_ (Syntax.tyStruct (List._∷_ 38 (List._∷_ 91 (List._∷_ 93 List.[]))) (Syntax.tcons ty·12
+    (Syntax.tcons (Syntax.tyInt Syntax.w64) Syntax.tnil))) (List._∷_ (Syntax.tyRef Syntax.erased Syntax.imm ty·5) (List._∷_ (Syntax.tyStruct (List._∷_ 38 (List._∷_ 91 (List._∷_ 93 List.[]))) (Syntax.tcons ty·13 (Syntax.tcons (Syntax.tyInt Syntax.w64) Syntax.tnil))) (List._∷_ (Syntax.tyRef Syntax.erased Syntax.mut ty·3) (List._∷_ (Syntax.tyStruct (List._∷_ 38
+    (List._∷_ 91 (List._∷_ 93 List.[]))) (Syntax.tcons ty·10 (Syntax.tcons (Syntax.tyInt Syntax.w64) Syntax.tnil))) (List._∷_ (Syntax.tyRef Syntax.erased Syntax.mut ty·1) (List._∷_ (Syntax.tyStruct (List._∷_ 38 (List._∷_ 91 (List._∷_ 93 List.[]))) (Syntax.tcons ty·8 (Syntax.tcons (Syntax.tyInt Syntax.w64) Syntax.tnil))) (List._∷_ ty·17 (List._∷_ (Syntax.tyStruct
+    (List._∷_ 38 (List._∷_ 91 (List._∷_ 93 List.[]))) (Syntax.tcons ty·7 (Syntax.tcons (Syntax.tyInt Syntax.w64) Syntax.tnil))) List.[]))))))))))))))))))))))))))))))))))))))))))))))))
 
 abbrev pub m : Nat.ℕ
 m = 18
@@ -507,45 +500,17 @@ abbrev pub r·0 : Kinds.RK 0
 r·0 = Rec.result
 
 abbrev pub ps·1 : List.List (Kinds.PK 10)
-ps·1 = List._∷_ (ShrSlice.pShrS (Referent.rtF (Referent.fInt Syntax.w8)) 0 tt) (List._∷_ (MutSlice.pMutS (Referent.rtF (Referent.fInt Syntax.w16)) 1 tt) (List._∷_ (MutSlice.pMutS (Referent.rtF (Referent.fInt Syntax.w16)) 2 tt) (List._∷_ (MutSlice.pMutS (Referent.rtF (Referent.fInt Syntax.w8)) 3 tt) (List._∷_
-    (MutSlice.pMutS (Referent.rtF (Referent.fInt Syntax.w16)) 4 tt) (List._∷_ (MutSlice.pMutS (Referent.rtF (Referent.fInt Syntax.w16)) 5 tt) (List._∷_ (MutSlice.pMutS (Referent.rtF (Referent.fInt Syntax.w32)) 6 tt) (List._∷_ (MutSlice.pMutS (Referent.rtF (Referent.fInt Syntax.w16)) 7 tt) (List._∷_
-    (MutSlice.pMutS (Referent.rtF (Referent.fInt Syntax.w8)) 8 tt) (List._∷_ (MutSlice.pMutS Rec.rt 9 tt) List.[])))))))))
+ps·1 = List._∷_ (ShrSlice.pShrS (Referent.rtF (Referent.fInt Syntax.w8)) 0 tt) (List._∷_ (MutSlice.pMutS (Referent.rtF (Referent.fInt Syntax.w16)) 1 tt) (List._∷_ (MutSlice.pMutS (Referent.rtF (Referent.fInt Syntax.w16)) 2 tt) (List._∷_ (MutSlice.pMutS (Referent.rtF (Referent.fInt Syntax.w8)) 3 tt) (List._∷_ (MutSlice.pMutS (Referent.rtF (Referent.fInt
+    Syntax.w16)) 4 tt) (List._∷_ (MutSlice.pMutS (Referent.rtF (Referent.fInt Syntax.w16)) 5 tt) (List._∷_ (MutSlice.pMutS (Referent.rtF (Referent.fInt Syntax.w32)) 6 tt) (List._∷_ (MutSlice.pMutS (Referent.rtF (Referent.fInt Syntax.w16)) 7 tt) (List._∷_ (MutSlice.pMutS (Referent.rtF (Referent.fInt Syntax.w8)) 8 tt) (List._∷_ (MutSlice.pMutS Rec.rt 9 tt)
+    List.[])))))))))
 
 abbrev pub r·1 : Kinds.RK 10
-r·1 = Value.rVal record {
-  ty = Declared.row Reading.the-type;
-  one = Path'.refl;
-  val = Laws''.val Reading.the-type Laws'.the-laws;
-  tells = Laws''.tells Reading.the-type Laws'.the-laws;
-  still = Laws''.still Reading.the-type Laws'.the-copy Exit.yes;
-  row = Rows'.whole (Declared.row Reading.the-type);
-  rd = λ x. x;
-  mk = λ x. x;
-} λ M 𝓤 H A W. record {
-  copies = Laws''.copy Reading.the-type Laws'.the-copy 𝓤 H A W;
-  lawful = Laws''.lawful Reading.the-type Laws'.the-laws 𝓤 H A W tt;
-  makes = Laws''.makes Reading.the-type Laws'.the-plain 𝓤 H A;
-  in-mem = Local.mem-whole 𝓤 H A W (Declared.row Reading.the-type);
-  of-mem = Local.whole-mem 𝓤 H A W (Declared.row Reading.the-type);
-}
+r·1 = Value.rVal record { ty = Declared.row Reading.the-type; one = Path'.refl; val = Laws''.val Reading.the-type Laws'.the-laws; tells = Laws''.tells Reading.the-type Laws'.the-laws; still = Laws''.still Reading.the-type Laws'.the-copy Exit.yes; row = Rows'.whole (Declared.row Reading.the-type); rd = λ x. x; mk = λ x. x } λ M 𝓤 H A W. record
+    { copies = Laws''.copy Reading.the-type Laws'.the-copy 𝓤 H A W; lawful = Laws''.lawful Reading.the-type Laws'.the-laws 𝓤 H A W tt; makes = Laws''.makes Reading.the-type Laws'.the-plain 𝓤 H A; in-mem = Local.mem-whole 𝓤 H A W (Declared.row Reading.the-type); of-mem = Local.whole-mem 𝓤 H A W (Declared.row Reading.the-type) }
 
 abbrev pub ps·2 : List.List (Kinds.PK 0)
-ps·2 = List._∷_ (Value.pVal record {
-  ty = Declared.row Reading.the-type;
-  one = Path'.refl;
-  val = Laws''.val Reading.the-type Laws'.the-laws;
-  tells = Laws''.tells Reading.the-type Laws'.the-laws;
-  still = Laws''.still Reading.the-type Laws'.the-copy Exit.yes;
-  row = Rows'.whole (Declared.row Reading.the-type);
-  rd = λ x. x;
-  mk = λ x. x;
-} λ M 𝓤 H A W. record {
-  copies = Laws''.copy Reading.the-type Laws'.the-copy 𝓤 H A W;
-  lawful = Laws''.lawful Reading.the-type Laws'.the-laws 𝓤 H A W tt;
-  makes = Laws''.makes Reading.the-type Laws'.the-plain 𝓤 H A;
-  in-mem = Local.mem-whole 𝓤 H A W (Declared.row Reading.the-type);
-  of-mem = Local.whole-mem 𝓤 H A W (Declared.row Reading.the-type);
-}) List.[]
+ps·2 = List._∷_ (Value.pVal record { ty = Declared.row Reading.the-type; one = Path'.refl; val = Laws''.val Reading.the-type Laws'.the-laws; tells = Laws''.tells Reading.the-type Laws'.the-laws; still = Laws''.still Reading.the-type Laws'.the-copy Exit.yes; row = Rows'.whole (Declared.row Reading.the-type); rd = λ x. x; mk = λ x. x } λ M 𝓤 H A W. record
+    { copies = Laws''.copy Reading.the-type Laws'.the-copy 𝓤 H A W; lawful = Laws''.lawful Reading.the-type Laws'.the-laws 𝓤 H A W tt; makes = Laws''.makes Reading.the-type Laws'.the-plain 𝓤 H A; in-mem = Local.mem-whole 𝓤 H A W (Declared.row Reading.the-type); of-mem = Local.whole-mem 𝓤 H A W (Declared.row Reading.the-type) }) List.[]
 
 abbrev pub r·2 : Kinds.RK 0
 r·2 = Num.rNum Syntax.w64
@@ -554,45 +519,17 @@ abbrev pub ps·3 : List.List (Kinds.PK 0)
 ps·3 = List._∷_ (Num.pNum Syntax.w64) (List._∷_ (Num.pNum Syntax.w32) List.[])
 
 abbrev pub r·3 : Kinds.RK 0
-r·3 = Value.rVal record {
-  ty = Declared'.row Shown.the-type;
-  one = Path'.refl;
-  val = Laws'3.val Shown.the-type Laws.the-laws;
-  tells = Laws'3.tells Shown.the-type Laws.the-laws;
-  still = Laws'3.still Shown.the-type Laws.the-copy Exit.yes;
-  row = Rows'.whole (Declared'.row Shown.the-type);
-  rd = λ x. x;
-  mk = λ x. x;
-} λ M 𝓤 H A W. record {
-  copies = Laws'3.copy Shown.the-type Laws.the-copy 𝓤 H A W;
-  lawful = Laws'3.lawful Shown.the-type Laws.the-laws 𝓤 H A W;
-  makes = Laws'3.makes Shown.the-type Laws.the-plain 𝓤 H A;
-  in-mem = Local.mem-whole 𝓤 H A W (Declared'.row Shown.the-type);
-  of-mem = Local.whole-mem 𝓤 H A W (Declared'.row Shown.the-type);
-}
+r·3 = Value.rVal record { ty = Declared'.row Shown.the-type; one = Path'.refl; val = Laws'3.val Shown.the-type Laws.the-laws; tells = Laws'3.tells Shown.the-type Laws.the-laws; still = Laws'3.still Shown.the-type Laws.the-copy Exit.yes; row = Rows'.whole (Declared'.row Shown.the-type); rd = λ x. x; mk = λ x. x } λ M 𝓤 H A W. record
+    { copies = Laws'3.copy Shown.the-type Laws.the-copy 𝓤 H A W; lawful = Laws'3.lawful Shown.the-type Laws.the-laws 𝓤 H A W; makes = Laws'3.makes Shown.the-type Laws.the-plain 𝓤 H A; in-mem = Local.mem-whole 𝓤 H A W (Declared'.row Shown.the-type); of-mem = Local.whole-mem 𝓤 H A W (Declared'.row Shown.the-type) }
 
 abbrev pub ps·4 : List.List (Kinds.PK 10)
-ps·4 = List._∷_ (ShrSlice.pShrS (Referent.rtF (Referent.fInt Syntax.w16)) 0 tt) (List._∷_ (ShrSlice.pShrS (Referent.rtF (Referent.fInt Syntax.w16)) 1 tt) (List._∷_ (ShrSlice.pShrS (Referent.rtF (Referent.fInt Syntax.w8)) 2 tt) (List._∷_ (ShrSlice.pShrS (Referent.rtF (Referent.fInt Syntax.w16)) 3 tt) (List._∷_
-    (ShrSlice.pShrS (Referent.rtF (Referent.fInt Syntax.w16)) 4 tt) (List._∷_ (ShrSlice.pShrS (Referent.rtF (Referent.fInt Syntax.w32)) 5 tt) (List._∷_ (MutSlice.pMutS (Referent.rtF (Referent.fInt Syntax.w16)) 6 tt) (List._∷_ (MutSlice.pMutS (Referent.rtF (Referent.fInt Syntax.w8)) 7 tt) (List._∷_ (ShrSlice.pShrS Rec.rt 8 tt) (List._∷_ (Num.pNum Syntax.w64)
-    (List._∷_ (ShrSlice.pShrS (Referent.rtF (Referent.fInt Syntax.w16)) 9 tt) List.[]))))))))))
+ps·4 = List._∷_ (ShrSlice.pShrS (Referent.rtF (Referent.fInt Syntax.w16)) 0 tt) (List._∷_ (ShrSlice.pShrS (Referent.rtF (Referent.fInt Syntax.w16)) 1 tt) (List._∷_ (ShrSlice.pShrS (Referent.rtF (Referent.fInt Syntax.w8)) 2 tt) (List._∷_ (ShrSlice.pShrS (Referent.rtF (Referent.fInt Syntax.w16)) 3 tt) (List._∷_ (ShrSlice.pShrS (Referent.rtF (Referent.fInt
+    Syntax.w16)) 4 tt) (List._∷_ (ShrSlice.pShrS (Referent.rtF (Referent.fInt Syntax.w32)) 5 tt) (List._∷_ (MutSlice.pMutS (Referent.rtF (Referent.fInt Syntax.w16)) 6 tt) (List._∷_ (MutSlice.pMutS (Referent.rtF (Referent.fInt Syntax.w8)) 7 tt) (List._∷_ (ShrSlice.pShrS Rec.rt 8 tt) (List._∷_ (Num.pNum Syntax.w64) (List._∷_ (ShrSlice.pShrS (Referent.rtF
+    (Referent.fInt Syntax.w16)) 9 tt) List.[]))))))))))
 
 abbrev pub r·4 : Kinds.RK 10
-r·4 = Value.rVal record {
-  ty = Declared'.row Shown.the-type;
-  one = Path'.refl;
-  val = Laws'3.val Shown.the-type Laws.the-laws;
-  tells = Laws'3.tells Shown.the-type Laws.the-laws;
-  still = Laws'3.still Shown.the-type Laws.the-copy Exit.yes;
-  row = Rows'.whole (Declared'.row Shown.the-type);
-  rd = λ x. x;
-  mk = λ x. x;
-} λ M 𝓤 H A W. record {
-  copies = Laws'3.copy Shown.the-type Laws.the-copy 𝓤 H A W;
-  lawful = Laws'3.lawful Shown.the-type Laws.the-laws 𝓤 H A W;
-  makes = Laws'3.makes Shown.the-type Laws.the-plain 𝓤 H A;
-  in-mem = Local.mem-whole 𝓤 H A W (Declared'.row Shown.the-type);
-  of-mem = Local.whole-mem 𝓤 H A W (Declared'.row Shown.the-type);
-}
+r·4 = Value.rVal record { ty = Declared'.row Shown.the-type; one = Path'.refl; val = Laws'3.val Shown.the-type Laws.the-laws; tells = Laws'3.tells Shown.the-type Laws.the-laws; still = Laws'3.still Shown.the-type Laws.the-copy Exit.yes; row = Rows'.whole (Declared'.row Shown.the-type); rd = λ x. x; mk = λ x. x } λ M 𝓤 H A W. record
+    { copies = Laws'3.copy Shown.the-type Laws.the-copy 𝓤 H A W; lawful = Laws'3.lawful Shown.the-type Laws.the-laws 𝓤 H A W; makes = Laws'3.makes Shown.the-type Laws.the-plain 𝓤 H A; in-mem = Local.mem-whole 𝓤 H A W (Declared'.row Shown.the-type); of-mem = Local.whole-mem 𝓤 H A W (Declared'.row Shown.the-type) }
 
 abbrev pub hs : List.List Syntax.Home
 hs = List._∷_ Syntax.valueLocal (List._∷_ Syntax.valueLocal (List._∷_ Syntax.valueLocal (List._∷_ Syntax.valueLocal (List._∷_ Syntax.memorySlot (List._∷_ Syntax.memorySlot (List._∷_ Syntax.memorySlot (List._∷_ Syntax.memorySlot (List._∷_ Syntax.memorySlot (List._∷_ Syntax.memorySlot (List._∷_ Syntax.memorySlot (List._∷_ Syntax.memorySlot (List._∷_
@@ -930,584 +867,328 @@ body = b106
 abbrev pub Claims : Type 1
 Claims = Kinds.In 0 ps·0 × Kinds.Out 0 ps·0 r·0 × Kinds.In 10 ps·1 × Kinds.Out 10 ps·1 r·1 × Kinds.In 0 ps·2 × Kinds.Out 0 ps·2 r·2 × Kinds.In 0 ps·3 × Kinds.Out 0 ps·3 r·3 × Kinds.In 10 ps·4 × Kinds.Out 10 ps·4 r·4
 
-abbrev pub t0 : List.List Row.Entry
-t0 = List._∷_ (0, row·0) (List._∷_ (1, row·1) (List._∷_ (2, row·2) (List._∷_ (3, row·3) (List._∷_ (4, row·4) (List._∷_ (5, row·4) (List._∷_ (6, row·5) (List._∷_ (7, row·6) (List._∷_ (8, row·7) (List._∷_ (9, row·8) (List._∷_ (10, row·6) (List._∷_ (11, row·9) (List._∷_ (12, row·10) (List._∷_ (13, row·11) (List._∷_ (14, row·12) (List._∷_ (15, row·13) List.[])))))))))))))))
-
 abbrev pub t1 : List.List Row.Entry
-t1 = List._∷_ (16, row·14) (List._∷_ (17, row·15) (List._∷_ (18, row·14) (List._∷_ (19, row·15) (List._∷_ (20, row·16) (List._∷_ (21, row·17) (List._∷_ (22, row·18) (List._∷_ (23, row·15) (List._∷_ (24, row·19) (List._∷_ (25, row·15) (List._∷_ (26, row·20) (List._∷_ (27, row·21) (List._∷_ (28, row·18) (List._∷_ (29, row·15) (List._∷_ (30, row·22) (List._∷_ (31, row·17) List.[])))))))))))))))
+t1 = List._∷_ (16, row·14) (List._∷_ (17, row·15) (List._∷_ (18, row·14) (List._∷_ (19, row·15) (List._∷_ (20, row·16) (List._∷_ (21, row·17) (List._∷_ (22, row·18) (List._∷_ (23, row·15) (List._∷_ (24, row·19) (List._∷_ (25, row·15) (List._∷_ (26, row·20) (List._∷_ (27, row·21) (List._∷_ (28, row·18) (List._∷_ (29, row·15) (List._∷_ (30, row·22) (List._∷_
+    (31, row·17) List.[])))))))))))))))
 
 abbrev pub t2 : List.List Row.Entry
-t2 = List._∷_ (32, row·23) (List._∷_ (33, row·24) (List._∷_ (34, row·25) (List._∷_ (35, row·26) (List._∷_ (36, row·27) (List._∷_ (37, row·26) (List._∷_ (38, row·27) (List._∷_ (39, row·28) (List._∷_ (40, row·29) (List._∷_ (41, row·30) (List._∷_ (42, row·27) (List._∷_ (43, row·31) (List._∷_ (44, row·27) (List._∷_ (45, row·32) (List._∷_ (46, row·33) (List._∷_ (47, row·18) List.[])))))))))))))))
+t2 = List._∷_ (32, row·23) (List._∷_ (33, row·24) (List._∷_ (34, row·25) (List._∷_ (35, row·26) (List._∷_ (36, row·27) (List._∷_ (37, row·26) (List._∷_ (38, row·27) (List._∷_ (39, row·28) (List._∷_ (40, row·29) (List._∷_ (41, row·30) (List._∷_ (42, row·27) (List._∷_ (43, row·31) (List._∷_ (44, row·27) (List._∷_ (45, row·32) (List._∷_ (46, row·33) (List._∷_
+    (47, row·18) List.[])))))))))))))))
 
 abbrev pub t3 : List.List Row.Entry
 t3 = List._∷_ (48, row·15) (List._∷_ (49, row·22) (List._∷_ (50, row·17) (List._∷_ (51, row·34) (List._∷_ (52, row·35) List.[]))))
 
-abbrev pub t4 : List.List Row.Entry
-t4 = List._∷_ (0, row·36) (List._∷_ (1, row·1) (List._∷_ (2, row·12) (List._∷_ (3, row·3) (List._∷_ (4, row·4) (List._∷_ (5, row·4) (List._∷_ (6, row·5) (List._∷_ (7, row·6) (List._∷_ (8, row·7) (List._∷_ (9, row·8) (List._∷_ (10, row·6) (List._∷_ (11, row·9) (List._∷_ (12, row·10) (List._∷_ (13, row·11) (List._∷_ (14, row·12) (List._∷_ (15, row·13) List.[])))))))))))))))
-
-abbrev pub t5 : List.List Row.Entry
-t5 = List._∷_ (0, row·0) (List._∷_ (1, row·1) (List._∷_ (2, row·2) (List._∷_ (3, row·3) (List._∷_ (4, row·37) (List._∷_ (5, row·4) (List._∷_ (6, row·5) (List._∷_ (7, row·6) (List._∷_ (8, row·7) (List._∷_ (9, row·8) (List._∷_ (10, row·6) (List._∷_ (11, row·9) (List._∷_ (12, row·10) (List._∷_ (13, row·11) (List._∷_ (14, row·12) (List._∷_ (15, row·13) List.[])))))))))))))))
-
-abbrev pub t6 : List.List Row.Entry
-t6 = List._∷_ (0, row·0) (List._∷_ (1, row·1) (List._∷_ (2, row·2) (List._∷_ (3, row·3) (List._∷_ (4, row·38) (List._∷_ (5, row·4) (List._∷_ (6, row·5) (List._∷_ (7, row·6) (List._∷_ (8, row·7) (List._∷_ (9, row·8) (List._∷_ (10, row·6) (List._∷_ (11, row·9) (List._∷_ (12, row·10) (List._∷_ (13, row·11) (List._∷_ (14, row·12) (List._∷_ (15, row·13) List.[])))))))))))))))
-
-abbrev pub t7 : List.List Row.Entry
-t7 = List._∷_ (0, row·0) (List._∷_ (1, row·1) (List._∷_ (2, row·2) (List._∷_ (3, row·3) (List._∷_ (4, row·38) (List._∷_ (5, row·37) (List._∷_ (6, row·5) (List._∷_ (7, row·6) (List._∷_ (8, row·7) (List._∷_ (9, row·8) (List._∷_ (10, row·6) (List._∷_ (11, row·9) (List._∷_ (12, row·10) (List._∷_ (13, row·11) (List._∷_ (14, row·12) (List._∷_ (15, row·13) List.[])))))))))))))))
-
-abbrev pub t8 : List.List Row.Entry
-t8 = List._∷_ (0, row·0) (List._∷_ (1, row·1) (List._∷_ (2, row·2) (List._∷_ (3, row·3) (List._∷_ (4, row·38) (List._∷_ (5, row·38) (List._∷_ (6, row·5) (List._∷_ (7, row·6) (List._∷_ (8, row·7) (List._∷_ (9, row·8) (List._∷_ (10, row·6) (List._∷_ (11, row·9) (List._∷_ (12, row·10) (List._∷_ (13, row·11) (List._∷_ (14, row·12) (List._∷_ (15, row·13) List.[])))))))))))))))
-
-abbrev pub t9 : List.List Row.Entry
-t9 = List._∷_ (0, row·0) (List._∷_ (1, row·1) (List._∷_ (2, row·2) (List._∷_ (3, row·3) (List._∷_ (4, row·38) (List._∷_ (5, row·38) (List._∷_ (6, row·39) (List._∷_ (7, row·6) (List._∷_ (8, row·7) (List._∷_ (9, row·8) (List._∷_ (10, row·6) (List._∷_ (11, row·9) (List._∷_ (12, row·10) (List._∷_ (13, row·11) (List._∷_ (14, row·12) (List._∷_ (15, row·13) List.[])))))))))))))))
-
-abbrev pub t10 : List.List Row.Entry
-t10 = List._∷_ (0, row·0) (List._∷_ (1, row·1) (List._∷_ (2, row·2) (List._∷_ (3, row·3) (List._∷_ (4, row·38) (List._∷_ (5, row·38) (List._∷_ (6, row·40) (List._∷_ (7, row·6) (List._∷_ (8, row·7) (List._∷_ (9, row·8) (List._∷_ (10, row·6) (List._∷_ (11, row·9) (List._∷_ (12, row·10) (List._∷_ (13, row·11) (List._∷_ (14, row·12) (List._∷_ (15, row·13) List.[])))))))))))))))
-
-abbrev pub t11 : List.List Row.Entry
-t11 = List._∷_ (0, row·0) (List._∷_ (1, row·1) (List._∷_ (2, row·2) (List._∷_ (3, row·3) (List._∷_ (4, row·38) (List._∷_ (5, row·38) (List._∷_ (6, row·40) (List._∷_ (7, row·41) (List._∷_ (8, row·7) (List._∷_ (9, row·8) (List._∷_ (10, row·6) (List._∷_ (11, row·9) (List._∷_ (12, row·10) (List._∷_ (13, row·11) (List._∷_ (14, row·12) (List._∷_ (15, row·13) List.[])))))))))))))))
-
-abbrev pub t12 : List.List Row.Entry
-t12 = List._∷_ (0, row·0) (List._∷_ (1, row·1) (List._∷_ (2, row·2) (List._∷_ (3, row·3) (List._∷_ (4, row·38) (List._∷_ (5, row·38) (List._∷_ (6, row·40) (List._∷_ (7, row·42) (List._∷_ (8, row·7) (List._∷_ (9, row·8) (List._∷_ (10, row·6) (List._∷_ (11, row·9) (List._∷_ (12, row·10) (List._∷_ (13, row·11) (List._∷_ (14, row·12) (List._∷_ (15, row·13) List.[])))))))))))))))
-
-abbrev pub t13 : List.List Row.Entry
-t13 = List._∷_ (0, row·0) (List._∷_ (1, row·1) (List._∷_ (2, row·2) (List._∷_ (3, row·3) (List._∷_ (4, row·38) (List._∷_ (5, row·38) (List._∷_ (6, row·40) (List._∷_ (7, row·42) (List._∷_ (8, row·43) (List._∷_ (9, row·8) (List._∷_ (10, row·6) (List._∷_ (11, row·9) (List._∷_ (12, row·10) (List._∷_ (13, row·11) (List._∷_ (14, row·12) (List._∷_ (15, row·13) List.[])))))))))))))))
-
-abbrev pub t14 : List.List Row.Entry
-t14 = List._∷_ (0, row·0) (List._∷_ (1, row·1) (List._∷_ (2, row·2) (List._∷_ (3, row·3) (List._∷_ (4, row·38) (List._∷_ (5, row·38) (List._∷_ (6, row·40) (List._∷_ (7, row·42) (List._∷_ (8, row·44) (List._∷_ (9, row·8) (List._∷_ (10, row·6) (List._∷_ (11, row·9) (List._∷_ (12, row·10) (List._∷_ (13, row·11) (List._∷_ (14, row·12) (List._∷_ (15, row·13) List.[])))))))))))))))
-
-abbrev pub t15 : List.List Row.Entry
-t15 = List._∷_ (0, row·0) (List._∷_ (1, row·1) (List._∷_ (2, row·2) (List._∷_ (3, row·3) (List._∷_ (4, row·38) (List._∷_ (5, row·38) (List._∷_ (6, row·40) (List._∷_ (7, row·42) (List._∷_ (8, row·44) (List._∷_ (9, row·45) (List._∷_ (10, row·6) (List._∷_ (11, row·9) (List._∷_ (12, row·10) (List._∷_ (13, row·11) (List._∷_ (14, row·12) (List._∷_ (15, row·13) List.[])))))))))))))))
-
-abbrev pub t16 : List.List Row.Entry
-t16 = List._∷_ (0, row·0) (List._∷_ (1, row·1) (List._∷_ (2, row·2) (List._∷_ (3, row·3) (List._∷_ (4, row·38) (List._∷_ (5, row·38) (List._∷_ (6, row·40) (List._∷_ (7, row·42) (List._∷_ (8, row·44) (List._∷_ (9, row·46) (List._∷_ (10, row·6) (List._∷_ (11, row·9) (List._∷_ (12, row·10) (List._∷_ (13, row·11) (List._∷_ (14, row·12) (List._∷_ (15, row·13) List.[])))))))))))))))
-
-abbrev pub t17 : List.List Row.Entry
-t17 = List._∷_ (0, row·0) (List._∷_ (1, row·1) (List._∷_ (2, row·2) (List._∷_ (3, row·3) (List._∷_ (4, row·38) (List._∷_ (5, row·38) (List._∷_ (6, row·40) (List._∷_ (7, row·42) (List._∷_ (8, row·44) (List._∷_ (9, row·46) (List._∷_ (10, row·41) (List._∷_ (11, row·9) (List._∷_ (12, row·10) (List._∷_ (13, row·11) (List._∷_ (14, row·12) (List._∷_ (15, row·13) List.[])))))))))))))))
-
-abbrev pub t18 : List.List Row.Entry
-t18 = List._∷_ (0, row·0) (List._∷_ (1, row·1) (List._∷_ (2, row·2) (List._∷_ (3, row·3) (List._∷_ (4, row·38) (List._∷_ (5, row·38) (List._∷_ (6, row·40) (List._∷_ (7, row·42) (List._∷_ (8, row·44) (List._∷_ (9, row·46) (List._∷_ (10, row·42) (List._∷_ (11, row·9) (List._∷_ (12, row·10) (List._∷_ (13, row·11) (List._∷_ (14, row·12) (List._∷_ (15, row·13) List.[])))))))))))))))
-
-abbrev pub t19 : List.List Row.Entry
-t19 = List._∷_ (0, row·0) (List._∷_ (1, row·1) (List._∷_ (2, row·2) (List._∷_ (3, row·3) (List._∷_ (4, row·38) (List._∷_ (5, row·38) (List._∷_ (6, row·40) (List._∷_ (7, row·42) (List._∷_ (8, row·44) (List._∷_ (9, row·46) (List._∷_ (10, row·42) (List._∷_ (11, row·47) (List._∷_ (12, row·10) (List._∷_ (13, row·11) (List._∷_ (14, row·12) (List._∷_ (15, row·13) List.[])))))))))))))))
-
-abbrev pub t20 : List.List Row.Entry
-t20 = List._∷_ (0, row·0) (List._∷_ (1, row·1) (List._∷_ (2, row·2) (List._∷_ (3, row·3) (List._∷_ (4, row·38) (List._∷_ (5, row·38) (List._∷_ (6, row·40) (List._∷_ (7, row·42) (List._∷_ (8, row·44) (List._∷_ (9, row·46) (List._∷_ (10, row·42) (List._∷_ (11, row·48) (List._∷_ (12, row·10) (List._∷_ (13, row·11) (List._∷_ (14, row·12) (List._∷_ (15, row·13) List.[])))))))))))))))
-
-abbrev pub t21 : List.List Row.Entry
-t21 = List._∷_ (0, row·0) (List._∷_ (1, row·1) (List._∷_ (2, row·2) (List._∷_ (3, row·3) (List._∷_ (4, row·38) (List._∷_ (5, row·38) (List._∷_ (6, row·40) (List._∷_ (7, row·42) (List._∷_ (8, row·44) (List._∷_ (9, row·46) (List._∷_ (10, row·42) (List._∷_ (11, row·48) (List._∷_ (12, row·10) (List._∷_ (13, row·11) (List._∷_ (14, row·12) (List._∷_ (15, Rec.row) List.[])))))))))))))))
-
-abbrev pub t22 : List.List Row.Entry
-t22 = List._∷_ (0, row·0) (List._∷_ (1, row·1) (List._∷_ (2, row·2) (List._∷_ (3, row·3) (List._∷_ (4, row·38) (List._∷_ (5, row·38) (List._∷_ (6, row·40) (List._∷_ (7, row·42) (List._∷_ (8, row·44) (List._∷_ (9, row·46) (List._∷_ (10, row·42) (List._∷_ (11, row·48) (List._∷_ (12, row·49) (List._∷_ (13, row·11) (List._∷_ (14, row·12) (List._∷_ (15, Rec.row) List.[])))))))))))))))
-
-abbrev pub t23 : List.List Row.Entry
-t23 = List._∷_ (0, row·0) (List._∷_ (1, row·1) (List._∷_ (2, row·2) (List._∷_ (3, row·3) (List._∷_ (4, row·38) (List._∷_ (5, row·38) (List._∷_ (6, row·40) (List._∷_ (7, row·42) (List._∷_ (8, row·44) (List._∷_ (9, row·46) (List._∷_ (10, row·42) (List._∷_ (11, row·48) (List._∷_ (12, row·50) (List._∷_ (13, row·11) (List._∷_ (14, row·12) (List._∷_ (15, Rec.row) List.[])))))))))))))))
-
-abbrev pub t24 : List.List Row.Entry
-t24 = List._∷_ (0, row·0) (List._∷_ (1, row·1) (List._∷_ (2, row·2) (List._∷_ (3, row·3) (List._∷_ (4, row·38) (List._∷_ (5, row·38) (List._∷_ (6, row·40) (List._∷_ (7, row·42) (List._∷_ (8, row·44) (List._∷_ (9, row·46) (List._∷_ (10, row·42) (List._∷_ (11, row·48) (List._∷_ (12, row·50) (List._∷_ (13, row·11) (List._∷_ (14, row·12) (List._∷_ (15, row·13) List.[])))))))))))))))
-
 abbrev pub t25 : List.List Row.Entry
-t25 = List._∷_ (0, row·0) (List._∷_ (1, row·1) (List._∷_ (2, row·2) (List._∷_ (3, row·3) (List._∷_ (4, row·51) (List._∷_ (5, row·38) (List._∷_ (6, row·40) (List._∷_ (7, row·42) (List._∷_ (8, row·44) (List._∷_ (9, row·46) (List._∷_ (10, row·42) (List._∷_ (11, row·48) (List._∷_ (12, row·50) (List._∷_ (13, row·11) (List._∷_ (14, row·12) (List._∷_ (15, row·13) List.[])))))))))))))))
-
-abbrev pub t26 : List.List Row.Entry
-t26 = List._∷_ (16, row·52) (List._∷_ (17, row·15) (List._∷_ (18, row·14) (List._∷_ (19, row·15) (List._∷_ (20, row·16) (List._∷_ (21, row·17) (List._∷_ (22, row·18) (List._∷_ (23, row·15) (List._∷_ (24, row·19) (List._∷_ (25, row·15) (List._∷_ (26, row·20) (List._∷_ (27, row·21) (List._∷_ (28, row·18) (List._∷_ (29, row·15) (List._∷_ (30, row·22) (List._∷_ (31, row·17) List.[])))))))))))))))
-
-abbrev pub t27 : List.List Row.Entry
-t27 = List._∷_ (16, row·14) (List._∷_ (17, row·53) (List._∷_ (18, row·14) (List._∷_ (19, row·15) (List._∷_ (20, row·16) (List._∷_ (21, row·17) (List._∷_ (22, row·18) (List._∷_ (23, row·15) (List._∷_ (24, row·19) (List._∷_ (25, row·15) (List._∷_ (26, row·20) (List._∷_ (27, row·21) (List._∷_ (28, row·18) (List._∷_ (29, row·15) (List._∷_ (30, row·22) (List._∷_ (31, row·17) List.[])))))))))))))))
+t25 = List._∷_ (0, row·0) (List._∷_ (1, row·1) (List._∷_ (2, row·2) (List._∷_ (3, row·3) (List._∷_ (4, row·51) (List._∷_ (5, row·38) (List._∷_ (6, row·40) (List._∷_ (7, row·42) (List._∷_ (8, row·44) (List._∷_ (9, row·46) (List._∷_ (10, row·42) (List._∷_ (11, row·48) (List._∷_ (12, row·50) (List._∷_ (13, row·11) (List._∷_ (14, row·12) (List._∷_ (15, row·13)
+    List.[])))))))))))))))
 
 abbrev pub t28 : List.List Row.Entry
-t28 = List._∷_ (0, row·0) (List._∷_ (1, row·1) (List._∷_ (2, row·2) (List._∷_ (3, row·3) (List._∷_ (4, row·51) (List._∷_ (5, row·54) (List._∷_ (6, row·40) (List._∷_ (7, row·42) (List._∷_ (8, row·44) (List._∷_ (9, row·46) (List._∷_ (10, row·42) (List._∷_ (11, row·48) (List._∷_ (12, row·50) (List._∷_ (13, row·11) (List._∷_ (14, row·12) (List._∷_ (15, row·13) List.[])))))))))))))))
-
-abbrev pub t29 : List.List Row.Entry
-t29 = List._∷_ (16, row·14) (List._∷_ (17, row·53) (List._∷_ (18, row·55) (List._∷_ (19, row·15) (List._∷_ (20, row·16) (List._∷_ (21, row·17) (List._∷_ (22, row·18) (List._∷_ (23, row·15) (List._∷_ (24, row·19) (List._∷_ (25, row·15) (List._∷_ (26, row·20) (List._∷_ (27, row·21) (List._∷_ (28, row·18) (List._∷_ (29, row·15) (List._∷_ (30, row·22) (List._∷_ (31, row·17) List.[])))))))))))))))
-
-abbrev pub t30 : List.List Row.Entry
-t30 = List._∷_ (16, row·14) (List._∷_ (17, row·53) (List._∷_ (18, row·14) (List._∷_ (19, row·56) (List._∷_ (20, row·16) (List._∷_ (21, row·17) (List._∷_ (22, row·18) (List._∷_ (23, row·15) (List._∷_ (24, row·19) (List._∷_ (25, row·15) (List._∷_ (26, row·20) (List._∷_ (27, row·21) (List._∷_ (28, row·18) (List._∷_ (29, row·15) (List._∷_ (30, row·22) (List._∷_ (31, row·17) List.[])))))))))))))))
+t28 = List._∷_ (0, row·0) (List._∷_ (1, row·1) (List._∷_ (2, row·2) (List._∷_ (3, row·3) (List._∷_ (4, row·51) (List._∷_ (5, row·54) (List._∷_ (6, row·40) (List._∷_ (7, row·42) (List._∷_ (8, row·44) (List._∷_ (9, row·46) (List._∷_ (10, row·42) (List._∷_ (11, row·48) (List._∷_ (12, row·50) (List._∷_ (13, row·11) (List._∷_ (14, row·12) (List._∷_ (15, row·13)
+    List.[])))))))))))))))
 
 abbrev pub t31 : List.List Row.Entry
-t31 = List._∷_ (0, row·0) (List._∷_ (1, row·1) (List._∷_ (2, row·2) (List._∷_ (3, row·3) (List._∷_ (4, row·51) (List._∷_ (5, row·54) (List._∷_ (6, row·57) (List._∷_ (7, row·42) (List._∷_ (8, row·44) (List._∷_ (9, row·46) (List._∷_ (10, row·42) (List._∷_ (11, row·48) (List._∷_ (12, row·50) (List._∷_ (13, row·11) (List._∷_ (14, row·12) (List._∷_ (15, row·13) List.[])))))))))))))))
-
-abbrev pub t32 : List.List Row.Entry
-t32 = List._∷_ (16, row·14) (List._∷_ (17, row·53) (List._∷_ (18, row·14) (List._∷_ (19, row·56) (List._∷_ (20, row·58) (List._∷_ (21, row·17) (List._∷_ (22, row·18) (List._∷_ (23, row·15) (List._∷_ (24, row·19) (List._∷_ (25, row·15) (List._∷_ (26, row·20) (List._∷_ (27, row·21) (List._∷_ (28, row·18) (List._∷_ (29, row·15) (List._∷_ (30, row·22) (List._∷_ (31, row·17) List.[])))))))))))))))
-
-abbrev pub t33 : List.List Row.Entry
-t33 = List._∷_ (16, row·14) (List._∷_ (17, row·53) (List._∷_ (18, row·14) (List._∷_ (19, row·56) (List._∷_ (20, row·16) (List._∷_ (21, row·59) (List._∷_ (22, row·18) (List._∷_ (23, row·15) (List._∷_ (24, row·19) (List._∷_ (25, row·15) (List._∷_ (26, row·20) (List._∷_ (27, row·21) (List._∷_ (28, row·18) (List._∷_ (29, row·15) (List._∷_ (30, row·22) (List._∷_ (31, row·17) List.[])))))))))))))))
+t31 = List._∷_ (0, row·0) (List._∷_ (1, row·1) (List._∷_ (2, row·2) (List._∷_ (3, row·3) (List._∷_ (4, row·51) (List._∷_ (5, row·54) (List._∷_ (6, row·57) (List._∷_ (7, row·42) (List._∷_ (8, row·44) (List._∷_ (9, row·46) (List._∷_ (10, row·42) (List._∷_ (11, row·48) (List._∷_ (12, row·50) (List._∷_ (13, row·11) (List._∷_ (14, row·12) (List._∷_ (15, row·13)
+    List.[])))))))))))))))
 
 abbrev pub t34 : List.List Row.Entry
-t34 = List._∷_ (0, row·0) (List._∷_ (1, row·1) (List._∷_ (2, row·2) (List._∷_ (3, row·3) (List._∷_ (4, row·51) (List._∷_ (5, row·54) (List._∷_ (6, row·57) (List._∷_ (7, row·60) (List._∷_ (8, row·44) (List._∷_ (9, row·46) (List._∷_ (10, row·42) (List._∷_ (11, row·48) (List._∷_ (12, row·50) (List._∷_ (13, row·11) (List._∷_ (14, row·12) (List._∷_ (15, row·13) List.[])))))))))))))))
-
-abbrev pub t35 : List.List Row.Entry
-t35 = List._∷_ (16, row·14) (List._∷_ (17, row·53) (List._∷_ (18, row·14) (List._∷_ (19, row·56) (List._∷_ (20, row·16) (List._∷_ (21, row·59) (List._∷_ (22, row·61) (List._∷_ (23, row·15) (List._∷_ (24, row·19) (List._∷_ (25, row·15) (List._∷_ (26, row·20) (List._∷_ (27, row·21) (List._∷_ (28, row·18) (List._∷_ (29, row·15) (List._∷_ (30, row·22) (List._∷_ (31, row·17) List.[])))))))))))))))
-
-abbrev pub t36 : List.List Row.Entry
-t36 = List._∷_ (16, row·14) (List._∷_ (17, row·53) (List._∷_ (18, row·14) (List._∷_ (19, row·56) (List._∷_ (20, row·16) (List._∷_ (21, row·59) (List._∷_ (22, row·18) (List._∷_ (23, row·62) (List._∷_ (24, row·19) (List._∷_ (25, row·15) (List._∷_ (26, row·20) (List._∷_ (27, row·21) (List._∷_ (28, row·18) (List._∷_ (29, row·15) (List._∷_ (30, row·22) (List._∷_ (31, row·17) List.[])))))))))))))))
+t34 = List._∷_ (0, row·0) (List._∷_ (1, row·1) (List._∷_ (2, row·2) (List._∷_ (3, row·3) (List._∷_ (4, row·51) (List._∷_ (5, row·54) (List._∷_ (6, row·57) (List._∷_ (7, row·60) (List._∷_ (8, row·44) (List._∷_ (9, row·46) (List._∷_ (10, row·42) (List._∷_ (11, row·48) (List._∷_ (12, row·50) (List._∷_ (13, row·11) (List._∷_ (14, row·12) (List._∷_ (15, row·13)
+    List.[])))))))))))))))
 
 abbrev pub t37 : List.List Row.Entry
-t37 = List._∷_ (0, row·0) (List._∷_ (1, row·1) (List._∷_ (2, row·2) (List._∷_ (3, row·3) (List._∷_ (4, row·51) (List._∷_ (5, row·54) (List._∷_ (6, row·57) (List._∷_ (7, row·60) (List._∷_ (8, row·63) (List._∷_ (9, row·46) (List._∷_ (10, row·42) (List._∷_ (11, row·48) (List._∷_ (12, row·50) (List._∷_ (13, row·11) (List._∷_ (14, row·12) (List._∷_ (15, row·13) List.[])))))))))))))))
-
-abbrev pub t38 : List.List Row.Entry
-t38 = List._∷_ (16, row·14) (List._∷_ (17, row·53) (List._∷_ (18, row·14) (List._∷_ (19, row·56) (List._∷_ (20, row·16) (List._∷_ (21, row·59) (List._∷_ (22, row·18) (List._∷_ (23, row·62) (List._∷_ (24, row·64) (List._∷_ (25, row·15) (List._∷_ (26, row·20) (List._∷_ (27, row·21) (List._∷_ (28, row·18) (List._∷_ (29, row·15) (List._∷_ (30, row·22) (List._∷_ (31, row·17) List.[])))))))))))))))
-
-abbrev pub t39 : List.List Row.Entry
-t39 = List._∷_ (16, row·14) (List._∷_ (17, row·53) (List._∷_ (18, row·14) (List._∷_ (19, row·56) (List._∷_ (20, row·16) (List._∷_ (21, row·59) (List._∷_ (22, row·18) (List._∷_ (23, row·62) (List._∷_ (24, row·19) (List._∷_ (25, row·65) (List._∷_ (26, row·20) (List._∷_ (27, row·21) (List._∷_ (28, row·18) (List._∷_ (29, row·15) (List._∷_ (30, row·22) (List._∷_ (31, row·17) List.[])))))))))))))))
+t37 = List._∷_ (0, row·0) (List._∷_ (1, row·1) (List._∷_ (2, row·2) (List._∷_ (3, row·3) (List._∷_ (4, row·51) (List._∷_ (5, row·54) (List._∷_ (6, row·57) (List._∷_ (7, row·60) (List._∷_ (8, row·63) (List._∷_ (9, row·46) (List._∷_ (10, row·42) (List._∷_ (11, row·48) (List._∷_ (12, row·50) (List._∷_ (13, row·11) (List._∷_ (14, row·12) (List._∷_ (15, row·13)
+    List.[])))))))))))))))
 
 abbrev pub t40 : List.List Row.Entry
-t40 = List._∷_ (0, row·0) (List._∷_ (1, row·1) (List._∷_ (2, row·2) (List._∷_ (3, row·3) (List._∷_ (4, row·51) (List._∷_ (5, row·54) (List._∷_ (6, row·57) (List._∷_ (7, row·60) (List._∷_ (8, row·63) (List._∷_ (9, row·66) (List._∷_ (10, row·42) (List._∷_ (11, row·48) (List._∷_ (12, row·50) (List._∷_ (13, row·11) (List._∷_ (14, row·12) (List._∷_ (15, row·13) List.[])))))))))))))))
-
-abbrev pub t41 : List.List Row.Entry
-t41 = List._∷_ (16, row·14) (List._∷_ (17, row·53) (List._∷_ (18, row·14) (List._∷_ (19, row·56) (List._∷_ (20, row·16) (List._∷_ (21, row·59) (List._∷_ (22, row·18) (List._∷_ (23, row·62) (List._∷_ (24, row·19) (List._∷_ (25, row·65) (List._∷_ (26, row·67) (List._∷_ (27, row·21) (List._∷_ (28, row·18) (List._∷_ (29, row·15) (List._∷_ (30, row·22) (List._∷_ (31, row·17) List.[])))))))))))))))
-
-abbrev pub t42 : List.List Row.Entry
-t42 = List._∷_ (16, row·14) (List._∷_ (17, row·53) (List._∷_ (18, row·14) (List._∷_ (19, row·56) (List._∷_ (20, row·16) (List._∷_ (21, row·59) (List._∷_ (22, row·18) (List._∷_ (23, row·62) (List._∷_ (24, row·19) (List._∷_ (25, row·65) (List._∷_ (26, row·20) (List._∷_ (27, row·68) (List._∷_ (28, row·18) (List._∷_ (29, row·15) (List._∷_ (30, row·22) (List._∷_ (31, row·17) List.[])))))))))))))))
+t40 = List._∷_ (0, row·0) (List._∷_ (1, row·1) (List._∷_ (2, row·2) (List._∷_ (3, row·3) (List._∷_ (4, row·51) (List._∷_ (5, row·54) (List._∷_ (6, row·57) (List._∷_ (7, row·60) (List._∷_ (8, row·63) (List._∷_ (9, row·66) (List._∷_ (10, row·42) (List._∷_ (11, row·48) (List._∷_ (12, row·50) (List._∷_ (13, row·11) (List._∷_ (14, row·12) (List._∷_ (15, row·13)
+    List.[])))))))))))))))
 
 abbrev pub t43 : List.List Row.Entry
-t43 = List._∷_ (0, row·0) (List._∷_ (1, row·1) (List._∷_ (2, row·2) (List._∷_ (3, row·3) (List._∷_ (4, row·51) (List._∷_ (5, row·54) (List._∷_ (6, row·57) (List._∷_ (7, row·60) (List._∷_ (8, row·63) (List._∷_ (9, row·66) (List._∷_ (10, row·69) (List._∷_ (11, row·48) (List._∷_ (12, row·50) (List._∷_ (13, row·11) (List._∷_ (14, row·12) (List._∷_ (15, row·13) List.[])))))))))))))))
-
-abbrev pub t44 : List.List Row.Entry
-t44 = List._∷_ (16, row·14) (List._∷_ (17, row·53) (List._∷_ (18, row·14) (List._∷_ (19, row·56) (List._∷_ (20, row·16) (List._∷_ (21, row·59) (List._∷_ (22, row·18) (List._∷_ (23, row·62) (List._∷_ (24, row·19) (List._∷_ (25, row·65) (List._∷_ (26, row·20) (List._∷_ (27, row·68) (List._∷_ (28, row·70) (List._∷_ (29, row·15) (List._∷_ (30, row·22) (List._∷_ (31, row·17) List.[])))))))))))))))
-
-abbrev pub t45 : List.List Row.Entry
-t45 = List._∷_ (16, row·14) (List._∷_ (17, row·53) (List._∷_ (18, row·14) (List._∷_ (19, row·56) (List._∷_ (20, row·16) (List._∷_ (21, row·59) (List._∷_ (22, row·18) (List._∷_ (23, row·62) (List._∷_ (24, row·19) (List._∷_ (25, row·65) (List._∷_ (26, row·20) (List._∷_ (27, row·68) (List._∷_ (28, row·18) (List._∷_ (29, row·71) (List._∷_ (30, row·22) (List._∷_ (31, row·17) List.[])))))))))))))))
+t43 = List._∷_ (0, row·0) (List._∷_ (1, row·1) (List._∷_ (2, row·2) (List._∷_ (3, row·3) (List._∷_ (4, row·51) (List._∷_ (5, row·54) (List._∷_ (6, row·57) (List._∷_ (7, row·60) (List._∷_ (8, row·63) (List._∷_ (9, row·66) (List._∷_ (10, row·69) (List._∷_ (11, row·48) (List._∷_ (12, row·50) (List._∷_ (13, row·11) (List._∷_ (14, row·12) (List._∷_ (15, row·13)
+    List.[])))))))))))))))
 
 abbrev pub t46 : List.List Row.Entry
-t46 = List._∷_ (0, row·0) (List._∷_ (1, row·1) (List._∷_ (2, row·2) (List._∷_ (3, row·3) (List._∷_ (4, row·51) (List._∷_ (5, row·54) (List._∷_ (6, row·57) (List._∷_ (7, row·60) (List._∷_ (8, row·63) (List._∷_ (9, row·66) (List._∷_ (10, row·69) (List._∷_ (11, row·72) (List._∷_ (12, row·50) (List._∷_ (13, row·11) (List._∷_ (14, row·12) (List._∷_ (15, row·13) List.[])))))))))))))))
-
-abbrev pub t47 : List.List Row.Entry
-t47 = List._∷_ (16, row·14) (List._∷_ (17, row·53) (List._∷_ (18, row·14) (List._∷_ (19, row·56) (List._∷_ (20, row·16) (List._∷_ (21, row·59) (List._∷_ (22, row·18) (List._∷_ (23, row·62) (List._∷_ (24, row·19) (List._∷_ (25, row·65) (List._∷_ (26, row·20) (List._∷_ (27, row·68) (List._∷_ (28, row·18) (List._∷_ (29, row·71) (List._∷_ (30, row·73) (List._∷_ (31, row·17) List.[])))))))))))))))
+t46 = List._∷_ (0, row·0) (List._∷_ (1, row·1) (List._∷_ (2, row·2) (List._∷_ (3, row·3) (List._∷_ (4, row·51) (List._∷_ (5, row·54) (List._∷_ (6, row·57) (List._∷_ (7, row·60) (List._∷_ (8, row·63) (List._∷_ (9, row·66) (List._∷_ (10, row·69) (List._∷_ (11, row·72) (List._∷_ (12, row·50) (List._∷_ (13, row·11) (List._∷_ (14, row·12) (List._∷_ (15, row·13)
+    List.[])))))))))))))))
 
 abbrev pub t48 : List.List Row.Entry
-t48 = List._∷_ (16, row·14) (List._∷_ (17, row·53) (List._∷_ (18, row·14) (List._∷_ (19, row·56) (List._∷_ (20, row·16) (List._∷_ (21, row·59) (List._∷_ (22, row·18) (List._∷_ (23, row·62) (List._∷_ (24, row·19) (List._∷_ (25, row·65) (List._∷_ (26, row·20) (List._∷_ (27, row·68) (List._∷_ (28, row·18) (List._∷_ (29, row·71) (List._∷_ (30, row·22) (List._∷_ (31, row·74) List.[])))))))))))))))
+t48 = List._∷_ (16, row·14) (List._∷_ (17, row·53) (List._∷_ (18, row·14) (List._∷_ (19, row·56) (List._∷_ (20, row·16) (List._∷_ (21, row·59) (List._∷_ (22, row·18) (List._∷_ (23, row·62) (List._∷_ (24, row·19) (List._∷_ (25, row·65) (List._∷_ (26, row·20) (List._∷_ (27, row·68) (List._∷_ (28, row·18) (List._∷_ (29, row·71) (List._∷_ (30, row·22) (List._∷_
+    (31, row·74) List.[])))))))))))))))
 
 abbrev pub t49 : List.List Row.Entry
-t49 = List._∷_ (0, row·0) (List._∷_ (1, row·1) (List._∷_ (2, row·2) (List._∷_ (3, row·3) (List._∷_ (4, row·51) (List._∷_ (5, row·54) (List._∷_ (6, row·57) (List._∷_ (7, row·60) (List._∷_ (8, row·63) (List._∷_ (9, row·66) (List._∷_ (10, row·69) (List._∷_ (11, row·72) (List._∷_ (12, row·75) (List._∷_ (13, row·11) (List._∷_ (14, row·12) (List._∷_ (15, row·13) List.[])))))))))))))))
-
-abbrev pub t50 : List.List Row.Entry
-t50 = List._∷_ (32, row·76) (List._∷_ (33, row·24) (List._∷_ (34, row·25) (List._∷_ (35, row·26) (List._∷_ (36, row·27) (List._∷_ (37, row·26) (List._∷_ (38, row·27) (List._∷_ (39, row·28) (List._∷_ (40, row·29) (List._∷_ (41, row·30) (List._∷_ (42, row·27) (List._∷_ (43, row·31) (List._∷_ (44, row·27) (List._∷_ (45, row·32) (List._∷_ (46, row·33) (List._∷_ (47, row·18) List.[])))))))))))))))
-
-abbrev pub t51 : List.List Row.Entry
-t51 = List._∷_ (32, row·23) (List._∷_ (33, row·77) (List._∷_ (34, row·25) (List._∷_ (35, row·26) (List._∷_ (36, row·27) (List._∷_ (37, row·26) (List._∷_ (38, row·27) (List._∷_ (39, row·28) (List._∷_ (40, row·29) (List._∷_ (41, row·30) (List._∷_ (42, row·27) (List._∷_ (43, row·31) (List._∷_ (44, row·27) (List._∷_ (45, row·32) (List._∷_ (46, row·33) (List._∷_ (47, row·18) List.[])))))))))))))))
-
-abbrev pub t52 : List.List Row.Entry
-t52 = List._∷_ (0, row·0) (List._∷_ (1, row·1) (List._∷_ (2, row·2) (List._∷_ (3, row·3) (List._∷_ (4, row·51) (List._∷_ (5, row·54) (List._∷_ (6, row·57) (List._∷_ (7, row·60) (List._∷_ (8, row·63) (List._∷_ (9, row·66) (List._∷_ (10, row·69) (List._∷_ (11, row·72) (List._∷_ (12, row·75) (List._∷_ (13, row·78) (List._∷_ (14, row·12) (List._∷_ (15, row·13) List.[])))))))))))))))
-
-abbrev pub t53 : List.List Row.Entry
-t53 = List._∷_ (16, row·14) (List._∷_ (17, row·79) (List._∷_ (18, row·14) (List._∷_ (19, row·79) (List._∷_ (20, row·16) (List._∷_ (21, row·80) (List._∷_ (22, row·18) (List._∷_ (23, row·79) (List._∷_ (24, row·19) (List._∷_ (25, row·79) (List._∷_ (26, row·20) (List._∷_ (27, row·81) (List._∷_ (28, row·18) (List._∷_ (29, row·79) (List._∷_ (30, row·22) (List._∷_ (31, row·80) List.[])))))))))))))))
+t49 = List._∷_ (0, row·0) (List._∷_ (1, row·1) (List._∷_ (2, row·2) (List._∷_ (3, row·3) (List._∷_ (4, row·51) (List._∷_ (5, row·54) (List._∷_ (6, row·57) (List._∷_ (7, row·60) (List._∷_ (8, row·63) (List._∷_ (9, row·66) (List._∷_ (10, row·69) (List._∷_ (11, row·72) (List._∷_ (12, row·75) (List._∷_ (13, row·11) (List._∷_ (14, row·12) (List._∷_ (15, row·13)
+    List.[])))))))))))))))
 
 abbrev pub t54 : List.List Row.Entry
-t54 = List._∷_ (32, row·23) (List._∷_ (33, row·82) (List._∷_ (34, row·25) (List._∷_ (35, row·26) (List._∷_ (36, row·27) (List._∷_ (37, row·26) (List._∷_ (38, row·27) (List._∷_ (39, row·28) (List._∷_ (40, row·29) (List._∷_ (41, row·30) (List._∷_ (42, row·27) (List._∷_ (43, row·31) (List._∷_ (44, row·27) (List._∷_ (45, row·32) (List._∷_ (46, row·33) (List._∷_ (47, row·18) List.[])))))))))))))))
-
-abbrev pub t55 : List.List Row.Entry
-t55 = List._∷_ (0, row·0) (List._∷_ (1, row·1) (List._∷_ (2, row·2) (List._∷_ (3, row·3) (List._∷_ (4, row·38) (List._∷_ (5, row·54) (List._∷_ (6, row·57) (List._∷_ (7, row·60) (List._∷_ (8, row·63) (List._∷_ (9, row·66) (List._∷_ (10, row·69) (List._∷_ (11, row·72) (List._∷_ (12, row·75) (List._∷_ (13, row·78) (List._∷_ (14, row·12) (List._∷_ (15, row·13) List.[])))))))))))))))
-
-abbrev pub t56 : List.List Row.Entry
-t56 = List._∷_ (16, row·14) (List._∷_ (17, row·15) (List._∷_ (18, row·14) (List._∷_ (19, row·79) (List._∷_ (20, row·16) (List._∷_ (21, row·80) (List._∷_ (22, row·18) (List._∷_ (23, row·79) (List._∷_ (24, row·19) (List._∷_ (25, row·79) (List._∷_ (26, row·20) (List._∷_ (27, row·81) (List._∷_ (28, row·18) (List._∷_ (29, row·79) (List._∷_ (30, row·22) (List._∷_ (31, row·80) List.[])))))))))))))))
-
-abbrev pub t57 : List.List Row.Entry
-t57 = List._∷_ (0, row·0) (List._∷_ (1, row·1) (List._∷_ (2, row·2) (List._∷_ (3, row·3) (List._∷_ (4, row·38) (List._∷_ (5, row·38) (List._∷_ (6, row·57) (List._∷_ (7, row·60) (List._∷_ (8, row·63) (List._∷_ (9, row·66) (List._∷_ (10, row·69) (List._∷_ (11, row·72) (List._∷_ (12, row·75) (List._∷_ (13, row·78) (List._∷_ (14, row·12) (List._∷_ (15, row·13) List.[])))))))))))))))
-
-abbrev pub t58 : List.List Row.Entry
-t58 = List._∷_ (16, row·14) (List._∷_ (17, row·15) (List._∷_ (18, row·14) (List._∷_ (19, row·15) (List._∷_ (20, row·16) (List._∷_ (21, row·80) (List._∷_ (22, row·18) (List._∷_ (23, row·79) (List._∷_ (24, row·19) (List._∷_ (25, row·79) (List._∷_ (26, row·20) (List._∷_ (27, row·81) (List._∷_ (28, row·18) (List._∷_ (29, row·79) (List._∷_ (30, row·22) (List._∷_ (31, row·80) List.[])))))))))))))))
-
-abbrev pub t59 : List.List Row.Entry
-t59 = List._∷_ (0, row·0) (List._∷_ (1, row·1) (List._∷_ (2, row·2) (List._∷_ (3, row·3) (List._∷_ (4, row·38) (List._∷_ (5, row·38) (List._∷_ (6, row·40) (List._∷_ (7, row·60) (List._∷_ (8, row·63) (List._∷_ (9, row·66) (List._∷_ (10, row·69) (List._∷_ (11, row·72) (List._∷_ (12, row·75) (List._∷_ (13, row·78) (List._∷_ (14, row·12) (List._∷_ (15, row·13) List.[])))))))))))))))
-
-abbrev pub t60 : List.List Row.Entry
-t60 = List._∷_ (16, row·14) (List._∷_ (17, row·15) (List._∷_ (18, row·14) (List._∷_ (19, row·15) (List._∷_ (20, row·16) (List._∷_ (21, row·17) (List._∷_ (22, row·18) (List._∷_ (23, row·79) (List._∷_ (24, row·19) (List._∷_ (25, row·79) (List._∷_ (26, row·20) (List._∷_ (27, row·81) (List._∷_ (28, row·18) (List._∷_ (29, row·79) (List._∷_ (30, row·22) (List._∷_ (31, row·80) List.[])))))))))))))))
-
-abbrev pub t61 : List.List Row.Entry
-t61 = List._∷_ (0, row·0) (List._∷_ (1, row·1) (List._∷_ (2, row·2) (List._∷_ (3, row·3) (List._∷_ (4, row·38) (List._∷_ (5, row·38) (List._∷_ (6, row·40) (List._∷_ (7, row·42) (List._∷_ (8, row·63) (List._∷_ (9, row·66) (List._∷_ (10, row·69) (List._∷_ (11, row·72) (List._∷_ (12, row·75) (List._∷_ (13, row·78) (List._∷_ (14, row·12) (List._∷_ (15, row·13) List.[])))))))))))))))
-
-abbrev pub t62 : List.List Row.Entry
-t62 = List._∷_ (16, row·14) (List._∷_ (17, row·15) (List._∷_ (18, row·14) (List._∷_ (19, row·15) (List._∷_ (20, row·16) (List._∷_ (21, row·17) (List._∷_ (22, row·18) (List._∷_ (23, row·15) (List._∷_ (24, row·19) (List._∷_ (25, row·79) (List._∷_ (26, row·20) (List._∷_ (27, row·81) (List._∷_ (28, row·18) (List._∷_ (29, row·79) (List._∷_ (30, row·22) (List._∷_ (31, row·80) List.[])))))))))))))))
-
-abbrev pub t63 : List.List Row.Entry
-t63 = List._∷_ (0, row·0) (List._∷_ (1, row·1) (List._∷_ (2, row·2) (List._∷_ (3, row·3) (List._∷_ (4, row·38) (List._∷_ (5, row·38) (List._∷_ (6, row·40) (List._∷_ (7, row·42) (List._∷_ (8, row·44) (List._∷_ (9, row·66) (List._∷_ (10, row·69) (List._∷_ (11, row·72) (List._∷_ (12, row·75) (List._∷_ (13, row·78) (List._∷_ (14, row·12) (List._∷_ (15, row·13) List.[])))))))))))))))
-
-abbrev pub t64 : List.List Row.Entry
-t64 = List._∷_ (16, row·14) (List._∷_ (17, row·15) (List._∷_ (18, row·14) (List._∷_ (19, row·15) (List._∷_ (20, row·16) (List._∷_ (21, row·17) (List._∷_ (22, row·18) (List._∷_ (23, row·15) (List._∷_ (24, row·19) (List._∷_ (25, row·15) (List._∷_ (26, row·20) (List._∷_ (27, row·81) (List._∷_ (28, row·18) (List._∷_ (29, row·79) (List._∷_ (30, row·22) (List._∷_ (31, row·80) List.[])))))))))))))))
-
-abbrev pub t65 : List.List Row.Entry
-t65 = List._∷_ (0, row·0) (List._∷_ (1, row·1) (List._∷_ (2, row·2) (List._∷_ (3, row·3) (List._∷_ (4, row·38) (List._∷_ (5, row·38) (List._∷_ (6, row·40) (List._∷_ (7, row·42) (List._∷_ (8, row·44) (List._∷_ (9, row·46) (List._∷_ (10, row·69) (List._∷_ (11, row·72) (List._∷_ (12, row·75) (List._∷_ (13, row·78) (List._∷_ (14, row·12) (List._∷_ (15, row·13) List.[])))))))))))))))
-
-abbrev pub t66 : List.List Row.Entry
-t66 = List._∷_ (16, row·14) (List._∷_ (17, row·15) (List._∷_ (18, row·14) (List._∷_ (19, row·15) (List._∷_ (20, row·16) (List._∷_ (21, row·17) (List._∷_ (22, row·18) (List._∷_ (23, row·15) (List._∷_ (24, row·19) (List._∷_ (25, row·15) (List._∷_ (26, row·20) (List._∷_ (27, row·21) (List._∷_ (28, row·18) (List._∷_ (29, row·79) (List._∷_ (30, row·22) (List._∷_ (31, row·80) List.[])))))))))))))))
-
-abbrev pub t67 : List.List Row.Entry
-t67 = List._∷_ (0, row·0) (List._∷_ (1, row·1) (List._∷_ (2, row·2) (List._∷_ (3, row·3) (List._∷_ (4, row·38) (List._∷_ (5, row·38) (List._∷_ (6, row·40) (List._∷_ (7, row·42) (List._∷_ (8, row·44) (List._∷_ (9, row·46) (List._∷_ (10, row·42) (List._∷_ (11, row·72) (List._∷_ (12, row·75) (List._∷_ (13, row·78) (List._∷_ (14, row·12) (List._∷_ (15, row·13) List.[])))))))))))))))
-
-abbrev pub t68 : List.List Row.Entry
-t68 = List._∷_ (16, row·14) (List._∷_ (17, row·15) (List._∷_ (18, row·14) (List._∷_ (19, row·15) (List._∷_ (20, row·16) (List._∷_ (21, row·17) (List._∷_ (22, row·18) (List._∷_ (23, row·15) (List._∷_ (24, row·19) (List._∷_ (25, row·15) (List._∷_ (26, row·20) (List._∷_ (27, row·21) (List._∷_ (28, row·18) (List._∷_ (29, row·15) (List._∷_ (30, row·22) (List._∷_ (31, row·80) List.[])))))))))))))))
-
-abbrev pub t69 : List.List Row.Entry
-t69 = List._∷_ (0, row·0) (List._∷_ (1, row·1) (List._∷_ (2, row·2) (List._∷_ (3, row·3) (List._∷_ (4, row·38) (List._∷_ (5, row·38) (List._∷_ (6, row·40) (List._∷_ (7, row·42) (List._∷_ (8, row·44) (List._∷_ (9, row·46) (List._∷_ (10, row·42) (List._∷_ (11, row·48) (List._∷_ (12, row·75) (List._∷_ (13, row·78) (List._∷_ (14, row·12) (List._∷_ (15, row·13) List.[])))))))))))))))
-
-abbrev pub t70 : List.List Row.Entry
-t70 = List._∷_ (0, row·0) (List._∷_ (1, row·1) (List._∷_ (2, row·2) (List._∷_ (3, row·3) (List._∷_ (4, row·38) (List._∷_ (5, row·38) (List._∷_ (6, row·40) (List._∷_ (7, row·42) (List._∷_ (8, row·44) (List._∷_ (9, row·46) (List._∷_ (10, row·42) (List._∷_ (11, row·48) (List._∷_ (12, row·50) (List._∷_ (13, row·78) (List._∷_ (14, row·12) (List._∷_ (15, row·13) List.[])))))))))))))))
-
-abbrev pub t71 : List.List Row.Entry
-t71 = List._∷_ (0, row·0) (List._∷_ (1, row·1) (List._∷_ (2, row·2) (List._∷_ (3, row·3) (List._∷_ (4, row·38) (List._∷_ (5, row·38) (List._∷_ (6, row·40) (List._∷_ (7, row·42) (List._∷_ (8, row·44) (List._∷_ (9, row·46) (List._∷_ (10, row·42) (List._∷_ (11, row·48) (List._∷_ (12, row·50) (List._∷_ (13, row·78) (List._∷_ (14, row·2) (List._∷_ (15, row·13) List.[])))))))))))))))
+t54 = List._∷_ (32, row·23) (List._∷_ (33, row·82) (List._∷_ (34, row·25) (List._∷_ (35, row·26) (List._∷_ (36, row·27) (List._∷_ (37, row·26) (List._∷_ (38, row·27) (List._∷_ (39, row·28) (List._∷_ (40, row·29) (List._∷_ (41, row·30) (List._∷_ (42, row·27) (List._∷_ (43, row·31) (List._∷_ (44, row·27) (List._∷_ (45, row·32) (List._∷_ (46, row·33) (List._∷_
+    (47, row·18) List.[])))))))))))))))
 
 abbrev pub t72 : List.List Row.Entry
-t72 = List._∷_ (0, row·0) (List._∷_ (1, row·1) (List._∷_ (2, row·2) (List._∷_ (3, row·3) (List._∷_ (4, row·38) (List._∷_ (5, row·38) (List._∷_ (6, row·40) (List._∷_ (7, row·42) (List._∷_ (8, row·44) (List._∷_ (9, row·46) (List._∷_ (10, row·42) (List._∷_ (11, row·48) (List._∷_ (12, row·50) (List._∷_ (13, row·11) (List._∷_ (14, row·2) (List._∷_ (15, row·13) List.[])))))))))))))))
+t72 = List._∷_ (0, row·0) (List._∷_ (1, row·1) (List._∷_ (2, row·2) (List._∷_ (3, row·3) (List._∷_ (4, row·38) (List._∷_ (5, row·38) (List._∷_ (6, row·40) (List._∷_ (7, row·42) (List._∷_ (8, row·44) (List._∷_ (9, row·46) (List._∷_ (10, row·42) (List._∷_ (11, row·48) (List._∷_ (12, row·50) (List._∷_ (13, row·11) (List._∷_ (14, row·2) (List._∷_ (15, row·13)
+    List.[])))))))))))))))
 
 abbrev pub t73 : List.List Row.Entry
-t73 = List._∷_ (32, row·23) (List._∷_ (33, row·24) (List._∷_ (34, row·83) (List._∷_ (35, row·26) (List._∷_ (36, row·27) (List._∷_ (37, row·26) (List._∷_ (38, row·27) (List._∷_ (39, row·28) (List._∷_ (40, row·29) (List._∷_ (41, row·30) (List._∷_ (42, row·27) (List._∷_ (43, row·31) (List._∷_ (44, row·27) (List._∷_ (45, row·32) (List._∷_ (46, row·33) (List._∷_ (47, row·18) List.[])))))))))))))))
-
-abbrev pub t74 : List.List Row.Entry
-t74 = List._∷_ (0, row·0) (List._∷_ (1, row·1) (List._∷_ (2, row·2) (List._∷_ (3, row·3) (List._∷_ (4, row·4) (List._∷_ (5, row·38) (List._∷_ (6, row·40) (List._∷_ (7, row·42) (List._∷_ (8, row·44) (List._∷_ (9, row·46) (List._∷_ (10, row·42) (List._∷_ (11, row·48) (List._∷_ (12, row·50) (List._∷_ (13, row·11) (List._∷_ (14, row·2) (List._∷_ (15, row·13) List.[])))))))))))))))
-
-abbrev pub t75 : List.List Row.Entry
-t75 = List._∷_ (0, row·0) (List._∷_ (1, row·1) (List._∷_ (2, row·2) (List._∷_ (3, row·3) (List._∷_ (4, row·4) (List._∷_ (5, row·4) (List._∷_ (6, row·40) (List._∷_ (7, row·42) (List._∷_ (8, row·44) (List._∷_ (9, row·46) (List._∷_ (10, row·42) (List._∷_ (11, row·48) (List._∷_ (12, row·50) (List._∷_ (13, row·11) (List._∷_ (14, row·2) (List._∷_ (15, row·13) List.[])))))))))))))))
-
-abbrev pub t76 : List.List Row.Entry
-t76 = List._∷_ (0, row·0) (List._∷_ (1, row·1) (List._∷_ (2, row·2) (List._∷_ (3, row·3) (List._∷_ (4, row·4) (List._∷_ (5, row·4) (List._∷_ (6, row·5) (List._∷_ (7, row·42) (List._∷_ (8, row·44) (List._∷_ (9, row·46) (List._∷_ (10, row·42) (List._∷_ (11, row·48) (List._∷_ (12, row·50) (List._∷_ (13, row·11) (List._∷_ (14, row·2) (List._∷_ (15, row·13) List.[])))))))))))))))
-
-abbrev pub t77 : List.List Row.Entry
-t77 = List._∷_ (0, row·0) (List._∷_ (1, row·1) (List._∷_ (2, row·2) (List._∷_ (3, row·3) (List._∷_ (4, row·4) (List._∷_ (5, row·4) (List._∷_ (6, row·5) (List._∷_ (7, row·6) (List._∷_ (8, row·44) (List._∷_ (9, row·46) (List._∷_ (10, row·42) (List._∷_ (11, row·48) (List._∷_ (12, row·50) (List._∷_ (13, row·11) (List._∷_ (14, row·2) (List._∷_ (15, row·13) List.[])))))))))))))))
-
-abbrev pub t78 : List.List Row.Entry
-t78 = List._∷_ (0, row·0) (List._∷_ (1, row·1) (List._∷_ (2, row·2) (List._∷_ (3, row·3) (List._∷_ (4, row·4) (List._∷_ (5, row·4) (List._∷_ (6, row·5) (List._∷_ (7, row·6) (List._∷_ (8, row·7) (List._∷_ (9, row·46) (List._∷_ (10, row·42) (List._∷_ (11, row·48) (List._∷_ (12, row·50) (List._∷_ (13, row·11) (List._∷_ (14, row·2) (List._∷_ (15, row·13) List.[])))))))))))))))
-
-abbrev pub t79 : List.List Row.Entry
-t79 = List._∷_ (0, row·0) (List._∷_ (1, row·1) (List._∷_ (2, row·2) (List._∷_ (3, row·3) (List._∷_ (4, row·4) (List._∷_ (5, row·4) (List._∷_ (6, row·5) (List._∷_ (7, row·6) (List._∷_ (8, row·7) (List._∷_ (9, row·8) (List._∷_ (10, row·42) (List._∷_ (11, row·48) (List._∷_ (12, row·50) (List._∷_ (13, row·11) (List._∷_ (14, row·2) (List._∷_ (15, row·13) List.[])))))))))))))))
-
-abbrev pub t80 : List.List Row.Entry
-t80 = List._∷_ (0, row·0) (List._∷_ (1, row·1) (List._∷_ (2, row·2) (List._∷_ (3, row·3) (List._∷_ (4, row·4) (List._∷_ (5, row·4) (List._∷_ (6, row·5) (List._∷_ (7, row·6) (List._∷_ (8, row·7) (List._∷_ (9, row·8) (List._∷_ (10, row·6) (List._∷_ (11, row·48) (List._∷_ (12, row·50) (List._∷_ (13, row·11) (List._∷_ (14, row·2) (List._∷_ (15, row·13) List.[])))))))))))))))
-
-abbrev pub t81 : List.List Row.Entry
-t81 = List._∷_ (0, row·0) (List._∷_ (1, row·1) (List._∷_ (2, row·2) (List._∷_ (3, row·3) (List._∷_ (4, row·4) (List._∷_ (5, row·4) (List._∷_ (6, row·5) (List._∷_ (7, row·6) (List._∷_ (8, row·7) (List._∷_ (9, row·8) (List._∷_ (10, row·6) (List._∷_ (11, row·9) (List._∷_ (12, row·50) (List._∷_ (13, row·11) (List._∷_ (14, row·2) (List._∷_ (15, row·13) List.[])))))))))))))))
+t73 = List._∷_ (32, row·23) (List._∷_ (33, row·24) (List._∷_ (34, row·83) (List._∷_ (35, row·26) (List._∷_ (36, row·27) (List._∷_ (37, row·26) (List._∷_ (38, row·27) (List._∷_ (39, row·28) (List._∷_ (40, row·29) (List._∷_ (41, row·30) (List._∷_ (42, row·27) (List._∷_ (43, row·31) (List._∷_ (44, row·27) (List._∷_ (45, row·32) (List._∷_ (46, row·33) (List._∷_
+    (47, row·18) List.[])))))))))))))))
 
 abbrev pub t82 : List.List Row.Entry
-t82 = List._∷_ (0, row·0) (List._∷_ (1, row·1) (List._∷_ (2, row·2) (List._∷_ (3, row·3) (List._∷_ (4, row·4) (List._∷_ (5, row·4) (List._∷_ (6, row·5) (List._∷_ (7, row·6) (List._∷_ (8, row·7) (List._∷_ (9, row·8) (List._∷_ (10, row·6) (List._∷_ (11, row·9) (List._∷_ (12, row·10) (List._∷_ (13, row·11) (List._∷_ (14, row·2) (List._∷_ (15, row·13) List.[])))))))))))))))
-
-abbrev pub t83 : List.List Row.Entry
-t83 = List._∷_ (0, row·36) (List._∷_ (1, row·1) (List._∷_ (2, row·2) (List._∷_ (3, row·3) (List._∷_ (4, row·4) (List._∷_ (5, row·4) (List._∷_ (6, row·5) (List._∷_ (7, row·6) (List._∷_ (8, row·7) (List._∷_ (9, row·8) (List._∷_ (10, row·6) (List._∷_ (11, row·9) (List._∷_ (12, row·10) (List._∷_ (13, row·11) (List._∷_ (14, row·2) (List._∷_ (15, row·13) List.[])))))))))))))))
-
-abbrev pub t84 : List.List Row.Entry
-t84 = List._∷_ (0, row·36) (List._∷_ (1, row·1) (List._∷_ (2, row·12) (List._∷_ (3, row·3) (List._∷_ (4, row·4) (List._∷_ (5, row·4) (List._∷_ (6, row·5) (List._∷_ (7, row·6) (List._∷_ (8, row·7) (List._∷_ (9, row·8) (List._∷_ (10, row·6) (List._∷_ (11, row·9) (List._∷_ (12, row·10) (List._∷_ (13, row·11) (List._∷_ (14, row·2) (List._∷_ (15, row·13) List.[])))))))))))))))
+t82 = List._∷_ (0, row·0) (List._∷_ (1, row·1) (List._∷_ (2, row·2) (List._∷_ (3, row·3) (List._∷_ (4, row·4) (List._∷_ (5, row·4) (List._∷_ (6, row·5) (List._∷_ (7, row·6) (List._∷_ (8, row·7) (List._∷_ (9, row·8) (List._∷_ (10, row·6) (List._∷_ (11, row·9) (List._∷_ (12, row·10) (List._∷_ (13, row·11) (List._∷_ (14, row·2) (List._∷_ (15, row·13)
+    List.[])))))))))))))))
 
 abbrev pub t85 : List.List Row.Entry
-t85 = List._∷_ (0, row·0) (List._∷_ (1, row·1) (List._∷_ (2, row·2) (List._∷_ (3, row·3) (List._∷_ (4, row·84) (List._∷_ (5, row·38) (List._∷_ (6, row·40) (List._∷_ (7, row·42) (List._∷_ (8, row·44) (List._∷_ (9, row·46) (List._∷_ (10, row·42) (List._∷_ (11, row·48) (List._∷_ (12, row·50) (List._∷_ (13, row·11) (List._∷_ (14, row·2) (List._∷_ (15, row·13) List.[])))))))))))))))
-
-abbrev pub t86 : List.List Row.Entry
-t86 = List._∷_ (32, row·23) (List._∷_ (33, row·24) (List._∷_ (34, row·25) (List._∷_ (35, row·85) (List._∷_ (36, row·27) (List._∷_ (37, row·26) (List._∷_ (38, row·27) (List._∷_ (39, row·28) (List._∷_ (40, row·29) (List._∷_ (41, row·30) (List._∷_ (42, row·27) (List._∷_ (43, row·31) (List._∷_ (44, row·27) (List._∷_ (45, row·32) (List._∷_ (46, row·33) (List._∷_ (47, row·18) List.[])))))))))))))))
-
-abbrev pub t87 : List.List Row.Entry
-t87 = List._∷_ (32, row·23) (List._∷_ (33, row·24) (List._∷_ (34, row·25) (List._∷_ (35, row·26) (List._∷_ (36, row·86) (List._∷_ (37, row·26) (List._∷_ (38, row·27) (List._∷_ (39, row·28) (List._∷_ (40, row·29) (List._∷_ (41, row·30) (List._∷_ (42, row·27) (List._∷_ (43, row·31) (List._∷_ (44, row·27) (List._∷_ (45, row·32) (List._∷_ (46, row·33) (List._∷_ (47, row·18) List.[])))))))))))))))
+t85 = List._∷_ (0, row·0) (List._∷_ (1, row·1) (List._∷_ (2, row·2) (List._∷_ (3, row·3) (List._∷_ (4, row·84) (List._∷_ (5, row·38) (List._∷_ (6, row·40) (List._∷_ (7, row·42) (List._∷_ (8, row·44) (List._∷_ (9, row·46) (List._∷_ (10, row·42) (List._∷_ (11, row·48) (List._∷_ (12, row·50) (List._∷_ (13, row·11) (List._∷_ (14, row·2) (List._∷_ (15, row·13)
+    List.[])))))))))))))))
 
 abbrev pub t88 : List.List Row.Entry
-t88 = List._∷_ (0, row·0) (List._∷_ (1, row·1) (List._∷_ (2, row·2) (List._∷_ (3, row·3) (List._∷_ (4, row·84) (List._∷_ (5, row·87) (List._∷_ (6, row·40) (List._∷_ (7, row·42) (List._∷_ (8, row·44) (List._∷_ (9, row·46) (List._∷_ (10, row·42) (List._∷_ (11, row·48) (List._∷_ (12, row·50) (List._∷_ (13, row·11) (List._∷_ (14, row·2) (List._∷_ (15, row·13) List.[])))))))))))))))
-
-abbrev pub t89 : List.List Row.Entry
-t89 = List._∷_ (32, row·23) (List._∷_ (33, row·24) (List._∷_ (34, row·25) (List._∷_ (35, row·26) (List._∷_ (36, row·86) (List._∷_ (37, row·88) (List._∷_ (38, row·27) (List._∷_ (39, row·28) (List._∷_ (40, row·29) (List._∷_ (41, row·30) (List._∷_ (42, row·27) (List._∷_ (43, row·31) (List._∷_ (44, row·27) (List._∷_ (45, row·32) (List._∷_ (46, row·33) (List._∷_ (47, row·18) List.[])))))))))))))))
-
-abbrev pub t90 : List.List Row.Entry
-t90 = List._∷_ (32, row·23) (List._∷_ (33, row·24) (List._∷_ (34, row·25) (List._∷_ (35, row·26) (List._∷_ (36, row·86) (List._∷_ (37, row·26) (List._∷_ (38, row·89) (List._∷_ (39, row·28) (List._∷_ (40, row·29) (List._∷_ (41, row·30) (List._∷_ (42, row·27) (List._∷_ (43, row·31) (List._∷_ (44, row·27) (List._∷_ (45, row·32) (List._∷_ (46, row·33) (List._∷_ (47, row·18) List.[])))))))))))))))
+t88 = List._∷_ (0, row·0) (List._∷_ (1, row·1) (List._∷_ (2, row·2) (List._∷_ (3, row·3) (List._∷_ (4, row·84) (List._∷_ (5, row·87) (List._∷_ (6, row·40) (List._∷_ (7, row·42) (List._∷_ (8, row·44) (List._∷_ (9, row·46) (List._∷_ (10, row·42) (List._∷_ (11, row·48) (List._∷_ (12, row·50) (List._∷_ (13, row·11) (List._∷_ (14, row·2) (List._∷_ (15, row·13)
+    List.[])))))))))))))))
 
 abbrev pub t91 : List.List Row.Entry
-t91 = List._∷_ (0, row·0) (List._∷_ (1, row·1) (List._∷_ (2, row·2) (List._∷_ (3, row·3) (List._∷_ (4, row·84) (List._∷_ (5, row·87) (List._∷_ (6, row·90) (List._∷_ (7, row·42) (List._∷_ (8, row·44) (List._∷_ (9, row·46) (List._∷_ (10, row·42) (List._∷_ (11, row·48) (List._∷_ (12, row·50) (List._∷_ (13, row·11) (List._∷_ (14, row·2) (List._∷_ (15, row·13) List.[])))))))))))))))
-
-abbrev pub t92 : List.List Row.Entry
-t92 = List._∷_ (32, row·23) (List._∷_ (33, row·24) (List._∷_ (34, row·25) (List._∷_ (35, row·26) (List._∷_ (36, row·86) (List._∷_ (37, row·26) (List._∷_ (38, row·89) (List._∷_ (39, row·91) (List._∷_ (40, row·29) (List._∷_ (41, row·30) (List._∷_ (42, row·27) (List._∷_ (43, row·31) (List._∷_ (44, row·27) (List._∷_ (45, row·32) (List._∷_ (46, row·33) (List._∷_ (47, row·18) List.[])))))))))))))))
-
-abbrev pub t93 : List.List Row.Entry
-t93 = List._∷_ (32, row·23) (List._∷_ (33, row·24) (List._∷_ (34, row·25) (List._∷_ (35, row·26) (List._∷_ (36, row·86) (List._∷_ (37, row·26) (List._∷_ (38, row·89) (List._∷_ (39, row·28) (List._∷_ (40, row·92) (List._∷_ (41, row·30) (List._∷_ (42, row·27) (List._∷_ (43, row·31) (List._∷_ (44, row·27) (List._∷_ (45, row·32) (List._∷_ (46, row·33) (List._∷_ (47, row·18) List.[])))))))))))))))
+t91 = List._∷_ (0, row·0) (List._∷_ (1, row·1) (List._∷_ (2, row·2) (List._∷_ (3, row·3) (List._∷_ (4, row·84) (List._∷_ (5, row·87) (List._∷_ (6, row·90) (List._∷_ (7, row·42) (List._∷_ (8, row·44) (List._∷_ (9, row·46) (List._∷_ (10, row·42) (List._∷_ (11, row·48) (List._∷_ (12, row·50) (List._∷_ (13, row·11) (List._∷_ (14, row·2) (List._∷_ (15, row·13)
+    List.[])))))))))))))))
 
 abbrev pub t94 : List.List Row.Entry
-t94 = List._∷_ (0, row·0) (List._∷_ (1, row·1) (List._∷_ (2, row·2) (List._∷_ (3, row·3) (List._∷_ (4, row·84) (List._∷_ (5, row·87) (List._∷_ (6, row·90) (List._∷_ (7, row·93) (List._∷_ (8, row·44) (List._∷_ (9, row·46) (List._∷_ (10, row·42) (List._∷_ (11, row·48) (List._∷_ (12, row·50) (List._∷_ (13, row·11) (List._∷_ (14, row·2) (List._∷_ (15, row·13) List.[])))))))))))))))
-
-abbrev pub t95 : List.List Row.Entry
-t95 = List._∷_ (32, row·23) (List._∷_ (33, row·24) (List._∷_ (34, row·25) (List._∷_ (35, row·26) (List._∷_ (36, row·86) (List._∷_ (37, row·26) (List._∷_ (38, row·89) (List._∷_ (39, row·28) (List._∷_ (40, row·92) (List._∷_ (41, row·94) (List._∷_ (42, row·27) (List._∷_ (43, row·31) (List._∷_ (44, row·27) (List._∷_ (45, row·32) (List._∷_ (46, row·33) (List._∷_ (47, row·18) List.[])))))))))))))))
-
-abbrev pub t96 : List.List Row.Entry
-t96 = List._∷_ (32, row·23) (List._∷_ (33, row·24) (List._∷_ (34, row·25) (List._∷_ (35, row·26) (List._∷_ (36, row·86) (List._∷_ (37, row·26) (List._∷_ (38, row·89) (List._∷_ (39, row·28) (List._∷_ (40, row·92) (List._∷_ (41, row·30) (List._∷_ (42, row·95) (List._∷_ (43, row·31) (List._∷_ (44, row·27) (List._∷_ (45, row·32) (List._∷_ (46, row·33) (List._∷_ (47, row·18) List.[])))))))))))))))
+t94 = List._∷_ (0, row·0) (List._∷_ (1, row·1) (List._∷_ (2, row·2) (List._∷_ (3, row·3) (List._∷_ (4, row·84) (List._∷_ (5, row·87) (List._∷_ (6, row·90) (List._∷_ (7, row·93) (List._∷_ (8, row·44) (List._∷_ (9, row·46) (List._∷_ (10, row·42) (List._∷_ (11, row·48) (List._∷_ (12, row·50) (List._∷_ (13, row·11) (List._∷_ (14, row·2) (List._∷_ (15, row·13)
+    List.[])))))))))))))))
 
 abbrev pub t97 : List.List Row.Entry
-t97 = List._∷_ (0, row·0) (List._∷_ (1, row·1) (List._∷_ (2, row·2) (List._∷_ (3, row·3) (List._∷_ (4, row·84) (List._∷_ (5, row·87) (List._∷_ (6, row·90) (List._∷_ (7, row·93) (List._∷_ (8, row·96) (List._∷_ (9, row·46) (List._∷_ (10, row·42) (List._∷_ (11, row·48) (List._∷_ (12, row·50) (List._∷_ (13, row·11) (List._∷_ (14, row·2) (List._∷_ (15, row·13) List.[])))))))))))))))
-
-abbrev pub t98 : List.List Row.Entry
-t98 = List._∷_ (32, row·23) (List._∷_ (33, row·24) (List._∷_ (34, row·25) (List._∷_ (35, row·26) (List._∷_ (36, row·86) (List._∷_ (37, row·26) (List._∷_ (38, row·89) (List._∷_ (39, row·28) (List._∷_ (40, row·92) (List._∷_ (41, row·30) (List._∷_ (42, row·95) (List._∷_ (43, row·97) (List._∷_ (44, row·27) (List._∷_ (45, row·32) (List._∷_ (46, row·33) (List._∷_ (47, row·18) List.[])))))))))))))))
-
-abbrev pub t99 : List.List Row.Entry
-t99 = List._∷_ (32, row·23) (List._∷_ (33, row·24) (List._∷_ (34, row·25) (List._∷_ (35, row·26) (List._∷_ (36, row·86) (List._∷_ (37, row·26) (List._∷_ (38, row·89) (List._∷_ (39, row·28) (List._∷_ (40, row·92) (List._∷_ (41, row·30) (List._∷_ (42, row·95) (List._∷_ (43, row·31) (List._∷_ (44, row·98) (List._∷_ (45, row·32) (List._∷_ (46, row·33) (List._∷_ (47, row·18) List.[])))))))))))))))
+t97 = List._∷_ (0, row·0) (List._∷_ (1, row·1) (List._∷_ (2, row·2) (List._∷_ (3, row·3) (List._∷_ (4, row·84) (List._∷_ (5, row·87) (List._∷_ (6, row·90) (List._∷_ (7, row·93) (List._∷_ (8, row·96) (List._∷_ (9, row·46) (List._∷_ (10, row·42) (List._∷_ (11, row·48) (List._∷_ (12, row·50) (List._∷_ (13, row·11) (List._∷_ (14, row·2) (List._∷_ (15, row·13)
+    List.[])))))))))))))))
 
 abbrev pub t100 : List.List Row.Entry
-t100 = List._∷_ (0, row·0) (List._∷_ (1, row·1) (List._∷_ (2, row·2) (List._∷_ (3, row·3) (List._∷_ (4, row·84) (List._∷_ (5, row·87) (List._∷_ (6, row·90) (List._∷_ (7, row·93) (List._∷_ (8, row·96) (List._∷_ (9, row·99) (List._∷_ (10, row·42) (List._∷_ (11, row·48) (List._∷_ (12, row·50) (List._∷_ (13, row·11) (List._∷_ (14, row·2) (List._∷_ (15, row·13) List.[])))))))))))))))
-
-abbrev pub t101 : List.List Row.Entry
-t101 = List._∷_ (32, row·23) (List._∷_ (33, row·24) (List._∷_ (34, row·25) (List._∷_ (35, row·26) (List._∷_ (36, row·86) (List._∷_ (37, row·26) (List._∷_ (38, row·89) (List._∷_ (39, row·28) (List._∷_ (40, row·92) (List._∷_ (41, row·30) (List._∷_ (42, row·95) (List._∷_ (43, row·31) (List._∷_ (44, row·98) (List._∷_ (45, row·100) (List._∷_ (46, row·33) (List._∷_ (47, row·18) List.[])))))))))))))))
+t100 = List._∷_ (0, row·0) (List._∷_ (1, row·1) (List._∷_ (2, row·2) (List._∷_ (3, row·3) (List._∷_ (4, row·84) (List._∷_ (5, row·87) (List._∷_ (6, row·90) (List._∷_ (7, row·93) (List._∷_ (8, row·96) (List._∷_ (9, row·99) (List._∷_ (10, row·42) (List._∷_ (11, row·48) (List._∷_ (12, row·50) (List._∷_ (13, row·11) (List._∷_ (14, row·2) (List._∷_ (15, row·13)
+    List.[])))))))))))))))
 
 abbrev pub t102 : List.List Row.Entry
-t102 = List._∷_ (32, row·23) (List._∷_ (33, row·24) (List._∷_ (34, row·25) (List._∷_ (35, row·26) (List._∷_ (36, row·86) (List._∷_ (37, row·26) (List._∷_ (38, row·89) (List._∷_ (39, row·28) (List._∷_ (40, row·92) (List._∷_ (41, row·30) (List._∷_ (42, row·95) (List._∷_ (43, row·31) (List._∷_ (44, row·98) (List._∷_ (45, row·32) (List._∷_ (46, row·101) (List._∷_ (47, row·18) List.[])))))))))))))))
+t102 = List._∷_ (32, row·23) (List._∷_ (33, row·24) (List._∷_ (34, row·25) (List._∷_ (35, row·26) (List._∷_ (36, row·86) (List._∷_ (37, row·26) (List._∷_ (38, row·89) (List._∷_ (39, row·28) (List._∷_ (40, row·92) (List._∷_ (41, row·30) (List._∷_ (42, row·95) (List._∷_ (43, row·31) (List._∷_ (44, row·98) (List._∷_ (45, row·32) (List._∷_ (46, row·101)
+    (List._∷_ (47, row·18) List.[])))))))))))))))
 
 abbrev pub t103 : List.List Row.Entry
-t103 = List._∷_ (0, row·0) (List._∷_ (1, row·1) (List._∷_ (2, row·2) (List._∷_ (3, row·3) (List._∷_ (4, row·84) (List._∷_ (5, row·87) (List._∷_ (6, row·90) (List._∷_ (7, row·93) (List._∷_ (8, row·96) (List._∷_ (9, row·99) (List._∷_ (10, row·102) (List._∷_ (11, row·48) (List._∷_ (12, row·50) (List._∷_ (13, row·11) (List._∷_ (14, row·2) (List._∷_ (15, row·13) List.[])))))))))))))))
-
-abbrev pub t104 : List.List Row.Entry
-t104 = List._∷_ (32, row·23) (List._∷_ (33, row·24) (List._∷_ (34, row·25) (List._∷_ (35, row·26) (List._∷_ (36, row·86) (List._∷_ (37, row·26) (List._∷_ (38, row·89) (List._∷_ (39, row·28) (List._∷_ (40, row·92) (List._∷_ (41, row·30) (List._∷_ (42, row·95) (List._∷_ (43, row·31) (List._∷_ (44, row·98) (List._∷_ (45, row·32) (List._∷_ (46, row·101) (List._∷_ (47, row·103) List.[])))))))))))))))
-
-abbrev pub t105 : List.List Row.Entry
-t105 = List._∷_ (48, row·104) (List._∷_ (49, row·22) (List._∷_ (50, row·17) (List._∷_ (51, row·34) (List._∷_ (52, row·35) List.[]))))
+t103 = List._∷_ (0, row·0) (List._∷_ (1, row·1) (List._∷_ (2, row·2) (List._∷_ (3, row·3) (List._∷_ (4, row·84) (List._∷_ (5, row·87) (List._∷_ (6, row·90) (List._∷_ (7, row·93) (List._∷_ (8, row·96) (List._∷_ (9, row·99) (List._∷_ (10, row·102) (List._∷_ (11, row·48) (List._∷_ (12, row·50) (List._∷_ (13, row·11) (List._∷_ (14, row·2) (List._∷_ (15, row·13)
+    List.[])))))))))))))))
 
 abbrev pub t106 : List.List Row.Entry
-t106 = List._∷_ (0, row·0) (List._∷_ (1, row·1) (List._∷_ (2, row·2) (List._∷_ (3, row·3) (List._∷_ (4, row·84) (List._∷_ (5, row·87) (List._∷_ (6, row·90) (List._∷_ (7, row·93) (List._∷_ (8, row·96) (List._∷_ (9, row·99) (List._∷_ (10, row·102) (List._∷_ (11, row·105) (List._∷_ (12, row·50) (List._∷_ (13, row·11) (List._∷_ (14, row·2) (List._∷_ (15, row·13) List.[])))))))))))))))
-
-abbrev pub t107 : List.List Row.Entry
-t107 = List._∷_ (48, row·104) (List._∷_ (49, row·106) (List._∷_ (50, row·17) (List._∷_ (51, row·34) (List._∷_ (52, row·35) List.[]))))
-
-abbrev pub t108 : List.List Row.Entry
-t108 = List._∷_ (48, row·104) (List._∷_ (49, row·22) (List._∷_ (50, row·107) (List._∷_ (51, row·34) (List._∷_ (52, row·35) List.[]))))
+t106 = List._∷_ (0, row·0) (List._∷_ (1, row·1) (List._∷_ (2, row·2) (List._∷_ (3, row·3) (List._∷_ (4, row·84) (List._∷_ (5, row·87) (List._∷_ (6, row·90) (List._∷_ (7, row·93) (List._∷_ (8, row·96) (List._∷_ (9, row·99) (List._∷_ (10, row·102) (List._∷_ (11, row·105) (List._∷_ (12, row·50) (List._∷_ (13, row·11) (List._∷_ (14, row·2) (List._∷_ (15, row·13)
+    List.[])))))))))))))))
 
 abbrev pub t109 : List.List Row.Entry
-t109 = List._∷_ (0, row·0) (List._∷_ (1, row·1) (List._∷_ (2, row·2) (List._∷_ (3, row·3) (List._∷_ (4, row·84) (List._∷_ (5, row·87) (List._∷_ (6, row·90) (List._∷_ (7, row·93) (List._∷_ (8, row·96) (List._∷_ (9, row·99) (List._∷_ (10, row·102) (List._∷_ (11, row·105) (List._∷_ (12, row·108) (List._∷_ (13, row·11) (List._∷_ (14, row·2) (List._∷_ (15, row·13) List.[])))))))))))))))
-
-abbrev pub t110 : List.List Row.Entry
-t110 = List._∷_ (48, row·104) (List._∷_ (49, row·22) (List._∷_ (50, row·107) (List._∷_ (51, row·109) (List._∷_ (52, row·35) List.[]))))
-
-abbrev pub t111 : List.List Row.Entry
-t111 = List._∷_ (48, row·104) (List._∷_ (49, row·22) (List._∷_ (50, row·107) (List._∷_ (51, row·34) (List._∷_ (52, row·110) List.[]))))
+t109 = List._∷_ (0, row·0) (List._∷_ (1, row·1) (List._∷_ (2, row·2) (List._∷_ (3, row·3) (List._∷_ (4, row·84) (List._∷_ (5, row·87) (List._∷_ (6, row·90) (List._∷_ (7, row·93) (List._∷_ (8, row·96) (List._∷_ (9, row·99) (List._∷_ (10, row·102) (List._∷_ (11, row·105) (List._∷_ (12, row·108) (List._∷_ (13, row·11) (List._∷_ (14, row·2) (List._∷_
+    (15, row·13) List.[])))))))))))))))
 
 abbrev pub t112 : List.List Row.Entry
-t112 = List._∷_ (0, row·36) (List._∷_ (1, row·1) (List._∷_ (2, row·2) (List._∷_ (3, row·3) (List._∷_ (4, row·84) (List._∷_ (5, row·87) (List._∷_ (6, row·90) (List._∷_ (7, row·93) (List._∷_ (8, row·96) (List._∷_ (9, row·99) (List._∷_ (10, row·102) (List._∷_ (11, row·105) (List._∷_ (12, row·108) (List._∷_ (13, row·11) (List._∷_ (14, row·2) (List._∷_ (15, row·13) List.[])))))))))))))))
+t112 = List._∷_ (0, row·36) (List._∷_ (1, row·1) (List._∷_ (2, row·2) (List._∷_ (3, row·3) (List._∷_ (4, row·84) (List._∷_ (5, row·87) (List._∷_ (6, row·90) (List._∷_ (7, row·93) (List._∷_ (8, row·96) (List._∷_ (9, row·99) (List._∷_ (10, row·102) (List._∷_ (11, row·105) (List._∷_ (12, row·108) (List._∷_ (13, row·11) (List._∷_ (14, row·2) (List._∷_
+    (15, row·13) List.[])))))))))))))))
 
 abbrev pub t113 : List.List Row.Entry
 t113 = List._∷_ (48, row·79) (List._∷_ (49, row·22) (List._∷_ (50, row·80) (List._∷_ (51, row·34) (List._∷_ (52, row·110) List.[]))))
 
-abbrev pub t114 : List.List Row.Entry
-t114 = List._∷_ (32, row·23) (List._∷_ (33, row·24) (List._∷_ (34, row·25) (List._∷_ (35, row·26) (List._∷_ (36, row·27) (List._∷_ (37, row·26) (List._∷_ (38, row·89) (List._∷_ (39, row·28) (List._∷_ (40, row·92) (List._∷_ (41, row·30) (List._∷_ (42, row·95) (List._∷_ (43, row·31) (List._∷_ (44, row·98) (List._∷_ (45, row·32) (List._∷_ (46, row·101) (List._∷_ (47, row·18) List.[])))))))))))))))
-
-abbrev pub t115 : List.List Row.Entry
-t115 = List._∷_ (32, row·23) (List._∷_ (33, row·24) (List._∷_ (34, row·25) (List._∷_ (35, row·26) (List._∷_ (36, row·27) (List._∷_ (37, row·26) (List._∷_ (38, row·27) (List._∷_ (39, row·28) (List._∷_ (40, row·92) (List._∷_ (41, row·30) (List._∷_ (42, row·95) (List._∷_ (43, row·31) (List._∷_ (44, row·98) (List._∷_ (45, row·32) (List._∷_ (46, row·101) (List._∷_ (47, row·18) List.[])))))))))))))))
-
-abbrev pub t116 : List.List Row.Entry
-t116 = List._∷_ (32, row·23) (List._∷_ (33, row·24) (List._∷_ (34, row·25) (List._∷_ (35, row·26) (List._∷_ (36, row·27) (List._∷_ (37, row·26) (List._∷_ (38, row·27) (List._∷_ (39, row·28) (List._∷_ (40, row·29) (List._∷_ (41, row·30) (List._∷_ (42, row·95) (List._∷_ (43, row·31) (List._∷_ (44, row·98) (List._∷_ (45, row·32) (List._∷_ (46, row·101) (List._∷_ (47, row·18) List.[])))))))))))))))
-
-abbrev pub t117 : List.List Row.Entry
-t117 = List._∷_ (32, row·23) (List._∷_ (33, row·24) (List._∷_ (34, row·25) (List._∷_ (35, row·26) (List._∷_ (36, row·27) (List._∷_ (37, row·26) (List._∷_ (38, row·27) (List._∷_ (39, row·28) (List._∷_ (40, row·29) (List._∷_ (41, row·30) (List._∷_ (42, row·27) (List._∷_ (43, row·31) (List._∷_ (44, row·98) (List._∷_ (45, row·32) (List._∷_ (46, row·101) (List._∷_ (47, row·18) List.[])))))))))))))))
-
-abbrev pub t118 : List.List Row.Entry
-t118 = List._∷_ (32, row·23) (List._∷_ (33, row·24) (List._∷_ (34, row·25) (List._∷_ (35, row·26) (List._∷_ (36, row·27) (List._∷_ (37, row·26) (List._∷_ (38, row·27) (List._∷_ (39, row·28) (List._∷_ (40, row·29) (List._∷_ (41, row·30) (List._∷_ (42, row·27) (List._∷_ (43, row·31) (List._∷_ (44, row·27) (List._∷_ (45, row·32) (List._∷_ (46, row·101) (List._∷_ (47, row·18) List.[])))))))))))))))
-
 abbrev pub t119 : List.List Row.Entry
 t119 = List._∷_ (48, row·79) (List._∷_ (49, row·22) (List._∷_ (50, row·80) (List._∷_ (51, row·34) (List._∷_ (52, row·35) List.[]))))
-
-abbrev pub t120 : List.List Row.Entry
-t120 = List._∷_ (0, row·36) (List._∷_ (1, row·1) (List._∷_ (2, row·2) (List._∷_ (3, row·3) (List._∷_ (4, row·84) (List._∷_ (5, row·87) (List._∷_ (6, row·90) (List._∷_ (7, row·93) (List._∷_ (8, row·96) (List._∷_ (9, row·99) (List._∷_ (10, row·102) (List._∷_ (11, row·105) (List._∷_ (12, row·108) (List._∷_ (13, row·11) (List._∷_ (14, row·12) (List._∷_ (15, row·13) List.[])))))))))))))))
-
-abbrev pub t121 : List.List Row.Entry
-t121 = List._∷_ (0, row·36) (List._∷_ (1, row·1) (List._∷_ (2, row·2) (List._∷_ (3, row·3) (List._∷_ (4, row·38) (List._∷_ (5, row·87) (List._∷_ (6, row·90) (List._∷_ (7, row·93) (List._∷_ (8, row·96) (List._∷_ (9, row·99) (List._∷_ (10, row·102) (List._∷_ (11, row·105) (List._∷_ (12, row·108) (List._∷_ (13, row·11) (List._∷_ (14, row·12) (List._∷_ (15, row·13) List.[])))))))))))))))
-
-abbrev pub t122 : List.List Row.Entry
-t122 = List._∷_ (0, row·36) (List._∷_ (1, row·1) (List._∷_ (2, row·2) (List._∷_ (3, row·3) (List._∷_ (4, row·4) (List._∷_ (5, row·87) (List._∷_ (6, row·90) (List._∷_ (7, row·93) (List._∷_ (8, row·96) (List._∷_ (9, row·99) (List._∷_ (10, row·102) (List._∷_ (11, row·105) (List._∷_ (12, row·108) (List._∷_ (13, row·11) (List._∷_ (14, row·12) (List._∷_ (15, row·13) List.[])))))))))))))))
-
-abbrev pub t123 : List.List Row.Entry
-t123 = List._∷_ (0, row·36) (List._∷_ (1, row·1) (List._∷_ (2, row·2) (List._∷_ (3, row·3) (List._∷_ (4, row·4) (List._∷_ (5, row·38) (List._∷_ (6, row·90) (List._∷_ (7, row·93) (List._∷_ (8, row·96) (List._∷_ (9, row·99) (List._∷_ (10, row·102) (List._∷_ (11, row·105) (List._∷_ (12, row·108) (List._∷_ (13, row·11) (List._∷_ (14, row·12) (List._∷_ (15, row·13) List.[])))))))))))))))
-
-abbrev pub t124 : List.List Row.Entry
-t124 = List._∷_ (0, row·36) (List._∷_ (1, row·1) (List._∷_ (2, row·2) (List._∷_ (3, row·3) (List._∷_ (4, row·4) (List._∷_ (5, row·4) (List._∷_ (6, row·90) (List._∷_ (7, row·93) (List._∷_ (8, row·96) (List._∷_ (9, row·99) (List._∷_ (10, row·102) (List._∷_ (11, row·105) (List._∷_ (12, row·108) (List._∷_ (13, row·11) (List._∷_ (14, row·12) (List._∷_ (15, row·13) List.[])))))))))))))))
-
-abbrev pub t125 : List.List Row.Entry
-t125 = List._∷_ (0, row·36) (List._∷_ (1, row·1) (List._∷_ (2, row·2) (List._∷_ (3, row·3) (List._∷_ (4, row·4) (List._∷_ (5, row·4) (List._∷_ (6, row·40) (List._∷_ (7, row·93) (List._∷_ (8, row·96) (List._∷_ (9, row·99) (List._∷_ (10, row·102) (List._∷_ (11, row·105) (List._∷_ (12, row·108) (List._∷_ (13, row·11) (List._∷_ (14, row·12) (List._∷_ (15, row·13) List.[])))))))))))))))
-
-abbrev pub t126 : List.List Row.Entry
-t126 = List._∷_ (0, row·36) (List._∷_ (1, row·1) (List._∷_ (2, row·2) (List._∷_ (3, row·3) (List._∷_ (4, row·4) (List._∷_ (5, row·4) (List._∷_ (6, row·5) (List._∷_ (7, row·93) (List._∷_ (8, row·96) (List._∷_ (9, row·99) (List._∷_ (10, row·102) (List._∷_ (11, row·105) (List._∷_ (12, row·108) (List._∷_ (13, row·11) (List._∷_ (14, row·12) (List._∷_ (15, row·13) List.[])))))))))))))))
-
-abbrev pub t127 : List.List Row.Entry
-t127 = List._∷_ (0, row·36) (List._∷_ (1, row·1) (List._∷_ (2, row·2) (List._∷_ (3, row·3) (List._∷_ (4, row·4) (List._∷_ (5, row·4) (List._∷_ (6, row·5) (List._∷_ (7, row·42) (List._∷_ (8, row·96) (List._∷_ (9, row·99) (List._∷_ (10, row·102) (List._∷_ (11, row·105) (List._∷_ (12, row·108) (List._∷_ (13, row·11) (List._∷_ (14, row·12) (List._∷_ (15, row·13) List.[])))))))))))))))
-
-abbrev pub t128 : List.List Row.Entry
-t128 = List._∷_ (0, row·36) (List._∷_ (1, row·1) (List._∷_ (2, row·2) (List._∷_ (3, row·3) (List._∷_ (4, row·4) (List._∷_ (5, row·4) (List._∷_ (6, row·5) (List._∷_ (7, row·6) (List._∷_ (8, row·96) (List._∷_ (9, row·99) (List._∷_ (10, row·102) (List._∷_ (11, row·105) (List._∷_ (12, row·108) (List._∷_ (13, row·11) (List._∷_ (14, row·12) (List._∷_ (15, row·13) List.[])))))))))))))))
-
-abbrev pub t129 : List.List Row.Entry
-t129 = List._∷_ (0, row·36) (List._∷_ (1, row·1) (List._∷_ (2, row·2) (List._∷_ (3, row·3) (List._∷_ (4, row·4) (List._∷_ (5, row·4) (List._∷_ (6, row·5) (List._∷_ (7, row·6) (List._∷_ (8, row·44) (List._∷_ (9, row·99) (List._∷_ (10, row·102) (List._∷_ (11, row·105) (List._∷_ (12, row·108) (List._∷_ (13, row·11) (List._∷_ (14, row·12) (List._∷_ (15, row·13) List.[])))))))))))))))
-
-abbrev pub t130 : List.List Row.Entry
-t130 = List._∷_ (0, row·36) (List._∷_ (1, row·1) (List._∷_ (2, row·2) (List._∷_ (3, row·3) (List._∷_ (4, row·4) (List._∷_ (5, row·4) (List._∷_ (6, row·5) (List._∷_ (7, row·6) (List._∷_ (8, row·7) (List._∷_ (9, row·99) (List._∷_ (10, row·102) (List._∷_ (11, row·105) (List._∷_ (12, row·108) (List._∷_ (13, row·11) (List._∷_ (14, row·12) (List._∷_ (15, row·13) List.[])))))))))))))))
-
-abbrev pub t131 : List.List Row.Entry
-t131 = List._∷_ (0, row·36) (List._∷_ (1, row·1) (List._∷_ (2, row·2) (List._∷_ (3, row·3) (List._∷_ (4, row·4) (List._∷_ (5, row·4) (List._∷_ (6, row·5) (List._∷_ (7, row·6) (List._∷_ (8, row·7) (List._∷_ (9, row·46) (List._∷_ (10, row·102) (List._∷_ (11, row·105) (List._∷_ (12, row·108) (List._∷_ (13, row·11) (List._∷_ (14, row·12) (List._∷_ (15, row·13) List.[])))))))))))))))
-
-abbrev pub t132 : List.List Row.Entry
-t132 = List._∷_ (0, row·36) (List._∷_ (1, row·1) (List._∷_ (2, row·2) (List._∷_ (3, row·3) (List._∷_ (4, row·4) (List._∷_ (5, row·4) (List._∷_ (6, row·5) (List._∷_ (7, row·6) (List._∷_ (8, row·7) (List._∷_ (9, row·8) (List._∷_ (10, row·102) (List._∷_ (11, row·105) (List._∷_ (12, row·108) (List._∷_ (13, row·11) (List._∷_ (14, row·12) (List._∷_ (15, row·13) List.[])))))))))))))))
-
-abbrev pub t133 : List.List Row.Entry
-t133 = List._∷_ (0, row·36) (List._∷_ (1, row·1) (List._∷_ (2, row·2) (List._∷_ (3, row·3) (List._∷_ (4, row·4) (List._∷_ (5, row·4) (List._∷_ (6, row·5) (List._∷_ (7, row·6) (List._∷_ (8, row·7) (List._∷_ (9, row·8) (List._∷_ (10, row·42) (List._∷_ (11, row·105) (List._∷_ (12, row·108) (List._∷_ (13, row·11) (List._∷_ (14, row·12) (List._∷_ (15, row·13) List.[])))))))))))))))
 
 abbrev pub t134 : List.List Row.Entry
 t134 = List._∷_ (48, row·15) (List._∷_ (49, row·22) (List._∷_ (50, row·80) (List._∷_ (51, row·34) (List._∷_ (52, row·35) List.[]))))
 
-abbrev pub t135 : List.List Row.Entry
-t135 = List._∷_ (0, row·36) (List._∷_ (1, row·1) (List._∷_ (2, row·2) (List._∷_ (3, row·3) (List._∷_ (4, row·4) (List._∷_ (5, row·4) (List._∷_ (6, row·5) (List._∷_ (7, row·6) (List._∷_ (8, row·7) (List._∷_ (9, row·8) (List._∷_ (10, row·6) (List._∷_ (11, row·105) (List._∷_ (12, row·108) (List._∷_ (13, row·11) (List._∷_ (14, row·12) (List._∷_ (15, row·13) List.[])))))))))))))))
-
-abbrev pub t136 : List.List Row.Entry
-t136 = List._∷_ (0, row·36) (List._∷_ (1, row·1) (List._∷_ (2, row·2) (List._∷_ (3, row·3) (List._∷_ (4, row·4) (List._∷_ (5, row·4) (List._∷_ (6, row·5) (List._∷_ (7, row·6) (List._∷_ (8, row·7) (List._∷_ (9, row·8) (List._∷_ (10, row·6) (List._∷_ (11, row·48) (List._∷_ (12, row·108) (List._∷_ (13, row·11) (List._∷_ (14, row·12) (List._∷_ (15, row·13) List.[])))))))))))))))
-
-abbrev pub t137 : List.List Row.Entry
-t137 = List._∷_ (0, row·36) (List._∷_ (1, row·1) (List._∷_ (2, row·2) (List._∷_ (3, row·3) (List._∷_ (4, row·4) (List._∷_ (5, row·4) (List._∷_ (6, row·5) (List._∷_ (7, row·6) (List._∷_ (8, row·7) (List._∷_ (9, row·8) (List._∷_ (10, row·6) (List._∷_ (11, row·9) (List._∷_ (12, row·108) (List._∷_ (13, row·11) (List._∷_ (14, row·12) (List._∷_ (15, row·13) List.[])))))))))))))))
-
-abbrev pub t138 : List.List Row.Entry
-t138 = List._∷_ (0, row·36) (List._∷_ (1, row·1) (List._∷_ (2, row·2) (List._∷_ (3, row·3) (List._∷_ (4, row·4) (List._∷_ (5, row·4) (List._∷_ (6, row·5) (List._∷_ (7, row·6) (List._∷_ (8, row·7) (List._∷_ (9, row·8) (List._∷_ (10, row·6) (List._∷_ (11, row·9) (List._∷_ (12, row·50) (List._∷_ (13, row·11) (List._∷_ (14, row·12) (List._∷_ (15, row·13) List.[])))))))))))))))
-
-abbrev pub t139 : List.List Row.Entry
-t139 = List._∷_ (0, row·36) (List._∷_ (1, row·1) (List._∷_ (2, row·2) (List._∷_ (3, row·3) (List._∷_ (4, row·4) (List._∷_ (5, row·4) (List._∷_ (6, row·5) (List._∷_ (7, row·6) (List._∷_ (8, row·7) (List._∷_ (9, row·8) (List._∷_ (10, row·6) (List._∷_ (11, row·9) (List._∷_ (12, row·10) (List._∷_ (13, row·11) (List._∷_ (14, row·12) (List._∷_ (15, row·13) List.[])))))))))))))))
-
 abbrev pub T0 : Row.Cx
-T0 = record { locals = List._++_ t0 (List._++_ t1 (List._++_ t2 t3)); slots = List.[] }
+T0 = record
+    { locals = List._++_ (List._∷_ (0, row·0) (List._∷_ (1, row·1) (List._∷_ (2, row·2) (List._∷_ (3, row·3) (List._∷_ (4, row·4) (List._∷_ (5, row·4) (List._∷_ (6, row·5) (List._∷_ (7, row·6) (List._∷_ (8, row·7) (List._∷_ (9, row·8) (List._∷_ (10, row·6) (List._∷_ (11, row·9) (List._∷_ (12, row·10) (List._∷_ (13, row·11) (List._∷_ (14, row·12) (List._∷_ (15, row·13) List.[])))))))))))))))) (List._++_ t1 (List._++_ t2 t3)); slots = List.[] }
 
 abbrev pub T1 : Row.Cx
-T1 = record { locals = List._++_ t4 (List._++_ t1 (List._++_ t2 t3)); slots = List.[] }
-
-abbrev pub T2 : Row.Cx
-T2 = record { locals = List._++_ t0 (List._++_ t1 (List._++_ t2 t3)); slots = List.[] }
-
-abbrev pub T3 : Row.Cx
-T3 = record { locals = List._++_ t0 (List._++_ t1 (List._++_ t2 t3)); slots = List.[] }
+T1 = record
+    { locals = List._++_ (List._∷_ (0, row·36) (List._∷_ (1, row·1) (List._∷_ (2, row·12) (List._∷_ (3, row·3) (List._∷_ (4, row·4) (List._∷_ (5, row·4) (List._∷_ (6, row·5) (List._∷_ (7, row·6) (List._∷_ (8, row·7) (List._∷_ (9, row·8) (List._∷_ (10, row·6) (List._∷_ (11, row·9) (List._∷_ (12, row·10) (List._∷_ (13, row·11) (List._∷_ (14, row·12) (List._∷_ (15, row·13) List.[])))))))))))))))) (List._++_ t1 (List._++_ t2 t3)); slots = List.[] }
 
 abbrev pub T4 : Row.Cx
-T4 = record { locals = List._++_ t5 (List._++_ t1 (List._++_ t2 t3)); slots = List.[] }
+T4 = record
+    { locals = List._++_ (List._∷_ (0, row·0) (List._∷_ (1, row·1) (List._∷_ (2, row·2) (List._∷_ (3, row·3) (List._∷_ (4, row·37) (List._∷_ (5, row·4) (List._∷_ (6, row·5) (List._∷_ (7, row·6) (List._∷_ (8, row·7) (List._∷_ (9, row·8) (List._∷_ (10, row·6) (List._∷_ (11, row·9) (List._∷_ (12, row·10) (List._∷_ (13, row·11) (List._∷_ (14, row·12) (List._∷_ (15, row·13) List.[])))))))))))))))) (List._++_ t1 (List._++_ t2 t3)); slots = List.[] }
 
 abbrev pub T5 : Row.Cx
-T5 = record { locals = List._++_ t6 (List._++_ t1 (List._++_ t2 t3)); slots = List.[] }
+T5 = record
+    { locals = List._++_ (List._∷_ (0, row·0) (List._∷_ (1, row·1) (List._∷_ (2, row·2) (List._∷_ (3, row·3) (List._∷_ (4, row·38) (List._∷_ (5, row·4) (List._∷_ (6, row·5) (List._∷_ (7, row·6) (List._∷_ (8, row·7) (List._∷_ (9, row·8) (List._∷_ (10, row·6) (List._∷_ (11, row·9) (List._∷_ (12, row·10) (List._∷_ (13, row·11) (List._∷_ (14, row·12) (List._∷_ (15, row·13) List.[])))))))))))))))) (List._++_ t1 (List._++_ t2 t3)); slots = List.[] }
 
 abbrev pub T6 : Row.Cx
-T6 = record { locals = List._++_ t7 (List._++_ t1 (List._++_ t2 t3)); slots = List.[] }
+T6 = record
+    { locals = List._++_ (List._∷_ (0, row·0) (List._∷_ (1, row·1) (List._∷_ (2, row·2) (List._∷_ (3, row·3) (List._∷_ (4, row·38) (List._∷_ (5, row·37) (List._∷_ (6, row·5) (List._∷_ (7, row·6) (List._∷_ (8, row·7) (List._∷_ (9, row·8) (List._∷_ (10, row·6) (List._∷_ (11, row·9) (List._∷_ (12, row·10) (List._∷_ (13, row·11) (List._∷_ (14, row·12) (List._∷_ (15, row·13) List.[])))))))))))))))) (List._++_ t1 (List._++_ t2 t3)); slots = List.[] }
 
 abbrev pub T7 : Row.Cx
-T7 = record { locals = List._++_ t8 (List._++_ t1 (List._++_ t2 t3)); slots = List.[] }
+T7 = record
+    { locals = List._++_ (List._∷_ (0, row·0) (List._∷_ (1, row·1) (List._∷_ (2, row·2) (List._∷_ (3, row·3) (List._∷_ (4, row·38) (List._∷_ (5, row·38) (List._∷_ (6, row·5) (List._∷_ (7, row·6) (List._∷_ (8, row·7) (List._∷_ (9, row·8) (List._∷_ (10, row·6) (List._∷_ (11, row·9) (List._∷_ (12, row·10) (List._∷_ (13, row·11) (List._∷_ (14, row·12) (List._∷_ (15, row·13) List.[])))))))))))))))) (List._++_ t1 (List._++_ t2 t3)); slots = List.[] }
 
 abbrev pub T8 : Row.Cx
-T8 = record { locals = List._++_ t9 (List._++_ t1 (List._++_ t2 t3)); slots = List.[] }
+T8 = record
+    { locals = List._++_ (List._∷_ (0, row·0) (List._∷_ (1, row·1) (List._∷_ (2, row·2) (List._∷_ (3, row·3) (List._∷_ (4, row·38) (List._∷_ (5, row·38) (List._∷_ (6, row·39) (List._∷_ (7, row·6) (List._∷_ (8, row·7) (List._∷_ (9, row·8) (List._∷_ (10, row·6) (List._∷_ (11, row·9) (List._∷_ (12, row·10) (List._∷_ (13, row·11) (List._∷_ (14, row·12) (List._∷_ (15, row·13) List.[])))))))))))))))) (List._++_ t1 (List._++_ t2 t3)); slots = List.[] }
 
 abbrev pub T9 : Row.Cx
-T9 = record { locals = List._++_ t10 (List._++_ t1 (List._++_ t2 t3)); slots = List.[] }
+T9 = record
+    { locals = List._++_ (List._∷_ (0, row·0) (List._∷_ (1, row·1) (List._∷_ (2, row·2) (List._∷_ (3, row·3) (List._∷_ (4, row·38) (List._∷_ (5, row·38) (List._∷_ (6, row·40) (List._∷_ (7, row·6) (List._∷_ (8, row·7) (List._∷_ (9, row·8) (List._∷_ (10, row·6) (List._∷_ (11, row·9) (List._∷_ (12, row·10) (List._∷_ (13, row·11) (List._∷_ (14, row·12) (List._∷_ (15, row·13) List.[])))))))))))))))) (List._++_ t1 (List._++_ t2 t3)); slots = List.[] }
 
 abbrev pub T10 : Row.Cx
-T10 = record { locals = List._++_ t11 (List._++_ t1 (List._++_ t2 t3)); slots = List.[] }
+T10 = record
+    { locals = List._++_ (List._∷_ (0, row·0) (List._∷_ (1, row·1) (List._∷_ (2, row·2) (List._∷_ (3, row·3) (List._∷_ (4, row·38) (List._∷_ (5, row·38) (List._∷_ (6, row·40) (List._∷_ (7, row·41) (List._∷_ (8, row·7) (List._∷_ (9, row·8) (List._∷_ (10, row·6) (List._∷_ (11, row·9) (List._∷_ (12, row·10) (List._∷_ (13, row·11) (List._∷_ (14, row·12) (List._∷_ (15, row·13) List.[])))))))))))))))) (List._++_ t1 (List._++_ t2 t3)); slots = List.[] }
 
 abbrev pub T11 : Row.Cx
-T11 = record { locals = List._++_ t12 (List._++_ t1 (List._++_ t2 t3)); slots = List.[] }
+T11 = record
+    { locals = List._++_ (List._∷_ (0, row·0) (List._∷_ (1, row·1) (List._∷_ (2, row·2) (List._∷_ (3, row·3) (List._∷_ (4, row·38) (List._∷_ (5, row·38) (List._∷_ (6, row·40) (List._∷_ (7, row·42) (List._∷_ (8, row·7) (List._∷_ (9, row·8) (List._∷_ (10, row·6) (List._∷_ (11, row·9) (List._∷_ (12, row·10) (List._∷_ (13, row·11) (List._∷_ (14, row·12) (List._∷_ (15, row·13) List.[])))))))))))))))) (List._++_ t1 (List._++_ t2 t3)); slots = List.[] }
 
 abbrev pub T12 : Row.Cx
-T12 = record { locals = List._++_ t13 (List._++_ t1 (List._++_ t2 t3)); slots = List.[] }
+T12 = record
+    { locals = List._++_ (List._∷_ (0, row·0) (List._∷_ (1, row·1) (List._∷_ (2, row·2) (List._∷_ (3, row·3) (List._∷_ (4, row·38) (List._∷_ (5, row·38) (List._∷_ (6, row·40) (List._∷_ (7, row·42) (List._∷_ (8, row·43) (List._∷_ (9, row·8) (List._∷_ (10, row·6) (List._∷_ (11, row·9) (List._∷_ (12, row·10) (List._∷_ (13, row·11) (List._∷_ (14, row·12) (List._∷_ (15, row·13) List.[])))))))))))))))) (List._++_ t1 (List._++_ t2 t3)); slots = List.[] }
 
 abbrev pub T13 : Row.Cx
-T13 = record { locals = List._++_ t14 (List._++_ t1 (List._++_ t2 t3)); slots = List.[] }
+T13 = record
+    { locals = List._++_ (List._∷_ (0, row·0) (List._∷_ (1, row·1) (List._∷_ (2, row·2) (List._∷_ (3, row·3) (List._∷_ (4, row·38) (List._∷_ (5, row·38) (List._∷_ (6, row·40) (List._∷_ (7, row·42) (List._∷_ (8, row·44) (List._∷_ (9, row·8) (List._∷_ (10, row·6) (List._∷_ (11, row·9) (List._∷_ (12, row·10) (List._∷_ (13, row·11) (List._∷_ (14, row·12) (List._∷_ (15, row·13) List.[])))))))))))))))) (List._++_ t1 (List._++_ t2 t3)); slots = List.[] }
 
 abbrev pub T14 : Row.Cx
-T14 = record { locals = List._++_ t15 (List._++_ t1 (List._++_ t2 t3)); slots = List.[] }
+T14 = record
+    { locals = List._++_ (List._∷_ (0, row·0) (List._∷_ (1, row·1) (List._∷_ (2, row·2) (List._∷_ (3, row·3) (List._∷_ (4, row·38) (List._∷_ (5, row·38) (List._∷_ (6, row·40) (List._∷_ (7, row·42) (List._∷_ (8, row·44) (List._∷_ (9, row·45) (List._∷_ (10, row·6) (List._∷_ (11, row·9) (List._∷_ (12, row·10) (List._∷_ (13, row·11) (List._∷_ (14, row·12) (List._∷_ (15, row·13) List.[])))))))))))))))) (List._++_ t1 (List._++_ t2 t3)); slots = List.[] }
 
 abbrev pub T15 : Row.Cx
-T15 = record { locals = List._++_ t16 (List._++_ t1 (List._++_ t2 t3)); slots = List.[] }
+T15 = record
+    { locals = List._++_ (List._∷_ (0, row·0) (List._∷_ (1, row·1) (List._∷_ (2, row·2) (List._∷_ (3, row·3) (List._∷_ (4, row·38) (List._∷_ (5, row·38) (List._∷_ (6, row·40) (List._∷_ (7, row·42) (List._∷_ (8, row·44) (List._∷_ (9, row·46) (List._∷_ (10, row·6) (List._∷_ (11, row·9) (List._∷_ (12, row·10) (List._∷_ (13, row·11) (List._∷_ (14, row·12) (List._∷_ (15, row·13) List.[])))))))))))))))) (List._++_ t1 (List._++_ t2 t3)); slots = List.[] }
 
 abbrev pub T16 : Row.Cx
-T16 = record { locals = List._++_ t17 (List._++_ t1 (List._++_ t2 t3)); slots = List.[] }
+T16 = record
+    { locals = List._++_ (List._∷_ (0, row·0) (List._∷_ (1, row·1) (List._∷_ (2, row·2) (List._∷_ (3, row·3) (List._∷_ (4, row·38) (List._∷_ (5, row·38) (List._∷_ (6, row·40) (List._∷_ (7, row·42) (List._∷_ (8, row·44) (List._∷_ (9, row·46) (List._∷_ (10, row·41) (List._∷_ (11, row·9) (List._∷_ (12, row·10) (List._∷_ (13, row·11) (List._∷_ (14, row·12) (List._∷_ (15, row·13) List.[])))))))))))))))) (List._++_ t1 (List._++_ t2 t3)); slots = List.[] }
 
 abbrev pub T17 : Row.Cx
-T17 = record { locals = List._++_ t18 (List._++_ t1 (List._++_ t2 t3)); slots = List.[] }
+T17 = record
+    { locals = List._++_ (List._∷_ (0, row·0) (List._∷_ (1, row·1) (List._∷_ (2, row·2) (List._∷_ (3, row·3) (List._∷_ (4, row·38) (List._∷_ (5, row·38) (List._∷_ (6, row·40) (List._∷_ (7, row·42) (List._∷_ (8, row·44) (List._∷_ (9, row·46) (List._∷_ (10, row·42) (List._∷_ (11, row·9) (List._∷_ (12, row·10) (List._∷_ (13, row·11) (List._∷_ (14, row·12) (List._∷_ (15, row·13) List.[])))))))))))))))) (List._++_ t1 (List._++_ t2 t3)); slots = List.[] }
 
 abbrev pub T18 : Row.Cx
-T18 = record { locals = List._++_ t19 (List._++_ t1 (List._++_ t2 t3)); slots = List.[] }
+T18 = record
+    { locals = List._++_ (List._∷_ (0, row·0) (List._∷_ (1, row·1) (List._∷_ (2, row·2) (List._∷_ (3, row·3) (List._∷_ (4, row·38) (List._∷_ (5, row·38) (List._∷_ (6, row·40) (List._∷_ (7, row·42) (List._∷_ (8, row·44) (List._∷_ (9, row·46) (List._∷_ (10, row·42) (List._∷_ (11, row·47) (List._∷_ (12, row·10) (List._∷_ (13, row·11) (List._∷_ (14, row·12) (List._∷_ (15, row·13) List.[])))))))))))))))) (List._++_ t1 (List._++_ t2 t3)); slots = List.[] }
 
 abbrev pub T19 : Row.Cx
-T19 = record { locals = List._++_ t20 (List._++_ t1 (List._++_ t2 t3)); slots = List.[] }
+T19 = record
+    { locals = List._++_ (List._∷_ (0, row·0) (List._∷_ (1, row·1) (List._∷_ (2, row·2) (List._∷_ (3, row·3) (List._∷_ (4, row·38) (List._∷_ (5, row·38) (List._∷_ (6, row·40) (List._∷_ (7, row·42) (List._∷_ (8, row·44) (List._∷_ (9, row·46) (List._∷_ (10, row·42) (List._∷_ (11, row·48) (List._∷_ (12, row·10) (List._∷_ (13, row·11) (List._∷_ (14, row·12) (List._∷_ (15, row·13) List.[])))))))))))))))) (List._++_ t1 (List._++_ t2 t3)); slots = List.[] }
 
 abbrev pub T20 : Row.Cx
-T20 = record { locals = List._++_ t21 (List._++_ t1 (List._++_ t2 t3)); slots = List.[] }
+T20 = record
+    { locals = List._++_ (List._∷_ (0, row·0) (List._∷_ (1, row·1) (List._∷_ (2, row·2) (List._∷_ (3, row·3) (List._∷_ (4, row·38) (List._∷_ (5, row·38) (List._∷_ (6, row·40) (List._∷_ (7, row·42) (List._∷_ (8, row·44) (List._∷_ (9, row·46) (List._∷_ (10, row·42) (List._∷_ (11, row·48) (List._∷_ (12, row·10) (List._∷_ (13, row·11) (List._∷_ (14, row·12) (List._∷_ (15, Rec.row) List.[])))))))))))))))) (List._++_ t1 (List._++_ t2 t3)); slots = List.[] }
 
 abbrev pub T21 : Row.Cx
-T21 = record { locals = List._++_ t22 (List._++_ t1 (List._++_ t2 t3)); slots = List.[] }
+T21 = record
+    { locals = List._++_ (List._∷_ (0, row·0) (List._∷_ (1, row·1) (List._∷_ (2, row·2) (List._∷_ (3, row·3) (List._∷_ (4, row·38) (List._∷_ (5, row·38) (List._∷_ (6, row·40) (List._∷_ (7, row·42) (List._∷_ (8, row·44) (List._∷_ (9, row·46) (List._∷_ (10, row·42) (List._∷_ (11, row·48) (List._∷_ (12, row·49) (List._∷_ (13, row·11) (List._∷_ (14, row·12) (List._∷_ (15, Rec.row) List.[])))))))))))))))) (List._++_ t1 (List._++_ t2 t3)); slots = List.[] }
 
 abbrev pub T22 : Row.Cx
-T22 = record { locals = List._++_ t23 (List._++_ t1 (List._++_ t2 t3)); slots = List.[] }
+T22 = record
+    { locals = List._++_ (List._∷_ (0, row·0) (List._∷_ (1, row·1) (List._∷_ (2, row·2) (List._∷_ (3, row·3) (List._∷_ (4, row·38) (List._∷_ (5, row·38) (List._∷_ (6, row·40) (List._∷_ (7, row·42) (List._∷_ (8, row·44) (List._∷_ (9, row·46) (List._∷_ (10, row·42) (List._∷_ (11, row·48) (List._∷_ (12, row·50) (List._∷_ (13, row·11) (List._∷_ (14, row·12) (List._∷_ (15, Rec.row) List.[])))))))))))))))) (List._++_ t1 (List._++_ t2 t3)); slots = List.[] }
 
 abbrev pub T23 : Row.Cx
-T23 = record { locals = List._++_ t24 (List._++_ t1 (List._++_ t2 t3)); slots = List.[] }
+T23 = record
+    { locals = List._++_ (List._∷_ (0, row·0) (List._∷_ (1, row·1) (List._∷_ (2, row·2) (List._∷_ (3, row·3) (List._∷_ (4, row·38) (List._∷_ (5, row·38) (List._∷_ (6, row·40) (List._∷_ (7, row·42) (List._∷_ (8, row·44) (List._∷_ (9, row·46) (List._∷_ (10, row·42) (List._∷_ (11, row·48) (List._∷_ (12, row·50) (List._∷_ (13, row·11) (List._∷_ (14, row·12) (List._∷_ (15, row·13) List.[])))))))))))))))) (List._++_ t1 (List._++_ t2 t3)); slots = List.[] }
 
 abbrev pub T25 : Row.Cx
-T25 = record { locals = List._++_ t25 (List._++_ t26 (List._++_ t2 t3)); slots = List.[] }
+T25 = record
+    { locals = List._++_ t25 (List._++_ (List._∷_ (16, row·52) (List._∷_ (17, row·15) (List._∷_ (18, row·14) (List._∷_ (19, row·15) (List._∷_ (20, row·16) (List._∷_ (21, row·17) (List._∷_ (22, row·18) (List._∷_ (23, row·15) (List._∷_ (24, row·19) (List._∷_ (25, row·15) (List._∷_ (26, row·20) (List._∷_ (27, row·21) (List._∷_ (28, row·18) (List._∷_ (29, row·15) (List._∷_ (30, row·22) (List._∷_ (31, row·17) List.[])))))))))))))))) (List._++_ t2 t3)); slots = List.[] }
 
 abbrev pub T26 : Row.Cx
-T26 = record { locals = List._++_ t25 (List._++_ t27 (List._++_ t2 t3)); slots = List.[] }
+T26 = record
+    { locals = List._++_ t25 (List._++_ (List._∷_ (16, row·14) (List._∷_ (17, row·53) (List._∷_ (18, row·14) (List._∷_ (19, row·15) (List._∷_ (20, row·16) (List._∷_ (21, row·17) (List._∷_ (22, row·18) (List._∷_ (23, row·15) (List._∷_ (24, row·19) (List._∷_ (25, row·15) (List._∷_ (26, row·20) (List._∷_ (27, row·21) (List._∷_ (28, row·18) (List._∷_ (29, row·15) (List._∷_ (30, row·22) (List._∷_ (31, row·17) List.[])))))))))))))))) (List._++_ t2 t3)); slots = List.[] }
 
 abbrev pub T28 : Row.Cx
-T28 = record { locals = List._++_ t28 (List._++_ t29 (List._++_ t2 t3)); slots = List.[] }
+T28 = record
+    { locals = List._++_ t28 (List._++_ (List._∷_ (16, row·14) (List._∷_ (17, row·53) (List._∷_ (18, row·55) (List._∷_ (19, row·15) (List._∷_ (20, row·16) (List._∷_ (21, row·17) (List._∷_ (22, row·18) (List._∷_ (23, row·15) (List._∷_ (24, row·19) (List._∷_ (25, row·15) (List._∷_ (26, row·20) (List._∷_ (27, row·21) (List._∷_ (28, row·18) (List._∷_ (29, row·15) (List._∷_ (30, row·22) (List._∷_ (31, row·17) List.[])))))))))))))))) (List._++_ t2 t3)); slots = List.[] }
 
 abbrev pub T29 : Row.Cx
-T29 = record { locals = List._++_ t28 (List._++_ t30 (List._++_ t2 t3)); slots = List.[] }
+T29 = record
+    { locals = List._++_ t28 (List._++_ (List._∷_ (16, row·14) (List._∷_ (17, row·53) (List._∷_ (18, row·14) (List._∷_ (19, row·56) (List._∷_ (20, row·16) (List._∷_ (21, row·17) (List._∷_ (22, row·18) (List._∷_ (23, row·15) (List._∷_ (24, row·19) (List._∷_ (25, row·15) (List._∷_ (26, row·20) (List._∷_ (27, row·21) (List._∷_ (28, row·18) (List._∷_ (29, row·15) (List._∷_ (30, row·22) (List._∷_ (31, row·17) List.[])))))))))))))))) (List._++_ t2 t3)); slots = List.[] }
 
 abbrev pub T31 : Row.Cx
-T31 = record { locals = List._++_ t31 (List._++_ t32 (List._++_ t2 t3)); slots = List.[] }
+T31 = record
+    { locals = List._++_ t31 (List._++_ (List._∷_ (16, row·14) (List._∷_ (17, row·53) (List._∷_ (18, row·14) (List._∷_ (19, row·56) (List._∷_ (20, row·58) (List._∷_ (21, row·17) (List._∷_ (22, row·18) (List._∷_ (23, row·15) (List._∷_ (24, row·19) (List._∷_ (25, row·15) (List._∷_ (26, row·20) (List._∷_ (27, row·21) (List._∷_ (28, row·18) (List._∷_ (29, row·15) (List._∷_ (30, row·22) (List._∷_ (31, row·17) List.[])))))))))))))))) (List._++_ t2 t3)); slots = List.[] }
 
 abbrev pub T32 : Row.Cx
-T32 = record { locals = List._++_ t31 (List._++_ t33 (List._++_ t2 t3)); slots = List.[] }
+T32 = record
+    { locals = List._++_ t31 (List._++_ (List._∷_ (16, row·14) (List._∷_ (17, row·53) (List._∷_ (18, row·14) (List._∷_ (19, row·56) (List._∷_ (20, row·16) (List._∷_ (21, row·59) (List._∷_ (22, row·18) (List._∷_ (23, row·15) (List._∷_ (24, row·19) (List._∷_ (25, row·15) (List._∷_ (26, row·20) (List._∷_ (27, row·21) (List._∷_ (28, row·18) (List._∷_ (29, row·15) (List._∷_ (30, row·22) (List._∷_ (31, row·17) List.[])))))))))))))))) (List._++_ t2 t3)); slots = List.[] }
 
 abbrev pub T34 : Row.Cx
-T34 = record { locals = List._++_ t34 (List._++_ t35 (List._++_ t2 t3)); slots = List.[] }
+T34 = record
+    { locals = List._++_ t34 (List._++_ (List._∷_ (16, row·14) (List._∷_ (17, row·53) (List._∷_ (18, row·14) (List._∷_ (19, row·56) (List._∷_ (20, row·16) (List._∷_ (21, row·59) (List._∷_ (22, row·61) (List._∷_ (23, row·15) (List._∷_ (24, row·19) (List._∷_ (25, row·15) (List._∷_ (26, row·20) (List._∷_ (27, row·21) (List._∷_ (28, row·18) (List._∷_ (29, row·15) (List._∷_ (30, row·22) (List._∷_ (31, row·17) List.[])))))))))))))))) (List._++_ t2 t3)); slots = List.[] }
 
 abbrev pub T35 : Row.Cx
-T35 = record { locals = List._++_ t34 (List._++_ t36 (List._++_ t2 t3)); slots = List.[] }
+T35 = record
+    { locals = List._++_ t34 (List._++_ (List._∷_ (16, row·14) (List._∷_ (17, row·53) (List._∷_ (18, row·14) (List._∷_ (19, row·56) (List._∷_ (20, row·16) (List._∷_ (21, row·59) (List._∷_ (22, row·18) (List._∷_ (23, row·62) (List._∷_ (24, row·19) (List._∷_ (25, row·15) (List._∷_ (26, row·20) (List._∷_ (27, row·21) (List._∷_ (28, row·18) (List._∷_ (29, row·15) (List._∷_ (30, row·22) (List._∷_ (31, row·17) List.[])))))))))))))))) (List._++_ t2 t3)); slots = List.[] }
 
 abbrev pub T37 : Row.Cx
-T37 = record { locals = List._++_ t37 (List._++_ t38 (List._++_ t2 t3)); slots = List.[] }
+T37 = record
+    { locals = List._++_ t37 (List._++_ (List._∷_ (16, row·14) (List._∷_ (17, row·53) (List._∷_ (18, row·14) (List._∷_ (19, row·56) (List._∷_ (20, row·16) (List._∷_ (21, row·59) (List._∷_ (22, row·18) (List._∷_ (23, row·62) (List._∷_ (24, row·64) (List._∷_ (25, row·15) (List._∷_ (26, row·20) (List._∷_ (27, row·21) (List._∷_ (28, row·18) (List._∷_ (29, row·15) (List._∷_ (30, row·22) (List._∷_ (31, row·17) List.[])))))))))))))))) (List._++_ t2 t3)); slots = List.[] }
 
 abbrev pub T38 : Row.Cx
-T38 = record { locals = List._++_ t37 (List._++_ t39 (List._++_ t2 t3)); slots = List.[] }
+T38 = record
+    { locals = List._++_ t37 (List._++_ (List._∷_ (16, row·14) (List._∷_ (17, row·53) (List._∷_ (18, row·14) (List._∷_ (19, row·56) (List._∷_ (20, row·16) (List._∷_ (21, row·59) (List._∷_ (22, row·18) (List._∷_ (23, row·62) (List._∷_ (24, row·19) (List._∷_ (25, row·65) (List._∷_ (26, row·20) (List._∷_ (27, row·21) (List._∷_ (28, row·18) (List._∷_ (29, row·15) (List._∷_ (30, row·22) (List._∷_ (31, row·17) List.[])))))))))))))))) (List._++_ t2 t3)); slots = List.[] }
 
 abbrev pub T40 : Row.Cx
-T40 = record { locals = List._++_ t40 (List._++_ t41 (List._++_ t2 t3)); slots = List.[] }
+T40 = record
+    { locals = List._++_ t40 (List._++_ (List._∷_ (16, row·14) (List._∷_ (17, row·53) (List._∷_ (18, row·14) (List._∷_ (19, row·56) (List._∷_ (20, row·16) (List._∷_ (21, row·59) (List._∷_ (22, row·18) (List._∷_ (23, row·62) (List._∷_ (24, row·19) (List._∷_ (25, row·65) (List._∷_ (26, row·67) (List._∷_ (27, row·21) (List._∷_ (28, row·18) (List._∷_ (29, row·15) (List._∷_ (30, row·22) (List._∷_ (31, row·17) List.[])))))))))))))))) (List._++_ t2 t3)); slots = List.[] }
 
 abbrev pub T41 : Row.Cx
-T41 = record { locals = List._++_ t40 (List._++_ t42 (List._++_ t2 t3)); slots = List.[] }
+T41 = record
+    { locals = List._++_ t40 (List._++_ (List._∷_ (16, row·14) (List._∷_ (17, row·53) (List._∷_ (18, row·14) (List._∷_ (19, row·56) (List._∷_ (20, row·16) (List._∷_ (21, row·59) (List._∷_ (22, row·18) (List._∷_ (23, row·62) (List._∷_ (24, row·19) (List._∷_ (25, row·65) (List._∷_ (26, row·20) (List._∷_ (27, row·68) (List._∷_ (28, row·18) (List._∷_ (29, row·15) (List._∷_ (30, row·22) (List._∷_ (31, row·17) List.[])))))))))))))))) (List._++_ t2 t3)); slots = List.[] }
 
 abbrev pub T43 : Row.Cx
-T43 = record { locals = List._++_ t43 (List._++_ t44 (List._++_ t2 t3)); slots = List.[] }
+T43 = record
+    { locals = List._++_ t43 (List._++_ (List._∷_ (16, row·14) (List._∷_ (17, row·53) (List._∷_ (18, row·14) (List._∷_ (19, row·56) (List._∷_ (20, row·16) (List._∷_ (21, row·59) (List._∷_ (22, row·18) (List._∷_ (23, row·62) (List._∷_ (24, row·19) (List._∷_ (25, row·65) (List._∷_ (26, row·20) (List._∷_ (27, row·68) (List._∷_ (28, row·70) (List._∷_ (29, row·15) (List._∷_ (30, row·22) (List._∷_ (31, row·17) List.[])))))))))))))))) (List._++_ t2 t3)); slots = List.[] }
 
 abbrev pub T44 : Row.Cx
-T44 = record { locals = List._++_ t43 (List._++_ t45 (List._++_ t2 t3)); slots = List.[] }
+T44 = record
+    { locals = List._++_ t43 (List._++_ (List._∷_ (16, row·14) (List._∷_ (17, row·53) (List._∷_ (18, row·14) (List._∷_ (19, row·56) (List._∷_ (20, row·16) (List._∷_ (21, row·59) (List._∷_ (22, row·18) (List._∷_ (23, row·62) (List._∷_ (24, row·19) (List._∷_ (25, row·65) (List._∷_ (26, row·20) (List._∷_ (27, row·68) (List._∷_ (28, row·18) (List._∷_ (29, row·71) (List._∷_ (30, row·22) (List._∷_ (31, row·17) List.[])))))))))))))))) (List._++_ t2 t3)); slots = List.[] }
 
 abbrev pub T46 : Row.Cx
-T46 = record { locals = List._++_ t46 (List._++_ t47 (List._++_ t2 t3)); slots = List.[] }
+T46 = record
+    { locals = List._++_ t46 (List._++_ (List._∷_ (16, row·14) (List._∷_ (17, row·53) (List._∷_ (18, row·14) (List._∷_ (19, row·56) (List._∷_ (20, row·16) (List._∷_ (21, row·59) (List._∷_ (22, row·18) (List._∷_ (23, row·62) (List._∷_ (24, row·19) (List._∷_ (25, row·65) (List._∷_ (26, row·20) (List._∷_ (27, row·68) (List._∷_ (28, row·18) (List._∷_ (29, row·71) (List._∷_ (30, row·73) (List._∷_ (31, row·17) List.[])))))))))))))))) (List._++_ t2 t3)); slots = List.[] }
 
 abbrev pub T47 : Row.Cx
 T47 = record { locals = List._++_ t46 (List._++_ t48 (List._++_ t2 t3)); slots = List.[] }
 
 abbrev pub T49 : Row.Cx
-T49 = record { locals = List._++_ t49 (List._++_ t48 (List._++_ t50 t3)); slots = List.[] }
+T49 = record
+    { locals = List._++_ t49 (List._++_ t48 (List._++_ (List._∷_ (32, row·76) (List._∷_ (33, row·24) (List._∷_ (34, row·25) (List._∷_ (35, row·26) (List._∷_ (36, row·27) (List._∷_ (37, row·26) (List._∷_ (38, row·27) (List._∷_ (39, row·28) (List._∷_ (40, row·29) (List._∷_ (41, row·30) (List._∷_ (42, row·27) (List._∷_ (43, row·31) (List._∷_ (44, row·27) (List._∷_ (45, row·32) (List._∷_ (46, row·33) (List._∷_ (47, row·18) List.[])))))))))))))))) t3)); slots = List.[] }
 
 abbrev pub T50 : Row.Cx
-T50 = record { locals = List._++_ t49 (List._++_ t48 (List._++_ t51 t3)); slots = List.[] }
+T50 = record
+    { locals = List._++_ t49 (List._++_ t48 (List._++_ (List._∷_ (32, row·23) (List._∷_ (33, row·77) (List._∷_ (34, row·25) (List._∷_ (35, row·26) (List._∷_ (36, row·27) (List._∷_ (37, row·26) (List._∷_ (38, row·27) (List._∷_ (39, row·28) (List._∷_ (40, row·29) (List._∷_ (41, row·30) (List._∷_ (42, row·27) (List._∷_ (43, row·31) (List._∷_ (44, row·27) (List._∷_ (45, row·32) (List._∷_ (46, row·33) (List._∷_ (47, row·18) List.[])))))))))))))))) t3)); slots = List.[] }
 
 abbrev pub T51 : Row.Cx
-T51 = record { locals = List._++_ t52 (List._++_ t53 (List._++_ t54 t3)); slots = List.[] }
+T51 = record
+    { locals = List._++_ (List._∷_ (0, row·0) (List._∷_ (1, row·1) (List._∷_ (2, row·2) (List._∷_ (3, row·3) (List._∷_ (4, row·51) (List._∷_ (5, row·54) (List._∷_ (6, row·57) (List._∷_ (7, row·60) (List._∷_ (8, row·63) (List._∷_ (9, row·66) (List._∷_ (10, row·69) (List._∷_ (11, row·72) (List._∷_ (12, row·75) (List._∷_ (13, row·78) (List._∷_ (14, row·12) (List._∷_ (15, row·13) List.[])))))))))))))))) (List._++_ (List._∷_ (16, row·14) (List._∷_ (17, row·79) (List._∷_ (18, row·14) (List._∷_ (19, row·79) (List._∷_ (20, row·16) (List._∷_ (21, row·80) (List._∷_ (22, row·18) (List._∷_ (23, row·79) (List._∷_ (24, row·19) (List._∷_ (25, row·79) (List._∷_ (26, row·20) (List._∷_ (27, row·81) (List._∷_ (28, row·18) (List._∷_ (29, row·79) (List._∷_ (30, row·22) (List._∷_ (31, row·80) List.[])))))))))))))))) (List._++_ t54 t3)); slots = List.[] }
 
 abbrev pub T53 : Row.Cx
-T53 = record { locals = List._++_ t55 (List._++_ t56 (List._++_ t54 t3)); slots = List.[] }
+T53 = record
+    { locals = List._++_ (List._∷_ (0, row·0) (List._∷_ (1, row·1) (List._∷_ (2, row·2) (List._∷_ (3, row·3) (List._∷_ (4, row·38) (List._∷_ (5, row·54) (List._∷_ (6, row·57) (List._∷_ (7, row·60) (List._∷_ (8, row·63) (List._∷_ (9, row·66) (List._∷_ (10, row·69) (List._∷_ (11, row·72) (List._∷_ (12, row·75) (List._∷_ (13, row·78) (List._∷_ (14, row·12) (List._∷_ (15, row·13) List.[])))))))))))))))) (List._++_ (List._∷_ (16, row·14) (List._∷_ (17, row·15) (List._∷_ (18, row·14) (List._∷_ (19, row·79) (List._∷_ (20, row·16) (List._∷_ (21, row·80) (List._∷_ (22, row·18) (List._∷_ (23, row·79) (List._∷_ (24, row·19) (List._∷_ (25, row·79) (List._∷_ (26, row·20) (List._∷_ (27, row·81) (List._∷_ (28, row·18) (List._∷_ (29, row·79) (List._∷_ (30, row·22) (List._∷_ (31, row·80) List.[])))))))))))))))) (List._++_ t54 t3)); slots = List.[] }
 
 abbrev pub T56 : Row.Cx
-T56 = record { locals = List._++_ t57 (List._++_ t58 (List._++_ t54 t3)); slots = List.[] }
+T56 = record
+    { locals = List._++_ (List._∷_ (0, row·0) (List._∷_ (1, row·1) (List._∷_ (2, row·2) (List._∷_ (3, row·3) (List._∷_ (4, row·38) (List._∷_ (5, row·38) (List._∷_ (6, row·57) (List._∷_ (7, row·60) (List._∷_ (8, row·63) (List._∷_ (9, row·66) (List._∷_ (10, row·69) (List._∷_ (11, row·72) (List._∷_ (12, row·75) (List._∷_ (13, row·78) (List._∷_ (14, row·12) (List._∷_ (15, row·13) List.[])))))))))))))))) (List._++_ (List._∷_ (16, row·14) (List._∷_ (17, row·15) (List._∷_ (18, row·14) (List._∷_ (19, row·15) (List._∷_ (20, row·16) (List._∷_ (21, row·80) (List._∷_ (22, row·18) (List._∷_ (23, row·79) (List._∷_ (24, row·19) (List._∷_ (25, row·79) (List._∷_ (26, row·20) (List._∷_ (27, row·81) (List._∷_ (28, row·18) (List._∷_ (29, row·79) (List._∷_ (30, row·22) (List._∷_ (31, row·80) List.[])))))))))))))))) (List._++_ t54 t3)); slots = List.[] }
 
 abbrev pub T59 : Row.Cx
-T59 = record { locals = List._++_ t59 (List._++_ t60 (List._++_ t54 t3)); slots = List.[] }
+T59 = record
+    { locals = List._++_ (List._∷_ (0, row·0) (List._∷_ (1, row·1) (List._∷_ (2, row·2) (List._∷_ (3, row·3) (List._∷_ (4, row·38) (List._∷_ (5, row·38) (List._∷_ (6, row·40) (List._∷_ (7, row·60) (List._∷_ (8, row·63) (List._∷_ (9, row·66) (List._∷_ (10, row·69) (List._∷_ (11, row·72) (List._∷_ (12, row·75) (List._∷_ (13, row·78) (List._∷_ (14, row·12) (List._∷_ (15, row·13) List.[])))))))))))))))) (List._++_ (List._∷_ (16, row·14) (List._∷_ (17, row·15) (List._∷_ (18, row·14) (List._∷_ (19, row·15) (List._∷_ (20, row·16) (List._∷_ (21, row·17) (List._∷_ (22, row·18) (List._∷_ (23, row·79) (List._∷_ (24, row·19) (List._∷_ (25, row·79) (List._∷_ (26, row·20) (List._∷_ (27, row·81) (List._∷_ (28, row·18) (List._∷_ (29, row·79) (List._∷_ (30, row·22) (List._∷_ (31, row·80) List.[])))))))))))))))) (List._++_ t54 t3)); slots = List.[] }
 
 abbrev pub T62 : Row.Cx
-T62 = record { locals = List._++_ t61 (List._++_ t62 (List._++_ t54 t3)); slots = List.[] }
+T62 = record
+    { locals = List._++_ (List._∷_ (0, row·0) (List._∷_ (1, row·1) (List._∷_ (2, row·2) (List._∷_ (3, row·3) (List._∷_ (4, row·38) (List._∷_ (5, row·38) (List._∷_ (6, row·40) (List._∷_ (7, row·42) (List._∷_ (8, row·63) (List._∷_ (9, row·66) (List._∷_ (10, row·69) (List._∷_ (11, row·72) (List._∷_ (12, row·75) (List._∷_ (13, row·78) (List._∷_ (14, row·12) (List._∷_ (15, row·13) List.[])))))))))))))))) (List._++_ (List._∷_ (16, row·14) (List._∷_ (17, row·15) (List._∷_ (18, row·14) (List._∷_ (19, row·15) (List._∷_ (20, row·16) (List._∷_ (21, row·17) (List._∷_ (22, row·18) (List._∷_ (23, row·15) (List._∷_ (24, row·19) (List._∷_ (25, row·79) (List._∷_ (26, row·20) (List._∷_ (27, row·81) (List._∷_ (28, row·18) (List._∷_ (29, row·79) (List._∷_ (30, row·22) (List._∷_ (31, row·80) List.[])))))))))))))))) (List._++_ t54 t3)); slots = List.[] }
 
 abbrev pub T65 : Row.Cx
-T65 = record { locals = List._++_ t63 (List._++_ t64 (List._++_ t54 t3)); slots = List.[] }
+T65 = record
+    { locals = List._++_ (List._∷_ (0, row·0) (List._∷_ (1, row·1) (List._∷_ (2, row·2) (List._∷_ (3, row·3) (List._∷_ (4, row·38) (List._∷_ (5, row·38) (List._∷_ (6, row·40) (List._∷_ (7, row·42) (List._∷_ (8, row·44) (List._∷_ (9, row·66) (List._∷_ (10, row·69) (List._∷_ (11, row·72) (List._∷_ (12, row·75) (List._∷_ (13, row·78) (List._∷_ (14, row·12) (List._∷_ (15, row·13) List.[])))))))))))))))) (List._++_ (List._∷_ (16, row·14) (List._∷_ (17, row·15) (List._∷_ (18, row·14) (List._∷_ (19, row·15) (List._∷_ (20, row·16) (List._∷_ (21, row·17) (List._∷_ (22, row·18) (List._∷_ (23, row·15) (List._∷_ (24, row·19) (List._∷_ (25, row·15) (List._∷_ (26, row·20) (List._∷_ (27, row·81) (List._∷_ (28, row·18) (List._∷_ (29, row·79) (List._∷_ (30, row·22) (List._∷_ (31, row·80) List.[])))))))))))))))) (List._++_ t54 t3)); slots = List.[] }
 
 abbrev pub T68 : Row.Cx
-T68 = record { locals = List._++_ t65 (List._++_ t66 (List._++_ t54 t3)); slots = List.[] }
+T68 = record
+    { locals = List._++_ (List._∷_ (0, row·0) (List._∷_ (1, row·1) (List._∷_ (2, row·2) (List._∷_ (3, row·3) (List._∷_ (4, row·38) (List._∷_ (5, row·38) (List._∷_ (6, row·40) (List._∷_ (7, row·42) (List._∷_ (8, row·44) (List._∷_ (9, row·46) (List._∷_ (10, row·69) (List._∷_ (11, row·72) (List._∷_ (12, row·75) (List._∷_ (13, row·78) (List._∷_ (14, row·12) (List._∷_ (15, row·13) List.[])))))))))))))))) (List._++_ (List._∷_ (16, row·14) (List._∷_ (17, row·15) (List._∷_ (18, row·14) (List._∷_ (19, row·15) (List._∷_ (20, row·16) (List._∷_ (21, row·17) (List._∷_ (22, row·18) (List._∷_ (23, row·15) (List._∷_ (24, row·19) (List._∷_ (25, row·15) (List._∷_ (26, row·20) (List._∷_ (27, row·21) (List._∷_ (28, row·18) (List._∷_ (29, row·79) (List._∷_ (30, row·22) (List._∷_ (31, row·80) List.[])))))))))))))))) (List._++_ t54 t3)); slots = List.[] }
 
 abbrev pub T71 : Row.Cx
-T71 = record { locals = List._++_ t67 (List._++_ t68 (List._++_ t54 t3)); slots = List.[] }
+T71 = record
+    { locals = List._++_ (List._∷_ (0, row·0) (List._∷_ (1, row·1) (List._∷_ (2, row·2) (List._∷_ (3, row·3) (List._∷_ (4, row·38) (List._∷_ (5, row·38) (List._∷_ (6, row·40) (List._∷_ (7, row·42) (List._∷_ (8, row·44) (List._∷_ (9, row·46) (List._∷_ (10, row·42) (List._∷_ (11, row·72) (List._∷_ (12, row·75) (List._∷_ (13, row·78) (List._∷_ (14, row·12) (List._∷_ (15, row·13) List.[])))))))))))))))) (List._++_ (List._∷_ (16, row·14) (List._∷_ (17, row·15) (List._∷_ (18, row·14) (List._∷_ (19, row·15) (List._∷_ (20, row·16) (List._∷_ (21, row·17) (List._∷_ (22, row·18) (List._∷_ (23, row·15) (List._∷_ (24, row·19) (List._∷_ (25, row·15) (List._∷_ (26, row·20) (List._∷_ (27, row·21) (List._∷_ (28, row·18) (List._∷_ (29, row·15) (List._∷_ (30, row·22) (List._∷_ (31, row·80) List.[])))))))))))))))) (List._++_ t54 t3)); slots = List.[] }
 
 abbrev pub T74 : Row.Cx
-T74 = record { locals = List._++_ t69 (List._++_ t1 (List._++_ t54 t3)); slots = List.[] }
+T74 = record
+    { locals = List._++_ (List._∷_ (0, row·0) (List._∷_ (1, row·1) (List._∷_ (2, row·2) (List._∷_ (3, row·3) (List._∷_ (4, row·38) (List._∷_ (5, row·38) (List._∷_ (6, row·40) (List._∷_ (7, row·42) (List._∷_ (8, row·44) (List._∷_ (9, row·46) (List._∷_ (10, row·42) (List._∷_ (11, row·48) (List._∷_ (12, row·75) (List._∷_ (13, row·78) (List._∷_ (14, row·12) (List._∷_ (15, row·13) List.[])))))))))))))))) (List._++_ t1 (List._++_ t54 t3)); slots = List.[] }
 
 abbrev pub T77 : Row.Cx
-T77 = record { locals = List._++_ t70 (List._++_ t1 (List._++_ t2 t3)); slots = List.[] }
+T77 = record
+    { locals = List._++_ (List._∷_ (0, row·0) (List._∷_ (1, row·1) (List._∷_ (2, row·2) (List._∷_ (3, row·3) (List._∷_ (4, row·38) (List._∷_ (5, row·38) (List._∷_ (6, row·40) (List._∷_ (7, row·42) (List._∷_ (8, row·44) (List._∷_ (9, row·46) (List._∷_ (10, row·42) (List._∷_ (11, row·48) (List._∷_ (12, row·50) (List._∷_ (13, row·78) (List._∷_ (14, row·12) (List._∷_ (15, row·13) List.[])))))))))))))))) (List._++_ t1 (List._++_ t2 t3)); slots = List.[] }
 
 abbrev pub T79 : Row.Cx
-T79 = record { locals = List._++_ t71 (List._++_ t1 (List._++_ t2 t3)); slots = List.[] }
+T79 = record
+    { locals = List._++_ (List._∷_ (0, row·0) (List._∷_ (1, row·1) (List._∷_ (2, row·2) (List._∷_ (3, row·3) (List._∷_ (4, row·38) (List._∷_ (5, row·38) (List._∷_ (6, row·40) (List._∷_ (7, row·42) (List._∷_ (8, row·44) (List._∷_ (9, row·46) (List._∷_ (10, row·42) (List._∷_ (11, row·48) (List._∷_ (12, row·50) (List._∷_ (13, row·78) (List._∷_ (14, row·2) (List._∷_ (15, row·13) List.[])))))))))))))))) (List._++_ t1 (List._++_ t2 t3)); slots = List.[] }
 
 abbrev pub T80 : Row.Cx
 T80 = record { locals = List._++_ t72 (List._++_ t1 (List._++_ t2 t3)); slots = List.[] }
@@ -1515,32 +1196,37 @@ T80 = record { locals = List._++_ t72 (List._++_ t1 (List._++_ t2 t3)); slots = 
 abbrev pub T81 : Row.Cx
 T81 = record { locals = List._++_ t72 (List._++_ t1 (List._++_ t73 t3)); slots = List.[] }
 
-abbrev pub T82 : Row.Cx
-T82 = record { locals = List._++_ t72 (List._++_ t1 (List._++_ t2 t3)); slots = List.[] }
-
 abbrev pub T83 : Row.Cx
-T83 = record { locals = List._++_ t74 (List._++_ t1 (List._++_ t73 t3)); slots = List.[] }
+T83 = record
+    { locals = List._++_ (List._∷_ (0, row·0) (List._∷_ (1, row·1) (List._∷_ (2, row·2) (List._∷_ (3, row·3) (List._∷_ (4, row·4) (List._∷_ (5, row·38) (List._∷_ (6, row·40) (List._∷_ (7, row·42) (List._∷_ (8, row·44) (List._∷_ (9, row·46) (List._∷_ (10, row·42) (List._∷_ (11, row·48) (List._∷_ (12, row·50) (List._∷_ (13, row·11) (List._∷_ (14, row·2) (List._∷_ (15, row·13) List.[])))))))))))))))) (List._++_ t1 (List._++_ t73 t3)); slots = List.[] }
 
 abbrev pub T84 : Row.Cx
-T84 = record { locals = List._++_ t75 (List._++_ t1 (List._++_ t73 t3)); slots = List.[] }
+T84 = record
+    { locals = List._++_ (List._∷_ (0, row·0) (List._∷_ (1, row·1) (List._∷_ (2, row·2) (List._∷_ (3, row·3) (List._∷_ (4, row·4) (List._∷_ (5, row·4) (List._∷_ (6, row·40) (List._∷_ (7, row·42) (List._∷_ (8, row·44) (List._∷_ (9, row·46) (List._∷_ (10, row·42) (List._∷_ (11, row·48) (List._∷_ (12, row·50) (List._∷_ (13, row·11) (List._∷_ (14, row·2) (List._∷_ (15, row·13) List.[])))))))))))))))) (List._++_ t1 (List._++_ t73 t3)); slots = List.[] }
 
 abbrev pub T85 : Row.Cx
-T85 = record { locals = List._++_ t76 (List._++_ t1 (List._++_ t73 t3)); slots = List.[] }
+T85 = record
+    { locals = List._++_ (List._∷_ (0, row·0) (List._∷_ (1, row·1) (List._∷_ (2, row·2) (List._∷_ (3, row·3) (List._∷_ (4, row·4) (List._∷_ (5, row·4) (List._∷_ (6, row·5) (List._∷_ (7, row·42) (List._∷_ (8, row·44) (List._∷_ (9, row·46) (List._∷_ (10, row·42) (List._∷_ (11, row·48) (List._∷_ (12, row·50) (List._∷_ (13, row·11) (List._∷_ (14, row·2) (List._∷_ (15, row·13) List.[])))))))))))))))) (List._++_ t1 (List._++_ t73 t3)); slots = List.[] }
 
 abbrev pub T86 : Row.Cx
-T86 = record { locals = List._++_ t77 (List._++_ t1 (List._++_ t73 t3)); slots = List.[] }
+T86 = record
+    { locals = List._++_ (List._∷_ (0, row·0) (List._∷_ (1, row·1) (List._∷_ (2, row·2) (List._∷_ (3, row·3) (List._∷_ (4, row·4) (List._∷_ (5, row·4) (List._∷_ (6, row·5) (List._∷_ (7, row·6) (List._∷_ (8, row·44) (List._∷_ (9, row·46) (List._∷_ (10, row·42) (List._∷_ (11, row·48) (List._∷_ (12, row·50) (List._∷_ (13, row·11) (List._∷_ (14, row·2) (List._∷_ (15, row·13) List.[])))))))))))))))) (List._++_ t1 (List._++_ t73 t3)); slots = List.[] }
 
 abbrev pub T87 : Row.Cx
-T87 = record { locals = List._++_ t78 (List._++_ t1 (List._++_ t73 t3)); slots = List.[] }
+T87 = record
+    { locals = List._++_ (List._∷_ (0, row·0) (List._∷_ (1, row·1) (List._∷_ (2, row·2) (List._∷_ (3, row·3) (List._∷_ (4, row·4) (List._∷_ (5, row·4) (List._∷_ (6, row·5) (List._∷_ (7, row·6) (List._∷_ (8, row·7) (List._∷_ (9, row·46) (List._∷_ (10, row·42) (List._∷_ (11, row·48) (List._∷_ (12, row·50) (List._∷_ (13, row·11) (List._∷_ (14, row·2) (List._∷_ (15, row·13) List.[])))))))))))))))) (List._++_ t1 (List._++_ t73 t3)); slots = List.[] }
 
 abbrev pub T88 : Row.Cx
-T88 = record { locals = List._++_ t79 (List._++_ t1 (List._++_ t73 t3)); slots = List.[] }
+T88 = record
+    { locals = List._++_ (List._∷_ (0, row·0) (List._∷_ (1, row·1) (List._∷_ (2, row·2) (List._∷_ (3, row·3) (List._∷_ (4, row·4) (List._∷_ (5, row·4) (List._∷_ (6, row·5) (List._∷_ (7, row·6) (List._∷_ (8, row·7) (List._∷_ (9, row·8) (List._∷_ (10, row·42) (List._∷_ (11, row·48) (List._∷_ (12, row·50) (List._∷_ (13, row·11) (List._∷_ (14, row·2) (List._∷_ (15, row·13) List.[])))))))))))))))) (List._++_ t1 (List._++_ t73 t3)); slots = List.[] }
 
 abbrev pub T89 : Row.Cx
-T89 = record { locals = List._++_ t80 (List._++_ t1 (List._++_ t73 t3)); slots = List.[] }
+T89 = record
+    { locals = List._++_ (List._∷_ (0, row·0) (List._∷_ (1, row·1) (List._∷_ (2, row·2) (List._∷_ (3, row·3) (List._∷_ (4, row·4) (List._∷_ (5, row·4) (List._∷_ (6, row·5) (List._∷_ (7, row·6) (List._∷_ (8, row·7) (List._∷_ (9, row·8) (List._∷_ (10, row·6) (List._∷_ (11, row·48) (List._∷_ (12, row·50) (List._∷_ (13, row·11) (List._∷_ (14, row·2) (List._∷_ (15, row·13) List.[])))))))))))))))) (List._++_ t1 (List._++_ t73 t3)); slots = List.[] }
 
 abbrev pub T90 : Row.Cx
-T90 = record { locals = List._++_ t81 (List._++_ t1 (List._++_ t73 t3)); slots = List.[] }
+T90 = record
+    { locals = List._++_ (List._∷_ (0, row·0) (List._∷_ (1, row·1) (List._∷_ (2, row·2) (List._∷_ (3, row·3) (List._∷_ (4, row·4) (List._∷_ (5, row·4) (List._∷_ (6, row·5) (List._∷_ (7, row·6) (List._∷_ (8, row·7) (List._∷_ (9, row·8) (List._∷_ (10, row·6) (List._∷_ (11, row·9) (List._∷_ (12, row·50) (List._∷_ (13, row·11) (List._∷_ (14, row·2) (List._∷_ (15, row·13) List.[])))))))))))))))) (List._++_ t1 (List._++_ t73 t3)); slots = List.[] }
 
 abbrev pub T91 : Row.Cx
 T91 = record { locals = List._++_ t82 (List._++_ t1 (List._++_ t73 t3)); slots = List.[] }
@@ -1549,88 +1235,101 @@ abbrev pub T92 : Row.Cx
 T92 = record { locals = List._++_ t82 (List._++_ t1 (List._++_ t2 t3)); slots = List.[] }
 
 abbrev pub T93 : Row.Cx
-T93 = record { locals = List._++_ t83 (List._++_ t1 (List._++_ t2 t3)); slots = List.[] }
+T93 = record
+    { locals = List._++_ (List._∷_ (0, row·36) (List._∷_ (1, row·1) (List._∷_ (2, row·2) (List._∷_ (3, row·3) (List._∷_ (4, row·4) (List._∷_ (5, row·4) (List._∷_ (6, row·5) (List._∷_ (7, row·6) (List._∷_ (8, row·7) (List._∷_ (9, row·8) (List._∷_ (10, row·6) (List._∷_ (11, row·9) (List._∷_ (12, row·10) (List._∷_ (13, row·11) (List._∷_ (14, row·2) (List._∷_ (15, row·13) List.[])))))))))))))))) (List._++_ t1 (List._++_ t2 t3)); slots = List.[] }
 
 abbrev pub T94 : Row.Cx
-T94 = record { locals = List._++_ t84 (List._++_ t1 (List._++_ t2 t3)); slots = List.[] }
-
-abbrev pub T95 : Row.Cx
-T95 = record { locals = List._++_ t4 (List._++_ t1 (List._++_ t2 t3)); slots = List.[] }
-
-abbrev pub T96 : Row.Cx
-T96 = record { locals = List._++_ t72 (List._++_ t1 (List._++_ t2 t3)); slots = List.[] }
+T94 = record
+    { locals = List._++_ (List._∷_ (0, row·36) (List._∷_ (1, row·1) (List._∷_ (2, row·12) (List._∷_ (3, row·3) (List._∷_ (4, row·4) (List._∷_ (5, row·4) (List._∷_ (6, row·5) (List._∷_ (7, row·6) (List._∷_ (8, row·7) (List._∷_ (9, row·8) (List._∷_ (10, row·6) (List._∷_ (11, row·9) (List._∷_ (12, row·10) (List._∷_ (13, row·11) (List._∷_ (14, row·2) (List._∷_ (15, row·13) List.[])))))))))))))))) (List._++_ t1 (List._++_ t2 t3)); slots = List.[] }
 
 abbrev pub T98 : Row.Cx
-T98 = record { locals = List._++_ t85 (List._++_ t1 (List._++_ t86 t3)); slots = List.[] }
+T98 = record
+    { locals = List._++_ t85 (List._++_ t1 (List._++_ (List._∷_ (32, row·23) (List._∷_ (33, row·24) (List._∷_ (34, row·25) (List._∷_ (35, row·85) (List._∷_ (36, row·27) (List._∷_ (37, row·26) (List._∷_ (38, row·27) (List._∷_ (39, row·28) (List._∷_ (40, row·29) (List._∷_ (41, row·30) (List._∷_ (42, row·27) (List._∷_ (43, row·31) (List._∷_ (44, row·27) (List._∷_ (45, row·32) (List._∷_ (46, row·33) (List._∷_ (47, row·18) List.[])))))))))))))))) t3)); slots = List.[] }
 
 abbrev pub T99 : Row.Cx
-T99 = record { locals = List._++_ t85 (List._++_ t1 (List._++_ t87 t3)); slots = List.[] }
+T99 = record
+    { locals = List._++_ t85 (List._++_ t1 (List._++_ (List._∷_ (32, row·23) (List._∷_ (33, row·24) (List._∷_ (34, row·25) (List._∷_ (35, row·26) (List._∷_ (36, row·86) (List._∷_ (37, row·26) (List._∷_ (38, row·27) (List._∷_ (39, row·28) (List._∷_ (40, row·29) (List._∷_ (41, row·30) (List._∷_ (42, row·27) (List._∷_ (43, row·31) (List._∷_ (44, row·27) (List._∷_ (45, row·32) (List._∷_ (46, row·33) (List._∷_ (47, row·18) List.[])))))))))))))))) t3)); slots = List.[] }
 
 abbrev pub T101 : Row.Cx
-T101 = record { locals = List._++_ t88 (List._++_ t1 (List._++_ t89 t3)); slots = List.[] }
+T101 = record
+    { locals = List._++_ t88 (List._++_ t1 (List._++_ (List._∷_ (32, row·23) (List._∷_ (33, row·24) (List._∷_ (34, row·25) (List._∷_ (35, row·26) (List._∷_ (36, row·86) (List._∷_ (37, row·88) (List._∷_ (38, row·27) (List._∷_ (39, row·28) (List._∷_ (40, row·29) (List._∷_ (41, row·30) (List._∷_ (42, row·27) (List._∷_ (43, row·31) (List._∷_ (44, row·27) (List._∷_ (45, row·32) (List._∷_ (46, row·33) (List._∷_ (47, row·18) List.[])))))))))))))))) t3)); slots = List.[] }
 
 abbrev pub T102 : Row.Cx
-T102 = record { locals = List._++_ t88 (List._++_ t1 (List._++_ t90 t3)); slots = List.[] }
+T102 = record
+    { locals = List._++_ t88 (List._++_ t1 (List._++_ (List._∷_ (32, row·23) (List._∷_ (33, row·24) (List._∷_ (34, row·25) (List._∷_ (35, row·26) (List._∷_ (36, row·86) (List._∷_ (37, row·26) (List._∷_ (38, row·89) (List._∷_ (39, row·28) (List._∷_ (40, row·29) (List._∷_ (41, row·30) (List._∷_ (42, row·27) (List._∷_ (43, row·31) (List._∷_ (44, row·27) (List._∷_ (45, row·32) (List._∷_ (46, row·33) (List._∷_ (47, row·18) List.[])))))))))))))))) t3)); slots = List.[] }
 
 abbrev pub T104 : Row.Cx
-T104 = record { locals = List._++_ t91 (List._++_ t1 (List._++_ t92 t3)); slots = List.[] }
+T104 = record
+    { locals = List._++_ t91 (List._++_ t1 (List._++_ (List._∷_ (32, row·23) (List._∷_ (33, row·24) (List._∷_ (34, row·25) (List._∷_ (35, row·26) (List._∷_ (36, row·86) (List._∷_ (37, row·26) (List._∷_ (38, row·89) (List._∷_ (39, row·91) (List._∷_ (40, row·29) (List._∷_ (41, row·30) (List._∷_ (42, row·27) (List._∷_ (43, row·31) (List._∷_ (44, row·27) (List._∷_ (45, row·32) (List._∷_ (46, row·33) (List._∷_ (47, row·18) List.[])))))))))))))))) t3)); slots = List.[] }
 
 abbrev pub T105 : Row.Cx
-T105 = record { locals = List._++_ t91 (List._++_ t1 (List._++_ t93 t3)); slots = List.[] }
+T105 = record
+    { locals = List._++_ t91 (List._++_ t1 (List._++_ (List._∷_ (32, row·23) (List._∷_ (33, row·24) (List._∷_ (34, row·25) (List._∷_ (35, row·26) (List._∷_ (36, row·86) (List._∷_ (37, row·26) (List._∷_ (38, row·89) (List._∷_ (39, row·28) (List._∷_ (40, row·92) (List._∷_ (41, row·30) (List._∷_ (42, row·27) (List._∷_ (43, row·31) (List._∷_ (44, row·27) (List._∷_ (45, row·32) (List._∷_ (46, row·33) (List._∷_ (47, row·18) List.[])))))))))))))))) t3)); slots = List.[] }
 
 abbrev pub T107 : Row.Cx
-T107 = record { locals = List._++_ t94 (List._++_ t1 (List._++_ t95 t3)); slots = List.[] }
+T107 = record
+    { locals = List._++_ t94 (List._++_ t1 (List._++_ (List._∷_ (32, row·23) (List._∷_ (33, row·24) (List._∷_ (34, row·25) (List._∷_ (35, row·26) (List._∷_ (36, row·86) (List._∷_ (37, row·26) (List._∷_ (38, row·89) (List._∷_ (39, row·28) (List._∷_ (40, row·92) (List._∷_ (41, row·94) (List._∷_ (42, row·27) (List._∷_ (43, row·31) (List._∷_ (44, row·27) (List._∷_ (45, row·32) (List._∷_ (46, row·33) (List._∷_ (47, row·18) List.[])))))))))))))))) t3)); slots = List.[] }
 
 abbrev pub T108 : Row.Cx
-T108 = record { locals = List._++_ t94 (List._++_ t1 (List._++_ t96 t3)); slots = List.[] }
+T108 = record
+    { locals = List._++_ t94 (List._++_ t1 (List._++_ (List._∷_ (32, row·23) (List._∷_ (33, row·24) (List._∷_ (34, row·25) (List._∷_ (35, row·26) (List._∷_ (36, row·86) (List._∷_ (37, row·26) (List._∷_ (38, row·89) (List._∷_ (39, row·28) (List._∷_ (40, row·92) (List._∷_ (41, row·30) (List._∷_ (42, row·95) (List._∷_ (43, row·31) (List._∷_ (44, row·27) (List._∷_ (45, row·32) (List._∷_ (46, row·33) (List._∷_ (47, row·18) List.[])))))))))))))))) t3)); slots = List.[] }
 
 abbrev pub T110 : Row.Cx
-T110 = record { locals = List._++_ t97 (List._++_ t1 (List._++_ t98 t3)); slots = List.[] }
+T110 = record
+    { locals = List._++_ t97 (List._++_ t1 (List._++_ (List._∷_ (32, row·23) (List._∷_ (33, row·24) (List._∷_ (34, row·25) (List._∷_ (35, row·26) (List._∷_ (36, row·86) (List._∷_ (37, row·26) (List._∷_ (38, row·89) (List._∷_ (39, row·28) (List._∷_ (40, row·92) (List._∷_ (41, row·30) (List._∷_ (42, row·95) (List._∷_ (43, row·97) (List._∷_ (44, row·27) (List._∷_ (45, row·32) (List._∷_ (46, row·33) (List._∷_ (47, row·18) List.[])))))))))))))))) t3)); slots = List.[] }
 
 abbrev pub T111 : Row.Cx
-T111 = record { locals = List._++_ t97 (List._++_ t1 (List._++_ t99 t3)); slots = List.[] }
+T111 = record
+    { locals = List._++_ t97 (List._++_ t1 (List._++_ (List._∷_ (32, row·23) (List._∷_ (33, row·24) (List._∷_ (34, row·25) (List._∷_ (35, row·26) (List._∷_ (36, row·86) (List._∷_ (37, row·26) (List._∷_ (38, row·89) (List._∷_ (39, row·28) (List._∷_ (40, row·92) (List._∷_ (41, row·30) (List._∷_ (42, row·95) (List._∷_ (43, row·31) (List._∷_ (44, row·98) (List._∷_ (45, row·32) (List._∷_ (46, row·33) (List._∷_ (47, row·18) List.[])))))))))))))))) t3)); slots = List.[] }
 
 abbrev pub T113 : Row.Cx
-T113 = record { locals = List._++_ t100 (List._++_ t1 (List._++_ t101 t3)); slots = List.[] }
+T113 = record
+    { locals = List._++_ t100 (List._++_ t1 (List._++_ (List._∷_ (32, row·23) (List._∷_ (33, row·24) (List._∷_ (34, row·25) (List._∷_ (35, row·26) (List._∷_ (36, row·86) (List._∷_ (37, row·26) (List._∷_ (38, row·89) (List._∷_ (39, row·28) (List._∷_ (40, row·92) (List._∷_ (41, row·30) (List._∷_ (42, row·95) (List._∷_ (43, row·31) (List._∷_ (44, row·98) (List._∷_ (45, row·100) (List._∷_ (46, row·33) (List._∷_ (47, row·18) List.[])))))))))))))))) t3)); slots = List.[] }
 
 abbrev pub T114 : Row.Cx
 T114 = record { locals = List._++_ t100 (List._++_ t1 (List._++_ t102 t3)); slots = List.[] }
 
 abbrev pub T116 : Row.Cx
-T116 = record { locals = List._++_ t103 (List._++_ t1 (List._++_ t104 t3)); slots = List.[] }
+T116 = record
+    { locals = List._++_ t103 (List._++_ t1 (List._++_ (List._∷_ (32, row·23) (List._∷_ (33, row·24) (List._∷_ (34, row·25) (List._∷_ (35, row·26) (List._∷_ (36, row·86) (List._∷_ (37, row·26) (List._∷_ (38, row·89) (List._∷_ (39, row·28) (List._∷_ (40, row·92) (List._∷_ (41, row·30) (List._∷_ (42, row·95) (List._∷_ (43, row·31) (List._∷_ (44, row·98) (List._∷_ (45, row·32) (List._∷_ (46, row·101) (List._∷_ (47, row·103) List.[])))))))))))))))) t3)); slots = List.[] }
 
 abbrev pub T117 : Row.Cx
-T117 = record { locals = List._++_ t103 (List._++_ t1 (List._++_ t102 t105)); slots = List.[] }
+T117 = record { locals = List._++_ t103 (List._++_ t1 (List._++_ t102 (List._∷_ (48, row·104) (List._∷_ (49, row·22) (List._∷_ (50, row·17) (List._∷_ (51, row·34) (List._∷_ (52, row·35) List.[]))))))); slots = List.[] }
 
 abbrev pub T119 : Row.Cx
-T119 = record { locals = List._++_ t106 (List._++_ t1 (List._++_ t102 t107)); slots = List.[] }
+T119 = record { locals = List._++_ t106 (List._++_ t1 (List._++_ t102 (List._∷_ (48, row·104) (List._∷_ (49, row·106) (List._∷_ (50, row·17) (List._∷_ (51, row·34) (List._∷_ (52, row·35) List.[]))))))); slots = List.[] }
 
 abbrev pub T120 : Row.Cx
-T120 = record { locals = List._++_ t106 (List._++_ t1 (List._++_ t102 t108)); slots = List.[] }
+T120 = record { locals = List._++_ t106 (List._++_ t1 (List._++_ t102 (List._∷_ (48, row·104) (List._∷_ (49, row·22) (List._∷_ (50, row·107) (List._∷_ (51, row·34) (List._∷_ (52, row·35) List.[]))))))); slots = List.[] }
 
 abbrev pub T122 : Row.Cx
-T122 = record { locals = List._++_ t109 (List._++_ t1 (List._++_ t102 t110)); slots = List.[] }
+T122 = record { locals = List._++_ t109 (List._++_ t1 (List._++_ t102 (List._∷_ (48, row·104) (List._∷_ (49, row·22) (List._∷_ (50, row·107) (List._∷_ (51, row·109) (List._∷_ (52, row·35) List.[]))))))); slots = List.[] }
 
 abbrev pub T123 : Row.Cx
-T123 = record { locals = List._++_ t109 (List._++_ t1 (List._++_ t102 t111)); slots = List.[] }
+T123 = record { locals = List._++_ t109 (List._++_ t1 (List._++_ t102 (List._∷_ (48, row·104) (List._∷_ (49, row·22) (List._∷_ (50, row·107) (List._∷_ (51, row·34) (List._∷_ (52, row·110) List.[]))))))); slots = List.[] }
 
 abbrev pub T124 : Row.Cx
 T124 = record { locals = List._++_ t112 (List._++_ t1 (List._++_ t102 t113)); slots = List.[] }
 
 abbrev pub T125 : Row.Cx
-T125 = record { locals = List._++_ t112 (List._++_ t1 (List._++_ t114 t113)); slots = List.[] }
+T125 = record
+    { locals = List._++_ t112 (List._++_ t1 (List._++_ (List._∷_ (32, row·23) (List._∷_ (33, row·24) (List._∷_ (34, row·25) (List._∷_ (35, row·26) (List._∷_ (36, row·27) (List._∷_ (37, row·26) (List._∷_ (38, row·89) (List._∷_ (39, row·28) (List._∷_ (40, row·92) (List._∷_ (41, row·30) (List._∷_ (42, row·95) (List._∷_ (43, row·31) (List._∷_ (44, row·98) (List._∷_ (45, row·32) (List._∷_ (46, row·101) (List._∷_ (47, row·18) List.[])))))))))))))))) t113)); slots = List.[] }
 
 abbrev pub T126 : Row.Cx
-T126 = record { locals = List._++_ t112 (List._++_ t1 (List._++_ t115 t113)); slots = List.[] }
+T126 = record
+    { locals = List._++_ t112 (List._++_ t1 (List._++_ (List._∷_ (32, row·23) (List._∷_ (33, row·24) (List._∷_ (34, row·25) (List._∷_ (35, row·26) (List._∷_ (36, row·27) (List._∷_ (37, row·26) (List._∷_ (38, row·27) (List._∷_ (39, row·28) (List._∷_ (40, row·92) (List._∷_ (41, row·30) (List._∷_ (42, row·95) (List._∷_ (43, row·31) (List._∷_ (44, row·98) (List._∷_ (45, row·32) (List._∷_ (46, row·101) (List._∷_ (47, row·18) List.[])))))))))))))))) t113)); slots = List.[] }
 
 abbrev pub T127 : Row.Cx
-T127 = record { locals = List._++_ t112 (List._++_ t1 (List._++_ t116 t113)); slots = List.[] }
+T127 = record
+    { locals = List._++_ t112 (List._++_ t1 (List._++_ (List._∷_ (32, row·23) (List._∷_ (33, row·24) (List._∷_ (34, row·25) (List._∷_ (35, row·26) (List._∷_ (36, row·27) (List._∷_ (37, row·26) (List._∷_ (38, row·27) (List._∷_ (39, row·28) (List._∷_ (40, row·29) (List._∷_ (41, row·30) (List._∷_ (42, row·95) (List._∷_ (43, row·31) (List._∷_ (44, row·98) (List._∷_ (45, row·32) (List._∷_ (46, row·101) (List._∷_ (47, row·18) List.[])))))))))))))))) t113)); slots = List.[] }
 
 abbrev pub T128 : Row.Cx
-T128 = record { locals = List._++_ t112 (List._++_ t1 (List._++_ t117 t113)); slots = List.[] }
+T128 = record
+    { locals = List._++_ t112 (List._++_ t1 (List._++_ (List._∷_ (32, row·23) (List._∷_ (33, row·24) (List._∷_ (34, row·25) (List._∷_ (35, row·26) (List._∷_ (36, row·27) (List._∷_ (37, row·26) (List._∷_ (38, row·27) (List._∷_ (39, row·28) (List._∷_ (40, row·29) (List._∷_ (41, row·30) (List._∷_ (42, row·27) (List._∷_ (43, row·31) (List._∷_ (44, row·98) (List._∷_ (45, row·32) (List._∷_ (46, row·101) (List._∷_ (47, row·18) List.[])))))))))))))))) t113)); slots = List.[] }
 
 abbrev pub T129 : Row.Cx
-T129 = record { locals = List._++_ t112 (List._++_ t1 (List._++_ t118 t113)); slots = List.[] }
+T129 = record
+    { locals = List._++_ t112 (List._++_ t1 (List._++_ (List._∷_ (32, row·23) (List._∷_ (33, row·24) (List._∷_ (34, row·25) (List._∷_ (35, row·26) (List._∷_ (36, row·27) (List._∷_ (37, row·26) (List._∷_ (38, row·27) (List._∷_ (39, row·28) (List._∷_ (40, row·29) (List._∷_ (41, row·30) (List._∷_ (42, row·27) (List._∷_ (43, row·31) (List._∷_ (44, row·27) (List._∷_ (45, row·32) (List._∷_ (46, row·101) (List._∷_ (47, row·18) List.[])))))))))))))))) t113)); slots = List.[] }
 
 abbrev pub T130 : Row.Cx
 T130 = record { locals = List._++_ t112 (List._++_ t1 (List._++_ t2 t113)); slots = List.[] }
@@ -1639,80 +1338,102 @@ abbrev pub T131 : Row.Cx
 T131 = record { locals = List._++_ t112 (List._++_ t1 (List._++_ t2 t119)); slots = List.[] }
 
 abbrev pub T132 : Row.Cx
-T132 = record { locals = List._++_ t120 (List._++_ t1 (List._++_ t2 t119)); slots = List.[] }
+T132 = record
+    { locals = List._++_ (List._∷_ (0, row·36) (List._∷_ (1, row·1) (List._∷_ (2, row·2) (List._∷_ (3, row·3) (List._∷_ (4, row·84) (List._∷_ (5, row·87) (List._∷_ (6, row·90) (List._∷_ (7, row·93) (List._∷_ (8, row·96) (List._∷_ (9, row·99) (List._∷_ (10, row·102) (List._∷_ (11, row·105) (List._∷_ (12, row·108) (List._∷_ (13, row·11) (List._∷_ (14, row·12) (List._∷_ (15, row·13) List.[])))))))))))))))) (List._++_ t1 (List._++_ t2 t119)); slots = List.[] }
 
 abbrev pub T134 : Row.Cx
-T134 = record { locals = List._++_ t121 (List._++_ t1 (List._++_ t2 t119)); slots = List.[] }
+T134 = record
+    { locals = List._++_ (List._∷_ (0, row·36) (List._∷_ (1, row·1) (List._∷_ (2, row·2) (List._∷_ (3, row·3) (List._∷_ (4, row·38) (List._∷_ (5, row·87) (List._∷_ (6, row·90) (List._∷_ (7, row·93) (List._∷_ (8, row·96) (List._∷_ (9, row·99) (List._∷_ (10, row·102) (List._∷_ (11, row·105) (List._∷_ (12, row·108) (List._∷_ (13, row·11) (List._∷_ (14, row·12) (List._∷_ (15, row·13) List.[])))))))))))))))) (List._++_ t1 (List._++_ t2 t119)); slots = List.[] }
 
 abbrev pub T136 : Row.Cx
-T136 = record { locals = List._++_ t122 (List._++_ t1 (List._++_ t2 t119)); slots = List.[] }
+T136 = record
+    { locals = List._++_ (List._∷_ (0, row·36) (List._∷_ (1, row·1) (List._∷_ (2, row·2) (List._∷_ (3, row·3) (List._∷_ (4, row·4) (List._∷_ (5, row·87) (List._∷_ (6, row·90) (List._∷_ (7, row·93) (List._∷_ (8, row·96) (List._∷_ (9, row·99) (List._∷_ (10, row·102) (List._∷_ (11, row·105) (List._∷_ (12, row·108) (List._∷_ (13, row·11) (List._∷_ (14, row·12) (List._∷_ (15, row·13) List.[])))))))))))))))) (List._++_ t1 (List._++_ t2 t119)); slots = List.[] }
 
 abbrev pub T138 : Row.Cx
-T138 = record { locals = List._++_ t123 (List._++_ t1 (List._++_ t2 t119)); slots = List.[] }
+T138 = record
+    { locals = List._++_ (List._∷_ (0, row·36) (List._∷_ (1, row·1) (List._∷_ (2, row·2) (List._∷_ (3, row·3) (List._∷_ (4, row·4) (List._∷_ (5, row·38) (List._∷_ (6, row·90) (List._∷_ (7, row·93) (List._∷_ (8, row·96) (List._∷_ (9, row·99) (List._∷_ (10, row·102) (List._∷_ (11, row·105) (List._∷_ (12, row·108) (List._∷_ (13, row·11) (List._∷_ (14, row·12) (List._∷_ (15, row·13) List.[])))))))))))))))) (List._++_ t1 (List._++_ t2 t119)); slots = List.[] }
 
 abbrev pub T140 : Row.Cx
-T140 = record { locals = List._++_ t124 (List._++_ t1 (List._++_ t2 t119)); slots = List.[] }
+T140 = record
+    { locals = List._++_ (List._∷_ (0, row·36) (List._∷_ (1, row·1) (List._∷_ (2, row·2) (List._∷_ (3, row·3) (List._∷_ (4, row·4) (List._∷_ (5, row·4) (List._∷_ (6, row·90) (List._∷_ (7, row·93) (List._∷_ (8, row·96) (List._∷_ (9, row·99) (List._∷_ (10, row·102) (List._∷_ (11, row·105) (List._∷_ (12, row·108) (List._∷_ (13, row·11) (List._∷_ (14, row·12) (List._∷_ (15, row·13) List.[])))))))))))))))) (List._++_ t1 (List._++_ t2 t119)); slots = List.[] }
 
 abbrev pub T142 : Row.Cx
-T142 = record { locals = List._++_ t125 (List._++_ t1 (List._++_ t2 t119)); slots = List.[] }
+T142 = record
+    { locals = List._++_ (List._∷_ (0, row·36) (List._∷_ (1, row·1) (List._∷_ (2, row·2) (List._∷_ (3, row·3) (List._∷_ (4, row·4) (List._∷_ (5, row·4) (List._∷_ (6, row·40) (List._∷_ (7, row·93) (List._∷_ (8, row·96) (List._∷_ (9, row·99) (List._∷_ (10, row·102) (List._∷_ (11, row·105) (List._∷_ (12, row·108) (List._∷_ (13, row·11) (List._∷_ (14, row·12) (List._∷_ (15, row·13) List.[])))))))))))))))) (List._++_ t1 (List._++_ t2 t119)); slots = List.[] }
 
 abbrev pub T144 : Row.Cx
-T144 = record { locals = List._++_ t126 (List._++_ t1 (List._++_ t2 t119)); slots = List.[] }
+T144 = record
+    { locals = List._++_ (List._∷_ (0, row·36) (List._∷_ (1, row·1) (List._∷_ (2, row·2) (List._∷_ (3, row·3) (List._∷_ (4, row·4) (List._∷_ (5, row·4) (List._∷_ (6, row·5) (List._∷_ (7, row·93) (List._∷_ (8, row·96) (List._∷_ (9, row·99) (List._∷_ (10, row·102) (List._∷_ (11, row·105) (List._∷_ (12, row·108) (List._∷_ (13, row·11) (List._∷_ (14, row·12) (List._∷_ (15, row·13) List.[])))))))))))))))) (List._++_ t1 (List._++_ t2 t119)); slots = List.[] }
 
 abbrev pub T146 : Row.Cx
-T146 = record { locals = List._++_ t127 (List._++_ t1 (List._++_ t2 t119)); slots = List.[] }
+T146 = record
+    { locals = List._++_ (List._∷_ (0, row·36) (List._∷_ (1, row·1) (List._∷_ (2, row·2) (List._∷_ (3, row·3) (List._∷_ (4, row·4) (List._∷_ (5, row·4) (List._∷_ (6, row·5) (List._∷_ (7, row·42) (List._∷_ (8, row·96) (List._∷_ (9, row·99) (List._∷_ (10, row·102) (List._∷_ (11, row·105) (List._∷_ (12, row·108) (List._∷_ (13, row·11) (List._∷_ (14, row·12) (List._∷_ (15, row·13) List.[])))))))))))))))) (List._++_ t1 (List._++_ t2 t119)); slots = List.[] }
 
 abbrev pub T148 : Row.Cx
-T148 = record { locals = List._++_ t128 (List._++_ t1 (List._++_ t2 t119)); slots = List.[] }
+T148 = record
+    { locals = List._++_ (List._∷_ (0, row·36) (List._∷_ (1, row·1) (List._∷_ (2, row·2) (List._∷_ (3, row·3) (List._∷_ (4, row·4) (List._∷_ (5, row·4) (List._∷_ (6, row·5) (List._∷_ (7, row·6) (List._∷_ (8, row·96) (List._∷_ (9, row·99) (List._∷_ (10, row·102) (List._∷_ (11, row·105) (List._∷_ (12, row·108) (List._∷_ (13, row·11) (List._∷_ (14, row·12) (List._∷_ (15, row·13) List.[])))))))))))))))) (List._++_ t1 (List._++_ t2 t119)); slots = List.[] }
 
 abbrev pub T150 : Row.Cx
-T150 = record { locals = List._++_ t129 (List._++_ t1 (List._++_ t2 t119)); slots = List.[] }
+T150 = record
+    { locals = List._++_ (List._∷_ (0, row·36) (List._∷_ (1, row·1) (List._∷_ (2, row·2) (List._∷_ (3, row·3) (List._∷_ (4, row·4) (List._∷_ (5, row·4) (List._∷_ (6, row·5) (List._∷_ (7, row·6) (List._∷_ (8, row·44) (List._∷_ (9, row·99) (List._∷_ (10, row·102) (List._∷_ (11, row·105) (List._∷_ (12, row·108) (List._∷_ (13, row·11) (List._∷_ (14, row·12) (List._∷_ (15, row·13) List.[])))))))))))))))) (List._++_ t1 (List._++_ t2 t119)); slots = List.[] }
 
 abbrev pub T152 : Row.Cx
-T152 = record { locals = List._++_ t130 (List._++_ t1 (List._++_ t2 t119)); slots = List.[] }
+T152 = record
+    { locals = List._++_ (List._∷_ (0, row·36) (List._∷_ (1, row·1) (List._∷_ (2, row·2) (List._∷_ (3, row·3) (List._∷_ (4, row·4) (List._∷_ (5, row·4) (List._∷_ (6, row·5) (List._∷_ (7, row·6) (List._∷_ (8, row·7) (List._∷_ (9, row·99) (List._∷_ (10, row·102) (List._∷_ (11, row·105) (List._∷_ (12, row·108) (List._∷_ (13, row·11) (List._∷_ (14, row·12) (List._∷_ (15, row·13) List.[])))))))))))))))) (List._++_ t1 (List._++_ t2 t119)); slots = List.[] }
 
 abbrev pub T154 : Row.Cx
-T154 = record { locals = List._++_ t131 (List._++_ t1 (List._++_ t2 t119)); slots = List.[] }
+T154 = record
+    { locals = List._++_ (List._∷_ (0, row·36) (List._∷_ (1, row·1) (List._∷_ (2, row·2) (List._∷_ (3, row·3) (List._∷_ (4, row·4) (List._∷_ (5, row·4) (List._∷_ (6, row·5) (List._∷_ (7, row·6) (List._∷_ (8, row·7) (List._∷_ (9, row·46) (List._∷_ (10, row·102) (List._∷_ (11, row·105) (List._∷_ (12, row·108) (List._∷_ (13, row·11) (List._∷_ (14, row·12) (List._∷_ (15, row·13) List.[])))))))))))))))) (List._++_ t1 (List._++_ t2 t119)); slots = List.[] }
 
 abbrev pub T156 : Row.Cx
-T156 = record { locals = List._++_ t132 (List._++_ t1 (List._++_ t2 t119)); slots = List.[] }
+T156 = record
+    { locals = List._++_ (List._∷_ (0, row·36) (List._∷_ (1, row·1) (List._∷_ (2, row·2) (List._∷_ (3, row·3) (List._∷_ (4, row·4) (List._∷_ (5, row·4) (List._∷_ (6, row·5) (List._∷_ (7, row·6) (List._∷_ (8, row·7) (List._∷_ (9, row·8) (List._∷_ (10, row·102) (List._∷_ (11, row·105) (List._∷_ (12, row·108) (List._∷_ (13, row·11) (List._∷_ (14, row·12) (List._∷_ (15, row·13) List.[])))))))))))))))) (List._++_ t1 (List._++_ t2 t119)); slots = List.[] }
 
 abbrev pub T158 : Row.Cx
-T158 = record { locals = List._++_ t133 (List._++_ t1 (List._++_ t2 t134)); slots = List.[] }
+T158 = record
+    { locals = List._++_ (List._∷_ (0, row·36) (List._∷_ (1, row·1) (List._∷_ (2, row·2) (List._∷_ (3, row·3) (List._∷_ (4, row·4) (List._∷_ (5, row·4) (List._∷_ (6, row·5) (List._∷_ (7, row·6) (List._∷_ (8, row·7) (List._∷_ (9, row·8) (List._∷_ (10, row·42) (List._∷_ (11, row·105) (List._∷_ (12, row·108) (List._∷_ (13, row·11) (List._∷_ (14, row·12) (List._∷_ (15, row·13) List.[])))))))))))))))) (List._++_ t1 (List._++_ t2 t134)); slots = List.[] }
 
 abbrev pub T160 : Row.Cx
-T160 = record { locals = List._++_ t135 (List._++_ t1 (List._++_ t2 t134)); slots = List.[] }
+T160 = record
+    { locals = List._++_ (List._∷_ (0, row·36) (List._∷_ (1, row·1) (List._∷_ (2, row·2) (List._∷_ (3, row·3) (List._∷_ (4, row·4) (List._∷_ (5, row·4) (List._∷_ (6, row·5) (List._∷_ (7, row·6) (List._∷_ (8, row·7) (List._∷_ (9, row·8) (List._∷_ (10, row·6) (List._∷_ (11, row·105) (List._∷_ (12, row·108) (List._∷_ (13, row·11) (List._∷_ (14, row·12) (List._∷_ (15, row·13) List.[])))))))))))))))) (List._++_ t1 (List._++_ t2 t134)); slots = List.[] }
 
 abbrev pub T162 : Row.Cx
-T162 = record { locals = List._++_ t136 (List._++_ t1 (List._++_ t2 t3)); slots = List.[] }
+T162 = record
+    { locals = List._++_ (List._∷_ (0, row·36) (List._∷_ (1, row·1) (List._∷_ (2, row·2) (List._∷_ (3, row·3) (List._∷_ (4, row·4) (List._∷_ (5, row·4) (List._∷_ (6, row·5) (List._∷_ (7, row·6) (List._∷_ (8, row·7) (List._∷_ (9, row·8) (List._∷_ (10, row·6) (List._∷_ (11, row·48) (List._∷_ (12, row·108) (List._∷_ (13, row·11) (List._∷_ (14, row·12) (List._∷_ (15, row·13) List.[])))))))))))))))) (List._++_ t1 (List._++_ t2 t3)); slots = List.[] }
 
 abbrev pub T164 : Row.Cx
-T164 = record { locals = List._++_ t137 (List._++_ t1 (List._++_ t2 t3)); slots = List.[] }
+T164 = record
+    { locals = List._++_ (List._∷_ (0, row·36) (List._∷_ (1, row·1) (List._∷_ (2, row·2) (List._∷_ (3, row·3) (List._∷_ (4, row·4) (List._∷_ (5, row·4) (List._∷_ (6, row·5) (List._∷_ (7, row·6) (List._∷_ (8, row·7) (List._∷_ (9, row·8) (List._∷_ (10, row·6) (List._∷_ (11, row·9) (List._∷_ (12, row·108) (List._∷_ (13, row·11) (List._∷_ (14, row·12) (List._∷_ (15, row·13) List.[])))))))))))))))) (List._++_ t1 (List._++_ t2 t3)); slots = List.[] }
 
 abbrev pub T166 : Row.Cx
-T166 = record { locals = List._++_ t138 (List._++_ t1 (List._++_ t2 t3)); slots = List.[] }
+T166 = record
+    { locals = List._++_ (List._∷_ (0, row·36) (List._∷_ (1, row·1) (List._∷_ (2, row·2) (List._∷_ (3, row·3) (List._∷_ (4, row·4) (List._∷_ (5, row·4) (List._∷_ (6, row·5) (List._∷_ (7, row·6) (List._∷_ (8, row·7) (List._∷_ (9, row·8) (List._∷_ (10, row·6) (List._∷_ (11, row·9) (List._∷_ (12, row·50) (List._∷_ (13, row·11) (List._∷_ (14, row·12) (List._∷_ (15, row·13) List.[])))))))))))))))) (List._++_ t1 (List._++_ t2 t3)); slots = List.[] }
 
 abbrev pub T168 : Row.Cx
-T168 = record { locals = List._++_ t139 (List._++_ t1 (List._++_ t2 t3)); slots = List.[] }
+T168 = record
+    { locals = List._++_ (List._∷_ (0, row·36) (List._∷_ (1, row·1) (List._∷_ (2, row·2) (List._∷_ (3, row·3) (List._∷_ (4, row·4) (List._∷_ (5, row·4) (List._∷_ (6, row·5) (List._∷_ (7, row·6) (List._∷_ (8, row·7) (List._∷_ (9, row·8) (List._∷_ (10, row·6) (List._∷_ (11, row·9) (List._∷_ (12, row·10) (List._∷_ (13, row·11) (List._∷_ (14, row·12) (List._∷_ (15, row·13) List.[])))))))))))))))) (List._++_ t1 (List._++_ t2 t3)); slots = List.[] }
 
-abbrev pub T169 : Row.Cx
-T169 = record { locals = List._++_ t4 (List._++_ t1 (List._++_ t2 t3)); slots = List.[] }
+abbrev args·0 : ArgsT ps·1 (T50 .locals)
+args·0 = (record { pos = 1; ty = ty·14; ref = λ x. x }, (record { pos = 17; ty = ty·10; ref = λ x. x }, (record { pos = 19; ty = ty·10; ref = λ x. x }, (record { pos = 21; ty = ty·8; ref = λ x. x }, (record { pos = 23; ty = ty·10; ref = λ x. x }, (record { pos = 25; ty = ty·10; ref = λ x. x }, (record { pos = 27; ty = ty·11; ref = λ x. x }, (record { pos = 29; ty = ty·10; ref = λ x. x }, (record { pos = 31; ty = ty·8; ref = λ x. x }, (record { pos = 33; ty = ty·6; ref = λ x. x }, tt))))))))))
+
+abbrev args·1 : ArgsT ps·4 (T123 .locals)
+args·1 = (record { pos = 36; ty = ty·12; ref = λ x. x }, (record { pos = 38; ty = ty·12; ref = λ x. x }, (record { pos = 40; ty = ty·9; ref = λ x. x }, (record { pos = 42; ty = ty·12; ref = λ x. x }, (record { pos = 44; ty = ty·12; ref = λ x. x }, (record { pos = 46; ty = ty·13; ref = λ x. x }, (record { pos = 48; ty = ty·10; ref = λ x. x }, (record { pos = 50; ty = ty·8; ref = λ x. x }, (record { pos = 52; ty = ty·7; ref = λ x. x }, (Num.vAt 2 λ x. x, (record { pos = 3; ty = ty·15; ref = λ x. x }, tt)))))))))))
 
 abbrev pub O0 : Typed.Outs
 O0 = record { next = Option.none; exits = List.[]; returns = Option.some T1 }
 
 abbrev pub O1 : Typed.Outs
-O1 = Typed.withNext (Option.some T82) O0
+O1 = Typed.withNext (Option.some T80) O0
 
 module _ (claims· : Claims) where
-  abbrev s0 : (bs : List.List Nat.ℕ) → Typed.Gives T0 T2
+  abbrev s0 : (bs : List.List Nat.ℕ) → Typed.Gives T0 T0
   s0 = λ bs. Know.k-shs-known (Referent.fInt Syntax.w8) T0 1 0 ty·14 Row.off 0 λ x. x
 
-  abbrev s1 : (bs : List.List Nat.ℕ) → Typed.Gives T2 T3
-  s1 = λ bs. Know.k-shs-known (Referent.fInt Syntax.w16) T2 3 1 ty·15 Row.off 0 λ x. x
+  abbrev s1 : (bs : List.List Nat.ℕ) → Typed.Gives T0 T0
+  s1 = λ bs. Know.k-shs-known (Referent.fInt Syntax.w16) T0 3 1 ty·15 Row.off 0 λ x. x
 
-  abbrev s2 : (bs : List.List Nat.ℕ) → Typed.Mo T3 → Typed.Mo T4
-  s2 = λ bs. Make.n-make (Array'.Array (Referent.rtF (Referent.fInt Syntax.w16)) 1) T3 4 λ m. List._∷_ 0 List.[]
+  abbrev s2 : (bs : List.List Nat.ℕ) → Typed.Mo T0 → Typed.Mo T4
+  s2 = λ bs. Make.n-make (Array'.Array (Referent.rtF (Referent.fInt Syntax.w16)) 1) T0 4 λ m. List._∷_ 0 List.[]
 
   abbrev s3 : (bs : List.List Nat.ℕ) → Typed.Mo T4 → Typed.Mo T5
   s3 = λ bs. AtSlots.n-as-by T4 4 (Rows.arrF (Referent.rtF (Referent.fInt Syntax.w16)) 1 0) λ x. x
@@ -1826,50 +1547,12 @@ module _ (claims· : Claims) where
   s48 = λ bs. Relend.k-sl-aggregate Rec.rt (Relend.asMut Rec.rt) T49 32 33 10 ty·16 ty·6 (λ x. x) (Scalar.oBig Syntax.w64 2048)
 
   abbrev s49 : (bs : List.List Nat.ℕ) → Typed.Both T50 T51
-  s49 = λ bs. Call.callB ps·1 r·1 (claims· .2) (claims· .3) T50 (
-    record { pos = 1; ty = Syntax.tyRef (Syntax.named 0) Syntax.imm (Syntax.tyInt Syntax.w8); ref = λ x. x },
-    (
-      record { pos = 17; ty = Syntax.tyRef Syntax.erased Syntax.mut (Syntax.tyInt Syntax.w16); ref = λ x. x },
-      (
-        record {
-          pos = 19;
-          ty = Syntax.tyRef Syntax.erased Syntax.mut (Syntax.tyInt Syntax.w16);
-          ref = λ x. x;
-        },
-        (
-          record { pos = 21; ty = Syntax.tyRef Syntax.erased Syntax.mut (Syntax.tyInt Syntax.w8); ref = λ x. x },
-          (
-            record { pos = 23; ty = Syntax.tyRef Syntax.erased Syntax.mut (Syntax.tyInt Syntax.w16); ref = λ x. x },
-            (
-              record {
-                pos = 25;
-                ty = Syntax.tyRef Syntax.erased Syntax.mut (Syntax.tyInt Syntax.w16);
-                ref = λ x. x;
-              },
-              (
-                record { pos = 27; ty = Syntax.tyRef Syntax.erased Syntax.mut (Syntax.tyInt Syntax.w32); ref = λ x. x },
-                (
-                  record { pos = 29; ty = Syntax.tyRef Syntax.erased Syntax.mut (Syntax.tyInt Syntax.w16); ref = λ x. x },
-                  (
-                    record {
-                      pos = 31;
-                      ty = Syntax.tyRef Syntax.erased Syntax.mut (Syntax.tyInt Syntax.w8);
-                      ref = λ x. x;
-                    },
-                    (record { pos = 33; ty = Syntax.tyRef Syntax.erased Syntax.mut Rec.behind; ref = λ x. x }, tt),
-                  ),
-                ),
-              ),
-            ),
-          ),
-        ),
-      ),
-    ),
-  ) 13 (List._∷_ 0 (List._∷_ 2 (List._∷_ 3 (List._∷_ 4 (List._∷_ 5 (List._∷_ 6 (List._∷_ 7 (List._∷_ 8 (List._∷_ 9 (List._∷_ 10 List.[])))))))))) (Syntax.tyEnum (List._∷_ 114 (List._∷_ 101 (List._∷_ 97 (List._∷_ 100 (List._∷_ 105 (List._∷_ 110 (List._∷_ 103 (List._∷_ 58 (List._∷_ 58 (List._∷_ 114 (List._∷_ 101 (List._∷_ 112 (List._∷_ 108 (List._∷_ 105
-      (List._∷_ 101 (List._∷_ 115 (List._∷_ 58 (List._∷_ 58 (List._∷_ 82 (List._∷_ 101 (List._∷_ 97 (List._∷_ 100 (List._∷_ 105 (List._∷_ 110 (List._∷_ 103 List.[]))))))))))))))))))))))))) (Syntax.ttcons Syntax.tnil (Syntax.ttcons (Syntax.tcons (Syntax.tyEnum (List._∷_ 114 (List._∷_ 101 (List._∷_ 97 (List._∷_ 100 (List._∷_ 105 (List._∷_ 110 (List._∷_ 103
-      (List._∷_ 58 (List._∷_ 58 (List._∷_ 114 (List._∷_ 101 (List._∷_ 112 (List._∷_ 108 (List._∷_ 105 (List._∷_ 101 (List._∷_ 115 (List._∷_ 58 (List._∷_ 58 (List._∷_ 82 (List._∷_ 101 (List._∷_ 102 (List._∷_ 117 (List._∷_ 115 (List._∷_ 97 (List._∷_ 108 List.[]))))))))))))))))))))))))) (Syntax.ttcons Syntax.tnil (Syntax.ttcons
-      (Syntax.tcons (Syntax.tyInt Syntax.w64) Syntax.tnil) (Syntax.ttcons (Syntax.tcons (Syntax.tyInt Syntax.w64) Syntax.tnil) (Syntax.ttcons (Syntax.tcons (Syntax.tyInt Syntax.w64) Syntax.tnil) (Syntax.ttcons (Syntax.tcons (Syntax.tyInt Syntax.w64) Syntax.tnil) (Syntax.ttcons (Syntax.tcons (Syntax.tyInt Syntax.w64) Syntax.tnil) (Syntax.ttcons
-      (Syntax.tcons (Syntax.tyInt Syntax.w64) Syntax.tnil) (Syntax.ttcons (Syntax.tcons ty·18 Syntax.tnil) (Syntax.ttcons (Syntax.tcons ty·18 Syntax.tnil) (Syntax.ttcons (Syntax.tcons ty·18 Syntax.tnil) (Syntax.ttcons (Syntax.tcons ty·18 (Syntax.tcons ty·18 Syntax.tnil)) (Syntax.ttcons Syntax.tnil Syntax.ttnil))))))))))))) Syntax.tnil) Syntax.ttnil)))
+  s49 = λ bs. Call.callB ps·1 r·1 (claims· .2) (claims· .3) T50 args·0 13 (List._∷_ 0 (List._∷_ 2 (List._∷_ 3 (List._∷_ 4 (List._∷_ 5 (List._∷_ 6 (List._∷_ 7 (List._∷_ 8 (List._∷_ 9 (List._∷_ 10 List.[])))))))))) (Syntax.tyEnum (List._∷_ 114 (List._∷_ 101 (List._∷_ 97 (List._∷_ 100 (List._∷_ 105 (List._∷_ 110 (List._∷_ 103 (List._∷_ 58 (List._∷_ 58 (List._∷_
+      114 (List._∷_ 101 (List._∷_ 112 (List._∷_ 108 (List._∷_ 105 (List._∷_ 101 (List._∷_ 115 (List._∷_ 58 (List._∷_ 58 (List._∷_ 82 (List._∷_ 101 (List._∷_ 97 (List._∷_ 100 (List._∷_ 105 (List._∷_ 110 (List._∷_ 103 List.[]))))))))))))))))))))))))) (Syntax.ttcons Syntax.tnil (Syntax.ttcons (Syntax.tcons (Syntax.tyEnum (List._∷_ 114 (List._∷_ 101 (List._∷_ 97
+      (List._∷_ 100 (List._∷_ 105 (List._∷_ 110 (List._∷_ 103 (List._∷_ 58 (List._∷_ 58 (List._∷_ 114 (List._∷_ 101 (List._∷_ 112 (List._∷_ 108 (List._∷_ 105 (List._∷_ 101 (List._∷_ 115 (List._∷_ 58 (List._∷_ 58 (List._∷_ 82 (List._∷_ 101 (List._∷_ 102 (List._∷_ 117 (List._∷_ 115 (List._∷_ 97 (List._∷_ 108 List.[]))))))))))))))))))))))))) (Syntax.ttcons
+      Syntax.tnil (Syntax.ttcons (Syntax.tcons (Syntax.tyInt Syntax.w64) Syntax.tnil) (Syntax.ttcons (Syntax.tcons (Syntax.tyInt Syntax.w64) Syntax.tnil) (Syntax.ttcons (Syntax.tcons (Syntax.tyInt Syntax.w64) Syntax.tnil) (Syntax.ttcons (Syntax.tcons (Syntax.tyInt Syntax.w64) Syntax.tnil) (Syntax.ttcons (Syntax.tcons (Syntax.tyInt Syntax.w64) Syntax.tnil)
+      (Syntax.ttcons (Syntax.tcons (Syntax.tyInt Syntax.w64) Syntax.tnil) (Syntax.ttcons (Syntax.tcons ty·18 Syntax.tnil) (Syntax.ttcons (Syntax.tcons ty·18 Syntax.tnil) (Syntax.ttcons (Syntax.tcons ty·18 Syntax.tnil) (Syntax.ttcons (Syntax.tcons ty·18 (Syntax.tcons ty·18 Syntax.tnil)) (Syntax.ttcons Syntax.tnil Syntax.ttnil))))))))))))) Syntax.tnil)
+      Syntax.ttnil)))
 
   abbrev s51 : (bs : List.List Nat.ℕ) → Typed.Both T51 T53
   s51 = λ bs. Borrow.k-back-arr (Referent.rtF (Referent.fInt Syntax.w16)) T51 17 4 2 1 ty·10 (λ x. x) λ x. x
@@ -1899,17 +1582,14 @@ module _ (claims· : Claims) where
   s75 = λ bs. Borrow.k-back-arr Rec.rt T74 33 12 10 2048 ty·6 (λ x. x) λ x. x
 
   abbrev s77 : (bs : List.List Nat.ℕ) → Typed.Both T77 T79
-  s77 = λ bs. Call.callB ps·2 r·2 (claims· .4) (claims· .5) T77 (
-    record { pos = 13; st = List.[]; d = 0; at = λ x. x },
-    tt,
-  ) 14 List.[] (Syntax.tyInt Syntax.w64)
+  s77 = λ bs. Call.callB ps·2 r·2 (claims· .4) (claims· .5) T77 (record { pos = 13; st = List.[]; d = 0; at = λ x. x }, tt) 14 List.[] (Syntax.tyInt Syntax.w64)
 
   abbrev s78 : (bs : List.List Nat.ℕ) → Typed.Mo T79 → Typed.Mo T80
-  s78 = λ bs. Scalar.n-room T79 13 (Syntax.tyEnum (List._∷_ 114 (List._∷_ 101 (List._∷_ 97 (List._∷_ 100 (List._∷_ 105 (List._∷_ 110 (List._∷_ 103 (List._∷_ 58 (List._∷_ 58 (List._∷_ 114 (List._∷_ 101 (List._∷_ 112 (List._∷_ 108 (List._∷_ 105 (List._∷_ 101 (List._∷_ 115 (List._∷_ 58 (List._∷_ 58 (List._∷_ 82 (List._∷_ 101 (List._∷_ 97
-      (List._∷_ 100 (List._∷_ 105 (List._∷_ 110 (List._∷_ 103 List.[]))))))))))))))))))))))))) (Syntax.ttcons Syntax.tnil (Syntax.ttcons (Syntax.tcons (Syntax.tyEnum (List._∷_ 114 (List._∷_ 101 (List._∷_ 97 (List._∷_ 100 (List._∷_ 105 (List._∷_ 110 (List._∷_ 103 (List._∷_ 58 (List._∷_ 58 (List._∷_ 114 (List._∷_ 101 (List._∷_ 112 (List._∷_ 108 (List._∷_ 105
-      (List._∷_ 101 (List._∷_ 115 (List._∷_ 58 (List._∷_ 58 (List._∷_ 82 (List._∷_ 101 (List._∷_ 102 (List._∷_ 117 (List._∷_ 115 (List._∷_ 97 (List._∷_ 108 List.[]))))))))))))))))))))))))) (Syntax.ttcons Syntax.tnil (Syntax.ttcons (Syntax.tcons (Syntax.tyInt Syntax.w64) Syntax.tnil) (Syntax.ttcons (Syntax.tcons (Syntax.tyInt Syntax.w64) Syntax.tnil)
-      (Syntax.ttcons (Syntax.tcons (Syntax.tyInt Syntax.w64) Syntax.tnil) (Syntax.ttcons (Syntax.tcons (Syntax.tyInt Syntax.w64) Syntax.tnil) (Syntax.ttcons (Syntax.tcons (Syntax.tyInt Syntax.w64) Syntax.tnil) (Syntax.ttcons (Syntax.tcons (Syntax.tyInt Syntax.w64) Syntax.tnil) (Syntax.ttcons (Syntax.tcons ty·18 Syntax.tnil) (Syntax.ttcons (Syntax.tcons ty·18
-      Syntax.tnil) (Syntax.ttcons (Syntax.tcons ty·18 Syntax.tnil) (Syntax.ttcons (Syntax.tcons ty·18 (Syntax.tcons ty·18 Syntax.tnil)) (Syntax.ttcons Syntax.tnil Syntax.ttnil))))))))))))) Syntax.tnil) Syntax.ttnil)))
+  s78 = λ bs. Scalar.n-room T79 13 (Syntax.tyEnum (List._∷_ 114 (List._∷_ 101 (List._∷_ 97 (List._∷_ 100 (List._∷_ 105 (List._∷_ 110 (List._∷_ 103 (List._∷_ 58 (List._∷_ 58 (List._∷_ 114 (List._∷_ 101 (List._∷_ 112 (List._∷_ 108 (List._∷_ 105 (List._∷_ 101 (List._∷_ 115 (List._∷_ 58 (List._∷_ 58 (List._∷_ 82 (List._∷_ 101 (List._∷_ 97 (List._∷_ 100 (List._∷_
+      105 (List._∷_ 110 (List._∷_ 103 List.[]))))))))))))))))))))))))) (Syntax.ttcons Syntax.tnil (Syntax.ttcons (Syntax.tcons (Syntax.tyEnum (List._∷_ 114 (List._∷_ 101 (List._∷_ 97 (List._∷_ 100 (List._∷_ 105 (List._∷_ 110 (List._∷_ 103 (List._∷_ 58 (List._∷_ 58 (List._∷_ 114 (List._∷_ 101 (List._∷_ 112 (List._∷_ 108 (List._∷_ 105 (List._∷_ 101 (List._∷_ 115
+      (List._∷_ 58 (List._∷_ 58 (List._∷_ 82 (List._∷_ 101 (List._∷_ 102 (List._∷_ 117 (List._∷_ 115 (List._∷_ 97 (List._∷_ 108 List.[]))))))))))))))))))))))))) (Syntax.ttcons Syntax.tnil (Syntax.ttcons (Syntax.tcons (Syntax.tyInt Syntax.w64) Syntax.tnil) (Syntax.ttcons (Syntax.tcons (Syntax.tyInt Syntax.w64) Syntax.tnil) (Syntax.ttcons (Syntax.tcons
+      (Syntax.tyInt Syntax.w64) Syntax.tnil) (Syntax.ttcons (Syntax.tcons (Syntax.tyInt Syntax.w64) Syntax.tnil) (Syntax.ttcons (Syntax.tcons (Syntax.tyInt Syntax.w64) Syntax.tnil) (Syntax.ttcons (Syntax.tcons (Syntax.tyInt Syntax.w64) Syntax.tnil) (Syntax.ttcons (Syntax.tcons ty·18 Syntax.tnil) (Syntax.ttcons (Syntax.tcons ty·18 Syntax.tnil) (Syntax.ttcons
+      (Syntax.tcons ty·18 Syntax.tnil) (Syntax.ttcons (Syntax.tcons ty·18 (Syntax.tcons ty·18 Syntax.tnil)) (Syntax.ttcons Syntax.tnil Syntax.ttnil))))))))))))) Syntax.tnil) Syntax.ttnil)))
 
   abbrev s79 : (bs : List.List Nat.ℕ) → Typed.Asks T80 T81
   s79 = λ bs. Scalar.k-op2 T80 Syntax.ne (Scalar.oAt 14 (Syntax.tyInt Syntax.w64) (Row.valS (Row.sInt Syntax.w64))) (Scalar.oInt Syntax.w64 0) 34 (Rows'.sc-here Row.sBool) (Row.sBool .of)
@@ -1945,22 +1625,19 @@ module _ (claims· : Claims) where
   s89 = λ bs. Scalar.n-room T91 34 Syntax.tyBool
 
   abbrev s90 : (bs : List.List Nat.ℕ) → Typed.Both T92 T93
-  s90 = λ bs. Call.callB ps·3 r·3 (claims· .6) (claims· .7) T92 (
-    Num.vAt 14 λ x. x,
-    (Num.vLit 0, tt),
-  ) 0 List.[] ty·19
+  s90 = λ bs. Call.callB ps·3 r·3 (claims· .6) (claims· .7) T92 (Num.vAt 14 λ x. x, (Num.vLit 0, tt)) 0 List.[] ty·19
 
   abbrev s91 : (bs : List.List Nat.ℕ) → Typed.Mo T93 → Typed.Mo T94
   s91 = λ bs. Scalar.n-room T93 2 (Syntax.tyInt Syntax.w64)
 
-  abbrev s92 : (bs : List.List Nat.ℕ) → Typed.Mo T94 → Typed.Mo T95
+  abbrev s92 : (bs : List.List Nat.ℕ) → Typed.Mo T94 → Typed.Mo T1
   s92 = λ bs. Scalar.n-room T94 14 (Syntax.tyInt Syntax.w64)
 
-  abbrev s93 : (bs : List.List Nat.ℕ) → Typed.Mo T81 → Typed.Mo T96
+  abbrev s93 : (bs : List.List Nat.ℕ) → Typed.Mo T81 → Typed.Mo T80
   s93 = λ bs. Scalar.n-room T81 34 Syntax.tyBool
 
-  abbrev s95 : (bs : List.List Nat.ℕ) → Typed.Gives T82 T98
-  s95 = λ bs. Share.k-arr-share (Referent.rtF (Referent.fInt Syntax.w16)) T82 4 35 1 11 (Syntax.tyRef Syntax.erased Syntax.imm ty·0) λ x. x
+  abbrev s95 : (bs : List.List Nat.ℕ) → Typed.Gives T80 T98
+  s95 = λ bs. Share.k-arr-share (Referent.rtF (Referent.fInt Syntax.w16)) T80 4 35 1 11 (Syntax.tyRef Syntax.erased Syntax.imm ty·0) λ x. x
 
   abbrev s96 : (bs : List.List Nat.ℕ) → Typed.Asks T98 T99
   s96 = λ bs. Relend.k-sl-aggregate (Referent.rtF (Referent.fInt Syntax.w16)) (Relend.asShr (Referent.rtF (Referent.fInt Syntax.w16))) T98 35 36 11 (Syntax.tyRef Syntax.erased Syntax.imm ty·0) ty·12 (λ x. x) (Scalar.oInt Syntax.w64 1)
@@ -2014,47 +1691,7 @@ module _ (claims· : Claims) where
   s120 = λ bs. Relend.k-sl-aggregate Rec.rt (Relend.asShr Rec.rt) T122 51 52 19 ty·17 ty·7 (λ x. x) (Scalar.oBig Syntax.w64 2048)
 
   abbrev s121 : (bs : List.List Nat.ℕ) → Typed.Both T123 T124
-  s121 = λ bs. Call.callB ps·4 r·4 (claims· .8) (claims· .9) T123 (
-    record { pos = 36; ty = Syntax.tyRef Syntax.erased Syntax.imm (Syntax.tyInt Syntax.w16); ref = λ x. x },
-    (
-      record { pos = 38; ty = Syntax.tyRef Syntax.erased Syntax.imm (Syntax.tyInt Syntax.w16); ref = λ x. x },
-      (
-        record {
-          pos = 40;
-          ty = Syntax.tyRef Syntax.erased Syntax.imm (Syntax.tyInt Syntax.w8);
-          ref = λ x. x;
-        },
-        (
-          record { pos = 42; ty = Syntax.tyRef Syntax.erased Syntax.imm (Syntax.tyInt Syntax.w16); ref = λ x. x },
-          (
-            record { pos = 44; ty = Syntax.tyRef Syntax.erased Syntax.imm (Syntax.tyInt Syntax.w16); ref = λ x. x },
-            (
-              record {
-                pos = 46;
-                ty = Syntax.tyRef Syntax.erased Syntax.imm (Syntax.tyInt Syntax.w32);
-                ref = λ x. x;
-              },
-              (
-                record { pos = 48; ty = Syntax.tyRef Syntax.erased Syntax.mut (Syntax.tyInt Syntax.w16); ref = λ x. x },
-                (
-                  record { pos = 50; ty = Syntax.tyRef Syntax.erased Syntax.mut (Syntax.tyInt Syntax.w8); ref = λ x. x },
-                  (
-                    record {
-                      pos = 52;
-                      ty = Syntax.tyRef Syntax.erased
-                          Syntax.imm Rec.behind;
-                      ref = λ x. x;
-                    },
-                    (Num.vAt 2 λ x. x, (record { pos = 3; ty = Syntax.tyRef (Syntax.named 1) Syntax.imm (Syntax.tyInt Syntax.w16); ref = λ x. x }, tt)),
-                  ),
-                ),
-              ),
-            ),
-          ),
-        ),
-      ),
-    ),
-  ) 0 (List._∷_ 11 (List._∷_ 12 (List._∷_ 13 (List._∷_ 14 (List._∷_ 15 (List._∷_ 16 (List._∷_ 17 (List._∷_ 18 (List._∷_ 19 (List._∷_ 1 List.[])))))))))) ty·19
+  s121 = λ bs. Call.callB ps·4 r·4 (claims· .8) (claims· .9) T123 args·1 0 (List._∷_ 11 (List._∷_ 12 (List._∷_ 13 (List._∷_ 14 (List._∷_ 15 (List._∷_ 16 (List._∷_ 17 (List._∷_ 18 (List._∷_ 19 (List._∷_ 1 List.[])))))))))) ty·19
 
   abbrev s122 : (bs : List.List Nat.ℕ) → Typed.Mo T124 → Typed.Mo T125
   s122 = λ bs. Scalar.n-room T124 36 (Syntax.tyStruct (List._∷_ 38 (List._∷_ 91 (List._∷_ 93 List.[]))) (Syntax.tcons ty·12 (Syntax.tcons (Syntax.tyInt Syntax.w64) Syntax.tnil)))
@@ -2134,22 +1771,22 @@ module _ (claims· : Claims) where
   abbrev s165 : (bs : List.List Nat.ℕ) → Typed.Mo T166 → Typed.Mo T168
   s165 = λ bs. Scalar.n-room T166 12 (Syntax.tyArray Rec.mir 2048)
 
-  abbrev s166 : (bs : List.List Nat.ℕ) → Typed.Mo T168 → Typed.Mo T169
+  abbrev s166 : (bs : List.List Nat.ℕ) → Typed.Mo T168 → Typed.Mo T1
   s166 = λ bs. Scalar.n-room T168 2 (Syntax.tyInt Syntax.w64)
 
   module _ (Pre· : (κs : Lifetimes.Lfts 2) → Kinds.Dens κs ps → Type 0) (Post· : (κs : Lifetimes.Lfts 2) → (a : Kinds.Dens κs ps) → Kinds.Plain 2 ps r κs) where
     module _ (M : Type 1) where
       abbrev pub Closed : Type 2
       Closed = (𝓤 : URA.URA M) (H : Wp.Heap 𝓤) (A : Atoms.Atoms 𝓤) (W : Kit.Given 𝓤 H A) (𝓣 : Wp.Tables 𝓤 H) (known0 : Plain.Known 𝓤 H A W 𝓣 0 ps·0 r·0 (claims· .0) (claims· .1) "records::record::zero_record") (known1 : Plain.Known 𝓤 H A W 𝓣 10 ps·1 r·1 (claims· .2) (claims· .3) "conductor::calls::read_plan") (known2 : Plain.Known 𝓤 H A W 𝓣 0 ps·2 r·2
-          (claims· .4) (claims· .5) "dispatch::program::number_of") (known3 : Plain.Known 𝓤 H A W 𝓣 0 ps·3 r·3 (claims· .6) (claims· .7) "presses::answers::show") (known4 : Plain.Known 𝓤 H A W 𝓣 10 ps·4 r·4 (claims· .8) (claims· .9) "presses::runs::press_each") → Statement.Triple 𝓤 (Wp.WpFn 𝓤 H (𝓣 .C) (𝓣 .Λ) (Function.fnOf 2 ps r xs m hs body))
-          (Function.plainOf 𝓤 H A 2 ps r Pre· Post·)
+          (claims· .4) (claims· .5) "dispatch::program::number_of") (known3 : Plain.Known 𝓤 H A W 𝓣 0 ps·3 r·3 (claims· .6) (claims· .7) "presses::answers::show") (known4 : Plain.Known 𝓤 H A W 𝓣 10 ps·4 r·4 (claims· .8) (claims· .9) "presses::runs::press_each") → Statement.Triple 𝓤 (Wp.WpFn 𝓤 H (𝓣 .C) (𝓣 .Λ) (Function.fnOf 2 ps r xs m hs body)) (Function.plainOf
+          𝓤 H A 2 ps r Pre· Post·)
 
     module _ where
-      abbrev at0 : (bs : List.List Nat.ℕ) → Typed.TF T95 O1
+      abbrev at0 : (bs : List.List Nat.ℕ) → Typed.TF T1 O1
       at0 = λ bs. Typed.atRet O1
 
       abbrev at1 : (bs : List.List Nat.ℕ) → Typed.TF T94 O1
-      at1 = λ bs. λ Ψ. Typed.pass T94 T95 (s92 bs) (at0 bs Ψ)
+      at1 = λ bs. λ Ψ. Typed.pass T94 T1 (s92 bs) (at0 bs Ψ)
 
       abbrev at2 : (bs : List.List Nat.ℕ) → Typed.TF T93 O1
       at2 = λ bs. λ Ψ. Typed.pass T93 T94 (s91 bs) (at1 bs Ψ)
@@ -2187,20 +1824,20 @@ module _ (claims· : Claims) where
       abbrev at13 : (bs : List.List Nat.ℕ) → Typed.TF T81 O1
       at13 = λ bs. λ Ψ. Typed.pass T81 T83 (s80 bs) (at12 bs Ψ)
 
-      abbrev at14 : (bs : List.List Nat.ℕ) → Typed.TF T96 O1
+      abbrev at14 : (bs : List.List Nat.ℕ) → Typed.TF T80 O1
       at14 = λ bs. Typed.atNext O1
 
       abbrev at15 : (bs : List.List Nat.ℕ) → Typed.TF T81 O1
-      at15 = λ bs. λ Ψ. Typed.pass T81 T96 (s93 bs) (at14 bs Ψ)
+      at15 = λ bs. λ Ψ. Typed.pass T81 T80 (s93 bs) (at14 bs Ψ)
 
       abbrev at16 : (bs : List.List Nat.ℕ) → Typed.TF T81 O1
       at16 = λ bs. Scalar.Φcond T81 O1 34 (λ x. x) (at13 bs) (at15 bs)
 
-      abbrev at17 : (bs : List.List Nat.ℕ) → Typed.TF T169 O0
+      abbrev at17 : (bs : List.List Nat.ℕ) → Typed.TF T1 O0
       at17 = λ bs. Typed.atRet O0
 
       abbrev at18 : (bs : List.List Nat.ℕ) → Typed.TF T168 O0
-      at18 = λ bs. λ Ψ. Typed.pass T168 T169 (s166 bs) (at17 bs Ψ)
+      at18 = λ bs. λ Ψ. Typed.pass T168 T1 (s166 bs) (at17 bs Ψ)
 
       abbrev at19 : (bs : List.List Nat.ℕ) → Typed.TF T166 O0
       at19 = λ bs. λ Ψ. Typed.pass T166 T168 (s165 bs) (at18 bs Ψ)
@@ -2412,14 +2049,14 @@ module _ (claims· : Claims) where
       abbrev at88 : (bs : List.List Nat.ℕ) → Typed.TF T98 O0
       at88 = λ bs. λ Ψ. Typed.ask (s96 bs) (at87 bs Ψ)
 
-      abbrev at89 : (bs : List.List Nat.ℕ) → Typed.TF T82 O0
+      abbrev at89 : (bs : List.List Nat.ℕ) → Typed.TF T80 O0
       at89 = λ bs. λ Ψ. Typed.give (s95 bs) (at88 bs Ψ)
 
-      abbrev at90 : (bs : List.List Nat.ℕ) → Typed.TF T82 O0
+      abbrev at90 : (bs : List.List Nat.ℕ) → Typed.TF T80 O0
       at90 = λ bs. λ Ψ. at89 bs Ψ
 
       abbrev at91 : (bs : List.List Nat.ℕ) → Typed.TF T81 O0
-      at91 = λ bs. λ Ψ. at16 bs (Typed.wantNext T82 O0 (at90 bs Ψ) Ψ)
+      at91 = λ bs. λ Ψ. at16 bs (Typed.wantNext T80 O0 (at90 bs Ψ) Ψ)
 
       abbrev at92 : (bs : List.List Nat.ℕ) → Typed.TF T80 O0
       at92 = λ bs. λ Ψ. Typed.ask (s79 bs) (at91 bs Ψ)
@@ -2652,10 +2289,10 @@ module _ (claims· : Claims) where
       abbrev at168 : (bs : List.List Nat.ℕ) → Typed.TF T4 O0
       at168 = λ bs. λ Ψ. Typed.pass T4 T5 (s3 bs) (at167 bs Ψ)
 
-      abbrev at169 : (bs : List.List Nat.ℕ) → Typed.TF T3 O0
-      at169 = λ bs. λ Ψ. Typed.pass T3 T4 (s2 bs) (at168 bs Ψ)
+      abbrev at169 : (bs : List.List Nat.ℕ) → Typed.TF T0 O0
+      at169 = λ bs. λ Ψ. Typed.pass T0 T4 (s2 bs) (at168 bs Ψ)
 
-      abbrev at170 : (bs : List.List Nat.ℕ) → Typed.TF T2 O0
+      abbrev at170 : (bs : List.List Nat.ℕ) → Typed.TF T0 O0
       at170 = λ bs. λ Ψ. Typed.give (s1 bs) (at169 bs Ψ)
 
       abbrev at171 : (bs : List.List Nat.ℕ) → Typed.TF T0 O0
@@ -2666,4263 +2303,1024 @@ module _ (claims· : Claims) where
 
       module _ {M : Type 1} (𝓤 : URA.URA M) (H : Wp.Heap 𝓤) (A : Atoms.Atoms 𝓤) (W : Kit.Given 𝓤 H A) (𝓣 : Wp.Tables 𝓤 H) where
         abbrev Knowns : Type 1
-        Knowns = Plain.Known 𝓤 H A W 𝓣 0 ps·0 r·0 (claims· .0) (claims· .1) "records::record::zero_record" × Plain.Known 𝓤 H A W 𝓣 10 ps·1 r·1 (claims· .2) (claims· .3) "conductor::calls::read_plan" × Plain.Known 𝓤 H A W 𝓣 0 ps·2 r·2 (claims· .4) (claims· .5) "dispatch::program::number_of" ×
-            Plain.Known 𝓤 H A W 𝓣 0 ps·3 r·3 (claims· .6) (claims· .7) "presses::answers::show" × Plain.Known 𝓤 H A W 𝓣 10 ps·4 r·4 (claims· .8) (claims· .9) "presses::runs::press_each"
+        Knowns = Plain.Known 𝓤 H A W 𝓣 0 ps·0 r·0 (claims· .0) (claims· .1) "records::record::zero_record" × Plain.Known 𝓤 H A W 𝓣 10 ps·1 r·1 (claims· .2) (claims· .3) "conductor::calls::read_plan" × Plain.Known 𝓤 H A W 𝓣 0 ps·2 r·2 (claims· .4) (claims· .5) "dispatch::program::number_of" × Plain.Known 𝓤 H A W 𝓣 0 ps·3 r·3 (claims· .6) (claims· .7)
+            "presses::answers::show" × Plain.Known 𝓤 H A W 𝓣 10 ps·4 r·4 (claims· .8) (claims· .9) "presses::runs::press_each"
 
       module _ (κs : Lifetimes.Lfts 2) (qs : Lifetimes.Shares 2) where
+        abbrev slots·0 : List.List Row.Life
+        slots·0 = List._∷_ (Row.lease (κs .0) (qs .0)) (List._∷_ (Row.lease (κs .1 .0) (qs .1 .0)) (List._∷_ Row.off (List._∷_ Row.off (List._∷_ Row.off (List._∷_ Row.off (List._∷_ Row.off (List._∷_ Row.off (List._∷_ Row.off (List._∷_ Row.off (List._∷_ Row.off (List._∷_ Row.off (List._∷_ Row.off (List._∷_ Row.off (List._∷_ Row.off (List._∷_ Row.off (List._∷_
+            Row.off (List._∷_ Row.off (List._∷_ Row.off (List._∷_ Row.off List.[])))))))))))))))))))
+
+        abbrev slots·1 : List.List Row.Life
+        slots·1 = List._∷_ (Row.lease (κs .0) (qs .0)) (List._∷_ (Row.lease (κs .1 .0) (qs .1 .0)) (List._∷_ Row.alive (List._∷_ Row.off (List._∷_ Row.off (List._∷_ Row.off (List._∷_ Row.off (List._∷_ Row.off (List._∷_ Row.off (List._∷_ Row.off (List._∷_ Row.off (List._∷_ Row.off (List._∷_ Row.off (List._∷_ Row.off (List._∷_ Row.off (List._∷_ Row.off
+            (List._∷_ Row.off (List._∷_ Row.off (List._∷_ Row.off (List._∷_ Row.off List.[])))))))))))))))))))
+
+        abbrev slots·2 : List.List Row.Life
+        slots·2 = List._∷_ (Row.lease (κs .0) (qs .0)) (List._∷_ (Row.lease (κs .1 .0) (qs .1 .0)) (List._∷_ Row.alive (List._∷_ Row.alive (List._∷_ Row.off (List._∷_ Row.off (List._∷_ Row.off (List._∷_ Row.off (List._∷_ Row.off (List._∷_ Row.off (List._∷_ Row.off (List._∷_ Row.off (List._∷_ Row.off (List._∷_ Row.off (List._∷_ Row.off (List._∷_ Row.off
+            (List._∷_ Row.off (List._∷_ Row.off (List._∷_ Row.off (List._∷_ Row.off List.[])))))))))))))))))))
+
+        abbrev slots·3 : List.List Row.Life
+        slots·3 = List._∷_ (Row.lease (κs .0) (qs .0)) (List._∷_ (Row.lease (κs .1 .0) (qs .1 .0)) (List._∷_ Row.alive (List._∷_ Row.alive (List._∷_ Row.alive (List._∷_ Row.off (List._∷_ Row.off (List._∷_ Row.off (List._∷_ Row.off (List._∷_ Row.off (List._∷_ Row.off (List._∷_ Row.off (List._∷_ Row.off (List._∷_ Row.off (List._∷_ Row.off (List._∷_ Row.off
+            (List._∷_ Row.off (List._∷_ Row.off (List._∷_ Row.off (List._∷_ Row.off List.[])))))))))))))))))))
+
+        abbrev slots·4 : List.List Row.Life
+        slots·4 = List._∷_ (Row.lease (κs .0) (qs .0)) (List._∷_ (Row.lease (κs .1 .0) (qs .1 .0)) (List._∷_ Row.alive (List._∷_ Row.alive (List._∷_ Row.alive (List._∷_ Row.alive (List._∷_ Row.off (List._∷_ Row.off (List._∷_ Row.off (List._∷_ Row.off (List._∷_ Row.off (List._∷_ Row.off (List._∷_ Row.off (List._∷_ Row.off (List._∷_ Row.off (List._∷_ Row.off
+            (List._∷_ Row.off (List._∷_ Row.off (List._∷_ Row.off (List._∷_ Row.off List.[])))))))))))))))))))
+
+        abbrev slots·5 : List.List Row.Life
+        slots·5 = List._∷_ (Row.lease (κs .0) (qs .0)) (List._∷_ (Row.lease (κs .1 .0) (qs .1 .0)) (List._∷_ Row.alive (List._∷_ Row.alive (List._∷_ Row.alive (List._∷_ Row.alive (List._∷_ Row.alive (List._∷_ Row.off (List._∷_ Row.off (List._∷_ Row.off (List._∷_ Row.off (List._∷_ Row.off (List._∷_ Row.off (List._∷_ Row.off (List._∷_ Row.off (List._∷_ Row.off
+            (List._∷_ Row.off (List._∷_ Row.off (List._∷_ Row.off (List._∷_ Row.off List.[])))))))))))))))))))
+
+        abbrev slots·6 : List.List Row.Life
+        slots·6 = List._∷_ (Row.lease (κs .0) (qs .0)) (List._∷_ (Row.lease (κs .1 .0) (qs .1 .0)) (List._∷_ Row.alive (List._∷_ Row.alive (List._∷_ Row.alive (List._∷_ Row.alive (List._∷_ Row.alive (List._∷_ Row.alive (List._∷_ Row.off (List._∷_ Row.off (List._∷_ Row.off (List._∷_ Row.off (List._∷_ Row.off (List._∷_ Row.off (List._∷_ Row.off (List._∷_
+            Row.off (List._∷_ Row.off (List._∷_ Row.off (List._∷_ Row.off (List._∷_ Row.off List.[])))))))))))))))))))
+
+        abbrev slots·7 : List.List Row.Life
+        slots·7 = List._∷_ (Row.lease (κs .0) (qs .0)) (List._∷_ (Row.lease (κs .1 .0) (qs .1 .0)) (List._∷_ Row.alive (List._∷_ Row.alive (List._∷_ Row.alive (List._∷_ Row.alive (List._∷_ Row.alive (List._∷_ Row.alive (List._∷_ Row.alive (List._∷_ Row.off (List._∷_ Row.off (List._∷_ Row.off (List._∷_ Row.off (List._∷_ Row.off (List._∷_ Row.off (List._∷_
+            Row.off (List._∷_ Row.off (List._∷_ Row.off (List._∷_ Row.off (List._∷_ Row.off List.[])))))))))))))))))))
+
+        abbrev slots·8 : List.List Row.Life
+        slots·8 = List._∷_ (Row.lease (κs .0) (qs .0)) (List._∷_ (Row.lease (κs .1 .0) (qs .1 .0)) (List._∷_ Row.alive (List._∷_ Row.alive (List._∷_ Row.alive (List._∷_ Row.alive (List._∷_ Row.alive (List._∷_ Row.alive (List._∷_ Row.alive (List._∷_ Row.alive (List._∷_ Row.off (List._∷_ Row.off (List._∷_ Row.off (List._∷_ Row.off (List._∷_ Row.off (List._∷_
+            Row.off (List._∷_ Row.off (List._∷_ Row.off (List._∷_ Row.off (List._∷_ Row.off List.[])))))))))))))))))))
+
+        abbrev slots·9 : List.List Row.Life
+        slots·9 = List._∷_ (Row.lease (κs .0) (qs .0)) (List._∷_ (Row.lease (κs .1 .0) (qs .1 .0)) (List._∷_ Row.alive (List._∷_ Row.alive (List._∷_ Row.alive (List._∷_ Row.alive (List._∷_ Row.alive (List._∷_ Row.alive (List._∷_ Row.alive (List._∷_ Row.alive (List._∷_ Row.alive (List._∷_ Row.off (List._∷_ Row.off (List._∷_ Row.off (List._∷_ Row.off (List._∷_
+            Row.off (List._∷_ Row.off (List._∷_ Row.off (List._∷_ Row.off (List._∷_ Row.off List.[])))))))))))))))))))
+
+        abbrev slots·10 : List.List Row.Life
+        slots·10 = List._∷_ (Row.lease (κs .0) (qs .0)) (List._∷_ (Row.lease (κs .1 .0) (qs .1 .0)) (List._∷_ Row.dead (List._∷_ Row.alive (List._∷_ Row.alive (List._∷_ Row.alive (List._∷_ Row.alive (List._∷_ Row.alive (List._∷_ Row.alive (List._∷_ Row.alive (List._∷_ Row.alive (List._∷_ Row.off (List._∷_ Row.off (List._∷_ Row.off (List._∷_ Row.off (List._∷_
+            Row.off (List._∷_ Row.off (List._∷_ Row.off (List._∷_ Row.off (List._∷_ Row.off List.[])))))))))))))))))))
+
+        abbrev slots·11 : List.List Row.Life
+        slots·11 = List._∷_ (Row.lease (κs .0) (qs .0)) (List._∷_ (Row.lease (κs .1 .0) (qs .1 .0)) (List._∷_ Row.off (List._∷_ Row.dead (List._∷_ Row.alive (List._∷_ Row.alive (List._∷_ Row.alive (List._∷_ Row.alive (List._∷_ Row.alive (List._∷_ Row.alive (List._∷_ Row.alive (List._∷_ Row.off (List._∷_ Row.off (List._∷_ Row.off (List._∷_ Row.off (List._∷_
+            Row.off (List._∷_ Row.off (List._∷_ Row.off (List._∷_ Row.off (List._∷_ Row.off List.[])))))))))))))))))))
+
+        abbrev slots·12 : List.List Row.Life
+        slots·12 = List._∷_ (Row.lease (κs .0) (qs .0)) (List._∷_ (Row.lease (κs .1 .0) (qs .1 .0)) (List._∷_ Row.off (List._∷_ Row.off (List._∷_ Row.dead (List._∷_ Row.alive (List._∷_ Row.alive (List._∷_ Row.alive (List._∷_ Row.alive (List._∷_ Row.alive (List._∷_ Row.alive (List._∷_ Row.off (List._∷_ Row.off (List._∷_ Row.off (List._∷_ Row.off (List._∷_
+            Row.off (List._∷_ Row.off (List._∷_ Row.off (List._∷_ Row.off (List._∷_ Row.off List.[])))))))))))))))))))
+
+        abbrev slots·13 : List.List Row.Life
+        slots·13 = List._∷_ (Row.lease (κs .0) (qs .0)) (List._∷_ (Row.lease (κs .1 .0) (qs .1 .0)) (List._∷_ Row.off (List._∷_ Row.off (List._∷_ Row.off (List._∷_ Row.dead (List._∷_ Row.alive (List._∷_ Row.alive (List._∷_ Row.alive (List._∷_ Row.alive (List._∷_ Row.alive (List._∷_ Row.off (List._∷_ Row.off (List._∷_ Row.off (List._∷_ Row.off (List._∷_
+            Row.off (List._∷_ Row.off (List._∷_ Row.off (List._∷_ Row.off (List._∷_ Row.off List.[])))))))))))))))))))
+
+        abbrev slots·14 : List.List Row.Life
+        slots·14 = List._∷_ (Row.lease (κs .0) (qs .0)) (List._∷_ (Row.lease (κs .1 .0) (qs .1 .0)) (List._∷_ Row.off (List._∷_ Row.off (List._∷_ Row.off (List._∷_ Row.off (List._∷_ Row.dead (List._∷_ Row.alive (List._∷_ Row.alive (List._∷_ Row.alive (List._∷_ Row.alive (List._∷_ Row.off (List._∷_ Row.off (List._∷_ Row.off (List._∷_ Row.off (List._∷_ Row.off
+            (List._∷_ Row.off (List._∷_ Row.off (List._∷_ Row.off (List._∷_ Row.off List.[])))))))))))))))))))
+
+        abbrev slots·15 : List.List Row.Life
+        slots·15 = List._∷_ (Row.lease (κs .0) (qs .0)) (List._∷_ (Row.lease (κs .1 .0) (qs .1 .0)) (List._∷_ Row.off (List._∷_ Row.off (List._∷_ Row.off (List._∷_ Row.off (List._∷_ Row.off (List._∷_ Row.dead (List._∷_ Row.alive (List._∷_ Row.alive (List._∷_ Row.alive (List._∷_ Row.off (List._∷_ Row.off (List._∷_ Row.off (List._∷_ Row.off (List._∷_ Row.off
+            (List._∷_ Row.off (List._∷_ Row.off (List._∷_ Row.off (List._∷_ Row.off List.[])))))))))))))))))))
+
+        abbrev slots·16 : List.List Row.Life
+        slots·16 = List._∷_ (Row.lease (κs .0) (qs .0)) (List._∷_ (Row.lease (κs .1 .0) (qs .1 .0)) (List._∷_ Row.off (List._∷_ Row.off (List._∷_ Row.off (List._∷_ Row.off (List._∷_ Row.off (List._∷_ Row.off (List._∷_ Row.dead (List._∷_ Row.alive (List._∷_ Row.alive (List._∷_ Row.off (List._∷_ Row.off (List._∷_ Row.off (List._∷_ Row.off (List._∷_ Row.off
+            (List._∷_ Row.off (List._∷_ Row.off (List._∷_ Row.off (List._∷_ Row.off List.[])))))))))))))))))))
+
+        abbrev slots·17 : List.List Row.Life
+        slots·17 = List._∷_ (Row.lease (κs .0) (qs .0)) (List._∷_ (Row.lease (κs .1 .0) (qs .1 .0)) (List._∷_ Row.off (List._∷_ Row.off (List._∷_ Row.off (List._∷_ Row.off (List._∷_ Row.off (List._∷_ Row.off (List._∷_ Row.off (List._∷_ Row.dead (List._∷_ Row.alive (List._∷_ Row.off (List._∷_ Row.off (List._∷_ Row.off (List._∷_ Row.off (List._∷_ Row.off
+            (List._∷_ Row.off (List._∷_ Row.off (List._∷_ Row.off (List._∷_ Row.off List.[])))))))))))))))))))
+
+        abbrev slots·18 : List.List Row.Life
+        slots·18 = List._∷_ (Row.lease (κs .0) (qs .0)) (List._∷_ (Row.lease (κs .1 .0) (qs .1 .0)) (List._∷_ Row.off (List._∷_ Row.off (List._∷_ Row.off (List._∷_ Row.off (List._∷_ Row.off (List._∷_ Row.off (List._∷_ Row.off (List._∷_ Row.off (List._∷_ Row.dead (List._∷_ Row.off (List._∷_ Row.off (List._∷_ Row.off (List._∷_ Row.off (List._∷_ Row.off
+            (List._∷_ Row.off (List._∷_ Row.off (List._∷_ Row.off (List._∷_ Row.off List.[])))))))))))))))))))
+
+        abbrev slots·19 : List.List Row.Life
+        slots·19 = List._∷_ (Row.lease (κs .0) (qs .0)) (List._∷_ (Row.lease (κs .1 .0) (qs .1 .0)) (List._∷_ Row.off (List._∷_ Row.off (List._∷_ Row.off (List._∷_ Row.off (List._∷_ Row.off (List._∷_ Row.off (List._∷_ Row.off (List._∷_ Row.off (List._∷_ Row.off (List._∷_ Row.alive (List._∷_ Row.off (List._∷_ Row.off (List._∷_ Row.off (List._∷_ Row.off
+            (List._∷_ Row.off (List._∷_ Row.off (List._∷_ Row.off (List._∷_ Row.off List.[])))))))))))))))))))
+
+        abbrev slots·20 : List.List Row.Life
+        slots·20 = List._∷_ (Row.lease (κs .0) (qs .0)) (List._∷_ (Row.lease (κs .1 .0) (qs .1 .0)) (List._∷_ Row.off (List._∷_ Row.off (List._∷_ Row.off (List._∷_ Row.off (List._∷_ Row.off (List._∷_ Row.off (List._∷_ Row.off (List._∷_ Row.off (List._∷_ Row.off (List._∷_ Row.alive (List._∷_ Row.alive (List._∷_ Row.off (List._∷_ Row.off (List._∷_ Row.off
+            (List._∷_ Row.off (List._∷_ Row.off (List._∷_ Row.off (List._∷_ Row.off List.[])))))))))))))))))))
+
+        abbrev slots·21 : List.List Row.Life
+        slots·21 = List._∷_ (Row.lease (κs .0) (qs .0)) (List._∷_ (Row.lease (κs .1 .0) (qs .1 .0)) (List._∷_ Row.off (List._∷_ Row.off (List._∷_ Row.off (List._∷_ Row.off (List._∷_ Row.off (List._∷_ Row.off (List._∷_ Row.off (List._∷_ Row.off (List._∷_ Row.off (List._∷_ Row.alive (List._∷_ Row.alive (List._∷_ Row.alive (List._∷_ Row.off (List._∷_ Row.off
+            (List._∷_ Row.off (List._∷_ Row.off (List._∷_ Row.off (List._∷_ Row.off List.[])))))))))))))))))))
+
+        abbrev slots·22 : List.List Row.Life
+        slots·22 = List._∷_ (Row.lease (κs .0) (qs .0)) (List._∷_ (Row.lease (κs .1 .0) (qs .1 .0)) (List._∷_ Row.off (List._∷_ Row.off (List._∷_ Row.off (List._∷_ Row.off (List._∷_ Row.off (List._∷_ Row.off (List._∷_ Row.off (List._∷_ Row.off (List._∷_ Row.off (List._∷_ Row.alive (List._∷_ Row.alive (List._∷_ Row.alive (List._∷_ Row.alive (List._∷_ Row.off
+            (List._∷_ Row.off (List._∷_ Row.off (List._∷_ Row.off (List._∷_ Row.off List.[])))))))))))))))))))
+
+        abbrev slots·23 : List.List Row.Life
+        slots·23 = List._∷_ (Row.lease (κs .0) (qs .0)) (List._∷_ (Row.lease (κs .1 .0) (qs .1 .0)) (List._∷_ Row.off (List._∷_ Row.off (List._∷_ Row.off (List._∷_ Row.off (List._∷_ Row.off (List._∷_ Row.off (List._∷_ Row.off (List._∷_ Row.off (List._∷_ Row.off (List._∷_ Row.alive (List._∷_ Row.alive (List._∷_ Row.alive (List._∷_ Row.alive (List._∷_
+            Row.alive (List._∷_ Row.off (List._∷_ Row.off (List._∷_ Row.off (List._∷_ Row.off List.[])))))))))))))))))))
+
+        abbrev slots·24 : List.List Row.Life
+        slots·24 = List._∷_ (Row.lease (κs .0) (qs .0)) (List._∷_ (Row.lease (κs .1 .0) (qs .1 .0)) (List._∷_ Row.off (List._∷_ Row.off (List._∷_ Row.off (List._∷_ Row.off (List._∷_ Row.off (List._∷_ Row.off (List._∷_ Row.off (List._∷_ Row.off (List._∷_ Row.off (List._∷_ Row.alive (List._∷_ Row.alive (List._∷_ Row.alive (List._∷_ Row.alive (List._∷_
+            Row.alive (List._∷_ Row.alive (List._∷_ Row.off (List._∷_ Row.off (List._∷_ Row.off List.[])))))))))))))))))))
+
+        abbrev slots·25 : List.List Row.Life
+        slots·25 = List._∷_ (Row.lease (κs .0) (qs .0)) (List._∷_ (Row.lease (κs .1 .0) (qs .1 .0)) (List._∷_ Row.off (List._∷_ Row.off (List._∷_ Row.off (List._∷_ Row.off (List._∷_ Row.off (List._∷_ Row.off (List._∷_ Row.off (List._∷_ Row.off (List._∷_ Row.off (List._∷_ Row.alive (List._∷_ Row.alive (List._∷_ Row.alive (List._∷_ Row.alive (List._∷_
+            Row.alive (List._∷_ Row.alive (List._∷_ Row.alive (List._∷_ Row.off (List._∷_ Row.off List.[])))))))))))))))))))
+
+        abbrev slots·26 : List.List Row.Life
+        slots·26 = List._∷_ (Row.lease (κs .0) (qs .0)) (List._∷_ (Row.lease (κs .1 .0) (qs .1 .0)) (List._∷_ Row.off (List._∷_ Row.off (List._∷_ Row.off (List._∷_ Row.off (List._∷_ Row.off (List._∷_ Row.off (List._∷_ Row.off (List._∷_ Row.off (List._∷_ Row.off (List._∷_ Row.alive (List._∷_ Row.alive (List._∷_ Row.alive (List._∷_ Row.alive (List._∷_
+            Row.alive (List._∷_ Row.alive (List._∷_ Row.alive (List._∷_ Row.alive (List._∷_ Row.off List.[])))))))))))))))))))
+
+        abbrev slots·27 : List.List Row.Life
+        slots·27 = List._∷_ (Row.lease (κs .0) (qs .0)) (List._∷_ (Row.lease (κs .1 .0) (qs .1 .0)) (List._∷_ Row.off (List._∷_ Row.off (List._∷_ Row.off (List._∷_ Row.off (List._∷_ Row.off (List._∷_ Row.off (List._∷_ Row.off (List._∷_ Row.off (List._∷_ Row.off (List._∷_ Row.alive (List._∷_ Row.alive (List._∷_ Row.alive (List._∷_ Row.alive (List._∷_
+            Row.alive (List._∷_ Row.alive (List._∷_ Row.alive (List._∷_ Row.alive (List._∷_ Row.alive List.[])))))))))))))))))))
+
+        abbrev slots·28 : List.List Row.Life
+        slots·28 = List._∷_ (Row.lease (κs .0) (qs .0)) (List._∷_ (Row.lease (κs .1 .0) (qs .1 .0)) (List._∷_ Row.off (List._∷_ Row.off (List._∷_ Row.off (List._∷_ Row.off (List._∷_ Row.off (List._∷_ Row.off (List._∷_ Row.off (List._∷_ Row.off (List._∷_ Row.off (List._∷_ Row.dead (List._∷_ Row.alive (List._∷_ Row.alive (List._∷_ Row.alive (List._∷_ Row.alive
+            (List._∷_ Row.alive (List._∷_ Row.alive (List._∷_ Row.alive (List._∷_ Row.alive List.[])))))))))))))))))))
+
+        abbrev slots·29 : List.List Row.Life
+        slots·29 = List._∷_ (Row.lease (κs .0) (qs .0)) (List._∷_ (Row.lease (κs .1 .0) (qs .1 .0)) (List._∷_ Row.off (List._∷_ Row.off (List._∷_ Row.off (List._∷_ Row.off (List._∷_ Row.off (List._∷_ Row.off (List._∷_ Row.off (List._∷_ Row.off (List._∷_ Row.off (List._∷_ Row.off (List._∷_ Row.alive (List._∷_ Row.alive (List._∷_ Row.alive (List._∷_ Row.alive
+            (List._∷_ Row.alive (List._∷_ Row.alive (List._∷_ Row.alive (List._∷_ Row.alive List.[])))))))))))))))))))
+
+        abbrev slots·30 : List.List Row.Life
+        slots·30 = List._∷_ (Row.lease (κs .0) (qs .0)) (List._∷_ (Row.lease (κs .1 .0) (qs .1 .0)) (List._∷_ Row.off (List._∷_ Row.off (List._∷_ Row.off (List._∷_ Row.off (List._∷_ Row.off (List._∷_ Row.off (List._∷_ Row.off (List._∷_ Row.off (List._∷_ Row.off (List._∷_ Row.off (List._∷_ Row.dead (List._∷_ Row.alive (List._∷_ Row.alive (List._∷_ Row.alive
+            (List._∷_ Row.alive (List._∷_ Row.alive (List._∷_ Row.alive (List._∷_ Row.alive List.[])))))))))))))))))))
+
+        abbrev slots·31 : List.List Row.Life
+        slots·31 = List._∷_ (Row.lease (κs .0) (qs .0)) (List._∷_ (Row.lease (κs .1 .0) (qs .1 .0)) (List._∷_ Row.off (List._∷_ Row.off (List._∷_ Row.off (List._∷_ Row.off (List._∷_ Row.off (List._∷_ Row.off (List._∷_ Row.off (List._∷_ Row.off (List._∷_ Row.off (List._∷_ Row.off (List._∷_ Row.off (List._∷_ Row.alive (List._∷_ Row.alive (List._∷_ Row.alive
+            (List._∷_ Row.alive (List._∷_ Row.alive (List._∷_ Row.alive (List._∷_ Row.alive List.[])))))))))))))))))))
+
+        abbrev slots·32 : List.List Row.Life
+        slots·32 = List._∷_ (Row.lease (κs .0) (qs .0)) (List._∷_ (Row.lease (κs .1 .0) (qs .1 .0)) (List._∷_ Row.off (List._∷_ Row.off (List._∷_ Row.off (List._∷_ Row.off (List._∷_ Row.off (List._∷_ Row.off (List._∷_ Row.off (List._∷_ Row.off (List._∷_ Row.off (List._∷_ Row.off (List._∷_ Row.off (List._∷_ Row.dead (List._∷_ Row.alive (List._∷_ Row.alive
+            (List._∷_ Row.alive (List._∷_ Row.alive (List._∷_ Row.alive (List._∷_ Row.alive List.[])))))))))))))))))))
+
+        abbrev slots·33 : List.List Row.Life
+        slots·33 = List._∷_ (Row.lease (κs .0) (qs .0)) (List._∷_ (Row.lease (κs .1 .0) (qs .1 .0)) (List._∷_ Row.off (List._∷_ Row.off (List._∷_ Row.off (List._∷_ Row.off (List._∷_ Row.off (List._∷_ Row.off (List._∷_ Row.off (List._∷_ Row.off (List._∷_ Row.off (List._∷_ Row.off (List._∷_ Row.off (List._∷_ Row.off (List._∷_ Row.alive (List._∷_ Row.alive
+            (List._∷_ Row.alive (List._∷_ Row.alive (List._∷_ Row.alive (List._∷_ Row.alive List.[])))))))))))))))))))
+
+        abbrev slots·34 : List.List Row.Life
+        slots·34 = List._∷_ (Row.lease (κs .0) (qs .0)) (List._∷_ (Row.lease (κs .1 .0) (qs .1 .0)) (List._∷_ Row.off (List._∷_ Row.off (List._∷_ Row.off (List._∷_ Row.off (List._∷_ Row.off (List._∷_ Row.off (List._∷_ Row.off (List._∷_ Row.off (List._∷_ Row.off (List._∷_ Row.off (List._∷_ Row.off (List._∷_ Row.off (List._∷_ Row.dead (List._∷_ Row.alive
+            (List._∷_ Row.alive (List._∷_ Row.alive (List._∷_ Row.alive (List._∷_ Row.alive List.[])))))))))))))))))))
+
+        abbrev slots·35 : List.List Row.Life
+        slots·35 = List._∷_ (Row.lease (κs .0) (qs .0)) (List._∷_ (Row.lease (κs .1 .0) (qs .1 .0)) (List._∷_ Row.off (List._∷_ Row.off (List._∷_ Row.off (List._∷_ Row.off (List._∷_ Row.off (List._∷_ Row.off (List._∷_ Row.off (List._∷_ Row.off (List._∷_ Row.off (List._∷_ Row.off (List._∷_ Row.off (List._∷_ Row.off (List._∷_ Row.off (List._∷_ Row.alive
+            (List._∷_ Row.alive (List._∷_ Row.alive (List._∷_ Row.alive (List._∷_ Row.alive List.[])))))))))))))))))))
+
+        abbrev slots·36 : List.List Row.Life
+        slots·36 = List._∷_ (Row.lease (κs .0) (qs .0)) (List._∷_ (Row.lease (κs .1 .0) (qs .1 .0)) (List._∷_ Row.off (List._∷_ Row.off (List._∷_ Row.off (List._∷_ Row.off (List._∷_ Row.off (List._∷_ Row.off (List._∷_ Row.off (List._∷_ Row.off (List._∷_ Row.off (List._∷_ Row.off (List._∷_ Row.off (List._∷_ Row.off (List._∷_ Row.off (List._∷_ Row.dead
+            (List._∷_ Row.alive (List._∷_ Row.alive (List._∷_ Row.alive (List._∷_ Row.alive List.[])))))))))))))))))))
+
+        abbrev slots·37 : List.List Row.Life
+        slots·37 = List._∷_ (Row.lease (κs .0) (qs .0)) (List._∷_ (Row.lease (κs .1 .0) (qs .1 .0)) (List._∷_ Row.off (List._∷_ Row.off (List._∷_ Row.off (List._∷_ Row.off (List._∷_ Row.off (List._∷_ Row.off (List._∷_ Row.off (List._∷_ Row.off (List._∷_ Row.off (List._∷_ Row.off (List._∷_ Row.off (List._∷_ Row.off (List._∷_ Row.off (List._∷_ Row.off
+            (List._∷_ Row.alive (List._∷_ Row.alive (List._∷_ Row.alive (List._∷_ Row.alive List.[])))))))))))))))))))
+
+        abbrev slots·38 : List.List Row.Life
+        slots·38 = List._∷_ (Row.lease (κs .0) (qs .0)) (List._∷_ (Row.lease (κs .1 .0) (qs .1 .0)) (List._∷_ Row.off (List._∷_ Row.off (List._∷_ Row.off (List._∷_ Row.off (List._∷_ Row.off (List._∷_ Row.off (List._∷_ Row.off (List._∷_ Row.off (List._∷_ Row.off (List._∷_ Row.off (List._∷_ Row.off (List._∷_ Row.off (List._∷_ Row.off (List._∷_ Row.off
+            (List._∷_ Row.dead (List._∷_ Row.alive (List._∷_ Row.alive (List._∷_ Row.alive List.[])))))))))))))))))))
+
+        abbrev slots·39 : List.List Row.Life
+        slots·39 = List._∷_ (Row.lease (κs .0) (qs .0)) (List._∷_ (Row.lease (κs .1 .0) (qs .1 .0)) (List._∷_ Row.off (List._∷_ Row.off (List._∷_ Row.off (List._∷_ Row.off (List._∷_ Row.off (List._∷_ Row.off (List._∷_ Row.off (List._∷_ Row.off (List._∷_ Row.off (List._∷_ Row.off (List._∷_ Row.off (List._∷_ Row.off (List._∷_ Row.off (List._∷_ Row.off
+            (List._∷_ Row.off (List._∷_ Row.alive (List._∷_ Row.alive (List._∷_ Row.alive List.[])))))))))))))))))))
+
+        abbrev slots·40 : List.List Row.Life
+        slots·40 = List._∷_ (Row.lease (κs .0) (qs .0)) (List._∷_ (Row.lease (κs .1 .0) (qs .1 .0)) (List._∷_ Row.off (List._∷_ Row.off (List._∷_ Row.off (List._∷_ Row.off (List._∷_ Row.off (List._∷_ Row.off (List._∷_ Row.off (List._∷_ Row.off (List._∷_ Row.off (List._∷_ Row.off (List._∷_ Row.off (List._∷_ Row.off (List._∷_ Row.off (List._∷_ Row.off
+            (List._∷_ Row.off (List._∷_ Row.dead (List._∷_ Row.alive (List._∷_ Row.alive List.[])))))))))))))))))))
+
+        abbrev slots·41 : List.List Row.Life
+        slots·41 = List._∷_ (Row.lease (κs .0) (qs .0)) (List._∷_ (Row.lease (κs .1 .0) (qs .1 .0)) (List._∷_ Row.off (List._∷_ Row.off (List._∷_ Row.off (List._∷_ Row.off (List._∷_ Row.off (List._∷_ Row.off (List._∷_ Row.off (List._∷_ Row.off (List._∷_ Row.off (List._∷_ Row.off (List._∷_ Row.off (List._∷_ Row.off (List._∷_ Row.off (List._∷_ Row.off
+            (List._∷_ Row.off (List._∷_ Row.off (List._∷_ Row.alive (List._∷_ Row.alive List.[])))))))))))))))))))
+
+        abbrev slots·42 : List.List Row.Life
+        slots·42 = List._∷_ (Row.lease (κs .0) (qs .0)) (List._∷_ (Row.lease (κs .1 .0) (qs .1 .0)) (List._∷_ Row.off (List._∷_ Row.off (List._∷_ Row.off (List._∷_ Row.off (List._∷_ Row.off (List._∷_ Row.off (List._∷_ Row.off (List._∷_ Row.off (List._∷_ Row.off (List._∷_ Row.off (List._∷_ Row.off (List._∷_ Row.off (List._∷_ Row.off (List._∷_ Row.off
+            (List._∷_ Row.off (List._∷_ Row.off (List._∷_ Row.dead (List._∷_ Row.alive List.[])))))))))))))))))))
+
+        abbrev slots·43 : List.List Row.Life
+        slots·43 = List._∷_ (Row.lease (κs .0) (qs .0)) (List._∷_ (Row.lease (κs .1 .0) (qs .1 .0)) (List._∷_ Row.off (List._∷_ Row.off (List._∷_ Row.off (List._∷_ Row.off (List._∷_ Row.off (List._∷_ Row.off (List._∷_ Row.off (List._∷_ Row.off (List._∷_ Row.off (List._∷_ Row.off (List._∷_ Row.off (List._∷_ Row.off (List._∷_ Row.off (List._∷_ Row.off
+            (List._∷_ Row.off (List._∷_ Row.off (List._∷_ Row.off (List._∷_ Row.alive List.[])))))))))))))))))))
+
+        abbrev slots·44 : List.List Row.Life
+        slots·44 = List._∷_ (Row.lease (κs .0) (qs .0)) (List._∷_ (Row.lease (κs .1 .0) (qs .1 .0)) (List._∷_ Row.off (List._∷_ Row.off (List._∷_ Row.off (List._∷_ Row.off (List._∷_ Row.off (List._∷_ Row.off (List._∷_ Row.off (List._∷_ Row.off (List._∷_ Row.off (List._∷_ Row.off (List._∷_ Row.off (List._∷_ Row.off (List._∷_ Row.off (List._∷_ Row.off
+            (List._∷_ Row.off (List._∷_ Row.off (List._∷_ Row.off (List._∷_ Row.dead List.[])))))))))))))))))))
+
         abbrev G0 : Row.Cx
-        G0 = record {
-          locals = List._++_ t0 (List._++_ t1 (List._++_ t2 t3));
-          slots = List._∷_ (Row.lease (κs .0) (qs .0)) (List._∷_ (Row.lease (κs .1 .0) (qs .1 .0)) (List._∷_ Row.off (List._∷_ Row.off (List._∷_ Row.off (List._∷_ Row.off (List._∷_ Row.off (List._∷_ Row.off (List._∷_ Row.off (List._∷_ Row.off (List._∷_ Row.off (List._∷_ Row.off (List._∷_
-              Row.off (List._∷_ Row.off (List._∷_ Row.off (List._∷_ Row.off (List._∷_ Row.off (List._∷_ Row.off (List._∷_ Row.off (List._∷_ Row.off List.[])))))))))))))))))));
-        }
+        G0 = record { locals = T0 .locals; slots = slots·0 }
 
         abbrev G1 : Row.Cx
-        G1 = record {
-          locals = List._++_ t4 (List._++_ t1 (List._++_ t2 t3));
-          slots = List._∷_ (Row.lease (κs .0) (qs .0)) (List._∷_ (Row.lease (κs .1 .0) (qs .1 .0)) (List._∷_ Row.off (List._∷_ Row.off (List._∷_ Row.off (List._∷_ Row.off (List._∷_ Row.off (List._∷_ Row.off (List._∷_ Row.off (List._∷_ Row.off (List._∷_ Row.off (List._∷_ Row.off (List._∷_
-              Row.off (List._∷_ Row.off (List._∷_ Row.off (List._∷_ Row.off (List._∷_ Row.off (List._∷_ Row.off (List._∷_ Row.off (List._∷_ Row.off List.[])))))))))))))))))));
-        }
-
-        abbrev G2 : Row.Cx
-        G2 = record {
-          locals = List._++_ t0 (List._++_ t1 (List._++_ t2 t3));
-          slots = List._∷_ (Row.lease (κs .0) (qs .0)) (List._∷_ (Row.lease (κs .1 .0) (qs .1 .0)) (List._∷_ Row.off (List._∷_ Row.off (List._∷_ Row.off (List._∷_ Row.off (List._∷_ Row.off (List._∷_ Row.off (List._∷_ Row.off (List._∷_ Row.off (List._∷_ Row.off (List._∷_ Row.off (List._∷_
-              Row.off (List._∷_ Row.off (List._∷_ Row.off (List._∷_ Row.off (List._∷_ Row.off (List._∷_ Row.off (List._∷_ Row.off (List._∷_ Row.off List.[])))))))))))))))))));
-        }
-
-        abbrev G3 : Row.Cx
-        G3 = record {
-          locals = List._++_ t0 (List._++_ t1 (List._++_ t2 t3));
-          slots = List._∷_ (Row.lease (κs .0) (qs .0)) (List._∷_ (Row.lease (κs .1 .0) (qs .1 .0)) (List._∷_ Row.off (List._∷_ Row.off (List._∷_ Row.off (List._∷_ Row.off (List._∷_ Row.off (List._∷_ Row.off (List._∷_ Row.off (List._∷_ Row.off (List._∷_ Row.off (List._∷_ Row.off (List._∷_
-              Row.off (List._∷_ Row.off (List._∷_ Row.off (List._∷_ Row.off (List._∷_ Row.off (List._∷_ Row.off (List._∷_ Row.off (List._∷_ Row.off List.[])))))))))))))))))));
-        }
+        G1 = record { locals = T1 .locals; slots = slots·0 }
 
         abbrev G4 : Row.Cx
-        G4 = record {
-          locals = List._++_ t5 (List._++_ t1 (List._++_ t2 t3));
-          slots = List._∷_ (Row.lease (κs .0) (qs .0)) (List._∷_ (Row.lease (κs .1 .0) (qs .1 .0)) (List._∷_ Row.off (List._∷_ Row.off (List._∷_ Row.off (List._∷_ Row.off (List._∷_ Row.off (List._∷_ Row.off (List._∷_ Row.off (List._∷_ Row.off (List._∷_ Row.off (List._∷_ Row.off (List._∷_
-              Row.off (List._∷_ Row.off (List._∷_ Row.off (List._∷_ Row.off (List._∷_ Row.off (List._∷_ Row.off (List._∷_ Row.off (List._∷_ Row.off List.[])))))))))))))))))));
-        }
+        G4 = record { locals = T4 .locals; slots = slots·0 }
 
         abbrev G5 : Row.Cx
-        G5 = record {
-          locals = List._++_ t6 (List._++_ t1 (List._++_ t2 t3));
-          slots = List._∷_ (Row.lease (κs .0) (qs .0)) (List._∷_ (Row.lease (κs .1 .0) (qs .1 .0)) (List._∷_ Row.off (List._∷_ Row.off (List._∷_ Row.off (List._∷_ Row.off (List._∷_ Row.off (List._∷_ Row.off (List._∷_ Row.off (List._∷_ Row.off (List._∷_ Row.off (List._∷_ Row.off (List._∷_
-              Row.off (List._∷_ Row.off (List._∷_ Row.off (List._∷_ Row.off (List._∷_ Row.off (List._∷_ Row.off (List._∷_ Row.off (List._∷_ Row.off List.[])))))))))))))))))));
-        }
+        G5 = record { locals = T5 .locals; slots = slots·0 }
 
         abbrev G6 : Row.Cx
-        G6 = record {
-          locals = List._++_ t7 (List._++_ t1 (List._++_ t2 t3));
-          slots = List._∷_ (Row.lease (κs .0) (qs .0)) (List._∷_ (Row.lease (κs .1 .0) (qs .1 .0)) (List._∷_ Row.off (List._∷_ Row.off (List._∷_ Row.off (List._∷_ Row.off (List._∷_ Row.off (List._∷_ Row.off (List._∷_ Row.off (List._∷_ Row.off (List._∷_ Row.off (List._∷_ Row.off (List._∷_
-              Row.off (List._∷_ Row.off (List._∷_ Row.off (List._∷_ Row.off (List._∷_ Row.off (List._∷_ Row.off (List._∷_ Row.off (List._∷_ Row.off List.[])))))))))))))))))));
-        }
+        G6 = record { locals = T6 .locals; slots = slots·0 }
 
         abbrev G7 : Row.Cx
-        G7 = record {
-          locals = List._++_ t8 (List._++_ t1 (List._++_ t2 t3));
-          slots = List._∷_ (Row.lease (κs .0) (qs .0)) (List._∷_ (Row.lease (κs .1 .0) (qs .1 .0)) (List._∷_ Row.off (List._∷_ Row.off (List._∷_ Row.off (List._∷_ Row.off (List._∷_ Row.off (List._∷_ Row.off (List._∷_ Row.off (List._∷_ Row.off (List._∷_ Row.off (List._∷_ Row.off (List._∷_
-              Row.off (List._∷_ Row.off (List._∷_ Row.off (List._∷_ Row.off (List._∷_ Row.off (List._∷_ Row.off (List._∷_ Row.off (List._∷_ Row.off List.[])))))))))))))))))));
-        }
+        G7 = record { locals = T7 .locals; slots = slots·0 }
 
         abbrev G8 : Row.Cx
-        G8 = record {
-          locals = List._++_ t9 (List._++_ t1 (List._++_ t2 t3));
-          slots = List._∷_ (Row.lease (κs .0) (qs .0)) (List._∷_ (Row.lease (κs .1 .0) (qs .1 .0)) (List._∷_ Row.off (List._∷_ Row.off (List._∷_ Row.off (List._∷_ Row.off (List._∷_ Row.off (List._∷_ Row.off (List._∷_ Row.off (List._∷_ Row.off (List._∷_ Row.off (List._∷_ Row.off (List._∷_
-              Row.off (List._∷_ Row.off (List._∷_ Row.off (List._∷_ Row.off (List._∷_ Row.off (List._∷_ Row.off (List._∷_ Row.off (List._∷_ Row.off List.[])))))))))))))))))));
-        }
+        G8 = record { locals = T8 .locals; slots = slots·0 }
 
         abbrev G9 : Row.Cx
-        G9 = record {
-          locals = List._++_ t10 (List._++_ t1 (List._++_ t2 t3));
-          slots = List._∷_ (Row.lease (κs .0) (qs .0)) (List._∷_ (Row.lease (κs .1 .0) (qs .1 .0)) (List._∷_ Row.off (List._∷_ Row.off (List._∷_ Row.off (List._∷_ Row.off (List._∷_ Row.off (List._∷_ Row.off (List._∷_ Row.off (List._∷_ Row.off (List._∷_ Row.off (List._∷_ Row.off (List._∷_
-              Row.off (List._∷_ Row.off (List._∷_ Row.off (List._∷_ Row.off (List._∷_ Row.off (List._∷_ Row.off (List._∷_ Row.off (List._∷_ Row.off List.[])))))))))))))))))));
-        }
+        G9 = record { locals = T9 .locals; slots = slots·0 }
 
         abbrev G10 : Row.Cx
-        G10 = record {
-          locals = List._++_ t11 (List._++_ t1 (List._++_ t2 t3));
-          slots = List._∷_ (Row.lease (κs .0) (qs .0)) (List._∷_ (Row.lease (κs .1 .0) (qs .1 .0)) (List._∷_ Row.off (List._∷_ Row.off (List._∷_ Row.off (List._∷_ Row.off (List._∷_ Row.off (List._∷_ Row.off (List._∷_ Row.off (List._∷_ Row.off (List._∷_ Row.off (List._∷_ Row.off (List._∷_
-              Row.off (List._∷_ Row.off (List._∷_ Row.off (List._∷_ Row.off (List._∷_ Row.off (List._∷_ Row.off (List._∷_ Row.off (List._∷_ Row.off List.[])))))))))))))))))));
-        }
+        G10 = record { locals = T10 .locals; slots = slots·0 }
 
         abbrev G11 : Row.Cx
-        G11 = record {
-          locals = List._++_ t12 (List._++_ t1 (List._++_ t2 t3));
-          slots = List._∷_ (Row.lease (κs .0) (qs .0)) (List._∷_ (Row.lease (κs .1 .0) (qs .1 .0)) (List._∷_ Row.off (List._∷_ Row.off (List._∷_ Row.off (List._∷_ Row.off (List._∷_ Row.off (List._∷_ Row.off (List._∷_ Row.off (List._∷_ Row.off (List._∷_ Row.off (List._∷_ Row.off (List._∷_
-              Row.off (List._∷_ Row.off (List._∷_ Row.off (List._∷_ Row.off (List._∷_ Row.off (List._∷_ Row.off (List._∷_ Row.off (List._∷_ Row.off List.[])))))))))))))))))));
-        }
+        G11 = record { locals = T11 .locals; slots = slots·0 }
 
         abbrev G12 : Row.Cx
-        G12 = record {
-          locals = List._++_ t13 (List._++_ t1 (List._++_ t2 t3));
-          slots = List._∷_ (Row.lease (κs .0) (qs .0)) (List._∷_ (Row.lease (κs .1 .0) (qs .1 .0)) (List._∷_ Row.off (List._∷_ Row.off (List._∷_ Row.off (List._∷_ Row.off (List._∷_ Row.off (List._∷_ Row.off (List._∷_ Row.off (List._∷_ Row.off (List._∷_ Row.off (List._∷_ Row.off (List._∷_
-              Row.off (List._∷_ Row.off (List._∷_ Row.off (List._∷_ Row.off (List._∷_ Row.off (List._∷_ Row.off (List._∷_ Row.off (List._∷_ Row.off List.[])))))))))))))))))));
-        }
+        G12 = record { locals = T12 .locals; slots = slots·0 }
 
         abbrev G13 : Row.Cx
-        G13 = record {
-          locals = List._++_ t14 (List._++_ t1 (List._++_ t2 t3));
-          slots = List._∷_ (Row.lease (κs .0) (qs .0)) (List._∷_ (Row.lease (κs .1 .0) (qs .1 .0)) (List._∷_ Row.off (List._∷_ Row.off (List._∷_ Row.off (List._∷_ Row.off (List._∷_ Row.off (List._∷_ Row.off (List._∷_ Row.off (List._∷_ Row.off (List._∷_ Row.off (List._∷_ Row.off (List._∷_
-              Row.off (List._∷_ Row.off (List._∷_ Row.off (List._∷_ Row.off (List._∷_ Row.off (List._∷_ Row.off (List._∷_ Row.off (List._∷_ Row.off List.[])))))))))))))))))));
-        }
+        G13 = record { locals = T13 .locals; slots = slots·0 }
 
         abbrev G14 : Row.Cx
-        G14 = record {
-          locals = List._++_ t15 (List._++_ t1 (List._++_ t2 t3));
-          slots = List._∷_ (Row.lease (κs .0) (qs .0)) (List._∷_ (Row.lease (κs .1 .0) (qs .1 .0)) (List._∷_ Row.off (List._∷_ Row.off (List._∷_ Row.off (List._∷_ Row.off (List._∷_ Row.off (List._∷_ Row.off (List._∷_ Row.off (List._∷_ Row.off (List._∷_ Row.off (List._∷_ Row.off (List._∷_
-              Row.off (List._∷_ Row.off (List._∷_ Row.off (List._∷_ Row.off (List._∷_ Row.off (List._∷_ Row.off (List._∷_ Row.off (List._∷_ Row.off List.[])))))))))))))))))));
-        }
+        G14 = record { locals = T14 .locals; slots = slots·0 }
 
         abbrev G15 : Row.Cx
-        G15 = record {
-          locals = List._++_ t16 (List._++_ t1 (List._++_ t2 t3));
-          slots = List._∷_ (Row.lease (κs .0) (qs .0)) (List._∷_ (Row.lease (κs .1 .0) (qs .1 .0)) (List._∷_ Row.off (List._∷_ Row.off (List._∷_ Row.off (List._∷_ Row.off (List._∷_ Row.off (List._∷_ Row.off (List._∷_ Row.off (List._∷_ Row.off (List._∷_ Row.off (List._∷_ Row.off (List._∷_
-              Row.off (List._∷_ Row.off (List._∷_ Row.off (List._∷_ Row.off (List._∷_ Row.off (List._∷_ Row.off (List._∷_ Row.off (List._∷_ Row.off List.[])))))))))))))))))));
-        }
+        G15 = record { locals = T15 .locals; slots = slots·0 }
 
         abbrev G16 : Row.Cx
-        G16 = record {
-          locals = List._++_ t17 (List._++_ t1 (List._++_ t2 t3));
-          slots = List._∷_ (Row.lease (κs .0) (qs .0)) (List._∷_ (Row.lease (κs .1 .0) (qs .1 .0)) (List._∷_ Row.off (List._∷_ Row.off (List._∷_ Row.off (List._∷_ Row.off (List._∷_ Row.off (List._∷_ Row.off (List._∷_ Row.off (List._∷_ Row.off (List._∷_ Row.off (List._∷_ Row.off (List._∷_
-              Row.off (List._∷_ Row.off (List._∷_ Row.off (List._∷_ Row.off (List._∷_ Row.off (List._∷_ Row.off (List._∷_ Row.off (List._∷_ Row.off List.[])))))))))))))))))));
-        }
+        G16 = record { locals = T16 .locals; slots = slots·0 }
 
         abbrev G17 : Row.Cx
-        G17 = record {
-          locals = List._++_ t18 (List._++_ t1 (List._++_ t2 t3));
-          slots = List._∷_ (Row.lease (κs .0) (qs .0)) (List._∷_ (Row.lease (κs .1 .0) (qs .1 .0)) (List._∷_ Row.off (List._∷_ Row.off (List._∷_ Row.off (List._∷_ Row.off (List._∷_ Row.off (List._∷_ Row.off (List._∷_ Row.off (List._∷_ Row.off (List._∷_ Row.off (List._∷_ Row.off (List._∷_
-              Row.off (List._∷_ Row.off (List._∷_ Row.off (List._∷_ Row.off (List._∷_ Row.off (List._∷_ Row.off (List._∷_ Row.off (List._∷_ Row.off List.[])))))))))))))))))));
-        }
+        G17 = record { locals = T17 .locals; slots = slots·0 }
 
         abbrev G18 : Row.Cx
-        G18 = record {
-          locals = List._++_ t19 (List._++_ t1 (List._++_ t2 t3));
-          slots = List._∷_ (Row.lease (κs .0) (qs .0)) (List._∷_ (Row.lease (κs .1 .0) (qs .1 .0)) (List._∷_ Row.off (List._∷_ Row.off (List._∷_ Row.off (List._∷_ Row.off (List._∷_ Row.off (List._∷_ Row.off (List._∷_ Row.off (List._∷_ Row.off (List._∷_ Row.off (List._∷_ Row.off (List._∷_
-              Row.off (List._∷_ Row.off (List._∷_ Row.off (List._∷_ Row.off (List._∷_ Row.off (List._∷_ Row.off (List._∷_ Row.off (List._∷_ Row.off List.[])))))))))))))))))));
-        }
+        G18 = record { locals = T18 .locals; slots = slots·0 }
 
         abbrev G19 : Row.Cx
-        G19 = record {
-          locals = List._++_ t20 (List._++_ t1 (List._++_ t2 t3));
-          slots = List._∷_ (Row.lease (κs .0) (qs .0)) (List._∷_ (Row.lease (κs .1 .0) (qs .1 .0)) (List._∷_ Row.off (List._∷_ Row.off (List._∷_ Row.off (List._∷_ Row.off (List._∷_ Row.off (List._∷_ Row.off (List._∷_ Row.off (List._∷_ Row.off (List._∷_ Row.off (List._∷_ Row.off (List._∷_
-              Row.off (List._∷_ Row.off (List._∷_ Row.off (List._∷_ Row.off (List._∷_ Row.off (List._∷_ Row.off (List._∷_ Row.off (List._∷_ Row.off List.[])))))))))))))))))));
-        }
+        G19 = record { locals = T19 .locals; slots = slots·0 }
 
         abbrev G20 : Row.Cx
-        G20 = record {
-          locals = List._++_ t21 (List._++_ t1 (List._++_ t2 t3));
-          slots = List._∷_ (Row.lease (κs .0) (qs .0)) (List._∷_ (Row.lease (κs .1 .0) (qs .1 .0)) (List._∷_ Row.off (List._∷_ Row.off (List._∷_ Row.off (List._∷_ Row.off (List._∷_ Row.off (List._∷_ Row.off (List._∷_ Row.off (List._∷_ Row.off (List._∷_ Row.off (List._∷_ Row.off (List._∷_
-              Row.off (List._∷_ Row.off (List._∷_ Row.off (List._∷_ Row.off (List._∷_ Row.off (List._∷_ Row.off (List._∷_ Row.off (List._∷_ Row.off List.[])))))))))))))))))));
-        }
+        G20 = record { locals = T20 .locals; slots = slots·0 }
 
         abbrev G21 : Row.Cx
-        G21 = record {
-          locals = List._++_ t22 (List._++_ t1 (List._++_ t2 t3));
-          slots = List._∷_ (Row.lease (κs .0) (qs .0)) (List._∷_ (Row.lease (κs .1 .0) (qs .1 .0)) (List._∷_ Row.off (List._∷_ Row.off (List._∷_ Row.off (List._∷_ Row.off (List._∷_ Row.off (List._∷_ Row.off (List._∷_ Row.off (List._∷_ Row.off (List._∷_ Row.off (List._∷_ Row.off (List._∷_
-              Row.off (List._∷_ Row.off (List._∷_ Row.off (List._∷_ Row.off (List._∷_ Row.off (List._∷_ Row.off (List._∷_ Row.off (List._∷_ Row.off List.[])))))))))))))))))));
-        }
+        G21 = record { locals = T21 .locals; slots = slots·0 }
 
         abbrev G22 : Row.Cx
-        G22 = record {
-          locals = List._++_ t23 (List._++_ t1 (List._++_ t2 t3));
-          slots = List._∷_ (Row.lease (κs .0) (qs .0)) (List._∷_ (Row.lease (κs .1 .0) (qs .1 .0)) (List._∷_ Row.off (List._∷_ Row.off (List._∷_ Row.off (List._∷_ Row.off (List._∷_ Row.off (List._∷_ Row.off (List._∷_ Row.off (List._∷_ Row.off (List._∷_ Row.off (List._∷_ Row.off (List._∷_
-              Row.off (List._∷_ Row.off (List._∷_ Row.off (List._∷_ Row.off (List._∷_ Row.off (List._∷_ Row.off (List._∷_ Row.off (List._∷_ Row.off List.[])))))))))))))))))));
-        }
+        G22 = record { locals = T22 .locals; slots = slots·0 }
 
         abbrev G23 : Row.Cx
-        G23 = record {
-          locals = List._++_ t24 (List._++_ t1 (List._++_ t2 t3));
-          slots = List._∷_ (Row.lease (κs .0) (qs .0)) (List._∷_ (Row.lease (κs .1 .0) (qs .1 .0)) (List._∷_ Row.off (List._∷_ Row.off (List._∷_ Row.off (List._∷_ Row.off (List._∷_ Row.off (List._∷_ Row.off (List._∷_ Row.off (List._∷_ Row.off (List._∷_ Row.off (List._∷_ Row.off (List._∷_
-              Row.off (List._∷_ Row.off (List._∷_ Row.off (List._∷_ Row.off (List._∷_ Row.off (List._∷_ Row.off (List._∷_ Row.off (List._∷_ Row.off List.[])))))))))))))))))));
-        }
+        G23 = record { locals = T23 .locals; slots = slots·0 }
 
         abbrev G24 : Row.Cx
-        G24 = record {
-          locals = List._++_ t24 (List._++_ t1 (List._++_ t2 t3));
-          slots = List._∷_ (Row.lease (κs .0) (qs .0)) (List._∷_ (Row.lease (κs .1 .0) (qs .1 .0)) (List._∷_ Row.alive (List._∷_ Row.off (List._∷_ Row.off (List._∷_ Row.off (List._∷_ Row.off (List._∷_ Row.off (List._∷_ Row.off (List._∷_ Row.off (List._∷_ Row.off (List._∷_ Row.off (List._∷_
-              Row.off (List._∷_ Row.off (List._∷_ Row.off (List._∷_ Row.off (List._∷_ Row.off (List._∷_ Row.off (List._∷_ Row.off (List._∷_ Row.off List.[])))))))))))))))))));
-        }
+        G24 = record { locals = T23 .locals; slots = slots·1 }
 
         abbrev G25 : Row.Cx
-        G25 = record {
-          locals = List._++_ t25 (List._++_ t26 (List._++_ t2 t3));
-          slots = List._∷_ (Row.lease (κs .0) (qs .0)) (List._∷_ (Row.lease (κs .1 .0) (qs .1 .0)) (List._∷_ Row.alive (List._∷_ Row.off (List._∷_ Row.off (List._∷_ Row.off (List._∷_ Row.off (List._∷_ Row.off (List._∷_ Row.off (List._∷_ Row.off (List._∷_ Row.off (List._∷_ Row.off
-              (List._∷_ Row.off (List._∷_ Row.off (List._∷_ Row.off (List._∷_ Row.off (List._∷_ Row.off (List._∷_ Row.off (List._∷_ Row.off (List._∷_ Row.off List.[])))))))))))))))))));
-        }
+        G25 = record { locals = T25 .locals; slots = slots·1 }
 
         abbrev G26 : Row.Cx
-        G26 = record {
-          locals = List._++_ t25 (List._++_ t27 (List._++_ t2 t3));
-          slots = List._∷_ (Row.lease (κs .0) (qs .0)) (List._∷_ (Row.lease (κs .1 .0) (qs .1 .0)) (List._∷_ Row.alive (List._∷_ Row.off (List._∷_ Row.off (List._∷_ Row.off (List._∷_ Row.off (List._∷_ Row.off (List._∷_ Row.off (List._∷_ Row.off (List._∷_ Row.off (List._∷_ Row.off
-              (List._∷_ Row.off (List._∷_ Row.off (List._∷_ Row.off (List._∷_ Row.off (List._∷_ Row.off (List._∷_ Row.off (List._∷_ Row.off (List._∷_ Row.off List.[])))))))))))))))))));
-        }
+        G26 = record { locals = T26 .locals; slots = slots·1 }
 
         abbrev G27 : Row.Cx
-        G27 = record {
-          locals = List._++_ t25 (List._++_ t27 (List._++_ t2 t3));
-          slots = List._∷_ (Row.lease (κs .0) (qs .0)) (List._∷_ (Row.lease (κs .1 .0) (qs .1 .0)) (List._∷_ Row.alive (List._∷_ Row.alive (List._∷_ Row.off (List._∷_ Row.off (List._∷_ Row.off (List._∷_ Row.off (List._∷_ Row.off (List._∷_ Row.off (List._∷_ Row.off (List._∷_ Row.off
-              (List._∷_ Row.off (List._∷_ Row.off (List._∷_ Row.off (List._∷_ Row.off (List._∷_ Row.off (List._∷_ Row.off (List._∷_ Row.off (List._∷_ Row.off List.[])))))))))))))))))));
-        }
+        G27 = record { locals = T26 .locals; slots = slots·2 }
 
         abbrev G28 : Row.Cx
-        G28 = record {
-          locals = List._++_ t28 (List._++_ t29 (List._++_ t2 t3));
-          slots = List._∷_ (Row.lease (κs .0) (qs .0)) (List._∷_ (Row.lease (κs .1 .0) (qs .1 .0)) (List._∷_ Row.alive (List._∷_ Row.alive (List._∷_ Row.off (List._∷_ Row.off (List._∷_ Row.off (List._∷_ Row.off (List._∷_ Row.off (List._∷_ Row.off (List._∷_ Row.off (List._∷_ Row.off
-              (List._∷_ Row.off (List._∷_ Row.off (List._∷_ Row.off (List._∷_ Row.off (List._∷_ Row.off (List._∷_ Row.off (List._∷_ Row.off (List._∷_ Row.off List.[])))))))))))))))))));
-        }
+        G28 = record { locals = T28 .locals; slots = slots·2 }
 
         abbrev G29 : Row.Cx
-        G29 = record {
-          locals = List._++_ t28 (List._++_ t30 (List._++_ t2 t3));
-          slots = List._∷_ (Row.lease (κs .0) (qs .0)) (List._∷_ (Row.lease (κs .1 .0) (qs .1 .0)) (List._∷_ Row.alive (List._∷_ Row.alive (List._∷_ Row.off (List._∷_ Row.off (List._∷_ Row.off (List._∷_ Row.off (List._∷_ Row.off (List._∷_ Row.off (List._∷_ Row.off (List._∷_ Row.off
-              (List._∷_ Row.off (List._∷_ Row.off (List._∷_ Row.off (List._∷_ Row.off (List._∷_ Row.off (List._∷_ Row.off (List._∷_ Row.off (List._∷_ Row.off List.[])))))))))))))))))));
-        }
+        G29 = record { locals = T29 .locals; slots = slots·2 }
 
         abbrev G30 : Row.Cx
-        G30 = record {
-          locals = List._++_ t28 (List._++_ t30 (List._++_ t2 t3));
-          slots = List._∷_ (Row.lease (κs .0) (qs .0)) (List._∷_ (Row.lease (κs .1 .0) (qs .1 .0)) (List._∷_ Row.alive (List._∷_ Row.alive (List._∷_ Row.alive (List._∷_ Row.off (List._∷_ Row.off (List._∷_ Row.off (List._∷_ Row.off (List._∷_ Row.off (List._∷_ Row.off (List._∷_ Row.off
-              (List._∷_ Row.off (List._∷_ Row.off (List._∷_ Row.off (List._∷_ Row.off (List._∷_ Row.off (List._∷_ Row.off (List._∷_ Row.off (List._∷_ Row.off List.[])))))))))))))))))));
-        }
+        G30 = record { locals = T29 .locals; slots = slots·3 }
 
         abbrev G31 : Row.Cx
-        G31 = record {
-          locals = List._++_ t31 (List._++_ t32 (List._++_ t2 t3));
-          slots = List._∷_ (Row.lease (κs .0) (qs .0)) (List._∷_ (Row.lease (κs .1 .0) (qs .1 .0)) (List._∷_ Row.alive (List._∷_ Row.alive (List._∷_ Row.alive (List._∷_ Row.off (List._∷_ Row.off (List._∷_ Row.off (List._∷_ Row.off (List._∷_ Row.off (List._∷_ Row.off (List._∷_ Row.off
-              (List._∷_ Row.off (List._∷_ Row.off (List._∷_ Row.off (List._∷_ Row.off (List._∷_ Row.off (List._∷_ Row.off (List._∷_ Row.off (List._∷_ Row.off List.[])))))))))))))))))));
-        }
+        G31 = record { locals = T31 .locals; slots = slots·3 }
 
         abbrev G32 : Row.Cx
-        G32 = record {
-          locals = List._++_ t31 (List._++_ t33 (List._++_ t2 t3));
-          slots = List._∷_ (Row.lease (κs .0) (qs .0)) (List._∷_ (Row.lease (κs .1 .0) (qs .1 .0)) (List._∷_ Row.alive (List._∷_ Row.alive (List._∷_ Row.alive (List._∷_ Row.off (List._∷_ Row.off (List._∷_ Row.off (List._∷_ Row.off (List._∷_ Row.off (List._∷_ Row.off (List._∷_ Row.off
-              (List._∷_ Row.off (List._∷_ Row.off (List._∷_ Row.off (List._∷_ Row.off (List._∷_ Row.off (List._∷_ Row.off (List._∷_ Row.off (List._∷_ Row.off List.[])))))))))))))))))));
-        }
+        G32 = record { locals = T32 .locals; slots = slots·3 }
 
         abbrev G33 : Row.Cx
-        G33 = record {
-          locals = List._++_ t31 (List._++_ t33 (List._++_ t2 t3));
-          slots = List._∷_ (Row.lease (κs .0) (qs .0)) (List._∷_ (Row.lease (κs .1 .0) (qs .1 .0)) (List._∷_ Row.alive (List._∷_ Row.alive (List._∷_ Row.alive (List._∷_ Row.alive (List._∷_ Row.off (List._∷_ Row.off (List._∷_ Row.off (List._∷_ Row.off (List._∷_ Row.off (List._∷_ Row.off
-              (List._∷_ Row.off (List._∷_ Row.off (List._∷_ Row.off (List._∷_ Row.off (List._∷_ Row.off (List._∷_ Row.off (List._∷_ Row.off (List._∷_ Row.off List.[])))))))))))))))))));
-        }
+        G33 = record { locals = T32 .locals; slots = slots·4 }
 
         abbrev G34 : Row.Cx
-        G34 = record {
-          locals = List._++_ t34 (List._++_ t35 (List._++_ t2 t3));
-          slots = List._∷_ (Row.lease (κs .0) (qs .0)) (List._∷_ (Row.lease (κs .1 .0) (qs .1 .0)) (List._∷_ Row.alive (List._∷_ Row.alive (List._∷_ Row.alive (List._∷_ Row.alive (List._∷_ Row.off (List._∷_ Row.off (List._∷_ Row.off (List._∷_ Row.off (List._∷_ Row.off (List._∷_ Row.off
-              (List._∷_ Row.off (List._∷_ Row.off (List._∷_ Row.off (List._∷_ Row.off (List._∷_ Row.off (List._∷_ Row.off (List._∷_ Row.off (List._∷_ Row.off List.[])))))))))))))))))));
-        }
+        G34 = record { locals = T34 .locals; slots = slots·4 }
 
         abbrev G35 : Row.Cx
-        G35 = record {
-          locals = List._++_ t34 (List._++_ t36 (List._++_ t2 t3));
-          slots = List._∷_ (Row.lease (κs .0) (qs .0)) (List._∷_ (Row.lease (κs .1 .0) (qs .1 .0)) (List._∷_ Row.alive (List._∷_ Row.alive (List._∷_ Row.alive (List._∷_ Row.alive (List._∷_ Row.off (List._∷_ Row.off (List._∷_ Row.off (List._∷_ Row.off (List._∷_ Row.off (List._∷_ Row.off
-              (List._∷_ Row.off (List._∷_ Row.off (List._∷_ Row.off (List._∷_ Row.off (List._∷_ Row.off (List._∷_ Row.off (List._∷_ Row.off (List._∷_ Row.off List.[])))))))))))))))))));
-        }
+        G35 = record { locals = T35 .locals; slots = slots·4 }
 
         abbrev G36 : Row.Cx
-        G36 = record {
-          locals = List._++_ t34 (List._++_ t36 (List._++_ t2 t3));
-          slots = List._∷_ (Row.lease (κs .0) (qs .0)) (List._∷_ (Row.lease (κs .1 .0) (qs .1 .0)) (List._∷_ Row.alive (List._∷_ Row.alive (List._∷_ Row.alive (List._∷_ Row.alive (List._∷_ Row.alive (List._∷_ Row.off (List._∷_ Row.off (List._∷_ Row.off (List._∷_ Row.off (List._∷_ Row.off
-              (List._∷_ Row.off (List._∷_ Row.off (List._∷_ Row.off (List._∷_ Row.off (List._∷_ Row.off (List._∷_ Row.off (List._∷_ Row.off (List._∷_ Row.off List.[])))))))))))))))))));
-        }
+        G36 = record { locals = T35 .locals; slots = slots·5 }
 
         abbrev G37 : Row.Cx
-        G37 = record {
-          locals = List._++_ t37 (List._++_ t38 (List._++_ t2 t3));
-          slots = List._∷_ (Row.lease (κs .0) (qs .0)) (List._∷_ (Row.lease (κs .1 .0) (qs .1 .0)) (List._∷_ Row.alive (List._∷_ Row.alive (List._∷_ Row.alive (List._∷_ Row.alive (List._∷_ Row.alive (List._∷_ Row.off (List._∷_ Row.off (List._∷_ Row.off (List._∷_ Row.off (List._∷_ Row.off
-              (List._∷_ Row.off (List._∷_ Row.off (List._∷_ Row.off (List._∷_ Row.off (List._∷_ Row.off (List._∷_ Row.off (List._∷_ Row.off (List._∷_ Row.off List.[])))))))))))))))))));
-        }
+        G37 = record { locals = T37 .locals; slots = slots·5 }
 
         abbrev G38 : Row.Cx
-        G38 = record {
-          locals = List._++_ t37 (List._++_ t39 (List._++_ t2 t3));
-          slots = List._∷_ (Row.lease (κs .0) (qs .0)) (List._∷_ (Row.lease (κs .1 .0) (qs .1 .0)) (List._∷_ Row.alive (List._∷_ Row.alive (List._∷_ Row.alive (List._∷_ Row.alive (List._∷_ Row.alive (List._∷_ Row.off (List._∷_ Row.off (List._∷_ Row.off (List._∷_ Row.off (List._∷_ Row.off
-              (List._∷_ Row.off (List._∷_ Row.off (List._∷_ Row.off (List._∷_ Row.off (List._∷_ Row.off (List._∷_ Row.off (List._∷_ Row.off (List._∷_ Row.off List.[])))))))))))))))))));
-        }
+        G38 = record { locals = T38 .locals; slots = slots·5 }
 
         abbrev G39 : Row.Cx
-        G39 = record {
-          locals = List._++_ t37 (List._++_ t39 (List._++_ t2 t3));
-          slots = List._∷_ (Row.lease (κs .0) (qs .0)) (List._∷_ (Row.lease (κs .1 .0) (qs .1 .0)) (List._∷_ Row.alive (List._∷_ Row.alive (List._∷_ Row.alive (List._∷_ Row.alive (List._∷_ Row.alive (List._∷_ Row.alive (List._∷_ Row.off (List._∷_ Row.off (List._∷_ Row.off (List._∷_
-              Row.off (List._∷_ Row.off (List._∷_ Row.off (List._∷_ Row.off (List._∷_ Row.off (List._∷_ Row.off (List._∷_ Row.off (List._∷_ Row.off (List._∷_ Row.off List.[])))))))))))))))))));
-        }
+        G39 = record { locals = T38 .locals; slots = slots·6 }
 
         abbrev G40 : Row.Cx
-        G40 = record {
-          locals = List._++_ t40 (List._++_ t41 (List._++_ t2 t3));
-          slots = List._∷_ (Row.lease (κs .0) (qs .0)) (List._∷_ (Row.lease (κs .1 .0) (qs .1 .0)) (List._∷_ Row.alive (List._∷_ Row.alive (List._∷_ Row.alive (List._∷_ Row.alive (List._∷_ Row.alive (List._∷_ Row.alive (List._∷_ Row.off (List._∷_ Row.off (List._∷_ Row.off (List._∷_
-              Row.off (List._∷_ Row.off (List._∷_ Row.off (List._∷_ Row.off (List._∷_ Row.off (List._∷_ Row.off (List._∷_ Row.off (List._∷_ Row.off (List._∷_ Row.off List.[])))))))))))))))))));
-        }
+        G40 = record { locals = T40 .locals; slots = slots·6 }
 
         abbrev G41 : Row.Cx
-        G41 = record {
-          locals = List._++_ t40 (List._++_ t42 (List._++_ t2 t3));
-          slots = List._∷_ (Row.lease (κs .0) (qs .0)) (List._∷_ (Row.lease (κs .1 .0) (qs .1 .0)) (List._∷_ Row.alive (List._∷_ Row.alive (List._∷_ Row.alive (List._∷_ Row.alive (List._∷_ Row.alive (List._∷_ Row.alive (List._∷_ Row.off (List._∷_ Row.off (List._∷_ Row.off (List._∷_
-              Row.off (List._∷_ Row.off (List._∷_ Row.off (List._∷_ Row.off (List._∷_ Row.off (List._∷_ Row.off (List._∷_ Row.off (List._∷_ Row.off (List._∷_ Row.off List.[])))))))))))))))))));
-        }
+        G41 = record { locals = T41 .locals; slots = slots·6 }
 
         abbrev G42 : Row.Cx
-        G42 = record {
-          locals = List._++_ t40 (List._++_ t42 (List._++_ t2 t3));
-          slots = List._∷_ (Row.lease (κs .0) (qs .0)) (List._∷_ (Row.lease (κs .1 .0) (qs .1 .0)) (List._∷_ Row.alive (List._∷_ Row.alive (List._∷_ Row.alive (List._∷_ Row.alive (List._∷_ Row.alive (List._∷_ Row.alive (List._∷_ Row.alive (List._∷_ Row.off (List._∷_ Row.off (List._∷_
-              Row.off (List._∷_ Row.off (List._∷_ Row.off (List._∷_ Row.off (List._∷_ Row.off (List._∷_ Row.off (List._∷_ Row.off (List._∷_ Row.off (List._∷_ Row.off List.[])))))))))))))))))));
-        }
+        G42 = record { locals = T41 .locals; slots = slots·7 }
 
         abbrev G43 : Row.Cx
-        G43 = record {
-          locals = List._++_ t43 (List._++_ t44 (List._++_ t2 t3));
-          slots = List._∷_ (Row.lease (κs .0) (qs .0)) (List._∷_ (Row.lease (κs .1 .0) (qs .1 .0)) (List._∷_ Row.alive (List._∷_ Row.alive (List._∷_ Row.alive (List._∷_ Row.alive (List._∷_ Row.alive (List._∷_ Row.alive (List._∷_ Row.alive (List._∷_ Row.off (List._∷_ Row.off (List._∷_
-              Row.off (List._∷_ Row.off (List._∷_ Row.off (List._∷_ Row.off (List._∷_ Row.off (List._∷_ Row.off (List._∷_ Row.off (List._∷_ Row.off (List._∷_ Row.off List.[])))))))))))))))))));
-        }
+        G43 = record { locals = T43 .locals; slots = slots·7 }
 
         abbrev G44 : Row.Cx
-        G44 = record {
-          locals = List._++_ t43 (List._++_ t45 (List._++_ t2 t3));
-          slots = List._∷_ (Row.lease (κs .0) (qs .0)) (List._∷_ (Row.lease (κs .1 .0) (qs .1 .0)) (List._∷_ Row.alive (List._∷_ Row.alive (List._∷_ Row.alive (List._∷_ Row.alive (List._∷_ Row.alive (List._∷_ Row.alive (List._∷_ Row.alive (List._∷_ Row.off (List._∷_ Row.off (List._∷_
-              Row.off (List._∷_ Row.off (List._∷_ Row.off (List._∷_ Row.off (List._∷_ Row.off (List._∷_ Row.off (List._∷_ Row.off (List._∷_ Row.off (List._∷_ Row.off List.[])))))))))))))))))));
-        }
+        G44 = record { locals = T44 .locals; slots = slots·7 }
 
         abbrev G45 : Row.Cx
-        G45 = record {
-          locals = List._++_ t43 (List._++_ t45 (List._++_ t2 t3));
-          slots = List._∷_ (Row.lease (κs .0) (qs .0)) (List._∷_ (Row.lease (κs .1 .0) (qs .1 .0)) (List._∷_ Row.alive (List._∷_ Row.alive (List._∷_ Row.alive (List._∷_ Row.alive (List._∷_ Row.alive (List._∷_ Row.alive (List._∷_ Row.alive (List._∷_ Row.alive (List._∷_ Row.off (List._∷_
-              Row.off (List._∷_ Row.off (List._∷_ Row.off (List._∷_ Row.off (List._∷_ Row.off (List._∷_ Row.off (List._∷_ Row.off (List._∷_ Row.off (List._∷_ Row.off List.[])))))))))))))))))));
-        }
+        G45 = record { locals = T44 .locals; slots = slots·8 }
 
         abbrev G46 : Row.Cx
-        G46 = record {
-          locals = List._++_ t46 (List._++_ t47 (List._++_ t2 t3));
-          slots = List._∷_ (Row.lease (κs .0) (qs .0)) (List._∷_ (Row.lease (κs .1 .0) (qs .1 .0)) (List._∷_ Row.alive (List._∷_ Row.alive (List._∷_ Row.alive (List._∷_ Row.alive (List._∷_ Row.alive (List._∷_ Row.alive (List._∷_ Row.alive (List._∷_ Row.alive (List._∷_ Row.off (List._∷_
-              Row.off (List._∷_ Row.off (List._∷_ Row.off (List._∷_ Row.off (List._∷_ Row.off (List._∷_ Row.off (List._∷_ Row.off (List._∷_ Row.off (List._∷_ Row.off List.[])))))))))))))))))));
-        }
+        G46 = record { locals = T46 .locals; slots = slots·8 }
 
         abbrev G47 : Row.Cx
-        G47 = record {
-          locals = List._++_ t46 (List._++_ t48 (List._++_ t2 t3));
-          slots = List._∷_ (Row.lease (κs .0) (qs .0)) (List._∷_ (Row.lease (κs .1 .0) (qs .1 .0)) (List._∷_ Row.alive (List._∷_ Row.alive (List._∷_ Row.alive (List._∷_ Row.alive (List._∷_ Row.alive (List._∷_ Row.alive (List._∷_ Row.alive (List._∷_ Row.alive (List._∷_ Row.off (List._∷_
-              Row.off (List._∷_ Row.off (List._∷_ Row.off (List._∷_ Row.off (List._∷_ Row.off (List._∷_ Row.off (List._∷_ Row.off (List._∷_ Row.off (List._∷_ Row.off List.[])))))))))))))))))));
-        }
+        G47 = record { locals = T47 .locals; slots = slots·8 }
 
         abbrev G48 : Row.Cx
-        G48 = record {
-          locals = List._++_ t46 (List._++_ t48 (List._++_ t2 t3));
-          slots = List._∷_ (Row.lease (κs .0) (qs .0)) (List._∷_ (Row.lease (κs .1 .0) (qs .1 .0)) (List._∷_ Row.alive (List._∷_ Row.alive (List._∷_ Row.alive (List._∷_ Row.alive (List._∷_ Row.alive (List._∷_ Row.alive (List._∷_ Row.alive (List._∷_ Row.alive (List._∷_ Row.alive (List._∷_
-              Row.off (List._∷_ Row.off (List._∷_ Row.off (List._∷_ Row.off (List._∷_ Row.off (List._∷_ Row.off (List._∷_ Row.off (List._∷_ Row.off (List._∷_ Row.off List.[])))))))))))))))))));
-        }
+        G48 = record { locals = T47 .locals; slots = slots·9 }
 
         abbrev G49 : Row.Cx
-        G49 = record {
-          locals = List._++_ t49 (List._++_ t48 (List._++_ t50 t3));
-          slots = List._∷_ (Row.lease (κs .0) (qs .0)) (List._∷_ (Row.lease (κs .1 .0) (qs .1 .0)) (List._∷_ Row.alive (List._∷_ Row.alive (List._∷_ Row.alive (List._∷_ Row.alive (List._∷_ Row.alive (List._∷_ Row.alive (List._∷_ Row.alive (List._∷_ Row.alive (List._∷_ Row.alive (List._∷_
-              Row.off (List._∷_ Row.off (List._∷_ Row.off (List._∷_ Row.off (List._∷_ Row.off (List._∷_ Row.off (List._∷_ Row.off (List._∷_ Row.off (List._∷_ Row.off List.[])))))))))))))))))));
-        }
+        G49 = record { locals = T49 .locals; slots = slots·9 }
 
         abbrev G50 : Row.Cx
-        G50 = record {
-          locals = List._++_ t49 (List._++_ t48 (List._++_ t51 t3));
-          slots = List._∷_ (Row.lease (κs .0) (qs .0)) (List._∷_ (Row.lease (κs .1 .0) (qs .1 .0)) (List._∷_ Row.alive (List._∷_ Row.alive (List._∷_ Row.alive (List._∷_ Row.alive (List._∷_ Row.alive (List._∷_ Row.alive (List._∷_ Row.alive (List._∷_ Row.alive (List._∷_ Row.alive (List._∷_
-              Row.off (List._∷_ Row.off (List._∷_ Row.off (List._∷_ Row.off (List._∷_ Row.off (List._∷_ Row.off (List._∷_ Row.off (List._∷_ Row.off (List._∷_ Row.off List.[])))))))))))))))))));
-        }
+        G50 = record { locals = T50 .locals; slots = slots·9 }
 
         abbrev G51 : Row.Cx
-        G51 = record {
-          locals = List._++_ t52 (List._++_ t53 (List._++_ t54 t3));
-          slots = List._∷_ (Row.lease (κs .0) (qs .0)) (List._∷_ (Row.lease (κs .1 .0) (qs .1 .0)) (List._∷_ Row.alive (List._∷_ Row.alive (List._∷_ Row.alive (List._∷_ Row.alive (List._∷_ Row.alive (List._∷_ Row.alive (List._∷_ Row.alive (List._∷_ Row.alive (List._∷_ Row.alive (List._∷_
-              Row.off (List._∷_ Row.off (List._∷_ Row.off (List._∷_ Row.off (List._∷_ Row.off (List._∷_ Row.off (List._∷_ Row.off (List._∷_ Row.off (List._∷_ Row.off List.[])))))))))))))))))));
-        }
+        G51 = record { locals = T51 .locals; slots = slots·9 }
 
         abbrev G52 : Row.Cx
-        G52 = record {
-          locals = List._++_ t52 (List._++_ t53 (List._++_ t54 t3));
-          slots = List._∷_ (Row.lease (κs .0) (qs .0)) (List._∷_ (Row.lease (κs .1 .0) (qs .1 .0)) (List._∷_ Row.dead (List._∷_ Row.alive (List._∷_ Row.alive (List._∷_ Row.alive (List._∷_ Row.alive (List._∷_ Row.alive (List._∷_ Row.alive (List._∷_ Row.alive (List._∷_ Row.alive (List._∷_
-              Row.off (List._∷_ Row.off (List._∷_ Row.off (List._∷_ Row.off (List._∷_ Row.off (List._∷_ Row.off (List._∷_ Row.off (List._∷_ Row.off (List._∷_ Row.off List.[])))))))))))))))))));
-        }
+        G52 = record { locals = T51 .locals; slots = slots·10 }
 
         abbrev G53 : Row.Cx
-        G53 = record {
-          locals = List._++_ t55 (List._++_ t56 (List._++_ t54 t3));
-          slots = List._∷_ (Row.lease (κs .0) (qs .0)) (List._∷_ (Row.lease (κs .1 .0) (qs .1 .0)) (List._∷_ Row.dead (List._∷_ Row.alive (List._∷_ Row.alive (List._∷_ Row.alive (List._∷_ Row.alive (List._∷_ Row.alive (List._∷_ Row.alive (List._∷_ Row.alive (List._∷_ Row.alive (List._∷_
-              Row.off (List._∷_ Row.off (List._∷_ Row.off (List._∷_ Row.off (List._∷_ Row.off (List._∷_ Row.off (List._∷_ Row.off (List._∷_ Row.off (List._∷_ Row.off List.[])))))))))))))))))));
-        }
+        G53 = record { locals = T53 .locals; slots = slots·10 }
 
         abbrev G54 : Row.Cx
-        G54 = record {
-          locals = List._++_ t55 (List._++_ t56 (List._++_ t54 t3));
-          slots = List._∷_ (Row.lease (κs .0) (qs .0)) (List._∷_ (Row.lease (κs .1 .0) (qs .1 .0)) (List._∷_ Row.off (List._∷_ Row.alive (List._∷_ Row.alive (List._∷_ Row.alive (List._∷_ Row.alive (List._∷_ Row.alive (List._∷_ Row.alive (List._∷_ Row.alive (List._∷_ Row.alive (List._∷_
-              Row.off (List._∷_ Row.off (List._∷_ Row.off (List._∷_ Row.off (List._∷_ Row.off (List._∷_ Row.off (List._∷_ Row.off (List._∷_ Row.off (List._∷_ Row.off List.[])))))))))))))))))));
-        }
+        G54 = record
+            { locals = T53 .locals; slots = List._∷_ (Row.lease (κs .0) (qs .0)) (List._∷_ (Row.lease (κs .1 .0) (qs .1 .0)) (List._∷_ Row.off (List._∷_ Row.alive (List._∷_ Row.alive (List._∷_ Row.alive (List._∷_ Row.alive (List._∷_ Row.alive (List._∷_ Row.alive (List._∷_ Row.alive (List._∷_ Row.alive (List._∷_ Row.off (List._∷_ Row.off (List._∷_ Row.off (List._∷_ Row.off (List._∷_ Row.off (List._∷_ Row.off (List._∷_ Row.off (List._∷_ Row.off (List._∷_ Row.off List.[]))))))))))))))))))) }
 
         abbrev G55 : Row.Cx
-        G55 = record {
-          locals = List._++_ t55 (List._++_ t56 (List._++_ t54 t3));
-          slots = List._∷_ (Row.lease (κs .0) (qs .0)) (List._∷_ (Row.lease (κs .1 .0) (qs .1 .0)) (List._∷_ Row.off (List._∷_ Row.dead (List._∷_ Row.alive (List._∷_ Row.alive (List._∷_ Row.alive (List._∷_ Row.alive (List._∷_ Row.alive (List._∷_ Row.alive (List._∷_ Row.alive (List._∷_
-              Row.off (List._∷_ Row.off (List._∷_ Row.off (List._∷_ Row.off (List._∷_ Row.off (List._∷_ Row.off (List._∷_ Row.off (List._∷_ Row.off (List._∷_ Row.off List.[])))))))))))))))))));
-        }
+        G55 = record { locals = T53 .locals; slots = slots·11 }
 
         abbrev G56 : Row.Cx
-        G56 = record {
-          locals = List._++_ t57 (List._++_ t58 (List._++_ t54 t3));
-          slots = List._∷_ (Row.lease (κs .0) (qs .0)) (List._∷_ (Row.lease (κs .1 .0) (qs .1 .0)) (List._∷_ Row.off (List._∷_ Row.dead (List._∷_ Row.alive (List._∷_ Row.alive (List._∷_ Row.alive (List._∷_ Row.alive (List._∷_ Row.alive (List._∷_ Row.alive (List._∷_ Row.alive (List._∷_
-              Row.off (List._∷_ Row.off (List._∷_ Row.off (List._∷_ Row.off (List._∷_ Row.off (List._∷_ Row.off (List._∷_ Row.off (List._∷_ Row.off (List._∷_ Row.off List.[])))))))))))))))))));
-        }
+        G56 = record { locals = T56 .locals; slots = slots·11 }
 
         abbrev G57 : Row.Cx
-        G57 = record {
-          locals = List._++_ t57 (List._++_ t58 (List._++_ t54 t3));
-          slots = List._∷_ (Row.lease (κs .0) (qs .0)) (List._∷_ (Row.lease (κs .1 .0) (qs .1 .0)) (List._∷_ Row.off (List._∷_ Row.off (List._∷_ Row.alive (List._∷_ Row.alive (List._∷_ Row.alive (List._∷_ Row.alive (List._∷_ Row.alive (List._∷_ Row.alive (List._∷_ Row.alive (List._∷_
-              Row.off (List._∷_ Row.off (List._∷_ Row.off (List._∷_ Row.off (List._∷_ Row.off (List._∷_ Row.off (List._∷_ Row.off (List._∷_ Row.off (List._∷_ Row.off List.[])))))))))))))))))));
-        }
+        G57 = record
+            { locals = T56 .locals; slots = List._∷_ (Row.lease (κs .0) (qs .0)) (List._∷_ (Row.lease (κs .1 .0) (qs .1 .0)) (List._∷_ Row.off (List._∷_ Row.off (List._∷_ Row.alive (List._∷_ Row.alive (List._∷_ Row.alive (List._∷_ Row.alive (List._∷_ Row.alive (List._∷_ Row.alive (List._∷_ Row.alive (List._∷_ Row.off (List._∷_ Row.off (List._∷_ Row.off (List._∷_ Row.off (List._∷_ Row.off (List._∷_ Row.off (List._∷_ Row.off (List._∷_ Row.off (List._∷_ Row.off List.[]))))))))))))))))))) }
 
         abbrev G58 : Row.Cx
-        G58 = record {
-          locals = List._++_ t57 (List._++_ t58 (List._++_ t54 t3));
-          slots = List._∷_ (Row.lease (κs .0) (qs .0)) (List._∷_ (Row.lease (κs .1 .0) (qs .1 .0)) (List._∷_ Row.off (List._∷_ Row.off (List._∷_ Row.dead (List._∷_ Row.alive (List._∷_ Row.alive (List._∷_ Row.alive (List._∷_ Row.alive (List._∷_ Row.alive (List._∷_ Row.alive (List._∷_
-              Row.off (List._∷_ Row.off (List._∷_ Row.off (List._∷_ Row.off (List._∷_ Row.off (List._∷_ Row.off (List._∷_ Row.off (List._∷_ Row.off (List._∷_ Row.off List.[])))))))))))))))))));
-        }
+        G58 = record { locals = T56 .locals; slots = slots·12 }
 
         abbrev G59 : Row.Cx
-        G59 = record {
-          locals = List._++_ t59 (List._++_ t60 (List._++_ t54 t3));
-          slots = List._∷_ (Row.lease (κs .0) (qs .0)) (List._∷_ (Row.lease (κs .1 .0) (qs .1 .0)) (List._∷_ Row.off (List._∷_ Row.off (List._∷_ Row.dead (List._∷_ Row.alive (List._∷_ Row.alive (List._∷_ Row.alive (List._∷_ Row.alive (List._∷_ Row.alive (List._∷_ Row.alive (List._∷_
-              Row.off (List._∷_ Row.off (List._∷_ Row.off (List._∷_ Row.off (List._∷_ Row.off (List._∷_ Row.off (List._∷_ Row.off (List._∷_ Row.off (List._∷_ Row.off List.[])))))))))))))))))));
-        }
+        G59 = record { locals = T59 .locals; slots = slots·12 }
 
         abbrev G60 : Row.Cx
-        G60 = record {
-          locals = List._++_ t59 (List._++_ t60 (List._++_ t54 t3));
-          slots = List._∷_ (Row.lease (κs .0) (qs .0)) (List._∷_ (Row.lease (κs .1 .0) (qs .1 .0)) (List._∷_ Row.off (List._∷_ Row.off (List._∷_ Row.off (List._∷_ Row.alive (List._∷_ Row.alive (List._∷_ Row.alive (List._∷_ Row.alive (List._∷_ Row.alive (List._∷_ Row.alive (List._∷_
-              Row.off (List._∷_ Row.off (List._∷_ Row.off (List._∷_ Row.off (List._∷_ Row.off (List._∷_ Row.off (List._∷_ Row.off (List._∷_ Row.off (List._∷_ Row.off List.[])))))))))))))))))));
-        }
+        G60 = record
+            { locals = T59 .locals; slots = List._∷_ (Row.lease (κs .0) (qs .0)) (List._∷_ (Row.lease (κs .1 .0) (qs .1 .0)) (List._∷_ Row.off (List._∷_ Row.off (List._∷_ Row.off (List._∷_ Row.alive (List._∷_ Row.alive (List._∷_ Row.alive (List._∷_ Row.alive (List._∷_ Row.alive (List._∷_ Row.alive (List._∷_ Row.off (List._∷_ Row.off (List._∷_ Row.off (List._∷_ Row.off (List._∷_ Row.off (List._∷_ Row.off (List._∷_ Row.off (List._∷_ Row.off (List._∷_ Row.off List.[]))))))))))))))))))) }
 
         abbrev G61 : Row.Cx
-        G61 = record {
-          locals = List._++_ t59 (List._++_ t60 (List._++_ t54 t3));
-          slots = List._∷_ (Row.lease (κs .0) (qs .0)) (List._∷_ (Row.lease (κs .1 .0) (qs .1 .0)) (List._∷_ Row.off (List._∷_ Row.off (List._∷_ Row.off (List._∷_ Row.dead (List._∷_ Row.alive (List._∷_ Row.alive (List._∷_ Row.alive (List._∷_ Row.alive (List._∷_ Row.alive (List._∷_
-              Row.off (List._∷_ Row.off (List._∷_ Row.off (List._∷_ Row.off (List._∷_ Row.off (List._∷_ Row.off (List._∷_ Row.off (List._∷_ Row.off (List._∷_ Row.off List.[])))))))))))))))))));
-        }
+        G61 = record { locals = T59 .locals; slots = slots·13 }
 
         abbrev G62 : Row.Cx
-        G62 = record {
-          locals = List._++_ t61 (List._++_ t62 (List._++_ t54 t3));
-          slots = List._∷_ (Row.lease (κs .0) (qs .0)) (List._∷_ (Row.lease (κs .1 .0) (qs .1 .0)) (List._∷_ Row.off (List._∷_ Row.off (List._∷_ Row.off (List._∷_ Row.dead (List._∷_ Row.alive (List._∷_ Row.alive (List._∷_ Row.alive (List._∷_ Row.alive (List._∷_ Row.alive (List._∷_
-              Row.off (List._∷_ Row.off (List._∷_ Row.off (List._∷_ Row.off (List._∷_ Row.off (List._∷_ Row.off (List._∷_ Row.off (List._∷_ Row.off (List._∷_ Row.off List.[])))))))))))))))))));
-        }
+        G62 = record { locals = T62 .locals; slots = slots·13 }
 
         abbrev G63 : Row.Cx
-        G63 = record {
-          locals = List._++_ t61 (List._++_ t62 (List._++_ t54 t3));
-          slots = List._∷_ (Row.lease (κs .0) (qs .0)) (List._∷_ (Row.lease (κs .1 .0) (qs .1 .0)) (List._∷_ Row.off (List._∷_ Row.off (List._∷_ Row.off (List._∷_ Row.off (List._∷_ Row.alive (List._∷_ Row.alive (List._∷_ Row.alive (List._∷_ Row.alive (List._∷_ Row.alive (List._∷_ Row.off
-              (List._∷_ Row.off (List._∷_ Row.off (List._∷_ Row.off (List._∷_ Row.off (List._∷_ Row.off (List._∷_ Row.off (List._∷_ Row.off (List._∷_ Row.off List.[])))))))))))))))))));
-        }
+        G63 = record
+            { locals = T62 .locals; slots = List._∷_ (Row.lease (κs .0) (qs .0)) (List._∷_ (Row.lease (κs .1 .0) (qs .1 .0)) (List._∷_ Row.off (List._∷_ Row.off (List._∷_ Row.off (List._∷_ Row.off (List._∷_ Row.alive (List._∷_ Row.alive (List._∷_ Row.alive (List._∷_ Row.alive (List._∷_ Row.alive (List._∷_ Row.off (List._∷_ Row.off (List._∷_ Row.off (List._∷_ Row.off (List._∷_ Row.off (List._∷_ Row.off (List._∷_ Row.off (List._∷_ Row.off (List._∷_ Row.off List.[]))))))))))))))))))) }
 
         abbrev G64 : Row.Cx
-        G64 = record {
-          locals = List._++_ t61 (List._++_ t62 (List._++_ t54 t3));
-          slots = List._∷_ (Row.lease (κs .0) (qs .0)) (List._∷_ (Row.lease (κs .1 .0) (qs .1 .0)) (List._∷_ Row.off (List._∷_ Row.off (List._∷_ Row.off (List._∷_ Row.off (List._∷_ Row.dead (List._∷_ Row.alive (List._∷_ Row.alive (List._∷_ Row.alive (List._∷_ Row.alive (List._∷_ Row.off
-              (List._∷_ Row.off (List._∷_ Row.off (List._∷_ Row.off (List._∷_ Row.off (List._∷_ Row.off (List._∷_ Row.off (List._∷_ Row.off (List._∷_ Row.off List.[])))))))))))))))))));
-        }
+        G64 = record { locals = T62 .locals; slots = slots·14 }
 
         abbrev G65 : Row.Cx
-        G65 = record {
-          locals = List._++_ t63 (List._++_ t64 (List._++_ t54 t3));
-          slots = List._∷_ (Row.lease (κs .0) (qs .0)) (List._∷_ (Row.lease (κs .1 .0) (qs .1 .0)) (List._∷_ Row.off (List._∷_ Row.off (List._∷_ Row.off (List._∷_ Row.off (List._∷_ Row.dead (List._∷_ Row.alive (List._∷_ Row.alive (List._∷_ Row.alive (List._∷_ Row.alive (List._∷_ Row.off
-              (List._∷_ Row.off (List._∷_ Row.off (List._∷_ Row.off (List._∷_ Row.off (List._∷_ Row.off (List._∷_ Row.off (List._∷_ Row.off (List._∷_ Row.off List.[])))))))))))))))))));
-        }
+        G65 = record { locals = T65 .locals; slots = slots·14 }
 
         abbrev G66 : Row.Cx
-        G66 = record {
-          locals = List._++_ t63 (List._++_ t64 (List._++_ t54 t3));
-          slots = List._∷_ (Row.lease (κs .0) (qs .0)) (List._∷_ (Row.lease (κs .1 .0) (qs .1 .0)) (List._∷_ Row.off (List._∷_ Row.off (List._∷_ Row.off (List._∷_ Row.off (List._∷_ Row.off (List._∷_ Row.alive (List._∷_ Row.alive (List._∷_ Row.alive (List._∷_ Row.alive (List._∷_ Row.off
-              (List._∷_ Row.off (List._∷_ Row.off (List._∷_ Row.off (List._∷_ Row.off (List._∷_ Row.off (List._∷_ Row.off (List._∷_ Row.off (List._∷_ Row.off List.[])))))))))))))))))));
-        }
+        G66 = record
+            { locals = T65 .locals; slots = List._∷_ (Row.lease (κs .0) (qs .0)) (List._∷_ (Row.lease (κs .1 .0) (qs .1 .0)) (List._∷_ Row.off (List._∷_ Row.off (List._∷_ Row.off (List._∷_ Row.off (List._∷_ Row.off (List._∷_ Row.alive (List._∷_ Row.alive (List._∷_ Row.alive (List._∷_ Row.alive (List._∷_ Row.off (List._∷_ Row.off (List._∷_ Row.off (List._∷_ Row.off (List._∷_ Row.off (List._∷_ Row.off (List._∷_ Row.off (List._∷_ Row.off (List._∷_ Row.off List.[]))))))))))))))))))) }
 
         abbrev G67 : Row.Cx
-        G67 = record {
-          locals = List._++_ t63 (List._++_ t64 (List._++_ t54 t3));
-          slots = List._∷_ (Row.lease (κs .0) (qs .0)) (List._∷_ (Row.lease (κs .1 .0) (qs .1 .0)) (List._∷_ Row.off (List._∷_ Row.off (List._∷_ Row.off (List._∷_ Row.off (List._∷_ Row.off (List._∷_ Row.dead (List._∷_ Row.alive (List._∷_ Row.alive (List._∷_ Row.alive (List._∷_ Row.off
-              (List._∷_ Row.off (List._∷_ Row.off (List._∷_ Row.off (List._∷_ Row.off (List._∷_ Row.off (List._∷_ Row.off (List._∷_ Row.off (List._∷_ Row.off List.[])))))))))))))))))));
-        }
+        G67 = record { locals = T65 .locals; slots = slots·15 }
 
         abbrev G68 : Row.Cx
-        G68 = record {
-          locals = List._++_ t65 (List._++_ t66 (List._++_ t54 t3));
-          slots = List._∷_ (Row.lease (κs .0) (qs .0)) (List._∷_ (Row.lease (κs .1 .0) (qs .1 .0)) (List._∷_ Row.off (List._∷_ Row.off (List._∷_ Row.off (List._∷_ Row.off (List._∷_ Row.off (List._∷_ Row.dead (List._∷_ Row.alive (List._∷_ Row.alive (List._∷_ Row.alive (List._∷_ Row.off
-              (List._∷_ Row.off (List._∷_ Row.off (List._∷_ Row.off (List._∷_ Row.off (List._∷_ Row.off (List._∷_ Row.off (List._∷_ Row.off (List._∷_ Row.off List.[])))))))))))))))))));
-        }
+        G68 = record { locals = T68 .locals; slots = slots·15 }
 
         abbrev G69 : Row.Cx
-        G69 = record {
-          locals = List._++_ t65 (List._++_ t66 (List._++_ t54 t3));
-          slots = List._∷_ (Row.lease (κs .0) (qs .0)) (List._∷_ (Row.lease (κs .1 .0) (qs .1 .0)) (List._∷_ Row.off (List._∷_ Row.off (List._∷_ Row.off (List._∷_ Row.off (List._∷_ Row.off (List._∷_ Row.off (List._∷_ Row.alive (List._∷_ Row.alive (List._∷_ Row.alive (List._∷_ Row.off
-              (List._∷_ Row.off (List._∷_ Row.off (List._∷_ Row.off (List._∷_ Row.off (List._∷_ Row.off (List._∷_ Row.off (List._∷_ Row.off (List._∷_ Row.off List.[])))))))))))))))))));
-        }
+        G69 = record
+            { locals = T68 .locals; slots = List._∷_ (Row.lease (κs .0) (qs .0)) (List._∷_ (Row.lease (κs .1 .0) (qs .1 .0)) (List._∷_ Row.off (List._∷_ Row.off (List._∷_ Row.off (List._∷_ Row.off (List._∷_ Row.off (List._∷_ Row.off (List._∷_ Row.alive (List._∷_ Row.alive (List._∷_ Row.alive (List._∷_ Row.off (List._∷_ Row.off (List._∷_ Row.off (List._∷_ Row.off (List._∷_ Row.off (List._∷_ Row.off (List._∷_ Row.off (List._∷_ Row.off (List._∷_ Row.off List.[]))))))))))))))))))) }
 
         abbrev G70 : Row.Cx
-        G70 = record {
-          locals = List._++_ t65 (List._++_ t66 (List._++_ t54 t3));
-          slots = List._∷_ (Row.lease (κs .0) (qs .0)) (List._∷_ (Row.lease (κs .1 .0) (qs .1 .0)) (List._∷_ Row.off (List._∷_ Row.off (List._∷_ Row.off (List._∷_ Row.off (List._∷_ Row.off (List._∷_ Row.off (List._∷_ Row.dead (List._∷_ Row.alive (List._∷_ Row.alive (List._∷_ Row.off
-              (List._∷_ Row.off (List._∷_ Row.off (List._∷_ Row.off (List._∷_ Row.off (List._∷_ Row.off (List._∷_ Row.off (List._∷_ Row.off (List._∷_ Row.off List.[])))))))))))))))))));
-        }
+        G70 = record { locals = T68 .locals; slots = slots·16 }
 
         abbrev G71 : Row.Cx
-        G71 = record {
-          locals = List._++_ t67 (List._++_ t68 (List._++_ t54 t3));
-          slots = List._∷_ (Row.lease (κs .0) (qs .0)) (List._∷_ (Row.lease (κs .1 .0) (qs .1 .0)) (List._∷_ Row.off (List._∷_ Row.off (List._∷_ Row.off (List._∷_ Row.off (List._∷_ Row.off (List._∷_ Row.off (List._∷_ Row.dead (List._∷_ Row.alive (List._∷_ Row.alive (List._∷_ Row.off
-              (List._∷_ Row.off (List._∷_ Row.off (List._∷_ Row.off (List._∷_ Row.off (List._∷_ Row.off (List._∷_ Row.off (List._∷_ Row.off (List._∷_ Row.off List.[])))))))))))))))))));
-        }
+        G71 = record { locals = T71 .locals; slots = slots·16 }
 
         abbrev G72 : Row.Cx
-        G72 = record {
-          locals = List._++_ t67 (List._++_ t68 (List._++_ t54 t3));
-          slots = List._∷_ (Row.lease (κs .0) (qs .0)) (List._∷_ (Row.lease (κs .1 .0) (qs .1 .0)) (List._∷_ Row.off (List._∷_ Row.off (List._∷_ Row.off (List._∷_ Row.off (List._∷_ Row.off (List._∷_ Row.off (List._∷_ Row.off (List._∷_ Row.alive (List._∷_ Row.alive (List._∷_ Row.off
-              (List._∷_ Row.off (List._∷_ Row.off (List._∷_ Row.off (List._∷_ Row.off (List._∷_ Row.off (List._∷_ Row.off (List._∷_ Row.off (List._∷_ Row.off List.[])))))))))))))))))));
-        }
+        G72 = record
+            { locals = T71 .locals; slots = List._∷_ (Row.lease (κs .0) (qs .0)) (List._∷_ (Row.lease (κs .1 .0) (qs .1 .0)) (List._∷_ Row.off (List._∷_ Row.off (List._∷_ Row.off (List._∷_ Row.off (List._∷_ Row.off (List._∷_ Row.off (List._∷_ Row.off (List._∷_ Row.alive (List._∷_ Row.alive (List._∷_ Row.off (List._∷_ Row.off (List._∷_ Row.off (List._∷_ Row.off (List._∷_ Row.off (List._∷_ Row.off (List._∷_ Row.off (List._∷_ Row.off (List._∷_ Row.off List.[]))))))))))))))))))) }
 
         abbrev G73 : Row.Cx
-        G73 = record {
-          locals = List._++_ t67 (List._++_ t68 (List._++_ t54 t3));
-          slots = List._∷_ (Row.lease (κs .0) (qs .0)) (List._∷_ (Row.lease (κs .1 .0) (qs .1 .0)) (List._∷_ Row.off (List._∷_ Row.off (List._∷_ Row.off (List._∷_ Row.off (List._∷_ Row.off (List._∷_ Row.off (List._∷_ Row.off (List._∷_ Row.dead (List._∷_ Row.alive (List._∷_ Row.off
-              (List._∷_ Row.off (List._∷_ Row.off (List._∷_ Row.off (List._∷_ Row.off (List._∷_ Row.off (List._∷_ Row.off (List._∷_ Row.off (List._∷_ Row.off List.[])))))))))))))))))));
-        }
+        G73 = record { locals = T71 .locals; slots = slots·17 }
 
         abbrev G74 : Row.Cx
-        G74 = record {
-          locals = List._++_ t69 (List._++_ t1 (List._++_ t54 t3));
-          slots = List._∷_ (Row.lease (κs .0) (qs .0)) (List._∷_ (Row.lease (κs .1 .0) (qs .1 .0)) (List._∷_ Row.off (List._∷_ Row.off (List._∷_ Row.off (List._∷_ Row.off (List._∷_ Row.off (List._∷_ Row.off (List._∷_ Row.off (List._∷_ Row.dead (List._∷_ Row.alive (List._∷_ Row.off
-              (List._∷_ Row.off (List._∷_ Row.off (List._∷_ Row.off (List._∷_ Row.off (List._∷_ Row.off (List._∷_ Row.off (List._∷_ Row.off (List._∷_ Row.off List.[])))))))))))))))))));
-        }
+        G74 = record { locals = T74 .locals; slots = slots·17 }
 
         abbrev G75 : Row.Cx
-        G75 = record {
-          locals = List._++_ t69 (List._++_ t1 (List._++_ t54 t3));
-          slots = List._∷_ (Row.lease (κs .0) (qs .0)) (List._∷_ (Row.lease (κs .1 .0) (qs .1 .0)) (List._∷_ Row.off (List._∷_ Row.off (List._∷_ Row.off (List._∷_ Row.off (List._∷_ Row.off (List._∷_ Row.off (List._∷_ Row.off (List._∷_ Row.off (List._∷_ Row.alive (List._∷_ Row.off
-              (List._∷_ Row.off (List._∷_ Row.off (List._∷_ Row.off (List._∷_ Row.off (List._∷_ Row.off (List._∷_ Row.off (List._∷_ Row.off (List._∷_ Row.off List.[])))))))))))))))))));
-        }
+        G75 = record
+            { locals = T74 .locals; slots = List._∷_ (Row.lease (κs .0) (qs .0)) (List._∷_ (Row.lease (κs .1 .0) (qs .1 .0)) (List._∷_ Row.off (List._∷_ Row.off (List._∷_ Row.off (List._∷_ Row.off (List._∷_ Row.off (List._∷_ Row.off (List._∷_ Row.off (List._∷_ Row.off (List._∷_ Row.alive (List._∷_ Row.off (List._∷_ Row.off (List._∷_ Row.off (List._∷_ Row.off (List._∷_ Row.off (List._∷_ Row.off (List._∷_ Row.off (List._∷_ Row.off (List._∷_ Row.off List.[]))))))))))))))))))) }
 
         abbrev G76 : Row.Cx
-        G76 = record {
-          locals = List._++_ t69 (List._++_ t1 (List._++_ t54 t3));
-          slots = List._∷_ (Row.lease (κs .0) (qs .0)) (List._∷_ (Row.lease (κs .1 .0) (qs .1 .0)) (List._∷_ Row.off (List._∷_ Row.off (List._∷_ Row.off (List._∷_ Row.off (List._∷_ Row.off (List._∷_ Row.off (List._∷_ Row.off (List._∷_ Row.off (List._∷_ Row.dead (List._∷_ Row.off (List._∷_
-              Row.off (List._∷_ Row.off (List._∷_ Row.off (List._∷_ Row.off (List._∷_ Row.off (List._∷_ Row.off (List._∷_ Row.off (List._∷_ Row.off List.[])))))))))))))))))));
-        }
+        G76 = record { locals = T74 .locals; slots = slots·18 }
 
         abbrev G77 : Row.Cx
-        G77 = record {
-          locals = List._++_ t70 (List._++_ t1 (List._++_ t2 t3));
-          slots = List._∷_ (Row.lease (κs .0) (qs .0)) (List._∷_ (Row.lease (κs .1 .0) (qs .1 .0)) (List._∷_ Row.off (List._∷_ Row.off (List._∷_ Row.off (List._∷_ Row.off (List._∷_ Row.off (List._∷_ Row.off (List._∷_ Row.off (List._∷_ Row.off (List._∷_ Row.dead (List._∷_ Row.off (List._∷_
-              Row.off (List._∷_ Row.off (List._∷_ Row.off (List._∷_ Row.off (List._∷_ Row.off (List._∷_ Row.off (List._∷_ Row.off (List._∷_ Row.off List.[])))))))))))))))))));
-        }
+        G77 = record { locals = T77 .locals; slots = slots·18 }
 
         abbrev G78 : Row.Cx
-        G78 = record {
-          locals = List._++_ t70 (List._++_ t1 (List._++_ t2 t3));
-          slots = List._∷_ (Row.lease (κs .0) (qs .0)) (List._∷_ (Row.lease (κs .1 .0) (qs .1 .0)) (List._∷_ Row.off (List._∷_ Row.off (List._∷_ Row.off (List._∷_ Row.off (List._∷_ Row.off (List._∷_ Row.off (List._∷_ Row.off (List._∷_ Row.off (List._∷_ Row.off (List._∷_ Row.off (List._∷_
-              Row.off (List._∷_ Row.off (List._∷_ Row.off (List._∷_ Row.off (List._∷_ Row.off (List._∷_ Row.off (List._∷_ Row.off (List._∷_ Row.off List.[])))))))))))))))))));
-        }
+        G78 = record { locals = T77 .locals; slots = slots·0 }
 
         abbrev G79 : Row.Cx
-        G79 = record {
-          locals = List._++_ t71 (List._++_ t1 (List._++_ t2 t3));
-          slots = List._∷_ (Row.lease (κs .0) (qs .0)) (List._∷_ (Row.lease (κs .1 .0) (qs .1 .0)) (List._∷_ Row.off (List._∷_ Row.off (List._∷_ Row.off (List._∷_ Row.off (List._∷_ Row.off (List._∷_ Row.off (List._∷_ Row.off (List._∷_ Row.off (List._∷_ Row.off (List._∷_ Row.off (List._∷_
-              Row.off (List._∷_ Row.off (List._∷_ Row.off (List._∷_ Row.off (List._∷_ Row.off (List._∷_ Row.off (List._∷_ Row.off (List._∷_ Row.off List.[])))))))))))))))))));
-        }
+        G79 = record { locals = T79 .locals; slots = slots·0 }
 
         abbrev G80 : Row.Cx
-        G80 = record {
-          locals = List._++_ t72 (List._++_ t1 (List._++_ t2 t3));
-          slots = List._∷_ (Row.lease (κs .0) (qs .0)) (List._∷_ (Row.lease (κs .1 .0) (qs .1 .0)) (List._∷_ Row.off (List._∷_ Row.off (List._∷_ Row.off (List._∷_ Row.off (List._∷_ Row.off (List._∷_ Row.off (List._∷_ Row.off (List._∷_ Row.off (List._∷_ Row.off (List._∷_ Row.off (List._∷_
-              Row.off (List._∷_ Row.off (List._∷_ Row.off (List._∷_ Row.off (List._∷_ Row.off (List._∷_ Row.off (List._∷_ Row.off (List._∷_ Row.off List.[])))))))))))))))))));
-        }
+        G80 = record { locals = T80 .locals; slots = slots·0 }
 
         abbrev G81 : Row.Cx
-        G81 = record {
-          locals = List._++_ t72 (List._++_ t1 (List._++_ t73 t3));
-          slots = List._∷_ (Row.lease (κs .0) (qs .0)) (List._∷_ (Row.lease (κs .1 .0) (qs .1 .0)) (List._∷_ Row.off (List._∷_ Row.off (List._∷_ Row.off (List._∷_ Row.off (List._∷_ Row.off (List._∷_ Row.off (List._∷_ Row.off (List._∷_ Row.off (List._∷_ Row.off (List._∷_ Row.off (List._∷_
-              Row.off (List._∷_ Row.off (List._∷_ Row.off (List._∷_ Row.off (List._∷_ Row.off (List._∷_ Row.off (List._∷_ Row.off (List._∷_ Row.off List.[])))))))))))))))))));
-        }
-
-        abbrev G82 : Row.Cx
-        G82 = record {
-          locals = List._++_ t72 (List._++_ t1 (List._++_ t2 t3));
-          slots = List._∷_ (Row.lease (κs .0) (qs .0)) (List._∷_ (Row.lease (κs .1 .0) (qs .1 .0)) (List._∷_ Row.off (List._∷_ Row.off (List._∷_ Row.off (List._∷_ Row.off (List._∷_ Row.off (List._∷_ Row.off (List._∷_ Row.off (List._∷_ Row.off (List._∷_ Row.off (List._∷_ Row.off (List._∷_
-              Row.off (List._∷_ Row.off (List._∷_ Row.off (List._∷_ Row.off (List._∷_ Row.off (List._∷_ Row.off (List._∷_ Row.off (List._∷_ Row.off List.[])))))))))))))))))));
-        }
+        G81 = record { locals = T81 .locals; slots = slots·0 }
 
         abbrev G83 : Row.Cx
-        G83 = record {
-          locals = List._++_ t74 (List._++_ t1 (List._++_ t73 t3));
-          slots = List._∷_ (Row.lease (κs .0) (qs .0)) (List._∷_ (Row.lease (κs .1 .0) (qs .1 .0)) (List._∷_ Row.off (List._∷_ Row.off (List._∷_ Row.off (List._∷_ Row.off (List._∷_ Row.off (List._∷_ Row.off (List._∷_ Row.off (List._∷_ Row.off (List._∷_ Row.off (List._∷_ Row.off (List._∷_
-              Row.off (List._∷_ Row.off (List._∷_ Row.off (List._∷_ Row.off (List._∷_ Row.off (List._∷_ Row.off (List._∷_ Row.off (List._∷_ Row.off List.[])))))))))))))))))));
-        }
+        G83 = record { locals = T83 .locals; slots = slots·0 }
 
         abbrev G84 : Row.Cx
-        G84 = record {
-          locals = List._++_ t75 (List._++_ t1 (List._++_ t73 t3));
-          slots = List._∷_ (Row.lease (κs .0) (qs .0)) (List._∷_ (Row.lease (κs .1 .0) (qs .1 .0)) (List._∷_ Row.off (List._∷_ Row.off (List._∷_ Row.off (List._∷_ Row.off (List._∷_ Row.off (List._∷_ Row.off (List._∷_ Row.off (List._∷_ Row.off (List._∷_ Row.off (List._∷_ Row.off (List._∷_
-              Row.off (List._∷_ Row.off (List._∷_ Row.off (List._∷_ Row.off (List._∷_ Row.off (List._∷_ Row.off (List._∷_ Row.off (List._∷_ Row.off List.[])))))))))))))))))));
-        }
+        G84 = record { locals = T84 .locals; slots = slots·0 }
 
         abbrev G85 : Row.Cx
-        G85 = record {
-          locals = List._++_ t76 (List._++_ t1 (List._++_ t73 t3));
-          slots = List._∷_ (Row.lease (κs .0) (qs .0)) (List._∷_ (Row.lease (κs .1 .0) (qs .1 .0)) (List._∷_ Row.off (List._∷_ Row.off (List._∷_ Row.off (List._∷_ Row.off (List._∷_ Row.off (List._∷_ Row.off (List._∷_ Row.off (List._∷_ Row.off (List._∷_ Row.off (List._∷_ Row.off (List._∷_
-              Row.off (List._∷_ Row.off (List._∷_ Row.off (List._∷_ Row.off (List._∷_ Row.off (List._∷_ Row.off (List._∷_ Row.off (List._∷_ Row.off List.[])))))))))))))))))));
-        }
+        G85 = record { locals = T85 .locals; slots = slots·0 }
 
         abbrev G86 : Row.Cx
-        G86 = record {
-          locals = List._++_ t77 (List._++_ t1 (List._++_ t73 t3));
-          slots = List._∷_ (Row.lease (κs .0) (qs .0)) (List._∷_ (Row.lease (κs .1 .0) (qs .1 .0)) (List._∷_ Row.off (List._∷_ Row.off (List._∷_ Row.off (List._∷_ Row.off (List._∷_ Row.off (List._∷_ Row.off (List._∷_ Row.off (List._∷_ Row.off (List._∷_ Row.off (List._∷_ Row.off (List._∷_
-              Row.off (List._∷_ Row.off (List._∷_ Row.off (List._∷_ Row.off (List._∷_ Row.off (List._∷_ Row.off (List._∷_ Row.off (List._∷_ Row.off List.[])))))))))))))))))));
-        }
+        G86 = record { locals = T86 .locals; slots = slots·0 }
 
         abbrev G87 : Row.Cx
-        G87 = record {
-          locals = List._++_ t78 (List._++_ t1 (List._++_ t73 t3));
-          slots = List._∷_ (Row.lease (κs .0) (qs .0)) (List._∷_ (Row.lease (κs .1 .0) (qs .1 .0)) (List._∷_ Row.off (List._∷_ Row.off (List._∷_ Row.off (List._∷_ Row.off (List._∷_ Row.off (List._∷_ Row.off (List._∷_ Row.off (List._∷_ Row.off (List._∷_ Row.off (List._∷_ Row.off (List._∷_
-              Row.off (List._∷_ Row.off (List._∷_ Row.off (List._∷_ Row.off (List._∷_ Row.off (List._∷_ Row.off (List._∷_ Row.off (List._∷_ Row.off List.[])))))))))))))))))));
-        }
+        G87 = record { locals = T87 .locals; slots = slots·0 }
 
         abbrev G88 : Row.Cx
-        G88 = record {
-          locals = List._++_ t79 (List._++_ t1 (List._++_ t73 t3));
-          slots = List._∷_ (Row.lease (κs .0) (qs .0)) (List._∷_ (Row.lease (κs .1 .0) (qs .1 .0)) (List._∷_ Row.off (List._∷_ Row.off (List._∷_ Row.off (List._∷_ Row.off (List._∷_ Row.off (List._∷_ Row.off (List._∷_ Row.off (List._∷_ Row.off (List._∷_ Row.off (List._∷_ Row.off (List._∷_
-              Row.off (List._∷_ Row.off (List._∷_ Row.off (List._∷_ Row.off (List._∷_ Row.off (List._∷_ Row.off (List._∷_ Row.off (List._∷_ Row.off List.[])))))))))))))))))));
-        }
+        G88 = record { locals = T88 .locals; slots = slots·0 }
 
         abbrev G89 : Row.Cx
-        G89 = record {
-          locals = List._++_ t80 (List._++_ t1 (List._++_ t73 t3));
-          slots = List._∷_ (Row.lease (κs .0) (qs .0)) (List._∷_ (Row.lease (κs .1 .0) (qs .1 .0)) (List._∷_ Row.off (List._∷_ Row.off (List._∷_ Row.off (List._∷_ Row.off (List._∷_ Row.off (List._∷_ Row.off (List._∷_ Row.off (List._∷_ Row.off (List._∷_ Row.off (List._∷_ Row.off (List._∷_
-              Row.off (List._∷_ Row.off (List._∷_ Row.off (List._∷_ Row.off (List._∷_ Row.off (List._∷_ Row.off (List._∷_ Row.off (List._∷_ Row.off List.[])))))))))))))))))));
-        }
+        G89 = record { locals = T89 .locals; slots = slots·0 }
 
         abbrev G90 : Row.Cx
-        G90 = record {
-          locals = List._++_ t81 (List._++_ t1 (List._++_ t73 t3));
-          slots = List._∷_ (Row.lease (κs .0) (qs .0)) (List._∷_ (Row.lease (κs .1 .0) (qs .1 .0)) (List._∷_ Row.off (List._∷_ Row.off (List._∷_ Row.off (List._∷_ Row.off (List._∷_ Row.off (List._∷_ Row.off (List._∷_ Row.off (List._∷_ Row.off (List._∷_ Row.off (List._∷_ Row.off (List._∷_
-              Row.off (List._∷_ Row.off (List._∷_ Row.off (List._∷_ Row.off (List._∷_ Row.off (List._∷_ Row.off (List._∷_ Row.off (List._∷_ Row.off List.[])))))))))))))))))));
-        }
+        G90 = record { locals = T90 .locals; slots = slots·0 }
 
         abbrev G91 : Row.Cx
-        G91 = record {
-          locals = List._++_ t82 (List._++_ t1 (List._++_ t73 t3));
-          slots = List._∷_ (Row.lease (κs .0) (qs .0)) (List._∷_ (Row.lease (κs .1 .0) (qs .1 .0)) (List._∷_ Row.off (List._∷_ Row.off (List._∷_ Row.off (List._∷_ Row.off (List._∷_ Row.off (List._∷_ Row.off (List._∷_ Row.off (List._∷_ Row.off (List._∷_ Row.off (List._∷_ Row.off (List._∷_
-              Row.off (List._∷_ Row.off (List._∷_ Row.off (List._∷_ Row.off (List._∷_ Row.off (List._∷_ Row.off (List._∷_ Row.off (List._∷_ Row.off List.[])))))))))))))))))));
-        }
+        G91 = record { locals = T91 .locals; slots = slots·0 }
 
         abbrev G92 : Row.Cx
-        G92 = record {
-          locals = List._++_ t82 (List._++_ t1 (List._++_ t2 t3));
-          slots = List._∷_ (Row.lease (κs .0) (qs .0)) (List._∷_ (Row.lease (κs .1 .0) (qs .1 .0)) (List._∷_ Row.off (List._∷_ Row.off (List._∷_ Row.off (List._∷_ Row.off (List._∷_ Row.off (List._∷_ Row.off (List._∷_ Row.off (List._∷_ Row.off (List._∷_ Row.off (List._∷_ Row.off (List._∷_
-              Row.off (List._∷_ Row.off (List._∷_ Row.off (List._∷_ Row.off (List._∷_ Row.off (List._∷_ Row.off (List._∷_ Row.off (List._∷_ Row.off List.[])))))))))))))))))));
-        }
+        G92 = record { locals = T92 .locals; slots = slots·0 }
 
         abbrev G93 : Row.Cx
-        G93 = record {
-          locals = List._++_ t83 (List._++_ t1 (List._++_ t2 t3));
-          slots = List._∷_ (Row.lease (κs .0) (qs .0)) (List._∷_ (Row.lease (κs .1 .0) (qs .1 .0)) (List._∷_ Row.off (List._∷_ Row.off (List._∷_ Row.off (List._∷_ Row.off (List._∷_ Row.off (List._∷_ Row.off (List._∷_ Row.off (List._∷_ Row.off (List._∷_ Row.off (List._∷_ Row.off (List._∷_
-              Row.off (List._∷_ Row.off (List._∷_ Row.off (List._∷_ Row.off (List._∷_ Row.off (List._∷_ Row.off (List._∷_ Row.off (List._∷_ Row.off List.[])))))))))))))))))));
-        }
+        G93 = record { locals = T93 .locals; slots = slots·0 }
 
         abbrev G94 : Row.Cx
-        G94 = record {
-          locals = List._++_ t84 (List._++_ t1 (List._++_ t2 t3));
-          slots = List._∷_ (Row.lease (κs .0) (qs .0)) (List._∷_ (Row.lease (κs .1 .0) (qs .1 .0)) (List._∷_ Row.off (List._∷_ Row.off (List._∷_ Row.off (List._∷_ Row.off (List._∷_ Row.off (List._∷_ Row.off (List._∷_ Row.off (List._∷_ Row.off (List._∷_ Row.off (List._∷_ Row.off (List._∷_
-              Row.off (List._∷_ Row.off (List._∷_ Row.off (List._∷_ Row.off (List._∷_ Row.off (List._∷_ Row.off (List._∷_ Row.off (List._∷_ Row.off List.[])))))))))))))))))));
-        }
-
-        abbrev G95 : Row.Cx
-        G95 = record {
-          locals = List._++_ t4 (List._++_ t1 (List._++_ t2 t3));
-          slots = List._∷_ (Row.lease (κs .0) (qs .0)) (List._∷_ (Row.lease (κs .1 .0) (qs .1 .0)) (List._∷_ Row.off (List._∷_ Row.off (List._∷_ Row.off (List._∷_ Row.off (List._∷_ Row.off (List._∷_ Row.off (List._∷_ Row.off (List._∷_ Row.off (List._∷_ Row.off (List._∷_ Row.off (List._∷_
-              Row.off (List._∷_ Row.off (List._∷_ Row.off (List._∷_ Row.off (List._∷_ Row.off (List._∷_ Row.off (List._∷_ Row.off (List._∷_ Row.off List.[])))))))))))))))))));
-        }
-
-        abbrev G96 : Row.Cx
-        G96 = record {
-          locals = List._++_ t72 (List._++_ t1 (List._++_ t2 t3));
-          slots = List._∷_ (Row.lease (κs .0) (qs .0)) (List._∷_ (Row.lease (κs .1 .0) (qs .1 .0)) (List._∷_ Row.off (List._∷_ Row.off (List._∷_ Row.off (List._∷_ Row.off (List._∷_ Row.off (List._∷_ Row.off (List._∷_ Row.off (List._∷_ Row.off (List._∷_ Row.off (List._∷_ Row.off (List._∷_
-              Row.off (List._∷_ Row.off (List._∷_ Row.off (List._∷_ Row.off (List._∷_ Row.off (List._∷_ Row.off (List._∷_ Row.off (List._∷_ Row.off List.[])))))))))))))))))));
-        }
+        G94 = record { locals = T94 .locals; slots = slots·0 }
 
         abbrev G97 : Row.Cx
-        G97 = record {
-          locals = List._++_ t72 (List._++_ t1 (List._++_ t2 t3));
-          slots = List._∷_ (Row.lease (κs .0) (qs .0)) (List._∷_ (Row.lease (κs .1 .0) (qs .1 .0)) (List._∷_ Row.off (List._∷_ Row.off (List._∷_ Row.off (List._∷_ Row.off (List._∷_ Row.off (List._∷_ Row.off (List._∷_ Row.off (List._∷_ Row.off (List._∷_ Row.off (List._∷_ Row.alive (List._∷_
-              Row.off (List._∷_ Row.off (List._∷_ Row.off (List._∷_ Row.off (List._∷_ Row.off (List._∷_ Row.off (List._∷_ Row.off (List._∷_ Row.off List.[])))))))))))))))))));
-        }
+        G97 = record { locals = T80 .locals; slots = slots·19 }
 
         abbrev G98 : Row.Cx
-        G98 = record {
-          locals = List._++_ t85 (List._++_ t1 (List._++_ t86 t3));
-          slots = List._∷_ (Row.lease (κs .0) (qs .0)) (List._∷_ (Row.lease (κs .1 .0) (qs .1 .0)) (List._∷_ Row.off (List._∷_ Row.off (List._∷_ Row.off (List._∷_ Row.off (List._∷_ Row.off (List._∷_ Row.off (List._∷_ Row.off (List._∷_ Row.off (List._∷_ Row.off (List._∷_ Row.alive
-              (List._∷_ Row.off (List._∷_ Row.off (List._∷_ Row.off (List._∷_ Row.off (List._∷_ Row.off (List._∷_ Row.off (List._∷_ Row.off (List._∷_ Row.off List.[])))))))))))))))))));
-        }
+        G98 = record { locals = T98 .locals; slots = slots·19 }
 
         abbrev G99 : Row.Cx
-        G99 = record {
-          locals = List._++_ t85 (List._++_ t1 (List._++_ t87 t3));
-          slots = List._∷_ (Row.lease (κs .0) (qs .0)) (List._∷_ (Row.lease (κs .1 .0) (qs .1 .0)) (List._∷_ Row.off (List._∷_ Row.off (List._∷_ Row.off (List._∷_ Row.off (List._∷_ Row.off (List._∷_ Row.off (List._∷_ Row.off (List._∷_ Row.off (List._∷_ Row.off (List._∷_ Row.alive
-              (List._∷_ Row.off (List._∷_ Row.off (List._∷_ Row.off (List._∷_ Row.off (List._∷_ Row.off (List._∷_ Row.off (List._∷_ Row.off (List._∷_ Row.off List.[])))))))))))))))))));
-        }
+        G99 = record { locals = T99 .locals; slots = slots·19 }
 
         abbrev G100 : Row.Cx
-        G100 = record {
-          locals = List._++_ t85 (List._++_ t1 (List._++_ t87 t3));
-          slots = List._∷_ (Row.lease (κs .0) (qs .0)) (List._∷_ (Row.lease (κs .1 .0) (qs .1 .0)) (List._∷_ Row.off (List._∷_ Row.off (List._∷_ Row.off (List._∷_ Row.off (List._∷_ Row.off (List._∷_ Row.off (List._∷_ Row.off (List._∷_ Row.off (List._∷_ Row.off (List._∷_ Row.alive
-              (List._∷_ Row.alive (List._∷_ Row.off (List._∷_ Row.off (List._∷_ Row.off (List._∷_ Row.off (List._∷_ Row.off (List._∷_ Row.off (List._∷_ Row.off List.[])))))))))))))))))));
-        }
+        G100 = record { locals = T99 .locals; slots = slots·20 }
 
         abbrev G101 : Row.Cx
-        G101 = record {
-          locals = List._++_ t88 (List._++_ t1 (List._++_ t89 t3));
-          slots = List._∷_ (Row.lease (κs .0) (qs .0)) (List._∷_ (Row.lease (κs .1 .0) (qs .1 .0)) (List._∷_ Row.off (List._∷_ Row.off (List._∷_ Row.off (List._∷_ Row.off (List._∷_ Row.off (List._∷_ Row.off (List._∷_ Row.off (List._∷_ Row.off (List._∷_ Row.off (List._∷_ Row.alive
-              (List._∷_ Row.alive (List._∷_ Row.off (List._∷_ Row.off (List._∷_ Row.off (List._∷_ Row.off (List._∷_ Row.off (List._∷_ Row.off (List._∷_ Row.off List.[])))))))))))))))))));
-        }
+        G101 = record { locals = T101 .locals; slots = slots·20 }
 
         abbrev G102 : Row.Cx
-        G102 = record {
-          locals = List._++_ t88 (List._++_ t1 (List._++_ t90 t3));
-          slots = List._∷_ (Row.lease (κs .0) (qs .0)) (List._∷_ (Row.lease (κs .1 .0) (qs .1 .0)) (List._∷_ Row.off (List._∷_ Row.off (List._∷_ Row.off (List._∷_ Row.off (List._∷_ Row.off (List._∷_ Row.off (List._∷_ Row.off (List._∷_ Row.off (List._∷_ Row.off (List._∷_ Row.alive
-              (List._∷_ Row.alive (List._∷_ Row.off (List._∷_ Row.off (List._∷_ Row.off (List._∷_ Row.off (List._∷_ Row.off (List._∷_ Row.off (List._∷_ Row.off List.[])))))))))))))))))));
-        }
+        G102 = record { locals = T102 .locals; slots = slots·20 }
 
         abbrev G103 : Row.Cx
-        G103 = record {
-          locals = List._++_ t88 (List._++_ t1 (List._++_ t90 t3));
-          slots = List._∷_ (Row.lease (κs .0) (qs .0)) (List._∷_ (Row.lease (κs .1 .0) (qs .1 .0)) (List._∷_ Row.off (List._∷_ Row.off (List._∷_ Row.off (List._∷_ Row.off (List._∷_ Row.off (List._∷_ Row.off (List._∷_ Row.off (List._∷_ Row.off (List._∷_ Row.off (List._∷_ Row.alive
-              (List._∷_ Row.alive (List._∷_ Row.alive (List._∷_ Row.off (List._∷_ Row.off (List._∷_ Row.off (List._∷_ Row.off (List._∷_ Row.off (List._∷_ Row.off List.[])))))))))))))))))));
-        }
+        G103 = record { locals = T102 .locals; slots = slots·21 }
 
         abbrev G104 : Row.Cx
-        G104 = record {
-          locals = List._++_ t91 (List._++_ t1 (List._++_ t92 t3));
-          slots = List._∷_ (Row.lease (κs .0) (qs .0)) (List._∷_ (Row.lease (κs .1 .0) (qs .1 .0)) (List._∷_ Row.off (List._∷_ Row.off (List._∷_ Row.off (List._∷_ Row.off (List._∷_ Row.off (List._∷_ Row.off (List._∷_ Row.off (List._∷_ Row.off (List._∷_ Row.off (List._∷_ Row.alive
-              (List._∷_ Row.alive (List._∷_ Row.alive (List._∷_ Row.off (List._∷_ Row.off (List._∷_ Row.off (List._∷_ Row.off (List._∷_ Row.off (List._∷_ Row.off List.[])))))))))))))))))));
-        }
+        G104 = record { locals = T104 .locals; slots = slots·21 }
 
         abbrev G105 : Row.Cx
-        G105 = record {
-          locals = List._++_ t91 (List._++_ t1 (List._++_ t93 t3));
-          slots = List._∷_ (Row.lease (κs .0) (qs .0)) (List._∷_ (Row.lease (κs .1 .0) (qs .1 .0)) (List._∷_ Row.off (List._∷_ Row.off (List._∷_ Row.off (List._∷_ Row.off (List._∷_ Row.off (List._∷_ Row.off (List._∷_ Row.off (List._∷_ Row.off (List._∷_ Row.off (List._∷_ Row.alive
-              (List._∷_ Row.alive (List._∷_ Row.alive (List._∷_ Row.off (List._∷_ Row.off (List._∷_ Row.off (List._∷_ Row.off (List._∷_ Row.off (List._∷_ Row.off List.[])))))))))))))))))));
-        }
+        G105 = record { locals = T105 .locals; slots = slots·21 }
 
         abbrev G106 : Row.Cx
-        G106 = record {
-          locals = List._++_ t91 (List._++_ t1 (List._++_ t93 t3));
-          slots = List._∷_ (Row.lease (κs .0) (qs .0)) (List._∷_ (Row.lease (κs .1 .0) (qs .1 .0)) (List._∷_ Row.off (List._∷_ Row.off (List._∷_ Row.off (List._∷_ Row.off (List._∷_ Row.off (List._∷_ Row.off (List._∷_ Row.off (List._∷_ Row.off (List._∷_ Row.off (List._∷_ Row.alive
-              (List._∷_ Row.alive (List._∷_ Row.alive (List._∷_ Row.alive (List._∷_ Row.off (List._∷_ Row.off (List._∷_ Row.off (List._∷_ Row.off (List._∷_ Row.off List.[])))))))))))))))))));
-        }
+        G106 = record { locals = T105 .locals; slots = slots·22 }
 
         abbrev G107 : Row.Cx
-        G107 = record {
-          locals = List._++_ t94 (List._++_ t1 (List._++_ t95 t3));
-          slots = List._∷_ (Row.lease (κs .0) (qs .0)) (List._∷_ (Row.lease (κs .1 .0) (qs .1 .0)) (List._∷_ Row.off (List._∷_ Row.off (List._∷_ Row.off (List._∷_ Row.off (List._∷_ Row.off (List._∷_ Row.off (List._∷_ Row.off (List._∷_ Row.off (List._∷_ Row.off (List._∷_ Row.alive
-              (List._∷_ Row.alive (List._∷_ Row.alive (List._∷_ Row.alive (List._∷_ Row.off (List._∷_ Row.off (List._∷_ Row.off (List._∷_ Row.off (List._∷_ Row.off List.[])))))))))))))))))));
-        }
+        G107 = record { locals = T107 .locals; slots = slots·22 }
 
         abbrev G108 : Row.Cx
-        G108 = record {
-          locals = List._++_ t94 (List._++_ t1 (List._++_ t96 t3));
-          slots = List._∷_ (Row.lease (κs .0) (qs .0)) (List._∷_ (Row.lease (κs .1 .0) (qs .1 .0)) (List._∷_ Row.off (List._∷_ Row.off (List._∷_ Row.off (List._∷_ Row.off (List._∷_ Row.off (List._∷_ Row.off (List._∷_ Row.off (List._∷_ Row.off (List._∷_ Row.off (List._∷_ Row.alive
-              (List._∷_ Row.alive (List._∷_ Row.alive (List._∷_ Row.alive (List._∷_ Row.off (List._∷_ Row.off (List._∷_ Row.off (List._∷_ Row.off (List._∷_ Row.off List.[])))))))))))))))))));
-        }
+        G108 = record { locals = T108 .locals; slots = slots·22 }
 
         abbrev G109 : Row.Cx
-        G109 = record {
-          locals = List._++_ t94 (List._++_ t1 (List._++_ t96 t3));
-          slots = List._∷_ (Row.lease (κs .0) (qs .0)) (List._∷_ (Row.lease (κs .1 .0) (qs .1 .0)) (List._∷_ Row.off (List._∷_ Row.off (List._∷_ Row.off (List._∷_ Row.off (List._∷_ Row.off (List._∷_ Row.off (List._∷_ Row.off (List._∷_ Row.off (List._∷_ Row.off (List._∷_ Row.alive
-              (List._∷_ Row.alive (List._∷_ Row.alive (List._∷_ Row.alive (List._∷_ Row.alive (List._∷_ Row.off (List._∷_ Row.off (List._∷_ Row.off (List._∷_ Row.off List.[])))))))))))))))))));
-        }
+        G109 = record { locals = T108 .locals; slots = slots·23 }
 
         abbrev G110 : Row.Cx
-        G110 = record {
-          locals = List._++_ t97 (List._++_ t1 (List._++_ t98 t3));
-          slots = List._∷_ (Row.lease (κs .0) (qs .0)) (List._∷_ (Row.lease (κs .1 .0) (qs .1 .0)) (List._∷_ Row.off (List._∷_ Row.off (List._∷_ Row.off (List._∷_ Row.off (List._∷_ Row.off (List._∷_ Row.off (List._∷_ Row.off (List._∷_ Row.off (List._∷_ Row.off (List._∷_ Row.alive
-              (List._∷_ Row.alive (List._∷_ Row.alive (List._∷_ Row.alive (List._∷_ Row.alive (List._∷_ Row.off (List._∷_ Row.off (List._∷_ Row.off (List._∷_ Row.off List.[])))))))))))))))))));
-        }
+        G110 = record { locals = T110 .locals; slots = slots·23 }
 
         abbrev G111 : Row.Cx
-        G111 = record {
-          locals = List._++_ t97 (List._++_ t1 (List._++_ t99 t3));
-          slots = List._∷_ (Row.lease (κs .0) (qs .0)) (List._∷_ (Row.lease (κs .1 .0) (qs .1 .0)) (List._∷_ Row.off (List._∷_ Row.off (List._∷_ Row.off (List._∷_ Row.off (List._∷_ Row.off (List._∷_ Row.off (List._∷_ Row.off (List._∷_ Row.off (List._∷_ Row.off (List._∷_ Row.alive
-              (List._∷_ Row.alive (List._∷_ Row.alive (List._∷_ Row.alive (List._∷_ Row.alive (List._∷_ Row.off (List._∷_ Row.off (List._∷_ Row.off (List._∷_ Row.off List.[])))))))))))))))))));
-        }
+        G111 = record { locals = T111 .locals; slots = slots·23 }
 
         abbrev G112 : Row.Cx
-        G112 = record {
-          locals = List._++_ t97 (List._++_ t1 (List._++_ t99 t3));
-          slots = List._∷_ (Row.lease (κs .0) (qs .0)) (List._∷_ (Row.lease (κs .1 .0) (qs .1 .0)) (List._∷_ Row.off (List._∷_ Row.off (List._∷_ Row.off (List._∷_ Row.off (List._∷_ Row.off (List._∷_ Row.off (List._∷_ Row.off (List._∷_ Row.off (List._∷_ Row.off (List._∷_ Row.alive
-              (List._∷_ Row.alive (List._∷_ Row.alive (List._∷_ Row.alive (List._∷_ Row.alive (List._∷_ Row.alive (List._∷_ Row.off (List._∷_ Row.off (List._∷_ Row.off List.[])))))))))))))))))));
-        }
+        G112 = record { locals = T111 .locals; slots = slots·24 }
 
         abbrev G113 : Row.Cx
-        G113 = record {
-          locals = List._++_ t100 (List._++_ t1 (List._++_ t101 t3));
-          slots = List._∷_ (Row.lease (κs .0) (qs .0)) (List._∷_ (Row.lease (κs .1 .0) (qs .1 .0)) (List._∷_ Row.off (List._∷_ Row.off (List._∷_ Row.off (List._∷_ Row.off (List._∷_ Row.off (List._∷_ Row.off (List._∷_ Row.off (List._∷_ Row.off (List._∷_ Row.off (List._∷_ Row.alive
-              (List._∷_ Row.alive (List._∷_ Row.alive (List._∷_ Row.alive (List._∷_ Row.alive (List._∷_ Row.alive (List._∷_ Row.off (List._∷_ Row.off (List._∷_ Row.off List.[])))))))))))))))))));
-        }
+        G113 = record { locals = T113 .locals; slots = slots·24 }
 
         abbrev G114 : Row.Cx
-        G114 = record {
-          locals = List._++_ t100 (List._++_ t1 (List._++_ t102 t3));
-          slots = List._∷_ (Row.lease (κs .0) (qs .0)) (List._∷_ (Row.lease (κs .1 .0) (qs .1 .0)) (List._∷_ Row.off (List._∷_ Row.off (List._∷_ Row.off (List._∷_ Row.off (List._∷_ Row.off (List._∷_ Row.off (List._∷_ Row.off (List._∷_ Row.off (List._∷_ Row.off (List._∷_ Row.alive
-              (List._∷_ Row.alive (List._∷_ Row.alive (List._∷_ Row.alive (List._∷_ Row.alive (List._∷_ Row.alive (List._∷_ Row.off (List._∷_ Row.off (List._∷_ Row.off List.[])))))))))))))))))));
-        }
+        G114 = record { locals = T114 .locals; slots = slots·24 }
 
         abbrev G115 : Row.Cx
-        G115 = record {
-          locals = List._++_ t100 (List._++_ t1 (List._++_ t102 t3));
-          slots = List._∷_ (Row.lease (κs .0) (qs .0)) (List._∷_ (Row.lease (κs .1 .0) (qs .1 .0)) (List._∷_ Row.off (List._∷_ Row.off (List._∷_ Row.off (List._∷_ Row.off (List._∷_ Row.off (List._∷_ Row.off (List._∷_ Row.off (List._∷_ Row.off (List._∷_ Row.off (List._∷_ Row.alive
-              (List._∷_ Row.alive (List._∷_ Row.alive (List._∷_ Row.alive (List._∷_ Row.alive (List._∷_ Row.alive (List._∷_ Row.alive (List._∷_ Row.off (List._∷_ Row.off List.[])))))))))))))))))));
-        }
+        G115 = record { locals = T114 .locals; slots = slots·25 }
 
         abbrev G116 : Row.Cx
-        G116 = record {
-          locals = List._++_ t103 (List._++_ t1 (List._++_ t104 t3));
-          slots = List._∷_ (Row.lease (κs .0) (qs .0)) (List._∷_ (Row.lease (κs .1 .0) (qs .1 .0)) (List._∷_ Row.off (List._∷_ Row.off (List._∷_ Row.off (List._∷_ Row.off (List._∷_ Row.off (List._∷_ Row.off (List._∷_ Row.off (List._∷_ Row.off (List._∷_ Row.off (List._∷_ Row.alive
-              (List._∷_ Row.alive (List._∷_ Row.alive (List._∷_ Row.alive (List._∷_ Row.alive (List._∷_ Row.alive (List._∷_ Row.alive (List._∷_ Row.off (List._∷_ Row.off List.[])))))))))))))))))));
-        }
+        G116 = record { locals = T116 .locals; slots = slots·25 }
 
         abbrev G117 : Row.Cx
-        G117 = record {
-          locals = List._++_ t103 (List._++_ t1 (List._++_ t102 t105));
-          slots = List._∷_ (Row.lease (κs .0) (qs .0)) (List._∷_ (Row.lease (κs .1 .0) (qs .1 .0)) (List._∷_ Row.off (List._∷_ Row.off (List._∷_ Row.off (List._∷_ Row.off (List._∷_ Row.off (List._∷_ Row.off (List._∷_ Row.off (List._∷_ Row.off (List._∷_ Row.off (List._∷_ Row.alive
-              (List._∷_ Row.alive (List._∷_ Row.alive (List._∷_ Row.alive (List._∷_ Row.alive (List._∷_ Row.alive (List._∷_ Row.alive (List._∷_ Row.off (List._∷_ Row.off List.[])))))))))))))))))));
-        }
+        G117 = record { locals = T117 .locals; slots = slots·25 }
 
         abbrev G118 : Row.Cx
-        G118 = record {
-          locals = List._++_ t103 (List._++_ t1 (List._++_ t102 t105));
-          slots = List._∷_ (Row.lease (κs .0) (qs .0)) (List._∷_ (Row.lease (κs .1 .0) (qs .1 .0)) (List._∷_ Row.off (List._∷_ Row.off (List._∷_ Row.off (List._∷_ Row.off (List._∷_ Row.off (List._∷_ Row.off (List._∷_ Row.off (List._∷_ Row.off (List._∷_ Row.off (List._∷_ Row.alive
-              (List._∷_ Row.alive (List._∷_ Row.alive (List._∷_ Row.alive (List._∷_ Row.alive (List._∷_ Row.alive (List._∷_ Row.alive (List._∷_ Row.alive (List._∷_ Row.off List.[])))))))))))))))))));
-        }
+        G118 = record { locals = T117 .locals; slots = slots·26 }
 
         abbrev G119 : Row.Cx
-        G119 = record {
-          locals = List._++_ t106 (List._++_ t1 (List._++_ t102 t107));
-          slots = List._∷_ (Row.lease (κs .0) (qs .0)) (List._∷_ (Row.lease (κs .1 .0) (qs .1 .0)) (List._∷_ Row.off (List._∷_ Row.off (List._∷_ Row.off (List._∷_ Row.off (List._∷_ Row.off (List._∷_ Row.off (List._∷_ Row.off (List._∷_ Row.off (List._∷_ Row.off (List._∷_ Row.alive
-              (List._∷_ Row.alive (List._∷_ Row.alive (List._∷_ Row.alive (List._∷_ Row.alive (List._∷_ Row.alive (List._∷_ Row.alive (List._∷_ Row.alive (List._∷_ Row.off List.[])))))))))))))))))));
-        }
+        G119 = record { locals = T119 .locals; slots = slots·26 }
 
         abbrev G120 : Row.Cx
-        G120 = record {
-          locals = List._++_ t106 (List._++_ t1 (List._++_ t102 t108));
-          slots = List._∷_ (Row.lease (κs .0) (qs .0)) (List._∷_ (Row.lease (κs .1 .0) (qs .1 .0)) (List._∷_ Row.off (List._∷_ Row.off (List._∷_ Row.off (List._∷_ Row.off (List._∷_ Row.off (List._∷_ Row.off (List._∷_ Row.off (List._∷_ Row.off (List._∷_ Row.off (List._∷_ Row.alive
-              (List._∷_ Row.alive (List._∷_ Row.alive (List._∷_ Row.alive (List._∷_ Row.alive (List._∷_ Row.alive (List._∷_ Row.alive (List._∷_ Row.alive (List._∷_ Row.off List.[])))))))))))))))))));
-        }
+        G120 = record { locals = T120 .locals; slots = slots·26 }
 
         abbrev G121 : Row.Cx
-        G121 = record {
-          locals = List._++_ t106 (List._++_ t1 (List._++_ t102 t108));
-          slots = List._∷_ (Row.lease (κs .0) (qs .0)) (List._∷_ (Row.lease (κs .1 .0) (qs .1 .0)) (List._∷_ Row.off (List._∷_ Row.off (List._∷_ Row.off (List._∷_ Row.off (List._∷_ Row.off (List._∷_ Row.off (List._∷_ Row.off (List._∷_ Row.off (List._∷_ Row.off (List._∷_ Row.alive
-              (List._∷_ Row.alive (List._∷_ Row.alive (List._∷_ Row.alive (List._∷_ Row.alive (List._∷_ Row.alive (List._∷_ Row.alive (List._∷_ Row.alive (List._∷_ Row.alive List.[])))))))))))))))))));
-        }
+        G121 = record { locals = T120 .locals; slots = slots·27 }
 
         abbrev G122 : Row.Cx
-        G122 = record {
-          locals = List._++_ t109 (List._++_ t1 (List._++_ t102 t110));
-          slots = List._∷_ (Row.lease (κs .0) (qs .0)) (List._∷_ (Row.lease (κs .1 .0) (qs .1 .0)) (List._∷_ Row.off (List._∷_ Row.off (List._∷_ Row.off (List._∷_ Row.off (List._∷_ Row.off (List._∷_ Row.off (List._∷_ Row.off (List._∷_ Row.off (List._∷_ Row.off (List._∷_ Row.alive
-              (List._∷_ Row.alive (List._∷_ Row.alive (List._∷_ Row.alive (List._∷_ Row.alive (List._∷_ Row.alive (List._∷_ Row.alive (List._∷_ Row.alive (List._∷_ Row.alive List.[])))))))))))))))))));
-        }
+        G122 = record { locals = T122 .locals; slots = slots·27 }
 
         abbrev G123 : Row.Cx
-        G123 = record {
-          locals = List._++_ t109 (List._++_ t1 (List._++_ t102 t111));
-          slots = List._∷_ (Row.lease (κs .0) (qs .0)) (List._∷_ (Row.lease (κs .1 .0) (qs .1 .0)) (List._∷_ Row.off (List._∷_ Row.off (List._∷_ Row.off (List._∷_ Row.off (List._∷_ Row.off (List._∷_ Row.off (List._∷_ Row.off (List._∷_ Row.off (List._∷_ Row.off (List._∷_ Row.alive
-              (List._∷_ Row.alive (List._∷_ Row.alive (List._∷_ Row.alive (List._∷_ Row.alive (List._∷_ Row.alive (List._∷_ Row.alive (List._∷_ Row.alive (List._∷_ Row.alive List.[])))))))))))))))))));
-        }
+        G123 = record { locals = T123 .locals; slots = slots·27 }
 
         abbrev G124 : Row.Cx
-        G124 = record {
-          locals = List._++_ t112 (List._++_ t1 (List._++_ t102 t113));
-          slots = List._∷_ (Row.lease (κs .0) (qs .0)) (List._∷_ (Row.lease (κs .1 .0) (qs .1 .0)) (List._∷_ Row.off (List._∷_ Row.off (List._∷_ Row.off (List._∷_ Row.off (List._∷_ Row.off (List._∷_ Row.off (List._∷_ Row.off (List._∷_ Row.off (List._∷_ Row.off (List._∷_ Row.alive
-              (List._∷_ Row.alive (List._∷_ Row.alive (List._∷_ Row.alive (List._∷_ Row.alive (List._∷_ Row.alive (List._∷_ Row.alive (List._∷_ Row.alive (List._∷_ Row.alive List.[])))))))))))))))))));
-        }
+        G124 = record { locals = T124 .locals; slots = slots·27 }
 
         abbrev G125 : Row.Cx
-        G125 = record {
-          locals = List._++_ t112 (List._++_ t1 (List._++_ t114 t113));
-          slots = List._∷_ (Row.lease (κs .0) (qs .0)) (List._∷_ (Row.lease (κs .1 .0) (qs .1 .0)) (List._∷_ Row.off (List._∷_ Row.off (List._∷_ Row.off (List._∷_ Row.off (List._∷_ Row.off (List._∷_ Row.off (List._∷_ Row.off (List._∷_ Row.off (List._∷_ Row.off (List._∷_ Row.alive
-              (List._∷_ Row.alive (List._∷_ Row.alive (List._∷_ Row.alive (List._∷_ Row.alive (List._∷_ Row.alive (List._∷_ Row.alive (List._∷_ Row.alive (List._∷_ Row.alive List.[])))))))))))))))))));
-        }
+        G125 = record { locals = T125 .locals; slots = slots·27 }
 
         abbrev G126 : Row.Cx
-        G126 = record {
-          locals = List._++_ t112 (List._++_ t1 (List._++_ t115 t113));
-          slots = List._∷_ (Row.lease (κs .0) (qs .0)) (List._∷_ (Row.lease (κs .1 .0) (qs .1 .0)) (List._∷_ Row.off (List._∷_ Row.off (List._∷_ Row.off (List._∷_ Row.off (List._∷_ Row.off (List._∷_ Row.off (List._∷_ Row.off (List._∷_ Row.off (List._∷_ Row.off (List._∷_ Row.alive
-              (List._∷_ Row.alive (List._∷_ Row.alive (List._∷_ Row.alive (List._∷_ Row.alive (List._∷_ Row.alive (List._∷_ Row.alive (List._∷_ Row.alive (List._∷_ Row.alive List.[])))))))))))))))))));
-        }
+        G126 = record { locals = T126 .locals; slots = slots·27 }
 
         abbrev G127 : Row.Cx
-        G127 = record {
-          locals = List._++_ t112 (List._++_ t1 (List._++_ t116 t113));
-          slots = List._∷_ (Row.lease (κs .0) (qs .0)) (List._∷_ (Row.lease (κs .1 .0) (qs .1 .0)) (List._∷_ Row.off (List._∷_ Row.off (List._∷_ Row.off (List._∷_ Row.off (List._∷_ Row.off (List._∷_ Row.off (List._∷_ Row.off (List._∷_ Row.off (List._∷_ Row.off (List._∷_ Row.alive
-              (List._∷_ Row.alive (List._∷_ Row.alive (List._∷_ Row.alive (List._∷_ Row.alive (List._∷_ Row.alive (List._∷_ Row.alive (List._∷_ Row.alive (List._∷_ Row.alive List.[])))))))))))))))))));
-        }
+        G127 = record { locals = T127 .locals; slots = slots·27 }
 
         abbrev G128 : Row.Cx
-        G128 = record {
-          locals = List._++_ t112 (List._++_ t1 (List._++_ t117 t113));
-          slots = List._∷_ (Row.lease (κs .0) (qs .0)) (List._∷_ (Row.lease (κs .1 .0) (qs .1 .0)) (List._∷_ Row.off (List._∷_ Row.off (List._∷_ Row.off (List._∷_ Row.off (List._∷_ Row.off (List._∷_ Row.off (List._∷_ Row.off (List._∷_ Row.off (List._∷_ Row.off (List._∷_ Row.alive
-              (List._∷_ Row.alive (List._∷_ Row.alive (List._∷_ Row.alive (List._∷_ Row.alive (List._∷_ Row.alive (List._∷_ Row.alive (List._∷_ Row.alive (List._∷_ Row.alive List.[])))))))))))))))))));
-        }
+        G128 = record { locals = T128 .locals; slots = slots·27 }
 
         abbrev G129 : Row.Cx
-        G129 = record {
-          locals = List._++_ t112 (List._++_ t1 (List._++_ t118 t113));
-          slots = List._∷_ (Row.lease (κs .0) (qs .0)) (List._∷_ (Row.lease (κs .1 .0) (qs .1 .0)) (List._∷_ Row.off (List._∷_ Row.off (List._∷_ Row.off (List._∷_ Row.off (List._∷_ Row.off (List._∷_ Row.off (List._∷_ Row.off (List._∷_ Row.off (List._∷_ Row.off (List._∷_ Row.alive
-              (List._∷_ Row.alive (List._∷_ Row.alive (List._∷_ Row.alive (List._∷_ Row.alive (List._∷_ Row.alive (List._∷_ Row.alive (List._∷_ Row.alive (List._∷_ Row.alive List.[])))))))))))))))))));
-        }
+        G129 = record { locals = T129 .locals; slots = slots·27 }
 
         abbrev G130 : Row.Cx
-        G130 = record {
-          locals = List._++_ t112 (List._++_ t1 (List._++_ t2 t113));
-          slots = List._∷_ (Row.lease (κs .0) (qs .0)) (List._∷_ (Row.lease (κs .1 .0) (qs .1 .0)) (List._∷_ Row.off (List._∷_ Row.off (List._∷_ Row.off (List._∷_ Row.off (List._∷_ Row.off (List._∷_ Row.off (List._∷_ Row.off (List._∷_ Row.off (List._∷_ Row.off (List._∷_ Row.alive
-              (List._∷_ Row.alive (List._∷_ Row.alive (List._∷_ Row.alive (List._∷_ Row.alive (List._∷_ Row.alive (List._∷_ Row.alive (List._∷_ Row.alive (List._∷_ Row.alive List.[])))))))))))))))))));
-        }
+        G130 = record { locals = T130 .locals; slots = slots·27 }
 
         abbrev G131 : Row.Cx
-        G131 = record {
-          locals = List._++_ t112 (List._++_ t1 (List._++_ t2 t119));
-          slots = List._∷_ (Row.lease (κs .0) (qs .0)) (List._∷_ (Row.lease (κs .1 .0) (qs .1 .0)) (List._∷_ Row.off (List._∷_ Row.off (List._∷_ Row.off (List._∷_ Row.off (List._∷_ Row.off (List._∷_ Row.off (List._∷_ Row.off (List._∷_ Row.off (List._∷_ Row.off (List._∷_ Row.alive
-              (List._∷_ Row.alive (List._∷_ Row.alive (List._∷_ Row.alive (List._∷_ Row.alive (List._∷_ Row.alive (List._∷_ Row.alive (List._∷_ Row.alive (List._∷_ Row.alive List.[])))))))))))))))))));
-        }
+        G131 = record { locals = T131 .locals; slots = slots·27 }
 
         abbrev G132 : Row.Cx
-        G132 = record {
-          locals = List._++_ t120 (List._++_ t1 (List._++_ t2 t119));
-          slots = List._∷_ (Row.lease (κs .0) (qs .0)) (List._∷_ (Row.lease (κs .1 .0) (qs .1 .0)) (List._∷_ Row.off (List._∷_ Row.off (List._∷_ Row.off (List._∷_ Row.off (List._∷_ Row.off (List._∷_ Row.off (List._∷_ Row.off (List._∷_ Row.off (List._∷_ Row.off (List._∷_ Row.alive
-              (List._∷_ Row.alive (List._∷_ Row.alive (List._∷_ Row.alive (List._∷_ Row.alive (List._∷_ Row.alive (List._∷_ Row.alive (List._∷_ Row.alive (List._∷_ Row.alive List.[])))))))))))))))))));
-        }
+        G132 = record { locals = T132 .locals; slots = slots·27 }
 
         abbrev G133 : Row.Cx
-        G133 = record {
-          locals = List._++_ t120 (List._++_ t1 (List._++_ t2 t119));
-          slots = List._∷_ (Row.lease (κs .0) (qs .0)) (List._∷_ (Row.lease (κs .1 .0) (qs .1 .0)) (List._∷_ Row.off (List._∷_ Row.off (List._∷_ Row.off (List._∷_ Row.off (List._∷_ Row.off (List._∷_ Row.off (List._∷_ Row.off (List._∷_ Row.off (List._∷_ Row.off (List._∷_ Row.dead
-              (List._∷_ Row.alive (List._∷_ Row.alive (List._∷_ Row.alive (List._∷_ Row.alive (List._∷_ Row.alive (List._∷_ Row.alive (List._∷_ Row.alive (List._∷_ Row.alive List.[])))))))))))))))))));
-        }
+        G133 = record { locals = T132 .locals; slots = slots·28 }
 
         abbrev G134 : Row.Cx
-        G134 = record {
-          locals = List._++_ t121 (List._++_ t1 (List._++_ t2 t119));
-          slots = List._∷_ (Row.lease (κs .0) (qs .0)) (List._∷_ (Row.lease (κs .1 .0) (qs .1 .0)) (List._∷_ Row.off (List._∷_ Row.off (List._∷_ Row.off (List._∷_ Row.off (List._∷_ Row.off (List._∷_ Row.off (List._∷_ Row.off (List._∷_ Row.off (List._∷_ Row.off (List._∷_ Row.dead
-              (List._∷_ Row.alive (List._∷_ Row.alive (List._∷_ Row.alive (List._∷_ Row.alive (List._∷_ Row.alive (List._∷_ Row.alive (List._∷_ Row.alive (List._∷_ Row.alive List.[])))))))))))))))))));
-        }
+        G134 = record { locals = T134 .locals; slots = slots·28 }
 
         abbrev G135 : Row.Cx
-        G135 = record {
-          locals = List._++_ t121 (List._++_ t1 (List._++_ t2 t119));
-          slots = List._∷_ (Row.lease (κs .0) (qs .0)) (List._∷_ (Row.lease (κs .1 .0) (qs .1 .0)) (List._∷_ Row.off (List._∷_ Row.off (List._∷_ Row.off (List._∷_ Row.off (List._∷_ Row.off (List._∷_ Row.off (List._∷_ Row.off (List._∷_ Row.off (List._∷_ Row.off (List._∷_ Row.off
-              (List._∷_ Row.alive (List._∷_ Row.alive (List._∷_ Row.alive (List._∷_ Row.alive (List._∷_ Row.alive (List._∷_ Row.alive (List._∷_ Row.alive (List._∷_ Row.alive List.[])))))))))))))))))));
-        }
+        G135 = record { locals = T134 .locals; slots = slots·29 }
 
         abbrev G136 : Row.Cx
-        G136 = record {
-          locals = List._++_ t122 (List._++_ t1 (List._++_ t2 t119));
-          slots = List._∷_ (Row.lease (κs .0) (qs .0)) (List._∷_ (Row.lease (κs .1 .0) (qs .1 .0)) (List._∷_ Row.off (List._∷_ Row.off (List._∷_ Row.off (List._∷_ Row.off (List._∷_ Row.off (List._∷_ Row.off (List._∷_ Row.off (List._∷_ Row.off (List._∷_ Row.off (List._∷_ Row.off
-              (List._∷_ Row.alive (List._∷_ Row.alive (List._∷_ Row.alive (List._∷_ Row.alive (List._∷_ Row.alive (List._∷_ Row.alive (List._∷_ Row.alive (List._∷_ Row.alive List.[])))))))))))))))))));
-        }
+        G136 = record { locals = T136 .locals; slots = slots·29 }
 
         abbrev G137 : Row.Cx
-        G137 = record {
-          locals = List._++_ t122 (List._++_ t1 (List._++_ t2 t119));
-          slots = List._∷_ (Row.lease (κs .0) (qs .0)) (List._∷_ (Row.lease (κs .1 .0) (qs .1 .0)) (List._∷_ Row.off (List._∷_ Row.off (List._∷_ Row.off (List._∷_ Row.off (List._∷_ Row.off (List._∷_ Row.off (List._∷_ Row.off (List._∷_ Row.off (List._∷_ Row.off (List._∷_ Row.off
-              (List._∷_ Row.dead (List._∷_ Row.alive (List._∷_ Row.alive (List._∷_ Row.alive (List._∷_ Row.alive (List._∷_ Row.alive (List._∷_ Row.alive (List._∷_ Row.alive List.[])))))))))))))))))));
-        }
+        G137 = record { locals = T136 .locals; slots = slots·30 }
 
         abbrev G138 : Row.Cx
-        G138 = record {
-          locals = List._++_ t123 (List._++_ t1 (List._++_ t2 t119));
-          slots = List._∷_ (Row.lease (κs .0) (qs .0)) (List._∷_ (Row.lease (κs .1 .0) (qs .1 .0)) (List._∷_ Row.off (List._∷_ Row.off (List._∷_ Row.off (List._∷_ Row.off (List._∷_ Row.off (List._∷_ Row.off (List._∷_ Row.off (List._∷_ Row.off (List._∷_ Row.off (List._∷_ Row.off
-              (List._∷_ Row.dead (List._∷_ Row.alive (List._∷_ Row.alive (List._∷_ Row.alive (List._∷_ Row.alive (List._∷_ Row.alive (List._∷_ Row.alive (List._∷_ Row.alive List.[])))))))))))))))))));
-        }
+        G138 = record { locals = T138 .locals; slots = slots·30 }
 
         abbrev G139 : Row.Cx
-        G139 = record {
-          locals = List._++_ t123 (List._++_ t1 (List._++_ t2 t119));
-          slots = List._∷_ (Row.lease (κs .0) (qs .0)) (List._∷_ (Row.lease (κs .1 .0) (qs .1 .0)) (List._∷_ Row.off (List._∷_ Row.off (List._∷_ Row.off (List._∷_ Row.off (List._∷_ Row.off (List._∷_ Row.off (List._∷_ Row.off (List._∷_ Row.off (List._∷_ Row.off (List._∷_ Row.off
-              (List._∷_ Row.off (List._∷_ Row.alive (List._∷_ Row.alive (List._∷_ Row.alive (List._∷_ Row.alive (List._∷_ Row.alive (List._∷_ Row.alive (List._∷_ Row.alive List.[])))))))))))))))))));
-        }
+        G139 = record { locals = T138 .locals; slots = slots·31 }
 
         abbrev G140 : Row.Cx
-        G140 = record {
-          locals = List._++_ t124 (List._++_ t1 (List._++_ t2 t119));
-          slots = List._∷_ (Row.lease (κs .0) (qs .0)) (List._∷_ (Row.lease (κs .1 .0) (qs .1 .0)) (List._∷_ Row.off (List._∷_ Row.off (List._∷_ Row.off (List._∷_ Row.off (List._∷_ Row.off (List._∷_ Row.off (List._∷_ Row.off (List._∷_ Row.off (List._∷_ Row.off (List._∷_ Row.off
-              (List._∷_ Row.off (List._∷_ Row.alive (List._∷_ Row.alive (List._∷_ Row.alive (List._∷_ Row.alive (List._∷_ Row.alive (List._∷_ Row.alive (List._∷_ Row.alive List.[])))))))))))))))))));
-        }
+        G140 = record { locals = T140 .locals; slots = slots·31 }
 
         abbrev G141 : Row.Cx
-        G141 = record {
-          locals = List._++_ t124 (List._++_ t1 (List._++_ t2 t119));
-          slots = List._∷_ (Row.lease (κs .0) (qs .0)) (List._∷_ (Row.lease (κs .1 .0) (qs .1 .0)) (List._∷_ Row.off (List._∷_ Row.off (List._∷_ Row.off (List._∷_ Row.off (List._∷_ Row.off (List._∷_ Row.off (List._∷_ Row.off (List._∷_ Row.off (List._∷_ Row.off (List._∷_ Row.off
-              (List._∷_ Row.off (List._∷_ Row.dead (List._∷_ Row.alive (List._∷_ Row.alive (List._∷_ Row.alive (List._∷_ Row.alive (List._∷_ Row.alive (List._∷_ Row.alive List.[])))))))))))))))))));
-        }
+        G141 = record { locals = T140 .locals; slots = slots·32 }
 
         abbrev G142 : Row.Cx
-        G142 = record {
-          locals = List._++_ t125 (List._++_ t1 (List._++_ t2 t119));
-          slots = List._∷_ (Row.lease (κs .0) (qs .0)) (List._∷_ (Row.lease (κs .1 .0) (qs .1 .0)) (List._∷_ Row.off (List._∷_ Row.off (List._∷_ Row.off (List._∷_ Row.off (List._∷_ Row.off (List._∷_ Row.off (List._∷_ Row.off (List._∷_ Row.off (List._∷_ Row.off (List._∷_ Row.off
-              (List._∷_ Row.off (List._∷_ Row.dead (List._∷_ Row.alive (List._∷_ Row.alive (List._∷_ Row.alive (List._∷_ Row.alive (List._∷_ Row.alive (List._∷_ Row.alive List.[])))))))))))))))))));
-        }
+        G142 = record { locals = T142 .locals; slots = slots·32 }
 
         abbrev G143 : Row.Cx
-        G143 = record {
-          locals = List._++_ t125 (List._++_ t1 (List._++_ t2 t119));
-          slots = List._∷_ (Row.lease (κs .0) (qs .0)) (List._∷_ (Row.lease (κs .1 .0) (qs .1 .0)) (List._∷_ Row.off (List._∷_ Row.off (List._∷_ Row.off (List._∷_ Row.off (List._∷_ Row.off (List._∷_ Row.off (List._∷_ Row.off (List._∷_ Row.off (List._∷_ Row.off (List._∷_ Row.off
-              (List._∷_ Row.off (List._∷_ Row.off (List._∷_ Row.alive (List._∷_ Row.alive (List._∷_ Row.alive (List._∷_ Row.alive (List._∷_ Row.alive (List._∷_ Row.alive List.[])))))))))))))))))));
-        }
+        G143 = record { locals = T142 .locals; slots = slots·33 }
 
         abbrev G144 : Row.Cx
-        G144 = record {
-          locals = List._++_ t126 (List._++_ t1 (List._++_ t2 t119));
-          slots = List._∷_ (Row.lease (κs .0) (qs .0)) (List._∷_ (Row.lease (κs .1 .0) (qs .1 .0)) (List._∷_ Row.off (List._∷_ Row.off (List._∷_ Row.off (List._∷_ Row.off (List._∷_ Row.off (List._∷_ Row.off (List._∷_ Row.off (List._∷_ Row.off (List._∷_ Row.off (List._∷_ Row.off
-              (List._∷_ Row.off (List._∷_ Row.off (List._∷_ Row.alive (List._∷_ Row.alive (List._∷_ Row.alive (List._∷_ Row.alive (List._∷_ Row.alive (List._∷_ Row.alive List.[])))))))))))))))))));
-        }
+        G144 = record { locals = T144 .locals; slots = slots·33 }
 
         abbrev G145 : Row.Cx
-        G145 = record {
-          locals = List._++_ t126 (List._++_ t1 (List._++_ t2 t119));
-          slots = List._∷_ (Row.lease (κs .0) (qs .0)) (List._∷_ (Row.lease (κs .1 .0) (qs .1 .0)) (List._∷_ Row.off (List._∷_ Row.off (List._∷_ Row.off (List._∷_ Row.off (List._∷_ Row.off (List._∷_ Row.off (List._∷_ Row.off (List._∷_ Row.off (List._∷_ Row.off (List._∷_ Row.off
-              (List._∷_ Row.off (List._∷_ Row.off (List._∷_ Row.dead (List._∷_ Row.alive (List._∷_ Row.alive (List._∷_ Row.alive (List._∷_ Row.alive (List._∷_ Row.alive List.[])))))))))))))))))));
-        }
+        G145 = record { locals = T144 .locals; slots = slots·34 }
 
         abbrev G146 : Row.Cx
-        G146 = record {
-          locals = List._++_ t127 (List._++_ t1 (List._++_ t2 t119));
-          slots = List._∷_ (Row.lease (κs .0) (qs .0)) (List._∷_ (Row.lease (κs .1 .0) (qs .1 .0)) (List._∷_ Row.off (List._∷_ Row.off (List._∷_ Row.off (List._∷_ Row.off (List._∷_ Row.off (List._∷_ Row.off (List._∷_ Row.off (List._∷_ Row.off (List._∷_ Row.off (List._∷_ Row.off
-              (List._∷_ Row.off (List._∷_ Row.off (List._∷_ Row.dead (List._∷_ Row.alive (List._∷_ Row.alive (List._∷_ Row.alive (List._∷_ Row.alive (List._∷_ Row.alive List.[])))))))))))))))))));
-        }
+        G146 = record { locals = T146 .locals; slots = slots·34 }
 
         abbrev G147 : Row.Cx
-        G147 = record {
-          locals = List._++_ t127 (List._++_ t1 (List._++_ t2 t119));
-          slots = List._∷_ (Row.lease (κs .0) (qs .0)) (List._∷_ (Row.lease (κs .1 .0) (qs .1 .0)) (List._∷_ Row.off (List._∷_ Row.off (List._∷_ Row.off (List._∷_ Row.off (List._∷_ Row.off (List._∷_ Row.off (List._∷_ Row.off (List._∷_ Row.off (List._∷_ Row.off (List._∷_ Row.off
-              (List._∷_ Row.off (List._∷_ Row.off (List._∷_ Row.off (List._∷_ Row.alive (List._∷_ Row.alive (List._∷_ Row.alive (List._∷_ Row.alive (List._∷_ Row.alive List.[])))))))))))))))))));
-        }
+        G147 = record { locals = T146 .locals; slots = slots·35 }
 
         abbrev G148 : Row.Cx
-        G148 = record {
-          locals = List._++_ t128 (List._++_ t1 (List._++_ t2 t119));
-          slots = List._∷_ (Row.lease (κs .0) (qs .0)) (List._∷_ (Row.lease (κs .1 .0) (qs .1 .0)) (List._∷_ Row.off (List._∷_ Row.off (List._∷_ Row.off (List._∷_ Row.off (List._∷_ Row.off (List._∷_ Row.off (List._∷_ Row.off (List._∷_ Row.off (List._∷_ Row.off (List._∷_ Row.off
-              (List._∷_ Row.off (List._∷_ Row.off (List._∷_ Row.off (List._∷_ Row.alive (List._∷_ Row.alive (List._∷_ Row.alive (List._∷_ Row.alive (List._∷_ Row.alive List.[])))))))))))))))))));
-        }
+        G148 = record { locals = T148 .locals; slots = slots·35 }
 
         abbrev G149 : Row.Cx
-        G149 = record {
-          locals = List._++_ t128 (List._++_ t1 (List._++_ t2 t119));
-          slots = List._∷_ (Row.lease (κs .0) (qs .0)) (List._∷_ (Row.lease (κs .1 .0) (qs .1 .0)) (List._∷_ Row.off (List._∷_ Row.off (List._∷_ Row.off (List._∷_ Row.off (List._∷_ Row.off (List._∷_ Row.off (List._∷_ Row.off (List._∷_ Row.off (List._∷_ Row.off (List._∷_ Row.off
-              (List._∷_ Row.off (List._∷_ Row.off (List._∷_ Row.off (List._∷_ Row.dead (List._∷_ Row.alive (List._∷_ Row.alive (List._∷_ Row.alive (List._∷_ Row.alive List.[])))))))))))))))))));
-        }
+        G149 = record { locals = T148 .locals; slots = slots·36 }
 
         abbrev G150 : Row.Cx
-        G150 = record {
-          locals = List._++_ t129 (List._++_ t1 (List._++_ t2 t119));
-          slots = List._∷_ (Row.lease (κs .0) (qs .0)) (List._∷_ (Row.lease (κs .1 .0) (qs .1 .0)) (List._∷_ Row.off (List._∷_ Row.off (List._∷_ Row.off (List._∷_ Row.off (List._∷_ Row.off (List._∷_ Row.off (List._∷_ Row.off (List._∷_ Row.off (List._∷_ Row.off (List._∷_ Row.off
-              (List._∷_ Row.off (List._∷_ Row.off (List._∷_ Row.off (List._∷_ Row.dead (List._∷_ Row.alive (List._∷_ Row.alive (List._∷_ Row.alive (List._∷_ Row.alive List.[])))))))))))))))))));
-        }
+        G150 = record { locals = T150 .locals; slots = slots·36 }
 
         abbrev G151 : Row.Cx
-        G151 = record {
-          locals = List._++_ t129 (List._++_ t1 (List._++_ t2 t119));
-          slots = List._∷_ (Row.lease (κs .0) (qs .0)) (List._∷_ (Row.lease (κs .1 .0) (qs .1 .0)) (List._∷_ Row.off (List._∷_ Row.off (List._∷_ Row.off (List._∷_ Row.off (List._∷_ Row.off (List._∷_ Row.off (List._∷_ Row.off (List._∷_ Row.off (List._∷_ Row.off (List._∷_ Row.off
-              (List._∷_ Row.off (List._∷_ Row.off (List._∷_ Row.off (List._∷_ Row.off (List._∷_ Row.alive (List._∷_ Row.alive (List._∷_ Row.alive (List._∷_ Row.alive List.[])))))))))))))))))));
-        }
+        G151 = record { locals = T150 .locals; slots = slots·37 }
 
         abbrev G152 : Row.Cx
-        G152 = record {
-          locals = List._++_ t130 (List._++_ t1 (List._++_ t2 t119));
-          slots = List._∷_ (Row.lease (κs .0) (qs .0)) (List._∷_ (Row.lease (κs .1 .0) (qs .1 .0)) (List._∷_ Row.off (List._∷_ Row.off (List._∷_ Row.off (List._∷_ Row.off (List._∷_ Row.off (List._∷_ Row.off (List._∷_ Row.off (List._∷_ Row.off (List._∷_ Row.off (List._∷_ Row.off
-              (List._∷_ Row.off (List._∷_ Row.off (List._∷_ Row.off (List._∷_ Row.off (List._∷_ Row.alive (List._∷_ Row.alive (List._∷_ Row.alive (List._∷_ Row.alive List.[])))))))))))))))))));
-        }
+        G152 = record { locals = T152 .locals; slots = slots·37 }
 
         abbrev G153 : Row.Cx
-        G153 = record {
-          locals = List._++_ t130 (List._++_ t1 (List._++_ t2 t119));
-          slots = List._∷_ (Row.lease (κs .0) (qs .0)) (List._∷_ (Row.lease (κs .1 .0) (qs .1 .0)) (List._∷_ Row.off (List._∷_ Row.off (List._∷_ Row.off (List._∷_ Row.off (List._∷_ Row.off (List._∷_ Row.off (List._∷_ Row.off (List._∷_ Row.off (List._∷_ Row.off (List._∷_ Row.off
-              (List._∷_ Row.off (List._∷_ Row.off (List._∷_ Row.off (List._∷_ Row.off (List._∷_ Row.dead (List._∷_ Row.alive (List._∷_ Row.alive (List._∷_ Row.alive List.[])))))))))))))))))));
-        }
+        G153 = record { locals = T152 .locals; slots = slots·38 }
 
         abbrev G154 : Row.Cx
-        G154 = record {
-          locals = List._++_ t131 (List._++_ t1 (List._++_ t2 t119));
-          slots = List._∷_ (Row.lease (κs .0) (qs .0)) (List._∷_ (Row.lease (κs .1 .0) (qs .1 .0)) (List._∷_ Row.off (List._∷_ Row.off (List._∷_ Row.off (List._∷_ Row.off (List._∷_ Row.off (List._∷_ Row.off (List._∷_ Row.off (List._∷_ Row.off (List._∷_ Row.off (List._∷_ Row.off
-              (List._∷_ Row.off (List._∷_ Row.off (List._∷_ Row.off (List._∷_ Row.off (List._∷_ Row.dead (List._∷_ Row.alive (List._∷_ Row.alive (List._∷_ Row.alive List.[])))))))))))))))))));
-        }
+        G154 = record { locals = T154 .locals; slots = slots·38 }
 
         abbrev G155 : Row.Cx
-        G155 = record {
-          locals = List._++_ t131 (List._++_ t1 (List._++_ t2 t119));
-          slots = List._∷_ (Row.lease (κs .0) (qs .0)) (List._∷_ (Row.lease (κs .1 .0) (qs .1 .0)) (List._∷_ Row.off (List._∷_ Row.off (List._∷_ Row.off (List._∷_ Row.off (List._∷_ Row.off (List._∷_ Row.off (List._∷_ Row.off (List._∷_ Row.off (List._∷_ Row.off (List._∷_ Row.off
-              (List._∷_ Row.off (List._∷_ Row.off (List._∷_ Row.off (List._∷_ Row.off (List._∷_ Row.off (List._∷_ Row.alive (List._∷_ Row.alive (List._∷_ Row.alive List.[])))))))))))))))))));
-        }
+        G155 = record { locals = T154 .locals; slots = slots·39 }
 
         abbrev G156 : Row.Cx
-        G156 = record {
-          locals = List._++_ t132 (List._++_ t1 (List._++_ t2 t119));
-          slots = List._∷_ (Row.lease (κs .0) (qs .0)) (List._∷_ (Row.lease (κs .1 .0) (qs .1 .0)) (List._∷_ Row.off (List._∷_ Row.off (List._∷_ Row.off (List._∷_ Row.off (List._∷_ Row.off (List._∷_ Row.off (List._∷_ Row.off (List._∷_ Row.off (List._∷_ Row.off (List._∷_ Row.off
-              (List._∷_ Row.off (List._∷_ Row.off (List._∷_ Row.off (List._∷_ Row.off (List._∷_ Row.off (List._∷_ Row.alive (List._∷_ Row.alive (List._∷_ Row.alive List.[])))))))))))))))))));
-        }
+        G156 = record { locals = T156 .locals; slots = slots·39 }
 
         abbrev G157 : Row.Cx
-        G157 = record {
-          locals = List._++_ t132 (List._++_ t1 (List._++_ t2 t119));
-          slots = List._∷_ (Row.lease (κs .0) (qs .0)) (List._∷_ (Row.lease (κs .1 .0) (qs .1 .0)) (List._∷_ Row.off (List._∷_ Row.off (List._∷_ Row.off (List._∷_ Row.off (List._∷_ Row.off (List._∷_ Row.off (List._∷_ Row.off (List._∷_ Row.off (List._∷_ Row.off (List._∷_ Row.off
-              (List._∷_ Row.off (List._∷_ Row.off (List._∷_ Row.off (List._∷_ Row.off (List._∷_ Row.off (List._∷_ Row.dead (List._∷_ Row.alive (List._∷_ Row.alive List.[])))))))))))))))))));
-        }
+        G157 = record { locals = T156 .locals; slots = slots·40 }
 
         abbrev G158 : Row.Cx
-        G158 = record {
-          locals = List._++_ t133 (List._++_ t1 (List._++_ t2 t134));
-          slots = List._∷_ (Row.lease (κs .0) (qs .0)) (List._∷_ (Row.lease (κs .1 .0) (qs .1 .0)) (List._∷_ Row.off (List._∷_ Row.off (List._∷_ Row.off (List._∷_ Row.off (List._∷_ Row.off (List._∷_ Row.off (List._∷_ Row.off (List._∷_ Row.off (List._∷_ Row.off (List._∷_ Row.off
-              (List._∷_ Row.off (List._∷_ Row.off (List._∷_ Row.off (List._∷_ Row.off (List._∷_ Row.off (List._∷_ Row.dead (List._∷_ Row.alive (List._∷_ Row.alive List.[])))))))))))))))))));
-        }
+        G158 = record { locals = T158 .locals; slots = slots·40 }
 
         abbrev G159 : Row.Cx
-        G159 = record {
-          locals = List._++_ t133 (List._++_ t1 (List._++_ t2 t134));
-          slots = List._∷_ (Row.lease (κs .0) (qs .0)) (List._∷_ (Row.lease (κs .1 .0) (qs .1 .0)) (List._∷_ Row.off (List._∷_ Row.off (List._∷_ Row.off (List._∷_ Row.off (List._∷_ Row.off (List._∷_ Row.off (List._∷_ Row.off (List._∷_ Row.off (List._∷_ Row.off (List._∷_ Row.off
-              (List._∷_ Row.off (List._∷_ Row.off (List._∷_ Row.off (List._∷_ Row.off (List._∷_ Row.off (List._∷_ Row.off (List._∷_ Row.alive (List._∷_ Row.alive List.[])))))))))))))))))));
-        }
+        G159 = record { locals = T158 .locals; slots = slots·41 }
 
         abbrev G160 : Row.Cx
-        G160 = record {
-          locals = List._++_ t135 (List._++_ t1 (List._++_ t2 t134));
-          slots = List._∷_ (Row.lease (κs .0) (qs .0)) (List._∷_ (Row.lease (κs .1 .0) (qs .1 .0)) (List._∷_ Row.off (List._∷_ Row.off (List._∷_ Row.off (List._∷_ Row.off (List._∷_ Row.off (List._∷_ Row.off (List._∷_ Row.off (List._∷_ Row.off (List._∷_ Row.off (List._∷_ Row.off
-              (List._∷_ Row.off (List._∷_ Row.off (List._∷_ Row.off (List._∷_ Row.off (List._∷_ Row.off (List._∷_ Row.off (List._∷_ Row.alive (List._∷_ Row.alive List.[])))))))))))))))))));
-        }
+        G160 = record { locals = T160 .locals; slots = slots·41 }
 
         abbrev G161 : Row.Cx
-        G161 = record {
-          locals = List._++_ t135 (List._++_ t1 (List._++_ t2 t134));
-          slots = List._∷_ (Row.lease (κs .0) (qs .0)) (List._∷_ (Row.lease (κs .1 .0) (qs .1 .0)) (List._∷_ Row.off (List._∷_ Row.off (List._∷_ Row.off (List._∷_ Row.off (List._∷_ Row.off (List._∷_ Row.off (List._∷_ Row.off (List._∷_ Row.off (List._∷_ Row.off (List._∷_ Row.off
-              (List._∷_ Row.off (List._∷_ Row.off (List._∷_ Row.off (List._∷_ Row.off (List._∷_ Row.off (List._∷_ Row.off (List._∷_ Row.dead (List._∷_ Row.alive List.[])))))))))))))))))));
-        }
+        G161 = record { locals = T160 .locals; slots = slots·42 }
 
         abbrev G162 : Row.Cx
-        G162 = record {
-          locals = List._++_ t136 (List._++_ t1 (List._++_ t2 t3));
-          slots = List._∷_ (Row.lease (κs .0) (qs .0)) (List._∷_ (Row.lease (κs .1 .0) (qs .1 .0)) (List._∷_ Row.off (List._∷_ Row.off (List._∷_ Row.off (List._∷_ Row.off (List._∷_ Row.off (List._∷_ Row.off (List._∷_ Row.off (List._∷_ Row.off (List._∷_ Row.off (List._∷_ Row.off (List._∷_
-              Row.off (List._∷_ Row.off (List._∷_ Row.off (List._∷_ Row.off (List._∷_ Row.off (List._∷_ Row.off (List._∷_ Row.dead (List._∷_ Row.alive List.[])))))))))))))))))));
-        }
+        G162 = record { locals = T162 .locals; slots = slots·42 }
 
         abbrev G163 : Row.Cx
-        G163 = record {
-          locals = List._++_ t136 (List._++_ t1 (List._++_ t2 t3));
-          slots = List._∷_ (Row.lease (κs .0) (qs .0)) (List._∷_ (Row.lease (κs .1 .0) (qs .1 .0)) (List._∷_ Row.off (List._∷_ Row.off (List._∷_ Row.off (List._∷_ Row.off (List._∷_ Row.off (List._∷_ Row.off (List._∷_ Row.off (List._∷_ Row.off (List._∷_ Row.off (List._∷_ Row.off (List._∷_
-              Row.off (List._∷_ Row.off (List._∷_ Row.off (List._∷_ Row.off (List._∷_ Row.off (List._∷_ Row.off (List._∷_ Row.off (List._∷_ Row.alive List.[])))))))))))))))))));
-        }
+        G163 = record { locals = T162 .locals; slots = slots·43 }
 
         abbrev G164 : Row.Cx
-        G164 = record {
-          locals = List._++_ t137 (List._++_ t1 (List._++_ t2 t3));
-          slots = List._∷_ (Row.lease (κs .0) (qs .0)) (List._∷_ (Row.lease (κs .1 .0) (qs .1 .0)) (List._∷_ Row.off (List._∷_ Row.off (List._∷_ Row.off (List._∷_ Row.off (List._∷_ Row.off (List._∷_ Row.off (List._∷_ Row.off (List._∷_ Row.off (List._∷_ Row.off (List._∷_ Row.off (List._∷_
-              Row.off (List._∷_ Row.off (List._∷_ Row.off (List._∷_ Row.off (List._∷_ Row.off (List._∷_ Row.off (List._∷_ Row.off (List._∷_ Row.alive List.[])))))))))))))))))));
-        }
+        G164 = record { locals = T164 .locals; slots = slots·43 }
 
         abbrev G165 : Row.Cx
-        G165 = record {
-          locals = List._++_ t137 (List._++_ t1 (List._++_ t2 t3));
-          slots = List._∷_ (Row.lease (κs .0) (qs .0)) (List._∷_ (Row.lease (κs .1 .0) (qs .1 .0)) (List._∷_ Row.off (List._∷_ Row.off (List._∷_ Row.off (List._∷_ Row.off (List._∷_ Row.off (List._∷_ Row.off (List._∷_ Row.off (List._∷_ Row.off (List._∷_ Row.off (List._∷_ Row.off (List._∷_
-              Row.off (List._∷_ Row.off (List._∷_ Row.off (List._∷_ Row.off (List._∷_ Row.off (List._∷_ Row.off (List._∷_ Row.off (List._∷_ Row.dead List.[])))))))))))))))))));
-        }
+        G165 = record { locals = T164 .locals; slots = slots·44 }
 
         abbrev G166 : Row.Cx
-        G166 = record {
-          locals = List._++_ t138 (List._++_ t1 (List._++_ t2 t3));
-          slots = List._∷_ (Row.lease (κs .0) (qs .0)) (List._∷_ (Row.lease (κs .1 .0) (qs .1 .0)) (List._∷_ Row.off (List._∷_ Row.off (List._∷_ Row.off (List._∷_ Row.off (List._∷_ Row.off (List._∷_ Row.off (List._∷_ Row.off (List._∷_ Row.off (List._∷_ Row.off (List._∷_ Row.off (List._∷_
-              Row.off (List._∷_ Row.off (List._∷_ Row.off (List._∷_ Row.off (List._∷_ Row.off (List._∷_ Row.off (List._∷_ Row.off (List._∷_ Row.dead List.[])))))))))))))))))));
-        }
+        G166 = record { locals = T166 .locals; slots = slots·44 }
 
         abbrev G167 : Row.Cx
-        G167 = record {
-          locals = List._++_ t138 (List._++_ t1 (List._++_ t2 t3));
-          slots = List._∷_ (Row.lease (κs .0) (qs .0)) (List._∷_ (Row.lease (κs .1 .0) (qs .1 .0)) (List._∷_ Row.off (List._∷_ Row.off (List._∷_ Row.off (List._∷_ Row.off (List._∷_ Row.off (List._∷_ Row.off (List._∷_ Row.off (List._∷_ Row.off (List._∷_ Row.off (List._∷_ Row.off (List._∷_
-              Row.off (List._∷_ Row.off (List._∷_ Row.off (List._∷_ Row.off (List._∷_ Row.off (List._∷_ Row.off (List._∷_ Row.off (List._∷_ Row.off List.[])))))))))))))))))));
-        }
+        G167 = record { locals = T166 .locals; slots = slots·0 }
 
         abbrev G168 : Row.Cx
-        G168 = record {
-          locals = List._++_ t139 (List._++_ t1 (List._++_ t2 t3));
-          slots = List._∷_ (Row.lease (κs .0) (qs .0)) (List._∷_ (Row.lease (κs .1 .0) (qs .1 .0)) (List._∷_ Row.off (List._∷_ Row.off (List._∷_ Row.off (List._∷_ Row.off (List._∷_ Row.off (List._∷_ Row.off (List._∷_ Row.off (List._∷_ Row.off (List._∷_ Row.off (List._∷_ Row.off (List._∷_
-              Row.off (List._∷_ Row.off (List._∷_ Row.off (List._∷_ Row.off (List._∷_ Row.off (List._∷_ Row.off (List._∷_ Row.off (List._∷_ Row.off List.[])))))))))))))))))));
-        }
-
-        abbrev G169 : Row.Cx
-        G169 = record {
-          locals = List._++_ t4 (List._++_ t1 (List._++_ t2 t3));
-          slots = List._∷_ (Row.lease (κs .0) (qs .0)) (List._∷_ (Row.lease (κs .1 .0) (qs .1 .0)) (List._∷_ Row.off (List._∷_ Row.off (List._∷_ Row.off (List._∷_ Row.off (List._∷_ Row.off (List._∷_ Row.off (List._∷_ Row.off (List._∷_ Row.off (List._∷_ Row.off (List._∷_ Row.off (List._∷_
-              Row.off (List._∷_ Row.off (List._∷_ Row.off (List._∷_ Row.off (List._∷_ Row.off (List._∷_ Row.off (List._∷_ Row.off (List._∷_ Row.off List.[])))))))))))))))))));
-        }
+        G168 = record { locals = T168 .locals; slots = slots·0 }
 
         abbrev Δ0 : Typed.Outs
         Δ0 = record { next = Option.none; exits = List.[]; returns = Option.some G1 }
 
         abbrev Δ1 : Typed.Outs
-        Δ1 = Typed.withNext (Option.some G82) Δ0
+        Δ1 = Typed.withNext (Option.some G80) Δ0
 
         module _ {M : Type 1} (𝓤 : URA.URA M) (H : Wp.Heap 𝓤) (A : Atoms.Atoms 𝓤) (W : Kit.Given 𝓤 H A) (𝓣 : Wp.Tables 𝓤 H) (known : Knowns 𝓤 H A W 𝓣) (bs : List.List Nat.ℕ) (bd : Lifetimes.AllOutlive 2 (Kinds.osR r) κs) where
           abbrev E : Wp.Env 𝓤 H
           E = Frame.EnvOf 𝓤 H (List._∷_ (Kinds.tyR r) (Enter.tysP ps xs)) bs
 
-          d0 : Typed.Typed 𝓤 H A 𝓣 E G95 b32 Δ1 (at0 bs)
+          d0 : Typed.Typed 𝓤 H A 𝓣 E G1 b32 Δ1 (at0 bs)
           d0 = Typed.t-return 𝓤 H A W 𝓣 E Δ1 tt
 
-          d1 : Typed.Typed 𝓤 H A 𝓣 E G94 b32 Δ1 (at1 bs)
-          d1 = Typed.g-pre 𝓤 H A W 𝓣 E G94 G95 b32 Δ1 (Typed.pass T94 T95 (s92 bs)) (at0 bs) (Scalar.g-room 𝓤 H A W E G94 14 (Syntax.tyInt Syntax.w64) (Scalar.room-sc 𝓤 H A W (Row.sInt Syntax.w64))) d0
-
-          d2 : Typed.Typed 𝓤 H A 𝓣 E G93 b32 Δ1 (at2 bs)
-          d2 = Typed.g-pre 𝓤 H A W 𝓣 E G93 G94 b32 Δ1 (Typed.pass T93 T94 (s91 bs)) (at1 bs) (Scalar.g-room 𝓤 H A W E G93 2 (Syntax.tyInt Syntax.w64) (Scalar.room-sc 𝓤 H A W (Row.sInt Syntax.w64))) d1
-
-          d3 : Typed.Typed 𝓤 H A 𝓣 E G92 b33 Δ1 (at3 bs)
-          d3 = Typed.s-seq 𝓤 H A W 𝓣 E G92 G93 b31 b32 Δ1 (Typed.both (s90 bs)) (at2 bs) (Plain.t-call-plain 𝓤 H A W 𝓣 0 ps·3 r·3 (claims· .6) (claims· .7) "presses::answers::show" (known .3) E (λ pos β. β) G92 (Num.vAt 14 λ x. x, (Num.vLit 0, tt)) 0 List.[] (Call.sub-id 𝓤 H A W (G92 .slots))
-              ((Scalar.reads-sc 𝓤 H A W (Row.sInt Syntax.w64), Path'.refl), (tt, tt)) (Reads.room-gone 𝓤 H A ty·19) tt Path'.refl) d2
-
           d4 : Typed.Typed 𝓤 H A 𝓣 E G91 b33 Δ1 (at4 bs)
-          d4 = Typed.g-pre 𝓤 H A W 𝓣 E G91 G92 b33 Δ1 (Typed.pass T91 T92 (s89 bs)) (at3 bs) (Scalar.g-room 𝓤 H A W E G91 34 Syntax.tyBool (Scalar.room-sc 𝓤 H A W Row.sBool)) d3
-
-          d5 : Typed.Typed 𝓤 H A 𝓣 E G90 b33 Δ1 (at5 bs)
-          d5 = Typed.g-pre 𝓤 H A W 𝓣 E G90 G91 b33 Δ1 (Typed.pass T90 T91 (s88 bs)) (at4 bs) (Scalar.g-room 𝓤 H A W E G90 12 (Syntax.tyArray Rec.mir 2048) (Init.room-arr 𝓤 H A W Rec.rt 2048 0 2048 Path'.refl)) d4
-
-          d6 : Typed.Typed 𝓤 H A 𝓣 E G89 b33 Δ1 (at6 bs)
-          d6 = Typed.g-pre 𝓤 H A W 𝓣 E G89 G90 b33 Δ1 (Typed.pass T89 T90 (s87 bs)) (at5 bs) (Scalar.g-room 𝓤 H A W E G89 11 ty·1 (Init.room-arr 𝓤 H A W (Referent.rtF (Referent.fInt Syntax.w8)) 32 0 32 Path'.refl)) d5
-
-          d7 : Typed.Typed 𝓤 H A 𝓣 E G88 b33 Δ1 (at7 bs)
-          d7 = Typed.g-pre 𝓤 H A W 𝓣 E G88 G89 b33 Δ1 (Typed.pass T88 T89 (s86 bs)) (at6 bs) (Scalar.g-room 𝓤 H A W E G88 10 ty·3 (Init.room-arr 𝓤 H A W (Referent.rtF (Referent.fInt Syntax.w16)) 32 0 32 Path'.refl)) d6
-
-          d8 : Typed.Typed 𝓤 H A 𝓣 E G87 b33 Δ1 (at8 bs)
-          d8 = Typed.g-pre 𝓤 H A W 𝓣 E G87 G88 b33 Δ1 (Typed.pass T87 T88 (s85 bs)) (at7 bs) (Scalar.g-room 𝓤 H A W E G87 9 ty·5 (Init.room-arr 𝓤 H A W (Referent.rtF (Referent.fInt Syntax.w32)) 1024 0 1024 Path'.refl)) d7
+          d4 = Typed.g-pre 𝓤 H A W 𝓣 E G91 G92 b33 Δ1 (Typed.pass T91 T92 (s89 bs)) (at3 bs) (Scalar.g-room 𝓤 H A W E G91 34 Syntax.tyBool (Scalar.room-sc 𝓤 H A W Row.sBool)) (Typed.s-seq 𝓤 H A W 𝓣 E G92 G93 b31 b32 Δ1 (Typed.both (s90 bs)) (at2 bs) (Plain.t-call-plain 𝓤 H A W 𝓣 0 ps·3 r·3 (claims· .6) (claims· .7) "presses::answers::show" (known .3) E (λ
+              pos β. β) G92 (Num.vAt 14 λ x. x, (Num.vLit 0, tt)) 0 List.[] (Call.sub-id 𝓤 H A W (G92 .slots)) ((Scalar.reads-sc 𝓤 H A W (Row.sInt Syntax.w64), Path'.refl), (tt, tt)) (Reads.room-gone 𝓤 H A ty·19) tt Path'.refl) (Typed.g-pre 𝓤 H A W 𝓣 E G93 G94 b32 Δ1 (Typed.pass T93 T94 (s91 bs)) (at1 bs) (Scalar.g-room 𝓤 H A W E G93 2 (Syntax.tyInt Syntax.w64)
+              (Scalar.room-sc 𝓤 H A W (Row.sInt Syntax.w64))) (Typed.g-pre 𝓤 H A W 𝓣 E G94 G1 b32 Δ1 (Typed.pass T94 T1 (s92 bs)) (at0 bs) (Scalar.g-room 𝓤 H A W E G94 14 (Syntax.tyInt Syntax.w64) (Scalar.room-sc 𝓤 H A W (Row.sInt Syntax.w64))) d0)))
 
           d9 : Typed.Typed 𝓤 H A 𝓣 E G86 b33 Δ1 (at9 bs)
-          d9 = Typed.g-pre 𝓤 H A W 𝓣 E G86 G87 b33 Δ1 (Typed.pass T86 T87 (s84 bs)) (at8 bs) (Scalar.g-room 𝓤 H A W E G86 8 ty·4 (Init.room-arr 𝓤 H A W (Referent.rtF (Referent.fInt Syntax.w16)) 1024 0 1024 Path'.refl)) d8
+          d9 = Typed.g-pre 𝓤 H A W 𝓣 E G86 G87 b33 Δ1 (Typed.pass T86 T87 (s84 bs)) (at8 bs) (Scalar.g-room 𝓤 H A W E G86 8 ty·4 (Init.room-arr 𝓤 H A W (Referent.rtF (Referent.fInt Syntax.w16)) 1024 0 1024 Path'.refl)) (Typed.g-pre 𝓤 H A W 𝓣 E G87 G88 b33 Δ1 (Typed.pass T87 T88 (s85 bs)) (at7 bs) (Scalar.g-room 𝓤 H A W E G87 9 ty·5 (Init.room-arr 𝓤 H A W
+              (Referent.rtF (Referent.fInt Syntax.w32)) 1024 0 1024 Path'.refl)) (Typed.g-pre 𝓤 H A W 𝓣 E G88 G89 b33 Δ1 (Typed.pass T88 T89 (s86 bs)) (at6 bs) (Scalar.g-room 𝓤 H A W E G88 10 ty·3 (Init.room-arr 𝓤 H A W (Referent.rtF (Referent.fInt Syntax.w16)) 32 0 32 Path'.refl)) (Typed.g-pre 𝓤 H A W 𝓣 E G89 G90 b33 Δ1 (Typed.pass T89 T90 (s87 bs)) (at5 bs)
+              (Scalar.g-room 𝓤 H A W E G89 11 ty·1 (Init.room-arr 𝓤 H A W (Referent.rtF (Referent.fInt Syntax.w8)) 32 0 32 Path'.refl)) (Typed.g-pre 𝓤 H A W 𝓣 E G90 G91 b33 Δ1 (Typed.pass T90 T91 (s88 bs)) (at4 bs) (Scalar.g-room 𝓤 H A W E G90 12 (Syntax.tyArray Rec.mir 2048) (Init.room-arr 𝓤 H A W Rec.rt 2048 0 2048 Path'.refl)) d4))))
 
-          d10 : Typed.Typed 𝓤 H A 𝓣 E G85 b33 Δ1 (at10 bs)
-          d10 = Typed.g-pre 𝓤 H A W 𝓣 E G85 G86 b33 Δ1 (Typed.pass T85 T86 (s83 bs)) (at9 bs) (Scalar.g-room 𝓤 H A W E G85 7 ty·3 (Init.room-arr 𝓤 H A W (Referent.rtF (Referent.fInt Syntax.w16)) 32 0 32 Path'.refl)) d9
-
-          d11 : Typed.Typed 𝓤 H A 𝓣 E G84 b33 Δ1 (at11 bs)
-          d11 = Typed.g-pre 𝓤 H A W 𝓣 E G84 G85 b33 Δ1 (Typed.pass T84 T85 (s82 bs)) (at10 bs) (Scalar.g-room 𝓤 H A W E G84 6 ty·2 (Init.room-arr 𝓤 H A W (Referent.rtF (Referent.fInt Syntax.w8)) 768 0 768 Path'.refl)) d10
-
-          d12 : Typed.Typed 𝓤 H A 𝓣 E G83 b33 Δ1 (at12 bs)
-          d12 = Typed.g-pre 𝓤 H A W 𝓣 E G83 G84 b33 Δ1 (Typed.pass T83 T84 (s81 bs)) (at11 bs) (Scalar.g-room 𝓤 H A W E G83 5 ty·0 (Init.room-arr 𝓤 H A W (Referent.rtF (Referent.fInt Syntax.w16)) 1 0 1 Path'.refl)) d11
-
-          d13 : Typed.Typed 𝓤 H A 𝓣 E G81 b33 Δ1 (at13 bs)
-          d13 = Typed.g-pre 𝓤 H A W 𝓣 E G81 G83 b33 Δ1 (Typed.pass T81 T83 (s80 bs)) (at12 bs) (Scalar.g-room 𝓤 H A W E G81 4 ty·0 (Init.room-arr 𝓤 H A W (Referent.rtF (Referent.fInt Syntax.w16)) 1 0 1 Path'.refl)) d12
-
-          d14 : Typed.Typed 𝓤 H A 𝓣 E G96 b34 Δ1 (at14 bs)
+          d14 : Typed.Typed 𝓤 H A 𝓣 E G80 b34 Δ1 (at14 bs)
           d14 = Typed.t-skip 𝓤 H A W 𝓣 E Δ1 tt
 
-          d15 : Typed.Typed 𝓤 H A 𝓣 E G81 b34 Δ1 (at15 bs)
-          d15 = Typed.g-pre 𝓤 H A W 𝓣 E G81 G96 b34 Δ1 (Typed.pass T81 T96 (s93 bs)) (at14 bs) (Scalar.g-room 𝓤 H A W E G81 34 Syntax.tyBool (Scalar.room-sc 𝓤 H A W Row.sBool)) d14
-
           d16 : Typed.Typed 𝓤 H A 𝓣 E G81 b35 Δ1 (at16 bs)
-          d16 = Scalar.t-cond 𝓤 H A W E 𝓣 G81 34 (λ x. x) b33 b34 Δ1 (at13 bs) (at15 bs) (Scalar.reads-sc 𝓤 H A W Row.sBool) Path'.refl d13 d15
+          d16 = Scalar.t-cond 𝓤 H A W E 𝓣 G81 34 (λ x. x) b33 b34 Δ1 (at13 bs) (at15 bs) (Scalar.reads-sc 𝓤 H A W Row.sBool) Path'.refl (Typed.g-pre 𝓤 H A W 𝓣 E G81 G83 b33 Δ1 (Typed.pass T81 T83 (s80 bs)) (at12 bs) (Scalar.g-room 𝓤 H A W E G81 4 ty·0 (Init.room-arr 𝓤 H A W (Referent.rtF (Referent.fInt Syntax.w16)) 1 0 1 Path'.refl)) (Typed.g-pre 𝓤 H A W 𝓣 E
+              G83 G84 b33 Δ1 (Typed.pass T83 T84 (s81 bs)) (at11 bs) (Scalar.g-room 𝓤 H A W E G83 5 ty·0 (Init.room-arr 𝓤 H A W (Referent.rtF (Referent.fInt Syntax.w16)) 1 0 1 Path'.refl)) (Typed.g-pre 𝓤 H A W 𝓣 E G84 G85 b33 Δ1 (Typed.pass T84 T85 (s82 bs)) (at10 bs) (Scalar.g-room 𝓤 H A W E G84 6 ty·2 (Init.room-arr 𝓤 H A W (Referent.rtF (Referent.fInt
+              Syntax.w8)) 768 0 768 Path'.refl)) (Typed.g-pre 𝓤 H A W 𝓣 E G85 G86 b33 Δ1 (Typed.pass T85 T86 (s83 bs)) (at9 bs) (Scalar.g-room 𝓤 H A W E G85 7 ty·3 (Init.room-arr 𝓤 H A W (Referent.rtF (Referent.fInt Syntax.w16)) 32 0 32 Path'.refl)) d9)))) (Typed.g-pre 𝓤 H A W 𝓣 E G81 G80 b34 Δ1 (Typed.pass T81 T80 (s93 bs)) (at14 bs) (Scalar.g-room 𝓤 H A W E
+              G81 34 Syntax.tyBool (Scalar.room-sc 𝓤 H A W Row.sBool)) d14)
 
-          d17 : Typed.Typed 𝓤 H A 𝓣 E G169 b55 Δ0 (at17 bs)
+          d17 : Typed.Typed 𝓤 H A 𝓣 E G1 b55 Δ0 (at17 bs)
           d17 = Typed.t-return 𝓤 H A W 𝓣 E Δ0 tt
 
-          d18 : Typed.Typed 𝓤 H A 𝓣 E G168 b55 Δ0 (at18 bs)
-          d18 = Typed.g-pre 𝓤 H A W 𝓣 E G168 G169 b55 Δ0 (Typed.pass T168 T169 (s166 bs)) (at17 bs) (Scalar.g-room 𝓤 H A W E G168 2 (Syntax.tyInt Syntax.w64) (Scalar.room-sc 𝓤 H A W (Row.sInt Syntax.w64))) d17
-
-          d19 : Typed.Typed 𝓤 H A 𝓣 E G167 b55 Δ0 (at19 bs)
-          d19 = Typed.g-pre 𝓤 H A W 𝓣 E G167 G168 b55 Δ0 (Typed.pass T166 T168 (s165 bs)) (at18 bs) (Scalar.g-room 𝓤 H A W E G167 12 (Syntax.tyArray Rec.mir 2048) (Init.room-arr 𝓤 H A W Rec.rt 2048 0 2048 Path'.refl)) d18
-
-          d20 : Typed.Typed 𝓤 H A 𝓣 E G166 b55 Δ0 (at20 bs)
-          d20 = Typed.g-pre 𝓤 H A W 𝓣 E G166 G167 b55 Δ0 (λ Ψ. Ψ) (at19 bs) (Lifetime.g-forget 𝓤 H A W E G166 19 Row.dead Path'.refl) d19
-
-          d21 : Typed.Typed 𝓤 H A 𝓣 E G165 b55 Δ0 (at21 bs)
-          d21 = Typed.g-pre 𝓤 H A W 𝓣 E G165 G166 b55 Δ0 (Typed.pass T164 T166 (s163 bs)) (at20 bs) (Share.g-back-arr-shr 𝓤 H A W E Rec.rt G165 12 2048 19 (λ x. x) (Reads.as-is 𝓤 H A (Rows.arr-shr Rec.rt 2048 19)) Path'.refl) d20
-
-          d22 : Typed.Typed 𝓤 H A 𝓣 E G164 b55 Δ0 (at22 bs)
-          d22 = Typed.g-pre 𝓤 H A W 𝓣 E G164 G165 b55 Δ0 (λ Ψ. Ψ) (at21 bs) (Lifetime.g-end 𝓤 H A W E G164 19 Path'.refl) d21
-
           d23 : Typed.Typed 𝓤 H A 𝓣 E G163 b55 Δ0 (at23 bs)
-          d23 = Typed.g-pre 𝓤 H A W 𝓣 E G163 G164 b55 Δ0 (Typed.pass T162 T164 (s161 bs)) (at22 bs) (Scalar.g-room 𝓤 H A W E G163 11 ty·1 (Init.room-arr 𝓤 H A W (Referent.rtF (Referent.fInt Syntax.w8)) 32 0 32 Path'.refl)) d22
-
-          d24 : Typed.Typed 𝓤 H A 𝓣 E G162 b55 Δ0 (at24 bs)
-          d24 = Typed.g-pre 𝓤 H A W 𝓣 E G162 G163 b55 Δ0 (λ Ψ. Ψ) (at23 bs) (Lifetime.g-forget 𝓤 H A W E G162 18 Row.dead Path'.refl) d23
-
-          d25 : Typed.Typed 𝓤 H A 𝓣 E G161 b55 Δ0 (at25 bs)
-          d25 = Typed.g-pre 𝓤 H A W 𝓣 E G161 G162 b55 Δ0 (Typed.both (s159 bs)) (at24 bs) (Borrow.g-back-arr 𝓤 H A W E (Referent.rtF (Referent.fInt Syntax.w8)) G161 50 11 18 32 ty·8 (λ x. x) (λ x. x) (Reads.as-is 𝓤 H A (Mut.msleft (Referent.rtF (Referent.fInt Syntax.w8)) ty·8))
-              (Reads.as-is 𝓤 H A (Rows.arr-owed (Referent.rtF (Referent.fInt Syntax.w8)) 32 18)) Path'.refl) d24
-
-          d26 : Typed.Typed 𝓤 H A 𝓣 E G160 b55 Δ0 (at26 bs)
-          d26 = Typed.g-pre 𝓤 H A W 𝓣 E G160 G161 b55 Δ0 (λ Ψ. Ψ) (at25 bs) (Lifetime.g-end 𝓤 H A W E G160 18 Path'.refl) d25
-
-          d27 : Typed.Typed 𝓤 H A 𝓣 E G159 b55 Δ0 (at27 bs)
-          d27 = Typed.g-pre 𝓤 H A W 𝓣 E G159 G160 b55 Δ0 (Typed.pass T158 T160 (s157 bs)) (at26 bs) (Scalar.g-room 𝓤 H A W E G159 10 ty·3 (Init.room-arr 𝓤 H A W (Referent.rtF (Referent.fInt Syntax.w16)) 32 0 32 Path'.refl)) d26
+          d23 = Typed.g-pre 𝓤 H A W 𝓣 E G163 G164 b55 Δ0 (Typed.pass T162 T164 (s161 bs)) (at22 bs) (Scalar.g-room 𝓤 H A W E G163 11 ty·1 (Init.room-arr 𝓤 H A W (Referent.rtF (Referent.fInt Syntax.w8)) 32 0 32 Path'.refl)) (Typed.g-pre 𝓤 H A W 𝓣 E G164 G165 b55 Δ0 (λ Ψ. Ψ) (at21 bs) (Lifetime.g-end 𝓤 H A W E G164 19 Path'.refl) (Typed.g-pre 𝓤 H A W 𝓣 E G165
+              G166 b55 Δ0 (Typed.pass T164 T166 (s163 bs)) (at20 bs) (Share.g-back-arr-shr 𝓤 H A W E Rec.rt G165 12 2048 19 (λ x. x) (Reads.as-is 𝓤 H A (Rows.arr-shr Rec.rt 2048 19)) Path'.refl) (Typed.g-pre 𝓤 H A W 𝓣 E G166 G167 b55 Δ0 (λ Ψ. Ψ) (at19 bs) (Lifetime.g-forget 𝓤 H A W E G166 19 Row.dead Path'.refl) (Typed.g-pre 𝓤 H A W 𝓣 E G167 G168 b55 Δ0
+              (Typed.pass T166 T168 (s165 bs)) (at18 bs) (Scalar.g-room 𝓤 H A W E G167 12 (Syntax.tyArray Rec.mir 2048) (Init.room-arr 𝓤 H A W Rec.rt 2048 0 2048 Path'.refl)) (Typed.g-pre 𝓤 H A W 𝓣 E G168 G1 b55 Δ0 (Typed.pass T168 T1 (s166 bs)) (at17 bs) (Scalar.g-room 𝓤 H A W E G168 2 (Syntax.tyInt Syntax.w64) (Scalar.room-sc 𝓤 H A W (Row.sInt Syntax.w64)))
+              d17)))))
 
           d28 : Typed.Typed 𝓤 H A 𝓣 E G158 b55 Δ0 (at28 bs)
-          d28 = Typed.g-pre 𝓤 H A W 𝓣 E G158 G159 b55 Δ0 (λ Ψ. Ψ) (at27 bs) (Lifetime.g-forget 𝓤 H A W E G158 17 Row.dead Path'.refl) d27
-
-          d29 : Typed.Typed 𝓤 H A 𝓣 E G157 b55 Δ0 (at29 bs)
-          d29 = Typed.g-pre 𝓤 H A W 𝓣 E G157 G158 b55 Δ0 (Typed.both (s155 bs)) (at28 bs) (Borrow.g-back-arr 𝓤 H A W E (Referent.rtF (Referent.fInt Syntax.w16)) G157 48 10 17 32 ty·10 (λ x. x) (λ x. x) (Reads.as-is 𝓤 H A (Mut.msleft (Referent.rtF (Referent.fInt Syntax.w16)) ty·10))
-              (Reads.as-is 𝓤 H A (Rows.arr-owed (Referent.rtF (Referent.fInt Syntax.w16)) 32 17)) Path'.refl) d28
-
-          d30 : Typed.Typed 𝓤 H A 𝓣 E G156 b55 Δ0 (at30 bs)
-          d30 = Typed.g-pre 𝓤 H A W 𝓣 E G156 G157 b55 Δ0 (λ Ψ. Ψ) (at29 bs) (Lifetime.g-end 𝓤 H A W E G156 17 Path'.refl) d29
-
-          d31 : Typed.Typed 𝓤 H A 𝓣 E G155 b55 Δ0 (at31 bs)
-          d31 = Typed.g-pre 𝓤 H A W 𝓣 E G155 G156 b55 Δ0 (Typed.pass T154 T156 (s153 bs)) (at30 bs) (Scalar.g-room 𝓤 H A W E G155 9 ty·5 (Init.room-arr 𝓤 H A W (Referent.rtF (Referent.fInt Syntax.w32)) 1024 0 1024 Path'.refl)) d30
-
-          d32 : Typed.Typed 𝓤 H A 𝓣 E G154 b55 Δ0 (at32 bs)
-          d32 = Typed.g-pre 𝓤 H A W 𝓣 E G154 G155 b55 Δ0 (λ Ψ. Ψ) (at31 bs) (Lifetime.g-forget 𝓤 H A W E G154 16 Row.dead Path'.refl) d31
+          d28 = Typed.g-pre 𝓤 H A W 𝓣 E G158 G159 b55 Δ0 (λ Ψ. Ψ) (at27 bs) (Lifetime.g-forget 𝓤 H A W E G158 17 Row.dead Path'.refl) (Typed.g-pre 𝓤 H A W 𝓣 E G159 G160 b55 Δ0 (Typed.pass T158 T160 (s157 bs)) (at26 bs) (Scalar.g-room 𝓤 H A W E G159 10 ty·3 (Init.room-arr 𝓤 H A W (Referent.rtF (Referent.fInt Syntax.w16)) 32 0 32 Path'.refl)) (Typed.g-pre 𝓤 H
+              A W 𝓣 E G160 G161 b55 Δ0 (λ Ψ. Ψ) (at25 bs) (Lifetime.g-end 𝓤 H A W E G160 18 Path'.refl) (Typed.g-pre 𝓤 H A W 𝓣 E G161 G162 b55 Δ0 (Typed.both (s159 bs)) (at24 bs) (Borrow.g-back-arr 𝓤 H A W E (Referent.rtF (Referent.fInt Syntax.w8)) G161 50 11 18 32 ty·8 (λ x. x) (λ x. x) (Reads.as-is 𝓤 H A (Mut.msleft (Referent.rtF (Referent.fInt Syntax.w8))
+              ty·8)) (Reads.as-is 𝓤 H A (Rows.arr-owed (Referent.rtF (Referent.fInt Syntax.w8)) 32 18)) Path'.refl) (Typed.g-pre 𝓤 H A W 𝓣 E G162 G163 b55 Δ0 (λ Ψ. Ψ) (at23 bs) (Lifetime.g-forget 𝓤 H A W E G162 18 Row.dead Path'.refl) d23))))
 
           d33 : Typed.Typed 𝓤 H A 𝓣 E G153 b55 Δ0 (at33 bs)
-          d33 = Typed.g-pre 𝓤 H A W 𝓣 E G153 G154 b55 Δ0 (Typed.pass T152 T154 (s151 bs)) (at32 bs) (Share.g-back-arr-shr 𝓤 H A W E (Referent.rtF (Referent.fInt Syntax.w32)) G153 9 1024 16 (λ x. x) (Reads.as-is 𝓤 H A (Rows.arr-shr (Referent.rtF (Referent.fInt Syntax.w32)) 1024 16)) Path'.refl) d32
-
-          d34 : Typed.Typed 𝓤 H A 𝓣 E G152 b55 Δ0 (at34 bs)
-          d34 = Typed.g-pre 𝓤 H A W 𝓣 E G152 G153 b55 Δ0 (λ Ψ. Ψ) (at33 bs) (Lifetime.g-end 𝓤 H A W E G152 16 Path'.refl) d33
-
-          d35 : Typed.Typed 𝓤 H A 𝓣 E G151 b55 Δ0 (at35 bs)
-          d35 = Typed.g-pre 𝓤 H A W 𝓣 E G151 G152 b55 Δ0 (Typed.pass T150 T152 (s149 bs)) (at34 bs) (Scalar.g-room 𝓤 H A W E G151 8 ty·4 (Init.room-arr 𝓤 H A W (Referent.rtF (Referent.fInt Syntax.w16)) 1024 0 1024 Path'.refl)) d34
-
-          d36 : Typed.Typed 𝓤 H A 𝓣 E G150 b55 Δ0 (at36 bs)
-          d36 = Typed.g-pre 𝓤 H A W 𝓣 E G150 G151 b55 Δ0 (λ Ψ. Ψ) (at35 bs) (Lifetime.g-forget 𝓤 H A W E G150 15 Row.dead Path'.refl) d35
-
-          d37 : Typed.Typed 𝓤 H A 𝓣 E G149 b55 Δ0 (at37 bs)
-          d37 = Typed.g-pre 𝓤 H A W 𝓣 E G149 G150 b55 Δ0 (Typed.pass T148 T150 (s147 bs)) (at36 bs) (Share.g-back-arr-shr 𝓤 H A W E (Referent.rtF (Referent.fInt Syntax.w16)) G149 8 1024 15 (λ x. x) (Reads.as-is 𝓤 H A (Rows.arr-shr (Referent.rtF (Referent.fInt Syntax.w16)) 1024 15)) Path'.refl) d36
-
-          d38 : Typed.Typed 𝓤 H A 𝓣 E G148 b55 Δ0 (at38 bs)
-          d38 = Typed.g-pre 𝓤 H A W 𝓣 E G148 G149 b55 Δ0 (λ Ψ. Ψ) (at37 bs) (Lifetime.g-end 𝓤 H A W E G148 15 Path'.refl) d37
+          d33 = Typed.g-pre 𝓤 H A W 𝓣 E G153 G154 b55 Δ0 (Typed.pass T152 T154 (s151 bs)) (at32 bs) (Share.g-back-arr-shr 𝓤 H A W E (Referent.rtF (Referent.fInt Syntax.w32)) G153 9 1024 16 (λ x. x) (Reads.as-is 𝓤 H A (Rows.arr-shr (Referent.rtF (Referent.fInt Syntax.w32)) 1024 16)) Path'.refl) (Typed.g-pre 𝓤 H A W 𝓣 E G154 G155 b55 Δ0 (λ Ψ. Ψ) (at31 bs)
+              (Lifetime.g-forget 𝓤 H A W E G154 16 Row.dead Path'.refl) (Typed.g-pre 𝓤 H A W 𝓣 E G155 G156 b55 Δ0 (Typed.pass T154 T156 (s153 bs)) (at30 bs) (Scalar.g-room 𝓤 H A W E G155 9 ty·5 (Init.room-arr 𝓤 H A W (Referent.rtF (Referent.fInt Syntax.w32)) 1024 0 1024 Path'.refl)) (Typed.g-pre 𝓤 H A W 𝓣 E G156 G157 b55 Δ0 (λ Ψ. Ψ) (at29 bs) (Lifetime.g-end 𝓤 H
+              A W E G156 17 Path'.refl) (Typed.g-pre 𝓤 H A W 𝓣 E G157 G158 b55 Δ0 (Typed.both (s155 bs)) (at28 bs) (Borrow.g-back-arr 𝓤 H A W E (Referent.rtF (Referent.fInt Syntax.w16)) G157 48 10 17 32 ty·10 (λ x. x) (λ x. x) (Reads.as-is 𝓤 H A (Mut.msleft (Referent.rtF (Referent.fInt Syntax.w16)) ty·10)) (Reads.as-is 𝓤 H A (Rows.arr-owed (Referent.rtF
+              (Referent.fInt Syntax.w16)) 32 17)) Path'.refl) d28))))
 
           d39 : Typed.Typed 𝓤 H A 𝓣 E G147 b55 Δ0 (at39 bs)
-          d39 = Typed.g-pre 𝓤 H A W 𝓣 E G147 G148 b55 Δ0 (Typed.pass T146 T148 (s145 bs)) (at38 bs) (Scalar.g-room 𝓤 H A W E G147 7 ty·3 (Init.room-arr 𝓤 H A W (Referent.rtF (Referent.fInt Syntax.w16)) 32 0 32 Path'.refl)) d38
-
-          d40 : Typed.Typed 𝓤 H A 𝓣 E G146 b55 Δ0 (at40 bs)
-          d40 = Typed.g-pre 𝓤 H A W 𝓣 E G146 G147 b55 Δ0 (λ Ψ. Ψ) (at39 bs) (Lifetime.g-forget 𝓤 H A W E G146 14 Row.dead Path'.refl) d39
-
-          d41 : Typed.Typed 𝓤 H A 𝓣 E G145 b55 Δ0 (at41 bs)
-          d41 = Typed.g-pre 𝓤 H A W 𝓣 E G145 G146 b55 Δ0 (Typed.pass T144 T146 (s143 bs)) (at40 bs) (Share.g-back-arr-shr 𝓤 H A W E (Referent.rtF (Referent.fInt Syntax.w16)) G145 7 32 14 (λ x. x) (Reads.as-is 𝓤 H A (Rows.arr-shr (Referent.rtF (Referent.fInt Syntax.w16)) 32 14)) Path'.refl) d40
-
-          d42 : Typed.Typed 𝓤 H A 𝓣 E G144 b55 Δ0 (at42 bs)
-          d42 = Typed.g-pre 𝓤 H A W 𝓣 E G144 G145 b55 Δ0 (λ Ψ. Ψ) (at41 bs) (Lifetime.g-end 𝓤 H A W E G144 14 Path'.refl) d41
-
-          d43 : Typed.Typed 𝓤 H A 𝓣 E G143 b55 Δ0 (at43 bs)
-          d43 = Typed.g-pre 𝓤 H A W 𝓣 E G143 G144 b55 Δ0 (Typed.pass T142 T144 (s141 bs)) (at42 bs) (Scalar.g-room 𝓤 H A W E G143 6 ty·2 (Init.room-arr 𝓤 H A W (Referent.rtF (Referent.fInt Syntax.w8)) 768 0 768 Path'.refl)) d42
-
-          d44 : Typed.Typed 𝓤 H A 𝓣 E G142 b55 Δ0 (at44 bs)
-          d44 = Typed.g-pre 𝓤 H A W 𝓣 E G142 G143 b55 Δ0 (λ Ψ. Ψ) (at43 bs) (Lifetime.g-forget 𝓤 H A W E G142 13 Row.dead Path'.refl) d43
+          d39 = Typed.g-pre 𝓤 H A W 𝓣 E G147 G148 b55 Δ0 (Typed.pass T146 T148 (s145 bs)) (at38 bs) (Scalar.g-room 𝓤 H A W E G147 7 ty·3 (Init.room-arr 𝓤 H A W (Referent.rtF (Referent.fInt Syntax.w16)) 32 0 32 Path'.refl)) (Typed.g-pre 𝓤 H A W 𝓣 E G148 G149 b55 Δ0 (λ Ψ. Ψ) (at37 bs) (Lifetime.g-end 𝓤 H A W E G148 15 Path'.refl) (Typed.g-pre 𝓤 H A W 𝓣 E G149
+              G150 b55 Δ0 (Typed.pass T148 T150 (s147 bs)) (at36 bs) (Share.g-back-arr-shr 𝓤 H A W E (Referent.rtF (Referent.fInt Syntax.w16)) G149 8 1024 15 (λ x. x) (Reads.as-is 𝓤 H A (Rows.arr-shr (Referent.rtF (Referent.fInt Syntax.w16)) 1024 15)) Path'.refl) (Typed.g-pre 𝓤 H A W 𝓣 E G150 G151 b55 Δ0 (λ Ψ. Ψ) (at35 bs) (Lifetime.g-forget 𝓤 H A W E G150 15
+              Row.dead Path'.refl) (Typed.g-pre 𝓤 H A W 𝓣 E G151 G152 b55 Δ0 (Typed.pass T150 T152 (s149 bs)) (at34 bs) (Scalar.g-room 𝓤 H A W E G151 8 ty·4 (Init.room-arr 𝓤 H A W (Referent.rtF (Referent.fInt Syntax.w16)) 1024 0 1024 Path'.refl)) (Typed.g-pre 𝓤 H A W 𝓣 E G152 G153 b55 Δ0 (λ Ψ. Ψ) (at33 bs) (Lifetime.g-end 𝓤 H A W E G152 16 Path'.refl) d33)))))
 
           d45 : Typed.Typed 𝓤 H A 𝓣 E G141 b55 Δ0 (at45 bs)
-          d45 = Typed.g-pre 𝓤 H A W 𝓣 E G141 G142 b55 Δ0 (Typed.pass T140 T142 (s139 bs)) (at44 bs) (Share.g-back-arr-shr 𝓤 H A W E (Referent.rtF (Referent.fInt Syntax.w8)) G141 6 768 13 (λ x. x) (Reads.as-is 𝓤 H A (Rows.arr-shr (Referent.rtF (Referent.fInt Syntax.w8)) 768 13)) Path'.refl) d44
-
-          d46 : Typed.Typed 𝓤 H A 𝓣 E G140 b55 Δ0 (at46 bs)
-          d46 = Typed.g-pre 𝓤 H A W 𝓣 E G140 G141 b55 Δ0 (λ Ψ. Ψ) (at45 bs) (Lifetime.g-end 𝓤 H A W E G140 13 Path'.refl) d45
-
-          d47 : Typed.Typed 𝓤 H A 𝓣 E G139 b55 Δ0 (at47 bs)
-          d47 = Typed.g-pre 𝓤 H A W 𝓣 E G139 G140 b55 Δ0 (Typed.pass T138 T140 (s137 bs)) (at46 bs) (Scalar.g-room 𝓤 H A W E G139 5 ty·0 (Init.room-arr 𝓤 H A W (Referent.rtF (Referent.fInt Syntax.w16)) 1 0 1 Path'.refl)) d46
-
-          d48 : Typed.Typed 𝓤 H A 𝓣 E G138 b55 Δ0 (at48 bs)
-          d48 = Typed.g-pre 𝓤 H A W 𝓣 E G138 G139 b55 Δ0 (λ Ψ. Ψ) (at47 bs) (Lifetime.g-forget 𝓤 H A W E G138 12 Row.dead Path'.refl) d47
-
-          d49 : Typed.Typed 𝓤 H A 𝓣 E G137 b55 Δ0 (at49 bs)
-          d49 = Typed.g-pre 𝓤 H A W 𝓣 E G137 G138 b55 Δ0 (Typed.pass T136 T138 (s135 bs)) (at48 bs) (Share.g-back-arr-shr 𝓤 H A W E (Referent.rtF (Referent.fInt Syntax.w16)) G137 5 1 12 (λ x. x) (Reads.as-is 𝓤 H A (Rows.arr-shr (Referent.rtF (Referent.fInt Syntax.w16)) 1 12)) Path'.refl) d48
-
-          d50 : Typed.Typed 𝓤 H A 𝓣 E G136 b55 Δ0 (at50 bs)
-          d50 = Typed.g-pre 𝓤 H A W 𝓣 E G136 G137 b55 Δ0 (λ Ψ. Ψ) (at49 bs) (Lifetime.g-end 𝓤 H A W E G136 12 Path'.refl) d49
+          d45 = Typed.g-pre 𝓤 H A W 𝓣 E G141 G142 b55 Δ0 (Typed.pass T140 T142 (s139 bs)) (at44 bs) (Share.g-back-arr-shr 𝓤 H A W E (Referent.rtF (Referent.fInt Syntax.w8)) G141 6 768 13 (λ x. x) (Reads.as-is 𝓤 H A (Rows.arr-shr (Referent.rtF (Referent.fInt Syntax.w8)) 768 13)) Path'.refl) (Typed.g-pre 𝓤 H A W 𝓣 E G142 G143 b55 Δ0 (λ Ψ. Ψ) (at43 bs)
+              (Lifetime.g-forget 𝓤 H A W E G142 13 Row.dead Path'.refl) (Typed.g-pre 𝓤 H A W 𝓣 E G143 G144 b55 Δ0 (Typed.pass T142 T144 (s141 bs)) (at42 bs) (Scalar.g-room 𝓤 H A W E G143 6 ty·2 (Init.room-arr 𝓤 H A W (Referent.rtF (Referent.fInt Syntax.w8)) 768 0 768 Path'.refl)) (Typed.g-pre 𝓤 H A W 𝓣 E G144 G145 b55 Δ0 (λ Ψ. Ψ) (at41 bs) (Lifetime.g-end 𝓤 H A
+              W E G144 14 Path'.refl) (Typed.g-pre 𝓤 H A W 𝓣 E G145 G146 b55 Δ0 (Typed.pass T144 T146 (s143 bs)) (at40 bs) (Share.g-back-arr-shr 𝓤 H A W E (Referent.rtF (Referent.fInt Syntax.w16)) G145 7 32 14 (λ x. x) (Reads.as-is 𝓤 H A (Rows.arr-shr (Referent.rtF (Referent.fInt Syntax.w16)) 32 14)) Path'.refl) (Typed.g-pre 𝓤 H A W 𝓣 E G146 G147 b55 Δ0 (λ Ψ. Ψ)
+              (at39 bs) (Lifetime.g-forget 𝓤 H A W E G146 14 Row.dead Path'.refl) d39)))))
 
           d51 : Typed.Typed 𝓤 H A 𝓣 E G135 b55 Δ0 (at51 bs)
-          d51 = Typed.g-pre 𝓤 H A W 𝓣 E G135 G136 b55 Δ0 (Typed.pass T134 T136 (s133 bs)) (at50 bs) (Scalar.g-room 𝓤 H A W E G135 4 ty·0 (Init.room-arr 𝓤 H A W (Referent.rtF (Referent.fInt Syntax.w16)) 1 0 1 Path'.refl)) d50
-
-          d52 : Typed.Typed 𝓤 H A 𝓣 E G134 b55 Δ0 (at52 bs)
-          d52 = Typed.g-pre 𝓤 H A W 𝓣 E G134 G135 b55 Δ0 (λ Ψ. Ψ) (at51 bs) (Lifetime.g-forget 𝓤 H A W E G134 11 Row.dead Path'.refl) d51
-
-          d53 : Typed.Typed 𝓤 H A 𝓣 E G133 b55 Δ0 (at53 bs)
-          d53 = Typed.g-pre 𝓤 H A W 𝓣 E G133 G134 b55 Δ0 (Typed.pass T132 T134 (s131 bs)) (at52 bs) (Share.g-back-arr-shr 𝓤 H A W E (Referent.rtF (Referent.fInt Syntax.w16)) G133 4 1 11 (λ x. x) (Reads.as-is 𝓤 H A (Rows.arr-shr (Referent.rtF (Referent.fInt Syntax.w16)) 1 11)) Path'.refl) d52
-
-          d54 : Typed.Typed 𝓤 H A 𝓣 E G132 b55 Δ0 (at54 bs)
-          d54 = Typed.g-pre 𝓤 H A W 𝓣 E G132 G133 b55 Δ0 (λ Ψ. Ψ) (at53 bs) (Lifetime.g-end 𝓤 H A W E G132 11 Path'.refl) d53
-
-          d55 : Typed.Typed 𝓤 H A 𝓣 E G131 b55 Δ0 (at55 bs)
-          d55 = Typed.g-pre 𝓤 H A W 𝓣 E G131 G132 b55 Δ0 (Typed.pass T131 T132 (s129 bs)) (at54 bs) (Scalar.g-room 𝓤 H A W E G131 14 (Syntax.tyInt Syntax.w64) (Scalar.room-sc 𝓤 H A W (Row.sInt Syntax.w64))) d54
+          d51 = Typed.g-pre 𝓤 H A W 𝓣 E G135 G136 b55 Δ0 (Typed.pass T134 T136 (s133 bs)) (at50 bs) (Scalar.g-room 𝓤 H A W E G135 4 ty·0 (Init.room-arr 𝓤 H A W (Referent.rtF (Referent.fInt Syntax.w16)) 1 0 1 Path'.refl)) (Typed.g-pre 𝓤 H A W 𝓣 E G136 G137 b55 Δ0 (λ Ψ. Ψ) (at49 bs) (Lifetime.g-end 𝓤 H A W E G136 12 Path'.refl) (Typed.g-pre 𝓤 H A W 𝓣 E G137
+              G138 b55 Δ0 (Typed.pass T136 T138 (s135 bs)) (at48 bs) (Share.g-back-arr-shr 𝓤 H A W E (Referent.rtF (Referent.fInt Syntax.w16)) G137 5 1 12 (λ x. x) (Reads.as-is 𝓤 H A (Rows.arr-shr (Referent.rtF (Referent.fInt Syntax.w16)) 1 12)) Path'.refl) (Typed.g-pre 𝓤 H A W 𝓣 E G138 G139 b55 Δ0 (λ Ψ. Ψ) (at47 bs) (Lifetime.g-forget 𝓤 H A W E G138 12 Row.dead
+              Path'.refl) (Typed.g-pre 𝓤 H A W 𝓣 E G139 G140 b55 Δ0 (Typed.pass T138 T140 (s137 bs)) (at46 bs) (Scalar.g-room 𝓤 H A W E G139 5 ty·0 (Init.room-arr 𝓤 H A W (Referent.rtF (Referent.fInt Syntax.w16)) 1 0 1 Path'.refl)) (Typed.g-pre 𝓤 H A W 𝓣 E G140 G141 b55 Δ0 (λ Ψ. Ψ) (at45 bs) (Lifetime.g-end 𝓤 H A W E G140 13 Path'.refl) d45)))))
 
           d56 : Typed.Typed 𝓤 H A 𝓣 E G130 b55 Δ0 (at56 bs)
-          d56 = Typed.g-pre 𝓤 H A W 𝓣 E G130 G131 b55 Δ0 (Typed.pass T130 T131 (s128 bs)) (at55 bs) (Scalar.g-room 𝓤 H A W E G130 52 (Syntax.tyStruct (List._∷_ 38 (List._∷_ 91 (List._∷_ 93 List.[]))) (Syntax.tcons ty·7 (Syntax.tcons (Syntax.tyInt Syntax.w64) Syntax.tnil))) (Shared.room-sslice 𝓤 H A W Rec.rt ty·7 19)) d55
-
-          d57 : Typed.Typed 𝓤 H A 𝓣 E G129 b55 Δ0 (at57 bs)
-          d57 = Typed.g-pre 𝓤 H A W 𝓣 E G129 G130 b55 Δ0 (Typed.pass T129 T130 (s127 bs)) (at56 bs) (Scalar.g-room 𝓤 H A W E G129 46 (Syntax.tyStruct (List._∷_ 38 (List._∷_ 91 (List._∷_ 93 List.[]))) (Syntax.tcons ty·13 (Syntax.tcons (Syntax.tyInt Syntax.w64) Syntax.tnil))) (Shared.room-sslice 𝓤 H A W (Referent.rtF (Referent.fInt Syntax.w32)) ty·13 16)) d56
-
-          d58 : Typed.Typed 𝓤 H A 𝓣 E G128 b55 Δ0 (at58 bs)
-          d58 = Typed.g-pre 𝓤 H A W 𝓣 E G128 G129 b55 Δ0 (Typed.pass T128 T129 (s126 bs)) (at57 bs) (Scalar.g-room 𝓤 H A W E G128 44 (Syntax.tyStruct (List._∷_ 38 (List._∷_ 91 (List._∷_ 93 List.[]))) (Syntax.tcons ty·12 (Syntax.tcons (Syntax.tyInt Syntax.w64) Syntax.tnil))) (Shared.room-sslice 𝓤 H A W (Referent.rtF (Referent.fInt Syntax.w16)) ty·12 15)) d57
+          d56 = Typed.g-pre 𝓤 H A W 𝓣 E G130 G131 b55 Δ0 (Typed.pass T130 T131 (s128 bs)) (at55 bs) (Scalar.g-room 𝓤 H A W E G130 52 (Syntax.tyStruct (List._∷_ 38 (List._∷_ 91 (List._∷_ 93 List.[]))) (Syntax.tcons ty·7 (Syntax.tcons (Syntax.tyInt Syntax.w64) Syntax.tnil))) (Shared.room-sslice 𝓤 H A W Rec.rt ty·7 19)) (Typed.g-pre 𝓤 H A W 𝓣 E G131 G132 b55 Δ0
+              (Typed.pass T131 T132 (s129 bs)) (at54 bs) (Scalar.g-room 𝓤 H A W E G131 14 (Syntax.tyInt Syntax.w64) (Scalar.room-sc 𝓤 H A W (Row.sInt Syntax.w64))) (Typed.g-pre 𝓤 H A W 𝓣 E G132 G133 b55 Δ0 (λ Ψ. Ψ) (at53 bs) (Lifetime.g-end 𝓤 H A W E G132 11 Path'.refl) (Typed.g-pre 𝓤 H A W 𝓣 E G133 G134 b55 Δ0 (Typed.pass T132 T134 (s131 bs)) (at52 bs)
+              (Share.g-back-arr-shr 𝓤 H A W E (Referent.rtF (Referent.fInt Syntax.w16)) G133 4 1 11 (λ x. x) (Reads.as-is 𝓤 H A (Rows.arr-shr (Referent.rtF (Referent.fInt Syntax.w16)) 1 11)) Path'.refl) (Typed.g-pre 𝓤 H A W 𝓣 E G134 G135 b55 Δ0 (λ Ψ. Ψ) (at51 bs) (Lifetime.g-forget 𝓤 H A W E G134 11 Row.dead Path'.refl) d51))))
 
           d59 : Typed.Typed 𝓤 H A 𝓣 E G127 b55 Δ0 (at59 bs)
-          d59 = Typed.g-pre 𝓤 H A W 𝓣 E G127 G128 b55 Δ0 (Typed.pass T127 T128 (s125 bs)) (at58 bs) (Scalar.g-room 𝓤 H A W E G127 42 (Syntax.tyStruct (List._∷_ 38 (List._∷_ 91 (List._∷_ 93 List.[]))) (Syntax.tcons ty·12 (Syntax.tcons (Syntax.tyInt Syntax.w64) Syntax.tnil))) (Shared.room-sslice 𝓤 H A W (Referent.rtF (Referent.fInt Syntax.w16)) ty·12 14)) d58
-
-          d60 : Typed.Typed 𝓤 H A 𝓣 E G126 b55 Δ0 (at60 bs)
-          d60 = Typed.g-pre 𝓤 H A W 𝓣 E G126 G127 b55 Δ0 (Typed.pass T126 T127 (s124 bs)) (at59 bs) (Scalar.g-room 𝓤 H A W E G126 40 (Syntax.tyStruct (List._∷_ 38 (List._∷_ 91 (List._∷_ 93 List.[]))) (Syntax.tcons ty·9 (Syntax.tcons (Syntax.tyInt Syntax.w64) Syntax.tnil))) (Shared.room-sslice 𝓤 H A W (Referent.rtF (Referent.fInt Syntax.w8)) ty·9 13)) d59
-
-          d61 : Typed.Typed 𝓤 H A 𝓣 E G125 b55 Δ0 (at61 bs)
-          d61 = Typed.g-pre 𝓤 H A W 𝓣 E G125 G126 b55 Δ0 (Typed.pass T125 T126 (s123 bs)) (at60 bs) (Scalar.g-room 𝓤 H A W E G125 38 (Syntax.tyStruct (List._∷_ 38 (List._∷_ 91 (List._∷_ 93 List.[]))) (Syntax.tcons ty·12 (Syntax.tcons (Syntax.tyInt Syntax.w64) Syntax.tnil))) (Shared.room-sslice 𝓤 H A W (Referent.rtF (Referent.fInt Syntax.w16)) ty·12 12)) d60
+          d59 = Typed.g-pre 𝓤 H A W 𝓣 E G127 G128 b55 Δ0 (Typed.pass T127 T128 (s125 bs)) (at58 bs) (Scalar.g-room 𝓤 H A W E G127 42 (Syntax.tyStruct (List._∷_ 38 (List._∷_ 91 (List._∷_ 93 List.[]))) (Syntax.tcons ty·12 (Syntax.tcons (Syntax.tyInt Syntax.w64) Syntax.tnil))) (Shared.room-sslice 𝓤 H A W (Referent.rtF (Referent.fInt Syntax.w16)) ty·12 14))
+              (Typed.g-pre 𝓤 H A W 𝓣 E G128 G129 b55 Δ0 (Typed.pass T128 T129 (s126 bs)) (at57 bs) (Scalar.g-room 𝓤 H A W E G128 44 (Syntax.tyStruct (List._∷_ 38 (List._∷_ 91 (List._∷_ 93 List.[]))) (Syntax.tcons ty·12 (Syntax.tcons (Syntax.tyInt Syntax.w64) Syntax.tnil))) (Shared.room-sslice 𝓤 H A W (Referent.rtF (Referent.fInt Syntax.w16)) ty·12 15))
+              (Typed.g-pre 𝓤 H A W 𝓣 E G129 G130 b55 Δ0 (Typed.pass T129 T130 (s127 bs)) (at56 bs) (Scalar.g-room 𝓤 H A W E G129 46 (Syntax.tyStruct (List._∷_ 38 (List._∷_ 91 (List._∷_ 93 List.[]))) (Syntax.tcons ty·13 (Syntax.tcons (Syntax.tyInt Syntax.w64) Syntax.tnil))) (Shared.room-sslice 𝓤 H A W (Referent.rtF (Referent.fInt Syntax.w32)) ty·13 16)) d56))
 
           d62 : Typed.Typed 𝓤 H A 𝓣 E G124 b55 Δ0 (at62 bs)
-          d62 = Typed.g-pre 𝓤 H A W 𝓣 E G124 G125 b55 Δ0 (Typed.pass T124 T125 (s122 bs)) (at61 bs) (Scalar.g-room 𝓤 H A W E G124 36 (Syntax.tyStruct (List._∷_ 38 (List._∷_ 91 (List._∷_ 93 List.[]))) (Syntax.tcons ty·12 (Syntax.tcons (Syntax.tyInt Syntax.w64) Syntax.tnil))) (Shared.room-sslice 𝓤 H A W (Referent.rtF (Referent.fInt Syntax.w16)) ty·12 11)) d61
+          d62 = Typed.g-pre 𝓤 H A W 𝓣 E G124 G125 b55 Δ0 (Typed.pass T124 T125 (s122 bs)) (at61 bs) (Scalar.g-room 𝓤 H A W E G124 36 (Syntax.tyStruct (List._∷_ 38 (List._∷_ 91 (List._∷_ 93 List.[]))) (Syntax.tcons ty·12 (Syntax.tcons (Syntax.tyInt Syntax.w64) Syntax.tnil))) (Shared.room-sslice 𝓤 H A W (Referent.rtF (Referent.fInt Syntax.w16)) ty·12 11))
+              (Typed.g-pre 𝓤 H A W 𝓣 E G125 G126 b55 Δ0 (Typed.pass T125 T126 (s123 bs)) (at60 bs) (Scalar.g-room 𝓤 H A W E G125 38 (Syntax.tyStruct (List._∷_ 38 (List._∷_ 91 (List._∷_ 93 List.[]))) (Syntax.tcons ty·12 (Syntax.tcons (Syntax.tyInt Syntax.w64) Syntax.tnil))) (Shared.room-sslice 𝓤 H A W (Referent.rtF (Referent.fInt Syntax.w16)) ty·12 12))
+              (Typed.g-pre 𝓤 H A W 𝓣 E G126 G127 b55 Δ0 (Typed.pass T126 T127 (s124 bs)) (at59 bs) (Scalar.g-room 𝓤 H A W E G126 40 (Syntax.tyStruct (List._∷_ 38 (List._∷_ 91 (List._∷_ 93 List.[]))) (Syntax.tcons ty·9 (Syntax.tcons (Syntax.tyInt Syntax.w64) Syntax.tnil))) (Shared.room-sslice 𝓤 H A W (Referent.rtF (Referent.fInt Syntax.w8)) ty·9 13)) d59))
 
           d63 : Typed.Typed 𝓤 H A 𝓣 E G123 b56 Δ0 (at63 bs)
-          d63 = Typed.s-seq 𝓤 H A W 𝓣 E G123 G124 b54 b55 Δ0 (Typed.both (s121 bs)) (at62 bs) (Plain.t-call-plain 𝓤 H A W 𝓣 10 ps·4 r·4 (claims· .8) (claims· .9) "presses::runs::press_each" (known .4) E (λ pos β. β) G123 (
-            record { pos = 36; ty = Syntax.tyRef Syntax.erased Syntax.imm (Syntax.tyInt Syntax.w16); ref = λ x. x },
-            (
-              record {
-                pos = 38;
-                ty = Syntax.tyRef Syntax.erased Syntax.imm (Syntax.tyInt Syntax.w16);
-                ref = λ x. x;
-              },
-              (
-                record { pos = 40; ty = Syntax.tyRef Syntax.erased Syntax.imm (Syntax.tyInt Syntax.w8); ref = λ x. x },
-                (
-                  record { pos = 42; ty = Syntax.tyRef Syntax.erased Syntax.imm (Syntax.tyInt Syntax.w16); ref = λ x. x },
-                  (
-                    record {
-                      pos = 44;
-                      ty = Syntax.tyRef Syntax.erased Syntax.imm (Syntax.tyInt Syntax.w16);
-                      ref = λ x. x;
-                    },
-                    (
-                      record { pos = 46; ty = Syntax.tyRef Syntax.erased Syntax.imm (Syntax.tyInt Syntax.w32); ref = λ x. x },
-                      (
-                        record { pos = 48; ty = Syntax.tyRef Syntax.erased Syntax.mut (Syntax.tyInt Syntax.w16); ref = λ x. x },
-                        (
-                          record {
-                            pos = 50;
-                            ty = Syntax.tyRef
-                                Syntax.erased Syntax.mut (Syntax.tyInt Syntax.w8);
-                            ref = λ x. x;
-                          },
-                          (record { pos = 52; ty = Syntax.tyRef Syntax.erased Syntax.imm Rec.behind; ref = λ x. x }, (Num.vAt 2 λ x. x, (record { pos = 3; ty = Syntax.tyRef (Syntax.named 1) Syntax.imm (Syntax.tyInt Syntax.w16); ref = λ x. x }, tt))),
-                        ),
-                      ),
-                    ),
-                  ),
-                ),
-              ),
-            ),
-          ) 0 (List._∷_ 11
-              (List._∷_ 12 (List._∷_ 13 (List._∷_ 14 (List._∷_ 15 (List._∷_ 16 (List._∷_ 17 (List._∷_ 18 (List._∷_ 19 (List._∷_ 1 List.[])))))))))) (Call.sub-id 𝓤 H A W (G123 .slots)) (
-                ShrSlice.spares-sslice 𝓤 H A W (Referent.rtF (Referent.fInt Syntax.w16)) ty·12 11,
-                Shared.reads-sslice 𝓤 H A W (Referent.rtF (Referent.fInt Syntax.w16)) ty·12 11,
-                Path'.refl,
-                (
-                  ShrSlice.spares-sslice 𝓤 H A W (Referent.rtF (Referent.fInt Syntax.w16)) ty·12 12,
-                  Shared.reads-sslice 𝓤 H A W (Referent.rtF (Referent.fInt Syntax.w16)) ty·12 12,
-                  Path'.refl,
-                  (
-                    ShrSlice.spares-sslice 𝓤 H A W (Referent.rtF (Referent.fInt Syntax.w8)) ty·9 13,
-                    Shared.reads-sslice 𝓤 H A W (Referent.rtF (Referent.fInt Syntax.w8)) ty·9 13,
-                    Path'.refl,
-                    (
-                      ShrSlice.spares-sslice 𝓤 H A W (Referent.rtF (Referent.fInt Syntax.w16)) ty·12 14,
-                      Shared.reads-sslice 𝓤 H A W (Referent.rtF (Referent.fInt Syntax.w16)) ty·12 14,
-                      Path'.refl,
-                      (
-                        ShrSlice.spares-sslice 𝓤 H A W (Referent.rtF (Referent.fInt Syntax.w16)) ty·12 15,
-                        Shared.reads-sslice 𝓤 H A W (Referent.rtF (Referent.fInt Syntax.w16))
-                            ty·12 15,
-                        Path'.refl,
-                        (
-                          ShrSlice.spares-sslice 𝓤 H A W (Referent.rtF (Referent.fInt Syntax.w32)) ty·13 16,
-                          Shared.reads-sslice 𝓤 H A W (Referent.rtF (Referent.fInt Syntax.w32)) ty·13 16,
-                          Path'.refl,
-                          (
-                            Reads.as-is 𝓤 H A (Mut.mslice (Referent.rtF (Referent.fInt Syntax.w16)) ty·10 17),
-                            Mut.reads-mslice 𝓤 H A W
-                                (Referent.rtF (Referent.fInt Syntax.w16)) ty·10 17,
-                            Path'.refl,
-                            (
-                              Reads.as-is 𝓤 H A (Mut.mslice (Referent.rtF (Referent.fInt Syntax.w8)) ty·8 18),
-                              Mut.reads-mslice 𝓤 H A W (Referent.rtF (Referent.fInt Syntax.w8)) ty·8 18,
-                              Path'.refl,
-                              (
-                                ShrSlice.spares-sslice 𝓤 H A W Rec.rt ty·7 19,
-                                Shared.reads-sslice 𝓤 H A W Rec.rt ty·7 19,
-                                Path'.refl,
-                                (
-                                  (Scalar.reads-sc 𝓤 H A W (Row.sInt Syntax.w64), Path'.refl),
-                                  (ShrSlice.spares-sslice 𝓤 H A W (Referent.rtF (Referent.fInt Syntax.w16)) ty·15 1, Shared.reads-sslice 𝓤 H A W (Referent.rtF (Referent.fInt Syntax.w16)) ty·15 1, Path'.refl, tt),
-                                ),
-                              ),
-                            ),
-                          ),
-                        ),
-                      ),
-                    ),
-                  ),
-                ),
-              ) (Reads.room-gone 𝓤 H A ty·19)
-              (tt, (tt, (tt, (tt, (tt, (tt, (tt, (tt, (tt, (tt, tt)))))))))) Path'.refl) d62
-
-          d64 : Typed.Typed 𝓤 H A 𝓣 E G122 b57 Δ0 (at64 bs)
-          d64 = Typed.s-seq 𝓤 H A W 𝓣 E G122 G123 b53 b56 Δ0 (Typed.ask (s120 bs)) (at63 bs) (Relend.t-sl-aggregate 𝓤 H A W E Rec.rt 𝓣 (Relend.asShr Rec.rt) G122 51 52 19 ty·17 ty·7 (λ x. x) (Scalar.oBig Syntax.w64 2048) (Reads.as-is 𝓤 H A (Relend.ssptr Rec.rt ty·17 19)) (Reads.room-gone 𝓤 H A (Syntax.tyStruct
-              (List._∷_ 38 (List._∷_ 91 (List._∷_ 93 List.[]))) (Syntax.tcons ty·7 (Syntax.tcons (Syntax.tyInt Syntax.w64) Syntax.tnil)))) record { lower = record { fits = Dec'.lit< tt } } Path'.refl Path'.refl λ b o k. tt) d63
-
-          d65 : Typed.Typed 𝓤 H A 𝓣 E G121 b58 Δ0 (at65 bs)
-          d65 = Typed.s-seq 𝓤 H A W 𝓣 E G121 G122 b52 b57 Δ0 (Typed.give (s119 bs)) (at64 bs) (Share.t-arr-share 𝓤 H A W E 𝓣 Rec.rt G121 12 51 2048 19 ty·17 (λ x. x) (Reads.as-is 𝓤 H A (Rows.arrF Rec.rt 2048 0)) (Reads.room-gone 𝓤 H A ty·17) Path'.refl (λ b o. tt) (Dec'.lit< tt, Dec'.lit< tt)) d64
+          d63 = Typed.s-seq 𝓤 H A W 𝓣 E G123 G124 b54 b55 Δ0 (Typed.both (s121 bs)) (at62 bs) (Plain.t-call-plain 𝓤 H A W 𝓣 10 ps·4 r·4 (claims· .8) (claims· .9) "presses::runs::press_each" (known .4) E (λ pos β. β) G123 args·1 0 (List._∷_ 11 (List._∷_ 12 (List._∷_ 13 (List._∷_ 14 (List._∷_ 15 (List._∷_ 16 (List._∷_ 17 (List._∷_ 18 (List._∷_ 19 (List._∷_ 1
+              List.[])))))))))) (Call.sub-id 𝓤 H A W (G123 .slots))
+              (ShrSlice.spares-sslice 𝓤 H A W (Referent.rtF (Referent.fInt Syntax.w16)) ty·12 11, Shared.reads-sslice 𝓤 H A W (Referent.rtF (Referent.fInt Syntax.w16)) ty·12 11, Path'.refl, (ShrSlice.spares-sslice 𝓤 H A W (Referent.rtF (Referent.fInt Syntax.w16)) ty·12 12, Shared.reads-sslice 𝓤 H A W (Referent.rtF (Referent.fInt Syntax.w16)) ty·12 12, Path'.refl, (ShrSlice.spares-sslice 𝓤 H A W (Referent.rtF (Referent.fInt Syntax.w8)) ty·9 13, Shared.reads-sslice 𝓤 H A W (Referent.rtF (Referent.fInt Syntax.w8)) ty·9 13, Path'.refl, (ShrSlice.spares-sslice 𝓤 H A W (Referent.rtF (Referent.fInt Syntax.w16)) ty·12 14, Shared.reads-sslice 𝓤 H A W (Referent.rtF (Referent.fInt Syntax.w16)) ty·12 14, Path'.refl, (ShrSlice.spares-sslice 𝓤 H A W (Referent.rtF (Referent.fInt Syntax.w16)) ty·12 15, Shared.reads-sslice 𝓤 H A W (Referent.rtF (Referent.fInt Syntax.w16)) ty·12 15, Path'.refl, (ShrSlice.spares-sslice 𝓤 H A W (Referent.rtF (Referent.fInt Syntax.w32)) ty·13 16, Shared.reads-sslice 𝓤 H A W (Referent.rtF (Referent.fInt Syntax.w32)) ty·13 16, Path'.refl, (Reads.as-is 𝓤 H A (Mut.mslice (Referent.rtF (Referent.fInt Syntax.w16)) ty·10 17), Mut.reads-mslice 𝓤 H A W (Referent.rtF (Referent.fInt Syntax.w16)) ty·10 17, Path'.refl, (Reads.as-is 𝓤 H A (Mut.mslice (Referent.rtF (Referent.fInt Syntax.w8)) ty·8 18), Mut.reads-mslice 𝓤 H A W (Referent.rtF (Referent.fInt Syntax.w8)) ty·8 18, Path'.refl, (ShrSlice.spares-sslice 𝓤 H A W Rec.rt ty·7 19, Shared.reads-sslice 𝓤 H A W Rec.rt ty·7 19, Path'.refl, ((Scalar.reads-sc 𝓤 H A W (Row.sInt Syntax.w64), Path'.refl), (ShrSlice.spares-sslice 𝓤 H A W (Referent.rtF (Referent.fInt Syntax.w16)) ty·15 1, Shared.reads-sslice 𝓤 H A W (Referent.rtF (Referent.fInt Syntax.w16)) ty·15 1, Path'.refl, tt)))))))))))
+              (Reads.room-gone 𝓤 H A ty·19) (tt, (tt, (tt, (tt, (tt, (tt, (tt, (tt, (tt, (tt, tt)))))))))) Path'.refl) d62
 
           d66 : Typed.Typed 𝓤 H A 𝓣 E G120 b58 Δ0 (at66 bs)
-          d66 = Typed.g-pre 𝓤 H A W 𝓣 E G120 G121 b58 Δ0 (λ Ψ. Ψ) (at65 bs) (Lifetime.g-begin 𝓤 H A W E G120 19 (
-            tt,
-            (
-              tt,
-              (
-                tt,
-                (
-                  tt,
-                  (
-                    tt,
-                    (
-                      tt,
-                      (
-                        tt,
-                        (
-                          tt,
-                          (
-                            tt,
-                            (
-                              tt,
-                              (
-                                tt,
-                                (
-                                  tt,
-                                  (
-                                    tt,
-                                    (
-                                      tt,
-                                      (
-                                        tt,
-                                        (
-                                          tt,
-                                          (
-                                            tt,
-                                            (
-                                              tt,
-                                              (
-                                                tt,
-                                                (
-                                                  tt,
-                                                  (
-                                                    tt,
-                                                    (
-                                                      tt,
-                                                      (
-                                                        tt,
-                                                        (
-                                                          tt,
-                                                          (
-                                                            tt,
-                                                            (
-                                                              tt,
-                                                              (
-                                                                tt,
-                                                                (
-                                                                  tt,
-                                                                  (
-                                                                    tt,
-                                                                    (
-                                                                      tt,
-                                                                      (
-                                                                        tt,
-                                                                        (
-                                                                          tt,
-                                                                          (
-                                                                            tt,
-                                                                            (
-                                                                              tt,
-                                                                              (
-                                                                                tt,
-                                                                                (
-                                                                                  tt,
-                                                                                  (
-                                                                                    tt,
-                                                                                    (
-                                                                                      tt,
-                                                                                      (
-                                                                                        tt,
-                                                                                        (
-                                                                                          tt,
-                                                                                          (
-                                                                                            tt,
-                                                                                            (
-                                                                                              tt,
-                                                                                              (tt, (tt, (tt, (tt, (tt, (tt, (tt, (tt, (tt, (tt, (tt, tt))))))))))),
-                                                                                            ),
-                                                                                          ),
-                                                                                        ),
-                                                                                      ),
-                                                                                    ),
-                                                                                  ),
-                                                                                ),
-                                                                              ),
-                                                                            ),
-                                                                          ),
-                                                                        ),
-                                                                      ),
-                                                                    ),
-                                                                  ),
-                                                                ),
-                                                              ),
-                                                            ),
-                                                          ),
-                                                        ),
-                                                      ),
-                                                    ),
-                                                  ),
-                                                ),
-                                              ),
-                                            ),
-                                          ),
-                                        ),
-                                      ),
-                                    ),
-                                  ),
-                                ),
-                              ),
-                            ),
-                          ),
-                        ),
-                      ),
-                    ),
-                  ),
-                ),
-              ),
-            ),
-          )) d65
-
-          d67 : Typed.Typed 𝓤 H A 𝓣 E G119 b59 Δ0 (at67 bs)
-          d67 = Typed.s-seq 𝓤 H A W 𝓣 E G119 G120 b51 b58 Δ0 (Typed.ask (s117 bs)) (at66 bs) (Relend.t-sl-aggregate 𝓤 H A W E (Referent.rtF (Referent.fInt Syntax.w8)) 𝓣 (Relend.asMut (Referent.rtF (Referent.fInt Syntax.w8))) G119 49 50 18 (Syntax.tyRef Syntax.erased Syntax.mut ty·1) ty·8 (λ x. x) (Scalar.oInt Syntax.w64 32) (Reads.as-is 𝓤 H A (Relend.msptr
-              (Referent.rtF (Referent.fInt Syntax.w8)) (Syntax.tyRef Syntax.erased Syntax.mut ty·1) 18)) (Reads.room-gone 𝓤 H A (Syntax.tyStruct (List._∷_ 38 (List._∷_ 91 (List._∷_ 93 List.[]))) (Syntax.tcons ty·8 (Syntax.tcons (Syntax.tyInt Syntax.w64) Syntax.tnil)))) tt Path'.refl Path'.refl λ b o k. tt) d66
+          d66 = Typed.g-pre 𝓤 H A W 𝓣 E G120 G121 b58 Δ0 (λ Ψ. Ψ) (at65 bs) (Lifetime.g-begin 𝓤 H A W E G120 19
+              (tt, (tt, (tt, (tt, (tt, (tt, (tt, (tt, (tt, (tt, (tt, (tt, (tt, (tt, (tt, (tt, (tt, (tt, (tt, (tt, (tt, (tt, (tt, (tt, (tt, (tt, (tt, (tt, (tt, (tt, (tt, (tt, (tt, (tt, (tt, (tt, (tt, (tt, (tt, (tt, (tt, (tt, (tt, (tt, (tt, (tt, (tt, (tt, (tt, (tt, (tt, (tt, (tt, tt)))))))))))))))))))))))))))))))))))))))))))))))))))))) (Typed.s-seq 𝓤 H A W 𝓣 E
+              G121 G122 b52 b57 Δ0 (Typed.give (s119 bs)) (at64 bs) (Share.t-arr-share 𝓤 H A W E 𝓣 Rec.rt G121 12 51 2048 19 ty·17 (λ x. x) (Reads.as-is 𝓤 H A (Rows.arrF Rec.rt 2048 0)) (Reads.room-gone 𝓤 H A ty·17) Path'.refl (λ b o. tt) (Dec'.lit< tt, Dec'.lit< tt)) (Typed.s-seq 𝓤 H A W 𝓣 E G122 G123 b53 b56 Δ0 (Typed.ask (s120 bs)) (at63 bs)
+              (Relend.t-sl-aggregate 𝓤 H A W E Rec.rt 𝓣 (Relend.asShr Rec.rt) G122 51 52 19 ty·17 ty·7 (λ x. x) (Scalar.oBig Syntax.w64 2048) (Reads.as-is 𝓤 H A (Relend.ssptr Rec.rt ty·17 19)) (Reads.room-gone 𝓤 H A (Syntax.tyStruct (List._∷_ 38 (List._∷_ 91 (List._∷_ 93 List.[]))) (Syntax.tcons ty·7 (Syntax.tcons (Syntax.tyInt Syntax.w64) Syntax.tnil)))) record
+              { lower = record { fits = Dec'.lit< tt } } Path'.refl Path'.refl λ b o k. tt) d63))
 
           d68 : Typed.Typed 𝓤 H A 𝓣 E G118 b60 Δ0 (at68 bs)
-          d68 = Typed.s-seq 𝓤 H A W 𝓣 E G118 G119 b50 b59 Δ0 (Typed.give (s116 bs)) (at67 bs) (Borrow.t-arr-borrow 𝓤 H A W E 𝓣 (Referent.rtF (Referent.fInt Syntax.w8)) G118 11 49 32 18 (Syntax.tyRef Syntax.erased Syntax.mut ty·1) (λ x. x) (Reads.as-is 𝓤 H A (Rows.arrF (Referent.rtF (Referent.fInt Syntax.w8)) 32 0)) (Reads.room-gone 𝓤 H A
-              (Syntax.tyRef Syntax.erased Syntax.mut ty·1)) Path'.refl (λ b o. tt) (Dec'.lit< tt, Dec'.lit< tt)) d67
-
-          d69 : Typed.Typed 𝓤 H A 𝓣 E G117 b60 Δ0 (at69 bs)
-          d69 = Typed.g-pre 𝓤 H A W 𝓣 E G117 G118 b60 Δ0 (λ Ψ. Ψ) (at68 bs) (Lifetime.g-begin 𝓤 H A W E G117 18 (
-            tt,
-            (
-              tt,
-              (
-                tt,
-                (
-                  tt,
-                  (
-                    tt,
-                    (
-                      tt,
-                      (
-                        tt,
-                        (
-                          tt,
-                          (
-                            tt,
-                            (
-                              tt,
-                              (
-                                tt,
-                                (
-                                  tt,
-                                  (
-                                    tt,
-                                    (
-                                      tt,
-                                      (
-                                        tt,
-                                        (
-                                          tt,
-                                          (
-                                            tt,
-                                            (
-                                              tt,
-                                              (
-                                                tt,
-                                                (
-                                                  tt,
-                                                  (
-                                                    tt,
-                                                    (
-                                                      tt,
-                                                      (
-                                                        tt,
-                                                        (
-                                                          tt,
-                                                          (
-                                                            tt,
-                                                            (
-                                                              tt,
-                                                              (
-                                                                tt,
-                                                                (
-                                                                  tt,
-                                                                  (
-                                                                    tt,
-                                                                    (
-                                                                      tt,
-                                                                      (
-                                                                        tt,
-                                                                        (
-                                                                          tt,
-                                                                          (
-                                                                            tt,
-                                                                            (
-                                                                              tt,
-                                                                              (
-                                                                                tt,
-                                                                                (
-                                                                                  tt,
-                                                                                  (
-                                                                                    tt,
-                                                                                    (
-                                                                                      tt,
-                                                                                      (
-                                                                                        tt,
-                                                                                        (
-                                                                                          tt,
-                                                                                          (
-                                                                                            tt,
-                                                                                            (
-                                                                                              tt,
-                                                                                              (tt, (tt, (tt, (tt, (tt, (tt, (tt, (tt, (tt, (tt, (tt, tt))))))))))),
-                                                                                            ),
-                                                                                          ),
-                                                                                        ),
-                                                                                      ),
-                                                                                    ),
-                                                                                  ),
-                                                                                ),
-                                                                              ),
-                                                                            ),
-                                                                          ),
-                                                                        ),
-                                                                      ),
-                                                                    ),
-                                                                  ),
-                                                                ),
-                                                              ),
-                                                            ),
-                                                          ),
-                                                        ),
-                                                      ),
-                                                    ),
-                                                  ),
-                                                ),
-                                              ),
-                                            ),
-                                          ),
-                                        ),
-                                      ),
-                                    ),
-                                  ),
-                                ),
-                              ),
-                            ),
-                          ),
-                        ),
-                      ),
-                    ),
-                  ),
-                ),
-              ),
-            ),
-          )) d68
+          d68 = Typed.s-seq 𝓤 H A W 𝓣 E G118 G119 b50 b59 Δ0 (Typed.give (s116 bs)) (at67 bs) (Borrow.t-arr-borrow 𝓤 H A W E 𝓣 (Referent.rtF (Referent.fInt Syntax.w8)) G118 11 49 32 18 (Syntax.tyRef Syntax.erased Syntax.mut ty·1) (λ x. x) (Reads.as-is 𝓤 H A (Rows.arrF (Referent.rtF (Referent.fInt Syntax.w8)) 32 0)) (Reads.room-gone 𝓤 H A (Syntax.tyRef
+              Syntax.erased Syntax.mut ty·1)) Path'.refl (λ b o. tt) (Dec'.lit< tt, Dec'.lit< tt)) (Typed.s-seq 𝓤 H A W 𝓣 E G119 G120 b51 b58 Δ0 (Typed.ask (s117 bs)) (at66 bs) (Relend.t-sl-aggregate 𝓤 H A W E (Referent.rtF (Referent.fInt Syntax.w8)) 𝓣 (Relend.asMut (Referent.rtF (Referent.fInt Syntax.w8))) G119 49 50 18 (Syntax.tyRef Syntax.erased Syntax.mut
+              ty·1) ty·8 (λ x. x) (Scalar.oInt Syntax.w64 32) (Reads.as-is 𝓤 H A (Relend.msptr (Referent.rtF (Referent.fInt Syntax.w8)) (Syntax.tyRef Syntax.erased Syntax.mut ty·1) 18)) (Reads.room-gone 𝓤 H A (Syntax.tyStruct (List._∷_ 38 (List._∷_ 91 (List._∷_ 93 List.[]))) (Syntax.tcons ty·8 (Syntax.tcons (Syntax.tyInt Syntax.w64) Syntax.tnil)))) tt Path'.refl
+              Path'.refl λ b o k. tt) d66)
 
           d70 : Typed.Typed 𝓤 H A 𝓣 E G116 b61 Δ0 (at70 bs)
           d70 = Typed.s-seq 𝓤 H A W 𝓣 E G116 G117 b49 b60 Δ0 (Typed.ask (s114 bs)) (at69 bs) (Relend.t-sl-aggregate 𝓤 H A W E (Referent.rtF (Referent.fInt Syntax.w16)) 𝓣 (Relend.asMut (Referent.rtF (Referent.fInt Syntax.w16))) G116 47 48 17 (Syntax.tyRef Syntax.erased Syntax.mut ty·3) ty·10 (λ x. x) (Scalar.oInt Syntax.w64 32) (Reads.as-is 𝓤 H A
-              (Relend.msptr (Referent.rtF (Referent.fInt Syntax.w16)) (Syntax.tyRef Syntax.erased Syntax.mut ty·3) 17)) (Reads.room-gone 𝓤 H A (Syntax.tyStruct (List._∷_ 38 (List._∷_ 91 (List._∷_ 93 List.[]))) (Syntax.tcons ty·10 (Syntax.tcons (Syntax.tyInt Syntax.w64) Syntax.tnil)))) tt Path'.refl Path'.refl λ b o k. tt) d69
-
-          d71 : Typed.Typed 𝓤 H A 𝓣 E G115 b62 Δ0 (at71 bs)
-          d71 = Typed.s-seq 𝓤 H A W 𝓣 E G115 G116 b48 b61 Δ0 (Typed.give (s113 bs)) (at70 bs) (Borrow.t-arr-borrow 𝓤 H A W E 𝓣 (Referent.rtF (Referent.fInt Syntax.w16)) G115 10 47 32 17 (Syntax.tyRef Syntax.erased Syntax.mut ty·3) (λ x. x) (Reads.as-is 𝓤 H A (Rows.arrF (Referent.rtF (Referent.fInt Syntax.w16)) 32 0)) (Reads.room-gone 𝓤 H A (Syntax.tyRef
-              Syntax.erased Syntax.mut ty·3)) Path'.refl (λ b o. tt) (Dec'.lit< tt, Dec'.lit< tt)) d70
-
-          d72 : Typed.Typed 𝓤 H A 𝓣 E G114 b62 Δ0 (at72 bs)
-          d72 = Typed.g-pre 𝓤 H A W 𝓣 E G114 G115 b62 Δ0 (λ Ψ. Ψ) (at71 bs) (Lifetime.g-begin 𝓤 H A W E G114 17 (
-            tt,
-            (
-              tt,
-              (
-                tt,
-                (
-                  tt,
-                  (
-                    tt,
-                    (
-                      tt,
-                      (
-                        tt,
-                        (
-                          tt,
-                          (
-                            tt,
-                            (
-                              tt,
-                              (
-                                tt,
-                                (
-                                  tt,
-                                  (
-                                    tt,
-                                    (
-                                      tt,
-                                      (
-                                        tt,
-                                        (
-                                          tt,
-                                          (
-                                            tt,
-                                            (
-                                              tt,
-                                              (
-                                                tt,
-                                                (
-                                                  tt,
-                                                  (
-                                                    tt,
-                                                    (
-                                                      tt,
-                                                      (
-                                                        tt,
-                                                        (
-                                                          tt,
-                                                          (
-                                                            tt,
-                                                            (
-                                                              tt,
-                                                              (
-                                                                tt,
-                                                                (
-                                                                  tt,
-                                                                  (
-                                                                    tt,
-                                                                    (
-                                                                      tt,
-                                                                      (
-                                                                        tt,
-                                                                        (
-                                                                          tt,
-                                                                          (
-                                                                            tt,
-                                                                            (
-                                                                              tt,
-                                                                              (
-                                                                                tt,
-                                                                                (
-                                                                                  tt,
-                                                                                  (
-                                                                                    tt,
-                                                                                    (
-                                                                                      tt,
-                                                                                      (
-                                                                                        tt,
-                                                                                        (
-                                                                                          tt,
-                                                                                          (
-                                                                                            tt,
-                                                                                            (
-                                                                                              tt,
-                                                                                              (tt, (tt, (tt, (tt, (tt, (tt, (tt, (tt, (tt, (tt, (tt, tt))))))))))),
-                                                                                            ),
-                                                                                          ),
-                                                                                        ),
-                                                                                      ),
-                                                                                    ),
-                                                                                  ),
-                                                                                ),
-                                                                              ),
-                                                                            ),
-                                                                          ),
-                                                                        ),
-                                                                      ),
-                                                                    ),
-                                                                  ),
-                                                                ),
-                                                              ),
-                                                            ),
-                                                          ),
-                                                        ),
-                                                      ),
-                                                    ),
-                                                  ),
-                                                ),
-                                              ),
-                                            ),
-                                          ),
-                                        ),
-                                      ),
-                                    ),
-                                  ),
-                                ),
-                              ),
-                            ),
-                          ),
-                        ),
-                      ),
-                    ),
-                  ),
-                ),
-              ),
-            ),
-          )) d71
+              (Relend.msptr (Referent.rtF (Referent.fInt Syntax.w16)) (Syntax.tyRef Syntax.erased Syntax.mut ty·3) 17)) (Reads.room-gone 𝓤 H A (Syntax.tyStruct (List._∷_ 38 (List._∷_ 91 (List._∷_ 93 List.[]))) (Syntax.tcons ty·10 (Syntax.tcons (Syntax.tyInt Syntax.w64) Syntax.tnil)))) tt Path'.refl Path'.refl λ b o k. tt) (Typed.g-pre 𝓤 H A W 𝓣 E G117 G118 b60
+              Δ0 (λ Ψ. Ψ) (at68 bs) (Lifetime.g-begin 𝓤 H A W E G117 18
+              (tt, (tt, (tt, (tt, (tt, (tt, (tt, (tt, (tt, (tt, (tt, (tt, (tt, (tt, (tt, (tt, (tt, (tt, (tt, (tt, (tt, (tt, (tt, (tt, (tt, (tt, (tt, (tt, (tt, (tt, (tt, (tt, (tt, (tt, (tt, (tt, (tt, (tt, (tt, (tt, (tt, (tt, (tt, (tt, (tt, (tt, (tt, (tt, (tt, (tt, (tt, (tt, (tt, tt)))))))))))))))))))))))))))))))))))))))))))))))))))))) d68)
 
           d73 : Typed.Typed 𝓤 H A 𝓣 E G113 b63 Δ0 (at73 bs)
           d73 = Typed.s-seq 𝓤 H A W 𝓣 E G113 G114 b47 b62 Δ0 (Typed.ask (s111 bs)) (at72 bs) (Relend.t-sl-aggregate 𝓤 H A W E (Referent.rtF (Referent.fInt Syntax.w32)) 𝓣 (Relend.asShr (Referent.rtF (Referent.fInt Syntax.w32))) G113 45 46 16 (Syntax.tyRef Syntax.erased Syntax.imm ty·5) ty·13 (λ x. x) (Scalar.oBig Syntax.w64 1024) (Reads.as-is 𝓤 H A
-              (Relend.ssptr (Referent.rtF (Referent.fInt Syntax.w32)) (Syntax.tyRef Syntax.erased Syntax.imm ty·5) 16)) (Reads.room-gone 𝓤 H A (Syntax.tyStruct (List._∷_ 38 (List._∷_ 91 (List._∷_ 93 List.[]))) (Syntax.tcons ty·13 (Syntax.tcons (Syntax.tyInt Syntax.w64) Syntax.tnil)))) record { lower = record { fits = Dec'.lit< tt } } Path'.refl Path'.refl
-              λ b o k. tt) d72
-
-          d74 : Typed.Typed 𝓤 H A 𝓣 E G112 b64 Δ0 (at74 bs)
-          d74 = Typed.s-seq 𝓤 H A W 𝓣 E G112 G113 b46 b63 Δ0 (Typed.give (s110 bs)) (at73 bs) (Share.t-arr-share 𝓤 H A W E 𝓣 (Referent.rtF (Referent.fInt Syntax.w32)) G112 9 45 1024 16 (Syntax.tyRef Syntax.erased Syntax.imm ty·5) (λ x. x) (Reads.as-is 𝓤 H A (Rows.arrF (Referent.rtF (Referent.fInt Syntax.w32)) 1024 0)) (Reads.room-gone 𝓤 H A (Syntax.tyRef
-              Syntax.erased Syntax.imm ty·5)) Path'.refl (λ b o. tt) (Dec'.lit< tt, Dec'.lit< tt)) d73
-
-          d75 : Typed.Typed 𝓤 H A 𝓣 E G111 b64 Δ0 (at75 bs)
-          d75 = Typed.g-pre 𝓤 H A W 𝓣 E G111 G112 b64 Δ0 (λ Ψ. Ψ) (at74 bs) (Lifetime.g-begin 𝓤 H A W E G111 16 (
-            tt,
-            (
-              tt,
-              (
-                tt,
-                (
-                  tt,
-                  (
-                    tt,
-                    (
-                      tt,
-                      (
-                        tt,
-                        (
-                          tt,
-                          (
-                            tt,
-                            (
-                              tt,
-                              (
-                                tt,
-                                (
-                                  tt,
-                                  (
-                                    tt,
-                                    (
-                                      tt,
-                                      (
-                                        tt,
-                                        (
-                                          tt,
-                                          (
-                                            tt,
-                                            (
-                                              tt,
-                                              (
-                                                tt,
-                                                (
-                                                  tt,
-                                                  (
-                                                    tt,
-                                                    (
-                                                      tt,
-                                                      (
-                                                        tt,
-                                                        (
-                                                          tt,
-                                                          (
-                                                            tt,
-                                                            (
-                                                              tt,
-                                                              (
-                                                                tt,
-                                                                (
-                                                                  tt,
-                                                                  (
-                                                                    tt,
-                                                                    (
-                                                                      tt,
-                                                                      (
-                                                                        tt,
-                                                                        (
-                                                                          tt,
-                                                                          (
-                                                                            tt,
-                                                                            (
-                                                                              tt,
-                                                                              (
-                                                                                tt,
-                                                                                (
-                                                                                  tt,
-                                                                                  (
-                                                                                    tt,
-                                                                                    (
-                                                                                      tt,
-                                                                                      (
-                                                                                        tt,
-                                                                                        (
-                                                                                          tt,
-                                                                                          (
-                                                                                            tt,
-                                                                                            (
-                                                                                              tt,
-                                                                                              (tt, (tt, (tt, (tt, (tt, (tt, (tt, (tt, (tt, (tt, (tt, tt))))))))))),
-                                                                                            ),
-                                                                                          ),
-                                                                                        ),
-                                                                                      ),
-                                                                                    ),
-                                                                                  ),
-                                                                                ),
-                                                                              ),
-                                                                            ),
-                                                                          ),
-                                                                        ),
-                                                                      ),
-                                                                    ),
-                                                                  ),
-                                                                ),
-                                                              ),
-                                                            ),
-                                                          ),
-                                                        ),
-                                                      ),
-                                                    ),
-                                                  ),
-                                                ),
-                                              ),
-                                            ),
-                                          ),
-                                        ),
-                                      ),
-                                    ),
-                                  ),
-                                ),
-                              ),
-                            ),
-                          ),
-                        ),
-                      ),
-                    ),
-                  ),
-                ),
-              ),
-            ),
-          )) d74
+              (Relend.ssptr (Referent.rtF (Referent.fInt Syntax.w32)) (Syntax.tyRef Syntax.erased Syntax.imm ty·5) 16)) (Reads.room-gone 𝓤 H A (Syntax.tyStruct (List._∷_ 38 (List._∷_ 91 (List._∷_ 93 List.[]))) (Syntax.tcons ty·13 (Syntax.tcons (Syntax.tyInt Syntax.w64) Syntax.tnil)))) record { lower = record { fits = Dec'.lit< tt } } Path'.refl Path'.refl λ b o
+              k. tt) (Typed.g-pre 𝓤 H A W 𝓣 E G114 G115 b62 Δ0 (λ Ψ. Ψ) (at71 bs) (Lifetime.g-begin 𝓤 H A W E G114 17
+              (tt, (tt, (tt, (tt, (tt, (tt, (tt, (tt, (tt, (tt, (tt, (tt, (tt, (tt, (tt, (tt, (tt, (tt, (tt, (tt, (tt, (tt, (tt, (tt, (tt, (tt, (tt, (tt, (tt, (tt, (tt, (tt, (tt, (tt, (tt, (tt, (tt, (tt, (tt, (tt, (tt, (tt, (tt, (tt, (tt, (tt, (tt, (tt, (tt, (tt, (tt, (tt, (tt, tt)))))))))))))))))))))))))))))))))))))))))))))))))))))) (Typed.s-seq 𝓤 H A W 𝓣 E
+              G115 G116 b48 b61 Δ0 (Typed.give (s113 bs)) (at70 bs) (Borrow.t-arr-borrow 𝓤 H A W E 𝓣 (Referent.rtF (Referent.fInt Syntax.w16)) G115 10 47 32 17 (Syntax.tyRef Syntax.erased Syntax.mut ty·3) (λ x. x) (Reads.as-is 𝓤 H A (Rows.arrF (Referent.rtF (Referent.fInt Syntax.w16)) 32 0)) (Reads.room-gone 𝓤 H A (Syntax.tyRef Syntax.erased Syntax.mut ty·3))
+              Path'.refl (λ b o. tt) (Dec'.lit< tt, Dec'.lit< tt)) d70))
 
           d76 : Typed.Typed 𝓤 H A 𝓣 E G110 b65 Δ0 (at76 bs)
           d76 = Typed.s-seq 𝓤 H A W 𝓣 E G110 G111 b45 b64 Δ0 (Typed.ask (s108 bs)) (at75 bs) (Relend.t-sl-aggregate 𝓤 H A W E (Referent.rtF (Referent.fInt Syntax.w16)) 𝓣 (Relend.asShr (Referent.rtF (Referent.fInt Syntax.w16))) G110 43 44 15 (Syntax.tyRef Syntax.erased Syntax.imm ty·4) ty·12 (λ x. x) (Scalar.oBig Syntax.w64 1024) (Reads.as-is 𝓤 H A
-              (Relend.ssptr (Referent.rtF (Referent.fInt Syntax.w16)) (Syntax.tyRef Syntax.erased Syntax.imm ty·4) 15)) (Reads.room-gone 𝓤 H A (Syntax.tyStruct (List._∷_ 38 (List._∷_ 91 (List._∷_ 93 List.[]))) (Syntax.tcons ty·12 (Syntax.tcons (Syntax.tyInt Syntax.w64) Syntax.tnil)))) record { lower = record { fits = Dec'.lit< tt } } Path'.refl Path'.refl
-              λ b o k. tt) d75
-
-          d77 : Typed.Typed 𝓤 H A 𝓣 E G109 b66 Δ0 (at77 bs)
-          d77 = Typed.s-seq 𝓤 H A W 𝓣 E G109 G110 b44 b65 Δ0 (Typed.give (s107 bs)) (at76 bs) (Share.t-arr-share 𝓤 H A W E 𝓣 (Referent.rtF (Referent.fInt Syntax.w16)) G109 8 43 1024 15 (Syntax.tyRef Syntax.erased Syntax.imm ty·4) (λ x. x) (Reads.as-is 𝓤 H A (Rows.arrF (Referent.rtF (Referent.fInt Syntax.w16)) 1024 0)) (Reads.room-gone 𝓤 H A (Syntax.tyRef
-              Syntax.erased Syntax.imm ty·4)) Path'.refl (λ b o. tt) (Dec'.lit< tt, Dec'.lit< tt)) d76
-
-          d78 : Typed.Typed 𝓤 H A 𝓣 E G108 b66 Δ0 (at78 bs)
-          d78 = Typed.g-pre 𝓤 H A W 𝓣 E G108 G109 b66 Δ0 (λ Ψ. Ψ) (at77 bs) (Lifetime.g-begin 𝓤 H A W E G108 15 (
-            tt,
-            (
-              tt,
-              (
-                tt,
-                (
-                  tt,
-                  (
-                    tt,
-                    (
-                      tt,
-                      (
-                        tt,
-                        (
-                          tt,
-                          (
-                            tt,
-                            (
-                              tt,
-                              (
-                                tt,
-                                (
-                                  tt,
-                                  (
-                                    tt,
-                                    (
-                                      tt,
-                                      (
-                                        tt,
-                                        (
-                                          tt,
-                                          (
-                                            tt,
-                                            (
-                                              tt,
-                                              (
-                                                tt,
-                                                (
-                                                  tt,
-                                                  (
-                                                    tt,
-                                                    (
-                                                      tt,
-                                                      (
-                                                        tt,
-                                                        (
-                                                          tt,
-                                                          (
-                                                            tt,
-                                                            (
-                                                              tt,
-                                                              (
-                                                                tt,
-                                                                (
-                                                                  tt,
-                                                                  (
-                                                                    tt,
-                                                                    (
-                                                                      tt,
-                                                                      (
-                                                                        tt,
-                                                                        (
-                                                                          tt,
-                                                                          (
-                                                                            tt,
-                                                                            (
-                                                                              tt,
-                                                                              (
-                                                                                tt,
-                                                                                (
-                                                                                  tt,
-                                                                                  (
-                                                                                    tt,
-                                                                                    (
-                                                                                      tt,
-                                                                                      (
-                                                                                        tt,
-                                                                                        (
-                                                                                          tt,
-                                                                                          (
-                                                                                            tt,
-                                                                                            (
-                                                                                              tt,
-                                                                                              (tt, (tt, (tt, (tt, (tt, (tt, (tt, (tt, (tt, (tt, (tt, tt))))))))))),
-                                                                                            ),
-                                                                                          ),
-                                                                                        ),
-                                                                                      ),
-                                                                                    ),
-                                                                                  ),
-                                                                                ),
-                                                                              ),
-                                                                            ),
-                                                                          ),
-                                                                        ),
-                                                                      ),
-                                                                    ),
-                                                                  ),
-                                                                ),
-                                                              ),
-                                                            ),
-                                                          ),
-                                                        ),
-                                                      ),
-                                                    ),
-                                                  ),
-                                                ),
-                                              ),
-                                            ),
-                                          ),
-                                        ),
-                                      ),
-                                    ),
-                                  ),
-                                ),
-                              ),
-                            ),
-                          ),
-                        ),
-                      ),
-                    ),
-                  ),
-                ),
-              ),
-            ),
-          )) d77
+              (Relend.ssptr (Referent.rtF (Referent.fInt Syntax.w16)) (Syntax.tyRef Syntax.erased Syntax.imm ty·4) 15)) (Reads.room-gone 𝓤 H A (Syntax.tyStruct (List._∷_ 38 (List._∷_ 91 (List._∷_ 93 List.[]))) (Syntax.tcons ty·12 (Syntax.tcons (Syntax.tyInt Syntax.w64) Syntax.tnil)))) record { lower = record { fits = Dec'.lit< tt } } Path'.refl Path'.refl λ b o
+              k. tt) (Typed.g-pre 𝓤 H A W 𝓣 E G111 G112 b64 Δ0 (λ Ψ. Ψ) (at74 bs) (Lifetime.g-begin 𝓤 H A W E G111 16
+              (tt, (tt, (tt, (tt, (tt, (tt, (tt, (tt, (tt, (tt, (tt, (tt, (tt, (tt, (tt, (tt, (tt, (tt, (tt, (tt, (tt, (tt, (tt, (tt, (tt, (tt, (tt, (tt, (tt, (tt, (tt, (tt, (tt, (tt, (tt, (tt, (tt, (tt, (tt, (tt, (tt, (tt, (tt, (tt, (tt, (tt, (tt, (tt, (tt, (tt, (tt, (tt, (tt, tt)))))))))))))))))))))))))))))))))))))))))))))))))))))) (Typed.s-seq 𝓤 H A W 𝓣 E
+              G112 G113 b46 b63 Δ0 (Typed.give (s110 bs)) (at73 bs) (Share.t-arr-share 𝓤 H A W E 𝓣 (Referent.rtF (Referent.fInt Syntax.w32)) G112 9 45 1024 16 (Syntax.tyRef Syntax.erased Syntax.imm ty·5) (λ x. x) (Reads.as-is 𝓤 H A (Rows.arrF (Referent.rtF (Referent.fInt Syntax.w32)) 1024 0)) (Reads.room-gone 𝓤 H A (Syntax.tyRef Syntax.erased Syntax.imm ty·5))
+              Path'.refl (λ b o. tt) (Dec'.lit< tt, Dec'.lit< tt)) d73))
 
           d79 : Typed.Typed 𝓤 H A 𝓣 E G107 b67 Δ0 (at79 bs)
           d79 = Typed.s-seq 𝓤 H A W 𝓣 E G107 G108 b43 b66 Δ0 (Typed.ask (s105 bs)) (at78 bs) (Relend.t-sl-aggregate 𝓤 H A W E (Referent.rtF (Referent.fInt Syntax.w16)) 𝓣 (Relend.asShr (Referent.rtF (Referent.fInt Syntax.w16))) G107 41 42 14 (Syntax.tyRef Syntax.erased Syntax.imm ty·3) ty·12 (λ x. x) (Scalar.oInt Syntax.w64 32) (Reads.as-is 𝓤 H A
-              (Relend.ssptr (Referent.rtF (Referent.fInt Syntax.w16)) (Syntax.tyRef Syntax.erased Syntax.imm ty·3) 14)) (Reads.room-gone 𝓤 H A (Syntax.tyStruct (List._∷_ 38 (List._∷_ 91 (List._∷_ 93 List.[]))) (Syntax.tcons ty·12 (Syntax.tcons (Syntax.tyInt Syntax.w64) Syntax.tnil)))) tt Path'.refl Path'.refl λ b o k. tt) d78
-
-          d80 : Typed.Typed 𝓤 H A 𝓣 E G106 b68 Δ0 (at80 bs)
-          d80 = Typed.s-seq 𝓤 H A W 𝓣 E G106 G107 b42 b67 Δ0 (Typed.give (s104 bs)) (at79 bs) (Share.t-arr-share 𝓤 H A W E 𝓣 (Referent.rtF (Referent.fInt Syntax.w16)) G106 7 41 32 14 (Syntax.tyRef Syntax.erased Syntax.imm ty·3) (λ x. x) (Reads.as-is 𝓤 H A (Rows.arrF (Referent.rtF (Referent.fInt Syntax.w16)) 32 0)) (Reads.room-gone 𝓤 H A (Syntax.tyRef
-              Syntax.erased Syntax.imm ty·3)) Path'.refl (λ b o. tt) (Dec'.lit< tt, Dec'.lit< tt)) d79
-
-          d81 : Typed.Typed 𝓤 H A 𝓣 E G105 b68 Δ0 (at81 bs)
-          d81 = Typed.g-pre 𝓤 H A W 𝓣 E G105 G106 b68 Δ0 (λ Ψ. Ψ) (at80 bs) (Lifetime.g-begin 𝓤 H A W E G105 14 (
-            tt,
-            (
-              tt,
-              (
-                tt,
-                (
-                  tt,
-                  (
-                    tt,
-                    (
-                      tt,
-                      (
-                        tt,
-                        (
-                          tt,
-                          (
-                            tt,
-                            (
-                              tt,
-                              (
-                                tt,
-                                (
-                                  tt,
-                                  (
-                                    tt,
-                                    (
-                                      tt,
-                                      (
-                                        tt,
-                                        (
-                                          tt,
-                                          (
-                                            tt,
-                                            (
-                                              tt,
-                                              (
-                                                tt,
-                                                (
-                                                  tt,
-                                                  (
-                                                    tt,
-                                                    (
-                                                      tt,
-                                                      (
-                                                        tt,
-                                                        (
-                                                          tt,
-                                                          (
-                                                            tt,
-                                                            (
-                                                              tt,
-                                                              (
-                                                                tt,
-                                                                (
-                                                                  tt,
-                                                                  (
-                                                                    tt,
-                                                                    (
-                                                                      tt,
-                                                                      (
-                                                                        tt,
-                                                                        (
-                                                                          tt,
-                                                                          (
-                                                                            tt,
-                                                                            (
-                                                                              tt,
-                                                                              (
-                                                                                tt,
-                                                                                (
-                                                                                  tt,
-                                                                                  (
-                                                                                    tt,
-                                                                                    (
-                                                                                      tt,
-                                                                                      (
-                                                                                        tt,
-                                                                                        (
-                                                                                          tt,
-                                                                                          (
-                                                                                            tt,
-                                                                                            (
-                                                                                              tt,
-                                                                                              (tt, (tt, (tt, (tt, (tt, (tt, (tt, (tt, (tt, (tt, (tt, tt))))))))))),
-                                                                                            ),
-                                                                                          ),
-                                                                                        ),
-                                                                                      ),
-                                                                                    ),
-                                                                                  ),
-                                                                                ),
-                                                                              ),
-                                                                            ),
-                                                                          ),
-                                                                        ),
-                                                                      ),
-                                                                    ),
-                                                                  ),
-                                                                ),
-                                                              ),
-                                                            ),
-                                                          ),
-                                                        ),
-                                                      ),
-                                                    ),
-                                                  ),
-                                                ),
-                                              ),
-                                            ),
-                                          ),
-                                        ),
-                                      ),
-                                    ),
-                                  ),
-                                ),
-                              ),
-                            ),
-                          ),
-                        ),
-                      ),
-                    ),
-                  ),
-                ),
-              ),
-            ),
-          )) d80
+              (Relend.ssptr (Referent.rtF (Referent.fInt Syntax.w16)) (Syntax.tyRef Syntax.erased Syntax.imm ty·3) 14)) (Reads.room-gone 𝓤 H A (Syntax.tyStruct (List._∷_ 38 (List._∷_ 91 (List._∷_ 93 List.[]))) (Syntax.tcons ty·12 (Syntax.tcons (Syntax.tyInt Syntax.w64) Syntax.tnil)))) tt Path'.refl Path'.refl λ b o k. tt) (Typed.g-pre 𝓤 H A W 𝓣 E G108 G109 b66
+              Δ0 (λ Ψ. Ψ) (at77 bs) (Lifetime.g-begin 𝓤 H A W E G108 15
+              (tt, (tt, (tt, (tt, (tt, (tt, (tt, (tt, (tt, (tt, (tt, (tt, (tt, (tt, (tt, (tt, (tt, (tt, (tt, (tt, (tt, (tt, (tt, (tt, (tt, (tt, (tt, (tt, (tt, (tt, (tt, (tt, (tt, (tt, (tt, (tt, (tt, (tt, (tt, (tt, (tt, (tt, (tt, (tt, (tt, (tt, (tt, (tt, (tt, (tt, (tt, (tt, (tt, tt)))))))))))))))))))))))))))))))))))))))))))))))))))))) (Typed.s-seq 𝓤 H A W 𝓣 E
+              G109 G110 b44 b65 Δ0 (Typed.give (s107 bs)) (at76 bs) (Share.t-arr-share 𝓤 H A W E 𝓣 (Referent.rtF (Referent.fInt Syntax.w16)) G109 8 43 1024 15 (Syntax.tyRef Syntax.erased Syntax.imm ty·4) (λ x. x) (Reads.as-is 𝓤 H A (Rows.arrF (Referent.rtF (Referent.fInt Syntax.w16)) 1024 0)) (Reads.room-gone 𝓤 H A (Syntax.tyRef Syntax.erased Syntax.imm ty·4))
+              Path'.refl (λ b o. tt) (Dec'.lit< tt, Dec'.lit< tt)) d76))
 
           d82 : Typed.Typed 𝓤 H A 𝓣 E G104 b69 Δ0 (at82 bs)
           d82 = Typed.s-seq 𝓤 H A W 𝓣 E G104 G105 b41 b68 Δ0 (Typed.ask (s102 bs)) (at81 bs) (Relend.t-sl-aggregate 𝓤 H A W E (Referent.rtF (Referent.fInt Syntax.w8)) 𝓣 (Relend.asShr (Referent.rtF (Referent.fInt Syntax.w8))) G104 39 40 13 (Syntax.tyRef Syntax.erased Syntax.imm ty·2) ty·9 (λ x. x) (Scalar.oInt Syntax.w64 768) (Reads.as-is 𝓤 H A (Relend.ssptr
-              (Referent.rtF (Referent.fInt Syntax.w8)) (Syntax.tyRef Syntax.erased Syntax.imm ty·2) 13)) (Reads.room-gone 𝓤 H A (Syntax.tyStruct (List._∷_ 38 (List._∷_ 91 (List._∷_ 93 List.[]))) (Syntax.tcons ty·9 (Syntax.tcons (Syntax.tyInt Syntax.w64) Syntax.tnil)))) tt Path'.refl Path'.refl λ b o k. tt) d81
-
-          d83 : Typed.Typed 𝓤 H A 𝓣 E G103 b70 Δ0 (at83 bs)
-          d83 = Typed.s-seq 𝓤 H A W 𝓣 E G103 G104 b40 b69 Δ0 (Typed.give (s101 bs)) (at82 bs) (Share.t-arr-share 𝓤 H A W E 𝓣 (Referent.rtF (Referent.fInt Syntax.w8)) G103 6 39 768 13 (Syntax.tyRef Syntax.erased Syntax.imm ty·2) (λ x. x) (Reads.as-is 𝓤 H A (Rows.arrF (Referent.rtF (Referent.fInt Syntax.w8)) 768 0)) (Reads.room-gone 𝓤 H A (Syntax.tyRef
-              Syntax.erased Syntax.imm ty·2)) Path'.refl (λ b o. tt) (Dec'.lit< tt, Dec'.lit< tt)) d82
-
-          d84 : Typed.Typed 𝓤 H A 𝓣 E G102 b70 Δ0 (at84 bs)
-          d84 = Typed.g-pre 𝓤 H A W 𝓣 E G102 G103 b70 Δ0 (λ Ψ. Ψ) (at83 bs) (Lifetime.g-begin 𝓤 H A W E G102 13 (
-            tt,
-            (
-              tt,
-              (
-                tt,
-                (
-                  tt,
-                  (
-                    tt,
-                    (
-                      tt,
-                      (
-                        tt,
-                        (
-                          tt,
-                          (
-                            tt,
-                            (
-                              tt,
-                              (
-                                tt,
-                                (
-                                  tt,
-                                  (
-                                    tt,
-                                    (
-                                      tt,
-                                      (
-                                        tt,
-                                        (
-                                          tt,
-                                          (
-                                            tt,
-                                            (
-                                              tt,
-                                              (
-                                                tt,
-                                                (
-                                                  tt,
-                                                  (
-                                                    tt,
-                                                    (
-                                                      tt,
-                                                      (
-                                                        tt,
-                                                        (
-                                                          tt,
-                                                          (
-                                                            tt,
-                                                            (
-                                                              tt,
-                                                              (
-                                                                tt,
-                                                                (
-                                                                  tt,
-                                                                  (
-                                                                    tt,
-                                                                    (
-                                                                      tt,
-                                                                      (
-                                                                        tt,
-                                                                        (
-                                                                          tt,
-                                                                          (
-                                                                            tt,
-                                                                            (
-                                                                              tt,
-                                                                              (
-                                                                                tt,
-                                                                                (
-                                                                                  tt,
-                                                                                  (
-                                                                                    tt,
-                                                                                    (
-                                                                                      tt,
-                                                                                      (
-                                                                                        tt,
-                                                                                        (
-                                                                                          tt,
-                                                                                          (
-                                                                                            tt,
-                                                                                            (
-                                                                                              tt,
-                                                                                              (tt, (tt, (tt, (tt, (tt, (tt, (tt, (tt, (tt, (tt, (tt, tt))))))))))),
-                                                                                            ),
-                                                                                          ),
-                                                                                        ),
-                                                                                      ),
-                                                                                    ),
-                                                                                  ),
-                                                                                ),
-                                                                              ),
-                                                                            ),
-                                                                          ),
-                                                                        ),
-                                                                      ),
-                                                                    ),
-                                                                  ),
-                                                                ),
-                                                              ),
-                                                            ),
-                                                          ),
-                                                        ),
-                                                      ),
-                                                    ),
-                                                  ),
-                                                ),
-                                              ),
-                                            ),
-                                          ),
-                                        ),
-                                      ),
-                                    ),
-                                  ),
-                                ),
-                              ),
-                            ),
-                          ),
-                        ),
-                      ),
-                    ),
-                  ),
-                ),
-              ),
-            ),
-          )) d83
+              (Referent.rtF (Referent.fInt Syntax.w8)) (Syntax.tyRef Syntax.erased Syntax.imm ty·2) 13)) (Reads.room-gone 𝓤 H A (Syntax.tyStruct (List._∷_ 38 (List._∷_ 91 (List._∷_ 93 List.[]))) (Syntax.tcons ty·9 (Syntax.tcons (Syntax.tyInt Syntax.w64) Syntax.tnil)))) tt Path'.refl Path'.refl λ b o k. tt) (Typed.g-pre 𝓤 H A W 𝓣 E G105 G106 b68 Δ0 (λ Ψ. Ψ) (at80
+              bs) (Lifetime.g-begin 𝓤 H A W E G105 14
+              (tt, (tt, (tt, (tt, (tt, (tt, (tt, (tt, (tt, (tt, (tt, (tt, (tt, (tt, (tt, (tt, (tt, (tt, (tt, (tt, (tt, (tt, (tt, (tt, (tt, (tt, (tt, (tt, (tt, (tt, (tt, (tt, (tt, (tt, (tt, (tt, (tt, (tt, (tt, (tt, (tt, (tt, (tt, (tt, (tt, (tt, (tt, (tt, (tt, (tt, (tt, (tt, (tt, tt)))))))))))))))))))))))))))))))))))))))))))))))))))))) (Typed.s-seq 𝓤 H A W 𝓣 E
+              G106 G107 b42 b67 Δ0 (Typed.give (s104 bs)) (at79 bs) (Share.t-arr-share 𝓤 H A W E 𝓣 (Referent.rtF (Referent.fInt Syntax.w16)) G106 7 41 32 14 (Syntax.tyRef Syntax.erased Syntax.imm ty·3) (λ x. x) (Reads.as-is 𝓤 H A (Rows.arrF (Referent.rtF (Referent.fInt Syntax.w16)) 32 0)) (Reads.room-gone 𝓤 H A (Syntax.tyRef Syntax.erased Syntax.imm ty·3))
+              Path'.refl (λ b o. tt) (Dec'.lit< tt, Dec'.lit< tt)) d79))
 
           d85 : Typed.Typed 𝓤 H A 𝓣 E G101 b71 Δ0 (at85 bs)
           d85 = Typed.s-seq 𝓤 H A W 𝓣 E G101 G102 b39 b70 Δ0 (Typed.ask (s99 bs)) (at84 bs) (Relend.t-sl-aggregate 𝓤 H A W E (Referent.rtF (Referent.fInt Syntax.w16)) 𝓣 (Relend.asShr (Referent.rtF (Referent.fInt Syntax.w16))) G101 37 38 12 (Syntax.tyRef Syntax.erased Syntax.imm ty·0) ty·12 (λ x. x) (Scalar.oInt Syntax.w64 1) (Reads.as-is 𝓤 H A (Relend.ssptr
-              (Referent.rtF (Referent.fInt Syntax.w16)) (Syntax.tyRef Syntax.erased Syntax.imm ty·0) 12)) (Reads.room-gone 𝓤 H A (Syntax.tyStruct (List._∷_ 38 (List._∷_ 91 (List._∷_ 93 List.[]))) (Syntax.tcons ty·12 (Syntax.tcons (Syntax.tyInt Syntax.w64) Syntax.tnil)))) tt Path'.refl Path'.refl λ b o k. tt) d84
-
-          d86 : Typed.Typed 𝓤 H A 𝓣 E G100 b72 Δ0 (at86 bs)
-          d86 = Typed.s-seq 𝓤 H A W 𝓣 E G100 G101 b38 b71 Δ0 (Typed.give (s98 bs)) (at85 bs) (Share.t-arr-share 𝓤 H A W E 𝓣 (Referent.rtF (Referent.fInt Syntax.w16)) G100 5 37 1 12 (Syntax.tyRef Syntax.erased Syntax.imm ty·0) (λ x. x) (Reads.as-is 𝓤 H A (Rows.arrF (Referent.rtF (Referent.fInt Syntax.w16)) 1 0)) (Reads.room-gone 𝓤 H A
-              (Syntax.tyRef Syntax.erased Syntax.imm ty·0)) Path'.refl (λ b o. tt) (Dec'.lit< tt, Dec'.lit< tt)) d85
-
-          d87 : Typed.Typed 𝓤 H A 𝓣 E G99 b72 Δ0 (at87 bs)
-          d87 = Typed.g-pre 𝓤 H A W 𝓣 E G99 G100 b72 Δ0 (λ Ψ. Ψ) (at86 bs) (Lifetime.g-begin 𝓤 H A W E G99 12 (
-            tt,
-            (
-              tt,
-              (
-                tt,
-                (
-                  tt,
-                  (
-                    tt,
-                    (
-                      tt,
-                      (
-                        tt,
-                        (
-                          tt,
-                          (
-                            tt,
-                            (
-                              tt,
-                              (
-                                tt,
-                                (
-                                  tt,
-                                  (
-                                    tt,
-                                    (
-                                      tt,
-                                      (
-                                        tt,
-                                        (
-                                          tt,
-                                          (
-                                            tt,
-                                            (
-                                              tt,
-                                              (
-                                                tt,
-                                                (
-                                                  tt,
-                                                  (
-                                                    tt,
-                                                    (
-                                                      tt,
-                                                      (
-                                                        tt,
-                                                        (
-                                                          tt,
-                                                          (
-                                                            tt,
-                                                            (
-                                                              tt,
-                                                              (
-                                                                tt,
-                                                                (
-                                                                  tt,
-                                                                  (
-                                                                    tt,
-                                                                    (
-                                                                      tt,
-                                                                      (
-                                                                        tt,
-                                                                        (
-                                                                          tt,
-                                                                          (
-                                                                            tt,
-                                                                            (
-                                                                              tt,
-                                                                              (
-                                                                                tt,
-                                                                                (
-                                                                                  tt,
-                                                                                  (
-                                                                                    tt,
-                                                                                    (
-                                                                                      tt,
-                                                                                      (
-                                                                                        tt,
-                                                                                        (
-                                                                                          tt,
-                                                                                          (
-                                                                                            tt,
-                                                                                            (
-                                                                                              tt,
-                                                                                              (tt, (tt, (tt, (tt, (tt, (tt, (tt, (tt, (tt, (tt, (tt, tt))))))))))),
-                                                                                            ),
-                                                                                          ),
-                                                                                        ),
-                                                                                      ),
-                                                                                    ),
-                                                                                  ),
-                                                                                ),
-                                                                              ),
-                                                                            ),
-                                                                          ),
-                                                                        ),
-                                                                      ),
-                                                                    ),
-                                                                  ),
-                                                                ),
-                                                              ),
-                                                            ),
-                                                          ),
-                                                        ),
-                                                      ),
-                                                    ),
-                                                  ),
-                                                ),
-                                              ),
-                                            ),
-                                          ),
-                                        ),
-                                      ),
-                                    ),
-                                  ),
-                                ),
-                              ),
-                            ),
-                          ),
-                        ),
-                      ),
-                    ),
-                  ),
-                ),
-              ),
-            ),
-          )) d86
+              (Referent.rtF (Referent.fInt Syntax.w16)) (Syntax.tyRef Syntax.erased Syntax.imm ty·0) 12)) (Reads.room-gone 𝓤 H A (Syntax.tyStruct (List._∷_ 38 (List._∷_ 91 (List._∷_ 93 List.[]))) (Syntax.tcons ty·12 (Syntax.tcons (Syntax.tyInt Syntax.w64) Syntax.tnil)))) tt Path'.refl Path'.refl λ b o k. tt) (Typed.g-pre 𝓤 H A W 𝓣 E G102 G103 b70 Δ0 (λ Ψ. Ψ)
+              (at83 bs) (Lifetime.g-begin 𝓤 H A W E G102 13
+              (tt, (tt, (tt, (tt, (tt, (tt, (tt, (tt, (tt, (tt, (tt, (tt, (tt, (tt, (tt, (tt, (tt, (tt, (tt, (tt, (tt, (tt, (tt, (tt, (tt, (tt, (tt, (tt, (tt, (tt, (tt, (tt, (tt, (tt, (tt, (tt, (tt, (tt, (tt, (tt, (tt, (tt, (tt, (tt, (tt, (tt, (tt, (tt, (tt, (tt, (tt, (tt, (tt, tt)))))))))))))))))))))))))))))))))))))))))))))))))))))) (Typed.s-seq 𝓤 H A W 𝓣 E
+              G103 G104 b40 b69 Δ0 (Typed.give (s101 bs)) (at82 bs) (Share.t-arr-share 𝓤 H A W E 𝓣 (Referent.rtF (Referent.fInt Syntax.w8)) G103 6 39 768 13 (Syntax.tyRef Syntax.erased Syntax.imm ty·2) (λ x. x) (Reads.as-is 𝓤 H A (Rows.arrF (Referent.rtF (Referent.fInt Syntax.w8)) 768 0)) (Reads.room-gone 𝓤 H A (Syntax.tyRef Syntax.erased Syntax.imm ty·2))
+              Path'.refl (λ b o. tt) (Dec'.lit< tt, Dec'.lit< tt)) d82))
 
           d88 : Typed.Typed 𝓤 H A 𝓣 E G98 b73 Δ0 (at88 bs)
           d88 = Typed.s-seq 𝓤 H A W 𝓣 E G98 G99 b37 b72 Δ0 (Typed.ask (s96 bs)) (at87 bs) (Relend.t-sl-aggregate 𝓤 H A W E (Referent.rtF (Referent.fInt Syntax.w16)) 𝓣 (Relend.asShr (Referent.rtF (Referent.fInt Syntax.w16))) G98 35 36 11 (Syntax.tyRef Syntax.erased Syntax.imm ty·0) ty·12 (λ x. x) (Scalar.oInt Syntax.w64 1) (Reads.as-is 𝓤 H A (Relend.ssptr
-              (Referent.rtF (Referent.fInt Syntax.w16)) (Syntax.tyRef Syntax.erased Syntax.imm ty·0) 11)) (Reads.room-gone 𝓤 H A (Syntax.tyStruct (List._∷_ 38 (List._∷_ 91 (List._∷_ 93 List.[]))) (Syntax.tcons ty·12 (Syntax.tcons (Syntax.tyInt Syntax.w64) Syntax.tnil)))) tt Path'.refl Path'.refl λ b o k. tt) d87
-
-          d89 : Typed.Typed 𝓤 H A 𝓣 E G97 b74 Δ0 (at89 bs)
-          d89 = Typed.s-seq 𝓤 H A W 𝓣 E G97 G98 b36 b73 Δ0 (Typed.give (s95 bs)) (at88 bs) (Share.t-arr-share 𝓤 H A W E 𝓣 (Referent.rtF (Referent.fInt Syntax.w16)) G97 4 35 1 11 (Syntax.tyRef Syntax.erased Syntax.imm ty·0) (λ x. x) (Reads.as-is 𝓤 H A (Rows.arrF (Referent.rtF (Referent.fInt Syntax.w16)) 1 0)) (Reads.room-gone 𝓤 H A
-              (Syntax.tyRef Syntax.erased Syntax.imm ty·0)) Path'.refl (λ b o. tt) (Dec'.lit< tt, Dec'.lit< tt)) d88
-
-          d90 : Typed.Typed 𝓤 H A 𝓣 E G82 b74 Δ0 (at90 bs)
-          d90 = Typed.g-pre 𝓤 H A W 𝓣 E G82 G97 b74 Δ0 (λ Ψ. Ψ) (at89 bs) (Lifetime.g-begin 𝓤 H A W E G82 11 (
-            tt,
-            (
-              tt,
-              (
-                tt,
-                (
-                  tt,
-                  (
-                    tt,
-                    (
-                      tt,
-                      (
-                        tt,
-                        (
-                          tt,
-                          (
-                            tt,
-                            (
-                              tt,
-                              (
-                                tt,
-                                (
-                                  tt,
-                                  (
-                                    tt,
-                                    (
-                                      tt,
-                                      (
-                                        tt,
-                                        (
-                                          tt,
-                                          (
-                                            tt,
-                                            (
-                                              tt,
-                                              (
-                                                tt,
-                                                (
-                                                  tt,
-                                                  (
-                                                    tt,
-                                                    (
-                                                      tt,
-                                                      (
-                                                        tt,
-                                                        (
-                                                          tt,
-                                                          (
-                                                            tt,
-                                                            (
-                                                              tt,
-                                                              (
-                                                                tt,
-                                                                (
-                                                                  tt,
-                                                                  (
-                                                                    tt,
-                                                                    (
-                                                                      tt,
-                                                                      (
-                                                                        tt,
-                                                                        (
-                                                                          tt,
-                                                                          (
-                                                                            tt,
-                                                                            (
-                                                                              tt,
-                                                                              (
-                                                                                tt,
-                                                                                (
-                                                                                  tt,
-                                                                                  (
-                                                                                    tt,
-                                                                                    (
-                                                                                      tt,
-                                                                                      (
-                                                                                        tt,
-                                                                                        (
-                                                                                          tt,
-                                                                                          (
-                                                                                            tt,
-                                                                                            (
-                                                                                              tt,
-                                                                                              (tt, (tt, (tt, (tt, (tt, (tt, (tt, (tt, (tt, (tt, (tt, tt))))))))))),
-                                                                                            ),
-                                                                                          ),
-                                                                                        ),
-                                                                                      ),
-                                                                                    ),
-                                                                                  ),
-                                                                                ),
-                                                                              ),
-                                                                            ),
-                                                                          ),
-                                                                        ),
-                                                                      ),
-                                                                    ),
-                                                                  ),
-                                                                ),
-                                                              ),
-                                                            ),
-                                                          ),
-                                                        ),
-                                                      ),
-                                                    ),
-                                                  ),
-                                                ),
-                                              ),
-                                            ),
-                                          ),
-                                        ),
-                                      ),
-                                    ),
-                                  ),
-                                ),
-                              ),
-                            ),
-                          ),
-                        ),
-                      ),
-                    ),
-                  ),
-                ),
-              ),
-            ),
-          )) d89
+              (Referent.rtF (Referent.fInt Syntax.w16)) (Syntax.tyRef Syntax.erased Syntax.imm ty·0) 11)) (Reads.room-gone 𝓤 H A (Syntax.tyStruct (List._∷_ 38 (List._∷_ 91 (List._∷_ 93 List.[]))) (Syntax.tcons ty·12 (Syntax.tcons (Syntax.tyInt Syntax.w64) Syntax.tnil)))) tt Path'.refl Path'.refl λ b o k. tt) (Typed.g-pre 𝓤 H A W 𝓣 E G99 G100 b72 Δ0 (λ Ψ. Ψ)
+              (at86 bs) (Lifetime.g-begin 𝓤 H A W E G99 12
+              (tt, (tt, (tt, (tt, (tt, (tt, (tt, (tt, (tt, (tt, (tt, (tt, (tt, (tt, (tt, (tt, (tt, (tt, (tt, (tt, (tt, (tt, (tt, (tt, (tt, (tt, (tt, (tt, (tt, (tt, (tt, (tt, (tt, (tt, (tt, (tt, (tt, (tt, (tt, (tt, (tt, (tt, (tt, (tt, (tt, (tt, (tt, (tt, (tt, (tt, (tt, (tt, (tt, tt)))))))))))))))))))))))))))))))))))))))))))))))))))))) (Typed.s-seq 𝓤 H A W 𝓣 E
+              G100 G101 b38 b71 Δ0 (Typed.give (s98 bs)) (at85 bs) (Share.t-arr-share 𝓤 H A W E 𝓣 (Referent.rtF (Referent.fInt Syntax.w16)) G100 5 37 1 12 (Syntax.tyRef Syntax.erased Syntax.imm ty·0) (λ x. x) (Reads.as-is 𝓤 H A (Rows.arrF (Referent.rtF (Referent.fInt Syntax.w16)) 1 0)) (Reads.room-gone 𝓤 H A (Syntax.tyRef Syntax.erased Syntax.imm ty·0))
+              Path'.refl (λ b o. tt) (Dec'.lit< tt, Dec'.lit< tt)) d85))
 
           d91 : Typed.Typed 𝓤 H A 𝓣 E G81 b75 Δ0 (at91 bs)
-          d91 = Typed.t-seq 𝓤 H A W 𝓣 E G81 G82 b35 b74 Δ0 (at16 bs) (at90 bs) d16 d90
-
-          d92 : Typed.Typed 𝓤 H A 𝓣 E G80 b76 Δ0 (at92 bs)
-          d92 = Typed.s-seq 𝓤 H A W 𝓣 E G80 G81 b30 b75 Δ0 (Typed.ask (s79 bs)) (at91 bs) (Scalar.t-op2 𝓤 H A W E 𝓣 G80 Syntax.ne (Scalar.oAt 14 (Syntax.tyInt Syntax.w64) (Row.valS (Row.sInt Syntax.w64))) (Scalar.oInt Syntax.w64 0) 34 (Rows'.sc-here Row.sBool) Syntax.tyBool (Row.valS Row.sBool) (Row.sBool .of)
-              (Scalar.reads-sc 𝓤 H A W (Row.sInt Syntax.w64), Path'.refl) tt (Reads.room-gone 𝓤 H A Syntax.tyBool) (Scalar.holds-sc 𝓤 H A W Row.sBool) Path'.refl (λ u. Path'.refl) λ u. tt) d91
+          d91 = Typed.t-seq 𝓤 H A W 𝓣 E G81 G80 b35 b74 Δ0 (at16 bs) (at90 bs) d16 (Typed.g-pre 𝓤 H A W 𝓣 E G80 G97 b74 Δ0 (λ Ψ. Ψ) (at89 bs) (Lifetime.g-begin 𝓤 H A W E G80 11
+              (tt, (tt, (tt, (tt, (tt, (tt, (tt, (tt, (tt, (tt, (tt, (tt, (tt, (tt, (tt, (tt, (tt, (tt, (tt, (tt, (tt, (tt, (tt, (tt, (tt, (tt, (tt, (tt, (tt, (tt, (tt, (tt, (tt, (tt, (tt, (tt, (tt, (tt, (tt, (tt, (tt, (tt, (tt, (tt, (tt, (tt, (tt, (tt, (tt, (tt, (tt, (tt, (tt, tt)))))))))))))))))))))))))))))))))))))))))))))))))))))) (Typed.s-seq 𝓤 H A W 𝓣 E G97
+              G98 b36 b73 Δ0 (Typed.give (s95 bs)) (at88 bs) (Share.t-arr-share 𝓤 H A W E 𝓣 (Referent.rtF (Referent.fInt Syntax.w16)) G97 4 35 1 11 (Syntax.tyRef Syntax.erased Syntax.imm ty·0) (λ x. x) (Reads.as-is 𝓤 H A (Rows.arrF (Referent.rtF (Referent.fInt Syntax.w16)) 1 0)) (Reads.room-gone 𝓤 H A (Syntax.tyRef Syntax.erased Syntax.imm ty·0)) Path'.refl (λ b
+              o. tt) (Dec'.lit< tt, Dec'.lit< tt)) d88))
 
           d93 : Typed.Typed 𝓤 H A 𝓣 E G79 b76 Δ0 (at93 bs)
           d93 = Typed.g-pre 𝓤 H A W 𝓣 E G79 G80 b76 Δ0 (Typed.pass T79 T80 (s78 bs)) (at92 bs) (Scalar.g-room 𝓤 H A W E G79 13 (Syntax.tyEnum (List._∷_ 114 (List._∷_ 101 (List._∷_ 97 (List._∷_ 100 (List._∷_ 105 (List._∷_ 110 (List._∷_ 103 (List._∷_ 58 (List._∷_ 58 (List._∷_ 114 (List._∷_ 101 (List._∷_ 112 (List._∷_ 108 (List._∷_ 105 (List._∷_ 101 (List._∷_
-              115 (List._∷_ 58 (List._∷_ 58 (List._∷_ 82 (List._∷_ 101 (List._∷_ 97 (List._∷_ 100 (List._∷_ 105 (List._∷_ 110 (List._∷_ 103 List.[]))))))))))))))))))))))))) (Syntax.ttcons Syntax.tnil (Syntax.ttcons (Syntax.tcons (Syntax.tyEnum (List._∷_ 114 (List._∷_ 101 (List._∷_ 97 (List._∷_ 100 (List._∷_ 105 (List._∷_ 110 (List._∷_ 103 (List._∷_ 58
-              (List._∷_ 58 (List._∷_ 114 (List._∷_ 101 (List._∷_ 112 (List._∷_ 108 (List._∷_ 105 (List._∷_ 101 (List._∷_ 115 (List._∷_ 58 (List._∷_ 58 (List._∷_ 82 (List._∷_ 101 (List._∷_ 102 (List._∷_ 117 (List._∷_ 115 (List._∷_ 97 (List._∷_ 108 List.[]))))))))))))))))))))))))) (Syntax.ttcons Syntax.tnil (Syntax.ttcons
-              (Syntax.tcons (Syntax.tyInt Syntax.w64) Syntax.tnil) (Syntax.ttcons (Syntax.tcons (Syntax.tyInt Syntax.w64) Syntax.tnil) (Syntax.ttcons (Syntax.tcons (Syntax.tyInt Syntax.w64) Syntax.tnil) (Syntax.ttcons (Syntax.tcons (Syntax.tyInt Syntax.w64) Syntax.tnil) (Syntax.ttcons (Syntax.tcons (Syntax.tyInt Syntax.w64) Syntax.tnil) (Syntax.ttcons
-              (Syntax.tcons (Syntax.tyInt Syntax.w64) Syntax.tnil) (Syntax.ttcons (Syntax.tcons ty·18 Syntax.tnil) (Syntax.ttcons (Syntax.tcons ty·18 Syntax.tnil) (Syntax.ttcons (Syntax.tcons ty·18 Syntax.tnil) (Syntax.ttcons (Syntax.tcons ty·18 (Syntax.tcons ty·18 Syntax.tnil)) (Syntax.ttcons Syntax.tnil Syntax.ttnil))))))))))))) Syntax.tnil)
-              Syntax.ttnil))) (Local.room-whole 𝓤 H A W (Declared.row Reading.the-type) (Syntax.tyEnum (List._∷_ 114 (List._∷_ 101 (List._∷_ 97 (List._∷_ 100 (List._∷_ 105 (List._∷_ 110 (List._∷_ 103 (List._∷_ 58 (List._∷_ 58 (List._∷_ 114 (List._∷_ 101 (List._∷_ 112 (List._∷_ 108 (List._∷_ 105 (List._∷_ 101 (List._∷_ 115 (List._∷_ 58 (List._∷_ 58 (List._∷_
-              82 (List._∷_ 101 (List._∷_ 97 (List._∷_ 100 (List._∷_ 105 (List._∷_ 110 (List._∷_ 103 List.[]))))))))))))))))))))))))) (Syntax.ttcons Syntax.tnil (Syntax.ttcons (Syntax.tcons (Syntax.tyEnum (List._∷_ 114 (List._∷_ 101 (List._∷_ 97 (List._∷_ 100 (List._∷_ 105 (List._∷_ 110 (List._∷_ 103 (List._∷_ 58 (List._∷_ 58 (List._∷_ 114 (List._∷_ 101
-              (List._∷_ 112 (List._∷_ 108 (List._∷_ 105 (List._∷_ 101 (List._∷_ 115 (List._∷_ 58 (List._∷_ 58 (List._∷_ 82 (List._∷_ 101 (List._∷_ 102 (List._∷_ 117 (List._∷_ 115 (List._∷_ 97 (List._∷_ 108 List.[]))))))))))))))))))))))))) (Syntax.ttcons Syntax.tnil (Syntax.ttcons (Syntax.tcons (Syntax.tyInt Syntax.w64) Syntax.tnil) (Syntax.ttcons
-              (Syntax.tcons (Syntax.tyInt Syntax.w64) Syntax.tnil) (Syntax.ttcons (Syntax.tcons (Syntax.tyInt Syntax.w64) Syntax.tnil) (Syntax.ttcons (Syntax.tcons (Syntax.tyInt Syntax.w64) Syntax.tnil) (Syntax.ttcons (Syntax.tcons (Syntax.tyInt Syntax.w64) Syntax.tnil) (Syntax.ttcons (Syntax.tcons (Syntax.tyInt Syntax.w64) Syntax.tnil) (Syntax.ttcons
-              (Syntax.tcons ty·18 Syntax.tnil) (Syntax.ttcons (Syntax.tcons ty·18 Syntax.tnil) (Syntax.ttcons (Syntax.tcons ty·18 Syntax.tnil) (Syntax.ttcons (Syntax.tcons ty·18 (Syntax.tcons ty·18 Syntax.tnil)) (Syntax.ttcons Syntax.tnil Syntax.ttnil))))))))))))) Syntax.tnil) Syntax.ttnil))) Path'.refl)) d92
-
-          d94 : Typed.Typed 𝓤 H A 𝓣 E G78 b77 Δ0 (at94 bs)
-          d94 = Typed.s-seq 𝓤 H A W 𝓣 E G78 G79 b29 b76 Δ0 (Typed.both (s77 bs)) (at93 bs) (Plain.t-call-plain 𝓤 H A W 𝓣 0 ps·2 r·2 (claims· .4) (claims· .5) "dispatch::program::number_of" (known .2) E (λ pos β. β) G78 (record { pos = 13; st = List.[]; d = 0; at = λ x. x }, tt) 14 List.[] (Call.sub-id 𝓤 H A W (G78 .slots)) (
-            (
-              Yields.yields-copy 𝓤 H A W
-                  (λ ρ. Unit) (Declared.row Reading.the-type) Path'.refl (Copies.cEnum Reading.the-type Laws'.the-laws Laws'.the-copy .copy 𝓤 H A W) (Rows'.whole (Declared.row Reading.the-type)) (λ x. x) (λ x. x) (λ ρ told. Local.mem-whole 𝓤 H A W (Declared.row Reading.the-type) ρ) λ ρ told. Local.whole-mem 𝓤 H A W (Declared.row Reading.the-type) ρ,
-              Path'.refl,
-            ),
-            tt,
-          ) (Reads.room-gone 𝓤 H A (Syntax.tyInt Syntax.w64)) tt Path'.refl) d93
-
-          d95 : Typed.Typed 𝓤 H A 𝓣 E G77 b77 Δ0 (at95 bs)
-          d95 = Typed.g-pre 𝓤 H A W 𝓣 E G77 G78 b77 Δ0 (λ Ψ. Ψ) (at94 bs) (Lifetime.g-forget 𝓤 H A W E G77 10 Row.dead Path'.refl) d94
+              115 (List._∷_ 58 (List._∷_ 58 (List._∷_ 82 (List._∷_ 101 (List._∷_ 97 (List._∷_ 100 (List._∷_ 105 (List._∷_ 110 (List._∷_ 103 List.[]))))))))))))))))))))))))) (Syntax.ttcons Syntax.tnil (Syntax.ttcons (Syntax.tcons (Syntax.tyEnum (List._∷_ 114 (List._∷_ 101 (List._∷_ 97 (List._∷_ 100 (List._∷_ 105 (List._∷_ 110 (List._∷_ 103 (List._∷_ 58 (List._∷_
+              58 (List._∷_ 114 (List._∷_ 101 (List._∷_ 112 (List._∷_ 108 (List._∷_ 105 (List._∷_ 101 (List._∷_ 115 (List._∷_ 58 (List._∷_ 58 (List._∷_ 82 (List._∷_ 101 (List._∷_ 102 (List._∷_ 117 (List._∷_ 115 (List._∷_ 97 (List._∷_ 108 List.[]))))))))))))))))))))))))) (Syntax.ttcons Syntax.tnil (Syntax.ttcons (Syntax.tcons (Syntax.tyInt Syntax.w64) Syntax.tnil)
+              (Syntax.ttcons (Syntax.tcons (Syntax.tyInt Syntax.w64) Syntax.tnil) (Syntax.ttcons (Syntax.tcons (Syntax.tyInt Syntax.w64) Syntax.tnil) (Syntax.ttcons (Syntax.tcons (Syntax.tyInt Syntax.w64) Syntax.tnil) (Syntax.ttcons (Syntax.tcons (Syntax.tyInt Syntax.w64) Syntax.tnil) (Syntax.ttcons (Syntax.tcons (Syntax.tyInt Syntax.w64) Syntax.tnil)
+              (Syntax.ttcons (Syntax.tcons ty·18 Syntax.tnil) (Syntax.ttcons (Syntax.tcons ty·18 Syntax.tnil) (Syntax.ttcons (Syntax.tcons ty·18 Syntax.tnil) (Syntax.ttcons (Syntax.tcons ty·18 (Syntax.tcons ty·18 Syntax.tnil)) (Syntax.ttcons Syntax.tnil Syntax.ttnil))))))))))))) Syntax.tnil) Syntax.ttnil))) (Local.room-whole 𝓤 H A W (Declared.row
+              Reading.the-type) (Syntax.tyEnum (List._∷_ 114 (List._∷_ 101 (List._∷_ 97 (List._∷_ 100 (List._∷_ 105 (List._∷_ 110 (List._∷_ 103 (List._∷_ 58 (List._∷_ 58 (List._∷_ 114 (List._∷_ 101 (List._∷_ 112 (List._∷_ 108 (List._∷_ 105 (List._∷_ 101 (List._∷_ 115 (List._∷_ 58 (List._∷_ 58 (List._∷_ 82 (List._∷_ 101 (List._∷_ 97 (List._∷_ 100 (List._∷_ 105
+              (List._∷_ 110 (List._∷_ 103 List.[]))))))))))))))))))))))))) (Syntax.ttcons Syntax.tnil (Syntax.ttcons (Syntax.tcons (Syntax.tyEnum (List._∷_ 114 (List._∷_ 101 (List._∷_ 97 (List._∷_ 100 (List._∷_ 105 (List._∷_ 110 (List._∷_ 103 (List._∷_ 58 (List._∷_ 58 (List._∷_ 114 (List._∷_ 101 (List._∷_ 112 (List._∷_ 108 (List._∷_ 105 (List._∷_ 101 (List._∷_
+              115 (List._∷_ 58 (List._∷_ 58 (List._∷_ 82 (List._∷_ 101 (List._∷_ 102 (List._∷_ 117 (List._∷_ 115 (List._∷_ 97 (List._∷_ 108 List.[]))))))))))))))))))))))))) (Syntax.ttcons Syntax.tnil (Syntax.ttcons (Syntax.tcons (Syntax.tyInt Syntax.w64) Syntax.tnil) (Syntax.ttcons (Syntax.tcons (Syntax.tyInt Syntax.w64) Syntax.tnil) (Syntax.ttcons (Syntax.tcons
+              (Syntax.tyInt Syntax.w64) Syntax.tnil) (Syntax.ttcons (Syntax.tcons (Syntax.tyInt Syntax.w64) Syntax.tnil) (Syntax.ttcons (Syntax.tcons (Syntax.tyInt Syntax.w64) Syntax.tnil) (Syntax.ttcons (Syntax.tcons (Syntax.tyInt Syntax.w64) Syntax.tnil) (Syntax.ttcons (Syntax.tcons ty·18 Syntax.tnil) (Syntax.ttcons (Syntax.tcons ty·18 Syntax.tnil)
+              (Syntax.ttcons (Syntax.tcons ty·18 Syntax.tnil) (Syntax.ttcons (Syntax.tcons ty·18 (Syntax.tcons ty·18 Syntax.tnil)) (Syntax.ttcons Syntax.tnil Syntax.ttnil))))))))))))) Syntax.tnil) Syntax.ttnil))) Path'.refl)) (Typed.s-seq 𝓤 H A W 𝓣 E G80 G81 b30 b75 Δ0 (Typed.ask (s79 bs)) (at91 bs) (Scalar.t-op2 𝓤 H A W E 𝓣 G80 Syntax.ne (Scalar.oAt 14
+              (Syntax.tyInt Syntax.w64) (Row.valS (Row.sInt Syntax.w64))) (Scalar.oInt Syntax.w64 0) 34 (Rows'.sc-here Row.sBool) Syntax.tyBool (Row.valS Row.sBool) (Row.sBool .of) (Scalar.reads-sc 𝓤 H A W (Row.sInt Syntax.w64), Path'.refl) tt (Reads.room-gone 𝓤 H A Syntax.tyBool) (Scalar.holds-sc 𝓤 H A W Row.sBool) Path'.refl (λ u. Path'.refl) λ u. tt) d91)
 
           d96 : Typed.Typed 𝓤 H A 𝓣 E G76 b77 Δ0 (at96 bs)
-          d96 = Typed.g-pre 𝓤 H A W 𝓣 E G76 G77 b77 Δ0 (Typed.both (s75 bs)) (at95 bs) (Borrow.g-back-arr 𝓤 H A W E Rec.rt G76 33 12 10 2048 ty·6 (λ x. x) (λ x. x) (Reads.as-is 𝓤 H A (Mut.msleft Rec.rt ty·6)) (Reads.as-is 𝓤 H A (Rows.arr-owed Rec.rt 2048 10)) Path'.refl) d95
-
-          d97 : Typed.Typed 𝓤 H A 𝓣 E G75 b77 Δ0 (at97 bs)
-          d97 = Typed.g-pre 𝓤 H A W 𝓣 E G75 G76 b77 Δ0 (λ Ψ. Ψ) (at96 bs) (Lifetime.g-end 𝓤 H A W E G75 10 Path'.refl) d96
-
-          d98 : Typed.Typed 𝓤 H A 𝓣 E G74 b77 Δ0 (at98 bs)
-          d98 = Typed.g-pre 𝓤 H A W 𝓣 E G74 G75 b77 Δ0 (λ Ψ. Ψ) (at97 bs) (Lifetime.g-forget 𝓤 H A W E G74 9 Row.dead Path'.refl) d97
-
-          d99 : Typed.Typed 𝓤 H A 𝓣 E G73 b77 Δ0 (at99 bs)
-          d99 = Typed.g-pre 𝓤 H A W 𝓣 E G73 G74 b77 Δ0 (Typed.both (s72 bs)) (at98 bs) (Borrow.g-back-arr 𝓤 H A W E (Referent.rtF (Referent.fInt Syntax.w8)) G73 31 11 9 32 ty·8 (λ x. x) (λ x. x) (Reads.as-is 𝓤 H A (Mut.msleft (Referent.rtF (Referent.fInt Syntax.w8)) ty·8)) (Reads.as-is 𝓤 H A (Rows.arr-owed (Referent.rtF (Referent.fInt Syntax.w8)) 32 9))
-              Path'.refl) d98
-
-          d100 : Typed.Typed 𝓤 H A 𝓣 E G72 b77 Δ0 (at100 bs)
-          d100 = Typed.g-pre 𝓤 H A W 𝓣 E G72 G73 b77 Δ0 (λ Ψ. Ψ) (at99 bs) (Lifetime.g-end 𝓤 H A W E G72 9 Path'.refl) d99
-
-          d101 : Typed.Typed 𝓤 H A 𝓣 E G71 b77 Δ0 (at101 bs)
-          d101 = Typed.g-pre 𝓤 H A W 𝓣 E G71 G72 b77 Δ0 (λ Ψ. Ψ) (at100 bs) (Lifetime.g-forget 𝓤 H A W E G71 8 Row.dead Path'.refl) d100
+          d96 = Typed.g-pre 𝓤 H A W 𝓣 E G76 G77 b77 Δ0 (Typed.both (s75 bs)) (at95 bs) (Borrow.g-back-arr 𝓤 H A W E Rec.rt G76 33 12 10 2048 ty·6 (λ x. x) (λ x. x) (Reads.as-is 𝓤 H A (Mut.msleft Rec.rt ty·6)) (Reads.as-is 𝓤 H A (Rows.arr-owed Rec.rt 2048 10)) Path'.refl) (Typed.g-pre 𝓤 H A W 𝓣 E G77 G78 b77 Δ0 (λ Ψ. Ψ) (at94 bs) (Lifetime.g-forget 𝓤 H A W E
+              G77 10 Row.dead Path'.refl) (Typed.s-seq 𝓤 H A W 𝓣 E G78 G79 b29 b76 Δ0 (Typed.both (s77 bs)) (at93 bs) (Plain.t-call-plain 𝓤 H A W 𝓣 0 ps·2 r·2 (claims· .4) (claims· .5) "dispatch::program::number_of" (known .2) E (λ pos β. β) G78 (record { pos = 13; st = List.[]; d = 0; at = λ x. x }, tt) 14 List.[] (Call.sub-id 𝓤 H A W (G78 .slots))
+              ((Yields.yields-copy 𝓤 H A W (λ ρ. Unit) (Declared.row Reading.the-type) Path'.refl (Copies.cEnum Reading.the-type Laws'.the-laws Laws'.the-copy .copy 𝓤 H A W) (Rows'.whole (Declared.row Reading.the-type)) (λ x. x) (λ x. x) (λ ρ told. Local.mem-whole 𝓤 H A W (Declared.row Reading.the-type) ρ) λ ρ told. Local.whole-mem 𝓤 H A W (Declared.row Reading.the-type) ρ, Path'.refl), tt)
+              (Reads.room-gone 𝓤 H A (Syntax.tyInt Syntax.w64)) tt Path'.refl) d93))
 
           d102 : Typed.Typed 𝓤 H A 𝓣 E G70 b77 Δ0 (at102 bs)
-          d102 = Typed.g-pre 𝓤 H A W 𝓣 E G70 G71 b77 Δ0 (Typed.both (s69 bs)) (at101 bs) (Borrow.g-back-arr 𝓤 H A W E (Referent.rtF (Referent.fInt Syntax.w16)) G70 29 10 8 32 ty·10 (λ x. x) (λ x. x) (Reads.as-is 𝓤 H A (Mut.msleft (Referent.rtF (Referent.fInt Syntax.w16)) ty·10))
-              (Reads.as-is 𝓤 H A (Rows.arr-owed (Referent.rtF (Referent.fInt Syntax.w16)) 32 8)) Path'.refl) d101
-
-          d103 : Typed.Typed 𝓤 H A 𝓣 E G69 b77 Δ0 (at103 bs)
-          d103 = Typed.g-pre 𝓤 H A W 𝓣 E G69 G70 b77 Δ0 (λ Ψ. Ψ) (at102 bs) (Lifetime.g-end 𝓤 H A W E G69 8 Path'.refl) d102
-
-          d104 : Typed.Typed 𝓤 H A 𝓣 E G68 b77 Δ0 (at104 bs)
-          d104 = Typed.g-pre 𝓤 H A W 𝓣 E G68 G69 b77 Δ0 (λ Ψ. Ψ) (at103 bs) (Lifetime.g-forget 𝓤 H A W E G68 7 Row.dead Path'.refl) d103
-
-          d105 : Typed.Typed 𝓤 H A 𝓣 E G67 b77 Δ0 (at105 bs)
-          d105 = Typed.g-pre 𝓤 H A W 𝓣 E G67 G68 b77 Δ0 (Typed.both (s66 bs)) (at104 bs) (Borrow.g-back-arr 𝓤 H A W E (Referent.rtF (Referent.fInt Syntax.w32)) G67 27 9 7 1024 ty·11 (λ x. x) (λ x. x) (Reads.as-is 𝓤 H A (Mut.msleft (Referent.rtF (Referent.fInt Syntax.w32)) ty·11))
-              (Reads.as-is 𝓤 H A (Rows.arr-owed (Referent.rtF (Referent.fInt Syntax.w32)) 1024 7)) Path'.refl) d104
-
-          d106 : Typed.Typed 𝓤 H A 𝓣 E G66 b77 Δ0 (at106 bs)
-          d106 = Typed.g-pre 𝓤 H A W 𝓣 E G66 G67 b77 Δ0 (λ Ψ. Ψ) (at105 bs) (Lifetime.g-end 𝓤 H A W E G66 7 Path'.refl) d105
-
-          d107 : Typed.Typed 𝓤 H A 𝓣 E G65 b77 Δ0 (at107 bs)
-          d107 = Typed.g-pre 𝓤 H A W 𝓣 E G65 G66 b77 Δ0 (λ Ψ. Ψ) (at106 bs) (Lifetime.g-forget 𝓤 H A W E G65 6 Row.dead Path'.refl) d106
+          d102 = Typed.g-pre 𝓤 H A W 𝓣 E G70 G71 b77 Δ0 (Typed.both (s69 bs)) (at101 bs) (Borrow.g-back-arr 𝓤 H A W E (Referent.rtF (Referent.fInt Syntax.w16)) G70 29 10 8 32 ty·10 (λ x. x) (λ x. x) (Reads.as-is 𝓤 H A (Mut.msleft (Referent.rtF (Referent.fInt Syntax.w16)) ty·10)) (Reads.as-is 𝓤 H A (Rows.arr-owed (Referent.rtF (Referent.fInt Syntax.w16)) 32
+              8)) Path'.refl) (Typed.g-pre 𝓤 H A W 𝓣 E G71 G72 b77 Δ0 (λ Ψ. Ψ) (at100 bs) (Lifetime.g-forget 𝓤 H A W E G71 8 Row.dead Path'.refl) (Typed.g-pre 𝓤 H A W 𝓣 E G72 G73 b77 Δ0 (λ Ψ. Ψ) (at99 bs) (Lifetime.g-end 𝓤 H A W E G72 9 Path'.refl) (Typed.g-pre 𝓤 H A W 𝓣 E G73 G74 b77 Δ0 (Typed.both (s72 bs)) (at98 bs) (Borrow.g-back-arr 𝓤 H A W E (Referent.rtF
+              (Referent.fInt Syntax.w8)) G73 31 11 9 32 ty·8 (λ x. x) (λ x. x) (Reads.as-is 𝓤 H A (Mut.msleft (Referent.rtF (Referent.fInt Syntax.w8)) ty·8)) (Reads.as-is 𝓤 H A (Rows.arr-owed (Referent.rtF (Referent.fInt Syntax.w8)) 32 9)) Path'.refl) (Typed.g-pre 𝓤 H A W 𝓣 E G74 G75 b77 Δ0 (λ Ψ. Ψ) (at97 bs) (Lifetime.g-forget 𝓤 H A W E G74 9 Row.dead
+              Path'.refl) (Typed.g-pre 𝓤 H A W 𝓣 E G75 G76 b77 Δ0 (λ Ψ. Ψ) (at96 bs) (Lifetime.g-end 𝓤 H A W E G75 10 Path'.refl) d96)))))
 
           d108 : Typed.Typed 𝓤 H A 𝓣 E G64 b77 Δ0 (at108 bs)
-          d108 = Typed.g-pre 𝓤 H A W 𝓣 E G64 G65 b77 Δ0 (Typed.both (s63 bs)) (at107 bs) (Borrow.g-back-arr 𝓤 H A W E (Referent.rtF (Referent.fInt Syntax.w16)) G64 25 8 6 1024 ty·10 (λ x. x) (λ x. x) (Reads.as-is 𝓤 H A (Mut.msleft (Referent.rtF (Referent.fInt Syntax.w16)) ty·10))
-              (Reads.as-is 𝓤 H A (Rows.arr-owed (Referent.rtF (Referent.fInt Syntax.w16)) 1024 6)) Path'.refl) d107
-
-          d109 : Typed.Typed 𝓤 H A 𝓣 E G63 b77 Δ0 (at109 bs)
-          d109 = Typed.g-pre 𝓤 H A W 𝓣 E G63 G64 b77 Δ0 (λ Ψ. Ψ) (at108 bs) (Lifetime.g-end 𝓤 H A W E G63 6 Path'.refl) d108
-
-          d110 : Typed.Typed 𝓤 H A 𝓣 E G62 b77 Δ0 (at110 bs)
-          d110 = Typed.g-pre 𝓤 H A W 𝓣 E G62 G63 b77 Δ0 (λ Ψ. Ψ) (at109 bs) (Lifetime.g-forget 𝓤 H A W E G62 5 Row.dead Path'.refl) d109
-
-          d111 : Typed.Typed 𝓤 H A 𝓣 E G61 b77 Δ0 (at111 bs)
-          d111 = Typed.g-pre 𝓤 H A W 𝓣 E G61 G62 b77 Δ0 (Typed.both (s60 bs)) (at110 bs) (Borrow.g-back-arr 𝓤 H A W E (Referent.rtF (Referent.fInt Syntax.w16)) G61 23 7 5 32 ty·10 (λ x. x) (λ x. x) (Reads.as-is 𝓤 H A (Mut.msleft (Referent.rtF (Referent.fInt Syntax.w16)) ty·10))
-              (Reads.as-is 𝓤 H A (Rows.arr-owed (Referent.rtF (Referent.fInt Syntax.w16)) 32 5)) Path'.refl) d110
-
-          d112 : Typed.Typed 𝓤 H A 𝓣 E G60 b77 Δ0 (at112 bs)
-          d112 = Typed.g-pre 𝓤 H A W 𝓣 E G60 G61 b77 Δ0 (λ Ψ. Ψ) (at111 bs) (Lifetime.g-end 𝓤 H A W E G60 5 Path'.refl) d111
-
-          d113 : Typed.Typed 𝓤 H A 𝓣 E G59 b77 Δ0 (at113 bs)
-          d113 = Typed.g-pre 𝓤 H A W 𝓣 E G59 G60 b77 Δ0 (λ Ψ. Ψ) (at112 bs) (Lifetime.g-forget 𝓤 H A W E G59 4 Row.dead Path'.refl) d112
+          d108 = Typed.g-pre 𝓤 H A W 𝓣 E G64 G65 b77 Δ0 (Typed.both (s63 bs)) (at107 bs) (Borrow.g-back-arr 𝓤 H A W E (Referent.rtF (Referent.fInt Syntax.w16)) G64 25 8 6 1024 ty·10 (λ x. x) (λ x. x) (Reads.as-is 𝓤 H A (Mut.msleft (Referent.rtF (Referent.fInt Syntax.w16)) ty·10)) (Reads.as-is 𝓤 H A (Rows.arr-owed (Referent.rtF (Referent.fInt Syntax.w16))
+              1024 6)) Path'.refl) (Typed.g-pre 𝓤 H A W 𝓣 E G65 G66 b77 Δ0 (λ Ψ. Ψ) (at106 bs) (Lifetime.g-forget 𝓤 H A W E G65 6 Row.dead Path'.refl) (Typed.g-pre 𝓤 H A W 𝓣 E G66 G67 b77 Δ0 (λ Ψ. Ψ) (at105 bs) (Lifetime.g-end 𝓤 H A W E G66 7 Path'.refl) (Typed.g-pre 𝓤 H A W 𝓣 E G67 G68 b77 Δ0 (Typed.both (s66 bs)) (at104 bs) (Borrow.g-back-arr 𝓤 H A W E
+              (Referent.rtF (Referent.fInt Syntax.w32)) G67 27 9 7 1024 ty·11 (λ x. x) (λ x. x) (Reads.as-is 𝓤 H A (Mut.msleft (Referent.rtF (Referent.fInt Syntax.w32)) ty·11)) (Reads.as-is 𝓤 H A (Rows.arr-owed (Referent.rtF (Referent.fInt Syntax.w32)) 1024 7)) Path'.refl) (Typed.g-pre 𝓤 H A W 𝓣 E G68 G69 b77 Δ0 (λ Ψ. Ψ) (at103 bs) (Lifetime.g-forget 𝓤 H A W E
+              G68 7 Row.dead Path'.refl) (Typed.g-pre 𝓤 H A W 𝓣 E G69 G70 b77 Δ0 (λ Ψ. Ψ) (at102 bs) (Lifetime.g-end 𝓤 H A W E G69 8 Path'.refl) d102)))))
 
           d114 : Typed.Typed 𝓤 H A 𝓣 E G58 b77 Δ0 (at114 bs)
           d114 = Typed.g-pre 𝓤 H A W 𝓣 E G58 G59 b77 Δ0 (Typed.both (s57 bs)) (at113 bs) (Borrow.g-back-arr 𝓤 H A W E (Referent.rtF (Referent.fInt Syntax.w8)) G58 21 6 4 768 ty·8 (λ x. x) (λ x. x) (Reads.as-is 𝓤 H A (Mut.msleft (Referent.rtF (Referent.fInt Syntax.w8)) ty·8)) (Reads.as-is 𝓤 H A (Rows.arr-owed (Referent.rtF (Referent.fInt Syntax.w8)) 768 4))
-              Path'.refl) d113
-
-          d115 : Typed.Typed 𝓤 H A 𝓣 E G57 b77 Δ0 (at115 bs)
-          d115 = Typed.g-pre 𝓤 H A W 𝓣 E G57 G58 b77 Δ0 (λ Ψ. Ψ) (at114 bs) (Lifetime.g-end 𝓤 H A W E G57 4 Path'.refl) d114
-
-          d116 : Typed.Typed 𝓤 H A 𝓣 E G56 b77 Δ0 (at116 bs)
-          d116 = Typed.g-pre 𝓤 H A W 𝓣 E G56 G57 b77 Δ0 (λ Ψ. Ψ) (at115 bs) (Lifetime.g-forget 𝓤 H A W E G56 3 Row.dead Path'.refl) d115
-
-          d117 : Typed.Typed 𝓤 H A 𝓣 E G55 b77 Δ0 (at117 bs)
-          d117 = Typed.g-pre 𝓤 H A W 𝓣 E G55 G56 b77 Δ0 (Typed.both (s54 bs)) (at116 bs) (Borrow.g-back-arr 𝓤 H A W E (Referent.rtF (Referent.fInt Syntax.w16)) G55 19 5 3 1 ty·10 (λ x. x) (λ x. x) (Reads.as-is 𝓤 H A (Mut.msleft (Referent.rtF (Referent.fInt Syntax.w16)) ty·10)) (Reads.as-is 𝓤 H A (Rows.arr-owed (Referent.rtF (Referent.fInt Syntax.w16)) 1 3))
-              Path'.refl) d116
-
-          d118 : Typed.Typed 𝓤 H A 𝓣 E G54 b77 Δ0 (at118 bs)
-          d118 = Typed.g-pre 𝓤 H A W 𝓣 E G54 G55 b77 Δ0 (λ Ψ. Ψ) (at117 bs) (Lifetime.g-end 𝓤 H A W E G54 3 Path'.refl) d117
-
-          d119 : Typed.Typed 𝓤 H A 𝓣 E G53 b77 Δ0 (at119 bs)
-          d119 = Typed.g-pre 𝓤 H A W 𝓣 E G53 G54 b77 Δ0 (λ Ψ. Ψ) (at118 bs) (Lifetime.g-forget 𝓤 H A W E G53 2 Row.dead Path'.refl) d118
+              Path'.refl) (Typed.g-pre 𝓤 H A W 𝓣 E G59 G60 b77 Δ0 (λ Ψ. Ψ) (at112 bs) (Lifetime.g-forget 𝓤 H A W E G59 4 Row.dead Path'.refl) (Typed.g-pre 𝓤 H A W 𝓣 E G60 G61 b77 Δ0 (λ Ψ. Ψ) (at111 bs) (Lifetime.g-end 𝓤 H A W E G60 5 Path'.refl) (Typed.g-pre 𝓤 H A W 𝓣 E G61 G62 b77 Δ0 (Typed.both (s60 bs)) (at110 bs) (Borrow.g-back-arr 𝓤 H A W E (Referent.rtF
+              (Referent.fInt Syntax.w16)) G61 23 7 5 32 ty·10 (λ x. x) (λ x. x) (Reads.as-is 𝓤 H A (Mut.msleft (Referent.rtF (Referent.fInt Syntax.w16)) ty·10)) (Reads.as-is 𝓤 H A (Rows.arr-owed (Referent.rtF (Referent.fInt Syntax.w16)) 32 5)) Path'.refl) (Typed.g-pre 𝓤 H A W 𝓣 E G62 G63 b77 Δ0 (λ Ψ. Ψ) (at109 bs) (Lifetime.g-forget 𝓤 H A W E G62 5 Row.dead
+              Path'.refl) (Typed.g-pre 𝓤 H A W 𝓣 E G63 G64 b77 Δ0 (λ Ψ. Ψ) (at108 bs) (Lifetime.g-end 𝓤 H A W E G63 6 Path'.refl) d108)))))
 
           d120 : Typed.Typed 𝓤 H A 𝓣 E G52 b77 Δ0 (at120 bs)
           d120 = Typed.g-pre 𝓤 H A W 𝓣 E G52 G53 b77 Δ0 (Typed.both (s51 bs)) (at119 bs) (Borrow.g-back-arr 𝓤 H A W E (Referent.rtF (Referent.fInt Syntax.w16)) G52 17 4 2 1 ty·10 (λ x. x) (λ x. x) (Reads.as-is 𝓤 H A (Mut.msleft (Referent.rtF (Referent.fInt Syntax.w16)) ty·10)) (Reads.as-is 𝓤 H A (Rows.arr-owed (Referent.rtF (Referent.fInt Syntax.w16)) 1 2))
-              Path'.refl) d119
-
-          d121 : Typed.Typed 𝓤 H A 𝓣 E G51 b77 Δ0 (at121 bs)
-          d121 = Typed.g-pre 𝓤 H A W 𝓣 E G51 G52 b77 Δ0 (λ Ψ. Ψ) (at120 bs) (Lifetime.g-end 𝓤 H A W E G51 2 Path'.refl) d120
+              Path'.refl) (Typed.g-pre 𝓤 H A W 𝓣 E G53 G54 b77 Δ0 (λ Ψ. Ψ) (at118 bs) (Lifetime.g-forget 𝓤 H A W E G53 2 Row.dead Path'.refl) (Typed.g-pre 𝓤 H A W 𝓣 E G54 G55 b77 Δ0 (λ Ψ. Ψ) (at117 bs) (Lifetime.g-end 𝓤 H A W E G54 3 Path'.refl) (Typed.g-pre 𝓤 H A W 𝓣 E G55 G56 b77 Δ0 (Typed.both (s54 bs)) (at116 bs) (Borrow.g-back-arr 𝓤 H A W E (Referent.rtF
+              (Referent.fInt Syntax.w16)) G55 19 5 3 1 ty·10 (λ x. x) (λ x. x) (Reads.as-is 𝓤 H A (Mut.msleft (Referent.rtF (Referent.fInt Syntax.w16)) ty·10)) (Reads.as-is 𝓤 H A (Rows.arr-owed (Referent.rtF (Referent.fInt Syntax.w16)) 1 3)) Path'.refl) (Typed.g-pre 𝓤 H A W 𝓣 E G56 G57 b77 Δ0 (λ Ψ. Ψ) (at115 bs) (Lifetime.g-forget 𝓤 H A W E G56 3 Row.dead
+              Path'.refl) (Typed.g-pre 𝓤 H A W 𝓣 E G57 G58 b77 Δ0 (λ Ψ. Ψ) (at114 bs) (Lifetime.g-end 𝓤 H A W E G57 4 Path'.refl) d114)))))
 
           d122 : Typed.Typed 𝓤 H A 𝓣 E G50 b78 Δ0 (at122 bs)
-          d122 = Typed.s-seq 𝓤 H A W 𝓣 E G50 G51 b28 b77 Δ0 (Typed.both (s49 bs)) (at121 bs) (Plain.t-call-plain 𝓤 H A W 𝓣 10 ps·1 r·1 (claims· .2) (claims· .3) "conductor::calls::read_plan" (known .1) E (λ pos β. β) G50 (
-            record { pos = 1; ty = Syntax.tyRef (Syntax.named 0) Syntax.imm (Syntax.tyInt Syntax.w8); ref = λ x. x },
-            (
-              record {
-                pos = 17;
-                ty = Syntax.tyRef Syntax.erased Syntax.mut (Syntax.tyInt Syntax.w16);
-                ref = λ x. x;
-              },
-              (
-                record { pos = 19; ty = Syntax.tyRef Syntax.erased Syntax.mut (Syntax.tyInt Syntax.w16); ref = λ x. x },
-                (
-                  record { pos = 21; ty = Syntax.tyRef Syntax.erased Syntax.mut (Syntax.tyInt Syntax.w8); ref = λ x. x },
-                  (
-                    record {
-                      pos = 23;
-                      ty = Syntax.tyRef Syntax.erased Syntax.mut (Syntax.tyInt Syntax.w16);
-                      ref = λ x. x;
-                    },
-                    (
-                      record { pos = 25; ty = Syntax.tyRef Syntax.erased Syntax.mut (Syntax.tyInt Syntax.w16); ref = λ x. x },
-                      (
-                        record { pos = 27; ty = Syntax.tyRef Syntax.erased Syntax.mut (Syntax.tyInt Syntax.w32); ref = λ x. x },
-                        (
-                          record {
-                            pos = 29;
-                            ty = Syntax.tyRef
-                                Syntax.erased Syntax.mut (Syntax.tyInt Syntax.w16);
-                            ref = λ x. x;
-                          },
-                          (record { pos = 31; ty = Syntax.tyRef Syntax.erased Syntax.mut (Syntax.tyInt Syntax.w8); ref = λ x. x }, (record { pos = 33; ty = Syntax.tyRef Syntax.erased Syntax.mut Rec.behind; ref = λ x. x }, tt)),
-                        ),
-                      ),
-                    ),
-                  ),
-                ),
-              ),
-            ),
-          ) 13 (List._∷_ 0 (List._∷_ 2 (List._∷_ 3
-              (List._∷_ 4 (List._∷_ 5 (List._∷_ 6 (List._∷_ 7 (List._∷_ 8 (List._∷_ 9 (List._∷_ 10 List.[])))))))))) (Call.sub-id 𝓤 H A W (G50 .slots)) (
-                ShrSlice.spares-sslice 𝓤 H A W (Referent.rtF (Referent.fInt Syntax.w8)) ty·14 0,
-                Shared.reads-sslice 𝓤 H A W (Referent.rtF (Referent.fInt Syntax.w8)) ty·14 0,
-                Path'.refl,
-                (
-                  Reads.as-is 𝓤 H A (Mut.mslice
-                      (Referent.rtF (Referent.fInt Syntax.w16)) ty·10 2),
-                  Mut.reads-mslice 𝓤 H A W (Referent.rtF (Referent.fInt Syntax.w16)) ty·10 2,
-                  Path'.refl,
-                  (
-                    Reads.as-is 𝓤 H A (Mut.mslice (Referent.rtF (Referent.fInt Syntax.w16)) ty·10 3),
-                    Mut.reads-mslice 𝓤 H A W (Referent.rtF (Referent.fInt Syntax.w16)) ty·10 3,
-                    Path'.refl,
-                    (
-                      Reads.as-is 𝓤 H A (Mut.mslice
-                          (Referent.rtF (Referent.fInt Syntax.w8)) ty·8 4),
-                      Mut.reads-mslice 𝓤 H A W (Referent.rtF (Referent.fInt Syntax.w8)) ty·8 4,
-                      Path'.refl,
-                      (
-                        Reads.as-is 𝓤 H A (Mut.mslice (Referent.rtF (Referent.fInt Syntax.w16)) ty·10 5),
-                        Mut.reads-mslice 𝓤 H A W (Referent.rtF (Referent.fInt Syntax.w16)) ty·10 5,
-                        Path'.refl,
-                        (
-                          Reads.as-is 𝓤 H A (Mut.mslice
-                              (Referent.rtF (Referent.fInt Syntax.w16)) ty·10 6),
-                          Mut.reads-mslice 𝓤 H A W (Referent.rtF (Referent.fInt Syntax.w16)) ty·10 6,
-                          Path'.refl,
-                          (
-                            Reads.as-is 𝓤 H A (Mut.mslice (Referent.rtF (Referent.fInt Syntax.w32)) ty·11 7),
-                            Mut.reads-mslice 𝓤 H A W (Referent.rtF (Referent.fInt Syntax.w32)) ty·11 7,
-                            Path'.refl,
-                            (
-                              Reads.as-is 𝓤 H A (Mut.mslice
-                                  (Referent.rtF (Referent.fInt Syntax.w16)) ty·10 8),
-                              Mut.reads-mslice 𝓤 H A W (Referent.rtF (Referent.fInt Syntax.w16)) ty·10 8,
-                              Path'.refl,
-                              (
-                                Reads.as-is 𝓤 H A (Mut.mslice (Referent.rtF (Referent.fInt Syntax.w8)) ty·8 9),
-                                Mut.reads-mslice 𝓤 H A W (Referent.rtF (Referent.fInt Syntax.w8)) ty·8 9,
-                                Path'.refl,
-                                (
-                                  Reads.as-is 𝓤 H A (Mut.mslice Rec.rt
-                                      ty·6 10),
-                                  Mut.reads-mslice 𝓤 H A W Rec.rt ty·6 10,
-                                  Path'.refl,
-                                  tt,
-                                ),
-                              ),
-                            ),
-                          ),
-                        ),
-                      ),
-                    ),
-                  ),
-                ),
-              ) (Reads.room-gone 𝓤 H A (Syntax.tyEnum (List._∷_ 114 (List._∷_ 101 (List._∷_ 97 (List._∷_ 100 (List._∷_ 105 (List._∷_ 110 (List._∷_ 103 (List._∷_ 58 (List._∷_ 58 (List._∷_ 114 (List._∷_ 101 (List._∷_ 112 (List._∷_ 108 (List._∷_ 105 (List._∷_ 101
-              (List._∷_ 115 (List._∷_ 58 (List._∷_ 58 (List._∷_ 82 (List._∷_ 101 (List._∷_ 97 (List._∷_ 100 (List._∷_ 105 (List._∷_ 110 (List._∷_ 103 List.[]))))))))))))))))))))))))) (Syntax.ttcons Syntax.tnil (Syntax.ttcons (Syntax.tcons (Syntax.tyEnum (List._∷_ 114 (List._∷_ 101 (List._∷_ 97 (List._∷_ 100 (List._∷_ 105 (List._∷_ 110 (List._∷_ 103 (List._∷_
-              58 (List._∷_ 58 (List._∷_ 114 (List._∷_ 101 (List._∷_ 112 (List._∷_ 108 (List._∷_ 105 (List._∷_ 101 (List._∷_ 115 (List._∷_ 58 (List._∷_ 58 (List._∷_ 82 (List._∷_ 101 (List._∷_ 102 (List._∷_ 117 (List._∷_ 115 (List._∷_ 97 (List._∷_ 108 List.[]))))))))))))))))))))))))) (Syntax.ttcons Syntax.tnil (Syntax.ttcons
-              (Syntax.tcons (Syntax.tyInt Syntax.w64) Syntax.tnil) (Syntax.ttcons (Syntax.tcons (Syntax.tyInt Syntax.w64) Syntax.tnil) (Syntax.ttcons (Syntax.tcons (Syntax.tyInt Syntax.w64) Syntax.tnil) (Syntax.ttcons (Syntax.tcons (Syntax.tyInt Syntax.w64) Syntax.tnil) (Syntax.ttcons (Syntax.tcons (Syntax.tyInt Syntax.w64) Syntax.tnil) (Syntax.ttcons
-              (Syntax.tcons (Syntax.tyInt Syntax.w64) Syntax.tnil) (Syntax.ttcons (Syntax.tcons ty·18 Syntax.tnil) (Syntax.ttcons (Syntax.tcons ty·18 Syntax.tnil) (Syntax.ttcons (Syntax.tcons ty·18 Syntax.tnil) (Syntax.ttcons (Syntax.tcons ty·18 (Syntax.tcons ty·18 Syntax.tnil)) (Syntax.ttcons Syntax.tnil Syntax.ttnil))))))))))))) Syntax.tnil)
-              Syntax.ttnil)))) (tt, (tt, (tt, (tt, (tt, (tt, (tt, (tt, (tt, (tt, tt)))))))))) Path'.refl) d121
-
-          d123 : Typed.Typed 𝓤 H A 𝓣 E G49 b79 Δ0 (at123 bs)
-          d123 = Typed.s-seq 𝓤 H A W 𝓣 E G49 G50 b27 b78 Δ0 (Typed.ask (s48 bs)) (at122 bs) (Relend.t-sl-aggregate 𝓤 H A W E Rec.rt 𝓣 (Relend.asMut Rec.rt) G49 32 33 10 ty·16 ty·6 (λ x. x) (Scalar.oBig Syntax.w64 2048) (Reads.as-is 𝓤 H A (Relend.msptr Rec.rt ty·16 10)) (Reads.room-gone 𝓤 H A (Syntax.tyStruct (List._∷_ 38 (List._∷_ 91 (List._∷_ 93 List.[])))
-              (Syntax.tcons ty·6 (Syntax.tcons (Syntax.tyInt Syntax.w64) Syntax.tnil)))) record { lower = record { fits = Dec'.lit< tt } } Path'.refl Path'.refl λ b o k. tt) d122
-
-          d124 : Typed.Typed 𝓤 H A 𝓣 E G48 b80 Δ0 (at124 bs)
-          d124 = Typed.s-seq 𝓤 H A W 𝓣 E G48 G49 b26 b79 Δ0 (Typed.give (s47 bs)) (at123 bs) (Borrow.t-arr-borrow 𝓤 H A W E 𝓣 Rec.rt G48 12 32 2048 10 ty·16 (λ x. x) (Reads.as-is 𝓤 H A (Rows.arrF Rec.rt 2048 0)) (Reads.room-gone 𝓤 H A ty·16) Path'.refl (λ b o. tt) (Dec'.lit< tt, Dec'.lit< tt)) d123
+          d122 = Typed.s-seq 𝓤 H A W 𝓣 E G50 G51 b28 b77 Δ0 (Typed.both (s49 bs)) (at121 bs) (Plain.t-call-plain 𝓤 H A W 𝓣 10 ps·1 r·1 (claims· .2) (claims· .3) "conductor::calls::read_plan" (known .1) E (λ pos β. β) G50 args·0 13 (List._∷_ 0 (List._∷_ 2 (List._∷_ 3 (List._∷_ 4 (List._∷_ 5 (List._∷_ 6 (List._∷_ 7 (List._∷_ 8 (List._∷_ 9 (List._∷_ 10
+              List.[])))))))))) (Call.sub-id 𝓤 H A W (G50 .slots))
+              (ShrSlice.spares-sslice 𝓤 H A W (Referent.rtF (Referent.fInt Syntax.w8)) ty·14 0, Shared.reads-sslice 𝓤 H A W (Referent.rtF (Referent.fInt Syntax.w8)) ty·14 0, Path'.refl, (Reads.as-is 𝓤 H A (Mut.mslice (Referent.rtF (Referent.fInt Syntax.w16)) ty·10 2), Mut.reads-mslice 𝓤 H A W (Referent.rtF (Referent.fInt Syntax.w16)) ty·10 2, Path'.refl, (Reads.as-is 𝓤 H A (Mut.mslice (Referent.rtF (Referent.fInt Syntax.w16)) ty·10 3), Mut.reads-mslice 𝓤 H A W (Referent.rtF (Referent.fInt Syntax.w16)) ty·10 3, Path'.refl, (Reads.as-is 𝓤 H A (Mut.mslice (Referent.rtF (Referent.fInt Syntax.w8)) ty·8 4), Mut.reads-mslice 𝓤 H A W (Referent.rtF (Referent.fInt Syntax.w8)) ty·8 4, Path'.refl, (Reads.as-is 𝓤 H A (Mut.mslice (Referent.rtF (Referent.fInt Syntax.w16)) ty·10 5), Mut.reads-mslice 𝓤 H A W (Referent.rtF (Referent.fInt Syntax.w16)) ty·10 5, Path'.refl, (Reads.as-is 𝓤 H A (Mut.mslice (Referent.rtF (Referent.fInt Syntax.w16)) ty·10 6), Mut.reads-mslice 𝓤 H A W (Referent.rtF (Referent.fInt Syntax.w16)) ty·10 6, Path'.refl, (Reads.as-is 𝓤 H A (Mut.mslice (Referent.rtF (Referent.fInt Syntax.w32)) ty·11 7), Mut.reads-mslice 𝓤 H A W (Referent.rtF (Referent.fInt Syntax.w32)) ty·11 7, Path'.refl, (Reads.as-is 𝓤 H A (Mut.mslice (Referent.rtF (Referent.fInt Syntax.w16)) ty·10 8), Mut.reads-mslice 𝓤 H A W (Referent.rtF (Referent.fInt Syntax.w16)) ty·10 8, Path'.refl, (Reads.as-is 𝓤 H A (Mut.mslice (Referent.rtF (Referent.fInt Syntax.w8)) ty·8 9), Mut.reads-mslice 𝓤 H A W (Referent.rtF (Referent.fInt Syntax.w8)) ty·8 9, Path'.refl, (Reads.as-is 𝓤 H A (Mut.mslice Rec.rt ty·6 10), Mut.reads-mslice 𝓤 H A W Rec.rt ty·6 10, Path'.refl, tt))))))))))
+              (Reads.room-gone 𝓤 H A (Syntax.tyEnum (List._∷_ 114 (List._∷_ 101 (List._∷_ 97 (List._∷_ 100 (List._∷_ 105 (List._∷_ 110 (List._∷_ 103 (List._∷_ 58 (List._∷_ 58 (List._∷_ 114 (List._∷_ 101 (List._∷_ 112 (List._∷_ 108 (List._∷_ 105 (List._∷_ 101 (List._∷_ 115 (List._∷_ 58 (List._∷_ 58 (List._∷_ 82 (List._∷_ 101 (List._∷_ 97 (List._∷_ 100 (List._∷_
+              105 (List._∷_ 110 (List._∷_ 103 List.[]))))))))))))))))))))))))) (Syntax.ttcons Syntax.tnil (Syntax.ttcons (Syntax.tcons (Syntax.tyEnum (List._∷_ 114 (List._∷_ 101 (List._∷_ 97 (List._∷_ 100 (List._∷_ 105 (List._∷_ 110 (List._∷_ 103 (List._∷_ 58 (List._∷_ 58 (List._∷_ 114 (List._∷_ 101 (List._∷_ 112 (List._∷_ 108 (List._∷_ 105 (List._∷_ 101
+              (List._∷_ 115 (List._∷_ 58 (List._∷_ 58 (List._∷_ 82 (List._∷_ 101 (List._∷_ 102 (List._∷_ 117 (List._∷_ 115 (List._∷_ 97 (List._∷_ 108 List.[]))))))))))))))))))))))))) (Syntax.ttcons Syntax.tnil (Syntax.ttcons (Syntax.tcons (Syntax.tyInt Syntax.w64) Syntax.tnil) (Syntax.ttcons (Syntax.tcons (Syntax.tyInt Syntax.w64) Syntax.tnil) (Syntax.ttcons
+              (Syntax.tcons (Syntax.tyInt Syntax.w64) Syntax.tnil) (Syntax.ttcons (Syntax.tcons (Syntax.tyInt Syntax.w64) Syntax.tnil) (Syntax.ttcons (Syntax.tcons (Syntax.tyInt Syntax.w64) Syntax.tnil) (Syntax.ttcons (Syntax.tcons (Syntax.tyInt Syntax.w64) Syntax.tnil) (Syntax.ttcons (Syntax.tcons ty·18 Syntax.tnil) (Syntax.ttcons (Syntax.tcons ty·18
+              Syntax.tnil) (Syntax.ttcons (Syntax.tcons ty·18 Syntax.tnil) (Syntax.ttcons (Syntax.tcons ty·18 (Syntax.tcons ty·18 Syntax.tnil)) (Syntax.ttcons Syntax.tnil Syntax.ttnil))))))))))))) Syntax.tnil) Syntax.ttnil)))) (tt, (tt, (tt, (tt, (tt, (tt, (tt, (tt, (tt, (tt, tt)))))))))) Path'.refl) (Typed.g-pre 𝓤 H A W 𝓣 E G51 G52 b77 Δ0 (λ Ψ. Ψ) (at120 bs)
+              (Lifetime.g-end 𝓤 H A W E G51 2 Path'.refl) d120)
 
           d125 : Typed.Typed 𝓤 H A 𝓣 E G47 b80 Δ0 (at125 bs)
-          d125 = Typed.g-pre 𝓤 H A W 𝓣 E G47 G48 b80 Δ0 (λ Ψ. Ψ) (at124 bs) (Lifetime.g-begin 𝓤 H A W E G47 10 (
-            tt,
-            (
-              tt,
-              (
-                tt,
-                (
-                  tt,
-                  (
-                    tt,
-                    (
-                      tt,
-                      (
-                        tt,
-                        (
-                          tt,
-                          (
-                            tt,
-                            (
-                              tt,
-                              (
-                                tt,
-                                (
-                                  tt,
-                                  (
-                                    tt,
-                                    (
-                                      tt,
-                                      (
-                                        tt,
-                                        (
-                                          tt,
-                                          (
-                                            tt,
-                                            (
-                                              tt,
-                                              (
-                                                tt,
-                                                (
-                                                  tt,
-                                                  (
-                                                    tt,
-                                                    (
-                                                      tt,
-                                                      (
-                                                        tt,
-                                                        (
-                                                          tt,
-                                                          (
-                                                            tt,
-                                                            (
-                                                              tt,
-                                                              (
-                                                                tt,
-                                                                (
-                                                                  tt,
-                                                                  (
-                                                                    tt,
-                                                                    (
-                                                                      tt,
-                                                                      (
-                                                                        tt,
-                                                                        (
-                                                                          tt,
-                                                                          (
-                                                                            tt,
-                                                                            (
-                                                                              tt,
-                                                                              (
-                                                                                tt,
-                                                                                (
-                                                                                  tt,
-                                                                                  (
-                                                                                    tt,
-                                                                                    (
-                                                                                      tt,
-                                                                                      (
-                                                                                        tt,
-                                                                                        (
-                                                                                          tt,
-                                                                                          (
-                                                                                            tt,
-                                                                                            (
-                                                                                              tt,
-                                                                                              (tt, (tt, (tt, (tt, (tt, (tt, (tt, (tt, (tt, (tt, (tt, tt))))))))))),
-                                                                                            ),
-                                                                                          ),
-                                                                                        ),
-                                                                                      ),
-                                                                                    ),
-                                                                                  ),
-                                                                                ),
-                                                                              ),
-                                                                            ),
-                                                                          ),
-                                                                        ),
-                                                                      ),
-                                                                    ),
-                                                                  ),
-                                                                ),
-                                                              ),
-                                                            ),
-                                                          ),
-                                                        ),
-                                                      ),
-                                                    ),
-                                                  ),
-                                                ),
-                                              ),
-                                            ),
-                                          ),
-                                        ),
-                                      ),
-                                    ),
-                                  ),
-                                ),
-                              ),
-                            ),
-                          ),
-                        ),
-                      ),
-                    ),
-                  ),
-                ),
-              ),
-            ),
-          )) d124
-
-          d126 : Typed.Typed 𝓤 H A 𝓣 E G46 b81 Δ0 (at126 bs)
-          d126 = Typed.s-seq 𝓤 H A W 𝓣 E G46 G47 b25 b80 Δ0 (Typed.ask (s45 bs)) (at125 bs) (Relend.t-sl-aggregate 𝓤 H A W E (Referent.rtF (Referent.fInt Syntax.w8)) 𝓣 (Relend.asMut (Referent.rtF (Referent.fInt Syntax.w8))) G46 30 31 9 (Syntax.tyRef Syntax.erased Syntax.mut ty·1) ty·8 (λ x. x) (Scalar.oInt Syntax.w64 32) (Reads.as-is 𝓤 H A (Relend.msptr
-              (Referent.rtF (Referent.fInt Syntax.w8)) (Syntax.tyRef Syntax.erased Syntax.mut ty·1) 9)) (Reads.room-gone 𝓤 H A (Syntax.tyStruct (List._∷_ 38 (List._∷_ 91 (List._∷_ 93 List.[]))) (Syntax.tcons ty·8 (Syntax.tcons (Syntax.tyInt Syntax.w64) Syntax.tnil)))) tt Path'.refl Path'.refl λ b o k. tt) d125
+          d125 = Typed.g-pre 𝓤 H A W 𝓣 E G47 G48 b80 Δ0 (λ Ψ. Ψ) (at124 bs) (Lifetime.g-begin 𝓤 H A W E G47 10
+              (tt, (tt, (tt, (tt, (tt, (tt, (tt, (tt, (tt, (tt, (tt, (tt, (tt, (tt, (tt, (tt, (tt, (tt, (tt, (tt, (tt, (tt, (tt, (tt, (tt, (tt, (tt, (tt, (tt, (tt, (tt, (tt, (tt, (tt, (tt, (tt, (tt, (tt, (tt, (tt, (tt, (tt, (tt, (tt, (tt, (tt, (tt, (tt, (tt, (tt, (tt, (tt, (tt, tt)))))))))))))))))))))))))))))))))))))))))))))))))))))) (Typed.s-seq 𝓤 H A W 𝓣 E G48
+              G49 b26 b79 Δ0 (Typed.give (s47 bs)) (at123 bs) (Borrow.t-arr-borrow 𝓤 H A W E 𝓣 Rec.rt G48 12 32 2048 10 ty·16 (λ x. x) (Reads.as-is 𝓤 H A (Rows.arrF Rec.rt 2048 0)) (Reads.room-gone 𝓤 H A ty·16) Path'.refl (λ b o. tt) (Dec'.lit< tt, Dec'.lit< tt)) (Typed.s-seq 𝓤 H A W 𝓣 E G49 G50 b27 b78 Δ0 (Typed.ask (s48 bs)) (at122 bs) (Relend.t-sl-aggregate 𝓤
+              H A W E Rec.rt 𝓣 (Relend.asMut Rec.rt) G49 32 33 10 ty·16 ty·6 (λ x. x) (Scalar.oBig Syntax.w64 2048) (Reads.as-is 𝓤 H A (Relend.msptr Rec.rt ty·16 10)) (Reads.room-gone 𝓤 H A (Syntax.tyStruct (List._∷_ 38 (List._∷_ 91 (List._∷_ 93 List.[]))) (Syntax.tcons ty·6 (Syntax.tcons (Syntax.tyInt Syntax.w64) Syntax.tnil)))) record
+              { lower = record { fits = Dec'.lit< tt } } Path'.refl Path'.refl λ b o k. tt) d122))
 
           d127 : Typed.Typed 𝓤 H A 𝓣 E G45 b82 Δ0 (at127 bs)
-          d127 = Typed.s-seq 𝓤 H A W 𝓣 E G45 G46 b24 b81 Δ0 (Typed.give (s44 bs)) (at126 bs) (Borrow.t-arr-borrow 𝓤 H A W E 𝓣 (Referent.rtF (Referent.fInt Syntax.w8)) G45 11 30 32 9 (Syntax.tyRef Syntax.erased Syntax.mut ty·1) (λ x. x) (Reads.as-is 𝓤 H A (Rows.arrF (Referent.rtF (Referent.fInt Syntax.w8)) 32 0)) (Reads.room-gone 𝓤 H A
-              (Syntax.tyRef Syntax.erased Syntax.mut ty·1)) Path'.refl (λ b o. tt) (Dec'.lit< tt, Dec'.lit< tt)) d126
-
-          d128 : Typed.Typed 𝓤 H A 𝓣 E G44 b82 Δ0 (at128 bs)
-          d128 = Typed.g-pre 𝓤 H A W 𝓣 E G44 G45 b82 Δ0 (λ Ψ. Ψ) (at127 bs) (Lifetime.g-begin 𝓤 H A W E G44 9 (
-            tt,
-            (
-              tt,
-              (
-                tt,
-                (
-                  tt,
-                  (
-                    tt,
-                    (
-                      tt,
-                      (
-                        tt,
-                        (
-                          tt,
-                          (
-                            tt,
-                            (
-                              tt,
-                              (
-                                tt,
-                                (
-                                  tt,
-                                  (
-                                    tt,
-                                    (
-                                      tt,
-                                      (
-                                        tt,
-                                        (
-                                          tt,
-                                          (
-                                            tt,
-                                            (
-                                              tt,
-                                              (
-                                                tt,
-                                                (
-                                                  tt,
-                                                  (
-                                                    tt,
-                                                    (
-                                                      tt,
-                                                      (
-                                                        tt,
-                                                        (
-                                                          tt,
-                                                          (
-                                                            tt,
-                                                            (
-                                                              tt,
-                                                              (
-                                                                tt,
-                                                                (
-                                                                  tt,
-                                                                  (
-                                                                    tt,
-                                                                    (
-                                                                      tt,
-                                                                      (
-                                                                        tt,
-                                                                        (
-                                                                          tt,
-                                                                          (
-                                                                            tt,
-                                                                            (
-                                                                              tt,
-                                                                              (
-                                                                                tt,
-                                                                                (
-                                                                                  tt,
-                                                                                  (
-                                                                                    tt,
-                                                                                    (
-                                                                                      tt,
-                                                                                      (
-                                                                                        tt,
-                                                                                        (
-                                                                                          tt,
-                                                                                          (
-                                                                                            tt,
-                                                                                            (
-                                                                                              tt,
-                                                                                              (tt, (tt, (tt, (tt, (tt, (tt, (tt, (tt, (tt, (tt, (tt, tt))))))))))),
-                                                                                            ),
-                                                                                          ),
-                                                                                        ),
-                                                                                      ),
-                                                                                    ),
-                                                                                  ),
-                                                                                ),
-                                                                              ),
-                                                                            ),
-                                                                          ),
-                                                                        ),
-                                                                      ),
-                                                                    ),
-                                                                  ),
-                                                                ),
-                                                              ),
-                                                            ),
-                                                          ),
-                                                        ),
-                                                      ),
-                                                    ),
-                                                  ),
-                                                ),
-                                              ),
-                                            ),
-                                          ),
-                                        ),
-                                      ),
-                                    ),
-                                  ),
-                                ),
-                              ),
-                            ),
-                          ),
-                        ),
-                      ),
-                    ),
-                  ),
-                ),
-              ),
-            ),
-          )) d127
+          d127 = Typed.s-seq 𝓤 H A W 𝓣 E G45 G46 b24 b81 Δ0 (Typed.give (s44 bs)) (at126 bs) (Borrow.t-arr-borrow 𝓤 H A W E 𝓣 (Referent.rtF (Referent.fInt Syntax.w8)) G45 11 30 32 9 (Syntax.tyRef Syntax.erased Syntax.mut ty·1) (λ x. x) (Reads.as-is 𝓤 H A (Rows.arrF (Referent.rtF (Referent.fInt Syntax.w8)) 32 0)) (Reads.room-gone 𝓤 H A (Syntax.tyRef
+              Syntax.erased Syntax.mut ty·1)) Path'.refl (λ b o. tt) (Dec'.lit< tt, Dec'.lit< tt)) (Typed.s-seq 𝓤 H A W 𝓣 E G46 G47 b25 b80 Δ0 (Typed.ask (s45 bs)) (at125 bs) (Relend.t-sl-aggregate 𝓤 H A W E (Referent.rtF (Referent.fInt Syntax.w8)) 𝓣 (Relend.asMut (Referent.rtF (Referent.fInt Syntax.w8))) G46 30 31 9 (Syntax.tyRef Syntax.erased Syntax.mut ty·1)
+              ty·8 (λ x. x) (Scalar.oInt Syntax.w64 32) (Reads.as-is 𝓤 H A (Relend.msptr (Referent.rtF (Referent.fInt Syntax.w8)) (Syntax.tyRef Syntax.erased Syntax.mut ty·1) 9)) (Reads.room-gone 𝓤 H A (Syntax.tyStruct (List._∷_ 38 (List._∷_ 91 (List._∷_ 93 List.[]))) (Syntax.tcons ty·8 (Syntax.tcons (Syntax.tyInt Syntax.w64) Syntax.tnil)))) tt Path'.refl
+              Path'.refl λ b o k. tt) d125)
 
           d129 : Typed.Typed 𝓤 H A 𝓣 E G43 b83 Δ0 (at129 bs)
           d129 = Typed.s-seq 𝓤 H A W 𝓣 E G43 G44 b23 b82 Δ0 (Typed.ask (s42 bs)) (at128 bs) (Relend.t-sl-aggregate 𝓤 H A W E (Referent.rtF (Referent.fInt Syntax.w16)) 𝓣 (Relend.asMut (Referent.rtF (Referent.fInt Syntax.w16))) G43 28 29 8 (Syntax.tyRef Syntax.erased Syntax.mut ty·3) ty·10 (λ x. x) (Scalar.oInt Syntax.w64 32) (Reads.as-is 𝓤 H A (Relend.msptr
-              (Referent.rtF (Referent.fInt Syntax.w16)) (Syntax.tyRef Syntax.erased Syntax.mut ty·3) 8)) (Reads.room-gone 𝓤 H A (Syntax.tyStruct (List._∷_ 38 (List._∷_ 91 (List._∷_ 93 List.[]))) (Syntax.tcons ty·10 (Syntax.tcons (Syntax.tyInt Syntax.w64) Syntax.tnil)))) tt Path'.refl Path'.refl λ b o k. tt) d128
-
-          d130 : Typed.Typed 𝓤 H A 𝓣 E G42 b84 Δ0 (at130 bs)
-          d130 = Typed.s-seq 𝓤 H A W 𝓣 E G42 G43 b22 b83 Δ0 (Typed.give (s41 bs)) (at129 bs) (Borrow.t-arr-borrow 𝓤 H A W E 𝓣 (Referent.rtF (Referent.fInt Syntax.w16)) G42 10 28 32 8 (Syntax.tyRef Syntax.erased Syntax.mut ty·3) (λ x. x) (Reads.as-is 𝓤 H A (Rows.arrF (Referent.rtF (Referent.fInt Syntax.w16)) 32 0)) (Reads.room-gone 𝓤 H A (Syntax.tyRef
-              Syntax.erased Syntax.mut ty·3)) Path'.refl (λ b o. tt) (Dec'.lit< tt, Dec'.lit< tt)) d129
-
-          d131 : Typed.Typed 𝓤 H A 𝓣 E G41 b84 Δ0 (at131 bs)
-          d131 = Typed.g-pre 𝓤 H A W 𝓣 E G41 G42 b84 Δ0 (λ Ψ. Ψ) (at130 bs) (Lifetime.g-begin 𝓤 H A W E G41 8 (
-            tt,
-            (
-              tt,
-              (
-                tt,
-                (
-                  tt,
-                  (
-                    tt,
-                    (
-                      tt,
-                      (
-                        tt,
-                        (
-                          tt,
-                          (
-                            tt,
-                            (
-                              tt,
-                              (
-                                tt,
-                                (
-                                  tt,
-                                  (
-                                    tt,
-                                    (
-                                      tt,
-                                      (
-                                        tt,
-                                        (
-                                          tt,
-                                          (
-                                            tt,
-                                            (
-                                              tt,
-                                              (
-                                                tt,
-                                                (
-                                                  tt,
-                                                  (
-                                                    tt,
-                                                    (
-                                                      tt,
-                                                      (
-                                                        tt,
-                                                        (
-                                                          tt,
-                                                          (
-                                                            tt,
-                                                            (
-                                                              tt,
-                                                              (
-                                                                tt,
-                                                                (
-                                                                  tt,
-                                                                  (
-                                                                    tt,
-                                                                    (
-                                                                      tt,
-                                                                      (
-                                                                        tt,
-                                                                        (
-                                                                          tt,
-                                                                          (
-                                                                            tt,
-                                                                            (
-                                                                              tt,
-                                                                              (
-                                                                                tt,
-                                                                                (
-                                                                                  tt,
-                                                                                  (
-                                                                                    tt,
-                                                                                    (
-                                                                                      tt,
-                                                                                      (
-                                                                                        tt,
-                                                                                        (
-                                                                                          tt,
-                                                                                          (
-                                                                                            tt,
-                                                                                            (
-                                                                                              tt,
-                                                                                              (tt, (tt, (tt, (tt, (tt, (tt, (tt, (tt, (tt, (tt, (tt, tt))))))))))),
-                                                                                            ),
-                                                                                          ),
-                                                                                        ),
-                                                                                      ),
-                                                                                    ),
-                                                                                  ),
-                                                                                ),
-                                                                              ),
-                                                                            ),
-                                                                          ),
-                                                                        ),
-                                                                      ),
-                                                                    ),
-                                                                  ),
-                                                                ),
-                                                              ),
-                                                            ),
-                                                          ),
-                                                        ),
-                                                      ),
-                                                    ),
-                                                  ),
-                                                ),
-                                              ),
-                                            ),
-                                          ),
-                                        ),
-                                      ),
-                                    ),
-                                  ),
-                                ),
-                              ),
-                            ),
-                          ),
-                        ),
-                      ),
-                    ),
-                  ),
-                ),
-              ),
-            ),
-          )) d130
+              (Referent.rtF (Referent.fInt Syntax.w16)) (Syntax.tyRef Syntax.erased Syntax.mut ty·3) 8)) (Reads.room-gone 𝓤 H A (Syntax.tyStruct (List._∷_ 38 (List._∷_ 91 (List._∷_ 93 List.[]))) (Syntax.tcons ty·10 (Syntax.tcons (Syntax.tyInt Syntax.w64) Syntax.tnil)))) tt Path'.refl Path'.refl λ b o k. tt) (Typed.g-pre 𝓤 H A W 𝓣 E G44 G45 b82 Δ0 (λ Ψ. Ψ) (at127
+              bs) (Lifetime.g-begin 𝓤 H A W E G44 9
+              (tt, (tt, (tt, (tt, (tt, (tt, (tt, (tt, (tt, (tt, (tt, (tt, (tt, (tt, (tt, (tt, (tt, (tt, (tt, (tt, (tt, (tt, (tt, (tt, (tt, (tt, (tt, (tt, (tt, (tt, (tt, (tt, (tt, (tt, (tt, (tt, (tt, (tt, (tt, (tt, (tt, (tt, (tt, (tt, (tt, (tt, (tt, (tt, (tt, (tt, (tt, (tt, (tt, tt)))))))))))))))))))))))))))))))))))))))))))))))))))))) d127)
 
           d132 : Typed.Typed 𝓤 H A 𝓣 E G40 b85 Δ0 (at132 bs)
           d132 = Typed.s-seq 𝓤 H A W 𝓣 E G40 G41 b21 b84 Δ0 (Typed.ask (s39 bs)) (at131 bs) (Relend.t-sl-aggregate 𝓤 H A W E (Referent.rtF (Referent.fInt Syntax.w32)) 𝓣 (Relend.asMut (Referent.rtF (Referent.fInt Syntax.w32))) G40 26 27 7 (Syntax.tyRef Syntax.erased Syntax.mut ty·5) ty·11 (λ x. x) (Scalar.oBig Syntax.w64 1024) (Reads.as-is 𝓤 H A (Relend.msptr
-              (Referent.rtF (Referent.fInt Syntax.w32)) (Syntax.tyRef Syntax.erased Syntax.mut ty·5) 7)) (Reads.room-gone 𝓤 H A (Syntax.tyStruct (List._∷_ 38 (List._∷_ 91 (List._∷_ 93 List.[]))) (Syntax.tcons ty·11 (Syntax.tcons (Syntax.tyInt Syntax.w64) Syntax.tnil)))) record { lower = record { fits = Dec'.lit< tt } } Path'.refl Path'.refl λ b o k. tt) d131
-
-          d133 : Typed.Typed 𝓤 H A 𝓣 E G39 b86 Δ0 (at133 bs)
-          d133 = Typed.s-seq 𝓤 H A W 𝓣 E G39 G40 b20 b85 Δ0 (Typed.give (s38 bs)) (at132 bs) (Borrow.t-arr-borrow 𝓤 H A W E 𝓣 (Referent.rtF (Referent.fInt Syntax.w32)) G39 9 26 1024 7 (Syntax.tyRef Syntax.erased Syntax.mut ty·5) (λ x. x) (Reads.as-is 𝓤 H A (Rows.arrF (Referent.rtF (Referent.fInt Syntax.w32)) 1024 0)) (Reads.room-gone 𝓤 H A (Syntax.tyRef
-              Syntax.erased Syntax.mut ty·5)) Path'.refl (λ b o. tt) (Dec'.lit< tt, Dec'.lit< tt)) d132
-
-          d134 : Typed.Typed 𝓤 H A 𝓣 E G38 b86 Δ0 (at134 bs)
-          d134 = Typed.g-pre 𝓤 H A W 𝓣 E G38 G39 b86 Δ0 (λ Ψ. Ψ) (at133 bs) (Lifetime.g-begin 𝓤 H A W E G38 7 (
-            tt,
-            (
-              tt,
-              (
-                tt,
-                (
-                  tt,
-                  (
-                    tt,
-                    (
-                      tt,
-                      (
-                        tt,
-                        (
-                          tt,
-                          (
-                            tt,
-                            (
-                              tt,
-                              (
-                                tt,
-                                (
-                                  tt,
-                                  (
-                                    tt,
-                                    (
-                                      tt,
-                                      (
-                                        tt,
-                                        (
-                                          tt,
-                                          (
-                                            tt,
-                                            (
-                                              tt,
-                                              (
-                                                tt,
-                                                (
-                                                  tt,
-                                                  (
-                                                    tt,
-                                                    (
-                                                      tt,
-                                                      (
-                                                        tt,
-                                                        (
-                                                          tt,
-                                                          (
-                                                            tt,
-                                                            (
-                                                              tt,
-                                                              (
-                                                                tt,
-                                                                (
-                                                                  tt,
-                                                                  (
-                                                                    tt,
-                                                                    (
-                                                                      tt,
-                                                                      (
-                                                                        tt,
-                                                                        (
-                                                                          tt,
-                                                                          (
-                                                                            tt,
-                                                                            (
-                                                                              tt,
-                                                                              (
-                                                                                tt,
-                                                                                (
-                                                                                  tt,
-                                                                                  (
-                                                                                    tt,
-                                                                                    (
-                                                                                      tt,
-                                                                                      (
-                                                                                        tt,
-                                                                                        (
-                                                                                          tt,
-                                                                                          (
-                                                                                            tt,
-                                                                                            (
-                                                                                              tt,
-                                                                                              (tt, (tt, (tt, (tt, (tt, (tt, (tt, (tt, (tt, (tt, (tt, tt))))))))))),
-                                                                                            ),
-                                                                                          ),
-                                                                                        ),
-                                                                                      ),
-                                                                                    ),
-                                                                                  ),
-                                                                                ),
-                                                                              ),
-                                                                            ),
-                                                                          ),
-                                                                        ),
-                                                                      ),
-                                                                    ),
-                                                                  ),
-                                                                ),
-                                                              ),
-                                                            ),
-                                                          ),
-                                                        ),
-                                                      ),
-                                                    ),
-                                                  ),
-                                                ),
-                                              ),
-                                            ),
-                                          ),
-                                        ),
-                                      ),
-                                    ),
-                                  ),
-                                ),
-                              ),
-                            ),
-                          ),
-                        ),
-                      ),
-                    ),
-                  ),
-                ),
-              ),
-            ),
-          )) d133
+              (Referent.rtF (Referent.fInt Syntax.w32)) (Syntax.tyRef Syntax.erased Syntax.mut ty·5) 7)) (Reads.room-gone 𝓤 H A (Syntax.tyStruct (List._∷_ 38 (List._∷_ 91 (List._∷_ 93 List.[]))) (Syntax.tcons ty·11 (Syntax.tcons (Syntax.tyInt Syntax.w64) Syntax.tnil)))) record { lower = record { fits = Dec'.lit< tt } } Path'.refl Path'.refl λ b o k. tt)
+              (Typed.g-pre 𝓤 H A W 𝓣 E G41 G42 b84 Δ0 (λ Ψ. Ψ) (at130 bs) (Lifetime.g-begin 𝓤 H A W E G41 8
+              (tt, (tt, (tt, (tt, (tt, (tt, (tt, (tt, (tt, (tt, (tt, (tt, (tt, (tt, (tt, (tt, (tt, (tt, (tt, (tt, (tt, (tt, (tt, (tt, (tt, (tt, (tt, (tt, (tt, (tt, (tt, (tt, (tt, (tt, (tt, (tt, (tt, (tt, (tt, (tt, (tt, (tt, (tt, (tt, (tt, (tt, (tt, (tt, (tt, (tt, (tt, (tt, (tt, tt)))))))))))))))))))))))))))))))))))))))))))))))))))))) (Typed.s-seq 𝓤 H A W 𝓣 E G42
+              G43 b22 b83 Δ0 (Typed.give (s41 bs)) (at129 bs) (Borrow.t-arr-borrow 𝓤 H A W E 𝓣 (Referent.rtF (Referent.fInt Syntax.w16)) G42 10 28 32 8 (Syntax.tyRef Syntax.erased Syntax.mut ty·3) (λ x. x) (Reads.as-is 𝓤 H A (Rows.arrF (Referent.rtF (Referent.fInt Syntax.w16)) 32 0)) (Reads.room-gone 𝓤 H A (Syntax.tyRef Syntax.erased Syntax.mut ty·3)) Path'.refl
+              (λ b o. tt) (Dec'.lit< tt, Dec'.lit< tt)) d129))
 
           d135 : Typed.Typed 𝓤 H A 𝓣 E G37 b87 Δ0 (at135 bs)
           d135 = Typed.s-seq 𝓤 H A W 𝓣 E G37 G38 b19 b86 Δ0 (Typed.ask (s36 bs)) (at134 bs) (Relend.t-sl-aggregate 𝓤 H A W E (Referent.rtF (Referent.fInt Syntax.w16)) 𝓣 (Relend.asMut (Referent.rtF (Referent.fInt Syntax.w16))) G37 24 25 6 (Syntax.tyRef Syntax.erased Syntax.mut ty·4) ty·10 (λ x. x) (Scalar.oBig Syntax.w64 1024) (Reads.as-is 𝓤 H A (Relend.msptr
-              (Referent.rtF (Referent.fInt Syntax.w16)) (Syntax.tyRef Syntax.erased Syntax.mut ty·4) 6)) (Reads.room-gone 𝓤 H A (Syntax.tyStruct (List._∷_ 38 (List._∷_ 91 (List._∷_ 93 List.[]))) (Syntax.tcons ty·10 (Syntax.tcons (Syntax.tyInt Syntax.w64) Syntax.tnil)))) record { lower = record { fits = Dec'.lit< tt } } Path'.refl Path'.refl λ b o k. tt) d134
-
-          d136 : Typed.Typed 𝓤 H A 𝓣 E G36 b88 Δ0 (at136 bs)
-          d136 = Typed.s-seq 𝓤 H A W 𝓣 E G36 G37 b18 b87 Δ0 (Typed.give (s35 bs)) (at135 bs) (Borrow.t-arr-borrow 𝓤 H A W E 𝓣 (Referent.rtF (Referent.fInt Syntax.w16)) G36 8 24 1024 6 (Syntax.tyRef Syntax.erased Syntax.mut ty·4) (λ x. x) (Reads.as-is 𝓤 H A (Rows.arrF (Referent.rtF (Referent.fInt Syntax.w16)) 1024 0)) (Reads.room-gone 𝓤 H A (Syntax.tyRef
-              Syntax.erased Syntax.mut ty·4)) Path'.refl (λ b o. tt) (Dec'.lit< tt, Dec'.lit< tt)) d135
-
-          d137 : Typed.Typed 𝓤 H A 𝓣 E G35 b88 Δ0 (at137 bs)
-          d137 = Typed.g-pre 𝓤 H A W 𝓣 E G35 G36 b88 Δ0 (λ Ψ. Ψ) (at136 bs) (Lifetime.g-begin 𝓤 H A W E G35 6 (
-            tt,
-            (
-              tt,
-              (
-                tt,
-                (
-                  tt,
-                  (
-                    tt,
-                    (
-                      tt,
-                      (
-                        tt,
-                        (
-                          tt,
-                          (
-                            tt,
-                            (
-                              tt,
-                              (
-                                tt,
-                                (
-                                  tt,
-                                  (
-                                    tt,
-                                    (
-                                      tt,
-                                      (
-                                        tt,
-                                        (
-                                          tt,
-                                          (
-                                            tt,
-                                            (
-                                              tt,
-                                              (
-                                                tt,
-                                                (
-                                                  tt,
-                                                  (
-                                                    tt,
-                                                    (
-                                                      tt,
-                                                      (
-                                                        tt,
-                                                        (
-                                                          tt,
-                                                          (
-                                                            tt,
-                                                            (
-                                                              tt,
-                                                              (
-                                                                tt,
-                                                                (
-                                                                  tt,
-                                                                  (
-                                                                    tt,
-                                                                    (
-                                                                      tt,
-                                                                      (
-                                                                        tt,
-                                                                        (
-                                                                          tt,
-                                                                          (
-                                                                            tt,
-                                                                            (
-                                                                              tt,
-                                                                              (
-                                                                                tt,
-                                                                                (
-                                                                                  tt,
-                                                                                  (
-                                                                                    tt,
-                                                                                    (
-                                                                                      tt,
-                                                                                      (
-                                                                                        tt,
-                                                                                        (
-                                                                                          tt,
-                                                                                          (
-                                                                                            tt,
-                                                                                            (
-                                                                                              tt,
-                                                                                              (tt, (tt, (tt, (tt, (tt, (tt, (tt, (tt, (tt, (tt, (tt, tt))))))))))),
-                                                                                            ),
-                                                                                          ),
-                                                                                        ),
-                                                                                      ),
-                                                                                    ),
-                                                                                  ),
-                                                                                ),
-                                                                              ),
-                                                                            ),
-                                                                          ),
-                                                                        ),
-                                                                      ),
-                                                                    ),
-                                                                  ),
-                                                                ),
-                                                              ),
-                                                            ),
-                                                          ),
-                                                        ),
-                                                      ),
-                                                    ),
-                                                  ),
-                                                ),
-                                              ),
-                                            ),
-                                          ),
-                                        ),
-                                      ),
-                                    ),
-                                  ),
-                                ),
-                              ),
-                            ),
-                          ),
-                        ),
-                      ),
-                    ),
-                  ),
-                ),
-              ),
-            ),
-          )) d136
+              (Referent.rtF (Referent.fInt Syntax.w16)) (Syntax.tyRef Syntax.erased Syntax.mut ty·4) 6)) (Reads.room-gone 𝓤 H A (Syntax.tyStruct (List._∷_ 38 (List._∷_ 91 (List._∷_ 93 List.[]))) (Syntax.tcons ty·10 (Syntax.tcons (Syntax.tyInt Syntax.w64) Syntax.tnil)))) record { lower = record { fits = Dec'.lit< tt } } Path'.refl Path'.refl λ b o k. tt)
+              (Typed.g-pre 𝓤 H A W 𝓣 E G38 G39 b86 Δ0 (λ Ψ. Ψ) (at133 bs) (Lifetime.g-begin 𝓤 H A W E G38 7
+              (tt, (tt, (tt, (tt, (tt, (tt, (tt, (tt, (tt, (tt, (tt, (tt, (tt, (tt, (tt, (tt, (tt, (tt, (tt, (tt, (tt, (tt, (tt, (tt, (tt, (tt, (tt, (tt, (tt, (tt, (tt, (tt, (tt, (tt, (tt, (tt, (tt, (tt, (tt, (tt, (tt, (tt, (tt, (tt, (tt, (tt, (tt, (tt, (tt, (tt, (tt, (tt, (tt, tt)))))))))))))))))))))))))))))))))))))))))))))))))))))) (Typed.s-seq 𝓤 H A W 𝓣 E G39
+              G40 b20 b85 Δ0 (Typed.give (s38 bs)) (at132 bs) (Borrow.t-arr-borrow 𝓤 H A W E 𝓣 (Referent.rtF (Referent.fInt Syntax.w32)) G39 9 26 1024 7 (Syntax.tyRef Syntax.erased Syntax.mut ty·5) (λ x. x) (Reads.as-is 𝓤 H A (Rows.arrF (Referent.rtF (Referent.fInt Syntax.w32)) 1024 0)) (Reads.room-gone 𝓤 H A (Syntax.tyRef Syntax.erased Syntax.mut ty·5))
+              Path'.refl (λ b o. tt) (Dec'.lit< tt, Dec'.lit< tt)) d132))
 
           d138 : Typed.Typed 𝓤 H A 𝓣 E G34 b89 Δ0 (at138 bs)
           d138 = Typed.s-seq 𝓤 H A W 𝓣 E G34 G35 b17 b88 Δ0 (Typed.ask (s33 bs)) (at137 bs) (Relend.t-sl-aggregate 𝓤 H A W E (Referent.rtF (Referent.fInt Syntax.w16)) 𝓣 (Relend.asMut (Referent.rtF (Referent.fInt Syntax.w16))) G34 22 23 5 (Syntax.tyRef Syntax.erased Syntax.mut ty·3) ty·10 (λ x. x) (Scalar.oInt Syntax.w64 32) (Reads.as-is 𝓤 H A (Relend.msptr
-              (Referent.rtF (Referent.fInt Syntax.w16)) (Syntax.tyRef Syntax.erased Syntax.mut ty·3) 5)) (Reads.room-gone 𝓤 H A (Syntax.tyStruct (List._∷_ 38 (List._∷_ 91 (List._∷_ 93 List.[]))) (Syntax.tcons ty·10 (Syntax.tcons (Syntax.tyInt Syntax.w64) Syntax.tnil)))) tt Path'.refl Path'.refl λ b o k. tt) d137
-
-          d139 : Typed.Typed 𝓤 H A 𝓣 E G33 b90 Δ0 (at139 bs)
-          d139 = Typed.s-seq 𝓤 H A W 𝓣 E G33 G34 b16 b89 Δ0 (Typed.give (s32 bs)) (at138 bs) (Borrow.t-arr-borrow 𝓤 H A W E 𝓣 (Referent.rtF (Referent.fInt Syntax.w16)) G33 7 22 32 5 (Syntax.tyRef Syntax.erased Syntax.mut ty·3) (λ x. x) (Reads.as-is 𝓤 H A (Rows.arrF (Referent.rtF (Referent.fInt Syntax.w16)) 32 0)) (Reads.room-gone 𝓤 H A (Syntax.tyRef
-              Syntax.erased Syntax.mut ty·3)) Path'.refl (λ b o. tt) (Dec'.lit< tt, Dec'.lit< tt)) d138
-
-          d140 : Typed.Typed 𝓤 H A 𝓣 E G32 b90 Δ0 (at140 bs)
-          d140 = Typed.g-pre 𝓤 H A W 𝓣 E G32 G33 b90 Δ0 (λ Ψ. Ψ) (at139 bs) (Lifetime.g-begin 𝓤 H A W E G32 5 (
-            tt,
-            (
-              tt,
-              (
-                tt,
-                (
-                  tt,
-                  (
-                    tt,
-                    (
-                      tt,
-                      (
-                        tt,
-                        (
-                          tt,
-                          (
-                            tt,
-                            (
-                              tt,
-                              (
-                                tt,
-                                (
-                                  tt,
-                                  (
-                                    tt,
-                                    (
-                                      tt,
-                                      (
-                                        tt,
-                                        (
-                                          tt,
-                                          (
-                                            tt,
-                                            (
-                                              tt,
-                                              (
-                                                tt,
-                                                (
-                                                  tt,
-                                                  (
-                                                    tt,
-                                                    (
-                                                      tt,
-                                                      (
-                                                        tt,
-                                                        (
-                                                          tt,
-                                                          (
-                                                            tt,
-                                                            (
-                                                              tt,
-                                                              (
-                                                                tt,
-                                                                (
-                                                                  tt,
-                                                                  (
-                                                                    tt,
-                                                                    (
-                                                                      tt,
-                                                                      (
-                                                                        tt,
-                                                                        (
-                                                                          tt,
-                                                                          (
-                                                                            tt,
-                                                                            (
-                                                                              tt,
-                                                                              (
-                                                                                tt,
-                                                                                (
-                                                                                  tt,
-                                                                                  (
-                                                                                    tt,
-                                                                                    (
-                                                                                      tt,
-                                                                                      (
-                                                                                        tt,
-                                                                                        (
-                                                                                          tt,
-                                                                                          (
-                                                                                            tt,
-                                                                                            (
-                                                                                              tt,
-                                                                                              (tt, (tt, (tt, (tt, (tt, (tt, (tt, (tt, (tt, (tt, (tt, tt))))))))))),
-                                                                                            ),
-                                                                                          ),
-                                                                                        ),
-                                                                                      ),
-                                                                                    ),
-                                                                                  ),
-                                                                                ),
-                                                                              ),
-                                                                            ),
-                                                                          ),
-                                                                        ),
-                                                                      ),
-                                                                    ),
-                                                                  ),
-                                                                ),
-                                                              ),
-                                                            ),
-                                                          ),
-                                                        ),
-                                                      ),
-                                                    ),
-                                                  ),
-                                                ),
-                                              ),
-                                            ),
-                                          ),
-                                        ),
-                                      ),
-                                    ),
-                                  ),
-                                ),
-                              ),
-                            ),
-                          ),
-                        ),
-                      ),
-                    ),
-                  ),
-                ),
-              ),
-            ),
-          )) d139
+              (Referent.rtF (Referent.fInt Syntax.w16)) (Syntax.tyRef Syntax.erased Syntax.mut ty·3) 5)) (Reads.room-gone 𝓤 H A (Syntax.tyStruct (List._∷_ 38 (List._∷_ 91 (List._∷_ 93 List.[]))) (Syntax.tcons ty·10 (Syntax.tcons (Syntax.tyInt Syntax.w64) Syntax.tnil)))) tt Path'.refl Path'.refl λ b o k. tt) (Typed.g-pre 𝓤 H A W 𝓣 E G35 G36 b88 Δ0 (λ Ψ. Ψ) (at136
+              bs) (Lifetime.g-begin 𝓤 H A W E G35 6
+              (tt, (tt, (tt, (tt, (tt, (tt, (tt, (tt, (tt, (tt, (tt, (tt, (tt, (tt, (tt, (tt, (tt, (tt, (tt, (tt, (tt, (tt, (tt, (tt, (tt, (tt, (tt, (tt, (tt, (tt, (tt, (tt, (tt, (tt, (tt, (tt, (tt, (tt, (tt, (tt, (tt, (tt, (tt, (tt, (tt, (tt, (tt, (tt, (tt, (tt, (tt, (tt, (tt, tt)))))))))))))))))))))))))))))))))))))))))))))))))))))) (Typed.s-seq 𝓤 H A W 𝓣 E G36
+              G37 b18 b87 Δ0 (Typed.give (s35 bs)) (at135 bs) (Borrow.t-arr-borrow 𝓤 H A W E 𝓣 (Referent.rtF (Referent.fInt Syntax.w16)) G36 8 24 1024 6 (Syntax.tyRef Syntax.erased Syntax.mut ty·4) (λ x. x) (Reads.as-is 𝓤 H A (Rows.arrF (Referent.rtF (Referent.fInt Syntax.w16)) 1024 0)) (Reads.room-gone 𝓤 H A (Syntax.tyRef Syntax.erased Syntax.mut ty·4))
+              Path'.refl (λ b o. tt) (Dec'.lit< tt, Dec'.lit< tt)) d135))
 
           d141 : Typed.Typed 𝓤 H A 𝓣 E G31 b91 Δ0 (at141 bs)
           d141 = Typed.s-seq 𝓤 H A W 𝓣 E G31 G32 b15 b90 Δ0 (Typed.ask (s30 bs)) (at140 bs) (Relend.t-sl-aggregate 𝓤 H A W E (Referent.rtF (Referent.fInt Syntax.w8)) 𝓣 (Relend.asMut (Referent.rtF (Referent.fInt Syntax.w8))) G31 20 21 4 (Syntax.tyRef Syntax.erased Syntax.mut ty·2) ty·8 (λ x. x) (Scalar.oInt Syntax.w64 768) (Reads.as-is 𝓤 H A (Relend.msptr
-              (Referent.rtF (Referent.fInt Syntax.w8)) (Syntax.tyRef Syntax.erased Syntax.mut ty·2) 4)) (Reads.room-gone 𝓤 H A (Syntax.tyStruct (List._∷_ 38 (List._∷_ 91 (List._∷_ 93 List.[]))) (Syntax.tcons ty·8 (Syntax.tcons (Syntax.tyInt Syntax.w64) Syntax.tnil)))) tt Path'.refl Path'.refl λ b o k. tt) d140
-
-          d142 : Typed.Typed 𝓤 H A 𝓣 E G30 b92 Δ0 (at142 bs)
-          d142 = Typed.s-seq 𝓤 H A W 𝓣 E G30 G31 b14 b91 Δ0 (Typed.give (s29 bs)) (at141 bs) (Borrow.t-arr-borrow 𝓤 H A W E 𝓣 (Referent.rtF (Referent.fInt Syntax.w8)) G30 6 20 768 4 (Syntax.tyRef Syntax.erased Syntax.mut ty·2) (λ x. x) (Reads.as-is 𝓤 H A (Rows.arrF (Referent.rtF (Referent.fInt Syntax.w8)) 768 0)) (Reads.room-gone 𝓤 H A (Syntax.tyRef
-              Syntax.erased Syntax.mut ty·2)) Path'.refl (λ b o. tt) (Dec'.lit< tt, Dec'.lit< tt)) d141
-
-          d143 : Typed.Typed 𝓤 H A 𝓣 E G29 b92 Δ0 (at143 bs)
-          d143 = Typed.g-pre 𝓤 H A W 𝓣 E G29 G30 b92 Δ0 (λ Ψ. Ψ) (at142 bs) (Lifetime.g-begin 𝓤 H A W E G29 4 (
-            tt,
-            (
-              tt,
-              (
-                tt,
-                (
-                  tt,
-                  (
-                    tt,
-                    (
-                      tt,
-                      (
-                        tt,
-                        (
-                          tt,
-                          (
-                            tt,
-                            (
-                              tt,
-                              (
-                                tt,
-                                (
-                                  tt,
-                                  (
-                                    tt,
-                                    (
-                                      tt,
-                                      (
-                                        tt,
-                                        (
-                                          tt,
-                                          (
-                                            tt,
-                                            (
-                                              tt,
-                                              (
-                                                tt,
-                                                (
-                                                  tt,
-                                                  (
-                                                    tt,
-                                                    (
-                                                      tt,
-                                                      (
-                                                        tt,
-                                                        (
-                                                          tt,
-                                                          (
-                                                            tt,
-                                                            (
-                                                              tt,
-                                                              (
-                                                                tt,
-                                                                (
-                                                                  tt,
-                                                                  (
-                                                                    tt,
-                                                                    (
-                                                                      tt,
-                                                                      (
-                                                                        tt,
-                                                                        (
-                                                                          tt,
-                                                                          (
-                                                                            tt,
-                                                                            (
-                                                                              tt,
-                                                                              (
-                                                                                tt,
-                                                                                (
-                                                                                  tt,
-                                                                                  (
-                                                                                    tt,
-                                                                                    (
-                                                                                      tt,
-                                                                                      (
-                                                                                        tt,
-                                                                                        (
-                                                                                          tt,
-                                                                                          (
-                                                                                            tt,
-                                                                                            (
-                                                                                              tt,
-                                                                                              (tt, (tt, (tt, (tt, (tt, (tt, (tt, (tt, (tt, (tt, (tt, tt))))))))))),
-                                                                                            ),
-                                                                                          ),
-                                                                                        ),
-                                                                                      ),
-                                                                                    ),
-                                                                                  ),
-                                                                                ),
-                                                                              ),
-                                                                            ),
-                                                                          ),
-                                                                        ),
-                                                                      ),
-                                                                    ),
-                                                                  ),
-                                                                ),
-                                                              ),
-                                                            ),
-                                                          ),
-                                                        ),
-                                                      ),
-                                                    ),
-                                                  ),
-                                                ),
-                                              ),
-                                            ),
-                                          ),
-                                        ),
-                                      ),
-                                    ),
-                                  ),
-                                ),
-                              ),
-                            ),
-                          ),
-                        ),
-                      ),
-                    ),
-                  ),
-                ),
-              ),
-            ),
-          )) d142
+              (Referent.rtF (Referent.fInt Syntax.w8)) (Syntax.tyRef Syntax.erased Syntax.mut ty·2) 4)) (Reads.room-gone 𝓤 H A (Syntax.tyStruct (List._∷_ 38 (List._∷_ 91 (List._∷_ 93 List.[]))) (Syntax.tcons ty·8 (Syntax.tcons (Syntax.tyInt Syntax.w64) Syntax.tnil)))) tt Path'.refl Path'.refl λ b o k. tt) (Typed.g-pre 𝓤 H A W 𝓣 E G32 G33 b90 Δ0 (λ Ψ. Ψ) (at139
+              bs) (Lifetime.g-begin 𝓤 H A W E G32 5
+              (tt, (tt, (tt, (tt, (tt, (tt, (tt, (tt, (tt, (tt, (tt, (tt, (tt, (tt, (tt, (tt, (tt, (tt, (tt, (tt, (tt, (tt, (tt, (tt, (tt, (tt, (tt, (tt, (tt, (tt, (tt, (tt, (tt, (tt, (tt, (tt, (tt, (tt, (tt, (tt, (tt, (tt, (tt, (tt, (tt, (tt, (tt, (tt, (tt, (tt, (tt, (tt, (tt, tt)))))))))))))))))))))))))))))))))))))))))))))))))))))) (Typed.s-seq 𝓤 H A W 𝓣 E G33
+              G34 b16 b89 Δ0 (Typed.give (s32 bs)) (at138 bs) (Borrow.t-arr-borrow 𝓤 H A W E 𝓣 (Referent.rtF (Referent.fInt Syntax.w16)) G33 7 22 32 5 (Syntax.tyRef Syntax.erased Syntax.mut ty·3) (λ x. x) (Reads.as-is 𝓤 H A (Rows.arrF (Referent.rtF (Referent.fInt Syntax.w16)) 32 0)) (Reads.room-gone 𝓤 H A (Syntax.tyRef Syntax.erased Syntax.mut ty·3)) Path'.refl
+              (λ b o. tt) (Dec'.lit< tt, Dec'.lit< tt)) d138))
 
           d144 : Typed.Typed 𝓤 H A 𝓣 E G28 b93 Δ0 (at144 bs)
           d144 = Typed.s-seq 𝓤 H A W 𝓣 E G28 G29 b13 b92 Δ0 (Typed.ask (s27 bs)) (at143 bs) (Relend.t-sl-aggregate 𝓤 H A W E (Referent.rtF (Referent.fInt Syntax.w16)) 𝓣 (Relend.asMut (Referent.rtF (Referent.fInt Syntax.w16))) G28 18 19 3 (Syntax.tyRef Syntax.erased Syntax.mut ty·0) ty·10 (λ x. x) (Scalar.oInt Syntax.w64 1) (Reads.as-is 𝓤 H A (Relend.msptr
-              (Referent.rtF (Referent.fInt Syntax.w16)) (Syntax.tyRef Syntax.erased Syntax.mut ty·0) 3)) (Reads.room-gone 𝓤 H A (Syntax.tyStruct (List._∷_ 38 (List._∷_ 91 (List._∷_ 93 List.[]))) (Syntax.tcons ty·10 (Syntax.tcons (Syntax.tyInt Syntax.w64) Syntax.tnil)))) tt Path'.refl Path'.refl λ b o k. tt) d143
-
-          d145 : Typed.Typed 𝓤 H A 𝓣 E G27 b94 Δ0 (at145 bs)
-          d145 = Typed.s-seq 𝓤 H A W 𝓣 E G27 G28 b12 b93 Δ0 (Typed.give (s26 bs)) (at144 bs) (Borrow.t-arr-borrow 𝓤 H A W E 𝓣 (Referent.rtF (Referent.fInt Syntax.w16)) G27 5 18 1 3 (Syntax.tyRef Syntax.erased Syntax.mut ty·0) (λ x. x) (Reads.as-is 𝓤 H A (Rows.arrF (Referent.rtF (Referent.fInt Syntax.w16)) 1 0)) (Reads.room-gone 𝓤 H A
-              (Syntax.tyRef Syntax.erased Syntax.mut ty·0)) Path'.refl (λ b o. tt) (Dec'.lit< tt, Dec'.lit< tt)) d144
-
-          d146 : Typed.Typed 𝓤 H A 𝓣 E G26 b94 Δ0 (at146 bs)
-          d146 = Typed.g-pre 𝓤 H A W 𝓣 E G26 G27 b94 Δ0 (λ Ψ. Ψ) (at145 bs) (Lifetime.g-begin 𝓤 H A W E G26 3 (
-            tt,
-            (
-              tt,
-              (
-                tt,
-                (
-                  tt,
-                  (
-                    tt,
-                    (
-                      tt,
-                      (
-                        tt,
-                        (
-                          tt,
-                          (
-                            tt,
-                            (
-                              tt,
-                              (
-                                tt,
-                                (
-                                  tt,
-                                  (
-                                    tt,
-                                    (
-                                      tt,
-                                      (
-                                        tt,
-                                        (
-                                          tt,
-                                          (
-                                            tt,
-                                            (
-                                              tt,
-                                              (
-                                                tt,
-                                                (
-                                                  tt,
-                                                  (
-                                                    tt,
-                                                    (
-                                                      tt,
-                                                      (
-                                                        tt,
-                                                        (
-                                                          tt,
-                                                          (
-                                                            tt,
-                                                            (
-                                                              tt,
-                                                              (
-                                                                tt,
-                                                                (
-                                                                  tt,
-                                                                  (
-                                                                    tt,
-                                                                    (
-                                                                      tt,
-                                                                      (
-                                                                        tt,
-                                                                        (
-                                                                          tt,
-                                                                          (
-                                                                            tt,
-                                                                            (
-                                                                              tt,
-                                                                              (
-                                                                                tt,
-                                                                                (
-                                                                                  tt,
-                                                                                  (
-                                                                                    tt,
-                                                                                    (
-                                                                                      tt,
-                                                                                      (
-                                                                                        tt,
-                                                                                        (
-                                                                                          tt,
-                                                                                          (
-                                                                                            tt,
-                                                                                            (
-                                                                                              tt,
-                                                                                              (tt, (tt, (tt, (tt, (tt, (tt, (tt, (tt, (tt, (tt, (tt, tt))))))))))),
-                                                                                            ),
-                                                                                          ),
-                                                                                        ),
-                                                                                      ),
-                                                                                    ),
-                                                                                  ),
-                                                                                ),
-                                                                              ),
-                                                                            ),
-                                                                          ),
-                                                                        ),
-                                                                      ),
-                                                                    ),
-                                                                  ),
-                                                                ),
-                                                              ),
-                                                            ),
-                                                          ),
-                                                        ),
-                                                      ),
-                                                    ),
-                                                  ),
-                                                ),
-                                              ),
-                                            ),
-                                          ),
-                                        ),
-                                      ),
-                                    ),
-                                  ),
-                                ),
-                              ),
-                            ),
-                          ),
-                        ),
-                      ),
-                    ),
-                  ),
-                ),
-              ),
-            ),
-          )) d145
+              (Referent.rtF (Referent.fInt Syntax.w16)) (Syntax.tyRef Syntax.erased Syntax.mut ty·0) 3)) (Reads.room-gone 𝓤 H A (Syntax.tyStruct (List._∷_ 38 (List._∷_ 91 (List._∷_ 93 List.[]))) (Syntax.tcons ty·10 (Syntax.tcons (Syntax.tyInt Syntax.w64) Syntax.tnil)))) tt Path'.refl Path'.refl λ b o k. tt) (Typed.g-pre 𝓤 H A W 𝓣 E G29 G30 b92 Δ0 (λ Ψ. Ψ) (at142
+              bs) (Lifetime.g-begin 𝓤 H A W E G29 4
+              (tt, (tt, (tt, (tt, (tt, (tt, (tt, (tt, (tt, (tt, (tt, (tt, (tt, (tt, (tt, (tt, (tt, (tt, (tt, (tt, (tt, (tt, (tt, (tt, (tt, (tt, (tt, (tt, (tt, (tt, (tt, (tt, (tt, (tt, (tt, (tt, (tt, (tt, (tt, (tt, (tt, (tt, (tt, (tt, (tt, (tt, (tt, (tt, (tt, (tt, (tt, (tt, (tt, tt)))))))))))))))))))))))))))))))))))))))))))))))))))))) (Typed.s-seq 𝓤 H A W 𝓣 E G30
+              G31 b14 b91 Δ0 (Typed.give (s29 bs)) (at141 bs) (Borrow.t-arr-borrow 𝓤 H A W E 𝓣 (Referent.rtF (Referent.fInt Syntax.w8)) G30 6 20 768 4 (Syntax.tyRef Syntax.erased Syntax.mut ty·2) (λ x. x) (Reads.as-is 𝓤 H A (Rows.arrF (Referent.rtF (Referent.fInt Syntax.w8)) 768 0)) (Reads.room-gone 𝓤 H A (Syntax.tyRef Syntax.erased Syntax.mut ty·2)) Path'.refl
+              (λ b o. tt) (Dec'.lit< tt, Dec'.lit< tt)) d141))
 
           d147 : Typed.Typed 𝓤 H A 𝓣 E G25 b95 Δ0 (at147 bs)
           d147 = Typed.s-seq 𝓤 H A W 𝓣 E G25 G26 b11 b94 Δ0 (Typed.ask (s24 bs)) (at146 bs) (Relend.t-sl-aggregate 𝓤 H A W E (Referent.rtF (Referent.fInt Syntax.w16)) 𝓣 (Relend.asMut (Referent.rtF (Referent.fInt Syntax.w16))) G25 16 17 2 (Syntax.tyRef Syntax.erased Syntax.mut ty·0) ty·10 (λ x. x) (Scalar.oInt Syntax.w64 1) (Reads.as-is 𝓤 H A (Relend.msptr
-              (Referent.rtF (Referent.fInt Syntax.w16)) (Syntax.tyRef Syntax.erased Syntax.mut ty·0) 2)) (Reads.room-gone 𝓤 H A (Syntax.tyStruct (List._∷_ 38 (List._∷_ 91 (List._∷_ 93 List.[]))) (Syntax.tcons ty·10 (Syntax.tcons (Syntax.tyInt Syntax.w64) Syntax.tnil)))) tt Path'.refl Path'.refl λ b o k. tt) d146
-
-          d148 : Typed.Typed 𝓤 H A 𝓣 E G24 b96 Δ0 (at148 bs)
-          d148 = Typed.s-seq 𝓤 H A W 𝓣 E G24 G25 b10 b95 Δ0 (Typed.give (s23 bs)) (at147 bs) (Borrow.t-arr-borrow 𝓤 H A W E 𝓣 (Referent.rtF (Referent.fInt Syntax.w16)) G24 4 16 1 2 (Syntax.tyRef Syntax.erased Syntax.mut ty·0) (λ x. x) (Reads.as-is 𝓤 H A (Rows.arrF (Referent.rtF (Referent.fInt Syntax.w16)) 1 0)) (Reads.room-gone 𝓤 H A
-              (Syntax.tyRef Syntax.erased Syntax.mut ty·0)) Path'.refl (λ b o. tt) (Dec'.lit< tt, Dec'.lit< tt)) d147
-
-          d149 : Typed.Typed 𝓤 H A 𝓣 E G23 b96 Δ0 (at149 bs)
-          d149 = Typed.g-pre 𝓤 H A W 𝓣 E G23 G24 b96 Δ0 (λ Ψ. Ψ) (at148 bs) (Lifetime.g-begin 𝓤 H A W E G23 2 (
-            tt,
-            (
-              tt,
-              (
-                tt,
-                (
-                  tt,
-                  (
-                    tt,
-                    (
-                      tt,
-                      (
-                        tt,
-                        (
-                          tt,
-                          (
-                            tt,
-                            (
-                              tt,
-                              (
-                                tt,
-                                (
-                                  tt,
-                                  (
-                                    tt,
-                                    (
-                                      tt,
-                                      (
-                                        tt,
-                                        (
-                                          tt,
-                                          (
-                                            tt,
-                                            (
-                                              tt,
-                                              (
-                                                tt,
-                                                (
-                                                  tt,
-                                                  (
-                                                    tt,
-                                                    (
-                                                      tt,
-                                                      (
-                                                        tt,
-                                                        (
-                                                          tt,
-                                                          (
-                                                            tt,
-                                                            (
-                                                              tt,
-                                                              (
-                                                                tt,
-                                                                (
-                                                                  tt,
-                                                                  (
-                                                                    tt,
-                                                                    (
-                                                                      tt,
-                                                                      (
-                                                                        tt,
-                                                                        (
-                                                                          tt,
-                                                                          (
-                                                                            tt,
-                                                                            (
-                                                                              tt,
-                                                                              (
-                                                                                tt,
-                                                                                (
-                                                                                  tt,
-                                                                                  (
-                                                                                    tt,
-                                                                                    (
-                                                                                      tt,
-                                                                                      (
-                                                                                        tt,
-                                                                                        (
-                                                                                          tt,
-                                                                                          (
-                                                                                            tt,
-                                                                                            (
-                                                                                              tt,
-                                                                                              (tt, (tt, (tt, (tt, (tt, (tt, (tt, (tt, (tt, (tt, (tt, tt))))))))))),
-                                                                                            ),
-                                                                                          ),
-                                                                                        ),
-                                                                                      ),
-                                                                                    ),
-                                                                                  ),
-                                                                                ),
-                                                                              ),
-                                                                            ),
-                                                                          ),
-                                                                        ),
-                                                                      ),
-                                                                    ),
-                                                                  ),
-                                                                ),
-                                                              ),
-                                                            ),
-                                                          ),
-                                                        ),
-                                                      ),
-                                                    ),
-                                                  ),
-                                                ),
-                                              ),
-                                            ),
-                                          ),
-                                        ),
-                                      ),
-                                    ),
-                                  ),
-                                ),
-                              ),
-                            ),
-                          ),
-                        ),
-                      ),
-                    ),
-                  ),
-                ),
-              ),
-            ),
-          )) d148
+              (Referent.rtF (Referent.fInt Syntax.w16)) (Syntax.tyRef Syntax.erased Syntax.mut ty·0) 2)) (Reads.room-gone 𝓤 H A (Syntax.tyStruct (List._∷_ 38 (List._∷_ 91 (List._∷_ 93 List.[]))) (Syntax.tcons ty·10 (Syntax.tcons (Syntax.tyInt Syntax.w64) Syntax.tnil)))) tt Path'.refl Path'.refl λ b o k. tt) (Typed.g-pre 𝓤 H A W 𝓣 E G26 G27 b94 Δ0 (λ Ψ. Ψ) (at145
+              bs) (Lifetime.g-begin 𝓤 H A W E G26 3
+              (tt, (tt, (tt, (tt, (tt, (tt, (tt, (tt, (tt, (tt, (tt, (tt, (tt, (tt, (tt, (tt, (tt, (tt, (tt, (tt, (tt, (tt, (tt, (tt, (tt, (tt, (tt, (tt, (tt, (tt, (tt, (tt, (tt, (tt, (tt, (tt, (tt, (tt, (tt, (tt, (tt, (tt, (tt, (tt, (tt, (tt, (tt, (tt, (tt, (tt, (tt, (tt, (tt, tt)))))))))))))))))))))))))))))))))))))))))))))))))))))) (Typed.s-seq 𝓤 H A W 𝓣 E G27
+              G28 b12 b93 Δ0 (Typed.give (s26 bs)) (at144 bs) (Borrow.t-arr-borrow 𝓤 H A W E 𝓣 (Referent.rtF (Referent.fInt Syntax.w16)) G27 5 18 1 3 (Syntax.tyRef Syntax.erased Syntax.mut ty·0) (λ x. x) (Reads.as-is 𝓤 H A (Rows.arrF (Referent.rtF (Referent.fInt Syntax.w16)) 1 0)) (Reads.room-gone 𝓤 H A (Syntax.tyRef Syntax.erased Syntax.mut ty·0)) Path'.refl (λ
+              b o. tt) (Dec'.lit< tt, Dec'.lit< tt)) d144))
 
           d150 : Typed.Typed 𝓤 H A 𝓣 E G22 b96 Δ0 (at150 bs)
-          d150 = Typed.g-pre 𝓤 H A W 𝓣 E G22 G23 b96 Δ0 (Typed.pass T22 T23 (s21 bs)) (at149 bs) (Scalar.g-room 𝓤 H A W E G22 15 Rec.mir (Local.room-whole 𝓤 H A W Rec.rt Rec.mir Path'.refl)) d149
-
-          d151 : Typed.Typed 𝓤 H A 𝓣 E G21 b96 Δ0 (at151 bs)
-          d151 = Typed.g-pre 𝓤 H A W 𝓣 E G21 G22 b96 Δ0 (Typed.pass T21 T22 (s20 bs)) (at150 bs) (AtSlots.g-as-by 𝓤 H A W E (λ ρ. Unit) G21 12 (Rows.arrF Rec.rt 2048 0) (λ x. x) (Own.told-none 𝓤 H A (G21 .slots)) λ ρ told. Repeat.whole-arr 𝓤 H A W Rec.rt 2048 tt ρ) d150
+          d150 = Typed.g-pre 𝓤 H A W 𝓣 E G22 G23 b96 Δ0 (Typed.pass T22 T23 (s21 bs)) (at149 bs) (Scalar.g-room 𝓤 H A W E G22 15 Rec.mir (Local.room-whole 𝓤 H A W Rec.rt Rec.mir Path'.refl)) (Typed.g-pre 𝓤 H A W 𝓣 E G23 G24 b96 Δ0 (λ Ψ. Ψ) (at148 bs) (Lifetime.g-begin 𝓤 H A W E G23 2
+              (tt, (tt, (tt, (tt, (tt, (tt, (tt, (tt, (tt, (tt, (tt, (tt, (tt, (tt, (tt, (tt, (tt, (tt, (tt, (tt, (tt, (tt, (tt, (tt, (tt, (tt, (tt, (tt, (tt, (tt, (tt, (tt, (tt, (tt, (tt, (tt, (tt, (tt, (tt, (tt, (tt, (tt, (tt, (tt, (tt, (tt, (tt, (tt, (tt, (tt, (tt, (tt, (tt, tt)))))))))))))))))))))))))))))))))))))))))))))))))))))) (Typed.s-seq 𝓤 H A W 𝓣 E G24
+              G25 b10 b95 Δ0 (Typed.give (s23 bs)) (at147 bs) (Borrow.t-arr-borrow 𝓤 H A W E 𝓣 (Referent.rtF (Referent.fInt Syntax.w16)) G24 4 16 1 2 (Syntax.tyRef Syntax.erased Syntax.mut ty·0) (λ x. x) (Reads.as-is 𝓤 H A (Rows.arrF (Referent.rtF (Referent.fInt Syntax.w16)) 1 0)) (Reads.room-gone 𝓤 H A (Syntax.tyRef Syntax.erased Syntax.mut ty·0)) Path'.refl (λ
+              b o. tt) (Dec'.lit< tt, Dec'.lit< tt)) d147))
 
           d152 : Typed.Typed 𝓤 H A 𝓣 E G20 b97 Δ0 (at152 bs)
-          d152 = Typed.s-seq 𝓤 H A W 𝓣 E G20 G21 b9 b96 Δ0 (Typed.pass T20 T21 (s19 bs)) (at151 bs) (Repeat.t-repeat-by 𝓤 H A W E 𝓣 Rec.rt (Rec.lawful 𝓤 H A W) (Rec.cp .copy 𝓤 H A W) 2048 G20 12 (Scalar.oAt 15 Rec.mir λ x. Steps.only (Rec.cp .vals x)) (λ m. m .1 .1 .1 .1 .1 .1 .1 .1 .1 .1 .1 .1 .1 .1 .1 .0) (λ ρ. Unit) (Reads.room-gone 𝓤 H A
-              (Syntax.tyArray Rec.mir 2048)) (Rec.reads 𝓤 H A W, Path'.refl) Path'.refl (Own.told-none 𝓤 H A (G20 .slots)) λ ρ m pf wa. Gives.elem-local 𝓤 H A W E ρ Rec.rt (λ x. Steps.only (Rec.cp .vals x)) (Rec.cp .tells) (Row.out 12 (G20 .locals)) m (λ ρ. Unit) pf 15 Rec.mir (λ x. x) (Yields.yields-copy 𝓤 H A W (λ ρ. Unit) Rec.rt Path'.refl
-              (Rec.cp .copy 𝓤 H A W) Rec.row (λ x. x) (λ x. x) (λ ρ told. Local.mem-whole 𝓤 H A W Rec.rt ρ) λ ρ told. Local.whole-mem 𝓤 H A W Rec.rt ρ)) d151
-
-          d153 : Typed.Typed 𝓤 H A 𝓣 E G19 b98 Δ0 (at153 bs)
-          d153 = Typed.s-seq 𝓤 H A W 𝓣 E G19 G20 b8 b97 Δ0 (Typed.both (s18 bs)) (at152 bs) (Plain.t-call-plain 𝓤 H A W 𝓣 0 ps·0 r·0 (claims· .0) (claims· .1) "records::record::zero_record" (known .0) E (λ pos β. β) G19 tt 15 List.[] (Call.sub-id 𝓤 H A W (G19 .slots)) tt (Reads.room-gone 𝓤 H A Rec.mir) tt Path'.refl) d152
-
-          d154 : Typed.Typed 𝓤 H A 𝓣 E G18 b98 Δ0 (at154 bs)
-          d154 = Typed.g-pre 𝓤 H A W 𝓣 E G18 G19 b98 Δ0 (Typed.pass T18 T19 (s17 bs)) (at153 bs) (AtSlots.g-as-by 𝓤 H A W E (λ ρ. Unit) G18 11 (Rows.arrF (Referent.rtF (Referent.fInt Syntax.w8)) 32 0) (λ x. x) (Own.told-none 𝓤 H A (G18 .slots)) λ ρ told. Repeat.whole-arr 𝓤 H A W (Referent.rtF (Referent.fInt Syntax.w8)) 32 tt ρ) d153
+          d152 = Typed.s-seq 𝓤 H A W 𝓣 E G20 G21 b9 b96 Δ0 (Typed.pass T20 T21 (s19 bs)) (at151 bs) (Repeat.t-repeat-by 𝓤 H A W E 𝓣 Rec.rt (Rec.lawful 𝓤 H A W) (Rec.cp .copy 𝓤 H A W) 2048 G20 12 (Scalar.oAt 15 Rec.mir λ x. Steps.only (Rec.cp .vals x)) (λ m. m .1 .1 .1 .1 .1 .1 .1 .1 .1 .1 .1 .1 .1 .1 .1 .0) (λ ρ. Unit) (Reads.room-gone 𝓤 H A (Syntax.tyArray
+              Rec.mir 2048)) (Rec.reads 𝓤 H A W, Path'.refl) Path'.refl (Own.told-none 𝓤 H A (G20 .slots)) λ ρ m pf wa. Gives.elem-local 𝓤 H A W E ρ Rec.rt (λ x. Steps.only (Rec.cp .vals x)) (Rec.cp .tells) (Row.out 12 (G20 .locals)) m (λ ρ. Unit) pf 15 Rec.mir (λ x. x) (Yields.yields-copy 𝓤 H A W (λ ρ. Unit) Rec.rt Path'.refl (Rec.cp .copy 𝓤 H A W) Rec.row (λ
+              x. x) (λ x. x) (λ ρ told. Local.mem-whole 𝓤 H A W Rec.rt ρ) λ ρ told. Local.whole-mem 𝓤 H A W Rec.rt ρ)) (Typed.g-pre 𝓤 H A W 𝓣 E G21 G22 b96 Δ0 (Typed.pass T21 T22 (s20 bs)) (at150 bs) (AtSlots.g-as-by 𝓤 H A W E (λ ρ. Unit) G21 12 (Rows.arrF Rec.rt 2048 0) (λ x. x) (Own.told-none 𝓤 H A (G21 .slots)) λ ρ told. Repeat.whole-arr 𝓤 H A W Rec.rt 2048
+              tt ρ) d150)
 
           d155 : Typed.Typed 𝓤 H A 𝓣 E G17 b99 Δ0 (at155 bs)
           d155 = Typed.s-seq 𝓤 H A W 𝓣 E G17 G18 b7 b98 Δ0 (Typed.pass T17 T18 (s16 bs)) (at154 bs) (Repeat.t-repeat 𝓤 H A W E 𝓣 (Referent.rtF (Referent.fInt Syntax.w8)) (Plain'.uint-lawful 𝓤 H A W Syntax.w8) (Copies.cRf (Referent.fInt Syntax.w8) .copy 𝓤 H A W) (Plain'.uint-makes 𝓤 H A W Syntax.w8) 32 G17 11 (Scalar.oInt Syntax.w8 0) (λ m. 0)
-              (Reads.room-gone 𝓤 H A ty·1) tt Path'.refl λ m wa. (Path'.refl, Dec'.lit< tt)) d154
-
-          d156 : Typed.Typed 𝓤 H A 𝓣 E G16 b99 Δ0 (at156 bs)
-          d156 = Typed.g-pre 𝓤 H A W 𝓣 E G16 G17 b99 Δ0 (Typed.pass T16 T17 (s15 bs)) (at155 bs) (AtSlots.g-as-by 𝓤 H A W E (λ ρ. Unit) G16 10 (Rows.arrF (Referent.rtF (Referent.fInt Syntax.w16)) 32 0) (λ x. x) (Own.told-none 𝓤 H A (G16 .slots)) λ ρ told. Repeat.whole-arr 𝓤 H A W (Referent.rtF (Referent.fInt Syntax.w16)) 32 tt ρ) d155
-
-          d157 : Typed.Typed 𝓤 H A 𝓣 E G15 b100 Δ0 (at157 bs)
-          d157 = Typed.s-seq 𝓤 H A W 𝓣 E G15 G16 b6 b99 Δ0 (Typed.pass T15 T16 (s14 bs)) (at156 bs) (Repeat.t-repeat 𝓤 H A W E 𝓣 (Referent.rtF (Referent.fInt Syntax.w16)) (Plain'.uint-lawful 𝓤 H A W Syntax.w16) (Copies.cRf (Referent.fInt Syntax.w16) .copy 𝓤 H A W) (Plain'.uint-makes 𝓤 H A W Syntax.w16) 32 G15 10 (Scalar.oInt Syntax.w16 0) (λ m. 0)
-              (Reads.room-gone 𝓤 H A ty·3) tt Path'.refl λ m wa. (Path'.refl, Dec'.lit< tt)) d156
+              (Reads.room-gone 𝓤 H A ty·1) tt Path'.refl λ m wa. (Path'.refl, Dec'.lit< tt)) (Typed.g-pre 𝓤 H A W 𝓣 E G18 G19 b98 Δ0 (Typed.pass T18 T19 (s17 bs)) (at153 bs) (AtSlots.g-as-by 𝓤 H A W E (λ ρ. Unit) G18 11 (Rows.arrF (Referent.rtF (Referent.fInt Syntax.w8)) 32 0) (λ x. x) (Own.told-none 𝓤 H A (G18 .slots)) λ ρ told. Repeat.whole-arr 𝓤 H A W
+              (Referent.rtF (Referent.fInt Syntax.w8)) 32 tt ρ) (Typed.s-seq 𝓤 H A W 𝓣 E G19 G20 b8 b97 Δ0 (Typed.both (s18 bs)) (at152 bs) (Plain.t-call-plain 𝓤 H A W 𝓣 0 ps·0 r·0 (claims· .0) (claims· .1) "records::record::zero_record" (known .0) E (λ pos β. β) G19 tt 15 List.[] (Call.sub-id 𝓤 H A W (G19 .slots)) tt (Reads.room-gone 𝓤 H A Rec.mir) tt
+              Path'.refl) d152))
 
           d158 : Typed.Typed 𝓤 H A 𝓣 E G14 b100 Δ0 (at158 bs)
-          d158 = Typed.g-pre 𝓤 H A W 𝓣 E G14 G15 b100 Δ0 (Typed.pass T14 T15 (s13 bs)) (at157 bs) (AtSlots.g-as-by 𝓤 H A W E (λ ρ. Unit) G14 9 (Rows.arrF (Referent.rtF (Referent.fInt Syntax.w32)) 1024 0) (λ x. x) (Own.told-none 𝓤 H A (G14 .slots)) λ ρ told. Repeat.whole-arr 𝓤 H A W (Referent.rtF (Referent.fInt Syntax.w32)) 1024 tt ρ) d157
-
-          d159 : Typed.Typed 𝓤 H A 𝓣 E G13 b101 Δ0 (at159 bs)
-          d159 = Typed.s-seq 𝓤 H A W 𝓣 E G13 G14 b5 b100 Δ0 (Typed.pass T13 T14 (s12 bs)) (at158 bs) (Repeat.t-repeat 𝓤 H A W E 𝓣 (Referent.rtF (Referent.fInt Syntax.w32)) (Plain'.uint-lawful 𝓤 H A W Syntax.w32) (Copies.cRf (Referent.fInt Syntax.w32) .copy 𝓤 H A W) (Plain'.uint-makes 𝓤 H A W Syntax.w32) 1024 G13 9 (Scalar.oInt Syntax.w32 0) (λ m. 0)
-              (Reads.room-gone 𝓤 H A ty·5) tt Path'.refl λ m wa. (Path'.refl, Dec'.lit< tt)) d158
-
-          d160 : Typed.Typed 𝓤 H A 𝓣 E G12 b101 Δ0 (at160 bs)
-          d160 = Typed.g-pre 𝓤 H A W 𝓣 E G12 G13 b101 Δ0 (Typed.pass T12 T13 (s11 bs)) (at159 bs) (AtSlots.g-as-by 𝓤 H A W E (λ ρ. Unit) G12 8 (Rows.arrF (Referent.rtF (Referent.fInt Syntax.w16)) 1024 0) (λ x. x) (Own.told-none 𝓤 H A (G12 .slots)) λ ρ told. Repeat.whole-arr 𝓤 H A W (Referent.rtF (Referent.fInt Syntax.w16)) 1024 tt ρ) d159
+          d158 = Typed.g-pre 𝓤 H A W 𝓣 E G14 G15 b100 Δ0 (Typed.pass T14 T15 (s13 bs)) (at157 bs) (AtSlots.g-as-by 𝓤 H A W E (λ ρ. Unit) G14 9 (Rows.arrF (Referent.rtF (Referent.fInt Syntax.w32)) 1024 0) (λ x. x) (Own.told-none 𝓤 H A (G14 .slots)) λ ρ told. Repeat.whole-arr 𝓤 H A W (Referent.rtF (Referent.fInt Syntax.w32)) 1024 tt ρ) (Typed.s-seq 𝓤 H A W 𝓣 E
+              G15 G16 b6 b99 Δ0 (Typed.pass T15 T16 (s14 bs)) (at156 bs) (Repeat.t-repeat 𝓤 H A W E 𝓣 (Referent.rtF (Referent.fInt Syntax.w16)) (Plain'.uint-lawful 𝓤 H A W Syntax.w16) (Copies.cRf (Referent.fInt Syntax.w16) .copy 𝓤 H A W) (Plain'.uint-makes 𝓤 H A W Syntax.w16) 32 G15 10 (Scalar.oInt Syntax.w16 0) (λ m. 0) (Reads.room-gone 𝓤 H A ty·3) tt
+              Path'.refl λ m wa. (Path'.refl, Dec'.lit< tt)) (Typed.g-pre 𝓤 H A W 𝓣 E G16 G17 b99 Δ0 (Typed.pass T16 T17 (s15 bs)) (at155 bs) (AtSlots.g-as-by 𝓤 H A W E (λ ρ. Unit) G16 10 (Rows.arrF (Referent.rtF (Referent.fInt Syntax.w16)) 32 0) (λ x. x) (Own.told-none 𝓤 H A (G16 .slots)) λ ρ told. Repeat.whole-arr 𝓤 H A W (Referent.rtF (Referent.fInt
+              Syntax.w16)) 32 tt ρ) d155))
 
           d161 : Typed.Typed 𝓤 H A 𝓣 E G11 b102 Δ0 (at161 bs)
           d161 = Typed.s-seq 𝓤 H A W 𝓣 E G11 G12 b4 b101 Δ0 (Typed.pass T11 T12 (s10 bs)) (at160 bs) (Repeat.t-repeat 𝓤 H A W E 𝓣 (Referent.rtF (Referent.fInt Syntax.w16)) (Plain'.uint-lawful 𝓤 H A W Syntax.w16) (Copies.cRf (Referent.fInt Syntax.w16) .copy 𝓤 H A W) (Plain'.uint-makes 𝓤 H A W Syntax.w16) 1024 G11 8 (Scalar.oInt Syntax.w16 0) (λ m. 0)
-              (Reads.room-gone 𝓤 H A ty·4) tt Path'.refl λ m wa. (Path'.refl, Dec'.lit< tt)) d160
-
-          d162 : Typed.Typed 𝓤 H A 𝓣 E G10 b102 Δ0 (at162 bs)
-          d162 = Typed.g-pre 𝓤 H A W 𝓣 E G10 G11 b102 Δ0 (Typed.pass T10 T11 (s9 bs)) (at161 bs) (AtSlots.g-as-by 𝓤 H A W E (λ ρ. Unit) G10 7 (Rows.arrF (Referent.rtF (Referent.fInt Syntax.w16)) 32 0) (λ x. x) (Own.told-none 𝓤 H A (G10 .slots)) λ ρ told. Repeat.whole-arr 𝓤 H A W (Referent.rtF (Referent.fInt Syntax.w16)) 32 tt ρ) d161
-
-          d163 : Typed.Typed 𝓤 H A 𝓣 E G9 b103 Δ0 (at163 bs)
-          d163 = Typed.s-seq 𝓤 H A W 𝓣 E G9 G10 b3 b102 Δ0 (Typed.pass T9 T10 (s8 bs)) (at162 bs) (Repeat.t-repeat 𝓤 H A W E 𝓣 (Referent.rtF (Referent.fInt Syntax.w16)) (Plain'.uint-lawful 𝓤 H A W Syntax.w16) (Copies.cRf (Referent.fInt Syntax.w16) .copy 𝓤 H A W) (Plain'.uint-makes 𝓤 H A W Syntax.w16) 32 G9 7 (Scalar.oInt Syntax.w16 0) (λ m. 0)
-              (Reads.room-gone 𝓤 H A ty·3) tt Path'.refl λ m wa. (Path'.refl, Dec'.lit< tt)) d162
+              (Reads.room-gone 𝓤 H A ty·4) tt Path'.refl λ m wa. (Path'.refl, Dec'.lit< tt)) (Typed.g-pre 𝓤 H A W 𝓣 E G12 G13 b101 Δ0 (Typed.pass T12 T13 (s11 bs)) (at159 bs) (AtSlots.g-as-by 𝓤 H A W E (λ ρ. Unit) G12 8 (Rows.arrF (Referent.rtF (Referent.fInt Syntax.w16)) 1024 0) (λ x. x) (Own.told-none 𝓤 H A (G12 .slots)) λ ρ told. Repeat.whole-arr 𝓤 H A W
+              (Referent.rtF (Referent.fInt Syntax.w16)) 1024 tt ρ) (Typed.s-seq 𝓤 H A W 𝓣 E G13 G14 b5 b100 Δ0 (Typed.pass T13 T14 (s12 bs)) (at158 bs) (Repeat.t-repeat 𝓤 H A W E 𝓣 (Referent.rtF (Referent.fInt Syntax.w32)) (Plain'.uint-lawful 𝓤 H A W Syntax.w32) (Copies.cRf (Referent.fInt Syntax.w32) .copy 𝓤 H A W) (Plain'.uint-makes 𝓤 H A W Syntax.w32) 1024 G13
+              9 (Scalar.oInt Syntax.w32 0) (λ m. 0) (Reads.room-gone 𝓤 H A ty·5) tt Path'.refl λ m wa. (Path'.refl, Dec'.lit< tt)) d158))
 
           d164 : Typed.Typed 𝓤 H A 𝓣 E G8 b103 Δ0 (at164 bs)
-          d164 = Typed.g-pre 𝓤 H A W 𝓣 E G8 G9 b103 Δ0 (Typed.pass T8 T9 (s7 bs)) (at163 bs) (AtSlots.g-as-by 𝓤 H A W E (λ ρ. Unit) G8 6 (Rows.arrF (Referent.rtF (Referent.fInt Syntax.w8)) 768 0) (λ x. x) (Own.told-none 𝓤 H A (G8 .slots)) λ ρ told. Repeat.whole-arr 𝓤 H A W (Referent.rtF (Referent.fInt Syntax.w8)) 768 tt ρ) d163
-
-          d165 : Typed.Typed 𝓤 H A 𝓣 E G7 b104 Δ0 (at165 bs)
-          d165 = Typed.s-seq 𝓤 H A W 𝓣 E G7 G8 b2 b103 Δ0 (Typed.pass T7 T8 (s6 bs)) (at164 bs) (Repeat.t-repeat 𝓤 H A W E 𝓣 (Referent.rtF (Referent.fInt Syntax.w8)) (Plain'.uint-lawful 𝓤 H A W Syntax.w8) (Copies.cRf (Referent.fInt Syntax.w8) .copy 𝓤 H A W) (Plain'.uint-makes 𝓤 H A W Syntax.w8) 768 G7 6 (Scalar.oInt Syntax.w8 0) (λ m. 0)
-              (Reads.room-gone 𝓤 H A ty·2) tt Path'.refl λ m wa. (Path'.refl, Dec'.lit< tt)) d164
-
-          d166 : Typed.Typed 𝓤 H A 𝓣 E G6 b104 Δ0 (at166 bs)
-          d166 = Typed.g-pre 𝓤 H A W 𝓣 E G6 G7 b104 Δ0 (Typed.pass T6 T7 (s5 bs)) (at165 bs) (AtSlots.g-as-by 𝓤 H A W E (λ ρ. Unit) G6 5 (Rows.arrF (Referent.rtF (Referent.fInt Syntax.w16)) 1 0) (λ x. x) (Own.told-none 𝓤 H A (G6 .slots)) λ ρ told. Repeat.whole-arr 𝓤 H A W (Referent.rtF (Referent.fInt Syntax.w16)) 1 tt ρ) d165
+          d164 = Typed.g-pre 𝓤 H A W 𝓣 E G8 G9 b103 Δ0 (Typed.pass T8 T9 (s7 bs)) (at163 bs) (AtSlots.g-as-by 𝓤 H A W E (λ ρ. Unit) G8 6 (Rows.arrF (Referent.rtF (Referent.fInt Syntax.w8)) 768 0) (λ x. x) (Own.told-none 𝓤 H A (G8 .slots)) λ ρ told. Repeat.whole-arr 𝓤 H A W (Referent.rtF (Referent.fInt Syntax.w8)) 768 tt ρ) (Typed.s-seq 𝓤 H A W 𝓣 E G9 G10 b3
+              b102 Δ0 (Typed.pass T9 T10 (s8 bs)) (at162 bs) (Repeat.t-repeat 𝓤 H A W E 𝓣 (Referent.rtF (Referent.fInt Syntax.w16)) (Plain'.uint-lawful 𝓤 H A W Syntax.w16) (Copies.cRf (Referent.fInt Syntax.w16) .copy 𝓤 H A W) (Plain'.uint-makes 𝓤 H A W Syntax.w16) 32 G9 7 (Scalar.oInt Syntax.w16 0) (λ m. 0) (Reads.room-gone 𝓤 H A ty·3) tt Path'.refl λ m wa.
+              (Path'.refl, Dec'.lit< tt)) (Typed.g-pre 𝓤 H A W 𝓣 E G10 G11 b102 Δ0 (Typed.pass T10 T11 (s9 bs)) (at161 bs) (AtSlots.g-as-by 𝓤 H A W E (λ ρ. Unit) G10 7 (Rows.arrF (Referent.rtF (Referent.fInt Syntax.w16)) 32 0) (λ x. x) (Own.told-none 𝓤 H A (G10 .slots)) λ ρ told. Repeat.whole-arr 𝓤 H A W (Referent.rtF (Referent.fInt Syntax.w16)) 32 tt ρ) d161))
 
           d167 : Typed.Typed 𝓤 H A 𝓣 E G5 b105 Δ0 (at167 bs)
           d167 = Typed.s-seq 𝓤 H A W 𝓣 E G5 G6 b1 b104 Δ0 (Typed.pass T5 T6 (s4 bs)) (at166 bs) (Make.t-make-wt 𝓤 H A W E 𝓣 (Array'.Array (Referent.rtF (Referent.fInt Syntax.w16)) 1) Path'.refl (Gives.arrayValOf λ x. Steps.only (Copies.cRf (Referent.fInt Syntax.w16) .vals x)) (Array'.array-lawful 𝓤 H A W (Referent.rtF (Referent.fInt Syntax.w16))
-              (Plain'.uint-lawful 𝓤 H A W Syntax.w16) 1) (Array'.array-makes 𝓤 H A W (Referent.rtF (Referent.fInt Syntax.w16)) (Plain'.uint-makes 𝓤 H A W Syntax.w16) 1) G5 5 (List._∷_ (Scalar.oInt Syntax.w16 0) List.[]) (λ m. List._∷_ 0 List.[]) (Reads.room-gone 𝓤 H A ty·0) (tt, tt) Path'.refl (λ m wa. Path'.refl) λ m wa. (
-                List._∷_ (Row.valS (Row.sInt Syntax.w16) 0) List.[],
-                ((Path'.refl, Path'.refl), ((Path'.refl, Dec'.lit< tt), tt)),
-              )) d166
+              (Plain'.uint-lawful 𝓤 H A W Syntax.w16) 1) (Array'.array-makes 𝓤 H A W (Referent.rtF (Referent.fInt Syntax.w16)) (Plain'.uint-makes 𝓤 H A W Syntax.w16) 1) G5 5 (List._∷_ (Scalar.oInt Syntax.w16 0) List.[]) (λ m. List._∷_ 0 List.[]) (Reads.room-gone 𝓤 H A ty·0) (tt, tt) Path'.refl (λ m wa. Path'.refl) λ m wa.
+              (List._∷_ (Row.valS (Row.sInt Syntax.w16) 0) List.[], ((Path'.refl, Path'.refl), ((Path'.refl, Dec'.lit< tt), tt)))) (Typed.g-pre 𝓤 H A W 𝓣 E G6 G7 b104 Δ0 (Typed.pass T6 T7 (s5 bs)) (at165 bs) (AtSlots.g-as-by 𝓤 H A W E (λ ρ. Unit) G6 5 (Rows.arrF (Referent.rtF (Referent.fInt Syntax.w16)) 1 0) (λ x. x) (Own.told-none 𝓤 H A (G6 .slots)) λ ρ told.
+              Repeat.whole-arr 𝓤 H A W (Referent.rtF (Referent.fInt Syntax.w16)) 1 tt ρ) (Typed.s-seq 𝓤 H A W 𝓣 E G7 G8 b2 b103 Δ0 (Typed.pass T7 T8 (s6 bs)) (at164 bs) (Repeat.t-repeat 𝓤 H A W E 𝓣 (Referent.rtF (Referent.fInt Syntax.w8)) (Plain'.uint-lawful 𝓤 H A W Syntax.w8) (Copies.cRf (Referent.fInt Syntax.w8) .copy 𝓤 H A W) (Plain'.uint-makes 𝓤 H A W
+              Syntax.w8) 768 G7 6 (Scalar.oInt Syntax.w8 0) (λ m. 0) (Reads.room-gone 𝓤 H A ty·2) tt Path'.refl λ m wa. (Path'.refl, Dec'.lit< tt)) d164))
 
-          d168 : Typed.Typed 𝓤 H A 𝓣 E G4 b105 Δ0 (at168 bs)
-          d168 = Typed.g-pre 𝓤 H A W 𝓣 E G4 G5 b105 Δ0 (Typed.pass T4 T5 (s3 bs)) (at167 bs) (AtSlots.g-as-by 𝓤 H A W E (λ ρ. Unit) G4 4 (Rows.arrF (Referent.rtF (Referent.fInt Syntax.w16)) 1 0) (λ x. x) (Own.told-none 𝓤 H A (G4 .slots)) λ ρ told. Repeat.whole-arr 𝓤 H A W (Referent.rtF (Referent.fInt Syntax.w16)) 1 tt ρ) d167
-
-          d169 : Typed.Typed 𝓤 H A 𝓣 E G3 b106 Δ0 (at169 bs)
-          d169 = Typed.s-seq 𝓤 H A W 𝓣 E G3 G4 b0 b105 Δ0 (Typed.pass T3 T4 (s2 bs)) (at168 bs) (Make.t-make-wt 𝓤 H A W E 𝓣 (Array'.Array (Referent.rtF (Referent.fInt Syntax.w16)) 1) Path'.refl (Gives.arrayValOf λ x. Steps.only (Copies.cRf (Referent.fInt Syntax.w16) .vals x)) (Array'.array-lawful 𝓤 H A W (Referent.rtF (Referent.fInt Syntax.w16))
-              (Plain'.uint-lawful 𝓤 H A W Syntax.w16) 1) (Array'.array-makes 𝓤 H A W (Referent.rtF (Referent.fInt Syntax.w16)) (Plain'.uint-makes 𝓤 H A W Syntax.w16) 1) G3 4 (List._∷_ (Scalar.oInt Syntax.w16 0) List.[]) (λ m. List._∷_ 0 List.[]) (Reads.room-gone 𝓤 H A ty·0) (tt, tt) Path'.refl (λ m wa. Path'.refl) λ m wa. (
-                List._∷_ (Row.valS (Row.sInt Syntax.w16) 0) List.[],
-                ((Path'.refl, Path'.refl), ((Path'.refl, Dec'.lit< tt), tt)),
-              )) d168
-
-          d170 : Typed.Typed 𝓤 H A 𝓣 E G2 b106 Δ0 (at170 bs)
-          d170 = Typed.g-pre 𝓤 H A W 𝓣 E G2 G3 b106 Δ0 (Typed.give (s1 bs)) (at169 bs) (Know.g-shs-known 𝓤 H A W (Referent.fInt Syntax.w16) E G2 3 1 ty·15 (Row.lease (κs .1 .0) (qs .1 .0)) 0 (λ x. x) record { fits = Dec'.lit< tt } (Reads.as-is 𝓤 H A (Rows'.sslice (Referent.rtF (Referent.fInt Syntax.w16)) ty·15 1)) Path'.refl tt) d169
-
-          d171 : Typed.Typed 𝓤 H A 𝓣 E G0 b106 Δ0 (at171 bs)
-          d171 = Typed.g-pre 𝓤 H A W 𝓣 E G0 G2 b106 Δ0 (Typed.give (s0 bs)) (at170 bs) (Know.g-shs-known 𝓤 H A W (Referent.fInt Syntax.w8) E G0 1 0 ty·14 (Row.lease (κs .0) (qs .0)) 0 (λ x. x) record { fits = Dec'.lit< tt } (Reads.as-is 𝓤 H A (Rows'.sslice (Referent.rtF (Referent.fInt Syntax.w8)) ty·14 0)) Path'.refl tt) d170
+          d169 : Typed.Typed 𝓤 H A 𝓣 E G0 b106 Δ0 (at169 bs)
+          d169 = Typed.s-seq 𝓤 H A W 𝓣 E G0 G4 b0 b105 Δ0 (Typed.pass T0 T4 (s2 bs)) (at168 bs) (Make.t-make-wt 𝓤 H A W E 𝓣 (Array'.Array (Referent.rtF (Referent.fInt Syntax.w16)) 1) Path'.refl (Gives.arrayValOf λ x. Steps.only (Copies.cRf (Referent.fInt Syntax.w16) .vals x)) (Array'.array-lawful 𝓤 H A W (Referent.rtF (Referent.fInt Syntax.w16))
+              (Plain'.uint-lawful 𝓤 H A W Syntax.w16) 1) (Array'.array-makes 𝓤 H A W (Referent.rtF (Referent.fInt Syntax.w16)) (Plain'.uint-makes 𝓤 H A W Syntax.w16) 1) G0 4 (List._∷_ (Scalar.oInt Syntax.w16 0) List.[]) (λ m. List._∷_ 0 List.[]) (Reads.room-gone 𝓤 H A ty·0) (tt, tt) Path'.refl (λ m wa. Path'.refl) λ m wa.
+              (List._∷_ (Row.valS (Row.sInt Syntax.w16) 0) List.[], ((Path'.refl, Path'.refl), ((Path'.refl, Dec'.lit< tt), tt)))) (Typed.g-pre 𝓤 H A W 𝓣 E G4 G5 b105 Δ0 (Typed.pass T4 T5 (s3 bs)) (at167 bs) (AtSlots.g-as-by 𝓤 H A W E (λ ρ. Unit) G4 4 (Rows.arrF (Referent.rtF (Referent.fInt Syntax.w16)) 1 0) (λ x. x) (Own.told-none 𝓤 H A (G4 .slots)) λ ρ told.
+              Repeat.whole-arr 𝓤 H A W (Referent.rtF (Referent.fInt Syntax.w16)) 1 tt ρ) d167)
 
           pub typed : Typed.Typed 𝓤 H A 𝓣 E (Function.Γin 2 ps r xs m κs qs) b106 (Function.Δret 2 ps r xs m κs qs) (Φ bs)
-          typed = d171
+          typed = (Typed.g-pre 𝓤 H A W 𝓣 E G0 G0 b106 Δ0 (Typed.give (s0 bs)) (at170 bs) (Know.g-shs-known 𝓤 H A W (Referent.fInt Syntax.w8) E G0 1 0 ty·14 (Row.lease (κs .0) (qs .0)) 0 (λ x. x) record { fits = Dec'.lit< tt } (Reads.as-is 𝓤 H A (Rows'.sslice (Referent.rtF (Referent.fInt Syntax.w8)) ty·14 0)) Path'.refl tt) (Typed.g-pre 𝓤 H A W 𝓣 E G0 G0 b106
+              Δ0 (Typed.give (s1 bs)) (at169 bs) (Know.g-shs-known 𝓤 H A W (Referent.fInt Syntax.w16) E G0 3 1 ty·15 (Row.lease (κs .1 .0) (qs .1 .0)) 0 (λ x. x) record { fits = Dec'.lit< tt } (Reads.as-is 𝓤 H A (Rows'.sslice (Referent.rtF (Referent.fInt Syntax.w16)) ty·15 1)) Path'.refl tt) d169))
 
       module _ (κs : Lifetimes.Lfts 2) where
         pub record Args : Type 0 where
@@ -6941,11 +3339,7 @@ module _ (claims· : Claims) where
       m0 = λ κs args blocks. (tt, Enter.partsP κs 1 ps xs (dens κs args))
 
       abbrev W0 : (κs : Lifetimes.Lfts 2) → (args : Args κs) → (blocks : List.List Nat.ℕ) → Typed.Want O0
-      W0 = λ κs args blocks. (
-        λ u. ⊥,
-        tt,
-        λ u. Enter.Fixs κs 1 ps xs (dens κs args) (u .1) × Post· κs (dens κs args) (Function.resV r κs (u .0)) (Clauses.atExit (Kinds.endedOf 2 ps r) κs (dens κs args) (Enter.lastsP κs 1 ps xs (dens κs args) (u .1))),
-      )
+      W0 = λ κs args blocks. (λ u. ⊥, tt, λ u. Enter.Fixs κs 1 ps xs (dens κs args) (u .1) × Post· κs (dens κs args) (Function.resV r κs (u .0)) (Clauses.atExit (Kinds.endedOf 2 ps r) κs (dens κs args) (Enter.lastsP κs 1 ps xs (dens κs args) (u .1))))
 
       pub record Start : Type 0 where
         pub κs : Lifetimes.Lfts 2
@@ -6955,7 +3349,7 @@ module _ (claims· : Claims) where
         pub fits : Ranges κs args
         pub pre : Pre· κs (dens κs args)
 
-      abbrev pub m1 : (before : Start) → (given : s0 (before .blocks) .gives (m0 (before .κs) (before .args) (before .blocks))) → Typed.Mo T2
+      abbrev pub m1 : (before : Start) → (given : s0 (before .blocks) .gives (m0 (before .κs) (before .args) (before .blocks))) → Typed.Mo T0
       m1 = λ before given. s0 (before .blocks) .next (m0 (before .κs) (before .args) (before .blocks)) given
 
       module _ (before· : Start) where
@@ -6966,56 +3360,9 @@ module _ (claims· : Claims) where
         pub before : Start
         pub shared-slice-known : After-shared-slice-known·own before
 
-      abbrev pub m2 : (before : After-shared-slice-known) → (given : s1 (before .before .blocks) .gives (m1 (before .before) (before .shared-slice-known .given))) → Typed.Mo T3
-      m2 = λ before given. s1 (before .before .blocks) .next (m1 (before .before) (before .shared-slice-known .given)) given
-
-      abbrev pub m3 : (before : After-shared-slice-known) → (given : s1 (before .before .blocks) .gives (m1 (before .before) (before .shared-slice-known .given))) → Typed.Mo T4
-      m3 = λ before given. s2 (before .before .blocks) (m2 before given)
-
-      abbrev pub m4 : (before : After-shared-slice-known) → (given : s1 (before .before .blocks) .gives (m1 (before .before) (before .shared-slice-known .given))) → Typed.Mo T5
-      m4 = λ before given. s3 (before .before .blocks) (m3 before given)
-
-      abbrev pub m5 : (before : After-shared-slice-known) → (given : s1 (before .before .blocks) .gives (m1 (before .before) (before .shared-slice-known .given))) → Typed.Mo T6
-      m5 = λ before given. s4 (before .before .blocks) (m4 before given)
-
-      abbrev pub m6 : (before : After-shared-slice-known) → (given : s1 (before .before .blocks) .gives (m1 (before .before) (before .shared-slice-known .given))) → Typed.Mo T7
-      m6 = λ before given. s5 (before .before .blocks) (m5 before given)
-
-      abbrev pub m7 : (before : After-shared-slice-known) → (given : s1 (before .before .blocks) .gives (m1 (before .before) (before .shared-slice-known .given))) → Typed.Mo T8
-      m7 = λ before given. s6 (before .before .blocks) (m6 before given)
-
-      abbrev pub m8 : (before : After-shared-slice-known) → (given : s1 (before .before .blocks) .gives (m1 (before .before) (before .shared-slice-known .given))) → Typed.Mo T9
-      m8 = λ before given. s7 (before .before .blocks) (m7 before given)
-
-      abbrev pub m9 : (before : After-shared-slice-known) → (given : s1 (before .before .blocks) .gives (m1 (before .before) (before .shared-slice-known .given))) → Typed.Mo T10
-      m9 = λ before given. s8 (before .before .blocks) (m8 before given)
-
-      abbrev pub m10 : (before : After-shared-slice-known) → (given : s1 (before .before .blocks) .gives (m1 (before .before) (before .shared-slice-known .given))) → Typed.Mo T11
-      m10 = λ before given. s9 (before .before .blocks) (m9 before given)
-
-      abbrev pub m11 : (before : After-shared-slice-known) → (given : s1 (before .before .blocks) .gives (m1 (before .before) (before .shared-slice-known .given))) → Typed.Mo T12
-      m11 = λ before given. s10 (before .before .blocks) (m10 before given)
-
-      abbrev pub m12 : (before : After-shared-slice-known) → (given : s1 (before .before .blocks) .gives (m1 (before .before) (before .shared-slice-known .given))) → Typed.Mo T13
-      m12 = λ before given. s11 (before .before .blocks) (m11 before given)
-
-      abbrev pub m13 : (before : After-shared-slice-known) → (given : s1 (before .before .blocks) .gives (m1 (before .before) (before .shared-slice-known .given))) → Typed.Mo T14
-      m13 = λ before given. s12 (before .before .blocks) (m12 before given)
-
-      abbrev pub m14 : (before : After-shared-slice-known) → (given : s1 (before .before .blocks) .gives (m1 (before .before) (before .shared-slice-known .given))) → Typed.Mo T15
-      m14 = λ before given. s13 (before .before .blocks) (m13 before given)
-
-      abbrev pub m15 : (before : After-shared-slice-known) → (given : s1 (before .before .blocks) .gives (m1 (before .before) (before .shared-slice-known .given))) → Typed.Mo T16
-      m15 = λ before given. s14 (before .before .blocks) (m14 before given)
-
-      abbrev pub m16 : (before : After-shared-slice-known) → (given : s1 (before .before .blocks) .gives (m1 (before .before) (before .shared-slice-known .given))) → Typed.Mo T17
-      m16 = λ before given. s15 (before .before .blocks) (m15 before given)
-
-      abbrev pub m17 : (before : After-shared-slice-known) → (given : s1 (before .before .blocks) .gives (m1 (before .before) (before .shared-slice-known .given))) → Typed.Mo T18
-      m17 = λ before given. s16 (before .before .blocks) (m16 before given)
-
       abbrev pub m18 : (before : After-shared-slice-known) → (given : s1 (before .before .blocks) .gives (m1 (before .before) (before .shared-slice-known .given))) → Typed.Mo T19
-      m18 = λ before given. s17 (before .before .blocks) (m17 before given)
+      m18 = λ before given. s17 (before .before .blocks) (s16 (before .before .blocks) (s15 (before .before .blocks) (s14 (before .before .blocks) (s13 (before .before .blocks) (s12 (before .before .blocks) (s11 (before .before .blocks) (s10 (before .before .blocks) (s9 (before .before .blocks) (s8 (before .before .blocks) (s7 (before .before .blocks) (s6
+          (before .before .blocks) (s5 (before .before .blocks) (s4 (before .before .blocks) (s3 (before .before .blocks) (s2 (before .before .blocks) (s1 (before .before .blocks) .next (m1 (before .before) (before .shared-slice-known .given)) given))))))))))))))))
 
       module _ (before· : After-shared-slice-known) where
         pub record After-shared-slice-known2·own : Type 0 where
@@ -7042,14 +3389,8 @@ module _ (claims· : Claims) where
       abbrev pub After-zero-record·gave : (c : After-zero-record) → s18 (c .before .before .before .blocks) .gives (m18 (c .before .before) (c .before .shared-slice-known2 .given))
       After-zero-record·gave = λ c. Called.given ps·0 r·0 (claims· .1) T19 tt (m18 (c .before .before) (c .before .shared-slice-known2 .given)) (c .zero-record)
 
-      abbrev pub m20 : (before : After-shared-slice-known2) → (given : s18 (before .before .before .blocks) .gives (m18 (before .before) (before .shared-slice-known2 .given))) → Typed.Mo T21
-      m20 = λ before given. s19 (before .before .before .blocks) (m19 before given)
-
-      abbrev pub m21 : (before : After-shared-slice-known2) → (given : s18 (before .before .before .blocks) .gives (m18 (before .before) (before .shared-slice-known2 .given))) → Typed.Mo T22
-      m21 = λ before given. s20 (before .before .before .blocks) (m20 before given)
-
       abbrev pub m22 : (before : After-shared-slice-known2) → (given : s18 (before .before .before .blocks) .gives (m18 (before .before) (before .shared-slice-known2 .given))) → Typed.Mo T23
-      m22 = λ before given. s21 (before .before .before .blocks) (m21 before given)
+      m22 = λ before given. s21 (before .before .before .blocks) (s20 (before .before .before .blocks) (s19 (before .before .before .blocks) (m19 before given)))
 
       abbrev pub m23 : (before : After-zero-record) → (given : s23 (before .before .before .before .blocks) .gives (m22 (before .before) (After-zero-record·gave before))) → Typed.Mo T25
       m23 = λ before given. s23 (before .before .before .before .blocks) .next (m22 (before .before) (After-zero-record·gave before)) given
@@ -7212,92 +3553,14 @@ module _ (claims· : Claims) where
 
       module _ (before· : After-dependencies) where
         abbrev pub After-read-plan·own : Type 0
-        After-read-plan·own = Called.Called ps·1 r·1 (claims· .3) T50 (
-          record { pos = 1; ty = Syntax.tyRef (Syntax.named 0) Syntax.imm (Syntax.tyInt Syntax.w8); ref = λ x. x },
-          (
-            record { pos = 17; ty = Syntax.tyRef Syntax.erased Syntax.mut (Syntax.tyInt Syntax.w16); ref = λ x. x },
-            (
-              record {
-                pos = 19;
-                ty = Syntax.tyRef Syntax.erased Syntax.mut (Syntax.tyInt Syntax.w16);
-                ref = λ x. x;
-              },
-              (
-                record { pos = 21; ty = Syntax.tyRef Syntax.erased Syntax.mut (Syntax.tyInt Syntax.w8); ref = λ x. x },
-                (
-                  record { pos = 23; ty = Syntax.tyRef Syntax.erased Syntax.mut (Syntax.tyInt Syntax.w16); ref = λ x. x },
-                  (
-                    record {
-                      pos = 25;
-                      ty = Syntax.tyRef Syntax.erased Syntax.mut (Syntax.tyInt Syntax.w16);
-                      ref = λ x. x;
-                    },
-                    (
-                      record { pos = 27; ty = Syntax.tyRef Syntax.erased Syntax.mut (Syntax.tyInt Syntax.w32); ref = λ x. x },
-                      (
-                        record { pos = 29; ty = Syntax.tyRef Syntax.erased Syntax.mut (Syntax.tyInt Syntax.w16); ref = λ x. x },
-                        (
-                          record {
-                            pos = 31;
-                            ty = Syntax.tyRef Syntax.erased Syntax.mut (Syntax.tyInt Syntax.w8);
-                            ref = λ x. x;
-                          },
-                          (record { pos = 33; ty = Syntax.tyRef Syntax.erased Syntax.mut Rec.behind; ref = λ x. x }, tt),
-                        ),
-                      ),
-                    ),
-                  ),
-                ),
-              ),
-            ),
-          ),
-        ) (m40 (before· .before) (before· .dependencies .given))
+        After-read-plan·own = Called.Called ps·1 r·1 (claims· .3) T50 args·0 (m40 (before· .before) (before· .dependencies .given))
 
       pub record After-read-plan : Type 0 where
         pub before : After-dependencies
         pub read-plan : After-read-plan·own before
 
       abbrev pub After-read-plan·gave : (c : After-read-plan) → s49 (c .before .before .before .before .before .before .before .before .before .before .before .before .before .blocks) .gives (m40 (c .before .before) (c .before .dependencies .given))
-      After-read-plan·gave = λ c. Called.given ps·1 r·1 (claims· .3) T50 (
-        record { pos = 1; ty = Syntax.tyRef (Syntax.named 0) Syntax.imm (Syntax.tyInt Syntax.w8); ref = λ x. x },
-        (
-          record { pos = 17; ty = Syntax.tyRef Syntax.erased Syntax.mut (Syntax.tyInt Syntax.w16); ref = λ x. x },
-          (
-            record {
-              pos = 19;
-              ty = Syntax.tyRef Syntax.erased Syntax.mut (Syntax.tyInt Syntax.w16);
-              ref = λ x. x;
-            },
-            (
-              record { pos = 21; ty = Syntax.tyRef Syntax.erased Syntax.mut (Syntax.tyInt Syntax.w8); ref = λ x. x },
-              (
-                record { pos = 23; ty = Syntax.tyRef Syntax.erased Syntax.mut (Syntax.tyInt Syntax.w16); ref = λ x. x },
-                (
-                  record {
-                    pos = 25;
-                    ty = Syntax.tyRef Syntax.erased Syntax.mut (Syntax.tyInt Syntax.w16);
-                    ref = λ x. x;
-                  },
-                  (
-                    record { pos = 27; ty = Syntax.tyRef Syntax.erased Syntax.mut (Syntax.tyInt Syntax.w32); ref = λ x. x },
-                    (
-                      record { pos = 29; ty = Syntax.tyRef Syntax.erased Syntax.mut (Syntax.tyInt Syntax.w16); ref = λ x. x },
-                      (
-                        record {
-                          pos = 31;
-                          ty = Syntax.tyRef Syntax.erased Syntax.mut (Syntax.tyInt Syntax.w8);
-                          ref = λ x. x;
-                        },
-                        (record { pos = 33; ty = Syntax.tyRef Syntax.erased Syntax.mut Rec.behind; ref = λ x. x }, tt),
-                      ),
-                    ),
-                  ),
-                ),
-              ),
-            ),
-          ),
-        ),
-      ) (m40 (c .before .before) (c .before .dependencies .given)) (c .read-plan)
+      After-read-plan·gave = λ c. Called.given ps·1 r·1 (claims· .3) T50 args·0 (m40 (c .before .before) (c .before .dependencies .given)) (c .read-plan)
 
       abbrev pub m42 : (before : After-read-plan) → (given : s51 (before .before .before .before .before .before .before .before .before .before .before .before .before .before .blocks) .gives (m41 (before .before) (After-read-plan·gave before))) → Typed.Mo T53
       m42 = λ before given. s51 (before .before .before .before .before .before .before .before .before .before .before .before .before .before .blocks) .next (m41 (before .before) (After-read-plan·gave before)) given
@@ -7406,20 +3669,14 @@ module _ (claims· : Claims) where
 
       module _ (before· : After-dependencies2) where
         abbrev pub After-number-of·own : Type 0
-        After-number-of·own = Called.Called ps·2 r·2 (claims· .5) T77 (
-          record { pos = 13; st = List.[]; d = 0; at = λ x. x },
-          tt,
-        ) (m50 (before· .before) (before· .dependencies2 .given))
+        After-number-of·own = Called.Called ps·2 r·2 (claims· .5) T77 (record { pos = 13; st = List.[]; d = 0; at = λ x. x }, tt) (m50 (before· .before) (before· .dependencies2 .given))
 
       pub record After-number-of : Type 0 where
         pub before : After-dependencies2
         pub number-of : After-number-of·own before
 
       abbrev pub After-number-of·gave : (c : After-number-of) → s77 (c .before .before .before .before .before .before .before .before .before .before .before .before .before .before .before .before .before .before .before .before .before .before .before .blocks) .gives (m50 (c .before .before) (c .before .dependencies2 .given))
-      After-number-of·gave = λ c. Called.given ps·2 r·2 (claims· .5) T77 (
-        record { pos = 13; st = List.[]; d = 0; at = λ x. x },
-        tt,
-      ) (m50 (c .before .before) (c .before .dependencies2 .given)) (c .number-of)
+      After-number-of·gave = λ c. Called.given ps·2 r·2 (claims· .5) T77 (record { pos = 13; st = List.[]; d = 0; at = λ x. x }, tt) (m50 (c .before .before) (c .before .dependencies2 .given)) (c .number-of)
 
       abbrev pub m52 : (before : After-dependencies2) → (given : s77 (before .before .before .before .before .before .before .before .before .before .before .before .before .before .before .before .before .before .before .before .before .before .before .blocks) .gives (m50 (before .before) (before .dependencies2 .given))) → Typed.Mo T80
       m52 = λ before given. s78 (before .before .before .before .before .before .before .before .before .before .before .before .before .before .before .before .before .before .before .before .before .before .before .blocks) (m51 before given)
@@ -7428,11 +3685,10 @@ module _ (claims· : Claims) where
       m53 = λ before given. s79 (before .before .before .before .before .before .before .before .before .before .before .before .before .before .before .before .before .before .before .before .before .before .before .blocks) .next (m52 before given)
 
       abbrev W1 : (before : After-dependencies2) → (given : s77 (before .before .before .before .before .before .before .before .before .before .before .before .before .before .before .before .before .before .before .before .before .before .before .blocks) .gives (m50 (before .before) (before .dependencies2 .given))) → Typed.Want O1
-      W1 = λ before given. Typed.wantNext T82 O0 (at90 (before .before .before .before .before .before .before .before .before .before .before .before .before .before .before .before .before .before .before .before .before .before .before .blocks) (W0 (before .before .before .before .before .before .before .before .before .before .before
-          .before .before .before .before .before .before .before .before .before .before .before .before .κs) (before .before .before .before .before .before .before .before .before .before .before .before .before .before .before .before .before .before .before .before .before .before .before .args)
-          (before .before .before .before .before .before .before .before .before .before .before .before .before .before .before .before .before .before .before .before .before .before .before .blocks))) (W0 (before .before .before .before .before .before .before .before .before .before .before
-          .before .before .before .before .before .before .before .before .before .before .before .before .κs) (before .before .before .before .before .before .before .before .before .before .before .before .before .before .before .before .before .before .before .before .before .before .before .args)
-          (before .before .before .before .before .before .before .before .before .before .before .before .before .before .before .before .before .before .before .before .before .before .before .blocks))
+      W1 = λ before given. Typed.wantNext T80 O0 (at90 (before .before .before .before .before .before .before .before .before .before .before .before .before .before .before .before .before .before .before .before .before .before .before .blocks) (W0 (before .before .before .before .before .before .before .before .before .before .before .before .before
+          .before .before .before .before .before .before .before .before .before .before .κs) (before .before .before .before .before .before .before .before .before .before .before .before .before .before .before .before .before .before .before .before .before .before .before .args) (before .before .before .before .before .before .before .before .before
+          .before .before .before .before .before .before .before .before .before .before .before .before .before .before .blocks))) (W0 (before .before .before .before .before .before .before .before .before .before .before .before .before .before .before .before .before .before .before .before .before .before .before .κs) (before .before .before .before
+          .before .before .before .before .before .before .before .before .before .before .before .before .before .before .before .before .before .before .before .args) (before .before .before .before .before .before .before .before .before .before .before .before .before .before .before .before .before .before .before .before .before .before .before .blocks))
 
       module _ (before· : After-number-of) where
         pub record Then1·own : Type 0 where
@@ -7442,32 +3698,17 @@ module _ (claims· : Claims) where
         pub before : After-number-of
         pub if1 : Then1·own before
 
-      abbrev pub m54 : (before : After-number-of) → Typed.Mo T83
-      m54 = λ before. s80 (before .before .before .before .before .before .before .before .before .before .before .before .before .before .before .before .before .before .before .before .before .before .before .before .blocks) (m53 (before .before) (After-number-of·gave before))
-
-      abbrev pub m55 : (before : After-number-of) → Typed.Mo T84
-      m55 = λ before. s81 (before .before .before .before .before .before .before .before .before .before .before .before .before .before .before .before .before .before .before .before .before .before .before .before .blocks) (m54 before)
-
       abbrev pub m56 : (before : After-number-of) → Typed.Mo T85
-      m56 = λ before. s82 (before .before .before .before .before .before .before .before .before .before .before .before .before .before .before .before .before .before .before .before .before .before .before .before .blocks) (m55 before)
-
-      abbrev pub m57 : (before : After-number-of) → Typed.Mo T86
-      m57 = λ before. s83 (before .before .before .before .before .before .before .before .before .before .before .before .before .before .before .before .before .before .before .before .before .before .before .before .blocks) (m56 before)
-
-      abbrev pub m58 : (before : After-number-of) → Typed.Mo T87
-      m58 = λ before. s84 (before .before .before .before .before .before .before .before .before .before .before .before .before .before .before .before .before .before .before .before .before .before .before .before .blocks) (m57 before)
+      m56 = λ before. s82 (before .before .before .before .before .before .before .before .before .before .before .before .before .before .before .before .before .before .before .before .before .before .before .before .blocks) (s81 (before .before .before .before .before .before .before .before .before .before .before .before .before .before .before .before
+          .before .before .before .before .before .before .before .before .blocks) (s80 (before .before .before .before .before .before .before .before .before .before .before .before .before .before .before .before .before .before .before .before .before .before .before .before .blocks) (m53 (before .before) (After-number-of·gave before))))
 
       abbrev pub m59 : (before : After-number-of) → Typed.Mo T88
-      m59 = λ before. s85 (before .before .before .before .before .before .before .before .before .before .before .before .before .before .before .before .before .before .before .before .before .before .before .before .blocks) (m58 before)
-
-      abbrev pub m60 : (before : After-number-of) → Typed.Mo T89
-      m60 = λ before. s86 (before .before .before .before .before .before .before .before .before .before .before .before .before .before .before .before .before .before .before .before .before .before .before .before .blocks) (m59 before)
-
-      abbrev pub m61 : (before : After-number-of) → Typed.Mo T90
-      m61 = λ before. s87 (before .before .before .before .before .before .before .before .before .before .before .before .before .before .before .before .before .before .before .before .before .before .before .before .blocks) (m60 before)
+      m59 = λ before. s85 (before .before .before .before .before .before .before .before .before .before .before .before .before .before .before .before .before .before .before .before .before .before .before .before .blocks) (s84 (before .before .before .before .before .before .before .before .before .before .before .before .before .before .before .before
+          .before .before .before .before .before .before .before .before .blocks) (s83 (before .before .before .before .before .before .before .before .before .before .before .before .before .before .before .before .before .before .before .before .before .before .before .before .blocks) (m56 before)))
 
       abbrev pub m62 : (before : After-number-of) → Typed.Mo T91
-      m62 = λ before. s88 (before .before .before .before .before .before .before .before .before .before .before .before .before .before .before .before .before .before .before .before .before .before .before .before .blocks) (m61 before)
+      m62 = λ before. s88 (before .before .before .before .before .before .before .before .before .before .before .before .before .before .before .before .before .before .before .before .before .before .before .before .blocks) (s87 (before .before .before .before .before .before .before .before .before .before .before .before .before .before .before .before
+          .before .before .before .before .before .before .before .before .blocks) (s86 (before .before .before .before .before .before .before .before .before .before .before .before .before .before .before .before .before .before .before .before .before .before .before .before .blocks) (m59 before)))
 
       abbrev pub m63 : (before : After-number-of) → Typed.Mo T92
       m63 = λ before. s89 (before .before .before .before .before .before .before .before .before .before .before .before .before .before .before .before .before .before .before .before .before .before .before .before .blocks) (m62 before)
@@ -7480,36 +3721,27 @@ module _ (claims· : Claims) where
 
       module _ (before· : Then1) where
         abbrev pub After-show·own : Type 0
-        After-show·own = Called.Called ps·3 r·3 (claims· .7) T92 (
-          Num.vAt 14 λ x. x,
-          (Num.vLit 0, tt),
-        ) (m63 (before· .before))
+        After-show·own = Called.Called ps·3 r·3 (claims· .7) T92 (Num.vAt 14 λ x. x, (Num.vLit 0, tt)) (m63 (before· .before))
 
       pub record After-show : Type 0 where
         pub before : Then1
         pub show : After-show·own before
 
       abbrev pub After-show·gave : (c : After-show) → s90 (c .before .before .before .before .before .before .before .before .before .before .before .before .before .before .before .before .before .before .before .before .before .before .before .before .before .blocks) .gives (m63 (c .before .before))
-      After-show·gave = λ c. Called.given ps·3 r·3 (claims· .7) T92 (
-        Num.vAt 14 λ x. x,
-        (Num.vLit 0, tt),
-      ) (m63 (c .before .before)) (c .show)
+      After-show·gave = λ c. Called.given ps·3 r·3 (claims· .7) T92 (Num.vAt 14 λ x. x, (Num.vLit 0, tt)) (m63 (c .before .before)) (c .show)
 
-      abbrev pub m65 : (before : Then1) → (given : s90 (before .before .before .before .before .before .before .before .before .before .before .before .before .before .before .before .before .before .before .before .before .before .before .before .before .blocks) .gives (m63 (before .before))) → Typed.Mo T94
-      m65 = λ before given. s91 (before .before .before .before .before .before .before .before .before .before .before .before .before .before .before .before .before .before .before .before .before .before .before .before .before .blocks) (m64 before given)
-
-      abbrev pub m66 : (before : Then1) → (given : s90 (before .before .before .before .before .before .before .before .before .before .before .before .before .before .before .before .before .before .before .before .before .before .before .before .before .blocks) .gives (m63 (before .before))) → Typed.Mo T95
-      m66 = λ before given. s92 (before .before .before .before .before .before .before .before .before .before .before .before .before .before .before .before .before .before .before .before .before .before .before .before .before .blocks) (m65 before given)
+      abbrev pub m66 : (before : Then1) → (given : s90 (before .before .before .before .before .before .before .before .before .before .before .before .before .before .before .before .before .before .before .before .before .before .before .before .before .blocks) .gives (m63 (before .before))) → Typed.Mo T1
+      m66 = λ before given. s92 (before .before .before .before .before .before .before .before .before .before .before .before .before .before .before .before .before .before .before .before .before .before .before .before .before .blocks) (s91 (before .before .before .before .before .before .before .before .before .before .before .before .before .before
+          .before .before .before .before .before .before .before .before .before .before .before .blocks) (m64 before given))
 
       abbrev pub Need-returns : Type 0
-      Need-returns = (c : After-show) → Post· (c .before .before .before .before .before .before .before .before .before .before .before .before .before .before .before .before .before .before .before .before .before .before .before .before .before .κs) (dens (c .before .before .before .before .before .before .before .before .before .before
-          .before .before .before .before .before .before .before .before .before .before .before .before .before .before .before .κs) (c .before .before .before .before .before .before .before .before .before .before .before .before .before .before .before .before .before .before .before .before .before
-          .before .before .before .before .args)) (Function.resV r (c .before .before .before .before .before .before .before .before .before .before .before .before .before .before .before .before .before .before .before .before .before .before .before .before .before .κs) (m66 (c .before) (After-show·gave c) .0)) (Clauses.atExit (Kinds.endedOf 2 ps r)
-          (c .before .before .before .before .before .before .before .before .before .before .before .before .before .before .before .before .before .before .before .before .before .before .before .before .before .κs) (dens (c .before .before .before .before .before .before .before .before .before .before
-          .before .before .before .before .before .before .before .before .before .before .before .before .before .before .before .κs) (c .before .before .before .before .before .before .before .before .before .before .before .before .before .before .before .before .before .before .before .before .before .before .before .before .before .args)) (Enter.lastsP
-          (c .before .before .before .before .before .before .before .before .before .before .before .before .before .before .before .before .before .before .before .before .before .before .before .before .before .κs) 1 ps xs (dens (c .before .before .before .before .before .before .before .before .before .before
-          .before .before .before .before .before .before .before .before .before .before .before .before .before .before .before .κs) (c .before .before .before .before .before .before .before .before .before .before .before .before .before .before .before .before .before .before .before .before .before
-          .before .before .before .before .args)) (m66 (c .before) (After-show·gave c) .1)))
+      Need-returns = (c : After-show) → Post· (c .before .before .before .before .before .before .before .before .before .before .before .before .before .before .before .before .before .before .before .before .before .before .before .before .before .κs) (dens (c .before .before .before .before .before .before .before .before .before .before .before .before
+          .before .before .before .before .before .before .before .before .before .before .before .before .before .κs) (c .before .before .before .before .before .before .before .before .before .before .before .before .before .before .before .before .before .before .before .before .before .before .before .before .before .args)) (Function.resV r (c .before
+          .before .before .before .before .before .before .before .before .before .before .before .before .before .before .before .before .before .before .before .before .before .before .before .before .κs) (m66 (c .before) (After-show·gave c) .0)) (Clauses.atExit (Kinds.endedOf 2 ps r) (c .before .before .before .before .before .before .before .before .before
+          .before .before .before .before .before .before .before .before .before .before .before .before .before .before .before .before .κs) (dens (c .before .before .before .before .before .before .before .before .before .before .before .before .before .before .before .before .before .before .before .before .before .before .before .before .before .κs) (c
+          .before .before .before .before .before .before .before .before .before .before .before .before .before .before .before .before .before .before .before .before .before .before .before .before .before .args)) (Enter.lastsP (c .before .before .before .before .before .before .before .before .before .before .before .before .before .before .before .before
+          .before .before .before .before .before .before .before .before .before .κs) 1 ps xs (dens (c .before .before .before .before .before .before .before .before .before .before .before .before .before .before .before .before .before .before .before .before .before .before .before .before .before .κs) (c .before .before .before .before .before .before
+          .before .before .before .before .before .before .before .before .before .before .before .before .before .before .before .before .before .before .before .args)) (m66 (c .before) (After-show·gave c) .1)))
 
       module _ (before· : After-number-of) where
         pub record Else1·own : Type 0 where
@@ -7519,7 +3751,7 @@ module _ (claims· : Claims) where
         pub before : After-number-of
         pub if1 : Else1·own before
 
-      abbrev pub m67 : (before : After-number-of) → Typed.Mo T96
+      abbrev pub m67 : (before : After-number-of) → Typed.Mo T80
       m67 = λ before. s93 (before .before .before .before .before .before .before .before .before .before .before .before .before .before .before .before .before .before .before .before .before .before .before .before .blocks) (m53 (before .before) (After-number-of·gave before))
 
       abbrev pub m68 : (before : Else1) → (given : s95 (before .before .before .before .before .before .before .before .before .before .before .before .before .before .before .before .before .before .before .before .before .before .before .before .before .blocks) .gives (m67 (before .before))) → Typed.Mo T98
@@ -7539,8 +3771,8 @@ module _ (claims· : Claims) where
       abbrev pub m69 : (before : Else1) → (given : s95 (before .before .before .before .before .before .before .before .before .before .before .before .before .before .before .before .before .before .before .before .before .before .before .before .before .blocks) .gives (m67 (before .before))) → Typed.Mo T99
       m69 = λ before given. s96 (before .before .before .before .before .before .before .before .before .before .before .before .before .before .before .before .before .before .before .before .before .before .before .before .before .blocks) .next (m68 before given)
 
-      abbrev pub m70 : (before : After-drone-count3) → (given : s98 (before .before .before .before .before .before .before .before .before .before .before .before .before .before .before .before .before .before .before .before .before .before .before .before .before .before .blocks) .gives (m69 (before .before)
-          (before .drone-count3 .given))) → Typed.Mo T101
+      abbrev pub m70 : (before : After-drone-count3) → (given : s98 (before .before .before .before .before .before .before .before .before .before .before .before .before .before .before .before .before .before .before .before .before .before .before .before .before .before .blocks) .gives (m69 (before .before) (before .drone-count3 .given))) → Typed.Mo
+          T101
       m70 = λ before given. s98 (before .before .before .before .before .before .before .before .before .before .before .before .before .before .before .before .before .before .before .before .before .before .before .before .before .before .blocks) .next (m69 (before .before) (before .drone-count3 .given)) given
 
       module _ (before· : After-drone-count3) where
@@ -7554,12 +3786,12 @@ module _ (claims· : Claims) where
       abbrev pub Need-slice-aggregate-press-each-2 : Type 0
       Need-slice-aggregate-press-each-2 = (c : After-dependency-count3) → Relend.CountIs T101 37 38 (λ x. x) (λ u. 1) (m70 (c .before) (c .dependency-count3 .given))
 
-      abbrev pub m71 : (before : After-drone-count3) → (given : s98 (before .before .before .before .before .before .before .before .before .before .before .before .before .before .before .before .before .before .before .before .before .before .before .before .before .before .blocks) .gives (m69 (before .before)
-          (before .drone-count3 .given))) → Typed.Mo T102
+      abbrev pub m71 : (before : After-drone-count3) → (given : s98 (before .before .before .before .before .before .before .before .before .before .before .before .before .before .before .before .before .before .before .before .before .before .before .before .before .before .blocks) .gives (m69 (before .before) (before .drone-count3 .given))) → Typed.Mo
+          T102
       m71 = λ before given. s99 (before .before .before .before .before .before .before .before .before .before .before .before .before .before .before .before .before .before .before .before .before .before .before .before .before .before .blocks) .next (m70 before given)
 
-      abbrev pub m72 : (before : After-dependency-count3) → (given : s101 (before .before .before .before .before .before .before .before .before .before .before .before .before .before .before .before .before .before .before .before .before .before .before .before .before .before .before .blocks) .gives (m71 (before .before)
-          (before .dependency-count3 .given))) → Typed.Mo T104
+      abbrev pub m72 : (before : After-dependency-count3) → (given : s101 (before .before .before .before .before .before .before .before .before .before .before .before .before .before .before .before .before .before .before .before .before .before .before .before .before .before .before .blocks) .gives (m71 (before .before) (before .dependency-count3
+          .given))) → Typed.Mo T104
       m72 = λ before given. s101 (before .before .before .before .before .before .before .before .before .before .before .before .before .before .before .before .before .before .before .before .before .before .before .before .before .before .before .blocks) .next (m71 (before .before) (before .dependency-count3 .given)) given
 
       module _ (before· : After-dependency-count3) where
@@ -7573,12 +3805,12 @@ module _ (claims· : Claims) where
       abbrev pub Need-slice-aggregate-press-each-3 : Type 0
       Need-slice-aggregate-press-each-3 = (c : After-names3) → Relend.CountIs T104 39 40 (λ x. x) (λ u. 768) (m72 (c .before) (c .names3 .given))
 
-      abbrev pub m73 : (before : After-dependency-count3) → (given : s101 (before .before .before .before .before .before .before .before .before .before .before .before .before .before .before .before .before .before .before .before .before .before .before .before .before .before .before .blocks) .gives (m71 (before .before)
-          (before .dependency-count3 .given))) → Typed.Mo T105
+      abbrev pub m73 : (before : After-dependency-count3) → (given : s101 (before .before .before .before .before .before .before .before .before .before .before .before .before .before .before .before .before .before .before .before .before .before .before .before .before .before .before .blocks) .gives (m71 (before .before) (before .dependency-count3
+          .given))) → Typed.Mo T105
       m73 = λ before given. s102 (before .before .before .before .before .before .before .before .before .before .before .before .before .before .before .before .before .before .before .before .before .before .before .before .before .before .before .blocks) .next (m72 before given)
 
-      abbrev pub m74 : (before : After-names3) → (given : s104 (before .before .before .before .before .before .before .before .before .before .before .before .before .before .before .before .before .before .before .before .before .before .before .before .before .before .before .before .blocks) .gives (m73 (before .before)
-          (before .names3 .given))) → Typed.Mo T107
+      abbrev pub m74 : (before : After-names3) → (given : s104 (before .before .before .before .before .before .before .before .before .before .before .before .before .before .before .before .before .before .before .before .before .before .before .before .before .before .before .before .blocks) .gives (m73 (before .before) (before .names3 .given))) →
+          Typed.Mo T107
       m74 = λ before given. s104 (before .before .before .before .before .before .before .before .before .before .before .before .before .before .before .before .before .before .before .before .before .before .before .before .before .before .before .before .blocks) .next (m73 (before .before) (before .names3 .given)) given
 
       module _ (before· : After-names3) where
@@ -7592,12 +3824,12 @@ module _ (claims· : Claims) where
       abbrev pub Need-slice-aggregate-press-each-4 : Type 0
       Need-slice-aggregate-press-each-4 = (c : After-stop-counts3) → Relend.CountIs T107 41 42 (λ x. x) (λ u. 32) (m74 (c .before) (c .stop-counts3 .given))
 
-      abbrev pub m75 : (before : After-names3) → (given : s104 (before .before .before .before .before .before .before .before .before .before .before .before .before .before .before .before .before .before .before .before .before .before .before .before .before .before .before .before .blocks) .gives (m73 (before .before)
-          (before .names3 .given))) → Typed.Mo T108
+      abbrev pub m75 : (before : After-names3) → (given : s104 (before .before .before .before .before .before .before .before .before .before .before .before .before .before .before .before .before .before .before .before .before .before .before .before .before .before .before .before .blocks) .gives (m73 (before .before) (before .names3 .given))) →
+          Typed.Mo T108
       m75 = λ before given. s105 (before .before .before .before .before .before .before .before .before .before .before .before .before .before .before .before .before .before .before .before .before .before .before .before .before .before .before .before .blocks) .next (m74 before given)
 
-      abbrev pub m76 : (before : After-stop-counts3) → (given : s107 (before .before .before .before .before .before .before .before .before .before .before .before .before .before .before .before .before .before .before .before .before .before .before .before .before .before .before .before .before .blocks) .gives (m75
-          (before .before) (before .stop-counts3 .given))) → Typed.Mo T110
+      abbrev pub m76 : (before : After-stop-counts3) → (given : s107 (before .before .before .before .before .before .before .before .before .before .before .before .before .before .before .before .before .before .before .before .before .before .before .before .before .before .before .before .before .blocks) .gives (m75 (before .before) (before .stop-counts3
+          .given))) → Typed.Mo T110
       m76 = λ before given. s107 (before .before .before .before .before .before .before .before .before .before .before .before .before .before .before .before .before .before .before .before .before .before .before .before .before .before .before .before .before .blocks) .next (m75 (before .before) (before .stop-counts3 .given)) given
 
       module _ (before· : After-stop-counts3) where
@@ -7611,12 +3843,12 @@ module _ (claims· : Claims) where
       abbrev pub Need-slice-aggregate-press-each-5 : Type 0
       Need-slice-aggregate-press-each-5 = (c : After-locations3) → Relend.CountIs T110 43 44 (λ x. x) (λ u. 1024) (m76 (c .before) (c .locations3 .given))
 
-      abbrev pub m77 : (before : After-stop-counts3) → (given : s107 (before .before .before .before .before .before .before .before .before .before .before .before .before .before .before .before .before .before .before .before .before .before .before .before .before .before .before .before .before .blocks) .gives (m75
-          (before .before) (before .stop-counts3 .given))) → Typed.Mo T111
+      abbrev pub m77 : (before : After-stop-counts3) → (given : s107 (before .before .before .before .before .before .before .before .before .before .before .before .before .before .before .before .before .before .before .before .before .before .before .before .before .before .before .before .before .blocks) .gives (m75 (before .before) (before .stop-counts3
+          .given))) → Typed.Mo T111
       m77 = λ before given. s108 (before .before .before .before .before .before .before .before .before .before .before .before .before .before .before .before .before .before .before .before .before .before .before .before .before .before .before .before .before .blocks) .next (m76 before given)
 
-      abbrev pub m78 : (before : After-locations3) → (given : s110 (before .before .before .before .before .before .before .before .before .before .before .before .before .before .before .before .before .before .before .before .before .before .before .before .before .before .before .before .before .before .blocks) .gives (m77
-          (before .before) (before .locations3 .given))) → Typed.Mo T113
+      abbrev pub m78 : (before : After-locations3) → (given : s110 (before .before .before .before .before .before .before .before .before .before .before .before .before .before .before .before .before .before .before .before .before .before .before .before .before .before .before .before .before .before .blocks) .gives (m77 (before .before) (before
+          .locations3 .given))) → Typed.Mo T113
       m78 = λ before given. s110 (before .before .before .before .before .before .before .before .before .before .before .before .before .before .before .before .before .before .before .before .before .before .before .before .before .before .before .before .before .before .blocks) .next (m77 (before .before) (before .locations3 .given)) given
 
       module _ (before· : After-locations3) where
@@ -7630,12 +3862,12 @@ module _ (claims· : Claims) where
       abbrev pub Need-slice-aggregate-press-each-6 : Type 0
       Need-slice-aggregate-press-each-6 = (c : After-times3) → Relend.CountIs T113 45 46 (λ x. x) (λ u. 1024) (m78 (c .before) (c .times3 .given))
 
-      abbrev pub m79 : (before : After-locations3) → (given : s110 (before .before .before .before .before .before .before .before .before .before .before .before .before .before .before .before .before .before .before .before .before .before .before .before .before .before .before .before .before .before .blocks) .gives (m77
-          (before .before) (before .locations3 .given))) → Typed.Mo T114
+      abbrev pub m79 : (before : After-locations3) → (given : s110 (before .before .before .before .before .before .before .before .before .before .before .before .before .before .before .before .before .before .before .before .before .before .before .before .before .before .before .before .before .before .blocks) .gives (m77 (before .before) (before
+          .locations3 .given))) → Typed.Mo T114
       m79 = λ before given. s111 (before .before .before .before .before .before .before .before .before .before .before .before .before .before .before .before .before .before .before .before .before .before .before .before .before .before .before .before .before .before .blocks) .next (m78 before given)
 
-      abbrev pub m80 : (before : After-times3) → (given : s113 (before .before .before .before .before .before .before .before .before .before .before .before .before .before .before .before .before .before .before .before .before .before .before .before .before .before .before .before .before .before .before .blocks) .gives
-          (m79 (before .before) (before .times3 .given))) → Typed.Mo T116
+      abbrev pub m80 : (before : After-times3) → (given : s113 (before .before .before .before .before .before .before .before .before .before .before .before .before .before .before .before .before .before .before .before .before .before .before .before .before .before .before .before .before .before .before .blocks) .gives (m79 (before .before) (before
+          .times3 .given))) → Typed.Mo T116
       m80 = λ before given. s113 (before .before .before .before .before .before .before .before .before .before .before .before .before .before .before .before .before .before .before .before .before .before .before .before .before .before .before .before .before .before .before .blocks) .next (m79 (before .before) (before .times3 .given)) given
 
       module _ (before· : After-times3) where
@@ -7649,12 +3881,12 @@ module _ (claims· : Claims) where
       abbrev pub Need-slice-aggregate-press-each-7 : Type 0
       Need-slice-aggregate-press-each-7 = (c : After-visited3) → Relend.CountIs T116 47 48 (λ x. x) (λ u. 32) (m80 (c .before) (c .visited3 .given))
 
-      abbrev pub m81 : (before : After-times3) → (given : s113 (before .before .before .before .before .before .before .before .before .before .before .before .before .before .before .before .before .before .before .before .before .before .before .before .before .before .before .before .before .before .before .blocks) .gives
-          (m79 (before .before) (before .times3 .given))) → Typed.Mo T117
+      abbrev pub m81 : (before : After-times3) → (given : s113 (before .before .before .before .before .before .before .before .before .before .before .before .before .before .before .before .before .before .before .before .before .before .before .before .before .before .before .before .before .before .before .blocks) .gives (m79 (before .before) (before
+          .times3 .given))) → Typed.Mo T117
       m81 = λ before given. s114 (before .before .before .before .before .before .before .before .before .before .before .before .before .before .before .before .before .before .before .before .before .before .before .before .before .before .before .before .before .before .before .blocks) .next (m80 before given)
 
-      abbrev pub m82 : (before : After-visited3) → (given : s116 (before .before .before .before .before .before .before .before .before .before .before .before .before .before .before .before .before .before .before .before .before .before .before .before .before .before .before .before .before .before .before .before .blocks)
-          .gives (m81 (before .before) (before .visited3 .given))) → Typed.Mo T119
+      abbrev pub m82 : (before : After-visited3) → (given : s116 (before .before .before .before .before .before .before .before .before .before .before .before .before .before .before .before .before .before .before .before .before .before .before .before .before .before .before .before .before .before .before .before .blocks) .gives (m81 (before .before)
+          (before .visited3 .given))) → Typed.Mo T119
       m82 = λ before given. s116 (before .before .before .before .before .before .before .before .before .before .before .before .before .before .before .before .before .before .before .before .before .before .before .before .before .before .before .before .before .before .before .before .blocks) .next (m81 (before .before) (before .visited3 .given)) given
 
       module _ (before· : After-visited3) where
@@ -7668,19 +3900,19 @@ module _ (claims· : Claims) where
       abbrev pub Need-slice-aggregate-press-each-8 : Type 0
       Need-slice-aggregate-press-each-8 = (c : After-drone-flags3) → Relend.CountIs T119 49 50 (λ x. x) (λ u. 32) (m82 (c .before) (c .drone-flags3 .given))
 
-      abbrev pub m83 : (before : After-visited3) → (given : s116 (before .before .before .before .before .before .before .before .before .before .before .before .before .before .before .before .before .before .before .before .before .before .before .before .before .before .before .before .before .before .before .before .blocks)
-          .gives (m81 (before .before) (before .visited3 .given))) → Typed.Mo T120
+      abbrev pub m83 : (before : After-visited3) → (given : s116 (before .before .before .before .before .before .before .before .before .before .before .before .before .before .before .before .before .before .before .before .before .before .before .before .before .before .before .before .before .before .before .before .blocks) .gives (m81 (before .before)
+          (before .visited3 .given))) → Typed.Mo T120
       m83 = λ before given. s117 (before .before .before .before .before .before .before .before .before .before .before .before .before .before .before .before .before .before .before .before .before .before .before .before .before .before .before .before .before .before .before .before .blocks) .next (m82 before given)
 
-      abbrev pub m84 : (before : After-drone-flags3) → (given : s119 (before .before .before .before .before .before .before .before .before .before .before .before .before .before .before .before .before .before .before .before .before .before .before .before .before .before .before .before .before .before .before .before .before
-          .blocks) .gives (m83 (before .before) (before .drone-flags3 .given))) → Typed.Mo T122
-      m84 = λ before given. s119 (before .before .before .before .before .before .before .before .before .before .before .before .before .before .before .before .before .before .before .before .before .before .before .before .before .before .before .before .before .before .before .before .before
-          .blocks) .next (m83 (before .before) (before .drone-flags3 .given)) given
+      abbrev pub m84 : (before : After-drone-flags3) → (given : s119 (before .before .before .before .before .before .before .before .before .before .before .before .before .before .before .before .before .before .before .before .before .before .before .before .before .before .before .before .before .before .before .before .before .blocks) .gives (m83
+          (before .before) (before .drone-flags3 .given))) → Typed.Mo T122
+      m84 = λ before given. s119 (before .before .before .before .before .before .before .before .before .before .before .before .before .before .before .before .before .before .before .before .before .before .before .before .before .before .before .before .before .before .before .before .before .blocks) .next (m83 (before .before) (before .drone-flags3
+          .given)) given
 
       module _ (before· : After-drone-flags3) where
         pub record After-dependencies3·own : Type 0 where
-          pub given : s119 (before· .before .before .before .before .before .before .before .before .before .before .before .before .before .before .before .before .before .before .before .before .before .before .before .before .before .before .before .before .before .before .before .before .blocks) .gives
-              (m83 (before· .before) (before· .drone-flags3 .given))
+          pub given : s119 (before· .before .before .before .before .before .before .before .before .before .before .before .before .before .before .before .before .before .before .before .before .before .before .before .before .before .before .before .before .before .before .before .before .blocks) .gives (m83 (before· .before) (before· .drone-flags3
+              .given))
 
       pub record After-dependencies3 : Type 0 where
         pub before : After-drone-flags3
@@ -7689,1099 +3921,176 @@ module _ (claims· : Claims) where
       abbrev pub Need-slice-aggregate-press-each-9 : Type 0
       Need-slice-aggregate-press-each-9 = (c : After-dependencies3) → Relend.CountIs T122 51 52 (λ x. x) (λ u. 2048) (m84 (c .before) (c .dependencies3 .given))
 
-      abbrev pub m85 : (before : After-drone-flags3) → (given : s119 (before .before .before .before .before .before .before .before .before .before .before .before .before .before .before .before .before .before .before .before .before .before .before .before .before .before .before .before .before .before .before .before .before
-          .blocks) .gives (m83 (before .before) (before .drone-flags3 .given))) → Typed.Mo T123
+      abbrev pub m85 : (before : After-drone-flags3) → (given : s119 (before .before .before .before .before .before .before .before .before .before .before .before .before .before .before .before .before .before .before .before .before .before .before .before .before .before .before .before .before .before .before .before .before .blocks) .gives (m83
+          (before .before) (before .drone-flags3 .given))) → Typed.Mo T123
       m85 = λ before given. s120 (before .before .before .before .before .before .before .before .before .before .before .before .before .before .before .before .before .before .before .before .before .before .before .before .before .before .before .before .before .before .before .before .before .blocks) .next (m84 before given)
 
       abbrev pub Need-press-each-requires : Type 0
-      Need-press-each-requires = (c : After-dependencies3) → s121 (c .before .before .before .before .before .before .before .before .before .before .before .before .before .before .before .before .before .before .before .before .before .before .before .before .before .before .before .before .before .before .before .before
-          .before .blocks) .asks (m85 (c .before) (c .dependencies3 .given))
+      Need-press-each-requires = (c : After-dependencies3) → s121 (c .before .before .before .before .before .before .before .before .before .before .before .before .before .before .before .before .before .before .before .before .before .before .before .before .before .before .before .before .before .before .before .before .before .blocks) .asks (m85 (c
+          .before) (c .dependencies3 .given))
 
-      abbrev pub m86 : (before : After-dependencies3) → (given : s121 (before .before .before .before .before .before .before .before .before .before .before .before .before .before .before .before .before .before .before .before .before .before .before .before .before .before .before .before .before .before .before .before .before
-          .before .blocks) .gives (m85 (before .before) (before .dependencies3 .given))) → Typed.Mo T124
-      m86 = λ before given. s121 (before .before .before .before .before .before .before .before .before .before .before .before .before .before .before .before .before .before .before .before .before .before .before .before .before .before .before .before .before .before .before .before .before
-          .before .blocks) .next (m85 (before .before) (before .dependencies3 .given)) given
+      abbrev pub m86 : (before : After-dependencies3) → (given : s121 (before .before .before .before .before .before .before .before .before .before .before .before .before .before .before .before .before .before .before .before .before .before .before .before .before .before .before .before .before .before .before .before .before .before .blocks) .gives
+          (m85 (before .before) (before .dependencies3 .given))) → Typed.Mo T124
+      m86 = λ before given. s121 (before .before .before .before .before .before .before .before .before .before .before .before .before .before .before .before .before .before .before .before .before .before .before .before .before .before .before .before .before .before .before .before .before .before .blocks) .next (m85 (before .before) (before
+          .dependencies3 .given)) given
 
       module _ (before· : After-dependencies3) where
         abbrev pub After-press-each·own : Type 0
-        After-press-each·own = Called.Called ps·4 r·4 (claims· .9) T123 (
-          record { pos = 36; ty = Syntax.tyRef Syntax.erased Syntax.imm (Syntax.tyInt Syntax.w16); ref = λ x. x },
-          (
-            record { pos = 38; ty = Syntax.tyRef Syntax.erased Syntax.imm (Syntax.tyInt Syntax.w16); ref = λ x. x },
-            (
-              record {
-                pos = 40;
-                ty = Syntax.tyRef Syntax.erased Syntax.imm (Syntax.tyInt Syntax.w8);
-                ref = λ x. x;
-              },
-              (
-                record { pos = 42; ty = Syntax.tyRef Syntax.erased Syntax.imm (Syntax.tyInt Syntax.w16); ref = λ x. x },
-                (
-                  record { pos = 44; ty = Syntax.tyRef Syntax.erased Syntax.imm (Syntax.tyInt Syntax.w16); ref = λ x. x },
-                  (
-                    record {
-                      pos = 46;
-                      ty = Syntax.tyRef Syntax.erased Syntax.imm (Syntax.tyInt Syntax.w32);
-                      ref = λ x. x;
-                    },
-                    (
-                      record { pos = 48; ty = Syntax.tyRef Syntax.erased Syntax.mut (Syntax.tyInt Syntax.w16); ref = λ x. x },
-                      (
-                        record { pos = 50; ty = Syntax.tyRef Syntax.erased Syntax.mut (Syntax.tyInt Syntax.w8); ref = λ x. x },
-                        (
-                          record {
-                            pos = 52;
-                            ty = Syntax.tyRef
-                                Syntax.erased Syntax.imm Rec.behind;
-                            ref = λ x. x;
-                          },
-                          (Num.vAt 2 λ x. x, (record { pos = 3; ty = Syntax.tyRef (Syntax.named 1) Syntax.imm (Syntax.tyInt Syntax.w16); ref = λ x. x }, tt)),
-                        ),
-                      ),
-                    ),
-                  ),
-                ),
-              ),
-            ),
-          ),
-        ) (m85 (before· .before) (before· .dependencies3 .given))
+        After-press-each·own = Called.Called ps·4 r·4 (claims· .9) T123 args·1 (m85 (before· .before) (before· .dependencies3 .given))
 
       pub record After-press-each : Type 0 where
         pub before : After-dependencies3
         pub press-each : After-press-each·own before
 
-      abbrev pub After-press-each·gave : (c : After-press-each) → s121 (c .before .before .before .before .before .before .before .before .before .before .before .before .before .before .before .before .before .before .before .before .before .before .before .before .before .before .before .before .before .before .before .before
-          .before .before .blocks) .gives (m85 (c .before .before) (c .before .dependencies3 .given))
-      After-press-each·gave = λ c. Called.given ps·4 r·4 (claims· .9) T123 (
-        record { pos = 36; ty = Syntax.tyRef Syntax.erased Syntax.imm (Syntax.tyInt Syntax.w16); ref = λ x. x },
-        (
-          record { pos = 38; ty = Syntax.tyRef Syntax.erased Syntax.imm (Syntax.tyInt Syntax.w16); ref = λ x. x },
-          (
-            record {
-              pos = 40;
-              ty = Syntax.tyRef Syntax.erased Syntax.imm (Syntax.tyInt Syntax.w8);
-              ref = λ x. x;
-            },
-            (
-              record { pos = 42; ty = Syntax.tyRef Syntax.erased Syntax.imm (Syntax.tyInt Syntax.w16); ref = λ x. x },
-              (
-                record { pos = 44; ty = Syntax.tyRef Syntax.erased Syntax.imm (Syntax.tyInt Syntax.w16); ref = λ x. x },
-                (
-                  record {
-                    pos = 46;
-                    ty = Syntax.tyRef Syntax.erased Syntax.imm (Syntax.tyInt Syntax.w32);
-                    ref = λ x. x;
-                  },
-                  (
-                    record { pos = 48; ty = Syntax.tyRef Syntax.erased Syntax.mut (Syntax.tyInt Syntax.w16); ref = λ x. x },
-                    (
-                      record { pos = 50; ty = Syntax.tyRef Syntax.erased Syntax.mut (Syntax.tyInt Syntax.w8); ref = λ x. x },
-                      (
-                        record {
-                          pos = 52;
-                          ty = Syntax.tyRef
-                              Syntax.erased Syntax.imm Rec.behind;
-                          ref = λ x. x;
-                        },
-                        (Num.vAt 2 λ x. x, (record { pos = 3; ty = Syntax.tyRef (Syntax.named 1) Syntax.imm (Syntax.tyInt Syntax.w16); ref = λ x. x }, tt)),
-                      ),
-                    ),
-                  ),
-                ),
-              ),
-            ),
-          ),
-        ),
-      ) (m85 (c .before .before) (c .before .dependencies3 .given)) (c .press-each)
+      abbrev pub After-press-each·gave : (c : After-press-each) → s121 (c .before .before .before .before .before .before .before .before .before .before .before .before .before .before .before .before .before .before .before .before .before .before .before .before .before .before .before .before .before .before .before .before .before .before .blocks)
+          .gives (m85 (c .before .before) (c .before .dependencies3 .given))
+      After-press-each·gave = λ c. Called.given ps·4 r·4 (claims· .9) T123 args·1 (m85 (c .before .before) (c .before .dependencies3 .given)) (c .press-each)
 
-      abbrev pub m87 : (before : After-dependencies3) → (given : s121 (before .before .before .before .before .before .before .before .before .before .before .before .before .before .before .before .before .before .before .before .before .before .before .before .before .before .before .before .before .before .before .before .before
-          .before .blocks) .gives (m85 (before .before) (before .dependencies3 .given))) → Typed.Mo T125
-      m87 = λ before given. s122 (before .before .before .before .before .before .before .before .before .before .before .before .before .before .before .before .before .before .before .before .before .before .before .before .before .before .before .before .before .before .before .before .before .before .blocks) (m86 before given)
+      abbrev pub m89 : (before : After-dependencies3) → (given : s121 (before .before .before .before .before .before .before .before .before .before .before .before .before .before .before .before .before .before .before .before .before .before .before .before .before .before .before .before .before .before .before .before .before .before .blocks) .gives
+          (m85 (before .before) (before .dependencies3 .given))) → Typed.Mo T127
+      m89 = λ before given. s124 (before .before .before .before .before .before .before .before .before .before .before .before .before .before .before .before .before .before .before .before .before .before .before .before .before .before .before .before .before .before .before .before .before .before .blocks) (s123 (before .before .before .before .before
+          .before .before .before .before .before .before .before .before .before .before .before .before .before .before .before .before .before .before .before .before .before .before .before .before .before .before .before .before .before .blocks) (s122 (before .before .before .before .before .before .before .before .before .before .before .before .before
+          .before .before .before .before .before .before .before .before .before .before .before .before .before .before .before .before .before .before .before .before .before .blocks) (m86 before given)))
 
-      abbrev pub m88 : (before : After-dependencies3) → (given : s121 (before .before .before .before .before .before .before .before .before .before .before .before .before .before .before .before .before .before .before .before .before .before .before .before .before .before .before .before .before .before .before .before .before
-          .before .blocks) .gives (m85 (before .before) (before .dependencies3 .given))) → Typed.Mo T126
-      m88 = λ before given. s123 (before .before .before .before .before .before .before .before .before .before .before .before .before .before .before .before .before .before .before .before .before .before .before .before .before .before .before .before .before .before .before .before .before .before .blocks) (m87 before given)
+      abbrev pub m92 : (before : After-dependencies3) → (given : s121 (before .before .before .before .before .before .before .before .before .before .before .before .before .before .before .before .before .before .before .before .before .before .before .before .before .before .before .before .before .before .before .before .before .before .blocks) .gives
+          (m85 (before .before) (before .dependencies3 .given))) → Typed.Mo T130
+      m92 = λ before given. s127 (before .before .before .before .before .before .before .before .before .before .before .before .before .before .before .before .before .before .before .before .before .before .before .before .before .before .before .before .before .before .before .before .before .before .blocks) (s126 (before .before .before .before .before
+          .before .before .before .before .before .before .before .before .before .before .before .before .before .before .before .before .before .before .before .before .before .before .before .before .before .before .before .before .before .blocks) (s125 (before .before .before .before .before .before .before .before .before .before .before .before .before
+          .before .before .before .before .before .before .before .before .before .before .before .before .before .before .before .before .before .before .before .before .before .blocks) (m89 before given)))
 
-      abbrev pub m89 : (before : After-dependencies3) → (given : s121 (before .before .before .before .before .before .before .before .before .before .before .before .before .before .before .before .before .before .before .before .before .before .before .before .before .before .before .before .before .before .before .before .before
-          .before .blocks) .gives (m85 (before .before) (before .dependencies3 .given))) → Typed.Mo T127
-      m89 = λ before given. s124 (before .before .before .before .before .before .before .before .before .before .before .before .before .before .before .before .before .before .before .before .before .before .before .before .before .before .before .before .before .before .before .before .before .before .blocks) (m88 before given)
+      abbrev pub m95 : (before : After-dependencies3) → (given : s121 (before .before .before .before .before .before .before .before .before .before .before .before .before .before .before .before .before .before .before .before .before .before .before .before .before .before .before .before .before .before .before .before .before .before .blocks) .gives
+          (m85 (before .before) (before .dependencies3 .given))) → Typed.Mo T134
+      m95 = λ before given. s131 (before .before .before .before .before .before .before .before .before .before .before .before .before .before .before .before .before .before .before .before .before .before .before .before .before .before .before .before .before .before .before .before .before .before .blocks) (s129 (before .before .before .before .before
+          .before .before .before .before .before .before .before .before .before .before .before .before .before .before .before .before .before .before .before .before .before .before .before .before .before .before .before .before .before .blocks) (s128 (before .before .before .before .before .before .before .before .before .before .before .before .before
+          .before .before .before .before .before .before .before .before .before .before .before .before .before .before .before .before .before .before .before .before .before .blocks) (m92 before given)))
 
-      abbrev pub m90 : (before : After-dependencies3) → (given : s121 (before .before .before .before .before .before .before .before .before .before .before .before .before .before .before .before .before .before .before .before .before .before .before .before .before .before .before .before .before .before .before .before .before
-          .before .blocks) .gives (m85 (before .before) (before .dependencies3 .given))) → Typed.Mo T128
-      m90 = λ before given. s125 (before .before .before .before .before .before .before .before .before .before .before .before .before .before .before .before .before .before .before .before .before .before .before .before .before .before .before .before .before .before .before .before .before .before .blocks) (m89 before given)
+      abbrev pub m98 : (before : After-dependencies3) → (given : s121 (before .before .before .before .before .before .before .before .before .before .before .before .before .before .before .before .before .before .before .before .before .before .before .before .before .before .before .before .before .before .before .before .before .before .blocks) .gives
+          (m85 (before .before) (before .dependencies3 .given))) → Typed.Mo T140
+      m98 = λ before given. s137 (before .before .before .before .before .before .before .before .before .before .before .before .before .before .before .before .before .before .before .before .before .before .before .before .before .before .before .before .before .before .before .before .before .before .blocks) (s135 (before .before .before .before .before
+          .before .before .before .before .before .before .before .before .before .before .before .before .before .before .before .before .before .before .before .before .before .before .before .before .before .before .before .before .before .blocks) (s133 (before .before .before .before .before .before .before .before .before .before .before .before .before
+          .before .before .before .before .before .before .before .before .before .before .before .before .before .before .before .before .before .before .before .before .before .blocks) (m95 before given)))
 
-      abbrev pub m91 : (before : After-dependencies3) → (given : s121 (before .before .before .before .before .before .before .before .before .before .before .before .before .before .before .before .before .before .before .before .before .before .before .before .before .before .before .before .before .before .before .before .before
-          .before .blocks) .gives (m85 (before .before) (before .dependencies3 .given))) → Typed.Mo T129
-      m91 = λ before given. s126 (before .before .before .before .before .before .before .before .before .before .before .before .before .before .before .before .before .before .before .before .before .before .before .before .before .before .before .before .before .before .before .before .before .before .blocks) (m90 before given)
+      abbrev pub m101 : (before : After-dependencies3) → (given : s121 (before .before .before .before .before .before .before .before .before .before .before .before .before .before .before .before .before .before .before .before .before .before .before .before .before .before .before .before .before .before .before .before .before .before .blocks) .gives
+          (m85 (before .before) (before .dependencies3 .given))) → Typed.Mo T146
+      m101 = λ before given. s143 (before .before .before .before .before .before .before .before .before .before .before .before .before .before .before .before .before .before .before .before .before .before .before .before .before .before .before .before .before .before .before .before .before .before .blocks) (s141 (before .before .before .before .before
+          .before .before .before .before .before .before .before .before .before .before .before .before .before .before .before .before .before .before .before .before .before .before .before .before .before .before .before .before .before .blocks) (s139 (before .before .before .before .before .before .before .before .before .before .before .before .before
+          .before .before .before .before .before .before .before .before .before .before .before .before .before .before .before .before .before .before .before .before .before .blocks) (m98 before given)))
 
-      abbrev pub m92 : (before : After-dependencies3) → (given : s121 (before .before .before .before .before .before .before .before .before .before .before .before .before .before .before .before .before .before .before .before .before .before .before .before .before .before .before .before .before .before .before .before .before
-          .before .blocks) .gives (m85 (before .before) (before .dependencies3 .given))) → Typed.Mo T130
-      m92 = λ before given. s127 (before .before .before .before .before .before .before .before .before .before .before .before .before .before .before .before .before .before .before .before .before .before .before .before .before .before .before .before .before .before .before .before .before .before .blocks) (m91 before given)
+      abbrev pub m104 : (before : After-dependencies3) → (given : s121 (before .before .before .before .before .before .before .before .before .before .before .before .before .before .before .before .before .before .before .before .before .before .before .before .before .before .before .before .before .before .before .before .before .before .blocks) .gives
+          (m85 (before .before) (before .dependencies3 .given))) → Typed.Mo T152
+      m104 = λ before given. s149 (before .before .before .before .before .before .before .before .before .before .before .before .before .before .before .before .before .before .before .before .before .before .before .before .before .before .before .before .before .before .before .before .before .before .blocks) (s147 (before .before .before .before .before
+          .before .before .before .before .before .before .before .before .before .before .before .before .before .before .before .before .before .before .before .before .before .before .before .before .before .before .before .before .before .blocks) (s145 (before .before .before .before .before .before .before .before .before .before .before .before .before
+          .before .before .before .before .before .before .before .before .before .before .before .before .before .before .before .before .before .before .before .before .before .blocks) (m101 before given)))
 
-      abbrev pub m93 : (before : After-dependencies3) → (given : s121 (before .before .before .before .before .before .before .before .before .before .before .before .before .before .before .before .before .before .before .before .before .before .before .before .before .before .before .before .before .before .before .before .before
-          .before .blocks) .gives (m85 (before .before) (before .dependencies3 .given))) → Typed.Mo T131
-      m93 = λ before given. s128 (before .before .before .before .before .before .before .before .before .before .before .before .before .before .before .before .before .before .before .before .before .before .before .before .before .before .before .before .before .before .before .before .before .before .blocks) (m92 before given)
+      abbrev pub m106 : (before : After-dependencies3) → (given : s121 (before .before .before .before .before .before .before .before .before .before .before .before .before .before .before .before .before .before .before .before .before .before .before .before .before .before .before .before .before .before .before .before .before .before .blocks) .gives
+          (m85 (before .before) (before .dependencies3 .given))) → Typed.Mo T156
+      m106 = λ before given. s153 (before .before .before .before .before .before .before .before .before .before .before .before .before .before .before .before .before .before .before .before .before .before .before .before .before .before .before .before .before .before .before .before .before .before .blocks) (s151 (before .before .before .before .before
+          .before .before .before .before .before .before .before .before .before .before .before .before .before .before .before .before .before .before .before .before .before .before .before .before .before .before .before .before .before .blocks) (m104 before given))
 
-      abbrev pub m94 : (before : After-dependencies3) → (given : s121 (before .before .before .before .before .before .before .before .before .before .before .before .before .before .before .before .before .before .before .before .before .before .before .before .before .before .before .before .before .before .before .before .before
-          .before .blocks) .gives (m85 (before .before) (before .dependencies3 .given))) → Typed.Mo T132
-      m94 = λ before given. s129 (before .before .before .before .before .before .before .before .before .before .before .before .before .before .before .before .before .before .before .before .before .before .before .before .before .before .before .before .before .before .before .before .before .before .blocks) (m93 before given)
-
-      abbrev pub m95 : (before : After-dependencies3) → (given : s121 (before .before .before .before .before .before .before .before .before .before .before .before .before .before .before .before .before .before .before .before .before .before .before .before .before .before .before .before .before .before .before .before .before
-          .before .blocks) .gives (m85 (before .before) (before .dependencies3 .given))) → Typed.Mo T134
-      m95 = λ before given. s131 (before .before .before .before .before .before .before .before .before .before .before .before .before .before .before .before .before .before .before .before .before .before .before .before .before .before .before .before .before .before .before .before .before .before .blocks) (m94 before given)
-
-      abbrev pub m96 : (before : After-dependencies3) → (given : s121 (before .before .before .before .before .before .before .before .before .before .before .before .before .before .before .before .before .before .before .before .before .before .before .before .before .before .before .before .before .before .before .before .before
-          .before .blocks) .gives (m85 (before .before) (before .dependencies3 .given))) → Typed.Mo T136
-      m96 = λ before given. s133 (before .before .before .before .before .before .before .before .before .before .before .before .before .before .before .before .before .before .before .before .before .before .before .before .before .before .before .before .before .before .before .before .before .before .blocks) (m95 before given)
-
-      abbrev pub m97 : (before : After-dependencies3) → (given : s121 (before .before .before .before .before .before .before .before .before .before .before .before .before .before .before .before .before .before .before .before .before .before .before .before .before .before .before .before .before .before .before .before .before
-          .before .blocks) .gives (m85 (before .before) (before .dependencies3 .given))) → Typed.Mo T138
-      m97 = λ before given. s135 (before .before .before .before .before .before .before .before .before .before .before .before .before .before .before .before .before .before .before .before .before .before .before .before .before .before .before .before .before .before .before .before .before .before .blocks) (m96 before given)
-
-      abbrev pub m98 : (before : After-dependencies3) → (given : s121 (before .before .before .before .before .before .before .before .before .before .before .before .before .before .before .before .before .before .before .before .before .before .before .before .before .before .before .before .before .before .before .before .before
-          .before .blocks) .gives (m85 (before .before) (before .dependencies3 .given))) → Typed.Mo T140
-      m98 = λ before given. s137 (before .before .before .before .before .before .before .before .before .before .before .before .before .before .before .before .before .before .before .before .before .before .before .before .before .before .before .before .before .before .before .before .before .before .blocks) (m97 before given)
-
-      abbrev pub m99 : (before : After-dependencies3) → (given : s121 (before .before .before .before .before .before .before .before .before .before .before .before .before .before .before .before .before .before .before .before .before .before .before .before .before .before .before .before .before .before .before .before .before
-          .before .blocks) .gives (m85 (before .before) (before .dependencies3 .given))) → Typed.Mo T142
-      m99 = λ before given. s139 (before .before .before .before .before .before .before .before .before .before .before .before .before .before .before .before .before .before .before .before .before .before .before .before .before .before .before .before .before .before .before .before .before .before .blocks) (m98 before given)
-
-      abbrev pub m100 : (before : After-dependencies3) → (given : s121 (before .before .before .before .before .before .before .before .before .before .before .before .before .before .before .before .before .before .before .before .before .before .before .before .before .before .before .before .before .before .before .before .before
-          .before .blocks) .gives (m85 (before .before) (before .dependencies3 .given))) → Typed.Mo T144
-      m100 = λ before given. s141 (before .before .before .before .before .before .before .before .before .before .before .before .before .before .before .before .before .before .before .before .before .before .before .before .before .before .before .before .before .before .before .before .before .before .blocks) (m99 before given)
-
-      abbrev pub m101 : (before : After-dependencies3) → (given : s121 (before .before .before .before .before .before .before .before .before .before .before .before .before .before .before .before .before .before .before .before .before .before .before .before .before .before .before .before .before .before .before .before .before
-          .before .blocks) .gives (m85 (before .before) (before .dependencies3 .given))) → Typed.Mo T146
-      m101 = λ before given. s143 (before .before .before .before .before .before .before .before .before .before .before .before .before .before .before .before .before .before .before .before .before .before .before .before .before .before .before .before .before .before .before .before .before .before .blocks) (m100 before given)
-
-      abbrev pub m102 : (before : After-dependencies3) → (given : s121 (before .before .before .before .before .before .before .before .before .before .before .before .before .before .before .before .before .before .before .before .before .before .before .before .before .before .before .before .before .before .before .before .before
-          .before .blocks) .gives (m85 (before .before) (before .dependencies3 .given))) → Typed.Mo T148
-      m102 = λ before given. s145 (before .before .before .before .before .before .before .before .before .before .before .before .before .before .before .before .before .before .before .before .before .before .before .before .before .before .before .before .before .before .before .before .before .before .blocks) (m101 before given)
-
-      abbrev pub m103 : (before : After-dependencies3) → (given : s121 (before .before .before .before .before .before .before .before .before .before .before .before .before .before .before .before .before .before .before .before .before .before .before .before .before .before .before .before .before .before .before .before .before
-          .before .blocks) .gives (m85 (before .before) (before .dependencies3 .given))) → Typed.Mo T150
-      m103 = λ before given. s147 (before .before .before .before .before .before .before .before .before .before .before .before .before .before .before .before .before .before .before .before .before .before .before .before .before .before .before .before .before .before .before .before .before .before .blocks) (m102 before given)
-
-      abbrev pub m104 : (before : After-dependencies3) → (given : s121 (before .before .before .before .before .before .before .before .before .before .before .before .before .before .before .before .before .before .before .before .before .before .before .before .before .before .before .before .before .before .before .before .before
-          .before .blocks) .gives (m85 (before .before) (before .dependencies3 .given))) → Typed.Mo T152
-      m104 = λ before given. s149 (before .before .before .before .before .before .before .before .before .before .before .before .before .before .before .before .before .before .before .before .before .before .before .before .before .before .before .before .before .before .before .before .before .before .blocks) (m103 before given)
-
-      abbrev pub m105 : (before : After-dependencies3) → (given : s121 (before .before .before .before .before .before .before .before .before .before .before .before .before .before .before .before .before .before .before .before .before .before .before .before .before .before .before .before .before .before .before .before .before
-          .before .blocks) .gives (m85 (before .before) (before .dependencies3 .given))) → Typed.Mo T154
-      m105 = λ before given. s151 (before .before .before .before .before .before .before .before .before .before .before .before .before .before .before .before .before .before .before .before .before .before .before .before .before .before .before .before .before .before .before .before .before .before .blocks) (m104 before given)
-
-      abbrev pub m106 : (before : After-dependencies3) → (given : s121 (before .before .before .before .before .before .before .before .before .before .before .before .before .before .before .before .before .before .before .before .before .before .before .before .before .before .before .before .before .before .before .before .before
-          .before .blocks) .gives (m85 (before .before) (before .dependencies3 .given))) → Typed.Mo T156
-      m106 = λ before given. s153 (before .before .before .before .before .before .before .before .before .before .before .before .before .before .before .before .before .before .before .before .before .before .before .before .before .before .before .before .before .before .before .before .before .before .blocks) (m105 before given)
-
-      abbrev pub m107 : (before : After-press-each) → (given : s155 (before .before .before .before .before .before .before .before .before .before .before .before .before .before .before .before .before .before .before .before .before .before .before .before .before .before .before .before .before .before .before .before .before
-          .before .before .blocks) .gives (m106 (before .before) (After-press-each·gave before))) → Typed.Mo T158
-      m107 = λ before given. s155 (before .before .before .before .before .before .before .before .before .before .before .before .before .before .before .before .before .before .before .before .before .before .before .before .before .before .before .before .before .before .before .before .before
-          .before .before .blocks) .next (m106 (before .before) (After-press-each·gave before)) given
-
-      abbrev pub m108 : (before : After-press-each) → (given : s155 (before .before .before .before .before .before .before .before .before .before .before .before .before .before .before .before .before .before .before .before .before .before .before .before .before .before .before .before .before .before .before .before .before
-          .before .before .blocks) .gives (m106 (before .before) (After-press-each·gave before))) → Typed.Mo T160
-      m108 = λ before given. s157 (before .before .before .before .before .before .before .before .before .before .before .before .before .before .before .before .before .before .before .before .before .before .before .before .before .before .before .before .before .before .before .before .before .before .before .blocks) (m107 before given)
+      abbrev pub m108 : (before : After-press-each) → (given : s155 (before .before .before .before .before .before .before .before .before .before .before .before .before .before .before .before .before .before .before .before .before .before .before .before .before .before .before .before .before .before .before .before .before .before .before .blocks)
+          .gives (m106 (before .before) (After-press-each·gave before))) → Typed.Mo T160
+      m108 = λ before given. s157 (before .before .before .before .before .before .before .before .before .before .before .before .before .before .before .before .before .before .before .before .before .before .before .before .before .before .before .before .before .before .before .before .before .before .before .blocks) (s155 (before .before .before .before
+          .before .before .before .before .before .before .before .before .before .before .before .before .before .before .before .before .before .before .before .before .before .before .before .before .before .before .before .before .before .before .before .blocks) .next (m106 (before .before) (After-press-each·gave before)) given)
 
       module _ (before· : After-press-each) where
         pub record After-visited4·own : Type 0 where
-          pub given : s155 (before· .before .before .before .before .before .before .before .before .before .before .before .before .before .before .before .before .before .before .before .before .before .before .before .before .before .before .before .before .before .before .before .before .before .before .blocks) .gives
-              (m106 (before· .before) (After-press-each·gave before·))
+          pub given : s155 (before· .before .before .before .before .before .before .before .before .before .before .before .before .before .before .before .before .before .before .before .before .before .before .before .before .before .before .before .before .before .before .before .before .before .before .blocks) .gives (m106 (before· .before)
+              (After-press-each·gave before·))
 
       pub record After-visited4 : Type 0 where
         pub before : After-press-each
         pub visited4 : After-visited4·own before
 
-      abbrev pub m109 : (before : After-visited4) → (given : s159 (before .before .before .before .before .before .before .before .before .before .before .before .before .before .before .before .before .before .before .before .before .before .before .before .before .before .before .before .before .before .before .before .before
-          .before .before .before .blocks) .gives (m108 (before .before) (before .visited4 .given))) → Typed.Mo T162
-      m109 = λ before given. s159 (before .before .before .before .before .before .before .before .before .before .before .before .before .before .before .before .before .before .before .before .before .before .before .before .before .before .before .before .before .before .before .before .before
-          .before .before .before .blocks) .next (m108 (before .before) (before .visited4 .given)) given
+      abbrev pub m110 : (before : After-visited4) → (given : s159 (before .before .before .before .before .before .before .before .before .before .before .before .before .before .before .before .before .before .before .before .before .before .before .before .before .before .before .before .before .before .before .before .before .before .before .before
+          .blocks) .gives (m108 (before .before) (before .visited4 .given))) → Typed.Mo T164
+      m110 = λ before given. s161 (before .before .before .before .before .before .before .before .before .before .before .before .before .before .before .before .before .before .before .before .before .before .before .before .before .before .before .before .before .before .before .before .before .before .before .before .blocks) (s159 (before .before .before
+          .before .before .before .before .before .before .before .before .before .before .before .before .before .before .before .before .before .before .before .before .before .before .before .before .before .before .before .before .before .before .before .before .before .blocks) .next (m108 (before .before) (before .visited4 .given)) given)
 
-      abbrev pub m110 : (before : After-visited4) → (given : s159 (before .before .before .before .before .before .before .before .before .before .before .before .before .before .before .before .before .before .before .before .before .before .before .before .before .before .before .before .before .before .before .before .before
-          .before .before .before .blocks) .gives (m108 (before .before) (before .visited4 .given))) → Typed.Mo T164
-      m110 = λ before given. s161 (before .before .before .before .before .before .before .before .before .before .before .before .before .before .before .before .before .before .before .before .before .before .before .before .before .before .before .before .before .before .before .before .before .before .before .before .blocks) (m109 before given)
+      abbrev pub m112 : (before : After-visited4) → (given : s159 (before .before .before .before .before .before .before .before .before .before .before .before .before .before .before .before .before .before .before .before .before .before .before .before .before .before .before .before .before .before .before .before .before .before .before .before
+          .blocks) .gives (m108 (before .before) (before .visited4 .given))) → Typed.Mo T168
+      m112 = λ before given. s165 (before .before .before .before .before .before .before .before .before .before .before .before .before .before .before .before .before .before .before .before .before .before .before .before .before .before .before .before .before .before .before .before .before .before .before .before .blocks) (s163 (before .before .before
+          .before .before .before .before .before .before .before .before .before .before .before .before .before .before .before .before .before .before .before .before .before .before .before .before .before .before .before .before .before .before .before .before .before .blocks) (m110 before given))
 
-      abbrev pub m111 : (before : After-visited4) → (given : s159 (before .before .before .before .before .before .before .before .before .before .before .before .before .before .before .before .before .before .before .before .before .before .before .before .before .before .before .before .before .before .before .before .before
-          .before .before .before .blocks) .gives (m108 (before .before) (before .visited4 .given))) → Typed.Mo T166
-      m111 = λ before given. s163 (before .before .before .before .before .before .before .before .before .before .before .before .before .before .before .before .before .before .before .before .before .before .before .before .before .before .before .before .before .before .before .before .before .before .before .before .blocks) (m110 before given)
-
-      abbrev pub m112 : (before : After-visited4) → (given : s159 (before .before .before .before .before .before .before .before .before .before .before .before .before .before .before .before .before .before .before .before .before .before .before .before .before .before .before .before .before .before .before .before .before
-          .before .before .before .blocks) .gives (m108 (before .before) (before .visited4 .given))) → Typed.Mo T168
-      m112 = λ before given. s165 (before .before .before .before .before .before .before .before .before .before .before .before .before .before .before .before .before .before .before .before .before .before .before .before .before .before .before .before .before .before .before .before .before .before .before .before .blocks) (m111 before given)
-
-      abbrev pub m113 : (before : After-visited4) → (given : s159 (before .before .before .before .before .before .before .before .before .before .before .before .before .before .before .before .before .before .before .before .before .before .before .before .before .before .before .before .before .before .before .before .before
-          .before .before .before .blocks) .gives (m108 (before .before) (before .visited4 .given))) → Typed.Mo T169
+      abbrev pub m113 : (before : After-visited4) → (given : s159 (before .before .before .before .before .before .before .before .before .before .before .before .before .before .before .before .before .before .before .before .before .before .before .before .before .before .before .before .before .before .before .before .before .before .before .before
+          .blocks) .gives (m108 (before .before) (before .visited4 .given))) → Typed.Mo T1
       m113 = λ before given. s166 (before .before .before .before .before .before .before .before .before .before .before .before .before .before .before .before .before .before .before .before .before .before .before .before .before .before .before .before .before .before .before .before .before .before .before .before .blocks) (m112 before given)
 
       module _ (before· : After-visited4) where
         pub record After-drone-flags4·own : Type 0 where
-          pub given : s159 (before· .before .before .before .before .before .before .before .before .before .before .before .before .before .before .before .before .before .before .before .before .before .before .before .before .before .before .before .before .before .before .before .before .before .before .before .blocks) .gives
-              (m108 (before· .before) (before· .visited4 .given))
+          pub given : s159 (before· .before .before .before .before .before .before .before .before .before .before .before .before .before .before .before .before .before .before .before .before .before .before .before .before .before .before .before .before .before .before .before .before .before .before .before .blocks) .gives (m108 (before· .before)
+              (before· .visited4 .given))
 
       pub record After-drone-flags4 : Type 0 where
         pub before : After-visited4
         pub drone-flags4 : After-drone-flags4·own before
 
       abbrev pub Need-returns-2 : Type 0
-      Need-returns-2 = (c : After-drone-flags4) → Post· (c .before .before .before .before .before .before .before .before .before .before .before .before .before .before .before .before .before .before .before .before .before .before .before .before .before .before .before .before .before .before .before .before .before .before .before .before .κs) (dens
-          (c .before .before .before .before .before .before .before .before .before .before .before .before .before .before .before .before .before .before .before .before .before .before .before .before .before .before .before .before .before .before .before .before .before .before .before .before .κs)
-          (c .before .before .before .before .before .before .before .before .before .before .before .before .before .before .before .before .before .before .before .before .before .before .before .before .before .before .before .before .before .before .before .before .before .before .before .before .args)) (Function.resV r
-          (c .before .before .before .before .before .before .before .before .before .before .before .before .before .before .before .before .before .before .before .before .before .before .before .before .before .before .before .before .before .before .before .before .before .before .before .before .κs) (m113 (c .before) (c .drone-flags4 .given) .0))
-          (Clauses.atExit (Kinds.endedOf 2 ps r) (c .before .before .before .before .before .before .before .before .before .before .before .before .before .before .before .before .before .before .before .before .before .before .before .before .before .before .before .before .before .before .before .before .before .before .before .before .κs) (dens
-          (c .before .before .before .before .before .before .before .before .before .before .before .before .before .before .before .before .before .before .before .before .before .before .before .before .before .before .before .before .before .before .before .before .before .before .before .before .κs)
-          (c .before .before .before .before .before .before .before .before .before .before .before .before .before .before .before .before .before .before .before .before .before .before .before .before .before .before .before .before .before .before .before .before .before .before .before .before .args)) (Enter.lastsP
-          (c .before .before .before .before .before .before .before .before .before .before .before .before .before .before .before .before .before .before .before .before .before .before .before .before .before .before .before .before .before .before .before .before .before .before .before .before .κs) 1 ps xs (dens
-          (c .before .before .before .before .before .before .before .before .before .before .before .before .before .before .before .before .before .before .before .before .before .before .before .before .before .before .before .before .before .before .before .before .before .before .before .before .κs)
-          (c .before .before .before .before .before .before .before .before .before .before .before .before .before .before .before .before .before .before .before .before .before .before .before .before .before .before .before .before .before .before .before .before .before .before .before .before .args)) (m113 (c .before) (c .drone-flags4 .given) .1)))
+      Need-returns-2 = (c : After-drone-flags4) → Post· (c .before .before .before .before .before .before .before .before .before .before .before .before .before .before .before .before .before .before .before .before .before .before .before .before .before .before .before .before .before .before .before .before .before .before .before .before .κs) (dens (c
+          .before .before .before .before .before .before .before .before .before .before .before .before .before .before .before .before .before .before .before .before .before .before .before .before .before .before .before .before .before .before .before .before .before .before .before .before .κs) (c .before .before .before .before .before .before .before
+          .before .before .before .before .before .before .before .before .before .before .before .before .before .before .before .before .before .before .before .before .before .before .before .before .before .before .before .before .before .args)) (Function.resV r (c .before .before .before .before .before .before .before .before .before .before .before
+          .before .before .before .before .before .before .before .before .before .before .before .before .before .before .before .before .before .before .before .before .before .before .before .before .before .κs) (m113 (c .before) (c .drone-flags4 .given) .0)) (Clauses.atExit (Kinds.endedOf 2 ps r) (c .before .before .before .before .before .before .before
+          .before .before .before .before .before .before .before .before .before .before .before .before .before .before .before .before .before .before .before .before .before .before .before .before .before .before .before .before .before .κs) (dens (c .before .before .before .before .before .before .before .before .before .before .before .before .before
+          .before .before .before .before .before .before .before .before .before .before .before .before .before .before .before .before .before .before .before .before .before .before .before .κs) (c .before .before .before .before .before .before .before .before .before .before .before .before .before .before .before .before .before .before .before .before
+          .before .before .before .before .before .before .before .before .before .before .before .before .before .before .before .before .args)) (Enter.lastsP (c .before .before .before .before .before .before .before .before .before .before .before .before .before .before .before .before .before .before .before .before .before .before .before .before .before
+          .before .before .before .before .before .before .before .before .before .before .before .κs) 1 ps xs (dens (c .before .before .before .before .before .before .before .before .before .before .before .before .before .before .before .before .before .before .before .before .before .before .before .before .before .before .before .before .before .before
+          .before .before .before .before .before .before .κs) (c .before .before .before .before .before .before .before .before .before .before .before .before .before .before .before .before .before .before .before .before .before .before .before .before .before .before .before .before .before .before .before .before .before .before .before .before .args))
+          (m113 (c .before) (c .drone-flags4 .given) .1)))
 
-      module _ (zero-record-requires : Need-zero-record-requires) (slice-aggregate-read-plan : Need-slice-aggregate-read-plan) (slice-aggregate-read-plan-2 : Need-slice-aggregate-read-plan-2) (slice-aggregate-read-plan-3 : Need-slice-aggregate-read-plan-3) (slice-aggregate-read-plan-4 : Need-slice-aggregate-read-plan-4)
-          (slice-aggregate-read-plan-5 : Need-slice-aggregate-read-plan-5) (slice-aggregate-read-plan-6 : Need-slice-aggregate-read-plan-6) (slice-aggregate-read-plan-7 : Need-slice-aggregate-read-plan-7) (slice-aggregate-read-plan-8 : Need-slice-aggregate-read-plan-8) (slice-aggregate-read-plan-9 : Need-slice-aggregate-read-plan-9)
-          (read-plan-requires : Need-read-plan-requires) (number-of-requires : Need-number-of-requires) (show-requires : Need-show-requires) (returns : Need-returns) (slice-aggregate-press-each : Need-slice-aggregate-press-each) (slice-aggregate-press-each-2 : Need-slice-aggregate-press-each-2)
-          (slice-aggregate-press-each-3 : Need-slice-aggregate-press-each-3) (slice-aggregate-press-each-4 : Need-slice-aggregate-press-each-4) (slice-aggregate-press-each-5 : Need-slice-aggregate-press-each-5) (slice-aggregate-press-each-6 : Need-slice-aggregate-press-each-6) (slice-aggregate-press-each-7 : Need-slice-aggregate-press-each-7)
-          (slice-aggregate-press-each-8 : Need-slice-aggregate-press-each-8) (slice-aggregate-press-each-9 : Need-slice-aggregate-press-each-9) (press-each-requires : Need-press-each-requires) (returns-2 : Need-returns-2) where
-        lay9 : (c : After-press-each) → at30 (c .before .before .before .before .before .before .before .before .before .before .before .before .before .before .before .before .before .before .before .before .before .before .before .before .before .before .before .before .before .before .before .before .before .before .blocks) (W0
-            (c .before .before .before .before .before .before .before .before .before .before .before .before .before .before .before .before .before .before .before .before .before .before .before .before .before .before .before .before .before .before .before .before .before .before .κs)
-            (c .before .before .before .before .before .before .before .before .before .before .before .before .before .before .before .before .before .before .before .before .before .before .before .before .before .before .before .before .before .before .before .before .before .before .args)
-            (c .before .before .before .before .before .before .before .before .before .before .before .before .before .before .before .before .before .before .before .before .before .before .before .before .before .before .before .before .before .before .before .before .before .before .blocks)) (m106 (c .before) (After-press-each·gave c))
-        lay9 = λ c. (
-          Path'.refl,
-          λ g. (Path'.refl, λ g'. ((Path'.refl, (tt, (Path'.refl, tt))), returns-2 record { before = record { before = record { before = c .before; press-each = c .press-each }; visited4 = record { given = g } }; drone-flags4 = record { given = g' } })),
-        )
+      module _ (zero-record-requires : Need-zero-record-requires) (slice-aggregate-read-plan : Need-slice-aggregate-read-plan) (slice-aggregate-read-plan-2 : Need-slice-aggregate-read-plan-2) (slice-aggregate-read-plan-3 : Need-slice-aggregate-read-plan-3) (slice-aggregate-read-plan-4 : Need-slice-aggregate-read-plan-4) (slice-aggregate-read-plan-5 :
+          Need-slice-aggregate-read-plan-5) (slice-aggregate-read-plan-6 : Need-slice-aggregate-read-plan-6) (slice-aggregate-read-plan-7 : Need-slice-aggregate-read-plan-7) (slice-aggregate-read-plan-8 : Need-slice-aggregate-read-plan-8) (slice-aggregate-read-plan-9 : Need-slice-aggregate-read-plan-9) (read-plan-requires : Need-read-plan-requires)
+          (number-of-requires : Need-number-of-requires) (show-requires : Need-show-requires) (returns : Need-returns) (slice-aggregate-press-each : Need-slice-aggregate-press-each) (slice-aggregate-press-each-2 : Need-slice-aggregate-press-each-2) (slice-aggregate-press-each-3 : Need-slice-aggregate-press-each-3) (slice-aggregate-press-each-4 :
+          Need-slice-aggregate-press-each-4) (slice-aggregate-press-each-5 : Need-slice-aggregate-press-each-5) (slice-aggregate-press-each-6 : Need-slice-aggregate-press-each-6) (slice-aggregate-press-each-7 : Need-slice-aggregate-press-each-7) (slice-aggregate-press-each-8 : Need-slice-aggregate-press-each-8) (slice-aggregate-press-each-9 :
+          Need-slice-aggregate-press-each-9) (press-each-requires : Need-press-each-requires) (returns-2 : Need-returns-2) where
+        lay9 : (c : After-press-each) → at30 (c .before .before .before .before .before .before .before .before .before .before .before .before .before .before .before .before .before .before .before .before .before .before .before .before .before .before .before .before .before .before .before .before .before .before .blocks) (W0 (c .before .before .before
+            .before .before .before .before .before .before .before .before .before .before .before .before .before .before .before .before .before .before .before .before .before .before .before .before .before .before .before .before .before .before .before .κs) (c .before .before .before .before .before .before .before .before .before .before .before .before
+            .before .before .before .before .before .before .before .before .before .before .before .before .before .before .before .before .before .before .before .before .before .before .args) (c .before .before .before .before .before .before .before .before .before .before .before .before .before .before .before .before .before .before .before .before
+            .before .before .before .before .before .before .before .before .before .before .before .before .before .before .blocks)) (m106 (c .before) (After-press-each·gave c))
+        lay9 = λ c. (Path'.refl, λ g. (Path'.refl, λ g'. ((Path'.refl, (tt, (Path'.refl, tt))), returns-2 record { before = record { before = record { before = c .before; press-each = c .press-each }; visited4 = record { given = g } }; drone-flags4 = record { given = g' } })))
 
-        lay8 : (c : After-press-each) → at62 (c .before .before .before .before .before .before .before .before .before .before .before .before .before .before .before .before .before .before .before .before .before .before .before .before .before .before .before .before .before .before .before .before .before .before .blocks) (W0
-            (c .before .before .before .before .before .before .before .before .before .before .before .before .before .before .before .before .before .before .before .before .before .before .before .before .before .before .before .before .before .before .before .before .before .before .κs)
-            (c .before .before .before .before .before .before .before .before .before .before .before .before .before .before .before .before .before .before .before .before .before .before .before .before .before .before .before .before .before .before .before .before .before .before .args)
-            (c .before .before .before .before .before .before .before .before .before .before .before .before .before .before .before .before .before .before .before .before .before .before .before .before .before .before .before .before .before .before .before .before .before .before .blocks)) (m86 (c .before) (After-press-each·gave c))
+        lay8 : (c : After-press-each) → at62 (c .before .before .before .before .before .before .before .before .before .before .before .before .before .before .before .before .before .before .before .before .before .before .before .before .before .before .before .before .before .before .before .before .before .before .blocks) (W0 (c .before .before .before
+            .before .before .before .before .before .before .before .before .before .before .before .before .before .before .before .before .before .before .before .before .before .before .before .before .before .before .before .before .before .before .before .κs) (c .before .before .before .before .before .before .before .before .before .before .before .before
+            .before .before .before .before .before .before .before .before .before .before .before .before .before .before .before .before .before .before .before .before .before .before .args) (c .before .before .before .before .before .before .before .before .before .before .before .before .before .before .before .before .before .before .before .before
+            .before .before .before .before .before .before .before .before .before .before .before .before .before .before .blocks)) (m86 (c .before) (After-press-each·gave c))
         lay8 = λ c. lay9 record { before = c .before; press-each = c .press-each }
 
-        lay7 : (c : Else1) → at90 (c .before .before .before .before .before .before .before .before .before .before .before .before .before .before .before .before .before .before .before .before .before .before .before .before .blocks) (W0 (c .before .before .before .before .before .before .before .before .before .before
-            .before .before .before .before .before .before .before .before .before .before .before .before .before .before .κs) (c .before .before .before .before .before .before .before .before .before .before .before .before .before .before .before .before .before .before .before .before .before .before .before .before .args)
-            (c .before .before .before .before .before .before .before .before .before .before .before .before .before .before .before .before .before .before .before .before .before .before .before .before .blocks)) (m67 (c .before))
-        lay7 = λ c. λ g. (
-          Relend.count-is T98 35 36 (λ x. x) (λ u. 1) (m68 record { before = c .before; if1 = c .if1 } g) (slice-aggregate-press-each record { before = record { before = c .before; if1 = c .if1 }; drone-count3 = record { given = g } }),
-          λ g'. (
-            Relend.count-is T101 37 38 (λ x. x) (λ u. 1) (m70 record {
-              before = record { before = c .before; if1 = c .if1 };
-              drone-count3 = record { given = g };
-            } g') (slice-aggregate-press-each-2 record { before = record { before = record { before = c .before; if1 = c .if1 }; drone-count3 = record { given = g } }; dependency-count3 = record { given = g' } }),
-            λ g''. (
-              Relend.count-is T104 39 40 (λ x. x) (λ u. 768) (m72 record { before = record { before = record { before = c .before; if1 = c .if1 }; drone-count3 = record { given = g } }; dependency-count3 = record { given = g' } } g'') (slice-aggregate-press-each-3 record {
-                before = record {
-                  before = record {
-                    before = record { before = c .before; if1 = c .if1 };
-                    drone-count3 = record { given = g };
-                  };
-                  dependency-count3 = record { given = g' };
-                };
-                names3 = record { given = g'' };
-              }),
-              λ g'3. (
-                Relend.count-is T107 41 42 (λ x. x) (λ u. 32) (m74 record {
-                  before = record {
-                    before = record {
-                      before = record { before = c .before; if1 = c .if1 };
-                      drone-count3 = record { given = g };
-                    };
-                    dependency-count3 = record { given = g' };
-                  };
-                  names3 = record { given = g'' };
-                } g'3) (slice-aggregate-press-each-4 record {
-                  before = record {
-                    before = record {
-                      before = record { before = record { before = c .before; if1 = c .if1 }; drone-count3 = record { given = g } };
-                      dependency-count3 = record { given = g' };
-                    };
-                    names3 = record { given = g'' };
-                  };
-                  stop-counts3 = record { given = g'3 };
-                }),
-                λ g'4. (
-                  Relend.count-is T110 43 44 (λ x. x) (λ u. 1024) (m76 record {
-                    before = record {
-                      before = record {
-                        before = record { before = record { before = c .before; if1 = c .if1 }; drone-count3 = record { given = g } };
-                        dependency-count3 = record { given = g' };
-                      };
-                      names3 = record { given = g'' };
-                    };
-                    stop-counts3 = record { given = g'3 };
-                  } g'4) (slice-aggregate-press-each-5 record {
-                    before = record {
-                      before = record {
-                        before = record {
-                          before = record { before = record { before = c .before; if1 = c .if1 }; drone-count3 = record { given = g } };
-                          dependency-count3 = record { given = g' };
-                        };
-                        names3 = record { given = g'' };
-                      };
-                      stop-counts3 = record { given = g'3 };
-                    };
-                    locations3 = record { given = g'4 };
-                  }),
-                  λ g'5. (
-                    Relend.count-is T113 45 46 (λ x. x) (λ u. 1024) (m78 record {
-                      before = record {
-                        before = record {
-                          before = record {
-                            before = record {
-                              before = record { before = c .before; if1 = c .if1 };
-                              drone-count3 = record { given = g };
-                            };
-                            dependency-count3 = record { given = g' };
-                          };
-                          names3 = record { given = g'' };
-                        };
-                        stop-counts3 = record { given = g'3 };
-                      };
-                      locations3 = record { given = g'4 };
-                    } g'5) (slice-aggregate-press-each-6 record {
-                      before = record {
-                        before = record {
-                          before = record { before = record { before = record { before = record { before = c .before; if1 = c .if1 }; drone-count3 = record { given = g } }; dependency-count3 = record { given = g' } }; names3 = record { given = g'' } };
-                          stop-counts3 = record { given = g'3 };
-                        };
-                        locations3 = record { given = g'4 };
-                      };
-                      times3 = record { given = g'5 };
-                    }),
-                    λ g'6. (
-                      Relend.count-is T116 47 48 (λ x. x) (λ u. 32) (m80 record {
-                        before = record {
-                          before = record {
-                            before = record { before = record { before = record { before = record { before = c .before; if1 = c .if1 }; drone-count3 = record { given = g } }; dependency-count3 = record { given = g' } }; names3 = record { given = g'' } };
-                            stop-counts3 = record { given = g'3 };
-                          };
-                          locations3 = record { given = g'4 };
-                        };
-                        times3 = record { given = g'5 };
-                      } g'6) (slice-aggregate-press-each-7 record {
-                        before = record {
-                          before = record {
-                            before = record {
-                              before = record {
-                                before = record {
-                                  before = record {
-                                    before = record { before = c .before; if1 = c .if1 };
-                                    drone-count3 = record { given = g };
-                                  };
-                                  dependency-count3 = record { given = g' };
-                                };
-                                names3 = record { given = g'' };
-                              };
-                              stop-counts3 = record { given = g'3 };
-                            };
-                            locations3 = record { given = g'4 };
-                          };
-                          times3 = record { given = g'5 };
-                        };
-                        visited3 = record { given = g'6 };
-                      }),
-                      λ g'7. (
-                        Relend.count-is T119 49 50 (λ x. x) (λ u. 32) (m82 record {
-                          before = record {
-                            before = record {
-                              before = record { before = record { before = record { before = record { before = record { before = c .before; if1 = c .if1 }; drone-count3 = record { given = g } }; dependency-count3 = record { given = g' } }; names3 = record { given = g'' } }; stop-counts3 = record { given = g'3 } };
-                              locations3 = record { given = g'4 };
-                            };
-                            times3 = record { given = g'5 };
-                          };
-                          visited3 = record { given = g'6 };
-                        } g'7) (slice-aggregate-press-each-8 record {
-                          before = record {
-                            before = record {
-                              before = record {
-                                before = record {
-                                  before = record {
-                                    before = record {
-                                      before = record {
-                                        before = record { before = c .before; if1 = c .if1 };
-                                        drone-count3 = record { given = g };
-                                      };
-                                      dependency-count3 = record { given = g' };
-                                    };
-                                    names3 = record { given = g'' };
-                                  };
-                                  stop-counts3 = record { given = g'3 };
-                                };
-                                locations3 = record { given = g'4 };
-                              };
-                              times3 = record { given = g'5 };
-                            };
-                            visited3 = record { given = g'6 };
-                          };
-                          drone-flags3 = record { given = g'7 };
-                        }),
-                        λ g'8. (
-                          Relend.count-is T122 51 52 (λ x. x) (λ u. 2048) (m84 record {
-                            before = record {
-                              before = record {
-                                before = record {
-                                  before = record {
-                                    before = record {
-                                      before = record { before = record { before = record { before = c .before; if1 = c .if1 }; drone-count3 = record { given = g } }; dependency-count3 = record { given = g' } };
-                                      names3 = record { given = g'' };
-                                    };
-                                    stop-counts3 = record { given = g'3 };
-                                  };
-                                  locations3 = record { given = g'4 };
-                                };
-                                times3 = record { given = g'5 };
-                              };
-                              visited3 = record { given = g'6 };
-                            };
-                            drone-flags3 = record { given = g'7 };
-                          } g'8) (slice-aggregate-press-each-9 record {
-                            before = record {
-                              before = record {
-                                before = record {
-                                  before = record {
-                                    before = record { before = record { before = record { before = record { before = record { before = c .before; if1 = c .if1 }; drone-count3 = record { given = g } }; dependency-count3 = record { given = g' } }; names3 = record { given = g'' } }; stop-counts3 = record { given = g'3 } };
-                                    locations3 = record { given = g'4 };
-                                  };
-                                  times3 = record { given = g'5 };
-                                };
-                                visited3 = record { given = g'6 };
-                              };
-                              drone-flags3 = record { given = g'7 };
-                            };
-                            dependencies3 = record { given = g'8 };
-                          }),
-                          (
-                            press-each-requires record {
-                              before = record {
-                                before = record {
-                                  before = record {
-                                    before = record {
-                                      before = record {
-                                        before = record {
-                                          before = record {
-                                            before = record {
-                                              before = record { before = c .before; if1 = c .if1 };
-                                              drone-count3 = record { given = g };
-                                            };
-                                            dependency-count3 = record { given = g' };
-                                          };
-                                          names3 = record { given = g'' };
-                                        };
-                                        stop-counts3 = record { given = g'3 };
-                                      };
-                                      locations3 = record { given = g'4 };
-                                    };
-                                    times3 = record { given = g'5 };
-                                  };
-                                  visited3 = record { given = g'6 };
-                                };
-                                drone-flags3 = record { given = g'7 };
-                              };
-                              dependencies3 = record { given = g'8 };
-                            },
-                            λ g'9. lay8 record {
-                              before = record {
-                                before = record {
-                                  before = record {
-                                    before = record {
-                                      before = record {
-                                        before = record {
-                                          before = record {
-                                            before = record {
-                                              before = record {
-                                                before = record { before = c .before; if1 = c .if1 };
-                                                drone-count3 = record { given = g };
-                                              };
-                                              dependency-count3 = record { given = g' };
-                                            };
-                                            names3 = record { given = g'' };
-                                          };
-                                          stop-counts3 = record { given = g'3 };
-                                        };
-                                        locations3 = record { given = g'4 };
-                                      };
-                                      times3 = record { given = g'5 };
-                                    };
-                                    visited3 = record { given = g'6 };
-                                  };
-                                  drone-flags3 = record { given = g'7 };
-                                };
-                                dependencies3 = record { given = g'8 };
-                              };
-                              press-each = Called.called ps·4 r·4 (claims· .9) T123 (
-                                record { pos = 36; ty = Syntax.tyRef Syntax.erased Syntax.imm (Syntax.tyInt Syntax.w16); ref = λ x. x },
-                                (
-                                  record { pos = 38; ty = Syntax.tyRef Syntax.erased Syntax.imm (Syntax.tyInt Syntax.w16); ref = λ x. x },
-                                  (
-                                    record {
-                                      pos = 40;
-                                      ty = Syntax.tyRef Syntax.erased Syntax.imm (Syntax.tyInt Syntax.w8);
-                                      ref = λ x. x;
-                                    },
-                                    (
-                                      record { pos = 42; ty = Syntax.tyRef Syntax.erased Syntax.imm (Syntax.tyInt Syntax.w16); ref = λ x. x },
-                                      (
-                                        record { pos = 44; ty = Syntax.tyRef Syntax.erased Syntax.imm (Syntax.tyInt Syntax.w16); ref = λ x. x },
-                                        (
-                                          record {
-                                            pos = 46;
-                                            ty = Syntax.tyRef
-                                                Syntax.erased Syntax.imm (Syntax.tyInt Syntax.w32);
-                                            ref = λ x. x;
-                                          },
-                                          (
-                                            record { pos = 48; ty = Syntax.tyRef Syntax.erased Syntax.mut (Syntax.tyInt Syntax.w16); ref = λ x. x },
-                                            (
-                                              record { pos = 50; ty = Syntax.tyRef Syntax.erased Syntax.mut (Syntax.tyInt Syntax.w8); ref = λ x. x },
-                                              (
-                                                record {
-                                                  pos = 52;
-                                                  ty = Syntax.tyRef Syntax.erased Syntax.imm
-                                                      Rec.behind;
-                                                  ref = λ x. x;
-                                                },
-                                                (Num.vAt 2 λ x. x, (record { pos = 3; ty = Syntax.tyRef (Syntax.named 1) Syntax.imm (Syntax.tyInt Syntax.w16); ref = λ x. x }, tt)),
-                                              ),
-                                            ),
-                                          ),
-                                        ),
-                                      ),
-                                    ),
-                                  ),
-                                ),
-                              ) (m85 record {
-                                before = record {
-                                  before = record {
-                                    before = record {
-                                      before = record {
-                                        before = record {
-                                          before = record {
-                                            before = record {
-                                              before = record { before = c .before; if1 = c .if1 };
-                                              drone-count3 = record { given = g };
-                                            };
-                                            dependency-count3 = record { given = g' };
-                                          };
-                                          names3 = record { given = g'' };
-                                        };
-                                        stop-counts3 = record { given = g'3 };
-                                      };
-                                      locations3 = record { given = g'4 };
-                                    };
-                                    times3 = record { given = g'5 };
-                                  };
-                                  visited3 = record { given = g'6 };
-                                };
-                                drone-flags3 = record { given = g'7 };
-                              } g'8) g'9;
-                            },
-                          ),
-                        ),
-                      ),
-                    ),
-                  ),
-                ),
-              ),
-            ),
-          ),
-        )
+        lay7 : (c : Else1) → at90 (c .before .before .before .before .before .before .before .before .before .before .before .before .before .before .before .before .before .before .before .before .before .before .before .before .blocks) (W0 (c .before .before .before .before .before .before .before .before .before .before .before .before .before .before
+            .before .before .before .before .before .before .before .before .before .before .κs) (c .before .before .before .before .before .before .before .before .before .before .before .before .before .before .before .before .before .before .before .before .before .before .before .before .args) (c .before .before .before .before .before .before .before
+            .before .before .before .before .before .before .before .before .before .before .before .before .before .before .before .before .before .blocks)) (m67 (c .before))
+        lay7 = λ c. λ g.
+            (Relend.count-is T98 35 36 (λ x. x) (λ u. 1) (m68 record { before = c .before; if1 = c .if1 } g) (slice-aggregate-press-each record { before = record { before = c .before; if1 = c .if1 }; drone-count3 = record { given = g } }), λ g'. (Relend.count-is T101 37 38 (λ x. x) (λ u. 1) (m70 record { before = record { before = c .before; if1 = c .if1 }; drone-count3 = record { given = g } } g') (slice-aggregate-press-each-2 record { before = record { before = record { before = c .before; if1 = c .if1 }; drone-count3 = record { given = g } }; dependency-count3 = record { given = g' } }), λ g''. (Relend.count-is T104 39 40 (λ x. x) (λ u. 768) (m72 record { before = record { before = record { before = c .before; if1 = c .if1 }; drone-count3 = record { given = g } }; dependency-count3 = record { given = g' } } g'') (slice-aggregate-press-each-3 record { before = record { before = record { before = record { before = c .before; if1 = c .if1 }; drone-count3 = record { given = g } }; dependency-count3 = record { given = g' } }; names3 = record { given = g'' } }), λ g'3. (Relend.count-is T107 41 42 (λ x. x) (λ u. 32) (m74 record { before = record { before = record { before = record { before = c .before; if1 = c .if1 }; drone-count3 = record { given = g } }; dependency-count3 = record { given = g' } }; names3 = record { given = g'' } } g'3) (slice-aggregate-press-each-4 record { before = record { before = record { before = record { before = record { before = c .before; if1 = c .if1 }; drone-count3 = record { given = g } }; dependency-count3 = record { given = g' } }; names3 = record { given = g'' } }; stop-counts3 = record { given = g'3 } }), λ g'4. (Relend.count-is T110 43 44 (λ x. x) (λ u. 1024) (m76 record { before = record { before = record { before = record { before = record { before = c .before; if1 = c .if1 }; drone-count3 = record { given = g } }; dependency-count3 = record { given = g' } }; names3 = record { given = g'' } }; stop-counts3 = record { given = g'3 } } g'4) (slice-aggregate-press-each-5 record { before = record { before = record { before = record { before = record { before = record { before = c .before; if1 = c .if1 }; drone-count3 = record { given = g } }; dependency-count3 = record { given = g' } }; names3 = record { given = g'' } }; stop-counts3 = record { given = g'3 } }; locations3 = record { given = g'4 } }), λ g'5. (Relend.count-is T113 45 46 (λ x. x) (λ u. 1024) (m78 record { before = record { before = record { before = record { before = record { before = record { before = c .before; if1 = c .if1 }; drone-count3 = record { given = g } }; dependency-count3 = record { given = g' } }; names3 = record { given = g'' } }; stop-counts3 = record { given = g'3 } }; locations3 = record { given = g'4 } } g'5) (slice-aggregate-press-each-6 record { before = record { before = record { before = record { before = record { before = record { before = record { before = c .before; if1 = c .if1 }; drone-count3 = record { given = g } }; dependency-count3 = record { given = g' } }; names3 = record { given = g'' } }; stop-counts3 = record { given = g'3 } }; locations3 = record { given = g'4 } }; times3 = record { given = g'5 } }), λ g'6. (Relend.count-is T116 47 48 (λ x. x) (λ u. 32) (m80 record { before = record { before = record { before = record { before = record { before = record { before = record { before = c .before; if1 = c .if1 }; drone-count3 = record { given = g } }; dependency-count3 = record { given = g' } }; names3 = record { given = g'' } }; stop-counts3 = record { given = g'3 } }; locations3 = record { given = g'4 } }; times3 = record { given = g'5 } } g'6) (slice-aggregate-press-each-7 record { before = record { before = record { before = record { before = record { before = record { before = record { before = record { before = c .before; if1 = c .if1 }; drone-count3 = record { given = g } }; dependency-count3 = record { given = g' } }; names3 = record { given = g'' } }; stop-counts3 = record { given = g'3 } }; locations3 = record { given = g'4 } }; times3 = record { given = g'5 } }; visited3 = record { given = g'6 } }), λ g'7. (Relend.count-is T119 49 50 (λ x. x) (λ u. 32) (m82 record { before = record { before = record { before = record { before = record { before = record { before = record { before = record { before = c .before; if1 = c .if1 }; drone-count3 = record { given = g } }; dependency-count3 = record { given = g' } }; names3 = record { given = g'' } }; stop-counts3 = record { given = g'3 } }; locations3 = record { given = g'4 } }; times3 = record { given = g'5 } }; visited3 = record { given = g'6 } } g'7) (slice-aggregate-press-each-8 record { before = record { before = record { before = record { before = record { before = record { before = record { before = record { before = record { before = c .before; if1 = c .if1 }; drone-count3 = record { given = g } }; dependency-count3 = record { given = g' } }; names3 = record { given = g'' } }; stop-counts3 = record { given = g'3 } }; locations3 = record { given = g'4 } }; times3 = record { given = g'5 } }; visited3 = record { given = g'6 } }; drone-flags3 = record { given = g'7 } }), λ g'8. (Relend.count-is T122 51 52 (λ x. x) (λ u. 2048) (m84 record { before = record { before = record { before = record { before = record { before = record { before = record { before = record { before = record { before = c .before; if1 = c .if1 }; drone-count3 = record { given = g } }; dependency-count3 = record { given = g' } }; names3 = record { given = g'' } }; stop-counts3 = record { given = g'3 } }; locations3 = record { given = g'4 } }; times3 = record { given = g'5 } }; visited3 = record { given = g'6 } }; drone-flags3 = record { given = g'7 } } g'8) (slice-aggregate-press-each-9 record { before = record { before = record { before = record { before = record { before = record { before = record { before = record { before = record { before = record { before = c .before; if1 = c .if1 }; drone-count3 = record { given = g } }; dependency-count3 = record { given = g' } }; names3 = record { given = g'' } }; stop-counts3 = record { given = g'3 } }; locations3 = record { given = g'4 } }; times3 = record { given = g'5 } }; visited3 = record { given = g'6 } }; drone-flags3 = record { given = g'7 } }; dependencies3 = record { given = g'8 } }), (press-each-requires record { before = record { before = record { before = record { before = record { before = record { before = record { before = record { before = record { before = record { before = c .before; if1 = c .if1 }; drone-count3 = record { given = g } }; dependency-count3 = record { given = g' } }; names3 = record { given = g'' } }; stop-counts3 = record { given = g'3 } }; locations3 = record { given = g'4 } }; times3 = record { given = g'5 } }; visited3 = record { given = g'6 } }; drone-flags3 = record { given = g'7 } }; dependencies3 = record { given = g'8 } }, λ g'9. lay8 record { before = record { before = record { before = record { before = record { before = record { before = record { before = record { before = record { before = record { before = record { before = c .before; if1 = c .if1 }; drone-count3 = record { given = g } }; dependency-count3 = record { given = g' } }; names3 = record { given = g'' } }; stop-counts3 = record { given = g'3 } }; locations3 = record { given = g'4 } }; times3 = record { given = g'5 } }; visited3 = record { given = g'6 } }; drone-flags3 = record { given = g'7 } }; dependencies3 = record { given = g'8 } }; press-each = Called.called ps·4 r·4 (claims· .9) T123 args·1 (m85 record { before = record { before = record { before = record { before = record { before = record { before = record { before = record { before = record { before = c .before; if1 = c .if1 }; drone-count3 = record { given = g } }; dependency-count3 = record { given = g' } }; names3 = record { given = g'' } }; stop-counts3 = record { given = g'3 } }; locations3 = record { given = g'4 } }; times3 = record { given = g'5 } }; visited3 = record { given = g'6 } }; drone-flags3 = record { given = g'7 } } g'8) g'9 }))))))))))
 
         lay6 : (c : Else1) → at15 (c .before .before .before .before .before .before .before .before .before .before .before .before .before .before .before .before .before .before .before .before .before .before .before .before .blocks) (W1 (c .before .before) (After-number-of·gave (c .before))) (m53 (c .before .before) (After-number-of·gave (c .before)))
         lay6 = λ c. lay7 record { before = c .before; if1 = c .if1 }
 
-        lay5 : (c : After-show) → at2 (c .before .before .before .before .before .before .before .before .before .before .before .before .before .before .before .before .before .before .before .before .before .before .before .before .before .blocks) (W1 (c .before .before .before)
-            (After-number-of·gave (c .before .before))) (m64 (c .before) (After-show·gave c))
-        lay5 = λ c. (
-          (Path'.refl, (tt, (Path'.refl, tt))),
-          returns record { before = c .before; show = c .show },
-        )
+        lay5 : (c : After-show) → at2 (c .before .before .before .before .before .before .before .before .before .before .before .before .before .before .before .before .before .before .before .before .before .before .before .before .before .blocks) (W1 (c .before .before .before) (After-number-of·gave (c .before .before))) (m64 (c .before) (After-show·gave
+            c))
+        lay5 = λ c. ((Path'.refl, (tt, (Path'.refl, tt))), returns record { before = c .before; show = c .show })
 
         lay4 : (c : Then1) → at13 (c .before .before .before .before .before .before .before .before .before .before .before .before .before .before .before .before .before .before .before .before .before .before .before .before .blocks) (W1 (c .before .before) (After-number-of·gave (c .before))) (m53 (c .before .before) (After-number-of·gave (c .before)))
-        lay4 = λ c. (
-          show-requires record { before = c .before; if1 = c .if1 },
-          λ g. lay5 record { before = record { before = c .before; if1 = c .if1 }; show = Called.called ps·3 r·3 (claims· .7) T92 (Num.vAt 14 λ x. x, (Num.vLit 0, tt)) (m63 (c .before)) g },
-        )
+        lay4 = λ c. (show-requires record { before = c .before; if1 = c .if1 }, λ g. lay5 record { before = record { before = c .before; if1 = c .if1 }; show = Called.called ps·3 r·3 (claims· .7) T92 (Num.vAt 14 λ x. x, (Num.vLit 0, tt)) (m63 (c .before)) g })
 
-        lay3 : (c : After-number-of) → at93 (c .before .before .before .before .before .before .before .before .before .before .before .before .before .before .before .before .before .before .before .before .before .before .before .blocks) (W0 (c .before .before .before .before .before .before .before .before .before .before
-            .before .before .before .before .before .before .before .before .before .before .before .before .before .κs) (c .before .before .before .before .before .before .before .before .before .before .before .before .before .before .before .before .before .before .before .before .before .before .before .args)
-            (c .before .before .before .before .before .before .before .before .before .before .before .before .before .before .before .before .before .before .before .before .before .before .before .blocks)) (m51 (c .before) (After-number-of·gave c))
-        lay3 = λ c. (
-          tt,
-          (
-            λ taken. lay4 record { before = record { before = c .before; number-of = c .number-of }; if1 = record { taken = Tests.eqb-false (Row.get 14 (T80 .locals) (m52 (c .before) (After-number-of·gave c))) 0 (Tests.not-true (Dec'.eqb (Row.get 14 (T80 .locals) (m52 (c .before) (After-number-of·gave c))) 0) taken) } },
-            λ left. lay6 record { before = record { before = c .before; number-of = c .number-of }; if1 = record { left = Tests.eqb-true (Row.get 14 (T80 .locals) (m52 (c .before) (After-number-of·gave c))) 0 (Tests.not-false (Dec'.eqb (Row.get 14 (T80 .locals) (m52 (c .before) (After-number-of·gave c))) 0) left) } },
-          ),
-        )
+        lay3 : (c : After-number-of) → at93 (c .before .before .before .before .before .before .before .before .before .before .before .before .before .before .before .before .before .before .before .before .before .before .before .blocks) (W0 (c .before .before .before .before .before .before .before .before .before .before .before .before .before .before
+            .before .before .before .before .before .before .before .before .before .κs) (c .before .before .before .before .before .before .before .before .before .before .before .before .before .before .before .before .before .before .before .before .before .before .before .args) (c .before .before .before .before .before .before .before .before .before
+            .before .before .before .before .before .before .before .before .before .before .before .before .before .before .blocks)) (m51 (c .before) (After-number-of·gave c))
+        lay3 = λ c.
+            (tt, (λ taken. lay4 record { before = record { before = c .before; number-of = c .number-of }; if1 = record { taken = Tests.eqb-false (Row.get 14 (T80 .locals) (m52 (c .before) (After-number-of·gave c))) 0 (Tests.not-true (Dec'.eqb (Row.get 14 (T80 .locals) (m52 (c .before) (After-number-of·gave c))) 0) taken) } }, λ left. lay6 record { before = record { before = c .before; number-of = c .number-of }; if1 = record { left = Tests.eqb-true (Row.get 14 (T80 .locals) (m52 (c .before) (After-number-of·gave c))) 0 (Tests.not-false (Dec'.eqb (Row.get 14 (T80 .locals) (m52 (c .before) (After-number-of·gave c))) 0) left) } }))
 
         lay2 : (c : After-read-plan) → at121 (c .before .before .before .before .before .before .before .before .before .before .before .before .before .blocks) (W0 (c .before .before .before .before .before .before .before .before .before .before .before .before .before .κs) (c .before .before .before .before .before .before .before .before .before .before
             .before .before .before .args) (c .before .before .before .before .before .before .before .before .before .before .before .before .before .blocks)) (m41 (c .before) (After-read-plan·gave c))
-        lay2 = λ c. (
-          Path'.refl,
-          λ g. (
-            Path'.refl,
-            λ g'. (
-              Path'.refl,
-              λ g''. (
-                Path'.refl,
-                λ g'3. (
-                  Path'.refl,
-                  λ g'4. (
-                    Path'.refl,
-                    λ g'5. (
-                      Path'.refl,
-                      λ g'6. (
-                        Path'.refl,
-                        λ g'7. (
-                          Path'.refl,
-                          λ g'8. (
-                            number-of-requires record {
-                              before = record {
-                                before = record {
-                                  before = record {
-                                    before = record {
-                                      before = record {
-                                        before = record {
-                                          before = record { before = record { before = record { before = c .before; read-plan = c .read-plan }; drone-count2 = record { given = g } }; dependency-count2 = record { given = g' } };
-                                          names2 = record { given = g'' };
-                                        };
-                                        stop-counts2 = record { given = g'3 };
-                                      };
-                                      locations2 = record { given = g'4 };
-                                    };
-                                    times2 = record { given = g'5 };
-                                  };
-                                  visited2 = record { given = g'6 };
-                                };
-                                drone-flags2 = record { given = g'7 };
-                              };
-                              dependencies2 = record { given = g'8 };
-                            },
-                            λ g'9. lay3 record {
-                              before = record {
-                                before = record {
-                                  before = record {
-                                    before = record {
-                                      before = record {
-                                        before = record {
-                                          before = record {
-                                            before = record {
-                                              before = record {
-                                                before = record {
-                                                  before = c .before;
-                                                  read-plan = c .read-plan;
-                                                };
-                                                drone-count2 = record { given = g };
-                                              };
-                                              dependency-count2 = record { given = g' };
-                                            };
-                                            names2 = record { given = g'' };
-                                          };
-                                          stop-counts2 = record { given = g'3 };
-                                        };
-                                        locations2 = record { given = g'4 };
-                                      };
-                                      times2 = record { given = g'5 };
-                                    };
-                                    visited2 = record { given = g'6 };
-                                  };
-                                  drone-flags2 = record { given = g'7 };
-                                };
-                                dependencies2 = record { given = g'8 };
-                              };
-                              number-of = Called.called ps·2 r·2 (claims· .5) T77 (record { pos = 13; st = List.[]; d = 0; at = λ x. x }, tt) (m50 record {
-                                before = record {
-                                  before = record {
-                                    before = record {
-                                      before = record {
-                                        before = record {
-                                          before = record {
-                                            before = record {
-                                              before = record {
-                                                before = c .before;
-                                                read-plan = c .read-plan;
-                                              };
-                                              drone-count2 = record { given = g };
-                                            };
-                                            dependency-count2 = record { given = g' };
-                                          };
-                                          names2 = record { given = g'' };
-                                        };
-                                        stop-counts2 = record { given = g'3 };
-                                      };
-                                      locations2 = record { given = g'4 };
-                                    };
-                                    times2 = record { given = g'5 };
-                                  };
-                                  visited2 = record { given = g'6 };
-                                };
-                                drone-flags2 = record { given = g'7 };
-                              } g'8) g'9;
-                            },
-                          ),
-                        ),
-                      ),
-                    ),
-                  ),
-                ),
-              ),
-            ),
-          ),
-        )
+        lay2 = λ c.
+            (Path'.refl, λ g. (Path'.refl, λ g'. (Path'.refl, λ g''. (Path'.refl, λ g'3. (Path'.refl, λ g'4. (Path'.refl, λ g'5. (Path'.refl, λ g'6. (Path'.refl, λ g'7. (Path'.refl, λ g'8. (number-of-requires record { before = record { before = record { before = record { before = record { before = record { before = record { before = record { before = record { before = record { before = c .before; read-plan = c .read-plan }; drone-count2 = record { given = g } }; dependency-count2 = record { given = g' } }; names2 = record { given = g'' } }; stop-counts2 = record { given = g'3 } }; locations2 = record { given = g'4 } }; times2 = record { given = g'5 } }; visited2 = record { given = g'6 } }; drone-flags2 = record { given = g'7 } }; dependencies2 = record { given = g'8 } }, λ g'9. lay3 record { before = record { before = record { before = record { before = record { before = record { before = record { before = record { before = record { before = record { before = record { before = c .before; read-plan = c .read-plan }; drone-count2 = record { given = g } }; dependency-count2 = record { given = g' } }; names2 = record { given = g'' } }; stop-counts2 = record { given = g'3 } }; locations2 = record { given = g'4 } }; times2 = record { given = g'5 } }; visited2 = record { given = g'6 } }; drone-flags2 = record { given = g'7 } }; dependencies2 = record { given = g'8 } }; number-of = Called.called ps·2 r·2 (claims· .5) T77 (record { pos = 13; st = List.[]; d = 0; at = λ x. x }, tt) (m50 record { before = record { before = record { before = record { before = record { before = record { before = record { before = record { before = record { before = c .before; read-plan = c .read-plan }; drone-count2 = record { given = g } }; dependency-count2 = record { given = g' } }; names2 = record { given = g'' } }; stop-counts2 = record { given = g'3 } }; locations2 = record { given = g'4 } }; times2 = record { given = g'5 } }; visited2 = record { given = g'6 } }; drone-flags2 = record { given = g'7 } } g'8) g'9 }))))))))))
 
         lay1 : (c : After-zero-record) → at152 (c .before .before .before .blocks) (W0 (c .before .before .before .κs) (c .before .before .before .args) (c .before .before .before .blocks)) (m19 (c .before) (After-zero-record·gave c))
-        lay1 = λ c. λ g. (
-          Relend.count-is T25 16 17 (λ x. x) (λ u. 1) (m23 record { before = c .before; zero-record = c .zero-record } g) (slice-aggregate-read-plan record { before = record { before = c .before; zero-record = c .zero-record }; drone-count = record { given = g } }),
-          λ g'. (
-            Relend.count-is T28 18 19 (λ x. x) (λ u. 1) (m25 record {
-              before = record { before = c .before; zero-record = c .zero-record };
-              drone-count = record { given = g };
-            } g') (slice-aggregate-read-plan-2 record { before = record { before = record { before = c .before; zero-record = c .zero-record }; drone-count = record { given = g } }; dependency-count = record { given = g' } }),
-            λ g''. (
-              Relend.count-is T31 20 21 (λ x. x) (λ u. 768) (m27 record { before = record { before = record { before = c .before; zero-record = c .zero-record }; drone-count = record { given = g } }; dependency-count = record { given = g' } } g'') (slice-aggregate-read-plan-3 record {
-                before = record {
-                  before = record {
-                    before = record { before = c .before; zero-record = c .zero-record };
-                    drone-count = record { given = g };
-                  };
-                  dependency-count = record { given = g' };
-                };
-                names = record { given = g'' };
-              }),
-              λ g'3. (
-                Relend.count-is T34 22 23 (λ x. x) (λ u. 32) (m29 record {
-                  before = record {
-                    before = record {
-                      before = record { before = c .before; zero-record = c .zero-record };
-                      drone-count = record { given = g };
-                    };
-                    dependency-count = record { given = g' };
-                  };
-                  names = record { given = g'' };
-                } g'3) (slice-aggregate-read-plan-4 record {
-                  before = record {
-                    before = record {
-                      before = record {
-                        before = record { before = c .before; zero-record = c .zero-record };
-                        drone-count = record { given = g };
-                      };
-                      dependency-count = record { given = g' };
-                    };
-                    names = record { given = g'' };
-                  };
-                  stop-counts = record { given = g'3 };
-                }),
-                λ g'4. (
-                  Relend.count-is T37 24 25 (λ x. x) (λ u. 1024) (m31 record {
-                    before = record {
-                      before = record {
-                        before = record { before = record { before = c .before; zero-record = c .zero-record }; drone-count = record { given = g } };
-                        dependency-count = record { given = g' };
-                      };
-                      names = record { given = g'' };
-                    };
-                    stop-counts = record { given = g'3 };
-                  } g'4) (slice-aggregate-read-plan-5 record {
-                    before = record {
-                      before = record {
-                        before = record {
-                          before = record { before = record { before = c .before; zero-record = c .zero-record }; drone-count = record { given = g } };
-                          dependency-count = record { given = g' };
-                        };
-                        names = record { given = g'' };
-                      };
-                      stop-counts = record { given = g'3 };
-                    };
-                    locations = record { given = g'4 };
-                  }),
-                  λ g'5. (
-                    Relend.count-is T40 26 27 (λ x. x) (λ u. 1024) (m33 record {
-                      before = record {
-                        before = record { before = record { before = record { before = record { before = c .before; zero-record = c .zero-record }; drone-count = record { given = g } }; dependency-count = record { given = g' } }; names = record { given = g'' } };
-                        stop-counts = record { given = g'3 };
-                      };
-                      locations = record { given = g'4 };
-                    } g'5) (slice-aggregate-read-plan-6 record {
-                      before = record {
-                        before = record {
-                          before = record {
-                            before = record {
-                              before = record { before = record { before = c .before; zero-record = c .zero-record }; drone-count = record { given = g } };
-                              dependency-count = record { given = g' };
-                            };
-                            names = record { given = g'' };
-                          };
-                          stop-counts = record { given = g'3 };
-                        };
-                        locations = record { given = g'4 };
-                      };
-                      times = record { given = g'5 };
-                    }),
-                    λ g'6. (
-                      Relend.count-is T43 28 29 (λ x. x) (λ u. 32) (m35 record {
-                        before = record {
-                          before = record {
-                            before = record {
-                              before = record {
-                                before = record { before = record { before = c .before; zero-record = c .zero-record }; drone-count = record { given = g } };
-                                dependency-count = record { given = g' };
-                              };
-                              names = record { given = g'' };
-                            };
-                            stop-counts = record { given = g'3 };
-                          };
-                          locations = record { given = g'4 };
-                        };
-                        times = record { given = g'5 };
-                      } g'6) (slice-aggregate-read-plan-7 record {
-                        before = record {
-                          before = record {
-                            before = record {
-                              before = record { before = record { before = record { before = record { before = c .before; zero-record = c .zero-record }; drone-count = record { given = g } }; dependency-count = record { given = g' } }; names = record { given = g'' } };
-                              stop-counts = record { given = g'3 };
-                            };
-                            locations = record { given = g'4 };
-                          };
-                          times = record { given = g'5 };
-                        };
-                        visited = record { given = g'6 };
-                      }),
-                      λ g'7. (
-                        Relend.count-is T46 30 31 (λ x. x) (λ u. 32) (m37 record {
-                          before = record {
-                            before = record {
-                              before = record {
-                                before = record {
-                                  before = record {
-                                    before = record {
-                                      before = record {
-                                        before = c .before;
-                                        zero-record = c .zero-record;
-                                      };
-                                      drone-count = record { given = g };
-                                    };
-                                    dependency-count = record { given = g' };
-                                  };
-                                  names = record { given = g'' };
-                                };
-                                stop-counts = record { given = g'3 };
-                              };
-                              locations = record { given = g'4 };
-                            };
-                            times = record { given = g'5 };
-                          };
-                          visited = record { given = g'6 };
-                        } g'7) (slice-aggregate-read-plan-8 record {
-                          before = record {
-                            before = record {
-                              before = record {
-                                before = record {
-                                  before = record {
-                                    before = record { before = record { before = record { before = c .before; zero-record = c .zero-record }; drone-count = record { given = g } }; dependency-count = record { given = g' } };
-                                    names = record { given = g'' };
-                                  };
-                                  stop-counts = record { given = g'3 };
-                                };
-                                locations = record { given = g'4 };
-                              };
-                              times = record { given = g'5 };
-                            };
-                            visited = record { given = g'6 };
-                          };
-                          drone-flags = record { given = g'7 };
-                        }),
-                        λ g'8. (
-                          Relend.count-is T49 32 33 (λ x. x) (λ u. 2048) (m39 record {
-                            before = record {
-                              before = record {
-                                before = record {
-                                  before = record { before = record { before = record { before = record { before = record { before = c .before; zero-record = c .zero-record }; drone-count = record { given = g } }; dependency-count = record { given = g' } }; names = record { given = g'' } }; stop-counts = record { given = g'3 } };
-                                  locations = record { given = g'4 };
-                                };
-                                times = record { given = g'5 };
-                              };
-                              visited = record { given = g'6 };
-                            };
-                            drone-flags = record { given = g'7 };
-                          } g'8) (slice-aggregate-read-plan-9 record {
-                            before = record {
-                              before = record {
-                                before = record {
-                                  before = record {
-                                    before = record {
-                                      before = record {
-                                        before = record {
-                                          before = record {
-                                            before = record { before = c .before; zero-record = c .zero-record };
-                                            drone-count = record { given = g };
-                                          };
-                                          dependency-count = record { given = g' };
-                                        };
-                                        names = record { given = g'' };
-                                      };
-                                      stop-counts = record { given = g'3 };
-                                    };
-                                    locations = record { given = g'4 };
-                                  };
-                                  times = record { given = g'5 };
-                                };
-                                visited = record { given = g'6 };
-                              };
-                              drone-flags = record { given = g'7 };
-                            };
-                            dependencies = record { given = g'8 };
-                          }),
-                          (
-                            read-plan-requires record {
-                              before = record {
-                                before = record {
-                                  before = record {
-                                    before = record {
-                                      before = record {
-                                        before = record {
-                                          before = record {
-                                            before = record {
-                                              before = record { before = c .before; zero-record = c .zero-record };
-                                              drone-count = record { given = g };
-                                            };
-                                            dependency-count = record { given = g' };
-                                          };
-                                          names = record { given = g'' };
-                                        };
-                                        stop-counts = record { given = g'3 };
-                                      };
-                                      locations = record { given = g'4 };
-                                    };
-                                    times = record { given = g'5 };
-                                  };
-                                  visited = record { given = g'6 };
-                                };
-                                drone-flags = record { given = g'7 };
-                              };
-                              dependencies = record { given = g'8 };
-                            },
-                            λ g'9. lay2 record {
-                              before = record {
-                                before = record {
-                                  before = record {
-                                    before = record {
-                                      before = record {
-                                        before = record {
-                                          before = record {
-                                            before = record {
-                                              before = record { before = record { before = c .before; zero-record = c .zero-record }; drone-count = record { given = g } };
-                                              dependency-count = record { given = g' };
-                                            };
-                                            names = record { given = g'' };
-                                          };
-                                          stop-counts = record { given = g'3 };
-                                        };
-                                        locations = record { given = g'4 };
-                                      };
-                                      times = record { given = g'5 };
-                                    };
-                                    visited = record { given = g'6 };
-                                  };
-                                  drone-flags = record { given = g'7 };
-                                };
-                                dependencies = record { given = g'8 };
-                              };
-                              read-plan = Called.called ps·1 r·1 (claims· .3) T50 (
-                                record { pos = 1; ty = Syntax.tyRef (Syntax.named 0) Syntax.imm (Syntax.tyInt Syntax.w8); ref = λ x. x },
-                                (
-                                  record { pos = 17; ty = Syntax.tyRef Syntax.erased Syntax.mut (Syntax.tyInt Syntax.w16); ref = λ x. x },
-                                  (
-                                    record {
-                                      pos = 19;
-                                      ty = Syntax.tyRef Syntax.erased Syntax.mut
-                                          (Syntax.tyInt Syntax.w16);
-                                      ref = λ x. x;
-                                    },
-                                    (
-                                      record { pos = 21; ty = Syntax.tyRef Syntax.erased Syntax.mut (Syntax.tyInt Syntax.w8); ref = λ x. x },
-                                      (
-                                        record { pos = 23; ty = Syntax.tyRef Syntax.erased Syntax.mut (Syntax.tyInt Syntax.w16); ref = λ x. x },
-                                        (
-                                          record {
-                                            pos = 25;
-                                            ty = Syntax.tyRef Syntax.erased Syntax.mut
-                                                (Syntax.tyInt Syntax.w16);
-                                            ref = λ x. x;
-                                          },
-                                          (
-                                            record { pos = 27; ty = Syntax.tyRef Syntax.erased Syntax.mut (Syntax.tyInt Syntax.w32); ref = λ x. x },
-                                            (
-                                              record { pos = 29; ty = Syntax.tyRef Syntax.erased Syntax.mut (Syntax.tyInt Syntax.w16); ref = λ x. x },
-                                              (
-                                                record {
-                                                  pos = 31;
-                                                  ty = Syntax.tyRef Syntax.erased Syntax.mut
-                                                      (Syntax.tyInt Syntax.w8);
-                                                  ref = λ x. x;
-                                                },
-                                                (record { pos = 33; ty = Syntax.tyRef Syntax.erased Syntax.mut Rec.behind; ref = λ x. x }, tt),
-                                              ),
-                                            ),
-                                          ),
-                                        ),
-                                      ),
-                                    ),
-                                  ),
-                                ),
-                              ) (m40 record {
-                                before = record {
-                                  before = record {
-                                    before = record {
-                                      before = record {
-                                        before = record {
-                                          before = record {
-                                            before = record {
-                                              before = record {
-                                                before = c .before;
-                                                zero-record = c .zero-record;
-                                              };
-                                              drone-count = record { given = g };
-                                            };
-                                            dependency-count = record { given = g' };
-                                          };
-                                          names = record { given = g'' };
-                                        };
-                                        stop-counts = record { given = g'3 };
-                                      };
-                                      locations = record { given = g'4 };
-                                    };
-                                    times = record { given = g'5 };
-                                  };
-                                  visited = record { given = g'6 };
-                                };
-                                drone-flags = record { given = g'7 };
-                              } g'8) g'9;
-                            },
-                          ),
-                        ),
-                      ),
-                    ),
-                  ),
-                ),
-              ),
-            ),
-          ),
-        )
+        lay1 = λ c. λ g.
+            (Relend.count-is T25 16 17 (λ x. x) (λ u. 1) (m23 record { before = c .before; zero-record = c .zero-record } g) (slice-aggregate-read-plan record { before = record { before = c .before; zero-record = c .zero-record }; drone-count = record { given = g } }), λ g'. (Relend.count-is T28 18 19 (λ x. x) (λ u. 1) (m25 record { before = record { before = c .before; zero-record = c .zero-record }; drone-count = record { given = g } } g') (slice-aggregate-read-plan-2 record { before = record { before = record { before = c .before; zero-record = c .zero-record }; drone-count = record { given = g } }; dependency-count = record { given = g' } }), λ g''. (Relend.count-is T31 20 21 (λ x. x) (λ u. 768) (m27 record { before = record { before = record { before = c .before; zero-record = c .zero-record }; drone-count = record { given = g } }; dependency-count = record { given = g' } } g'') (slice-aggregate-read-plan-3 record { before = record { before = record { before = record { before = c .before; zero-record = c .zero-record }; drone-count = record { given = g } }; dependency-count = record { given = g' } }; names = record { given = g'' } }), λ g'3. (Relend.count-is T34 22 23 (λ x. x) (λ u. 32) (m29 record { before = record { before = record { before = record { before = c .before; zero-record = c .zero-record }; drone-count = record { given = g } }; dependency-count = record { given = g' } }; names = record { given = g'' } } g'3) (slice-aggregate-read-plan-4 record { before = record { before = record { before = record { before = record { before = c .before; zero-record = c .zero-record }; drone-count = record { given = g } }; dependency-count = record { given = g' } }; names = record { given = g'' } }; stop-counts = record { given = g'3 } }), λ g'4. (Relend.count-is T37 24 25 (λ x. x) (λ u. 1024) (m31 record { before = record { before = record { before = record { before = record { before = c .before; zero-record = c .zero-record }; drone-count = record { given = g } }; dependency-count = record { given = g' } }; names = record { given = g'' } }; stop-counts = record { given = g'3 } } g'4) (slice-aggregate-read-plan-5 record { before = record { before = record { before = record { before = record { before = record { before = c .before; zero-record = c .zero-record }; drone-count = record { given = g } }; dependency-count = record { given = g' } }; names = record { given = g'' } }; stop-counts = record { given = g'3 } }; locations = record { given = g'4 } }), λ g'5. (Relend.count-is T40 26 27 (λ x. x) (λ u. 1024) (m33 record { before = record { before = record { before = record { before = record { before = record { before = c .before; zero-record = c .zero-record }; drone-count = record { given = g } }; dependency-count = record { given = g' } }; names = record { given = g'' } }; stop-counts = record { given = g'3 } }; locations = record { given = g'4 } } g'5) (slice-aggregate-read-plan-6 record { before = record { before = record { before = record { before = record { before = record { before = record { before = c .before; zero-record = c .zero-record }; drone-count = record { given = g } }; dependency-count = record { given = g' } }; names = record { given = g'' } }; stop-counts = record { given = g'3 } }; locations = record { given = g'4 } }; times = record { given = g'5 } }), λ g'6. (Relend.count-is T43 28 29 (λ x. x) (λ u. 32) (m35 record { before = record { before = record { before = record { before = record { before = record { before = record { before = c .before; zero-record = c .zero-record }; drone-count = record { given = g } }; dependency-count = record { given = g' } }; names = record { given = g'' } }; stop-counts = record { given = g'3 } }; locations = record { given = g'4 } }; times = record { given = g'5 } } g'6) (slice-aggregate-read-plan-7 record { before = record { before = record { before = record { before = record { before = record { before = record { before = record { before = c .before; zero-record = c .zero-record }; drone-count = record { given = g } }; dependency-count = record { given = g' } }; names = record { given = g'' } }; stop-counts = record { given = g'3 } }; locations = record { given = g'4 } }; times = record { given = g'5 } }; visited = record { given = g'6 } }), λ g'7. (Relend.count-is T46 30 31 (λ x. x) (λ u. 32) (m37 record { before = record { before = record { before = record { before = record { before = record { before = record { before = record { before = c .before; zero-record = c .zero-record }; drone-count = record { given = g } }; dependency-count = record { given = g' } }; names = record { given = g'' } }; stop-counts = record { given = g'3 } }; locations = record { given = g'4 } }; times = record { given = g'5 } }; visited = record { given = g'6 } } g'7) (slice-aggregate-read-plan-8 record { before = record { before = record { before = record { before = record { before = record { before = record { before = record { before = record { before = c .before; zero-record = c .zero-record }; drone-count = record { given = g } }; dependency-count = record { given = g' } }; names = record { given = g'' } }; stop-counts = record { given = g'3 } }; locations = record { given = g'4 } }; times = record { given = g'5 } }; visited = record { given = g'6 } }; drone-flags = record { given = g'7 } }), λ g'8. (Relend.count-is T49 32 33 (λ x. x) (λ u. 2048) (m39 record { before = record { before = record { before = record { before = record { before = record { before = record { before = record { before = record { before = c .before; zero-record = c .zero-record }; drone-count = record { given = g } }; dependency-count = record { given = g' } }; names = record { given = g'' } }; stop-counts = record { given = g'3 } }; locations = record { given = g'4 } }; times = record { given = g'5 } }; visited = record { given = g'6 } }; drone-flags = record { given = g'7 } } g'8) (slice-aggregate-read-plan-9 record { before = record { before = record { before = record { before = record { before = record { before = record { before = record { before = record { before = record { before = c .before; zero-record = c .zero-record }; drone-count = record { given = g } }; dependency-count = record { given = g' } }; names = record { given = g'' } }; stop-counts = record { given = g'3 } }; locations = record { given = g'4 } }; times = record { given = g'5 } }; visited = record { given = g'6 } }; drone-flags = record { given = g'7 } }; dependencies = record { given = g'8 } }), (read-plan-requires record { before = record { before = record { before = record { before = record { before = record { before = record { before = record { before = record { before = record { before = c .before; zero-record = c .zero-record }; drone-count = record { given = g } }; dependency-count = record { given = g' } }; names = record { given = g'' } }; stop-counts = record { given = g'3 } }; locations = record { given = g'4 } }; times = record { given = g'5 } }; visited = record { given = g'6 } }; drone-flags = record { given = g'7 } }; dependencies = record { given = g'8 } }, λ g'9. lay2 record { before = record { before = record { before = record { before = record { before = record { before = record { before = record { before = record { before = record { before = record { before = c .before; zero-record = c .zero-record }; drone-count = record { given = g } }; dependency-count = record { given = g' } }; names = record { given = g'' } }; stop-counts = record { given = g'3 } }; locations = record { given = g'4 } }; times = record { given = g'5 } }; visited = record { given = g'6 } }; drone-flags = record { given = g'7 } }; dependencies = record { given = g'8 } }; read-plan = Called.called ps·1 r·1 (claims· .3) T50 args·0 (m40 record { before = record { before = record { before = record { before = record { before = record { before = record { before = record { before = record { before = c .before; zero-record = c .zero-record }; drone-count = record { given = g } }; dependency-count = record { given = g' } }; names = record { given = g'' } }; stop-counts = record { given = g'3 } }; locations = record { given = g'4 } }; times = record { given = g'5 } }; visited = record { given = g'6 } }; drone-flags = record { given = g'7 } } g'8) g'9 }))))))))))
 
         pub laid : (c : Start) → at171 (c .blocks) (W0 (c .κs) (c .args) (c .blocks)) (m0 (c .κs) (c .args) (c .blocks))
-        laid = λ c. λ g. λ g'. (
-          zero-record-requires record { before = record { before = c; shared-slice-known = record { given = g } }; shared-slice-known2 = record { given = g' } },
-          λ g''. lay1 record {
-            before = record { before = record { before = c; shared-slice-known = record { given = g } }; shared-slice-known2 = record { given = g' } };
-            zero-record = Called.called ps·0 r·0 (claims· .1) T19 tt (m18 record { before = c; shared-slice-known = record { given = g } } g') g'';
-          },
-        )
+        laid = λ c. λ g. λ g'.
+            (zero-record-requires record { before = record { before = c; shared-slice-known = record { given = g } }; shared-slice-known2 = record { given = g' } }, λ g''. lay1 record { before = record { before = record { before = c; shared-slice-known = record { given = g } }; shared-slice-known2 = record { given = g' } }; zero-record = Called.called ps·0 r·0 (claims· .1) T19 tt (m18 record { before = c; shared-slice-known = record { given = g } } g') g'' })
 
         module _ (κs : Lifetimes.Lfts 2) (qs : Lifetimes.Shares 2) where
           pub asked : (a : Kinds.Dens κs ps) → (good : Kinds.GoodsP κs ps a) → (pre : Pre· κs a) → (bs : List.List Nat.ℕ) → Φ bs (Any.wantQ 2 ps r xs m κs qs a (Post· κs a)) (Function.init 2 ps r xs m κs qs a)
-          asked = λ a good pre bs. laid record {
-            κs = κs;
-            args = record { text = a .0; count = a .1 .0; reported = a .1 .1 .0 };
-            blocks = bs;
-            good = good;
-            fits = record { count = record { fits = good .1 .0 .1 } };
-            pre = pre;
-          }
+          asked = λ a good pre bs. laid record { κs = κs; args = record { text = a .0; count = a .1 .0; reported = a .1 .1 .0 }; blocks = bs; good = good; fits = record { count = record { fits = good .1 .0 .1 } }; pre = pre }
 
         module _ {M : Type 1} (𝓤 : URA.URA M) (H : Wp.Heap 𝓤) (A : Atoms.Atoms 𝓤) (W : Kit.Given 𝓤 H A) (𝓣 : Wp.Tables 𝓤 H) (known0 : Plain.Known 𝓤 H A W 𝓣 0 ps·0 r·0 (claims· .0) (claims· .1) "records::record::zero_record") (known1 : Plain.Known 𝓤 H A W 𝓣 10 ps·1 r·1 (claims· .2) (claims· .3) "conductor::calls::read_plan") (known2 : Plain.Known 𝓤 H A W 𝓣 0
             ps·2 r·2 (claims· .4) (claims· .5) "dispatch::program::number_of") (known3 : Plain.Known 𝓤 H A W 𝓣 0 ps·3 r·3 (claims· .6) (claims· .7) "presses::answers::show") (known4 : Plain.Known 𝓤 H A W 𝓣 10 ps·4 r·4 (claims· .8) (claims· .9) "presses::runs::press_each") where

@@ -1,4 +1,5 @@
 -- `records::lent::flip_all`: Lts, carried over by tools/lend.py. Assumes nothing.
+use borrow.Fn.Args.{ArgsT}
 use Rattle.records.proofs.Row as Rec
 use Prim.Native.Nat
 use borrow.Author.Called
@@ -112,8 +113,8 @@ abbrev pub r : Kinds.RK 2
 r = Unit'.rUnit
 
 abbrev pub xs : List.List Syntax.Ty
-xs = List._∷_ (Syntax.tyInt Syntax.w64) (List._∷_ Syntax.tyBool (List._∷_ (Syntax.tyInt Syntax.w64) (List._∷_ Syntax.tyBool (List._∷_ Syntax.tyUnit (List._∷_ ty·0 (List._∷_ (Syntax.tyStruct (List._∷_ 38 (List._∷_ 91 (List._∷_ 93 List.[]))) (Syntax.tcons ty·0 (Syntax.tcons (Syntax.tyInt Syntax.w64) Syntax.tnil))) (List._∷_ Syntax.tyPtr
-    (List._∷_ (Syntax.tyInt Syntax.w16) (List._∷_ (Syntax.tyInt Syntax.w64) List.[])))))))))
+xs = List._∷_ (Syntax.tyInt Syntax.w64) (List._∷_ Syntax.tyBool (List._∷_ (Syntax.tyInt Syntax.w64) (List._∷_ Syntax.tyBool (List._∷_ Syntax.tyUnit (List._∷_ ty·0 (List._∷_ (Syntax.tyStruct (List._∷_ 38 (List._∷_ 91 (List._∷_ 93 List.[]))) (Syntax.tcons ty·0 (Syntax.tcons (Syntax.tyInt Syntax.w64) Syntax.tnil))) (List._∷_ Syntax.tyPtr (List._∷_ (Syntax.tyInt
+    Syntax.w16) (List._∷_ (Syntax.tyInt Syntax.w64) List.[])))))))))
 
 abbrev pub m : Nat.ℕ
 m = 1
@@ -125,8 +126,8 @@ abbrev pub r·0 : Kinds.RK 1
 r·0 = Unit'.rUnit
 
 abbrev pub hs : List.List Syntax.Home
-hs = List._∷_ Syntax.valueLocal (List._∷_ Syntax.valueLocal (List._∷_ Syntax.valueLocal (List._∷_ Syntax.valueLocal (List._∷_ Syntax.valueLocal (List._∷_ Syntax.valueLocal (List._∷_ Syntax.valueLocal (List._∷_ Syntax.valueLocal (List._∷_ Syntax.valueLocal (List._∷_ Syntax.valueLocal (List._∷_ Syntax.valueLocal (List._∷_ Syntax.valueLocal
-    (List._∷_ Syntax.valueLocal (List._∷_ Syntax.valueLocal List.[])))))))))))))
+hs = List._∷_ Syntax.valueLocal (List._∷_ Syntax.valueLocal (List._∷_ Syntax.valueLocal (List._∷_ Syntax.valueLocal (List._∷_ Syntax.valueLocal (List._∷_ Syntax.valueLocal (List._∷_ Syntax.valueLocal (List._∷_ Syntax.valueLocal (List._∷_ Syntax.valueLocal (List._∷_ Syntax.valueLocal (List._∷_ Syntax.valueLocal (List._∷_ Syntax.valueLocal (List._∷_
+    Syntax.valueLocal (List._∷_ Syntax.valueLocal List.[])))))))))))))
 
 abbrev b0 : Syntax.Body
 b0 = Syntax.assign (Syntax.place 5 List.[]) (Syntax.rvOpd (Syntax.copy (Syntax.place 3 List.[])))
@@ -239,167 +240,90 @@ body = b34
 abbrev pub Claims : Type 1
 Claims = Kinds.In 1 ps·0 × Kinds.Out 1 ps·0 r·0
 
-abbrev pub t0 : List.List Row.Entry
-t0 = List._∷_ (0, row·0) (List._∷_ (1, row·1) (List._∷_ (2, row·2) (List._∷_ (3, row·3) (List._∷_ (4, row·4) (List._∷_ (5, row·5) (List._∷_ (6, row·4) (List._∷_ (7, row·5) (List._∷_ (8, row·0) (List._∷_ (9, row·6) (List._∷_ (10, row·7) (List._∷_ (11, row·8) (List._∷_ (12, row·9) (List._∷_ (13, row·4) List.[])))))))))))))
-
-abbrev pub t1 : List.List Row.Entry
-t1 = List._∷_ (0, row·10) (List._∷_ (1, row·1) (List._∷_ (2, row·2) (List._∷_ (3, row·5) (List._∷_ (4, row·4) (List._∷_ (5, row·5) (List._∷_ (6, row·4) (List._∷_ (7, row·5) (List._∷_ (8, row·0) (List._∷_ (9, row·6) (List._∷_ (10, row·7) (List._∷_ (11, row·8) (List._∷_ (12, row·9) (List._∷_ (13, row·4) List.[])))))))))))))
-
-abbrev pub t2 : List.List Row.Entry
-t2 = List._∷_ (0, row·0) (List._∷_ (1, row·1) (List._∷_ (2, row·2) (List._∷_ (3, row·3) (List._∷_ (4, row·4) (List._∷_ (5, row·3) (List._∷_ (6, row·4) (List._∷_ (7, row·5) (List._∷_ (8, row·0) (List._∷_ (9, row·6) (List._∷_ (10, row·7) (List._∷_ (11, row·8) (List._∷_ (12, row·9) (List._∷_ (13, row·4) List.[])))))))))))))
-
-abbrev pub t3 : List.List Row.Entry
-t3 = List._∷_ (0, row·0) (List._∷_ (1, row·1) (List._∷_ (2, row·2) (List._∷_ (3, row·3) (List._∷_ (4, row·11) (List._∷_ (5, row·5) (List._∷_ (6, row·4) (List._∷_ (7, row·5) (List._∷_ (8, row·0) (List._∷_ (9, row·6) (List._∷_ (10, row·7) (List._∷_ (11, row·8) (List._∷_ (12, row·9) (List._∷_ (13, row·4) List.[])))))))))))))
-
-abbrev pub t4 : List.List Row.Entry
-t4 = List._∷_ (0, row·0) (List._∷_ (1, row·1) (List._∷_ (2, row·2) (List._∷_ (3, row·3) (List._∷_ (4, row·11) (List._∷_ (5, row·5) (List._∷_ (6, row·11) (List._∷_ (7, row·5) (List._∷_ (8, row·0) (List._∷_ (9, row·6) (List._∷_ (10, row·7) (List._∷_ (11, row·8) (List._∷_ (12, row·9) (List._∷_ (13, row·4) List.[])))))))))))))
-
-abbrev pub t5 : List.List Row.Entry
-t5 = List._∷_ (0, row·0) (List._∷_ (1, row·1) (List._∷_ (2, row·2) (List._∷_ (3, row·3) (List._∷_ (4, row·11) (List._∷_ (5, row·5) (List._∷_ (6, row·11) (List._∷_ (7, row·3) (List._∷_ (8, row·0) (List._∷_ (9, row·6) (List._∷_ (10, row·7) (List._∷_ (11, row·8) (List._∷_ (12, row·9) (List._∷_ (13, row·4) List.[])))))))))))))
-
-abbrev pub t6 : List.List Row.Entry
-t6 = List._∷_ (0, row·0) (List._∷_ (1, row·1) (List._∷_ (2, row·2) (List._∷_ (3, row·3) (List._∷_ (4, row·11) (List._∷_ (5, row·5) (List._∷_ (6, row·4) (List._∷_ (7, row·3) (List._∷_ (8, row·0) (List._∷_ (9, row·6) (List._∷_ (10, row·7) (List._∷_ (11, row·8) (List._∷_ (12, row·9) (List._∷_ (13, row·4) List.[])))))))))))))
-
-abbrev pub t7 : List.List Row.Entry
-t7 = List._∷_ (0, row·0) (List._∷_ (1, row·12) (List._∷_ (2, row·2) (List._∷_ (3, row·3) (List._∷_ (4, row·11) (List._∷_ (5, row·5) (List._∷_ (6, row·4) (List._∷_ (7, row·5) (List._∷_ (8, row·0) (List._∷_ (9, row·13) (List._∷_ (10, row·7) (List._∷_ (11, row·8) (List._∷_ (12, row·9) (List._∷_ (13, row·4) List.[])))))))))))))
-
-abbrev pub t8 : List.List Row.Entry
-t8 = List._∷_ (0, row·0) (List._∷_ (1, row·12) (List._∷_ (2, row·2) (List._∷_ (3, row·3) (List._∷_ (4, row·11) (List._∷_ (5, row·5) (List._∷_ (6, row·4) (List._∷_ (7, row·5) (List._∷_ (8, row·0) (List._∷_ (9, row·6) (List._∷_ (10, row·14) (List._∷_ (11, row·8) (List._∷_ (12, row·9) (List._∷_ (13, row·4) List.[])))))))))))))
-
-abbrev pub t9 : List.List Row.Entry
-t9 = List._∷_ (0, row·0) (List._∷_ (1, row·12) (List._∷_ (2, row·2) (List._∷_ (3, row·3) (List._∷_ (4, row·11) (List._∷_ (5, row·5) (List._∷_ (6, row·11) (List._∷_ (7, row·5) (List._∷_ (8, row·0) (List._∷_ (9, row·6) (List._∷_ (10, row·14) (List._∷_ (11, row·8) (List._∷_ (12, row·9) (List._∷_ (13, row·4) List.[])))))))))))))
-
-abbrev pub t10 : List.List Row.Entry
-t10 = List._∷_ (0, row·0) (List._∷_ (1, row·12) (List._∷_ (2, row·2) (List._∷_ (3, row·3) (List._∷_ (4, row·11) (List._∷_ (5, row·5) (List._∷_ (6, row·11) (List._∷_ (7, row·5) (List._∷_ (8, row·0) (List._∷_ (9, row·6) (List._∷_ (10, row·14) (List._∷_ (11, row·15) (List._∷_ (12, row·9) (List._∷_ (13, row·4) List.[])))))))))))))
-
-abbrev pub t11 : List.List Row.Entry
-t11 = List._∷_ (0, row·0) (List._∷_ (1, row·12) (List._∷_ (2, row·2) (List._∷_ (3, row·3) (List._∷_ (4, row·11) (List._∷_ (5, row·5) (List._∷_ (6, row·11) (List._∷_ (7, row·5) (List._∷_ (8, row·0) (List._∷_ (9, row·6) (List._∷_ (10, row·14) (List._∷_ (11, row·15) (List._∷_ (12, row·16) (List._∷_ (13, row·4) List.[])))))))))))))
-
-abbrev pub t12 : List.List Row.Entry
-t12 = List._∷_ (0, row·0) (List._∷_ (1, row·12) (List._∷_ (2, row·2) (List._∷_ (3, row·3) (List._∷_ (4, row·11) (List._∷_ (5, row·5) (List._∷_ (6, row·4) (List._∷_ (7, row·5) (List._∷_ (8, row·0) (List._∷_ (9, row·6) (List._∷_ (10, row·14) (List._∷_ (11, row·15) (List._∷_ (12, row·16) (List._∷_ (13, row·4) List.[])))))))))))))
-
-abbrev pub t13 : List.List Row.Entry
-t13 = List._∷_ (0, row·0) (List._∷_ (1, row·12) (List._∷_ (2, row·2) (List._∷_ (3, row·3) (List._∷_ (4, row·11) (List._∷_ (5, row·5) (List._∷_ (6, row·4) (List._∷_ (7, row·5) (List._∷_ (8, row·0) (List._∷_ (9, row·6) (List._∷_ (10, row·14) (List._∷_ (11, row·8) (List._∷_ (12, row·16) (List._∷_ (13, row·4) List.[])))))))))))))
-
-abbrev pub t14 : List.List Row.Entry
-t14 = List._∷_ (0, row·0) (List._∷_ (1, row·12) (List._∷_ (2, row·2) (List._∷_ (3, row·3) (List._∷_ (4, row·11) (List._∷_ (5, row·5) (List._∷_ (6, row·4) (List._∷_ (7, row·5) (List._∷_ (8, row·0) (List._∷_ (9, row·6) (List._∷_ (10, row·14) (List._∷_ (11, row·8) (List._∷_ (12, row·16) (List._∷_ (13, row·11) List.[])))))))))))))
-
-abbrev pub t15 : List.List Row.Entry
-t15 = List._∷_ (0, row·0) (List._∷_ (1, row·12) (List._∷_ (2, row·2) (List._∷_ (3, row·3) (List._∷_ (4, row·11) (List._∷_ (5, row·5) (List._∷_ (6, row·4) (List._∷_ (7, row·5) (List._∷_ (8, row·0) (List._∷_ (9, row·6) (List._∷_ (10, row·14) (List._∷_ (11, row·8) (List._∷_ (12, row·9) (List._∷_ (13, row·11) List.[])))))))))))))
-
-abbrev pub t16 : List.List Row.Entry
-t16 = List._∷_ (0, row·0) (List._∷_ (1, row·12) (List._∷_ (2, row·2) (List._∷_ (3, row·3) (List._∷_ (4, row·11) (List._∷_ (5, row·5) (List._∷_ (6, row·4) (List._∷_ (7, row·5) (List._∷_ (8, row·10) (List._∷_ (9, row·6) (List._∷_ (10, row·17) (List._∷_ (11, row·8) (List._∷_ (12, row·9) (List._∷_ (13, row·11) List.[])))))))))))))
-
-abbrev pub t17 : List.List Row.Entry
-t17 = List._∷_ (0, row·0) (List._∷_ (1, row·12) (List._∷_ (2, row·2) (List._∷_ (3, row·3) (List._∷_ (4, row·11) (List._∷_ (5, row·5) (List._∷_ (6, row·4) (List._∷_ (7, row·5) (List._∷_ (8, row·0) (List._∷_ (9, row·6) (List._∷_ (10, row·17) (List._∷_ (11, row·8) (List._∷_ (12, row·9) (List._∷_ (13, row·11) List.[])))))))))))))
-
-abbrev pub t18 : List.List Row.Entry
-t18 = List._∷_ (0, row·0) (List._∷_ (1, row·12) (List._∷_ (2, row·2) (List._∷_ (3, row·3) (List._∷_ (4, row·11) (List._∷_ (5, row·5) (List._∷_ (6, row·4) (List._∷_ (7, row·5) (List._∷_ (8, row·0) (List._∷_ (9, row·6) (List._∷_ (10, row·17) (List._∷_ (11, row·8) (List._∷_ (12, row·9) (List._∷_ (13, row·4) List.[])))))))))))))
-
-abbrev pub t19 : List.List Row.Entry
-t19 = List._∷_ (0, row·10) (List._∷_ (1, row·1) (List._∷_ (2, row·2) (List._∷_ (3, row·3) (List._∷_ (4, row·4) (List._∷_ (5, row·5) (List._∷_ (6, row·4) (List._∷_ (7, row·5) (List._∷_ (8, row·0) (List._∷_ (9, row·6) (List._∷_ (10, row·7) (List._∷_ (11, row·8) (List._∷_ (12, row·9) (List._∷_ (13, row·4) List.[])))))))))))))
-
 abbrev pub T0 : Row.Cx
-T0 = record { locals = t0; slots = List.[] }
+T0 = record { locals = List._∷_ (0, row·0) (List._∷_ (1, row·1) (List._∷_ (2, row·2) (List._∷_ (3, row·3) (List._∷_ (4, row·4) (List._∷_ (5, row·5) (List._∷_ (6, row·4) (List._∷_ (7, row·5) (List._∷_ (8, row·0) (List._∷_ (9, row·6) (List._∷_ (10, row·7) (List._∷_ (11, row·8) (List._∷_ (12, row·9) (List._∷_ (13, row·4) List.[]))))))))))))); slots = List.[] }
 
 abbrev pub T1 : Row.Cx
-T1 = record { locals = t1; slots = List.[] }
-
-abbrev pub T2 : Row.Cx
-T2 = record { locals = t0; slots = List.[] }
+T1 = record { locals = List._∷_ (0, row·10) (List._∷_ (1, row·1) (List._∷_ (2, row·2) (List._∷_ (3, row·5) (List._∷_ (4, row·4) (List._∷_ (5, row·5) (List._∷_ (6, row·4) (List._∷_ (7, row·5) (List._∷_ (8, row·0) (List._∷_ (9, row·6) (List._∷_ (10, row·7) (List._∷_ (11, row·8) (List._∷_ (12, row·9) (List._∷_ (13, row·4) List.[]))))))))))))); slots = List.[] }
 
 abbrev pub T3 : Row.Cx
-T3 = record { locals = t2; slots = List.[] }
-
-abbrev pub T4 : Row.Cx
-T4 = record { locals = t0; slots = List.[] }
-
-abbrev pub T5 : Row.Cx
-T5 = record { locals = t0; slots = List.[] }
+T3 = record { locals = List._∷_ (0, row·0) (List._∷_ (1, row·1) (List._∷_ (2, row·2) (List._∷_ (3, row·3) (List._∷_ (4, row·4) (List._∷_ (5, row·3) (List._∷_ (6, row·4) (List._∷_ (7, row·5) (List._∷_ (8, row·0) (List._∷_ (9, row·6) (List._∷_ (10, row·7) (List._∷_ (11, row·8) (List._∷_ (12, row·9) (List._∷_ (13, row·4) List.[]))))))))))))); slots = List.[] }
 
 abbrev pub T6 : Row.Cx
-T6 = record { locals = t3; slots = List.[] }
+T6 = record { locals = List._∷_ (0, row·0) (List._∷_ (1, row·1) (List._∷_ (2, row·2) (List._∷_ (3, row·3) (List._∷_ (4, row·11) (List._∷_ (5, row·5) (List._∷_ (6, row·4) (List._∷_ (7, row·5) (List._∷_ (8, row·0) (List._∷_ (9, row·6) (List._∷_ (10, row·7) (List._∷_ (11, row·8) (List._∷_ (12, row·9) (List._∷_ (13, row·4) List.[]))))))))))))); slots = List.[] }
 
 abbrev pub T7 : Row.Cx
-T7 = record { locals = t4; slots = List.[] }
+T7 = record
+    { locals = List._∷_ (0, row·0) (List._∷_ (1, row·1) (List._∷_ (2, row·2) (List._∷_ (3, row·3) (List._∷_ (4, row·11) (List._∷_ (5, row·5) (List._∷_ (6, row·11) (List._∷_ (7, row·5) (List._∷_ (8, row·0) (List._∷_ (9, row·6) (List._∷_ (10, row·7) (List._∷_ (11, row·8) (List._∷_ (12, row·9) (List._∷_ (13, row·4) List.[]))))))))))))); slots = List.[] }
 
 abbrev pub T8 : Row.Cx
-T8 = record { locals = t5; slots = List.[] }
-
-abbrev pub T9 : Row.Cx
-T9 = record { locals = t3; slots = List.[] }
+T8 = record
+    { locals = List._∷_ (0, row·0) (List._∷_ (1, row·1) (List._∷_ (2, row·2) (List._∷_ (3, row·3) (List._∷_ (4, row·11) (List._∷_ (5, row·5) (List._∷_ (6, row·11) (List._∷_ (7, row·3) (List._∷_ (8, row·0) (List._∷_ (9, row·6) (List._∷_ (10, row·7) (List._∷_ (11, row·8) (List._∷_ (12, row·9) (List._∷_ (13, row·4) List.[]))))))))))))); slots = List.[] }
 
 abbrev pub T10 : Row.Cx
-T10 = record { locals = t6; slots = List.[] }
-
-abbrev pub T11 : Row.Cx
-T11 = record { locals = t3; slots = List.[] }
-
-abbrev pub T12 : Row.Cx
-T12 = record { locals = t3; slots = List.[] }
-
-abbrev pub T13 : Row.Cx
-T13 = record { locals = t0; slots = List.[] }
+T10 = record
+    { locals = List._∷_ (0, row·0) (List._∷_ (1, row·1) (List._∷_ (2, row·2) (List._∷_ (3, row·3) (List._∷_ (4, row·11) (List._∷_ (5, row·5) (List._∷_ (6, row·4) (List._∷_ (7, row·3) (List._∷_ (8, row·0) (List._∷_ (9, row·6) (List._∷_ (10, row·7) (List._∷_ (11, row·8) (List._∷_ (12, row·9) (List._∷_ (13, row·4) List.[]))))))))))))); slots = List.[] }
 
 abbrev pub T15 : Row.Cx
-T15 = record { locals = t7; slots = List.[] }
+T15 = record
+    { locals = List._∷_ (0, row·0) (List._∷_ (1, row·12) (List._∷_ (2, row·2) (List._∷_ (3, row·3) (List._∷_ (4, row·11) (List._∷_ (5, row·5) (List._∷_ (6, row·4) (List._∷_ (7, row·5) (List._∷_ (8, row·0) (List._∷_ (9, row·13) (List._∷_ (10, row·7) (List._∷_ (11, row·8) (List._∷_ (12, row·9) (List._∷_ (13, row·4) List.[]))))))))))))); slots = List.[] }
 
 abbrev pub T16 : Row.Cx
-T16 = record { locals = t8; slots = List.[] }
+T16 = record
+    { locals = List._∷_ (0, row·0) (List._∷_ (1, row·12) (List._∷_ (2, row·2) (List._∷_ (3, row·3) (List._∷_ (4, row·11) (List._∷_ (5, row·5) (List._∷_ (6, row·4) (List._∷_ (7, row·5) (List._∷_ (8, row·0) (List._∷_ (9, row·6) (List._∷_ (10, row·14) (List._∷_ (11, row·8) (List._∷_ (12, row·9) (List._∷_ (13, row·4) List.[]))))))))))))); slots = List.[] }
 
 abbrev pub T17 : Row.Cx
-T17 = record { locals = t9; slots = List.[] }
+T17 = record
+    { locals = List._∷_ (0, row·0) (List._∷_ (1, row·12) (List._∷_ (2, row·2) (List._∷_ (3, row·3) (List._∷_ (4, row·11) (List._∷_ (5, row·5) (List._∷_ (6, row·11) (List._∷_ (7, row·5) (List._∷_ (8, row·0) (List._∷_ (9, row·6) (List._∷_ (10, row·14) (List._∷_ (11, row·8) (List._∷_ (12, row·9) (List._∷_ (13, row·4) List.[]))))))))))))); slots = List.[] }
 
 abbrev pub T18 : Row.Cx
-T18 = record { locals = t10; slots = List.[] }
-
-abbrev pub T19 : Row.Cx
-T19 = record { locals = t10; slots = List.[] }
+T18 = record
+    { locals = List._∷_ (0, row·0) (List._∷_ (1, row·12) (List._∷_ (2, row·2) (List._∷_ (3, row·3) (List._∷_ (4, row·11) (List._∷_ (5, row·5) (List._∷_ (6, row·11) (List._∷_ (7, row·5) (List._∷_ (8, row·0) (List._∷_ (9, row·6) (List._∷_ (10, row·14) (List._∷_ (11, row·15) (List._∷_ (12, row·9) (List._∷_ (13, row·4) List.[]))))))))))))); slots = List.[] }
 
 abbrev pub T20 : Row.Cx
-T20 = record { locals = t11; slots = List.[] }
+T20 = record
+    { locals = List._∷_ (0, row·0) (List._∷_ (1, row·12) (List._∷_ (2, row·2) (List._∷_ (3, row·3) (List._∷_ (4, row·11) (List._∷_ (5, row·5) (List._∷_ (6, row·11) (List._∷_ (7, row·5) (List._∷_ (8, row·0) (List._∷_ (9, row·6) (List._∷_ (10, row·14) (List._∷_ (11, row·15) (List._∷_ (12, row·16) (List._∷_ (13, row·4) List.[]))))))))))))); slots = List.[] }
 
 abbrev pub T21 : Row.Cx
-T21 = record { locals = t12; slots = List.[] }
+T21 = record
+    { locals = List._∷_ (0, row·0) (List._∷_ (1, row·12) (List._∷_ (2, row·2) (List._∷_ (3, row·3) (List._∷_ (4, row·11) (List._∷_ (5, row·5) (List._∷_ (6, row·4) (List._∷_ (7, row·5) (List._∷_ (8, row·0) (List._∷_ (9, row·6) (List._∷_ (10, row·14) (List._∷_ (11, row·15) (List._∷_ (12, row·16) (List._∷_ (13, row·4) List.[]))))))))))))); slots = List.[] }
 
 abbrev pub T22 : Row.Cx
-T22 = record { locals = t13; slots = List.[] }
+T22 = record
+    { locals = List._∷_ (0, row·0) (List._∷_ (1, row·12) (List._∷_ (2, row·2) (List._∷_ (3, row·3) (List._∷_ (4, row·11) (List._∷_ (5, row·5) (List._∷_ (6, row·4) (List._∷_ (7, row·5) (List._∷_ (8, row·0) (List._∷_ (9, row·6) (List._∷_ (10, row·14) (List._∷_ (11, row·8) (List._∷_ (12, row·16) (List._∷_ (13, row·4) List.[]))))))))))))); slots = List.[] }
 
 abbrev pub T23 : Row.Cx
-T23 = record { locals = t14; slots = List.[] }
+T23 = record
+    { locals = List._∷_ (0, row·0) (List._∷_ (1, row·12) (List._∷_ (2, row·2) (List._∷_ (3, row·3) (List._∷_ (4, row·11) (List._∷_ (5, row·5) (List._∷_ (6, row·4) (List._∷_ (7, row·5) (List._∷_ (8, row·0) (List._∷_ (9, row·6) (List._∷_ (10, row·14) (List._∷_ (11, row·8) (List._∷_ (12, row·16) (List._∷_ (13, row·11) List.[]))))))))))))); slots = List.[] }
 
 abbrev pub T24 : Row.Cx
-T24 = record { locals = t15; slots = List.[] }
+T24 = record
+    { locals = List._∷_ (0, row·0) (List._∷_ (1, row·12) (List._∷_ (2, row·2) (List._∷_ (3, row·3) (List._∷_ (4, row·11) (List._∷_ (5, row·5) (List._∷_ (6, row·4) (List._∷_ (7, row·5) (List._∷_ (8, row·0) (List._∷_ (9, row·6) (List._∷_ (10, row·14) (List._∷_ (11, row·8) (List._∷_ (12, row·9) (List._∷_ (13, row·11) List.[]))))))))))))); slots = List.[] }
 
 abbrev pub T25 : Row.Cx
-T25 = record { locals = t16; slots = List.[] }
+T25 = record
+    { locals = List._∷_ (0, row·0) (List._∷_ (1, row·12) (List._∷_ (2, row·2) (List._∷_ (3, row·3) (List._∷_ (4, row·11) (List._∷_ (5, row·5) (List._∷_ (6, row·4) (List._∷_ (7, row·5) (List._∷_ (8, row·10) (List._∷_ (9, row·6) (List._∷_ (10, row·17) (List._∷_ (11, row·8) (List._∷_ (12, row·9) (List._∷_ (13, row·11) List.[]))))))))))))); slots = List.[] }
 
 abbrev pub T26 : Row.Cx
-T26 = record { locals = t17; slots = List.[] }
+T26 = record
+    { locals = List._∷_ (0, row·0) (List._∷_ (1, row·12) (List._∷_ (2, row·2) (List._∷_ (3, row·3) (List._∷_ (4, row·11) (List._∷_ (5, row·5) (List._∷_ (6, row·4) (List._∷_ (7, row·5) (List._∷_ (8, row·0) (List._∷_ (9, row·6) (List._∷_ (10, row·17) (List._∷_ (11, row·8) (List._∷_ (12, row·9) (List._∷_ (13, row·11) List.[]))))))))))))); slots = List.[] }
 
 abbrev pub T27 : Row.Cx
-T27 = record { locals = t18; slots = List.[] }
-
-abbrev pub T29 : Row.Cx
-T29 = record { locals = t3; slots = List.[] }
-
-abbrev pub T31 : Row.Cx
-T31 = record { locals = t3; slots = List.[] }
-
-abbrev pub T32 : Row.Cx
-T32 = record { locals = t0; slots = List.[] }
+T27 = record
+    { locals = List._∷_ (0, row·0) (List._∷_ (1, row·12) (List._∷_ (2, row·2) (List._∷_ (3, row·3) (List._∷_ (4, row·11) (List._∷_ (5, row·5) (List._∷_ (6, row·4) (List._∷_ (7, row·5) (List._∷_ (8, row·0) (List._∷_ (9, row·6) (List._∷_ (10, row·17) (List._∷_ (11, row·8) (List._∷_ (12, row·9) (List._∷_ (13, row·4) List.[]))))))))))))); slots = List.[] }
 
 abbrev pub T33 : Row.Cx
-T33 = record { locals = t19; slots = List.[] }
+T33 = record
+    { locals = List._∷_ (0, row·10) (List._∷_ (1, row·1) (List._∷_ (2, row·2) (List._∷_ (3, row·3) (List._∷_ (4, row·4) (List._∷_ (5, row·5) (List._∷_ (6, row·4) (List._∷_ (7, row·5) (List._∷_ (8, row·0) (List._∷_ (9, row·6) (List._∷_ (10, row·7) (List._∷_ (11, row·8) (List._∷_ (12, row·9) (List._∷_ (13, row·4) List.[]))))))))))))); slots = List.[] }
 
-abbrev pub T34 : Row.Cx
-T34 = record { locals = t1; slots = List.[] }
+abbrev args·0 : ArgsT ps·0 (T24 .locals)
+args·0 = (record { pos = 10; ty = ty·0; ref = λ x. x }, (Num.vAt 13 λ x. x, (Bool.bLit Bool'.true, tt)))
 
 abbrev pub O0 : Typed.Outs
 O0 = record { next = Option.none; exits = List.[]; returns = Option.some T1 }
 
 abbrev pub O1 : Typed.Outs
-O1 = Typed.withNext (Option.some T4) O0
+O1 = Typed.withNext (Option.some T0) O0
 
 abbrev pub O2 : Typed.Outs
 O2 = Typed.inBlock₀ O1
@@ -408,7 +332,7 @@ abbrev pub O3 : Typed.Outs
 O3 = Typed.inLoop₀ T6 O2
 
 abbrev pub O4 : Typed.Outs
-O4 = Typed.withNext (Option.some T9) O3
+O4 = Typed.withNext (Option.some T6) O3
 
 abbrev pub InvT-loop : Type 1
 InvT-loop = List.List (Rec.rt .Denot) → List.List (Referent.rtF (Referent.fInt Syntax.w16) .Denot) → Rows.sc-here Row.sBool .Mod → Rows.sc-here (Row.sInt Syntax.w64) .Mod → List.List (Rec.rt .Denot) → Rows.sc-here (Row.sInt Syntax.w64) .Mod → Type 0
@@ -417,17 +341,17 @@ abbrev pub MeasureT-loop : Type 0
 MeasureT-loop = List.List (Rec.rt .Denot) → List.List (Referent.rtF (Referent.fInt Syntax.w16) .Denot) → Rows.sc-here Row.sBool .Mod → Rows.sc-here (Row.sInt Syntax.w64) .Mod → List.List (Rec.rt .Denot) → Rows.sc-here (Row.sInt Syntax.w64) .Mod → Nat.ℕ
 
 module _ (claims· : Claims) where
-  abbrev s0 : Typed.Gives T0 T2
+  abbrev s0 : Typed.Gives T0 T0
   s0 = Know.k-shs-known (Referent.fInt Syntax.w16) T0 2 1 ty·2 Row.off 0 λ x. x
 
-  abbrev s1 : Typed.Mo T2 → Typed.Mo T3
-  s1 = Scalar.n-use T2 (Scalar.oAt 3 Syntax.tyBool (Row.valS Row.sBool)) 5 (Rows.sc-here Row.sBool) (Row.sBool .of)
+  abbrev s1 : Typed.Mo T0 → Typed.Mo T3
+  s1 = Scalar.n-use T0 (Scalar.oAt 3 Syntax.tyBool (Row.valS Row.sBool)) 5 (Rows.sc-here Row.sBool) (Row.sBool .of)
 
-  abbrev s2 : Typed.Mo T3 → Typed.Mo T5
+  abbrev s2 : Typed.Mo T3 → Typed.Mo T0
   s2 = Scalar.n-room T3 5 Syntax.tyBool
 
-  abbrev s3 : Typed.Mo T5 → Typed.Mo T6
-  s3 = Scalar.n-use T5 (Scalar.oInt Syntax.w64 0) 4 (Rows.sc-here (Row.sInt Syntax.w64)) (Row.sInt Syntax.w64 .of)
+  abbrev s3 : Typed.Mo T0 → Typed.Mo T6
+  s3 = Scalar.n-use T0 (Scalar.oInt Syntax.w64 0) 4 (Rows.sc-here (Row.sInt Syntax.w64)) (Row.sInt Syntax.w64 .of)
 
   abbrev s4 : Typed.Mo T6 → Typed.Mo T7
   s4 = Scalar.n-use T6 (Scalar.oFld 2 (List._∷_ (Syntax.field 1) List.[]) (Syntax.tyInt Syntax.w64) 8 Shared.lenV) 6 (Rows.sc-here (Row.sInt Syntax.w64)) (Row.sInt Syntax.w64 .of)
@@ -438,17 +362,17 @@ module _ (claims· : Claims) where
   abbrev s6 : Typed.Mo T8 → Typed.Mo T10
   s6 = Scalar.n-room T8 6 (Syntax.tyInt Syntax.w64)
 
-  abbrev s7 : Typed.Mo T10 → Typed.Mo T11
+  abbrev s7 : Typed.Mo T10 → Typed.Mo T6
   s7 = Scalar.n-room T10 7 Syntax.tyBool
 
-  abbrev s8 : Typed.Mo T10 → Typed.Mo T12
+  abbrev s8 : Typed.Mo T10 → Typed.Mo T6
   s8 = Scalar.n-room T10 7 Syntax.tyBool
 
-  abbrev s9 : Typed.Mo T12 → Typed.Mo T13
-  s9 = Scalar.n-room T12 4 (Syntax.tyInt Syntax.w64)
+  abbrev s9 : Typed.Mo T6 → Typed.Mo T0
+  s9 = Scalar.n-room T6 4 (Syntax.tyInt Syntax.w64)
 
-  abbrev s11 : Typed.Gives T9 T15
-  s11 = Relend.k-sl-relend Rec.rt T9 1 9 0 2 ty·1 ty·0 Row.off λ x. x
+  abbrev s11 : Typed.Gives T6 T15
+  s11 = Relend.k-sl-relend Rec.rt T6 1 9 0 2 ty·1 ty·0 Row.off λ x. x
 
   abbrev s12 : Typed.Asks T15 T16
   s12 = Relend.k-sl-aggregate Rec.rt (Relend.asMut Rec.rt) T15 9 10 2 ty·0 ty·0 (λ x. x) (Scalar.oFld 1 (List._∷_ (Syntax.field 1) List.[]) (Syntax.tyInt Syntax.w64) 8 λ v. Shared.lenV (v .0))
@@ -459,11 +383,11 @@ module _ (claims· : Claims) where
   abbrev s14 : Typed.Asks T17 T18
   s14 = Scalar.k-op2 T17 Syntax.offset (Scalar.oFld 2 (List._∷_ (Syntax.field 0) List.[]) ty·2 0 Reads.ptrVal) (Scalar.oAt 6 (Syntax.tyInt Syntax.w64) (Row.valS (Row.sInt Syntax.w64))) 11 (Rows.sc-here Row.sPtr) (Row.sPtr .of)
 
-  abbrev s15 : Typed.Gives T18 T19
+  abbrev s15 : Typed.Gives T18 T18
   s15 = Know.k-shs-known (Referent.fInt Syntax.w16) T18 2 1 ty·2 Row.off 0 λ x. x
 
-  abbrev s16 : Typed.Asks T19 T20
-  s16 = Shared.k-shs-read (Referent.fInt Syntax.w16) T19 2 11 12 1 ty·2 Row.off (Rows.sc-here (Row.sInt Syntax.w16)) (Shared.bySize 2) 0 (λ x. x) (λ x. x) (Row.sInt Syntax.w16 .of) λ u. u .1 .1 .1 .1 .0
+  abbrev s16 : Typed.Asks T18 T20
+  s16 = Shared.k-shs-read (Referent.fInt Syntax.w16) T18 2 11 12 1 ty·2 Row.off (Rows.sc-here (Row.sInt Syntax.w16)) (Shared.bySize 2) 0 (λ x. x) (λ x. x) (Row.sInt Syntax.w16 .of) λ u. u .1 .1 .1 .1 .0
 
   abbrev s17 : Typed.Mo T20 → Typed.Mo T21
   s17 = Scalar.n-room T20 6 (Syntax.tyInt Syntax.w64)
@@ -478,10 +402,7 @@ module _ (claims· : Claims) where
   s20 = Scalar.n-room T23 12 (Syntax.tyInt Syntax.w16)
 
   abbrev s21 : Typed.Both T24 T25
-  s21 = Call.callB ps·0 r·0 (claims· .0) (claims· .1) T24 (
-    record { pos = 10; ty = Syntax.tyRef Syntax.erased Syntax.mut Rec.behind; ref = λ x. x },
-    (Num.vAt 13 λ x. x, (Bool.bLit Bool'.true, tt)),
-  ) 8 (List._∷_ 2 List.[]) Syntax.tyUnit
+  s21 = Call.callB ps·0 r·0 (claims· .0) (claims· .1) T24 args·0 8 (List._∷_ 2 List.[]) Syntax.tyUnit
 
   abbrev s22 : Typed.Mo T25 → Typed.Mo T26
   s22 = Scalar.n-room T25 8 Syntax.tyUnit
@@ -489,19 +410,19 @@ module _ (claims· : Claims) where
   abbrev s23 : Typed.Mo T26 → Typed.Mo T27
   s23 = Scalar.n-room T26 13 (Syntax.tyInt Syntax.w64)
 
-  abbrev s25 : Typed.Both T27 T29
+  abbrev s25 : Typed.Both T27 T6
   s25 = Relend.k-back-sl Rec.rt T27 10 1 0 2 ty·1 ty·0 Row.off (λ x. x) λ x. x
 
-  abbrev s27 : Typed.Asks T29 T31
-  s27 = Scalar.k-op2 T29 (Syntax.add Syntax.unsigned) (Scalar.oAt 4 (Syntax.tyInt Syntax.w64) (Row.valS (Row.sInt Syntax.w64))) (Scalar.oInt Syntax.w64 1) 4 (Rows.sc-here (Row.sInt Syntax.w64)) (Row.sInt Syntax.w64 .of)
+  abbrev s27 : Typed.Asks T6 T6
+  s27 = Scalar.k-op2 T6 (Syntax.add Syntax.unsigned) (Scalar.oAt 4 (Syntax.tyInt Syntax.w64) (Row.valS (Row.sInt Syntax.w64))) (Scalar.oInt Syntax.w64 1) 4 (Rows.sc-here (Row.sInt Syntax.w64)) (Row.sInt Syntax.w64 .of)
 
-  abbrev s28 : Typed.Mo T3 → Typed.Mo T32
+  abbrev s28 : Typed.Mo T3 → Typed.Mo T0
   s28 = Scalar.n-room T3 5 Syntax.tyBool
 
-  abbrev s29 : Typed.Mo T4 → Typed.Mo T33
-  s29 = Scalar.n-use T4 Scalar.oUnit 0 (Rows.sc-here Row.sUnit) (Row.sUnit .of)
+  abbrev s29 : Typed.Mo T0 → Typed.Mo T33
+  s29 = Scalar.n-use T0 Scalar.oUnit 0 (Rows.sc-here Row.sUnit) (Row.sUnit .of)
 
-  abbrev s30 : Typed.Mo T33 → Typed.Mo T34
+  abbrev s30 : Typed.Mo T33 → Typed.Mo T1
   s30 = Scalar.n-room T33 3 Syntax.tyBool
 
   abbrev put0 : List.List (Rec.rt .Denot) × Rows.sc-here (Row.sInt Syntax.w64) .Mod → Typed.Mo T6 → Typed.Mo T6
@@ -513,20 +434,20 @@ module _ (claims· : Claims) where
       Closed = (𝓤 : URA.URA M) (H : Wp.Heap 𝓤) (A : Atoms.Atoms 𝓤) (W : Kit.Given 𝓤 H A) (𝓣 : Wp.Tables 𝓤 H) (known0 : Plain.Known 𝓤 H A W 𝓣 1 ps·0 r·0 (claims· .0) (claims· .1) "records::lent::flip_if") → Statement.Triple 𝓤 (Wp.WpFn 𝓤 H (𝓣 .C) (𝓣 .Λ) (Function.fnOf 2 ps r xs m hs body)) (Function.plainOf 𝓤 H A 2 ps r Pre· Post·)
 
     module _ (Inv·0 : InvT-loop) (μ·0 : MeasureT-loop) where
-      abbrev at0 : Typed.TF T11 O4
+      abbrev at0 : Typed.TF T6 O4
       at0 = Typed.atNext O4
 
       abbrev at1 : Typed.TF T10 O4
-      at1 = λ Ψ. Typed.pass T10 T11 s7 (at0 Ψ)
+      at1 = λ Ψ. Typed.pass T10 T6 s7 (at0 Ψ)
 
-      abbrev at2 : Typed.TF T13 O4
+      abbrev at2 : Typed.TF T0 O4
       at2 = Typed.atExit 1 O4
 
-      abbrev at3 : Typed.TF T12 O4
-      at3 = λ Ψ. Typed.pass T12 T13 s9 (at2 Ψ)
+      abbrev at3 : Typed.TF T6 O4
+      at3 = λ Ψ. Typed.pass T6 T0 s9 (at2 Ψ)
 
       abbrev at4 : Typed.TF T10 O4
-      at4 = λ Ψ. Typed.pass T10 T12 s8 (at3 Ψ)
+      at4 = λ Ψ. Typed.pass T10 T6 s8 (at3 Ψ)
 
       abbrev at5 : Typed.TF T10 O4
       at5 = Scalar.Φcond T10 O4 7 (λ x. x) at1 at4
@@ -534,20 +455,14 @@ module _ (claims· : Claims) where
       abbrev at6 : Typed.TF T8 O4
       at6 = λ Ψ. Typed.pass T8 T10 s6 (at5 Ψ)
 
-      abbrev at7 : Typed.TF T29 O3
+      abbrev at7 : Typed.TF T6 O3
       at7 = λ Ψ. Typed.ask s27 (Typed.atNext O3 Ψ)
 
-      abbrev at8 : Typed.TF T29 O3
-      at8 = λ Ψ. at7 Ψ
-
       abbrev at9 : Typed.TF T27 O3
-      at9 = λ Ψ. Typed.both s25 (at8 Ψ)
-
-      abbrev at10 : Typed.TF T27 O3
-      at10 = λ Ψ. at9 Ψ
+      at9 = λ Ψ. Typed.both s25 (at7 Ψ)
 
       abbrev at11 : Typed.TF T26 O3
-      at11 = λ Ψ. Typed.pass T26 T27 s23 (at10 Ψ)
+      at11 = λ Ψ. Typed.pass T26 T27 s23 (at9 Ψ)
 
       abbrev at12 : Typed.TF T25 O3
       at12 = λ Ψ. Typed.pass T25 T26 s22 (at11 Ψ)
@@ -567,7 +482,7 @@ module _ (claims· : Claims) where
       abbrev at17 : Typed.TF T20 O3
       at17 = λ Ψ. Typed.pass T20 T21 s17 (at16 Ψ)
 
-      abbrev at18 : Typed.TF T19 O3
+      abbrev at18 : Typed.TF T18 O3
       at18 = λ Ψ. Typed.ask s16 (at17 Ψ)
 
       abbrev at19 : Typed.TF T18 O3
@@ -582,14 +497,11 @@ module _ (claims· : Claims) where
       abbrev at22 : Typed.TF T15 O3
       at22 = λ Ψ. Typed.ask s12 (at21 Ψ)
 
-      abbrev at23 : Typed.TF T9 O3
+      abbrev at23 : Typed.TF T6 O3
       at23 = λ Ψ. Typed.give s11 (at22 Ψ)
 
-      abbrev at24 : Typed.TF T9 O3
-      at24 = λ Ψ. at23 Ψ
-
       abbrev at25 : Typed.TF T8 O3
-      at25 = λ Ψ. at6 (Typed.wantNext T9 O3 (at24 Ψ) Ψ)
+      at25 = λ Ψ. at6 (Typed.wantNext T6 O3 (at23 Ψ) Ψ)
 
       abbrev at26 : Typed.TF T7 O3
       at26 = λ Ψ. Typed.ask s5 (at25 Ψ)
@@ -603,35 +515,35 @@ module _ (claims· : Claims) where
       abbrev at29 : Typed.TF T6 O1
       at29 = λ Ψ. at28 (Typed.inBlock O1 Ψ)
 
-      abbrev at30 : Typed.TF T5 O1
-      at30 = λ Ψ. Typed.pass T5 T6 s3 (at29 Ψ)
+      abbrev at30 : Typed.TF T0 O1
+      at30 = λ Ψ. Typed.pass T0 T6 s3 (at29 Ψ)
 
       abbrev at31 : Typed.TF T3 O1
-      at31 = λ Ψ. Typed.pass T3 T5 s2 (at30 Ψ)
+      at31 = λ Ψ. Typed.pass T3 T0 s2 (at30 Ψ)
 
-      abbrev at32 : Typed.TF T32 O1
+      abbrev at32 : Typed.TF T0 O1
       at32 = Typed.atNext O1
 
       abbrev at33 : Typed.TF T3 O1
-      at33 = λ Ψ. Typed.pass T3 T32 s28 (at32 Ψ)
+      at33 = λ Ψ. Typed.pass T3 T0 s28 (at32 Ψ)
 
       abbrev at34 : Typed.TF T3 O1
       at34 = Scalar.Φcond T3 O1 5 (λ x. x) at31 at33
 
-      abbrev at35 : Typed.TF T34 O0
+      abbrev at35 : Typed.TF T1 O0
       at35 = Typed.atRet O0
 
       abbrev at36 : Typed.TF T33 O0
-      at36 = λ Ψ. Typed.pass T33 T34 s30 (at35 Ψ)
+      at36 = λ Ψ. Typed.pass T33 T1 s30 (at35 Ψ)
 
-      abbrev at37 : Typed.TF T4 O0
-      at37 = λ Ψ. Typed.pass T4 T33 s29 (at36 Ψ)
+      abbrev at37 : Typed.TF T0 O0
+      at37 = λ Ψ. Typed.pass T0 T33 s29 (at36 Ψ)
 
       abbrev at38 : Typed.TF T3 O0
-      at38 = λ Ψ. at34 (Typed.wantNext T4 O0 (at37 Ψ) Ψ)
+      at38 = λ Ψ. at34 (Typed.wantNext T0 O0 (at37 Ψ) Ψ)
 
-      abbrev at39 : Typed.TF T2 O0
-      at39 = λ Ψ. Typed.pass T2 T3 s1 (at38 Ψ)
+      abbrev at39 : Typed.TF T0 O0
+      at39 = λ Ψ. Typed.pass T0 T3 s1 (at38 Ψ)
 
       abbrev at40 : Typed.TF T0 O0
       at40 = λ Ψ. Typed.give s0 (at39 Ψ)
@@ -645,374 +557,145 @@ module _ (claims· : Claims) where
 
       module _ (κs : Lifetimes.Lfts 2) (qs : Lifetimes.Shares 2) where
         abbrev g7 : List.List Row.Entry
-        g7 = List._∷_ (0, Rows.any-gone Syntax.tyUnit) (List._∷_ (
-          1,
-          Relend.mslice-owed Rec.rt ty·1 0 2 (Row.lease (κs .0) (qs .0)),
-        ) (List._∷_ (
-          2,
-          Rows.sslice (Referent.rtF (Referent.fInt Syntax.w16)) ty·2 1,
-        ) (List._∷_ (3, Rows.sc-here Row.sBool) (List._∷_ (4, Rows.sc-here (Row.sInt Syntax.w64)) (List._∷_ (5, Rows.any-gone Syntax.tyBool) (List._∷_ (6, Rows.any-gone (Syntax.tyInt Syntax.w64)) (List._∷_ (7, Rows.any-gone Syntax.tyBool) (List._∷_ (8, Rows.any-gone Syntax.tyUnit) (List._∷_ (9, Relend.msptr Rec.rt ty·0 2) (List._∷_ (
-          10,
-          Rows.any-gone (Syntax.tyStruct (List._∷_ 38 (List._∷_ 91 (List._∷_ 93 List.[]))) (Syntax.tcons ty·0 (Syntax.tcons (Syntax.tyInt Syntax.w64) Syntax.tnil))),
-        ) (List._∷_ (11, Rows.any-gone Syntax.tyPtr) (List._∷_ (12, Rows.any-gone (Syntax.tyInt Syntax.w16)) (List._∷_ (13, Rows.any-gone (Syntax.tyInt Syntax.w64)) List.[])))))))))))))
+        g7 = List._∷_ (0, Rows.any-gone Syntax.tyUnit) (List._∷_ (1, Relend.mslice-owed Rec.rt ty·1 0 2 (Row.lease (κs .0) (qs .0))) (List._∷_ (2, Rows.sslice (Referent.rtF (Referent.fInt Syntax.w16)) ty·2 1) (List._∷_ (3, Rows.sc-here Row.sBool) (List._∷_ (4, Rows.sc-here (Row.sInt Syntax.w64)) (List._∷_ (5, Rows.any-gone Syntax.tyBool) (List._∷_
+            (6, Rows.any-gone (Syntax.tyInt Syntax.w64)) (List._∷_ (7, Rows.any-gone Syntax.tyBool) (List._∷_ (8, Rows.any-gone Syntax.tyUnit) (List._∷_ (9, Relend.msptr Rec.rt ty·0 2) (List._∷_ (10, Rows.any-gone (Syntax.tyStruct (List._∷_ 38 (List._∷_ 91 (List._∷_ 93 List.[]))) (Syntax.tcons ty·0 (Syntax.tcons (Syntax.tyInt Syntax.w64) Syntax.tnil))))
+            (List._∷_ (11, Rows.any-gone Syntax.tyPtr) (List._∷_ (12, Rows.any-gone (Syntax.tyInt Syntax.w16)) (List._∷_ (13, Rows.any-gone (Syntax.tyInt Syntax.w64)) List.[])))))))))))))
 
         abbrev g8 : List.List Row.Entry
-        g8 = List._∷_ (0, Rows.any-gone Syntax.tyUnit) (List._∷_ (
-          1,
-          Relend.mslice-owed Rec.rt ty·1 0 2 (Row.lease (κs .0) (qs .0)),
-        ) (List._∷_ (
-          2,
-          Rows.sslice (Referent.rtF (Referent.fInt Syntax.w16)) ty·2 1,
-        ) (List._∷_ (3, Rows.sc-here Row.sBool) (List._∷_ (4, Rows.sc-here (Row.sInt Syntax.w64)) (List._∷_ (5, Rows.any-gone Syntax.tyBool) (List._∷_ (6, Rows.any-gone (Syntax.tyInt Syntax.w64)) (List._∷_ (7, Rows.any-gone Syntax.tyBool) (List._∷_ (8, Rows.any-gone Syntax.tyUnit) (List._∷_ (9, Rows.any-gone ty·0) (List._∷_ (
-          10,
-          Mut.mslice
-              Rec.rt ty·0 2,
-        ) (List._∷_ (11, Rows.any-gone Syntax.tyPtr) (List._∷_ (12, Rows.any-gone (Syntax.tyInt Syntax.w16)) (List._∷_ (13, Rows.any-gone (Syntax.tyInt Syntax.w64)) List.[])))))))))))))
+        g8 = List._∷_ (0, Rows.any-gone Syntax.tyUnit) (List._∷_ (1, Relend.mslice-owed Rec.rt ty·1 0 2 (Row.lease (κs .0) (qs .0))) (List._∷_ (2, Rows.sslice (Referent.rtF (Referent.fInt Syntax.w16)) ty·2 1) (List._∷_ (3, Rows.sc-here Row.sBool) (List._∷_ (4, Rows.sc-here (Row.sInt Syntax.w64)) (List._∷_ (5, Rows.any-gone Syntax.tyBool) (List._∷_
+            (6, Rows.any-gone (Syntax.tyInt Syntax.w64)) (List._∷_ (7, Rows.any-gone Syntax.tyBool) (List._∷_ (8, Rows.any-gone Syntax.tyUnit) (List._∷_ (9, Rows.any-gone ty·0) (List._∷_ (10, Mut.mslice Rec.rt ty·0 2) (List._∷_ (11, Rows.any-gone Syntax.tyPtr) (List._∷_ (12, Rows.any-gone (Syntax.tyInt Syntax.w16)) (List._∷_
+            (13, Rows.any-gone (Syntax.tyInt Syntax.w64)) List.[])))))))))))))
 
         abbrev g9 : List.List Row.Entry
-        g9 = List._∷_ (0, Rows.any-gone Syntax.tyUnit) (List._∷_ (
-          1,
-          Relend.mslice-owed Rec.rt ty·1 0 2 (Row.lease (κs .0) (qs .0)),
-        ) (List._∷_ (
-          2,
-          Rows.sslice (Referent.rtF (Referent.fInt Syntax.w16)) ty·2 1,
-        ) (List._∷_ (3, Rows.sc-here Row.sBool) (List._∷_ (4, Rows.sc-here (Row.sInt Syntax.w64)) (List._∷_ (5, Rows.any-gone Syntax.tyBool) (List._∷_ (6, Rows.sc-here (Row.sInt Syntax.w64)) (List._∷_ (7, Rows.any-gone Syntax.tyBool) (List._∷_ (8, Rows.any-gone Syntax.tyUnit) (List._∷_ (9, Rows.any-gone ty·0) (List._∷_ (
-          10,
-          Mut.mslice Rec.rt
-              ty·0 2,
-        ) (List._∷_ (11, Rows.any-gone Syntax.tyPtr) (List._∷_ (12, Rows.any-gone (Syntax.tyInt Syntax.w16)) (List._∷_ (13, Rows.any-gone (Syntax.tyInt Syntax.w64)) List.[])))))))))))))
+        g9 = List._∷_ (0, Rows.any-gone Syntax.tyUnit) (List._∷_ (1, Relend.mslice-owed Rec.rt ty·1 0 2 (Row.lease (κs .0) (qs .0))) (List._∷_ (2, Rows.sslice (Referent.rtF (Referent.fInt Syntax.w16)) ty·2 1) (List._∷_ (3, Rows.sc-here Row.sBool) (List._∷_ (4, Rows.sc-here (Row.sInt Syntax.w64)) (List._∷_ (5, Rows.any-gone Syntax.tyBool) (List._∷_
+            (6, Rows.sc-here (Row.sInt Syntax.w64)) (List._∷_ (7, Rows.any-gone Syntax.tyBool) (List._∷_ (8, Rows.any-gone Syntax.tyUnit) (List._∷_ (9, Rows.any-gone ty·0) (List._∷_ (10, Mut.mslice Rec.rt ty·0 2) (List._∷_ (11, Rows.any-gone Syntax.tyPtr) (List._∷_ (12, Rows.any-gone (Syntax.tyInt Syntax.w16)) (List._∷_
+            (13, Rows.any-gone (Syntax.tyInt Syntax.w64)) List.[])))))))))))))
 
         abbrev g10 : List.List Row.Entry
-        g10 = List._∷_ (0, Rows.any-gone Syntax.tyUnit) (List._∷_ (
-          1,
-          Relend.mslice-owed Rec.rt ty·1 0 2 (Row.lease (κs .0) (qs .0)),
-        ) (List._∷_ (
-          2,
-          Rows.sslice (Referent.rtF (Referent.fInt Syntax.w16)) ty·2 1,
-        ) (List._∷_ (3, Rows.sc-here Row.sBool) (List._∷_ (4, Rows.sc-here (Row.sInt Syntax.w64)) (List._∷_ (5, Rows.any-gone Syntax.tyBool) (List._∷_ (6, Rows.sc-here (Row.sInt Syntax.w64)) (List._∷_ (7, Rows.any-gone Syntax.tyBool) (List._∷_ (8, Rows.any-gone Syntax.tyUnit) (List._∷_ (9, Rows.any-gone ty·0) (List._∷_ (
-          10,
-          Mut.mslice Rec.rt
-              ty·0 2,
-        ) (List._∷_ (11, Rows.sc-here Row.sPtr) (List._∷_ (12, Rows.any-gone (Syntax.tyInt Syntax.w16)) (List._∷_ (13, Rows.any-gone (Syntax.tyInt Syntax.w64)) List.[])))))))))))))
+        g10 = List._∷_ (0, Rows.any-gone Syntax.tyUnit) (List._∷_ (1, Relend.mslice-owed Rec.rt ty·1 0 2 (Row.lease (κs .0) (qs .0))) (List._∷_ (2, Rows.sslice (Referent.rtF (Referent.fInt Syntax.w16)) ty·2 1) (List._∷_ (3, Rows.sc-here Row.sBool) (List._∷_ (4, Rows.sc-here (Row.sInt Syntax.w64)) (List._∷_ (5, Rows.any-gone Syntax.tyBool) (List._∷_
+            (6, Rows.sc-here (Row.sInt Syntax.w64)) (List._∷_ (7, Rows.any-gone Syntax.tyBool) (List._∷_ (8, Rows.any-gone Syntax.tyUnit) (List._∷_ (9, Rows.any-gone ty·0) (List._∷_ (10, Mut.mslice Rec.rt ty·0 2) (List._∷_ (11, Rows.sc-here Row.sPtr) (List._∷_ (12, Rows.any-gone (Syntax.tyInt Syntax.w16)) (List._∷_ (13, Rows.any-gone (Syntax.tyInt Syntax.w64))
+            List.[])))))))))))))
 
         abbrev g11 : List.List Row.Entry
-        g11 = List._∷_ (0, Rows.any-gone Syntax.tyUnit) (List._∷_ (
-          1,
-          Relend.mslice-owed Rec.rt ty·1 0 2 (Row.lease (κs .0) (qs .0)),
-        ) (List._∷_ (
-          2,
-          Rows.sslice (Referent.rtF (Referent.fInt Syntax.w16)) ty·2 1,
-        ) (List._∷_ (3, Rows.sc-here Row.sBool) (List._∷_ (4, Rows.sc-here (Row.sInt Syntax.w64)) (List._∷_ (5, Rows.any-gone Syntax.tyBool) (List._∷_ (6, Rows.sc-here (Row.sInt Syntax.w64)) (List._∷_ (7, Rows.any-gone Syntax.tyBool) (List._∷_ (8, Rows.any-gone Syntax.tyUnit) (List._∷_ (9, Rows.any-gone ty·0) (List._∷_ (
-          10,
-          Mut.mslice Rec.rt
-              ty·0 2,
-        ) (List._∷_ (11, Rows.sc-here Row.sPtr) (List._∷_ (12, Rows.sc-here (Row.sInt Syntax.w16)) (List._∷_ (13, Rows.any-gone (Syntax.tyInt Syntax.w64)) List.[])))))))))))))
+        g11 = List._∷_ (0, Rows.any-gone Syntax.tyUnit) (List._∷_ (1, Relend.mslice-owed Rec.rt ty·1 0 2 (Row.lease (κs .0) (qs .0))) (List._∷_ (2, Rows.sslice (Referent.rtF (Referent.fInt Syntax.w16)) ty·2 1) (List._∷_ (3, Rows.sc-here Row.sBool) (List._∷_ (4, Rows.sc-here (Row.sInt Syntax.w64)) (List._∷_ (5, Rows.any-gone Syntax.tyBool) (List._∷_
+            (6, Rows.sc-here (Row.sInt Syntax.w64)) (List._∷_ (7, Rows.any-gone Syntax.tyBool) (List._∷_ (8, Rows.any-gone Syntax.tyUnit) (List._∷_ (9, Rows.any-gone ty·0) (List._∷_ (10, Mut.mslice Rec.rt ty·0 2) (List._∷_ (11, Rows.sc-here Row.sPtr) (List._∷_ (12, Rows.sc-here (Row.sInt Syntax.w16)) (List._∷_ (13, Rows.any-gone (Syntax.tyInt Syntax.w64))
+            List.[])))))))))))))
 
         abbrev g12 : List.List Row.Entry
-        g12 = List._∷_ (0, Rows.any-gone Syntax.tyUnit) (List._∷_ (
-          1,
-          Relend.mslice-owed Rec.rt ty·1 0 2 (Row.lease (κs .0) (qs .0)),
-        ) (List._∷_ (
-          2,
-          Rows.sslice (Referent.rtF (Referent.fInt Syntax.w16)) ty·2 1,
-        ) (List._∷_ (3, Rows.sc-here Row.sBool) (List._∷_ (4, Rows.sc-here (Row.sInt Syntax.w64)) (List._∷_ (5, Rows.any-gone Syntax.tyBool) (List._∷_ (6, Rows.any-gone (Syntax.tyInt Syntax.w64)) (List._∷_ (7, Rows.any-gone Syntax.tyBool) (List._∷_ (8, Rows.any-gone Syntax.tyUnit) (List._∷_ (9, Rows.any-gone ty·0) (List._∷_ (
-          10,
-          Mut.mslice
-              Rec.rt ty·0 2,
-        ) (List._∷_ (11, Rows.sc-here Row.sPtr) (List._∷_ (12, Rows.sc-here (Row.sInt Syntax.w16)) (List._∷_ (13, Rows.any-gone (Syntax.tyInt Syntax.w64)) List.[])))))))))))))
+        g12 = List._∷_ (0, Rows.any-gone Syntax.tyUnit) (List._∷_ (1, Relend.mslice-owed Rec.rt ty·1 0 2 (Row.lease (κs .0) (qs .0))) (List._∷_ (2, Rows.sslice (Referent.rtF (Referent.fInt Syntax.w16)) ty·2 1) (List._∷_ (3, Rows.sc-here Row.sBool) (List._∷_ (4, Rows.sc-here (Row.sInt Syntax.w64)) (List._∷_ (5, Rows.any-gone Syntax.tyBool) (List._∷_
+            (6, Rows.any-gone (Syntax.tyInt Syntax.w64)) (List._∷_ (7, Rows.any-gone Syntax.tyBool) (List._∷_ (8, Rows.any-gone Syntax.tyUnit) (List._∷_ (9, Rows.any-gone ty·0) (List._∷_ (10, Mut.mslice Rec.rt ty·0 2) (List._∷_ (11, Rows.sc-here Row.sPtr) (List._∷_ (12, Rows.sc-here (Row.sInt Syntax.w16)) (List._∷_ (13, Rows.any-gone (Syntax.tyInt Syntax.w64))
+            List.[])))))))))))))
 
         abbrev g13 : List.List Row.Entry
-        g13 = List._∷_ (0, Rows.any-gone Syntax.tyUnit) (List._∷_ (
-          1,
-          Relend.mslice-owed Rec.rt ty·1 0 2 (Row.lease (κs .0) (qs .0)),
-        ) (List._∷_ (
-          2,
-          Rows.sslice (Referent.rtF (Referent.fInt Syntax.w16)) ty·2 1,
-        ) (List._∷_ (3, Rows.sc-here Row.sBool) (List._∷_ (4, Rows.sc-here (Row.sInt Syntax.w64)) (List._∷_ (5, Rows.any-gone Syntax.tyBool) (List._∷_ (6, Rows.any-gone (Syntax.tyInt Syntax.w64)) (List._∷_ (7, Rows.any-gone Syntax.tyBool) (List._∷_ (8, Rows.any-gone Syntax.tyUnit) (List._∷_ (9, Rows.any-gone ty·0) (List._∷_ (
-          10,
-          Mut.mslice
-              Rec.rt ty·0 2,
-        ) (List._∷_ (11, Rows.any-gone Syntax.tyPtr) (List._∷_ (12, Rows.sc-here (Row.sInt Syntax.w16)) (List._∷_ (13, Rows.any-gone (Syntax.tyInt Syntax.w64)) List.[])))))))))))))
+        g13 = List._∷_ (0, Rows.any-gone Syntax.tyUnit) (List._∷_ (1, Relend.mslice-owed Rec.rt ty·1 0 2 (Row.lease (κs .0) (qs .0))) (List._∷_ (2, Rows.sslice (Referent.rtF (Referent.fInt Syntax.w16)) ty·2 1) (List._∷_ (3, Rows.sc-here Row.sBool) (List._∷_ (4, Rows.sc-here (Row.sInt Syntax.w64)) (List._∷_ (5, Rows.any-gone Syntax.tyBool) (List._∷_
+            (6, Rows.any-gone (Syntax.tyInt Syntax.w64)) (List._∷_ (7, Rows.any-gone Syntax.tyBool) (List._∷_ (8, Rows.any-gone Syntax.tyUnit) (List._∷_ (9, Rows.any-gone ty·0) (List._∷_ (10, Mut.mslice Rec.rt ty·0 2) (List._∷_ (11, Rows.any-gone Syntax.tyPtr) (List._∷_ (12, Rows.sc-here (Row.sInt Syntax.w16)) (List._∷_
+            (13, Rows.any-gone (Syntax.tyInt Syntax.w64)) List.[])))))))))))))
 
         abbrev g14 : List.List Row.Entry
-        g14 = List._∷_ (0, Rows.any-gone Syntax.tyUnit) (List._∷_ (
-          1,
-          Relend.mslice-owed Rec.rt ty·1 0 2 (Row.lease (κs .0) (qs .0)),
-        ) (List._∷_ (
-          2,
-          Rows.sslice (Referent.rtF (Referent.fInt Syntax.w16)) ty·2 1,
-        ) (List._∷_ (3, Rows.sc-here Row.sBool) (List._∷_ (4, Rows.sc-here (Row.sInt Syntax.w64)) (List._∷_ (5, Rows.any-gone Syntax.tyBool) (List._∷_ (6, Rows.any-gone (Syntax.tyInt Syntax.w64)) (List._∷_ (7, Rows.any-gone Syntax.tyBool) (List._∷_ (8, Rows.any-gone Syntax.tyUnit) (List._∷_ (9, Rows.any-gone ty·0) (List._∷_ (
-          10,
-          Mut.mslice
-              Rec.rt ty·0 2,
-        ) (List._∷_ (11, Rows.any-gone Syntax.tyPtr) (List._∷_ (12, Rows.sc-here (Row.sInt Syntax.w16)) (List._∷_ (13, Rows.sc-here (Row.sInt Syntax.w64)) List.[])))))))))))))
+        g14 = List._∷_ (0, Rows.any-gone Syntax.tyUnit) (List._∷_ (1, Relend.mslice-owed Rec.rt ty·1 0 2 (Row.lease (κs .0) (qs .0))) (List._∷_ (2, Rows.sslice (Referent.rtF (Referent.fInt Syntax.w16)) ty·2 1) (List._∷_ (3, Rows.sc-here Row.sBool) (List._∷_ (4, Rows.sc-here (Row.sInt Syntax.w64)) (List._∷_ (5, Rows.any-gone Syntax.tyBool) (List._∷_
+            (6, Rows.any-gone (Syntax.tyInt Syntax.w64)) (List._∷_ (7, Rows.any-gone Syntax.tyBool) (List._∷_ (8, Rows.any-gone Syntax.tyUnit) (List._∷_ (9, Rows.any-gone ty·0) (List._∷_ (10, Mut.mslice Rec.rt ty·0 2) (List._∷_ (11, Rows.any-gone Syntax.tyPtr) (List._∷_ (12, Rows.sc-here (Row.sInt Syntax.w16)) (List._∷_ (13, Rows.sc-here (Row.sInt Syntax.w64))
+            List.[])))))))))))))
 
         abbrev g15 : List.List Row.Entry
-        g15 = List._∷_ (0, Rows.any-gone Syntax.tyUnit) (List._∷_ (
-          1,
-          Relend.mslice-owed Rec.rt ty·1 0 2 (Row.lease (κs .0) (qs .0)),
-        ) (List._∷_ (
-          2,
-          Rows.sslice (Referent.rtF (Referent.fInt Syntax.w16)) ty·2 1,
-        ) (List._∷_ (3, Rows.sc-here Row.sBool) (List._∷_ (4, Rows.sc-here (Row.sInt Syntax.w64)) (List._∷_ (5, Rows.any-gone Syntax.tyBool) (List._∷_ (6, Rows.any-gone (Syntax.tyInt Syntax.w64)) (List._∷_ (7, Rows.any-gone Syntax.tyBool) (List._∷_ (8, Rows.any-gone Syntax.tyUnit) (List._∷_ (9, Rows.any-gone ty·0) (List._∷_ (
-          10,
-          Mut.mslice
-              Rec.rt ty·0 2,
-        ) (List._∷_ (11, Rows.any-gone Syntax.tyPtr) (List._∷_ (12, Rows.any-gone (Syntax.tyInt Syntax.w16)) (List._∷_ (13, Rows.sc-here (Row.sInt Syntax.w64)) List.[])))))))))))))
+        g15 = List._∷_ (0, Rows.any-gone Syntax.tyUnit) (List._∷_ (1, Relend.mslice-owed Rec.rt ty·1 0 2 (Row.lease (κs .0) (qs .0))) (List._∷_ (2, Rows.sslice (Referent.rtF (Referent.fInt Syntax.w16)) ty·2 1) (List._∷_ (3, Rows.sc-here Row.sBool) (List._∷_ (4, Rows.sc-here (Row.sInt Syntax.w64)) (List._∷_ (5, Rows.any-gone Syntax.tyBool) (List._∷_
+            (6, Rows.any-gone (Syntax.tyInt Syntax.w64)) (List._∷_ (7, Rows.any-gone Syntax.tyBool) (List._∷_ (8, Rows.any-gone Syntax.tyUnit) (List._∷_ (9, Rows.any-gone ty·0) (List._∷_ (10, Mut.mslice Rec.rt ty·0 2) (List._∷_ (11, Rows.any-gone Syntax.tyPtr) (List._∷_ (12, Rows.any-gone (Syntax.tyInt Syntax.w16)) (List._∷_
+            (13, Rows.sc-here (Row.sInt Syntax.w64)) List.[])))))))))))))
 
         abbrev g16 : List.List Row.Entry
-        g16 = List._∷_ (0, Rows.any-gone Syntax.tyUnit) (List._∷_ (
-          1,
-          Relend.mslice-owed Rec.rt ty·1 0 2 (Row.lease (κs .0) (qs .0)),
-        ) (List._∷_ (
-          2,
-          Rows.sslice (Referent.rtF (Referent.fInt Syntax.w16)) ty·2 1,
-        ) (List._∷_ (3, Rows.sc-here Row.sBool) (List._∷_ (4, Rows.sc-here (Row.sInt Syntax.w64)) (List._∷_ (5, Rows.any-gone Syntax.tyBool) (List._∷_ (6, Rows.any-gone (Syntax.tyInt Syntax.w64)) (List._∷_ (7, Rows.any-gone Syntax.tyBool) (List._∷_ (8, Rows.sc-here Row.sUnit) (List._∷_ (9, Rows.any-gone ty·0) (List._∷_ (
-          10,
-          Mut.msleft Rec.rt ty·0,
-        ) (List._∷_ (11, Rows.any-gone Syntax.tyPtr) (List._∷_ (12, Rows.any-gone (Syntax.tyInt Syntax.w16)) (List._∷_ (13, Rows.sc-here (Row.sInt Syntax.w64)) List.[])))))))))))))
+        g16 = List._∷_ (0, Rows.any-gone Syntax.tyUnit) (List._∷_ (1, Relend.mslice-owed Rec.rt ty·1 0 2 (Row.lease (κs .0) (qs .0))) (List._∷_ (2, Rows.sslice (Referent.rtF (Referent.fInt Syntax.w16)) ty·2 1) (List._∷_ (3, Rows.sc-here Row.sBool) (List._∷_ (4, Rows.sc-here (Row.sInt Syntax.w64)) (List._∷_ (5, Rows.any-gone Syntax.tyBool) (List._∷_
+            (6, Rows.any-gone (Syntax.tyInt Syntax.w64)) (List._∷_ (7, Rows.any-gone Syntax.tyBool) (List._∷_ (8, Rows.sc-here Row.sUnit) (List._∷_ (9, Rows.any-gone ty·0) (List._∷_ (10, Mut.msleft Rec.rt ty·0) (List._∷_ (11, Rows.any-gone Syntax.tyPtr) (List._∷_ (12, Rows.any-gone (Syntax.tyInt Syntax.w16)) (List._∷_ (13, Rows.sc-here (Row.sInt Syntax.w64))
+            List.[])))))))))))))
 
         abbrev g17 : List.List Row.Entry
-        g17 = List._∷_ (0, Rows.any-gone Syntax.tyUnit) (List._∷_ (
-          1,
-          Relend.mslice-owed Rec.rt ty·1 0 2 (Row.lease (κs .0) (qs .0)),
-        ) (List._∷_ (
-          2,
-          Rows.sslice (Referent.rtF (Referent.fInt Syntax.w16)) ty·2 1,
-        ) (List._∷_ (3, Rows.sc-here Row.sBool) (List._∷_ (4, Rows.sc-here (Row.sInt Syntax.w64)) (List._∷_ (5, Rows.any-gone Syntax.tyBool) (List._∷_ (6, Rows.any-gone (Syntax.tyInt Syntax.w64)) (List._∷_ (7, Rows.any-gone Syntax.tyBool) (List._∷_ (8, Rows.any-gone Syntax.tyUnit) (List._∷_ (9, Rows.any-gone ty·0) (List._∷_ (
-          10,
-          Mut.msleft
-              Rec.rt ty·0,
-        ) (List._∷_ (11, Rows.any-gone Syntax.tyPtr) (List._∷_ (12, Rows.any-gone (Syntax.tyInt Syntax.w16)) (List._∷_ (13, Rows.sc-here (Row.sInt Syntax.w64)) List.[])))))))))))))
+        g17 = List._∷_ (0, Rows.any-gone Syntax.tyUnit) (List._∷_ (1, Relend.mslice-owed Rec.rt ty·1 0 2 (Row.lease (κs .0) (qs .0))) (List._∷_ (2, Rows.sslice (Referent.rtF (Referent.fInt Syntax.w16)) ty·2 1) (List._∷_ (3, Rows.sc-here Row.sBool) (List._∷_ (4, Rows.sc-here (Row.sInt Syntax.w64)) (List._∷_ (5, Rows.any-gone Syntax.tyBool) (List._∷_
+            (6, Rows.any-gone (Syntax.tyInt Syntax.w64)) (List._∷_ (7, Rows.any-gone Syntax.tyBool) (List._∷_ (8, Rows.any-gone Syntax.tyUnit) (List._∷_ (9, Rows.any-gone ty·0) (List._∷_ (10, Mut.msleft Rec.rt ty·0) (List._∷_ (11, Rows.any-gone Syntax.tyPtr) (List._∷_ (12, Rows.any-gone (Syntax.tyInt Syntax.w16)) (List._∷_
+            (13, Rows.sc-here (Row.sInt Syntax.w64)) List.[])))))))))))))
 
         abbrev g18 : List.List Row.Entry
-        g18 = List._∷_ (0, Rows.any-gone Syntax.tyUnit) (List._∷_ (
-          1,
-          Relend.mslice-owed Rec.rt ty·1 0 2 (Row.lease (κs .0) (qs .0)),
-        ) (List._∷_ (
-          2,
-          Rows.sslice (Referent.rtF (Referent.fInt Syntax.w16)) ty·2 1,
-        ) (List._∷_ (3, Rows.sc-here Row.sBool) (List._∷_ (4, Rows.sc-here (Row.sInt Syntax.w64)) (List._∷_ (5, Rows.any-gone Syntax.tyBool) (List._∷_ (6, Rows.any-gone (Syntax.tyInt Syntax.w64)) (List._∷_ (7, Rows.any-gone Syntax.tyBool) (List._∷_ (8, Rows.any-gone Syntax.tyUnit) (List._∷_ (9, Rows.any-gone ty·0) (List._∷_ (
-          10,
-          Mut.msleft
-              Rec.rt ty·0,
-        ) (List._∷_ (11, Rows.any-gone Syntax.tyPtr) (List._∷_ (12, Rows.any-gone (Syntax.tyInt Syntax.w16)) (List._∷_ (13, Rows.any-gone (Syntax.tyInt Syntax.w64)) List.[])))))))))))))
+        g18 = List._∷_ (0, Rows.any-gone Syntax.tyUnit) (List._∷_ (1, Relend.mslice-owed Rec.rt ty·1 0 2 (Row.lease (κs .0) (qs .0))) (List._∷_ (2, Rows.sslice (Referent.rtF (Referent.fInt Syntax.w16)) ty·2 1) (List._∷_ (3, Rows.sc-here Row.sBool) (List._∷_ (4, Rows.sc-here (Row.sInt Syntax.w64)) (List._∷_ (5, Rows.any-gone Syntax.tyBool) (List._∷_
+            (6, Rows.any-gone (Syntax.tyInt Syntax.w64)) (List._∷_ (7, Rows.any-gone Syntax.tyBool) (List._∷_ (8, Rows.any-gone Syntax.tyUnit) (List._∷_ (9, Rows.any-gone ty·0) (List._∷_ (10, Mut.msleft Rec.rt ty·0) (List._∷_ (11, Rows.any-gone Syntax.tyPtr) (List._∷_ (12, Rows.any-gone (Syntax.tyInt Syntax.w16)) (List._∷_
+            (13, Rows.any-gone (Syntax.tyInt Syntax.w64)) List.[])))))))))))))
+
+        abbrev slots·0 : List.List Row.Life
+        slots·0 = List._∷_ (Row.lease (κs .0) (qs .0)) (List._∷_ (Row.lease (κs .1 .0) (qs .1 .0)) (List._∷_ Row.off List.[]))
+
+        abbrev slots·1 : List.List Row.Life
+        slots·1 = List._∷_ Row.off (List._∷_ (Row.lease (κs .1 .0) (qs .1 .0)) (List._∷_ Row.alive List.[]))
 
         abbrev G0 : Row.Cx
-        G0 = record {
-          locals = t0;
-          slots = List._∷_ (Row.lease (κs .0) (qs .0)) (List._∷_ (Row.lease (κs .1 .0) (qs .1 .0)) (List._∷_ Row.off List.[]));
-        }
+        G0 = record { locals = T0 .locals; slots = slots·0 }
 
         abbrev G1 : Row.Cx
-        G1 = record {
-          locals = t1;
-          slots = List._∷_ (Row.lease (κs .0) (qs .0)) (List._∷_ (Row.lease (κs .1 .0) (qs .1 .0)) (List._∷_ Row.off List.[]));
-        }
-
-        abbrev G2 : Row.Cx
-        G2 = record {
-          locals = t0;
-          slots = List._∷_ (Row.lease (κs .0) (qs .0)) (List._∷_ (Row.lease (κs .1 .0) (qs .1 .0)) (List._∷_ Row.off List.[]));
-        }
+        G1 = record { locals = T1 .locals; slots = slots·0 }
 
         abbrev G3 : Row.Cx
-        G3 = record {
-          locals = t2;
-          slots = List._∷_ (Row.lease (κs .0) (qs .0)) (List._∷_ (Row.lease (κs .1 .0) (qs .1 .0)) (List._∷_ Row.off List.[]));
-        }
-
-        abbrev G4 : Row.Cx
-        G4 = record {
-          locals = t0;
-          slots = List._∷_ (Row.lease (κs .0) (qs .0)) (List._∷_ (Row.lease (κs .1 .0) (qs .1 .0)) (List._∷_ Row.off List.[]));
-        }
-
-        abbrev G5 : Row.Cx
-        G5 = record {
-          locals = t0;
-          slots = List._∷_ (Row.lease (κs .0) (qs .0)) (List._∷_ (Row.lease (κs .1 .0) (qs .1 .0)) (List._∷_ Row.off List.[]));
-        }
+        G3 = record { locals = T3 .locals; slots = slots·0 }
 
         abbrev G6 : Row.Cx
-        G6 = record {
-          locals = t3;
-          slots = List._∷_ (Row.lease (κs .0) (qs .0)) (List._∷_ (Row.lease (κs .1 .0) (qs .1 .0)) (List._∷_ Row.off List.[]));
-        }
+        G6 = record { locals = T6 .locals; slots = slots·0 }
 
         abbrev G7 : Row.Cx
-        G7 = record {
-          locals = t4;
-          slots = List._∷_ (Row.lease (κs .0) (qs .0)) (List._∷_ (Row.lease (κs .1 .0) (qs .1 .0)) (List._∷_ Row.off List.[]));
-        }
+        G7 = record { locals = T7 .locals; slots = slots·0 }
 
         abbrev G8 : Row.Cx
-        G8 = record {
-          locals = t5;
-          slots = List._∷_ (Row.lease (κs .0) (qs .0)) (List._∷_ (Row.lease (κs .1 .0) (qs .1 .0)) (List._∷_ Row.off List.[]));
-        }
-
-        abbrev G9 : Row.Cx
-        G9 = record {
-          locals = t3;
-          slots = List._∷_ (Row.lease (κs .0) (qs .0)) (List._∷_ (Row.lease (κs .1 .0) (qs .1 .0)) (List._∷_ Row.off List.[]));
-        }
+        G8 = record { locals = T8 .locals; slots = slots·0 }
 
         abbrev G10 : Row.Cx
-        G10 = record {
-          locals = t6;
-          slots = List._∷_ (Row.lease (κs .0) (qs .0)) (List._∷_ (Row.lease (κs .1 .0) (qs .1 .0)) (List._∷_ Row.off List.[]));
-        }
-
-        abbrev G11 : Row.Cx
-        G11 = record {
-          locals = t3;
-          slots = List._∷_ (Row.lease (κs .0) (qs .0)) (List._∷_ (Row.lease (κs .1 .0) (qs .1 .0)) (List._∷_ Row.off List.[]));
-        }
-
-        abbrev G12 : Row.Cx
-        G12 = record {
-          locals = t3;
-          slots = List._∷_ (Row.lease (κs .0) (qs .0)) (List._∷_ (Row.lease (κs .1 .0) (qs .1 .0)) (List._∷_ Row.off List.[]));
-        }
-
-        abbrev G13 : Row.Cx
-        G13 = record {
-          locals = t0;
-          slots = List._∷_ (Row.lease (κs .0) (qs .0)) (List._∷_ (Row.lease (κs .1 .0) (qs .1 .0)) (List._∷_ Row.off List.[]));
-        }
+        G10 = record { locals = T10 .locals; slots = slots·0 }
 
         abbrev G14 : Row.Cx
-        G14 = record {
-          locals = t3;
-          slots = List._∷_ (Row.lease (κs .0) (qs .0)) (List._∷_ (Row.lease (κs .1 .0) (qs .1 .0)) (List._∷_ Row.alive List.[]));
-        }
+        G14 = record { locals = T6 .locals; slots = List._∷_ (Row.lease (κs .0) (qs .0)) (List._∷_ (Row.lease (κs .1 .0) (qs .1 .0)) (List._∷_ Row.alive List.[])) }
 
         abbrev G15 : Row.Cx
-        G15 = record {
-          locals = g7;
-          slots = List._∷_ Row.off (List._∷_ (Row.lease (κs .1 .0) (qs .1 .0)) (List._∷_ Row.alive List.[]));
-        }
+        G15 = record { locals = g7; slots = slots·1 }
 
         abbrev G16 : Row.Cx
-        G16 = record {
-          locals = g8;
-          slots = List._∷_ Row.off (List._∷_ (Row.lease (κs .1 .0) (qs .1 .0)) (List._∷_ Row.alive List.[]));
-        }
+        G16 = record { locals = g8; slots = slots·1 }
 
         abbrev G17 : Row.Cx
-        G17 = record {
-          locals = g9;
-          slots = List._∷_ Row.off (List._∷_ (Row.lease (κs .1 .0) (qs .1 .0)) (List._∷_ Row.alive List.[]));
-        }
+        G17 = record { locals = g9; slots = slots·1 }
 
         abbrev G18 : Row.Cx
-        G18 = record {
-          locals = g10;
-          slots = List._∷_ Row.off (List._∷_ (Row.lease (κs .1 .0) (qs .1 .0)) (List._∷_ Row.alive List.[]));
-        }
-
-        abbrev G19 : Row.Cx
-        G19 = record {
-          locals = g10;
-          slots = List._∷_ Row.off (List._∷_ (Row.lease (κs .1 .0) (qs .1 .0)) (List._∷_ Row.alive List.[]));
-        }
+        G18 = record { locals = g10; slots = slots·1 }
 
         abbrev G20 : Row.Cx
-        G20 = record {
-          locals = g11;
-          slots = List._∷_ Row.off (List._∷_ (Row.lease (κs .1 .0) (qs .1 .0)) (List._∷_ Row.alive List.[]));
-        }
+        G20 = record { locals = g11; slots = slots·1 }
 
         abbrev G21 : Row.Cx
-        G21 = record {
-          locals = g12;
-          slots = List._∷_ Row.off (List._∷_ (Row.lease (κs .1 .0) (qs .1 .0)) (List._∷_ Row.alive List.[]));
-        }
+        G21 = record { locals = g12; slots = slots·1 }
 
         abbrev G22 : Row.Cx
-        G22 = record {
-          locals = g13;
-          slots = List._∷_ Row.off (List._∷_ (Row.lease (κs .1 .0) (qs .1 .0)) (List._∷_ Row.alive List.[]));
-        }
+        G22 = record { locals = g13; slots = slots·1 }
 
         abbrev G23 : Row.Cx
-        G23 = record {
-          locals = g14;
-          slots = List._∷_ Row.off (List._∷_ (Row.lease (κs .1 .0) (qs .1 .0)) (List._∷_ Row.alive List.[]));
-        }
+        G23 = record { locals = g14; slots = slots·1 }
 
         abbrev G24 : Row.Cx
-        G24 = record {
-          locals = g15;
-          slots = List._∷_ Row.off (List._∷_ (Row.lease (κs .1 .0) (qs .1 .0)) (List._∷_ Row.alive List.[]));
-        }
+        G24 = record { locals = g15; slots = slots·1 }
 
         abbrev G25 : Row.Cx
-        G25 = record {
-          locals = g16;
-          slots = List._∷_ Row.off (List._∷_ (Row.lease (κs .1 .0) (qs .1 .0)) (List._∷_ Row.alive List.[]));
-        }
+        G25 = record { locals = g16; slots = slots·1 }
 
         abbrev G26 : Row.Cx
-        G26 = record {
-          locals = g17;
-          slots = List._∷_ Row.off (List._∷_ (Row.lease (κs .1 .0) (qs .1 .0)) (List._∷_ Row.alive List.[]));
-        }
+        G26 = record { locals = g17; slots = slots·1 }
 
         abbrev G27 : Row.Cx
-        G27 = record {
-          locals = g18;
-          slots = List._∷_ Row.off (List._∷_ (Row.lease (κs .1 .0) (qs .1 .0)) (List._∷_ Row.alive List.[]));
-        }
+        G27 = record { locals = g18; slots = slots·1 }
 
         abbrev G28 : Row.Cx
-        G28 = record {
-          locals = g18;
-          slots = List._∷_ Row.off (List._∷_ (Row.lease (κs .1 .0) (qs .1 .0)) (List._∷_ Row.dead List.[]));
-        }
+        G28 = record { locals = g18; slots = List._∷_ Row.off (List._∷_ (Row.lease (κs .1 .0) (qs .1 .0)) (List._∷_ Row.dead List.[])) }
 
         abbrev G29 : Row.Cx
-        G29 = record {
-          locals = t3;
-          slots = List._∷_ (Row.lease (κs .0) (qs .0)) (List._∷_ (Row.lease (κs .1 .0) (qs .1 .0)) (List._∷_ Row.dead List.[]));
-        }
-
-        abbrev G30 : Row.Cx
-        G30 = record {
-          locals = t3;
-          slots = List._∷_ (Row.lease (κs .0) (qs .0)) (List._∷_ (Row.lease (κs .1 .0) (qs .1 .0)) (List._∷_ Row.off List.[]));
-        }
-
-        abbrev G31 : Row.Cx
-        G31 = record {
-          locals = t3;
-          slots = List._∷_ (Row.lease (κs .0) (qs .0)) (List._∷_ (Row.lease (κs .1 .0) (qs .1 .0)) (List._∷_ Row.off List.[]));
-        }
-
-        abbrev G32 : Row.Cx
-        G32 = record {
-          locals = t0;
-          slots = List._∷_ (Row.lease (κs .0) (qs .0)) (List._∷_ (Row.lease (κs .1 .0) (qs .1 .0)) (List._∷_ Row.off List.[]));
-        }
+        G29 = record { locals = T6 .locals; slots = List._∷_ (Row.lease (κs .0) (qs .0)) (List._∷_ (Row.lease (κs .1 .0) (qs .1 .0)) (List._∷_ Row.dead List.[])) }
 
         abbrev G33 : Row.Cx
-        G33 = record {
-          locals = t19;
-          slots = List._∷_ (Row.lease (κs .0) (qs .0)) (List._∷_ (Row.lease (κs .1 .0) (qs .1 .0)) (List._∷_ Row.off List.[]));
-        }
-
-        abbrev G34 : Row.Cx
-        G34 = record {
-          locals = t1;
-          slots = List._∷_ (Row.lease (κs .0) (qs .0)) (List._∷_ (Row.lease (κs .1 .0) (qs .1 .0)) (List._∷_ Row.off List.[]));
-        }
+        G33 = record { locals = T33 .locals; slots = slots·0 }
 
         abbrev Δ0 : Typed.Outs
         Δ0 = record { next = Option.none; exits = List.[]; returns = Option.some G1 }
 
         abbrev Δ1 : Typed.Outs
-        Δ1 = Typed.withNext (Option.some G4) Δ0
+        Δ1 = Typed.withNext (Option.some G0) Δ0
 
         abbrev Δ2 : Typed.Outs
         Δ2 = Typed.inBlock₀ Δ1
@@ -1021,109 +704,64 @@ module _ (claims· : Claims) where
         Δ3 = Typed.inLoop₀ G6 Δ2
 
         abbrev Δ4 : Typed.Outs
-        Δ4 = Typed.withNext (Option.some G9) Δ3
+        Δ4 = Typed.withNext (Option.some G6) Δ3
 
         module _ {M : Type 1} (𝓤 : URA.URA M) (H : Wp.Heap 𝓤) (A : Atoms.Atoms 𝓤) (W : Kit.Given 𝓤 H A) (𝓣 : Wp.Tables 𝓤 H) (known : Knowns 𝓤 H A W 𝓣) (bs : List.List Nat.ℕ) (bd : Lifetimes.AllOutlive 2 (Kinds.osR r) κs) where
           abbrev E : Wp.Env 𝓤 H
           E = Frame.EnvOf 𝓤 H (List._∷_ (Kinds.tyR r) (Enter.tysP ps xs)) bs
 
-          d0 : Typed.Typed 𝓤 H A 𝓣 E G11 b4 Δ4 at0
+          d0 : Typed.Typed 𝓤 H A 𝓣 E G6 b4 Δ4 at0
           d0 = Typed.t-skip 𝓤 H A W 𝓣 E Δ4 tt
 
-          d1 : Typed.Typed 𝓤 H A 𝓣 E G10 b4 Δ4 at1
-          d1 = Typed.g-pre 𝓤 H A W 𝓣 E G10 G11 b4 Δ4 (Typed.pass T10 T11 s7) at0 (Scalar.g-room 𝓤 H A W E G10 7 Syntax.tyBool (Scalar.room-sc 𝓤 H A W Row.sBool)) d0
-
-          d2 : Typed.Typed 𝓤 H A 𝓣 E G13 b5 Δ4 at2
+          d2 : Typed.Typed 𝓤 H A 𝓣 E G0 b5 Δ4 at2
           d2 = Typed.t-exit 𝓤 H A W 𝓣 E 1 Δ4 tt
 
-          d3 : Typed.Typed 𝓤 H A 𝓣 E G12 b5 Δ4 at3
-          d3 = Typed.g-pre 𝓤 H A W 𝓣 E G12 G13 b5 Δ4 (Typed.pass T12 T13 s9) at2 (Scalar.g-room 𝓤 H A W E G12 4 (Syntax.tyInt Syntax.w64) (Scalar.room-sc 𝓤 H A W (Row.sInt Syntax.w64))) d2
-
-          d4 : Typed.Typed 𝓤 H A 𝓣 E G10 b5 Δ4 at4
-          d4 = Typed.g-pre 𝓤 H A W 𝓣 E G10 G12 b5 Δ4 (Typed.pass T10 T12 s8) at3 (Scalar.g-room 𝓤 H A W E G10 7 Syntax.tyBool (Scalar.room-sc 𝓤 H A W Row.sBool)) d3
-
           d5 : Typed.Typed 𝓤 H A 𝓣 E G10 b6 Δ4 at5
-          d5 = Scalar.t-cond 𝓤 H A W E 𝓣 G10 7 (λ x. x) b4 b5 Δ4 at1 at4 (Scalar.reads-sc 𝓤 H A W Row.sBool) Path'.refl d1 d4
+          d5 = Scalar.t-cond 𝓤 H A W E 𝓣 G10 7 (λ x. x) b4 b5 Δ4 at1 at4 (Scalar.reads-sc 𝓤 H A W Row.sBool) Path'.refl (Typed.g-pre 𝓤 H A W 𝓣 E G10 G6 b4 Δ4 (Typed.pass T10 T6 s7) at0 (Scalar.g-room 𝓤 H A W E G10 7 Syntax.tyBool (Scalar.room-sc 𝓤 H A W Row.sBool)) d0) (Typed.g-pre 𝓤 H A W 𝓣 E G10 G6 b5 Δ4 (Typed.pass T10 T6 s8) at3 (Scalar.g-room 𝓤 H A W E
+              G10 7 Syntax.tyBool (Scalar.room-sc 𝓤 H A W Row.sBool)) (Typed.g-pre 𝓤 H A W 𝓣 E G6 G0 b5 Δ4 (Typed.pass T6 T0 s9) at2 (Scalar.g-room 𝓤 H A W E G6 4 (Syntax.tyInt Syntax.w64) (Scalar.room-sc 𝓤 H A W (Row.sInt Syntax.w64))) d2))
 
-          d6 : Typed.Typed 𝓤 H A 𝓣 E G8 b6 Δ4 at6
-          d6 = Typed.g-pre 𝓤 H A W 𝓣 E G8 G10 b6 Δ4 (Typed.pass T8 T10 s6) at5 (Scalar.g-room 𝓤 H A W E G8 6 (Syntax.tyInt Syntax.w64) (Scalar.room-sc 𝓤 H A W (Row.sInt Syntax.w64))) d5
-
-          d7 : Typed.Typed 𝓤 H A 𝓣 E G30 b14 Δ3 at7
-          d7 = Typed.s-typed 𝓤 H A W 𝓣 E G30 b14 Δ3 (Typed.ask s27) tt (Scalar.t-op2 𝓤 H A W E 𝓣 G30 (Syntax.add Syntax.unsigned) (Scalar.oAt 4 (Syntax.tyInt Syntax.w64) (Row.valS (Row.sInt Syntax.w64))) (Scalar.oInt Syntax.w64 1) 4 (Rows.sc-here (Row.sInt Syntax.w64)) (Syntax.tyInt Syntax.w64) (Row.valS (Row.sInt Syntax.w64)) (Row.sInt Syntax.w64 .of)
+          d7 : Typed.Typed 𝓤 H A 𝓣 E G6 b14 Δ3 at7
+          d7 = Typed.s-typed 𝓤 H A W 𝓣 E G6 b14 Δ3 (Typed.ask s27) tt (Scalar.t-op2 𝓤 H A W E 𝓣 G6 (Syntax.add Syntax.unsigned) (Scalar.oAt 4 (Syntax.tyInt Syntax.w64) (Row.valS (Row.sInt Syntax.w64))) (Scalar.oInt Syntax.w64 1) 4 (Rows.sc-here (Row.sInt Syntax.w64)) (Syntax.tyInt Syntax.w64) (Row.valS (Row.sInt Syntax.w64)) (Row.sInt Syntax.w64 .of)
               (Scalar.reads-sc 𝓤 H A W (Row.sInt Syntax.w64), Path'.refl) tt (Scalar.room-sc 𝓤 H A W (Row.sInt Syntax.w64)) (Scalar.holds-sc 𝓤 H A W (Row.sInt Syntax.w64)) Path'.refl (λ u. Path'.refl) λ u. tt)
 
-          d8 : Typed.Typed 𝓤 H A 𝓣 E G29 b14 Δ3 at8
-          d8 = Typed.g-pre 𝓤 H A W 𝓣 E G29 G30 b14 Δ3 (λ Ψ. Ψ) at7 (Lifetime.g-forget 𝓤 H A W E G29 2 Row.dead Path'.refl) d7
-
-          d9 : Typed.Typed 𝓤 H A 𝓣 E G28 b14 Δ3 at9
-          d9 = Typed.g-pre 𝓤 H A W 𝓣 E G28 G29 b14 Δ3 (Typed.both s25) at8 (Relend.g-back-sl 𝓤 H A W E Rec.rt G28 10 1 0 2 ty·1 ty·0 (Row.lease (κs .0) (qs .0)) (λ x. x) (λ x. x) (Reads.as-is 𝓤 H A (Mut.msleft Rec.rt ty·0)) (Reads.as-is 𝓤 H A (Relend.mslice-owed Rec.rt ty·1 0 2 (Row.lease (κs .0) (qs .0)))) Path'.refl Path'.refl) d8
-
-          d10 : Typed.Typed 𝓤 H A 𝓣 E G27 b14 Δ3 at10
-          d10 = Typed.g-pre 𝓤 H A W 𝓣 E G27 G28 b14 Δ3 (λ Ψ. Ψ) at9 (Lifetime.g-end 𝓤 H A W E G27 2 Path'.refl) d9
-
-          d11 : Typed.Typed 𝓤 H A 𝓣 E G26 b14 Δ3 at11
-          d11 = Typed.g-pre 𝓤 H A W 𝓣 E G26 G27 b14 Δ3 (Typed.pass T26 T27 s23) at10 (Scalar.g-room 𝓤 H A W E G26 13 (Syntax.tyInt Syntax.w64) (Scalar.room-sc 𝓤 H A W (Row.sInt Syntax.w64))) d10
-
-          d12 : Typed.Typed 𝓤 H A 𝓣 E G25 b14 Δ3 at12
-          d12 = Typed.g-pre 𝓤 H A W 𝓣 E G25 G26 b14 Δ3 (Typed.pass T25 T26 s22) at11 (Scalar.g-room 𝓤 H A W E G25 8 Syntax.tyUnit (Scalar.room-sc 𝓤 H A W Row.sUnit)) d11
-
           d13 : Typed.Typed 𝓤 H A 𝓣 E G24 b15 Δ3 at13
-          d13 = Typed.s-seq 𝓤 H A W 𝓣 E G24 G25 b13 b14 Δ3 (Typed.both s21) at12 (Plain.t-call-plain 𝓤 H A W 𝓣 1 ps·0 r·0 (claims· .0) (claims· .1) "records::lent::flip_if" known E (λ pos β. β) G24 (record { pos = 10; ty = Syntax.tyRef Syntax.erased Syntax.mut Rec.behind; ref = λ x. x }, (Num.vAt 13 λ x. x, (Bool.bLit Bool'.true, tt))) 8
-              (List._∷_ 2 List.[]) (Call.sub-id 𝓤 H A W (G24 .slots)) (Reads.as-is 𝓤 H A (Mut.mslice Rec.rt ty·0 2), Mut.reads-mslice 𝓤 H A W Rec.rt ty·0 2, Path'.refl, ((Scalar.reads-sc 𝓤 H A W (Row.sInt Syntax.w64), Path'.refl), (tt, tt))) (Reads.room-gone 𝓤 H A Syntax.tyUnit) (tt, tt) Path'.refl) d12
-
-          d14 : Typed.Typed 𝓤 H A 𝓣 E G23 b15 Δ3 at14
-          d14 = Typed.g-pre 𝓤 H A W 𝓣 E G23 G24 b15 Δ3 (Typed.pass T23 T24 s20) at13 (Scalar.g-room 𝓤 H A W E G23 12 (Syntax.tyInt Syntax.w16) (Scalar.room-sc 𝓤 H A W (Row.sInt Syntax.w16))) d13
-
-          d15 : Typed.Typed 𝓤 H A 𝓣 E G22 b16 Δ3 at15
-          d15 = Typed.s-seq 𝓤 H A W 𝓣 E G22 G23 b12 b15 Δ3 (Typed.ask s19) at14 (Scalar.t-op1 𝓤 H A W E 𝓣 G22 (Syntax.cast Syntax.unsigned Syntax.unsigned Syntax.w64) (Scalar.oAt 12 (Syntax.tyInt Syntax.w16) (Row.valS (Row.sInt Syntax.w16))) 13 (Rows.sc-here (Row.sInt Syntax.w64)) (Syntax.tyInt Syntax.w64) (Row.valS (Row.sInt Syntax.w64))
-              (Row.sInt Syntax.w64 .of) (Scalar.reads-sc 𝓤 H A W (Row.sInt Syntax.w16), Path'.refl) (Reads.room-gone 𝓤 H A (Syntax.tyInt Syntax.w64)) (Scalar.holds-sc 𝓤 H A W (Row.sInt Syntax.w64)) Path'.refl (λ u. Path'.refl) λ u. tt) d14
-
-          d16 : Typed.Typed 𝓤 H A 𝓣 E G21 b16 Δ3 at16
-          d16 = Typed.g-pre 𝓤 H A W 𝓣 E G21 G22 b16 Δ3 (Typed.pass T21 T22 s18) at15 (Scalar.g-room 𝓤 H A W E G21 11 Syntax.tyPtr (Scalar.room-sc 𝓤 H A W Row.sPtr)) d15
+          d13 = Typed.s-seq 𝓤 H A W 𝓣 E G24 G25 b13 b14 Δ3 (Typed.both s21) at12 (Plain.t-call-plain 𝓤 H A W 𝓣 1 ps·0 r·0 (claims· .0) (claims· .1) "records::lent::flip_if" known E (λ pos β. β) G24 (record { pos = 10; ty = ty·0; ref = λ x. x }, (Num.vAt 13 λ x. x, (Bool.bLit Bool'.true, tt))) 8 (List._∷_ 2 List.[]) (Call.sub-id 𝓤 H A W (G24 .slots))
+              (Reads.as-is 𝓤 H A (Mut.mslice Rec.rt ty·0 2), Mut.reads-mslice 𝓤 H A W Rec.rt ty·0 2, Path'.refl, ((Scalar.reads-sc 𝓤 H A W (Row.sInt Syntax.w64), Path'.refl), (tt, tt))) (Reads.room-gone 𝓤 H A Syntax.tyUnit) (tt, tt) Path'.refl) (Typed.g-pre 𝓤 H A W 𝓣 E G25 G26 b14 Δ3 (Typed.pass T25 T26 s22) at11 (Scalar.g-room 𝓤 H A W E G25 8 Syntax.tyUnit
+              (Scalar.room-sc 𝓤 H A W Row.sUnit)) (Typed.g-pre 𝓤 H A W 𝓣 E G26 G27 b14 Δ3 (Typed.pass T26 T27 s23) at9 (Scalar.g-room 𝓤 H A W E G26 13 (Syntax.tyInt Syntax.w64) (Scalar.room-sc 𝓤 H A W (Row.sInt Syntax.w64))) (Typed.g-pre 𝓤 H A W 𝓣 E G27 G28 b14 Δ3 (λ Ψ. Ψ) at9 (Lifetime.g-end 𝓤 H A W E G27 2 Path'.refl) (Typed.g-pre 𝓤 H A W 𝓣 E G28 G29 b14 Δ3
+              (Typed.both s25) at7 (Relend.g-back-sl 𝓤 H A W E Rec.rt G28 10 1 0 2 ty·1 ty·0 (Row.lease (κs .0) (qs .0)) (λ x. x) (λ x. x) (Reads.as-is 𝓤 H A (Mut.msleft Rec.rt ty·0)) (Reads.as-is 𝓤 H A (Relend.mslice-owed Rec.rt ty·1 0 2 (Row.lease (κs .0) (qs .0)))) Path'.refl Path'.refl) (Typed.g-pre 𝓤 H A W 𝓣 E G29 G6 b14 Δ3 (λ Ψ. Ψ) at7 (Lifetime.g-forget 𝓤
+              H A W E G29 2 Row.dead Path'.refl) d7)))))
 
           d17 : Typed.Typed 𝓤 H A 𝓣 E G20 b16 Δ3 at17
-          d17 = Typed.g-pre 𝓤 H A W 𝓣 E G20 G21 b16 Δ3 (Typed.pass T20 T21 s17) at16 (Scalar.g-room 𝓤 H A W E G20 6 (Syntax.tyInt Syntax.w64) (Scalar.room-sc 𝓤 H A W (Row.sInt Syntax.w64))) d16
-
-          d18 : Typed.Typed 𝓤 H A 𝓣 E G19 b17 Δ3 at18
-          d18 = Typed.s-seq 𝓤 H A W 𝓣 E G19 G20 b11 b16 Δ3 (Typed.ask s16) at17 (Shared.t-shs-read 𝓤 H A W E 𝓣 (Referent.fInt Syntax.w16) G19 2 11 12 1 ty·2 (Row.lease (κs .1 .0) (qs .1 .0)) (Rows.sc-here (Row.sInt Syntax.w16)) (Shared.bySize 2) 0 (λ x. x) (λ x. x) (Row.valS (Row.sInt Syntax.w16)) (Row.sInt Syntax.w16 .of) (λ u. u .1 .1 .1 .1 .0)
-              (λ i o. Elements.at-mul o 2 i) (Reads.as-is 𝓤 H A (Rows.sslice (Referent.rtF (Referent.fInt Syntax.w16)) ty·2 1)) (Reads.as-is 𝓤 H A (Rows.sc-here Row.sPtr)) (Reads.room-gone 𝓤 H A (Syntax.tyInt Syntax.w16)) (Scalar.holds-sc 𝓤 H A W (Row.sInt Syntax.w16)) (λ u. Path'.refl) Path'.refl tt Path'.refl Path'.refl) d17
+          d17 = Typed.g-pre 𝓤 H A W 𝓣 E G20 G21 b16 Δ3 (Typed.pass T20 T21 s17) at16 (Scalar.g-room 𝓤 H A W E G20 6 (Syntax.tyInt Syntax.w64) (Scalar.room-sc 𝓤 H A W (Row.sInt Syntax.w64))) (Typed.g-pre 𝓤 H A W 𝓣 E G21 G22 b16 Δ3 (Typed.pass T21 T22 s18) at15 (Scalar.g-room 𝓤 H A W E G21 11 Syntax.tyPtr (Scalar.room-sc 𝓤 H A W Row.sPtr)) (Typed.s-seq 𝓤 H A W
+              𝓣 E G22 G23 b12 b15 Δ3 (Typed.ask s19) at14 (Scalar.t-op1 𝓤 H A W E 𝓣 G22 (Syntax.cast Syntax.unsigned Syntax.unsigned Syntax.w64) (Scalar.oAt 12 (Syntax.tyInt Syntax.w16) (Row.valS (Row.sInt Syntax.w16))) 13 (Rows.sc-here (Row.sInt Syntax.w64)) (Syntax.tyInt Syntax.w64) (Row.valS (Row.sInt Syntax.w64)) (Row.sInt Syntax.w64 .of)
+              (Scalar.reads-sc 𝓤 H A W (Row.sInt Syntax.w16), Path'.refl) (Reads.room-gone 𝓤 H A (Syntax.tyInt Syntax.w64)) (Scalar.holds-sc 𝓤 H A W (Row.sInt Syntax.w64)) Path'.refl (λ u. Path'.refl) λ u. tt) (Typed.g-pre 𝓤 H A W 𝓣 E G23 G24 b15 Δ3 (Typed.pass T23 T24 s20) at13 (Scalar.g-room 𝓤 H A W E G23 12 (Syntax.tyInt Syntax.w16) (Scalar.room-sc 𝓤 H A W
+              (Row.sInt Syntax.w16))) d13)))
 
           d19 : Typed.Typed 𝓤 H A 𝓣 E G18 b17 Δ3 at19
-          d19 = Typed.g-pre 𝓤 H A W 𝓣 E G18 G19 b17 Δ3 (Typed.give s15) at18 (Know.g-shs-known 𝓤 H A W (Referent.fInt Syntax.w16) E G18 2 1 ty·2 (Row.lease (κs .1 .0) (qs .1 .0)) 0 (λ x. x) record { fits = Dec'.lit< tt } (Reads.as-is 𝓤 H A (Rows.sslice (Referent.rtF (Referent.fInt Syntax.w16)) ty·2 1)) Path'.refl tt) d18
-
-          d20 : Typed.Typed 𝓤 H A 𝓣 E G17 b18 Δ3 at20
-          d20 = Typed.s-seq 𝓤 H A W 𝓣 E G17 G18 b10 b17 Δ3 (Typed.ask s14) at19 (Scalar.t-op2 𝓤 H A W E 𝓣 G17 Syntax.offset (Scalar.oFld 2 (List._∷_ (Syntax.field 0) List.[]) ty·2 0 Reads.ptrVal) (Scalar.oAt 6 (Syntax.tyInt Syntax.w64) (Row.valS (Row.sInt Syntax.w64))) 11 (Rows.sc-here Row.sPtr) Syntax.tyPtr (Row.valS Row.sPtr) (Row.sPtr .of) (
-            Shared.reads-sslice-ptr 𝓤 H A W (Referent.rtF (Referent.fInt Syntax.w16)) ty·2 1 0 Path'.refl,
-            Path'.refl,
-          ) (Scalar.reads-sc 𝓤 H A W (Row.sInt Syntax.w64), Path'.refl) (Reads.room-gone 𝓤 H A Syntax.tyPtr) (Scalar.holds-sc 𝓤 H A W Row.sPtr) Path'.refl (λ u. Path'.refl) λ u. tt) d19
+          d19 = Typed.g-pre 𝓤 H A W 𝓣 E G18 G18 b17 Δ3 (Typed.give s15) at18 (Know.g-shs-known 𝓤 H A W (Referent.fInt Syntax.w16) E G18 2 1 ty·2 (Row.lease (κs .1 .0) (qs .1 .0)) 0 (λ x. x) record { fits = Dec'.lit< tt } (Reads.as-is 𝓤 H A (Rows.sslice (Referent.rtF (Referent.fInt Syntax.w16)) ty·2 1)) Path'.refl tt) (Typed.s-seq 𝓤 H A W 𝓣 E G18 G20 b11 b16
+              Δ3 (Typed.ask s16) at17 (Shared.t-shs-read 𝓤 H A W E 𝓣 (Referent.fInt Syntax.w16) G18 2 11 12 1 ty·2 (Row.lease (κs .1 .0) (qs .1 .0)) (Rows.sc-here (Row.sInt Syntax.w16)) (Shared.bySize 2) 0 (λ x. x) (λ x. x) (Row.valS (Row.sInt Syntax.w16)) (Row.sInt Syntax.w16 .of) (λ u. u .1 .1 .1 .1 .0) (λ i o. Elements.at-mul o 2 i) (Reads.as-is 𝓤 H A
+              (Rows.sslice (Referent.rtF (Referent.fInt Syntax.w16)) ty·2 1)) (Reads.as-is 𝓤 H A (Rows.sc-here Row.sPtr)) (Reads.room-gone 𝓤 H A (Syntax.tyInt Syntax.w16)) (Scalar.holds-sc 𝓤 H A W (Row.sInt Syntax.w16)) (λ u. Path'.refl) Path'.refl tt Path'.refl Path'.refl) d17)
 
           d21 : Typed.Typed 𝓤 H A 𝓣 E G16 b19 Δ3 at21
-          d21 = Typed.s-seq 𝓤 H A W 𝓣 E G16 G17 b9 b18 Δ3 (Typed.ask s13) at20 (Scalar.t-op2 𝓤 H A W E 𝓣 G16 (Syntax.mul Syntax.unsigned) (Scalar.oAt 4 (Syntax.tyInt Syntax.w64) (Row.valS (Row.sInt Syntax.w64))) (Scalar.oInt Syntax.w64 2) 6 (Rows.sc-here (Row.sInt Syntax.w64)) (Syntax.tyInt Syntax.w64) (Row.valS (Row.sInt Syntax.w64))
-              (Row.sInt Syntax.w64 .of) (Scalar.reads-sc 𝓤 H A W (Row.sInt Syntax.w64), Path'.refl) tt (Reads.room-gone 𝓤 H A (Syntax.tyInt Syntax.w64)) (Scalar.holds-sc 𝓤 H A W (Row.sInt Syntax.w64)) Path'.refl (λ u. Path'.refl) λ u. tt) d20
-
-          d22 : Typed.Typed 𝓤 H A 𝓣 E G15 b20 Δ3 at22
-          d22 = Typed.s-seq 𝓤 H A W 𝓣 E G15 G16 b8 b19 Δ3 (Typed.ask s12) at21 (Relend.t-sl-aggregate 𝓤 H A W E Rec.rt 𝓣 (Relend.asMut Rec.rt) G15 9 10 2 ty·0 ty·0 (λ x. x) (Scalar.oFld 1 (List._∷_ (Syntax.field 1) List.[]) (Syntax.tyInt Syntax.w64) 8 λ v. Shared.lenV (v .0)) (Reads.as-is 𝓤 H A (Relend.msptr Rec.rt ty·0 2)) (Reads.room-gone 𝓤 H A
-              (Syntax.tyStruct (List._∷_ 38 (List._∷_ 91 (List._∷_ 93 List.[]))) (Syntax.tcons ty·0 (Syntax.tcons (Syntax.tyInt Syntax.w64) Syntax.tnil)))) (Relend.reads-owed-len 𝓤 H A W Rec.rt ty·1 0 2 (Row.lease (κs .0) (qs .0)) 8 Path'.refl, Path'.refl) Path'.refl Path'.refl λ b o k. tt) d21
+          d21 = Typed.s-seq 𝓤 H A W 𝓣 E G16 G17 b9 b18 Δ3 (Typed.ask s13) at20 (Scalar.t-op2 𝓤 H A W E 𝓣 G16 (Syntax.mul Syntax.unsigned) (Scalar.oAt 4 (Syntax.tyInt Syntax.w64) (Row.valS (Row.sInt Syntax.w64))) (Scalar.oInt Syntax.w64 2) 6 (Rows.sc-here (Row.sInt Syntax.w64)) (Syntax.tyInt Syntax.w64) (Row.valS (Row.sInt Syntax.w64)) (Row.sInt Syntax.w64
+              .of) (Scalar.reads-sc 𝓤 H A W (Row.sInt Syntax.w64), Path'.refl) tt (Reads.room-gone 𝓤 H A (Syntax.tyInt Syntax.w64)) (Scalar.holds-sc 𝓤 H A W (Row.sInt Syntax.w64)) Path'.refl (λ u. Path'.refl) λ u. tt) (Typed.s-seq 𝓤 H A W 𝓣 E G17 G18 b10 b17 Δ3 (Typed.ask s14) at19 (Scalar.t-op2 𝓤 H A W E 𝓣 G17 Syntax.offset (Scalar.oFld 2 (List._∷_
+              (Syntax.field 0) List.[]) ty·2 0 Reads.ptrVal) (Scalar.oAt 6 (Syntax.tyInt Syntax.w64) (Row.valS (Row.sInt Syntax.w64))) 11 (Rows.sc-here Row.sPtr) Syntax.tyPtr (Row.valS Row.sPtr) (Row.sPtr .of) (Shared.reads-sslice-ptr 𝓤 H A W (Referent.rtF (Referent.fInt Syntax.w16)) ty·2 1 0 Path'.refl, Path'.refl)
+              (Scalar.reads-sc 𝓤 H A W (Row.sInt Syntax.w64), Path'.refl) (Reads.room-gone 𝓤 H A Syntax.tyPtr) (Scalar.holds-sc 𝓤 H A W Row.sPtr) Path'.refl (λ u. Path'.refl) λ u. tt) d19)
 
           d23 : Typed.Typed 𝓤 H A 𝓣 E G14 b21 Δ3 at23
-          d23 = Typed.s-seq 𝓤 H A W 𝓣 E G14 G15 b7 b20 Δ3 (Typed.give s11) at22 (Relend.t-sl-relend 𝓤 H A W E Rec.rt 𝓣 G14 1 9 0 2 ty·1 ty·0 (Row.lease (κs .0) (qs .0)) 0 (λ x. x) (Reads.as-is 𝓤 H A (Mut.mslice Rec.rt ty·1 0)) (Reads.room-gone 𝓤 H A ty·0) Path'.refl tt Path'.refl Path'.refl Path'.refl λ b o. tt) d22
-
-          d24 : Typed.Typed 𝓤 H A 𝓣 E G9 b21 Δ3 at24
-          d24 = Typed.g-pre 𝓤 H A W 𝓣 E G9 G14 b21 Δ3 (λ Ψ. Ψ) at23 (Lifetime.g-begin 𝓤 H A W E G9 2 (tt, (tt, (tt, (tt, (tt, (tt, (tt, (tt, (tt, (tt, (tt, (tt, (tt, (tt, tt))))))))))))))) d23
+          d23 = Typed.s-seq 𝓤 H A W 𝓣 E G14 G15 b7 b20 Δ3 (Typed.give s11) at22 (Relend.t-sl-relend 𝓤 H A W E Rec.rt 𝓣 G14 1 9 0 2 ty·1 ty·0 (Row.lease (κs .0) (qs .0)) 0 (λ x. x) (Reads.as-is 𝓤 H A (Mut.mslice Rec.rt ty·1 0)) (Reads.room-gone 𝓤 H A ty·0) Path'.refl tt Path'.refl Path'.refl Path'.refl λ b o. tt) (Typed.s-seq 𝓤 H A W 𝓣 E G15 G16 b8 b19 Δ3
+              (Typed.ask s12) at21 (Relend.t-sl-aggregate 𝓤 H A W E Rec.rt 𝓣 (Relend.asMut Rec.rt) G15 9 10 2 ty·0 ty·0 (λ x. x) (Scalar.oFld 1 (List._∷_ (Syntax.field 1) List.[]) (Syntax.tyInt Syntax.w64) 8 λ v. Shared.lenV (v .0)) (Reads.as-is 𝓤 H A (Relend.msptr Rec.rt ty·0 2)) (Reads.room-gone 𝓤 H A (Syntax.tyStruct (List._∷_ 38 (List._∷_ 91 (List._∷_ 93
+              List.[]))) (Syntax.tcons ty·0 (Syntax.tcons (Syntax.tyInt Syntax.w64) Syntax.tnil)))) (Relend.reads-owed-len 𝓤 H A W Rec.rt ty·1 0 2 (Row.lease (κs .0) (qs .0)) 8 Path'.refl, Path'.refl) Path'.refl Path'.refl λ b o k. tt) d21)
 
           d25 : Typed.Typed 𝓤 H A 𝓣 E G8 b22 Δ3 at25
-          d25 = Typed.t-seq 𝓤 H A W 𝓣 E G8 G9 b6 b21 Δ3 at6 at24 d6 d24
-
-          d26 : Typed.Typed 𝓤 H A 𝓣 E G7 b23 Δ3 at26
-          d26 = Typed.s-seq 𝓤 H A W 𝓣 E G7 G8 b3 b22 Δ3 (Typed.ask s5) at25 (Scalar.t-op2 𝓤 H A W E 𝓣 G7 (Syntax.lt Syntax.unsigned) (Scalar.oAt 4 (Syntax.tyInt Syntax.w64) (Row.valS (Row.sInt Syntax.w64))) (Scalar.oAt 6 (Syntax.tyInt Syntax.w64) (Row.valS (Row.sInt Syntax.w64))) 7 (Rows.sc-here Row.sBool) Syntax.tyBool (Row.valS Row.sBool) (Row.sBool .of)
-              (Scalar.reads-sc 𝓤 H A W (Row.sInt Syntax.w64), Path'.refl) (Scalar.reads-sc 𝓤 H A W (Row.sInt Syntax.w64), Path'.refl) (Reads.room-gone 𝓤 H A Syntax.tyBool) (Scalar.holds-sc 𝓤 H A W Row.sBool) Path'.refl (λ u. Path'.refl) λ u. tt) d25
+          d25 = Typed.t-seq 𝓤 H A W 𝓣 E G8 G6 b6 b21 Δ3 at6 at23 (Typed.g-pre 𝓤 H A W 𝓣 E G8 G10 b6 Δ4 (Typed.pass T8 T10 s6) at5 (Scalar.g-room 𝓤 H A W E G8 6 (Syntax.tyInt Syntax.w64) (Scalar.room-sc 𝓤 H A W (Row.sInt Syntax.w64))) d5) (Typed.g-pre 𝓤 H A W 𝓣 E G6 G14 b21 Δ3 (λ Ψ. Ψ) at23 (Lifetime.g-begin 𝓤 H A W E G6 2
+              (tt, (tt, (tt, (tt, (tt, (tt, (tt, (tt, (tt, (tt, (tt, (tt, (tt, (tt, tt))))))))))))))) d23)
 
           d27 : Typed.Typed 𝓤 H A 𝓣 E G6 b24 Δ3 at27
-          d27 = Typed.s-seq 𝓤 H A W 𝓣 E G6 G7 b2 b23 Δ3 (Typed.pass T6 T7 s4) at26 (Scalar.t-use 𝓤 H A W E 𝓣 G6 (Scalar.oFld 2 (List._∷_ (Syntax.field 1) List.[]) (Syntax.tyInt Syntax.w64) 8 Shared.lenV) 6 (Rows.sc-here (Row.sInt Syntax.w64)) (Syntax.tyInt Syntax.w64) (Row.valS (Row.sInt Syntax.w64)) (Row.sInt Syntax.w64 .of) (
-            Shared.reads-sslice-len 𝓤 H A
-                W (Referent.rtF (Referent.fInt Syntax.w16)) ty·2 1 8 Path'.refl,
-            Path'.refl,
-          ) (Reads.room-gone 𝓤 H A (Syntax.tyInt Syntax.w64)) (Scalar.holds-sc 𝓤 H A W (Row.sInt Syntax.w64)) Path'.refl (λ u. Path'.refl) λ u. tt) d26
+          d27 = Typed.s-seq 𝓤 H A W 𝓣 E G6 G7 b2 b23 Δ3 (Typed.pass T6 T7 s4) at26 (Scalar.t-use 𝓤 H A W E 𝓣 G6 (Scalar.oFld 2 (List._∷_ (Syntax.field 1) List.[]) (Syntax.tyInt Syntax.w64) 8 Shared.lenV) 6 (Rows.sc-here (Row.sInt Syntax.w64)) (Syntax.tyInt Syntax.w64) (Row.valS (Row.sInt Syntax.w64)) (Row.sInt Syntax.w64 .of)
+              (Shared.reads-sslice-len 𝓤 H A W (Referent.rtF (Referent.fInt Syntax.w16)) ty·2 1 8 Path'.refl, Path'.refl) (Reads.room-gone 𝓤 H A (Syntax.tyInt Syntax.w64)) (Scalar.holds-sc 𝓤 H A W (Row.sInt Syntax.w64)) Path'.refl (λ u. Path'.refl) λ u. tt) (Typed.s-seq 𝓤 H A W 𝓣 E G7 G8 b3 b22 Δ3 (Typed.ask s5) at25 (Scalar.t-op2 𝓤 H A W E 𝓣 G7 (Syntax.lt
+              Syntax.unsigned) (Scalar.oAt 4 (Syntax.tyInt Syntax.w64) (Row.valS (Row.sInt Syntax.w64))) (Scalar.oAt 6 (Syntax.tyInt Syntax.w64) (Row.valS (Row.sInt Syntax.w64))) 7 (Rows.sc-here Row.sBool) Syntax.tyBool (Row.valS Row.sBool) (Row.sBool .of) (Scalar.reads-sc 𝓤 H A W (Row.sInt Syntax.w64), Path'.refl)
+              (Scalar.reads-sc 𝓤 H A W (Row.sInt Syntax.w64), Path'.refl) (Reads.room-gone 𝓤 H A Syntax.tyBool) (Scalar.holds-sc 𝓤 H A W Row.sBool) Path'.refl (λ u. Path'.refl) λ u. tt) d25)
 
           d28 : Typed.Typed 𝓤 H A 𝓣 E G6 b25 Δ2 at28
           d28 = Typed.t-loop-by 𝓤 H A W 𝓣 E G6 b24 Δ2 put0 (λ u vs. Inv·0 (Row.get 1 (T6 .locals) u .now) (Row.get 2 (T6 .locals) u .now) (Row.get 3 (T6 .locals) u) (Row.get 4 (T6 .locals) u) (vs .0) (vs .1)) (λ u vs. μ·0 (Row.get 1 (T6 .locals) u .now) (Row.get 2 (T6 .locals) u .now) (Row.get 3 (T6 .locals) u) (Row.get 4 (T6 .locals) u) (vs .0) (vs .1))
@@ -1132,43 +770,24 @@ module _ (claims· : Claims) where
           d29 : Typed.Typed 𝓤 H A 𝓣 E G6 b26 Δ1 at29
           d29 = Typed.t-block 𝓤 H A W 𝓣 E G6 b25 Δ1 at28 d28
 
-          d30 : Typed.Typed 𝓤 H A 𝓣 E G5 b27 Δ1 at30
-          d30 = Typed.s-seq 𝓤 H A W 𝓣 E G5 G6 b1 b26 Δ1 (Typed.pass T5 T6 s3) at29 (Scalar.t-use 𝓤 H A W E 𝓣 G5 (Scalar.oInt Syntax.w64 0) 4 (Rows.sc-here (Row.sInt Syntax.w64)) (Syntax.tyInt Syntax.w64) (Row.valS (Row.sInt Syntax.w64)) (Row.sInt Syntax.w64 .of) tt (Reads.room-gone 𝓤 H A (Syntax.tyInt Syntax.w64))
-              (Scalar.holds-sc 𝓤 H A W (Row.sInt Syntax.w64)) Path'.refl (λ u. Path'.refl) λ u. tt) d29
-
-          d31 : Typed.Typed 𝓤 H A 𝓣 E G3 b27 Δ1 at31
-          d31 = Typed.g-pre 𝓤 H A W 𝓣 E G3 G5 b27 Δ1 (Typed.pass T3 T5 s2) at30 (Scalar.g-room 𝓤 H A W E G3 5 Syntax.tyBool (Scalar.room-sc 𝓤 H A W Row.sBool)) d30
-
-          d32 : Typed.Typed 𝓤 H A 𝓣 E G32 b28 Δ1 at32
+          d32 : Typed.Typed 𝓤 H A 𝓣 E G0 b28 Δ1 at32
           d32 = Typed.t-skip 𝓤 H A W 𝓣 E Δ1 tt
 
-          d33 : Typed.Typed 𝓤 H A 𝓣 E G3 b28 Δ1 at33
-          d33 = Typed.g-pre 𝓤 H A W 𝓣 E G3 G32 b28 Δ1 (Typed.pass T3 T32 s28) at32 (Scalar.g-room 𝓤 H A W E G3 5 Syntax.tyBool (Scalar.room-sc 𝓤 H A W Row.sBool)) d32
-
           d34 : Typed.Typed 𝓤 H A 𝓣 E G3 b29 Δ1 at34
-          d34 = Scalar.t-cond 𝓤 H A W E 𝓣 G3 5 (λ x. x) b27 b28 Δ1 at31 at33 (Scalar.reads-sc 𝓤 H A W Row.sBool) Path'.refl d31 d33
+          d34 = Scalar.t-cond 𝓤 H A W E 𝓣 G3 5 (λ x. x) b27 b28 Δ1 at31 at33 (Scalar.reads-sc 𝓤 H A W Row.sBool) Path'.refl (Typed.g-pre 𝓤 H A W 𝓣 E G3 G0 b27 Δ1 (Typed.pass T3 T0 s2) at30 (Scalar.g-room 𝓤 H A W E G3 5 Syntax.tyBool (Scalar.room-sc 𝓤 H A W Row.sBool)) (Typed.s-seq 𝓤 H A W 𝓣 E G0 G6 b1 b26 Δ1 (Typed.pass T0 T6 s3) at29 (Scalar.t-use 𝓤 H A W E
+              𝓣 G0 (Scalar.oInt Syntax.w64 0) 4 (Rows.sc-here (Row.sInt Syntax.w64)) (Syntax.tyInt Syntax.w64) (Row.valS (Row.sInt Syntax.w64)) (Row.sInt Syntax.w64 .of) tt (Reads.room-gone 𝓤 H A (Syntax.tyInt Syntax.w64)) (Scalar.holds-sc 𝓤 H A W (Row.sInt Syntax.w64)) Path'.refl (λ u. Path'.refl) λ u. tt) d29)) (Typed.g-pre 𝓤 H A W 𝓣 E G3 G0 b28 Δ1 (Typed.pass
+              T3 T0 s28) at32 (Scalar.g-room 𝓤 H A W E G3 5 Syntax.tyBool (Scalar.room-sc 𝓤 H A W Row.sBool)) d32)
 
-          d35 : Typed.Typed 𝓤 H A 𝓣 E G34 b31 Δ0 at35
+          d35 : Typed.Typed 𝓤 H A 𝓣 E G1 b31 Δ0 at35
           d35 = Typed.t-return 𝓤 H A W 𝓣 E Δ0 tt
 
-          d36 : Typed.Typed 𝓤 H A 𝓣 E G33 b31 Δ0 at36
-          d36 = Typed.g-pre 𝓤 H A W 𝓣 E G33 G34 b31 Δ0 (Typed.pass T33 T34 s30) at35 (Scalar.g-room 𝓤 H A W E G33 3 Syntax.tyBool (Scalar.room-sc 𝓤 H A W Row.sBool)) d35
-
-          d37 : Typed.Typed 𝓤 H A 𝓣 E G4 b32 Δ0 at37
-          d37 = Typed.s-seq 𝓤 H A W 𝓣 E G4 G33 b30 b31 Δ0 (Typed.pass T4 T33 s29) at36 (Scalar.t-use 𝓤 H A W E 𝓣 G4 Scalar.oUnit 0 (Rows.sc-here Row.sUnit) Syntax.tyUnit (Row.valS Row.sUnit) (Row.sUnit .of) tt (Reads.room-gone 𝓤 H A Syntax.tyUnit) (Scalar.holds-sc 𝓤 H A W Row.sUnit) Path'.refl (λ u. Path'.refl) λ u. tt) d36
-
           d38 : Typed.Typed 𝓤 H A 𝓣 E G3 b33 Δ0 at38
-          d38 = Typed.t-seq 𝓤 H A W 𝓣 E G3 G4 b29 b32 Δ0 at34 at37 d34 d37
-
-          d39 : Typed.Typed 𝓤 H A 𝓣 E G2 b34 Δ0 at39
-          d39 = Typed.s-seq 𝓤 H A W 𝓣 E G2 G3 b0 b33 Δ0 (Typed.pass T2 T3 s1) at38 (Scalar.t-use 𝓤 H A W E 𝓣 G2 (Scalar.oAt 3 Syntax.tyBool (Row.valS Row.sBool)) 5 (Rows.sc-here Row.sBool) Syntax.tyBool (Row.valS Row.sBool) (Row.sBool .of) (Scalar.reads-sc 𝓤 H A W Row.sBool, Path'.refl) (Reads.room-gone 𝓤 H A Syntax.tyBool)
-              (Scalar.holds-sc 𝓤 H A W Row.sBool) Path'.refl (λ u. Path'.refl) λ u. tt) d38
-
-          d40 : Typed.Typed 𝓤 H A 𝓣 E G0 b34 Δ0 at40
-          d40 = Typed.g-pre 𝓤 H A W 𝓣 E G0 G2 b34 Δ0 (Typed.give s0) at39 (Know.g-shs-known 𝓤 H A W (Referent.fInt Syntax.w16) E G0 2 1 ty·2 (Row.lease (κs .1 .0) (qs .1 .0)) 0 (λ x. x) record { fits = Dec'.lit< tt } (Reads.as-is 𝓤 H A (Rows.sslice (Referent.rtF (Referent.fInt Syntax.w16)) ty·2 1)) Path'.refl tt) d39
+          d38 = Typed.t-seq 𝓤 H A W 𝓣 E G3 G0 b29 b32 Δ0 at34 at37 d34 (Typed.s-seq 𝓤 H A W 𝓣 E G0 G33 b30 b31 Δ0 (Typed.pass T0 T33 s29) at36 (Scalar.t-use 𝓤 H A W E 𝓣 G0 Scalar.oUnit 0 (Rows.sc-here Row.sUnit) Syntax.tyUnit (Row.valS Row.sUnit) (Row.sUnit .of) tt (Reads.room-gone 𝓤 H A Syntax.tyUnit) (Scalar.holds-sc 𝓤 H A W Row.sUnit) Path'.refl (λ u.
+              Path'.refl) λ u. tt) (Typed.g-pre 𝓤 H A W 𝓣 E G33 G1 b31 Δ0 (Typed.pass T33 T1 s30) at35 (Scalar.g-room 𝓤 H A W E G33 3 Syntax.tyBool (Scalar.room-sc 𝓤 H A W Row.sBool)) d35))
 
           pub typed : Typed.Typed 𝓤 H A 𝓣 E (Function.Γin 2 ps r xs m κs qs) b34 (Function.Δret 2 ps r xs m κs qs) Φ
-          typed = d40
+          typed = (Typed.g-pre 𝓤 H A W 𝓣 E G0 G0 b34 Δ0 (Typed.give s0) at39 (Know.g-shs-known 𝓤 H A W (Referent.fInt Syntax.w16) E G0 2 1 ty·2 (Row.lease (κs .1 .0) (qs .1 .0)) 0 (λ x. x) record { fits = Dec'.lit< tt } (Reads.as-is 𝓤 H A (Rows.sslice (Referent.rtF (Referent.fInt Syntax.w16)) ty·2 1)) Path'.refl tt) (Typed.s-seq 𝓤 H A W 𝓣 E G0 G3 b0 b33 Δ0
+              (Typed.pass T0 T3 s1) at38 (Scalar.t-use 𝓤 H A W E 𝓣 G0 (Scalar.oAt 3 Syntax.tyBool (Row.valS Row.sBool)) 5 (Rows.sc-here Row.sBool) Syntax.tyBool (Row.valS Row.sBool) (Row.sBool .of) (Scalar.reads-sc 𝓤 H A W Row.sBool, Path'.refl) (Reads.room-gone 𝓤 H A Syntax.tyBool) (Scalar.holds-sc 𝓤 H A W Row.sBool) Path'.refl (λ u. Path'.refl) λ u. tt) d38))
 
       module _ (κs : Lifetimes.Lfts 2) where
         pub record Args : Type 0 where
@@ -1183,11 +802,7 @@ module _ (claims· : Claims) where
       m0 = λ κs args. (tt, Enter.partsP κs 1 ps xs (dens κs args))
 
       abbrev W0 : (κs : Lifetimes.Lfts 2) → (args : Args κs) → Typed.Want O0
-      W0 = λ κs args. (
-        λ u. ⊥,
-        tt,
-        λ u. Enter.Fixs κs 1 ps xs (dens κs args) (u .1) × Post· κs (dens κs args) (Function.resV r κs (u .0)) (Clauses.atExit (Kinds.endedOf 2 ps r) κs (dens κs args) (Enter.lastsP κs 1 ps xs (dens κs args) (u .1))),
-      )
+      W0 = λ κs args. (λ u. ⊥, tt, λ u. Enter.Fixs κs 1 ps xs (dens κs args) (u .1) × Post· κs (dens κs args) (Function.resV r κs (u .0)) (Clauses.atExit (Kinds.endedOf 2 ps r) κs (dens κs args) (Enter.lastsP κs 1 ps xs (dens κs args) (u .1))))
 
       pub record Start : Type 0 where
         pub κs : Lifetimes.Lfts 2
@@ -1195,14 +810,11 @@ module _ (claims· : Claims) where
         pub good : Kinds.GoodsP κs ps (dens κs args)
         pub pre : Pre· κs (dens κs args)
 
-      abbrev pub m1 : (before : Start) → (given : s0 .gives (m0 (before .κs) (before .args))) → Typed.Mo T2
-      m1 = λ before given. s0 .next (m0 (before .κs) (before .args)) given
-
       abbrev pub m2 : (before : Start) → (given : s0 .gives (m0 (before .κs) (before .args))) → Typed.Mo T3
-      m2 = λ before given. s1 (m1 before given)
+      m2 = λ before given. s1 (s0 .next (m0 (before .κs) (before .args)) given)
 
       abbrev W1 : (before : Start) → (given : s0 .gives (m0 (before .κs) (before .args))) → Typed.Want O1
-      W1 = λ before given. Typed.wantNext T4 O0 (at37 (W0 (before .κs) (before .args))) (W0 (before .κs) (before .args))
+      W1 = λ before given. Typed.wantNext T0 O0 (at37 (W0 (before .κs) (before .args))) (W0 (before .κs) (before .args))
 
       module _ (before· : Start) where
         pub record After-shared-slice-known·own : Type 0 where
@@ -1212,11 +824,8 @@ module _ (claims· : Claims) where
         pub before : Start
         pub shared-slice-known : After-shared-slice-known·own before
 
-      abbrev pub m3 : (before : After-shared-slice-known) → Typed.Mo T5
-      m3 = λ before. s2 (m2 (before .before) (before .shared-slice-known .given))
-
       abbrev pub m4 : (before : After-shared-slice-known) → Typed.Mo T6
-      m4 = λ before. s3 (m3 before)
+      m4 = λ before. s3 (s2 (m2 (before .before) (before .shared-slice-known .given)))
 
       abbrev W2 : (before : After-shared-slice-known) → Typed.Want O2
       W2 = λ before. Typed.inBlock O1 (W1 (before .before) (before .shared-slice-known .given))
@@ -1233,17 +842,7 @@ module _ (claims· : Claims) where
       Need-loop-holds = (c : Then1) → Inv·0 (Row.get 1 (T6 .locals) (m4 (c .before)) .now) (Row.get 2 (T6 .locals) (m4 (c .before)) .now) (Row.get 3 (T6 .locals) (m4 (c .before))) (Row.get 4 (T6 .locals) (m4 (c .before))) (Row.get 1 (T6 .locals) (m4 (c .before)) .now) (Row.get 4 (T6 .locals) (m4 (c .before)))
 
       abbrev pub m5 : (before : Then1) → (deps : List.List (Rec.rt .Denot)) → (k : Rows.sc-here (Row.sInt Syntax.w64) .Mod) → Typed.Mo T6
-      m5 = λ before deps k. Row.set 4 (4, Rows.sc-here (Row.sInt Syntax.w64)) k (Row.setRow 1 (
-        1,
-        Mut.mslice Rec.rt ty·1 0,
-      ) (T6 .locals)) (Row.set 1 (
-        1,
-        Mut.mslice Rec.rt ty·1 0,
-      ) record {
-        ptr = Row.get 1 (T6 .locals) (m4 (before .before)) .ptr;
-        name = Row.get 1 (T6 .locals) (m4 (before .before)) .name;
-        now = deps;
-      } (T6 .locals) (m4 (before .before)))
+      m5 = λ before deps k. Row.set 4 (4, Rows.sc-here (Row.sInt Syntax.w64)) k (Row.setRow 1 (1, Mut.mslice Rec.rt ty·1 0) (T6 .locals)) (Row.set 1 (1, Mut.mslice Rec.rt ty·1 0) record { ptr = Row.get 1 (T6 .locals) (m4 (before .before)) .ptr; name = Row.get 1 (T6 .locals) (m4 (before .before)) .name; now = deps } (T6 .locals) (m4 (before .before)))
 
       abbrev W3 : (before : Then1) → (deps : List.List (Rec.rt .Denot)) → (k : Rows.sc-here (Row.sInt Syntax.w64) .Mod) → Typed.Want O3
       W3 = λ before deps k. Typed.inLoop T6 O2 (Typed.Round T6 O2 put0 (λ u vs. Inv·0 (Row.get 1 (T6 .locals) u .now) (Row.get 2 (T6 .locals) u .now) (Row.get 3 (T6 .locals) u) (Row.get 4 (T6 .locals) u) (vs .0) (vs .1)) (λ u vs. μ·0 (Row.get 1 (T6 .locals) u .now) (Row.get 2 (T6 .locals) u .now) (Row.get 3 (T6 .locals) u) (Row.get 4 (T6 .locals) u) (vs .0)
@@ -1256,7 +855,7 @@ module _ (claims· : Claims) where
       m7 = λ before deps k. s5 .next (m6 before deps k)
 
       abbrev W4 : (before : Then1) → (deps : List.List (Rec.rt .Denot)) → (k : Rows.sc-here (Row.sInt Syntax.w64) .Mod) → Typed.Want O4
-      W4 = λ before deps k. Typed.wantNext T9 O3 (at24 (W3 before deps k)) (W3 before deps k)
+      W4 = λ before deps k. Typed.wantNext T6 O3 (at23 (W3 before deps k)) (W3 before deps k)
 
       abbrev pub m8 : (before : Then1) → (deps : List.List (Rec.rt .Denot)) → (k : Rows.sc-here (Row.sInt Syntax.w64) .Mod) → Typed.Mo T10
       m8 = λ before deps k. s6 (m7 before deps k)
@@ -1279,7 +878,7 @@ module _ (claims· : Claims) where
         pub before : At-loop
         pub loop-test : In-loop·own before
 
-      abbrev pub m9 : (before : At-loop) → Typed.Mo T11
+      abbrev pub m9 : (before : At-loop) → Typed.Mo T6
       m9 = λ before. s7 (m8 (before .before) (before .loop .deps) (before .loop .k))
 
       module _ (before· : At-loop) where
@@ -1290,17 +889,11 @@ module _ (claims· : Claims) where
         pub before : At-loop
         pub loop-test : After-loop·own before
 
-      abbrev pub m10 : (before : At-loop) → Typed.Mo T12
-      m10 = λ before. s8 (m8 (before .before) (before .loop .deps) (before .loop .k))
-
-      abbrev pub m11 : (before : At-loop) → Typed.Mo T13
-      m11 = λ before. s9 (m10 before)
-
-      abbrev pub m12 : (before : In-loop) → (given : s11 .gives (m9 (before .before))) → Typed.Mo T15
-      m12 = λ before given. s11 .next (m9 (before .before)) given
+      abbrev pub m11 : (before : At-loop) → Typed.Mo T0
+      m11 = λ before. s9 (s8 (m8 (before .before) (before .loop .deps) (before .loop .k)))
 
       abbrev pub m13 : (before : In-loop) → (given : s11 .gives (m9 (before .before))) → Typed.Mo T16
-      m13 = λ before given. s12 .next (m12 before given)
+      m13 = λ before given. s12 .next (s11 .next (m9 (before .before)) given)
 
       module _ (before· : In-loop) where
         pub record After-flip-if-arg·own : Type 0 where
@@ -1313,13 +906,10 @@ module _ (claims· : Claims) where
       abbrev pub Need-mul-flip-if : Type 0
       Need-mul-flip-if = (c : After-flip-if-arg) → s13 .asks (m13 (c .before) (c .flip-if-arg .given))
 
-      abbrev pub m14 : (before : In-loop) → (given : s11 .gives (m9 (before .before))) → Typed.Mo T17
-      m14 = λ before given. s13 .next (m13 before given)
-
       abbrev pub m15 : (before : In-loop) → (given : s11 .gives (m9 (before .before))) → Typed.Mo T18
-      m15 = λ before given. s14 .next (m14 before given)
+      m15 = λ before given. s14 .next (s13 .next (m13 before given))
 
-      abbrev pub m16 : (before : After-flip-if-arg) → (given : s15 .gives (m15 (before .before) (before .flip-if-arg .given))) → Typed.Mo T19
+      abbrev pub m16 : (before : After-flip-if-arg) → (given : s15 .gives (m15 (before .before) (before .flip-if-arg .given))) → Typed.Mo T18
       m16 = λ before given. s15 .next (m15 (before .before) (before .flip-if-arg .given)) given
 
       module _ (before· : After-flip-if-arg) where
@@ -1331,25 +921,16 @@ module _ (claims· : Claims) where
         pub shared-slice-known2 : After-shared-slice-known2·own before
 
       abbrev pub Need-shared-slice-read-flip-if : Type 0
-      Need-shared-slice-read-flip-if = (c : After-shared-slice-known2) → Shared.InSlice T19 2 11 (λ x. x) (λ u. u .1 .1 .1 .1 .0) (m16 (c .before) (c .shared-slice-known2 .given))
-
-      abbrev pub m17 : (before : After-flip-if-arg) → (given : s15 .gives (m15 (before .before) (before .flip-if-arg .given))) → Typed.Mo T20
-      m17 = λ before given. s16 .next (m16 before given)
-
-      abbrev pub m18 : (before : After-flip-if-arg) → (given : s15 .gives (m15 (before .before) (before .flip-if-arg .given))) → Typed.Mo T21
-      m18 = λ before given. s17 (m17 before given)
+      Need-shared-slice-read-flip-if = (c : After-shared-slice-known2) → Shared.InSlice T18 2 11 (λ x. x) (λ u. u .1 .1 .1 .1 .0) (m16 (c .before) (c .shared-slice-known2 .given))
 
       abbrev pub m19 : (before : After-flip-if-arg) → (given : s15 .gives (m15 (before .before) (before .flip-if-arg .given))) → Typed.Mo T22
-      m19 = λ before given. s18 (m18 before given)
+      m19 = λ before given. s18 (s17 (s16 .next (m16 before given)))
 
       abbrev pub Need-cast-flip-if : Type 0
       Need-cast-flip-if = (c : After-shared-slice-known2) → s19 .asks (m19 (c .before) (c .shared-slice-known2 .given))
 
-      abbrev pub m20 : (before : After-flip-if-arg) → (given : s15 .gives (m15 (before .before) (before .flip-if-arg .given))) → Typed.Mo T23
-      m20 = λ before given. s19 .next (m19 before given)
-
       abbrev pub m21 : (before : After-flip-if-arg) → (given : s15 .gives (m15 (before .before) (before .flip-if-arg .given))) → Typed.Mo T24
-      m21 = λ before given. s20 (m20 before given)
+      m21 = λ before given. s20 (s19 .next (m19 before given))
 
       abbrev pub Need-flip-if-requires : Type 0
       Need-flip-if-requires = (c : After-shared-slice-known2) → s21 .asks (m21 (c .before) (c .shared-slice-known2 .given))
@@ -1359,28 +940,19 @@ module _ (claims· : Claims) where
 
       module _ (before· : After-shared-slice-known2) where
         abbrev pub After-flip-if·own : Type 0
-        After-flip-if·own = Called.Called ps·0 r·0 (claims· .1) T24 (
-          record { pos = 10; ty = Syntax.tyRef Syntax.erased Syntax.mut Rec.behind; ref = λ x. x },
-          (Num.vAt 13 λ x. x, (Bool.bLit Bool'.true, tt)),
-        ) (m21 (before· .before) (before· .shared-slice-known2 .given))
+        After-flip-if·own = Called.Called ps·0 r·0 (claims· .1) T24 args·0 (m21 (before· .before) (before· .shared-slice-known2 .given))
 
       pub record After-flip-if : Type 0 where
         pub before : After-shared-slice-known2
         pub flip-if : After-flip-if·own before
 
       abbrev pub After-flip-if·gave : (c : After-flip-if) → s21 .gives (m21 (c .before .before) (c .before .shared-slice-known2 .given))
-      After-flip-if·gave = λ c. Called.given ps·0 r·0 (claims· .1) T24 (
-        record { pos = 10; ty = Syntax.tyRef Syntax.erased Syntax.mut Rec.behind; ref = λ x. x },
-        (Num.vAt 13 λ x. x, (Bool.bLit Bool'.true, tt)),
-      ) (m21 (c .before .before) (c .before .shared-slice-known2 .given)) (c .flip-if)
-
-      abbrev pub m23 : (before : After-shared-slice-known2) → (given : s21 .gives (m21 (before .before) (before .shared-slice-known2 .given))) → Typed.Mo T26
-      m23 = λ before given. s22 (m22 before given)
+      After-flip-if·gave = λ c. Called.given ps·0 r·0 (claims· .1) T24 args·0 (m21 (c .before .before) (c .before .shared-slice-known2 .given)) (c .flip-if)
 
       abbrev pub m24 : (before : After-shared-slice-known2) → (given : s21 .gives (m21 (before .before) (before .shared-slice-known2 .given))) → Typed.Mo T27
-      m24 = λ before given. s23 (m23 before given)
+      m24 = λ before given. s23 (s22 (m22 before given))
 
-      abbrev pub m25 : (before : After-flip-if) → (given : s25 .gives (m24 (before .before) (After-flip-if·gave before))) → Typed.Mo T29
+      abbrev pub m25 : (before : After-flip-if) → (given : s25 .gives (m24 (before .before) (After-flip-if·gave before))) → Typed.Mo T6
       m25 = λ before given. s25 .next (m24 (before .before) (After-flip-if·gave before)) given
 
       module _ (before· : After-flip-if) where
@@ -1394,20 +966,19 @@ module _ (claims· : Claims) where
       abbrev pub Need-add-k : Type 0
       Need-add-k = (c : After-deps) → s27 .asks (m25 (c .before) (c .deps .given))
 
-      abbrev pub m26 : (before : After-flip-if) → (given : s25 .gives (m24 (before .before) (After-flip-if·gave before))) → Typed.Mo T31
+      abbrev pub m26 : (before : After-flip-if) → (given : s25 .gives (m24 (before .before) (After-flip-if·gave before))) → Typed.Mo T6
       m26 = λ before given. s27 .next (m25 before given)
 
       abbrev pub Need-loop-less : Type 0
-      Need-loop-less = (c : After-deps) → Nat._<_ (μ·0 (Row.get 1 (T6 .locals) (m4 (c .before .before .before .before .before .before .before)) .now) (Row.get 2 (T6 .locals) (m4 (c .before .before .before .before .before .before .before)) .now) (Row.get 3 (T6 .locals) (m4 (c .before .before .before .before .before .before .before)))
-          (Row.get 4 (T6 .locals) (m4 (c .before .before .before .before .before .before .before))) (Row.get 1 (T6 .locals) (m26 (c .before) (c .deps .given)) .now) (Row.get 4 (T6 .locals) (m26 (c .before) (c .deps .given)))) (μ·0 (Row.get 1 (T6 .locals) (m4 (c .before .before .before .before .before .before .before)) .now) (Row.get 2 (T6 .locals)
-          (m4 (c .before .before .before .before .before .before .before)) .now) (Row.get 3 (T6 .locals) (m4 (c .before .before .before .before .before .before .before))) (Row.get 4 (T6 .locals) (m4 (c .before .before .before .before .before .before .before))) (c .before .before .before .before .before .loop .deps)
-          (c .before .before .before .before .before .loop .k))
+      Need-loop-less = (c : After-deps) → Nat._<_ (μ·0 (Row.get 1 (T6 .locals) (m4 (c .before .before .before .before .before .before .before)) .now) (Row.get 2 (T6 .locals) (m4 (c .before .before .before .before .before .before .before)) .now) (Row.get 3 (T6 .locals) (m4 (c .before .before .before .before .before .before .before))) (Row.get 4 (T6 .locals)
+          (m4 (c .before .before .before .before .before .before .before))) (Row.get 1 (T6 .locals) (m26 (c .before) (c .deps .given)) .now) (Row.get 4 (T6 .locals) (m26 (c .before) (c .deps .given)))) (μ·0 (Row.get 1 (T6 .locals) (m4 (c .before .before .before .before .before .before .before)) .now) (Row.get 2 (T6 .locals) (m4 (c .before .before .before .before
+          .before .before .before)) .now) (Row.get 3 (T6 .locals) (m4 (c .before .before .before .before .before .before .before))) (Row.get 4 (T6 .locals) (m4 (c .before .before .before .before .before .before .before))) (c .before .before .before .before .before .loop .deps) (c .before .before .before .before .before .loop .k))
 
       abbrev pub Need-loop-again : Type 0
-      Need-loop-again = (c : After-deps) → Inv·0 (Row.get 1 (T6 .locals) (m4 (c .before .before .before .before .before .before .before)) .now) (Row.get 2 (T6 .locals) (m4 (c .before .before .before .before .before .before .before)) .now) (Row.get 3 (T6 .locals) (m4 (c .before .before .before .before .before .before .before)))
-          (Row.get 4 (T6 .locals) (m4 (c .before .before .before .before .before .before .before))) (Row.get 1 (T6 .locals) (m26 (c .before) (c .deps .given)) .now) (Row.get 4 (T6 .locals) (m26 (c .before) (c .deps .given)))
+      Need-loop-again = (c : After-deps) → Inv·0 (Row.get 1 (T6 .locals) (m4 (c .before .before .before .before .before .before .before)) .now) (Row.get 2 (T6 .locals) (m4 (c .before .before .before .before .before .before .before)) .now) (Row.get 3 (T6 .locals) (m4 (c .before .before .before .before .before .before .before))) (Row.get 4 (T6 .locals) (m4 (c
+          .before .before .before .before .before .before .before))) (Row.get 1 (T6 .locals) (m26 (c .before) (c .deps .given)) .now) (Row.get 4 (T6 .locals) (m26 (c .before) (c .deps .given)))
 
-      abbrev pub m27 : (before : After-shared-slice-known) → Typed.Mo T32
+      abbrev pub m27 : (before : After-shared-slice-known) → Typed.Mo T0
       m27 = λ before. s28 (m2 (before .before) (before .shared-slice-known .given))
 
       module _ (before· : After-shared-slice-known) where
@@ -1418,112 +989,39 @@ module _ (claims· : Claims) where
         pub before : After-shared-slice-known
         pub if1 : Else1·own before
 
-      abbrev pub m28 : (before : At-loop) → Typed.Mo T33
-      m28 = λ before. s29 (m11 before)
-
-      abbrev pub m29 : (before : At-loop) → Typed.Mo T34
-      m29 = λ before. s30 (m28 before)
+      abbrev pub m29 : (before : At-loop) → Typed.Mo T1
+      m29 = λ before. s30 (s29 (m11 before))
 
       abbrev pub Need-same-length : Type 0
-      Need-same-length = (c : After-loop) → MutSlice.SameLen (Row.get 1 (T34 .locals) (m29 (c .before))) (dens (c .before .before .before .before .κs) (c .before .before .before .before .args) .0)
+      Need-same-length = (c : After-loop) → MutSlice.SameLen (Row.get 1 (T1 .locals) (m29 (c .before))) (dens (c .before .before .before .before .κs) (c .before .before .before .before .args) .0)
 
       abbrev pub Need-returns : Type 0
-      Need-returns = (c : After-loop) → Post· (c .before .before .before .before .κs) (dens (c .before .before .before .before .κs) (c .before .before .before .before .args)) (Function.resV r (c .before .before .before .before .κs) (m29 (c .before) .0)) (Clauses.atExit (Kinds.endedOf 2 ps r) (c .before .before .before .before .κs)
-          (dens (c .before .before .before .before .κs) (c .before .before .before .before .args)) (Enter.lastsP (c .before .before .before .before .κs) 1 ps xs (dens (c .before .before .before .before .κs) (c .before .before .before .before .args)) (m29 (c .before) .1)))
+      Need-returns = (c : After-loop) → Post· (c .before .before .before .before .κs) (dens (c .before .before .before .before .κs) (c .before .before .before .before .args)) (Function.resV r (c .before .before .before .before .κs) (m29 (c .before) .0)) (Clauses.atExit (Kinds.endedOf 2 ps r) (c .before .before .before .before .κs) (dens (c .before .before
+          .before .before .κs) (c .before .before .before .before .args)) (Enter.lastsP (c .before .before .before .before .κs) 1 ps xs (dens (c .before .before .before .before .κs) (c .before .before .before .before .args)) (m29 (c .before) .1)))
 
-      abbrev pub m30 : (before : After-shared-slice-known) → Typed.Mo T33
-      m30 = λ before. s29 (m27 before)
-
-      abbrev pub m31 : (before : After-shared-slice-known) → Typed.Mo T34
-      m31 = λ before. s30 (m30 before)
+      abbrev pub m31 : (before : After-shared-slice-known) → Typed.Mo T1
+      m31 = λ before. s30 (s29 (m27 before))
 
       abbrev pub Need-returns-2 : Type 0
-      Need-returns-2 = (c : Else1) → Post· (c .before .before .κs) (dens (c .before .before .κs) (c .before .before .args)) (Function.resV r (c .before .before .κs) (m31 (c .before) .0)) (Clauses.atExit (Kinds.endedOf 2 ps r) (c .before .before .κs) (dens (c .before .before .κs) (c .before .before .args)) (Enter.lastsP (c .before .before .κs) 1 ps xs
-          (dens (c .before .before .κs) (c .before .before .args)) (m31 (c .before) .1)))
+      Need-returns-2 = (c : Else1) → Post· (c .before .before .κs) (dens (c .before .before .κs) (c .before .before .args)) (Function.resV r (c .before .before .κs) (m31 (c .before) .0)) (Clauses.atExit (Kinds.endedOf 2 ps r) (c .before .before .κs) (dens (c .before .before .κs) (c .before .before .args)) (Enter.lastsP (c .before .before .κs) 1 ps xs (dens
+          (c .before .before .κs) (c .before .before .args)) (m31 (c .before) .1)))
 
       module _ (loop-holds : Need-loop-holds) (mul-flip-if : Need-mul-flip-if) (shared-slice-read-flip-if : Need-shared-slice-read-flip-if) (cast-flip-if : Need-cast-flip-if) (flip-if-requires : Need-flip-if-requires) (add-k : Need-add-k) (loop-less : Need-loop-less) (loop-again : Need-loop-again) (same-length : Need-same-length) (returns : Need-returns)
           (returns-2 : Need-returns-2) where
         lay6 : (c : Else1) → at37 (W0 (c .before .before .κs) (c .before .before .args)) (m27 (c .before))
-        lay6 = λ c. (
-          (Path'.refl, (Path'.refl, (tt, tt))),
-          returns-2 record { before = c .before; if1 = c .if1 },
-        )
+        lay6 = λ c. ((Path'.refl, (Path'.refl, (tt, tt))), returns-2 record { before = c .before; if1 = c .if1 })
 
         lay5 : (c : After-loop) → at37 (W0 (c .before .before .before .before .κs) (c .before .before .before .before .args)) (m11 (c .before))
-        lay5 = λ c. (
-          (
-            MutSlice.fix-len (Row.get 1 (T34 .locals) (m29 (c .before)) .ptr) (Row.get 1 (T34 .locals) (m29 (c .before)) .name) (Row.get 1 (T34 .locals) (m29 (c .before)) .now) (dens (c .before .before .before .before .κs) (c .before .before .before .before .args) .0 .now) (same-length record { before = c .before; loop-test = c .loop-test }),
-            (Path'.refl, (tt, tt)),
-          ),
-          returns record { before = c .before; loop-test = c .loop-test },
-        )
+        lay5 = λ c.
+            ((MutSlice.fix-len (Row.get 1 (T1 .locals) (m29 (c .before)) .ptr) (Row.get 1 (T1 .locals) (m29 (c .before)) .name) (Row.get 1 (T1 .locals) (m29 (c .before)) .now) (dens (c .before .before .before .before .κs) (c .before .before .before .before .args) .0 .now) (same-length record { before = c .before; loop-test = c .loop-test }), (Path'.refl, (tt, tt))), returns record { before = c .before; loop-test = c .loop-test })
 
         lay4 : (c : After-flip-if) → at12 (W3 (c .before .before .before .before .before) (c .before .before .before .before .loop .deps) (c .before .before .before .before .loop .k)) (m22 (c .before) (After-flip-if·gave c))
-        lay4 = λ c. (
-          Path'.refl,
-          λ g. (
-            add-k record { before = record { before = c .before; flip-if = c .flip-if }; deps = record { given = g } },
-            (
-              μ·0 (Row.get 1 (T6 .locals) (m4 (c .before .before .before .before .before .before)) .now) (Row.get 2 (T6 .locals) (m4 (c .before .before .before .before .before .before)) .now)
-                  (Row.get 3 (T6 .locals) (m4 (c .before .before .before .before .before .before))) (Row.get 4 (T6 .locals) (m4 (c .before .before .before .before .before .before))) (Row.get 1 (T6 .locals) (m26 record { before = c .before; flip-if = c .flip-if } g) .now) (Row.get 4 (T6 .locals) (m26 record { before = c .before; flip-if = c .flip-if } g)),
-              loop-less record { before = record { before = c .before; flip-if = c .flip-if }; deps = record { given = g } },
-              (
-                (Row.get 1 (T6 .locals) (m26 record { before = c .before; flip-if = c .flip-if } g) .now, Row.get 4 (T6 .locals) (m26 record { before = c .before; flip-if = c .flip-if } g)),
-                Path'.refl {a = m26 record { before = c .before; flip-if = c .flip-if } g},
-                loop-again record { before = record { before = c .before; flip-if = c .flip-if }; deps = record { given = g } },
-                Path'.refl {a = μ·0 (Row.get 1 (T6 .locals) (m4 (c .before .before .before .before .before .before)) .now) (Row.get 2 (T6 .locals)
-                    (m4 (c .before .before .before .before .before .before)) .now) (Row.get 3 (T6 .locals) (m4 (c .before .before .before .before .before .before))) (Row.get 4 (T6 .locals) (m4 (c .before .before .before .before .before .before))) (Row.get 1 (T6 .locals) (m26 record { before = c .before; flip-if = c .flip-if } g) .now)
-                    (Row.get 4 (T6 .locals) (m26 record { before = c .before; flip-if = c .flip-if } g))},
-              ),
-            ),
-          ),
-        )
+        lay4 = λ c.
+            (Path'.refl, λ g. (add-k record { before = record { before = c .before; flip-if = c .flip-if }; deps = record { given = g } }, (μ·0 (Row.get 1 (T6 .locals) (m4 (c .before .before .before .before .before .before)) .now) (Row.get 2 (T6 .locals) (m4 (c .before .before .before .before .before .before)) .now) (Row.get 3 (T6 .locals) (m4 (c .before .before .before .before .before .before))) (Row.get 4 (T6 .locals) (m4 (c .before .before .before .before .before .before))) (Row.get 1 (T6 .locals) (m26 record { before = c .before; flip-if = c .flip-if } g) .now) (Row.get 4 (T6 .locals) (m26 record { before = c .before; flip-if = c .flip-if } g)), loop-less record { before = record { before = c .before; flip-if = c .flip-if }; deps = record { given = g } }, ((Row.get 1 (T6 .locals) (m26 record { before = c .before; flip-if = c .flip-if } g) .now, Row.get 4 (T6 .locals) (m26 record { before = c .before; flip-if = c .flip-if } g)), Path'.refl {a = m26 record { before = c .before; flip-if = c .flip-if } g}, loop-again record { before = record { before = c .before; flip-if = c .flip-if }; deps = record { given = g } }, Path'.refl {a = μ·0 (Row.get 1 (T6 .locals) (m4 (c .before .before .before .before .before .before)) .now) (Row.get 2 (T6 .locals) (m4 (c .before .before .before .before .before .before)) .now) (Row.get 3 (T6 .locals) (m4 (c .before .before .before .before .before .before))) (Row.get 4 (T6 .locals) (m4 (c .before .before .before .before .before .before))) (Row.get 1 (T6 .locals) (m26 record { before = c .before; flip-if = c .flip-if } g) .now) (Row.get 4 (T6 .locals) (m26 record { before = c .before; flip-if = c .flip-if } g))}))))
 
-        lay3 : (c : In-loop) → at24 (W3 (c .before .before) (c .before .loop .deps) (c .before .loop .k)) (m9 (c .before))
-        lay3 = λ c. λ g. (
-          Path'.refl,
-          (
-            mul-flip-if record { before = record { before = c .before; loop-test = c .loop-test }; flip-if-arg = record { given = g } },
-            (
-              tt,
-              λ g'. (
-                (
-                  Path'.refl,
-                  Path'.refl,
-                  shared-slice-read-flip-if record {
-                    before = record {
-                      before = record { before = c .before; loop-test = c .loop-test };
-                      flip-if-arg = record { given = g };
-                    };
-                    shared-slice-known2 = record { given = g' };
-                  },
-                ),
-                (
-                  cast-flip-if record { before = record { before = record { before = c .before; loop-test = c .loop-test }; flip-if-arg = record { given = g } }; shared-slice-known2 = record { given = g' } },
-                  (
-                    flip-if-requires record {
-                      before = record {
-                        before = record { before = c .before; loop-test = c .loop-test };
-                        flip-if-arg = record { given = g };
-                      };
-                      shared-slice-known2 = record { given = g' };
-                    },
-                    λ g''. lay4 record {
-                      before = record {
-                        before = record { before = record { before = c .before; loop-test = c .loop-test }; flip-if-arg = record { given = g } };
-                        shared-slice-known2 = record { given = g' };
-                      };
-                      flip-if = Called.called ps·0 r·0 (claims· .1) T24 (record { pos = 10; ty = Syntax.tyRef Syntax.erased Syntax.mut Rec.behind; ref = λ x. x }, (Num.vAt 13 λ x. x, (Bool.bLit Bool'.true, tt))) (m21 record {
-                        before = record { before = c .before; loop-test = c .loop-test };
-                        flip-if-arg = record { given = g };
-                      } g') g'';
-                    },
-                  ),
-                ),
-              ),
-            ),
-          ),
-        )
+        lay3 : (c : In-loop) → at23 (W3 (c .before .before) (c .before .loop .deps) (c .before .loop .k)) (m9 (c .before))
+        lay3 = λ c. λ g.
+            (Path'.refl, (mul-flip-if record { before = record { before = c .before; loop-test = c .loop-test }; flip-if-arg = record { given = g } }, (tt, λ g'. ((Path'.refl, Path'.refl, shared-slice-read-flip-if record { before = record { before = record { before = c .before; loop-test = c .loop-test }; flip-if-arg = record { given = g } }; shared-slice-known2 = record { given = g' } }), (cast-flip-if record { before = record { before = record { before = c .before; loop-test = c .loop-test }; flip-if-arg = record { given = g } }; shared-slice-known2 = record { given = g' } }, (flip-if-requires record { before = record { before = record { before = c .before; loop-test = c .loop-test }; flip-if-arg = record { given = g } }; shared-slice-known2 = record { given = g' } }, λ g''. lay4 record { before = record { before = record { before = record { before = c .before; loop-test = c .loop-test }; flip-if-arg = record { given = g } }; shared-slice-known2 = record { given = g' } }; flip-if = Called.called ps·0 r·0 (claims· .1) T24 args·0 (m21 record { before = record { before = c .before; loop-test = c .loop-test }; flip-if-arg = record { given = g } } g') g'' }))))))
 
         lay2 : (c : After-loop) → at4 (W4 (c .before .before) (c .before .loop .deps) (c .before .loop .k)) (m8 (c .before .before) (c .before .loop .deps) (c .before .loop .k))
         lay2 = λ c. lay5 record { before = c .before; loop-test = c .loop-test }
@@ -1532,57 +1030,12 @@ module _ (claims· : Claims) where
         lay1 = λ c. lay3 record { before = c .before; loop-test = c .loop-test }
 
         pub laid : (c : Start) → at40 (W0 (c .κs) (c .args)) (m0 (c .κs) (c .args))
-        laid = λ c. λ g. (
-          λ taken. (
-            (
-              (Row.get 1 (T6 .locals) (m4 record { before = c; shared-slice-known = record { given = g } }) .now, Row.get 4 (T6 .locals) (m4 record { before = c; shared-slice-known = record { given = g } })),
-              Path'.refl {a = m4 record { before = c; shared-slice-known = record { given = g } }},
-              loop-holds record {
-                before = record { before = c; shared-slice-known = record { given = g } };
-                if1 = record { taken = taken };
-              },
-            ),
-            λ vs inv. (
-              tt,
-              (
-                λ taken'. lay1 record {
-                  before = record {
-                    before = record { before = record { before = c; shared-slice-known = record { given = g } }; if1 = record { taken = taken } };
-                    loop = record { deps = vs .0; k = vs .1; inv = inv };
-                  };
-                  loop-test = record {
-                    taken = Tests.ltb-true (Row.get 4 (T7 .locals) (m6 record { before = record { before = c; shared-slice-known = record { given = g } }; if1 = record { taken = taken } } (vs .0) (vs .1))) (Row.get 6 (T7 .locals) (m6 record {
-                      before = record { before = c; shared-slice-known = record { given = g } };
-                      if1 = record { taken = taken };
-                    } (vs .0) (vs .1))) taken';
-                  };
-                },
-                λ left. lay2 record {
-                  before = record {
-                    before = record { before = record { before = c; shared-slice-known = record { given = g } }; if1 = record { taken = taken } };
-                    loop = record { deps = vs .0; k = vs .1; inv = inv };
-                  };
-                  loop-test = record {
-                    left = Tests.ltb-false (Row.get 4 (T7 .locals) (m6 record { before = record { before = c; shared-slice-known = record { given = g } }; if1 = record { taken = taken } } (vs .0) (vs .1))) (Row.get 6 (T7 .locals) (m6 record {
-                      before = record { before = c; shared-slice-known = record { given = g } };
-                      if1 = record { taken = taken };
-                    } (vs .0) (vs .1))) left;
-                  };
-                },
-              ),
-            ),
-          ),
-          λ left. lay6 record { before = record { before = c; shared-slice-known = record { given = g } }; if1 = record { left = left } },
-        )
+        laid = λ c. λ g.
+            (λ taken. (((Row.get 1 (T6 .locals) (m4 record { before = c; shared-slice-known = record { given = g } }) .now, Row.get 4 (T6 .locals) (m4 record { before = c; shared-slice-known = record { given = g } })), Path'.refl {a = m4 record { before = c; shared-slice-known = record { given = g } }}, loop-holds record { before = record { before = c; shared-slice-known = record { given = g } }; if1 = record { taken = taken } }), λ vs inv. (tt, (λ taken'. lay1 record { before = record { before = record { before = record { before = c; shared-slice-known = record { given = g } }; if1 = record { taken = taken } }; loop = record { deps = vs .0; k = vs .1; inv = inv } }; loop-test = record { taken = Tests.ltb-true (Row.get 4 (T7 .locals) (m6 record { before = record { before = c; shared-slice-known = record { given = g } }; if1 = record { taken = taken } } (vs .0) (vs .1))) (Row.get 6 (T7 .locals) (m6 record { before = record { before = c; shared-slice-known = record { given = g } }; if1 = record { taken = taken } } (vs .0) (vs .1))) taken' } }, λ left. lay2 record { before = record { before = record { before = record { before = c; shared-slice-known = record { given = g } }; if1 = record { taken = taken } }; loop = record { deps = vs .0; k = vs .1; inv = inv } }; loop-test = record { left = Tests.ltb-false (Row.get 4 (T7 .locals) (m6 record { before = record { before = c; shared-slice-known = record { given = g } }; if1 = record { taken = taken } } (vs .0) (vs .1))) (Row.get 6 (T7 .locals) (m6 record { before = record { before = c; shared-slice-known = record { given = g } }; if1 = record { taken = taken } } (vs .0) (vs .1))) left } }))), λ left. lay6 record { before = record { before = c; shared-slice-known = record { given = g } }; if1 = record { left = left } })
 
         module _ (κs : Lifetimes.Lfts 2) (qs : Lifetimes.Shares 2) where
           pub asked : (a : Kinds.Dens κs ps) → (good : Kinds.GoodsP κs ps a) → (pre : Pre· κs a) → (bs : List.List Nat.ℕ) → Φ (Any.wantQ 2 ps r xs m κs qs a (Post· κs a)) (Function.init 2 ps r xs m κs qs a)
-          asked = λ a good pre bs. laid record {
-            κs = κs;
-            args = record { deps = a .0; list = a .1 .0; turns = a .1 .1 .0 };
-            good = good;
-            pre = pre;
-          }
+          asked = λ a good pre bs. laid record { κs = κs; args = record { deps = a .0; list = a .1 .0; turns = a .1 .1 .0 }; good = good; pre = pre }
 
         module _ {M : Type 1} (𝓤 : URA.URA M) (H : Wp.Heap 𝓤) (A : Atoms.Atoms 𝓤) (W : Kit.Given 𝓤 H A) (𝓣 : Wp.Tables 𝓤 H) (known0 : Plain.Known 𝓤 H A W 𝓣 1 ps·0 r·0 (claims· .0) (claims· .1) "records::lent::flip_if") where
           pub spec : Statement.Triple 𝓤 (Wp.WpFn 𝓤 H (𝓣 .C) (𝓣 .Λ) (Function.fnOf 2 ps r xs m hs body)) (Function.plainOf 𝓤 H A 2 ps r Pre· Post·)

@@ -100,8 +100,8 @@ abbrev pub r·0 : Kinds.RK 0
 r·0 = Rec.result
 
 abbrev pub hs : List.List Syntax.Home
-hs = List._∷_ Syntax.valueLocal (List._∷_ Syntax.valueLocal (List._∷_ Syntax.valueLocal (List._∷_ Syntax.valueLocal (List._∷_ Syntax.valueLocal (List._∷_ Syntax.valueLocal (List._∷_ Syntax.valueLocal (List._∷_ Syntax.valueLocal (List._∷_ Syntax.valueLocal (List._∷_ Syntax.valueLocal (List._∷_ Syntax.valueLocal
-    (List._∷_ Syntax.valueLocal (List._∷_ Syntax.valueLocal List.[]))))))))))))
+hs = List._∷_ Syntax.valueLocal (List._∷_ Syntax.valueLocal (List._∷_ Syntax.valueLocal (List._∷_ Syntax.valueLocal (List._∷_ Syntax.valueLocal (List._∷_ Syntax.valueLocal (List._∷_ Syntax.valueLocal (List._∷_ Syntax.valueLocal (List._∷_ Syntax.valueLocal (List._∷_ Syntax.valueLocal (List._∷_ Syntax.valueLocal (List._∷_ Syntax.valueLocal (List._∷_
+    Syntax.valueLocal List.[]))))))))))))
 
 abbrev b0 : Syntax.Body
 b0 = Syntax.assign (Syntax.place 4 List.[]) (Syntax.rvOpd (Syntax.copy (Syntax.place 3 List.[])))
@@ -190,159 +190,78 @@ body = b26
 abbrev pub Claims : Type 1
 Claims = Kinds.In 0 ps·0 × Kinds.Out 0 ps·0 r·0
 
-abbrev pub t0 : List.List Row.Entry
-t0 = List._∷_ (0, row·0) (List._∷_ (1, row·1) (List._∷_ (2, row·2) (List._∷_ (3, row·3) (List._∷_ (4, row·4) (List._∷_ (5, row·5) (List._∷_ (6, row·4) (List._∷_ (7, row·6) (List._∷_ (8, row·5) (List._∷_ (9, row·7) (List._∷_ (10, row·6) (List._∷_ (11, row·5) (List._∷_ (12, row·7) List.[]))))))))))))
-
-abbrev pub t1 : List.List Row.Entry
-t1 = List._∷_ (0, row·8) (List._∷_ (1, row·1) (List._∷_ (2, row·5) (List._∷_ (3, row·4) (List._∷_ (4, row·4) (List._∷_ (5, row·5) (List._∷_ (6, row·4) (List._∷_ (7, row·6) (List._∷_ (8, row·5) (List._∷_ (9, row·7) (List._∷_ (10, row·6) (List._∷_ (11, row·5) (List._∷_ (12, row·7) List.[]))))))))))))
-
-abbrev pub t2 : List.List Row.Entry
-t2 = List._∷_ (0, row·0) (List._∷_ (1, row·1) (List._∷_ (2, row·2) (List._∷_ (3, row·3) (List._∷_ (4, row·3) (List._∷_ (5, row·5) (List._∷_ (6, row·4) (List._∷_ (7, row·6) (List._∷_ (8, row·5) (List._∷_ (9, row·7) (List._∷_ (10, row·6) (List._∷_ (11, row·5) (List._∷_ (12, row·7) List.[]))))))))))))
-
-abbrev pub t3 : List.List Row.Entry
-t3 = List._∷_ (0, row·0) (List._∷_ (1, row·1) (List._∷_ (2, row·2) (List._∷_ (3, row·3) (List._∷_ (4, row·4) (List._∷_ (5, row·2) (List._∷_ (6, row·4) (List._∷_ (7, row·6) (List._∷_ (8, row·5) (List._∷_ (9, row·7) (List._∷_ (10, row·6) (List._∷_ (11, row·5) (List._∷_ (12, row·7) List.[]))))))))))))
-
-abbrev pub t4 : List.List Row.Entry
-t4 = List._∷_ (0, row·0) (List._∷_ (1, row·1) (List._∷_ (2, row·2) (List._∷_ (3, row·3) (List._∷_ (4, row·4) (List._∷_ (5, row·2) (List._∷_ (6, row·3) (List._∷_ (7, row·6) (List._∷_ (8, row·5) (List._∷_ (9, row·7) (List._∷_ (10, row·6) (List._∷_ (11, row·5) (List._∷_ (12, row·7) List.[]))))))))))))
-
-abbrev pub t5 : List.List Row.Entry
-t5 = List._∷_ (0, row·0) (List._∷_ (1, row·1) (List._∷_ (2, row·2) (List._∷_ (3, row·3) (List._∷_ (4, row·4) (List._∷_ (5, row·5) (List._∷_ (6, row·3) (List._∷_ (7, row·6) (List._∷_ (8, row·5) (List._∷_ (9, row·7) (List._∷_ (10, row·6) (List._∷_ (11, row·5) (List._∷_ (12, row·7) List.[]))))))))))))
-
-abbrev pub t6 : List.List Row.Entry
-t6 = List._∷_ (0, row·0) (List._∷_ (1, row·1) (List._∷_ (2, row·2) (List._∷_ (3, row·3) (List._∷_ (4, row·4) (List._∷_ (5, row·5) (List._∷_ (6, row·4) (List._∷_ (7, row·6) (List._∷_ (8, row·2) (List._∷_ (9, row·7) (List._∷_ (10, row·6) (List._∷_ (11, row·5) (List._∷_ (12, row·7) List.[]))))))))))))
-
-abbrev pub t7 : List.List Row.Entry
-t7 = List._∷_ (0, row·0) (List._∷_ (1, row·1) (List._∷_ (2, row·2) (List._∷_ (3, row·3) (List._∷_ (4, row·4) (List._∷_ (5, row·5) (List._∷_ (6, row·4) (List._∷_ (7, row·6) (List._∷_ (8, row·2) (List._∷_ (9, row·9) (List._∷_ (10, row·6) (List._∷_ (11, row·5) (List._∷_ (12, row·7) List.[]))))))))))))
-
-abbrev pub t8 : List.List Row.Entry
-t8 = List._∷_ (0, row·0) (List._∷_ (1, row·1) (List._∷_ (2, row·2) (List._∷_ (3, row·3) (List._∷_ (4, row·4) (List._∷_ (5, row·5) (List._∷_ (6, row·4) (List._∷_ (7, row·6) (List._∷_ (8, row·2) (List._∷_ (9, row·9) (List._∷_ (10, Rec.row) (List._∷_ (11, row·5) (List._∷_ (12, row·7) List.[]))))))))))))
-
-abbrev pub t9 : List.List Row.Entry
-t9 = List._∷_ (0, row·0) (List._∷_ (1, row·1) (List._∷_ (2, row·2) (List._∷_ (3, row·3) (List._∷_ (4, row·4) (List._∷_ (5, row·5) (List._∷_ (6, row·4) (List._∷_ (7, row·6) (List._∷_ (8, row·5) (List._∷_ (9, row·9) (List._∷_ (10, Rec.row) (List._∷_ (11, row·5) (List._∷_ (12, row·7) List.[]))))))))))))
-
-abbrev pub t10 : List.List Row.Entry
-t10 = List._∷_ (0, row·0) (List._∷_ (1, row·1) (List._∷_ (2, row·2) (List._∷_ (3, row·3) (List._∷_ (4, row·4) (List._∷_ (5, row·5) (List._∷_ (6, row·4) (List._∷_ (7, row·6) (List._∷_ (8, row·5) (List._∷_ (9, row·7) (List._∷_ (10, Rec.row) (List._∷_ (11, row·5) (List._∷_ (12, row·7) List.[]))))))))))))
-
-abbrev pub t11 : List.List Row.Entry
-t11 = List._∷_ (0, row·0) (List._∷_ (1, row·1) (List._∷_ (2, row·2) (List._∷_ (3, row·3) (List._∷_ (4, row·4) (List._∷_ (5, row·5) (List._∷_ (6, row·4) (List._∷_ (7, Rec.row) (List._∷_ (8, row·5) (List._∷_ (9, row·7) (List._∷_ (10, Rec.row) (List._∷_ (11, row·5) (List._∷_ (12, row·7) List.[]))))))))))))
-
-abbrev pub t12 : List.List Row.Entry
-t12 = List._∷_ (0, row·0) (List._∷_ (1, row·1) (List._∷_ (2, row·2) (List._∷_ (3, row·3) (List._∷_ (4, row·4) (List._∷_ (5, row·5) (List._∷_ (6, row·4) (List._∷_ (7, Rec.row) (List._∷_ (8, row·5) (List._∷_ (9, row·7) (List._∷_ (10, row·6) (List._∷_ (11, row·5) (List._∷_ (12, row·7) List.[]))))))))))))
-
-abbrev pub t13 : List.List Row.Entry
-t13 = List._∷_ (0, row·0) (List._∷_ (1, row·1) (List._∷_ (2, row·2) (List._∷_ (3, row·3) (List._∷_ (4, row·4) (List._∷_ (5, row·5) (List._∷_ (6, row·4) (List._∷_ (7, Rec.row) (List._∷_ (8, row·5) (List._∷_ (9, row·7) (List._∷_ (10, row·6) (List._∷_ (11, row·2) (List._∷_ (12, row·7) List.[]))))))))))))
-
-abbrev pub t14 : List.List Row.Entry
-t14 = List._∷_ (0, row·0) (List._∷_ (1, row·1) (List._∷_ (2, row·2) (List._∷_ (3, row·3) (List._∷_ (4, row·4) (List._∷_ (5, row·5) (List._∷_ (6, row·4) (List._∷_ (7, Rec.row) (List._∷_ (8, row·5) (List._∷_ (9, row·7) (List._∷_ (10, row·6) (List._∷_ (11, row·2) (List._∷_ (12, row·9) List.[]))))))))))))
-
-abbrev pub t15 : List.List Row.Entry
-t15 = List._∷_ (0, row·0) (List._∷_ (1, row·1) (List._∷_ (2, row·2) (List._∷_ (3, row·3) (List._∷_ (4, row·4) (List._∷_ (5, row·5) (List._∷_ (6, row·4) (List._∷_ (7, row·6) (List._∷_ (8, row·5) (List._∷_ (9, row·7) (List._∷_ (10, row·6) (List._∷_ (11, row·2) (List._∷_ (12, row·9) List.[]))))))))))))
-
-abbrev pub t16 : List.List Row.Entry
-t16 = List._∷_ (0, row·0) (List._∷_ (1, row·1) (List._∷_ (2, row·2) (List._∷_ (3, row·3) (List._∷_ (4, row·4) (List._∷_ (5, row·5) (List._∷_ (6, row·4) (List._∷_ (7, row·6) (List._∷_ (8, row·5) (List._∷_ (9, row·7) (List._∷_ (10, row·6) (List._∷_ (11, row·5) (List._∷_ (12, row·9) List.[]))))))))))))
-
-abbrev pub t17 : List.List Row.Entry
-t17 = List._∷_ (0, row·8) (List._∷_ (1, row·1) (List._∷_ (2, row·2) (List._∷_ (3, row·3) (List._∷_ (4, row·4) (List._∷_ (5, row·5) (List._∷_ (6, row·4) (List._∷_ (7, row·6) (List._∷_ (8, row·5) (List._∷_ (9, row·7) (List._∷_ (10, row·6) (List._∷_ (11, row·5) (List._∷_ (12, row·7) List.[]))))))))))))
-
-abbrev pub t18 : List.List Row.Entry
-t18 = List._∷_ (0, row·8) (List._∷_ (1, row·1) (List._∷_ (2, row·5) (List._∷_ (3, row·3) (List._∷_ (4, row·4) (List._∷_ (5, row·5) (List._∷_ (6, row·4) (List._∷_ (7, row·6) (List._∷_ (8, row·5) (List._∷_ (9, row·7) (List._∷_ (10, row·6) (List._∷_ (11, row·5) (List._∷_ (12, row·7) List.[]))))))))))))
-
 abbrev pub T0 : Row.Cx
-T0 = record { locals = t0; slots = List.[] }
+T0 = record { locals = List._∷_ (0, row·0) (List._∷_ (1, row·1) (List._∷_ (2, row·2) (List._∷_ (3, row·3) (List._∷_ (4, row·4) (List._∷_ (5, row·5) (List._∷_ (6, row·4) (List._∷_ (7, row·6) (List._∷_ (8, row·5) (List._∷_ (9, row·7) (List._∷_ (10, row·6) (List._∷_ (11, row·5) (List._∷_ (12, row·7) List.[])))))))))))); slots = List.[] }
 
 abbrev pub T1 : Row.Cx
-T1 = record { locals = t1; slots = List.[] }
+T1 = record { locals = List._∷_ (0, row·8) (List._∷_ (1, row·1) (List._∷_ (2, row·5) (List._∷_ (3, row·4) (List._∷_ (4, row·4) (List._∷_ (5, row·5) (List._∷_ (6, row·4) (List._∷_ (7, row·6) (List._∷_ (8, row·5) (List._∷_ (9, row·7) (List._∷_ (10, row·6) (List._∷_ (11, row·5) (List._∷_ (12, row·7) List.[])))))))))))); slots = List.[] }
 
 abbrev pub T2 : Row.Cx
-T2 = record { locals = t2; slots = List.[] }
-
-abbrev pub T3 : Row.Cx
-T3 = record { locals = t0; slots = List.[] }
-
-abbrev pub T4 : Row.Cx
-T4 = record { locals = t0; slots = List.[] }
+T2 = record { locals = List._∷_ (0, row·0) (List._∷_ (1, row·1) (List._∷_ (2, row·2) (List._∷_ (3, row·3) (List._∷_ (4, row·3) (List._∷_ (5, row·5) (List._∷_ (6, row·4) (List._∷_ (7, row·6) (List._∷_ (8, row·5) (List._∷_ (9, row·7) (List._∷_ (10, row·6) (List._∷_ (11, row·5) (List._∷_ (12, row·7) List.[])))))))))))); slots = List.[] }
 
 abbrev pub T5 : Row.Cx
-T5 = record { locals = t3; slots = List.[] }
+T5 = record { locals = List._∷_ (0, row·0) (List._∷_ (1, row·1) (List._∷_ (2, row·2) (List._∷_ (3, row·3) (List._∷_ (4, row·4) (List._∷_ (5, row·2) (List._∷_ (6, row·4) (List._∷_ (7, row·6) (List._∷_ (8, row·5) (List._∷_ (9, row·7) (List._∷_ (10, row·6) (List._∷_ (11, row·5) (List._∷_ (12, row·7) List.[])))))))))))); slots = List.[] }
 
 abbrev pub T6 : Row.Cx
-T6 = record { locals = t4; slots = List.[] }
+T6 = record { locals = List._∷_ (0, row·0) (List._∷_ (1, row·1) (List._∷_ (2, row·2) (List._∷_ (3, row·3) (List._∷_ (4, row·4) (List._∷_ (5, row·2) (List._∷_ (6, row·3) (List._∷_ (7, row·6) (List._∷_ (8, row·5) (List._∷_ (9, row·7) (List._∷_ (10, row·6) (List._∷_ (11, row·5) (List._∷_ (12, row·7) List.[])))))))))))); slots = List.[] }
 
 abbrev pub T7 : Row.Cx
-T7 = record { locals = t5; slots = List.[] }
-
-abbrev pub T8 : Row.Cx
-T8 = record { locals = t0; slots = List.[] }
+T7 = record { locals = List._∷_ (0, row·0) (List._∷_ (1, row·1) (List._∷_ (2, row·2) (List._∷_ (3, row·3) (List._∷_ (4, row·4) (List._∷_ (5, row·5) (List._∷_ (6, row·3) (List._∷_ (7, row·6) (List._∷_ (8, row·5) (List._∷_ (9, row·7) (List._∷_ (10, row·6) (List._∷_ (11, row·5) (List._∷_ (12, row·7) List.[])))))))))))); slots = List.[] }
 
 abbrev pub T9 : Row.Cx
-T9 = record { locals = t6; slots = List.[] }
+T9 = record { locals = List._∷_ (0, row·0) (List._∷_ (1, row·1) (List._∷_ (2, row·2) (List._∷_ (3, row·3) (List._∷_ (4, row·4) (List._∷_ (5, row·5) (List._∷_ (6, row·4) (List._∷_ (7, row·6) (List._∷_ (8, row·2) (List._∷_ (9, row·7) (List._∷_ (10, row·6) (List._∷_ (11, row·5) (List._∷_ (12, row·7) List.[])))))))))))); slots = List.[] }
 
 abbrev pub T10 : Row.Cx
-T10 = record { locals = t7; slots = List.[] }
+T10 = record { locals = List._∷_ (0, row·0) (List._∷_ (1, row·1) (List._∷_ (2, row·2) (List._∷_ (3, row·3) (List._∷_ (4, row·4) (List._∷_ (5, row·5) (List._∷_ (6, row·4) (List._∷_ (7, row·6) (List._∷_ (8, row·2) (List._∷_ (9, row·9) (List._∷_ (10, row·6) (List._∷_ (11, row·5) (List._∷_ (12, row·7) List.[])))))))))))); slots = List.[] }
 
 abbrev pub T11 : Row.Cx
-T11 = record { locals = t8; slots = List.[] }
+T11 = record { locals = List._∷_ (0, row·0) (List._∷_ (1, row·1) (List._∷_ (2, row·2) (List._∷_ (3, row·3) (List._∷_ (4, row·4) (List._∷_ (5, row·5) (List._∷_ (6, row·4) (List._∷_ (7, row·6) (List._∷_ (8, row·2) (List._∷_ (9, row·9) (List._∷_ (10, Rec.row) (List._∷_ (11, row·5) (List._∷_ (12, row·7) List.[])))))))))))); slots = List.[] }
 
 abbrev pub T12 : Row.Cx
-T12 = record { locals = t9; slots = List.[] }
+T12 = record { locals = List._∷_ (0, row·0) (List._∷_ (1, row·1) (List._∷_ (2, row·2) (List._∷_ (3, row·3) (List._∷_ (4, row·4) (List._∷_ (5, row·5) (List._∷_ (6, row·4) (List._∷_ (7, row·6) (List._∷_ (8, row·5) (List._∷_ (9, row·9) (List._∷_ (10, Rec.row) (List._∷_ (11, row·5) (List._∷_ (12, row·7) List.[])))))))))))); slots = List.[] }
 
 abbrev pub T13 : Row.Cx
-T13 = record { locals = t10; slots = List.[] }
+T13 = record { locals = List._∷_ (0, row·0) (List._∷_ (1, row·1) (List._∷_ (2, row·2) (List._∷_ (3, row·3) (List._∷_ (4, row·4) (List._∷_ (5, row·5) (List._∷_ (6, row·4) (List._∷_ (7, row·6) (List._∷_ (8, row·5) (List._∷_ (9, row·7) (List._∷_ (10, Rec.row) (List._∷_ (11, row·5) (List._∷_ (12, row·7) List.[])))))))))))); slots = List.[] }
 
 abbrev pub T14 : Row.Cx
-T14 = record { locals = t11; slots = List.[] }
+T14 = record { locals = List._∷_ (0, row·0) (List._∷_ (1, row·1) (List._∷_ (2, row·2) (List._∷_ (3, row·3) (List._∷_ (4, row·4) (List._∷_ (5, row·5) (List._∷_ (6, row·4) (List._∷_ (7, Rec.row) (List._∷_ (8, row·5) (List._∷_ (9, row·7) (List._∷_ (10, Rec.row) (List._∷_ (11, row·5) (List._∷_ (12, row·7) List.[])))))))))))); slots = List.[] }
 
 abbrev pub T15 : Row.Cx
-T15 = record { locals = t12; slots = List.[] }
+T15 = record { locals = List._∷_ (0, row·0) (List._∷_ (1, row·1) (List._∷_ (2, row·2) (List._∷_ (3, row·3) (List._∷_ (4, row·4) (List._∷_ (5, row·5) (List._∷_ (6, row·4) (List._∷_ (7, Rec.row) (List._∷_ (8, row·5) (List._∷_ (9, row·7) (List._∷_ (10, row·6) (List._∷_ (11, row·5) (List._∷_ (12, row·7) List.[])))))))))))); slots = List.[] }
 
 abbrev pub T16 : Row.Cx
-T16 = record { locals = t13; slots = List.[] }
+T16 = record { locals = List._∷_ (0, row·0) (List._∷_ (1, row·1) (List._∷_ (2, row·2) (List._∷_ (3, row·3) (List._∷_ (4, row·4) (List._∷_ (5, row·5) (List._∷_ (6, row·4) (List._∷_ (7, Rec.row) (List._∷_ (8, row·5) (List._∷_ (9, row·7) (List._∷_ (10, row·6) (List._∷_ (11, row·2) (List._∷_ (12, row·7) List.[])))))))))))); slots = List.[] }
 
 abbrev pub T17 : Row.Cx
-T17 = record { locals = t14; slots = List.[] }
-
-abbrev pub T18 : Row.Cx
-T18 = record { locals = t14; slots = List.[] }
+T17 = record { locals = List._∷_ (0, row·0) (List._∷_ (1, row·1) (List._∷_ (2, row·2) (List._∷_ (3, row·3) (List._∷_ (4, row·4) (List._∷_ (5, row·5) (List._∷_ (6, row·4) (List._∷_ (7, Rec.row) (List._∷_ (8, row·5) (List._∷_ (9, row·7) (List._∷_ (10, row·6) (List._∷_ (11, row·2) (List._∷_ (12, row·9) List.[])))))))))))); slots = List.[] }
 
 abbrev pub T19 : Row.Cx
-T19 = record { locals = t15; slots = List.[] }
+T19 = record { locals = List._∷_ (0, row·0) (List._∷_ (1, row·1) (List._∷_ (2, row·2) (List._∷_ (3, row·3) (List._∷_ (4, row·4) (List._∷_ (5, row·5) (List._∷_ (6, row·4) (List._∷_ (7, row·6) (List._∷_ (8, row·5) (List._∷_ (9, row·7) (List._∷_ (10, row·6) (List._∷_ (11, row·2) (List._∷_ (12, row·9) List.[])))))))))))); slots = List.[] }
 
 abbrev pub T20 : Row.Cx
-T20 = record { locals = t16; slots = List.[] }
-
-abbrev pub T21 : Row.Cx
-T21 = record { locals = t0; slots = List.[] }
-
-abbrev pub T22 : Row.Cx
-T22 = record { locals = t0; slots = List.[] }
-
-abbrev pub T23 : Row.Cx
-T23 = record { locals = t0; slots = List.[] }
+T20 = record { locals = List._∷_ (0, row·0) (List._∷_ (1, row·1) (List._∷_ (2, row·2) (List._∷_ (3, row·3) (List._∷_ (4, row·4) (List._∷_ (5, row·5) (List._∷_ (6, row·4) (List._∷_ (7, row·6) (List._∷_ (8, row·5) (List._∷_ (9, row·7) (List._∷_ (10, row·6) (List._∷_ (11, row·5) (List._∷_ (12, row·9) List.[])))))))))))); slots = List.[] }
 
 abbrev pub T24 : Row.Cx
-T24 = record { locals = t17; slots = List.[] }
+T24 = record { locals = List._∷_ (0, row·8) (List._∷_ (1, row·1) (List._∷_ (2, row·2) (List._∷_ (3, row·3) (List._∷_ (4, row·4) (List._∷_ (5, row·5) (List._∷_ (6, row·4) (List._∷_ (7, row·6) (List._∷_ (8, row·5) (List._∷_ (9, row·7) (List._∷_ (10, row·6) (List._∷_ (11, row·5) (List._∷_ (12, row·7) List.[])))))))))))); slots = List.[] }
 
 abbrev pub T25 : Row.Cx
-T25 = record { locals = t18; slots = List.[] }
-
-abbrev pub T26 : Row.Cx
-T26 = record { locals = t1; slots = List.[] }
+T25 = record { locals = List._∷_ (0, row·8) (List._∷_ (1, row·1) (List._∷_ (2, row·5) (List._∷_ (3, row·3) (List._∷_ (4, row·4) (List._∷_ (5, row·5) (List._∷_ (6, row·4) (List._∷_ (7, row·6) (List._∷_ (8, row·5) (List._∷_ (9, row·7) (List._∷_ (10, row·6) (List._∷_ (11, row·5) (List._∷_ (12, row·7) List.[])))))))))))); slots = List.[] }
 
 abbrev pub O0 : Typed.Outs
 O0 = record { next = Option.none; exits = List.[]; returns = Option.some T1 }
 
 abbrev pub O1 : Typed.Outs
-O1 = Typed.withNext (Option.some T3) O0
+O1 = Typed.withNext (Option.some T0) O0
 
 module _ (claims· : Claims) where
   abbrev s0 : Typed.Mo T0 → Typed.Mo T2
   s0 = Scalar.n-use T0 (Scalar.oAt 3 Syntax.tyBool (Row.valS Row.sBool)) 4 (Rows'.sc-here Row.sBool) (Row.sBool .of)
 
-  abbrev s1 : Typed.Mo T2 → Typed.Mo T4
+  abbrev s1 : Typed.Mo T2 → Typed.Mo T0
   s1 = Scalar.n-room T2 4 Syntax.tyBool
 
-  abbrev s2 : Typed.Mo T4 → Typed.Mo T5
-  s2 = Scalar.n-use T4 (Scalar.oFld 1 (List._∷_ (Syntax.field 1) List.[]) (Syntax.tyInt Syntax.w64) 8 Shared.lenV) 5 (Rows'.sc-here (Row.sInt Syntax.w64)) (Row.sInt Syntax.w64 .of)
+  abbrev s2 : Typed.Mo T0 → Typed.Mo T5
+  s2 = Scalar.n-use T0 (Scalar.oFld 1 (List._∷_ (Syntax.field 1) List.[]) (Syntax.tyInt Syntax.w64) 8 Shared.lenV) 5 (Rows'.sc-here (Row.sInt Syntax.w64)) (Row.sInt Syntax.w64 .of)
 
   abbrev s3 : Typed.Asks T5 T6
   s3 = Scalar.k-op2 T5 (Syntax.lt Syntax.unsigned) (Scalar.oAt 2 (Syntax.tyInt Syntax.w64) (Row.valS (Row.sInt Syntax.w64))) (Scalar.oAt 5 (Syntax.tyInt Syntax.w64) (Row.valS (Row.sInt Syntax.w64))) 6 (Rows'.sc-here Row.sBool) (Row.sBool .of)
@@ -350,11 +269,11 @@ module _ (claims· : Claims) where
   abbrev s4 : Typed.Mo T6 → Typed.Mo T7
   s4 = Scalar.n-room T6 5 (Syntax.tyInt Syntax.w64)
 
-  abbrev s5 : Typed.Mo T7 → Typed.Mo T8
+  abbrev s5 : Typed.Mo T7 → Typed.Mo T0
   s5 = Scalar.n-room T7 6 Syntax.tyBool
 
-  abbrev s6 : Typed.Asks T8 T9
-  s6 = Scalar.k-op2 T8 (Syntax.mul Syntax.unsigned) (Scalar.oAt 2 (Syntax.tyInt Syntax.w64) (Row.valS (Row.sInt Syntax.w64))) (Scalar.oInt Syntax.w64 8) 8 (Rows'.sc-here (Row.sInt Syntax.w64)) (Row.sInt Syntax.w64 .of)
+  abbrev s6 : Typed.Asks T0 T9
+  s6 = Scalar.k-op2 T0 (Syntax.mul Syntax.unsigned) (Scalar.oAt 2 (Syntax.tyInt Syntax.w64) (Row.valS (Row.sInt Syntax.w64))) (Scalar.oInt Syntax.w64 8) 8 (Rows'.sc-here (Row.sInt Syntax.w64)) (Row.sInt Syntax.w64 .of)
 
   abbrev s7 : Typed.Asks T9 T10
   s7 = Scalar.k-op2 T9 Syntax.offset (Scalar.oFld 1 (List._∷_ (Syntax.field 0) List.[]) ty·0 0 Reads.ptrVal) (Scalar.oAt 8 (Syntax.tyInt Syntax.w64) (Row.valS (Row.sInt Syntax.w64))) 9 (Rows'.sc-here Row.sPtr) (Row.sPtr .of)
@@ -369,10 +288,7 @@ module _ (claims· : Claims) where
   s10 = Scalar.n-room T12 9 Syntax.tyPtr
 
   abbrev s11 : Typed.Both T13 T14
-  s11 = Call.callB ps·0 r·0 (claims· .0) (claims· .1) T13 (
-    record { pos = 10; st = List.[]; d = 0; at = λ x. x },
-    tt,
-  ) 7 List.[] Rec.mir
+  s11 = Call.callB ps·0 r·0 (claims· .0) (claims· .1) T13 (record { pos = 10; st = List.[]; d = 0; at = λ x. x }, tt) 7 List.[] Rec.mir
 
   abbrev s12 : Typed.Mo T14 → Typed.Mo T15
   s12 = Scalar.n-room T14 10 Rec.mir
@@ -383,31 +299,31 @@ module _ (claims· : Claims) where
   abbrev s14 : Typed.Asks T16 T17
   s14 = Scalar.k-op2 T16 Syntax.offset (Scalar.oFld 1 (List._∷_ (Syntax.field 0) List.[]) ty·0 0 Reads.ptrVal) (Scalar.oAt 11 (Syntax.tyInt Syntax.w64) (Row.valS (Row.sInt Syntax.w64))) 12 (Rows'.sc-here Row.sPtr) (Row.sPtr .of)
 
-  abbrev s15 : Typed.Asks T17 T18
+  abbrev s15 : Typed.Asks T17 T17
   s15 = Move.k-sl-set-from Rec.rt T17 1 12 7 0 ty·0 Row.off Rec.row (Shared.bySize 8) (λ u. u .1 .1 .0) (λ x. x) (λ x. x) (λ x. x) λ x. x
 
-  abbrev s16 : Typed.Mo T18 → Typed.Mo T19
-  s16 = Scalar.n-room T18 7 Rec.mir
+  abbrev s16 : Typed.Mo T17 → Typed.Mo T19
+  s16 = Scalar.n-room T17 7 Rec.mir
 
   abbrev s17 : Typed.Mo T19 → Typed.Mo T20
   s17 = Scalar.n-room T19 11 (Syntax.tyInt Syntax.w64)
 
-  abbrev s18 : Typed.Mo T20 → Typed.Mo T21
+  abbrev s18 : Typed.Mo T20 → Typed.Mo T0
   s18 = Scalar.n-room T20 12 Syntax.tyPtr
 
-  abbrev s19 : Typed.Mo T7 → Typed.Mo T22
+  abbrev s19 : Typed.Mo T7 → Typed.Mo T0
   s19 = Scalar.n-room T7 6 Syntax.tyBool
 
-  abbrev s20 : Typed.Mo T2 → Typed.Mo T23
+  abbrev s20 : Typed.Mo T2 → Typed.Mo T0
   s20 = Scalar.n-room T2 4 Syntax.tyBool
 
-  abbrev s21 : Typed.Mo T3 → Typed.Mo T24
-  s21 = Scalar.n-use T3 Scalar.oUnit 0 (Rows'.sc-here Row.sUnit) (Row.sUnit .of)
+  abbrev s21 : Typed.Mo T0 → Typed.Mo T24
+  s21 = Scalar.n-use T0 Scalar.oUnit 0 (Rows'.sc-here Row.sUnit) (Row.sUnit .of)
 
   abbrev s22 : Typed.Mo T24 → Typed.Mo T25
   s22 = Scalar.n-room T24 2 (Syntax.tyInt Syntax.w64)
 
-  abbrev s23 : Typed.Mo T25 → Typed.Mo T26
+  abbrev s23 : Typed.Mo T25 → Typed.Mo T1
   s23 = Scalar.n-room T25 3 Syntax.tyBool
 
   module _ (Pre· : (κs : Lifetimes.Lfts 1) → Kinds.Dens κs ps → Type 0) (Post· : (κs : Lifetimes.Lfts 1) → (a : Kinds.Dens κs ps) → Kinds.Plain 1 ps r κs) where
@@ -417,7 +333,7 @@ module _ (claims· : Claims) where
 
     module _ where
       abbrev at0 : Typed.TF T17 O1
-      at0 = λ Ψ. Typed.ask s15 (Typed.pass T18 T19 s16 (Typed.pass T19 T20 s17 (Typed.pass T20 T21 s18 (Typed.atNext O1 Ψ))))
+      at0 = λ Ψ. Typed.ask s15 (Typed.pass T17 T19 s16 (Typed.pass T19 T20 s17 (Typed.pass T20 T0 s18 (Typed.atNext O1 Ψ))))
 
       abbrev at1 : Typed.TF T16 O1
       at1 = λ Ψ. Typed.ask s14 (at0 Ψ)
@@ -443,17 +359,17 @@ module _ (claims· : Claims) where
       abbrev at8 : Typed.TF T9 O1
       at8 = λ Ψ. Typed.ask s7 (at7 Ψ)
 
-      abbrev at9 : Typed.TF T8 O1
+      abbrev at9 : Typed.TF T0 O1
       at9 = λ Ψ. Typed.ask s6 (at8 Ψ)
 
       abbrev at10 : Typed.TF T7 O1
-      at10 = λ Ψ. Typed.pass T7 T8 s5 (at9 Ψ)
+      at10 = λ Ψ. Typed.pass T7 T0 s5 (at9 Ψ)
 
-      abbrev at11 : Typed.TF T22 O1
+      abbrev at11 : Typed.TF T0 O1
       at11 = Typed.atNext O1
 
       abbrev at12 : Typed.TF T7 O1
-      at12 = λ Ψ. Typed.pass T7 T22 s19 (at11 Ψ)
+      at12 = λ Ψ. Typed.pass T7 T0 s19 (at11 Ψ)
 
       abbrev at13 : Typed.TF T7 O1
       at13 = Scalar.Φcond T7 O1 6 (λ x. x) at10 at12
@@ -464,35 +380,35 @@ module _ (claims· : Claims) where
       abbrev at15 : Typed.TF T5 O1
       at15 = λ Ψ. Typed.ask s3 (at14 Ψ)
 
-      abbrev at16 : Typed.TF T4 O1
-      at16 = λ Ψ. Typed.pass T4 T5 s2 (at15 Ψ)
+      abbrev at16 : Typed.TF T0 O1
+      at16 = λ Ψ. Typed.pass T0 T5 s2 (at15 Ψ)
 
       abbrev at17 : Typed.TF T2 O1
-      at17 = λ Ψ. Typed.pass T2 T4 s1 (at16 Ψ)
+      at17 = λ Ψ. Typed.pass T2 T0 s1 (at16 Ψ)
 
-      abbrev at18 : Typed.TF T23 O1
+      abbrev at18 : Typed.TF T0 O1
       at18 = Typed.atNext O1
 
       abbrev at19 : Typed.TF T2 O1
-      at19 = λ Ψ. Typed.pass T2 T23 s20 (at18 Ψ)
+      at19 = λ Ψ. Typed.pass T2 T0 s20 (at18 Ψ)
 
       abbrev at20 : Typed.TF T2 O1
       at20 = Scalar.Φcond T2 O1 4 (λ x. x) at17 at19
 
-      abbrev at21 : Typed.TF T26 O0
+      abbrev at21 : Typed.TF T1 O0
       at21 = Typed.atRet O0
 
       abbrev at22 : Typed.TF T25 O0
-      at22 = λ Ψ. Typed.pass T25 T26 s23 (at21 Ψ)
+      at22 = λ Ψ. Typed.pass T25 T1 s23 (at21 Ψ)
 
       abbrev at23 : Typed.TF T24 O0
       at23 = λ Ψ. Typed.pass T24 T25 s22 (at22 Ψ)
 
-      abbrev at24 : Typed.TF T3 O0
-      at24 = λ Ψ. Typed.pass T3 T24 s21 (at23 Ψ)
+      abbrev at24 : Typed.TF T0 O0
+      at24 = λ Ψ. Typed.pass T0 T24 s21 (at23 Ψ)
 
       abbrev at25 : Typed.TF T2 O0
-      at25 = λ Ψ. at20 (Typed.wantNext T3 O0 (at24 Ψ) Ψ)
+      at25 = λ Ψ. at20 (Typed.wantNext T0 O0 (at24 Ψ) Ψ)
 
       abbrev at26 : Typed.TF T0 O0
       at26 = λ Ψ. Typed.pass T0 T2 s0 (at25 Ψ)
@@ -505,201 +421,132 @@ module _ (claims· : Claims) where
         Knowns = Plain.Known 𝓤 H A W 𝓣 0 ps·0 r·0 (claims· .0) (claims· .1) "records::record::flip"
 
       module _ (κs : Lifetimes.Lfts 1) (qs : Lifetimes.Shares 1) where
+        abbrev slots·0 : List.List Row.Life
+        slots·0 = List._∷_ (Row.lease (κs .0) (qs .0)) List.[]
+
         abbrev G0 : Row.Cx
-        G0 = record { locals = t0; slots = List._∷_ (Row.lease (κs .0) (qs .0)) List.[] }
+        G0 = record { locals = T0 .locals; slots = slots·0 }
 
         abbrev G1 : Row.Cx
-        G1 = record { locals = t1; slots = List._∷_ (Row.lease (κs .0) (qs .0)) List.[] }
+        G1 = record { locals = T1 .locals; slots = slots·0 }
 
         abbrev G2 : Row.Cx
-        G2 = record { locals = t2; slots = List._∷_ (Row.lease (κs .0) (qs .0)) List.[] }
-
-        abbrev G3 : Row.Cx
-        G3 = record { locals = t0; slots = List._∷_ (Row.lease (κs .0) (qs .0)) List.[] }
-
-        abbrev G4 : Row.Cx
-        G4 = record { locals = t0; slots = List._∷_ (Row.lease (κs .0) (qs .0)) List.[] }
+        G2 = record { locals = T2 .locals; slots = slots·0 }
 
         abbrev G5 : Row.Cx
-        G5 = record { locals = t3; slots = List._∷_ (Row.lease (κs .0) (qs .0)) List.[] }
+        G5 = record { locals = T5 .locals; slots = slots·0 }
 
         abbrev G6 : Row.Cx
-        G6 = record { locals = t4; slots = List._∷_ (Row.lease (κs .0) (qs .0)) List.[] }
+        G6 = record { locals = T6 .locals; slots = slots·0 }
 
         abbrev G7 : Row.Cx
-        G7 = record { locals = t5; slots = List._∷_ (Row.lease (κs .0) (qs .0)) List.[] }
-
-        abbrev G8 : Row.Cx
-        G8 = record { locals = t0; slots = List._∷_ (Row.lease (κs .0) (qs .0)) List.[] }
+        G7 = record { locals = T7 .locals; slots = slots·0 }
 
         abbrev G9 : Row.Cx
-        G9 = record { locals = t6; slots = List._∷_ (Row.lease (κs .0) (qs .0)) List.[] }
+        G9 = record { locals = T9 .locals; slots = slots·0 }
 
         abbrev G10 : Row.Cx
-        G10 = record { locals = t7; slots = List._∷_ (Row.lease (κs .0) (qs .0)) List.[] }
+        G10 = record { locals = T10 .locals; slots = slots·0 }
 
         abbrev G11 : Row.Cx
-        G11 = record { locals = t8; slots = List._∷_ (Row.lease (κs .0) (qs .0)) List.[] }
+        G11 = record { locals = T11 .locals; slots = slots·0 }
 
         abbrev G12 : Row.Cx
-        G12 = record { locals = t9; slots = List._∷_ (Row.lease (κs .0) (qs .0)) List.[] }
+        G12 = record { locals = T12 .locals; slots = slots·0 }
 
         abbrev G13 : Row.Cx
-        G13 = record { locals = t10; slots = List._∷_ (Row.lease (κs .0) (qs .0)) List.[] }
+        G13 = record { locals = T13 .locals; slots = slots·0 }
 
         abbrev G14 : Row.Cx
-        G14 = record { locals = t11; slots = List._∷_ (Row.lease (κs .0) (qs .0)) List.[] }
+        G14 = record { locals = T14 .locals; slots = slots·0 }
 
         abbrev G15 : Row.Cx
-        G15 = record { locals = t12; slots = List._∷_ (Row.lease (κs .0) (qs .0)) List.[] }
+        G15 = record { locals = T15 .locals; slots = slots·0 }
 
         abbrev G16 : Row.Cx
-        G16 = record { locals = t13; slots = List._∷_ (Row.lease (κs .0) (qs .0)) List.[] }
+        G16 = record { locals = T16 .locals; slots = slots·0 }
 
         abbrev G17 : Row.Cx
-        G17 = record { locals = t14; slots = List._∷_ (Row.lease (κs .0) (qs .0)) List.[] }
-
-        abbrev G18 : Row.Cx
-        G18 = record { locals = t14; slots = List._∷_ (Row.lease (κs .0) (qs .0)) List.[] }
+        G17 = record { locals = T17 .locals; slots = slots·0 }
 
         abbrev G19 : Row.Cx
-        G19 = record { locals = t15; slots = List._∷_ (Row.lease (κs .0) (qs .0)) List.[] }
+        G19 = record { locals = T19 .locals; slots = slots·0 }
 
         abbrev G20 : Row.Cx
-        G20 = record { locals = t16; slots = List._∷_ (Row.lease (κs .0) (qs .0)) List.[] }
-
-        abbrev G21 : Row.Cx
-        G21 = record { locals = t0; slots = List._∷_ (Row.lease (κs .0) (qs .0)) List.[] }
-
-        abbrev G22 : Row.Cx
-        G22 = record { locals = t0; slots = List._∷_ (Row.lease (κs .0) (qs .0)) List.[] }
-
-        abbrev G23 : Row.Cx
-        G23 = record { locals = t0; slots = List._∷_ (Row.lease (κs .0) (qs .0)) List.[] }
+        G20 = record { locals = T20 .locals; slots = slots·0 }
 
         abbrev G24 : Row.Cx
-        G24 = record { locals = t17; slots = List._∷_ (Row.lease (κs .0) (qs .0)) List.[] }
+        G24 = record { locals = T24 .locals; slots = slots·0 }
 
         abbrev G25 : Row.Cx
-        G25 = record { locals = t18; slots = List._∷_ (Row.lease (κs .0) (qs .0)) List.[] }
-
-        abbrev G26 : Row.Cx
-        G26 = record { locals = t1; slots = List._∷_ (Row.lease (κs .0) (qs .0)) List.[] }
+        G25 = record { locals = T25 .locals; slots = slots·0 }
 
         abbrev Δ0 : Typed.Outs
         Δ0 = record { next = Option.none; exits = List.[]; returns = Option.some G1 }
 
         abbrev Δ1 : Typed.Outs
-        Δ1 = Typed.withNext (Option.some G3) Δ0
+        Δ1 = Typed.withNext (Option.some G0) Δ0
 
         module _ {M : Type 1} (𝓤 : URA.URA M) (H : Wp.Heap 𝓤) (A : Atoms.Atoms 𝓤) (W : Kit.Given 𝓤 H A) (𝓣 : Wp.Tables 𝓤 H) (known : Knowns 𝓤 H A W 𝓣) (bs : List.List Nat.ℕ) (bd : Lifetimes.AllOutlive 1 (Kinds.osR r) κs) where
           abbrev E : Wp.Env 𝓤 H
           E = Frame.EnvOf 𝓤 H (List._∷_ (Kinds.tyR r) (Enter.tysP ps xs)) bs
 
           d0 : Typed.Typed 𝓤 H A 𝓣 E G17 b9 Δ1 at0
-          d0 = Typed.s-typed 𝓤 H A W 𝓣 E G17 b9 Δ1 (λ Ψ. Typed.ask s15 (Typed.pass T18 T19 s16 (Typed.pass T19 T20 s17 (Typed.pass T20 T21 s18 Ψ)))) tt (Typed.g-post 𝓤 H A W 𝓣 E G17 G20 G21 b9 (λ Ψ. Typed.ask s15 (Typed.pass T18 T19 s16 (Typed.pass T19 T20 s17 Ψ))) (Typed.pass T20 T21 s18) (Typed.g-post 𝓤 H A W 𝓣 E G17 G19 G20 b9
-              (λ Ψ. Typed.ask s15 (Typed.pass T18 T19 s16 Ψ)) (Typed.pass T19 T20 s17) (Typed.g-post 𝓤 H A W 𝓣 E G17 G18 G19 b9 (Typed.ask s15) (Typed.pass T18 T19 s16) (Move.t-sl-set-from 𝓤 H A W E Rec.rt 𝓣 Path'.refl (λ ρ. Unit) G17 1 12 7 0 ty·0 (Row.lease (κs .0) (qs .0)) Rec.mir Rec.mir Rec.row (Shared.bySize 8) (λ u. u .1 .1 .0) (λ x. x) (λ x. x)
-              (λ x. x) (λ x. x) (λ i o. Elements.at-mul o 8 i) Path'.refl Path'.refl (Own.told-none 𝓤 H A (G17 .slots)) (Reads.as-is 𝓤 H A (Mut.mslice Rec.rt ty·0 0)) (Reads.as-is 𝓤 H A (Rows'.sc-here Row.sPtr)) (Yields.yields-copy 𝓤 H A W (λ ρ. Unit) Rec.rt Path'.refl (Rec.cp .copy 𝓤 H A W) Rec.row (λ x. x) (λ x. x)
-              (λ ρ told. Loc.mem-whole 𝓤 H A W Rec.rt ρ) λ ρ told. Loc.whole-mem 𝓤 H A W Rec.rt ρ) Path'.refl tt Path'.refl Path'.refl) (Scalar.g-room 𝓤 H A W E G18 7 Rec.mir (Loc.room-whole 𝓤 H A W Rec.rt Rec.mir Path'.refl))) (Scalar.g-room 𝓤 H A W E G19 11 (Syntax.tyInt Syntax.w64) (Scalar.room-sc 𝓤 H A W (Row.sInt Syntax.w64))))
-              (Scalar.g-room 𝓤 H A W E G20 12 Syntax.tyPtr (Scalar.room-sc 𝓤 H A W Row.sPtr)))
-
-          d1 : Typed.Typed 𝓤 H A 𝓣 E G16 b10 Δ1 at1
-          d1 = Typed.s-seq 𝓤 H A W 𝓣 E G16 G17 b8 b9 Δ1 (Typed.ask s14) at0 (Scalar.t-op2 𝓤 H A W E 𝓣 G16 Syntax.offset (Scalar.oFld 1 (List._∷_ (Syntax.field 0) List.[]) ty·0 0 Reads.ptrVal) (Scalar.oAt 11 (Syntax.tyInt Syntax.w64) (Row.valS (Row.sInt Syntax.w64))) 12 (Rows'.sc-here Row.sPtr) Syntax.tyPtr (Row.valS Row.sPtr) (Row.sPtr .of) (
-            Mut.reads-mslice-ptr 𝓤 H A W Rec.rt ty·0 0 0 Path'.refl,
-            Path'.refl,
-          ) (Scalar.reads-sc 𝓤 H A W (Row.sInt Syntax.w64), Path'.refl) (Reads.room-gone 𝓤 H A Syntax.tyPtr) (Scalar.holds-sc 𝓤 H A W Row.sPtr) Path'.refl (λ u. Path'.refl) λ u. tt) d0
+          d0 = Typed.s-typed 𝓤 H A W 𝓣 E G17 b9 Δ1 (λ Ψ. Typed.ask s15 (Typed.pass T17 T19 s16 (Typed.pass T19 T20 s17 (Typed.pass T20 T0 s18 Ψ)))) tt (Typed.g-post 𝓤 H A W 𝓣 E G17 G20 G0 b9 (λ Ψ. Typed.ask s15 (Typed.pass T17 T19 s16 (Typed.pass T19 T20 s17 Ψ))) (Typed.pass T20 T0 s18) (Typed.g-post 𝓤 H A W 𝓣 E G17 G19 G20 b9 (λ Ψ. Typed.ask s15 (Typed.pass
+              T17 T19 s16 Ψ)) (Typed.pass T19 T20 s17) (Typed.g-post 𝓤 H A W 𝓣 E G17 G17 G19 b9 (Typed.ask s15) (Typed.pass T17 T19 s16) (Move.t-sl-set-from 𝓤 H A W E Rec.rt 𝓣 Path'.refl (λ ρ. Unit) G17 1 12 7 0 ty·0 (Row.lease (κs .0) (qs .0)) Rec.mir Rec.mir Rec.row (Shared.bySize 8) (λ u. u .1 .1 .0) (λ x. x) (λ x. x) (λ x. x) (λ x. x) (λ i o. Elements.at-mul
+              o 8 i) Path'.refl Path'.refl (Own.told-none 𝓤 H A (G17 .slots)) (Reads.as-is 𝓤 H A (Mut.mslice Rec.rt ty·0 0)) (Reads.as-is 𝓤 H A (Rows'.sc-here Row.sPtr)) (Yields.yields-copy 𝓤 H A W (λ ρ. Unit) Rec.rt Path'.refl (Rec.cp .copy 𝓤 H A W) Rec.row (λ x. x) (λ x. x) (λ ρ told. Loc.mem-whole 𝓤 H A W Rec.rt ρ) λ ρ told. Loc.whole-mem 𝓤 H A W Rec.rt ρ)
+              Path'.refl tt Path'.refl Path'.refl) (Scalar.g-room 𝓤 H A W E G17 7 Rec.mir (Loc.room-whole 𝓤 H A W Rec.rt Rec.mir Path'.refl))) (Scalar.g-room 𝓤 H A W E G19 11 (Syntax.tyInt Syntax.w64) (Scalar.room-sc 𝓤 H A W (Row.sInt Syntax.w64)))) (Scalar.g-room 𝓤 H A W E G20 12 Syntax.tyPtr (Scalar.room-sc 𝓤 H A W Row.sPtr)))
 
           d2 : Typed.Typed 𝓤 H A 𝓣 E G15 b11 Δ1 at2
-          d2 = Typed.s-seq 𝓤 H A W 𝓣 E G15 G16 b7 b10 Δ1 (Typed.ask s13) at1 (Scalar.t-op2 𝓤 H A W E 𝓣 G15 (Syntax.mul Syntax.unsigned) (Scalar.oAt 2 (Syntax.tyInt Syntax.w64) (Row.valS (Row.sInt Syntax.w64))) (Scalar.oInt Syntax.w64 8) 11 (Rows'.sc-here (Row.sInt Syntax.w64)) (Syntax.tyInt Syntax.w64) (Row.valS (Row.sInt Syntax.w64))
-              (Row.sInt Syntax.w64 .of) (Scalar.reads-sc 𝓤 H A W (Row.sInt Syntax.w64), Path'.refl) tt (Reads.room-gone 𝓤 H A (Syntax.tyInt Syntax.w64)) (Scalar.holds-sc 𝓤 H A W (Row.sInt Syntax.w64)) Path'.refl (λ u. Path'.refl) λ u. tt) d1
-
-          d3 : Typed.Typed 𝓤 H A 𝓣 E G14 b11 Δ1 at3
-          d3 = Typed.g-pre 𝓤 H A W 𝓣 E G14 G15 b11 Δ1 (Typed.pass T14 T15 s12) at2 (Scalar.g-room 𝓤 H A W E G14 10 Rec.mir (Loc.room-whole 𝓤 H A W Rec.rt Rec.mir Path'.refl)) d2
-
-          d4 : Typed.Typed 𝓤 H A 𝓣 E G13 b12 Δ1 at4
-          d4 = Typed.s-seq 𝓤 H A W 𝓣 E G13 G14 b6 b11 Δ1 (Typed.both s11) at3 (Plain.t-call-plain 𝓤 H A W 𝓣 0 ps·0 r·0 (claims· .0) (claims· .1) "records::record::flip" known E (λ pos β. β) G13 (record { pos = 10; st = List.[]; d = 0; at = λ x. x }, tt) 7 List.[] (Call.sub-id 𝓤 H A W (G13 .slots)) ((Rec.yields 𝓤 H A W, Path'.refl), tt)
-              (Reads.room-gone 𝓤 H A Rec.mir) tt Path'.refl) d3
-
-          d5 : Typed.Typed 𝓤 H A 𝓣 E G12 b12 Δ1 at5
-          d5 = Typed.g-pre 𝓤 H A W 𝓣 E G12 G13 b12 Δ1 (Typed.pass T12 T13 s10) at4 (Scalar.g-room 𝓤 H A W E G12 9 Syntax.tyPtr (Scalar.room-sc 𝓤 H A W Row.sPtr)) d4
-
-          d6 : Typed.Typed 𝓤 H A 𝓣 E G11 b12 Δ1 at6
-          d6 = Typed.g-pre 𝓤 H A W 𝓣 E G11 G12 b12 Δ1 (Typed.pass T11 T12 s9) at5 (Scalar.g-room 𝓤 H A W E G11 8 (Syntax.tyInt Syntax.w64) (Scalar.room-sc 𝓤 H A W (Row.sInt Syntax.w64))) d5
+          d2 = Typed.s-seq 𝓤 H A W 𝓣 E G15 G16 b7 b10 Δ1 (Typed.ask s13) at1 (Scalar.t-op2 𝓤 H A W E 𝓣 G15 (Syntax.mul Syntax.unsigned) (Scalar.oAt 2 (Syntax.tyInt Syntax.w64) (Row.valS (Row.sInt Syntax.w64))) (Scalar.oInt Syntax.w64 8) 11 (Rows'.sc-here (Row.sInt Syntax.w64)) (Syntax.tyInt Syntax.w64) (Row.valS (Row.sInt Syntax.w64)) (Row.sInt Syntax.w64
+              .of) (Scalar.reads-sc 𝓤 H A W (Row.sInt Syntax.w64), Path'.refl) tt (Reads.room-gone 𝓤 H A (Syntax.tyInt Syntax.w64)) (Scalar.holds-sc 𝓤 H A W (Row.sInt Syntax.w64)) Path'.refl (λ u. Path'.refl) λ u. tt) (Typed.s-seq 𝓤 H A W 𝓣 E G16 G17 b8 b9 Δ1 (Typed.ask s14) at0 (Scalar.t-op2 𝓤 H A W E 𝓣 G16 Syntax.offset (Scalar.oFld 1 (List._∷_ (Syntax.field
+              0) List.[]) ty·0 0 Reads.ptrVal) (Scalar.oAt 11 (Syntax.tyInt Syntax.w64) (Row.valS (Row.sInt Syntax.w64))) 12 (Rows'.sc-here Row.sPtr) Syntax.tyPtr (Row.valS Row.sPtr) (Row.sPtr .of) (Mut.reads-mslice-ptr 𝓤 H A W Rec.rt ty·0 0 0 Path'.refl, Path'.refl) (Scalar.reads-sc 𝓤 H A W (Row.sInt Syntax.w64), Path'.refl) (Reads.room-gone 𝓤 H A Syntax.tyPtr)
+              (Scalar.holds-sc 𝓤 H A W Row.sPtr) Path'.refl (λ u. Path'.refl) λ u. tt) d0)
 
           d7 : Typed.Typed 𝓤 H A 𝓣 E G10 b13 Δ1 at7
           d7 = Typed.s-seq 𝓤 H A W 𝓣 E G10 G11 b5 b12 Δ1 (Typed.both s8) at6 (Move.t-sl-copy-out 𝓤 H A W E Rec.rt 𝓣 Path'.refl (Rec.cp .copy 𝓤 H A W) (λ ρ. Unit) G10 1 9 10 0 ty·0 (Row.lease (κs .0) (qs .0)) Rec.mir Rec.mir Rec.row (Shared.bySize 8) (λ u. u .1 .1 .0) (λ x. x) Rec.default (λ x. Unit) (λ x. x) (λ x. x) (λ i o. Elements.at-mul o 8 i) Path'.refl
-              Path'.refl (Own.told-none 𝓤 H A (G10 .slots)) (DerefMove.learns-nothing 𝓤 H A Rec.rt) (Reads.as-is 𝓤 H A (Mut.mslice Rec.rt ty·0 0)) (Reads.as-is 𝓤 H A (Rows'.sc-here Row.sPtr)) (Reads.room-gone 𝓤 H A Rec.mir) (Yields.makes-mem 𝓤 H A W (λ ρ. Unit) Rec.rt Path'.refl Rec.row (λ x. x) λ ρ told. Loc.whole-mem 𝓤 H A W Rec.rt ρ) Path'.refl tt
-              Path'.refl Path'.refl) d6
+              Path'.refl (Own.told-none 𝓤 H A (G10 .slots)) (DerefMove.learns-nothing 𝓤 H A Rec.rt) (Reads.as-is 𝓤 H A (Mut.mslice Rec.rt ty·0 0)) (Reads.as-is 𝓤 H A (Rows'.sc-here Row.sPtr)) (Reads.room-gone 𝓤 H A Rec.mir) (Yields.makes-mem 𝓤 H A W (λ ρ. Unit) Rec.rt Path'.refl Rec.row (λ x. x) λ ρ told. Loc.whole-mem 𝓤 H A W Rec.rt ρ) Path'.refl tt Path'.refl
+              Path'.refl) (Typed.g-pre 𝓤 H A W 𝓣 E G11 G12 b12 Δ1 (Typed.pass T11 T12 s9) at5 (Scalar.g-room 𝓤 H A W E G11 8 (Syntax.tyInt Syntax.w64) (Scalar.room-sc 𝓤 H A W (Row.sInt Syntax.w64))) (Typed.g-pre 𝓤 H A W 𝓣 E G12 G13 b12 Δ1 (Typed.pass T12 T13 s10) at4 (Scalar.g-room 𝓤 H A W E G12 9 Syntax.tyPtr (Scalar.room-sc 𝓤 H A W Row.sPtr)) (Typed.s-seq 𝓤 H
+              A W 𝓣 E G13 G14 b6 b11 Δ1 (Typed.both s11) at3 (Plain.t-call-plain 𝓤 H A W 𝓣 0 ps·0 r·0 (claims· .0) (claims· .1) "records::record::flip" known E (λ pos β. β) G13 (record { pos = 10; st = List.[]; d = 0; at = λ x. x }, tt) 7 List.[] (Call.sub-id 𝓤 H A W (G13 .slots)) ((Rec.yields 𝓤 H A W, Path'.refl), tt) (Reads.room-gone 𝓤 H A Rec.mir) tt
+              Path'.refl) (Typed.g-pre 𝓤 H A W 𝓣 E G14 G15 b11 Δ1 (Typed.pass T14 T15 s12) at2 (Scalar.g-room 𝓤 H A W E G14 10 Rec.mir (Loc.room-whole 𝓤 H A W Rec.rt Rec.mir Path'.refl)) d2))))
 
-          d8 : Typed.Typed 𝓤 H A 𝓣 E G9 b14 Δ1 at8
-          d8 = Typed.s-seq 𝓤 H A W 𝓣 E G9 G10 b4 b13 Δ1 (Typed.ask s7) at7 (Scalar.t-op2 𝓤 H A W E 𝓣 G9 Syntax.offset (Scalar.oFld 1 (List._∷_ (Syntax.field 0) List.[]) ty·0 0 Reads.ptrVal) (Scalar.oAt 8 (Syntax.tyInt Syntax.w64) (Row.valS (Row.sInt Syntax.w64))) 9 (Rows'.sc-here Row.sPtr) Syntax.tyPtr (Row.valS Row.sPtr) (Row.sPtr .of) (
-            Mut.reads-mslice-ptr 𝓤 H A W Rec.rt ty·0 0 0 Path'.refl,
-            Path'.refl,
-          ) (Scalar.reads-sc 𝓤 H A W (Row.sInt Syntax.w64), Path'.refl) (Reads.room-gone 𝓤 H A Syntax.tyPtr) (Scalar.holds-sc 𝓤 H A W Row.sPtr) Path'.refl (λ u. Path'.refl) λ u. tt) d7
+          d9 : Typed.Typed 𝓤 H A 𝓣 E G0 b15 Δ1 at9
+          d9 = Typed.s-seq 𝓤 H A W 𝓣 E G0 G9 b3 b14 Δ1 (Typed.ask s6) at8 (Scalar.t-op2 𝓤 H A W E 𝓣 G0 (Syntax.mul Syntax.unsigned) (Scalar.oAt 2 (Syntax.tyInt Syntax.w64) (Row.valS (Row.sInt Syntax.w64))) (Scalar.oInt Syntax.w64 8) 8 (Rows'.sc-here (Row.sInt Syntax.w64)) (Syntax.tyInt Syntax.w64) (Row.valS (Row.sInt Syntax.w64)) (Row.sInt Syntax.w64 .of)
+              (Scalar.reads-sc 𝓤 H A W (Row.sInt Syntax.w64), Path'.refl) tt (Reads.room-gone 𝓤 H A (Syntax.tyInt Syntax.w64)) (Scalar.holds-sc 𝓤 H A W (Row.sInt Syntax.w64)) Path'.refl (λ u. Path'.refl) λ u. tt) (Typed.s-seq 𝓤 H A W 𝓣 E G9 G10 b4 b13 Δ1 (Typed.ask s7) at7 (Scalar.t-op2 𝓤 H A W E 𝓣 G9 Syntax.offset (Scalar.oFld 1 (List._∷_ (Syntax.field 0)
+              List.[]) ty·0 0 Reads.ptrVal) (Scalar.oAt 8 (Syntax.tyInt Syntax.w64) (Row.valS (Row.sInt Syntax.w64))) 9 (Rows'.sc-here Row.sPtr) Syntax.tyPtr (Row.valS Row.sPtr) (Row.sPtr .of) (Mut.reads-mslice-ptr 𝓤 H A W Rec.rt ty·0 0 0 Path'.refl, Path'.refl) (Scalar.reads-sc 𝓤 H A W (Row.sInt Syntax.w64), Path'.refl) (Reads.room-gone 𝓤 H A Syntax.tyPtr)
+              (Scalar.holds-sc 𝓤 H A W Row.sPtr) Path'.refl (λ u. Path'.refl) λ u. tt) d7)
 
-          d9 : Typed.Typed 𝓤 H A 𝓣 E G8 b15 Δ1 at9
-          d9 = Typed.s-seq 𝓤 H A W 𝓣 E G8 G9 b3 b14 Δ1 (Typed.ask s6) at8 (Scalar.t-op2 𝓤 H A W E 𝓣 G8 (Syntax.mul Syntax.unsigned) (Scalar.oAt 2 (Syntax.tyInt Syntax.w64) (Row.valS (Row.sInt Syntax.w64))) (Scalar.oInt Syntax.w64 8) 8 (Rows'.sc-here (Row.sInt Syntax.w64)) (Syntax.tyInt Syntax.w64) (Row.valS (Row.sInt Syntax.w64)) (Row.sInt Syntax.w64 .of)
-              (Scalar.reads-sc 𝓤 H A W (Row.sInt Syntax.w64), Path'.refl) tt (Reads.room-gone 𝓤 H A (Syntax.tyInt Syntax.w64)) (Scalar.holds-sc 𝓤 H A W (Row.sInt Syntax.w64)) Path'.refl (λ u. Path'.refl) λ u. tt) d8
-
-          d10 : Typed.Typed 𝓤 H A 𝓣 E G7 b15 Δ1 at10
-          d10 = Typed.g-pre 𝓤 H A W 𝓣 E G7 G8 b15 Δ1 (Typed.pass T7 T8 s5) at9 (Scalar.g-room 𝓤 H A W E G7 6 Syntax.tyBool (Scalar.room-sc 𝓤 H A W Row.sBool)) d9
-
-          d11 : Typed.Typed 𝓤 H A 𝓣 E G22 b16 Δ1 at11
+          d11 : Typed.Typed 𝓤 H A 𝓣 E G0 b16 Δ1 at11
           d11 = Typed.t-skip 𝓤 H A W 𝓣 E Δ1 tt
 
-          d12 : Typed.Typed 𝓤 H A 𝓣 E G7 b16 Δ1 at12
-          d12 = Typed.g-pre 𝓤 H A W 𝓣 E G7 G22 b16 Δ1 (Typed.pass T7 T22 s19) at11 (Scalar.g-room 𝓤 H A W E G7 6 Syntax.tyBool (Scalar.room-sc 𝓤 H A W Row.sBool)) d11
-
           d13 : Typed.Typed 𝓤 H A 𝓣 E G7 b17 Δ1 at13
-          d13 = Scalar.t-cond 𝓤 H A W E 𝓣 G7 6 (λ x. x) b15 b16 Δ1 at10 at12 (Scalar.reads-sc 𝓤 H A W Row.sBool) Path'.refl d10 d12
+          d13 = Scalar.t-cond 𝓤 H A W E 𝓣 G7 6 (λ x. x) b15 b16 Δ1 at10 at12 (Scalar.reads-sc 𝓤 H A W Row.sBool) Path'.refl (Typed.g-pre 𝓤 H A W 𝓣 E G7 G0 b15 Δ1 (Typed.pass T7 T0 s5) at9 (Scalar.g-room 𝓤 H A W E G7 6 Syntax.tyBool (Scalar.room-sc 𝓤 H A W Row.sBool)) d9) (Typed.g-pre 𝓤 H A W 𝓣 E G7 G0 b16 Δ1 (Typed.pass T7 T0 s19) at11 (Scalar.g-room 𝓤 H A W
+              E G7 6 Syntax.tyBool (Scalar.room-sc 𝓤 H A W Row.sBool)) d11)
 
-          d14 : Typed.Typed 𝓤 H A 𝓣 E G6 b17 Δ1 at14
-          d14 = Typed.g-pre 𝓤 H A W 𝓣 E G6 G7 b17 Δ1 (Typed.pass T6 T7 s4) at13 (Scalar.g-room 𝓤 H A W E G6 5 (Syntax.tyInt Syntax.w64) (Scalar.room-sc 𝓤 H A W (Row.sInt Syntax.w64))) d13
+          d16 : Typed.Typed 𝓤 H A 𝓣 E G0 b19 Δ1 at16
+          d16 = Typed.s-seq 𝓤 H A W 𝓣 E G0 G5 b1 b18 Δ1 (Typed.pass T0 T5 s2) at15 (Scalar.t-use 𝓤 H A W E 𝓣 G0 (Scalar.oFld 1 (List._∷_ (Syntax.field 1) List.[]) (Syntax.tyInt Syntax.w64) 8 Shared.lenV) 5 (Rows'.sc-here (Row.sInt Syntax.w64)) (Syntax.tyInt Syntax.w64) (Row.valS (Row.sInt Syntax.w64)) (Row.sInt Syntax.w64 .of)
+              (Mut.reads-mslice-len 𝓤 H A W Rec.rt ty·0 0 8 Path'.refl, Path'.refl) (Reads.room-gone 𝓤 H A (Syntax.tyInt Syntax.w64)) (Scalar.holds-sc 𝓤 H A W (Row.sInt Syntax.w64)) Path'.refl (λ u. Path'.refl) λ u. tt) (Typed.s-seq 𝓤 H A W 𝓣 E G5 G6 b2 b17 Δ1 (Typed.ask s3) at14 (Scalar.t-op2 𝓤 H A W E 𝓣 G5 (Syntax.lt Syntax.unsigned) (Scalar.oAt 2
+              (Syntax.tyInt Syntax.w64) (Row.valS (Row.sInt Syntax.w64))) (Scalar.oAt 5 (Syntax.tyInt Syntax.w64) (Row.valS (Row.sInt Syntax.w64))) 6 (Rows'.sc-here Row.sBool) Syntax.tyBool (Row.valS Row.sBool) (Row.sBool .of) (Scalar.reads-sc 𝓤 H A W (Row.sInt Syntax.w64), Path'.refl) (Scalar.reads-sc 𝓤 H A W (Row.sInt Syntax.w64), Path'.refl) (Reads.room-gone
+              𝓤 H A Syntax.tyBool) (Scalar.holds-sc 𝓤 H A W Row.sBool) Path'.refl (λ u. Path'.refl) λ u. tt) (Typed.g-pre 𝓤 H A W 𝓣 E G6 G7 b17 Δ1 (Typed.pass T6 T7 s4) at13 (Scalar.g-room 𝓤 H A W E G6 5 (Syntax.tyInt Syntax.w64) (Scalar.room-sc 𝓤 H A W (Row.sInt Syntax.w64))) d13))
 
-          d15 : Typed.Typed 𝓤 H A 𝓣 E G5 b18 Δ1 at15
-          d15 = Typed.s-seq 𝓤 H A W 𝓣 E G5 G6 b2 b17 Δ1 (Typed.ask s3) at14 (Scalar.t-op2 𝓤 H A W E 𝓣 G5 (Syntax.lt Syntax.unsigned) (Scalar.oAt 2 (Syntax.tyInt Syntax.w64) (Row.valS (Row.sInt Syntax.w64))) (Scalar.oAt 5 (Syntax.tyInt Syntax.w64) (Row.valS (Row.sInt Syntax.w64))) 6 (Rows'.sc-here Row.sBool) Syntax.tyBool (Row.valS Row.sBool) (Row.sBool .of)
-              (Scalar.reads-sc 𝓤 H A W (Row.sInt Syntax.w64), Path'.refl) (Scalar.reads-sc 𝓤 H A W (Row.sInt Syntax.w64), Path'.refl) (Reads.room-gone 𝓤 H A Syntax.tyBool) (Scalar.holds-sc 𝓤 H A W Row.sBool) Path'.refl (λ u. Path'.refl) λ u. tt) d14
-
-          d16 : Typed.Typed 𝓤 H A 𝓣 E G4 b19 Δ1 at16
-          d16 = Typed.s-seq 𝓤 H A W 𝓣 E G4 G5 b1 b18 Δ1 (Typed.pass T4 T5 s2) at15 (Scalar.t-use 𝓤 H A W E 𝓣 G4 (Scalar.oFld 1 (List._∷_ (Syntax.field 1) List.[]) (Syntax.tyInt Syntax.w64) 8 Shared.lenV) 5 (Rows'.sc-here (Row.sInt Syntax.w64)) (Syntax.tyInt Syntax.w64) (Row.valS (Row.sInt Syntax.w64)) (Row.sInt Syntax.w64 .of) (
-            Mut.reads-mslice-len 𝓤 H A W
-                Rec.rt ty·0 0 8 Path'.refl,
-            Path'.refl,
-          ) (Reads.room-gone 𝓤 H A (Syntax.tyInt Syntax.w64)) (Scalar.holds-sc 𝓤 H A W (Row.sInt Syntax.w64)) Path'.refl (λ u. Path'.refl) λ u. tt) d15
-
-          d17 : Typed.Typed 𝓤 H A 𝓣 E G2 b19 Δ1 at17
-          d17 = Typed.g-pre 𝓤 H A W 𝓣 E G2 G4 b19 Δ1 (Typed.pass T2 T4 s1) at16 (Scalar.g-room 𝓤 H A W E G2 4 Syntax.tyBool (Scalar.room-sc 𝓤 H A W Row.sBool)) d16
-
-          d18 : Typed.Typed 𝓤 H A 𝓣 E G23 b20 Δ1 at18
+          d18 : Typed.Typed 𝓤 H A 𝓣 E G0 b20 Δ1 at18
           d18 = Typed.t-skip 𝓤 H A W 𝓣 E Δ1 tt
 
-          d19 : Typed.Typed 𝓤 H A 𝓣 E G2 b20 Δ1 at19
-          d19 = Typed.g-pre 𝓤 H A W 𝓣 E G2 G23 b20 Δ1 (Typed.pass T2 T23 s20) at18 (Scalar.g-room 𝓤 H A W E G2 4 Syntax.tyBool (Scalar.room-sc 𝓤 H A W Row.sBool)) d18
-
           d20 : Typed.Typed 𝓤 H A 𝓣 E G2 b21 Δ1 at20
-          d20 = Scalar.t-cond 𝓤 H A W E 𝓣 G2 4 (λ x. x) b19 b20 Δ1 at17 at19 (Scalar.reads-sc 𝓤 H A W Row.sBool) Path'.refl d17 d19
+          d20 = Scalar.t-cond 𝓤 H A W E 𝓣 G2 4 (λ x. x) b19 b20 Δ1 at17 at19 (Scalar.reads-sc 𝓤 H A W Row.sBool) Path'.refl (Typed.g-pre 𝓤 H A W 𝓣 E G2 G0 b19 Δ1 (Typed.pass T2 T0 s1) at16 (Scalar.g-room 𝓤 H A W E G2 4 Syntax.tyBool (Scalar.room-sc 𝓤 H A W Row.sBool)) d16) (Typed.g-pre 𝓤 H A W 𝓣 E G2 G0 b20 Δ1 (Typed.pass T2 T0 s20) at18 (Scalar.g-room 𝓤 H A
+              W E G2 4 Syntax.tyBool (Scalar.room-sc 𝓤 H A W Row.sBool)) d18)
 
-          d21 : Typed.Typed 𝓤 H A 𝓣 E G26 b23 Δ0 at21
+          d21 : Typed.Typed 𝓤 H A 𝓣 E G1 b23 Δ0 at21
           d21 = Typed.t-return 𝓤 H A W 𝓣 E Δ0 tt
 
-          d22 : Typed.Typed 𝓤 H A 𝓣 E G25 b23 Δ0 at22
-          d22 = Typed.g-pre 𝓤 H A W 𝓣 E G25 G26 b23 Δ0 (Typed.pass T25 T26 s23) at21 (Scalar.g-room 𝓤 H A W E G25 3 Syntax.tyBool (Scalar.room-sc 𝓤 H A W Row.sBool)) d21
-
-          d23 : Typed.Typed 𝓤 H A 𝓣 E G24 b23 Δ0 at23
-          d23 = Typed.g-pre 𝓤 H A W 𝓣 E G24 G25 b23 Δ0 (Typed.pass T24 T25 s22) at22 (Scalar.g-room 𝓤 H A W E G24 2 (Syntax.tyInt Syntax.w64) (Scalar.room-sc 𝓤 H A W (Row.sInt Syntax.w64))) d22
-
-          d24 : Typed.Typed 𝓤 H A 𝓣 E G3 b24 Δ0 at24
-          d24 = Typed.s-seq 𝓤 H A W 𝓣 E G3 G24 b22 b23 Δ0 (Typed.pass T3 T24 s21) at23 (Scalar.t-use 𝓤 H A W E 𝓣 G3 Scalar.oUnit 0 (Rows'.sc-here Row.sUnit) Syntax.tyUnit (Row.valS Row.sUnit) (Row.sUnit .of) tt (Reads.room-gone 𝓤 H A Syntax.tyUnit) (Scalar.holds-sc 𝓤 H A W Row.sUnit) Path'.refl (λ u. Path'.refl) λ u. tt) d23
-
           d25 : Typed.Typed 𝓤 H A 𝓣 E G2 b25 Δ0 at25
-          d25 = Typed.t-seq 𝓤 H A W 𝓣 E G2 G3 b21 b24 Δ0 at20 at24 d20 d24
-
-          d26 : Typed.Typed 𝓤 H A 𝓣 E G0 b26 Δ0 at26
-          d26 = Typed.s-seq 𝓤 H A W 𝓣 E G0 G2 b0 b25 Δ0 (Typed.pass T0 T2 s0) at25 (Scalar.t-use 𝓤 H A W E 𝓣 G0 (Scalar.oAt 3 Syntax.tyBool (Row.valS Row.sBool)) 4 (Rows'.sc-here Row.sBool) Syntax.tyBool (Row.valS Row.sBool) (Row.sBool .of) (Scalar.reads-sc 𝓤 H A W Row.sBool, Path'.refl) (Reads.room-gone 𝓤 H A Syntax.tyBool)
-              (Scalar.holds-sc 𝓤 H A W Row.sBool) Path'.refl (λ u. Path'.refl) λ u. tt) d25
+          d25 = Typed.t-seq 𝓤 H A W 𝓣 E G2 G0 b21 b24 Δ0 at20 at24 d20 (Typed.s-seq 𝓤 H A W 𝓣 E G0 G24 b22 b23 Δ0 (Typed.pass T0 T24 s21) at23 (Scalar.t-use 𝓤 H A W E 𝓣 G0 Scalar.oUnit 0 (Rows'.sc-here Row.sUnit) Syntax.tyUnit (Row.valS Row.sUnit) (Row.sUnit .of) tt (Reads.room-gone 𝓤 H A Syntax.tyUnit) (Scalar.holds-sc 𝓤 H A W Row.sUnit) Path'.refl (λ u.
+              Path'.refl) λ u. tt) (Typed.g-pre 𝓤 H A W 𝓣 E G24 G25 b23 Δ0 (Typed.pass T24 T25 s22) at22 (Scalar.g-room 𝓤 H A W E G24 2 (Syntax.tyInt Syntax.w64) (Scalar.room-sc 𝓤 H A W (Row.sInt Syntax.w64))) (Typed.g-pre 𝓤 H A W 𝓣 E G25 G1 b23 Δ0 (Typed.pass T25 T1 s23) at21 (Scalar.g-room 𝓤 H A W E G25 3 Syntax.tyBool (Scalar.room-sc 𝓤 H A W Row.sBool))
+              d21)))
 
           pub typed : Typed.Typed 𝓤 H A 𝓣 E (Function.Γin 1 ps r xs m κs qs) b26 (Function.Δret 1 ps r xs m κs qs) Φ
-          typed = d26
+          typed = (Typed.s-seq 𝓤 H A W 𝓣 E G0 G2 b0 b25 Δ0 (Typed.pass T0 T2 s0) at25 (Scalar.t-use 𝓤 H A W E 𝓣 G0 (Scalar.oAt 3 Syntax.tyBool (Row.valS Row.sBool)) 4 (Rows'.sc-here Row.sBool) Syntax.tyBool (Row.valS Row.sBool) (Row.sBool .of) (Scalar.reads-sc 𝓤 H A W Row.sBool, Path'.refl) (Reads.room-gone 𝓤 H A Syntax.tyBool) (Scalar.holds-sc 𝓤 H A W
+              Row.sBool) Path'.refl (λ u. Path'.refl) λ u. tt) d25)
 
       module _ (κs : Lifetimes.Lfts 1) where
         pub record Args : Type 0 where
@@ -718,11 +565,7 @@ module _ (claims· : Claims) where
       m0 = λ κs args. (tt, Enter.partsP κs 1 ps xs (dens κs args))
 
       abbrev W0 : (κs : Lifetimes.Lfts 1) → (args : Args κs) → Typed.Want O0
-      W0 = λ κs args. (
-        λ u. ⊥,
-        tt,
-        λ u. Enter.Fixs κs 1 ps xs (dens κs args) (u .1) × Post· κs (dens κs args) (Function.resV r κs (u .0)) (Clauses.atExit (Kinds.endedOf 1 ps r) κs (dens κs args) (Enter.lastsP κs 1 ps xs (dens κs args) (u .1))),
-      )
+      W0 = λ κs args. (λ u. ⊥, tt, λ u. Enter.Fixs κs 1 ps xs (dens κs args) (u .1) × Post· κs (dens κs args) (Function.resV r κs (u .0)) (Clauses.atExit (Kinds.endedOf 1 ps r) κs (dens κs args) (Enter.lastsP κs 1 ps xs (dens κs args) (u .1))))
 
       pub record Start : Type 0 where
         pub κs : Lifetimes.Lfts 1
@@ -735,19 +578,13 @@ module _ (claims· : Claims) where
       m1 = λ κs args. s0 (m0 κs args)
 
       abbrev W1 : (κs : Lifetimes.Lfts 1) → (args : Args κs) → Typed.Want O1
-      W1 = λ κs args. Typed.wantNext T3 O0 (at24 (W0 κs args)) (W0 κs args)
-
-      abbrev pub m2 : (before : Start) → Typed.Mo T4
-      m2 = λ before. s1 (m1 (before .κs) (before .args))
+      W1 = λ κs args. Typed.wantNext T0 O0 (at24 (W0 κs args)) (W0 κs args)
 
       abbrev pub m3 : (before : Start) → Typed.Mo T5
-      m3 = λ before. s2 (m2 before)
-
-      abbrev pub m4 : (before : Start) → Typed.Mo T6
-      m4 = λ before. s3 .next (m3 before)
+      m3 = λ before. s2 (s1 (m1 (before .κs) (before .args)))
 
       abbrev pub m5 : (before : Start) → Typed.Mo T7
-      m5 = λ before. s4 (m4 before)
+      m5 = λ before. s4 (s3 .next (m3 before))
 
       module _ (before· : Start) where
         pub record Then1·own : Type 0 where
@@ -765,29 +602,20 @@ module _ (claims· : Claims) where
         pub before : Then1
         pub if2 : Then2·own before
 
-      abbrev pub m6 : (before : Then1) → Typed.Mo T8
+      abbrev pub m6 : (before : Then1) → Typed.Mo T0
       m6 = λ before. s5 (m5 (before .before))
 
       abbrev pub Need-mul-flip : Type 0
       Need-mul-flip = (c : Then2) → s6 .asks (m6 (c .before))
 
-      abbrev pub m7 : (before : Then1) → Typed.Mo T9
-      m7 = λ before. s6 .next (m6 before)
-
       abbrev pub m8 : (before : Then1) → Typed.Mo T10
-      m8 = λ before. s7 .next (m7 before)
+      m8 = λ before. s7 .next (s6 .next (m6 before))
 
       abbrev pub Need-slice-copy-out-flip : Type 0
       Need-slice-copy-out-flip = (c : Then2) → Shared.InSlice T10 1 9 (λ x. x) (λ u. u .1 .1 .0) (m8 (c .before))
 
-      abbrev pub m9 : (before : Then2) → (given : s8 .gives (m8 (before .before))) → Typed.Mo T11
-      m9 = λ before given. s8 .next (m8 (before .before)) given
-
-      abbrev pub m10 : (before : Then2) → (given : s8 .gives (m8 (before .before))) → Typed.Mo T12
-      m10 = λ before given. s9 (m9 before given)
-
       abbrev pub m11 : (before : Then2) → (given : s8 .gives (m8 (before .before))) → Typed.Mo T13
-      m11 = λ before given. s10 (m10 before given)
+      m11 = λ before given. s10 (s9 (s8 .next (m8 (before .before)) given))
 
       module _ (before· : Then2) where
         pub record After-flip-arg·own : Type 0 where
@@ -805,20 +633,14 @@ module _ (claims· : Claims) where
 
       module _ (before· : After-flip-arg) where
         abbrev pub After-flip·own : Type 0
-        After-flip·own = Called.Called ps·0 r·0 (claims· .1) T13 (
-          record { pos = 10; st = List.[]; d = 0; at = λ x. x },
-          tt,
-        ) (m11 (before· .before) (before· .flip-arg .given))
+        After-flip·own = Called.Called ps·0 r·0 (claims· .1) T13 (record { pos = 10; st = List.[]; d = 0; at = λ x. x }, tt) (m11 (before· .before) (before· .flip-arg .given))
 
       pub record After-flip : Type 0 where
         pub before : After-flip-arg
         pub flip : After-flip·own before
 
       abbrev pub After-flip·gave : (c : After-flip) → s11 .gives (m11 (c .before .before) (c .before .flip-arg .given))
-      After-flip·gave = λ c. Called.given ps·0 r·0 (claims· .1) T13 (
-        record { pos = 10; st = List.[]; d = 0; at = λ x. x },
-        tt,
-      ) (m11 (c .before .before) (c .before .flip-arg .given)) (c .flip)
+      After-flip·gave = λ c. Called.given ps·0 r·0 (claims· .1) T13 (record { pos = 10; st = List.[]; d = 0; at = λ x. x }, tt) (m11 (c .before .before) (c .before .flip-arg .given)) (c .flip)
 
       abbrev pub m13 : (before : After-flip-arg) → (given : s11 .gives (m11 (before .before) (before .flip-arg .given))) → Typed.Mo T15
       m13 = λ before given. s12 (m12 before given)
@@ -826,26 +648,14 @@ module _ (claims· : Claims) where
       abbrev pub Need-mul-t11 : Type 0
       Need-mul-t11 = (c : After-flip) → s13 .asks (m13 (c .before) (After-flip·gave c))
 
-      abbrev pub m14 : (before : After-flip-arg) → (given : s11 .gives (m11 (before .before) (before .flip-arg .given))) → Typed.Mo T16
-      m14 = λ before given. s13 .next (m13 before given)
-
       abbrev pub m15 : (before : After-flip-arg) → (given : s11 .gives (m11 (before .before) (before .flip-arg .given))) → Typed.Mo T17
-      m15 = λ before given. s14 .next (m14 before given)
+      m15 = λ before given. s14 .next (s13 .next (m13 before given))
 
       abbrev pub Need-slice-set-from-deps : Type 0
       Need-slice-set-from-deps = (c : After-flip) → Shared.InSlice T17 1 12 (λ x. x) (λ u. u .1 .1 .0) (m15 (c .before) (After-flip·gave c))
 
-      abbrev pub m16 : (before : After-flip-arg) → (given : s11 .gives (m11 (before .before) (before .flip-arg .given))) → Typed.Mo T18
-      m16 = λ before given. s15 .next (m15 before given)
-
-      abbrev pub m17 : (before : After-flip-arg) → (given : s11 .gives (m11 (before .before) (before .flip-arg .given))) → Typed.Mo T19
-      m17 = λ before given. s16 (m16 before given)
-
-      abbrev pub m18 : (before : After-flip-arg) → (given : s11 .gives (m11 (before .before) (before .flip-arg .given))) → Typed.Mo T20
-      m18 = λ before given. s17 (m17 before given)
-
-      abbrev pub m19 : (before : After-flip-arg) → (given : s11 .gives (m11 (before .before) (before .flip-arg .given))) → Typed.Mo T21
-      m19 = λ before given. s18 (m18 before given)
+      abbrev pub m19 : (before : After-flip-arg) → (given : s11 .gives (m11 (before .before) (before .flip-arg .given))) → Typed.Mo T0
+      m19 = λ before given. s18 (s17 (s16 (s15 .next (m15 before given))))
 
       module _ (before· : Then1) where
         pub record Else2·own : Type 0 where
@@ -855,10 +665,10 @@ module _ (claims· : Claims) where
         pub before : Then1
         pub if2 : Else2·own before
 
-      abbrev pub m20 : (before : Then1) → Typed.Mo T22
+      abbrev pub m20 : (before : Then1) → Typed.Mo T0
       m20 = λ before. s19 (m5 (before .before))
 
-      abbrev pub m21 : (before : Start) → Typed.Mo T23
+      abbrev pub m21 : (before : Start) → Typed.Mo T0
       m21 = λ before. s20 (m1 (before .κs) (before .args))
 
       module _ (before· : Start) where
@@ -869,126 +679,57 @@ module _ (claims· : Claims) where
         pub before : Start
         pub if1 : Else1·own before
 
-      abbrev pub m22 : (before : After-flip-arg) → (given : s11 .gives (m11 (before .before) (before .flip-arg .given))) → Typed.Mo T24
-      m22 = λ before given. s21 (m19 before given)
-
-      abbrev pub m23 : (before : After-flip-arg) → (given : s11 .gives (m11 (before .before) (before .flip-arg .given))) → Typed.Mo T25
-      m23 = λ before given. s22 (m22 before given)
-
-      abbrev pub m24 : (before : After-flip-arg) → (given : s11 .gives (m11 (before .before) (before .flip-arg .given))) → Typed.Mo T26
-      m24 = λ before given. s23 (m23 before given)
+      abbrev pub m24 : (before : After-flip-arg) → (given : s11 .gives (m11 (before .before) (before .flip-arg .given))) → Typed.Mo T1
+      m24 = λ before given. s23 (s22 (s21 (m19 before given)))
 
       abbrev pub Need-same-length : Type 0
-      Need-same-length = (c : After-flip) → MutSlice.SameLen (Row.get 1 (T26 .locals) (m24 (c .before) (After-flip·gave c))) (dens (c .before .before .before .before .κs) (c .before .before .before .before .args) .0)
+      Need-same-length = (c : After-flip) → MutSlice.SameLen (Row.get 1 (T1 .locals) (m24 (c .before) (After-flip·gave c))) (dens (c .before .before .before .before .κs) (c .before .before .before .before .args) .0)
 
       abbrev pub Need-returns : Type 0
-      Need-returns = (c : After-flip) → Post· (c .before .before .before .before .κs) (dens (c .before .before .before .before .κs) (c .before .before .before .before .args)) (Function.resV r (c .before .before .before .before .κs) (m24 (c .before) (After-flip·gave c) .0)) (Clauses.atExit (Kinds.endedOf 1 ps r) (c .before .before .before .before .κs)
-          (dens (c .before .before .before .before .κs) (c .before .before .before .before .args)) (Enter.lastsP (c .before .before .before .before .κs) 1 ps xs (dens (c .before .before .before .before .κs) (c .before .before .before .before .args)) (m24 (c .before) (After-flip·gave c) .1)))
+      Need-returns = (c : After-flip) → Post· (c .before .before .before .before .κs) (dens (c .before .before .before .before .κs) (c .before .before .before .before .args)) (Function.resV r (c .before .before .before .before .κs) (m24 (c .before) (After-flip·gave c) .0)) (Clauses.atExit (Kinds.endedOf 1 ps r) (c .before .before .before .before .κs) (dens
+          (c .before .before .before .before .κs) (c .before .before .before .before .args)) (Enter.lastsP (c .before .before .before .before .κs) 1 ps xs (dens (c .before .before .before .before .κs) (c .before .before .before .before .args)) (m24 (c .before) (After-flip·gave c) .1)))
 
-      abbrev pub m25 : (before : Then1) → Typed.Mo T24
-      m25 = λ before. s21 (m20 before)
-
-      abbrev pub m26 : (before : Then1) → Typed.Mo T25
-      m26 = λ before. s22 (m25 before)
-
-      abbrev pub m27 : (before : Then1) → Typed.Mo T26
-      m27 = λ before. s23 (m26 before)
+      abbrev pub m27 : (before : Then1) → Typed.Mo T1
+      m27 = λ before. s23 (s22 (s21 (m20 before)))
 
       abbrev pub Need-returns-2 : Type 0
-      Need-returns-2 = (c : Else2) → Post· (c .before .before .κs) (dens (c .before .before .κs) (c .before .before .args)) (Function.resV r (c .before .before .κs) (m27 (c .before) .0)) (Clauses.atExit (Kinds.endedOf 1 ps r) (c .before .before .κs) (dens (c .before .before .κs) (c .before .before .args)) (Enter.lastsP (c .before .before .κs) 1 ps xs
-          (dens (c .before .before .κs) (c .before .before .args)) (m27 (c .before) .1)))
+      Need-returns-2 = (c : Else2) → Post· (c .before .before .κs) (dens (c .before .before .κs) (c .before .before .args)) (Function.resV r (c .before .before .κs) (m27 (c .before) .0)) (Clauses.atExit (Kinds.endedOf 1 ps r) (c .before .before .κs) (dens (c .before .before .κs) (c .before .before .args)) (Enter.lastsP (c .before .before .κs) 1 ps xs (dens
+          (c .before .before .κs) (c .before .before .args)) (m27 (c .before) .1)))
 
-      abbrev pub m28 : (before : Start) → Typed.Mo T24
-      m28 = λ before. s21 (m21 before)
-
-      abbrev pub m29 : (before : Start) → Typed.Mo T25
-      m29 = λ before. s22 (m28 before)
-
-      abbrev pub m30 : (before : Start) → Typed.Mo T26
-      m30 = λ before. s23 (m29 before)
+      abbrev pub m30 : (before : Start) → Typed.Mo T1
+      m30 = λ before. s23 (s22 (s21 (m21 before)))
 
       abbrev pub Need-returns-3 : Type 0
       Need-returns-3 = (c : Else1) → Post· (c .before .κs) (dens (c .before .κs) (c .before .args)) (Function.resV r (c .before .κs) (m30 (c .before) .0)) (Clauses.atExit (Kinds.endedOf 1 ps r) (c .before .κs) (dens (c .before .κs) (c .before .args)) (Enter.lastsP (c .before .κs) 1 ps xs (dens (c .before .κs) (c .before .args)) (m30 (c .before) .1)))
 
       module _ (mul-flip : Need-mul-flip) (slice-copy-out-flip : Need-slice-copy-out-flip) (flip-requires : Need-flip-requires) (mul-t11 : Need-mul-t11) (slice-set-from-deps : Need-slice-set-from-deps) (same-length : Need-same-length) (returns : Need-returns) (returns-2 : Need-returns-2) (returns-3 : Need-returns-3) where
         lay6 : (c : Else1) → at24 (W0 (c .before .κs) (c .before .args)) (m21 (c .before))
-        lay6 = λ c. (
-          (Path'.refl, (tt, (tt, tt))),
-          returns-3 record { before = c .before; if1 = c .if1 },
-        )
+        lay6 = λ c. ((Path'.refl, (tt, (tt, tt))), returns-3 record { before = c .before; if1 = c .if1 })
 
         lay5 : (c : Else2) → at24 (W0 (c .before .before .κs) (c .before .before .args)) (m20 (c .before))
-        lay5 = λ c. (
-          (Path'.refl, (tt, (tt, tt))),
-          returns-2 record { before = c .before; if2 = c .if2 },
-        )
+        lay5 = λ c. ((Path'.refl, (tt, (tt, tt))), returns-2 record { before = c .before; if2 = c .if2 })
 
         lay4 : (c : After-flip) → at24 (W0 (c .before .before .before .before .κs) (c .before .before .before .before .args)) (m19 (c .before) (After-flip·gave c))
-        lay4 = λ c. (
-          (
-            MutSlice.fix-len (Row.get 1 (T26 .locals) (m24 (c .before) (After-flip·gave c)) .ptr) (Row.get 1 (T26 .locals) (m24 (c .before) (After-flip·gave c)) .name) (Row.get 1 (T26 .locals) (m24 (c .before) (After-flip·gave c)) .now) (dens (c .before .before .before .before .κs) (c .before .before .before .before .args) .0 .now)
-                (same-length record { before = c .before; flip = c .flip }),
-            (tt, (tt, tt)),
-          ),
-          returns record { before = c .before; flip = c .flip },
-        )
+        lay4 = λ c.
+            ((MutSlice.fix-len (Row.get 1 (T1 .locals) (m24 (c .before) (After-flip·gave c)) .ptr) (Row.get 1 (T1 .locals) (m24 (c .before) (After-flip·gave c)) .name) (Row.get 1 (T1 .locals) (m24 (c .before) (After-flip·gave c)) .now) (dens (c .before .before .before .before .κs) (c .before .before .before .before .args) .0 .now) (same-length record { before = c .before; flip = c .flip }), (tt, (tt, tt))), returns record { before = c .before; flip = c .flip })
 
         lay3 : (c : Else2) → at12 (W1 (c .before .before .κs) (c .before .before .args)) (m5 (c .before .before))
         lay3 = λ c. lay5 record { before = c .before; if2 = c .if2 }
 
         lay2 : (c : After-flip) → at3 (W1 (c .before .before .before .before .κs) (c .before .before .before .before .args)) (m12 (c .before) (After-flip·gave c))
-        lay2 = λ c. (
-          mul-t11 record { before = c .before; flip = c .flip },
-          (tt, ((Path'.refl, Path'.refl, slice-set-from-deps record { before = c .before; flip = c .flip }), lay4 record { before = c .before; flip = c .flip })),
-        )
+        lay2 = λ c. (mul-t11 record { before = c .before; flip = c .flip }, (tt, ((Path'.refl, Path'.refl, slice-set-from-deps record { before = c .before; flip = c .flip }), lay4 record { before = c .before; flip = c .flip })))
 
         lay1 : (c : Then2) → at10 (W1 (c .before .before .κs) (c .before .before .args)) (m5 (c .before .before))
-        lay1 = λ c. (
-          mul-flip record { before = c .before; if2 = c .if2 },
-          (
-            tt,
-            (
-              (Path'.refl, Path'.refl, slice-copy-out-flip record { before = c .before; if2 = c .if2 }),
-              λ g. (
-                flip-requires record { before = record { before = c .before; if2 = c .if2 }; flip-arg = record { given = g } },
-                λ g'. lay2 record {
-                  before = record {
-                    before = record { before = c .before; if2 = c .if2 };
-                    flip-arg = record { given = g };
-                  };
-                  flip = Called.called ps·0 r·0 (claims· .1) T13 (record { pos = 10; st = List.[]; d = 0; at = λ x. x }, tt) (m11 record { before = c .before; if2 = c .if2 } g) g';
-                },
-              ),
-            ),
-          ),
-        )
+        lay1 = λ c.
+            (mul-flip record { before = c .before; if2 = c .if2 }, (tt, ((Path'.refl, Path'.refl, slice-copy-out-flip record { before = c .before; if2 = c .if2 }), λ g. (flip-requires record { before = record { before = c .before; if2 = c .if2 }; flip-arg = record { given = g } }, λ g'. lay2 record { before = record { before = record { before = c .before; if2 = c .if2 }; flip-arg = record { given = g } }; flip = Called.called ps·0 r·0 (claims· .1) T13 (record { pos = 10; st = List.[]; d = 0; at = λ x. x }, tt) (m11 record { before = c .before; if2 = c .if2 } g) g' }))))
 
         pub laid : (c : Start) → at26 (W0 (c .κs) (c .args)) (m0 (c .κs) (c .args))
-        laid = λ c. (
-          λ taken. (
-            tt,
-            (
-              λ taken'. lay1 record { before = record { before = c; if1 = record { taken = taken } }; if2 = record { taken = Tests.ltb-true (Row.get 2 (T5 .locals) (m3 c)) (Row.get 5 (T5 .locals) (m3 c)) taken' } },
-              λ left. lay3 record {
-                before = record { before = c; if1 = record { taken = taken } };
-                if2 = record {
-                  left = Tests.ltb-false (Row.get 2 (T5 .locals) (m3 c)) (Row.get 5 (T5 .locals) (m3 c)) left;
-                };
-              },
-            ),
-          ),
-          λ left. lay6 record { before = c; if1 = record { left = left } },
-        )
+        laid = λ c.
+            (λ taken. (tt, (λ taken'. lay1 record { before = record { before = c; if1 = record { taken = taken } }; if2 = record { taken = Tests.ltb-true (Row.get 2 (T5 .locals) (m3 c)) (Row.get 5 (T5 .locals) (m3 c)) taken' } }, λ left. lay3 record { before = record { before = c; if1 = record { taken = taken } }; if2 = record { left = Tests.ltb-false (Row.get 2 (T5 .locals) (m3 c)) (Row.get 5 (T5 .locals) (m3 c)) left } })), λ left. lay6 record { before = c; if1 = record { left = left } })
 
         module _ (κs : Lifetimes.Lfts 1) (qs : Lifetimes.Shares 1) where
           pub asked : (a : Kinds.Dens κs ps) → (good : Kinds.GoodsP κs ps a) → (pre : Pre· κs a) → (bs : List.List Nat.ℕ) → Φ (Any.wantQ 1 ps r xs m κs qs a (Post· κs a)) (Function.init 1 ps r xs m κs qs a)
-          asked = λ a good pre bs. laid record {
-            κs = κs;
-            args = record { deps = a .0; i = a .1 .0; turns = a .1 .1 .0 };
-            good = good;
-            fits = record { i = record { fits = good .1 .0 .1 } };
-            pre = pre;
-          }
+          asked = λ a good pre bs. laid record { κs = κs; args = record { deps = a .0; i = a .1 .0; turns = a .1 .1 .0 }; good = good; fits = record { i = record { fits = good .1 .0 .1 } }; pre = pre }
 
         module _ {M : Type 1} (𝓤 : URA.URA M) (H : Wp.Heap 𝓤) (A : Atoms.Atoms 𝓤) (W : Kit.Given 𝓤 H A) (𝓣 : Wp.Tables 𝓤 H) (known0 : Plain.Known 𝓤 H A W 𝓣 0 ps·0 r·0 (claims· .0) (claims· .1) "records::record::flip") where
           pub spec : Statement.Triple 𝓤 (Wp.WpFn 𝓤 H (𝓣 .C) (𝓣 .Λ) (Function.fnOf 1 ps r xs m hs body)) (Function.plainOf 𝓤 H A 1 ps r Pre· Post·)

@@ -1,41 +1,15 @@
 -- `records::lent::spread`: Kinds, carried over by tools/lend.py. Assumes nothing.
 use Rattle.records.proofs.Row as Rec
-use Rattle.records.proofs.columns.Spread
-use Rattle.records.proofs.columns.Spread.Laws
 use borrow.Fn.Kinds
 use borrow.Kind.ShrSlice
-use borrow.Kind.Value
-use borrow.Rule.Local
 use borrow.Table.Referent
-use borrow.Table.Rows
 use denote.Array
-use denote.Enum.Declared
-use denote.Enum.Laws as Laws'
-use denote.Exit
 use mathlib.Core.List
-use mathlib.Core.Path as Path'
 use mir.Syntax
 
-abbrev pub ps : List.List (Kinds.PK 14)
-ps = List._∷_ (ShrSlice.pShrS (Referent.rtF (Referent.fInt Syntax.w16)) 0 tt) (List._∷_ (ShrSlice.pShrS (Referent.rtF (Referent.fInt Syntax.w16)) 1 tt) (List._∷_ (ShrSlice.pShrS (Referent.rtF (Referent.fInt Syntax.w8)) 2 tt) (List._∷_ (ShrSlice.pShrS (Referent.rtF (Referent.fInt Syntax.w16)) 3 tt) (List._∷_
-    (ShrSlice.pShrS (Referent.rtF (Referent.fInt Syntax.w16)) 4 tt) (List._∷_ (ShrSlice.pShrS (Referent.rtF (Referent.fInt Syntax.w32)) 5 tt) (List._∷_ (ShrSlice.pShrS (Referent.rtF (Referent.fInt Syntax.w16)) 6 tt) (List._∷_ (ShrSlice.pShrS (Referent.rtF (Referent.fInt Syntax.w8)) 7 tt) (List._∷_ (ShrSlice.pShrS Rec.rt 8 tt) (List._∷_
-    (Kinds.pMut (Array.Array (Referent.rtF (Referent.fInt Syntax.w8)) 2048) 9 tt) (List._∷_ (Kinds.pMut (Array.Array (Referent.rtF (Referent.fInt Syntax.w16)) 2048) 10 tt) (List._∷_ (Kinds.pMut (Array.Array (Referent.rtF (Referent.fInt Syntax.w8)) 2048) 11 tt) (List._∷_ (Kinds.pMut (Array.Array (Referent.rtF (Referent.fInt Syntax.w16)) 2048) 12 tt) (List._∷_
-    (Kinds.pMut (Array.Array (Referent.rtF (Referent.fInt Syntax.w8)) 2048) 13 tt) List.[])))))))))))))
+abbrev pub ps : List.List (Kinds.PK 5)
+ps = List._∷_ (ShrSlice.pShrS (Referent.rtF (Referent.fInt Syntax.w16)) 0 tt) (List._∷_ (ShrSlice.pShrS Rec.rt 1 tt) (List._∷_ (Kinds.pMut (Array.Array (Array.Array (Referent.rtF (Referent.fInt Syntax.w16)) 2048) 2) 2 tt) (List._∷_ (Kinds.pMut (Array.Array (Array.Array (Referent.rtF (Referent.fInt Syntax.w8)) 2048) 2) 3 tt) (List._∷_ (Kinds.pMut (Array.Array
+    (Referent.rtF (Referent.fInt Syntax.w8)) 2048) 4 tt) List.[]))))
 
-abbrev pub r : Kinds.RK 14
-r = Value.rVal record {
-  ty = Declared.row Spread.the-type;
-  one = Path'.refl;
-  val = Laws'.val Spread.the-type Laws.the-laws;
-  tells = Laws'.tells Spread.the-type Laws.the-laws;
-  still = Laws'.still Spread.the-type Laws.the-copy Exit.yes;
-  row = Rows.whole (Declared.row Spread.the-type);
-  rd = λ x. x;
-  mk = λ x. x;
-} λ M 𝓤 H A W. record {
-  copies = Laws'.copy Spread.the-type Laws.the-copy 𝓤 H A W;
-  lawful = Laws'.lawful Spread.the-type Laws.the-laws 𝓤 H A W tt;
-  makes = Laws'.makes Spread.the-type Laws.the-plain 𝓤 H A;
-  in-mem = Local.mem-whole 𝓤 H A W (Declared.row Spread.the-type);
-  of-mem = Local.whole-mem 𝓤 H A W (Declared.row Spread.the-type);
-}
+abbrev pub r : Kinds.RK 5
+r = Kinds.rNum Syntax.w64

@@ -7,9 +7,9 @@ use denote.Array
 use mathlib.Core.List
 use mir.Syntax
 
-abbrev pub ps : List.List (Kinds.PK 6)
-ps = List._∷_ (ShrSlice.pShrS Rec.rt 0 tt) (List._∷_ (Kinds.pNum Syntax.w64) (List._∷_ (Kinds.pMut (Array.Array (Referent.rtF (Referent.fInt Syntax.w8)) 2048) 1 tt) (List._∷_ (Kinds.pMut (Array.Array (Referent.rtF (Referent.fInt Syntax.w16)) 2048) 2 tt) (List._∷_ (Kinds.pMut (Array.Array (Referent.rtF (Referent.fInt Syntax.w8)) 2048) 3 tt) (List._∷_
-    (Kinds.pMut (Array.Array (Referent.rtF (Referent.fInt Syntax.w16)) 2048) 4 tt) (List._∷_ (Kinds.pMut (Array.Array (Referent.rtF (Referent.fInt Syntax.w8)) 2048) 5 tt) List.[]))))))
+abbrev pub ps : List.List (Kinds.PK 4)
+ps = List._∷_ (ShrSlice.pShrS Rec.rt 0 tt) (List._∷_ (Kinds.pNum Syntax.w64) (List._∷_ (Kinds.pMut (Array.Array (Array.Array (Referent.rtF (Referent.fInt Syntax.w16)) 2048) 2) 1 tt) (List._∷_ (Kinds.pMut (Array.Array (Array.Array (Referent.rtF (Referent.fInt Syntax.w8)) 2048) 2) 2 tt) (List._∷_ (Kinds.pMut (Array.Array (Referent.rtF (Referent.fInt
+    Syntax.w8)) 2048) 3 tt) List.[]))))
 
-abbrev pub r : Kinds.RK 6
+abbrev pub r : Kinds.RK 4
 r = Kinds.rUnit

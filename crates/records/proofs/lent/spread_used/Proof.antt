@@ -3,8 +3,8 @@ mod Tie
 use Prim.Native.Nat.{_≤_, _-_}
 use native.Mathlib.Omega.{arith}
 use Rattle.tables.specs.Limits.{limits}
-use Rattle.records.specs.Records.{ColumnsOf, overlaid, zeroRecords}
-use Rattle.records.proofs.ColumnLaws.{columns-none, columns-more, columns-used}
+use Rattle.records.specs.Records.{InColumns, overlaid, zeroRecords}
+use Rattle.records.proofs.ColumnLaws.{in-none, in-more, in-used}
 use borrow.Author.Needs.{needs}
 use Rattle.records.proofs.lent.spread_used.Statement.{statement}
 use Rattle.records.proofs.lent.spread_used.Proof.Tie as tie
@@ -14,16 +14,16 @@ use Rattle.records.proofs.columns.put_record.Reads as put-record-reads
 use Rattle.records.proofs.record.within_used.Reads as within-used-reads
 
 abbrev Inv-loop : tie.InvT-loop
-Inv-loop deps used first-drones₀ first-stops₀ second-drones₀ second-stops₀ flags₀ n i₀ first-drones first-stops second-drones second-stops flags i = (i ≤ n) × (ColumnsOf (overlaid i deps (zeroRecords limits)) first-drones first-stops second-drones second-stops flags)
+Inv-loop deps used stops₀ drones₀ flags₀ n i₀ stops drones flags i = (i ≤ n) × (InColumns (overlaid i deps (zeroRecords limits)) stops drones flags)
 
 abbrev μ-loop : tie.MeasureT-loop
-μ-loop deps used first-drones₀ first-stops₀ second-drones₀ second-stops₀ flags₀ n i₀ first-drones first-stops second-drones second-stops flags i = n - i
+μ-loop deps used stops₀ drones₀ flags₀ n i₀ stops drones flags i = n - i
 
 within-used-requires : tie.Need-within-used-requires Inv-loop μ-loop
 within-used-requires c κs = search needs
 
 loop-holds : tie.Need-loop-holds Inv-loop μ-loop
-loop-holds c = (search needs, columns-none limits _ (c .before .pre))
+loop-holds c = (search needs, in-none limits _ (c .before .pre))
 
 mul-put-record : tie.Need-mul-put-record Inv-loop μ-loop
 mul-put-record c = search needs
@@ -42,12 +42,12 @@ loop-less c = search needs
 
 loop-again : tie.Need-loop-again Inv-loop μ-loop
 loop-again c =
-    let l = c .before .before .before .before .before .before .before .before .loop in
+    let l = c .before .before .before .before .before .before .loop in
     let put = c .put-record .ensures in
-    (search needs, columns-more limits _ (l .i) (omega arith) (omega arith) (put .0) (put .1 .0) (put .1 .1 .0) (put .1 .1 .1 .0) (put .1 .1 .1 .1) (l .inv .1))
+    (search needs, in-more limits _ (l .i) (omega arith) (omega arith) (put .0) (put .1 .0) (put .1 .1) (l .inv .1))
 
 returns : tie.Need-returns Inv-loop μ-loop
-returns c = columns-used limits _ _ (c .before .loop .i) (omega arith) (c .before .loop .inv .1)
+returns c = in-used limits _ _ (c .before .loop .i) (omega arith) (c .before .loop .inv .1)
 
 pub spread-used-spec : {M : Type 1} → statement M
 spread-used-spec =

@@ -22,948 +22,246 @@ use borrow.Fn.Written
 use contract.Running
 
 abbrev pub Start : Type 0
-Start = Lts.Start (
-  Reads'4.Asked,
-  Reads'4.Learnt,
-  Reads''.Asked,
-  Reads''.Learnt,
-  Reads'.Asked,
-  Reads'.Learnt,
-  Reads'3.Asked,
-  Reads'3.Learnt,
-) Reads.Pre Reads.Post
+Start = Lts.Start (Reads'4.Asked, Reads'4.Learnt, Reads''.Asked, Reads''.Learnt, Reads'.Asked, Reads'.Learnt, Reads'3.Asked, Reads'3.Learnt) Reads.Pre Reads.Post
 
 abbrev pub After-shared-slice-known : Type 0
-After-shared-slice-known = Lts.After-shared-slice-known (
-  Reads'4.Asked,
-  Reads'4.Learnt,
-  Reads''.Asked,
-  Reads''.Learnt,
-  Reads'.Asked,
-  Reads'.Learnt,
-  Reads'3.Asked,
-  Reads'3.Learnt,
-) Reads.Pre Reads.Post
+After-shared-slice-known = Lts.After-shared-slice-known (Reads'4.Asked, Reads'4.Learnt, Reads''.Asked, Reads''.Learnt, Reads'.Asked, Reads'.Learnt, Reads'3.Asked, Reads'3.Learnt) Reads.Pre Reads.Post
 
 abbrev pub After-slice-known : Type 0
-After-slice-known = Lts.After-slice-known (
-  Reads'4.Asked,
-  Reads'4.Learnt,
-  Reads''.Asked,
-  Reads''.Learnt,
-  Reads'.Asked,
-  Reads'.Learnt,
-  Reads'3.Asked,
-  Reads'3.Learnt,
-) Reads.Pre Reads.Post
+After-slice-known = Lts.After-slice-known (Reads'4.Asked, Reads'4.Learnt, Reads''.Asked, Reads''.Learnt, Reads'.Asked, Reads'.Learnt, Reads'3.Asked, Reads'3.Learnt) Reads.Pre Reads.Post
 
 abbrev pub After-slice-known2 : Type 0
-After-slice-known2 = Lts.After-slice-known2 (
-  Reads'4.Asked,
-  Reads'4.Learnt,
-  Reads''.Asked,
-  Reads''.Learnt,
-  Reads'.Asked,
-  Reads'.Learnt,
-  Reads'3.Asked,
-  Reads'3.Learnt,
-) Reads.Pre Reads.Post
+After-slice-known2 = Lts.After-slice-known2 (Reads'4.Asked, Reads'4.Learnt, Reads''.Asked, Reads''.Learnt, Reads'.Asked, Reads'.Learnt, Reads'3.Asked, Reads'3.Learnt) Reads.Pre Reads.Post
 
 abbrev pub After-slice-known3 : Type 0
-After-slice-known3 = Lts.After-slice-known3 (
-  Reads'4.Asked,
-  Reads'4.Learnt,
-  Reads''.Asked,
-  Reads''.Learnt,
-  Reads'.Asked,
-  Reads'.Learnt,
-  Reads'3.Asked,
-  Reads'3.Learnt,
-) Reads.Pre Reads.Post
+After-slice-known3 = Lts.After-slice-known3 (Reads'4.Asked, Reads'4.Learnt, Reads''.Asked, Reads''.Learnt, Reads'.Asked, Reads'.Learnt, Reads'3.Asked, Reads'3.Learnt) Reads.Pre Reads.Post
 
 abbrev pub After-slice-known4 : Type 0
-After-slice-known4 = Lts.After-slice-known4 (
-  Reads'4.Asked,
-  Reads'4.Learnt,
-  Reads''.Asked,
-  Reads''.Learnt,
-  Reads'.Asked,
-  Reads'.Learnt,
-  Reads'3.Asked,
-  Reads'3.Learnt,
-) Reads.Pre Reads.Post
+After-slice-known4 = Lts.After-slice-known4 (Reads'4.Asked, Reads'4.Learnt, Reads''.Asked, Reads''.Learnt, Reads'.Asked, Reads'.Learnt, Reads'3.Asked, Reads'3.Learnt) Reads.Pre Reads.Post
 
 abbrev pub After-slice-known5 : Type 0
-After-slice-known5 = Lts.After-slice-known5 (
-  Reads'4.Asked,
-  Reads'4.Learnt,
-  Reads''.Asked,
-  Reads''.Learnt,
-  Reads'.Asked,
-  Reads'.Learnt,
-  Reads'3.Asked,
-  Reads'3.Learnt,
-) Reads.Pre Reads.Post
+After-slice-known5 = Lts.After-slice-known5 (Reads'4.Asked, Reads'4.Learnt, Reads''.Asked, Reads''.Learnt, Reads'.Asked, Reads'.Learnt, Reads'3.Asked, Reads'3.Learnt) Reads.Pre Reads.Post
 
 abbrev pub After-slice-known6 : Type 0
-After-slice-known6 = Lts.After-slice-known6 (
-  Reads'4.Asked,
-  Reads'4.Learnt,
-  Reads''.Asked,
-  Reads''.Learnt,
-  Reads'.Asked,
-  Reads'.Learnt,
-  Reads'3.Asked,
-  Reads'3.Learnt,
-) Reads.Pre Reads.Post
+After-slice-known6 = Lts.After-slice-known6 (Reads'4.Asked, Reads'4.Learnt, Reads''.Asked, Reads''.Learnt, Reads'.Asked, Reads'.Learnt, Reads'3.Asked, Reads'3.Learnt) Reads.Pre Reads.Post
 
 abbrev pub After-slice-known7 : Type 0
-After-slice-known7 = Lts.After-slice-known7 (
-  Reads'4.Asked,
-  Reads'4.Learnt,
-  Reads''.Asked,
-  Reads''.Learnt,
-  Reads'.Asked,
-  Reads'.Learnt,
-  Reads'3.Asked,
-  Reads'3.Learnt,
-) Reads.Pre Reads.Post
+After-slice-known7 = Lts.After-slice-known7 (Reads'4.Asked, Reads'4.Learnt, Reads''.Asked, Reads''.Learnt, Reads'.Asked, Reads'.Learnt, Reads'3.Asked, Reads'3.Learnt) Reads.Pre Reads.Post
 
 abbrev pub After-slice-known8 : Type 0
-After-slice-known8 = Lts.After-slice-known8 (
-  Reads'4.Asked,
-  Reads'4.Learnt,
-  Reads''.Asked,
-  Reads''.Learnt,
-  Reads'.Asked,
-  Reads'.Learnt,
-  Reads'3.Asked,
-  Reads'3.Learnt,
-) Reads.Pre Reads.Post
+After-slice-known8 = Lts.After-slice-known8 (Reads'4.Asked, Reads'4.Learnt, Reads''.Asked, Reads''.Learnt, Reads'.Asked, Reads'.Learnt, Reads'3.Asked, Reads'3.Learnt) Reads.Pre Reads.Post
 
 abbrev pub After-below-full : Type 0
-After-below-full = Lts.After-below-full (
-  Reads'4.Asked,
-  Reads'4.Learnt,
-  Reads''.Asked,
-  Reads''.Learnt,
-  Reads'.Asked,
-  Reads'.Learnt,
-  Reads'3.Asked,
-  Reads'3.Learnt,
-) Reads.Pre Reads.Post
+After-below-full = Lts.After-below-full (Reads'4.Asked, Reads'4.Learnt, Reads''.Asked, Reads''.Learnt, Reads'.Asked, Reads'.Learnt, Reads'3.Asked, Reads'3.Learnt) Reads.Pre Reads.Post
 
 abbrev pub Then1 : Type 0
-Then1 = Lts.Then1 (
-  Reads'4.Asked,
-  Reads'4.Learnt,
-  Reads''.Asked,
-  Reads''.Learnt,
-  Reads'.Asked,
-  Reads'.Learnt,
-  Reads'3.Asked,
-  Reads'3.Learnt,
-) Reads.Pre Reads.Post
+Then1 = Lts.Then1 (Reads'4.Asked, Reads'4.Learnt, Reads''.Asked, Reads''.Learnt, Reads'.Asked, Reads'.Learnt, Reads'3.Asked, Reads'3.Learnt) Reads.Pre Reads.Post
 
 abbrev pub Else1 : Type 0
-Else1 = Lts.Else1 (
-  Reads'4.Asked,
-  Reads'4.Learnt,
-  Reads''.Asked,
-  Reads''.Learnt,
-  Reads'.Asked,
-  Reads'.Learnt,
-  Reads'3.Asked,
-  Reads'3.Learnt,
-) Reads.Pre Reads.Post
+Else1 = Lts.Else1 (Reads'4.Asked, Reads'4.Learnt, Reads''.Asked, Reads''.Learnt, Reads'.Asked, Reads'.Learnt, Reads'3.Asked, Reads'3.Learnt) Reads.Pre Reads.Post
 
 abbrev pub After-read-plan-arg : Type 0
-After-read-plan-arg = Lts.After-read-plan-arg (
-  Reads'4.Asked,
-  Reads'4.Learnt,
-  Reads''.Asked,
-  Reads''.Learnt,
-  Reads'.Asked,
-  Reads'.Learnt,
-  Reads'3.Asked,
-  Reads'3.Learnt,
-) Reads.Pre Reads.Post
+After-read-plan-arg = Lts.After-read-plan-arg (Reads'4.Asked, Reads'4.Learnt, Reads''.Asked, Reads''.Learnt, Reads'.Asked, Reads'.Learnt, Reads'3.Asked, Reads'3.Learnt) Reads.Pre Reads.Post
 
 abbrev pub After-read-plan-arg2 : Type 0
-After-read-plan-arg2 = Lts.After-read-plan-arg2 (
-  Reads'4.Asked,
-  Reads'4.Learnt,
-  Reads''.Asked,
-  Reads''.Learnt,
-  Reads'.Asked,
-  Reads'.Learnt,
-  Reads'3.Asked,
-  Reads'3.Learnt,
-) Reads.Pre Reads.Post
+After-read-plan-arg2 = Lts.After-read-plan-arg2 (Reads'4.Asked, Reads'4.Learnt, Reads''.Asked, Reads''.Learnt, Reads'.Asked, Reads'.Learnt, Reads'3.Asked, Reads'3.Learnt) Reads.Pre Reads.Post
 
 abbrev pub After-read-plan-arg3 : Type 0
-After-read-plan-arg3 = Lts.After-read-plan-arg3 (
-  Reads'4.Asked,
-  Reads'4.Learnt,
-  Reads''.Asked,
-  Reads''.Learnt,
-  Reads'.Asked,
-  Reads'.Learnt,
-  Reads'3.Asked,
-  Reads'3.Learnt,
-) Reads.Pre Reads.Post
+After-read-plan-arg3 = Lts.After-read-plan-arg3 (Reads'4.Asked, Reads'4.Learnt, Reads''.Asked, Reads''.Learnt, Reads'.Asked, Reads'.Learnt, Reads'3.Asked, Reads'3.Learnt) Reads.Pre Reads.Post
 
 abbrev pub After-read-plan-arg4 : Type 0
-After-read-plan-arg4 = Lts.After-read-plan-arg4 (
-  Reads'4.Asked,
-  Reads'4.Learnt,
-  Reads''.Asked,
-  Reads''.Learnt,
-  Reads'.Asked,
-  Reads'.Learnt,
-  Reads'3.Asked,
-  Reads'3.Learnt,
-) Reads.Pre Reads.Post
+After-read-plan-arg4 = Lts.After-read-plan-arg4 (Reads'4.Asked, Reads'4.Learnt, Reads''.Asked, Reads''.Learnt, Reads'.Asked, Reads'.Learnt, Reads'3.Asked, Reads'3.Learnt) Reads.Pre Reads.Post
 
 abbrev pub After-read-plan-arg5 : Type 0
-After-read-plan-arg5 = Lts.After-read-plan-arg5 (
-  Reads'4.Asked,
-  Reads'4.Learnt,
-  Reads''.Asked,
-  Reads''.Learnt,
-  Reads'.Asked,
-  Reads'.Learnt,
-  Reads'3.Asked,
-  Reads'3.Learnt,
-) Reads.Pre Reads.Post
+After-read-plan-arg5 = Lts.After-read-plan-arg5 (Reads'4.Asked, Reads'4.Learnt, Reads''.Asked, Reads''.Learnt, Reads'.Asked, Reads'.Learnt, Reads'3.Asked, Reads'3.Learnt) Reads.Pre Reads.Post
 
 abbrev pub After-read-plan-arg6 : Type 0
-After-read-plan-arg6 = Lts.After-read-plan-arg6 (
-  Reads'4.Asked,
-  Reads'4.Learnt,
-  Reads''.Asked,
-  Reads''.Learnt,
-  Reads'.Asked,
-  Reads'.Learnt,
-  Reads'3.Asked,
-  Reads'3.Learnt,
-) Reads.Pre Reads.Post
+After-read-plan-arg6 = Lts.After-read-plan-arg6 (Reads'4.Asked, Reads'4.Learnt, Reads''.Asked, Reads''.Learnt, Reads'.Asked, Reads'.Learnt, Reads'3.Asked, Reads'3.Learnt) Reads.Pre Reads.Post
 
 abbrev pub After-read-plan-arg7 : Type 0
-After-read-plan-arg7 = Lts.After-read-plan-arg7 (
-  Reads'4.Asked,
-  Reads'4.Learnt,
-  Reads''.Asked,
-  Reads''.Learnt,
-  Reads'.Asked,
-  Reads'.Learnt,
-  Reads'3.Asked,
-  Reads'3.Learnt,
-) Reads.Pre Reads.Post
+After-read-plan-arg7 = Lts.After-read-plan-arg7 (Reads'4.Asked, Reads'4.Learnt, Reads''.Asked, Reads''.Learnt, Reads'.Asked, Reads'.Learnt, Reads'3.Asked, Reads'3.Learnt) Reads.Pre Reads.Post
 
 abbrev pub After-read-plan-arg8 : Type 0
-After-read-plan-arg8 = Lts.After-read-plan-arg8 (
-  Reads'4.Asked,
-  Reads'4.Learnt,
-  Reads''.Asked,
-  Reads''.Learnt,
-  Reads'.Asked,
-  Reads'.Learnt,
-  Reads'3.Asked,
-  Reads'3.Learnt,
-) Reads.Pre Reads.Post
+After-read-plan-arg8 = Lts.After-read-plan-arg8 (Reads'4.Asked, Reads'4.Learnt, Reads''.Asked, Reads''.Learnt, Reads'.Asked, Reads'.Learnt, Reads'3.Asked, Reads'3.Learnt) Reads.Pre Reads.Post
 
 abbrev pub After-first-drones : Type 0
-After-first-drones = Lts.After-first-drones (
-  Reads'4.Asked,
-  Reads'4.Learnt,
-  Reads''.Asked,
-  Reads''.Learnt,
-  Reads'.Asked,
-  Reads'.Learnt,
-  Reads'3.Asked,
-  Reads'3.Learnt,
-) Reads.Pre Reads.Post
+After-first-drones = Lts.After-first-drones (Reads'4.Asked, Reads'4.Learnt, Reads''.Asked, Reads''.Learnt, Reads'.Asked, Reads'.Learnt, Reads'3.Asked, Reads'3.Learnt) Reads.Pre Reads.Post
 
 abbrev pub After-first-stops : Type 0
-After-first-stops = Lts.After-first-stops (
-  Reads'4.Asked,
-  Reads'4.Learnt,
-  Reads''.Asked,
-  Reads''.Learnt,
-  Reads'.Asked,
-  Reads'.Learnt,
-  Reads'3.Asked,
-  Reads'3.Learnt,
-) Reads.Pre Reads.Post
+After-first-stops = Lts.After-first-stops (Reads'4.Asked, Reads'4.Learnt, Reads''.Asked, Reads''.Learnt, Reads'.Asked, Reads'.Learnt, Reads'3.Asked, Reads'3.Learnt) Reads.Pre Reads.Post
 
 abbrev pub After-second-drones : Type 0
-After-second-drones = Lts.After-second-drones (
-  Reads'4.Asked,
-  Reads'4.Learnt,
-  Reads''.Asked,
-  Reads''.Learnt,
-  Reads'.Asked,
-  Reads'.Learnt,
-  Reads'3.Asked,
-  Reads'3.Learnt,
-) Reads.Pre Reads.Post
+After-second-drones = Lts.After-second-drones (Reads'4.Asked, Reads'4.Learnt, Reads''.Asked, Reads''.Learnt, Reads'.Asked, Reads'.Learnt, Reads'3.Asked, Reads'3.Learnt) Reads.Pre Reads.Post
 
 abbrev pub After-second-stops : Type 0
-After-second-stops = Lts.After-second-stops (
-  Reads'4.Asked,
-  Reads'4.Learnt,
-  Reads''.Asked,
-  Reads''.Learnt,
-  Reads'.Asked,
-  Reads'.Learnt,
-  Reads'3.Asked,
-  Reads'3.Learnt,
-) Reads.Pre Reads.Post
+After-second-stops = Lts.After-second-stops (Reads'4.Asked, Reads'4.Learnt, Reads''.Asked, Reads''.Learnt, Reads'.Asked, Reads'.Learnt, Reads'3.Asked, Reads'3.Learnt) Reads.Pre Reads.Post
 
 abbrev pub After-flags : Type 0
-After-flags = Lts.After-flags (
-  Reads'4.Asked,
-  Reads'4.Learnt,
-  Reads''.Asked,
-  Reads''.Learnt,
-  Reads'.Asked,
-  Reads'.Learnt,
-  Reads'3.Asked,
-  Reads'3.Learnt,
-) Reads.Pre Reads.Post
+After-flags = Lts.After-flags (Reads'4.Asked, Reads'4.Learnt, Reads''.Asked, Reads''.Learnt, Reads'.Asked, Reads'.Learnt, Reads'3.Asked, Reads'3.Learnt) Reads.Pre Reads.Post
 
 abbrev pub After-read-plan : Type 0
-After-read-plan = Lts.After-read-plan (
-  Reads'4.Asked,
-  Reads'4.Learnt,
-  Reads''.Asked,
-  Reads''.Learnt,
-  Reads'.Asked,
-  Reads'.Learnt,
-  Reads'3.Asked,
-  Reads'3.Learnt,
-) Reads.Pre Reads.Post
+After-read-plan = Lts.After-read-plan (Reads'4.Asked, Reads'4.Learnt, Reads''.Asked, Reads''.Learnt, Reads'.Asked, Reads'.Learnt, Reads'3.Asked, Reads'3.Learnt) Reads.Pre Reads.Post
 
 abbrev pub After-drone-count : Type 0
-After-drone-count = Lts.After-drone-count (
-  Reads'4.Asked,
-  Reads'4.Learnt,
-  Reads''.Asked,
-  Reads''.Learnt,
-  Reads'.Asked,
-  Reads'.Learnt,
-  Reads'3.Asked,
-  Reads'3.Learnt,
-) Reads.Pre Reads.Post
+After-drone-count = Lts.After-drone-count (Reads'4.Asked, Reads'4.Learnt, Reads''.Asked, Reads''.Learnt, Reads'.Asked, Reads'.Learnt, Reads'3.Asked, Reads'3.Learnt) Reads.Pre Reads.Post
 
 abbrev pub After-slice-known9 : Type 0
-After-slice-known9 = Lts.After-slice-known9 (
-  Reads'4.Asked,
-  Reads'4.Learnt,
-  Reads''.Asked,
-  Reads''.Learnt,
-  Reads'.Asked,
-  Reads'.Learnt,
-  Reads'3.Asked,
-  Reads'3.Learnt,
-) Reads.Pre Reads.Post
+After-slice-known9 = Lts.After-slice-known9 (Reads'4.Asked, Reads'4.Learnt, Reads''.Asked, Reads''.Learnt, Reads'.Asked, Reads'.Learnt, Reads'3.Asked, Reads'3.Learnt) Reads.Pre Reads.Post
 
 abbrev pub After-dependency-count : Type 0
-After-dependency-count = Lts.After-dependency-count (
-  Reads'4.Asked,
-  Reads'4.Learnt,
-  Reads''.Asked,
-  Reads''.Learnt,
-  Reads'.Asked,
-  Reads'.Learnt,
-  Reads'3.Asked,
-  Reads'3.Learnt,
-) Reads.Pre Reads.Post
+After-dependency-count = Lts.After-dependency-count (Reads'4.Asked, Reads'4.Learnt, Reads''.Asked, Reads''.Learnt, Reads'.Asked, Reads'.Learnt, Reads'3.Asked, Reads'3.Learnt) Reads.Pre Reads.Post
 
 abbrev pub After-slice-known10 : Type 0
-After-slice-known10 = Lts.After-slice-known10 (
-  Reads'4.Asked,
-  Reads'4.Learnt,
-  Reads''.Asked,
-  Reads''.Learnt,
-  Reads'.Asked,
-  Reads'.Learnt,
-  Reads'3.Asked,
-  Reads'3.Learnt,
-) Reads.Pre Reads.Post
+After-slice-known10 = Lts.After-slice-known10 (Reads'4.Asked, Reads'4.Learnt, Reads''.Asked, Reads''.Learnt, Reads'.Asked, Reads'.Learnt, Reads'3.Asked, Reads'3.Learnt) Reads.Pre Reads.Post
 
 abbrev pub After-names : Type 0
-After-names = Lts.After-names (
-  Reads'4.Asked,
-  Reads'4.Learnt,
-  Reads''.Asked,
-  Reads''.Learnt,
-  Reads'.Asked,
-  Reads'.Learnt,
-  Reads'3.Asked,
-  Reads'3.Learnt,
-) Reads.Pre Reads.Post
+After-names = Lts.After-names (Reads'4.Asked, Reads'4.Learnt, Reads''.Asked, Reads''.Learnt, Reads'.Asked, Reads'.Learnt, Reads'3.Asked, Reads'3.Learnt) Reads.Pre Reads.Post
 
 abbrev pub After-slice-known11 : Type 0
-After-slice-known11 = Lts.After-slice-known11 (
-  Reads'4.Asked,
-  Reads'4.Learnt,
-  Reads''.Asked,
-  Reads''.Learnt,
-  Reads'.Asked,
-  Reads'.Learnt,
-  Reads'3.Asked,
-  Reads'3.Learnt,
-) Reads.Pre Reads.Post
+After-slice-known11 = Lts.After-slice-known11 (Reads'4.Asked, Reads'4.Learnt, Reads''.Asked, Reads''.Learnt, Reads'.Asked, Reads'.Learnt, Reads'3.Asked, Reads'3.Learnt) Reads.Pre Reads.Post
 
 abbrev pub After-stop-counts : Type 0
-After-stop-counts = Lts.After-stop-counts (
-  Reads'4.Asked,
-  Reads'4.Learnt,
-  Reads''.Asked,
-  Reads''.Learnt,
-  Reads'.Asked,
-  Reads'.Learnt,
-  Reads'3.Asked,
-  Reads'3.Learnt,
-) Reads.Pre Reads.Post
+After-stop-counts = Lts.After-stop-counts (Reads'4.Asked, Reads'4.Learnt, Reads''.Asked, Reads''.Learnt, Reads'.Asked, Reads'.Learnt, Reads'3.Asked, Reads'3.Learnt) Reads.Pre Reads.Post
 
 abbrev pub After-slice-known12 : Type 0
-After-slice-known12 = Lts.After-slice-known12 (
-  Reads'4.Asked,
-  Reads'4.Learnt,
-  Reads''.Asked,
-  Reads''.Learnt,
-  Reads'.Asked,
-  Reads'.Learnt,
-  Reads'3.Asked,
-  Reads'3.Learnt,
-) Reads.Pre Reads.Post
+After-slice-known12 = Lts.After-slice-known12 (Reads'4.Asked, Reads'4.Learnt, Reads''.Asked, Reads''.Learnt, Reads'.Asked, Reads'.Learnt, Reads'3.Asked, Reads'3.Learnt) Reads.Pre Reads.Post
 
 abbrev pub After-locations : Type 0
-After-locations = Lts.After-locations (
-  Reads'4.Asked,
-  Reads'4.Learnt,
-  Reads''.Asked,
-  Reads''.Learnt,
-  Reads'.Asked,
-  Reads'.Learnt,
-  Reads'3.Asked,
-  Reads'3.Learnt,
-) Reads.Pre Reads.Post
+After-locations = Lts.After-locations (Reads'4.Asked, Reads'4.Learnt, Reads''.Asked, Reads''.Learnt, Reads'.Asked, Reads'.Learnt, Reads'3.Asked, Reads'3.Learnt) Reads.Pre Reads.Post
 
 abbrev pub After-slice-known13 : Type 0
-After-slice-known13 = Lts.After-slice-known13 (
-  Reads'4.Asked,
-  Reads'4.Learnt,
-  Reads''.Asked,
-  Reads''.Learnt,
-  Reads'.Asked,
-  Reads'.Learnt,
-  Reads'3.Asked,
-  Reads'3.Learnt,
-) Reads.Pre Reads.Post
+After-slice-known13 = Lts.After-slice-known13 (Reads'4.Asked, Reads'4.Learnt, Reads''.Asked, Reads''.Learnt, Reads'.Asked, Reads'.Learnt, Reads'3.Asked, Reads'3.Learnt) Reads.Pre Reads.Post
 
 abbrev pub After-times : Type 0
-After-times = Lts.After-times (
-  Reads'4.Asked,
-  Reads'4.Learnt,
-  Reads''.Asked,
-  Reads''.Learnt,
-  Reads'.Asked,
-  Reads'.Learnt,
-  Reads'3.Asked,
-  Reads'3.Learnt,
-) Reads.Pre Reads.Post
+After-times = Lts.After-times (Reads'4.Asked, Reads'4.Learnt, Reads''.Asked, Reads''.Learnt, Reads'.Asked, Reads'.Learnt, Reads'3.Asked, Reads'3.Learnt) Reads.Pre Reads.Post
 
 abbrev pub After-slice-known14 : Type 0
-After-slice-known14 = Lts.After-slice-known14 (
-  Reads'4.Asked,
-  Reads'4.Learnt,
-  Reads''.Asked,
-  Reads''.Learnt,
-  Reads'.Asked,
-  Reads'.Learnt,
-  Reads'3.Asked,
-  Reads'3.Learnt,
-) Reads.Pre Reads.Post
+After-slice-known14 = Lts.After-slice-known14 (Reads'4.Asked, Reads'4.Learnt, Reads''.Asked, Reads''.Learnt, Reads'.Asked, Reads'.Learnt, Reads'3.Asked, Reads'3.Learnt) Reads.Pre Reads.Post
 
 abbrev pub After-visited : Type 0
-After-visited = Lts.After-visited (
-  Reads'4.Asked,
-  Reads'4.Learnt,
-  Reads''.Asked,
-  Reads''.Learnt,
-  Reads'.Asked,
-  Reads'.Learnt,
-  Reads'3.Asked,
-  Reads'3.Learnt,
-) Reads.Pre Reads.Post
+After-visited = Lts.After-visited (Reads'4.Asked, Reads'4.Learnt, Reads''.Asked, Reads''.Learnt, Reads'.Asked, Reads'.Learnt, Reads'3.Asked, Reads'3.Learnt) Reads.Pre Reads.Post
 
 abbrev pub After-slice-known15 : Type 0
-After-slice-known15 = Lts.After-slice-known15 (
-  Reads'4.Asked,
-  Reads'4.Learnt,
-  Reads''.Asked,
-  Reads''.Learnt,
-  Reads'.Asked,
-  Reads'.Learnt,
-  Reads'3.Asked,
-  Reads'3.Learnt,
-) Reads.Pre Reads.Post
+After-slice-known15 = Lts.After-slice-known15 (Reads'4.Asked, Reads'4.Learnt, Reads''.Asked, Reads''.Learnt, Reads'.Asked, Reads'.Learnt, Reads'3.Asked, Reads'3.Learnt) Reads.Pre Reads.Post
 
 abbrev pub After-drone-flags : Type 0
-After-drone-flags = Lts.After-drone-flags (
-  Reads'4.Asked,
-  Reads'4.Learnt,
-  Reads''.Asked,
-  Reads''.Learnt,
-  Reads'.Asked,
-  Reads'.Learnt,
-  Reads'3.Asked,
-  Reads'3.Learnt,
-) Reads.Pre Reads.Post
+After-drone-flags = Lts.After-drone-flags (Reads'4.Asked, Reads'4.Learnt, Reads''.Asked, Reads''.Learnt, Reads'.Asked, Reads'.Learnt, Reads'3.Asked, Reads'3.Learnt) Reads.Pre Reads.Post
 
 abbrev pub After-slice-known16 : Type 0
-After-slice-known16 = Lts.After-slice-known16 (
-  Reads'4.Asked,
-  Reads'4.Learnt,
-  Reads''.Asked,
-  Reads''.Learnt,
-  Reads'.Asked,
-  Reads'.Learnt,
-  Reads'3.Asked,
-  Reads'3.Learnt,
-) Reads.Pre Reads.Post
+After-slice-known16 = Lts.After-slice-known16 (Reads'4.Asked, Reads'4.Learnt, Reads''.Asked, Reads''.Learnt, Reads'.Asked, Reads'.Learnt, Reads'3.Asked, Reads'3.Learnt) Reads.Pre Reads.Post
 
 abbrev pub After-first-drones2 : Type 0
-After-first-drones2 = Lts.After-first-drones2 (
-  Reads'4.Asked,
-  Reads'4.Learnt,
-  Reads''.Asked,
-  Reads''.Learnt,
-  Reads'.Asked,
-  Reads'.Learnt,
-  Reads'3.Asked,
-  Reads'3.Learnt,
-) Reads.Pre Reads.Post
+After-first-drones2 = Lts.After-first-drones2 (Reads'4.Asked, Reads'4.Learnt, Reads''.Asked, Reads''.Learnt, Reads'.Asked, Reads'.Learnt, Reads'3.Asked, Reads'3.Learnt) Reads.Pre Reads.Post
 
 abbrev pub After-first-stops2 : Type 0
-After-first-stops2 = Lts.After-first-stops2 (
-  Reads'4.Asked,
-  Reads'4.Learnt,
-  Reads''.Asked,
-  Reads''.Learnt,
-  Reads'.Asked,
-  Reads'.Learnt,
-  Reads'3.Asked,
-  Reads'3.Learnt,
-) Reads.Pre Reads.Post
+After-first-stops2 = Lts.After-first-stops2 (Reads'4.Asked, Reads'4.Learnt, Reads''.Asked, Reads''.Learnt, Reads'.Asked, Reads'.Learnt, Reads'3.Asked, Reads'3.Learnt) Reads.Pre Reads.Post
 
 abbrev pub After-second-drones2 : Type 0
-After-second-drones2 = Lts.After-second-drones2 (
-  Reads'4.Asked,
-  Reads'4.Learnt,
-  Reads''.Asked,
-  Reads''.Learnt,
-  Reads'.Asked,
-  Reads'.Learnt,
-  Reads'3.Asked,
-  Reads'3.Learnt,
-) Reads.Pre Reads.Post
+After-second-drones2 = Lts.After-second-drones2 (Reads'4.Asked, Reads'4.Learnt, Reads''.Asked, Reads''.Learnt, Reads'.Asked, Reads'.Learnt, Reads'3.Asked, Reads'3.Learnt) Reads.Pre Reads.Post
 
 abbrev pub After-second-stops2 : Type 0
-After-second-stops2 = Lts.After-second-stops2 (
-  Reads'4.Asked,
-  Reads'4.Learnt,
-  Reads''.Asked,
-  Reads''.Learnt,
-  Reads'.Asked,
-  Reads'.Learnt,
-  Reads'3.Asked,
-  Reads'3.Learnt,
-) Reads.Pre Reads.Post
+After-second-stops2 = Lts.After-second-stops2 (Reads'4.Asked, Reads'4.Learnt, Reads''.Asked, Reads''.Learnt, Reads'.Asked, Reads'.Learnt, Reads'3.Asked, Reads'3.Learnt) Reads.Pre Reads.Post
 
 abbrev pub After-flags2 : Type 0
-After-flags2 = Lts.After-flags2 (
-  Reads'4.Asked,
-  Reads'4.Learnt,
-  Reads''.Asked,
-  Reads''.Learnt,
-  Reads'.Asked,
-  Reads'.Learnt,
-  Reads'3.Asked,
-  Reads'3.Learnt,
-) Reads.Pre Reads.Post
+After-flags2 = Lts.After-flags2 (Reads'4.Asked, Reads'4.Learnt, Reads''.Asked, Reads''.Learnt, Reads'.Asked, Reads'.Learnt, Reads'3.Asked, Reads'3.Learnt) Reads.Pre Reads.Post
 
 abbrev pub After-store-if-arg : Type 0
-After-store-if-arg = Lts.After-store-if-arg (
-  Reads'4.Asked,
-  Reads'4.Learnt,
-  Reads''.Asked,
-  Reads''.Learnt,
-  Reads'.Asked,
-  Reads'.Learnt,
-  Reads'3.Asked,
-  Reads'3.Learnt,
-) Reads.Pre Reads.Post
+After-store-if-arg = Lts.After-store-if-arg (Reads'4.Asked, Reads'4.Learnt, Reads''.Asked, Reads''.Learnt, Reads'.Asked, Reads'.Learnt, Reads'3.Asked, Reads'3.Learnt) Reads.Pre Reads.Post
 
 abbrev pub After-is-written : Type 0
-After-is-written = Lts.After-is-written (
-  Reads'4.Asked,
-  Reads'4.Learnt,
-  Reads''.Asked,
-  Reads''.Learnt,
-  Reads'.Asked,
-  Reads'.Learnt,
-  Reads'3.Asked,
-  Reads'3.Learnt,
-) Reads.Pre Reads.Post
+After-is-written = Lts.After-is-written (Reads'4.Asked, Reads'4.Learnt, Reads''.Asked, Reads''.Learnt, Reads'.Asked, Reads'.Learnt, Reads'3.Asked, Reads'3.Learnt) Reads.Pre Reads.Post
 
 abbrev pub After-first-drones3 : Type 0
-After-first-drones3 = Lts.After-first-drones3 (
-  Reads'4.Asked,
-  Reads'4.Learnt,
-  Reads''.Asked,
-  Reads''.Learnt,
-  Reads'.Asked,
-  Reads'.Learnt,
-  Reads'3.Asked,
-  Reads'3.Learnt,
-) Reads.Pre Reads.Post
+After-first-drones3 = Lts.After-first-drones3 (Reads'4.Asked, Reads'4.Learnt, Reads''.Asked, Reads''.Learnt, Reads'.Asked, Reads'.Learnt, Reads'3.Asked, Reads'3.Learnt) Reads.Pre Reads.Post
 
 abbrev pub After-first-stops3 : Type 0
-After-first-stops3 = Lts.After-first-stops3 (
-  Reads'4.Asked,
-  Reads'4.Learnt,
-  Reads''.Asked,
-  Reads''.Learnt,
-  Reads'.Asked,
-  Reads'.Learnt,
-  Reads'3.Asked,
-  Reads'3.Learnt,
-) Reads.Pre Reads.Post
+After-first-stops3 = Lts.After-first-stops3 (Reads'4.Asked, Reads'4.Learnt, Reads''.Asked, Reads''.Learnt, Reads'.Asked, Reads'.Learnt, Reads'3.Asked, Reads'3.Learnt) Reads.Pre Reads.Post
 
 abbrev pub After-second-drones3 : Type 0
-After-second-drones3 = Lts.After-second-drones3 (
-  Reads'4.Asked,
-  Reads'4.Learnt,
-  Reads''.Asked,
-  Reads''.Learnt,
-  Reads'.Asked,
-  Reads'.Learnt,
-  Reads'3.Asked,
-  Reads'3.Learnt,
-) Reads.Pre Reads.Post
+After-second-drones3 = Lts.After-second-drones3 (Reads'4.Asked, Reads'4.Learnt, Reads''.Asked, Reads''.Learnt, Reads'.Asked, Reads'.Learnt, Reads'3.Asked, Reads'3.Learnt) Reads.Pre Reads.Post
 
 abbrev pub After-second-stops3 : Type 0
-After-second-stops3 = Lts.After-second-stops3 (
-  Reads'4.Asked,
-  Reads'4.Learnt,
-  Reads''.Asked,
-  Reads''.Learnt,
-  Reads'.Asked,
-  Reads'.Learnt,
-  Reads'3.Asked,
-  Reads'3.Learnt,
-) Reads.Pre Reads.Post
+After-second-stops3 = Lts.After-second-stops3 (Reads'4.Asked, Reads'4.Learnt, Reads''.Asked, Reads''.Learnt, Reads'.Asked, Reads'.Learnt, Reads'3.Asked, Reads'3.Learnt) Reads.Pre Reads.Post
 
 abbrev pub After-flags3 : Type 0
-After-flags3 = Lts.After-flags3 (
-  Reads'4.Asked,
-  Reads'4.Learnt,
-  Reads''.Asked,
-  Reads''.Learnt,
-  Reads'.Asked,
-  Reads'.Learnt,
-  Reads'3.Asked,
-  Reads'3.Learnt,
-) Reads.Pre Reads.Post
+After-flags3 = Lts.After-flags3 (Reads'4.Asked, Reads'4.Learnt, Reads''.Asked, Reads''.Learnt, Reads'.Asked, Reads'.Learnt, Reads'3.Asked, Reads'3.Learnt) Reads.Pre Reads.Post
 
 abbrev pub After-store-if : Type 0
-After-store-if = Lts.After-store-if (
-  Reads'4.Asked,
-  Reads'4.Learnt,
-  Reads''.Asked,
-  Reads''.Learnt,
-  Reads'.Asked,
-  Reads'.Learnt,
-  Reads'3.Asked,
-  Reads'3.Learnt,
-) Reads.Pre Reads.Post
+After-store-if = Lts.After-store-if (Reads'4.Asked, Reads'4.Learnt, Reads''.Asked, Reads''.Learnt, Reads'.Asked, Reads'.Learnt, Reads'3.Asked, Reads'3.Learnt) Reads.Pre Reads.Post
 
 abbrev pub After-dependencies : Type 0
-After-dependencies = Lts.After-dependencies (
-  Reads'4.Asked,
-  Reads'4.Learnt,
-  Reads''.Asked,
-  Reads''.Learnt,
-  Reads'.Asked,
-  Reads'.Learnt,
-  Reads'3.Asked,
-  Reads'3.Learnt,
-) Reads.Pre Reads.Post
+After-dependencies = Lts.After-dependencies (Reads'4.Asked, Reads'4.Learnt, Reads''.Asked, Reads''.Learnt, Reads'.Asked, Reads'.Learnt, Reads'3.Asked, Reads'3.Learnt) Reads.Pre Reads.Post
 
 abbrev pub Need-below-full-requires : Type 0
-Need-below-full-requires = Lts.Need-below-full-requires (
-  Reads'4.Asked,
-  Reads'4.Learnt,
-  Reads''.Asked,
-  Reads''.Learnt,
-  Reads'.Asked,
-  Reads'.Learnt,
-  Reads'3.Asked,
-  Reads'3.Learnt,
-) Reads.Pre Reads.Post
+Need-below-full-requires = Lts.Need-below-full-requires (Reads'4.Asked, Reads'4.Learnt, Reads''.Asked, Reads''.Learnt, Reads'.Asked, Reads'.Learnt, Reads'3.Asked, Reads'3.Learnt) Reads.Pre Reads.Post
 
 abbrev pub Need-returns : Type 0
-Need-returns = Lts.Need-returns (
-  Reads'4.Asked,
-  Reads'4.Learnt,
-  Reads''.Asked,
-  Reads''.Learnt,
-  Reads'.Asked,
-  Reads'.Learnt,
-  Reads'3.Asked,
-  Reads'3.Learnt,
-) Reads.Pre Reads.Post
+Need-returns = Lts.Need-returns (Reads'4.Asked, Reads'4.Learnt, Reads''.Asked, Reads''.Learnt, Reads'.Asked, Reads'.Learnt, Reads'3.Asked, Reads'3.Learnt) Reads.Pre Reads.Post
 
 abbrev pub Need-slice-aggregate-read-plan : Type 0
-Need-slice-aggregate-read-plan = Lts.Need-slice-aggregate-read-plan (
-  Reads'4.Asked,
-  Reads'4.Learnt,
-  Reads''.Asked,
-  Reads''.Learnt,
-  Reads'.Asked,
-  Reads'.Learnt,
-  Reads'3.Asked,
-  Reads'3.Learnt,
-) Reads.Pre Reads.Post
+Need-slice-aggregate-read-plan = Lts.Need-slice-aggregate-read-plan (Reads'4.Asked, Reads'4.Learnt, Reads''.Asked, Reads''.Learnt, Reads'.Asked, Reads'.Learnt, Reads'3.Asked, Reads'3.Learnt) Reads.Pre Reads.Post
 
 abbrev pub Need-slice-aggregate-read-plan-2 : Type 0
-Need-slice-aggregate-read-plan-2 = Lts.Need-slice-aggregate-read-plan-2 (
-  Reads'4.Asked,
-  Reads'4.Learnt,
-  Reads''.Asked,
-  Reads''.Learnt,
-  Reads'.Asked,
-  Reads'.Learnt,
-  Reads'3.Asked,
-  Reads'3.Learnt,
-) Reads.Pre Reads.Post
+Need-slice-aggregate-read-plan-2 = Lts.Need-slice-aggregate-read-plan-2 (Reads'4.Asked, Reads'4.Learnt, Reads''.Asked, Reads''.Learnt, Reads'.Asked, Reads'.Learnt, Reads'3.Asked, Reads'3.Learnt) Reads.Pre Reads.Post
 
 abbrev pub Need-slice-aggregate-read-plan-3 : Type 0
-Need-slice-aggregate-read-plan-3 = Lts.Need-slice-aggregate-read-plan-3 (
-  Reads'4.Asked,
-  Reads'4.Learnt,
-  Reads''.Asked,
-  Reads''.Learnt,
-  Reads'.Asked,
-  Reads'.Learnt,
-  Reads'3.Asked,
-  Reads'3.Learnt,
-) Reads.Pre Reads.Post
+Need-slice-aggregate-read-plan-3 = Lts.Need-slice-aggregate-read-plan-3 (Reads'4.Asked, Reads'4.Learnt, Reads''.Asked, Reads''.Learnt, Reads'.Asked, Reads'.Learnt, Reads'3.Asked, Reads'3.Learnt) Reads.Pre Reads.Post
 
 abbrev pub Need-slice-aggregate-read-plan-4 : Type 0
-Need-slice-aggregate-read-plan-4 = Lts.Need-slice-aggregate-read-plan-4 (
-  Reads'4.Asked,
-  Reads'4.Learnt,
-  Reads''.Asked,
-  Reads''.Learnt,
-  Reads'.Asked,
-  Reads'.Learnt,
-  Reads'3.Asked,
-  Reads'3.Learnt,
-) Reads.Pre Reads.Post
+Need-slice-aggregate-read-plan-4 = Lts.Need-slice-aggregate-read-plan-4 (Reads'4.Asked, Reads'4.Learnt, Reads''.Asked, Reads''.Learnt, Reads'.Asked, Reads'.Learnt, Reads'3.Asked, Reads'3.Learnt) Reads.Pre Reads.Post
 
 abbrev pub Need-slice-aggregate-read-plan-5 : Type 0
-Need-slice-aggregate-read-plan-5 = Lts.Need-slice-aggregate-read-plan-5 (
-  Reads'4.Asked,
-  Reads'4.Learnt,
-  Reads''.Asked,
-  Reads''.Learnt,
-  Reads'.Asked,
-  Reads'.Learnt,
-  Reads'3.Asked,
-  Reads'3.Learnt,
-) Reads.Pre Reads.Post
+Need-slice-aggregate-read-plan-5 = Lts.Need-slice-aggregate-read-plan-5 (Reads'4.Asked, Reads'4.Learnt, Reads''.Asked, Reads''.Learnt, Reads'.Asked, Reads'.Learnt, Reads'3.Asked, Reads'3.Learnt) Reads.Pre Reads.Post
 
 abbrev pub Need-read-plan-requires : Type 0
-Need-read-plan-requires = Lts.Need-read-plan-requires (
-  Reads'4.Asked,
-  Reads'4.Learnt,
-  Reads''.Asked,
-  Reads''.Learnt,
-  Reads'.Asked,
-  Reads'.Learnt,
-  Reads'3.Asked,
-  Reads'3.Learnt,
-) Reads.Pre Reads.Post
+Need-read-plan-requires = Lts.Need-read-plan-requires (Reads'4.Asked, Reads'4.Learnt, Reads''.Asked, Reads''.Learnt, Reads'.Asked, Reads'.Learnt, Reads'3.Asked, Reads'3.Learnt) Reads.Pre Reads.Post
 
 abbrev pub Need-is-written-requires : Type 0
-Need-is-written-requires = Lts.Need-is-written-requires (
-  Reads'4.Asked,
-  Reads'4.Learnt,
-  Reads''.Asked,
-  Reads''.Learnt,
-  Reads'.Asked,
-  Reads'.Learnt,
-  Reads'3.Asked,
-  Reads'3.Learnt,
-) Reads.Pre Reads.Post
+Need-is-written-requires = Lts.Need-is-written-requires (Reads'4.Asked, Reads'4.Learnt, Reads''.Asked, Reads''.Learnt, Reads'.Asked, Reads'.Learnt, Reads'3.Asked, Reads'3.Learnt) Reads.Pre Reads.Post
 
 abbrev pub Need-store-if-requires : Type 0
-Need-store-if-requires = Lts.Need-store-if-requires (
-  Reads'4.Asked,
-  Reads'4.Learnt,
-  Reads''.Asked,
-  Reads''.Learnt,
-  Reads'.Asked,
-  Reads'.Learnt,
-  Reads'3.Asked,
-  Reads'3.Learnt,
-) Reads.Pre Reads.Post
+Need-store-if-requires = Lts.Need-store-if-requires (Reads'4.Asked, Reads'4.Learnt, Reads''.Asked, Reads''.Learnt, Reads'.Asked, Reads'.Learnt, Reads'3.Asked, Reads'3.Learnt) Reads.Pre Reads.Post
 
 abbrev pub Need-same-length : Type 0
-Need-same-length = Lts.Need-same-length (
-  Reads'4.Asked,
-  Reads'4.Learnt,
-  Reads''.Asked,
-  Reads''.Learnt,
-  Reads'.Asked,
-  Reads'.Learnt,
-  Reads'3.Asked,
-  Reads'3.Learnt,
-) Reads.Pre Reads.Post
+Need-same-length = Lts.Need-same-length (Reads'4.Asked, Reads'4.Learnt, Reads''.Asked, Reads''.Learnt, Reads'.Asked, Reads'.Learnt, Reads'3.Asked, Reads'3.Learnt) Reads.Pre Reads.Post
 
 abbrev pub Need-same-length-2 : Type 0
-Need-same-length-2 = Lts.Need-same-length-2 (
-  Reads'4.Asked,
-  Reads'4.Learnt,
-  Reads''.Asked,
-  Reads''.Learnt,
-  Reads'.Asked,
-  Reads'.Learnt,
-  Reads'3.Asked,
-  Reads'3.Learnt,
-) Reads.Pre Reads.Post
+Need-same-length-2 = Lts.Need-same-length-2 (Reads'4.Asked, Reads'4.Learnt, Reads''.Asked, Reads''.Learnt, Reads'.Asked, Reads'.Learnt, Reads'3.Asked, Reads'3.Learnt) Reads.Pre Reads.Post
 
 abbrev pub Need-same-length-3 : Type 0
-Need-same-length-3 = Lts.Need-same-length-3 (
-  Reads'4.Asked,
-  Reads'4.Learnt,
-  Reads''.Asked,
-  Reads''.Learnt,
-  Reads'.Asked,
-  Reads'.Learnt,
-  Reads'3.Asked,
-  Reads'3.Learnt,
-) Reads.Pre Reads.Post
+Need-same-length-3 = Lts.Need-same-length-3 (Reads'4.Asked, Reads'4.Learnt, Reads''.Asked, Reads''.Learnt, Reads'.Asked, Reads'.Learnt, Reads'3.Asked, Reads'3.Learnt) Reads.Pre Reads.Post
 
 abbrev pub Need-same-length-4 : Type 0
-Need-same-length-4 = Lts.Need-same-length-4 (
-  Reads'4.Asked,
-  Reads'4.Learnt,
-  Reads''.Asked,
-  Reads''.Learnt,
-  Reads'.Asked,
-  Reads'.Learnt,
-  Reads'3.Asked,
-  Reads'3.Learnt,
-) Reads.Pre Reads.Post
+Need-same-length-4 = Lts.Need-same-length-4 (Reads'4.Asked, Reads'4.Learnt, Reads''.Asked, Reads''.Learnt, Reads'.Asked, Reads'.Learnt, Reads'3.Asked, Reads'3.Learnt) Reads.Pre Reads.Post
 
 abbrev pub Need-same-length-5 : Type 0
-Need-same-length-5 = Lts.Need-same-length-5 (
-  Reads'4.Asked,
-  Reads'4.Learnt,
-  Reads''.Asked,
-  Reads''.Learnt,
-  Reads'.Asked,
-  Reads'.Learnt,
-  Reads'3.Asked,
-  Reads'3.Learnt,
-) Reads.Pre Reads.Post
+Need-same-length-5 = Lts.Need-same-length-5 (Reads'4.Asked, Reads'4.Learnt, Reads''.Asked, Reads''.Learnt, Reads'.Asked, Reads'.Learnt, Reads'3.Asked, Reads'3.Learnt) Reads.Pre Reads.Post
 
 abbrev pub Need-same-length-6 : Type 0
-Need-same-length-6 = Lts.Need-same-length-6 (
-  Reads'4.Asked,
-  Reads'4.Learnt,
-  Reads''.Asked,
-  Reads''.Learnt,
-  Reads'.Asked,
-  Reads'.Learnt,
-  Reads'3.Asked,
-  Reads'3.Learnt,
-) Reads.Pre Reads.Post
+Need-same-length-6 = Lts.Need-same-length-6 (Reads'4.Asked, Reads'4.Learnt, Reads''.Asked, Reads''.Learnt, Reads'.Asked, Reads'.Learnt, Reads'3.Asked, Reads'3.Learnt) Reads.Pre Reads.Post
 
 abbrev pub Need-same-length-7 : Type 0
-Need-same-length-7 = Lts.Need-same-length-7 (
-  Reads'4.Asked,
-  Reads'4.Learnt,
-  Reads''.Asked,
-  Reads''.Learnt,
-  Reads'.Asked,
-  Reads'.Learnt,
-  Reads'3.Asked,
-  Reads'3.Learnt,
-) Reads.Pre Reads.Post
+Need-same-length-7 = Lts.Need-same-length-7 (Reads'4.Asked, Reads'4.Learnt, Reads''.Asked, Reads''.Learnt, Reads'.Asked, Reads'.Learnt, Reads'3.Asked, Reads'3.Learnt) Reads.Pre Reads.Post
 
 abbrev pub Need-same-length-8 : Type 0
-Need-same-length-8 = Lts.Need-same-length-8 (
-  Reads'4.Asked,
-  Reads'4.Learnt,
-  Reads''.Asked,
-  Reads''.Learnt,
-  Reads'.Asked,
-  Reads'.Learnt,
-  Reads'3.Asked,
-  Reads'3.Learnt,
-) Reads.Pre Reads.Post
+Need-same-length-8 = Lts.Need-same-length-8 (Reads'4.Asked, Reads'4.Learnt, Reads''.Asked, Reads''.Learnt, Reads'.Asked, Reads'.Learnt, Reads'3.Asked, Reads'3.Learnt) Reads.Pre Reads.Post
 
 abbrev pub Need-same-length-9 : Type 0
-Need-same-length-9 = Lts.Need-same-length-9 (
-  Reads'4.Asked,
-  Reads'4.Learnt,
-  Reads''.Asked,
-  Reads''.Learnt,
-  Reads'.Asked,
-  Reads'.Learnt,
-  Reads'3.Asked,
-  Reads'3.Learnt,
-) Reads.Pre Reads.Post
+Need-same-length-9 = Lts.Need-same-length-9 (Reads'4.Asked, Reads'4.Learnt, Reads''.Asked, Reads''.Learnt, Reads'.Asked, Reads'.Learnt, Reads'3.Asked, Reads'3.Learnt) Reads.Pre Reads.Post
 
 abbrev pub Need-returns-2 : Type 0
-Need-returns-2 = Lts.Need-returns-2 (
-  Reads'4.Asked,
-  Reads'4.Learnt,
-  Reads''.Asked,
-  Reads''.Learnt,
-  Reads'.Asked,
-  Reads'.Learnt,
-  Reads'3.Asked,
-  Reads'3.Learnt,
-) Reads.Pre Reads.Post
+Need-returns-2 = Lts.Need-returns-2 (Reads'4.Asked, Reads'4.Learnt, Reads''.Asked, Reads''.Learnt, Reads'.Asked, Reads'.Learnt, Reads'3.Asked, Reads'3.Learnt) Reads.Pre Reads.Post
 
 module _ {M : Type 1} where
-  pub spec : (answer : Need-below-full-requires) → (answer : Need-returns) → (answer : Need-slice-aggregate-read-plan) → (answer : Need-slice-aggregate-read-plan-2) → (answer : Need-slice-aggregate-read-plan-3) → (answer : Need-slice-aggregate-read-plan-4) → (answer : Need-slice-aggregate-read-plan-5) → (answer : Need-read-plan-requires) →
-      (answer : Need-is-written-requires) → (answer : Need-store-if-requires) → (answer : Need-same-length) → (answer : Need-same-length-2) → (answer : Need-same-length-3) → (answer : Need-same-length-4) → (answer : Need-same-length-5) → (answer : Need-same-length-6) → (answer : Need-same-length-7) → (answer : Need-same-length-8) →
-      (answer : Need-same-length-9) → (answer : Need-returns-2) → Lts.Closed (Reads'4.Asked, Reads'4.Learnt, Reads''.Asked, Reads''.Learnt, Reads'.Asked, Reads'.Learnt, Reads'3.Asked, Reads'3.Learnt) Reads.Pre Reads.Post M
-  spec = λ answer answer' answer'' answer'3 answer'4 answer'5 answer'6 answer'7 answer'8 answer'9 answer'10 answer'11 answer'12 answer'13 answer'14 answer'15 answer'16 answer'17 answer'18 answer'19. Lts.spec (Reads'4.Asked, Reads'4.Learnt, Reads''.Asked, Reads''.Learnt, Reads'.Asked, Reads'.Learnt, Reads'3.Asked, Reads'3.Learnt) Reads.Pre Reads.Post
-      answer answer' answer'' answer'3 answer'4 answer'5 answer'6 answer'7 answer'8 answer'9 answer'10 answer'11 answer'12 answer'13 answer'14 answer'15 answer'16 answer'17 answer'18 answer'19
+  pub spec : (answer : Need-below-full-requires) → (answer : Need-returns) → (answer : Need-slice-aggregate-read-plan) → (answer : Need-slice-aggregate-read-plan-2) → (answer : Need-slice-aggregate-read-plan-3) → (answer : Need-slice-aggregate-read-plan-4) → (answer : Need-slice-aggregate-read-plan-5) → (answer : Need-read-plan-requires) → (answer :
+      Need-is-written-requires) → (answer : Need-store-if-requires) → (answer : Need-same-length) → (answer : Need-same-length-2) → (answer : Need-same-length-3) → (answer : Need-same-length-4) → (answer : Need-same-length-5) → (answer : Need-same-length-6) → (answer : Need-same-length-7) → (answer : Need-same-length-8) → (answer : Need-same-length-9) → (answer
+      : Need-returns-2) → Lts.Closed (Reads'4.Asked, Reads'4.Learnt, Reads''.Asked, Reads''.Learnt, Reads'.Asked, Reads'.Learnt, Reads'3.Asked, Reads'3.Learnt) Reads.Pre Reads.Post M
+  spec = λ answer answer' answer'' answer'3 answer'4 answer'5 answer'6 answer'7 answer'8 answer'9 answer'10 answer'11 answer'12 answer'13 answer'14 answer'15 answer'16 answer'17 answer'18 answer'19. Lts.spec (Reads'4.Asked, Reads'4.Learnt, Reads''.Asked, Reads''.Learnt, Reads'.Asked, Reads'.Learnt, Reads'3.Asked, Reads'3.Learnt) Reads.Pre Reads.Post answer
+      answer' answer'' answer'3 answer'4 answer'5 answer'6 answer'7 answer'8 answer'9 answer'10 answer'11 answer'12 answer'13 answer'14 answer'15 answer'16 answer'17 answer'18 answer'19
 
-  pub close : Lts.Closed (
-    Reads'4.Asked,
-    Reads'4.Learnt,
-    Reads''.Asked,
-    Reads''.Learnt,
-    Reads'.Asked,
-    Reads'.Learnt,
-    Reads'3.Asked,
-    Reads'3.Learnt,
-  ) Reads.Pre Reads.Post M → Statement.statement M
+  pub close : Lts.Closed (Reads'4.Asked, Reads'4.Learnt, Reads''.Asked, Reads''.Learnt, Reads'.Asked, Reads'.Learnt, Reads'3.Asked, Reads'3.Learnt) Reads.Pre Reads.Post M → Statement.statement M
   unfolding Code.routine Running.tablesOf
   close = λ closed 𝓤 H 𝓜 𝓖 𝓡. Written.close 10 Kinds.ps Kinds.r Reads.Ghost Reads.requires Reads.ensures Reads.pre-read Reads.Pinned Reads.Owned Reads.post-read record { M = M; 𝓤 = 𝓤; H = H; 𝓜 = 𝓜; 𝓖 = 𝓖; 𝓡 = 𝓡 } Code.env Key.name Code.function (Code.unfolded 𝓤 H 𝓜 𝓡) (λ κs a g. tt) (λ κs. Reads.owns κs record { M = M; 𝓤 = 𝓤; H = H; 𝓜 = 𝓜; 𝓖 = 𝓖; 𝓡 = 𝓡 })
-      (Reads.passes record { M = M; 𝓤 = 𝓤; H = H; 𝓜 = 𝓜; 𝓖 = 𝓖; 𝓡 = 𝓡 }) λ g. closed 𝓤 H (𝓖 .A) (Running.givenOf 𝓤 H 𝓜 𝓖) (Run.Over 𝓤 H 𝓜 𝓖 𝓡 Code.env) (Reads'4.known record { M = M; 𝓤 = 𝓤; H = H; 𝓜 = 𝓜; 𝓖 = 𝓖; 𝓡 = 𝓡 } Code.env Symbol'3.name Symbol'3.routine Code.calls-records·record·below-full (Met'3.met 𝓤 H 𝓜 𝓖 𝓡)) (Reads''.known
-      record { M = M; 𝓤 = 𝓤; H = H; 𝓜 = 𝓜; 𝓖 = 𝓖; 𝓡 = 𝓡 } Code.env Symbol'.name Symbol'.routine Code.calls-reading·entry·read-plan (Met'.met 𝓤 H 𝓜 𝓖 𝓡)) (Reads'.known record { M = M; 𝓤 = 𝓤; H = H; 𝓜 = 𝓜; 𝓖 = 𝓖; 𝓡 = 𝓡 } Code.env Symbol.name Symbol.routine Code.calls-conductor·changes·is-written (Met.met 𝓤 H 𝓜 𝓖 𝓡)) (Reads'3.known
-      record { M = M; 𝓤 = 𝓤; H = H; 𝓜 = 𝓜; 𝓖 = 𝓖; 𝓡 = 𝓡 } Code.env Symbol''.name Symbol''.routine Code.calls-records·lent·store-if (Met''.met 𝓤 H 𝓜 𝓖 𝓡))
+      (Reads.passes record { M = M; 𝓤 = 𝓤; H = H; 𝓜 = 𝓜; 𝓖 = 𝓖; 𝓡 = 𝓡 }) λ g. closed 𝓤 H (𝓖 .A) (Running.givenOf 𝓤 H 𝓜 𝓖) (Run.Over 𝓤 H 𝓜 𝓖 𝓡 Code.env) (Reads'4.known record { M = M; 𝓤 = 𝓤; H = H; 𝓜 = 𝓜; 𝓖 = 𝓖; 𝓡 = 𝓡 } Code.env Symbol'3.name Symbol'3.routine Code.calls-records·record·below-full (Met'3.met 𝓤 H 𝓜 𝓖 𝓡)) (Reads''.known record
+      { M = M; 𝓤 = 𝓤; H = H; 𝓜 = 𝓜; 𝓖 = 𝓖; 𝓡 = 𝓡 } Code.env Symbol'.name Symbol'.routine Code.calls-reading·entry·read-plan (Met'.met 𝓤 H 𝓜 𝓖 𝓡)) (Reads'.known record { M = M; 𝓤 = 𝓤; H = H; 𝓜 = 𝓜; 𝓖 = 𝓖; 𝓡 = 𝓡 } Code.env Symbol.name Symbol.routine Code.calls-conductor·changes·is-written (Met.met 𝓤 H 𝓜 𝓖 𝓡)) (Reads'3.known record
+      { M = M; 𝓤 = 𝓤; H = H; 𝓜 = 𝓜; 𝓖 = 𝓖; 𝓡 = 𝓡 } Code.env Symbol''.name Symbol''.routine Code.calls-records·lent·store-if (Met''.met 𝓤 H 𝓜 𝓖 𝓡))

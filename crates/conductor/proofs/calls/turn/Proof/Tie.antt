@@ -8,9 +8,9 @@ use Rattle.conductor.proofs.calls.turn.Statement
 use Rattle.conductor.proofs.changes.is_turned.Met
 use Rattle.conductor.proofs.changes.is_turned.Reads as Reads'
 use Rattle.conductor.proofs.changes.is_turned.Symbol
-use Rattle.flat.proofs.calls.turn.Met as Met'
-use Rattle.flat.proofs.calls.turn.Reads as Reads''
-use Rattle.flat.proofs.calls.turn.Symbol as Symbol'
+use Rattle.conductor.proofs.over.turn.Met as Met'
+use Rattle.conductor.proofs.over.turn.Reads as Reads''
+use Rattle.conductor.proofs.over.turn.Symbol as Symbol'
 use Rattle.records.proofs.lent.flip_if.Met as Met''
 use Rattle.records.proofs.Derived.flip_if.Reads as Reads'3
 use Rattle.records.proofs.lent.flip_if.Symbol as Symbol''
@@ -22,599 +22,73 @@ use borrow.Fn.Written
 use contract.Running
 
 abbrev pub Start : Type 0
-Start = Lts.Start (
-  Reads'4.Asked,
-  Reads'4.Learnt,
-  Reads''.Asked,
-  Reads''.Learnt,
-  Reads'.Asked,
-  Reads'.Learnt,
-  Reads'3.Asked,
-  Reads'3.Learnt,
-) Reads.Pre Reads.Post
-
-abbrev pub After-shared-slice-known : Type 0
-After-shared-slice-known = Lts.After-shared-slice-known (
-  Reads'4.Asked,
-  Reads'4.Learnt,
-  Reads''.Asked,
-  Reads''.Learnt,
-  Reads'.Asked,
-  Reads'.Learnt,
-  Reads'3.Asked,
-  Reads'3.Learnt,
-) Reads.Pre Reads.Post
-
-abbrev pub After-shared-slice-known2 : Type 0
-After-shared-slice-known2 = Lts.After-shared-slice-known2 (
-  Reads'4.Asked,
-  Reads'4.Learnt,
-  Reads''.Asked,
-  Reads''.Learnt,
-  Reads'.Asked,
-  Reads'.Learnt,
-  Reads'3.Asked,
-  Reads'3.Learnt,
-) Reads.Pre Reads.Post
-
-abbrev pub After-shared-slice-known3 : Type 0
-After-shared-slice-known3 = Lts.After-shared-slice-known3 (
-  Reads'4.Asked,
-  Reads'4.Learnt,
-  Reads''.Asked,
-  Reads''.Learnt,
-  Reads'.Asked,
-  Reads'.Learnt,
-  Reads'3.Asked,
-  Reads'3.Learnt,
-) Reads.Pre Reads.Post
-
-abbrev pub After-shared-slice-known4 : Type 0
-After-shared-slice-known4 = Lts.After-shared-slice-known4 (
-  Reads'4.Asked,
-  Reads'4.Learnt,
-  Reads''.Asked,
-  Reads''.Learnt,
-  Reads'.Asked,
-  Reads'.Learnt,
-  Reads'3.Asked,
-  Reads'3.Learnt,
-) Reads.Pre Reads.Post
-
-abbrev pub After-shared-slice-known5 : Type 0
-After-shared-slice-known5 = Lts.After-shared-slice-known5 (
-  Reads'4.Asked,
-  Reads'4.Learnt,
-  Reads''.Asked,
-  Reads''.Learnt,
-  Reads'.Asked,
-  Reads'.Learnt,
-  Reads'3.Asked,
-  Reads'3.Learnt,
-) Reads.Pre Reads.Post
-
-abbrev pub After-shared-slice-known6 : Type 0
-After-shared-slice-known6 = Lts.After-shared-slice-known6 (
-  Reads'4.Asked,
-  Reads'4.Learnt,
-  Reads''.Asked,
-  Reads''.Learnt,
-  Reads'.Asked,
-  Reads'.Learnt,
-  Reads'3.Asked,
-  Reads'3.Learnt,
-) Reads.Pre Reads.Post
-
-abbrev pub After-shared-slice-known7 : Type 0
-After-shared-slice-known7 = Lts.After-shared-slice-known7 (
-  Reads'4.Asked,
-  Reads'4.Learnt,
-  Reads''.Asked,
-  Reads''.Learnt,
-  Reads'.Asked,
-  Reads'.Learnt,
-  Reads'3.Asked,
-  Reads'3.Learnt,
-) Reads.Pre Reads.Post
-
-abbrev pub After-shared-slice-known8 : Type 0
-After-shared-slice-known8 = Lts.After-shared-slice-known8 (
-  Reads'4.Asked,
-  Reads'4.Learnt,
-  Reads''.Asked,
-  Reads''.Learnt,
-  Reads'.Asked,
-  Reads'.Learnt,
-  Reads'3.Asked,
-  Reads'3.Learnt,
-) Reads.Pre Reads.Post
+Start = Lts.Start (Reads'4.Asked, Reads'4.Learnt, Reads''.Asked, Reads''.Learnt, Reads'.Asked, Reads'.Learnt, Reads'3.Asked, Reads'3.Learnt) Reads.Pre Reads.Post
 
 abbrev pub After-spread-arg : Type 0
-After-spread-arg = Lts.After-spread-arg (
-  Reads'4.Asked,
-  Reads'4.Learnt,
-  Reads''.Asked,
-  Reads''.Learnt,
-  Reads'.Asked,
-  Reads'.Learnt,
-  Reads'3.Asked,
-  Reads'3.Learnt,
-) Reads.Pre Reads.Post
+After-spread-arg = Lts.After-spread-arg (Reads'4.Asked, Reads'4.Learnt, Reads''.Asked, Reads''.Learnt, Reads'.Asked, Reads'.Learnt, Reads'3.Asked, Reads'3.Learnt) Reads.Pre Reads.Post
 
-abbrev pub After-first-drones : Type 0
-After-first-drones = Lts.After-first-drones (
-  Reads'4.Asked,
-  Reads'4.Learnt,
-  Reads''.Asked,
-  Reads''.Learnt,
-  Reads'.Asked,
-  Reads'.Learnt,
-  Reads'3.Asked,
-  Reads'3.Learnt,
-) Reads.Pre Reads.Post
+abbrev pub After-stops : Type 0
+After-stops = Lts.After-stops (Reads'4.Asked, Reads'4.Learnt, Reads''.Asked, Reads''.Learnt, Reads'.Asked, Reads'.Learnt, Reads'3.Asked, Reads'3.Learnt) Reads.Pre Reads.Post
 
-abbrev pub After-first-stops : Type 0
-After-first-stops = Lts.After-first-stops (
-  Reads'4.Asked,
-  Reads'4.Learnt,
-  Reads''.Asked,
-  Reads''.Learnt,
-  Reads'.Asked,
-  Reads'.Learnt,
-  Reads'3.Asked,
-  Reads'3.Learnt,
-) Reads.Pre Reads.Post
-
-abbrev pub After-second-drones : Type 0
-After-second-drones = Lts.After-second-drones (
-  Reads'4.Asked,
-  Reads'4.Learnt,
-  Reads''.Asked,
-  Reads''.Learnt,
-  Reads'.Asked,
-  Reads'.Learnt,
-  Reads'3.Asked,
-  Reads'3.Learnt,
-) Reads.Pre Reads.Post
-
-abbrev pub After-second-stops : Type 0
-After-second-stops = Lts.After-second-stops (
-  Reads'4.Asked,
-  Reads'4.Learnt,
-  Reads''.Asked,
-  Reads''.Learnt,
-  Reads'.Asked,
-  Reads'.Learnt,
-  Reads'3.Asked,
-  Reads'3.Learnt,
-) Reads.Pre Reads.Post
+abbrev pub After-drones : Type 0
+After-drones = Lts.After-drones (Reads'4.Asked, Reads'4.Learnt, Reads''.Asked, Reads''.Learnt, Reads'.Asked, Reads'.Learnt, Reads'3.Asked, Reads'3.Learnt) Reads.Pre Reads.Post
 
 abbrev pub After-flags : Type 0
-After-flags = Lts.After-flags (
-  Reads'4.Asked,
-  Reads'4.Learnt,
-  Reads''.Asked,
-  Reads''.Learnt,
-  Reads'.Asked,
-  Reads'.Learnt,
-  Reads'3.Asked,
-  Reads'3.Learnt,
-) Reads.Pre Reads.Post
+After-flags = Lts.After-flags (Reads'4.Asked, Reads'4.Learnt, Reads''.Asked, Reads''.Learnt, Reads'.Asked, Reads'.Learnt, Reads'3.Asked, Reads'3.Learnt) Reads.Pre Reads.Post
 
 abbrev pub After-spread : Type 0
-After-spread = Lts.After-spread (
-  Reads'4.Asked,
-  Reads'4.Learnt,
-  Reads''.Asked,
-  Reads''.Learnt,
-  Reads'.Asked,
-  Reads'.Learnt,
-  Reads'3.Asked,
-  Reads'3.Learnt,
-) Reads.Pre Reads.Post
+After-spread = Lts.After-spread (Reads'4.Asked, Reads'4.Learnt, Reads''.Asked, Reads''.Learnt, Reads'.Asked, Reads'.Learnt, Reads'3.Asked, Reads'3.Learnt) Reads.Pre Reads.Post
 
-abbrev pub At-match-keys1 : Type 0
-At-match-keys1 = Lts.At-match-keys1 (
-  Reads'4.Asked,
-  Reads'4.Learnt,
-  Reads''.Asked,
-  Reads''.Learnt,
-  Reads'.Asked,
-  Reads'.Learnt,
-  Reads'3.Asked,
-  Reads'3.Learnt,
-) Reads.Pre Reads.Post
+abbrev pub After-stops2 : Type 0
+After-stops2 = Lts.After-stops2 (Reads'4.Asked, Reads'4.Learnt, Reads''.Asked, Reads''.Learnt, Reads'.Asked, Reads'.Learnt, Reads'3.Asked, Reads'3.Learnt) Reads.Pre Reads.Post
 
-abbrev pub After-enum-told : Type 0
-After-enum-told = Lts.After-enum-told (
-  Reads'4.Asked,
-  Reads'4.Learnt,
-  Reads''.Asked,
-  Reads''.Learnt,
-  Reads'.Asked,
-  Reads'.Learnt,
-  Reads'3.Asked,
-  Reads'3.Learnt,
-) Reads.Pre Reads.Post
-
-abbrev pub At-match-keys2 : Type 0
-At-match-keys2 = Lts.At-match-keys2 (
-  Reads'4.Asked,
-  Reads'4.Learnt,
-  Reads''.Asked,
-  Reads''.Learnt,
-  Reads'.Asked,
-  Reads'.Learnt,
-  Reads'3.Asked,
-  Reads'3.Learnt,
-) Reads.Pre Reads.Post
-
-abbrev pub After-enum-told2 : Type 0
-After-enum-told2 = Lts.After-enum-told2 (
-  Reads'4.Asked,
-  Reads'4.Learnt,
-  Reads''.Asked,
-  Reads''.Learnt,
-  Reads'.Asked,
-  Reads'.Learnt,
-  Reads'3.Asked,
-  Reads'3.Learnt,
-) Reads.Pre Reads.Post
-
-abbrev pub At-match-keys3 : Type 0
-At-match-keys3 = Lts.At-match-keys3 (
-  Reads'4.Asked,
-  Reads'4.Learnt,
-  Reads''.Asked,
-  Reads''.Learnt,
-  Reads'.Asked,
-  Reads'.Learnt,
-  Reads'3.Asked,
-  Reads'3.Learnt,
-) Reads.Pre Reads.Post
-
-abbrev pub After-enum-told3 : Type 0
-After-enum-told3 = Lts.After-enum-told3 (
-  Reads'4.Asked,
-  Reads'4.Learnt,
-  Reads''.Asked,
-  Reads''.Learnt,
-  Reads'.Asked,
-  Reads'.Learnt,
-  Reads'3.Asked,
-  Reads'3.Learnt,
-) Reads.Pre Reads.Post
-
-abbrev pub After-first-drones2 : Type 0
-After-first-drones2 = Lts.After-first-drones2 (
-  Reads'4.Asked,
-  Reads'4.Learnt,
-  Reads''.Asked,
-  Reads''.Learnt,
-  Reads'.Asked,
-  Reads'.Learnt,
-  Reads'3.Asked,
-  Reads'3.Learnt,
-) Reads.Pre Reads.Post
-
-abbrev pub After-first-stops2 : Type 0
-After-first-stops2 = Lts.After-first-stops2 (
-  Reads'4.Asked,
-  Reads'4.Learnt,
-  Reads''.Asked,
-  Reads''.Learnt,
-  Reads'.Asked,
-  Reads'.Learnt,
-  Reads'3.Asked,
-  Reads'3.Learnt,
-) Reads.Pre Reads.Post
-
-abbrev pub After-second-drones2 : Type 0
-After-second-drones2 = Lts.After-second-drones2 (
-  Reads'4.Asked,
-  Reads'4.Learnt,
-  Reads''.Asked,
-  Reads''.Learnt,
-  Reads'.Asked,
-  Reads'.Learnt,
-  Reads'3.Asked,
-  Reads'3.Learnt,
-) Reads.Pre Reads.Post
-
-abbrev pub After-second-stops2 : Type 0
-After-second-stops2 = Lts.After-second-stops2 (
-  Reads'4.Asked,
-  Reads'4.Learnt,
-  Reads''.Asked,
-  Reads''.Learnt,
-  Reads'.Asked,
-  Reads'.Learnt,
-  Reads'3.Asked,
-  Reads'3.Learnt,
-) Reads.Pre Reads.Post
+abbrev pub After-drones2 : Type 0
+After-drones2 = Lts.After-drones2 (Reads'4.Asked, Reads'4.Learnt, Reads''.Asked, Reads''.Learnt, Reads'.Asked, Reads'.Learnt, Reads'3.Asked, Reads'3.Learnt) Reads.Pre Reads.Post
 
 abbrev pub After-flags2 : Type 0
-After-flags2 = Lts.After-flags2 (
-  Reads'4.Asked,
-  Reads'4.Learnt,
-  Reads''.Asked,
-  Reads''.Learnt,
-  Reads'.Asked,
-  Reads'.Learnt,
-  Reads'3.Asked,
-  Reads'3.Learnt,
-) Reads.Pre Reads.Post
+After-flags2 = Lts.After-flags2 (Reads'4.Asked, Reads'4.Learnt, Reads''.Asked, Reads''.Learnt, Reads'.Asked, Reads'.Learnt, Reads'3.Asked, Reads'3.Learnt) Reads.Pre Reads.Post
 
 abbrev pub After-turn : Type 0
-After-turn = Lts.After-turn (
-  Reads'4.Asked,
-  Reads'4.Learnt,
-  Reads''.Asked,
-  Reads''.Learnt,
-  Reads'.Asked,
-  Reads'.Learnt,
-  Reads'3.Asked,
-  Reads'3.Learnt,
-) Reads.Pre Reads.Post
-
-abbrev pub After-flags3 : Type 0
-After-flags3 = Lts.After-flags3 (
-  Reads'4.Asked,
-  Reads'4.Learnt,
-  Reads''.Asked,
-  Reads''.Learnt,
-  Reads'.Asked,
-  Reads'.Learnt,
-  Reads'3.Asked,
-  Reads'3.Learnt,
-) Reads.Pre Reads.Post
-
-abbrev pub At-match-came : Type 0
-At-match-came = Lts.At-match-came (
-  Reads'4.Asked,
-  Reads'4.Learnt,
-  Reads''.Asked,
-  Reads''.Learnt,
-  Reads'.Asked,
-  Reads'.Learnt,
-  Reads'3.Asked,
-  Reads'3.Learnt,
-) Reads.Pre Reads.Post
+After-turn = Lts.After-turn (Reads'4.Asked, Reads'4.Learnt, Reads''.Asked, Reads''.Learnt, Reads'.Asked, Reads'.Learnt, Reads'3.Asked, Reads'3.Learnt) Reads.Pre Reads.Post
 
 abbrev pub After-flip-if-arg : Type 0
-After-flip-if-arg = Lts.After-flip-if-arg (
-  Reads'4.Asked,
-  Reads'4.Learnt,
-  Reads''.Asked,
-  Reads''.Learnt,
-  Reads'.Asked,
-  Reads'.Learnt,
-  Reads'3.Asked,
-  Reads'3.Learnt,
-) Reads.Pre Reads.Post
+After-flip-if-arg = Lts.After-flip-if-arg (Reads'4.Asked, Reads'4.Learnt, Reads''.Asked, Reads''.Learnt, Reads'.Asked, Reads'.Learnt, Reads'3.Asked, Reads'3.Learnt) Reads.Pre Reads.Post
 
 abbrev pub After-is-turned : Type 0
-After-is-turned = Lts.After-is-turned (
-  Reads'4.Asked,
-  Reads'4.Learnt,
-  Reads''.Asked,
-  Reads''.Learnt,
-  Reads'.Asked,
-  Reads'.Learnt,
-  Reads'3.Asked,
-  Reads'3.Learnt,
-) Reads.Pre Reads.Post
+After-is-turned = Lts.After-is-turned (Reads'4.Asked, Reads'4.Learnt, Reads''.Asked, Reads''.Learnt, Reads'.Asked, Reads'.Learnt, Reads'3.Asked, Reads'3.Learnt) Reads.Pre Reads.Post
 
 abbrev pub After-flip-if : Type 0
-After-flip-if = Lts.After-flip-if (
-  Reads'4.Asked,
-  Reads'4.Learnt,
-  Reads''.Asked,
-  Reads''.Learnt,
-  Reads'.Asked,
-  Reads'.Learnt,
-  Reads'3.Asked,
-  Reads'3.Learnt,
-) Reads.Pre Reads.Post
+After-flip-if = Lts.After-flip-if (Reads'4.Asked, Reads'4.Learnt, Reads''.Asked, Reads''.Learnt, Reads'.Asked, Reads'.Learnt, Reads'3.Asked, Reads'3.Learnt) Reads.Pre Reads.Post
 
 abbrev pub After-dependencies : Type 0
-After-dependencies = Lts.After-dependencies (
-  Reads'4.Asked,
-  Reads'4.Learnt,
-  Reads''.Asked,
-  Reads''.Learnt,
-  Reads'.Asked,
-  Reads'.Learnt,
-  Reads'3.Asked,
-  Reads'3.Learnt,
-) Reads.Pre Reads.Post
+After-dependencies = Lts.After-dependencies (Reads'4.Asked, Reads'4.Learnt, Reads''.Asked, Reads''.Learnt, Reads'.Asked, Reads'.Learnt, Reads'3.Asked, Reads'3.Learnt) Reads.Pre Reads.Post
 
 abbrev pub Need-spread-requires : Type 0
-Need-spread-requires = Lts.Need-spread-requires (
-  Reads'4.Asked,
-  Reads'4.Learnt,
-  Reads''.Asked,
-  Reads''.Learnt,
-  Reads'.Asked,
-  Reads'.Learnt,
-  Reads'3.Asked,
-  Reads'3.Learnt,
-) Reads.Pre Reads.Post
-
-abbrev pub Need-enum-told : Type 0
-Need-enum-told = Lts.Need-enum-told (
-  Reads'4.Asked,
-  Reads'4.Learnt,
-  Reads''.Asked,
-  Reads''.Learnt,
-  Reads'.Asked,
-  Reads'.Learnt,
-  Reads'3.Asked,
-  Reads'3.Learnt,
-) Reads.Pre Reads.Post
-
-abbrev pub Need-enum-told-2 : Type 0
-Need-enum-told-2 = Lts.Need-enum-told-2 (
-  Reads'4.Asked,
-  Reads'4.Learnt,
-  Reads''.Asked,
-  Reads''.Learnt,
-  Reads'.Asked,
-  Reads'.Learnt,
-  Reads'3.Asked,
-  Reads'3.Learnt,
-) Reads.Pre Reads.Post
-
-abbrev pub Need-enum-told-3 : Type 0
-Need-enum-told-3 = Lts.Need-enum-told-3 (
-  Reads'4.Asked,
-  Reads'4.Learnt,
-  Reads''.Asked,
-  Reads''.Learnt,
-  Reads'.Asked,
-  Reads'.Learnt,
-  Reads'3.Asked,
-  Reads'3.Learnt,
-) Reads.Pre Reads.Post
-
-abbrev pub Need-slice-aggregate-turn : Type 0
-Need-slice-aggregate-turn = Lts.Need-slice-aggregate-turn (
-  Reads'4.Asked,
-  Reads'4.Learnt,
-  Reads''.Asked,
-  Reads''.Learnt,
-  Reads'.Asked,
-  Reads'.Learnt,
-  Reads'3.Asked,
-  Reads'3.Learnt,
-) Reads.Pre Reads.Post
-
-abbrev pub Need-slice-aggregate-turn-2 : Type 0
-Need-slice-aggregate-turn-2 = Lts.Need-slice-aggregate-turn-2 (
-  Reads'4.Asked,
-  Reads'4.Learnt,
-  Reads''.Asked,
-  Reads''.Learnt,
-  Reads'.Asked,
-  Reads'.Learnt,
-  Reads'3.Asked,
-  Reads'3.Learnt,
-) Reads.Pre Reads.Post
-
-abbrev pub Need-slice-aggregate-turn-3 : Type 0
-Need-slice-aggregate-turn-3 = Lts.Need-slice-aggregate-turn-3 (
-  Reads'4.Asked,
-  Reads'4.Learnt,
-  Reads''.Asked,
-  Reads''.Learnt,
-  Reads'.Asked,
-  Reads'.Learnt,
-  Reads'3.Asked,
-  Reads'3.Learnt,
-) Reads.Pre Reads.Post
-
-abbrev pub Need-slice-aggregate-turn-4 : Type 0
-Need-slice-aggregate-turn-4 = Lts.Need-slice-aggregate-turn-4 (
-  Reads'4.Asked,
-  Reads'4.Learnt,
-  Reads''.Asked,
-  Reads''.Learnt,
-  Reads'.Asked,
-  Reads'.Learnt,
-  Reads'3.Asked,
-  Reads'3.Learnt,
-) Reads.Pre Reads.Post
-
-abbrev pub Need-slice-aggregate-turn-5 : Type 0
-Need-slice-aggregate-turn-5 = Lts.Need-slice-aggregate-turn-5 (
-  Reads'4.Asked,
-  Reads'4.Learnt,
-  Reads''.Asked,
-  Reads''.Learnt,
-  Reads'.Asked,
-  Reads'.Learnt,
-  Reads'3.Asked,
-  Reads'3.Learnt,
-) Reads.Pre Reads.Post
+Need-spread-requires = Lts.Need-spread-requires (Reads'4.Asked, Reads'4.Learnt, Reads''.Asked, Reads''.Learnt, Reads'.Asked, Reads'.Learnt, Reads'3.Asked, Reads'3.Learnt) Reads.Pre Reads.Post
 
 abbrev pub Need-turn-requires : Type 0
-Need-turn-requires = Lts.Need-turn-requires (
-  Reads'4.Asked,
-  Reads'4.Learnt,
-  Reads''.Asked,
-  Reads''.Learnt,
-  Reads'.Asked,
-  Reads'.Learnt,
-  Reads'3.Asked,
-  Reads'3.Learnt,
-) Reads.Pre Reads.Post
+Need-turn-requires = Lts.Need-turn-requires (Reads'4.Asked, Reads'4.Learnt, Reads''.Asked, Reads''.Learnt, Reads'.Asked, Reads'.Learnt, Reads'3.Asked, Reads'3.Learnt) Reads.Pre Reads.Post
 
 abbrev pub Need-is-turned-requires : Type 0
-Need-is-turned-requires = Lts.Need-is-turned-requires (
-  Reads'4.Asked,
-  Reads'4.Learnt,
-  Reads''.Asked,
-  Reads''.Learnt,
-  Reads'.Asked,
-  Reads'.Learnt,
-  Reads'3.Asked,
-  Reads'3.Learnt,
-) Reads.Pre Reads.Post
+Need-is-turned-requires = Lts.Need-is-turned-requires (Reads'4.Asked, Reads'4.Learnt, Reads''.Asked, Reads''.Learnt, Reads'.Asked, Reads'.Learnt, Reads'3.Asked, Reads'3.Learnt) Reads.Pre Reads.Post
 
 abbrev pub Need-flip-if-requires : Type 0
-Need-flip-if-requires = Lts.Need-flip-if-requires (
-  Reads'4.Asked,
-  Reads'4.Learnt,
-  Reads''.Asked,
-  Reads''.Learnt,
-  Reads'.Asked,
-  Reads'.Learnt,
-  Reads'3.Asked,
-  Reads'3.Learnt,
-) Reads.Pre Reads.Post
+Need-flip-if-requires = Lts.Need-flip-if-requires (Reads'4.Asked, Reads'4.Learnt, Reads''.Asked, Reads''.Learnt, Reads'.Asked, Reads'.Learnt, Reads'3.Asked, Reads'3.Learnt) Reads.Pre Reads.Post
 
 abbrev pub Need-same-length : Type 0
-Need-same-length = Lts.Need-same-length (
-  Reads'4.Asked,
-  Reads'4.Learnt,
-  Reads''.Asked,
-  Reads''.Learnt,
-  Reads'.Asked,
-  Reads'.Learnt,
-  Reads'3.Asked,
-  Reads'3.Learnt,
-) Reads.Pre Reads.Post
+Need-same-length = Lts.Need-same-length (Reads'4.Asked, Reads'4.Learnt, Reads''.Asked, Reads''.Learnt, Reads'.Asked, Reads'.Learnt, Reads'3.Asked, Reads'3.Learnt) Reads.Pre Reads.Post
 
 abbrev pub Need-returns : Type 0
-Need-returns = Lts.Need-returns (
-  Reads'4.Asked,
-  Reads'4.Learnt,
-  Reads''.Asked,
-  Reads''.Learnt,
-  Reads'.Asked,
-  Reads'.Learnt,
-  Reads'3.Asked,
-  Reads'3.Learnt,
-) Reads.Pre Reads.Post
+Need-returns = Lts.Need-returns (Reads'4.Asked, Reads'4.Learnt, Reads''.Asked, Reads''.Learnt, Reads'.Asked, Reads'.Learnt, Reads'3.Asked, Reads'3.Learnt) Reads.Pre Reads.Post
 
 module _ {M : Type 1} where
-  pub spec : (answer : Need-spread-requires) → (answer : Need-enum-told) → (answer : Need-enum-told-2) → (answer : Need-enum-told-3) → (answer : Need-slice-aggregate-turn) → (answer : Need-slice-aggregate-turn-2) → (answer : Need-slice-aggregate-turn-3) → (answer : Need-slice-aggregate-turn-4) → (answer : Need-slice-aggregate-turn-5) →
-      (answer : Need-turn-requires) → (answer : Need-is-turned-requires) → (answer : Need-flip-if-requires) → (answer : Need-same-length) → (answer : Need-returns) → Lts.Closed (Reads'4.Asked, Reads'4.Learnt, Reads''.Asked, Reads''.Learnt, Reads'.Asked, Reads'.Learnt, Reads'3.Asked, Reads'3.Learnt) Reads.Pre Reads.Post M
-  spec = λ answer answer' answer'' answer'3 answer'4 answer'5 answer'6 answer'7 answer'8 answer'9 answer'10 answer'11 answer'12 answer'13. Lts.spec (Reads'4.Asked, Reads'4.Learnt, Reads''.Asked, Reads''.Learnt, Reads'.Asked, Reads'.Learnt, Reads'3.Asked, Reads'3.Learnt) Reads.Pre Reads.Post answer answer' answer'' answer'3 answer'4 answer'5 answer'6
-      answer'7 answer'8 answer'9 answer'10 answer'11 answer'12 answer'13
+  pub spec : (answer : Need-spread-requires) → (answer : Need-turn-requires) → (answer : Need-is-turned-requires) → (answer : Need-flip-if-requires) → (answer : Need-same-length) → (answer : Need-returns) → Lts.Closed (Reads'4.Asked, Reads'4.Learnt, Reads''.Asked, Reads''.Learnt, Reads'.Asked, Reads'.Learnt, Reads'3.Asked, Reads'3.Learnt) Reads.Pre
+      Reads.Post M
+  spec = λ answer answer' answer'' answer'3 answer'4 answer'5. Lts.spec (Reads'4.Asked, Reads'4.Learnt, Reads''.Asked, Reads''.Learnt, Reads'.Asked, Reads'.Learnt, Reads'3.Asked, Reads'3.Learnt) Reads.Pre Reads.Post answer answer' answer'' answer'3 answer'4 answer'5
 
-  pub close : Lts.Closed (
-    Reads'4.Asked,
-    Reads'4.Learnt,
-    Reads''.Asked,
-    Reads''.Learnt,
-    Reads'.Asked,
-    Reads'.Learnt,
-    Reads'3.Asked,
-    Reads'3.Learnt,
-  ) Reads.Pre Reads.Post M → Statement.statement M
+  pub close : Lts.Closed (Reads'4.Asked, Reads'4.Learnt, Reads''.Asked, Reads''.Learnt, Reads'.Asked, Reads'.Learnt, Reads'3.Asked, Reads'3.Learnt) Reads.Pre Reads.Post M → Statement.statement M
   unfolding Code.routine Running.tablesOf
   close = λ closed 𝓤 H 𝓜 𝓖 𝓡. Written.close 9 Kinds.ps Kinds.r Reads.Ghost Reads.requires Reads.ensures Reads.pre-read Reads.Pinned Reads.Owned Reads.post-read record { M = M; 𝓤 = 𝓤; H = H; 𝓜 = 𝓜; 𝓖 = 𝓖; 𝓡 = 𝓡 } Code.env Key.name Code.function (Code.unfolded 𝓤 H 𝓜 𝓡) (λ κs a g. tt) (λ κs. Reads.owns κs record { M = M; 𝓤 = 𝓤; H = H; 𝓜 = 𝓜; 𝓖 = 𝓖; 𝓡 = 𝓡 })
-      (Reads.passes record { M = M; 𝓤 = 𝓤; H = H; 𝓜 = 𝓜; 𝓖 = 𝓖; 𝓡 = 𝓡 }) λ g. closed 𝓤 H (𝓖 .A) (Running.givenOf 𝓤 H 𝓜 𝓖) (Run.Over 𝓤 H 𝓜 𝓖 𝓡 Code.env) (Reads'4.known record { M = M; 𝓤 = 𝓤; H = H; 𝓜 = 𝓜; 𝓖 = 𝓖; 𝓡 = 𝓡 } Code.env Symbol'3.name Symbol'3.routine Code.calls-records·lent·spread (Met'3.met 𝓤 H 𝓜 𝓖 𝓡)) (Reads''.known
-      record { M = M; 𝓤 = 𝓤; H = H; 𝓜 = 𝓜; 𝓖 = 𝓖; 𝓡 = 𝓡 } Code.env Symbol'.name Symbol'.routine Code.calls-flat·calls·turn (Met'.met 𝓤 H 𝓜 𝓖 𝓡)) (Reads'.known record { M = M; 𝓤 = 𝓤; H = H; 𝓜 = 𝓜; 𝓖 = 𝓖; 𝓡 = 𝓡 } Code.env Symbol.name Symbol.routine Code.calls-conductor·changes·is-turned (Met.met 𝓤 H 𝓜 𝓖 𝓡)) (Reads'3.known
-      record { M = M; 𝓤 = 𝓤; H = H; 𝓜 = 𝓜; 𝓖 = 𝓖; 𝓡 = 𝓡 } Code.env Symbol''.name Symbol''.routine Code.calls-records·lent·flip-if (Met''.met 𝓤 H 𝓜 𝓖 𝓡))
+      (Reads.passes record { M = M; 𝓤 = 𝓤; H = H; 𝓜 = 𝓜; 𝓖 = 𝓖; 𝓡 = 𝓡 }) λ g. closed 𝓤 H (𝓖 .A) (Running.givenOf 𝓤 H 𝓜 𝓖) (Run.Over 𝓤 H 𝓜 𝓖 𝓡 Code.env) (Reads'4.known record { M = M; 𝓤 = 𝓤; H = H; 𝓜 = 𝓜; 𝓖 = 𝓖; 𝓡 = 𝓡 } Code.env Symbol'3.name Symbol'3.routine Code.calls-records·lent·spread (Met'3.met 𝓤 H 𝓜 𝓖 𝓡)) (Reads''.known record
+      { M = M; 𝓤 = 𝓤; H = H; 𝓜 = 𝓜; 𝓖 = 𝓖; 𝓡 = 𝓡 } Code.env Symbol'.name Symbol'.routine Code.calls-conductor·over·turn (Met'.met 𝓤 H 𝓜 𝓖 𝓡)) (Reads'.known record { M = M; 𝓤 = 𝓤; H = H; 𝓜 = 𝓜; 𝓖 = 𝓖; 𝓡 = 𝓡 } Code.env Symbol.name Symbol.routine Code.calls-conductor·changes·is-turned (Met.met 𝓤 H 𝓜 𝓖 𝓡)) (Reads'3.known record
+      { M = M; 𝓤 = 𝓤; H = H; 𝓜 = 𝓜; 𝓖 = 𝓖; 𝓡 = 𝓡 } Code.env Symbol''.name Symbol''.routine Code.calls-records·lent·flip-if (Met''.met 𝓤 H 𝓜 𝓖 𝓡))

@@ -103,19 +103,13 @@ abbrev pub Need-loop-holds : (Inv : InvT-loop) → (μ : MeasureT-loop) → Type
 Need-loop-holds = λ Inv μ. Lts.Need-loop-holds (Reads.Asked, Reads.Learnt) Reads'.Pre Reads'.Post Inv μ
 
 abbrev pub Need-shared-slice-read-make-request : (Inv : InvT-loop) → (μ : MeasureT-loop) → Type 0
-Need-shared-slice-read-make-request = λ Inv μ. Lts.Need-shared-slice-read-make-request (
-  Reads.Asked,
-  Reads.Learnt,
-) Reads'.Pre Reads'.Post Inv μ
+Need-shared-slice-read-make-request = λ Inv μ. Lts.Need-shared-slice-read-make-request (Reads.Asked, Reads.Learnt) Reads'.Pre Reads'.Post Inv μ
 
 abbrev pub Need-mul-make-request : (Inv : InvT-loop) → (μ : MeasureT-loop) → Type 0
 Need-mul-make-request = λ Inv μ. Lts.Need-mul-make-request (Reads.Asked, Reads.Learnt) Reads'.Pre Reads'.Post Inv μ
 
 abbrev pub Need-shared-slice-read-make-request-2 : (Inv : InvT-loop) → (μ : MeasureT-loop) → Type 0
-Need-shared-slice-read-make-request-2 = λ Inv μ. Lts.Need-shared-slice-read-make-request-2 (
-  Reads.Asked,
-  Reads.Learnt,
-) Reads'.Pre Reads'.Post Inv μ
+Need-shared-slice-read-make-request-2 = λ Inv μ. Lts.Need-shared-slice-read-make-request-2 (Reads.Asked, Reads.Learnt) Reads'.Pre Reads'.Post Inv μ
 
 abbrev pub Need-make-request-requires : (Inv : InvT-loop) → (μ : MeasureT-loop) → Type 0
 Need-make-request-requires = λ Inv μ. Lts.Need-make-request-requires (Reads.Asked, Reads.Learnt) Reads'.Pre Reads'.Post Inv μ
@@ -160,14 +154,13 @@ abbrev pub Need-returns : (Inv : InvT-loop) → (μ : MeasureT-loop) → Type 0
 Need-returns = λ Inv μ. Lts.Need-returns (Reads.Asked, Reads.Learnt) Reads'.Pre Reads'.Post Inv μ
 
 module _ {M : Type 1} where
-  pub spec : (Inv : InvT-loop) → (μ : MeasureT-loop) → (answer : Need-loop-holds Inv μ) → (answer : Need-shared-slice-read-make-request Inv μ) → (answer : Need-mul-make-request Inv μ) → (answer : Need-shared-slice-read-make-request-2 Inv μ) → (answer : Need-make-request-requires Inv μ) → (answer : Need-mul-replies Inv μ) →
-      (answer : Need-slice-write-replies Inv μ) → (answer : Need-mul-details Inv μ) → (answer : Need-slice-write-details Inv μ) → (answer : Need-add-i Inv μ) → (answer : Need-loop-less Inv μ) → (answer : Need-loop-again Inv μ) → (answer : Need-same-length Inv μ) → (answer : Need-same-length-2 Inv μ) → (answer : Need-same-length-3 Inv μ) →
-      (answer : Need-same-length-4 Inv μ) → (answer : Need-same-length-5 Inv μ) → (answer : Need-returns Inv μ) → Lts.Closed (Reads.Asked, Reads.Learnt) Reads'.Pre Reads'.Post M
+  pub spec : (Inv : InvT-loop) → (μ : MeasureT-loop) → (answer : Need-loop-holds Inv μ) → (answer : Need-shared-slice-read-make-request Inv μ) → (answer : Need-mul-make-request Inv μ) → (answer : Need-shared-slice-read-make-request-2 Inv μ) → (answer : Need-make-request-requires Inv μ) → (answer : Need-mul-replies Inv μ) → (answer : Need-slice-write-replies
+      Inv μ) → (answer : Need-mul-details Inv μ) → (answer : Need-slice-write-details Inv μ) → (answer : Need-add-i Inv μ) → (answer : Need-loop-less Inv μ) → (answer : Need-loop-again Inv μ) → (answer : Need-same-length Inv μ) → (answer : Need-same-length-2 Inv μ) → (answer : Need-same-length-3 Inv μ) → (answer : Need-same-length-4 Inv μ) → (answer :
+      Need-same-length-5 Inv μ) → (answer : Need-returns Inv μ) → Lts.Closed (Reads.Asked, Reads.Learnt) Reads'.Pre Reads'.Post M
   spec = λ Inv μ answer answer' answer'' answer'3 answer'4 answer'5 answer'6 answer'7 answer'8 answer'9 answer'10 answer'11 answer'12 answer'13 answer'14 answer'15 answer'16 answer'17. Lts.spec (Reads.Asked, Reads.Learnt) Reads'.Pre Reads'.Post Inv μ answer answer' answer'' answer'3 answer'4 answer'5 answer'6 answer'7 answer'8 answer'9 answer'10 answer'11
       answer'12 answer'13 answer'14 answer'15 answer'16 answer'17
 
   pub close : Lts.Closed (Reads.Asked, Reads.Learnt) Reads'.Pre Reads'.Post M → Statement.statement M
   unfolding Code.routine Running.tablesOf
-  close = λ closed 𝓤 H 𝓜 𝓖 𝓡. Written.close 13 Kinds.ps Kinds.r Reads'.Ghost Reads'.requires Reads'.ensures Reads'.pre-read Reads'.Pinned Reads'.Owned Reads'.post-read record { M = M; 𝓤 = 𝓤; H = H; 𝓜 = 𝓜; 𝓖 = 𝓖; 𝓡 = 𝓡 } Code.env Key.name Code.function (Code.unfolded 𝓤 H 𝓜 𝓡) (λ κs a g. tt)
-      (λ κs. Reads'.owns κs record { M = M; 𝓤 = 𝓤; H = H; 𝓜 = 𝓜; 𝓖 = 𝓖; 𝓡 = 𝓡 }) (Reads'.passes record { M = M; 𝓤 = 𝓤; H = H; 𝓜 = 𝓜; 𝓖 = 𝓖; 𝓡 = 𝓡 }) λ g. closed 𝓤 H (𝓖 .A) (Running.givenOf 𝓤 H 𝓜 𝓖) (Run.Over 𝓤 H 𝓜 𝓖 𝓡 Code.env) (Reads.known record { M = M; 𝓤 = 𝓤; H = H; 𝓜 = 𝓜; 𝓖 = 𝓖; 𝓡 = 𝓡 } Code.env Symbol.name Symbol.routine
-      Code.calls-dispatch·requests·make-request (Met.met 𝓤 H 𝓜 𝓖 𝓡))
+  close = λ closed 𝓤 H 𝓜 𝓖 𝓡. Written.close 13 Kinds.ps Kinds.r Reads'.Ghost Reads'.requires Reads'.ensures Reads'.pre-read Reads'.Pinned Reads'.Owned Reads'.post-read record { M = M; 𝓤 = 𝓤; H = H; 𝓜 = 𝓜; 𝓖 = 𝓖; 𝓡 = 𝓡 } Code.env Key.name Code.function (Code.unfolded 𝓤 H 𝓜 𝓡) (λ κs a g. tt) (λ κs. Reads'.owns κs record
+      { M = M; 𝓤 = 𝓤; H = H; 𝓜 = 𝓜; 𝓖 = 𝓖; 𝓡 = 𝓡 }) (Reads'.passes record { M = M; 𝓤 = 𝓤; H = H; 𝓜 = 𝓜; 𝓖 = 𝓖; 𝓡 = 𝓡 }) λ g. closed 𝓤 H (𝓖 .A) (Running.givenOf 𝓤 H 𝓜 𝓖) (Run.Over 𝓤 H 𝓜 𝓖 𝓡 Code.env) (Reads.known record { M = M; 𝓤 = 𝓤; H = H; 𝓜 = 𝓜; 𝓖 = 𝓖; 𝓡 = 𝓡 } Code.env Symbol.name Symbol.routine Code.calls-dispatch·requests·make-request (Met.met 𝓤 H 𝓜 𝓖 𝓡))

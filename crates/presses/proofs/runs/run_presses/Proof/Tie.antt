@@ -25,934 +25,209 @@ use borrow.Fn.Written
 use contract.Running
 
 abbrev pub Start : Type 0
-Start = Lts.Start (
-  Reads'5.Asked,
-  Reads'5.Learnt,
-  Reads.Asked,
-  Reads.Learnt,
-  Reads'.Asked,
-  Reads'.Learnt,
-  Reads''.Asked,
-  Reads''.Learnt,
-  Reads'3.Asked,
-  Reads'3.Learnt,
-) Reads'4.Pre Reads'4.Post
+Start = Lts.Start (Reads'5.Asked, Reads'5.Learnt, Reads.Asked, Reads.Learnt, Reads'.Asked, Reads'.Learnt, Reads''.Asked, Reads''.Learnt, Reads'3.Asked, Reads'3.Learnt) Reads'4.Pre Reads'4.Post
 
 abbrev pub After-shared-slice-known : Type 0
-After-shared-slice-known = Lts.After-shared-slice-known (
-  Reads'5.Asked,
-  Reads'5.Learnt,
-  Reads.Asked,
-  Reads.Learnt,
-  Reads'.Asked,
-  Reads'.Learnt,
-  Reads''.Asked,
-  Reads''.Learnt,
-  Reads'3.Asked,
-  Reads'3.Learnt,
-) Reads'4.Pre Reads'4.Post
+After-shared-slice-known = Lts.After-shared-slice-known (Reads'5.Asked, Reads'5.Learnt, Reads.Asked, Reads.Learnt, Reads'.Asked, Reads'.Learnt, Reads''.Asked, Reads''.Learnt, Reads'3.Asked, Reads'3.Learnt) Reads'4.Pre Reads'4.Post
 
 abbrev pub After-shared-slice-known2 : Type 0
-After-shared-slice-known2 = Lts.After-shared-slice-known2 (
-  Reads'5.Asked,
-  Reads'5.Learnt,
-  Reads.Asked,
-  Reads.Learnt,
-  Reads'.Asked,
-  Reads'.Learnt,
-  Reads''.Asked,
-  Reads''.Learnt,
-  Reads'3.Asked,
-  Reads'3.Learnt,
-) Reads'4.Pre Reads'4.Post
+After-shared-slice-known2 = Lts.After-shared-slice-known2 (Reads'5.Asked, Reads'5.Learnt, Reads.Asked, Reads.Learnt, Reads'.Asked, Reads'.Learnt, Reads''.Asked, Reads''.Learnt, Reads'3.Asked, Reads'3.Learnt) Reads'4.Pre Reads'4.Post
 
 abbrev pub After-zero-record : Type 0
-After-zero-record = Lts.After-zero-record (
-  Reads'5.Asked,
-  Reads'5.Learnt,
-  Reads.Asked,
-  Reads.Learnt,
-  Reads'.Asked,
-  Reads'.Learnt,
-  Reads''.Asked,
-  Reads''.Learnt,
-  Reads'3.Asked,
-  Reads'3.Learnt,
-) Reads'4.Pre Reads'4.Post
+After-zero-record = Lts.After-zero-record (Reads'5.Asked, Reads'5.Learnt, Reads.Asked, Reads.Learnt, Reads'.Asked, Reads'.Learnt, Reads''.Asked, Reads''.Learnt, Reads'3.Asked, Reads'3.Learnt) Reads'4.Pre Reads'4.Post
 
 abbrev pub After-drone-count : Type 0
-After-drone-count = Lts.After-drone-count (
-  Reads'5.Asked,
-  Reads'5.Learnt,
-  Reads.Asked,
-  Reads.Learnt,
-  Reads'.Asked,
-  Reads'.Learnt,
-  Reads''.Asked,
-  Reads''.Learnt,
-  Reads'3.Asked,
-  Reads'3.Learnt,
-) Reads'4.Pre Reads'4.Post
+After-drone-count = Lts.After-drone-count (Reads'5.Asked, Reads'5.Learnt, Reads.Asked, Reads.Learnt, Reads'.Asked, Reads'.Learnt, Reads''.Asked, Reads''.Learnt, Reads'3.Asked, Reads'3.Learnt) Reads'4.Pre Reads'4.Post
 
 abbrev pub After-dependency-count : Type 0
-After-dependency-count = Lts.After-dependency-count (
-  Reads'5.Asked,
-  Reads'5.Learnt,
-  Reads.Asked,
-  Reads.Learnt,
-  Reads'.Asked,
-  Reads'.Learnt,
-  Reads''.Asked,
-  Reads''.Learnt,
-  Reads'3.Asked,
-  Reads'3.Learnt,
-) Reads'4.Pre Reads'4.Post
+After-dependency-count = Lts.After-dependency-count (Reads'5.Asked, Reads'5.Learnt, Reads.Asked, Reads.Learnt, Reads'.Asked, Reads'.Learnt, Reads''.Asked, Reads''.Learnt, Reads'3.Asked, Reads'3.Learnt) Reads'4.Pre Reads'4.Post
 
 abbrev pub After-names : Type 0
-After-names = Lts.After-names (
-  Reads'5.Asked,
-  Reads'5.Learnt,
-  Reads.Asked,
-  Reads.Learnt,
-  Reads'.Asked,
-  Reads'.Learnt,
-  Reads''.Asked,
-  Reads''.Learnt,
-  Reads'3.Asked,
-  Reads'3.Learnt,
-) Reads'4.Pre Reads'4.Post
+After-names = Lts.After-names (Reads'5.Asked, Reads'5.Learnt, Reads.Asked, Reads.Learnt, Reads'.Asked, Reads'.Learnt, Reads''.Asked, Reads''.Learnt, Reads'3.Asked, Reads'3.Learnt) Reads'4.Pre Reads'4.Post
 
 abbrev pub After-stop-counts : Type 0
-After-stop-counts = Lts.After-stop-counts (
-  Reads'5.Asked,
-  Reads'5.Learnt,
-  Reads.Asked,
-  Reads.Learnt,
-  Reads'.Asked,
-  Reads'.Learnt,
-  Reads''.Asked,
-  Reads''.Learnt,
-  Reads'3.Asked,
-  Reads'3.Learnt,
-) Reads'4.Pre Reads'4.Post
+After-stop-counts = Lts.After-stop-counts (Reads'5.Asked, Reads'5.Learnt, Reads.Asked, Reads.Learnt, Reads'.Asked, Reads'.Learnt, Reads''.Asked, Reads''.Learnt, Reads'3.Asked, Reads'3.Learnt) Reads'4.Pre Reads'4.Post
 
 abbrev pub After-locations : Type 0
-After-locations = Lts.After-locations (
-  Reads'5.Asked,
-  Reads'5.Learnt,
-  Reads.Asked,
-  Reads.Learnt,
-  Reads'.Asked,
-  Reads'.Learnt,
-  Reads''.Asked,
-  Reads''.Learnt,
-  Reads'3.Asked,
-  Reads'3.Learnt,
-) Reads'4.Pre Reads'4.Post
+After-locations = Lts.After-locations (Reads'5.Asked, Reads'5.Learnt, Reads.Asked, Reads.Learnt, Reads'.Asked, Reads'.Learnt, Reads''.Asked, Reads''.Learnt, Reads'3.Asked, Reads'3.Learnt) Reads'4.Pre Reads'4.Post
 
 abbrev pub After-times : Type 0
-After-times = Lts.After-times (
-  Reads'5.Asked,
-  Reads'5.Learnt,
-  Reads.Asked,
-  Reads.Learnt,
-  Reads'.Asked,
-  Reads'.Learnt,
-  Reads''.Asked,
-  Reads''.Learnt,
-  Reads'3.Asked,
-  Reads'3.Learnt,
-) Reads'4.Pre Reads'4.Post
+After-times = Lts.After-times (Reads'5.Asked, Reads'5.Learnt, Reads.Asked, Reads.Learnt, Reads'.Asked, Reads'.Learnt, Reads''.Asked, Reads''.Learnt, Reads'3.Asked, Reads'3.Learnt) Reads'4.Pre Reads'4.Post
 
 abbrev pub After-visited : Type 0
-After-visited = Lts.After-visited (
-  Reads'5.Asked,
-  Reads'5.Learnt,
-  Reads.Asked,
-  Reads.Learnt,
-  Reads'.Asked,
-  Reads'.Learnt,
-  Reads''.Asked,
-  Reads''.Learnt,
-  Reads'3.Asked,
-  Reads'3.Learnt,
-) Reads'4.Pre Reads'4.Post
+After-visited = Lts.After-visited (Reads'5.Asked, Reads'5.Learnt, Reads.Asked, Reads.Learnt, Reads'.Asked, Reads'.Learnt, Reads''.Asked, Reads''.Learnt, Reads'3.Asked, Reads'3.Learnt) Reads'4.Pre Reads'4.Post
 
 abbrev pub After-drone-flags : Type 0
-After-drone-flags = Lts.After-drone-flags (
-  Reads'5.Asked,
-  Reads'5.Learnt,
-  Reads.Asked,
-  Reads.Learnt,
-  Reads'.Asked,
-  Reads'.Learnt,
-  Reads''.Asked,
-  Reads''.Learnt,
-  Reads'3.Asked,
-  Reads'3.Learnt,
-) Reads'4.Pre Reads'4.Post
+After-drone-flags = Lts.After-drone-flags (Reads'5.Asked, Reads'5.Learnt, Reads.Asked, Reads.Learnt, Reads'.Asked, Reads'.Learnt, Reads''.Asked, Reads''.Learnt, Reads'3.Asked, Reads'3.Learnt) Reads'4.Pre Reads'4.Post
 
 abbrev pub After-dependencies : Type 0
-After-dependencies = Lts.After-dependencies (
-  Reads'5.Asked,
-  Reads'5.Learnt,
-  Reads.Asked,
-  Reads.Learnt,
-  Reads'.Asked,
-  Reads'.Learnt,
-  Reads''.Asked,
-  Reads''.Learnt,
-  Reads'3.Asked,
-  Reads'3.Learnt,
-) Reads'4.Pre Reads'4.Post
+After-dependencies = Lts.After-dependencies (Reads'5.Asked, Reads'5.Learnt, Reads.Asked, Reads.Learnt, Reads'.Asked, Reads'.Learnt, Reads''.Asked, Reads''.Learnt, Reads'3.Asked, Reads'3.Learnt) Reads'4.Pre Reads'4.Post
 
 abbrev pub After-read-plan : Type 0
-After-read-plan = Lts.After-read-plan (
-  Reads'5.Asked,
-  Reads'5.Learnt,
-  Reads.Asked,
-  Reads.Learnt,
-  Reads'.Asked,
-  Reads'.Learnt,
-  Reads''.Asked,
-  Reads''.Learnt,
-  Reads'3.Asked,
-  Reads'3.Learnt,
-) Reads'4.Pre Reads'4.Post
+After-read-plan = Lts.After-read-plan (Reads'5.Asked, Reads'5.Learnt, Reads.Asked, Reads.Learnt, Reads'.Asked, Reads'.Learnt, Reads''.Asked, Reads''.Learnt, Reads'3.Asked, Reads'3.Learnt) Reads'4.Pre Reads'4.Post
 
 abbrev pub After-drone-count2 : Type 0
-After-drone-count2 = Lts.After-drone-count2 (
-  Reads'5.Asked,
-  Reads'5.Learnt,
-  Reads.Asked,
-  Reads.Learnt,
-  Reads'.Asked,
-  Reads'.Learnt,
-  Reads''.Asked,
-  Reads''.Learnt,
-  Reads'3.Asked,
-  Reads'3.Learnt,
-) Reads'4.Pre Reads'4.Post
+After-drone-count2 = Lts.After-drone-count2 (Reads'5.Asked, Reads'5.Learnt, Reads.Asked, Reads.Learnt, Reads'.Asked, Reads'.Learnt, Reads''.Asked, Reads''.Learnt, Reads'3.Asked, Reads'3.Learnt) Reads'4.Pre Reads'4.Post
 
 abbrev pub After-dependency-count2 : Type 0
-After-dependency-count2 = Lts.After-dependency-count2 (
-  Reads'5.Asked,
-  Reads'5.Learnt,
-  Reads.Asked,
-  Reads.Learnt,
-  Reads'.Asked,
-  Reads'.Learnt,
-  Reads''.Asked,
-  Reads''.Learnt,
-  Reads'3.Asked,
-  Reads'3.Learnt,
-) Reads'4.Pre Reads'4.Post
+After-dependency-count2 = Lts.After-dependency-count2 (Reads'5.Asked, Reads'5.Learnt, Reads.Asked, Reads.Learnt, Reads'.Asked, Reads'.Learnt, Reads''.Asked, Reads''.Learnt, Reads'3.Asked, Reads'3.Learnt) Reads'4.Pre Reads'4.Post
 
 abbrev pub After-names2 : Type 0
-After-names2 = Lts.After-names2 (
-  Reads'5.Asked,
-  Reads'5.Learnt,
-  Reads.Asked,
-  Reads.Learnt,
-  Reads'.Asked,
-  Reads'.Learnt,
-  Reads''.Asked,
-  Reads''.Learnt,
-  Reads'3.Asked,
-  Reads'3.Learnt,
-) Reads'4.Pre Reads'4.Post
+After-names2 = Lts.After-names2 (Reads'5.Asked, Reads'5.Learnt, Reads.Asked, Reads.Learnt, Reads'.Asked, Reads'.Learnt, Reads''.Asked, Reads''.Learnt, Reads'3.Asked, Reads'3.Learnt) Reads'4.Pre Reads'4.Post
 
 abbrev pub After-stop-counts2 : Type 0
-After-stop-counts2 = Lts.After-stop-counts2 (
-  Reads'5.Asked,
-  Reads'5.Learnt,
-  Reads.Asked,
-  Reads.Learnt,
-  Reads'.Asked,
-  Reads'.Learnt,
-  Reads''.Asked,
-  Reads''.Learnt,
-  Reads'3.Asked,
-  Reads'3.Learnt,
-) Reads'4.Pre Reads'4.Post
+After-stop-counts2 = Lts.After-stop-counts2 (Reads'5.Asked, Reads'5.Learnt, Reads.Asked, Reads.Learnt, Reads'.Asked, Reads'.Learnt, Reads''.Asked, Reads''.Learnt, Reads'3.Asked, Reads'3.Learnt) Reads'4.Pre Reads'4.Post
 
 abbrev pub After-locations2 : Type 0
-After-locations2 = Lts.After-locations2 (
-  Reads'5.Asked,
-  Reads'5.Learnt,
-  Reads.Asked,
-  Reads.Learnt,
-  Reads'.Asked,
-  Reads'.Learnt,
-  Reads''.Asked,
-  Reads''.Learnt,
-  Reads'3.Asked,
-  Reads'3.Learnt,
-) Reads'4.Pre Reads'4.Post
+After-locations2 = Lts.After-locations2 (Reads'5.Asked, Reads'5.Learnt, Reads.Asked, Reads.Learnt, Reads'.Asked, Reads'.Learnt, Reads''.Asked, Reads''.Learnt, Reads'3.Asked, Reads'3.Learnt) Reads'4.Pre Reads'4.Post
 
 abbrev pub After-times2 : Type 0
-After-times2 = Lts.After-times2 (
-  Reads'5.Asked,
-  Reads'5.Learnt,
-  Reads.Asked,
-  Reads.Learnt,
-  Reads'.Asked,
-  Reads'.Learnt,
-  Reads''.Asked,
-  Reads''.Learnt,
-  Reads'3.Asked,
-  Reads'3.Learnt,
-) Reads'4.Pre Reads'4.Post
+After-times2 = Lts.After-times2 (Reads'5.Asked, Reads'5.Learnt, Reads.Asked, Reads.Learnt, Reads'.Asked, Reads'.Learnt, Reads''.Asked, Reads''.Learnt, Reads'3.Asked, Reads'3.Learnt) Reads'4.Pre Reads'4.Post
 
 abbrev pub After-visited2 : Type 0
-After-visited2 = Lts.After-visited2 (
-  Reads'5.Asked,
-  Reads'5.Learnt,
-  Reads.Asked,
-  Reads.Learnt,
-  Reads'.Asked,
-  Reads'.Learnt,
-  Reads''.Asked,
-  Reads''.Learnt,
-  Reads'3.Asked,
-  Reads'3.Learnt,
-) Reads'4.Pre Reads'4.Post
+After-visited2 = Lts.After-visited2 (Reads'5.Asked, Reads'5.Learnt, Reads.Asked, Reads.Learnt, Reads'.Asked, Reads'.Learnt, Reads''.Asked, Reads''.Learnt, Reads'3.Asked, Reads'3.Learnt) Reads'4.Pre Reads'4.Post
 
 abbrev pub After-drone-flags2 : Type 0
-After-drone-flags2 = Lts.After-drone-flags2 (
-  Reads'5.Asked,
-  Reads'5.Learnt,
-  Reads.Asked,
-  Reads.Learnt,
-  Reads'.Asked,
-  Reads'.Learnt,
-  Reads''.Asked,
-  Reads''.Learnt,
-  Reads'3.Asked,
-  Reads'3.Learnt,
-) Reads'4.Pre Reads'4.Post
+After-drone-flags2 = Lts.After-drone-flags2 (Reads'5.Asked, Reads'5.Learnt, Reads.Asked, Reads.Learnt, Reads'.Asked, Reads'.Learnt, Reads''.Asked, Reads''.Learnt, Reads'3.Asked, Reads'3.Learnt) Reads'4.Pre Reads'4.Post
 
 abbrev pub After-dependencies2 : Type 0
-After-dependencies2 = Lts.After-dependencies2 (
-  Reads'5.Asked,
-  Reads'5.Learnt,
-  Reads.Asked,
-  Reads.Learnt,
-  Reads'.Asked,
-  Reads'.Learnt,
-  Reads''.Asked,
-  Reads''.Learnt,
-  Reads'3.Asked,
-  Reads'3.Learnt,
-) Reads'4.Pre Reads'4.Post
+After-dependencies2 = Lts.After-dependencies2 (Reads'5.Asked, Reads'5.Learnt, Reads.Asked, Reads.Learnt, Reads'.Asked, Reads'.Learnt, Reads''.Asked, Reads''.Learnt, Reads'3.Asked, Reads'3.Learnt) Reads'4.Pre Reads'4.Post
 
 abbrev pub After-number-of : Type 0
-After-number-of = Lts.After-number-of (
-  Reads'5.Asked,
-  Reads'5.Learnt,
-  Reads.Asked,
-  Reads.Learnt,
-  Reads'.Asked,
-  Reads'.Learnt,
-  Reads''.Asked,
-  Reads''.Learnt,
-  Reads'3.Asked,
-  Reads'3.Learnt,
-) Reads'4.Pre Reads'4.Post
+After-number-of = Lts.After-number-of (Reads'5.Asked, Reads'5.Learnt, Reads.Asked, Reads.Learnt, Reads'.Asked, Reads'.Learnt, Reads''.Asked, Reads''.Learnt, Reads'3.Asked, Reads'3.Learnt) Reads'4.Pre Reads'4.Post
 
 abbrev pub Then1 : Type 0
-Then1 = Lts.Then1 (
-  Reads'5.Asked,
-  Reads'5.Learnt,
-  Reads.Asked,
-  Reads.Learnt,
-  Reads'.Asked,
-  Reads'.Learnt,
-  Reads''.Asked,
-  Reads''.Learnt,
-  Reads'3.Asked,
-  Reads'3.Learnt,
-) Reads'4.Pre Reads'4.Post
+Then1 = Lts.Then1 (Reads'5.Asked, Reads'5.Learnt, Reads.Asked, Reads.Learnt, Reads'.Asked, Reads'.Learnt, Reads''.Asked, Reads''.Learnt, Reads'3.Asked, Reads'3.Learnt) Reads'4.Pre Reads'4.Post
 
 abbrev pub After-show : Type 0
-After-show = Lts.After-show (
-  Reads'5.Asked,
-  Reads'5.Learnt,
-  Reads.Asked,
-  Reads.Learnt,
-  Reads'.Asked,
-  Reads'.Learnt,
-  Reads''.Asked,
-  Reads''.Learnt,
-  Reads'3.Asked,
-  Reads'3.Learnt,
-) Reads'4.Pre Reads'4.Post
+After-show = Lts.After-show (Reads'5.Asked, Reads'5.Learnt, Reads.Asked, Reads.Learnt, Reads'.Asked, Reads'.Learnt, Reads''.Asked, Reads''.Learnt, Reads'3.Asked, Reads'3.Learnt) Reads'4.Pre Reads'4.Post
 
 abbrev pub Else1 : Type 0
-Else1 = Lts.Else1 (
-  Reads'5.Asked,
-  Reads'5.Learnt,
-  Reads.Asked,
-  Reads.Learnt,
-  Reads'.Asked,
-  Reads'.Learnt,
-  Reads''.Asked,
-  Reads''.Learnt,
-  Reads'3.Asked,
-  Reads'3.Learnt,
-) Reads'4.Pre Reads'4.Post
+Else1 = Lts.Else1 (Reads'5.Asked, Reads'5.Learnt, Reads.Asked, Reads.Learnt, Reads'.Asked, Reads'.Learnt, Reads''.Asked, Reads''.Learnt, Reads'3.Asked, Reads'3.Learnt) Reads'4.Pre Reads'4.Post
 
 abbrev pub After-drone-count3 : Type 0
-After-drone-count3 = Lts.After-drone-count3 (
-  Reads'5.Asked,
-  Reads'5.Learnt,
-  Reads.Asked,
-  Reads.Learnt,
-  Reads'.Asked,
-  Reads'.Learnt,
-  Reads''.Asked,
-  Reads''.Learnt,
-  Reads'3.Asked,
-  Reads'3.Learnt,
-) Reads'4.Pre Reads'4.Post
+After-drone-count3 = Lts.After-drone-count3 (Reads'5.Asked, Reads'5.Learnt, Reads.Asked, Reads.Learnt, Reads'.Asked, Reads'.Learnt, Reads''.Asked, Reads''.Learnt, Reads'3.Asked, Reads'3.Learnt) Reads'4.Pre Reads'4.Post
 
 abbrev pub After-dependency-count3 : Type 0
-After-dependency-count3 = Lts.After-dependency-count3 (
-  Reads'5.Asked,
-  Reads'5.Learnt,
-  Reads.Asked,
-  Reads.Learnt,
-  Reads'.Asked,
-  Reads'.Learnt,
-  Reads''.Asked,
-  Reads''.Learnt,
-  Reads'3.Asked,
-  Reads'3.Learnt,
-) Reads'4.Pre Reads'4.Post
+After-dependency-count3 = Lts.After-dependency-count3 (Reads'5.Asked, Reads'5.Learnt, Reads.Asked, Reads.Learnt, Reads'.Asked, Reads'.Learnt, Reads''.Asked, Reads''.Learnt, Reads'3.Asked, Reads'3.Learnt) Reads'4.Pre Reads'4.Post
 
 abbrev pub After-names3 : Type 0
-After-names3 = Lts.After-names3 (
-  Reads'5.Asked,
-  Reads'5.Learnt,
-  Reads.Asked,
-  Reads.Learnt,
-  Reads'.Asked,
-  Reads'.Learnt,
-  Reads''.Asked,
-  Reads''.Learnt,
-  Reads'3.Asked,
-  Reads'3.Learnt,
-) Reads'4.Pre Reads'4.Post
+After-names3 = Lts.After-names3 (Reads'5.Asked, Reads'5.Learnt, Reads.Asked, Reads.Learnt, Reads'.Asked, Reads'.Learnt, Reads''.Asked, Reads''.Learnt, Reads'3.Asked, Reads'3.Learnt) Reads'4.Pre Reads'4.Post
 
 abbrev pub After-stop-counts3 : Type 0
-After-stop-counts3 = Lts.After-stop-counts3 (
-  Reads'5.Asked,
-  Reads'5.Learnt,
-  Reads.Asked,
-  Reads.Learnt,
-  Reads'.Asked,
-  Reads'.Learnt,
-  Reads''.Asked,
-  Reads''.Learnt,
-  Reads'3.Asked,
-  Reads'3.Learnt,
-) Reads'4.Pre Reads'4.Post
+After-stop-counts3 = Lts.After-stop-counts3 (Reads'5.Asked, Reads'5.Learnt, Reads.Asked, Reads.Learnt, Reads'.Asked, Reads'.Learnt, Reads''.Asked, Reads''.Learnt, Reads'3.Asked, Reads'3.Learnt) Reads'4.Pre Reads'4.Post
 
 abbrev pub After-locations3 : Type 0
-After-locations3 = Lts.After-locations3 (
-  Reads'5.Asked,
-  Reads'5.Learnt,
-  Reads.Asked,
-  Reads.Learnt,
-  Reads'.Asked,
-  Reads'.Learnt,
-  Reads''.Asked,
-  Reads''.Learnt,
-  Reads'3.Asked,
-  Reads'3.Learnt,
-) Reads'4.Pre Reads'4.Post
+After-locations3 = Lts.After-locations3 (Reads'5.Asked, Reads'5.Learnt, Reads.Asked, Reads.Learnt, Reads'.Asked, Reads'.Learnt, Reads''.Asked, Reads''.Learnt, Reads'3.Asked, Reads'3.Learnt) Reads'4.Pre Reads'4.Post
 
 abbrev pub After-times3 : Type 0
-After-times3 = Lts.After-times3 (
-  Reads'5.Asked,
-  Reads'5.Learnt,
-  Reads.Asked,
-  Reads.Learnt,
-  Reads'.Asked,
-  Reads'.Learnt,
-  Reads''.Asked,
-  Reads''.Learnt,
-  Reads'3.Asked,
-  Reads'3.Learnt,
-) Reads'4.Pre Reads'4.Post
+After-times3 = Lts.After-times3 (Reads'5.Asked, Reads'5.Learnt, Reads.Asked, Reads.Learnt, Reads'.Asked, Reads'.Learnt, Reads''.Asked, Reads''.Learnt, Reads'3.Asked, Reads'3.Learnt) Reads'4.Pre Reads'4.Post
 
 abbrev pub After-visited3 : Type 0
-After-visited3 = Lts.After-visited3 (
-  Reads'5.Asked,
-  Reads'5.Learnt,
-  Reads.Asked,
-  Reads.Learnt,
-  Reads'.Asked,
-  Reads'.Learnt,
-  Reads''.Asked,
-  Reads''.Learnt,
-  Reads'3.Asked,
-  Reads'3.Learnt,
-) Reads'4.Pre Reads'4.Post
+After-visited3 = Lts.After-visited3 (Reads'5.Asked, Reads'5.Learnt, Reads.Asked, Reads.Learnt, Reads'.Asked, Reads'.Learnt, Reads''.Asked, Reads''.Learnt, Reads'3.Asked, Reads'3.Learnt) Reads'4.Pre Reads'4.Post
 
 abbrev pub After-drone-flags3 : Type 0
-After-drone-flags3 = Lts.After-drone-flags3 (
-  Reads'5.Asked,
-  Reads'5.Learnt,
-  Reads.Asked,
-  Reads.Learnt,
-  Reads'.Asked,
-  Reads'.Learnt,
-  Reads''.Asked,
-  Reads''.Learnt,
-  Reads'3.Asked,
-  Reads'3.Learnt,
-) Reads'4.Pre Reads'4.Post
+After-drone-flags3 = Lts.After-drone-flags3 (Reads'5.Asked, Reads'5.Learnt, Reads.Asked, Reads.Learnt, Reads'.Asked, Reads'.Learnt, Reads''.Asked, Reads''.Learnt, Reads'3.Asked, Reads'3.Learnt) Reads'4.Pre Reads'4.Post
 
 abbrev pub After-dependencies3 : Type 0
-After-dependencies3 = Lts.After-dependencies3 (
-  Reads'5.Asked,
-  Reads'5.Learnt,
-  Reads.Asked,
-  Reads.Learnt,
-  Reads'.Asked,
-  Reads'.Learnt,
-  Reads''.Asked,
-  Reads''.Learnt,
-  Reads'3.Asked,
-  Reads'3.Learnt,
-) Reads'4.Pre Reads'4.Post
+After-dependencies3 = Lts.After-dependencies3 (Reads'5.Asked, Reads'5.Learnt, Reads.Asked, Reads.Learnt, Reads'.Asked, Reads'.Learnt, Reads''.Asked, Reads''.Learnt, Reads'3.Asked, Reads'3.Learnt) Reads'4.Pre Reads'4.Post
 
 abbrev pub After-press-each : Type 0
-After-press-each = Lts.After-press-each (
-  Reads'5.Asked,
-  Reads'5.Learnt,
-  Reads.Asked,
-  Reads.Learnt,
-  Reads'.Asked,
-  Reads'.Learnt,
-  Reads''.Asked,
-  Reads''.Learnt,
-  Reads'3.Asked,
-  Reads'3.Learnt,
-) Reads'4.Pre Reads'4.Post
+After-press-each = Lts.After-press-each (Reads'5.Asked, Reads'5.Learnt, Reads.Asked, Reads.Learnt, Reads'.Asked, Reads'.Learnt, Reads''.Asked, Reads''.Learnt, Reads'3.Asked, Reads'3.Learnt) Reads'4.Pre Reads'4.Post
 
 abbrev pub After-visited4 : Type 0
-After-visited4 = Lts.After-visited4 (
-  Reads'5.Asked,
-  Reads'5.Learnt,
-  Reads.Asked,
-  Reads.Learnt,
-  Reads'.Asked,
-  Reads'.Learnt,
-  Reads''.Asked,
-  Reads''.Learnt,
-  Reads'3.Asked,
-  Reads'3.Learnt,
-) Reads'4.Pre Reads'4.Post
+After-visited4 = Lts.After-visited4 (Reads'5.Asked, Reads'5.Learnt, Reads.Asked, Reads.Learnt, Reads'.Asked, Reads'.Learnt, Reads''.Asked, Reads''.Learnt, Reads'3.Asked, Reads'3.Learnt) Reads'4.Pre Reads'4.Post
 
 abbrev pub After-drone-flags4 : Type 0
-After-drone-flags4 = Lts.After-drone-flags4 (
-  Reads'5.Asked,
-  Reads'5.Learnt,
-  Reads.Asked,
-  Reads.Learnt,
-  Reads'.Asked,
-  Reads'.Learnt,
-  Reads''.Asked,
-  Reads''.Learnt,
-  Reads'3.Asked,
-  Reads'3.Learnt,
-) Reads'4.Pre Reads'4.Post
+After-drone-flags4 = Lts.After-drone-flags4 (Reads'5.Asked, Reads'5.Learnt, Reads.Asked, Reads.Learnt, Reads'.Asked, Reads'.Learnt, Reads''.Asked, Reads''.Learnt, Reads'3.Asked, Reads'3.Learnt) Reads'4.Pre Reads'4.Post
 
 abbrev pub Need-zero-record-requires : Type 0
-Need-zero-record-requires = Lts.Need-zero-record-requires (
-  Reads'5.Asked,
-  Reads'5.Learnt,
-  Reads.Asked,
-  Reads.Learnt,
-  Reads'.Asked,
-  Reads'.Learnt,
-  Reads''.Asked,
-  Reads''.Learnt,
-  Reads'3.Asked,
-  Reads'3.Learnt,
-) Reads'4.Pre Reads'4.Post
+Need-zero-record-requires = Lts.Need-zero-record-requires (Reads'5.Asked, Reads'5.Learnt, Reads.Asked, Reads.Learnt, Reads'.Asked, Reads'.Learnt, Reads''.Asked, Reads''.Learnt, Reads'3.Asked, Reads'3.Learnt) Reads'4.Pre Reads'4.Post
 
 abbrev pub Need-slice-aggregate-read-plan : Type 0
-Need-slice-aggregate-read-plan = Lts.Need-slice-aggregate-read-plan (
-  Reads'5.Asked,
-  Reads'5.Learnt,
-  Reads.Asked,
-  Reads.Learnt,
-  Reads'.Asked,
-  Reads'.Learnt,
-  Reads''.Asked,
-  Reads''.Learnt,
-  Reads'3.Asked,
-  Reads'3.Learnt,
-) Reads'4.Pre Reads'4.Post
+Need-slice-aggregate-read-plan = Lts.Need-slice-aggregate-read-plan (Reads'5.Asked, Reads'5.Learnt, Reads.Asked, Reads.Learnt, Reads'.Asked, Reads'.Learnt, Reads''.Asked, Reads''.Learnt, Reads'3.Asked, Reads'3.Learnt) Reads'4.Pre Reads'4.Post
 
 abbrev pub Need-slice-aggregate-read-plan-2 : Type 0
-Need-slice-aggregate-read-plan-2 = Lts.Need-slice-aggregate-read-plan-2 (
-  Reads'5.Asked,
-  Reads'5.Learnt,
-  Reads.Asked,
-  Reads.Learnt,
-  Reads'.Asked,
-  Reads'.Learnt,
-  Reads''.Asked,
-  Reads''.Learnt,
-  Reads'3.Asked,
-  Reads'3.Learnt,
-) Reads'4.Pre Reads'4.Post
+Need-slice-aggregate-read-plan-2 = Lts.Need-slice-aggregate-read-plan-2 (Reads'5.Asked, Reads'5.Learnt, Reads.Asked, Reads.Learnt, Reads'.Asked, Reads'.Learnt, Reads''.Asked, Reads''.Learnt, Reads'3.Asked, Reads'3.Learnt) Reads'4.Pre Reads'4.Post
 
 abbrev pub Need-slice-aggregate-read-plan-3 : Type 0
-Need-slice-aggregate-read-plan-3 = Lts.Need-slice-aggregate-read-plan-3 (
-  Reads'5.Asked,
-  Reads'5.Learnt,
-  Reads.Asked,
-  Reads.Learnt,
-  Reads'.Asked,
-  Reads'.Learnt,
-  Reads''.Asked,
-  Reads''.Learnt,
-  Reads'3.Asked,
-  Reads'3.Learnt,
-) Reads'4.Pre Reads'4.Post
+Need-slice-aggregate-read-plan-3 = Lts.Need-slice-aggregate-read-plan-3 (Reads'5.Asked, Reads'5.Learnt, Reads.Asked, Reads.Learnt, Reads'.Asked, Reads'.Learnt, Reads''.Asked, Reads''.Learnt, Reads'3.Asked, Reads'3.Learnt) Reads'4.Pre Reads'4.Post
 
 abbrev pub Need-slice-aggregate-read-plan-4 : Type 0
-Need-slice-aggregate-read-plan-4 = Lts.Need-slice-aggregate-read-plan-4 (
-  Reads'5.Asked,
-  Reads'5.Learnt,
-  Reads.Asked,
-  Reads.Learnt,
-  Reads'.Asked,
-  Reads'.Learnt,
-  Reads''.Asked,
-  Reads''.Learnt,
-  Reads'3.Asked,
-  Reads'3.Learnt,
-) Reads'4.Pre Reads'4.Post
+Need-slice-aggregate-read-plan-4 = Lts.Need-slice-aggregate-read-plan-4 (Reads'5.Asked, Reads'5.Learnt, Reads.Asked, Reads.Learnt, Reads'.Asked, Reads'.Learnt, Reads''.Asked, Reads''.Learnt, Reads'3.Asked, Reads'3.Learnt) Reads'4.Pre Reads'4.Post
 
 abbrev pub Need-slice-aggregate-read-plan-5 : Type 0
-Need-slice-aggregate-read-plan-5 = Lts.Need-slice-aggregate-read-plan-5 (
-  Reads'5.Asked,
-  Reads'5.Learnt,
-  Reads.Asked,
-  Reads.Learnt,
-  Reads'.Asked,
-  Reads'.Learnt,
-  Reads''.Asked,
-  Reads''.Learnt,
-  Reads'3.Asked,
-  Reads'3.Learnt,
-) Reads'4.Pre Reads'4.Post
+Need-slice-aggregate-read-plan-5 = Lts.Need-slice-aggregate-read-plan-5 (Reads'5.Asked, Reads'5.Learnt, Reads.Asked, Reads.Learnt, Reads'.Asked, Reads'.Learnt, Reads''.Asked, Reads''.Learnt, Reads'3.Asked, Reads'3.Learnt) Reads'4.Pre Reads'4.Post
 
 abbrev pub Need-slice-aggregate-read-plan-6 : Type 0
-Need-slice-aggregate-read-plan-6 = Lts.Need-slice-aggregate-read-plan-6 (
-  Reads'5.Asked,
-  Reads'5.Learnt,
-  Reads.Asked,
-  Reads.Learnt,
-  Reads'.Asked,
-  Reads'.Learnt,
-  Reads''.Asked,
-  Reads''.Learnt,
-  Reads'3.Asked,
-  Reads'3.Learnt,
-) Reads'4.Pre Reads'4.Post
+Need-slice-aggregate-read-plan-6 = Lts.Need-slice-aggregate-read-plan-6 (Reads'5.Asked, Reads'5.Learnt, Reads.Asked, Reads.Learnt, Reads'.Asked, Reads'.Learnt, Reads''.Asked, Reads''.Learnt, Reads'3.Asked, Reads'3.Learnt) Reads'4.Pre Reads'4.Post
 
 abbrev pub Need-slice-aggregate-read-plan-7 : Type 0
-Need-slice-aggregate-read-plan-7 = Lts.Need-slice-aggregate-read-plan-7 (
-  Reads'5.Asked,
-  Reads'5.Learnt,
-  Reads.Asked,
-  Reads.Learnt,
-  Reads'.Asked,
-  Reads'.Learnt,
-  Reads''.Asked,
-  Reads''.Learnt,
-  Reads'3.Asked,
-  Reads'3.Learnt,
-) Reads'4.Pre Reads'4.Post
+Need-slice-aggregate-read-plan-7 = Lts.Need-slice-aggregate-read-plan-7 (Reads'5.Asked, Reads'5.Learnt, Reads.Asked, Reads.Learnt, Reads'.Asked, Reads'.Learnt, Reads''.Asked, Reads''.Learnt, Reads'3.Asked, Reads'3.Learnt) Reads'4.Pre Reads'4.Post
 
 abbrev pub Need-slice-aggregate-read-plan-8 : Type 0
-Need-slice-aggregate-read-plan-8 = Lts.Need-slice-aggregate-read-plan-8 (
-  Reads'5.Asked,
-  Reads'5.Learnt,
-  Reads.Asked,
-  Reads.Learnt,
-  Reads'.Asked,
-  Reads'.Learnt,
-  Reads''.Asked,
-  Reads''.Learnt,
-  Reads'3.Asked,
-  Reads'3.Learnt,
-) Reads'4.Pre Reads'4.Post
+Need-slice-aggregate-read-plan-8 = Lts.Need-slice-aggregate-read-plan-8 (Reads'5.Asked, Reads'5.Learnt, Reads.Asked, Reads.Learnt, Reads'.Asked, Reads'.Learnt, Reads''.Asked, Reads''.Learnt, Reads'3.Asked, Reads'3.Learnt) Reads'4.Pre Reads'4.Post
 
 abbrev pub Need-slice-aggregate-read-plan-9 : Type 0
-Need-slice-aggregate-read-plan-9 = Lts.Need-slice-aggregate-read-plan-9 (
-  Reads'5.Asked,
-  Reads'5.Learnt,
-  Reads.Asked,
-  Reads.Learnt,
-  Reads'.Asked,
-  Reads'.Learnt,
-  Reads''.Asked,
-  Reads''.Learnt,
-  Reads'3.Asked,
-  Reads'3.Learnt,
-) Reads'4.Pre Reads'4.Post
+Need-slice-aggregate-read-plan-9 = Lts.Need-slice-aggregate-read-plan-9 (Reads'5.Asked, Reads'5.Learnt, Reads.Asked, Reads.Learnt, Reads'.Asked, Reads'.Learnt, Reads''.Asked, Reads''.Learnt, Reads'3.Asked, Reads'3.Learnt) Reads'4.Pre Reads'4.Post
 
 abbrev pub Need-read-plan-requires : Type 0
-Need-read-plan-requires = Lts.Need-read-plan-requires (
-  Reads'5.Asked,
-  Reads'5.Learnt,
-  Reads.Asked,
-  Reads.Learnt,
-  Reads'.Asked,
-  Reads'.Learnt,
-  Reads''.Asked,
-  Reads''.Learnt,
-  Reads'3.Asked,
-  Reads'3.Learnt,
-) Reads'4.Pre Reads'4.Post
+Need-read-plan-requires = Lts.Need-read-plan-requires (Reads'5.Asked, Reads'5.Learnt, Reads.Asked, Reads.Learnt, Reads'.Asked, Reads'.Learnt, Reads''.Asked, Reads''.Learnt, Reads'3.Asked, Reads'3.Learnt) Reads'4.Pre Reads'4.Post
 
 abbrev pub Need-number-of-requires : Type 0
-Need-number-of-requires = Lts.Need-number-of-requires (
-  Reads'5.Asked,
-  Reads'5.Learnt,
-  Reads.Asked,
-  Reads.Learnt,
-  Reads'.Asked,
-  Reads'.Learnt,
-  Reads''.Asked,
-  Reads''.Learnt,
-  Reads'3.Asked,
-  Reads'3.Learnt,
-) Reads'4.Pre Reads'4.Post
+Need-number-of-requires = Lts.Need-number-of-requires (Reads'5.Asked, Reads'5.Learnt, Reads.Asked, Reads.Learnt, Reads'.Asked, Reads'.Learnt, Reads''.Asked, Reads''.Learnt, Reads'3.Asked, Reads'3.Learnt) Reads'4.Pre Reads'4.Post
 
 abbrev pub Need-show-requires : Type 0
-Need-show-requires = Lts.Need-show-requires (
-  Reads'5.Asked,
-  Reads'5.Learnt,
-  Reads.Asked,
-  Reads.Learnt,
-  Reads'.Asked,
-  Reads'.Learnt,
-  Reads''.Asked,
-  Reads''.Learnt,
-  Reads'3.Asked,
-  Reads'3.Learnt,
-) Reads'4.Pre Reads'4.Post
+Need-show-requires = Lts.Need-show-requires (Reads'5.Asked, Reads'5.Learnt, Reads.Asked, Reads.Learnt, Reads'.Asked, Reads'.Learnt, Reads''.Asked, Reads''.Learnt, Reads'3.Asked, Reads'3.Learnt) Reads'4.Pre Reads'4.Post
 
 abbrev pub Need-returns : Type 0
-Need-returns = Lts.Need-returns (
-  Reads'5.Asked,
-  Reads'5.Learnt,
-  Reads.Asked,
-  Reads.Learnt,
-  Reads'.Asked,
-  Reads'.Learnt,
-  Reads''.Asked,
-  Reads''.Learnt,
-  Reads'3.Asked,
-  Reads'3.Learnt,
-) Reads'4.Pre Reads'4.Post
+Need-returns = Lts.Need-returns (Reads'5.Asked, Reads'5.Learnt, Reads.Asked, Reads.Learnt, Reads'.Asked, Reads'.Learnt, Reads''.Asked, Reads''.Learnt, Reads'3.Asked, Reads'3.Learnt) Reads'4.Pre Reads'4.Post
 
 abbrev pub Need-slice-aggregate-press-each : Type 0
-Need-slice-aggregate-press-each = Lts.Need-slice-aggregate-press-each (
-  Reads'5.Asked,
-  Reads'5.Learnt,
-  Reads.Asked,
-  Reads.Learnt,
-  Reads'.Asked,
-  Reads'.Learnt,
-  Reads''.Asked,
-  Reads''.Learnt,
-  Reads'3.Asked,
-  Reads'3.Learnt,
-) Reads'4.Pre Reads'4.Post
+Need-slice-aggregate-press-each = Lts.Need-slice-aggregate-press-each (Reads'5.Asked, Reads'5.Learnt, Reads.Asked, Reads.Learnt, Reads'.Asked, Reads'.Learnt, Reads''.Asked, Reads''.Learnt, Reads'3.Asked, Reads'3.Learnt) Reads'4.Pre Reads'4.Post
 
 abbrev pub Need-slice-aggregate-press-each-2 : Type 0
-Need-slice-aggregate-press-each-2 = Lts.Need-slice-aggregate-press-each-2 (
-  Reads'5.Asked,
-  Reads'5.Learnt,
-  Reads.Asked,
-  Reads.Learnt,
-  Reads'.Asked,
-  Reads'.Learnt,
-  Reads''.Asked,
-  Reads''.Learnt,
-  Reads'3.Asked,
-  Reads'3.Learnt,
-) Reads'4.Pre Reads'4.Post
+Need-slice-aggregate-press-each-2 = Lts.Need-slice-aggregate-press-each-2 (Reads'5.Asked, Reads'5.Learnt, Reads.Asked, Reads.Learnt, Reads'.Asked, Reads'.Learnt, Reads''.Asked, Reads''.Learnt, Reads'3.Asked, Reads'3.Learnt) Reads'4.Pre Reads'4.Post
 
 abbrev pub Need-slice-aggregate-press-each-3 : Type 0
-Need-slice-aggregate-press-each-3 = Lts.Need-slice-aggregate-press-each-3 (
-  Reads'5.Asked,
-  Reads'5.Learnt,
-  Reads.Asked,
-  Reads.Learnt,
-  Reads'.Asked,
-  Reads'.Learnt,
-  Reads''.Asked,
-  Reads''.Learnt,
-  Reads'3.Asked,
-  Reads'3.Learnt,
-) Reads'4.Pre Reads'4.Post
+Need-slice-aggregate-press-each-3 = Lts.Need-slice-aggregate-press-each-3 (Reads'5.Asked, Reads'5.Learnt, Reads.Asked, Reads.Learnt, Reads'.Asked, Reads'.Learnt, Reads''.Asked, Reads''.Learnt, Reads'3.Asked, Reads'3.Learnt) Reads'4.Pre Reads'4.Post
 
 abbrev pub Need-slice-aggregate-press-each-4 : Type 0
-Need-slice-aggregate-press-each-4 = Lts.Need-slice-aggregate-press-each-4 (
-  Reads'5.Asked,
-  Reads'5.Learnt,
-  Reads.Asked,
-  Reads.Learnt,
-  Reads'.Asked,
-  Reads'.Learnt,
-  Reads''.Asked,
-  Reads''.Learnt,
-  Reads'3.Asked,
-  Reads'3.Learnt,
-) Reads'4.Pre Reads'4.Post
+Need-slice-aggregate-press-each-4 = Lts.Need-slice-aggregate-press-each-4 (Reads'5.Asked, Reads'5.Learnt, Reads.Asked, Reads.Learnt, Reads'.Asked, Reads'.Learnt, Reads''.Asked, Reads''.Learnt, Reads'3.Asked, Reads'3.Learnt) Reads'4.Pre Reads'4.Post
 
 abbrev pub Need-slice-aggregate-press-each-5 : Type 0
-Need-slice-aggregate-press-each-5 = Lts.Need-slice-aggregate-press-each-5 (
-  Reads'5.Asked,
-  Reads'5.Learnt,
-  Reads.Asked,
-  Reads.Learnt,
-  Reads'.Asked,
-  Reads'.Learnt,
-  Reads''.Asked,
-  Reads''.Learnt,
-  Reads'3.Asked,
-  Reads'3.Learnt,
-) Reads'4.Pre Reads'4.Post
+Need-slice-aggregate-press-each-5 = Lts.Need-slice-aggregate-press-each-5 (Reads'5.Asked, Reads'5.Learnt, Reads.Asked, Reads.Learnt, Reads'.Asked, Reads'.Learnt, Reads''.Asked, Reads''.Learnt, Reads'3.Asked, Reads'3.Learnt) Reads'4.Pre Reads'4.Post
 
 abbrev pub Need-slice-aggregate-press-each-6 : Type 0
-Need-slice-aggregate-press-each-6 = Lts.Need-slice-aggregate-press-each-6 (
-  Reads'5.Asked,
-  Reads'5.Learnt,
-  Reads.Asked,
-  Reads.Learnt,
-  Reads'.Asked,
-  Reads'.Learnt,
-  Reads''.Asked,
-  Reads''.Learnt,
-  Reads'3.Asked,
-  Reads'3.Learnt,
-) Reads'4.Pre Reads'4.Post
+Need-slice-aggregate-press-each-6 = Lts.Need-slice-aggregate-press-each-6 (Reads'5.Asked, Reads'5.Learnt, Reads.Asked, Reads.Learnt, Reads'.Asked, Reads'.Learnt, Reads''.Asked, Reads''.Learnt, Reads'3.Asked, Reads'3.Learnt) Reads'4.Pre Reads'4.Post
 
 abbrev pub Need-slice-aggregate-press-each-7 : Type 0
-Need-slice-aggregate-press-each-7 = Lts.Need-slice-aggregate-press-each-7 (
-  Reads'5.Asked,
-  Reads'5.Learnt,
-  Reads.Asked,
-  Reads.Learnt,
-  Reads'.Asked,
-  Reads'.Learnt,
-  Reads''.Asked,
-  Reads''.Learnt,
-  Reads'3.Asked,
-  Reads'3.Learnt,
-) Reads'4.Pre Reads'4.Post
+Need-slice-aggregate-press-each-7 = Lts.Need-slice-aggregate-press-each-7 (Reads'5.Asked, Reads'5.Learnt, Reads.Asked, Reads.Learnt, Reads'.Asked, Reads'.Learnt, Reads''.Asked, Reads''.Learnt, Reads'3.Asked, Reads'3.Learnt) Reads'4.Pre Reads'4.Post
 
 abbrev pub Need-slice-aggregate-press-each-8 : Type 0
-Need-slice-aggregate-press-each-8 = Lts.Need-slice-aggregate-press-each-8 (
-  Reads'5.Asked,
-  Reads'5.Learnt,
-  Reads.Asked,
-  Reads.Learnt,
-  Reads'.Asked,
-  Reads'.Learnt,
-  Reads''.Asked,
-  Reads''.Learnt,
-  Reads'3.Asked,
-  Reads'3.Learnt,
-) Reads'4.Pre Reads'4.Post
+Need-slice-aggregate-press-each-8 = Lts.Need-slice-aggregate-press-each-8 (Reads'5.Asked, Reads'5.Learnt, Reads.Asked, Reads.Learnt, Reads'.Asked, Reads'.Learnt, Reads''.Asked, Reads''.Learnt, Reads'3.Asked, Reads'3.Learnt) Reads'4.Pre Reads'4.Post
 
 abbrev pub Need-slice-aggregate-press-each-9 : Type 0
-Need-slice-aggregate-press-each-9 = Lts.Need-slice-aggregate-press-each-9 (
-  Reads'5.Asked,
-  Reads'5.Learnt,
-  Reads.Asked,
-  Reads.Learnt,
-  Reads'.Asked,
-  Reads'.Learnt,
-  Reads''.Asked,
-  Reads''.Learnt,
-  Reads'3.Asked,
-  Reads'3.Learnt,
-) Reads'4.Pre Reads'4.Post
+Need-slice-aggregate-press-each-9 = Lts.Need-slice-aggregate-press-each-9 (Reads'5.Asked, Reads'5.Learnt, Reads.Asked, Reads.Learnt, Reads'.Asked, Reads'.Learnt, Reads''.Asked, Reads''.Learnt, Reads'3.Asked, Reads'3.Learnt) Reads'4.Pre Reads'4.Post
 
 abbrev pub Need-press-each-requires : Type 0
-Need-press-each-requires = Lts.Need-press-each-requires (
-  Reads'5.Asked,
-  Reads'5.Learnt,
-  Reads.Asked,
-  Reads.Learnt,
-  Reads'.Asked,
-  Reads'.Learnt,
-  Reads''.Asked,
-  Reads''.Learnt,
-  Reads'3.Asked,
-  Reads'3.Learnt,
-) Reads'4.Pre Reads'4.Post
+Need-press-each-requires = Lts.Need-press-each-requires (Reads'5.Asked, Reads'5.Learnt, Reads.Asked, Reads.Learnt, Reads'.Asked, Reads'.Learnt, Reads''.Asked, Reads''.Learnt, Reads'3.Asked, Reads'3.Learnt) Reads'4.Pre Reads'4.Post
 
 abbrev pub Need-returns-2 : Type 0
-Need-returns-2 = Lts.Need-returns-2 (
-  Reads'5.Asked,
-  Reads'5.Learnt,
-  Reads.Asked,
-  Reads.Learnt,
-  Reads'.Asked,
-  Reads'.Learnt,
-  Reads''.Asked,
-  Reads''.Learnt,
-  Reads'3.Asked,
-  Reads'3.Learnt,
-) Reads'4.Pre Reads'4.Post
+Need-returns-2 = Lts.Need-returns-2 (Reads'5.Asked, Reads'5.Learnt, Reads.Asked, Reads.Learnt, Reads'.Asked, Reads'.Learnt, Reads''.Asked, Reads''.Learnt, Reads'3.Asked, Reads'3.Learnt) Reads'4.Pre Reads'4.Post
 
 module _ {M : Type 1} where
-  pub spec : (answer : Need-zero-record-requires) → (answer : Need-slice-aggregate-read-plan) → (answer : Need-slice-aggregate-read-plan-2) → (answer : Need-slice-aggregate-read-plan-3) → (answer : Need-slice-aggregate-read-plan-4) → (answer : Need-slice-aggregate-read-plan-5) → (answer : Need-slice-aggregate-read-plan-6) →
-      (answer : Need-slice-aggregate-read-plan-7) → (answer : Need-slice-aggregate-read-plan-8) → (answer : Need-slice-aggregate-read-plan-9) → (answer : Need-read-plan-requires) → (answer : Need-number-of-requires) → (answer : Need-show-requires) → (answer : Need-returns) → (answer : Need-slice-aggregate-press-each) →
-      (answer : Need-slice-aggregate-press-each-2) → (answer : Need-slice-aggregate-press-each-3) → (answer : Need-slice-aggregate-press-each-4) → (answer : Need-slice-aggregate-press-each-5) → (answer : Need-slice-aggregate-press-each-6) → (answer : Need-slice-aggregate-press-each-7) → (answer : Need-slice-aggregate-press-each-8) →
-      (answer : Need-slice-aggregate-press-each-9) → (answer : Need-press-each-requires) → (answer : Need-returns-2) → Lts.Closed (Reads'5.Asked, Reads'5.Learnt, Reads.Asked, Reads.Learnt, Reads'.Asked, Reads'.Learnt, Reads''.Asked, Reads''.Learnt, Reads'3.Asked, Reads'3.Learnt) Reads'4.Pre Reads'4.Post M
-  spec = λ answer answer' answer'' answer'3 answer'4 answer'5 answer'6 answer'7 answer'8 answer'9 answer'10 answer'11 answer'12 answer'13 answer'14 answer'15 answer'16 answer'17 answer'18 answer'19 answer'20 answer'21 answer'22 answer'23 answer'24. Lts.spec (
-    Reads'5.Asked,
-    Reads'5.Learnt,
-    Reads.Asked,
-    Reads.Learnt,
-    Reads'.Asked,
-    Reads'.Learnt,
-    Reads''.Asked,
-    Reads''.Learnt,
-    Reads'3.Asked,
-    Reads'3.Learnt,
-  ) Reads'4.Pre Reads'4.Post answer answer' answer'' answer'3 answer'4 answer'5 answer'6 answer'7 answer'8 answer'9 answer'10 answer'11 answer'12 answer'13 answer'14 answer'15 answer'16 answer'17 answer'18 answer'19 answer'20 answer'21 answer'22 answer'23 answer'24
+  pub spec : (answer : Need-zero-record-requires) → (answer : Need-slice-aggregate-read-plan) → (answer : Need-slice-aggregate-read-plan-2) → (answer : Need-slice-aggregate-read-plan-3) → (answer : Need-slice-aggregate-read-plan-4) → (answer : Need-slice-aggregate-read-plan-5) → (answer : Need-slice-aggregate-read-plan-6) → (answer :
+      Need-slice-aggregate-read-plan-7) → (answer : Need-slice-aggregate-read-plan-8) → (answer : Need-slice-aggregate-read-plan-9) → (answer : Need-read-plan-requires) → (answer : Need-number-of-requires) → (answer : Need-show-requires) → (answer : Need-returns) → (answer : Need-slice-aggregate-press-each) → (answer : Need-slice-aggregate-press-each-2) →
+      (answer : Need-slice-aggregate-press-each-3) → (answer : Need-slice-aggregate-press-each-4) → (answer : Need-slice-aggregate-press-each-5) → (answer : Need-slice-aggregate-press-each-6) → (answer : Need-slice-aggregate-press-each-7) → (answer : Need-slice-aggregate-press-each-8) → (answer : Need-slice-aggregate-press-each-9) → (answer :
+      Need-press-each-requires) → (answer : Need-returns-2) → Lts.Closed (Reads'5.Asked, Reads'5.Learnt, Reads.Asked, Reads.Learnt, Reads'.Asked, Reads'.Learnt, Reads''.Asked, Reads''.Learnt, Reads'3.Asked, Reads'3.Learnt) Reads'4.Pre Reads'4.Post M
+  spec = λ answer answer' answer'' answer'3 answer'4 answer'5 answer'6 answer'7 answer'8 answer'9 answer'10 answer'11 answer'12 answer'13 answer'14 answer'15 answer'16 answer'17 answer'18 answer'19 answer'20 answer'21 answer'22 answer'23 answer'24. Lts.spec
+      (Reads'5.Asked, Reads'5.Learnt, Reads.Asked, Reads.Learnt, Reads'.Asked, Reads'.Learnt, Reads''.Asked, Reads''.Learnt, Reads'3.Asked, Reads'3.Learnt) Reads'4.Pre Reads'4.Post answer answer' answer'' answer'3 answer'4 answer'5 answer'6 answer'7 answer'8 answer'9 answer'10 answer'11 answer'12 answer'13 answer'14 answer'15 answer'16 answer'17 answer'18
+      answer'19 answer'20 answer'21 answer'22 answer'23 answer'24
 
-  pub close : Lts.Closed (
-    Reads'5.Asked,
-    Reads'5.Learnt,
-    Reads.Asked,
-    Reads.Learnt,
-    Reads'.Asked,
-    Reads'.Learnt,
-    Reads''.Asked,
-    Reads''.Learnt,
-    Reads'3.Asked,
-    Reads'3.Learnt,
-  ) Reads'4.Pre Reads'4.Post M → Statement.statement M
+  pub close : Lts.Closed (Reads'5.Asked, Reads'5.Learnt, Reads.Asked, Reads.Learnt, Reads'.Asked, Reads'.Learnt, Reads''.Asked, Reads''.Learnt, Reads'3.Asked, Reads'3.Learnt) Reads'4.Pre Reads'4.Post M → Statement.statement M
   unfolding Code.routine Running.tablesOf
-  close = λ closed 𝓤 H 𝓜 𝓖 𝓡. Written.close 2 Kinds.ps Kinds.r Reads'4.Ghost Reads'4.requires Reads'4.ensures Reads'4.pre-read Reads'4.Pinned Reads'4.Owned Reads'4.post-read record { M = M; 𝓤 = 𝓤; H = H; 𝓜 = 𝓜; 𝓖 = 𝓖; 𝓡 = 𝓡 } Code.env Key.name Code.function (Code.unfolded 𝓤 H 𝓜 𝓡) (λ κs a g. tt)
-      (λ κs. Reads'4.owns κs record { M = M; 𝓤 = 𝓤; H = H; 𝓜 = 𝓜; 𝓖 = 𝓖; 𝓡 = 𝓡 }) (Reads'4.passes record { M = M; 𝓤 = 𝓤; H = H; 𝓜 = 𝓜; 𝓖 = 𝓖; 𝓡 = 𝓡 }) λ g. closed 𝓤 H (𝓖 .A) (Running.givenOf 𝓤 H 𝓜 𝓖) (Run.Over 𝓤 H 𝓜 𝓖 𝓡 Code.env) (Reads'5.known record { M = M; 𝓤 = 𝓤; H = H; 𝓜 = 𝓜; 𝓖 = 𝓖; 𝓡 = 𝓡 } Code.env Symbol'4.name Symbol'4.routine
-      Code.calls-records·record·zero-record (Met'4.met 𝓤 H 𝓜 𝓖 𝓡)) (Reads.known record { M = M; 𝓤 = 𝓤; H = H; 𝓜 = 𝓜; 𝓖 = 𝓖; 𝓡 = 𝓡 } Code.env Symbol.name Symbol.routine Code.calls-conductor·calls·read-plan (Met.met 𝓤 H 𝓜 𝓖 𝓡)) (Reads'.known record { M = M; 𝓤 = 𝓤; H = H; 𝓜 = 𝓜; 𝓖 = 𝓖; 𝓡 = 𝓡 } Code.env Symbol'.name Symbol'.routine
-      Code.calls-dispatch·program·number-of (Met'.met 𝓤 H 𝓜 𝓖 𝓡)) (Reads''.known record { M = M; 𝓤 = 𝓤; H = H; 𝓜 = 𝓜; 𝓖 = 𝓖; 𝓡 = 𝓡 } Code.env Symbol''.name Symbol''.routine Code.calls-presses·answers·show (Met''.met 𝓤 H 𝓜 𝓖 𝓡)) (Reads'3.known record { M = M; 𝓤 = 𝓤; H = H; 𝓜 = 𝓜; 𝓖 = 𝓖; 𝓡 = 𝓡 } Code.env Symbol'3.name Symbol'3.routine
-      Code.calls-presses·runs·press-each (Met'3.met 𝓤 H 𝓜 𝓖 𝓡))
+  close = λ closed 𝓤 H 𝓜 𝓖 𝓡. Written.close 2 Kinds.ps Kinds.r Reads'4.Ghost Reads'4.requires Reads'4.ensures Reads'4.pre-read Reads'4.Pinned Reads'4.Owned Reads'4.post-read record { M = M; 𝓤 = 𝓤; H = H; 𝓜 = 𝓜; 𝓖 = 𝓖; 𝓡 = 𝓡 } Code.env Key.name Code.function (Code.unfolded 𝓤 H 𝓜 𝓡) (λ κs a g. tt) (λ κs. Reads'4.owns κs record
+      { M = M; 𝓤 = 𝓤; H = H; 𝓜 = 𝓜; 𝓖 = 𝓖; 𝓡 = 𝓡 }) (Reads'4.passes record { M = M; 𝓤 = 𝓤; H = H; 𝓜 = 𝓜; 𝓖 = 𝓖; 𝓡 = 𝓡 }) λ g. closed 𝓤 H (𝓖 .A) (Running.givenOf 𝓤 H 𝓜 𝓖) (Run.Over 𝓤 H 𝓜 𝓖 𝓡 Code.env) (Reads'5.known record { M = M; 𝓤 = 𝓤; H = H; 𝓜 = 𝓜; 𝓖 = 𝓖; 𝓡 = 𝓡 } Code.env Symbol'4.name Symbol'4.routine Code.calls-records·record·zero-record (Met'4.met 𝓤 H 𝓜 𝓖
+      𝓡)) (Reads.known record { M = M; 𝓤 = 𝓤; H = H; 𝓜 = 𝓜; 𝓖 = 𝓖; 𝓡 = 𝓡 } Code.env Symbol.name Symbol.routine Code.calls-conductor·calls·read-plan (Met.met 𝓤 H 𝓜 𝓖 𝓡)) (Reads'.known record { M = M; 𝓤 = 𝓤; H = H; 𝓜 = 𝓜; 𝓖 = 𝓖; 𝓡 = 𝓡 } Code.env Symbol'.name Symbol'.routine Code.calls-dispatch·program·number-of (Met'.met 𝓤 H 𝓜 𝓖 𝓡)) (Reads''.known record
+      { M = M; 𝓤 = 𝓤; H = H; 𝓜 = 𝓜; 𝓖 = 𝓖; 𝓡 = 𝓡 } Code.env Symbol''.name Symbol''.routine Code.calls-presses·answers·show (Met''.met 𝓤 H 𝓜 𝓖 𝓡)) (Reads'3.known record { M = M; 𝓤 = 𝓤; H = H; 𝓜 = 𝓜; 𝓖 = 𝓖; 𝓡 = 𝓡 } Code.env Symbol'3.name Symbol'3.routine Code.calls-presses·runs·press-each (Met'3.met 𝓤 H 𝓜 𝓖 𝓡))

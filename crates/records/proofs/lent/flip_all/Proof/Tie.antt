@@ -58,10 +58,7 @@ abbrev pub Need-mul-flip-if : (Inv : InvT-loop) → (μ : MeasureT-loop) → Typ
 Need-mul-flip-if = λ Inv μ. Lts.Need-mul-flip-if (Reads'.Asked, Reads'.Learnt) Reads.Pre Reads.Post Inv μ
 
 abbrev pub Need-shared-slice-read-flip-if : (Inv : InvT-loop) → (μ : MeasureT-loop) → Type 0
-Need-shared-slice-read-flip-if = λ Inv μ. Lts.Need-shared-slice-read-flip-if (
-  Reads'.Asked,
-  Reads'.Learnt,
-) Reads.Pre Reads.Post Inv μ
+Need-shared-slice-read-flip-if = λ Inv μ. Lts.Need-shared-slice-read-flip-if (Reads'.Asked, Reads'.Learnt) Reads.Pre Reads.Post Inv μ
 
 abbrev pub Need-cast-flip-if : (Inv : InvT-loop) → (μ : MeasureT-loop) → Type 0
 Need-cast-flip-if = λ Inv μ. Lts.Need-cast-flip-if (Reads'.Asked, Reads'.Learnt) Reads.Pre Reads.Post Inv μ
@@ -88,8 +85,8 @@ abbrev pub Need-returns-2 : (Inv : InvT-loop) → (μ : MeasureT-loop) → Type 
 Need-returns-2 = λ Inv μ. Lts.Need-returns-2 (Reads'.Asked, Reads'.Learnt) Reads.Pre Reads.Post Inv μ
 
 module _ {M : Type 1} where
-  pub spec : (Inv : InvT-loop) → (μ : MeasureT-loop) → (answer : Need-loop-holds Inv μ) → (answer : Need-mul-flip-if Inv μ) → (answer : Need-shared-slice-read-flip-if Inv μ) → (answer : Need-cast-flip-if Inv μ) → (answer : Need-flip-if-requires Inv μ) → (answer : Need-add-k Inv μ) → (answer : Need-loop-less Inv μ) → (answer : Need-loop-again Inv μ) →
-      (answer : Need-same-length Inv μ) → (answer : Need-returns Inv μ) → (answer : Need-returns-2 Inv μ) → Lts.Closed (Reads'.Asked, Reads'.Learnt) Reads.Pre Reads.Post M
+  pub spec : (Inv : InvT-loop) → (μ : MeasureT-loop) → (answer : Need-loop-holds Inv μ) → (answer : Need-mul-flip-if Inv μ) → (answer : Need-shared-slice-read-flip-if Inv μ) → (answer : Need-cast-flip-if Inv μ) → (answer : Need-flip-if-requires Inv μ) → (answer : Need-add-k Inv μ) → (answer : Need-loop-less Inv μ) → (answer : Need-loop-again Inv μ) → (answer
+      : Need-same-length Inv μ) → (answer : Need-returns Inv μ) → (answer : Need-returns-2 Inv μ) → Lts.Closed (Reads'.Asked, Reads'.Learnt) Reads.Pre Reads.Post M
   spec = λ Inv μ answer answer' answer'' answer'3 answer'4 answer'5 answer'6 answer'7 answer'8 answer'9 answer'10. Lts.spec (Reads'.Asked, Reads'.Learnt) Reads.Pre Reads.Post Inv μ answer answer' answer'' answer'3 answer'4 answer'5 answer'6 answer'7 answer'8 answer'9 answer'10
 
   pub close : Lts.Closed (Reads'.Asked, Reads'.Learnt) Reads.Pre Reads.Post M → Statement.statement M

@@ -62,10 +62,7 @@ Need-returns-3 = Lts.Need-returns-3 (Reads'.Asked, Reads'.Learnt) Reads.Pre Read
 
 module _ {M : Type 1} where
   pub spec : (answer : Need-mul-flip) → (answer : Need-slice-copy-out-flip) → (answer : Need-flip-requires) → (answer : Need-mul-t11) → (answer : Need-slice-set-from-deps) → (answer : Need-same-length) → (answer : Need-returns) → (answer : Need-returns-2) → (answer : Need-returns-3) → Lts.Closed (Reads'.Asked, Reads'.Learnt) Reads.Pre Reads.Post M
-  spec = λ answer answer' answer'' answer'3 answer'4 answer'5 answer'6 answer'7 answer'8. Lts.spec (
-    Reads'.Asked,
-    Reads'.Learnt,
-  ) Reads.Pre Reads.Post answer answer' answer'' answer'3 answer'4 answer'5 answer'6 answer'7 answer'8
+  spec = λ answer answer' answer'' answer'3 answer'4 answer'5 answer'6 answer'7 answer'8. Lts.spec (Reads'.Asked, Reads'.Learnt) Reads.Pre Reads.Post answer answer' answer'' answer'3 answer'4 answer'5 answer'6 answer'7 answer'8
 
   pub close : Lts.Closed (Reads'.Asked, Reads'.Learnt) Reads.Pre Reads.Post M → Statement.statement M
   unfolding Code.routine Running.tablesOf

@@ -1,41 +1,40 @@
--- Answers carried from tables to equal ones, and the refusals before the columns of the records are there.
+-- Answers carried from tables to equal ones, and the refusal where too few records are lent.
 --     answered-over, written-over, told-over    the same answer over equal tables
---     answered-41, written-41, preview-41, preview-all-41, cost-41, rounds-refused-41, and the same with 40    the refusals that a spreading tells
---     whole-columns    the columns that a whole spreading leaves
+--     answered-41, written-41, preview-41, preview-all-41, cost-41, rounds-refused-41    the refusals of tables that are too small
+--     too-few, enough    the tables of few records are too small, and those of enough have the columns
 --     group-made, turn-made    a turn of a list and of one that flips its records where they lie, and nothing past the full size
 -- Assumes nothing.
-use mathlib.Core.Path.{_≡_, refl, sym, ap, subst, _∙_}
+use mathlib.Core.Path.{_≡_, refl, sym, ap, _∙_}
 use mathlib.Core.Bool.{Bool, true, false, cond}
+use lib.Dec.{ltb}
 use mathlib.Core.List.{List, [], _∷_}
 use Prim.Native.Nat.{ℕ, _<_}
 use native.Mathlib.Omega.{arith}
-use lib.ListN.{drop}
+use lib.ListN.{getD, drop}
 use lib.Seq.{drop-set-lt}
+use borrow.Author.Tests.{ltb-true, ltb-false}
 use Rattle.below.specs.Below.{isIn}
 use Rattle.below.proofs.Tests.{by-cases}
 use Rattle.below.proofs.Members.{in-head, in-tail}
 use Rattle.tables.specs.Limits.{Limits}
-use Rattle.tables.specs.Tables.{Tables, dependencies, fullSize}
+use Rattle.tables.specs.Tables.{Tables, tablesOf, dependencies, fullSize}
 use Rattle.tables.specs.Entries.{flipDependency}
 use Rattle.tables.specs.declared.entries.Dependency.{Dependency}
-use Rattle.sound.specs.Sound.{sound}
 use Rattle.log.specs.CallLog.{Call, turn, turnAll, Reply, refused, isAccepted}
 use Rattle.log.specs.Calls.{Answer, step, turnStep, turnAllStep, flipFlags, flipped, flippedAll, Answered, costRefused, costReply, roundsRefused, roundsReply}
 use Rattle.log.specs.Preview.{preview, previewAll, wouldRefuse}
 use Rattle.log.proofs.Checks.{is-accepted}
 use Rattle.log.proofs.Exactly.{group-exactly, turn-is-group}
 use Rattle.log.proofs.Preview.{preview-refusal, previewAll-refusal}
-use Rattle.log.proofs.Steps.{step-41, step-40}
+use Rattle.log.proofs.Steps.{step-41}
 use Rattle.flat.specs.Writing.{Writing, writeRefused, writes, bufferLeft, PlanWritten}
 use Rattle.flat.proofs.Facts.{facts}
 use Rattle.flat.proofs.Answers.{answered}
-use Rattle.flat.proofs.CostLaws.{costs-41, costs-40, rounds-41, rounds-40}
-use Rattle.flat.proofs.WritingLaws.{writes-41, writes-40}
-use Rattle.records.specs.Records.{recordAt, flipIf, flipAllIf, ColumnsOf, firstDronesOf, firstStopsOf, secondDronesOf, secondStopsOf, flagsOf, unusedZero, seen, tablesOfRecords, SpreadAs, spreadRecords}
-use Rattle.records.specs.declared.columns.Spread.{Spread}
-use Rattle.records.specs.declared.columns.Spread.the-variants.{Whole, TooSmall, UnusedNotZero}
+use Rattle.flat.proofs.CostLaws.{costs-41, rounds-41}
+use Rattle.flat.proofs.WritingLaws.{writes-41}
+use Rattle.records.specs.Records.{recordAt, flipIf, flipAllIf, flagsOf, seen, tablesOfRecords, Spread}
 use Rattle.records.proofs.Flips.{seen-flip, field-stays, flags-flip, group-none}
-use Rattle.conductor.proofs.Unsound.{unused-unsound}
+use Rattle.records.proofs.Seen.{tables-short, tables-in-columns}
 
 pub answered-over : {program : Tables → Call → Answer} {t u t′ u′ : Tables} {c : Call} {r : Reply} → t ≡ t′ → u ≡ u′ → Answered program t c r u → Answered program t′ c r u′
 answered-over {program} {t} {u} {t′} {u′} {c} e f a = record {
@@ -51,59 +50,34 @@ module _ (L : Limits) where
   pub told-over : {A : Type 0} (told : Tables → A) {t t′ : Tables} {r : A} → t ≡ t′ → r ≡ told t → r ≡ told t′
   told-over told e a = a ∙ ap told e
 
-  -- the refusals that a spreading tells
-  module _ (t : Tables) (ds : List Dependency) {r : Spread} (s : SpreadAs L t ds r) where
-    module _ (e : r ≡ TooSmall) where
-      too-small : fullSize L t ≡ false
-      too-small = subst (SpreadAs L t ds) e s
+  -- the refusals of tables that are too small
+  module _ (t : Tables) (too-small : fullSize L t ≡ false) where
+    pub answered-41 : (c : Call) → Answered (step L) t c (refused 41) t
+    answered-41 c = answered (step L) t c (refused 41) t (step-41 L t too-small c)
 
-      pub answered-41 : (c : Call) → Answered (step L) t c (refused 41) t
-      answered-41 c = answered (step L) t c (refused 41) t (step-41 L t too-small c)
+    pub preview-41 : (w : ℕ) → wouldRefuse 41 ≡ preview L t w
+    preview-41 w = preview-refusal L t w t 41 (answered-41 (turn w))
 
-      pub preview-41 : (w : ℕ) → wouldRefuse 41 ≡ preview L t w
-      preview-41 w = preview-refusal L t w t 41 (answered-41 (turn w))
+    pub preview-all-41 : (ws : List ℕ) → wouldRefuse 41 ≡ previewAll L t ws
+    preview-all-41 ws = previewAll-refusal L t ws t 41 (answered-41 (turnAll ws))
 
-      pub preview-all-41 : (ws : List ℕ) → wouldRefuse 41 ≡ previewAll L t ws
-      preview-all-41 ws = previewAll-refusal L t ws t 41 (answered-41 (turnAll ws))
+    pub written-41 : (buffer : List ℕ) → PlanWritten L t buffer buffer (writeRefused 41)
+    written-41 buffer = writes-41 L t too-small buffer
 
-      pub written-41 : (buffer : List ℕ) → PlanWritten L t buffer buffer (writeRefused 41)
-      written-41 buffer = writes-41 L t too-small buffer
+    pub cost-41 : costRefused 41 ≡ costReply L t
+    cost-41 = costs-41 L t too-small
 
-      pub cost-41 : costRefused 41 ≡ costReply L t
-      cost-41 = costs-41 L t too-small
+    pub rounds-refused-41 : roundsRefused 41 ≡ roundsReply L t
+    rounds-refused-41 = rounds-41 L t too-small
 
-      pub rounds-refused-41 : roundsRefused 41 ≡ roundsReply L t
-      rounds-refused-41 = rounds-41 L t too-small
+  -- ---- by how many records are lent
 
-    module _ (own : ColumnsOf (seen L ds) (t .plan .firstDrones) (t .plan .firstStops) (t .plan .secondDrones) (t .plan .secondStops) (t .flags)) (e : r ≡ UnusedNotZero) where
-      not-sound : (fullSize L t ≡ true) × (sound L t ≡ false)
-      not-sound = let k : (fullSize L t ≡ true) × (unusedZero L (dependencies (t .plan)) ds ≡ false) = subst (SpreadAs L t ds) e s in (k .0, unused-unsound L t ds own (k .1))
+  module _ {ds : List Dependency} {lent : ℕ} {stops drones : List (List ℕ)} {flags : List ℕ} (s : Spread L ds lent stops drones flags) {few : Bool} (test : few ≡ ltb lent (L .dependencies)) where
+    pub too-few : (t : Tables) → t .flags ≡ flagsOf (seen L ds) → few ≡ true → fullSize L t ≡ false
+    too-few t f e = tables-short L t ds f (omega (arith, s .lent-records, ltb-true lent (L .dependencies) (sym test ∙ e)))
 
-      pub answered-40 : (c : Call) → Answered (step L) t c (refused 40) t
-      answered-40 c = answered (step L) t c (refused 40) t (step-40 L t (not-sound .0) (not-sound .1) c)
-
-      pub preview-40 : (w : ℕ) → wouldRefuse 40 ≡ preview L t w
-      preview-40 w = preview-refusal L t w t 40 (answered-40 (turn w))
-
-      pub preview-all-40 : (ws : List ℕ) → wouldRefuse 40 ≡ previewAll L t ws
-      preview-all-40 ws = previewAll-refusal L t ws t 40 (answered-40 (turnAll ws))
-
-      pub written-40 : (buffer : List ℕ) → PlanWritten L t buffer buffer (writeRefused 40)
-      written-40 buffer = writes-40 L t not-sound buffer
-
-      pub cost-40 : costRefused 40 ≡ costReply L t
-      cost-40 = costs-40 L t not-sound
-
-      pub rounds-refused-40 : roundsRefused 40 ≡ roundsReply L t
-      rounds-refused-40 = rounds-40 L t not-sound
-
-  -- the records have the columns that are seen of them
-  pub own-columns : (ds : List Dependency) → ColumnsOf (seen L ds) (firstDronesOf (seen L ds)) (firstStopsOf (seen L ds)) (secondDronesOf (seen L ds)) (secondStopsOf (seen L ds)) (flagsOf (seen L ds))
-  own-columns ds = record { first-drones = refl; first-stops = refl; second-drones = refl; second-stops = refl; flag-bytes = refl }
-
-  -- a whole spreading leaves the tables' own columns
-  pub whole-columns : (ds : List Dependency) {r : Spread} {firstDrones firstStops secondDrones secondStops flags : List ℕ} → ColumnsOf (spreadRecords L ds r) firstDrones firstStops secondDrones secondStops flags → r ≡ Whole → ColumnsOf (seen L ds) firstDrones firstStops secondDrones secondStops flags
-  whole-columns ds {r} {firstDrones} {firstStops} {secondDrones} {secondStops} {flags} c e = subst (λ (x : Spread). ColumnsOf (spreadRecords L ds x) firstDrones firstStops secondDrones secondStops flags) e c
+    pub enough : {droneCount dependencyCount names stopCounts locations times visited droneFlags : List ℕ} → few ≡ false → tablesOf droneCount dependencyCount names stopCounts locations times visited droneFlags (getD drones 0 []) (getD stops 0 []) (getD drones 1 []) (getD stops 1 []) flags ≡ tablesOfRecords L droneCount dependencyCount names stopCounts locations times visited droneFlags ds
+    enough e = tables-in-columns L ds (s .columns (omega (arith, s .lent-records, ltb-false lent (L .dependencies) (sym test ∙ e))))
 
   -- ---- turn: the flipped records are the flipped tables
 

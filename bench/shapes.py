@@ -1,0 +1,98 @@
+#!/usr/bin/env python3
+"""Plans that are ugly to read: bench/shapes.py SHAPE DRONES STOPS prints one, STOPS being those of all drones together. Without arguments it lists the shapes."""
+import sys
+
+LOCATIONS, DEPENDENCIES = 65536, 2048
+
+
+def shares(drones, stops):
+    """How many stops each drone has."""
+    return [stops // drones + (d < stops % drones) for d in range(drones)]
+
+
+def deep(stops):
+    """All locations, those of one tree of first stops after each other, for as many trees as stops (crates/plan/specs/Sharing.antt, `rootOf`)."""
+    return sorted(range(LOCATIONS), key=lambda l: ((l + l // stops * 17) % stops, l))
+
+
+def fro(drones, stops):
+    """taken: drone 0 goes to and fro between two locations, the others stand still"""
+    yield [(s % 2, s) for s in range(stops - drones + 1)]
+    for d in range(1, drones):
+        yield [(1 + d, 0)]
+
+
+def fro_each(drones, stops):
+    """taken: each drone goes to and fro between two locations of its own"""
+    for d, m in enumerate(shares(drones, stops)):
+        yield [(2 * d + s % 2, s) for s in range(m)]
+
+
+def windows(drones, stops, order=lambda d, drones: d, last=lambda d, drones: d):
+    """11: all go to and fro between the same two locations, one drone after the other, the lowest first"""
+    for d, m in enumerate(shares(drones, stops)):
+        start = order(d, drones) * (stops // drones + 2)
+        route = [(2 + d, 0)] + [(s % 2, start + s) for s in range(1, m - 1)] + [(2 + drones + last(d, drones), start + m)]
+        yield route[:m]
+
+
+def windows_back(drones, stops):
+    """11: the same, the highest drone first, so that no stop of the lower drones is the first of a dependency"""
+    return windows(drones, stops, order=lambda d, drones: drones - 1 - d)
+
+
+def last_pair(drones, stops):
+    """10: the same as `windows`, but the last two drones end at one location: the pair that is found after all others"""
+    return windows(drones, stops, last=lambda d, drones: min(d, drones - 2))
+
+
+def last_pair_back(drones, stops):
+    """10: the same as `windows_back`, but the last two drones end at one location"""
+    return windows(drones, stops, order=lambda d, drones: drones - 1 - d, last=lambda d, drones: min(d, drones - 2))
+
+
+def crowded(drones, stops, times=1):
+    """taken: as many dependencies as fit, all drones passing each crossing; every location lies deep in its tree, and the lines are long"""
+    pairs = drones * (drones - 1) // 2 * times * times
+    crossings = min(DEPENDENCIES // pairs, (stops // drones - 2) // (2 * times)) if pairs else 0
+    places = [l for l in deep(stops) if l >= 10000]
+    wide = places[crossings:]
+    for d, m in enumerate(shares(drones, stops)):
+        own = iter(wide[d * (stops // drones + 1):])
+        route = [(next(own), 0)]
+        for c in range(crossings):
+            for k in range(times):
+                route += [(places[c], 100000 + (c * drones + d) * 4 * times + 4 * k), (next(own), 100000 + (c * drones + d) * 4 * times + 4 * k + 2)]
+        for s in range(len(route), m):
+            route.append((next(own), 900000 + s))
+        yield route[:m]
+
+
+def crowded_twice(drones, stops):
+    """taken: the same, each drone passing each crossing twice"""
+    return crowded(drones, stops, times=2)
+
+
+def crowded_fro(drones, stops):
+    """taken: as many dependencies as fit; besides, each drone goes to and fro between two locations of its own"""
+    for d, route in enumerate(crowded(drones, stops)):
+        own = [l for l, t in route[:1]] + [20 + d]
+        yield [(own[s % 2], t) if t >= 900000 else (l, t) for s, (l, t) in enumerate(route)]
+
+
+SHAPES = [fro, fro_each, windows, windows_back, last_pair, last_pair_back, crowded, crowded_twice, crowded_fro]
+
+
+def text(plan):
+    plan = list(plan)
+    lines = ["plan=1", "agents=%d" % len(plan)]
+    for d, route in enumerate(plan):
+        lines += ["name=survey-quad-of-field-%02d" % d, "stops=%d" % len(route)] + ["go=%d@%d" % visit for visit in route]
+    return "".join(line + "\n" for line in lines + ["end=plan"])
+
+
+if __name__ == "__main__":
+    known = {shape.__name__: shape for shape in SHAPES}
+    if len(sys.argv) != 4 or sys.argv[1] not in known:
+        sys.exit("\n".join([__doc__] + ["%-15s %s" % (name, shape.__doc__) for name, shape in known.items()]))
+    sys.stdout.write(text(known[sys.argv[1]](int(sys.argv[2]), int(sys.argv[3]))))

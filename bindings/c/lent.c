@@ -1,0 +1,234 @@
+/* Every export with every table that is lent to it. Where two tables, two fields of an answer or two numbers of a call changed places
+ * between this header and the library, some line here would differ: the plan's numbers are all different, each table is read back entry
+ * by entry after each call, and each call is refused by 41 for each table that is one entry short.
+ * bindings/test compiles it as C and as C++ and compares what it prints with lent.out. */
+#include "conductor.h"
+#include <stdio.h>
+#include <string.h>
+
+static const char PLAN[] = "plan=1\nagents=3\nname=Alpha-1\nstops=6\ngo=1001@0\ngo=300@70000\ngo=302@140000\ngo=301@210000\ngo=1002@280000\ngo=1003@280001\n"
+                           "name=b\nstops=5\ngo=2001@0\ngo=302@500\ngo=2003@600\ngo=300@200000\ngo=2002@260000\n"
+                           "name=gamma-22\nstops=3\ngo=3001@0\ngo=301@400000\ngo=1001@400001\nend=plan\n";
+/* drone 1 at its stop 3 and drone 2 at its stop 4 are at location 77 at one time */
+static const char COLLISION[] = "plan=1\nagents=3\nname=a\nstops=1\ngo=1@0\nname=b\nstops=5\ngo=2@0\ngo=3@1\ngo=4@2\ngo=77@3\ngo=5@4\n"
+                                "name=c\nstops=5\ngo=6@0\ngo=7@1\ngo=8@2\ngo=9@3\ngo=77@4\nend=plan\n";
+
+static conductor_tables field, want;
+static uint8_t buffer[CONDUCTOR_TEXT], before[CONDUCTOR_TEXT];
+static const uint16_t LIST[] = {2};
+static int differing;
+
+/* ---- what is expected */
+
+static void same(const char *what, size_t got, size_t wanted) {
+    if (got != wanted) printf("%s: %zu and not %zu\n", what, got, wanted), differing++;
+}
+
+static void same_bytes(const char *what, const void *got, const void *wanted, size_t n) {
+    if (memcmp(got, wanted, n)) printf("%s differs\n", what), differing++;
+}
+
+static void same_tables(void) {
+    same("drone count", field.drone_count[0], want.drone_count[0]);
+    same("dependency count", field.dependency_count[0], want.dependency_count[0]);
+    same_bytes("names", field.names, want.names, sizeof want.names);
+    same_bytes("stop counts", field.stop_counts, want.stop_counts, sizeof want.stop_counts);
+    same_bytes("locations", field.locations, want.locations, sizeof want.locations);
+    same_bytes("times", field.times, want.times, sizeof want.times);
+    same_bytes("visited", field.visited, want.visited, sizeof want.visited);
+    same_bytes("drone flags", field.drone_flags, want.drone_flags, sizeof want.drone_flags);
+    same_bytes("dependencies", field.dependencies, want.dependencies, sizeof want.dependencies);
+}
+
+static void as_expected(const char *what) {
+    same_tables();
+    printf("%s: %s\n", what, differing ? "DIFFERS" : "as expected");
+    differing = 0;
+}
+
+static void dependency(int p, int first_drone, int first_stop, int second_drone, int second_stop, int flags) {
+    want.dependencies[p].first_drone = (uint8_t)first_drone;
+    want.dependencies[p].first_stop = (uint16_t)first_stop;
+    want.dependencies[p].second_drone = (uint8_t)second_drone;
+    want.dependencies[p].second_stop = (uint16_t)second_stop;
+    want.dependencies[p].flags = (uint8_t)flags;
+}
+
+/* the tables after the reading, from PLAN by hand */
+static void plan_by_hand(void) {
+    static const uint16_t LOCATIONS[] = {1001, 300, 302, 301, 1002, 1003, 2001, 302, 2003, 300, 2002, 3001, 301, 1001};
+    static const uint32_t TIMES[] = {0, 70000, 140000, 210000, 280000, 280001, 0, 500, 600, 200000, 260000, 0, 400000, 400001};
+    memset(&want, 0, sizeof want);
+    want.drone_count[0] = 3, want.dependency_count[0] = 4;
+    want.stop_counts[0] = 6, want.stop_counts[1] = 5, want.stop_counts[2] = 3;
+    memcpy(want.names, "alpha-1", 7), memcpy(want.names + CONDUCTOR_NAME, "b", 1), memcpy(want.names + 2 * CONDUCTOR_NAME, "gamma-22", 8);
+    memcpy(want.locations, LOCATIONS, sizeof LOCATIONS), memcpy(want.times, TIMES, sizeof TIMES);
+    dependency(0, 0, 0, 2, 2, 2);
+    dependency(1, 0, 1, 1, 3, 0);
+    dependency(2, 0, 3, 2, 1, 0);
+    dependency(3, 1, 1, 0, 2, 0);
+}
+
+/* ---- readings and calls, with every table after each */
+
+static conductor_read_answer read_plan(const char *text) { return board_read((const uint8_t *)text, strlen(text), CONDUCTOR_LEND(field)); }
+
+static void same_answer(conductor_answer a, size_t number, size_t detail) {
+    same("number", a.number, number);
+    same("detail", a.detail, detail);
+}
+
+static void same_change(conductor_change_answer a, size_t number, int64_t change) {
+    same("number", a.number, number);
+    if (a.change != change) printf("change: %lld and not %lld\n", (long long)a.change, (long long)change), differing++;
+}
+
+static void same_reading(conductor_read_answer a, size_t number, size_t offset, size_t drone, size_t stop, size_t other_drone, size_t other_stop) {
+    same("number", a.number, number);
+    same("offset", a.offset, offset);
+    same("drone", a.drone, drone);
+    same("stop", a.stop, stop);
+    same("other drone", a.other_drone, other_drone);
+    same("other stop", a.other_stop, other_stop);
+}
+
+static void readings(void) {
+    memset(&field, 0xA5, sizeof field);
+    memset(&want, 0, sizeof want);
+    same_reading(read_plan(COLLISION), 10, 0, 1, 3, 2, 4);
+    as_expected("two drones and their stops");
+    same_reading(read_plan("plan=1\nagents=2\nname=a\nstops=1\ngo=1@0\nname=b\nstops=3\ngo=2@0\ngo=3@5\ngo=4@5\nend=plan\n"), 8, 0, 1, 2, 0, 0);
+    as_expected("a drone and its stop");
+    same_reading(read_plan("plan=1\nagents=2\nname=a\nstops=0\n"), 4, 23, 0, 0, 0, 0);
+    as_expected("an offset");
+    plan_by_hand();
+    same_reading(read_plan(PLAN), 0, 0, 0, 0, 0, 0);
+    as_expected("read");
+}
+
+static void calls(void) {
+    static const uint16_t TWO[] = {1, 2};
+    same_answer(board_cost(CONDUCTOR_LEND(field)), 0, 18);
+    same_answer(board_rounds(CONDUCTOR_LEND(field)), 0, 7);
+    as_expected("cost and rounds");
+    same_answer(board_grant(CONDUCTOR_LEND(field), 2), 23, 2);
+    same_answer(board_grant(CONDUCTOR_LEND(field), 0), 0, 0);
+    same_answer(board_grant(CONDUCTOR_LEND(field), 1), 0, 0);
+    want.drone_flags[0] = want.drone_flags[1] = 1;
+    as_expected("grant");
+    same_answer(board_arrive(CONDUCTOR_LEND(field), 1), 0, 0);
+    want.drone_flags[1] = 0, want.visited[1] = 1;
+    as_expected("arrive");
+    same_change(board_preview(CONDUCTOR_LEND(field), 2), 0, -4);
+    same_change(board_preview_all(CONDUCTOR_LEND(field), TWO, 2), 32, 0);
+    same_change(board_preview_all(CONDUCTOR_LEND(field), LIST, 1), 0, -4);
+    as_expected("preview and preview of a list");
+    same_answer(board_turn(CONDUCTOR_LEND(field), 2), 0, 0);
+    want.dependencies[2].flags = 1;
+    as_expected("turn");
+    same_answer(board_turn_all(CONDUCTOR_LEND(field), LIST, 1), 0, 0);
+    want.dependencies[2].flags = 0;
+    same_answer(board_turn_all(CONDUCTOR_LEND(field), LIST, 0), 36, 0);
+    as_expected("turn of a list");
+    same_answer(board_press(CONDUCTOR_LEND(field), 1, 0), 0, 1 << 1);
+    want.visited[0] = 1, want.drone_flags[0] = 0, want.drone_flags[1] = 1;
+    as_expected("press with an arrival of drone 0");
+    same_answer(board_press(CONDUCTOR_LEND(field), 0, 1), 0, 0);
+    as_expected("press without an arrival");
+}
+
+static void writing(void) {
+    static const char SMALL[] = "plan=1\nagents=2\nname=a\nstops=1\ngo=0@0\nname=b\nstops=1\ngo=1@0\nend=plan\n";
+    size_t length = sizeof PLAN - 1, small_length = sizeof SMALL - 1;
+    char small[sizeof PLAN];
+    memcpy(small, PLAN, sizeof PLAN);
+    *strchr(small, 'A') = 'a';
+    memset(buffer, 0xA5, sizeof buffer), memset(before, 0xA5, sizeof before);
+    same_answer(board_write(buffer, length - 1, CONDUCTOR_LEND(field)), 42, 0);
+    same_bytes("buffer", buffer, before, sizeof buffer);
+    same_answer(board_write(buffer, length, CONDUCTOR_LEND(field)), 0, length);
+    same_bytes("text", buffer, small, length);
+    same_bytes("buffer past the text", buffer + length, before + length, sizeof buffer - length);
+    as_expected("write");
+    memset(buffer, 0xA5, sizeof buffer);
+    same_answer(board_small_plan(CONDUCTOR_SMALL_PLANS, buffer, CONDUCTOR_SMALL_TEXT), 15, 0);
+    same_answer(board_small_plan(0, buffer, small_length - 1), 42, 0);
+    same_bytes("buffer", buffer, before, sizeof buffer);
+    same_answer(board_small_plan(0, buffer, CONDUCTOR_SMALL_TEXT), 0, small_length);
+    same_bytes("text", buffer, SMALL, small_length);
+    same_bytes("buffer past the text", buffer + small_length, before + small_length, sizeof buffer - small_length);
+    as_expected("small plan");
+}
+
+/* ---- each export with each table one entry short */
+
+enum { LENT = 9 };
+static const char *const TABLES[LENT] = {"drone_count", "dependency_count", "names", "stop_counts", "locations", "times", "visited", "drone_flags", "dependencies"};
+static const size_t FULL[LENT] = {1,
+                                  1,
+                                  CONDUCTOR_NAMES,
+                                  CONDUCTOR_DRONES,
+                                  CONDUCTOR_STOPS,
+                                  CONDUCTOR_STOPS,
+                                  CONDUCTOR_DRONES,
+                                  CONDUCTOR_DRONES,
+                                  CONDUCTOR_DEPENDENCIES};
+
+#define LENT_BY(n)                                                                                                                         \
+    field.drone_count, n[0], field.dependency_count, n[1], field.names, n[2], field.stop_counts, n[3], field.locations, n[4], field.times, n[5],      \
+        field.visited, n[6], field.drone_flags, n[7], field.dependencies, n[8]
+
+static size_t of_read(const size_t *n) { return board_read((const uint8_t *)PLAN, sizeof PLAN - 1, LENT_BY(n)).number; }
+static size_t of_write(const size_t *n) { return board_write(buffer, sizeof buffer, LENT_BY(n)).number; }
+static size_t of_grant(const size_t *n) { return board_grant(LENT_BY(n), 0).number; }
+static size_t of_arrive(const size_t *n) { return board_arrive(LENT_BY(n), 1).number; }
+static size_t of_turn(const size_t *n) { return board_turn(LENT_BY(n), 2).number; }
+static size_t of_turn_all(const size_t *n) { return board_turn_all(LENT_BY(n), LIST, 1).number; }
+static size_t of_preview(const size_t *n) { return board_preview(LENT_BY(n), 2).number; }
+static size_t of_preview_all(const size_t *n) { return board_preview_all(LENT_BY(n), LIST, 1).number; }
+static size_t of_cost(const size_t *n) { return board_cost(LENT_BY(n)).number; }
+static size_t of_rounds(const size_t *n) { return board_rounds(LENT_BY(n)).number; }
+static size_t of_press(const size_t *n) { return board_press(LENT_BY(n), 1, 1).number; }
+
+static const struct {
+    const char *name;
+    size_t (*number)(const size_t *n);
+} EXPORTS[] = {{"board_read", of_read},         {"board_write", of_write},       {"board_grant", of_grant},
+               {"board_arrive", of_arrive},     {"board_turn", of_turn},         {"board_turn_all", of_turn_all},
+               {"board_preview", of_preview},   {"board_preview_all", of_preview_all}, {"board_cost", of_cost},
+               {"board_rounds", of_rounds},     {"board_press", of_press}};
+
+/* drone 1 under way to its stop 1, so that an arrival of it and a grant of drone 0 are accepted at full sizes */
+static void under_way(void) {
+    plan_by_hand();
+    want.drone_flags[1] = 1;
+    memcpy(&field, &want, sizeof want);
+}
+
+static void short_tables(void) {
+    for (size_t e = 0; e < sizeof EXPORTS / sizeof *EXPORTS; e++) {
+        under_way();
+        memset(buffer, 0xA5, sizeof buffer), memset(before, 0xA5, sizeof before);
+        for (size_t t = 0; t < LENT; t++) {
+            size_t n[LENT];
+            memcpy(n, FULL, sizeof n);
+            n[t]--;
+            same(TABLES[t], EXPORTS[e].number(n), 41);
+            n[t] = 0;
+            same(TABLES[t], EXPORTS[e].number(n), 41);
+            same_tables();
+            same_bytes("buffer", buffer, before, sizeof buffer);
+        }
+        same("at full sizes", EXPORTS[e].number(FULL), 0);
+        printf("%s, each table short in turn: %s\n", EXPORTS[e].name, differing ? "DIFFERS" : "41");
+        differing = 0;
+    }
+}
+
+int main(void) {
+    readings();
+    calls();
+    writing();
+    short_tables();
+    return 0;
+}

@@ -1,0 +1,183 @@
+-- What the call log says after each call of a flight, and flights that take as many undelayed rounds as there are unvisited stops (document 01, "The call log").
+-- In demand 3 what a drone holds and whether it is short stand as premises, and the unvisited stops as an upper bound: were a drone under way to hold nothing ahead,
+-- or the bound one too many, demand 3 would be proved all the same. Here they are computed. Assumes nothing.
+use mathlib.Core.Path.{_≡_}
+use mathlib.Core.Bool.{Bool, true, false, not, cond, _&&_}
+use mathlib.Core.List.{List, [], _∷_, map}
+use Prim.Native.Nat.{ℕ, suc, _-_}
+use lib.Dec.{eqb}
+use lib.ListN.{length}
+use Rattle.below.specs.Below.{allIn, allBelow, listBelow, picks, update}
+use Rattle.precedence.specs.Graph.{Plan, play, finished, unvisited}
+use Rattle.plan.specs.Field.{FieldPlan, planOf, graph, placeOf}
+use Rattle.log.specs.CallLog.{Call, grant, arrive, turn, Reply, accepted, refused, mustWait, holdsLocation, short, statusBy, Entry, logFrom, logOf}
+use Rattle.log.specs.Demand.{Finishes}
+use Rattle.log.specs.Flights.{Visit, go, planBy, says, flightBy, flightHolds, Q}
+
+abbrev pub sameNumbers : List ℕ → List ℕ → Bool
+sameNumbers [] [] = true
+sameNumbers [] (b ∷ y) = false
+sameNumbers (a ∷ x) [] = false
+sameNumbers (a ∷ x) (b ∷ y) = eqb a b && sameNumbers x y
+
+-- ---- moments
+
+-- one drone: the locations that it holds, in rising order, and how many of its stops are unvisited
+pub record DroneNow : Type 0 where
+  pub held : List ℕ
+  pub under-way : Bool
+  pub is-short : Bool
+  pub left : ℕ
+
+-- it stands at a stop, with others to come; it is under way to the next one; it stands at its last stop
+abbrev pub stands : List ℕ → ℕ → DroneNow
+stands ls n = record { held = ls; under-way = false; is-short = true; left = n }
+
+abbrev pub goes : List ℕ → ℕ → DroneNow
+goes ls n = record { held = ls; under-way = true; is-short = true; left = n }
+
+abbrev pub atLast : List ℕ → DroneNow
+atLast ls = record { held = ls; under-way = false; is-short = false; left = 0 }
+
+-- a call, its reply, and after it each drone and the unvisited stops of all
+pub record Moment : Type 0 where
+  pub made : Call
+  pub replied : Reply
+  pub drones-now : List DroneNow
+  pub left-in-all : ℕ
+
+abbrev pub called : Call → Reply → List DroneNow → ℕ → Moment
+called c r ds n = record { made = c; replied = r; drones-now = ds; left-in-all = n }
+
+-- the routes of a plan with so many dependencies, and the moments of a flight
+pub record WatchedFlight : Type 0 where
+  pub routes : List (List Visit)
+  pub count : ℕ
+  pub moments : List Moment
+
+abbrev pub watch : List (List Visit) → ℕ → List Moment → WatchedFlight
+watch rs n ms = record { routes = rs; count = n; moments = ms }
+
+module _ (F : FieldPlan) (log : List Entry) where
+  -- the locations that a drone holds, of those below 8: the flights here have no others
+  abbrev pub heldBy : ℕ → List ℕ
+  heldBy d = picks 8 (holdsLocation F (statusBy log) d) (λ l. l)
+
+  -- the unvisited stops of all drones, as demand 3 counts them; those of one drone are what is left with the others at their last stops
+  abbrev pub leftInAll : ℕ
+  leftInAll = unvisited (graph F (statusBy log)) (placeOf F (statusBy log))
+
+  abbrev pub leftBy : ℕ → ℕ
+  leftBy d = unvisited (graph F (statusBy log)) (update (F .last) d (placeOf F (statusBy log) d))
+
+  abbrev pub isNow : ℕ → DroneNow → Bool
+  isNow d x = sameNumbers (heldBy d) (x .held) && (agrees (x .under-way) (statusBy log .underWay d) && (agrees (x .is-short) (short F (statusBy log) d) && eqb (leftBy d) (x .left)))
+    where
+      agrees : Bool → Bool → Bool
+      agrees said b = cond said b (not b)
+
+  -- drone d and those after it
+  abbrev pub areNow : ℕ → List DroneNow → Bool
+  areNow d [] = eqb d (F .drones)
+  areNow d (x ∷ xs) = isNow d x && areNow (suc d) xs
+
+-- each moment is as it says by the log with its call
+unfoldable pub followMoments : FieldPlan → List Entry → List Moment → Bool
+followMoments F log [] = true
+followMoments F log (m ∷ ms) = let log′ = logFrom F log (m .made ∷ []) in areNow F log′ 0 (m .drones-now) && (eqb (leftInAll F log′) (m .left-in-all) && followMoments F log′ ms)
+
+-- the replies are those of a flight, by the calls on tables and by the log; and the moments hold
+unfoldable pub momentsHold : WatchedFlight → Bool
+momentsHold x = flightHolds (flightBy (x .routes) (x .count) (map (λ (m : Moment). says (m .made) (m .replied)) (x .moments))) && followMoments (planOf (planBy (x .routes))) [] (x .moments)
+
+-- "With n arrivals of a drone accepted, it has visited its stops 0 to n and its place is stop n; its later stops are unvisited";
+-- "It is under way when more grants than arrivals of it were accepted. It is short of its last stop when it has an unvisited one";
+-- "It holds the location of its place and, when under way, that of its next stop"
+abbrev pub watchedFlights : List WatchedFlight
+watchedFlights =
+    -- the calls of input Q, and on until everybody is at the last stop. Drone 0 goes by 1, 6, 5, 2 and drone 1 by 3, 5, 4
+    watch (Q 4) 1
+    (called (grant 1) (mustWait 0) (stands (1 ∷ []) 3 ∷ stands (3 ∷ []) 2 ∷ []) 5
+    ∷ called (turn 0) accepted (stands (1 ∷ []) 3 ∷ stands (3 ∷ []) 2 ∷ []) 5
+    ∷ called (grant 1) accepted (stands (1 ∷ []) 3 ∷ goes (3 ∷ 5 ∷ []) 2 ∷ []) 5
+    ∷ called (grant 0) accepted (goes (1 ∷ 6 ∷ []) 3 ∷ goes (3 ∷ 5 ∷ []) 2 ∷ []) 5
+    ∷ called (arrive 1) accepted (goes (1 ∷ 6 ∷ []) 3 ∷ stands (5 ∷ []) 1 ∷ []) 4
+    ∷ called (arrive 1) (refused 24) (goes (1 ∷ 6 ∷ []) 3 ∷ stands (5 ∷ []) 1 ∷ []) 4
+    ∷ called (arrive 0) accepted (stands (6 ∷ []) 2 ∷ stands (5 ∷ []) 1 ∷ []) 3
+    ∷ called (grant 0) (mustWait 0) (stands (6 ∷ []) 2 ∷ stands (5 ∷ []) 1 ∷ []) 3
+    ∷ called (grant 1) accepted (stands (6 ∷ []) 2 ∷ goes (4 ∷ 5 ∷ []) 1 ∷ []) 3
+    ∷ called (grant 0) (mustWait 0) (stands (6 ∷ []) 2 ∷ goes (4 ∷ 5 ∷ []) 1 ∷ []) 3
+    ∷ called (arrive 1) accepted (stands (6 ∷ []) 2 ∷ atLast (4 ∷ []) ∷ []) 2
+    ∷ called (grant 1) (refused 21) (stands (6 ∷ []) 2 ∷ atLast (4 ∷ []) ∷ []) 2
+    ∷ called (grant 0) accepted (goes (5 ∷ 6 ∷ []) 2 ∷ atLast (4 ∷ []) ∷ []) 2
+    ∷ called (arrive 0) accepted (stands (5 ∷ []) 1 ∷ atLast (4 ∷ []) ∷ []) 1
+    ∷ called (grant 0) accepted (goes (2 ∷ 5 ∷ []) 1 ∷ atLast (4 ∷ []) ∷ []) 1
+    ∷ called (arrive 0) accepted (atLast (2 ∷ []) ∷ atLast (4 ∷ []) ∷ []) 0
+    ∷ [])
+    -- one drone with one stop is at its last stop from the first
+    ∷ watch ((go 7 0 ∷ []) ∷ []) 0 (called (grant 0) (refused 21) (atLast (7 ∷ []) ∷ []) 0 ∷ [])
+    ∷ []
+
+-- ---- as many rounds as unvisited stops
+
+-- a flight in which every undelayed round moves one drone only: the routes of a plan with so many dependencies, the calls made, and then the drones' places
+-- before the first round and after each one
+pub record SlowFlight : Type 0 where
+  pub routes : List (List Visit)
+  pub count : ℕ
+  pub calls : List Call
+  pub places : List (List ℕ)
+
+abbrev pub slow : List (List Visit) → ℕ → List Call → List (List ℕ) → SlowFlight
+slow rs n cs ps = record { routes = rs; count = n; calls = cs; places = ps }
+
+abbrev pub roundsOf : SlowFlight → ℕ
+roundsOf x = length (x .places) - 1
+
+abbrev pub slowPlan : SlowFlight → FieldPlan
+slowPlan x = planOf (planBy (x .routes))
+
+abbrev pub slowLog : SlowFlight → List Entry
+slowLog x = logOf (slowPlan x) (x .calls)
+
+module _ (G : Plan) (p : ℕ → ℕ) where
+  -- the drones' places after round k, after the next one, ..
+  abbrev pub playedFrom : ℕ → List (List ℕ) → Bool
+  playedFrom k [] = true
+  playedFrom k (ps ∷ rest) = sameNumbers (listBelow (G .drones) (play G p k)) ps && playedFrom (suc k) rest
+
+  -- there are n unvisited stops; after n rounds everybody is at the last stop, and after fewer not
+  unfoldable pub takesAll : ℕ → Bool
+  takesAll n = eqb (unvisited G p) n && (finished G (play G p n) && allBelow n (λ k. not (finished G (play G p k))))
+
+unfoldable pub slowHolds : SlowFlight → Bool
+slowHolds x =
+    let G : Plan = graph (slowPlan x) (statusBy (slowLog x)) in
+    let p : ℕ → ℕ = placeOf (slowPlan x) (statusBy (slowLog x)) in
+    flightHolds (flightBy (x .routes) (x .count) []) && (playedFrom G p 0 (x .places) && takesAll G p (roundsOf x))
+
+-- two drones that go round three locations, one after the other: only the one before the free location can go on
+abbrev pub roundabout : List (List Visit)
+roundabout = (go 1 0 ∷ go 2 1 ∷ go 3 3 ∷ []) ∷ (go 3 0 ∷ go 1 2 ∷ go 2 4 ∷ []) ∷ []
+
+abbrev pub slowFlights : List SlowFlight
+slowFlights =
+    -- one drone alone
+    slow ((go 1 0 ∷ go 2 1 ∷ go 3 2 ∷ go 4 3 ∷ []) ∷ []) 0 [] ((0 ∷ []) ∷ (1 ∷ []) ∷ (2 ∷ []) ∷ (3 ∷ []) ∷ [])
+    -- Q: drone 1 waits until drone 0 is at its last stop
+    ∷ slow (Q 4) 1 [] ((0 ∷ 0 ∷ []) ∷ (1 ∷ 0 ∷ []) ∷ (2 ∷ 0 ∷ []) ∷ (3 ∷ 0 ∷ []) ∷ (3 ∷ 1 ∷ []) ∷ (3 ∷ 2 ∷ []) ∷ [])
+    -- two that take turns; and from their places after some calls, where "Being under way makes no difference"
+    ∷ slow roundabout 3 [] ((0 ∷ 0 ∷ []) ∷ (1 ∷ 0 ∷ []) ∷ (1 ∷ 1 ∷ []) ∷ (2 ∷ 1 ∷ []) ∷ (2 ∷ 2 ∷ []) ∷ [])
+    ∷ slow roundabout 3 (grant 0 ∷ arrive 0 ∷ grant 1 ∷ []) ((1 ∷ 0 ∷ []) ∷ (1 ∷ 1 ∷ []) ∷ (2 ∷ 1 ∷ []) ∷ (2 ∷ 2 ∷ []) ∷ [])
+    ∷ []
+
+-- "undelayed rounds finish everybody in no more rounds than there are unvisited stops": a number of rounds that does so after these flights is no less either
+abbrev pub NoFewer : List SlowFlight → Type 0
+NoFewer [] = Unit {0}
+NoFewer (x ∷ xs) = ((found : Finishes (slowPlan x) (slowLog x)) → found .0 ≡ roundsOf x) × NoFewer xs
+
+-- the claims
+pub record MomentClaims : Type 0 where
+  pub moments-hold : allIn momentsHold watchedFlights ≡ true
+  pub slow-hold : allIn slowHolds slowFlights ≡ true
+  pub no-fewer : NoFewer slowFlights
