@@ -1,5 +1,5 @@
-// Time and stack of every public call, through the C library: 2 and 32 drones; 100, 384, 768, 992, 1,023 and 1,024 stops; nothing, one and 64 dependencies turned; then plans that
-// are ugly on purpose, each the worst of its kind that trying has found. Microseconds are the best of many, and where a call is refused its number follows in brackets; stack is the most that a
+// Time and stack of every public call, through the C library: 2 and 32 drones with up to 1,024 stops, then 64 with up to 2,048 and 2 with 1,024 each; nothing, one, two for each drone and all
+// dependencies turned that can be; then plans that are ugly on purpose, each the worst of its kind that trying has found. Microseconds are the best of many, and where a call is refused its number follows in brackets; stack is the most that a
 // call wrote of a painted stack. `bench/run` builds and runs it; with a number of repeats as its word it prints a line for each time and stack, for bench/beside.py to read.
 #define _GNU_SOURCE
 #include "conductor.h"
@@ -10,7 +10,7 @@
 #include <time.h>
 #include <ucontext.h>
 
-enum { STACK = 1 << 20, PAINT = 0xC7, BUFFER = 65536, REPEATS = 300 };
+enum { STACK = 1 << 20, PAINT = 0xC7, BUFFER = CONDUCTOR_TEXT, REPEATS = 300, ALL = CONDUCTOR_DEPENDENCIES };
 
 static conductor_tables field;
 static uint8_t text[BUFFER], buffer[BUFFER];
@@ -34,27 +34,27 @@ static void end(void) {
     text_length = at - (char *)text;
 }
 
-// Every seventh stop is a crossing that all drones pass one after the other; the other stops are a drone's own.
+// Every seventh stop is a crossing that thirty-two drones pass one after the other; the other stops are a drone's own.
 static void crossings(int drones, int stops) {
-    int step = drones == 2 ? 900 : 10000;
+    int step = drones == 2 ? 900 : drones > 32 ? 6000 : 10000, apart = drones > 32 ? 64 : 1024;
     begin(drones);
     for (int d = 0; d < drones; d++) {
         int m = stops / drones + (d < stops % drones), share = m < 7 ? 2 : 7, from = m < 7 ? 1 : 5;
         drone(d, m);
         for (int s = 0; s < m; s++) {
             int crossing = s % share == from && s < m - 1;
-            stop(crossing ? s : 2000 + d * 1024 + s, s ? d * 2 * step + s * step : 0);
+            stop(crossing ? d / 32 * 32 + s : 2000 + d * apart + s, s ? d * 2 * step + s * step : 0);
         }
     }
     end();
 }
 
-// Each drone passes one location at its second and at its last but one stop, so that everybody waits for all before him: 992 rounds, one drone at a time.
+// Each of thirty-two drones passes one location at its second and at its last but one stop, so that everybody waits for all before him: 992 rounds, one drone at a time.
 static void queue(int drones, int stops) {
     begin(drones);
     for (int d = 0; d < drones; d++) {
         drone(d, stops);
-        for (int s = 0; s < stops; s++) stop(s == 1 || s == stops - 2 ? 7 : 2000 + d * 1024 + s, s ? d * 1000 + s * 10 : 0);
+        for (int s = 0; s < stops; s++) stop(s == 1 || s == stops - 2 ? 7 + d / 32 : 2000 + d * (drones > 32 ? 64 : 1024) + s, s ? d * 1000 + s * 10 : 0);
     }
     end();
 }
@@ -72,14 +72,14 @@ static void column(int drones, int stops) {
     end();
 }
 
-// Locations that share one bucket of every short hash by their last ten bits, visited again and again.
-static void one_bucket(int drones, int stops) {
+// Locations that share one tree of so many (plan/src/sharing.rt), and one bucket of every short hash by their last bits, visited again and again.
+static void one_bucket(int drones, int stops, int trees) {
     begin(drones);
     for (int d = 0; d < drones; d++) {
         drone(d, stops);
         for (int s = 0; s < stops; s++) {
-            int block = (2 * d + s % 2) % 64;
-            stop(block * 1024 + (1024 * 64 - block * 17) % 1024, s);
+            int block = 2 * d + s % 2;
+            stop(block * trees + (trees * 64 - block * 17) % trees, s);
         }
     }
     end();
@@ -165,19 +165,21 @@ static void undo(void (*call)(void)) {
 
 // ---- measuring
 
-static double microseconds(void) {
+static double microseconds(clockid_t clock) {
     struct timespec t;
-    clock_gettime(CLOCK_MONOTONIC, &t);
+    clock_gettime(clock, &t);
     return t.tv_sec * 1e6 + t.tv_nsec / 1e3;
 }
 
+// A call above a millisecond is seldom left alone by others on the machine: there the thread's own clock is asked, which takes longer to read.
 static double best_time(void (*call)(void), int repeats) {
     double best = 1e18;
     for (int i = 0; i < repeats; i++) {
         make_ready(call);
-        double start = microseconds();
+        double own = microseconds(CLOCK_THREAD_CPUTIME_ID), start = microseconds(CLOCK_MONOTONIC);
         call();
-        double took = microseconds() - start;
+        double took = microseconds(CLOCK_MONOTONIC) - start;
+        if (took > 1000) took = microseconds(CLOCK_THREAD_CPUTIME_ID) - own;
         if (took < best) best = took;
         undo(call);
     }
@@ -213,11 +215,11 @@ static long stack_of(void (*call)(void)) {
 
 static long most[KINDS];
 
-// Turns up to `want` dependencies, then finds a drone that may go, a dependency that can be turned to and fro, and as long a list of them as one after the other gives.
+// Turns up to `want` dependencies of neighbouring drones, or all that can be one after the other, then finds a drone that may go, a dependency that can be turned to and fro, and as long a list of them as one after the other gives.
 static int prepare(int want) {
     int turned = 0;
     for (size_t p = 0; p < field.dependency_count[0] && turned < want; p++)
-        if (field.dependencies[p].first_drone % 2 == 0 && field.dependencies[p].second_drone == field.dependencies[p].first_drone + 1)
+        if (want == ALL || (field.dependencies[p].first_drone % 2 == 0 && field.dependencies[p].second_drone == field.dependencies[p].first_drone + 1))
             turned += board_turn(CONDUCTOR_LEND(field), p).number == 0;
     for (free_dependency = field.dependency_count[0]; free_dependency-- > 0;)
         if (board_turn(CONDUCTOR_LEND(field), free_dependency).number == 0) {
@@ -257,7 +259,7 @@ static void measure(const char *what, int want) {
     if (done >= 0) field.visited[done] = field.stop_counts[done] - 1;
     int turned = prepare(want), stops = 0;
     for (int d = 0; d < field.drone_count[0]; d++) stops += field.stop_counts[d];
-    sprintf(shape, "%-10s %2d drones %4d stops %4d dependencies %3d turned", what, field.drone_count[0], stops, field.dependency_count[0], turned);
+    sprintf(shape, "%-10s %2d drones %4d stops %4d dependencies %4d turned", what, field.drone_count[0], stops, field.dependency_count[0], turned);
     if (!lines) printf("%s |", shape);
     for (int k = KINDS - 1; k >= 0; k--) {
         if (CALLS[k].call == read_plan && (turned || done >= 0)) continue;
@@ -284,27 +286,38 @@ static void find_last_record(void) {
     }
 }
 
+static void at_all_sizes(void) {
+    static const int SIZES[][2] = {{2, 100},   {2, 384},  {2, 768},  {2, 992},   {2, 1023},  {2, 1024}, {32, 100},  {32, 384}, {32, 768},
+                                   {32, 992}, {32, 1023}, {32, 1024}, {2, 2048}, {64, 768}, {64, 1984}, {64, 2047}, {64, 2048}};
+    for (size_t i = 0; i < sizeof SIZES / sizeof *SIZES; i++) {
+        int drones = SIZES[i][0], stops = SIZES[i][1], turned[] = {0, 1, stops > 1024 || drones > 32 ? 128 : 64, ALL};
+        for (int t = 0; t < 4; t++) crossings(drones, stops), measure("crossings", turned[t]);
+    }
+}
+
 int main(int argc, char **argv) {
-    static const int DRONES[] = {2, 32}, STOPS[] = {100, 384, 768, 992, 1023, 1024}, TURNED[] = {0, 1, 64};
     if (argc > 1) repeats = atoi(argv[1]), lines = 1;
     painted = mmap(0, STACK, PROT_READ | PROT_WRITE, MAP_PRIVATE | MAP_ANONYMOUS, -1, 0);
     find_last_record();
     if (!lines) printf("microseconds, best of %d\n", repeats);
-    for (int d = 0; d < 2; d++)
-        for (int s = 0; s < 6; s++)
-            for (int t = 0; t < 3; t++) {
-                crossings(DRONES[d], STOPS[s]);
-                measure("crossings", TURNED[t]);
-            }
+    at_all_sizes();
     queue(32, 32), measure("queue", 0);
+    queue(64, 32), measure("queue", 0);
     column(32, 32), measure("column", 0);
-    one_bucket(32, 32), measure("bucket", 0);
+    column(64, 32), measure("column", 0);
+    one_bucket(32, 32, 1024), measure("bucket", 0);
+    one_bucket(16, 128, 2048), measure("bucket", 0);
     to_and_fro(0, 1), measure("alone", 0);
     to_and_fro(0, 1024), measure("to and fro", 0);
     to_and_fro(4, 1024), measure("to and fro", 0);
+    to_and_fro(0, 2048), measure("to and fro", 0);
+    to_and_fro(4, 2048), measure("to and fro", 0);
     waiting(30, 51, 1024, 0), measure("waiting", 0);
     waiting(20, 87, 1024, 0), measure("waiting", 0);
     waiting(20, 87, 1024, 1), measure("run out", 0);
+    waiting(62, 34, 2048, 0), measure("waiting", 0);
+    waiting(24, 151, 2048, 0), measure("waiting", 0);
+    waiting(24, 151, 2048, 1), measure("run out", 0);
     if (!lines) printf("bytes of stack, the most seen (the harness itself %ld)\n", stack_of(nothing));
     for (int k = 0; k < KINDS; k++) printf(lines ? "stack\t%s\t%ld\n" : "  %-12s %ld\n", CALLS[k].name, most[k]);
     return 0;

@@ -1,20 +1,20 @@
 #!/usr/bin/env python3
-"""Large inputs of `field` for measuring: bench/inputs.py STOPS prints one with 32 drones of STOPS stops each.
+"""Large inputs of `field` for measuring: bench/inputs.py STOPS [DRONES] prints one with 64 drones, or as many as are asked for, of STOPS stops each.
 
-In every eight stops there is one crossing that all drones pass, each some time after the one before. Where the first crossing can be turned between two neighbouring drones it is turned, so that
+In every eight stops there is one crossing that thirty-two drones pass, each some time after the one before. Where the first crossing can be turned between two neighbouring drones it is turned, so that
 the test of a cycle has work to do; then come grants and arrivals of every drone in turn, and costs, until the input is full."""
 import sys
 
-DRONES, INPUT = 32, 65536
+INPUT = 131072
 
 
-def routes(stops):
-    for d in range(DRONES):
+def routes(stops, drones):
+    for d in range(drones):
         route = []
         for k in range(stops):
             crossing, rest = divmod(k, 8)
             shared = rest == 4 and k < stops - 1
-            route.append((crossing if shared else 100 + 32 * d + k, 0 if k == 0 else 2000 * crossing + 3 * d + (801 if rest == 5 else 200 * rest)))
+            route.append((crossing + d // 32 * 8 if shared else 100 + 32 * d + k, 0 if k == 0 else 2000 * crossing + 3 * d + (801 if rest == 5 else 200 * rest)))
         yield route
 
 
@@ -24,9 +24,9 @@ def dependencies(plan):
     return [(a, b) for a in visits for b in visits if a[0] != b[0] and a[2] == b[2] and a[3] < b[3]]
 
 
-def main(stops):
-    plan = list(routes(stops))
-    text = "plan=1\nagents=%d\n" % DRONES
+def main(stops, drones=64):
+    plan = list(routes(stops, drones))
+    text = "plan=1\nagents=%d\n" % drones
     for d, route in enumerate(plan):
         text += "name=survey-quad-%d\nstops=%d\n" % (d, stops) + "".join("go=%d@%d\n" % visit for visit in route)
     text += "end=plan\n"
@@ -35,14 +35,14 @@ def main(stops):
             text += "turn=%d\n" % w
     d = 0
     while True:
-        more = "grant=%d\narrive=%d\n" % (d, d) + ("cost=0\n" if d == DRONES - 1 else "")
+        more = "grant=%d\narrive=%d\n" % (d, d) + ("cost=0\n" if d == drones - 1 else "")
         if len(text) + len(more) > INPUT:
             return text
         text += more
-        d = (d + 1) % DRONES
+        d = (d + 1) % drones
 
 
 if __name__ == "__main__":
-    if len(sys.argv) != 2:
+    if not 2 <= len(sys.argv) <= 3:
         sys.exit(__doc__)
-    sys.stdout.write(main(int(sys.argv[1])))
+    sys.stdout.write(main(*map(int, sys.argv[1:])))

@@ -1,4 +1,4 @@
-// Nanoseconds for one sound test at full tables: 32 drones, 1,024 stops, about 1,900 dependencies; beside it two of its clauses (no collision, exact
+// Nanoseconds for one sound test at full tables: 64 drones, 2,048 stops, about 3,800 dependencies; beside it two of its clauses (no collision, exact
 // dependencies) by all pairs in C. From the repository's root:
 // rt staticlib bench && cc -O3 bench/sound.c target/staticlib/libbench.a -o /tmp/sound && /tmp/sound
 #include <stdint.h>
@@ -12,7 +12,7 @@ extern uint8_t bench_sound(const uint16_t *, size_t, const uint16_t *, size_t, c
                            const uint8_t *, size_t, const uint16_t *, size_t, const uint8_t *, size_t, const uint16_t *, size_t,
                            const uint8_t *, size_t);
 
-enum { DRONES = 32, STOPS = 1024, EACH = STOPS / DRONES, DEPENDENCIES = 2048, NAME = 24 };
+enum { DRONES = 64, STOPS = 2048, EACH = STOPS / DRONES, DEPENDENCIES = 4096, NAME = 24 };
 
 static uint16_t drone_count[1], dependency_count[1], stop_counts[DRONES], locations[STOPS], visited[DRONES];
 static uint16_t first_stops[DEPENDENCIES], second_stops[DEPENDENCIES];
@@ -58,33 +58,33 @@ static void plan(void) {
         }
     }
     for (int a = 0; a < 6; a++)
-        for (int j = 0; j < 32; j++)
+        for (int j = 0; j < DRONES; j++)
             for (int i = 0; i < 5; i++)
-                locations[(j * 5 + 7 * i + a * 3) % 32 * EACH + a + 6 * i] = ((a * 32 + j) * 337 + 11) % 39000;
+                locations[(j * 5 + 7 * i + a * 3) % DRONES * EACH + a + 6 * i] = ((a * DRONES + j) * 337 + 11) % 39000;
     depend();
 }
 
-// All drones pass the same four locations one after the other, every second one turned with the one after it.
+// Each half of the drones passes four locations one after the other, every second one turned with the one after it.
 static void crossings(void) {
     for (int d = 0; d < DRONES; d++)
         for (int s = 0; s < EACH; s++) {
-            locations[d * EACH + s] = s % 7 == 5 ? s : 40000 + d * EACH + s;
-            times[d * EACH + s] = s ? d * 20000 + s * 10000 + any() % 900 : 0;
+            locations[d * EACH + s] = s % 7 == 5 ? d / 32 * 32 + s : 40000 + d * EACH + s;
+            times[d * EACH + s] = s ? d * 12000 + s * 6000 + any() % 900 : 0;
         }
     depend();
     for (int k = 0; k < dependency_count[0]; k++)
         if (first_drones[k] % 2 == 0 && second_drones[k] == first_drones[k] + 1) flags[k] ^= 1;
 }
 
-// One drone visits the 64 locations of one tree (plan/src/sharing.rt), and then the two that stand deepest in it again and again.
+// One drone visits the 32 locations of one tree (plan/src/sharing.rt), and then the two that stand deepest in it again and again.
 static void alike(void) {
     memset(first_drones, 0, sizeof first_drones), memset(first_stops, 0, sizeof first_stops), memset(second_drones, 0, sizeof second_drones);
     memset(second_stops, 0, sizeof second_stops), memset(flags, 0, sizeof flags), memset(stop_counts, 0, sizeof stop_counts);
     memset(names + NAME, 0, sizeof names - NAME);
     drone_count[0] = 1, stop_counts[0] = STOPS, dependency_count[0] = 0;
     for (int s = 0; s < STOPS; s++) {
-        int high = s < 64 ? s : 62 + s % 2;
-        locations[s] = 1024 * high + (1024 * 17 - 17 * high) % 1024;
+        int high = s < 65536 / STOPS ? s : 65536 / STOPS - 2 + s % 2;
+        locations[s] = STOPS * high + (STOPS * 17 - 17 * high) % STOPS;
         times[s] = s * 10;
     }
 }
@@ -137,14 +137,14 @@ int main(void) {
     flags[dependency_count[0] - 1] ^= 2;
     measure("last flag byte wrong");
     flags[dependency_count[0] - 1] ^= 2;
-    visited[31] = EACH;
+    visited[DRONES - 1] = EACH;
     measure("last drone past its last stop");
-    visited[31] = 0;
+    visited[DRONES - 1] = 0;
     crossings();
-    printf("dependencies %d, 64 turned\n", dependency_count[0]);
+    printf("dependencies %d, 128 turned\n", dependency_count[0]);
     measure("sound tables, some turned");
     alike();
-    measure("64 locations of one tree");
+    measure("32 locations of one tree");
     // Content that no plan has: counts past the full sizes must be refused before anything is read by them.
     memset(drone_count, 255, sizeof drone_count);
     measure("drone count 65,535");

@@ -4,7 +4,7 @@
   tools/reckon.py < INPUT            prints what `field` must print
   tools/reckon.py --against PROGRAM [COUNT [SEED]]
                                      makes COUNT inputs, valid and damaged, and those at the limits of the text and of the input, and compares the program's output with the reckoning
-  tools/reckon.py --full             prints an input of full size: 32 drones of 32 stops, 1,984 dependencies, call lines up to 65,536 bytes
+  tools/reckon.py --full             prints an input of full size: 64 drones of 32 stops, 3,968 dependencies, call lines up to 131,072 bytes
 """
 import random
 import re
@@ -12,7 +12,8 @@ import subprocess
 import sys
 import time
 
-TEXT, DRONES, STOPS, NAME, LOCATION, TIME, DEPENDENCIES, INPUT = 32768, 32, 1024, 24, 65535, 1000000, 2048, 65536
+TEXT, DRONES, STOPS, NAME, LOCATION, TIME, DEPENDENCIES, INPUT = 65536, 64, 2048, 24, 65535, 1000000, 4096, 131072
+BUFFER = INPUT // 2  # the input is read in two buffers
 LETTERS = set(b"abcdefghijklmnopqrstuvwxyzABCDEFGHIJKLMNOPQRSTUVWXYZ0123456789-")
 
 
@@ -234,7 +235,7 @@ def reckon(data):
 
 def plan(rng):
     """Routes over few locations; a stop that would collide is put off or left out."""
-    drones = rng.choice([1, 2, 2, 3, 4, 6, 12])
+    drones = rng.choice([1, 2, 2, 3, 4, 6, 12]) if rng.random() < 0.98 else rng.choice([32, 33, 64, 65])
     places = rng.choice([3, 6, 10, 40])
     spans, routes = [], []
     for d in range(drones):
@@ -305,18 +306,18 @@ def damaged(rng, data):
 
 
 def full():
-    """Four locations that every drone crosses, each drone three timesteps after the one before; its other stops are its own."""
+    """Four locations that half of the drones cross, and four for the other half, each drone three timesteps after the one before; its other stops are its own."""
     routes = []
     for d in range(DRONES):
         route = []
         for k in range(STOPS // DRONES):
             crossing, rest = divmod(k, 8)
-            route.append((crossing if rest == 4 else 100 + 32 * d + k, 0 if k == 0 else 2000 * crossing + 3 * d + (801 if rest == 5 else 200 * rest)))
+            route.append((crossing + d // 32 * 8 if rest == 4 else 100 + 32 * d + k, 0 if k == 0 else 2000 * crossing + 3 * d + (801 if rest == 5 else 200 * rest)))
         routes.append(route)
     data = text_of(random.Random(0), routes).replace(b"name=survey\n", b"name=survey-quad\n")
     d = 0
     while True:
-        more = b"grant=%d\narrive=%d\n" % (d, d) + (b"cost=0\n" if d == 31 else b"")
+        more = b"grant=%d\narrive=%d\n" % (d, d) + (b"cost=0\n" if d == DRONES - 1 else b"")
         if len(data) + len(more) > INPUT:
             return data
         data += more
@@ -332,11 +333,16 @@ def filled(data, length, *lines):
 
 def limits(rng):
     """Inputs at the limits of the input and of the text, one and three bytes past them and twice as long: valid calls after a plan, the last of them cut, a plan without its end, and bytes that are
-    nothing."""
+    nothing. Then inputs that go from one buffer to the next within a line, at each of its bytes: a call, and the end of a plan."""
     routes = [[(1, 0), (5, 1), (2, 2)], [(3, 0), (5, 4), (4, 5)]]
     taken = text_of(rng, routes)
     begun = taken[: -len(b"end=plan\n")]
-    for length in [n for limit in (TEXT, INPUT) for n in (limit - 1, limit, limit + 1, limit + 3, 2 * limit + 1)]:
+    for before in range(10):
+        yield filled(taken, BUFFER - before, b"cost=0\n", b"grant=9\n") + b"grant=0\narrive=0\ngrant=0\ncost=0\narrive=0\ngrant=1\n"
+        yield filled(taken, BUFFER - before, b"cost=0\n", b"grant=9\n") + b"turn=0\ncost=0\ngrant=x\n"
+        yield filled(begun, BUFFER - before, b"go=6@9\n", b"go=66@9\n") + b"end=plan\ncost=0\n"
+        yield filled(begun, BUFFER - before, b"a" * 7, b"a" * 8) + b"end=plan\n"
+    for length in sorted({n for limit in (TEXT, INPUT) for n in (limit - 1, limit, limit + 1, limit + 3, 2 * limit + 1)}):
         calls = filled(taken, length, b"cost=0\n", b"grant=9\n")
         yield calls
         yield calls[:-1]
@@ -373,12 +379,18 @@ def inputs(rng, count):
         yield damaged(rng, data) if rng.random() < 0.3 else data, 1
 
 
+def shown(data):
+    """The data, or the ends of it where it is long."""
+    text = data.decode("latin1")
+    return text if len(text) < 4000 else "%s\n.. %d bytes ..\n%s" % (text[:400], len(text) - 800, text[-400:])
+
+
 def against(program, count, seed):
     seen, i = {}, -1
     for i, (data, pieces) in enumerate(inputs(random.Random(seed), count)):
         got, want = printed(program, data, pieces), reckon(data)
         if got != want:
-            sys.exit("input %d of seed %d, %d bytes, differs:\n%s--- printed\n%s--- reckoned\n%s" % (i, seed, len(data), data.decode("latin1"), got.decode("latin1"), want.decode("latin1")))
+            sys.exit("input %d of seed %d, %d bytes, differs:\n%s--- printed\n%s--- reckoned\n%s" % (i, seed, len(data), shown(data), shown(got), shown(want)))
         for line in want.split(b"\n"):
             key = line.split(b":")[0] if not line.startswith(b"cost") else b"cost"
             seen[key] = seen.get(key, 0) + 1

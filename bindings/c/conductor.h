@@ -3,7 +3,7 @@
  * Every table is a pointer and a number of entries. A call asks for no more than this: each pointer is valid for its number of
  * entries, no two tables overlap, and nobody else writes the tables meanwhile: calls on one set of tables are made one at a time.
  * Calls on different sets may run at once. Tables may be longer than their full size; entries past it are neither read nor written.
- * Nothing is kept between calls, no call allocates, and as measured none uses 60,000 bytes of stack. Any content of the tables and any
+ * Nothing is kept between calls, no call allocates, and as measured none uses 110,000 bytes of stack. Any content of the tables and any
  * number is answered: what is wrong is refused by a number, and a refused call other than a reading changes nothing. docs/REFUSALS.md
  * says what each number means. */
 #ifndef CONDUCTOR_H
@@ -16,25 +16,25 @@ extern "C" {
 
 /* full sizes: a table with fewer entries is refused by 41 */
 enum {
-    CONDUCTOR_DRONES = 32,
+    CONDUCTOR_DRONES = 64,
     CONDUCTOR_NAME = 24,
-    CONDUCTOR_NAMES = 768, /* 32 names of 24 bytes, zeros after a name */
-    CONDUCTOR_STOPS = 1024,
-    CONDUCTOR_DEPENDENCIES = 2048
+    CONDUCTOR_NAMES = CONDUCTOR_DRONES * CONDUCTOR_NAME, /* a name for each drone, zeros after it */
+    CONDUCTOR_STOPS = 2048,
+    CONDUCTOR_DEPENDENCIES = 4096
 };
 
 /* what a plan and a reply may come to */
 enum {
-    CONDUCTOR_TEXT = 32768,       /* bytes of a plan text, and of every text that board_write writes */
+    CONDUCTOR_TEXT = 65536,       /* bytes of a plan text, and of every text that board_write writes */
     CONDUCTOR_LOCATION = 65535,   /* locations from 0 */
     CONDUCTOR_TIME = 1000000,     /* times from 0 */
-    CONDUCTOR_COST = 31744,       /* cost from 0; the change of a preview as far either way */
+    CONDUCTOR_COST = 126976,      /* cost from 0; the change of a preview as far either way */
     CONDUCTOR_SMALL_PLANS = 378,  /* small plans, numbered from 0 */
     CONDUCTOR_SMALL_TEXT = 128    /* bytes that are enough for each of them */
 };
 
 /* a dependency: planned first drone and its stop, planned second drone and its stop; flags: 1 turned, 2 fixed. `reserved` is zero
- * in the first 2,048 after a reading that wrote the tables (any reply but 41 and 1); a turn keeps it, and no call looks at it */
+ * in all that a full table has after a reading that wrote the tables (any reply but 41 and 1); a turn keeps it, and no call looks at it */
 typedef struct {
     uint16_t first_stop, second_stop;
     uint8_t first_drone, second_drone, flags, reserved;
@@ -45,7 +45,8 @@ typedef struct {
     size_t number, detail;
 } conductor_answer;
 
-/* number 0: the turn would be done, and change is the cost after it less the cost now, from -31,744 to 31,744; else change is 0 */
+/* number 0: the turn would be done, and change is the cost after it less the cost now, at most CONDUCTOR_COST either way; else change
+ * is 0 */
 typedef struct {
     size_t number;
     int64_t change;
@@ -56,8 +57,9 @@ typedef struct {
     size_t number, offset, drone, stop, other_drone, other_stop;
 } conductor_read_answer;
 
-/* the nine lent tables, in one order everywhere: drone_count 1 entry, dependency_count 1, names 768, stop_counts 32, locations 1,024,
- * times 1,024, visited 32, drone_flags 32 (1 under way), dependencies 2,048. C1 to C4: what the call only reads */
+/* the nine lent tables, in one order everywhere, with their full sizes: drone_count 1 entry, dependency_count 1, names CONDUCTOR_NAMES,
+ * stop_counts CONDUCTOR_DRONES, locations and times CONDUCTOR_STOPS, visited and drone_flags (1 under way) CONDUCTOR_DRONES,
+ * dependencies CONDUCTOR_DEPENDENCIES. C1 to C4: what the call only reads */
 #define CONDUCTOR_TABLES(C1, C2, C3, C4)                                                                                                   \
     C1 uint16_t *drone_count, size_t drone_count_n, C1 uint16_t *dependency_count, size_t dependency_count_n, C1 uint8_t *names,           \
         size_t names_n, C1 uint16_t *stop_counts, size_t stop_counts_n, C1 uint16_t *locations, size_t locations_n, C1 uint32_t *times,    \
@@ -159,7 +161,7 @@ conductor_answer board_cost(CONDUCTOR_TABLES(const, const, const, const));
 conductor_answer board_rounds(CONDUCTOR_TABLES(const, const, const, const));
 
 /* One press of the handset: takes the arrival of a drone, if one was reported (reported is not 0), then grants every drone that may go.
- * Detail: the granted drones, bit 0 for drone 0 and so on. 41, 40, then the arrival's own 20 or 24: nothing is granted then */
+ * Detail: the granted drones, bit 0 for drone 0 and so on to bit 63. 41, 40, then the arrival's own 20 or 24: nothing is granted then */
 conductor_answer board_press(CONDUCTOR_TABLES(const, CONDUCTOR_NOTHING, CONDUCTOR_NOTHING, const), size_t reported, size_t drone);
 
 /* Writes a small plan for the bench by its number, 0 to 377; detail is its length, bytes past it are as before. 15, 42 (buffer

@@ -1,11 +1,12 @@
-/* Two flights through the C library: document 01's flight Q, and a name of 24 capitals, which is taken and written small.
+/* Flights through the C library: document 01's flight Q; a name of 24 capitals, which is taken and written small; and as many drones as
+ * there may be, all of which a press grants, with one more, which is refused.
  * bindings/test compiles it as C and as C++ and compares what it prints with flights.out. */
 #include "conductor.h"
 #include <stdio.h>
 #include <string.h>
 
 static conductor_tables field;
-static uint8_t buffer[CONDUCTOR_TEXT];
+static uint8_t buffer[CONDUCTOR_TEXT + 1];
 
 static const char Q[] = "plan=1\nagents=2\nname=survey-quad-east-1\nstops=4\ngo=1@0\ngo=6@1\ngo=5@2\ngo=2@3\n"
                         "name=survey-quad-east-2\nstops=3\ngo=3@0\ngo=5@4\ngo=4@5\nend=plan\n";
@@ -16,6 +17,16 @@ static void read_plan(const char *text) { printf("plan=%zu\n", board_read((const
 static void say(const char *key, conductor_answer a) {
     if (a.number == 23) printf("%s=23:%zu\n", key, a.detail);
     else printf("%s=%zu\n", key, a.number ? a.number : a.detail);
+}
+
+/* drones of two stops each, every one alone */
+static void many(int drones) {
+    char *at = (char *)buffer;
+    at += sprintf(at, "plan=1\nagents=%d\n", drones);
+    for (int d = 0; d < drones; d++) at += sprintf(at, "name=survey-quad-%d\nstops=2\ngo=%d@0\ngo=%d@1\n", d, d, 1000 + d);
+    sprintf(at, "end=plan\n");
+    conductor_read_answer a = board_read(buffer, strlen((char *)buffer), CONDUCTOR_LEND(field));
+    printf("%d drones: plan=%zu offset=%zu\n", drones, a.number, a.offset);
 }
 
 int main(void) {
@@ -33,5 +44,13 @@ int main(void) {
     read_plan(CAPITALS);
     size_t length = board_write(buffer, sizeof buffer, CONDUCTOR_LEND(field)).detail;
     fwrite(buffer, 1, length, stdout);
+    many(CONDUCTOR_DRONES);
+    say("cost", board_cost(CONDUCTOR_LEND(field)));
+    printf("press=%llx\n", (unsigned long long)board_press(CONDUCTOR_LEND(field), 0, 0).detail);
+    printf("press=%llx\n", (unsigned long long)board_press(CONDUCTOR_LEND(field), 1, CONDUCTOR_DRONES - 1).detail);
+    many(CONDUCTOR_DRONES + 1);
+    memset(buffer, ' ', sizeof buffer);
+    conductor_read_answer a = board_read(buffer, sizeof buffer, CONDUCTOR_LEND(field));
+    printf("a text too long: plan=%zu offset=%zu\n", a.number, a.offset);
     return 0;
 }

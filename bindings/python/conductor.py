@@ -18,7 +18,7 @@ from ctypes import CDLL, Structure, c_int64, c_size_t, c_uint8, c_uint16, c_uint
 from operator import index
 from threading import RLock
 
-DRONES, NAME, STOPS, DEPENDENCIES, TEXT = 32, 24, 1024, 2048, 32768
+DRONES, NAME, STOPS, DEPENDENCIES, TEXT = 64, 24, 2048, 4096, 65536
 
 
 class Dependency(Structure):

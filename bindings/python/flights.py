@@ -2,7 +2,7 @@
 import sys
 from threading import Barrier, Thread
 
-from conductor import Conductor, Refused
+from conductor import DRONES, TEXT, Conductor, Refused
 
 Q = b"plan=1\nagents=2\nname=survey-quad-east-1\nstops=4\ngo=1@0\ngo=6@1\ngo=5@2\ngo=2@3\nname=survey-quad-east-2\nstops=3\ngo=3@0\ngo=5@4\ngo=4@5\nend=plan\n"
 P = b"plan=1\nagents=2\nname=a\nstops=4\ngo=10@0\ngo=20@1\ngo=30@2\ngo=40@3\nname=b\nstops=4\ngo=11@0\ngo=20@3\ngo=30@4\ngo=41@5\nend=plan\n"
@@ -89,6 +89,12 @@ for call in (field.turn_all, field.preview_all):
     holds((error(call, [0, -1]), error(call, [0.0]), error(call, 0)), (ValueError, TypeError, TypeError))
 holds((error(field.read, "plan=1"), error(field.read, 5), error(field.grant, None)), (TypeError, TypeError, TypeError))
 holds((list(field.visited[:2]), list(field.drone_flags[:2]), field.dependencies[0].flags), ([0, 0], [0, 0], 0))
+
+# as many drones as there may be, and one more
+many = [b"plan=1\nagents=%d\n" % n + b"".join(b"name=d%d\nstops=2\ngo=%d@0\ngo=%d@1\n" % (d, d, 1000 + d) for d in range(n)) + b"end=plan\n" for n in (DRONES, DRONES + 1)]
+field.read(many[0])
+holds((field.cost(), field.press(), field.press(63), refusal(field.press, 64)[0]), (64, list(range(64)), [], 20))
+holds((refusal(field.read, many[1]), refusal(field.read, b" " * (TEXT + 1))), ((4, "refused with 4, offset 7"), (1, "refused with 1, offset 65536")))
 
 # the records' fields, each with a value of its own
 field.read(b"plan=1\nagents=3\nname=a\nstops=2\ngo=1@0\ngo=2@1\nname=b\nstops=4\ngo=3@0\ngo=4@1\ngo=5@2\ngo=6@3\nname=c\nstops=5\ngo=7@0\ngo=8@1\ngo=9@2\ngo=4@9\ngo=10@11\nend=plan\n")

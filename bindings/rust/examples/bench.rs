@@ -35,7 +35,7 @@ mod painted {
     }
 }
 
-/// Every seventh stop is a crossing that all drones pass one after the other; the other stops are a drone's own.
+/// Every seventh stop is a crossing that thirty-two drones pass one after the other; the other stops are a drone's own.
 fn plan(drones: usize, stops: usize) -> String {
     let (share, from) = if stops < 7 { (2, 1) } else { (7, 5) };
     let mut text = format!("plan=1\nagents={drones}\n");
@@ -43,8 +43,8 @@ fn plan(drones: usize, stops: usize) -> String {
         let _ = write!(text, "name=survey-quad-{d}\nstops={stops}\n");
         for s in 0..stops {
             let crossing = s % share == from && s < stops - 1;
-            let time = if s == 0 { 0 } else { 2 * d * 10_000 + s * 10_000 };
-            let _ = writeln!(text, "go={}@{time}", if crossing { s } else { 2000 + d * 1024 + s });
+            let time = if s == 0 { 0 } else { (2 * d + s) * 6_000 };
+            let _ = writeln!(text, "go={}@{time}", if crossing { d / 32 * 32 + s } else { 2000 + d * stops + s });
         }
     }
     text + "end=plan\n"
@@ -124,8 +124,8 @@ fn main() {
     let mut most = [0; CALLS.len()];
     println!("microseconds, best of {REPEATS}");
     println!("{:>6} {:>6} {:>6} {:>6} {}", "drones", "stops", "waits", "turned", CALLS.map(|name| format!("{name:>12}")).concat());
-    for (drones, stops) in [(1, 1), (8, 24), (32, 12), (32, 24), (32, 31), (32, 32)] {
-        for want in [0, 64] {
+    for (drones, stops) in [(1, 1), (8, 24), (32, 12), (32, 24), (32, 31), (32, 32), (64, 12), (64, 24), (64, 31), (64, 32)] {
+        for want in [0, 2 * drones] {
             let mut measured = Measured::new(plan(drones, stops), want);
             let turned = measured.field.dependencies().filter(|d| d.turned).count();
             if want > 0 && turned == 0 {

@@ -37,7 +37,7 @@ pub struct Conductor {
 
 /// The drones that a press granted, one bit for each, bit 0 for drone 0.
 #[derive(Clone, Copy, Debug, PartialEq, Eq, Hash)]
-pub struct Granted(pub u32);
+pub struct Granted(pub u64);
 
 impl Granted {
     /// The granted drones, rising.
@@ -143,7 +143,7 @@ impl Conductor {
     /// One press of the handset: takes the arrival that was reported, if one was, then grants every drone that may go.
     pub fn press(&mut self, reported: Option<usize>) -> Result<Granted, ArriveRefusal> {
         let answer = ffi::press(self.plan.lent(), &mut self.visited, &mut self.drone_flags, &self.dependencies, reported);
-        detail(answer, ArriveRefusal::of).map(|bits| Granted(bits as u32))
+        detail(answer, ArriveRefusal::of).map(|bits| Granted(bits as u64))
     }
 }
 

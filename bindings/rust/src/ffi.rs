@@ -4,12 +4,12 @@
 //!
 //! ```compile_fail,E0502
 //! use conductor::ffi::{arrive, PlanTables};
-//! let mut words = [0u16; 1024];
+//! let mut words = [0u16; conductor::STOPS];
 //! let plan = PlanTables { drone_count: &words, dependency_count: &words, names: &[], stop_counts: &words, locations: &words, times: &[] };
 //! arrive(plan, &mut words, &mut [], &[], 0); // the visited stops are lent for writing and for reading at once
 //! ```
 
-/// A dependency: the planned first drone and its stop, the planned second drone and its stop. `reserved` is zero in the first 2,048 after a reading that wrote the tables (any reply but 41 and 1), a turn keeps it, and no call looks at it.
+/// A dependency: the planned first drone and its stop, the planned second drone and its stop. `reserved` is zero in the first [`DEPENDENCIES`](crate::DEPENDENCIES) after a reading that wrote the tables (any reply but 41 and 1), a turn keeps it, and no call looks at it.
 #[repr(C)]
 #[derive(Clone, Copy, Debug, Default, PartialEq, Eq, Hash)]
 pub struct Dependency {
@@ -70,7 +70,7 @@ layout! {
     ReadAnswer 48 { number: usize = 0, offset: usize = 8, drone: usize = 16, stop: usize = 24, other_drone: usize = 32, other_stop: usize = 40 }
 }
 
-/// The tables that a reading alone writes: full sizes 1, 1, 768, 32, 1,024 and 1,024.
+/// The tables that a reading alone writes. Their full sizes: 1 and 1, [`NAME`](crate::NAME) bytes for each of [`DRONES`](crate::DRONES), that many, and twice [`STOPS`](crate::STOPS).
 #[derive(Clone, Copy)]
 pub struct PlanTables<'a> {
     pub drone_count: &'a [u16],
@@ -81,7 +81,7 @@ pub struct PlanTables<'a> {
     pub times: &'a [u32],
 }
 
-/// All nine tables, lent to a reading. The last three have full sizes 32, 32 and 2,048.
+/// All nine tables, lent to a reading. The last three have full sizes [`DRONES`](crate::DRONES), as many, and [`DEPENDENCIES`](crate::DEPENDENCIES).
 pub struct Tables<'a> {
     pub drone_count: &'a mut [u16],
     pub dependency_count: &'a mut [u16],

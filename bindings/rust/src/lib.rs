@@ -25,14 +25,16 @@ pub use refusals::*;
 pub use view::{Drone, InForce, Name, Stop};
 
 /// Full size of the tables with an entry for each drone.
-pub const DRONES: usize = 32;
+pub const DRONES: usize = 64;
 /// Bytes of one name in the table of names.
 pub const NAME: usize = 24;
 /// Full size of the tables with an entry for each stop.
-pub const STOPS: usize = 1024;
+pub const STOPS: usize = 2048;
 /// Full size of the table of dependencies.
-pub const DEPENDENCIES: usize = 2048;
+pub const DEPENDENCIES: usize = 4096;
 /// The most bytes of a plan text.
-pub const TEXT: usize = 32768;
+pub const TEXT: usize = 65536;
+/// The most that a cost can be; the change of a preview goes as far either way.
+pub const COST: usize = 126976;
 /// The number of small plans for the bench.
 pub const SMALL_PLANS: usize = 378;

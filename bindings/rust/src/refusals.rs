@@ -19,17 +19,17 @@ impl fmt::Display for Visit {
 /// What a refusal number means, in the words of the pilots' page; none for a number that no call answers.
 pub fn meaning(number: usize) -> Option<&'static str> {
     Some(match number {
-        1 => "the text is longer than 32,768 bytes",
+        1 => "the text is longer than 65,536 bytes",
         2 => "a line is malformed, out of order, missing or surplus",
         3 => "a name is not 1 to 24 letters, digits and hyphens",
         4 => "a number is outside its range",
         5 => "a name is that of an earlier drone",
-        6 => "the stops of all drones are more than 1,024",
+        6 => "the stops of all drones are more than 2,048",
         7 => "a drone's first stop is not at time 0",
         8 => "a stop's time is not after that of the stop before it",
         9 => "a stop has the location of the stop before it",
         10 => "two drones collide",
-        11 => "the plan has more than 2,048 dependencies",
+        11 => "the plan has more than 4,096 dependencies",
         15 => "there is no small plan of this number",
         20 => "there is no such drone",
         21 => "the drone stands at its last stop",

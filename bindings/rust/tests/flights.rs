@@ -96,15 +96,16 @@ fn one_drone_one_stop() {
 fn texts_at_their_limits() {
     assert_eq!(refusal(""), ReadRefusal::Form { offset: 0 });
     let many = |n: u32| text(&(0..n).map(|d| vec![(d, 0)]).collect::<Vec<_>>().iter().map(|r| &r[..]).collect::<Vec<_>>());
-    assert_eq!(taken(&many(32)).drone_count(), 32);
-    assert_eq!(refusal(&many(33)), ReadRefusal::Range { offset: 7 });
+    assert_eq!((taken(&many(32)).drone_count(), taken(&many(33)).drone_count(), taken(&many(64)).drone_count()), (32, 33, 64));
+    assert_eq!(refusal(&many(65)), ReadRefusal::Range { offset: 7 });
     let named = |name: &str| format!("plan=1\nagents=1\nname={name}\nstops=1\ngo=0@0\nend=plan\n");
     assert_eq!(taken(&named(&"a".repeat(24))).drone(0).unwrap().name.as_str().len(), 24);
     assert_eq!(refusal(&named(&"a".repeat(25))), ReadRefusal::Name { offset: 16 });
     let place_and_time = |line: &str| format!("plan=1\nagents=1\nname=a\nstops=2\ngo=0@0\ngo={line}\nend=plan\n");
     assert_eq!(refusal(&place_and_time("65536@1")), ReadRefusal::Range { offset: 38 });
     assert_eq!(taken(&place_and_time("65535@1000000")).drone(0).unwrap().stops[1], Stop { location: 65535, time: 1_000_000 });
-    assert_eq!(refusal(&" ".repeat(32_769)), ReadRefusal::TooLong { offset: 32_768 });
+    assert_eq!(refusal(&" ".repeat(65_536)), ReadRefusal::Form { offset: 0 });
+    assert_eq!(refusal(&" ".repeat(65_537)), ReadRefusal::TooLong { offset: 65_536 });
 }
 
 #[test]
@@ -158,6 +159,34 @@ fn request_9_small_plans() {
     assert_eq!(small_plan(377, &mut buffer[..9]), Err(SmallPlanRefusal::BufferTooShort));
 }
 
+/// Drones of two stops each, every one alone.
+fn alone(drones: u32) -> Conductor {
+    let routes: Vec<Vec<(u32, u32)>> = (0..drones).map(|d| vec![(d, 0), (1000 + d, 1)]).collect();
+    taken(&text(&routes.iter().map(|route| &route[..]).collect::<Vec<_>>()))
+}
+
+#[test]
+fn request_12_sixty_four_drones() {
+    let mut c = alone(64);
+    assert_eq!((c.cost(), c.press(None)), (Ok(64), Ok(Granted(u64::MAX))));
+    assert_eq!((c.press(Some(63)), c.press(Some(64))), (Ok(Granted(0)), Err(ArriveRefusal::NoSuchDrone)));
+    assert_eq!(alone(33).press(None).unwrap().drones().collect::<Vec<_>>(), (0..33).collect::<Vec<_>>());
+    assert_eq!((DRONES * (STOPS - DRONES), NAME * DRONES), (COST, 1536));
+}
+
+/// One drone has a long way, and all the others wait at its last crossing but one, in a row: as many rounds as there can be, and nearly the greatest cost.
+#[test]
+fn request_12_a_great_cost() {
+    let way = (STOPS - 3 * DRONES) as u32;
+    let runner: Vec<(u32, u32)> = (0..=way).map(|k| (20_000 + k, k)).chain([(7, way + 1), (8, way + 2)]).collect();
+    let others = (1..DRONES as u32).map(|d| vec![(30_000 + d, 0), (7, way + 3 * d + 2), (31_000 + d, way + 3 * d + 3)]);
+    let routes: Vec<Vec<(u32, u32)>> = std::iter::once(runner).chain(others).collect();
+    let c = taken(&text(&routes.iter().map(|route| &route[..]).collect::<Vec<_>>()));
+    assert_eq!((c.dependency_count(), c.rounds(), c.cost()), (2016, Ok(STOPS - DRONES), Ok(122_944)));
+    let best = (0..c.dependency_count()).filter_map(|p| c.preview(p).ok()).min();
+    assert!(best.is_some_and(|change| change < 0 && change > -(COST as i64)), "{best:?}");
+}
+
 #[test]
 fn request_13_rounds() {
     assert_eq!(taken(Q).rounds(), Ok(5));
@@ -176,4 +205,8 @@ fn every_number_has_a_meaning() {
     let told: Vec<usize> = (0..64).filter(|n| meaning(*n).is_some()).collect();
     assert_eq!(told, [1, 2, 3, 4, 5, 6, 7, 8, 9, 10, 11, 15, 20, 21, 22, 23, 24, 30, 31, 32, 34, 36, 40, 41, 42]);
     assert_eq!((TurnRefusal::Cycle.number(), TurnRefusal::Cycle.meaning()), (34, "drones would wait for each other in a ring"));
+    let thousands = |n: usize| format!("{},{:03}", n / 1000, n % 1000);
+    for (number, figure) in [(1, TEXT), (6, STOPS), (11, DEPENDENCIES)] {
+        assert!(meaning(number).unwrap().contains(&thousands(figure)), "the meaning of {number} names {figure}");
+    }
 }

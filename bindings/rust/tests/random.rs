@@ -161,7 +161,7 @@ fn tables_too_short() {
         let mut tables = Tables::zeroed(FULL);
         tables.read(&text_of(&plan));
         altered::shortened(&mut r, &mut tables);
-        let text = if r.one_in(4) { vec![b'a'; 32_769] } else { text_of(&plan) };
+        let text = if r.one_in(4) { vec![b'a'; reckoning::TEXT + 1] } else { text_of(&plan) };
         compare_reading(&mut seen, tables.clone(), &text);
         for _ in 0..4 {
             let call = any_call(&mut r, &plan);
@@ -172,14 +172,20 @@ fn tables_too_short() {
     seen.report("tables_too_short", seed, cases, &expected);
 }
 
-/// Groups of drones at crossings, the stops of each drone, the reply to the reading, and the dependencies: 1,024 stops; 2,045 to 2,048 dependencies, and one more.
-const LIMITS: [(&[usize], usize, usize, u16); 6] = [
-    (&[32, 32, 32, 32], 32, 0, 1984),
-    (&[32, 32, 32, 32, 11, 4], 20, 0, 2045),
-    (&[32, 32, 32, 32, 11, 4, 2], 20, 0, 2046),
-    (&[32, 32, 32, 32, 11, 4, 2, 2], 20, 0, 2047),
-    (&[32, 32, 32, 32, 11, 4, 3], 20, 0, 2048),
-    (&[32, 32, 32, 32, 11, 4, 3, 2], 20, 11, 0),
+/// Drones, groups of them at crossings, the stops of each drone, the reply to the reading, and the dependencies: 2,048 stops; 4,093 to 4,096 dependencies, and one more; before them the same of
+/// the limits that held until point 12, with one more of each taken now.
+const LIMITS: [(usize, &[usize], usize, usize, u16); 11] = [
+    (32, &[32, 32, 32, 32], 32, 0, 1984),
+    (32, &[32, 32, 32, 32, 11, 4, 3], 20, 0, 2048),
+    (32, &[32, 32, 32, 32, 11, 4, 3, 2], 20, 0, 2049),
+    (33, &[33, 33], 31, 0, 1056),
+    (32, &[32, 32], 33, 0, 992),
+    (64, &[64, 64], 32, 0, 4032),
+    (64, &[64, 64, 11, 4], 20, 0, 4093),
+    (64, &[64, 64, 11, 4, 2], 20, 0, 4094),
+    (64, &[64, 64, 11, 4, 2, 2], 20, 0, 4095),
+    (64, &[64, 64, 11, 4, 3], 20, 0, 4096),
+    (64, &[64, 64, 11, 4, 3, 2], 20, 11, 0),
 ];
 
 #[test]
@@ -187,8 +193,8 @@ fn at_the_limits() {
     let (mut r, mut seen) = (Random::seeded(), Seen::default());
     let seed = r.seed();
     let mut cases = 0;
-    for (groups, stops, number, count) in LIMITS {
-        let plan = plans::plan_of(&mut r, plans::crossings(groups, 32, stops));
+    for (drones, groups, stops, number, count) in LIMITS {
+        let plan = plans::plan_of(&mut r, plans::crossings(groups, drones, stops));
         let (mut tables, answer) = compare_reading(&mut seen, Tables::zeroed(FULL), &text_of(&plan));
         assert_eq!((answer.number, tables.dependency_count[0]), (number, count));
         let plan = plan.checked().unwrap_or_default();
@@ -204,20 +210,20 @@ fn at_the_limits() {
     seen.report("at_the_limits", seed, cases, &[("read", &[0, 1, 2, 6, 11])]);
 }
 
-/// 1,025 stops; texts of 32,768 bytes and of more.
+/// One stop too many; texts of 65,536 bytes and of more, and of the limit that held until point 12.
 fn texts_at_the_limits(r: &mut Random, seen: &mut Seen) -> usize {
-    let mut routes = plans::crossings(&[32], 32, 32);
-    routes[31].push((60_000, 900_000));
+    let mut routes = plans::crossings(&[64], 64, 32);
+    routes[63].push((60_000, 900_000));
     let plan = plans::plan_of(r, routes);
     compare_reading(seen, Tables::zeroed(FULL), &text_of(&plan));
-    for length in [32_768, 32_769, 40_000] {
+    for length in [32_768, 32_769, 65_535, 65_536, 65_537, 80_000] {
         for beginning in [&b""[..], b"plan=1\nagents=1\nname=a\nstops=1\ngo=1@0\nend=plan\n"] {
             let mut text = beginning.to_vec();
             text.resize(length, b'\n');
             compare_reading(seen, altered::scrawled(r), &text);
         }
     }
-    7
+    13
 }
 
 /// Plans flown to the end by presses, each of a drone that is under way, with turns between them; every press is compared.
@@ -270,7 +276,7 @@ fn through(c: &mut Conductor, call: &Call) -> Reply {
         Call::PreviewAll(list) => all(c.preview_all(list), |change| change, |e| (e.number(), 0)),
         Call::Cost => all(c.cost(), count, |e| (e.number(), 0)),
         Call::Rounds => all(c.rounds(), count, |e| (e.number(), 0)),
-        Call::Press(reported) => all(c.press(*reported), |granted| granted.0.into(), |e| (e.number(), 0)),
+        Call::Press(reported) => all(c.press(*reported), |granted| granted.0 as i64, |e| (e.number(), 0)),
         Call::Write => all(c.text(), |text| text.len() as i64, |e| (e.number(), 0)),
     }
 }

@@ -25,7 +25,12 @@ use Rattle.accepted.proofs.TextFound.{demand3-of-texts}
 
 pub readings-hold : ReadingsHold
 unfolding firstBelow allBelow countBelow sumBelow fullSize zeroed byteAt isAt isDigit digitsFrom numberAt fieldAt goAt stopsAt countAt untilFeed lineEnd isCapital smallByte smallForm isNameByte isTextByte textBytes textName nameAt stopsRead droneAt same elem dronesAt linesAt start owner stopNumber faultAt firstFault over collide collider follows faultCase checkOf readPlan readLines
-readings-hold = record { as-listed = refl; q-taken = refl; stops-named = record { starts-late = refl; not-rising = refl; same-location = refl; collision = refl } }
+readings-hold = record {
+  as-listed = refl;
+  q-taken = refl;
+  stops-named = record { starts-late = refl; not-rising = refl; same-location = refl; collision = refl };
+  older-replies = record { just-enough = refl; too-long = refl; too-many-drones = refl; too-many-stops = refl; too-many-together = refl; too-many-dependencies = refl };
+}
 
 -- demand 3 of flight Q, whatever is called after its reading
 pub flightQ-found : (calls : List Call) (got : List Entry) (t : Tables) → Ran (step limits) (readPlan limits (bytes textQ) (filled 7 limits) .tables) calls got t → Found (textPlan limits (bytes textQ)) calls got t

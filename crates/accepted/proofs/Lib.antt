@@ -13,3 +13,4 @@ pub mod TablesRoutes
 pub mod SoundAccepted
 pub mod CheckSays
 pub mod Reported
+pub mod Older

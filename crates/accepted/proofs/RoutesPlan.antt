@@ -20,14 +20,15 @@ use Rattle.text.proofs.DroneTaken.{range-long}
 use Rattle.text.proofs.Sizes.{counts-total}
 use Rattle.plan.specs.Stops.{start, owner, stopNumber}
 use Rattle.plan.specs.Visits.{Visits, visitsWith}
-use Rattle.plan.specs.Dependencies.{dependencyTotal, column}
+use Rattle.plan.specs.Answers.{checkOf}
+use Rattle.plan.specs.Dependencies.{flagOf, dependencyTotal, column}
 use Rattle.plan.specs.Field.{Checked, PlansAgree, planOf}
 use Rattle.plan.specs.Claims.{ownerIn, numberIn, locationIn, timeIn, stopTotal, visitsIn, HaveStops, HoldsPlanned, StopsChecked, Collides, Never}
 use Rattle.plan.proofs.Numbering.{start-none, place-in}
 use Rattle.plan.proofs.Claims.{accepted-claims}
 use Rattle.plan.proofs.PlansAgree.{agree-back, agree-stops, agree-never, agree-checked, start-same, owner-same, number-same, passes-exactly}
-use Rattle.plan.proofs.Agree.{total-same, column-same}
-use Rattle.accepted.specs.TextPlan.{routeAt, stopsIn, ownerOf, stopNumberOf, dependencyList, routesPlan, routesFrom, textRoutes}
+use Rattle.plan.proofs.Agree.{total-same, column-same, flag-same, check-same}
+use Rattle.accepted.specs.TextPlan.{routeAt, stopsIn, ownerOf, stopNumberOf, routesVisits, dependencyList, routesPlan, routesFrom, textRoutes}
 use Rattle.accepted.proofs.Routes.{counts-some}
 
 -- ---- one route among all
@@ -83,10 +84,10 @@ module _ (L : Limits) (ds : List Route) (v : InLimits L ds) where
     pub held-stops : HaveStops p
     held-stops d l = let k : d < length ds = omega (arith, h .drones-are) in omega (arith, some-stop d k, h .counts-are d k)
 
-    owners-are : (u : ℕ) → ownerIn p u ≡ ownerOf ds u
+    pub owners-are : (u : ℕ) → ownerIn p u ≡ ownerOf ds u
     owners-are u = ap (λ (n : ℕ). owner n (p .stopCounts) u) (h .drones-are) ∙ owner-same (length ds) (p .stopCounts) (countsOf ds) (h .counts-are) u
 
-    numbers-are : (u : ℕ) → numberIn p u ≡ stopNumberOf ds u
+    pub numbers-are : (u : ℕ) → numberIn p u ≡ stopNumberOf ds u
     numbers-are u = ap (λ (n : ℕ). stopNumber n (p .stopCounts) u) (h .drones-are) ∙ number-same (length ds) (p .stopCounts) (countsOf ds) (h .counts-are) u
 
     starts-are : (d : ℕ) → d ≤ length ds → start (p .stopCounts) d ≡ start (countsOf ds) d
@@ -106,9 +107,19 @@ module _ (L : Limits) (ds : List Route) (v : InLimits L ds) where
     held-total = ap (λ (n : ℕ). dependencyTotal (heldVisits p n)) stops-are
         ∙ total-same (heldVisits p (stopsIn ds)) (ownerOf ds) (stopNumberOf ds) (at (locationsOf ds)) (at (timesOf ds)) (λ u l. owners-are u) location-is time-is
 
-    held-column : (f g : ℕ → ℕ → ℕ) → ((u w : ℕ) → f u w ≡ g u w) → column (visitsIn p) f ≡ dependencyList ds g
+    pub held-column : (f g : ℕ → ℕ → ℕ) → ((u w : ℕ) → f u w ≡ g u w) → column (visitsIn p) f ≡ dependencyList ds g
     held-column f g e = ap (λ (n : ℕ). column (heldVisits p n) f) stops-are
         ∙ column-same (heldVisits p (stopsIn ds)) (ownerOf ds) (stopNumberOf ds) (at (locationsOf ds)) (at (timesOf ds)) (λ u l. owners-are u) location-is time-is f g (λ u w l k. e u w)
+
+    -- .. with the same flag bytes; and the plan check says of the lists what it says of the routes
+    pub held-flags : column (visitsIn p) (flagOf (ownerIn p) (numberIn p) (stopTotal p)) ≡ dependencyList ds (flagOf (ownerOf ds) (stopNumberOf ds) (stopsIn ds))
+    held-flags = ap (λ (n : ℕ). column (heldVisits p n) (flagOf (ownerIn p) (numberIn p) n)) stops-are
+        ∙ column-same (heldVisits p (stopsIn ds)) (ownerOf ds) (stopNumberOf ds) (at (locationsOf ds)) (at (timesOf ds)) (λ u l. owners-are u) location-is time-is _ _
+        (flag-same (heldVisits p (stopsIn ds)) (ownerOf ds) (stopNumberOf ds) (at (locationsOf ds)) (at (timesOf ds)) (λ u l. owners-are u) location-is time-is (λ u l. numbers-are u))
+
+    pub held-check : checkOf (visitsIn p) ≡ checkOf (routesVisits ds)
+    held-check = ap (λ (n : ℕ). checkOf (heldVisits p n)) stops-are
+        ∙ check-same (heldVisits p (stopsIn ds)) (ownerOf ds) (stopNumberOf ds) (at (locationsOf ds)) (at (timesOf ds)) (λ u l. owners-are u) location-is time-is (λ u l. numbers-are u)
 
     -- a list with an entry for each stop
     stop-entry : (l xs : List ℕ) → ((u : ℕ) → u < length (locationsOf ds) → at l u ≡ at xs u) → (d s : ℕ) → d < length ds → s ≤ length (routeAt ds d .locations) - 1

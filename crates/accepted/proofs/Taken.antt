@@ -133,7 +133,7 @@ laid-text L t full ds v =
     (omega (arith, sizes .locations, zeroed-length (L .stops) (t .plan .locations))) (omega (arith, sizes .times, zeroed-length (L .stops) (t .plan .times))))
 
 -- what was read of a text is laid as its routes
-same-laid : (L : Limits) (t : Tables) (f : LinesRead LinesAnswer) (n : ℕ) (ds : List Route) → f ≡ linesOf L ds → length ds ≡ n → withText f n (zeroedTables L t) ≡ withText (linesOf L ds) (length ds) (zeroedTables L t)
+pub same-laid : (L : Limits) (t : Tables) (f : LinesRead LinesAnswer) (n : ℕ) (ds : List Route) → f ≡ linesOf L ds → length ds ≡ n → withText f n (zeroedTables L t) ≡ withText (linesOf L ds) (length ds) (zeroedTables L t)
 same-laid L t f n ds e m = rw (e, ← m) refl
 
 pub written-back : (L : Limits) → WrittenBack L

@@ -31,13 +31,13 @@ pub record PlanFollows (L : Limits) (text : List ℕ) : Type 0 where
   pub as-typed : text ≡ routesText typed
   -- with its names in small letters: names, numbers of stops, locations and times in their ranges
   pub in-limits : InLimits L (smallNames typed)
-  -- "text: at most 32,768 bytes"
+  -- "text to 65,536 bytes"
   pub short : length text ≤ L .text
   -- "Stop 0 has time 0 and a drone's times strictly rise. Neighbouring stops of a drone have different locations."
   pub stops : StopsChecked (routesPlan (smallNames typed))
   -- no two drones collide, as source document 004 has it (Definition 1)
   pub apart : Never (routesPlan (smallNames typed)) (Collides (routesPlan (smallNames typed)))
-  -- "dependencies: at most 2,048"
+  -- "dependencies to 4,096"
   pub few : routesPlan (smallNames typed) .count ≤ L .dependencies
 
 -- taken exactly when the text follows the document, into any tables of full size

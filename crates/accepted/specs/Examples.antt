@@ -9,7 +9,7 @@ use Rattle.below.specs.Below.{allIn}
 use Rattle.tables.specs.Limits.{Limits, limits}
 use Rattle.tables.specs.Zero.{filled}
 use Rattle.text.specs.Examples.{bytes}
-use Rattle.reading.specs.Replies.{ReadingReply, taken, refusedStop, refusedStops, readingNumber}
+use Rattle.reading.specs.Replies.{ReadingReply, taken, refusedBy, refusedAt, refusedStop, refusedStops, readingNumber}
 use Rattle.reading.specs.Reading.{readPlan}
 
 -- the product's limits, but for one dependency
@@ -53,7 +53,7 @@ readingExamples =
     -- the drones collide at 40, where the first stays, and have three dependencies: "plan check, after all stops" comes before "building"
     ∷ record { within = limitsOfOne; text = "plan=1\nagents=2\nname=a\nstops=4\ngo=10@0\ngo=20@1\ngo=30@2\ngo=40@3\nname=b\nstops=4\ngo=11@0\ngo=20@3\ngo=30@4\ngo=40@5\nend=plan\n"; number = 10 }
     -- a drone with more stops than the limit for all: "at one line in this order .. 4 .. 6"
-    ∷ record { within = limits; text = "plan=1\nagents=1\nname=a\nstops=1025\n"; number = 4 }
+    ∷ record { within = limits; text = "plan=1\nagents=1\nname=a\nstops=2049\n"; number = 4 }
     -- "a capital is the same letter as its small form everywhere names are compared"
     ∷ record { within = limits; text = "plan=1\nagents=2\nname=Survey-Quad-East-1\nstops=1\ngo=1@0\nname=survey-quad-east-1\nstops=1\ngo=2@0\nend=plan\n"; number = 5 }
     ∷ []
@@ -73,8 +73,28 @@ pub record StopsNamed : Type 0 where
   -- "10 gives two of each": at 5 all three drones collide, and drones 1 and 2 at their stops 0
   pub collision : replyTo "plan=1\nagents=3\nname=a\nstops=3\ngo=1@0\ngo=5@2\ngo=6@4\nname=b\nstops=2\ngo=2@0\ngo=5@3\nname=c\nstops=2\ngo=2@0\ngo=5@1\nend=plan\n" ≡ refusedStops 10 (record { drone = 0; stop = 1 }) (record { drone = 1; stop = 1 })
 
+-- ---- boards with lower limits
+
+-- limits of a text's length, of drones, stops and dependencies; the others are the product's
+abbrev pub limitsAt : (text drones stops dependencies : ℕ) → Limits
+limitsAt text drones stops dependencies = record { text = text; drones = drones; stops = stops; dependencies = dependencies; name = limits .name; location = limits .location; time = limits .time }
+
+-- what a board with these limits says of flight Q
+abbrev pub olderTo : Limits → ReadingReply
+olderTo L = readPlan L (bytes textQ) (filled 7 L) .reply
+
+-- flight Q has 138 bytes, two drones of four and three stops, and one dependency
+pub record OlderReplies : Type 0 where
+  pub just-enough : olderTo (limitsAt 138 2 7 1) ≡ taken
+  pub too-long : olderTo (limitsAt 137 1 3 0) ≡ refusedAt 1 137
+  pub too-many-drones : olderTo (limitsAt 138 1 3 0) ≡ refusedAt 4 7
+  pub too-many-stops : olderTo (limitsAt 138 2 3 0) ≡ refusedAt 4 40
+  pub too-many-together : olderTo (limitsAt 138 2 6 0) ≡ refusedAt 6 100
+  pub too-many-dependencies : olderTo (limitsAt 138 2 7 0) ≡ refusedBy 11
+
 -- each text of the list gets its number, flight Q is taken at the product's limits, and refusals of the plan check name these stops
 pub record ReadingsHold : Type 0 where
   pub as-listed : allIn readingAsGiven readingExamples ≡ true
   pub q-taken : replyTo textQ ≡ taken
   pub stops-named : StopsNamed
+  pub older-replies : OlderReplies

@@ -2,3 +2,4 @@ pub mod TextPlan
 pub mod Claims
 pub mod Reported
 pub mod Examples
+pub mod Older

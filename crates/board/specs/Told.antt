@@ -45,7 +45,7 @@ abbrev pub writingAnswerOf : Writing → CallAnswer
 writingAnswerOf (wrote n) = answerWith 0 n
 writingAnswerOf (writeRefused n) = answerWith n 0
 
--- "a 32-bit number in which bit 0 stands for drone 0 and so on"
+-- "The handset's number grows to 64 bits", "in which bit 0 stands for drone 0 and so on"
 abbrev pub pressAnswerOf : PressOutcome → CallAnswer
 pressAnswerOf (granted bits) = answerWith 0 bits
 pressAnswerOf (pressRefused n) = answerWith n 0

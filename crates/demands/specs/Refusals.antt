@@ -16,7 +16,7 @@ use Rattle.flat.specs.Writing.{writeRefused, writes, bufferLeft}
 pub record RefusalsLeave (L : Limits) : Type 0 where
   -- "every entry, first: 41 a lent table is below full size: unchanged"
   pub small-tables : (text : List ℕ) (t : Tables) → fullSize L t ≡ false → readPlan L text t ≡ withReply (refusedBy 41) t
-  -- "reading, before any line: 1 text too long: unchanged", with the offset "32,768 for 1"
+  -- "reading, before any line: 1 text too long: unchanged", with the offset "1 now carries 65,536"
   pub long-text : (text : List ℕ) (t : Tables) → fullSize L t ≡ true → L .text < length text → readPlan L text t ≡ withReply (refusedAt 1 (L .text)) t
   -- every other reading that is refused: "full sizes zeroed"
   pub other-readings : (text : List ℕ) (t : Tables) → fullSize L t ≡ true → length text ≤ L .text → isTaken (readPlan L text t .reply) ≡ false → readPlan L text t .tables ≡ zeroedTables L t

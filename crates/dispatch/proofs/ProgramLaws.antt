@@ -2,16 +2,19 @@
 use Prim.Native.Nat.{ℕ, zero, suc, _+_, _-_, _*_, _≤_, _<_, _^_}
 use native.Mathlib.Omega.{arith}
 use native.Mathlib.Nat.{zero-add, sub-zero}
-use mathlib.Core.Path.{_≡_, refl, sym, ap, _∙_}
+use mathlib.Core.Path.{_≡_, refl, sym, ap, _∙_, subst}
 use mathlib.Core.Bool.{Bool, true, false, cond}
 use mathlib.Core.List.{List, [], _∷_, _++_, append-nil}
 use lib.Dec.{ltb, eqb}
-use lib.ListN.{length, length-append, length-take, take, drop}
-use lib.Seq.{sets, sets-eq, length-sets, take-all}
-use borrow.Author.Tests.{lt-ltb, le-ltb, ltb-false, eq-eqb, ne-eqb}
+use lib.ListN.{length, length-append, length-replicate, length-take, take, drop}
+use lib.Seq.{sets, sets-eq, length-sets, take-append-le}
+use borrow.Author.Tests.{lt-ltb, le-ltb, ltb-true, ltb-false, eq-eqb, ne-eqb}
 use Rattle.below.specs.Below.{at, rowsBelow}
-use Rattle.tables.specs.Limits.{Limits}
-use Rattle.tables.specs.Tables.{Tables}
+use Rattle.below.proofs.Tests.{by-cases}
+use Rattle.tables.specs.Limits.{Limits, limits}
+use Rattle.tables.specs.Tables.{Tables, fullSize}
+use Rattle.tables.specs.Zero.{filled}
+use Rattle.tables.proofs.SizeLaws.{sizes-full}
 use Rattle.plan.specs.Field.{FieldPlan}
 use Rattle.lines.specs.Bytes.{Put}
 use Rattle.lines.proofs.NumberCases.{digits-length}
@@ -20,7 +23,7 @@ use Rattle.log.specs.CallLog.{Entry}
 use Rattle.reading.specs.Replies.{ReadingReply as Read, readingNumber}
 use Rattle.reading.proofs.ReplyLaws.{taken-by-0}
 use Rattle.reading.specs.Reading.{AnsweredAs, readPlan}
-use Rattle.transcript.specs.Input.{inputLimit, planEnd, callAt, Request, noRequests, callLinesAt, requestsFrom, requestsAt, kindsOf, numbersOf, RequestsRead}
+use Rattle.transcript.specs.Input.{inputLimit, readInto, BuffersJoined, planEnd, callAt, Request, noRequests, callLinesAt, requestsFrom, requestsAt, kindsOf, numbersOf, RequestsRead}
 use Rattle.transcript.specs.Output.{planNumberLine, LineAnswer, answerLines, endingLine, answersBy, logAfter, callsOutput, PlanReading, afterReading, outputOf, linesIn}
 use Rattle.transcript.specs.Run.{answersOn, requestsIn, numbersIn, detailsIn, Made}
 use Rattle.transcript.specs.declared.requests.CallLine.{CallLine}
@@ -32,7 +35,7 @@ use Rattle.transcript.proofs.PlanEnd.{plan-within}
 use Rattle.transcript.proofs.ReplyCases.{answer-short}
 use Rattle.transcript.proofs.InTables.{requests-back, answers-length, kinds-answered, lines-stored}
 use Rattle.dispatch.proofs.TextLaws.{text-answers}
-use Rattle.dispatch.specs.Transcribing.{readingIn, readingOf, callsOn, requestLimit, RequestRoom, outputLimit, OutputFits, Transcribed}
+use Rattle.dispatch.specs.Transcribing.{zeroTables, readingIn, readingOf, callsOn, requestLimit, RequestRoom, outputLimit, OutputFits, Transcribed, PlanInFirst}
 
 -- ---- how many requests, how long the lines
 
@@ -201,29 +204,78 @@ output-fits reading input = go (ltb inputLimit (length input)) refl
     go true e = omega (arith, plan-short 1)
     go false e = after-fits reading input (reading (take (planEnd input) input)) (ltb-false inputLimit (length input) e)
 
--- the first bytes of a buffer that has one more than the limit
-module _ (input : List ℕ) (count : ℕ) (before after : List ℕ) (next : ℕ) (size : length input ≡ inputLimit + 1) (room : outputLimit ≤ length before) where
-  pub transcribed : Put before 0 (outputOf readingOf (take count input)) after next → Transcribed input count before after next
-  transcribed p =
-      let n : next ≡ length (outputOf readingOf (take count input)) = omega (arith, p .next-is) in
-      let whole : after ≡ outputOf readingOf (take count input) ++ drop next before
-      = p .written ∙ sets-eq (outputOf readingOf (take count input)) before 0 (omega (arith, output-fits readingOf (take count input))) ∙ rw (zero-add, n) refl in
+-- ---- two buffers
+
+-- what was read into both, joined in one
+module _ (first : List ℕ) (count : ℕ) (second : List ℕ) (more : ℕ) (whole : List ℕ) (n : ℕ) (j : BuffersJoined first count second more whole n) where
+  abbrev input : List ℕ
+  input = readInto first count second more
+
+  pub two-within : n ≤ length whole
+  two-within = omega (arith, j .many, ap length (j .bytes-are), length-take n whole)
+
+  pub two-taken : n ≡ length (take n whole)
+  two-taken = j .many ∙ ap length (sym (j .bytes-are))
+
+  pub two-joined : (before after : List ℕ) (next : ℕ) → outputLimit ≤ length before → Put before 0 (outputOf readingOf (take n whole)) after next → Transcribed first count second more before after next
+  two-joined before after next room p =
+      let q : Put before 0 (outputOf readingOf input) after next = subst (λ (x : List ℕ). Put before 0 (outputOf readingOf x) after next) (j .bytes-are) p in
+      let m : next ≡ length (outputOf readingOf input) = omega (arith, q .next-is) in
+      let all : after ≡ outputOf readingOf input ++ drop next before
+      = q .written ∙ sets-eq (outputOf readingOf input) before 0 (omega (arith, output-fits readingOf input)) ∙ rw (zero-add, m) refl in
       record {
-        length-is = n;
-        fits = omega (arith, n, output-fits readingOf (take count input));
-        whole = whole;
-        longer = λ h. whole ∙ ap (λ (l : List ℕ). l ++ drop next before) (output-long readingOf (take count input) (omega (arith, length-take count input)));
+        length-is = m;
+        fits = omega (arith, m, output-fits readingOf input);
+        whole = all;
+        longer = λ a b. all ∙ ap (λ (l : List ℕ). l ++ drop next before) (output-long readingOf input (omega (arith, j .longer a b, j .many)));
       }
 
-  -- all of it
-  pub transcribed-all : inputLimit < count → Put before 0 (outputOf readingOf input) after next → Transcribed input count before after next
-  transcribed-all h p = transcribed (rw (take-all count input (omega arith)) p)
+pub filled-full : (x : ℕ) (L : Limits) → fullSize L (filled x L) ≡ true
+filled-full x L =
+    let names = length-replicate {A = ℕ} (L .drones * L .name) x in
+    let drones = length-replicate {A = ℕ} (L .drones) x in
+    let stops = length-replicate {A = ℕ} (L .stops) x in
+    let dependencies = length-replicate {A = ℕ} (L .dependencies) x in
+    sizes-full L (filled x L) (record {
+      drone-count = omega (arith, length-replicate {A = ℕ} 1 x);
+      dependency-count = omega (arith, length-replicate {A = ℕ} 1 x);
+      names = omega (arith, names);
+      stop-counts = omega (arith, drones);
+      locations = omega (arith, stops);
+      times = omega (arith, stops);
+      first-drones = omega (arith, dependencies);
+      first-stops = omega (arith, dependencies);
+      second-drones = omega (arith, dependencies);
+      second-stops = omega (arith, dependencies);
+      visited = omega (arith, drones);
+      drone-flags = omega (arith, drones);
+      flags = omega (arith, dependencies);
+    })
+
+too-long : (L : Limits) (text : List ℕ) → L .text < length text → readingNumber (readPlan L text (zeroTables L) .reply) ≡ 1
+unfolding readPlan zeroTables
+too-long L text h = rw (filled-full 0 L, lt-ltb (L .text) (length text) h) refl
+
+beyond-first : (L : Limits) (input : List ℕ) → L .text < planEnd input → outputOf (readingIn L (zeroTables L)) input ≡ planNumberLine 1
+beyond-first L input h =
+    let reading : List ℕ → PlanReading = readingIn L (zeroTables L) in
+    by-cases (ltb inputLimit (length input))
+    (λ e. output-long reading input (ltb-true inputLimit (length input) e))
+    (λ e.
+    let text : List ℕ = take (planEnd input) input in
+    let one : reading text .number ≡ 1 = too-long L text (omega (arith, h, length-take (planEnd input) input, plan-within input)) in
+    output-read reading input (ltb-false inputLimit (length input) e)
+    ∙ ap (λ (k : ℕ). planNumberLine k ++ cond (eqb k 0) (callsOutput (reading text .plan) (requestsAt input (planEnd input))) []) one
+    ∙ append-nil (planNumberLine 1))
+
+pub plan-in-first : PlanInFirst
+plan-in-first = record { beyond = beyond-first; within = λ L first second e h. take-append-le (planEnd (first ++ second)) first second (omega arith) }
 
 -- what was written lies in the buffer
-module _ (input : List ℕ) (count : ℕ) (before after : List ℕ) (next : ℕ) (t : Transcribed input count before after next) where
+module _ (first : List ℕ) (count : ℕ) (second : List ℕ) (more : ℕ) (before after : List ℕ) (next : ℕ) (t : Transcribed first count second more before after next) where
   pub written-within : next ≤ length after
   written-within =
-      let text : List ℕ = outputOf readingOf (take count input) in
+      let text : List ℕ = outputOf readingOf (readInto first count second more) in
       omega (arith, t .length-is, ap length (t .whole), length-append text (drop next before))
 
   pub written-taken : next ≡ length (take next after)

@@ -17,7 +17,7 @@ use Rattle.reading.specs.Reading.{ReadingAnswer, readPlan}
 use Rattle.accepted.specs.TextPlan.{textPlan}
 use Rattle.accepted.specs.Examples.{textQ, textP}
 
--- limits that hold the flights, so that full tables can be computed with
+-- limits that hold the flights, so that full tables can be computed with; the product's are raised from them, so the flights hold there as well
 abbrev pub tight : Limits
 tight = record { text = 200; drones = 2; stops = 8; dependencies = 2; name = limits .name; location = limits .location; time = limits .time }
 
@@ -38,15 +38,16 @@ flightText s o = record { text = s; outcome = o }
 abbrev pub stop : ℕ → ℕ → StopAt
 stop d k = record { drone = d; stop = k }
 
--- the text is taken with so many dependencies, and the lines hold from the tables that the reading left; or it is refused by 10 with these two stops
-abbrev pub HasOutcome : String → ReadingAnswer → Outcome → Type 0
-HasOutcome s a (taken n ls) = (a .reply ≡ planTaken) × (dependencies (a .tables .plan) ≡ n) × (follow tight (textPlan tight (bytes s)) (a .tables) [] ls ≡ true)
-HasOutcome s a (collides d i e k) = a .reply ≡ refusedStops 10 (stop d i) (stop e k)
+module _ (L : Limits) where
+  -- the text is taken with so many dependencies, and the lines hold from the tables that the reading left; or it is refused by 10 with these two stops
+  abbrev pub HasOutcome : String → ReadingAnswer → Outcome → Type 0
+  HasOutcome s a (taken n ls) = (a .reply ≡ planTaken) × (dependencies (a .tables .plan) ≡ n) × (follow L (textPlan L (bytes s)) (a .tables) [] ls ≡ true)
+  HasOutcome s a (collides d i e k) = a .reply ≡ refusedStops 10 (stop d i) (stop e k)
 
--- each text is read into tables of full size that held something else before
-abbrev pub AllHave : List TextFlight → Type 0
-AllHave [] = Unit {0}
-AllHave (f ∷ fs) = HasOutcome (f .text) (readPlan tight (bytes (f .text)) (filled 7 tight)) (f .outcome) × AllHave fs
+  -- each text is read into tables of full size that held something else before
+  abbrev pub AllHave : List TextFlight → Type 0
+  AllHave [] = Unit {0}
+  AllHave (f ∷ fs) = HasOutcome (f .text) (readPlan L (bytes (f .text)) (filled 7 L)) (f .outcome) × AllHave fs
 
 -- ---- the table
 
@@ -74,4 +75,8 @@ starredTexts =
 
 -- the claim: "The starred flights, gathered in a table, are proved by one claim"
 abbrev pub StarredFlights : Type 0
-StarredFlights = AllHave starredTexts
+StarredFlights = AllHave tight starredTexts
+
+-- .. and at the product's limits
+abbrev pub StarredAtLimits : Type 0
+StarredAtLimits = AllHave limits starredTexts

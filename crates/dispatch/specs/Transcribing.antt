@@ -1,16 +1,17 @@
 -- The whole way from the input of the program `field` to its output (document 01, "The program `field`"). Assumes nothing.
-use Prim.Native.Nat.{ℕ, _≤_, _<_}
+use Prim.Native.Nat.{ℕ, _+_, _*_, _/_, _≤_, _<_}
 use mathlib.Core.Path.{_≡_}
+use mathlib.Core.Bool.{true}
 use mathlib.Core.List.{List, _++_}
 use lib.ListN.{length, take, drop}
 use Rattle.below.specs.Below.{at}
 use Rattle.tables.specs.Limits.{Limits, limits}
-use Rattle.tables.specs.Tables.{Tables}
+use Rattle.tables.specs.Tables.{Tables, fullSize}
 use Rattle.tables.specs.Zero.{filled}
 use Rattle.log.specs.Demand.{Found}
 use Rattle.reading.specs.Replies.{ReadingReply, taken as Taken, readingNumber}
 use Rattle.reading.specs.Reading.{readPlan}
-use Rattle.transcript.specs.Input.{inputLimit, Request, RequestList}
+use Rattle.transcript.specs.Input.{inputLimit, readInto, Request, RequestList, planEnd}
 use Rattle.transcript.specs.Output.{PlanReading, planNumberLine, answerLines, endingLine, outputOf}
 use Rattle.transcript.specs.Run.{answersOn, Made}
 use Rattle.accepted.specs.TextPlan.{textPlan}
@@ -43,15 +44,20 @@ module _ (L : Limits) where
   abbrev pub callsOn : Tables → RequestList → List ℕ
   callsOn t r = answerLines (answersOn L t (r .requests)) ++ endingLine (r .ending)
 
+-- "Every plan text taken until now reads as before": a text that lower limits take is answered, request by request, as before
+abbrev pub AnswersAsBefore : Limits → Limits → Type 0
+AnswersAsBefore L L′ =
+    (text : List ℕ) (t t′ : Tables) → fullSize L′ t′ ≡ true → readPlan L text t .reply ≡ Taken → (qs : List Request) → answersOn L′ (readPlan L′ text t′ .tables) qs ≡ answersOn L (readPlan L text t .tables) qs
+
 -- the program's reading
 abbrev pub readingOf : List ℕ → PlanReading
 readingOf text = readingIn limits (zeroTables limits) text
 
 -- ---- room
 
--- a call line has seven bytes at least, and the input 65,536 at most
+-- a call line has seven bytes at least
 abbrev pub requestLimit : ℕ
-requestLimit = 9363
+requestLimit = inputLimit / 7 + 1
 
 -- what the tables of requests and answers must hold
 pub record RequestRoom (kinds numbers replies details : List ℕ) : Type 0 where
@@ -62,7 +68,7 @@ pub record RequestRoom (kinds numbers replies details : List ℕ) : Type 0 where
 
 -- a line of the output has 23 bytes at most
 abbrev pub outputLimit : ℕ
-outputLimit = 262144
+outputLimit = 4 * inputLimit
 
 -- a buffer of this size holds the output of every input
 abbrev pub OutputFits : Type 0
@@ -70,10 +76,17 @@ OutputFits = (reading : List ℕ → PlanReading) (input : List ℕ) → length 
 
 -- ---- the output
 
--- the buffer holds the whole output of the first `count` bytes of `input`, by the log alone; its other bytes are as they were. "(more prints `plan=1` alone)": more than
--- the limit were read, and the buffer holds one of them
-pub record Transcribed (input : List ℕ) (count : ℕ) (before after : List ℕ) (next : ℕ) : Type 0 where
-  pub length-is : next ≡ length (outputOf readingOf (take count input))
+-- the buffer `after` holds the whole output of the input, by the log alone; its other bytes are as they were
+pub record Transcribed (first : List ℕ) (count : ℕ) (second : List ℕ) (more : ℕ) (before after : List ℕ) (next : ℕ) : Type 0 where
+  pub length-is : next ≡ length (outputOf readingOf (readInto first count second more))
   pub fits : next ≤ outputLimit
-  pub whole : after ≡ outputOf readingOf (take count input) ++ drop next before
-  pub longer : inputLimit < count → after ≡ planNumberLine 1 ++ drop next before
+  pub whole : after ≡ outputOf readingOf (readInto first count second more) ++ drop next before
+  -- "(more prints `plan=1` alone)": both buffers were filled, and the second holds one byte past the limit
+  pub longer : limits .text ≤ count → limits .text < more → after ≡ planNumberLine 1 ++ drop next before
+
+-- the first buffer has as many bytes as a plan text may have, so the reader sees no other
+pub record PlanInFirst : Type 0 where
+  -- a plan whose line `end=plan` ends past it is too long by itself
+  pub beyond : (L : Limits) (input : List ℕ) → L .text < planEnd input → outputOf (readingIn L (zeroTables L)) input ≡ planNumberLine 1
+  -- any other is the first buffer's alone
+  pub within : (L : Limits) (first second : List ℕ) → length first ≡ L .text → planEnd (first ++ second) ≤ L .text → take (planEnd (first ++ second)) (first ++ second) ≡ take (planEnd (first ++ second)) first

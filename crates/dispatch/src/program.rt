@@ -2,6 +2,7 @@
 use crate::answers;
 use crate::requests;
 use reading::replies::Reading;
+use transcript::buffers;
 use transcript::replies;
 use transcript::requests as input_requests;
 ghost use mathlib.Core.Path.{_≡_};
@@ -12,14 +13,14 @@ ghost use Rattle.reading.specs.Reading.{readPlan};
 ghost use Rattle.transcript.specs.Output.{outputOf};
 ghost use Rattle.dispatch.specs.Transcribing.{zeroTables, readingOf, RequestRoom, Transcribed};
 
-// The input has so many bytes at most.
-pub const INPUT: usize = 65536;
+// The input comes in two buffers of so many bytes; the second has one more.
+pub const BUFFER: usize = buffers::BUFFER;
 
 // A call line has seven bytes at least, so there are no more requests.
-const REQUESTS: usize = 9363;
+const REQUESTS: usize = buffers::INPUT / 7 + 1;
 
-// A buffer of so many bytes holds every output.
-pub const OUTPUT: usize = 262144;
+// A buffer of so many bytes holds every output: a call line of seven bytes or more is answered by 23 at most.
+pub const OUTPUT: usize = 4 * buffers::INPUT;
 
 // Reads the call lines, runs the plan with them, and writes the answers.
 fn play(
@@ -33,7 +34,7 @@ fn play(
     requires { ⌜ RequestRoom (now kinds) (now numbers) (now replies) (now details) ⌝ }
     ensures { λ r. ⌜ Put (now (output .entry)) 0 (outputOf readingOf (now (input .entry))) (now (output .exit)) r ⌝ }
 {
-    if INPUT < input.len() {
+    if buffers::INPUT < input.len() {
         return replies::put_plan(output, 0, 1);
     }
     let end = input_requests::plan_end(input);
@@ -69,15 +70,20 @@ fn transcribe(input: &[u8], output: &mut [u8]) -> usize
     )
 }
 
-// The output for the bytes that were read, as many as `count` says: a buffer that was filled shows a longer input by its last byte, and no shorter one is of this type.
-pub fn transcript(input: &[u8; INPUT + 1], count: usize, output: &mut [u8; OUTPUT]) -> usize
-    ensures { λ r. ⌜ Transcribed (now (input .entry)) count (now (output .entry)) (now (output .exit)) r ⌝ }
+// The output for the bytes that were read into two buffers, as many as `count` and `more` say. Buffers that were filled show a longer input by the last byte, and no shorter ones
+// are of these types.
+pub fn transcript(
+    first: &[u8; BUFFER],
+    count: usize,
+    second: &[u8; BUFFER + 1],
+    more: usize,
+    output: &mut [u8; OUTPUT],
+) -> usize
+    ensures { λ r. ⌜ Transcribed (now (first .entry)) count (now (second .entry)) more (now (output .entry)) (now (output .exit)) r ⌝ }
 {
-    let bytes: &[u8] = input;
-    if INPUT < count {
-        return transcribe(bytes, output);
-    }
-    transcribe(&bytes[..count], output)
+    let mut input = [0u8; buffers::INPUT + 1];
+    let end = buffers::join(first, count, second, more, &mut input);
+    transcribe(&input[..end], output)
 }
 
 // What reading a plan text answers, on tables of its own.

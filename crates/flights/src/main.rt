@@ -1,5 +1,6 @@
 // Runs the flights of document 01 that are not in the proved set, names with capitals (document 02, point 5), and five readings of our own. Each plan text is read; printed are the number of the
-// answer and, of a refusal by the text, the byte offset of the line at fault.
+// answer and, of a refusal by the text, the byte offset of the line at fault. Then inputs of `field` that go past its first buffer (point 12).
+mod buffers;
 mod texts;
 
 use dispatch::program;
@@ -44,10 +45,12 @@ fn print_reading(title: &[u8], text: &[u8]) {
 }
 
 fn main() {
-    // "Flights to try"
+    // "Flights to try", and point 12's "64 drones are taken, 65 give 4": 33 are taken now
     print_reading(&texts::EMPTY_TITLE, &texts::EMPTY);
     print_reading(&texts::DRONES_32_TITLE, &texts::DRONES_32);
     print_reading(&texts::DRONES_33_TITLE, &texts::DRONES_33);
+    print_reading(&texts::DRONES_64_TITLE, &texts::DRONES_64);
+    print_reading(&texts::DRONES_65_TITLE, &texts::DRONES_65);
     print_reading(&texts::NAME_24_TITLE, &texts::NAME_24);
     print_reading(&texts::NAME_25_TITLE, &texts::NAME_25);
     print_reading(&texts::LOCATION_OVER_TITLE, &texts::LOCATION_OVER);
@@ -62,6 +65,8 @@ fn main() {
     print_reading(&texts::LOCATION_TOP_TITLE, &texts::LOCATION_TOP);
     print_reading(&texts::TIME_OVER_TITLE, &texts::TIME_OVER);
     print_reading(&texts::EIGHTEENTH_TITLE, &texts::EIGHTEENTH);
-    let long = [b'a'; 32769];
+    let long = [b'a'; 65537];
     print_reading(&texts::LONG_TITLE, &long);
+    // of `field`
+    buffers::print_all();
 }

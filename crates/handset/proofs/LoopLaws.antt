@@ -34,14 +34,14 @@ use Rattle.handset.proofs.Grants.{asked-below}
 -- ---- the parts of the reply
 
 -- "built by shifts": nothing is shifted out
-pub shifted : (d : ℕ) → d < 32 → (1 * 2 ^ d) % 2 ^ 32 ≡ 2 ^ d
-shifted d l = shl-exact 1 d 32 (omega arith) (omega arith) ∙ omega arith
+pub shifted : (d : ℕ) → d < 64 → (1 * 2 ^ d) % 2 ^ 64 ≡ 2 ^ d
+shifted d l = shl-exact 1 d 64 (omega arith) (omega arith) ∙ omega arith
 
 -- and the sum fits
-pub bit-fits : (b d : ℕ) → d < 32 → b < 2 ^ d → b + 2 ^ d < 2 ^ 32
-bit-fits b d l h = omega (arith, power-suc d, pow-mono {i = suc d} {j = 32} l)
+pub bit-fits : (b d : ℕ) → d < 64 → b < 2 ^ d → b + 2 ^ d < 2 ^ 64
+bit-fits b d l h = omega (arith, power-suc d, pow-mono {i = suc d} {j = 64} l)
 
-pub bit-yes : (b d : ℕ) (r : Reply) (g : Bool) → d < 32 → g ≡ isAccepted r → g ≡ true → b + (1 * 2 ^ d) % 2 ^ 32 ≡ b + pick (isAccepted r) (2 ^ d) 0
+pub bit-yes : (b d : ℕ) (r : Reply) (g : Bool) → d < 64 → g ≡ isAccepted r → g ≡ true → b + (1 * 2 ^ d) % 2 ^ 64 ≡ b + pick (isAccepted r) (2 ^ d) 0
 bit-yes b d r g l e h = rw (sym e ∙ h, shifted d l) refl
 
 pub bit-no : (b d : ℕ) (r : Reply) (g : Bool) → g ≡ isAccepted r → g ≡ false → b ≡ b + pick (isAccepted r) (2 ^ d) 0

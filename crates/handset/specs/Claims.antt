@@ -109,7 +109,7 @@ module _ (L : Limits) (t : Tables) (report : Report) where
   -- ---- an accepted press
 
   pub record AcceptedPress (bits : ℕ) : Type 0 where
-    -- "a 32-bit number"
+    -- "The handset's number grows to 64 bits", as many as there are drones at most
     pub fits : bits < 2 ^ L .drones
     -- "one bit for each newly granted drone": those under way now that were not before the press, and the one that arrived in it, if it goes on at once
     pub newly : (d : ℕ) → bitSet bits d ≡ (not (statusIn t .underWay d) || isReportOf report d) && statusIn (after .tables) .underWay d

@@ -25,7 +25,7 @@ abbrev pub reportedDrone : Report → ℕ
 reportedDrone Nothing = 0
 reportedDrone (Arrived d) = d
 
--- "a 32-bit number in which bit 0 stands for drone 0 and so on, one bit for each newly granted drone", or a refusal by its number
+-- "The handset's number grows to 64 bits", "in which bit 0 stands for drone 0 and so on, one bit for each newly granted drone", or a refusal by its number
 pub data PressOutcome : Type 0 where
   granted : ℕ → PressOutcome
   pressRefused : ℕ → PressOutcome

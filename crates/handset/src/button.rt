@@ -33,7 +33,7 @@ pub fn grant_all(
         (now (dependencies .entry)))
         ⌝ }
 {
-    let mut bits: u32 = 0;
+    let mut bits: u64 = 0;
     let mut unusable_by: u8 = 0;
     let mut drone: usize = 0;
     while drone < Drone::FULL {

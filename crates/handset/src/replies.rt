@@ -19,7 +19,7 @@ pub enum Report {
 
 // The number has bit d set when drone d was newly granted.
 pub enum PressReply {
-    Granted(u32),
+    Granted(u64),
     TablesTooSmall,
     NotSound,
     NoDrone,
@@ -101,12 +101,12 @@ fn is_granted(reply: GrantReply) -> bool
 }
 
 // The number so far, with the drone's bit if this grant was accepted: bits of lower drones only stand in it before.
-pub fn with_bit(bits: u32, drone: usize, reply: GrantReply) -> u32
+pub fn with_bit(bits: u64, drone: usize, reply: GrantReply) -> u64
     requires { ⌜ (drone < limits .drones) × (bits < 2 ^ drone) ⌝ }
     ensures { λ r. ⌜ r ≡ bits + pick (isAccepted (grantMeant reply)) (2 ^ drone) 0 ⌝ }
 {
     if is_granted(reply) {
-        return bits + (1u32 << drone);
+        return bits + (1u64 << drone);
     }
     bits
 }
@@ -141,7 +141,7 @@ pub fn next_asked(next: usize, reply: GrantReply) -> usize
     }
 }
 
-pub fn reply_with(unusable_by: u8, bits: u32) -> PressReply
+pub fn reply_with(unusable_by: u8, bits: u64) -> PressReply
     ensures { λ r. ⌜ pressMeant r ≡ replyWith «unusable_by» bits ⌝ }
 {
     if unusable_by == 41 {

@@ -15,11 +15,11 @@ const LINE_FEED: [u8; 1] = *b"\n";
 
 const PRESSES: usize = 10;
 
-fn show_press(number: usize, bits: u32) {
+fn show_press(number: usize, bits: u64) {
     io::write_all(STDOUT_FILENO, &PRESS);
     io::print_decimal(STDOUT_FILENO, number as u64);
     io::write_all(STDOUT_FILENO, &COLON);
-    io::print_decimal(STDOUT_FILENO, bits as u64);
+    io::print_decimal(STDOUT_FILENO, bits);
     io::write_all(STDOUT_FILENO, &LINE_FEED);
 }
 

@@ -161,7 +161,7 @@ module _ (L : Limits) (t : Tables) where
 abbrev pub CostBounded : Type 0
 CostBounded = (L : Limits) (t : Tables) (n : ℕ) → 2 * L .drones ≤ L .stops → costReply L t ≡ costs n → n ≤ L .drones * (L .stops - L .drones)
 
--- "at most 31,744"
+-- "Cost is at most 126,976"
 abbrev pub CostLimit : Type 0
 CostLimit = (t : Tables) (n : ℕ) → costReply limits t ≡ costs n → n ≤ mostCost
 

@@ -65,7 +65,7 @@ pub record PreviewClaims : Type 0 where
   pub preview-done : (L : Limits) (t : Tables) (w : ℕ) → DoneAs L t (preview L t w) (turnStep L t w)
   -- no greater than the greatest cost, either way
   pub preview-bounded : (L : Limits) (t : Tables) (w : ℕ) → 2 * L .drones ≤ L .stops → ChangeWithin (L .drones * (L .stops - L .drones)) (preview L t w)
-  -- "a signed number from -31,744 to 31,744"
+  -- "a signed number", "Cost is at most 126,976, and the preview goes as far either way"
   pub preview-limit : (t : Tables) (w : ℕ) → ChangeWithin mostCost (preview limits t w)
   pub previewAll-refused : (L : Limits) (t : Tables) (ws : List ℕ) → RefusedAs (previewAll L t ws) (turnAllStep L t ws)
   pub previewAll-done : (L : Limits) (t : Tables) (ws : List ℕ) → DoneAs L t (previewAll L t ws) (turnAllStep L t ws)

@@ -16,7 +16,7 @@ use Rattle.below.proofs.Fill.{length-fill, getD-fill, getD-unfilled, fill-at, f
 use Rattle.below.proofs.Gaps.{over-gap}
 use Rattle.tables.specs.Limits.{limits}
 use Rattle.plan.specs.Visits.{Visits, visitsWith}
-use Rattle.plan.specs.Sharing.{roots, rootOf, branch, firstAt, Leads, here, onward, Node, Trees, nextAt, Groups}
+use Rattle.plan.specs.Sharing.{roots, slots, rootOf, branch, firstAt, Leads, here, onward, Node, Trees, nextAt, Groups}
 
 -- only the same locations meet, so no stop is left out where the stops of one location are gone through
 pub record Elsewhere (S : Visits) : Type 0 where
@@ -90,7 +90,7 @@ module _ (loc : ℕ → ℕ) where
     pub ahead : firstAt loc w < w → Leads loc links (loc w) slot digits (firstAt loc w)
     pub back : (links′ : List ℕ) → ((t : ℕ) → at links t ≢ 0 → at links′ t ≡ at links t) → Leads loc links′ (loc w) slot digits w → Leads loc links′ (loc w) (rootOf (loc w)) (loc w / roots) w
 
-  pub trees-none : (links : List ℕ) → length links ≡ 3072 → ((t : ℕ) → at links t ≡ 0) → Trees loc 0 links
+  pub trees-none : (links : List ℕ) → length links ≡ slots → ((t : ℕ) → at links t ≡ 0) → Trees loc 0 links
   trees-none links a z = record { size = a; node = λ t x e. absurd (omega (arith, e, z t)); leads = λ u l f. absurd (omega arith) }
 
   -- stop w is not the first at its location

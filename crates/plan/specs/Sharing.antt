@@ -17,8 +17,8 @@ roots = limits .stops
 abbrev pub slots : ℕ
 slots = roots + 2 * limits .stops
 
--- the tree of a location: any function would do. This one keeps locations in a row apart, and those that lie a power of two apart; the 64 locations of a tree differ in
--- `l / roots`, so no way from its root is longer than seven stops
+-- the tree of a location: any function would do. This one keeps locations in a row apart, and those that lie a power of two apart; the 32 locations of a tree differ in
+-- `l / roots`, so no way from its root is longer than six stops
 unfoldable pub rootOf : ℕ → ℕ
 rootOf l = (l + l / roots * 17) % roots
 

@@ -42,7 +42,7 @@ pub fn press_each(
         ⌝ }
 {
     let mut number: usize = 0;
-    let mut bits: u32 = 0;
+    let mut bits: u64 = 0;
     let mut i: usize = 0;
     while i < count {
         let reply = button::press(

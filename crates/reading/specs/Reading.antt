@@ -98,7 +98,7 @@ module _ (L : Limits) where
   unfoldable pub readLines : List ℕ → Tables → ReadingAnswer
   readLines text z = fromLines z (linesAt L text) (linesAt L text .answer)
 
-  -- "every entry, first: 41 a lent table is below full size: unchanged"; "reading, before any line: 1 text too long: unchanged", "Refusals 1 to 6 carry a byte offset: 32,768 for 1"
+  -- "every entry, first: 41 a lent table is below full size: unchanged"; "reading, before any line: 1 text too long: unchanged", "Refusals 1 to 6 carry a byte offset", "1 now carries 65,536"
   unfoldable pub readPlan : List ℕ → Tables → ReadingAnswer
   readPlan text t =
       cond (fullSize L t)

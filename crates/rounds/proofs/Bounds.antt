@@ -30,7 +30,7 @@ product-rises d e s h k =
     let b : s - e ≡ d + y = omega arith in
     rw (a, b, mul-add d e, mul-add e d, mul-comm d e) (omega (arith, mul-le-mul-right y h))
 
--- "Remaining cost is their sum, at most 31,744", which is 32 times 992
+-- "Cost is at most 126,976", which is 64 times 1,984
 pub cost-limit : (L : Limits) (n : ℕ) (P : Plan) → Formed P → (Cycle P → ⊥) → (p : ℕ → ℕ) → unvisited P p + P .drones ≤ n → n ≤ L .stops → P .drones ≤ L .drones → L .drones + L .drones ≤ L .stops → cost P p ≤ L .drones * (L .stops - L .drones)
 cost-limit L n P formed acyclic p bound few-stops few-drones wide =
     le-trans (cost-bound P formed acyclic p) (le-trans (mul-le-mul-left (P .drones) (let h : unvisited P p ≤ L .stops - P .drones = omega arith in h)) (product-rises (P .drones) (L .drones) (L .stops) few-drones wide))

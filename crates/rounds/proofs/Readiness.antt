@@ -33,7 +33,7 @@ module _ {L : Limits} (owners starts lasts : List ℕ) (drones n : ℕ) (from in
   pub ready-rounds : makespan P (at visited) ≤ L .stops
   ready-rounds = omega (arith, makespan-bound P ready-formed ready-acyclic (at visited), ready-unvisited)
 
-  -- "at most 31,744"
+  -- "Cost is at most 126,976"
   pub ready-cost : L .drones + L .drones ≤ L .stops → cost P (at visited) ≤ L .drones * (L .stops - L .drones)
   ready-cost = cost-limit L n P ready-formed ready-acyclic (at visited) (unvisited-bound (at owners) (at starts) (at lasts) drones n (at from) (at into) m (ready .tables .placed .shape) (at visited)) (ready .tables .few-stops) (ready .tables .few-drones)
 

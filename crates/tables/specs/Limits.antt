@@ -1,14 +1,15 @@
--- The limits of document 01's table of ranges ("Plan text"), as a record that definitions and laws take as a parameter. Assumes nothing.
-use Prim.Native.Nat.{ℕ}
+-- The limits of document 01's table of ranges ("Plan text"), as request 12 raised them, as a record that definitions and laws take as a parameter. Assumes nothing.
+use mathlib.Core.Path.{_≡_}
+use Prim.Native.Nat.{ℕ, _≤_}
 
 pub record Limits : Type 0 where
-  -- "text: at most 32,768 bytes"
+  -- "text to 65,536 bytes"
   pub text : ℕ
-  -- "drones N: 1 to 32"
+  -- "Raise drones to 64"
   pub drones : ℕ
-  -- "stops M of one drone: 1 to 1,024", "stops of all drones: at most 1,024": the limit is one
+  -- "stops of all and of one drone to 2,048": the limit is one
   pub stops : ℕ
-  -- "dependencies: at most 2,048"
+  -- "dependencies to 4,096"
   pub dependencies : ℕ
   -- "name: 1 to 24 bytes": also the width of a row of the table of names
   pub name : ℕ
@@ -19,8 +20,22 @@ pub record Limits : Type 0 where
 
 -- the product's limits
 abbrev pub limits : Limits
-limits = record { text = 32768; drones = 32; stops = 1024; dependencies = 2048; name = 24; location = 65535; time = 1000000 }
+limits = record { text = 65536; drones = 64; stops = 2048; dependencies = 4096; name = 24; location = 65535; time = 1000000 }
 
--- the greatest remaining cost within them: "at most 31,744"
+-- the greatest remaining cost within them: "Cost is at most 126,976"
 abbrev pub mostCost : ℕ
-mostCost = 31744
+mostCost = 126976
+
+-- "the old limits", which document 01 has: of boards that were made before
+abbrev pub olderLimits : Limits
+olderLimits = record { text = 32768; drones = 32; stops = 1024; dependencies = 2048; name = 24; location = 65535; time = 1000000 }
+
+-- "Raise drones .., stops of all and of one drone .., dependencies .. and text ..": the ranges of a name, a location and a time stay
+pub record Raised (L L′ : Limits) : Type 0 where
+  pub text : L .text ≤ L′ .text
+  pub drones : L .drones ≤ L′ .drones
+  pub stops : L .stops ≤ L′ .stops
+  pub dependencies : L .dependencies ≤ L′ .dependencies
+  pub name : L .name ≡ L′ .name
+  pub location : L .location ≡ L′ .location
+  pub time : L .time ≡ L′ .time

@@ -29,7 +29,7 @@ pub struct Dependency {
 }
 
 // The bytes of a plan's text: it is no table of entries, so no type carries its limit.
-pub const MAX_TEXT: usize = 32768;
+pub const MAX_TEXT: usize = 65536;
 
 pub fn text_limit() -> usize
     ensures { λ r. ⌜ r ≡ limits .text ⌝ }
@@ -39,7 +39,7 @@ pub fn text_limit() -> usize
 
 impl Stop {
     // The stops of all drones.
-    pub const FULL: usize = 1024;
+    pub const FULL: usize = 2048;
 
     pub const MAX_LOCATION: usize = 65535;
 
@@ -74,7 +74,7 @@ impl Stop {
 }
 
 impl Drone {
-    pub const FULL: usize = 32;
+    pub const FULL: usize = 64;
     // The number of drones stands alone in its table.
     pub const COUNT: usize = 1;
     // The bytes of a name, which are those of its row in the table of names.
@@ -115,7 +115,7 @@ impl Drone {
 }
 
 impl Dependency {
-    pub const FULL: usize = 2048;
+    pub const FULL: usize = 4096;
     // The number of dependencies stands alone in its table.
     pub const COUNT: usize = 1;
     // The masks of the flag byte's bits 0 and 1, and of the others.

@@ -19,3 +19,4 @@ pub mod WriteLoop
 pub mod WriteWhole
 pub mod Sizes
 pub mod ReadIsWritten
+pub mod OverLimits

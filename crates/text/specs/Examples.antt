@@ -50,10 +50,10 @@ linesExamples =
     -- a capital, and a key without its `=`
     ∷ record { text = "Plan=1\n"; refusal = 2; value = 0 }
     ∷ record { text = "plan=1\nagents2\n"; refusal = 2; value = 7 }
-    -- "33 give 4"
-    ∷ record { text = "plan=1\nagents=33\n"; refusal = 4; value = 7 }
+    -- "65 give 4"
+    ∷ record { text = "plan=1\nagents=65\n"; refusal = 4; value = 7 }
     -- a line that is absent, at the text's length
-    ∷ record { text = "plan=1\nagents=32\n"; refusal = 2; value = 17 }
+    ∷ record { text = "plan=1\nagents=64\n"; refusal = 2; value = 17 }
     -- "Name of 24 bytes taken, 25 gives 3."
     ∷ record { text = single "abcdefghijklmnopqrstuvwx" "0@0"; refusal = 0; value = 1 }
     ∷ record { text = single "abcdefghijklmnopqrstuvwxy" "0@0"; refusal = 3; value = 16 }
@@ -79,9 +79,9 @@ linesExamples =
     -- names that are equal but for capitals, the first's in three places, the second's in the eighteenth byte alone
     ∷ record { text = "plan=1\nagents=2\nname=Survey-Quad-East-1\nstops=1\ngo=1@0\nname=survey-quad-east-1\nstops=1\ngo=2@0\nend=plan\n"; refusal = 5; value = 55 }
     ∷ record { text = "plan=1\nagents=2\nname=survey-quad-east-a\nstops=1\ngo=1@0\nname=survey-quad-east-A\nstops=1\ngo=2@0\nend=plan\n"; refusal = 5; value = 55 }
-    -- "stops of all drones: at most 1,024"
-    ∷ record { text = "plan=1\nagents=2\nname=a\nstops=1\ngo=1@0\nname=b\nstops=1024\n"; refusal = 6; value = 45 }
-    ∷ record { text = "plan=1\nagents=2\nname=a\nstops=1025\n"; refusal = 4; value = 23 }
+    -- "stops of all and of one drone to 2,048"
+    ∷ record { text = "plan=1\nagents=2\nname=a\nstops=1\ngo=1@0\nname=b\nstops=2048\n"; refusal = 6; value = 45 }
+    ∷ record { text = "plan=1\nagents=2\nname=a\nstops=2049\n"; refusal = 4; value = 23 }
     ∷ []
 
 -- each text is read as the list has it; the keys are the bytes of their texts; a name of 24 capitals is written small

@@ -5,3 +5,4 @@ pub mod Written
 pub mod Claims
 pub mod Examples
 pub mod TextWritten
+pub mod OverLimits

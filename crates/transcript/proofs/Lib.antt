@@ -1,4 +1,5 @@
 pub mod PlanEnd
+pub mod BufferLaws
 pub mod CallCases
 pub mod RequestLoop
 pub mod ReplyCases

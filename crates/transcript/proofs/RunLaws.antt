@@ -41,29 +41,29 @@ module _ (L : Limits) (lists : PlanLists) (t : Tables) (read : AsRead L lists t)
   abbrev F : FieldPlan
   F = planOf lists
 
-  plan : AcceptedPlan F
+  pub plan : AcceptedPlan F
   plan = accepted-plan L lists (read .plan-accepted) (read .dependencies-own)
 
   -- the tables and the log after some calls
-  abbrev after : List Call → Tables
+  abbrev pub after : List Call → Tables
   after cs = tablesAfter (step L) t cs
 
   -- one call more
-  log-more : (cs : List Call) (c : Call) → logOf F (cs ++ (c ∷ [])) ≡ logOf F cs ++ (entryOf c (replyBy F (logOf F cs) c) ∷ [])
+  pub log-more : (cs : List Call) (c : Call) → logOf F (cs ++ (c ∷ [])) ≡ logOf F cs ++ (entryOf c (replyBy F (logOf F cs) c) ∷ [])
   unfolding logFrom
   log-more cs c = log-joins F cs (c ∷ []) []
 
-  after-more : (cs : List Call) (c : Call) → step L (after cs) c .tables ≡ after (cs ++ (c ∷ []))
+  pub after-more : (cs : List Call) (c : Call) → step L (after cs) c .tables ≡ after (cs ++ (c ∷ []))
   after-more cs c = tables-of L (ran-more (ran L cs t) (record { replied = refl; left = refl }))
 
-  same-reply : (cs : List Call) (c : Call) → step L (after cs) c .reply ≡ replyBy F (logOf F cs) c
+  pub same-reply : (cs : List Call) (c : Call) → step L (after cs) c .reply ≡ replyBy F (logOf F cs) c
   same-reply cs c =
       let now : recorded (step L) t cs ++ (entryOf c (step L (after cs) c .reply) ∷ []) ≡ recorded (step L) t (cs ++ (c ∷ [])) = replies-of L (ran-more (ran L cs t) (record { replied = refl; left = refl })) in
       let both = now ∙ demand3 L lists t (cs ++ (c ∷ [])) read .replies ∙ log-more cs c in
       ap (λ (e : Entry). e .reply) (last-same (logOf F cs) _ _ (rw (demand3 L lists t cs read .replies) at both))
 
   -- the cost is that of the log
-  same-cost : (cs : List Call) → costReply L (after cs) ≡ costs (costOf (graph F (statusBy (logOf F cs))) (statusBy (logOf F cs) .place))
+  pub same-cost : (cs : List Call) → costReply L (after cs) ≡ costs (costOf (graph F (statusBy (logOf F cs))) (statusBy (logOf F cs) .place))
   same-cost cs =
       let s : Shows F (logOf F cs) (after cs) = demand3 L lists t cs read .shown in
       let p : after cs .plan ≡ lists = stays-same L lists t read cs .plan-same ∙ read .plan-read in

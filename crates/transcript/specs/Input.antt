@@ -1,12 +1,13 @@
 -- The input of the program `field` (document 01, "The program `field`"): the plan's bytes, then the call lines. Each is a function of the input alone. Assumes nothing.
-use Prim.Native.Nat.{ℕ, zero, suc, _+_, _-_}
+use Prim.Native.Nat.{ℕ, zero, suc, _+_, _-_, _*_, _≤_, _<_}
 use mathlib.Core.Path.{_≡_}
-use mathlib.Core.List.{List, [], _∷_}
+use mathlib.Core.List.{List, [], _∷_, _++_}
 use mathlib.Core.Bool.{Bool, cond, _&&_, _||_}
 use lib.Dec.{leb, ltb, eqb}
-use lib.ListN.{length}
+use lib.ListN.{length, take}
 use lib.Seq.{sets}
 use Rattle.below.specs.Below.{firstBelow}
+use Rattle.tables.specs.Limits.{limits}
 use Rattle.lines.specs.Keys.{lineFeed, lastLine}
 use Rattle.lines.specs.Bytes.{byteAt, isAt}
 use Rattle.lines.specs.Numbers.{fieldAt}
@@ -19,9 +20,19 @@ use Rattle.transcript.specs.declared.requests.CallLine.the-variants.{Is,
 use Rattle.transcript.specs.declared.requests.Ending.{Ending}
 use Rattle.transcript.specs.declared.requests.Ending.the-variants.{Done, FormFault, RangeFault}
 
--- "It reads standard input, at most 65,536 bytes"
+-- "`field` reads 131,072 bytes in two buffers"
 abbrev pub inputLimit : ℕ
-inputLimit = 65536
+inputLimit = 2 * limits .text
+
+-- the input is the bytes that were read into both, one after the other
+abbrev pub readInto : (first : List ℕ) (count : ℕ) (second : List ℕ) (more : ℕ) → List ℕ
+readInto first count second more = take count first ++ take more second
+
+-- a buffer begins with the input, which has n bytes; two buffers that were filled held more than the limit
+pub record BuffersJoined (first : List ℕ) (count : ℕ) (second : List ℕ) (more : ℕ) (whole : List ℕ) (n : ℕ) : Type 0 where
+  pub many : n ≡ length (readInto first count second more)
+  pub bytes-are : take n whole ≡ readInto first count second more
+  pub longer : limits .text ≤ count → limits .text < more → inputLimit < n
 
 -- "D a drone and P a dependency, 0 to 65,535"
 abbrev pub numberLimit : ℕ

@@ -82,7 +82,7 @@ module _ (reading : List ℕ → PlanReading) where
   abbrev pub afterReading : List ℕ → PlanReading → List ℕ
   afterReading input r = planNumberLine (r .number) ++ cond (eqb (r .number) 0) (callsOutput (r .plan) (requestsAt input (planEnd input))) []
 
-  -- "at most 65,536 bytes (more prints `plan=1` alone)"
+  -- "`field` reads 131,072 bytes", "(more prints `plan=1` alone)"
   unfoldable pub outputOf : List ℕ → List ℕ
   outputOf input = cond (ltb inputLimit (length input)) (planNumberLine 1) (afterReading input (reading (take (planEnd input) input)))
 

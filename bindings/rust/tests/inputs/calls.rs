@@ -26,7 +26,7 @@ fn list(r: &mut Random, plan: &Plan) -> Vec<u16> {
         _ => (0..count).filter(pair).filter(|p| !plan.fixed(*p)).map(|p| p as u16).collect(),
     };
     if r.one_in(12) {
-        list.push(r.choice(&[0, count as u16, 2047, 2048, 65535]));
+        list.push(r.choice(&[0, count as u16, 2047, 2048, 4095, 4096, 65535]));
     }
     list
 }

@@ -70,7 +70,8 @@ pub fn plan(r: &mut Random) -> Plan {
         let routes = corridor(r);
         return plan_of(r, routes);
     }
-    let drones = if r.one_in(60) { 32 } else { r.choice(&[1, 2, 2, 3, 3, 4, 6, 12]) };
+    let many = r.between(34, 63);
+    let drones = if r.one_in(60) { r.choice(&[32, 33, many, 64]) } else { r.choice(&[1, 2, 2, 3, 3, 4, 6, 12]) };
     let (places, most) = (r.choice(&[3, 6, 10, 40]), r.choice(&[3, 6, 12]));
     let (mut routes, mut held) = (Vec::new(), Vec::new());
     for d in 0..drones {

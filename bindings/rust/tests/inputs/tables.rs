@@ -1,6 +1,6 @@
 //! Lent tables: longer and shorter than their full size, scrawled over, damaged in one entry.
 use super::Random;
-use crate::reckoning::{Tables, FULL};
+use crate::reckoning::{Tables, DRONES, FULL, NAME, STOPS};
 use conductor::Dependency;
 
 /// Lengths of tables: full, or some longer, with anything in the entries past the full size.
@@ -57,7 +57,8 @@ pub fn shortened(r: &mut Random, t: &mut Tables) {
 }
 
 fn other(r: &mut Random, value: u64, bits: u32) -> u64 {
-    let near = [0, 1, 2, value ^ 1, value ^ 2, value + 1, value.wrapping_sub(1), 1023, 1024, 1_000_001, r.next(), 1 << r.below(bits as usize)];
+    let near =
+        [0, 1, 2, value ^ 1, value ^ 2, value + 1, value.wrapping_sub(1), STOPS as u64 - 1, STOPS as u64, 1_000_001, r.next(), 1 << r.below(bits as usize)];
     r.choice(&near) & (u64::MAX >> (64 - bits))
 }
 
@@ -67,7 +68,7 @@ fn damage(r: &mut Random, t: &mut Tables, table: usize, entry: usize) {
             $field = other(r, u64::from($field), <$T>::BITS) as $T
         };
     }
-    let record = &mut t.dependencies[entry.min(2047)];
+    let record = &mut t.dependencies[entry.min(FULL[8] - 1)];
     match (table, r.below(8)) {
         (0, _) => set!(t.drone_count[0], u16),
         (1, _) => set!(t.dependency_count[0], u16),
@@ -91,9 +92,9 @@ fn damage(r: &mut Random, t: &mut Tables, table: usize, entry: usize) {
 /// One entry of a table is damaged: mostly one in use, or the first that is not.
 pub fn damaged(r: &mut Random, t: &mut Tables) {
     let table = r.choice(&[0, 1, 2, 2, 3, 4, 4, 5, 5, 6, 6, 6, 7, 8, 8, 8, 8]);
-    let drones = usize::from(t.drone_count[0]).min(32);
+    let drones = usize::from(t.drone_count[0]).min(DRONES);
     let stops: usize = t.stop_counts[..drones].iter().map(|m| usize::from(*m)).sum();
-    let used = [1, 1, 24 * drones, drones, stops, stops, drones, drones, usize::from(t.dependency_count[0])][table];
+    let used = [1, 1, NAME * drones, drones, stops, stops, drones, drones, usize::from(t.dependency_count[0])][table];
     let entry = if r.one_in(8) { r.below(FULL[table]) } else { r.below(used + 1).min(FULL[table] - 1) };
     damage(r, t, table, entry);
 }

@@ -48,9 +48,26 @@ fn damaged_line(r: &mut Random, text: &mut Vec<u8>) {
             b"survey-quad-east-1",
             b"-",
         ])),
-        _ => {
-            new.extend_from_slice(r.choice(&[&b"0"[..], b"1", b"2", b"3", b"32", b"33", b"1024", b"1025", b"1000", b"+1", b"01", b"9999999", b"12345678", b""]))
-        }
+        _ => new.extend_from_slice(r.choice(&[
+            &b"0"[..],
+            b"1",
+            b"2",
+            b"3",
+            b"32",
+            b"33",
+            b"64",
+            b"65",
+            b"1024",
+            b"1025",
+            b"2048",
+            b"2049",
+            b"2000",
+            b"+1",
+            b"01",
+            b"9999999",
+            b"12345678",
+            b"",
+        ])),
     }
     new.push(b'\n');
     match r.below(6) {

@@ -10,8 +10,17 @@ pub mod text;
 use conductor::Dependency;
 use graph::Status;
 
+// The figures of document 01's table, as point 12 has raised them.
+pub const TEXT: usize = 65_536;
+pub const DRONES: usize = 64;
+pub const STOPS: usize = 2048;
+pub const DEPENDENCIES: usize = 4096;
+pub const NAME: usize = 24;
+pub const LOCATION: usize = 65_535;
+pub const TIME: usize = 1_000_000;
+
 /// "Each table carries its own full size as a fixed figure": in the order in which the tables are lent.
-pub const FULL: [usize; 9] = [1, 1, 32 * 24, 32, 1024, 1024, 32, 32, 2048];
+pub const FULL: [usize; 9] = [1, 1, DRONES * NAME, DRONES, STOPS, STOPS, DRONES, DRONES, DEPENDENCIES];
 
 /// The nine lent tables, of any length.
 #[derive(Clone, PartialEq, Debug)]
@@ -122,8 +131,8 @@ impl Tables {
         if self.too_small() {
             return refused(41);
         }
-        if given.len() > 32768 {
-            return reply(1, &[32768]);
+        if given.len() > TEXT {
+            return reply(1, &[TEXT]);
         }
         self.zero();
         let plan = match text::read(given).and_then(plan::Plan::checked) {
@@ -139,7 +148,7 @@ impl Tables {
         self.dependency_count[0] = plan.dependencies.len() as u16;
         let mut at = 0;
         for (d, route) in plan.routes.iter().enumerate() {
-            self.names[24 * d..24 * d + plan.names[d].len()].copy_from_slice(&plan.names[d]);
+            self.names[NAME * d..NAME * d + plan.names[d].len()].copy_from_slice(&plan.names[d]);
             self.stop_counts[d] = route.len() as u16;
             for (location, time) in route {
                 self.locations[at] = *location as u16;

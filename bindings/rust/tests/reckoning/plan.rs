@@ -1,5 +1,5 @@
 //! The plan check and the dependencies.
-use super::{refused, reply, Reply};
+use super::{refused, reply, Reply, DEPENDENCIES};
 
 #[derive(Clone, Default, PartialEq, Debug)]
 pub struct Plan {
@@ -71,7 +71,7 @@ impl Plan {
             return Err(fault);
         }
         self.dependencies = self.own_dependencies();
-        if self.dependencies.len() > 2048 {
+        if self.dependencies.len() > DEPENDENCIES {
             Err(refused(11))
         } else {
             Ok(self)

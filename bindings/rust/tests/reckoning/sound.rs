@@ -2,7 +2,7 @@
 use super::graph::{has_cycle, in_force, Status};
 use super::plan::Plan;
 use super::text::is_name;
-use super::{Tables, FULL};
+use super::{Tables, DRONES, FULL, NAME, STOPS, TIME};
 
 type Clause = &'static str;
 
@@ -32,29 +32,29 @@ pub fn sound(t: &Tables) -> Result<(Plan, Status), Clause> {
 /// What the tables hold as a plan: counts, names and stops in their ranges.
 fn plan_of(t: &Tables) -> Result<Plan, Clause> {
     let drones = usize::from(t.drone_count[0]);
-    holds((1..=32).contains(&drones), "drone count")?;
+    holds((1..=DRONES).contains(&drones), "drone count")?;
     let mut plan = Plan::default();
     let mut at = 0;
     for d in 0..drones {
-        let field = &t.names[24 * d..24 * d + 24];
-        let length = field.iter().position(|b| *b == 0).unwrap_or(24);
+        let field = &t.names[NAME * d..NAME * d + NAME];
+        let length = field.iter().position(|b| *b == 0).unwrap_or(NAME);
         holds(is_name(&field[..length]) && field[length..].iter().all(|b| *b == 0), "name")?;
         holds(!plan.names.iter().any(|name| name == &field[..length]), "same name")?;
         plan.names.push(field[..length].to_vec());
         let stops = usize::from(t.stop_counts[d]);
-        holds((1..=1024).contains(&stops), "stop count")?;
-        holds(at + stops <= 1024, "stops of all")?;
+        holds((1..=STOPS).contains(&stops), "stop count")?;
+        holds(at + stops <= STOPS, "stops of all")?;
         plan.routes.push((at..at + stops).map(|n| (usize::from(t.locations[n]), t.times[n] as usize)).collect());
         at += stops;
     }
-    holds(plan.routes.iter().flatten().all(|stop| stop.1 <= 1_000_000), "time range")?;
+    holds(plan.routes.iter().flatten().all(|stop| stop.1 <= TIME), "time range")?;
     Ok(plan)
 }
 
 /// "unused entries are zero"
 fn unused_zero(t: &Tables, plan: &Plan) -> Result<(), Clause> {
     let (n, stops) = (plan.routes.len(), plan.routes.iter().map(Vec::len).sum());
-    holds(t.names[24 * n..FULL[2]].iter().all(|b| *b == 0), "unused name")?;
+    holds(t.names[NAME * n..FULL[2]].iter().all(|b| *b == 0), "unused name")?;
     holds(t.stop_counts[n..FULL[3]].iter().all(|m| *m == 0), "unused stop count")?;
     holds(t.locations[stops..FULL[4]].iter().all(|l| *l == 0), "unused location")?;
     holds(t.times[stops..FULL[5]].iter().all(|time| *time == 0), "unused time")?;

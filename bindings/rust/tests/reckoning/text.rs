@@ -1,6 +1,6 @@
 //! The plan text, read and written.
 use super::plan::Plan;
-use super::{accepted, refused, reply, Reply};
+use super::{accepted, refused, reply, Reply, DRONES, LOCATION, NAME, STOPS, TIME};
 
 /// The lines of a text; `at` is the start of the line that is next.
 struct Lines<'a> {
@@ -42,7 +42,7 @@ impl<'a> Lines<'a> {
         let form = reply(2, &[start]);
         let mut parts = body.split(|b| *b == b'@').map(number);
         let (Some(Some(location)), Some(Some(time)), None) = (parts.next(), parts.next(), parts.next()) else { return Err(form) };
-        if location > 65535 || time > 1_000_000 {
+        if location > LOCATION || time > TIME {
             Err(reply(4, &[start]))
         } else {
             Ok((location, time))
@@ -62,14 +62,14 @@ fn small(name: &[u8]) -> Vec<u8> {
 }
 
 pub fn is_name(name: &[u8]) -> bool {
-    (1..=24).contains(&name.len()) && name.iter().all(|b| b"abcdefghijklmnopqrstuvwxyz0123456789-".contains(b))
+    (1..=NAME).contains(&name.len()) && name.iter().all(|b| b"abcdefghijklmnopqrstuvwxyz0123456789-".contains(b))
 }
 
 /// The plan of a text, unchecked, or its refusal from 2 to 6.
 pub fn read(text: &[u8]) -> Result<Plan, Reply> {
     let mut lines = Lines { text, at: 0 };
     lines.exactly("plan=1")?;
-    let (_, drones) = lines.number("agents=", 1, 32)?;
+    let (_, drones) = lines.number("agents=", 1, DRONES)?;
     let mut plan = Plan::default();
     let mut all = 0;
     for _ in 0..drones {
@@ -82,9 +82,9 @@ pub fn read(text: &[u8]) -> Result<Plan, Reply> {
             return Err(reply(5, &[start]));
         }
         plan.names.push(name);
-        let (start, stops) = lines.number("stops=", 1, 1024)?;
+        let (start, stops) = lines.number("stops=", 1, STOPS)?;
         all += stops;
-        if all > 1024 {
+        if all > STOPS {
             return Err(reply(6, &[start]));
         }
         plan.routes.push((0..stops).map(|_| lines.stop()).collect::<Result<_, _>>()?);

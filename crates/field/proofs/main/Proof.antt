@@ -15,14 +15,20 @@ slice-aggregate-read-full c = search needs
 read-full-requires : tie.Need-read-full-requires
 read-full-requires c κs = search needs
 
+slice-aggregate-read-full-2 : tie.Need-slice-aggregate-read-full-2
+slice-aggregate-read-full-2 c = search needs
+
+read-full-requires-2 : tie.Need-read-full-requires-2
+read-full-requires-2 c κs = search needs
+
 transcript-requires : tie.Need-transcript-requires
 transcript-requires c κs = search needs
 
 array-share-prefix-output : tie.Need-array-share-prefix-output
-array-share-prefix-output c = written-within _ _ _ _ _ (c .transcript .ensures)
+array-share-prefix-output c = written-within _ _ _ _ _ _ _ (c .transcript .ensures)
 
 slice-aggregate-write-all : tie.Need-slice-aggregate-write-all
-slice-aggregate-write-all c = written-taken _ _ _ _ _ (c .before .transcript .ensures)
+slice-aggregate-write-all c = written-taken _ _ _ _ _ _ _ (c .before .transcript .ensures)
 
 write-all-requires : tie.Need-write-all-requires
 write-all-requires c κs = search needs
@@ -36,6 +42,8 @@ main-spec =
     (tie.spec
     slice-aggregate-read-full
     read-full-requires
+    slice-aggregate-read-full-2
+    read-full-requires-2
     transcript-requires
     array-share-prefix-output
     slice-aggregate-write-all

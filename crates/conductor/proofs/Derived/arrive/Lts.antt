@@ -60,10 +60,10 @@ use prog.Wp
 use types.Kit
 
 abbrev ty·0 : Syntax.Ty
-ty·0 = Syntax.tyArray (Syntax.tyInt Syntax.w8) 2048
+ty·0 = Syntax.tyArray (Syntax.tyInt Syntax.w8) 4096
 
 abbrev ty·1 : Syntax.Ty
-ty·1 = Syntax.tyArray (Syntax.tyInt Syntax.w16) 2048
+ty·1 = Syntax.tyArray (Syntax.tyInt Syntax.w16) 4096
 
 abbrev ty·2 : Syntax.Ty
 ty·2 = Syntax.tyRef (Syntax.named 8) Syntax.imm Rec.behind
@@ -184,55 +184,55 @@ abbrev row·26 : Row.Row
 row·26 = Rows'.whole (Declared.row ArriveReply.the-type)
 
 abbrev row·27 : Row.Row
-row·27 = Rows'.whole (Array'.Array (Referent.rtF (Referent.fInt Syntax.w16)) 2048)
+row·27 = Rows'.whole (Array'.Array (Referent.rtF (Referent.fInt Syntax.w16)) 4096)
 
 abbrev row·28 : Row.Row
-row·28 = Rows.arrF (Referent.rtF (Referent.fInt Syntax.w16)) 2048 0
+row·28 = Rows.arrF (Referent.rtF (Referent.fInt Syntax.w16)) 4096 0
 
 abbrev row·29 : Row.Row
-row·29 = Rows'.whole (Array'.Array (Array'.Array (Referent.rtF (Referent.fInt Syntax.w16)) 2048) 2)
+row·29 = Rows'.whole (Array'.Array (Array'.Array (Referent.rtF (Referent.fInt Syntax.w16)) 4096) 2)
 
 abbrev row·30 : Row.Row
-row·30 = Rows.arrF (Array'.Array (Referent.rtF (Referent.fInt Syntax.w16)) 2048) 2 0
+row·30 = Rows.arrF (Array'.Array (Referent.rtF (Referent.fInt Syntax.w16)) 4096) 2 0
 
 abbrev row·31 : Row.Row
-row·31 = Rows'.whole (Array'.Array (Referent.rtF (Referent.fInt Syntax.w8)) 2048)
+row·31 = Rows'.whole (Array'.Array (Referent.rtF (Referent.fInt Syntax.w8)) 4096)
 
 abbrev row·32 : Row.Row
-row·32 = Rows.arrF (Referent.rtF (Referent.fInt Syntax.w8)) 2048 0
+row·32 = Rows.arrF (Referent.rtF (Referent.fInt Syntax.w8)) 4096 0
 
 abbrev row·33 : Row.Row
-row·33 = Rows'.whole (Array'.Array (Array'.Array (Referent.rtF (Referent.fInt Syntax.w8)) 2048) 2)
+row·33 = Rows'.whole (Array'.Array (Array'.Array (Referent.rtF (Referent.fInt Syntax.w8)) 4096) 2)
 
 abbrev row·34 : Row.Row
-row·34 = Rows.arrF (Array'.Array (Referent.rtF (Referent.fInt Syntax.w8)) 2048) 2 0
+row·34 = Rows.arrF (Array'.Array (Referent.rtF (Referent.fInt Syntax.w8)) 4096) 2 0
 
 abbrev row·35 : Row.Row
-row·35 = Rows'.sc-owed (Array'.Array (Array'.Array (Referent.rtF (Referent.fInt Syntax.w16)) 2048) 2) 9
+row·35 = Rows'.sc-owed (Array'.Array (Array'.Array (Referent.rtF (Referent.fInt Syntax.w16)) 4096) 2) 9
 
 abbrev row·36 : Row.Row
-row·36 = Rows'.mref (Array'.Array (Array'.Array (Referent.rtF (Referent.fInt Syntax.w16)) 2048) 2) (Syntax.tyRef Syntax.erased Syntax.mut (Syntax.tyArray ty·1 2)) 9
+row·36 = Rows'.mref (Array'.Array (Array'.Array (Referent.rtF (Referent.fInt Syntax.w16)) 4096) 2) (Syntax.tyRef Syntax.erased Syntax.mut (Syntax.tyArray ty·1 2)) 9
 
 abbrev row·37 : Row.Row
-row·37 = Rows'.sc-owed (Array'.Array (Array'.Array (Referent.rtF (Referent.fInt Syntax.w8)) 2048) 2) 10
+row·37 = Rows'.sc-owed (Array'.Array (Array'.Array (Referent.rtF (Referent.fInt Syntax.w8)) 4096) 2) 10
 
 abbrev row·38 : Row.Row
-row·38 = Rows'.mref (Array'.Array (Array'.Array (Referent.rtF (Referent.fInt Syntax.w8)) 2048) 2) (Syntax.tyRef Syntax.erased Syntax.mut (Syntax.tyArray ty·0 2)) 10
+row·38 = Rows'.mref (Array'.Array (Array'.Array (Referent.rtF (Referent.fInt Syntax.w8)) 4096) 2) (Syntax.tyRef Syntax.erased Syntax.mut (Syntax.tyArray ty·0 2)) 10
 
 abbrev row·39 : Row.Row
-row·39 = Rows'.sc-owed (Array'.Array (Referent.rtF (Referent.fInt Syntax.w8)) 2048) 11
+row·39 = Rows'.sc-owed (Array'.Array (Referent.rtF (Referent.fInt Syntax.w8)) 4096) 11
 
 abbrev row·40 : Row.Row
-row·40 = Rows'.mref (Array'.Array (Referent.rtF (Referent.fInt Syntax.w8)) 2048) (Syntax.tyRef Syntax.erased Syntax.mut ty·0) 11
+row·40 = Rows'.mref (Array'.Array (Referent.rtF (Referent.fInt Syntax.w8)) 4096) (Syntax.tyRef Syntax.erased Syntax.mut ty·0) 11
 
 abbrev row·41 : Row.Row
-row·41 = Rows'.mleft (Array'.Array (Array'.Array (Referent.rtF (Referent.fInt Syntax.w16)) 2048) 2) (Syntax.tyRef Syntax.erased Syntax.mut (Syntax.tyArray ty·1 2))
+row·41 = Rows'.mleft (Array'.Array (Array'.Array (Referent.rtF (Referent.fInt Syntax.w16)) 4096) 2) (Syntax.tyRef Syntax.erased Syntax.mut (Syntax.tyArray ty·1 2))
 
 abbrev row·42 : Row.Row
-row·42 = Rows'.mleft (Array'.Array (Array'.Array (Referent.rtF (Referent.fInt Syntax.w8)) 2048) 2) (Syntax.tyRef Syntax.erased Syntax.mut (Syntax.tyArray ty·0 2))
+row·42 = Rows'.mleft (Array'.Array (Array'.Array (Referent.rtF (Referent.fInt Syntax.w8)) 4096) 2) (Syntax.tyRef Syntax.erased Syntax.mut (Syntax.tyArray ty·0 2))
 
 abbrev row·43 : Row.Row
-row·43 = Rows'.mleft (Array'.Array (Referent.rtF (Referent.fInt Syntax.w8)) 2048) (Syntax.tyRef Syntax.erased Syntax.mut ty·0)
+row·43 = Rows'.mleft (Array'.Array (Referent.rtF (Referent.fInt Syntax.w8)) 4096) (Syntax.tyRef Syntax.erased Syntax.mut ty·0)
 
 abbrev row·44 : Row.Row
 row·44 = Relend.mslice-owed (Referent.rtF (Referent.fInt Syntax.w16)) ty·12 6 12 Row.off
@@ -253,13 +253,13 @@ abbrev row·49 : Row.Row
 row·49 = Mut.mslice (Referent.rtF (Referent.fInt Syntax.w8)) ty·3 13
 
 abbrev row·50 : Row.Row
-row·50 = Rows'.sref (Array'.Array (Array'.Array (Referent.rtF (Referent.fInt Syntax.w16)) 2048) 2) (Syntax.tyRef Syntax.erased Syntax.imm (Syntax.tyArray ty·1 2)) 14
+row·50 = Rows'.sref (Array'.Array (Array'.Array (Referent.rtF (Referent.fInt Syntax.w16)) 4096) 2) (Syntax.tyRef Syntax.erased Syntax.imm (Syntax.tyArray ty·1 2)) 14
 
 abbrev row·51 : Row.Row
-row·51 = Rows'.sref (Array'.Array (Array'.Array (Referent.rtF (Referent.fInt Syntax.w8)) 2048) 2) (Syntax.tyRef Syntax.erased Syntax.imm (Syntax.tyArray ty·0 2)) 15
+row·51 = Rows'.sref (Array'.Array (Array'.Array (Referent.rtF (Referent.fInt Syntax.w8)) 4096) 2) (Syntax.tyRef Syntax.erased Syntax.imm (Syntax.tyArray ty·0 2)) 15
 
 abbrev row·52 : Row.Row
-row·52 = Rows'.sref (Array'.Array (Referent.rtF (Referent.fInt Syntax.w8)) 2048) (Syntax.tyRef Syntax.erased Syntax.imm ty·0) 16
+row·52 = Rows'.sref (Array'.Array (Referent.rtF (Referent.fInt Syntax.w8)) 4096) (Syntax.tyRef Syntax.erased Syntax.imm ty·0) 16
 
 abbrev row·53 : Row.Row
 row·53 = Mut.msleft (Referent.rtF (Referent.fInt Syntax.w16)) ty·4
@@ -284,16 +284,16 @@ abbrev pub m : Nat.ℕ
 m = 8
 
 abbrev pub ps·0 : List.List (Kinds.PK 5)
-ps·0 = List._∷_ (ShrSlice.pShrS (Referent.rtF (Referent.fInt Syntax.w16)) 0 tt) (List._∷_ (ShrSlice.pShrS Rec.rt 1 tt) (List._∷_ (Kinds.pMut (Array'.Array (Array'.Array (Referent.rtF (Referent.fInt Syntax.w16)) 2048) 2) 2 tt) (List._∷_ (Kinds.pMut (Array'.Array (Array'.Array (Referent.rtF (Referent.fInt Syntax.w8)) 2048) 2) 3 tt) (List._∷_ (Kinds.pMut
-    (Array'.Array (Referent.rtF (Referent.fInt Syntax.w8)) 2048) 4 tt) List.[]))))
+ps·0 = List._∷_ (ShrSlice.pShrS (Referent.rtF (Referent.fInt Syntax.w16)) 0 tt) (List._∷_ (ShrSlice.pShrS Rec.rt 1 tt) (List._∷_ (Kinds.pMut (Array'.Array (Array'.Array (Referent.rtF (Referent.fInt Syntax.w16)) 4096) 2) 2 tt) (List._∷_ (Kinds.pMut (Array'.Array (Array'.Array (Referent.rtF (Referent.fInt Syntax.w8)) 4096) 2) 3 tt) (List._∷_ (Kinds.pMut
+    (Array'.Array (Referent.rtF (Referent.fInt Syntax.w8)) 4096) 4 tt) List.[]))))
 
 abbrev pub r·0 : Kinds.RK 5
 r·0 = Num.rNum Syntax.w64
 
 abbrev pub ps·1 : List.List (Kinds.PK 11)
 ps·1 = List._∷_ (ShrSlice.pShrS (Referent.rtF (Referent.fInt Syntax.w16)) 0 tt) (List._∷_ (ShrSlice.pShrS (Referent.rtF (Referent.fInt Syntax.w16)) 1 tt) (List._∷_ (ShrSlice.pShrS (Referent.rtF (Referent.fInt Syntax.w8)) 2 tt) (List._∷_ (ShrSlice.pShrS (Referent.rtF (Referent.fInt Syntax.w16)) 3 tt) (List._∷_ (ShrSlice.pShrS (Referent.rtF (Referent.fInt
-    Syntax.w16)) 4 tt) (List._∷_ (ShrSlice.pShrS (Referent.rtF (Referent.fInt Syntax.w32)) 5 tt) (List._∷_ (MutSlice.pMutS (Referent.rtF (Referent.fInt Syntax.w16)) 6 tt) (List._∷_ (MutSlice.pMutS (Referent.rtF (Referent.fInt Syntax.w8)) 7 tt) (List._∷_ (ShrRef.pShr (Array'.Array (Array'.Array (Referent.rtF (Referent.fInt Syntax.w16)) 2048) 2) 8 tt) (List._∷_
-    (ShrRef.pShr (Array'.Array (Array'.Array (Referent.rtF (Referent.fInt Syntax.w8)) 2048) 2) 9 tt) (List._∷_ (ShrRef.pShr (Array'.Array (Referent.rtF (Referent.fInt Syntax.w8)) 2048) 10 tt) (List._∷_ (Num.pNum Syntax.w64) (List._∷_ (Num.pNum Syntax.w64) List.[]))))))))))))
+    Syntax.w16)) 4 tt) (List._∷_ (ShrSlice.pShrS (Referent.rtF (Referent.fInt Syntax.w32)) 5 tt) (List._∷_ (MutSlice.pMutS (Referent.rtF (Referent.fInt Syntax.w16)) 6 tt) (List._∷_ (MutSlice.pMutS (Referent.rtF (Referent.fInt Syntax.w8)) 7 tt) (List._∷_ (ShrRef.pShr (Array'.Array (Array'.Array (Referent.rtF (Referent.fInt Syntax.w16)) 4096) 2) 8 tt) (List._∷_
+    (ShrRef.pShr (Array'.Array (Array'.Array (Referent.rtF (Referent.fInt Syntax.w8)) 4096) 2) 9 tt) (List._∷_ (ShrRef.pShr (Array'.Array (Referent.rtF (Referent.fInt Syntax.w8)) 4096) 10 tt) (List._∷_ (Num.pNum Syntax.w64) (List._∷_ (Num.pNum Syntax.w64) List.[]))))))))))))
 
 abbrev pub r·1 : Kinds.RK 11
 r·1 = Value.rVal record { ty = Declared.row ArriveReply.the-type; one = Path'.refl; val = Laws'.val ArriveReply.the-type Laws.the-laws; tells = Laws'.tells ArriveReply.the-type Laws.the-laws; still = Laws'.still ArriveReply.the-type Laws.the-copy Exit.yes; row = Rows'.whole (Declared.row ArriveReply.the-type); rd = λ x. x; mk = λ x. x } λ M 𝓤 H A W. record
@@ -305,19 +305,19 @@ hs = List._∷_ Syntax.valueLocal (List._∷_ Syntax.valueLocal (List._∷_ Synt
     (List._∷_ Syntax.valueLocal (List._∷_ Syntax.valueLocal List.[]))))))))))))))))))))))))))
 
 abbrev b0 : Syntax.Body
-b0 = Syntax.assign (Syntax.place 15 List.[]) (Syntax.repeat (Syntax.int Syntax.w16 0) 2048)
+b0 = Syntax.assign (Syntax.place 15 List.[]) (Syntax.repeat (Syntax.int Syntax.w16 0) 4096)
 
 abbrev b1 : Syntax.Body
 b1 = Syntax.assign (Syntax.place 11 List.[]) (Syntax.repeat (Syntax.copy (Syntax.place 15 List.[])) 2)
 
 abbrev b2 : Syntax.Body
-b2 = Syntax.assign (Syntax.place 16 List.[]) (Syntax.repeat (Syntax.int Syntax.w8 0) 2048)
+b2 = Syntax.assign (Syntax.place 16 List.[]) (Syntax.repeat (Syntax.int Syntax.w8 0) 4096)
 
 abbrev b3 : Syntax.Body
 b3 = Syntax.assign (Syntax.place 12 List.[]) (Syntax.repeat (Syntax.copy (Syntax.place 16 List.[])) 2)
 
 abbrev b4 : Syntax.Body
-b4 = Syntax.assign (Syntax.place 13 List.[]) (Syntax.repeat (Syntax.int Syntax.w8 0) 2048)
+b4 = Syntax.assign (Syntax.place 13 List.[]) (Syntax.repeat (Syntax.int Syntax.w8 0) 4096)
 
 abbrev b5 : Syntax.Body
 b5 = Syntax.assign (Syntax.place 17 List.[]) (Syntax.addrOf (Syntax.place 11 List.[]))
@@ -462,8 +462,8 @@ t38 = List._∷_ (16, row·13) (List._∷_ (17, row·16) (List._∷_ (18, row·1
 
 abbrev pub t39 : List.List Row.Entry
 t39 = List._∷_ (0, row·26) (List._∷_ (1, row·1) (List._∷_ (2, row·2) (List._∷_ (3, row·3) (List._∷_ (4, row·4) (List._∷_ (5, row·5) (List._∷_ (6, row·6) (List._∷_ (7, row·44) (List._∷_ (8, row·47) (List._∷_ (9, row·9) (List._∷_ (10, row·10) (List._∷_
-    (11, Rows'.sc-shr (Rows.arrF (Array'.Array (Referent.rtF (Referent.fInt Syntax.w16)) 2048) 2 0) (Array'.Array (Array'.Array (Referent.rtF (Referent.fInt Syntax.w16)) 2048) 2) (λ x. x) 14) (List._∷_
-    (12, Rows'.sc-shr (Rows.arrF (Array'.Array (Referent.rtF (Referent.fInt Syntax.w8)) 2048) 2 0) (Array'.Array (Array'.Array (Referent.rtF (Referent.fInt Syntax.w8)) 2048) 2) (λ x. x) 15) (List._∷_ (13, Rows'.sc-shr (Rows.arrF (Referent.rtF (Referent.fInt Syntax.w8)) 2048 0) (Array'.Array (Referent.rtF (Referent.fInt Syntax.w8)) 2048) (λ x. x) 16) (List._∷_
+    (11, Rows'.sc-shr (Rows.arrF (Array'.Array (Referent.rtF (Referent.fInt Syntax.w16)) 4096) 2 0) (Array'.Array (Array'.Array (Referent.rtF (Referent.fInt Syntax.w16)) 4096) 2) (λ x. x) 14) (List._∷_
+    (12, Rows'.sc-shr (Rows.arrF (Array'.Array (Referent.rtF (Referent.fInt Syntax.w8)) 4096) 2 0) (Array'.Array (Array'.Array (Referent.rtF (Referent.fInt Syntax.w8)) 4096) 2) (λ x. x) 15) (List._∷_ (13, Rows'.sc-shr (Rows.arrF (Referent.rtF (Referent.fInt Syntax.w8)) 4096 0) (Array'.Array (Referent.rtF (Referent.fInt Syntax.w8)) 4096) (λ x. x) 16) (List._∷_
     (14, row·10) (List._∷_ (15, row·15) List.[])))))))))))))))
 
 abbrev pub t40 : List.List Row.Entry
@@ -574,15 +574,15 @@ T43 = record { locals = List._++_ t30 t32; slots = List.[] }
 
 abbrev pub T45 : Row.Cx
 T45 = record
-    { locals = List._++_ (List._∷_ (0, row·0) (List._∷_ (1, row·1) (List._∷_ (2, row·2) (List._∷_ (3, row·3) (List._∷_ (4, row·4) (List._∷_ (5, row·5) (List._∷_ (6, row·6) (List._∷_ (7, row·44) (List._∷_ (8, row·47) (List._∷_ (9, row·9) (List._∷_ (10, row·10) (List._∷_ (11, Rows'.sc-shr (Rows.arrF (Array'.Array (Referent.rtF (Referent.fInt Syntax.w16)) 2048) 2 0) (Array'.Array (Array'.Array (Referent.rtF (Referent.fInt Syntax.w16)) 2048) 2) (λ x. x) 14) (List._∷_ (12, row·34) (List._∷_ (13, row·32) (List._∷_ (14, row·10) (List._∷_ (15, row·15) List.[])))))))))))))))) t34; slots = List.[] }
+    { locals = List._++_ (List._∷_ (0, row·0) (List._∷_ (1, row·1) (List._∷_ (2, row·2) (List._∷_ (3, row·3) (List._∷_ (4, row·4) (List._∷_ (5, row·5) (List._∷_ (6, row·6) (List._∷_ (7, row·44) (List._∷_ (8, row·47) (List._∷_ (9, row·9) (List._∷_ (10, row·10) (List._∷_ (11, Rows'.sc-shr (Rows.arrF (Array'.Array (Referent.rtF (Referent.fInt Syntax.w16)) 4096) 2 0) (Array'.Array (Array'.Array (Referent.rtF (Referent.fInt Syntax.w16)) 4096) 2) (λ x. x) 14) (List._∷_ (12, row·34) (List._∷_ (13, row·32) (List._∷_ (14, row·10) (List._∷_ (15, row·15) List.[])))))))))))))))) t34; slots = List.[] }
 
 abbrev pub T47 : Row.Cx
 T47 = record
-    { locals = List._++_ (List._∷_ (0, row·0) (List._∷_ (1, row·1) (List._∷_ (2, row·2) (List._∷_ (3, row·3) (List._∷_ (4, row·4) (List._∷_ (5, row·5) (List._∷_ (6, row·6) (List._∷_ (7, row·44) (List._∷_ (8, row·47) (List._∷_ (9, row·9) (List._∷_ (10, row·10) (List._∷_ (11, Rows'.sc-shr (Rows.arrF (Array'.Array (Referent.rtF (Referent.fInt Syntax.w16)) 2048) 2 0) (Array'.Array (Array'.Array (Referent.rtF (Referent.fInt Syntax.w16)) 2048) 2) (λ x. x) 14) (List._∷_ (12, Rows'.sc-shr (Rows.arrF (Array'.Array (Referent.rtF (Referent.fInt Syntax.w8)) 2048) 2 0) (Array'.Array (Array'.Array (Referent.rtF (Referent.fInt Syntax.w8)) 2048) 2) (λ x. x) 15) (List._∷_ (13, row·32) (List._∷_ (14, row·10) (List._∷_ (15, row·15) List.[])))))))))))))))) t36; slots = List.[] }
+    { locals = List._++_ (List._∷_ (0, row·0) (List._∷_ (1, row·1) (List._∷_ (2, row·2) (List._∷_ (3, row·3) (List._∷_ (4, row·4) (List._∷_ (5, row·5) (List._∷_ (6, row·6) (List._∷_ (7, row·44) (List._∷_ (8, row·47) (List._∷_ (9, row·9) (List._∷_ (10, row·10) (List._∷_ (11, Rows'.sc-shr (Rows.arrF (Array'.Array (Referent.rtF (Referent.fInt Syntax.w16)) 4096) 2 0) (Array'.Array (Array'.Array (Referent.rtF (Referent.fInt Syntax.w16)) 4096) 2) (λ x. x) 14) (List._∷_ (12, Rows'.sc-shr (Rows.arrF (Array'.Array (Referent.rtF (Referent.fInt Syntax.w8)) 4096) 2 0) (Array'.Array (Array'.Array (Referent.rtF (Referent.fInt Syntax.w8)) 4096) 2) (λ x. x) 15) (List._∷_ (13, row·32) (List._∷_ (14, row·10) (List._∷_ (15, row·15) List.[])))))))))))))))) t36; slots = List.[] }
 
 abbrev pub T49 : Row.Cx
 T49 = record
-    { locals = List._++_ (List._∷_ (0, row·0) (List._∷_ (1, row·1) (List._∷_ (2, row·2) (List._∷_ (3, row·3) (List._∷_ (4, row·4) (List._∷_ (5, row·5) (List._∷_ (6, row·6) (List._∷_ (7, row·44) (List._∷_ (8, row·47) (List._∷_ (9, row·9) (List._∷_ (10, row·10) (List._∷_ (11, Rows'.sc-shr (Rows.arrF (Array'.Array (Referent.rtF (Referent.fInt Syntax.w16)) 2048) 2 0) (Array'.Array (Array'.Array (Referent.rtF (Referent.fInt Syntax.w16)) 2048) 2) (λ x. x) 14) (List._∷_ (12, Rows'.sc-shr (Rows.arrF (Array'.Array (Referent.rtF (Referent.fInt Syntax.w8)) 2048) 2 0) (Array'.Array (Array'.Array (Referent.rtF (Referent.fInt Syntax.w8)) 2048) 2) (λ x. x) 15) (List._∷_ (13, Rows'.sc-shr (Rows.arrF (Referent.rtF (Referent.fInt Syntax.w8)) 2048 0) (Array'.Array (Referent.rtF (Referent.fInt Syntax.w8)) 2048) (λ x. x) 16) (List._∷_ (14, row·10) (List._∷_ (15, row·15) List.[])))))))))))))))) t38; slots = List.[] }
+    { locals = List._++_ (List._∷_ (0, row·0) (List._∷_ (1, row·1) (List._∷_ (2, row·2) (List._∷_ (3, row·3) (List._∷_ (4, row·4) (List._∷_ (5, row·5) (List._∷_ (6, row·6) (List._∷_ (7, row·44) (List._∷_ (8, row·47) (List._∷_ (9, row·9) (List._∷_ (10, row·10) (List._∷_ (11, Rows'.sc-shr (Rows.arrF (Array'.Array (Referent.rtF (Referent.fInt Syntax.w16)) 4096) 2 0) (Array'.Array (Array'.Array (Referent.rtF (Referent.fInt Syntax.w16)) 4096) 2) (λ x. x) 14) (List._∷_ (12, Rows'.sc-shr (Rows.arrF (Array'.Array (Referent.rtF (Referent.fInt Syntax.w8)) 4096) 2 0) (Array'.Array (Array'.Array (Referent.rtF (Referent.fInt Syntax.w8)) 4096) 2) (λ x. x) 15) (List._∷_ (13, Rows'.sc-shr (Rows.arrF (Referent.rtF (Referent.fInt Syntax.w8)) 4096 0) (Array'.Array (Referent.rtF (Referent.fInt Syntax.w8)) 4096) (λ x. x) 16) (List._∷_ (14, row·10) (List._∷_ (15, row·15) List.[])))))))))))))))) t38; slots = List.[] }
 
 abbrev pub T50 : Row.Cx
 T50 = record { locals = List._++_ t39 t40; slots = List.[] }
@@ -598,31 +598,31 @@ T53 = record { locals = List._++_ t39 t43; slots = List.[] }
 
 abbrev pub T54 : Row.Cx
 T54 = record
-    { locals = List._++_ (List._∷_ (0, row·26) (List._∷_ (1, row·1) (List._∷_ (2, row·2) (List._∷_ (3, row·3) (List._∷_ (4, row·4) (List._∷_ (5, row·5) (List._∷_ (6, row·6) (List._∷_ (7, row·44) (List._∷_ (8, row·47) (List._∷_ (9, row·9) (List._∷_ (10, row·10) (List._∷_ (11, Rows'.sc-shr (Rows.arrF (Array'.Array (Referent.rtF (Referent.fInt Syntax.w16)) 2048) 2 0) (Array'.Array (Array'.Array (Referent.rtF (Referent.fInt Syntax.w16)) 2048) 2) (λ x. x) 14) (List._∷_ (12, Rows'.sc-shr (Rows.arrF (Array'.Array (Referent.rtF (Referent.fInt Syntax.w8)) 2048) 2 0) (Array'.Array (Array'.Array (Referent.rtF (Referent.fInt Syntax.w8)) 2048) 2) (λ x. x) 15) (List._∷_ (13, Rows'.sc-shr (Rows.arrF (Referent.rtF (Referent.fInt Syntax.w8)) 2048 0) (Array'.Array (Referent.rtF (Referent.fInt Syntax.w8)) 2048) (λ x. x) 16) (List._∷_ (14, row·14) (List._∷_ (15, row·15) List.[])))))))))))))))) t43; slots = List.[] }
+    { locals = List._++_ (List._∷_ (0, row·26) (List._∷_ (1, row·1) (List._∷_ (2, row·2) (List._∷_ (3, row·3) (List._∷_ (4, row·4) (List._∷_ (5, row·5) (List._∷_ (6, row·6) (List._∷_ (7, row·44) (List._∷_ (8, row·47) (List._∷_ (9, row·9) (List._∷_ (10, row·10) (List._∷_ (11, Rows'.sc-shr (Rows.arrF (Array'.Array (Referent.rtF (Referent.fInt Syntax.w16)) 4096) 2 0) (Array'.Array (Array'.Array (Referent.rtF (Referent.fInt Syntax.w16)) 4096) 2) (λ x. x) 14) (List._∷_ (12, Rows'.sc-shr (Rows.arrF (Array'.Array (Referent.rtF (Referent.fInt Syntax.w8)) 4096) 2 0) (Array'.Array (Array'.Array (Referent.rtF (Referent.fInt Syntax.w8)) 4096) 2) (λ x. x) 15) (List._∷_ (13, Rows'.sc-shr (Rows.arrF (Referent.rtF (Referent.fInt Syntax.w8)) 4096 0) (Array'.Array (Referent.rtF (Referent.fInt Syntax.w8)) 4096) (λ x. x) 16) (List._∷_ (14, row·14) (List._∷_ (15, row·15) List.[])))))))))))))))) t43; slots = List.[] }
 
 abbrev pub T56 : Row.Cx
 T56 = record
-    { locals = List._++_ (List._∷_ (0, row·26) (List._∷_ (1, row·1) (List._∷_ (2, row·2) (List._∷_ (3, row·3) (List._∷_ (4, row·4) (List._∷_ (5, row·5) (List._∷_ (6, row·6) (List._∷_ (7, row·7) (List._∷_ (8, row·47) (List._∷_ (9, row·9) (List._∷_ (10, row·10) (List._∷_ (11, Rows'.sc-shr (Rows.arrF (Array'.Array (Referent.rtF (Referent.fInt Syntax.w16)) 2048) 2 0) (Array'.Array (Array'.Array (Referent.rtF (Referent.fInt Syntax.w16)) 2048) 2) (λ x. x) 14) (List._∷_ (12, Rows'.sc-shr (Rows.arrF (Array'.Array (Referent.rtF (Referent.fInt Syntax.w8)) 2048) 2 0) (Array'.Array (Array'.Array (Referent.rtF (Referent.fInt Syntax.w8)) 2048) 2) (λ x. x) 15) (List._∷_ (13, Rows'.sc-shr (Rows.arrF (Referent.rtF (Referent.fInt Syntax.w8)) 2048 0) (Array'.Array (Referent.rtF (Referent.fInt Syntax.w8)) 2048) (λ x. x) 16) (List._∷_ (14, row·14) (List._∷_ (15, row·15) List.[])))))))))))))))) t46; slots = List.[] }
+    { locals = List._++_ (List._∷_ (0, row·26) (List._∷_ (1, row·1) (List._∷_ (2, row·2) (List._∷_ (3, row·3) (List._∷_ (4, row·4) (List._∷_ (5, row·5) (List._∷_ (6, row·6) (List._∷_ (7, row·7) (List._∷_ (8, row·47) (List._∷_ (9, row·9) (List._∷_ (10, row·10) (List._∷_ (11, Rows'.sc-shr (Rows.arrF (Array'.Array (Referent.rtF (Referent.fInt Syntax.w16)) 4096) 2 0) (Array'.Array (Array'.Array (Referent.rtF (Referent.fInt Syntax.w16)) 4096) 2) (λ x. x) 14) (List._∷_ (12, Rows'.sc-shr (Rows.arrF (Array'.Array (Referent.rtF (Referent.fInt Syntax.w8)) 4096) 2 0) (Array'.Array (Array'.Array (Referent.rtF (Referent.fInt Syntax.w8)) 4096) 2) (λ x. x) 15) (List._∷_ (13, Rows'.sc-shr (Rows.arrF (Referent.rtF (Referent.fInt Syntax.w8)) 4096 0) (Array'.Array (Referent.rtF (Referent.fInt Syntax.w8)) 4096) (λ x. x) 16) (List._∷_ (14, row·14) (List._∷_ (15, row·15) List.[])))))))))))))))) t46; slots = List.[] }
 
 abbrev pub T60 : Row.Cx
 T60 = record
-    { locals = List._++_ (List._∷_ (0, row·26) (List._∷_ (1, row·1) (List._∷_ (2, row·2) (List._∷_ (3, row·3) (List._∷_ (4, row·4) (List._∷_ (5, row·5) (List._∷_ (6, row·6) (List._∷_ (7, row·7) (List._∷_ (8, row·8) (List._∷_ (9, row·9) (List._∷_ (10, row·10) (List._∷_ (11, Rows'.sc-shr (Rows.arrF (Array'.Array (Referent.rtF (Referent.fInt Syntax.w16)) 2048) 2 0) (Array'.Array (Array'.Array (Referent.rtF (Referent.fInt Syntax.w16)) 2048) 2) (λ x. x) 14) (List._∷_ (12, Rows'.sc-shr (Rows.arrF (Array'.Array (Referent.rtF (Referent.fInt Syntax.w8)) 2048) 2 0) (Array'.Array (Array'.Array (Referent.rtF (Referent.fInt Syntax.w8)) 2048) 2) (λ x. x) 15) (List._∷_ (13, Rows'.sc-shr (Rows.arrF (Referent.rtF (Referent.fInt Syntax.w8)) 2048 0) (Array'.Array (Referent.rtF (Referent.fInt Syntax.w8)) 2048) (λ x. x) 16) (List._∷_ (14, row·14) (List._∷_ (15, row·15) List.[])))))))))))))))) t1; slots = List.[] }
+    { locals = List._++_ (List._∷_ (0, row·26) (List._∷_ (1, row·1) (List._∷_ (2, row·2) (List._∷_ (3, row·3) (List._∷_ (4, row·4) (List._∷_ (5, row·5) (List._∷_ (6, row·6) (List._∷_ (7, row·7) (List._∷_ (8, row·8) (List._∷_ (9, row·9) (List._∷_ (10, row·10) (List._∷_ (11, Rows'.sc-shr (Rows.arrF (Array'.Array (Referent.rtF (Referent.fInt Syntax.w16)) 4096) 2 0) (Array'.Array (Array'.Array (Referent.rtF (Referent.fInt Syntax.w16)) 4096) 2) (λ x. x) 14) (List._∷_ (12, Rows'.sc-shr (Rows.arrF (Array'.Array (Referent.rtF (Referent.fInt Syntax.w8)) 4096) 2 0) (Array'.Array (Array'.Array (Referent.rtF (Referent.fInt Syntax.w8)) 4096) 2) (λ x. x) 15) (List._∷_ (13, Rows'.sc-shr (Rows.arrF (Referent.rtF (Referent.fInt Syntax.w8)) 4096 0) (Array'.Array (Referent.rtF (Referent.fInt Syntax.w8)) 4096) (λ x. x) 16) (List._∷_ (14, row·14) (List._∷_ (15, row·15) List.[])))))))))))))))) t1; slots = List.[] }
 
 abbrev pub T64 : Row.Cx
 T64 = record
-    { locals = List._++_ (List._∷_ (0, row·26) (List._∷_ (1, row·1) (List._∷_ (2, row·2) (List._∷_ (3, row·3) (List._∷_ (4, row·4) (List._∷_ (5, row·5) (List._∷_ (6, row·6) (List._∷_ (7, row·7) (List._∷_ (8, row·8) (List._∷_ (9, row·9) (List._∷_ (10, row·10) (List._∷_ (11, row·30) (List._∷_ (12, Rows'.sc-shr (Rows.arrF (Array'.Array (Referent.rtF (Referent.fInt Syntax.w8)) 2048) 2 0) (Array'.Array (Array'.Array (Referent.rtF (Referent.fInt Syntax.w8)) 2048) 2) (λ x. x) 15) (List._∷_ (13, Rows'.sc-shr (Rows.arrF (Referent.rtF (Referent.fInt Syntax.w8)) 2048 0) (Array'.Array (Referent.rtF (Referent.fInt Syntax.w8)) 2048) (λ x. x) 16) (List._∷_ (14, row·14) (List._∷_ (15, row·15) List.[])))))))))))))))) t1; slots = List.[] }
+    { locals = List._++_ (List._∷_ (0, row·26) (List._∷_ (1, row·1) (List._∷_ (2, row·2) (List._∷_ (3, row·3) (List._∷_ (4, row·4) (List._∷_ (5, row·5) (List._∷_ (6, row·6) (List._∷_ (7, row·7) (List._∷_ (8, row·8) (List._∷_ (9, row·9) (List._∷_ (10, row·10) (List._∷_ (11, row·30) (List._∷_ (12, Rows'.sc-shr (Rows.arrF (Array'.Array (Referent.rtF (Referent.fInt Syntax.w8)) 4096) 2 0) (Array'.Array (Array'.Array (Referent.rtF (Referent.fInt Syntax.w8)) 4096) 2) (λ x. x) 15) (List._∷_ (13, Rows'.sc-shr (Rows.arrF (Referent.rtF (Referent.fInt Syntax.w8)) 4096 0) (Array'.Array (Referent.rtF (Referent.fInt Syntax.w8)) 4096) (λ x. x) 16) (List._∷_ (14, row·14) (List._∷_ (15, row·15) List.[])))))))))))))))) t1; slots = List.[] }
 
 abbrev pub T66 : Row.Cx
 T66 = record
-    { locals = List._++_ (List._∷_ (0, row·26) (List._∷_ (1, row·1) (List._∷_ (2, row·2) (List._∷_ (3, row·3) (List._∷_ (4, row·4) (List._∷_ (5, row·5) (List._∷_ (6, row·6) (List._∷_ (7, row·7) (List._∷_ (8, row·8) (List._∷_ (9, row·9) (List._∷_ (10, row·10) (List._∷_ (11, row·11) (List._∷_ (12, Rows'.sc-shr (Rows.arrF (Array'.Array (Referent.rtF (Referent.fInt Syntax.w8)) 2048) 2 0) (Array'.Array (Array'.Array (Referent.rtF (Referent.fInt Syntax.w8)) 2048) 2) (λ x. x) 15) (List._∷_ (13, Rows'.sc-shr (Rows.arrF (Referent.rtF (Referent.fInt Syntax.w8)) 2048 0) (Array'.Array (Referent.rtF (Referent.fInt Syntax.w8)) 2048) (λ x. x) 16) (List._∷_ (14, row·14) (List._∷_ (15, row·15) List.[])))))))))))))))) t1; slots = List.[] }
+    { locals = List._++_ (List._∷_ (0, row·26) (List._∷_ (1, row·1) (List._∷_ (2, row·2) (List._∷_ (3, row·3) (List._∷_ (4, row·4) (List._∷_ (5, row·5) (List._∷_ (6, row·6) (List._∷_ (7, row·7) (List._∷_ (8, row·8) (List._∷_ (9, row·9) (List._∷_ (10, row·10) (List._∷_ (11, row·11) (List._∷_ (12, Rows'.sc-shr (Rows.arrF (Array'.Array (Referent.rtF (Referent.fInt Syntax.w8)) 4096) 2 0) (Array'.Array (Array'.Array (Referent.rtF (Referent.fInt Syntax.w8)) 4096) 2) (λ x. x) 15) (List._∷_ (13, Rows'.sc-shr (Rows.arrF (Referent.rtF (Referent.fInt Syntax.w8)) 4096 0) (Array'.Array (Referent.rtF (Referent.fInt Syntax.w8)) 4096) (λ x. x) 16) (List._∷_ (14, row·14) (List._∷_ (15, row·15) List.[])))))))))))))))) t1; slots = List.[] }
 
 abbrev pub T68 : Row.Cx
 T68 = record
-    { locals = List._++_ (List._∷_ (0, row·26) (List._∷_ (1, row·1) (List._∷_ (2, row·2) (List._∷_ (3, row·3) (List._∷_ (4, row·4) (List._∷_ (5, row·5) (List._∷_ (6, row·6) (List._∷_ (7, row·7) (List._∷_ (8, row·8) (List._∷_ (9, row·9) (List._∷_ (10, row·10) (List._∷_ (11, row·11) (List._∷_ (12, row·34) (List._∷_ (13, Rows'.sc-shr (Rows.arrF (Referent.rtF (Referent.fInt Syntax.w8)) 2048 0) (Array'.Array (Referent.rtF (Referent.fInt Syntax.w8)) 2048) (λ x. x) 16) (List._∷_ (14, row·14) (List._∷_ (15, row·15) List.[])))))))))))))))) t1; slots = List.[] }
+    { locals = List._++_ (List._∷_ (0, row·26) (List._∷_ (1, row·1) (List._∷_ (2, row·2) (List._∷_ (3, row·3) (List._∷_ (4, row·4) (List._∷_ (5, row·5) (List._∷_ (6, row·6) (List._∷_ (7, row·7) (List._∷_ (8, row·8) (List._∷_ (9, row·9) (List._∷_ (10, row·10) (List._∷_ (11, row·11) (List._∷_ (12, row·34) (List._∷_ (13, Rows'.sc-shr (Rows.arrF (Referent.rtF (Referent.fInt Syntax.w8)) 4096 0) (Array'.Array (Referent.rtF (Referent.fInt Syntax.w8)) 4096) (λ x. x) 16) (List._∷_ (14, row·14) (List._∷_ (15, row·15) List.[])))))))))))))))) t1; slots = List.[] }
 
 abbrev pub T70 : Row.Cx
 T70 = record
-    { locals = List._++_ (List._∷_ (0, row·26) (List._∷_ (1, row·1) (List._∷_ (2, row·2) (List._∷_ (3, row·3) (List._∷_ (4, row·4) (List._∷_ (5, row·5) (List._∷_ (6, row·6) (List._∷_ (7, row·7) (List._∷_ (8, row·8) (List._∷_ (9, row·9) (List._∷_ (10, row·10) (List._∷_ (11, row·11) (List._∷_ (12, row·12) (List._∷_ (13, Rows'.sc-shr (Rows.arrF (Referent.rtF (Referent.fInt Syntax.w8)) 2048 0) (Array'.Array (Referent.rtF (Referent.fInt Syntax.w8)) 2048) (λ x. x) 16) (List._∷_ (14, row·14) (List._∷_ (15, row·15) List.[])))))))))))))))) t1; slots = List.[] }
+    { locals = List._++_ (List._∷_ (0, row·26) (List._∷_ (1, row·1) (List._∷_ (2, row·2) (List._∷_ (3, row·3) (List._∷_ (4, row·4) (List._∷_ (5, row·5) (List._∷_ (6, row·6) (List._∷_ (7, row·7) (List._∷_ (8, row·8) (List._∷_ (9, row·9) (List._∷_ (10, row·10) (List._∷_ (11, row·11) (List._∷_ (12, row·12) (List._∷_ (13, Rows'.sc-shr (Rows.arrF (Referent.rtF (Referent.fInt Syntax.w8)) 4096 0) (Array'.Array (Referent.rtF (Referent.fInt Syntax.w8)) 4096) (λ x. x) 16) (List._∷_ (14, row·14) (List._∷_ (15, row·15) List.[])))))))))))))))) t1; slots = List.[] }
 
 abbrev pub T72 : Row.Cx
 T72 = record
@@ -649,61 +649,61 @@ module _ (claims· : Claims) where
   s7 = Know.k-sl-known (Referent.fInt Syntax.w8) T0 8 7 ty·6 Row.off 0 λ x. x
 
   abbrev s8 : Typed.Mo T0 → Typed.Mo T10
-  s8 = Repeat.n-repeat (Referent.rtF (Referent.fInt Syntax.w16)) 2048 T0 15 λ m. 0
+  s8 = Repeat.n-repeat (Referent.rtF (Referent.fInt Syntax.w16)) 4096 T0 15 λ m. 0
 
   abbrev s9 : Typed.Mo T10 → Typed.Mo T11
-  s9 = AtSlots.n-as-by T10 15 (Rows.arrF (Referent.rtF (Referent.fInt Syntax.w16)) 2048 0) λ x. x
+  s9 = AtSlots.n-as-by T10 15 (Rows.arrF (Referent.rtF (Referent.fInt Syntax.w16)) 4096 0) λ x. x
 
   abbrev s10 : Typed.Mo T11 → Typed.Mo T12
-  s10 = Repeat.n-repeat (Array'.Array (Referent.rtF (Referent.fInt Syntax.w16)) 2048) 2 T11 11 λ m. m .1 .1 .1 .1 .1 .1 .1 .1 .1 .1 .1 .1 .1 .1 .1 .0
+  s10 = Repeat.n-repeat (Array'.Array (Referent.rtF (Referent.fInt Syntax.w16)) 4096) 2 T11 11 λ m. m .1 .1 .1 .1 .1 .1 .1 .1 .1 .1 .1 .1 .1 .1 .1 .0
 
   abbrev s11 : Typed.Mo T12 → Typed.Mo T13
-  s11 = AtSlots.n-as-by T12 11 (Rows.arrF (Array'.Array (Referent.rtF (Referent.fInt Syntax.w16)) 2048) 2 0) λ x. x
+  s11 = AtSlots.n-as-by T12 11 (Rows.arrF (Array'.Array (Referent.rtF (Referent.fInt Syntax.w16)) 4096) 2 0) λ x. x
 
   abbrev s12 : Typed.Mo T13 → Typed.Mo T14
   s12 = Scalar.n-room T13 15 ty·1
 
   abbrev s13 : Typed.Mo T14 → Typed.Mo T15
-  s13 = Repeat.n-repeat (Referent.rtF (Referent.fInt Syntax.w8)) 2048 T14 16 λ m. 0
+  s13 = Repeat.n-repeat (Referent.rtF (Referent.fInt Syntax.w8)) 4096 T14 16 λ m. 0
 
   abbrev s14 : Typed.Mo T15 → Typed.Mo T16
-  s14 = AtSlots.n-as-by T15 16 (Rows.arrF (Referent.rtF (Referent.fInt Syntax.w8)) 2048 0) λ x. x
+  s14 = AtSlots.n-as-by T15 16 (Rows.arrF (Referent.rtF (Referent.fInt Syntax.w8)) 4096 0) λ x. x
 
   abbrev s15 : Typed.Mo T16 → Typed.Mo T17
-  s15 = Repeat.n-repeat (Array'.Array (Referent.rtF (Referent.fInt Syntax.w8)) 2048) 2 T16 12 λ m. m .1 .1 .1 .1 .1 .1 .1 .1 .1 .1 .1 .1 .1 .1 .1 .1 .0
+  s15 = Repeat.n-repeat (Array'.Array (Referent.rtF (Referent.fInt Syntax.w8)) 4096) 2 T16 12 λ m. m .1 .1 .1 .1 .1 .1 .1 .1 .1 .1 .1 .1 .1 .1 .1 .1 .0
 
   abbrev s16 : Typed.Mo T17 → Typed.Mo T18
-  s16 = AtSlots.n-as-by T17 12 (Rows.arrF (Array'.Array (Referent.rtF (Referent.fInt Syntax.w8)) 2048) 2 0) λ x. x
+  s16 = AtSlots.n-as-by T17 12 (Rows.arrF (Array'.Array (Referent.rtF (Referent.fInt Syntax.w8)) 4096) 2 0) λ x. x
 
   abbrev s17 : Typed.Mo T18 → Typed.Mo T19
   s17 = Scalar.n-room T18 16 ty·0
 
   abbrev s18 : Typed.Mo T19 → Typed.Mo T20
-  s18 = Repeat.n-repeat (Referent.rtF (Referent.fInt Syntax.w8)) 2048 T19 13 λ m. 0
+  s18 = Repeat.n-repeat (Referent.rtF (Referent.fInt Syntax.w8)) 4096 T19 13 λ m. 0
 
   abbrev s19 : Typed.Mo T20 → Typed.Mo T21
-  s19 = AtSlots.n-as-by T20 13 (Rows.arrF (Referent.rtF (Referent.fInt Syntax.w8)) 2048 0) λ x. x
+  s19 = AtSlots.n-as-by T20 13 (Rows.arrF (Referent.rtF (Referent.fInt Syntax.w8)) 4096 0) λ x. x
 
   abbrev s21 : Typed.Gives T21 T23
-  s21 = Local.k-sc-borrow T21 11 17 9 (Array'.Array (Array'.Array (Referent.rtF (Referent.fInt Syntax.w16)) 2048) 2) (Syntax.tyRef Syntax.erased Syntax.mut (Syntax.tyArray ty·1 2)) λ x. x
+  s21 = Local.k-sc-borrow T21 11 17 9 (Array'.Array (Array'.Array (Referent.rtF (Referent.fInt Syntax.w16)) 4096) 2) (Syntax.tyRef Syntax.erased Syntax.mut (Syntax.tyArray ty·1 2)) λ x. x
 
   abbrev s23 : Typed.Gives T23 T25
-  s23 = Local.k-sc-borrow T23 12 18 10 (Array'.Array (Array'.Array (Referent.rtF (Referent.fInt Syntax.w8)) 2048) 2) (Syntax.tyRef Syntax.erased Syntax.mut (Syntax.tyArray ty·0 2)) λ x. x
+  s23 = Local.k-sc-borrow T23 12 18 10 (Array'.Array (Array'.Array (Referent.rtF (Referent.fInt Syntax.w8)) 4096) 2) (Syntax.tyRef Syntax.erased Syntax.mut (Syntax.tyArray ty·0 2)) λ x. x
 
   abbrev s25 : Typed.Gives T25 T27
-  s25 = Local.k-sc-borrow T25 13 19 11 (Array'.Array (Referent.rtF (Referent.fInt Syntax.w8)) 2048) (Syntax.tyRef Syntax.erased Syntax.mut ty·0) λ x. x
+  s25 = Local.k-sc-borrow T25 13 19 11 (Array'.Array (Referent.rtF (Referent.fInt Syntax.w8)) 4096) (Syntax.tyRef Syntax.erased Syntax.mut ty·0) λ x. x
 
   abbrev s26 : Typed.Both T27 T28
   s26 = Call.callB ps·0 r·0 (claims· .0) (claims· .1) T27 args·0 14 (List._∷_ 1 (List._∷_ 8 (List._∷_ 9 (List._∷_ 10 (List._∷_ 11 List.[]))))) (Syntax.tyInt Syntax.w64)
 
   abbrev s28 : Typed.Asks T28 T30
-  s28 = Local.k-back-sc T28 17 11 9 (Array'.Array (Array'.Array (Referent.rtF (Referent.fInt Syntax.w16)) 2048) 2) (Syntax.tyRef Syntax.erased Syntax.mut (Syntax.tyArray ty·1 2)) (Rows.arrF (Array'.Array (Referent.rtF (Referent.fInt Syntax.w16)) 2048) 2 0) (λ x. x) (λ x. x) λ x. x
+  s28 = Local.k-back-sc T28 17 11 9 (Array'.Array (Array'.Array (Referent.rtF (Referent.fInt Syntax.w16)) 4096) 2) (Syntax.tyRef Syntax.erased Syntax.mut (Syntax.tyArray ty·1 2)) (Rows.arrF (Array'.Array (Referent.rtF (Referent.fInt Syntax.w16)) 4096) 2 0) (λ x. x) (λ x. x) λ x. x
 
   abbrev s31 : Typed.Asks T30 T33
-  s31 = Local.k-back-sc T30 18 12 10 (Array'.Array (Array'.Array (Referent.rtF (Referent.fInt Syntax.w8)) 2048) 2) (Syntax.tyRef Syntax.erased Syntax.mut (Syntax.tyArray ty·0 2)) (Rows.arrF (Array'.Array (Referent.rtF (Referent.fInt Syntax.w8)) 2048) 2 0) (λ x. x) (λ x. x) λ x. x
+  s31 = Local.k-back-sc T30 18 12 10 (Array'.Array (Array'.Array (Referent.rtF (Referent.fInt Syntax.w8)) 4096) 2) (Syntax.tyRef Syntax.erased Syntax.mut (Syntax.tyArray ty·0 2)) (Rows.arrF (Array'.Array (Referent.rtF (Referent.fInt Syntax.w8)) 4096) 2 0) (λ x. x) (λ x. x) λ x. x
 
   abbrev s34 : Typed.Asks T33 T36
-  s34 = Local.k-back-sc T33 19 13 11 (Array'.Array (Referent.rtF (Referent.fInt Syntax.w8)) 2048) (Syntax.tyRef Syntax.erased Syntax.mut ty·0) (Rows.arrF (Referent.rtF (Referent.fInt Syntax.w8)) 2048 0) (λ x. x) (λ x. x) λ x. x
+  s34 = Local.k-back-sc T33 19 13 11 (Array'.Array (Referent.rtF (Referent.fInt Syntax.w8)) 4096) (Syntax.tyRef Syntax.erased Syntax.mut ty·0) (Rows.arrF (Referent.rtF (Referent.fInt Syntax.w8)) 4096 0) (λ x. x) (λ x. x) λ x. x
 
   abbrev s37 : Typed.Gives T36 T39
   s37 = Relend.k-sl-relend (Referent.rtF (Referent.fInt Syntax.w16)) T36 7 20 6 12 ty·12 ty·4 Row.off λ x. x
@@ -718,13 +718,13 @@ module _ (claims· : Claims) where
   s41 = Relend.k-sl-aggregate (Referent.rtF (Referent.fInt Syntax.w8)) (Relend.asMut (Referent.rtF (Referent.fInt Syntax.w8))) T42 22 23 13 ty·3 ty·3 (λ x. x) (Scalar.oFld 8 (List._∷_ (Syntax.field 1) List.[]) (Syntax.tyInt Syntax.w64) 8 λ v. Shared.lenV (v .0))
 
   abbrev s43 : Typed.Gives T43 T45
-  s43 = Local.k-sc-share T43 11 24 14 (Array'.Array (Array'.Array (Referent.rtF (Referent.fInt Syntax.w16)) 2048) 2) (Syntax.tyRef Syntax.erased Syntax.imm (Syntax.tyArray ty·1 2)) λ x. x
+  s43 = Local.k-sc-share T43 11 24 14 (Array'.Array (Array'.Array (Referent.rtF (Referent.fInt Syntax.w16)) 4096) 2) (Syntax.tyRef Syntax.erased Syntax.imm (Syntax.tyArray ty·1 2)) λ x. x
 
   abbrev s45 : Typed.Gives T45 T47
-  s45 = Local.k-sc-share T45 12 25 15 (Array'.Array (Array'.Array (Referent.rtF (Referent.fInt Syntax.w8)) 2048) 2) (Syntax.tyRef Syntax.erased Syntax.imm (Syntax.tyArray ty·0 2)) λ x. x
+  s45 = Local.k-sc-share T45 12 25 15 (Array'.Array (Array'.Array (Referent.rtF (Referent.fInt Syntax.w8)) 4096) 2) (Syntax.tyRef Syntax.erased Syntax.imm (Syntax.tyArray ty·0 2)) λ x. x
 
   abbrev s47 : Typed.Gives T47 T49
-  s47 = Local.k-sc-share T47 13 26 16 (Array'.Array (Referent.rtF (Referent.fInt Syntax.w8)) 2048) (Syntax.tyRef Syntax.erased Syntax.imm ty·0) λ x. x
+  s47 = Local.k-sc-share T47 13 26 16 (Array'.Array (Referent.rtF (Referent.fInt Syntax.w8)) 4096) (Syntax.tyRef Syntax.erased Syntax.imm ty·0) λ x. x
 
   abbrev s48 : Typed.Both T49 T50
   s48 = Call.callB ps·1 r·1 (claims· .2) (claims· .3) T49 args·1 0 (List._∷_ 0 (List._∷_ 1 (List._∷_ 2 (List._∷_ 3 (List._∷_ 4 (List._∷_ 5 (List._∷_ 12 (List._∷_ 13 (List._∷_ 14 (List._∷_ 15 (List._∷_ 16 List.[]))))))))))) ty·13
@@ -754,19 +754,19 @@ module _ (claims· : Claims) where
   s59 = Know.k-sl-known (Referent.fInt Syntax.w8) T60 8 7 ty·6 Row.off 0 λ x. x
 
   abbrev s62 : Typed.Mo T60 → Typed.Mo T64
-  s62 = Local.n-back-shr T60 11 14 (Rows.arrF (Array'.Array (Referent.rtF (Referent.fInt Syntax.w16)) 2048) 2 0) λ x. x
+  s62 = Local.n-back-shr T60 11 14 (Rows.arrF (Array'.Array (Referent.rtF (Referent.fInt Syntax.w16)) 4096) 2 0) λ x. x
 
   abbrev s64 : Typed.Mo T64 → Typed.Mo T66
   s64 = Scalar.n-room T64 11 (Syntax.tyArray ty·1 2)
 
   abbrev s66 : Typed.Mo T66 → Typed.Mo T68
-  s66 = Local.n-back-shr T66 12 15 (Rows.arrF (Array'.Array (Referent.rtF (Referent.fInt Syntax.w8)) 2048) 2 0) λ x. x
+  s66 = Local.n-back-shr T66 12 15 (Rows.arrF (Array'.Array (Referent.rtF (Referent.fInt Syntax.w8)) 4096) 2 0) λ x. x
 
   abbrev s68 : Typed.Mo T68 → Typed.Mo T70
   s68 = Scalar.n-room T68 12 (Syntax.tyArray ty·0 2)
 
   abbrev s70 : Typed.Mo T70 → Typed.Mo T72
-  s70 = Local.n-back-shr T70 13 16 (Rows.arrF (Referent.rtF (Referent.fInt Syntax.w8)) 2048 0) λ x. x
+  s70 = Local.n-back-shr T70 13 16 (Rows.arrF (Referent.rtF (Referent.fInt Syntax.w8)) 4096 0) λ x. x
 
   abbrev s72 : Typed.Mo T72 → Typed.Mo T74
   s72 = Scalar.n-room T72 13 ty·0
@@ -927,60 +927,60 @@ module _ (claims· : Claims) where
         abbrev g27 : List.List Row.Entry
         g27 = List._∷_ (0, Rows'.any-gone ty·13) (List._∷_ (1, Rows'.sslice (Referent.rtF (Referent.fInt Syntax.w16)) ty·7 0) (List._∷_ (2, Rows'.sslice (Referent.rtF (Referent.fInt Syntax.w16)) ty·8 1) (List._∷_ (3, Rows'.sslice (Referent.rtF (Referent.fInt Syntax.w8)) ty·5 2) (List._∷_ (4, Rows'.sslice (Referent.rtF (Referent.fInt Syntax.w16)) ty·9 3)
             (List._∷_ (5, Rows'.sslice (Referent.rtF (Referent.fInt Syntax.w16)) ty·10 4) (List._∷_ (6, Rows'.sslice (Referent.rtF (Referent.fInt Syntax.w32)) ty·11 5) (List._∷_ (7, Relend.mslice-owed (Referent.rtF (Referent.fInt Syntax.w16)) ty·12 6 12 (Row.lease (κs .1 .1 .1 .1 .1 .1 .0) (qs .1 .1 .1 .1 .1 .1 .0))) (List._∷_
-            (8, Mut.mslice (Referent.rtF (Referent.fInt Syntax.w8)) ty·6 7) (List._∷_ (9, Rows'.sslice Rec.rt ty·2 8) (List._∷_ (10, Rows'.sc-here (Row.sInt Syntax.w64)) (List._∷_ (11, Rows.arrF (Array'.Array (Referent.rtF (Referent.fInt Syntax.w16)) 2048) 2 0) (List._∷_ (12, Rows.arrF (Array'.Array (Referent.rtF (Referent.fInt Syntax.w8)) 2048) 2 0) (List._∷_
-            (13, Rows.arrF (Referent.rtF (Referent.fInt Syntax.w8)) 2048 0) (List._∷_ (14, Rows'.sc-here (Row.sInt Syntax.w64)) (List._∷_ (15, Rows'.any-gone ty·1) List.[])))))))))))))))
+            (8, Mut.mslice (Referent.rtF (Referent.fInt Syntax.w8)) ty·6 7) (List._∷_ (9, Rows'.sslice Rec.rt ty·2 8) (List._∷_ (10, Rows'.sc-here (Row.sInt Syntax.w64)) (List._∷_ (11, Rows.arrF (Array'.Array (Referent.rtF (Referent.fInt Syntax.w16)) 4096) 2 0) (List._∷_ (12, Rows.arrF (Array'.Array (Referent.rtF (Referent.fInt Syntax.w8)) 4096) 2 0) (List._∷_
+            (13, Rows.arrF (Referent.rtF (Referent.fInt Syntax.w8)) 4096 0) (List._∷_ (14, Rows'.sc-here (Row.sInt Syntax.w64)) (List._∷_ (15, Rows'.any-gone ty·1) List.[])))))))))))))))
 
         abbrev g30 : List.List Row.Entry
         g30 = List._∷_ (0, Rows'.any-gone ty·13) (List._∷_ (1, Rows'.sslice (Referent.rtF (Referent.fInt Syntax.w16)) ty·7 0) (List._∷_ (2, Rows'.sslice (Referent.rtF (Referent.fInt Syntax.w16)) ty·8 1) (List._∷_ (3, Rows'.sslice (Referent.rtF (Referent.fInt Syntax.w8)) ty·5 2) (List._∷_ (4, Rows'.sslice (Referent.rtF (Referent.fInt Syntax.w16)) ty·9 3)
             (List._∷_ (5, Rows'.sslice (Referent.rtF (Referent.fInt Syntax.w16)) ty·10 4) (List._∷_ (6, Rows'.sslice (Referent.rtF (Referent.fInt Syntax.w32)) ty·11 5) (List._∷_ (7, Relend.mslice-owed (Referent.rtF (Referent.fInt Syntax.w16)) ty·12 6 12 (Row.lease (κs .1 .1 .1 .1 .1 .1 .0) (qs .1 .1 .1 .1 .1 .1 .0))) (List._∷_
-            (8, Relend.mslice-owed (Referent.rtF (Referent.fInt Syntax.w8)) ty·6 7 13 (Row.lease (κs .1 .1 .1 .1 .1 .1 .1 .0) (qs .1 .1 .1 .1 .1 .1 .1 .0))) (List._∷_ (9, Rows'.sslice Rec.rt ty·2 8) (List._∷_ (10, Rows'.sc-here (Row.sInt Syntax.w64)) (List._∷_ (11, Rows.arrF (Array'.Array (Referent.rtF (Referent.fInt Syntax.w16)) 2048) 2 0) (List._∷_
-            (12, Rows.arrF (Array'.Array (Referent.rtF (Referent.fInt Syntax.w8)) 2048) 2 0) (List._∷_ (13, Rows.arrF (Referent.rtF (Referent.fInt Syntax.w8)) 2048 0) (List._∷_ (14, Rows'.sc-here (Row.sInt Syntax.w64)) (List._∷_ (15, Rows'.any-gone ty·1) List.[])))))))))))))))
+            (8, Relend.mslice-owed (Referent.rtF (Referent.fInt Syntax.w8)) ty·6 7 13 (Row.lease (κs .1 .1 .1 .1 .1 .1 .1 .0) (qs .1 .1 .1 .1 .1 .1 .1 .0))) (List._∷_ (9, Rows'.sslice Rec.rt ty·2 8) (List._∷_ (10, Rows'.sc-here (Row.sInt Syntax.w64)) (List._∷_ (11, Rows.arrF (Array'.Array (Referent.rtF (Referent.fInt Syntax.w16)) 4096) 2 0) (List._∷_
+            (12, Rows.arrF (Array'.Array (Referent.rtF (Referent.fInt Syntax.w8)) 4096) 2 0) (List._∷_ (13, Rows.arrF (Referent.rtF (Referent.fInt Syntax.w8)) 4096 0) (List._∷_ (14, Rows'.sc-here (Row.sInt Syntax.w64)) (List._∷_ (15, Rows'.any-gone ty·1) List.[])))))))))))))))
 
         abbrev g33 : List.List Row.Entry
         g33 = List._∷_ (0, Rows'.any-gone ty·13) (List._∷_ (1, Rows'.sslice (Referent.rtF (Referent.fInt Syntax.w16)) ty·7 0) (List._∷_ (2, Rows'.sslice (Referent.rtF (Referent.fInt Syntax.w16)) ty·8 1) (List._∷_ (3, Rows'.sslice (Referent.rtF (Referent.fInt Syntax.w8)) ty·5 2) (List._∷_ (4, Rows'.sslice (Referent.rtF (Referent.fInt Syntax.w16)) ty·9 3)
             (List._∷_ (5, Rows'.sslice (Referent.rtF (Referent.fInt Syntax.w16)) ty·10 4) (List._∷_ (6, Rows'.sslice (Referent.rtF (Referent.fInt Syntax.w32)) ty·11 5) (List._∷_ (7, Relend.mslice-owed (Referent.rtF (Referent.fInt Syntax.w16)) ty·12 6 12 (Row.lease (κs .1 .1 .1 .1 .1 .1 .0) (qs .1 .1 .1 .1 .1 .1 .0))) (List._∷_
             (8, Relend.mslice-owed (Referent.rtF (Referent.fInt Syntax.w8)) ty·6 7 13 (Row.lease (κs .1 .1 .1 .1 .1 .1 .1 .0) (qs .1 .1 .1 .1 .1 .1 .1 .0))) (List._∷_ (9, Rows'.sslice Rec.rt ty·2 8) (List._∷_ (10, Rows'.sc-here (Row.sInt Syntax.w64)) (List._∷_
-            (11, Rows'.sc-shr (Rows.arrF (Array'.Array (Referent.rtF (Referent.fInt Syntax.w16)) 2048) 2 0) (Array'.Array (Array'.Array (Referent.rtF (Referent.fInt Syntax.w16)) 2048) 2) (λ x. x) 14) (List._∷_ (12, Rows.arrF (Array'.Array (Referent.rtF (Referent.fInt Syntax.w8)) 2048) 2 0) (List._∷_ (13, Rows.arrF (Referent.rtF (Referent.fInt Syntax.w8)) 2048 0)
+            (11, Rows'.sc-shr (Rows.arrF (Array'.Array (Referent.rtF (Referent.fInt Syntax.w16)) 4096) 2 0) (Array'.Array (Array'.Array (Referent.rtF (Referent.fInt Syntax.w16)) 4096) 2) (λ x. x) 14) (List._∷_ (12, Rows.arrF (Array'.Array (Referent.rtF (Referent.fInt Syntax.w8)) 4096) 2 0) (List._∷_ (13, Rows.arrF (Referent.rtF (Referent.fInt Syntax.w8)) 4096 0)
             (List._∷_ (14, Rows'.sc-here (Row.sInt Syntax.w64)) (List._∷_ (15, Rows'.any-gone ty·1) List.[])))))))))))))))
 
         abbrev g35 : List.List Row.Entry
         g35 = List._∷_ (0, Rows'.any-gone ty·13) (List._∷_ (1, Rows'.sslice (Referent.rtF (Referent.fInt Syntax.w16)) ty·7 0) (List._∷_ (2, Rows'.sslice (Referent.rtF (Referent.fInt Syntax.w16)) ty·8 1) (List._∷_ (3, Rows'.sslice (Referent.rtF (Referent.fInt Syntax.w8)) ty·5 2) (List._∷_ (4, Rows'.sslice (Referent.rtF (Referent.fInt Syntax.w16)) ty·9 3)
             (List._∷_ (5, Rows'.sslice (Referent.rtF (Referent.fInt Syntax.w16)) ty·10 4) (List._∷_ (6, Rows'.sslice (Referent.rtF (Referent.fInt Syntax.w32)) ty·11 5) (List._∷_ (7, Relend.mslice-owed (Referent.rtF (Referent.fInt Syntax.w16)) ty·12 6 12 (Row.lease (κs .1 .1 .1 .1 .1 .1 .0) (qs .1 .1 .1 .1 .1 .1 .0))) (List._∷_
             (8, Relend.mslice-owed (Referent.rtF (Referent.fInt Syntax.w8)) ty·6 7 13 (Row.lease (κs .1 .1 .1 .1 .1 .1 .1 .0) (qs .1 .1 .1 .1 .1 .1 .1 .0))) (List._∷_ (9, Rows'.sslice Rec.rt ty·2 8) (List._∷_ (10, Rows'.sc-here (Row.sInt Syntax.w64)) (List._∷_
-            (11, Rows'.sc-shr (Rows.arrF (Array'.Array (Referent.rtF (Referent.fInt Syntax.w16)) 2048) 2 0) (Array'.Array (Array'.Array (Referent.rtF (Referent.fInt Syntax.w16)) 2048) 2) (λ x. x) 14) (List._∷_
-            (12, Rows'.sc-shr (Rows.arrF (Array'.Array (Referent.rtF (Referent.fInt Syntax.w8)) 2048) 2 0) (Array'.Array (Array'.Array (Referent.rtF (Referent.fInt Syntax.w8)) 2048) 2) (λ x. x) 15) (List._∷_ (13, Rows.arrF (Referent.rtF (Referent.fInt Syntax.w8)) 2048 0) (List._∷_ (14, Rows'.sc-here (Row.sInt Syntax.w64)) (List._∷_ (15, Rows'.any-gone ty·1)
+            (11, Rows'.sc-shr (Rows.arrF (Array'.Array (Referent.rtF (Referent.fInt Syntax.w16)) 4096) 2 0) (Array'.Array (Array'.Array (Referent.rtF (Referent.fInt Syntax.w16)) 4096) 2) (λ x. x) 14) (List._∷_
+            (12, Rows'.sc-shr (Rows.arrF (Array'.Array (Referent.rtF (Referent.fInt Syntax.w8)) 4096) 2 0) (Array'.Array (Array'.Array (Referent.rtF (Referent.fInt Syntax.w8)) 4096) 2) (λ x. x) 15) (List._∷_ (13, Rows.arrF (Referent.rtF (Referent.fInt Syntax.w8)) 4096 0) (List._∷_ (14, Rows'.sc-here (Row.sInt Syntax.w64)) (List._∷_ (15, Rows'.any-gone ty·1)
             List.[])))))))))))))))
 
         abbrev g37 : List.List Row.Entry
         g37 = List._∷_ (0, Rows'.any-gone ty·13) (List._∷_ (1, Rows'.sslice (Referent.rtF (Referent.fInt Syntax.w16)) ty·7 0) (List._∷_ (2, Rows'.sslice (Referent.rtF (Referent.fInt Syntax.w16)) ty·8 1) (List._∷_ (3, Rows'.sslice (Referent.rtF (Referent.fInt Syntax.w8)) ty·5 2) (List._∷_ (4, Rows'.sslice (Referent.rtF (Referent.fInt Syntax.w16)) ty·9 3)
             (List._∷_ (5, Rows'.sslice (Referent.rtF (Referent.fInt Syntax.w16)) ty·10 4) (List._∷_ (6, Rows'.sslice (Referent.rtF (Referent.fInt Syntax.w32)) ty·11 5) (List._∷_ (7, Relend.mslice-owed (Referent.rtF (Referent.fInt Syntax.w16)) ty·12 6 12 (Row.lease (κs .1 .1 .1 .1 .1 .1 .0) (qs .1 .1 .1 .1 .1 .1 .0))) (List._∷_
             (8, Relend.mslice-owed (Referent.rtF (Referent.fInt Syntax.w8)) ty·6 7 13 (Row.lease (κs .1 .1 .1 .1 .1 .1 .1 .0) (qs .1 .1 .1 .1 .1 .1 .1 .0))) (List._∷_ (9, Rows'.sslice Rec.rt ty·2 8) (List._∷_ (10, Rows'.sc-here (Row.sInt Syntax.w64)) (List._∷_
-            (11, Rows'.sc-shr (Rows.arrF (Array'.Array (Referent.rtF (Referent.fInt Syntax.w16)) 2048) 2 0) (Array'.Array (Array'.Array (Referent.rtF (Referent.fInt Syntax.w16)) 2048) 2) (λ x. x) 14) (List._∷_
-            (12, Rows'.sc-shr (Rows.arrF (Array'.Array (Referent.rtF (Referent.fInt Syntax.w8)) 2048) 2 0) (Array'.Array (Array'.Array (Referent.rtF (Referent.fInt Syntax.w8)) 2048) 2) (λ x. x) 15) (List._∷_ (13, Rows'.sc-shr (Rows.arrF (Referent.rtF (Referent.fInt Syntax.w8)) 2048 0) (Array'.Array (Referent.rtF (Referent.fInt Syntax.w8)) 2048) (λ x. x) 16)
+            (11, Rows'.sc-shr (Rows.arrF (Array'.Array (Referent.rtF (Referent.fInt Syntax.w16)) 4096) 2 0) (Array'.Array (Array'.Array (Referent.rtF (Referent.fInt Syntax.w16)) 4096) 2) (λ x. x) 14) (List._∷_
+            (12, Rows'.sc-shr (Rows.arrF (Array'.Array (Referent.rtF (Referent.fInt Syntax.w8)) 4096) 2 0) (Array'.Array (Array'.Array (Referent.rtF (Referent.fInt Syntax.w8)) 4096) 2) (λ x. x) 15) (List._∷_ (13, Rows'.sc-shr (Rows.arrF (Referent.rtF (Referent.fInt Syntax.w8)) 4096 0) (Array'.Array (Referent.rtF (Referent.fInt Syntax.w8)) 4096) (λ x. x) 16)
             (List._∷_ (14, Rows'.sc-here (Row.sInt Syntax.w64)) (List._∷_ (15, Rows'.any-gone ty·1) List.[])))))))))))))))
 
         abbrev g39 : List.List Row.Entry
         g39 = List._∷_ (0, Rows'.whole (Declared.row ArriveReply.the-type)) (List._∷_ (1, Rows'.sslice (Referent.rtF (Referent.fInt Syntax.w16)) ty·7 0) (List._∷_ (2, Rows'.sslice (Referent.rtF (Referent.fInt Syntax.w16)) ty·8 1) (List._∷_ (3, Rows'.sslice (Referent.rtF (Referent.fInt Syntax.w8)) ty·5 2) (List._∷_
             (4, Rows'.sslice (Referent.rtF (Referent.fInt Syntax.w16)) ty·9 3) (List._∷_ (5, Rows'.sslice (Referent.rtF (Referent.fInt Syntax.w16)) ty·10 4) (List._∷_ (6, Rows'.sslice (Referent.rtF (Referent.fInt Syntax.w32)) ty·11 5) (List._∷_
             (7, Relend.mslice-owed (Referent.rtF (Referent.fInt Syntax.w16)) ty·12 6 12 (Row.lease (κs .1 .1 .1 .1 .1 .1 .0) (qs .1 .1 .1 .1 .1 .1 .0))) (List._∷_ (8, Relend.mslice-owed (Referent.rtF (Referent.fInt Syntax.w8)) ty·6 7 13 (Row.lease (κs .1 .1 .1 .1 .1 .1 .1 .0) (qs .1 .1 .1 .1 .1 .1 .1 .0))) (List._∷_ (9, Rows'.sslice Rec.rt ty·2 8) (List._∷_
-            (10, Rows'.sc-here (Row.sInt Syntax.w64)) (List._∷_ (11, Rows'.sc-shr (Rows.arrF (Array'.Array (Referent.rtF (Referent.fInt Syntax.w16)) 2048) 2 0) (Array'.Array (Array'.Array (Referent.rtF (Referent.fInt Syntax.w16)) 2048) 2) (λ x. x) 14) (List._∷_
-            (12, Rows'.sc-shr (Rows.arrF (Array'.Array (Referent.rtF (Referent.fInt Syntax.w8)) 2048) 2 0) (Array'.Array (Array'.Array (Referent.rtF (Referent.fInt Syntax.w8)) 2048) 2) (λ x. x) 15) (List._∷_ (13, Rows'.sc-shr (Rows.arrF (Referent.rtF (Referent.fInt Syntax.w8)) 2048 0) (Array'.Array (Referent.rtF (Referent.fInt Syntax.w8)) 2048) (λ x. x) 16)
+            (10, Rows'.sc-here (Row.sInt Syntax.w64)) (List._∷_ (11, Rows'.sc-shr (Rows.arrF (Array'.Array (Referent.rtF (Referent.fInt Syntax.w16)) 4096) 2 0) (Array'.Array (Array'.Array (Referent.rtF (Referent.fInt Syntax.w16)) 4096) 2) (λ x. x) 14) (List._∷_
+            (12, Rows'.sc-shr (Rows.arrF (Array'.Array (Referent.rtF (Referent.fInt Syntax.w8)) 4096) 2 0) (Array'.Array (Array'.Array (Referent.rtF (Referent.fInt Syntax.w8)) 4096) 2) (λ x. x) 15) (List._∷_ (13, Rows'.sc-shr (Rows.arrF (Referent.rtF (Referent.fInt Syntax.w8)) 4096 0) (Array'.Array (Referent.rtF (Referent.fInt Syntax.w8)) 4096) (λ x. x) 16)
             (List._∷_ (14, Rows'.sc-here (Row.sInt Syntax.w64)) (List._∷_ (15, Rows'.any-gone ty·1) List.[])))))))))))))))
 
         abbrev g44 : List.List Row.Entry
         g44 = List._∷_ (0, Rows'.whole (Declared.row ArriveReply.the-type)) (List._∷_ (1, Rows'.sslice (Referent.rtF (Referent.fInt Syntax.w16)) ty·7 0) (List._∷_ (2, Rows'.sslice (Referent.rtF (Referent.fInt Syntax.w16)) ty·8 1) (List._∷_ (3, Rows'.sslice (Referent.rtF (Referent.fInt Syntax.w8)) ty·5 2) (List._∷_
             (4, Rows'.sslice (Referent.rtF (Referent.fInt Syntax.w16)) ty·9 3) (List._∷_ (5, Rows'.sslice (Referent.rtF (Referent.fInt Syntax.w16)) ty·10 4) (List._∷_ (6, Rows'.sslice (Referent.rtF (Referent.fInt Syntax.w32)) ty·11 5) (List._∷_
             (7, Relend.mslice-owed (Referent.rtF (Referent.fInt Syntax.w16)) ty·12 6 12 (Row.lease (κs .1 .1 .1 .1 .1 .1 .0) (qs .1 .1 .1 .1 .1 .1 .0))) (List._∷_ (8, Relend.mslice-owed (Referent.rtF (Referent.fInt Syntax.w8)) ty·6 7 13 (Row.lease (κs .1 .1 .1 .1 .1 .1 .1 .0) (qs .1 .1 .1 .1 .1 .1 .1 .0))) (List._∷_ (9, Rows'.sslice Rec.rt ty·2 8) (List._∷_
-            (10, Rows'.sc-here (Row.sInt Syntax.w64)) (List._∷_ (11, Rows'.sc-shr (Rows.arrF (Array'.Array (Referent.rtF (Referent.fInt Syntax.w16)) 2048) 2 0) (Array'.Array (Array'.Array (Referent.rtF (Referent.fInt Syntax.w16)) 2048) 2) (λ x. x) 14) (List._∷_
-            (12, Rows'.sc-shr (Rows.arrF (Array'.Array (Referent.rtF (Referent.fInt Syntax.w8)) 2048) 2 0) (Array'.Array (Array'.Array (Referent.rtF (Referent.fInt Syntax.w8)) 2048) 2) (λ x. x) 15) (List._∷_ (13, Rows'.sc-shr (Rows.arrF (Referent.rtF (Referent.fInt Syntax.w8)) 2048 0) (Array'.Array (Referent.rtF (Referent.fInt Syntax.w8)) 2048) (λ x. x) 16)
+            (10, Rows'.sc-here (Row.sInt Syntax.w64)) (List._∷_ (11, Rows'.sc-shr (Rows.arrF (Array'.Array (Referent.rtF (Referent.fInt Syntax.w16)) 4096) 2 0) (Array'.Array (Array'.Array (Referent.rtF (Referent.fInt Syntax.w16)) 4096) 2) (λ x. x) 14) (List._∷_
+            (12, Rows'.sc-shr (Rows.arrF (Array'.Array (Referent.rtF (Referent.fInt Syntax.w8)) 4096) 2 0) (Array'.Array (Array'.Array (Referent.rtF (Referent.fInt Syntax.w8)) 4096) 2) (λ x. x) 15) (List._∷_ (13, Rows'.sc-shr (Rows.arrF (Referent.rtF (Referent.fInt Syntax.w8)) 4096 0) (Array'.Array (Referent.rtF (Referent.fInt Syntax.w8)) 4096) (λ x. x) 16)
             (List._∷_ (14, Rows'.any-gone (Syntax.tyInt Syntax.w64)) (List._∷_ (15, Rows'.any-gone ty·1) List.[])))))))))))))))
 
         abbrev g45 : List.List Row.Entry
         g45 = List._∷_ (0, Rows'.whole (Declared.row ArriveReply.the-type)) (List._∷_ (1, Rows'.sslice (Referent.rtF (Referent.fInt Syntax.w16)) ty·7 0) (List._∷_ (2, Rows'.sslice (Referent.rtF (Referent.fInt Syntax.w16)) ty·8 1) (List._∷_ (3, Rows'.sslice (Referent.rtF (Referent.fInt Syntax.w8)) ty·5 2) (List._∷_
             (4, Rows'.sslice (Referent.rtF (Referent.fInt Syntax.w16)) ty·9 3) (List._∷_ (5, Rows'.sslice (Referent.rtF (Referent.fInt Syntax.w16)) ty·10 4) (List._∷_ (6, Rows'.sslice (Referent.rtF (Referent.fInt Syntax.w32)) ty·11 5) (List._∷_ (7, Mut.mslice (Referent.rtF (Referent.fInt Syntax.w16)) ty·12 6) (List._∷_
             (8, Relend.mslice-owed (Referent.rtF (Referent.fInt Syntax.w8)) ty·6 7 13 (Row.lease (κs .1 .1 .1 .1 .1 .1 .1 .0) (qs .1 .1 .1 .1 .1 .1 .1 .0))) (List._∷_ (9, Rows'.sslice Rec.rt ty·2 8) (List._∷_ (10, Rows'.sc-here (Row.sInt Syntax.w64)) (List._∷_
-            (11, Rows'.sc-shr (Rows.arrF (Array'.Array (Referent.rtF (Referent.fInt Syntax.w16)) 2048) 2 0) (Array'.Array (Array'.Array (Referent.rtF (Referent.fInt Syntax.w16)) 2048) 2) (λ x. x) 14) (List._∷_
-            (12, Rows'.sc-shr (Rows.arrF (Array'.Array (Referent.rtF (Referent.fInt Syntax.w8)) 2048) 2 0) (Array'.Array (Array'.Array (Referent.rtF (Referent.fInt Syntax.w8)) 2048) 2) (λ x. x) 15) (List._∷_ (13, Rows'.sc-shr (Rows.arrF (Referent.rtF (Referent.fInt Syntax.w8)) 2048 0) (Array'.Array (Referent.rtF (Referent.fInt Syntax.w8)) 2048) (λ x. x) 16)
+            (11, Rows'.sc-shr (Rows.arrF (Array'.Array (Referent.rtF (Referent.fInt Syntax.w16)) 4096) 2 0) (Array'.Array (Array'.Array (Referent.rtF (Referent.fInt Syntax.w16)) 4096) 2) (λ x. x) 14) (List._∷_
+            (12, Rows'.sc-shr (Rows.arrF (Array'.Array (Referent.rtF (Referent.fInt Syntax.w8)) 4096) 2 0) (Array'.Array (Array'.Array (Referent.rtF (Referent.fInt Syntax.w8)) 4096) 2) (λ x. x) 15) (List._∷_ (13, Rows'.sc-shr (Rows.arrF (Referent.rtF (Referent.fInt Syntax.w8)) 4096 0) (Array'.Array (Referent.rtF (Referent.fInt Syntax.w8)) 4096) (λ x. x) 16)
             (List._∷_ (14, Rows'.any-gone (Syntax.tyInt Syntax.w64)) (List._∷_ (15, Rows'.any-gone ty·1) List.[])))))))))))))))
 
         abbrev slots·0 : List.List Row.Life
@@ -1286,22 +1286,22 @@ module _ (claims· : Claims) where
           d0 = Typed.t-return 𝓤 H A W 𝓣 E Δ0 tt
 
           d4 : Typed.Typed 𝓤 H A 𝓣 E G71 b17 Δ0 at4
-          d4 = Typed.g-pre 𝓤 H A W 𝓣 E G71 G72 b17 Δ0 (Typed.pass T70 T72 s70) at2 (Local.g-back-shr 𝓤 H A W E G71 13 16 (Rows.arrF (Referent.rtF (Referent.fInt Syntax.w8)) 2048 0) (Array'.Array (Referent.rtF (Referent.fInt Syntax.w8)) 2048) (λ x. x) (λ x. x) (Reads.as-is 𝓤 H A (Rows'.sc-shr (Rows.arrF (Referent.rtF (Referent.fInt Syntax.w8)) 2048 0)
-              (Array'.Array (Referent.rtF (Referent.fInt Syntax.w8)) 2048) (λ x. x) 16)) (Local.home-of 𝓤 H A (Rows.arrF (Referent.rtF (Referent.fInt Syntax.w8)) 2048 0) (Array'.Array (Referent.rtF (Referent.fInt Syntax.w8)) 2048) (λ x. x) (λ x. x) (Whole.arr-mem 𝓤 H A W (Referent.rtF (Referent.fInt Syntax.w8)) 2048 tt) λ x k. Path'.refl) Path'.refl)
-              (Typed.g-pre 𝓤 H A W 𝓣 E G72 G73 b17 Δ0 (λ Ψ. Ψ) at2 (Lifetime.g-forget 𝓤 H A W E G72 16 Row.dead Path'.refl) (Typed.g-pre 𝓤 H A W 𝓣 E G73 G74 b17 Δ0 (Typed.pass T72 T74 s72) at1 (Scalar.g-room 𝓤 H A W E G73 13 ty·0 (Init.room-arr 𝓤 H A W (Referent.rtF (Referent.fInt Syntax.w8)) 2048 0 2048 Path'.refl)) (Typed.g-pre 𝓤 H A W 𝓣 E G74 G1 b17 Δ0
+          d4 = Typed.g-pre 𝓤 H A W 𝓣 E G71 G72 b17 Δ0 (Typed.pass T70 T72 s70) at2 (Local.g-back-shr 𝓤 H A W E G71 13 16 (Rows.arrF (Referent.rtF (Referent.fInt Syntax.w8)) 4096 0) (Array'.Array (Referent.rtF (Referent.fInt Syntax.w8)) 4096) (λ x. x) (λ x. x) (Reads.as-is 𝓤 H A (Rows'.sc-shr (Rows.arrF (Referent.rtF (Referent.fInt Syntax.w8)) 4096 0)
+              (Array'.Array (Referent.rtF (Referent.fInt Syntax.w8)) 4096) (λ x. x) 16)) (Local.home-of 𝓤 H A (Rows.arrF (Referent.rtF (Referent.fInt Syntax.w8)) 4096 0) (Array'.Array (Referent.rtF (Referent.fInt Syntax.w8)) 4096) (λ x. x) (λ x. x) (Whole.arr-mem 𝓤 H A W (Referent.rtF (Referent.fInt Syntax.w8)) 4096 tt) λ x k. Path'.refl) Path'.refl)
+              (Typed.g-pre 𝓤 H A W 𝓣 E G72 G73 b17 Δ0 (λ Ψ. Ψ) at2 (Lifetime.g-forget 𝓤 H A W E G72 16 Row.dead Path'.refl) (Typed.g-pre 𝓤 H A W 𝓣 E G73 G74 b17 Δ0 (Typed.pass T72 T74 s72) at1 (Scalar.g-room 𝓤 H A W E G73 13 ty·0 (Init.room-arr 𝓤 H A W (Referent.rtF (Referent.fInt Syntax.w8)) 4096 0 4096 Path'.refl)) (Typed.g-pre 𝓤 H A W 𝓣 E G74 G1 b17 Δ0
               (Typed.pass T74 T1 s73) at0 (Scalar.g-room 𝓤 H A W E G74 10 (Syntax.tyInt Syntax.w64) (Scalar.room-sc 𝓤 H A W (Row.sInt Syntax.w64))) d0)))
 
           d8 : Typed.Typed 𝓤 H A 𝓣 E G67 b17 Δ0 at8
-          d8 = Typed.g-pre 𝓤 H A W 𝓣 E G67 G68 b17 Δ0 (Typed.pass T66 T68 s66) at6 (Local.g-back-shr 𝓤 H A W E G67 12 15 (Rows.arrF (Array'.Array (Referent.rtF (Referent.fInt Syntax.w8)) 2048) 2 0) (Array'.Array (Array'.Array (Referent.rtF (Referent.fInt Syntax.w8)) 2048) 2) (λ x. x) (λ x. x) (Reads.as-is 𝓤 H A (Rows'.sc-shr (Rows.arrF (Array'.Array
-              (Referent.rtF (Referent.fInt Syntax.w8)) 2048) 2 0) (Array'.Array (Array'.Array (Referent.rtF (Referent.fInt Syntax.w8)) 2048) 2) (λ x. x) 15)) (Local.home-of 𝓤 H A (Rows.arrF (Array'.Array (Referent.rtF (Referent.fInt Syntax.w8)) 2048) 2 0) (Array'.Array (Array'.Array (Referent.rtF (Referent.fInt Syntax.w8)) 2048) 2) (λ x. x) (λ x. x)
-              (Whole.arr-mem 𝓤 H A W (Array'.Array (Referent.rtF (Referent.fInt Syntax.w8)) 2048) 2 tt) λ x k. Path'.refl) Path'.refl) (Typed.g-pre 𝓤 H A W 𝓣 E G68 G69 b17 Δ0 (λ Ψ. Ψ) at6 (Lifetime.g-forget 𝓤 H A W E G68 15 Row.dead Path'.refl) (Typed.g-pre 𝓤 H A W 𝓣 E G69 G70 b17 Δ0 (Typed.pass T68 T70 s68) at4 (Scalar.g-room 𝓤 H A W E G69 12 (Syntax.tyArray
-              ty·0 2) (Init.room-arr 𝓤 H A W (Array'.Array (Referent.rtF (Referent.fInt Syntax.w8)) 2048) 2 0 2 Path'.refl)) (Typed.g-pre 𝓤 H A W 𝓣 E G70 G71 b17 Δ0 (λ Ψ. Ψ) at4 (Lifetime.g-end 𝓤 H A W E G70 16 Path'.refl) d4)))
+          d8 = Typed.g-pre 𝓤 H A W 𝓣 E G67 G68 b17 Δ0 (Typed.pass T66 T68 s66) at6 (Local.g-back-shr 𝓤 H A W E G67 12 15 (Rows.arrF (Array'.Array (Referent.rtF (Referent.fInt Syntax.w8)) 4096) 2 0) (Array'.Array (Array'.Array (Referent.rtF (Referent.fInt Syntax.w8)) 4096) 2) (λ x. x) (λ x. x) (Reads.as-is 𝓤 H A (Rows'.sc-shr (Rows.arrF (Array'.Array
+              (Referent.rtF (Referent.fInt Syntax.w8)) 4096) 2 0) (Array'.Array (Array'.Array (Referent.rtF (Referent.fInt Syntax.w8)) 4096) 2) (λ x. x) 15)) (Local.home-of 𝓤 H A (Rows.arrF (Array'.Array (Referent.rtF (Referent.fInt Syntax.w8)) 4096) 2 0) (Array'.Array (Array'.Array (Referent.rtF (Referent.fInt Syntax.w8)) 4096) 2) (λ x. x) (λ x. x)
+              (Whole.arr-mem 𝓤 H A W (Array'.Array (Referent.rtF (Referent.fInt Syntax.w8)) 4096) 2 tt) λ x k. Path'.refl) Path'.refl) (Typed.g-pre 𝓤 H A W 𝓣 E G68 G69 b17 Δ0 (λ Ψ. Ψ) at6 (Lifetime.g-forget 𝓤 H A W E G68 15 Row.dead Path'.refl) (Typed.g-pre 𝓤 H A W 𝓣 E G69 G70 b17 Δ0 (Typed.pass T68 T70 s68) at4 (Scalar.g-room 𝓤 H A W E G69 12 (Syntax.tyArray
+              ty·0 2) (Init.room-arr 𝓤 H A W (Array'.Array (Referent.rtF (Referent.fInt Syntax.w8)) 4096) 2 0 2 Path'.refl)) (Typed.g-pre 𝓤 H A W 𝓣 E G70 G71 b17 Δ0 (λ Ψ. Ψ) at4 (Lifetime.g-end 𝓤 H A W E G70 16 Path'.refl) d4)))
 
           d12 : Typed.Typed 𝓤 H A 𝓣 E G63 b17 Δ0 at12
-          d12 = Typed.g-pre 𝓤 H A W 𝓣 E G63 G64 b17 Δ0 (Typed.pass T60 T64 s62) at10 (Local.g-back-shr 𝓤 H A W E G63 11 14 (Rows.arrF (Array'.Array (Referent.rtF (Referent.fInt Syntax.w16)) 2048) 2 0) (Array'.Array (Array'.Array (Referent.rtF (Referent.fInt Syntax.w16)) 2048) 2) (λ x. x) (λ x. x) (Reads.as-is 𝓤 H A (Rows'.sc-shr (Rows.arrF (Array'.Array
-              (Referent.rtF (Referent.fInt Syntax.w16)) 2048) 2 0) (Array'.Array (Array'.Array (Referent.rtF (Referent.fInt Syntax.w16)) 2048) 2) (λ x. x) 14)) (Local.home-of 𝓤 H A (Rows.arrF (Array'.Array (Referent.rtF (Referent.fInt Syntax.w16)) 2048) 2 0) (Array'.Array (Array'.Array (Referent.rtF (Referent.fInt Syntax.w16)) 2048) 2) (λ x. x) (λ x. x)
-              (Whole.arr-mem 𝓤 H A W (Array'.Array (Referent.rtF (Referent.fInt Syntax.w16)) 2048) 2 tt) λ x k. Path'.refl) Path'.refl) (Typed.g-pre 𝓤 H A W 𝓣 E G64 G65 b17 Δ0 (λ Ψ. Ψ) at10 (Lifetime.g-forget 𝓤 H A W E G64 14 Row.dead Path'.refl) (Typed.g-pre 𝓤 H A W 𝓣 E G65 G66 b17 Δ0 (Typed.pass T64 T66 s64) at8 (Scalar.g-room 𝓤 H A W E G65 11 (Syntax.tyArray
-              ty·1 2) (Init.room-arr 𝓤 H A W (Array'.Array (Referent.rtF (Referent.fInt Syntax.w16)) 2048) 2 0 2 Path'.refl)) (Typed.g-pre 𝓤 H A W 𝓣 E G66 G67 b17 Δ0 (λ Ψ. Ψ) at8 (Lifetime.g-end 𝓤 H A W E G66 15 Path'.refl) d8)))
+          d12 = Typed.g-pre 𝓤 H A W 𝓣 E G63 G64 b17 Δ0 (Typed.pass T60 T64 s62) at10 (Local.g-back-shr 𝓤 H A W E G63 11 14 (Rows.arrF (Array'.Array (Referent.rtF (Referent.fInt Syntax.w16)) 4096) 2 0) (Array'.Array (Array'.Array (Referent.rtF (Referent.fInt Syntax.w16)) 4096) 2) (λ x. x) (λ x. x) (Reads.as-is 𝓤 H A (Rows'.sc-shr (Rows.arrF (Array'.Array
+              (Referent.rtF (Referent.fInt Syntax.w16)) 4096) 2 0) (Array'.Array (Array'.Array (Referent.rtF (Referent.fInt Syntax.w16)) 4096) 2) (λ x. x) 14)) (Local.home-of 𝓤 H A (Rows.arrF (Array'.Array (Referent.rtF (Referent.fInt Syntax.w16)) 4096) 2 0) (Array'.Array (Array'.Array (Referent.rtF (Referent.fInt Syntax.w16)) 4096) 2) (λ x. x) (λ x. x)
+              (Whole.arr-mem 𝓤 H A W (Array'.Array (Referent.rtF (Referent.fInt Syntax.w16)) 4096) 2 tt) λ x k. Path'.refl) Path'.refl) (Typed.g-pre 𝓤 H A W 𝓣 E G64 G65 b17 Δ0 (λ Ψ. Ψ) at10 (Lifetime.g-forget 𝓤 H A W E G64 14 Row.dead Path'.refl) (Typed.g-pre 𝓤 H A W 𝓣 E G65 G66 b17 Δ0 (Typed.pass T64 T66 s64) at8 (Scalar.g-room 𝓤 H A W E G65 11 (Syntax.tyArray
+              ty·1 2) (Init.room-arr 𝓤 H A W (Array'.Array (Referent.rtF (Referent.fInt Syntax.w16)) 4096) 2 0 2 Path'.refl)) (Typed.g-pre 𝓤 H A W 𝓣 E G66 G67 b17 Δ0 (λ Ψ. Ψ) at8 (Lifetime.g-end 𝓤 H A W E G66 15 Path'.refl) d8)))
 
           d16 : Typed.Typed 𝓤 H A 𝓣 E G59 b17 Δ0 at16
           d16 = Typed.g-pre 𝓤 H A W 𝓣 E G59 G60 b17 Δ0 (Typed.both s58) at15 (Relend.g-back-sl 𝓤 H A W E (Referent.rtF (Referent.fInt Syntax.w8)) G59 23 8 7 13 ty·6 ty·3 (Row.lease (κs .1 .1 .1 .1 .1 .1 .1 .0) (qs .1 .1 .1 .1 .1 .1 .1 .0)) (λ x. x) (λ x. x) (Reads.as-is 𝓤 H A (Mut.msleft (Referent.rtF (Referent.fInt Syntax.w8)) ty·3)) (Reads.as-is 𝓤 H A
@@ -1316,28 +1316,28 @@ module _ (claims· : Claims) where
               Path'.refl) d16)))
 
           d24 : Typed.Typed 𝓤 H A 𝓣 E G51 b17 Δ0 at24
-          d24 = Typed.g-pre 𝓤 H A W 𝓣 E G51 G52 b17 Δ0 (Typed.pass T51 T52 s50) at23 (Local.g-drop-sref 𝓤 H A W E G51 25 15 (Array'.Array (Array'.Array (Referent.rtF (Referent.fInt Syntax.w8)) 2048) 2) (Syntax.tyRef Syntax.erased Syntax.imm (Syntax.tyArray ty·0 2)) (λ x. x) (Reads.as-is 𝓤 H A (Rows'.sref (Array'.Array (Array'.Array (Referent.rtF
-              (Referent.fInt Syntax.w8)) 2048) 2) (Syntax.tyRef Syntax.erased Syntax.imm (Syntax.tyArray ty·0 2)) 15))) (Typed.g-pre 𝓤 H A W 𝓣 E G52 G53 b17 Δ0 (Typed.pass T52 T53 s51) at22 (Local.g-drop-sref 𝓤 H A W E G52 26 16 (Array'.Array (Referent.rtF (Referent.fInt Syntax.w8)) 2048) (Syntax.tyRef Syntax.erased Syntax.imm ty·0) (λ x. x) (Reads.as-is 𝓤 H A
-              (Rows'.sref (Array'.Array (Referent.rtF (Referent.fInt Syntax.w8)) 2048) (Syntax.tyRef Syntax.erased Syntax.imm ty·0) 16))) (Typed.g-pre 𝓤 H A W 𝓣 E G53 G54 b17 Δ0 (Typed.pass T53 T54 s52) at20 (Scalar.g-room 𝓤 H A W E G53 14 (Syntax.tyInt Syntax.w64) (Scalar.room-sc 𝓤 H A W (Row.sInt Syntax.w64))) (Typed.g-pre 𝓤 H A W 𝓣 E G54 G55 b17 Δ0 (λ Ψ. Ψ)
+          d24 = Typed.g-pre 𝓤 H A W 𝓣 E G51 G52 b17 Δ0 (Typed.pass T51 T52 s50) at23 (Local.g-drop-sref 𝓤 H A W E G51 25 15 (Array'.Array (Array'.Array (Referent.rtF (Referent.fInt Syntax.w8)) 4096) 2) (Syntax.tyRef Syntax.erased Syntax.imm (Syntax.tyArray ty·0 2)) (λ x. x) (Reads.as-is 𝓤 H A (Rows'.sref (Array'.Array (Array'.Array (Referent.rtF
+              (Referent.fInt Syntax.w8)) 4096) 2) (Syntax.tyRef Syntax.erased Syntax.imm (Syntax.tyArray ty·0 2)) 15))) (Typed.g-pre 𝓤 H A W 𝓣 E G52 G53 b17 Δ0 (Typed.pass T52 T53 s51) at22 (Local.g-drop-sref 𝓤 H A W E G52 26 16 (Array'.Array (Referent.rtF (Referent.fInt Syntax.w8)) 4096) (Syntax.tyRef Syntax.erased Syntax.imm ty·0) (λ x. x) (Reads.as-is 𝓤 H A
+              (Rows'.sref (Array'.Array (Referent.rtF (Referent.fInt Syntax.w8)) 4096) (Syntax.tyRef Syntax.erased Syntax.imm ty·0) 16))) (Typed.g-pre 𝓤 H A W 𝓣 E G53 G54 b17 Δ0 (Typed.pass T53 T54 s52) at20 (Scalar.g-room 𝓤 H A W E G53 14 (Syntax.tyInt Syntax.w64) (Scalar.room-sc 𝓤 H A W (Row.sInt Syntax.w64))) (Typed.g-pre 𝓤 H A W 𝓣 E G54 G55 b17 Δ0 (λ Ψ. Ψ)
               at20 (Lifetime.g-end 𝓤 H A W E G54 12 Path'.refl) d20)))
 
           d26 : Typed.Typed 𝓤 H A 𝓣 E G49 b18 Δ0 at26
           d26 = Typed.s-seq 𝓤 H A W 𝓣 E G49 G50 b16 b17 Δ0 (Typed.both s48) at25 (Plain.t-call-plain 𝓤 H A W 𝓣 11 ps·1 r·1 (claims· .2) (claims· .3) "conductor::over::arrive" (known .1) E (λ pos β. β) G49
               (record { pos = 1; ty = ty·7; ref = λ x. x }, (record { pos = 2; ty = ty·8; ref = λ x. x }, (record { pos = 3; ty = ty·5; ref = λ x. x }, (record { pos = 4; ty = ty·9; ref = λ x. x }, (record { pos = 5; ty = ty·10; ref = λ x. x }, (record { pos = 6; ty = ty·11; ref = λ x. x }, (record { pos = 21; ty = ty·4; ref = λ x. x }, (record { pos = 23; ty = ty·3; ref = λ x. x }, (record { pos = 24; ty = Syntax.tyRef Syntax.erased Syntax.imm (Syntax.tyArray ty·1 2); ref = λ x. x }, (record { pos = 25; ty = Syntax.tyRef Syntax.erased Syntax.imm (Syntax.tyArray ty·0 2); ref = λ x. x }, (record { pos = 26; ty = Syntax.tyRef Syntax.erased Syntax.imm ty·0; ref = λ x. x }, (Num.vAt 10 λ x. x, (Num.vAt 14 λ x. x, tt)))))))))))))
               0 (List._∷_ 0 (List._∷_ 1 (List._∷_ 2 (List._∷_ 3 (List._∷_ 4 (List._∷_ 5 (List._∷_ 12 (List._∷_ 13 (List._∷_ 14 (List._∷_ 15 (List._∷_ 16 List.[]))))))))))) (Call.sub-id 𝓤 H A W (G49 .slots))
-              (ShrSlice.spares-sslice 𝓤 H A W (Referent.rtF (Referent.fInt Syntax.w16)) ty·7 0, Shared.reads-sslice 𝓤 H A W (Referent.rtF (Referent.fInt Syntax.w16)) ty·7 0, Path'.refl, (ShrSlice.spares-sslice 𝓤 H A W (Referent.rtF (Referent.fInt Syntax.w16)) ty·8 1, Shared.reads-sslice 𝓤 H A W (Referent.rtF (Referent.fInt Syntax.w16)) ty·8 1, Path'.refl, (ShrSlice.spares-sslice 𝓤 H A W (Referent.rtF (Referent.fInt Syntax.w8)) ty·5 2, Shared.reads-sslice 𝓤 H A W (Referent.rtF (Referent.fInt Syntax.w8)) ty·5 2, Path'.refl, (ShrSlice.spares-sslice 𝓤 H A W (Referent.rtF (Referent.fInt Syntax.w16)) ty·9 3, Shared.reads-sslice 𝓤 H A W (Referent.rtF (Referent.fInt Syntax.w16)) ty·9 3, Path'.refl, (ShrSlice.spares-sslice 𝓤 H A W (Referent.rtF (Referent.fInt Syntax.w16)) ty·10 4, Shared.reads-sslice 𝓤 H A W (Referent.rtF (Referent.fInt Syntax.w16)) ty·10 4, Path'.refl, (ShrSlice.spares-sslice 𝓤 H A W (Referent.rtF (Referent.fInt Syntax.w32)) ty·11 5, Shared.reads-sslice 𝓤 H A W (Referent.rtF (Referent.fInt Syntax.w32)) ty·11 5, Path'.refl, (Reads.as-is 𝓤 H A (Mut.mslice (Referent.rtF (Referent.fInt Syntax.w16)) ty·4 12), Mut.reads-mslice 𝓤 H A W (Referent.rtF (Referent.fInt Syntax.w16)) ty·4 12, Path'.refl, (Reads.as-is 𝓤 H A (Mut.mslice (Referent.rtF (Referent.fInt Syntax.w8)) ty·3 13), Mut.reads-mslice 𝓤 H A W (Referent.rtF (Referent.fInt Syntax.w8)) ty·3 13, Path'.refl, (ShrRef.spares-sref 𝓤 H A W (Array'.Array (Array'.Array (Referent.rtF (Referent.fInt Syntax.w16)) 2048) 2) (Syntax.tyRef Syntax.erased Syntax.imm (Syntax.tyArray ty·1 2)) 14, Reads.reads-sref 𝓤 H A W (Array'.Array (Array'.Array (Referent.rtF (Referent.fInt Syntax.w16)) 2048) 2) (Syntax.tyRef Syntax.erased Syntax.imm (Syntax.tyArray ty·1 2)) 14, Path'.refl, (ShrRef.spares-sref 𝓤 H A W (Array'.Array (Array'.Array (Referent.rtF (Referent.fInt Syntax.w8)) 2048) 2) (Syntax.tyRef Syntax.erased Syntax.imm (Syntax.tyArray ty·0 2)) 15, Reads.reads-sref 𝓤 H A W (Array'.Array (Array'.Array (Referent.rtF (Referent.fInt Syntax.w8)) 2048) 2) (Syntax.tyRef Syntax.erased Syntax.imm (Syntax.tyArray ty·0 2)) 15, Path'.refl, (ShrRef.spares-sref 𝓤 H A W (Array'.Array (Referent.rtF (Referent.fInt Syntax.w8)) 2048) (Syntax.tyRef Syntax.erased Syntax.imm ty·0) 16, Reads.reads-sref 𝓤 H A W (Array'.Array (Referent.rtF (Referent.fInt Syntax.w8)) 2048) (Syntax.tyRef Syntax.erased Syntax.imm ty·0) 16, Path'.refl, ((Scalar.reads-sc 𝓤 H A W (Row.sInt Syntax.w64), Path'.refl), ((Scalar.reads-sc 𝓤 H A W (Row.sInt Syntax.w64), Path'.refl), tt)))))))))))))
-              (Reads.room-gone 𝓤 H A ty·13) (tt, (tt, (tt, (tt, (tt, (tt, (tt, (tt, (tt, (tt, (tt, tt))))))))))) Path'.refl) (Typed.g-pre 𝓤 H A W 𝓣 E G50 G51 b17 Δ0 (Typed.pass T50 T51 s49) at24 (Local.g-drop-sref 𝓤 H A W E G50 24 14 (Array'.Array (Array'.Array (Referent.rtF (Referent.fInt Syntax.w16)) 2048) 2) (Syntax.tyRef Syntax.erased Syntax.imm
-              (Syntax.tyArray ty·1 2)) (λ x. x) (Reads.as-is 𝓤 H A (Rows'.sref (Array'.Array (Array'.Array (Referent.rtF (Referent.fInt Syntax.w16)) 2048) 2) (Syntax.tyRef Syntax.erased Syntax.imm (Syntax.tyArray ty·1 2)) 14))) d24)
+              (ShrSlice.spares-sslice 𝓤 H A W (Referent.rtF (Referent.fInt Syntax.w16)) ty·7 0, Shared.reads-sslice 𝓤 H A W (Referent.rtF (Referent.fInt Syntax.w16)) ty·7 0, Path'.refl, (ShrSlice.spares-sslice 𝓤 H A W (Referent.rtF (Referent.fInt Syntax.w16)) ty·8 1, Shared.reads-sslice 𝓤 H A W (Referent.rtF (Referent.fInt Syntax.w16)) ty·8 1, Path'.refl, (ShrSlice.spares-sslice 𝓤 H A W (Referent.rtF (Referent.fInt Syntax.w8)) ty·5 2, Shared.reads-sslice 𝓤 H A W (Referent.rtF (Referent.fInt Syntax.w8)) ty·5 2, Path'.refl, (ShrSlice.spares-sslice 𝓤 H A W (Referent.rtF (Referent.fInt Syntax.w16)) ty·9 3, Shared.reads-sslice 𝓤 H A W (Referent.rtF (Referent.fInt Syntax.w16)) ty·9 3, Path'.refl, (ShrSlice.spares-sslice 𝓤 H A W (Referent.rtF (Referent.fInt Syntax.w16)) ty·10 4, Shared.reads-sslice 𝓤 H A W (Referent.rtF (Referent.fInt Syntax.w16)) ty·10 4, Path'.refl, (ShrSlice.spares-sslice 𝓤 H A W (Referent.rtF (Referent.fInt Syntax.w32)) ty·11 5, Shared.reads-sslice 𝓤 H A W (Referent.rtF (Referent.fInt Syntax.w32)) ty·11 5, Path'.refl, (Reads.as-is 𝓤 H A (Mut.mslice (Referent.rtF (Referent.fInt Syntax.w16)) ty·4 12), Mut.reads-mslice 𝓤 H A W (Referent.rtF (Referent.fInt Syntax.w16)) ty·4 12, Path'.refl, (Reads.as-is 𝓤 H A (Mut.mslice (Referent.rtF (Referent.fInt Syntax.w8)) ty·3 13), Mut.reads-mslice 𝓤 H A W (Referent.rtF (Referent.fInt Syntax.w8)) ty·3 13, Path'.refl, (ShrRef.spares-sref 𝓤 H A W (Array'.Array (Array'.Array (Referent.rtF (Referent.fInt Syntax.w16)) 4096) 2) (Syntax.tyRef Syntax.erased Syntax.imm (Syntax.tyArray ty·1 2)) 14, Reads.reads-sref 𝓤 H A W (Array'.Array (Array'.Array (Referent.rtF (Referent.fInt Syntax.w16)) 4096) 2) (Syntax.tyRef Syntax.erased Syntax.imm (Syntax.tyArray ty·1 2)) 14, Path'.refl, (ShrRef.spares-sref 𝓤 H A W (Array'.Array (Array'.Array (Referent.rtF (Referent.fInt Syntax.w8)) 4096) 2) (Syntax.tyRef Syntax.erased Syntax.imm (Syntax.tyArray ty·0 2)) 15, Reads.reads-sref 𝓤 H A W (Array'.Array (Array'.Array (Referent.rtF (Referent.fInt Syntax.w8)) 4096) 2) (Syntax.tyRef Syntax.erased Syntax.imm (Syntax.tyArray ty·0 2)) 15, Path'.refl, (ShrRef.spares-sref 𝓤 H A W (Array'.Array (Referent.rtF (Referent.fInt Syntax.w8)) 4096) (Syntax.tyRef Syntax.erased Syntax.imm ty·0) 16, Reads.reads-sref 𝓤 H A W (Array'.Array (Referent.rtF (Referent.fInt Syntax.w8)) 4096) (Syntax.tyRef Syntax.erased Syntax.imm ty·0) 16, Path'.refl, ((Scalar.reads-sc 𝓤 H A W (Row.sInt Syntax.w64), Path'.refl), ((Scalar.reads-sc 𝓤 H A W (Row.sInt Syntax.w64), Path'.refl), tt)))))))))))))
+              (Reads.room-gone 𝓤 H A ty·13) (tt, (tt, (tt, (tt, (tt, (tt, (tt, (tt, (tt, (tt, (tt, tt))))))))))) Path'.refl) (Typed.g-pre 𝓤 H A W 𝓣 E G50 G51 b17 Δ0 (Typed.pass T50 T51 s49) at24 (Local.g-drop-sref 𝓤 H A W E G50 24 14 (Array'.Array (Array'.Array (Referent.rtF (Referent.fInt Syntax.w16)) 4096) 2) (Syntax.tyRef Syntax.erased Syntax.imm
+              (Syntax.tyArray ty·1 2)) (λ x. x) (Reads.as-is 𝓤 H A (Rows'.sref (Array'.Array (Array'.Array (Referent.rtF (Referent.fInt Syntax.w16)) 4096) 2) (Syntax.tyRef Syntax.erased Syntax.imm (Syntax.tyArray ty·1 2)) 14))) d24)
 
           d29 : Typed.Typed 𝓤 H A 𝓣 E G46 b20 Δ0 at29
-          d29 = Typed.s-seq 𝓤 H A W 𝓣 E G46 G47 b14 b19 Δ0 (Typed.give s45) at27 (Local.t-sc-share 𝓤 H A W E 𝓣 G46 12 25 15 (Array'.Array (Array'.Array (Referent.rtF (Referent.fInt Syntax.w8)) 2048) 2) (Syntax.tyRef Syntax.erased Syntax.imm (Syntax.tyArray ty·0 2)) (λ x. x) (Whole.mem-arr 𝓤 H A W (Array'.Array (Referent.rtF (Referent.fInt Syntax.w8)) 2048)
+          d29 = Typed.s-seq 𝓤 H A W 𝓣 E G46 G47 b14 b19 Δ0 (Typed.give s45) at27 (Local.t-sc-share 𝓤 H A W E 𝓣 G46 12 25 15 (Array'.Array (Array'.Array (Referent.rtF (Referent.fInt Syntax.w8)) 4096) 2) (Syntax.tyRef Syntax.erased Syntax.imm (Syntax.tyArray ty·0 2)) (λ x. x) (Whole.mem-arr 𝓤 H A W (Array'.Array (Referent.rtF (Referent.fInt Syntax.w8)) 4096)
               2) (Reads.room-gone 𝓤 H A (Syntax.tyRef Syntax.erased Syntax.imm (Syntax.tyArray ty·0 2))) Path'.refl λ b o. tt) (Typed.g-pre 𝓤 H A W 𝓣 E G47 G48 b19 Δ0 (λ Ψ. Ψ) at27 (Lifetime.g-begin 𝓤 H A W E G47 16
-              (tt, (tt, (tt, (tt, (tt, (tt, (tt, ((tt, tt), ((tt, tt), (tt, (tt, (tt, (tt, (tt, (tt, (tt, (tt, (tt, (tt, (tt, (tt, (tt, (tt, (tt, (tt, (tt, (tt, tt)))))))))))))))))))))))))))) (Typed.s-seq 𝓤 H A W 𝓣 E G48 G49 b15 b18 Δ0 (Typed.give s47) at26 (Local.t-sc-share 𝓤 H A W E 𝓣 G48 13 26 16 (Array'.Array (Referent.rtF (Referent.fInt Syntax.w8)) 2048)
-              (Syntax.tyRef Syntax.erased Syntax.imm ty·0) (λ x. x) (Whole.mem-arr 𝓤 H A W (Referent.rtF (Referent.fInt Syntax.w8)) 2048) (Reads.room-gone 𝓤 H A (Syntax.tyRef Syntax.erased Syntax.imm ty·0)) Path'.refl λ b o. tt) d26))
+              (tt, (tt, (tt, (tt, (tt, (tt, (tt, ((tt, tt), ((tt, tt), (tt, (tt, (tt, (tt, (tt, (tt, (tt, (tt, (tt, (tt, (tt, (tt, (tt, (tt, (tt, (tt, (tt, (tt, tt)))))))))))))))))))))))))))) (Typed.s-seq 𝓤 H A W 𝓣 E G48 G49 b15 b18 Δ0 (Typed.give s47) at26 (Local.t-sc-share 𝓤 H A W E 𝓣 G48 13 26 16 (Array'.Array (Referent.rtF (Referent.fInt Syntax.w8)) 4096)
+              (Syntax.tyRef Syntax.erased Syntax.imm ty·0) (λ x. x) (Whole.mem-arr 𝓤 H A W (Referent.rtF (Referent.fInt Syntax.w8)) 4096) (Reads.room-gone 𝓤 H A (Syntax.tyRef Syntax.erased Syntax.imm ty·0)) Path'.refl λ b o. tt) d26))
 
           d32 : Typed.Typed 𝓤 H A 𝓣 E G43 b21 Δ0 at31
           d32 = Typed.g-pre 𝓤 H A W 𝓣 E G43 G44 b21 Δ0 (λ Ψ. Ψ) at31 (Lifetime.g-begin 𝓤 H A W E G43 14 (tt, (tt, (tt, (tt, (tt, (tt, (tt, ((tt, tt), ((tt, tt), (tt, (tt, (tt, (tt, (tt, (tt, (tt, (tt, (tt, (tt, (tt, (tt, (tt, (tt, (tt, (tt, (tt, (tt, tt)))))))))))))))))))))))))))) (Typed.s-seq 𝓤 H A W 𝓣 E G44 G45 b13 b20 Δ0 (Typed.give s43) at29
-              (Local.t-sc-share 𝓤 H A W E 𝓣 G44 11 24 14 (Array'.Array (Array'.Array (Referent.rtF (Referent.fInt Syntax.w16)) 2048) 2) (Syntax.tyRef Syntax.erased Syntax.imm (Syntax.tyArray ty·1 2)) (λ x. x) (Whole.mem-arr 𝓤 H A W (Array'.Array (Referent.rtF (Referent.fInt Syntax.w16)) 2048) 2) (Reads.room-gone 𝓤 H A (Syntax.tyRef Syntax.erased Syntax.imm
+              (Local.t-sc-share 𝓤 H A W E 𝓣 G44 11 24 14 (Array'.Array (Array'.Array (Referent.rtF (Referent.fInt Syntax.w16)) 4096) 2) (Syntax.tyRef Syntax.erased Syntax.imm (Syntax.tyArray ty·1 2)) (λ x. x) (Whole.mem-arr 𝓤 H A W (Array'.Array (Referent.rtF (Referent.fInt Syntax.w16)) 4096) 2) (Reads.room-gone 𝓤 H A (Syntax.tyRef Syntax.erased Syntax.imm
               (Syntax.tyArray ty·1 2))) Path'.refl λ b o. tt) (Typed.g-pre 𝓤 H A W 𝓣 E G45 G46 b20 Δ0 (λ Ψ. Ψ) at29 (Lifetime.g-begin 𝓤 H A W E G45 15 (tt, (tt, (tt, (tt, (tt, (tt, (tt, ((tt, tt), ((tt, tt), (tt, (tt, (tt, (tt, (tt, (tt, (tt, (tt, (tt, (tt, (tt, (tt, (tt, (tt, (tt, (tt, (tt, (tt, tt)))))))))))))))))))))))))))) d29))
 
           d34 : Typed.Typed 𝓤 H A 𝓣 E G41 b23 Δ0 at34
@@ -1353,68 +1353,68 @@ module _ (claims· : Claims) where
               (tt, (tt, (tt, (tt, (tt, (tt, (tt, ((tt, tt), (tt, (tt, (tt, (tt, (tt, (tt, (tt, (tt, (tt, (tt, (tt, (tt, (tt, (tt, (tt, (tt, (tt, (tt, (tt, tt)))))))))))))))))))))))))))) d34)
 
           d40 : Typed.Typed 𝓤 H A 𝓣 E G35 b25 Δ0 at40
-          d40 = Typed.g-pre 𝓤 H A W 𝓣 E G35 G36 b25 Δ0 (Typed.ask s34) at37 (Local.g-back-sc 𝓤 H A W E G35 19 13 11 (Array'.Array (Referent.rtF (Referent.fInt Syntax.w8)) 2048) (Syntax.tyRef Syntax.erased Syntax.mut ty·0) (Rows.arrF (Referent.rtF (Referent.fInt Syntax.w8)) 2048 0) (λ x. x) (λ x. x) (λ x. x) (Reads.as-is 𝓤 H A (Rows'.mleft (Array'.Array
-              (Referent.rtF (Referent.fInt Syntax.w8)) 2048) (Syntax.tyRef Syntax.erased Syntax.mut ty·0))) (Reads.as-is 𝓤 H A (Rows'.sc-owed (Array'.Array (Referent.rtF (Referent.fInt Syntax.w8)) 2048) 11)) (Whole.arr-mem 𝓤 H A W (Referent.rtF (Referent.fInt Syntax.w8)) 2048 tt) Path'.refl) (Typed.g-pre 𝓤 H A W 𝓣 E G36 G37 b25 Δ0 (λ Ψ. Ψ) at37
+          d40 = Typed.g-pre 𝓤 H A W 𝓣 E G35 G36 b25 Δ0 (Typed.ask s34) at37 (Local.g-back-sc 𝓤 H A W E G35 19 13 11 (Array'.Array (Referent.rtF (Referent.fInt Syntax.w8)) 4096) (Syntax.tyRef Syntax.erased Syntax.mut ty·0) (Rows.arrF (Referent.rtF (Referent.fInt Syntax.w8)) 4096 0) (λ x. x) (λ x. x) (λ x. x) (Reads.as-is 𝓤 H A (Rows'.mleft (Array'.Array
+              (Referent.rtF (Referent.fInt Syntax.w8)) 4096) (Syntax.tyRef Syntax.erased Syntax.mut ty·0))) (Reads.as-is 𝓤 H A (Rows'.sc-owed (Array'.Array (Referent.rtF (Referent.fInt Syntax.w8)) 4096) 11)) (Whole.arr-mem 𝓤 H A W (Referent.rtF (Referent.fInt Syntax.w8)) 4096 tt) Path'.refl) (Typed.g-pre 𝓤 H A W 𝓣 E G36 G37 b25 Δ0 (λ Ψ. Ψ) at37
               (Lifetime.g-forget 𝓤 H A W E G36 11 Row.dead Path'.refl) (Typed.g-pre 𝓤 H A W 𝓣 E G37 G38 b25 Δ0 (λ Ψ. Ψ) at37 (Lifetime.g-begin 𝓤 H A W E G37 12 (tt, (tt, (tt, (tt, (tt, (tt, (tt, (tt, (tt, (tt, (tt, (tt, (tt, (tt, (tt, (tt, (tt, (tt, (tt, (tt, (tt, (tt, (tt, (tt, (tt, (tt, (tt, tt)))))))))))))))))))))))))))) (Typed.s-seq 𝓤 H A W 𝓣 E G38 G39 b9
               b24 Δ0 (Typed.give s37) at36 (Relend.t-sl-relend 𝓤 H A W E (Referent.rtF (Referent.fInt Syntax.w16)) 𝓣 G38 7 20 6 12 ty·12 ty·4 (Row.lease (κs .1 .1 .1 .1 .1 .1 .0) (qs .1 .1 .1 .1 .1 .1 .0)) 0 (λ x. x) (Reads.as-is 𝓤 H A (Mut.mslice (Referent.rtF (Referent.fInt Syntax.w16)) ty·12 6)) (Reads.room-gone 𝓤 H A ty·4) Path'.refl tt Path'.refl Path'.refl
               Path'.refl λ b o. tt) d36)))
 
           d43 : Typed.Typed 𝓤 H A 𝓣 E G32 b25 Δ0 at43
-          d43 = Typed.g-pre 𝓤 H A W 𝓣 E G32 G33 b25 Δ0 (Typed.ask s31) at40 (Local.g-back-sc 𝓤 H A W E G32 18 12 10 (Array'.Array (Array'.Array (Referent.rtF (Referent.fInt Syntax.w8)) 2048) 2) (Syntax.tyRef Syntax.erased Syntax.mut (Syntax.tyArray ty·0 2)) (Rows.arrF (Array'.Array (Referent.rtF (Referent.fInt Syntax.w8)) 2048) 2 0) (λ x. x) (λ x. x) (λ x.
-              x) (Reads.as-is 𝓤 H A (Rows'.mleft (Array'.Array (Array'.Array (Referent.rtF (Referent.fInt Syntax.w8)) 2048) 2) (Syntax.tyRef Syntax.erased Syntax.mut (Syntax.tyArray ty·0 2)))) (Reads.as-is 𝓤 H A (Rows'.sc-owed (Array'.Array (Array'.Array (Referent.rtF (Referent.fInt Syntax.w8)) 2048) 2) 10)) (Whole.arr-mem 𝓤 H A W (Array'.Array (Referent.rtF
-              (Referent.fInt Syntax.w8)) 2048) 2 tt) Path'.refl) (Typed.g-pre 𝓤 H A W 𝓣 E G33 G34 b25 Δ0 (λ Ψ. Ψ) at40 (Lifetime.g-forget 𝓤 H A W E G33 10 Row.dead Path'.refl) (Typed.g-pre 𝓤 H A W 𝓣 E G34 G35 b25 Δ0 (λ Ψ. Ψ) at40 (Lifetime.g-end 𝓤 H A W E G34 11 Path'.refl) d40))
+          d43 = Typed.g-pre 𝓤 H A W 𝓣 E G32 G33 b25 Δ0 (Typed.ask s31) at40 (Local.g-back-sc 𝓤 H A W E G32 18 12 10 (Array'.Array (Array'.Array (Referent.rtF (Referent.fInt Syntax.w8)) 4096) 2) (Syntax.tyRef Syntax.erased Syntax.mut (Syntax.tyArray ty·0 2)) (Rows.arrF (Array'.Array (Referent.rtF (Referent.fInt Syntax.w8)) 4096) 2 0) (λ x. x) (λ x. x) (λ x.
+              x) (Reads.as-is 𝓤 H A (Rows'.mleft (Array'.Array (Array'.Array (Referent.rtF (Referent.fInt Syntax.w8)) 4096) 2) (Syntax.tyRef Syntax.erased Syntax.mut (Syntax.tyArray ty·0 2)))) (Reads.as-is 𝓤 H A (Rows'.sc-owed (Array'.Array (Array'.Array (Referent.rtF (Referent.fInt Syntax.w8)) 4096) 2) 10)) (Whole.arr-mem 𝓤 H A W (Array'.Array (Referent.rtF
+              (Referent.fInt Syntax.w8)) 4096) 2 tt) Path'.refl) (Typed.g-pre 𝓤 H A W 𝓣 E G33 G34 b25 Δ0 (λ Ψ. Ψ) at40 (Lifetime.g-forget 𝓤 H A W E G33 10 Row.dead Path'.refl) (Typed.g-pre 𝓤 H A W 𝓣 E G34 G35 b25 Δ0 (λ Ψ. Ψ) at40 (Lifetime.g-end 𝓤 H A W E G34 11 Path'.refl) d40))
 
           d46 : Typed.Typed 𝓤 H A 𝓣 E G29 b25 Δ0 at46
-          d46 = Typed.g-pre 𝓤 H A W 𝓣 E G29 G30 b25 Δ0 (Typed.ask s28) at43 (Local.g-back-sc 𝓤 H A W E G29 17 11 9 (Array'.Array (Array'.Array (Referent.rtF (Referent.fInt Syntax.w16)) 2048) 2) (Syntax.tyRef Syntax.erased Syntax.mut (Syntax.tyArray ty·1 2)) (Rows.arrF (Array'.Array (Referent.rtF (Referent.fInt Syntax.w16)) 2048) 2 0) (λ x. x) (λ x. x) (λ x.
-              x) (Reads.as-is 𝓤 H A (Rows'.mleft (Array'.Array (Array'.Array (Referent.rtF (Referent.fInt Syntax.w16)) 2048) 2) (Syntax.tyRef Syntax.erased Syntax.mut (Syntax.tyArray ty·1 2)))) (Reads.as-is 𝓤 H A (Rows'.sc-owed (Array'.Array (Array'.Array (Referent.rtF (Referent.fInt Syntax.w16)) 2048) 2) 9)) (Whole.arr-mem 𝓤 H A W (Array'.Array (Referent.rtF
-              (Referent.fInt Syntax.w16)) 2048) 2 tt) Path'.refl) (Typed.g-pre 𝓤 H A W 𝓣 E G30 G31 b25 Δ0 (λ Ψ. Ψ) at43 (Lifetime.g-forget 𝓤 H A W E G30 9 Row.dead Path'.refl) (Typed.g-pre 𝓤 H A W 𝓣 E G31 G32 b25 Δ0 (λ Ψ. Ψ) at43 (Lifetime.g-end 𝓤 H A W E G31 10 Path'.refl) d43))
+          d46 = Typed.g-pre 𝓤 H A W 𝓣 E G29 G30 b25 Δ0 (Typed.ask s28) at43 (Local.g-back-sc 𝓤 H A W E G29 17 11 9 (Array'.Array (Array'.Array (Referent.rtF (Referent.fInt Syntax.w16)) 4096) 2) (Syntax.tyRef Syntax.erased Syntax.mut (Syntax.tyArray ty·1 2)) (Rows.arrF (Array'.Array (Referent.rtF (Referent.fInt Syntax.w16)) 4096) 2 0) (λ x. x) (λ x. x) (λ x.
+              x) (Reads.as-is 𝓤 H A (Rows'.mleft (Array'.Array (Array'.Array (Referent.rtF (Referent.fInt Syntax.w16)) 4096) 2) (Syntax.tyRef Syntax.erased Syntax.mut (Syntax.tyArray ty·1 2)))) (Reads.as-is 𝓤 H A (Rows'.sc-owed (Array'.Array (Array'.Array (Referent.rtF (Referent.fInt Syntax.w16)) 4096) 2) 9)) (Whole.arr-mem 𝓤 H A W (Array'.Array (Referent.rtF
+              (Referent.fInt Syntax.w16)) 4096) 2 tt) Path'.refl) (Typed.g-pre 𝓤 H A W 𝓣 E G30 G31 b25 Δ0 (λ Ψ. Ψ) at43 (Lifetime.g-forget 𝓤 H A W E G30 9 Row.dead Path'.refl) (Typed.g-pre 𝓤 H A W 𝓣 E G31 G32 b25 Δ0 (λ Ψ. Ψ) at43 (Lifetime.g-end 𝓤 H A W E G31 10 Path'.refl) d43))
 
           d48 : Typed.Typed 𝓤 H A 𝓣 E G27 b26 Δ0 at48
           d48 = Typed.s-seq 𝓤 H A W 𝓣 E G27 G28 b8 b25 Δ0 (Typed.both s26) at46 (Plain.t-call-plain 𝓤 H A W 𝓣 5 ps·0 r·0 (claims· .0) (claims· .1) "records::lent::spread" (known .0) E (λ pos β. β) G27 args·0 14 (List._∷_ 1 (List._∷_ 8 (List._∷_ 9 (List._∷_ 10 (List._∷_ 11 List.[]))))) (Call.sub-id 𝓤 H A W (G27 .slots))
-              (ShrSlice.spares-sslice 𝓤 H A W (Referent.rtF (Referent.fInt Syntax.w16)) ty·8 1, Shared.reads-sslice 𝓤 H A W (Referent.rtF (Referent.fInt Syntax.w16)) ty·8 1, Path'.refl, (ShrSlice.spares-sslice 𝓤 H A W Rec.rt ty·2 8, Shared.reads-sslice 𝓤 H A W Rec.rt ty·2 8, Path'.refl, (Reads.as-is 𝓤 H A (Rows'.mref (Array'.Array (Array'.Array (Referent.rtF (Referent.fInt Syntax.w16)) 2048) 2) (Syntax.tyRef Syntax.erased Syntax.mut (Syntax.tyArray ty·1 2)) 9), Reads.reads-mref 𝓤 H A W (Array'.Array (Array'.Array (Referent.rtF (Referent.fInt Syntax.w16)) 2048) 2) (Syntax.tyRef Syntax.erased Syntax.mut (Syntax.tyArray ty·1 2)) 9, Path'.refl, (Reads.as-is 𝓤 H A (Rows'.mref (Array'.Array (Array'.Array (Referent.rtF (Referent.fInt Syntax.w8)) 2048) 2) (Syntax.tyRef Syntax.erased Syntax.mut (Syntax.tyArray ty·0 2)) 10), Reads.reads-mref 𝓤 H A W (Array'.Array (Array'.Array (Referent.rtF (Referent.fInt Syntax.w8)) 2048) 2) (Syntax.tyRef Syntax.erased Syntax.mut (Syntax.tyArray ty·0 2)) 10, Path'.refl, (Reads.as-is 𝓤 H A (Rows'.mref (Array'.Array (Referent.rtF (Referent.fInt Syntax.w8)) 2048) (Syntax.tyRef Syntax.erased Syntax.mut ty·0) 11), Reads.reads-mref 𝓤 H A W (Array'.Array (Referent.rtF (Referent.fInt Syntax.w8)) 2048) (Syntax.tyRef Syntax.erased Syntax.mut ty·0) 11, Path'.refl, tt)))))
+              (ShrSlice.spares-sslice 𝓤 H A W (Referent.rtF (Referent.fInt Syntax.w16)) ty·8 1, Shared.reads-sslice 𝓤 H A W (Referent.rtF (Referent.fInt Syntax.w16)) ty·8 1, Path'.refl, (ShrSlice.spares-sslice 𝓤 H A W Rec.rt ty·2 8, Shared.reads-sslice 𝓤 H A W Rec.rt ty·2 8, Path'.refl, (Reads.as-is 𝓤 H A (Rows'.mref (Array'.Array (Array'.Array (Referent.rtF (Referent.fInt Syntax.w16)) 4096) 2) (Syntax.tyRef Syntax.erased Syntax.mut (Syntax.tyArray ty·1 2)) 9), Reads.reads-mref 𝓤 H A W (Array'.Array (Array'.Array (Referent.rtF (Referent.fInt Syntax.w16)) 4096) 2) (Syntax.tyRef Syntax.erased Syntax.mut (Syntax.tyArray ty·1 2)) 9, Path'.refl, (Reads.as-is 𝓤 H A (Rows'.mref (Array'.Array (Array'.Array (Referent.rtF (Referent.fInt Syntax.w8)) 4096) 2) (Syntax.tyRef Syntax.erased Syntax.mut (Syntax.tyArray ty·0 2)) 10), Reads.reads-mref 𝓤 H A W (Array'.Array (Array'.Array (Referent.rtF (Referent.fInt Syntax.w8)) 4096) 2) (Syntax.tyRef Syntax.erased Syntax.mut (Syntax.tyArray ty·0 2)) 10, Path'.refl, (Reads.as-is 𝓤 H A (Rows'.mref (Array'.Array (Referent.rtF (Referent.fInt Syntax.w8)) 4096) (Syntax.tyRef Syntax.erased Syntax.mut ty·0) 11), Reads.reads-mref 𝓤 H A W (Array'.Array (Referent.rtF (Referent.fInt Syntax.w8)) 4096) (Syntax.tyRef Syntax.erased Syntax.mut ty·0) 11, Path'.refl, tt)))))
               (Reads.room-gone 𝓤 H A (Syntax.tyInt Syntax.w64)) (tt, (tt, (tt, (tt, (tt, tt))))) Path'.refl) (Typed.g-pre 𝓤 H A W 𝓣 E G28 G29 b25 Δ0 (λ Ψ. Ψ) at46 (Lifetime.g-end 𝓤 H A W E G28 9 Path'.refl) d46)
 
           d51 : Typed.Typed 𝓤 H A 𝓣 E G24 b28 Δ0 at51
-          d51 = Typed.s-seq 𝓤 H A W 𝓣 E G24 G25 b6 b27 Δ0 (Typed.give s23) at49 (Local.t-sc-borrow 𝓤 H A W E 𝓣 G24 12 18 10 (Array'.Array (Array'.Array (Referent.rtF (Referent.fInt Syntax.w8)) 2048) 2) (Syntax.tyRef Syntax.erased Syntax.mut (Syntax.tyArray ty·0 2)) (λ x. x) (Whole.mem-arr 𝓤 H A W (Array'.Array (Referent.rtF (Referent.fInt Syntax.w8)) 2048)
+          d51 = Typed.s-seq 𝓤 H A W 𝓣 E G24 G25 b6 b27 Δ0 (Typed.give s23) at49 (Local.t-sc-borrow 𝓤 H A W E 𝓣 G24 12 18 10 (Array'.Array (Array'.Array (Referent.rtF (Referent.fInt Syntax.w8)) 4096) 2) (Syntax.tyRef Syntax.erased Syntax.mut (Syntax.tyArray ty·0 2)) (λ x. x) (Whole.mem-arr 𝓤 H A W (Array'.Array (Referent.rtF (Referent.fInt Syntax.w8)) 4096)
               2) (Reads.room-gone 𝓤 H A (Syntax.tyRef Syntax.erased Syntax.mut (Syntax.tyArray ty·0 2))) Path'.refl λ b o. tt) (Typed.g-pre 𝓤 H A W 𝓣 E G25 G26 b27 Δ0 (λ Ψ. Ψ) at49 (Lifetime.g-begin 𝓤 H A W E G25 11
-              (tt, (tt, (tt, (tt, (tt, (tt, (tt, (tt, (tt, (tt, (tt, (tt, (tt, (tt, (tt, (tt, (tt, (tt, (tt, (tt, (tt, (tt, (tt, (tt, (tt, (tt, (tt, tt)))))))))))))))))))))))))))) (Typed.s-seq 𝓤 H A W 𝓣 E G26 G27 b7 b26 Δ0 (Typed.give s25) at48 (Local.t-sc-borrow 𝓤 H A W E 𝓣 G26 13 19 11 (Array'.Array (Referent.rtF (Referent.fInt Syntax.w8)) 2048) (Syntax.tyRef
-              Syntax.erased Syntax.mut ty·0) (λ x. x) (Whole.mem-arr 𝓤 H A W (Referent.rtF (Referent.fInt Syntax.w8)) 2048) (Reads.room-gone 𝓤 H A (Syntax.tyRef Syntax.erased Syntax.mut ty·0)) Path'.refl λ b o. tt) d48))
+              (tt, (tt, (tt, (tt, (tt, (tt, (tt, (tt, (tt, (tt, (tt, (tt, (tt, (tt, (tt, (tt, (tt, (tt, (tt, (tt, (tt, (tt, (tt, (tt, (tt, (tt, (tt, tt)))))))))))))))))))))))))))) (Typed.s-seq 𝓤 H A W 𝓣 E G26 G27 b7 b26 Δ0 (Typed.give s25) at48 (Local.t-sc-borrow 𝓤 H A W E 𝓣 G26 13 19 11 (Array'.Array (Referent.rtF (Referent.fInt Syntax.w8)) 4096) (Syntax.tyRef
+              Syntax.erased Syntax.mut ty·0) (λ x. x) (Whole.mem-arr 𝓤 H A W (Referent.rtF (Referent.fInt Syntax.w8)) 4096) (Reads.room-gone 𝓤 H A (Syntax.tyRef Syntax.erased Syntax.mut ty·0)) Path'.refl λ b o. tt) d48))
 
           d54 : Typed.Typed 𝓤 H A 𝓣 E G21 b29 Δ0 at53
           d54 = Typed.g-pre 𝓤 H A W 𝓣 E G21 G22 b29 Δ0 (λ Ψ. Ψ) at53 (Lifetime.g-begin 𝓤 H A W E G21 9 (tt, (tt, (tt, (tt, (tt, (tt, (tt, (tt, (tt, (tt, (tt, (tt, (tt, (tt, (tt, (tt, (tt, (tt, (tt, (tt, (tt, (tt, (tt, (tt, (tt, (tt, (tt, tt)))))))))))))))))))))))))))) (Typed.s-seq 𝓤 H A W 𝓣 E G22 G23 b5 b28 Δ0 (Typed.give s21) at51 (Local.t-sc-borrow 𝓤 H A W
-              E 𝓣 G22 11 17 9 (Array'.Array (Array'.Array (Referent.rtF (Referent.fInt Syntax.w16)) 2048) 2) (Syntax.tyRef Syntax.erased Syntax.mut (Syntax.tyArray ty·1 2)) (λ x. x) (Whole.mem-arr 𝓤 H A W (Array'.Array (Referent.rtF (Referent.fInt Syntax.w16)) 2048) 2) (Reads.room-gone 𝓤 H A (Syntax.tyRef Syntax.erased Syntax.mut (Syntax.tyArray ty·1 2)))
+              E 𝓣 G22 11 17 9 (Array'.Array (Array'.Array (Referent.rtF (Referent.fInt Syntax.w16)) 4096) 2) (Syntax.tyRef Syntax.erased Syntax.mut (Syntax.tyArray ty·1 2)) (λ x. x) (Whole.mem-arr 𝓤 H A W (Array'.Array (Referent.rtF (Referent.fInt Syntax.w16)) 4096) 2) (Reads.room-gone 𝓤 H A (Syntax.tyRef Syntax.erased Syntax.mut (Syntax.tyArray ty·1 2)))
               Path'.refl λ b o. tt) (Typed.g-pre 𝓤 H A W 𝓣 E G23 G24 b28 Δ0 (λ Ψ. Ψ) at51 (Lifetime.g-begin 𝓤 H A W E G23 10 (tt, (tt, (tt, (tt, (tt, (tt, (tt, (tt, (tt, (tt, (tt, (tt, (tt, (tt, (tt, (tt, (tt, (tt, (tt, (tt, (tt, (tt, (tt, (tt, (tt, (tt, (tt, tt)))))))))))))))))))))))))))) d51))
 
           d57 : Typed.Typed 𝓤 H A 𝓣 E G18 b30 Δ0 at57
-          d57 = Typed.g-pre 𝓤 H A W 𝓣 E G18 G19 b30 Δ0 (Typed.pass T18 T19 s17) at56 (Scalar.g-room 𝓤 H A W E G18 16 ty·0 (Init.room-arr 𝓤 H A W (Referent.rtF (Referent.fInt Syntax.w8)) 2048 0 2048 Path'.refl)) (Typed.s-seq 𝓤 H A W 𝓣 E G19 G20 b4 b29 Δ0 (Typed.pass T19 T20 s18) at55 (Repeat.t-repeat 𝓤 H A W E 𝓣 (Referent.rtF (Referent.fInt Syntax.w8))
-              (Plain'.uint-lawful 𝓤 H A W Syntax.w8) (Copies.cRf (Referent.fInt Syntax.w8) .copy 𝓤 H A W) (Plain'.uint-makes 𝓤 H A W Syntax.w8) 2048 G19 13 (Scalar.oInt Syntax.w8 0) (λ m. 0) (Reads.room-gone 𝓤 H A ty·0) tt Path'.refl λ m wa. (Path'.refl, Dec'.lit< tt)) (Typed.g-pre 𝓤 H A W 𝓣 E G20 G21 b29 Δ0 (Typed.pass T20 T21 s19) at53 (AtSlots.g-as-by 𝓤 H A W
-              E (λ ρ. Unit) G20 13 (Rows.arrF (Referent.rtF (Referent.fInt Syntax.w8)) 2048 0) (λ x. x) (Own.told-none 𝓤 H A (G20 .slots)) λ ρ told. Repeat.whole-arr 𝓤 H A W (Referent.rtF (Referent.fInt Syntax.w8)) 2048 tt ρ) d54))
+          d57 = Typed.g-pre 𝓤 H A W 𝓣 E G18 G19 b30 Δ0 (Typed.pass T18 T19 s17) at56 (Scalar.g-room 𝓤 H A W E G18 16 ty·0 (Init.room-arr 𝓤 H A W (Referent.rtF (Referent.fInt Syntax.w8)) 4096 0 4096 Path'.refl)) (Typed.s-seq 𝓤 H A W 𝓣 E G19 G20 b4 b29 Δ0 (Typed.pass T19 T20 s18) at55 (Repeat.t-repeat 𝓤 H A W E 𝓣 (Referent.rtF (Referent.fInt Syntax.w8))
+              (Plain'.uint-lawful 𝓤 H A W Syntax.w8) (Copies.cRf (Referent.fInt Syntax.w8) .copy 𝓤 H A W) (Plain'.uint-makes 𝓤 H A W Syntax.w8) 4096 G19 13 (Scalar.oInt Syntax.w8 0) (λ m. 0) (Reads.room-gone 𝓤 H A ty·0) tt Path'.refl λ m wa. (Path'.refl, Dec'.lit< tt)) (Typed.g-pre 𝓤 H A W 𝓣 E G20 G21 b29 Δ0 (Typed.pass T20 T21 s19) at53 (AtSlots.g-as-by 𝓤 H A W
+              E (λ ρ. Unit) G20 13 (Rows.arrF (Referent.rtF (Referent.fInt Syntax.w8)) 4096 0) (λ x. x) (Own.told-none 𝓤 H A (G20 .slots)) λ ρ told. Repeat.whole-arr 𝓤 H A W (Referent.rtF (Referent.fInt Syntax.w8)) 4096 tt ρ) d54))
 
           d59 : Typed.Typed 𝓤 H A 𝓣 E G16 b31 Δ0 at59
-          d59 = Typed.s-seq 𝓤 H A W 𝓣 E G16 G17 b3 b30 Δ0 (Typed.pass T16 T17 s15) at58 (Repeat.t-repeat-by 𝓤 H A W E 𝓣 (Array'.Array (Referent.rtF (Referent.fInt Syntax.w8)) 2048) (Array'.array-lawful 𝓤 H A W (Referent.rtF (Referent.fInt Syntax.w8)) (Plain'.uint-lawful 𝓤 H A W Syntax.w8) 2048) (Copies.cArr (Referent.rtF (Referent.fInt Syntax.w8))
-              (Copies.cRf (Referent.fInt Syntax.w8)) 2048 .copy 𝓤 H A W) 2 G16 12 (Scalar.oAt 16 ty·0 λ x. Steps.only (Copies.cArr (Referent.rtF (Referent.fInt Syntax.w8)) (Copies.cRf (Referent.fInt Syntax.w8)) 2048 .vals x)) (λ m. m .1 .1 .1 .1 .1 .1 .1 .1 .1 .1 .1 .1 .1 .1 .1 .1 .0) (λ ρ. Unit) (Reads.room-gone 𝓤 H A (Syntax.tyArray ty·0 2))
-              (Array.arr-reads 𝓤 H A W (Array.eInt Syntax.w8) (Array.eInt-laws Syntax.w8) 2048, Path'.refl) Path'.refl (Own.told-none 𝓤 H A (G16 .slots)) λ ρ m pf wa. Gives.elem-local 𝓤 H A W E ρ (Array'.Array (Referent.rtF (Referent.fInt Syntax.w8)) 2048) (λ x. Steps.only (Copies.cArr (Referent.rtF (Referent.fInt Syntax.w8)) (Copies.cRf (Referent.fInt
-              Syntax.w8)) 2048 .vals x)) (Copies.cArr (Referent.rtF (Referent.fInt Syntax.w8)) (Copies.cRf (Referent.fInt Syntax.w8)) 2048 .tells) (Row.out 12 (G16 .locals)) m (λ ρ. Unit) pf 16 ty·0 (λ x. x) (Yields.yields-copy 𝓤 H A W (λ ρ. Unit) (Array'.Array (Referent.rtF (Referent.fInt Syntax.w8)) 2048) Path'.refl (Copies.cArr (Referent.rtF (Referent.fInt
-              Syntax.w8)) (Copies.cRf (Referent.fInt Syntax.w8)) 2048 .copy 𝓤 H A W) (Rows.arrF (Referent.rtF (Referent.fInt Syntax.w8)) 2048 0) (λ x. x) (λ x. x) (λ ρ told. Whole.mem-arr 𝓤 H A W (Referent.rtF (Referent.fInt Syntax.w8)) 2048 ρ) λ ρ told. Whole.arr-mem 𝓤 H A W (Referent.rtF (Referent.fInt Syntax.w8)) 2048 tt ρ)) (Typed.g-pre 𝓤 H A W 𝓣 E G17 G18
-              b30 Δ0 (Typed.pass T17 T18 s16) at57 (AtSlots.g-as-by 𝓤 H A W E (λ ρ. Unit) G17 12 (Rows.arrF (Array'.Array (Referent.rtF (Referent.fInt Syntax.w8)) 2048) 2 0) (λ x. x) (Own.told-none 𝓤 H A (G17 .slots)) λ ρ told. Repeat.whole-arr 𝓤 H A W (Array'.Array (Referent.rtF (Referent.fInt Syntax.w8)) 2048) 2 tt ρ) d57)
+          d59 = Typed.s-seq 𝓤 H A W 𝓣 E G16 G17 b3 b30 Δ0 (Typed.pass T16 T17 s15) at58 (Repeat.t-repeat-by 𝓤 H A W E 𝓣 (Array'.Array (Referent.rtF (Referent.fInt Syntax.w8)) 4096) (Array'.array-lawful 𝓤 H A W (Referent.rtF (Referent.fInt Syntax.w8)) (Plain'.uint-lawful 𝓤 H A W Syntax.w8) 4096) (Copies.cArr (Referent.rtF (Referent.fInt Syntax.w8))
+              (Copies.cRf (Referent.fInt Syntax.w8)) 4096 .copy 𝓤 H A W) 2 G16 12 (Scalar.oAt 16 ty·0 λ x. Steps.only (Copies.cArr (Referent.rtF (Referent.fInt Syntax.w8)) (Copies.cRf (Referent.fInt Syntax.w8)) 4096 .vals x)) (λ m. m .1 .1 .1 .1 .1 .1 .1 .1 .1 .1 .1 .1 .1 .1 .1 .1 .0) (λ ρ. Unit) (Reads.room-gone 𝓤 H A (Syntax.tyArray ty·0 2))
+              (Array.arr-reads 𝓤 H A W (Array.eInt Syntax.w8) (Array.eInt-laws Syntax.w8) 4096, Path'.refl) Path'.refl (Own.told-none 𝓤 H A (G16 .slots)) λ ρ m pf wa. Gives.elem-local 𝓤 H A W E ρ (Array'.Array (Referent.rtF (Referent.fInt Syntax.w8)) 4096) (λ x. Steps.only (Copies.cArr (Referent.rtF (Referent.fInt Syntax.w8)) (Copies.cRf (Referent.fInt
+              Syntax.w8)) 4096 .vals x)) (Copies.cArr (Referent.rtF (Referent.fInt Syntax.w8)) (Copies.cRf (Referent.fInt Syntax.w8)) 4096 .tells) (Row.out 12 (G16 .locals)) m (λ ρ. Unit) pf 16 ty·0 (λ x. x) (Yields.yields-copy 𝓤 H A W (λ ρ. Unit) (Array'.Array (Referent.rtF (Referent.fInt Syntax.w8)) 4096) Path'.refl (Copies.cArr (Referent.rtF (Referent.fInt
+              Syntax.w8)) (Copies.cRf (Referent.fInt Syntax.w8)) 4096 .copy 𝓤 H A W) (Rows.arrF (Referent.rtF (Referent.fInt Syntax.w8)) 4096 0) (λ x. x) (λ x. x) (λ ρ told. Whole.mem-arr 𝓤 H A W (Referent.rtF (Referent.fInt Syntax.w8)) 4096 ρ) λ ρ told. Whole.arr-mem 𝓤 H A W (Referent.rtF (Referent.fInt Syntax.w8)) 4096 tt ρ)) (Typed.g-pre 𝓤 H A W 𝓣 E G17 G18
+              b30 Δ0 (Typed.pass T17 T18 s16) at57 (AtSlots.g-as-by 𝓤 H A W E (λ ρ. Unit) G17 12 (Rows.arrF (Array'.Array (Referent.rtF (Referent.fInt Syntax.w8)) 4096) 2 0) (λ x. x) (Own.told-none 𝓤 H A (G17 .slots)) λ ρ told. Repeat.whole-arr 𝓤 H A W (Array'.Array (Referent.rtF (Referent.fInt Syntax.w8)) 4096) 2 tt ρ) d57)
 
           d62 : Typed.Typed 𝓤 H A 𝓣 E G13 b32 Δ0 at62
-          d62 = Typed.g-pre 𝓤 H A W 𝓣 E G13 G14 b32 Δ0 (Typed.pass T13 T14 s12) at61 (Scalar.g-room 𝓤 H A W E G13 15 ty·1 (Init.room-arr 𝓤 H A W (Referent.rtF (Referent.fInt Syntax.w16)) 2048 0 2048 Path'.refl)) (Typed.s-seq 𝓤 H A W 𝓣 E G14 G15 b2 b31 Δ0 (Typed.pass T14 T15 s13) at60 (Repeat.t-repeat 𝓤 H A W E 𝓣 (Referent.rtF (Referent.fInt Syntax.w8))
-              (Plain'.uint-lawful 𝓤 H A W Syntax.w8) (Copies.cRf (Referent.fInt Syntax.w8) .copy 𝓤 H A W) (Plain'.uint-makes 𝓤 H A W Syntax.w8) 2048 G14 16 (Scalar.oInt Syntax.w8 0) (λ m. 0) (Reads.room-gone 𝓤 H A ty·0) tt Path'.refl λ m wa. (Path'.refl, Dec'.lit< tt)) (Typed.g-pre 𝓤 H A W 𝓣 E G15 G16 b31 Δ0 (Typed.pass T15 T16 s14) at59 (AtSlots.g-as-by 𝓤 H A W
-              E (λ ρ. Unit) G15 16 (Rows.arrF (Referent.rtF (Referent.fInt Syntax.w8)) 2048 0) (λ x. x) (Own.told-none 𝓤 H A (G15 .slots)) λ ρ told. Repeat.whole-arr 𝓤 H A W (Referent.rtF (Referent.fInt Syntax.w8)) 2048 tt ρ) d59))
+          d62 = Typed.g-pre 𝓤 H A W 𝓣 E G13 G14 b32 Δ0 (Typed.pass T13 T14 s12) at61 (Scalar.g-room 𝓤 H A W E G13 15 ty·1 (Init.room-arr 𝓤 H A W (Referent.rtF (Referent.fInt Syntax.w16)) 4096 0 4096 Path'.refl)) (Typed.s-seq 𝓤 H A W 𝓣 E G14 G15 b2 b31 Δ0 (Typed.pass T14 T15 s13) at60 (Repeat.t-repeat 𝓤 H A W E 𝓣 (Referent.rtF (Referent.fInt Syntax.w8))
+              (Plain'.uint-lawful 𝓤 H A W Syntax.w8) (Copies.cRf (Referent.fInt Syntax.w8) .copy 𝓤 H A W) (Plain'.uint-makes 𝓤 H A W Syntax.w8) 4096 G14 16 (Scalar.oInt Syntax.w8 0) (λ m. 0) (Reads.room-gone 𝓤 H A ty·0) tt Path'.refl λ m wa. (Path'.refl, Dec'.lit< tt)) (Typed.g-pre 𝓤 H A W 𝓣 E G15 G16 b31 Δ0 (Typed.pass T15 T16 s14) at59 (AtSlots.g-as-by 𝓤 H A W
+              E (λ ρ. Unit) G15 16 (Rows.arrF (Referent.rtF (Referent.fInt Syntax.w8)) 4096 0) (λ x. x) (Own.told-none 𝓤 H A (G15 .slots)) λ ρ told. Repeat.whole-arr 𝓤 H A W (Referent.rtF (Referent.fInt Syntax.w8)) 4096 tt ρ) d59))
 
           d64 : Typed.Typed 𝓤 H A 𝓣 E G11 b33 Δ0 at64
-          d64 = Typed.s-seq 𝓤 H A W 𝓣 E G11 G12 b1 b32 Δ0 (Typed.pass T11 T12 s10) at63 (Repeat.t-repeat-by 𝓤 H A W E 𝓣 (Array'.Array (Referent.rtF (Referent.fInt Syntax.w16)) 2048) (Array'.array-lawful 𝓤 H A W (Referent.rtF (Referent.fInt Syntax.w16)) (Plain'.uint-lawful 𝓤 H A W Syntax.w16) 2048) (Copies.cArr (Referent.rtF (Referent.fInt Syntax.w16))
-              (Copies.cRf (Referent.fInt Syntax.w16)) 2048 .copy 𝓤 H A W) 2 G11 11 (Scalar.oAt 15 ty·1 λ x. Steps.only (Copies.cArr (Referent.rtF (Referent.fInt Syntax.w16)) (Copies.cRf (Referent.fInt Syntax.w16)) 2048 .vals x)) (λ m. m .1 .1 .1 .1 .1 .1 .1 .1 .1 .1 .1 .1 .1 .1 .1 .0) (λ ρ. Unit) (Reads.room-gone 𝓤 H A (Syntax.tyArray ty·1 2))
-              (Array.arr-reads 𝓤 H A W (Array.eInt Syntax.w16) (Array.eInt-laws Syntax.w16) 2048, Path'.refl) Path'.refl (Own.told-none 𝓤 H A (G11 .slots)) λ ρ m pf wa. Gives.elem-local 𝓤 H A W E ρ (Array'.Array (Referent.rtF (Referent.fInt Syntax.w16)) 2048) (λ x. Steps.only (Copies.cArr (Referent.rtF (Referent.fInt Syntax.w16)) (Copies.cRf (Referent.fInt
-              Syntax.w16)) 2048 .vals x)) (Copies.cArr (Referent.rtF (Referent.fInt Syntax.w16)) (Copies.cRf (Referent.fInt Syntax.w16)) 2048 .tells) (Row.out 11 (G11 .locals)) m (λ ρ. Unit) pf 15 ty·1 (λ x. x) (Yields.yields-copy 𝓤 H A W (λ ρ. Unit) (Array'.Array (Referent.rtF (Referent.fInt Syntax.w16)) 2048) Path'.refl (Copies.cArr (Referent.rtF
-              (Referent.fInt Syntax.w16)) (Copies.cRf (Referent.fInt Syntax.w16)) 2048 .copy 𝓤 H A W) (Rows.arrF (Referent.rtF (Referent.fInt Syntax.w16)) 2048 0) (λ x. x) (λ x. x) (λ ρ told. Whole.mem-arr 𝓤 H A W (Referent.rtF (Referent.fInt Syntax.w16)) 2048 ρ) λ ρ told. Whole.arr-mem 𝓤 H A W (Referent.rtF (Referent.fInt Syntax.w16)) 2048 tt ρ)) (Typed.g-pre 𝓤
-              H A W 𝓣 E G12 G13 b32 Δ0 (Typed.pass T12 T13 s11) at62 (AtSlots.g-as-by 𝓤 H A W E (λ ρ. Unit) G12 11 (Rows.arrF (Array'.Array (Referent.rtF (Referent.fInt Syntax.w16)) 2048) 2 0) (λ x. x) (Own.told-none 𝓤 H A (G12 .slots)) λ ρ told. Repeat.whole-arr 𝓤 H A W (Array'.Array (Referent.rtF (Referent.fInt Syntax.w16)) 2048) 2 tt ρ) d62)
+          d64 = Typed.s-seq 𝓤 H A W 𝓣 E G11 G12 b1 b32 Δ0 (Typed.pass T11 T12 s10) at63 (Repeat.t-repeat-by 𝓤 H A W E 𝓣 (Array'.Array (Referent.rtF (Referent.fInt Syntax.w16)) 4096) (Array'.array-lawful 𝓤 H A W (Referent.rtF (Referent.fInt Syntax.w16)) (Plain'.uint-lawful 𝓤 H A W Syntax.w16) 4096) (Copies.cArr (Referent.rtF (Referent.fInt Syntax.w16))
+              (Copies.cRf (Referent.fInt Syntax.w16)) 4096 .copy 𝓤 H A W) 2 G11 11 (Scalar.oAt 15 ty·1 λ x. Steps.only (Copies.cArr (Referent.rtF (Referent.fInt Syntax.w16)) (Copies.cRf (Referent.fInt Syntax.w16)) 4096 .vals x)) (λ m. m .1 .1 .1 .1 .1 .1 .1 .1 .1 .1 .1 .1 .1 .1 .1 .0) (λ ρ. Unit) (Reads.room-gone 𝓤 H A (Syntax.tyArray ty·1 2))
+              (Array.arr-reads 𝓤 H A W (Array.eInt Syntax.w16) (Array.eInt-laws Syntax.w16) 4096, Path'.refl) Path'.refl (Own.told-none 𝓤 H A (G11 .slots)) λ ρ m pf wa. Gives.elem-local 𝓤 H A W E ρ (Array'.Array (Referent.rtF (Referent.fInt Syntax.w16)) 4096) (λ x. Steps.only (Copies.cArr (Referent.rtF (Referent.fInt Syntax.w16)) (Copies.cRf (Referent.fInt
+              Syntax.w16)) 4096 .vals x)) (Copies.cArr (Referent.rtF (Referent.fInt Syntax.w16)) (Copies.cRf (Referent.fInt Syntax.w16)) 4096 .tells) (Row.out 11 (G11 .locals)) m (λ ρ. Unit) pf 15 ty·1 (λ x. x) (Yields.yields-copy 𝓤 H A W (λ ρ. Unit) (Array'.Array (Referent.rtF (Referent.fInt Syntax.w16)) 4096) Path'.refl (Copies.cArr (Referent.rtF
+              (Referent.fInt Syntax.w16)) (Copies.cRf (Referent.fInt Syntax.w16)) 4096 .copy 𝓤 H A W) (Rows.arrF (Referent.rtF (Referent.fInt Syntax.w16)) 4096 0) (λ x. x) (λ x. x) (λ ρ told. Whole.mem-arr 𝓤 H A W (Referent.rtF (Referent.fInt Syntax.w16)) 4096 ρ) λ ρ told. Whole.arr-mem 𝓤 H A W (Referent.rtF (Referent.fInt Syntax.w16)) 4096 tt ρ)) (Typed.g-pre 𝓤
+              H A W 𝓣 E G12 G13 b32 Δ0 (Typed.pass T12 T13 s11) at62 (AtSlots.g-as-by 𝓤 H A W E (λ ρ. Unit) G12 11 (Rows.arrF (Array'.Array (Referent.rtF (Referent.fInt Syntax.w16)) 4096) 2 0) (λ x. x) (Own.told-none 𝓤 H A (G12 .slots)) λ ρ told. Repeat.whole-arr 𝓤 H A W (Array'.Array (Referent.rtF (Referent.fInt Syntax.w16)) 4096) 2 tt ρ) d62)
 
           d67 : Typed.Typed 𝓤 H A 𝓣 E G0 b34 Δ0 at67
           d67 = Typed.g-pre 𝓤 H A W 𝓣 E G0 G0 b34 Δ0 (Typed.give s7) at66 (Know.g-sl-known 𝓤 H A W (Referent.fInt Syntax.w8) E G0 8 7 ty·6 (Row.lease (κs .1 .1 .1 .1 .1 .1 .1 .0) (qs .1 .1 .1 .1 .1 .1 .1 .0)) 0 (λ x. x) record { fits = Dec'.lit< tt } (Reads.as-is 𝓤 H A (Mut.mslice (Referent.rtF (Referent.fInt Syntax.w8)) ty·6 7)) Path'.refl tt) (Typed.s-seq
-              𝓤 H A W 𝓣 E G0 G10 b0 b33 Δ0 (Typed.pass T0 T10 s8) at65 (Repeat.t-repeat 𝓤 H A W E 𝓣 (Referent.rtF (Referent.fInt Syntax.w16)) (Plain'.uint-lawful 𝓤 H A W Syntax.w16) (Copies.cRf (Referent.fInt Syntax.w16) .copy 𝓤 H A W) (Plain'.uint-makes 𝓤 H A W Syntax.w16) 2048 G0 15 (Scalar.oInt Syntax.w16 0) (λ m. 0) (Reads.room-gone 𝓤 H A ty·1) tt Path'.refl
-              λ m wa. (Path'.refl, Dec'.lit< tt)) (Typed.g-pre 𝓤 H A W 𝓣 E G10 G11 b33 Δ0 (Typed.pass T10 T11 s9) at64 (AtSlots.g-as-by 𝓤 H A W E (λ ρ. Unit) G10 15 (Rows.arrF (Referent.rtF (Referent.fInt Syntax.w16)) 2048 0) (λ x. x) (Own.told-none 𝓤 H A (G10 .slots)) λ ρ told. Repeat.whole-arr 𝓤 H A W (Referent.rtF (Referent.fInt Syntax.w16)) 2048 tt ρ) d64))
+              𝓤 H A W 𝓣 E G0 G10 b0 b33 Δ0 (Typed.pass T0 T10 s8) at65 (Repeat.t-repeat 𝓤 H A W E 𝓣 (Referent.rtF (Referent.fInt Syntax.w16)) (Plain'.uint-lawful 𝓤 H A W Syntax.w16) (Copies.cRf (Referent.fInt Syntax.w16) .copy 𝓤 H A W) (Plain'.uint-makes 𝓤 H A W Syntax.w16) 4096 G0 15 (Scalar.oInt Syntax.w16 0) (λ m. 0) (Reads.room-gone 𝓤 H A ty·1) tt Path'.refl
+              λ m wa. (Path'.refl, Dec'.lit< tt)) (Typed.g-pre 𝓤 H A W 𝓣 E G10 G11 b33 Δ0 (Typed.pass T10 T11 s9) at64 (AtSlots.g-as-by 𝓤 H A W E (λ ρ. Unit) G10 15 (Rows.arrF (Referent.rtF (Referent.fInt Syntax.w16)) 4096 0) (λ x. x) (Own.told-none 𝓤 H A (G10 .slots)) λ ρ told. Repeat.whole-arr 𝓤 H A W (Referent.rtF (Referent.fInt Syntax.w16)) 4096 tt ρ) d64))
 
           pub typed : Typed.Typed 𝓤 H A 𝓣 E (Function.Γin 9 ps r xs m κs qs) b34 (Function.Δret 9 ps r xs m κs qs) Φ
           typed = (Typed.g-pre 𝓤 H A W 𝓣 E G0 G0 b34 Δ0 (Typed.give s6) at67 (Know.g-sl-known 𝓤 H A W (Referent.fInt Syntax.w16) E G0 7 6 ty·12 (Row.lease (κs .1 .1 .1 .1 .1 .1 .0) (qs .1 .1 .1 .1 .1 .1 .0)) 0 (λ x. x) record { fits = Dec'.lit< tt } (Reads.as-is 𝓤 H A (Mut.mslice (Referent.rtF (Referent.fInt Syntax.w16)) ty·12 6)) Path'.refl tt) d67)

@@ -60,10 +60,10 @@ use prog.Wp
 use types.Kit
 
 abbrev ty·0 : Syntax.Ty
-ty·0 = Syntax.tyArray (Syntax.tyInt Syntax.w8) 2048
+ty·0 = Syntax.tyArray (Syntax.tyInt Syntax.w8) 4096
 
 abbrev ty·1 : Syntax.Ty
-ty·1 = Syntax.tyArray (Syntax.tyInt Syntax.w16) 2048
+ty·1 = Syntax.tyArray (Syntax.tyInt Syntax.w16) 4096
 
 abbrev ty·2 : Syntax.Ty
 ty·2 = Syntax.tyRef (Syntax.named 8) Syntax.imm Rec.behind
@@ -175,55 +175,55 @@ abbrev row·24 : Row.Row
 row·24 = Rows'.whole (Declared.row GrantReply.the-type)
 
 abbrev row·25 : Row.Row
-row·25 = Rows'.whole (Array'.Array (Referent.rtF (Referent.fInt Syntax.w16)) 2048)
+row·25 = Rows'.whole (Array'.Array (Referent.rtF (Referent.fInt Syntax.w16)) 4096)
 
 abbrev row·26 : Row.Row
-row·26 = Rows.arrF (Referent.rtF (Referent.fInt Syntax.w16)) 2048 0
+row·26 = Rows.arrF (Referent.rtF (Referent.fInt Syntax.w16)) 4096 0
 
 abbrev row·27 : Row.Row
-row·27 = Rows'.whole (Array'.Array (Array'.Array (Referent.rtF (Referent.fInt Syntax.w16)) 2048) 2)
+row·27 = Rows'.whole (Array'.Array (Array'.Array (Referent.rtF (Referent.fInt Syntax.w16)) 4096) 2)
 
 abbrev row·28 : Row.Row
-row·28 = Rows.arrF (Array'.Array (Referent.rtF (Referent.fInt Syntax.w16)) 2048) 2 0
+row·28 = Rows.arrF (Array'.Array (Referent.rtF (Referent.fInt Syntax.w16)) 4096) 2 0
 
 abbrev row·29 : Row.Row
-row·29 = Rows'.whole (Array'.Array (Referent.rtF (Referent.fInt Syntax.w8)) 2048)
+row·29 = Rows'.whole (Array'.Array (Referent.rtF (Referent.fInt Syntax.w8)) 4096)
 
 abbrev row·30 : Row.Row
-row·30 = Rows.arrF (Referent.rtF (Referent.fInt Syntax.w8)) 2048 0
+row·30 = Rows.arrF (Referent.rtF (Referent.fInt Syntax.w8)) 4096 0
 
 abbrev row·31 : Row.Row
-row·31 = Rows'.whole (Array'.Array (Array'.Array (Referent.rtF (Referent.fInt Syntax.w8)) 2048) 2)
+row·31 = Rows'.whole (Array'.Array (Array'.Array (Referent.rtF (Referent.fInt Syntax.w8)) 4096) 2)
 
 abbrev row·32 : Row.Row
-row·32 = Rows.arrF (Array'.Array (Referent.rtF (Referent.fInt Syntax.w8)) 2048) 2 0
+row·32 = Rows.arrF (Array'.Array (Referent.rtF (Referent.fInt Syntax.w8)) 4096) 2 0
 
 abbrev row·33 : Row.Row
-row·33 = Rows'.sc-owed (Array'.Array (Array'.Array (Referent.rtF (Referent.fInt Syntax.w16)) 2048) 2) 9
+row·33 = Rows'.sc-owed (Array'.Array (Array'.Array (Referent.rtF (Referent.fInt Syntax.w16)) 4096) 2) 9
 
 abbrev row·34 : Row.Row
-row·34 = Rows'.mref (Array'.Array (Array'.Array (Referent.rtF (Referent.fInt Syntax.w16)) 2048) 2) (Syntax.tyRef Syntax.erased Syntax.mut (Syntax.tyArray ty·1 2)) 9
+row·34 = Rows'.mref (Array'.Array (Array'.Array (Referent.rtF (Referent.fInt Syntax.w16)) 4096) 2) (Syntax.tyRef Syntax.erased Syntax.mut (Syntax.tyArray ty·1 2)) 9
 
 abbrev row·35 : Row.Row
-row·35 = Rows'.sc-owed (Array'.Array (Array'.Array (Referent.rtF (Referent.fInt Syntax.w8)) 2048) 2) 10
+row·35 = Rows'.sc-owed (Array'.Array (Array'.Array (Referent.rtF (Referent.fInt Syntax.w8)) 4096) 2) 10
 
 abbrev row·36 : Row.Row
-row·36 = Rows'.mref (Array'.Array (Array'.Array (Referent.rtF (Referent.fInt Syntax.w8)) 2048) 2) (Syntax.tyRef Syntax.erased Syntax.mut (Syntax.tyArray ty·0 2)) 10
+row·36 = Rows'.mref (Array'.Array (Array'.Array (Referent.rtF (Referent.fInt Syntax.w8)) 4096) 2) (Syntax.tyRef Syntax.erased Syntax.mut (Syntax.tyArray ty·0 2)) 10
 
 abbrev row·37 : Row.Row
-row·37 = Rows'.sc-owed (Array'.Array (Referent.rtF (Referent.fInt Syntax.w8)) 2048) 11
+row·37 = Rows'.sc-owed (Array'.Array (Referent.rtF (Referent.fInt Syntax.w8)) 4096) 11
 
 abbrev row·38 : Row.Row
-row·38 = Rows'.mref (Array'.Array (Referent.rtF (Referent.fInt Syntax.w8)) 2048) (Syntax.tyRef Syntax.erased Syntax.mut ty·0) 11
+row·38 = Rows'.mref (Array'.Array (Referent.rtF (Referent.fInt Syntax.w8)) 4096) (Syntax.tyRef Syntax.erased Syntax.mut ty·0) 11
 
 abbrev row·39 : Row.Row
-row·39 = Rows'.mleft (Array'.Array (Array'.Array (Referent.rtF (Referent.fInt Syntax.w16)) 2048) 2) (Syntax.tyRef Syntax.erased Syntax.mut (Syntax.tyArray ty·1 2))
+row·39 = Rows'.mleft (Array'.Array (Array'.Array (Referent.rtF (Referent.fInt Syntax.w16)) 4096) 2) (Syntax.tyRef Syntax.erased Syntax.mut (Syntax.tyArray ty·1 2))
 
 abbrev row·40 : Row.Row
-row·40 = Rows'.mleft (Array'.Array (Array'.Array (Referent.rtF (Referent.fInt Syntax.w8)) 2048) 2) (Syntax.tyRef Syntax.erased Syntax.mut (Syntax.tyArray ty·0 2))
+row·40 = Rows'.mleft (Array'.Array (Array'.Array (Referent.rtF (Referent.fInt Syntax.w8)) 4096) 2) (Syntax.tyRef Syntax.erased Syntax.mut (Syntax.tyArray ty·0 2))
 
 abbrev row·41 : Row.Row
-row·41 = Rows'.mleft (Array'.Array (Referent.rtF (Referent.fInt Syntax.w8)) 2048) (Syntax.tyRef Syntax.erased Syntax.mut ty·0)
+row·41 = Rows'.mleft (Array'.Array (Referent.rtF (Referent.fInt Syntax.w8)) 4096) (Syntax.tyRef Syntax.erased Syntax.mut ty·0)
 
 abbrev row·42 : Row.Row
 row·42 = Relend.mslice-owed (Referent.rtF (Referent.fInt Syntax.w8)) ty·5 7 12 Row.off
@@ -235,13 +235,13 @@ abbrev row·44 : Row.Row
 row·44 = Mut.mslice (Referent.rtF (Referent.fInt Syntax.w8)) ty·3 12
 
 abbrev row·45 : Row.Row
-row·45 = Rows'.sref (Array'.Array (Array'.Array (Referent.rtF (Referent.fInt Syntax.w16)) 2048) 2) (Syntax.tyRef Syntax.erased Syntax.imm (Syntax.tyArray ty·1 2)) 13
+row·45 = Rows'.sref (Array'.Array (Array'.Array (Referent.rtF (Referent.fInt Syntax.w16)) 4096) 2) (Syntax.tyRef Syntax.erased Syntax.imm (Syntax.tyArray ty·1 2)) 13
 
 abbrev row·46 : Row.Row
-row·46 = Rows'.sref (Array'.Array (Array'.Array (Referent.rtF (Referent.fInt Syntax.w8)) 2048) 2) (Syntax.tyRef Syntax.erased Syntax.imm (Syntax.tyArray ty·0 2)) 14
+row·46 = Rows'.sref (Array'.Array (Array'.Array (Referent.rtF (Referent.fInt Syntax.w8)) 4096) 2) (Syntax.tyRef Syntax.erased Syntax.imm (Syntax.tyArray ty·0 2)) 14
 
 abbrev row·47 : Row.Row
-row·47 = Rows'.sref (Array'.Array (Referent.rtF (Referent.fInt Syntax.w8)) 2048) (Syntax.tyRef Syntax.erased Syntax.imm ty·0) 15
+row·47 = Rows'.sref (Array'.Array (Referent.rtF (Referent.fInt Syntax.w8)) 4096) (Syntax.tyRef Syntax.erased Syntax.imm ty·0) 15
 
 abbrev row·48 : Row.Row
 row·48 = Mut.msleft (Referent.rtF (Referent.fInt Syntax.w8)) ty·3
@@ -263,16 +263,16 @@ abbrev pub m : Nat.ℕ
 m = 7
 
 abbrev pub ps·0 : List.List (Kinds.PK 5)
-ps·0 = List._∷_ (ShrSlice.pShrS (Referent.rtF (Referent.fInt Syntax.w16)) 0 tt) (List._∷_ (ShrSlice.pShrS Rec.rt 1 tt) (List._∷_ (Kinds.pMut (Array'.Array (Array'.Array (Referent.rtF (Referent.fInt Syntax.w16)) 2048) 2) 2 tt) (List._∷_ (Kinds.pMut (Array'.Array (Array'.Array (Referent.rtF (Referent.fInt Syntax.w8)) 2048) 2) 3 tt) (List._∷_ (Kinds.pMut
-    (Array'.Array (Referent.rtF (Referent.fInt Syntax.w8)) 2048) 4 tt) List.[]))))
+ps·0 = List._∷_ (ShrSlice.pShrS (Referent.rtF (Referent.fInt Syntax.w16)) 0 tt) (List._∷_ (ShrSlice.pShrS Rec.rt 1 tt) (List._∷_ (Kinds.pMut (Array'.Array (Array'.Array (Referent.rtF (Referent.fInt Syntax.w16)) 4096) 2) 2 tt) (List._∷_ (Kinds.pMut (Array'.Array (Array'.Array (Referent.rtF (Referent.fInt Syntax.w8)) 4096) 2) 3 tt) (List._∷_ (Kinds.pMut
+    (Array'.Array (Referent.rtF (Referent.fInt Syntax.w8)) 4096) 4 tt) List.[]))))
 
 abbrev pub r·0 : Kinds.RK 5
 r·0 = Num.rNum Syntax.w64
 
 abbrev pub ps·1 : List.List (Kinds.PK 11)
 ps·1 = List._∷_ (ShrSlice.pShrS (Referent.rtF (Referent.fInt Syntax.w16)) 0 tt) (List._∷_ (ShrSlice.pShrS (Referent.rtF (Referent.fInt Syntax.w16)) 1 tt) (List._∷_ (ShrSlice.pShrS (Referent.rtF (Referent.fInt Syntax.w8)) 2 tt) (List._∷_ (ShrSlice.pShrS (Referent.rtF (Referent.fInt Syntax.w16)) 3 tt) (List._∷_ (ShrSlice.pShrS (Referent.rtF (Referent.fInt
-    Syntax.w16)) 4 tt) (List._∷_ (ShrSlice.pShrS (Referent.rtF (Referent.fInt Syntax.w32)) 5 tt) (List._∷_ (ShrSlice.pShrS (Referent.rtF (Referent.fInt Syntax.w16)) 6 tt) (List._∷_ (MutSlice.pMutS (Referent.rtF (Referent.fInt Syntax.w8)) 7 tt) (List._∷_ (ShrRef.pShr (Array'.Array (Array'.Array (Referent.rtF (Referent.fInt Syntax.w16)) 2048) 2) 8 tt) (List._∷_
-    (ShrRef.pShr (Array'.Array (Array'.Array (Referent.rtF (Referent.fInt Syntax.w8)) 2048) 2) 9 tt) (List._∷_ (ShrRef.pShr (Array'.Array (Referent.rtF (Referent.fInt Syntax.w8)) 2048) 10 tt) (List._∷_ (Num.pNum Syntax.w64) (List._∷_ (Num.pNum Syntax.w64) List.[]))))))))))))
+    Syntax.w16)) 4 tt) (List._∷_ (ShrSlice.pShrS (Referent.rtF (Referent.fInt Syntax.w32)) 5 tt) (List._∷_ (ShrSlice.pShrS (Referent.rtF (Referent.fInt Syntax.w16)) 6 tt) (List._∷_ (MutSlice.pMutS (Referent.rtF (Referent.fInt Syntax.w8)) 7 tt) (List._∷_ (ShrRef.pShr (Array'.Array (Array'.Array (Referent.rtF (Referent.fInt Syntax.w16)) 4096) 2) 8 tt) (List._∷_
+    (ShrRef.pShr (Array'.Array (Array'.Array (Referent.rtF (Referent.fInt Syntax.w8)) 4096) 2) 9 tt) (List._∷_ (ShrRef.pShr (Array'.Array (Referent.rtF (Referent.fInt Syntax.w8)) 4096) 10 tt) (List._∷_ (Num.pNum Syntax.w64) (List._∷_ (Num.pNum Syntax.w64) List.[]))))))))))))
 
 abbrev pub r·1 : Kinds.RK 11
 r·1 = Value.rVal record { ty = Declared.row GrantReply.the-type; one = Path'.refl; val = Laws'.val GrantReply.the-type Laws.the-laws; tells = Laws'.tells GrantReply.the-type Laws.the-laws; still = Laws'.still GrantReply.the-type Laws.the-copy Exit.yes; row = Rows'.whole (Declared.row GrantReply.the-type); rd = λ x. x; mk = λ x. x } λ M 𝓤 H A W. record
@@ -284,19 +284,19 @@ hs = List._∷_ Syntax.valueLocal (List._∷_ Syntax.valueLocal (List._∷_ Synt
     List.[]))))))))))))))))))))))))
 
 abbrev b0 : Syntax.Body
-b0 = Syntax.assign (Syntax.place 15 List.[]) (Syntax.repeat (Syntax.int Syntax.w16 0) 2048)
+b0 = Syntax.assign (Syntax.place 15 List.[]) (Syntax.repeat (Syntax.int Syntax.w16 0) 4096)
 
 abbrev b1 : Syntax.Body
 b1 = Syntax.assign (Syntax.place 11 List.[]) (Syntax.repeat (Syntax.copy (Syntax.place 15 List.[])) 2)
 
 abbrev b2 : Syntax.Body
-b2 = Syntax.assign (Syntax.place 16 List.[]) (Syntax.repeat (Syntax.int Syntax.w8 0) 2048)
+b2 = Syntax.assign (Syntax.place 16 List.[]) (Syntax.repeat (Syntax.int Syntax.w8 0) 4096)
 
 abbrev b3 : Syntax.Body
 b3 = Syntax.assign (Syntax.place 12 List.[]) (Syntax.repeat (Syntax.copy (Syntax.place 16 List.[])) 2)
 
 abbrev b4 : Syntax.Body
-b4 = Syntax.assign (Syntax.place 13 List.[]) (Syntax.repeat (Syntax.int Syntax.w8 0) 2048)
+b4 = Syntax.assign (Syntax.place 13 List.[]) (Syntax.repeat (Syntax.int Syntax.w8 0) 4096)
 
 abbrev b5 : Syntax.Body
 b5 = Syntax.assign (Syntax.place 17 List.[]) (Syntax.addrOf (Syntax.place 11 List.[]))
@@ -419,8 +419,8 @@ t35 = List._∷_ (16, row·13) (List._∷_ (17, row·16) (List._∷_ (18, row·1
 
 abbrev pub t36 : List.List Row.Entry
 t36 = List._∷_ (0, row·24) (List._∷_ (1, row·1) (List._∷_ (2, row·2) (List._∷_ (3, row·3) (List._∷_ (4, row·4) (List._∷_ (5, row·5) (List._∷_ (6, row·6) (List._∷_ (7, row·7) (List._∷_ (8, row·42) (List._∷_ (9, row·9) (List._∷_ (10, row·10) (List._∷_
-    (11, Rows'.sc-shr (Rows.arrF (Array'.Array (Referent.rtF (Referent.fInt Syntax.w16)) 2048) 2 0) (Array'.Array (Array'.Array (Referent.rtF (Referent.fInt Syntax.w16)) 2048) 2) (λ x. x) 13) (List._∷_
-    (12, Rows'.sc-shr (Rows.arrF (Array'.Array (Referent.rtF (Referent.fInt Syntax.w8)) 2048) 2 0) (Array'.Array (Array'.Array (Referent.rtF (Referent.fInt Syntax.w8)) 2048) 2) (λ x. x) 14) (List._∷_ (13, Rows'.sc-shr (Rows.arrF (Referent.rtF (Referent.fInt Syntax.w8)) 2048 0) (Array'.Array (Referent.rtF (Referent.fInt Syntax.w8)) 2048) (λ x. x) 15) (List._∷_
+    (11, Rows'.sc-shr (Rows.arrF (Array'.Array (Referent.rtF (Referent.fInt Syntax.w16)) 4096) 2 0) (Array'.Array (Array'.Array (Referent.rtF (Referent.fInt Syntax.w16)) 4096) 2) (λ x. x) 13) (List._∷_
+    (12, Rows'.sc-shr (Rows.arrF (Array'.Array (Referent.rtF (Referent.fInt Syntax.w8)) 4096) 2 0) (Array'.Array (Array'.Array (Referent.rtF (Referent.fInt Syntax.w8)) 4096) 2) (λ x. x) 14) (List._∷_ (13, Rows'.sc-shr (Rows.arrF (Referent.rtF (Referent.fInt Syntax.w8)) 4096 0) (Array'.Array (Referent.rtF (Referent.fInt Syntax.w8)) 4096) (λ x. x) 15) (List._∷_
     (14, row·10) (List._∷_ (15, row·15) List.[])))))))))))))))
 
 abbrev pub t37 : List.List Row.Entry
@@ -522,15 +522,15 @@ T40 = record { locals = List._++_ t27 t29; slots = List.[] }
 
 abbrev pub T42 : Row.Cx
 T42 = record
-    { locals = List._++_ (List._∷_ (0, row·0) (List._∷_ (1, row·1) (List._∷_ (2, row·2) (List._∷_ (3, row·3) (List._∷_ (4, row·4) (List._∷_ (5, row·5) (List._∷_ (6, row·6) (List._∷_ (7, row·7) (List._∷_ (8, row·42) (List._∷_ (9, row·9) (List._∷_ (10, row·10) (List._∷_ (11, Rows'.sc-shr (Rows.arrF (Array'.Array (Referent.rtF (Referent.fInt Syntax.w16)) 2048) 2 0) (Array'.Array (Array'.Array (Referent.rtF (Referent.fInt Syntax.w16)) 2048) 2) (λ x. x) 13) (List._∷_ (12, row·32) (List._∷_ (13, row·30) (List._∷_ (14, row·10) (List._∷_ (15, row·15) List.[])))))))))))))))) t31; slots = List.[] }
+    { locals = List._++_ (List._∷_ (0, row·0) (List._∷_ (1, row·1) (List._∷_ (2, row·2) (List._∷_ (3, row·3) (List._∷_ (4, row·4) (List._∷_ (5, row·5) (List._∷_ (6, row·6) (List._∷_ (7, row·7) (List._∷_ (8, row·42) (List._∷_ (9, row·9) (List._∷_ (10, row·10) (List._∷_ (11, Rows'.sc-shr (Rows.arrF (Array'.Array (Referent.rtF (Referent.fInt Syntax.w16)) 4096) 2 0) (Array'.Array (Array'.Array (Referent.rtF (Referent.fInt Syntax.w16)) 4096) 2) (λ x. x) 13) (List._∷_ (12, row·32) (List._∷_ (13, row·30) (List._∷_ (14, row·10) (List._∷_ (15, row·15) List.[])))))))))))))))) t31; slots = List.[] }
 
 abbrev pub T44 : Row.Cx
 T44 = record
-    { locals = List._++_ (List._∷_ (0, row·0) (List._∷_ (1, row·1) (List._∷_ (2, row·2) (List._∷_ (3, row·3) (List._∷_ (4, row·4) (List._∷_ (5, row·5) (List._∷_ (6, row·6) (List._∷_ (7, row·7) (List._∷_ (8, row·42) (List._∷_ (9, row·9) (List._∷_ (10, row·10) (List._∷_ (11, Rows'.sc-shr (Rows.arrF (Array'.Array (Referent.rtF (Referent.fInt Syntax.w16)) 2048) 2 0) (Array'.Array (Array'.Array (Referent.rtF (Referent.fInt Syntax.w16)) 2048) 2) (λ x. x) 13) (List._∷_ (12, Rows'.sc-shr (Rows.arrF (Array'.Array (Referent.rtF (Referent.fInt Syntax.w8)) 2048) 2 0) (Array'.Array (Array'.Array (Referent.rtF (Referent.fInt Syntax.w8)) 2048) 2) (λ x. x) 14) (List._∷_ (13, row·30) (List._∷_ (14, row·10) (List._∷_ (15, row·15) List.[])))))))))))))))) t33; slots = List.[] }
+    { locals = List._++_ (List._∷_ (0, row·0) (List._∷_ (1, row·1) (List._∷_ (2, row·2) (List._∷_ (3, row·3) (List._∷_ (4, row·4) (List._∷_ (5, row·5) (List._∷_ (6, row·6) (List._∷_ (7, row·7) (List._∷_ (8, row·42) (List._∷_ (9, row·9) (List._∷_ (10, row·10) (List._∷_ (11, Rows'.sc-shr (Rows.arrF (Array'.Array (Referent.rtF (Referent.fInt Syntax.w16)) 4096) 2 0) (Array'.Array (Array'.Array (Referent.rtF (Referent.fInt Syntax.w16)) 4096) 2) (λ x. x) 13) (List._∷_ (12, Rows'.sc-shr (Rows.arrF (Array'.Array (Referent.rtF (Referent.fInt Syntax.w8)) 4096) 2 0) (Array'.Array (Array'.Array (Referent.rtF (Referent.fInt Syntax.w8)) 4096) 2) (λ x. x) 14) (List._∷_ (13, row·30) (List._∷_ (14, row·10) (List._∷_ (15, row·15) List.[])))))))))))))))) t33; slots = List.[] }
 
 abbrev pub T46 : Row.Cx
 T46 = record
-    { locals = List._++_ (List._∷_ (0, row·0) (List._∷_ (1, row·1) (List._∷_ (2, row·2) (List._∷_ (3, row·3) (List._∷_ (4, row·4) (List._∷_ (5, row·5) (List._∷_ (6, row·6) (List._∷_ (7, row·7) (List._∷_ (8, row·42) (List._∷_ (9, row·9) (List._∷_ (10, row·10) (List._∷_ (11, Rows'.sc-shr (Rows.arrF (Array'.Array (Referent.rtF (Referent.fInt Syntax.w16)) 2048) 2 0) (Array'.Array (Array'.Array (Referent.rtF (Referent.fInt Syntax.w16)) 2048) 2) (λ x. x) 13) (List._∷_ (12, Rows'.sc-shr (Rows.arrF (Array'.Array (Referent.rtF (Referent.fInt Syntax.w8)) 2048) 2 0) (Array'.Array (Array'.Array (Referent.rtF (Referent.fInt Syntax.w8)) 2048) 2) (λ x. x) 14) (List._∷_ (13, Rows'.sc-shr (Rows.arrF (Referent.rtF (Referent.fInt Syntax.w8)) 2048 0) (Array'.Array (Referent.rtF (Referent.fInt Syntax.w8)) 2048) (λ x. x) 15) (List._∷_ (14, row·10) (List._∷_ (15, row·15) List.[])))))))))))))))) t35; slots = List.[] }
+    { locals = List._++_ (List._∷_ (0, row·0) (List._∷_ (1, row·1) (List._∷_ (2, row·2) (List._∷_ (3, row·3) (List._∷_ (4, row·4) (List._∷_ (5, row·5) (List._∷_ (6, row·6) (List._∷_ (7, row·7) (List._∷_ (8, row·42) (List._∷_ (9, row·9) (List._∷_ (10, row·10) (List._∷_ (11, Rows'.sc-shr (Rows.arrF (Array'.Array (Referent.rtF (Referent.fInt Syntax.w16)) 4096) 2 0) (Array'.Array (Array'.Array (Referent.rtF (Referent.fInt Syntax.w16)) 4096) 2) (λ x. x) 13) (List._∷_ (12, Rows'.sc-shr (Rows.arrF (Array'.Array (Referent.rtF (Referent.fInt Syntax.w8)) 4096) 2 0) (Array'.Array (Array'.Array (Referent.rtF (Referent.fInt Syntax.w8)) 4096) 2) (λ x. x) 14) (List._∷_ (13, Rows'.sc-shr (Rows.arrF (Referent.rtF (Referent.fInt Syntax.w8)) 4096 0) (Array'.Array (Referent.rtF (Referent.fInt Syntax.w8)) 4096) (λ x. x) 15) (List._∷_ (14, row·10) (List._∷_ (15, row·15) List.[])))))))))))))))) t35; slots = List.[] }
 
 abbrev pub T47 : Row.Cx
 T47 = record { locals = List._++_ t36 t37; slots = List.[] }
@@ -546,27 +546,27 @@ T50 = record { locals = List._++_ t36 t40; slots = List.[] }
 
 abbrev pub T51 : Row.Cx
 T51 = record
-    { locals = List._++_ (List._∷_ (0, row·24) (List._∷_ (1, row·1) (List._∷_ (2, row·2) (List._∷_ (3, row·3) (List._∷_ (4, row·4) (List._∷_ (5, row·5) (List._∷_ (6, row·6) (List._∷_ (7, row·7) (List._∷_ (8, row·42) (List._∷_ (9, row·9) (List._∷_ (10, row·10) (List._∷_ (11, Rows'.sc-shr (Rows.arrF (Array'.Array (Referent.rtF (Referent.fInt Syntax.w16)) 2048) 2 0) (Array'.Array (Array'.Array (Referent.rtF (Referent.fInt Syntax.w16)) 2048) 2) (λ x. x) 13) (List._∷_ (12, Rows'.sc-shr (Rows.arrF (Array'.Array (Referent.rtF (Referent.fInt Syntax.w8)) 2048) 2 0) (Array'.Array (Array'.Array (Referent.rtF (Referent.fInt Syntax.w8)) 2048) 2) (λ x. x) 14) (List._∷_ (13, Rows'.sc-shr (Rows.arrF (Referent.rtF (Referent.fInt Syntax.w8)) 2048 0) (Array'.Array (Referent.rtF (Referent.fInt Syntax.w8)) 2048) (λ x. x) 15) (List._∷_ (14, row·14) (List._∷_ (15, row·15) List.[])))))))))))))))) t40; slots = List.[] }
+    { locals = List._++_ (List._∷_ (0, row·24) (List._∷_ (1, row·1) (List._∷_ (2, row·2) (List._∷_ (3, row·3) (List._∷_ (4, row·4) (List._∷_ (5, row·5) (List._∷_ (6, row·6) (List._∷_ (7, row·7) (List._∷_ (8, row·42) (List._∷_ (9, row·9) (List._∷_ (10, row·10) (List._∷_ (11, Rows'.sc-shr (Rows.arrF (Array'.Array (Referent.rtF (Referent.fInt Syntax.w16)) 4096) 2 0) (Array'.Array (Array'.Array (Referent.rtF (Referent.fInt Syntax.w16)) 4096) 2) (λ x. x) 13) (List._∷_ (12, Rows'.sc-shr (Rows.arrF (Array'.Array (Referent.rtF (Referent.fInt Syntax.w8)) 4096) 2 0) (Array'.Array (Array'.Array (Referent.rtF (Referent.fInt Syntax.w8)) 4096) 2) (λ x. x) 14) (List._∷_ (13, Rows'.sc-shr (Rows.arrF (Referent.rtF (Referent.fInt Syntax.w8)) 4096 0) (Array'.Array (Referent.rtF (Referent.fInt Syntax.w8)) 4096) (λ x. x) 15) (List._∷_ (14, row·14) (List._∷_ (15, row·15) List.[])))))))))))))))) t40; slots = List.[] }
 
 abbrev pub T53 : Row.Cx
 T53 = record
-    { locals = List._++_ (List._∷_ (0, row·24) (List._∷_ (1, row·1) (List._∷_ (2, row·2) (List._∷_ (3, row·3) (List._∷_ (4, row·4) (List._∷_ (5, row·5) (List._∷_ (6, row·6) (List._∷_ (7, row·7) (List._∷_ (8, row·8) (List._∷_ (9, row·9) (List._∷_ (10, row·10) (List._∷_ (11, Rows'.sc-shr (Rows.arrF (Array'.Array (Referent.rtF (Referent.fInt Syntax.w16)) 2048) 2 0) (Array'.Array (Array'.Array (Referent.rtF (Referent.fInt Syntax.w16)) 2048) 2) (λ x. x) 13) (List._∷_ (12, Rows'.sc-shr (Rows.arrF (Array'.Array (Referent.rtF (Referent.fInt Syntax.w8)) 2048) 2 0) (Array'.Array (Array'.Array (Referent.rtF (Referent.fInt Syntax.w8)) 2048) 2) (λ x. x) 14) (List._∷_ (13, Rows'.sc-shr (Rows.arrF (Referent.rtF (Referent.fInt Syntax.w8)) 2048 0) (Array'.Array (Referent.rtF (Referent.fInt Syntax.w8)) 2048) (λ x. x) 15) (List._∷_ (14, row·14) (List._∷_ (15, row·15) List.[])))))))))))))))) t1; slots = List.[] }
+    { locals = List._++_ (List._∷_ (0, row·24) (List._∷_ (1, row·1) (List._∷_ (2, row·2) (List._∷_ (3, row·3) (List._∷_ (4, row·4) (List._∷_ (5, row·5) (List._∷_ (6, row·6) (List._∷_ (7, row·7) (List._∷_ (8, row·8) (List._∷_ (9, row·9) (List._∷_ (10, row·10) (List._∷_ (11, Rows'.sc-shr (Rows.arrF (Array'.Array (Referent.rtF (Referent.fInt Syntax.w16)) 4096) 2 0) (Array'.Array (Array'.Array (Referent.rtF (Referent.fInt Syntax.w16)) 4096) 2) (λ x. x) 13) (List._∷_ (12, Rows'.sc-shr (Rows.arrF (Array'.Array (Referent.rtF (Referent.fInt Syntax.w8)) 4096) 2 0) (Array'.Array (Array'.Array (Referent.rtF (Referent.fInt Syntax.w8)) 4096) 2) (λ x. x) 14) (List._∷_ (13, Rows'.sc-shr (Rows.arrF (Referent.rtF (Referent.fInt Syntax.w8)) 4096 0) (Array'.Array (Referent.rtF (Referent.fInt Syntax.w8)) 4096) (λ x. x) 15) (List._∷_ (14, row·14) (List._∷_ (15, row·15) List.[])))))))))))))))) t1; slots = List.[] }
 
 abbrev pub T57 : Row.Cx
 T57 = record
-    { locals = List._++_ (List._∷_ (0, row·24) (List._∷_ (1, row·1) (List._∷_ (2, row·2) (List._∷_ (3, row·3) (List._∷_ (4, row·4) (List._∷_ (5, row·5) (List._∷_ (6, row·6) (List._∷_ (7, row·7) (List._∷_ (8, row·8) (List._∷_ (9, row·9) (List._∷_ (10, row·10) (List._∷_ (11, row·28) (List._∷_ (12, Rows'.sc-shr (Rows.arrF (Array'.Array (Referent.rtF (Referent.fInt Syntax.w8)) 2048) 2 0) (Array'.Array (Array'.Array (Referent.rtF (Referent.fInt Syntax.w8)) 2048) 2) (λ x. x) 14) (List._∷_ (13, Rows'.sc-shr (Rows.arrF (Referent.rtF (Referent.fInt Syntax.w8)) 2048 0) (Array'.Array (Referent.rtF (Referent.fInt Syntax.w8)) 2048) (λ x. x) 15) (List._∷_ (14, row·14) (List._∷_ (15, row·15) List.[])))))))))))))))) t1; slots = List.[] }
+    { locals = List._++_ (List._∷_ (0, row·24) (List._∷_ (1, row·1) (List._∷_ (2, row·2) (List._∷_ (3, row·3) (List._∷_ (4, row·4) (List._∷_ (5, row·5) (List._∷_ (6, row·6) (List._∷_ (7, row·7) (List._∷_ (8, row·8) (List._∷_ (9, row·9) (List._∷_ (10, row·10) (List._∷_ (11, row·28) (List._∷_ (12, Rows'.sc-shr (Rows.arrF (Array'.Array (Referent.rtF (Referent.fInt Syntax.w8)) 4096) 2 0) (Array'.Array (Array'.Array (Referent.rtF (Referent.fInt Syntax.w8)) 4096) 2) (λ x. x) 14) (List._∷_ (13, Rows'.sc-shr (Rows.arrF (Referent.rtF (Referent.fInt Syntax.w8)) 4096 0) (Array'.Array (Referent.rtF (Referent.fInt Syntax.w8)) 4096) (λ x. x) 15) (List._∷_ (14, row·14) (List._∷_ (15, row·15) List.[])))))))))))))))) t1; slots = List.[] }
 
 abbrev pub T59 : Row.Cx
 T59 = record
-    { locals = List._++_ (List._∷_ (0, row·24) (List._∷_ (1, row·1) (List._∷_ (2, row·2) (List._∷_ (3, row·3) (List._∷_ (4, row·4) (List._∷_ (5, row·5) (List._∷_ (6, row·6) (List._∷_ (7, row·7) (List._∷_ (8, row·8) (List._∷_ (9, row·9) (List._∷_ (10, row·10) (List._∷_ (11, row·11) (List._∷_ (12, Rows'.sc-shr (Rows.arrF (Array'.Array (Referent.rtF (Referent.fInt Syntax.w8)) 2048) 2 0) (Array'.Array (Array'.Array (Referent.rtF (Referent.fInt Syntax.w8)) 2048) 2) (λ x. x) 14) (List._∷_ (13, Rows'.sc-shr (Rows.arrF (Referent.rtF (Referent.fInt Syntax.w8)) 2048 0) (Array'.Array (Referent.rtF (Referent.fInt Syntax.w8)) 2048) (λ x. x) 15) (List._∷_ (14, row·14) (List._∷_ (15, row·15) List.[])))))))))))))))) t1; slots = List.[] }
+    { locals = List._++_ (List._∷_ (0, row·24) (List._∷_ (1, row·1) (List._∷_ (2, row·2) (List._∷_ (3, row·3) (List._∷_ (4, row·4) (List._∷_ (5, row·5) (List._∷_ (6, row·6) (List._∷_ (7, row·7) (List._∷_ (8, row·8) (List._∷_ (9, row·9) (List._∷_ (10, row·10) (List._∷_ (11, row·11) (List._∷_ (12, Rows'.sc-shr (Rows.arrF (Array'.Array (Referent.rtF (Referent.fInt Syntax.w8)) 4096) 2 0) (Array'.Array (Array'.Array (Referent.rtF (Referent.fInt Syntax.w8)) 4096) 2) (λ x. x) 14) (List._∷_ (13, Rows'.sc-shr (Rows.arrF (Referent.rtF (Referent.fInt Syntax.w8)) 4096 0) (Array'.Array (Referent.rtF (Referent.fInt Syntax.w8)) 4096) (λ x. x) 15) (List._∷_ (14, row·14) (List._∷_ (15, row·15) List.[])))))))))))))))) t1; slots = List.[] }
 
 abbrev pub T61 : Row.Cx
 T61 = record
-    { locals = List._++_ (List._∷_ (0, row·24) (List._∷_ (1, row·1) (List._∷_ (2, row·2) (List._∷_ (3, row·3) (List._∷_ (4, row·4) (List._∷_ (5, row·5) (List._∷_ (6, row·6) (List._∷_ (7, row·7) (List._∷_ (8, row·8) (List._∷_ (9, row·9) (List._∷_ (10, row·10) (List._∷_ (11, row·11) (List._∷_ (12, row·32) (List._∷_ (13, Rows'.sc-shr (Rows.arrF (Referent.rtF (Referent.fInt Syntax.w8)) 2048 0) (Array'.Array (Referent.rtF (Referent.fInt Syntax.w8)) 2048) (λ x. x) 15) (List._∷_ (14, row·14) (List._∷_ (15, row·15) List.[])))))))))))))))) t1; slots = List.[] }
+    { locals = List._++_ (List._∷_ (0, row·24) (List._∷_ (1, row·1) (List._∷_ (2, row·2) (List._∷_ (3, row·3) (List._∷_ (4, row·4) (List._∷_ (5, row·5) (List._∷_ (6, row·6) (List._∷_ (7, row·7) (List._∷_ (8, row·8) (List._∷_ (9, row·9) (List._∷_ (10, row·10) (List._∷_ (11, row·11) (List._∷_ (12, row·32) (List._∷_ (13, Rows'.sc-shr (Rows.arrF (Referent.rtF (Referent.fInt Syntax.w8)) 4096 0) (Array'.Array (Referent.rtF (Referent.fInt Syntax.w8)) 4096) (λ x. x) 15) (List._∷_ (14, row·14) (List._∷_ (15, row·15) List.[])))))))))))))))) t1; slots = List.[] }
 
 abbrev pub T63 : Row.Cx
 T63 = record
-    { locals = List._++_ (List._∷_ (0, row·24) (List._∷_ (1, row·1) (List._∷_ (2, row·2) (List._∷_ (3, row·3) (List._∷_ (4, row·4) (List._∷_ (5, row·5) (List._∷_ (6, row·6) (List._∷_ (7, row·7) (List._∷_ (8, row·8) (List._∷_ (9, row·9) (List._∷_ (10, row·10) (List._∷_ (11, row·11) (List._∷_ (12, row·12) (List._∷_ (13, Rows'.sc-shr (Rows.arrF (Referent.rtF (Referent.fInt Syntax.w8)) 2048 0) (Array'.Array (Referent.rtF (Referent.fInt Syntax.w8)) 2048) (λ x. x) 15) (List._∷_ (14, row·14) (List._∷_ (15, row·15) List.[])))))))))))))))) t1; slots = List.[] }
+    { locals = List._++_ (List._∷_ (0, row·24) (List._∷_ (1, row·1) (List._∷_ (2, row·2) (List._∷_ (3, row·3) (List._∷_ (4, row·4) (List._∷_ (5, row·5) (List._∷_ (6, row·6) (List._∷_ (7, row·7) (List._∷_ (8, row·8) (List._∷_ (9, row·9) (List._∷_ (10, row·10) (List._∷_ (11, row·11) (List._∷_ (12, row·12) (List._∷_ (13, Rows'.sc-shr (Rows.arrF (Referent.rtF (Referent.fInt Syntax.w8)) 4096 0) (Array'.Array (Referent.rtF (Referent.fInt Syntax.w8)) 4096) (λ x. x) 15) (List._∷_ (14, row·14) (List._∷_ (15, row·15) List.[])))))))))))))))) t1; slots = List.[] }
 
 abbrev pub T65 : Row.Cx
 T65 = record
@@ -590,61 +590,61 @@ module _ (claims· : Claims) where
   s7 = Know.k-sl-known (Referent.fInt Syntax.w8) T0 8 7 ty·5 Row.off 0 λ x. x
 
   abbrev s8 : Typed.Mo T0 → Typed.Mo T10
-  s8 = Repeat.n-repeat (Referent.rtF (Referent.fInt Syntax.w16)) 2048 T0 15 λ m. 0
+  s8 = Repeat.n-repeat (Referent.rtF (Referent.fInt Syntax.w16)) 4096 T0 15 λ m. 0
 
   abbrev s9 : Typed.Mo T10 → Typed.Mo T11
-  s9 = AtSlots.n-as-by T10 15 (Rows.arrF (Referent.rtF (Referent.fInt Syntax.w16)) 2048 0) λ x. x
+  s9 = AtSlots.n-as-by T10 15 (Rows.arrF (Referent.rtF (Referent.fInt Syntax.w16)) 4096 0) λ x. x
 
   abbrev s10 : Typed.Mo T11 → Typed.Mo T12
-  s10 = Repeat.n-repeat (Array'.Array (Referent.rtF (Referent.fInt Syntax.w16)) 2048) 2 T11 11 λ m. m .1 .1 .1 .1 .1 .1 .1 .1 .1 .1 .1 .1 .1 .1 .1 .0
+  s10 = Repeat.n-repeat (Array'.Array (Referent.rtF (Referent.fInt Syntax.w16)) 4096) 2 T11 11 λ m. m .1 .1 .1 .1 .1 .1 .1 .1 .1 .1 .1 .1 .1 .1 .1 .0
 
   abbrev s11 : Typed.Mo T12 → Typed.Mo T13
-  s11 = AtSlots.n-as-by T12 11 (Rows.arrF (Array'.Array (Referent.rtF (Referent.fInt Syntax.w16)) 2048) 2 0) λ x. x
+  s11 = AtSlots.n-as-by T12 11 (Rows.arrF (Array'.Array (Referent.rtF (Referent.fInt Syntax.w16)) 4096) 2 0) λ x. x
 
   abbrev s12 : Typed.Mo T13 → Typed.Mo T14
   s12 = Scalar.n-room T13 15 ty·1
 
   abbrev s13 : Typed.Mo T14 → Typed.Mo T15
-  s13 = Repeat.n-repeat (Referent.rtF (Referent.fInt Syntax.w8)) 2048 T14 16 λ m. 0
+  s13 = Repeat.n-repeat (Referent.rtF (Referent.fInt Syntax.w8)) 4096 T14 16 λ m. 0
 
   abbrev s14 : Typed.Mo T15 → Typed.Mo T16
-  s14 = AtSlots.n-as-by T15 16 (Rows.arrF (Referent.rtF (Referent.fInt Syntax.w8)) 2048 0) λ x. x
+  s14 = AtSlots.n-as-by T15 16 (Rows.arrF (Referent.rtF (Referent.fInt Syntax.w8)) 4096 0) λ x. x
 
   abbrev s15 : Typed.Mo T16 → Typed.Mo T17
-  s15 = Repeat.n-repeat (Array'.Array (Referent.rtF (Referent.fInt Syntax.w8)) 2048) 2 T16 12 λ m. m .1 .1 .1 .1 .1 .1 .1 .1 .1 .1 .1 .1 .1 .1 .1 .1 .0
+  s15 = Repeat.n-repeat (Array'.Array (Referent.rtF (Referent.fInt Syntax.w8)) 4096) 2 T16 12 λ m. m .1 .1 .1 .1 .1 .1 .1 .1 .1 .1 .1 .1 .1 .1 .1 .1 .0
 
   abbrev s16 : Typed.Mo T17 → Typed.Mo T18
-  s16 = AtSlots.n-as-by T17 12 (Rows.arrF (Array'.Array (Referent.rtF (Referent.fInt Syntax.w8)) 2048) 2 0) λ x. x
+  s16 = AtSlots.n-as-by T17 12 (Rows.arrF (Array'.Array (Referent.rtF (Referent.fInt Syntax.w8)) 4096) 2 0) λ x. x
 
   abbrev s17 : Typed.Mo T18 → Typed.Mo T19
   s17 = Scalar.n-room T18 16 ty·0
 
   abbrev s18 : Typed.Mo T19 → Typed.Mo T20
-  s18 = Repeat.n-repeat (Referent.rtF (Referent.fInt Syntax.w8)) 2048 T19 13 λ m. 0
+  s18 = Repeat.n-repeat (Referent.rtF (Referent.fInt Syntax.w8)) 4096 T19 13 λ m. 0
 
   abbrev s19 : Typed.Mo T20 → Typed.Mo T21
-  s19 = AtSlots.n-as-by T20 13 (Rows.arrF (Referent.rtF (Referent.fInt Syntax.w8)) 2048 0) λ x. x
+  s19 = AtSlots.n-as-by T20 13 (Rows.arrF (Referent.rtF (Referent.fInt Syntax.w8)) 4096 0) λ x. x
 
   abbrev s21 : Typed.Gives T21 T23
-  s21 = Local.k-sc-borrow T21 11 17 9 (Array'.Array (Array'.Array (Referent.rtF (Referent.fInt Syntax.w16)) 2048) 2) (Syntax.tyRef Syntax.erased Syntax.mut (Syntax.tyArray ty·1 2)) λ x. x
+  s21 = Local.k-sc-borrow T21 11 17 9 (Array'.Array (Array'.Array (Referent.rtF (Referent.fInt Syntax.w16)) 4096) 2) (Syntax.tyRef Syntax.erased Syntax.mut (Syntax.tyArray ty·1 2)) λ x. x
 
   abbrev s23 : Typed.Gives T23 T25
-  s23 = Local.k-sc-borrow T23 12 18 10 (Array'.Array (Array'.Array (Referent.rtF (Referent.fInt Syntax.w8)) 2048) 2) (Syntax.tyRef Syntax.erased Syntax.mut (Syntax.tyArray ty·0 2)) λ x. x
+  s23 = Local.k-sc-borrow T23 12 18 10 (Array'.Array (Array'.Array (Referent.rtF (Referent.fInt Syntax.w8)) 4096) 2) (Syntax.tyRef Syntax.erased Syntax.mut (Syntax.tyArray ty·0 2)) λ x. x
 
   abbrev s25 : Typed.Gives T25 T27
-  s25 = Local.k-sc-borrow T25 13 19 11 (Array'.Array (Referent.rtF (Referent.fInt Syntax.w8)) 2048) (Syntax.tyRef Syntax.erased Syntax.mut ty·0) λ x. x
+  s25 = Local.k-sc-borrow T25 13 19 11 (Array'.Array (Referent.rtF (Referent.fInt Syntax.w8)) 4096) (Syntax.tyRef Syntax.erased Syntax.mut ty·0) λ x. x
 
   abbrev s26 : Typed.Both T27 T28
   s26 = Call.callB ps·0 r·0 (claims· .0) (claims· .1) T27 args·0 14 (List._∷_ 1 (List._∷_ 8 (List._∷_ 9 (List._∷_ 10 (List._∷_ 11 List.[]))))) (Syntax.tyInt Syntax.w64)
 
   abbrev s28 : Typed.Asks T28 T30
-  s28 = Local.k-back-sc T28 17 11 9 (Array'.Array (Array'.Array (Referent.rtF (Referent.fInt Syntax.w16)) 2048) 2) (Syntax.tyRef Syntax.erased Syntax.mut (Syntax.tyArray ty·1 2)) (Rows.arrF (Array'.Array (Referent.rtF (Referent.fInt Syntax.w16)) 2048) 2 0) (λ x. x) (λ x. x) λ x. x
+  s28 = Local.k-back-sc T28 17 11 9 (Array'.Array (Array'.Array (Referent.rtF (Referent.fInt Syntax.w16)) 4096) 2) (Syntax.tyRef Syntax.erased Syntax.mut (Syntax.tyArray ty·1 2)) (Rows.arrF (Array'.Array (Referent.rtF (Referent.fInt Syntax.w16)) 4096) 2 0) (λ x. x) (λ x. x) λ x. x
 
   abbrev s31 : Typed.Asks T30 T33
-  s31 = Local.k-back-sc T30 18 12 10 (Array'.Array (Array'.Array (Referent.rtF (Referent.fInt Syntax.w8)) 2048) 2) (Syntax.tyRef Syntax.erased Syntax.mut (Syntax.tyArray ty·0 2)) (Rows.arrF (Array'.Array (Referent.rtF (Referent.fInt Syntax.w8)) 2048) 2 0) (λ x. x) (λ x. x) λ x. x
+  s31 = Local.k-back-sc T30 18 12 10 (Array'.Array (Array'.Array (Referent.rtF (Referent.fInt Syntax.w8)) 4096) 2) (Syntax.tyRef Syntax.erased Syntax.mut (Syntax.tyArray ty·0 2)) (Rows.arrF (Array'.Array (Referent.rtF (Referent.fInt Syntax.w8)) 4096) 2 0) (λ x. x) (λ x. x) λ x. x
 
   abbrev s34 : Typed.Asks T33 T36
-  s34 = Local.k-back-sc T33 19 13 11 (Array'.Array (Referent.rtF (Referent.fInt Syntax.w8)) 2048) (Syntax.tyRef Syntax.erased Syntax.mut ty·0) (Rows.arrF (Referent.rtF (Referent.fInt Syntax.w8)) 2048 0) (λ x. x) (λ x. x) λ x. x
+  s34 = Local.k-back-sc T33 19 13 11 (Array'.Array (Referent.rtF (Referent.fInt Syntax.w8)) 4096) (Syntax.tyRef Syntax.erased Syntax.mut ty·0) (Rows.arrF (Referent.rtF (Referent.fInt Syntax.w8)) 4096 0) (λ x. x) (λ x. x) λ x. x
 
   abbrev s37 : Typed.Gives T36 T39
   s37 = Relend.k-sl-relend (Referent.rtF (Referent.fInt Syntax.w8)) T36 8 20 7 12 ty·5 ty·3 Row.off λ x. x
@@ -653,13 +653,13 @@ module _ (claims· : Claims) where
   s38 = Relend.k-sl-aggregate (Referent.rtF (Referent.fInt Syntax.w8)) (Relend.asMut (Referent.rtF (Referent.fInt Syntax.w8))) T39 20 21 12 ty·3 ty·3 (λ x. x) (Scalar.oFld 8 (List._∷_ (Syntax.field 1) List.[]) (Syntax.tyInt Syntax.w64) 8 λ v. Shared.lenV (v .0))
 
   abbrev s40 : Typed.Gives T40 T42
-  s40 = Local.k-sc-share T40 11 22 13 (Array'.Array (Array'.Array (Referent.rtF (Referent.fInt Syntax.w16)) 2048) 2) (Syntax.tyRef Syntax.erased Syntax.imm (Syntax.tyArray ty·1 2)) λ x. x
+  s40 = Local.k-sc-share T40 11 22 13 (Array'.Array (Array'.Array (Referent.rtF (Referent.fInt Syntax.w16)) 4096) 2) (Syntax.tyRef Syntax.erased Syntax.imm (Syntax.tyArray ty·1 2)) λ x. x
 
   abbrev s42 : Typed.Gives T42 T44
-  s42 = Local.k-sc-share T42 12 23 14 (Array'.Array (Array'.Array (Referent.rtF (Referent.fInt Syntax.w8)) 2048) 2) (Syntax.tyRef Syntax.erased Syntax.imm (Syntax.tyArray ty·0 2)) λ x. x
+  s42 = Local.k-sc-share T42 12 23 14 (Array'.Array (Array'.Array (Referent.rtF (Referent.fInt Syntax.w8)) 4096) 2) (Syntax.tyRef Syntax.erased Syntax.imm (Syntax.tyArray ty·0 2)) λ x. x
 
   abbrev s44 : Typed.Gives T44 T46
-  s44 = Local.k-sc-share T44 13 24 15 (Array'.Array (Referent.rtF (Referent.fInt Syntax.w8)) 2048) (Syntax.tyRef Syntax.erased Syntax.imm ty·0) λ x. x
+  s44 = Local.k-sc-share T44 13 24 15 (Array'.Array (Referent.rtF (Referent.fInt Syntax.w8)) 4096) (Syntax.tyRef Syntax.erased Syntax.imm ty·0) λ x. x
 
   abbrev s45 : Typed.Both T46 T47
   s45 = Call.callB ps·1 r·1 (claims· .2) (claims· .3) T46 args·1 0 (List._∷_ 0 (List._∷_ 1 (List._∷_ 2 (List._∷_ 3 (List._∷_ 4 (List._∷_ 5 (List._∷_ 6 (List._∷_ 12 (List._∷_ 13 (List._∷_ 14 (List._∷_ 15 List.[]))))))))))) ty·12
@@ -683,19 +683,19 @@ module _ (claims· : Claims) where
   s52 = Know.k-sl-known (Referent.fInt Syntax.w8) T53 8 7 ty·5 Row.off 0 λ x. x
 
   abbrev s55 : Typed.Mo T53 → Typed.Mo T57
-  s55 = Local.n-back-shr T53 11 13 (Rows.arrF (Array'.Array (Referent.rtF (Referent.fInt Syntax.w16)) 2048) 2 0) λ x. x
+  s55 = Local.n-back-shr T53 11 13 (Rows.arrF (Array'.Array (Referent.rtF (Referent.fInt Syntax.w16)) 4096) 2 0) λ x. x
 
   abbrev s57 : Typed.Mo T57 → Typed.Mo T59
   s57 = Scalar.n-room T57 11 (Syntax.tyArray ty·1 2)
 
   abbrev s59 : Typed.Mo T59 → Typed.Mo T61
-  s59 = Local.n-back-shr T59 12 14 (Rows.arrF (Array'.Array (Referent.rtF (Referent.fInt Syntax.w8)) 2048) 2 0) λ x. x
+  s59 = Local.n-back-shr T59 12 14 (Rows.arrF (Array'.Array (Referent.rtF (Referent.fInt Syntax.w8)) 4096) 2 0) λ x. x
 
   abbrev s61 : Typed.Mo T61 → Typed.Mo T63
   s61 = Scalar.n-room T61 12 (Syntax.tyArray ty·0 2)
 
   abbrev s63 : Typed.Mo T63 → Typed.Mo T65
-  s63 = Local.n-back-shr T63 13 15 (Rows.arrF (Referent.rtF (Referent.fInt Syntax.w8)) 2048 0) λ x. x
+  s63 = Local.n-back-shr T63 13 15 (Rows.arrF (Referent.rtF (Referent.fInt Syntax.w8)) 4096 0) λ x. x
 
   abbrev s65 : Typed.Mo T65 → Typed.Mo T67
   s65 = Scalar.n-room T65 13 ty·0
@@ -841,46 +841,46 @@ module _ (claims· : Claims) where
         abbrev g27 : List.List Row.Entry
         g27 = List._∷_ (0, Rows'.any-gone ty·12) (List._∷_ (1, Rows'.sslice (Referent.rtF (Referent.fInt Syntax.w16)) ty·6 0) (List._∷_ (2, Rows'.sslice (Referent.rtF (Referent.fInt Syntax.w16)) ty·7 1) (List._∷_ (3, Rows'.sslice (Referent.rtF (Referent.fInt Syntax.w8)) ty·4 2) (List._∷_ (4, Rows'.sslice (Referent.rtF (Referent.fInt Syntax.w16)) ty·8 3)
             (List._∷_ (5, Rows'.sslice (Referent.rtF (Referent.fInt Syntax.w16)) ty·9 4) (List._∷_ (6, Rows'.sslice (Referent.rtF (Referent.fInt Syntax.w32)) ty·10 5) (List._∷_ (7, Rows'.sslice (Referent.rtF (Referent.fInt Syntax.w16)) ty·11 6) (List._∷_
-            (8, Relend.mslice-owed (Referent.rtF (Referent.fInt Syntax.w8)) ty·5 7 12 (Row.lease (κs .1 .1 .1 .1 .1 .1 .1 .0) (qs .1 .1 .1 .1 .1 .1 .1 .0))) (List._∷_ (9, Rows'.sslice Rec.rt ty·2 8) (List._∷_ (10, Rows'.sc-here (Row.sInt Syntax.w64)) (List._∷_ (11, Rows.arrF (Array'.Array (Referent.rtF (Referent.fInt Syntax.w16)) 2048) 2 0) (List._∷_
-            (12, Rows.arrF (Array'.Array (Referent.rtF (Referent.fInt Syntax.w8)) 2048) 2 0) (List._∷_ (13, Rows.arrF (Referent.rtF (Referent.fInt Syntax.w8)) 2048 0) (List._∷_ (14, Rows'.sc-here (Row.sInt Syntax.w64)) (List._∷_ (15, Rows'.any-gone ty·1) List.[])))))))))))))))
+            (8, Relend.mslice-owed (Referent.rtF (Referent.fInt Syntax.w8)) ty·5 7 12 (Row.lease (κs .1 .1 .1 .1 .1 .1 .1 .0) (qs .1 .1 .1 .1 .1 .1 .1 .0))) (List._∷_ (9, Rows'.sslice Rec.rt ty·2 8) (List._∷_ (10, Rows'.sc-here (Row.sInt Syntax.w64)) (List._∷_ (11, Rows.arrF (Array'.Array (Referent.rtF (Referent.fInt Syntax.w16)) 4096) 2 0) (List._∷_
+            (12, Rows.arrF (Array'.Array (Referent.rtF (Referent.fInt Syntax.w8)) 4096) 2 0) (List._∷_ (13, Rows.arrF (Referent.rtF (Referent.fInt Syntax.w8)) 4096 0) (List._∷_ (14, Rows'.sc-here (Row.sInt Syntax.w64)) (List._∷_ (15, Rows'.any-gone ty·1) List.[])))))))))))))))
 
         abbrev g30 : List.List Row.Entry
         g30 = List._∷_ (0, Rows'.any-gone ty·12) (List._∷_ (1, Rows'.sslice (Referent.rtF (Referent.fInt Syntax.w16)) ty·6 0) (List._∷_ (2, Rows'.sslice (Referent.rtF (Referent.fInt Syntax.w16)) ty·7 1) (List._∷_ (3, Rows'.sslice (Referent.rtF (Referent.fInt Syntax.w8)) ty·4 2) (List._∷_ (4, Rows'.sslice (Referent.rtF (Referent.fInt Syntax.w16)) ty·8 3)
             (List._∷_ (5, Rows'.sslice (Referent.rtF (Referent.fInt Syntax.w16)) ty·9 4) (List._∷_ (6, Rows'.sslice (Referent.rtF (Referent.fInt Syntax.w32)) ty·10 5) (List._∷_ (7, Rows'.sslice (Referent.rtF (Referent.fInt Syntax.w16)) ty·11 6) (List._∷_
             (8, Relend.mslice-owed (Referent.rtF (Referent.fInt Syntax.w8)) ty·5 7 12 (Row.lease (κs .1 .1 .1 .1 .1 .1 .1 .0) (qs .1 .1 .1 .1 .1 .1 .1 .0))) (List._∷_ (9, Rows'.sslice Rec.rt ty·2 8) (List._∷_ (10, Rows'.sc-here (Row.sInt Syntax.w64)) (List._∷_
-            (11, Rows'.sc-shr (Rows.arrF (Array'.Array (Referent.rtF (Referent.fInt Syntax.w16)) 2048) 2 0) (Array'.Array (Array'.Array (Referent.rtF (Referent.fInt Syntax.w16)) 2048) 2) (λ x. x) 13) (List._∷_ (12, Rows.arrF (Array'.Array (Referent.rtF (Referent.fInt Syntax.w8)) 2048) 2 0) (List._∷_ (13, Rows.arrF (Referent.rtF (Referent.fInt Syntax.w8)) 2048 0)
+            (11, Rows'.sc-shr (Rows.arrF (Array'.Array (Referent.rtF (Referent.fInt Syntax.w16)) 4096) 2 0) (Array'.Array (Array'.Array (Referent.rtF (Referent.fInt Syntax.w16)) 4096) 2) (λ x. x) 13) (List._∷_ (12, Rows.arrF (Array'.Array (Referent.rtF (Referent.fInt Syntax.w8)) 4096) 2 0) (List._∷_ (13, Rows.arrF (Referent.rtF (Referent.fInt Syntax.w8)) 4096 0)
             (List._∷_ (14, Rows'.sc-here (Row.sInt Syntax.w64)) (List._∷_ (15, Rows'.any-gone ty·1) List.[])))))))))))))))
 
         abbrev g32 : List.List Row.Entry
         g32 = List._∷_ (0, Rows'.any-gone ty·12) (List._∷_ (1, Rows'.sslice (Referent.rtF (Referent.fInt Syntax.w16)) ty·6 0) (List._∷_ (2, Rows'.sslice (Referent.rtF (Referent.fInt Syntax.w16)) ty·7 1) (List._∷_ (3, Rows'.sslice (Referent.rtF (Referent.fInt Syntax.w8)) ty·4 2) (List._∷_ (4, Rows'.sslice (Referent.rtF (Referent.fInt Syntax.w16)) ty·8 3)
             (List._∷_ (5, Rows'.sslice (Referent.rtF (Referent.fInt Syntax.w16)) ty·9 4) (List._∷_ (6, Rows'.sslice (Referent.rtF (Referent.fInt Syntax.w32)) ty·10 5) (List._∷_ (7, Rows'.sslice (Referent.rtF (Referent.fInt Syntax.w16)) ty·11 6) (List._∷_
             (8, Relend.mslice-owed (Referent.rtF (Referent.fInt Syntax.w8)) ty·5 7 12 (Row.lease (κs .1 .1 .1 .1 .1 .1 .1 .0) (qs .1 .1 .1 .1 .1 .1 .1 .0))) (List._∷_ (9, Rows'.sslice Rec.rt ty·2 8) (List._∷_ (10, Rows'.sc-here (Row.sInt Syntax.w64)) (List._∷_
-            (11, Rows'.sc-shr (Rows.arrF (Array'.Array (Referent.rtF (Referent.fInt Syntax.w16)) 2048) 2 0) (Array'.Array (Array'.Array (Referent.rtF (Referent.fInt Syntax.w16)) 2048) 2) (λ x. x) 13) (List._∷_
-            (12, Rows'.sc-shr (Rows.arrF (Array'.Array (Referent.rtF (Referent.fInt Syntax.w8)) 2048) 2 0) (Array'.Array (Array'.Array (Referent.rtF (Referent.fInt Syntax.w8)) 2048) 2) (λ x. x) 14) (List._∷_ (13, Rows.arrF (Referent.rtF (Referent.fInt Syntax.w8)) 2048 0) (List._∷_ (14, Rows'.sc-here (Row.sInt Syntax.w64)) (List._∷_ (15, Rows'.any-gone ty·1)
+            (11, Rows'.sc-shr (Rows.arrF (Array'.Array (Referent.rtF (Referent.fInt Syntax.w16)) 4096) 2 0) (Array'.Array (Array'.Array (Referent.rtF (Referent.fInt Syntax.w16)) 4096) 2) (λ x. x) 13) (List._∷_
+            (12, Rows'.sc-shr (Rows.arrF (Array'.Array (Referent.rtF (Referent.fInt Syntax.w8)) 4096) 2 0) (Array'.Array (Array'.Array (Referent.rtF (Referent.fInt Syntax.w8)) 4096) 2) (λ x. x) 14) (List._∷_ (13, Rows.arrF (Referent.rtF (Referent.fInt Syntax.w8)) 4096 0) (List._∷_ (14, Rows'.sc-here (Row.sInt Syntax.w64)) (List._∷_ (15, Rows'.any-gone ty·1)
             List.[])))))))))))))))
 
         abbrev g34 : List.List Row.Entry
         g34 = List._∷_ (0, Rows'.any-gone ty·12) (List._∷_ (1, Rows'.sslice (Referent.rtF (Referent.fInt Syntax.w16)) ty·6 0) (List._∷_ (2, Rows'.sslice (Referent.rtF (Referent.fInt Syntax.w16)) ty·7 1) (List._∷_ (3, Rows'.sslice (Referent.rtF (Referent.fInt Syntax.w8)) ty·4 2) (List._∷_ (4, Rows'.sslice (Referent.rtF (Referent.fInt Syntax.w16)) ty·8 3)
             (List._∷_ (5, Rows'.sslice (Referent.rtF (Referent.fInt Syntax.w16)) ty·9 4) (List._∷_ (6, Rows'.sslice (Referent.rtF (Referent.fInt Syntax.w32)) ty·10 5) (List._∷_ (7, Rows'.sslice (Referent.rtF (Referent.fInt Syntax.w16)) ty·11 6) (List._∷_
             (8, Relend.mslice-owed (Referent.rtF (Referent.fInt Syntax.w8)) ty·5 7 12 (Row.lease (κs .1 .1 .1 .1 .1 .1 .1 .0) (qs .1 .1 .1 .1 .1 .1 .1 .0))) (List._∷_ (9, Rows'.sslice Rec.rt ty·2 8) (List._∷_ (10, Rows'.sc-here (Row.sInt Syntax.w64)) (List._∷_
-            (11, Rows'.sc-shr (Rows.arrF (Array'.Array (Referent.rtF (Referent.fInt Syntax.w16)) 2048) 2 0) (Array'.Array (Array'.Array (Referent.rtF (Referent.fInt Syntax.w16)) 2048) 2) (λ x. x) 13) (List._∷_
-            (12, Rows'.sc-shr (Rows.arrF (Array'.Array (Referent.rtF (Referent.fInt Syntax.w8)) 2048) 2 0) (Array'.Array (Array'.Array (Referent.rtF (Referent.fInt Syntax.w8)) 2048) 2) (λ x. x) 14) (List._∷_ (13, Rows'.sc-shr (Rows.arrF (Referent.rtF (Referent.fInt Syntax.w8)) 2048 0) (Array'.Array (Referent.rtF (Referent.fInt Syntax.w8)) 2048) (λ x. x) 15)
+            (11, Rows'.sc-shr (Rows.arrF (Array'.Array (Referent.rtF (Referent.fInt Syntax.w16)) 4096) 2 0) (Array'.Array (Array'.Array (Referent.rtF (Referent.fInt Syntax.w16)) 4096) 2) (λ x. x) 13) (List._∷_
+            (12, Rows'.sc-shr (Rows.arrF (Array'.Array (Referent.rtF (Referent.fInt Syntax.w8)) 4096) 2 0) (Array'.Array (Array'.Array (Referent.rtF (Referent.fInt Syntax.w8)) 4096) 2) (λ x. x) 14) (List._∷_ (13, Rows'.sc-shr (Rows.arrF (Referent.rtF (Referent.fInt Syntax.w8)) 4096 0) (Array'.Array (Referent.rtF (Referent.fInt Syntax.w8)) 4096) (λ x. x) 15)
             (List._∷_ (14, Rows'.sc-here (Row.sInt Syntax.w64)) (List._∷_ (15, Rows'.any-gone ty·1) List.[])))))))))))))))
 
         abbrev g36 : List.List Row.Entry
         g36 = List._∷_ (0, Rows'.whole (Declared.row GrantReply.the-type)) (List._∷_ (1, Rows'.sslice (Referent.rtF (Referent.fInt Syntax.w16)) ty·6 0) (List._∷_ (2, Rows'.sslice (Referent.rtF (Referent.fInt Syntax.w16)) ty·7 1) (List._∷_ (3, Rows'.sslice (Referent.rtF (Referent.fInt Syntax.w8)) ty·4 2) (List._∷_
             (4, Rows'.sslice (Referent.rtF (Referent.fInt Syntax.w16)) ty·8 3) (List._∷_ (5, Rows'.sslice (Referent.rtF (Referent.fInt Syntax.w16)) ty·9 4) (List._∷_ (6, Rows'.sslice (Referent.rtF (Referent.fInt Syntax.w32)) ty·10 5) (List._∷_ (7, Rows'.sslice (Referent.rtF (Referent.fInt Syntax.w16)) ty·11 6) (List._∷_
             (8, Relend.mslice-owed (Referent.rtF (Referent.fInt Syntax.w8)) ty·5 7 12 (Row.lease (κs .1 .1 .1 .1 .1 .1 .1 .0) (qs .1 .1 .1 .1 .1 .1 .1 .0))) (List._∷_ (9, Rows'.sslice Rec.rt ty·2 8) (List._∷_ (10, Rows'.sc-here (Row.sInt Syntax.w64)) (List._∷_
-            (11, Rows'.sc-shr (Rows.arrF (Array'.Array (Referent.rtF (Referent.fInt Syntax.w16)) 2048) 2 0) (Array'.Array (Array'.Array (Referent.rtF (Referent.fInt Syntax.w16)) 2048) 2) (λ x. x) 13) (List._∷_
-            (12, Rows'.sc-shr (Rows.arrF (Array'.Array (Referent.rtF (Referent.fInt Syntax.w8)) 2048) 2 0) (Array'.Array (Array'.Array (Referent.rtF (Referent.fInt Syntax.w8)) 2048) 2) (λ x. x) 14) (List._∷_ (13, Rows'.sc-shr (Rows.arrF (Referent.rtF (Referent.fInt Syntax.w8)) 2048 0) (Array'.Array (Referent.rtF (Referent.fInt Syntax.w8)) 2048) (λ x. x) 15)
+            (11, Rows'.sc-shr (Rows.arrF (Array'.Array (Referent.rtF (Referent.fInt Syntax.w16)) 4096) 2 0) (Array'.Array (Array'.Array (Referent.rtF (Referent.fInt Syntax.w16)) 4096) 2) (λ x. x) 13) (List._∷_
+            (12, Rows'.sc-shr (Rows.arrF (Array'.Array (Referent.rtF (Referent.fInt Syntax.w8)) 4096) 2 0) (Array'.Array (Array'.Array (Referent.rtF (Referent.fInt Syntax.w8)) 4096) 2) (λ x. x) 14) (List._∷_ (13, Rows'.sc-shr (Rows.arrF (Referent.rtF (Referent.fInt Syntax.w8)) 4096 0) (Array'.Array (Referent.rtF (Referent.fInt Syntax.w8)) 4096) (λ x. x) 15)
             (List._∷_ (14, Rows'.sc-here (Row.sInt Syntax.w64)) (List._∷_ (15, Rows'.any-gone ty·1) List.[])))))))))))))))
 
         abbrev g41 : List.List Row.Entry
         g41 = List._∷_ (0, Rows'.whole (Declared.row GrantReply.the-type)) (List._∷_ (1, Rows'.sslice (Referent.rtF (Referent.fInt Syntax.w16)) ty·6 0) (List._∷_ (2, Rows'.sslice (Referent.rtF (Referent.fInt Syntax.w16)) ty·7 1) (List._∷_ (3, Rows'.sslice (Referent.rtF (Referent.fInt Syntax.w8)) ty·4 2) (List._∷_
             (4, Rows'.sslice (Referent.rtF (Referent.fInt Syntax.w16)) ty·8 3) (List._∷_ (5, Rows'.sslice (Referent.rtF (Referent.fInt Syntax.w16)) ty·9 4) (List._∷_ (6, Rows'.sslice (Referent.rtF (Referent.fInt Syntax.w32)) ty·10 5) (List._∷_ (7, Rows'.sslice (Referent.rtF (Referent.fInt Syntax.w16)) ty·11 6) (List._∷_
             (8, Relend.mslice-owed (Referent.rtF (Referent.fInt Syntax.w8)) ty·5 7 12 (Row.lease (κs .1 .1 .1 .1 .1 .1 .1 .0) (qs .1 .1 .1 .1 .1 .1 .1 .0))) (List._∷_ (9, Rows'.sslice Rec.rt ty·2 8) (List._∷_ (10, Rows'.sc-here (Row.sInt Syntax.w64)) (List._∷_
-            (11, Rows'.sc-shr (Rows.arrF (Array'.Array (Referent.rtF (Referent.fInt Syntax.w16)) 2048) 2 0) (Array'.Array (Array'.Array (Referent.rtF (Referent.fInt Syntax.w16)) 2048) 2) (λ x. x) 13) (List._∷_
-            (12, Rows'.sc-shr (Rows.arrF (Array'.Array (Referent.rtF (Referent.fInt Syntax.w8)) 2048) 2 0) (Array'.Array (Array'.Array (Referent.rtF (Referent.fInt Syntax.w8)) 2048) 2) (λ x. x) 14) (List._∷_ (13, Rows'.sc-shr (Rows.arrF (Referent.rtF (Referent.fInt Syntax.w8)) 2048 0) (Array'.Array (Referent.rtF (Referent.fInt Syntax.w8)) 2048) (λ x. x) 15)
+            (11, Rows'.sc-shr (Rows.arrF (Array'.Array (Referent.rtF (Referent.fInt Syntax.w16)) 4096) 2 0) (Array'.Array (Array'.Array (Referent.rtF (Referent.fInt Syntax.w16)) 4096) 2) (λ x. x) 13) (List._∷_
+            (12, Rows'.sc-shr (Rows.arrF (Array'.Array (Referent.rtF (Referent.fInt Syntax.w8)) 4096) 2 0) (Array'.Array (Array'.Array (Referent.rtF (Referent.fInt Syntax.w8)) 4096) 2) (λ x. x) 14) (List._∷_ (13, Rows'.sc-shr (Rows.arrF (Referent.rtF (Referent.fInt Syntax.w8)) 4096 0) (Array'.Array (Referent.rtF (Referent.fInt Syntax.w8)) 4096) (λ x. x) 15)
             (List._∷_ (14, Rows'.any-gone (Syntax.tyInt Syntax.w64)) (List._∷_ (15, Rows'.any-gone ty·1) List.[])))))))))))))))
 
         abbrev slots·0 : List.List Row.Life
@@ -1157,22 +1157,22 @@ module _ (claims· : Claims) where
           d0 = Typed.t-return 𝓤 H A W 𝓣 E Δ0 tt
 
           d4 : Typed.Typed 𝓤 H A 𝓣 E G64 b15 Δ0 at4
-          d4 = Typed.g-pre 𝓤 H A W 𝓣 E G64 G65 b15 Δ0 (Typed.pass T63 T65 s63) at2 (Local.g-back-shr 𝓤 H A W E G64 13 15 (Rows.arrF (Referent.rtF (Referent.fInt Syntax.w8)) 2048 0) (Array'.Array (Referent.rtF (Referent.fInt Syntax.w8)) 2048) (λ x. x) (λ x. x) (Reads.as-is 𝓤 H A (Rows'.sc-shr (Rows.arrF (Referent.rtF (Referent.fInt Syntax.w8)) 2048 0)
-              (Array'.Array (Referent.rtF (Referent.fInt Syntax.w8)) 2048) (λ x. x) 15)) (Local.home-of 𝓤 H A (Rows.arrF (Referent.rtF (Referent.fInt Syntax.w8)) 2048 0) (Array'.Array (Referent.rtF (Referent.fInt Syntax.w8)) 2048) (λ x. x) (λ x. x) (Whole.arr-mem 𝓤 H A W (Referent.rtF (Referent.fInt Syntax.w8)) 2048 tt) λ x k. Path'.refl) Path'.refl)
-              (Typed.g-pre 𝓤 H A W 𝓣 E G65 G66 b15 Δ0 (λ Ψ. Ψ) at2 (Lifetime.g-forget 𝓤 H A W E G65 15 Row.dead Path'.refl) (Typed.g-pre 𝓤 H A W 𝓣 E G66 G67 b15 Δ0 (Typed.pass T65 T67 s65) at1 (Scalar.g-room 𝓤 H A W E G66 13 ty·0 (Init.room-arr 𝓤 H A W (Referent.rtF (Referent.fInt Syntax.w8)) 2048 0 2048 Path'.refl)) (Typed.g-pre 𝓤 H A W 𝓣 E G67 G1 b15 Δ0
+          d4 = Typed.g-pre 𝓤 H A W 𝓣 E G64 G65 b15 Δ0 (Typed.pass T63 T65 s63) at2 (Local.g-back-shr 𝓤 H A W E G64 13 15 (Rows.arrF (Referent.rtF (Referent.fInt Syntax.w8)) 4096 0) (Array'.Array (Referent.rtF (Referent.fInt Syntax.w8)) 4096) (λ x. x) (λ x. x) (Reads.as-is 𝓤 H A (Rows'.sc-shr (Rows.arrF (Referent.rtF (Referent.fInt Syntax.w8)) 4096 0)
+              (Array'.Array (Referent.rtF (Referent.fInt Syntax.w8)) 4096) (λ x. x) 15)) (Local.home-of 𝓤 H A (Rows.arrF (Referent.rtF (Referent.fInt Syntax.w8)) 4096 0) (Array'.Array (Referent.rtF (Referent.fInt Syntax.w8)) 4096) (λ x. x) (λ x. x) (Whole.arr-mem 𝓤 H A W (Referent.rtF (Referent.fInt Syntax.w8)) 4096 tt) λ x k. Path'.refl) Path'.refl)
+              (Typed.g-pre 𝓤 H A W 𝓣 E G65 G66 b15 Δ0 (λ Ψ. Ψ) at2 (Lifetime.g-forget 𝓤 H A W E G65 15 Row.dead Path'.refl) (Typed.g-pre 𝓤 H A W 𝓣 E G66 G67 b15 Δ0 (Typed.pass T65 T67 s65) at1 (Scalar.g-room 𝓤 H A W E G66 13 ty·0 (Init.room-arr 𝓤 H A W (Referent.rtF (Referent.fInt Syntax.w8)) 4096 0 4096 Path'.refl)) (Typed.g-pre 𝓤 H A W 𝓣 E G67 G1 b15 Δ0
               (Typed.pass T67 T1 s66) at0 (Scalar.g-room 𝓤 H A W E G67 10 (Syntax.tyInt Syntax.w64) (Scalar.room-sc 𝓤 H A W (Row.sInt Syntax.w64))) d0)))
 
           d8 : Typed.Typed 𝓤 H A 𝓣 E G60 b15 Δ0 at8
-          d8 = Typed.g-pre 𝓤 H A W 𝓣 E G60 G61 b15 Δ0 (Typed.pass T59 T61 s59) at6 (Local.g-back-shr 𝓤 H A W E G60 12 14 (Rows.arrF (Array'.Array (Referent.rtF (Referent.fInt Syntax.w8)) 2048) 2 0) (Array'.Array (Array'.Array (Referent.rtF (Referent.fInt Syntax.w8)) 2048) 2) (λ x. x) (λ x. x) (Reads.as-is 𝓤 H A (Rows'.sc-shr (Rows.arrF (Array'.Array
-              (Referent.rtF (Referent.fInt Syntax.w8)) 2048) 2 0) (Array'.Array (Array'.Array (Referent.rtF (Referent.fInt Syntax.w8)) 2048) 2) (λ x. x) 14)) (Local.home-of 𝓤 H A (Rows.arrF (Array'.Array (Referent.rtF (Referent.fInt Syntax.w8)) 2048) 2 0) (Array'.Array (Array'.Array (Referent.rtF (Referent.fInt Syntax.w8)) 2048) 2) (λ x. x) (λ x. x)
-              (Whole.arr-mem 𝓤 H A W (Array'.Array (Referent.rtF (Referent.fInt Syntax.w8)) 2048) 2 tt) λ x k. Path'.refl) Path'.refl) (Typed.g-pre 𝓤 H A W 𝓣 E G61 G62 b15 Δ0 (λ Ψ. Ψ) at6 (Lifetime.g-forget 𝓤 H A W E G61 14 Row.dead Path'.refl) (Typed.g-pre 𝓤 H A W 𝓣 E G62 G63 b15 Δ0 (Typed.pass T61 T63 s61) at4 (Scalar.g-room 𝓤 H A W E G62 12 (Syntax.tyArray
-              ty·0 2) (Init.room-arr 𝓤 H A W (Array'.Array (Referent.rtF (Referent.fInt Syntax.w8)) 2048) 2 0 2 Path'.refl)) (Typed.g-pre 𝓤 H A W 𝓣 E G63 G64 b15 Δ0 (λ Ψ. Ψ) at4 (Lifetime.g-end 𝓤 H A W E G63 15 Path'.refl) d4)))
+          d8 = Typed.g-pre 𝓤 H A W 𝓣 E G60 G61 b15 Δ0 (Typed.pass T59 T61 s59) at6 (Local.g-back-shr 𝓤 H A W E G60 12 14 (Rows.arrF (Array'.Array (Referent.rtF (Referent.fInt Syntax.w8)) 4096) 2 0) (Array'.Array (Array'.Array (Referent.rtF (Referent.fInt Syntax.w8)) 4096) 2) (λ x. x) (λ x. x) (Reads.as-is 𝓤 H A (Rows'.sc-shr (Rows.arrF (Array'.Array
+              (Referent.rtF (Referent.fInt Syntax.w8)) 4096) 2 0) (Array'.Array (Array'.Array (Referent.rtF (Referent.fInt Syntax.w8)) 4096) 2) (λ x. x) 14)) (Local.home-of 𝓤 H A (Rows.arrF (Array'.Array (Referent.rtF (Referent.fInt Syntax.w8)) 4096) 2 0) (Array'.Array (Array'.Array (Referent.rtF (Referent.fInt Syntax.w8)) 4096) 2) (λ x. x) (λ x. x)
+              (Whole.arr-mem 𝓤 H A W (Array'.Array (Referent.rtF (Referent.fInt Syntax.w8)) 4096) 2 tt) λ x k. Path'.refl) Path'.refl) (Typed.g-pre 𝓤 H A W 𝓣 E G61 G62 b15 Δ0 (λ Ψ. Ψ) at6 (Lifetime.g-forget 𝓤 H A W E G61 14 Row.dead Path'.refl) (Typed.g-pre 𝓤 H A W 𝓣 E G62 G63 b15 Δ0 (Typed.pass T61 T63 s61) at4 (Scalar.g-room 𝓤 H A W E G62 12 (Syntax.tyArray
+              ty·0 2) (Init.room-arr 𝓤 H A W (Array'.Array (Referent.rtF (Referent.fInt Syntax.w8)) 4096) 2 0 2 Path'.refl)) (Typed.g-pre 𝓤 H A W 𝓣 E G63 G64 b15 Δ0 (λ Ψ. Ψ) at4 (Lifetime.g-end 𝓤 H A W E G63 15 Path'.refl) d4)))
 
           d12 : Typed.Typed 𝓤 H A 𝓣 E G56 b15 Δ0 at12
-          d12 = Typed.g-pre 𝓤 H A W 𝓣 E G56 G57 b15 Δ0 (Typed.pass T53 T57 s55) at10 (Local.g-back-shr 𝓤 H A W E G56 11 13 (Rows.arrF (Array'.Array (Referent.rtF (Referent.fInt Syntax.w16)) 2048) 2 0) (Array'.Array (Array'.Array (Referent.rtF (Referent.fInt Syntax.w16)) 2048) 2) (λ x. x) (λ x. x) (Reads.as-is 𝓤 H A (Rows'.sc-shr (Rows.arrF (Array'.Array
-              (Referent.rtF (Referent.fInt Syntax.w16)) 2048) 2 0) (Array'.Array (Array'.Array (Referent.rtF (Referent.fInt Syntax.w16)) 2048) 2) (λ x. x) 13)) (Local.home-of 𝓤 H A (Rows.arrF (Array'.Array (Referent.rtF (Referent.fInt Syntax.w16)) 2048) 2 0) (Array'.Array (Array'.Array (Referent.rtF (Referent.fInt Syntax.w16)) 2048) 2) (λ x. x) (λ x. x)
-              (Whole.arr-mem 𝓤 H A W (Array'.Array (Referent.rtF (Referent.fInt Syntax.w16)) 2048) 2 tt) λ x k. Path'.refl) Path'.refl) (Typed.g-pre 𝓤 H A W 𝓣 E G57 G58 b15 Δ0 (λ Ψ. Ψ) at10 (Lifetime.g-forget 𝓤 H A W E G57 13 Row.dead Path'.refl) (Typed.g-pre 𝓤 H A W 𝓣 E G58 G59 b15 Δ0 (Typed.pass T57 T59 s57) at8 (Scalar.g-room 𝓤 H A W E G58 11 (Syntax.tyArray
-              ty·1 2) (Init.room-arr 𝓤 H A W (Array'.Array (Referent.rtF (Referent.fInt Syntax.w16)) 2048) 2 0 2 Path'.refl)) (Typed.g-pre 𝓤 H A W 𝓣 E G59 G60 b15 Δ0 (λ Ψ. Ψ) at8 (Lifetime.g-end 𝓤 H A W E G59 14 Path'.refl) d8)))
+          d12 = Typed.g-pre 𝓤 H A W 𝓣 E G56 G57 b15 Δ0 (Typed.pass T53 T57 s55) at10 (Local.g-back-shr 𝓤 H A W E G56 11 13 (Rows.arrF (Array'.Array (Referent.rtF (Referent.fInt Syntax.w16)) 4096) 2 0) (Array'.Array (Array'.Array (Referent.rtF (Referent.fInt Syntax.w16)) 4096) 2) (λ x. x) (λ x. x) (Reads.as-is 𝓤 H A (Rows'.sc-shr (Rows.arrF (Array'.Array
+              (Referent.rtF (Referent.fInt Syntax.w16)) 4096) 2 0) (Array'.Array (Array'.Array (Referent.rtF (Referent.fInt Syntax.w16)) 4096) 2) (λ x. x) 13)) (Local.home-of 𝓤 H A (Rows.arrF (Array'.Array (Referent.rtF (Referent.fInt Syntax.w16)) 4096) 2 0) (Array'.Array (Array'.Array (Referent.rtF (Referent.fInt Syntax.w16)) 4096) 2) (λ x. x) (λ x. x)
+              (Whole.arr-mem 𝓤 H A W (Array'.Array (Referent.rtF (Referent.fInt Syntax.w16)) 4096) 2 tt) λ x k. Path'.refl) Path'.refl) (Typed.g-pre 𝓤 H A W 𝓣 E G57 G58 b15 Δ0 (λ Ψ. Ψ) at10 (Lifetime.g-forget 𝓤 H A W E G57 13 Row.dead Path'.refl) (Typed.g-pre 𝓤 H A W 𝓣 E G58 G59 b15 Δ0 (Typed.pass T57 T59 s57) at8 (Scalar.g-room 𝓤 H A W E G58 11 (Syntax.tyArray
+              ty·1 2) (Init.room-arr 𝓤 H A W (Array'.Array (Referent.rtF (Referent.fInt Syntax.w16)) 4096) 2 0 2 Path'.refl)) (Typed.g-pre 𝓤 H A W 𝓣 E G59 G60 b15 Δ0 (λ Ψ. Ψ) at8 (Lifetime.g-end 𝓤 H A W E G59 14 Path'.refl) d8)))
 
           d16 : Typed.Typed 𝓤 H A 𝓣 E G52 b15 Δ0 at16
           d16 = Typed.g-pre 𝓤 H A W 𝓣 E G52 G53 b15 Δ0 (Typed.both s51) at15 (Relend.g-back-sl 𝓤 H A W E (Referent.rtF (Referent.fInt Syntax.w8)) G52 21 8 7 12 ty·5 ty·3 (Row.lease (κs .1 .1 .1 .1 .1 .1 .1 .0) (qs .1 .1 .1 .1 .1 .1 .1 .0)) (λ x. x) (λ x. x) (Reads.as-is 𝓤 H A (Mut.msleft (Referent.rtF (Referent.fInt Syntax.w8)) ty·3)) (Reads.as-is 𝓤 H A
@@ -1181,28 +1181,28 @@ module _ (claims· : Claims) where
               Path'.refl) d12)))
 
           d20 : Typed.Typed 𝓤 H A 𝓣 E G48 b15 Δ0 at20
-          d20 = Typed.g-pre 𝓤 H A W 𝓣 E G48 G49 b15 Δ0 (Typed.pass T48 T49 s47) at19 (Local.g-drop-sref 𝓤 H A W E G48 23 14 (Array'.Array (Array'.Array (Referent.rtF (Referent.fInt Syntax.w8)) 2048) 2) (Syntax.tyRef Syntax.erased Syntax.imm (Syntax.tyArray ty·0 2)) (λ x. x) (Reads.as-is 𝓤 H A (Rows'.sref (Array'.Array (Array'.Array (Referent.rtF
-              (Referent.fInt Syntax.w8)) 2048) 2) (Syntax.tyRef Syntax.erased Syntax.imm (Syntax.tyArray ty·0 2)) 14))) (Typed.g-pre 𝓤 H A W 𝓣 E G49 G50 b15 Δ0 (Typed.pass T49 T50 s48) at18 (Local.g-drop-sref 𝓤 H A W E G49 24 15 (Array'.Array (Referent.rtF (Referent.fInt Syntax.w8)) 2048) (Syntax.tyRef Syntax.erased Syntax.imm ty·0) (λ x. x) (Reads.as-is 𝓤 H A
-              (Rows'.sref (Array'.Array (Referent.rtF (Referent.fInt Syntax.w8)) 2048) (Syntax.tyRef Syntax.erased Syntax.imm ty·0) 15))) (Typed.g-pre 𝓤 H A W 𝓣 E G50 G51 b15 Δ0 (Typed.pass T50 T51 s49) at16 (Scalar.g-room 𝓤 H A W E G50 14 (Syntax.tyInt Syntax.w64) (Scalar.room-sc 𝓤 H A W (Row.sInt Syntax.w64))) (Typed.g-pre 𝓤 H A W 𝓣 E G51 G52 b15 Δ0 (λ Ψ. Ψ)
+          d20 = Typed.g-pre 𝓤 H A W 𝓣 E G48 G49 b15 Δ0 (Typed.pass T48 T49 s47) at19 (Local.g-drop-sref 𝓤 H A W E G48 23 14 (Array'.Array (Array'.Array (Referent.rtF (Referent.fInt Syntax.w8)) 4096) 2) (Syntax.tyRef Syntax.erased Syntax.imm (Syntax.tyArray ty·0 2)) (λ x. x) (Reads.as-is 𝓤 H A (Rows'.sref (Array'.Array (Array'.Array (Referent.rtF
+              (Referent.fInt Syntax.w8)) 4096) 2) (Syntax.tyRef Syntax.erased Syntax.imm (Syntax.tyArray ty·0 2)) 14))) (Typed.g-pre 𝓤 H A W 𝓣 E G49 G50 b15 Δ0 (Typed.pass T49 T50 s48) at18 (Local.g-drop-sref 𝓤 H A W E G49 24 15 (Array'.Array (Referent.rtF (Referent.fInt Syntax.w8)) 4096) (Syntax.tyRef Syntax.erased Syntax.imm ty·0) (λ x. x) (Reads.as-is 𝓤 H A
+              (Rows'.sref (Array'.Array (Referent.rtF (Referent.fInt Syntax.w8)) 4096) (Syntax.tyRef Syntax.erased Syntax.imm ty·0) 15))) (Typed.g-pre 𝓤 H A W 𝓣 E G50 G51 b15 Δ0 (Typed.pass T50 T51 s49) at16 (Scalar.g-room 𝓤 H A W E G50 14 (Syntax.tyInt Syntax.w64) (Scalar.room-sc 𝓤 H A W (Row.sInt Syntax.w64))) (Typed.g-pre 𝓤 H A W 𝓣 E G51 G52 b15 Δ0 (λ Ψ. Ψ)
               at16 (Lifetime.g-end 𝓤 H A W E G51 12 Path'.refl) d16)))
 
           d22 : Typed.Typed 𝓤 H A 𝓣 E G46 b16 Δ0 at22
           d22 = Typed.s-seq 𝓤 H A W 𝓣 E G46 G47 b14 b15 Δ0 (Typed.both s45) at21 (Plain.t-call-plain 𝓤 H A W 𝓣 11 ps·1 r·1 (claims· .2) (claims· .3) "conductor::over::grant" (known .1) E (λ pos β. β) G46
               (record { pos = 1; ty = ty·6; ref = λ x. x }, (record { pos = 2; ty = ty·7; ref = λ x. x }, (record { pos = 3; ty = ty·4; ref = λ x. x }, (record { pos = 4; ty = ty·8; ref = λ x. x }, (record { pos = 5; ty = ty·9; ref = λ x. x }, (record { pos = 6; ty = ty·10; ref = λ x. x }, (record { pos = 7; ty = ty·11; ref = λ x. x }, (record { pos = 21; ty = ty·3; ref = λ x. x }, (record { pos = 22; ty = Syntax.tyRef Syntax.erased Syntax.imm (Syntax.tyArray ty·1 2); ref = λ x. x }, (record { pos = 23; ty = Syntax.tyRef Syntax.erased Syntax.imm (Syntax.tyArray ty·0 2); ref = λ x. x }, (record { pos = 24; ty = Syntax.tyRef Syntax.erased Syntax.imm ty·0; ref = λ x. x }, (Num.vAt 10 λ x. x, (Num.vAt 14 λ x. x, tt)))))))))))))
               0 (List._∷_ 0 (List._∷_ 1 (List._∷_ 2 (List._∷_ 3 (List._∷_ 4 (List._∷_ 5 (List._∷_ 6 (List._∷_ 12 (List._∷_ 13 (List._∷_ 14 (List._∷_ 15 List.[]))))))))))) (Call.sub-id 𝓤 H A W (G46 .slots))
-              (ShrSlice.spares-sslice 𝓤 H A W (Referent.rtF (Referent.fInt Syntax.w16)) ty·6 0, Shared.reads-sslice 𝓤 H A W (Referent.rtF (Referent.fInt Syntax.w16)) ty·6 0, Path'.refl, (ShrSlice.spares-sslice 𝓤 H A W (Referent.rtF (Referent.fInt Syntax.w16)) ty·7 1, Shared.reads-sslice 𝓤 H A W (Referent.rtF (Referent.fInt Syntax.w16)) ty·7 1, Path'.refl, (ShrSlice.spares-sslice 𝓤 H A W (Referent.rtF (Referent.fInt Syntax.w8)) ty·4 2, Shared.reads-sslice 𝓤 H A W (Referent.rtF (Referent.fInt Syntax.w8)) ty·4 2, Path'.refl, (ShrSlice.spares-sslice 𝓤 H A W (Referent.rtF (Referent.fInt Syntax.w16)) ty·8 3, Shared.reads-sslice 𝓤 H A W (Referent.rtF (Referent.fInt Syntax.w16)) ty·8 3, Path'.refl, (ShrSlice.spares-sslice 𝓤 H A W (Referent.rtF (Referent.fInt Syntax.w16)) ty·9 4, Shared.reads-sslice 𝓤 H A W (Referent.rtF (Referent.fInt Syntax.w16)) ty·9 4, Path'.refl, (ShrSlice.spares-sslice 𝓤 H A W (Referent.rtF (Referent.fInt Syntax.w32)) ty·10 5, Shared.reads-sslice 𝓤 H A W (Referent.rtF (Referent.fInt Syntax.w32)) ty·10 5, Path'.refl, (ShrSlice.spares-sslice 𝓤 H A W (Referent.rtF (Referent.fInt Syntax.w16)) ty·11 6, Shared.reads-sslice 𝓤 H A W (Referent.rtF (Referent.fInt Syntax.w16)) ty·11 6, Path'.refl, (Reads.as-is 𝓤 H A (Mut.mslice (Referent.rtF (Referent.fInt Syntax.w8)) ty·3 12), Mut.reads-mslice 𝓤 H A W (Referent.rtF (Referent.fInt Syntax.w8)) ty·3 12, Path'.refl, (ShrRef.spares-sref 𝓤 H A W (Array'.Array (Array'.Array (Referent.rtF (Referent.fInt Syntax.w16)) 2048) 2) (Syntax.tyRef Syntax.erased Syntax.imm (Syntax.tyArray ty·1 2)) 13, Reads.reads-sref 𝓤 H A W (Array'.Array (Array'.Array (Referent.rtF (Referent.fInt Syntax.w16)) 2048) 2) (Syntax.tyRef Syntax.erased Syntax.imm (Syntax.tyArray ty·1 2)) 13, Path'.refl, (ShrRef.spares-sref 𝓤 H A W (Array'.Array (Array'.Array (Referent.rtF (Referent.fInt Syntax.w8)) 2048) 2) (Syntax.tyRef Syntax.erased Syntax.imm (Syntax.tyArray ty·0 2)) 14, Reads.reads-sref 𝓤 H A W (Array'.Array (Array'.Array (Referent.rtF (Referent.fInt Syntax.w8)) 2048) 2) (Syntax.tyRef Syntax.erased Syntax.imm (Syntax.tyArray ty·0 2)) 14, Path'.refl, (ShrRef.spares-sref 𝓤 H A W (Array'.Array (Referent.rtF (Referent.fInt Syntax.w8)) 2048) (Syntax.tyRef Syntax.erased Syntax.imm ty·0) 15, Reads.reads-sref 𝓤 H A W (Array'.Array (Referent.rtF (Referent.fInt Syntax.w8)) 2048) (Syntax.tyRef Syntax.erased Syntax.imm ty·0) 15, Path'.refl, ((Scalar.reads-sc 𝓤 H A W (Row.sInt Syntax.w64), Path'.refl), ((Scalar.reads-sc 𝓤 H A W (Row.sInt Syntax.w64), Path'.refl), tt)))))))))))))
-              (Reads.room-gone 𝓤 H A ty·12) (tt, (tt, (tt, (tt, (tt, (tt, (tt, (tt, (tt, (tt, (tt, tt))))))))))) Path'.refl) (Typed.g-pre 𝓤 H A W 𝓣 E G47 G48 b15 Δ0 (Typed.pass T47 T48 s46) at20 (Local.g-drop-sref 𝓤 H A W E G47 22 13 (Array'.Array (Array'.Array (Referent.rtF (Referent.fInt Syntax.w16)) 2048) 2) (Syntax.tyRef Syntax.erased Syntax.imm
-              (Syntax.tyArray ty·1 2)) (λ x. x) (Reads.as-is 𝓤 H A (Rows'.sref (Array'.Array (Array'.Array (Referent.rtF (Referent.fInt Syntax.w16)) 2048) 2) (Syntax.tyRef Syntax.erased Syntax.imm (Syntax.tyArray ty·1 2)) 13))) d20)
+              (ShrSlice.spares-sslice 𝓤 H A W (Referent.rtF (Referent.fInt Syntax.w16)) ty·6 0, Shared.reads-sslice 𝓤 H A W (Referent.rtF (Referent.fInt Syntax.w16)) ty·6 0, Path'.refl, (ShrSlice.spares-sslice 𝓤 H A W (Referent.rtF (Referent.fInt Syntax.w16)) ty·7 1, Shared.reads-sslice 𝓤 H A W (Referent.rtF (Referent.fInt Syntax.w16)) ty·7 1, Path'.refl, (ShrSlice.spares-sslice 𝓤 H A W (Referent.rtF (Referent.fInt Syntax.w8)) ty·4 2, Shared.reads-sslice 𝓤 H A W (Referent.rtF (Referent.fInt Syntax.w8)) ty·4 2, Path'.refl, (ShrSlice.spares-sslice 𝓤 H A W (Referent.rtF (Referent.fInt Syntax.w16)) ty·8 3, Shared.reads-sslice 𝓤 H A W (Referent.rtF (Referent.fInt Syntax.w16)) ty·8 3, Path'.refl, (ShrSlice.spares-sslice 𝓤 H A W (Referent.rtF (Referent.fInt Syntax.w16)) ty·9 4, Shared.reads-sslice 𝓤 H A W (Referent.rtF (Referent.fInt Syntax.w16)) ty·9 4, Path'.refl, (ShrSlice.spares-sslice 𝓤 H A W (Referent.rtF (Referent.fInt Syntax.w32)) ty·10 5, Shared.reads-sslice 𝓤 H A W (Referent.rtF (Referent.fInt Syntax.w32)) ty·10 5, Path'.refl, (ShrSlice.spares-sslice 𝓤 H A W (Referent.rtF (Referent.fInt Syntax.w16)) ty·11 6, Shared.reads-sslice 𝓤 H A W (Referent.rtF (Referent.fInt Syntax.w16)) ty·11 6, Path'.refl, (Reads.as-is 𝓤 H A (Mut.mslice (Referent.rtF (Referent.fInt Syntax.w8)) ty·3 12), Mut.reads-mslice 𝓤 H A W (Referent.rtF (Referent.fInt Syntax.w8)) ty·3 12, Path'.refl, (ShrRef.spares-sref 𝓤 H A W (Array'.Array (Array'.Array (Referent.rtF (Referent.fInt Syntax.w16)) 4096) 2) (Syntax.tyRef Syntax.erased Syntax.imm (Syntax.tyArray ty·1 2)) 13, Reads.reads-sref 𝓤 H A W (Array'.Array (Array'.Array (Referent.rtF (Referent.fInt Syntax.w16)) 4096) 2) (Syntax.tyRef Syntax.erased Syntax.imm (Syntax.tyArray ty·1 2)) 13, Path'.refl, (ShrRef.spares-sref 𝓤 H A W (Array'.Array (Array'.Array (Referent.rtF (Referent.fInt Syntax.w8)) 4096) 2) (Syntax.tyRef Syntax.erased Syntax.imm (Syntax.tyArray ty·0 2)) 14, Reads.reads-sref 𝓤 H A W (Array'.Array (Array'.Array (Referent.rtF (Referent.fInt Syntax.w8)) 4096) 2) (Syntax.tyRef Syntax.erased Syntax.imm (Syntax.tyArray ty·0 2)) 14, Path'.refl, (ShrRef.spares-sref 𝓤 H A W (Array'.Array (Referent.rtF (Referent.fInt Syntax.w8)) 4096) (Syntax.tyRef Syntax.erased Syntax.imm ty·0) 15, Reads.reads-sref 𝓤 H A W (Array'.Array (Referent.rtF (Referent.fInt Syntax.w8)) 4096) (Syntax.tyRef Syntax.erased Syntax.imm ty·0) 15, Path'.refl, ((Scalar.reads-sc 𝓤 H A W (Row.sInt Syntax.w64), Path'.refl), ((Scalar.reads-sc 𝓤 H A W (Row.sInt Syntax.w64), Path'.refl), tt)))))))))))))
+              (Reads.room-gone 𝓤 H A ty·12) (tt, (tt, (tt, (tt, (tt, (tt, (tt, (tt, (tt, (tt, (tt, tt))))))))))) Path'.refl) (Typed.g-pre 𝓤 H A W 𝓣 E G47 G48 b15 Δ0 (Typed.pass T47 T48 s46) at20 (Local.g-drop-sref 𝓤 H A W E G47 22 13 (Array'.Array (Array'.Array (Referent.rtF (Referent.fInt Syntax.w16)) 4096) 2) (Syntax.tyRef Syntax.erased Syntax.imm
+              (Syntax.tyArray ty·1 2)) (λ x. x) (Reads.as-is 𝓤 H A (Rows'.sref (Array'.Array (Array'.Array (Referent.rtF (Referent.fInt Syntax.w16)) 4096) 2) (Syntax.tyRef Syntax.erased Syntax.imm (Syntax.tyArray ty·1 2)) 13))) d20)
 
           d25 : Typed.Typed 𝓤 H A 𝓣 E G43 b18 Δ0 at25
-          d25 = Typed.s-seq 𝓤 H A W 𝓣 E G43 G44 b12 b17 Δ0 (Typed.give s42) at23 (Local.t-sc-share 𝓤 H A W E 𝓣 G43 12 23 14 (Array'.Array (Array'.Array (Referent.rtF (Referent.fInt Syntax.w8)) 2048) 2) (Syntax.tyRef Syntax.erased Syntax.imm (Syntax.tyArray ty·0 2)) (λ x. x) (Whole.mem-arr 𝓤 H A W (Array'.Array (Referent.rtF (Referent.fInt Syntax.w8)) 2048)
+          d25 = Typed.s-seq 𝓤 H A W 𝓣 E G43 G44 b12 b17 Δ0 (Typed.give s42) at23 (Local.t-sc-share 𝓤 H A W E 𝓣 G43 12 23 14 (Array'.Array (Array'.Array (Referent.rtF (Referent.fInt Syntax.w8)) 4096) 2) (Syntax.tyRef Syntax.erased Syntax.imm (Syntax.tyArray ty·0 2)) (λ x. x) (Whole.mem-arr 𝓤 H A W (Array'.Array (Referent.rtF (Referent.fInt Syntax.w8)) 4096)
               2) (Reads.room-gone 𝓤 H A (Syntax.tyRef Syntax.erased Syntax.imm (Syntax.tyArray ty·0 2))) Path'.refl λ b o. tt) (Typed.g-pre 𝓤 H A W 𝓣 E G44 G45 b17 Δ0 (λ Ψ. Ψ) at23 (Lifetime.g-begin 𝓤 H A W E G44 15
-              (tt, (tt, (tt, (tt, (tt, (tt, (tt, (tt, ((tt, tt), (tt, (tt, (tt, (tt, (tt, (tt, (tt, (tt, (tt, (tt, (tt, (tt, (tt, (tt, (tt, (tt, tt)))))))))))))))))))))))))) (Typed.s-seq 𝓤 H A W 𝓣 E G45 G46 b13 b16 Δ0 (Typed.give s44) at22 (Local.t-sc-share 𝓤 H A W E 𝓣 G45 13 24 15 (Array'.Array (Referent.rtF (Referent.fInt Syntax.w8)) 2048) (Syntax.tyRef
-              Syntax.erased Syntax.imm ty·0) (λ x. x) (Whole.mem-arr 𝓤 H A W (Referent.rtF (Referent.fInt Syntax.w8)) 2048) (Reads.room-gone 𝓤 H A (Syntax.tyRef Syntax.erased Syntax.imm ty·0)) Path'.refl λ b o. tt) d22))
+              (tt, (tt, (tt, (tt, (tt, (tt, (tt, (tt, ((tt, tt), (tt, (tt, (tt, (tt, (tt, (tt, (tt, (tt, (tt, (tt, (tt, (tt, (tt, (tt, (tt, (tt, tt)))))))))))))))))))))))))) (Typed.s-seq 𝓤 H A W 𝓣 E G45 G46 b13 b16 Δ0 (Typed.give s44) at22 (Local.t-sc-share 𝓤 H A W E 𝓣 G45 13 24 15 (Array'.Array (Referent.rtF (Referent.fInt Syntax.w8)) 4096) (Syntax.tyRef
+              Syntax.erased Syntax.imm ty·0) (λ x. x) (Whole.mem-arr 𝓤 H A W (Referent.rtF (Referent.fInt Syntax.w8)) 4096) (Reads.room-gone 𝓤 H A (Syntax.tyRef Syntax.erased Syntax.imm ty·0)) Path'.refl λ b o. tt) d22))
 
           d28 : Typed.Typed 𝓤 H A 𝓣 E G40 b19 Δ0 at27
           d28 = Typed.g-pre 𝓤 H A W 𝓣 E G40 G41 b19 Δ0 (λ Ψ. Ψ) at27 (Lifetime.g-begin 𝓤 H A W E G40 13 (tt, (tt, (tt, (tt, (tt, (tt, (tt, (tt, ((tt, tt), (tt, (tt, (tt, (tt, (tt, (tt, (tt, (tt, (tt, (tt, (tt, (tt, (tt, (tt, (tt, (tt, tt)))))))))))))))))))))))))) (Typed.s-seq 𝓤 H A W 𝓣 E G41 G42 b11 b18 Δ0 (Typed.give s40) at25 (Local.t-sc-share 𝓤 H A W E 𝓣
-              G41 11 22 13 (Array'.Array (Array'.Array (Referent.rtF (Referent.fInt Syntax.w16)) 2048) 2) (Syntax.tyRef Syntax.erased Syntax.imm (Syntax.tyArray ty·1 2)) (λ x. x) (Whole.mem-arr 𝓤 H A W (Array'.Array (Referent.rtF (Referent.fInt Syntax.w16)) 2048) 2) (Reads.room-gone 𝓤 H A (Syntax.tyRef Syntax.erased Syntax.imm (Syntax.tyArray ty·1 2)))
+              G41 11 22 13 (Array'.Array (Array'.Array (Referent.rtF (Referent.fInt Syntax.w16)) 4096) 2) (Syntax.tyRef Syntax.erased Syntax.imm (Syntax.tyArray ty·1 2)) (λ x. x) (Whole.mem-arr 𝓤 H A W (Array'.Array (Referent.rtF (Referent.fInt Syntax.w16)) 4096) 2) (Reads.room-gone 𝓤 H A (Syntax.tyRef Syntax.erased Syntax.imm (Syntax.tyArray ty·1 2)))
               Path'.refl λ b o. tt) (Typed.g-pre 𝓤 H A W 𝓣 E G42 G43 b18 Δ0 (λ Ψ. Ψ) at25 (Lifetime.g-begin 𝓤 H A W E G42 14 (tt, (tt, (tt, (tt, (tt, (tt, (tt, (tt, ((tt, tt), (tt, (tt, (tt, (tt, (tt, (tt, (tt, (tt, (tt, (tt, (tt, (tt, (tt, (tt, (tt, (tt, tt)))))))))))))))))))))))))) d25))
 
           d30 : Typed.Typed 𝓤 H A 𝓣 E G38 b21 Δ0 at30
@@ -1212,66 +1212,66 @@ module _ (claims· : Claims) where
               (Relend.reads-owed-len 𝓤 H A W (Referent.rtF (Referent.fInt Syntax.w8)) ty·5 7 12 (Row.lease (κs .1 .1 .1 .1 .1 .1 .1 .0) (qs .1 .1 .1 .1 .1 .1 .1 .0)) 8 Path'.refl, Path'.refl) Path'.refl Path'.refl λ b o k. tt) d28)
 
           d33 : Typed.Typed 𝓤 H A 𝓣 E G35 b21 Δ0 at33
-          d33 = Typed.g-pre 𝓤 H A W 𝓣 E G35 G36 b21 Δ0 (Typed.ask s34) at30 (Local.g-back-sc 𝓤 H A W E G35 19 13 11 (Array'.Array (Referent.rtF (Referent.fInt Syntax.w8)) 2048) (Syntax.tyRef Syntax.erased Syntax.mut ty·0) (Rows.arrF (Referent.rtF (Referent.fInt Syntax.w8)) 2048 0) (λ x. x) (λ x. x) (λ x. x) (Reads.as-is 𝓤 H A (Rows'.mleft (Array'.Array
-              (Referent.rtF (Referent.fInt Syntax.w8)) 2048) (Syntax.tyRef Syntax.erased Syntax.mut ty·0))) (Reads.as-is 𝓤 H A (Rows'.sc-owed (Array'.Array (Referent.rtF (Referent.fInt Syntax.w8)) 2048) 11)) (Whole.arr-mem 𝓤 H A W (Referent.rtF (Referent.fInt Syntax.w8)) 2048 tt) Path'.refl) (Typed.g-pre 𝓤 H A W 𝓣 E G36 G37 b21 Δ0 (λ Ψ. Ψ) at30
+          d33 = Typed.g-pre 𝓤 H A W 𝓣 E G35 G36 b21 Δ0 (Typed.ask s34) at30 (Local.g-back-sc 𝓤 H A W E G35 19 13 11 (Array'.Array (Referent.rtF (Referent.fInt Syntax.w8)) 4096) (Syntax.tyRef Syntax.erased Syntax.mut ty·0) (Rows.arrF (Referent.rtF (Referent.fInt Syntax.w8)) 4096 0) (λ x. x) (λ x. x) (λ x. x) (Reads.as-is 𝓤 H A (Rows'.mleft (Array'.Array
+              (Referent.rtF (Referent.fInt Syntax.w8)) 4096) (Syntax.tyRef Syntax.erased Syntax.mut ty·0))) (Reads.as-is 𝓤 H A (Rows'.sc-owed (Array'.Array (Referent.rtF (Referent.fInt Syntax.w8)) 4096) 11)) (Whole.arr-mem 𝓤 H A W (Referent.rtF (Referent.fInt Syntax.w8)) 4096 tt) Path'.refl) (Typed.g-pre 𝓤 H A W 𝓣 E G36 G37 b21 Δ0 (λ Ψ. Ψ) at30
               (Lifetime.g-forget 𝓤 H A W E G36 11 Row.dead Path'.refl) (Typed.g-pre 𝓤 H A W 𝓣 E G37 G38 b21 Δ0 (λ Ψ. Ψ) at30 (Lifetime.g-begin 𝓤 H A W E G37 12 (tt, (tt, (tt, (tt, (tt, (tt, (tt, (tt, (tt, (tt, (tt, (tt, (tt, (tt, (tt, (tt, (tt, (tt, (tt, (tt, (tt, (tt, (tt, (tt, (tt, tt)))))))))))))))))))))))))) d30))
 
           d36 : Typed.Typed 𝓤 H A 𝓣 E G32 b21 Δ0 at36
-          d36 = Typed.g-pre 𝓤 H A W 𝓣 E G32 G33 b21 Δ0 (Typed.ask s31) at33 (Local.g-back-sc 𝓤 H A W E G32 18 12 10 (Array'.Array (Array'.Array (Referent.rtF (Referent.fInt Syntax.w8)) 2048) 2) (Syntax.tyRef Syntax.erased Syntax.mut (Syntax.tyArray ty·0 2)) (Rows.arrF (Array'.Array (Referent.rtF (Referent.fInt Syntax.w8)) 2048) 2 0) (λ x. x) (λ x. x) (λ x.
-              x) (Reads.as-is 𝓤 H A (Rows'.mleft (Array'.Array (Array'.Array (Referent.rtF (Referent.fInt Syntax.w8)) 2048) 2) (Syntax.tyRef Syntax.erased Syntax.mut (Syntax.tyArray ty·0 2)))) (Reads.as-is 𝓤 H A (Rows'.sc-owed (Array'.Array (Array'.Array (Referent.rtF (Referent.fInt Syntax.w8)) 2048) 2) 10)) (Whole.arr-mem 𝓤 H A W (Array'.Array (Referent.rtF
-              (Referent.fInt Syntax.w8)) 2048) 2 tt) Path'.refl) (Typed.g-pre 𝓤 H A W 𝓣 E G33 G34 b21 Δ0 (λ Ψ. Ψ) at33 (Lifetime.g-forget 𝓤 H A W E G33 10 Row.dead Path'.refl) (Typed.g-pre 𝓤 H A W 𝓣 E G34 G35 b21 Δ0 (λ Ψ. Ψ) at33 (Lifetime.g-end 𝓤 H A W E G34 11 Path'.refl) d33))
+          d36 = Typed.g-pre 𝓤 H A W 𝓣 E G32 G33 b21 Δ0 (Typed.ask s31) at33 (Local.g-back-sc 𝓤 H A W E G32 18 12 10 (Array'.Array (Array'.Array (Referent.rtF (Referent.fInt Syntax.w8)) 4096) 2) (Syntax.tyRef Syntax.erased Syntax.mut (Syntax.tyArray ty·0 2)) (Rows.arrF (Array'.Array (Referent.rtF (Referent.fInt Syntax.w8)) 4096) 2 0) (λ x. x) (λ x. x) (λ x.
+              x) (Reads.as-is 𝓤 H A (Rows'.mleft (Array'.Array (Array'.Array (Referent.rtF (Referent.fInt Syntax.w8)) 4096) 2) (Syntax.tyRef Syntax.erased Syntax.mut (Syntax.tyArray ty·0 2)))) (Reads.as-is 𝓤 H A (Rows'.sc-owed (Array'.Array (Array'.Array (Referent.rtF (Referent.fInt Syntax.w8)) 4096) 2) 10)) (Whole.arr-mem 𝓤 H A W (Array'.Array (Referent.rtF
+              (Referent.fInt Syntax.w8)) 4096) 2 tt) Path'.refl) (Typed.g-pre 𝓤 H A W 𝓣 E G33 G34 b21 Δ0 (λ Ψ. Ψ) at33 (Lifetime.g-forget 𝓤 H A W E G33 10 Row.dead Path'.refl) (Typed.g-pre 𝓤 H A W 𝓣 E G34 G35 b21 Δ0 (λ Ψ. Ψ) at33 (Lifetime.g-end 𝓤 H A W E G34 11 Path'.refl) d33))
 
           d39 : Typed.Typed 𝓤 H A 𝓣 E G29 b21 Δ0 at39
-          d39 = Typed.g-pre 𝓤 H A W 𝓣 E G29 G30 b21 Δ0 (Typed.ask s28) at36 (Local.g-back-sc 𝓤 H A W E G29 17 11 9 (Array'.Array (Array'.Array (Referent.rtF (Referent.fInt Syntax.w16)) 2048) 2) (Syntax.tyRef Syntax.erased Syntax.mut (Syntax.tyArray ty·1 2)) (Rows.arrF (Array'.Array (Referent.rtF (Referent.fInt Syntax.w16)) 2048) 2 0) (λ x. x) (λ x. x) (λ x.
-              x) (Reads.as-is 𝓤 H A (Rows'.mleft (Array'.Array (Array'.Array (Referent.rtF (Referent.fInt Syntax.w16)) 2048) 2) (Syntax.tyRef Syntax.erased Syntax.mut (Syntax.tyArray ty·1 2)))) (Reads.as-is 𝓤 H A (Rows'.sc-owed (Array'.Array (Array'.Array (Referent.rtF (Referent.fInt Syntax.w16)) 2048) 2) 9)) (Whole.arr-mem 𝓤 H A W (Array'.Array (Referent.rtF
-              (Referent.fInt Syntax.w16)) 2048) 2 tt) Path'.refl) (Typed.g-pre 𝓤 H A W 𝓣 E G30 G31 b21 Δ0 (λ Ψ. Ψ) at36 (Lifetime.g-forget 𝓤 H A W E G30 9 Row.dead Path'.refl) (Typed.g-pre 𝓤 H A W 𝓣 E G31 G32 b21 Δ0 (λ Ψ. Ψ) at36 (Lifetime.g-end 𝓤 H A W E G31 10 Path'.refl) d36))
+          d39 = Typed.g-pre 𝓤 H A W 𝓣 E G29 G30 b21 Δ0 (Typed.ask s28) at36 (Local.g-back-sc 𝓤 H A W E G29 17 11 9 (Array'.Array (Array'.Array (Referent.rtF (Referent.fInt Syntax.w16)) 4096) 2) (Syntax.tyRef Syntax.erased Syntax.mut (Syntax.tyArray ty·1 2)) (Rows.arrF (Array'.Array (Referent.rtF (Referent.fInt Syntax.w16)) 4096) 2 0) (λ x. x) (λ x. x) (λ x.
+              x) (Reads.as-is 𝓤 H A (Rows'.mleft (Array'.Array (Array'.Array (Referent.rtF (Referent.fInt Syntax.w16)) 4096) 2) (Syntax.tyRef Syntax.erased Syntax.mut (Syntax.tyArray ty·1 2)))) (Reads.as-is 𝓤 H A (Rows'.sc-owed (Array'.Array (Array'.Array (Referent.rtF (Referent.fInt Syntax.w16)) 4096) 2) 9)) (Whole.arr-mem 𝓤 H A W (Array'.Array (Referent.rtF
+              (Referent.fInt Syntax.w16)) 4096) 2 tt) Path'.refl) (Typed.g-pre 𝓤 H A W 𝓣 E G30 G31 b21 Δ0 (λ Ψ. Ψ) at36 (Lifetime.g-forget 𝓤 H A W E G30 9 Row.dead Path'.refl) (Typed.g-pre 𝓤 H A W 𝓣 E G31 G32 b21 Δ0 (λ Ψ. Ψ) at36 (Lifetime.g-end 𝓤 H A W E G31 10 Path'.refl) d36))
 
           d41 : Typed.Typed 𝓤 H A 𝓣 E G27 b22 Δ0 at41
           d41 = Typed.s-seq 𝓤 H A W 𝓣 E G27 G28 b8 b21 Δ0 (Typed.both s26) at39 (Plain.t-call-plain 𝓤 H A W 𝓣 5 ps·0 r·0 (claims· .0) (claims· .1) "records::lent::spread" (known .0) E (λ pos β. β) G27 args·0 14 (List._∷_ 1 (List._∷_ 8 (List._∷_ 9 (List._∷_ 10 (List._∷_ 11 List.[]))))) (Call.sub-id 𝓤 H A W (G27 .slots))
-              (ShrSlice.spares-sslice 𝓤 H A W (Referent.rtF (Referent.fInt Syntax.w16)) ty·7 1, Shared.reads-sslice 𝓤 H A W (Referent.rtF (Referent.fInt Syntax.w16)) ty·7 1, Path'.refl, (ShrSlice.spares-sslice 𝓤 H A W Rec.rt ty·2 8, Shared.reads-sslice 𝓤 H A W Rec.rt ty·2 8, Path'.refl, (Reads.as-is 𝓤 H A (Rows'.mref (Array'.Array (Array'.Array (Referent.rtF (Referent.fInt Syntax.w16)) 2048) 2) (Syntax.tyRef Syntax.erased Syntax.mut (Syntax.tyArray ty·1 2)) 9), Reads.reads-mref 𝓤 H A W (Array'.Array (Array'.Array (Referent.rtF (Referent.fInt Syntax.w16)) 2048) 2) (Syntax.tyRef Syntax.erased Syntax.mut (Syntax.tyArray ty·1 2)) 9, Path'.refl, (Reads.as-is 𝓤 H A (Rows'.mref (Array'.Array (Array'.Array (Referent.rtF (Referent.fInt Syntax.w8)) 2048) 2) (Syntax.tyRef Syntax.erased Syntax.mut (Syntax.tyArray ty·0 2)) 10), Reads.reads-mref 𝓤 H A W (Array'.Array (Array'.Array (Referent.rtF (Referent.fInt Syntax.w8)) 2048) 2) (Syntax.tyRef Syntax.erased Syntax.mut (Syntax.tyArray ty·0 2)) 10, Path'.refl, (Reads.as-is 𝓤 H A (Rows'.mref (Array'.Array (Referent.rtF (Referent.fInt Syntax.w8)) 2048) (Syntax.tyRef Syntax.erased Syntax.mut ty·0) 11), Reads.reads-mref 𝓤 H A W (Array'.Array (Referent.rtF (Referent.fInt Syntax.w8)) 2048) (Syntax.tyRef Syntax.erased Syntax.mut ty·0) 11, Path'.refl, tt)))))
+              (ShrSlice.spares-sslice 𝓤 H A W (Referent.rtF (Referent.fInt Syntax.w16)) ty·7 1, Shared.reads-sslice 𝓤 H A W (Referent.rtF (Referent.fInt Syntax.w16)) ty·7 1, Path'.refl, (ShrSlice.spares-sslice 𝓤 H A W Rec.rt ty·2 8, Shared.reads-sslice 𝓤 H A W Rec.rt ty·2 8, Path'.refl, (Reads.as-is 𝓤 H A (Rows'.mref (Array'.Array (Array'.Array (Referent.rtF (Referent.fInt Syntax.w16)) 4096) 2) (Syntax.tyRef Syntax.erased Syntax.mut (Syntax.tyArray ty·1 2)) 9), Reads.reads-mref 𝓤 H A W (Array'.Array (Array'.Array (Referent.rtF (Referent.fInt Syntax.w16)) 4096) 2) (Syntax.tyRef Syntax.erased Syntax.mut (Syntax.tyArray ty·1 2)) 9, Path'.refl, (Reads.as-is 𝓤 H A (Rows'.mref (Array'.Array (Array'.Array (Referent.rtF (Referent.fInt Syntax.w8)) 4096) 2) (Syntax.tyRef Syntax.erased Syntax.mut (Syntax.tyArray ty·0 2)) 10), Reads.reads-mref 𝓤 H A W (Array'.Array (Array'.Array (Referent.rtF (Referent.fInt Syntax.w8)) 4096) 2) (Syntax.tyRef Syntax.erased Syntax.mut (Syntax.tyArray ty·0 2)) 10, Path'.refl, (Reads.as-is 𝓤 H A (Rows'.mref (Array'.Array (Referent.rtF (Referent.fInt Syntax.w8)) 4096) (Syntax.tyRef Syntax.erased Syntax.mut ty·0) 11), Reads.reads-mref 𝓤 H A W (Array'.Array (Referent.rtF (Referent.fInt Syntax.w8)) 4096) (Syntax.tyRef Syntax.erased Syntax.mut ty·0) 11, Path'.refl, tt)))))
               (Reads.room-gone 𝓤 H A (Syntax.tyInt Syntax.w64)) (tt, (tt, (tt, (tt, (tt, tt))))) Path'.refl) (Typed.g-pre 𝓤 H A W 𝓣 E G28 G29 b21 Δ0 (λ Ψ. Ψ) at39 (Lifetime.g-end 𝓤 H A W E G28 9 Path'.refl) d39)
 
           d44 : Typed.Typed 𝓤 H A 𝓣 E G24 b24 Δ0 at44
-          d44 = Typed.s-seq 𝓤 H A W 𝓣 E G24 G25 b6 b23 Δ0 (Typed.give s23) at42 (Local.t-sc-borrow 𝓤 H A W E 𝓣 G24 12 18 10 (Array'.Array (Array'.Array (Referent.rtF (Referent.fInt Syntax.w8)) 2048) 2) (Syntax.tyRef Syntax.erased Syntax.mut (Syntax.tyArray ty·0 2)) (λ x. x) (Whole.mem-arr 𝓤 H A W (Array'.Array (Referent.rtF (Referent.fInt Syntax.w8)) 2048)
+          d44 = Typed.s-seq 𝓤 H A W 𝓣 E G24 G25 b6 b23 Δ0 (Typed.give s23) at42 (Local.t-sc-borrow 𝓤 H A W E 𝓣 G24 12 18 10 (Array'.Array (Array'.Array (Referent.rtF (Referent.fInt Syntax.w8)) 4096) 2) (Syntax.tyRef Syntax.erased Syntax.mut (Syntax.tyArray ty·0 2)) (λ x. x) (Whole.mem-arr 𝓤 H A W (Array'.Array (Referent.rtF (Referent.fInt Syntax.w8)) 4096)
               2) (Reads.room-gone 𝓤 H A (Syntax.tyRef Syntax.erased Syntax.mut (Syntax.tyArray ty·0 2))) Path'.refl λ b o. tt) (Typed.g-pre 𝓤 H A W 𝓣 E G25 G26 b23 Δ0 (λ Ψ. Ψ) at42 (Lifetime.g-begin 𝓤 H A W E G25 11
-              (tt, (tt, (tt, (tt, (tt, (tt, (tt, (tt, (tt, (tt, (tt, (tt, (tt, (tt, (tt, (tt, (tt, (tt, (tt, (tt, (tt, (tt, (tt, (tt, (tt, tt)))))))))))))))))))))))))) (Typed.s-seq 𝓤 H A W 𝓣 E G26 G27 b7 b22 Δ0 (Typed.give s25) at41 (Local.t-sc-borrow 𝓤 H A W E 𝓣 G26 13 19 11 (Array'.Array (Referent.rtF (Referent.fInt Syntax.w8)) 2048) (Syntax.tyRef
-              Syntax.erased Syntax.mut ty·0) (λ x. x) (Whole.mem-arr 𝓤 H A W (Referent.rtF (Referent.fInt Syntax.w8)) 2048) (Reads.room-gone 𝓤 H A (Syntax.tyRef Syntax.erased Syntax.mut ty·0)) Path'.refl λ b o. tt) d41))
+              (tt, (tt, (tt, (tt, (tt, (tt, (tt, (tt, (tt, (tt, (tt, (tt, (tt, (tt, (tt, (tt, (tt, (tt, (tt, (tt, (tt, (tt, (tt, (tt, (tt, tt)))))))))))))))))))))))))) (Typed.s-seq 𝓤 H A W 𝓣 E G26 G27 b7 b22 Δ0 (Typed.give s25) at41 (Local.t-sc-borrow 𝓤 H A W E 𝓣 G26 13 19 11 (Array'.Array (Referent.rtF (Referent.fInt Syntax.w8)) 4096) (Syntax.tyRef
+              Syntax.erased Syntax.mut ty·0) (λ x. x) (Whole.mem-arr 𝓤 H A W (Referent.rtF (Referent.fInt Syntax.w8)) 4096) (Reads.room-gone 𝓤 H A (Syntax.tyRef Syntax.erased Syntax.mut ty·0)) Path'.refl λ b o. tt) d41))
 
           d47 : Typed.Typed 𝓤 H A 𝓣 E G21 b25 Δ0 at46
           d47 = Typed.g-pre 𝓤 H A W 𝓣 E G21 G22 b25 Δ0 (λ Ψ. Ψ) at46 (Lifetime.g-begin 𝓤 H A W E G21 9 (tt, (tt, (tt, (tt, (tt, (tt, (tt, (tt, (tt, (tt, (tt, (tt, (tt, (tt, (tt, (tt, (tt, (tt, (tt, (tt, (tt, (tt, (tt, (tt, (tt, tt)))))))))))))))))))))))))) (Typed.s-seq 𝓤 H A W 𝓣 E G22 G23 b5 b24 Δ0 (Typed.give s21) at44 (Local.t-sc-borrow 𝓤 H A W E 𝓣 G22 11
-              17 9 (Array'.Array (Array'.Array (Referent.rtF (Referent.fInt Syntax.w16)) 2048) 2) (Syntax.tyRef Syntax.erased Syntax.mut (Syntax.tyArray ty·1 2)) (λ x. x) (Whole.mem-arr 𝓤 H A W (Array'.Array (Referent.rtF (Referent.fInt Syntax.w16)) 2048) 2) (Reads.room-gone 𝓤 H A (Syntax.tyRef Syntax.erased Syntax.mut (Syntax.tyArray ty·1 2))) Path'.refl λ b o.
+              17 9 (Array'.Array (Array'.Array (Referent.rtF (Referent.fInt Syntax.w16)) 4096) 2) (Syntax.tyRef Syntax.erased Syntax.mut (Syntax.tyArray ty·1 2)) (λ x. x) (Whole.mem-arr 𝓤 H A W (Array'.Array (Referent.rtF (Referent.fInt Syntax.w16)) 4096) 2) (Reads.room-gone 𝓤 H A (Syntax.tyRef Syntax.erased Syntax.mut (Syntax.tyArray ty·1 2))) Path'.refl λ b o.
               tt) (Typed.g-pre 𝓤 H A W 𝓣 E G23 G24 b24 Δ0 (λ Ψ. Ψ) at44 (Lifetime.g-begin 𝓤 H A W E G23 10 (tt, (tt, (tt, (tt, (tt, (tt, (tt, (tt, (tt, (tt, (tt, (tt, (tt, (tt, (tt, (tt, (tt, (tt, (tt, (tt, (tt, (tt, (tt, (tt, (tt, tt)))))))))))))))))))))))))) d44))
 
           d50 : Typed.Typed 𝓤 H A 𝓣 E G18 b26 Δ0 at50
-          d50 = Typed.g-pre 𝓤 H A W 𝓣 E G18 G19 b26 Δ0 (Typed.pass T18 T19 s17) at49 (Scalar.g-room 𝓤 H A W E G18 16 ty·0 (Init.room-arr 𝓤 H A W (Referent.rtF (Referent.fInt Syntax.w8)) 2048 0 2048 Path'.refl)) (Typed.s-seq 𝓤 H A W 𝓣 E G19 G20 b4 b25 Δ0 (Typed.pass T19 T20 s18) at48 (Repeat.t-repeat 𝓤 H A W E 𝓣 (Referent.rtF (Referent.fInt Syntax.w8))
-              (Plain'.uint-lawful 𝓤 H A W Syntax.w8) (Copies.cRf (Referent.fInt Syntax.w8) .copy 𝓤 H A W) (Plain'.uint-makes 𝓤 H A W Syntax.w8) 2048 G19 13 (Scalar.oInt Syntax.w8 0) (λ m. 0) (Reads.room-gone 𝓤 H A ty·0) tt Path'.refl λ m wa. (Path'.refl, Dec'.lit< tt)) (Typed.g-pre 𝓤 H A W 𝓣 E G20 G21 b25 Δ0 (Typed.pass T20 T21 s19) at46 (AtSlots.g-as-by 𝓤 H A W
-              E (λ ρ. Unit) G20 13 (Rows.arrF (Referent.rtF (Referent.fInt Syntax.w8)) 2048 0) (λ x. x) (Own.told-none 𝓤 H A (G20 .slots)) λ ρ told. Repeat.whole-arr 𝓤 H A W (Referent.rtF (Referent.fInt Syntax.w8)) 2048 tt ρ) d47))
+          d50 = Typed.g-pre 𝓤 H A W 𝓣 E G18 G19 b26 Δ0 (Typed.pass T18 T19 s17) at49 (Scalar.g-room 𝓤 H A W E G18 16 ty·0 (Init.room-arr 𝓤 H A W (Referent.rtF (Referent.fInt Syntax.w8)) 4096 0 4096 Path'.refl)) (Typed.s-seq 𝓤 H A W 𝓣 E G19 G20 b4 b25 Δ0 (Typed.pass T19 T20 s18) at48 (Repeat.t-repeat 𝓤 H A W E 𝓣 (Referent.rtF (Referent.fInt Syntax.w8))
+              (Plain'.uint-lawful 𝓤 H A W Syntax.w8) (Copies.cRf (Referent.fInt Syntax.w8) .copy 𝓤 H A W) (Plain'.uint-makes 𝓤 H A W Syntax.w8) 4096 G19 13 (Scalar.oInt Syntax.w8 0) (λ m. 0) (Reads.room-gone 𝓤 H A ty·0) tt Path'.refl λ m wa. (Path'.refl, Dec'.lit< tt)) (Typed.g-pre 𝓤 H A W 𝓣 E G20 G21 b25 Δ0 (Typed.pass T20 T21 s19) at46 (AtSlots.g-as-by 𝓤 H A W
+              E (λ ρ. Unit) G20 13 (Rows.arrF (Referent.rtF (Referent.fInt Syntax.w8)) 4096 0) (λ x. x) (Own.told-none 𝓤 H A (G20 .slots)) λ ρ told. Repeat.whole-arr 𝓤 H A W (Referent.rtF (Referent.fInt Syntax.w8)) 4096 tt ρ) d47))
 
           d52 : Typed.Typed 𝓤 H A 𝓣 E G16 b27 Δ0 at52
-          d52 = Typed.s-seq 𝓤 H A W 𝓣 E G16 G17 b3 b26 Δ0 (Typed.pass T16 T17 s15) at51 (Repeat.t-repeat-by 𝓤 H A W E 𝓣 (Array'.Array (Referent.rtF (Referent.fInt Syntax.w8)) 2048) (Array'.array-lawful 𝓤 H A W (Referent.rtF (Referent.fInt Syntax.w8)) (Plain'.uint-lawful 𝓤 H A W Syntax.w8) 2048) (Copies.cArr (Referent.rtF (Referent.fInt Syntax.w8))
-              (Copies.cRf (Referent.fInt Syntax.w8)) 2048 .copy 𝓤 H A W) 2 G16 12 (Scalar.oAt 16 ty·0 λ x. Steps.only (Copies.cArr (Referent.rtF (Referent.fInt Syntax.w8)) (Copies.cRf (Referent.fInt Syntax.w8)) 2048 .vals x)) (λ m. m .1 .1 .1 .1 .1 .1 .1 .1 .1 .1 .1 .1 .1 .1 .1 .1 .0) (λ ρ. Unit) (Reads.room-gone 𝓤 H A (Syntax.tyArray ty·0 2))
-              (Array.arr-reads 𝓤 H A W (Array.eInt Syntax.w8) (Array.eInt-laws Syntax.w8) 2048, Path'.refl) Path'.refl (Own.told-none 𝓤 H A (G16 .slots)) λ ρ m pf wa. Gives.elem-local 𝓤 H A W E ρ (Array'.Array (Referent.rtF (Referent.fInt Syntax.w8)) 2048) (λ x. Steps.only (Copies.cArr (Referent.rtF (Referent.fInt Syntax.w8)) (Copies.cRf (Referent.fInt
-              Syntax.w8)) 2048 .vals x)) (Copies.cArr (Referent.rtF (Referent.fInt Syntax.w8)) (Copies.cRf (Referent.fInt Syntax.w8)) 2048 .tells) (Row.out 12 (G16 .locals)) m (λ ρ. Unit) pf 16 ty·0 (λ x. x) (Yields.yields-copy 𝓤 H A W (λ ρ. Unit) (Array'.Array (Referent.rtF (Referent.fInt Syntax.w8)) 2048) Path'.refl (Copies.cArr (Referent.rtF (Referent.fInt
-              Syntax.w8)) (Copies.cRf (Referent.fInt Syntax.w8)) 2048 .copy 𝓤 H A W) (Rows.arrF (Referent.rtF (Referent.fInt Syntax.w8)) 2048 0) (λ x. x) (λ x. x) (λ ρ told. Whole.mem-arr 𝓤 H A W (Referent.rtF (Referent.fInt Syntax.w8)) 2048 ρ) λ ρ told. Whole.arr-mem 𝓤 H A W (Referent.rtF (Referent.fInt Syntax.w8)) 2048 tt ρ)) (Typed.g-pre 𝓤 H A W 𝓣 E G17 G18
-              b26 Δ0 (Typed.pass T17 T18 s16) at50 (AtSlots.g-as-by 𝓤 H A W E (λ ρ. Unit) G17 12 (Rows.arrF (Array'.Array (Referent.rtF (Referent.fInt Syntax.w8)) 2048) 2 0) (λ x. x) (Own.told-none 𝓤 H A (G17 .slots)) λ ρ told. Repeat.whole-arr 𝓤 H A W (Array'.Array (Referent.rtF (Referent.fInt Syntax.w8)) 2048) 2 tt ρ) d50)
+          d52 = Typed.s-seq 𝓤 H A W 𝓣 E G16 G17 b3 b26 Δ0 (Typed.pass T16 T17 s15) at51 (Repeat.t-repeat-by 𝓤 H A W E 𝓣 (Array'.Array (Referent.rtF (Referent.fInt Syntax.w8)) 4096) (Array'.array-lawful 𝓤 H A W (Referent.rtF (Referent.fInt Syntax.w8)) (Plain'.uint-lawful 𝓤 H A W Syntax.w8) 4096) (Copies.cArr (Referent.rtF (Referent.fInt Syntax.w8))
+              (Copies.cRf (Referent.fInt Syntax.w8)) 4096 .copy 𝓤 H A W) 2 G16 12 (Scalar.oAt 16 ty·0 λ x. Steps.only (Copies.cArr (Referent.rtF (Referent.fInt Syntax.w8)) (Copies.cRf (Referent.fInt Syntax.w8)) 4096 .vals x)) (λ m. m .1 .1 .1 .1 .1 .1 .1 .1 .1 .1 .1 .1 .1 .1 .1 .1 .0) (λ ρ. Unit) (Reads.room-gone 𝓤 H A (Syntax.tyArray ty·0 2))
+              (Array.arr-reads 𝓤 H A W (Array.eInt Syntax.w8) (Array.eInt-laws Syntax.w8) 4096, Path'.refl) Path'.refl (Own.told-none 𝓤 H A (G16 .slots)) λ ρ m pf wa. Gives.elem-local 𝓤 H A W E ρ (Array'.Array (Referent.rtF (Referent.fInt Syntax.w8)) 4096) (λ x. Steps.only (Copies.cArr (Referent.rtF (Referent.fInt Syntax.w8)) (Copies.cRf (Referent.fInt
+              Syntax.w8)) 4096 .vals x)) (Copies.cArr (Referent.rtF (Referent.fInt Syntax.w8)) (Copies.cRf (Referent.fInt Syntax.w8)) 4096 .tells) (Row.out 12 (G16 .locals)) m (λ ρ. Unit) pf 16 ty·0 (λ x. x) (Yields.yields-copy 𝓤 H A W (λ ρ. Unit) (Array'.Array (Referent.rtF (Referent.fInt Syntax.w8)) 4096) Path'.refl (Copies.cArr (Referent.rtF (Referent.fInt
+              Syntax.w8)) (Copies.cRf (Referent.fInt Syntax.w8)) 4096 .copy 𝓤 H A W) (Rows.arrF (Referent.rtF (Referent.fInt Syntax.w8)) 4096 0) (λ x. x) (λ x. x) (λ ρ told. Whole.mem-arr 𝓤 H A W (Referent.rtF (Referent.fInt Syntax.w8)) 4096 ρ) λ ρ told. Whole.arr-mem 𝓤 H A W (Referent.rtF (Referent.fInt Syntax.w8)) 4096 tt ρ)) (Typed.g-pre 𝓤 H A W 𝓣 E G17 G18
+              b26 Δ0 (Typed.pass T17 T18 s16) at50 (AtSlots.g-as-by 𝓤 H A W E (λ ρ. Unit) G17 12 (Rows.arrF (Array'.Array (Referent.rtF (Referent.fInt Syntax.w8)) 4096) 2 0) (λ x. x) (Own.told-none 𝓤 H A (G17 .slots)) λ ρ told. Repeat.whole-arr 𝓤 H A W (Array'.Array (Referent.rtF (Referent.fInt Syntax.w8)) 4096) 2 tt ρ) d50)
 
           d55 : Typed.Typed 𝓤 H A 𝓣 E G13 b28 Δ0 at55
-          d55 = Typed.g-pre 𝓤 H A W 𝓣 E G13 G14 b28 Δ0 (Typed.pass T13 T14 s12) at54 (Scalar.g-room 𝓤 H A W E G13 15 ty·1 (Init.room-arr 𝓤 H A W (Referent.rtF (Referent.fInt Syntax.w16)) 2048 0 2048 Path'.refl)) (Typed.s-seq 𝓤 H A W 𝓣 E G14 G15 b2 b27 Δ0 (Typed.pass T14 T15 s13) at53 (Repeat.t-repeat 𝓤 H A W E 𝓣 (Referent.rtF (Referent.fInt Syntax.w8))
-              (Plain'.uint-lawful 𝓤 H A W Syntax.w8) (Copies.cRf (Referent.fInt Syntax.w8) .copy 𝓤 H A W) (Plain'.uint-makes 𝓤 H A W Syntax.w8) 2048 G14 16 (Scalar.oInt Syntax.w8 0) (λ m. 0) (Reads.room-gone 𝓤 H A ty·0) tt Path'.refl λ m wa. (Path'.refl, Dec'.lit< tt)) (Typed.g-pre 𝓤 H A W 𝓣 E G15 G16 b27 Δ0 (Typed.pass T15 T16 s14) at52 (AtSlots.g-as-by 𝓤 H A W
-              E (λ ρ. Unit) G15 16 (Rows.arrF (Referent.rtF (Referent.fInt Syntax.w8)) 2048 0) (λ x. x) (Own.told-none 𝓤 H A (G15 .slots)) λ ρ told. Repeat.whole-arr 𝓤 H A W (Referent.rtF (Referent.fInt Syntax.w8)) 2048 tt ρ) d52))
+          d55 = Typed.g-pre 𝓤 H A W 𝓣 E G13 G14 b28 Δ0 (Typed.pass T13 T14 s12) at54 (Scalar.g-room 𝓤 H A W E G13 15 ty·1 (Init.room-arr 𝓤 H A W (Referent.rtF (Referent.fInt Syntax.w16)) 4096 0 4096 Path'.refl)) (Typed.s-seq 𝓤 H A W 𝓣 E G14 G15 b2 b27 Δ0 (Typed.pass T14 T15 s13) at53 (Repeat.t-repeat 𝓤 H A W E 𝓣 (Referent.rtF (Referent.fInt Syntax.w8))
+              (Plain'.uint-lawful 𝓤 H A W Syntax.w8) (Copies.cRf (Referent.fInt Syntax.w8) .copy 𝓤 H A W) (Plain'.uint-makes 𝓤 H A W Syntax.w8) 4096 G14 16 (Scalar.oInt Syntax.w8 0) (λ m. 0) (Reads.room-gone 𝓤 H A ty·0) tt Path'.refl λ m wa. (Path'.refl, Dec'.lit< tt)) (Typed.g-pre 𝓤 H A W 𝓣 E G15 G16 b27 Δ0 (Typed.pass T15 T16 s14) at52 (AtSlots.g-as-by 𝓤 H A W
+              E (λ ρ. Unit) G15 16 (Rows.arrF (Referent.rtF (Referent.fInt Syntax.w8)) 4096 0) (λ x. x) (Own.told-none 𝓤 H A (G15 .slots)) λ ρ told. Repeat.whole-arr 𝓤 H A W (Referent.rtF (Referent.fInt Syntax.w8)) 4096 tt ρ) d52))
 
           d57 : Typed.Typed 𝓤 H A 𝓣 E G11 b29 Δ0 at57
-          d57 = Typed.s-seq 𝓤 H A W 𝓣 E G11 G12 b1 b28 Δ0 (Typed.pass T11 T12 s10) at56 (Repeat.t-repeat-by 𝓤 H A W E 𝓣 (Array'.Array (Referent.rtF (Referent.fInt Syntax.w16)) 2048) (Array'.array-lawful 𝓤 H A W (Referent.rtF (Referent.fInt Syntax.w16)) (Plain'.uint-lawful 𝓤 H A W Syntax.w16) 2048) (Copies.cArr (Referent.rtF (Referent.fInt Syntax.w16))
-              (Copies.cRf (Referent.fInt Syntax.w16)) 2048 .copy 𝓤 H A W) 2 G11 11 (Scalar.oAt 15 ty·1 λ x. Steps.only (Copies.cArr (Referent.rtF (Referent.fInt Syntax.w16)) (Copies.cRf (Referent.fInt Syntax.w16)) 2048 .vals x)) (λ m. m .1 .1 .1 .1 .1 .1 .1 .1 .1 .1 .1 .1 .1 .1 .1 .0) (λ ρ. Unit) (Reads.room-gone 𝓤 H A (Syntax.tyArray ty·1 2))
-              (Array.arr-reads 𝓤 H A W (Array.eInt Syntax.w16) (Array.eInt-laws Syntax.w16) 2048, Path'.refl) Path'.refl (Own.told-none 𝓤 H A (G11 .slots)) λ ρ m pf wa. Gives.elem-local 𝓤 H A W E ρ (Array'.Array (Referent.rtF (Referent.fInt Syntax.w16)) 2048) (λ x. Steps.only (Copies.cArr (Referent.rtF (Referent.fInt Syntax.w16)) (Copies.cRf (Referent.fInt
-              Syntax.w16)) 2048 .vals x)) (Copies.cArr (Referent.rtF (Referent.fInt Syntax.w16)) (Copies.cRf (Referent.fInt Syntax.w16)) 2048 .tells) (Row.out 11 (G11 .locals)) m (λ ρ. Unit) pf 15 ty·1 (λ x. x) (Yields.yields-copy 𝓤 H A W (λ ρ. Unit) (Array'.Array (Referent.rtF (Referent.fInt Syntax.w16)) 2048) Path'.refl (Copies.cArr (Referent.rtF
-              (Referent.fInt Syntax.w16)) (Copies.cRf (Referent.fInt Syntax.w16)) 2048 .copy 𝓤 H A W) (Rows.arrF (Referent.rtF (Referent.fInt Syntax.w16)) 2048 0) (λ x. x) (λ x. x) (λ ρ told. Whole.mem-arr 𝓤 H A W (Referent.rtF (Referent.fInt Syntax.w16)) 2048 ρ) λ ρ told. Whole.arr-mem 𝓤 H A W (Referent.rtF (Referent.fInt Syntax.w16)) 2048 tt ρ)) (Typed.g-pre 𝓤
-              H A W 𝓣 E G12 G13 b28 Δ0 (Typed.pass T12 T13 s11) at55 (AtSlots.g-as-by 𝓤 H A W E (λ ρ. Unit) G12 11 (Rows.arrF (Array'.Array (Referent.rtF (Referent.fInt Syntax.w16)) 2048) 2 0) (λ x. x) (Own.told-none 𝓤 H A (G12 .slots)) λ ρ told. Repeat.whole-arr 𝓤 H A W (Array'.Array (Referent.rtF (Referent.fInt Syntax.w16)) 2048) 2 tt ρ) d55)
+          d57 = Typed.s-seq 𝓤 H A W 𝓣 E G11 G12 b1 b28 Δ0 (Typed.pass T11 T12 s10) at56 (Repeat.t-repeat-by 𝓤 H A W E 𝓣 (Array'.Array (Referent.rtF (Referent.fInt Syntax.w16)) 4096) (Array'.array-lawful 𝓤 H A W (Referent.rtF (Referent.fInt Syntax.w16)) (Plain'.uint-lawful 𝓤 H A W Syntax.w16) 4096) (Copies.cArr (Referent.rtF (Referent.fInt Syntax.w16))
+              (Copies.cRf (Referent.fInt Syntax.w16)) 4096 .copy 𝓤 H A W) 2 G11 11 (Scalar.oAt 15 ty·1 λ x. Steps.only (Copies.cArr (Referent.rtF (Referent.fInt Syntax.w16)) (Copies.cRf (Referent.fInt Syntax.w16)) 4096 .vals x)) (λ m. m .1 .1 .1 .1 .1 .1 .1 .1 .1 .1 .1 .1 .1 .1 .1 .0) (λ ρ. Unit) (Reads.room-gone 𝓤 H A (Syntax.tyArray ty·1 2))
+              (Array.arr-reads 𝓤 H A W (Array.eInt Syntax.w16) (Array.eInt-laws Syntax.w16) 4096, Path'.refl) Path'.refl (Own.told-none 𝓤 H A (G11 .slots)) λ ρ m pf wa. Gives.elem-local 𝓤 H A W E ρ (Array'.Array (Referent.rtF (Referent.fInt Syntax.w16)) 4096) (λ x. Steps.only (Copies.cArr (Referent.rtF (Referent.fInt Syntax.w16)) (Copies.cRf (Referent.fInt
+              Syntax.w16)) 4096 .vals x)) (Copies.cArr (Referent.rtF (Referent.fInt Syntax.w16)) (Copies.cRf (Referent.fInt Syntax.w16)) 4096 .tells) (Row.out 11 (G11 .locals)) m (λ ρ. Unit) pf 15 ty·1 (λ x. x) (Yields.yields-copy 𝓤 H A W (λ ρ. Unit) (Array'.Array (Referent.rtF (Referent.fInt Syntax.w16)) 4096) Path'.refl (Copies.cArr (Referent.rtF
+              (Referent.fInt Syntax.w16)) (Copies.cRf (Referent.fInt Syntax.w16)) 4096 .copy 𝓤 H A W) (Rows.arrF (Referent.rtF (Referent.fInt Syntax.w16)) 4096 0) (λ x. x) (λ x. x) (λ ρ told. Whole.mem-arr 𝓤 H A W (Referent.rtF (Referent.fInt Syntax.w16)) 4096 ρ) λ ρ told. Whole.arr-mem 𝓤 H A W (Referent.rtF (Referent.fInt Syntax.w16)) 4096 tt ρ)) (Typed.g-pre 𝓤
+              H A W 𝓣 E G12 G13 b28 Δ0 (Typed.pass T12 T13 s11) at55 (AtSlots.g-as-by 𝓤 H A W E (λ ρ. Unit) G12 11 (Rows.arrF (Array'.Array (Referent.rtF (Referent.fInt Syntax.w16)) 4096) 2 0) (λ x. x) (Own.told-none 𝓤 H A (G12 .slots)) λ ρ told. Repeat.whole-arr 𝓤 H A W (Array'.Array (Referent.rtF (Referent.fInt Syntax.w16)) 4096) 2 tt ρ) d55)
 
           d60 : Typed.Typed 𝓤 H A 𝓣 E G0 b30 Δ0 at60
           d60 = Typed.g-pre 𝓤 H A W 𝓣 E G0 G0 b30 Δ0 (Typed.give s7) at59 (Know.g-sl-known 𝓤 H A W (Referent.fInt Syntax.w8) E G0 8 7 ty·5 (Row.lease (κs .1 .1 .1 .1 .1 .1 .1 .0) (qs .1 .1 .1 .1 .1 .1 .1 .0)) 0 (λ x. x) record { fits = Dec'.lit< tt } (Reads.as-is 𝓤 H A (Mut.mslice (Referent.rtF (Referent.fInt Syntax.w8)) ty·5 7)) Path'.refl tt) (Typed.s-seq
-              𝓤 H A W 𝓣 E G0 G10 b0 b29 Δ0 (Typed.pass T0 T10 s8) at58 (Repeat.t-repeat 𝓤 H A W E 𝓣 (Referent.rtF (Referent.fInt Syntax.w16)) (Plain'.uint-lawful 𝓤 H A W Syntax.w16) (Copies.cRf (Referent.fInt Syntax.w16) .copy 𝓤 H A W) (Plain'.uint-makes 𝓤 H A W Syntax.w16) 2048 G0 15 (Scalar.oInt Syntax.w16 0) (λ m. 0) (Reads.room-gone 𝓤 H A ty·1) tt Path'.refl
-              λ m wa. (Path'.refl, Dec'.lit< tt)) (Typed.g-pre 𝓤 H A W 𝓣 E G10 G11 b29 Δ0 (Typed.pass T10 T11 s9) at57 (AtSlots.g-as-by 𝓤 H A W E (λ ρ. Unit) G10 15 (Rows.arrF (Referent.rtF (Referent.fInt Syntax.w16)) 2048 0) (λ x. x) (Own.told-none 𝓤 H A (G10 .slots)) λ ρ told. Repeat.whole-arr 𝓤 H A W (Referent.rtF (Referent.fInt Syntax.w16)) 2048 tt ρ) d57))
+              𝓤 H A W 𝓣 E G0 G10 b0 b29 Δ0 (Typed.pass T0 T10 s8) at58 (Repeat.t-repeat 𝓤 H A W E 𝓣 (Referent.rtF (Referent.fInt Syntax.w16)) (Plain'.uint-lawful 𝓤 H A W Syntax.w16) (Copies.cRf (Referent.fInt Syntax.w16) .copy 𝓤 H A W) (Plain'.uint-makes 𝓤 H A W Syntax.w16) 4096 G0 15 (Scalar.oInt Syntax.w16 0) (λ m. 0) (Reads.room-gone 𝓤 H A ty·1) tt Path'.refl
+              λ m wa. (Path'.refl, Dec'.lit< tt)) (Typed.g-pre 𝓤 H A W 𝓣 E G10 G11 b29 Δ0 (Typed.pass T10 T11 s9) at57 (AtSlots.g-as-by 𝓤 H A W E (λ ρ. Unit) G10 15 (Rows.arrF (Referent.rtF (Referent.fInt Syntax.w16)) 4096 0) (λ x. x) (Own.told-none 𝓤 H A (G10 .slots)) λ ρ told. Repeat.whole-arr 𝓤 H A W (Referent.rtF (Referent.fInt Syntax.w16)) 4096 tt ρ) d57))
 
           pub typed : Typed.Typed 𝓤 H A 𝓣 E (Function.Γin 9 ps r xs m κs qs) b30 (Function.Δret 9 ps r xs m κs qs) Φ
           typed = d60

@@ -70,10 +70,10 @@ use prog.Wp
 use types.Kit
 
 abbrev ty·0 : Syntax.Ty
-ty·0 = Syntax.tyArray (Syntax.tyInt Syntax.w8) 2048
+ty·0 = Syntax.tyArray (Syntax.tyInt Syntax.w8) 4096
 
 abbrev ty·1 : Syntax.Ty
-ty·1 = Syntax.tyArray (Syntax.tyInt Syntax.w16) 2048
+ty·1 = Syntax.tyArray (Syntax.tyInt Syntax.w16) 4096
 
 abbrev ty·2 : Syntax.Ty
 ty·2 = Syntax.tyRef Syntax.erased Syntax.mut Rec.behind
@@ -228,16 +228,16 @@ abbrev row·32 : Row.Row
 row·32 = Rows'.whole (Declared.row Refusal.the-type)
 
 abbrev row·33 : Row.Row
-row·33 = Rows'.whole (Array.Array (Referent.rtF (Referent.fInt Syntax.w8)) 2048)
+row·33 = Rows'.whole (Array.Array (Referent.rtF (Referent.fInt Syntax.w8)) 4096)
 
 abbrev row·34 : Row.Row
-row·34 = Rows.arrF (Referent.rtF (Referent.fInt Syntax.w8)) 2048 0
+row·34 = Rows.arrF (Referent.rtF (Referent.fInt Syntax.w8)) 4096 0
 
 abbrev row·35 : Row.Row
-row·35 = Rows'.whole (Array.Array (Referent.rtF (Referent.fInt Syntax.w16)) 2048)
+row·35 = Rows'.whole (Array.Array (Referent.rtF (Referent.fInt Syntax.w16)) 4096)
 
 abbrev row·36 : Row.Row
-row·36 = Rows.arrF (Referent.rtF (Referent.fInt Syntax.w16)) 2048 0
+row·36 = Rows.arrF (Referent.rtF (Referent.fInt Syntax.w16)) 4096 0
 
 abbrev row·37 : Row.Row
 row·37 = Relend.mslice-owed (Referent.rtF (Referent.fInt Syntax.w16)) ty·10 1 10 Row.off
@@ -312,7 +312,7 @@ abbrev row·60 : Row.Row
 row·60 = Mut.mslice (Referent.rtF (Referent.fInt Syntax.w8)) ty·4 17
 
 abbrev row·61 : Row.Row
-row·61 = Rows.arr-owed (Referent.rtF (Referent.fInt Syntax.w8)) 2048 18
+row·61 = Rows.arr-owed (Referent.rtF (Referent.fInt Syntax.w8)) 4096 18
 
 abbrev row·62 : Row.Row
 row·62 = Relend.msptr (Referent.rtF (Referent.fInt Syntax.w8)) (Syntax.tyRef Syntax.erased Syntax.mut ty·0) 18
@@ -321,7 +321,7 @@ abbrev row·63 : Row.Row
 row·63 = Mut.mslice (Referent.rtF (Referent.fInt Syntax.w8)) ty·4 18
 
 abbrev row·64 : Row.Row
-row·64 = Rows.arr-owed (Referent.rtF (Referent.fInt Syntax.w16)) 2048 19
+row·64 = Rows.arr-owed (Referent.rtF (Referent.fInt Syntax.w16)) 4096 19
 
 abbrev row·65 : Row.Row
 row·65 = Relend.msptr (Referent.rtF (Referent.fInt Syntax.w16)) (Syntax.tyRef Syntax.erased Syntax.mut ty·1) 19
@@ -330,7 +330,7 @@ abbrev row·66 : Row.Row
 row·66 = Mut.mslice (Referent.rtF (Referent.fInt Syntax.w16)) ty·5 19
 
 abbrev row·67 : Row.Row
-row·67 = Rows.arr-owed (Referent.rtF (Referent.fInt Syntax.w8)) 2048 20
+row·67 = Rows.arr-owed (Referent.rtF (Referent.fInt Syntax.w8)) 4096 20
 
 abbrev row·68 : Row.Row
 row·68 = Relend.msptr (Referent.rtF (Referent.fInt Syntax.w8)) (Syntax.tyRef Syntax.erased Syntax.mut ty·0) 20
@@ -339,7 +339,7 @@ abbrev row·69 : Row.Row
 row·69 = Mut.mslice (Referent.rtF (Referent.fInt Syntax.w8)) ty·4 20
 
 abbrev row·70 : Row.Row
-row·70 = Rows.arr-owed (Referent.rtF (Referent.fInt Syntax.w16)) 2048 21
+row·70 = Rows.arr-owed (Referent.rtF (Referent.fInt Syntax.w16)) 4096 21
 
 abbrev row·71 : Row.Row
 row·71 = Relend.msptr (Referent.rtF (Referent.fInt Syntax.w16)) (Syntax.tyRef Syntax.erased Syntax.mut ty·1) 21
@@ -348,7 +348,7 @@ abbrev row·72 : Row.Row
 row·72 = Mut.mslice (Referent.rtF (Referent.fInt Syntax.w16)) ty·5 21
 
 abbrev row·73 : Row.Row
-row·73 = Rows.arr-owed (Referent.rtF (Referent.fInt Syntax.w8)) 2048 22
+row·73 = Rows.arr-owed (Referent.rtF (Referent.fInt Syntax.w8)) 4096 22
 
 abbrev row·74 : Row.Row
 row·74 = Relend.msptr (Referent.rtF (Referent.fInt Syntax.w8)) (Syntax.tyRef Syntax.erased Syntax.mut ty·0) 22
@@ -375,19 +375,19 @@ abbrev row·81 : Row.Row
 row·81 = Mut.mslice Rec.rt ty·2 23
 
 abbrev row·82 : Row.Row
-row·82 = Rows'.sref (Array.Array (Referent.rtF (Referent.fInt Syntax.w8)) 2048) (Syntax.tyRef Syntax.erased Syntax.imm ty·0) 24
+row·82 = Rows'.sref (Array.Array (Referent.rtF (Referent.fInt Syntax.w8)) 4096) (Syntax.tyRef Syntax.erased Syntax.imm ty·0) 24
 
 abbrev row·83 : Row.Row
-row·83 = Rows'.sref (Array.Array (Referent.rtF (Referent.fInt Syntax.w16)) 2048) (Syntax.tyRef Syntax.erased Syntax.imm ty·1) 25
+row·83 = Rows'.sref (Array.Array (Referent.rtF (Referent.fInt Syntax.w16)) 4096) (Syntax.tyRef Syntax.erased Syntax.imm ty·1) 25
 
 abbrev row·84 : Row.Row
-row·84 = Rows'.sref (Array.Array (Referent.rtF (Referent.fInt Syntax.w8)) 2048) (Syntax.tyRef Syntax.erased Syntax.imm ty·0) 26
+row·84 = Rows'.sref (Array.Array (Referent.rtF (Referent.fInt Syntax.w8)) 4096) (Syntax.tyRef Syntax.erased Syntax.imm ty·0) 26
 
 abbrev row·85 : Row.Row
-row·85 = Rows'.sref (Array.Array (Referent.rtF (Referent.fInt Syntax.w16)) 2048) (Syntax.tyRef Syntax.erased Syntax.imm ty·1) 27
+row·85 = Rows'.sref (Array.Array (Referent.rtF (Referent.fInt Syntax.w16)) 4096) (Syntax.tyRef Syntax.erased Syntax.imm ty·1) 27
 
 abbrev row·86 : Row.Row
-row·86 = Rows'.sref (Array.Array (Referent.rtF (Referent.fInt Syntax.w8)) 2048) (Syntax.tyRef Syntax.erased Syntax.imm ty·0) 28
+row·86 = Rows'.sref (Array.Array (Referent.rtF (Referent.fInt Syntax.w8)) 4096) (Syntax.tyRef Syntax.erased Syntax.imm ty·0) 28
 
 abbrev row·87 : Row.Row
 row·87 = Rows'.sc-here Row.sUnit
@@ -447,8 +447,8 @@ ps·2 = List._∷_ (Value.pVal record { ty = Declared.row Reading.the-type; one 
     List.[])
 
 abbrev pub ps·3 : List.List (Kinds.PK 6)
-ps·3 = List._∷_ (MutSlice.pMutS Rec.rt 0 tt) (List._∷_ Bool.pBool (List._∷_ (ShrRef.pShr (Array.Array (Referent.rtF (Referent.fInt Syntax.w8)) 2048) 1 tt) (List._∷_ (ShrRef.pShr (Array.Array (Referent.rtF (Referent.fInt Syntax.w16)) 2048) 2 tt) (List._∷_ (ShrRef.pShr (Array.Array (Referent.rtF (Referent.fInt Syntax.w8)) 2048) 3 tt) (List._∷_ (ShrRef.pShr
-    (Array.Array (Referent.rtF (Referent.fInt Syntax.w16)) 2048) 4 tt) (List._∷_ (ShrRef.pShr (Array.Array (Referent.rtF (Referent.fInt Syntax.w8)) 2048) 5 tt) List.[]))))))
+ps·3 = List._∷_ (MutSlice.pMutS Rec.rt 0 tt) (List._∷_ Bool.pBool (List._∷_ (ShrRef.pShr (Array.Array (Referent.rtF (Referent.fInt Syntax.w8)) 4096) 1 tt) (List._∷_ (ShrRef.pShr (Array.Array (Referent.rtF (Referent.fInt Syntax.w16)) 4096) 2 tt) (List._∷_ (ShrRef.pShr (Array.Array (Referent.rtF (Referent.fInt Syntax.w8)) 4096) 3 tt) (List._∷_ (ShrRef.pShr
+    (Array.Array (Referent.rtF (Referent.fInt Syntax.w16)) 4096) 4 tt) (List._∷_ (ShrRef.pShr (Array.Array (Referent.rtF (Referent.fInt Syntax.w8)) 4096) 5 tt) List.[]))))))
 
 abbrev pub r·3 : Kinds.RK 6
 r·3 = Unit'.rUnit
@@ -488,19 +488,19 @@ abbrev b8 : Syntax.Body
 b8 = Syntax.cond (Syntax.copy (Syntax.place 17 List.[])) b6 b7
 
 abbrev b9 : Syntax.Body
-b9 = Syntax.assign (Syntax.place 11 List.[]) (Syntax.repeat (Syntax.int Syntax.w8 0) 2048)
+b9 = Syntax.assign (Syntax.place 11 List.[]) (Syntax.repeat (Syntax.int Syntax.w8 0) 4096)
 
 abbrev b10 : Syntax.Body
-b10 = Syntax.assign (Syntax.place 12 List.[]) (Syntax.repeat (Syntax.int Syntax.w16 0) 2048)
+b10 = Syntax.assign (Syntax.place 12 List.[]) (Syntax.repeat (Syntax.int Syntax.w16 0) 4096)
 
 abbrev b11 : Syntax.Body
-b11 = Syntax.assign (Syntax.place 13 List.[]) (Syntax.repeat (Syntax.int Syntax.w8 0) 2048)
+b11 = Syntax.assign (Syntax.place 13 List.[]) (Syntax.repeat (Syntax.int Syntax.w8 0) 4096)
 
 abbrev b12 : Syntax.Body
-b12 = Syntax.assign (Syntax.place 14 List.[]) (Syntax.repeat (Syntax.int Syntax.w16 0) 2048)
+b12 = Syntax.assign (Syntax.place 14 List.[]) (Syntax.repeat (Syntax.int Syntax.w16 0) 4096)
 
 abbrev b13 : Syntax.Body
-b13 = Syntax.assign (Syntax.place 15 List.[]) (Syntax.repeat (Syntax.int Syntax.w8 0) 2048)
+b13 = Syntax.assign (Syntax.place 15 List.[]) (Syntax.repeat (Syntax.int Syntax.w8 0) 4096)
 
 abbrev b14 : Syntax.Body
 b14 = Syntax.assign (Syntax.place 20 List.[]) (Syntax.addrOf (Syntax.place 2 (List._∷_ (Syntax.field 0) (List._∷_ (Syntax.deref (Syntax.tyInt Syntax.w16)) List.[]))))
@@ -554,31 +554,31 @@ abbrev b30 : Syntax.Body
 b30 = Syntax.assign (Syntax.place 36 List.[]) (Syntax.addrOf (Syntax.place 11 List.[]))
 
 abbrev b31 : Syntax.Body
-b31 = Syntax.assign (Syntax.place 37 List.[]) (Syntax.aggregate (List._∷_ (Syntax.copy (Syntax.place 36 List.[])) (List._∷_ (Syntax.intBig Syntax.w64 2048) List.[])))
+b31 = Syntax.assign (Syntax.place 37 List.[]) (Syntax.aggregate (List._∷_ (Syntax.copy (Syntax.place 36 List.[])) (List._∷_ (Syntax.intBig Syntax.w64 4096) List.[])))
 
 abbrev b32 : Syntax.Body
 b32 = Syntax.assign (Syntax.place 38 List.[]) (Syntax.addrOf (Syntax.place 12 List.[]))
 
 abbrev b33 : Syntax.Body
-b33 = Syntax.assign (Syntax.place 39 List.[]) (Syntax.aggregate (List._∷_ (Syntax.copy (Syntax.place 38 List.[])) (List._∷_ (Syntax.intBig Syntax.w64 2048) List.[])))
+b33 = Syntax.assign (Syntax.place 39 List.[]) (Syntax.aggregate (List._∷_ (Syntax.copy (Syntax.place 38 List.[])) (List._∷_ (Syntax.intBig Syntax.w64 4096) List.[])))
 
 abbrev b34 : Syntax.Body
 b34 = Syntax.assign (Syntax.place 40 List.[]) (Syntax.addrOf (Syntax.place 13 List.[]))
 
 abbrev b35 : Syntax.Body
-b35 = Syntax.assign (Syntax.place 41 List.[]) (Syntax.aggregate (List._∷_ (Syntax.copy (Syntax.place 40 List.[])) (List._∷_ (Syntax.intBig Syntax.w64 2048) List.[])))
+b35 = Syntax.assign (Syntax.place 41 List.[]) (Syntax.aggregate (List._∷_ (Syntax.copy (Syntax.place 40 List.[])) (List._∷_ (Syntax.intBig Syntax.w64 4096) List.[])))
 
 abbrev b36 : Syntax.Body
 b36 = Syntax.assign (Syntax.place 42 List.[]) (Syntax.addrOf (Syntax.place 14 List.[]))
 
 abbrev b37 : Syntax.Body
-b37 = Syntax.assign (Syntax.place 43 List.[]) (Syntax.aggregate (List._∷_ (Syntax.copy (Syntax.place 42 List.[])) (List._∷_ (Syntax.intBig Syntax.w64 2048) List.[])))
+b37 = Syntax.assign (Syntax.place 43 List.[]) (Syntax.aggregate (List._∷_ (Syntax.copy (Syntax.place 42 List.[])) (List._∷_ (Syntax.intBig Syntax.w64 4096) List.[])))
 
 abbrev b38 : Syntax.Body
 b38 = Syntax.assign (Syntax.place 44 List.[]) (Syntax.addrOf (Syntax.place 15 List.[]))
 
 abbrev b39 : Syntax.Body
-b39 = Syntax.assign (Syntax.place 45 List.[]) (Syntax.aggregate (List._∷_ (Syntax.copy (Syntax.place 44 List.[])) (List._∷_ (Syntax.intBig Syntax.w64 2048) List.[])))
+b39 = Syntax.assign (Syntax.place 45 List.[]) (Syntax.aggregate (List._∷_ (Syntax.copy (Syntax.place 44 List.[])) (List._∷_ (Syntax.intBig Syntax.w64 4096) List.[])))
 
 abbrev b40 : Syntax.Body
 b40 = Syntax.call "reading::entry::read_plan" (List._∷_ (Syntax.copy (Syntax.place 1 List.[])) (List._∷_ (Syntax.copy (Syntax.place 21 List.[])) (List._∷_ (Syntax.copy (Syntax.place 23 List.[])) (List._∷_ (Syntax.copy (Syntax.place 25 List.[])) (List._∷_ (Syntax.copy (Syntax.place 27 List.[])) (List._∷_ (Syntax.copy (Syntax.place 29 List.[])) (List._∷_
@@ -1017,9 +1017,9 @@ t96 = List._∷_ (48, row·81) (List._∷_ (49, row·31) (List._∷_ (50, row·8
 
 abbrev pub t97 : List.List Row.Entry
 t97 = List._∷_ (0, row·0) (List._∷_ (1, row·1) (List._∷_ (2, row·2) (List._∷_ (3, row·3) (List._∷_ (4, row·4) (List._∷_ (5, row·5) (List._∷_ (6, row·6) (List._∷_ (7, row·7) (List._∷_ (8, row·8) (List._∷_ (9, row·9) (List._∷_ (10, row·79) (List._∷_
-    (11, Rows'.sc-shr (Rows.arrF (Referent.rtF (Referent.fInt Syntax.w8)) 2048 0) (Array.Array (Referent.rtF (Referent.fInt Syntax.w8)) 2048) (λ x. x) 24) (List._∷_ (12, Rows'.sc-shr (Rows.arrF (Referent.rtF (Referent.fInt Syntax.w16)) 2048 0) (Array.Array (Referent.rtF (Referent.fInt Syntax.w16)) 2048) (λ x. x) 25) (List._∷_
-    (13, Rows'.sc-shr (Rows.arrF (Referent.rtF (Referent.fInt Syntax.w8)) 2048 0) (Array.Array (Referent.rtF (Referent.fInt Syntax.w8)) 2048) (λ x. x) 26) (List._∷_ (14, Rows'.sc-shr (Rows.arrF (Referent.rtF (Referent.fInt Syntax.w16)) 2048 0) (Array.Array (Referent.rtF (Referent.fInt Syntax.w16)) 2048) (λ x. x) 27) (List._∷_
-    (15, Rows'.sc-shr (Rows.arrF (Referent.rtF (Referent.fInt Syntax.w8)) 2048 0) (Array.Array (Referent.rtF (Referent.fInt Syntax.w8)) 2048) (λ x. x) 28) List.[])))))))))))))))
+    (11, Rows'.sc-shr (Rows.arrF (Referent.rtF (Referent.fInt Syntax.w8)) 4096 0) (Array.Array (Referent.rtF (Referent.fInt Syntax.w8)) 4096) (λ x. x) 24) (List._∷_ (12, Rows'.sc-shr (Rows.arrF (Referent.rtF (Referent.fInt Syntax.w16)) 4096 0) (Array.Array (Referent.rtF (Referent.fInt Syntax.w16)) 4096) (λ x. x) 25) (List._∷_
+    (13, Rows'.sc-shr (Rows.arrF (Referent.rtF (Referent.fInt Syntax.w8)) 4096 0) (Array.Array (Referent.rtF (Referent.fInt Syntax.w8)) 4096) (λ x. x) 26) (List._∷_ (14, Rows'.sc-shr (Rows.arrF (Referent.rtF (Referent.fInt Syntax.w16)) 4096 0) (Array.Array (Referent.rtF (Referent.fInt Syntax.w16)) 4096) (λ x. x) 27) (List._∷_
+    (15, Rows'.sc-shr (Rows.arrF (Referent.rtF (Referent.fInt Syntax.w8)) 4096 0) (Array.Array (Referent.rtF (Referent.fInt Syntax.w8)) 4096) (λ x. x) 28) List.[])))))))))))))))
 
 abbrev pub t98 : List.List Row.Entry
 t98 = List._∷_ (48, row·81) (List._∷_ (49, row·31) (List._∷_ (50, row·82) (List._∷_ (51, row·83) (List._∷_ (52, row·84) (List._∷_ (53, row·85) (List._∷_ (54, row·86) List.[]))))))
@@ -1261,19 +1261,19 @@ T122 = record { locals = List._++_ t84 (List._++_ t71 (List._++_ t2 t88)); slots
 
 abbrev pub T124 : Row.Cx
 T124 = record
-    { locals = List._++_ (List._∷_ (0, row·0) (List._∷_ (1, row·1) (List._∷_ (2, row·2) (List._∷_ (3, row·3) (List._∷_ (4, row·4) (List._∷_ (5, row·5) (List._∷_ (6, row·6) (List._∷_ (7, row·7) (List._∷_ (8, row·8) (List._∷_ (9, row·9) (List._∷_ (10, row·79) (List._∷_ (11, Rows'.sc-shr (Rows.arrF (Referent.rtF (Referent.fInt Syntax.w8)) 2048 0) (Array.Array (Referent.rtF (Referent.fInt Syntax.w8)) 2048) (λ x. x) 24) (List._∷_ (12, row·36) (List._∷_ (13, row·34) (List._∷_ (14, row·36) (List._∷_ (15, row·34) List.[])))))))))))))))) (List._++_ t71 (List._++_ t2 t90)); slots = List.[] }
+    { locals = List._++_ (List._∷_ (0, row·0) (List._∷_ (1, row·1) (List._∷_ (2, row·2) (List._∷_ (3, row·3) (List._∷_ (4, row·4) (List._∷_ (5, row·5) (List._∷_ (6, row·6) (List._∷_ (7, row·7) (List._∷_ (8, row·8) (List._∷_ (9, row·9) (List._∷_ (10, row·79) (List._∷_ (11, Rows'.sc-shr (Rows.arrF (Referent.rtF (Referent.fInt Syntax.w8)) 4096 0) (Array.Array (Referent.rtF (Referent.fInt Syntax.w8)) 4096) (λ x. x) 24) (List._∷_ (12, row·36) (List._∷_ (13, row·34) (List._∷_ (14, row·36) (List._∷_ (15, row·34) List.[])))))))))))))))) (List._++_ t71 (List._++_ t2 t90)); slots = List.[] }
 
 abbrev pub T126 : Row.Cx
 T126 = record
-    { locals = List._++_ (List._∷_ (0, row·0) (List._∷_ (1, row·1) (List._∷_ (2, row·2) (List._∷_ (3, row·3) (List._∷_ (4, row·4) (List._∷_ (5, row·5) (List._∷_ (6, row·6) (List._∷_ (7, row·7) (List._∷_ (8, row·8) (List._∷_ (9, row·9) (List._∷_ (10, row·79) (List._∷_ (11, Rows'.sc-shr (Rows.arrF (Referent.rtF (Referent.fInt Syntax.w8)) 2048 0) (Array.Array (Referent.rtF (Referent.fInt Syntax.w8)) 2048) (λ x. x) 24) (List._∷_ (12, Rows'.sc-shr (Rows.arrF (Referent.rtF (Referent.fInt Syntax.w16)) 2048 0) (Array.Array (Referent.rtF (Referent.fInt Syntax.w16)) 2048) (λ x. x) 25) (List._∷_ (13, row·34) (List._∷_ (14, row·36) (List._∷_ (15, row·34) List.[])))))))))))))))) (List._++_ t71 (List._++_ t2 t92)); slots = List.[] }
+    { locals = List._++_ (List._∷_ (0, row·0) (List._∷_ (1, row·1) (List._∷_ (2, row·2) (List._∷_ (3, row·3) (List._∷_ (4, row·4) (List._∷_ (5, row·5) (List._∷_ (6, row·6) (List._∷_ (7, row·7) (List._∷_ (8, row·8) (List._∷_ (9, row·9) (List._∷_ (10, row·79) (List._∷_ (11, Rows'.sc-shr (Rows.arrF (Referent.rtF (Referent.fInt Syntax.w8)) 4096 0) (Array.Array (Referent.rtF (Referent.fInt Syntax.w8)) 4096) (λ x. x) 24) (List._∷_ (12, Rows'.sc-shr (Rows.arrF (Referent.rtF (Referent.fInt Syntax.w16)) 4096 0) (Array.Array (Referent.rtF (Referent.fInt Syntax.w16)) 4096) (λ x. x) 25) (List._∷_ (13, row·34) (List._∷_ (14, row·36) (List._∷_ (15, row·34) List.[])))))))))))))))) (List._++_ t71 (List._++_ t2 t92)); slots = List.[] }
 
 abbrev pub T128 : Row.Cx
 T128 = record
-    { locals = List._++_ (List._∷_ (0, row·0) (List._∷_ (1, row·1) (List._∷_ (2, row·2) (List._∷_ (3, row·3) (List._∷_ (4, row·4) (List._∷_ (5, row·5) (List._∷_ (6, row·6) (List._∷_ (7, row·7) (List._∷_ (8, row·8) (List._∷_ (9, row·9) (List._∷_ (10, row·79) (List._∷_ (11, Rows'.sc-shr (Rows.arrF (Referent.rtF (Referent.fInt Syntax.w8)) 2048 0) (Array.Array (Referent.rtF (Referent.fInt Syntax.w8)) 2048) (λ x. x) 24) (List._∷_ (12, Rows'.sc-shr (Rows.arrF (Referent.rtF (Referent.fInt Syntax.w16)) 2048 0) (Array.Array (Referent.rtF (Referent.fInt Syntax.w16)) 2048) (λ x. x) 25) (List._∷_ (13, Rows'.sc-shr (Rows.arrF (Referent.rtF (Referent.fInt Syntax.w8)) 2048 0) (Array.Array (Referent.rtF (Referent.fInt Syntax.w8)) 2048) (λ x. x) 26) (List._∷_ (14, row·36) (List._∷_ (15, row·34) List.[])))))))))))))))) (List._++_ t71 (List._++_ t2 t94)); slots = List.[] }
+    { locals = List._++_ (List._∷_ (0, row·0) (List._∷_ (1, row·1) (List._∷_ (2, row·2) (List._∷_ (3, row·3) (List._∷_ (4, row·4) (List._∷_ (5, row·5) (List._∷_ (6, row·6) (List._∷_ (7, row·7) (List._∷_ (8, row·8) (List._∷_ (9, row·9) (List._∷_ (10, row·79) (List._∷_ (11, Rows'.sc-shr (Rows.arrF (Referent.rtF (Referent.fInt Syntax.w8)) 4096 0) (Array.Array (Referent.rtF (Referent.fInt Syntax.w8)) 4096) (λ x. x) 24) (List._∷_ (12, Rows'.sc-shr (Rows.arrF (Referent.rtF (Referent.fInt Syntax.w16)) 4096 0) (Array.Array (Referent.rtF (Referent.fInt Syntax.w16)) 4096) (λ x. x) 25) (List._∷_ (13, Rows'.sc-shr (Rows.arrF (Referent.rtF (Referent.fInt Syntax.w8)) 4096 0) (Array.Array (Referent.rtF (Referent.fInt Syntax.w8)) 4096) (λ x. x) 26) (List._∷_ (14, row·36) (List._∷_ (15, row·34) List.[])))))))))))))))) (List._++_ t71 (List._++_ t2 t94)); slots = List.[] }
 
 abbrev pub T130 : Row.Cx
 T130 = record
-    { locals = List._++_ (List._∷_ (0, row·0) (List._∷_ (1, row·1) (List._∷_ (2, row·2) (List._∷_ (3, row·3) (List._∷_ (4, row·4) (List._∷_ (5, row·5) (List._∷_ (6, row·6) (List._∷_ (7, row·7) (List._∷_ (8, row·8) (List._∷_ (9, row·9) (List._∷_ (10, row·79) (List._∷_ (11, Rows'.sc-shr (Rows.arrF (Referent.rtF (Referent.fInt Syntax.w8)) 2048 0) (Array.Array (Referent.rtF (Referent.fInt Syntax.w8)) 2048) (λ x. x) 24) (List._∷_ (12, Rows'.sc-shr (Rows.arrF (Referent.rtF (Referent.fInt Syntax.w16)) 2048 0) (Array.Array (Referent.rtF (Referent.fInt Syntax.w16)) 2048) (λ x. x) 25) (List._∷_ (13, Rows'.sc-shr (Rows.arrF (Referent.rtF (Referent.fInt Syntax.w8)) 2048 0) (Array.Array (Referent.rtF (Referent.fInt Syntax.w8)) 2048) (λ x. x) 26) (List._∷_ (14, Rows'.sc-shr (Rows.arrF (Referent.rtF (Referent.fInt Syntax.w16)) 2048 0) (Array.Array (Referent.rtF (Referent.fInt Syntax.w16)) 2048) (λ x. x) 27) (List._∷_ (15, row·34) List.[])))))))))))))))) (List._++_ t71 (List._++_ t2 t96)); slots = List.[] }
+    { locals = List._++_ (List._∷_ (0, row·0) (List._∷_ (1, row·1) (List._∷_ (2, row·2) (List._∷_ (3, row·3) (List._∷_ (4, row·4) (List._∷_ (5, row·5) (List._∷_ (6, row·6) (List._∷_ (7, row·7) (List._∷_ (8, row·8) (List._∷_ (9, row·9) (List._∷_ (10, row·79) (List._∷_ (11, Rows'.sc-shr (Rows.arrF (Referent.rtF (Referent.fInt Syntax.w8)) 4096 0) (Array.Array (Referent.rtF (Referent.fInt Syntax.w8)) 4096) (λ x. x) 24) (List._∷_ (12, Rows'.sc-shr (Rows.arrF (Referent.rtF (Referent.fInt Syntax.w16)) 4096 0) (Array.Array (Referent.rtF (Referent.fInt Syntax.w16)) 4096) (λ x. x) 25) (List._∷_ (13, Rows'.sc-shr (Rows.arrF (Referent.rtF (Referent.fInt Syntax.w8)) 4096 0) (Array.Array (Referent.rtF (Referent.fInt Syntax.w8)) 4096) (λ x. x) 26) (List._∷_ (14, Rows'.sc-shr (Rows.arrF (Referent.rtF (Referent.fInt Syntax.w16)) 4096 0) (Array.Array (Referent.rtF (Referent.fInt Syntax.w16)) 4096) (λ x. x) 27) (List._∷_ (15, row·34) List.[])))))))))))))))) (List._++_ t71 (List._++_ t2 t96)); slots = List.[] }
 
 abbrev pub T132 : Row.Cx
 T132 = record { locals = List._++_ t97 (List._++_ t71 (List._++_ t2 t98)); slots = List.[] }
@@ -1304,39 +1304,39 @@ T140 = record { locals = List._++_ t97 (List._++_ t71 (List._++_ t2 t106)); slot
 
 abbrev pub T142 : Row.Cx
 T142 = record
-    { locals = List._++_ (List._∷_ (0, row·0) (List._∷_ (1, row·1) (List._∷_ (2, row·2) (List._∷_ (3, row·3) (List._∷_ (4, row·4) (List._∷_ (5, row·5) (List._∷_ (6, row·6) (List._∷_ (7, row·7) (List._∷_ (8, row·8) (List._∷_ (9, row·9) (List._∷_ (10, row·10) (List._∷_ (11, Rows'.sc-shr (Rows.arrF (Referent.rtF (Referent.fInt Syntax.w8)) 2048 0) (Array.Array (Referent.rtF (Referent.fInt Syntax.w8)) 2048) (λ x. x) 24) (List._∷_ (12, Rows'.sc-shr (Rows.arrF (Referent.rtF (Referent.fInt Syntax.w16)) 2048 0) (Array.Array (Referent.rtF (Referent.fInt Syntax.w16)) 2048) (λ x. x) 25) (List._∷_ (13, Rows'.sc-shr (Rows.arrF (Referent.rtF (Referent.fInt Syntax.w8)) 2048 0) (Array.Array (Referent.rtF (Referent.fInt Syntax.w8)) 2048) (λ x. x) 26) (List._∷_ (14, Rows'.sc-shr (Rows.arrF (Referent.rtF (Referent.fInt Syntax.w16)) 2048 0) (Array.Array (Referent.rtF (Referent.fInt Syntax.w16)) 2048) (λ x. x) 27) (List._∷_ (15, Rows'.sc-shr (Rows.arrF (Referent.rtF (Referent.fInt Syntax.w8)) 2048 0) (Array.Array (Referent.rtF (Referent.fInt Syntax.w8)) 2048) (λ x. x) 28) List.[])))))))))))))))) (List._++_ t71 (List._++_ t2 t3)); slots = List.[] }
+    { locals = List._++_ (List._∷_ (0, row·0) (List._∷_ (1, row·1) (List._∷_ (2, row·2) (List._∷_ (3, row·3) (List._∷_ (4, row·4) (List._∷_ (5, row·5) (List._∷_ (6, row·6) (List._∷_ (7, row·7) (List._∷_ (8, row·8) (List._∷_ (9, row·9) (List._∷_ (10, row·10) (List._∷_ (11, Rows'.sc-shr (Rows.arrF (Referent.rtF (Referent.fInt Syntax.w8)) 4096 0) (Array.Array (Referent.rtF (Referent.fInt Syntax.w8)) 4096) (λ x. x) 24) (List._∷_ (12, Rows'.sc-shr (Rows.arrF (Referent.rtF (Referent.fInt Syntax.w16)) 4096 0) (Array.Array (Referent.rtF (Referent.fInt Syntax.w16)) 4096) (λ x. x) 25) (List._∷_ (13, Rows'.sc-shr (Rows.arrF (Referent.rtF (Referent.fInt Syntax.w8)) 4096 0) (Array.Array (Referent.rtF (Referent.fInt Syntax.w8)) 4096) (λ x. x) 26) (List._∷_ (14, Rows'.sc-shr (Rows.arrF (Referent.rtF (Referent.fInt Syntax.w16)) 4096 0) (Array.Array (Referent.rtF (Referent.fInt Syntax.w16)) 4096) (λ x. x) 27) (List._∷_ (15, Rows'.sc-shr (Rows.arrF (Referent.rtF (Referent.fInt Syntax.w8)) 4096 0) (Array.Array (Referent.rtF (Referent.fInt Syntax.w8)) 4096) (λ x. x) 28) List.[])))))))))))))))) (List._++_ t71 (List._++_ t2 t3)); slots = List.[] }
 
 abbrev pub T145 : Row.Cx
 T145 = record
-    { locals = List._++_ (List._∷_ (0, row·0) (List._∷_ (1, row·1) (List._∷_ (2, row·2) (List._∷_ (3, row·3) (List._∷_ (4, row·4) (List._∷_ (5, row·5) (List._∷_ (6, row·6) (List._∷_ (7, row·7) (List._∷_ (8, row·8) (List._∷_ (9, row·9) (List._∷_ (10, row·10) (List._∷_ (11, row·34) (List._∷_ (12, Rows'.sc-shr (Rows.arrF (Referent.rtF (Referent.fInt Syntax.w16)) 2048 0) (Array.Array (Referent.rtF (Referent.fInt Syntax.w16)) 2048) (λ x. x) 25) (List._∷_ (13, Rows'.sc-shr (Rows.arrF (Referent.rtF (Referent.fInt Syntax.w8)) 2048 0) (Array.Array (Referent.rtF (Referent.fInt Syntax.w8)) 2048) (λ x. x) 26) (List._∷_ (14, Rows'.sc-shr (Rows.arrF (Referent.rtF (Referent.fInt Syntax.w16)) 2048 0) (Array.Array (Referent.rtF (Referent.fInt Syntax.w16)) 2048) (λ x. x) 27) (List._∷_ (15, Rows'.sc-shr (Rows.arrF (Referent.rtF (Referent.fInt Syntax.w8)) 2048 0) (Array.Array (Referent.rtF (Referent.fInt Syntax.w8)) 2048) (λ x. x) 28) List.[])))))))))))))))) (List._++_ t71 (List._++_ t2 t3)); slots = List.[] }
+    { locals = List._++_ (List._∷_ (0, row·0) (List._∷_ (1, row·1) (List._∷_ (2, row·2) (List._∷_ (3, row·3) (List._∷_ (4, row·4) (List._∷_ (5, row·5) (List._∷_ (6, row·6) (List._∷_ (7, row·7) (List._∷_ (8, row·8) (List._∷_ (9, row·9) (List._∷_ (10, row·10) (List._∷_ (11, row·34) (List._∷_ (12, Rows'.sc-shr (Rows.arrF (Referent.rtF (Referent.fInt Syntax.w16)) 4096 0) (Array.Array (Referent.rtF (Referent.fInt Syntax.w16)) 4096) (λ x. x) 25) (List._∷_ (13, Rows'.sc-shr (Rows.arrF (Referent.rtF (Referent.fInt Syntax.w8)) 4096 0) (Array.Array (Referent.rtF (Referent.fInt Syntax.w8)) 4096) (λ x. x) 26) (List._∷_ (14, Rows'.sc-shr (Rows.arrF (Referent.rtF (Referent.fInt Syntax.w16)) 4096 0) (Array.Array (Referent.rtF (Referent.fInt Syntax.w16)) 4096) (λ x. x) 27) (List._∷_ (15, Rows'.sc-shr (Rows.arrF (Referent.rtF (Referent.fInt Syntax.w8)) 4096 0) (Array.Array (Referent.rtF (Referent.fInt Syntax.w8)) 4096) (λ x. x) 28) List.[])))))))))))))))) (List._++_ t71 (List._++_ t2 t3)); slots = List.[] }
 
 abbrev pub T147 : Row.Cx
 T147 = record
-    { locals = List._++_ (List._∷_ (0, row·0) (List._∷_ (1, row·1) (List._∷_ (2, row·2) (List._∷_ (3, row·3) (List._∷_ (4, row·4) (List._∷_ (5, row·5) (List._∷_ (6, row·6) (List._∷_ (7, row·7) (List._∷_ (8, row·8) (List._∷_ (9, row·9) (List._∷_ (10, row·10) (List._∷_ (11, row·11) (List._∷_ (12, Rows'.sc-shr (Rows.arrF (Referent.rtF (Referent.fInt Syntax.w16)) 2048 0) (Array.Array (Referent.rtF (Referent.fInt Syntax.w16)) 2048) (λ x. x) 25) (List._∷_ (13, Rows'.sc-shr (Rows.arrF (Referent.rtF (Referent.fInt Syntax.w8)) 2048 0) (Array.Array (Referent.rtF (Referent.fInt Syntax.w8)) 2048) (λ x. x) 26) (List._∷_ (14, Rows'.sc-shr (Rows.arrF (Referent.rtF (Referent.fInt Syntax.w16)) 2048 0) (Array.Array (Referent.rtF (Referent.fInt Syntax.w16)) 2048) (λ x. x) 27) (List._∷_ (15, Rows'.sc-shr (Rows.arrF (Referent.rtF (Referent.fInt Syntax.w8)) 2048 0) (Array.Array (Referent.rtF (Referent.fInt Syntax.w8)) 2048) (λ x. x) 28) List.[])))))))))))))))) (List._++_ t71 (List._++_ t2 t3)); slots = List.[] }
+    { locals = List._++_ (List._∷_ (0, row·0) (List._∷_ (1, row·1) (List._∷_ (2, row·2) (List._∷_ (3, row·3) (List._∷_ (4, row·4) (List._∷_ (5, row·5) (List._∷_ (6, row·6) (List._∷_ (7, row·7) (List._∷_ (8, row·8) (List._∷_ (9, row·9) (List._∷_ (10, row·10) (List._∷_ (11, row·11) (List._∷_ (12, Rows'.sc-shr (Rows.arrF (Referent.rtF (Referent.fInt Syntax.w16)) 4096 0) (Array.Array (Referent.rtF (Referent.fInt Syntax.w16)) 4096) (λ x. x) 25) (List._∷_ (13, Rows'.sc-shr (Rows.arrF (Referent.rtF (Referent.fInt Syntax.w8)) 4096 0) (Array.Array (Referent.rtF (Referent.fInt Syntax.w8)) 4096) (λ x. x) 26) (List._∷_ (14, Rows'.sc-shr (Rows.arrF (Referent.rtF (Referent.fInt Syntax.w16)) 4096 0) (Array.Array (Referent.rtF (Referent.fInt Syntax.w16)) 4096) (λ x. x) 27) (List._∷_ (15, Rows'.sc-shr (Rows.arrF (Referent.rtF (Referent.fInt Syntax.w8)) 4096 0) (Array.Array (Referent.rtF (Referent.fInt Syntax.w8)) 4096) (λ x. x) 28) List.[])))))))))))))))) (List._++_ t71 (List._++_ t2 t3)); slots = List.[] }
 
 abbrev pub T149 : Row.Cx
 T149 = record
-    { locals = List._++_ (List._∷_ (0, row·0) (List._∷_ (1, row·1) (List._∷_ (2, row·2) (List._∷_ (3, row·3) (List._∷_ (4, row·4) (List._∷_ (5, row·5) (List._∷_ (6, row·6) (List._∷_ (7, row·7) (List._∷_ (8, row·8) (List._∷_ (9, row·9) (List._∷_ (10, row·10) (List._∷_ (11, row·11) (List._∷_ (12, row·36) (List._∷_ (13, Rows'.sc-shr (Rows.arrF (Referent.rtF (Referent.fInt Syntax.w8)) 2048 0) (Array.Array (Referent.rtF (Referent.fInt Syntax.w8)) 2048) (λ x. x) 26) (List._∷_ (14, Rows'.sc-shr (Rows.arrF (Referent.rtF (Referent.fInt Syntax.w16)) 2048 0) (Array.Array (Referent.rtF (Referent.fInt Syntax.w16)) 2048) (λ x. x) 27) (List._∷_ (15, Rows'.sc-shr (Rows.arrF (Referent.rtF (Referent.fInt Syntax.w8)) 2048 0) (Array.Array (Referent.rtF (Referent.fInt Syntax.w8)) 2048) (λ x. x) 28) List.[])))))))))))))))) (List._++_ t71 (List._++_ t2 t3)); slots = List.[] }
+    { locals = List._++_ (List._∷_ (0, row·0) (List._∷_ (1, row·1) (List._∷_ (2, row·2) (List._∷_ (3, row·3) (List._∷_ (4, row·4) (List._∷_ (5, row·5) (List._∷_ (6, row·6) (List._∷_ (7, row·7) (List._∷_ (8, row·8) (List._∷_ (9, row·9) (List._∷_ (10, row·10) (List._∷_ (11, row·11) (List._∷_ (12, row·36) (List._∷_ (13, Rows'.sc-shr (Rows.arrF (Referent.rtF (Referent.fInt Syntax.w8)) 4096 0) (Array.Array (Referent.rtF (Referent.fInt Syntax.w8)) 4096) (λ x. x) 26) (List._∷_ (14, Rows'.sc-shr (Rows.arrF (Referent.rtF (Referent.fInt Syntax.w16)) 4096 0) (Array.Array (Referent.rtF (Referent.fInt Syntax.w16)) 4096) (λ x. x) 27) (List._∷_ (15, Rows'.sc-shr (Rows.arrF (Referent.rtF (Referent.fInt Syntax.w8)) 4096 0) (Array.Array (Referent.rtF (Referent.fInt Syntax.w8)) 4096) (λ x. x) 28) List.[])))))))))))))))) (List._++_ t71 (List._++_ t2 t3)); slots = List.[] }
 
 abbrev pub T151 : Row.Cx
 T151 = record
-    { locals = List._++_ (List._∷_ (0, row·0) (List._∷_ (1, row·1) (List._∷_ (2, row·2) (List._∷_ (3, row·3) (List._∷_ (4, row·4) (List._∷_ (5, row·5) (List._∷_ (6, row·6) (List._∷_ (7, row·7) (List._∷_ (8, row·8) (List._∷_ (9, row·9) (List._∷_ (10, row·10) (List._∷_ (11, row·11) (List._∷_ (12, row·12) (List._∷_ (13, Rows'.sc-shr (Rows.arrF (Referent.rtF (Referent.fInt Syntax.w8)) 2048 0) (Array.Array (Referent.rtF (Referent.fInt Syntax.w8)) 2048) (λ x. x) 26) (List._∷_ (14, Rows'.sc-shr (Rows.arrF (Referent.rtF (Referent.fInt Syntax.w16)) 2048 0) (Array.Array (Referent.rtF (Referent.fInt Syntax.w16)) 2048) (λ x. x) 27) (List._∷_ (15, Rows'.sc-shr (Rows.arrF (Referent.rtF (Referent.fInt Syntax.w8)) 2048 0) (Array.Array (Referent.rtF (Referent.fInt Syntax.w8)) 2048) (λ x. x) 28) List.[])))))))))))))))) (List._++_ t71 (List._++_ t2 t3)); slots = List.[] }
+    { locals = List._++_ (List._∷_ (0, row·0) (List._∷_ (1, row·1) (List._∷_ (2, row·2) (List._∷_ (3, row·3) (List._∷_ (4, row·4) (List._∷_ (5, row·5) (List._∷_ (6, row·6) (List._∷_ (7, row·7) (List._∷_ (8, row·8) (List._∷_ (9, row·9) (List._∷_ (10, row·10) (List._∷_ (11, row·11) (List._∷_ (12, row·12) (List._∷_ (13, Rows'.sc-shr (Rows.arrF (Referent.rtF (Referent.fInt Syntax.w8)) 4096 0) (Array.Array (Referent.rtF (Referent.fInt Syntax.w8)) 4096) (λ x. x) 26) (List._∷_ (14, Rows'.sc-shr (Rows.arrF (Referent.rtF (Referent.fInt Syntax.w16)) 4096 0) (Array.Array (Referent.rtF (Referent.fInt Syntax.w16)) 4096) (λ x. x) 27) (List._∷_ (15, Rows'.sc-shr (Rows.arrF (Referent.rtF (Referent.fInt Syntax.w8)) 4096 0) (Array.Array (Referent.rtF (Referent.fInt Syntax.w8)) 4096) (λ x. x) 28) List.[])))))))))))))))) (List._++_ t71 (List._++_ t2 t3)); slots = List.[] }
 
 abbrev pub T153 : Row.Cx
 T153 = record
-    { locals = List._++_ (List._∷_ (0, row·0) (List._∷_ (1, row·1) (List._∷_ (2, row·2) (List._∷_ (3, row·3) (List._∷_ (4, row·4) (List._∷_ (5, row·5) (List._∷_ (6, row·6) (List._∷_ (7, row·7) (List._∷_ (8, row·8) (List._∷_ (9, row·9) (List._∷_ (10, row·10) (List._∷_ (11, row·11) (List._∷_ (12, row·12) (List._∷_ (13, row·34) (List._∷_ (14, Rows'.sc-shr (Rows.arrF (Referent.rtF (Referent.fInt Syntax.w16)) 2048 0) (Array.Array (Referent.rtF (Referent.fInt Syntax.w16)) 2048) (λ x. x) 27) (List._∷_ (15, Rows'.sc-shr (Rows.arrF (Referent.rtF (Referent.fInt Syntax.w8)) 2048 0) (Array.Array (Referent.rtF (Referent.fInt Syntax.w8)) 2048) (λ x. x) 28) List.[])))))))))))))))) (List._++_ t71 (List._++_ t2 t3)); slots = List.[] }
+    { locals = List._++_ (List._∷_ (0, row·0) (List._∷_ (1, row·1) (List._∷_ (2, row·2) (List._∷_ (3, row·3) (List._∷_ (4, row·4) (List._∷_ (5, row·5) (List._∷_ (6, row·6) (List._∷_ (7, row·7) (List._∷_ (8, row·8) (List._∷_ (9, row·9) (List._∷_ (10, row·10) (List._∷_ (11, row·11) (List._∷_ (12, row·12) (List._∷_ (13, row·34) (List._∷_ (14, Rows'.sc-shr (Rows.arrF (Referent.rtF (Referent.fInt Syntax.w16)) 4096 0) (Array.Array (Referent.rtF (Referent.fInt Syntax.w16)) 4096) (λ x. x) 27) (List._∷_ (15, Rows'.sc-shr (Rows.arrF (Referent.rtF (Referent.fInt Syntax.w8)) 4096 0) (Array.Array (Referent.rtF (Referent.fInt Syntax.w8)) 4096) (λ x. x) 28) List.[])))))))))))))))) (List._++_ t71 (List._++_ t2 t3)); slots = List.[] }
 
 abbrev pub T155 : Row.Cx
 T155 = record
-    { locals = List._++_ (List._∷_ (0, row·0) (List._∷_ (1, row·1) (List._∷_ (2, row·2) (List._∷_ (3, row·3) (List._∷_ (4, row·4) (List._∷_ (5, row·5) (List._∷_ (6, row·6) (List._∷_ (7, row·7) (List._∷_ (8, row·8) (List._∷_ (9, row·9) (List._∷_ (10, row·10) (List._∷_ (11, row·11) (List._∷_ (12, row·12) (List._∷_ (13, row·11) (List._∷_ (14, Rows'.sc-shr (Rows.arrF (Referent.rtF (Referent.fInt Syntax.w16)) 2048 0) (Array.Array (Referent.rtF (Referent.fInt Syntax.w16)) 2048) (λ x. x) 27) (List._∷_ (15, Rows'.sc-shr (Rows.arrF (Referent.rtF (Referent.fInt Syntax.w8)) 2048 0) (Array.Array (Referent.rtF (Referent.fInt Syntax.w8)) 2048) (λ x. x) 28) List.[])))))))))))))))) (List._++_ t71 (List._++_ t2 t3)); slots = List.[] }
+    { locals = List._++_ (List._∷_ (0, row·0) (List._∷_ (1, row·1) (List._∷_ (2, row·2) (List._∷_ (3, row·3) (List._∷_ (4, row·4) (List._∷_ (5, row·5) (List._∷_ (6, row·6) (List._∷_ (7, row·7) (List._∷_ (8, row·8) (List._∷_ (9, row·9) (List._∷_ (10, row·10) (List._∷_ (11, row·11) (List._∷_ (12, row·12) (List._∷_ (13, row·11) (List._∷_ (14, Rows'.sc-shr (Rows.arrF (Referent.rtF (Referent.fInt Syntax.w16)) 4096 0) (Array.Array (Referent.rtF (Referent.fInt Syntax.w16)) 4096) (λ x. x) 27) (List._∷_ (15, Rows'.sc-shr (Rows.arrF (Referent.rtF (Referent.fInt Syntax.w8)) 4096 0) (Array.Array (Referent.rtF (Referent.fInt Syntax.w8)) 4096) (λ x. x) 28) List.[])))))))))))))))) (List._++_ t71 (List._++_ t2 t3)); slots = List.[] }
 
 abbrev pub T157 : Row.Cx
 T157 = record
-    { locals = List._++_ (List._∷_ (0, row·0) (List._∷_ (1, row·1) (List._∷_ (2, row·2) (List._∷_ (3, row·3) (List._∷_ (4, row·4) (List._∷_ (5, row·5) (List._∷_ (6, row·6) (List._∷_ (7, row·7) (List._∷_ (8, row·8) (List._∷_ (9, row·9) (List._∷_ (10, row·10) (List._∷_ (11, row·11) (List._∷_ (12, row·12) (List._∷_ (13, row·11) (List._∷_ (14, row·36) (List._∷_ (15, Rows'.sc-shr (Rows.arrF (Referent.rtF (Referent.fInt Syntax.w8)) 2048 0) (Array.Array (Referent.rtF (Referent.fInt Syntax.w8)) 2048) (λ x. x) 28) List.[])))))))))))))))) (List._++_ t71 (List._++_ t2 t3)); slots = List.[] }
+    { locals = List._++_ (List._∷_ (0, row·0) (List._∷_ (1, row·1) (List._∷_ (2, row·2) (List._∷_ (3, row·3) (List._∷_ (4, row·4) (List._∷_ (5, row·5) (List._∷_ (6, row·6) (List._∷_ (7, row·7) (List._∷_ (8, row·8) (List._∷_ (9, row·9) (List._∷_ (10, row·10) (List._∷_ (11, row·11) (List._∷_ (12, row·12) (List._∷_ (13, row·11) (List._∷_ (14, row·36) (List._∷_ (15, Rows'.sc-shr (Rows.arrF (Referent.rtF (Referent.fInt Syntax.w8)) 4096 0) (Array.Array (Referent.rtF (Referent.fInt Syntax.w8)) 4096) (λ x. x) 28) List.[])))))))))))))))) (List._++_ t71 (List._++_ t2 t3)); slots = List.[] }
 
 abbrev pub T159 : Row.Cx
 T159 = record
-    { locals = List._++_ (List._∷_ (0, row·0) (List._∷_ (1, row·1) (List._∷_ (2, row·2) (List._∷_ (3, row·3) (List._∷_ (4, row·4) (List._∷_ (5, row·5) (List._∷_ (6, row·6) (List._∷_ (7, row·7) (List._∷_ (8, row·8) (List._∷_ (9, row·9) (List._∷_ (10, row·10) (List._∷_ (11, row·11) (List._∷_ (12, row·12) (List._∷_ (13, row·11) (List._∷_ (14, row·12) (List._∷_ (15, Rows'.sc-shr (Rows.arrF (Referent.rtF (Referent.fInt Syntax.w8)) 2048 0) (Array.Array (Referent.rtF (Referent.fInt Syntax.w8)) 2048) (λ x. x) 28) List.[])))))))))))))))) (List._++_ t71 (List._++_ t2 t3)); slots = List.[] }
+    { locals = List._++_ (List._∷_ (0, row·0) (List._∷_ (1, row·1) (List._∷_ (2, row·2) (List._∷_ (3, row·3) (List._∷_ (4, row·4) (List._∷_ (5, row·5) (List._∷_ (6, row·6) (List._∷_ (7, row·7) (List._∷_ (8, row·8) (List._∷_ (9, row·9) (List._∷_ (10, row·10) (List._∷_ (11, row·11) (List._∷_ (12, row·12) (List._∷_ (13, row·11) (List._∷_ (14, row·12) (List._∷_ (15, Rows'.sc-shr (Rows.arrF (Referent.rtF (Referent.fInt Syntax.w8)) 4096 0) (Array.Array (Referent.rtF (Referent.fInt Syntax.w8)) 4096) (λ x. x) 28) List.[])))))))))))))))) (List._++_ t71 (List._++_ t2 t3)); slots = List.[] }
 
 abbrev pub T161 : Row.Cx
 T161 = record
@@ -1419,34 +1419,34 @@ module _ (claims· : Claims) where
   s16 = λ bs. Scalar.n-room T14 17 Syntax.tyBool
 
   abbrev s17 : (bs : List.List Nat.ℕ) → Typed.Mo T0 → Typed.Mo T20
-  s17 = λ bs. Repeat.n-repeat (Referent.rtF (Referent.fInt Syntax.w8)) 2048 T0 11 λ m. 0
+  s17 = λ bs. Repeat.n-repeat (Referent.rtF (Referent.fInt Syntax.w8)) 4096 T0 11 λ m. 0
 
   abbrev s18 : (bs : List.List Nat.ℕ) → Typed.Mo T20 → Typed.Mo T21
-  s18 = λ bs. AtSlots.n-as-by T20 11 (Rows.arrF (Referent.rtF (Referent.fInt Syntax.w8)) 2048 0) λ x. x
+  s18 = λ bs. AtSlots.n-as-by T20 11 (Rows.arrF (Referent.rtF (Referent.fInt Syntax.w8)) 4096 0) λ x. x
 
   abbrev s19 : (bs : List.List Nat.ℕ) → Typed.Mo T21 → Typed.Mo T22
-  s19 = λ bs. Repeat.n-repeat (Referent.rtF (Referent.fInt Syntax.w16)) 2048 T21 12 λ m. 0
+  s19 = λ bs. Repeat.n-repeat (Referent.rtF (Referent.fInt Syntax.w16)) 4096 T21 12 λ m. 0
 
   abbrev s20 : (bs : List.List Nat.ℕ) → Typed.Mo T22 → Typed.Mo T23
-  s20 = λ bs. AtSlots.n-as-by T22 12 (Rows.arrF (Referent.rtF (Referent.fInt Syntax.w16)) 2048 0) λ x. x
+  s20 = λ bs. AtSlots.n-as-by T22 12 (Rows.arrF (Referent.rtF (Referent.fInt Syntax.w16)) 4096 0) λ x. x
 
   abbrev s21 : (bs : List.List Nat.ℕ) → Typed.Mo T23 → Typed.Mo T24
-  s21 = λ bs. Repeat.n-repeat (Referent.rtF (Referent.fInt Syntax.w8)) 2048 T23 13 λ m. 0
+  s21 = λ bs. Repeat.n-repeat (Referent.rtF (Referent.fInt Syntax.w8)) 4096 T23 13 λ m. 0
 
   abbrev s22 : (bs : List.List Nat.ℕ) → Typed.Mo T24 → Typed.Mo T25
-  s22 = λ bs. AtSlots.n-as-by T24 13 (Rows.arrF (Referent.rtF (Referent.fInt Syntax.w8)) 2048 0) λ x. x
+  s22 = λ bs. AtSlots.n-as-by T24 13 (Rows.arrF (Referent.rtF (Referent.fInt Syntax.w8)) 4096 0) λ x. x
 
   abbrev s23 : (bs : List.List Nat.ℕ) → Typed.Mo T25 → Typed.Mo T26
-  s23 = λ bs. Repeat.n-repeat (Referent.rtF (Referent.fInt Syntax.w16)) 2048 T25 14 λ m. 0
+  s23 = λ bs. Repeat.n-repeat (Referent.rtF (Referent.fInt Syntax.w16)) 4096 T25 14 λ m. 0
 
   abbrev s24 : (bs : List.List Nat.ℕ) → Typed.Mo T26 → Typed.Mo T27
-  s24 = λ bs. AtSlots.n-as-by T26 14 (Rows.arrF (Referent.rtF (Referent.fInt Syntax.w16)) 2048 0) λ x. x
+  s24 = λ bs. AtSlots.n-as-by T26 14 (Rows.arrF (Referent.rtF (Referent.fInt Syntax.w16)) 4096 0) λ x. x
 
   abbrev s25 : (bs : List.List Nat.ℕ) → Typed.Mo T27 → Typed.Mo T28
-  s25 = λ bs. Repeat.n-repeat (Referent.rtF (Referent.fInt Syntax.w8)) 2048 T27 15 λ m. 0
+  s25 = λ bs. Repeat.n-repeat (Referent.rtF (Referent.fInt Syntax.w8)) 4096 T27 15 λ m. 0
 
   abbrev s26 : (bs : List.List Nat.ℕ) → Typed.Mo T28 → Typed.Mo T29
-  s26 = λ bs. AtSlots.n-as-by T28 15 (Rows.arrF (Referent.rtF (Referent.fInt Syntax.w8)) 2048 0) λ x. x
+  s26 = λ bs. AtSlots.n-as-by T28 15 (Rows.arrF (Referent.rtF (Referent.fInt Syntax.w8)) 4096 0) λ x. x
 
   abbrev s28 : (bs : List.List Nat.ℕ) → Typed.Gives T29 T31
   s28 = λ bs. Relend.k-sl-relend (Referent.rtF (Referent.fInt Syntax.w16)) T29 2 20 1 10 ty·10 ty·5 Row.off λ x. x
@@ -1497,34 +1497,34 @@ module _ (claims· : Claims) where
   s50 = λ bs. Relend.k-sl-aggregate (Referent.rtF (Referent.fInt Syntax.w8)) (Relend.asMut (Referent.rtF (Referent.fInt Syntax.w8))) T52 34 35 17 ty·4 ty·4 (λ x. x) (Scalar.oFld 9 (List._∷_ (Syntax.field 1) List.[]) (Syntax.tyInt Syntax.w64) 8 λ v. Shared.lenV (v .0))
 
   abbrev s52 : (bs : List.List Nat.ℕ) → Typed.Gives T53 T55
-  s52 = λ bs. Borrow.k-arr-borrow (Referent.rtF (Referent.fInt Syntax.w8)) T53 (Row.hd 0 (Row.tl (Row.tl (Row.tl (Row.tl (Row.tl (Row.tl (Row.tl (Row.tl (Row.tl (Row.tl (Row.tl bs)))))))))))) 11 36 2048 18 (Syntax.tyRef Syntax.erased Syntax.mut ty·0) λ x. x
+  s52 = λ bs. Borrow.k-arr-borrow (Referent.rtF (Referent.fInt Syntax.w8)) T53 (Row.hd 0 (Row.tl (Row.tl (Row.tl (Row.tl (Row.tl (Row.tl (Row.tl (Row.tl (Row.tl (Row.tl (Row.tl bs)))))))))))) 11 36 4096 18 (Syntax.tyRef Syntax.erased Syntax.mut ty·0) λ x. x
 
   abbrev s53 : (bs : List.List Nat.ℕ) → Typed.Asks T55 T56
-  s53 = λ bs. Relend.k-sl-aggregate (Referent.rtF (Referent.fInt Syntax.w8)) (Relend.asMut (Referent.rtF (Referent.fInt Syntax.w8))) T55 36 37 18 (Syntax.tyRef Syntax.erased Syntax.mut ty·0) ty·4 (λ x. x) (Scalar.oBig Syntax.w64 2048)
+  s53 = λ bs. Relend.k-sl-aggregate (Referent.rtF (Referent.fInt Syntax.w8)) (Relend.asMut (Referent.rtF (Referent.fInt Syntax.w8))) T55 36 37 18 (Syntax.tyRef Syntax.erased Syntax.mut ty·0) ty·4 (λ x. x) (Scalar.oBig Syntax.w64 4096)
 
   abbrev s55 : (bs : List.List Nat.ℕ) → Typed.Gives T56 T58
-  s55 = λ bs. Borrow.k-arr-borrow (Referent.rtF (Referent.fInt Syntax.w16)) T56 (Row.hd 0 (Row.tl (Row.tl (Row.tl (Row.tl (Row.tl (Row.tl (Row.tl (Row.tl (Row.tl (Row.tl (Row.tl (Row.tl bs))))))))))))) 12 38 2048 19 (Syntax.tyRef Syntax.erased Syntax.mut ty·1) λ x. x
+  s55 = λ bs. Borrow.k-arr-borrow (Referent.rtF (Referent.fInt Syntax.w16)) T56 (Row.hd 0 (Row.tl (Row.tl (Row.tl (Row.tl (Row.tl (Row.tl (Row.tl (Row.tl (Row.tl (Row.tl (Row.tl (Row.tl bs))))))))))))) 12 38 4096 19 (Syntax.tyRef Syntax.erased Syntax.mut ty·1) λ x. x
 
   abbrev s56 : (bs : List.List Nat.ℕ) → Typed.Asks T58 T59
-  s56 = λ bs. Relend.k-sl-aggregate (Referent.rtF (Referent.fInt Syntax.w16)) (Relend.asMut (Referent.rtF (Referent.fInt Syntax.w16))) T58 38 39 19 (Syntax.tyRef Syntax.erased Syntax.mut ty·1) ty·5 (λ x. x) (Scalar.oBig Syntax.w64 2048)
+  s56 = λ bs. Relend.k-sl-aggregate (Referent.rtF (Referent.fInt Syntax.w16)) (Relend.asMut (Referent.rtF (Referent.fInt Syntax.w16))) T58 38 39 19 (Syntax.tyRef Syntax.erased Syntax.mut ty·1) ty·5 (λ x. x) (Scalar.oBig Syntax.w64 4096)
 
   abbrev s58 : (bs : List.List Nat.ℕ) → Typed.Gives T59 T61
-  s58 = λ bs. Borrow.k-arr-borrow (Referent.rtF (Referent.fInt Syntax.w8)) T59 (Row.hd 0 (Row.tl (Row.tl (Row.tl (Row.tl (Row.tl (Row.tl (Row.tl (Row.tl (Row.tl (Row.tl (Row.tl (Row.tl (Row.tl bs)))))))))))))) 13 40 2048 20 (Syntax.tyRef Syntax.erased Syntax.mut ty·0) λ x. x
+  s58 = λ bs. Borrow.k-arr-borrow (Referent.rtF (Referent.fInt Syntax.w8)) T59 (Row.hd 0 (Row.tl (Row.tl (Row.tl (Row.tl (Row.tl (Row.tl (Row.tl (Row.tl (Row.tl (Row.tl (Row.tl (Row.tl (Row.tl bs)))))))))))))) 13 40 4096 20 (Syntax.tyRef Syntax.erased Syntax.mut ty·0) λ x. x
 
   abbrev s59 : (bs : List.List Nat.ℕ) → Typed.Asks T61 T62
-  s59 = λ bs. Relend.k-sl-aggregate (Referent.rtF (Referent.fInt Syntax.w8)) (Relend.asMut (Referent.rtF (Referent.fInt Syntax.w8))) T61 40 41 20 (Syntax.tyRef Syntax.erased Syntax.mut ty·0) ty·4 (λ x. x) (Scalar.oBig Syntax.w64 2048)
+  s59 = λ bs. Relend.k-sl-aggregate (Referent.rtF (Referent.fInt Syntax.w8)) (Relend.asMut (Referent.rtF (Referent.fInt Syntax.w8))) T61 40 41 20 (Syntax.tyRef Syntax.erased Syntax.mut ty·0) ty·4 (λ x. x) (Scalar.oBig Syntax.w64 4096)
 
   abbrev s61 : (bs : List.List Nat.ℕ) → Typed.Gives T62 T64
-  s61 = λ bs. Borrow.k-arr-borrow (Referent.rtF (Referent.fInt Syntax.w16)) T62 (Row.hd 0 (Row.tl (Row.tl (Row.tl (Row.tl (Row.tl (Row.tl (Row.tl (Row.tl (Row.tl (Row.tl (Row.tl (Row.tl (Row.tl (Row.tl bs))))))))))))))) 14 42 2048 21 (Syntax.tyRef Syntax.erased Syntax.mut ty·1) λ x. x
+  s61 = λ bs. Borrow.k-arr-borrow (Referent.rtF (Referent.fInt Syntax.w16)) T62 (Row.hd 0 (Row.tl (Row.tl (Row.tl (Row.tl (Row.tl (Row.tl (Row.tl (Row.tl (Row.tl (Row.tl (Row.tl (Row.tl (Row.tl (Row.tl bs))))))))))))))) 14 42 4096 21 (Syntax.tyRef Syntax.erased Syntax.mut ty·1) λ x. x
 
   abbrev s62 : (bs : List.List Nat.ℕ) → Typed.Asks T64 T65
-  s62 = λ bs. Relend.k-sl-aggregate (Referent.rtF (Referent.fInt Syntax.w16)) (Relend.asMut (Referent.rtF (Referent.fInt Syntax.w16))) T64 42 43 21 (Syntax.tyRef Syntax.erased Syntax.mut ty·1) ty·5 (λ x. x) (Scalar.oBig Syntax.w64 2048)
+  s62 = λ bs. Relend.k-sl-aggregate (Referent.rtF (Referent.fInt Syntax.w16)) (Relend.asMut (Referent.rtF (Referent.fInt Syntax.w16))) T64 42 43 21 (Syntax.tyRef Syntax.erased Syntax.mut ty·1) ty·5 (λ x. x) (Scalar.oBig Syntax.w64 4096)
 
   abbrev s64 : (bs : List.List Nat.ℕ) → Typed.Gives T65 T67
-  s64 = λ bs. Borrow.k-arr-borrow (Referent.rtF (Referent.fInt Syntax.w8)) T65 (Row.hd 0 (Row.tl (Row.tl (Row.tl (Row.tl (Row.tl (Row.tl (Row.tl (Row.tl (Row.tl (Row.tl (Row.tl (Row.tl (Row.tl (Row.tl (Row.tl bs)))))))))))))))) 15 44 2048 22 (Syntax.tyRef Syntax.erased Syntax.mut ty·0) λ x. x
+  s64 = λ bs. Borrow.k-arr-borrow (Referent.rtF (Referent.fInt Syntax.w8)) T65 (Row.hd 0 (Row.tl (Row.tl (Row.tl (Row.tl (Row.tl (Row.tl (Row.tl (Row.tl (Row.tl (Row.tl (Row.tl (Row.tl (Row.tl (Row.tl (Row.tl bs)))))))))))))))) 15 44 4096 22 (Syntax.tyRef Syntax.erased Syntax.mut ty·0) λ x. x
 
   abbrev s65 : (bs : List.List Nat.ℕ) → Typed.Asks T67 T68
-  s65 = λ bs. Relend.k-sl-aggregate (Referent.rtF (Referent.fInt Syntax.w8)) (Relend.asMut (Referent.rtF (Referent.fInt Syntax.w8))) T67 44 45 22 (Syntax.tyRef Syntax.erased Syntax.mut ty·0) ty·4 (λ x. x) (Scalar.oBig Syntax.w64 2048)
+  s65 = λ bs. Relend.k-sl-aggregate (Referent.rtF (Referent.fInt Syntax.w8)) (Relend.asMut (Referent.rtF (Referent.fInt Syntax.w8))) T67 44 45 22 (Syntax.tyRef Syntax.erased Syntax.mut ty·0) ty·4 (λ x. x) (Scalar.oBig Syntax.w64 4096)
 
   abbrev s66 : (bs : List.List Nat.ℕ) → Typed.Both T68 T69
   s66 = λ bs. Call.callB ps·1 r·1 (claims· .2) (claims· .3) T68 args·0 16 (List._∷_ 0 (List._∷_ 10 (List._∷_ 11 (List._∷_ 12 (List._∷_ 13 (List._∷_ 14 (List._∷_ 15 (List._∷_ 16 (List._∷_ 17 (List._∷_ 18 (List._∷_ 19 (List._∷_ 20 (List._∷_ 21 (List._∷_ 22 List.[])))))))))))))) (Syntax.tyEnum (List._∷_ 114 (List._∷_ 101 (List._∷_ 97 (List._∷_ 100 (List._∷_ 105
@@ -1583,19 +1583,19 @@ module _ (claims· : Claims) where
   s97 = λ bs. Know.k-sl-known (Referent.fInt Syntax.w8) T99 9 8 ty·9 Row.off 0 λ x. x
 
   abbrev s100 : (bs : List.List Nat.ℕ) → Typed.Both T99 T103
-  s100 = λ bs. Borrow.k-back-arr (Referent.rtF (Referent.fInt Syntax.w8)) T99 37 11 18 2048 ty·4 (λ x. x) λ x. x
+  s100 = λ bs. Borrow.k-back-arr (Referent.rtF (Referent.fInt Syntax.w8)) T99 37 11 18 4096 ty·4 (λ x. x) λ x. x
 
   abbrev s103 : (bs : List.List Nat.ℕ) → Typed.Both T103 T106
-  s103 = λ bs. Borrow.k-back-arr (Referent.rtF (Referent.fInt Syntax.w16)) T103 39 12 19 2048 ty·5 (λ x. x) λ x. x
+  s103 = λ bs. Borrow.k-back-arr (Referent.rtF (Referent.fInt Syntax.w16)) T103 39 12 19 4096 ty·5 (λ x. x) λ x. x
 
   abbrev s106 : (bs : List.List Nat.ℕ) → Typed.Both T106 T109
-  s106 = λ bs. Borrow.k-back-arr (Referent.rtF (Referent.fInt Syntax.w8)) T106 41 13 20 2048 ty·4 (λ x. x) λ x. x
+  s106 = λ bs. Borrow.k-back-arr (Referent.rtF (Referent.fInt Syntax.w8)) T106 41 13 20 4096 ty·4 (λ x. x) λ x. x
 
   abbrev s109 : (bs : List.List Nat.ℕ) → Typed.Both T109 T112
-  s109 = λ bs. Borrow.k-back-arr (Referent.rtF (Referent.fInt Syntax.w16)) T109 43 14 21 2048 ty·5 (λ x. x) λ x. x
+  s109 = λ bs. Borrow.k-back-arr (Referent.rtF (Referent.fInt Syntax.w16)) T109 43 14 21 4096 ty·5 (λ x. x) λ x. x
 
   abbrev s112 : (bs : List.List Nat.ℕ) → Typed.Both T112 T115
-  s112 = λ bs. Borrow.k-back-arr (Referent.rtF (Referent.fInt Syntax.w8)) T112 45 15 22 2048 ty·4 (λ x. x) λ x. x
+  s112 = λ bs. Borrow.k-back-arr (Referent.rtF (Referent.fInt Syntax.w8)) T112 45 15 22 4096 ty·4 (λ x. x) λ x. x
 
   abbrev s115 : (bs : List.List Nat.ℕ) → Typed.Gives T115 T118
   s115 = λ bs. Relend.k-sl-relend Rec.rt T115 10 47 9 23 ty·3 ty·2 Row.off λ x. x
@@ -1613,19 +1613,19 @@ module _ (claims· : Claims) where
   s119 = λ bs. Scalar.n-room T121 18 (Syntax.tyInt Syntax.w64)
 
   abbrev s121 : (bs : List.List Nat.ℕ) → Typed.Gives T122 T124
-  s121 = λ bs. Local.k-sc-share T122 11 50 24 (Array.Array (Referent.rtF (Referent.fInt Syntax.w8)) 2048) (Syntax.tyRef Syntax.erased Syntax.imm ty·0) λ x. x
+  s121 = λ bs. Local.k-sc-share T122 11 50 24 (Array.Array (Referent.rtF (Referent.fInt Syntax.w8)) 4096) (Syntax.tyRef Syntax.erased Syntax.imm ty·0) λ x. x
 
   abbrev s123 : (bs : List.List Nat.ℕ) → Typed.Gives T124 T126
-  s123 = λ bs. Local.k-sc-share T124 12 51 25 (Array.Array (Referent.rtF (Referent.fInt Syntax.w16)) 2048) (Syntax.tyRef Syntax.erased Syntax.imm ty·1) λ x. x
+  s123 = λ bs. Local.k-sc-share T124 12 51 25 (Array.Array (Referent.rtF (Referent.fInt Syntax.w16)) 4096) (Syntax.tyRef Syntax.erased Syntax.imm ty·1) λ x. x
 
   abbrev s125 : (bs : List.List Nat.ℕ) → Typed.Gives T126 T128
-  s125 = λ bs. Local.k-sc-share T126 13 52 26 (Array.Array (Referent.rtF (Referent.fInt Syntax.w8)) 2048) (Syntax.tyRef Syntax.erased Syntax.imm ty·0) λ x. x
+  s125 = λ bs. Local.k-sc-share T126 13 52 26 (Array.Array (Referent.rtF (Referent.fInt Syntax.w8)) 4096) (Syntax.tyRef Syntax.erased Syntax.imm ty·0) λ x. x
 
   abbrev s127 : (bs : List.List Nat.ℕ) → Typed.Gives T128 T130
-  s127 = λ bs. Local.k-sc-share T128 14 53 27 (Array.Array (Referent.rtF (Referent.fInt Syntax.w16)) 2048) (Syntax.tyRef Syntax.erased Syntax.imm ty·1) λ x. x
+  s127 = λ bs. Local.k-sc-share T128 14 53 27 (Array.Array (Referent.rtF (Referent.fInt Syntax.w16)) 4096) (Syntax.tyRef Syntax.erased Syntax.imm ty·1) λ x. x
 
   abbrev s129 : (bs : List.List Nat.ℕ) → Typed.Gives T130 T132
-  s129 = λ bs. Local.k-sc-share T130 15 54 28 (Array.Array (Referent.rtF (Referent.fInt Syntax.w8)) 2048) (Syntax.tyRef Syntax.erased Syntax.imm ty·0) λ x. x
+  s129 = λ bs. Local.k-sc-share T130 15 54 28 (Array.Array (Referent.rtF (Referent.fInt Syntax.w8)) 4096) (Syntax.tyRef Syntax.erased Syntax.imm ty·0) λ x. x
 
   abbrev s130 : (bs : List.List Nat.ℕ) → Typed.Both T132 T133
   s130 = λ bs. Call.callB ps·3 r·3 (claims· .6) (claims· .7) T132 args·2 46 (List._∷_ 23 (List._∷_ 24 (List._∷_ 25 (List._∷_ 26 (List._∷_ 27 (List._∷_ 28 List.[])))))) Syntax.tyUnit
@@ -1655,31 +1655,31 @@ module _ (claims· : Claims) where
   s139 = λ bs. Relend.k-back-sl Rec.rt T140 48 10 9 23 ty·3 ty·2 Row.off (λ x. x) λ x. x
 
   abbrev s142 : (bs : List.List Nat.ℕ) → Typed.Mo T142 → Typed.Mo T145
-  s142 = λ bs. Local.n-back-shr T142 11 24 (Rows.arrF (Referent.rtF (Referent.fInt Syntax.w8)) 2048 0) λ x. x
+  s142 = λ bs. Local.n-back-shr T142 11 24 (Rows.arrF (Referent.rtF (Referent.fInt Syntax.w8)) 4096 0) λ x. x
 
   abbrev s144 : (bs : List.List Nat.ℕ) → Typed.Mo T145 → Typed.Mo T147
   s144 = λ bs. Scalar.n-room T145 11 ty·0
 
   abbrev s146 : (bs : List.List Nat.ℕ) → Typed.Mo T147 → Typed.Mo T149
-  s146 = λ bs. Local.n-back-shr T147 12 25 (Rows.arrF (Referent.rtF (Referent.fInt Syntax.w16)) 2048 0) λ x. x
+  s146 = λ bs. Local.n-back-shr T147 12 25 (Rows.arrF (Referent.rtF (Referent.fInt Syntax.w16)) 4096 0) λ x. x
 
   abbrev s148 : (bs : List.List Nat.ℕ) → Typed.Mo T149 → Typed.Mo T151
   s148 = λ bs. Scalar.n-room T149 12 ty·1
 
   abbrev s150 : (bs : List.List Nat.ℕ) → Typed.Mo T151 → Typed.Mo T153
-  s150 = λ bs. Local.n-back-shr T151 13 26 (Rows.arrF (Referent.rtF (Referent.fInt Syntax.w8)) 2048 0) λ x. x
+  s150 = λ bs. Local.n-back-shr T151 13 26 (Rows.arrF (Referent.rtF (Referent.fInt Syntax.w8)) 4096 0) λ x. x
 
   abbrev s152 : (bs : List.List Nat.ℕ) → Typed.Mo T153 → Typed.Mo T155
   s152 = λ bs. Scalar.n-room T153 13 ty·0
 
   abbrev s154 : (bs : List.List Nat.ℕ) → Typed.Mo T155 → Typed.Mo T157
-  s154 = λ bs. Local.n-back-shr T155 14 27 (Rows.arrF (Referent.rtF (Referent.fInt Syntax.w16)) 2048 0) λ x. x
+  s154 = λ bs. Local.n-back-shr T155 14 27 (Rows.arrF (Referent.rtF (Referent.fInt Syntax.w16)) 4096 0) λ x. x
 
   abbrev s156 : (bs : List.List Nat.ℕ) → Typed.Mo T157 → Typed.Mo T159
   s156 = λ bs. Scalar.n-room T157 14 ty·1
 
   abbrev s158 : (bs : List.List Nat.ℕ) → Typed.Mo T159 → Typed.Mo T161
-  s158 = λ bs. Local.n-back-shr T159 15 28 (Rows.arrF (Referent.rtF (Referent.fInt Syntax.w8)) 2048 0) λ x. x
+  s158 = λ bs. Local.n-back-shr T159 15 28 (Rows.arrF (Referent.rtF (Referent.fInt Syntax.w8)) 4096 0) λ x. x
 
   abbrev s160 : (bs : List.List Nat.ℕ) → Typed.Mo T161 → Typed.Mo T163
   s160 = λ bs. Scalar.n-room T161 15 ty·0
@@ -2219,32 +2219,32 @@ module _ (claims· : Claims) where
             (0, Rows'.any-gone (Syntax.tyEnum (List._∷_ 114 (List._∷_ 101 (List._∷_ 97 (List._∷_ 100 (List._∷_ 105 (List._∷_ 110 (List._∷_ 103 (List._∷_ 58 (List._∷_ 58 (List._∷_ 114 (List._∷_ 101 (List._∷_ 112 (List._∷_ 108 (List._∷_ 105 (List._∷_ 101 (List._∷_ 115 (List._∷_ 58 (List._∷_ 58 (List._∷_ 82 (List._∷_ 101 (List._∷_ 97 (List._∷_ 100 (List._∷_ 105 (List._∷_ 110 (List._∷_ 103 List.[]))))))))))))))))))))))))) (Syntax.ttcons Syntax.tnil (Syntax.ttcons (Syntax.tcons (Syntax.tyEnum (List._∷_ 114 (List._∷_ 101 (List._∷_ 97 (List._∷_ 100 (List._∷_ 105 (List._∷_ 110 (List._∷_ 103 (List._∷_ 58 (List._∷_ 58 (List._∷_ 114 (List._∷_ 101 (List._∷_ 112 (List._∷_ 108 (List._∷_ 105 (List._∷_ 101 (List._∷_ 115 (List._∷_ 58 (List._∷_ 58 (List._∷_ 82 (List._∷_ 101 (List._∷_ 102 (List._∷_ 117 (List._∷_ 115 (List._∷_ 97 (List._∷_ 108 List.[]))))))))))))))))))))))))) (Syntax.ttcons Syntax.tnil (Syntax.ttcons (Syntax.tcons (Syntax.tyInt Syntax.w64) Syntax.tnil) (Syntax.ttcons (Syntax.tcons (Syntax.tyInt Syntax.w64) Syntax.tnil) (Syntax.ttcons (Syntax.tcons (Syntax.tyInt Syntax.w64) Syntax.tnil) (Syntax.ttcons (Syntax.tcons (Syntax.tyInt Syntax.w64) Syntax.tnil) (Syntax.ttcons (Syntax.tcons (Syntax.tyInt Syntax.w64) Syntax.tnil) (Syntax.ttcons (Syntax.tcons (Syntax.tyInt Syntax.w64) Syntax.tnil) (Syntax.ttcons (Syntax.tcons ty·16 Syntax.tnil) (Syntax.ttcons (Syntax.tcons ty·16 Syntax.tnil) (Syntax.ttcons (Syntax.tcons ty·16 Syntax.tnil) (Syntax.ttcons (Syntax.tcons ty·16 (Syntax.tcons ty·16 Syntax.tnil)) (Syntax.ttcons Syntax.tnil Syntax.ttnil))))))))))))) Syntax.tnil) Syntax.ttnil))))
             (List._∷_ (1, Rows'.sslice (Referent.rtF (Referent.fInt Syntax.w8)) ty·7 0) (List._∷_ (2, Relend.mslice-owed (Referent.rtF (Referent.fInt Syntax.w16)) ty·10 1 10 (Row.lease (κs .1 .0) (qs .1 .0))) (List._∷_ (3, Mut.mslice (Referent.rtF (Referent.fInt Syntax.w16)) ty·11 2) (List._∷_ (4, Mut.mslice (Referent.rtF (Referent.fInt Syntax.w8)) ty·8 3)
             (List._∷_ (5, Mut.mslice (Referent.rtF (Referent.fInt Syntax.w16)) ty·12 4) (List._∷_ (6, Mut.mslice (Referent.rtF (Referent.fInt Syntax.w16)) ty·13 5) (List._∷_ (7, Mut.mslice (Referent.rtF (Referent.fInt Syntax.w32)) ty·14 6) (List._∷_ (8, Mut.mslice (Referent.rtF (Referent.fInt Syntax.w16)) ty·15 7) (List._∷_
-            (9, Mut.mslice (Referent.rtF (Referent.fInt Syntax.w8)) ty·9 8) (List._∷_ (10, Mut.mslice Rec.rt ty·3 9) (List._∷_ (11, Rows.arrF (Referent.rtF (Referent.fInt Syntax.w8)) 2048 0) (List._∷_ (12, Rows.arrF (Referent.rtF (Referent.fInt Syntax.w16)) 2048 0) (List._∷_ (13, Rows.arrF (Referent.rtF (Referent.fInt Syntax.w8)) 2048 0) (List._∷_
-            (14, Rows.arrF (Referent.rtF (Referent.fInt Syntax.w16)) 2048 0) (List._∷_ (15, Rows.arrF (Referent.rtF (Referent.fInt Syntax.w8)) 2048 0) List.[])))))))))))))))
+            (9, Mut.mslice (Referent.rtF (Referent.fInt Syntax.w8)) ty·9 8) (List._∷_ (10, Mut.mslice Rec.rt ty·3 9) (List._∷_ (11, Rows.arrF (Referent.rtF (Referent.fInt Syntax.w8)) 4096 0) (List._∷_ (12, Rows.arrF (Referent.rtF (Referent.fInt Syntax.w16)) 4096 0) (List._∷_ (13, Rows.arrF (Referent.rtF (Referent.fInt Syntax.w8)) 4096 0) (List._∷_
+            (14, Rows.arrF (Referent.rtF (Referent.fInt Syntax.w16)) 4096 0) (List._∷_ (15, Rows.arrF (Referent.rtF (Referent.fInt Syntax.w8)) 4096 0) List.[])))))))))))))))
 
         abbrev g22 : List.List Row.Entry
         g22 = List._∷_
             (0, Rows'.any-gone (Syntax.tyEnum (List._∷_ 114 (List._∷_ 101 (List._∷_ 97 (List._∷_ 100 (List._∷_ 105 (List._∷_ 110 (List._∷_ 103 (List._∷_ 58 (List._∷_ 58 (List._∷_ 114 (List._∷_ 101 (List._∷_ 112 (List._∷_ 108 (List._∷_ 105 (List._∷_ 101 (List._∷_ 115 (List._∷_ 58 (List._∷_ 58 (List._∷_ 82 (List._∷_ 101 (List._∷_ 97 (List._∷_ 100 (List._∷_ 105 (List._∷_ 110 (List._∷_ 103 List.[]))))))))))))))))))))))))) (Syntax.ttcons Syntax.tnil (Syntax.ttcons (Syntax.tcons (Syntax.tyEnum (List._∷_ 114 (List._∷_ 101 (List._∷_ 97 (List._∷_ 100 (List._∷_ 105 (List._∷_ 110 (List._∷_ 103 (List._∷_ 58 (List._∷_ 58 (List._∷_ 114 (List._∷_ 101 (List._∷_ 112 (List._∷_ 108 (List._∷_ 105 (List._∷_ 101 (List._∷_ 115 (List._∷_ 58 (List._∷_ 58 (List._∷_ 82 (List._∷_ 101 (List._∷_ 102 (List._∷_ 117 (List._∷_ 115 (List._∷_ 97 (List._∷_ 108 List.[]))))))))))))))))))))))))) (Syntax.ttcons Syntax.tnil (Syntax.ttcons (Syntax.tcons (Syntax.tyInt Syntax.w64) Syntax.tnil) (Syntax.ttcons (Syntax.tcons (Syntax.tyInt Syntax.w64) Syntax.tnil) (Syntax.ttcons (Syntax.tcons (Syntax.tyInt Syntax.w64) Syntax.tnil) (Syntax.ttcons (Syntax.tcons (Syntax.tyInt Syntax.w64) Syntax.tnil) (Syntax.ttcons (Syntax.tcons (Syntax.tyInt Syntax.w64) Syntax.tnil) (Syntax.ttcons (Syntax.tcons (Syntax.tyInt Syntax.w64) Syntax.tnil) (Syntax.ttcons (Syntax.tcons ty·16 Syntax.tnil) (Syntax.ttcons (Syntax.tcons ty·16 Syntax.tnil) (Syntax.ttcons (Syntax.tcons ty·16 Syntax.tnil) (Syntax.ttcons (Syntax.tcons ty·16 (Syntax.tcons ty·16 Syntax.tnil)) (Syntax.ttcons Syntax.tnil Syntax.ttnil))))))))))))) Syntax.tnil) Syntax.ttnil))))
             (List._∷_ (1, Rows'.sslice (Referent.rtF (Referent.fInt Syntax.w8)) ty·7 0) (List._∷_ (2, Relend.mslice-owed (Referent.rtF (Referent.fInt Syntax.w16)) ty·10 1 10 (Row.lease (κs .1 .0) (qs .1 .0))) (List._∷_ (3, Relend.mslice-owed (Referent.rtF (Referent.fInt Syntax.w16)) ty·11 2 11 (Row.lease (κs .1 .1 .0) (qs .1 .1 .0))) (List._∷_
             (4, Mut.mslice (Referent.rtF (Referent.fInt Syntax.w8)) ty·8 3) (List._∷_ (5, Mut.mslice (Referent.rtF (Referent.fInt Syntax.w16)) ty·12 4) (List._∷_ (6, Mut.mslice (Referent.rtF (Referent.fInt Syntax.w16)) ty·13 5) (List._∷_ (7, Mut.mslice (Referent.rtF (Referent.fInt Syntax.w32)) ty·14 6) (List._∷_
-            (8, Mut.mslice (Referent.rtF (Referent.fInt Syntax.w16)) ty·15 7) (List._∷_ (9, Mut.mslice (Referent.rtF (Referent.fInt Syntax.w8)) ty·9 8) (List._∷_ (10, Mut.mslice Rec.rt ty·3 9) (List._∷_ (11, Rows.arrF (Referent.rtF (Referent.fInt Syntax.w8)) 2048 0) (List._∷_ (12, Rows.arrF (Referent.rtF (Referent.fInt Syntax.w16)) 2048 0) (List._∷_
-            (13, Rows.arrF (Referent.rtF (Referent.fInt Syntax.w8)) 2048 0) (List._∷_ (14, Rows.arrF (Referent.rtF (Referent.fInt Syntax.w16)) 2048 0) (List._∷_ (15, Rows.arrF (Referent.rtF (Referent.fInt Syntax.w8)) 2048 0) List.[])))))))))))))))
+            (8, Mut.mslice (Referent.rtF (Referent.fInt Syntax.w16)) ty·15 7) (List._∷_ (9, Mut.mslice (Referent.rtF (Referent.fInt Syntax.w8)) ty·9 8) (List._∷_ (10, Mut.mslice Rec.rt ty·3 9) (List._∷_ (11, Rows.arrF (Referent.rtF (Referent.fInt Syntax.w8)) 4096 0) (List._∷_ (12, Rows.arrF (Referent.rtF (Referent.fInt Syntax.w16)) 4096 0) (List._∷_
+            (13, Rows.arrF (Referent.rtF (Referent.fInt Syntax.w8)) 4096 0) (List._∷_ (14, Rows.arrF (Referent.rtF (Referent.fInt Syntax.w16)) 4096 0) (List._∷_ (15, Rows.arrF (Referent.rtF (Referent.fInt Syntax.w8)) 4096 0) List.[])))))))))))))))
 
         abbrev g25 : List.List Row.Entry
         g25 = List._∷_
             (0, Rows'.any-gone (Syntax.tyEnum (List._∷_ 114 (List._∷_ 101 (List._∷_ 97 (List._∷_ 100 (List._∷_ 105 (List._∷_ 110 (List._∷_ 103 (List._∷_ 58 (List._∷_ 58 (List._∷_ 114 (List._∷_ 101 (List._∷_ 112 (List._∷_ 108 (List._∷_ 105 (List._∷_ 101 (List._∷_ 115 (List._∷_ 58 (List._∷_ 58 (List._∷_ 82 (List._∷_ 101 (List._∷_ 97 (List._∷_ 100 (List._∷_ 105 (List._∷_ 110 (List._∷_ 103 List.[]))))))))))))))))))))))))) (Syntax.ttcons Syntax.tnil (Syntax.ttcons (Syntax.tcons (Syntax.tyEnum (List._∷_ 114 (List._∷_ 101 (List._∷_ 97 (List._∷_ 100 (List._∷_ 105 (List._∷_ 110 (List._∷_ 103 (List._∷_ 58 (List._∷_ 58 (List._∷_ 114 (List._∷_ 101 (List._∷_ 112 (List._∷_ 108 (List._∷_ 105 (List._∷_ 101 (List._∷_ 115 (List._∷_ 58 (List._∷_ 58 (List._∷_ 82 (List._∷_ 101 (List._∷_ 102 (List._∷_ 117 (List._∷_ 115 (List._∷_ 97 (List._∷_ 108 List.[]))))))))))))))))))))))))) (Syntax.ttcons Syntax.tnil (Syntax.ttcons (Syntax.tcons (Syntax.tyInt Syntax.w64) Syntax.tnil) (Syntax.ttcons (Syntax.tcons (Syntax.tyInt Syntax.w64) Syntax.tnil) (Syntax.ttcons (Syntax.tcons (Syntax.tyInt Syntax.w64) Syntax.tnil) (Syntax.ttcons (Syntax.tcons (Syntax.tyInt Syntax.w64) Syntax.tnil) (Syntax.ttcons (Syntax.tcons (Syntax.tyInt Syntax.w64) Syntax.tnil) (Syntax.ttcons (Syntax.tcons (Syntax.tyInt Syntax.w64) Syntax.tnil) (Syntax.ttcons (Syntax.tcons ty·16 Syntax.tnil) (Syntax.ttcons (Syntax.tcons ty·16 Syntax.tnil) (Syntax.ttcons (Syntax.tcons ty·16 Syntax.tnil) (Syntax.ttcons (Syntax.tcons ty·16 (Syntax.tcons ty·16 Syntax.tnil)) (Syntax.ttcons Syntax.tnil Syntax.ttnil))))))))))))) Syntax.tnil) Syntax.ttnil))))
             (List._∷_ (1, Rows'.sslice (Referent.rtF (Referent.fInt Syntax.w8)) ty·7 0) (List._∷_ (2, Relend.mslice-owed (Referent.rtF (Referent.fInt Syntax.w16)) ty·10 1 10 (Row.lease (κs .1 .0) (qs .1 .0))) (List._∷_ (3, Relend.mslice-owed (Referent.rtF (Referent.fInt Syntax.w16)) ty·11 2 11 (Row.lease (κs .1 .1 .0) (qs .1 .1 .0))) (List._∷_
             (4, Relend.mslice-owed (Referent.rtF (Referent.fInt Syntax.w8)) ty·8 3 12 (Row.lease (κs .1 .1 .1 .0) (qs .1 .1 .1 .0))) (List._∷_ (5, Mut.mslice (Referent.rtF (Referent.fInt Syntax.w16)) ty·12 4) (List._∷_ (6, Mut.mslice (Referent.rtF (Referent.fInt Syntax.w16)) ty·13 5) (List._∷_ (7, Mut.mslice (Referent.rtF (Referent.fInt Syntax.w32)) ty·14 6)
-            (List._∷_ (8, Mut.mslice (Referent.rtF (Referent.fInt Syntax.w16)) ty·15 7) (List._∷_ (9, Mut.mslice (Referent.rtF (Referent.fInt Syntax.w8)) ty·9 8) (List._∷_ (10, Mut.mslice Rec.rt ty·3 9) (List._∷_ (11, Rows.arrF (Referent.rtF (Referent.fInt Syntax.w8)) 2048 0) (List._∷_ (12, Rows.arrF (Referent.rtF (Referent.fInt Syntax.w16)) 2048 0) (List._∷_
-            (13, Rows.arrF (Referent.rtF (Referent.fInt Syntax.w8)) 2048 0) (List._∷_ (14, Rows.arrF (Referent.rtF (Referent.fInt Syntax.w16)) 2048 0) (List._∷_ (15, Rows.arrF (Referent.rtF (Referent.fInt Syntax.w8)) 2048 0) List.[])))))))))))))))
+            (List._∷_ (8, Mut.mslice (Referent.rtF (Referent.fInt Syntax.w16)) ty·15 7) (List._∷_ (9, Mut.mslice (Referent.rtF (Referent.fInt Syntax.w8)) ty·9 8) (List._∷_ (10, Mut.mslice Rec.rt ty·3 9) (List._∷_ (11, Rows.arrF (Referent.rtF (Referent.fInt Syntax.w8)) 4096 0) (List._∷_ (12, Rows.arrF (Referent.rtF (Referent.fInt Syntax.w16)) 4096 0) (List._∷_
+            (13, Rows.arrF (Referent.rtF (Referent.fInt Syntax.w8)) 4096 0) (List._∷_ (14, Rows.arrF (Referent.rtF (Referent.fInt Syntax.w16)) 4096 0) (List._∷_ (15, Rows.arrF (Referent.rtF (Referent.fInt Syntax.w8)) 4096 0) List.[])))))))))))))))
 
         abbrev g28 : List.List Row.Entry
         g28 = List._∷_
             (0, Rows'.any-gone (Syntax.tyEnum (List._∷_ 114 (List._∷_ 101 (List._∷_ 97 (List._∷_ 100 (List._∷_ 105 (List._∷_ 110 (List._∷_ 103 (List._∷_ 58 (List._∷_ 58 (List._∷_ 114 (List._∷_ 101 (List._∷_ 112 (List._∷_ 108 (List._∷_ 105 (List._∷_ 101 (List._∷_ 115 (List._∷_ 58 (List._∷_ 58 (List._∷_ 82 (List._∷_ 101 (List._∷_ 97 (List._∷_ 100 (List._∷_ 105 (List._∷_ 110 (List._∷_ 103 List.[]))))))))))))))))))))))))) (Syntax.ttcons Syntax.tnil (Syntax.ttcons (Syntax.tcons (Syntax.tyEnum (List._∷_ 114 (List._∷_ 101 (List._∷_ 97 (List._∷_ 100 (List._∷_ 105 (List._∷_ 110 (List._∷_ 103 (List._∷_ 58 (List._∷_ 58 (List._∷_ 114 (List._∷_ 101 (List._∷_ 112 (List._∷_ 108 (List._∷_ 105 (List._∷_ 101 (List._∷_ 115 (List._∷_ 58 (List._∷_ 58 (List._∷_ 82 (List._∷_ 101 (List._∷_ 102 (List._∷_ 117 (List._∷_ 115 (List._∷_ 97 (List._∷_ 108 List.[]))))))))))))))))))))))))) (Syntax.ttcons Syntax.tnil (Syntax.ttcons (Syntax.tcons (Syntax.tyInt Syntax.w64) Syntax.tnil) (Syntax.ttcons (Syntax.tcons (Syntax.tyInt Syntax.w64) Syntax.tnil) (Syntax.ttcons (Syntax.tcons (Syntax.tyInt Syntax.w64) Syntax.tnil) (Syntax.ttcons (Syntax.tcons (Syntax.tyInt Syntax.w64) Syntax.tnil) (Syntax.ttcons (Syntax.tcons (Syntax.tyInt Syntax.w64) Syntax.tnil) (Syntax.ttcons (Syntax.tcons (Syntax.tyInt Syntax.w64) Syntax.tnil) (Syntax.ttcons (Syntax.tcons ty·16 Syntax.tnil) (Syntax.ttcons (Syntax.tcons ty·16 Syntax.tnil) (Syntax.ttcons (Syntax.tcons ty·16 Syntax.tnil) (Syntax.ttcons (Syntax.tcons ty·16 (Syntax.tcons ty·16 Syntax.tnil)) (Syntax.ttcons Syntax.tnil Syntax.ttnil))))))))))))) Syntax.tnil) Syntax.ttnil))))
             (List._∷_ (1, Rows'.sslice (Referent.rtF (Referent.fInt Syntax.w8)) ty·7 0) (List._∷_ (2, Relend.mslice-owed (Referent.rtF (Referent.fInt Syntax.w16)) ty·10 1 10 (Row.lease (κs .1 .0) (qs .1 .0))) (List._∷_ (3, Relend.mslice-owed (Referent.rtF (Referent.fInt Syntax.w16)) ty·11 2 11 (Row.lease (κs .1 .1 .0) (qs .1 .1 .0))) (List._∷_
             (4, Relend.mslice-owed (Referent.rtF (Referent.fInt Syntax.w8)) ty·8 3 12 (Row.lease (κs .1 .1 .1 .0) (qs .1 .1 .1 .0))) (List._∷_ (5, Relend.mslice-owed (Referent.rtF (Referent.fInt Syntax.w16)) ty·12 4 13 (Row.lease (κs .1 .1 .1 .1 .0) (qs .1 .1 .1 .1 .0))) (List._∷_ (6, Mut.mslice (Referent.rtF (Referent.fInt Syntax.w16)) ty·13 5) (List._∷_
-            (7, Mut.mslice (Referent.rtF (Referent.fInt Syntax.w32)) ty·14 6) (List._∷_ (8, Mut.mslice (Referent.rtF (Referent.fInt Syntax.w16)) ty·15 7) (List._∷_ (9, Mut.mslice (Referent.rtF (Referent.fInt Syntax.w8)) ty·9 8) (List._∷_ (10, Mut.mslice Rec.rt ty·3 9) (List._∷_ (11, Rows.arrF (Referent.rtF (Referent.fInt Syntax.w8)) 2048 0) (List._∷_
-            (12, Rows.arrF (Referent.rtF (Referent.fInt Syntax.w16)) 2048 0) (List._∷_ (13, Rows.arrF (Referent.rtF (Referent.fInt Syntax.w8)) 2048 0) (List._∷_ (14, Rows.arrF (Referent.rtF (Referent.fInt Syntax.w16)) 2048 0) (List._∷_ (15, Rows.arrF (Referent.rtF (Referent.fInt Syntax.w8)) 2048 0) List.[])))))))))))))))
+            (7, Mut.mslice (Referent.rtF (Referent.fInt Syntax.w32)) ty·14 6) (List._∷_ (8, Mut.mslice (Referent.rtF (Referent.fInt Syntax.w16)) ty·15 7) (List._∷_ (9, Mut.mslice (Referent.rtF (Referent.fInt Syntax.w8)) ty·9 8) (List._∷_ (10, Mut.mslice Rec.rt ty·3 9) (List._∷_ (11, Rows.arrF (Referent.rtF (Referent.fInt Syntax.w8)) 4096 0) (List._∷_
+            (12, Rows.arrF (Referent.rtF (Referent.fInt Syntax.w16)) 4096 0) (List._∷_ (13, Rows.arrF (Referent.rtF (Referent.fInt Syntax.w8)) 4096 0) (List._∷_ (14, Rows.arrF (Referent.rtF (Referent.fInt Syntax.w16)) 4096 0) (List._∷_ (15, Rows.arrF (Referent.rtF (Referent.fInt Syntax.w8)) 4096 0) List.[])))))))))))))))
 
         abbrev g31 : List.List Row.Entry
         g31 = List._∷_
@@ -2252,8 +2252,8 @@ module _ (claims· : Claims) where
             (List._∷_ (1, Rows'.sslice (Referent.rtF (Referent.fInt Syntax.w8)) ty·7 0) (List._∷_ (2, Relend.mslice-owed (Referent.rtF (Referent.fInt Syntax.w16)) ty·10 1 10 (Row.lease (κs .1 .0) (qs .1 .0))) (List._∷_ (3, Relend.mslice-owed (Referent.rtF (Referent.fInt Syntax.w16)) ty·11 2 11 (Row.lease (κs .1 .1 .0) (qs .1 .1 .0))) (List._∷_
             (4, Relend.mslice-owed (Referent.rtF (Referent.fInt Syntax.w8)) ty·8 3 12 (Row.lease (κs .1 .1 .1 .0) (qs .1 .1 .1 .0))) (List._∷_ (5, Relend.mslice-owed (Referent.rtF (Referent.fInt Syntax.w16)) ty·12 4 13 (Row.lease (κs .1 .1 .1 .1 .0) (qs .1 .1 .1 .1 .0))) (List._∷_
             (6, Relend.mslice-owed (Referent.rtF (Referent.fInt Syntax.w16)) ty·13 5 14 (Row.lease (κs .1 .1 .1 .1 .1 .0) (qs .1 .1 .1 .1 .1 .0))) (List._∷_ (7, Mut.mslice (Referent.rtF (Referent.fInt Syntax.w32)) ty·14 6) (List._∷_ (8, Mut.mslice (Referent.rtF (Referent.fInt Syntax.w16)) ty·15 7) (List._∷_
-            (9, Mut.mslice (Referent.rtF (Referent.fInt Syntax.w8)) ty·9 8) (List._∷_ (10, Mut.mslice Rec.rt ty·3 9) (List._∷_ (11, Rows.arrF (Referent.rtF (Referent.fInt Syntax.w8)) 2048 0) (List._∷_ (12, Rows.arrF (Referent.rtF (Referent.fInt Syntax.w16)) 2048 0) (List._∷_ (13, Rows.arrF (Referent.rtF (Referent.fInt Syntax.w8)) 2048 0) (List._∷_
-            (14, Rows.arrF (Referent.rtF (Referent.fInt Syntax.w16)) 2048 0) (List._∷_ (15, Rows.arrF (Referent.rtF (Referent.fInt Syntax.w8)) 2048 0) List.[])))))))))))))))
+            (9, Mut.mslice (Referent.rtF (Referent.fInt Syntax.w8)) ty·9 8) (List._∷_ (10, Mut.mslice Rec.rt ty·3 9) (List._∷_ (11, Rows.arrF (Referent.rtF (Referent.fInt Syntax.w8)) 4096 0) (List._∷_ (12, Rows.arrF (Referent.rtF (Referent.fInt Syntax.w16)) 4096 0) (List._∷_ (13, Rows.arrF (Referent.rtF (Referent.fInt Syntax.w8)) 4096 0) (List._∷_
+            (14, Rows.arrF (Referent.rtF (Referent.fInt Syntax.w16)) 4096 0) (List._∷_ (15, Rows.arrF (Referent.rtF (Referent.fInt Syntax.w8)) 4096 0) List.[])))))))))))))))
 
         abbrev g34 : List.List Row.Entry
         g34 = List._∷_
@@ -2261,8 +2261,8 @@ module _ (claims· : Claims) where
             (List._∷_ (1, Rows'.sslice (Referent.rtF (Referent.fInt Syntax.w8)) ty·7 0) (List._∷_ (2, Relend.mslice-owed (Referent.rtF (Referent.fInt Syntax.w16)) ty·10 1 10 (Row.lease (κs .1 .0) (qs .1 .0))) (List._∷_ (3, Relend.mslice-owed (Referent.rtF (Referent.fInt Syntax.w16)) ty·11 2 11 (Row.lease (κs .1 .1 .0) (qs .1 .1 .0))) (List._∷_
             (4, Relend.mslice-owed (Referent.rtF (Referent.fInt Syntax.w8)) ty·8 3 12 (Row.lease (κs .1 .1 .1 .0) (qs .1 .1 .1 .0))) (List._∷_ (5, Relend.mslice-owed (Referent.rtF (Referent.fInt Syntax.w16)) ty·12 4 13 (Row.lease (κs .1 .1 .1 .1 .0) (qs .1 .1 .1 .1 .0))) (List._∷_
             (6, Relend.mslice-owed (Referent.rtF (Referent.fInt Syntax.w16)) ty·13 5 14 (Row.lease (κs .1 .1 .1 .1 .1 .0) (qs .1 .1 .1 .1 .1 .0))) (List._∷_ (7, Relend.mslice-owed (Referent.rtF (Referent.fInt Syntax.w32)) ty·14 6 15 (Row.lease (κs .1 .1 .1 .1 .1 .1 .0) (qs .1 .1 .1 .1 .1 .1 .0))) (List._∷_
-            (8, Mut.mslice (Referent.rtF (Referent.fInt Syntax.w16)) ty·15 7) (List._∷_ (9, Mut.mslice (Referent.rtF (Referent.fInt Syntax.w8)) ty·9 8) (List._∷_ (10, Mut.mslice Rec.rt ty·3 9) (List._∷_ (11, Rows.arrF (Referent.rtF (Referent.fInt Syntax.w8)) 2048 0) (List._∷_ (12, Rows.arrF (Referent.rtF (Referent.fInt Syntax.w16)) 2048 0) (List._∷_
-            (13, Rows.arrF (Referent.rtF (Referent.fInt Syntax.w8)) 2048 0) (List._∷_ (14, Rows.arrF (Referent.rtF (Referent.fInt Syntax.w16)) 2048 0) (List._∷_ (15, Rows.arrF (Referent.rtF (Referent.fInt Syntax.w8)) 2048 0) List.[])))))))))))))))
+            (8, Mut.mslice (Referent.rtF (Referent.fInt Syntax.w16)) ty·15 7) (List._∷_ (9, Mut.mslice (Referent.rtF (Referent.fInt Syntax.w8)) ty·9 8) (List._∷_ (10, Mut.mslice Rec.rt ty·3 9) (List._∷_ (11, Rows.arrF (Referent.rtF (Referent.fInt Syntax.w8)) 4096 0) (List._∷_ (12, Rows.arrF (Referent.rtF (Referent.fInt Syntax.w16)) 4096 0) (List._∷_
+            (13, Rows.arrF (Referent.rtF (Referent.fInt Syntax.w8)) 4096 0) (List._∷_ (14, Rows.arrF (Referent.rtF (Referent.fInt Syntax.w16)) 4096 0) (List._∷_ (15, Rows.arrF (Referent.rtF (Referent.fInt Syntax.w8)) 4096 0) List.[])))))))))))))))
 
         abbrev g37 : List.List Row.Entry
         g37 = List._∷_
@@ -2270,8 +2270,8 @@ module _ (claims· : Claims) where
             (List._∷_ (1, Rows'.sslice (Referent.rtF (Referent.fInt Syntax.w8)) ty·7 0) (List._∷_ (2, Relend.mslice-owed (Referent.rtF (Referent.fInt Syntax.w16)) ty·10 1 10 (Row.lease (κs .1 .0) (qs .1 .0))) (List._∷_ (3, Relend.mslice-owed (Referent.rtF (Referent.fInt Syntax.w16)) ty·11 2 11 (Row.lease (κs .1 .1 .0) (qs .1 .1 .0))) (List._∷_
             (4, Relend.mslice-owed (Referent.rtF (Referent.fInt Syntax.w8)) ty·8 3 12 (Row.lease (κs .1 .1 .1 .0) (qs .1 .1 .1 .0))) (List._∷_ (5, Relend.mslice-owed (Referent.rtF (Referent.fInt Syntax.w16)) ty·12 4 13 (Row.lease (κs .1 .1 .1 .1 .0) (qs .1 .1 .1 .1 .0))) (List._∷_
             (6, Relend.mslice-owed (Referent.rtF (Referent.fInt Syntax.w16)) ty·13 5 14 (Row.lease (κs .1 .1 .1 .1 .1 .0) (qs .1 .1 .1 .1 .1 .0))) (List._∷_ (7, Relend.mslice-owed (Referent.rtF (Referent.fInt Syntax.w32)) ty·14 6 15 (Row.lease (κs .1 .1 .1 .1 .1 .1 .0) (qs .1 .1 .1 .1 .1 .1 .0))) (List._∷_
-            (8, Relend.mslice-owed (Referent.rtF (Referent.fInt Syntax.w16)) ty·15 7 16 (Row.lease (κs .1 .1 .1 .1 .1 .1 .1 .0) (qs .1 .1 .1 .1 .1 .1 .1 .0))) (List._∷_ (9, Mut.mslice (Referent.rtF (Referent.fInt Syntax.w8)) ty·9 8) (List._∷_ (10, Mut.mslice Rec.rt ty·3 9) (List._∷_ (11, Rows.arrF (Referent.rtF (Referent.fInt Syntax.w8)) 2048 0) (List._∷_
-            (12, Rows.arrF (Referent.rtF (Referent.fInt Syntax.w16)) 2048 0) (List._∷_ (13, Rows.arrF (Referent.rtF (Referent.fInt Syntax.w8)) 2048 0) (List._∷_ (14, Rows.arrF (Referent.rtF (Referent.fInt Syntax.w16)) 2048 0) (List._∷_ (15, Rows.arrF (Referent.rtF (Referent.fInt Syntax.w8)) 2048 0) List.[])))))))))))))))
+            (8, Relend.mslice-owed (Referent.rtF (Referent.fInt Syntax.w16)) ty·15 7 16 (Row.lease (κs .1 .1 .1 .1 .1 .1 .1 .0) (qs .1 .1 .1 .1 .1 .1 .1 .0))) (List._∷_ (9, Mut.mslice (Referent.rtF (Referent.fInt Syntax.w8)) ty·9 8) (List._∷_ (10, Mut.mslice Rec.rt ty·3 9) (List._∷_ (11, Rows.arrF (Referent.rtF (Referent.fInt Syntax.w8)) 4096 0) (List._∷_
+            (12, Rows.arrF (Referent.rtF (Referent.fInt Syntax.w16)) 4096 0) (List._∷_ (13, Rows.arrF (Referent.rtF (Referent.fInt Syntax.w8)) 4096 0) (List._∷_ (14, Rows.arrF (Referent.rtF (Referent.fInt Syntax.w16)) 4096 0) (List._∷_ (15, Rows.arrF (Referent.rtF (Referent.fInt Syntax.w8)) 4096 0) List.[])))))))))))))))
 
         abbrev g40 : List.List Row.Entry
         g40 = List._∷_
@@ -2280,8 +2280,8 @@ module _ (claims· : Claims) where
             (4, Relend.mslice-owed (Referent.rtF (Referent.fInt Syntax.w8)) ty·8 3 12 (Row.lease (κs .1 .1 .1 .0) (qs .1 .1 .1 .0))) (List._∷_ (5, Relend.mslice-owed (Referent.rtF (Referent.fInt Syntax.w16)) ty·12 4 13 (Row.lease (κs .1 .1 .1 .1 .0) (qs .1 .1 .1 .1 .0))) (List._∷_
             (6, Relend.mslice-owed (Referent.rtF (Referent.fInt Syntax.w16)) ty·13 5 14 (Row.lease (κs .1 .1 .1 .1 .1 .0) (qs .1 .1 .1 .1 .1 .0))) (List._∷_ (7, Relend.mslice-owed (Referent.rtF (Referent.fInt Syntax.w32)) ty·14 6 15 (Row.lease (κs .1 .1 .1 .1 .1 .1 .0) (qs .1 .1 .1 .1 .1 .1 .0))) (List._∷_
             (8, Relend.mslice-owed (Referent.rtF (Referent.fInt Syntax.w16)) ty·15 7 16 (Row.lease (κs .1 .1 .1 .1 .1 .1 .1 .0) (qs .1 .1 .1 .1 .1 .1 .1 .0))) (List._∷_ (9, Relend.mslice-owed (Referent.rtF (Referent.fInt Syntax.w8)) ty·9 8 17 (Row.lease (κs .1 .1 .1 .1 .1 .1 .1 .1 .0) (qs .1 .1 .1 .1 .1 .1 .1 .1 .0))) (List._∷_ (10, Mut.mslice Rec.rt ty·3 9)
-            (List._∷_ (11, Rows.arrF (Referent.rtF (Referent.fInt Syntax.w8)) 2048 0) (List._∷_ (12, Rows.arrF (Referent.rtF (Referent.fInt Syntax.w16)) 2048 0) (List._∷_ (13, Rows.arrF (Referent.rtF (Referent.fInt Syntax.w8)) 2048 0) (List._∷_ (14, Rows.arrF (Referent.rtF (Referent.fInt Syntax.w16)) 2048 0) (List._∷_
-            (15, Rows.arrF (Referent.rtF (Referent.fInt Syntax.w8)) 2048 0) List.[])))))))))))))))
+            (List._∷_ (11, Rows.arrF (Referent.rtF (Referent.fInt Syntax.w8)) 4096 0) (List._∷_ (12, Rows.arrF (Referent.rtF (Referent.fInt Syntax.w16)) 4096 0) (List._∷_ (13, Rows.arrF (Referent.rtF (Referent.fInt Syntax.w8)) 4096 0) (List._∷_ (14, Rows.arrF (Referent.rtF (Referent.fInt Syntax.w16)) 4096 0) (List._∷_
+            (15, Rows.arrF (Referent.rtF (Referent.fInt Syntax.w8)) 4096 0) List.[])))))))))))))))
 
         abbrev g43 : List.List Row.Entry
         g43 = List._∷_
@@ -2290,8 +2290,8 @@ module _ (claims· : Claims) where
             (4, Relend.mslice-owed (Referent.rtF (Referent.fInt Syntax.w8)) ty·8 3 12 (Row.lease (κs .1 .1 .1 .0) (qs .1 .1 .1 .0))) (List._∷_ (5, Relend.mslice-owed (Referent.rtF (Referent.fInt Syntax.w16)) ty·12 4 13 (Row.lease (κs .1 .1 .1 .1 .0) (qs .1 .1 .1 .1 .0))) (List._∷_
             (6, Relend.mslice-owed (Referent.rtF (Referent.fInt Syntax.w16)) ty·13 5 14 (Row.lease (κs .1 .1 .1 .1 .1 .0) (qs .1 .1 .1 .1 .1 .0))) (List._∷_ (7, Relend.mslice-owed (Referent.rtF (Referent.fInt Syntax.w32)) ty·14 6 15 (Row.lease (κs .1 .1 .1 .1 .1 .1 .0) (qs .1 .1 .1 .1 .1 .1 .0))) (List._∷_
             (8, Relend.mslice-owed (Referent.rtF (Referent.fInt Syntax.w16)) ty·15 7 16 (Row.lease (κs .1 .1 .1 .1 .1 .1 .1 .0) (qs .1 .1 .1 .1 .1 .1 .1 .0))) (List._∷_ (9, Relend.mslice-owed (Referent.rtF (Referent.fInt Syntax.w8)) ty·9 8 17 (Row.lease (κs .1 .1 .1 .1 .1 .1 .1 .1 .0) (qs .1 .1 .1 .1 .1 .1 .1 .1 .0))) (List._∷_ (10, Mut.mslice Rec.rt ty·3 9)
-            (List._∷_ (11, Rows.arr-owed (Referent.rtF (Referent.fInt Syntax.w8)) 2048 18) (List._∷_ (12, Rows.arrF (Referent.rtF (Referent.fInt Syntax.w16)) 2048 0) (List._∷_ (13, Rows.arrF (Referent.rtF (Referent.fInt Syntax.w8)) 2048 0) (List._∷_ (14, Rows.arrF (Referent.rtF (Referent.fInt Syntax.w16)) 2048 0) (List._∷_
-            (15, Rows.arrF (Referent.rtF (Referent.fInt Syntax.w8)) 2048 0) List.[])))))))))))))))
+            (List._∷_ (11, Rows.arr-owed (Referent.rtF (Referent.fInt Syntax.w8)) 4096 18) (List._∷_ (12, Rows.arrF (Referent.rtF (Referent.fInt Syntax.w16)) 4096 0) (List._∷_ (13, Rows.arrF (Referent.rtF (Referent.fInt Syntax.w8)) 4096 0) (List._∷_ (14, Rows.arrF (Referent.rtF (Referent.fInt Syntax.w16)) 4096 0) (List._∷_
+            (15, Rows.arrF (Referent.rtF (Referent.fInt Syntax.w8)) 4096 0) List.[])))))))))))))))
 
         abbrev g46 : List.List Row.Entry
         g46 = List._∷_
@@ -2300,8 +2300,8 @@ module _ (claims· : Claims) where
             (4, Relend.mslice-owed (Referent.rtF (Referent.fInt Syntax.w8)) ty·8 3 12 (Row.lease (κs .1 .1 .1 .0) (qs .1 .1 .1 .0))) (List._∷_ (5, Relend.mslice-owed (Referent.rtF (Referent.fInt Syntax.w16)) ty·12 4 13 (Row.lease (κs .1 .1 .1 .1 .0) (qs .1 .1 .1 .1 .0))) (List._∷_
             (6, Relend.mslice-owed (Referent.rtF (Referent.fInt Syntax.w16)) ty·13 5 14 (Row.lease (κs .1 .1 .1 .1 .1 .0) (qs .1 .1 .1 .1 .1 .0))) (List._∷_ (7, Relend.mslice-owed (Referent.rtF (Referent.fInt Syntax.w32)) ty·14 6 15 (Row.lease (κs .1 .1 .1 .1 .1 .1 .0) (qs .1 .1 .1 .1 .1 .1 .0))) (List._∷_
             (8, Relend.mslice-owed (Referent.rtF (Referent.fInt Syntax.w16)) ty·15 7 16 (Row.lease (κs .1 .1 .1 .1 .1 .1 .1 .0) (qs .1 .1 .1 .1 .1 .1 .1 .0))) (List._∷_ (9, Relend.mslice-owed (Referent.rtF (Referent.fInt Syntax.w8)) ty·9 8 17 (Row.lease (κs .1 .1 .1 .1 .1 .1 .1 .1 .0) (qs .1 .1 .1 .1 .1 .1 .1 .1 .0))) (List._∷_ (10, Mut.mslice Rec.rt ty·3 9)
-            (List._∷_ (11, Rows.arr-owed (Referent.rtF (Referent.fInt Syntax.w8)) 2048 18) (List._∷_ (12, Rows.arr-owed (Referent.rtF (Referent.fInt Syntax.w16)) 2048 19) (List._∷_ (13, Rows.arrF (Referent.rtF (Referent.fInt Syntax.w8)) 2048 0) (List._∷_ (14, Rows.arrF (Referent.rtF (Referent.fInt Syntax.w16)) 2048 0) (List._∷_
-            (15, Rows.arrF (Referent.rtF (Referent.fInt Syntax.w8)) 2048 0) List.[])))))))))))))))
+            (List._∷_ (11, Rows.arr-owed (Referent.rtF (Referent.fInt Syntax.w8)) 4096 18) (List._∷_ (12, Rows.arr-owed (Referent.rtF (Referent.fInt Syntax.w16)) 4096 19) (List._∷_ (13, Rows.arrF (Referent.rtF (Referent.fInt Syntax.w8)) 4096 0) (List._∷_ (14, Rows.arrF (Referent.rtF (Referent.fInt Syntax.w16)) 4096 0) (List._∷_
+            (15, Rows.arrF (Referent.rtF (Referent.fInt Syntax.w8)) 4096 0) List.[])))))))))))))))
 
         abbrev g49 : List.List Row.Entry
         g49 = List._∷_
@@ -2310,8 +2310,8 @@ module _ (claims· : Claims) where
             (4, Relend.mslice-owed (Referent.rtF (Referent.fInt Syntax.w8)) ty·8 3 12 (Row.lease (κs .1 .1 .1 .0) (qs .1 .1 .1 .0))) (List._∷_ (5, Relend.mslice-owed (Referent.rtF (Referent.fInt Syntax.w16)) ty·12 4 13 (Row.lease (κs .1 .1 .1 .1 .0) (qs .1 .1 .1 .1 .0))) (List._∷_
             (6, Relend.mslice-owed (Referent.rtF (Referent.fInt Syntax.w16)) ty·13 5 14 (Row.lease (κs .1 .1 .1 .1 .1 .0) (qs .1 .1 .1 .1 .1 .0))) (List._∷_ (7, Relend.mslice-owed (Referent.rtF (Referent.fInt Syntax.w32)) ty·14 6 15 (Row.lease (κs .1 .1 .1 .1 .1 .1 .0) (qs .1 .1 .1 .1 .1 .1 .0))) (List._∷_
             (8, Relend.mslice-owed (Referent.rtF (Referent.fInt Syntax.w16)) ty·15 7 16 (Row.lease (κs .1 .1 .1 .1 .1 .1 .1 .0) (qs .1 .1 .1 .1 .1 .1 .1 .0))) (List._∷_ (9, Relend.mslice-owed (Referent.rtF (Referent.fInt Syntax.w8)) ty·9 8 17 (Row.lease (κs .1 .1 .1 .1 .1 .1 .1 .1 .0) (qs .1 .1 .1 .1 .1 .1 .1 .1 .0))) (List._∷_ (10, Mut.mslice Rec.rt ty·3 9)
-            (List._∷_ (11, Rows.arr-owed (Referent.rtF (Referent.fInt Syntax.w8)) 2048 18) (List._∷_ (12, Rows.arr-owed (Referent.rtF (Referent.fInt Syntax.w16)) 2048 19) (List._∷_ (13, Rows.arr-owed (Referent.rtF (Referent.fInt Syntax.w8)) 2048 20) (List._∷_ (14, Rows.arrF (Referent.rtF (Referent.fInt Syntax.w16)) 2048 0) (List._∷_
-            (15, Rows.arrF (Referent.rtF (Referent.fInt Syntax.w8)) 2048 0) List.[])))))))))))))))
+            (List._∷_ (11, Rows.arr-owed (Referent.rtF (Referent.fInt Syntax.w8)) 4096 18) (List._∷_ (12, Rows.arr-owed (Referent.rtF (Referent.fInt Syntax.w16)) 4096 19) (List._∷_ (13, Rows.arr-owed (Referent.rtF (Referent.fInt Syntax.w8)) 4096 20) (List._∷_ (14, Rows.arrF (Referent.rtF (Referent.fInt Syntax.w16)) 4096 0) (List._∷_
+            (15, Rows.arrF (Referent.rtF (Referent.fInt Syntax.w8)) 4096 0) List.[])))))))))))))))
 
         abbrev g52 : List.List Row.Entry
         g52 = List._∷_
@@ -2320,8 +2320,8 @@ module _ (claims· : Claims) where
             (4, Relend.mslice-owed (Referent.rtF (Referent.fInt Syntax.w8)) ty·8 3 12 (Row.lease (κs .1 .1 .1 .0) (qs .1 .1 .1 .0))) (List._∷_ (5, Relend.mslice-owed (Referent.rtF (Referent.fInt Syntax.w16)) ty·12 4 13 (Row.lease (κs .1 .1 .1 .1 .0) (qs .1 .1 .1 .1 .0))) (List._∷_
             (6, Relend.mslice-owed (Referent.rtF (Referent.fInt Syntax.w16)) ty·13 5 14 (Row.lease (κs .1 .1 .1 .1 .1 .0) (qs .1 .1 .1 .1 .1 .0))) (List._∷_ (7, Relend.mslice-owed (Referent.rtF (Referent.fInt Syntax.w32)) ty·14 6 15 (Row.lease (κs .1 .1 .1 .1 .1 .1 .0) (qs .1 .1 .1 .1 .1 .1 .0))) (List._∷_
             (8, Relend.mslice-owed (Referent.rtF (Referent.fInt Syntax.w16)) ty·15 7 16 (Row.lease (κs .1 .1 .1 .1 .1 .1 .1 .0) (qs .1 .1 .1 .1 .1 .1 .1 .0))) (List._∷_ (9, Relend.mslice-owed (Referent.rtF (Referent.fInt Syntax.w8)) ty·9 8 17 (Row.lease (κs .1 .1 .1 .1 .1 .1 .1 .1 .0) (qs .1 .1 .1 .1 .1 .1 .1 .1 .0))) (List._∷_ (10, Mut.mslice Rec.rt ty·3 9)
-            (List._∷_ (11, Rows.arr-owed (Referent.rtF (Referent.fInt Syntax.w8)) 2048 18) (List._∷_ (12, Rows.arr-owed (Referent.rtF (Referent.fInt Syntax.w16)) 2048 19) (List._∷_ (13, Rows.arr-owed (Referent.rtF (Referent.fInt Syntax.w8)) 2048 20) (List._∷_ (14, Rows.arr-owed (Referent.rtF (Referent.fInt Syntax.w16)) 2048 21) (List._∷_
-            (15, Rows.arrF (Referent.rtF (Referent.fInt Syntax.w8)) 2048 0) List.[])))))))))))))))
+            (List._∷_ (11, Rows.arr-owed (Referent.rtF (Referent.fInt Syntax.w8)) 4096 18) (List._∷_ (12, Rows.arr-owed (Referent.rtF (Referent.fInt Syntax.w16)) 4096 19) (List._∷_ (13, Rows.arr-owed (Referent.rtF (Referent.fInt Syntax.w8)) 4096 20) (List._∷_ (14, Rows.arr-owed (Referent.rtF (Referent.fInt Syntax.w16)) 4096 21) (List._∷_
+            (15, Rows.arrF (Referent.rtF (Referent.fInt Syntax.w8)) 4096 0) List.[])))))))))))))))
 
         abbrev g55 : List.List Row.Entry
         g55 = List._∷_
@@ -2330,8 +2330,8 @@ module _ (claims· : Claims) where
             (4, Relend.mslice-owed (Referent.rtF (Referent.fInt Syntax.w8)) ty·8 3 12 (Row.lease (κs .1 .1 .1 .0) (qs .1 .1 .1 .0))) (List._∷_ (5, Relend.mslice-owed (Referent.rtF (Referent.fInt Syntax.w16)) ty·12 4 13 (Row.lease (κs .1 .1 .1 .1 .0) (qs .1 .1 .1 .1 .0))) (List._∷_
             (6, Relend.mslice-owed (Referent.rtF (Referent.fInt Syntax.w16)) ty·13 5 14 (Row.lease (κs .1 .1 .1 .1 .1 .0) (qs .1 .1 .1 .1 .1 .0))) (List._∷_ (7, Relend.mslice-owed (Referent.rtF (Referent.fInt Syntax.w32)) ty·14 6 15 (Row.lease (κs .1 .1 .1 .1 .1 .1 .0) (qs .1 .1 .1 .1 .1 .1 .0))) (List._∷_
             (8, Relend.mslice-owed (Referent.rtF (Referent.fInt Syntax.w16)) ty·15 7 16 (Row.lease (κs .1 .1 .1 .1 .1 .1 .1 .0) (qs .1 .1 .1 .1 .1 .1 .1 .0))) (List._∷_ (9, Relend.mslice-owed (Referent.rtF (Referent.fInt Syntax.w8)) ty·9 8 17 (Row.lease (κs .1 .1 .1 .1 .1 .1 .1 .1 .0) (qs .1 .1 .1 .1 .1 .1 .1 .1 .0))) (List._∷_ (10, Mut.mslice Rec.rt ty·3 9)
-            (List._∷_ (11, Rows.arr-owed (Referent.rtF (Referent.fInt Syntax.w8)) 2048 18) (List._∷_ (12, Rows.arr-owed (Referent.rtF (Referent.fInt Syntax.w16)) 2048 19) (List._∷_ (13, Rows.arr-owed (Referent.rtF (Referent.fInt Syntax.w8)) 2048 20) (List._∷_ (14, Rows.arr-owed (Referent.rtF (Referent.fInt Syntax.w16)) 2048 21) (List._∷_
-            (15, Rows.arr-owed (Referent.rtF (Referent.fInt Syntax.w8)) 2048 22) List.[])))))))))))))))
+            (List._∷_ (11, Rows.arr-owed (Referent.rtF (Referent.fInt Syntax.w8)) 4096 18) (List._∷_ (12, Rows.arr-owed (Referent.rtF (Referent.fInt Syntax.w16)) 4096 19) (List._∷_ (13, Rows.arr-owed (Referent.rtF (Referent.fInt Syntax.w8)) 4096 20) (List._∷_ (14, Rows.arr-owed (Referent.rtF (Referent.fInt Syntax.w16)) 4096 21) (List._∷_
+            (15, Rows.arr-owed (Referent.rtF (Referent.fInt Syntax.w8)) 4096 22) List.[])))))))))))))))
 
         abbrev g60 : List.List Row.Entry
         g60 = List._∷_
@@ -2340,8 +2340,8 @@ module _ (claims· : Claims) where
             (4, Relend.mslice-owed (Referent.rtF (Referent.fInt Syntax.w8)) ty·8 3 12 (Row.lease (κs .1 .1 .1 .0) (qs .1 .1 .1 .0))) (List._∷_ (5, Relend.mslice-owed (Referent.rtF (Referent.fInt Syntax.w16)) ty·12 4 13 (Row.lease (κs .1 .1 .1 .1 .0) (qs .1 .1 .1 .1 .0))) (List._∷_
             (6, Relend.mslice-owed (Referent.rtF (Referent.fInt Syntax.w16)) ty·13 5 14 (Row.lease (κs .1 .1 .1 .1 .1 .0) (qs .1 .1 .1 .1 .1 .0))) (List._∷_ (7, Relend.mslice-owed (Referent.rtF (Referent.fInt Syntax.w32)) ty·14 6 15 (Row.lease (κs .1 .1 .1 .1 .1 .1 .0) (qs .1 .1 .1 .1 .1 .1 .0))) (List._∷_
             (8, Relend.mslice-owed (Referent.rtF (Referent.fInt Syntax.w16)) ty·15 7 16 (Row.lease (κs .1 .1 .1 .1 .1 .1 .1 .0) (qs .1 .1 .1 .1 .1 .1 .1 .0))) (List._∷_ (9, Relend.mslice-owed (Referent.rtF (Referent.fInt Syntax.w8)) ty·9 8 17 (Row.lease (κs .1 .1 .1 .1 .1 .1 .1 .1 .0) (qs .1 .1 .1 .1 .1 .1 .1 .1 .0))) (List._∷_ (10, Mut.mslice Rec.rt ty·3 9)
-            (List._∷_ (11, Rows.arr-owed (Referent.rtF (Referent.fInt Syntax.w8)) 2048 18) (List._∷_ (12, Rows.arr-owed (Referent.rtF (Referent.fInt Syntax.w16)) 2048 19) (List._∷_ (13, Rows.arr-owed (Referent.rtF (Referent.fInt Syntax.w8)) 2048 20) (List._∷_ (14, Rows.arr-owed (Referent.rtF (Referent.fInt Syntax.w16)) 2048 21) (List._∷_
-            (15, Rows.arr-owed (Referent.rtF (Referent.fInt Syntax.w8)) 2048 22) List.[])))))))))))))))
+            (List._∷_ (11, Rows.arr-owed (Referent.rtF (Referent.fInt Syntax.w8)) 4096 18) (List._∷_ (12, Rows.arr-owed (Referent.rtF (Referent.fInt Syntax.w16)) 4096 19) (List._∷_ (13, Rows.arr-owed (Referent.rtF (Referent.fInt Syntax.w8)) 4096 20) (List._∷_ (14, Rows.arr-owed (Referent.rtF (Referent.fInt Syntax.w16)) 4096 21) (List._∷_
+            (15, Rows.arr-owed (Referent.rtF (Referent.fInt Syntax.w8)) 4096 22) List.[])))))))))))))))
 
         abbrev g62 : List.List Row.Entry
         g62 = List._∷_
@@ -2350,8 +2350,8 @@ module _ (claims· : Claims) where
             (4, Relend.mslice-owed (Referent.rtF (Referent.fInt Syntax.w8)) ty·8 3 12 (Row.lease (κs .1 .1 .1 .0) (qs .1 .1 .1 .0))) (List._∷_ (5, Relend.mslice-owed (Referent.rtF (Referent.fInt Syntax.w16)) ty·12 4 13 (Row.lease (κs .1 .1 .1 .1 .0) (qs .1 .1 .1 .1 .0))) (List._∷_
             (6, Relend.mslice-owed (Referent.rtF (Referent.fInt Syntax.w16)) ty·13 5 14 (Row.lease (κs .1 .1 .1 .1 .1 .0) (qs .1 .1 .1 .1 .1 .0))) (List._∷_ (7, Relend.mslice-owed (Referent.rtF (Referent.fInt Syntax.w32)) ty·14 6 15 (Row.lease (κs .1 .1 .1 .1 .1 .1 .0) (qs .1 .1 .1 .1 .1 .1 .0))) (List._∷_
             (8, Relend.mslice-owed (Referent.rtF (Referent.fInt Syntax.w16)) ty·15 7 16 (Row.lease (κs .1 .1 .1 .1 .1 .1 .1 .0) (qs .1 .1 .1 .1 .1 .1 .1 .0))) (List._∷_ (9, Relend.mslice-owed (Referent.rtF (Referent.fInt Syntax.w8)) ty·9 8 17 (Row.lease (κs .1 .1 .1 .1 .1 .1 .1 .1 .0) (qs .1 .1 .1 .1 .1 .1 .1 .1 .0))) (List._∷_ (10, Mut.mslice Rec.rt ty·3 9)
-            (List._∷_ (11, Rows.arr-owed (Referent.rtF (Referent.fInt Syntax.w8)) 2048 18) (List._∷_ (12, Rows.arr-owed (Referent.rtF (Referent.fInt Syntax.w16)) 2048 19) (List._∷_ (13, Rows.arr-owed (Referent.rtF (Referent.fInt Syntax.w8)) 2048 20) (List._∷_ (14, Rows.arr-owed (Referent.rtF (Referent.fInt Syntax.w16)) 2048 21) (List._∷_
-            (15, Rows.arr-owed (Referent.rtF (Referent.fInt Syntax.w8)) 2048 22) List.[])))))))))))))))
+            (List._∷_ (11, Rows.arr-owed (Referent.rtF (Referent.fInt Syntax.w8)) 4096 18) (List._∷_ (12, Rows.arr-owed (Referent.rtF (Referent.fInt Syntax.w16)) 4096 19) (List._∷_ (13, Rows.arr-owed (Referent.rtF (Referent.fInt Syntax.w8)) 4096 20) (List._∷_ (14, Rows.arr-owed (Referent.rtF (Referent.fInt Syntax.w16)) 4096 21) (List._∷_
+            (15, Rows.arr-owed (Referent.rtF (Referent.fInt Syntax.w8)) 4096 22) List.[])))))))))))))))
 
         abbrev g64 : List.List Row.Entry
         g64 = List._∷_
@@ -2359,8 +2359,8 @@ module _ (claims· : Claims) where
             (List._∷_ (1, Rows'.sslice (Referent.rtF (Referent.fInt Syntax.w8)) ty·7 0) (List._∷_ (2, Mut.mslice (Referent.rtF (Referent.fInt Syntax.w16)) ty·10 1) (List._∷_ (3, Mut.mslice (Referent.rtF (Referent.fInt Syntax.w16)) ty·11 2) (List._∷_ (4, Mut.mslice (Referent.rtF (Referent.fInt Syntax.w8)) ty·8 3) (List._∷_
             (5, Relend.mslice-owed (Referent.rtF (Referent.fInt Syntax.w16)) ty·12 4 13 (Row.lease (κs .1 .1 .1 .1 .0) (qs .1 .1 .1 .1 .0))) (List._∷_ (6, Relend.mslice-owed (Referent.rtF (Referent.fInt Syntax.w16)) ty·13 5 14 (Row.lease (κs .1 .1 .1 .1 .1 .0) (qs .1 .1 .1 .1 .1 .0))) (List._∷_
             (7, Relend.mslice-owed (Referent.rtF (Referent.fInt Syntax.w32)) ty·14 6 15 (Row.lease (κs .1 .1 .1 .1 .1 .1 .0) (qs .1 .1 .1 .1 .1 .1 .0))) (List._∷_ (8, Relend.mslice-owed (Referent.rtF (Referent.fInt Syntax.w16)) ty·15 7 16 (Row.lease (κs .1 .1 .1 .1 .1 .1 .1 .0) (qs .1 .1 .1 .1 .1 .1 .1 .0))) (List._∷_
-            (9, Relend.mslice-owed (Referent.rtF (Referent.fInt Syntax.w8)) ty·9 8 17 (Row.lease (κs .1 .1 .1 .1 .1 .1 .1 .1 .0) (qs .1 .1 .1 .1 .1 .1 .1 .1 .0))) (List._∷_ (10, Mut.mslice Rec.rt ty·3 9) (List._∷_ (11, Rows.arr-owed (Referent.rtF (Referent.fInt Syntax.w8)) 2048 18) (List._∷_ (12, Rows.arr-owed (Referent.rtF (Referent.fInt Syntax.w16)) 2048 19)
-            (List._∷_ (13, Rows.arr-owed (Referent.rtF (Referent.fInt Syntax.w8)) 2048 20) (List._∷_ (14, Rows.arr-owed (Referent.rtF (Referent.fInt Syntax.w16)) 2048 21) (List._∷_ (15, Rows.arr-owed (Referent.rtF (Referent.fInt Syntax.w8)) 2048 22) List.[])))))))))))))))
+            (9, Relend.mslice-owed (Referent.rtF (Referent.fInt Syntax.w8)) ty·9 8 17 (Row.lease (κs .1 .1 .1 .1 .1 .1 .1 .1 .0) (qs .1 .1 .1 .1 .1 .1 .1 .1 .0))) (List._∷_ (10, Mut.mslice Rec.rt ty·3 9) (List._∷_ (11, Rows.arr-owed (Referent.rtF (Referent.fInt Syntax.w8)) 4096 18) (List._∷_ (12, Rows.arr-owed (Referent.rtF (Referent.fInt Syntax.w16)) 4096 19)
+            (List._∷_ (13, Rows.arr-owed (Referent.rtF (Referent.fInt Syntax.w8)) 4096 20) (List._∷_ (14, Rows.arr-owed (Referent.rtF (Referent.fInt Syntax.w16)) 4096 21) (List._∷_ (15, Rows.arr-owed (Referent.rtF (Referent.fInt Syntax.w8)) 4096 22) List.[])))))))))))))))
 
         abbrev g66 : List.List Row.Entry
         g66 = List._∷_
@@ -2368,8 +2368,8 @@ module _ (claims· : Claims) where
             (List._∷_ (1, Rows'.sslice (Referent.rtF (Referent.fInt Syntax.w8)) ty·7 0) (List._∷_ (2, Mut.mslice (Referent.rtF (Referent.fInt Syntax.w16)) ty·10 1) (List._∷_ (3, Mut.mslice (Referent.rtF (Referent.fInt Syntax.w16)) ty·11 2) (List._∷_ (4, Mut.mslice (Referent.rtF (Referent.fInt Syntax.w8)) ty·8 3) (List._∷_
             (5, Mut.mslice (Referent.rtF (Referent.fInt Syntax.w16)) ty·12 4) (List._∷_ (6, Relend.mslice-owed (Referent.rtF (Referent.fInt Syntax.w16)) ty·13 5 14 (Row.lease (κs .1 .1 .1 .1 .1 .0) (qs .1 .1 .1 .1 .1 .0))) (List._∷_
             (7, Relend.mslice-owed (Referent.rtF (Referent.fInt Syntax.w32)) ty·14 6 15 (Row.lease (κs .1 .1 .1 .1 .1 .1 .0) (qs .1 .1 .1 .1 .1 .1 .0))) (List._∷_ (8, Relend.mslice-owed (Referent.rtF (Referent.fInt Syntax.w16)) ty·15 7 16 (Row.lease (κs .1 .1 .1 .1 .1 .1 .1 .0) (qs .1 .1 .1 .1 .1 .1 .1 .0))) (List._∷_
-            (9, Relend.mslice-owed (Referent.rtF (Referent.fInt Syntax.w8)) ty·9 8 17 (Row.lease (κs .1 .1 .1 .1 .1 .1 .1 .1 .0) (qs .1 .1 .1 .1 .1 .1 .1 .1 .0))) (List._∷_ (10, Mut.mslice Rec.rt ty·3 9) (List._∷_ (11, Rows.arr-owed (Referent.rtF (Referent.fInt Syntax.w8)) 2048 18) (List._∷_ (12, Rows.arr-owed (Referent.rtF (Referent.fInt Syntax.w16)) 2048 19)
-            (List._∷_ (13, Rows.arr-owed (Referent.rtF (Referent.fInt Syntax.w8)) 2048 20) (List._∷_ (14, Rows.arr-owed (Referent.rtF (Referent.fInt Syntax.w16)) 2048 21) (List._∷_ (15, Rows.arr-owed (Referent.rtF (Referent.fInt Syntax.w8)) 2048 22) List.[])))))))))))))))
+            (9, Relend.mslice-owed (Referent.rtF (Referent.fInt Syntax.w8)) ty·9 8 17 (Row.lease (κs .1 .1 .1 .1 .1 .1 .1 .1 .0) (qs .1 .1 .1 .1 .1 .1 .1 .1 .0))) (List._∷_ (10, Mut.mslice Rec.rt ty·3 9) (List._∷_ (11, Rows.arr-owed (Referent.rtF (Referent.fInt Syntax.w8)) 4096 18) (List._∷_ (12, Rows.arr-owed (Referent.rtF (Referent.fInt Syntax.w16)) 4096 19)
+            (List._∷_ (13, Rows.arr-owed (Referent.rtF (Referent.fInt Syntax.w8)) 4096 20) (List._∷_ (14, Rows.arr-owed (Referent.rtF (Referent.fInt Syntax.w16)) 4096 21) (List._∷_ (15, Rows.arr-owed (Referent.rtF (Referent.fInt Syntax.w8)) 4096 22) List.[])))))))))))))))
 
         abbrev g68 : List.List Row.Entry
         g68 = List._∷_
@@ -2377,8 +2377,8 @@ module _ (claims· : Claims) where
             (List._∷_ (1, Rows'.sslice (Referent.rtF (Referent.fInt Syntax.w8)) ty·7 0) (List._∷_ (2, Mut.mslice (Referent.rtF (Referent.fInt Syntax.w16)) ty·10 1) (List._∷_ (3, Mut.mslice (Referent.rtF (Referent.fInt Syntax.w16)) ty·11 2) (List._∷_ (4, Mut.mslice (Referent.rtF (Referent.fInt Syntax.w8)) ty·8 3) (List._∷_
             (5, Mut.mslice (Referent.rtF (Referent.fInt Syntax.w16)) ty·12 4) (List._∷_ (6, Mut.mslice (Referent.rtF (Referent.fInt Syntax.w16)) ty·13 5) (List._∷_ (7, Relend.mslice-owed (Referent.rtF (Referent.fInt Syntax.w32)) ty·14 6 15 (Row.lease (κs .1 .1 .1 .1 .1 .1 .0) (qs .1 .1 .1 .1 .1 .1 .0))) (List._∷_
             (8, Relend.mslice-owed (Referent.rtF (Referent.fInt Syntax.w16)) ty·15 7 16 (Row.lease (κs .1 .1 .1 .1 .1 .1 .1 .0) (qs .1 .1 .1 .1 .1 .1 .1 .0))) (List._∷_ (9, Relend.mslice-owed (Referent.rtF (Referent.fInt Syntax.w8)) ty·9 8 17 (Row.lease (κs .1 .1 .1 .1 .1 .1 .1 .1 .0) (qs .1 .1 .1 .1 .1 .1 .1 .1 .0))) (List._∷_ (10, Mut.mslice Rec.rt ty·3 9)
-            (List._∷_ (11, Rows.arr-owed (Referent.rtF (Referent.fInt Syntax.w8)) 2048 18) (List._∷_ (12, Rows.arr-owed (Referent.rtF (Referent.fInt Syntax.w16)) 2048 19) (List._∷_ (13, Rows.arr-owed (Referent.rtF (Referent.fInt Syntax.w8)) 2048 20) (List._∷_ (14, Rows.arr-owed (Referent.rtF (Referent.fInt Syntax.w16)) 2048 21) (List._∷_
-            (15, Rows.arr-owed (Referent.rtF (Referent.fInt Syntax.w8)) 2048 22) List.[])))))))))))))))
+            (List._∷_ (11, Rows.arr-owed (Referent.rtF (Referent.fInt Syntax.w8)) 4096 18) (List._∷_ (12, Rows.arr-owed (Referent.rtF (Referent.fInt Syntax.w16)) 4096 19) (List._∷_ (13, Rows.arr-owed (Referent.rtF (Referent.fInt Syntax.w8)) 4096 20) (List._∷_ (14, Rows.arr-owed (Referent.rtF (Referent.fInt Syntax.w16)) 4096 21) (List._∷_
+            (15, Rows.arr-owed (Referent.rtF (Referent.fInt Syntax.w8)) 4096 22) List.[])))))))))))))))
 
         abbrev g70 : List.List Row.Entry
         g70 = List._∷_
@@ -2386,24 +2386,24 @@ module _ (claims· : Claims) where
             (List._∷_ (1, Rows'.sslice (Referent.rtF (Referent.fInt Syntax.w8)) ty·7 0) (List._∷_ (2, Mut.mslice (Referent.rtF (Referent.fInt Syntax.w16)) ty·10 1) (List._∷_ (3, Mut.mslice (Referent.rtF (Referent.fInt Syntax.w16)) ty·11 2) (List._∷_ (4, Mut.mslice (Referent.rtF (Referent.fInt Syntax.w8)) ty·8 3) (List._∷_
             (5, Mut.mslice (Referent.rtF (Referent.fInt Syntax.w16)) ty·12 4) (List._∷_ (6, Mut.mslice (Referent.rtF (Referent.fInt Syntax.w16)) ty·13 5) (List._∷_ (7, Mut.mslice (Referent.rtF (Referent.fInt Syntax.w32)) ty·14 6) (List._∷_
             (8, Relend.mslice-owed (Referent.rtF (Referent.fInt Syntax.w16)) ty·15 7 16 (Row.lease (κs .1 .1 .1 .1 .1 .1 .1 .0) (qs .1 .1 .1 .1 .1 .1 .1 .0))) (List._∷_ (9, Relend.mslice-owed (Referent.rtF (Referent.fInt Syntax.w8)) ty·9 8 17 (Row.lease (κs .1 .1 .1 .1 .1 .1 .1 .1 .0) (qs .1 .1 .1 .1 .1 .1 .1 .1 .0))) (List._∷_ (10, Mut.mslice Rec.rt ty·3 9)
-            (List._∷_ (11, Rows.arr-owed (Referent.rtF (Referent.fInt Syntax.w8)) 2048 18) (List._∷_ (12, Rows.arr-owed (Referent.rtF (Referent.fInt Syntax.w16)) 2048 19) (List._∷_ (13, Rows.arr-owed (Referent.rtF (Referent.fInt Syntax.w8)) 2048 20) (List._∷_ (14, Rows.arr-owed (Referent.rtF (Referent.fInt Syntax.w16)) 2048 21) (List._∷_
-            (15, Rows.arr-owed (Referent.rtF (Referent.fInt Syntax.w8)) 2048 22) List.[])))))))))))))))
+            (List._∷_ (11, Rows.arr-owed (Referent.rtF (Referent.fInt Syntax.w8)) 4096 18) (List._∷_ (12, Rows.arr-owed (Referent.rtF (Referent.fInt Syntax.w16)) 4096 19) (List._∷_ (13, Rows.arr-owed (Referent.rtF (Referent.fInt Syntax.w8)) 4096 20) (List._∷_ (14, Rows.arr-owed (Referent.rtF (Referent.fInt Syntax.w16)) 4096 21) (List._∷_
+            (15, Rows.arr-owed (Referent.rtF (Referent.fInt Syntax.w8)) 4096 22) List.[])))))))))))))))
 
         abbrev g72 : List.List Row.Entry
         g72 = List._∷_
             (0, Rows'.any-gone (Syntax.tyEnum (List._∷_ 114 (List._∷_ 101 (List._∷_ 97 (List._∷_ 100 (List._∷_ 105 (List._∷_ 110 (List._∷_ 103 (List._∷_ 58 (List._∷_ 58 (List._∷_ 114 (List._∷_ 101 (List._∷_ 112 (List._∷_ 108 (List._∷_ 105 (List._∷_ 101 (List._∷_ 115 (List._∷_ 58 (List._∷_ 58 (List._∷_ 82 (List._∷_ 101 (List._∷_ 97 (List._∷_ 100 (List._∷_ 105 (List._∷_ 110 (List._∷_ 103 List.[]))))))))))))))))))))))))) (Syntax.ttcons Syntax.tnil (Syntax.ttcons (Syntax.tcons (Syntax.tyEnum (List._∷_ 114 (List._∷_ 101 (List._∷_ 97 (List._∷_ 100 (List._∷_ 105 (List._∷_ 110 (List._∷_ 103 (List._∷_ 58 (List._∷_ 58 (List._∷_ 114 (List._∷_ 101 (List._∷_ 112 (List._∷_ 108 (List._∷_ 105 (List._∷_ 101 (List._∷_ 115 (List._∷_ 58 (List._∷_ 58 (List._∷_ 82 (List._∷_ 101 (List._∷_ 102 (List._∷_ 117 (List._∷_ 115 (List._∷_ 97 (List._∷_ 108 List.[]))))))))))))))))))))))))) (Syntax.ttcons Syntax.tnil (Syntax.ttcons (Syntax.tcons (Syntax.tyInt Syntax.w64) Syntax.tnil) (Syntax.ttcons (Syntax.tcons (Syntax.tyInt Syntax.w64) Syntax.tnil) (Syntax.ttcons (Syntax.tcons (Syntax.tyInt Syntax.w64) Syntax.tnil) (Syntax.ttcons (Syntax.tcons (Syntax.tyInt Syntax.w64) Syntax.tnil) (Syntax.ttcons (Syntax.tcons (Syntax.tyInt Syntax.w64) Syntax.tnil) (Syntax.ttcons (Syntax.tcons (Syntax.tyInt Syntax.w64) Syntax.tnil) (Syntax.ttcons (Syntax.tcons ty·16 Syntax.tnil) (Syntax.ttcons (Syntax.tcons ty·16 Syntax.tnil) (Syntax.ttcons (Syntax.tcons ty·16 Syntax.tnil) (Syntax.ttcons (Syntax.tcons ty·16 (Syntax.tcons ty·16 Syntax.tnil)) (Syntax.ttcons Syntax.tnil Syntax.ttnil))))))))))))) Syntax.tnil) Syntax.ttnil))))
             (List._∷_ (1, Rows'.sslice (Referent.rtF (Referent.fInt Syntax.w8)) ty·7 0) (List._∷_ (2, Mut.mslice (Referent.rtF (Referent.fInt Syntax.w16)) ty·10 1) (List._∷_ (3, Mut.mslice (Referent.rtF (Referent.fInt Syntax.w16)) ty·11 2) (List._∷_ (4, Mut.mslice (Referent.rtF (Referent.fInt Syntax.w8)) ty·8 3) (List._∷_
             (5, Mut.mslice (Referent.rtF (Referent.fInt Syntax.w16)) ty·12 4) (List._∷_ (6, Mut.mslice (Referent.rtF (Referent.fInt Syntax.w16)) ty·13 5) (List._∷_ (7, Mut.mslice (Referent.rtF (Referent.fInt Syntax.w32)) ty·14 6) (List._∷_ (8, Mut.mslice (Referent.rtF (Referent.fInt Syntax.w16)) ty·15 7) (List._∷_
-            (9, Relend.mslice-owed (Referent.rtF (Referent.fInt Syntax.w8)) ty·9 8 17 (Row.lease (κs .1 .1 .1 .1 .1 .1 .1 .1 .0) (qs .1 .1 .1 .1 .1 .1 .1 .1 .0))) (List._∷_ (10, Mut.mslice Rec.rt ty·3 9) (List._∷_ (11, Rows.arr-owed (Referent.rtF (Referent.fInt Syntax.w8)) 2048 18) (List._∷_ (12, Rows.arr-owed (Referent.rtF (Referent.fInt Syntax.w16)) 2048 19)
-            (List._∷_ (13, Rows.arr-owed (Referent.rtF (Referent.fInt Syntax.w8)) 2048 20) (List._∷_ (14, Rows.arr-owed (Referent.rtF (Referent.fInt Syntax.w16)) 2048 21) (List._∷_ (15, Rows.arr-owed (Referent.rtF (Referent.fInt Syntax.w8)) 2048 22) List.[])))))))))))))))
+            (9, Relend.mslice-owed (Referent.rtF (Referent.fInt Syntax.w8)) ty·9 8 17 (Row.lease (κs .1 .1 .1 .1 .1 .1 .1 .1 .0) (qs .1 .1 .1 .1 .1 .1 .1 .1 .0))) (List._∷_ (10, Mut.mslice Rec.rt ty·3 9) (List._∷_ (11, Rows.arr-owed (Referent.rtF (Referent.fInt Syntax.w8)) 4096 18) (List._∷_ (12, Rows.arr-owed (Referent.rtF (Referent.fInt Syntax.w16)) 4096 19)
+            (List._∷_ (13, Rows.arr-owed (Referent.rtF (Referent.fInt Syntax.w8)) 4096 20) (List._∷_ (14, Rows.arr-owed (Referent.rtF (Referent.fInt Syntax.w16)) 4096 21) (List._∷_ (15, Rows.arr-owed (Referent.rtF (Referent.fInt Syntax.w8)) 4096 22) List.[])))))))))))))))
 
         abbrev g84 : List.List Row.Entry
         g84 = List._∷_
             (0, Rows'.any-gone (Syntax.tyEnum (List._∷_ 114 (List._∷_ 101 (List._∷_ 97 (List._∷_ 100 (List._∷_ 105 (List._∷_ 110 (List._∷_ 103 (List._∷_ 58 (List._∷_ 58 (List._∷_ 114 (List._∷_ 101 (List._∷_ 112 (List._∷_ 108 (List._∷_ 105 (List._∷_ 101 (List._∷_ 115 (List._∷_ 58 (List._∷_ 58 (List._∷_ 82 (List._∷_ 101 (List._∷_ 97 (List._∷_ 100 (List._∷_ 105 (List._∷_ 110 (List._∷_ 103 List.[]))))))))))))))))))))))))) (Syntax.ttcons Syntax.tnil (Syntax.ttcons (Syntax.tcons (Syntax.tyEnum (List._∷_ 114 (List._∷_ 101 (List._∷_ 97 (List._∷_ 100 (List._∷_ 105 (List._∷_ 110 (List._∷_ 103 (List._∷_ 58 (List._∷_ 58 (List._∷_ 114 (List._∷_ 101 (List._∷_ 112 (List._∷_ 108 (List._∷_ 105 (List._∷_ 101 (List._∷_ 115 (List._∷_ 58 (List._∷_ 58 (List._∷_ 82 (List._∷_ 101 (List._∷_ 102 (List._∷_ 117 (List._∷_ 115 (List._∷_ 97 (List._∷_ 108 List.[]))))))))))))))))))))))))) (Syntax.ttcons Syntax.tnil (Syntax.ttcons (Syntax.tcons (Syntax.tyInt Syntax.w64) Syntax.tnil) (Syntax.ttcons (Syntax.tcons (Syntax.tyInt Syntax.w64) Syntax.tnil) (Syntax.ttcons (Syntax.tcons (Syntax.tyInt Syntax.w64) Syntax.tnil) (Syntax.ttcons (Syntax.tcons (Syntax.tyInt Syntax.w64) Syntax.tnil) (Syntax.ttcons (Syntax.tcons (Syntax.tyInt Syntax.w64) Syntax.tnil) (Syntax.ttcons (Syntax.tcons (Syntax.tyInt Syntax.w64) Syntax.tnil) (Syntax.ttcons (Syntax.tcons ty·16 Syntax.tnil) (Syntax.ttcons (Syntax.tcons ty·16 Syntax.tnil) (Syntax.ttcons (Syntax.tcons ty·16 Syntax.tnil) (Syntax.ttcons (Syntax.tcons ty·16 (Syntax.tcons ty·16 Syntax.tnil)) (Syntax.ttcons Syntax.tnil Syntax.ttnil))))))))))))) Syntax.tnil) Syntax.ttnil))))
             (List._∷_ (1, Rows'.sslice (Referent.rtF (Referent.fInt Syntax.w8)) ty·7 0) (List._∷_ (2, Mut.mslice (Referent.rtF (Referent.fInt Syntax.w16)) ty·10 1) (List._∷_ (3, Mut.mslice (Referent.rtF (Referent.fInt Syntax.w16)) ty·11 2) (List._∷_ (4, Mut.mslice (Referent.rtF (Referent.fInt Syntax.w8)) ty·8 3) (List._∷_
             (5, Mut.mslice (Referent.rtF (Referent.fInt Syntax.w16)) ty·12 4) (List._∷_ (6, Mut.mslice (Referent.rtF (Referent.fInt Syntax.w16)) ty·13 5) (List._∷_ (7, Mut.mslice (Referent.rtF (Referent.fInt Syntax.w32)) ty·14 6) (List._∷_ (8, Mut.mslice (Referent.rtF (Referent.fInt Syntax.w16)) ty·15 7) (List._∷_
-            (9, Mut.mslice (Referent.rtF (Referent.fInt Syntax.w8)) ty·9 8) (List._∷_ (10, Relend.mslice-owed Rec.rt ty·3 9 23 (Row.lease (κs .1 .1 .1 .1 .1 .1 .1 .1 .1 .0) (qs .1 .1 .1 .1 .1 .1 .1 .1 .1 .0))) (List._∷_ (11, Rows.arrF (Referent.rtF (Referent.fInt Syntax.w8)) 2048 0) (List._∷_ (12, Rows.arrF (Referent.rtF (Referent.fInt Syntax.w16)) 2048 0)
-            (List._∷_ (13, Rows.arrF (Referent.rtF (Referent.fInt Syntax.w8)) 2048 0) (List._∷_ (14, Rows.arrF (Referent.rtF (Referent.fInt Syntax.w16)) 2048 0) (List._∷_ (15, Rows.arrF (Referent.rtF (Referent.fInt Syntax.w8)) 2048 0) List.[])))))))))))))))
+            (9, Mut.mslice (Referent.rtF (Referent.fInt Syntax.w8)) ty·9 8) (List._∷_ (10, Relend.mslice-owed Rec.rt ty·3 9 23 (Row.lease (κs .1 .1 .1 .1 .1 .1 .1 .1 .1 .0) (qs .1 .1 .1 .1 .1 .1 .1 .1 .1 .0))) (List._∷_ (11, Rows.arrF (Referent.rtF (Referent.fInt Syntax.w8)) 4096 0) (List._∷_ (12, Rows.arrF (Referent.rtF (Referent.fInt Syntax.w16)) 4096 0)
+            (List._∷_ (13, Rows.arrF (Referent.rtF (Referent.fInt Syntax.w8)) 4096 0) (List._∷_ (14, Rows.arrF (Referent.rtF (Referent.fInt Syntax.w16)) 4096 0) (List._∷_ (15, Rows.arrF (Referent.rtF (Referent.fInt Syntax.w8)) 4096 0) List.[])))))))))))))))
 
         abbrev g89 : List.List Row.Entry
         g89 = List._∷_
@@ -2411,8 +2411,8 @@ module _ (claims· : Claims) where
             (List._∷_ (1, Rows'.sslice (Referent.rtF (Referent.fInt Syntax.w8)) ty·7 0) (List._∷_ (2, Mut.mslice (Referent.rtF (Referent.fInt Syntax.w16)) ty·10 1) (List._∷_ (3, Mut.mslice (Referent.rtF (Referent.fInt Syntax.w16)) ty·11 2) (List._∷_ (4, Mut.mslice (Referent.rtF (Referent.fInt Syntax.w8)) ty·8 3) (List._∷_
             (5, Mut.mslice (Referent.rtF (Referent.fInt Syntax.w16)) ty·12 4) (List._∷_ (6, Mut.mslice (Referent.rtF (Referent.fInt Syntax.w16)) ty·13 5) (List._∷_ (7, Mut.mslice (Referent.rtF (Referent.fInt Syntax.w32)) ty·14 6) (List._∷_ (8, Mut.mslice (Referent.rtF (Referent.fInt Syntax.w16)) ty·15 7) (List._∷_
             (9, Mut.mslice (Referent.rtF (Referent.fInt Syntax.w8)) ty·9 8) (List._∷_ (10, Relend.mslice-owed Rec.rt ty·3 9 23 (Row.lease (κs .1 .1 .1 .1 .1 .1 .1 .1 .1 .0) (qs .1 .1 .1 .1 .1 .1 .1 .1 .1 .0))) (List._∷_
-            (11, Rows'.sc-shr (Rows.arrF (Referent.rtF (Referent.fInt Syntax.w8)) 2048 0) (Array.Array (Referent.rtF (Referent.fInt Syntax.w8)) 2048) (λ x. x) 24) (List._∷_ (12, Rows.arrF (Referent.rtF (Referent.fInt Syntax.w16)) 2048 0) (List._∷_ (13, Rows.arrF (Referent.rtF (Referent.fInt Syntax.w8)) 2048 0) (List._∷_
-            (14, Rows.arrF (Referent.rtF (Referent.fInt Syntax.w16)) 2048 0) (List._∷_ (15, Rows.arrF (Referent.rtF (Referent.fInt Syntax.w8)) 2048 0) List.[])))))))))))))))
+            (11, Rows'.sc-shr (Rows.arrF (Referent.rtF (Referent.fInt Syntax.w8)) 4096 0) (Array.Array (Referent.rtF (Referent.fInt Syntax.w8)) 4096) (λ x. x) 24) (List._∷_ (12, Rows.arrF (Referent.rtF (Referent.fInt Syntax.w16)) 4096 0) (List._∷_ (13, Rows.arrF (Referent.rtF (Referent.fInt Syntax.w8)) 4096 0) (List._∷_
+            (14, Rows.arrF (Referent.rtF (Referent.fInt Syntax.w16)) 4096 0) (List._∷_ (15, Rows.arrF (Referent.rtF (Referent.fInt Syntax.w8)) 4096 0) List.[])))))))))))))))
 
         abbrev g91 : List.List Row.Entry
         g91 = List._∷_
@@ -2420,8 +2420,8 @@ module _ (claims· : Claims) where
             (List._∷_ (1, Rows'.sslice (Referent.rtF (Referent.fInt Syntax.w8)) ty·7 0) (List._∷_ (2, Mut.mslice (Referent.rtF (Referent.fInt Syntax.w16)) ty·10 1) (List._∷_ (3, Mut.mslice (Referent.rtF (Referent.fInt Syntax.w16)) ty·11 2) (List._∷_ (4, Mut.mslice (Referent.rtF (Referent.fInt Syntax.w8)) ty·8 3) (List._∷_
             (5, Mut.mslice (Referent.rtF (Referent.fInt Syntax.w16)) ty·12 4) (List._∷_ (6, Mut.mslice (Referent.rtF (Referent.fInt Syntax.w16)) ty·13 5) (List._∷_ (7, Mut.mslice (Referent.rtF (Referent.fInt Syntax.w32)) ty·14 6) (List._∷_ (8, Mut.mslice (Referent.rtF (Referent.fInt Syntax.w16)) ty·15 7) (List._∷_
             (9, Mut.mslice (Referent.rtF (Referent.fInt Syntax.w8)) ty·9 8) (List._∷_ (10, Relend.mslice-owed Rec.rt ty·3 9 23 (Row.lease (κs .1 .1 .1 .1 .1 .1 .1 .1 .1 .0) (qs .1 .1 .1 .1 .1 .1 .1 .1 .1 .0))) (List._∷_
-            (11, Rows'.sc-shr (Rows.arrF (Referent.rtF (Referent.fInt Syntax.w8)) 2048 0) (Array.Array (Referent.rtF (Referent.fInt Syntax.w8)) 2048) (λ x. x) 24) (List._∷_ (12, Rows'.sc-shr (Rows.arrF (Referent.rtF (Referent.fInt Syntax.w16)) 2048 0) (Array.Array (Referent.rtF (Referent.fInt Syntax.w16)) 2048) (λ x. x) 25) (List._∷_
-            (13, Rows.arrF (Referent.rtF (Referent.fInt Syntax.w8)) 2048 0) (List._∷_ (14, Rows.arrF (Referent.rtF (Referent.fInt Syntax.w16)) 2048 0) (List._∷_ (15, Rows.arrF (Referent.rtF (Referent.fInt Syntax.w8)) 2048 0) List.[])))))))))))))))
+            (11, Rows'.sc-shr (Rows.arrF (Referent.rtF (Referent.fInt Syntax.w8)) 4096 0) (Array.Array (Referent.rtF (Referent.fInt Syntax.w8)) 4096) (λ x. x) 24) (List._∷_ (12, Rows'.sc-shr (Rows.arrF (Referent.rtF (Referent.fInt Syntax.w16)) 4096 0) (Array.Array (Referent.rtF (Referent.fInt Syntax.w16)) 4096) (λ x. x) 25) (List._∷_
+            (13, Rows.arrF (Referent.rtF (Referent.fInt Syntax.w8)) 4096 0) (List._∷_ (14, Rows.arrF (Referent.rtF (Referent.fInt Syntax.w16)) 4096 0) (List._∷_ (15, Rows.arrF (Referent.rtF (Referent.fInt Syntax.w8)) 4096 0) List.[])))))))))))))))
 
         abbrev g93 : List.List Row.Entry
         g93 = List._∷_
@@ -2429,8 +2429,8 @@ module _ (claims· : Claims) where
             (List._∷_ (1, Rows'.sslice (Referent.rtF (Referent.fInt Syntax.w8)) ty·7 0) (List._∷_ (2, Mut.mslice (Referent.rtF (Referent.fInt Syntax.w16)) ty·10 1) (List._∷_ (3, Mut.mslice (Referent.rtF (Referent.fInt Syntax.w16)) ty·11 2) (List._∷_ (4, Mut.mslice (Referent.rtF (Referent.fInt Syntax.w8)) ty·8 3) (List._∷_
             (5, Mut.mslice (Referent.rtF (Referent.fInt Syntax.w16)) ty·12 4) (List._∷_ (6, Mut.mslice (Referent.rtF (Referent.fInt Syntax.w16)) ty·13 5) (List._∷_ (7, Mut.mslice (Referent.rtF (Referent.fInt Syntax.w32)) ty·14 6) (List._∷_ (8, Mut.mslice (Referent.rtF (Referent.fInt Syntax.w16)) ty·15 7) (List._∷_
             (9, Mut.mslice (Referent.rtF (Referent.fInt Syntax.w8)) ty·9 8) (List._∷_ (10, Relend.mslice-owed Rec.rt ty·3 9 23 (Row.lease (κs .1 .1 .1 .1 .1 .1 .1 .1 .1 .0) (qs .1 .1 .1 .1 .1 .1 .1 .1 .1 .0))) (List._∷_
-            (11, Rows'.sc-shr (Rows.arrF (Referent.rtF (Referent.fInt Syntax.w8)) 2048 0) (Array.Array (Referent.rtF (Referent.fInt Syntax.w8)) 2048) (λ x. x) 24) (List._∷_ (12, Rows'.sc-shr (Rows.arrF (Referent.rtF (Referent.fInt Syntax.w16)) 2048 0) (Array.Array (Referent.rtF (Referent.fInt Syntax.w16)) 2048) (λ x. x) 25) (List._∷_
-            (13, Rows'.sc-shr (Rows.arrF (Referent.rtF (Referent.fInt Syntax.w8)) 2048 0) (Array.Array (Referent.rtF (Referent.fInt Syntax.w8)) 2048) (λ x. x) 26) (List._∷_ (14, Rows.arrF (Referent.rtF (Referent.fInt Syntax.w16)) 2048 0) (List._∷_ (15, Rows.arrF (Referent.rtF (Referent.fInt Syntax.w8)) 2048 0) List.[])))))))))))))))
+            (11, Rows'.sc-shr (Rows.arrF (Referent.rtF (Referent.fInt Syntax.w8)) 4096 0) (Array.Array (Referent.rtF (Referent.fInt Syntax.w8)) 4096) (λ x. x) 24) (List._∷_ (12, Rows'.sc-shr (Rows.arrF (Referent.rtF (Referent.fInt Syntax.w16)) 4096 0) (Array.Array (Referent.rtF (Referent.fInt Syntax.w16)) 4096) (λ x. x) 25) (List._∷_
+            (13, Rows'.sc-shr (Rows.arrF (Referent.rtF (Referent.fInt Syntax.w8)) 4096 0) (Array.Array (Referent.rtF (Referent.fInt Syntax.w8)) 4096) (λ x. x) 26) (List._∷_ (14, Rows.arrF (Referent.rtF (Referent.fInt Syntax.w16)) 4096 0) (List._∷_ (15, Rows.arrF (Referent.rtF (Referent.fInt Syntax.w8)) 4096 0) List.[])))))))))))))))
 
         abbrev g95 : List.List Row.Entry
         g95 = List._∷_
@@ -2438,9 +2438,9 @@ module _ (claims· : Claims) where
             (List._∷_ (1, Rows'.sslice (Referent.rtF (Referent.fInt Syntax.w8)) ty·7 0) (List._∷_ (2, Mut.mslice (Referent.rtF (Referent.fInt Syntax.w16)) ty·10 1) (List._∷_ (3, Mut.mslice (Referent.rtF (Referent.fInt Syntax.w16)) ty·11 2) (List._∷_ (4, Mut.mslice (Referent.rtF (Referent.fInt Syntax.w8)) ty·8 3) (List._∷_
             (5, Mut.mslice (Referent.rtF (Referent.fInt Syntax.w16)) ty·12 4) (List._∷_ (6, Mut.mslice (Referent.rtF (Referent.fInt Syntax.w16)) ty·13 5) (List._∷_ (7, Mut.mslice (Referent.rtF (Referent.fInt Syntax.w32)) ty·14 6) (List._∷_ (8, Mut.mslice (Referent.rtF (Referent.fInt Syntax.w16)) ty·15 7) (List._∷_
             (9, Mut.mslice (Referent.rtF (Referent.fInt Syntax.w8)) ty·9 8) (List._∷_ (10, Relend.mslice-owed Rec.rt ty·3 9 23 (Row.lease (κs .1 .1 .1 .1 .1 .1 .1 .1 .1 .0) (qs .1 .1 .1 .1 .1 .1 .1 .1 .1 .0))) (List._∷_
-            (11, Rows'.sc-shr (Rows.arrF (Referent.rtF (Referent.fInt Syntax.w8)) 2048 0) (Array.Array (Referent.rtF (Referent.fInt Syntax.w8)) 2048) (λ x. x) 24) (List._∷_ (12, Rows'.sc-shr (Rows.arrF (Referent.rtF (Referent.fInt Syntax.w16)) 2048 0) (Array.Array (Referent.rtF (Referent.fInt Syntax.w16)) 2048) (λ x. x) 25) (List._∷_
-            (13, Rows'.sc-shr (Rows.arrF (Referent.rtF (Referent.fInt Syntax.w8)) 2048 0) (Array.Array (Referent.rtF (Referent.fInt Syntax.w8)) 2048) (λ x. x) 26) (List._∷_ (14, Rows'.sc-shr (Rows.arrF (Referent.rtF (Referent.fInt Syntax.w16)) 2048 0) (Array.Array (Referent.rtF (Referent.fInt Syntax.w16)) 2048) (λ x. x) 27) (List._∷_
-            (15, Rows.arrF (Referent.rtF (Referent.fInt Syntax.w8)) 2048 0) List.[])))))))))))))))
+            (11, Rows'.sc-shr (Rows.arrF (Referent.rtF (Referent.fInt Syntax.w8)) 4096 0) (Array.Array (Referent.rtF (Referent.fInt Syntax.w8)) 4096) (λ x. x) 24) (List._∷_ (12, Rows'.sc-shr (Rows.arrF (Referent.rtF (Referent.fInt Syntax.w16)) 4096 0) (Array.Array (Referent.rtF (Referent.fInt Syntax.w16)) 4096) (λ x. x) 25) (List._∷_
+            (13, Rows'.sc-shr (Rows.arrF (Referent.rtF (Referent.fInt Syntax.w8)) 4096 0) (Array.Array (Referent.rtF (Referent.fInt Syntax.w8)) 4096) (λ x. x) 26) (List._∷_ (14, Rows'.sc-shr (Rows.arrF (Referent.rtF (Referent.fInt Syntax.w16)) 4096 0) (Array.Array (Referent.rtF (Referent.fInt Syntax.w16)) 4096) (λ x. x) 27) (List._∷_
+            (15, Rows.arrF (Referent.rtF (Referent.fInt Syntax.w8)) 4096 0) List.[])))))))))))))))
 
         abbrev g97 : List.List Row.Entry
         g97 = List._∷_
@@ -2448,9 +2448,9 @@ module _ (claims· : Claims) where
             (List._∷_ (1, Rows'.sslice (Referent.rtF (Referent.fInt Syntax.w8)) ty·7 0) (List._∷_ (2, Mut.mslice (Referent.rtF (Referent.fInt Syntax.w16)) ty·10 1) (List._∷_ (3, Mut.mslice (Referent.rtF (Referent.fInt Syntax.w16)) ty·11 2) (List._∷_ (4, Mut.mslice (Referent.rtF (Referent.fInt Syntax.w8)) ty·8 3) (List._∷_
             (5, Mut.mslice (Referent.rtF (Referent.fInt Syntax.w16)) ty·12 4) (List._∷_ (6, Mut.mslice (Referent.rtF (Referent.fInt Syntax.w16)) ty·13 5) (List._∷_ (7, Mut.mslice (Referent.rtF (Referent.fInt Syntax.w32)) ty·14 6) (List._∷_ (8, Mut.mslice (Referent.rtF (Referent.fInt Syntax.w16)) ty·15 7) (List._∷_
             (9, Mut.mslice (Referent.rtF (Referent.fInt Syntax.w8)) ty·9 8) (List._∷_ (10, Relend.mslice-owed Rec.rt ty·3 9 23 (Row.lease (κs .1 .1 .1 .1 .1 .1 .1 .1 .1 .0) (qs .1 .1 .1 .1 .1 .1 .1 .1 .1 .0))) (List._∷_
-            (11, Rows'.sc-shr (Rows.arrF (Referent.rtF (Referent.fInt Syntax.w8)) 2048 0) (Array.Array (Referent.rtF (Referent.fInt Syntax.w8)) 2048) (λ x. x) 24) (List._∷_ (12, Rows'.sc-shr (Rows.arrF (Referent.rtF (Referent.fInt Syntax.w16)) 2048 0) (Array.Array (Referent.rtF (Referent.fInt Syntax.w16)) 2048) (λ x. x) 25) (List._∷_
-            (13, Rows'.sc-shr (Rows.arrF (Referent.rtF (Referent.fInt Syntax.w8)) 2048 0) (Array.Array (Referent.rtF (Referent.fInt Syntax.w8)) 2048) (λ x. x) 26) (List._∷_ (14, Rows'.sc-shr (Rows.arrF (Referent.rtF (Referent.fInt Syntax.w16)) 2048 0) (Array.Array (Referent.rtF (Referent.fInt Syntax.w16)) 2048) (λ x. x) 27) (List._∷_
-            (15, Rows'.sc-shr (Rows.arrF (Referent.rtF (Referent.fInt Syntax.w8)) 2048 0) (Array.Array (Referent.rtF (Referent.fInt Syntax.w8)) 2048) (λ x. x) 28) List.[])))))))))))))))
+            (11, Rows'.sc-shr (Rows.arrF (Referent.rtF (Referent.fInt Syntax.w8)) 4096 0) (Array.Array (Referent.rtF (Referent.fInt Syntax.w8)) 4096) (λ x. x) 24) (List._∷_ (12, Rows'.sc-shr (Rows.arrF (Referent.rtF (Referent.fInt Syntax.w16)) 4096 0) (Array.Array (Referent.rtF (Referent.fInt Syntax.w16)) 4096) (λ x. x) 25) (List._∷_
+            (13, Rows'.sc-shr (Rows.arrF (Referent.rtF (Referent.fInt Syntax.w8)) 4096 0) (Array.Array (Referent.rtF (Referent.fInt Syntax.w8)) 4096) (λ x. x) 26) (List._∷_ (14, Rows'.sc-shr (Rows.arrF (Referent.rtF (Referent.fInt Syntax.w16)) 4096 0) (Array.Array (Referent.rtF (Referent.fInt Syntax.w16)) 4096) (λ x. x) 27) (List._∷_
+            (15, Rows'.sc-shr (Rows.arrF (Referent.rtF (Referent.fInt Syntax.w8)) 4096 0) (Array.Array (Referent.rtF (Referent.fInt Syntax.w8)) 4096) (λ x. x) 28) List.[])))))))))))))))
 
         abbrev slots·0 : List.List Row.Life
         slots·0 = List._∷_ (Row.lease (κs .0) (qs .0)) (List._∷_ (Row.lease (κs .1 .0) (qs .1 .0)) (List._∷_ (Row.lease (κs .1 .1 .0) (qs .1 .1 .0)) (List._∷_ (Row.lease (κs .1 .1 .1 .0) (qs .1 .1 .1 .0)) (List._∷_ (Row.lease (κs .1 .1 .1 .1 .0) (qs .1 .1 .1 .1 .0)) (List._∷_ (Row.lease (κs .1 .1 .1 .1 .1 .0) (qs .1 .1 .1 .1 .1 .0)) (List._∷_ (Row.lease (κs
@@ -3208,32 +3208,32 @@ module _ (claims· : Claims) where
               Reading.the-type)) (λ x. x) λ ρ told. Local.whole-mem 𝓤 H A W (Declared.row Reading.the-type) ρ) Path'.refl Path'.refl) d10
 
           d14 : Typed.Typed 𝓤 H A 𝓣 E G160 b53 Δ0 (at14 bs)
-          d14 = Typed.g-pre 𝓤 H A W 𝓣 E G160 G161 b53 Δ0 (Typed.pass T159 T161 (s158 bs)) (at13 bs) (Local.g-back-shr 𝓤 H A W E G160 15 28 (Rows.arrF (Referent.rtF (Referent.fInt Syntax.w8)) 2048 0) (Array.Array (Referent.rtF (Referent.fInt Syntax.w8)) 2048) (λ x. x) (λ x. x) (Reads.as-is 𝓤 H A (Rows'.sc-shr (Rows.arrF (Referent.rtF (Referent.fInt
-              Syntax.w8)) 2048 0) (Array.Array (Referent.rtF (Referent.fInt Syntax.w8)) 2048) (λ x. x) 28)) (Local.home-of 𝓤 H A (Rows.arrF (Referent.rtF (Referent.fInt Syntax.w8)) 2048 0) (Array.Array (Referent.rtF (Referent.fInt Syntax.w8)) 2048) (λ x. x) (λ x. x) (Whole'.arr-mem 𝓤 H A W (Referent.rtF (Referent.fInt Syntax.w8)) 2048 tt) λ x k. Path'.refl)
-              Path'.refl) (Typed.g-pre 𝓤 H A W 𝓣 E G161 G162 b53 Δ0 (λ Ψ. Ψ) (at12 bs) (Lifetime.g-forget 𝓤 H A W E G161 28 Row.dead Path'.refl) (Typed.g-pre 𝓤 H A W 𝓣 E G162 G163 b53 Δ0 (Typed.pass T161 T163 (s160 bs)) (at11 bs) (Scalar.g-room 𝓤 H A W E G162 15 ty·0 (Init.room-arr 𝓤 H A W (Referent.rtF (Referent.fInt Syntax.w8)) 2048 0 2048 Path'.refl)) d11))
+          d14 = Typed.g-pre 𝓤 H A W 𝓣 E G160 G161 b53 Δ0 (Typed.pass T159 T161 (s158 bs)) (at13 bs) (Local.g-back-shr 𝓤 H A W E G160 15 28 (Rows.arrF (Referent.rtF (Referent.fInt Syntax.w8)) 4096 0) (Array.Array (Referent.rtF (Referent.fInt Syntax.w8)) 4096) (λ x. x) (λ x. x) (Reads.as-is 𝓤 H A (Rows'.sc-shr (Rows.arrF (Referent.rtF (Referent.fInt
+              Syntax.w8)) 4096 0) (Array.Array (Referent.rtF (Referent.fInt Syntax.w8)) 4096) (λ x. x) 28)) (Local.home-of 𝓤 H A (Rows.arrF (Referent.rtF (Referent.fInt Syntax.w8)) 4096 0) (Array.Array (Referent.rtF (Referent.fInt Syntax.w8)) 4096) (λ x. x) (λ x. x) (Whole'.arr-mem 𝓤 H A W (Referent.rtF (Referent.fInt Syntax.w8)) 4096 tt) λ x k. Path'.refl)
+              Path'.refl) (Typed.g-pre 𝓤 H A W 𝓣 E G161 G162 b53 Δ0 (λ Ψ. Ψ) (at12 bs) (Lifetime.g-forget 𝓤 H A W E G161 28 Row.dead Path'.refl) (Typed.g-pre 𝓤 H A W 𝓣 E G162 G163 b53 Δ0 (Typed.pass T161 T163 (s160 bs)) (at11 bs) (Scalar.g-room 𝓤 H A W E G162 15 ty·0 (Init.room-arr 𝓤 H A W (Referent.rtF (Referent.fInt Syntax.w8)) 4096 0 4096 Path'.refl)) d11))
 
           d18 : Typed.Typed 𝓤 H A 𝓣 E G156 b53 Δ0 (at18 bs)
-          d18 = Typed.g-pre 𝓤 H A W 𝓣 E G156 G157 b53 Δ0 (Typed.pass T155 T157 (s154 bs)) (at17 bs) (Local.g-back-shr 𝓤 H A W E G156 14 27 (Rows.arrF (Referent.rtF (Referent.fInt Syntax.w16)) 2048 0) (Array.Array (Referent.rtF (Referent.fInt Syntax.w16)) 2048) (λ x. x) (λ x. x) (Reads.as-is 𝓤 H A (Rows'.sc-shr (Rows.arrF (Referent.rtF (Referent.fInt
-              Syntax.w16)) 2048 0) (Array.Array (Referent.rtF (Referent.fInt Syntax.w16)) 2048) (λ x. x) 27)) (Local.home-of 𝓤 H A (Rows.arrF (Referent.rtF (Referent.fInt Syntax.w16)) 2048 0) (Array.Array (Referent.rtF (Referent.fInt Syntax.w16)) 2048) (λ x. x) (λ x. x) (Whole'.arr-mem 𝓤 H A W (Referent.rtF (Referent.fInt Syntax.w16)) 2048 tt) λ x k. Path'.refl)
-              Path'.refl) (Typed.g-pre 𝓤 H A W 𝓣 E G157 G158 b53 Δ0 (λ Ψ. Ψ) (at16 bs) (Lifetime.g-forget 𝓤 H A W E G157 27 Row.dead Path'.refl) (Typed.g-pre 𝓤 H A W 𝓣 E G158 G159 b53 Δ0 (Typed.pass T157 T159 (s156 bs)) (at15 bs) (Scalar.g-room 𝓤 H A W E G158 14 ty·1 (Init.room-arr 𝓤 H A W (Referent.rtF (Referent.fInt Syntax.w16)) 2048 0 2048 Path'.refl))
+          d18 = Typed.g-pre 𝓤 H A W 𝓣 E G156 G157 b53 Δ0 (Typed.pass T155 T157 (s154 bs)) (at17 bs) (Local.g-back-shr 𝓤 H A W E G156 14 27 (Rows.arrF (Referent.rtF (Referent.fInt Syntax.w16)) 4096 0) (Array.Array (Referent.rtF (Referent.fInt Syntax.w16)) 4096) (λ x. x) (λ x. x) (Reads.as-is 𝓤 H A (Rows'.sc-shr (Rows.arrF (Referent.rtF (Referent.fInt
+              Syntax.w16)) 4096 0) (Array.Array (Referent.rtF (Referent.fInt Syntax.w16)) 4096) (λ x. x) 27)) (Local.home-of 𝓤 H A (Rows.arrF (Referent.rtF (Referent.fInt Syntax.w16)) 4096 0) (Array.Array (Referent.rtF (Referent.fInt Syntax.w16)) 4096) (λ x. x) (λ x. x) (Whole'.arr-mem 𝓤 H A W (Referent.rtF (Referent.fInt Syntax.w16)) 4096 tt) λ x k. Path'.refl)
+              Path'.refl) (Typed.g-pre 𝓤 H A W 𝓣 E G157 G158 b53 Δ0 (λ Ψ. Ψ) (at16 bs) (Lifetime.g-forget 𝓤 H A W E G157 27 Row.dead Path'.refl) (Typed.g-pre 𝓤 H A W 𝓣 E G158 G159 b53 Δ0 (Typed.pass T157 T159 (s156 bs)) (at15 bs) (Scalar.g-room 𝓤 H A W E G158 14 ty·1 (Init.room-arr 𝓤 H A W (Referent.rtF (Referent.fInt Syntax.w16)) 4096 0 4096 Path'.refl))
               (Typed.g-pre 𝓤 H A W 𝓣 E G159 G160 b53 Δ0 (λ Ψ. Ψ) (at14 bs) (Lifetime.g-end 𝓤 H A W E G159 28 Path'.refl) d14)))
 
           d22 : Typed.Typed 𝓤 H A 𝓣 E G152 b53 Δ0 (at22 bs)
-          d22 = Typed.g-pre 𝓤 H A W 𝓣 E G152 G153 b53 Δ0 (Typed.pass T151 T153 (s150 bs)) (at21 bs) (Local.g-back-shr 𝓤 H A W E G152 13 26 (Rows.arrF (Referent.rtF (Referent.fInt Syntax.w8)) 2048 0) (Array.Array (Referent.rtF (Referent.fInt Syntax.w8)) 2048) (λ x. x) (λ x. x) (Reads.as-is 𝓤 H A (Rows'.sc-shr (Rows.arrF (Referent.rtF (Referent.fInt
-              Syntax.w8)) 2048 0) (Array.Array (Referent.rtF (Referent.fInt Syntax.w8)) 2048) (λ x. x) 26)) (Local.home-of 𝓤 H A (Rows.arrF (Referent.rtF (Referent.fInt Syntax.w8)) 2048 0) (Array.Array (Referent.rtF (Referent.fInt Syntax.w8)) 2048) (λ x. x) (λ x. x) (Whole'.arr-mem 𝓤 H A W (Referent.rtF (Referent.fInt Syntax.w8)) 2048 tt) λ x k. Path'.refl)
-              Path'.refl) (Typed.g-pre 𝓤 H A W 𝓣 E G153 G154 b53 Δ0 (λ Ψ. Ψ) (at20 bs) (Lifetime.g-forget 𝓤 H A W E G153 26 Row.dead Path'.refl) (Typed.g-pre 𝓤 H A W 𝓣 E G154 G155 b53 Δ0 (Typed.pass T153 T155 (s152 bs)) (at19 bs) (Scalar.g-room 𝓤 H A W E G154 13 ty·0 (Init.room-arr 𝓤 H A W (Referent.rtF (Referent.fInt Syntax.w8)) 2048 0 2048 Path'.refl))
+          d22 = Typed.g-pre 𝓤 H A W 𝓣 E G152 G153 b53 Δ0 (Typed.pass T151 T153 (s150 bs)) (at21 bs) (Local.g-back-shr 𝓤 H A W E G152 13 26 (Rows.arrF (Referent.rtF (Referent.fInt Syntax.w8)) 4096 0) (Array.Array (Referent.rtF (Referent.fInt Syntax.w8)) 4096) (λ x. x) (λ x. x) (Reads.as-is 𝓤 H A (Rows'.sc-shr (Rows.arrF (Referent.rtF (Referent.fInt
+              Syntax.w8)) 4096 0) (Array.Array (Referent.rtF (Referent.fInt Syntax.w8)) 4096) (λ x. x) 26)) (Local.home-of 𝓤 H A (Rows.arrF (Referent.rtF (Referent.fInt Syntax.w8)) 4096 0) (Array.Array (Referent.rtF (Referent.fInt Syntax.w8)) 4096) (λ x. x) (λ x. x) (Whole'.arr-mem 𝓤 H A W (Referent.rtF (Referent.fInt Syntax.w8)) 4096 tt) λ x k. Path'.refl)
+              Path'.refl) (Typed.g-pre 𝓤 H A W 𝓣 E G153 G154 b53 Δ0 (λ Ψ. Ψ) (at20 bs) (Lifetime.g-forget 𝓤 H A W E G153 26 Row.dead Path'.refl) (Typed.g-pre 𝓤 H A W 𝓣 E G154 G155 b53 Δ0 (Typed.pass T153 T155 (s152 bs)) (at19 bs) (Scalar.g-room 𝓤 H A W E G154 13 ty·0 (Init.room-arr 𝓤 H A W (Referent.rtF (Referent.fInt Syntax.w8)) 4096 0 4096 Path'.refl))
               (Typed.g-pre 𝓤 H A W 𝓣 E G155 G156 b53 Δ0 (λ Ψ. Ψ) (at18 bs) (Lifetime.g-end 𝓤 H A W E G155 27 Path'.refl) d18)))
 
           d26 : Typed.Typed 𝓤 H A 𝓣 E G148 b53 Δ0 (at26 bs)
-          d26 = Typed.g-pre 𝓤 H A W 𝓣 E G148 G149 b53 Δ0 (Typed.pass T147 T149 (s146 bs)) (at25 bs) (Local.g-back-shr 𝓤 H A W E G148 12 25 (Rows.arrF (Referent.rtF (Referent.fInt Syntax.w16)) 2048 0) (Array.Array (Referent.rtF (Referent.fInt Syntax.w16)) 2048) (λ x. x) (λ x. x) (Reads.as-is 𝓤 H A (Rows'.sc-shr (Rows.arrF (Referent.rtF (Referent.fInt
-              Syntax.w16)) 2048 0) (Array.Array (Referent.rtF (Referent.fInt Syntax.w16)) 2048) (λ x. x) 25)) (Local.home-of 𝓤 H A (Rows.arrF (Referent.rtF (Referent.fInt Syntax.w16)) 2048 0) (Array.Array (Referent.rtF (Referent.fInt Syntax.w16)) 2048) (λ x. x) (λ x. x) (Whole'.arr-mem 𝓤 H A W (Referent.rtF (Referent.fInt Syntax.w16)) 2048 tt) λ x k. Path'.refl)
-              Path'.refl) (Typed.g-pre 𝓤 H A W 𝓣 E G149 G150 b53 Δ0 (λ Ψ. Ψ) (at24 bs) (Lifetime.g-forget 𝓤 H A W E G149 25 Row.dead Path'.refl) (Typed.g-pre 𝓤 H A W 𝓣 E G150 G151 b53 Δ0 (Typed.pass T149 T151 (s148 bs)) (at23 bs) (Scalar.g-room 𝓤 H A W E G150 12 ty·1 (Init.room-arr 𝓤 H A W (Referent.rtF (Referent.fInt Syntax.w16)) 2048 0 2048 Path'.refl))
+          d26 = Typed.g-pre 𝓤 H A W 𝓣 E G148 G149 b53 Δ0 (Typed.pass T147 T149 (s146 bs)) (at25 bs) (Local.g-back-shr 𝓤 H A W E G148 12 25 (Rows.arrF (Referent.rtF (Referent.fInt Syntax.w16)) 4096 0) (Array.Array (Referent.rtF (Referent.fInt Syntax.w16)) 4096) (λ x. x) (λ x. x) (Reads.as-is 𝓤 H A (Rows'.sc-shr (Rows.arrF (Referent.rtF (Referent.fInt
+              Syntax.w16)) 4096 0) (Array.Array (Referent.rtF (Referent.fInt Syntax.w16)) 4096) (λ x. x) 25)) (Local.home-of 𝓤 H A (Rows.arrF (Referent.rtF (Referent.fInt Syntax.w16)) 4096 0) (Array.Array (Referent.rtF (Referent.fInt Syntax.w16)) 4096) (λ x. x) (λ x. x) (Whole'.arr-mem 𝓤 H A W (Referent.rtF (Referent.fInt Syntax.w16)) 4096 tt) λ x k. Path'.refl)
+              Path'.refl) (Typed.g-pre 𝓤 H A W 𝓣 E G149 G150 b53 Δ0 (λ Ψ. Ψ) (at24 bs) (Lifetime.g-forget 𝓤 H A W E G149 25 Row.dead Path'.refl) (Typed.g-pre 𝓤 H A W 𝓣 E G150 G151 b53 Δ0 (Typed.pass T149 T151 (s148 bs)) (at23 bs) (Scalar.g-room 𝓤 H A W E G150 12 ty·1 (Init.room-arr 𝓤 H A W (Referent.rtF (Referent.fInt Syntax.w16)) 4096 0 4096 Path'.refl))
               (Typed.g-pre 𝓤 H A W 𝓣 E G151 G152 b53 Δ0 (λ Ψ. Ψ) (at22 bs) (Lifetime.g-end 𝓤 H A W E G151 26 Path'.refl) d22)))
 
           d30 : Typed.Typed 𝓤 H A 𝓣 E G144 b53 Δ0 (at30 bs)
-          d30 = Typed.g-pre 𝓤 H A W 𝓣 E G144 G145 b53 Δ0 (Typed.pass T142 T145 (s142 bs)) (at29 bs) (Local.g-back-shr 𝓤 H A W E G144 11 24 (Rows.arrF (Referent.rtF (Referent.fInt Syntax.w8)) 2048 0) (Array.Array (Referent.rtF (Referent.fInt Syntax.w8)) 2048) (λ x. x) (λ x. x) (Reads.as-is 𝓤 H A (Rows'.sc-shr (Rows.arrF (Referent.rtF (Referent.fInt
-              Syntax.w8)) 2048 0) (Array.Array (Referent.rtF (Referent.fInt Syntax.w8)) 2048) (λ x. x) 24)) (Local.home-of 𝓤 H A (Rows.arrF (Referent.rtF (Referent.fInt Syntax.w8)) 2048 0) (Array.Array (Referent.rtF (Referent.fInt Syntax.w8)) 2048) (λ x. x) (λ x. x) (Whole'.arr-mem 𝓤 H A W (Referent.rtF (Referent.fInt Syntax.w8)) 2048 tt) λ x k. Path'.refl)
-              Path'.refl) (Typed.g-pre 𝓤 H A W 𝓣 E G145 G146 b53 Δ0 (λ Ψ. Ψ) (at28 bs) (Lifetime.g-forget 𝓤 H A W E G145 24 Row.dead Path'.refl) (Typed.g-pre 𝓤 H A W 𝓣 E G146 G147 b53 Δ0 (Typed.pass T145 T147 (s144 bs)) (at27 bs) (Scalar.g-room 𝓤 H A W E G146 11 ty·0 (Init.room-arr 𝓤 H A W (Referent.rtF (Referent.fInt Syntax.w8)) 2048 0 2048 Path'.refl))
+          d30 = Typed.g-pre 𝓤 H A W 𝓣 E G144 G145 b53 Δ0 (Typed.pass T142 T145 (s142 bs)) (at29 bs) (Local.g-back-shr 𝓤 H A W E G144 11 24 (Rows.arrF (Referent.rtF (Referent.fInt Syntax.w8)) 4096 0) (Array.Array (Referent.rtF (Referent.fInt Syntax.w8)) 4096) (λ x. x) (λ x. x) (Reads.as-is 𝓤 H A (Rows'.sc-shr (Rows.arrF (Referent.rtF (Referent.fInt
+              Syntax.w8)) 4096 0) (Array.Array (Referent.rtF (Referent.fInt Syntax.w8)) 4096) (λ x. x) 24)) (Local.home-of 𝓤 H A (Rows.arrF (Referent.rtF (Referent.fInt Syntax.w8)) 4096 0) (Array.Array (Referent.rtF (Referent.fInt Syntax.w8)) 4096) (λ x. x) (λ x. x) (Whole'.arr-mem 𝓤 H A W (Referent.rtF (Referent.fInt Syntax.w8)) 4096 tt) λ x k. Path'.refl)
+              Path'.refl) (Typed.g-pre 𝓤 H A W 𝓣 E G145 G146 b53 Δ0 (λ Ψ. Ψ) (at28 bs) (Lifetime.g-forget 𝓤 H A W E G145 24 Row.dead Path'.refl) (Typed.g-pre 𝓤 H A W 𝓣 E G146 G147 b53 Δ0 (Typed.pass T145 T147 (s144 bs)) (at27 bs) (Scalar.g-room 𝓤 H A W E G146 11 ty·0 (Init.room-arr 𝓤 H A W (Referent.rtF (Referent.fInt Syntax.w8)) 4096 0 4096 Path'.refl))
               (Typed.g-pre 𝓤 H A W 𝓣 E G147 G148 b53 Δ0 (λ Ψ. Ψ) (at26 bs) (Lifetime.g-end 𝓤 H A W E G147 25 Path'.refl) d26)))
 
           d35 : Typed.Typed 𝓤 H A 𝓣 E G139 b53 Δ0 (at35 bs)
@@ -3242,42 +3242,42 @@ module _ (claims· : Claims) where
               Path'.refl Path'.refl) (Typed.g-pre 𝓤 H A W 𝓣 E G142 G143 b53 Δ0 (λ Ψ. Ψ) (at31 bs) (Lifetime.g-forget 𝓤 H A W E G142 23 Row.dead Path'.refl) (Typed.g-pre 𝓤 H A W 𝓣 E G143 G144 b53 Δ0 (λ Ψ. Ψ) (at30 bs) (Lifetime.g-end 𝓤 H A W E G143 24 Path'.refl) d30))))
 
           d38 : Typed.Typed 𝓤 H A 𝓣 E G136 b53 Δ0 (at38 bs)
-          d38 = Typed.g-pre 𝓤 H A W 𝓣 E G136 G137 b53 Δ0 (Typed.pass T136 T137 (s134 bs)) (at37 bs) (Local.g-drop-sref 𝓤 H A W E G136 53 27 (Array.Array (Referent.rtF (Referent.fInt Syntax.w16)) 2048) (Syntax.tyRef Syntax.erased Syntax.imm ty·1) (λ x. x) (Reads.as-is 𝓤 H A (Rows'.sref (Array.Array (Referent.rtF (Referent.fInt Syntax.w16)) 2048) (Syntax.tyRef
-              Syntax.erased Syntax.imm ty·1) 27))) (Typed.g-pre 𝓤 H A W 𝓣 E G137 G138 b53 Δ0 (Typed.pass T137 T138 (s135 bs)) (at36 bs) (Local.g-drop-sref 𝓤 H A W E G137 54 28 (Array.Array (Referent.rtF (Referent.fInt Syntax.w8)) 2048) (Syntax.tyRef Syntax.erased Syntax.imm ty·0) (λ x. x) (Reads.as-is 𝓤 H A (Rows'.sref (Array.Array (Referent.rtF (Referent.fInt
-              Syntax.w8)) 2048) (Syntax.tyRef Syntax.erased Syntax.imm ty·0) 28))) (Typed.g-pre 𝓤 H A W 𝓣 E G138 G139 b53 Δ0 (Typed.pass T138 T139 (s136 bs)) (at35 bs) (Scalar.g-room 𝓤 H A W E G138 46 Syntax.tyUnit (Scalar.room-sc 𝓤 H A W Row.sUnit)) d35))
+          d38 = Typed.g-pre 𝓤 H A W 𝓣 E G136 G137 b53 Δ0 (Typed.pass T136 T137 (s134 bs)) (at37 bs) (Local.g-drop-sref 𝓤 H A W E G136 53 27 (Array.Array (Referent.rtF (Referent.fInt Syntax.w16)) 4096) (Syntax.tyRef Syntax.erased Syntax.imm ty·1) (λ x. x) (Reads.as-is 𝓤 H A (Rows'.sref (Array.Array (Referent.rtF (Referent.fInt Syntax.w16)) 4096) (Syntax.tyRef
+              Syntax.erased Syntax.imm ty·1) 27))) (Typed.g-pre 𝓤 H A W 𝓣 E G137 G138 b53 Δ0 (Typed.pass T137 T138 (s135 bs)) (at36 bs) (Local.g-drop-sref 𝓤 H A W E G137 54 28 (Array.Array (Referent.rtF (Referent.fInt Syntax.w8)) 4096) (Syntax.tyRef Syntax.erased Syntax.imm ty·0) (λ x. x) (Reads.as-is 𝓤 H A (Rows'.sref (Array.Array (Referent.rtF (Referent.fInt
+              Syntax.w8)) 4096) (Syntax.tyRef Syntax.erased Syntax.imm ty·0) 28))) (Typed.g-pre 𝓤 H A W 𝓣 E G138 G139 b53 Δ0 (Typed.pass T138 T139 (s136 bs)) (at35 bs) (Scalar.g-room 𝓤 H A W E G138 46 Syntax.tyUnit (Scalar.room-sc 𝓤 H A W Row.sUnit)) d35))
 
           d41 : Typed.Typed 𝓤 H A 𝓣 E G133 b53 Δ0 (at41 bs)
-          d41 = Typed.g-pre 𝓤 H A W 𝓣 E G133 G134 b53 Δ0 (Typed.pass T133 T134 (s131 bs)) (at40 bs) (Local.g-drop-sref 𝓤 H A W E G133 50 24 (Array.Array (Referent.rtF (Referent.fInt Syntax.w8)) 2048) (Syntax.tyRef Syntax.erased Syntax.imm ty·0) (λ x. x) (Reads.as-is 𝓤 H A (Rows'.sref (Array.Array (Referent.rtF (Referent.fInt Syntax.w8)) 2048) (Syntax.tyRef
-              Syntax.erased Syntax.imm ty·0) 24))) (Typed.g-pre 𝓤 H A W 𝓣 E G134 G135 b53 Δ0 (Typed.pass T134 T135 (s132 bs)) (at39 bs) (Local.g-drop-sref 𝓤 H A W E G134 51 25 (Array.Array (Referent.rtF (Referent.fInt Syntax.w16)) 2048) (Syntax.tyRef Syntax.erased Syntax.imm ty·1) (λ x. x) (Reads.as-is 𝓤 H A (Rows'.sref (Array.Array (Referent.rtF (Referent.fInt
-              Syntax.w16)) 2048) (Syntax.tyRef Syntax.erased Syntax.imm ty·1) 25))) (Typed.g-pre 𝓤 H A W 𝓣 E G135 G136 b53 Δ0 (Typed.pass T135 T136 (s133 bs)) (at38 bs) (Local.g-drop-sref 𝓤 H A W E G135 52 26 (Array.Array (Referent.rtF (Referent.fInt Syntax.w8)) 2048) (Syntax.tyRef Syntax.erased Syntax.imm ty·0) (λ x. x) (Reads.as-is 𝓤 H A (Rows'.sref
-              (Array.Array (Referent.rtF (Referent.fInt Syntax.w8)) 2048) (Syntax.tyRef Syntax.erased Syntax.imm ty·0) 26))) d38))
+          d41 = Typed.g-pre 𝓤 H A W 𝓣 E G133 G134 b53 Δ0 (Typed.pass T133 T134 (s131 bs)) (at40 bs) (Local.g-drop-sref 𝓤 H A W E G133 50 24 (Array.Array (Referent.rtF (Referent.fInt Syntax.w8)) 4096) (Syntax.tyRef Syntax.erased Syntax.imm ty·0) (λ x. x) (Reads.as-is 𝓤 H A (Rows'.sref (Array.Array (Referent.rtF (Referent.fInt Syntax.w8)) 4096) (Syntax.tyRef
+              Syntax.erased Syntax.imm ty·0) 24))) (Typed.g-pre 𝓤 H A W 𝓣 E G134 G135 b53 Δ0 (Typed.pass T134 T135 (s132 bs)) (at39 bs) (Local.g-drop-sref 𝓤 H A W E G134 51 25 (Array.Array (Referent.rtF (Referent.fInt Syntax.w16)) 4096) (Syntax.tyRef Syntax.erased Syntax.imm ty·1) (λ x. x) (Reads.as-is 𝓤 H A (Rows'.sref (Array.Array (Referent.rtF (Referent.fInt
+              Syntax.w16)) 4096) (Syntax.tyRef Syntax.erased Syntax.imm ty·1) 25))) (Typed.g-pre 𝓤 H A W 𝓣 E G135 G136 b53 Δ0 (Typed.pass T135 T136 (s133 bs)) (at38 bs) (Local.g-drop-sref 𝓤 H A W E G135 52 26 (Array.Array (Referent.rtF (Referent.fInt Syntax.w8)) 4096) (Syntax.tyRef Syntax.erased Syntax.imm ty·0) (λ x. x) (Reads.as-is 𝓤 H A (Rows'.sref
+              (Array.Array (Referent.rtF (Referent.fInt Syntax.w8)) 4096) (Syntax.tyRef Syntax.erased Syntax.imm ty·0) 26))) d38))
 
           d42 : Typed.Typed 𝓤 H A 𝓣 E G132 b54 Δ0 (at42 bs)
           d42 = Typed.s-seq 𝓤 H A W 𝓣 E G132 G133 b50 b53 Δ0 (Typed.both (s130 bs)) (at41 bs) (Plain.t-call-plain 𝓤 H A W 𝓣 6 ps·3 r·3 (claims· .6) (claims· .7) "records::lent::store_if" (known .3) E (λ pos β. β) G132
               (record { pos = 48; ty = ty·2; ref = λ x. x }, (Bool.bAt 49 λ x. x, (record { pos = 50; ty = Syntax.tyRef Syntax.erased Syntax.imm ty·0; ref = λ x. x }, (record { pos = 51; ty = Syntax.tyRef Syntax.erased Syntax.imm ty·1; ref = λ x. x }, (record { pos = 52; ty = Syntax.tyRef Syntax.erased Syntax.imm ty·0; ref = λ x. x }, (record { pos = 53; ty = Syntax.tyRef Syntax.erased Syntax.imm ty·1; ref = λ x. x }, (record { pos = 54; ty = Syntax.tyRef Syntax.erased Syntax.imm ty·0; ref = λ x. x }, tt)))))))
               46 (List._∷_ 23 (List._∷_ 24 (List._∷_ 25 (List._∷_ 26 (List._∷_ 27 (List._∷_ 28 List.[])))))) (Call.sub-id 𝓤 H A W (G132 .slots))
-              (Reads.as-is 𝓤 H A (Mut.mslice Rec.rt ty·2 23), Mut.reads-mslice 𝓤 H A W Rec.rt ty·2 23, Path'.refl, ((Scalar.reads-sc 𝓤 H A W Row.sBool, Path'.refl), (ShrRef.spares-sref 𝓤 H A W (Array.Array (Referent.rtF (Referent.fInt Syntax.w8)) 2048) (Syntax.tyRef Syntax.erased Syntax.imm ty·0) 24, Reads.reads-sref 𝓤 H A W (Array.Array (Referent.rtF (Referent.fInt Syntax.w8)) 2048) (Syntax.tyRef Syntax.erased Syntax.imm ty·0) 24, Path'.refl, (ShrRef.spares-sref 𝓤 H A W (Array.Array (Referent.rtF (Referent.fInt Syntax.w16)) 2048) (Syntax.tyRef Syntax.erased Syntax.imm ty·1) 25, Reads.reads-sref 𝓤 H A W (Array.Array (Referent.rtF (Referent.fInt Syntax.w16)) 2048) (Syntax.tyRef Syntax.erased Syntax.imm ty·1) 25, Path'.refl, (ShrRef.spares-sref 𝓤 H A W (Array.Array (Referent.rtF (Referent.fInt Syntax.w8)) 2048) (Syntax.tyRef Syntax.erased Syntax.imm ty·0) 26, Reads.reads-sref 𝓤 H A W (Array.Array (Referent.rtF (Referent.fInt Syntax.w8)) 2048) (Syntax.tyRef Syntax.erased Syntax.imm ty·0) 26, Path'.refl, (ShrRef.spares-sref 𝓤 H A W (Array.Array (Referent.rtF (Referent.fInt Syntax.w16)) 2048) (Syntax.tyRef Syntax.erased Syntax.imm ty·1) 27, Reads.reads-sref 𝓤 H A W (Array.Array (Referent.rtF (Referent.fInt Syntax.w16)) 2048) (Syntax.tyRef Syntax.erased Syntax.imm ty·1) 27, Path'.refl, (ShrRef.spares-sref 𝓤 H A W (Array.Array (Referent.rtF (Referent.fInt Syntax.w8)) 2048) (Syntax.tyRef Syntax.erased Syntax.imm ty·0) 28, Reads.reads-sref 𝓤 H A W (Array.Array (Referent.rtF (Referent.fInt Syntax.w8)) 2048) (Syntax.tyRef Syntax.erased Syntax.imm ty·0) 28, Path'.refl, tt)))))))
+              (Reads.as-is 𝓤 H A (Mut.mslice Rec.rt ty·2 23), Mut.reads-mslice 𝓤 H A W Rec.rt ty·2 23, Path'.refl, ((Scalar.reads-sc 𝓤 H A W Row.sBool, Path'.refl), (ShrRef.spares-sref 𝓤 H A W (Array.Array (Referent.rtF (Referent.fInt Syntax.w8)) 4096) (Syntax.tyRef Syntax.erased Syntax.imm ty·0) 24, Reads.reads-sref 𝓤 H A W (Array.Array (Referent.rtF (Referent.fInt Syntax.w8)) 4096) (Syntax.tyRef Syntax.erased Syntax.imm ty·0) 24, Path'.refl, (ShrRef.spares-sref 𝓤 H A W (Array.Array (Referent.rtF (Referent.fInt Syntax.w16)) 4096) (Syntax.tyRef Syntax.erased Syntax.imm ty·1) 25, Reads.reads-sref 𝓤 H A W (Array.Array (Referent.rtF (Referent.fInt Syntax.w16)) 4096) (Syntax.tyRef Syntax.erased Syntax.imm ty·1) 25, Path'.refl, (ShrRef.spares-sref 𝓤 H A W (Array.Array (Referent.rtF (Referent.fInt Syntax.w8)) 4096) (Syntax.tyRef Syntax.erased Syntax.imm ty·0) 26, Reads.reads-sref 𝓤 H A W (Array.Array (Referent.rtF (Referent.fInt Syntax.w8)) 4096) (Syntax.tyRef Syntax.erased Syntax.imm ty·0) 26, Path'.refl, (ShrRef.spares-sref 𝓤 H A W (Array.Array (Referent.rtF (Referent.fInt Syntax.w16)) 4096) (Syntax.tyRef Syntax.erased Syntax.imm ty·1) 27, Reads.reads-sref 𝓤 H A W (Array.Array (Referent.rtF (Referent.fInt Syntax.w16)) 4096) (Syntax.tyRef Syntax.erased Syntax.imm ty·1) 27, Path'.refl, (ShrRef.spares-sref 𝓤 H A W (Array.Array (Referent.rtF (Referent.fInt Syntax.w8)) 4096) (Syntax.tyRef Syntax.erased Syntax.imm ty·0) 28, Reads.reads-sref 𝓤 H A W (Array.Array (Referent.rtF (Referent.fInt Syntax.w8)) 4096) (Syntax.tyRef Syntax.erased Syntax.imm ty·0) 28, Path'.refl, tt)))))))
               (Reads.room-gone 𝓤 H A Syntax.tyUnit) (tt, (tt, (tt, (tt, (tt, (tt, tt)))))) Path'.refl) d41
 
           d45 : Typed.Typed 𝓤 H A 𝓣 E G129 b56 Δ0 (at45 bs)
-          d45 = Typed.s-seq 𝓤 H A W 𝓣 E G129 G130 b48 b55 Δ0 (Typed.give (s127 bs)) (at44 bs) (Local.t-sc-share 𝓤 H A W E 𝓣 G129 14 53 27 (Array.Array (Referent.rtF (Referent.fInt Syntax.w16)) 2048) (Syntax.tyRef Syntax.erased Syntax.imm ty·1) (λ x. x) (Whole'.mem-arr 𝓤 H A W (Referent.rtF (Referent.fInt Syntax.w16)) 2048) (Reads.room-gone 𝓤 H A
+          d45 = Typed.s-seq 𝓤 H A W 𝓣 E G129 G130 b48 b55 Δ0 (Typed.give (s127 bs)) (at44 bs) (Local.t-sc-share 𝓤 H A W E 𝓣 G129 14 53 27 (Array.Array (Referent.rtF (Referent.fInt Syntax.w16)) 4096) (Syntax.tyRef Syntax.erased Syntax.imm ty·1) (λ x. x) (Whole'.mem-arr 𝓤 H A W (Referent.rtF (Referent.fInt Syntax.w16)) 4096) (Reads.room-gone 𝓤 H A
               (Syntax.tyRef Syntax.erased Syntax.imm ty·1)) Path'.refl λ b o. tt) (Typed.g-pre 𝓤 H A W 𝓣 E G130 G131 b55 Δ0 (λ Ψ. Ψ) (at43 bs) (Lifetime.g-begin 𝓤 H A W E G130 28
               (tt, (tt, (tt, (tt, (tt, (tt, (tt, (tt, (tt, (tt, ((tt, tt), (tt, (tt, (tt, (tt, (tt, (tt, (tt, (tt, (tt, (tt, (tt, (tt, (tt, (tt, (tt, (tt, (tt, (tt, (tt, (tt, (tt, (tt, (tt, (tt, (tt, (tt, (tt, (tt, (tt, (tt, (tt, (tt, (tt, (tt, (tt, (tt, (tt, (tt, (tt, (tt, (tt, (tt, (tt, (tt, tt))))))))))))))))))))))))))))))))))))))))))))))))))))))))
-              (Typed.s-seq 𝓤 H A W 𝓣 E G131 G132 b49 b54 Δ0 (Typed.give (s129 bs)) (at42 bs) (Local.t-sc-share 𝓤 H A W E 𝓣 G131 15 54 28 (Array.Array (Referent.rtF (Referent.fInt Syntax.w8)) 2048) (Syntax.tyRef Syntax.erased Syntax.imm ty·0) (λ x. x) (Whole'.mem-arr 𝓤 H A W (Referent.rtF (Referent.fInt Syntax.w8)) 2048) (Reads.room-gone 𝓤 H A (Syntax.tyRef
+              (Typed.s-seq 𝓤 H A W 𝓣 E G131 G132 b49 b54 Δ0 (Typed.give (s129 bs)) (at42 bs) (Local.t-sc-share 𝓤 H A W E 𝓣 G131 15 54 28 (Array.Array (Referent.rtF (Referent.fInt Syntax.w8)) 4096) (Syntax.tyRef Syntax.erased Syntax.imm ty·0) (λ x. x) (Whole'.mem-arr 𝓤 H A W (Referent.rtF (Referent.fInt Syntax.w8)) 4096) (Reads.room-gone 𝓤 H A (Syntax.tyRef
               Syntax.erased Syntax.imm ty·0)) Path'.refl λ b o. tt) d42))
 
           d48 : Typed.Typed 𝓤 H A 𝓣 E G126 b57 Δ0 (at48 bs)
           d48 = Typed.g-pre 𝓤 H A W 𝓣 E G126 G127 b57 Δ0 (λ Ψ. Ψ) (at47 bs) (Lifetime.g-begin 𝓤 H A W E G126 26
               (tt, (tt, (tt, (tt, (tt, (tt, (tt, (tt, (tt, (tt, ((tt, tt), (tt, (tt, (tt, (tt, (tt, (tt, (tt, (tt, (tt, (tt, (tt, (tt, (tt, (tt, (tt, (tt, (tt, (tt, (tt, (tt, (tt, (tt, (tt, (tt, (tt, (tt, (tt, (tt, (tt, (tt, (tt, (tt, (tt, (tt, (tt, (tt, (tt, (tt, (tt, (tt, (tt, (tt, (tt, (tt, tt))))))))))))))))))))))))))))))))))))))))))))))))))))))))
-              (Typed.s-seq 𝓤 H A W 𝓣 E G127 G128 b47 b56 Δ0 (Typed.give (s125 bs)) (at46 bs) (Local.t-sc-share 𝓤 H A W E 𝓣 G127 13 52 26 (Array.Array (Referent.rtF (Referent.fInt Syntax.w8)) 2048) (Syntax.tyRef Syntax.erased Syntax.imm ty·0) (λ x. x) (Whole'.mem-arr 𝓤 H A W (Referent.rtF (Referent.fInt Syntax.w8)) 2048) (Reads.room-gone 𝓤 H A (Syntax.tyRef
+              (Typed.s-seq 𝓤 H A W 𝓣 E G127 G128 b47 b56 Δ0 (Typed.give (s125 bs)) (at46 bs) (Local.t-sc-share 𝓤 H A W E 𝓣 G127 13 52 26 (Array.Array (Referent.rtF (Referent.fInt Syntax.w8)) 4096) (Syntax.tyRef Syntax.erased Syntax.imm ty·0) (λ x. x) (Whole'.mem-arr 𝓤 H A W (Referent.rtF (Referent.fInt Syntax.w8)) 4096) (Reads.room-gone 𝓤 H A (Syntax.tyRef
               Syntax.erased Syntax.imm ty·0)) Path'.refl λ b o. tt) (Typed.g-pre 𝓤 H A W 𝓣 E G128 G129 b56 Δ0 (λ Ψ. Ψ) (at45 bs) (Lifetime.g-begin 𝓤 H A W E G128 27
               (tt, (tt, (tt, (tt, (tt, (tt, (tt, (tt, (tt, (tt, ((tt, tt), (tt, (tt, (tt, (tt, (tt, (tt, (tt, (tt, (tt, (tt, (tt, (tt, (tt, (tt, (tt, (tt, (tt, (tt, (tt, (tt, (tt, (tt, (tt, (tt, (tt, (tt, (tt, (tt, (tt, (tt, (tt, (tt, (tt, (tt, (tt, (tt, (tt, (tt, (tt, (tt, (tt, (tt, (tt, (tt, tt)))))))))))))))))))))))))))))))))))))))))))))))))))))))) d45))
 
           d51 : Typed.Typed 𝓤 H A 𝓣 E G123 b59 Δ0 (at51 bs)
-          d51 = Typed.s-seq 𝓤 H A W 𝓣 E G123 G124 b45 b58 Δ0 (Typed.give (s121 bs)) (at50 bs) (Local.t-sc-share 𝓤 H A W E 𝓣 G123 11 50 24 (Array.Array (Referent.rtF (Referent.fInt Syntax.w8)) 2048) (Syntax.tyRef Syntax.erased Syntax.imm ty·0) (λ x. x) (Whole'.mem-arr 𝓤 H A W (Referent.rtF (Referent.fInt Syntax.w8)) 2048) (Reads.room-gone 𝓤 H A (Syntax.tyRef
+          d51 = Typed.s-seq 𝓤 H A W 𝓣 E G123 G124 b45 b58 Δ0 (Typed.give (s121 bs)) (at50 bs) (Local.t-sc-share 𝓤 H A W E 𝓣 G123 11 50 24 (Array.Array (Referent.rtF (Referent.fInt Syntax.w8)) 4096) (Syntax.tyRef Syntax.erased Syntax.imm ty·0) (λ x. x) (Whole'.mem-arr 𝓤 H A W (Referent.rtF (Referent.fInt Syntax.w8)) 4096) (Reads.room-gone 𝓤 H A (Syntax.tyRef
               Syntax.erased Syntax.imm ty·0)) Path'.refl λ b o. tt) (Typed.g-pre 𝓤 H A W 𝓣 E G124 G125 b58 Δ0 (λ Ψ. Ψ) (at49 bs) (Lifetime.g-begin 𝓤 H A W E G124 25
               (tt, (tt, (tt, (tt, (tt, (tt, (tt, (tt, (tt, (tt, ((tt, tt), (tt, (tt, (tt, (tt, (tt, (tt, (tt, (tt, (tt, (tt, (tt, (tt, (tt, (tt, (tt, (tt, (tt, (tt, (tt, (tt, (tt, (tt, (tt, (tt, (tt, (tt, (tt, (tt, (tt, (tt, (tt, (tt, (tt, (tt, (tt, (tt, (tt, (tt, (tt, (tt, (tt, (tt, (tt, (tt, tt))))))))))))))))))))))))))))))))))))))))))))))))))))))))
-              (Typed.s-seq 𝓤 H A W 𝓣 E G125 G126 b46 b57 Δ0 (Typed.give (s123 bs)) (at48 bs) (Local.t-sc-share 𝓤 H A W E 𝓣 G125 12 51 25 (Array.Array (Referent.rtF (Referent.fInt Syntax.w16)) 2048) (Syntax.tyRef Syntax.erased Syntax.imm ty·1) (λ x. x) (Whole'.mem-arr 𝓤 H A W (Referent.rtF (Referent.fInt Syntax.w16)) 2048) (Reads.room-gone 𝓤 H A (Syntax.tyRef
+              (Typed.s-seq 𝓤 H A W 𝓣 E G125 G126 b46 b57 Δ0 (Typed.give (s123 bs)) (at48 bs) (Local.t-sc-share 𝓤 H A W E 𝓣 G125 12 51 25 (Array.Array (Referent.rtF (Referent.fInt Syntax.w16)) 4096) (Syntax.tyRef Syntax.erased Syntax.imm ty·1) (λ x. x) (Whole'.mem-arr 𝓤 H A W (Referent.rtF (Referent.fInt Syntax.w16)) 4096) (Reads.room-gone 𝓤 H A (Syntax.tyRef
               Syntax.erased Syntax.imm ty·1)) Path'.refl λ b o. tt) d48))
 
           d54 : Typed.Typed 𝓤 H A 𝓣 E G120 b60 Δ0 (at54 bs)
@@ -3299,20 +3299,20 @@ module _ (claims· : Claims) where
               tt) d56))
 
           d63 : Typed.Typed 𝓤 H A 𝓣 E G111 b63 Δ0 (at63 bs)
-          d63 = Typed.g-pre 𝓤 H A W 𝓣 E G111 G112 b63 Δ0 (Typed.both (s109 bs)) (at62 bs) (Borrow.g-back-arr 𝓤 H A W E (Referent.rtF (Referent.fInt Syntax.w16)) G111 43 14 21 2048 ty·5 (λ x. x) (λ x. x) (Reads.as-is 𝓤 H A (Mut.msleft (Referent.rtF (Referent.fInt Syntax.w16)) ty·5)) (Reads.as-is 𝓤 H A (Rows.arr-owed (Referent.rtF (Referent.fInt Syntax.w16))
-              2048 21)) Path'.refl) (Typed.g-pre 𝓤 H A W 𝓣 E G112 G113 b63 Δ0 (λ Ψ. Ψ) (at61 bs) (Lifetime.g-forget 𝓤 H A W E G112 21 Row.dead Path'.refl) (Typed.g-pre 𝓤 H A W 𝓣 E G113 G114 b63 Δ0 (λ Ψ. Ψ) (at60 bs) (Lifetime.g-end 𝓤 H A W E G113 22 Path'.refl) (Typed.g-pre 𝓤 H A W 𝓣 E G114 G115 b63 Δ0 (Typed.both (s112 bs)) (at59 bs) (Borrow.g-back-arr 𝓤 H A W
-              E (Referent.rtF (Referent.fInt Syntax.w8)) G114 45 15 22 2048 ty·4 (λ x. x) (λ x. x) (Reads.as-is 𝓤 H A (Mut.msleft (Referent.rtF (Referent.fInt Syntax.w8)) ty·4)) (Reads.as-is 𝓤 H A (Rows.arr-owed (Referent.rtF (Referent.fInt Syntax.w8)) 2048 22)) Path'.refl) d59)))
+          d63 = Typed.g-pre 𝓤 H A W 𝓣 E G111 G112 b63 Δ0 (Typed.both (s109 bs)) (at62 bs) (Borrow.g-back-arr 𝓤 H A W E (Referent.rtF (Referent.fInt Syntax.w16)) G111 43 14 21 4096 ty·5 (λ x. x) (λ x. x) (Reads.as-is 𝓤 H A (Mut.msleft (Referent.rtF (Referent.fInt Syntax.w16)) ty·5)) (Reads.as-is 𝓤 H A (Rows.arr-owed (Referent.rtF (Referent.fInt Syntax.w16))
+              4096 21)) Path'.refl) (Typed.g-pre 𝓤 H A W 𝓣 E G112 G113 b63 Δ0 (λ Ψ. Ψ) (at61 bs) (Lifetime.g-forget 𝓤 H A W E G112 21 Row.dead Path'.refl) (Typed.g-pre 𝓤 H A W 𝓣 E G113 G114 b63 Δ0 (λ Ψ. Ψ) (at60 bs) (Lifetime.g-end 𝓤 H A W E G113 22 Path'.refl) (Typed.g-pre 𝓤 H A W 𝓣 E G114 G115 b63 Δ0 (Typed.both (s112 bs)) (at59 bs) (Borrow.g-back-arr 𝓤 H A W
+              E (Referent.rtF (Referent.fInt Syntax.w8)) G114 45 15 22 4096 ty·4 (λ x. x) (λ x. x) (Reads.as-is 𝓤 H A (Mut.msleft (Referent.rtF (Referent.fInt Syntax.w8)) ty·4)) (Reads.as-is 𝓤 H A (Rows.arr-owed (Referent.rtF (Referent.fInt Syntax.w8)) 4096 22)) Path'.refl) d59)))
 
           d69 : Typed.Typed 𝓤 H A 𝓣 E G105 b63 Δ0 (at69 bs)
-          d69 = Typed.g-pre 𝓤 H A W 𝓣 E G105 G106 b63 Δ0 (Typed.both (s103 bs)) (at68 bs) (Borrow.g-back-arr 𝓤 H A W E (Referent.rtF (Referent.fInt Syntax.w16)) G105 39 12 19 2048 ty·5 (λ x. x) (λ x. x) (Reads.as-is 𝓤 H A (Mut.msleft (Referent.rtF (Referent.fInt Syntax.w16)) ty·5)) (Reads.as-is 𝓤 H A (Rows.arr-owed (Referent.rtF (Referent.fInt Syntax.w16))
-              2048 19)) Path'.refl) (Typed.g-pre 𝓤 H A W 𝓣 E G106 G107 b63 Δ0 (λ Ψ. Ψ) (at67 bs) (Lifetime.g-forget 𝓤 H A W E G106 19 Row.dead Path'.refl) (Typed.g-pre 𝓤 H A W 𝓣 E G107 G108 b63 Δ0 (λ Ψ. Ψ) (at66 bs) (Lifetime.g-end 𝓤 H A W E G107 20 Path'.refl) (Typed.g-pre 𝓤 H A W 𝓣 E G108 G109 b63 Δ0 (Typed.both (s106 bs)) (at65 bs) (Borrow.g-back-arr 𝓤 H A W
-              E (Referent.rtF (Referent.fInt Syntax.w8)) G108 41 13 20 2048 ty·4 (λ x. x) (λ x. x) (Reads.as-is 𝓤 H A (Mut.msleft (Referent.rtF (Referent.fInt Syntax.w8)) ty·4)) (Reads.as-is 𝓤 H A (Rows.arr-owed (Referent.rtF (Referent.fInt Syntax.w8)) 2048 20)) Path'.refl) (Typed.g-pre 𝓤 H A W 𝓣 E G109 G110 b63 Δ0 (λ Ψ. Ψ) (at64 bs) (Lifetime.g-forget 𝓤 H A W E
+          d69 = Typed.g-pre 𝓤 H A W 𝓣 E G105 G106 b63 Δ0 (Typed.both (s103 bs)) (at68 bs) (Borrow.g-back-arr 𝓤 H A W E (Referent.rtF (Referent.fInt Syntax.w16)) G105 39 12 19 4096 ty·5 (λ x. x) (λ x. x) (Reads.as-is 𝓤 H A (Mut.msleft (Referent.rtF (Referent.fInt Syntax.w16)) ty·5)) (Reads.as-is 𝓤 H A (Rows.arr-owed (Referent.rtF (Referent.fInt Syntax.w16))
+              4096 19)) Path'.refl) (Typed.g-pre 𝓤 H A W 𝓣 E G106 G107 b63 Δ0 (λ Ψ. Ψ) (at67 bs) (Lifetime.g-forget 𝓤 H A W E G106 19 Row.dead Path'.refl) (Typed.g-pre 𝓤 H A W 𝓣 E G107 G108 b63 Δ0 (λ Ψ. Ψ) (at66 bs) (Lifetime.g-end 𝓤 H A W E G107 20 Path'.refl) (Typed.g-pre 𝓤 H A W 𝓣 E G108 G109 b63 Δ0 (Typed.both (s106 bs)) (at65 bs) (Borrow.g-back-arr 𝓤 H A W
+              E (Referent.rtF (Referent.fInt Syntax.w8)) G108 41 13 20 4096 ty·4 (λ x. x) (λ x. x) (Reads.as-is 𝓤 H A (Mut.msleft (Referent.rtF (Referent.fInt Syntax.w8)) ty·4)) (Reads.as-is 𝓤 H A (Rows.arr-owed (Referent.rtF (Referent.fInt Syntax.w8)) 4096 20)) Path'.refl) (Typed.g-pre 𝓤 H A W 𝓣 E G109 G110 b63 Δ0 (λ Ψ. Ψ) (at64 bs) (Lifetime.g-forget 𝓤 H A W E
               G109 20 Row.dead Path'.refl) (Typed.g-pre 𝓤 H A W 𝓣 E G110 G111 b63 Δ0 (λ Ψ. Ψ) (at63 bs) (Lifetime.g-end 𝓤 H A W E G110 21 Path'.refl) d63)))))
 
           d75 : Typed.Typed 𝓤 H A 𝓣 E G99 b63 Δ0 (at75 bs)
           d75 = Typed.g-pre 𝓤 H A W 𝓣 E G99 G99 b63 Δ0 (Typed.give (s97 bs)) (at74 bs) (Know.g-sl-known 𝓤 H A W (Referent.fInt Syntax.w8) E G99 9 8 ty·9 (Row.lease (κs .1 .1 .1 .1 .1 .1 .1 .1 .0) (qs .1 .1 .1 .1 .1 .1 .1 .1 .0)) 0 (λ x. x) record { fits = Dec'.lit< tt } (Reads.as-is 𝓤 H A (Mut.mslice (Referent.rtF (Referent.fInt Syntax.w8)) ty·9 8))
               Path'.refl tt) (Typed.g-pre 𝓤 H A W 𝓣 E G99 G101 b63 Δ0 (λ Ψ. Ψ) (at73 bs) (Lifetime.g-forget 𝓤 H A W E G99 17 Row.dead Path'.refl) (Typed.g-pre 𝓤 H A W 𝓣 E G101 G102 b63 Δ0 (λ Ψ. Ψ) (at72 bs) (Lifetime.g-end 𝓤 H A W E G101 18 Path'.refl) (Typed.g-pre 𝓤 H A W 𝓣 E G102 G103 b63 Δ0 (Typed.both (s100 bs)) (at71 bs) (Borrow.g-back-arr 𝓤 H A W E
-              (Referent.rtF (Referent.fInt Syntax.w8)) G102 37 11 18 2048 ty·4 (λ x. x) (λ x. x) (Reads.as-is 𝓤 H A (Mut.msleft (Referent.rtF (Referent.fInt Syntax.w8)) ty·4)) (Reads.as-is 𝓤 H A (Rows.arr-owed (Referent.rtF (Referent.fInt Syntax.w8)) 2048 18)) Path'.refl) (Typed.g-pre 𝓤 H A W 𝓣 E G103 G104 b63 Δ0 (λ Ψ. Ψ) (at70 bs) (Lifetime.g-forget 𝓤 H A W E
+              (Referent.rtF (Referent.fInt Syntax.w8)) G102 37 11 18 4096 ty·4 (λ x. x) (λ x. x) (Reads.as-is 𝓤 H A (Mut.msleft (Referent.rtF (Referent.fInt Syntax.w8)) ty·4)) (Reads.as-is 𝓤 H A (Rows.arr-owed (Referent.rtF (Referent.fInt Syntax.w8)) 4096 18)) Path'.refl) (Typed.g-pre 𝓤 H A W 𝓣 E G103 G104 b63 Δ0 (λ Ψ. Ψ) (at70 bs) (Lifetime.g-forget 𝓤 H A W E
               G103 18 Row.dead Path'.refl) (Typed.g-pre 𝓤 H A W 𝓣 E G104 G105 b63 Δ0 (λ Ψ. Ψ) (at69 bs) (Lifetime.g-end 𝓤 H A W E G104 19 Path'.refl) d69)))))
 
           d79 : Typed.Typed 𝓤 H A 𝓣 E G95 b63 Δ0 (at79 bs)
@@ -3368,13 +3368,13 @@ module _ (claims· : Claims) where
               Syntax.w16)) ty·5)) (Reads.as-is 𝓤 H A (Relend.mslice-owed (Referent.rtF (Referent.fInt Syntax.w16)) ty·10 1 10 (Row.lease (κs .1 .0) (qs .1 .0)))) Path'.refl Path'.refl) d103))
 
           d108 : Typed.Typed 𝓤 H A 𝓣 E G66 b66 Δ0 (at108 bs)
-          d108 = Typed.s-seq 𝓤 H A W 𝓣 E G66 G67 b38 b65 Δ0 (Typed.give (s64 bs)) (at107 bs) (Borrow.t-arr-borrow 𝓤 H A W E 𝓣 (Referent.rtF (Referent.fInt Syntax.w8)) G66 15 44 2048 22 (Syntax.tyRef Syntax.erased Syntax.mut ty·0) (λ x. x) (Reads.as-is 𝓤 H A (Rows.arrF (Referent.rtF (Referent.fInt Syntax.w8)) 2048 0)) (Reads.room-gone 𝓤 H A (Syntax.tyRef
+          d108 = Typed.s-seq 𝓤 H A W 𝓣 E G66 G67 b38 b65 Δ0 (Typed.give (s64 bs)) (at107 bs) (Borrow.t-arr-borrow 𝓤 H A W E 𝓣 (Referent.rtF (Referent.fInt Syntax.w8)) G66 15 44 4096 22 (Syntax.tyRef Syntax.erased Syntax.mut ty·0) (λ x. x) (Reads.as-is 𝓤 H A (Rows.arrF (Referent.rtF (Referent.fInt Syntax.w8)) 4096 0)) (Reads.room-gone 𝓤 H A (Syntax.tyRef
               Syntax.erased Syntax.mut ty·0)) Path'.refl (λ b o. tt) (Dec'.lit< tt, Dec'.lit< tt)) (Typed.s-seq 𝓤 H A W 𝓣 E G67 G68 b39 b64 Δ0 (Typed.ask (s65 bs)) (at106 bs) (Relend.t-sl-aggregate 𝓤 H A W E (Referent.rtF (Referent.fInt Syntax.w8)) 𝓣 (Relend.asMut (Referent.rtF (Referent.fInt Syntax.w8))) G67 44 45 22 (Syntax.tyRef Syntax.erased Syntax.mut ty·0)
-              ty·4 (λ x. x) (Scalar.oBig Syntax.w64 2048) (Reads.as-is 𝓤 H A (Relend.msptr (Referent.rtF (Referent.fInt Syntax.w8)) (Syntax.tyRef Syntax.erased Syntax.mut ty·0) 22)) (Reads.room-gone 𝓤 H A (Syntax.tyStruct (List._∷_ 38 (List._∷_ 91 (List._∷_ 93 List.[]))) (Syntax.tcons ty·4 (Syntax.tcons (Syntax.tyInt Syntax.w64) Syntax.tnil)))) record
+              ty·4 (λ x. x) (Scalar.oBig Syntax.w64 4096) (Reads.as-is 𝓤 H A (Relend.msptr (Referent.rtF (Referent.fInt Syntax.w8)) (Syntax.tyRef Syntax.erased Syntax.mut ty·0) 22)) (Reads.room-gone 𝓤 H A (Syntax.tyStruct (List._∷_ 38 (List._∷_ 91 (List._∷_ 93 List.[]))) (Syntax.tcons ty·4 (Syntax.tcons (Syntax.tyInt Syntax.w64) Syntax.tnil)))) record
               { lower = record { fits = Dec'.lit< tt } } Path'.refl Path'.refl λ b o k. tt) d106)
 
           d110 : Typed.Typed 𝓤 H A 𝓣 E G64 b67 Δ0 (at110 bs)
-          d110 = Typed.s-seq 𝓤 H A W 𝓣 E G64 G65 b37 b66 Δ0 (Typed.ask (s62 bs)) (at109 bs) (Relend.t-sl-aggregate 𝓤 H A W E (Referent.rtF (Referent.fInt Syntax.w16)) 𝓣 (Relend.asMut (Referent.rtF (Referent.fInt Syntax.w16))) G64 42 43 21 (Syntax.tyRef Syntax.erased Syntax.mut ty·1) ty·5 (λ x. x) (Scalar.oBig Syntax.w64 2048) (Reads.as-is 𝓤 H A (Relend.msptr
+          d110 = Typed.s-seq 𝓤 H A W 𝓣 E G64 G65 b37 b66 Δ0 (Typed.ask (s62 bs)) (at109 bs) (Relend.t-sl-aggregate 𝓤 H A W E (Referent.rtF (Referent.fInt Syntax.w16)) 𝓣 (Relend.asMut (Referent.rtF (Referent.fInt Syntax.w16))) G64 42 43 21 (Syntax.tyRef Syntax.erased Syntax.mut ty·1) ty·5 (λ x. x) (Scalar.oBig Syntax.w64 4096) (Reads.as-is 𝓤 H A (Relend.msptr
               (Referent.rtF (Referent.fInt Syntax.w16)) (Syntax.tyRef Syntax.erased Syntax.mut ty·1) 21)) (Reads.room-gone 𝓤 H A (Syntax.tyStruct (List._∷_ 38 (List._∷_ 91 (List._∷_ 93 List.[]))) (Syntax.tcons ty·5 (Syntax.tcons (Syntax.tyInt Syntax.w64) Syntax.tnil)))) record { lower = record { fits = Dec'.lit< tt } } Path'.refl Path'.refl λ b o k. tt)
               (Typed.g-pre 𝓤 H A W 𝓣 E G65 G66 b66 Δ0 (λ Ψ. Ψ) (at108 bs) (Lifetime.g-begin 𝓤 H A W E G65 22
               (tt, (tt, ((tt, tt), ((tt, tt), ((tt, tt), ((tt, tt), ((tt, tt), ((tt, tt), ((tt, tt), ((tt, tt), (tt, (tt, (tt, (tt, (tt, (tt, (tt, (tt, (tt, (tt, (tt, (tt, (tt, (tt, (tt, (tt, (tt, (tt, (tt, (tt, (tt, (tt, (tt, (tt, (tt, (tt, (tt, (tt, (tt, (tt, (tt, (tt, (tt, (tt, (tt, (tt, (tt, (tt, (tt, (tt, (tt, (tt, (tt, (tt, (tt, tt))))))))))))))))))))))))))))))))))))))))))))))))))))))))
@@ -3383,17 +3383,17 @@ module _ (claims· : Claims) where
           d112 : Typed.Typed 𝓤 H A 𝓣 E G62 b68 Δ0 (at112 bs)
           d112 = Typed.g-pre 𝓤 H A W 𝓣 E G62 G63 b68 Δ0 (λ Ψ. Ψ) (at111 bs) (Lifetime.g-begin 𝓤 H A W E G62 21
               (tt, (tt, ((tt, tt), ((tt, tt), ((tt, tt), ((tt, tt), ((tt, tt), ((tt, tt), ((tt, tt), ((tt, tt), (tt, (tt, (tt, (tt, (tt, (tt, (tt, (tt, (tt, (tt, (tt, (tt, (tt, (tt, (tt, (tt, (tt, (tt, (tt, (tt, (tt, (tt, (tt, (tt, (tt, (tt, (tt, (tt, (tt, (tt, (tt, (tt, (tt, (tt, (tt, (tt, (tt, (tt, (tt, (tt, (tt, (tt, (tt, (tt, (tt, tt))))))))))))))))))))))))))))))))))))))))))))))))))))))))
-              (Typed.s-seq 𝓤 H A W 𝓣 E G63 G64 b36 b67 Δ0 (Typed.give (s61 bs)) (at110 bs) (Borrow.t-arr-borrow 𝓤 H A W E 𝓣 (Referent.rtF (Referent.fInt Syntax.w16)) G63 14 42 2048 21 (Syntax.tyRef Syntax.erased Syntax.mut ty·1) (λ x. x) (Reads.as-is 𝓤 H A (Rows.arrF (Referent.rtF (Referent.fInt Syntax.w16)) 2048 0)) (Reads.room-gone 𝓤 H A (Syntax.tyRef
+              (Typed.s-seq 𝓤 H A W 𝓣 E G63 G64 b36 b67 Δ0 (Typed.give (s61 bs)) (at110 bs) (Borrow.t-arr-borrow 𝓤 H A W E 𝓣 (Referent.rtF (Referent.fInt Syntax.w16)) G63 14 42 4096 21 (Syntax.tyRef Syntax.erased Syntax.mut ty·1) (λ x. x) (Reads.as-is 𝓤 H A (Rows.arrF (Referent.rtF (Referent.fInt Syntax.w16)) 4096 0)) (Reads.room-gone 𝓤 H A (Syntax.tyRef
               Syntax.erased Syntax.mut ty·1)) Path'.refl (λ b o. tt) (Dec'.lit< tt, Dec'.lit< tt)) d110)
 
           d114 : Typed.Typed 𝓤 H A 𝓣 E G60 b70 Δ0 (at114 bs)
-          d114 = Typed.s-seq 𝓤 H A W 𝓣 E G60 G61 b34 b69 Δ0 (Typed.give (s58 bs)) (at113 bs) (Borrow.t-arr-borrow 𝓤 H A W E 𝓣 (Referent.rtF (Referent.fInt Syntax.w8)) G60 13 40 2048 20 (Syntax.tyRef Syntax.erased Syntax.mut ty·0) (λ x. x) (Reads.as-is 𝓤 H A (Rows.arrF (Referent.rtF (Referent.fInt Syntax.w8)) 2048 0)) (Reads.room-gone 𝓤 H A (Syntax.tyRef
+          d114 = Typed.s-seq 𝓤 H A W 𝓣 E G60 G61 b34 b69 Δ0 (Typed.give (s58 bs)) (at113 bs) (Borrow.t-arr-borrow 𝓤 H A W E 𝓣 (Referent.rtF (Referent.fInt Syntax.w8)) G60 13 40 4096 20 (Syntax.tyRef Syntax.erased Syntax.mut ty·0) (λ x. x) (Reads.as-is 𝓤 H A (Rows.arrF (Referent.rtF (Referent.fInt Syntax.w8)) 4096 0)) (Reads.room-gone 𝓤 H A (Syntax.tyRef
               Syntax.erased Syntax.mut ty·0)) Path'.refl (λ b o. tt) (Dec'.lit< tt, Dec'.lit< tt)) (Typed.s-seq 𝓤 H A W 𝓣 E G61 G62 b35 b68 Δ0 (Typed.ask (s59 bs)) (at112 bs) (Relend.t-sl-aggregate 𝓤 H A W E (Referent.rtF (Referent.fInt Syntax.w8)) 𝓣 (Relend.asMut (Referent.rtF (Referent.fInt Syntax.w8))) G61 40 41 20 (Syntax.tyRef Syntax.erased Syntax.mut ty·0)
-              ty·4 (λ x. x) (Scalar.oBig Syntax.w64 2048) (Reads.as-is 𝓤 H A (Relend.msptr (Referent.rtF (Referent.fInt Syntax.w8)) (Syntax.tyRef Syntax.erased Syntax.mut ty·0) 20)) (Reads.room-gone 𝓤 H A (Syntax.tyStruct (List._∷_ 38 (List._∷_ 91 (List._∷_ 93 List.[]))) (Syntax.tcons ty·4 (Syntax.tcons (Syntax.tyInt Syntax.w64) Syntax.tnil)))) record
+              ty·4 (λ x. x) (Scalar.oBig Syntax.w64 4096) (Reads.as-is 𝓤 H A (Relend.msptr (Referent.rtF (Referent.fInt Syntax.w8)) (Syntax.tyRef Syntax.erased Syntax.mut ty·0) 20)) (Reads.room-gone 𝓤 H A (Syntax.tyStruct (List._∷_ 38 (List._∷_ 91 (List._∷_ 93 List.[]))) (Syntax.tcons ty·4 (Syntax.tcons (Syntax.tyInt Syntax.w64) Syntax.tnil)))) record
               { lower = record { fits = Dec'.lit< tt } } Path'.refl Path'.refl λ b o k. tt) d112)
 
           d116 : Typed.Typed 𝓤 H A 𝓣 E G58 b71 Δ0 (at116 bs)
-          d116 = Typed.s-seq 𝓤 H A W 𝓣 E G58 G59 b33 b70 Δ0 (Typed.ask (s56 bs)) (at115 bs) (Relend.t-sl-aggregate 𝓤 H A W E (Referent.rtF (Referent.fInt Syntax.w16)) 𝓣 (Relend.asMut (Referent.rtF (Referent.fInt Syntax.w16))) G58 38 39 19 (Syntax.tyRef Syntax.erased Syntax.mut ty·1) ty·5 (λ x. x) (Scalar.oBig Syntax.w64 2048) (Reads.as-is 𝓤 H A (Relend.msptr
+          d116 = Typed.s-seq 𝓤 H A W 𝓣 E G58 G59 b33 b70 Δ0 (Typed.ask (s56 bs)) (at115 bs) (Relend.t-sl-aggregate 𝓤 H A W E (Referent.rtF (Referent.fInt Syntax.w16)) 𝓣 (Relend.asMut (Referent.rtF (Referent.fInt Syntax.w16))) G58 38 39 19 (Syntax.tyRef Syntax.erased Syntax.mut ty·1) ty·5 (λ x. x) (Scalar.oBig Syntax.w64 4096) (Reads.as-is 𝓤 H A (Relend.msptr
               (Referent.rtF (Referent.fInt Syntax.w16)) (Syntax.tyRef Syntax.erased Syntax.mut ty·1) 19)) (Reads.room-gone 𝓤 H A (Syntax.tyStruct (List._∷_ 38 (List._∷_ 91 (List._∷_ 93 List.[]))) (Syntax.tcons ty·5 (Syntax.tcons (Syntax.tyInt Syntax.w64) Syntax.tnil)))) record { lower = record { fits = Dec'.lit< tt } } Path'.refl Path'.refl λ b o k. tt)
               (Typed.g-pre 𝓤 H A W 𝓣 E G59 G60 b70 Δ0 (λ Ψ. Ψ) (at114 bs) (Lifetime.g-begin 𝓤 H A W E G59 20
               (tt, (tt, ((tt, tt), ((tt, tt), ((tt, tt), ((tt, tt), ((tt, tt), ((tt, tt), ((tt, tt), ((tt, tt), (tt, (tt, (tt, (tt, (tt, (tt, (tt, (tt, (tt, (tt, (tt, (tt, (tt, (tt, (tt, (tt, (tt, (tt, (tt, (tt, (tt, (tt, (tt, (tt, (tt, (tt, (tt, (tt, (tt, (tt, (tt, (tt, (tt, (tt, (tt, (tt, (tt, (tt, (tt, (tt, (tt, (tt, (tt, (tt, (tt, tt))))))))))))))))))))))))))))))))))))))))))))))))))))))))
@@ -3402,13 +3402,13 @@ module _ (claims· : Claims) where
           d118 : Typed.Typed 𝓤 H A 𝓣 E G56 b72 Δ0 (at118 bs)
           d118 = Typed.g-pre 𝓤 H A W 𝓣 E G56 G57 b72 Δ0 (λ Ψ. Ψ) (at117 bs) (Lifetime.g-begin 𝓤 H A W E G56 19
               (tt, (tt, ((tt, tt), ((tt, tt), ((tt, tt), ((tt, tt), ((tt, tt), ((tt, tt), ((tt, tt), ((tt, tt), (tt, (tt, (tt, (tt, (tt, (tt, (tt, (tt, (tt, (tt, (tt, (tt, (tt, (tt, (tt, (tt, (tt, (tt, (tt, (tt, (tt, (tt, (tt, (tt, (tt, (tt, (tt, (tt, (tt, (tt, (tt, (tt, (tt, (tt, (tt, (tt, (tt, (tt, (tt, (tt, (tt, (tt, (tt, (tt, (tt, tt))))))))))))))))))))))))))))))))))))))))))))))))))))))))
-              (Typed.s-seq 𝓤 H A W 𝓣 E G57 G58 b32 b71 Δ0 (Typed.give (s55 bs)) (at116 bs) (Borrow.t-arr-borrow 𝓤 H A W E 𝓣 (Referent.rtF (Referent.fInt Syntax.w16)) G57 12 38 2048 19 (Syntax.tyRef Syntax.erased Syntax.mut ty·1) (λ x. x) (Reads.as-is 𝓤 H A (Rows.arrF (Referent.rtF (Referent.fInt Syntax.w16)) 2048 0)) (Reads.room-gone 𝓤 H A (Syntax.tyRef
+              (Typed.s-seq 𝓤 H A W 𝓣 E G57 G58 b32 b71 Δ0 (Typed.give (s55 bs)) (at116 bs) (Borrow.t-arr-borrow 𝓤 H A W E 𝓣 (Referent.rtF (Referent.fInt Syntax.w16)) G57 12 38 4096 19 (Syntax.tyRef Syntax.erased Syntax.mut ty·1) (λ x. x) (Reads.as-is 𝓤 H A (Rows.arrF (Referent.rtF (Referent.fInt Syntax.w16)) 4096 0)) (Reads.room-gone 𝓤 H A (Syntax.tyRef
               Syntax.erased Syntax.mut ty·1)) Path'.refl (λ b o. tt) (Dec'.lit< tt, Dec'.lit< tt)) d116)
 
           d120 : Typed.Typed 𝓤 H A 𝓣 E G54 b74 Δ0 (at120 bs)
-          d120 = Typed.s-seq 𝓤 H A W 𝓣 E G54 G55 b30 b73 Δ0 (Typed.give (s52 bs)) (at119 bs) (Borrow.t-arr-borrow 𝓤 H A W E 𝓣 (Referent.rtF (Referent.fInt Syntax.w8)) G54 11 36 2048 18 (Syntax.tyRef Syntax.erased Syntax.mut ty·0) (λ x. x) (Reads.as-is 𝓤 H A (Rows.arrF (Referent.rtF (Referent.fInt Syntax.w8)) 2048 0)) (Reads.room-gone 𝓤 H A (Syntax.tyRef
+          d120 = Typed.s-seq 𝓤 H A W 𝓣 E G54 G55 b30 b73 Δ0 (Typed.give (s52 bs)) (at119 bs) (Borrow.t-arr-borrow 𝓤 H A W E 𝓣 (Referent.rtF (Referent.fInt Syntax.w8)) G54 11 36 4096 18 (Syntax.tyRef Syntax.erased Syntax.mut ty·0) (λ x. x) (Reads.as-is 𝓤 H A (Rows.arrF (Referent.rtF (Referent.fInt Syntax.w8)) 4096 0)) (Reads.room-gone 𝓤 H A (Syntax.tyRef
               Syntax.erased Syntax.mut ty·0)) Path'.refl (λ b o. tt) (Dec'.lit< tt, Dec'.lit< tt)) (Typed.s-seq 𝓤 H A W 𝓣 E G55 G56 b31 b72 Δ0 (Typed.ask (s53 bs)) (at118 bs) (Relend.t-sl-aggregate 𝓤 H A W E (Referent.rtF (Referent.fInt Syntax.w8)) 𝓣 (Relend.asMut (Referent.rtF (Referent.fInt Syntax.w8))) G55 36 37 18 (Syntax.tyRef Syntax.erased Syntax.mut ty·0)
-              ty·4 (λ x. x) (Scalar.oBig Syntax.w64 2048) (Reads.as-is 𝓤 H A (Relend.msptr (Referent.rtF (Referent.fInt Syntax.w8)) (Syntax.tyRef Syntax.erased Syntax.mut ty·0) 18)) (Reads.room-gone 𝓤 H A (Syntax.tyStruct (List._∷_ 38 (List._∷_ 91 (List._∷_ 93 List.[]))) (Syntax.tcons ty·4 (Syntax.tcons (Syntax.tyInt Syntax.w64) Syntax.tnil)))) record
+              ty·4 (λ x. x) (Scalar.oBig Syntax.w64 4096) (Reads.as-is 𝓤 H A (Relend.msptr (Referent.rtF (Referent.fInt Syntax.w8)) (Syntax.tyRef Syntax.erased Syntax.mut ty·0) 18)) (Reads.room-gone 𝓤 H A (Syntax.tyStruct (List._∷_ 38 (List._∷_ 91 (List._∷_ 93 List.[]))) (Syntax.tcons ty·4 (Syntax.tcons (Syntax.tyInt Syntax.w64) Syntax.tnil)))) record
               { lower = record { fits = Dec'.lit< tt } } Path'.refl Path'.refl λ b o k. tt) d118)
 
           d122 : Typed.Typed 𝓤 H A 𝓣 E G52 b75 Δ0 (at122 bs)
@@ -3478,28 +3478,28 @@ module _ (claims· : Claims) where
               tt Path'.refl Path'.refl Path'.refl λ b o. tt) d140))
 
           d146 : Typed.Typed 𝓤 H A 𝓣 E G28 b90 Δ0 (at146 bs)
-          d146 = Typed.g-pre 𝓤 H A W 𝓣 E G28 G29 b90 Δ0 (Typed.pass T28 T29 (s26 bs)) (at145 bs) (AtSlots.g-as-by 𝓤 H A W E (λ ρ. Unit) G28 15 (Rows.arrF (Referent.rtF (Referent.fInt Syntax.w8)) 2048 0) (λ x. x) (Own.told-none 𝓤 H A (G28 .slots)) λ ρ told. Repeat.whole-arr 𝓤 H A W (Referent.rtF (Referent.fInt Syntax.w8)) 2048 tt ρ) (Typed.g-pre 𝓤 H A W 𝓣 E
+          d146 = Typed.g-pre 𝓤 H A W 𝓣 E G28 G29 b90 Δ0 (Typed.pass T28 T29 (s26 bs)) (at145 bs) (AtSlots.g-as-by 𝓤 H A W E (λ ρ. Unit) G28 15 (Rows.arrF (Referent.rtF (Referent.fInt Syntax.w8)) 4096 0) (λ x. x) (Own.told-none 𝓤 H A (G28 .slots)) λ ρ told. Repeat.whole-arr 𝓤 H A W (Referent.rtF (Referent.fInt Syntax.w8)) 4096 tt ρ) (Typed.g-pre 𝓤 H A W 𝓣 E
               G29 G30 b90 Δ0 (λ Ψ. Ψ) (at144 bs) (Lifetime.g-begin 𝓤 H A W E G29 10
               (tt, (tt, (tt, (tt, (tt, (tt, (tt, (tt, (tt, (tt, (tt, (tt, (tt, (tt, (tt, (tt, (tt, (tt, (tt, (tt, (tt, (tt, (tt, (tt, (tt, (tt, (tt, (tt, (tt, (tt, (tt, (tt, (tt, (tt, (tt, (tt, (tt, (tt, (tt, (tt, (tt, (tt, (tt, (tt, (tt, (tt, (tt, (tt, (tt, (tt, (tt, (tt, (tt, (tt, (tt, tt)))))))))))))))))))))))))))))))))))))))))))))))))))))))) (Typed.s-seq 𝓤 H
               A W 𝓣 E G30 G31 b14 b89 Δ0 (Typed.give (s28 bs)) (at143 bs) (Relend.t-sl-relend 𝓤 H A W E (Referent.rtF (Referent.fInt Syntax.w16)) 𝓣 G30 2 20 1 10 ty·10 ty·5 (Row.lease (κs .1 .0) (qs .1 .0)) 0 (λ x. x) (Reads.as-is 𝓤 H A (Mut.mslice (Referent.rtF (Referent.fInt Syntax.w16)) ty·10 1)) (Reads.room-gone 𝓤 H A ty·5) Path'.refl tt Path'.refl
               Path'.refl Path'.refl λ b o. tt) d143))
 
           d149 : Typed.Typed 𝓤 H A 𝓣 E G25 b92 Δ0 (at149 bs)
-          d149 = Typed.s-seq 𝓤 H A W 𝓣 E G25 G26 b12 b91 Δ0 (Typed.pass T25 T26 (s23 bs)) (at148 bs) (Repeat.t-repeat 𝓤 H A W E 𝓣 (Referent.rtF (Referent.fInt Syntax.w16)) (Plain'.uint-lawful 𝓤 H A W Syntax.w16) (Copies.cRf (Referent.fInt Syntax.w16) .copy 𝓤 H A W) (Plain'.uint-makes 𝓤 H A W Syntax.w16) 2048 G25 14 (Scalar.oInt Syntax.w16 0) (λ m. 0)
-              (Reads.room-gone 𝓤 H A ty·1) tt Path'.refl λ m wa. (Path'.refl, Dec'.lit< tt)) (Typed.g-pre 𝓤 H A W 𝓣 E G26 G27 b91 Δ0 (Typed.pass T26 T27 (s24 bs)) (at147 bs) (AtSlots.g-as-by 𝓤 H A W E (λ ρ. Unit) G26 14 (Rows.arrF (Referent.rtF (Referent.fInt Syntax.w16)) 2048 0) (λ x. x) (Own.told-none 𝓤 H A (G26 .slots)) λ ρ told. Repeat.whole-arr 𝓤 H A W
-              (Referent.rtF (Referent.fInt Syntax.w16)) 2048 tt ρ) (Typed.s-seq 𝓤 H A W 𝓣 E G27 G28 b13 b90 Δ0 (Typed.pass T27 T28 (s25 bs)) (at146 bs) (Repeat.t-repeat 𝓤 H A W E 𝓣 (Referent.rtF (Referent.fInt Syntax.w8)) (Plain'.uint-lawful 𝓤 H A W Syntax.w8) (Copies.cRf (Referent.fInt Syntax.w8) .copy 𝓤 H A W) (Plain'.uint-makes 𝓤 H A W Syntax.w8) 2048 G27 15
+          d149 = Typed.s-seq 𝓤 H A W 𝓣 E G25 G26 b12 b91 Δ0 (Typed.pass T25 T26 (s23 bs)) (at148 bs) (Repeat.t-repeat 𝓤 H A W E 𝓣 (Referent.rtF (Referent.fInt Syntax.w16)) (Plain'.uint-lawful 𝓤 H A W Syntax.w16) (Copies.cRf (Referent.fInt Syntax.w16) .copy 𝓤 H A W) (Plain'.uint-makes 𝓤 H A W Syntax.w16) 4096 G25 14 (Scalar.oInt Syntax.w16 0) (λ m. 0)
+              (Reads.room-gone 𝓤 H A ty·1) tt Path'.refl λ m wa. (Path'.refl, Dec'.lit< tt)) (Typed.g-pre 𝓤 H A W 𝓣 E G26 G27 b91 Δ0 (Typed.pass T26 T27 (s24 bs)) (at147 bs) (AtSlots.g-as-by 𝓤 H A W E (λ ρ. Unit) G26 14 (Rows.arrF (Referent.rtF (Referent.fInt Syntax.w16)) 4096 0) (λ x. x) (Own.told-none 𝓤 H A (G26 .slots)) λ ρ told. Repeat.whole-arr 𝓤 H A W
+              (Referent.rtF (Referent.fInt Syntax.w16)) 4096 tt ρ) (Typed.s-seq 𝓤 H A W 𝓣 E G27 G28 b13 b90 Δ0 (Typed.pass T27 T28 (s25 bs)) (at146 bs) (Repeat.t-repeat 𝓤 H A W E 𝓣 (Referent.rtF (Referent.fInt Syntax.w8)) (Plain'.uint-lawful 𝓤 H A W Syntax.w8) (Copies.cRf (Referent.fInt Syntax.w8) .copy 𝓤 H A W) (Plain'.uint-makes 𝓤 H A W Syntax.w8) 4096 G27 15
               (Scalar.oInt Syntax.w8 0) (λ m. 0) (Reads.room-gone 𝓤 H A ty·0) tt Path'.refl λ m wa. (Path'.refl, Dec'.lit< tt)) d146))
 
           d152 : Typed.Typed 𝓤 H A 𝓣 E G22 b93 Δ0 (at152 bs)
-          d152 = Typed.g-pre 𝓤 H A W 𝓣 E G22 G23 b93 Δ0 (Typed.pass T22 T23 (s20 bs)) (at151 bs) (AtSlots.g-as-by 𝓤 H A W E (λ ρ. Unit) G22 12 (Rows.arrF (Referent.rtF (Referent.fInt Syntax.w16)) 2048 0) (λ x. x) (Own.told-none 𝓤 H A (G22 .slots)) λ ρ told. Repeat.whole-arr 𝓤 H A W (Referent.rtF (Referent.fInt Syntax.w16)) 2048 tt ρ) (Typed.s-seq 𝓤 H A W 𝓣 E
-              G23 G24 b11 b92 Δ0 (Typed.pass T23 T24 (s21 bs)) (at150 bs) (Repeat.t-repeat 𝓤 H A W E 𝓣 (Referent.rtF (Referent.fInt Syntax.w8)) (Plain'.uint-lawful 𝓤 H A W Syntax.w8) (Copies.cRf (Referent.fInt Syntax.w8) .copy 𝓤 H A W) (Plain'.uint-makes 𝓤 H A W Syntax.w8) 2048 G23 13 (Scalar.oInt Syntax.w8 0) (λ m. 0) (Reads.room-gone 𝓤 H A ty·0) tt Path'.refl
-              λ m wa. (Path'.refl, Dec'.lit< tt)) (Typed.g-pre 𝓤 H A W 𝓣 E G24 G25 b92 Δ0 (Typed.pass T24 T25 (s22 bs)) (at149 bs) (AtSlots.g-as-by 𝓤 H A W E (λ ρ. Unit) G24 13 (Rows.arrF (Referent.rtF (Referent.fInt Syntax.w8)) 2048 0) (λ x. x) (Own.told-none 𝓤 H A (G24 .slots)) λ ρ told. Repeat.whole-arr 𝓤 H A W (Referent.rtF (Referent.fInt Syntax.w8)) 2048 tt
+          d152 = Typed.g-pre 𝓤 H A W 𝓣 E G22 G23 b93 Δ0 (Typed.pass T22 T23 (s20 bs)) (at151 bs) (AtSlots.g-as-by 𝓤 H A W E (λ ρ. Unit) G22 12 (Rows.arrF (Referent.rtF (Referent.fInt Syntax.w16)) 4096 0) (λ x. x) (Own.told-none 𝓤 H A (G22 .slots)) λ ρ told. Repeat.whole-arr 𝓤 H A W (Referent.rtF (Referent.fInt Syntax.w16)) 4096 tt ρ) (Typed.s-seq 𝓤 H A W 𝓣 E
+              G23 G24 b11 b92 Δ0 (Typed.pass T23 T24 (s21 bs)) (at150 bs) (Repeat.t-repeat 𝓤 H A W E 𝓣 (Referent.rtF (Referent.fInt Syntax.w8)) (Plain'.uint-lawful 𝓤 H A W Syntax.w8) (Copies.cRf (Referent.fInt Syntax.w8) .copy 𝓤 H A W) (Plain'.uint-makes 𝓤 H A W Syntax.w8) 4096 G23 13 (Scalar.oInt Syntax.w8 0) (λ m. 0) (Reads.room-gone 𝓤 H A ty·0) tt Path'.refl
+              λ m wa. (Path'.refl, Dec'.lit< tt)) (Typed.g-pre 𝓤 H A W 𝓣 E G24 G25 b92 Δ0 (Typed.pass T24 T25 (s22 bs)) (at149 bs) (AtSlots.g-as-by 𝓤 H A W E (λ ρ. Unit) G24 13 (Rows.arrF (Referent.rtF (Referent.fInt Syntax.w8)) 4096 0) (λ x. x) (Own.told-none 𝓤 H A (G24 .slots)) λ ρ told. Repeat.whole-arr 𝓤 H A W (Referent.rtF (Referent.fInt Syntax.w8)) 4096 tt
               ρ) d149))
 
           d155 : Typed.Typed 𝓤 H A 𝓣 E G0 b95 Δ0 (at155 bs)
-          d155 = Typed.s-seq 𝓤 H A W 𝓣 E G0 G20 b9 b94 Δ0 (Typed.pass T0 T20 (s17 bs)) (at154 bs) (Repeat.t-repeat 𝓤 H A W E 𝓣 (Referent.rtF (Referent.fInt Syntax.w8)) (Plain'.uint-lawful 𝓤 H A W Syntax.w8) (Copies.cRf (Referent.fInt Syntax.w8) .copy 𝓤 H A W) (Plain'.uint-makes 𝓤 H A W Syntax.w8) 2048 G0 11 (Scalar.oInt Syntax.w8 0) (λ m. 0) (Reads.room-gone
-              𝓤 H A ty·0) tt Path'.refl λ m wa. (Path'.refl, Dec'.lit< tt)) (Typed.g-pre 𝓤 H A W 𝓣 E G20 G21 b94 Δ0 (Typed.pass T20 T21 (s18 bs)) (at153 bs) (AtSlots.g-as-by 𝓤 H A W E (λ ρ. Unit) G20 11 (Rows.arrF (Referent.rtF (Referent.fInt Syntax.w8)) 2048 0) (λ x. x) (Own.told-none 𝓤 H A (G20 .slots)) λ ρ told. Repeat.whole-arr 𝓤 H A W (Referent.rtF
-              (Referent.fInt Syntax.w8)) 2048 tt ρ) (Typed.s-seq 𝓤 H A W 𝓣 E G21 G22 b10 b93 Δ0 (Typed.pass T21 T22 (s19 bs)) (at152 bs) (Repeat.t-repeat 𝓤 H A W E 𝓣 (Referent.rtF (Referent.fInt Syntax.w16)) (Plain'.uint-lawful 𝓤 H A W Syntax.w16) (Copies.cRf (Referent.fInt Syntax.w16) .copy 𝓤 H A W) (Plain'.uint-makes 𝓤 H A W Syntax.w16) 2048 G21 12
+          d155 = Typed.s-seq 𝓤 H A W 𝓣 E G0 G20 b9 b94 Δ0 (Typed.pass T0 T20 (s17 bs)) (at154 bs) (Repeat.t-repeat 𝓤 H A W E 𝓣 (Referent.rtF (Referent.fInt Syntax.w8)) (Plain'.uint-lawful 𝓤 H A W Syntax.w8) (Copies.cRf (Referent.fInt Syntax.w8) .copy 𝓤 H A W) (Plain'.uint-makes 𝓤 H A W Syntax.w8) 4096 G0 11 (Scalar.oInt Syntax.w8 0) (λ m. 0) (Reads.room-gone
+              𝓤 H A ty·0) tt Path'.refl λ m wa. (Path'.refl, Dec'.lit< tt)) (Typed.g-pre 𝓤 H A W 𝓣 E G20 G21 b94 Δ0 (Typed.pass T20 T21 (s18 bs)) (at153 bs) (AtSlots.g-as-by 𝓤 H A W E (λ ρ. Unit) G20 11 (Rows.arrF (Referent.rtF (Referent.fInt Syntax.w8)) 4096 0) (λ x. x) (Own.told-none 𝓤 H A (G20 .slots)) λ ρ told. Repeat.whole-arr 𝓤 H A W (Referent.rtF
+              (Referent.fInt Syntax.w8)) 4096 tt ρ) (Typed.s-seq 𝓤 H A W 𝓣 E G21 G22 b10 b93 Δ0 (Typed.pass T21 T22 (s19 bs)) (at152 bs) (Repeat.t-repeat 𝓤 H A W E 𝓣 (Referent.rtF (Referent.fInt Syntax.w16)) (Plain'.uint-lawful 𝓤 H A W Syntax.w16) (Copies.cRf (Referent.fInt Syntax.w16) .copy 𝓤 H A W) (Plain'.uint-makes 𝓤 H A W Syntax.w16) 4096 G21 12
               (Scalar.oInt Syntax.w16 0) (λ m. 0) (Reads.room-gone 𝓤 H A ty·1) tt Path'.refl λ m wa. (Path'.refl, Dec'.lit< tt)) d152))
 
           d156 : Typed.Typed 𝓤 H A 𝓣 E G12 b96 Δ0 (at156 bs)
@@ -3823,7 +3823,7 @@ module _ (claims· : Claims) where
         pub first-drones : After-first-drones·own before
 
       abbrev pub Need-slice-aggregate-read-plan : Type 0
-      Need-slice-aggregate-read-plan = (c : After-first-drones) → Relend.CountIs T55 36 37 (λ x. x) (λ u. 2048) (m44 (c .before) (c .first-drones .given))
+      Need-slice-aggregate-read-plan = (c : After-first-drones) → Relend.CountIs T55 36 37 (λ x. x) (λ u. 4096) (m44 (c .before) (c .first-drones .given))
 
       abbrev pub m45 : (before : After-read-plan-arg8) → (given : s52 (before .before .before .before .before .before .before .before .before .before .before .before .before .before .before .before .before .before .before .before .blocks) .gives (m43 (before .before) (before .read-plan-arg8 .given))) → Typed.Mo T56
       m45 = λ before given. s53 (before .before .before .before .before .before .before .before .before .before .before .before .before .before .before .before .before .before .before .before .blocks) .next (m44 before given)
@@ -3840,7 +3840,7 @@ module _ (claims· : Claims) where
         pub first-stops : After-first-stops·own before
 
       abbrev pub Need-slice-aggregate-read-plan-2 : Type 0
-      Need-slice-aggregate-read-plan-2 = (c : After-first-stops) → Relend.CountIs T58 38 39 (λ x. x) (λ u. 2048) (m46 (c .before) (c .first-stops .given))
+      Need-slice-aggregate-read-plan-2 = (c : After-first-stops) → Relend.CountIs T58 38 39 (λ x. x) (λ u. 4096) (m46 (c .before) (c .first-stops .given))
 
       abbrev pub m47 : (before : After-first-drones) → (given : s55 (before .before .before .before .before .before .before .before .before .before .before .before .before .before .before .before .before .before .before .before .before .blocks) .gives (m45 (before .before) (before .first-drones .given))) → Typed.Mo T59
       m47 = λ before given. s56 (before .before .before .before .before .before .before .before .before .before .before .before .before .before .before .before .before .before .before .before .before .blocks) .next (m46 before given)
@@ -3857,7 +3857,7 @@ module _ (claims· : Claims) where
         pub second-drones : After-second-drones·own before
 
       abbrev pub Need-slice-aggregate-read-plan-3 : Type 0
-      Need-slice-aggregate-read-plan-3 = (c : After-second-drones) → Relend.CountIs T61 40 41 (λ x. x) (λ u. 2048) (m48 (c .before) (c .second-drones .given))
+      Need-slice-aggregate-read-plan-3 = (c : After-second-drones) → Relend.CountIs T61 40 41 (λ x. x) (λ u. 4096) (m48 (c .before) (c .second-drones .given))
 
       abbrev pub m49 : (before : After-first-stops) → (given : s58 (before .before .before .before .before .before .before .before .before .before .before .before .before .before .before .before .before .before .before .before .before .before .blocks) .gives (m47 (before .before) (before .first-stops .given))) → Typed.Mo T62
       m49 = λ before given. s59 (before .before .before .before .before .before .before .before .before .before .before .before .before .before .before .before .before .before .before .before .before .before .blocks) .next (m48 before given)
@@ -3874,7 +3874,7 @@ module _ (claims· : Claims) where
         pub second-stops : After-second-stops·own before
 
       abbrev pub Need-slice-aggregate-read-plan-4 : Type 0
-      Need-slice-aggregate-read-plan-4 = (c : After-second-stops) → Relend.CountIs T64 42 43 (λ x. x) (λ u. 2048) (m50 (c .before) (c .second-stops .given))
+      Need-slice-aggregate-read-plan-4 = (c : After-second-stops) → Relend.CountIs T64 42 43 (λ x. x) (λ u. 4096) (m50 (c .before) (c .second-stops .given))
 
       abbrev pub m51 : (before : After-second-drones) → (given : s61 (before .before .before .before .before .before .before .before .before .before .before .before .before .before .before .before .before .before .before .before .before .before .before .blocks) .gives (m49 (before .before) (before .second-drones .given))) → Typed.Mo T65
       m51 = λ before given. s62 (before .before .before .before .before .before .before .before .before .before .before .before .before .before .before .before .before .before .before .before .before .before .before .blocks) .next (m50 before given)
@@ -3891,7 +3891,7 @@ module _ (claims· : Claims) where
         pub flags : After-flags·own before
 
       abbrev pub Need-slice-aggregate-read-plan-5 : Type 0
-      Need-slice-aggregate-read-plan-5 = (c : After-flags) → Relend.CountIs T67 44 45 (λ x. x) (λ u. 2048) (m52 (c .before) (c .flags .given))
+      Need-slice-aggregate-read-plan-5 = (c : After-flags) → Relend.CountIs T67 44 45 (λ x. x) (λ u. 4096) (m52 (c .before) (c .flags .given))
 
       abbrev pub m53 : (before : After-second-stops) → (given : s64 (before .before .before .before .before .before .before .before .before .before .before .before .before .before .before .before .before .before .before .before .before .before .before .before .blocks) .gives (m51 (before .before) (before .second-stops .given))) → Typed.Mo T68
       m53 = λ before given. s65 (before .before .before .before .before .before .before .before .before .before .before .before .before .before .before .before .before .before .before .before .before .before .before .before .blocks) .next (m52 before given)
@@ -4513,7 +4513,7 @@ module _ (claims· : Claims) where
             .κs) (c .before .before .before .before .before .before .before .before .before .before .before .before .before .before .before .before .before .before .args) (c .before .before .before .before .before .before .before .before .before .before .before .before .before .before .before .before .before .before .blocks)) (m41 (c .before) (c .read-plan-arg7
             .given))
         lay3 = λ c. λ g.
-            (Path'.refl, λ g'. (Relend.count-is T55 36 37 (λ x. x) (λ u. 2048) (m44 record { before = record { before = c .before; read-plan-arg7 = c .read-plan-arg7 }; read-plan-arg8 = record { given = g } } g') (slice-aggregate-read-plan record { before = record { before = record { before = c .before; read-plan-arg7 = c .read-plan-arg7 }; read-plan-arg8 = record { given = g } }; first-drones = record { given = g' } }), λ g''. (Relend.count-is T58 38 39 (λ x. x) (λ u. 2048) (m46 record { before = record { before = record { before = c .before; read-plan-arg7 = c .read-plan-arg7 }; read-plan-arg8 = record { given = g } }; first-drones = record { given = g' } } g'') (slice-aggregate-read-plan-2 record { before = record { before = record { before = record { before = c .before; read-plan-arg7 = c .read-plan-arg7 }; read-plan-arg8 = record { given = g } }; first-drones = record { given = g' } }; first-stops = record { given = g'' } }), λ g'3. (Relend.count-is T61 40 41 (λ x. x) (λ u. 2048) (m48 record { before = record { before = record { before = record { before = c .before; read-plan-arg7 = c .read-plan-arg7 }; read-plan-arg8 = record { given = g } }; first-drones = record { given = g' } }; first-stops = record { given = g'' } } g'3) (slice-aggregate-read-plan-3 record { before = record { before = record { before = record { before = record { before = c .before; read-plan-arg7 = c .read-plan-arg7 }; read-plan-arg8 = record { given = g } }; first-drones = record { given = g' } }; first-stops = record { given = g'' } }; second-drones = record { given = g'3 } }), λ g'4. (Relend.count-is T64 42 43 (λ x. x) (λ u. 2048) (m50 record { before = record { before = record { before = record { before = record { before = c .before; read-plan-arg7 = c .read-plan-arg7 }; read-plan-arg8 = record { given = g } }; first-drones = record { given = g' } }; first-stops = record { given = g'' } }; second-drones = record { given = g'3 } } g'4) (slice-aggregate-read-plan-4 record { before = record { before = record { before = record { before = record { before = record { before = c .before; read-plan-arg7 = c .read-plan-arg7 }; read-plan-arg8 = record { given = g } }; first-drones = record { given = g' } }; first-stops = record { given = g'' } }; second-drones = record { given = g'3 } }; second-stops = record { given = g'4 } }), λ g'5. (Relend.count-is T67 44 45 (λ x. x) (λ u. 2048) (m52 record { before = record { before = record { before = record { before = record { before = record { before = c .before; read-plan-arg7 = c .read-plan-arg7 }; read-plan-arg8 = record { given = g } }; first-drones = record { given = g' } }; first-stops = record { given = g'' } }; second-drones = record { given = g'3 } }; second-stops = record { given = g'4 } } g'5) (slice-aggregate-read-plan-5 record { before = record { before = record { before = record { before = record { before = record { before = record { before = c .before; read-plan-arg7 = c .read-plan-arg7 }; read-plan-arg8 = record { given = g } }; first-drones = record { given = g' } }; first-stops = record { given = g'' } }; second-drones = record { given = g'3 } }; second-stops = record { given = g'4 } }; flags = record { given = g'5 } }), (read-plan-requires record { before = record { before = record { before = record { before = record { before = record { before = record { before = c .before; read-plan-arg7 = c .read-plan-arg7 }; read-plan-arg8 = record { given = g } }; first-drones = record { given = g' } }; first-stops = record { given = g'' } }; second-drones = record { given = g'3 } }; second-stops = record { given = g'4 } }; flags = record { given = g'5 } }, λ g'6. lay4 record { before = record { before = record { before = record { before = record { before = record { before = record { before = record { before = c .before; read-plan-arg7 = c .read-plan-arg7 }; read-plan-arg8 = record { given = g } }; first-drones = record { given = g' } }; first-stops = record { given = g'' } }; second-drones = record { given = g'3 } }; second-stops = record { given = g'4 } }; flags = record { given = g'5 } }; read-plan = Called.called ps·1 r·1 (claims· .3) T68 args·0 (m53 record { before = record { before = record { before = record { before = record { before = record { before = c .before; read-plan-arg7 = c .read-plan-arg7 }; read-plan-arg8 = record { given = g } }; first-drones = record { given = g' } }; first-stops = record { given = g'' } }; second-drones = record { given = g'3 } }; second-stops = record { given = g'4 } } g'5) g'6 })))))))
+            (Path'.refl, λ g'. (Relend.count-is T55 36 37 (λ x. x) (λ u. 4096) (m44 record { before = record { before = c .before; read-plan-arg7 = c .read-plan-arg7 }; read-plan-arg8 = record { given = g } } g') (slice-aggregate-read-plan record { before = record { before = record { before = c .before; read-plan-arg7 = c .read-plan-arg7 }; read-plan-arg8 = record { given = g } }; first-drones = record { given = g' } }), λ g''. (Relend.count-is T58 38 39 (λ x. x) (λ u. 4096) (m46 record { before = record { before = record { before = c .before; read-plan-arg7 = c .read-plan-arg7 }; read-plan-arg8 = record { given = g } }; first-drones = record { given = g' } } g'') (slice-aggregate-read-plan-2 record { before = record { before = record { before = record { before = c .before; read-plan-arg7 = c .read-plan-arg7 }; read-plan-arg8 = record { given = g } }; first-drones = record { given = g' } }; first-stops = record { given = g'' } }), λ g'3. (Relend.count-is T61 40 41 (λ x. x) (λ u. 4096) (m48 record { before = record { before = record { before = record { before = c .before; read-plan-arg7 = c .read-plan-arg7 }; read-plan-arg8 = record { given = g } }; first-drones = record { given = g' } }; first-stops = record { given = g'' } } g'3) (slice-aggregate-read-plan-3 record { before = record { before = record { before = record { before = record { before = c .before; read-plan-arg7 = c .read-plan-arg7 }; read-plan-arg8 = record { given = g } }; first-drones = record { given = g' } }; first-stops = record { given = g'' } }; second-drones = record { given = g'3 } }), λ g'4. (Relend.count-is T64 42 43 (λ x. x) (λ u. 4096) (m50 record { before = record { before = record { before = record { before = record { before = c .before; read-plan-arg7 = c .read-plan-arg7 }; read-plan-arg8 = record { given = g } }; first-drones = record { given = g' } }; first-stops = record { given = g'' } }; second-drones = record { given = g'3 } } g'4) (slice-aggregate-read-plan-4 record { before = record { before = record { before = record { before = record { before = record { before = c .before; read-plan-arg7 = c .read-plan-arg7 }; read-plan-arg8 = record { given = g } }; first-drones = record { given = g' } }; first-stops = record { given = g'' } }; second-drones = record { given = g'3 } }; second-stops = record { given = g'4 } }), λ g'5. (Relend.count-is T67 44 45 (λ x. x) (λ u. 4096) (m52 record { before = record { before = record { before = record { before = record { before = record { before = c .before; read-plan-arg7 = c .read-plan-arg7 }; read-plan-arg8 = record { given = g } }; first-drones = record { given = g' } }; first-stops = record { given = g'' } }; second-drones = record { given = g'3 } }; second-stops = record { given = g'4 } } g'5) (slice-aggregate-read-plan-5 record { before = record { before = record { before = record { before = record { before = record { before = record { before = c .before; read-plan-arg7 = c .read-plan-arg7 }; read-plan-arg8 = record { given = g } }; first-drones = record { given = g' } }; first-stops = record { given = g'' } }; second-drones = record { given = g'3 } }; second-stops = record { given = g'4 } }; flags = record { given = g'5 } }), (read-plan-requires record { before = record { before = record { before = record { before = record { before = record { before = record { before = c .before; read-plan-arg7 = c .read-plan-arg7 }; read-plan-arg8 = record { given = g } }; first-drones = record { given = g' } }; first-stops = record { given = g'' } }; second-drones = record { given = g'3 } }; second-stops = record { given = g'4 } }; flags = record { given = g'5 } }, λ g'6. lay4 record { before = record { before = record { before = record { before = record { before = record { before = record { before = record { before = c .before; read-plan-arg7 = c .read-plan-arg7 }; read-plan-arg8 = record { given = g } }; first-drones = record { given = g' } }; first-stops = record { given = g'' } }; second-drones = record { given = g'3 } }; second-stops = record { given = g'4 } }; flags = record { given = g'5 } }; read-plan = Called.called ps·1 r·1 (claims· .3) T68 args·0 (m53 record { before = record { before = record { before = record { before = record { before = record { before = c .before; read-plan-arg7 = c .read-plan-arg7 }; read-plan-arg8 = record { given = g } }; first-drones = record { given = g' } }; first-stops = record { given = g'' } }; second-drones = record { given = g'3 } }; second-stops = record { given = g'4 } } g'5) g'6 })))))))
 
         lay2 : (c : Else1) → at155 (c .before .before .before .before .before .before .before .before .before .before .before .blocks) (W0 (c .before .before .before .before .before .before .before .before .before .before .before .κs) (c .before .before .before .before .before .before .before .before .before .before .before .args) (c .before .before .before
             .before .before .before .before .before .before .before .before .blocks)) (m17 (c .before))

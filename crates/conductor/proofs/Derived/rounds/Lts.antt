@@ -56,10 +56,10 @@ use prog.Wp
 use types.Kit
 
 abbrev ty·0 : Syntax.Ty
-ty·0 = Syntax.tyArray (Syntax.tyInt Syntax.w8) 2048
+ty·0 = Syntax.tyArray (Syntax.tyInt Syntax.w8) 4096
 
 abbrev ty·1 : Syntax.Ty
-ty·1 = Syntax.tyArray (Syntax.tyInt Syntax.w16) 2048
+ty·1 = Syntax.tyArray (Syntax.tyInt Syntax.w16) 4096
 
 abbrev ty·2 : Syntax.Ty
 ty·2 = Syntax.tyRef (Syntax.named 8) Syntax.imm Rec.behind
@@ -159,67 +159,67 @@ abbrev row·21 : Row.Row
 row·21 = Rows'.whole (Declared.row RoundsAnswer.the-type)
 
 abbrev row·22 : Row.Row
-row·22 = Rows'.whole (Array'.Array (Referent.rtF (Referent.fInt Syntax.w16)) 2048)
+row·22 = Rows'.whole (Array'.Array (Referent.rtF (Referent.fInt Syntax.w16)) 4096)
 
 abbrev row·23 : Row.Row
-row·23 = Rows.arrF (Referent.rtF (Referent.fInt Syntax.w16)) 2048 0
+row·23 = Rows.arrF (Referent.rtF (Referent.fInt Syntax.w16)) 4096 0
 
 abbrev row·24 : Row.Row
-row·24 = Rows'.whole (Array'.Array (Array'.Array (Referent.rtF (Referent.fInt Syntax.w16)) 2048) 2)
+row·24 = Rows'.whole (Array'.Array (Array'.Array (Referent.rtF (Referent.fInt Syntax.w16)) 4096) 2)
 
 abbrev row·25 : Row.Row
-row·25 = Rows.arrF (Array'.Array (Referent.rtF (Referent.fInt Syntax.w16)) 2048) 2 0
+row·25 = Rows.arrF (Array'.Array (Referent.rtF (Referent.fInt Syntax.w16)) 4096) 2 0
 
 abbrev row·26 : Row.Row
-row·26 = Rows'.whole (Array'.Array (Referent.rtF (Referent.fInt Syntax.w8)) 2048)
+row·26 = Rows'.whole (Array'.Array (Referent.rtF (Referent.fInt Syntax.w8)) 4096)
 
 abbrev row·27 : Row.Row
-row·27 = Rows.arrF (Referent.rtF (Referent.fInt Syntax.w8)) 2048 0
+row·27 = Rows.arrF (Referent.rtF (Referent.fInt Syntax.w8)) 4096 0
 
 abbrev row·28 : Row.Row
-row·28 = Rows'.whole (Array'.Array (Array'.Array (Referent.rtF (Referent.fInt Syntax.w8)) 2048) 2)
+row·28 = Rows'.whole (Array'.Array (Array'.Array (Referent.rtF (Referent.fInt Syntax.w8)) 4096) 2)
 
 abbrev row·29 : Row.Row
-row·29 = Rows.arrF (Array'.Array (Referent.rtF (Referent.fInt Syntax.w8)) 2048) 2 0
+row·29 = Rows.arrF (Array'.Array (Referent.rtF (Referent.fInt Syntax.w8)) 4096) 2 0
 
 abbrev row·30 : Row.Row
-row·30 = Rows'.sc-owed (Array'.Array (Array'.Array (Referent.rtF (Referent.fInt Syntax.w16)) 2048) 2) 9
+row·30 = Rows'.sc-owed (Array'.Array (Array'.Array (Referent.rtF (Referent.fInt Syntax.w16)) 4096) 2) 9
 
 abbrev row·31 : Row.Row
-row·31 = Rows'.mref (Array'.Array (Array'.Array (Referent.rtF (Referent.fInt Syntax.w16)) 2048) 2) (Syntax.tyRef Syntax.erased Syntax.mut (Syntax.tyArray ty·1 2)) 9
+row·31 = Rows'.mref (Array'.Array (Array'.Array (Referent.rtF (Referent.fInt Syntax.w16)) 4096) 2) (Syntax.tyRef Syntax.erased Syntax.mut (Syntax.tyArray ty·1 2)) 9
 
 abbrev row·32 : Row.Row
-row·32 = Rows'.sc-owed (Array'.Array (Array'.Array (Referent.rtF (Referent.fInt Syntax.w8)) 2048) 2) 10
+row·32 = Rows'.sc-owed (Array'.Array (Array'.Array (Referent.rtF (Referent.fInt Syntax.w8)) 4096) 2) 10
 
 abbrev row·33 : Row.Row
-row·33 = Rows'.mref (Array'.Array (Array'.Array (Referent.rtF (Referent.fInt Syntax.w8)) 2048) 2) (Syntax.tyRef Syntax.erased Syntax.mut (Syntax.tyArray ty·0 2)) 10
+row·33 = Rows'.mref (Array'.Array (Array'.Array (Referent.rtF (Referent.fInt Syntax.w8)) 4096) 2) (Syntax.tyRef Syntax.erased Syntax.mut (Syntax.tyArray ty·0 2)) 10
 
 abbrev row·34 : Row.Row
-row·34 = Rows'.sc-owed (Array'.Array (Referent.rtF (Referent.fInt Syntax.w8)) 2048) 11
+row·34 = Rows'.sc-owed (Array'.Array (Referent.rtF (Referent.fInt Syntax.w8)) 4096) 11
 
 abbrev row·35 : Row.Row
-row·35 = Rows'.mref (Array'.Array (Referent.rtF (Referent.fInt Syntax.w8)) 2048) (Syntax.tyRef Syntax.erased Syntax.mut ty·0) 11
+row·35 = Rows'.mref (Array'.Array (Referent.rtF (Referent.fInt Syntax.w8)) 4096) (Syntax.tyRef Syntax.erased Syntax.mut ty·0) 11
 
 abbrev row·36 : Row.Row
 row·36 = Rows'.sc-here (Row.sInt Syntax.w64)
 
 abbrev row·37 : Row.Row
-row·37 = Rows'.mleft (Array'.Array (Array'.Array (Referent.rtF (Referent.fInt Syntax.w16)) 2048) 2) (Syntax.tyRef Syntax.erased Syntax.mut (Syntax.tyArray ty·1 2))
+row·37 = Rows'.mleft (Array'.Array (Array'.Array (Referent.rtF (Referent.fInt Syntax.w16)) 4096) 2) (Syntax.tyRef Syntax.erased Syntax.mut (Syntax.tyArray ty·1 2))
 
 abbrev row·38 : Row.Row
-row·38 = Rows'.mleft (Array'.Array (Array'.Array (Referent.rtF (Referent.fInt Syntax.w8)) 2048) 2) (Syntax.tyRef Syntax.erased Syntax.mut (Syntax.tyArray ty·0 2))
+row·38 = Rows'.mleft (Array'.Array (Array'.Array (Referent.rtF (Referent.fInt Syntax.w8)) 4096) 2) (Syntax.tyRef Syntax.erased Syntax.mut (Syntax.tyArray ty·0 2))
 
 abbrev row·39 : Row.Row
-row·39 = Rows'.mleft (Array'.Array (Referent.rtF (Referent.fInt Syntax.w8)) 2048) (Syntax.tyRef Syntax.erased Syntax.mut ty·0)
+row·39 = Rows'.mleft (Array'.Array (Referent.rtF (Referent.fInt Syntax.w8)) 4096) (Syntax.tyRef Syntax.erased Syntax.mut ty·0)
 
 abbrev row·40 : Row.Row
-row·40 = Rows'.sref (Array'.Array (Array'.Array (Referent.rtF (Referent.fInt Syntax.w16)) 2048) 2) (Syntax.tyRef Syntax.erased Syntax.imm (Syntax.tyArray ty·1 2)) 12
+row·40 = Rows'.sref (Array'.Array (Array'.Array (Referent.rtF (Referent.fInt Syntax.w16)) 4096) 2) (Syntax.tyRef Syntax.erased Syntax.imm (Syntax.tyArray ty·1 2)) 12
 
 abbrev row·41 : Row.Row
-row·41 = Rows'.sref (Array'.Array (Array'.Array (Referent.rtF (Referent.fInt Syntax.w8)) 2048) 2) (Syntax.tyRef Syntax.erased Syntax.imm (Syntax.tyArray ty·0 2)) 13
+row·41 = Rows'.sref (Array'.Array (Array'.Array (Referent.rtF (Referent.fInt Syntax.w8)) 4096) 2) (Syntax.tyRef Syntax.erased Syntax.imm (Syntax.tyArray ty·0 2)) 13
 
 abbrev row·42 : Row.Row
-row·42 = Rows'.sref (Array'.Array (Referent.rtF (Referent.fInt Syntax.w8)) 2048) (Syntax.tyRef Syntax.erased Syntax.imm ty·0) 14
+row·42 = Rows'.sref (Array'.Array (Referent.rtF (Referent.fInt Syntax.w8)) 4096) (Syntax.tyRef Syntax.erased Syntax.imm ty·0) 14
 
 abbrev pub ps : List.List (Kinds.PK 9)
 ps = List._∷_ (ShrSlice.pShrS (Referent.rtF (Referent.fInt Syntax.w16)) 0 tt) (List._∷_ (ShrSlice.pShrS (Referent.rtF (Referent.fInt Syntax.w16)) 1 tt) (List._∷_ (ShrSlice.pShrS (Referent.rtF (Referent.fInt Syntax.w8)) 2 tt) (List._∷_ (ShrSlice.pShrS (Referent.rtF (Referent.fInt Syntax.w16)) 3 tt) (List._∷_ (ShrSlice.pShrS (Referent.rtF (Referent.fInt
@@ -237,16 +237,16 @@ abbrev pub m : Nat.ℕ
 m = 6
 
 abbrev pub ps·0 : List.List (Kinds.PK 5)
-ps·0 = List._∷_ (ShrSlice.pShrS (Referent.rtF (Referent.fInt Syntax.w16)) 0 tt) (List._∷_ (ShrSlice.pShrS Rec.rt 1 tt) (List._∷_ (Kinds.pMut (Array'.Array (Array'.Array (Referent.rtF (Referent.fInt Syntax.w16)) 2048) 2) 2 tt) (List._∷_ (Kinds.pMut (Array'.Array (Array'.Array (Referent.rtF (Referent.fInt Syntax.w8)) 2048) 2) 3 tt) (List._∷_ (Kinds.pMut
-    (Array'.Array (Referent.rtF (Referent.fInt Syntax.w8)) 2048) 4 tt) List.[]))))
+ps·0 = List._∷_ (ShrSlice.pShrS (Referent.rtF (Referent.fInt Syntax.w16)) 0 tt) (List._∷_ (ShrSlice.pShrS Rec.rt 1 tt) (List._∷_ (Kinds.pMut (Array'.Array (Array'.Array (Referent.rtF (Referent.fInt Syntax.w16)) 4096) 2) 2 tt) (List._∷_ (Kinds.pMut (Array'.Array (Array'.Array (Referent.rtF (Referent.fInt Syntax.w8)) 4096) 2) 3 tt) (List._∷_ (Kinds.pMut
+    (Array'.Array (Referent.rtF (Referent.fInt Syntax.w8)) 4096) 4 tt) List.[]))))
 
 abbrev pub r·0 : Kinds.RK 5
 r·0 = Num.rNum Syntax.w64
 
 abbrev pub ps·1 : List.List (Kinds.PK 11)
 ps·1 = List._∷_ (ShrSlice.pShrS (Referent.rtF (Referent.fInt Syntax.w16)) 0 tt) (List._∷_ (ShrSlice.pShrS (Referent.rtF (Referent.fInt Syntax.w16)) 1 tt) (List._∷_ (ShrSlice.pShrS (Referent.rtF (Referent.fInt Syntax.w8)) 2 tt) (List._∷_ (ShrSlice.pShrS (Referent.rtF (Referent.fInt Syntax.w16)) 3 tt) (List._∷_ (ShrSlice.pShrS (Referent.rtF (Referent.fInt
-    Syntax.w16)) 4 tt) (List._∷_ (ShrSlice.pShrS (Referent.rtF (Referent.fInt Syntax.w32)) 5 tt) (List._∷_ (ShrSlice.pShrS (Referent.rtF (Referent.fInt Syntax.w16)) 6 tt) (List._∷_ (ShrSlice.pShrS (Referent.rtF (Referent.fInt Syntax.w8)) 7 tt) (List._∷_ (ShrRef.pShr (Array'.Array (Array'.Array (Referent.rtF (Referent.fInt Syntax.w16)) 2048) 2) 8 tt) (List._∷_
-    (ShrRef.pShr (Array'.Array (Array'.Array (Referent.rtF (Referent.fInt Syntax.w8)) 2048) 2) 9 tt) (List._∷_ (ShrRef.pShr (Array'.Array (Referent.rtF (Referent.fInt Syntax.w8)) 2048) 10 tt) (List._∷_ (Num.pNum Syntax.w64) List.[])))))))))))
+    Syntax.w16)) 4 tt) (List._∷_ (ShrSlice.pShrS (Referent.rtF (Referent.fInt Syntax.w32)) 5 tt) (List._∷_ (ShrSlice.pShrS (Referent.rtF (Referent.fInt Syntax.w16)) 6 tt) (List._∷_ (ShrSlice.pShrS (Referent.rtF (Referent.fInt Syntax.w8)) 7 tt) (List._∷_ (ShrRef.pShr (Array'.Array (Array'.Array (Referent.rtF (Referent.fInt Syntax.w16)) 4096) 2) 8 tt) (List._∷_
+    (ShrRef.pShr (Array'.Array (Array'.Array (Referent.rtF (Referent.fInt Syntax.w8)) 4096) 2) 9 tt) (List._∷_ (ShrRef.pShr (Array'.Array (Referent.rtF (Referent.fInt Syntax.w8)) 4096) 10 tt) (List._∷_ (Num.pNum Syntax.w64) List.[])))))))))))
 
 abbrev pub r·1 : Kinds.RK 11
 r·1 = Value.rVal record { ty = Declared.row RoundsAnswer.the-type; one = Path'.refl; val = Laws'.val RoundsAnswer.the-type Laws.the-laws; tells = Laws'.tells RoundsAnswer.the-type Laws.the-laws; still = Laws'.still RoundsAnswer.the-type Laws.the-copy Exit.yes; row = Rows'.whole (Declared.row RoundsAnswer.the-type); rd = λ x. x; mk = λ x. x } λ M 𝓤 H A W.
@@ -257,19 +257,19 @@ hs = List._∷_ Syntax.valueLocal (List._∷_ Syntax.valueLocal (List._∷_ Synt
     Syntax.memorySlot (List._∷_ Syntax.valueLocal (List._∷_ Syntax.valueLocal (List._∷_ Syntax.valueLocal (List._∷_ Syntax.valueLocal (List._∷_ Syntax.valueLocal (List._∷_ Syntax.valueLocal (List._∷_ Syntax.valueLocal (List._∷_ Syntax.valueLocal (List._∷_ Syntax.valueLocal List.[])))))))))))))))))))))
 
 abbrev b0 : Syntax.Body
-b0 = Syntax.assign (Syntax.place 14 List.[]) (Syntax.repeat (Syntax.int Syntax.w16 0) 2048)
+b0 = Syntax.assign (Syntax.place 14 List.[]) (Syntax.repeat (Syntax.int Syntax.w16 0) 4096)
 
 abbrev b1 : Syntax.Body
 b1 = Syntax.assign (Syntax.place 10 List.[]) (Syntax.repeat (Syntax.copy (Syntax.place 14 List.[])) 2)
 
 abbrev b2 : Syntax.Body
-b2 = Syntax.assign (Syntax.place 15 List.[]) (Syntax.repeat (Syntax.int Syntax.w8 0) 2048)
+b2 = Syntax.assign (Syntax.place 15 List.[]) (Syntax.repeat (Syntax.int Syntax.w8 0) 4096)
 
 abbrev b3 : Syntax.Body
 b3 = Syntax.assign (Syntax.place 11 List.[]) (Syntax.repeat (Syntax.copy (Syntax.place 15 List.[])) 2)
 
 abbrev b4 : Syntax.Body
-b4 = Syntax.assign (Syntax.place 12 List.[]) (Syntax.repeat (Syntax.int Syntax.w8 0) 2048)
+b4 = Syntax.assign (Syntax.place 12 List.[]) (Syntax.repeat (Syntax.int Syntax.w8 0) 4096)
 
 abbrev b5 : Syntax.Body
 b5 = Syntax.assign (Syntax.place 16 List.[]) (Syntax.addrOf (Syntax.place 10 List.[]))
@@ -352,8 +352,8 @@ t33 = List._∷_ (16, row·15) (List._∷_ (17, row·16) (List._∷_ (18, row·1
 
 abbrev pub t34 : List.List Row.Entry
 t34 = List._∷_ (0, row·21) (List._∷_ (1, row·1) (List._∷_ (2, row·2) (List._∷_ (3, row·3) (List._∷_ (4, row·4) (List._∷_ (5, row·5) (List._∷_ (6, row·6) (List._∷_ (7, row·7) (List._∷_ (8, row·8) (List._∷_ (9, row·9) (List._∷_
-    (10, Rows'.sc-shr (Rows.arrF (Array'.Array (Referent.rtF (Referent.fInt Syntax.w16)) 2048) 2 0) (Array'.Array (Array'.Array (Referent.rtF (Referent.fInt Syntax.w16)) 2048) 2) (λ x. x) 12) (List._∷_
-    (11, Rows'.sc-shr (Rows.arrF (Array'.Array (Referent.rtF (Referent.fInt Syntax.w8)) 2048) 2 0) (Array'.Array (Array'.Array (Referent.rtF (Referent.fInt Syntax.w8)) 2048) 2) (λ x. x) 13) (List._∷_ (12, Rows'.sc-shr (Rows.arrF (Referent.rtF (Referent.fInt Syntax.w8)) 2048 0) (Array'.Array (Referent.rtF (Referent.fInt Syntax.w8)) 2048) (λ x. x) 14) (List._∷_
+    (10, Rows'.sc-shr (Rows.arrF (Array'.Array (Referent.rtF (Referent.fInt Syntax.w16)) 4096) 2 0) (Array'.Array (Array'.Array (Referent.rtF (Referent.fInt Syntax.w16)) 4096) 2) (λ x. x) 12) (List._∷_
+    (11, Rows'.sc-shr (Rows.arrF (Array'.Array (Referent.rtF (Referent.fInt Syntax.w8)) 4096) 2 0) (Array'.Array (Array'.Array (Referent.rtF (Referent.fInt Syntax.w8)) 4096) 2) (λ x. x) 13) (List._∷_ (12, Rows'.sc-shr (Rows.arrF (Referent.rtF (Referent.fInt Syntax.w8)) 4096 0) (Array'.Array (Referent.rtF (Referent.fInt Syntax.w8)) 4096) (λ x. x) 14) (List._∷_
     (13, row·36) (List._∷_ (14, row·14) (List._∷_ (15, row·12) List.[])))))))))))))))
 
 abbrev pub T0 : Row.Cx
@@ -442,15 +442,15 @@ T36 = record
 
 abbrev pub T39 : Row.Cx
 T39 = record
-    { locals = List._++_ (List._∷_ (0, row·0) (List._∷_ (1, row·1) (List._∷_ (2, row·2) (List._∷_ (3, row·3) (List._∷_ (4, row·4) (List._∷_ (5, row·5) (List._∷_ (6, row·6) (List._∷_ (7, row·7) (List._∷_ (8, row·8) (List._∷_ (9, row·9) (List._∷_ (10, Rows'.sc-shr (Rows.arrF (Array'.Array (Referent.rtF (Referent.fInt Syntax.w16)) 2048) 2 0) (Array'.Array (Array'.Array (Referent.rtF (Referent.fInt Syntax.w16)) 2048) 2) (λ x. x) 12) (List._∷_ (11, row·29) (List._∷_ (12, row·27) (List._∷_ (13, row·36) (List._∷_ (14, row·14) (List._∷_ (15, row·12) List.[])))))))))))))))) (List._∷_ (16, row·15) (List._∷_ (17, row·16) (List._∷_ (18, row·17) (List._∷_ (19, row·40) (List._∷_ (20, row·19) (List._∷_ (21, row·20) List.[])))))); slots = List.[] }
+    { locals = List._++_ (List._∷_ (0, row·0) (List._∷_ (1, row·1) (List._∷_ (2, row·2) (List._∷_ (3, row·3) (List._∷_ (4, row·4) (List._∷_ (5, row·5) (List._∷_ (6, row·6) (List._∷_ (7, row·7) (List._∷_ (8, row·8) (List._∷_ (9, row·9) (List._∷_ (10, Rows'.sc-shr (Rows.arrF (Array'.Array (Referent.rtF (Referent.fInt Syntax.w16)) 4096) 2 0) (Array'.Array (Array'.Array (Referent.rtF (Referent.fInt Syntax.w16)) 4096) 2) (λ x. x) 12) (List._∷_ (11, row·29) (List._∷_ (12, row·27) (List._∷_ (13, row·36) (List._∷_ (14, row·14) (List._∷_ (15, row·12) List.[])))))))))))))))) (List._∷_ (16, row·15) (List._∷_ (17, row·16) (List._∷_ (18, row·17) (List._∷_ (19, row·40) (List._∷_ (20, row·19) (List._∷_ (21, row·20) List.[])))))); slots = List.[] }
 
 abbrev pub T41 : Row.Cx
 T41 = record
-    { locals = List._++_ (List._∷_ (0, row·0) (List._∷_ (1, row·1) (List._∷_ (2, row·2) (List._∷_ (3, row·3) (List._∷_ (4, row·4) (List._∷_ (5, row·5) (List._∷_ (6, row·6) (List._∷_ (7, row·7) (List._∷_ (8, row·8) (List._∷_ (9, row·9) (List._∷_ (10, Rows'.sc-shr (Rows.arrF (Array'.Array (Referent.rtF (Referent.fInt Syntax.w16)) 2048) 2 0) (Array'.Array (Array'.Array (Referent.rtF (Referent.fInt Syntax.w16)) 2048) 2) (λ x. x) 12) (List._∷_ (11, Rows'.sc-shr (Rows.arrF (Array'.Array (Referent.rtF (Referent.fInt Syntax.w8)) 2048) 2 0) (Array'.Array (Array'.Array (Referent.rtF (Referent.fInt Syntax.w8)) 2048) 2) (λ x. x) 13) (List._∷_ (12, row·27) (List._∷_ (13, row·36) (List._∷_ (14, row·14) (List._∷_ (15, row·12) List.[])))))))))))))))) (List._∷_ (16, row·15) (List._∷_ (17, row·16) (List._∷_ (18, row·17) (List._∷_ (19, row·40) (List._∷_ (20, row·41) (List._∷_ (21, row·20) List.[])))))); slots = List.[] }
+    { locals = List._++_ (List._∷_ (0, row·0) (List._∷_ (1, row·1) (List._∷_ (2, row·2) (List._∷_ (3, row·3) (List._∷_ (4, row·4) (List._∷_ (5, row·5) (List._∷_ (6, row·6) (List._∷_ (7, row·7) (List._∷_ (8, row·8) (List._∷_ (9, row·9) (List._∷_ (10, Rows'.sc-shr (Rows.arrF (Array'.Array (Referent.rtF (Referent.fInt Syntax.w16)) 4096) 2 0) (Array'.Array (Array'.Array (Referent.rtF (Referent.fInt Syntax.w16)) 4096) 2) (λ x. x) 12) (List._∷_ (11, Rows'.sc-shr (Rows.arrF (Array'.Array (Referent.rtF (Referent.fInt Syntax.w8)) 4096) 2 0) (Array'.Array (Array'.Array (Referent.rtF (Referent.fInt Syntax.w8)) 4096) 2) (λ x. x) 13) (List._∷_ (12, row·27) (List._∷_ (13, row·36) (List._∷_ (14, row·14) (List._∷_ (15, row·12) List.[])))))))))))))))) (List._∷_ (16, row·15) (List._∷_ (17, row·16) (List._∷_ (18, row·17) (List._∷_ (19, row·40) (List._∷_ (20, row·41) (List._∷_ (21, row·20) List.[])))))); slots = List.[] }
 
 abbrev pub T43 : Row.Cx
 T43 = record
-    { locals = List._++_ (List._∷_ (0, row·0) (List._∷_ (1, row·1) (List._∷_ (2, row·2) (List._∷_ (3, row·3) (List._∷_ (4, row·4) (List._∷_ (5, row·5) (List._∷_ (6, row·6) (List._∷_ (7, row·7) (List._∷_ (8, row·8) (List._∷_ (9, row·9) (List._∷_ (10, Rows'.sc-shr (Rows.arrF (Array'.Array (Referent.rtF (Referent.fInt Syntax.w16)) 2048) 2 0) (Array'.Array (Array'.Array (Referent.rtF (Referent.fInt Syntax.w16)) 2048) 2) (λ x. x) 12) (List._∷_ (11, Rows'.sc-shr (Rows.arrF (Array'.Array (Referent.rtF (Referent.fInt Syntax.w8)) 2048) 2 0) (Array'.Array (Array'.Array (Referent.rtF (Referent.fInt Syntax.w8)) 2048) 2) (λ x. x) 13) (List._∷_ (12, Rows'.sc-shr (Rows.arrF (Referent.rtF (Referent.fInt Syntax.w8)) 2048 0) (Array'.Array (Referent.rtF (Referent.fInt Syntax.w8)) 2048) (λ x. x) 14) (List._∷_ (13, row·36) (List._∷_ (14, row·14) (List._∷_ (15, row·12) List.[])))))))))))))))) t33; slots = List.[] }
+    { locals = List._++_ (List._∷_ (0, row·0) (List._∷_ (1, row·1) (List._∷_ (2, row·2) (List._∷_ (3, row·3) (List._∷_ (4, row·4) (List._∷_ (5, row·5) (List._∷_ (6, row·6) (List._∷_ (7, row·7) (List._∷_ (8, row·8) (List._∷_ (9, row·9) (List._∷_ (10, Rows'.sc-shr (Rows.arrF (Array'.Array (Referent.rtF (Referent.fInt Syntax.w16)) 4096) 2 0) (Array'.Array (Array'.Array (Referent.rtF (Referent.fInt Syntax.w16)) 4096) 2) (λ x. x) 12) (List._∷_ (11, Rows'.sc-shr (Rows.arrF (Array'.Array (Referent.rtF (Referent.fInt Syntax.w8)) 4096) 2 0) (Array'.Array (Array'.Array (Referent.rtF (Referent.fInt Syntax.w8)) 4096) 2) (λ x. x) 13) (List._∷_ (12, Rows'.sc-shr (Rows.arrF (Referent.rtF (Referent.fInt Syntax.w8)) 4096 0) (Array'.Array (Referent.rtF (Referent.fInt Syntax.w8)) 4096) (λ x. x) 14) (List._∷_ (13, row·36) (List._∷_ (14, row·14) (List._∷_ (15, row·12) List.[])))))))))))))))) t33; slots = List.[] }
 
 abbrev pub T44 : Row.Cx
 T44 = record { locals = List._++_ t34 t33; slots = List.[] }
@@ -466,23 +466,23 @@ T47 = record { locals = List._++_ t34 t1; slots = List.[] }
 
 abbrev pub T48 : Row.Cx
 T48 = record
-    { locals = List._++_ (List._∷_ (0, row·21) (List._∷_ (1, row·1) (List._∷_ (2, row·2) (List._∷_ (3, row·3) (List._∷_ (4, row·4) (List._∷_ (5, row·5) (List._∷_ (6, row·6) (List._∷_ (7, row·7) (List._∷_ (8, row·8) (List._∷_ (9, row·9) (List._∷_ (10, Rows'.sc-shr (Rows.arrF (Array'.Array (Referent.rtF (Referent.fInt Syntax.w16)) 2048) 2 0) (Array'.Array (Array'.Array (Referent.rtF (Referent.fInt Syntax.w16)) 2048) 2) (λ x. x) 12) (List._∷_ (11, Rows'.sc-shr (Rows.arrF (Array'.Array (Referent.rtF (Referent.fInt Syntax.w8)) 2048) 2 0) (Array'.Array (Array'.Array (Referent.rtF (Referent.fInt Syntax.w8)) 2048) 2) (λ x. x) 13) (List._∷_ (12, Rows'.sc-shr (Rows.arrF (Referent.rtF (Referent.fInt Syntax.w8)) 2048 0) (Array'.Array (Referent.rtF (Referent.fInt Syntax.w8)) 2048) (λ x. x) 14) (List._∷_ (13, row·13) (List._∷_ (14, row·14) (List._∷_ (15, row·12) List.[])))))))))))))))) t1; slots = List.[] }
+    { locals = List._++_ (List._∷_ (0, row·21) (List._∷_ (1, row·1) (List._∷_ (2, row·2) (List._∷_ (3, row·3) (List._∷_ (4, row·4) (List._∷_ (5, row·5) (List._∷_ (6, row·6) (List._∷_ (7, row·7) (List._∷_ (8, row·8) (List._∷_ (9, row·9) (List._∷_ (10, Rows'.sc-shr (Rows.arrF (Array'.Array (Referent.rtF (Referent.fInt Syntax.w16)) 4096) 2 0) (Array'.Array (Array'.Array (Referent.rtF (Referent.fInt Syntax.w16)) 4096) 2) (λ x. x) 12) (List._∷_ (11, Rows'.sc-shr (Rows.arrF (Array'.Array (Referent.rtF (Referent.fInt Syntax.w8)) 4096) 2 0) (Array'.Array (Array'.Array (Referent.rtF (Referent.fInt Syntax.w8)) 4096) 2) (λ x. x) 13) (List._∷_ (12, Rows'.sc-shr (Rows.arrF (Referent.rtF (Referent.fInt Syntax.w8)) 4096 0) (Array'.Array (Referent.rtF (Referent.fInt Syntax.w8)) 4096) (λ x. x) 14) (List._∷_ (13, row·13) (List._∷_ (14, row·14) (List._∷_ (15, row·12) List.[])))))))))))))))) t1; slots = List.[] }
 
 abbrev pub T50 : Row.Cx
 T50 = record
-    { locals = List._++_ (List._∷_ (0, row·21) (List._∷_ (1, row·1) (List._∷_ (2, row·2) (List._∷_ (3, row·3) (List._∷_ (4, row·4) (List._∷_ (5, row·5) (List._∷_ (6, row·6) (List._∷_ (7, row·7) (List._∷_ (8, row·8) (List._∷_ (9, row·9) (List._∷_ (10, row·25) (List._∷_ (11, Rows'.sc-shr (Rows.arrF (Array'.Array (Referent.rtF (Referent.fInt Syntax.w8)) 2048) 2 0) (Array'.Array (Array'.Array (Referent.rtF (Referent.fInt Syntax.w8)) 2048) 2) (λ x. x) 13) (List._∷_ (12, Rows'.sc-shr (Rows.arrF (Referent.rtF (Referent.fInt Syntax.w8)) 2048 0) (Array'.Array (Referent.rtF (Referent.fInt Syntax.w8)) 2048) (λ x. x) 14) (List._∷_ (13, row·13) (List._∷_ (14, row·14) (List._∷_ (15, row·12) List.[])))))))))))))))) t1; slots = List.[] }
+    { locals = List._++_ (List._∷_ (0, row·21) (List._∷_ (1, row·1) (List._∷_ (2, row·2) (List._∷_ (3, row·3) (List._∷_ (4, row·4) (List._∷_ (5, row·5) (List._∷_ (6, row·6) (List._∷_ (7, row·7) (List._∷_ (8, row·8) (List._∷_ (9, row·9) (List._∷_ (10, row·25) (List._∷_ (11, Rows'.sc-shr (Rows.arrF (Array'.Array (Referent.rtF (Referent.fInt Syntax.w8)) 4096) 2 0) (Array'.Array (Array'.Array (Referent.rtF (Referent.fInt Syntax.w8)) 4096) 2) (λ x. x) 13) (List._∷_ (12, Rows'.sc-shr (Rows.arrF (Referent.rtF (Referent.fInt Syntax.w8)) 4096 0) (Array'.Array (Referent.rtF (Referent.fInt Syntax.w8)) 4096) (λ x. x) 14) (List._∷_ (13, row·13) (List._∷_ (14, row·14) (List._∷_ (15, row·12) List.[])))))))))))))))) t1; slots = List.[] }
 
 abbrev pub T52 : Row.Cx
 T52 = record
-    { locals = List._++_ (List._∷_ (0, row·21) (List._∷_ (1, row·1) (List._∷_ (2, row·2) (List._∷_ (3, row·3) (List._∷_ (4, row·4) (List._∷_ (5, row·5) (List._∷_ (6, row·6) (List._∷_ (7, row·7) (List._∷_ (8, row·8) (List._∷_ (9, row·9) (List._∷_ (10, row·10) (List._∷_ (11, Rows'.sc-shr (Rows.arrF (Array'.Array (Referent.rtF (Referent.fInt Syntax.w8)) 2048) 2 0) (Array'.Array (Array'.Array (Referent.rtF (Referent.fInt Syntax.w8)) 2048) 2) (λ x. x) 13) (List._∷_ (12, Rows'.sc-shr (Rows.arrF (Referent.rtF (Referent.fInt Syntax.w8)) 2048 0) (Array'.Array (Referent.rtF (Referent.fInt Syntax.w8)) 2048) (λ x. x) 14) (List._∷_ (13, row·13) (List._∷_ (14, row·14) (List._∷_ (15, row·12) List.[])))))))))))))))) t1; slots = List.[] }
+    { locals = List._++_ (List._∷_ (0, row·21) (List._∷_ (1, row·1) (List._∷_ (2, row·2) (List._∷_ (3, row·3) (List._∷_ (4, row·4) (List._∷_ (5, row·5) (List._∷_ (6, row·6) (List._∷_ (7, row·7) (List._∷_ (8, row·8) (List._∷_ (9, row·9) (List._∷_ (10, row·10) (List._∷_ (11, Rows'.sc-shr (Rows.arrF (Array'.Array (Referent.rtF (Referent.fInt Syntax.w8)) 4096) 2 0) (Array'.Array (Array'.Array (Referent.rtF (Referent.fInt Syntax.w8)) 4096) 2) (λ x. x) 13) (List._∷_ (12, Rows'.sc-shr (Rows.arrF (Referent.rtF (Referent.fInt Syntax.w8)) 4096 0) (Array'.Array (Referent.rtF (Referent.fInt Syntax.w8)) 4096) (λ x. x) 14) (List._∷_ (13, row·13) (List._∷_ (14, row·14) (List._∷_ (15, row·12) List.[])))))))))))))))) t1; slots = List.[] }
 
 abbrev pub T54 : Row.Cx
 T54 = record
-    { locals = List._++_ (List._∷_ (0, row·21) (List._∷_ (1, row·1) (List._∷_ (2, row·2) (List._∷_ (3, row·3) (List._∷_ (4, row·4) (List._∷_ (5, row·5) (List._∷_ (6, row·6) (List._∷_ (7, row·7) (List._∷_ (8, row·8) (List._∷_ (9, row·9) (List._∷_ (10, row·10) (List._∷_ (11, row·29) (List._∷_ (12, Rows'.sc-shr (Rows.arrF (Referent.rtF (Referent.fInt Syntax.w8)) 2048 0) (Array'.Array (Referent.rtF (Referent.fInt Syntax.w8)) 2048) (λ x. x) 14) (List._∷_ (13, row·13) (List._∷_ (14, row·14) (List._∷_ (15, row·12) List.[])))))))))))))))) t1; slots = List.[] }
+    { locals = List._++_ (List._∷_ (0, row·21) (List._∷_ (1, row·1) (List._∷_ (2, row·2) (List._∷_ (3, row·3) (List._∷_ (4, row·4) (List._∷_ (5, row·5) (List._∷_ (6, row·6) (List._∷_ (7, row·7) (List._∷_ (8, row·8) (List._∷_ (9, row·9) (List._∷_ (10, row·10) (List._∷_ (11, row·29) (List._∷_ (12, Rows'.sc-shr (Rows.arrF (Referent.rtF (Referent.fInt Syntax.w8)) 4096 0) (Array'.Array (Referent.rtF (Referent.fInt Syntax.w8)) 4096) (λ x. x) 14) (List._∷_ (13, row·13) (List._∷_ (14, row·14) (List._∷_ (15, row·12) List.[])))))))))))))))) t1; slots = List.[] }
 
 abbrev pub T56 : Row.Cx
 T56 = record
-    { locals = List._++_ (List._∷_ (0, row·21) (List._∷_ (1, row·1) (List._∷_ (2, row·2) (List._∷_ (3, row·3) (List._∷_ (4, row·4) (List._∷_ (5, row·5) (List._∷_ (6, row·6) (List._∷_ (7, row·7) (List._∷_ (8, row·8) (List._∷_ (9, row·9) (List._∷_ (10, row·10) (List._∷_ (11, row·11) (List._∷_ (12, Rows'.sc-shr (Rows.arrF (Referent.rtF (Referent.fInt Syntax.w8)) 2048 0) (Array'.Array (Referent.rtF (Referent.fInt Syntax.w8)) 2048) (λ x. x) 14) (List._∷_ (13, row·13) (List._∷_ (14, row·14) (List._∷_ (15, row·12) List.[])))))))))))))))) t1; slots = List.[] }
+    { locals = List._++_ (List._∷_ (0, row·21) (List._∷_ (1, row·1) (List._∷_ (2, row·2) (List._∷_ (3, row·3) (List._∷_ (4, row·4) (List._∷_ (5, row·5) (List._∷_ (6, row·6) (List._∷_ (7, row·7) (List._∷_ (8, row·8) (List._∷_ (9, row·9) (List._∷_ (10, row·10) (List._∷_ (11, row·11) (List._∷_ (12, Rows'.sc-shr (Rows.arrF (Referent.rtF (Referent.fInt Syntax.w8)) 4096 0) (Array'.Array (Referent.rtF (Referent.fInt Syntax.w8)) 4096) (λ x. x) 14) (List._∷_ (13, row·13) (List._∷_ (14, row·14) (List._∷_ (15, row·12) List.[])))))))))))))))) t1; slots = List.[] }
 
 abbrev pub T58 : Row.Cx
 T58 = record
@@ -499,70 +499,70 @@ O0 = record { next = Option.none; exits = List.[]; returns = Option.some T1 }
 
 module _ (claims· : Claims) where
   abbrev s8 : Typed.Mo T0 → Typed.Mo T10
-  s8 = Repeat.n-repeat (Referent.rtF (Referent.fInt Syntax.w16)) 2048 T0 14 λ m. 0
+  s8 = Repeat.n-repeat (Referent.rtF (Referent.fInt Syntax.w16)) 4096 T0 14 λ m. 0
 
   abbrev s9 : Typed.Mo T10 → Typed.Mo T11
-  s9 = AtSlots.n-as-by T10 14 (Rows.arrF (Referent.rtF (Referent.fInt Syntax.w16)) 2048 0) λ x. x
+  s9 = AtSlots.n-as-by T10 14 (Rows.arrF (Referent.rtF (Referent.fInt Syntax.w16)) 4096 0) λ x. x
 
   abbrev s10 : Typed.Mo T11 → Typed.Mo T12
-  s10 = Repeat.n-repeat (Array'.Array (Referent.rtF (Referent.fInt Syntax.w16)) 2048) 2 T11 10 λ m. m .1 .1 .1 .1 .1 .1 .1 .1 .1 .1 .1 .1 .1 .1 .0
+  s10 = Repeat.n-repeat (Array'.Array (Referent.rtF (Referent.fInt Syntax.w16)) 4096) 2 T11 10 λ m. m .1 .1 .1 .1 .1 .1 .1 .1 .1 .1 .1 .1 .1 .1 .0
 
   abbrev s11 : Typed.Mo T12 → Typed.Mo T13
-  s11 = AtSlots.n-as-by T12 10 (Rows.arrF (Array'.Array (Referent.rtF (Referent.fInt Syntax.w16)) 2048) 2 0) λ x. x
+  s11 = AtSlots.n-as-by T12 10 (Rows.arrF (Array'.Array (Referent.rtF (Referent.fInt Syntax.w16)) 4096) 2 0) λ x. x
 
   abbrev s12 : Typed.Mo T13 → Typed.Mo T14
   s12 = Scalar.n-room T13 14 ty·1
 
   abbrev s13 : Typed.Mo T14 → Typed.Mo T15
-  s13 = Repeat.n-repeat (Referent.rtF (Referent.fInt Syntax.w8)) 2048 T14 15 λ m. 0
+  s13 = Repeat.n-repeat (Referent.rtF (Referent.fInt Syntax.w8)) 4096 T14 15 λ m. 0
 
   abbrev s14 : Typed.Mo T15 → Typed.Mo T16
-  s14 = AtSlots.n-as-by T15 15 (Rows.arrF (Referent.rtF (Referent.fInt Syntax.w8)) 2048 0) λ x. x
+  s14 = AtSlots.n-as-by T15 15 (Rows.arrF (Referent.rtF (Referent.fInt Syntax.w8)) 4096 0) λ x. x
 
   abbrev s15 : Typed.Mo T16 → Typed.Mo T17
-  s15 = Repeat.n-repeat (Array'.Array (Referent.rtF (Referent.fInt Syntax.w8)) 2048) 2 T16 11 λ m. m .1 .1 .1 .1 .1 .1 .1 .1 .1 .1 .1 .1 .1 .1 .1 .0
+  s15 = Repeat.n-repeat (Array'.Array (Referent.rtF (Referent.fInt Syntax.w8)) 4096) 2 T16 11 λ m. m .1 .1 .1 .1 .1 .1 .1 .1 .1 .1 .1 .1 .1 .1 .1 .0
 
   abbrev s16 : Typed.Mo T17 → Typed.Mo T18
-  s16 = AtSlots.n-as-by T17 11 (Rows.arrF (Array'.Array (Referent.rtF (Referent.fInt Syntax.w8)) 2048) 2 0) λ x. x
+  s16 = AtSlots.n-as-by T17 11 (Rows.arrF (Array'.Array (Referent.rtF (Referent.fInt Syntax.w8)) 4096) 2 0) λ x. x
 
   abbrev s17 : Typed.Mo T18 → Typed.Mo T19
   s17 = Scalar.n-room T18 15 ty·0
 
   abbrev s18 : Typed.Mo T19 → Typed.Mo T20
-  s18 = Repeat.n-repeat (Referent.rtF (Referent.fInt Syntax.w8)) 2048 T19 12 λ m. 0
+  s18 = Repeat.n-repeat (Referent.rtF (Referent.fInt Syntax.w8)) 4096 T19 12 λ m. 0
 
   abbrev s19 : Typed.Mo T20 → Typed.Mo T21
-  s19 = AtSlots.n-as-by T20 12 (Rows.arrF (Referent.rtF (Referent.fInt Syntax.w8)) 2048 0) λ x. x
+  s19 = AtSlots.n-as-by T20 12 (Rows.arrF (Referent.rtF (Referent.fInt Syntax.w8)) 4096 0) λ x. x
 
   abbrev s21 : Typed.Gives T21 T23
-  s21 = Local.k-sc-borrow T21 10 16 9 (Array'.Array (Array'.Array (Referent.rtF (Referent.fInt Syntax.w16)) 2048) 2) (Syntax.tyRef Syntax.erased Syntax.mut (Syntax.tyArray ty·1 2)) λ x. x
+  s21 = Local.k-sc-borrow T21 10 16 9 (Array'.Array (Array'.Array (Referent.rtF (Referent.fInt Syntax.w16)) 4096) 2) (Syntax.tyRef Syntax.erased Syntax.mut (Syntax.tyArray ty·1 2)) λ x. x
 
   abbrev s23 : Typed.Gives T23 T25
-  s23 = Local.k-sc-borrow T23 11 17 10 (Array'.Array (Array'.Array (Referent.rtF (Referent.fInt Syntax.w8)) 2048) 2) (Syntax.tyRef Syntax.erased Syntax.mut (Syntax.tyArray ty·0 2)) λ x. x
+  s23 = Local.k-sc-borrow T23 11 17 10 (Array'.Array (Array'.Array (Referent.rtF (Referent.fInt Syntax.w8)) 4096) 2) (Syntax.tyRef Syntax.erased Syntax.mut (Syntax.tyArray ty·0 2)) λ x. x
 
   abbrev s25 : Typed.Gives T25 T27
-  s25 = Local.k-sc-borrow T25 12 18 11 (Array'.Array (Referent.rtF (Referent.fInt Syntax.w8)) 2048) (Syntax.tyRef Syntax.erased Syntax.mut ty·0) λ x. x
+  s25 = Local.k-sc-borrow T25 12 18 11 (Array'.Array (Referent.rtF (Referent.fInt Syntax.w8)) 4096) (Syntax.tyRef Syntax.erased Syntax.mut ty·0) λ x. x
 
   abbrev s26 : Typed.Both T27 T28
   s26 = Call.callB ps·0 r·0 (claims· .0) (claims· .1) T27 args·0 13 (List._∷_ 1 (List._∷_ 8 (List._∷_ 9 (List._∷_ 10 (List._∷_ 11 List.[]))))) (Syntax.tyInt Syntax.w64)
 
   abbrev s28 : Typed.Asks T28 T30
-  s28 = Local.k-back-sc T28 16 10 9 (Array'.Array (Array'.Array (Referent.rtF (Referent.fInt Syntax.w16)) 2048) 2) (Syntax.tyRef Syntax.erased Syntax.mut (Syntax.tyArray ty·1 2)) (Rows.arrF (Array'.Array (Referent.rtF (Referent.fInt Syntax.w16)) 2048) 2 0) (λ x. x) (λ x. x) λ x. x
+  s28 = Local.k-back-sc T28 16 10 9 (Array'.Array (Array'.Array (Referent.rtF (Referent.fInt Syntax.w16)) 4096) 2) (Syntax.tyRef Syntax.erased Syntax.mut (Syntax.tyArray ty·1 2)) (Rows.arrF (Array'.Array (Referent.rtF (Referent.fInt Syntax.w16)) 4096) 2 0) (λ x. x) (λ x. x) λ x. x
 
   abbrev s31 : Typed.Asks T30 T33
-  s31 = Local.k-back-sc T30 17 11 10 (Array'.Array (Array'.Array (Referent.rtF (Referent.fInt Syntax.w8)) 2048) 2) (Syntax.tyRef Syntax.erased Syntax.mut (Syntax.tyArray ty·0 2)) (Rows.arrF (Array'.Array (Referent.rtF (Referent.fInt Syntax.w8)) 2048) 2 0) (λ x. x) (λ x. x) λ x. x
+  s31 = Local.k-back-sc T30 17 11 10 (Array'.Array (Array'.Array (Referent.rtF (Referent.fInt Syntax.w8)) 4096) 2) (Syntax.tyRef Syntax.erased Syntax.mut (Syntax.tyArray ty·0 2)) (Rows.arrF (Array'.Array (Referent.rtF (Referent.fInt Syntax.w8)) 4096) 2 0) (λ x. x) (λ x. x) λ x. x
 
   abbrev s34 : Typed.Asks T33 T36
-  s34 = Local.k-back-sc T33 18 12 11 (Array'.Array (Referent.rtF (Referent.fInt Syntax.w8)) 2048) (Syntax.tyRef Syntax.erased Syntax.mut ty·0) (Rows.arrF (Referent.rtF (Referent.fInt Syntax.w8)) 2048 0) (λ x. x) (λ x. x) λ x. x
+  s34 = Local.k-back-sc T33 18 12 11 (Array'.Array (Referent.rtF (Referent.fInt Syntax.w8)) 4096) (Syntax.tyRef Syntax.erased Syntax.mut ty·0) (Rows.arrF (Referent.rtF (Referent.fInt Syntax.w8)) 4096 0) (λ x. x) (λ x. x) λ x. x
 
   abbrev s37 : Typed.Gives T36 T39
-  s37 = Local.k-sc-share T36 10 19 12 (Array'.Array (Array'.Array (Referent.rtF (Referent.fInt Syntax.w16)) 2048) 2) (Syntax.tyRef Syntax.erased Syntax.imm (Syntax.tyArray ty·1 2)) λ x. x
+  s37 = Local.k-sc-share T36 10 19 12 (Array'.Array (Array'.Array (Referent.rtF (Referent.fInt Syntax.w16)) 4096) 2) (Syntax.tyRef Syntax.erased Syntax.imm (Syntax.tyArray ty·1 2)) λ x. x
 
   abbrev s39 : Typed.Gives T39 T41
-  s39 = Local.k-sc-share T39 11 20 13 (Array'.Array (Array'.Array (Referent.rtF (Referent.fInt Syntax.w8)) 2048) 2) (Syntax.tyRef Syntax.erased Syntax.imm (Syntax.tyArray ty·0 2)) λ x. x
+  s39 = Local.k-sc-share T39 11 20 13 (Array'.Array (Array'.Array (Referent.rtF (Referent.fInt Syntax.w8)) 4096) 2) (Syntax.tyRef Syntax.erased Syntax.imm (Syntax.tyArray ty·0 2)) λ x. x
 
   abbrev s41 : Typed.Gives T41 T43
-  s41 = Local.k-sc-share T41 12 21 14 (Array'.Array (Referent.rtF (Referent.fInt Syntax.w8)) 2048) (Syntax.tyRef Syntax.erased Syntax.imm ty·0) λ x. x
+  s41 = Local.k-sc-share T41 12 21 14 (Array'.Array (Referent.rtF (Referent.fInt Syntax.w8)) 4096) (Syntax.tyRef Syntax.erased Syntax.imm ty·0) λ x. x
 
   abbrev s42 : Typed.Both T43 T44
   s42 = Call.callB ps·1 r·1 (claims· .2) (claims· .3) T43 args·1 0 (List._∷_ 0 (List._∷_ 1 (List._∷_ 2 (List._∷_ 3 (List._∷_ 4 (List._∷_ 5 (List._∷_ 6 (List._∷_ 7 (List._∷_ 12 (List._∷_ 13 (List._∷_ 14 List.[]))))))))))) ty·11
@@ -580,19 +580,19 @@ module _ (claims· : Claims) where
   s46 = Scalar.n-room T47 13 (Syntax.tyInt Syntax.w64)
 
   abbrev s48 : Typed.Mo T48 → Typed.Mo T50
-  s48 = Local.n-back-shr T48 10 12 (Rows.arrF (Array'.Array (Referent.rtF (Referent.fInt Syntax.w16)) 2048) 2 0) λ x. x
+  s48 = Local.n-back-shr T48 10 12 (Rows.arrF (Array'.Array (Referent.rtF (Referent.fInt Syntax.w16)) 4096) 2 0) λ x. x
 
   abbrev s50 : Typed.Mo T50 → Typed.Mo T52
   s50 = Scalar.n-room T50 10 (Syntax.tyArray ty·1 2)
 
   abbrev s52 : Typed.Mo T52 → Typed.Mo T54
-  s52 = Local.n-back-shr T52 11 13 (Rows.arrF (Array'.Array (Referent.rtF (Referent.fInt Syntax.w8)) 2048) 2 0) λ x. x
+  s52 = Local.n-back-shr T52 11 13 (Rows.arrF (Array'.Array (Referent.rtF (Referent.fInt Syntax.w8)) 4096) 2 0) λ x. x
 
   abbrev s54 : Typed.Mo T54 → Typed.Mo T56
   s54 = Scalar.n-room T54 11 (Syntax.tyArray ty·0 2)
 
   abbrev s56 : Typed.Mo T56 → Typed.Mo T58
-  s56 = Local.n-back-shr T56 12 14 (Rows.arrF (Referent.rtF (Referent.fInt Syntax.w8)) 2048 0) λ x. x
+  s56 = Local.n-back-shr T56 12 14 (Rows.arrF (Referent.rtF (Referent.fInt Syntax.w8)) 4096 0) λ x. x
 
   abbrev s58 : Typed.Mo T58 → Typed.Mo T1
   s58 = Scalar.n-room T58 12 ty·0
@@ -943,104 +943,104 @@ module _ (claims· : Claims) where
           d0 = Typed.t-return 𝓤 H A W 𝓣 E Δ0 tt
 
           d3 : Typed.Typed 𝓤 H A 𝓣 E G57 b13 Δ0 at3
-          d3 = Typed.g-pre 𝓤 H A W 𝓣 E G57 G58 b13 Δ0 (Typed.pass T56 T58 s56) at1 (Local.g-back-shr 𝓤 H A W E G57 12 14 (Rows.arrF (Referent.rtF (Referent.fInt Syntax.w8)) 2048 0) (Array'.Array (Referent.rtF (Referent.fInt Syntax.w8)) 2048) (λ x. x) (λ x. x) (Reads.as-is 𝓤 H A (Rows'.sc-shr (Rows.arrF (Referent.rtF (Referent.fInt Syntax.w8)) 2048 0)
-              (Array'.Array (Referent.rtF (Referent.fInt Syntax.w8)) 2048) (λ x. x) 14)) (Local.home-of 𝓤 H A (Rows.arrF (Referent.rtF (Referent.fInt Syntax.w8)) 2048 0) (Array'.Array (Referent.rtF (Referent.fInt Syntax.w8)) 2048) (λ x. x) (λ x. x) (Whole.arr-mem 𝓤 H A W (Referent.rtF (Referent.fInt Syntax.w8)) 2048 tt) λ x k. Path'.refl) Path'.refl)
-              (Typed.g-pre 𝓤 H A W 𝓣 E G58 G59 b13 Δ0 (λ Ψ. Ψ) at1 (Lifetime.g-forget 𝓤 H A W E G58 14 Row.dead Path'.refl) (Typed.g-pre 𝓤 H A W 𝓣 E G59 G1 b13 Δ0 (Typed.pass T58 T1 s58) at0 (Scalar.g-room 𝓤 H A W E G59 12 ty·0 (Init.room-arr 𝓤 H A W (Referent.rtF (Referent.fInt Syntax.w8)) 2048 0 2048 Path'.refl)) d0))
+          d3 = Typed.g-pre 𝓤 H A W 𝓣 E G57 G58 b13 Δ0 (Typed.pass T56 T58 s56) at1 (Local.g-back-shr 𝓤 H A W E G57 12 14 (Rows.arrF (Referent.rtF (Referent.fInt Syntax.w8)) 4096 0) (Array'.Array (Referent.rtF (Referent.fInt Syntax.w8)) 4096) (λ x. x) (λ x. x) (Reads.as-is 𝓤 H A (Rows'.sc-shr (Rows.arrF (Referent.rtF (Referent.fInt Syntax.w8)) 4096 0)
+              (Array'.Array (Referent.rtF (Referent.fInt Syntax.w8)) 4096) (λ x. x) 14)) (Local.home-of 𝓤 H A (Rows.arrF (Referent.rtF (Referent.fInt Syntax.w8)) 4096 0) (Array'.Array (Referent.rtF (Referent.fInt Syntax.w8)) 4096) (λ x. x) (λ x. x) (Whole.arr-mem 𝓤 H A W (Referent.rtF (Referent.fInt Syntax.w8)) 4096 tt) λ x k. Path'.refl) Path'.refl)
+              (Typed.g-pre 𝓤 H A W 𝓣 E G58 G59 b13 Δ0 (λ Ψ. Ψ) at1 (Lifetime.g-forget 𝓤 H A W E G58 14 Row.dead Path'.refl) (Typed.g-pre 𝓤 H A W 𝓣 E G59 G1 b13 Δ0 (Typed.pass T58 T1 s58) at0 (Scalar.g-room 𝓤 H A W E G59 12 ty·0 (Init.room-arr 𝓤 H A W (Referent.rtF (Referent.fInt Syntax.w8)) 4096 0 4096 Path'.refl)) d0))
 
           d7 : Typed.Typed 𝓤 H A 𝓣 E G53 b13 Δ0 at7
-          d7 = Typed.g-pre 𝓤 H A W 𝓣 E G53 G54 b13 Δ0 (Typed.pass T52 T54 s52) at5 (Local.g-back-shr 𝓤 H A W E G53 11 13 (Rows.arrF (Array'.Array (Referent.rtF (Referent.fInt Syntax.w8)) 2048) 2 0) (Array'.Array (Array'.Array (Referent.rtF (Referent.fInt Syntax.w8)) 2048) 2) (λ x. x) (λ x. x) (Reads.as-is 𝓤 H A (Rows'.sc-shr (Rows.arrF (Array'.Array
-              (Referent.rtF (Referent.fInt Syntax.w8)) 2048) 2 0) (Array'.Array (Array'.Array (Referent.rtF (Referent.fInt Syntax.w8)) 2048) 2) (λ x. x) 13)) (Local.home-of 𝓤 H A (Rows.arrF (Array'.Array (Referent.rtF (Referent.fInt Syntax.w8)) 2048) 2 0) (Array'.Array (Array'.Array (Referent.rtF (Referent.fInt Syntax.w8)) 2048) 2) (λ x. x) (λ x. x)
-              (Whole.arr-mem 𝓤 H A W (Array'.Array (Referent.rtF (Referent.fInt Syntax.w8)) 2048) 2 tt) λ x k. Path'.refl) Path'.refl) (Typed.g-pre 𝓤 H A W 𝓣 E G54 G55 b13 Δ0 (λ Ψ. Ψ) at5 (Lifetime.g-forget 𝓤 H A W E G54 13 Row.dead Path'.refl) (Typed.g-pre 𝓤 H A W 𝓣 E G55 G56 b13 Δ0 (Typed.pass T54 T56 s54) at3 (Scalar.g-room 𝓤 H A W E G55 11 (Syntax.tyArray
-              ty·0 2) (Init.room-arr 𝓤 H A W (Array'.Array (Referent.rtF (Referent.fInt Syntax.w8)) 2048) 2 0 2 Path'.refl)) (Typed.g-pre 𝓤 H A W 𝓣 E G56 G57 b13 Δ0 (λ Ψ. Ψ) at3 (Lifetime.g-end 𝓤 H A W E G56 14 Path'.refl) d3)))
+          d7 = Typed.g-pre 𝓤 H A W 𝓣 E G53 G54 b13 Δ0 (Typed.pass T52 T54 s52) at5 (Local.g-back-shr 𝓤 H A W E G53 11 13 (Rows.arrF (Array'.Array (Referent.rtF (Referent.fInt Syntax.w8)) 4096) 2 0) (Array'.Array (Array'.Array (Referent.rtF (Referent.fInt Syntax.w8)) 4096) 2) (λ x. x) (λ x. x) (Reads.as-is 𝓤 H A (Rows'.sc-shr (Rows.arrF (Array'.Array
+              (Referent.rtF (Referent.fInt Syntax.w8)) 4096) 2 0) (Array'.Array (Array'.Array (Referent.rtF (Referent.fInt Syntax.w8)) 4096) 2) (λ x. x) 13)) (Local.home-of 𝓤 H A (Rows.arrF (Array'.Array (Referent.rtF (Referent.fInt Syntax.w8)) 4096) 2 0) (Array'.Array (Array'.Array (Referent.rtF (Referent.fInt Syntax.w8)) 4096) 2) (λ x. x) (λ x. x)
+              (Whole.arr-mem 𝓤 H A W (Array'.Array (Referent.rtF (Referent.fInt Syntax.w8)) 4096) 2 tt) λ x k. Path'.refl) Path'.refl) (Typed.g-pre 𝓤 H A W 𝓣 E G54 G55 b13 Δ0 (λ Ψ. Ψ) at5 (Lifetime.g-forget 𝓤 H A W E G54 13 Row.dead Path'.refl) (Typed.g-pre 𝓤 H A W 𝓣 E G55 G56 b13 Δ0 (Typed.pass T54 T56 s54) at3 (Scalar.g-room 𝓤 H A W E G55 11 (Syntax.tyArray
+              ty·0 2) (Init.room-arr 𝓤 H A W (Array'.Array (Referent.rtF (Referent.fInt Syntax.w8)) 4096) 2 0 2 Path'.refl)) (Typed.g-pre 𝓤 H A W 𝓣 E G56 G57 b13 Δ0 (λ Ψ. Ψ) at3 (Lifetime.g-end 𝓤 H A W E G56 14 Path'.refl) d3)))
 
           d11 : Typed.Typed 𝓤 H A 𝓣 E G49 b13 Δ0 at11
-          d11 = Typed.g-pre 𝓤 H A W 𝓣 E G49 G50 b13 Δ0 (Typed.pass T48 T50 s48) at9 (Local.g-back-shr 𝓤 H A W E G49 10 12 (Rows.arrF (Array'.Array (Referent.rtF (Referent.fInt Syntax.w16)) 2048) 2 0) (Array'.Array (Array'.Array (Referent.rtF (Referent.fInt Syntax.w16)) 2048) 2) (λ x. x) (λ x. x) (Reads.as-is 𝓤 H A (Rows'.sc-shr (Rows.arrF (Array'.Array
-              (Referent.rtF (Referent.fInt Syntax.w16)) 2048) 2 0) (Array'.Array (Array'.Array (Referent.rtF (Referent.fInt Syntax.w16)) 2048) 2) (λ x. x) 12)) (Local.home-of 𝓤 H A (Rows.arrF (Array'.Array (Referent.rtF (Referent.fInt Syntax.w16)) 2048) 2 0) (Array'.Array (Array'.Array (Referent.rtF (Referent.fInt Syntax.w16)) 2048) 2) (λ x. x) (λ x. x)
-              (Whole.arr-mem 𝓤 H A W (Array'.Array (Referent.rtF (Referent.fInt Syntax.w16)) 2048) 2 tt) λ x k. Path'.refl) Path'.refl) (Typed.g-pre 𝓤 H A W 𝓣 E G50 G51 b13 Δ0 (λ Ψ. Ψ) at9 (Lifetime.g-forget 𝓤 H A W E G50 12 Row.dead Path'.refl) (Typed.g-pre 𝓤 H A W 𝓣 E G51 G52 b13 Δ0 (Typed.pass T50 T52 s50) at7 (Scalar.g-room 𝓤 H A W E G51 10 (Syntax.tyArray
-              ty·1 2) (Init.room-arr 𝓤 H A W (Array'.Array (Referent.rtF (Referent.fInt Syntax.w16)) 2048) 2 0 2 Path'.refl)) (Typed.g-pre 𝓤 H A W 𝓣 E G52 G53 b13 Δ0 (λ Ψ. Ψ) at7 (Lifetime.g-end 𝓤 H A W E G52 13 Path'.refl) d7)))
+          d11 = Typed.g-pre 𝓤 H A W 𝓣 E G49 G50 b13 Δ0 (Typed.pass T48 T50 s48) at9 (Local.g-back-shr 𝓤 H A W E G49 10 12 (Rows.arrF (Array'.Array (Referent.rtF (Referent.fInt Syntax.w16)) 4096) 2 0) (Array'.Array (Array'.Array (Referent.rtF (Referent.fInt Syntax.w16)) 4096) 2) (λ x. x) (λ x. x) (Reads.as-is 𝓤 H A (Rows'.sc-shr (Rows.arrF (Array'.Array
+              (Referent.rtF (Referent.fInt Syntax.w16)) 4096) 2 0) (Array'.Array (Array'.Array (Referent.rtF (Referent.fInt Syntax.w16)) 4096) 2) (λ x. x) 12)) (Local.home-of 𝓤 H A (Rows.arrF (Array'.Array (Referent.rtF (Referent.fInt Syntax.w16)) 4096) 2 0) (Array'.Array (Array'.Array (Referent.rtF (Referent.fInt Syntax.w16)) 4096) 2) (λ x. x) (λ x. x)
+              (Whole.arr-mem 𝓤 H A W (Array'.Array (Referent.rtF (Referent.fInt Syntax.w16)) 4096) 2 tt) λ x k. Path'.refl) Path'.refl) (Typed.g-pre 𝓤 H A W 𝓣 E G50 G51 b13 Δ0 (λ Ψ. Ψ) at9 (Lifetime.g-forget 𝓤 H A W E G50 12 Row.dead Path'.refl) (Typed.g-pre 𝓤 H A W 𝓣 E G51 G52 b13 Δ0 (Typed.pass T50 T52 s50) at7 (Scalar.g-room 𝓤 H A W E G51 10 (Syntax.tyArray
+              ty·1 2) (Init.room-arr 𝓤 H A W (Array'.Array (Referent.rtF (Referent.fInt Syntax.w16)) 4096) 2 0 2 Path'.refl)) (Typed.g-pre 𝓤 H A W 𝓣 E G52 G53 b13 Δ0 (λ Ψ. Ψ) at7 (Lifetime.g-end 𝓤 H A W E G52 13 Path'.refl) d7)))
 
           d15 : Typed.Typed 𝓤 H A 𝓣 E G45 b13 Δ0 at15
-          d15 = Typed.g-pre 𝓤 H A W 𝓣 E G45 G46 b13 Δ0 (Typed.pass T45 T46 s44) at14 (Local.g-drop-sref 𝓤 H A W E G45 20 13 (Array'.Array (Array'.Array (Referent.rtF (Referent.fInt Syntax.w8)) 2048) 2) (Syntax.tyRef Syntax.erased Syntax.imm (Syntax.tyArray ty·0 2)) (λ x. x) (Reads.as-is 𝓤 H A (Rows'.sref (Array'.Array (Array'.Array (Referent.rtF
-              (Referent.fInt Syntax.w8)) 2048) 2) (Syntax.tyRef Syntax.erased Syntax.imm (Syntax.tyArray ty·0 2)) 13))) (Typed.g-pre 𝓤 H A W 𝓣 E G46 G47 b13 Δ0 (Typed.pass T46 T47 s45) at13 (Local.g-drop-sref 𝓤 H A W E G46 21 14 (Array'.Array (Referent.rtF (Referent.fInt Syntax.w8)) 2048) (Syntax.tyRef Syntax.erased Syntax.imm ty·0) (λ x. x) (Reads.as-is 𝓤 H A
-              (Rows'.sref (Array'.Array (Referent.rtF (Referent.fInt Syntax.w8)) 2048) (Syntax.tyRef Syntax.erased Syntax.imm ty·0) 14))) (Typed.g-pre 𝓤 H A W 𝓣 E G47 G48 b13 Δ0 (Typed.pass T47 T48 s46) at11 (Scalar.g-room 𝓤 H A W E G47 13 (Syntax.tyInt Syntax.w64) (Scalar.room-sc 𝓤 H A W (Row.sInt Syntax.w64))) (Typed.g-pre 𝓤 H A W 𝓣 E G48 G49 b13 Δ0 (λ Ψ. Ψ)
+          d15 = Typed.g-pre 𝓤 H A W 𝓣 E G45 G46 b13 Δ0 (Typed.pass T45 T46 s44) at14 (Local.g-drop-sref 𝓤 H A W E G45 20 13 (Array'.Array (Array'.Array (Referent.rtF (Referent.fInt Syntax.w8)) 4096) 2) (Syntax.tyRef Syntax.erased Syntax.imm (Syntax.tyArray ty·0 2)) (λ x. x) (Reads.as-is 𝓤 H A (Rows'.sref (Array'.Array (Array'.Array (Referent.rtF
+              (Referent.fInt Syntax.w8)) 4096) 2) (Syntax.tyRef Syntax.erased Syntax.imm (Syntax.tyArray ty·0 2)) 13))) (Typed.g-pre 𝓤 H A W 𝓣 E G46 G47 b13 Δ0 (Typed.pass T46 T47 s45) at13 (Local.g-drop-sref 𝓤 H A W E G46 21 14 (Array'.Array (Referent.rtF (Referent.fInt Syntax.w8)) 4096) (Syntax.tyRef Syntax.erased Syntax.imm ty·0) (λ x. x) (Reads.as-is 𝓤 H A
+              (Rows'.sref (Array'.Array (Referent.rtF (Referent.fInt Syntax.w8)) 4096) (Syntax.tyRef Syntax.erased Syntax.imm ty·0) 14))) (Typed.g-pre 𝓤 H A W 𝓣 E G47 G48 b13 Δ0 (Typed.pass T47 T48 s46) at11 (Scalar.g-room 𝓤 H A W E G47 13 (Syntax.tyInt Syntax.w64) (Scalar.room-sc 𝓤 H A W (Row.sInt Syntax.w64))) (Typed.g-pre 𝓤 H A W 𝓣 E G48 G49 b13 Δ0 (λ Ψ. Ψ)
               at11 (Lifetime.g-end 𝓤 H A W E G48 12 Path'.refl) d11)))
 
           d17 : Typed.Typed 𝓤 H A 𝓣 E G43 b14 Δ0 at17
           d17 = Typed.s-seq 𝓤 H A W 𝓣 E G43 G44 b12 b13 Δ0 (Typed.both s42) at16 (Plain.t-call-plain 𝓤 H A W 𝓣 11 ps·1 r·1 (claims· .2) (claims· .3) "conductor::over::rounds" (known .1) E (λ pos β. β) G43 args·1 0 (List._∷_ 0 (List._∷_ 1 (List._∷_ 2 (List._∷_ 3 (List._∷_ 4 (List._∷_ 5 (List._∷_ 6 (List._∷_ 7 (List._∷_ 12 (List._∷_ 13 (List._∷_ 14
               List.[]))))))))))) (Call.sub-id 𝓤 H A W (G43 .slots))
-              (ShrSlice.spares-sslice 𝓤 H A W (Referent.rtF (Referent.fInt Syntax.w16)) ty·5 0, Shared.reads-sslice 𝓤 H A W (Referent.rtF (Referent.fInt Syntax.w16)) ty·5 0, Path'.refl, (ShrSlice.spares-sslice 𝓤 H A W (Referent.rtF (Referent.fInt Syntax.w16)) ty·6 1, Shared.reads-sslice 𝓤 H A W (Referent.rtF (Referent.fInt Syntax.w16)) ty·6 1, Path'.refl, (ShrSlice.spares-sslice 𝓤 H A W (Referent.rtF (Referent.fInt Syntax.w8)) ty·3 2, Shared.reads-sslice 𝓤 H A W (Referent.rtF (Referent.fInt Syntax.w8)) ty·3 2, Path'.refl, (ShrSlice.spares-sslice 𝓤 H A W (Referent.rtF (Referent.fInt Syntax.w16)) ty·7 3, Shared.reads-sslice 𝓤 H A W (Referent.rtF (Referent.fInt Syntax.w16)) ty·7 3, Path'.refl, (ShrSlice.spares-sslice 𝓤 H A W (Referent.rtF (Referent.fInt Syntax.w16)) ty·8 4, Shared.reads-sslice 𝓤 H A W (Referent.rtF (Referent.fInt Syntax.w16)) ty·8 4, Path'.refl, (ShrSlice.spares-sslice 𝓤 H A W (Referent.rtF (Referent.fInt Syntax.w32)) ty·9 5, Shared.reads-sslice 𝓤 H A W (Referent.rtF (Referent.fInt Syntax.w32)) ty·9 5, Path'.refl, (ShrSlice.spares-sslice 𝓤 H A W (Referent.rtF (Referent.fInt Syntax.w16)) ty·10 6, Shared.reads-sslice 𝓤 H A W (Referent.rtF (Referent.fInt Syntax.w16)) ty·10 6, Path'.refl, (ShrSlice.spares-sslice 𝓤 H A W (Referent.rtF (Referent.fInt Syntax.w8)) ty·4 7, Shared.reads-sslice 𝓤 H A W (Referent.rtF (Referent.fInt Syntax.w8)) ty·4 7, Path'.refl, (ShrRef.spares-sref 𝓤 H A W (Array'.Array (Array'.Array (Referent.rtF (Referent.fInt Syntax.w16)) 2048) 2) (Syntax.tyRef Syntax.erased Syntax.imm (Syntax.tyArray ty·1 2)) 12, Reads.reads-sref 𝓤 H A W (Array'.Array (Array'.Array (Referent.rtF (Referent.fInt Syntax.w16)) 2048) 2) (Syntax.tyRef Syntax.erased Syntax.imm (Syntax.tyArray ty·1 2)) 12, Path'.refl, (ShrRef.spares-sref 𝓤 H A W (Array'.Array (Array'.Array (Referent.rtF (Referent.fInt Syntax.w8)) 2048) 2) (Syntax.tyRef Syntax.erased Syntax.imm (Syntax.tyArray ty·0 2)) 13, Reads.reads-sref 𝓤 H A W (Array'.Array (Array'.Array (Referent.rtF (Referent.fInt Syntax.w8)) 2048) 2) (Syntax.tyRef Syntax.erased Syntax.imm (Syntax.tyArray ty·0 2)) 13, Path'.refl, (ShrRef.spares-sref 𝓤 H A W (Array'.Array (Referent.rtF (Referent.fInt Syntax.w8)) 2048) (Syntax.tyRef Syntax.erased Syntax.imm ty·0) 14, Reads.reads-sref 𝓤 H A W (Array'.Array (Referent.rtF (Referent.fInt Syntax.w8)) 2048) (Syntax.tyRef Syntax.erased Syntax.imm ty·0) 14, Path'.refl, ((Scalar.reads-sc 𝓤 H A W (Row.sInt Syntax.w64), Path'.refl), tt))))))))))))
-              (Reads.room-gone 𝓤 H A ty·11) (tt, (tt, (tt, (tt, (tt, (tt, (tt, (tt, (tt, (tt, (tt, tt))))))))))) Path'.refl) (Typed.g-pre 𝓤 H A W 𝓣 E G44 G45 b13 Δ0 (Typed.pass T44 T45 s43) at15 (Local.g-drop-sref 𝓤 H A W E G44 19 12 (Array'.Array (Array'.Array (Referent.rtF (Referent.fInt Syntax.w16)) 2048) 2) (Syntax.tyRef Syntax.erased Syntax.imm
-              (Syntax.tyArray ty·1 2)) (λ x. x) (Reads.as-is 𝓤 H A (Rows'.sref (Array'.Array (Array'.Array (Referent.rtF (Referent.fInt Syntax.w16)) 2048) 2) (Syntax.tyRef Syntax.erased Syntax.imm (Syntax.tyArray ty·1 2)) 12))) d15)
+              (ShrSlice.spares-sslice 𝓤 H A W (Referent.rtF (Referent.fInt Syntax.w16)) ty·5 0, Shared.reads-sslice 𝓤 H A W (Referent.rtF (Referent.fInt Syntax.w16)) ty·5 0, Path'.refl, (ShrSlice.spares-sslice 𝓤 H A W (Referent.rtF (Referent.fInt Syntax.w16)) ty·6 1, Shared.reads-sslice 𝓤 H A W (Referent.rtF (Referent.fInt Syntax.w16)) ty·6 1, Path'.refl, (ShrSlice.spares-sslice 𝓤 H A W (Referent.rtF (Referent.fInt Syntax.w8)) ty·3 2, Shared.reads-sslice 𝓤 H A W (Referent.rtF (Referent.fInt Syntax.w8)) ty·3 2, Path'.refl, (ShrSlice.spares-sslice 𝓤 H A W (Referent.rtF (Referent.fInt Syntax.w16)) ty·7 3, Shared.reads-sslice 𝓤 H A W (Referent.rtF (Referent.fInt Syntax.w16)) ty·7 3, Path'.refl, (ShrSlice.spares-sslice 𝓤 H A W (Referent.rtF (Referent.fInt Syntax.w16)) ty·8 4, Shared.reads-sslice 𝓤 H A W (Referent.rtF (Referent.fInt Syntax.w16)) ty·8 4, Path'.refl, (ShrSlice.spares-sslice 𝓤 H A W (Referent.rtF (Referent.fInt Syntax.w32)) ty·9 5, Shared.reads-sslice 𝓤 H A W (Referent.rtF (Referent.fInt Syntax.w32)) ty·9 5, Path'.refl, (ShrSlice.spares-sslice 𝓤 H A W (Referent.rtF (Referent.fInt Syntax.w16)) ty·10 6, Shared.reads-sslice 𝓤 H A W (Referent.rtF (Referent.fInt Syntax.w16)) ty·10 6, Path'.refl, (ShrSlice.spares-sslice 𝓤 H A W (Referent.rtF (Referent.fInt Syntax.w8)) ty·4 7, Shared.reads-sslice 𝓤 H A W (Referent.rtF (Referent.fInt Syntax.w8)) ty·4 7, Path'.refl, (ShrRef.spares-sref 𝓤 H A W (Array'.Array (Array'.Array (Referent.rtF (Referent.fInt Syntax.w16)) 4096) 2) (Syntax.tyRef Syntax.erased Syntax.imm (Syntax.tyArray ty·1 2)) 12, Reads.reads-sref 𝓤 H A W (Array'.Array (Array'.Array (Referent.rtF (Referent.fInt Syntax.w16)) 4096) 2) (Syntax.tyRef Syntax.erased Syntax.imm (Syntax.tyArray ty·1 2)) 12, Path'.refl, (ShrRef.spares-sref 𝓤 H A W (Array'.Array (Array'.Array (Referent.rtF (Referent.fInt Syntax.w8)) 4096) 2) (Syntax.tyRef Syntax.erased Syntax.imm (Syntax.tyArray ty·0 2)) 13, Reads.reads-sref 𝓤 H A W (Array'.Array (Array'.Array (Referent.rtF (Referent.fInt Syntax.w8)) 4096) 2) (Syntax.tyRef Syntax.erased Syntax.imm (Syntax.tyArray ty·0 2)) 13, Path'.refl, (ShrRef.spares-sref 𝓤 H A W (Array'.Array (Referent.rtF (Referent.fInt Syntax.w8)) 4096) (Syntax.tyRef Syntax.erased Syntax.imm ty·0) 14, Reads.reads-sref 𝓤 H A W (Array'.Array (Referent.rtF (Referent.fInt Syntax.w8)) 4096) (Syntax.tyRef Syntax.erased Syntax.imm ty·0) 14, Path'.refl, ((Scalar.reads-sc 𝓤 H A W (Row.sInt Syntax.w64), Path'.refl), tt))))))))))))
+              (Reads.room-gone 𝓤 H A ty·11) (tt, (tt, (tt, (tt, (tt, (tt, (tt, (tt, (tt, (tt, (tt, tt))))))))))) Path'.refl) (Typed.g-pre 𝓤 H A W 𝓣 E G44 G45 b13 Δ0 (Typed.pass T44 T45 s43) at15 (Local.g-drop-sref 𝓤 H A W E G44 19 12 (Array'.Array (Array'.Array (Referent.rtF (Referent.fInt Syntax.w16)) 4096) 2) (Syntax.tyRef Syntax.erased Syntax.imm
+              (Syntax.tyArray ty·1 2)) (λ x. x) (Reads.as-is 𝓤 H A (Rows'.sref (Array'.Array (Array'.Array (Referent.rtF (Referent.fInt Syntax.w16)) 4096) 2) (Syntax.tyRef Syntax.erased Syntax.imm (Syntax.tyArray ty·1 2)) 12))) d15)
 
           d20 : Typed.Typed 𝓤 H A 𝓣 E G40 b16 Δ0 at20
-          d20 = Typed.s-seq 𝓤 H A W 𝓣 E G40 G41 b10 b15 Δ0 (Typed.give s39) at18 (Local.t-sc-share 𝓤 H A W E 𝓣 G40 11 20 13 (Array'.Array (Array'.Array (Referent.rtF (Referent.fInt Syntax.w8)) 2048) 2) (Syntax.tyRef Syntax.erased Syntax.imm (Syntax.tyArray ty·0 2)) (λ x. x) (Whole.mem-arr 𝓤 H A W (Array'.Array (Referent.rtF (Referent.fInt Syntax.w8)) 2048)
+          d20 = Typed.s-seq 𝓤 H A W 𝓣 E G40 G41 b10 b15 Δ0 (Typed.give s39) at18 (Local.t-sc-share 𝓤 H A W E 𝓣 G40 11 20 13 (Array'.Array (Array'.Array (Referent.rtF (Referent.fInt Syntax.w8)) 4096) 2) (Syntax.tyRef Syntax.erased Syntax.imm (Syntax.tyArray ty·0 2)) (λ x. x) (Whole.mem-arr 𝓤 H A W (Array'.Array (Referent.rtF (Referent.fInt Syntax.w8)) 4096)
               2) (Reads.room-gone 𝓤 H A (Syntax.tyRef Syntax.erased Syntax.imm (Syntax.tyArray ty·0 2))) Path'.refl λ b o. tt) (Typed.g-pre 𝓤 H A W 𝓣 E G41 G42 b15 Δ0 (λ Ψ. Ψ) at18 (Lifetime.g-begin 𝓤 H A W E G41 14 (tt, (tt, (tt, (tt, (tt, (tt, (tt, (tt, (tt, (tt, (tt, (tt, (tt, (tt, (tt, (tt, (tt, (tt, (tt, (tt, (tt, (tt, tt))))))))))))))))))))))) (Typed.s-seq
-              𝓤 H A W 𝓣 E G42 G43 b11 b14 Δ0 (Typed.give s41) at17 (Local.t-sc-share 𝓤 H A W E 𝓣 G42 12 21 14 (Array'.Array (Referent.rtF (Referent.fInt Syntax.w8)) 2048) (Syntax.tyRef Syntax.erased Syntax.imm ty·0) (λ x. x) (Whole.mem-arr 𝓤 H A W (Referent.rtF (Referent.fInt Syntax.w8)) 2048) (Reads.room-gone 𝓤 H A (Syntax.tyRef Syntax.erased Syntax.imm ty·0))
+              𝓤 H A W 𝓣 E G42 G43 b11 b14 Δ0 (Typed.give s41) at17 (Local.t-sc-share 𝓤 H A W E 𝓣 G42 12 21 14 (Array'.Array (Referent.rtF (Referent.fInt Syntax.w8)) 4096) (Syntax.tyRef Syntax.erased Syntax.imm ty·0) (λ x. x) (Whole.mem-arr 𝓤 H A W (Referent.rtF (Referent.fInt Syntax.w8)) 4096) (Reads.room-gone 𝓤 H A (Syntax.tyRef Syntax.erased Syntax.imm ty·0))
               Path'.refl λ b o. tt) d17))
 
           d23 : Typed.Typed 𝓤 H A 𝓣 E G37 b17 Δ0 at22
           d23 = Typed.g-pre 𝓤 H A W 𝓣 E G37 G38 b17 Δ0 (λ Ψ. Ψ) at22 (Lifetime.g-begin 𝓤 H A W E G37 12 (tt, (tt, (tt, (tt, (tt, (tt, (tt, (tt, (tt, (tt, (tt, (tt, (tt, (tt, (tt, (tt, (tt, (tt, (tt, (tt, (tt, (tt, tt))))))))))))))))))))))) (Typed.s-seq 𝓤 H A W 𝓣 E G38 G39 b9 b16 Δ0 (Typed.give s37) at20 (Local.t-sc-share 𝓤 H A W E 𝓣 G38 10 19 12
-              (Array'.Array (Array'.Array (Referent.rtF (Referent.fInt Syntax.w16)) 2048) 2) (Syntax.tyRef Syntax.erased Syntax.imm (Syntax.tyArray ty·1 2)) (λ x. x) (Whole.mem-arr 𝓤 H A W (Array'.Array (Referent.rtF (Referent.fInt Syntax.w16)) 2048) 2) (Reads.room-gone 𝓤 H A (Syntax.tyRef Syntax.erased Syntax.imm (Syntax.tyArray ty·1 2))) Path'.refl λ b o. tt)
+              (Array'.Array (Array'.Array (Referent.rtF (Referent.fInt Syntax.w16)) 4096) 2) (Syntax.tyRef Syntax.erased Syntax.imm (Syntax.tyArray ty·1 2)) (λ x. x) (Whole.mem-arr 𝓤 H A W (Array'.Array (Referent.rtF (Referent.fInt Syntax.w16)) 4096) 2) (Reads.room-gone 𝓤 H A (Syntax.tyRef Syntax.erased Syntax.imm (Syntax.tyArray ty·1 2))) Path'.refl λ b o. tt)
               (Typed.g-pre 𝓤 H A W 𝓣 E G39 G40 b16 Δ0 (λ Ψ. Ψ) at20 (Lifetime.g-begin 𝓤 H A W E G39 13 (tt, (tt, (tt, (tt, (tt, (tt, (tt, (tt, (tt, (tt, (tt, (tt, (tt, (tt, (tt, (tt, (tt, (tt, (tt, (tt, (tt, (tt, tt))))))))))))))))))))))) d20))
 
           d27 : Typed.Typed 𝓤 H A 𝓣 E G33 b17 Δ0 at25
           d27 = Typed.g-pre 𝓤 H A W 𝓣 E G33 G34 b17 Δ0 (λ Ψ. Ψ) at25 (Lifetime.g-forget 𝓤 H A W E G33 10 Row.dead Path'.refl) (Typed.g-pre 𝓤 H A W 𝓣 E G34 G35 b17 Δ0 (λ Ψ. Ψ) at25 (Lifetime.g-end 𝓤 H A W E G34 11 Path'.refl) (Typed.g-pre 𝓤 H A W 𝓣 E G35 G36 b17 Δ0 (Typed.ask s34) at22 (Local.g-back-sc 𝓤 H A W E G35 18 12 11 (Array'.Array (Referent.rtF
-              (Referent.fInt Syntax.w8)) 2048) (Syntax.tyRef Syntax.erased Syntax.mut ty·0) (Rows.arrF (Referent.rtF (Referent.fInt Syntax.w8)) 2048 0) (λ x. x) (λ x. x) (λ x. x) (Reads.as-is 𝓤 H A (Rows'.mleft (Array'.Array (Referent.rtF (Referent.fInt Syntax.w8)) 2048) (Syntax.tyRef Syntax.erased Syntax.mut ty·0))) (Reads.as-is 𝓤 H A (Rows'.sc-owed
-              (Array'.Array (Referent.rtF (Referent.fInt Syntax.w8)) 2048) 11)) (Whole.arr-mem 𝓤 H A W (Referent.rtF (Referent.fInt Syntax.w8)) 2048 tt) Path'.refl) (Typed.g-pre 𝓤 H A W 𝓣 E G36 G37 b17 Δ0 (λ Ψ. Ψ) at22 (Lifetime.g-forget 𝓤 H A W E G36 11 Row.dead Path'.refl) d23)))
+              (Referent.fInt Syntax.w8)) 4096) (Syntax.tyRef Syntax.erased Syntax.mut ty·0) (Rows.arrF (Referent.rtF (Referent.fInt Syntax.w8)) 4096 0) (λ x. x) (λ x. x) (λ x. x) (Reads.as-is 𝓤 H A (Rows'.mleft (Array'.Array (Referent.rtF (Referent.fInt Syntax.w8)) 4096) (Syntax.tyRef Syntax.erased Syntax.mut ty·0))) (Reads.as-is 𝓤 H A (Rows'.sc-owed
+              (Array'.Array (Referent.rtF (Referent.fInt Syntax.w8)) 4096) 11)) (Whole.arr-mem 𝓤 H A W (Referent.rtF (Referent.fInt Syntax.w8)) 4096 tt) Path'.refl) (Typed.g-pre 𝓤 H A W 𝓣 E G36 G37 b17 Δ0 (λ Ψ. Ψ) at22 (Lifetime.g-forget 𝓤 H A W E G36 11 Row.dead Path'.refl) d23)))
 
           d30 : Typed.Typed 𝓤 H A 𝓣 E G30 b17 Δ0 at28
           d30 = Typed.g-pre 𝓤 H A W 𝓣 E G30 G31 b17 Δ0 (λ Ψ. Ψ) at28 (Lifetime.g-forget 𝓤 H A W E G30 9 Row.dead Path'.refl) (Typed.g-pre 𝓤 H A W 𝓣 E G31 G32 b17 Δ0 (λ Ψ. Ψ) at28 (Lifetime.g-end 𝓤 H A W E G31 10 Path'.refl) (Typed.g-pre 𝓤 H A W 𝓣 E G32 G33 b17 Δ0 (Typed.ask s31) at25 (Local.g-back-sc 𝓤 H A W E G32 17 11 10 (Array'.Array (Array'.Array
-              (Referent.rtF (Referent.fInt Syntax.w8)) 2048) 2) (Syntax.tyRef Syntax.erased Syntax.mut (Syntax.tyArray ty·0 2)) (Rows.arrF (Array'.Array (Referent.rtF (Referent.fInt Syntax.w8)) 2048) 2 0) (λ x. x) (λ x. x) (λ x. x) (Reads.as-is 𝓤 H A (Rows'.mleft (Array'.Array (Array'.Array (Referent.rtF (Referent.fInt Syntax.w8)) 2048) 2) (Syntax.tyRef
-              Syntax.erased Syntax.mut (Syntax.tyArray ty·0 2)))) (Reads.as-is 𝓤 H A (Rows'.sc-owed (Array'.Array (Array'.Array (Referent.rtF (Referent.fInt Syntax.w8)) 2048) 2) 10)) (Whole.arr-mem 𝓤 H A W (Array'.Array (Referent.rtF (Referent.fInt Syntax.w8)) 2048) 2 tt) Path'.refl) d27))
+              (Referent.rtF (Referent.fInt Syntax.w8)) 4096) 2) (Syntax.tyRef Syntax.erased Syntax.mut (Syntax.tyArray ty·0 2)) (Rows.arrF (Array'.Array (Referent.rtF (Referent.fInt Syntax.w8)) 4096) 2 0) (λ x. x) (λ x. x) (λ x. x) (Reads.as-is 𝓤 H A (Rows'.mleft (Array'.Array (Array'.Array (Referent.rtF (Referent.fInt Syntax.w8)) 4096) 2) (Syntax.tyRef
+              Syntax.erased Syntax.mut (Syntax.tyArray ty·0 2)))) (Reads.as-is 𝓤 H A (Rows'.sc-owed (Array'.Array (Array'.Array (Referent.rtF (Referent.fInt Syntax.w8)) 4096) 2) 10)) (Whole.arr-mem 𝓤 H A W (Array'.Array (Referent.rtF (Referent.fInt Syntax.w8)) 4096) 2 tt) Path'.refl) d27))
 
           d33 : Typed.Typed 𝓤 H A 𝓣 E G27 b18 Δ0 at33
           d33 = Typed.s-seq 𝓤 H A W 𝓣 E G27 G28 b8 b17 Δ0 (Typed.both s26) at31 (Plain.t-call-plain 𝓤 H A W 𝓣 5 ps·0 r·0 (claims· .0) (claims· .1) "records::lent::spread" (known .0) E (λ pos β. β) G27 args·0 13 (List._∷_ 1 (List._∷_ 8 (List._∷_ 9 (List._∷_ 10 (List._∷_ 11 List.[]))))) (Call.sub-id 𝓤 H A W (G27 .slots))
-              (ShrSlice.spares-sslice 𝓤 H A W (Referent.rtF (Referent.fInt Syntax.w16)) ty·6 1, Shared.reads-sslice 𝓤 H A W (Referent.rtF (Referent.fInt Syntax.w16)) ty·6 1, Path'.refl, (ShrSlice.spares-sslice 𝓤 H A W Rec.rt ty·2 8, Shared.reads-sslice 𝓤 H A W Rec.rt ty·2 8, Path'.refl, (Reads.as-is 𝓤 H A (Rows'.mref (Array'.Array (Array'.Array (Referent.rtF (Referent.fInt Syntax.w16)) 2048) 2) (Syntax.tyRef Syntax.erased Syntax.mut (Syntax.tyArray ty·1 2)) 9), Reads.reads-mref 𝓤 H A W (Array'.Array (Array'.Array (Referent.rtF (Referent.fInt Syntax.w16)) 2048) 2) (Syntax.tyRef Syntax.erased Syntax.mut (Syntax.tyArray ty·1 2)) 9, Path'.refl, (Reads.as-is 𝓤 H A (Rows'.mref (Array'.Array (Array'.Array (Referent.rtF (Referent.fInt Syntax.w8)) 2048) 2) (Syntax.tyRef Syntax.erased Syntax.mut (Syntax.tyArray ty·0 2)) 10), Reads.reads-mref 𝓤 H A W (Array'.Array (Array'.Array (Referent.rtF (Referent.fInt Syntax.w8)) 2048) 2) (Syntax.tyRef Syntax.erased Syntax.mut (Syntax.tyArray ty·0 2)) 10, Path'.refl, (Reads.as-is 𝓤 H A (Rows'.mref (Array'.Array (Referent.rtF (Referent.fInt Syntax.w8)) 2048) (Syntax.tyRef Syntax.erased Syntax.mut ty·0) 11), Reads.reads-mref 𝓤 H A W (Array'.Array (Referent.rtF (Referent.fInt Syntax.w8)) 2048) (Syntax.tyRef Syntax.erased Syntax.mut ty·0) 11, Path'.refl, tt)))))
+              (ShrSlice.spares-sslice 𝓤 H A W (Referent.rtF (Referent.fInt Syntax.w16)) ty·6 1, Shared.reads-sslice 𝓤 H A W (Referent.rtF (Referent.fInt Syntax.w16)) ty·6 1, Path'.refl, (ShrSlice.spares-sslice 𝓤 H A W Rec.rt ty·2 8, Shared.reads-sslice 𝓤 H A W Rec.rt ty·2 8, Path'.refl, (Reads.as-is 𝓤 H A (Rows'.mref (Array'.Array (Array'.Array (Referent.rtF (Referent.fInt Syntax.w16)) 4096) 2) (Syntax.tyRef Syntax.erased Syntax.mut (Syntax.tyArray ty·1 2)) 9), Reads.reads-mref 𝓤 H A W (Array'.Array (Array'.Array (Referent.rtF (Referent.fInt Syntax.w16)) 4096) 2) (Syntax.tyRef Syntax.erased Syntax.mut (Syntax.tyArray ty·1 2)) 9, Path'.refl, (Reads.as-is 𝓤 H A (Rows'.mref (Array'.Array (Array'.Array (Referent.rtF (Referent.fInt Syntax.w8)) 4096) 2) (Syntax.tyRef Syntax.erased Syntax.mut (Syntax.tyArray ty·0 2)) 10), Reads.reads-mref 𝓤 H A W (Array'.Array (Array'.Array (Referent.rtF (Referent.fInt Syntax.w8)) 4096) 2) (Syntax.tyRef Syntax.erased Syntax.mut (Syntax.tyArray ty·0 2)) 10, Path'.refl, (Reads.as-is 𝓤 H A (Rows'.mref (Array'.Array (Referent.rtF (Referent.fInt Syntax.w8)) 4096) (Syntax.tyRef Syntax.erased Syntax.mut ty·0) 11), Reads.reads-mref 𝓤 H A W (Array'.Array (Referent.rtF (Referent.fInt Syntax.w8)) 4096) (Syntax.tyRef Syntax.erased Syntax.mut ty·0) 11, Path'.refl, tt)))))
               (Reads.room-gone 𝓤 H A (Syntax.tyInt Syntax.w64)) (tt, (tt, (tt, (tt, (tt, tt))))) Path'.refl) (Typed.g-pre 𝓤 H A W 𝓣 E G28 G29 b17 Δ0 (λ Ψ. Ψ) at31 (Lifetime.g-end 𝓤 H A W E G28 9 Path'.refl) (Typed.g-pre 𝓤 H A W 𝓣 E G29 G30 b17 Δ0 (Typed.ask s28) at28 (Local.g-back-sc 𝓤 H A W E G29 16 10 9 (Array'.Array (Array'.Array (Referent.rtF (Referent.fInt
-              Syntax.w16)) 2048) 2) (Syntax.tyRef Syntax.erased Syntax.mut (Syntax.tyArray ty·1 2)) (Rows.arrF (Array'.Array (Referent.rtF (Referent.fInt Syntax.w16)) 2048) 2 0) (λ x. x) (λ x. x) (λ x. x) (Reads.as-is 𝓤 H A (Rows'.mleft (Array'.Array (Array'.Array (Referent.rtF (Referent.fInt Syntax.w16)) 2048) 2) (Syntax.tyRef Syntax.erased Syntax.mut
-              (Syntax.tyArray ty·1 2)))) (Reads.as-is 𝓤 H A (Rows'.sc-owed (Array'.Array (Array'.Array (Referent.rtF (Referent.fInt Syntax.w16)) 2048) 2) 9)) (Whole.arr-mem 𝓤 H A W (Array'.Array (Referent.rtF (Referent.fInt Syntax.w16)) 2048) 2 tt) Path'.refl) d30))
+              Syntax.w16)) 4096) 2) (Syntax.tyRef Syntax.erased Syntax.mut (Syntax.tyArray ty·1 2)) (Rows.arrF (Array'.Array (Referent.rtF (Referent.fInt Syntax.w16)) 4096) 2 0) (λ x. x) (λ x. x) (λ x. x) (Reads.as-is 𝓤 H A (Rows'.mleft (Array'.Array (Array'.Array (Referent.rtF (Referent.fInt Syntax.w16)) 4096) 2) (Syntax.tyRef Syntax.erased Syntax.mut
+              (Syntax.tyArray ty·1 2)))) (Reads.as-is 𝓤 H A (Rows'.sc-owed (Array'.Array (Array'.Array (Referent.rtF (Referent.fInt Syntax.w16)) 4096) 2) 9)) (Whole.arr-mem 𝓤 H A W (Array'.Array (Referent.rtF (Referent.fInt Syntax.w16)) 4096) 2 tt) Path'.refl) d30))
 
           d36 : Typed.Typed 𝓤 H A 𝓣 E G24 b20 Δ0 at36
-          d36 = Typed.s-seq 𝓤 H A W 𝓣 E G24 G25 b6 b19 Δ0 (Typed.give s23) at34 (Local.t-sc-borrow 𝓤 H A W E 𝓣 G24 11 17 10 (Array'.Array (Array'.Array (Referent.rtF (Referent.fInt Syntax.w8)) 2048) 2) (Syntax.tyRef Syntax.erased Syntax.mut (Syntax.tyArray ty·0 2)) (λ x. x) (Whole.mem-arr 𝓤 H A W (Array'.Array (Referent.rtF (Referent.fInt Syntax.w8)) 2048)
+          d36 = Typed.s-seq 𝓤 H A W 𝓣 E G24 G25 b6 b19 Δ0 (Typed.give s23) at34 (Local.t-sc-borrow 𝓤 H A W E 𝓣 G24 11 17 10 (Array'.Array (Array'.Array (Referent.rtF (Referent.fInt Syntax.w8)) 4096) 2) (Syntax.tyRef Syntax.erased Syntax.mut (Syntax.tyArray ty·0 2)) (λ x. x) (Whole.mem-arr 𝓤 H A W (Array'.Array (Referent.rtF (Referent.fInt Syntax.w8)) 4096)
               2) (Reads.room-gone 𝓤 H A (Syntax.tyRef Syntax.erased Syntax.mut (Syntax.tyArray ty·0 2))) Path'.refl λ b o. tt) (Typed.g-pre 𝓤 H A W 𝓣 E G25 G26 b19 Δ0 (λ Ψ. Ψ) at34 (Lifetime.g-begin 𝓤 H A W E G25 11 (tt, (tt, (tt, (tt, (tt, (tt, (tt, (tt, (tt, (tt, (tt, (tt, (tt, (tt, (tt, (tt, (tt, (tt, (tt, (tt, (tt, (tt, tt))))))))))))))))))))))) (Typed.s-seq
-              𝓤 H A W 𝓣 E G26 G27 b7 b18 Δ0 (Typed.give s25) at33 (Local.t-sc-borrow 𝓤 H A W E 𝓣 G26 12 18 11 (Array'.Array (Referent.rtF (Referent.fInt Syntax.w8)) 2048) (Syntax.tyRef Syntax.erased Syntax.mut ty·0) (λ x. x) (Whole.mem-arr 𝓤 H A W (Referent.rtF (Referent.fInt Syntax.w8)) 2048) (Reads.room-gone 𝓤 H A (Syntax.tyRef Syntax.erased Syntax.mut ty·0))
+              𝓤 H A W 𝓣 E G26 G27 b7 b18 Δ0 (Typed.give s25) at33 (Local.t-sc-borrow 𝓤 H A W E 𝓣 G26 12 18 11 (Array'.Array (Referent.rtF (Referent.fInt Syntax.w8)) 4096) (Syntax.tyRef Syntax.erased Syntax.mut ty·0) (λ x. x) (Whole.mem-arr 𝓤 H A W (Referent.rtF (Referent.fInt Syntax.w8)) 4096) (Reads.room-gone 𝓤 H A (Syntax.tyRef Syntax.erased Syntax.mut ty·0))
               Path'.refl λ b o. tt) d33))
 
           d39 : Typed.Typed 𝓤 H A 𝓣 E G21 b21 Δ0 at38
           d39 = Typed.g-pre 𝓤 H A W 𝓣 E G21 G22 b21 Δ0 (λ Ψ. Ψ) at38 (Lifetime.g-begin 𝓤 H A W E G21 9 (tt, (tt, (tt, (tt, (tt, (tt, (tt, (tt, (tt, (tt, (tt, (tt, (tt, (tt, (tt, (tt, (tt, (tt, (tt, (tt, (tt, (tt, tt))))))))))))))))))))))) (Typed.s-seq 𝓤 H A W 𝓣 E G22 G23 b5 b20 Δ0 (Typed.give s21) at36 (Local.t-sc-borrow 𝓤 H A W E 𝓣 G22 10 16 9 (Array'.Array
-              (Array'.Array (Referent.rtF (Referent.fInt Syntax.w16)) 2048) 2) (Syntax.tyRef Syntax.erased Syntax.mut (Syntax.tyArray ty·1 2)) (λ x. x) (Whole.mem-arr 𝓤 H A W (Array'.Array (Referent.rtF (Referent.fInt Syntax.w16)) 2048) 2) (Reads.room-gone 𝓤 H A (Syntax.tyRef Syntax.erased Syntax.mut (Syntax.tyArray ty·1 2))) Path'.refl λ b o. tt) (Typed.g-pre 𝓤
+              (Array'.Array (Referent.rtF (Referent.fInt Syntax.w16)) 4096) 2) (Syntax.tyRef Syntax.erased Syntax.mut (Syntax.tyArray ty·1 2)) (λ x. x) (Whole.mem-arr 𝓤 H A W (Array'.Array (Referent.rtF (Referent.fInt Syntax.w16)) 4096) 2) (Reads.room-gone 𝓤 H A (Syntax.tyRef Syntax.erased Syntax.mut (Syntax.tyArray ty·1 2))) Path'.refl λ b o. tt) (Typed.g-pre 𝓤
               H A W 𝓣 E G23 G24 b20 Δ0 (λ Ψ. Ψ) at36 (Lifetime.g-begin 𝓤 H A W E G23 10 (tt, (tt, (tt, (tt, (tt, (tt, (tt, (tt, (tt, (tt, (tt, (tt, (tt, (tt, (tt, (tt, (tt, (tt, (tt, (tt, (tt, (tt, tt))))))))))))))))))))))) d36))
 
           d42 : Typed.Typed 𝓤 H A 𝓣 E G18 b22 Δ0 at42
-          d42 = Typed.g-pre 𝓤 H A W 𝓣 E G18 G19 b22 Δ0 (Typed.pass T18 T19 s17) at41 (Scalar.g-room 𝓤 H A W E G18 15 ty·0 (Init.room-arr 𝓤 H A W (Referent.rtF (Referent.fInt Syntax.w8)) 2048 0 2048 Path'.refl)) (Typed.s-seq 𝓤 H A W 𝓣 E G19 G20 b4 b21 Δ0 (Typed.pass T19 T20 s18) at40 (Repeat.t-repeat 𝓤 H A W E 𝓣 (Referent.rtF (Referent.fInt Syntax.w8))
-              (Plain'.uint-lawful 𝓤 H A W Syntax.w8) (Copies.cRf (Referent.fInt Syntax.w8) .copy 𝓤 H A W) (Plain'.uint-makes 𝓤 H A W Syntax.w8) 2048 G19 12 (Scalar.oInt Syntax.w8 0) (λ m. 0) (Reads.room-gone 𝓤 H A ty·0) tt Path'.refl λ m wa. (Path'.refl, Dec'.lit< tt)) (Typed.g-pre 𝓤 H A W 𝓣 E G20 G21 b21 Δ0 (Typed.pass T20 T21 s19) at38 (AtSlots.g-as-by 𝓤 H A W
-              E (λ ρ. Unit) G20 12 (Rows.arrF (Referent.rtF (Referent.fInt Syntax.w8)) 2048 0) (λ x. x) (Own.told-none 𝓤 H A (G20 .slots)) λ ρ told. Repeat.whole-arr 𝓤 H A W (Referent.rtF (Referent.fInt Syntax.w8)) 2048 tt ρ) d39))
+          d42 = Typed.g-pre 𝓤 H A W 𝓣 E G18 G19 b22 Δ0 (Typed.pass T18 T19 s17) at41 (Scalar.g-room 𝓤 H A W E G18 15 ty·0 (Init.room-arr 𝓤 H A W (Referent.rtF (Referent.fInt Syntax.w8)) 4096 0 4096 Path'.refl)) (Typed.s-seq 𝓤 H A W 𝓣 E G19 G20 b4 b21 Δ0 (Typed.pass T19 T20 s18) at40 (Repeat.t-repeat 𝓤 H A W E 𝓣 (Referent.rtF (Referent.fInt Syntax.w8))
+              (Plain'.uint-lawful 𝓤 H A W Syntax.w8) (Copies.cRf (Referent.fInt Syntax.w8) .copy 𝓤 H A W) (Plain'.uint-makes 𝓤 H A W Syntax.w8) 4096 G19 12 (Scalar.oInt Syntax.w8 0) (λ m. 0) (Reads.room-gone 𝓤 H A ty·0) tt Path'.refl λ m wa. (Path'.refl, Dec'.lit< tt)) (Typed.g-pre 𝓤 H A W 𝓣 E G20 G21 b21 Δ0 (Typed.pass T20 T21 s19) at38 (AtSlots.g-as-by 𝓤 H A W
+              E (λ ρ. Unit) G20 12 (Rows.arrF (Referent.rtF (Referent.fInt Syntax.w8)) 4096 0) (λ x. x) (Own.told-none 𝓤 H A (G20 .slots)) λ ρ told. Repeat.whole-arr 𝓤 H A W (Referent.rtF (Referent.fInt Syntax.w8)) 4096 tt ρ) d39))
 
           d44 : Typed.Typed 𝓤 H A 𝓣 E G16 b23 Δ0 at44
-          d44 = Typed.s-seq 𝓤 H A W 𝓣 E G16 G17 b3 b22 Δ0 (Typed.pass T16 T17 s15) at43 (Repeat.t-repeat-by 𝓤 H A W E 𝓣 (Array'.Array (Referent.rtF (Referent.fInt Syntax.w8)) 2048) (Array'.array-lawful 𝓤 H A W (Referent.rtF (Referent.fInt Syntax.w8)) (Plain'.uint-lawful 𝓤 H A W Syntax.w8) 2048) (Copies.cArr (Referent.rtF (Referent.fInt Syntax.w8))
-              (Copies.cRf (Referent.fInt Syntax.w8)) 2048 .copy 𝓤 H A W) 2 G16 11 (Scalar.oAt 15 ty·0 λ x. Steps.only (Copies.cArr (Referent.rtF (Referent.fInt Syntax.w8)) (Copies.cRf (Referent.fInt Syntax.w8)) 2048 .vals x)) (λ m. m .1 .1 .1 .1 .1 .1 .1 .1 .1 .1 .1 .1 .1 .1 .1 .0) (λ ρ. Unit) (Reads.room-gone 𝓤 H A (Syntax.tyArray ty·0 2))
-              (Array.arr-reads 𝓤 H A W (Array.eInt Syntax.w8) (Array.eInt-laws Syntax.w8) 2048, Path'.refl) Path'.refl (Own.told-none 𝓤 H A (G16 .slots)) λ ρ m pf wa. Gives.elem-local 𝓤 H A W E ρ (Array'.Array (Referent.rtF (Referent.fInt Syntax.w8)) 2048) (λ x. Steps.only (Copies.cArr (Referent.rtF (Referent.fInt Syntax.w8)) (Copies.cRf (Referent.fInt
-              Syntax.w8)) 2048 .vals x)) (Copies.cArr (Referent.rtF (Referent.fInt Syntax.w8)) (Copies.cRf (Referent.fInt Syntax.w8)) 2048 .tells) (Row.out 11 (G16 .locals)) m (λ ρ. Unit) pf 15 ty·0 (λ x. x) (Yields.yields-copy 𝓤 H A W (λ ρ. Unit) (Array'.Array (Referent.rtF (Referent.fInt Syntax.w8)) 2048) Path'.refl (Copies.cArr (Referent.rtF (Referent.fInt
-              Syntax.w8)) (Copies.cRf (Referent.fInt Syntax.w8)) 2048 .copy 𝓤 H A W) (Rows.arrF (Referent.rtF (Referent.fInt Syntax.w8)) 2048 0) (λ x. x) (λ x. x) (λ ρ told. Whole.mem-arr 𝓤 H A W (Referent.rtF (Referent.fInt Syntax.w8)) 2048 ρ) λ ρ told. Whole.arr-mem 𝓤 H A W (Referent.rtF (Referent.fInt Syntax.w8)) 2048 tt ρ)) (Typed.g-pre 𝓤 H A W 𝓣 E G17 G18
-              b22 Δ0 (Typed.pass T17 T18 s16) at42 (AtSlots.g-as-by 𝓤 H A W E (λ ρ. Unit) G17 11 (Rows.arrF (Array'.Array (Referent.rtF (Referent.fInt Syntax.w8)) 2048) 2 0) (λ x. x) (Own.told-none 𝓤 H A (G17 .slots)) λ ρ told. Repeat.whole-arr 𝓤 H A W (Array'.Array (Referent.rtF (Referent.fInt Syntax.w8)) 2048) 2 tt ρ) d42)
+          d44 = Typed.s-seq 𝓤 H A W 𝓣 E G16 G17 b3 b22 Δ0 (Typed.pass T16 T17 s15) at43 (Repeat.t-repeat-by 𝓤 H A W E 𝓣 (Array'.Array (Referent.rtF (Referent.fInt Syntax.w8)) 4096) (Array'.array-lawful 𝓤 H A W (Referent.rtF (Referent.fInt Syntax.w8)) (Plain'.uint-lawful 𝓤 H A W Syntax.w8) 4096) (Copies.cArr (Referent.rtF (Referent.fInt Syntax.w8))
+              (Copies.cRf (Referent.fInt Syntax.w8)) 4096 .copy 𝓤 H A W) 2 G16 11 (Scalar.oAt 15 ty·0 λ x. Steps.only (Copies.cArr (Referent.rtF (Referent.fInt Syntax.w8)) (Copies.cRf (Referent.fInt Syntax.w8)) 4096 .vals x)) (λ m. m .1 .1 .1 .1 .1 .1 .1 .1 .1 .1 .1 .1 .1 .1 .1 .0) (λ ρ. Unit) (Reads.room-gone 𝓤 H A (Syntax.tyArray ty·0 2))
+              (Array.arr-reads 𝓤 H A W (Array.eInt Syntax.w8) (Array.eInt-laws Syntax.w8) 4096, Path'.refl) Path'.refl (Own.told-none 𝓤 H A (G16 .slots)) λ ρ m pf wa. Gives.elem-local 𝓤 H A W E ρ (Array'.Array (Referent.rtF (Referent.fInt Syntax.w8)) 4096) (λ x. Steps.only (Copies.cArr (Referent.rtF (Referent.fInt Syntax.w8)) (Copies.cRf (Referent.fInt
+              Syntax.w8)) 4096 .vals x)) (Copies.cArr (Referent.rtF (Referent.fInt Syntax.w8)) (Copies.cRf (Referent.fInt Syntax.w8)) 4096 .tells) (Row.out 11 (G16 .locals)) m (λ ρ. Unit) pf 15 ty·0 (λ x. x) (Yields.yields-copy 𝓤 H A W (λ ρ. Unit) (Array'.Array (Referent.rtF (Referent.fInt Syntax.w8)) 4096) Path'.refl (Copies.cArr (Referent.rtF (Referent.fInt
+              Syntax.w8)) (Copies.cRf (Referent.fInt Syntax.w8)) 4096 .copy 𝓤 H A W) (Rows.arrF (Referent.rtF (Referent.fInt Syntax.w8)) 4096 0) (λ x. x) (λ x. x) (λ ρ told. Whole.mem-arr 𝓤 H A W (Referent.rtF (Referent.fInt Syntax.w8)) 4096 ρ) λ ρ told. Whole.arr-mem 𝓤 H A W (Referent.rtF (Referent.fInt Syntax.w8)) 4096 tt ρ)) (Typed.g-pre 𝓤 H A W 𝓣 E G17 G18
+              b22 Δ0 (Typed.pass T17 T18 s16) at42 (AtSlots.g-as-by 𝓤 H A W E (λ ρ. Unit) G17 11 (Rows.arrF (Array'.Array (Referent.rtF (Referent.fInt Syntax.w8)) 4096) 2 0) (λ x. x) (Own.told-none 𝓤 H A (G17 .slots)) λ ρ told. Repeat.whole-arr 𝓤 H A W (Array'.Array (Referent.rtF (Referent.fInt Syntax.w8)) 4096) 2 tt ρ) d42)
 
           d47 : Typed.Typed 𝓤 H A 𝓣 E G13 b24 Δ0 at47
-          d47 = Typed.g-pre 𝓤 H A W 𝓣 E G13 G14 b24 Δ0 (Typed.pass T13 T14 s12) at46 (Scalar.g-room 𝓤 H A W E G13 14 ty·1 (Init.room-arr 𝓤 H A W (Referent.rtF (Referent.fInt Syntax.w16)) 2048 0 2048 Path'.refl)) (Typed.s-seq 𝓤 H A W 𝓣 E G14 G15 b2 b23 Δ0 (Typed.pass T14 T15 s13) at45 (Repeat.t-repeat 𝓤 H A W E 𝓣 (Referent.rtF (Referent.fInt Syntax.w8))
-              (Plain'.uint-lawful 𝓤 H A W Syntax.w8) (Copies.cRf (Referent.fInt Syntax.w8) .copy 𝓤 H A W) (Plain'.uint-makes 𝓤 H A W Syntax.w8) 2048 G14 15 (Scalar.oInt Syntax.w8 0) (λ m. 0) (Reads.room-gone 𝓤 H A ty·0) tt Path'.refl λ m wa. (Path'.refl, Dec'.lit< tt)) (Typed.g-pre 𝓤 H A W 𝓣 E G15 G16 b23 Δ0 (Typed.pass T15 T16 s14) at44 (AtSlots.g-as-by 𝓤 H A W
-              E (λ ρ. Unit) G15 15 (Rows.arrF (Referent.rtF (Referent.fInt Syntax.w8)) 2048 0) (λ x. x) (Own.told-none 𝓤 H A (G15 .slots)) λ ρ told. Repeat.whole-arr 𝓤 H A W (Referent.rtF (Referent.fInt Syntax.w8)) 2048 tt ρ) d44))
+          d47 = Typed.g-pre 𝓤 H A W 𝓣 E G13 G14 b24 Δ0 (Typed.pass T13 T14 s12) at46 (Scalar.g-room 𝓤 H A W E G13 14 ty·1 (Init.room-arr 𝓤 H A W (Referent.rtF (Referent.fInt Syntax.w16)) 4096 0 4096 Path'.refl)) (Typed.s-seq 𝓤 H A W 𝓣 E G14 G15 b2 b23 Δ0 (Typed.pass T14 T15 s13) at45 (Repeat.t-repeat 𝓤 H A W E 𝓣 (Referent.rtF (Referent.fInt Syntax.w8))
+              (Plain'.uint-lawful 𝓤 H A W Syntax.w8) (Copies.cRf (Referent.fInt Syntax.w8) .copy 𝓤 H A W) (Plain'.uint-makes 𝓤 H A W Syntax.w8) 4096 G14 15 (Scalar.oInt Syntax.w8 0) (λ m. 0) (Reads.room-gone 𝓤 H A ty·0) tt Path'.refl λ m wa. (Path'.refl, Dec'.lit< tt)) (Typed.g-pre 𝓤 H A W 𝓣 E G15 G16 b23 Δ0 (Typed.pass T15 T16 s14) at44 (AtSlots.g-as-by 𝓤 H A W
+              E (λ ρ. Unit) G15 15 (Rows.arrF (Referent.rtF (Referent.fInt Syntax.w8)) 4096 0) (λ x. x) (Own.told-none 𝓤 H A (G15 .slots)) λ ρ told. Repeat.whole-arr 𝓤 H A W (Referent.rtF (Referent.fInt Syntax.w8)) 4096 tt ρ) d44))
 
           d49 : Typed.Typed 𝓤 H A 𝓣 E G11 b25 Δ0 at49
-          d49 = Typed.s-seq 𝓤 H A W 𝓣 E G11 G12 b1 b24 Δ0 (Typed.pass T11 T12 s10) at48 (Repeat.t-repeat-by 𝓤 H A W E 𝓣 (Array'.Array (Referent.rtF (Referent.fInt Syntax.w16)) 2048) (Array'.array-lawful 𝓤 H A W (Referent.rtF (Referent.fInt Syntax.w16)) (Plain'.uint-lawful 𝓤 H A W Syntax.w16) 2048) (Copies.cArr (Referent.rtF (Referent.fInt Syntax.w16))
-              (Copies.cRf (Referent.fInt Syntax.w16)) 2048 .copy 𝓤 H A W) 2 G11 10 (Scalar.oAt 14 ty·1 λ x. Steps.only (Copies.cArr (Referent.rtF (Referent.fInt Syntax.w16)) (Copies.cRf (Referent.fInt Syntax.w16)) 2048 .vals x)) (λ m. m .1 .1 .1 .1 .1 .1 .1 .1 .1 .1 .1 .1 .1 .1 .0) (λ ρ. Unit) (Reads.room-gone 𝓤 H A (Syntax.tyArray ty·1 2))
-              (Array.arr-reads 𝓤 H A W (Array.eInt Syntax.w16) (Array.eInt-laws Syntax.w16) 2048, Path'.refl) Path'.refl (Own.told-none 𝓤 H A (G11 .slots)) λ ρ m pf wa. Gives.elem-local 𝓤 H A W E ρ (Array'.Array (Referent.rtF (Referent.fInt Syntax.w16)) 2048) (λ x. Steps.only (Copies.cArr (Referent.rtF (Referent.fInt Syntax.w16)) (Copies.cRf (Referent.fInt
-              Syntax.w16)) 2048 .vals x)) (Copies.cArr (Referent.rtF (Referent.fInt Syntax.w16)) (Copies.cRf (Referent.fInt Syntax.w16)) 2048 .tells) (Row.out 10 (G11 .locals)) m (λ ρ. Unit) pf 14 ty·1 (λ x. x) (Yields.yields-copy 𝓤 H A W (λ ρ. Unit) (Array'.Array (Referent.rtF (Referent.fInt Syntax.w16)) 2048) Path'.refl (Copies.cArr (Referent.rtF
-              (Referent.fInt Syntax.w16)) (Copies.cRf (Referent.fInt Syntax.w16)) 2048 .copy 𝓤 H A W) (Rows.arrF (Referent.rtF (Referent.fInt Syntax.w16)) 2048 0) (λ x. x) (λ x. x) (λ ρ told. Whole.mem-arr 𝓤 H A W (Referent.rtF (Referent.fInt Syntax.w16)) 2048 ρ) λ ρ told. Whole.arr-mem 𝓤 H A W (Referent.rtF (Referent.fInt Syntax.w16)) 2048 tt ρ)) (Typed.g-pre 𝓤
-              H A W 𝓣 E G12 G13 b24 Δ0 (Typed.pass T12 T13 s11) at47 (AtSlots.g-as-by 𝓤 H A W E (λ ρ. Unit) G12 10 (Rows.arrF (Array'.Array (Referent.rtF (Referent.fInt Syntax.w16)) 2048) 2 0) (λ x. x) (Own.told-none 𝓤 H A (G12 .slots)) λ ρ told. Repeat.whole-arr 𝓤 H A W (Array'.Array (Referent.rtF (Referent.fInt Syntax.w16)) 2048) 2 tt ρ) d47)
+          d49 = Typed.s-seq 𝓤 H A W 𝓣 E G11 G12 b1 b24 Δ0 (Typed.pass T11 T12 s10) at48 (Repeat.t-repeat-by 𝓤 H A W E 𝓣 (Array'.Array (Referent.rtF (Referent.fInt Syntax.w16)) 4096) (Array'.array-lawful 𝓤 H A W (Referent.rtF (Referent.fInt Syntax.w16)) (Plain'.uint-lawful 𝓤 H A W Syntax.w16) 4096) (Copies.cArr (Referent.rtF (Referent.fInt Syntax.w16))
+              (Copies.cRf (Referent.fInt Syntax.w16)) 4096 .copy 𝓤 H A W) 2 G11 10 (Scalar.oAt 14 ty·1 λ x. Steps.only (Copies.cArr (Referent.rtF (Referent.fInt Syntax.w16)) (Copies.cRf (Referent.fInt Syntax.w16)) 4096 .vals x)) (λ m. m .1 .1 .1 .1 .1 .1 .1 .1 .1 .1 .1 .1 .1 .1 .0) (λ ρ. Unit) (Reads.room-gone 𝓤 H A (Syntax.tyArray ty·1 2))
+              (Array.arr-reads 𝓤 H A W (Array.eInt Syntax.w16) (Array.eInt-laws Syntax.w16) 4096, Path'.refl) Path'.refl (Own.told-none 𝓤 H A (G11 .slots)) λ ρ m pf wa. Gives.elem-local 𝓤 H A W E ρ (Array'.Array (Referent.rtF (Referent.fInt Syntax.w16)) 4096) (λ x. Steps.only (Copies.cArr (Referent.rtF (Referent.fInt Syntax.w16)) (Copies.cRf (Referent.fInt
+              Syntax.w16)) 4096 .vals x)) (Copies.cArr (Referent.rtF (Referent.fInt Syntax.w16)) (Copies.cRf (Referent.fInt Syntax.w16)) 4096 .tells) (Row.out 10 (G11 .locals)) m (λ ρ. Unit) pf 14 ty·1 (λ x. x) (Yields.yields-copy 𝓤 H A W (λ ρ. Unit) (Array'.Array (Referent.rtF (Referent.fInt Syntax.w16)) 4096) Path'.refl (Copies.cArr (Referent.rtF
+              (Referent.fInt Syntax.w16)) (Copies.cRf (Referent.fInt Syntax.w16)) 4096 .copy 𝓤 H A W) (Rows.arrF (Referent.rtF (Referent.fInt Syntax.w16)) 4096 0) (λ x. x) (λ x. x) (λ ρ told. Whole.mem-arr 𝓤 H A W (Referent.rtF (Referent.fInt Syntax.w16)) 4096 ρ) λ ρ told. Whole.arr-mem 𝓤 H A W (Referent.rtF (Referent.fInt Syntax.w16)) 4096 tt ρ)) (Typed.g-pre 𝓤
+              H A W 𝓣 E G12 G13 b24 Δ0 (Typed.pass T12 T13 s11) at47 (AtSlots.g-as-by 𝓤 H A W E (λ ρ. Unit) G12 10 (Rows.arrF (Array'.Array (Referent.rtF (Referent.fInt Syntax.w16)) 4096) 2 0) (λ x. x) (Own.told-none 𝓤 H A (G12 .slots)) λ ρ told. Repeat.whole-arr 𝓤 H A W (Array'.Array (Referent.rtF (Referent.fInt Syntax.w16)) 4096) 2 tt ρ) d47)
 
           pub typed : Typed.Typed 𝓤 H A 𝓣 E (Function.Γin 9 ps r xs m κs qs) b26 (Function.Δret 9 ps r xs m κs qs) Φ
-          typed = (Typed.s-seq 𝓤 H A W 𝓣 E G0 G10 b0 b25 Δ0 (Typed.pass T0 T10 s8) at50 (Repeat.t-repeat 𝓤 H A W E 𝓣 (Referent.rtF (Referent.fInt Syntax.w16)) (Plain'.uint-lawful 𝓤 H A W Syntax.w16) (Copies.cRf (Referent.fInt Syntax.w16) .copy 𝓤 H A W) (Plain'.uint-makes 𝓤 H A W Syntax.w16) 2048 G0 14 (Scalar.oInt Syntax.w16 0) (λ m. 0) (Reads.room-gone 𝓤 H
-              A ty·1) tt Path'.refl λ m wa. (Path'.refl, Dec'.lit< tt)) (Typed.g-pre 𝓤 H A W 𝓣 E G10 G11 b25 Δ0 (Typed.pass T10 T11 s9) at49 (AtSlots.g-as-by 𝓤 H A W E (λ ρ. Unit) G10 14 (Rows.arrF (Referent.rtF (Referent.fInt Syntax.w16)) 2048 0) (λ x. x) (Own.told-none 𝓤 H A (G10 .slots)) λ ρ told. Repeat.whole-arr 𝓤 H A W (Referent.rtF (Referent.fInt
-              Syntax.w16)) 2048 tt ρ) d49))
+          typed = (Typed.s-seq 𝓤 H A W 𝓣 E G0 G10 b0 b25 Δ0 (Typed.pass T0 T10 s8) at50 (Repeat.t-repeat 𝓤 H A W E 𝓣 (Referent.rtF (Referent.fInt Syntax.w16)) (Plain'.uint-lawful 𝓤 H A W Syntax.w16) (Copies.cRf (Referent.fInt Syntax.w16) .copy 𝓤 H A W) (Plain'.uint-makes 𝓤 H A W Syntax.w16) 4096 G0 14 (Scalar.oInt Syntax.w16 0) (λ m. 0) (Reads.room-gone 𝓤 H
+              A ty·1) tt Path'.refl λ m wa. (Path'.refl, Dec'.lit< tt)) (Typed.g-pre 𝓤 H A W 𝓣 E G10 G11 b25 Δ0 (Typed.pass T10 T11 s9) at49 (AtSlots.g-as-by 𝓤 H A W E (λ ρ. Unit) G10 14 (Rows.arrF (Referent.rtF (Referent.fInt Syntax.w16)) 4096 0) (λ x. x) (Own.told-none 𝓤 H A (G10 .slots)) λ ρ told. Repeat.whole-arr 𝓤 H A W (Referent.rtF (Referent.fInt
+              Syntax.w16)) 4096 tt ρ) d49))
 
       module _ (κs : Lifetimes.Lfts 9) where
         pub record Args : Type 0 where

@@ -63,10 +63,10 @@ use prog.Wp
 use types.Kit
 
 abbrev ty·0 : Syntax.Ty
-ty·0 = Syntax.tyArray (Syntax.tyInt Syntax.w8) 2048
+ty·0 = Syntax.tyArray (Syntax.tyInt Syntax.w8) 4096
 
 abbrev ty·1 : Syntax.Ty
-ty·1 = Syntax.tyArray (Syntax.tyInt Syntax.w16) 2048
+ty·1 = Syntax.tyArray (Syntax.tyInt Syntax.w16) 4096
 
 abbrev ty·2 : Syntax.Ty
 ty·2 = Syntax.tyRef Syntax.erased Syntax.imm Rec.behind
@@ -194,28 +194,28 @@ abbrev row·27 : Row.Row
 row·27 = Rows'.whole (Declared.row TurnAllReply.the-type)
 
 abbrev row·28 : Row.Row
-row·28 = Rows'.whole (Array'.Array (Referent.rtF (Referent.fInt Syntax.w16)) 2048)
+row·28 = Rows'.whole (Array'.Array (Referent.rtF (Referent.fInt Syntax.w16)) 4096)
 
 abbrev row·29 : Row.Row
-row·29 = Rows.arrF (Referent.rtF (Referent.fInt Syntax.w16)) 2048 0
+row·29 = Rows.arrF (Referent.rtF (Referent.fInt Syntax.w16)) 4096 0
 
 abbrev row·30 : Row.Row
-row·30 = Rows'.whole (Array'.Array (Array'.Array (Referent.rtF (Referent.fInt Syntax.w16)) 2048) 2)
+row·30 = Rows'.whole (Array'.Array (Array'.Array (Referent.rtF (Referent.fInt Syntax.w16)) 4096) 2)
 
 abbrev row·31 : Row.Row
-row·31 = Rows.arrF (Array'.Array (Referent.rtF (Referent.fInt Syntax.w16)) 2048) 2 0
+row·31 = Rows.arrF (Array'.Array (Referent.rtF (Referent.fInt Syntax.w16)) 4096) 2 0
 
 abbrev row·32 : Row.Row
-row·32 = Rows'.whole (Array'.Array (Referent.rtF (Referent.fInt Syntax.w8)) 2048)
+row·32 = Rows'.whole (Array'.Array (Referent.rtF (Referent.fInt Syntax.w8)) 4096)
 
 abbrev row·33 : Row.Row
-row·33 = Rows.arrF (Referent.rtF (Referent.fInt Syntax.w8)) 2048 0
+row·33 = Rows.arrF (Referent.rtF (Referent.fInt Syntax.w8)) 4096 0
 
 abbrev row·34 : Row.Row
-row·34 = Rows'.whole (Array'.Array (Array'.Array (Referent.rtF (Referent.fInt Syntax.w8)) 2048) 2)
+row·34 = Rows'.whole (Array'.Array (Array'.Array (Referent.rtF (Referent.fInt Syntax.w8)) 4096) 2)
 
 abbrev row·35 : Row.Row
-row·35 = Rows.arrF (Array'.Array (Referent.rtF (Referent.fInt Syntax.w8)) 2048) 2 0
+row·35 = Rows.arrF (Array'.Array (Referent.rtF (Referent.fInt Syntax.w8)) 4096) 2 0
 
 abbrev row·36 : Row.Row
 row·36 = Reshare.mslice-owedS Rec.rt ty·4 8 10 Row.off
@@ -227,46 +227,46 @@ abbrev row·38 : Row.Row
 row·38 = Rows'.sslice Rec.rt ty·2 10
 
 abbrev row·39 : Row.Row
-row·39 = Rows'.sc-owed (Array'.Array (Array'.Array (Referent.rtF (Referent.fInt Syntax.w16)) 2048) 2) 11
+row·39 = Rows'.sc-owed (Array'.Array (Array'.Array (Referent.rtF (Referent.fInt Syntax.w16)) 4096) 2) 11
 
 abbrev row·40 : Row.Row
-row·40 = Rows'.mref (Array'.Array (Array'.Array (Referent.rtF (Referent.fInt Syntax.w16)) 2048) 2) (Syntax.tyRef Syntax.erased Syntax.mut (Syntax.tyArray ty·1 2)) 11
+row·40 = Rows'.mref (Array'.Array (Array'.Array (Referent.rtF (Referent.fInt Syntax.w16)) 4096) 2) (Syntax.tyRef Syntax.erased Syntax.mut (Syntax.tyArray ty·1 2)) 11
 
 abbrev row·41 : Row.Row
-row·41 = Rows'.sc-owed (Array'.Array (Array'.Array (Referent.rtF (Referent.fInt Syntax.w8)) 2048) 2) 12
+row·41 = Rows'.sc-owed (Array'.Array (Array'.Array (Referent.rtF (Referent.fInt Syntax.w8)) 4096) 2) 12
 
 abbrev row·42 : Row.Row
-row·42 = Rows'.mref (Array'.Array (Array'.Array (Referent.rtF (Referent.fInt Syntax.w8)) 2048) 2) (Syntax.tyRef Syntax.erased Syntax.mut (Syntax.tyArray ty·0 2)) 12
+row·42 = Rows'.mref (Array'.Array (Array'.Array (Referent.rtF (Referent.fInt Syntax.w8)) 4096) 2) (Syntax.tyRef Syntax.erased Syntax.mut (Syntax.tyArray ty·0 2)) 12
 
 abbrev row·43 : Row.Row
-row·43 = Rows'.sc-owed (Array'.Array (Referent.rtF (Referent.fInt Syntax.w8)) 2048) 13
+row·43 = Rows'.sc-owed (Array'.Array (Referent.rtF (Referent.fInt Syntax.w8)) 4096) 13
 
 abbrev row·44 : Row.Row
-row·44 = Rows'.mref (Array'.Array (Referent.rtF (Referent.fInt Syntax.w8)) 2048) (Syntax.tyRef Syntax.erased Syntax.mut ty·0) 13
+row·44 = Rows'.mref (Array'.Array (Referent.rtF (Referent.fInt Syntax.w8)) 4096) (Syntax.tyRef Syntax.erased Syntax.mut ty·0) 13
 
 abbrev row·45 : Row.Row
 row·45 = Rows'.sc-here (Row.sInt Syntax.w64)
 
 abbrev row·46 : Row.Row
-row·46 = Rows'.mleft (Array'.Array (Array'.Array (Referent.rtF (Referent.fInt Syntax.w16)) 2048) 2) (Syntax.tyRef Syntax.erased Syntax.mut (Syntax.tyArray ty·1 2))
+row·46 = Rows'.mleft (Array'.Array (Array'.Array (Referent.rtF (Referent.fInt Syntax.w16)) 4096) 2) (Syntax.tyRef Syntax.erased Syntax.mut (Syntax.tyArray ty·1 2))
 
 abbrev row·47 : Row.Row
-row·47 = Rows'.mleft (Array'.Array (Array'.Array (Referent.rtF (Referent.fInt Syntax.w8)) 2048) 2) (Syntax.tyRef Syntax.erased Syntax.mut (Syntax.tyArray ty·0 2))
+row·47 = Rows'.mleft (Array'.Array (Array'.Array (Referent.rtF (Referent.fInt Syntax.w8)) 4096) 2) (Syntax.tyRef Syntax.erased Syntax.mut (Syntax.tyArray ty·0 2))
 
 abbrev row·48 : Row.Row
-row·48 = Rows'.mleft (Array'.Array (Referent.rtF (Referent.fInt Syntax.w8)) 2048) (Syntax.tyRef Syntax.erased Syntax.mut ty·0)
+row·48 = Rows'.mleft (Array'.Array (Referent.rtF (Referent.fInt Syntax.w8)) 4096) (Syntax.tyRef Syntax.erased Syntax.mut ty·0)
 
 abbrev row·49 : Row.Row
-row·49 = Rows'.sref (Array'.Array (Array'.Array (Referent.rtF (Referent.fInt Syntax.w16)) 2048) 2) (Syntax.tyRef Syntax.erased Syntax.imm (Syntax.tyArray ty·1 2)) 14
+row·49 = Rows'.sref (Array'.Array (Array'.Array (Referent.rtF (Referent.fInt Syntax.w16)) 4096) 2) (Syntax.tyRef Syntax.erased Syntax.imm (Syntax.tyArray ty·1 2)) 14
 
 abbrev row·50 : Row.Row
-row·50 = Rows'.sref (Array'.Array (Array'.Array (Referent.rtF (Referent.fInt Syntax.w8)) 2048) 2) (Syntax.tyRef Syntax.erased Syntax.imm (Syntax.tyArray ty·0 2)) 15
+row·50 = Rows'.sref (Array'.Array (Array'.Array (Referent.rtF (Referent.fInt Syntax.w8)) 4096) 2) (Syntax.tyRef Syntax.erased Syntax.imm (Syntax.tyArray ty·0 2)) 15
 
 abbrev row·51 : Row.Row
-row·51 = Rows'.sc-owed (Array'.Array (Referent.rtF (Referent.fInt Syntax.w8)) 2048) 16
+row·51 = Rows'.sc-owed (Array'.Array (Referent.rtF (Referent.fInt Syntax.w8)) 4096) 16
 
 abbrev row·52 : Row.Row
-row·52 = Rows'.mref (Array'.Array (Referent.rtF (Referent.fInt Syntax.w8)) 2048) (Syntax.tyRef Syntax.erased Syntax.mut ty·0) 16
+row·52 = Rows'.mref (Array'.Array (Referent.rtF (Referent.fInt Syntax.w8)) 4096) (Syntax.tyRef Syntax.erased Syntax.mut ty·0) 16
 
 abbrev row·53 : Row.Row
 row·53 = Relend.mslice-owed Rec.rt ty·4 8 17 Row.off
@@ -304,16 +304,16 @@ abbrev pub m : Nat.ℕ
 m = 8
 
 abbrev pub ps·0 : List.List (Kinds.PK 5)
-ps·0 = List._∷_ (ShrSlice.pShrS (Referent.rtF (Referent.fInt Syntax.w16)) 0 tt) (List._∷_ (ShrSlice.pShrS Rec.rt 1 tt) (List._∷_ (Kinds.pMut (Array'.Array (Array'.Array (Referent.rtF (Referent.fInt Syntax.w16)) 2048) 2) 2 tt) (List._∷_ (Kinds.pMut (Array'.Array (Array'.Array (Referent.rtF (Referent.fInt Syntax.w8)) 2048) 2) 3 tt) (List._∷_ (Kinds.pMut
-    (Array'.Array (Referent.rtF (Referent.fInt Syntax.w8)) 2048) 4 tt) List.[]))))
+ps·0 = List._∷_ (ShrSlice.pShrS (Referent.rtF (Referent.fInt Syntax.w16)) 0 tt) (List._∷_ (ShrSlice.pShrS Rec.rt 1 tt) (List._∷_ (Kinds.pMut (Array'.Array (Array'.Array (Referent.rtF (Referent.fInt Syntax.w16)) 4096) 2) 2 tt) (List._∷_ (Kinds.pMut (Array'.Array (Array'.Array (Referent.rtF (Referent.fInt Syntax.w8)) 4096) 2) 3 tt) (List._∷_ (Kinds.pMut
+    (Array'.Array (Referent.rtF (Referent.fInt Syntax.w8)) 4096) 4 tt) List.[]))))
 
 abbrev pub r·0 : Kinds.RK 5
 r·0 = Num.rNum Syntax.w64
 
 abbrev pub ps·1 : List.List (Kinds.PK 12)
 ps·1 = List._∷_ (ShrSlice.pShrS (Referent.rtF (Referent.fInt Syntax.w16)) 0 tt) (List._∷_ (ShrSlice.pShrS (Referent.rtF (Referent.fInt Syntax.w16)) 1 tt) (List._∷_ (ShrSlice.pShrS (Referent.rtF (Referent.fInt Syntax.w8)) 2 tt) (List._∷_ (ShrSlice.pShrS (Referent.rtF (Referent.fInt Syntax.w16)) 3 tt) (List._∷_ (ShrSlice.pShrS (Referent.rtF (Referent.fInt
-    Syntax.w16)) 4 tt) (List._∷_ (ShrSlice.pShrS (Referent.rtF (Referent.fInt Syntax.w32)) 5 tt) (List._∷_ (ShrSlice.pShrS (Referent.rtF (Referent.fInt Syntax.w16)) 6 tt) (List._∷_ (ShrSlice.pShrS (Referent.rtF (Referent.fInt Syntax.w8)) 7 tt) (List._∷_ (ShrRef.pShr (Array'.Array (Array'.Array (Referent.rtF (Referent.fInt Syntax.w16)) 2048) 2) 8 tt) (List._∷_
-    (ShrRef.pShr (Array'.Array (Array'.Array (Referent.rtF (Referent.fInt Syntax.w8)) 2048) 2) 9 tt) (List._∷_ (Kinds.pMut (Array'.Array (Referent.rtF (Referent.fInt Syntax.w8)) 2048) 10 tt) (List._∷_ (ShrSlice.pShrS (Referent.rtF (Referent.fInt Syntax.w16)) 11 tt) (List._∷_ (Num.pNum Syntax.w64) List.[]))))))))))))
+    Syntax.w16)) 4 tt) (List._∷_ (ShrSlice.pShrS (Referent.rtF (Referent.fInt Syntax.w32)) 5 tt) (List._∷_ (ShrSlice.pShrS (Referent.rtF (Referent.fInt Syntax.w16)) 6 tt) (List._∷_ (ShrSlice.pShrS (Referent.rtF (Referent.fInt Syntax.w8)) 7 tt) (List._∷_ (ShrRef.pShr (Array'.Array (Array'.Array (Referent.rtF (Referent.fInt Syntax.w16)) 4096) 2) 8 tt) (List._∷_
+    (ShrRef.pShr (Array'.Array (Array'.Array (Referent.rtF (Referent.fInt Syntax.w8)) 4096) 2) 9 tt) (List._∷_ (Kinds.pMut (Array'.Array (Referent.rtF (Referent.fInt Syntax.w8)) 4096) 10 tt) (List._∷_ (ShrSlice.pShrS (Referent.rtF (Referent.fInt Syntax.w16)) 11 tt) (List._∷_ (Num.pNum Syntax.w64) List.[]))))))))))))
 
 abbrev pub r·1 : Kinds.RK 12
 r·1 = Value.rVal record { ty = Declared.row TurnAllReply.the-type; one = Path'.refl; val = Laws'.val TurnAllReply.the-type Laws.the-laws; tells = Laws'.tells TurnAllReply.the-type Laws.the-laws; still = Laws'.still TurnAllReply.the-type Laws.the-copy Exit.yes; row = Rows'.whole (Declared.row TurnAllReply.the-type); rd = λ x. x; mk = λ x. x } λ M 𝓤 H A W.
@@ -339,19 +339,19 @@ hs = List._∷_ Syntax.valueLocal (List._∷_ Syntax.valueLocal (List._∷_ Synt
     (List._∷_ Syntax.valueLocal (List._∷_ Syntax.valueLocal (List._∷_ Syntax.valueLocal (List._∷_ Syntax.valueLocal (List._∷_ Syntax.valueLocal List.[])))))))))))))))))))))))))))))
 
 abbrev b0 : Syntax.Body
-b0 = Syntax.assign (Syntax.place 16 List.[]) (Syntax.repeat (Syntax.int Syntax.w16 0) 2048)
+b0 = Syntax.assign (Syntax.place 16 List.[]) (Syntax.repeat (Syntax.int Syntax.w16 0) 4096)
 
 abbrev b1 : Syntax.Body
 b1 = Syntax.assign (Syntax.place 11 List.[]) (Syntax.repeat (Syntax.copy (Syntax.place 16 List.[])) 2)
 
 abbrev b2 : Syntax.Body
-b2 = Syntax.assign (Syntax.place 17 List.[]) (Syntax.repeat (Syntax.int Syntax.w8 0) 2048)
+b2 = Syntax.assign (Syntax.place 17 List.[]) (Syntax.repeat (Syntax.int Syntax.w8 0) 4096)
 
 abbrev b3 : Syntax.Body
 b3 = Syntax.assign (Syntax.place 12 List.[]) (Syntax.repeat (Syntax.copy (Syntax.place 17 List.[])) 2)
 
 abbrev b4 : Syntax.Body
-b4 = Syntax.assign (Syntax.place 13 List.[]) (Syntax.repeat (Syntax.int Syntax.w8 0) 2048)
+b4 = Syntax.assign (Syntax.place 13 List.[]) (Syntax.repeat (Syntax.int Syntax.w8 0) 4096)
 
 abbrev b5 : Syntax.Body
 b5 = Syntax.assign (Syntax.place 18 List.[]) (Syntax.addrOf (Syntax.place 9 (List._∷_ (Syntax.field 0) (List._∷_ (Syntax.deref Rec.mir) List.[]))))
@@ -521,8 +521,8 @@ t24 = List._∷_ (16, row·15) (List._∷_ (17, row·13) (List._∷_ (18, row·1
 
 abbrev pub t37 : List.List Row.Entry
 t37 = List._∷_ (0, row·0) (List._∷_ (1, row·1) (List._∷_ (2, row·2) (List._∷_ (3, row·3) (List._∷_ (4, row·4) (List._∷_ (5, row·5) (List._∷_ (6, row·6) (List._∷_ (7, row·7) (List._∷_ (8, row·8) (List._∷_ (9, row·9) (List._∷_ (10, row·10) (List._∷_
-    (11, Rows'.sc-shr (Rows.arrF (Array'.Array (Referent.rtF (Referent.fInt Syntax.w16)) 2048) 2 0) (Array'.Array (Array'.Array (Referent.rtF (Referent.fInt Syntax.w16)) 2048) 2) (λ x. x) 14) (List._∷_
-    (12, Rows'.sc-shr (Rows.arrF (Array'.Array (Referent.rtF (Referent.fInt Syntax.w8)) 2048) 2 0) (Array'.Array (Array'.Array (Referent.rtF (Referent.fInt Syntax.w8)) 2048) 2) (λ x. x) 15) (List._∷_ (13, row·51) (List._∷_ (14, row·45) (List._∷_ (15, row·27) List.[])))))))))))))))
+    (11, Rows'.sc-shr (Rows.arrF (Array'.Array (Referent.rtF (Referent.fInt Syntax.w16)) 4096) 2 0) (Array'.Array (Array'.Array (Referent.rtF (Referent.fInt Syntax.w16)) 4096) 2) (λ x. x) 14) (List._∷_
+    (12, Rows'.sc-shr (Rows.arrF (Array'.Array (Referent.rtF (Referent.fInt Syntax.w8)) 4096) 2 0) (Array'.Array (Array'.Array (Referent.rtF (Referent.fInt Syntax.w8)) 4096) 2) (λ x. x) 15) (List._∷_ (13, row·51) (List._∷_ (14, row·45) (List._∷_ (15, row·27) List.[])))))))))))))))
 
 abbrev pub t40 : List.List Row.Entry
 t40 = List._∷_ (16, row·15) (List._∷_ (17, row·13) (List._∷_ (18, row·16) (List._∷_ (19, row·17) (List._∷_ (20, row·18) (List._∷_ (21, row·19) (List._∷_ (22, row·20) (List._∷_ (23, row·21) (List._∷_ (24, row·22) (List._∷_ (25, row·48) (List._∷_ (26, row·23) (List._∷_ (27, row·24) (List._∷_ (28, row·25) (List._∷_ (29, row·26) List.[])))))))))))))
@@ -640,15 +640,15 @@ T44 = record
 
 abbrev pub T47 : Row.Cx
 T47 = record
-    { locals = List._++_ (List._∷_ (0, row·0) (List._∷_ (1, row·1) (List._∷_ (2, row·2) (List._∷_ (3, row·3) (List._∷_ (4, row·4) (List._∷_ (5, row·5) (List._∷_ (6, row·6) (List._∷_ (7, row·7) (List._∷_ (8, row·8) (List._∷_ (9, row·9) (List._∷_ (10, row·10) (List._∷_ (11, Rows'.sc-shr (Rows.arrF (Array'.Array (Referent.rtF (Referent.fInt Syntax.w16)) 2048) 2 0) (Array'.Array (Array'.Array (Referent.rtF (Referent.fInt Syntax.w16)) 2048) 2) (λ x. x) 14) (List._∷_ (12, row·35) (List._∷_ (13, row·33) (List._∷_ (14, row·45) (List._∷_ (15, row·0) List.[])))))))))))))))) (List._∷_ (16, row·15) (List._∷_ (17, row·13) (List._∷_ (18, row·16) (List._∷_ (19, row·17) (List._∷_ (20, row·18) (List._∷_ (21, row·19) (List._∷_ (22, row·20) (List._∷_ (23, row·49) (List._∷_ (24, row·22) (List._∷_ (25, row·20) (List._∷_ (26, row·23) (List._∷_ (27, row·24) (List._∷_ (28, row·25) (List._∷_ (29, row·26) List.[])))))))))))))); slots = List.[] }
+    { locals = List._++_ (List._∷_ (0, row·0) (List._∷_ (1, row·1) (List._∷_ (2, row·2) (List._∷_ (3, row·3) (List._∷_ (4, row·4) (List._∷_ (5, row·5) (List._∷_ (6, row·6) (List._∷_ (7, row·7) (List._∷_ (8, row·8) (List._∷_ (9, row·9) (List._∷_ (10, row·10) (List._∷_ (11, Rows'.sc-shr (Rows.arrF (Array'.Array (Referent.rtF (Referent.fInt Syntax.w16)) 4096) 2 0) (Array'.Array (Array'.Array (Referent.rtF (Referent.fInt Syntax.w16)) 4096) 2) (λ x. x) 14) (List._∷_ (12, row·35) (List._∷_ (13, row·33) (List._∷_ (14, row·45) (List._∷_ (15, row·0) List.[])))))))))))))))) (List._∷_ (16, row·15) (List._∷_ (17, row·13) (List._∷_ (18, row·16) (List._∷_ (19, row·17) (List._∷_ (20, row·18) (List._∷_ (21, row·19) (List._∷_ (22, row·20) (List._∷_ (23, row·49) (List._∷_ (24, row·22) (List._∷_ (25, row·20) (List._∷_ (26, row·23) (List._∷_ (27, row·24) (List._∷_ (28, row·25) (List._∷_ (29, row·26) List.[])))))))))))))); slots = List.[] }
 
 abbrev pub T49 : Row.Cx
 T49 = record
-    { locals = List._++_ (List._∷_ (0, row·0) (List._∷_ (1, row·1) (List._∷_ (2, row·2) (List._∷_ (3, row·3) (List._∷_ (4, row·4) (List._∷_ (5, row·5) (List._∷_ (6, row·6) (List._∷_ (7, row·7) (List._∷_ (8, row·8) (List._∷_ (9, row·9) (List._∷_ (10, row·10) (List._∷_ (11, Rows'.sc-shr (Rows.arrF (Array'.Array (Referent.rtF (Referent.fInt Syntax.w16)) 2048) 2 0) (Array'.Array (Array'.Array (Referent.rtF (Referent.fInt Syntax.w16)) 2048) 2) (λ x. x) 14) (List._∷_ (12, Rows'.sc-shr (Rows.arrF (Array'.Array (Referent.rtF (Referent.fInt Syntax.w8)) 2048) 2 0) (Array'.Array (Array'.Array (Referent.rtF (Referent.fInt Syntax.w8)) 2048) 2) (λ x. x) 15) (List._∷_ (13, row·33) (List._∷_ (14, row·45) (List._∷_ (15, row·0) List.[])))))))))))))))) (List._∷_ (16, row·15) (List._∷_ (17, row·13) (List._∷_ (18, row·16) (List._∷_ (19, row·17) (List._∷_ (20, row·18) (List._∷_ (21, row·19) (List._∷_ (22, row·20) (List._∷_ (23, row·49) (List._∷_ (24, row·50) (List._∷_ (25, row·20) (List._∷_ (26, row·23) (List._∷_ (27, row·24) (List._∷_ (28, row·25) (List._∷_ (29, row·26) List.[])))))))))))))); slots = List.[] }
+    { locals = List._++_ (List._∷_ (0, row·0) (List._∷_ (1, row·1) (List._∷_ (2, row·2) (List._∷_ (3, row·3) (List._∷_ (4, row·4) (List._∷_ (5, row·5) (List._∷_ (6, row·6) (List._∷_ (7, row·7) (List._∷_ (8, row·8) (List._∷_ (9, row·9) (List._∷_ (10, row·10) (List._∷_ (11, Rows'.sc-shr (Rows.arrF (Array'.Array (Referent.rtF (Referent.fInt Syntax.w16)) 4096) 2 0) (Array'.Array (Array'.Array (Referent.rtF (Referent.fInt Syntax.w16)) 4096) 2) (λ x. x) 14) (List._∷_ (12, Rows'.sc-shr (Rows.arrF (Array'.Array (Referent.rtF (Referent.fInt Syntax.w8)) 4096) 2 0) (Array'.Array (Array'.Array (Referent.rtF (Referent.fInt Syntax.w8)) 4096) 2) (λ x. x) 15) (List._∷_ (13, row·33) (List._∷_ (14, row·45) (List._∷_ (15, row·0) List.[])))))))))))))))) (List._∷_ (16, row·15) (List._∷_ (17, row·13) (List._∷_ (18, row·16) (List._∷_ (19, row·17) (List._∷_ (20, row·18) (List._∷_ (21, row·19) (List._∷_ (22, row·20) (List._∷_ (23, row·49) (List._∷_ (24, row·50) (List._∷_ (25, row·20) (List._∷_ (26, row·23) (List._∷_ (27, row·24) (List._∷_ (28, row·25) (List._∷_ (29, row·26) List.[])))))))))))))); slots = List.[] }
 
 abbrev pub T51 : Row.Cx
 T51 = record
-    { locals = List._++_ (List._∷_ (0, row·0) (List._∷_ (1, row·1) (List._∷_ (2, row·2) (List._∷_ (3, row·3) (List._∷_ (4, row·4) (List._∷_ (5, row·5) (List._∷_ (6, row·6) (List._∷_ (7, row·7) (List._∷_ (8, row·8) (List._∷_ (9, row·9) (List._∷_ (10, row·10) (List._∷_ (11, Rows'.sc-shr (Rows.arrF (Array'.Array (Referent.rtF (Referent.fInt Syntax.w16)) 2048) 2 0) (Array'.Array (Array'.Array (Referent.rtF (Referent.fInt Syntax.w16)) 2048) 2) (λ x. x) 14) (List._∷_ (12, Rows'.sc-shr (Rows.arrF (Array'.Array (Referent.rtF (Referent.fInt Syntax.w8)) 2048) 2 0) (Array'.Array (Array'.Array (Referent.rtF (Referent.fInt Syntax.w8)) 2048) 2) (λ x. x) 15) (List._∷_ (13, row·51) (List._∷_ (14, row·45) (List._∷_ (15, row·0) List.[])))))))))))))))) (List._∷_ (16, row·15) (List._∷_ (17, row·13) (List._∷_ (18, row·16) (List._∷_ (19, row·17) (List._∷_ (20, row·18) (List._∷_ (21, row·19) (List._∷_ (22, row·20) (List._∷_ (23, row·49) (List._∷_ (24, row·50) (List._∷_ (25, row·52) (List._∷_ (26, row·23) (List._∷_ (27, row·24) (List._∷_ (28, row·25) (List._∷_ (29, row·26) List.[])))))))))))))); slots = List.[] }
+    { locals = List._++_ (List._∷_ (0, row·0) (List._∷_ (1, row·1) (List._∷_ (2, row·2) (List._∷_ (3, row·3) (List._∷_ (4, row·4) (List._∷_ (5, row·5) (List._∷_ (6, row·6) (List._∷_ (7, row·7) (List._∷_ (8, row·8) (List._∷_ (9, row·9) (List._∷_ (10, row·10) (List._∷_ (11, Rows'.sc-shr (Rows.arrF (Array'.Array (Referent.rtF (Referent.fInt Syntax.w16)) 4096) 2 0) (Array'.Array (Array'.Array (Referent.rtF (Referent.fInt Syntax.w16)) 4096) 2) (λ x. x) 14) (List._∷_ (12, Rows'.sc-shr (Rows.arrF (Array'.Array (Referent.rtF (Referent.fInt Syntax.w8)) 4096) 2 0) (Array'.Array (Array'.Array (Referent.rtF (Referent.fInt Syntax.w8)) 4096) 2) (λ x. x) 15) (List._∷_ (13, row·51) (List._∷_ (14, row·45) (List._∷_ (15, row·0) List.[])))))))))))))))) (List._∷_ (16, row·15) (List._∷_ (17, row·13) (List._∷_ (18, row·16) (List._∷_ (19, row·17) (List._∷_ (20, row·18) (List._∷_ (21, row·19) (List._∷_ (22, row·20) (List._∷_ (23, row·49) (List._∷_ (24, row·50) (List._∷_ (25, row·52) (List._∷_ (26, row·23) (List._∷_ (27, row·24) (List._∷_ (28, row·25) (List._∷_ (29, row·26) List.[])))))))))))))); slots = List.[] }
 
 abbrev pub T52 : Row.Cx
 T52 = record
@@ -663,11 +663,11 @@ T54 = record { locals = List._++_ t37 t40; slots = List.[] }
 
 abbrev pub T56 : Row.Cx
 T56 = record
-    { locals = List._++_ (List._∷_ (0, row·0) (List._∷_ (1, row·1) (List._∷_ (2, row·2) (List._∷_ (3, row·3) (List._∷_ (4, row·4) (List._∷_ (5, row·5) (List._∷_ (6, row·6) (List._∷_ (7, row·7) (List._∷_ (8, row·8) (List._∷_ (9, row·9) (List._∷_ (10, row·10) (List._∷_ (11, row·31) (List._∷_ (12, Rows'.sc-shr (Rows.arrF (Array'.Array (Referent.rtF (Referent.fInt Syntax.w8)) 2048) 2 0) (Array'.Array (Array'.Array (Referent.rtF (Referent.fInt Syntax.w8)) 2048) 2) (λ x. x) 15) (List._∷_ (13, row·51) (List._∷_ (14, row·45) (List._∷_ (15, row·27) List.[])))))))))))))))) t40; slots = List.[] }
+    { locals = List._++_ (List._∷_ (0, row·0) (List._∷_ (1, row·1) (List._∷_ (2, row·2) (List._∷_ (3, row·3) (List._∷_ (4, row·4) (List._∷_ (5, row·5) (List._∷_ (6, row·6) (List._∷_ (7, row·7) (List._∷_ (8, row·8) (List._∷_ (9, row·9) (List._∷_ (10, row·10) (List._∷_ (11, row·31) (List._∷_ (12, Rows'.sc-shr (Rows.arrF (Array'.Array (Referent.rtF (Referent.fInt Syntax.w8)) 4096) 2 0) (Array'.Array (Array'.Array (Referent.rtF (Referent.fInt Syntax.w8)) 4096) 2) (λ x. x) 15) (List._∷_ (13, row·51) (List._∷_ (14, row·45) (List._∷_ (15, row·27) List.[])))))))))))))))) t40; slots = List.[] }
 
 abbrev pub T58 : Row.Cx
 T58 = record
-    { locals = List._++_ (List._∷_ (0, row·0) (List._∷_ (1, row·1) (List._∷_ (2, row·2) (List._∷_ (3, row·3) (List._∷_ (4, row·4) (List._∷_ (5, row·5) (List._∷_ (6, row·6) (List._∷_ (7, row·7) (List._∷_ (8, row·8) (List._∷_ (9, row·9) (List._∷_ (10, row·10) (List._∷_ (11, row·11) (List._∷_ (12, Rows'.sc-shr (Rows.arrF (Array'.Array (Referent.rtF (Referent.fInt Syntax.w8)) 2048) 2 0) (Array'.Array (Array'.Array (Referent.rtF (Referent.fInt Syntax.w8)) 2048) 2) (λ x. x) 15) (List._∷_ (13, row·51) (List._∷_ (14, row·45) (List._∷_ (15, row·27) List.[])))))))))))))))) t40; slots = List.[] }
+    { locals = List._++_ (List._∷_ (0, row·0) (List._∷_ (1, row·1) (List._∷_ (2, row·2) (List._∷_ (3, row·3) (List._∷_ (4, row·4) (List._∷_ (5, row·5) (List._∷_ (6, row·6) (List._∷_ (7, row·7) (List._∷_ (8, row·8) (List._∷_ (9, row·9) (List._∷_ (10, row·10) (List._∷_ (11, row·11) (List._∷_ (12, Rows'.sc-shr (Rows.arrF (Array'.Array (Referent.rtF (Referent.fInt Syntax.w8)) 4096) 2 0) (Array'.Array (Array'.Array (Referent.rtF (Referent.fInt Syntax.w8)) 4096) 2) (λ x. x) 15) (List._∷_ (13, row·51) (List._∷_ (14, row·45) (List._∷_ (15, row·27) List.[])))))))))))))))) t40; slots = List.[] }
 
 abbrev pub T60 : Row.Cx
 T60 = record
@@ -725,40 +725,40 @@ O0 = record { next = Option.none; exits = List.[]; returns = Option.some T1 }
 
 module _ (claims· : Claims) where
   abbrev s9 : Typed.Mo T0 → Typed.Mo T11
-  s9 = Repeat.n-repeat (Referent.rtF (Referent.fInt Syntax.w16)) 2048 T0 16 λ m. 0
+  s9 = Repeat.n-repeat (Referent.rtF (Referent.fInt Syntax.w16)) 4096 T0 16 λ m. 0
 
   abbrev s10 : Typed.Mo T11 → Typed.Mo T12
-  s10 = AtSlots.n-as-by T11 16 (Rows.arrF (Referent.rtF (Referent.fInt Syntax.w16)) 2048 0) λ x. x
+  s10 = AtSlots.n-as-by T11 16 (Rows.arrF (Referent.rtF (Referent.fInt Syntax.w16)) 4096 0) λ x. x
 
   abbrev s11 : Typed.Mo T12 → Typed.Mo T13
-  s11 = Repeat.n-repeat (Array'.Array (Referent.rtF (Referent.fInt Syntax.w16)) 2048) 2 T12 11 λ m. m .1 .1 .1 .1 .1 .1 .1 .1 .1 .1 .1 .1 .1 .1 .1 .1 .0
+  s11 = Repeat.n-repeat (Array'.Array (Referent.rtF (Referent.fInt Syntax.w16)) 4096) 2 T12 11 λ m. m .1 .1 .1 .1 .1 .1 .1 .1 .1 .1 .1 .1 .1 .1 .1 .1 .0
 
   abbrev s12 : Typed.Mo T13 → Typed.Mo T14
-  s12 = AtSlots.n-as-by T13 11 (Rows.arrF (Array'.Array (Referent.rtF (Referent.fInt Syntax.w16)) 2048) 2 0) λ x. x
+  s12 = AtSlots.n-as-by T13 11 (Rows.arrF (Array'.Array (Referent.rtF (Referent.fInt Syntax.w16)) 4096) 2 0) λ x. x
 
   abbrev s13 : Typed.Mo T14 → Typed.Mo T15
   s13 = Scalar.n-room T14 16 ty·1
 
   abbrev s14 : Typed.Mo T15 → Typed.Mo T16
-  s14 = Repeat.n-repeat (Referent.rtF (Referent.fInt Syntax.w8)) 2048 T15 17 λ m. 0
+  s14 = Repeat.n-repeat (Referent.rtF (Referent.fInt Syntax.w8)) 4096 T15 17 λ m. 0
 
   abbrev s15 : Typed.Mo T16 → Typed.Mo T17
-  s15 = AtSlots.n-as-by T16 17 (Rows.arrF (Referent.rtF (Referent.fInt Syntax.w8)) 2048 0) λ x. x
+  s15 = AtSlots.n-as-by T16 17 (Rows.arrF (Referent.rtF (Referent.fInt Syntax.w8)) 4096 0) λ x. x
 
   abbrev s16 : Typed.Mo T17 → Typed.Mo T18
-  s16 = Repeat.n-repeat (Array'.Array (Referent.rtF (Referent.fInt Syntax.w8)) 2048) 2 T17 12 λ m. m .1 .1 .1 .1 .1 .1 .1 .1 .1 .1 .1 .1 .1 .1 .1 .1 .1 .0
+  s16 = Repeat.n-repeat (Array'.Array (Referent.rtF (Referent.fInt Syntax.w8)) 4096) 2 T17 12 λ m. m .1 .1 .1 .1 .1 .1 .1 .1 .1 .1 .1 .1 .1 .1 .1 .1 .1 .0
 
   abbrev s17 : Typed.Mo T18 → Typed.Mo T19
-  s17 = AtSlots.n-as-by T18 12 (Rows.arrF (Array'.Array (Referent.rtF (Referent.fInt Syntax.w8)) 2048) 2 0) λ x. x
+  s17 = AtSlots.n-as-by T18 12 (Rows.arrF (Array'.Array (Referent.rtF (Referent.fInt Syntax.w8)) 4096) 2 0) λ x. x
 
   abbrev s18 : Typed.Mo T19 → Typed.Mo T20
   s18 = Scalar.n-room T19 17 ty·0
 
   abbrev s19 : Typed.Mo T20 → Typed.Mo T21
-  s19 = Repeat.n-repeat (Referent.rtF (Referent.fInt Syntax.w8)) 2048 T20 13 λ m. 0
+  s19 = Repeat.n-repeat (Referent.rtF (Referent.fInt Syntax.w8)) 4096 T20 13 λ m. 0
 
   abbrev s20 : Typed.Mo T21 → Typed.Mo T22
-  s20 = AtSlots.n-as-by T21 13 (Rows.arrF (Referent.rtF (Referent.fInt Syntax.w8)) 2048 0) λ x. x
+  s20 = AtSlots.n-as-by T21 13 (Rows.arrF (Referent.rtF (Referent.fInt Syntax.w8)) 4096 0) λ x. x
 
   abbrev s22 : Typed.Gives T22 T24
   s22 = Reshare.k-sl-reshare Rec.rt T22 9 18 8 10 ty·4 ty·2 Row.off λ x. x
@@ -767,13 +767,13 @@ module _ (claims· : Claims) where
   s23 = Relend.k-sl-aggregate Rec.rt (Relend.asShr Rec.rt) T24 18 19 10 ty·2 ty·2 (λ x. x) (Scalar.oFld 9 (List._∷_ (Syntax.field 1) List.[]) (Syntax.tyInt Syntax.w64) 8 λ v. Shared.lenV (v .0))
 
   abbrev s25 : Typed.Gives T25 T27
-  s25 = Local.k-sc-borrow T25 11 20 11 (Array'.Array (Array'.Array (Referent.rtF (Referent.fInt Syntax.w16)) 2048) 2) (Syntax.tyRef Syntax.erased Syntax.mut (Syntax.tyArray ty·1 2)) λ x. x
+  s25 = Local.k-sc-borrow T25 11 20 11 (Array'.Array (Array'.Array (Referent.rtF (Referent.fInt Syntax.w16)) 4096) 2) (Syntax.tyRef Syntax.erased Syntax.mut (Syntax.tyArray ty·1 2)) λ x. x
 
   abbrev s27 : Typed.Gives T27 T29
-  s27 = Local.k-sc-borrow T27 12 21 12 (Array'.Array (Array'.Array (Referent.rtF (Referent.fInt Syntax.w8)) 2048) 2) (Syntax.tyRef Syntax.erased Syntax.mut (Syntax.tyArray ty·0 2)) λ x. x
+  s27 = Local.k-sc-borrow T27 12 21 12 (Array'.Array (Array'.Array (Referent.rtF (Referent.fInt Syntax.w8)) 4096) 2) (Syntax.tyRef Syntax.erased Syntax.mut (Syntax.tyArray ty·0 2)) λ x. x
 
   abbrev s29 : Typed.Gives T29 T31
-  s29 = Local.k-sc-borrow T29 13 22 13 (Array'.Array (Referent.rtF (Referent.fInt Syntax.w8)) 2048) (Syntax.tyRef Syntax.erased Syntax.mut ty·0) λ x. x
+  s29 = Local.k-sc-borrow T29 13 22 13 (Array'.Array (Referent.rtF (Referent.fInt Syntax.w8)) 4096) (Syntax.tyRef Syntax.erased Syntax.mut ty·0) λ x. x
 
   abbrev s30 : Typed.Both T31 T32
   s30 = Call.callB ps·0 r·0 (claims· .0) (claims· .1) T31 args·0 14 (List._∷_ 1 (List._∷_ 10 (List._∷_ 11 (List._∷_ 12 (List._∷_ 13 List.[]))))) (Syntax.tyInt Syntax.w64)
@@ -785,22 +785,22 @@ module _ (claims· : Claims) where
   s33 = Reshare.n-back-sl-shr Rec.rt T33 9 8 10 ty·4 Row.off λ x. x
 
   abbrev s36 : Typed.Asks T35 T38
-  s36 = Local.k-back-sc T35 20 11 11 (Array'.Array (Array'.Array (Referent.rtF (Referent.fInt Syntax.w16)) 2048) 2) (Syntax.tyRef Syntax.erased Syntax.mut (Syntax.tyArray ty·1 2)) (Rows.arrF (Array'.Array (Referent.rtF (Referent.fInt Syntax.w16)) 2048) 2 0) (λ x. x) (λ x. x) λ x. x
+  s36 = Local.k-back-sc T35 20 11 11 (Array'.Array (Array'.Array (Referent.rtF (Referent.fInt Syntax.w16)) 4096) 2) (Syntax.tyRef Syntax.erased Syntax.mut (Syntax.tyArray ty·1 2)) (Rows.arrF (Array'.Array (Referent.rtF (Referent.fInt Syntax.w16)) 4096) 2 0) (λ x. x) (λ x. x) λ x. x
 
   abbrev s39 : Typed.Asks T38 T41
-  s39 = Local.k-back-sc T38 21 12 12 (Array'.Array (Array'.Array (Referent.rtF (Referent.fInt Syntax.w8)) 2048) 2) (Syntax.tyRef Syntax.erased Syntax.mut (Syntax.tyArray ty·0 2)) (Rows.arrF (Array'.Array (Referent.rtF (Referent.fInt Syntax.w8)) 2048) 2 0) (λ x. x) (λ x. x) λ x. x
+  s39 = Local.k-back-sc T38 21 12 12 (Array'.Array (Array'.Array (Referent.rtF (Referent.fInt Syntax.w8)) 4096) 2) (Syntax.tyRef Syntax.erased Syntax.mut (Syntax.tyArray ty·0 2)) (Rows.arrF (Array'.Array (Referent.rtF (Referent.fInt Syntax.w8)) 4096) 2 0) (λ x. x) (λ x. x) λ x. x
 
   abbrev s42 : Typed.Asks T41 T44
-  s42 = Local.k-back-sc T41 22 13 13 (Array'.Array (Referent.rtF (Referent.fInt Syntax.w8)) 2048) (Syntax.tyRef Syntax.erased Syntax.mut ty·0) (Rows.arrF (Referent.rtF (Referent.fInt Syntax.w8)) 2048 0) (λ x. x) (λ x. x) λ x. x
+  s42 = Local.k-back-sc T41 22 13 13 (Array'.Array (Referent.rtF (Referent.fInt Syntax.w8)) 4096) (Syntax.tyRef Syntax.erased Syntax.mut ty·0) (Rows.arrF (Referent.rtF (Referent.fInt Syntax.w8)) 4096 0) (λ x. x) (λ x. x) λ x. x
 
   abbrev s45 : Typed.Gives T44 T47
-  s45 = Local.k-sc-share T44 11 23 14 (Array'.Array (Array'.Array (Referent.rtF (Referent.fInt Syntax.w16)) 2048) 2) (Syntax.tyRef Syntax.erased Syntax.imm (Syntax.tyArray ty·1 2)) λ x. x
+  s45 = Local.k-sc-share T44 11 23 14 (Array'.Array (Array'.Array (Referent.rtF (Referent.fInt Syntax.w16)) 4096) 2) (Syntax.tyRef Syntax.erased Syntax.imm (Syntax.tyArray ty·1 2)) λ x. x
 
   abbrev s47 : Typed.Gives T47 T49
-  s47 = Local.k-sc-share T47 12 24 15 (Array'.Array (Array'.Array (Referent.rtF (Referent.fInt Syntax.w8)) 2048) 2) (Syntax.tyRef Syntax.erased Syntax.imm (Syntax.tyArray ty·0 2)) λ x. x
+  s47 = Local.k-sc-share T47 12 24 15 (Array'.Array (Array'.Array (Referent.rtF (Referent.fInt Syntax.w8)) 4096) 2) (Syntax.tyRef Syntax.erased Syntax.imm (Syntax.tyArray ty·0 2)) λ x. x
 
   abbrev s49 : Typed.Gives T49 T51
-  s49 = Local.k-sc-borrow T49 13 25 16 (Array'.Array (Referent.rtF (Referent.fInt Syntax.w8)) 2048) (Syntax.tyRef Syntax.erased Syntax.mut ty·0) λ x. x
+  s49 = Local.k-sc-borrow T49 13 25 16 (Array'.Array (Referent.rtF (Referent.fInt Syntax.w8)) 4096) (Syntax.tyRef Syntax.erased Syntax.mut ty·0) λ x. x
 
   abbrev s50 : Typed.Both T51 T52
   s50 = Call.callB ps·1 r·1 (claims· .2) (claims· .3) T51 args·1 15 (List._∷_ 0 (List._∷_ 1 (List._∷_ 2 (List._∷_ 3 (List._∷_ 4 (List._∷_ 5 (List._∷_ 6 (List._∷_ 7 (List._∷_ 14 (List._∷_ 15 (List._∷_ 16 (List._∷_ 9 List.[])))))))))))) ty·14
@@ -812,19 +812,19 @@ module _ (claims· : Claims) where
   s52 = Scalar.n-room T53 24 (Syntax.tyRef Syntax.erased Syntax.imm (Syntax.tyArray ty·0 2))
 
   abbrev s54 : Typed.Mo T54 → Typed.Mo T56
-  s54 = Local.n-back-shr T54 11 14 (Rows.arrF (Array'.Array (Referent.rtF (Referent.fInt Syntax.w16)) 2048) 2 0) λ x. x
+  s54 = Local.n-back-shr T54 11 14 (Rows.arrF (Array'.Array (Referent.rtF (Referent.fInt Syntax.w16)) 4096) 2 0) λ x. x
 
   abbrev s56 : Typed.Mo T56 → Typed.Mo T58
   s56 = Scalar.n-room T56 11 (Syntax.tyArray ty·1 2)
 
   abbrev s58 : Typed.Mo T58 → Typed.Mo T60
-  s58 = Local.n-back-shr T58 12 15 (Rows.arrF (Array'.Array (Referent.rtF (Referent.fInt Syntax.w8)) 2048) 2 0) λ x. x
+  s58 = Local.n-back-shr T58 12 15 (Rows.arrF (Array'.Array (Referent.rtF (Referent.fInt Syntax.w8)) 4096) 2 0) λ x. x
 
   abbrev s60 : Typed.Mo T60 → Typed.Mo T62
   s60 = Scalar.n-room T60 12 (Syntax.tyArray ty·0 2)
 
   abbrev s62 : Typed.Asks T62 T64
-  s62 = Local.k-back-sc T62 25 13 16 (Array'.Array (Referent.rtF (Referent.fInt Syntax.w8)) 2048) (Syntax.tyRef Syntax.erased Syntax.mut ty·0) (Rows.arrF (Referent.rtF (Referent.fInt Syntax.w8)) 2048 0) (λ x. x) (λ x. x) λ x. x
+  s62 = Local.k-back-sc T62 25 13 16 (Array'.Array (Referent.rtF (Referent.fInt Syntax.w8)) 4096) (Syntax.tyRef Syntax.erased Syntax.mut ty·0) (Rows.arrF (Referent.rtF (Referent.fInt Syntax.w8)) 4096 0) (λ x. x) (λ x. x) λ x. x
 
   abbrev s64 : Typed.Mo T64 → Typed.Mo T66
   s64 = Scalar.n-room T64 13 ty·0
@@ -1016,32 +1016,32 @@ module _ (claims· : Claims) where
         abbrev g13 : List.List Row.Entry
         g13 = List._∷_ (0, Rows'.any-gone ty·14) (List._∷_ (1, Rows'.sslice (Referent.rtF (Referent.fInt Syntax.w16)) ty·7 0) (List._∷_ (2, Rows'.sslice (Referent.rtF (Referent.fInt Syntax.w16)) ty·8 1) (List._∷_ (3, Rows'.sslice (Referent.rtF (Referent.fInt Syntax.w8)) ty·5 2) (List._∷_ (4, Rows'.sslice (Referent.rtF (Referent.fInt Syntax.w16)) ty·9 3)
             (List._∷_ (5, Rows'.sslice (Referent.rtF (Referent.fInt Syntax.w16)) ty·10 4) (List._∷_ (6, Rows'.sslice (Referent.rtF (Referent.fInt Syntax.w32)) ty·11 5) (List._∷_ (7, Rows'.sslice (Referent.rtF (Referent.fInt Syntax.w16)) ty·12 6) (List._∷_ (8, Rows'.sslice (Referent.rtF (Referent.fInt Syntax.w8)) ty·6 7) (List._∷_
-            (9, Reshare.mslice-owedS Rec.rt ty·4 8 10 (Row.lease (κs .1 .1 .1 .1 .1 .1 .1 .1 .0) (qs .1 .1 .1 .1 .1 .1 .1 .1 .0))) (List._∷_ (10, Rows'.sslice (Referent.rtF (Referent.fInt Syntax.w16)) ty·13 9) (List._∷_ (11, Rows.arrF (Array'.Array (Referent.rtF (Referent.fInt Syntax.w16)) 2048) 2 0) (List._∷_
-            (12, Rows.arrF (Array'.Array (Referent.rtF (Referent.fInt Syntax.w8)) 2048) 2 0) (List._∷_ (13, Rows.arrF (Referent.rtF (Referent.fInt Syntax.w8)) 2048 0) (List._∷_ (14, Rows'.any-gone (Syntax.tyInt Syntax.w64)) (List._∷_ (15, Rows'.any-gone ty·14) List.[])))))))))))))))
+            (9, Reshare.mslice-owedS Rec.rt ty·4 8 10 (Row.lease (κs .1 .1 .1 .1 .1 .1 .1 .1 .0) (qs .1 .1 .1 .1 .1 .1 .1 .1 .0))) (List._∷_ (10, Rows'.sslice (Referent.rtF (Referent.fInt Syntax.w16)) ty·13 9) (List._∷_ (11, Rows.arrF (Array'.Array (Referent.rtF (Referent.fInt Syntax.w16)) 4096) 2 0) (List._∷_
+            (12, Rows.arrF (Array'.Array (Referent.rtF (Referent.fInt Syntax.w8)) 4096) 2 0) (List._∷_ (13, Rows.arrF (Referent.rtF (Referent.fInt Syntax.w8)) 4096 0) (List._∷_ (14, Rows'.any-gone (Syntax.tyInt Syntax.w64)) (List._∷_ (15, Rows'.any-gone ty·14) List.[])))))))))))))))
 
         abbrev g16 : List.List Row.Entry
         g16 = List._∷_ (0, Rows'.any-gone ty·14) (List._∷_ (1, Rows'.sslice (Referent.rtF (Referent.fInt Syntax.w16)) ty·7 0) (List._∷_ (2, Rows'.sslice (Referent.rtF (Referent.fInt Syntax.w16)) ty·8 1) (List._∷_ (3, Rows'.sslice (Referent.rtF (Referent.fInt Syntax.w8)) ty·5 2) (List._∷_ (4, Rows'.sslice (Referent.rtF (Referent.fInt Syntax.w16)) ty·9 3)
             (List._∷_ (5, Rows'.sslice (Referent.rtF (Referent.fInt Syntax.w16)) ty·10 4) (List._∷_ (6, Rows'.sslice (Referent.rtF (Referent.fInt Syntax.w32)) ty·11 5) (List._∷_ (7, Rows'.sslice (Referent.rtF (Referent.fInt Syntax.w16)) ty·12 6) (List._∷_ (8, Rows'.sslice (Referent.rtF (Referent.fInt Syntax.w8)) ty·6 7) (List._∷_
-            (9, Reshare.mslice-owedS Rec.rt ty·4 8 10 (Row.lease (κs .1 .1 .1 .1 .1 .1 .1 .1 .0) (qs .1 .1 .1 .1 .1 .1 .1 .1 .0))) (List._∷_ (10, Rows'.sslice (Referent.rtF (Referent.fInt Syntax.w16)) ty·13 9) (List._∷_ (11, Rows'.sc-owed (Array'.Array (Array'.Array (Referent.rtF (Referent.fInt Syntax.w16)) 2048) 2) 11) (List._∷_
-            (12, Rows.arrF (Array'.Array (Referent.rtF (Referent.fInt Syntax.w8)) 2048) 2 0) (List._∷_ (13, Rows.arrF (Referent.rtF (Referent.fInt Syntax.w8)) 2048 0) (List._∷_ (14, Rows'.any-gone (Syntax.tyInt Syntax.w64)) (List._∷_ (15, Rows'.any-gone ty·14) List.[])))))))))))))))
+            (9, Reshare.mslice-owedS Rec.rt ty·4 8 10 (Row.lease (κs .1 .1 .1 .1 .1 .1 .1 .1 .0) (qs .1 .1 .1 .1 .1 .1 .1 .1 .0))) (List._∷_ (10, Rows'.sslice (Referent.rtF (Referent.fInt Syntax.w16)) ty·13 9) (List._∷_ (11, Rows'.sc-owed (Array'.Array (Array'.Array (Referent.rtF (Referent.fInt Syntax.w16)) 4096) 2) 11) (List._∷_
+            (12, Rows.arrF (Array'.Array (Referent.rtF (Referent.fInt Syntax.w8)) 4096) 2 0) (List._∷_ (13, Rows.arrF (Referent.rtF (Referent.fInt Syntax.w8)) 4096 0) (List._∷_ (14, Rows'.any-gone (Syntax.tyInt Syntax.w64)) (List._∷_ (15, Rows'.any-gone ty·14) List.[])))))))))))))))
 
         abbrev g18 : List.List Row.Entry
         g18 = List._∷_ (0, Rows'.any-gone ty·14) (List._∷_ (1, Rows'.sslice (Referent.rtF (Referent.fInt Syntax.w16)) ty·7 0) (List._∷_ (2, Rows'.sslice (Referent.rtF (Referent.fInt Syntax.w16)) ty·8 1) (List._∷_ (3, Rows'.sslice (Referent.rtF (Referent.fInt Syntax.w8)) ty·5 2) (List._∷_ (4, Rows'.sslice (Referent.rtF (Referent.fInt Syntax.w16)) ty·9 3)
             (List._∷_ (5, Rows'.sslice (Referent.rtF (Referent.fInt Syntax.w16)) ty·10 4) (List._∷_ (6, Rows'.sslice (Referent.rtF (Referent.fInt Syntax.w32)) ty·11 5) (List._∷_ (7, Rows'.sslice (Referent.rtF (Referent.fInt Syntax.w16)) ty·12 6) (List._∷_ (8, Rows'.sslice (Referent.rtF (Referent.fInt Syntax.w8)) ty·6 7) (List._∷_
-            (9, Reshare.mslice-owedS Rec.rt ty·4 8 10 (Row.lease (κs .1 .1 .1 .1 .1 .1 .1 .1 .0) (qs .1 .1 .1 .1 .1 .1 .1 .1 .0))) (List._∷_ (10, Rows'.sslice (Referent.rtF (Referent.fInt Syntax.w16)) ty·13 9) (List._∷_ (11, Rows'.sc-owed (Array'.Array (Array'.Array (Referent.rtF (Referent.fInt Syntax.w16)) 2048) 2) 11) (List._∷_
-            (12, Rows'.sc-owed (Array'.Array (Array'.Array (Referent.rtF (Referent.fInt Syntax.w8)) 2048) 2) 12) (List._∷_ (13, Rows.arrF (Referent.rtF (Referent.fInt Syntax.w8)) 2048 0) (List._∷_ (14, Rows'.any-gone (Syntax.tyInt Syntax.w64)) (List._∷_ (15, Rows'.any-gone ty·14) List.[])))))))))))))))
+            (9, Reshare.mslice-owedS Rec.rt ty·4 8 10 (Row.lease (κs .1 .1 .1 .1 .1 .1 .1 .1 .0) (qs .1 .1 .1 .1 .1 .1 .1 .1 .0))) (List._∷_ (10, Rows'.sslice (Referent.rtF (Referent.fInt Syntax.w16)) ty·13 9) (List._∷_ (11, Rows'.sc-owed (Array'.Array (Array'.Array (Referent.rtF (Referent.fInt Syntax.w16)) 4096) 2) 11) (List._∷_
+            (12, Rows'.sc-owed (Array'.Array (Array'.Array (Referent.rtF (Referent.fInt Syntax.w8)) 4096) 2) 12) (List._∷_ (13, Rows.arrF (Referent.rtF (Referent.fInt Syntax.w8)) 4096 0) (List._∷_ (14, Rows'.any-gone (Syntax.tyInt Syntax.w64)) (List._∷_ (15, Rows'.any-gone ty·14) List.[])))))))))))))))
 
         abbrev g20 : List.List Row.Entry
         g20 = List._∷_ (0, Rows'.any-gone ty·14) (List._∷_ (1, Rows'.sslice (Referent.rtF (Referent.fInt Syntax.w16)) ty·7 0) (List._∷_ (2, Rows'.sslice (Referent.rtF (Referent.fInt Syntax.w16)) ty·8 1) (List._∷_ (3, Rows'.sslice (Referent.rtF (Referent.fInt Syntax.w8)) ty·5 2) (List._∷_ (4, Rows'.sslice (Referent.rtF (Referent.fInt Syntax.w16)) ty·9 3)
             (List._∷_ (5, Rows'.sslice (Referent.rtF (Referent.fInt Syntax.w16)) ty·10 4) (List._∷_ (6, Rows'.sslice (Referent.rtF (Referent.fInt Syntax.w32)) ty·11 5) (List._∷_ (7, Rows'.sslice (Referent.rtF (Referent.fInt Syntax.w16)) ty·12 6) (List._∷_ (8, Rows'.sslice (Referent.rtF (Referent.fInt Syntax.w8)) ty·6 7) (List._∷_
-            (9, Reshare.mslice-owedS Rec.rt ty·4 8 10 (Row.lease (κs .1 .1 .1 .1 .1 .1 .1 .1 .0) (qs .1 .1 .1 .1 .1 .1 .1 .1 .0))) (List._∷_ (10, Rows'.sslice (Referent.rtF (Referent.fInt Syntax.w16)) ty·13 9) (List._∷_ (11, Rows'.sc-owed (Array'.Array (Array'.Array (Referent.rtF (Referent.fInt Syntax.w16)) 2048) 2) 11) (List._∷_
-            (12, Rows'.sc-owed (Array'.Array (Array'.Array (Referent.rtF (Referent.fInt Syntax.w8)) 2048) 2) 12) (List._∷_ (13, Rows'.sc-owed (Array'.Array (Referent.rtF (Referent.fInt Syntax.w8)) 2048) 13) (List._∷_ (14, Rows'.any-gone (Syntax.tyInt Syntax.w64)) (List._∷_ (15, Rows'.any-gone ty·14) List.[])))))))))))))))
+            (9, Reshare.mslice-owedS Rec.rt ty·4 8 10 (Row.lease (κs .1 .1 .1 .1 .1 .1 .1 .1 .0) (qs .1 .1 .1 .1 .1 .1 .1 .1 .0))) (List._∷_ (10, Rows'.sslice (Referent.rtF (Referent.fInt Syntax.w16)) ty·13 9) (List._∷_ (11, Rows'.sc-owed (Array'.Array (Array'.Array (Referent.rtF (Referent.fInt Syntax.w16)) 4096) 2) 11) (List._∷_
+            (12, Rows'.sc-owed (Array'.Array (Array'.Array (Referent.rtF (Referent.fInt Syntax.w8)) 4096) 2) 12) (List._∷_ (13, Rows'.sc-owed (Array'.Array (Referent.rtF (Referent.fInt Syntax.w8)) 4096) 13) (List._∷_ (14, Rows'.any-gone (Syntax.tyInt Syntax.w64)) (List._∷_ (15, Rows'.any-gone ty·14) List.[])))))))))))))))
 
         abbrev g22 : List.List Row.Entry
         g22 = List._∷_ (0, Rows'.any-gone ty·14) (List._∷_ (1, Rows'.sslice (Referent.rtF (Referent.fInt Syntax.w16)) ty·7 0) (List._∷_ (2, Rows'.sslice (Referent.rtF (Referent.fInt Syntax.w16)) ty·8 1) (List._∷_ (3, Rows'.sslice (Referent.rtF (Referent.fInt Syntax.w8)) ty·5 2) (List._∷_ (4, Rows'.sslice (Referent.rtF (Referent.fInt Syntax.w16)) ty·9 3)
             (List._∷_ (5, Rows'.sslice (Referent.rtF (Referent.fInt Syntax.w16)) ty·10 4) (List._∷_ (6, Rows'.sslice (Referent.rtF (Referent.fInt Syntax.w32)) ty·11 5) (List._∷_ (7, Rows'.sslice (Referent.rtF (Referent.fInt Syntax.w16)) ty·12 6) (List._∷_ (8, Rows'.sslice (Referent.rtF (Referent.fInt Syntax.w8)) ty·6 7) (List._∷_
-            (9, Reshare.mslice-owedS Rec.rt ty·4 8 10 (Row.lease (κs .1 .1 .1 .1 .1 .1 .1 .1 .0) (qs .1 .1 .1 .1 .1 .1 .1 .1 .0))) (List._∷_ (10, Rows'.sslice (Referent.rtF (Referent.fInt Syntax.w16)) ty·13 9) (List._∷_ (11, Rows'.sc-owed (Array'.Array (Array'.Array (Referent.rtF (Referent.fInt Syntax.w16)) 2048) 2) 11) (List._∷_
-            (12, Rows'.sc-owed (Array'.Array (Array'.Array (Referent.rtF (Referent.fInt Syntax.w8)) 2048) 2) 12) (List._∷_ (13, Rows'.sc-owed (Array'.Array (Referent.rtF (Referent.fInt Syntax.w8)) 2048) 13) (List._∷_ (14, Rows'.sc-here (Row.sInt Syntax.w64)) (List._∷_ (15, Rows'.any-gone ty·14) List.[])))))))))))))))
+            (9, Reshare.mslice-owedS Rec.rt ty·4 8 10 (Row.lease (κs .1 .1 .1 .1 .1 .1 .1 .1 .0) (qs .1 .1 .1 .1 .1 .1 .1 .1 .0))) (List._∷_ (10, Rows'.sslice (Referent.rtF (Referent.fInt Syntax.w16)) ty·13 9) (List._∷_ (11, Rows'.sc-owed (Array'.Array (Array'.Array (Referent.rtF (Referent.fInt Syntax.w16)) 4096) 2) 11) (List._∷_
+            (12, Rows'.sc-owed (Array'.Array (Array'.Array (Referent.rtF (Referent.fInt Syntax.w8)) 4096) 2) 12) (List._∷_ (13, Rows'.sc-owed (Array'.Array (Referent.rtF (Referent.fInt Syntax.w8)) 4096) 13) (List._∷_ (14, Rows'.sc-here (Row.sInt Syntax.w64)) (List._∷_ (15, Rows'.any-gone ty·14) List.[])))))))))))))))
 
         abbrev g47 : List.List Row.Entry
         g47 = List._∷_ (0, Rows'.any-gone ty·14) (List._∷_ (1, Rows'.sslice (Referent.rtF (Referent.fInt Syntax.w16)) ty·7 0) (List._∷_ (2, Rows'.sslice (Referent.rtF (Referent.fInt Syntax.w16)) ty·8 1) (List._∷_ (3, Rows'.sslice (Referent.rtF (Referent.fInt Syntax.w8)) ty·5 2) (List._∷_ (4, Rows'.sslice (Referent.rtF (Referent.fInt Syntax.w16)) ty·9 3)
@@ -1385,78 +1385,78 @@ module _ (claims· : Claims) where
               (Syntax.tyStruct (List._∷_ 38 (List._∷_ 91 (List._∷_ 93 List.[]))) (Syntax.tcons ty·3 (Syntax.tcons (Syntax.tyInt Syntax.w64) Syntax.tnil)))) (Relend.reads-owed-len 𝓤 H A W Rec.rt ty·4 8 17 (Row.lease (κs .1 .1 .1 .1 .1 .1 .1 .1 .0) (qs .1 .1 .1 .1 .1 .1 .1 .1 .0)) 8 Path'.refl, Path'.refl) Path'.refl Path'.refl λ b o k. tt) d10)
 
           d16 : Typed.Typed 𝓤 H A 𝓣 E G63 b25 Δ0 at16
-          d16 = Typed.g-pre 𝓤 H A W 𝓣 E G63 G64 b25 Δ0 (Typed.ask s62) at14 (Local.g-back-sc 𝓤 H A W E G63 25 13 16 (Array'.Array (Referent.rtF (Referent.fInt Syntax.w8)) 2048) (Syntax.tyRef Syntax.erased Syntax.mut ty·0) (Rows.arrF (Referent.rtF (Referent.fInt Syntax.w8)) 2048 0) (λ x. x) (λ x. x) (λ x. x) (Reads.as-is 𝓤 H A (Rows'.mleft (Array'.Array
-              (Referent.rtF (Referent.fInt Syntax.w8)) 2048) (Syntax.tyRef Syntax.erased Syntax.mut ty·0))) (Reads.as-is 𝓤 H A (Rows'.sc-owed (Array'.Array (Referent.rtF (Referent.fInt Syntax.w8)) 2048) 16)) (Whole.arr-mem 𝓤 H A W (Referent.rtF (Referent.fInt Syntax.w8)) 2048 tt) Path'.refl) (Typed.g-pre 𝓤 H A W 𝓣 E G64 G65 b25 Δ0 (λ Ψ. Ψ) at14
-              (Lifetime.g-forget 𝓤 H A W E G64 16 Row.dead Path'.refl) (Typed.g-pre 𝓤 H A W 𝓣 E G65 G66 b25 Δ0 (Typed.pass T64 T66 s64) at12 (Scalar.g-room 𝓤 H A W E G65 13 ty·0 (Init.room-arr 𝓤 H A W (Referent.rtF (Referent.fInt Syntax.w8)) 2048 0 2048 Path'.refl)) (Typed.g-pre 𝓤 H A W 𝓣 E G66 G67 b25 Δ0 (λ Ψ. Ψ) at12 (Lifetime.g-begin 𝓤 H A W E G66 17
+          d16 = Typed.g-pre 𝓤 H A W 𝓣 E G63 G64 b25 Δ0 (Typed.ask s62) at14 (Local.g-back-sc 𝓤 H A W E G63 25 13 16 (Array'.Array (Referent.rtF (Referent.fInt Syntax.w8)) 4096) (Syntax.tyRef Syntax.erased Syntax.mut ty·0) (Rows.arrF (Referent.rtF (Referent.fInt Syntax.w8)) 4096 0) (λ x. x) (λ x. x) (λ x. x) (Reads.as-is 𝓤 H A (Rows'.mleft (Array'.Array
+              (Referent.rtF (Referent.fInt Syntax.w8)) 4096) (Syntax.tyRef Syntax.erased Syntax.mut ty·0))) (Reads.as-is 𝓤 H A (Rows'.sc-owed (Array'.Array (Referent.rtF (Referent.fInt Syntax.w8)) 4096) 16)) (Whole.arr-mem 𝓤 H A W (Referent.rtF (Referent.fInt Syntax.w8)) 4096 tt) Path'.refl) (Typed.g-pre 𝓤 H A W 𝓣 E G64 G65 b25 Δ0 (λ Ψ. Ψ) at14
+              (Lifetime.g-forget 𝓤 H A W E G64 16 Row.dead Path'.refl) (Typed.g-pre 𝓤 H A W 𝓣 E G65 G66 b25 Δ0 (Typed.pass T64 T66 s64) at12 (Scalar.g-room 𝓤 H A W E G65 13 ty·0 (Init.room-arr 𝓤 H A W (Referent.rtF (Referent.fInt Syntax.w8)) 4096 0 4096 Path'.refl)) (Typed.g-pre 𝓤 H A W 𝓣 E G66 G67 b25 Δ0 (λ Ψ. Ψ) at12 (Lifetime.g-begin 𝓤 H A W E G66 17
               (tt, (tt, (tt, (tt, (tt, (tt, (tt, (tt, (tt, (tt, (tt, (tt, (tt, (tt, (tt, (tt, (tt, (tt, (tt, (tt, (tt, (tt, (tt, (tt, (tt, (tt, (tt, (tt, (tt, (tt, tt))))))))))))))))))))))))))))))) d12)))
 
           d20 : Typed.Typed 𝓤 H A 𝓣 E G59 b25 Δ0 at20
-          d20 = Typed.g-pre 𝓤 H A W 𝓣 E G59 G60 b25 Δ0 (Typed.pass T58 T60 s58) at18 (Local.g-back-shr 𝓤 H A W E G59 12 15 (Rows.arrF (Array'.Array (Referent.rtF (Referent.fInt Syntax.w8)) 2048) 2 0) (Array'.Array (Array'.Array (Referent.rtF (Referent.fInt Syntax.w8)) 2048) 2) (λ x. x) (λ x. x) (Reads.as-is 𝓤 H A (Rows'.sc-shr (Rows.arrF (Array'.Array
-              (Referent.rtF (Referent.fInt Syntax.w8)) 2048) 2 0) (Array'.Array (Array'.Array (Referent.rtF (Referent.fInt Syntax.w8)) 2048) 2) (λ x. x) 15)) (Local.home-of 𝓤 H A (Rows.arrF (Array'.Array (Referent.rtF (Referent.fInt Syntax.w8)) 2048) 2 0) (Array'.Array (Array'.Array (Referent.rtF (Referent.fInt Syntax.w8)) 2048) 2) (λ x. x) (λ x. x)
-              (Whole.arr-mem 𝓤 H A W (Array'.Array (Referent.rtF (Referent.fInt Syntax.w8)) 2048) 2 tt) λ x k. Path'.refl) Path'.refl) (Typed.g-pre 𝓤 H A W 𝓣 E G60 G61 b25 Δ0 (λ Ψ. Ψ) at18 (Lifetime.g-forget 𝓤 H A W E G60 15 Row.dead Path'.refl) (Typed.g-pre 𝓤 H A W 𝓣 E G61 G62 b25 Δ0 (Typed.pass T60 T62 s60) at16 (Scalar.g-room 𝓤 H A W E G61 12 (Syntax.tyArray
-              ty·0 2) (Init.room-arr 𝓤 H A W (Array'.Array (Referent.rtF (Referent.fInt Syntax.w8)) 2048) 2 0 2 Path'.refl)) (Typed.g-pre 𝓤 H A W 𝓣 E G62 G63 b25 Δ0 (λ Ψ. Ψ) at16 (Lifetime.g-end 𝓤 H A W E G62 16 Path'.refl) d16)))
+          d20 = Typed.g-pre 𝓤 H A W 𝓣 E G59 G60 b25 Δ0 (Typed.pass T58 T60 s58) at18 (Local.g-back-shr 𝓤 H A W E G59 12 15 (Rows.arrF (Array'.Array (Referent.rtF (Referent.fInt Syntax.w8)) 4096) 2 0) (Array'.Array (Array'.Array (Referent.rtF (Referent.fInt Syntax.w8)) 4096) 2) (λ x. x) (λ x. x) (Reads.as-is 𝓤 H A (Rows'.sc-shr (Rows.arrF (Array'.Array
+              (Referent.rtF (Referent.fInt Syntax.w8)) 4096) 2 0) (Array'.Array (Array'.Array (Referent.rtF (Referent.fInt Syntax.w8)) 4096) 2) (λ x. x) 15)) (Local.home-of 𝓤 H A (Rows.arrF (Array'.Array (Referent.rtF (Referent.fInt Syntax.w8)) 4096) 2 0) (Array'.Array (Array'.Array (Referent.rtF (Referent.fInt Syntax.w8)) 4096) 2) (λ x. x) (λ x. x)
+              (Whole.arr-mem 𝓤 H A W (Array'.Array (Referent.rtF (Referent.fInt Syntax.w8)) 4096) 2 tt) λ x k. Path'.refl) Path'.refl) (Typed.g-pre 𝓤 H A W 𝓣 E G60 G61 b25 Δ0 (λ Ψ. Ψ) at18 (Lifetime.g-forget 𝓤 H A W E G60 15 Row.dead Path'.refl) (Typed.g-pre 𝓤 H A W 𝓣 E G61 G62 b25 Δ0 (Typed.pass T60 T62 s60) at16 (Scalar.g-room 𝓤 H A W E G61 12 (Syntax.tyArray
+              ty·0 2) (Init.room-arr 𝓤 H A W (Array'.Array (Referent.rtF (Referent.fInt Syntax.w8)) 4096) 2 0 2 Path'.refl)) (Typed.g-pre 𝓤 H A W 𝓣 E G62 G63 b25 Δ0 (λ Ψ. Ψ) at16 (Lifetime.g-end 𝓤 H A W E G62 16 Path'.refl) d16)))
 
           d24 : Typed.Typed 𝓤 H A 𝓣 E G55 b25 Δ0 at24
-          d24 = Typed.g-pre 𝓤 H A W 𝓣 E G55 G56 b25 Δ0 (Typed.pass T54 T56 s54) at22 (Local.g-back-shr 𝓤 H A W E G55 11 14 (Rows.arrF (Array'.Array (Referent.rtF (Referent.fInt Syntax.w16)) 2048) 2 0) (Array'.Array (Array'.Array (Referent.rtF (Referent.fInt Syntax.w16)) 2048) 2) (λ x. x) (λ x. x) (Reads.as-is 𝓤 H A (Rows'.sc-shr (Rows.arrF (Array'.Array
-              (Referent.rtF (Referent.fInt Syntax.w16)) 2048) 2 0) (Array'.Array (Array'.Array (Referent.rtF (Referent.fInt Syntax.w16)) 2048) 2) (λ x. x) 14)) (Local.home-of 𝓤 H A (Rows.arrF (Array'.Array (Referent.rtF (Referent.fInt Syntax.w16)) 2048) 2 0) (Array'.Array (Array'.Array (Referent.rtF (Referent.fInt Syntax.w16)) 2048) 2) (λ x. x) (λ x. x)
-              (Whole.arr-mem 𝓤 H A W (Array'.Array (Referent.rtF (Referent.fInt Syntax.w16)) 2048) 2 tt) λ x k. Path'.refl) Path'.refl) (Typed.g-pre 𝓤 H A W 𝓣 E G56 G57 b25 Δ0 (λ Ψ. Ψ) at22 (Lifetime.g-forget 𝓤 H A W E G56 14 Row.dead Path'.refl) (Typed.g-pre 𝓤 H A W 𝓣 E G57 G58 b25 Δ0 (Typed.pass T56 T58 s56) at20 (Scalar.g-room 𝓤 H A W E G57 11 (Syntax.tyArray
-              ty·1 2) (Init.room-arr 𝓤 H A W (Array'.Array (Referent.rtF (Referent.fInt Syntax.w16)) 2048) 2 0 2 Path'.refl)) (Typed.g-pre 𝓤 H A W 𝓣 E G58 G59 b25 Δ0 (λ Ψ. Ψ) at20 (Lifetime.g-end 𝓤 H A W E G58 15 Path'.refl) d20)))
+          d24 = Typed.g-pre 𝓤 H A W 𝓣 E G55 G56 b25 Δ0 (Typed.pass T54 T56 s54) at22 (Local.g-back-shr 𝓤 H A W E G55 11 14 (Rows.arrF (Array'.Array (Referent.rtF (Referent.fInt Syntax.w16)) 4096) 2 0) (Array'.Array (Array'.Array (Referent.rtF (Referent.fInt Syntax.w16)) 4096) 2) (λ x. x) (λ x. x) (Reads.as-is 𝓤 H A (Rows'.sc-shr (Rows.arrF (Array'.Array
+              (Referent.rtF (Referent.fInt Syntax.w16)) 4096) 2 0) (Array'.Array (Array'.Array (Referent.rtF (Referent.fInt Syntax.w16)) 4096) 2) (λ x. x) 14)) (Local.home-of 𝓤 H A (Rows.arrF (Array'.Array (Referent.rtF (Referent.fInt Syntax.w16)) 4096) 2 0) (Array'.Array (Array'.Array (Referent.rtF (Referent.fInt Syntax.w16)) 4096) 2) (λ x. x) (λ x. x)
+              (Whole.arr-mem 𝓤 H A W (Array'.Array (Referent.rtF (Referent.fInt Syntax.w16)) 4096) 2 tt) λ x k. Path'.refl) Path'.refl) (Typed.g-pre 𝓤 H A W 𝓣 E G56 G57 b25 Δ0 (λ Ψ. Ψ) at22 (Lifetime.g-forget 𝓤 H A W E G56 14 Row.dead Path'.refl) (Typed.g-pre 𝓤 H A W 𝓣 E G57 G58 b25 Δ0 (Typed.pass T56 T58 s56) at20 (Scalar.g-room 𝓤 H A W E G57 11 (Syntax.tyArray
+              ty·1 2) (Init.room-arr 𝓤 H A W (Array'.Array (Referent.rtF (Referent.fInt Syntax.w16)) 4096) 2 0 2 Path'.refl)) (Typed.g-pre 𝓤 H A W 𝓣 E G58 G59 b25 Δ0 (λ Ψ. Ψ) at20 (Lifetime.g-end 𝓤 H A W E G58 15 Path'.refl) d20)))
 
           d27 : Typed.Typed 𝓤 H A 𝓣 E G52 b25 Δ0 at27
-          d27 = Typed.g-pre 𝓤 H A W 𝓣 E G52 G53 b25 Δ0 (Typed.pass T52 T53 s51) at26 (Local.g-drop-sref 𝓤 H A W E G52 23 14 (Array'.Array (Array'.Array (Referent.rtF (Referent.fInt Syntax.w16)) 2048) 2) (Syntax.tyRef Syntax.erased Syntax.imm (Syntax.tyArray ty·1 2)) (λ x. x) (Reads.as-is 𝓤 H A (Rows'.sref (Array'.Array (Array'.Array (Referent.rtF
-              (Referent.fInt Syntax.w16)) 2048) 2) (Syntax.tyRef Syntax.erased Syntax.imm (Syntax.tyArray ty·1 2)) 14))) (Typed.g-pre 𝓤 H A W 𝓣 E G53 G54 b25 Δ0 (Typed.pass T53 T54 s52) at24 (Local.g-drop-sref 𝓤 H A W E G53 24 15 (Array'.Array (Array'.Array (Referent.rtF (Referent.fInt Syntax.w8)) 2048) 2) (Syntax.tyRef Syntax.erased Syntax.imm (Syntax.tyArray
-              ty·0 2)) (λ x. x) (Reads.as-is 𝓤 H A (Rows'.sref (Array'.Array (Array'.Array (Referent.rtF (Referent.fInt Syntax.w8)) 2048) 2) (Syntax.tyRef Syntax.erased Syntax.imm (Syntax.tyArray ty·0 2)) 15))) (Typed.g-pre 𝓤 H A W 𝓣 E G54 G55 b25 Δ0 (λ Ψ. Ψ) at24 (Lifetime.g-end 𝓤 H A W E G54 14 Path'.refl) d24))
+          d27 = Typed.g-pre 𝓤 H A W 𝓣 E G52 G53 b25 Δ0 (Typed.pass T52 T53 s51) at26 (Local.g-drop-sref 𝓤 H A W E G52 23 14 (Array'.Array (Array'.Array (Referent.rtF (Referent.fInt Syntax.w16)) 4096) 2) (Syntax.tyRef Syntax.erased Syntax.imm (Syntax.tyArray ty·1 2)) (λ x. x) (Reads.as-is 𝓤 H A (Rows'.sref (Array'.Array (Array'.Array (Referent.rtF
+              (Referent.fInt Syntax.w16)) 4096) 2) (Syntax.tyRef Syntax.erased Syntax.imm (Syntax.tyArray ty·1 2)) 14))) (Typed.g-pre 𝓤 H A W 𝓣 E G53 G54 b25 Δ0 (Typed.pass T53 T54 s52) at24 (Local.g-drop-sref 𝓤 H A W E G53 24 15 (Array'.Array (Array'.Array (Referent.rtF (Referent.fInt Syntax.w8)) 4096) 2) (Syntax.tyRef Syntax.erased Syntax.imm (Syntax.tyArray
+              ty·0 2)) (λ x. x) (Reads.as-is 𝓤 H A (Rows'.sref (Array'.Array (Array'.Array (Referent.rtF (Referent.fInt Syntax.w8)) 4096) 2) (Syntax.tyRef Syntax.erased Syntax.imm (Syntax.tyArray ty·0 2)) 15))) (Typed.g-pre 𝓤 H A W 𝓣 E G54 G55 b25 Δ0 (λ Ψ. Ψ) at24 (Lifetime.g-end 𝓤 H A W E G54 14 Path'.refl) d24))
 
           d28 : Typed.Typed 𝓤 H A 𝓣 E G51 b26 Δ0 at28
           d28 = Typed.s-seq 𝓤 H A W 𝓣 E G51 G52 b14 b25 Δ0 (Typed.both s50) at27 (Plain.t-call-plain 𝓤 H A W 𝓣 12 ps·1 r·1 (claims· .2) (claims· .3) "conductor::over::turn_all" (known .1) E (λ pos β. β) G51 args·1 15 (List._∷_ 0 (List._∷_ 1 (List._∷_ 2 (List._∷_ 3 (List._∷_ 4 (List._∷_ 5 (List._∷_ 6 (List._∷_ 7 (List._∷_ 14 (List._∷_ 15 (List._∷_ 16
               (List._∷_ 9 List.[])))))))))))) (Call.sub-id 𝓤 H A W (G51 .slots))
-              (ShrSlice.spares-sslice 𝓤 H A W (Referent.rtF (Referent.fInt Syntax.w16)) ty·7 0, Shared.reads-sslice 𝓤 H A W (Referent.rtF (Referent.fInt Syntax.w16)) ty·7 0, Path'.refl, (ShrSlice.spares-sslice 𝓤 H A W (Referent.rtF (Referent.fInt Syntax.w16)) ty·8 1, Shared.reads-sslice 𝓤 H A W (Referent.rtF (Referent.fInt Syntax.w16)) ty·8 1, Path'.refl, (ShrSlice.spares-sslice 𝓤 H A W (Referent.rtF (Referent.fInt Syntax.w8)) ty·5 2, Shared.reads-sslice 𝓤 H A W (Referent.rtF (Referent.fInt Syntax.w8)) ty·5 2, Path'.refl, (ShrSlice.spares-sslice 𝓤 H A W (Referent.rtF (Referent.fInt Syntax.w16)) ty·9 3, Shared.reads-sslice 𝓤 H A W (Referent.rtF (Referent.fInt Syntax.w16)) ty·9 3, Path'.refl, (ShrSlice.spares-sslice 𝓤 H A W (Referent.rtF (Referent.fInt Syntax.w16)) ty·10 4, Shared.reads-sslice 𝓤 H A W (Referent.rtF (Referent.fInt Syntax.w16)) ty·10 4, Path'.refl, (ShrSlice.spares-sslice 𝓤 H A W (Referent.rtF (Referent.fInt Syntax.w32)) ty·11 5, Shared.reads-sslice 𝓤 H A W (Referent.rtF (Referent.fInt Syntax.w32)) ty·11 5, Path'.refl, (ShrSlice.spares-sslice 𝓤 H A W (Referent.rtF (Referent.fInt Syntax.w16)) ty·12 6, Shared.reads-sslice 𝓤 H A W (Referent.rtF (Referent.fInt Syntax.w16)) ty·12 6, Path'.refl, (ShrSlice.spares-sslice 𝓤 H A W (Referent.rtF (Referent.fInt Syntax.w8)) ty·6 7, Shared.reads-sslice 𝓤 H A W (Referent.rtF (Referent.fInt Syntax.w8)) ty·6 7, Path'.refl, (ShrRef.spares-sref 𝓤 H A W (Array'.Array (Array'.Array (Referent.rtF (Referent.fInt Syntax.w16)) 2048) 2) (Syntax.tyRef Syntax.erased Syntax.imm (Syntax.tyArray ty·1 2)) 14, Reads.reads-sref 𝓤 H A W (Array'.Array (Array'.Array (Referent.rtF (Referent.fInt Syntax.w16)) 2048) 2) (Syntax.tyRef Syntax.erased Syntax.imm (Syntax.tyArray ty·1 2)) 14, Path'.refl, (ShrRef.spares-sref 𝓤 H A W (Array'.Array (Array'.Array (Referent.rtF (Referent.fInt Syntax.w8)) 2048) 2) (Syntax.tyRef Syntax.erased Syntax.imm (Syntax.tyArray ty·0 2)) 15, Reads.reads-sref 𝓤 H A W (Array'.Array (Array'.Array (Referent.rtF (Referent.fInt Syntax.w8)) 2048) 2) (Syntax.tyRef Syntax.erased Syntax.imm (Syntax.tyArray ty·0 2)) 15, Path'.refl, (Reads.as-is 𝓤 H A (Rows'.mref (Array'.Array (Referent.rtF (Referent.fInt Syntax.w8)) 2048) (Syntax.tyRef Syntax.erased Syntax.mut ty·0) 16), Reads.reads-mref 𝓤 H A W (Array'.Array (Referent.rtF (Referent.fInt Syntax.w8)) 2048) (Syntax.tyRef Syntax.erased Syntax.mut ty·0) 16, Path'.refl, (ShrSlice.spares-sslice 𝓤 H A W (Referent.rtF (Referent.fInt Syntax.w16)) ty·13 9, Shared.reads-sslice 𝓤 H A W (Referent.rtF (Referent.fInt Syntax.w16)) ty·13 9, Path'.refl, ((Scalar.reads-sc 𝓤 H A W (Row.sInt Syntax.w64), Path'.refl), tt)))))))))))))
+              (ShrSlice.spares-sslice 𝓤 H A W (Referent.rtF (Referent.fInt Syntax.w16)) ty·7 0, Shared.reads-sslice 𝓤 H A W (Referent.rtF (Referent.fInt Syntax.w16)) ty·7 0, Path'.refl, (ShrSlice.spares-sslice 𝓤 H A W (Referent.rtF (Referent.fInt Syntax.w16)) ty·8 1, Shared.reads-sslice 𝓤 H A W (Referent.rtF (Referent.fInt Syntax.w16)) ty·8 1, Path'.refl, (ShrSlice.spares-sslice 𝓤 H A W (Referent.rtF (Referent.fInt Syntax.w8)) ty·5 2, Shared.reads-sslice 𝓤 H A W (Referent.rtF (Referent.fInt Syntax.w8)) ty·5 2, Path'.refl, (ShrSlice.spares-sslice 𝓤 H A W (Referent.rtF (Referent.fInt Syntax.w16)) ty·9 3, Shared.reads-sslice 𝓤 H A W (Referent.rtF (Referent.fInt Syntax.w16)) ty·9 3, Path'.refl, (ShrSlice.spares-sslice 𝓤 H A W (Referent.rtF (Referent.fInt Syntax.w16)) ty·10 4, Shared.reads-sslice 𝓤 H A W (Referent.rtF (Referent.fInt Syntax.w16)) ty·10 4, Path'.refl, (ShrSlice.spares-sslice 𝓤 H A W (Referent.rtF (Referent.fInt Syntax.w32)) ty·11 5, Shared.reads-sslice 𝓤 H A W (Referent.rtF (Referent.fInt Syntax.w32)) ty·11 5, Path'.refl, (ShrSlice.spares-sslice 𝓤 H A W (Referent.rtF (Referent.fInt Syntax.w16)) ty·12 6, Shared.reads-sslice 𝓤 H A W (Referent.rtF (Referent.fInt Syntax.w16)) ty·12 6, Path'.refl, (ShrSlice.spares-sslice 𝓤 H A W (Referent.rtF (Referent.fInt Syntax.w8)) ty·6 7, Shared.reads-sslice 𝓤 H A W (Referent.rtF (Referent.fInt Syntax.w8)) ty·6 7, Path'.refl, (ShrRef.spares-sref 𝓤 H A W (Array'.Array (Array'.Array (Referent.rtF (Referent.fInt Syntax.w16)) 4096) 2) (Syntax.tyRef Syntax.erased Syntax.imm (Syntax.tyArray ty·1 2)) 14, Reads.reads-sref 𝓤 H A W (Array'.Array (Array'.Array (Referent.rtF (Referent.fInt Syntax.w16)) 4096) 2) (Syntax.tyRef Syntax.erased Syntax.imm (Syntax.tyArray ty·1 2)) 14, Path'.refl, (ShrRef.spares-sref 𝓤 H A W (Array'.Array (Array'.Array (Referent.rtF (Referent.fInt Syntax.w8)) 4096) 2) (Syntax.tyRef Syntax.erased Syntax.imm (Syntax.tyArray ty·0 2)) 15, Reads.reads-sref 𝓤 H A W (Array'.Array (Array'.Array (Referent.rtF (Referent.fInt Syntax.w8)) 4096) 2) (Syntax.tyRef Syntax.erased Syntax.imm (Syntax.tyArray ty·0 2)) 15, Path'.refl, (Reads.as-is 𝓤 H A (Rows'.mref (Array'.Array (Referent.rtF (Referent.fInt Syntax.w8)) 4096) (Syntax.tyRef Syntax.erased Syntax.mut ty·0) 16), Reads.reads-mref 𝓤 H A W (Array'.Array (Referent.rtF (Referent.fInt Syntax.w8)) 4096) (Syntax.tyRef Syntax.erased Syntax.mut ty·0) 16, Path'.refl, (ShrSlice.spares-sslice 𝓤 H A W (Referent.rtF (Referent.fInt Syntax.w16)) ty·13 9, Shared.reads-sslice 𝓤 H A W (Referent.rtF (Referent.fInt Syntax.w16)) ty·13 9, Path'.refl, ((Scalar.reads-sc 𝓤 H A W (Row.sInt Syntax.w64), Path'.refl), tt)))))))))))))
               (Reads.room-gone 𝓤 H A ty·14) (tt, (tt, (tt, (tt, (tt, (tt, (tt, (tt, (tt, (tt, (tt, (tt, tt)))))))))))) Path'.refl) d27
 
           d31 : Typed.Typed 𝓤 H A 𝓣 E G48 b28 Δ0 at31
-          d31 = Typed.s-seq 𝓤 H A W 𝓣 E G48 G49 b12 b27 Δ0 (Typed.give s47) at29 (Local.t-sc-share 𝓤 H A W E 𝓣 G48 12 24 15 (Array'.Array (Array'.Array (Referent.rtF (Referent.fInt Syntax.w8)) 2048) 2) (Syntax.tyRef Syntax.erased Syntax.imm (Syntax.tyArray ty·0 2)) (λ x. x) (Whole.mem-arr 𝓤 H A W (Array'.Array (Referent.rtF (Referent.fInt Syntax.w8)) 2048)
+          d31 = Typed.s-seq 𝓤 H A W 𝓣 E G48 G49 b12 b27 Δ0 (Typed.give s47) at29 (Local.t-sc-share 𝓤 H A W E 𝓣 G48 12 24 15 (Array'.Array (Array'.Array (Referent.rtF (Referent.fInt Syntax.w8)) 4096) 2) (Syntax.tyRef Syntax.erased Syntax.imm (Syntax.tyArray ty·0 2)) (λ x. x) (Whole.mem-arr 𝓤 H A W (Array'.Array (Referent.rtF (Referent.fInt Syntax.w8)) 4096)
               2) (Reads.room-gone 𝓤 H A (Syntax.tyRef Syntax.erased Syntax.imm (Syntax.tyArray ty·0 2))) Path'.refl λ b o. tt) (Typed.g-pre 𝓤 H A W 𝓣 E G49 G50 b27 Δ0 (λ Ψ. Ψ) at29 (Lifetime.g-begin 𝓤 H A W E G49 16
               (tt, (tt, (tt, (tt, (tt, (tt, (tt, (tt, (tt, (tt, (tt, (tt, (tt, (tt, (tt, (tt, (tt, (tt, (tt, (tt, (tt, (tt, (tt, (tt, (tt, (tt, (tt, (tt, (tt, (tt, tt))))))))))))))))))))))))))))))) (Typed.s-seq 𝓤 H A W 𝓣 E G50 G51 b13 b26 Δ0 (Typed.give s49) at28 (Local.t-sc-borrow 𝓤 H A W E 𝓣 G50 13 25 16 (Array'.Array (Referent.rtF (Referent.fInt Syntax.w8))
-              2048) (Syntax.tyRef Syntax.erased Syntax.mut ty·0) (λ x. x) (Whole.mem-arr 𝓤 H A W (Referent.rtF (Referent.fInt Syntax.w8)) 2048) (Reads.room-gone 𝓤 H A (Syntax.tyRef Syntax.erased Syntax.mut ty·0)) Path'.refl λ b o. tt) d28))
+              4096) (Syntax.tyRef Syntax.erased Syntax.mut ty·0) (λ x. x) (Whole.mem-arr 𝓤 H A W (Referent.rtF (Referent.fInt Syntax.w8)) 4096) (Reads.room-gone 𝓤 H A (Syntax.tyRef Syntax.erased Syntax.mut ty·0)) Path'.refl λ b o. tt) d28))
 
           d34 : Typed.Typed 𝓤 H A 𝓣 E G45 b29 Δ0 at33
           d34 = Typed.g-pre 𝓤 H A W 𝓣 E G45 G46 b29 Δ0 (λ Ψ. Ψ) at33 (Lifetime.g-begin 𝓤 H A W E G45 14 (tt, (tt, (tt, (tt, (tt, (tt, (tt, (tt, (tt, (tt, (tt, (tt, (tt, (tt, (tt, (tt, (tt, (tt, (tt, (tt, (tt, (tt, (tt, (tt, (tt, (tt, (tt, (tt, (tt, (tt, tt))))))))))))))))))))))))))))))) (Typed.s-seq 𝓤 H A W 𝓣 E G46 G47 b11 b28 Δ0 (Typed.give s45) at31
-              (Local.t-sc-share 𝓤 H A W E 𝓣 G46 11 23 14 (Array'.Array (Array'.Array (Referent.rtF (Referent.fInt Syntax.w16)) 2048) 2) (Syntax.tyRef Syntax.erased Syntax.imm (Syntax.tyArray ty·1 2)) (λ x. x) (Whole.mem-arr 𝓤 H A W (Array'.Array (Referent.rtF (Referent.fInt Syntax.w16)) 2048) 2) (Reads.room-gone 𝓤 H A (Syntax.tyRef Syntax.erased Syntax.imm
+              (Local.t-sc-share 𝓤 H A W E 𝓣 G46 11 23 14 (Array'.Array (Array'.Array (Referent.rtF (Referent.fInt Syntax.w16)) 4096) 2) (Syntax.tyRef Syntax.erased Syntax.imm (Syntax.tyArray ty·1 2)) (λ x. x) (Whole.mem-arr 𝓤 H A W (Array'.Array (Referent.rtF (Referent.fInt Syntax.w16)) 4096) 2) (Reads.room-gone 𝓤 H A (Syntax.tyRef Syntax.erased Syntax.imm
               (Syntax.tyArray ty·1 2))) Path'.refl λ b o. tt) (Typed.g-pre 𝓤 H A W 𝓣 E G47 G48 b28 Δ0 (λ Ψ. Ψ) at31 (Lifetime.g-begin 𝓤 H A W E G47 15 (tt, (tt, (tt, (tt, (tt, (tt, (tt, (tt, (tt, (tt, (tt, (tt, (tt, (tt, (tt, (tt, (tt, (tt, (tt, (tt, (tt, (tt, (tt, (tt, (tt, (tt, (tt, (tt, (tt, (tt, tt))))))))))))))))))))))))))))))) d31))
 
           d38 : Typed.Typed 𝓤 H A 𝓣 E G41 b29 Δ0 at36
           d38 = Typed.g-pre 𝓤 H A W 𝓣 E G41 G42 b29 Δ0 (λ Ψ. Ψ) at36 (Lifetime.g-forget 𝓤 H A W E G41 12 Row.dead Path'.refl) (Typed.g-pre 𝓤 H A W 𝓣 E G42 G43 b29 Δ0 (λ Ψ. Ψ) at36 (Lifetime.g-end 𝓤 H A W E G42 13 Path'.refl) (Typed.g-pre 𝓤 H A W 𝓣 E G43 G44 b29 Δ0 (Typed.ask s42) at33 (Local.g-back-sc 𝓤 H A W E G43 22 13 13 (Array'.Array (Referent.rtF
-              (Referent.fInt Syntax.w8)) 2048) (Syntax.tyRef Syntax.erased Syntax.mut ty·0) (Rows.arrF (Referent.rtF (Referent.fInt Syntax.w8)) 2048 0) (λ x. x) (λ x. x) (λ x. x) (Reads.as-is 𝓤 H A (Rows'.mleft (Array'.Array (Referent.rtF (Referent.fInt Syntax.w8)) 2048) (Syntax.tyRef Syntax.erased Syntax.mut ty·0))) (Reads.as-is 𝓤 H A (Rows'.sc-owed
-              (Array'.Array (Referent.rtF (Referent.fInt Syntax.w8)) 2048) 13)) (Whole.arr-mem 𝓤 H A W (Referent.rtF (Referent.fInt Syntax.w8)) 2048 tt) Path'.refl) (Typed.g-pre 𝓤 H A W 𝓣 E G44 G45 b29 Δ0 (λ Ψ. Ψ) at33 (Lifetime.g-forget 𝓤 H A W E G44 13 Row.dead Path'.refl) d34)))
+              (Referent.fInt Syntax.w8)) 4096) (Syntax.tyRef Syntax.erased Syntax.mut ty·0) (Rows.arrF (Referent.rtF (Referent.fInt Syntax.w8)) 4096 0) (λ x. x) (λ x. x) (λ x. x) (Reads.as-is 𝓤 H A (Rows'.mleft (Array'.Array (Referent.rtF (Referent.fInt Syntax.w8)) 4096) (Syntax.tyRef Syntax.erased Syntax.mut ty·0))) (Reads.as-is 𝓤 H A (Rows'.sc-owed
+              (Array'.Array (Referent.rtF (Referent.fInt Syntax.w8)) 4096) 13)) (Whole.arr-mem 𝓤 H A W (Referent.rtF (Referent.fInt Syntax.w8)) 4096 tt) Path'.refl) (Typed.g-pre 𝓤 H A W 𝓣 E G44 G45 b29 Δ0 (λ Ψ. Ψ) at33 (Lifetime.g-forget 𝓤 H A W E G44 13 Row.dead Path'.refl) d34)))
 
           d41 : Typed.Typed 𝓤 H A 𝓣 E G38 b29 Δ0 at39
           d41 = Typed.g-pre 𝓤 H A W 𝓣 E G38 G39 b29 Δ0 (λ Ψ. Ψ) at39 (Lifetime.g-forget 𝓤 H A W E G38 11 Row.dead Path'.refl) (Typed.g-pre 𝓤 H A W 𝓣 E G39 G40 b29 Δ0 (λ Ψ. Ψ) at39 (Lifetime.g-end 𝓤 H A W E G39 12 Path'.refl) (Typed.g-pre 𝓤 H A W 𝓣 E G40 G41 b29 Δ0 (Typed.ask s39) at36 (Local.g-back-sc 𝓤 H A W E G40 21 12 12 (Array'.Array (Array'.Array
-              (Referent.rtF (Referent.fInt Syntax.w8)) 2048) 2) (Syntax.tyRef Syntax.erased Syntax.mut (Syntax.tyArray ty·0 2)) (Rows.arrF (Array'.Array (Referent.rtF (Referent.fInt Syntax.w8)) 2048) 2 0) (λ x. x) (λ x. x) (λ x. x) (Reads.as-is 𝓤 H A (Rows'.mleft (Array'.Array (Array'.Array (Referent.rtF (Referent.fInt Syntax.w8)) 2048) 2) (Syntax.tyRef
-              Syntax.erased Syntax.mut (Syntax.tyArray ty·0 2)))) (Reads.as-is 𝓤 H A (Rows'.sc-owed (Array'.Array (Array'.Array (Referent.rtF (Referent.fInt Syntax.w8)) 2048) 2) 12)) (Whole.arr-mem 𝓤 H A W (Array'.Array (Referent.rtF (Referent.fInt Syntax.w8)) 2048) 2 tt) Path'.refl) d38))
+              (Referent.rtF (Referent.fInt Syntax.w8)) 4096) 2) (Syntax.tyRef Syntax.erased Syntax.mut (Syntax.tyArray ty·0 2)) (Rows.arrF (Array'.Array (Referent.rtF (Referent.fInt Syntax.w8)) 4096) 2 0) (λ x. x) (λ x. x) (λ x. x) (Reads.as-is 𝓤 H A (Rows'.mleft (Array'.Array (Array'.Array (Referent.rtF (Referent.fInt Syntax.w8)) 4096) 2) (Syntax.tyRef
+              Syntax.erased Syntax.mut (Syntax.tyArray ty·0 2)))) (Reads.as-is 𝓤 H A (Rows'.sc-owed (Array'.Array (Array'.Array (Referent.rtF (Referent.fInt Syntax.w8)) 4096) 2) 12)) (Whole.arr-mem 𝓤 H A W (Array'.Array (Referent.rtF (Referent.fInt Syntax.w8)) 4096) 2 tt) Path'.refl) d38))
 
           d44 : Typed.Typed 𝓤 H A 𝓣 E G35 b29 Δ0 at42
           d44 = Typed.g-pre 𝓤 H A W 𝓣 E G35 G36 b29 Δ0 (λ Ψ. Ψ) at42 (Lifetime.g-forget 𝓤 H A W E G35 10 Row.dead Path'.refl) (Typed.g-pre 𝓤 H A W 𝓣 E G36 G37 b29 Δ0 (λ Ψ. Ψ) at42 (Lifetime.g-end 𝓤 H A W E G36 11 Path'.refl) (Typed.g-pre 𝓤 H A W 𝓣 E G37 G38 b29 Δ0 (Typed.ask s36) at39 (Local.g-back-sc 𝓤 H A W E G37 20 11 11 (Array'.Array (Array'.Array
-              (Referent.rtF (Referent.fInt Syntax.w16)) 2048) 2) (Syntax.tyRef Syntax.erased Syntax.mut (Syntax.tyArray ty·1 2)) (Rows.arrF (Array'.Array (Referent.rtF (Referent.fInt Syntax.w16)) 2048) 2 0) (λ x. x) (λ x. x) (λ x. x) (Reads.as-is 𝓤 H A (Rows'.mleft (Array'.Array (Array'.Array (Referent.rtF (Referent.fInt Syntax.w16)) 2048) 2) (Syntax.tyRef
-              Syntax.erased Syntax.mut (Syntax.tyArray ty·1 2)))) (Reads.as-is 𝓤 H A (Rows'.sc-owed (Array'.Array (Array'.Array (Referent.rtF (Referent.fInt Syntax.w16)) 2048) 2) 11)) (Whole.arr-mem 𝓤 H A W (Array'.Array (Referent.rtF (Referent.fInt Syntax.w16)) 2048) 2 tt) Path'.refl) d41))
+              (Referent.rtF (Referent.fInt Syntax.w16)) 4096) 2) (Syntax.tyRef Syntax.erased Syntax.mut (Syntax.tyArray ty·1 2)) (Rows.arrF (Array'.Array (Referent.rtF (Referent.fInt Syntax.w16)) 4096) 2 0) (λ x. x) (λ x. x) (λ x. x) (Reads.as-is 𝓤 H A (Rows'.mleft (Array'.Array (Array'.Array (Referent.rtF (Referent.fInt Syntax.w16)) 4096) 2) (Syntax.tyRef
+              Syntax.erased Syntax.mut (Syntax.tyArray ty·1 2)))) (Reads.as-is 𝓤 H A (Rows'.sc-owed (Array'.Array (Array'.Array (Referent.rtF (Referent.fInt Syntax.w16)) 4096) 2) 11)) (Whole.arr-mem 𝓤 H A W (Array'.Array (Referent.rtF (Referent.fInt Syntax.w16)) 4096) 2 tt) Path'.refl) d41))
 
           d48 : Typed.Typed 𝓤 H A 𝓣 E G31 b30 Δ0 at48
           d48 = Typed.s-seq 𝓤 H A W 𝓣 E G31 G32 b10 b29 Δ0 (Typed.both s30) at47 (Plain.t-call-plain 𝓤 H A W 𝓣 5 ps·0 r·0 (claims· .0) (claims· .1) "records::lent::spread" (known .0) E (λ pos β. β) G31
               (record { pos = 2; ty = ty·8; ref = λ x. x }, (record { pos = 19; ty = ty·2; ref = λ x. x }, (record { pos = 20; ty = Syntax.tyRef Syntax.erased Syntax.mut (Syntax.tyArray ty·1 2); ref = λ x. x }, (record { pos = 21; ty = Syntax.tyRef Syntax.erased Syntax.mut (Syntax.tyArray ty·0 2); ref = λ x. x }, (record { pos = 22; ty = Syntax.tyRef Syntax.erased Syntax.mut ty·0; ref = λ x. x }, tt)))))
               14 (List._∷_ 1 (List._∷_ 10 (List._∷_ 11 (List._∷_ 12 (List._∷_ 13 List.[]))))) (Call.sub-id 𝓤 H A W (G31 .slots))
-              (ShrSlice.spares-sslice 𝓤 H A W (Referent.rtF (Referent.fInt Syntax.w16)) ty·8 1, Shared.reads-sslice 𝓤 H A W (Referent.rtF (Referent.fInt Syntax.w16)) ty·8 1, Path'.refl, (ShrSlice.spares-sslice 𝓤 H A W Rec.rt ty·2 10, Shared.reads-sslice 𝓤 H A W Rec.rt ty·2 10, Path'.refl, (Reads.as-is 𝓤 H A (Rows'.mref (Array'.Array (Array'.Array (Referent.rtF (Referent.fInt Syntax.w16)) 2048) 2) (Syntax.tyRef Syntax.erased Syntax.mut (Syntax.tyArray ty·1 2)) 11), Reads.reads-mref 𝓤 H A W (Array'.Array (Array'.Array (Referent.rtF (Referent.fInt Syntax.w16)) 2048) 2) (Syntax.tyRef Syntax.erased Syntax.mut (Syntax.tyArray ty·1 2)) 11, Path'.refl, (Reads.as-is 𝓤 H A (Rows'.mref (Array'.Array (Array'.Array (Referent.rtF (Referent.fInt Syntax.w8)) 2048) 2) (Syntax.tyRef Syntax.erased Syntax.mut (Syntax.tyArray ty·0 2)) 12), Reads.reads-mref 𝓤 H A W (Array'.Array (Array'.Array (Referent.rtF (Referent.fInt Syntax.w8)) 2048) 2) (Syntax.tyRef Syntax.erased Syntax.mut (Syntax.tyArray ty·0 2)) 12, Path'.refl, (Reads.as-is 𝓤 H A (Rows'.mref (Array'.Array (Referent.rtF (Referent.fInt Syntax.w8)) 2048) (Syntax.tyRef Syntax.erased Syntax.mut ty·0) 13), Reads.reads-mref 𝓤 H A W (Array'.Array (Referent.rtF (Referent.fInt Syntax.w8)) 2048) (Syntax.tyRef Syntax.erased Syntax.mut ty·0) 13, Path'.refl, tt)))))
+              (ShrSlice.spares-sslice 𝓤 H A W (Referent.rtF (Referent.fInt Syntax.w16)) ty·8 1, Shared.reads-sslice 𝓤 H A W (Referent.rtF (Referent.fInt Syntax.w16)) ty·8 1, Path'.refl, (ShrSlice.spares-sslice 𝓤 H A W Rec.rt ty·2 10, Shared.reads-sslice 𝓤 H A W Rec.rt ty·2 10, Path'.refl, (Reads.as-is 𝓤 H A (Rows'.mref (Array'.Array (Array'.Array (Referent.rtF (Referent.fInt Syntax.w16)) 4096) 2) (Syntax.tyRef Syntax.erased Syntax.mut (Syntax.tyArray ty·1 2)) 11), Reads.reads-mref 𝓤 H A W (Array'.Array (Array'.Array (Referent.rtF (Referent.fInt Syntax.w16)) 4096) 2) (Syntax.tyRef Syntax.erased Syntax.mut (Syntax.tyArray ty·1 2)) 11, Path'.refl, (Reads.as-is 𝓤 H A (Rows'.mref (Array'.Array (Array'.Array (Referent.rtF (Referent.fInt Syntax.w8)) 4096) 2) (Syntax.tyRef Syntax.erased Syntax.mut (Syntax.tyArray ty·0 2)) 12), Reads.reads-mref 𝓤 H A W (Array'.Array (Array'.Array (Referent.rtF (Referent.fInt Syntax.w8)) 4096) 2) (Syntax.tyRef Syntax.erased Syntax.mut (Syntax.tyArray ty·0 2)) 12, Path'.refl, (Reads.as-is 𝓤 H A (Rows'.mref (Array'.Array (Referent.rtF (Referent.fInt Syntax.w8)) 4096) (Syntax.tyRef Syntax.erased Syntax.mut ty·0) 13), Reads.reads-mref 𝓤 H A W (Array'.Array (Referent.rtF (Referent.fInt Syntax.w8)) 4096) (Syntax.tyRef Syntax.erased Syntax.mut ty·0) 13, Path'.refl, tt)))))
               (Reads.room-gone 𝓤 H A (Syntax.tyInt Syntax.w64)) (tt, (tt, (tt, (tt, (tt, tt))))) Path'.refl) (Typed.g-pre 𝓤 H A W 𝓣 E G32 G33 b29 Δ0 (Typed.pass T32 T33 s31) at45 (Scalar.g-room 𝓤 H A W E G32 19 (Syntax.tyStruct (List._∷_ 38 (List._∷_ 91 (List._∷_ 93 List.[]))) (Syntax.tcons ty·2 (Syntax.tcons (Syntax.tyInt Syntax.w64) Syntax.tnil)))
               (Shared.room-sslice 𝓤 H A W Rec.rt ty·2 10)) (Typed.g-pre 𝓤 H A W 𝓣 E G33 G34 b29 Δ0 (λ Ψ. Ψ) at45 (Lifetime.g-end 𝓤 H A W E G33 10 Path'.refl) (Typed.g-pre 𝓤 H A W 𝓣 E G34 G35 b29 Δ0 (Typed.pass T33 T35 s33) at42 (Reshare.g-back-sl-shr 𝓤 H A W E Rec.rt G34 9 8 10 ty·4 (Row.lease (κs .1 .1 .1 .1 .1 .1 .1 .1 .0) (qs .1 .1 .1 .1 .1 .1 .1 .1 .0)) (λ
               x. x) (Reads.as-is 𝓤 H A (Reshare.mslice-owedS Rec.rt ty·4 8 10 (Row.lease (κs .1 .1 .1 .1 .1 .1 .1 .1 .0) (qs .1 .1 .1 .1 .1 .1 .1 .1 .0)))) Path'.refl Path'.refl) d44)))
 
           d51 : Typed.Typed 𝓤 H A 𝓣 E G28 b32 Δ0 at51
-          d51 = Typed.s-seq 𝓤 H A W 𝓣 E G28 G29 b8 b31 Δ0 (Typed.give s27) at49 (Local.t-sc-borrow 𝓤 H A W E 𝓣 G28 12 21 12 (Array'.Array (Array'.Array (Referent.rtF (Referent.fInt Syntax.w8)) 2048) 2) (Syntax.tyRef Syntax.erased Syntax.mut (Syntax.tyArray ty·0 2)) (λ x. x) (Whole.mem-arr 𝓤 H A W (Array'.Array (Referent.rtF (Referent.fInt Syntax.w8)) 2048)
+          d51 = Typed.s-seq 𝓤 H A W 𝓣 E G28 G29 b8 b31 Δ0 (Typed.give s27) at49 (Local.t-sc-borrow 𝓤 H A W E 𝓣 G28 12 21 12 (Array'.Array (Array'.Array (Referent.rtF (Referent.fInt Syntax.w8)) 4096) 2) (Syntax.tyRef Syntax.erased Syntax.mut (Syntax.tyArray ty·0 2)) (λ x. x) (Whole.mem-arr 𝓤 H A W (Array'.Array (Referent.rtF (Referent.fInt Syntax.w8)) 4096)
               2) (Reads.room-gone 𝓤 H A (Syntax.tyRef Syntax.erased Syntax.mut (Syntax.tyArray ty·0 2))) Path'.refl λ b o. tt) (Typed.g-pre 𝓤 H A W 𝓣 E G29 G30 b31 Δ0 (λ Ψ. Ψ) at49 (Lifetime.g-begin 𝓤 H A W E G29 13
               (tt, (tt, (tt, (tt, (tt, (tt, (tt, (tt, (tt, ((tt, tt), (tt, (tt, (tt, (tt, (tt, (tt, (tt, (tt, (tt, (tt, (tt, (tt, (tt, (tt, (tt, (tt, (tt, (tt, (tt, (tt, tt))))))))))))))))))))))))))))))) (Typed.s-seq 𝓤 H A W 𝓣 E G30 G31 b9 b30 Δ0 (Typed.give s29) at48 (Local.t-sc-borrow 𝓤 H A W E 𝓣 G30 13 22 13 (Array'.Array (Referent.rtF (Referent.fInt
-              Syntax.w8)) 2048) (Syntax.tyRef Syntax.erased Syntax.mut ty·0) (λ x. x) (Whole.mem-arr 𝓤 H A W (Referent.rtF (Referent.fInt Syntax.w8)) 2048) (Reads.room-gone 𝓤 H A (Syntax.tyRef Syntax.erased Syntax.mut ty·0)) Path'.refl λ b o. tt) d48))
+              Syntax.w8)) 4096) (Syntax.tyRef Syntax.erased Syntax.mut ty·0) (λ x. x) (Whole.mem-arr 𝓤 H A W (Referent.rtF (Referent.fInt Syntax.w8)) 4096) (Reads.room-gone 𝓤 H A (Syntax.tyRef Syntax.erased Syntax.mut ty·0)) Path'.refl λ b o. tt) d48))
 
           d54 : Typed.Typed 𝓤 H A 𝓣 E G25 b33 Δ0 at53
           d54 = Typed.g-pre 𝓤 H A W 𝓣 E G25 G26 b33 Δ0 (λ Ψ. Ψ) at53 (Lifetime.g-begin 𝓤 H A W E G25 11 (tt, (tt, (tt, (tt, (tt, (tt, (tt, (tt, (tt, ((tt, tt), (tt, (tt, (tt, (tt, (tt, (tt, (tt, (tt, (tt, (tt, (tt, (tt, (tt, (tt, (tt, (tt, (tt, (tt, (tt, (tt, tt))))))))))))))))))))))))))))))) (Typed.s-seq 𝓤 H A W 𝓣 E G26 G27 b7 b32 Δ0 (Typed.give s25) at51
-              (Local.t-sc-borrow 𝓤 H A W E 𝓣 G26 11 20 11 (Array'.Array (Array'.Array (Referent.rtF (Referent.fInt Syntax.w16)) 2048) 2) (Syntax.tyRef Syntax.erased Syntax.mut (Syntax.tyArray ty·1 2)) (λ x. x) (Whole.mem-arr 𝓤 H A W (Array'.Array (Referent.rtF (Referent.fInt Syntax.w16)) 2048) 2) (Reads.room-gone 𝓤 H A (Syntax.tyRef Syntax.erased Syntax.mut
+              (Local.t-sc-borrow 𝓤 H A W E 𝓣 G26 11 20 11 (Array'.Array (Array'.Array (Referent.rtF (Referent.fInt Syntax.w16)) 4096) 2) (Syntax.tyRef Syntax.erased Syntax.mut (Syntax.tyArray ty·1 2)) (λ x. x) (Whole.mem-arr 𝓤 H A W (Array'.Array (Referent.rtF (Referent.fInt Syntax.w16)) 4096) 2) (Reads.room-gone 𝓤 H A (Syntax.tyRef Syntax.erased Syntax.mut
               (Syntax.tyArray ty·1 2))) Path'.refl λ b o. tt) (Typed.g-pre 𝓤 H A W 𝓣 E G27 G28 b32 Δ0 (λ Ψ. Ψ) at51 (Lifetime.g-begin 𝓤 H A W E G27 12 (tt, (tt, (tt, (tt, (tt, (tt, (tt, (tt, (tt, ((tt, tt), (tt, (tt, (tt, (tt, (tt, (tt, (tt, (tt, (tt, (tt, (tt, (tt, (tt, (tt, (tt, (tt, (tt, (tt, (tt, (tt, tt))))))))))))))))))))))))))))))) d51))
 
           d56 : Typed.Typed 𝓤 H A 𝓣 E G23 b35 Δ0 at56
@@ -1465,36 +1465,36 @@ module _ (claims· : Claims) where
               (Syntax.tyStruct (List._∷_ 38 (List._∷_ 91 (List._∷_ 93 List.[]))) (Syntax.tcons ty·2 (Syntax.tcons (Syntax.tyInt Syntax.w64) Syntax.tnil)))) (Reshare.reads-owedS-len 𝓤 H A W Rec.rt ty·4 8 10 (Row.lease (κs .1 .1 .1 .1 .1 .1 .1 .1 .0) (qs .1 .1 .1 .1 .1 .1 .1 .1 .0)) 8 Path'.refl, Path'.refl) Path'.refl Path'.refl λ b o k. tt) d54)
 
           d59 : Typed.Typed 𝓤 H A 𝓣 E G20 b36 Δ0 at59
-          d59 = Typed.s-seq 𝓤 H A W 𝓣 E G20 G21 b4 b35 Δ0 (Typed.pass T20 T21 s19) at58 (Repeat.t-repeat 𝓤 H A W E 𝓣 (Referent.rtF (Referent.fInt Syntax.w8)) (Plain'.uint-lawful 𝓤 H A W Syntax.w8) (Copies.cRf (Referent.fInt Syntax.w8) .copy 𝓤 H A W) (Plain'.uint-makes 𝓤 H A W Syntax.w8) 2048 G20 13 (Scalar.oInt Syntax.w8 0) (λ m. 0) (Reads.room-gone 𝓤 H A
-              ty·0) tt Path'.refl λ m wa. (Path'.refl, Dec'.lit< tt)) (Typed.g-pre 𝓤 H A W 𝓣 E G21 G22 b35 Δ0 (Typed.pass T21 T22 s20) at56 (AtSlots.g-as-by 𝓤 H A W E (λ ρ. Unit) G21 13 (Rows.arrF (Referent.rtF (Referent.fInt Syntax.w8)) 2048 0) (λ x. x) (Own.told-none 𝓤 H A (G21 .slots)) λ ρ told. Repeat.whole-arr 𝓤 H A W (Referent.rtF (Referent.fInt
-              Syntax.w8)) 2048 tt ρ) (Typed.g-pre 𝓤 H A W 𝓣 E G22 G23 b35 Δ0 (λ Ψ. Ψ) at56 (Lifetime.g-begin 𝓤 H A W E G22 10 (tt, (tt, (tt, (tt, (tt, (tt, (tt, (tt, (tt, (tt, (tt, (tt, (tt, (tt, (tt, (tt, (tt, (tt, (tt, (tt, (tt, (tt, (tt, (tt, (tt, (tt, (tt, (tt, (tt, (tt, tt))))))))))))))))))))))))))))))) d56))
+          d59 = Typed.s-seq 𝓤 H A W 𝓣 E G20 G21 b4 b35 Δ0 (Typed.pass T20 T21 s19) at58 (Repeat.t-repeat 𝓤 H A W E 𝓣 (Referent.rtF (Referent.fInt Syntax.w8)) (Plain'.uint-lawful 𝓤 H A W Syntax.w8) (Copies.cRf (Referent.fInt Syntax.w8) .copy 𝓤 H A W) (Plain'.uint-makes 𝓤 H A W Syntax.w8) 4096 G20 13 (Scalar.oInt Syntax.w8 0) (λ m. 0) (Reads.room-gone 𝓤 H A
+              ty·0) tt Path'.refl λ m wa. (Path'.refl, Dec'.lit< tt)) (Typed.g-pre 𝓤 H A W 𝓣 E G21 G22 b35 Δ0 (Typed.pass T21 T22 s20) at56 (AtSlots.g-as-by 𝓤 H A W E (λ ρ. Unit) G21 13 (Rows.arrF (Referent.rtF (Referent.fInt Syntax.w8)) 4096 0) (λ x. x) (Own.told-none 𝓤 H A (G21 .slots)) λ ρ told. Repeat.whole-arr 𝓤 H A W (Referent.rtF (Referent.fInt
+              Syntax.w8)) 4096 tt ρ) (Typed.g-pre 𝓤 H A W 𝓣 E G22 G23 b35 Δ0 (λ Ψ. Ψ) at56 (Lifetime.g-begin 𝓤 H A W E G22 10 (tt, (tt, (tt, (tt, (tt, (tt, (tt, (tt, (tt, (tt, (tt, (tt, (tt, (tt, (tt, (tt, (tt, (tt, (tt, (tt, (tt, (tt, (tt, (tt, (tt, (tt, (tt, (tt, (tt, (tt, tt))))))))))))))))))))))))))))))) d56))
 
           d62 : Typed.Typed 𝓤 H A 𝓣 E G17 b37 Δ0 at62
-          d62 = Typed.s-seq 𝓤 H A W 𝓣 E G17 G18 b3 b36 Δ0 (Typed.pass T17 T18 s16) at61 (Repeat.t-repeat-by 𝓤 H A W E 𝓣 (Array'.Array (Referent.rtF (Referent.fInt Syntax.w8)) 2048) (Array'.array-lawful 𝓤 H A W (Referent.rtF (Referent.fInt Syntax.w8)) (Plain'.uint-lawful 𝓤 H A W Syntax.w8) 2048) (Copies.cArr (Referent.rtF (Referent.fInt Syntax.w8))
-              (Copies.cRf (Referent.fInt Syntax.w8)) 2048 .copy 𝓤 H A W) 2 G17 12 (Scalar.oAt 17 ty·0 λ x. Steps.only (Copies.cArr (Referent.rtF (Referent.fInt Syntax.w8)) (Copies.cRf (Referent.fInt Syntax.w8)) 2048 .vals x)) (λ m. m .1 .1 .1 .1 .1 .1 .1 .1 .1 .1 .1 .1 .1 .1 .1 .1 .1 .0) (λ ρ. Unit) (Reads.room-gone 𝓤 H A (Syntax.tyArray ty·0 2))
-              (Array.arr-reads 𝓤 H A W (Array.eInt Syntax.w8) (Array.eInt-laws Syntax.w8) 2048, Path'.refl) Path'.refl (Own.told-none 𝓤 H A (G17 .slots)) λ ρ m pf wa. Gives.elem-local 𝓤 H A W E ρ (Array'.Array (Referent.rtF (Referent.fInt Syntax.w8)) 2048) (λ x. Steps.only (Copies.cArr (Referent.rtF (Referent.fInt Syntax.w8)) (Copies.cRf (Referent.fInt
-              Syntax.w8)) 2048 .vals x)) (Copies.cArr (Referent.rtF (Referent.fInt Syntax.w8)) (Copies.cRf (Referent.fInt Syntax.w8)) 2048 .tells) (Row.out 12 (G17 .locals)) m (λ ρ. Unit) pf 17 ty·0 (λ x. x) (Yields.yields-copy 𝓤 H A W (λ ρ. Unit) (Array'.Array (Referent.rtF (Referent.fInt Syntax.w8)) 2048) Path'.refl (Copies.cArr (Referent.rtF (Referent.fInt
-              Syntax.w8)) (Copies.cRf (Referent.fInt Syntax.w8)) 2048 .copy 𝓤 H A W) (Rows.arrF (Referent.rtF (Referent.fInt Syntax.w8)) 2048 0) (λ x. x) (λ x. x) (λ ρ told. Whole.mem-arr 𝓤 H A W (Referent.rtF (Referent.fInt Syntax.w8)) 2048 ρ) λ ρ told. Whole.arr-mem 𝓤 H A W (Referent.rtF (Referent.fInt Syntax.w8)) 2048 tt ρ)) (Typed.g-pre 𝓤 H A W 𝓣 E G18 G19
-              b36 Δ0 (Typed.pass T18 T19 s17) at60 (AtSlots.g-as-by 𝓤 H A W E (λ ρ. Unit) G18 12 (Rows.arrF (Array'.Array (Referent.rtF (Referent.fInt Syntax.w8)) 2048) 2 0) (λ x. x) (Own.told-none 𝓤 H A (G18 .slots)) λ ρ told. Repeat.whole-arr 𝓤 H A W (Array'.Array (Referent.rtF (Referent.fInt Syntax.w8)) 2048) 2 tt ρ) (Typed.g-pre 𝓤 H A W 𝓣 E G19 G20 b36 Δ0
-              (Typed.pass T19 T20 s18) at59 (Scalar.g-room 𝓤 H A W E G19 17 ty·0 (Init.room-arr 𝓤 H A W (Referent.rtF (Referent.fInt Syntax.w8)) 2048 0 2048 Path'.refl)) d59))
+          d62 = Typed.s-seq 𝓤 H A W 𝓣 E G17 G18 b3 b36 Δ0 (Typed.pass T17 T18 s16) at61 (Repeat.t-repeat-by 𝓤 H A W E 𝓣 (Array'.Array (Referent.rtF (Referent.fInt Syntax.w8)) 4096) (Array'.array-lawful 𝓤 H A W (Referent.rtF (Referent.fInt Syntax.w8)) (Plain'.uint-lawful 𝓤 H A W Syntax.w8) 4096) (Copies.cArr (Referent.rtF (Referent.fInt Syntax.w8))
+              (Copies.cRf (Referent.fInt Syntax.w8)) 4096 .copy 𝓤 H A W) 2 G17 12 (Scalar.oAt 17 ty·0 λ x. Steps.only (Copies.cArr (Referent.rtF (Referent.fInt Syntax.w8)) (Copies.cRf (Referent.fInt Syntax.w8)) 4096 .vals x)) (λ m. m .1 .1 .1 .1 .1 .1 .1 .1 .1 .1 .1 .1 .1 .1 .1 .1 .1 .0) (λ ρ. Unit) (Reads.room-gone 𝓤 H A (Syntax.tyArray ty·0 2))
+              (Array.arr-reads 𝓤 H A W (Array.eInt Syntax.w8) (Array.eInt-laws Syntax.w8) 4096, Path'.refl) Path'.refl (Own.told-none 𝓤 H A (G17 .slots)) λ ρ m pf wa. Gives.elem-local 𝓤 H A W E ρ (Array'.Array (Referent.rtF (Referent.fInt Syntax.w8)) 4096) (λ x. Steps.only (Copies.cArr (Referent.rtF (Referent.fInt Syntax.w8)) (Copies.cRf (Referent.fInt
+              Syntax.w8)) 4096 .vals x)) (Copies.cArr (Referent.rtF (Referent.fInt Syntax.w8)) (Copies.cRf (Referent.fInt Syntax.w8)) 4096 .tells) (Row.out 12 (G17 .locals)) m (λ ρ. Unit) pf 17 ty·0 (λ x. x) (Yields.yields-copy 𝓤 H A W (λ ρ. Unit) (Array'.Array (Referent.rtF (Referent.fInt Syntax.w8)) 4096) Path'.refl (Copies.cArr (Referent.rtF (Referent.fInt
+              Syntax.w8)) (Copies.cRf (Referent.fInt Syntax.w8)) 4096 .copy 𝓤 H A W) (Rows.arrF (Referent.rtF (Referent.fInt Syntax.w8)) 4096 0) (λ x. x) (λ x. x) (λ ρ told. Whole.mem-arr 𝓤 H A W (Referent.rtF (Referent.fInt Syntax.w8)) 4096 ρ) λ ρ told. Whole.arr-mem 𝓤 H A W (Referent.rtF (Referent.fInt Syntax.w8)) 4096 tt ρ)) (Typed.g-pre 𝓤 H A W 𝓣 E G18 G19
+              b36 Δ0 (Typed.pass T18 T19 s17) at60 (AtSlots.g-as-by 𝓤 H A W E (λ ρ. Unit) G18 12 (Rows.arrF (Array'.Array (Referent.rtF (Referent.fInt Syntax.w8)) 4096) 2 0) (λ x. x) (Own.told-none 𝓤 H A (G18 .slots)) λ ρ told. Repeat.whole-arr 𝓤 H A W (Array'.Array (Referent.rtF (Referent.fInt Syntax.w8)) 4096) 2 tt ρ) (Typed.g-pre 𝓤 H A W 𝓣 E G19 G20 b36 Δ0
+              (Typed.pass T19 T20 s18) at59 (Scalar.g-room 𝓤 H A W E G19 17 ty·0 (Init.room-arr 𝓤 H A W (Referent.rtF (Referent.fInt Syntax.w8)) 4096 0 4096 Path'.refl)) d59))
 
           d65 : Typed.Typed 𝓤 H A 𝓣 E G14 b38 Δ0 at65
-          d65 = Typed.g-pre 𝓤 H A W 𝓣 E G14 G15 b38 Δ0 (Typed.pass T14 T15 s13) at64 (Scalar.g-room 𝓤 H A W E G14 16 ty·1 (Init.room-arr 𝓤 H A W (Referent.rtF (Referent.fInt Syntax.w16)) 2048 0 2048 Path'.refl)) (Typed.s-seq 𝓤 H A W 𝓣 E G15 G16 b2 b37 Δ0 (Typed.pass T15 T16 s14) at63 (Repeat.t-repeat 𝓤 H A W E 𝓣 (Referent.rtF (Referent.fInt Syntax.w8))
-              (Plain'.uint-lawful 𝓤 H A W Syntax.w8) (Copies.cRf (Referent.fInt Syntax.w8) .copy 𝓤 H A W) (Plain'.uint-makes 𝓤 H A W Syntax.w8) 2048 G15 17 (Scalar.oInt Syntax.w8 0) (λ m. 0) (Reads.room-gone 𝓤 H A ty·0) tt Path'.refl λ m wa. (Path'.refl, Dec'.lit< tt)) (Typed.g-pre 𝓤 H A W 𝓣 E G16 G17 b37 Δ0 (Typed.pass T16 T17 s15) at62 (AtSlots.g-as-by 𝓤 H A W
-              E (λ ρ. Unit) G16 17 (Rows.arrF (Referent.rtF (Referent.fInt Syntax.w8)) 2048 0) (λ x. x) (Own.told-none 𝓤 H A (G16 .slots)) λ ρ told. Repeat.whole-arr 𝓤 H A W (Referent.rtF (Referent.fInt Syntax.w8)) 2048 tt ρ) d62))
+          d65 = Typed.g-pre 𝓤 H A W 𝓣 E G14 G15 b38 Δ0 (Typed.pass T14 T15 s13) at64 (Scalar.g-room 𝓤 H A W E G14 16 ty·1 (Init.room-arr 𝓤 H A W (Referent.rtF (Referent.fInt Syntax.w16)) 4096 0 4096 Path'.refl)) (Typed.s-seq 𝓤 H A W 𝓣 E G15 G16 b2 b37 Δ0 (Typed.pass T15 T16 s14) at63 (Repeat.t-repeat 𝓤 H A W E 𝓣 (Referent.rtF (Referent.fInt Syntax.w8))
+              (Plain'.uint-lawful 𝓤 H A W Syntax.w8) (Copies.cRf (Referent.fInt Syntax.w8) .copy 𝓤 H A W) (Plain'.uint-makes 𝓤 H A W Syntax.w8) 4096 G15 17 (Scalar.oInt Syntax.w8 0) (λ m. 0) (Reads.room-gone 𝓤 H A ty·0) tt Path'.refl λ m wa. (Path'.refl, Dec'.lit< tt)) (Typed.g-pre 𝓤 H A W 𝓣 E G16 G17 b37 Δ0 (Typed.pass T16 T17 s15) at62 (AtSlots.g-as-by 𝓤 H A W
+              E (λ ρ. Unit) G16 17 (Rows.arrF (Referent.rtF (Referent.fInt Syntax.w8)) 4096 0) (λ x. x) (Own.told-none 𝓤 H A (G16 .slots)) λ ρ told. Repeat.whole-arr 𝓤 H A W (Referent.rtF (Referent.fInt Syntax.w8)) 4096 tt ρ) d62))
 
           d67 : Typed.Typed 𝓤 H A 𝓣 E G12 b39 Δ0 at67
-          d67 = Typed.s-seq 𝓤 H A W 𝓣 E G12 G13 b1 b38 Δ0 (Typed.pass T12 T13 s11) at66 (Repeat.t-repeat-by 𝓤 H A W E 𝓣 (Array'.Array (Referent.rtF (Referent.fInt Syntax.w16)) 2048) (Array'.array-lawful 𝓤 H A W (Referent.rtF (Referent.fInt Syntax.w16)) (Plain'.uint-lawful 𝓤 H A W Syntax.w16) 2048) (Copies.cArr (Referent.rtF (Referent.fInt Syntax.w16))
-              (Copies.cRf (Referent.fInt Syntax.w16)) 2048 .copy 𝓤 H A W) 2 G12 11 (Scalar.oAt 16 ty·1 λ x. Steps.only (Copies.cArr (Referent.rtF (Referent.fInt Syntax.w16)) (Copies.cRf (Referent.fInt Syntax.w16)) 2048 .vals x)) (λ m. m .1 .1 .1 .1 .1 .1 .1 .1 .1 .1 .1 .1 .1 .1 .1 .1 .0) (λ ρ. Unit) (Reads.room-gone 𝓤 H A (Syntax.tyArray ty·1 2))
-              (Array.arr-reads 𝓤 H A W (Array.eInt Syntax.w16) (Array.eInt-laws Syntax.w16) 2048, Path'.refl) Path'.refl (Own.told-none 𝓤 H A (G12 .slots)) λ ρ m pf wa. Gives.elem-local 𝓤 H A W E ρ (Array'.Array (Referent.rtF (Referent.fInt Syntax.w16)) 2048) (λ x. Steps.only (Copies.cArr (Referent.rtF (Referent.fInt Syntax.w16)) (Copies.cRf (Referent.fInt
-              Syntax.w16)) 2048 .vals x)) (Copies.cArr (Referent.rtF (Referent.fInt Syntax.w16)) (Copies.cRf (Referent.fInt Syntax.w16)) 2048 .tells) (Row.out 11 (G12 .locals)) m (λ ρ. Unit) pf 16 ty·1 (λ x. x) (Yields.yields-copy 𝓤 H A W (λ ρ. Unit) (Array'.Array (Referent.rtF (Referent.fInt Syntax.w16)) 2048) Path'.refl (Copies.cArr (Referent.rtF
-              (Referent.fInt Syntax.w16)) (Copies.cRf (Referent.fInt Syntax.w16)) 2048 .copy 𝓤 H A W) (Rows.arrF (Referent.rtF (Referent.fInt Syntax.w16)) 2048 0) (λ x. x) (λ x. x) (λ ρ told. Whole.mem-arr 𝓤 H A W (Referent.rtF (Referent.fInt Syntax.w16)) 2048 ρ) λ ρ told. Whole.arr-mem 𝓤 H A W (Referent.rtF (Referent.fInt Syntax.w16)) 2048 tt ρ)) (Typed.g-pre 𝓤
-              H A W 𝓣 E G13 G14 b38 Δ0 (Typed.pass T13 T14 s12) at65 (AtSlots.g-as-by 𝓤 H A W E (λ ρ. Unit) G13 11 (Rows.arrF (Array'.Array (Referent.rtF (Referent.fInt Syntax.w16)) 2048) 2 0) (λ x. x) (Own.told-none 𝓤 H A (G13 .slots)) λ ρ told. Repeat.whole-arr 𝓤 H A W (Array'.Array (Referent.rtF (Referent.fInt Syntax.w16)) 2048) 2 tt ρ) d65)
+          d67 = Typed.s-seq 𝓤 H A W 𝓣 E G12 G13 b1 b38 Δ0 (Typed.pass T12 T13 s11) at66 (Repeat.t-repeat-by 𝓤 H A W E 𝓣 (Array'.Array (Referent.rtF (Referent.fInt Syntax.w16)) 4096) (Array'.array-lawful 𝓤 H A W (Referent.rtF (Referent.fInt Syntax.w16)) (Plain'.uint-lawful 𝓤 H A W Syntax.w16) 4096) (Copies.cArr (Referent.rtF (Referent.fInt Syntax.w16))
+              (Copies.cRf (Referent.fInt Syntax.w16)) 4096 .copy 𝓤 H A W) 2 G12 11 (Scalar.oAt 16 ty·1 λ x. Steps.only (Copies.cArr (Referent.rtF (Referent.fInt Syntax.w16)) (Copies.cRf (Referent.fInt Syntax.w16)) 4096 .vals x)) (λ m. m .1 .1 .1 .1 .1 .1 .1 .1 .1 .1 .1 .1 .1 .1 .1 .1 .0) (λ ρ. Unit) (Reads.room-gone 𝓤 H A (Syntax.tyArray ty·1 2))
+              (Array.arr-reads 𝓤 H A W (Array.eInt Syntax.w16) (Array.eInt-laws Syntax.w16) 4096, Path'.refl) Path'.refl (Own.told-none 𝓤 H A (G12 .slots)) λ ρ m pf wa. Gives.elem-local 𝓤 H A W E ρ (Array'.Array (Referent.rtF (Referent.fInt Syntax.w16)) 4096) (λ x. Steps.only (Copies.cArr (Referent.rtF (Referent.fInt Syntax.w16)) (Copies.cRf (Referent.fInt
+              Syntax.w16)) 4096 .vals x)) (Copies.cArr (Referent.rtF (Referent.fInt Syntax.w16)) (Copies.cRf (Referent.fInt Syntax.w16)) 4096 .tells) (Row.out 11 (G12 .locals)) m (λ ρ. Unit) pf 16 ty·1 (λ x. x) (Yields.yields-copy 𝓤 H A W (λ ρ. Unit) (Array'.Array (Referent.rtF (Referent.fInt Syntax.w16)) 4096) Path'.refl (Copies.cArr (Referent.rtF
+              (Referent.fInt Syntax.w16)) (Copies.cRf (Referent.fInt Syntax.w16)) 4096 .copy 𝓤 H A W) (Rows.arrF (Referent.rtF (Referent.fInt Syntax.w16)) 4096 0) (λ x. x) (λ x. x) (λ ρ told. Whole.mem-arr 𝓤 H A W (Referent.rtF (Referent.fInt Syntax.w16)) 4096 ρ) λ ρ told. Whole.arr-mem 𝓤 H A W (Referent.rtF (Referent.fInt Syntax.w16)) 4096 tt ρ)) (Typed.g-pre 𝓤
+              H A W 𝓣 E G13 G14 b38 Δ0 (Typed.pass T13 T14 s12) at65 (AtSlots.g-as-by 𝓤 H A W E (λ ρ. Unit) G13 11 (Rows.arrF (Array'.Array (Referent.rtF (Referent.fInt Syntax.w16)) 4096) 2 0) (λ x. x) (Own.told-none 𝓤 H A (G13 .slots)) λ ρ told. Repeat.whole-arr 𝓤 H A W (Array'.Array (Referent.rtF (Referent.fInt Syntax.w16)) 4096) 2 tt ρ) d65)
 
           pub typed : Typed.Typed 𝓤 H A 𝓣 E (Function.Γin 10 ps r xs m κs qs) b40 (Function.Δret 10 ps r xs m κs qs) Φ
-          typed = (Typed.s-seq 𝓤 H A W 𝓣 E G0 G11 b0 b39 Δ0 (Typed.pass T0 T11 s9) at68 (Repeat.t-repeat 𝓤 H A W E 𝓣 (Referent.rtF (Referent.fInt Syntax.w16)) (Plain'.uint-lawful 𝓤 H A W Syntax.w16) (Copies.cRf (Referent.fInt Syntax.w16) .copy 𝓤 H A W) (Plain'.uint-makes 𝓤 H A W Syntax.w16) 2048 G0 16 (Scalar.oInt Syntax.w16 0) (λ m. 0) (Reads.room-gone 𝓤 H
-              A ty·1) tt Path'.refl λ m wa. (Path'.refl, Dec'.lit< tt)) (Typed.g-pre 𝓤 H A W 𝓣 E G11 G12 b39 Δ0 (Typed.pass T11 T12 s10) at67 (AtSlots.g-as-by 𝓤 H A W E (λ ρ. Unit) G11 16 (Rows.arrF (Referent.rtF (Referent.fInt Syntax.w16)) 2048 0) (λ x. x) (Own.told-none 𝓤 H A (G11 .slots)) λ ρ told. Repeat.whole-arr 𝓤 H A W (Referent.rtF (Referent.fInt
-              Syntax.w16)) 2048 tt ρ) d67))
+          typed = (Typed.s-seq 𝓤 H A W 𝓣 E G0 G11 b0 b39 Δ0 (Typed.pass T0 T11 s9) at68 (Repeat.t-repeat 𝓤 H A W E 𝓣 (Referent.rtF (Referent.fInt Syntax.w16)) (Plain'.uint-lawful 𝓤 H A W Syntax.w16) (Copies.cRf (Referent.fInt Syntax.w16) .copy 𝓤 H A W) (Plain'.uint-makes 𝓤 H A W Syntax.w16) 4096 G0 16 (Scalar.oInt Syntax.w16 0) (λ m. 0) (Reads.room-gone 𝓤 H
+              A ty·1) tt Path'.refl λ m wa. (Path'.refl, Dec'.lit< tt)) (Typed.g-pre 𝓤 H A W 𝓣 E G11 G12 b39 Δ0 (Typed.pass T11 T12 s10) at67 (AtSlots.g-as-by 𝓤 H A W E (λ ρ. Unit) G11 16 (Rows.arrF (Referent.rtF (Referent.fInt Syntax.w16)) 4096 0) (λ x. x) (Own.told-none 𝓤 H A (G11 .slots)) λ ρ told. Repeat.whole-arr 𝓤 H A W (Referent.rtF (Referent.fInt
+              Syntax.w16)) 4096 tt ρ) d67))
 
       module _ (κs : Lifetimes.Lfts 10) where
         pub record Args : Type 0 where

@@ -59,10 +59,10 @@ use prog.Wp
 use types.Kit
 
 abbrev ty·0 : Syntax.Ty
-ty·0 = Syntax.tyArray (Syntax.tyInt Syntax.w8) 2048
+ty·0 = Syntax.tyArray (Syntax.tyInt Syntax.w8) 4096
 
 abbrev ty·1 : Syntax.Ty
-ty·1 = Syntax.tyArray (Syntax.tyInt Syntax.w16) 2048
+ty·1 = Syntax.tyArray (Syntax.tyInt Syntax.w16) 4096
 
 abbrev ty·2 : Syntax.Ty
 ty·2 = Syntax.tyRef (Syntax.named 9) Syntax.imm Rec.behind
@@ -177,58 +177,58 @@ abbrev row·24 : Row.Row
 row·24 = Rows'.whole (Declared.row WriteReply.the-type)
 
 abbrev row·25 : Row.Row
-row·25 = Rows'.whole (Array'.Array (Referent.rtF (Referent.fInt Syntax.w16)) 2048)
+row·25 = Rows'.whole (Array'.Array (Referent.rtF (Referent.fInt Syntax.w16)) 4096)
 
 abbrev row·26 : Row.Row
-row·26 = Rows.arrF (Referent.rtF (Referent.fInt Syntax.w16)) 2048 0
+row·26 = Rows.arrF (Referent.rtF (Referent.fInt Syntax.w16)) 4096 0
 
 abbrev row·27 : Row.Row
-row·27 = Rows'.whole (Array'.Array (Array'.Array (Referent.rtF (Referent.fInt Syntax.w16)) 2048) 2)
+row·27 = Rows'.whole (Array'.Array (Array'.Array (Referent.rtF (Referent.fInt Syntax.w16)) 4096) 2)
 
 abbrev row·28 : Row.Row
-row·28 = Rows.arrF (Array'.Array (Referent.rtF (Referent.fInt Syntax.w16)) 2048) 2 0
+row·28 = Rows.arrF (Array'.Array (Referent.rtF (Referent.fInt Syntax.w16)) 4096) 2 0
 
 abbrev row·29 : Row.Row
-row·29 = Rows'.whole (Array'.Array (Referent.rtF (Referent.fInt Syntax.w8)) 2048)
+row·29 = Rows'.whole (Array'.Array (Referent.rtF (Referent.fInt Syntax.w8)) 4096)
 
 abbrev row·30 : Row.Row
-row·30 = Rows.arrF (Referent.rtF (Referent.fInt Syntax.w8)) 2048 0
+row·30 = Rows.arrF (Referent.rtF (Referent.fInt Syntax.w8)) 4096 0
 
 abbrev row·31 : Row.Row
-row·31 = Rows'.whole (Array'.Array (Array'.Array (Referent.rtF (Referent.fInt Syntax.w8)) 2048) 2)
+row·31 = Rows'.whole (Array'.Array (Array'.Array (Referent.rtF (Referent.fInt Syntax.w8)) 4096) 2)
 
 abbrev row·32 : Row.Row
-row·32 = Rows.arrF (Array'.Array (Referent.rtF (Referent.fInt Syntax.w8)) 2048) 2 0
+row·32 = Rows.arrF (Array'.Array (Referent.rtF (Referent.fInt Syntax.w8)) 4096) 2 0
 
 abbrev row·33 : Row.Row
-row·33 = Rows'.sc-owed (Array'.Array (Array'.Array (Referent.rtF (Referent.fInt Syntax.w16)) 2048) 2) 10
+row·33 = Rows'.sc-owed (Array'.Array (Array'.Array (Referent.rtF (Referent.fInt Syntax.w16)) 4096) 2) 10
 
 abbrev row·34 : Row.Row
-row·34 = Rows'.mref (Array'.Array (Array'.Array (Referent.rtF (Referent.fInt Syntax.w16)) 2048) 2) (Syntax.tyRef Syntax.erased Syntax.mut (Syntax.tyArray ty·1 2)) 10
+row·34 = Rows'.mref (Array'.Array (Array'.Array (Referent.rtF (Referent.fInt Syntax.w16)) 4096) 2) (Syntax.tyRef Syntax.erased Syntax.mut (Syntax.tyArray ty·1 2)) 10
 
 abbrev row·35 : Row.Row
-row·35 = Rows'.sc-owed (Array'.Array (Array'.Array (Referent.rtF (Referent.fInt Syntax.w8)) 2048) 2) 11
+row·35 = Rows'.sc-owed (Array'.Array (Array'.Array (Referent.rtF (Referent.fInt Syntax.w8)) 4096) 2) 11
 
 abbrev row·36 : Row.Row
-row·36 = Rows'.mref (Array'.Array (Array'.Array (Referent.rtF (Referent.fInt Syntax.w8)) 2048) 2) (Syntax.tyRef Syntax.erased Syntax.mut (Syntax.tyArray ty·0 2)) 11
+row·36 = Rows'.mref (Array'.Array (Array'.Array (Referent.rtF (Referent.fInt Syntax.w8)) 4096) 2) (Syntax.tyRef Syntax.erased Syntax.mut (Syntax.tyArray ty·0 2)) 11
 
 abbrev row·37 : Row.Row
-row·37 = Rows'.sc-owed (Array'.Array (Referent.rtF (Referent.fInt Syntax.w8)) 2048) 12
+row·37 = Rows'.sc-owed (Array'.Array (Referent.rtF (Referent.fInt Syntax.w8)) 4096) 12
 
 abbrev row·38 : Row.Row
-row·38 = Rows'.mref (Array'.Array (Referent.rtF (Referent.fInt Syntax.w8)) 2048) (Syntax.tyRef Syntax.erased Syntax.mut ty·0) 12
+row·38 = Rows'.mref (Array'.Array (Referent.rtF (Referent.fInt Syntax.w8)) 4096) (Syntax.tyRef Syntax.erased Syntax.mut ty·0) 12
 
 abbrev row·39 : Row.Row
 row·39 = Rows'.sc-here (Row.sInt Syntax.w64)
 
 abbrev row·40 : Row.Row
-row·40 = Rows'.mleft (Array'.Array (Array'.Array (Referent.rtF (Referent.fInt Syntax.w16)) 2048) 2) (Syntax.tyRef Syntax.erased Syntax.mut (Syntax.tyArray ty·1 2))
+row·40 = Rows'.mleft (Array'.Array (Array'.Array (Referent.rtF (Referent.fInt Syntax.w16)) 4096) 2) (Syntax.tyRef Syntax.erased Syntax.mut (Syntax.tyArray ty·1 2))
 
 abbrev row·41 : Row.Row
-row·41 = Rows'.mleft (Array'.Array (Array'.Array (Referent.rtF (Referent.fInt Syntax.w8)) 2048) 2) (Syntax.tyRef Syntax.erased Syntax.mut (Syntax.tyArray ty·0 2))
+row·41 = Rows'.mleft (Array'.Array (Array'.Array (Referent.rtF (Referent.fInt Syntax.w8)) 4096) 2) (Syntax.tyRef Syntax.erased Syntax.mut (Syntax.tyArray ty·0 2))
 
 abbrev row·42 : Row.Row
-row·42 = Rows'.mleft (Array'.Array (Referent.rtF (Referent.fInt Syntax.w8)) 2048) (Syntax.tyRef Syntax.erased Syntax.mut ty·0)
+row·42 = Rows'.mleft (Array'.Array (Referent.rtF (Referent.fInt Syntax.w8)) 4096) (Syntax.tyRef Syntax.erased Syntax.mut ty·0)
 
 abbrev row·43 : Row.Row
 row·43 = Relend.mslice-owed (Referent.rtF (Referent.fInt Syntax.w8)) ty·4 0 13 Row.off
@@ -240,13 +240,13 @@ abbrev row·45 : Row.Row
 row·45 = Mut.mslice (Referent.rtF (Referent.fInt Syntax.w8)) ty·3 13
 
 abbrev row·46 : Row.Row
-row·46 = Rows'.sref (Array'.Array (Array'.Array (Referent.rtF (Referent.fInt Syntax.w16)) 2048) 2) (Syntax.tyRef Syntax.erased Syntax.imm (Syntax.tyArray ty·1 2)) 14
+row·46 = Rows'.sref (Array'.Array (Array'.Array (Referent.rtF (Referent.fInt Syntax.w16)) 4096) 2) (Syntax.tyRef Syntax.erased Syntax.imm (Syntax.tyArray ty·1 2)) 14
 
 abbrev row·47 : Row.Row
-row·47 = Rows'.sref (Array'.Array (Array'.Array (Referent.rtF (Referent.fInt Syntax.w8)) 2048) 2) (Syntax.tyRef Syntax.erased Syntax.imm (Syntax.tyArray ty·0 2)) 15
+row·47 = Rows'.sref (Array'.Array (Array'.Array (Referent.rtF (Referent.fInt Syntax.w8)) 4096) 2) (Syntax.tyRef Syntax.erased Syntax.imm (Syntax.tyArray ty·0 2)) 15
 
 abbrev row·48 : Row.Row
-row·48 = Rows'.sref (Array'.Array (Referent.rtF (Referent.fInt Syntax.w8)) 2048) (Syntax.tyRef Syntax.erased Syntax.imm ty·0) 16
+row·48 = Rows'.sref (Array'.Array (Referent.rtF (Referent.fInt Syntax.w8)) 4096) (Syntax.tyRef Syntax.erased Syntax.imm ty·0) 16
 
 abbrev row·49 : Row.Row
 row·49 = Mut.msleft (Referent.rtF (Referent.fInt Syntax.w8)) ty·3
@@ -269,8 +269,8 @@ abbrev pub m : Nat.ℕ
 m = 7
 
 abbrev pub ps·0 : List.List (Kinds.PK 5)
-ps·0 = List._∷_ (ShrSlice.pShrS (Referent.rtF (Referent.fInt Syntax.w16)) 0 tt) (List._∷_ (ShrSlice.pShrS Rec.rt 1 tt) (List._∷_ (Kinds.pMut (Array'.Array (Array'.Array (Referent.rtF (Referent.fInt Syntax.w16)) 2048) 2) 2 tt) (List._∷_ (Kinds.pMut (Array'.Array (Array'.Array (Referent.rtF (Referent.fInt Syntax.w8)) 2048) 2) 3 tt) (List._∷_ (Kinds.pMut
-    (Array'.Array (Referent.rtF (Referent.fInt Syntax.w8)) 2048) 4 tt) List.[]))))
+ps·0 = List._∷_ (ShrSlice.pShrS (Referent.rtF (Referent.fInt Syntax.w16)) 0 tt) (List._∷_ (ShrSlice.pShrS Rec.rt 1 tt) (List._∷_ (Kinds.pMut (Array'.Array (Array'.Array (Referent.rtF (Referent.fInt Syntax.w16)) 4096) 2) 2 tt) (List._∷_ (Kinds.pMut (Array'.Array (Array'.Array (Referent.rtF (Referent.fInt Syntax.w8)) 4096) 2) 3 tt) (List._∷_ (Kinds.pMut
+    (Array'.Array (Referent.rtF (Referent.fInt Syntax.w8)) 4096) 4 tt) List.[]))))
 
 abbrev pub r·0 : Kinds.RK 5
 r·0 = Num.rNum Syntax.w64
@@ -278,7 +278,7 @@ r·0 = Num.rNum Syntax.w64
 abbrev pub ps·1 : List.List (Kinds.PK 12)
 ps·1 = List._∷_ (MutSlice.pMutS (Referent.rtF (Referent.fInt Syntax.w8)) 0 tt) (List._∷_ (ShrSlice.pShrS (Referent.rtF (Referent.fInt Syntax.w16)) 1 tt) (List._∷_ (ShrSlice.pShrS (Referent.rtF (Referent.fInt Syntax.w16)) 2 tt) (List._∷_ (ShrSlice.pShrS (Referent.rtF (Referent.fInt Syntax.w8)) 3 tt) (List._∷_ (ShrSlice.pShrS (Referent.rtF (Referent.fInt
     Syntax.w16)) 4 tt) (List._∷_ (ShrSlice.pShrS (Referent.rtF (Referent.fInt Syntax.w16)) 5 tt) (List._∷_ (ShrSlice.pShrS (Referent.rtF (Referent.fInt Syntax.w32)) 6 tt) (List._∷_ (ShrSlice.pShrS (Referent.rtF (Referent.fInt Syntax.w16)) 7 tt) (List._∷_ (ShrSlice.pShrS (Referent.rtF (Referent.fInt Syntax.w8)) 8 tt) (List._∷_ (ShrRef.pShr (Array'.Array
-    (Array'.Array (Referent.rtF (Referent.fInt Syntax.w16)) 2048) 2) 9 tt) (List._∷_ (ShrRef.pShr (Array'.Array (Array'.Array (Referent.rtF (Referent.fInt Syntax.w8)) 2048) 2) 10 tt) (List._∷_ (ShrRef.pShr (Array'.Array (Referent.rtF (Referent.fInt Syntax.w8)) 2048) 11 tt) (List._∷_ (Num.pNum Syntax.w64) List.[]))))))))))))
+    (Array'.Array (Referent.rtF (Referent.fInt Syntax.w16)) 4096) 2) 9 tt) (List._∷_ (ShrRef.pShr (Array'.Array (Array'.Array (Referent.rtF (Referent.fInt Syntax.w8)) 4096) 2) 10 tt) (List._∷_ (ShrRef.pShr (Array'.Array (Referent.rtF (Referent.fInt Syntax.w8)) 4096) 11 tt) (List._∷_ (Num.pNum Syntax.w64) List.[]))))))))))))
 
 abbrev pub r·1 : Kinds.RK 12
 r·1 = Value.rVal record { ty = Declared.row WriteReply.the-type; one = Path'.refl; val = Laws'.val WriteReply.the-type Laws.the-laws; tells = Laws'.tells WriteReply.the-type Laws.the-laws; still = Laws'.still WriteReply.the-type Laws.the-copy Exit.yes; row = Rows'.whole (Declared.row WriteReply.the-type); rd = λ x. x; mk = λ x. x } λ M 𝓤 H A W. record
@@ -290,19 +290,19 @@ hs = List._∷_ Syntax.valueLocal (List._∷_ Syntax.valueLocal (List._∷_ Synt
     List.[]))))))))))))))))))))))))
 
 abbrev b0 : Syntax.Body
-b0 = Syntax.assign (Syntax.place 15 List.[]) (Syntax.repeat (Syntax.int Syntax.w16 0) 2048)
+b0 = Syntax.assign (Syntax.place 15 List.[]) (Syntax.repeat (Syntax.int Syntax.w16 0) 4096)
 
 abbrev b1 : Syntax.Body
 b1 = Syntax.assign (Syntax.place 11 List.[]) (Syntax.repeat (Syntax.copy (Syntax.place 15 List.[])) 2)
 
 abbrev b2 : Syntax.Body
-b2 = Syntax.assign (Syntax.place 16 List.[]) (Syntax.repeat (Syntax.int Syntax.w8 0) 2048)
+b2 = Syntax.assign (Syntax.place 16 List.[]) (Syntax.repeat (Syntax.int Syntax.w8 0) 4096)
 
 abbrev b3 : Syntax.Body
 b3 = Syntax.assign (Syntax.place 12 List.[]) (Syntax.repeat (Syntax.copy (Syntax.place 16 List.[])) 2)
 
 abbrev b4 : Syntax.Body
-b4 = Syntax.assign (Syntax.place 13 List.[]) (Syntax.repeat (Syntax.int Syntax.w8 0) 2048)
+b4 = Syntax.assign (Syntax.place 13 List.[]) (Syntax.repeat (Syntax.int Syntax.w8 0) 4096)
 
 abbrev b5 : Syntax.Body
 b5 = Syntax.assign (Syntax.place 17 List.[]) (Syntax.addrOf (Syntax.place 11 List.[]))
@@ -425,8 +425,8 @@ t35 = List._∷_ (16, row·13) (List._∷_ (17, row·16) (List._∷_ (18, row·1
 
 abbrev pub t36 : List.List Row.Entry
 t36 = List._∷_ (0, row·24) (List._∷_ (1, row·43) (List._∷_ (2, row·2) (List._∷_ (3, row·3) (List._∷_ (4, row·4) (List._∷_ (5, row·5) (List._∷_ (6, row·6) (List._∷_ (7, row·7) (List._∷_ (8, row·8) (List._∷_ (9, row·9) (List._∷_ (10, row·10) (List._∷_
-    (11, Rows'.sc-shr (Rows.arrF (Array'.Array (Referent.rtF (Referent.fInt Syntax.w16)) 2048) 2 0) (Array'.Array (Array'.Array (Referent.rtF (Referent.fInt Syntax.w16)) 2048) 2) (λ x. x) 14) (List._∷_
-    (12, Rows'.sc-shr (Rows.arrF (Array'.Array (Referent.rtF (Referent.fInt Syntax.w8)) 2048) 2 0) (Array'.Array (Array'.Array (Referent.rtF (Referent.fInt Syntax.w8)) 2048) 2) (λ x. x) 15) (List._∷_ (13, Rows'.sc-shr (Rows.arrF (Referent.rtF (Referent.fInt Syntax.w8)) 2048 0) (Array'.Array (Referent.rtF (Referent.fInt Syntax.w8)) 2048) (λ x. x) 16) (List._∷_
+    (11, Rows'.sc-shr (Rows.arrF (Array'.Array (Referent.rtF (Referent.fInt Syntax.w16)) 4096) 2 0) (Array'.Array (Array'.Array (Referent.rtF (Referent.fInt Syntax.w16)) 4096) 2) (λ x. x) 14) (List._∷_
+    (12, Rows'.sc-shr (Rows.arrF (Array'.Array (Referent.rtF (Referent.fInt Syntax.w8)) 4096) 2 0) (Array'.Array (Array'.Array (Referent.rtF (Referent.fInt Syntax.w8)) 4096) 2) (λ x. x) 15) (List._∷_ (13, Rows'.sc-shr (Rows.arrF (Referent.rtF (Referent.fInt Syntax.w8)) 4096 0) (Array'.Array (Referent.rtF (Referent.fInt Syntax.w8)) 4096) (λ x. x) 16) (List._∷_
     (14, row·39) (List._∷_ (15, row·15) List.[])))))))))))))))
 
 abbrev pub t37 : List.List Row.Entry
@@ -528,15 +528,15 @@ T41 = record { locals = List._++_ t27 t29; slots = List.[] }
 
 abbrev pub T43 : Row.Cx
 T43 = record
-    { locals = List._++_ (List._∷_ (0, row·0) (List._∷_ (1, row·43) (List._∷_ (2, row·2) (List._∷_ (3, row·3) (List._∷_ (4, row·4) (List._∷_ (5, row·5) (List._∷_ (6, row·6) (List._∷_ (7, row·7) (List._∷_ (8, row·8) (List._∷_ (9, row·9) (List._∷_ (10, row·10) (List._∷_ (11, Rows'.sc-shr (Rows.arrF (Array'.Array (Referent.rtF (Referent.fInt Syntax.w16)) 2048) 2 0) (Array'.Array (Array'.Array (Referent.rtF (Referent.fInt Syntax.w16)) 2048) 2) (λ x. x) 14) (List._∷_ (12, row·32) (List._∷_ (13, row·30) (List._∷_ (14, row·39) (List._∷_ (15, row·15) List.[])))))))))))))))) t31; slots = List.[] }
+    { locals = List._++_ (List._∷_ (0, row·0) (List._∷_ (1, row·43) (List._∷_ (2, row·2) (List._∷_ (3, row·3) (List._∷_ (4, row·4) (List._∷_ (5, row·5) (List._∷_ (6, row·6) (List._∷_ (7, row·7) (List._∷_ (8, row·8) (List._∷_ (9, row·9) (List._∷_ (10, row·10) (List._∷_ (11, Rows'.sc-shr (Rows.arrF (Array'.Array (Referent.rtF (Referent.fInt Syntax.w16)) 4096) 2 0) (Array'.Array (Array'.Array (Referent.rtF (Referent.fInt Syntax.w16)) 4096) 2) (λ x. x) 14) (List._∷_ (12, row·32) (List._∷_ (13, row·30) (List._∷_ (14, row·39) (List._∷_ (15, row·15) List.[])))))))))))))))) t31; slots = List.[] }
 
 abbrev pub T45 : Row.Cx
 T45 = record
-    { locals = List._++_ (List._∷_ (0, row·0) (List._∷_ (1, row·43) (List._∷_ (2, row·2) (List._∷_ (3, row·3) (List._∷_ (4, row·4) (List._∷_ (5, row·5) (List._∷_ (6, row·6) (List._∷_ (7, row·7) (List._∷_ (8, row·8) (List._∷_ (9, row·9) (List._∷_ (10, row·10) (List._∷_ (11, Rows'.sc-shr (Rows.arrF (Array'.Array (Referent.rtF (Referent.fInt Syntax.w16)) 2048) 2 0) (Array'.Array (Array'.Array (Referent.rtF (Referent.fInt Syntax.w16)) 2048) 2) (λ x. x) 14) (List._∷_ (12, Rows'.sc-shr (Rows.arrF (Array'.Array (Referent.rtF (Referent.fInt Syntax.w8)) 2048) 2 0) (Array'.Array (Array'.Array (Referent.rtF (Referent.fInt Syntax.w8)) 2048) 2) (λ x. x) 15) (List._∷_ (13, row·30) (List._∷_ (14, row·39) (List._∷_ (15, row·15) List.[])))))))))))))))) t33; slots = List.[] }
+    { locals = List._++_ (List._∷_ (0, row·0) (List._∷_ (1, row·43) (List._∷_ (2, row·2) (List._∷_ (3, row·3) (List._∷_ (4, row·4) (List._∷_ (5, row·5) (List._∷_ (6, row·6) (List._∷_ (7, row·7) (List._∷_ (8, row·8) (List._∷_ (9, row·9) (List._∷_ (10, row·10) (List._∷_ (11, Rows'.sc-shr (Rows.arrF (Array'.Array (Referent.rtF (Referent.fInt Syntax.w16)) 4096) 2 0) (Array'.Array (Array'.Array (Referent.rtF (Referent.fInt Syntax.w16)) 4096) 2) (λ x. x) 14) (List._∷_ (12, Rows'.sc-shr (Rows.arrF (Array'.Array (Referent.rtF (Referent.fInt Syntax.w8)) 4096) 2 0) (Array'.Array (Array'.Array (Referent.rtF (Referent.fInt Syntax.w8)) 4096) 2) (λ x. x) 15) (List._∷_ (13, row·30) (List._∷_ (14, row·39) (List._∷_ (15, row·15) List.[])))))))))))))))) t33; slots = List.[] }
 
 abbrev pub T47 : Row.Cx
 T47 = record
-    { locals = List._++_ (List._∷_ (0, row·0) (List._∷_ (1, row·43) (List._∷_ (2, row·2) (List._∷_ (3, row·3) (List._∷_ (4, row·4) (List._∷_ (5, row·5) (List._∷_ (6, row·6) (List._∷_ (7, row·7) (List._∷_ (8, row·8) (List._∷_ (9, row·9) (List._∷_ (10, row·10) (List._∷_ (11, Rows'.sc-shr (Rows.arrF (Array'.Array (Referent.rtF (Referent.fInt Syntax.w16)) 2048) 2 0) (Array'.Array (Array'.Array (Referent.rtF (Referent.fInt Syntax.w16)) 2048) 2) (λ x. x) 14) (List._∷_ (12, Rows'.sc-shr (Rows.arrF (Array'.Array (Referent.rtF (Referent.fInt Syntax.w8)) 2048) 2 0) (Array'.Array (Array'.Array (Referent.rtF (Referent.fInt Syntax.w8)) 2048) 2) (λ x. x) 15) (List._∷_ (13, Rows'.sc-shr (Rows.arrF (Referent.rtF (Referent.fInt Syntax.w8)) 2048 0) (Array'.Array (Referent.rtF (Referent.fInt Syntax.w8)) 2048) (λ x. x) 16) (List._∷_ (14, row·39) (List._∷_ (15, row·15) List.[])))))))))))))))) t35; slots = List.[] }
+    { locals = List._++_ (List._∷_ (0, row·0) (List._∷_ (1, row·43) (List._∷_ (2, row·2) (List._∷_ (3, row·3) (List._∷_ (4, row·4) (List._∷_ (5, row·5) (List._∷_ (6, row·6) (List._∷_ (7, row·7) (List._∷_ (8, row·8) (List._∷_ (9, row·9) (List._∷_ (10, row·10) (List._∷_ (11, Rows'.sc-shr (Rows.arrF (Array'.Array (Referent.rtF (Referent.fInt Syntax.w16)) 4096) 2 0) (Array'.Array (Array'.Array (Referent.rtF (Referent.fInt Syntax.w16)) 4096) 2) (λ x. x) 14) (List._∷_ (12, Rows'.sc-shr (Rows.arrF (Array'.Array (Referent.rtF (Referent.fInt Syntax.w8)) 4096) 2 0) (Array'.Array (Array'.Array (Referent.rtF (Referent.fInt Syntax.w8)) 4096) 2) (λ x. x) 15) (List._∷_ (13, Rows'.sc-shr (Rows.arrF (Referent.rtF (Referent.fInt Syntax.w8)) 4096 0) (Array'.Array (Referent.rtF (Referent.fInt Syntax.w8)) 4096) (λ x. x) 16) (List._∷_ (14, row·39) (List._∷_ (15, row·15) List.[])))))))))))))))) t35; slots = List.[] }
 
 abbrev pub T48 : Row.Cx
 T48 = record { locals = List._++_ t36 t37; slots = List.[] }
@@ -552,27 +552,27 @@ T51 = record { locals = List._++_ t36 t40; slots = List.[] }
 
 abbrev pub T52 : Row.Cx
 T52 = record
-    { locals = List._++_ (List._∷_ (0, row·24) (List._∷_ (1, row·43) (List._∷_ (2, row·2) (List._∷_ (3, row·3) (List._∷_ (4, row·4) (List._∷_ (5, row·5) (List._∷_ (6, row·6) (List._∷_ (7, row·7) (List._∷_ (8, row·8) (List._∷_ (9, row·9) (List._∷_ (10, row·10) (List._∷_ (11, Rows'.sc-shr (Rows.arrF (Array'.Array (Referent.rtF (Referent.fInt Syntax.w16)) 2048) 2 0) (Array'.Array (Array'.Array (Referent.rtF (Referent.fInt Syntax.w16)) 2048) 2) (λ x. x) 14) (List._∷_ (12, Rows'.sc-shr (Rows.arrF (Array'.Array (Referent.rtF (Referent.fInt Syntax.w8)) 2048) 2 0) (Array'.Array (Array'.Array (Referent.rtF (Referent.fInt Syntax.w8)) 2048) 2) (λ x. x) 15) (List._∷_ (13, Rows'.sc-shr (Rows.arrF (Referent.rtF (Referent.fInt Syntax.w8)) 2048 0) (Array'.Array (Referent.rtF (Referent.fInt Syntax.w8)) 2048) (λ x. x) 16) (List._∷_ (14, row·14) (List._∷_ (15, row·15) List.[])))))))))))))))) t40; slots = List.[] }
+    { locals = List._++_ (List._∷_ (0, row·24) (List._∷_ (1, row·43) (List._∷_ (2, row·2) (List._∷_ (3, row·3) (List._∷_ (4, row·4) (List._∷_ (5, row·5) (List._∷_ (6, row·6) (List._∷_ (7, row·7) (List._∷_ (8, row·8) (List._∷_ (9, row·9) (List._∷_ (10, row·10) (List._∷_ (11, Rows'.sc-shr (Rows.arrF (Array'.Array (Referent.rtF (Referent.fInt Syntax.w16)) 4096) 2 0) (Array'.Array (Array'.Array (Referent.rtF (Referent.fInt Syntax.w16)) 4096) 2) (λ x. x) 14) (List._∷_ (12, Rows'.sc-shr (Rows.arrF (Array'.Array (Referent.rtF (Referent.fInt Syntax.w8)) 4096) 2 0) (Array'.Array (Array'.Array (Referent.rtF (Referent.fInt Syntax.w8)) 4096) 2) (λ x. x) 15) (List._∷_ (13, Rows'.sc-shr (Rows.arrF (Referent.rtF (Referent.fInt Syntax.w8)) 4096 0) (Array'.Array (Referent.rtF (Referent.fInt Syntax.w8)) 4096) (λ x. x) 16) (List._∷_ (14, row·14) (List._∷_ (15, row·15) List.[])))))))))))))))) t40; slots = List.[] }
 
 abbrev pub T54 : Row.Cx
 T54 = record
-    { locals = List._++_ (List._∷_ (0, row·24) (List._∷_ (1, row·1) (List._∷_ (2, row·2) (List._∷_ (3, row·3) (List._∷_ (4, row·4) (List._∷_ (5, row·5) (List._∷_ (6, row·6) (List._∷_ (7, row·7) (List._∷_ (8, row·8) (List._∷_ (9, row·9) (List._∷_ (10, row·10) (List._∷_ (11, Rows'.sc-shr (Rows.arrF (Array'.Array (Referent.rtF (Referent.fInt Syntax.w16)) 2048) 2 0) (Array'.Array (Array'.Array (Referent.rtF (Referent.fInt Syntax.w16)) 2048) 2) (λ x. x) 14) (List._∷_ (12, Rows'.sc-shr (Rows.arrF (Array'.Array (Referent.rtF (Referent.fInt Syntax.w8)) 2048) 2 0) (Array'.Array (Array'.Array (Referent.rtF (Referent.fInt Syntax.w8)) 2048) 2) (λ x. x) 15) (List._∷_ (13, Rows'.sc-shr (Rows.arrF (Referent.rtF (Referent.fInt Syntax.w8)) 2048 0) (Array'.Array (Referent.rtF (Referent.fInt Syntax.w8)) 2048) (λ x. x) 16) (List._∷_ (14, row·14) (List._∷_ (15, row·15) List.[])))))))))))))))) t1; slots = List.[] }
+    { locals = List._++_ (List._∷_ (0, row·24) (List._∷_ (1, row·1) (List._∷_ (2, row·2) (List._∷_ (3, row·3) (List._∷_ (4, row·4) (List._∷_ (5, row·5) (List._∷_ (6, row·6) (List._∷_ (7, row·7) (List._∷_ (8, row·8) (List._∷_ (9, row·9) (List._∷_ (10, row·10) (List._∷_ (11, Rows'.sc-shr (Rows.arrF (Array'.Array (Referent.rtF (Referent.fInt Syntax.w16)) 4096) 2 0) (Array'.Array (Array'.Array (Referent.rtF (Referent.fInt Syntax.w16)) 4096) 2) (λ x. x) 14) (List._∷_ (12, Rows'.sc-shr (Rows.arrF (Array'.Array (Referent.rtF (Referent.fInt Syntax.w8)) 4096) 2 0) (Array'.Array (Array'.Array (Referent.rtF (Referent.fInt Syntax.w8)) 4096) 2) (λ x. x) 15) (List._∷_ (13, Rows'.sc-shr (Rows.arrF (Referent.rtF (Referent.fInt Syntax.w8)) 4096 0) (Array'.Array (Referent.rtF (Referent.fInt Syntax.w8)) 4096) (λ x. x) 16) (List._∷_ (14, row·14) (List._∷_ (15, row·15) List.[])))))))))))))))) t1; slots = List.[] }
 
 abbrev pub T58 : Row.Cx
 T58 = record
-    { locals = List._++_ (List._∷_ (0, row·24) (List._∷_ (1, row·1) (List._∷_ (2, row·2) (List._∷_ (3, row·3) (List._∷_ (4, row·4) (List._∷_ (5, row·5) (List._∷_ (6, row·6) (List._∷_ (7, row·7) (List._∷_ (8, row·8) (List._∷_ (9, row·9) (List._∷_ (10, row·10) (List._∷_ (11, row·28) (List._∷_ (12, Rows'.sc-shr (Rows.arrF (Array'.Array (Referent.rtF (Referent.fInt Syntax.w8)) 2048) 2 0) (Array'.Array (Array'.Array (Referent.rtF (Referent.fInt Syntax.w8)) 2048) 2) (λ x. x) 15) (List._∷_ (13, Rows'.sc-shr (Rows.arrF (Referent.rtF (Referent.fInt Syntax.w8)) 2048 0) (Array'.Array (Referent.rtF (Referent.fInt Syntax.w8)) 2048) (λ x. x) 16) (List._∷_ (14, row·14) (List._∷_ (15, row·15) List.[])))))))))))))))) t1; slots = List.[] }
+    { locals = List._++_ (List._∷_ (0, row·24) (List._∷_ (1, row·1) (List._∷_ (2, row·2) (List._∷_ (3, row·3) (List._∷_ (4, row·4) (List._∷_ (5, row·5) (List._∷_ (6, row·6) (List._∷_ (7, row·7) (List._∷_ (8, row·8) (List._∷_ (9, row·9) (List._∷_ (10, row·10) (List._∷_ (11, row·28) (List._∷_ (12, Rows'.sc-shr (Rows.arrF (Array'.Array (Referent.rtF (Referent.fInt Syntax.w8)) 4096) 2 0) (Array'.Array (Array'.Array (Referent.rtF (Referent.fInt Syntax.w8)) 4096) 2) (λ x. x) 15) (List._∷_ (13, Rows'.sc-shr (Rows.arrF (Referent.rtF (Referent.fInt Syntax.w8)) 4096 0) (Array'.Array (Referent.rtF (Referent.fInt Syntax.w8)) 4096) (λ x. x) 16) (List._∷_ (14, row·14) (List._∷_ (15, row·15) List.[])))))))))))))))) t1; slots = List.[] }
 
 abbrev pub T60 : Row.Cx
 T60 = record
-    { locals = List._++_ (List._∷_ (0, row·24) (List._∷_ (1, row·1) (List._∷_ (2, row·2) (List._∷_ (3, row·3) (List._∷_ (4, row·4) (List._∷_ (5, row·5) (List._∷_ (6, row·6) (List._∷_ (7, row·7) (List._∷_ (8, row·8) (List._∷_ (9, row·9) (List._∷_ (10, row·10) (List._∷_ (11, row·11) (List._∷_ (12, Rows'.sc-shr (Rows.arrF (Array'.Array (Referent.rtF (Referent.fInt Syntax.w8)) 2048) 2 0) (Array'.Array (Array'.Array (Referent.rtF (Referent.fInt Syntax.w8)) 2048) 2) (λ x. x) 15) (List._∷_ (13, Rows'.sc-shr (Rows.arrF (Referent.rtF (Referent.fInt Syntax.w8)) 2048 0) (Array'.Array (Referent.rtF (Referent.fInt Syntax.w8)) 2048) (λ x. x) 16) (List._∷_ (14, row·14) (List._∷_ (15, row·15) List.[])))))))))))))))) t1; slots = List.[] }
+    { locals = List._++_ (List._∷_ (0, row·24) (List._∷_ (1, row·1) (List._∷_ (2, row·2) (List._∷_ (3, row·3) (List._∷_ (4, row·4) (List._∷_ (5, row·5) (List._∷_ (6, row·6) (List._∷_ (7, row·7) (List._∷_ (8, row·8) (List._∷_ (9, row·9) (List._∷_ (10, row·10) (List._∷_ (11, row·11) (List._∷_ (12, Rows'.sc-shr (Rows.arrF (Array'.Array (Referent.rtF (Referent.fInt Syntax.w8)) 4096) 2 0) (Array'.Array (Array'.Array (Referent.rtF (Referent.fInt Syntax.w8)) 4096) 2) (λ x. x) 15) (List._∷_ (13, Rows'.sc-shr (Rows.arrF (Referent.rtF (Referent.fInt Syntax.w8)) 4096 0) (Array'.Array (Referent.rtF (Referent.fInt Syntax.w8)) 4096) (λ x. x) 16) (List._∷_ (14, row·14) (List._∷_ (15, row·15) List.[])))))))))))))))) t1; slots = List.[] }
 
 abbrev pub T62 : Row.Cx
 T62 = record
-    { locals = List._++_ (List._∷_ (0, row·24) (List._∷_ (1, row·1) (List._∷_ (2, row·2) (List._∷_ (3, row·3) (List._∷_ (4, row·4) (List._∷_ (5, row·5) (List._∷_ (6, row·6) (List._∷_ (7, row·7) (List._∷_ (8, row·8) (List._∷_ (9, row·9) (List._∷_ (10, row·10) (List._∷_ (11, row·11) (List._∷_ (12, row·32) (List._∷_ (13, Rows'.sc-shr (Rows.arrF (Referent.rtF (Referent.fInt Syntax.w8)) 2048 0) (Array'.Array (Referent.rtF (Referent.fInt Syntax.w8)) 2048) (λ x. x) 16) (List._∷_ (14, row·14) (List._∷_ (15, row·15) List.[])))))))))))))))) t1; slots = List.[] }
+    { locals = List._++_ (List._∷_ (0, row·24) (List._∷_ (1, row·1) (List._∷_ (2, row·2) (List._∷_ (3, row·3) (List._∷_ (4, row·4) (List._∷_ (5, row·5) (List._∷_ (6, row·6) (List._∷_ (7, row·7) (List._∷_ (8, row·8) (List._∷_ (9, row·9) (List._∷_ (10, row·10) (List._∷_ (11, row·11) (List._∷_ (12, row·32) (List._∷_ (13, Rows'.sc-shr (Rows.arrF (Referent.rtF (Referent.fInt Syntax.w8)) 4096 0) (Array'.Array (Referent.rtF (Referent.fInt Syntax.w8)) 4096) (λ x. x) 16) (List._∷_ (14, row·14) (List._∷_ (15, row·15) List.[])))))))))))))))) t1; slots = List.[] }
 
 abbrev pub T64 : Row.Cx
 T64 = record
-    { locals = List._++_ (List._∷_ (0, row·24) (List._∷_ (1, row·1) (List._∷_ (2, row·2) (List._∷_ (3, row·3) (List._∷_ (4, row·4) (List._∷_ (5, row·5) (List._∷_ (6, row·6) (List._∷_ (7, row·7) (List._∷_ (8, row·8) (List._∷_ (9, row·9) (List._∷_ (10, row·10) (List._∷_ (11, row·11) (List._∷_ (12, row·12) (List._∷_ (13, Rows'.sc-shr (Rows.arrF (Referent.rtF (Referent.fInt Syntax.w8)) 2048 0) (Array'.Array (Referent.rtF (Referent.fInt Syntax.w8)) 2048) (λ x. x) 16) (List._∷_ (14, row·14) (List._∷_ (15, row·15) List.[])))))))))))))))) t1; slots = List.[] }
+    { locals = List._++_ (List._∷_ (0, row·24) (List._∷_ (1, row·1) (List._∷_ (2, row·2) (List._∷_ (3, row·3) (List._∷_ (4, row·4) (List._∷_ (5, row·5) (List._∷_ (6, row·6) (List._∷_ (7, row·7) (List._∷_ (8, row·8) (List._∷_ (9, row·9) (List._∷_ (10, row·10) (List._∷_ (11, row·11) (List._∷_ (12, row·12) (List._∷_ (13, Rows'.sc-shr (Rows.arrF (Referent.rtF (Referent.fInt Syntax.w8)) 4096 0) (Array'.Array (Referent.rtF (Referent.fInt Syntax.w8)) 4096) (λ x. x) 16) (List._∷_ (14, row·14) (List._∷_ (15, row·15) List.[])))))))))))))))) t1; slots = List.[] }
 
 abbrev pub T66 : Row.Cx
 T66 = record
@@ -616,61 +616,61 @@ module _ (claims· : Claims) where
   s8 = Know.k-shs-known (Referent.fInt Syntax.w8) T0 9 8 ty·6 Row.off 0 λ x. x
 
   abbrev s9 : Typed.Mo T0 → Typed.Mo T11
-  s9 = Repeat.n-repeat (Referent.rtF (Referent.fInt Syntax.w16)) 2048 T0 15 λ m. 0
+  s9 = Repeat.n-repeat (Referent.rtF (Referent.fInt Syntax.w16)) 4096 T0 15 λ m. 0
 
   abbrev s10 : Typed.Mo T11 → Typed.Mo T12
-  s10 = AtSlots.n-as-by T11 15 (Rows.arrF (Referent.rtF (Referent.fInt Syntax.w16)) 2048 0) λ x. x
+  s10 = AtSlots.n-as-by T11 15 (Rows.arrF (Referent.rtF (Referent.fInt Syntax.w16)) 4096 0) λ x. x
 
   abbrev s11 : Typed.Mo T12 → Typed.Mo T13
-  s11 = Repeat.n-repeat (Array'.Array (Referent.rtF (Referent.fInt Syntax.w16)) 2048) 2 T12 11 λ m. m .1 .1 .1 .1 .1 .1 .1 .1 .1 .1 .1 .1 .1 .1 .1 .0
+  s11 = Repeat.n-repeat (Array'.Array (Referent.rtF (Referent.fInt Syntax.w16)) 4096) 2 T12 11 λ m. m .1 .1 .1 .1 .1 .1 .1 .1 .1 .1 .1 .1 .1 .1 .1 .0
 
   abbrev s12 : Typed.Mo T13 → Typed.Mo T14
-  s12 = AtSlots.n-as-by T13 11 (Rows.arrF (Array'.Array (Referent.rtF (Referent.fInt Syntax.w16)) 2048) 2 0) λ x. x
+  s12 = AtSlots.n-as-by T13 11 (Rows.arrF (Array'.Array (Referent.rtF (Referent.fInt Syntax.w16)) 4096) 2 0) λ x. x
 
   abbrev s13 : Typed.Mo T14 → Typed.Mo T15
   s13 = Scalar.n-room T14 15 ty·1
 
   abbrev s14 : Typed.Mo T15 → Typed.Mo T16
-  s14 = Repeat.n-repeat (Referent.rtF (Referent.fInt Syntax.w8)) 2048 T15 16 λ m. 0
+  s14 = Repeat.n-repeat (Referent.rtF (Referent.fInt Syntax.w8)) 4096 T15 16 λ m. 0
 
   abbrev s15 : Typed.Mo T16 → Typed.Mo T17
-  s15 = AtSlots.n-as-by T16 16 (Rows.arrF (Referent.rtF (Referent.fInt Syntax.w8)) 2048 0) λ x. x
+  s15 = AtSlots.n-as-by T16 16 (Rows.arrF (Referent.rtF (Referent.fInt Syntax.w8)) 4096 0) λ x. x
 
   abbrev s16 : Typed.Mo T17 → Typed.Mo T18
-  s16 = Repeat.n-repeat (Array'.Array (Referent.rtF (Referent.fInt Syntax.w8)) 2048) 2 T17 12 λ m. m .1 .1 .1 .1 .1 .1 .1 .1 .1 .1 .1 .1 .1 .1 .1 .1 .0
+  s16 = Repeat.n-repeat (Array'.Array (Referent.rtF (Referent.fInt Syntax.w8)) 4096) 2 T17 12 λ m. m .1 .1 .1 .1 .1 .1 .1 .1 .1 .1 .1 .1 .1 .1 .1 .1 .0
 
   abbrev s17 : Typed.Mo T18 → Typed.Mo T19
-  s17 = AtSlots.n-as-by T18 12 (Rows.arrF (Array'.Array (Referent.rtF (Referent.fInt Syntax.w8)) 2048) 2 0) λ x. x
+  s17 = AtSlots.n-as-by T18 12 (Rows.arrF (Array'.Array (Referent.rtF (Referent.fInt Syntax.w8)) 4096) 2 0) λ x. x
 
   abbrev s18 : Typed.Mo T19 → Typed.Mo T20
   s18 = Scalar.n-room T19 16 ty·0
 
   abbrev s19 : Typed.Mo T20 → Typed.Mo T21
-  s19 = Repeat.n-repeat (Referent.rtF (Referent.fInt Syntax.w8)) 2048 T20 13 λ m. 0
+  s19 = Repeat.n-repeat (Referent.rtF (Referent.fInt Syntax.w8)) 4096 T20 13 λ m. 0
 
   abbrev s20 : Typed.Mo T21 → Typed.Mo T22
-  s20 = AtSlots.n-as-by T21 13 (Rows.arrF (Referent.rtF (Referent.fInt Syntax.w8)) 2048 0) λ x. x
+  s20 = AtSlots.n-as-by T21 13 (Rows.arrF (Referent.rtF (Referent.fInt Syntax.w8)) 4096 0) λ x. x
 
   abbrev s22 : Typed.Gives T22 T24
-  s22 = Local.k-sc-borrow T22 11 17 10 (Array'.Array (Array'.Array (Referent.rtF (Referent.fInt Syntax.w16)) 2048) 2) (Syntax.tyRef Syntax.erased Syntax.mut (Syntax.tyArray ty·1 2)) λ x. x
+  s22 = Local.k-sc-borrow T22 11 17 10 (Array'.Array (Array'.Array (Referent.rtF (Referent.fInt Syntax.w16)) 4096) 2) (Syntax.tyRef Syntax.erased Syntax.mut (Syntax.tyArray ty·1 2)) λ x. x
 
   abbrev s24 : Typed.Gives T24 T26
-  s24 = Local.k-sc-borrow T24 12 18 11 (Array'.Array (Array'.Array (Referent.rtF (Referent.fInt Syntax.w8)) 2048) 2) (Syntax.tyRef Syntax.erased Syntax.mut (Syntax.tyArray ty·0 2)) λ x. x
+  s24 = Local.k-sc-borrow T24 12 18 11 (Array'.Array (Array'.Array (Referent.rtF (Referent.fInt Syntax.w8)) 4096) 2) (Syntax.tyRef Syntax.erased Syntax.mut (Syntax.tyArray ty·0 2)) λ x. x
 
   abbrev s26 : Typed.Gives T26 T28
-  s26 = Local.k-sc-borrow T26 13 19 12 (Array'.Array (Referent.rtF (Referent.fInt Syntax.w8)) 2048) (Syntax.tyRef Syntax.erased Syntax.mut ty·0) λ x. x
+  s26 = Local.k-sc-borrow T26 13 19 12 (Array'.Array (Referent.rtF (Referent.fInt Syntax.w8)) 4096) (Syntax.tyRef Syntax.erased Syntax.mut ty·0) λ x. x
 
   abbrev s27 : Typed.Both T28 T29
   s27 = Call.callB ps·0 r·0 (claims· .0) (claims· .1) T28 args·0 14 (List._∷_ 2 (List._∷_ 9 (List._∷_ 10 (List._∷_ 11 (List._∷_ 12 List.[]))))) (Syntax.tyInt Syntax.w64)
 
   abbrev s29 : Typed.Asks T29 T31
-  s29 = Local.k-back-sc T29 17 11 10 (Array'.Array (Array'.Array (Referent.rtF (Referent.fInt Syntax.w16)) 2048) 2) (Syntax.tyRef Syntax.erased Syntax.mut (Syntax.tyArray ty·1 2)) (Rows.arrF (Array'.Array (Referent.rtF (Referent.fInt Syntax.w16)) 2048) 2 0) (λ x. x) (λ x. x) λ x. x
+  s29 = Local.k-back-sc T29 17 11 10 (Array'.Array (Array'.Array (Referent.rtF (Referent.fInt Syntax.w16)) 4096) 2) (Syntax.tyRef Syntax.erased Syntax.mut (Syntax.tyArray ty·1 2)) (Rows.arrF (Array'.Array (Referent.rtF (Referent.fInt Syntax.w16)) 4096) 2 0) (λ x. x) (λ x. x) λ x. x
 
   abbrev s32 : Typed.Asks T31 T34
-  s32 = Local.k-back-sc T31 18 12 11 (Array'.Array (Array'.Array (Referent.rtF (Referent.fInt Syntax.w8)) 2048) 2) (Syntax.tyRef Syntax.erased Syntax.mut (Syntax.tyArray ty·0 2)) (Rows.arrF (Array'.Array (Referent.rtF (Referent.fInt Syntax.w8)) 2048) 2 0) (λ x. x) (λ x. x) λ x. x
+  s32 = Local.k-back-sc T31 18 12 11 (Array'.Array (Array'.Array (Referent.rtF (Referent.fInt Syntax.w8)) 4096) 2) (Syntax.tyRef Syntax.erased Syntax.mut (Syntax.tyArray ty·0 2)) (Rows.arrF (Array'.Array (Referent.rtF (Referent.fInt Syntax.w8)) 4096) 2 0) (λ x. x) (λ x. x) λ x. x
 
   abbrev s35 : Typed.Asks T34 T37
-  s35 = Local.k-back-sc T34 19 13 12 (Array'.Array (Referent.rtF (Referent.fInt Syntax.w8)) 2048) (Syntax.tyRef Syntax.erased Syntax.mut ty·0) (Rows.arrF (Referent.rtF (Referent.fInt Syntax.w8)) 2048 0) (λ x. x) (λ x. x) λ x. x
+  s35 = Local.k-back-sc T34 19 13 12 (Array'.Array (Referent.rtF (Referent.fInt Syntax.w8)) 4096) (Syntax.tyRef Syntax.erased Syntax.mut ty·0) (Rows.arrF (Referent.rtF (Referent.fInt Syntax.w8)) 4096 0) (λ x. x) (λ x. x) λ x. x
 
   abbrev s38 : Typed.Gives T37 T40
   s38 = Relend.k-sl-relend (Referent.rtF (Referent.fInt Syntax.w8)) T37 1 20 0 13 ty·4 ty·3 Row.off λ x. x
@@ -679,13 +679,13 @@ module _ (claims· : Claims) where
   s39 = Relend.k-sl-aggregate (Referent.rtF (Referent.fInt Syntax.w8)) (Relend.asMut (Referent.rtF (Referent.fInt Syntax.w8))) T40 20 21 13 ty·3 ty·3 (λ x. x) (Scalar.oFld 1 (List._∷_ (Syntax.field 1) List.[]) (Syntax.tyInt Syntax.w64) 8 λ v. Shared.lenV (v .0))
 
   abbrev s41 : Typed.Gives T41 T43
-  s41 = Local.k-sc-share T41 11 22 14 (Array'.Array (Array'.Array (Referent.rtF (Referent.fInt Syntax.w16)) 2048) 2) (Syntax.tyRef Syntax.erased Syntax.imm (Syntax.tyArray ty·1 2)) λ x. x
+  s41 = Local.k-sc-share T41 11 22 14 (Array'.Array (Array'.Array (Referent.rtF (Referent.fInt Syntax.w16)) 4096) 2) (Syntax.tyRef Syntax.erased Syntax.imm (Syntax.tyArray ty·1 2)) λ x. x
 
   abbrev s43 : Typed.Gives T43 T45
-  s43 = Local.k-sc-share T43 12 23 15 (Array'.Array (Array'.Array (Referent.rtF (Referent.fInt Syntax.w8)) 2048) 2) (Syntax.tyRef Syntax.erased Syntax.imm (Syntax.tyArray ty·0 2)) λ x. x
+  s43 = Local.k-sc-share T43 12 23 15 (Array'.Array (Array'.Array (Referent.rtF (Referent.fInt Syntax.w8)) 4096) 2) (Syntax.tyRef Syntax.erased Syntax.imm (Syntax.tyArray ty·0 2)) λ x. x
 
   abbrev s45 : Typed.Gives T45 T47
-  s45 = Local.k-sc-share T45 13 24 16 (Array'.Array (Referent.rtF (Referent.fInt Syntax.w8)) 2048) (Syntax.tyRef Syntax.erased Syntax.imm ty·0) λ x. x
+  s45 = Local.k-sc-share T45 13 24 16 (Array'.Array (Referent.rtF (Referent.fInt Syntax.w8)) 4096) (Syntax.tyRef Syntax.erased Syntax.imm ty·0) λ x. x
 
   abbrev s46 : Typed.Both T47 T48
   s46 = Call.callB ps·1 r·1 (claims· .2) (claims· .3) T47 args·1 0 (List._∷_ 13 (List._∷_ 1 (List._∷_ 2 (List._∷_ 3 (List._∷_ 4 (List._∷_ 5 (List._∷_ 6 (List._∷_ 7 (List._∷_ 8 (List._∷_ 14 (List._∷_ 15 (List._∷_ 16 List.[])))))))))))) ty·13
@@ -709,19 +709,19 @@ module _ (claims· : Claims) where
   s53 = Know.k-sl-known (Referent.fInt Syntax.w8) T54 1 0 ty·4 Row.off 0 λ x. x
 
   abbrev s56 : Typed.Mo T54 → Typed.Mo T58
-  s56 = Local.n-back-shr T54 11 14 (Rows.arrF (Array'.Array (Referent.rtF (Referent.fInt Syntax.w16)) 2048) 2 0) λ x. x
+  s56 = Local.n-back-shr T54 11 14 (Rows.arrF (Array'.Array (Referent.rtF (Referent.fInt Syntax.w16)) 4096) 2 0) λ x. x
 
   abbrev s58 : Typed.Mo T58 → Typed.Mo T60
   s58 = Scalar.n-room T58 11 (Syntax.tyArray ty·1 2)
 
   abbrev s60 : Typed.Mo T60 → Typed.Mo T62
-  s60 = Local.n-back-shr T60 12 15 (Rows.arrF (Array'.Array (Referent.rtF (Referent.fInt Syntax.w8)) 2048) 2 0) λ x. x
+  s60 = Local.n-back-shr T60 12 15 (Rows.arrF (Array'.Array (Referent.rtF (Referent.fInt Syntax.w8)) 4096) 2 0) λ x. x
 
   abbrev s62 : Typed.Mo T62 → Typed.Mo T64
   s62 = Scalar.n-room T62 12 (Syntax.tyArray ty·0 2)
 
   abbrev s64 : Typed.Mo T64 → Typed.Mo T66
-  s64 = Local.n-back-shr T64 13 16 (Rows.arrF (Referent.rtF (Referent.fInt Syntax.w8)) 2048 0) λ x. x
+  s64 = Local.n-back-shr T64 13 16 (Rows.arrF (Referent.rtF (Referent.fInt Syntax.w8)) 4096 0) λ x. x
 
   abbrev s66 : Typed.Mo T66 → Typed.Mo T1
   s66 = Scalar.n-room T66 13 ty·0
@@ -885,46 +885,46 @@ module _ (claims· : Claims) where
         abbrev g27 : List.List Row.Entry
         g27 = List._∷_ (0, Rows'.any-gone ty·13) (List._∷_ (1, Relend.mslice-owed (Referent.rtF (Referent.fInt Syntax.w8)) ty·4 0 13 (Row.lease (κs .0) (qs .0))) (List._∷_ (2, Rows'.sslice (Referent.rtF (Referent.fInt Syntax.w16)) ty·7 1) (List._∷_ (3, Rows'.sslice (Referent.rtF (Referent.fInt Syntax.w16)) ty·8 2) (List._∷_
             (4, Rows'.sslice (Referent.rtF (Referent.fInt Syntax.w8)) ty·5 3) (List._∷_ (5, Rows'.sslice (Referent.rtF (Referent.fInt Syntax.w16)) ty·9 4) (List._∷_ (6, Rows'.sslice (Referent.rtF (Referent.fInt Syntax.w16)) ty·10 5) (List._∷_ (7, Rows'.sslice (Referent.rtF (Referent.fInt Syntax.w32)) ty·11 6) (List._∷_
-            (8, Rows'.sslice (Referent.rtF (Referent.fInt Syntax.w16)) ty·12 7) (List._∷_ (9, Rows'.sslice (Referent.rtF (Referent.fInt Syntax.w8)) ty·6 8) (List._∷_ (10, Rows'.sslice Rec.rt ty·2 9) (List._∷_ (11, Rows.arrF (Array'.Array (Referent.rtF (Referent.fInt Syntax.w16)) 2048) 2 0) (List._∷_
-            (12, Rows.arrF (Array'.Array (Referent.rtF (Referent.fInt Syntax.w8)) 2048) 2 0) (List._∷_ (13, Rows.arrF (Referent.rtF (Referent.fInt Syntax.w8)) 2048 0) (List._∷_ (14, Rows'.sc-here (Row.sInt Syntax.w64)) (List._∷_ (15, Rows'.any-gone ty·1) List.[])))))))))))))))
+            (8, Rows'.sslice (Referent.rtF (Referent.fInt Syntax.w16)) ty·12 7) (List._∷_ (9, Rows'.sslice (Referent.rtF (Referent.fInt Syntax.w8)) ty·6 8) (List._∷_ (10, Rows'.sslice Rec.rt ty·2 9) (List._∷_ (11, Rows.arrF (Array'.Array (Referent.rtF (Referent.fInt Syntax.w16)) 4096) 2 0) (List._∷_
+            (12, Rows.arrF (Array'.Array (Referent.rtF (Referent.fInt Syntax.w8)) 4096) 2 0) (List._∷_ (13, Rows.arrF (Referent.rtF (Referent.fInt Syntax.w8)) 4096 0) (List._∷_ (14, Rows'.sc-here (Row.sInt Syntax.w64)) (List._∷_ (15, Rows'.any-gone ty·1) List.[])))))))))))))))
 
         abbrev g30 : List.List Row.Entry
         g30 = List._∷_ (0, Rows'.any-gone ty·13) (List._∷_ (1, Relend.mslice-owed (Referent.rtF (Referent.fInt Syntax.w8)) ty·4 0 13 (Row.lease (κs .0) (qs .0))) (List._∷_ (2, Rows'.sslice (Referent.rtF (Referent.fInt Syntax.w16)) ty·7 1) (List._∷_ (3, Rows'.sslice (Referent.rtF (Referent.fInt Syntax.w16)) ty·8 2) (List._∷_
             (4, Rows'.sslice (Referent.rtF (Referent.fInt Syntax.w8)) ty·5 3) (List._∷_ (5, Rows'.sslice (Referent.rtF (Referent.fInt Syntax.w16)) ty·9 4) (List._∷_ (6, Rows'.sslice (Referent.rtF (Referent.fInt Syntax.w16)) ty·10 5) (List._∷_ (7, Rows'.sslice (Referent.rtF (Referent.fInt Syntax.w32)) ty·11 6) (List._∷_
             (8, Rows'.sslice (Referent.rtF (Referent.fInt Syntax.w16)) ty·12 7) (List._∷_ (9, Rows'.sslice (Referent.rtF (Referent.fInt Syntax.w8)) ty·6 8) (List._∷_ (10, Rows'.sslice Rec.rt ty·2 9) (List._∷_
-            (11, Rows'.sc-shr (Rows.arrF (Array'.Array (Referent.rtF (Referent.fInt Syntax.w16)) 2048) 2 0) (Array'.Array (Array'.Array (Referent.rtF (Referent.fInt Syntax.w16)) 2048) 2) (λ x. x) 14) (List._∷_ (12, Rows.arrF (Array'.Array (Referent.rtF (Referent.fInt Syntax.w8)) 2048) 2 0) (List._∷_ (13, Rows.arrF (Referent.rtF (Referent.fInt Syntax.w8)) 2048 0)
+            (11, Rows'.sc-shr (Rows.arrF (Array'.Array (Referent.rtF (Referent.fInt Syntax.w16)) 4096) 2 0) (Array'.Array (Array'.Array (Referent.rtF (Referent.fInt Syntax.w16)) 4096) 2) (λ x. x) 14) (List._∷_ (12, Rows.arrF (Array'.Array (Referent.rtF (Referent.fInt Syntax.w8)) 4096) 2 0) (List._∷_ (13, Rows.arrF (Referent.rtF (Referent.fInt Syntax.w8)) 4096 0)
             (List._∷_ (14, Rows'.sc-here (Row.sInt Syntax.w64)) (List._∷_ (15, Rows'.any-gone ty·1) List.[])))))))))))))))
 
         abbrev g32 : List.List Row.Entry
         g32 = List._∷_ (0, Rows'.any-gone ty·13) (List._∷_ (1, Relend.mslice-owed (Referent.rtF (Referent.fInt Syntax.w8)) ty·4 0 13 (Row.lease (κs .0) (qs .0))) (List._∷_ (2, Rows'.sslice (Referent.rtF (Referent.fInt Syntax.w16)) ty·7 1) (List._∷_ (3, Rows'.sslice (Referent.rtF (Referent.fInt Syntax.w16)) ty·8 2) (List._∷_
             (4, Rows'.sslice (Referent.rtF (Referent.fInt Syntax.w8)) ty·5 3) (List._∷_ (5, Rows'.sslice (Referent.rtF (Referent.fInt Syntax.w16)) ty·9 4) (List._∷_ (6, Rows'.sslice (Referent.rtF (Referent.fInt Syntax.w16)) ty·10 5) (List._∷_ (7, Rows'.sslice (Referent.rtF (Referent.fInt Syntax.w32)) ty·11 6) (List._∷_
             (8, Rows'.sslice (Referent.rtF (Referent.fInt Syntax.w16)) ty·12 7) (List._∷_ (9, Rows'.sslice (Referent.rtF (Referent.fInt Syntax.w8)) ty·6 8) (List._∷_ (10, Rows'.sslice Rec.rt ty·2 9) (List._∷_
-            (11, Rows'.sc-shr (Rows.arrF (Array'.Array (Referent.rtF (Referent.fInt Syntax.w16)) 2048) 2 0) (Array'.Array (Array'.Array (Referent.rtF (Referent.fInt Syntax.w16)) 2048) 2) (λ x. x) 14) (List._∷_
-            (12, Rows'.sc-shr (Rows.arrF (Array'.Array (Referent.rtF (Referent.fInt Syntax.w8)) 2048) 2 0) (Array'.Array (Array'.Array (Referent.rtF (Referent.fInt Syntax.w8)) 2048) 2) (λ x. x) 15) (List._∷_ (13, Rows.arrF (Referent.rtF (Referent.fInt Syntax.w8)) 2048 0) (List._∷_ (14, Rows'.sc-here (Row.sInt Syntax.w64)) (List._∷_ (15, Rows'.any-gone ty·1)
+            (11, Rows'.sc-shr (Rows.arrF (Array'.Array (Referent.rtF (Referent.fInt Syntax.w16)) 4096) 2 0) (Array'.Array (Array'.Array (Referent.rtF (Referent.fInt Syntax.w16)) 4096) 2) (λ x. x) 14) (List._∷_
+            (12, Rows'.sc-shr (Rows.arrF (Array'.Array (Referent.rtF (Referent.fInt Syntax.w8)) 4096) 2 0) (Array'.Array (Array'.Array (Referent.rtF (Referent.fInt Syntax.w8)) 4096) 2) (λ x. x) 15) (List._∷_ (13, Rows.arrF (Referent.rtF (Referent.fInt Syntax.w8)) 4096 0) (List._∷_ (14, Rows'.sc-here (Row.sInt Syntax.w64)) (List._∷_ (15, Rows'.any-gone ty·1)
             List.[])))))))))))))))
 
         abbrev g34 : List.List Row.Entry
         g34 = List._∷_ (0, Rows'.any-gone ty·13) (List._∷_ (1, Relend.mslice-owed (Referent.rtF (Referent.fInt Syntax.w8)) ty·4 0 13 (Row.lease (κs .0) (qs .0))) (List._∷_ (2, Rows'.sslice (Referent.rtF (Referent.fInt Syntax.w16)) ty·7 1) (List._∷_ (3, Rows'.sslice (Referent.rtF (Referent.fInt Syntax.w16)) ty·8 2) (List._∷_
             (4, Rows'.sslice (Referent.rtF (Referent.fInt Syntax.w8)) ty·5 3) (List._∷_ (5, Rows'.sslice (Referent.rtF (Referent.fInt Syntax.w16)) ty·9 4) (List._∷_ (6, Rows'.sslice (Referent.rtF (Referent.fInt Syntax.w16)) ty·10 5) (List._∷_ (7, Rows'.sslice (Referent.rtF (Referent.fInt Syntax.w32)) ty·11 6) (List._∷_
             (8, Rows'.sslice (Referent.rtF (Referent.fInt Syntax.w16)) ty·12 7) (List._∷_ (9, Rows'.sslice (Referent.rtF (Referent.fInt Syntax.w8)) ty·6 8) (List._∷_ (10, Rows'.sslice Rec.rt ty·2 9) (List._∷_
-            (11, Rows'.sc-shr (Rows.arrF (Array'.Array (Referent.rtF (Referent.fInt Syntax.w16)) 2048) 2 0) (Array'.Array (Array'.Array (Referent.rtF (Referent.fInt Syntax.w16)) 2048) 2) (λ x. x) 14) (List._∷_
-            (12, Rows'.sc-shr (Rows.arrF (Array'.Array (Referent.rtF (Referent.fInt Syntax.w8)) 2048) 2 0) (Array'.Array (Array'.Array (Referent.rtF (Referent.fInt Syntax.w8)) 2048) 2) (λ x. x) 15) (List._∷_ (13, Rows'.sc-shr (Rows.arrF (Referent.rtF (Referent.fInt Syntax.w8)) 2048 0) (Array'.Array (Referent.rtF (Referent.fInt Syntax.w8)) 2048) (λ x. x) 16)
+            (11, Rows'.sc-shr (Rows.arrF (Array'.Array (Referent.rtF (Referent.fInt Syntax.w16)) 4096) 2 0) (Array'.Array (Array'.Array (Referent.rtF (Referent.fInt Syntax.w16)) 4096) 2) (λ x. x) 14) (List._∷_
+            (12, Rows'.sc-shr (Rows.arrF (Array'.Array (Referent.rtF (Referent.fInt Syntax.w8)) 4096) 2 0) (Array'.Array (Array'.Array (Referent.rtF (Referent.fInt Syntax.w8)) 4096) 2) (λ x. x) 15) (List._∷_ (13, Rows'.sc-shr (Rows.arrF (Referent.rtF (Referent.fInt Syntax.w8)) 4096 0) (Array'.Array (Referent.rtF (Referent.fInt Syntax.w8)) 4096) (λ x. x) 16)
             (List._∷_ (14, Rows'.sc-here (Row.sInt Syntax.w64)) (List._∷_ (15, Rows'.any-gone ty·1) List.[])))))))))))))))
 
         abbrev g36 : List.List Row.Entry
         g36 = List._∷_ (0, Rows'.whole (Declared.row WriteReply.the-type)) (List._∷_ (1, Relend.mslice-owed (Referent.rtF (Referent.fInt Syntax.w8)) ty·4 0 13 (Row.lease (κs .0) (qs .0))) (List._∷_ (2, Rows'.sslice (Referent.rtF (Referent.fInt Syntax.w16)) ty·7 1) (List._∷_ (3, Rows'.sslice (Referent.rtF (Referent.fInt Syntax.w16)) ty·8 2) (List._∷_
             (4, Rows'.sslice (Referent.rtF (Referent.fInt Syntax.w8)) ty·5 3) (List._∷_ (5, Rows'.sslice (Referent.rtF (Referent.fInt Syntax.w16)) ty·9 4) (List._∷_ (6, Rows'.sslice (Referent.rtF (Referent.fInt Syntax.w16)) ty·10 5) (List._∷_ (7, Rows'.sslice (Referent.rtF (Referent.fInt Syntax.w32)) ty·11 6) (List._∷_
             (8, Rows'.sslice (Referent.rtF (Referent.fInt Syntax.w16)) ty·12 7) (List._∷_ (9, Rows'.sslice (Referent.rtF (Referent.fInt Syntax.w8)) ty·6 8) (List._∷_ (10, Rows'.sslice Rec.rt ty·2 9) (List._∷_
-            (11, Rows'.sc-shr (Rows.arrF (Array'.Array (Referent.rtF (Referent.fInt Syntax.w16)) 2048) 2 0) (Array'.Array (Array'.Array (Referent.rtF (Referent.fInt Syntax.w16)) 2048) 2) (λ x. x) 14) (List._∷_
-            (12, Rows'.sc-shr (Rows.arrF (Array'.Array (Referent.rtF (Referent.fInt Syntax.w8)) 2048) 2 0) (Array'.Array (Array'.Array (Referent.rtF (Referent.fInt Syntax.w8)) 2048) 2) (λ x. x) 15) (List._∷_ (13, Rows'.sc-shr (Rows.arrF (Referent.rtF (Referent.fInt Syntax.w8)) 2048 0) (Array'.Array (Referent.rtF (Referent.fInt Syntax.w8)) 2048) (λ x. x) 16)
+            (11, Rows'.sc-shr (Rows.arrF (Array'.Array (Referent.rtF (Referent.fInt Syntax.w16)) 4096) 2 0) (Array'.Array (Array'.Array (Referent.rtF (Referent.fInt Syntax.w16)) 4096) 2) (λ x. x) 14) (List._∷_
+            (12, Rows'.sc-shr (Rows.arrF (Array'.Array (Referent.rtF (Referent.fInt Syntax.w8)) 4096) 2 0) (Array'.Array (Array'.Array (Referent.rtF (Referent.fInt Syntax.w8)) 4096) 2) (λ x. x) 15) (List._∷_ (13, Rows'.sc-shr (Rows.arrF (Referent.rtF (Referent.fInt Syntax.w8)) 4096 0) (Array'.Array (Referent.rtF (Referent.fInt Syntax.w8)) 4096) (λ x. x) 16)
             (List._∷_ (14, Rows'.sc-here (Row.sInt Syntax.w64)) (List._∷_ (15, Rows'.any-gone ty·1) List.[])))))))))))))))
 
         abbrev g41 : List.List Row.Entry
         g41 = List._∷_ (0, Rows'.whole (Declared.row WriteReply.the-type)) (List._∷_ (1, Relend.mslice-owed (Referent.rtF (Referent.fInt Syntax.w8)) ty·4 0 13 (Row.lease (κs .0) (qs .0))) (List._∷_ (2, Rows'.sslice (Referent.rtF (Referent.fInt Syntax.w16)) ty·7 1) (List._∷_ (3, Rows'.sslice (Referent.rtF (Referent.fInt Syntax.w16)) ty·8 2) (List._∷_
             (4, Rows'.sslice (Referent.rtF (Referent.fInt Syntax.w8)) ty·5 3) (List._∷_ (5, Rows'.sslice (Referent.rtF (Referent.fInt Syntax.w16)) ty·9 4) (List._∷_ (6, Rows'.sslice (Referent.rtF (Referent.fInt Syntax.w16)) ty·10 5) (List._∷_ (7, Rows'.sslice (Referent.rtF (Referent.fInt Syntax.w32)) ty·11 6) (List._∷_
             (8, Rows'.sslice (Referent.rtF (Referent.fInt Syntax.w16)) ty·12 7) (List._∷_ (9, Rows'.sslice (Referent.rtF (Referent.fInt Syntax.w8)) ty·6 8) (List._∷_ (10, Rows'.sslice Rec.rt ty·2 9) (List._∷_
-            (11, Rows'.sc-shr (Rows.arrF (Array'.Array (Referent.rtF (Referent.fInt Syntax.w16)) 2048) 2 0) (Array'.Array (Array'.Array (Referent.rtF (Referent.fInt Syntax.w16)) 2048) 2) (λ x. x) 14) (List._∷_
-            (12, Rows'.sc-shr (Rows.arrF (Array'.Array (Referent.rtF (Referent.fInt Syntax.w8)) 2048) 2 0) (Array'.Array (Array'.Array (Referent.rtF (Referent.fInt Syntax.w8)) 2048) 2) (λ x. x) 15) (List._∷_ (13, Rows'.sc-shr (Rows.arrF (Referent.rtF (Referent.fInt Syntax.w8)) 2048 0) (Array'.Array (Referent.rtF (Referent.fInt Syntax.w8)) 2048) (λ x. x) 16)
+            (11, Rows'.sc-shr (Rows.arrF (Array'.Array (Referent.rtF (Referent.fInt Syntax.w16)) 4096) 2 0) (Array'.Array (Array'.Array (Referent.rtF (Referent.fInt Syntax.w16)) 4096) 2) (λ x. x) 14) (List._∷_
+            (12, Rows'.sc-shr (Rows.arrF (Array'.Array (Referent.rtF (Referent.fInt Syntax.w8)) 4096) 2 0) (Array'.Array (Array'.Array (Referent.rtF (Referent.fInt Syntax.w8)) 4096) 2) (λ x. x) 15) (List._∷_ (13, Rows'.sc-shr (Rows.arrF (Referent.rtF (Referent.fInt Syntax.w8)) 4096 0) (Array'.Array (Referent.rtF (Referent.fInt Syntax.w8)) 4096) (λ x. x) 16)
             (List._∷_ (14, Rows'.any-gone (Syntax.tyInt Syntax.w64)) (List._∷_ (15, Rows'.any-gone ty·1) List.[])))))))))))))))
 
         abbrev slots·0 : List.List Row.Life
@@ -1202,21 +1202,21 @@ module _ (claims· : Claims) where
           d0 = Typed.t-return 𝓤 H A W 𝓣 E Δ0 tt
 
           d3 : Typed.Typed 𝓤 H A 𝓣 E G65 b15 Δ0 at3
-          d3 = Typed.g-pre 𝓤 H A W 𝓣 E G65 G66 b15 Δ0 (Typed.pass T64 T66 s64) at1 (Local.g-back-shr 𝓤 H A W E G65 13 16 (Rows.arrF (Referent.rtF (Referent.fInt Syntax.w8)) 2048 0) (Array'.Array (Referent.rtF (Referent.fInt Syntax.w8)) 2048) (λ x. x) (λ x. x) (Reads.as-is 𝓤 H A (Rows'.sc-shr (Rows.arrF (Referent.rtF (Referent.fInt Syntax.w8)) 2048 0)
-              (Array'.Array (Referent.rtF (Referent.fInt Syntax.w8)) 2048) (λ x. x) 16)) (Local.home-of 𝓤 H A (Rows.arrF (Referent.rtF (Referent.fInt Syntax.w8)) 2048 0) (Array'.Array (Referent.rtF (Referent.fInt Syntax.w8)) 2048) (λ x. x) (λ x. x) (Whole.arr-mem 𝓤 H A W (Referent.rtF (Referent.fInt Syntax.w8)) 2048 tt) λ x k. Path'.refl) Path'.refl)
-              (Typed.g-pre 𝓤 H A W 𝓣 E G66 G67 b15 Δ0 (λ Ψ. Ψ) at1 (Lifetime.g-forget 𝓤 H A W E G66 16 Row.dead Path'.refl) (Typed.g-pre 𝓤 H A W 𝓣 E G67 G1 b15 Δ0 (Typed.pass T66 T1 s66) at0 (Scalar.g-room 𝓤 H A W E G67 13 ty·0 (Init.room-arr 𝓤 H A W (Referent.rtF (Referent.fInt Syntax.w8)) 2048 0 2048 Path'.refl)) d0))
+          d3 = Typed.g-pre 𝓤 H A W 𝓣 E G65 G66 b15 Δ0 (Typed.pass T64 T66 s64) at1 (Local.g-back-shr 𝓤 H A W E G65 13 16 (Rows.arrF (Referent.rtF (Referent.fInt Syntax.w8)) 4096 0) (Array'.Array (Referent.rtF (Referent.fInt Syntax.w8)) 4096) (λ x. x) (λ x. x) (Reads.as-is 𝓤 H A (Rows'.sc-shr (Rows.arrF (Referent.rtF (Referent.fInt Syntax.w8)) 4096 0)
+              (Array'.Array (Referent.rtF (Referent.fInt Syntax.w8)) 4096) (λ x. x) 16)) (Local.home-of 𝓤 H A (Rows.arrF (Referent.rtF (Referent.fInt Syntax.w8)) 4096 0) (Array'.Array (Referent.rtF (Referent.fInt Syntax.w8)) 4096) (λ x. x) (λ x. x) (Whole.arr-mem 𝓤 H A W (Referent.rtF (Referent.fInt Syntax.w8)) 4096 tt) λ x k. Path'.refl) Path'.refl)
+              (Typed.g-pre 𝓤 H A W 𝓣 E G66 G67 b15 Δ0 (λ Ψ. Ψ) at1 (Lifetime.g-forget 𝓤 H A W E G66 16 Row.dead Path'.refl) (Typed.g-pre 𝓤 H A W 𝓣 E G67 G1 b15 Δ0 (Typed.pass T66 T1 s66) at0 (Scalar.g-room 𝓤 H A W E G67 13 ty·0 (Init.room-arr 𝓤 H A W (Referent.rtF (Referent.fInt Syntax.w8)) 4096 0 4096 Path'.refl)) d0))
 
           d7 : Typed.Typed 𝓤 H A 𝓣 E G61 b15 Δ0 at7
-          d7 = Typed.g-pre 𝓤 H A W 𝓣 E G61 G62 b15 Δ0 (Typed.pass T60 T62 s60) at5 (Local.g-back-shr 𝓤 H A W E G61 12 15 (Rows.arrF (Array'.Array (Referent.rtF (Referent.fInt Syntax.w8)) 2048) 2 0) (Array'.Array (Array'.Array (Referent.rtF (Referent.fInt Syntax.w8)) 2048) 2) (λ x. x) (λ x. x) (Reads.as-is 𝓤 H A (Rows'.sc-shr (Rows.arrF (Array'.Array
-              (Referent.rtF (Referent.fInt Syntax.w8)) 2048) 2 0) (Array'.Array (Array'.Array (Referent.rtF (Referent.fInt Syntax.w8)) 2048) 2) (λ x. x) 15)) (Local.home-of 𝓤 H A (Rows.arrF (Array'.Array (Referent.rtF (Referent.fInt Syntax.w8)) 2048) 2 0) (Array'.Array (Array'.Array (Referent.rtF (Referent.fInt Syntax.w8)) 2048) 2) (λ x. x) (λ x. x)
-              (Whole.arr-mem 𝓤 H A W (Array'.Array (Referent.rtF (Referent.fInt Syntax.w8)) 2048) 2 tt) λ x k. Path'.refl) Path'.refl) (Typed.g-pre 𝓤 H A W 𝓣 E G62 G63 b15 Δ0 (λ Ψ. Ψ) at5 (Lifetime.g-forget 𝓤 H A W E G62 15 Row.dead Path'.refl) (Typed.g-pre 𝓤 H A W 𝓣 E G63 G64 b15 Δ0 (Typed.pass T62 T64 s62) at3 (Scalar.g-room 𝓤 H A W E G63 12 (Syntax.tyArray
-              ty·0 2) (Init.room-arr 𝓤 H A W (Array'.Array (Referent.rtF (Referent.fInt Syntax.w8)) 2048) 2 0 2 Path'.refl)) (Typed.g-pre 𝓤 H A W 𝓣 E G64 G65 b15 Δ0 (λ Ψ. Ψ) at3 (Lifetime.g-end 𝓤 H A W E G64 16 Path'.refl) d3)))
+          d7 = Typed.g-pre 𝓤 H A W 𝓣 E G61 G62 b15 Δ0 (Typed.pass T60 T62 s60) at5 (Local.g-back-shr 𝓤 H A W E G61 12 15 (Rows.arrF (Array'.Array (Referent.rtF (Referent.fInt Syntax.w8)) 4096) 2 0) (Array'.Array (Array'.Array (Referent.rtF (Referent.fInt Syntax.w8)) 4096) 2) (λ x. x) (λ x. x) (Reads.as-is 𝓤 H A (Rows'.sc-shr (Rows.arrF (Array'.Array
+              (Referent.rtF (Referent.fInt Syntax.w8)) 4096) 2 0) (Array'.Array (Array'.Array (Referent.rtF (Referent.fInt Syntax.w8)) 4096) 2) (λ x. x) 15)) (Local.home-of 𝓤 H A (Rows.arrF (Array'.Array (Referent.rtF (Referent.fInt Syntax.w8)) 4096) 2 0) (Array'.Array (Array'.Array (Referent.rtF (Referent.fInt Syntax.w8)) 4096) 2) (λ x. x) (λ x. x)
+              (Whole.arr-mem 𝓤 H A W (Array'.Array (Referent.rtF (Referent.fInt Syntax.w8)) 4096) 2 tt) λ x k. Path'.refl) Path'.refl) (Typed.g-pre 𝓤 H A W 𝓣 E G62 G63 b15 Δ0 (λ Ψ. Ψ) at5 (Lifetime.g-forget 𝓤 H A W E G62 15 Row.dead Path'.refl) (Typed.g-pre 𝓤 H A W 𝓣 E G63 G64 b15 Δ0 (Typed.pass T62 T64 s62) at3 (Scalar.g-room 𝓤 H A W E G63 12 (Syntax.tyArray
+              ty·0 2) (Init.room-arr 𝓤 H A W (Array'.Array (Referent.rtF (Referent.fInt Syntax.w8)) 4096) 2 0 2 Path'.refl)) (Typed.g-pre 𝓤 H A W 𝓣 E G64 G65 b15 Δ0 (λ Ψ. Ψ) at3 (Lifetime.g-end 𝓤 H A W E G64 16 Path'.refl) d3)))
 
           d11 : Typed.Typed 𝓤 H A 𝓣 E G57 b15 Δ0 at11
-          d11 = Typed.g-pre 𝓤 H A W 𝓣 E G57 G58 b15 Δ0 (Typed.pass T54 T58 s56) at9 (Local.g-back-shr 𝓤 H A W E G57 11 14 (Rows.arrF (Array'.Array (Referent.rtF (Referent.fInt Syntax.w16)) 2048) 2 0) (Array'.Array (Array'.Array (Referent.rtF (Referent.fInt Syntax.w16)) 2048) 2) (λ x. x) (λ x. x) (Reads.as-is 𝓤 H A (Rows'.sc-shr (Rows.arrF (Array'.Array
-              (Referent.rtF (Referent.fInt Syntax.w16)) 2048) 2 0) (Array'.Array (Array'.Array (Referent.rtF (Referent.fInt Syntax.w16)) 2048) 2) (λ x. x) 14)) (Local.home-of 𝓤 H A (Rows.arrF (Array'.Array (Referent.rtF (Referent.fInt Syntax.w16)) 2048) 2 0) (Array'.Array (Array'.Array (Referent.rtF (Referent.fInt Syntax.w16)) 2048) 2) (λ x. x) (λ x. x)
-              (Whole.arr-mem 𝓤 H A W (Array'.Array (Referent.rtF (Referent.fInt Syntax.w16)) 2048) 2 tt) λ x k. Path'.refl) Path'.refl) (Typed.g-pre 𝓤 H A W 𝓣 E G58 G59 b15 Δ0 (λ Ψ. Ψ) at9 (Lifetime.g-forget 𝓤 H A W E G58 14 Row.dead Path'.refl) (Typed.g-pre 𝓤 H A W 𝓣 E G59 G60 b15 Δ0 (Typed.pass T58 T60 s58) at7 (Scalar.g-room 𝓤 H A W E G59 11 (Syntax.tyArray
-              ty·1 2) (Init.room-arr 𝓤 H A W (Array'.Array (Referent.rtF (Referent.fInt Syntax.w16)) 2048) 2 0 2 Path'.refl)) (Typed.g-pre 𝓤 H A W 𝓣 E G60 G61 b15 Δ0 (λ Ψ. Ψ) at7 (Lifetime.g-end 𝓤 H A W E G60 15 Path'.refl) d7)))
+          d11 = Typed.g-pre 𝓤 H A W 𝓣 E G57 G58 b15 Δ0 (Typed.pass T54 T58 s56) at9 (Local.g-back-shr 𝓤 H A W E G57 11 14 (Rows.arrF (Array'.Array (Referent.rtF (Referent.fInt Syntax.w16)) 4096) 2 0) (Array'.Array (Array'.Array (Referent.rtF (Referent.fInt Syntax.w16)) 4096) 2) (λ x. x) (λ x. x) (Reads.as-is 𝓤 H A (Rows'.sc-shr (Rows.arrF (Array'.Array
+              (Referent.rtF (Referent.fInt Syntax.w16)) 4096) 2 0) (Array'.Array (Array'.Array (Referent.rtF (Referent.fInt Syntax.w16)) 4096) 2) (λ x. x) 14)) (Local.home-of 𝓤 H A (Rows.arrF (Array'.Array (Referent.rtF (Referent.fInt Syntax.w16)) 4096) 2 0) (Array'.Array (Array'.Array (Referent.rtF (Referent.fInt Syntax.w16)) 4096) 2) (λ x. x) (λ x. x)
+              (Whole.arr-mem 𝓤 H A W (Array'.Array (Referent.rtF (Referent.fInt Syntax.w16)) 4096) 2 tt) λ x k. Path'.refl) Path'.refl) (Typed.g-pre 𝓤 H A W 𝓣 E G58 G59 b15 Δ0 (λ Ψ. Ψ) at9 (Lifetime.g-forget 𝓤 H A W E G58 14 Row.dead Path'.refl) (Typed.g-pre 𝓤 H A W 𝓣 E G59 G60 b15 Δ0 (Typed.pass T58 T60 s58) at7 (Scalar.g-room 𝓤 H A W E G59 11 (Syntax.tyArray
+              ty·1 2) (Init.room-arr 𝓤 H A W (Array'.Array (Referent.rtF (Referent.fInt Syntax.w16)) 4096) 2 0 2 Path'.refl)) (Typed.g-pre 𝓤 H A W 𝓣 E G60 G61 b15 Δ0 (λ Ψ. Ψ) at7 (Lifetime.g-end 𝓤 H A W E G60 15 Path'.refl) d7)))
 
           d15 : Typed.Typed 𝓤 H A 𝓣 E G53 b15 Δ0 at15
           d15 = Typed.g-pre 𝓤 H A W 𝓣 E G53 G54 b15 Δ0 (Typed.both s52) at14 (Relend.g-back-sl 𝓤 H A W E (Referent.rtF (Referent.fInt Syntax.w8)) G53 21 1 0 13 ty·4 ty·3 (Row.lease (κs .0) (qs .0)) (λ x. x) (λ x. x) (Reads.as-is 𝓤 H A (Mut.msleft (Referent.rtF (Referent.fInt Syntax.w8)) ty·3)) (Reads.as-is 𝓤 H A (Relend.mslice-owed (Referent.rtF
@@ -1224,28 +1224,28 @@ module _ (claims· : Claims) where
               Syntax.w8)) ty·4 0)) Path'.refl tt) (Typed.g-pre 𝓤 H A W 𝓣 E G54 G56 b15 Δ0 (λ Ψ. Ψ) at11 (Lifetime.g-forget 𝓤 H A W E G54 13 Row.dead Path'.refl) (Typed.g-pre 𝓤 H A W 𝓣 E G56 G57 b15 Δ0 (λ Ψ. Ψ) at11 (Lifetime.g-end 𝓤 H A W E G56 14 Path'.refl) d11)))
 
           d19 : Typed.Typed 𝓤 H A 𝓣 E G49 b15 Δ0 at19
-          d19 = Typed.g-pre 𝓤 H A W 𝓣 E G49 G50 b15 Δ0 (Typed.pass T49 T50 s48) at18 (Local.g-drop-sref 𝓤 H A W E G49 23 15 (Array'.Array (Array'.Array (Referent.rtF (Referent.fInt Syntax.w8)) 2048) 2) (Syntax.tyRef Syntax.erased Syntax.imm (Syntax.tyArray ty·0 2)) (λ x. x) (Reads.as-is 𝓤 H A (Rows'.sref (Array'.Array (Array'.Array (Referent.rtF
-              (Referent.fInt Syntax.w8)) 2048) 2) (Syntax.tyRef Syntax.erased Syntax.imm (Syntax.tyArray ty·0 2)) 15))) (Typed.g-pre 𝓤 H A W 𝓣 E G50 G51 b15 Δ0 (Typed.pass T50 T51 s49) at17 (Local.g-drop-sref 𝓤 H A W E G50 24 16 (Array'.Array (Referent.rtF (Referent.fInt Syntax.w8)) 2048) (Syntax.tyRef Syntax.erased Syntax.imm ty·0) (λ x. x) (Reads.as-is 𝓤 H A
-              (Rows'.sref (Array'.Array (Referent.rtF (Referent.fInt Syntax.w8)) 2048) (Syntax.tyRef Syntax.erased Syntax.imm ty·0) 16))) (Typed.g-pre 𝓤 H A W 𝓣 E G51 G52 b15 Δ0 (Typed.pass T51 T52 s50) at15 (Scalar.g-room 𝓤 H A W E G51 14 (Syntax.tyInt Syntax.w64) (Scalar.room-sc 𝓤 H A W (Row.sInt Syntax.w64))) (Typed.g-pre 𝓤 H A W 𝓣 E G52 G53 b15 Δ0 (λ Ψ. Ψ)
+          d19 = Typed.g-pre 𝓤 H A W 𝓣 E G49 G50 b15 Δ0 (Typed.pass T49 T50 s48) at18 (Local.g-drop-sref 𝓤 H A W E G49 23 15 (Array'.Array (Array'.Array (Referent.rtF (Referent.fInt Syntax.w8)) 4096) 2) (Syntax.tyRef Syntax.erased Syntax.imm (Syntax.tyArray ty·0 2)) (λ x. x) (Reads.as-is 𝓤 H A (Rows'.sref (Array'.Array (Array'.Array (Referent.rtF
+              (Referent.fInt Syntax.w8)) 4096) 2) (Syntax.tyRef Syntax.erased Syntax.imm (Syntax.tyArray ty·0 2)) 15))) (Typed.g-pre 𝓤 H A W 𝓣 E G50 G51 b15 Δ0 (Typed.pass T50 T51 s49) at17 (Local.g-drop-sref 𝓤 H A W E G50 24 16 (Array'.Array (Referent.rtF (Referent.fInt Syntax.w8)) 4096) (Syntax.tyRef Syntax.erased Syntax.imm ty·0) (λ x. x) (Reads.as-is 𝓤 H A
+              (Rows'.sref (Array'.Array (Referent.rtF (Referent.fInt Syntax.w8)) 4096) (Syntax.tyRef Syntax.erased Syntax.imm ty·0) 16))) (Typed.g-pre 𝓤 H A W 𝓣 E G51 G52 b15 Δ0 (Typed.pass T51 T52 s50) at15 (Scalar.g-room 𝓤 H A W E G51 14 (Syntax.tyInt Syntax.w64) (Scalar.room-sc 𝓤 H A W (Row.sInt Syntax.w64))) (Typed.g-pre 𝓤 H A W 𝓣 E G52 G53 b15 Δ0 (λ Ψ. Ψ)
               at15 (Lifetime.g-end 𝓤 H A W E G52 13 Path'.refl) d15)))
 
           d21 : Typed.Typed 𝓤 H A 𝓣 E G47 b16 Δ0 at21
           d21 = Typed.s-seq 𝓤 H A W 𝓣 E G47 G48 b14 b15 Δ0 (Typed.both s46) at20 (Plain.t-call-plain 𝓤 H A W 𝓣 12 ps·1 r·1 (claims· .2) (claims· .3) "conductor::over::write_plan" (known .1) E (λ pos β. β) G47
               (record { pos = 21; ty = ty·3; ref = λ x. x }, (record { pos = 2; ty = ty·7; ref = λ x. x }, (record { pos = 3; ty = ty·8; ref = λ x. x }, (record { pos = 4; ty = ty·5; ref = λ x. x }, (record { pos = 5; ty = ty·9; ref = λ x. x }, (record { pos = 6; ty = ty·10; ref = λ x. x }, (record { pos = 7; ty = ty·11; ref = λ x. x }, (record { pos = 8; ty = ty·12; ref = λ x. x }, (record { pos = 9; ty = ty·6; ref = λ x. x }, (record { pos = 22; ty = Syntax.tyRef Syntax.erased Syntax.imm (Syntax.tyArray ty·1 2); ref = λ x. x }, (record { pos = 23; ty = Syntax.tyRef Syntax.erased Syntax.imm (Syntax.tyArray ty·0 2); ref = λ x. x }, (record { pos = 24; ty = Syntax.tyRef Syntax.erased Syntax.imm ty·0; ref = λ x. x }, (Num.vAt 14 λ x. x, tt)))))))))))))
               0 (List._∷_ 13 (List._∷_ 1 (List._∷_ 2 (List._∷_ 3 (List._∷_ 4 (List._∷_ 5 (List._∷_ 6 (List._∷_ 7 (List._∷_ 8 (List._∷_ 14 (List._∷_ 15 (List._∷_ 16 List.[])))))))))))) (Call.sub-id 𝓤 H A W (G47 .slots))
-              (Reads.as-is 𝓤 H A (Mut.mslice (Referent.rtF (Referent.fInt Syntax.w8)) ty·3 13), Mut.reads-mslice 𝓤 H A W (Referent.rtF (Referent.fInt Syntax.w8)) ty·3 13, Path'.refl, (ShrSlice.spares-sslice 𝓤 H A W (Referent.rtF (Referent.fInt Syntax.w16)) ty·7 1, Shared.reads-sslice 𝓤 H A W (Referent.rtF (Referent.fInt Syntax.w16)) ty·7 1, Path'.refl, (ShrSlice.spares-sslice 𝓤 H A W (Referent.rtF (Referent.fInt Syntax.w16)) ty·8 2, Shared.reads-sslice 𝓤 H A W (Referent.rtF (Referent.fInt Syntax.w16)) ty·8 2, Path'.refl, (ShrSlice.spares-sslice 𝓤 H A W (Referent.rtF (Referent.fInt Syntax.w8)) ty·5 3, Shared.reads-sslice 𝓤 H A W (Referent.rtF (Referent.fInt Syntax.w8)) ty·5 3, Path'.refl, (ShrSlice.spares-sslice 𝓤 H A W (Referent.rtF (Referent.fInt Syntax.w16)) ty·9 4, Shared.reads-sslice 𝓤 H A W (Referent.rtF (Referent.fInt Syntax.w16)) ty·9 4, Path'.refl, (ShrSlice.spares-sslice 𝓤 H A W (Referent.rtF (Referent.fInt Syntax.w16)) ty·10 5, Shared.reads-sslice 𝓤 H A W (Referent.rtF (Referent.fInt Syntax.w16)) ty·10 5, Path'.refl, (ShrSlice.spares-sslice 𝓤 H A W (Referent.rtF (Referent.fInt Syntax.w32)) ty·11 6, Shared.reads-sslice 𝓤 H A W (Referent.rtF (Referent.fInt Syntax.w32)) ty·11 6, Path'.refl, (ShrSlice.spares-sslice 𝓤 H A W (Referent.rtF (Referent.fInt Syntax.w16)) ty·12 7, Shared.reads-sslice 𝓤 H A W (Referent.rtF (Referent.fInt Syntax.w16)) ty·12 7, Path'.refl, (ShrSlice.spares-sslice 𝓤 H A W (Referent.rtF (Referent.fInt Syntax.w8)) ty·6 8, Shared.reads-sslice 𝓤 H A W (Referent.rtF (Referent.fInt Syntax.w8)) ty·6 8, Path'.refl, (ShrRef.spares-sref 𝓤 H A W (Array'.Array (Array'.Array (Referent.rtF (Referent.fInt Syntax.w16)) 2048) 2) (Syntax.tyRef Syntax.erased Syntax.imm (Syntax.tyArray ty·1 2)) 14, Reads.reads-sref 𝓤 H A W (Array'.Array (Array'.Array (Referent.rtF (Referent.fInt Syntax.w16)) 2048) 2) (Syntax.tyRef Syntax.erased Syntax.imm (Syntax.tyArray ty·1 2)) 14, Path'.refl, (ShrRef.spares-sref 𝓤 H A W (Array'.Array (Array'.Array (Referent.rtF (Referent.fInt Syntax.w8)) 2048) 2) (Syntax.tyRef Syntax.erased Syntax.imm (Syntax.tyArray ty·0 2)) 15, Reads.reads-sref 𝓤 H A W (Array'.Array (Array'.Array (Referent.rtF (Referent.fInt Syntax.w8)) 2048) 2) (Syntax.tyRef Syntax.erased Syntax.imm (Syntax.tyArray ty·0 2)) 15, Path'.refl, (ShrRef.spares-sref 𝓤 H A W (Array'.Array (Referent.rtF (Referent.fInt Syntax.w8)) 2048) (Syntax.tyRef Syntax.erased Syntax.imm ty·0) 16, Reads.reads-sref 𝓤 H A W (Array'.Array (Referent.rtF (Referent.fInt Syntax.w8)) 2048) (Syntax.tyRef Syntax.erased Syntax.imm ty·0) 16, Path'.refl, ((Scalar.reads-sc 𝓤 H A W (Row.sInt Syntax.w64), Path'.refl), tt)))))))))))))
-              (Reads.room-gone 𝓤 H A ty·13) (tt, (tt, (tt, (tt, (tt, (tt, (tt, (tt, (tt, (tt, (tt, (tt, tt)))))))))))) Path'.refl) (Typed.g-pre 𝓤 H A W 𝓣 E G48 G49 b15 Δ0 (Typed.pass T48 T49 s47) at19 (Local.g-drop-sref 𝓤 H A W E G48 22 14 (Array'.Array (Array'.Array (Referent.rtF (Referent.fInt Syntax.w16)) 2048) 2) (Syntax.tyRef Syntax.erased Syntax.imm
-              (Syntax.tyArray ty·1 2)) (λ x. x) (Reads.as-is 𝓤 H A (Rows'.sref (Array'.Array (Array'.Array (Referent.rtF (Referent.fInt Syntax.w16)) 2048) 2) (Syntax.tyRef Syntax.erased Syntax.imm (Syntax.tyArray ty·1 2)) 14))) d19)
+              (Reads.as-is 𝓤 H A (Mut.mslice (Referent.rtF (Referent.fInt Syntax.w8)) ty·3 13), Mut.reads-mslice 𝓤 H A W (Referent.rtF (Referent.fInt Syntax.w8)) ty·3 13, Path'.refl, (ShrSlice.spares-sslice 𝓤 H A W (Referent.rtF (Referent.fInt Syntax.w16)) ty·7 1, Shared.reads-sslice 𝓤 H A W (Referent.rtF (Referent.fInt Syntax.w16)) ty·7 1, Path'.refl, (ShrSlice.spares-sslice 𝓤 H A W (Referent.rtF (Referent.fInt Syntax.w16)) ty·8 2, Shared.reads-sslice 𝓤 H A W (Referent.rtF (Referent.fInt Syntax.w16)) ty·8 2, Path'.refl, (ShrSlice.spares-sslice 𝓤 H A W (Referent.rtF (Referent.fInt Syntax.w8)) ty·5 3, Shared.reads-sslice 𝓤 H A W (Referent.rtF (Referent.fInt Syntax.w8)) ty·5 3, Path'.refl, (ShrSlice.spares-sslice 𝓤 H A W (Referent.rtF (Referent.fInt Syntax.w16)) ty·9 4, Shared.reads-sslice 𝓤 H A W (Referent.rtF (Referent.fInt Syntax.w16)) ty·9 4, Path'.refl, (ShrSlice.spares-sslice 𝓤 H A W (Referent.rtF (Referent.fInt Syntax.w16)) ty·10 5, Shared.reads-sslice 𝓤 H A W (Referent.rtF (Referent.fInt Syntax.w16)) ty·10 5, Path'.refl, (ShrSlice.spares-sslice 𝓤 H A W (Referent.rtF (Referent.fInt Syntax.w32)) ty·11 6, Shared.reads-sslice 𝓤 H A W (Referent.rtF (Referent.fInt Syntax.w32)) ty·11 6, Path'.refl, (ShrSlice.spares-sslice 𝓤 H A W (Referent.rtF (Referent.fInt Syntax.w16)) ty·12 7, Shared.reads-sslice 𝓤 H A W (Referent.rtF (Referent.fInt Syntax.w16)) ty·12 7, Path'.refl, (ShrSlice.spares-sslice 𝓤 H A W (Referent.rtF (Referent.fInt Syntax.w8)) ty·6 8, Shared.reads-sslice 𝓤 H A W (Referent.rtF (Referent.fInt Syntax.w8)) ty·6 8, Path'.refl, (ShrRef.spares-sref 𝓤 H A W (Array'.Array (Array'.Array (Referent.rtF (Referent.fInt Syntax.w16)) 4096) 2) (Syntax.tyRef Syntax.erased Syntax.imm (Syntax.tyArray ty·1 2)) 14, Reads.reads-sref 𝓤 H A W (Array'.Array (Array'.Array (Referent.rtF (Referent.fInt Syntax.w16)) 4096) 2) (Syntax.tyRef Syntax.erased Syntax.imm (Syntax.tyArray ty·1 2)) 14, Path'.refl, (ShrRef.spares-sref 𝓤 H A W (Array'.Array (Array'.Array (Referent.rtF (Referent.fInt Syntax.w8)) 4096) 2) (Syntax.tyRef Syntax.erased Syntax.imm (Syntax.tyArray ty·0 2)) 15, Reads.reads-sref 𝓤 H A W (Array'.Array (Array'.Array (Referent.rtF (Referent.fInt Syntax.w8)) 4096) 2) (Syntax.tyRef Syntax.erased Syntax.imm (Syntax.tyArray ty·0 2)) 15, Path'.refl, (ShrRef.spares-sref 𝓤 H A W (Array'.Array (Referent.rtF (Referent.fInt Syntax.w8)) 4096) (Syntax.tyRef Syntax.erased Syntax.imm ty·0) 16, Reads.reads-sref 𝓤 H A W (Array'.Array (Referent.rtF (Referent.fInt Syntax.w8)) 4096) (Syntax.tyRef Syntax.erased Syntax.imm ty·0) 16, Path'.refl, ((Scalar.reads-sc 𝓤 H A W (Row.sInt Syntax.w64), Path'.refl), tt)))))))))))))
+              (Reads.room-gone 𝓤 H A ty·13) (tt, (tt, (tt, (tt, (tt, (tt, (tt, (tt, (tt, (tt, (tt, (tt, tt)))))))))))) Path'.refl) (Typed.g-pre 𝓤 H A W 𝓣 E G48 G49 b15 Δ0 (Typed.pass T48 T49 s47) at19 (Local.g-drop-sref 𝓤 H A W E G48 22 14 (Array'.Array (Array'.Array (Referent.rtF (Referent.fInt Syntax.w16)) 4096) 2) (Syntax.tyRef Syntax.erased Syntax.imm
+              (Syntax.tyArray ty·1 2)) (λ x. x) (Reads.as-is 𝓤 H A (Rows'.sref (Array'.Array (Array'.Array (Referent.rtF (Referent.fInt Syntax.w16)) 4096) 2) (Syntax.tyRef Syntax.erased Syntax.imm (Syntax.tyArray ty·1 2)) 14))) d19)
 
           d24 : Typed.Typed 𝓤 H A 𝓣 E G44 b18 Δ0 at24
-          d24 = Typed.s-seq 𝓤 H A W 𝓣 E G44 G45 b12 b17 Δ0 (Typed.give s43) at22 (Local.t-sc-share 𝓤 H A W E 𝓣 G44 12 23 15 (Array'.Array (Array'.Array (Referent.rtF (Referent.fInt Syntax.w8)) 2048) 2) (Syntax.tyRef Syntax.erased Syntax.imm (Syntax.tyArray ty·0 2)) (λ x. x) (Whole.mem-arr 𝓤 H A W (Array'.Array (Referent.rtF (Referent.fInt Syntax.w8)) 2048)
+          d24 = Typed.s-seq 𝓤 H A W 𝓣 E G44 G45 b12 b17 Δ0 (Typed.give s43) at22 (Local.t-sc-share 𝓤 H A W E 𝓣 G44 12 23 15 (Array'.Array (Array'.Array (Referent.rtF (Referent.fInt Syntax.w8)) 4096) 2) (Syntax.tyRef Syntax.erased Syntax.imm (Syntax.tyArray ty·0 2)) (λ x. x) (Whole.mem-arr 𝓤 H A W (Array'.Array (Referent.rtF (Referent.fInt Syntax.w8)) 4096)
               2) (Reads.room-gone 𝓤 H A (Syntax.tyRef Syntax.erased Syntax.imm (Syntax.tyArray ty·0 2))) Path'.refl λ b o. tt) (Typed.g-pre 𝓤 H A W 𝓣 E G45 G46 b17 Δ0 (λ Ψ. Ψ) at22 (Lifetime.g-begin 𝓤 H A W E G45 16
-              (tt, ((tt, tt), (tt, (tt, (tt, (tt, (tt, (tt, (tt, (tt, (tt, (tt, (tt, (tt, (tt, (tt, (tt, (tt, (tt, (tt, (tt, (tt, (tt, (tt, (tt, tt)))))))))))))))))))))))))) (Typed.s-seq 𝓤 H A W 𝓣 E G46 G47 b13 b16 Δ0 (Typed.give s45) at21 (Local.t-sc-share 𝓤 H A W E 𝓣 G46 13 24 16 (Array'.Array (Referent.rtF (Referent.fInt Syntax.w8)) 2048) (Syntax.tyRef
-              Syntax.erased Syntax.imm ty·0) (λ x. x) (Whole.mem-arr 𝓤 H A W (Referent.rtF (Referent.fInt Syntax.w8)) 2048) (Reads.room-gone 𝓤 H A (Syntax.tyRef Syntax.erased Syntax.imm ty·0)) Path'.refl λ b o. tt) d21))
+              (tt, ((tt, tt), (tt, (tt, (tt, (tt, (tt, (tt, (tt, (tt, (tt, (tt, (tt, (tt, (tt, (tt, (tt, (tt, (tt, (tt, (tt, (tt, (tt, (tt, (tt, tt)))))))))))))))))))))))))) (Typed.s-seq 𝓤 H A W 𝓣 E G46 G47 b13 b16 Δ0 (Typed.give s45) at21 (Local.t-sc-share 𝓤 H A W E 𝓣 G46 13 24 16 (Array'.Array (Referent.rtF (Referent.fInt Syntax.w8)) 4096) (Syntax.tyRef
+              Syntax.erased Syntax.imm ty·0) (λ x. x) (Whole.mem-arr 𝓤 H A W (Referent.rtF (Referent.fInt Syntax.w8)) 4096) (Reads.room-gone 𝓤 H A (Syntax.tyRef Syntax.erased Syntax.imm ty·0)) Path'.refl λ b o. tt) d21))
 
           d27 : Typed.Typed 𝓤 H A 𝓣 E G41 b19 Δ0 at26
           d27 = Typed.g-pre 𝓤 H A W 𝓣 E G41 G42 b19 Δ0 (λ Ψ. Ψ) at26 (Lifetime.g-begin 𝓤 H A W E G41 14 (tt, ((tt, tt), (tt, (tt, (tt, (tt, (tt, (tt, (tt, (tt, (tt, (tt, (tt, (tt, (tt, (tt, (tt, (tt, (tt, (tt, (tt, (tt, (tt, (tt, (tt, tt)))))))))))))))))))))))))) (Typed.s-seq 𝓤 H A W 𝓣 E G42 G43 b11 b18 Δ0 (Typed.give s41) at24 (Local.t-sc-share 𝓤 H A W E 𝓣
-              G42 11 22 14 (Array'.Array (Array'.Array (Referent.rtF (Referent.fInt Syntax.w16)) 2048) 2) (Syntax.tyRef Syntax.erased Syntax.imm (Syntax.tyArray ty·1 2)) (λ x. x) (Whole.mem-arr 𝓤 H A W (Array'.Array (Referent.rtF (Referent.fInt Syntax.w16)) 2048) 2) (Reads.room-gone 𝓤 H A (Syntax.tyRef Syntax.erased Syntax.imm (Syntax.tyArray ty·1 2)))
+              G42 11 22 14 (Array'.Array (Array'.Array (Referent.rtF (Referent.fInt Syntax.w16)) 4096) 2) (Syntax.tyRef Syntax.erased Syntax.imm (Syntax.tyArray ty·1 2)) (λ x. x) (Whole.mem-arr 𝓤 H A W (Array'.Array (Referent.rtF (Referent.fInt Syntax.w16)) 4096) 2) (Reads.room-gone 𝓤 H A (Syntax.tyRef Syntax.erased Syntax.imm (Syntax.tyArray ty·1 2)))
               Path'.refl λ b o. tt) (Typed.g-pre 𝓤 H A W 𝓣 E G43 G44 b18 Δ0 (λ Ψ. Ψ) at24 (Lifetime.g-begin 𝓤 H A W E G43 15 (tt, ((tt, tt), (tt, (tt, (tt, (tt, (tt, (tt, (tt, (tt, (tt, (tt, (tt, (tt, (tt, (tt, (tt, (tt, (tt, (tt, (tt, (tt, (tt, (tt, (tt, tt)))))))))))))))))))))))))) d24))
 
           d29 : Typed.Typed 𝓤 H A 𝓣 E G39 b21 Δ0 at29
@@ -1255,67 +1255,67 @@ module _ (claims· : Claims) where
               (Relend.reads-owed-len 𝓤 H A W (Referent.rtF (Referent.fInt Syntax.w8)) ty·4 0 13 (Row.lease (κs .0) (qs .0)) 8 Path'.refl, Path'.refl) Path'.refl Path'.refl λ b o k. tt) d27)
 
           d32 : Typed.Typed 𝓤 H A 𝓣 E G36 b21 Δ0 at32
-          d32 = Typed.g-pre 𝓤 H A W 𝓣 E G36 G37 b21 Δ0 (Typed.ask s35) at29 (Local.g-back-sc 𝓤 H A W E G36 19 13 12 (Array'.Array (Referent.rtF (Referent.fInt Syntax.w8)) 2048) (Syntax.tyRef Syntax.erased Syntax.mut ty·0) (Rows.arrF (Referent.rtF (Referent.fInt Syntax.w8)) 2048 0) (λ x. x) (λ x. x) (λ x. x) (Reads.as-is 𝓤 H A (Rows'.mleft (Array'.Array
-              (Referent.rtF (Referent.fInt Syntax.w8)) 2048) (Syntax.tyRef Syntax.erased Syntax.mut ty·0))) (Reads.as-is 𝓤 H A (Rows'.sc-owed (Array'.Array (Referent.rtF (Referent.fInt Syntax.w8)) 2048) 12)) (Whole.arr-mem 𝓤 H A W (Referent.rtF (Referent.fInt Syntax.w8)) 2048 tt) Path'.refl) (Typed.g-pre 𝓤 H A W 𝓣 E G37 G38 b21 Δ0 (λ Ψ. Ψ) at29
+          d32 = Typed.g-pre 𝓤 H A W 𝓣 E G36 G37 b21 Δ0 (Typed.ask s35) at29 (Local.g-back-sc 𝓤 H A W E G36 19 13 12 (Array'.Array (Referent.rtF (Referent.fInt Syntax.w8)) 4096) (Syntax.tyRef Syntax.erased Syntax.mut ty·0) (Rows.arrF (Referent.rtF (Referent.fInt Syntax.w8)) 4096 0) (λ x. x) (λ x. x) (λ x. x) (Reads.as-is 𝓤 H A (Rows'.mleft (Array'.Array
+              (Referent.rtF (Referent.fInt Syntax.w8)) 4096) (Syntax.tyRef Syntax.erased Syntax.mut ty·0))) (Reads.as-is 𝓤 H A (Rows'.sc-owed (Array'.Array (Referent.rtF (Referent.fInt Syntax.w8)) 4096) 12)) (Whole.arr-mem 𝓤 H A W (Referent.rtF (Referent.fInt Syntax.w8)) 4096 tt) Path'.refl) (Typed.g-pre 𝓤 H A W 𝓣 E G37 G38 b21 Δ0 (λ Ψ. Ψ) at29
               (Lifetime.g-forget 𝓤 H A W E G37 12 Row.dead Path'.refl) (Typed.g-pre 𝓤 H A W 𝓣 E G38 G39 b21 Δ0 (λ Ψ. Ψ) at29 (Lifetime.g-begin 𝓤 H A W E G38 13 (tt, (tt, (tt, (tt, (tt, (tt, (tt, (tt, (tt, (tt, (tt, (tt, (tt, (tt, (tt, (tt, (tt, (tt, (tt, (tt, (tt, (tt, (tt, (tt, (tt, tt)))))))))))))))))))))))))) d29))
 
           d35 : Typed.Typed 𝓤 H A 𝓣 E G33 b21 Δ0 at35
-          d35 = Typed.g-pre 𝓤 H A W 𝓣 E G33 G34 b21 Δ0 (Typed.ask s32) at32 (Local.g-back-sc 𝓤 H A W E G33 18 12 11 (Array'.Array (Array'.Array (Referent.rtF (Referent.fInt Syntax.w8)) 2048) 2) (Syntax.tyRef Syntax.erased Syntax.mut (Syntax.tyArray ty·0 2)) (Rows.arrF (Array'.Array (Referent.rtF (Referent.fInt Syntax.w8)) 2048) 2 0) (λ x. x) (λ x. x) (λ x.
-              x) (Reads.as-is 𝓤 H A (Rows'.mleft (Array'.Array (Array'.Array (Referent.rtF (Referent.fInt Syntax.w8)) 2048) 2) (Syntax.tyRef Syntax.erased Syntax.mut (Syntax.tyArray ty·0 2)))) (Reads.as-is 𝓤 H A (Rows'.sc-owed (Array'.Array (Array'.Array (Referent.rtF (Referent.fInt Syntax.w8)) 2048) 2) 11)) (Whole.arr-mem 𝓤 H A W (Array'.Array (Referent.rtF
-              (Referent.fInt Syntax.w8)) 2048) 2 tt) Path'.refl) (Typed.g-pre 𝓤 H A W 𝓣 E G34 G35 b21 Δ0 (λ Ψ. Ψ) at32 (Lifetime.g-forget 𝓤 H A W E G34 11 Row.dead Path'.refl) (Typed.g-pre 𝓤 H A W 𝓣 E G35 G36 b21 Δ0 (λ Ψ. Ψ) at32 (Lifetime.g-end 𝓤 H A W E G35 12 Path'.refl) d32))
+          d35 = Typed.g-pre 𝓤 H A W 𝓣 E G33 G34 b21 Δ0 (Typed.ask s32) at32 (Local.g-back-sc 𝓤 H A W E G33 18 12 11 (Array'.Array (Array'.Array (Referent.rtF (Referent.fInt Syntax.w8)) 4096) 2) (Syntax.tyRef Syntax.erased Syntax.mut (Syntax.tyArray ty·0 2)) (Rows.arrF (Array'.Array (Referent.rtF (Referent.fInt Syntax.w8)) 4096) 2 0) (λ x. x) (λ x. x) (λ x.
+              x) (Reads.as-is 𝓤 H A (Rows'.mleft (Array'.Array (Array'.Array (Referent.rtF (Referent.fInt Syntax.w8)) 4096) 2) (Syntax.tyRef Syntax.erased Syntax.mut (Syntax.tyArray ty·0 2)))) (Reads.as-is 𝓤 H A (Rows'.sc-owed (Array'.Array (Array'.Array (Referent.rtF (Referent.fInt Syntax.w8)) 4096) 2) 11)) (Whole.arr-mem 𝓤 H A W (Array'.Array (Referent.rtF
+              (Referent.fInt Syntax.w8)) 4096) 2 tt) Path'.refl) (Typed.g-pre 𝓤 H A W 𝓣 E G34 G35 b21 Δ0 (λ Ψ. Ψ) at32 (Lifetime.g-forget 𝓤 H A W E G34 11 Row.dead Path'.refl) (Typed.g-pre 𝓤 H A W 𝓣 E G35 G36 b21 Δ0 (λ Ψ. Ψ) at32 (Lifetime.g-end 𝓤 H A W E G35 12 Path'.refl) d32))
 
           d38 : Typed.Typed 𝓤 H A 𝓣 E G30 b21 Δ0 at38
-          d38 = Typed.g-pre 𝓤 H A W 𝓣 E G30 G31 b21 Δ0 (Typed.ask s29) at35 (Local.g-back-sc 𝓤 H A W E G30 17 11 10 (Array'.Array (Array'.Array (Referent.rtF (Referent.fInt Syntax.w16)) 2048) 2) (Syntax.tyRef Syntax.erased Syntax.mut (Syntax.tyArray ty·1 2)) (Rows.arrF (Array'.Array (Referent.rtF (Referent.fInt Syntax.w16)) 2048) 2 0) (λ x. x) (λ x. x) (λ x.
-              x) (Reads.as-is 𝓤 H A (Rows'.mleft (Array'.Array (Array'.Array (Referent.rtF (Referent.fInt Syntax.w16)) 2048) 2) (Syntax.tyRef Syntax.erased Syntax.mut (Syntax.tyArray ty·1 2)))) (Reads.as-is 𝓤 H A (Rows'.sc-owed (Array'.Array (Array'.Array (Referent.rtF (Referent.fInt Syntax.w16)) 2048) 2) 10)) (Whole.arr-mem 𝓤 H A W (Array'.Array (Referent.rtF
-              (Referent.fInt Syntax.w16)) 2048) 2 tt) Path'.refl) (Typed.g-pre 𝓤 H A W 𝓣 E G31 G32 b21 Δ0 (λ Ψ. Ψ) at35 (Lifetime.g-forget 𝓤 H A W E G31 10 Row.dead Path'.refl) (Typed.g-pre 𝓤 H A W 𝓣 E G32 G33 b21 Δ0 (λ Ψ. Ψ) at35 (Lifetime.g-end 𝓤 H A W E G32 11 Path'.refl) d35))
+          d38 = Typed.g-pre 𝓤 H A W 𝓣 E G30 G31 b21 Δ0 (Typed.ask s29) at35 (Local.g-back-sc 𝓤 H A W E G30 17 11 10 (Array'.Array (Array'.Array (Referent.rtF (Referent.fInt Syntax.w16)) 4096) 2) (Syntax.tyRef Syntax.erased Syntax.mut (Syntax.tyArray ty·1 2)) (Rows.arrF (Array'.Array (Referent.rtF (Referent.fInt Syntax.w16)) 4096) 2 0) (λ x. x) (λ x. x) (λ x.
+              x) (Reads.as-is 𝓤 H A (Rows'.mleft (Array'.Array (Array'.Array (Referent.rtF (Referent.fInt Syntax.w16)) 4096) 2) (Syntax.tyRef Syntax.erased Syntax.mut (Syntax.tyArray ty·1 2)))) (Reads.as-is 𝓤 H A (Rows'.sc-owed (Array'.Array (Array'.Array (Referent.rtF (Referent.fInt Syntax.w16)) 4096) 2) 10)) (Whole.arr-mem 𝓤 H A W (Array'.Array (Referent.rtF
+              (Referent.fInt Syntax.w16)) 4096) 2 tt) Path'.refl) (Typed.g-pre 𝓤 H A W 𝓣 E G31 G32 b21 Δ0 (λ Ψ. Ψ) at35 (Lifetime.g-forget 𝓤 H A W E G31 10 Row.dead Path'.refl) (Typed.g-pre 𝓤 H A W 𝓣 E G32 G33 b21 Δ0 (λ Ψ. Ψ) at35 (Lifetime.g-end 𝓤 H A W E G32 11 Path'.refl) d35))
 
           d40 : Typed.Typed 𝓤 H A 𝓣 E G28 b22 Δ0 at40
           d40 = Typed.s-seq 𝓤 H A W 𝓣 E G28 G29 b8 b21 Δ0 (Typed.both s27) at38 (Plain.t-call-plain 𝓤 H A W 𝓣 5 ps·0 r·0 (claims· .0) (claims· .1) "records::lent::spread" (known .0) E (λ pos β. β) G28 args·0 14 (List._∷_ 2 (List._∷_ 9 (List._∷_ 10 (List._∷_ 11 (List._∷_ 12 List.[]))))) (Call.sub-id 𝓤 H A W (G28 .slots))
-              (ShrSlice.spares-sslice 𝓤 H A W (Referent.rtF (Referent.fInt Syntax.w16)) ty·8 2, Shared.reads-sslice 𝓤 H A W (Referent.rtF (Referent.fInt Syntax.w16)) ty·8 2, Path'.refl, (ShrSlice.spares-sslice 𝓤 H A W Rec.rt ty·2 9, Shared.reads-sslice 𝓤 H A W Rec.rt ty·2 9, Path'.refl, (Reads.as-is 𝓤 H A (Rows'.mref (Array'.Array (Array'.Array (Referent.rtF (Referent.fInt Syntax.w16)) 2048) 2) (Syntax.tyRef Syntax.erased Syntax.mut (Syntax.tyArray ty·1 2)) 10), Reads.reads-mref 𝓤 H A W (Array'.Array (Array'.Array (Referent.rtF (Referent.fInt Syntax.w16)) 2048) 2) (Syntax.tyRef Syntax.erased Syntax.mut (Syntax.tyArray ty·1 2)) 10, Path'.refl, (Reads.as-is 𝓤 H A (Rows'.mref (Array'.Array (Array'.Array (Referent.rtF (Referent.fInt Syntax.w8)) 2048) 2) (Syntax.tyRef Syntax.erased Syntax.mut (Syntax.tyArray ty·0 2)) 11), Reads.reads-mref 𝓤 H A W (Array'.Array (Array'.Array (Referent.rtF (Referent.fInt Syntax.w8)) 2048) 2) (Syntax.tyRef Syntax.erased Syntax.mut (Syntax.tyArray ty·0 2)) 11, Path'.refl, (Reads.as-is 𝓤 H A (Rows'.mref (Array'.Array (Referent.rtF (Referent.fInt Syntax.w8)) 2048) (Syntax.tyRef Syntax.erased Syntax.mut ty·0) 12), Reads.reads-mref 𝓤 H A W (Array'.Array (Referent.rtF (Referent.fInt Syntax.w8)) 2048) (Syntax.tyRef Syntax.erased Syntax.mut ty·0) 12, Path'.refl, tt)))))
+              (ShrSlice.spares-sslice 𝓤 H A W (Referent.rtF (Referent.fInt Syntax.w16)) ty·8 2, Shared.reads-sslice 𝓤 H A W (Referent.rtF (Referent.fInt Syntax.w16)) ty·8 2, Path'.refl, (ShrSlice.spares-sslice 𝓤 H A W Rec.rt ty·2 9, Shared.reads-sslice 𝓤 H A W Rec.rt ty·2 9, Path'.refl, (Reads.as-is 𝓤 H A (Rows'.mref (Array'.Array (Array'.Array (Referent.rtF (Referent.fInt Syntax.w16)) 4096) 2) (Syntax.tyRef Syntax.erased Syntax.mut (Syntax.tyArray ty·1 2)) 10), Reads.reads-mref 𝓤 H A W (Array'.Array (Array'.Array (Referent.rtF (Referent.fInt Syntax.w16)) 4096) 2) (Syntax.tyRef Syntax.erased Syntax.mut (Syntax.tyArray ty·1 2)) 10, Path'.refl, (Reads.as-is 𝓤 H A (Rows'.mref (Array'.Array (Array'.Array (Referent.rtF (Referent.fInt Syntax.w8)) 4096) 2) (Syntax.tyRef Syntax.erased Syntax.mut (Syntax.tyArray ty·0 2)) 11), Reads.reads-mref 𝓤 H A W (Array'.Array (Array'.Array (Referent.rtF (Referent.fInt Syntax.w8)) 4096) 2) (Syntax.tyRef Syntax.erased Syntax.mut (Syntax.tyArray ty·0 2)) 11, Path'.refl, (Reads.as-is 𝓤 H A (Rows'.mref (Array'.Array (Referent.rtF (Referent.fInt Syntax.w8)) 4096) (Syntax.tyRef Syntax.erased Syntax.mut ty·0) 12), Reads.reads-mref 𝓤 H A W (Array'.Array (Referent.rtF (Referent.fInt Syntax.w8)) 4096) (Syntax.tyRef Syntax.erased Syntax.mut ty·0) 12, Path'.refl, tt)))))
               (Reads.room-gone 𝓤 H A (Syntax.tyInt Syntax.w64)) (tt, (tt, (tt, (tt, (tt, tt))))) Path'.refl) (Typed.g-pre 𝓤 H A W 𝓣 E G29 G30 b21 Δ0 (λ Ψ. Ψ) at38 (Lifetime.g-end 𝓤 H A W E G29 10 Path'.refl) d38)
 
           d43 : Typed.Typed 𝓤 H A 𝓣 E G25 b24 Δ0 at43
-          d43 = Typed.s-seq 𝓤 H A W 𝓣 E G25 G26 b6 b23 Δ0 (Typed.give s24) at41 (Local.t-sc-borrow 𝓤 H A W E 𝓣 G25 12 18 11 (Array'.Array (Array'.Array (Referent.rtF (Referent.fInt Syntax.w8)) 2048) 2) (Syntax.tyRef Syntax.erased Syntax.mut (Syntax.tyArray ty·0 2)) (λ x. x) (Whole.mem-arr 𝓤 H A W (Array'.Array (Referent.rtF (Referent.fInt Syntax.w8)) 2048)
+          d43 = Typed.s-seq 𝓤 H A W 𝓣 E G25 G26 b6 b23 Δ0 (Typed.give s24) at41 (Local.t-sc-borrow 𝓤 H A W E 𝓣 G25 12 18 11 (Array'.Array (Array'.Array (Referent.rtF (Referent.fInt Syntax.w8)) 4096) 2) (Syntax.tyRef Syntax.erased Syntax.mut (Syntax.tyArray ty·0 2)) (λ x. x) (Whole.mem-arr 𝓤 H A W (Array'.Array (Referent.rtF (Referent.fInt Syntax.w8)) 4096)
               2) (Reads.room-gone 𝓤 H A (Syntax.tyRef Syntax.erased Syntax.mut (Syntax.tyArray ty·0 2))) Path'.refl λ b o. tt) (Typed.g-pre 𝓤 H A W 𝓣 E G26 G27 b23 Δ0 (λ Ψ. Ψ) at41 (Lifetime.g-begin 𝓤 H A W E G26 12
-              (tt, (tt, (tt, (tt, (tt, (tt, (tt, (tt, (tt, (tt, (tt, (tt, (tt, (tt, (tt, (tt, (tt, (tt, (tt, (tt, (tt, (tt, (tt, (tt, (tt, tt)))))))))))))))))))))))))) (Typed.s-seq 𝓤 H A W 𝓣 E G27 G28 b7 b22 Δ0 (Typed.give s26) at40 (Local.t-sc-borrow 𝓤 H A W E 𝓣 G27 13 19 12 (Array'.Array (Referent.rtF (Referent.fInt Syntax.w8)) 2048) (Syntax.tyRef
-              Syntax.erased Syntax.mut ty·0) (λ x. x) (Whole.mem-arr 𝓤 H A W (Referent.rtF (Referent.fInt Syntax.w8)) 2048) (Reads.room-gone 𝓤 H A (Syntax.tyRef Syntax.erased Syntax.mut ty·0)) Path'.refl λ b o. tt) d40))
+              (tt, (tt, (tt, (tt, (tt, (tt, (tt, (tt, (tt, (tt, (tt, (tt, (tt, (tt, (tt, (tt, (tt, (tt, (tt, (tt, (tt, (tt, (tt, (tt, (tt, tt)))))))))))))))))))))))))) (Typed.s-seq 𝓤 H A W 𝓣 E G27 G28 b7 b22 Δ0 (Typed.give s26) at40 (Local.t-sc-borrow 𝓤 H A W E 𝓣 G27 13 19 12 (Array'.Array (Referent.rtF (Referent.fInt Syntax.w8)) 4096) (Syntax.tyRef
+              Syntax.erased Syntax.mut ty·0) (λ x. x) (Whole.mem-arr 𝓤 H A W (Referent.rtF (Referent.fInt Syntax.w8)) 4096) (Reads.room-gone 𝓤 H A (Syntax.tyRef Syntax.erased Syntax.mut ty·0)) Path'.refl λ b o. tt) d40))
 
           d46 : Typed.Typed 𝓤 H A 𝓣 E G22 b25 Δ0 at45
           d46 = Typed.g-pre 𝓤 H A W 𝓣 E G22 G23 b25 Δ0 (λ Ψ. Ψ) at45 (Lifetime.g-begin 𝓤 H A W E G22 10 (tt, (tt, (tt, (tt, (tt, (tt, (tt, (tt, (tt, (tt, (tt, (tt, (tt, (tt, (tt, (tt, (tt, (tt, (tt, (tt, (tt, (tt, (tt, (tt, (tt, tt)))))))))))))))))))))))))) (Typed.s-seq 𝓤 H A W 𝓣 E G23 G24 b5 b24 Δ0 (Typed.give s22) at43 (Local.t-sc-borrow 𝓤 H A W E 𝓣 G23 11
-              17 10 (Array'.Array (Array'.Array (Referent.rtF (Referent.fInt Syntax.w16)) 2048) 2) (Syntax.tyRef Syntax.erased Syntax.mut (Syntax.tyArray ty·1 2)) (λ x. x) (Whole.mem-arr 𝓤 H A W (Array'.Array (Referent.rtF (Referent.fInt Syntax.w16)) 2048) 2) (Reads.room-gone 𝓤 H A (Syntax.tyRef Syntax.erased Syntax.mut (Syntax.tyArray ty·1 2))) Path'.refl λ b
+              17 10 (Array'.Array (Array'.Array (Referent.rtF (Referent.fInt Syntax.w16)) 4096) 2) (Syntax.tyRef Syntax.erased Syntax.mut (Syntax.tyArray ty·1 2)) (λ x. x) (Whole.mem-arr 𝓤 H A W (Array'.Array (Referent.rtF (Referent.fInt Syntax.w16)) 4096) 2) (Reads.room-gone 𝓤 H A (Syntax.tyRef Syntax.erased Syntax.mut (Syntax.tyArray ty·1 2))) Path'.refl λ b
               o. tt) (Typed.g-pre 𝓤 H A W 𝓣 E G24 G25 b24 Δ0 (λ Ψ. Ψ) at43 (Lifetime.g-begin 𝓤 H A W E G24 11 (tt, (tt, (tt, (tt, (tt, (tt, (tt, (tt, (tt, (tt, (tt, (tt, (tt, (tt, (tt, (tt, (tt, (tt, (tt, (tt, (tt, (tt, (tt, (tt, (tt, tt)))))))))))))))))))))))))) d43))
 
           d49 : Typed.Typed 𝓤 H A 𝓣 E G19 b26 Δ0 at49
-          d49 = Typed.g-pre 𝓤 H A W 𝓣 E G19 G20 b26 Δ0 (Typed.pass T19 T20 s18) at48 (Scalar.g-room 𝓤 H A W E G19 16 ty·0 (Init.room-arr 𝓤 H A W (Referent.rtF (Referent.fInt Syntax.w8)) 2048 0 2048 Path'.refl)) (Typed.s-seq 𝓤 H A W 𝓣 E G20 G21 b4 b25 Δ0 (Typed.pass T20 T21 s19) at47 (Repeat.t-repeat 𝓤 H A W E 𝓣 (Referent.rtF (Referent.fInt Syntax.w8))
-              (Plain'.uint-lawful 𝓤 H A W Syntax.w8) (Copies.cRf (Referent.fInt Syntax.w8) .copy 𝓤 H A W) (Plain'.uint-makes 𝓤 H A W Syntax.w8) 2048 G20 13 (Scalar.oInt Syntax.w8 0) (λ m. 0) (Reads.room-gone 𝓤 H A ty·0) tt Path'.refl λ m wa. (Path'.refl, Dec'.lit< tt)) (Typed.g-pre 𝓤 H A W 𝓣 E G21 G22 b25 Δ0 (Typed.pass T21 T22 s20) at45 (AtSlots.g-as-by 𝓤 H A W
-              E (λ ρ. Unit) G21 13 (Rows.arrF (Referent.rtF (Referent.fInt Syntax.w8)) 2048 0) (λ x. x) (Own.told-none 𝓤 H A (G21 .slots)) λ ρ told. Repeat.whole-arr 𝓤 H A W (Referent.rtF (Referent.fInt Syntax.w8)) 2048 tt ρ) d46))
+          d49 = Typed.g-pre 𝓤 H A W 𝓣 E G19 G20 b26 Δ0 (Typed.pass T19 T20 s18) at48 (Scalar.g-room 𝓤 H A W E G19 16 ty·0 (Init.room-arr 𝓤 H A W (Referent.rtF (Referent.fInt Syntax.w8)) 4096 0 4096 Path'.refl)) (Typed.s-seq 𝓤 H A W 𝓣 E G20 G21 b4 b25 Δ0 (Typed.pass T20 T21 s19) at47 (Repeat.t-repeat 𝓤 H A W E 𝓣 (Referent.rtF (Referent.fInt Syntax.w8))
+              (Plain'.uint-lawful 𝓤 H A W Syntax.w8) (Copies.cRf (Referent.fInt Syntax.w8) .copy 𝓤 H A W) (Plain'.uint-makes 𝓤 H A W Syntax.w8) 4096 G20 13 (Scalar.oInt Syntax.w8 0) (λ m. 0) (Reads.room-gone 𝓤 H A ty·0) tt Path'.refl λ m wa. (Path'.refl, Dec'.lit< tt)) (Typed.g-pre 𝓤 H A W 𝓣 E G21 G22 b25 Δ0 (Typed.pass T21 T22 s20) at45 (AtSlots.g-as-by 𝓤 H A W
+              E (λ ρ. Unit) G21 13 (Rows.arrF (Referent.rtF (Referent.fInt Syntax.w8)) 4096 0) (λ x. x) (Own.told-none 𝓤 H A (G21 .slots)) λ ρ told. Repeat.whole-arr 𝓤 H A W (Referent.rtF (Referent.fInt Syntax.w8)) 4096 tt ρ) d46))
 
           d51 : Typed.Typed 𝓤 H A 𝓣 E G17 b27 Δ0 at51
-          d51 = Typed.s-seq 𝓤 H A W 𝓣 E G17 G18 b3 b26 Δ0 (Typed.pass T17 T18 s16) at50 (Repeat.t-repeat-by 𝓤 H A W E 𝓣 (Array'.Array (Referent.rtF (Referent.fInt Syntax.w8)) 2048) (Array'.array-lawful 𝓤 H A W (Referent.rtF (Referent.fInt Syntax.w8)) (Plain'.uint-lawful 𝓤 H A W Syntax.w8) 2048) (Copies.cArr (Referent.rtF (Referent.fInt Syntax.w8))
-              (Copies.cRf (Referent.fInt Syntax.w8)) 2048 .copy 𝓤 H A W) 2 G17 12 (Scalar.oAt 16 ty·0 λ x. Steps.only (Copies.cArr (Referent.rtF (Referent.fInt Syntax.w8)) (Copies.cRf (Referent.fInt Syntax.w8)) 2048 .vals x)) (λ m. m .1 .1 .1 .1 .1 .1 .1 .1 .1 .1 .1 .1 .1 .1 .1 .1 .0) (λ ρ. Unit) (Reads.room-gone 𝓤 H A (Syntax.tyArray ty·0 2))
-              (Array.arr-reads 𝓤 H A W (Array.eInt Syntax.w8) (Array.eInt-laws Syntax.w8) 2048, Path'.refl) Path'.refl (Own.told-none 𝓤 H A (G17 .slots)) λ ρ m pf wa. Gives.elem-local 𝓤 H A W E ρ (Array'.Array (Referent.rtF (Referent.fInt Syntax.w8)) 2048) (λ x. Steps.only (Copies.cArr (Referent.rtF (Referent.fInt Syntax.w8)) (Copies.cRf (Referent.fInt
-              Syntax.w8)) 2048 .vals x)) (Copies.cArr (Referent.rtF (Referent.fInt Syntax.w8)) (Copies.cRf (Referent.fInt Syntax.w8)) 2048 .tells) (Row.out 12 (G17 .locals)) m (λ ρ. Unit) pf 16 ty·0 (λ x. x) (Yields.yields-copy 𝓤 H A W (λ ρ. Unit) (Array'.Array (Referent.rtF (Referent.fInt Syntax.w8)) 2048) Path'.refl (Copies.cArr (Referent.rtF (Referent.fInt
-              Syntax.w8)) (Copies.cRf (Referent.fInt Syntax.w8)) 2048 .copy 𝓤 H A W) (Rows.arrF (Referent.rtF (Referent.fInt Syntax.w8)) 2048 0) (λ x. x) (λ x. x) (λ ρ told. Whole.mem-arr 𝓤 H A W (Referent.rtF (Referent.fInt Syntax.w8)) 2048 ρ) λ ρ told. Whole.arr-mem 𝓤 H A W (Referent.rtF (Referent.fInt Syntax.w8)) 2048 tt ρ)) (Typed.g-pre 𝓤 H A W 𝓣 E G18 G19
-              b26 Δ0 (Typed.pass T18 T19 s17) at49 (AtSlots.g-as-by 𝓤 H A W E (λ ρ. Unit) G18 12 (Rows.arrF (Array'.Array (Referent.rtF (Referent.fInt Syntax.w8)) 2048) 2 0) (λ x. x) (Own.told-none 𝓤 H A (G18 .slots)) λ ρ told. Repeat.whole-arr 𝓤 H A W (Array'.Array (Referent.rtF (Referent.fInt Syntax.w8)) 2048) 2 tt ρ) d49)
+          d51 = Typed.s-seq 𝓤 H A W 𝓣 E G17 G18 b3 b26 Δ0 (Typed.pass T17 T18 s16) at50 (Repeat.t-repeat-by 𝓤 H A W E 𝓣 (Array'.Array (Referent.rtF (Referent.fInt Syntax.w8)) 4096) (Array'.array-lawful 𝓤 H A W (Referent.rtF (Referent.fInt Syntax.w8)) (Plain'.uint-lawful 𝓤 H A W Syntax.w8) 4096) (Copies.cArr (Referent.rtF (Referent.fInt Syntax.w8))
+              (Copies.cRf (Referent.fInt Syntax.w8)) 4096 .copy 𝓤 H A W) 2 G17 12 (Scalar.oAt 16 ty·0 λ x. Steps.only (Copies.cArr (Referent.rtF (Referent.fInt Syntax.w8)) (Copies.cRf (Referent.fInt Syntax.w8)) 4096 .vals x)) (λ m. m .1 .1 .1 .1 .1 .1 .1 .1 .1 .1 .1 .1 .1 .1 .1 .1 .0) (λ ρ. Unit) (Reads.room-gone 𝓤 H A (Syntax.tyArray ty·0 2))
+              (Array.arr-reads 𝓤 H A W (Array.eInt Syntax.w8) (Array.eInt-laws Syntax.w8) 4096, Path'.refl) Path'.refl (Own.told-none 𝓤 H A (G17 .slots)) λ ρ m pf wa. Gives.elem-local 𝓤 H A W E ρ (Array'.Array (Referent.rtF (Referent.fInt Syntax.w8)) 4096) (λ x. Steps.only (Copies.cArr (Referent.rtF (Referent.fInt Syntax.w8)) (Copies.cRf (Referent.fInt
+              Syntax.w8)) 4096 .vals x)) (Copies.cArr (Referent.rtF (Referent.fInt Syntax.w8)) (Copies.cRf (Referent.fInt Syntax.w8)) 4096 .tells) (Row.out 12 (G17 .locals)) m (λ ρ. Unit) pf 16 ty·0 (λ x. x) (Yields.yields-copy 𝓤 H A W (λ ρ. Unit) (Array'.Array (Referent.rtF (Referent.fInt Syntax.w8)) 4096) Path'.refl (Copies.cArr (Referent.rtF (Referent.fInt
+              Syntax.w8)) (Copies.cRf (Referent.fInt Syntax.w8)) 4096 .copy 𝓤 H A W) (Rows.arrF (Referent.rtF (Referent.fInt Syntax.w8)) 4096 0) (λ x. x) (λ x. x) (λ ρ told. Whole.mem-arr 𝓤 H A W (Referent.rtF (Referent.fInt Syntax.w8)) 4096 ρ) λ ρ told. Whole.arr-mem 𝓤 H A W (Referent.rtF (Referent.fInt Syntax.w8)) 4096 tt ρ)) (Typed.g-pre 𝓤 H A W 𝓣 E G18 G19
+              b26 Δ0 (Typed.pass T18 T19 s17) at49 (AtSlots.g-as-by 𝓤 H A W E (λ ρ. Unit) G18 12 (Rows.arrF (Array'.Array (Referent.rtF (Referent.fInt Syntax.w8)) 4096) 2 0) (λ x. x) (Own.told-none 𝓤 H A (G18 .slots)) λ ρ told. Repeat.whole-arr 𝓤 H A W (Array'.Array (Referent.rtF (Referent.fInt Syntax.w8)) 4096) 2 tt ρ) d49)
 
           d54 : Typed.Typed 𝓤 H A 𝓣 E G14 b28 Δ0 at54
-          d54 = Typed.g-pre 𝓤 H A W 𝓣 E G14 G15 b28 Δ0 (Typed.pass T14 T15 s13) at53 (Scalar.g-room 𝓤 H A W E G14 15 ty·1 (Init.room-arr 𝓤 H A W (Referent.rtF (Referent.fInt Syntax.w16)) 2048 0 2048 Path'.refl)) (Typed.s-seq 𝓤 H A W 𝓣 E G15 G16 b2 b27 Δ0 (Typed.pass T15 T16 s14) at52 (Repeat.t-repeat 𝓤 H A W E 𝓣 (Referent.rtF (Referent.fInt Syntax.w8))
-              (Plain'.uint-lawful 𝓤 H A W Syntax.w8) (Copies.cRf (Referent.fInt Syntax.w8) .copy 𝓤 H A W) (Plain'.uint-makes 𝓤 H A W Syntax.w8) 2048 G15 16 (Scalar.oInt Syntax.w8 0) (λ m. 0) (Reads.room-gone 𝓤 H A ty·0) tt Path'.refl λ m wa. (Path'.refl, Dec'.lit< tt)) (Typed.g-pre 𝓤 H A W 𝓣 E G16 G17 b27 Δ0 (Typed.pass T16 T17 s15) at51 (AtSlots.g-as-by 𝓤 H A W
-              E (λ ρ. Unit) G16 16 (Rows.arrF (Referent.rtF (Referent.fInt Syntax.w8)) 2048 0) (λ x. x) (Own.told-none 𝓤 H A (G16 .slots)) λ ρ told. Repeat.whole-arr 𝓤 H A W (Referent.rtF (Referent.fInt Syntax.w8)) 2048 tt ρ) d51))
+          d54 = Typed.g-pre 𝓤 H A W 𝓣 E G14 G15 b28 Δ0 (Typed.pass T14 T15 s13) at53 (Scalar.g-room 𝓤 H A W E G14 15 ty·1 (Init.room-arr 𝓤 H A W (Referent.rtF (Referent.fInt Syntax.w16)) 4096 0 4096 Path'.refl)) (Typed.s-seq 𝓤 H A W 𝓣 E G15 G16 b2 b27 Δ0 (Typed.pass T15 T16 s14) at52 (Repeat.t-repeat 𝓤 H A W E 𝓣 (Referent.rtF (Referent.fInt Syntax.w8))
+              (Plain'.uint-lawful 𝓤 H A W Syntax.w8) (Copies.cRf (Referent.fInt Syntax.w8) .copy 𝓤 H A W) (Plain'.uint-makes 𝓤 H A W Syntax.w8) 4096 G15 16 (Scalar.oInt Syntax.w8 0) (λ m. 0) (Reads.room-gone 𝓤 H A ty·0) tt Path'.refl λ m wa. (Path'.refl, Dec'.lit< tt)) (Typed.g-pre 𝓤 H A W 𝓣 E G16 G17 b27 Δ0 (Typed.pass T16 T17 s15) at51 (AtSlots.g-as-by 𝓤 H A W
+              E (λ ρ. Unit) G16 16 (Rows.arrF (Referent.rtF (Referent.fInt Syntax.w8)) 4096 0) (λ x. x) (Own.told-none 𝓤 H A (G16 .slots)) λ ρ told. Repeat.whole-arr 𝓤 H A W (Referent.rtF (Referent.fInt Syntax.w8)) 4096 tt ρ) d51))
 
           d56 : Typed.Typed 𝓤 H A 𝓣 E G12 b29 Δ0 at56
-          d56 = Typed.s-seq 𝓤 H A W 𝓣 E G12 G13 b1 b28 Δ0 (Typed.pass T12 T13 s11) at55 (Repeat.t-repeat-by 𝓤 H A W E 𝓣 (Array'.Array (Referent.rtF (Referent.fInt Syntax.w16)) 2048) (Array'.array-lawful 𝓤 H A W (Referent.rtF (Referent.fInt Syntax.w16)) (Plain'.uint-lawful 𝓤 H A W Syntax.w16) 2048) (Copies.cArr (Referent.rtF (Referent.fInt Syntax.w16))
-              (Copies.cRf (Referent.fInt Syntax.w16)) 2048 .copy 𝓤 H A W) 2 G12 11 (Scalar.oAt 15 ty·1 λ x. Steps.only (Copies.cArr (Referent.rtF (Referent.fInt Syntax.w16)) (Copies.cRf (Referent.fInt Syntax.w16)) 2048 .vals x)) (λ m. m .1 .1 .1 .1 .1 .1 .1 .1 .1 .1 .1 .1 .1 .1 .1 .0) (λ ρ. Unit) (Reads.room-gone 𝓤 H A (Syntax.tyArray ty·1 2))
-              (Array.arr-reads 𝓤 H A W (Array.eInt Syntax.w16) (Array.eInt-laws Syntax.w16) 2048, Path'.refl) Path'.refl (Own.told-none 𝓤 H A (G12 .slots)) λ ρ m pf wa. Gives.elem-local 𝓤 H A W E ρ (Array'.Array (Referent.rtF (Referent.fInt Syntax.w16)) 2048) (λ x. Steps.only (Copies.cArr (Referent.rtF (Referent.fInt Syntax.w16)) (Copies.cRf (Referent.fInt
-              Syntax.w16)) 2048 .vals x)) (Copies.cArr (Referent.rtF (Referent.fInt Syntax.w16)) (Copies.cRf (Referent.fInt Syntax.w16)) 2048 .tells) (Row.out 11 (G12 .locals)) m (λ ρ. Unit) pf 15 ty·1 (λ x. x) (Yields.yields-copy 𝓤 H A W (λ ρ. Unit) (Array'.Array (Referent.rtF (Referent.fInt Syntax.w16)) 2048) Path'.refl (Copies.cArr (Referent.rtF
-              (Referent.fInt Syntax.w16)) (Copies.cRf (Referent.fInt Syntax.w16)) 2048 .copy 𝓤 H A W) (Rows.arrF (Referent.rtF (Referent.fInt Syntax.w16)) 2048 0) (λ x. x) (λ x. x) (λ ρ told. Whole.mem-arr 𝓤 H A W (Referent.rtF (Referent.fInt Syntax.w16)) 2048 ρ) λ ρ told. Whole.arr-mem 𝓤 H A W (Referent.rtF (Referent.fInt Syntax.w16)) 2048 tt ρ)) (Typed.g-pre 𝓤
-              H A W 𝓣 E G13 G14 b28 Δ0 (Typed.pass T13 T14 s12) at54 (AtSlots.g-as-by 𝓤 H A W E (λ ρ. Unit) G13 11 (Rows.arrF (Array'.Array (Referent.rtF (Referent.fInt Syntax.w16)) 2048) 2 0) (λ x. x) (Own.told-none 𝓤 H A (G13 .slots)) λ ρ told. Repeat.whole-arr 𝓤 H A W (Array'.Array (Referent.rtF (Referent.fInt Syntax.w16)) 2048) 2 tt ρ) d54)
+          d56 = Typed.s-seq 𝓤 H A W 𝓣 E G12 G13 b1 b28 Δ0 (Typed.pass T12 T13 s11) at55 (Repeat.t-repeat-by 𝓤 H A W E 𝓣 (Array'.Array (Referent.rtF (Referent.fInt Syntax.w16)) 4096) (Array'.array-lawful 𝓤 H A W (Referent.rtF (Referent.fInt Syntax.w16)) (Plain'.uint-lawful 𝓤 H A W Syntax.w16) 4096) (Copies.cArr (Referent.rtF (Referent.fInt Syntax.w16))
+              (Copies.cRf (Referent.fInt Syntax.w16)) 4096 .copy 𝓤 H A W) 2 G12 11 (Scalar.oAt 15 ty·1 λ x. Steps.only (Copies.cArr (Referent.rtF (Referent.fInt Syntax.w16)) (Copies.cRf (Referent.fInt Syntax.w16)) 4096 .vals x)) (λ m. m .1 .1 .1 .1 .1 .1 .1 .1 .1 .1 .1 .1 .1 .1 .1 .0) (λ ρ. Unit) (Reads.room-gone 𝓤 H A (Syntax.tyArray ty·1 2))
+              (Array.arr-reads 𝓤 H A W (Array.eInt Syntax.w16) (Array.eInt-laws Syntax.w16) 4096, Path'.refl) Path'.refl (Own.told-none 𝓤 H A (G12 .slots)) λ ρ m pf wa. Gives.elem-local 𝓤 H A W E ρ (Array'.Array (Referent.rtF (Referent.fInt Syntax.w16)) 4096) (λ x. Steps.only (Copies.cArr (Referent.rtF (Referent.fInt Syntax.w16)) (Copies.cRf (Referent.fInt
+              Syntax.w16)) 4096 .vals x)) (Copies.cArr (Referent.rtF (Referent.fInt Syntax.w16)) (Copies.cRf (Referent.fInt Syntax.w16)) 4096 .tells) (Row.out 11 (G12 .locals)) m (λ ρ. Unit) pf 15 ty·1 (λ x. x) (Yields.yields-copy 𝓤 H A W (λ ρ. Unit) (Array'.Array (Referent.rtF (Referent.fInt Syntax.w16)) 4096) Path'.refl (Copies.cArr (Referent.rtF
+              (Referent.fInt Syntax.w16)) (Copies.cRf (Referent.fInt Syntax.w16)) 4096 .copy 𝓤 H A W) (Rows.arrF (Referent.rtF (Referent.fInt Syntax.w16)) 4096 0) (λ x. x) (λ x. x) (λ ρ told. Whole.mem-arr 𝓤 H A W (Referent.rtF (Referent.fInt Syntax.w16)) 4096 ρ) λ ρ told. Whole.arr-mem 𝓤 H A W (Referent.rtF (Referent.fInt Syntax.w16)) 4096 tt ρ)) (Typed.g-pre 𝓤
+              H A W 𝓣 E G13 G14 b28 Δ0 (Typed.pass T13 T14 s12) at54 (AtSlots.g-as-by 𝓤 H A W E (λ ρ. Unit) G13 11 (Rows.arrF (Array'.Array (Referent.rtF (Referent.fInt Syntax.w16)) 4096) 2 0) (λ x. x) (Own.told-none 𝓤 H A (G13 .slots)) λ ρ told. Repeat.whole-arr 𝓤 H A W (Array'.Array (Referent.rtF (Referent.fInt Syntax.w16)) 4096) 2 tt ρ) d54)
 
           d59 : Typed.Typed 𝓤 H A 𝓣 E G0 b30 Δ0 at59
           d59 = Typed.g-pre 𝓤 H A W 𝓣 E G0 G0 b30 Δ0 (Typed.give s8) at58 (Know.g-shs-known 𝓤 H A W (Referent.fInt Syntax.w8) E G0 9 8 ty·6 (Row.lease (κs .1 .1 .1 .1 .1 .1 .1 .1 .0) (qs .1 .1 .1 .1 .1 .1 .1 .1 .0)) 0 (λ x. x) record { fits = Dec'.lit< tt } (Reads.as-is 𝓤 H A (Rows'.sslice (Referent.rtF (Referent.fInt Syntax.w8)) ty·6 8)) Path'.refl tt)
-              (Typed.s-seq 𝓤 H A W 𝓣 E G0 G11 b0 b29 Δ0 (Typed.pass T0 T11 s9) at57 (Repeat.t-repeat 𝓤 H A W E 𝓣 (Referent.rtF (Referent.fInt Syntax.w16)) (Plain'.uint-lawful 𝓤 H A W Syntax.w16) (Copies.cRf (Referent.fInt Syntax.w16) .copy 𝓤 H A W) (Plain'.uint-makes 𝓤 H A W Syntax.w16) 2048 G0 15 (Scalar.oInt Syntax.w16 0) (λ m. 0) (Reads.room-gone 𝓤 H A ty·1)
-              tt Path'.refl λ m wa. (Path'.refl, Dec'.lit< tt)) (Typed.g-pre 𝓤 H A W 𝓣 E G11 G12 b29 Δ0 (Typed.pass T11 T12 s10) at56 (AtSlots.g-as-by 𝓤 H A W E (λ ρ. Unit) G11 15 (Rows.arrF (Referent.rtF (Referent.fInt Syntax.w16)) 2048 0) (λ x. x) (Own.told-none 𝓤 H A (G11 .slots)) λ ρ told. Repeat.whole-arr 𝓤 H A W (Referent.rtF (Referent.fInt Syntax.w16))
-              2048 tt ρ) d56))
+              (Typed.s-seq 𝓤 H A W 𝓣 E G0 G11 b0 b29 Δ0 (Typed.pass T0 T11 s9) at57 (Repeat.t-repeat 𝓤 H A W E 𝓣 (Referent.rtF (Referent.fInt Syntax.w16)) (Plain'.uint-lawful 𝓤 H A W Syntax.w16) (Copies.cRf (Referent.fInt Syntax.w16) .copy 𝓤 H A W) (Plain'.uint-makes 𝓤 H A W Syntax.w16) 4096 G0 15 (Scalar.oInt Syntax.w16 0) (λ m. 0) (Reads.room-gone 𝓤 H A ty·1)
+              tt Path'.refl λ m wa. (Path'.refl, Dec'.lit< tt)) (Typed.g-pre 𝓤 H A W 𝓣 E G11 G12 b29 Δ0 (Typed.pass T11 T12 s10) at56 (AtSlots.g-as-by 𝓤 H A W E (λ ρ. Unit) G11 15 (Rows.arrF (Referent.rtF (Referent.fInt Syntax.w16)) 4096 0) (λ x. x) (Own.told-none 𝓤 H A (G11 .slots)) λ ρ told. Repeat.whole-arr 𝓤 H A W (Referent.rtF (Referent.fInt Syntax.w16))
+              4096 tt ρ) d56))
 
           d62 : Typed.Typed 𝓤 H A 𝓣 E G0 b30 Δ0 at62
           d62 = Typed.g-pre 𝓤 H A W 𝓣 E G0 G0 b30 Δ0 (Typed.give s5) at61 (Know.g-shs-known 𝓤 H A W (Referent.fInt Syntax.w16) E G0 6 5 ty·10 (Row.lease (κs .1 .1 .1 .1 .1 .0) (qs .1 .1 .1 .1 .1 .0)) 0 (λ x. x) record { fits = Dec'.lit< tt } (Reads.as-is 𝓤 H A (Rows'.sslice (Referent.rtF (Referent.fInt Syntax.w16)) ty·10 5)) Path'.refl tt) (Typed.g-pre 𝓤 H A

@@ -68,19 +68,19 @@ abbrev ty·0 : Syntax.Ty
 ty·0 = Syntax.tyArray (Syntax.tyInt Syntax.w16) 1
 
 abbrev ty·1 : Syntax.Ty
-ty·1 = Syntax.tyArray (Syntax.tyInt Syntax.w8) 32
+ty·1 = Syntax.tyArray (Syntax.tyInt Syntax.w8) 64
 
 abbrev ty·2 : Syntax.Ty
-ty·2 = Syntax.tyArray (Syntax.tyInt Syntax.w8) 768
+ty·2 = Syntax.tyArray (Syntax.tyInt Syntax.w16) 64
 
 abbrev ty·3 : Syntax.Ty
-ty·3 = Syntax.tyArray (Syntax.tyInt Syntax.w16) 32
+ty·3 = Syntax.tyArray (Syntax.tyInt Syntax.w8) 1536
 
 abbrev ty·4 : Syntax.Ty
-ty·4 = Syntax.tyArray (Syntax.tyInt Syntax.w16) 1024
+ty·4 = Syntax.tyArray (Syntax.tyInt Syntax.w16) 2048
 
 abbrev ty·5 : Syntax.Ty
-ty·5 = Syntax.tyArray (Syntax.tyInt Syntax.w32) 1024
+ty·5 = Syntax.tyArray (Syntax.tyInt Syntax.w32) 2048
 
 abbrev ty·6 : Syntax.Ty
 ty·6 = Syntax.tyRef Syntax.erased Syntax.mut Rec.behind
@@ -119,7 +119,7 @@ abbrev ty·17 : Syntax.Ty
 ty·17 = Syntax.tyRef (Syntax.named 4) Syntax.mut (Syntax.tyInt Syntax.w32)
 
 abbrev ty·18 : Syntax.Ty
-ty·18 = Syntax.tyRef Syntax.erased Syntax.mut (Syntax.tyArray Rec.behind 2048)
+ty·18 = Syntax.tyRef Syntax.erased Syntax.mut (Syntax.tyArray Rec.behind 4096)
 
 abbrev ty·19 : Syntax.Ty
 ty·19 = Syntax.tyStruct (List._∷_ 112 (List._∷_ 108 (List._∷_ 97 (List._∷_ 110 (List._∷_ 58 (List._∷_ 58 (List._∷_ 99 (List._∷_ 104 (List._∷_ 101 (List._∷_ 99 (List._∷_ 107 (List._∷_ 58 (List._∷_ 58 (List._∷_ 83 (List._∷_ 116 (List._∷_ 111 (List._∷_ 112 (List._∷_ 65 (List._∷_ 116 List.[]))))))))))))))))))) (Syntax.tcons (Syntax.tyInt Syntax.w64)
@@ -154,10 +154,10 @@ abbrev row·7 : Row.Row
 row·7 = Rows'.any-gone ty·0
 
 abbrev row·8 : Row.Row
-row·8 = Rows'.any-gone ty·2
+row·8 = Rows'.any-gone ty·3
 
 abbrev row·9 : Row.Row
-row·9 = Rows'.any-gone ty·3
+row·9 = Rows'.any-gone ty·2
 
 abbrev row·10 : Row.Row
 row·10 = Rows'.any-gone ty·4
@@ -169,7 +169,7 @@ abbrev row·12 : Row.Row
 row·12 = Rows'.any-gone ty·1
 
 abbrev row·13 : Row.Row
-row·13 = Rows'.any-gone (Syntax.tyArray Rec.mir 2048)
+row·13 = Rows'.any-gone (Syntax.tyArray Rec.mir 4096)
 
 abbrev row·14 : Row.Row
 row·14 = Rows'.any-gone Rec.mir
@@ -181,13 +181,13 @@ abbrev row·16 : Row.Row
 row·16 = Rows'.any-gone (Syntax.tyStruct (List._∷_ 38 (List._∷_ 91 (List._∷_ 93 List.[]))) (Syntax.tcons ty·9 (Syntax.tcons (Syntax.tyInt Syntax.w64) Syntax.tnil)))
 
 abbrev row·17 : Row.Row
-row·17 = Rows'.any-gone (Syntax.tyRef Syntax.erased Syntax.mut ty·2)
+row·17 = Rows'.any-gone (Syntax.tyRef Syntax.erased Syntax.mut ty·3)
 
 abbrev row·18 : Row.Row
 row·18 = Rows'.any-gone (Syntax.tyStruct (List._∷_ 38 (List._∷_ 91 (List._∷_ 93 List.[]))) (Syntax.tcons ty·7 (Syntax.tcons (Syntax.tyInt Syntax.w64) Syntax.tnil)))
 
 abbrev row·19 : Row.Row
-row·19 = Rows'.any-gone (Syntax.tyRef Syntax.erased Syntax.mut ty·3)
+row·19 = Rows'.any-gone (Syntax.tyRef Syntax.erased Syntax.mut ty·2)
 
 abbrev row·20 : Row.Row
 row·20 = Rows'.any-gone (Syntax.tyRef Syntax.erased Syntax.mut ty·4)
@@ -223,13 +223,13 @@ abbrev row·30 : Row.Row
 row·30 = Rows'.any-gone (Syntax.tyStruct (List._∷_ 38 (List._∷_ 91 (List._∷_ 93 List.[]))) (Syntax.tcons ty·11 (Syntax.tcons (Syntax.tyInt Syntax.w64) Syntax.tnil)))
 
 abbrev row·31 : Row.Row
-row·31 = Rows'.any-gone (Syntax.tyRef Syntax.erased Syntax.imm ty·2)
+row·31 = Rows'.any-gone (Syntax.tyRef Syntax.erased Syntax.imm ty·3)
 
 abbrev row·32 : Row.Row
 row·32 = Rows'.any-gone (Syntax.tyStruct (List._∷_ 38 (List._∷_ 91 (List._∷_ 93 List.[]))) (Syntax.tcons ty·8 (Syntax.tcons (Syntax.tyInt Syntax.w64) Syntax.tnil)))
 
 abbrev row·33 : Row.Row
-row·33 = Rows'.any-gone (Syntax.tyRef Syntax.erased Syntax.imm ty·3)
+row·33 = Rows'.any-gone (Syntax.tyRef Syntax.erased Syntax.imm ty·2)
 
 abbrev row·34 : Row.Row
 row·34 = Rows'.any-gone (Syntax.tyRef Syntax.erased Syntax.imm ty·4)
@@ -256,40 +256,40 @@ abbrev row·41 : Row.Row
 row·41 = Rows.arrF (Referent.rtF (Referent.fInt Syntax.w16)) 1 0
 
 abbrev row·42 : Row.Row
-row·42 = Rows'.whole (Array'.Array (Referent.rtF (Referent.fInt Syntax.w8)) 768)
+row·42 = Rows'.whole (Array'.Array (Referent.rtF (Referent.fInt Syntax.w8)) 1536)
 
 abbrev row·43 : Row.Row
-row·43 = Rows.arrF (Referent.rtF (Referent.fInt Syntax.w8)) 768 0
+row·43 = Rows.arrF (Referent.rtF (Referent.fInt Syntax.w8)) 1536 0
 
 abbrev row·44 : Row.Row
-row·44 = Rows'.whole (Array'.Array (Referent.rtF (Referent.fInt Syntax.w16)) 32)
+row·44 = Rows'.whole (Array'.Array (Referent.rtF (Referent.fInt Syntax.w16)) 64)
 
 abbrev row·45 : Row.Row
-row·45 = Rows.arrF (Referent.rtF (Referent.fInt Syntax.w16)) 32 0
+row·45 = Rows.arrF (Referent.rtF (Referent.fInt Syntax.w16)) 64 0
 
 abbrev row·46 : Row.Row
-row·46 = Rows'.whole (Array'.Array (Referent.rtF (Referent.fInt Syntax.w16)) 1024)
+row·46 = Rows'.whole (Array'.Array (Referent.rtF (Referent.fInt Syntax.w16)) 2048)
 
 abbrev row·47 : Row.Row
-row·47 = Rows.arrF (Referent.rtF (Referent.fInt Syntax.w16)) 1024 0
+row·47 = Rows.arrF (Referent.rtF (Referent.fInt Syntax.w16)) 2048 0
 
 abbrev row·48 : Row.Row
-row·48 = Rows'.whole (Array'.Array (Referent.rtF (Referent.fInt Syntax.w32)) 1024)
+row·48 = Rows'.whole (Array'.Array (Referent.rtF (Referent.fInt Syntax.w32)) 2048)
 
 abbrev row·49 : Row.Row
-row·49 = Rows.arrF (Referent.rtF (Referent.fInt Syntax.w32)) 1024 0
+row·49 = Rows.arrF (Referent.rtF (Referent.fInt Syntax.w32)) 2048 0
 
 abbrev row·50 : Row.Row
-row·50 = Rows'.whole (Array'.Array (Referent.rtF (Referent.fInt Syntax.w8)) 32)
+row·50 = Rows'.whole (Array'.Array (Referent.rtF (Referent.fInt Syntax.w8)) 64)
 
 abbrev row·51 : Row.Row
-row·51 = Rows.arrF (Referent.rtF (Referent.fInt Syntax.w8)) 32 0
+row·51 = Rows.arrF (Referent.rtF (Referent.fInt Syntax.w8)) 64 0
 
 abbrev row·52 : Row.Row
-row·52 = Rows'.whole (Array'.Array Rec.rt 2048)
+row·52 = Rows'.whole (Array'.Array Rec.rt 4096)
 
 abbrev row·53 : Row.Row
-row·53 = Rows.arrF Rec.rt 2048 0
+row·53 = Rows.arrF Rec.rt 4096 0
 
 abbrev row·54 : Row.Row
 row·54 = Rows.arr-owed (Referent.rtF (Referent.fInt Syntax.w16)) 1 5
@@ -310,25 +310,25 @@ abbrev row·59 : Row.Row
 row·59 = Mut.mslice (Referent.rtF (Referent.fInt Syntax.w16)) ty·9 6
 
 abbrev row·60 : Row.Row
-row·60 = Rows.arr-owed (Referent.rtF (Referent.fInt Syntax.w8)) 768 7
+row·60 = Rows.arr-owed (Referent.rtF (Referent.fInt Syntax.w8)) 1536 7
 
 abbrev row·61 : Row.Row
-row·61 = Relend.msptr (Referent.rtF (Referent.fInt Syntax.w8)) (Syntax.tyRef Syntax.erased Syntax.mut ty·2) 7
+row·61 = Relend.msptr (Referent.rtF (Referent.fInt Syntax.w8)) (Syntax.tyRef Syntax.erased Syntax.mut ty·3) 7
 
 abbrev row·62 : Row.Row
 row·62 = Mut.mslice (Referent.rtF (Referent.fInt Syntax.w8)) ty·7 7
 
 abbrev row·63 : Row.Row
-row·63 = Rows.arr-owed (Referent.rtF (Referent.fInt Syntax.w16)) 32 8
+row·63 = Rows.arr-owed (Referent.rtF (Referent.fInt Syntax.w16)) 64 8
 
 abbrev row·64 : Row.Row
-row·64 = Relend.msptr (Referent.rtF (Referent.fInt Syntax.w16)) (Syntax.tyRef Syntax.erased Syntax.mut ty·3) 8
+row·64 = Relend.msptr (Referent.rtF (Referent.fInt Syntax.w16)) (Syntax.tyRef Syntax.erased Syntax.mut ty·2) 8
 
 abbrev row·65 : Row.Row
 row·65 = Mut.mslice (Referent.rtF (Referent.fInt Syntax.w16)) ty·9 8
 
 abbrev row·66 : Row.Row
-row·66 = Rows.arr-owed (Referent.rtF (Referent.fInt Syntax.w16)) 1024 9
+row·66 = Rows.arr-owed (Referent.rtF (Referent.fInt Syntax.w16)) 2048 9
 
 abbrev row·67 : Row.Row
 row·67 = Relend.msptr (Referent.rtF (Referent.fInt Syntax.w16)) (Syntax.tyRef Syntax.erased Syntax.mut ty·4) 9
@@ -337,7 +337,7 @@ abbrev row·68 : Row.Row
 row·68 = Mut.mslice (Referent.rtF (Referent.fInt Syntax.w16)) ty·9 9
 
 abbrev row·69 : Row.Row
-row·69 = Rows.arr-owed (Referent.rtF (Referent.fInt Syntax.w32)) 1024 10
+row·69 = Rows.arr-owed (Referent.rtF (Referent.fInt Syntax.w32)) 2048 10
 
 abbrev row·70 : Row.Row
 row·70 = Relend.msptr (Referent.rtF (Referent.fInt Syntax.w32)) (Syntax.tyRef Syntax.erased Syntax.mut ty·5) 10
@@ -346,16 +346,16 @@ abbrev row·71 : Row.Row
 row·71 = Mut.mslice (Referent.rtF (Referent.fInt Syntax.w32)) ty·10 10
 
 abbrev row·72 : Row.Row
-row·72 = Rows.arr-owed (Referent.rtF (Referent.fInt Syntax.w16)) 32 11
+row·72 = Rows.arr-owed (Referent.rtF (Referent.fInt Syntax.w16)) 64 11
 
 abbrev row·73 : Row.Row
-row·73 = Relend.msptr (Referent.rtF (Referent.fInt Syntax.w16)) (Syntax.tyRef Syntax.erased Syntax.mut ty·3) 11
+row·73 = Relend.msptr (Referent.rtF (Referent.fInt Syntax.w16)) (Syntax.tyRef Syntax.erased Syntax.mut ty·2) 11
 
 abbrev row·74 : Row.Row
 row·74 = Mut.mslice (Referent.rtF (Referent.fInt Syntax.w16)) ty·9 11
 
 abbrev row·75 : Row.Row
-row·75 = Rows.arr-owed (Referent.rtF (Referent.fInt Syntax.w8)) 32 12
+row·75 = Rows.arr-owed (Referent.rtF (Referent.fInt Syntax.w8)) 64 12
 
 abbrev row·76 : Row.Row
 row·76 = Relend.msptr (Referent.rtF (Referent.fInt Syntax.w8)) (Syntax.tyRef Syntax.erased Syntax.mut ty·1) 12
@@ -364,7 +364,7 @@ abbrev row·77 : Row.Row
 row·77 = Mut.mslice (Referent.rtF (Referent.fInt Syntax.w8)) ty·7 12
 
 abbrev row·78 : Row.Row
-row·78 = Rows.arr-owed Rec.rt 2048 13
+row·78 = Rows.arr-owed Rec.rt 4096 13
 
 abbrev row·79 : Row.Row
 row·79 = Relend.msptr Rec.rt ty·18 13
@@ -406,25 +406,25 @@ abbrev row·91 : Row.Row
 row·91 = Rows'.sslice (Referent.rtF (Referent.fInt Syntax.w16)) ty·11 15
 
 abbrev row·92 : Row.Row
-row·92 = Rows.arr-shr (Referent.rtF (Referent.fInt Syntax.w8)) 768 16
+row·92 = Rows.arr-shr (Referent.rtF (Referent.fInt Syntax.w8)) 1536 16
 
 abbrev row·93 : Row.Row
-row·93 = Relend.ssptr (Referent.rtF (Referent.fInt Syntax.w8)) (Syntax.tyRef Syntax.erased Syntax.imm ty·2) 16
+row·93 = Relend.ssptr (Referent.rtF (Referent.fInt Syntax.w8)) (Syntax.tyRef Syntax.erased Syntax.imm ty·3) 16
 
 abbrev row·94 : Row.Row
 row·94 = Rows'.sslice (Referent.rtF (Referent.fInt Syntax.w8)) ty·8 16
 
 abbrev row·95 : Row.Row
-row·95 = Rows.arr-shr (Referent.rtF (Referent.fInt Syntax.w16)) 32 17
+row·95 = Rows.arr-shr (Referent.rtF (Referent.fInt Syntax.w16)) 64 17
 
 abbrev row·96 : Row.Row
-row·96 = Relend.ssptr (Referent.rtF (Referent.fInt Syntax.w16)) (Syntax.tyRef Syntax.erased Syntax.imm ty·3) 17
+row·96 = Relend.ssptr (Referent.rtF (Referent.fInt Syntax.w16)) (Syntax.tyRef Syntax.erased Syntax.imm ty·2) 17
 
 abbrev row·97 : Row.Row
 row·97 = Rows'.sslice (Referent.rtF (Referent.fInt Syntax.w16)) ty·11 17
 
 abbrev row·98 : Row.Row
-row·98 = Rows.arr-shr (Referent.rtF (Referent.fInt Syntax.w16)) 1024 18
+row·98 = Rows.arr-shr (Referent.rtF (Referent.fInt Syntax.w16)) 2048 18
 
 abbrev row·99 : Row.Row
 row·99 = Relend.ssptr (Referent.rtF (Referent.fInt Syntax.w16)) (Syntax.tyRef Syntax.erased Syntax.imm ty·4) 18
@@ -433,7 +433,7 @@ abbrev row·100 : Row.Row
 row·100 = Rows'.sslice (Referent.rtF (Referent.fInt Syntax.w16)) ty·11 18
 
 abbrev row·101 : Row.Row
-row·101 = Rows.arr-shr (Referent.rtF (Referent.fInt Syntax.w32)) 1024 19
+row·101 = Rows.arr-shr (Referent.rtF (Referent.fInt Syntax.w32)) 2048 19
 
 abbrev row·102 : Row.Row
 row·102 = Relend.ssptr (Referent.rtF (Referent.fInt Syntax.w32)) (Syntax.tyRef Syntax.erased Syntax.imm ty·5) 19
@@ -442,16 +442,16 @@ abbrev row·103 : Row.Row
 row·103 = Rows'.sslice (Referent.rtF (Referent.fInt Syntax.w32)) ty·12 19
 
 abbrev row·104 : Row.Row
-row·104 = Rows.arr-owed (Referent.rtF (Referent.fInt Syntax.w16)) 32 20
+row·104 = Rows.arr-owed (Referent.rtF (Referent.fInt Syntax.w16)) 64 20
 
 abbrev row·105 : Row.Row
-row·105 = Relend.msptr (Referent.rtF (Referent.fInt Syntax.w16)) (Syntax.tyRef Syntax.erased Syntax.mut ty·3) 20
+row·105 = Relend.msptr (Referent.rtF (Referent.fInt Syntax.w16)) (Syntax.tyRef Syntax.erased Syntax.mut ty·2) 20
 
 abbrev row·106 : Row.Row
 row·106 = Mut.mslice (Referent.rtF (Referent.fInt Syntax.w16)) ty·9 20
 
 abbrev row·107 : Row.Row
-row·107 = Rows.arr-owed (Referent.rtF (Referent.fInt Syntax.w8)) 32 21
+row·107 = Rows.arr-owed (Referent.rtF (Referent.fInt Syntax.w8)) 64 21
 
 abbrev row·108 : Row.Row
 row·108 = Relend.msptr (Referent.rtF (Referent.fInt Syntax.w8)) (Syntax.tyRef Syntax.erased Syntax.mut ty·1) 21
@@ -460,7 +460,7 @@ abbrev row·109 : Row.Row
 row·109 = Mut.mslice (Referent.rtF (Referent.fInt Syntax.w8)) ty·7 21
 
 abbrev row·110 : Row.Row
-row·110 = Rows.arr-owed Rec.rt 2048 22
+row·110 = Rows.arr-owed Rec.rt 4096 22
 
 abbrev row·111 : Row.Row
 row·111 = Relend.msptr Rec.rt ty·18 22
@@ -498,20 +498,20 @@ r = Value.rVal record { ty = Declared.row Reading.the-type; one = Path'.refl; va
     { copies = Laws'.copy Reading.the-type Laws.the-copy 𝓤 H A W; lawful = Laws'.lawful Reading.the-type Laws.the-laws 𝓤 H A W tt; makes = Laws'.makes Reading.the-type Laws.the-plain 𝓤 H A; in-mem = Local.mem-whole 𝓤 H A W (Declared.row Reading.the-type); of-mem = Local.whole-mem 𝓤 H A W (Declared.row Reading.the-type) }
 
 abbrev pub xs : List.List Syntax.Ty
-xs = List._∷_ ty·0 (List._∷_ ty·0 (List._∷_ ty·2 (List._∷_ ty·3 (List._∷_ ty·4 (List._∷_ ty·5 (List._∷_ ty·3 (List._∷_ ty·1 (List._∷_ (Syntax.tyArray Rec.mir 2048) (List._∷_ (Syntax.tyEnum (List._∷_ 114 (List._∷_ 101 (List._∷_ 97 (List._∷_ 100 (List._∷_ 105 (List._∷_ 110 (List._∷_ 103 (List._∷_ 58 (List._∷_ 58 (List._∷_ 114 (List._∷_ 101 (List._∷_ 112
+xs = List._∷_ ty·0 (List._∷_ ty·0 (List._∷_ ty·3 (List._∷_ ty·2 (List._∷_ ty·4 (List._∷_ ty·5 (List._∷_ ty·2 (List._∷_ ty·1 (List._∷_ (Syntax.tyArray Rec.mir 4096) (List._∷_ (Syntax.tyEnum (List._∷_ 114 (List._∷_ 101 (List._∷_ 97 (List._∷_ 100 (List._∷_ 105 (List._∷_ 110 (List._∷_ 103 (List._∷_ 58 (List._∷_ 58 (List._∷_ 114 (List._∷_ 101 (List._∷_ 112
     (List._∷_ 108 (List._∷_ 105 (List._∷_ 101 (List._∷_ 115 (List._∷_ 58 (List._∷_ 58 (List._∷_ 82 (List._∷_ 101 (List._∷_ 97 (List._∷_ 100 (List._∷_ 105 (List._∷_ 110 (List._∷_ 103 List.[]))))))))))))))))))))))))) (Syntax.ttcons Syntax.tnil (Syntax.ttcons (Syntax.tcons (Syntax.tyEnum (List._∷_ 114 (List._∷_ 101 (List._∷_ 97 (List._∷_ 100 (List._∷_ 105 (List._∷_
     110 (List._∷_ 103 (List._∷_ 58 (List._∷_ 58 (List._∷_ 114 (List._∷_ 101 (List._∷_ 112 (List._∷_ 108 (List._∷_ 105 (List._∷_ 101 (List._∷_ 115 (List._∷_ 58 (List._∷_ 58 (List._∷_ 82 (List._∷_ 101 (List._∷_ 102 (List._∷_ 117 (List._∷_ 115 (List._∷_ 97 (List._∷_ 108 List.[]))))))))))))))))))))))))) (Syntax.ttcons Syntax.tnil (Syntax.ttcons (Syntax.tcons
     (Syntax.tyInt Syntax.w64) Syntax.tnil) (Syntax.ttcons (Syntax.tcons (Syntax.tyInt Syntax.w64) Syntax.tnil) (Syntax.ttcons (Syntax.tcons (Syntax.tyInt Syntax.w64) Syntax.tnil) (Syntax.ttcons (Syntax.tcons (Syntax.tyInt Syntax.w64) Syntax.tnil) (Syntax.ttcons (Syntax.tcons (Syntax.tyInt Syntax.w64) Syntax.tnil) (Syntax.ttcons (Syntax.tcons (Syntax.tyInt
     Syntax.w64) Syntax.tnil) (Syntax.ttcons (Syntax.tcons ty·19 Syntax.tnil) (Syntax.ttcons (Syntax.tcons ty·19 Syntax.tnil) (Syntax.ttcons (Syntax.tcons ty·19 Syntax.tnil) (Syntax.ttcons (Syntax.tcons ty·19 (Syntax.tcons ty·19 Syntax.tnil)) (Syntax.ttcons Syntax.tnil Syntax.ttnil))))))))))))) Syntax.tnil) Syntax.ttnil))) (List._∷_ Rec.mir (List._∷_
     (Syntax.tyRef Syntax.erased Syntax.mut ty·0) (List._∷_ (Syntax.tyStruct (List._∷_ 38 (List._∷_ 91 (List._∷_ 93 List.[]))) (Syntax.tcons ty·9 (Syntax.tcons (Syntax.tyInt Syntax.w64) Syntax.tnil))) (List._∷_ (Syntax.tyRef Syntax.erased Syntax.mut ty·0) (List._∷_ (Syntax.tyStruct (List._∷_ 38 (List._∷_ 91 (List._∷_ 93 List.[]))) (Syntax.tcons ty·9 (Syntax.tcons
-    (Syntax.tyInt Syntax.w64) Syntax.tnil))) (List._∷_ (Syntax.tyRef Syntax.erased Syntax.mut ty·2) (List._∷_ (Syntax.tyStruct (List._∷_ 38 (List._∷_ 91 (List._∷_ 93 List.[]))) (Syntax.tcons ty·7 (Syntax.tcons (Syntax.tyInt Syntax.w64) Syntax.tnil))) (List._∷_ (Syntax.tyRef Syntax.erased Syntax.mut ty·3) (List._∷_ (Syntax.tyStruct (List._∷_ 38 (List._∷_ 91
+    (Syntax.tyInt Syntax.w64) Syntax.tnil))) (List._∷_ (Syntax.tyRef Syntax.erased Syntax.mut ty·3) (List._∷_ (Syntax.tyStruct (List._∷_ 38 (List._∷_ 91 (List._∷_ 93 List.[]))) (Syntax.tcons ty·7 (Syntax.tcons (Syntax.tyInt Syntax.w64) Syntax.tnil))) (List._∷_ (Syntax.tyRef Syntax.erased Syntax.mut ty·2) (List._∷_ (Syntax.tyStruct (List._∷_ 38 (List._∷_ 91
     (List._∷_ 93 List.[]))) (Syntax.tcons ty·9 (Syntax.tcons (Syntax.tyInt Syntax.w64) Syntax.tnil))) (List._∷_ (Syntax.tyRef Syntax.erased Syntax.mut ty·4) (List._∷_ (Syntax.tyStruct (List._∷_ 38 (List._∷_ 91 (List._∷_ 93 List.[]))) (Syntax.tcons ty·9 (Syntax.tcons (Syntax.tyInt Syntax.w64) Syntax.tnil))) (List._∷_ (Syntax.tyRef Syntax.erased Syntax.mut ty·5)
-    (List._∷_ (Syntax.tyStruct (List._∷_ 38 (List._∷_ 91 (List._∷_ 93 List.[]))) (Syntax.tcons ty·10 (Syntax.tcons (Syntax.tyInt Syntax.w64) Syntax.tnil))) (List._∷_ (Syntax.tyRef Syntax.erased Syntax.mut ty·3) (List._∷_ (Syntax.tyStruct (List._∷_ 38 (List._∷_ 91 (List._∷_ 93 List.[]))) (Syntax.tcons ty·9 (Syntax.tcons (Syntax.tyInt Syntax.w64) Syntax.tnil)))
+    (List._∷_ (Syntax.tyStruct (List._∷_ 38 (List._∷_ 91 (List._∷_ 93 List.[]))) (Syntax.tcons ty·10 (Syntax.tcons (Syntax.tyInt Syntax.w64) Syntax.tnil))) (List._∷_ (Syntax.tyRef Syntax.erased Syntax.mut ty·2) (List._∷_ (Syntax.tyStruct (List._∷_ 38 (List._∷_ 91 (List._∷_ 93 List.[]))) (Syntax.tcons ty·9 (Syntax.tcons (Syntax.tyInt Syntax.w64) Syntax.tnil)))
     (List._∷_ (Syntax.tyRef Syntax.erased Syntax.mut ty·1) (List._∷_ (Syntax.tyStruct (List._∷_ 38 (List._∷_ 91 (List._∷_ 93 List.[]))) (Syntax.tcons ty·7 (Syntax.tcons (Syntax.tyInt Syntax.w64) Syntax.tnil))) (List._∷_ ty·18 (List._∷_ (Syntax.tyStruct (List._∷_ 38 (List._∷_ 91 (List._∷_ 93 List.[]))) (Syntax.tcons ty·6 (Syntax.tcons (Syntax.tyInt Syntax.w64)
     Syntax.tnil))) (List._∷_ (Syntax.tyInt Syntax.w64) (List._∷_ Syntax.tyBool (List._∷_ Syntax.tyUnit (List._∷_ (Syntax.tyRef Syntax.erased Syntax.imm ty·0) (List._∷_ (Syntax.tyStruct (List._∷_ 38 (List._∷_ 91 (List._∷_ 93 List.[]))) (Syntax.tcons ty·11 (Syntax.tcons (Syntax.tyInt Syntax.w64) Syntax.tnil))) (List._∷_ (Syntax.tyRef Syntax.erased Syntax.imm ty·0)
-    (List._∷_ (Syntax.tyStruct (List._∷_ 38 (List._∷_ 91 (List._∷_ 93 List.[]))) (Syntax.tcons ty·11 (Syntax.tcons (Syntax.tyInt Syntax.w64) Syntax.tnil))) (List._∷_ (Syntax.tyRef Syntax.erased Syntax.imm ty·2) (List._∷_ (Syntax.tyStruct (List._∷_ 38 (List._∷_ 91 (List._∷_ 93 List.[]))) (Syntax.tcons ty·8 (Syntax.tcons (Syntax.tyInt Syntax.w64) Syntax.tnil)))
-    (List._∷_ (Syntax.tyRef Syntax.erased Syntax.imm ty·3) (List._∷_ (Syntax.tyStruct (List._∷_ 38 (List._∷_ 91 (List._∷_ 93 List.[]))) (Syntax.tcons ty·11 (Syntax.tcons (Syntax.tyInt Syntax.w64) Syntax.tnil))) (List._∷_ (Syntax.tyRef Syntax.erased Syntax.imm ty·4) (List._∷_ (Syntax.tyStruct (List._∷_ 38 (List._∷_ 91 (List._∷_ 93 List.[]))) (Syntax.tcons ty·11
-    (Syntax.tcons (Syntax.tyInt Syntax.w64) Syntax.tnil))) (List._∷_ (Syntax.tyRef Syntax.erased Syntax.imm ty·5) (List._∷_ (Syntax.tyStruct (List._∷_ 38 (List._∷_ 91 (List._∷_ 93 List.[]))) (Syntax.tcons ty·12 (Syntax.tcons (Syntax.tyInt Syntax.w64) Syntax.tnil))) (List._∷_ (Syntax.tyRef Syntax.erased Syntax.mut ty·3) (List._∷_ (Syntax.tyStruct (List._∷_ 38
+    (List._∷_ (Syntax.tyStruct (List._∷_ 38 (List._∷_ 91 (List._∷_ 93 List.[]))) (Syntax.tcons ty·11 (Syntax.tcons (Syntax.tyInt Syntax.w64) Syntax.tnil))) (List._∷_ (Syntax.tyRef Syntax.erased Syntax.imm ty·3) (List._∷_ (Syntax.tyStruct (List._∷_ 38 (List._∷_ 91 (List._∷_ 93 List.[]))) (Syntax.tcons ty·8 (Syntax.tcons (Syntax.tyInt Syntax.w64) Syntax.tnil)))
+    (List._∷_ (Syntax.tyRef Syntax.erased Syntax.imm ty·2) (List._∷_ (Syntax.tyStruct (List._∷_ 38 (List._∷_ 91 (List._∷_ 93 List.[]))) (Syntax.tcons ty·11 (Syntax.tcons (Syntax.tyInt Syntax.w64) Syntax.tnil))) (List._∷_ (Syntax.tyRef Syntax.erased Syntax.imm ty·4) (List._∷_ (Syntax.tyStruct (List._∷_ 38 (List._∷_ 91 (List._∷_ 93 List.[]))) (Syntax.tcons ty·11
+    (Syntax.tcons (Syntax.tyInt Syntax.w64) Syntax.tnil))) (List._∷_ (Syntax.tyRef Syntax.erased Syntax.imm ty·5) (List._∷_ (Syntax.tyStruct (List._∷_ 38 (List._∷_ 91 (List._∷_ 93 List.[]))) (Syntax.tcons ty·12 (Syntax.tcons (Syntax.tyInt Syntax.w64) Syntax.tnil))) (List._∷_ (Syntax.tyRef Syntax.erased Syntax.mut ty·2) (List._∷_ (Syntax.tyStruct (List._∷_ 38
     (List._∷_ 91 (List._∷_ 93 List.[]))) (Syntax.tcons ty·9 (Syntax.tcons (Syntax.tyInt Syntax.w64) Syntax.tnil))) (List._∷_ (Syntax.tyRef Syntax.erased Syntax.mut ty·1) (List._∷_ (Syntax.tyStruct (List._∷_ 38 (List._∷_ 91 (List._∷_ 93 List.[]))) (Syntax.tcons ty·7 (Syntax.tcons (Syntax.tyInt Syntax.w64) Syntax.tnil))) (List._∷_ ty·18 (List._∷_ (Syntax.tyStruct
     (List._∷_ 38 (List._∷_ 91 (List._∷_ 93 List.[]))) (Syntax.tcons ty·6 (Syntax.tcons (Syntax.tyInt Syntax.w64) Syntax.tnil))) (List._∷_ ty·9 (List._∷_ (Syntax.tyStruct (List._∷_ 38 (List._∷_ 91 (List._∷_ 93 List.[]))) (Syntax.tcons ty·9 (Syntax.tcons (Syntax.tyInt Syntax.w64) Syntax.tnil))) (List._∷_ ty·10 (List._∷_ (Syntax.tyStruct (List._∷_ 38 (List._∷_ 91
     (List._∷_ 93 List.[]))) (Syntax.tcons ty·10 (Syntax.tcons (Syntax.tyInt Syntax.w64) Syntax.tnil))) List.[])))))))))))))))))))))))))))))))))))))))))))))))))))))
@@ -564,28 +564,28 @@ abbrev b1 : Syntax.Body
 b1 = Syntax.assign (Syntax.place 8 List.[]) (Syntax.aggregate (List._∷_ (Syntax.int Syntax.w16 0) List.[]))
 
 abbrev b2 : Syntax.Body
-b2 = Syntax.assign (Syntax.place 9 List.[]) (Syntax.repeat (Syntax.int Syntax.w8 0) 768)
+b2 = Syntax.assign (Syntax.place 9 List.[]) (Syntax.repeat (Syntax.int Syntax.w8 0) 1536)
 
 abbrev b3 : Syntax.Body
-b3 = Syntax.assign (Syntax.place 10 List.[]) (Syntax.repeat (Syntax.int Syntax.w16 0) 32)
+b3 = Syntax.assign (Syntax.place 10 List.[]) (Syntax.repeat (Syntax.int Syntax.w16 0) 64)
 
 abbrev b4 : Syntax.Body
-b4 = Syntax.assign (Syntax.place 11 List.[]) (Syntax.repeat (Syntax.int Syntax.w16 0) 1024)
+b4 = Syntax.assign (Syntax.place 11 List.[]) (Syntax.repeat (Syntax.int Syntax.w16 0) 2048)
 
 abbrev b5 : Syntax.Body
-b5 = Syntax.assign (Syntax.place 12 List.[]) (Syntax.repeat (Syntax.int Syntax.w32 0) 1024)
+b5 = Syntax.assign (Syntax.place 12 List.[]) (Syntax.repeat (Syntax.int Syntax.w32 0) 2048)
 
 abbrev b6 : Syntax.Body
-b6 = Syntax.assign (Syntax.place 13 List.[]) (Syntax.repeat (Syntax.int Syntax.w16 0) 32)
+b6 = Syntax.assign (Syntax.place 13 List.[]) (Syntax.repeat (Syntax.int Syntax.w16 0) 64)
 
 abbrev b7 : Syntax.Body
-b7 = Syntax.assign (Syntax.place 14 List.[]) (Syntax.repeat (Syntax.int Syntax.w8 0) 32)
+b7 = Syntax.assign (Syntax.place 14 List.[]) (Syntax.repeat (Syntax.int Syntax.w8 0) 64)
 
 abbrev b8 : Syntax.Body
 b8 = Syntax.call "records::record::zero_record" List.[] (Syntax.place 17 List.[])
 
 abbrev b9 : Syntax.Body
-b9 = Syntax.assign (Syntax.place 15 List.[]) (Syntax.repeat (Syntax.copy (Syntax.place 17 List.[])) 2048)
+b9 = Syntax.assign (Syntax.place 15 List.[]) (Syntax.repeat (Syntax.copy (Syntax.place 17 List.[])) 4096)
 
 abbrev b10 : Syntax.Body
 b10 = Syntax.assign (Syntax.place 18 List.[]) (Syntax.addrOf (Syntax.place 7 List.[]))
@@ -603,43 +603,43 @@ abbrev b14 : Syntax.Body
 b14 = Syntax.assign (Syntax.place 22 List.[]) (Syntax.addrOf (Syntax.place 9 List.[]))
 
 abbrev b15 : Syntax.Body
-b15 = Syntax.assign (Syntax.place 23 List.[]) (Syntax.aggregate (List._∷_ (Syntax.copy (Syntax.place 22 List.[])) (List._∷_ (Syntax.int Syntax.w64 768) List.[])))
+b15 = Syntax.assign (Syntax.place 23 List.[]) (Syntax.aggregate (List._∷_ (Syntax.copy (Syntax.place 22 List.[])) (List._∷_ (Syntax.intBig Syntax.w64 1536) List.[])))
 
 abbrev b16 : Syntax.Body
 b16 = Syntax.assign (Syntax.place 24 List.[]) (Syntax.addrOf (Syntax.place 10 List.[]))
 
 abbrev b17 : Syntax.Body
-b17 = Syntax.assign (Syntax.place 25 List.[]) (Syntax.aggregate (List._∷_ (Syntax.copy (Syntax.place 24 List.[])) (List._∷_ (Syntax.int Syntax.w64 32) List.[])))
+b17 = Syntax.assign (Syntax.place 25 List.[]) (Syntax.aggregate (List._∷_ (Syntax.copy (Syntax.place 24 List.[])) (List._∷_ (Syntax.int Syntax.w64 64) List.[])))
 
 abbrev b18 : Syntax.Body
 b18 = Syntax.assign (Syntax.place 26 List.[]) (Syntax.addrOf (Syntax.place 11 List.[]))
 
 abbrev b19 : Syntax.Body
-b19 = Syntax.assign (Syntax.place 27 List.[]) (Syntax.aggregate (List._∷_ (Syntax.copy (Syntax.place 26 List.[])) (List._∷_ (Syntax.intBig Syntax.w64 1024) List.[])))
+b19 = Syntax.assign (Syntax.place 27 List.[]) (Syntax.aggregate (List._∷_ (Syntax.copy (Syntax.place 26 List.[])) (List._∷_ (Syntax.intBig Syntax.w64 2048) List.[])))
 
 abbrev b20 : Syntax.Body
 b20 = Syntax.assign (Syntax.place 28 List.[]) (Syntax.addrOf (Syntax.place 12 List.[]))
 
 abbrev b21 : Syntax.Body
-b21 = Syntax.assign (Syntax.place 29 List.[]) (Syntax.aggregate (List._∷_ (Syntax.copy (Syntax.place 28 List.[])) (List._∷_ (Syntax.intBig Syntax.w64 1024) List.[])))
+b21 = Syntax.assign (Syntax.place 29 List.[]) (Syntax.aggregate (List._∷_ (Syntax.copy (Syntax.place 28 List.[])) (List._∷_ (Syntax.intBig Syntax.w64 2048) List.[])))
 
 abbrev b22 : Syntax.Body
 b22 = Syntax.assign (Syntax.place 30 List.[]) (Syntax.addrOf (Syntax.place 13 List.[]))
 
 abbrev b23 : Syntax.Body
-b23 = Syntax.assign (Syntax.place 31 List.[]) (Syntax.aggregate (List._∷_ (Syntax.copy (Syntax.place 30 List.[])) (List._∷_ (Syntax.int Syntax.w64 32) List.[])))
+b23 = Syntax.assign (Syntax.place 31 List.[]) (Syntax.aggregate (List._∷_ (Syntax.copy (Syntax.place 30 List.[])) (List._∷_ (Syntax.int Syntax.w64 64) List.[])))
 
 abbrev b24 : Syntax.Body
 b24 = Syntax.assign (Syntax.place 32 List.[]) (Syntax.addrOf (Syntax.place 14 List.[]))
 
 abbrev b25 : Syntax.Body
-b25 = Syntax.assign (Syntax.place 33 List.[]) (Syntax.aggregate (List._∷_ (Syntax.copy (Syntax.place 32 List.[])) (List._∷_ (Syntax.int Syntax.w64 32) List.[])))
+b25 = Syntax.assign (Syntax.place 33 List.[]) (Syntax.aggregate (List._∷_ (Syntax.copy (Syntax.place 32 List.[])) (List._∷_ (Syntax.int Syntax.w64 64) List.[])))
 
 abbrev b26 : Syntax.Body
 b26 = Syntax.assign (Syntax.place 34 List.[]) (Syntax.addrOf (Syntax.place 15 List.[]))
 
 abbrev b27 : Syntax.Body
-b27 = Syntax.assign (Syntax.place 35 List.[]) (Syntax.aggregate (List._∷_ (Syntax.copy (Syntax.place 34 List.[])) (List._∷_ (Syntax.intBig Syntax.w64 2048) List.[])))
+b27 = Syntax.assign (Syntax.place 35 List.[]) (Syntax.aggregate (List._∷_ (Syntax.copy (Syntax.place 34 List.[])) (List._∷_ (Syntax.intBig Syntax.w64 4096) List.[])))
 
 abbrev b28 : Syntax.Body
 b28 = Syntax.call "conductor::calls::read_plan" (List._∷_ (Syntax.copy (Syntax.place 1 List.[])) (List._∷_ (Syntax.copy (Syntax.place 19 List.[])) (List._∷_ (Syntax.copy (Syntax.place 21 List.[])) (List._∷_ (Syntax.copy (Syntax.place 23 List.[])) (List._∷_ (Syntax.copy (Syntax.place 25 List.[])) (List._∷_ (Syntax.copy (Syntax.place 27 List.[])) (List._∷_
@@ -682,43 +682,43 @@ abbrev b40 : Syntax.Body
 b40 = Syntax.assign (Syntax.place 43 List.[]) (Syntax.addrOf (Syntax.place 9 List.[]))
 
 abbrev b41 : Syntax.Body
-b41 = Syntax.assign (Syntax.place 44 List.[]) (Syntax.aggregate (List._∷_ (Syntax.copy (Syntax.place 43 List.[])) (List._∷_ (Syntax.int Syntax.w64 768) List.[])))
+b41 = Syntax.assign (Syntax.place 44 List.[]) (Syntax.aggregate (List._∷_ (Syntax.copy (Syntax.place 43 List.[])) (List._∷_ (Syntax.intBig Syntax.w64 1536) List.[])))
 
 abbrev b42 : Syntax.Body
 b42 = Syntax.assign (Syntax.place 45 List.[]) (Syntax.addrOf (Syntax.place 10 List.[]))
 
 abbrev b43 : Syntax.Body
-b43 = Syntax.assign (Syntax.place 46 List.[]) (Syntax.aggregate (List._∷_ (Syntax.copy (Syntax.place 45 List.[])) (List._∷_ (Syntax.int Syntax.w64 32) List.[])))
+b43 = Syntax.assign (Syntax.place 46 List.[]) (Syntax.aggregate (List._∷_ (Syntax.copy (Syntax.place 45 List.[])) (List._∷_ (Syntax.int Syntax.w64 64) List.[])))
 
 abbrev b44 : Syntax.Body
 b44 = Syntax.assign (Syntax.place 47 List.[]) (Syntax.addrOf (Syntax.place 11 List.[]))
 
 abbrev b45 : Syntax.Body
-b45 = Syntax.assign (Syntax.place 48 List.[]) (Syntax.aggregate (List._∷_ (Syntax.copy (Syntax.place 47 List.[])) (List._∷_ (Syntax.intBig Syntax.w64 1024) List.[])))
+b45 = Syntax.assign (Syntax.place 48 List.[]) (Syntax.aggregate (List._∷_ (Syntax.copy (Syntax.place 47 List.[])) (List._∷_ (Syntax.intBig Syntax.w64 2048) List.[])))
 
 abbrev b46 : Syntax.Body
 b46 = Syntax.assign (Syntax.place 49 List.[]) (Syntax.addrOf (Syntax.place 12 List.[]))
 
 abbrev b47 : Syntax.Body
-b47 = Syntax.assign (Syntax.place 50 List.[]) (Syntax.aggregate (List._∷_ (Syntax.copy (Syntax.place 49 List.[])) (List._∷_ (Syntax.intBig Syntax.w64 1024) List.[])))
+b47 = Syntax.assign (Syntax.place 50 List.[]) (Syntax.aggregate (List._∷_ (Syntax.copy (Syntax.place 49 List.[])) (List._∷_ (Syntax.intBig Syntax.w64 2048) List.[])))
 
 abbrev b48 : Syntax.Body
 b48 = Syntax.assign (Syntax.place 51 List.[]) (Syntax.addrOf (Syntax.place 13 List.[]))
 
 abbrev b49 : Syntax.Body
-b49 = Syntax.assign (Syntax.place 52 List.[]) (Syntax.aggregate (List._∷_ (Syntax.copy (Syntax.place 51 List.[])) (List._∷_ (Syntax.int Syntax.w64 32) List.[])))
+b49 = Syntax.assign (Syntax.place 52 List.[]) (Syntax.aggregate (List._∷_ (Syntax.copy (Syntax.place 51 List.[])) (List._∷_ (Syntax.int Syntax.w64 64) List.[])))
 
 abbrev b50 : Syntax.Body
 b50 = Syntax.assign (Syntax.place 53 List.[]) (Syntax.addrOf (Syntax.place 14 List.[]))
 
 abbrev b51 : Syntax.Body
-b51 = Syntax.assign (Syntax.place 54 List.[]) (Syntax.aggregate (List._∷_ (Syntax.copy (Syntax.place 53 List.[])) (List._∷_ (Syntax.int Syntax.w64 32) List.[])))
+b51 = Syntax.assign (Syntax.place 54 List.[]) (Syntax.aggregate (List._∷_ (Syntax.copy (Syntax.place 53 List.[])) (List._∷_ (Syntax.int Syntax.w64 64) List.[])))
 
 abbrev b52 : Syntax.Body
 b52 = Syntax.assign (Syntax.place 55 List.[]) (Syntax.addrOf (Syntax.place 15 List.[]))
 
 abbrev b53 : Syntax.Body
-b53 = Syntax.assign (Syntax.place 56 List.[]) (Syntax.aggregate (List._∷_ (Syntax.copy (Syntax.place 55 List.[])) (List._∷_ (Syntax.intBig Syntax.w64 2048) List.[])))
+b53 = Syntax.assign (Syntax.place 56 List.[]) (Syntax.aggregate (List._∷_ (Syntax.copy (Syntax.place 55 List.[])) (List._∷_ (Syntax.intBig Syntax.w64 4096) List.[])))
 
 abbrev b54 : Syntax.Body
 b54 = Syntax.assign (Syntax.place 57 List.[]) (Syntax.addrOf (Syntax.place 5 (List._∷_ (Syntax.field 0) (List._∷_ (Syntax.deref (Syntax.tyInt Syntax.w16)) List.[]))))
@@ -1573,49 +1573,49 @@ module _ (claims· : Claims) where
   s8 = λ bs. AtSlots.n-as-by T9 8 (Rows.arrF (Referent.rtF (Referent.fInt Syntax.w16)) 1 0) λ x. x
 
   abbrev s9 : (bs : List.List Nat.ℕ) → Typed.Mo T10 → Typed.Mo T11
-  s9 = λ bs. Repeat.n-repeat (Referent.rtF (Referent.fInt Syntax.w8)) 768 T10 9 λ m. 0
+  s9 = λ bs. Repeat.n-repeat (Referent.rtF (Referent.fInt Syntax.w8)) 1536 T10 9 λ m. 0
 
   abbrev s10 : (bs : List.List Nat.ℕ) → Typed.Mo T11 → Typed.Mo T12
-  s10 = λ bs. AtSlots.n-as-by T11 9 (Rows.arrF (Referent.rtF (Referent.fInt Syntax.w8)) 768 0) λ x. x
+  s10 = λ bs. AtSlots.n-as-by T11 9 (Rows.arrF (Referent.rtF (Referent.fInt Syntax.w8)) 1536 0) λ x. x
 
   abbrev s11 : (bs : List.List Nat.ℕ) → Typed.Mo T12 → Typed.Mo T13
-  s11 = λ bs. Repeat.n-repeat (Referent.rtF (Referent.fInt Syntax.w16)) 32 T12 10 λ m. 0
+  s11 = λ bs. Repeat.n-repeat (Referent.rtF (Referent.fInt Syntax.w16)) 64 T12 10 λ m. 0
 
   abbrev s12 : (bs : List.List Nat.ℕ) → Typed.Mo T13 → Typed.Mo T14
-  s12 = λ bs. AtSlots.n-as-by T13 10 (Rows.arrF (Referent.rtF (Referent.fInt Syntax.w16)) 32 0) λ x. x
+  s12 = λ bs. AtSlots.n-as-by T13 10 (Rows.arrF (Referent.rtF (Referent.fInt Syntax.w16)) 64 0) λ x. x
 
   abbrev s13 : (bs : List.List Nat.ℕ) → Typed.Mo T14 → Typed.Mo T15
-  s13 = λ bs. Repeat.n-repeat (Referent.rtF (Referent.fInt Syntax.w16)) 1024 T14 11 λ m. 0
+  s13 = λ bs. Repeat.n-repeat (Referent.rtF (Referent.fInt Syntax.w16)) 2048 T14 11 λ m. 0
 
   abbrev s14 : (bs : List.List Nat.ℕ) → Typed.Mo T15 → Typed.Mo T16
-  s14 = λ bs. AtSlots.n-as-by T15 11 (Rows.arrF (Referent.rtF (Referent.fInt Syntax.w16)) 1024 0) λ x. x
+  s14 = λ bs. AtSlots.n-as-by T15 11 (Rows.arrF (Referent.rtF (Referent.fInt Syntax.w16)) 2048 0) λ x. x
 
   abbrev s15 : (bs : List.List Nat.ℕ) → Typed.Mo T16 → Typed.Mo T17
-  s15 = λ bs. Repeat.n-repeat (Referent.rtF (Referent.fInt Syntax.w32)) 1024 T16 12 λ m. 0
+  s15 = λ bs. Repeat.n-repeat (Referent.rtF (Referent.fInt Syntax.w32)) 2048 T16 12 λ m. 0
 
   abbrev s16 : (bs : List.List Nat.ℕ) → Typed.Mo T17 → Typed.Mo T18
-  s16 = λ bs. AtSlots.n-as-by T17 12 (Rows.arrF (Referent.rtF (Referent.fInt Syntax.w32)) 1024 0) λ x. x
+  s16 = λ bs. AtSlots.n-as-by T17 12 (Rows.arrF (Referent.rtF (Referent.fInt Syntax.w32)) 2048 0) λ x. x
 
   abbrev s17 : (bs : List.List Nat.ℕ) → Typed.Mo T18 → Typed.Mo T19
-  s17 = λ bs. Repeat.n-repeat (Referent.rtF (Referent.fInt Syntax.w16)) 32 T18 13 λ m. 0
+  s17 = λ bs. Repeat.n-repeat (Referent.rtF (Referent.fInt Syntax.w16)) 64 T18 13 λ m. 0
 
   abbrev s18 : (bs : List.List Nat.ℕ) → Typed.Mo T19 → Typed.Mo T20
-  s18 = λ bs. AtSlots.n-as-by T19 13 (Rows.arrF (Referent.rtF (Referent.fInt Syntax.w16)) 32 0) λ x. x
+  s18 = λ bs. AtSlots.n-as-by T19 13 (Rows.arrF (Referent.rtF (Referent.fInt Syntax.w16)) 64 0) λ x. x
 
   abbrev s19 : (bs : List.List Nat.ℕ) → Typed.Mo T20 → Typed.Mo T21
-  s19 = λ bs. Repeat.n-repeat (Referent.rtF (Referent.fInt Syntax.w8)) 32 T20 14 λ m. 0
+  s19 = λ bs. Repeat.n-repeat (Referent.rtF (Referent.fInt Syntax.w8)) 64 T20 14 λ m. 0
 
   abbrev s20 : (bs : List.List Nat.ℕ) → Typed.Mo T21 → Typed.Mo T22
-  s20 = λ bs. AtSlots.n-as-by T21 14 (Rows.arrF (Referent.rtF (Referent.fInt Syntax.w8)) 32 0) λ x. x
+  s20 = λ bs. AtSlots.n-as-by T21 14 (Rows.arrF (Referent.rtF (Referent.fInt Syntax.w8)) 64 0) λ x. x
 
   abbrev s21 : (bs : List.List Nat.ℕ) → Typed.Both T22 T23
   s21 = λ bs. Call.callB ps·0 r·0 (claims· .0) (claims· .1) T22 tt 17 List.[] Rec.mir
 
   abbrev s22 : (bs : List.List Nat.ℕ) → Typed.Mo T23 → Typed.Mo T24
-  s22 = λ bs. Repeat.n-repeat Rec.rt 2048 T23 15 λ m. m .1 .1 .1 .1 .1 .1 .1 .1 .1 .1 .1 .1 .1 .1 .1 .1 .1 .0
+  s22 = λ bs. Repeat.n-repeat Rec.rt 4096 T23 15 λ m. m .1 .1 .1 .1 .1 .1 .1 .1 .1 .1 .1 .1 .1 .1 .1 .1 .1 .0
 
   abbrev s23 : (bs : List.List Nat.ℕ) → Typed.Mo T24 → Typed.Mo T25
-  s23 = λ bs. AtSlots.n-as-by T24 15 (Rows.arrF Rec.rt 2048 0) λ x. x
+  s23 = λ bs. AtSlots.n-as-by T24 15 (Rows.arrF Rec.rt 4096 0) λ x. x
 
   abbrev s24 : (bs : List.List Nat.ℕ) → Typed.Mo T25 → Typed.Mo T26
   s24 = λ bs. Scalar.n-room T25 17 Rec.mir
@@ -1633,46 +1633,46 @@ module _ (claims· : Claims) where
   s30 = λ bs. Relend.k-sl-aggregate (Referent.rtF (Referent.fInt Syntax.w16)) (Relend.asMut (Referent.rtF (Referent.fInt Syntax.w16))) T31 20 21 6 (Syntax.tyRef Syntax.erased Syntax.mut ty·0) ty·9 (λ x. x) (Scalar.oInt Syntax.w64 1)
 
   abbrev s32 : (bs : List.List Nat.ℕ) → Typed.Gives T32 T34
-  s32 = λ bs. Borrow.k-arr-borrow (Referent.rtF (Referent.fInt Syntax.w8)) T32 (Row.hd 0 (Row.tl (Row.tl (Row.tl (Row.tl (Row.tl (Row.tl (Row.tl (Row.tl (Row.tl bs)))))))))) 9 22 768 7 (Syntax.tyRef Syntax.erased Syntax.mut ty·2) λ x. x
+  s32 = λ bs. Borrow.k-arr-borrow (Referent.rtF (Referent.fInt Syntax.w8)) T32 (Row.hd 0 (Row.tl (Row.tl (Row.tl (Row.tl (Row.tl (Row.tl (Row.tl (Row.tl (Row.tl bs)))))))))) 9 22 1536 7 (Syntax.tyRef Syntax.erased Syntax.mut ty·3) λ x. x
 
   abbrev s33 : (bs : List.List Nat.ℕ) → Typed.Asks T34 T35
-  s33 = λ bs. Relend.k-sl-aggregate (Referent.rtF (Referent.fInt Syntax.w8)) (Relend.asMut (Referent.rtF (Referent.fInt Syntax.w8))) T34 22 23 7 (Syntax.tyRef Syntax.erased Syntax.mut ty·2) ty·7 (λ x. x) (Scalar.oInt Syntax.w64 768)
+  s33 = λ bs. Relend.k-sl-aggregate (Referent.rtF (Referent.fInt Syntax.w8)) (Relend.asMut (Referent.rtF (Referent.fInt Syntax.w8))) T34 22 23 7 (Syntax.tyRef Syntax.erased Syntax.mut ty·3) ty·7 (λ x. x) (Scalar.oBig Syntax.w64 1536)
 
   abbrev s35 : (bs : List.List Nat.ℕ) → Typed.Gives T35 T37
-  s35 = λ bs. Borrow.k-arr-borrow (Referent.rtF (Referent.fInt Syntax.w16)) T35 (Row.hd 0 (Row.tl (Row.tl (Row.tl (Row.tl (Row.tl (Row.tl (Row.tl (Row.tl (Row.tl (Row.tl bs))))))))))) 10 24 32 8 (Syntax.tyRef Syntax.erased Syntax.mut ty·3) λ x. x
+  s35 = λ bs. Borrow.k-arr-borrow (Referent.rtF (Referent.fInt Syntax.w16)) T35 (Row.hd 0 (Row.tl (Row.tl (Row.tl (Row.tl (Row.tl (Row.tl (Row.tl (Row.tl (Row.tl (Row.tl bs))))))))))) 10 24 64 8 (Syntax.tyRef Syntax.erased Syntax.mut ty·2) λ x. x
 
   abbrev s36 : (bs : List.List Nat.ℕ) → Typed.Asks T37 T38
-  s36 = λ bs. Relend.k-sl-aggregate (Referent.rtF (Referent.fInt Syntax.w16)) (Relend.asMut (Referent.rtF (Referent.fInt Syntax.w16))) T37 24 25 8 (Syntax.tyRef Syntax.erased Syntax.mut ty·3) ty·9 (λ x. x) (Scalar.oInt Syntax.w64 32)
+  s36 = λ bs. Relend.k-sl-aggregate (Referent.rtF (Referent.fInt Syntax.w16)) (Relend.asMut (Referent.rtF (Referent.fInt Syntax.w16))) T37 24 25 8 (Syntax.tyRef Syntax.erased Syntax.mut ty·2) ty·9 (λ x. x) (Scalar.oInt Syntax.w64 64)
 
   abbrev s38 : (bs : List.List Nat.ℕ) → Typed.Gives T38 T40
-  s38 = λ bs. Borrow.k-arr-borrow (Referent.rtF (Referent.fInt Syntax.w16)) T38 (Row.hd 0 (Row.tl (Row.tl (Row.tl (Row.tl (Row.tl (Row.tl (Row.tl (Row.tl (Row.tl (Row.tl (Row.tl bs)))))))))))) 11 26 1024 9 (Syntax.tyRef Syntax.erased Syntax.mut ty·4) λ x. x
+  s38 = λ bs. Borrow.k-arr-borrow (Referent.rtF (Referent.fInt Syntax.w16)) T38 (Row.hd 0 (Row.tl (Row.tl (Row.tl (Row.tl (Row.tl (Row.tl (Row.tl (Row.tl (Row.tl (Row.tl (Row.tl bs)))))))))))) 11 26 2048 9 (Syntax.tyRef Syntax.erased Syntax.mut ty·4) λ x. x
 
   abbrev s39 : (bs : List.List Nat.ℕ) → Typed.Asks T40 T41
-  s39 = λ bs. Relend.k-sl-aggregate (Referent.rtF (Referent.fInt Syntax.w16)) (Relend.asMut (Referent.rtF (Referent.fInt Syntax.w16))) T40 26 27 9 (Syntax.tyRef Syntax.erased Syntax.mut ty·4) ty·9 (λ x. x) (Scalar.oBig Syntax.w64 1024)
+  s39 = λ bs. Relend.k-sl-aggregate (Referent.rtF (Referent.fInt Syntax.w16)) (Relend.asMut (Referent.rtF (Referent.fInt Syntax.w16))) T40 26 27 9 (Syntax.tyRef Syntax.erased Syntax.mut ty·4) ty·9 (λ x. x) (Scalar.oBig Syntax.w64 2048)
 
   abbrev s41 : (bs : List.List Nat.ℕ) → Typed.Gives T41 T43
-  s41 = λ bs. Borrow.k-arr-borrow (Referent.rtF (Referent.fInt Syntax.w32)) T41 (Row.hd 0 (Row.tl (Row.tl (Row.tl (Row.tl (Row.tl (Row.tl (Row.tl (Row.tl (Row.tl (Row.tl (Row.tl (Row.tl bs))))))))))))) 12 28 1024 10 (Syntax.tyRef Syntax.erased Syntax.mut ty·5) λ x. x
+  s41 = λ bs. Borrow.k-arr-borrow (Referent.rtF (Referent.fInt Syntax.w32)) T41 (Row.hd 0 (Row.tl (Row.tl (Row.tl (Row.tl (Row.tl (Row.tl (Row.tl (Row.tl (Row.tl (Row.tl (Row.tl (Row.tl bs))))))))))))) 12 28 2048 10 (Syntax.tyRef Syntax.erased Syntax.mut ty·5) λ x. x
 
   abbrev s42 : (bs : List.List Nat.ℕ) → Typed.Asks T43 T44
-  s42 = λ bs. Relend.k-sl-aggregate (Referent.rtF (Referent.fInt Syntax.w32)) (Relend.asMut (Referent.rtF (Referent.fInt Syntax.w32))) T43 28 29 10 (Syntax.tyRef Syntax.erased Syntax.mut ty·5) ty·10 (λ x. x) (Scalar.oBig Syntax.w64 1024)
+  s42 = λ bs. Relend.k-sl-aggregate (Referent.rtF (Referent.fInt Syntax.w32)) (Relend.asMut (Referent.rtF (Referent.fInt Syntax.w32))) T43 28 29 10 (Syntax.tyRef Syntax.erased Syntax.mut ty·5) ty·10 (λ x. x) (Scalar.oBig Syntax.w64 2048)
 
   abbrev s44 : (bs : List.List Nat.ℕ) → Typed.Gives T44 T46
-  s44 = λ bs. Borrow.k-arr-borrow (Referent.rtF (Referent.fInt Syntax.w16)) T44 (Row.hd 0 (Row.tl (Row.tl (Row.tl (Row.tl (Row.tl (Row.tl (Row.tl (Row.tl (Row.tl (Row.tl (Row.tl (Row.tl (Row.tl bs)))))))))))))) 13 30 32 11 (Syntax.tyRef Syntax.erased Syntax.mut ty·3) λ x. x
+  s44 = λ bs. Borrow.k-arr-borrow (Referent.rtF (Referent.fInt Syntax.w16)) T44 (Row.hd 0 (Row.tl (Row.tl (Row.tl (Row.tl (Row.tl (Row.tl (Row.tl (Row.tl (Row.tl (Row.tl (Row.tl (Row.tl (Row.tl bs)))))))))))))) 13 30 64 11 (Syntax.tyRef Syntax.erased Syntax.mut ty·2) λ x. x
 
   abbrev s45 : (bs : List.List Nat.ℕ) → Typed.Asks T46 T47
-  s45 = λ bs. Relend.k-sl-aggregate (Referent.rtF (Referent.fInt Syntax.w16)) (Relend.asMut (Referent.rtF (Referent.fInt Syntax.w16))) T46 30 31 11 (Syntax.tyRef Syntax.erased Syntax.mut ty·3) ty·9 (λ x. x) (Scalar.oInt Syntax.w64 32)
+  s45 = λ bs. Relend.k-sl-aggregate (Referent.rtF (Referent.fInt Syntax.w16)) (Relend.asMut (Referent.rtF (Referent.fInt Syntax.w16))) T46 30 31 11 (Syntax.tyRef Syntax.erased Syntax.mut ty·2) ty·9 (λ x. x) (Scalar.oInt Syntax.w64 64)
 
   abbrev s47 : (bs : List.List Nat.ℕ) → Typed.Gives T47 T49
-  s47 = λ bs. Borrow.k-arr-borrow (Referent.rtF (Referent.fInt Syntax.w8)) T47 (Row.hd 0 (Row.tl (Row.tl (Row.tl (Row.tl (Row.tl (Row.tl (Row.tl (Row.tl (Row.tl (Row.tl (Row.tl (Row.tl (Row.tl (Row.tl bs))))))))))))))) 14 32 32 12 (Syntax.tyRef Syntax.erased Syntax.mut ty·1) λ x. x
+  s47 = λ bs. Borrow.k-arr-borrow (Referent.rtF (Referent.fInt Syntax.w8)) T47 (Row.hd 0 (Row.tl (Row.tl (Row.tl (Row.tl (Row.tl (Row.tl (Row.tl (Row.tl (Row.tl (Row.tl (Row.tl (Row.tl (Row.tl (Row.tl bs))))))))))))))) 14 32 64 12 (Syntax.tyRef Syntax.erased Syntax.mut ty·1) λ x. x
 
   abbrev s48 : (bs : List.List Nat.ℕ) → Typed.Asks T49 T50
-  s48 = λ bs. Relend.k-sl-aggregate (Referent.rtF (Referent.fInt Syntax.w8)) (Relend.asMut (Referent.rtF (Referent.fInt Syntax.w8))) T49 32 33 12 (Syntax.tyRef Syntax.erased Syntax.mut ty·1) ty·7 (λ x. x) (Scalar.oInt Syntax.w64 32)
+  s48 = λ bs. Relend.k-sl-aggregate (Referent.rtF (Referent.fInt Syntax.w8)) (Relend.asMut (Referent.rtF (Referent.fInt Syntax.w8))) T49 32 33 12 (Syntax.tyRef Syntax.erased Syntax.mut ty·1) ty·7 (λ x. x) (Scalar.oInt Syntax.w64 64)
 
   abbrev s50 : (bs : List.List Nat.ℕ) → Typed.Gives T50 T52
-  s50 = λ bs. Borrow.k-arr-borrow Rec.rt T50 (Row.hd 0 (Row.tl (Row.tl (Row.tl (Row.tl (Row.tl (Row.tl (Row.tl (Row.tl (Row.tl (Row.tl (Row.tl (Row.tl (Row.tl (Row.tl (Row.tl bs)))))))))))))))) 15 34 2048 13 ty·18 λ x. x
+  s50 = λ bs. Borrow.k-arr-borrow Rec.rt T50 (Row.hd 0 (Row.tl (Row.tl (Row.tl (Row.tl (Row.tl (Row.tl (Row.tl (Row.tl (Row.tl (Row.tl (Row.tl (Row.tl (Row.tl (Row.tl (Row.tl bs)))))))))))))))) 15 34 4096 13 ty·18 λ x. x
 
   abbrev s51 : (bs : List.List Nat.ℕ) → Typed.Asks T52 T53
-  s51 = λ bs. Relend.k-sl-aggregate Rec.rt (Relend.asMut Rec.rt) T52 34 35 13 ty·18 ty·6 (λ x. x) (Scalar.oBig Syntax.w64 2048)
+  s51 = λ bs. Relend.k-sl-aggregate Rec.rt (Relend.asMut Rec.rt) T52 34 35 13 ty·18 ty·6 (λ x. x) (Scalar.oBig Syntax.w64 4096)
 
   abbrev s52 : (bs : List.List Nat.ℕ) → Typed.Both T53 T54
   s52 = λ bs. Call.callB ps·1 r·1 (claims· .2) (claims· .3) T53 args·0 16 (List._∷_ 0 (List._∷_ 5 (List._∷_ 6 (List._∷_ 7 (List._∷_ 8 (List._∷_ 9 (List._∷_ 10 (List._∷_ 11 (List._∷_ 12 (List._∷_ 13 List.[])))))))))) (Syntax.tyEnum (List._∷_ 114 (List._∷_ 101 (List._∷_ 97 (List._∷_ 100 (List._∷_ 105 (List._∷_ 110 (List._∷_ 103 (List._∷_ 58 (List._∷_ 58
@@ -1689,25 +1689,25 @@ module _ (claims· : Claims) where
   s57 = λ bs. Borrow.k-back-arr (Referent.rtF (Referent.fInt Syntax.w16)) T56 21 8 6 1 ty·9 (λ x. x) λ x. x
 
   abbrev s60 : (bs : List.List Nat.ℕ) → Typed.Both T59 T62
-  s60 = λ bs. Borrow.k-back-arr (Referent.rtF (Referent.fInt Syntax.w8)) T59 23 9 7 768 ty·7 (λ x. x) λ x. x
+  s60 = λ bs. Borrow.k-back-arr (Referent.rtF (Referent.fInt Syntax.w8)) T59 23 9 7 1536 ty·7 (λ x. x) λ x. x
 
   abbrev s63 : (bs : List.List Nat.ℕ) → Typed.Both T62 T65
-  s63 = λ bs. Borrow.k-back-arr (Referent.rtF (Referent.fInt Syntax.w16)) T62 25 10 8 32 ty·9 (λ x. x) λ x. x
+  s63 = λ bs. Borrow.k-back-arr (Referent.rtF (Referent.fInt Syntax.w16)) T62 25 10 8 64 ty·9 (λ x. x) λ x. x
 
   abbrev s66 : (bs : List.List Nat.ℕ) → Typed.Both T65 T68
-  s66 = λ bs. Borrow.k-back-arr (Referent.rtF (Referent.fInt Syntax.w16)) T65 27 11 9 1024 ty·9 (λ x. x) λ x. x
+  s66 = λ bs. Borrow.k-back-arr (Referent.rtF (Referent.fInt Syntax.w16)) T65 27 11 9 2048 ty·9 (λ x. x) λ x. x
 
   abbrev s69 : (bs : List.List Nat.ℕ) → Typed.Both T68 T71
-  s69 = λ bs. Borrow.k-back-arr (Referent.rtF (Referent.fInt Syntax.w32)) T68 29 12 10 1024 ty·10 (λ x. x) λ x. x
+  s69 = λ bs. Borrow.k-back-arr (Referent.rtF (Referent.fInt Syntax.w32)) T68 29 12 10 2048 ty·10 (λ x. x) λ x. x
 
   abbrev s72 : (bs : List.List Nat.ℕ) → Typed.Both T71 T74
-  s72 = λ bs. Borrow.k-back-arr (Referent.rtF (Referent.fInt Syntax.w16)) T71 31 13 11 32 ty·9 (λ x. x) λ x. x
+  s72 = λ bs. Borrow.k-back-arr (Referent.rtF (Referent.fInt Syntax.w16)) T71 31 13 11 64 ty·9 (λ x. x) λ x. x
 
   abbrev s75 : (bs : List.List Nat.ℕ) → Typed.Both T74 T77
-  s75 = λ bs. Borrow.k-back-arr (Referent.rtF (Referent.fInt Syntax.w8)) T74 33 14 12 32 ty·7 (λ x. x) λ x. x
+  s75 = λ bs. Borrow.k-back-arr (Referent.rtF (Referent.fInt Syntax.w8)) T74 33 14 12 64 ty·7 (λ x. x) λ x. x
 
   abbrev s78 : (bs : List.List Nat.ℕ) → Typed.Both T77 T80
-  s78 = λ bs. Borrow.k-back-arr Rec.rt T77 35 15 13 2048 ty·6 (λ x. x) λ x. x
+  s78 = λ bs. Borrow.k-back-arr Rec.rt T77 35 15 13 4096 ty·6 (λ x. x) λ x. x
 
   abbrev s80 : (bs : List.List Nat.ℕ) → Typed.Both T80 T82
   s80 = λ bs. Call.callB ps·2 r·2 (claims· .4) (claims· .5) T80 (record { pos = 16; st = List.[]; d = 0; at = λ x. x }, tt) 36 List.[] (Syntax.tyInt Syntax.w64)
@@ -1725,10 +1725,10 @@ module _ (claims· : Claims) where
   s84 = λ bs. Scalar.n-room T86 8 ty·0
 
   abbrev s85 : (bs : List.List Nat.ℕ) → Typed.Mo T87 → Typed.Mo T88
-  s85 = λ bs. Scalar.n-room T87 9 ty·2
+  s85 = λ bs. Scalar.n-room T87 9 ty·3
 
   abbrev s86 : (bs : List.List Nat.ℕ) → Typed.Mo T88 → Typed.Mo T89
-  s86 = λ bs. Scalar.n-room T88 10 ty·3
+  s86 = λ bs. Scalar.n-room T88 10 ty·2
 
   abbrev s87 : (bs : List.List Nat.ℕ) → Typed.Mo T89 → Typed.Mo T90
   s87 = λ bs. Scalar.n-room T89 11 ty·4
@@ -1737,13 +1737,13 @@ module _ (claims· : Claims) where
   s88 = λ bs. Scalar.n-room T90 12 ty·5
 
   abbrev s89 : (bs : List.List Nat.ℕ) → Typed.Mo T91 → Typed.Mo T92
-  s89 = λ bs. Scalar.n-room T91 13 ty·3
+  s89 = λ bs. Scalar.n-room T91 13 ty·2
 
   abbrev s90 : (bs : List.List Nat.ℕ) → Typed.Mo T92 → Typed.Mo T93
   s90 = λ bs. Scalar.n-room T92 14 ty·1
 
   abbrev s91 : (bs : List.List Nat.ℕ) → Typed.Mo T93 → Typed.Mo T94
-  s91 = λ bs. Scalar.n-room T93 15 (Syntax.tyArray Rec.mir 2048)
+  s91 = λ bs. Scalar.n-room T93 15 (Syntax.tyArray Rec.mir 4096)
 
   abbrev s92 : (bs : List.List Nat.ℕ) → Typed.Mo T94 → Typed.Mo T95
   s92 = λ bs. Scalar.n-room T94 37 Syntax.tyBool
@@ -1777,46 +1777,46 @@ module _ (claims· : Claims) where
   s102 = λ bs. Relend.k-sl-aggregate (Referent.rtF (Referent.fInt Syntax.w16)) (Relend.asShr (Referent.rtF (Referent.fInt Syntax.w16))) T104 41 42 15 (Syntax.tyRef Syntax.erased Syntax.imm ty·0) ty·11 (λ x. x) (Scalar.oInt Syntax.w64 1)
 
   abbrev s104 : (bs : List.List Nat.ℕ) → Typed.Gives T105 T107
-  s104 = λ bs. Share.k-arr-share (Referent.rtF (Referent.fInt Syntax.w8)) T105 9 43 768 16 (Syntax.tyRef Syntax.erased Syntax.imm ty·2) λ x. x
+  s104 = λ bs. Share.k-arr-share (Referent.rtF (Referent.fInt Syntax.w8)) T105 9 43 1536 16 (Syntax.tyRef Syntax.erased Syntax.imm ty·3) λ x. x
 
   abbrev s105 : (bs : List.List Nat.ℕ) → Typed.Asks T107 T108
-  s105 = λ bs. Relend.k-sl-aggregate (Referent.rtF (Referent.fInt Syntax.w8)) (Relend.asShr (Referent.rtF (Referent.fInt Syntax.w8))) T107 43 44 16 (Syntax.tyRef Syntax.erased Syntax.imm ty·2) ty·8 (λ x. x) (Scalar.oInt Syntax.w64 768)
+  s105 = λ bs. Relend.k-sl-aggregate (Referent.rtF (Referent.fInt Syntax.w8)) (Relend.asShr (Referent.rtF (Referent.fInt Syntax.w8))) T107 43 44 16 (Syntax.tyRef Syntax.erased Syntax.imm ty·3) ty·8 (λ x. x) (Scalar.oBig Syntax.w64 1536)
 
   abbrev s107 : (bs : List.List Nat.ℕ) → Typed.Gives T108 T110
-  s107 = λ bs. Share.k-arr-share (Referent.rtF (Referent.fInt Syntax.w16)) T108 10 45 32 17 (Syntax.tyRef Syntax.erased Syntax.imm ty·3) λ x. x
+  s107 = λ bs. Share.k-arr-share (Referent.rtF (Referent.fInt Syntax.w16)) T108 10 45 64 17 (Syntax.tyRef Syntax.erased Syntax.imm ty·2) λ x. x
 
   abbrev s108 : (bs : List.List Nat.ℕ) → Typed.Asks T110 T111
-  s108 = λ bs. Relend.k-sl-aggregate (Referent.rtF (Referent.fInt Syntax.w16)) (Relend.asShr (Referent.rtF (Referent.fInt Syntax.w16))) T110 45 46 17 (Syntax.tyRef Syntax.erased Syntax.imm ty·3) ty·11 (λ x. x) (Scalar.oInt Syntax.w64 32)
+  s108 = λ bs. Relend.k-sl-aggregate (Referent.rtF (Referent.fInt Syntax.w16)) (Relend.asShr (Referent.rtF (Referent.fInt Syntax.w16))) T110 45 46 17 (Syntax.tyRef Syntax.erased Syntax.imm ty·2) ty·11 (λ x. x) (Scalar.oInt Syntax.w64 64)
 
   abbrev s110 : (bs : List.List Nat.ℕ) → Typed.Gives T111 T113
-  s110 = λ bs. Share.k-arr-share (Referent.rtF (Referent.fInt Syntax.w16)) T111 11 47 1024 18 (Syntax.tyRef Syntax.erased Syntax.imm ty·4) λ x. x
+  s110 = λ bs. Share.k-arr-share (Referent.rtF (Referent.fInt Syntax.w16)) T111 11 47 2048 18 (Syntax.tyRef Syntax.erased Syntax.imm ty·4) λ x. x
 
   abbrev s111 : (bs : List.List Nat.ℕ) → Typed.Asks T113 T114
-  s111 = λ bs. Relend.k-sl-aggregate (Referent.rtF (Referent.fInt Syntax.w16)) (Relend.asShr (Referent.rtF (Referent.fInt Syntax.w16))) T113 47 48 18 (Syntax.tyRef Syntax.erased Syntax.imm ty·4) ty·11 (λ x. x) (Scalar.oBig Syntax.w64 1024)
+  s111 = λ bs. Relend.k-sl-aggregate (Referent.rtF (Referent.fInt Syntax.w16)) (Relend.asShr (Referent.rtF (Referent.fInt Syntax.w16))) T113 47 48 18 (Syntax.tyRef Syntax.erased Syntax.imm ty·4) ty·11 (λ x. x) (Scalar.oBig Syntax.w64 2048)
 
   abbrev s113 : (bs : List.List Nat.ℕ) → Typed.Gives T114 T116
-  s113 = λ bs. Share.k-arr-share (Referent.rtF (Referent.fInt Syntax.w32)) T114 12 49 1024 19 (Syntax.tyRef Syntax.erased Syntax.imm ty·5) λ x. x
+  s113 = λ bs. Share.k-arr-share (Referent.rtF (Referent.fInt Syntax.w32)) T114 12 49 2048 19 (Syntax.tyRef Syntax.erased Syntax.imm ty·5) λ x. x
 
   abbrev s114 : (bs : List.List Nat.ℕ) → Typed.Asks T116 T117
-  s114 = λ bs. Relend.k-sl-aggregate (Referent.rtF (Referent.fInt Syntax.w32)) (Relend.asShr (Referent.rtF (Referent.fInt Syntax.w32))) T116 49 50 19 (Syntax.tyRef Syntax.erased Syntax.imm ty·5) ty·12 (λ x. x) (Scalar.oBig Syntax.w64 1024)
+  s114 = λ bs. Relend.k-sl-aggregate (Referent.rtF (Referent.fInt Syntax.w32)) (Relend.asShr (Referent.rtF (Referent.fInt Syntax.w32))) T116 49 50 19 (Syntax.tyRef Syntax.erased Syntax.imm ty·5) ty·12 (λ x. x) (Scalar.oBig Syntax.w64 2048)
 
   abbrev s116 : (bs : List.List Nat.ℕ) → Typed.Gives T117 T119
-  s116 = λ bs. Borrow.k-arr-borrow (Referent.rtF (Referent.fInt Syntax.w16)) T117 (Row.hd 0 (Row.tl (Row.tl (Row.tl (Row.tl (Row.tl (Row.tl (Row.tl (Row.tl (Row.tl (Row.tl (Row.tl (Row.tl (Row.tl bs)))))))))))))) 13 51 32 20 (Syntax.tyRef Syntax.erased Syntax.mut ty·3) λ x. x
+  s116 = λ bs. Borrow.k-arr-borrow (Referent.rtF (Referent.fInt Syntax.w16)) T117 (Row.hd 0 (Row.tl (Row.tl (Row.tl (Row.tl (Row.tl (Row.tl (Row.tl (Row.tl (Row.tl (Row.tl (Row.tl (Row.tl (Row.tl bs)))))))))))))) 13 51 64 20 (Syntax.tyRef Syntax.erased Syntax.mut ty·2) λ x. x
 
   abbrev s117 : (bs : List.List Nat.ℕ) → Typed.Asks T119 T120
-  s117 = λ bs. Relend.k-sl-aggregate (Referent.rtF (Referent.fInt Syntax.w16)) (Relend.asMut (Referent.rtF (Referent.fInt Syntax.w16))) T119 51 52 20 (Syntax.tyRef Syntax.erased Syntax.mut ty·3) ty·9 (λ x. x) (Scalar.oInt Syntax.w64 32)
+  s117 = λ bs. Relend.k-sl-aggregate (Referent.rtF (Referent.fInt Syntax.w16)) (Relend.asMut (Referent.rtF (Referent.fInt Syntax.w16))) T119 51 52 20 (Syntax.tyRef Syntax.erased Syntax.mut ty·2) ty·9 (λ x. x) (Scalar.oInt Syntax.w64 64)
 
   abbrev s119 : (bs : List.List Nat.ℕ) → Typed.Gives T120 T122
-  s119 = λ bs. Borrow.k-arr-borrow (Referent.rtF (Referent.fInt Syntax.w8)) T120 (Row.hd 0 (Row.tl (Row.tl (Row.tl (Row.tl (Row.tl (Row.tl (Row.tl (Row.tl (Row.tl (Row.tl (Row.tl (Row.tl (Row.tl (Row.tl bs))))))))))))))) 14 53 32 21 (Syntax.tyRef Syntax.erased Syntax.mut ty·1) λ x. x
+  s119 = λ bs. Borrow.k-arr-borrow (Referent.rtF (Referent.fInt Syntax.w8)) T120 (Row.hd 0 (Row.tl (Row.tl (Row.tl (Row.tl (Row.tl (Row.tl (Row.tl (Row.tl (Row.tl (Row.tl (Row.tl (Row.tl (Row.tl (Row.tl bs))))))))))))))) 14 53 64 21 (Syntax.tyRef Syntax.erased Syntax.mut ty·1) λ x. x
 
   abbrev s120 : (bs : List.List Nat.ℕ) → Typed.Asks T122 T123
-  s120 = λ bs. Relend.k-sl-aggregate (Referent.rtF (Referent.fInt Syntax.w8)) (Relend.asMut (Referent.rtF (Referent.fInt Syntax.w8))) T122 53 54 21 (Syntax.tyRef Syntax.erased Syntax.mut ty·1) ty·7 (λ x. x) (Scalar.oInt Syntax.w64 32)
+  s120 = λ bs. Relend.k-sl-aggregate (Referent.rtF (Referent.fInt Syntax.w8)) (Relend.asMut (Referent.rtF (Referent.fInt Syntax.w8))) T122 53 54 21 (Syntax.tyRef Syntax.erased Syntax.mut ty·1) ty·7 (λ x. x) (Scalar.oInt Syntax.w64 64)
 
   abbrev s122 : (bs : List.List Nat.ℕ) → Typed.Gives T123 T125
-  s122 = λ bs. Borrow.k-arr-borrow Rec.rt T123 (Row.hd 0 (Row.tl (Row.tl (Row.tl (Row.tl (Row.tl (Row.tl (Row.tl (Row.tl (Row.tl (Row.tl (Row.tl (Row.tl (Row.tl (Row.tl (Row.tl bs)))))))))))))))) 15 55 2048 22 ty·18 λ x. x
+  s122 = λ bs. Borrow.k-arr-borrow Rec.rt T123 (Row.hd 0 (Row.tl (Row.tl (Row.tl (Row.tl (Row.tl (Row.tl (Row.tl (Row.tl (Row.tl (Row.tl (Row.tl (Row.tl (Row.tl (Row.tl (Row.tl bs)))))))))))))))) 15 55 4096 22 ty·18 λ x. x
 
   abbrev s123 : (bs : List.List Nat.ℕ) → Typed.Asks T125 T126
-  s123 = λ bs. Relend.k-sl-aggregate Rec.rt (Relend.asMut Rec.rt) T125 55 56 22 ty·18 ty·6 (λ x. x) (Scalar.oBig Syntax.w64 2048)
+  s123 = λ bs. Relend.k-sl-aggregate Rec.rt (Relend.asMut Rec.rt) T125 55 56 22 ty·18 ty·6 (λ x. x) (Scalar.oBig Syntax.w64 4096)
 
   abbrev s125 : (bs : List.List Nat.ℕ) → Typed.Gives T126 T128
   s125 = λ bs. Relend.k-sl-relend (Referent.rtF (Referent.fInt Syntax.w16)) T126 5 57 3 23 ty·16 ty·9 Row.off λ x. x
@@ -1867,46 +1867,46 @@ module _ (claims· : Claims) where
   s145 = λ bs. Scalar.n-room T146 8 ty·0
 
   abbrev s147 : (bs : List.List Nat.ℕ) → Typed.Mo T148 → Typed.Mo T150
-  s147 = λ bs. Share.n-back-arr-shr (Referent.rtF (Referent.fInt Syntax.w8)) T148 9 768 16 λ x. x
+  s147 = λ bs. Share.n-back-arr-shr (Referent.rtF (Referent.fInt Syntax.w8)) T148 9 1536 16 λ x. x
 
   abbrev s149 : (bs : List.List Nat.ℕ) → Typed.Mo T150 → Typed.Mo T152
-  s149 = λ bs. Scalar.n-room T150 9 ty·2
+  s149 = λ bs. Scalar.n-room T150 9 ty·3
 
   abbrev s151 : (bs : List.List Nat.ℕ) → Typed.Mo T152 → Typed.Mo T154
-  s151 = λ bs. Share.n-back-arr-shr (Referent.rtF (Referent.fInt Syntax.w16)) T152 10 32 17 λ x. x
+  s151 = λ bs. Share.n-back-arr-shr (Referent.rtF (Referent.fInt Syntax.w16)) T152 10 64 17 λ x. x
 
   abbrev s153 : (bs : List.List Nat.ℕ) → Typed.Mo T154 → Typed.Mo T156
-  s153 = λ bs. Scalar.n-room T154 10 ty·3
+  s153 = λ bs. Scalar.n-room T154 10 ty·2
 
   abbrev s155 : (bs : List.List Nat.ℕ) → Typed.Mo T156 → Typed.Mo T158
-  s155 = λ bs. Share.n-back-arr-shr (Referent.rtF (Referent.fInt Syntax.w16)) T156 11 1024 18 λ x. x
+  s155 = λ bs. Share.n-back-arr-shr (Referent.rtF (Referent.fInt Syntax.w16)) T156 11 2048 18 λ x. x
 
   abbrev s157 : (bs : List.List Nat.ℕ) → Typed.Mo T158 → Typed.Mo T160
   s157 = λ bs. Scalar.n-room T158 11 ty·4
 
   abbrev s159 : (bs : List.List Nat.ℕ) → Typed.Mo T160 → Typed.Mo T162
-  s159 = λ bs. Share.n-back-arr-shr (Referent.rtF (Referent.fInt Syntax.w32)) T160 12 1024 19 λ x. x
+  s159 = λ bs. Share.n-back-arr-shr (Referent.rtF (Referent.fInt Syntax.w32)) T160 12 2048 19 λ x. x
 
   abbrev s161 : (bs : List.List Nat.ℕ) → Typed.Mo T162 → Typed.Mo T164
   s161 = λ bs. Scalar.n-room T162 12 ty·5
 
   abbrev s163 : (bs : List.List Nat.ℕ) → Typed.Both T164 T166
-  s163 = λ bs. Borrow.k-back-arr (Referent.rtF (Referent.fInt Syntax.w16)) T164 52 13 20 32 ty·9 (λ x. x) λ x. x
+  s163 = λ bs. Borrow.k-back-arr (Referent.rtF (Referent.fInt Syntax.w16)) T164 52 13 20 64 ty·9 (λ x. x) λ x. x
 
   abbrev s165 : (bs : List.List Nat.ℕ) → Typed.Mo T166 → Typed.Mo T168
-  s165 = λ bs. Scalar.n-room T166 13 ty·3
+  s165 = λ bs. Scalar.n-room T166 13 ty·2
 
   abbrev s167 : (bs : List.List Nat.ℕ) → Typed.Both T168 T170
-  s167 = λ bs. Borrow.k-back-arr (Referent.rtF (Referent.fInt Syntax.w8)) T168 54 14 21 32 ty·7 (λ x. x) λ x. x
+  s167 = λ bs. Borrow.k-back-arr (Referent.rtF (Referent.fInt Syntax.w8)) T168 54 14 21 64 ty·7 (λ x. x) λ x. x
 
   abbrev s169 : (bs : List.List Nat.ℕ) → Typed.Mo T170 → Typed.Mo T172
   s169 = λ bs. Scalar.n-room T170 14 ty·1
 
   abbrev s171 : (bs : List.List Nat.ℕ) → Typed.Both T172 T174
-  s171 = λ bs. Borrow.k-back-arr Rec.rt T172 56 15 22 2048 ty·6 (λ x. x) λ x. x
+  s171 = λ bs. Borrow.k-back-arr Rec.rt T172 56 15 22 4096 ty·6 (λ x. x) λ x. x
 
   abbrev s173 : (bs : List.List Nat.ℕ) → Typed.Mo T174 → Typed.Mo T176
-  s173 = λ bs. Scalar.n-room T174 15 (Syntax.tyArray Rec.mir 2048)
+  s173 = λ bs. Scalar.n-room T174 15 (Syntax.tyArray Rec.mir 4096)
 
   abbrev s175 : (bs : List.List Nat.ℕ) → Typed.Both T176 T178
   s175 = λ bs. Relend.k-back-sl (Referent.rtF (Referent.fInt Syntax.w16)) T176 58 5 3 23 ty·16 ty·9 Row.off (λ x. x) λ x. x
@@ -2524,111 +2524,111 @@ module _ (claims· : Claims) where
             (0, Rows'.any-gone (Syntax.tyEnum (List._∷_ 114 (List._∷_ 101 (List._∷_ 97 (List._∷_ 100 (List._∷_ 105 (List._∷_ 110 (List._∷_ 103 (List._∷_ 58 (List._∷_ 58 (List._∷_ 114 (List._∷_ 101 (List._∷_ 112 (List._∷_ 108 (List._∷_ 105 (List._∷_ 101 (List._∷_ 115 (List._∷_ 58 (List._∷_ 58 (List._∷_ 82 (List._∷_ 101 (List._∷_ 97 (List._∷_ 100 (List._∷_ 105 (List._∷_ 110 (List._∷_ 103 List.[]))))))))))))))))))))))))) (Syntax.ttcons Syntax.tnil (Syntax.ttcons (Syntax.tcons (Syntax.tyEnum (List._∷_ 114 (List._∷_ 101 (List._∷_ 97 (List._∷_ 100 (List._∷_ 105 (List._∷_ 110 (List._∷_ 103 (List._∷_ 58 (List._∷_ 58 (List._∷_ 114 (List._∷_ 101 (List._∷_ 112 (List._∷_ 108 (List._∷_ 105 (List._∷_ 101 (List._∷_ 115 (List._∷_ 58 (List._∷_ 58 (List._∷_ 82 (List._∷_ 101 (List._∷_ 102 (List._∷_ 117 (List._∷_ 115 (List._∷_ 97 (List._∷_ 108 List.[]))))))))))))))))))))))))) (Syntax.ttcons Syntax.tnil (Syntax.ttcons (Syntax.tcons (Syntax.tyInt Syntax.w64) Syntax.tnil) (Syntax.ttcons (Syntax.tcons (Syntax.tyInt Syntax.w64) Syntax.tnil) (Syntax.ttcons (Syntax.tcons (Syntax.tyInt Syntax.w64) Syntax.tnil) (Syntax.ttcons (Syntax.tcons (Syntax.tyInt Syntax.w64) Syntax.tnil) (Syntax.ttcons (Syntax.tcons (Syntax.tyInt Syntax.w64) Syntax.tnil) (Syntax.ttcons (Syntax.tcons (Syntax.tyInt Syntax.w64) Syntax.tnil) (Syntax.ttcons (Syntax.tcons ty·19 Syntax.tnil) (Syntax.ttcons (Syntax.tcons ty·19 Syntax.tnil) (Syntax.ttcons (Syntax.tcons ty·19 Syntax.tnil) (Syntax.ttcons (Syntax.tcons ty·19 (Syntax.tcons ty·19 Syntax.tnil)) (Syntax.ttcons Syntax.tnil Syntax.ttnil))))))))))))) Syntax.tnil) Syntax.ttnil))))
             (List._∷_ (1, Rows'.sslice (Referent.rtF (Referent.fInt Syntax.w8)) ty·13 0) (List._∷_ (2, Rows'.sc-here (Row.sInt Syntax.w64)) (List._∷_ (3, Rows'.sslice (Referent.rtF (Referent.fInt Syntax.w8)) ty·14 1) (List._∷_ (4, Rows'.sslice (Referent.rtF (Referent.fInt Syntax.w16)) ty·15 2) (List._∷_
             (5, Relend.mslice-owed (Referent.rtF (Referent.fInt Syntax.w16)) ty·16 3 23 (Row.lease (κs .1 .1 .1 .0) (qs .1 .1 .1 .0))) (List._∷_ (6, Mut.mslice (Referent.rtF (Referent.fInt Syntax.w32)) ty·17 4) (List._∷_ (7, Rows.arr-shr (Referent.rtF (Referent.fInt Syntax.w16)) 1 14) (List._∷_ (8, Rows.arr-shr (Referent.rtF (Referent.fInt Syntax.w16)) 1 15)
-            (List._∷_ (9, Rows.arr-shr (Referent.rtF (Referent.fInt Syntax.w8)) 768 16) (List._∷_ (10, Rows.arr-shr (Referent.rtF (Referent.fInt Syntax.w16)) 32 17) (List._∷_ (11, Rows.arr-shr (Referent.rtF (Referent.fInt Syntax.w16)) 1024 18) (List._∷_ (12, Rows.arr-shr (Referent.rtF (Referent.fInt Syntax.w32)) 1024 19) (List._∷_
-            (13, Rows.arr-owed (Referent.rtF (Referent.fInt Syntax.w16)) 32 20) (List._∷_ (14, Rows.arr-owed (Referent.rtF (Referent.fInt Syntax.w8)) 32 21) (List._∷_ (15, Rows.arr-owed Rec.rt 2048 22) List.[])))))))))))))))
+            (List._∷_ (9, Rows.arr-shr (Referent.rtF (Referent.fInt Syntax.w8)) 1536 16) (List._∷_ (10, Rows.arr-shr (Referent.rtF (Referent.fInt Syntax.w16)) 64 17) (List._∷_ (11, Rows.arr-shr (Referent.rtF (Referent.fInt Syntax.w16)) 2048 18) (List._∷_ (12, Rows.arr-shr (Referent.rtF (Referent.fInt Syntax.w32)) 2048 19) (List._∷_
+            (13, Rows.arr-owed (Referent.rtF (Referent.fInt Syntax.w16)) 64 20) (List._∷_ (14, Rows.arr-owed (Referent.rtF (Referent.fInt Syntax.w8)) 64 21) (List._∷_ (15, Rows.arr-owed Rec.rt 4096 22) List.[])))))))))))))))
 
         abbrev g111 : List.List Row.Entry
         g111 = List._∷_
             (0, Rows'.any-gone (Syntax.tyEnum (List._∷_ 114 (List._∷_ 101 (List._∷_ 97 (List._∷_ 100 (List._∷_ 105 (List._∷_ 110 (List._∷_ 103 (List._∷_ 58 (List._∷_ 58 (List._∷_ 114 (List._∷_ 101 (List._∷_ 112 (List._∷_ 108 (List._∷_ 105 (List._∷_ 101 (List._∷_ 115 (List._∷_ 58 (List._∷_ 58 (List._∷_ 82 (List._∷_ 101 (List._∷_ 97 (List._∷_ 100 (List._∷_ 105 (List._∷_ 110 (List._∷_ 103 List.[]))))))))))))))))))))))))) (Syntax.ttcons Syntax.tnil (Syntax.ttcons (Syntax.tcons (Syntax.tyEnum (List._∷_ 114 (List._∷_ 101 (List._∷_ 97 (List._∷_ 100 (List._∷_ 105 (List._∷_ 110 (List._∷_ 103 (List._∷_ 58 (List._∷_ 58 (List._∷_ 114 (List._∷_ 101 (List._∷_ 112 (List._∷_ 108 (List._∷_ 105 (List._∷_ 101 (List._∷_ 115 (List._∷_ 58 (List._∷_ 58 (List._∷_ 82 (List._∷_ 101 (List._∷_ 102 (List._∷_ 117 (List._∷_ 115 (List._∷_ 97 (List._∷_ 108 List.[]))))))))))))))))))))))))) (Syntax.ttcons Syntax.tnil (Syntax.ttcons (Syntax.tcons (Syntax.tyInt Syntax.w64) Syntax.tnil) (Syntax.ttcons (Syntax.tcons (Syntax.tyInt Syntax.w64) Syntax.tnil) (Syntax.ttcons (Syntax.tcons (Syntax.tyInt Syntax.w64) Syntax.tnil) (Syntax.ttcons (Syntax.tcons (Syntax.tyInt Syntax.w64) Syntax.tnil) (Syntax.ttcons (Syntax.tcons (Syntax.tyInt Syntax.w64) Syntax.tnil) (Syntax.ttcons (Syntax.tcons (Syntax.tyInt Syntax.w64) Syntax.tnil) (Syntax.ttcons (Syntax.tcons ty·19 Syntax.tnil) (Syntax.ttcons (Syntax.tcons ty·19 Syntax.tnil) (Syntax.ttcons (Syntax.tcons ty·19 Syntax.tnil) (Syntax.ttcons (Syntax.tcons ty·19 (Syntax.tcons ty·19 Syntax.tnil)) (Syntax.ttcons Syntax.tnil Syntax.ttnil))))))))))))) Syntax.tnil) Syntax.ttnil))))
             (List._∷_ (1, Rows'.sslice (Referent.rtF (Referent.fInt Syntax.w8)) ty·13 0) (List._∷_ (2, Rows'.sc-here (Row.sInt Syntax.w64)) (List._∷_ (3, Rows'.sslice (Referent.rtF (Referent.fInt Syntax.w8)) ty·14 1) (List._∷_ (4, Rows'.sslice (Referent.rtF (Referent.fInt Syntax.w16)) ty·15 2) (List._∷_
             (5, Relend.mslice-owed (Referent.rtF (Referent.fInt Syntax.w16)) ty·16 3 23 (Row.lease (κs .1 .1 .1 .0) (qs .1 .1 .1 .0))) (List._∷_ (6, Relend.mslice-owed (Referent.rtF (Referent.fInt Syntax.w32)) ty·17 4 24 (Row.lease (κs .1 .1 .1 .1 .0) (qs .1 .1 .1 .1 .0))) (List._∷_ (7, Rows.arr-shr (Referent.rtF (Referent.fInt Syntax.w16)) 1 14) (List._∷_
-            (8, Rows.arr-shr (Referent.rtF (Referent.fInt Syntax.w16)) 1 15) (List._∷_ (9, Rows.arr-shr (Referent.rtF (Referent.fInt Syntax.w8)) 768 16) (List._∷_ (10, Rows.arr-shr (Referent.rtF (Referent.fInt Syntax.w16)) 32 17) (List._∷_ (11, Rows.arr-shr (Referent.rtF (Referent.fInt Syntax.w16)) 1024 18) (List._∷_
-            (12, Rows.arr-shr (Referent.rtF (Referent.fInt Syntax.w32)) 1024 19) (List._∷_ (13, Rows.arr-owed (Referent.rtF (Referent.fInt Syntax.w16)) 32 20) (List._∷_ (14, Rows.arr-owed (Referent.rtF (Referent.fInt Syntax.w8)) 32 21) (List._∷_ (15, Rows.arr-owed Rec.rt 2048 22) List.[])))))))))))))))
+            (8, Rows.arr-shr (Referent.rtF (Referent.fInt Syntax.w16)) 1 15) (List._∷_ (9, Rows.arr-shr (Referent.rtF (Referent.fInt Syntax.w8)) 1536 16) (List._∷_ (10, Rows.arr-shr (Referent.rtF (Referent.fInt Syntax.w16)) 64 17) (List._∷_ (11, Rows.arr-shr (Referent.rtF (Referent.fInt Syntax.w16)) 2048 18) (List._∷_
+            (12, Rows.arr-shr (Referent.rtF (Referent.fInt Syntax.w32)) 2048 19) (List._∷_ (13, Rows.arr-owed (Referent.rtF (Referent.fInt Syntax.w16)) 64 20) (List._∷_ (14, Rows.arr-owed (Referent.rtF (Referent.fInt Syntax.w8)) 64 21) (List._∷_ (15, Rows.arr-owed Rec.rt 4096 22) List.[])))))))))))))))
 
         abbrev g122 : List.List Row.Entry
         g122 = List._∷_
             (0, Rows'.any-gone (Syntax.tyEnum (List._∷_ 114 (List._∷_ 101 (List._∷_ 97 (List._∷_ 100 (List._∷_ 105 (List._∷_ 110 (List._∷_ 103 (List._∷_ 58 (List._∷_ 58 (List._∷_ 114 (List._∷_ 101 (List._∷_ 112 (List._∷_ 108 (List._∷_ 105 (List._∷_ 101 (List._∷_ 115 (List._∷_ 58 (List._∷_ 58 (List._∷_ 82 (List._∷_ 101 (List._∷_ 97 (List._∷_ 100 (List._∷_ 105 (List._∷_ 110 (List._∷_ 103 List.[]))))))))))))))))))))))))) (Syntax.ttcons Syntax.tnil (Syntax.ttcons (Syntax.tcons (Syntax.tyEnum (List._∷_ 114 (List._∷_ 101 (List._∷_ 97 (List._∷_ 100 (List._∷_ 105 (List._∷_ 110 (List._∷_ 103 (List._∷_ 58 (List._∷_ 58 (List._∷_ 114 (List._∷_ 101 (List._∷_ 112 (List._∷_ 108 (List._∷_ 105 (List._∷_ 101 (List._∷_ 115 (List._∷_ 58 (List._∷_ 58 (List._∷_ 82 (List._∷_ 101 (List._∷_ 102 (List._∷_ 117 (List._∷_ 115 (List._∷_ 97 (List._∷_ 108 List.[]))))))))))))))))))))))))) (Syntax.ttcons Syntax.tnil (Syntax.ttcons (Syntax.tcons (Syntax.tyInt Syntax.w64) Syntax.tnil) (Syntax.ttcons (Syntax.tcons (Syntax.tyInt Syntax.w64) Syntax.tnil) (Syntax.ttcons (Syntax.tcons (Syntax.tyInt Syntax.w64) Syntax.tnil) (Syntax.ttcons (Syntax.tcons (Syntax.tyInt Syntax.w64) Syntax.tnil) (Syntax.ttcons (Syntax.tcons (Syntax.tyInt Syntax.w64) Syntax.tnil) (Syntax.ttcons (Syntax.tcons (Syntax.tyInt Syntax.w64) Syntax.tnil) (Syntax.ttcons (Syntax.tcons ty·19 Syntax.tnil) (Syntax.ttcons (Syntax.tcons ty·19 Syntax.tnil) (Syntax.ttcons (Syntax.tcons ty·19 Syntax.tnil) (Syntax.ttcons (Syntax.tcons ty·19 (Syntax.tcons ty·19 Syntax.tnil)) (Syntax.ttcons Syntax.tnil Syntax.ttnil))))))))))))) Syntax.tnil) Syntax.ttnil))))
             (List._∷_ (1, Rows'.sslice (Referent.rtF (Referent.fInt Syntax.w8)) ty·13 0) (List._∷_ (2, Rows'.sc-here (Row.sInt Syntax.w64)) (List._∷_ (3, Rows'.sslice (Referent.rtF (Referent.fInt Syntax.w8)) ty·14 1) (List._∷_ (4, Rows'.sslice (Referent.rtF (Referent.fInt Syntax.w16)) ty·15 2) (List._∷_
             (5, Relend.mslice-owed (Referent.rtF (Referent.fInt Syntax.w16)) ty·16 3 23 (Row.lease (κs .1 .1 .1 .0) (qs .1 .1 .1 .0))) (List._∷_ (6, Relend.mslice-owed (Referent.rtF (Referent.fInt Syntax.w32)) ty·17 4 24 (Row.lease (κs .1 .1 .1 .1 .0) (qs .1 .1 .1 .1 .0))) (List._∷_ (7, Rows.arrF (Referent.rtF (Referent.fInt Syntax.w16)) 1 0) (List._∷_
-            (8, Rows.arr-shr (Referent.rtF (Referent.fInt Syntax.w16)) 1 15) (List._∷_ (9, Rows.arr-shr (Referent.rtF (Referent.fInt Syntax.w8)) 768 16) (List._∷_ (10, Rows.arr-shr (Referent.rtF (Referent.fInt Syntax.w16)) 32 17) (List._∷_ (11, Rows.arr-shr (Referent.rtF (Referent.fInt Syntax.w16)) 1024 18) (List._∷_
-            (12, Rows.arr-shr (Referent.rtF (Referent.fInt Syntax.w32)) 1024 19) (List._∷_ (13, Rows.arr-owed (Referent.rtF (Referent.fInt Syntax.w16)) 32 20) (List._∷_ (14, Rows.arr-owed (Referent.rtF (Referent.fInt Syntax.w8)) 32 21) (List._∷_ (15, Rows.arr-owed Rec.rt 2048 22) List.[])))))))))))))))
+            (8, Rows.arr-shr (Referent.rtF (Referent.fInt Syntax.w16)) 1 15) (List._∷_ (9, Rows.arr-shr (Referent.rtF (Referent.fInt Syntax.w8)) 1536 16) (List._∷_ (10, Rows.arr-shr (Referent.rtF (Referent.fInt Syntax.w16)) 64 17) (List._∷_ (11, Rows.arr-shr (Referent.rtF (Referent.fInt Syntax.w16)) 2048 18) (List._∷_
+            (12, Rows.arr-shr (Referent.rtF (Referent.fInt Syntax.w32)) 2048 19) (List._∷_ (13, Rows.arr-owed (Referent.rtF (Referent.fInt Syntax.w16)) 64 20) (List._∷_ (14, Rows.arr-owed (Referent.rtF (Referent.fInt Syntax.w8)) 64 21) (List._∷_ (15, Rows.arr-owed Rec.rt 4096 22) List.[])))))))))))))))
 
         abbrev g123 : List.List Row.Entry
         g123 = List._∷_
             (0, Rows'.any-gone (Syntax.tyEnum (List._∷_ 114 (List._∷_ 101 (List._∷_ 97 (List._∷_ 100 (List._∷_ 105 (List._∷_ 110 (List._∷_ 103 (List._∷_ 58 (List._∷_ 58 (List._∷_ 114 (List._∷_ 101 (List._∷_ 112 (List._∷_ 108 (List._∷_ 105 (List._∷_ 101 (List._∷_ 115 (List._∷_ 58 (List._∷_ 58 (List._∷_ 82 (List._∷_ 101 (List._∷_ 97 (List._∷_ 100 (List._∷_ 105 (List._∷_ 110 (List._∷_ 103 List.[]))))))))))))))))))))))))) (Syntax.ttcons Syntax.tnil (Syntax.ttcons (Syntax.tcons (Syntax.tyEnum (List._∷_ 114 (List._∷_ 101 (List._∷_ 97 (List._∷_ 100 (List._∷_ 105 (List._∷_ 110 (List._∷_ 103 (List._∷_ 58 (List._∷_ 58 (List._∷_ 114 (List._∷_ 101 (List._∷_ 112 (List._∷_ 108 (List._∷_ 105 (List._∷_ 101 (List._∷_ 115 (List._∷_ 58 (List._∷_ 58 (List._∷_ 82 (List._∷_ 101 (List._∷_ 102 (List._∷_ 117 (List._∷_ 115 (List._∷_ 97 (List._∷_ 108 List.[]))))))))))))))))))))))))) (Syntax.ttcons Syntax.tnil (Syntax.ttcons (Syntax.tcons (Syntax.tyInt Syntax.w64) Syntax.tnil) (Syntax.ttcons (Syntax.tcons (Syntax.tyInt Syntax.w64) Syntax.tnil) (Syntax.ttcons (Syntax.tcons (Syntax.tyInt Syntax.w64) Syntax.tnil) (Syntax.ttcons (Syntax.tcons (Syntax.tyInt Syntax.w64) Syntax.tnil) (Syntax.ttcons (Syntax.tcons (Syntax.tyInt Syntax.w64) Syntax.tnil) (Syntax.ttcons (Syntax.tcons (Syntax.tyInt Syntax.w64) Syntax.tnil) (Syntax.ttcons (Syntax.tcons ty·19 Syntax.tnil) (Syntax.ttcons (Syntax.tcons ty·19 Syntax.tnil) (Syntax.ttcons (Syntax.tcons ty·19 Syntax.tnil) (Syntax.ttcons (Syntax.tcons ty·19 (Syntax.tcons ty·19 Syntax.tnil)) (Syntax.ttcons Syntax.tnil Syntax.ttnil))))))))))))) Syntax.tnil) Syntax.ttnil))))
             (List._∷_ (1, Rows'.sslice (Referent.rtF (Referent.fInt Syntax.w8)) ty·13 0) (List._∷_ (2, Rows'.sc-here (Row.sInt Syntax.w64)) (List._∷_ (3, Rows'.sslice (Referent.rtF (Referent.fInt Syntax.w8)) ty·14 1) (List._∷_ (4, Rows'.sslice (Referent.rtF (Referent.fInt Syntax.w16)) ty·15 2) (List._∷_
             (5, Relend.mslice-owed (Referent.rtF (Referent.fInt Syntax.w16)) ty·16 3 23 (Row.lease (κs .1 .1 .1 .0) (qs .1 .1 .1 .0))) (List._∷_ (6, Relend.mslice-owed (Referent.rtF (Referent.fInt Syntax.w32)) ty·17 4 24 (Row.lease (κs .1 .1 .1 .1 .0) (qs .1 .1 .1 .1 .0))) (List._∷_ (7, Rows'.any-gone ty·0) (List._∷_
-            (8, Rows.arr-shr (Referent.rtF (Referent.fInt Syntax.w16)) 1 15) (List._∷_ (9, Rows.arr-shr (Referent.rtF (Referent.fInt Syntax.w8)) 768 16) (List._∷_ (10, Rows.arr-shr (Referent.rtF (Referent.fInt Syntax.w16)) 32 17) (List._∷_ (11, Rows.arr-shr (Referent.rtF (Referent.fInt Syntax.w16)) 1024 18) (List._∷_
-            (12, Rows.arr-shr (Referent.rtF (Referent.fInt Syntax.w32)) 1024 19) (List._∷_ (13, Rows.arr-owed (Referent.rtF (Referent.fInt Syntax.w16)) 32 20) (List._∷_ (14, Rows.arr-owed (Referent.rtF (Referent.fInt Syntax.w8)) 32 21) (List._∷_ (15, Rows.arr-owed Rec.rt 2048 22) List.[])))))))))))))))
+            (8, Rows.arr-shr (Referent.rtF (Referent.fInt Syntax.w16)) 1 15) (List._∷_ (9, Rows.arr-shr (Referent.rtF (Referent.fInt Syntax.w8)) 1536 16) (List._∷_ (10, Rows.arr-shr (Referent.rtF (Referent.fInt Syntax.w16)) 64 17) (List._∷_ (11, Rows.arr-shr (Referent.rtF (Referent.fInt Syntax.w16)) 2048 18) (List._∷_
+            (12, Rows.arr-shr (Referent.rtF (Referent.fInt Syntax.w32)) 2048 19) (List._∷_ (13, Rows.arr-owed (Referent.rtF (Referent.fInt Syntax.w16)) 64 20) (List._∷_ (14, Rows.arr-owed (Referent.rtF (Referent.fInt Syntax.w8)) 64 21) (List._∷_ (15, Rows.arr-owed Rec.rt 4096 22) List.[])))))))))))))))
 
         abbrev g124 : List.List Row.Entry
         g124 = List._∷_
             (0, Rows'.any-gone (Syntax.tyEnum (List._∷_ 114 (List._∷_ 101 (List._∷_ 97 (List._∷_ 100 (List._∷_ 105 (List._∷_ 110 (List._∷_ 103 (List._∷_ 58 (List._∷_ 58 (List._∷_ 114 (List._∷_ 101 (List._∷_ 112 (List._∷_ 108 (List._∷_ 105 (List._∷_ 101 (List._∷_ 115 (List._∷_ 58 (List._∷_ 58 (List._∷_ 82 (List._∷_ 101 (List._∷_ 97 (List._∷_ 100 (List._∷_ 105 (List._∷_ 110 (List._∷_ 103 List.[]))))))))))))))))))))))))) (Syntax.ttcons Syntax.tnil (Syntax.ttcons (Syntax.tcons (Syntax.tyEnum (List._∷_ 114 (List._∷_ 101 (List._∷_ 97 (List._∷_ 100 (List._∷_ 105 (List._∷_ 110 (List._∷_ 103 (List._∷_ 58 (List._∷_ 58 (List._∷_ 114 (List._∷_ 101 (List._∷_ 112 (List._∷_ 108 (List._∷_ 105 (List._∷_ 101 (List._∷_ 115 (List._∷_ 58 (List._∷_ 58 (List._∷_ 82 (List._∷_ 101 (List._∷_ 102 (List._∷_ 117 (List._∷_ 115 (List._∷_ 97 (List._∷_ 108 List.[]))))))))))))))))))))))))) (Syntax.ttcons Syntax.tnil (Syntax.ttcons (Syntax.tcons (Syntax.tyInt Syntax.w64) Syntax.tnil) (Syntax.ttcons (Syntax.tcons (Syntax.tyInt Syntax.w64) Syntax.tnil) (Syntax.ttcons (Syntax.tcons (Syntax.tyInt Syntax.w64) Syntax.tnil) (Syntax.ttcons (Syntax.tcons (Syntax.tyInt Syntax.w64) Syntax.tnil) (Syntax.ttcons (Syntax.tcons (Syntax.tyInt Syntax.w64) Syntax.tnil) (Syntax.ttcons (Syntax.tcons (Syntax.tyInt Syntax.w64) Syntax.tnil) (Syntax.ttcons (Syntax.tcons ty·19 Syntax.tnil) (Syntax.ttcons (Syntax.tcons ty·19 Syntax.tnil) (Syntax.ttcons (Syntax.tcons ty·19 Syntax.tnil) (Syntax.ttcons (Syntax.tcons ty·19 (Syntax.tcons ty·19 Syntax.tnil)) (Syntax.ttcons Syntax.tnil Syntax.ttnil))))))))))))) Syntax.tnil) Syntax.ttnil))))
             (List._∷_ (1, Rows'.sslice (Referent.rtF (Referent.fInt Syntax.w8)) ty·13 0) (List._∷_ (2, Rows'.sc-here (Row.sInt Syntax.w64)) (List._∷_ (3, Rows'.sslice (Referent.rtF (Referent.fInt Syntax.w8)) ty·14 1) (List._∷_ (4, Rows'.sslice (Referent.rtF (Referent.fInt Syntax.w16)) ty·15 2) (List._∷_
             (5, Relend.mslice-owed (Referent.rtF (Referent.fInt Syntax.w16)) ty·16 3 23 (Row.lease (κs .1 .1 .1 .0) (qs .1 .1 .1 .0))) (List._∷_ (6, Relend.mslice-owed (Referent.rtF (Referent.fInt Syntax.w32)) ty·17 4 24 (Row.lease (κs .1 .1 .1 .1 .0) (qs .1 .1 .1 .1 .0))) (List._∷_ (7, Rows'.any-gone ty·0) (List._∷_
-            (8, Rows.arrF (Referent.rtF (Referent.fInt Syntax.w16)) 1 0) (List._∷_ (9, Rows.arr-shr (Referent.rtF (Referent.fInt Syntax.w8)) 768 16) (List._∷_ (10, Rows.arr-shr (Referent.rtF (Referent.fInt Syntax.w16)) 32 17) (List._∷_ (11, Rows.arr-shr (Referent.rtF (Referent.fInt Syntax.w16)) 1024 18) (List._∷_
-            (12, Rows.arr-shr (Referent.rtF (Referent.fInt Syntax.w32)) 1024 19) (List._∷_ (13, Rows.arr-owed (Referent.rtF (Referent.fInt Syntax.w16)) 32 20) (List._∷_ (14, Rows.arr-owed (Referent.rtF (Referent.fInt Syntax.w8)) 32 21) (List._∷_ (15, Rows.arr-owed Rec.rt 2048 22) List.[])))))))))))))))
+            (8, Rows.arrF (Referent.rtF (Referent.fInt Syntax.w16)) 1 0) (List._∷_ (9, Rows.arr-shr (Referent.rtF (Referent.fInt Syntax.w8)) 1536 16) (List._∷_ (10, Rows.arr-shr (Referent.rtF (Referent.fInt Syntax.w16)) 64 17) (List._∷_ (11, Rows.arr-shr (Referent.rtF (Referent.fInt Syntax.w16)) 2048 18) (List._∷_
+            (12, Rows.arr-shr (Referent.rtF (Referent.fInt Syntax.w32)) 2048 19) (List._∷_ (13, Rows.arr-owed (Referent.rtF (Referent.fInt Syntax.w16)) 64 20) (List._∷_ (14, Rows.arr-owed (Referent.rtF (Referent.fInt Syntax.w8)) 64 21) (List._∷_ (15, Rows.arr-owed Rec.rt 4096 22) List.[])))))))))))))))
 
         abbrev g125 : List.List Row.Entry
         g125 = List._∷_
             (0, Rows'.any-gone (Syntax.tyEnum (List._∷_ 114 (List._∷_ 101 (List._∷_ 97 (List._∷_ 100 (List._∷_ 105 (List._∷_ 110 (List._∷_ 103 (List._∷_ 58 (List._∷_ 58 (List._∷_ 114 (List._∷_ 101 (List._∷_ 112 (List._∷_ 108 (List._∷_ 105 (List._∷_ 101 (List._∷_ 115 (List._∷_ 58 (List._∷_ 58 (List._∷_ 82 (List._∷_ 101 (List._∷_ 97 (List._∷_ 100 (List._∷_ 105 (List._∷_ 110 (List._∷_ 103 List.[]))))))))))))))))))))))))) (Syntax.ttcons Syntax.tnil (Syntax.ttcons (Syntax.tcons (Syntax.tyEnum (List._∷_ 114 (List._∷_ 101 (List._∷_ 97 (List._∷_ 100 (List._∷_ 105 (List._∷_ 110 (List._∷_ 103 (List._∷_ 58 (List._∷_ 58 (List._∷_ 114 (List._∷_ 101 (List._∷_ 112 (List._∷_ 108 (List._∷_ 105 (List._∷_ 101 (List._∷_ 115 (List._∷_ 58 (List._∷_ 58 (List._∷_ 82 (List._∷_ 101 (List._∷_ 102 (List._∷_ 117 (List._∷_ 115 (List._∷_ 97 (List._∷_ 108 List.[]))))))))))))))))))))))))) (Syntax.ttcons Syntax.tnil (Syntax.ttcons (Syntax.tcons (Syntax.tyInt Syntax.w64) Syntax.tnil) (Syntax.ttcons (Syntax.tcons (Syntax.tyInt Syntax.w64) Syntax.tnil) (Syntax.ttcons (Syntax.tcons (Syntax.tyInt Syntax.w64) Syntax.tnil) (Syntax.ttcons (Syntax.tcons (Syntax.tyInt Syntax.w64) Syntax.tnil) (Syntax.ttcons (Syntax.tcons (Syntax.tyInt Syntax.w64) Syntax.tnil) (Syntax.ttcons (Syntax.tcons (Syntax.tyInt Syntax.w64) Syntax.tnil) (Syntax.ttcons (Syntax.tcons ty·19 Syntax.tnil) (Syntax.ttcons (Syntax.tcons ty·19 Syntax.tnil) (Syntax.ttcons (Syntax.tcons ty·19 Syntax.tnil) (Syntax.ttcons (Syntax.tcons ty·19 (Syntax.tcons ty·19 Syntax.tnil)) (Syntax.ttcons Syntax.tnil Syntax.ttnil))))))))))))) Syntax.tnil) Syntax.ttnil))))
             (List._∷_ (1, Rows'.sslice (Referent.rtF (Referent.fInt Syntax.w8)) ty·13 0) (List._∷_ (2, Rows'.sc-here (Row.sInt Syntax.w64)) (List._∷_ (3, Rows'.sslice (Referent.rtF (Referent.fInt Syntax.w8)) ty·14 1) (List._∷_ (4, Rows'.sslice (Referent.rtF (Referent.fInt Syntax.w16)) ty·15 2) (List._∷_
             (5, Relend.mslice-owed (Referent.rtF (Referent.fInt Syntax.w16)) ty·16 3 23 (Row.lease (κs .1 .1 .1 .0) (qs .1 .1 .1 .0))) (List._∷_ (6, Relend.mslice-owed (Referent.rtF (Referent.fInt Syntax.w32)) ty·17 4 24 (Row.lease (κs .1 .1 .1 .1 .0) (qs .1 .1 .1 .1 .0))) (List._∷_ (7, Rows'.any-gone ty·0) (List._∷_ (8, Rows'.any-gone ty·0) (List._∷_
-            (9, Rows.arr-shr (Referent.rtF (Referent.fInt Syntax.w8)) 768 16) (List._∷_ (10, Rows.arr-shr (Referent.rtF (Referent.fInt Syntax.w16)) 32 17) (List._∷_ (11, Rows.arr-shr (Referent.rtF (Referent.fInt Syntax.w16)) 1024 18) (List._∷_ (12, Rows.arr-shr (Referent.rtF (Referent.fInt Syntax.w32)) 1024 19) (List._∷_
-            (13, Rows.arr-owed (Referent.rtF (Referent.fInt Syntax.w16)) 32 20) (List._∷_ (14, Rows.arr-owed (Referent.rtF (Referent.fInt Syntax.w8)) 32 21) (List._∷_ (15, Rows.arr-owed Rec.rt 2048 22) List.[])))))))))))))))
+            (9, Rows.arr-shr (Referent.rtF (Referent.fInt Syntax.w8)) 1536 16) (List._∷_ (10, Rows.arr-shr (Referent.rtF (Referent.fInt Syntax.w16)) 64 17) (List._∷_ (11, Rows.arr-shr (Referent.rtF (Referent.fInt Syntax.w16)) 2048 18) (List._∷_ (12, Rows.arr-shr (Referent.rtF (Referent.fInt Syntax.w32)) 2048 19) (List._∷_
+            (13, Rows.arr-owed (Referent.rtF (Referent.fInt Syntax.w16)) 64 20) (List._∷_ (14, Rows.arr-owed (Referent.rtF (Referent.fInt Syntax.w8)) 64 21) (List._∷_ (15, Rows.arr-owed Rec.rt 4096 22) List.[])))))))))))))))
 
         abbrev g126 : List.List Row.Entry
         g126 = List._∷_
             (0, Rows'.any-gone (Syntax.tyEnum (List._∷_ 114 (List._∷_ 101 (List._∷_ 97 (List._∷_ 100 (List._∷_ 105 (List._∷_ 110 (List._∷_ 103 (List._∷_ 58 (List._∷_ 58 (List._∷_ 114 (List._∷_ 101 (List._∷_ 112 (List._∷_ 108 (List._∷_ 105 (List._∷_ 101 (List._∷_ 115 (List._∷_ 58 (List._∷_ 58 (List._∷_ 82 (List._∷_ 101 (List._∷_ 97 (List._∷_ 100 (List._∷_ 105 (List._∷_ 110 (List._∷_ 103 List.[]))))))))))))))))))))))))) (Syntax.ttcons Syntax.tnil (Syntax.ttcons (Syntax.tcons (Syntax.tyEnum (List._∷_ 114 (List._∷_ 101 (List._∷_ 97 (List._∷_ 100 (List._∷_ 105 (List._∷_ 110 (List._∷_ 103 (List._∷_ 58 (List._∷_ 58 (List._∷_ 114 (List._∷_ 101 (List._∷_ 112 (List._∷_ 108 (List._∷_ 105 (List._∷_ 101 (List._∷_ 115 (List._∷_ 58 (List._∷_ 58 (List._∷_ 82 (List._∷_ 101 (List._∷_ 102 (List._∷_ 117 (List._∷_ 115 (List._∷_ 97 (List._∷_ 108 List.[]))))))))))))))))))))))))) (Syntax.ttcons Syntax.tnil (Syntax.ttcons (Syntax.tcons (Syntax.tyInt Syntax.w64) Syntax.tnil) (Syntax.ttcons (Syntax.tcons (Syntax.tyInt Syntax.w64) Syntax.tnil) (Syntax.ttcons (Syntax.tcons (Syntax.tyInt Syntax.w64) Syntax.tnil) (Syntax.ttcons (Syntax.tcons (Syntax.tyInt Syntax.w64) Syntax.tnil) (Syntax.ttcons (Syntax.tcons (Syntax.tyInt Syntax.w64) Syntax.tnil) (Syntax.ttcons (Syntax.tcons (Syntax.tyInt Syntax.w64) Syntax.tnil) (Syntax.ttcons (Syntax.tcons ty·19 Syntax.tnil) (Syntax.ttcons (Syntax.tcons ty·19 Syntax.tnil) (Syntax.ttcons (Syntax.tcons ty·19 Syntax.tnil) (Syntax.ttcons (Syntax.tcons ty·19 (Syntax.tcons ty·19 Syntax.tnil)) (Syntax.ttcons Syntax.tnil Syntax.ttnil))))))))))))) Syntax.tnil) Syntax.ttnil))))
             (List._∷_ (1, Rows'.sslice (Referent.rtF (Referent.fInt Syntax.w8)) ty·13 0) (List._∷_ (2, Rows'.sc-here (Row.sInt Syntax.w64)) (List._∷_ (3, Rows'.sslice (Referent.rtF (Referent.fInt Syntax.w8)) ty·14 1) (List._∷_ (4, Rows'.sslice (Referent.rtF (Referent.fInt Syntax.w16)) ty·15 2) (List._∷_
             (5, Relend.mslice-owed (Referent.rtF (Referent.fInt Syntax.w16)) ty·16 3 23 (Row.lease (κs .1 .1 .1 .0) (qs .1 .1 .1 .0))) (List._∷_ (6, Relend.mslice-owed (Referent.rtF (Referent.fInt Syntax.w32)) ty·17 4 24 (Row.lease (κs .1 .1 .1 .1 .0) (qs .1 .1 .1 .1 .0))) (List._∷_ (7, Rows'.any-gone ty·0) (List._∷_ (8, Rows'.any-gone ty·0) (List._∷_
-            (9, Rows.arrF (Referent.rtF (Referent.fInt Syntax.w8)) 768 0) (List._∷_ (10, Rows.arr-shr (Referent.rtF (Referent.fInt Syntax.w16)) 32 17) (List._∷_ (11, Rows.arr-shr (Referent.rtF (Referent.fInt Syntax.w16)) 1024 18) (List._∷_ (12, Rows.arr-shr (Referent.rtF (Referent.fInt Syntax.w32)) 1024 19) (List._∷_
-            (13, Rows.arr-owed (Referent.rtF (Referent.fInt Syntax.w16)) 32 20) (List._∷_ (14, Rows.arr-owed (Referent.rtF (Referent.fInt Syntax.w8)) 32 21) (List._∷_ (15, Rows.arr-owed Rec.rt 2048 22) List.[])))))))))))))))
+            (9, Rows.arrF (Referent.rtF (Referent.fInt Syntax.w8)) 1536 0) (List._∷_ (10, Rows.arr-shr (Referent.rtF (Referent.fInt Syntax.w16)) 64 17) (List._∷_ (11, Rows.arr-shr (Referent.rtF (Referent.fInt Syntax.w16)) 2048 18) (List._∷_ (12, Rows.arr-shr (Referent.rtF (Referent.fInt Syntax.w32)) 2048 19) (List._∷_
+            (13, Rows.arr-owed (Referent.rtF (Referent.fInt Syntax.w16)) 64 20) (List._∷_ (14, Rows.arr-owed (Referent.rtF (Referent.fInt Syntax.w8)) 64 21) (List._∷_ (15, Rows.arr-owed Rec.rt 4096 22) List.[])))))))))))))))
 
         abbrev g127 : List.List Row.Entry
         g127 = List._∷_
             (0, Rows'.any-gone (Syntax.tyEnum (List._∷_ 114 (List._∷_ 101 (List._∷_ 97 (List._∷_ 100 (List._∷_ 105 (List._∷_ 110 (List._∷_ 103 (List._∷_ 58 (List._∷_ 58 (List._∷_ 114 (List._∷_ 101 (List._∷_ 112 (List._∷_ 108 (List._∷_ 105 (List._∷_ 101 (List._∷_ 115 (List._∷_ 58 (List._∷_ 58 (List._∷_ 82 (List._∷_ 101 (List._∷_ 97 (List._∷_ 100 (List._∷_ 105 (List._∷_ 110 (List._∷_ 103 List.[]))))))))))))))))))))))))) (Syntax.ttcons Syntax.tnil (Syntax.ttcons (Syntax.tcons (Syntax.tyEnum (List._∷_ 114 (List._∷_ 101 (List._∷_ 97 (List._∷_ 100 (List._∷_ 105 (List._∷_ 110 (List._∷_ 103 (List._∷_ 58 (List._∷_ 58 (List._∷_ 114 (List._∷_ 101 (List._∷_ 112 (List._∷_ 108 (List._∷_ 105 (List._∷_ 101 (List._∷_ 115 (List._∷_ 58 (List._∷_ 58 (List._∷_ 82 (List._∷_ 101 (List._∷_ 102 (List._∷_ 117 (List._∷_ 115 (List._∷_ 97 (List._∷_ 108 List.[]))))))))))))))))))))))))) (Syntax.ttcons Syntax.tnil (Syntax.ttcons (Syntax.tcons (Syntax.tyInt Syntax.w64) Syntax.tnil) (Syntax.ttcons (Syntax.tcons (Syntax.tyInt Syntax.w64) Syntax.tnil) (Syntax.ttcons (Syntax.tcons (Syntax.tyInt Syntax.w64) Syntax.tnil) (Syntax.ttcons (Syntax.tcons (Syntax.tyInt Syntax.w64) Syntax.tnil) (Syntax.ttcons (Syntax.tcons (Syntax.tyInt Syntax.w64) Syntax.tnil) (Syntax.ttcons (Syntax.tcons (Syntax.tyInt Syntax.w64) Syntax.tnil) (Syntax.ttcons (Syntax.tcons ty·19 Syntax.tnil) (Syntax.ttcons (Syntax.tcons ty·19 Syntax.tnil) (Syntax.ttcons (Syntax.tcons ty·19 Syntax.tnil) (Syntax.ttcons (Syntax.tcons ty·19 (Syntax.tcons ty·19 Syntax.tnil)) (Syntax.ttcons Syntax.tnil Syntax.ttnil))))))))))))) Syntax.tnil) Syntax.ttnil))))
             (List._∷_ (1, Rows'.sslice (Referent.rtF (Referent.fInt Syntax.w8)) ty·13 0) (List._∷_ (2, Rows'.sc-here (Row.sInt Syntax.w64)) (List._∷_ (3, Rows'.sslice (Referent.rtF (Referent.fInt Syntax.w8)) ty·14 1) (List._∷_ (4, Rows'.sslice (Referent.rtF (Referent.fInt Syntax.w16)) ty·15 2) (List._∷_
             (5, Relend.mslice-owed (Referent.rtF (Referent.fInt Syntax.w16)) ty·16 3 23 (Row.lease (κs .1 .1 .1 .0) (qs .1 .1 .1 .0))) (List._∷_ (6, Relend.mslice-owed (Referent.rtF (Referent.fInt Syntax.w32)) ty·17 4 24 (Row.lease (κs .1 .1 .1 .1 .0) (qs .1 .1 .1 .1 .0))) (List._∷_ (7, Rows'.any-gone ty·0) (List._∷_ (8, Rows'.any-gone ty·0) (List._∷_
-            (9, Rows'.any-gone ty·2) (List._∷_ (10, Rows.arr-shr (Referent.rtF (Referent.fInt Syntax.w16)) 32 17) (List._∷_ (11, Rows.arr-shr (Referent.rtF (Referent.fInt Syntax.w16)) 1024 18) (List._∷_ (12, Rows.arr-shr (Referent.rtF (Referent.fInt Syntax.w32)) 1024 19) (List._∷_ (13, Rows.arr-owed (Referent.rtF (Referent.fInt Syntax.w16)) 32 20) (List._∷_
-            (14, Rows.arr-owed (Referent.rtF (Referent.fInt Syntax.w8)) 32 21) (List._∷_ (15, Rows.arr-owed Rec.rt 2048 22) List.[])))))))))))))))
+            (9, Rows'.any-gone ty·3) (List._∷_ (10, Rows.arr-shr (Referent.rtF (Referent.fInt Syntax.w16)) 64 17) (List._∷_ (11, Rows.arr-shr (Referent.rtF (Referent.fInt Syntax.w16)) 2048 18) (List._∷_ (12, Rows.arr-shr (Referent.rtF (Referent.fInt Syntax.w32)) 2048 19) (List._∷_ (13, Rows.arr-owed (Referent.rtF (Referent.fInt Syntax.w16)) 64 20) (List._∷_
+            (14, Rows.arr-owed (Referent.rtF (Referent.fInt Syntax.w8)) 64 21) (List._∷_ (15, Rows.arr-owed Rec.rt 4096 22) List.[])))))))))))))))
 
         abbrev g128 : List.List Row.Entry
         g128 = List._∷_
             (0, Rows'.any-gone (Syntax.tyEnum (List._∷_ 114 (List._∷_ 101 (List._∷_ 97 (List._∷_ 100 (List._∷_ 105 (List._∷_ 110 (List._∷_ 103 (List._∷_ 58 (List._∷_ 58 (List._∷_ 114 (List._∷_ 101 (List._∷_ 112 (List._∷_ 108 (List._∷_ 105 (List._∷_ 101 (List._∷_ 115 (List._∷_ 58 (List._∷_ 58 (List._∷_ 82 (List._∷_ 101 (List._∷_ 97 (List._∷_ 100 (List._∷_ 105 (List._∷_ 110 (List._∷_ 103 List.[]))))))))))))))))))))))))) (Syntax.ttcons Syntax.tnil (Syntax.ttcons (Syntax.tcons (Syntax.tyEnum (List._∷_ 114 (List._∷_ 101 (List._∷_ 97 (List._∷_ 100 (List._∷_ 105 (List._∷_ 110 (List._∷_ 103 (List._∷_ 58 (List._∷_ 58 (List._∷_ 114 (List._∷_ 101 (List._∷_ 112 (List._∷_ 108 (List._∷_ 105 (List._∷_ 101 (List._∷_ 115 (List._∷_ 58 (List._∷_ 58 (List._∷_ 82 (List._∷_ 101 (List._∷_ 102 (List._∷_ 117 (List._∷_ 115 (List._∷_ 97 (List._∷_ 108 List.[]))))))))))))))))))))))))) (Syntax.ttcons Syntax.tnil (Syntax.ttcons (Syntax.tcons (Syntax.tyInt Syntax.w64) Syntax.tnil) (Syntax.ttcons (Syntax.tcons (Syntax.tyInt Syntax.w64) Syntax.tnil) (Syntax.ttcons (Syntax.tcons (Syntax.tyInt Syntax.w64) Syntax.tnil) (Syntax.ttcons (Syntax.tcons (Syntax.tyInt Syntax.w64) Syntax.tnil) (Syntax.ttcons (Syntax.tcons (Syntax.tyInt Syntax.w64) Syntax.tnil) (Syntax.ttcons (Syntax.tcons (Syntax.tyInt Syntax.w64) Syntax.tnil) (Syntax.ttcons (Syntax.tcons ty·19 Syntax.tnil) (Syntax.ttcons (Syntax.tcons ty·19 Syntax.tnil) (Syntax.ttcons (Syntax.tcons ty·19 Syntax.tnil) (Syntax.ttcons (Syntax.tcons ty·19 (Syntax.tcons ty·19 Syntax.tnil)) (Syntax.ttcons Syntax.tnil Syntax.ttnil))))))))))))) Syntax.tnil) Syntax.ttnil))))
             (List._∷_ (1, Rows'.sslice (Referent.rtF (Referent.fInt Syntax.w8)) ty·13 0) (List._∷_ (2, Rows'.sc-here (Row.sInt Syntax.w64)) (List._∷_ (3, Rows'.sslice (Referent.rtF (Referent.fInt Syntax.w8)) ty·14 1) (List._∷_ (4, Rows'.sslice (Referent.rtF (Referent.fInt Syntax.w16)) ty·15 2) (List._∷_
             (5, Relend.mslice-owed (Referent.rtF (Referent.fInt Syntax.w16)) ty·16 3 23 (Row.lease (κs .1 .1 .1 .0) (qs .1 .1 .1 .0))) (List._∷_ (6, Relend.mslice-owed (Referent.rtF (Referent.fInt Syntax.w32)) ty·17 4 24 (Row.lease (κs .1 .1 .1 .1 .0) (qs .1 .1 .1 .1 .0))) (List._∷_ (7, Rows'.any-gone ty·0) (List._∷_ (8, Rows'.any-gone ty·0) (List._∷_
-            (9, Rows'.any-gone ty·2) (List._∷_ (10, Rows.arrF (Referent.rtF (Referent.fInt Syntax.w16)) 32 0) (List._∷_ (11, Rows.arr-shr (Referent.rtF (Referent.fInt Syntax.w16)) 1024 18) (List._∷_ (12, Rows.arr-shr (Referent.rtF (Referent.fInt Syntax.w32)) 1024 19) (List._∷_ (13, Rows.arr-owed (Referent.rtF (Referent.fInt Syntax.w16)) 32 20) (List._∷_
-            (14, Rows.arr-owed (Referent.rtF (Referent.fInt Syntax.w8)) 32 21) (List._∷_ (15, Rows.arr-owed Rec.rt 2048 22) List.[])))))))))))))))
+            (9, Rows'.any-gone ty·3) (List._∷_ (10, Rows.arrF (Referent.rtF (Referent.fInt Syntax.w16)) 64 0) (List._∷_ (11, Rows.arr-shr (Referent.rtF (Referent.fInt Syntax.w16)) 2048 18) (List._∷_ (12, Rows.arr-shr (Referent.rtF (Referent.fInt Syntax.w32)) 2048 19) (List._∷_ (13, Rows.arr-owed (Referent.rtF (Referent.fInt Syntax.w16)) 64 20) (List._∷_
+            (14, Rows.arr-owed (Referent.rtF (Referent.fInt Syntax.w8)) 64 21) (List._∷_ (15, Rows.arr-owed Rec.rt 4096 22) List.[])))))))))))))))
 
         abbrev g129 : List.List Row.Entry
         g129 = List._∷_
             (0, Rows'.any-gone (Syntax.tyEnum (List._∷_ 114 (List._∷_ 101 (List._∷_ 97 (List._∷_ 100 (List._∷_ 105 (List._∷_ 110 (List._∷_ 103 (List._∷_ 58 (List._∷_ 58 (List._∷_ 114 (List._∷_ 101 (List._∷_ 112 (List._∷_ 108 (List._∷_ 105 (List._∷_ 101 (List._∷_ 115 (List._∷_ 58 (List._∷_ 58 (List._∷_ 82 (List._∷_ 101 (List._∷_ 97 (List._∷_ 100 (List._∷_ 105 (List._∷_ 110 (List._∷_ 103 List.[]))))))))))))))))))))))))) (Syntax.ttcons Syntax.tnil (Syntax.ttcons (Syntax.tcons (Syntax.tyEnum (List._∷_ 114 (List._∷_ 101 (List._∷_ 97 (List._∷_ 100 (List._∷_ 105 (List._∷_ 110 (List._∷_ 103 (List._∷_ 58 (List._∷_ 58 (List._∷_ 114 (List._∷_ 101 (List._∷_ 112 (List._∷_ 108 (List._∷_ 105 (List._∷_ 101 (List._∷_ 115 (List._∷_ 58 (List._∷_ 58 (List._∷_ 82 (List._∷_ 101 (List._∷_ 102 (List._∷_ 117 (List._∷_ 115 (List._∷_ 97 (List._∷_ 108 List.[]))))))))))))))))))))))))) (Syntax.ttcons Syntax.tnil (Syntax.ttcons (Syntax.tcons (Syntax.tyInt Syntax.w64) Syntax.tnil) (Syntax.ttcons (Syntax.tcons (Syntax.tyInt Syntax.w64) Syntax.tnil) (Syntax.ttcons (Syntax.tcons (Syntax.tyInt Syntax.w64) Syntax.tnil) (Syntax.ttcons (Syntax.tcons (Syntax.tyInt Syntax.w64) Syntax.tnil) (Syntax.ttcons (Syntax.tcons (Syntax.tyInt Syntax.w64) Syntax.tnil) (Syntax.ttcons (Syntax.tcons (Syntax.tyInt Syntax.w64) Syntax.tnil) (Syntax.ttcons (Syntax.tcons ty·19 Syntax.tnil) (Syntax.ttcons (Syntax.tcons ty·19 Syntax.tnil) (Syntax.ttcons (Syntax.tcons ty·19 Syntax.tnil) (Syntax.ttcons (Syntax.tcons ty·19 (Syntax.tcons ty·19 Syntax.tnil)) (Syntax.ttcons Syntax.tnil Syntax.ttnil))))))))))))) Syntax.tnil) Syntax.ttnil))))
             (List._∷_ (1, Rows'.sslice (Referent.rtF (Referent.fInt Syntax.w8)) ty·13 0) (List._∷_ (2, Rows'.sc-here (Row.sInt Syntax.w64)) (List._∷_ (3, Rows'.sslice (Referent.rtF (Referent.fInt Syntax.w8)) ty·14 1) (List._∷_ (4, Rows'.sslice (Referent.rtF (Referent.fInt Syntax.w16)) ty·15 2) (List._∷_
             (5, Relend.mslice-owed (Referent.rtF (Referent.fInt Syntax.w16)) ty·16 3 23 (Row.lease (κs .1 .1 .1 .0) (qs .1 .1 .1 .0))) (List._∷_ (6, Relend.mslice-owed (Referent.rtF (Referent.fInt Syntax.w32)) ty·17 4 24 (Row.lease (κs .1 .1 .1 .1 .0) (qs .1 .1 .1 .1 .0))) (List._∷_ (7, Rows'.any-gone ty·0) (List._∷_ (8, Rows'.any-gone ty·0) (List._∷_
-            (9, Rows'.any-gone ty·2) (List._∷_ (10, Rows'.any-gone ty·3) (List._∷_ (11, Rows.arr-shr (Referent.rtF (Referent.fInt Syntax.w16)) 1024 18) (List._∷_ (12, Rows.arr-shr (Referent.rtF (Referent.fInt Syntax.w32)) 1024 19) (List._∷_ (13, Rows.arr-owed (Referent.rtF (Referent.fInt Syntax.w16)) 32 20) (List._∷_
-            (14, Rows.arr-owed (Referent.rtF (Referent.fInt Syntax.w8)) 32 21) (List._∷_ (15, Rows.arr-owed Rec.rt 2048 22) List.[])))))))))))))))
+            (9, Rows'.any-gone ty·3) (List._∷_ (10, Rows'.any-gone ty·2) (List._∷_ (11, Rows.arr-shr (Referent.rtF (Referent.fInt Syntax.w16)) 2048 18) (List._∷_ (12, Rows.arr-shr (Referent.rtF (Referent.fInt Syntax.w32)) 2048 19) (List._∷_ (13, Rows.arr-owed (Referent.rtF (Referent.fInt Syntax.w16)) 64 20) (List._∷_
+            (14, Rows.arr-owed (Referent.rtF (Referent.fInt Syntax.w8)) 64 21) (List._∷_ (15, Rows.arr-owed Rec.rt 4096 22) List.[])))))))))))))))
 
         abbrev g130 : List.List Row.Entry
         g130 = List._∷_
             (0, Rows'.any-gone (Syntax.tyEnum (List._∷_ 114 (List._∷_ 101 (List._∷_ 97 (List._∷_ 100 (List._∷_ 105 (List._∷_ 110 (List._∷_ 103 (List._∷_ 58 (List._∷_ 58 (List._∷_ 114 (List._∷_ 101 (List._∷_ 112 (List._∷_ 108 (List._∷_ 105 (List._∷_ 101 (List._∷_ 115 (List._∷_ 58 (List._∷_ 58 (List._∷_ 82 (List._∷_ 101 (List._∷_ 97 (List._∷_ 100 (List._∷_ 105 (List._∷_ 110 (List._∷_ 103 List.[]))))))))))))))))))))))))) (Syntax.ttcons Syntax.tnil (Syntax.ttcons (Syntax.tcons (Syntax.tyEnum (List._∷_ 114 (List._∷_ 101 (List._∷_ 97 (List._∷_ 100 (List._∷_ 105 (List._∷_ 110 (List._∷_ 103 (List._∷_ 58 (List._∷_ 58 (List._∷_ 114 (List._∷_ 101 (List._∷_ 112 (List._∷_ 108 (List._∷_ 105 (List._∷_ 101 (List._∷_ 115 (List._∷_ 58 (List._∷_ 58 (List._∷_ 82 (List._∷_ 101 (List._∷_ 102 (List._∷_ 117 (List._∷_ 115 (List._∷_ 97 (List._∷_ 108 List.[]))))))))))))))))))))))))) (Syntax.ttcons Syntax.tnil (Syntax.ttcons (Syntax.tcons (Syntax.tyInt Syntax.w64) Syntax.tnil) (Syntax.ttcons (Syntax.tcons (Syntax.tyInt Syntax.w64) Syntax.tnil) (Syntax.ttcons (Syntax.tcons (Syntax.tyInt Syntax.w64) Syntax.tnil) (Syntax.ttcons (Syntax.tcons (Syntax.tyInt Syntax.w64) Syntax.tnil) (Syntax.ttcons (Syntax.tcons (Syntax.tyInt Syntax.w64) Syntax.tnil) (Syntax.ttcons (Syntax.tcons (Syntax.tyInt Syntax.w64) Syntax.tnil) (Syntax.ttcons (Syntax.tcons ty·19 Syntax.tnil) (Syntax.ttcons (Syntax.tcons ty·19 Syntax.tnil) (Syntax.ttcons (Syntax.tcons ty·19 Syntax.tnil) (Syntax.ttcons (Syntax.tcons ty·19 (Syntax.tcons ty·19 Syntax.tnil)) (Syntax.ttcons Syntax.tnil Syntax.ttnil))))))))))))) Syntax.tnil) Syntax.ttnil))))
             (List._∷_ (1, Rows'.sslice (Referent.rtF (Referent.fInt Syntax.w8)) ty·13 0) (List._∷_ (2, Rows'.sc-here (Row.sInt Syntax.w64)) (List._∷_ (3, Rows'.sslice (Referent.rtF (Referent.fInt Syntax.w8)) ty·14 1) (List._∷_ (4, Rows'.sslice (Referent.rtF (Referent.fInt Syntax.w16)) ty·15 2) (List._∷_
             (5, Relend.mslice-owed (Referent.rtF (Referent.fInt Syntax.w16)) ty·16 3 23 (Row.lease (κs .1 .1 .1 .0) (qs .1 .1 .1 .0))) (List._∷_ (6, Relend.mslice-owed (Referent.rtF (Referent.fInt Syntax.w32)) ty·17 4 24 (Row.lease (κs .1 .1 .1 .1 .0) (qs .1 .1 .1 .1 .0))) (List._∷_ (7, Rows'.any-gone ty·0) (List._∷_ (8, Rows'.any-gone ty·0) (List._∷_
-            (9, Rows'.any-gone ty·2) (List._∷_ (10, Rows'.any-gone ty·3) (List._∷_ (11, Rows.arrF (Referent.rtF (Referent.fInt Syntax.w16)) 1024 0) (List._∷_ (12, Rows.arr-shr (Referent.rtF (Referent.fInt Syntax.w32)) 1024 19) (List._∷_ (13, Rows.arr-owed (Referent.rtF (Referent.fInt Syntax.w16)) 32 20) (List._∷_
-            (14, Rows.arr-owed (Referent.rtF (Referent.fInt Syntax.w8)) 32 21) (List._∷_ (15, Rows.arr-owed Rec.rt 2048 22) List.[])))))))))))))))
+            (9, Rows'.any-gone ty·3) (List._∷_ (10, Rows'.any-gone ty·2) (List._∷_ (11, Rows.arrF (Referent.rtF (Referent.fInt Syntax.w16)) 2048 0) (List._∷_ (12, Rows.arr-shr (Referent.rtF (Referent.fInt Syntax.w32)) 2048 19) (List._∷_ (13, Rows.arr-owed (Referent.rtF (Referent.fInt Syntax.w16)) 64 20) (List._∷_
+            (14, Rows.arr-owed (Referent.rtF (Referent.fInt Syntax.w8)) 64 21) (List._∷_ (15, Rows.arr-owed Rec.rt 4096 22) List.[])))))))))))))))
 
         abbrev g131 : List.List Row.Entry
         g131 = List._∷_
             (0, Rows'.any-gone (Syntax.tyEnum (List._∷_ 114 (List._∷_ 101 (List._∷_ 97 (List._∷_ 100 (List._∷_ 105 (List._∷_ 110 (List._∷_ 103 (List._∷_ 58 (List._∷_ 58 (List._∷_ 114 (List._∷_ 101 (List._∷_ 112 (List._∷_ 108 (List._∷_ 105 (List._∷_ 101 (List._∷_ 115 (List._∷_ 58 (List._∷_ 58 (List._∷_ 82 (List._∷_ 101 (List._∷_ 97 (List._∷_ 100 (List._∷_ 105 (List._∷_ 110 (List._∷_ 103 List.[]))))))))))))))))))))))))) (Syntax.ttcons Syntax.tnil (Syntax.ttcons (Syntax.tcons (Syntax.tyEnum (List._∷_ 114 (List._∷_ 101 (List._∷_ 97 (List._∷_ 100 (List._∷_ 105 (List._∷_ 110 (List._∷_ 103 (List._∷_ 58 (List._∷_ 58 (List._∷_ 114 (List._∷_ 101 (List._∷_ 112 (List._∷_ 108 (List._∷_ 105 (List._∷_ 101 (List._∷_ 115 (List._∷_ 58 (List._∷_ 58 (List._∷_ 82 (List._∷_ 101 (List._∷_ 102 (List._∷_ 117 (List._∷_ 115 (List._∷_ 97 (List._∷_ 108 List.[]))))))))))))))))))))))))) (Syntax.ttcons Syntax.tnil (Syntax.ttcons (Syntax.tcons (Syntax.tyInt Syntax.w64) Syntax.tnil) (Syntax.ttcons (Syntax.tcons (Syntax.tyInt Syntax.w64) Syntax.tnil) (Syntax.ttcons (Syntax.tcons (Syntax.tyInt Syntax.w64) Syntax.tnil) (Syntax.ttcons (Syntax.tcons (Syntax.tyInt Syntax.w64) Syntax.tnil) (Syntax.ttcons (Syntax.tcons (Syntax.tyInt Syntax.w64) Syntax.tnil) (Syntax.ttcons (Syntax.tcons (Syntax.tyInt Syntax.w64) Syntax.tnil) (Syntax.ttcons (Syntax.tcons ty·19 Syntax.tnil) (Syntax.ttcons (Syntax.tcons ty·19 Syntax.tnil) (Syntax.ttcons (Syntax.tcons ty·19 Syntax.tnil) (Syntax.ttcons (Syntax.tcons ty·19 (Syntax.tcons ty·19 Syntax.tnil)) (Syntax.ttcons Syntax.tnil Syntax.ttnil))))))))))))) Syntax.tnil) Syntax.ttnil))))
             (List._∷_ (1, Rows'.sslice (Referent.rtF (Referent.fInt Syntax.w8)) ty·13 0) (List._∷_ (2, Rows'.sc-here (Row.sInt Syntax.w64)) (List._∷_ (3, Rows'.sslice (Referent.rtF (Referent.fInt Syntax.w8)) ty·14 1) (List._∷_ (4, Rows'.sslice (Referent.rtF (Referent.fInt Syntax.w16)) ty·15 2) (List._∷_
             (5, Relend.mslice-owed (Referent.rtF (Referent.fInt Syntax.w16)) ty·16 3 23 (Row.lease (κs .1 .1 .1 .0) (qs .1 .1 .1 .0))) (List._∷_ (6, Relend.mslice-owed (Referent.rtF (Referent.fInt Syntax.w32)) ty·17 4 24 (Row.lease (κs .1 .1 .1 .1 .0) (qs .1 .1 .1 .1 .0))) (List._∷_ (7, Rows'.any-gone ty·0) (List._∷_ (8, Rows'.any-gone ty·0) (List._∷_
-            (9, Rows'.any-gone ty·2) (List._∷_ (10, Rows'.any-gone ty·3) (List._∷_ (11, Rows'.any-gone ty·4) (List._∷_ (12, Rows.arr-shr (Referent.rtF (Referent.fInt Syntax.w32)) 1024 19) (List._∷_ (13, Rows.arr-owed (Referent.rtF (Referent.fInt Syntax.w16)) 32 20) (List._∷_ (14, Rows.arr-owed (Referent.rtF (Referent.fInt Syntax.w8)) 32 21) (List._∷_
-            (15, Rows.arr-owed Rec.rt 2048 22) List.[])))))))))))))))
+            (9, Rows'.any-gone ty·3) (List._∷_ (10, Rows'.any-gone ty·2) (List._∷_ (11, Rows'.any-gone ty·4) (List._∷_ (12, Rows.arr-shr (Referent.rtF (Referent.fInt Syntax.w32)) 2048 19) (List._∷_ (13, Rows.arr-owed (Referent.rtF (Referent.fInt Syntax.w16)) 64 20) (List._∷_ (14, Rows.arr-owed (Referent.rtF (Referent.fInt Syntax.w8)) 64 21) (List._∷_
+            (15, Rows.arr-owed Rec.rt 4096 22) List.[])))))))))))))))
 
         abbrev g132 : List.List Row.Entry
         g132 = List._∷_
             (0, Rows'.any-gone (Syntax.tyEnum (List._∷_ 114 (List._∷_ 101 (List._∷_ 97 (List._∷_ 100 (List._∷_ 105 (List._∷_ 110 (List._∷_ 103 (List._∷_ 58 (List._∷_ 58 (List._∷_ 114 (List._∷_ 101 (List._∷_ 112 (List._∷_ 108 (List._∷_ 105 (List._∷_ 101 (List._∷_ 115 (List._∷_ 58 (List._∷_ 58 (List._∷_ 82 (List._∷_ 101 (List._∷_ 97 (List._∷_ 100 (List._∷_ 105 (List._∷_ 110 (List._∷_ 103 List.[]))))))))))))))))))))))))) (Syntax.ttcons Syntax.tnil (Syntax.ttcons (Syntax.tcons (Syntax.tyEnum (List._∷_ 114 (List._∷_ 101 (List._∷_ 97 (List._∷_ 100 (List._∷_ 105 (List._∷_ 110 (List._∷_ 103 (List._∷_ 58 (List._∷_ 58 (List._∷_ 114 (List._∷_ 101 (List._∷_ 112 (List._∷_ 108 (List._∷_ 105 (List._∷_ 101 (List._∷_ 115 (List._∷_ 58 (List._∷_ 58 (List._∷_ 82 (List._∷_ 101 (List._∷_ 102 (List._∷_ 117 (List._∷_ 115 (List._∷_ 97 (List._∷_ 108 List.[]))))))))))))))))))))))))) (Syntax.ttcons Syntax.tnil (Syntax.ttcons (Syntax.tcons (Syntax.tyInt Syntax.w64) Syntax.tnil) (Syntax.ttcons (Syntax.tcons (Syntax.tyInt Syntax.w64) Syntax.tnil) (Syntax.ttcons (Syntax.tcons (Syntax.tyInt Syntax.w64) Syntax.tnil) (Syntax.ttcons (Syntax.tcons (Syntax.tyInt Syntax.w64) Syntax.tnil) (Syntax.ttcons (Syntax.tcons (Syntax.tyInt Syntax.w64) Syntax.tnil) (Syntax.ttcons (Syntax.tcons (Syntax.tyInt Syntax.w64) Syntax.tnil) (Syntax.ttcons (Syntax.tcons ty·19 Syntax.tnil) (Syntax.ttcons (Syntax.tcons ty·19 Syntax.tnil) (Syntax.ttcons (Syntax.tcons ty·19 Syntax.tnil) (Syntax.ttcons (Syntax.tcons ty·19 (Syntax.tcons ty·19 Syntax.tnil)) (Syntax.ttcons Syntax.tnil Syntax.ttnil))))))))))))) Syntax.tnil) Syntax.ttnil))))
             (List._∷_ (1, Rows'.sslice (Referent.rtF (Referent.fInt Syntax.w8)) ty·13 0) (List._∷_ (2, Rows'.sc-here (Row.sInt Syntax.w64)) (List._∷_ (3, Rows'.sslice (Referent.rtF (Referent.fInt Syntax.w8)) ty·14 1) (List._∷_ (4, Rows'.sslice (Referent.rtF (Referent.fInt Syntax.w16)) ty·15 2) (List._∷_
             (5, Relend.mslice-owed (Referent.rtF (Referent.fInt Syntax.w16)) ty·16 3 23 (Row.lease (κs .1 .1 .1 .0) (qs .1 .1 .1 .0))) (List._∷_ (6, Relend.mslice-owed (Referent.rtF (Referent.fInt Syntax.w32)) ty·17 4 24 (Row.lease (κs .1 .1 .1 .1 .0) (qs .1 .1 .1 .1 .0))) (List._∷_ (7, Rows'.any-gone ty·0) (List._∷_ (8, Rows'.any-gone ty·0) (List._∷_
-            (9, Rows'.any-gone ty·2) (List._∷_ (10, Rows'.any-gone ty·3) (List._∷_ (11, Rows'.any-gone ty·4) (List._∷_ (12, Rows.arrF (Referent.rtF (Referent.fInt Syntax.w32)) 1024 0) (List._∷_ (13, Rows.arr-owed (Referent.rtF (Referent.fInt Syntax.w16)) 32 20) (List._∷_ (14, Rows.arr-owed (Referent.rtF (Referent.fInt Syntax.w8)) 32 21) (List._∷_
-            (15, Rows.arr-owed Rec.rt 2048 22) List.[])))))))))))))))
+            (9, Rows'.any-gone ty·3) (List._∷_ (10, Rows'.any-gone ty·2) (List._∷_ (11, Rows'.any-gone ty·4) (List._∷_ (12, Rows.arrF (Referent.rtF (Referent.fInt Syntax.w32)) 2048 0) (List._∷_ (13, Rows.arr-owed (Referent.rtF (Referent.fInt Syntax.w16)) 64 20) (List._∷_ (14, Rows.arr-owed (Referent.rtF (Referent.fInt Syntax.w8)) 64 21) (List._∷_
+            (15, Rows.arr-owed Rec.rt 4096 22) List.[])))))))))))))))
 
         abbrev g133 : List.List Row.Entry
         g133 = List._∷_
             (0, Rows'.any-gone (Syntax.tyEnum (List._∷_ 114 (List._∷_ 101 (List._∷_ 97 (List._∷_ 100 (List._∷_ 105 (List._∷_ 110 (List._∷_ 103 (List._∷_ 58 (List._∷_ 58 (List._∷_ 114 (List._∷_ 101 (List._∷_ 112 (List._∷_ 108 (List._∷_ 105 (List._∷_ 101 (List._∷_ 115 (List._∷_ 58 (List._∷_ 58 (List._∷_ 82 (List._∷_ 101 (List._∷_ 97 (List._∷_ 100 (List._∷_ 105 (List._∷_ 110 (List._∷_ 103 List.[]))))))))))))))))))))))))) (Syntax.ttcons Syntax.tnil (Syntax.ttcons (Syntax.tcons (Syntax.tyEnum (List._∷_ 114 (List._∷_ 101 (List._∷_ 97 (List._∷_ 100 (List._∷_ 105 (List._∷_ 110 (List._∷_ 103 (List._∷_ 58 (List._∷_ 58 (List._∷_ 114 (List._∷_ 101 (List._∷_ 112 (List._∷_ 108 (List._∷_ 105 (List._∷_ 101 (List._∷_ 115 (List._∷_ 58 (List._∷_ 58 (List._∷_ 82 (List._∷_ 101 (List._∷_ 102 (List._∷_ 117 (List._∷_ 115 (List._∷_ 97 (List._∷_ 108 List.[]))))))))))))))))))))))))) (Syntax.ttcons Syntax.tnil (Syntax.ttcons (Syntax.tcons (Syntax.tyInt Syntax.w64) Syntax.tnil) (Syntax.ttcons (Syntax.tcons (Syntax.tyInt Syntax.w64) Syntax.tnil) (Syntax.ttcons (Syntax.tcons (Syntax.tyInt Syntax.w64) Syntax.tnil) (Syntax.ttcons (Syntax.tcons (Syntax.tyInt Syntax.w64) Syntax.tnil) (Syntax.ttcons (Syntax.tcons (Syntax.tyInt Syntax.w64) Syntax.tnil) (Syntax.ttcons (Syntax.tcons (Syntax.tyInt Syntax.w64) Syntax.tnil) (Syntax.ttcons (Syntax.tcons ty·19 Syntax.tnil) (Syntax.ttcons (Syntax.tcons ty·19 Syntax.tnil) (Syntax.ttcons (Syntax.tcons ty·19 Syntax.tnil) (Syntax.ttcons (Syntax.tcons ty·19 (Syntax.tcons ty·19 Syntax.tnil)) (Syntax.ttcons Syntax.tnil Syntax.ttnil))))))))))))) Syntax.tnil) Syntax.ttnil))))
             (List._∷_ (1, Rows'.sslice (Referent.rtF (Referent.fInt Syntax.w8)) ty·13 0) (List._∷_ (2, Rows'.sc-here (Row.sInt Syntax.w64)) (List._∷_ (3, Rows'.sslice (Referent.rtF (Referent.fInt Syntax.w8)) ty·14 1) (List._∷_ (4, Rows'.sslice (Referent.rtF (Referent.fInt Syntax.w16)) ty·15 2) (List._∷_
             (5, Relend.mslice-owed (Referent.rtF (Referent.fInt Syntax.w16)) ty·16 3 23 (Row.lease (κs .1 .1 .1 .0) (qs .1 .1 .1 .0))) (List._∷_ (6, Relend.mslice-owed (Referent.rtF (Referent.fInt Syntax.w32)) ty·17 4 24 (Row.lease (κs .1 .1 .1 .1 .0) (qs .1 .1 .1 .1 .0))) (List._∷_ (7, Rows'.any-gone ty·0) (List._∷_ (8, Rows'.any-gone ty·0) (List._∷_
-            (9, Rows'.any-gone ty·2) (List._∷_ (10, Rows'.any-gone ty·3) (List._∷_ (11, Rows'.any-gone ty·4) (List._∷_ (12, Rows'.any-gone ty·5) (List._∷_ (13, Rows.arr-owed (Referent.rtF (Referent.fInt Syntax.w16)) 32 20) (List._∷_ (14, Rows.arr-owed (Referent.rtF (Referent.fInt Syntax.w8)) 32 21) (List._∷_ (15, Rows.arr-owed Rec.rt 2048 22)
+            (9, Rows'.any-gone ty·3) (List._∷_ (10, Rows'.any-gone ty·2) (List._∷_ (11, Rows'.any-gone ty·4) (List._∷_ (12, Rows'.any-gone ty·5) (List._∷_ (13, Rows.arr-owed (Referent.rtF (Referent.fInt Syntax.w16)) 64 20) (List._∷_ (14, Rows.arr-owed (Referent.rtF (Referent.fInt Syntax.w8)) 64 21) (List._∷_ (15, Rows.arr-owed Rec.rt 4096 22)
             List.[])))))))))))))))
 
         abbrev g134 : List.List Row.Entry
@@ -2636,49 +2636,49 @@ module _ (claims· : Claims) where
             (0, Rows'.any-gone (Syntax.tyEnum (List._∷_ 114 (List._∷_ 101 (List._∷_ 97 (List._∷_ 100 (List._∷_ 105 (List._∷_ 110 (List._∷_ 103 (List._∷_ 58 (List._∷_ 58 (List._∷_ 114 (List._∷_ 101 (List._∷_ 112 (List._∷_ 108 (List._∷_ 105 (List._∷_ 101 (List._∷_ 115 (List._∷_ 58 (List._∷_ 58 (List._∷_ 82 (List._∷_ 101 (List._∷_ 97 (List._∷_ 100 (List._∷_ 105 (List._∷_ 110 (List._∷_ 103 List.[]))))))))))))))))))))))))) (Syntax.ttcons Syntax.tnil (Syntax.ttcons (Syntax.tcons (Syntax.tyEnum (List._∷_ 114 (List._∷_ 101 (List._∷_ 97 (List._∷_ 100 (List._∷_ 105 (List._∷_ 110 (List._∷_ 103 (List._∷_ 58 (List._∷_ 58 (List._∷_ 114 (List._∷_ 101 (List._∷_ 112 (List._∷_ 108 (List._∷_ 105 (List._∷_ 101 (List._∷_ 115 (List._∷_ 58 (List._∷_ 58 (List._∷_ 82 (List._∷_ 101 (List._∷_ 102 (List._∷_ 117 (List._∷_ 115 (List._∷_ 97 (List._∷_ 108 List.[]))))))))))))))))))))))))) (Syntax.ttcons Syntax.tnil (Syntax.ttcons (Syntax.tcons (Syntax.tyInt Syntax.w64) Syntax.tnil) (Syntax.ttcons (Syntax.tcons (Syntax.tyInt Syntax.w64) Syntax.tnil) (Syntax.ttcons (Syntax.tcons (Syntax.tyInt Syntax.w64) Syntax.tnil) (Syntax.ttcons (Syntax.tcons (Syntax.tyInt Syntax.w64) Syntax.tnil) (Syntax.ttcons (Syntax.tcons (Syntax.tyInt Syntax.w64) Syntax.tnil) (Syntax.ttcons (Syntax.tcons (Syntax.tyInt Syntax.w64) Syntax.tnil) (Syntax.ttcons (Syntax.tcons ty·19 Syntax.tnil) (Syntax.ttcons (Syntax.tcons ty·19 Syntax.tnil) (Syntax.ttcons (Syntax.tcons ty·19 Syntax.tnil) (Syntax.ttcons (Syntax.tcons ty·19 (Syntax.tcons ty·19 Syntax.tnil)) (Syntax.ttcons Syntax.tnil Syntax.ttnil))))))))))))) Syntax.tnil) Syntax.ttnil))))
             (List._∷_ (1, Rows'.sslice (Referent.rtF (Referent.fInt Syntax.w8)) ty·13 0) (List._∷_ (2, Rows'.sc-here (Row.sInt Syntax.w64)) (List._∷_ (3, Rows'.sslice (Referent.rtF (Referent.fInt Syntax.w8)) ty·14 1) (List._∷_ (4, Rows'.sslice (Referent.rtF (Referent.fInt Syntax.w16)) ty·15 2) (List._∷_
             (5, Relend.mslice-owed (Referent.rtF (Referent.fInt Syntax.w16)) ty·16 3 23 (Row.lease (κs .1 .1 .1 .0) (qs .1 .1 .1 .0))) (List._∷_ (6, Relend.mslice-owed (Referent.rtF (Referent.fInt Syntax.w32)) ty·17 4 24 (Row.lease (κs .1 .1 .1 .1 .0) (qs .1 .1 .1 .1 .0))) (List._∷_ (7, Rows'.any-gone ty·0) (List._∷_ (8, Rows'.any-gone ty·0) (List._∷_
-            (9, Rows'.any-gone ty·2) (List._∷_ (10, Rows'.any-gone ty·3) (List._∷_ (11, Rows'.any-gone ty·4) (List._∷_ (12, Rows'.any-gone ty·5) (List._∷_ (13, Rows.arrF (Referent.rtF (Referent.fInt Syntax.w16)) 32 0) (List._∷_ (14, Rows.arr-owed (Referent.rtF (Referent.fInt Syntax.w8)) 32 21) (List._∷_ (15, Rows.arr-owed Rec.rt 2048 22) List.[])))))))))))))))
+            (9, Rows'.any-gone ty·3) (List._∷_ (10, Rows'.any-gone ty·2) (List._∷_ (11, Rows'.any-gone ty·4) (List._∷_ (12, Rows'.any-gone ty·5) (List._∷_ (13, Rows.arrF (Referent.rtF (Referent.fInt Syntax.w16)) 64 0) (List._∷_ (14, Rows.arr-owed (Referent.rtF (Referent.fInt Syntax.w8)) 64 21) (List._∷_ (15, Rows.arr-owed Rec.rt 4096 22) List.[])))))))))))))))
 
         abbrev g136 : List.List Row.Entry
         g136 = List._∷_
             (0, Rows'.any-gone (Syntax.tyEnum (List._∷_ 114 (List._∷_ 101 (List._∷_ 97 (List._∷_ 100 (List._∷_ 105 (List._∷_ 110 (List._∷_ 103 (List._∷_ 58 (List._∷_ 58 (List._∷_ 114 (List._∷_ 101 (List._∷_ 112 (List._∷_ 108 (List._∷_ 105 (List._∷_ 101 (List._∷_ 115 (List._∷_ 58 (List._∷_ 58 (List._∷_ 82 (List._∷_ 101 (List._∷_ 97 (List._∷_ 100 (List._∷_ 105 (List._∷_ 110 (List._∷_ 103 List.[]))))))))))))))))))))))))) (Syntax.ttcons Syntax.tnil (Syntax.ttcons (Syntax.tcons (Syntax.tyEnum (List._∷_ 114 (List._∷_ 101 (List._∷_ 97 (List._∷_ 100 (List._∷_ 105 (List._∷_ 110 (List._∷_ 103 (List._∷_ 58 (List._∷_ 58 (List._∷_ 114 (List._∷_ 101 (List._∷_ 112 (List._∷_ 108 (List._∷_ 105 (List._∷_ 101 (List._∷_ 115 (List._∷_ 58 (List._∷_ 58 (List._∷_ 82 (List._∷_ 101 (List._∷_ 102 (List._∷_ 117 (List._∷_ 115 (List._∷_ 97 (List._∷_ 108 List.[]))))))))))))))))))))))))) (Syntax.ttcons Syntax.tnil (Syntax.ttcons (Syntax.tcons (Syntax.tyInt Syntax.w64) Syntax.tnil) (Syntax.ttcons (Syntax.tcons (Syntax.tyInt Syntax.w64) Syntax.tnil) (Syntax.ttcons (Syntax.tcons (Syntax.tyInt Syntax.w64) Syntax.tnil) (Syntax.ttcons (Syntax.tcons (Syntax.tyInt Syntax.w64) Syntax.tnil) (Syntax.ttcons (Syntax.tcons (Syntax.tyInt Syntax.w64) Syntax.tnil) (Syntax.ttcons (Syntax.tcons (Syntax.tyInt Syntax.w64) Syntax.tnil) (Syntax.ttcons (Syntax.tcons ty·19 Syntax.tnil) (Syntax.ttcons (Syntax.tcons ty·19 Syntax.tnil) (Syntax.ttcons (Syntax.tcons ty·19 Syntax.tnil) (Syntax.ttcons (Syntax.tcons ty·19 (Syntax.tcons ty·19 Syntax.tnil)) (Syntax.ttcons Syntax.tnil Syntax.ttnil))))))))))))) Syntax.tnil) Syntax.ttnil))))
             (List._∷_ (1, Rows'.sslice (Referent.rtF (Referent.fInt Syntax.w8)) ty·13 0) (List._∷_ (2, Rows'.sc-here (Row.sInt Syntax.w64)) (List._∷_ (3, Rows'.sslice (Referent.rtF (Referent.fInt Syntax.w8)) ty·14 1) (List._∷_ (4, Rows'.sslice (Referent.rtF (Referent.fInt Syntax.w16)) ty·15 2) (List._∷_
             (5, Relend.mslice-owed (Referent.rtF (Referent.fInt Syntax.w16)) ty·16 3 23 (Row.lease (κs .1 .1 .1 .0) (qs .1 .1 .1 .0))) (List._∷_ (6, Relend.mslice-owed (Referent.rtF (Referent.fInt Syntax.w32)) ty·17 4 24 (Row.lease (κs .1 .1 .1 .1 .0) (qs .1 .1 .1 .1 .0))) (List._∷_ (7, Rows'.any-gone ty·0) (List._∷_ (8, Rows'.any-gone ty·0) (List._∷_
-            (9, Rows'.any-gone ty·2) (List._∷_ (10, Rows'.any-gone ty·3) (List._∷_ (11, Rows'.any-gone ty·4) (List._∷_ (12, Rows'.any-gone ty·5) (List._∷_ (13, Rows'.any-gone ty·3) (List._∷_ (14, Rows.arr-owed (Referent.rtF (Referent.fInt Syntax.w8)) 32 21) (List._∷_ (15, Rows.arr-owed Rec.rt 2048 22) List.[])))))))))))))))
+            (9, Rows'.any-gone ty·3) (List._∷_ (10, Rows'.any-gone ty·2) (List._∷_ (11, Rows'.any-gone ty·4) (List._∷_ (12, Rows'.any-gone ty·5) (List._∷_ (13, Rows'.any-gone ty·2) (List._∷_ (14, Rows.arr-owed (Referent.rtF (Referent.fInt Syntax.w8)) 64 21) (List._∷_ (15, Rows.arr-owed Rec.rt 4096 22) List.[])))))))))))))))
 
         abbrev g137 : List.List Row.Entry
         g137 = List._∷_
             (0, Rows'.any-gone (Syntax.tyEnum (List._∷_ 114 (List._∷_ 101 (List._∷_ 97 (List._∷_ 100 (List._∷_ 105 (List._∷_ 110 (List._∷_ 103 (List._∷_ 58 (List._∷_ 58 (List._∷_ 114 (List._∷_ 101 (List._∷_ 112 (List._∷_ 108 (List._∷_ 105 (List._∷_ 101 (List._∷_ 115 (List._∷_ 58 (List._∷_ 58 (List._∷_ 82 (List._∷_ 101 (List._∷_ 97 (List._∷_ 100 (List._∷_ 105 (List._∷_ 110 (List._∷_ 103 List.[]))))))))))))))))))))))))) (Syntax.ttcons Syntax.tnil (Syntax.ttcons (Syntax.tcons (Syntax.tyEnum (List._∷_ 114 (List._∷_ 101 (List._∷_ 97 (List._∷_ 100 (List._∷_ 105 (List._∷_ 110 (List._∷_ 103 (List._∷_ 58 (List._∷_ 58 (List._∷_ 114 (List._∷_ 101 (List._∷_ 112 (List._∷_ 108 (List._∷_ 105 (List._∷_ 101 (List._∷_ 115 (List._∷_ 58 (List._∷_ 58 (List._∷_ 82 (List._∷_ 101 (List._∷_ 102 (List._∷_ 117 (List._∷_ 115 (List._∷_ 97 (List._∷_ 108 List.[]))))))))))))))))))))))))) (Syntax.ttcons Syntax.tnil (Syntax.ttcons (Syntax.tcons (Syntax.tyInt Syntax.w64) Syntax.tnil) (Syntax.ttcons (Syntax.tcons (Syntax.tyInt Syntax.w64) Syntax.tnil) (Syntax.ttcons (Syntax.tcons (Syntax.tyInt Syntax.w64) Syntax.tnil) (Syntax.ttcons (Syntax.tcons (Syntax.tyInt Syntax.w64) Syntax.tnil) (Syntax.ttcons (Syntax.tcons (Syntax.tyInt Syntax.w64) Syntax.tnil) (Syntax.ttcons (Syntax.tcons (Syntax.tyInt Syntax.w64) Syntax.tnil) (Syntax.ttcons (Syntax.tcons ty·19 Syntax.tnil) (Syntax.ttcons (Syntax.tcons ty·19 Syntax.tnil) (Syntax.ttcons (Syntax.tcons ty·19 Syntax.tnil) (Syntax.ttcons (Syntax.tcons ty·19 (Syntax.tcons ty·19 Syntax.tnil)) (Syntax.ttcons Syntax.tnil Syntax.ttnil))))))))))))) Syntax.tnil) Syntax.ttnil))))
             (List._∷_ (1, Rows'.sslice (Referent.rtF (Referent.fInt Syntax.w8)) ty·13 0) (List._∷_ (2, Rows'.sc-here (Row.sInt Syntax.w64)) (List._∷_ (3, Rows'.sslice (Referent.rtF (Referent.fInt Syntax.w8)) ty·14 1) (List._∷_ (4, Rows'.sslice (Referent.rtF (Referent.fInt Syntax.w16)) ty·15 2) (List._∷_
             (5, Relend.mslice-owed (Referent.rtF (Referent.fInt Syntax.w16)) ty·16 3 23 (Row.lease (κs .1 .1 .1 .0) (qs .1 .1 .1 .0))) (List._∷_ (6, Relend.mslice-owed (Referent.rtF (Referent.fInt Syntax.w32)) ty·17 4 24 (Row.lease (κs .1 .1 .1 .1 .0) (qs .1 .1 .1 .1 .0))) (List._∷_ (7, Rows'.any-gone ty·0) (List._∷_ (8, Rows'.any-gone ty·0) (List._∷_
-            (9, Rows'.any-gone ty·2) (List._∷_ (10, Rows'.any-gone ty·3) (List._∷_ (11, Rows'.any-gone ty·4) (List._∷_ (12, Rows'.any-gone ty·5) (List._∷_ (13, Rows'.any-gone ty·3) (List._∷_ (14, Rows.arrF (Referent.rtF (Referent.fInt Syntax.w8)) 32 0) (List._∷_ (15, Rows.arr-owed Rec.rt 2048 22) List.[])))))))))))))))
+            (9, Rows'.any-gone ty·3) (List._∷_ (10, Rows'.any-gone ty·2) (List._∷_ (11, Rows'.any-gone ty·4) (List._∷_ (12, Rows'.any-gone ty·5) (List._∷_ (13, Rows'.any-gone ty·2) (List._∷_ (14, Rows.arrF (Referent.rtF (Referent.fInt Syntax.w8)) 64 0) (List._∷_ (15, Rows.arr-owed Rec.rt 4096 22) List.[])))))))))))))))
 
         abbrev g139 : List.List Row.Entry
         g139 = List._∷_
             (0, Rows'.any-gone (Syntax.tyEnum (List._∷_ 114 (List._∷_ 101 (List._∷_ 97 (List._∷_ 100 (List._∷_ 105 (List._∷_ 110 (List._∷_ 103 (List._∷_ 58 (List._∷_ 58 (List._∷_ 114 (List._∷_ 101 (List._∷_ 112 (List._∷_ 108 (List._∷_ 105 (List._∷_ 101 (List._∷_ 115 (List._∷_ 58 (List._∷_ 58 (List._∷_ 82 (List._∷_ 101 (List._∷_ 97 (List._∷_ 100 (List._∷_ 105 (List._∷_ 110 (List._∷_ 103 List.[]))))))))))))))))))))))))) (Syntax.ttcons Syntax.tnil (Syntax.ttcons (Syntax.tcons (Syntax.tyEnum (List._∷_ 114 (List._∷_ 101 (List._∷_ 97 (List._∷_ 100 (List._∷_ 105 (List._∷_ 110 (List._∷_ 103 (List._∷_ 58 (List._∷_ 58 (List._∷_ 114 (List._∷_ 101 (List._∷_ 112 (List._∷_ 108 (List._∷_ 105 (List._∷_ 101 (List._∷_ 115 (List._∷_ 58 (List._∷_ 58 (List._∷_ 82 (List._∷_ 101 (List._∷_ 102 (List._∷_ 117 (List._∷_ 115 (List._∷_ 97 (List._∷_ 108 List.[]))))))))))))))))))))))))) (Syntax.ttcons Syntax.tnil (Syntax.ttcons (Syntax.tcons (Syntax.tyInt Syntax.w64) Syntax.tnil) (Syntax.ttcons (Syntax.tcons (Syntax.tyInt Syntax.w64) Syntax.tnil) (Syntax.ttcons (Syntax.tcons (Syntax.tyInt Syntax.w64) Syntax.tnil) (Syntax.ttcons (Syntax.tcons (Syntax.tyInt Syntax.w64) Syntax.tnil) (Syntax.ttcons (Syntax.tcons (Syntax.tyInt Syntax.w64) Syntax.tnil) (Syntax.ttcons (Syntax.tcons (Syntax.tyInt Syntax.w64) Syntax.tnil) (Syntax.ttcons (Syntax.tcons ty·19 Syntax.tnil) (Syntax.ttcons (Syntax.tcons ty·19 Syntax.tnil) (Syntax.ttcons (Syntax.tcons ty·19 Syntax.tnil) (Syntax.ttcons (Syntax.tcons ty·19 (Syntax.tcons ty·19 Syntax.tnil)) (Syntax.ttcons Syntax.tnil Syntax.ttnil))))))))))))) Syntax.tnil) Syntax.ttnil))))
             (List._∷_ (1, Rows'.sslice (Referent.rtF (Referent.fInt Syntax.w8)) ty·13 0) (List._∷_ (2, Rows'.sc-here (Row.sInt Syntax.w64)) (List._∷_ (3, Rows'.sslice (Referent.rtF (Referent.fInt Syntax.w8)) ty·14 1) (List._∷_ (4, Rows'.sslice (Referent.rtF (Referent.fInt Syntax.w16)) ty·15 2) (List._∷_
             (5, Relend.mslice-owed (Referent.rtF (Referent.fInt Syntax.w16)) ty·16 3 23 (Row.lease (κs .1 .1 .1 .0) (qs .1 .1 .1 .0))) (List._∷_ (6, Relend.mslice-owed (Referent.rtF (Referent.fInt Syntax.w32)) ty·17 4 24 (Row.lease (κs .1 .1 .1 .1 .0) (qs .1 .1 .1 .1 .0))) (List._∷_ (7, Rows'.any-gone ty·0) (List._∷_ (8, Rows'.any-gone ty·0) (List._∷_
-            (9, Rows'.any-gone ty·2) (List._∷_ (10, Rows'.any-gone ty·3) (List._∷_ (11, Rows'.any-gone ty·4) (List._∷_ (12, Rows'.any-gone ty·5) (List._∷_ (13, Rows'.any-gone ty·3) (List._∷_ (14, Rows'.any-gone ty·1) (List._∷_ (15, Rows.arr-owed Rec.rt 2048 22) List.[])))))))))))))))
+            (9, Rows'.any-gone ty·3) (List._∷_ (10, Rows'.any-gone ty·2) (List._∷_ (11, Rows'.any-gone ty·4) (List._∷_ (12, Rows'.any-gone ty·5) (List._∷_ (13, Rows'.any-gone ty·2) (List._∷_ (14, Rows'.any-gone ty·1) (List._∷_ (15, Rows.arr-owed Rec.rt 4096 22) List.[])))))))))))))))
 
         abbrev g140 : List.List Row.Entry
         g140 = List._∷_
             (0, Rows'.any-gone (Syntax.tyEnum (List._∷_ 114 (List._∷_ 101 (List._∷_ 97 (List._∷_ 100 (List._∷_ 105 (List._∷_ 110 (List._∷_ 103 (List._∷_ 58 (List._∷_ 58 (List._∷_ 114 (List._∷_ 101 (List._∷_ 112 (List._∷_ 108 (List._∷_ 105 (List._∷_ 101 (List._∷_ 115 (List._∷_ 58 (List._∷_ 58 (List._∷_ 82 (List._∷_ 101 (List._∷_ 97 (List._∷_ 100 (List._∷_ 105 (List._∷_ 110 (List._∷_ 103 List.[]))))))))))))))))))))))))) (Syntax.ttcons Syntax.tnil (Syntax.ttcons (Syntax.tcons (Syntax.tyEnum (List._∷_ 114 (List._∷_ 101 (List._∷_ 97 (List._∷_ 100 (List._∷_ 105 (List._∷_ 110 (List._∷_ 103 (List._∷_ 58 (List._∷_ 58 (List._∷_ 114 (List._∷_ 101 (List._∷_ 112 (List._∷_ 108 (List._∷_ 105 (List._∷_ 101 (List._∷_ 115 (List._∷_ 58 (List._∷_ 58 (List._∷_ 82 (List._∷_ 101 (List._∷_ 102 (List._∷_ 117 (List._∷_ 115 (List._∷_ 97 (List._∷_ 108 List.[]))))))))))))))))))))))))) (Syntax.ttcons Syntax.tnil (Syntax.ttcons (Syntax.tcons (Syntax.tyInt Syntax.w64) Syntax.tnil) (Syntax.ttcons (Syntax.tcons (Syntax.tyInt Syntax.w64) Syntax.tnil) (Syntax.ttcons (Syntax.tcons (Syntax.tyInt Syntax.w64) Syntax.tnil) (Syntax.ttcons (Syntax.tcons (Syntax.tyInt Syntax.w64) Syntax.tnil) (Syntax.ttcons (Syntax.tcons (Syntax.tyInt Syntax.w64) Syntax.tnil) (Syntax.ttcons (Syntax.tcons (Syntax.tyInt Syntax.w64) Syntax.tnil) (Syntax.ttcons (Syntax.tcons ty·19 Syntax.tnil) (Syntax.ttcons (Syntax.tcons ty·19 Syntax.tnil) (Syntax.ttcons (Syntax.tcons ty·19 Syntax.tnil) (Syntax.ttcons (Syntax.tcons ty·19 (Syntax.tcons ty·19 Syntax.tnil)) (Syntax.ttcons Syntax.tnil Syntax.ttnil))))))))))))) Syntax.tnil) Syntax.ttnil))))
             (List._∷_ (1, Rows'.sslice (Referent.rtF (Referent.fInt Syntax.w8)) ty·13 0) (List._∷_ (2, Rows'.sc-here (Row.sInt Syntax.w64)) (List._∷_ (3, Rows'.sslice (Referent.rtF (Referent.fInt Syntax.w8)) ty·14 1) (List._∷_ (4, Rows'.sslice (Referent.rtF (Referent.fInt Syntax.w16)) ty·15 2) (List._∷_
             (5, Relend.mslice-owed (Referent.rtF (Referent.fInt Syntax.w16)) ty·16 3 23 (Row.lease (κs .1 .1 .1 .0) (qs .1 .1 .1 .0))) (List._∷_ (6, Relend.mslice-owed (Referent.rtF (Referent.fInt Syntax.w32)) ty·17 4 24 (Row.lease (κs .1 .1 .1 .1 .0) (qs .1 .1 .1 .1 .0))) (List._∷_ (7, Rows'.any-gone ty·0) (List._∷_ (8, Rows'.any-gone ty·0) (List._∷_
-            (9, Rows'.any-gone ty·2) (List._∷_ (10, Rows'.any-gone ty·3) (List._∷_ (11, Rows'.any-gone ty·4) (List._∷_ (12, Rows'.any-gone ty·5) (List._∷_ (13, Rows'.any-gone ty·3) (List._∷_ (14, Rows'.any-gone ty·1) (List._∷_ (15, Rows.arrF Rec.rt 2048 0) List.[])))))))))))))))
+            (9, Rows'.any-gone ty·3) (List._∷_ (10, Rows'.any-gone ty·2) (List._∷_ (11, Rows'.any-gone ty·4) (List._∷_ (12, Rows'.any-gone ty·5) (List._∷_ (13, Rows'.any-gone ty·2) (List._∷_ (14, Rows'.any-gone ty·1) (List._∷_ (15, Rows.arrF Rec.rt 4096 0) List.[])))))))))))))))
 
         abbrev g142 : List.List Row.Entry
         g142 = List._∷_
             (0, Rows'.any-gone (Syntax.tyEnum (List._∷_ 114 (List._∷_ 101 (List._∷_ 97 (List._∷_ 100 (List._∷_ 105 (List._∷_ 110 (List._∷_ 103 (List._∷_ 58 (List._∷_ 58 (List._∷_ 114 (List._∷_ 101 (List._∷_ 112 (List._∷_ 108 (List._∷_ 105 (List._∷_ 101 (List._∷_ 115 (List._∷_ 58 (List._∷_ 58 (List._∷_ 82 (List._∷_ 101 (List._∷_ 97 (List._∷_ 100 (List._∷_ 105 (List._∷_ 110 (List._∷_ 103 List.[]))))))))))))))))))))))))) (Syntax.ttcons Syntax.tnil (Syntax.ttcons (Syntax.tcons (Syntax.tyEnum (List._∷_ 114 (List._∷_ 101 (List._∷_ 97 (List._∷_ 100 (List._∷_ 105 (List._∷_ 110 (List._∷_ 103 (List._∷_ 58 (List._∷_ 58 (List._∷_ 114 (List._∷_ 101 (List._∷_ 112 (List._∷_ 108 (List._∷_ 105 (List._∷_ 101 (List._∷_ 115 (List._∷_ 58 (List._∷_ 58 (List._∷_ 82 (List._∷_ 101 (List._∷_ 102 (List._∷_ 117 (List._∷_ 115 (List._∷_ 97 (List._∷_ 108 List.[]))))))))))))))))))))))))) (Syntax.ttcons Syntax.tnil (Syntax.ttcons (Syntax.tcons (Syntax.tyInt Syntax.w64) Syntax.tnil) (Syntax.ttcons (Syntax.tcons (Syntax.tyInt Syntax.w64) Syntax.tnil) (Syntax.ttcons (Syntax.tcons (Syntax.tyInt Syntax.w64) Syntax.tnil) (Syntax.ttcons (Syntax.tcons (Syntax.tyInt Syntax.w64) Syntax.tnil) (Syntax.ttcons (Syntax.tcons (Syntax.tyInt Syntax.w64) Syntax.tnil) (Syntax.ttcons (Syntax.tcons (Syntax.tyInt Syntax.w64) Syntax.tnil) (Syntax.ttcons (Syntax.tcons ty·19 Syntax.tnil) (Syntax.ttcons (Syntax.tcons ty·19 Syntax.tnil) (Syntax.ttcons (Syntax.tcons ty·19 Syntax.tnil) (Syntax.ttcons (Syntax.tcons ty·19 (Syntax.tcons ty·19 Syntax.tnil)) (Syntax.ttcons Syntax.tnil Syntax.ttnil))))))))))))) Syntax.tnil) Syntax.ttnil))))
             (List._∷_ (1, Rows'.sslice (Referent.rtF (Referent.fInt Syntax.w8)) ty·13 0) (List._∷_ (2, Rows'.sc-here (Row.sInt Syntax.w64)) (List._∷_ (3, Rows'.sslice (Referent.rtF (Referent.fInt Syntax.w8)) ty·14 1) (List._∷_ (4, Rows'.sslice (Referent.rtF (Referent.fInt Syntax.w16)) ty·15 2) (List._∷_
             (5, Relend.mslice-owed (Referent.rtF (Referent.fInt Syntax.w16)) ty·16 3 23 (Row.lease (κs .1 .1 .1 .0) (qs .1 .1 .1 .0))) (List._∷_ (6, Relend.mslice-owed (Referent.rtF (Referent.fInt Syntax.w32)) ty·17 4 24 (Row.lease (κs .1 .1 .1 .1 .0) (qs .1 .1 .1 .1 .0))) (List._∷_ (7, Rows'.any-gone ty·0) (List._∷_ (8, Rows'.any-gone ty·0) (List._∷_
-            (9, Rows'.any-gone ty·2) (List._∷_ (10, Rows'.any-gone ty·3) (List._∷_ (11, Rows'.any-gone ty·4) (List._∷_ (12, Rows'.any-gone ty·5) (List._∷_ (13, Rows'.any-gone ty·3) (List._∷_ (14, Rows'.any-gone ty·1) (List._∷_ (15, Rows'.any-gone (Syntax.tyArray Rec.mir 2048)) List.[])))))))))))))))
+            (9, Rows'.any-gone ty·3) (List._∷_ (10, Rows'.any-gone ty·2) (List._∷_ (11, Rows'.any-gone ty·4) (List._∷_ (12, Rows'.any-gone ty·5) (List._∷_ (13, Rows'.any-gone ty·2) (List._∷_ (14, Rows'.any-gone ty·1) (List._∷_ (15, Rows'.any-gone (Syntax.tyArray Rec.mir 4096)) List.[])))))))))))))))
 
         abbrev g143 : List.List Row.Entry
         g143 = List._∷_
             (0, Rows'.any-gone (Syntax.tyEnum (List._∷_ 114 (List._∷_ 101 (List._∷_ 97 (List._∷_ 100 (List._∷_ 105 (List._∷_ 110 (List._∷_ 103 (List._∷_ 58 (List._∷_ 58 (List._∷_ 114 (List._∷_ 101 (List._∷_ 112 (List._∷_ 108 (List._∷_ 105 (List._∷_ 101 (List._∷_ 115 (List._∷_ 58 (List._∷_ 58 (List._∷_ 82 (List._∷_ 101 (List._∷_ 97 (List._∷_ 100 (List._∷_ 105 (List._∷_ 110 (List._∷_ 103 List.[]))))))))))))))))))))))))) (Syntax.ttcons Syntax.tnil (Syntax.ttcons (Syntax.tcons (Syntax.tyEnum (List._∷_ 114 (List._∷_ 101 (List._∷_ 97 (List._∷_ 100 (List._∷_ 105 (List._∷_ 110 (List._∷_ 103 (List._∷_ 58 (List._∷_ 58 (List._∷_ 114 (List._∷_ 101 (List._∷_ 112 (List._∷_ 108 (List._∷_ 105 (List._∷_ 101 (List._∷_ 115 (List._∷_ 58 (List._∷_ 58 (List._∷_ 82 (List._∷_ 101 (List._∷_ 102 (List._∷_ 117 (List._∷_ 115 (List._∷_ 97 (List._∷_ 108 List.[]))))))))))))))))))))))))) (Syntax.ttcons Syntax.tnil (Syntax.ttcons (Syntax.tcons (Syntax.tyInt Syntax.w64) Syntax.tnil) (Syntax.ttcons (Syntax.tcons (Syntax.tyInt Syntax.w64) Syntax.tnil) (Syntax.ttcons (Syntax.tcons (Syntax.tyInt Syntax.w64) Syntax.tnil) (Syntax.ttcons (Syntax.tcons (Syntax.tyInt Syntax.w64) Syntax.tnil) (Syntax.ttcons (Syntax.tcons (Syntax.tyInt Syntax.w64) Syntax.tnil) (Syntax.ttcons (Syntax.tcons (Syntax.tyInt Syntax.w64) Syntax.tnil) (Syntax.ttcons (Syntax.tcons ty·19 Syntax.tnil) (Syntax.ttcons (Syntax.tcons ty·19 Syntax.tnil) (Syntax.ttcons (Syntax.tcons ty·19 Syntax.tnil) (Syntax.ttcons (Syntax.tcons ty·19 (Syntax.tcons ty·19 Syntax.tnil)) (Syntax.ttcons Syntax.tnil Syntax.ttnil))))))))))))) Syntax.tnil) Syntax.ttnil))))
             (List._∷_ (1, Rows'.sslice (Referent.rtF (Referent.fInt Syntax.w8)) ty·13 0) (List._∷_ (2, Rows'.sc-here (Row.sInt Syntax.w64)) (List._∷_ (3, Rows'.sslice (Referent.rtF (Referent.fInt Syntax.w8)) ty·14 1) (List._∷_ (4, Rows'.sslice (Referent.rtF (Referent.fInt Syntax.w16)) ty·15 2) (List._∷_
-            (5, Mut.mslice (Referent.rtF (Referent.fInt Syntax.w16)) ty·16 3) (List._∷_ (6, Relend.mslice-owed (Referent.rtF (Referent.fInt Syntax.w32)) ty·17 4 24 (Row.lease (κs .1 .1 .1 .1 .0) (qs .1 .1 .1 .1 .0))) (List._∷_ (7, Rows'.any-gone ty·0) (List._∷_ (8, Rows'.any-gone ty·0) (List._∷_ (9, Rows'.any-gone ty·2) (List._∷_ (10, Rows'.any-gone ty·3)
-            (List._∷_ (11, Rows'.any-gone ty·4) (List._∷_ (12, Rows'.any-gone ty·5) (List._∷_ (13, Rows'.any-gone ty·3) (List._∷_ (14, Rows'.any-gone ty·1) (List._∷_ (15, Rows'.any-gone (Syntax.tyArray Rec.mir 2048)) List.[])))))))))))))))
+            (5, Mut.mslice (Referent.rtF (Referent.fInt Syntax.w16)) ty·16 3) (List._∷_ (6, Relend.mslice-owed (Referent.rtF (Referent.fInt Syntax.w32)) ty·17 4 24 (Row.lease (κs .1 .1 .1 .1 .0) (qs .1 .1 .1 .1 .0))) (List._∷_ (7, Rows'.any-gone ty·0) (List._∷_ (8, Rows'.any-gone ty·0) (List._∷_ (9, Rows'.any-gone ty·3) (List._∷_ (10, Rows'.any-gone ty·2)
+            (List._∷_ (11, Rows'.any-gone ty·4) (List._∷_ (12, Rows'.any-gone ty·5) (List._∷_ (13, Rows'.any-gone ty·2) (List._∷_ (14, Rows'.any-gone ty·1) (List._∷_ (15, Rows'.any-gone (Syntax.tyArray Rec.mir 4096)) List.[])))))))))))))))
 
         abbrev slots·0 : List.List Row.Life
         slots·0 = List._∷_ (Row.lease (κs .0) (qs .0)) (List._∷_ (Row.lease (κs .1 .0) (qs .1 .0)) (List._∷_ (Row.lease (κs .1 .1 .0) (qs .1 .1 .0)) (List._∷_ (Row.lease (κs .1 .1 .1 .0) (qs .1 .1 .1 .0)) (List._∷_ (Row.lease (κs .1 .1 .1 .1 .0) (qs .1 .1 .1 .1 .0)) (List._∷_ Row.off (List._∷_ Row.off (List._∷_ Row.off (List._∷_ Row.off (List._∷_ Row.off
@@ -3461,14 +3461,14 @@ module _ (claims· : Claims) where
               Reading.the-type)) (λ x. x) λ ρ told. Local.whole-mem 𝓤 H A W (Declared.row Reading.the-type) ρ) Path'.refl Path'.refl) d2
 
           d8 : Typed.Typed 𝓤 H A 𝓣 E G90 b33 Δ1 (at8 bs)
-          d8 = Typed.g-pre 𝓤 H A W 𝓣 E G90 G91 b33 Δ1 (Typed.pass T90 T91 (s88 bs)) (at7 bs) (Scalar.g-room 𝓤 H A W E G90 12 ty·5 (Init.room-arr 𝓤 H A W (Referent.rtF (Referent.fInt Syntax.w32)) 1024 0 1024 Path'.refl)) (Typed.g-pre 𝓤 H A W 𝓣 E G91 G92 b33 Δ1 (Typed.pass T91 T92 (s89 bs)) (at6 bs) (Scalar.g-room 𝓤 H A W E G91 13 ty·3 (Init.room-arr 𝓤 H A W
-              (Referent.rtF (Referent.fInt Syntax.w16)) 32 0 32 Path'.refl)) (Typed.g-pre 𝓤 H A W 𝓣 E G92 G93 b33 Δ1 (Typed.pass T92 T93 (s90 bs)) (at5 bs) (Scalar.g-room 𝓤 H A W E G92 14 ty·1 (Init.room-arr 𝓤 H A W (Referent.rtF (Referent.fInt Syntax.w8)) 32 0 32 Path'.refl)) (Typed.g-pre 𝓤 H A W 𝓣 E G93 G94 b33 Δ1 (Typed.pass T93 T94 (s91 bs)) (at4 bs)
-              (Scalar.g-room 𝓤 H A W E G93 15 (Syntax.tyArray Rec.mir 2048) (Init.room-arr 𝓤 H A W Rec.rt 2048 0 2048 Path'.refl)) (Typed.g-pre 𝓤 H A W 𝓣 E G94 G95 b33 Δ1 (Typed.pass T94 T95 (s92 bs)) (at3 bs) (Scalar.g-room 𝓤 H A W E G94 37 Syntax.tyBool (Scalar.room-sc 𝓤 H A W Row.sBool)) d3))))
+          d8 = Typed.g-pre 𝓤 H A W 𝓣 E G90 G91 b33 Δ1 (Typed.pass T90 T91 (s88 bs)) (at7 bs) (Scalar.g-room 𝓤 H A W E G90 12 ty·5 (Init.room-arr 𝓤 H A W (Referent.rtF (Referent.fInt Syntax.w32)) 2048 0 2048 Path'.refl)) (Typed.g-pre 𝓤 H A W 𝓣 E G91 G92 b33 Δ1 (Typed.pass T91 T92 (s89 bs)) (at6 bs) (Scalar.g-room 𝓤 H A W E G91 13 ty·2 (Init.room-arr 𝓤 H A W
+              (Referent.rtF (Referent.fInt Syntax.w16)) 64 0 64 Path'.refl)) (Typed.g-pre 𝓤 H A W 𝓣 E G92 G93 b33 Δ1 (Typed.pass T92 T93 (s90 bs)) (at5 bs) (Scalar.g-room 𝓤 H A W E G92 14 ty·1 (Init.room-arr 𝓤 H A W (Referent.rtF (Referent.fInt Syntax.w8)) 64 0 64 Path'.refl)) (Typed.g-pre 𝓤 H A W 𝓣 E G93 G94 b33 Δ1 (Typed.pass T93 T94 (s91 bs)) (at4 bs)
+              (Scalar.g-room 𝓤 H A W E G93 15 (Syntax.tyArray Rec.mir 4096) (Init.room-arr 𝓤 H A W Rec.rt 4096 0 4096 Path'.refl)) (Typed.g-pre 𝓤 H A W 𝓣 E G94 G95 b33 Δ1 (Typed.pass T94 T95 (s92 bs)) (at3 bs) (Scalar.g-room 𝓤 H A W E G94 37 Syntax.tyBool (Scalar.room-sc 𝓤 H A W Row.sBool)) d3))))
 
           d13 : Typed.Typed 𝓤 H A 𝓣 E G85 b33 Δ1 (at13 bs)
           d13 = Typed.g-pre 𝓤 H A W 𝓣 E G85 G86 b33 Δ1 (Typed.pass T85 T86 (s83 bs)) (at12 bs) (Scalar.g-room 𝓤 H A W E G85 7 ty·0 (Init.room-arr 𝓤 H A W (Referent.rtF (Referent.fInt Syntax.w16)) 1 0 1 Path'.refl)) (Typed.g-pre 𝓤 H A W 𝓣 E G86 G87 b33 Δ1 (Typed.pass T86 T87 (s84 bs)) (at11 bs) (Scalar.g-room 𝓤 H A W E G86 8 ty·0 (Init.room-arr 𝓤 H A W
-              (Referent.rtF (Referent.fInt Syntax.w16)) 1 0 1 Path'.refl)) (Typed.g-pre 𝓤 H A W 𝓣 E G87 G88 b33 Δ1 (Typed.pass T87 T88 (s85 bs)) (at10 bs) (Scalar.g-room 𝓤 H A W E G87 9 ty·2 (Init.room-arr 𝓤 H A W (Referent.rtF (Referent.fInt Syntax.w8)) 768 0 768 Path'.refl)) (Typed.g-pre 𝓤 H A W 𝓣 E G88 G89 b33 Δ1 (Typed.pass T88 T89 (s86 bs)) (at9 bs)
-              (Scalar.g-room 𝓤 H A W E G88 10 ty·3 (Init.room-arr 𝓤 H A W (Referent.rtF (Referent.fInt Syntax.w16)) 32 0 32 Path'.refl)) (Typed.g-pre 𝓤 H A W 𝓣 E G89 G90 b33 Δ1 (Typed.pass T89 T90 (s87 bs)) (at8 bs) (Scalar.g-room 𝓤 H A W E G89 11 ty·4 (Init.room-arr 𝓤 H A W (Referent.rtF (Referent.fInt Syntax.w16)) 1024 0 1024 Path'.refl)) d8))))
+              (Referent.rtF (Referent.fInt Syntax.w16)) 1 0 1 Path'.refl)) (Typed.g-pre 𝓤 H A W 𝓣 E G87 G88 b33 Δ1 (Typed.pass T87 T88 (s85 bs)) (at10 bs) (Scalar.g-room 𝓤 H A W E G87 9 ty·3 (Init.room-arr 𝓤 H A W (Referent.rtF (Referent.fInt Syntax.w8)) 1536 0 1536 Path'.refl)) (Typed.g-pre 𝓤 H A W 𝓣 E G88 G89 b33 Δ1 (Typed.pass T88 T89 (s86 bs)) (at9 bs)
+              (Scalar.g-room 𝓤 H A W E G88 10 ty·2 (Init.room-arr 𝓤 H A W (Referent.rtF (Referent.fInt Syntax.w16)) 64 0 64 Path'.refl)) (Typed.g-pre 𝓤 H A W 𝓣 E G89 G90 b33 Δ1 (Typed.pass T89 T90 (s87 bs)) (at8 bs) (Scalar.g-room 𝓤 H A W E G89 11 ty·4 (Init.room-arr 𝓤 H A W (Referent.rtF (Referent.fInt Syntax.w16)) 2048 0 2048 Path'.refl)) d8))))
 
           d14 : Typed.Typed 𝓤 H A 𝓣 E G81 b34 Δ1 (at14 bs)
           d14 = Typed.t-skip 𝓤 H A W 𝓣 E Δ1 tt
@@ -3523,30 +3523,30 @@ module _ (claims· : Claims) where
               Path'.refl) d24)))
 
           d34 : Typed.Typed 𝓤 H A 𝓣 E G171 b61 Δ0 (at34 bs)
-          d34 = Typed.g-pre 𝓤 H A W 𝓣 E G171 G172 b61 Δ0 (Typed.pass T170 T172 (s169 bs)) (at33 bs) (Scalar.g-room 𝓤 H A W E G171 14 ty·1 (Init.room-arr 𝓤 H A W (Referent.rtF (Referent.fInt Syntax.w8)) 32 0 32 Path'.refl)) (Typed.g-pre 𝓤 H A W 𝓣 E G172 G173 b61 Δ0 (λ Ψ. Ψ) (at32 bs) (Lifetime.g-end 𝓤 H A W E G172 22 Path'.refl) (Typed.g-pre 𝓤 H A W 𝓣 E G173
-              G174 b61 Δ0 (Typed.both (s171 bs)) (at31 bs) (Borrow.g-back-arr 𝓤 H A W E Rec.rt G173 56 15 22 2048 ty·6 (λ x. x) (λ x. x) (Reads.as-is 𝓤 H A (Mut.msleft Rec.rt ty·6)) (Reads.as-is 𝓤 H A (Rows.arr-owed Rec.rt 2048 22)) Path'.refl) (Typed.g-pre 𝓤 H A W 𝓣 E G174 G175 b61 Δ0 (λ Ψ. Ψ) (at30 bs) (Lifetime.g-forget 𝓤 H A W E G174 22 Row.dead Path'.refl)
-              (Typed.g-pre 𝓤 H A W 𝓣 E G175 G176 b61 Δ0 (Typed.pass T174 T176 (s173 bs)) (at29 bs) (Scalar.g-room 𝓤 H A W E G175 15 (Syntax.tyArray Rec.mir 2048) (Init.room-arr 𝓤 H A W Rec.rt 2048 0 2048 Path'.refl)) (Typed.g-pre 𝓤 H A W 𝓣 E G176 G177 b61 Δ0 (λ Ψ. Ψ) (at28 bs) (Lifetime.g-end 𝓤 H A W E G176 23 Path'.refl) d28)))))
+          d34 = Typed.g-pre 𝓤 H A W 𝓣 E G171 G172 b61 Δ0 (Typed.pass T170 T172 (s169 bs)) (at33 bs) (Scalar.g-room 𝓤 H A W E G171 14 ty·1 (Init.room-arr 𝓤 H A W (Referent.rtF (Referent.fInt Syntax.w8)) 64 0 64 Path'.refl)) (Typed.g-pre 𝓤 H A W 𝓣 E G172 G173 b61 Δ0 (λ Ψ. Ψ) (at32 bs) (Lifetime.g-end 𝓤 H A W E G172 22 Path'.refl) (Typed.g-pre 𝓤 H A W 𝓣 E G173
+              G174 b61 Δ0 (Typed.both (s171 bs)) (at31 bs) (Borrow.g-back-arr 𝓤 H A W E Rec.rt G173 56 15 22 4096 ty·6 (λ x. x) (λ x. x) (Reads.as-is 𝓤 H A (Mut.msleft Rec.rt ty·6)) (Reads.as-is 𝓤 H A (Rows.arr-owed Rec.rt 4096 22)) Path'.refl) (Typed.g-pre 𝓤 H A W 𝓣 E G174 G175 b61 Δ0 (λ Ψ. Ψ) (at30 bs) (Lifetime.g-forget 𝓤 H A W E G174 22 Row.dead Path'.refl)
+              (Typed.g-pre 𝓤 H A W 𝓣 E G175 G176 b61 Δ0 (Typed.pass T174 T176 (s173 bs)) (at29 bs) (Scalar.g-room 𝓤 H A W E G175 15 (Syntax.tyArray Rec.mir 4096) (Init.room-arr 𝓤 H A W Rec.rt 4096 0 4096 Path'.refl)) (Typed.g-pre 𝓤 H A W 𝓣 E G176 G177 b61 Δ0 (λ Ψ. Ψ) (at28 bs) (Lifetime.g-end 𝓤 H A W E G176 23 Path'.refl) d28)))))
 
           d39 : Typed.Typed 𝓤 H A 𝓣 E G166 b61 Δ0 (at39 bs)
-          d39 = Typed.g-pre 𝓤 H A W 𝓣 E G166 G167 b61 Δ0 (λ Ψ. Ψ) (at38 bs) (Lifetime.g-forget 𝓤 H A W E G166 20 Row.dead Path'.refl) (Typed.g-pre 𝓤 H A W 𝓣 E G167 G168 b61 Δ0 (Typed.pass T166 T168 (s165 bs)) (at37 bs) (Scalar.g-room 𝓤 H A W E G167 13 ty·3 (Init.room-arr 𝓤 H A W (Referent.rtF (Referent.fInt Syntax.w16)) 32 0 32 Path'.refl)) (Typed.g-pre 𝓤 H
-              A W 𝓣 E G168 G169 b61 Δ0 (λ Ψ. Ψ) (at36 bs) (Lifetime.g-end 𝓤 H A W E G168 21 Path'.refl) (Typed.g-pre 𝓤 H A W 𝓣 E G169 G170 b61 Δ0 (Typed.both (s167 bs)) (at35 bs) (Borrow.g-back-arr 𝓤 H A W E (Referent.rtF (Referent.fInt Syntax.w8)) G169 54 14 21 32 ty·7 (λ x. x) (λ x. x) (Reads.as-is 𝓤 H A (Mut.msleft (Referent.rtF (Referent.fInt Syntax.w8))
-              ty·7)) (Reads.as-is 𝓤 H A (Rows.arr-owed (Referent.rtF (Referent.fInt Syntax.w8)) 32 21)) Path'.refl) (Typed.g-pre 𝓤 H A W 𝓣 E G170 G171 b61 Δ0 (λ Ψ. Ψ) (at34 bs) (Lifetime.g-forget 𝓤 H A W E G170 21 Row.dead Path'.refl) d34))))
+          d39 = Typed.g-pre 𝓤 H A W 𝓣 E G166 G167 b61 Δ0 (λ Ψ. Ψ) (at38 bs) (Lifetime.g-forget 𝓤 H A W E G166 20 Row.dead Path'.refl) (Typed.g-pre 𝓤 H A W 𝓣 E G167 G168 b61 Δ0 (Typed.pass T166 T168 (s165 bs)) (at37 bs) (Scalar.g-room 𝓤 H A W E G167 13 ty·2 (Init.room-arr 𝓤 H A W (Referent.rtF (Referent.fInt Syntax.w16)) 64 0 64 Path'.refl)) (Typed.g-pre 𝓤 H
+              A W 𝓣 E G168 G169 b61 Δ0 (λ Ψ. Ψ) (at36 bs) (Lifetime.g-end 𝓤 H A W E G168 21 Path'.refl) (Typed.g-pre 𝓤 H A W 𝓣 E G169 G170 b61 Δ0 (Typed.both (s167 bs)) (at35 bs) (Borrow.g-back-arr 𝓤 H A W E (Referent.rtF (Referent.fInt Syntax.w8)) G169 54 14 21 64 ty·7 (λ x. x) (λ x. x) (Reads.as-is 𝓤 H A (Mut.msleft (Referent.rtF (Referent.fInt Syntax.w8))
+              ty·7)) (Reads.as-is 𝓤 H A (Rows.arr-owed (Referent.rtF (Referent.fInt Syntax.w8)) 64 21)) Path'.refl) (Typed.g-pre 𝓤 H A W 𝓣 E G170 G171 b61 Δ0 (λ Ψ. Ψ) (at34 bs) (Lifetime.g-forget 𝓤 H A W E G170 21 Row.dead Path'.refl) d34))))
 
           d44 : Typed.Typed 𝓤 H A 𝓣 E G161 b61 Δ0 (at44 bs)
-          d44 = Typed.g-pre 𝓤 H A W 𝓣 E G161 G162 b61 Δ0 (Typed.pass T160 T162 (s159 bs)) (at43 bs) (Share.g-back-arr-shr 𝓤 H A W E (Referent.rtF (Referent.fInt Syntax.w32)) G161 12 1024 19 (λ x. x) (Reads.as-is 𝓤 H A (Rows.arr-shr (Referent.rtF (Referent.fInt Syntax.w32)) 1024 19)) Path'.refl) (Typed.g-pre 𝓤 H A W 𝓣 E G162 G163 b61 Δ0 (λ Ψ. Ψ) (at42 bs)
-              (Lifetime.g-forget 𝓤 H A W E G162 19 Row.dead Path'.refl) (Typed.g-pre 𝓤 H A W 𝓣 E G163 G164 b61 Δ0 (Typed.pass T162 T164 (s161 bs)) (at41 bs) (Scalar.g-room 𝓤 H A W E G163 12 ty·5 (Init.room-arr 𝓤 H A W (Referent.rtF (Referent.fInt Syntax.w32)) 1024 0 1024 Path'.refl)) (Typed.g-pre 𝓤 H A W 𝓣 E G164 G165 b61 Δ0 (λ Ψ. Ψ) (at40 bs) (Lifetime.g-end 𝓤
-              H A W E G164 20 Path'.refl) (Typed.g-pre 𝓤 H A W 𝓣 E G165 G166 b61 Δ0 (Typed.both (s163 bs)) (at39 bs) (Borrow.g-back-arr 𝓤 H A W E (Referent.rtF (Referent.fInt Syntax.w16)) G165 52 13 20 32 ty·9 (λ x. x) (λ x. x) (Reads.as-is 𝓤 H A (Mut.msleft (Referent.rtF (Referent.fInt Syntax.w16)) ty·9)) (Reads.as-is 𝓤 H A (Rows.arr-owed (Referent.rtF
-              (Referent.fInt Syntax.w16)) 32 20)) Path'.refl) d39))))
+          d44 = Typed.g-pre 𝓤 H A W 𝓣 E G161 G162 b61 Δ0 (Typed.pass T160 T162 (s159 bs)) (at43 bs) (Share.g-back-arr-shr 𝓤 H A W E (Referent.rtF (Referent.fInt Syntax.w32)) G161 12 2048 19 (λ x. x) (Reads.as-is 𝓤 H A (Rows.arr-shr (Referent.rtF (Referent.fInt Syntax.w32)) 2048 19)) Path'.refl) (Typed.g-pre 𝓤 H A W 𝓣 E G162 G163 b61 Δ0 (λ Ψ. Ψ) (at42 bs)
+              (Lifetime.g-forget 𝓤 H A W E G162 19 Row.dead Path'.refl) (Typed.g-pre 𝓤 H A W 𝓣 E G163 G164 b61 Δ0 (Typed.pass T162 T164 (s161 bs)) (at41 bs) (Scalar.g-room 𝓤 H A W E G163 12 ty·5 (Init.room-arr 𝓤 H A W (Referent.rtF (Referent.fInt Syntax.w32)) 2048 0 2048 Path'.refl)) (Typed.g-pre 𝓤 H A W 𝓣 E G164 G165 b61 Δ0 (λ Ψ. Ψ) (at40 bs) (Lifetime.g-end 𝓤
+              H A W E G164 20 Path'.refl) (Typed.g-pre 𝓤 H A W 𝓣 E G165 G166 b61 Δ0 (Typed.both (s163 bs)) (at39 bs) (Borrow.g-back-arr 𝓤 H A W E (Referent.rtF (Referent.fInt Syntax.w16)) G165 52 13 20 64 ty·9 (λ x. x) (λ x. x) (Reads.as-is 𝓤 H A (Mut.msleft (Referent.rtF (Referent.fInt Syntax.w16)) ty·9)) (Reads.as-is 𝓤 H A (Rows.arr-owed (Referent.rtF
+              (Referent.fInt Syntax.w16)) 64 20)) Path'.refl) d39))))
 
           d50 : Typed.Typed 𝓤 H A 𝓣 E G155 b61 Δ0 (at50 bs)
-          d50 = Typed.g-pre 𝓤 H A W 𝓣 E G155 G156 b61 Δ0 (Typed.pass T154 T156 (s153 bs)) (at49 bs) (Scalar.g-room 𝓤 H A W E G155 10 ty·3 (Init.room-arr 𝓤 H A W (Referent.rtF (Referent.fInt Syntax.w16)) 32 0 32 Path'.refl)) (Typed.g-pre 𝓤 H A W 𝓣 E G156 G157 b61 Δ0 (λ Ψ. Ψ) (at48 bs) (Lifetime.g-end 𝓤 H A W E G156 18 Path'.refl) (Typed.g-pre 𝓤 H A W 𝓣 E G157
-              G158 b61 Δ0 (Typed.pass T156 T158 (s155 bs)) (at47 bs) (Share.g-back-arr-shr 𝓤 H A W E (Referent.rtF (Referent.fInt Syntax.w16)) G157 11 1024 18 (λ x. x) (Reads.as-is 𝓤 H A (Rows.arr-shr (Referent.rtF (Referent.fInt Syntax.w16)) 1024 18)) Path'.refl) (Typed.g-pre 𝓤 H A W 𝓣 E G158 G159 b61 Δ0 (λ Ψ. Ψ) (at46 bs) (Lifetime.g-forget 𝓤 H A W E G158 18
-              Row.dead Path'.refl) (Typed.g-pre 𝓤 H A W 𝓣 E G159 G160 b61 Δ0 (Typed.pass T158 T160 (s157 bs)) (at45 bs) (Scalar.g-room 𝓤 H A W E G159 11 ty·4 (Init.room-arr 𝓤 H A W (Referent.rtF (Referent.fInt Syntax.w16)) 1024 0 1024 Path'.refl)) (Typed.g-pre 𝓤 H A W 𝓣 E G160 G161 b61 Δ0 (λ Ψ. Ψ) (at44 bs) (Lifetime.g-end 𝓤 H A W E G160 19 Path'.refl) d44)))))
+          d50 = Typed.g-pre 𝓤 H A W 𝓣 E G155 G156 b61 Δ0 (Typed.pass T154 T156 (s153 bs)) (at49 bs) (Scalar.g-room 𝓤 H A W E G155 10 ty·2 (Init.room-arr 𝓤 H A W (Referent.rtF (Referent.fInt Syntax.w16)) 64 0 64 Path'.refl)) (Typed.g-pre 𝓤 H A W 𝓣 E G156 G157 b61 Δ0 (λ Ψ. Ψ) (at48 bs) (Lifetime.g-end 𝓤 H A W E G156 18 Path'.refl) (Typed.g-pre 𝓤 H A W 𝓣 E G157
+              G158 b61 Δ0 (Typed.pass T156 T158 (s155 bs)) (at47 bs) (Share.g-back-arr-shr 𝓤 H A W E (Referent.rtF (Referent.fInt Syntax.w16)) G157 11 2048 18 (λ x. x) (Reads.as-is 𝓤 H A (Rows.arr-shr (Referent.rtF (Referent.fInt Syntax.w16)) 2048 18)) Path'.refl) (Typed.g-pre 𝓤 H A W 𝓣 E G158 G159 b61 Δ0 (λ Ψ. Ψ) (at46 bs) (Lifetime.g-forget 𝓤 H A W E G158 18
+              Row.dead Path'.refl) (Typed.g-pre 𝓤 H A W 𝓣 E G159 G160 b61 Δ0 (Typed.pass T158 T160 (s157 bs)) (at45 bs) (Scalar.g-room 𝓤 H A W E G159 11 ty·4 (Init.room-arr 𝓤 H A W (Referent.rtF (Referent.fInt Syntax.w16)) 2048 0 2048 Path'.refl)) (Typed.g-pre 𝓤 H A W 𝓣 E G160 G161 b61 Δ0 (λ Ψ. Ψ) (at44 bs) (Lifetime.g-end 𝓤 H A W E G160 19 Path'.refl) d44)))))
 
           d56 : Typed.Typed 𝓤 H A 𝓣 E G149 b61 Δ0 (at56 bs)
-          d56 = Typed.g-pre 𝓤 H A W 𝓣 E G149 G150 b61 Δ0 (Typed.pass T148 T150 (s147 bs)) (at55 bs) (Share.g-back-arr-shr 𝓤 H A W E (Referent.rtF (Referent.fInt Syntax.w8)) G149 9 768 16 (λ x. x) (Reads.as-is 𝓤 H A (Rows.arr-shr (Referent.rtF (Referent.fInt Syntax.w8)) 768 16)) Path'.refl) (Typed.g-pre 𝓤 H A W 𝓣 E G150 G151 b61 Δ0 (λ Ψ. Ψ) (at54 bs)
-              (Lifetime.g-forget 𝓤 H A W E G150 16 Row.dead Path'.refl) (Typed.g-pre 𝓤 H A W 𝓣 E G151 G152 b61 Δ0 (Typed.pass T150 T152 (s149 bs)) (at53 bs) (Scalar.g-room 𝓤 H A W E G151 9 ty·2 (Init.room-arr 𝓤 H A W (Referent.rtF (Referent.fInt Syntax.w8)) 768 0 768 Path'.refl)) (Typed.g-pre 𝓤 H A W 𝓣 E G152 G153 b61 Δ0 (λ Ψ. Ψ) (at52 bs) (Lifetime.g-end 𝓤 H A
-              W E G152 17 Path'.refl) (Typed.g-pre 𝓤 H A W 𝓣 E G153 G154 b61 Δ0 (Typed.pass T152 T154 (s151 bs)) (at51 bs) (Share.g-back-arr-shr 𝓤 H A W E (Referent.rtF (Referent.fInt Syntax.w16)) G153 10 32 17 (λ x. x) (Reads.as-is 𝓤 H A (Rows.arr-shr (Referent.rtF (Referent.fInt Syntax.w16)) 32 17)) Path'.refl) (Typed.g-pre 𝓤 H A W 𝓣 E G154 G155 b61 Δ0 (λ Ψ.
+          d56 = Typed.g-pre 𝓤 H A W 𝓣 E G149 G150 b61 Δ0 (Typed.pass T148 T150 (s147 bs)) (at55 bs) (Share.g-back-arr-shr 𝓤 H A W E (Referent.rtF (Referent.fInt Syntax.w8)) G149 9 1536 16 (λ x. x) (Reads.as-is 𝓤 H A (Rows.arr-shr (Referent.rtF (Referent.fInt Syntax.w8)) 1536 16)) Path'.refl) (Typed.g-pre 𝓤 H A W 𝓣 E G150 G151 b61 Δ0 (λ Ψ. Ψ) (at54 bs)
+              (Lifetime.g-forget 𝓤 H A W E G150 16 Row.dead Path'.refl) (Typed.g-pre 𝓤 H A W 𝓣 E G151 G152 b61 Δ0 (Typed.pass T150 T152 (s149 bs)) (at53 bs) (Scalar.g-room 𝓤 H A W E G151 9 ty·3 (Init.room-arr 𝓤 H A W (Referent.rtF (Referent.fInt Syntax.w8)) 1536 0 1536 Path'.refl)) (Typed.g-pre 𝓤 H A W 𝓣 E G152 G153 b61 Δ0 (λ Ψ. Ψ) (at52 bs) (Lifetime.g-end 𝓤 H
+              A W E G152 17 Path'.refl) (Typed.g-pre 𝓤 H A W 𝓣 E G153 G154 b61 Δ0 (Typed.pass T152 T154 (s151 bs)) (at51 bs) (Share.g-back-arr-shr 𝓤 H A W E (Referent.rtF (Referent.fInt Syntax.w16)) G153 10 64 17 (λ x. x) (Reads.as-is 𝓤 H A (Rows.arr-shr (Referent.rtF (Referent.fInt Syntax.w16)) 64 17)) Path'.refl) (Typed.g-pre 𝓤 H A W 𝓣 E G154 G155 b61 Δ0 (λ Ψ.
               Ψ) (at50 bs) (Lifetime.g-forget 𝓤 H A W E G154 17 Row.dead Path'.refl) d50)))))
 
           d62 : Typed.Typed 𝓤 H A 𝓣 E G143 b61 Δ0 (at62 bs)
@@ -3587,66 +3587,66 @@ module _ (claims· : Claims) where
               d75)
 
           d80 : Typed.Typed 𝓤 H A 𝓣 E G125 b67 Δ0 (at80 bs)
-          d80 = Typed.s-seq 𝓤 H A W 𝓣 E G125 G126 b53 b66 Δ0 (Typed.ask (s123 bs)) (at79 bs) (Relend.t-sl-aggregate 𝓤 H A W E Rec.rt 𝓣 (Relend.asMut Rec.rt) G125 55 56 22 ty·18 ty·6 (λ x. x) (Scalar.oBig Syntax.w64 2048) (Reads.as-is 𝓤 H A (Relend.msptr Rec.rt ty·18 22)) (Reads.room-gone 𝓤 H A (Syntax.tyStruct (List._∷_ 38 (List._∷_ 91 (List._∷_ 93
+          d80 = Typed.s-seq 𝓤 H A W 𝓣 E G125 G126 b53 b66 Δ0 (Typed.ask (s123 bs)) (at79 bs) (Relend.t-sl-aggregate 𝓤 H A W E Rec.rt 𝓣 (Relend.asMut Rec.rt) G125 55 56 22 ty·18 ty·6 (λ x. x) (Scalar.oBig Syntax.w64 4096) (Reads.as-is 𝓤 H A (Relend.msptr Rec.rt ty·18 22)) (Reads.room-gone 𝓤 H A (Syntax.tyStruct (List._∷_ 38 (List._∷_ 91 (List._∷_ 93
               List.[]))) (Syntax.tcons ty·6 (Syntax.tcons (Syntax.tyInt Syntax.w64) Syntax.tnil)))) record { lower = record { fits = Dec'.lit< tt } } Path'.refl Path'.refl λ b o k. tt) (Typed.g-pre 𝓤 H A W 𝓣 E G126 G127 b66 Δ0 (λ Ψ. Ψ) (at78 bs) (Lifetime.g-begin 𝓤 H A W E G126 23
               (tt, (tt, (tt, (tt, (tt, (tt, (tt, (tt, (tt, (tt, (tt, (tt, (tt, (tt, (tt, (tt, (tt, (tt, (tt, (tt, (tt, (tt, (tt, (tt, (tt, (tt, (tt, (tt, (tt, (tt, (tt, (tt, (tt, (tt, (tt, (tt, (tt, (tt, (tt, (tt, (tt, (tt, (tt, (tt, (tt, (tt, (tt, (tt, (tt, (tt, (tt, (tt, (tt, (tt, (tt, (tt, (tt, (tt, (tt, (tt, (tt, tt))))))))))))))))))))))))))))))))))))))))))))))))))))))))))))))
               (Typed.s-seq 𝓤 H A W 𝓣 E G127 G128 b54 b65 Δ0 (Typed.give (s125 bs)) (at77 bs) (Relend.t-sl-relend 𝓤 H A W E (Referent.rtF (Referent.fInt Syntax.w16)) 𝓣 G127 5 57 3 23 ty·16 ty·9 (Row.lease (κs .1 .1 .1 .0) (qs .1 .1 .1 .0)) 0 (λ x. x) (Reads.as-is 𝓤 H A (Mut.mslice (Referent.rtF (Referent.fInt Syntax.w16)) ty·16 3)) (Reads.room-gone 𝓤 H A ty·9)
               Path'.refl tt Path'.refl Path'.refl Path'.refl λ b o. tt) d77))
 
           d83 : Typed.Typed 𝓤 H A 𝓣 E G122 b69 Δ0 (at83 bs)
-          d83 = Typed.s-seq 𝓤 H A W 𝓣 E G122 G123 b51 b68 Δ0 (Typed.ask (s120 bs)) (at82 bs) (Relend.t-sl-aggregate 𝓤 H A W E (Referent.rtF (Referent.fInt Syntax.w8)) 𝓣 (Relend.asMut (Referent.rtF (Referent.fInt Syntax.w8))) G122 53 54 21 (Syntax.tyRef Syntax.erased Syntax.mut ty·1) ty·7 (λ x. x) (Scalar.oInt Syntax.w64 32) (Reads.as-is 𝓤 H A (Relend.msptr
+          d83 = Typed.s-seq 𝓤 H A W 𝓣 E G122 G123 b51 b68 Δ0 (Typed.ask (s120 bs)) (at82 bs) (Relend.t-sl-aggregate 𝓤 H A W E (Referent.rtF (Referent.fInt Syntax.w8)) 𝓣 (Relend.asMut (Referent.rtF (Referent.fInt Syntax.w8))) G122 53 54 21 (Syntax.tyRef Syntax.erased Syntax.mut ty·1) ty·7 (λ x. x) (Scalar.oInt Syntax.w64 64) (Reads.as-is 𝓤 H A (Relend.msptr
               (Referent.rtF (Referent.fInt Syntax.w8)) (Syntax.tyRef Syntax.erased Syntax.mut ty·1) 21)) (Reads.room-gone 𝓤 H A (Syntax.tyStruct (List._∷_ 38 (List._∷_ 91 (List._∷_ 93 List.[]))) (Syntax.tcons ty·7 (Syntax.tcons (Syntax.tyInt Syntax.w64) Syntax.tnil)))) tt Path'.refl Path'.refl λ b o k. tt) (Typed.g-pre 𝓤 H A W 𝓣 E G123 G124 b68 Δ0 (λ Ψ. Ψ) (at81
               bs) (Lifetime.g-begin 𝓤 H A W E G123 22
               (tt, (tt, (tt, (tt, (tt, (tt, (tt, (tt, (tt, (tt, (tt, (tt, (tt, (tt, (tt, (tt, (tt, (tt, (tt, (tt, (tt, (tt, (tt, (tt, (tt, (tt, (tt, (tt, (tt, (tt, (tt, (tt, (tt, (tt, (tt, (tt, (tt, (tt, (tt, (tt, (tt, (tt, (tt, (tt, (tt, (tt, (tt, (tt, (tt, (tt, (tt, (tt, (tt, (tt, (tt, (tt, (tt, (tt, (tt, (tt, (tt, tt))))))))))))))))))))))))))))))))))))))))))))))))))))))))))))))
-              (Typed.s-seq 𝓤 H A W 𝓣 E G124 G125 b52 b67 Δ0 (Typed.give (s122 bs)) (at80 bs) (Borrow.t-arr-borrow 𝓤 H A W E 𝓣 Rec.rt G124 15 55 2048 22 ty·18 (λ x. x) (Reads.as-is 𝓤 H A (Rows.arrF Rec.rt 2048 0)) (Reads.room-gone 𝓤 H A ty·18) Path'.refl (λ b o. tt) (Dec'.lit< tt, Dec'.lit< tt)) d80))
+              (Typed.s-seq 𝓤 H A W 𝓣 E G124 G125 b52 b67 Δ0 (Typed.give (s122 bs)) (at80 bs) (Borrow.t-arr-borrow 𝓤 H A W E 𝓣 Rec.rt G124 15 55 4096 22 ty·18 (λ x. x) (Reads.as-is 𝓤 H A (Rows.arrF Rec.rt 4096 0)) (Reads.room-gone 𝓤 H A ty·18) Path'.refl (λ b o. tt) (Dec'.lit< tt, Dec'.lit< tt)) d80))
 
           d86 : Typed.Typed 𝓤 H A 𝓣 E G119 b71 Δ0 (at86 bs)
-          d86 = Typed.s-seq 𝓤 H A W 𝓣 E G119 G120 b49 b70 Δ0 (Typed.ask (s117 bs)) (at85 bs) (Relend.t-sl-aggregate 𝓤 H A W E (Referent.rtF (Referent.fInt Syntax.w16)) 𝓣 (Relend.asMut (Referent.rtF (Referent.fInt Syntax.w16))) G119 51 52 20 (Syntax.tyRef Syntax.erased Syntax.mut ty·3) ty·9 (λ x. x) (Scalar.oInt Syntax.w64 32) (Reads.as-is 𝓤 H A (Relend.msptr
-              (Referent.rtF (Referent.fInt Syntax.w16)) (Syntax.tyRef Syntax.erased Syntax.mut ty·3) 20)) (Reads.room-gone 𝓤 H A (Syntax.tyStruct (List._∷_ 38 (List._∷_ 91 (List._∷_ 93 List.[]))) (Syntax.tcons ty·9 (Syntax.tcons (Syntax.tyInt Syntax.w64) Syntax.tnil)))) tt Path'.refl Path'.refl λ b o k. tt) (Typed.g-pre 𝓤 H A W 𝓣 E G120 G121 b70 Δ0 (λ Ψ. Ψ)
+          d86 = Typed.s-seq 𝓤 H A W 𝓣 E G119 G120 b49 b70 Δ0 (Typed.ask (s117 bs)) (at85 bs) (Relend.t-sl-aggregate 𝓤 H A W E (Referent.rtF (Referent.fInt Syntax.w16)) 𝓣 (Relend.asMut (Referent.rtF (Referent.fInt Syntax.w16))) G119 51 52 20 (Syntax.tyRef Syntax.erased Syntax.mut ty·2) ty·9 (λ x. x) (Scalar.oInt Syntax.w64 64) (Reads.as-is 𝓤 H A (Relend.msptr
+              (Referent.rtF (Referent.fInt Syntax.w16)) (Syntax.tyRef Syntax.erased Syntax.mut ty·2) 20)) (Reads.room-gone 𝓤 H A (Syntax.tyStruct (List._∷_ 38 (List._∷_ 91 (List._∷_ 93 List.[]))) (Syntax.tcons ty·9 (Syntax.tcons (Syntax.tyInt Syntax.w64) Syntax.tnil)))) tt Path'.refl Path'.refl λ b o k. tt) (Typed.g-pre 𝓤 H A W 𝓣 E G120 G121 b70 Δ0 (λ Ψ. Ψ)
               (at84 bs) (Lifetime.g-begin 𝓤 H A W E G120 21
               (tt, (tt, (tt, (tt, (tt, (tt, (tt, (tt, (tt, (tt, (tt, (tt, (tt, (tt, (tt, (tt, (tt, (tt, (tt, (tt, (tt, (tt, (tt, (tt, (tt, (tt, (tt, (tt, (tt, (tt, (tt, (tt, (tt, (tt, (tt, (tt, (tt, (tt, (tt, (tt, (tt, (tt, (tt, (tt, (tt, (tt, (tt, (tt, (tt, (tt, (tt, (tt, (tt, (tt, (tt, (tt, (tt, (tt, (tt, (tt, (tt, tt))))))))))))))))))))))))))))))))))))))))))))))))))))))))))))))
-              (Typed.s-seq 𝓤 H A W 𝓣 E G121 G122 b50 b69 Δ0 (Typed.give (s119 bs)) (at83 bs) (Borrow.t-arr-borrow 𝓤 H A W E 𝓣 (Referent.rtF (Referent.fInt Syntax.w8)) G121 14 53 32 21 (Syntax.tyRef Syntax.erased Syntax.mut ty·1) (λ x. x) (Reads.as-is 𝓤 H A (Rows.arrF (Referent.rtF (Referent.fInt Syntax.w8)) 32 0)) (Reads.room-gone 𝓤 H A (Syntax.tyRef
+              (Typed.s-seq 𝓤 H A W 𝓣 E G121 G122 b50 b69 Δ0 (Typed.give (s119 bs)) (at83 bs) (Borrow.t-arr-borrow 𝓤 H A W E 𝓣 (Referent.rtF (Referent.fInt Syntax.w8)) G121 14 53 64 21 (Syntax.tyRef Syntax.erased Syntax.mut ty·1) (λ x. x) (Reads.as-is 𝓤 H A (Rows.arrF (Referent.rtF (Referent.fInt Syntax.w8)) 64 0)) (Reads.room-gone 𝓤 H A (Syntax.tyRef
               Syntax.erased Syntax.mut ty·1)) Path'.refl (λ b o. tt) (Dec'.lit< tt, Dec'.lit< tt)) d83))
 
           d89 : Typed.Typed 𝓤 H A 𝓣 E G116 b73 Δ0 (at89 bs)
-          d89 = Typed.s-seq 𝓤 H A W 𝓣 E G116 G117 b47 b72 Δ0 (Typed.ask (s114 bs)) (at88 bs) (Relend.t-sl-aggregate 𝓤 H A W E (Referent.rtF (Referent.fInt Syntax.w32)) 𝓣 (Relend.asShr (Referent.rtF (Referent.fInt Syntax.w32))) G116 49 50 19 (Syntax.tyRef Syntax.erased Syntax.imm ty·5) ty·12 (λ x. x) (Scalar.oBig Syntax.w64 1024) (Reads.as-is 𝓤 H A
+          d89 = Typed.s-seq 𝓤 H A W 𝓣 E G116 G117 b47 b72 Δ0 (Typed.ask (s114 bs)) (at88 bs) (Relend.t-sl-aggregate 𝓤 H A W E (Referent.rtF (Referent.fInt Syntax.w32)) 𝓣 (Relend.asShr (Referent.rtF (Referent.fInt Syntax.w32))) G116 49 50 19 (Syntax.tyRef Syntax.erased Syntax.imm ty·5) ty·12 (λ x. x) (Scalar.oBig Syntax.w64 2048) (Reads.as-is 𝓤 H A
               (Relend.ssptr (Referent.rtF (Referent.fInt Syntax.w32)) (Syntax.tyRef Syntax.erased Syntax.imm ty·5) 19)) (Reads.room-gone 𝓤 H A (Syntax.tyStruct (List._∷_ 38 (List._∷_ 91 (List._∷_ 93 List.[]))) (Syntax.tcons ty·12 (Syntax.tcons (Syntax.tyInt Syntax.w64) Syntax.tnil)))) record { lower = record { fits = Dec'.lit< tt } } Path'.refl Path'.refl λ b o
               k. tt) (Typed.g-pre 𝓤 H A W 𝓣 E G117 G118 b72 Δ0 (λ Ψ. Ψ) (at87 bs) (Lifetime.g-begin 𝓤 H A W E G117 20
               (tt, (tt, (tt, (tt, (tt, (tt, (tt, (tt, (tt, (tt, (tt, (tt, (tt, (tt, (tt, (tt, (tt, (tt, (tt, (tt, (tt, (tt, (tt, (tt, (tt, (tt, (tt, (tt, (tt, (tt, (tt, (tt, (tt, (tt, (tt, (tt, (tt, (tt, (tt, (tt, (tt, (tt, (tt, (tt, (tt, (tt, (tt, (tt, (tt, (tt, (tt, (tt, (tt, (tt, (tt, (tt, (tt, (tt, (tt, (tt, (tt, tt))))))))))))))))))))))))))))))))))))))))))))))))))))))))))))))
-              (Typed.s-seq 𝓤 H A W 𝓣 E G118 G119 b48 b71 Δ0 (Typed.give (s116 bs)) (at86 bs) (Borrow.t-arr-borrow 𝓤 H A W E 𝓣 (Referent.rtF (Referent.fInt Syntax.w16)) G118 13 51 32 20 (Syntax.tyRef Syntax.erased Syntax.mut ty·3) (λ x. x) (Reads.as-is 𝓤 H A (Rows.arrF (Referent.rtF (Referent.fInt Syntax.w16)) 32 0)) (Reads.room-gone 𝓤 H A (Syntax.tyRef
-              Syntax.erased Syntax.mut ty·3)) Path'.refl (λ b o. tt) (Dec'.lit< tt, Dec'.lit< tt)) d86))
+              (Typed.s-seq 𝓤 H A W 𝓣 E G118 G119 b48 b71 Δ0 (Typed.give (s116 bs)) (at86 bs) (Borrow.t-arr-borrow 𝓤 H A W E 𝓣 (Referent.rtF (Referent.fInt Syntax.w16)) G118 13 51 64 20 (Syntax.tyRef Syntax.erased Syntax.mut ty·2) (λ x. x) (Reads.as-is 𝓤 H A (Rows.arrF (Referent.rtF (Referent.fInt Syntax.w16)) 64 0)) (Reads.room-gone 𝓤 H A (Syntax.tyRef
+              Syntax.erased Syntax.mut ty·2)) Path'.refl (λ b o. tt) (Dec'.lit< tt, Dec'.lit< tt)) d86))
 
           d92 : Typed.Typed 𝓤 H A 𝓣 E G113 b75 Δ0 (at92 bs)
-          d92 = Typed.s-seq 𝓤 H A W 𝓣 E G113 G114 b45 b74 Δ0 (Typed.ask (s111 bs)) (at91 bs) (Relend.t-sl-aggregate 𝓤 H A W E (Referent.rtF (Referent.fInt Syntax.w16)) 𝓣 (Relend.asShr (Referent.rtF (Referent.fInt Syntax.w16))) G113 47 48 18 (Syntax.tyRef Syntax.erased Syntax.imm ty·4) ty·11 (λ x. x) (Scalar.oBig Syntax.w64 1024) (Reads.as-is 𝓤 H A
+          d92 = Typed.s-seq 𝓤 H A W 𝓣 E G113 G114 b45 b74 Δ0 (Typed.ask (s111 bs)) (at91 bs) (Relend.t-sl-aggregate 𝓤 H A W E (Referent.rtF (Referent.fInt Syntax.w16)) 𝓣 (Relend.asShr (Referent.rtF (Referent.fInt Syntax.w16))) G113 47 48 18 (Syntax.tyRef Syntax.erased Syntax.imm ty·4) ty·11 (λ x. x) (Scalar.oBig Syntax.w64 2048) (Reads.as-is 𝓤 H A
               (Relend.ssptr (Referent.rtF (Referent.fInt Syntax.w16)) (Syntax.tyRef Syntax.erased Syntax.imm ty·4) 18)) (Reads.room-gone 𝓤 H A (Syntax.tyStruct (List._∷_ 38 (List._∷_ 91 (List._∷_ 93 List.[]))) (Syntax.tcons ty·11 (Syntax.tcons (Syntax.tyInt Syntax.w64) Syntax.tnil)))) record { lower = record { fits = Dec'.lit< tt } } Path'.refl Path'.refl λ b o
               k. tt) (Typed.g-pre 𝓤 H A W 𝓣 E G114 G115 b74 Δ0 (λ Ψ. Ψ) (at90 bs) (Lifetime.g-begin 𝓤 H A W E G114 19
               (tt, (tt, (tt, (tt, (tt, (tt, (tt, (tt, (tt, (tt, (tt, (tt, (tt, (tt, (tt, (tt, (tt, (tt, (tt, (tt, (tt, (tt, (tt, (tt, (tt, (tt, (tt, (tt, (tt, (tt, (tt, (tt, (tt, (tt, (tt, (tt, (tt, (tt, (tt, (tt, (tt, (tt, (tt, (tt, (tt, (tt, (tt, (tt, (tt, (tt, (tt, (tt, (tt, (tt, (tt, (tt, (tt, (tt, (tt, (tt, (tt, tt))))))))))))))))))))))))))))))))))))))))))))))))))))))))))))))
-              (Typed.s-seq 𝓤 H A W 𝓣 E G115 G116 b46 b73 Δ0 (Typed.give (s113 bs)) (at89 bs) (Share.t-arr-share 𝓤 H A W E 𝓣 (Referent.rtF (Referent.fInt Syntax.w32)) G115 12 49 1024 19 (Syntax.tyRef Syntax.erased Syntax.imm ty·5) (λ x. x) (Reads.as-is 𝓤 H A (Rows.arrF (Referent.rtF (Referent.fInt Syntax.w32)) 1024 0)) (Reads.room-gone 𝓤 H A (Syntax.tyRef
+              (Typed.s-seq 𝓤 H A W 𝓣 E G115 G116 b46 b73 Δ0 (Typed.give (s113 bs)) (at89 bs) (Share.t-arr-share 𝓤 H A W E 𝓣 (Referent.rtF (Referent.fInt Syntax.w32)) G115 12 49 2048 19 (Syntax.tyRef Syntax.erased Syntax.imm ty·5) (λ x. x) (Reads.as-is 𝓤 H A (Rows.arrF (Referent.rtF (Referent.fInt Syntax.w32)) 2048 0)) (Reads.room-gone 𝓤 H A (Syntax.tyRef
               Syntax.erased Syntax.imm ty·5)) Path'.refl (λ b o. tt) (Dec'.lit< tt, Dec'.lit< tt)) d89))
 
           d95 : Typed.Typed 𝓤 H A 𝓣 E G110 b77 Δ0 (at95 bs)
-          d95 = Typed.s-seq 𝓤 H A W 𝓣 E G110 G111 b43 b76 Δ0 (Typed.ask (s108 bs)) (at94 bs) (Relend.t-sl-aggregate 𝓤 H A W E (Referent.rtF (Referent.fInt Syntax.w16)) 𝓣 (Relend.asShr (Referent.rtF (Referent.fInt Syntax.w16))) G110 45 46 17 (Syntax.tyRef Syntax.erased Syntax.imm ty·3) ty·11 (λ x. x) (Scalar.oInt Syntax.w64 32) (Reads.as-is 𝓤 H A
-              (Relend.ssptr (Referent.rtF (Referent.fInt Syntax.w16)) (Syntax.tyRef Syntax.erased Syntax.imm ty·3) 17)) (Reads.room-gone 𝓤 H A (Syntax.tyStruct (List._∷_ 38 (List._∷_ 91 (List._∷_ 93 List.[]))) (Syntax.tcons ty·11 (Syntax.tcons (Syntax.tyInt Syntax.w64) Syntax.tnil)))) tt Path'.refl Path'.refl λ b o k. tt) (Typed.g-pre 𝓤 H A W 𝓣 E G111 G112 b76
+          d95 = Typed.s-seq 𝓤 H A W 𝓣 E G110 G111 b43 b76 Δ0 (Typed.ask (s108 bs)) (at94 bs) (Relend.t-sl-aggregate 𝓤 H A W E (Referent.rtF (Referent.fInt Syntax.w16)) 𝓣 (Relend.asShr (Referent.rtF (Referent.fInt Syntax.w16))) G110 45 46 17 (Syntax.tyRef Syntax.erased Syntax.imm ty·2) ty·11 (λ x. x) (Scalar.oInt Syntax.w64 64) (Reads.as-is 𝓤 H A
+              (Relend.ssptr (Referent.rtF (Referent.fInt Syntax.w16)) (Syntax.tyRef Syntax.erased Syntax.imm ty·2) 17)) (Reads.room-gone 𝓤 H A (Syntax.tyStruct (List._∷_ 38 (List._∷_ 91 (List._∷_ 93 List.[]))) (Syntax.tcons ty·11 (Syntax.tcons (Syntax.tyInt Syntax.w64) Syntax.tnil)))) tt Path'.refl Path'.refl λ b o k. tt) (Typed.g-pre 𝓤 H A W 𝓣 E G111 G112 b76
               Δ0 (λ Ψ. Ψ) (at93 bs) (Lifetime.g-begin 𝓤 H A W E G111 18
               (tt, (tt, (tt, (tt, (tt, (tt, (tt, (tt, (tt, (tt, (tt, (tt, (tt, (tt, (tt, (tt, (tt, (tt, (tt, (tt, (tt, (tt, (tt, (tt, (tt, (tt, (tt, (tt, (tt, (tt, (tt, (tt, (tt, (tt, (tt, (tt, (tt, (tt, (tt, (tt, (tt, (tt, (tt, (tt, (tt, (tt, (tt, (tt, (tt, (tt, (tt, (tt, (tt, (tt, (tt, (tt, (tt, (tt, (tt, (tt, (tt, tt))))))))))))))))))))))))))))))))))))))))))))))))))))))))))))))
-              (Typed.s-seq 𝓤 H A W 𝓣 E G112 G113 b44 b75 Δ0 (Typed.give (s110 bs)) (at92 bs) (Share.t-arr-share 𝓤 H A W E 𝓣 (Referent.rtF (Referent.fInt Syntax.w16)) G112 11 47 1024 18 (Syntax.tyRef Syntax.erased Syntax.imm ty·4) (λ x. x) (Reads.as-is 𝓤 H A (Rows.arrF (Referent.rtF (Referent.fInt Syntax.w16)) 1024 0)) (Reads.room-gone 𝓤 H A (Syntax.tyRef
+              (Typed.s-seq 𝓤 H A W 𝓣 E G112 G113 b44 b75 Δ0 (Typed.give (s110 bs)) (at92 bs) (Share.t-arr-share 𝓤 H A W E 𝓣 (Referent.rtF (Referent.fInt Syntax.w16)) G112 11 47 2048 18 (Syntax.tyRef Syntax.erased Syntax.imm ty·4) (λ x. x) (Reads.as-is 𝓤 H A (Rows.arrF (Referent.rtF (Referent.fInt Syntax.w16)) 2048 0)) (Reads.room-gone 𝓤 H A (Syntax.tyRef
               Syntax.erased Syntax.imm ty·4)) Path'.refl (λ b o. tt) (Dec'.lit< tt, Dec'.lit< tt)) d92))
 
           d98 : Typed.Typed 𝓤 H A 𝓣 E G107 b79 Δ0 (at98 bs)
-          d98 = Typed.s-seq 𝓤 H A W 𝓣 E G107 G108 b41 b78 Δ0 (Typed.ask (s105 bs)) (at97 bs) (Relend.t-sl-aggregate 𝓤 H A W E (Referent.rtF (Referent.fInt Syntax.w8)) 𝓣 (Relend.asShr (Referent.rtF (Referent.fInt Syntax.w8))) G107 43 44 16 (Syntax.tyRef Syntax.erased Syntax.imm ty·2) ty·8 (λ x. x) (Scalar.oInt Syntax.w64 768) (Reads.as-is 𝓤 H A (Relend.ssptr
-              (Referent.rtF (Referent.fInt Syntax.w8)) (Syntax.tyRef Syntax.erased Syntax.imm ty·2) 16)) (Reads.room-gone 𝓤 H A (Syntax.tyStruct (List._∷_ 38 (List._∷_ 91 (List._∷_ 93 List.[]))) (Syntax.tcons ty·8 (Syntax.tcons (Syntax.tyInt Syntax.w64) Syntax.tnil)))) tt Path'.refl Path'.refl λ b o k. tt) (Typed.g-pre 𝓤 H A W 𝓣 E G108 G109 b78 Δ0 (λ Ψ. Ψ) (at96
-              bs) (Lifetime.g-begin 𝓤 H A W E G108 17
+          d98 = Typed.s-seq 𝓤 H A W 𝓣 E G107 G108 b41 b78 Δ0 (Typed.ask (s105 bs)) (at97 bs) (Relend.t-sl-aggregate 𝓤 H A W E (Referent.rtF (Referent.fInt Syntax.w8)) 𝓣 (Relend.asShr (Referent.rtF (Referent.fInt Syntax.w8))) G107 43 44 16 (Syntax.tyRef Syntax.erased Syntax.imm ty·3) ty·8 (λ x. x) (Scalar.oBig Syntax.w64 1536) (Reads.as-is 𝓤 H A (Relend.ssptr
+              (Referent.rtF (Referent.fInt Syntax.w8)) (Syntax.tyRef Syntax.erased Syntax.imm ty·3) 16)) (Reads.room-gone 𝓤 H A (Syntax.tyStruct (List._∷_ 38 (List._∷_ 91 (List._∷_ 93 List.[]))) (Syntax.tcons ty·8 (Syntax.tcons (Syntax.tyInt Syntax.w64) Syntax.tnil)))) record { lower = record { fits = Dec'.lit< tt } } Path'.refl Path'.refl λ b o k. tt)
+              (Typed.g-pre 𝓤 H A W 𝓣 E G108 G109 b78 Δ0 (λ Ψ. Ψ) (at96 bs) (Lifetime.g-begin 𝓤 H A W E G108 17
               (tt, (tt, (tt, (tt, (tt, (tt, (tt, (tt, (tt, (tt, (tt, (tt, (tt, (tt, (tt, (tt, (tt, (tt, (tt, (tt, (tt, (tt, (tt, (tt, (tt, (tt, (tt, (tt, (tt, (tt, (tt, (tt, (tt, (tt, (tt, (tt, (tt, (tt, (tt, (tt, (tt, (tt, (tt, (tt, (tt, (tt, (tt, (tt, (tt, (tt, (tt, (tt, (tt, (tt, (tt, (tt, (tt, (tt, (tt, (tt, (tt, tt))))))))))))))))))))))))))))))))))))))))))))))))))))))))))))))
-              (Typed.s-seq 𝓤 H A W 𝓣 E G109 G110 b42 b77 Δ0 (Typed.give (s107 bs)) (at95 bs) (Share.t-arr-share 𝓤 H A W E 𝓣 (Referent.rtF (Referent.fInt Syntax.w16)) G109 10 45 32 17 (Syntax.tyRef Syntax.erased Syntax.imm ty·3) (λ x. x) (Reads.as-is 𝓤 H A (Rows.arrF (Referent.rtF (Referent.fInt Syntax.w16)) 32 0)) (Reads.room-gone 𝓤 H A (Syntax.tyRef
-              Syntax.erased Syntax.imm ty·3)) Path'.refl (λ b o. tt) (Dec'.lit< tt, Dec'.lit< tt)) d95))
+              (Typed.s-seq 𝓤 H A W 𝓣 E G109 G110 b42 b77 Δ0 (Typed.give (s107 bs)) (at95 bs) (Share.t-arr-share 𝓤 H A W E 𝓣 (Referent.rtF (Referent.fInt Syntax.w16)) G109 10 45 64 17 (Syntax.tyRef Syntax.erased Syntax.imm ty·2) (λ x. x) (Reads.as-is 𝓤 H A (Rows.arrF (Referent.rtF (Referent.fInt Syntax.w16)) 64 0)) (Reads.room-gone 𝓤 H A (Syntax.tyRef
+              Syntax.erased Syntax.imm ty·2)) Path'.refl (λ b o. tt) (Dec'.lit< tt, Dec'.lit< tt)) d95))
 
           d101 : Typed.Typed 𝓤 H A 𝓣 E G104 b81 Δ0 (at101 bs)
           d101 = Typed.s-seq 𝓤 H A W 𝓣 E G104 G105 b39 b80 Δ0 (Typed.ask (s102 bs)) (at100 bs) (Relend.t-sl-aggregate 𝓤 H A W E (Referent.rtF (Referent.fInt Syntax.w16)) 𝓣 (Relend.asShr (Referent.rtF (Referent.fInt Syntax.w16))) G104 41 42 15 (Syntax.tyRef Syntax.erased Syntax.imm ty·0) ty·11 (λ x. x) (Scalar.oInt Syntax.w64 1) (Reads.as-is 𝓤 H A
               (Relend.ssptr (Referent.rtF (Referent.fInt Syntax.w16)) (Syntax.tyRef Syntax.erased Syntax.imm ty·0) 15)) (Reads.room-gone 𝓤 H A (Syntax.tyStruct (List._∷_ 38 (List._∷_ 91 (List._∷_ 93 List.[]))) (Syntax.tcons ty·11 (Syntax.tcons (Syntax.tyInt Syntax.w64) Syntax.tnil)))) tt Path'.refl Path'.refl λ b o k. tt) (Typed.g-pre 𝓤 H A W 𝓣 E G105 G106 b80
               Δ0 (λ Ψ. Ψ) (at99 bs) (Lifetime.g-begin 𝓤 H A W E G105 16
               (tt, (tt, (tt, (tt, (tt, (tt, (tt, (tt, (tt, (tt, (tt, (tt, (tt, (tt, (tt, (tt, (tt, (tt, (tt, (tt, (tt, (tt, (tt, (tt, (tt, (tt, (tt, (tt, (tt, (tt, (tt, (tt, (tt, (tt, (tt, (tt, (tt, (tt, (tt, (tt, (tt, (tt, (tt, (tt, (tt, (tt, (tt, (tt, (tt, (tt, (tt, (tt, (tt, (tt, (tt, (tt, (tt, (tt, (tt, (tt, (tt, tt))))))))))))))))))))))))))))))))))))))))))))))))))))))))))))))
-              (Typed.s-seq 𝓤 H A W 𝓣 E G106 G107 b40 b79 Δ0 (Typed.give (s104 bs)) (at98 bs) (Share.t-arr-share 𝓤 H A W E 𝓣 (Referent.rtF (Referent.fInt Syntax.w8)) G106 9 43 768 16 (Syntax.tyRef Syntax.erased Syntax.imm ty·2) (λ x. x) (Reads.as-is 𝓤 H A (Rows.arrF (Referent.rtF (Referent.fInt Syntax.w8)) 768 0)) (Reads.room-gone 𝓤 H A (Syntax.tyRef
-              Syntax.erased Syntax.imm ty·2)) Path'.refl (λ b o. tt) (Dec'.lit< tt, Dec'.lit< tt)) d98))
+              (Typed.s-seq 𝓤 H A W 𝓣 E G106 G107 b40 b79 Δ0 (Typed.give (s104 bs)) (at98 bs) (Share.t-arr-share 𝓤 H A W E 𝓣 (Referent.rtF (Referent.fInt Syntax.w8)) G106 9 43 1536 16 (Syntax.tyRef Syntax.erased Syntax.imm ty·3) (λ x. x) (Reads.as-is 𝓤 H A (Rows.arrF (Referent.rtF (Referent.fInt Syntax.w8)) 1536 0)) (Reads.room-gone 𝓤 H A (Syntax.tyRef
+              Syntax.erased Syntax.imm ty·3)) Path'.refl (λ b o. tt) (Dec'.lit< tt, Dec'.lit< tt)) d98))
 
           d104 : Typed.Typed 𝓤 H A 𝓣 E G101 b83 Δ0 (at104 bs)
           d104 = Typed.s-seq 𝓤 H A W 𝓣 E G101 G102 b37 b82 Δ0 (Typed.ask (s99 bs)) (at103 bs) (Relend.t-sl-aggregate 𝓤 H A W E (Referent.rtF (Referent.fInt Syntax.w16)) 𝓣 (Relend.asShr (Referent.rtF (Referent.fInt Syntax.w16))) G101 39 40 14 (Syntax.tyRef Syntax.erased Syntax.imm ty·0) ty·11 (λ x. x) (Scalar.oInt Syntax.w64 1) (Reads.as-is 𝓤 H A
@@ -3670,26 +3670,26 @@ module _ (claims· : Claims) where
               (Row.sBool .of) (Scalar.reads-sc 𝓤 H A W (Row.sInt Syntax.w64), Path'.refl) tt (Reads.room-gone 𝓤 H A Syntax.tyBool) (Scalar.holds-sc 𝓤 H A W Row.sBool) Path'.refl (λ u. Path'.refl) λ u. tt) d107)
 
           d114 : Typed.Typed 𝓤 H A 𝓣 E G76 b87 Δ0 (at114 bs)
-          d114 = Typed.g-pre 𝓤 H A W 𝓣 E G76 G77 b87 Δ0 (Typed.both (s75 bs)) (at113 bs) (Borrow.g-back-arr 𝓤 H A W E (Referent.rtF (Referent.fInt Syntax.w8)) G76 33 14 12 32 ty·7 (λ x. x) (λ x. x) (Reads.as-is 𝓤 H A (Mut.msleft (Referent.rtF (Referent.fInt Syntax.w8)) ty·7)) (Reads.as-is 𝓤 H A (Rows.arr-owed (Referent.rtF (Referent.fInt Syntax.w8)) 32 12))
+          d114 = Typed.g-pre 𝓤 H A W 𝓣 E G76 G77 b87 Δ0 (Typed.both (s75 bs)) (at113 bs) (Borrow.g-back-arr 𝓤 H A W E (Referent.rtF (Referent.fInt Syntax.w8)) G76 33 14 12 64 ty·7 (λ x. x) (λ x. x) (Reads.as-is 𝓤 H A (Mut.msleft (Referent.rtF (Referent.fInt Syntax.w8)) ty·7)) (Reads.as-is 𝓤 H A (Rows.arr-owed (Referent.rtF (Referent.fInt Syntax.w8)) 64 12))
               Path'.refl) (Typed.g-pre 𝓤 H A W 𝓣 E G77 G78 b87 Δ0 (λ Ψ. Ψ) (at112 bs) (Lifetime.g-forget 𝓤 H A W E G77 12 Row.dead Path'.refl) (Typed.g-pre 𝓤 H A W 𝓣 E G78 G79 b87 Δ0 (λ Ψ. Ψ) (at111 bs) (Lifetime.g-end 𝓤 H A W E G78 13 Path'.refl) (Typed.g-pre 𝓤 H A W 𝓣 E G79 G80 b87 Δ0 (Typed.both (s78 bs)) (at110 bs) (Borrow.g-back-arr 𝓤 H A W E Rec.rt G79 35
-              15 13 2048 ty·6 (λ x. x) (λ x. x) (Reads.as-is 𝓤 H A (Mut.msleft Rec.rt ty·6)) (Reads.as-is 𝓤 H A (Rows.arr-owed Rec.rt 2048 13)) Path'.refl) (Typed.g-pre 𝓤 H A W 𝓣 E G80 G81 b87 Δ0 (λ Ψ. Ψ) (at109 bs) (Lifetime.g-forget 𝓤 H A W E G80 13 Row.dead Path'.refl) d109))))
+              15 13 4096 ty·6 (λ x. x) (λ x. x) (Reads.as-is 𝓤 H A (Mut.msleft Rec.rt ty·6)) (Reads.as-is 𝓤 H A (Rows.arr-owed Rec.rt 4096 13)) Path'.refl) (Typed.g-pre 𝓤 H A W 𝓣 E G80 G81 b87 Δ0 (λ Ψ. Ψ) (at109 bs) (Lifetime.g-forget 𝓤 H A W E G80 13 Row.dead Path'.refl) d109))))
 
           d120 : Typed.Typed 𝓤 H A 𝓣 E G70 b87 Δ0 (at120 bs)
-          d120 = Typed.g-pre 𝓤 H A W 𝓣 E G70 G71 b87 Δ0 (Typed.both (s69 bs)) (at119 bs) (Borrow.g-back-arr 𝓤 H A W E (Referent.rtF (Referent.fInt Syntax.w32)) G70 29 12 10 1024 ty·10 (λ x. x) (λ x. x) (Reads.as-is 𝓤 H A (Mut.msleft (Referent.rtF (Referent.fInt Syntax.w32)) ty·10)) (Reads.as-is 𝓤 H A (Rows.arr-owed (Referent.rtF (Referent.fInt Syntax.w32))
-              1024 10)) Path'.refl) (Typed.g-pre 𝓤 H A W 𝓣 E G71 G72 b87 Δ0 (λ Ψ. Ψ) (at118 bs) (Lifetime.g-forget 𝓤 H A W E G71 10 Row.dead Path'.refl) (Typed.g-pre 𝓤 H A W 𝓣 E G72 G73 b87 Δ0 (λ Ψ. Ψ) (at117 bs) (Lifetime.g-end 𝓤 H A W E G72 11 Path'.refl) (Typed.g-pre 𝓤 H A W 𝓣 E G73 G74 b87 Δ0 (Typed.both (s72 bs)) (at116 bs) (Borrow.g-back-arr 𝓤 H A W E
-              (Referent.rtF (Referent.fInt Syntax.w16)) G73 31 13 11 32 ty·9 (λ x. x) (λ x. x) (Reads.as-is 𝓤 H A (Mut.msleft (Referent.rtF (Referent.fInt Syntax.w16)) ty·9)) (Reads.as-is 𝓤 H A (Rows.arr-owed (Referent.rtF (Referent.fInt Syntax.w16)) 32 11)) Path'.refl) (Typed.g-pre 𝓤 H A W 𝓣 E G74 G75 b87 Δ0 (λ Ψ. Ψ) (at115 bs) (Lifetime.g-forget 𝓤 H A W E G74
+          d120 = Typed.g-pre 𝓤 H A W 𝓣 E G70 G71 b87 Δ0 (Typed.both (s69 bs)) (at119 bs) (Borrow.g-back-arr 𝓤 H A W E (Referent.rtF (Referent.fInt Syntax.w32)) G70 29 12 10 2048 ty·10 (λ x. x) (λ x. x) (Reads.as-is 𝓤 H A (Mut.msleft (Referent.rtF (Referent.fInt Syntax.w32)) ty·10)) (Reads.as-is 𝓤 H A (Rows.arr-owed (Referent.rtF (Referent.fInt Syntax.w32))
+              2048 10)) Path'.refl) (Typed.g-pre 𝓤 H A W 𝓣 E G71 G72 b87 Δ0 (λ Ψ. Ψ) (at118 bs) (Lifetime.g-forget 𝓤 H A W E G71 10 Row.dead Path'.refl) (Typed.g-pre 𝓤 H A W 𝓣 E G72 G73 b87 Δ0 (λ Ψ. Ψ) (at117 bs) (Lifetime.g-end 𝓤 H A W E G72 11 Path'.refl) (Typed.g-pre 𝓤 H A W 𝓣 E G73 G74 b87 Δ0 (Typed.both (s72 bs)) (at116 bs) (Borrow.g-back-arr 𝓤 H A W E
+              (Referent.rtF (Referent.fInt Syntax.w16)) G73 31 13 11 64 ty·9 (λ x. x) (λ x. x) (Reads.as-is 𝓤 H A (Mut.msleft (Referent.rtF (Referent.fInt Syntax.w16)) ty·9)) (Reads.as-is 𝓤 H A (Rows.arr-owed (Referent.rtF (Referent.fInt Syntax.w16)) 64 11)) Path'.refl) (Typed.g-pre 𝓤 H A W 𝓣 E G74 G75 b87 Δ0 (λ Ψ. Ψ) (at115 bs) (Lifetime.g-forget 𝓤 H A W E G74
               11 Row.dead Path'.refl) (Typed.g-pre 𝓤 H A W 𝓣 E G75 G76 b87 Δ0 (λ Ψ. Ψ) (at114 bs) (Lifetime.g-end 𝓤 H A W E G75 12 Path'.refl) d114)))))
 
           d126 : Typed.Typed 𝓤 H A 𝓣 E G64 b87 Δ0 (at126 bs)
-          d126 = Typed.g-pre 𝓤 H A W 𝓣 E G64 G65 b87 Δ0 (Typed.both (s63 bs)) (at125 bs) (Borrow.g-back-arr 𝓤 H A W E (Referent.rtF (Referent.fInt Syntax.w16)) G64 25 10 8 32 ty·9 (λ x. x) (λ x. x) (Reads.as-is 𝓤 H A (Mut.msleft (Referent.rtF (Referent.fInt Syntax.w16)) ty·9)) (Reads.as-is 𝓤 H A (Rows.arr-owed (Referent.rtF (Referent.fInt Syntax.w16)) 32 8))
+          d126 = Typed.g-pre 𝓤 H A W 𝓣 E G64 G65 b87 Δ0 (Typed.both (s63 bs)) (at125 bs) (Borrow.g-back-arr 𝓤 H A W E (Referent.rtF (Referent.fInt Syntax.w16)) G64 25 10 8 64 ty·9 (λ x. x) (λ x. x) (Reads.as-is 𝓤 H A (Mut.msleft (Referent.rtF (Referent.fInt Syntax.w16)) ty·9)) (Reads.as-is 𝓤 H A (Rows.arr-owed (Referent.rtF (Referent.fInt Syntax.w16)) 64 8))
               Path'.refl) (Typed.g-pre 𝓤 H A W 𝓣 E G65 G66 b87 Δ0 (λ Ψ. Ψ) (at124 bs) (Lifetime.g-forget 𝓤 H A W E G65 8 Row.dead Path'.refl) (Typed.g-pre 𝓤 H A W 𝓣 E G66 G67 b87 Δ0 (λ Ψ. Ψ) (at123 bs) (Lifetime.g-end 𝓤 H A W E G66 9 Path'.refl) (Typed.g-pre 𝓤 H A W 𝓣 E G67 G68 b87 Δ0 (Typed.both (s66 bs)) (at122 bs) (Borrow.g-back-arr 𝓤 H A W E (Referent.rtF
-              (Referent.fInt Syntax.w16)) G67 27 11 9 1024 ty·9 (λ x. x) (λ x. x) (Reads.as-is 𝓤 H A (Mut.msleft (Referent.rtF (Referent.fInt Syntax.w16)) ty·9)) (Reads.as-is 𝓤 H A (Rows.arr-owed (Referent.rtF (Referent.fInt Syntax.w16)) 1024 9)) Path'.refl) (Typed.g-pre 𝓤 H A W 𝓣 E G68 G69 b87 Δ0 (λ Ψ. Ψ) (at121 bs) (Lifetime.g-forget 𝓤 H A W E G68 9 Row.dead
+              (Referent.fInt Syntax.w16)) G67 27 11 9 2048 ty·9 (λ x. x) (λ x. x) (Reads.as-is 𝓤 H A (Mut.msleft (Referent.rtF (Referent.fInt Syntax.w16)) ty·9)) (Reads.as-is 𝓤 H A (Rows.arr-owed (Referent.rtF (Referent.fInt Syntax.w16)) 2048 9)) Path'.refl) (Typed.g-pre 𝓤 H A W 𝓣 E G68 G69 b87 Δ0 (λ Ψ. Ψ) (at121 bs) (Lifetime.g-forget 𝓤 H A W E G68 9 Row.dead
               Path'.refl) (Typed.g-pre 𝓤 H A W 𝓣 E G69 G70 b87 Δ0 (λ Ψ. Ψ) (at120 bs) (Lifetime.g-end 𝓤 H A W E G69 10 Path'.refl) d120)))))
 
           d132 : Typed.Typed 𝓤 H A 𝓣 E G58 b87 Δ0 (at132 bs)
           d132 = Typed.g-pre 𝓤 H A W 𝓣 E G58 G59 b87 Δ0 (Typed.both (s57 bs)) (at131 bs) (Borrow.g-back-arr 𝓤 H A W E (Referent.rtF (Referent.fInt Syntax.w16)) G58 21 8 6 1 ty·9 (λ x. x) (λ x. x) (Reads.as-is 𝓤 H A (Mut.msleft (Referent.rtF (Referent.fInt Syntax.w16)) ty·9)) (Reads.as-is 𝓤 H A (Rows.arr-owed (Referent.rtF (Referent.fInt Syntax.w16)) 1 6))
               Path'.refl) (Typed.g-pre 𝓤 H A W 𝓣 E G59 G60 b87 Δ0 (λ Ψ. Ψ) (at130 bs) (Lifetime.g-forget 𝓤 H A W E G59 6 Row.dead Path'.refl) (Typed.g-pre 𝓤 H A W 𝓣 E G60 G61 b87 Δ0 (λ Ψ. Ψ) (at129 bs) (Lifetime.g-end 𝓤 H A W E G60 7 Path'.refl) (Typed.g-pre 𝓤 H A W 𝓣 E G61 G62 b87 Δ0 (Typed.both (s60 bs)) (at128 bs) (Borrow.g-back-arr 𝓤 H A W E (Referent.rtF
-              (Referent.fInt Syntax.w8)) G61 23 9 7 768 ty·7 (λ x. x) (λ x. x) (Reads.as-is 𝓤 H A (Mut.msleft (Referent.rtF (Referent.fInt Syntax.w8)) ty·7)) (Reads.as-is 𝓤 H A (Rows.arr-owed (Referent.rtF (Referent.fInt Syntax.w8)) 768 7)) Path'.refl) (Typed.g-pre 𝓤 H A W 𝓣 E G62 G63 b87 Δ0 (λ Ψ. Ψ) (at127 bs) (Lifetime.g-forget 𝓤 H A W E G62 7 Row.dead
+              (Referent.fInt Syntax.w8)) G61 23 9 7 1536 ty·7 (λ x. x) (λ x. x) (Reads.as-is 𝓤 H A (Mut.msleft (Referent.rtF (Referent.fInt Syntax.w8)) ty·7)) (Reads.as-is 𝓤 H A (Rows.arr-owed (Referent.rtF (Referent.fInt Syntax.w8)) 1536 7)) Path'.refl) (Typed.g-pre 𝓤 H A W 𝓣 E G62 G63 b87 Δ0 (λ Ψ. Ψ) (at127 bs) (Lifetime.g-forget 𝓤 H A W E G62 7 Row.dead
               Path'.refl) (Typed.g-pre 𝓤 H A W 𝓣 E G63 G64 b87 Δ0 (λ Ψ. Ψ) (at126 bs) (Lifetime.g-end 𝓤 H A W E G63 8 Path'.refl) d126)))))
 
           d137 : Typed.Typed 𝓤 H A 𝓣 E G53 b88 Δ0 (at137 bs)
@@ -3707,62 +3707,62 @@ module _ (claims· : Claims) where
           d140 : Typed.Typed 𝓤 H A 𝓣 E G50 b90 Δ0 (at140 bs)
           d140 = Typed.g-pre 𝓤 H A W 𝓣 E G50 G51 b90 Δ0 (λ Ψ. Ψ) (at139 bs) (Lifetime.g-begin 𝓤 H A W E G50 13
               (tt, (tt, (tt, (tt, (tt, (tt, (tt, (tt, (tt, (tt, (tt, (tt, (tt, (tt, (tt, (tt, (tt, (tt, (tt, (tt, (tt, (tt, (tt, (tt, (tt, (tt, (tt, (tt, (tt, (tt, (tt, (tt, (tt, (tt, (tt, (tt, (tt, (tt, (tt, (tt, (tt, (tt, (tt, (tt, (tt, (tt, (tt, (tt, (tt, (tt, (tt, (tt, (tt, (tt, (tt, (tt, (tt, (tt, (tt, (tt, (tt, tt))))))))))))))))))))))))))))))))))))))))))))))))))))))))))))))
-              (Typed.s-seq 𝓤 H A W 𝓣 E G51 G52 b26 b89 Δ0 (Typed.give (s50 bs)) (at138 bs) (Borrow.t-arr-borrow 𝓤 H A W E 𝓣 Rec.rt G51 15 34 2048 13 ty·18 (λ x. x) (Reads.as-is 𝓤 H A (Rows.arrF Rec.rt 2048 0)) (Reads.room-gone 𝓤 H A ty·18) Path'.refl (λ b o. tt) (Dec'.lit< tt, Dec'.lit< tt)) (Typed.s-seq 𝓤 H A W 𝓣 E G52 G53 b27 b88 Δ0 (Typed.ask (s51 bs)) (at137
-              bs) (Relend.t-sl-aggregate 𝓤 H A W E Rec.rt 𝓣 (Relend.asMut Rec.rt) G52 34 35 13 ty·18 ty·6 (λ x. x) (Scalar.oBig Syntax.w64 2048) (Reads.as-is 𝓤 H A (Relend.msptr Rec.rt ty·18 13)) (Reads.room-gone 𝓤 H A (Syntax.tyStruct (List._∷_ 38 (List._∷_ 91 (List._∷_ 93 List.[]))) (Syntax.tcons ty·6 (Syntax.tcons (Syntax.tyInt Syntax.w64) Syntax.tnil))))
+              (Typed.s-seq 𝓤 H A W 𝓣 E G51 G52 b26 b89 Δ0 (Typed.give (s50 bs)) (at138 bs) (Borrow.t-arr-borrow 𝓤 H A W E 𝓣 Rec.rt G51 15 34 4096 13 ty·18 (λ x. x) (Reads.as-is 𝓤 H A (Rows.arrF Rec.rt 4096 0)) (Reads.room-gone 𝓤 H A ty·18) Path'.refl (λ b o. tt) (Dec'.lit< tt, Dec'.lit< tt)) (Typed.s-seq 𝓤 H A W 𝓣 E G52 G53 b27 b88 Δ0 (Typed.ask (s51 bs)) (at137
+              bs) (Relend.t-sl-aggregate 𝓤 H A W E Rec.rt 𝓣 (Relend.asMut Rec.rt) G52 34 35 13 ty·18 ty·6 (λ x. x) (Scalar.oBig Syntax.w64 4096) (Reads.as-is 𝓤 H A (Relend.msptr Rec.rt ty·18 13)) (Reads.room-gone 𝓤 H A (Syntax.tyStruct (List._∷_ 38 (List._∷_ 91 (List._∷_ 93 List.[]))) (Syntax.tcons ty·6 (Syntax.tcons (Syntax.tyInt Syntax.w64) Syntax.tnil))))
               record { lower = record { fits = Dec'.lit< tt } } Path'.refl Path'.refl λ b o k. tt) d137))
 
           d142 : Typed.Typed 𝓤 H A 𝓣 E G48 b92 Δ0 (at142 bs)
-          d142 = Typed.s-seq 𝓤 H A W 𝓣 E G48 G49 b24 b91 Δ0 (Typed.give (s47 bs)) (at141 bs) (Borrow.t-arr-borrow 𝓤 H A W E 𝓣 (Referent.rtF (Referent.fInt Syntax.w8)) G48 14 32 32 12 (Syntax.tyRef Syntax.erased Syntax.mut ty·1) (λ x. x) (Reads.as-is 𝓤 H A (Rows.arrF (Referent.rtF (Referent.fInt Syntax.w8)) 32 0)) (Reads.room-gone 𝓤 H A (Syntax.tyRef
+          d142 = Typed.s-seq 𝓤 H A W 𝓣 E G48 G49 b24 b91 Δ0 (Typed.give (s47 bs)) (at141 bs) (Borrow.t-arr-borrow 𝓤 H A W E 𝓣 (Referent.rtF (Referent.fInt Syntax.w8)) G48 14 32 64 12 (Syntax.tyRef Syntax.erased Syntax.mut ty·1) (λ x. x) (Reads.as-is 𝓤 H A (Rows.arrF (Referent.rtF (Referent.fInt Syntax.w8)) 64 0)) (Reads.room-gone 𝓤 H A (Syntax.tyRef
               Syntax.erased Syntax.mut ty·1)) Path'.refl (λ b o. tt) (Dec'.lit< tt, Dec'.lit< tt)) (Typed.s-seq 𝓤 H A W 𝓣 E G49 G50 b25 b90 Δ0 (Typed.ask (s48 bs)) (at140 bs) (Relend.t-sl-aggregate 𝓤 H A W E (Referent.rtF (Referent.fInt Syntax.w8)) 𝓣 (Relend.asMut (Referent.rtF (Referent.fInt Syntax.w8))) G49 32 33 12 (Syntax.tyRef Syntax.erased Syntax.mut ty·1)
-              ty·7 (λ x. x) (Scalar.oInt Syntax.w64 32) (Reads.as-is 𝓤 H A (Relend.msptr (Referent.rtF (Referent.fInt Syntax.w8)) (Syntax.tyRef Syntax.erased Syntax.mut ty·1) 12)) (Reads.room-gone 𝓤 H A (Syntax.tyStruct (List._∷_ 38 (List._∷_ 91 (List._∷_ 93 List.[]))) (Syntax.tcons ty·7 (Syntax.tcons (Syntax.tyInt Syntax.w64) Syntax.tnil)))) tt Path'.refl
+              ty·7 (λ x. x) (Scalar.oInt Syntax.w64 64) (Reads.as-is 𝓤 H A (Relend.msptr (Referent.rtF (Referent.fInt Syntax.w8)) (Syntax.tyRef Syntax.erased Syntax.mut ty·1) 12)) (Reads.room-gone 𝓤 H A (Syntax.tyStruct (List._∷_ 38 (List._∷_ 91 (List._∷_ 93 List.[]))) (Syntax.tcons ty·7 (Syntax.tcons (Syntax.tyInt Syntax.w64) Syntax.tnil)))) tt Path'.refl
               Path'.refl λ b o k. tt) d140)
 
           d144 : Typed.Typed 𝓤 H A 𝓣 E G46 b93 Δ0 (at144 bs)
-          d144 = Typed.s-seq 𝓤 H A W 𝓣 E G46 G47 b23 b92 Δ0 (Typed.ask (s45 bs)) (at143 bs) (Relend.t-sl-aggregate 𝓤 H A W E (Referent.rtF (Referent.fInt Syntax.w16)) 𝓣 (Relend.asMut (Referent.rtF (Referent.fInt Syntax.w16))) G46 30 31 11 (Syntax.tyRef Syntax.erased Syntax.mut ty·3) ty·9 (λ x. x) (Scalar.oInt Syntax.w64 32) (Reads.as-is 𝓤 H A (Relend.msptr
-              (Referent.rtF (Referent.fInt Syntax.w16)) (Syntax.tyRef Syntax.erased Syntax.mut ty·3) 11)) (Reads.room-gone 𝓤 H A (Syntax.tyStruct (List._∷_ 38 (List._∷_ 91 (List._∷_ 93 List.[]))) (Syntax.tcons ty·9 (Syntax.tcons (Syntax.tyInt Syntax.w64) Syntax.tnil)))) tt Path'.refl Path'.refl λ b o k. tt) (Typed.g-pre 𝓤 H A W 𝓣 E G47 G48 b92 Δ0 (λ Ψ. Ψ) (at142
+          d144 = Typed.s-seq 𝓤 H A W 𝓣 E G46 G47 b23 b92 Δ0 (Typed.ask (s45 bs)) (at143 bs) (Relend.t-sl-aggregate 𝓤 H A W E (Referent.rtF (Referent.fInt Syntax.w16)) 𝓣 (Relend.asMut (Referent.rtF (Referent.fInt Syntax.w16))) G46 30 31 11 (Syntax.tyRef Syntax.erased Syntax.mut ty·2) ty·9 (λ x. x) (Scalar.oInt Syntax.w64 64) (Reads.as-is 𝓤 H A (Relend.msptr
+              (Referent.rtF (Referent.fInt Syntax.w16)) (Syntax.tyRef Syntax.erased Syntax.mut ty·2) 11)) (Reads.room-gone 𝓤 H A (Syntax.tyStruct (List._∷_ 38 (List._∷_ 91 (List._∷_ 93 List.[]))) (Syntax.tcons ty·9 (Syntax.tcons (Syntax.tyInt Syntax.w64) Syntax.tnil)))) tt Path'.refl Path'.refl λ b o k. tt) (Typed.g-pre 𝓤 H A W 𝓣 E G47 G48 b92 Δ0 (λ Ψ. Ψ) (at142
               bs) (Lifetime.g-begin 𝓤 H A W E G47 12
               (tt, (tt, (tt, (tt, (tt, (tt, (tt, (tt, (tt, (tt, (tt, (tt, (tt, (tt, (tt, (tt, (tt, (tt, (tt, (tt, (tt, (tt, (tt, (tt, (tt, (tt, (tt, (tt, (tt, (tt, (tt, (tt, (tt, (tt, (tt, (tt, (tt, (tt, (tt, (tt, (tt, (tt, (tt, (tt, (tt, (tt, (tt, (tt, (tt, (tt, (tt, (tt, (tt, (tt, (tt, (tt, (tt, (tt, (tt, (tt, (tt, tt))))))))))))))))))))))))))))))))))))))))))))))))))))))))))))))
               d142)
 
           d147 : Typed.Typed 𝓤 H A 𝓣 E G43 b95 Δ0 (at147 bs)
-          d147 = Typed.s-seq 𝓤 H A W 𝓣 E G43 G44 b21 b94 Δ0 (Typed.ask (s42 bs)) (at146 bs) (Relend.t-sl-aggregate 𝓤 H A W E (Referent.rtF (Referent.fInt Syntax.w32)) 𝓣 (Relend.asMut (Referent.rtF (Referent.fInt Syntax.w32))) G43 28 29 10 (Syntax.tyRef Syntax.erased Syntax.mut ty·5) ty·10 (λ x. x) (Scalar.oBig Syntax.w64 1024) (Reads.as-is 𝓤 H A
+          d147 = Typed.s-seq 𝓤 H A W 𝓣 E G43 G44 b21 b94 Δ0 (Typed.ask (s42 bs)) (at146 bs) (Relend.t-sl-aggregate 𝓤 H A W E (Referent.rtF (Referent.fInt Syntax.w32)) 𝓣 (Relend.asMut (Referent.rtF (Referent.fInt Syntax.w32))) G43 28 29 10 (Syntax.tyRef Syntax.erased Syntax.mut ty·5) ty·10 (λ x. x) (Scalar.oBig Syntax.w64 2048) (Reads.as-is 𝓤 H A
               (Relend.msptr (Referent.rtF (Referent.fInt Syntax.w32)) (Syntax.tyRef Syntax.erased Syntax.mut ty·5) 10)) (Reads.room-gone 𝓤 H A (Syntax.tyStruct (List._∷_ 38 (List._∷_ 91 (List._∷_ 93 List.[]))) (Syntax.tcons ty·10 (Syntax.tcons (Syntax.tyInt Syntax.w64) Syntax.tnil)))) record { lower = record { fits = Dec'.lit< tt } } Path'.refl Path'.refl λ b o
               k. tt) (Typed.g-pre 𝓤 H A W 𝓣 E G44 G45 b94 Δ0 (λ Ψ. Ψ) (at145 bs) (Lifetime.g-begin 𝓤 H A W E G44 11
               (tt, (tt, (tt, (tt, (tt, (tt, (tt, (tt, (tt, (tt, (tt, (tt, (tt, (tt, (tt, (tt, (tt, (tt, (tt, (tt, (tt, (tt, (tt, (tt, (tt, (tt, (tt, (tt, (tt, (tt, (tt, (tt, (tt, (tt, (tt, (tt, (tt, (tt, (tt, (tt, (tt, (tt, (tt, (tt, (tt, (tt, (tt, (tt, (tt, (tt, (tt, (tt, (tt, (tt, (tt, (tt, (tt, (tt, (tt, (tt, (tt, tt))))))))))))))))))))))))))))))))))))))))))))))))))))))))))))))
-              (Typed.s-seq 𝓤 H A W 𝓣 E G45 G46 b22 b93 Δ0 (Typed.give (s44 bs)) (at144 bs) (Borrow.t-arr-borrow 𝓤 H A W E 𝓣 (Referent.rtF (Referent.fInt Syntax.w16)) G45 13 30 32 11 (Syntax.tyRef Syntax.erased Syntax.mut ty·3) (λ x. x) (Reads.as-is 𝓤 H A (Rows.arrF (Referent.rtF (Referent.fInt Syntax.w16)) 32 0)) (Reads.room-gone 𝓤 H A (Syntax.tyRef
-              Syntax.erased Syntax.mut ty·3)) Path'.refl (λ b o. tt) (Dec'.lit< tt, Dec'.lit< tt)) d144))
+              (Typed.s-seq 𝓤 H A W 𝓣 E G45 G46 b22 b93 Δ0 (Typed.give (s44 bs)) (at144 bs) (Borrow.t-arr-borrow 𝓤 H A W E 𝓣 (Referent.rtF (Referent.fInt Syntax.w16)) G45 13 30 64 11 (Syntax.tyRef Syntax.erased Syntax.mut ty·2) (λ x. x) (Reads.as-is 𝓤 H A (Rows.arrF (Referent.rtF (Referent.fInt Syntax.w16)) 64 0)) (Reads.room-gone 𝓤 H A (Syntax.tyRef
+              Syntax.erased Syntax.mut ty·2)) Path'.refl (λ b o. tt) (Dec'.lit< tt, Dec'.lit< tt)) d144))
 
           d150 : Typed.Typed 𝓤 H A 𝓣 E G40 b97 Δ0 (at150 bs)
-          d150 = Typed.s-seq 𝓤 H A W 𝓣 E G40 G41 b19 b96 Δ0 (Typed.ask (s39 bs)) (at149 bs) (Relend.t-sl-aggregate 𝓤 H A W E (Referent.rtF (Referent.fInt Syntax.w16)) 𝓣 (Relend.asMut (Referent.rtF (Referent.fInt Syntax.w16))) G40 26 27 9 (Syntax.tyRef Syntax.erased Syntax.mut ty·4) ty·9 (λ x. x) (Scalar.oBig Syntax.w64 1024) (Reads.as-is 𝓤 H A (Relend.msptr
+          d150 = Typed.s-seq 𝓤 H A W 𝓣 E G40 G41 b19 b96 Δ0 (Typed.ask (s39 bs)) (at149 bs) (Relend.t-sl-aggregate 𝓤 H A W E (Referent.rtF (Referent.fInt Syntax.w16)) 𝓣 (Relend.asMut (Referent.rtF (Referent.fInt Syntax.w16))) G40 26 27 9 (Syntax.tyRef Syntax.erased Syntax.mut ty·4) ty·9 (λ x. x) (Scalar.oBig Syntax.w64 2048) (Reads.as-is 𝓤 H A (Relend.msptr
               (Referent.rtF (Referent.fInt Syntax.w16)) (Syntax.tyRef Syntax.erased Syntax.mut ty·4) 9)) (Reads.room-gone 𝓤 H A (Syntax.tyStruct (List._∷_ 38 (List._∷_ 91 (List._∷_ 93 List.[]))) (Syntax.tcons ty·9 (Syntax.tcons (Syntax.tyInt Syntax.w64) Syntax.tnil)))) record { lower = record { fits = Dec'.lit< tt } } Path'.refl Path'.refl λ b o k. tt)
               (Typed.g-pre 𝓤 H A W 𝓣 E G41 G42 b96 Δ0 (λ Ψ. Ψ) (at148 bs) (Lifetime.g-begin 𝓤 H A W E G41 10
               (tt, (tt, (tt, (tt, (tt, (tt, (tt, (tt, (tt, (tt, (tt, (tt, (tt, (tt, (tt, (tt, (tt, (tt, (tt, (tt, (tt, (tt, (tt, (tt, (tt, (tt, (tt, (tt, (tt, (tt, (tt, (tt, (tt, (tt, (tt, (tt, (tt, (tt, (tt, (tt, (tt, (tt, (tt, (tt, (tt, (tt, (tt, (tt, (tt, (tt, (tt, (tt, (tt, (tt, (tt, (tt, (tt, (tt, (tt, (tt, (tt, tt))))))))))))))))))))))))))))))))))))))))))))))))))))))))))))))
-              (Typed.s-seq 𝓤 H A W 𝓣 E G42 G43 b20 b95 Δ0 (Typed.give (s41 bs)) (at147 bs) (Borrow.t-arr-borrow 𝓤 H A W E 𝓣 (Referent.rtF (Referent.fInt Syntax.w32)) G42 12 28 1024 10 (Syntax.tyRef Syntax.erased Syntax.mut ty·5) (λ x. x) (Reads.as-is 𝓤 H A (Rows.arrF (Referent.rtF (Referent.fInt Syntax.w32)) 1024 0)) (Reads.room-gone 𝓤 H A (Syntax.tyRef
+              (Typed.s-seq 𝓤 H A W 𝓣 E G42 G43 b20 b95 Δ0 (Typed.give (s41 bs)) (at147 bs) (Borrow.t-arr-borrow 𝓤 H A W E 𝓣 (Referent.rtF (Referent.fInt Syntax.w32)) G42 12 28 2048 10 (Syntax.tyRef Syntax.erased Syntax.mut ty·5) (λ x. x) (Reads.as-is 𝓤 H A (Rows.arrF (Referent.rtF (Referent.fInt Syntax.w32)) 2048 0)) (Reads.room-gone 𝓤 H A (Syntax.tyRef
               Syntax.erased Syntax.mut ty·5)) Path'.refl (λ b o. tt) (Dec'.lit< tt, Dec'.lit< tt)) d147))
 
           d153 : Typed.Typed 𝓤 H A 𝓣 E G37 b99 Δ0 (at153 bs)
-          d153 = Typed.s-seq 𝓤 H A W 𝓣 E G37 G38 b17 b98 Δ0 (Typed.ask (s36 bs)) (at152 bs) (Relend.t-sl-aggregate 𝓤 H A W E (Referent.rtF (Referent.fInt Syntax.w16)) 𝓣 (Relend.asMut (Referent.rtF (Referent.fInt Syntax.w16))) G37 24 25 8 (Syntax.tyRef Syntax.erased Syntax.mut ty·3) ty·9 (λ x. x) (Scalar.oInt Syntax.w64 32) (Reads.as-is 𝓤 H A (Relend.msptr
-              (Referent.rtF (Referent.fInt Syntax.w16)) (Syntax.tyRef Syntax.erased Syntax.mut ty·3) 8)) (Reads.room-gone 𝓤 H A (Syntax.tyStruct (List._∷_ 38 (List._∷_ 91 (List._∷_ 93 List.[]))) (Syntax.tcons ty·9 (Syntax.tcons (Syntax.tyInt Syntax.w64) Syntax.tnil)))) tt Path'.refl Path'.refl λ b o k. tt) (Typed.g-pre 𝓤 H A W 𝓣 E G38 G39 b98 Δ0 (λ Ψ. Ψ) (at151
+          d153 = Typed.s-seq 𝓤 H A W 𝓣 E G37 G38 b17 b98 Δ0 (Typed.ask (s36 bs)) (at152 bs) (Relend.t-sl-aggregate 𝓤 H A W E (Referent.rtF (Referent.fInt Syntax.w16)) 𝓣 (Relend.asMut (Referent.rtF (Referent.fInt Syntax.w16))) G37 24 25 8 (Syntax.tyRef Syntax.erased Syntax.mut ty·2) ty·9 (λ x. x) (Scalar.oInt Syntax.w64 64) (Reads.as-is 𝓤 H A (Relend.msptr
+              (Referent.rtF (Referent.fInt Syntax.w16)) (Syntax.tyRef Syntax.erased Syntax.mut ty·2) 8)) (Reads.room-gone 𝓤 H A (Syntax.tyStruct (List._∷_ 38 (List._∷_ 91 (List._∷_ 93 List.[]))) (Syntax.tcons ty·9 (Syntax.tcons (Syntax.tyInt Syntax.w64) Syntax.tnil)))) tt Path'.refl Path'.refl λ b o k. tt) (Typed.g-pre 𝓤 H A W 𝓣 E G38 G39 b98 Δ0 (λ Ψ. Ψ) (at151
               bs) (Lifetime.g-begin 𝓤 H A W E G38 9
               (tt, (tt, (tt, (tt, (tt, (tt, (tt, (tt, (tt, (tt, (tt, (tt, (tt, (tt, (tt, (tt, (tt, (tt, (tt, (tt, (tt, (tt, (tt, (tt, (tt, (tt, (tt, (tt, (tt, (tt, (tt, (tt, (tt, (tt, (tt, (tt, (tt, (tt, (tt, (tt, (tt, (tt, (tt, (tt, (tt, (tt, (tt, (tt, (tt, (tt, (tt, (tt, (tt, (tt, (tt, (tt, (tt, (tt, (tt, (tt, (tt, tt))))))))))))))))))))))))))))))))))))))))))))))))))))))))))))))
-              (Typed.s-seq 𝓤 H A W 𝓣 E G39 G40 b18 b97 Δ0 (Typed.give (s38 bs)) (at150 bs) (Borrow.t-arr-borrow 𝓤 H A W E 𝓣 (Referent.rtF (Referent.fInt Syntax.w16)) G39 11 26 1024 9 (Syntax.tyRef Syntax.erased Syntax.mut ty·4) (λ x. x) (Reads.as-is 𝓤 H A (Rows.arrF (Referent.rtF (Referent.fInt Syntax.w16)) 1024 0)) (Reads.room-gone 𝓤 H A (Syntax.tyRef
+              (Typed.s-seq 𝓤 H A W 𝓣 E G39 G40 b18 b97 Δ0 (Typed.give (s38 bs)) (at150 bs) (Borrow.t-arr-borrow 𝓤 H A W E 𝓣 (Referent.rtF (Referent.fInt Syntax.w16)) G39 11 26 2048 9 (Syntax.tyRef Syntax.erased Syntax.mut ty·4) (λ x. x) (Reads.as-is 𝓤 H A (Rows.arrF (Referent.rtF (Referent.fInt Syntax.w16)) 2048 0)) (Reads.room-gone 𝓤 H A (Syntax.tyRef
               Syntax.erased Syntax.mut ty·4)) Path'.refl (λ b o. tt) (Dec'.lit< tt, Dec'.lit< tt)) d150))
 
           d156 : Typed.Typed 𝓤 H A 𝓣 E G34 b101 Δ0 (at156 bs)
-          d156 = Typed.s-seq 𝓤 H A W 𝓣 E G34 G35 b15 b100 Δ0 (Typed.ask (s33 bs)) (at155 bs) (Relend.t-sl-aggregate 𝓤 H A W E (Referent.rtF (Referent.fInt Syntax.w8)) 𝓣 (Relend.asMut (Referent.rtF (Referent.fInt Syntax.w8))) G34 22 23 7 (Syntax.tyRef Syntax.erased Syntax.mut ty·2) ty·7 (λ x. x) (Scalar.oInt Syntax.w64 768) (Reads.as-is 𝓤 H A (Relend.msptr
-              (Referent.rtF (Referent.fInt Syntax.w8)) (Syntax.tyRef Syntax.erased Syntax.mut ty·2) 7)) (Reads.room-gone 𝓤 H A (Syntax.tyStruct (List._∷_ 38 (List._∷_ 91 (List._∷_ 93 List.[]))) (Syntax.tcons ty·7 (Syntax.tcons (Syntax.tyInt Syntax.w64) Syntax.tnil)))) tt Path'.refl Path'.refl λ b o k. tt) (Typed.g-pre 𝓤 H A W 𝓣 E G35 G36 b100 Δ0 (λ Ψ. Ψ) (at154
-              bs) (Lifetime.g-begin 𝓤 H A W E G35 8
+          d156 = Typed.s-seq 𝓤 H A W 𝓣 E G34 G35 b15 b100 Δ0 (Typed.ask (s33 bs)) (at155 bs) (Relend.t-sl-aggregate 𝓤 H A W E (Referent.rtF (Referent.fInt Syntax.w8)) 𝓣 (Relend.asMut (Referent.rtF (Referent.fInt Syntax.w8))) G34 22 23 7 (Syntax.tyRef Syntax.erased Syntax.mut ty·3) ty·7 (λ x. x) (Scalar.oBig Syntax.w64 1536) (Reads.as-is 𝓤 H A (Relend.msptr
+              (Referent.rtF (Referent.fInt Syntax.w8)) (Syntax.tyRef Syntax.erased Syntax.mut ty·3) 7)) (Reads.room-gone 𝓤 H A (Syntax.tyStruct (List._∷_ 38 (List._∷_ 91 (List._∷_ 93 List.[]))) (Syntax.tcons ty·7 (Syntax.tcons (Syntax.tyInt Syntax.w64) Syntax.tnil)))) record { lower = record { fits = Dec'.lit< tt } } Path'.refl Path'.refl λ b o k. tt)
+              (Typed.g-pre 𝓤 H A W 𝓣 E G35 G36 b100 Δ0 (λ Ψ. Ψ) (at154 bs) (Lifetime.g-begin 𝓤 H A W E G35 8
               (tt, (tt, (tt, (tt, (tt, (tt, (tt, (tt, (tt, (tt, (tt, (tt, (tt, (tt, (tt, (tt, (tt, (tt, (tt, (tt, (tt, (tt, (tt, (tt, (tt, (tt, (tt, (tt, (tt, (tt, (tt, (tt, (tt, (tt, (tt, (tt, (tt, (tt, (tt, (tt, (tt, (tt, (tt, (tt, (tt, (tt, (tt, (tt, (tt, (tt, (tt, (tt, (tt, (tt, (tt, (tt, (tt, (tt, (tt, (tt, (tt, tt))))))))))))))))))))))))))))))))))))))))))))))))))))))))))))))
-              (Typed.s-seq 𝓤 H A W 𝓣 E G36 G37 b16 b99 Δ0 (Typed.give (s35 bs)) (at153 bs) (Borrow.t-arr-borrow 𝓤 H A W E 𝓣 (Referent.rtF (Referent.fInt Syntax.w16)) G36 10 24 32 8 (Syntax.tyRef Syntax.erased Syntax.mut ty·3) (λ x. x) (Reads.as-is 𝓤 H A (Rows.arrF (Referent.rtF (Referent.fInt Syntax.w16)) 32 0)) (Reads.room-gone 𝓤 H A (Syntax.tyRef Syntax.erased
-              Syntax.mut ty·3)) Path'.refl (λ b o. tt) (Dec'.lit< tt, Dec'.lit< tt)) d153))
+              (Typed.s-seq 𝓤 H A W 𝓣 E G36 G37 b16 b99 Δ0 (Typed.give (s35 bs)) (at153 bs) (Borrow.t-arr-borrow 𝓤 H A W E 𝓣 (Referent.rtF (Referent.fInt Syntax.w16)) G36 10 24 64 8 (Syntax.tyRef Syntax.erased Syntax.mut ty·2) (λ x. x) (Reads.as-is 𝓤 H A (Rows.arrF (Referent.rtF (Referent.fInt Syntax.w16)) 64 0)) (Reads.room-gone 𝓤 H A (Syntax.tyRef Syntax.erased
+              Syntax.mut ty·2)) Path'.refl (λ b o. tt) (Dec'.lit< tt, Dec'.lit< tt)) d153))
 
           d159 : Typed.Typed 𝓤 H A 𝓣 E G31 b103 Δ0 (at159 bs)
           d159 = Typed.s-seq 𝓤 H A W 𝓣 E G31 G32 b13 b102 Δ0 (Typed.ask (s30 bs)) (at158 bs) (Relend.t-sl-aggregate 𝓤 H A W E (Referent.rtF (Referent.fInt Syntax.w16)) 𝓣 (Relend.asMut (Referent.rtF (Referent.fInt Syntax.w16))) G31 20 21 6 (Syntax.tyRef Syntax.erased Syntax.mut ty·0) ty·9 (λ x. x) (Scalar.oInt Syntax.w64 1) (Reads.as-is 𝓤 H A (Relend.msptr
               (Referent.rtF (Referent.fInt Syntax.w16)) (Syntax.tyRef Syntax.erased Syntax.mut ty·0) 6)) (Reads.room-gone 𝓤 H A (Syntax.tyStruct (List._∷_ 38 (List._∷_ 91 (List._∷_ 93 List.[]))) (Syntax.tcons ty·9 (Syntax.tcons (Syntax.tyInt Syntax.w64) Syntax.tnil)))) tt Path'.refl Path'.refl λ b o k. tt) (Typed.g-pre 𝓤 H A W 𝓣 E G32 G33 b102 Δ0 (λ Ψ. Ψ) (at157
               bs) (Lifetime.g-begin 𝓤 H A W E G32 7
               (tt, (tt, (tt, (tt, (tt, (tt, (tt, (tt, (tt, (tt, (tt, (tt, (tt, (tt, (tt, (tt, (tt, (tt, (tt, (tt, (tt, (tt, (tt, (tt, (tt, (tt, (tt, (tt, (tt, (tt, (tt, (tt, (tt, (tt, (tt, (tt, (tt, (tt, (tt, (tt, (tt, (tt, (tt, (tt, (tt, (tt, (tt, (tt, (tt, (tt, (tt, (tt, (tt, (tt, (tt, (tt, (tt, (tt, (tt, (tt, (tt, tt))))))))))))))))))))))))))))))))))))))))))))))))))))))))))))))
-              (Typed.s-seq 𝓤 H A W 𝓣 E G33 G34 b14 b101 Δ0 (Typed.give (s32 bs)) (at156 bs) (Borrow.t-arr-borrow 𝓤 H A W E 𝓣 (Referent.rtF (Referent.fInt Syntax.w8)) G33 9 22 768 7 (Syntax.tyRef Syntax.erased Syntax.mut ty·2) (λ x. x) (Reads.as-is 𝓤 H A (Rows.arrF (Referent.rtF (Referent.fInt Syntax.w8)) 768 0)) (Reads.room-gone 𝓤 H A (Syntax.tyRef Syntax.erased
-              Syntax.mut ty·2)) Path'.refl (λ b o. tt) (Dec'.lit< tt, Dec'.lit< tt)) d156))
+              (Typed.s-seq 𝓤 H A W 𝓣 E G33 G34 b14 b101 Δ0 (Typed.give (s32 bs)) (at156 bs) (Borrow.t-arr-borrow 𝓤 H A W E 𝓣 (Referent.rtF (Referent.fInt Syntax.w8)) G33 9 22 1536 7 (Syntax.tyRef Syntax.erased Syntax.mut ty·3) (λ x. x) (Reads.as-is 𝓤 H A (Rows.arrF (Referent.rtF (Referent.fInt Syntax.w8)) 1536 0)) (Reads.room-gone 𝓤 H A (Syntax.tyRef
+              Syntax.erased Syntax.mut ty·3)) Path'.refl (λ b o. tt) (Dec'.lit< tt, Dec'.lit< tt)) d156))
 
           d162 : Typed.Typed 𝓤 H A 𝓣 E G28 b105 Δ0 (at162 bs)
           d162 = Typed.s-seq 𝓤 H A W 𝓣 E G28 G29 b11 b104 Δ0 (Typed.ask (s27 bs)) (at161 bs) (Relend.t-sl-aggregate 𝓤 H A W E (Referent.rtF (Referent.fInt Syntax.w16)) 𝓣 (Relend.asMut (Referent.rtF (Referent.fInt Syntax.w16))) G28 18 19 5 (Syntax.tyRef Syntax.erased Syntax.mut ty·0) ty·9 (λ x. x) (Scalar.oInt Syntax.w64 1) (Reads.as-is 𝓤 H A (Relend.msptr
@@ -3779,41 +3779,41 @@ module _ (claims· : Claims) where
               Syntax.mut ty·0)) Path'.refl (λ b o. tt) (Dec'.lit< tt, Dec'.lit< tt)) d162))
 
           d167 : Typed.Typed 𝓤 H A 𝓣 E G23 b107 Δ0 (at167 bs)
-          d167 = Typed.s-seq 𝓤 H A W 𝓣 E G23 G24 b9 b106 Δ0 (Typed.pass T23 T24 (s22 bs)) (at166 bs) (Repeat.t-repeat-by 𝓤 H A W E 𝓣 Rec.rt (Rec.lawful 𝓤 H A W) (Rec.cp .copy 𝓤 H A W) 2048 G23 15 (Scalar.oAt 17 Rec.mir λ x. Steps.only (Rec.cp .vals x)) (λ m. m .1 .1 .1 .1 .1 .1 .1 .1 .1 .1 .1 .1 .1 .1 .1 .1 .1 .0) (λ ρ. Unit) (Reads.room-gone 𝓤 H A
-              (Syntax.tyArray Rec.mir 2048)) (Rec.reads 𝓤 H A W, Path'.refl) Path'.refl (Own.told-none 𝓤 H A (G23 .slots)) λ ρ m pf wa. Gives.elem-local 𝓤 H A W E ρ Rec.rt (λ x. Steps.only (Rec.cp .vals x)) (Rec.cp .tells) (Row.out 15 (G23 .locals)) m (λ ρ. Unit) pf 17 Rec.mir (λ x. x) (Yields.yields-copy 𝓤 H A W (λ ρ. Unit) Rec.rt Path'.refl (Rec.cp .copy 𝓤 H A
-              W) Rec.row (λ x. x) (λ x. x) (λ ρ told. Local.mem-whole 𝓤 H A W Rec.rt ρ) λ ρ told. Local.whole-mem 𝓤 H A W Rec.rt ρ)) (Typed.g-pre 𝓤 H A W 𝓣 E G24 G25 b106 Δ0 (Typed.pass T24 T25 (s23 bs)) (at165 bs) (AtSlots.g-as-by 𝓤 H A W E (λ ρ. Unit) G24 15 (Rows.arrF Rec.rt 2048 0) (λ x. x) (Own.told-none 𝓤 H A (G24 .slots)) λ ρ told. Repeat.whole-arr 𝓤 H A
-              W Rec.rt 2048 tt ρ) d165)
+          d167 = Typed.s-seq 𝓤 H A W 𝓣 E G23 G24 b9 b106 Δ0 (Typed.pass T23 T24 (s22 bs)) (at166 bs) (Repeat.t-repeat-by 𝓤 H A W E 𝓣 Rec.rt (Rec.lawful 𝓤 H A W) (Rec.cp .copy 𝓤 H A W) 4096 G23 15 (Scalar.oAt 17 Rec.mir λ x. Steps.only (Rec.cp .vals x)) (λ m. m .1 .1 .1 .1 .1 .1 .1 .1 .1 .1 .1 .1 .1 .1 .1 .1 .1 .0) (λ ρ. Unit) (Reads.room-gone 𝓤 H A
+              (Syntax.tyArray Rec.mir 4096)) (Rec.reads 𝓤 H A W, Path'.refl) Path'.refl (Own.told-none 𝓤 H A (G23 .slots)) λ ρ m pf wa. Gives.elem-local 𝓤 H A W E ρ Rec.rt (λ x. Steps.only (Rec.cp .vals x)) (Rec.cp .tells) (Row.out 15 (G23 .locals)) m (λ ρ. Unit) pf 17 Rec.mir (λ x. x) (Yields.yields-copy 𝓤 H A W (λ ρ. Unit) Rec.rt Path'.refl (Rec.cp .copy 𝓤 H A
+              W) Rec.row (λ x. x) (λ x. x) (λ ρ told. Local.mem-whole 𝓤 H A W Rec.rt ρ) λ ρ told. Local.whole-mem 𝓤 H A W Rec.rt ρ)) (Typed.g-pre 𝓤 H A W 𝓣 E G24 G25 b106 Δ0 (Typed.pass T24 T25 (s23 bs)) (at165 bs) (AtSlots.g-as-by 𝓤 H A W E (λ ρ. Unit) G24 15 (Rows.arrF Rec.rt 4096 0) (λ x. x) (Own.told-none 𝓤 H A (G24 .slots)) λ ρ told. Repeat.whole-arr 𝓤 H A
+              W Rec.rt 4096 tt ρ) d165)
 
           d170 : Typed.Typed 𝓤 H A 𝓣 E G20 b109 Δ0 (at170 bs)
-          d170 = Typed.s-seq 𝓤 H A W 𝓣 E G20 G21 b7 b108 Δ0 (Typed.pass T20 T21 (s19 bs)) (at169 bs) (Repeat.t-repeat 𝓤 H A W E 𝓣 (Referent.rtF (Referent.fInt Syntax.w8)) (Plain'.uint-lawful 𝓤 H A W Syntax.w8) (Copies.cRf (Referent.fInt Syntax.w8) .copy 𝓤 H A W) (Plain'.uint-makes 𝓤 H A W Syntax.w8) 32 G20 14 (Scalar.oInt Syntax.w8 0) (λ m. 0)
-              (Reads.room-gone 𝓤 H A ty·1) tt Path'.refl λ m wa. (Path'.refl, Dec'.lit< tt)) (Typed.g-pre 𝓤 H A W 𝓣 E G21 G22 b108 Δ0 (Typed.pass T21 T22 (s20 bs)) (at168 bs) (AtSlots.g-as-by 𝓤 H A W E (λ ρ. Unit) G21 14 (Rows.arrF (Referent.rtF (Referent.fInt Syntax.w8)) 32 0) (λ x. x) (Own.told-none 𝓤 H A (G21 .slots)) λ ρ told. Repeat.whole-arr 𝓤 H A W
-              (Referent.rtF (Referent.fInt Syntax.w8)) 32 tt ρ) (Typed.s-seq 𝓤 H A W 𝓣 E G22 G23 b8 b107 Δ0 (Typed.both (s21 bs)) (at167 bs) (Plain.t-call-plain 𝓤 H A W 𝓣 0 ps·0 r·0 (claims· .0) (claims· .1) "records::record::zero_record" (known .0) E (λ pos β. β) G22 tt 17 List.[] (Call.sub-id 𝓤 H A W (G22 .slots)) tt (Reads.room-gone 𝓤 H A Rec.mir) tt
+          d170 = Typed.s-seq 𝓤 H A W 𝓣 E G20 G21 b7 b108 Δ0 (Typed.pass T20 T21 (s19 bs)) (at169 bs) (Repeat.t-repeat 𝓤 H A W E 𝓣 (Referent.rtF (Referent.fInt Syntax.w8)) (Plain'.uint-lawful 𝓤 H A W Syntax.w8) (Copies.cRf (Referent.fInt Syntax.w8) .copy 𝓤 H A W) (Plain'.uint-makes 𝓤 H A W Syntax.w8) 64 G20 14 (Scalar.oInt Syntax.w8 0) (λ m. 0)
+              (Reads.room-gone 𝓤 H A ty·1) tt Path'.refl λ m wa. (Path'.refl, Dec'.lit< tt)) (Typed.g-pre 𝓤 H A W 𝓣 E G21 G22 b108 Δ0 (Typed.pass T21 T22 (s20 bs)) (at168 bs) (AtSlots.g-as-by 𝓤 H A W E (λ ρ. Unit) G21 14 (Rows.arrF (Referent.rtF (Referent.fInt Syntax.w8)) 64 0) (λ x. x) (Own.told-none 𝓤 H A (G21 .slots)) λ ρ told. Repeat.whole-arr 𝓤 H A W
+              (Referent.rtF (Referent.fInt Syntax.w8)) 64 tt ρ) (Typed.s-seq 𝓤 H A W 𝓣 E G22 G23 b8 b107 Δ0 (Typed.both (s21 bs)) (at167 bs) (Plain.t-call-plain 𝓤 H A W 𝓣 0 ps·0 r·0 (claims· .0) (claims· .1) "records::record::zero_record" (known .0) E (λ pos β. β) G22 tt 17 List.[] (Call.sub-id 𝓤 H A W (G22 .slots)) tt (Reads.room-gone 𝓤 H A Rec.mir) tt
               Path'.refl) d167))
 
           d173 : Typed.Typed 𝓤 H A 𝓣 E G17 b110 Δ0 (at173 bs)
-          d173 = Typed.g-pre 𝓤 H A W 𝓣 E G17 G18 b110 Δ0 (Typed.pass T17 T18 (s16 bs)) (at172 bs) (AtSlots.g-as-by 𝓤 H A W E (λ ρ. Unit) G17 12 (Rows.arrF (Referent.rtF (Referent.fInt Syntax.w32)) 1024 0) (λ x. x) (Own.told-none 𝓤 H A (G17 .slots)) λ ρ told. Repeat.whole-arr 𝓤 H A W (Referent.rtF (Referent.fInt Syntax.w32)) 1024 tt ρ) (Typed.s-seq 𝓤 H A W 𝓣
-              E G18 G19 b6 b109 Δ0 (Typed.pass T18 T19 (s17 bs)) (at171 bs) (Repeat.t-repeat 𝓤 H A W E 𝓣 (Referent.rtF (Referent.fInt Syntax.w16)) (Plain'.uint-lawful 𝓤 H A W Syntax.w16) (Copies.cRf (Referent.fInt Syntax.w16) .copy 𝓤 H A W) (Plain'.uint-makes 𝓤 H A W Syntax.w16) 32 G18 13 (Scalar.oInt Syntax.w16 0) (λ m. 0) (Reads.room-gone 𝓤 H A ty·3) tt
-              Path'.refl λ m wa. (Path'.refl, Dec'.lit< tt)) (Typed.g-pre 𝓤 H A W 𝓣 E G19 G20 b109 Δ0 (Typed.pass T19 T20 (s18 bs)) (at170 bs) (AtSlots.g-as-by 𝓤 H A W E (λ ρ. Unit) G19 13 (Rows.arrF (Referent.rtF (Referent.fInt Syntax.w16)) 32 0) (λ x. x) (Own.told-none 𝓤 H A (G19 .slots)) λ ρ told. Repeat.whole-arr 𝓤 H A W (Referent.rtF (Referent.fInt
-              Syntax.w16)) 32 tt ρ) d170))
+          d173 = Typed.g-pre 𝓤 H A W 𝓣 E G17 G18 b110 Δ0 (Typed.pass T17 T18 (s16 bs)) (at172 bs) (AtSlots.g-as-by 𝓤 H A W E (λ ρ. Unit) G17 12 (Rows.arrF (Referent.rtF (Referent.fInt Syntax.w32)) 2048 0) (λ x. x) (Own.told-none 𝓤 H A (G17 .slots)) λ ρ told. Repeat.whole-arr 𝓤 H A W (Referent.rtF (Referent.fInt Syntax.w32)) 2048 tt ρ) (Typed.s-seq 𝓤 H A W 𝓣
+              E G18 G19 b6 b109 Δ0 (Typed.pass T18 T19 (s17 bs)) (at171 bs) (Repeat.t-repeat 𝓤 H A W E 𝓣 (Referent.rtF (Referent.fInt Syntax.w16)) (Plain'.uint-lawful 𝓤 H A W Syntax.w16) (Copies.cRf (Referent.fInt Syntax.w16) .copy 𝓤 H A W) (Plain'.uint-makes 𝓤 H A W Syntax.w16) 64 G18 13 (Scalar.oInt Syntax.w16 0) (λ m. 0) (Reads.room-gone 𝓤 H A ty·2) tt
+              Path'.refl λ m wa. (Path'.refl, Dec'.lit< tt)) (Typed.g-pre 𝓤 H A W 𝓣 E G19 G20 b109 Δ0 (Typed.pass T19 T20 (s18 bs)) (at170 bs) (AtSlots.g-as-by 𝓤 H A W E (λ ρ. Unit) G19 13 (Rows.arrF (Referent.rtF (Referent.fInt Syntax.w16)) 64 0) (λ x. x) (Own.told-none 𝓤 H A (G19 .slots)) λ ρ told. Repeat.whole-arr 𝓤 H A W (Referent.rtF (Referent.fInt
+              Syntax.w16)) 64 tt ρ) d170))
 
           d176 : Typed.Typed 𝓤 H A 𝓣 E G14 b112 Δ0 (at176 bs)
-          d176 = Typed.s-seq 𝓤 H A W 𝓣 E G14 G15 b4 b111 Δ0 (Typed.pass T14 T15 (s13 bs)) (at175 bs) (Repeat.t-repeat 𝓤 H A W E 𝓣 (Referent.rtF (Referent.fInt Syntax.w16)) (Plain'.uint-lawful 𝓤 H A W Syntax.w16) (Copies.cRf (Referent.fInt Syntax.w16) .copy 𝓤 H A W) (Plain'.uint-makes 𝓤 H A W Syntax.w16) 1024 G14 11 (Scalar.oInt Syntax.w16 0) (λ m. 0)
-              (Reads.room-gone 𝓤 H A ty·4) tt Path'.refl λ m wa. (Path'.refl, Dec'.lit< tt)) (Typed.g-pre 𝓤 H A W 𝓣 E G15 G16 b111 Δ0 (Typed.pass T15 T16 (s14 bs)) (at174 bs) (AtSlots.g-as-by 𝓤 H A W E (λ ρ. Unit) G15 11 (Rows.arrF (Referent.rtF (Referent.fInt Syntax.w16)) 1024 0) (λ x. x) (Own.told-none 𝓤 H A (G15 .slots)) λ ρ told. Repeat.whole-arr 𝓤 H A W
-              (Referent.rtF (Referent.fInt Syntax.w16)) 1024 tt ρ) (Typed.s-seq 𝓤 H A W 𝓣 E G16 G17 b5 b110 Δ0 (Typed.pass T16 T17 (s15 bs)) (at173 bs) (Repeat.t-repeat 𝓤 H A W E 𝓣 (Referent.rtF (Referent.fInt Syntax.w32)) (Plain'.uint-lawful 𝓤 H A W Syntax.w32) (Copies.cRf (Referent.fInt Syntax.w32) .copy 𝓤 H A W) (Plain'.uint-makes 𝓤 H A W Syntax.w32) 1024 G16
+          d176 = Typed.s-seq 𝓤 H A W 𝓣 E G14 G15 b4 b111 Δ0 (Typed.pass T14 T15 (s13 bs)) (at175 bs) (Repeat.t-repeat 𝓤 H A W E 𝓣 (Referent.rtF (Referent.fInt Syntax.w16)) (Plain'.uint-lawful 𝓤 H A W Syntax.w16) (Copies.cRf (Referent.fInt Syntax.w16) .copy 𝓤 H A W) (Plain'.uint-makes 𝓤 H A W Syntax.w16) 2048 G14 11 (Scalar.oInt Syntax.w16 0) (λ m. 0)
+              (Reads.room-gone 𝓤 H A ty·4) tt Path'.refl λ m wa. (Path'.refl, Dec'.lit< tt)) (Typed.g-pre 𝓤 H A W 𝓣 E G15 G16 b111 Δ0 (Typed.pass T15 T16 (s14 bs)) (at174 bs) (AtSlots.g-as-by 𝓤 H A W E (λ ρ. Unit) G15 11 (Rows.arrF (Referent.rtF (Referent.fInt Syntax.w16)) 2048 0) (λ x. x) (Own.told-none 𝓤 H A (G15 .slots)) λ ρ told. Repeat.whole-arr 𝓤 H A W
+              (Referent.rtF (Referent.fInt Syntax.w16)) 2048 tt ρ) (Typed.s-seq 𝓤 H A W 𝓣 E G16 G17 b5 b110 Δ0 (Typed.pass T16 T17 (s15 bs)) (at173 bs) (Repeat.t-repeat 𝓤 H A W E 𝓣 (Referent.rtF (Referent.fInt Syntax.w32)) (Plain'.uint-lawful 𝓤 H A W Syntax.w32) (Copies.cRf (Referent.fInt Syntax.w32) .copy 𝓤 H A W) (Plain'.uint-makes 𝓤 H A W Syntax.w32) 2048 G16
               12 (Scalar.oInt Syntax.w32 0) (λ m. 0) (Reads.room-gone 𝓤 H A ty·5) tt Path'.refl λ m wa. (Path'.refl, Dec'.lit< tt)) d173))
 
           d179 : Typed.Typed 𝓤 H A 𝓣 E G11 b113 Δ0 (at179 bs)
-          d179 = Typed.g-pre 𝓤 H A W 𝓣 E G11 G12 b113 Δ0 (Typed.pass T11 T12 (s10 bs)) (at178 bs) (AtSlots.g-as-by 𝓤 H A W E (λ ρ. Unit) G11 9 (Rows.arrF (Referent.rtF (Referent.fInt Syntax.w8)) 768 0) (λ x. x) (Own.told-none 𝓤 H A (G11 .slots)) λ ρ told. Repeat.whole-arr 𝓤 H A W (Referent.rtF (Referent.fInt Syntax.w8)) 768 tt ρ) (Typed.s-seq 𝓤 H A W 𝓣 E G12
-              G13 b3 b112 Δ0 (Typed.pass T12 T13 (s11 bs)) (at177 bs) (Repeat.t-repeat 𝓤 H A W E 𝓣 (Referent.rtF (Referent.fInt Syntax.w16)) (Plain'.uint-lawful 𝓤 H A W Syntax.w16) (Copies.cRf (Referent.fInt Syntax.w16) .copy 𝓤 H A W) (Plain'.uint-makes 𝓤 H A W Syntax.w16) 32 G12 10 (Scalar.oInt Syntax.w16 0) (λ m. 0) (Reads.room-gone 𝓤 H A ty·3) tt Path'.refl λ
-              m wa. (Path'.refl, Dec'.lit< tt)) (Typed.g-pre 𝓤 H A W 𝓣 E G13 G14 b112 Δ0 (Typed.pass T13 T14 (s12 bs)) (at176 bs) (AtSlots.g-as-by 𝓤 H A W E (λ ρ. Unit) G13 10 (Rows.arrF (Referent.rtF (Referent.fInt Syntax.w16)) 32 0) (λ x. x) (Own.told-none 𝓤 H A (G13 .slots)) λ ρ told. Repeat.whole-arr 𝓤 H A W (Referent.rtF (Referent.fInt Syntax.w16)) 32 tt ρ)
-              d176))
+          d179 = Typed.g-pre 𝓤 H A W 𝓣 E G11 G12 b113 Δ0 (Typed.pass T11 T12 (s10 bs)) (at178 bs) (AtSlots.g-as-by 𝓤 H A W E (λ ρ. Unit) G11 9 (Rows.arrF (Referent.rtF (Referent.fInt Syntax.w8)) 1536 0) (λ x. x) (Own.told-none 𝓤 H A (G11 .slots)) λ ρ told. Repeat.whole-arr 𝓤 H A W (Referent.rtF (Referent.fInt Syntax.w8)) 1536 tt ρ) (Typed.s-seq 𝓤 H A W 𝓣 E
+              G12 G13 b3 b112 Δ0 (Typed.pass T12 T13 (s11 bs)) (at177 bs) (Repeat.t-repeat 𝓤 H A W E 𝓣 (Referent.rtF (Referent.fInt Syntax.w16)) (Plain'.uint-lawful 𝓤 H A W Syntax.w16) (Copies.cRf (Referent.fInt Syntax.w16) .copy 𝓤 H A W) (Plain'.uint-makes 𝓤 H A W Syntax.w16) 64 G12 10 (Scalar.oInt Syntax.w16 0) (λ m. 0) (Reads.room-gone 𝓤 H A ty·2) tt
+              Path'.refl λ m wa. (Path'.refl, Dec'.lit< tt)) (Typed.g-pre 𝓤 H A W 𝓣 E G13 G14 b112 Δ0 (Typed.pass T13 T14 (s12 bs)) (at176 bs) (AtSlots.g-as-by 𝓤 H A W E (λ ρ. Unit) G13 10 (Rows.arrF (Referent.rtF (Referent.fInt Syntax.w16)) 64 0) (λ x. x) (Own.told-none 𝓤 H A (G13 .slots)) λ ρ told. Repeat.whole-arr 𝓤 H A W (Referent.rtF (Referent.fInt
+              Syntax.w16)) 64 tt ρ) d176))
 
           d182 : Typed.Typed 𝓤 H A 𝓣 E G8 b115 Δ0 (at182 bs)
           d182 = Typed.s-seq 𝓤 H A W 𝓣 E G8 G9 b1 b114 Δ0 (Typed.pass T8 T9 (s7 bs)) (at181 bs) (Make.t-make-wt 𝓤 H A W E 𝓣 (Array'.Array (Referent.rtF (Referent.fInt Syntax.w16)) 1) Path'.refl (Gives.arrayValOf λ x. Steps.only (Copies.cRf (Referent.fInt Syntax.w16) .vals x)) (Array'.array-lawful 𝓤 H A W (Referent.rtF (Referent.fInt Syntax.w16))
               (Plain'.uint-lawful 𝓤 H A W Syntax.w16) 1) (Array'.array-makes 𝓤 H A W (Referent.rtF (Referent.fInt Syntax.w16)) (Plain'.uint-makes 𝓤 H A W Syntax.w16) 1) G8 8 (List._∷_ (Scalar.oInt Syntax.w16 0) List.[]) (λ m. List._∷_ 0 List.[]) (Reads.room-gone 𝓤 H A ty·0) (tt, tt) Path'.refl (λ m wa. Path'.refl) λ m wa.
               (List._∷_ (Row.valS (Row.sInt Syntax.w16) 0) List.[], ((Path'.refl, Path'.refl), ((Path'.refl, Dec'.lit< tt), tt)))) (Typed.g-pre 𝓤 H A W 𝓣 E G9 G10 b114 Δ0 (Typed.pass T9 T10 (s8 bs)) (at180 bs) (AtSlots.g-as-by 𝓤 H A W E (λ ρ. Unit) G9 8 (Rows.arrF (Referent.rtF (Referent.fInt Syntax.w16)) 1 0) (λ x. x) (Own.told-none 𝓤 H A (G9 .slots)) λ ρ told.
               Repeat.whole-arr 𝓤 H A W (Referent.rtF (Referent.fInt Syntax.w16)) 1 tt ρ) (Typed.s-seq 𝓤 H A W 𝓣 E G10 G11 b2 b113 Δ0 (Typed.pass T10 T11 (s9 bs)) (at179 bs) (Repeat.t-repeat 𝓤 H A W E 𝓣 (Referent.rtF (Referent.fInt Syntax.w8)) (Plain'.uint-lawful 𝓤 H A W Syntax.w8) (Copies.cRf (Referent.fInt Syntax.w8) .copy 𝓤 H A W) (Plain'.uint-makes 𝓤 H A W
-              Syntax.w8) 768 G10 9 (Scalar.oInt Syntax.w8 0) (λ m. 0) (Reads.room-gone 𝓤 H A ty·2) tt Path'.refl λ m wa. (Path'.refl, Dec'.lit< tt)) d179))
+              Syntax.w8) 1536 G10 9 (Scalar.oInt Syntax.w8 0) (λ m. 0) (Reads.room-gone 𝓤 H A ty·3) tt Path'.refl λ m wa. (Path'.refl, Dec'.lit< tt)) d179))
 
           d184 : Typed.Typed 𝓤 H A 𝓣 E G0 b116 Δ0 (at184 bs)
           d184 = Typed.s-seq 𝓤 H A W 𝓣 E G0 G7 b0 b115 Δ0 (Typed.pass T0 T7 (s5 bs)) (at183 bs) (Make.t-make-wt 𝓤 H A W E 𝓣 (Array'.Array (Referent.rtF (Referent.fInt Syntax.w16)) 1) Path'.refl (Gives.arrayValOf λ x. Steps.only (Copies.cRf (Referent.fInt Syntax.w16) .vals x)) (Array'.array-lawful 𝓤 H A W (Referent.rtF (Referent.fInt Syntax.w16))
@@ -3986,7 +3986,7 @@ module _ (claims· : Claims) where
         pub names : After-names·own before
 
       abbrev pub Need-slice-aggregate-read-plan-3 : Type 0
-      Need-slice-aggregate-read-plan-3 = (c : After-names) → Relend.CountIs T34 22 23 (λ x. x) (λ u. 768) (m30 (c .before) (c .names .given))
+      Need-slice-aggregate-read-plan-3 = (c : After-names) → Relend.CountIs T34 22 23 (λ x. x) (λ u. 1536) (m30 (c .before) (c .names .given))
 
       abbrev pub m31 : (before : After-dependency-count) → (given : s32 (before .before .before .before .before .before .before .before .before .blocks) .gives (m29 (before .before) (before .dependency-count .given))) → Typed.Mo T35
       m31 = λ before given. s33 (before .before .before .before .before .before .before .before .before .blocks) .next (m30 before given)
@@ -4003,7 +4003,7 @@ module _ (claims· : Claims) where
         pub stop-counts : After-stop-counts·own before
 
       abbrev pub Need-slice-aggregate-read-plan-4 : Type 0
-      Need-slice-aggregate-read-plan-4 = (c : After-stop-counts) → Relend.CountIs T37 24 25 (λ x. x) (λ u. 32) (m32 (c .before) (c .stop-counts .given))
+      Need-slice-aggregate-read-plan-4 = (c : After-stop-counts) → Relend.CountIs T37 24 25 (λ x. x) (λ u. 64) (m32 (c .before) (c .stop-counts .given))
 
       abbrev pub m33 : (before : After-names) → (given : s35 (before .before .before .before .before .before .before .before .before .before .blocks) .gives (m31 (before .before) (before .names .given))) → Typed.Mo T38
       m33 = λ before given. s36 (before .before .before .before .before .before .before .before .before .before .blocks) .next (m32 before given)
@@ -4020,7 +4020,7 @@ module _ (claims· : Claims) where
         pub locations : After-locations·own before
 
       abbrev pub Need-slice-aggregate-read-plan-5 : Type 0
-      Need-slice-aggregate-read-plan-5 = (c : After-locations) → Relend.CountIs T40 26 27 (λ x. x) (λ u. 1024) (m34 (c .before) (c .locations .given))
+      Need-slice-aggregate-read-plan-5 = (c : After-locations) → Relend.CountIs T40 26 27 (λ x. x) (λ u. 2048) (m34 (c .before) (c .locations .given))
 
       abbrev pub m35 : (before : After-stop-counts) → (given : s38 (before .before .before .before .before .before .before .before .before .before .before .blocks) .gives (m33 (before .before) (before .stop-counts .given))) → Typed.Mo T41
       m35 = λ before given. s39 (before .before .before .before .before .before .before .before .before .before .before .blocks) .next (m34 before given)
@@ -4037,7 +4037,7 @@ module _ (claims· : Claims) where
         pub times : After-times·own before
 
       abbrev pub Need-slice-aggregate-read-plan-6 : Type 0
-      Need-slice-aggregate-read-plan-6 = (c : After-times) → Relend.CountIs T43 28 29 (λ x. x) (λ u. 1024) (m36 (c .before) (c .times .given))
+      Need-slice-aggregate-read-plan-6 = (c : After-times) → Relend.CountIs T43 28 29 (λ x. x) (λ u. 2048) (m36 (c .before) (c .times .given))
 
       abbrev pub m37 : (before : After-locations) → (given : s41 (before .before .before .before .before .before .before .before .before .before .before .before .blocks) .gives (m35 (before .before) (before .locations .given))) → Typed.Mo T44
       m37 = λ before given. s42 (before .before .before .before .before .before .before .before .before .before .before .before .blocks) .next (m36 before given)
@@ -4054,7 +4054,7 @@ module _ (claims· : Claims) where
         pub visited : After-visited·own before
 
       abbrev pub Need-slice-aggregate-read-plan-7 : Type 0
-      Need-slice-aggregate-read-plan-7 = (c : After-visited) → Relend.CountIs T46 30 31 (λ x. x) (λ u. 32) (m38 (c .before) (c .visited .given))
+      Need-slice-aggregate-read-plan-7 = (c : After-visited) → Relend.CountIs T46 30 31 (λ x. x) (λ u. 64) (m38 (c .before) (c .visited .given))
 
       abbrev pub m39 : (before : After-times) → (given : s44 (before .before .before .before .before .before .before .before .before .before .before .before .before .blocks) .gives (m37 (before .before) (before .times .given))) → Typed.Mo T47
       m39 = λ before given. s45 (before .before .before .before .before .before .before .before .before .before .before .before .before .blocks) .next (m38 before given)
@@ -4071,7 +4071,7 @@ module _ (claims· : Claims) where
         pub drone-flags : After-drone-flags·own before
 
       abbrev pub Need-slice-aggregate-read-plan-8 : Type 0
-      Need-slice-aggregate-read-plan-8 = (c : After-drone-flags) → Relend.CountIs T49 32 33 (λ x. x) (λ u. 32) (m40 (c .before) (c .drone-flags .given))
+      Need-slice-aggregate-read-plan-8 = (c : After-drone-flags) → Relend.CountIs T49 32 33 (λ x. x) (λ u. 64) (m40 (c .before) (c .drone-flags .given))
 
       abbrev pub m41 : (before : After-visited) → (given : s47 (before .before .before .before .before .before .before .before .before .before .before .before .before .before .blocks) .gives (m39 (before .before) (before .visited .given))) → Typed.Mo T50
       m41 = λ before given. s48 (before .before .before .before .before .before .before .before .before .before .before .before .before .before .blocks) .next (m40 before given)
@@ -4088,7 +4088,7 @@ module _ (claims· : Claims) where
         pub dependencies : After-dependencies·own before
 
       abbrev pub Need-slice-aggregate-read-plan-9 : Type 0
-      Need-slice-aggregate-read-plan-9 = (c : After-dependencies) → Relend.CountIs T52 34 35 (λ x. x) (λ u. 2048) (m42 (c .before) (c .dependencies .given))
+      Need-slice-aggregate-read-plan-9 = (c : After-dependencies) → Relend.CountIs T52 34 35 (λ x. x) (λ u. 4096) (m42 (c .before) (c .dependencies .given))
 
       abbrev pub m43 : (before : After-drone-flags) → (given : s50 (before .before .before .before .before .before .before .before .before .before .before .before .before .before .before .blocks) .gives (m41 (before .before) (before .drone-flags .given))) → Typed.Mo T53
       m43 = λ before given. s51 (before .before .before .before .before .before .before .before .before .before .before .before .before .before .before .blocks) .next (m42 before given)
@@ -4340,7 +4340,7 @@ module _ (claims· : Claims) where
         pub names3 : After-names3·own before
 
       abbrev pub Need-slice-aggregate-make-requests-3 : Type 0
-      Need-slice-aggregate-make-requests-3 = (c : After-names3) → Relend.CountIs T107 43 44 (λ x. x) (λ u. 768) (m75 (c .before) (c .names3 .given))
+      Need-slice-aggregate-make-requests-3 = (c : After-names3) → Relend.CountIs T107 43 44 (λ x. x) (λ u. 1536) (m75 (c .before) (c .names3 .given))
 
       abbrev pub m76 : (before : After-dependency-count3) → (given : s104 (before .before .before .before .before .before .before .before .before .before .before .before .before .before .before .before .before .before .before .before .before .before .before .before .before .before .before .before .before .before .blocks) .gives (m74 (before .before) (before
           .dependency-count3 .given))) → Typed.Mo T108
@@ -4359,7 +4359,7 @@ module _ (claims· : Claims) where
         pub stop-counts3 : After-stop-counts3·own before
 
       abbrev pub Need-slice-aggregate-make-requests-4 : Type 0
-      Need-slice-aggregate-make-requests-4 = (c : After-stop-counts3) → Relend.CountIs T110 45 46 (λ x. x) (λ u. 32) (m77 (c .before) (c .stop-counts3 .given))
+      Need-slice-aggregate-make-requests-4 = (c : After-stop-counts3) → Relend.CountIs T110 45 46 (λ x. x) (λ u. 64) (m77 (c .before) (c .stop-counts3 .given))
 
       abbrev pub m78 : (before : After-names3) → (given : s107 (before .before .before .before .before .before .before .before .before .before .before .before .before .before .before .before .before .before .before .before .before .before .before .before .before .before .before .before .before .before .before .blocks) .gives (m76 (before .before) (before
           .names3 .given))) → Typed.Mo T111
@@ -4379,7 +4379,7 @@ module _ (claims· : Claims) where
         pub locations3 : After-locations3·own before
 
       abbrev pub Need-slice-aggregate-make-requests-5 : Type 0
-      Need-slice-aggregate-make-requests-5 = (c : After-locations3) → Relend.CountIs T113 47 48 (λ x. x) (λ u. 1024) (m79 (c .before) (c .locations3 .given))
+      Need-slice-aggregate-make-requests-5 = (c : After-locations3) → Relend.CountIs T113 47 48 (λ x. x) (λ u. 2048) (m79 (c .before) (c .locations3 .given))
 
       abbrev pub m80 : (before : After-stop-counts3) → (given : s110 (before .before .before .before .before .before .before .before .before .before .before .before .before .before .before .before .before .before .before .before .before .before .before .before .before .before .before .before .before .before .before .before .blocks) .gives (m78 (before
           .before) (before .stop-counts3 .given))) → Typed.Mo T114
@@ -4399,7 +4399,7 @@ module _ (claims· : Claims) where
         pub times3 : After-times3·own before
 
       abbrev pub Need-slice-aggregate-make-requests-6 : Type 0
-      Need-slice-aggregate-make-requests-6 = (c : After-times3) → Relend.CountIs T116 49 50 (λ x. x) (λ u. 1024) (m81 (c .before) (c .times3 .given))
+      Need-slice-aggregate-make-requests-6 = (c : After-times3) → Relend.CountIs T116 49 50 (λ x. x) (λ u. 2048) (m81 (c .before) (c .times3 .given))
 
       abbrev pub m82 : (before : After-locations3) → (given : s113 (before .before .before .before .before .before .before .before .before .before .before .before .before .before .before .before .before .before .before .before .before .before .before .before .before .before .before .before .before .before .before .before .before .blocks) .gives (m80 (before
           .before) (before .locations3 .given))) → Typed.Mo T117
@@ -4420,7 +4420,7 @@ module _ (claims· : Claims) where
         pub visited3 : After-visited3·own before
 
       abbrev pub Need-slice-aggregate-make-requests-7 : Type 0
-      Need-slice-aggregate-make-requests-7 = (c : After-visited3) → Relend.CountIs T119 51 52 (λ x. x) (λ u. 32) (m83 (c .before) (c .visited3 .given))
+      Need-slice-aggregate-make-requests-7 = (c : After-visited3) → Relend.CountIs T119 51 52 (λ x. x) (λ u. 64) (m83 (c .before) (c .visited3 .given))
 
       abbrev pub m84 : (before : After-times3) → (given : s116 (before .before .before .before .before .before .before .before .before .before .before .before .before .before .before .before .before .before .before .before .before .before .before .before .before .before .before .before .before .before .before .before .before .before .blocks) .gives (m82
           (before .before) (before .times3 .given))) → Typed.Mo T120
@@ -4441,7 +4441,7 @@ module _ (claims· : Claims) where
         pub drone-flags3 : After-drone-flags3·own before
 
       abbrev pub Need-slice-aggregate-make-requests-8 : Type 0
-      Need-slice-aggregate-make-requests-8 = (c : After-drone-flags3) → Relend.CountIs T122 53 54 (λ x. x) (λ u. 32) (m85 (c .before) (c .drone-flags3 .given))
+      Need-slice-aggregate-make-requests-8 = (c : After-drone-flags3) → Relend.CountIs T122 53 54 (λ x. x) (λ u. 64) (m85 (c .before) (c .drone-flags3 .given))
 
       abbrev pub m86 : (before : After-visited3) → (given : s119 (before .before .before .before .before .before .before .before .before .before .before .before .before .before .before .before .before .before .before .before .before .before .before .before .before .before .before .before .before .before .before .before .before .before .before .blocks) .gives
           (m84 (before .before) (before .visited3 .given))) → Typed.Mo T123
@@ -4462,7 +4462,7 @@ module _ (claims· : Claims) where
         pub dependencies3 : After-dependencies3·own before
 
       abbrev pub Need-slice-aggregate-make-requests-9 : Type 0
-      Need-slice-aggregate-make-requests-9 = (c : After-dependencies3) → Relend.CountIs T125 55 56 (λ x. x) (λ u. 2048) (m87 (c .before) (c .dependencies3 .given))
+      Need-slice-aggregate-make-requests-9 = (c : After-dependencies3) → Relend.CountIs T125 55 56 (λ x. x) (λ u. 4096) (m87 (c .before) (c .dependencies3 .given))
 
       abbrev pub m88 : (before : After-drone-flags3) → (given : s122 (before .before .before .before .before .before .before .before .before .before .before .before .before .before .before .before .before .before .before .before .before .before .before .before .before .before .before .before .before .before .before .before .before .before .before .before
           .blocks) .gives (m86 (before .before) (before .drone-flags3 .given))) → Typed.Mo T126
@@ -4733,7 +4733,7 @@ module _ (claims· : Claims) where
             .before .before .before .before .before .before .before .before .before .before .before .before .before .before .before .before .κs) (c .before .before .before .before .before .before .before .before .before .before .before .before .before .before .before .before .before .before .before .before .before .before .before .before .before .before .before
             .args) (c .before .before .before .before .before .before .before .before .before .before .before .before .before .before .before .before .before .before .before .before .before .before .before .before .before .before .before .blocks)) (m70 (c .before))
         lay6 = λ c. λ g.
-            (Relend.count-is T101 39 40 (λ x. x) (λ u. 1) (m71 record { before = c .before; if1 = c .if1 } g) (slice-aggregate-make-requests record { before = record { before = c .before; if1 = c .if1 }; drone-count3 = record { given = g } }), λ g'. (Relend.count-is T104 41 42 (λ x. x) (λ u. 1) (m73 record { before = record { before = c .before; if1 = c .if1 }; drone-count3 = record { given = g } } g') (slice-aggregate-make-requests-2 record { before = record { before = record { before = c .before; if1 = c .if1 }; drone-count3 = record { given = g } }; dependency-count3 = record { given = g' } }), λ g''. (Relend.count-is T107 43 44 (λ x. x) (λ u. 768) (m75 record { before = record { before = record { before = c .before; if1 = c .if1 }; drone-count3 = record { given = g } }; dependency-count3 = record { given = g' } } g'') (slice-aggregate-make-requests-3 record { before = record { before = record { before = record { before = c .before; if1 = c .if1 }; drone-count3 = record { given = g } }; dependency-count3 = record { given = g' } }; names3 = record { given = g'' } }), λ g'3. (Relend.count-is T110 45 46 (λ x. x) (λ u. 32) (m77 record { before = record { before = record { before = record { before = c .before; if1 = c .if1 }; drone-count3 = record { given = g } }; dependency-count3 = record { given = g' } }; names3 = record { given = g'' } } g'3) (slice-aggregate-make-requests-4 record { before = record { before = record { before = record { before = record { before = c .before; if1 = c .if1 }; drone-count3 = record { given = g } }; dependency-count3 = record { given = g' } }; names3 = record { given = g'' } }; stop-counts3 = record { given = g'3 } }), λ g'4. (Relend.count-is T113 47 48 (λ x. x) (λ u. 1024) (m79 record { before = record { before = record { before = record { before = record { before = c .before; if1 = c .if1 }; drone-count3 = record { given = g } }; dependency-count3 = record { given = g' } }; names3 = record { given = g'' } }; stop-counts3 = record { given = g'3 } } g'4) (slice-aggregate-make-requests-5 record { before = record { before = record { before = record { before = record { before = record { before = c .before; if1 = c .if1 }; drone-count3 = record { given = g } }; dependency-count3 = record { given = g' } }; names3 = record { given = g'' } }; stop-counts3 = record { given = g'3 } }; locations3 = record { given = g'4 } }), λ g'5. (Relend.count-is T116 49 50 (λ x. x) (λ u. 1024) (m81 record { before = record { before = record { before = record { before = record { before = record { before = c .before; if1 = c .if1 }; drone-count3 = record { given = g } }; dependency-count3 = record { given = g' } }; names3 = record { given = g'' } }; stop-counts3 = record { given = g'3 } }; locations3 = record { given = g'4 } } g'5) (slice-aggregate-make-requests-6 record { before = record { before = record { before = record { before = record { before = record { before = record { before = c .before; if1 = c .if1 }; drone-count3 = record { given = g } }; dependency-count3 = record { given = g' } }; names3 = record { given = g'' } }; stop-counts3 = record { given = g'3 } }; locations3 = record { given = g'4 } }; times3 = record { given = g'5 } }), λ g'6. (Relend.count-is T119 51 52 (λ x. x) (λ u. 32) (m83 record { before = record { before = record { before = record { before = record { before = record { before = record { before = c .before; if1 = c .if1 }; drone-count3 = record { given = g } }; dependency-count3 = record { given = g' } }; names3 = record { given = g'' } }; stop-counts3 = record { given = g'3 } }; locations3 = record { given = g'4 } }; times3 = record { given = g'5 } } g'6) (slice-aggregate-make-requests-7 record { before = record { before = record { before = record { before = record { before = record { before = record { before = record { before = c .before; if1 = c .if1 }; drone-count3 = record { given = g } }; dependency-count3 = record { given = g' } }; names3 = record { given = g'' } }; stop-counts3 = record { given = g'3 } }; locations3 = record { given = g'4 } }; times3 = record { given = g'5 } }; visited3 = record { given = g'6 } }), λ g'7. (Relend.count-is T122 53 54 (λ x. x) (λ u. 32) (m85 record { before = record { before = record { before = record { before = record { before = record { before = record { before = record { before = c .before; if1 = c .if1 }; drone-count3 = record { given = g } }; dependency-count3 = record { given = g' } }; names3 = record { given = g'' } }; stop-counts3 = record { given = g'3 } }; locations3 = record { given = g'4 } }; times3 = record { given = g'5 } }; visited3 = record { given = g'6 } } g'7) (slice-aggregate-make-requests-8 record { before = record { before = record { before = record { before = record { before = record { before = record { before = record { before = record { before = c .before; if1 = c .if1 }; drone-count3 = record { given = g } }; dependency-count3 = record { given = g' } }; names3 = record { given = g'' } }; stop-counts3 = record { given = g'3 } }; locations3 = record { given = g'4 } }; times3 = record { given = g'5 } }; visited3 = record { given = g'6 } }; drone-flags3 = record { given = g'7 } }), λ g'8. (Relend.count-is T125 55 56 (λ x. x) (λ u. 2048) (m87 record { before = record { before = record { before = record { before = record { before = record { before = record { before = record { before = record { before = c .before; if1 = c .if1 }; drone-count3 = record { given = g } }; dependency-count3 = record { given = g' } }; names3 = record { given = g'' } }; stop-counts3 = record { given = g'3 } }; locations3 = record { given = g'4 } }; times3 = record { given = g'5 } }; visited3 = record { given = g'6 } }; drone-flags3 = record { given = g'7 } } g'8) (slice-aggregate-make-requests-9 record { before = record { before = record { before = record { before = record { before = record { before = record { before = record { before = record { before = record { before = c .before; if1 = c .if1 }; drone-count3 = record { given = g } }; dependency-count3 = record { given = g' } }; names3 = record { given = g'' } }; stop-counts3 = record { given = g'3 } }; locations3 = record { given = g'4 } }; times3 = record { given = g'5 } }; visited3 = record { given = g'6 } }; drone-flags3 = record { given = g'7 } }; dependencies3 = record { given = g'8 } }), λ g'9. (Path'.refl, λ g'10. lay7 record { before = record { before = record { before = record { before = record { before = record { before = record { before = record { before = record { before = record { before = record { before = record { before = c .before; if1 = c .if1 }; drone-count3 = record { given = g } }; dependency-count3 = record { given = g' } }; names3 = record { given = g'' } }; stop-counts3 = record { given = g'3 } }; locations3 = record { given = g'4 } }; times3 = record { given = g'5 } }; visited3 = record { given = g'6 } }; drone-flags3 = record { given = g'7 } }; dependencies3 = record { given = g'8 } }; make-requests-arg = record { given = g'9 } }; make-requests-arg2 = record { given = g'10 } }))))))))))
+            (Relend.count-is T101 39 40 (λ x. x) (λ u. 1) (m71 record { before = c .before; if1 = c .if1 } g) (slice-aggregate-make-requests record { before = record { before = c .before; if1 = c .if1 }; drone-count3 = record { given = g } }), λ g'. (Relend.count-is T104 41 42 (λ x. x) (λ u. 1) (m73 record { before = record { before = c .before; if1 = c .if1 }; drone-count3 = record { given = g } } g') (slice-aggregate-make-requests-2 record { before = record { before = record { before = c .before; if1 = c .if1 }; drone-count3 = record { given = g } }; dependency-count3 = record { given = g' } }), λ g''. (Relend.count-is T107 43 44 (λ x. x) (λ u. 1536) (m75 record { before = record { before = record { before = c .before; if1 = c .if1 }; drone-count3 = record { given = g } }; dependency-count3 = record { given = g' } } g'') (slice-aggregate-make-requests-3 record { before = record { before = record { before = record { before = c .before; if1 = c .if1 }; drone-count3 = record { given = g } }; dependency-count3 = record { given = g' } }; names3 = record { given = g'' } }), λ g'3. (Relend.count-is T110 45 46 (λ x. x) (λ u. 64) (m77 record { before = record { before = record { before = record { before = c .before; if1 = c .if1 }; drone-count3 = record { given = g } }; dependency-count3 = record { given = g' } }; names3 = record { given = g'' } } g'3) (slice-aggregate-make-requests-4 record { before = record { before = record { before = record { before = record { before = c .before; if1 = c .if1 }; drone-count3 = record { given = g } }; dependency-count3 = record { given = g' } }; names3 = record { given = g'' } }; stop-counts3 = record { given = g'3 } }), λ g'4. (Relend.count-is T113 47 48 (λ x. x) (λ u. 2048) (m79 record { before = record { before = record { before = record { before = record { before = c .before; if1 = c .if1 }; drone-count3 = record { given = g } }; dependency-count3 = record { given = g' } }; names3 = record { given = g'' } }; stop-counts3 = record { given = g'3 } } g'4) (slice-aggregate-make-requests-5 record { before = record { before = record { before = record { before = record { before = record { before = c .before; if1 = c .if1 }; drone-count3 = record { given = g } }; dependency-count3 = record { given = g' } }; names3 = record { given = g'' } }; stop-counts3 = record { given = g'3 } }; locations3 = record { given = g'4 } }), λ g'5. (Relend.count-is T116 49 50 (λ x. x) (λ u. 2048) (m81 record { before = record { before = record { before = record { before = record { before = record { before = c .before; if1 = c .if1 }; drone-count3 = record { given = g } }; dependency-count3 = record { given = g' } }; names3 = record { given = g'' } }; stop-counts3 = record { given = g'3 } }; locations3 = record { given = g'4 } } g'5) (slice-aggregate-make-requests-6 record { before = record { before = record { before = record { before = record { before = record { before = record { before = c .before; if1 = c .if1 }; drone-count3 = record { given = g } }; dependency-count3 = record { given = g' } }; names3 = record { given = g'' } }; stop-counts3 = record { given = g'3 } }; locations3 = record { given = g'4 } }; times3 = record { given = g'5 } }), λ g'6. (Relend.count-is T119 51 52 (λ x. x) (λ u. 64) (m83 record { before = record { before = record { before = record { before = record { before = record { before = record { before = c .before; if1 = c .if1 }; drone-count3 = record { given = g } }; dependency-count3 = record { given = g' } }; names3 = record { given = g'' } }; stop-counts3 = record { given = g'3 } }; locations3 = record { given = g'4 } }; times3 = record { given = g'5 } } g'6) (slice-aggregate-make-requests-7 record { before = record { before = record { before = record { before = record { before = record { before = record { before = record { before = c .before; if1 = c .if1 }; drone-count3 = record { given = g } }; dependency-count3 = record { given = g' } }; names3 = record { given = g'' } }; stop-counts3 = record { given = g'3 } }; locations3 = record { given = g'4 } }; times3 = record { given = g'5 } }; visited3 = record { given = g'6 } }), λ g'7. (Relend.count-is T122 53 54 (λ x. x) (λ u. 64) (m85 record { before = record { before = record { before = record { before = record { before = record { before = record { before = record { before = c .before; if1 = c .if1 }; drone-count3 = record { given = g } }; dependency-count3 = record { given = g' } }; names3 = record { given = g'' } }; stop-counts3 = record { given = g'3 } }; locations3 = record { given = g'4 } }; times3 = record { given = g'5 } }; visited3 = record { given = g'6 } } g'7) (slice-aggregate-make-requests-8 record { before = record { before = record { before = record { before = record { before = record { before = record { before = record { before = record { before = c .before; if1 = c .if1 }; drone-count3 = record { given = g } }; dependency-count3 = record { given = g' } }; names3 = record { given = g'' } }; stop-counts3 = record { given = g'3 } }; locations3 = record { given = g'4 } }; times3 = record { given = g'5 } }; visited3 = record { given = g'6 } }; drone-flags3 = record { given = g'7 } }), λ g'8. (Relend.count-is T125 55 56 (λ x. x) (λ u. 4096) (m87 record { before = record { before = record { before = record { before = record { before = record { before = record { before = record { before = record { before = c .before; if1 = c .if1 }; drone-count3 = record { given = g } }; dependency-count3 = record { given = g' } }; names3 = record { given = g'' } }; stop-counts3 = record { given = g'3 } }; locations3 = record { given = g'4 } }; times3 = record { given = g'5 } }; visited3 = record { given = g'6 } }; drone-flags3 = record { given = g'7 } } g'8) (slice-aggregate-make-requests-9 record { before = record { before = record { before = record { before = record { before = record { before = record { before = record { before = record { before = record { before = c .before; if1 = c .if1 }; drone-count3 = record { given = g } }; dependency-count3 = record { given = g' } }; names3 = record { given = g'' } }; stop-counts3 = record { given = g'3 } }; locations3 = record { given = g'4 } }; times3 = record { given = g'5 } }; visited3 = record { given = g'6 } }; drone-flags3 = record { given = g'7 } }; dependencies3 = record { given = g'8 } }), λ g'9. (Path'.refl, λ g'10. lay7 record { before = record { before = record { before = record { before = record { before = record { before = record { before = record { before = record { before = record { before = record { before = record { before = c .before; if1 = c .if1 }; drone-count3 = record { given = g } }; dependency-count3 = record { given = g' } }; names3 = record { given = g'' } }; stop-counts3 = record { given = g'3 } }; locations3 = record { given = g'4 } }; times3 = record { given = g'5 } }; visited3 = record { given = g'6 } }; drone-flags3 = record { given = g'7 } }; dependencies3 = record { given = g'8 } }; make-requests-arg = record { given = g'9 } }; make-requests-arg2 = record { given = g'10 } }))))))))))
 
         lay5 : (c : Else1) → at15 (c .before .before .before .before .before .before .before .before .before .before .before .before .before .before .before .before .before .before .before .before .before .before .before .before .before .before .before .blocks) (W1 (c .before .before) (After-reading-number·gave (c .before))) (m56 (c .before .before)
             (After-reading-number·gave (c .before)))
@@ -4756,7 +4756,7 @@ module _ (claims· : Claims) where
 
         lay1 : (c : After-zero-record) → at167 (c .before .before .before .before .before .before .blocks) (W0 (c .before .before .before .before .before .before .κs) (c .before .before .before .before .before .before .args) (c .before .before .before .before .before .before .blocks)) (m22 (c .before) (After-zero-record·gave c))
         lay1 = λ c. λ g.
-            (Relend.count-is T28 18 19 (λ x. x) (λ u. 1) (m26 record { before = c .before; zero-record = c .zero-record } g) (slice-aggregate-read-plan record { before = record { before = c .before; zero-record = c .zero-record }; drone-count = record { given = g } }), λ g'. (Relend.count-is T31 20 21 (λ x. x) (λ u. 1) (m28 record { before = record { before = c .before; zero-record = c .zero-record }; drone-count = record { given = g } } g') (slice-aggregate-read-plan-2 record { before = record { before = record { before = c .before; zero-record = c .zero-record }; drone-count = record { given = g } }; dependency-count = record { given = g' } }), λ g''. (Relend.count-is T34 22 23 (λ x. x) (λ u. 768) (m30 record { before = record { before = record { before = c .before; zero-record = c .zero-record }; drone-count = record { given = g } }; dependency-count = record { given = g' } } g'') (slice-aggregate-read-plan-3 record { before = record { before = record { before = record { before = c .before; zero-record = c .zero-record }; drone-count = record { given = g } }; dependency-count = record { given = g' } }; names = record { given = g'' } }), λ g'3. (Relend.count-is T37 24 25 (λ x. x) (λ u. 32) (m32 record { before = record { before = record { before = record { before = c .before; zero-record = c .zero-record }; drone-count = record { given = g } }; dependency-count = record { given = g' } }; names = record { given = g'' } } g'3) (slice-aggregate-read-plan-4 record { before = record { before = record { before = record { before = record { before = c .before; zero-record = c .zero-record }; drone-count = record { given = g } }; dependency-count = record { given = g' } }; names = record { given = g'' } }; stop-counts = record { given = g'3 } }), λ g'4. (Relend.count-is T40 26 27 (λ x. x) (λ u. 1024) (m34 record { before = record { before = record { before = record { before = record { before = c .before; zero-record = c .zero-record }; drone-count = record { given = g } }; dependency-count = record { given = g' } }; names = record { given = g'' } }; stop-counts = record { given = g'3 } } g'4) (slice-aggregate-read-plan-5 record { before = record { before = record { before = record { before = record { before = record { before = c .before; zero-record = c .zero-record }; drone-count = record { given = g } }; dependency-count = record { given = g' } }; names = record { given = g'' } }; stop-counts = record { given = g'3 } }; locations = record { given = g'4 } }), λ g'5. (Relend.count-is T43 28 29 (λ x. x) (λ u. 1024) (m36 record { before = record { before = record { before = record { before = record { before = record { before = c .before; zero-record = c .zero-record }; drone-count = record { given = g } }; dependency-count = record { given = g' } }; names = record { given = g'' } }; stop-counts = record { given = g'3 } }; locations = record { given = g'4 } } g'5) (slice-aggregate-read-plan-6 record { before = record { before = record { before = record { before = record { before = record { before = record { before = c .before; zero-record = c .zero-record }; drone-count = record { given = g } }; dependency-count = record { given = g' } }; names = record { given = g'' } }; stop-counts = record { given = g'3 } }; locations = record { given = g'4 } }; times = record { given = g'5 } }), λ g'6. (Relend.count-is T46 30 31 (λ x. x) (λ u. 32) (m38 record { before = record { before = record { before = record { before = record { before = record { before = record { before = c .before; zero-record = c .zero-record }; drone-count = record { given = g } }; dependency-count = record { given = g' } }; names = record { given = g'' } }; stop-counts = record { given = g'3 } }; locations = record { given = g'4 } }; times = record { given = g'5 } } g'6) (slice-aggregate-read-plan-7 record { before = record { before = record { before = record { before = record { before = record { before = record { before = record { before = c .before; zero-record = c .zero-record }; drone-count = record { given = g } }; dependency-count = record { given = g' } }; names = record { given = g'' } }; stop-counts = record { given = g'3 } }; locations = record { given = g'4 } }; times = record { given = g'5 } }; visited = record { given = g'6 } }), λ g'7. (Relend.count-is T49 32 33 (λ x. x) (λ u. 32) (m40 record { before = record { before = record { before = record { before = record { before = record { before = record { before = record { before = c .before; zero-record = c .zero-record }; drone-count = record { given = g } }; dependency-count = record { given = g' } }; names = record { given = g'' } }; stop-counts = record { given = g'3 } }; locations = record { given = g'4 } }; times = record { given = g'5 } }; visited = record { given = g'6 } } g'7) (slice-aggregate-read-plan-8 record { before = record { before = record { before = record { before = record { before = record { before = record { before = record { before = record { before = c .before; zero-record = c .zero-record }; drone-count = record { given = g } }; dependency-count = record { given = g' } }; names = record { given = g'' } }; stop-counts = record { given = g'3 } }; locations = record { given = g'4 } }; times = record { given = g'5 } }; visited = record { given = g'6 } }; drone-flags = record { given = g'7 } }), λ g'8. (Relend.count-is T52 34 35 (λ x. x) (λ u. 2048) (m42 record { before = record { before = record { before = record { before = record { before = record { before = record { before = record { before = record { before = c .before; zero-record = c .zero-record }; drone-count = record { given = g } }; dependency-count = record { given = g' } }; names = record { given = g'' } }; stop-counts = record { given = g'3 } }; locations = record { given = g'4 } }; times = record { given = g'5 } }; visited = record { given = g'6 } }; drone-flags = record { given = g'7 } } g'8) (slice-aggregate-read-plan-9 record { before = record { before = record { before = record { before = record { before = record { before = record { before = record { before = record { before = record { before = c .before; zero-record = c .zero-record }; drone-count = record { given = g } }; dependency-count = record { given = g' } }; names = record { given = g'' } }; stop-counts = record { given = g'3 } }; locations = record { given = g'4 } }; times = record { given = g'5 } }; visited = record { given = g'6 } }; drone-flags = record { given = g'7 } }; dependencies = record { given = g'8 } }), (read-plan-requires record { before = record { before = record { before = record { before = record { before = record { before = record { before = record { before = record { before = record { before = c .before; zero-record = c .zero-record }; drone-count = record { given = g } }; dependency-count = record { given = g' } }; names = record { given = g'' } }; stop-counts = record { given = g'3 } }; locations = record { given = g'4 } }; times = record { given = g'5 } }; visited = record { given = g'6 } }; drone-flags = record { given = g'7 } }; dependencies = record { given = g'8 } }, λ g'9. lay2 record { before = record { before = record { before = record { before = record { before = record { before = record { before = record { before = record { before = record { before = record { before = c .before; zero-record = c .zero-record }; drone-count = record { given = g } }; dependency-count = record { given = g' } }; names = record { given = g'' } }; stop-counts = record { given = g'3 } }; locations = record { given = g'4 } }; times = record { given = g'5 } }; visited = record { given = g'6 } }; drone-flags = record { given = g'7 } }; dependencies = record { given = g'8 } }; read-plan = Called.called ps·1 r·1 (claims· .3) T53 args·0 (m43 record { before = record { before = record { before = record { before = record { before = record { before = record { before = record { before = record { before = c .before; zero-record = c .zero-record }; drone-count = record { given = g } }; dependency-count = record { given = g' } }; names = record { given = g'' } }; stop-counts = record { given = g'3 } }; locations = record { given = g'4 } }; times = record { given = g'5 } }; visited = record { given = g'6 } }; drone-flags = record { given = g'7 } } g'8) g'9 }))))))))))
+            (Relend.count-is T28 18 19 (λ x. x) (λ u. 1) (m26 record { before = c .before; zero-record = c .zero-record } g) (slice-aggregate-read-plan record { before = record { before = c .before; zero-record = c .zero-record }; drone-count = record { given = g } }), λ g'. (Relend.count-is T31 20 21 (λ x. x) (λ u. 1) (m28 record { before = record { before = c .before; zero-record = c .zero-record }; drone-count = record { given = g } } g') (slice-aggregate-read-plan-2 record { before = record { before = record { before = c .before; zero-record = c .zero-record }; drone-count = record { given = g } }; dependency-count = record { given = g' } }), λ g''. (Relend.count-is T34 22 23 (λ x. x) (λ u. 1536) (m30 record { before = record { before = record { before = c .before; zero-record = c .zero-record }; drone-count = record { given = g } }; dependency-count = record { given = g' } } g'') (slice-aggregate-read-plan-3 record { before = record { before = record { before = record { before = c .before; zero-record = c .zero-record }; drone-count = record { given = g } }; dependency-count = record { given = g' } }; names = record { given = g'' } }), λ g'3. (Relend.count-is T37 24 25 (λ x. x) (λ u. 64) (m32 record { before = record { before = record { before = record { before = c .before; zero-record = c .zero-record }; drone-count = record { given = g } }; dependency-count = record { given = g' } }; names = record { given = g'' } } g'3) (slice-aggregate-read-plan-4 record { before = record { before = record { before = record { before = record { before = c .before; zero-record = c .zero-record }; drone-count = record { given = g } }; dependency-count = record { given = g' } }; names = record { given = g'' } }; stop-counts = record { given = g'3 } }), λ g'4. (Relend.count-is T40 26 27 (λ x. x) (λ u. 2048) (m34 record { before = record { before = record { before = record { before = record { before = c .before; zero-record = c .zero-record }; drone-count = record { given = g } }; dependency-count = record { given = g' } }; names = record { given = g'' } }; stop-counts = record { given = g'3 } } g'4) (slice-aggregate-read-plan-5 record { before = record { before = record { before = record { before = record { before = record { before = c .before; zero-record = c .zero-record }; drone-count = record { given = g } }; dependency-count = record { given = g' } }; names = record { given = g'' } }; stop-counts = record { given = g'3 } }; locations = record { given = g'4 } }), λ g'5. (Relend.count-is T43 28 29 (λ x. x) (λ u. 2048) (m36 record { before = record { before = record { before = record { before = record { before = record { before = c .before; zero-record = c .zero-record }; drone-count = record { given = g } }; dependency-count = record { given = g' } }; names = record { given = g'' } }; stop-counts = record { given = g'3 } }; locations = record { given = g'4 } } g'5) (slice-aggregate-read-plan-6 record { before = record { before = record { before = record { before = record { before = record { before = record { before = c .before; zero-record = c .zero-record }; drone-count = record { given = g } }; dependency-count = record { given = g' } }; names = record { given = g'' } }; stop-counts = record { given = g'3 } }; locations = record { given = g'4 } }; times = record { given = g'5 } }), λ g'6. (Relend.count-is T46 30 31 (λ x. x) (λ u. 64) (m38 record { before = record { before = record { before = record { before = record { before = record { before = record { before = c .before; zero-record = c .zero-record }; drone-count = record { given = g } }; dependency-count = record { given = g' } }; names = record { given = g'' } }; stop-counts = record { given = g'3 } }; locations = record { given = g'4 } }; times = record { given = g'5 } } g'6) (slice-aggregate-read-plan-7 record { before = record { before = record { before = record { before = record { before = record { before = record { before = record { before = c .before; zero-record = c .zero-record }; drone-count = record { given = g } }; dependency-count = record { given = g' } }; names = record { given = g'' } }; stop-counts = record { given = g'3 } }; locations = record { given = g'4 } }; times = record { given = g'5 } }; visited = record { given = g'6 } }), λ g'7. (Relend.count-is T49 32 33 (λ x. x) (λ u. 64) (m40 record { before = record { before = record { before = record { before = record { before = record { before = record { before = record { before = c .before; zero-record = c .zero-record }; drone-count = record { given = g } }; dependency-count = record { given = g' } }; names = record { given = g'' } }; stop-counts = record { given = g'3 } }; locations = record { given = g'4 } }; times = record { given = g'5 } }; visited = record { given = g'6 } } g'7) (slice-aggregate-read-plan-8 record { before = record { before = record { before = record { before = record { before = record { before = record { before = record { before = record { before = c .before; zero-record = c .zero-record }; drone-count = record { given = g } }; dependency-count = record { given = g' } }; names = record { given = g'' } }; stop-counts = record { given = g'3 } }; locations = record { given = g'4 } }; times = record { given = g'5 } }; visited = record { given = g'6 } }; drone-flags = record { given = g'7 } }), λ g'8. (Relend.count-is T52 34 35 (λ x. x) (λ u. 4096) (m42 record { before = record { before = record { before = record { before = record { before = record { before = record { before = record { before = record { before = c .before; zero-record = c .zero-record }; drone-count = record { given = g } }; dependency-count = record { given = g' } }; names = record { given = g'' } }; stop-counts = record { given = g'3 } }; locations = record { given = g'4 } }; times = record { given = g'5 } }; visited = record { given = g'6 } }; drone-flags = record { given = g'7 } } g'8) (slice-aggregate-read-plan-9 record { before = record { before = record { before = record { before = record { before = record { before = record { before = record { before = record { before = record { before = c .before; zero-record = c .zero-record }; drone-count = record { given = g } }; dependency-count = record { given = g' } }; names = record { given = g'' } }; stop-counts = record { given = g'3 } }; locations = record { given = g'4 } }; times = record { given = g'5 } }; visited = record { given = g'6 } }; drone-flags = record { given = g'7 } }; dependencies = record { given = g'8 } }), (read-plan-requires record { before = record { before = record { before = record { before = record { before = record { before = record { before = record { before = record { before = record { before = c .before; zero-record = c .zero-record }; drone-count = record { given = g } }; dependency-count = record { given = g' } }; names = record { given = g'' } }; stop-counts = record { given = g'3 } }; locations = record { given = g'4 } }; times = record { given = g'5 } }; visited = record { given = g'6 } }; drone-flags = record { given = g'7 } }; dependencies = record { given = g'8 } }, λ g'9. lay2 record { before = record { before = record { before = record { before = record { before = record { before = record { before = record { before = record { before = record { before = record { before = c .before; zero-record = c .zero-record }; drone-count = record { given = g } }; dependency-count = record { given = g' } }; names = record { given = g'' } }; stop-counts = record { given = g'3 } }; locations = record { given = g'4 } }; times = record { given = g'5 } }; visited = record { given = g'6 } }; drone-flags = record { given = g'7 } }; dependencies = record { given = g'8 } }; read-plan = Called.called ps·1 r·1 (claims· .3) T53 args·0 (m43 record { before = record { before = record { before = record { before = record { before = record { before = record { before = record { before = record { before = c .before; zero-record = c .zero-record }; drone-count = record { given = g } }; dependency-count = record { given = g' } }; names = record { given = g'' } }; stop-counts = record { given = g'3 } }; locations = record { given = g'4 } }; times = record { given = g'5 } }; visited = record { given = g'6 } }; drone-flags = record { given = g'7 } } g'8) g'9 }))))))))))
 
         pub laid : (c : Start) → at189 (c .blocks) (W0 (c .κs) (c .args) (c .blocks)) (m0 (c .κs) (c .args) (c .blocks))
         laid = λ c. λ g. λ g'. λ g''. λ g'3. λ g'4.

@@ -1,5 +1,6 @@
 -- `dispatch::requests::make_request` meets its contract: the needs that the derivation of Derived.make_request leaves. Assumes nothing.
 mod Tie
+use native.Mathlib.Omega.{arith}
 use mathlib.Core.Path.{refl}
 use Rattle.tables.specs.Limits.{limits}
 use Rattle.dispatch.proofs.MakeLaws.{grant-fits, cost-fits, call-made, cost-made, kind-grant, kind-arrive, kind-turn, kind-cost}
@@ -13,7 +14,7 @@ grant-requires : tie.Need-grant-requires
 grant-requires c κs = search needs
 
 of-grant-requires : tie.Need-of-grant-requires
-of-grant-requires c κs = grant-fits _ _ _ _ (c .before .before .grant .ensures)
+of-grant-requires c κs = grant-fits limits (omega arith) _ _ _ _ (c .before .before .grant .ensures)
 
 same-length : tie.Need-same-length
 same-length c = search needs
@@ -67,7 +68,7 @@ cost-requires : tie.Need-cost-requires
 cost-requires c κs = search needs
 
 of-cost-requires : tie.Need-of-cost-requires
-of-cost-requires c κs = cost-fits _ _ (c .cost .ensures)
+of-cost-requires c κs = cost-fits limits (omega arith) (omega arith) _ _ (c .cost .ensures)
 
 same-length-10 : tie.Need-same-length-10
 same-length-10 c = search needs

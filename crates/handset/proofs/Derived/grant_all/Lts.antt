@@ -82,7 +82,7 @@ ty·9 = Syntax.tyRef (Syntax.named 6) Syntax.imm (Syntax.tyInt Syntax.w16)
 
 abbrev ty·10 : Syntax.Ty
 ty·10 = Syntax.tyEnum (List._∷_ 104 (List._∷_ 97 (List._∷_ 110 (List._∷_ 100 (List._∷_ 115 (List._∷_ 101 (List._∷_ 116 (List._∷_ 58 (List._∷_ 58 (List._∷_ 114 (List._∷_ 101 (List._∷_ 112 (List._∷_ 108 (List._∷_ 105 (List._∷_ 101 (List._∷_ 115 (List._∷_ 58 (List._∷_ 58 (List._∷_ 80 (List._∷_ 114 (List._∷_ 101 (List._∷_ 115 (List._∷_ 115 (List._∷_ 82 (List._∷_
-    101 (List._∷_ 112 (List._∷_ 108 (List._∷_ 121 List.[])))))))))))))))))))))))))))) (Syntax.ttcons (Syntax.tcons (Syntax.tyInt Syntax.w32) Syntax.tnil) (Syntax.ttcons Syntax.tnil (Syntax.ttcons Syntax.tnil (Syntax.ttcons Syntax.tnil (Syntax.ttcons Syntax.tnil Syntax.ttnil)))))
+    101 (List._∷_ 112 (List._∷_ 108 (List._∷_ 121 List.[])))))))))))))))))))))))))))) (Syntax.ttcons (Syntax.tcons (Syntax.tyInt Syntax.w64) Syntax.tnil) (Syntax.ttcons Syntax.tnil (Syntax.ttcons Syntax.tnil (Syntax.ttcons Syntax.tnil (Syntax.ttcons Syntax.tnil Syntax.ttnil)))))
 
 abbrev ty·11 : Syntax.Ty
 ty·11 = Syntax.tyEnum (List._∷_ 102 (List._∷_ 108 (List._∷_ 97 (List._∷_ 116 (List._∷_ 58 (List._∷_ 58 (List._∷_ 114 (List._∷_ 101 (List._∷_ 112 (List._∷_ 108 (List._∷_ 105 (List._∷_ 101 (List._∷_ 115 (List._∷_ 58 (List._∷_ 58 (List._∷_ 71 (List._∷_ 114 (List._∷_ 97 (List._∷_ 110 (List._∷_ 116 (List._∷_ 82 (List._∷_ 101 (List._∷_ 112 (List._∷_ 108 (List._∷_
@@ -119,55 +119,49 @@ abbrev row·9 : Row.Row
 row·9 = Rows.sslice Rec.rt ty·0 8
 
 abbrev row·10 : Row.Row
-row·10 = Rows.any-gone (Syntax.tyInt Syntax.w32)
+row·10 = Rows.any-gone (Syntax.tyInt Syntax.w64)
 
 abbrev row·11 : Row.Row
 row·11 = Rows.any-gone (Syntax.tyInt Syntax.w8)
 
 abbrev row·12 : Row.Row
-row·12 = Rows.any-gone (Syntax.tyInt Syntax.w64)
+row·12 = Rows.any-gone ty·11
 
 abbrev row·13 : Row.Row
-row·13 = Rows.any-gone ty·11
+row·13 = Rows.any-gone Syntax.tyBool
 
 abbrev row·14 : Row.Row
-row·14 = Rows.any-gone Syntax.tyBool
+row·14 = Rows.any-gone ty·1
 
 abbrev row·15 : Row.Row
-row·15 = Rows.any-gone ty·1
+row·15 = Rows.any-gone (Syntax.tyStruct (List._∷_ 38 (List._∷_ 91 (List._∷_ 93 List.[]))) (Syntax.tcons ty·1 (Syntax.tcons (Syntax.tyInt Syntax.w64) Syntax.tnil)))
 
 abbrev row·16 : Row.Row
-row·16 = Rows.any-gone (Syntax.tyStruct (List._∷_ 38 (List._∷_ 91 (List._∷_ 93 List.[]))) (Syntax.tcons ty·1 (Syntax.tcons (Syntax.tyInt Syntax.w64) Syntax.tnil)))
+row·16 = Rows.whole (Declared.row PressReply.the-type)
 
 abbrev row·17 : Row.Row
-row·17 = Rows.whole (Declared.row PressReply.the-type)
+row·17 = Rows.sc-here (Row.sInt Syntax.w64)
 
 abbrev row·18 : Row.Row
-row·18 = Rows.sc-here (Row.sInt Syntax.w32)
+row·18 = Rows.sc-here (Row.sInt Syntax.w8)
 
 abbrev row·19 : Row.Row
-row·19 = Rows.sc-here (Row.sInt Syntax.w8)
+row·19 = Rows.sc-here Row.sBool
 
 abbrev row·20 : Row.Row
-row·20 = Rows.sc-here (Row.sInt Syntax.w64)
+row·20 = Relend.mslice-owed (Referent.rtF (Referent.fInt Syntax.w8)) ty·3 7 9 Row.off
 
 abbrev row·21 : Row.Row
-row·21 = Rows.sc-here Row.sBool
+row·21 = Relend.msptr (Referent.rtF (Referent.fInt Syntax.w8)) ty·1 9
 
 abbrev row·22 : Row.Row
-row·22 = Relend.mslice-owed (Referent.rtF (Referent.fInt Syntax.w8)) ty·3 7 9 Row.off
+row·22 = Mut.mslice (Referent.rtF (Referent.fInt Syntax.w8)) ty·1 9
 
 abbrev row·23 : Row.Row
-row·23 = Relend.msptr (Referent.rtF (Referent.fInt Syntax.w8)) ty·1 9
+row·23 = Rows.whole (Declared.row GrantReply.the-type)
 
 abbrev row·24 : Row.Row
-row·24 = Mut.mslice (Referent.rtF (Referent.fInt Syntax.w8)) ty·1 9
-
-abbrev row·25 : Row.Row
-row·25 = Rows.whole (Declared.row GrantReply.the-type)
-
-abbrev row·26 : Row.Row
-row·26 = Mut.msleft (Referent.rtF (Referent.fInt Syntax.w8)) ty·1
+row·24 = Mut.msleft (Referent.rtF (Referent.fInt Syntax.w8)) ty·1
 
 abbrev pub ps : List.List (Kinds.PK 9)
 ps = List._∷_ (ShrSlice.pShrS (Referent.rtF (Referent.fInt Syntax.w16)) 0 tt) (List._∷_ (ShrSlice.pShrS (Referent.rtF (Referent.fInt Syntax.w16)) 1 tt) (List._∷_ (ShrSlice.pShrS (Referent.rtF (Referent.fInt Syntax.w8)) 2 tt) (List._∷_ (ShrSlice.pShrS (Referent.rtF (Referent.fInt Syntax.w16)) 3 tt) (List._∷_ (ShrSlice.pShrS (Referent.rtF (Referent.fInt
@@ -178,7 +172,7 @@ r = Value.rVal record { ty = Declared.row PressReply.the-type; one = Path'.refl;
     { copies = Laws''.copy PressReply.the-type Laws'.the-copy 𝓤 H A W; lawful = Laws''.lawful PressReply.the-type Laws'.the-laws 𝓤 H A W tt; makes = Laws''.makes PressReply.the-type Laws'.the-plain 𝓤 H A; in-mem = Local.mem-whole 𝓤 H A W (Declared.row PressReply.the-type); of-mem = Local.whole-mem 𝓤 H A W (Declared.row PressReply.the-type) }
 
 abbrev pub xs : List.List Syntax.Ty
-xs = List._∷_ (Syntax.tyInt Syntax.w32) (List._∷_ (Syntax.tyInt Syntax.w8) (List._∷_ (Syntax.tyInt Syntax.w64) (List._∷_ ty·11 (List._∷_ Syntax.tyBool (List._∷_ ty·1 (List._∷_ (Syntax.tyStruct (List._∷_ 38 (List._∷_ 91 (List._∷_ 93 List.[]))) (Syntax.tcons ty·1 (Syntax.tcons (Syntax.tyInt Syntax.w64) Syntax.tnil))) (List._∷_ (Syntax.tyInt Syntax.w64)
+xs = List._∷_ (Syntax.tyInt Syntax.w64) (List._∷_ (Syntax.tyInt Syntax.w8) (List._∷_ (Syntax.tyInt Syntax.w64) (List._∷_ ty·11 (List._∷_ Syntax.tyBool (List._∷_ ty·1 (List._∷_ (Syntax.tyStruct (List._∷_ 38 (List._∷_ 91 (List._∷_ 93 List.[]))) (Syntax.tcons ty·1 (Syntax.tcons (Syntax.tyInt Syntax.w64) Syntax.tnil))) (List._∷_ (Syntax.tyInt Syntax.w64)
     List.[])))))))
 
 abbrev pub m : Nat.ℕ
@@ -193,12 +187,12 @@ r·0 = Value.rVal record { ty = Declared.row GrantReply.the-type; one = Path'.re
     { copies = Laws''.copy GrantReply.the-type Laws.the-copy 𝓤 H A W; lawful = Laws''.lawful GrantReply.the-type Laws.the-laws 𝓤 H A W tt; makes = Laws''.makes GrantReply.the-type Laws.the-plain 𝓤 H A; in-mem = Local.mem-whole 𝓤 H A W (Declared.row GrantReply.the-type); of-mem = Local.whole-mem 𝓤 H A W (Declared.row GrantReply.the-type) }
 
 abbrev pub ps·1 : List.List (Kinds.PK 0)
-ps·1 = List._∷_ (Num.pNum Syntax.w32) (List._∷_ (Num.pNum Syntax.w64) (List._∷_ (Value.pVal record
+ps·1 = List._∷_ (Num.pNum Syntax.w64) (List._∷_ (Num.pNum Syntax.w64) (List._∷_ (Value.pVal record
     { ty = Declared.row GrantReply.the-type; one = Path'.refl; val = Laws''.val GrantReply.the-type Laws.the-laws; tells = Laws''.tells GrantReply.the-type Laws.the-laws; still = Laws''.still GrantReply.the-type Laws.the-copy Exit.yes; row = Rows.whole (Declared.row GrantReply.the-type); rd = λ x. x; mk = λ x. x } λ M 𝓤 H A W. record
     { copies = Laws''.copy GrantReply.the-type Laws.the-copy 𝓤 H A W; lawful = Laws''.lawful GrantReply.the-type Laws.the-laws 𝓤 H A W tt; makes = Laws''.makes GrantReply.the-type Laws.the-plain 𝓤 H A; in-mem = Local.mem-whole 𝓤 H A W (Declared.row GrantReply.the-type); of-mem = Local.whole-mem 𝓤 H A W (Declared.row GrantReply.the-type) }) List.[]))
 
 abbrev pub r·1 : Kinds.RK 0
-r·1 = Num.rNum Syntax.w32
+r·1 = Num.rNum Syntax.w64
 
 abbrev pub ps·2 : List.List (Kinds.PK 0)
 ps·2 = List._∷_ (Value.pVal record { ty = Declared.row GrantReply.the-type; one = Path'.refl; val = Laws''.val GrantReply.the-type Laws.the-laws; tells = Laws''.tells GrantReply.the-type Laws.the-laws; still = Laws''.still GrantReply.the-type Laws.the-copy Exit.yes; row = Rows.whole (Declared.row GrantReply.the-type); rd = λ x. x; mk = λ x. x } λ M 𝓤 H A W.
@@ -212,11 +206,8 @@ ps·3 = List._∷_ (Num.pNum Syntax.w64) (List._∷_ (Value.pVal record
     { ty = Declared.row GrantReply.the-type; one = Path'.refl; val = Laws''.val GrantReply.the-type Laws.the-laws; tells = Laws''.tells GrantReply.the-type Laws.the-laws; still = Laws''.still GrantReply.the-type Laws.the-copy Exit.yes; row = Rows.whole (Declared.row GrantReply.the-type); rd = λ x. x; mk = λ x. x } λ M 𝓤 H A W. record
     { copies = Laws''.copy GrantReply.the-type Laws.the-copy 𝓤 H A W; lawful = Laws''.lawful GrantReply.the-type Laws.the-laws 𝓤 H A W tt; makes = Laws''.makes GrantReply.the-type Laws.the-plain 𝓤 H A; in-mem = Local.mem-whole 𝓤 H A W (Declared.row GrantReply.the-type); of-mem = Local.whole-mem 𝓤 H A W (Declared.row GrantReply.the-type) }) List.[])
 
-abbrev pub r·3 : Kinds.RK 0
-r·3 = Num.rNum Syntax.w64
-
 abbrev pub ps·4 : List.List (Kinds.PK 0)
-ps·4 = List._∷_ (Num.pNum Syntax.w8) (List._∷_ (Num.pNum Syntax.w32) List.[])
+ps·4 = List._∷_ (Num.pNum Syntax.w8) (List._∷_ (Num.pNum Syntax.w64) List.[])
 
 abbrev pub r·4 : Kinds.RK 0
 r·4 = Value.rVal record { ty = Declared.row PressReply.the-type; one = Path'.refl; val = Laws''.val PressReply.the-type Laws'.the-laws; tells = Laws''.tells PressReply.the-type Laws'.the-laws; still = Laws''.still PressReply.the-type Laws'.the-copy Exit.yes; row = Rows.whole (Declared.row PressReply.the-type); rd = λ x. x; mk = λ x. x } λ M 𝓤 H A W. record
@@ -227,7 +218,7 @@ hs = List._∷_ Syntax.valueLocal (List._∷_ Syntax.valueLocal (List._∷_ Synt
     Syntax.valueLocal (List._∷_ Syntax.valueLocal (List._∷_ Syntax.valueLocal (List._∷_ Syntax.valueLocal (List._∷_ Syntax.valueLocal (List._∷_ Syntax.valueLocal List.[])))))))))))))))))
 
 abbrev b0 : Syntax.Body
-b0 = Syntax.assign (Syntax.place 10 List.[]) (Syntax.rvOpd (Syntax.int Syntax.w32 0))
+b0 = Syntax.assign (Syntax.place 10 List.[]) (Syntax.rvOpd (Syntax.int Syntax.w64 0))
 
 abbrev b1 : Syntax.Body
 b1 = Syntax.assign (Syntax.place 11 List.[]) (Syntax.rvOpd (Syntax.int Syntax.w8 0))
@@ -236,7 +227,7 @@ abbrev b2 : Syntax.Body
 b2 = Syntax.assign (Syntax.place 12 List.[]) (Syntax.rvOpd (Syntax.int Syntax.w64 0))
 
 abbrev b3 : Syntax.Body
-b3 = Syntax.assign (Syntax.place 14 List.[]) (Syntax.op2 (Syntax.lt Syntax.unsigned) (Syntax.copy (Syntax.place 12 List.[])) (Syntax.int Syntax.w64 32))
+b3 = Syntax.assign (Syntax.place 14 List.[]) (Syntax.op2 (Syntax.lt Syntax.unsigned) (Syntax.copy (Syntax.place 12 List.[])) (Syntax.int Syntax.w64 64))
 
 abbrev b4 : Syntax.Body
 b4 = Syntax.skip
@@ -324,74 +315,74 @@ abbrev pub body : Syntax.Body
 body = b30
 
 abbrev pub Claims : Type 1
-Claims = Kinds.In 9 ps·0 × Kinds.Out 9 ps·0 r·0 × Kinds.In 0 ps·1 × Kinds.Out 0 ps·1 r·1 × Kinds.In 0 ps·2 × Kinds.Out 0 ps·2 r·2 × Kinds.In 0 ps·3 × Kinds.Out 0 ps·3 r·3 × Kinds.In 0 ps·4 × Kinds.Out 0 ps·4 r·4
+Claims = Kinds.In 9 ps·0 × Kinds.Out 9 ps·0 r·0 × Kinds.In 0 ps·1 × Kinds.Out 0 ps·1 r·1 × Kinds.In 0 ps·2 × Kinds.Out 0 ps·2 r·2 × Kinds.In 0 ps·3 × Kinds.Out 0 ps·3 r·1 × Kinds.In 0 ps·4 × Kinds.Out 0 ps·4 r·4
 
 abbrev pub t1 : List.List Row.Entry
-t1 = List._∷_ (16, row·16) (List._∷_ (17, row·12) List.[])
+t1 = List._∷_ (16, row·15) (List._∷_ (17, row·10) List.[])
 
 abbrev pub t5 : List.List Row.Entry
-t5 = List._∷_ (0, row·0) (List._∷_ (1, row·1) (List._∷_ (2, row·2) (List._∷_ (3, row·3) (List._∷_ (4, row·4) (List._∷_ (5, row·5) (List._∷_ (6, row·6) (List._∷_ (7, row·7) (List._∷_ (8, row·8) (List._∷_ (9, row·9) (List._∷_ (10, row·18) (List._∷_ (11, row·19) (List._∷_ (12, row·20) (List._∷_ (13, row·13) (List._∷_ (14, row·14) (List._∷_ (15, row·15)
+t5 = List._∷_ (0, row·0) (List._∷_ (1, row·1) (List._∷_ (2, row·2) (List._∷_ (3, row·3) (List._∷_ (4, row·4) (List._∷_ (5, row·5) (List._∷_ (6, row·6) (List._∷_ (7, row·7) (List._∷_ (8, row·8) (List._∷_ (9, row·9) (List._∷_ (10, row·17) (List._∷_ (11, row·18) (List._∷_ (12, row·17) (List._∷_ (13, row·12) (List._∷_ (14, row·13) (List._∷_ (15, row·14)
     List.[])))))))))))))))
 
 abbrev pub t11 : List.List Row.Entry
-t11 = List._∷_ (16, row·24) (List._∷_ (17, row·12) List.[])
+t11 = List._∷_ (16, row·22) (List._∷_ (17, row·10) List.[])
 
 abbrev pub t13 : List.List Row.Entry
-t13 = List._∷_ (16, row·26) (List._∷_ (17, row·12) List.[])
+t13 = List._∷_ (16, row·24) (List._∷_ (17, row·10) List.[])
 
 abbrev pub t15 : List.List Row.Entry
-t15 = List._∷_ (0, row·0) (List._∷_ (1, row·1) (List._∷_ (2, row·2) (List._∷_ (3, row·3) (List._∷_ (4, row·4) (List._∷_ (5, row·5) (List._∷_ (6, row·6) (List._∷_ (7, row·7) (List._∷_ (8, row·8) (List._∷_ (9, row·9) (List._∷_ (10, row·18) (List._∷_ (11, row·19) (List._∷_ (12, row·20) (List._∷_ (13, row·25) (List._∷_ (14, row·14) (List._∷_ (15, row·15)
+t15 = List._∷_ (0, row·0) (List._∷_ (1, row·1) (List._∷_ (2, row·2) (List._∷_ (3, row·3) (List._∷_ (4, row·4) (List._∷_ (5, row·5) (List._∷_ (6, row·6) (List._∷_ (7, row·7) (List._∷_ (8, row·8) (List._∷_ (9, row·9) (List._∷_ (10, row·17) (List._∷_ (11, row·18) (List._∷_ (12, row·17) (List._∷_ (13, row·23) (List._∷_ (14, row·13) (List._∷_ (15, row·14)
     List.[])))))))))))))))
 
 abbrev pub t16 : List.List Row.Entry
-t16 = List._∷_ (16, row·16) (List._∷_ (17, row·20) List.[])
+t16 = List._∷_ (16, row·15) (List._∷_ (17, row·17) List.[])
 
 abbrev pub T0 : Row.Cx
 T0 = record
-    { locals = List._++_ (List._∷_ (0, row·0) (List._∷_ (1, row·1) (List._∷_ (2, row·2) (List._∷_ (3, row·3) (List._∷_ (4, row·4) (List._∷_ (5, row·5) (List._∷_ (6, row·6) (List._∷_ (7, row·7) (List._∷_ (8, row·8) (List._∷_ (9, row·9) (List._∷_ (10, row·10) (List._∷_ (11, row·11) (List._∷_ (12, row·12) (List._∷_ (13, row·13) (List._∷_ (14, row·14) (List._∷_ (15, row·15) List.[])))))))))))))))) t1; slots = List.[] }
+    { locals = List._++_ (List._∷_ (0, row·0) (List._∷_ (1, row·1) (List._∷_ (2, row·2) (List._∷_ (3, row·3) (List._∷_ (4, row·4) (List._∷_ (5, row·5) (List._∷_ (6, row·6) (List._∷_ (7, row·7) (List._∷_ (8, row·8) (List._∷_ (9, row·9) (List._∷_ (10, row·10) (List._∷_ (11, row·11) (List._∷_ (12, row·10) (List._∷_ (13, row·12) (List._∷_ (14, row·13) (List._∷_ (15, row·14) List.[])))))))))))))))) t1; slots = List.[] }
 
 abbrev pub T1 : Row.Cx
 T1 = record
-    { locals = List._++_ (List._∷_ (0, row·17) (List._∷_ (1, row·1) (List._∷_ (2, row·2) (List._∷_ (3, row·3) (List._∷_ (4, row·4) (List._∷_ (5, row·5) (List._∷_ (6, row·6) (List._∷_ (7, row·7) (List._∷_ (8, row·8) (List._∷_ (9, row·9) (List._∷_ (10, row·10) (List._∷_ (11, row·11) (List._∷_ (12, row·12) (List._∷_ (13, row·13) (List._∷_ (14, row·14) (List._∷_ (15, row·15) List.[])))))))))))))))) t1; slots = List.[] }
+    { locals = List._++_ (List._∷_ (0, row·16) (List._∷_ (1, row·1) (List._∷_ (2, row·2) (List._∷_ (3, row·3) (List._∷_ (4, row·4) (List._∷_ (5, row·5) (List._∷_ (6, row·6) (List._∷_ (7, row·7) (List._∷_ (8, row·8) (List._∷_ (9, row·9) (List._∷_ (10, row·10) (List._∷_ (11, row·11) (List._∷_ (12, row·10) (List._∷_ (13, row·12) (List._∷_ (14, row·13) (List._∷_ (15, row·14) List.[])))))))))))))))) t1; slots = List.[] }
 
 abbrev pub T10 : Row.Cx
 T10 = record
-    { locals = List._++_ (List._∷_ (0, row·0) (List._∷_ (1, row·1) (List._∷_ (2, row·2) (List._∷_ (3, row·3) (List._∷_ (4, row·4) (List._∷_ (5, row·5) (List._∷_ (6, row·6) (List._∷_ (7, row·7) (List._∷_ (8, row·8) (List._∷_ (9, row·9) (List._∷_ (10, row·18) (List._∷_ (11, row·11) (List._∷_ (12, row·12) (List._∷_ (13, row·13) (List._∷_ (14, row·14) (List._∷_ (15, row·15) List.[])))))))))))))))) t1; slots = List.[] }
+    { locals = List._++_ (List._∷_ (0, row·0) (List._∷_ (1, row·1) (List._∷_ (2, row·2) (List._∷_ (3, row·3) (List._∷_ (4, row·4) (List._∷_ (5, row·5) (List._∷_ (6, row·6) (List._∷_ (7, row·7) (List._∷_ (8, row·8) (List._∷_ (9, row·9) (List._∷_ (10, row·17) (List._∷_ (11, row·11) (List._∷_ (12, row·10) (List._∷_ (13, row·12) (List._∷_ (14, row·13) (List._∷_ (15, row·14) List.[])))))))))))))))) t1; slots = List.[] }
 
 abbrev pub T11 : Row.Cx
 T11 = record
-    { locals = List._++_ (List._∷_ (0, row·0) (List._∷_ (1, row·1) (List._∷_ (2, row·2) (List._∷_ (3, row·3) (List._∷_ (4, row·4) (List._∷_ (5, row·5) (List._∷_ (6, row·6) (List._∷_ (7, row·7) (List._∷_ (8, row·8) (List._∷_ (9, row·9) (List._∷_ (10, row·18) (List._∷_ (11, row·19) (List._∷_ (12, row·12) (List._∷_ (13, row·13) (List._∷_ (14, row·14) (List._∷_ (15, row·15) List.[])))))))))))))))) t1; slots = List.[] }
+    { locals = List._++_ (List._∷_ (0, row·0) (List._∷_ (1, row·1) (List._∷_ (2, row·2) (List._∷_ (3, row·3) (List._∷_ (4, row·4) (List._∷_ (5, row·5) (List._∷_ (6, row·6) (List._∷_ (7, row·7) (List._∷_ (8, row·8) (List._∷_ (9, row·9) (List._∷_ (10, row·17) (List._∷_ (11, row·18) (List._∷_ (12, row·10) (List._∷_ (13, row·12) (List._∷_ (14, row·13) (List._∷_ (15, row·14) List.[])))))))))))))))) t1; slots = List.[] }
 
 abbrev pub T12 : Row.Cx
 T12 = record { locals = List._++_ t5 t1; slots = List.[] }
 
 abbrev pub T14 : Row.Cx
 T14 = record
-    { locals = List._++_ (List._∷_ (0, row·0) (List._∷_ (1, row·1) (List._∷_ (2, row·2) (List._∷_ (3, row·3) (List._∷_ (4, row·4) (List._∷_ (5, row·5) (List._∷_ (6, row·6) (List._∷_ (7, row·7) (List._∷_ (8, row·8) (List._∷_ (9, row·9) (List._∷_ (10, row·18) (List._∷_ (11, row·19) (List._∷_ (12, row·20) (List._∷_ (13, row·13) (List._∷_ (14, row·21) (List._∷_ (15, row·15) List.[])))))))))))))))) t1; slots = List.[] }
+    { locals = List._++_ (List._∷_ (0, row·0) (List._∷_ (1, row·1) (List._∷_ (2, row·2) (List._∷_ (3, row·3) (List._∷_ (4, row·4) (List._∷_ (5, row·5) (List._∷_ (6, row·6) (List._∷_ (7, row·7) (List._∷_ (8, row·8) (List._∷_ (9, row·9) (List._∷_ (10, row·17) (List._∷_ (11, row·18) (List._∷_ (12, row·17) (List._∷_ (13, row·12) (List._∷_ (14, row·19) (List._∷_ (15, row·14) List.[])))))))))))))))) t1; slots = List.[] }
 
 abbrev pub T15 : Row.Cx
 T15 = record
-    { locals = List._++_ (List._∷_ (0, row·0) (List._∷_ (1, row·1) (List._∷_ (2, row·2) (List._∷_ (3, row·3) (List._∷_ (4, row·4) (List._∷_ (5, row·5) (List._∷_ (6, row·6) (List._∷_ (7, row·7) (List._∷_ (8, row·8) (List._∷_ (9, row·9) (List._∷_ (10, row·18) (List._∷_ (11, row·11) (List._∷_ (12, row·20) (List._∷_ (13, row·13) (List._∷_ (14, row·14) (List._∷_ (15, row·15) List.[])))))))))))))))) t1; slots = List.[] }
+    { locals = List._++_ (List._∷_ (0, row·0) (List._∷_ (1, row·1) (List._∷_ (2, row·2) (List._∷_ (3, row·3) (List._∷_ (4, row·4) (List._∷_ (5, row·5) (List._∷_ (6, row·6) (List._∷_ (7, row·7) (List._∷_ (8, row·8) (List._∷_ (9, row·9) (List._∷_ (10, row·17) (List._∷_ (11, row·11) (List._∷_ (12, row·17) (List._∷_ (13, row·12) (List._∷_ (14, row·13) (List._∷_ (15, row·14) List.[])))))))))))))))) t1; slots = List.[] }
 
 abbrev pub T16 : Row.Cx
 T16 = record
-    { locals = List._++_ (List._∷_ (0, row·0) (List._∷_ (1, row·1) (List._∷_ (2, row·2) (List._∷_ (3, row·3) (List._∷_ (4, row·4) (List._∷_ (5, row·5) (List._∷_ (6, row·6) (List._∷_ (7, row·7) (List._∷_ (8, row·8) (List._∷_ (9, row·9) (List._∷_ (10, row·18) (List._∷_ (11, row·11) (List._∷_ (12, row·20) (List._∷_ (13, row·13) (List._∷_ (14, row·21) (List._∷_ (15, row·15) List.[])))))))))))))))) t1; slots = List.[] }
+    { locals = List._++_ (List._∷_ (0, row·0) (List._∷_ (1, row·1) (List._∷_ (2, row·2) (List._∷_ (3, row·3) (List._∷_ (4, row·4) (List._∷_ (5, row·5) (List._∷_ (6, row·6) (List._∷_ (7, row·7) (List._∷_ (8, row·8) (List._∷_ (9, row·9) (List._∷_ (10, row·17) (List._∷_ (11, row·11) (List._∷_ (12, row·17) (List._∷_ (13, row·12) (List._∷_ (14, row·19) (List._∷_ (15, row·14) List.[])))))))))))))))) t1; slots = List.[] }
 
 abbrev pub T20 : Row.Cx
 T20 = record
-    { locals = List._++_ (List._∷_ (0, row·0) (List._∷_ (1, row·1) (List._∷_ (2, row·2) (List._∷_ (3, row·3) (List._∷_ (4, row·4) (List._∷_ (5, row·5) (List._∷_ (6, row·6) (List._∷_ (7, row·7) (List._∷_ (8, row·22) (List._∷_ (9, row·9) (List._∷_ (10, row·18) (List._∷_ (11, row·11) (List._∷_ (12, row·20) (List._∷_ (13, row·13) (List._∷_ (14, row·14) (List._∷_ (15, row·23) List.[])))))))))))))))) t1; slots = List.[] }
+    { locals = List._++_ (List._∷_ (0, row·0) (List._∷_ (1, row·1) (List._∷_ (2, row·2) (List._∷_ (3, row·3) (List._∷_ (4, row·4) (List._∷_ (5, row·5) (List._∷_ (6, row·6) (List._∷_ (7, row·7) (List._∷_ (8, row·20) (List._∷_ (9, row·9) (List._∷_ (10, row·17) (List._∷_ (11, row·11) (List._∷_ (12, row·17) (List._∷_ (13, row·12) (List._∷_ (14, row·13) (List._∷_ (15, row·21) List.[])))))))))))))))) t1; slots = List.[] }
 
 abbrev pub T21 : Row.Cx
 T21 = record
-    { locals = List._++_ (List._∷_ (0, row·0) (List._∷_ (1, row·1) (List._∷_ (2, row·2) (List._∷_ (3, row·3) (List._∷_ (4, row·4) (List._∷_ (5, row·5) (List._∷_ (6, row·6) (List._∷_ (7, row·7) (List._∷_ (8, row·22) (List._∷_ (9, row·9) (List._∷_ (10, row·18) (List._∷_ (11, row·11) (List._∷_ (12, row·20) (List._∷_ (13, row·13) (List._∷_ (14, row·14) (List._∷_ (15, row·15) List.[])))))))))))))))) t11; slots = List.[] }
+    { locals = List._++_ (List._∷_ (0, row·0) (List._∷_ (1, row·1) (List._∷_ (2, row·2) (List._∷_ (3, row·3) (List._∷_ (4, row·4) (List._∷_ (5, row·5) (List._∷_ (6, row·6) (List._∷_ (7, row·7) (List._∷_ (8, row·20) (List._∷_ (9, row·9) (List._∷_ (10, row·17) (List._∷_ (11, row·11) (List._∷_ (12, row·17) (List._∷_ (13, row·12) (List._∷_ (14, row·13) (List._∷_ (15, row·14) List.[])))))))))))))))) t11; slots = List.[] }
 
 abbrev pub T22 : Row.Cx
 T22 = record
-    { locals = List._++_ (List._∷_ (0, row·0) (List._∷_ (1, row·1) (List._∷_ (2, row·2) (List._∷_ (3, row·3) (List._∷_ (4, row·4) (List._∷_ (5, row·5) (List._∷_ (6, row·6) (List._∷_ (7, row·7) (List._∷_ (8, row·22) (List._∷_ (9, row·9) (List._∷_ (10, row·18) (List._∷_ (11, row·11) (List._∷_ (12, row·20) (List._∷_ (13, row·25) (List._∷_ (14, row·14) (List._∷_ (15, row·15) List.[])))))))))))))))) t13; slots = List.[] }
+    { locals = List._++_ (List._∷_ (0, row·0) (List._∷_ (1, row·1) (List._∷_ (2, row·2) (List._∷_ (3, row·3) (List._∷_ (4, row·4) (List._∷_ (5, row·5) (List._∷_ (6, row·6) (List._∷_ (7, row·7) (List._∷_ (8, row·20) (List._∷_ (9, row·9) (List._∷_ (10, row·17) (List._∷_ (11, row·11) (List._∷_ (12, row·17) (List._∷_ (13, row·23) (List._∷_ (14, row·13) (List._∷_ (15, row·14) List.[])))))))))))))))) t13; slots = List.[] }
 
 abbrev pub T24 : Row.Cx
 T24 = record
-    { locals = List._++_ (List._∷_ (0, row·0) (List._∷_ (1, row·1) (List._∷_ (2, row·2) (List._∷_ (3, row·3) (List._∷_ (4, row·4) (List._∷_ (5, row·5) (List._∷_ (6, row·6) (List._∷_ (7, row·7) (List._∷_ (8, row·8) (List._∷_ (9, row·9) (List._∷_ (10, row·18) (List._∷_ (11, row·11) (List._∷_ (12, row·20) (List._∷_ (13, row·25) (List._∷_ (14, row·14) (List._∷_ (15, row·15) List.[])))))))))))))))) t1; slots = List.[] }
+    { locals = List._++_ (List._∷_ (0, row·0) (List._∷_ (1, row·1) (List._∷_ (2, row·2) (List._∷_ (3, row·3) (List._∷_ (4, row·4) (List._∷_ (5, row·5) (List._∷_ (6, row·6) (List._∷_ (7, row·7) (List._∷_ (8, row·8) (List._∷_ (9, row·9) (List._∷_ (10, row·17) (List._∷_ (11, row·11) (List._∷_ (12, row·17) (List._∷_ (13, row·23) (List._∷_ (14, row·13) (List._∷_ (15, row·14) List.[])))))))))))))))) t1; slots = List.[] }
 
 abbrev pub T28 : Row.Cx
 T28 = record { locals = List._++_ t15 t1; slots = List.[] }
@@ -401,22 +392,22 @@ T29 = record { locals = List._++_ t15 t16; slots = List.[] }
 
 abbrev pub T30 : Row.Cx
 T30 = record
-    { locals = List._++_ (List._∷_ (0, row·0) (List._∷_ (1, row·1) (List._∷_ (2, row·2) (List._∷_ (3, row·3) (List._∷_ (4, row·4) (List._∷_ (5, row·5) (List._∷_ (6, row·6) (List._∷_ (7, row·7) (List._∷_ (8, row·8) (List._∷_ (9, row·9) (List._∷_ (10, row·18) (List._∷_ (11, row·19) (List._∷_ (12, row·12) (List._∷_ (13, row·25) (List._∷_ (14, row·14) (List._∷_ (15, row·15) List.[])))))))))))))))) t16; slots = List.[] }
+    { locals = List._++_ (List._∷_ (0, row·0) (List._∷_ (1, row·1) (List._∷_ (2, row·2) (List._∷_ (3, row·3) (List._∷_ (4, row·4) (List._∷_ (5, row·5) (List._∷_ (6, row·6) (List._∷_ (7, row·7) (List._∷_ (8, row·8) (List._∷_ (9, row·9) (List._∷_ (10, row·17) (List._∷_ (11, row·18) (List._∷_ (12, row·10) (List._∷_ (13, row·23) (List._∷_ (14, row·13) (List._∷_ (15, row·14) List.[])))))))))))))))) t16; slots = List.[] }
 
 abbrev pub T32 : Row.Cx
 T32 = record { locals = List._++_ t5 t16; slots = List.[] }
 
 abbrev pub T34 : Row.Cx
 T34 = record
-    { locals = List._++_ (List._∷_ (0, row·17) (List._∷_ (1, row·1) (List._∷_ (2, row·2) (List._∷_ (3, row·3) (List._∷_ (4, row·4) (List._∷_ (5, row·5) (List._∷_ (6, row·6) (List._∷_ (7, row·7) (List._∷_ (8, row·8) (List._∷_ (9, row·9) (List._∷_ (10, row·18) (List._∷_ (11, row·19) (List._∷_ (12, row·20) (List._∷_ (13, row·13) (List._∷_ (14, row·14) (List._∷_ (15, row·15) List.[])))))))))))))))) t1; slots = List.[] }
+    { locals = List._++_ (List._∷_ (0, row·16) (List._∷_ (1, row·1) (List._∷_ (2, row·2) (List._∷_ (3, row·3) (List._∷_ (4, row·4) (List._∷_ (5, row·5) (List._∷_ (6, row·6) (List._∷_ (7, row·7) (List._∷_ (8, row·8) (List._∷_ (9, row·9) (List._∷_ (10, row·17) (List._∷_ (11, row·18) (List._∷_ (12, row·17) (List._∷_ (13, row·12) (List._∷_ (14, row·13) (List._∷_ (15, row·14) List.[])))))))))))))))) t1; slots = List.[] }
 
 abbrev pub T35 : Row.Cx
 T35 = record
-    { locals = List._++_ (List._∷_ (0, row·17) (List._∷_ (1, row·1) (List._∷_ (2, row·2) (List._∷_ (3, row·3) (List._∷_ (4, row·4) (List._∷_ (5, row·5) (List._∷_ (6, row·6) (List._∷_ (7, row·7) (List._∷_ (8, row·8) (List._∷_ (9, row·9) (List._∷_ (10, row·10) (List._∷_ (11, row·19) (List._∷_ (12, row·20) (List._∷_ (13, row·13) (List._∷_ (14, row·14) (List._∷_ (15, row·15) List.[])))))))))))))))) t1; slots = List.[] }
+    { locals = List._++_ (List._∷_ (0, row·16) (List._∷_ (1, row·1) (List._∷_ (2, row·2) (List._∷_ (3, row·3) (List._∷_ (4, row·4) (List._∷_ (5, row·5) (List._∷_ (6, row·6) (List._∷_ (7, row·7) (List._∷_ (8, row·8) (List._∷_ (9, row·9) (List._∷_ (10, row·10) (List._∷_ (11, row·18) (List._∷_ (12, row·17) (List._∷_ (13, row·12) (List._∷_ (14, row·13) (List._∷_ (15, row·14) List.[])))))))))))))))) t1; slots = List.[] }
 
 abbrev pub T36 : Row.Cx
 T36 = record
-    { locals = List._++_ (List._∷_ (0, row·17) (List._∷_ (1, row·1) (List._∷_ (2, row·2) (List._∷_ (3, row·3) (List._∷_ (4, row·4) (List._∷_ (5, row·5) (List._∷_ (6, row·6) (List._∷_ (7, row·7) (List._∷_ (8, row·8) (List._∷_ (9, row·9) (List._∷_ (10, row·10) (List._∷_ (11, row·11) (List._∷_ (12, row·20) (List._∷_ (13, row·13) (List._∷_ (14, row·14) (List._∷_ (15, row·15) List.[])))))))))))))))) t1; slots = List.[] }
+    { locals = List._++_ (List._∷_ (0, row·16) (List._∷_ (1, row·1) (List._∷_ (2, row·2) (List._∷_ (3, row·3) (List._∷_ (4, row·4) (List._∷_ (5, row·5) (List._∷_ (6, row·6) (List._∷_ (7, row·7) (List._∷_ (8, row·8) (List._∷_ (9, row·9) (List._∷_ (10, row·10) (List._∷_ (11, row·11) (List._∷_ (12, row·17) (List._∷_ (13, row·12) (List._∷_ (14, row·13) (List._∷_ (15, row·14) List.[])))))))))))))))) t1; slots = List.[] }
 
 abbrev args·0 : ArgsT ps·0 (T21 .locals)
 args·0 = (record { pos = 1; ty = ty·4; ref = λ x. x }, (record { pos = 2; ty = ty·5; ref = λ x. x }, (record { pos = 3; ty = ty·2; ref = λ x. x }, (record { pos = 4; ty = ty·6; ref = λ x. x }, (record { pos = 5; ty = ty·7; ref = λ x. x }, (record { pos = 6; ty = ty·8; ref = λ x. x }, (record { pos = 7; ty = ty·9; ref = λ x. x }, (record { pos = 16; ty = ty·1; ref = λ x. x }, (record { pos = 9; ty = ty·0; ref = λ x. x }, (Num.vAt 12 λ x. x, tt))))))))))
@@ -444,13 +435,13 @@ O4 = Typed.withNext (Option.some T15) O3
 
 abbrev pub InvT-loop : Type 1
 InvT-loop = List.List (Referent.rtF (Referent.fInt Syntax.w16) .Denot) → List.List (Referent.rtF (Referent.fInt Syntax.w16) .Denot) → List.List (Referent.rtF (Referent.fInt Syntax.w8) .Denot) → List.List (Referent.rtF (Referent.fInt Syntax.w16) .Denot) → List.List (Referent.rtF (Referent.fInt Syntax.w16) .Denot) → List.List (Referent.rtF (Referent.fInt
-    Syntax.w32) .Denot) → List.List (Referent.rtF (Referent.fInt Syntax.w16) .Denot) → List.List (Referent.rtF (Referent.fInt Syntax.w8) .Denot) → List.List (Rec.rt .Denot) → Rows.sc-here (Row.sInt Syntax.w32) .Mod → Rows.sc-here (Row.sInt Syntax.w8) .Mod → Rows.sc-here (Row.sInt Syntax.w64) .Mod → List.List (Referent.rtF (Referent.fInt Syntax.w8) .Denot) →
-    Rows.sc-here (Row.sInt Syntax.w32) .Mod → Rows.sc-here (Row.sInt Syntax.w8) .Mod → Rows.sc-here (Row.sInt Syntax.w64) .Mod → Type 0
+    Syntax.w32) .Denot) → List.List (Referent.rtF (Referent.fInt Syntax.w16) .Denot) → List.List (Referent.rtF (Referent.fInt Syntax.w8) .Denot) → List.List (Rec.rt .Denot) → Rows.sc-here (Row.sInt Syntax.w64) .Mod → Rows.sc-here (Row.sInt Syntax.w8) .Mod → Rows.sc-here (Row.sInt Syntax.w64) .Mod → List.List (Referent.rtF (Referent.fInt Syntax.w8) .Denot) →
+    Rows.sc-here (Row.sInt Syntax.w64) .Mod → Rows.sc-here (Row.sInt Syntax.w8) .Mod → Rows.sc-here (Row.sInt Syntax.w64) .Mod → Type 0
 
 abbrev pub MeasureT-loop : Type 0
 MeasureT-loop = List.List (Referent.rtF (Referent.fInt Syntax.w16) .Denot) → List.List (Referent.rtF (Referent.fInt Syntax.w16) .Denot) → List.List (Referent.rtF (Referent.fInt Syntax.w8) .Denot) → List.List (Referent.rtF (Referent.fInt Syntax.w16) .Denot) → List.List (Referent.rtF (Referent.fInt Syntax.w16) .Denot) → List.List (Referent.rtF (Referent.fInt
-    Syntax.w32) .Denot) → List.List (Referent.rtF (Referent.fInt Syntax.w16) .Denot) → List.List (Referent.rtF (Referent.fInt Syntax.w8) .Denot) → List.List (Rec.rt .Denot) → Rows.sc-here (Row.sInt Syntax.w32) .Mod → Rows.sc-here (Row.sInt Syntax.w8) .Mod → Rows.sc-here (Row.sInt Syntax.w64) .Mod → List.List (Referent.rtF (Referent.fInt Syntax.w8) .Denot) →
-    Rows.sc-here (Row.sInt Syntax.w32) .Mod → Rows.sc-here (Row.sInt Syntax.w8) .Mod → Rows.sc-here (Row.sInt Syntax.w64) .Mod → Nat.ℕ
+    Syntax.w32) .Denot) → List.List (Referent.rtF (Referent.fInt Syntax.w16) .Denot) → List.List (Referent.rtF (Referent.fInt Syntax.w8) .Denot) → List.List (Rec.rt .Denot) → Rows.sc-here (Row.sInt Syntax.w64) .Mod → Rows.sc-here (Row.sInt Syntax.w8) .Mod → Rows.sc-here (Row.sInt Syntax.w64) .Mod → List.List (Referent.rtF (Referent.fInt Syntax.w8) .Denot) →
+    Rows.sc-here (Row.sInt Syntax.w64) .Mod → Rows.sc-here (Row.sInt Syntax.w8) .Mod → Rows.sc-here (Row.sInt Syntax.w64) .Mod → Nat.ℕ
 
 module _ (claims· : Claims) where
   abbrev s0 : Typed.Gives T0 T0
@@ -478,7 +469,7 @@ module _ (claims· : Claims) where
   s7 = Know.k-sl-known (Referent.fInt Syntax.w8) T0 8 7 ty·3 Row.off 0 λ x. x
 
   abbrev s8 : Typed.Mo T0 → Typed.Mo T10
-  s8 = Scalar.n-use T0 (Scalar.oInt Syntax.w32 0) 10 (Rows.sc-here (Row.sInt Syntax.w32)) (Row.sInt Syntax.w32 .of)
+  s8 = Scalar.n-use T0 (Scalar.oInt Syntax.w64 0) 10 (Rows.sc-here (Row.sInt Syntax.w64)) (Row.sInt Syntax.w64 .of)
 
   abbrev s9 : Typed.Mo T10 → Typed.Mo T11
   s9 = Scalar.n-use T10 (Scalar.oInt Syntax.w8 0) 11 (Rows.sc-here (Row.sInt Syntax.w8)) (Row.sInt Syntax.w8 .of)
@@ -487,7 +478,7 @@ module _ (claims· : Claims) where
   s10 = Scalar.n-use T11 (Scalar.oInt Syntax.w64 0) 12 (Rows.sc-here (Row.sInt Syntax.w64)) (Row.sInt Syntax.w64 .of)
 
   abbrev s11 : Typed.Asks T12 T14
-  s11 = Scalar.k-op2 T12 (Syntax.lt Syntax.unsigned) (Scalar.oAt 12 (Syntax.tyInt Syntax.w64) (Row.valS (Row.sInt Syntax.w64))) (Scalar.oInt Syntax.w64 32) 14 (Rows.sc-here Row.sBool) (Row.sBool .of)
+  s11 = Scalar.k-op2 T12 (Syntax.lt Syntax.unsigned) (Scalar.oAt 12 (Syntax.tyInt Syntax.w64) (Row.valS (Row.sInt Syntax.w64))) (Scalar.oInt Syntax.w64 64) 14 (Rows.sc-here Row.sBool) (Row.sBool .of)
 
   abbrev s12 : Typed.Mo T14 → Typed.Mo T16
   s12 = Scalar.n-room T14 11 (Syntax.tyInt Syntax.w8)
@@ -514,7 +505,7 @@ module _ (claims· : Claims) where
   s21 = Know.k-sl-known (Referent.fInt Syntax.w8) T24 8 7 ty·3 Row.off 0 λ x. x
 
   abbrev s23 : Typed.Both T24 T24
-  s23 = Call.callB ps·1 r·1 (claims· .2) (claims· .3) T24 args·1 10 List.[] (Syntax.tyInt Syntax.w32)
+  s23 = Call.callB ps·1 r·1 (claims· .2) (claims· .3) T24 args·1 10 List.[] (Syntax.tyInt Syntax.w64)
 
   abbrev s24 : Typed.Both T24 T28
   s24 = Call.callB ps·2 r·2 (claims· .4) (claims· .5) T24 (record { pos = 13; st = List.[]; d = 0; at = λ x. x }, tt) 11 List.[] (Syntax.tyInt Syntax.w8)
@@ -526,7 +517,7 @@ module _ (claims· : Claims) where
   s26 = Scalar.n-room T29 12 (Syntax.tyInt Syntax.w64)
 
   abbrev s27 : Typed.Both T30 T29
-  s27 = Call.callB ps·3 r·3 (claims· .6) (claims· .7) T30 args·2 12 List.[] (Syntax.tyInt Syntax.w64)
+  s27 = Call.callB ps·3 r·1 (claims· .6) (claims· .7) T30 args·2 12 List.[] (Syntax.tyInt Syntax.w64)
 
   abbrev s28 : Typed.Mo T29 → Typed.Mo T32
   s28 = Scalar.n-room T29 13 ty·11
@@ -538,7 +529,7 @@ module _ (claims· : Claims) where
   s30 = Call.callB ps·4 r·4 (claims· .8) (claims· .9) T12 (Num.vAt 11 λ x. x, (Num.vAt 10 λ x. x, tt)) 0 List.[] ty·10
 
   abbrev s31 : Typed.Mo T34 → Typed.Mo T35
-  s31 = Scalar.n-room T34 10 (Syntax.tyInt Syntax.w32)
+  s31 = Scalar.n-room T34 10 (Syntax.tyInt Syntax.w64)
 
   abbrev s32 : Typed.Mo T35 → Typed.Mo T36
   s32 = Scalar.n-room T35 11 (Syntax.tyInt Syntax.w8)
@@ -546,15 +537,15 @@ module _ (claims· : Claims) where
   abbrev s33 : Typed.Mo T36 → Typed.Mo T1
   s33 = Scalar.n-room T36 12 (Syntax.tyInt Syntax.w64)
 
-  abbrev put0 : List.List (Referent.rtF (Referent.fInt Syntax.w8) .Denot) × Rows.sc-here (Row.sInt Syntax.w32) .Mod × Rows.sc-here (Row.sInt Syntax.w8) .Mod × Rows.sc-here (Row.sInt Syntax.w64) .Mod → Typed.Mo T12 → Typed.Mo T12
-  put0 = λ vs u. Row.set 12 (12, Rows.sc-here (Row.sInt Syntax.w64)) (vs .3) (T12 .locals) (Row.set 11 (11, Rows.sc-here (Row.sInt Syntax.w8)) (vs .2) (T12 .locals) (Row.set 10 (10, Rows.sc-here (Row.sInt Syntax.w32)) (vs .1) (T12 .locals) (Row.set 8 (8, Mut.mslice (Referent.rtF (Referent.fInt Syntax.w8)) ty·3 7) record
+  abbrev put0 : List.List (Referent.rtF (Referent.fInt Syntax.w8) .Denot) × Rows.sc-here (Row.sInt Syntax.w64) .Mod × Rows.sc-here (Row.sInt Syntax.w8) .Mod × Rows.sc-here (Row.sInt Syntax.w64) .Mod → Typed.Mo T12 → Typed.Mo T12
+  put0 = λ vs u. Row.set 12 (12, Rows.sc-here (Row.sInt Syntax.w64)) (vs .3) (T12 .locals) (Row.set 11 (11, Rows.sc-here (Row.sInt Syntax.w8)) (vs .2) (T12 .locals) (Row.set 10 (10, Rows.sc-here (Row.sInt Syntax.w64)) (vs .1) (T12 .locals) (Row.set 8 (8, Mut.mslice (Referent.rtF (Referent.fInt Syntax.w8)) ty·3 7) record
       { ptr = Row.get 8 (T12 .locals) u .ptr; name = Row.get 8 (T12 .locals) u .name; now = vs .0 } (T12 .locals) u)))
 
   module _ (Pre· : (κs : Lifetimes.Lfts 9) → Kinds.Dens κs ps → Type 0) (Post· : (κs : Lifetimes.Lfts 9) → (a : Kinds.Dens κs ps) → Kinds.Plain 9 ps r κs) where
     module _ (M : Type 1) where
       abbrev pub Closed : Type 2
       Closed = (𝓤 : URA.URA M) (H : Wp.Heap 𝓤) (A : Atoms.Atoms 𝓤) (W : Kit.Given 𝓤 H A) (𝓣 : Wp.Tables 𝓤 H) (known0 : Plain.Known 𝓤 H A W 𝓣 9 ps·0 r·0 (claims· .0) (claims· .1) "conductor::calls::grant") (known1 : Plain.Known 𝓤 H A W 𝓣 0 ps·1 r·1 (claims· .2) (claims· .3) "handset::replies::with_bit") (known2 : Plain.Known 𝓤 H A W 𝓣 0 ps·2 r·2 (claims· .4)
-          (claims· .5) "handset::replies::unusable_number") (known3 : Plain.Known 𝓤 H A W 𝓣 0 ps·3 r·3 (claims· .6) (claims· .7) "handset::replies::next_asked") (known4 : Plain.Known 𝓤 H A W 𝓣 0 ps·4 r·4 (claims· .8) (claims· .9) "handset::replies::reply_with") → Statement.Triple 𝓤 (Wp.WpFn 𝓤 H (𝓣 .C) (𝓣 .Λ) (Function.fnOf 9 ps r xs m hs body)) (Function.plainOf
+          (claims· .5) "handset::replies::unusable_number") (known3 : Plain.Known 𝓤 H A W 𝓣 0 ps·3 r·1 (claims· .6) (claims· .7) "handset::replies::next_asked") (known4 : Plain.Known 𝓤 H A W 𝓣 0 ps·4 r·4 (claims· .8) (claims· .9) "handset::replies::reply_with") → Statement.Triple 𝓤 (Wp.WpFn 𝓤 H (𝓣 .C) (𝓣 .Λ) (Function.fnOf 9 ps r xs m hs body)) (Function.plainOf
           𝓤 H A 9 ps r Pre· Post·)
 
     module _ (Inv·0 : InvT-loop) (μ·0 : MeasureT-loop) where
@@ -676,26 +667,26 @@ module _ (claims· : Claims) where
 
       module _ {M : Type 1} (𝓤 : URA.URA M) (H : Wp.Heap 𝓤) (A : Atoms.Atoms 𝓤) (W : Kit.Given 𝓤 H A) (𝓣 : Wp.Tables 𝓤 H) where
         abbrev Knowns : Type 1
-        Knowns = Plain.Known 𝓤 H A W 𝓣 9 ps·0 r·0 (claims· .0) (claims· .1) "conductor::calls::grant" × Plain.Known 𝓤 H A W 𝓣 0 ps·1 r·1 (claims· .2) (claims· .3) "handset::replies::with_bit" × Plain.Known 𝓤 H A W 𝓣 0 ps·2 r·2 (claims· .4) (claims· .5) "handset::replies::unusable_number" × Plain.Known 𝓤 H A W 𝓣 0 ps·3 r·3 (claims· .6) (claims· .7)
+        Knowns = Plain.Known 𝓤 H A W 𝓣 9 ps·0 r·0 (claims· .0) (claims· .1) "conductor::calls::grant" × Plain.Known 𝓤 H A W 𝓣 0 ps·1 r·1 (claims· .2) (claims· .3) "handset::replies::with_bit" × Plain.Known 𝓤 H A W 𝓣 0 ps·2 r·2 (claims· .4) (claims· .5) "handset::replies::unusable_number" × Plain.Known 𝓤 H A W 𝓣 0 ps·3 r·1 (claims· .6) (claims· .7)
             "handset::replies::next_asked" × Plain.Known 𝓤 H A W 𝓣 0 ps·4 r·4 (claims· .8) (claims· .9) "handset::replies::reply_with"
 
       module _ (κs : Lifetimes.Lfts 9) (qs : Lifetimes.Shares 9) where
         abbrev g9 : List.List Row.Entry
         g9 = List._∷_ (0, Rows.any-gone ty·10) (List._∷_ (1, Rows.sslice (Referent.rtF (Referent.fInt Syntax.w16)) ty·4 0) (List._∷_ (2, Rows.sslice (Referent.rtF (Referent.fInt Syntax.w16)) ty·5 1) (List._∷_ (3, Rows.sslice (Referent.rtF (Referent.fInt Syntax.w8)) ty·2 2) (List._∷_ (4, Rows.sslice (Referent.rtF (Referent.fInt Syntax.w16)) ty·6 3) (List._∷_
             (5, Rows.sslice (Referent.rtF (Referent.fInt Syntax.w16)) ty·7 4) (List._∷_ (6, Rows.sslice (Referent.rtF (Referent.fInt Syntax.w32)) ty·8 5) (List._∷_ (7, Rows.sslice (Referent.rtF (Referent.fInt Syntax.w16)) ty·9 6) (List._∷_
-            (8, Relend.mslice-owed (Referent.rtF (Referent.fInt Syntax.w8)) ty·3 7 9 (Row.lease (κs .1 .1 .1 .1 .1 .1 .1 .0) (qs .1 .1 .1 .1 .1 .1 .1 .0))) (List._∷_ (9, Rows.sslice Rec.rt ty·0 8) (List._∷_ (10, Rows.sc-here (Row.sInt Syntax.w32)) (List._∷_ (11, Rows.any-gone (Syntax.tyInt Syntax.w8)) (List._∷_ (12, Rows.sc-here (Row.sInt Syntax.w64)) (List._∷_
+            (8, Relend.mslice-owed (Referent.rtF (Referent.fInt Syntax.w8)) ty·3 7 9 (Row.lease (κs .1 .1 .1 .1 .1 .1 .1 .0) (qs .1 .1 .1 .1 .1 .1 .1 .0))) (List._∷_ (9, Rows.sslice Rec.rt ty·0 8) (List._∷_ (10, Rows.sc-here (Row.sInt Syntax.w64)) (List._∷_ (11, Rows.any-gone (Syntax.tyInt Syntax.w8)) (List._∷_ (12, Rows.sc-here (Row.sInt Syntax.w64)) (List._∷_
             (13, Rows.any-gone ty·11) (List._∷_ (14, Rows.any-gone Syntax.tyBool) (List._∷_ (15, Relend.msptr (Referent.rtF (Referent.fInt Syntax.w8)) ty·1 9) List.[])))))))))))))))
 
         abbrev g10 : List.List Row.Entry
         g10 = List._∷_ (0, Rows.any-gone ty·10) (List._∷_ (1, Rows.sslice (Referent.rtF (Referent.fInt Syntax.w16)) ty·4 0) (List._∷_ (2, Rows.sslice (Referent.rtF (Referent.fInt Syntax.w16)) ty·5 1) (List._∷_ (3, Rows.sslice (Referent.rtF (Referent.fInt Syntax.w8)) ty·2 2) (List._∷_ (4, Rows.sslice (Referent.rtF (Referent.fInt Syntax.w16)) ty·6 3) (List._∷_
             (5, Rows.sslice (Referent.rtF (Referent.fInt Syntax.w16)) ty·7 4) (List._∷_ (6, Rows.sslice (Referent.rtF (Referent.fInt Syntax.w32)) ty·8 5) (List._∷_ (7, Rows.sslice (Referent.rtF (Referent.fInt Syntax.w16)) ty·9 6) (List._∷_
-            (8, Relend.mslice-owed (Referent.rtF (Referent.fInt Syntax.w8)) ty·3 7 9 (Row.lease (κs .1 .1 .1 .1 .1 .1 .1 .0) (qs .1 .1 .1 .1 .1 .1 .1 .0))) (List._∷_ (9, Rows.sslice Rec.rt ty·0 8) (List._∷_ (10, Rows.sc-here (Row.sInt Syntax.w32)) (List._∷_ (11, Rows.any-gone (Syntax.tyInt Syntax.w8)) (List._∷_ (12, Rows.sc-here (Row.sInt Syntax.w64)) (List._∷_
+            (8, Relend.mslice-owed (Referent.rtF (Referent.fInt Syntax.w8)) ty·3 7 9 (Row.lease (κs .1 .1 .1 .1 .1 .1 .1 .0) (qs .1 .1 .1 .1 .1 .1 .1 .0))) (List._∷_ (9, Rows.sslice Rec.rt ty·0 8) (List._∷_ (10, Rows.sc-here (Row.sInt Syntax.w64)) (List._∷_ (11, Rows.any-gone (Syntax.tyInt Syntax.w8)) (List._∷_ (12, Rows.sc-here (Row.sInt Syntax.w64)) (List._∷_
             (13, Rows.any-gone ty·11) (List._∷_ (14, Rows.any-gone Syntax.tyBool) (List._∷_ (15, Rows.any-gone ty·1) List.[])))))))))))))))
 
         abbrev g12 : List.List Row.Entry
         g12 = List._∷_ (0, Rows.any-gone ty·10) (List._∷_ (1, Rows.sslice (Referent.rtF (Referent.fInt Syntax.w16)) ty·4 0) (List._∷_ (2, Rows.sslice (Referent.rtF (Referent.fInt Syntax.w16)) ty·5 1) (List._∷_ (3, Rows.sslice (Referent.rtF (Referent.fInt Syntax.w8)) ty·2 2) (List._∷_ (4, Rows.sslice (Referent.rtF (Referent.fInt Syntax.w16)) ty·6 3) (List._∷_
             (5, Rows.sslice (Referent.rtF (Referent.fInt Syntax.w16)) ty·7 4) (List._∷_ (6, Rows.sslice (Referent.rtF (Referent.fInt Syntax.w32)) ty·8 5) (List._∷_ (7, Rows.sslice (Referent.rtF (Referent.fInt Syntax.w16)) ty·9 6) (List._∷_
-            (8, Relend.mslice-owed (Referent.rtF (Referent.fInt Syntax.w8)) ty·3 7 9 (Row.lease (κs .1 .1 .1 .1 .1 .1 .1 .0) (qs .1 .1 .1 .1 .1 .1 .1 .0))) (List._∷_ (9, Rows.sslice Rec.rt ty·0 8) (List._∷_ (10, Rows.sc-here (Row.sInt Syntax.w32)) (List._∷_ (11, Rows.any-gone (Syntax.tyInt Syntax.w8)) (List._∷_ (12, Rows.sc-here (Row.sInt Syntax.w64)) (List._∷_
+            (8, Relend.mslice-owed (Referent.rtF (Referent.fInt Syntax.w8)) ty·3 7 9 (Row.lease (κs .1 .1 .1 .1 .1 .1 .1 .0) (qs .1 .1 .1 .1 .1 .1 .1 .0))) (List._∷_ (9, Rows.sslice Rec.rt ty·0 8) (List._∷_ (10, Rows.sc-here (Row.sInt Syntax.w64)) (List._∷_ (11, Rows.any-gone (Syntax.tyInt Syntax.w8)) (List._∷_ (12, Rows.sc-here (Row.sInt Syntax.w64)) (List._∷_
             (13, Rows.whole (Declared.row GrantReply.the-type)) (List._∷_ (14, Rows.any-gone Syntax.tyBool) (List._∷_ (15, Rows.any-gone ty·1) List.[])))))))))))))))
 
         abbrev slots·0 : List.List Row.Life
@@ -809,7 +800,7 @@ module _ (claims· : Claims) where
 
           d6 : Typed.Typed 𝓤 H A 𝓣 E G30 b13 Δ3 at6
           d6 = Typed.s-typed 𝓤 H A W 𝓣 E G30 b13 Δ3 (λ Ψ. Typed.both s27 (Typed.pass T29 T32 s28 (Typed.pass T32 T12 s29 Ψ))) tt (Typed.g-post 𝓤 H A W 𝓣 E G30 G32 G12 b13 (λ Ψ. Typed.both s27 (Typed.pass T29 T32 s28 Ψ)) (Typed.pass T32 T12 s29) (Typed.g-post 𝓤 H A W 𝓣 E G30 G29 G32 b13 (Typed.both s27) (Typed.pass T29 T32 s28) (Plain.t-call-plain 𝓤 H A W 𝓣 0
-              ps·3 r·3 (claims· .6) (claims· .7) "handset::replies::next_asked" (known .3) E (λ pos β. β) G30 args·2 12 List.[] (Call.sub-id 𝓤 H A W (G30 .slots))
+              ps·3 r·1 (claims· .6) (claims· .7) "handset::replies::next_asked" (known .3) E (λ pos β. β) G30 args·2 12 List.[] (Call.sub-id 𝓤 H A W (G30 .slots))
               ((Scalar.reads-sc 𝓤 H A W (Row.sInt Syntax.w64), Path'.refl), ((Yields.yields-copy 𝓤 H A W (λ ρ. Unit) (Declared.row GrantReply.the-type) Path'.refl (Copies.cEnum GrantReply.the-type Laws.the-laws Laws.the-copy .copy 𝓤 H A W) (Rows.whole (Declared.row GrantReply.the-type)) (λ x. x) (λ x. x) (λ ρ told. Local.mem-whole 𝓤 H A W (Declared.row GrantReply.the-type) ρ) λ ρ told. Local.whole-mem 𝓤 H A W (Declared.row GrantReply.the-type) ρ, Path'.refl), tt))
               (Reads.room-gone 𝓤 H A (Syntax.tyInt Syntax.w64)) tt Path'.refl) (Scalar.g-room 𝓤 H A W E G29 13 ty·11 (Local.room-whole 𝓤 H A W (Declared.row GrantReply.the-type) ty·11 Path'.refl))) (Scalar.g-room 𝓤 H A W E G32 17 (Syntax.tyInt Syntax.w64) (Scalar.room-sc 𝓤 H A W (Row.sInt Syntax.w64))))
 
@@ -823,8 +814,8 @@ module _ (claims· : Claims) where
           d11 : Typed.Typed 𝓤 H A 𝓣 E G24 b16 Δ3 at10
           d11 = Typed.g-pre 𝓤 H A W 𝓣 E G24 G26 b16 Δ3 (λ Ψ. Ψ) at10 (Lifetime.g-forget 𝓤 H A W E G24 9 Row.dead Path'.refl) (Typed.s-seq 𝓤 H A W 𝓣 E G26 G26 b10 b15 Δ3 (Typed.both s23) at9 (Plain.t-call-plain 𝓤 H A W 𝓣 0 ps·1 r·1 (claims· .2) (claims· .3) "handset::replies::with_bit" (known .1) E (λ pos β. β) G26 args·1 10 List.[] (Call.sub-id 𝓤 H A W (G26
               .slots))
-              ((Scalar.reads-sc 𝓤 H A W (Row.sInt Syntax.w32), Path'.refl), ((Scalar.reads-sc 𝓤 H A W (Row.sInt Syntax.w64), Path'.refl), ((Yields.yields-copy 𝓤 H A W (λ ρ. Unit) (Declared.row GrantReply.the-type) Path'.refl (Copies.cEnum GrantReply.the-type Laws.the-laws Laws.the-copy .copy 𝓤 H A W) (Rows.whole (Declared.row GrantReply.the-type)) (λ x. x) (λ x. x) (λ ρ told. Local.mem-whole 𝓤 H A W (Declared.row GrantReply.the-type) ρ) λ ρ told. Local.whole-mem 𝓤 H A W (Declared.row GrantReply.the-type) ρ, Path'.refl), tt)))
-              (Scalar.room-sc 𝓤 H A W (Row.sInt Syntax.w32)) tt Path'.refl) d9)
+              ((Scalar.reads-sc 𝓤 H A W (Row.sInt Syntax.w64), Path'.refl), ((Scalar.reads-sc 𝓤 H A W (Row.sInt Syntax.w64), Path'.refl), ((Yields.yields-copy 𝓤 H A W (λ ρ. Unit) (Declared.row GrantReply.the-type) Path'.refl (Copies.cEnum GrantReply.the-type Laws.the-laws Laws.the-copy .copy 𝓤 H A W) (Rows.whole (Declared.row GrantReply.the-type)) (λ x. x) (λ x. x) (λ ρ told. Local.mem-whole 𝓤 H A W (Declared.row GrantReply.the-type) ρ) λ ρ told. Local.whole-mem 𝓤 H A W (Declared.row GrantReply.the-type) ρ, Path'.refl), tt)))
+              (Scalar.room-sc 𝓤 H A W (Row.sInt Syntax.w64)) tt Path'.refl) d9)
 
           d14 : Typed.Typed 𝓤 H A 𝓣 E G22 b16 Δ3 at13
           d14 = Typed.g-pre 𝓤 H A W 𝓣 E G22 G23 b16 Δ3 (λ Ψ. Ψ) at13 (Lifetime.g-end 𝓤 H A W E G22 9 Path'.refl) (Typed.g-pre 𝓤 H A W 𝓣 E G23 G24 b16 Δ3 (Typed.both s20) at12 (Relend.g-back-sl 𝓤 H A W E (Referent.rtF (Referent.fInt Syntax.w8)) G23 16 8 7 9 ty·3 ty·1 (Row.lease (κs .1 .1 .1 .1 .1 .1 .1 .0) (qs .1 .1 .1 .1 .1 .1 .1 .0)) (λ x. x) (λ x. x)
@@ -851,7 +842,7 @@ module _ (claims· : Claims) where
           d21 = Typed.t-loop-by 𝓤 H A W 𝓣 E G12 b21 Δ2 put0 (λ u vs. Inv·0 (Row.get 1 (T12 .locals) u .now) (Row.get 2 (T12 .locals) u .now) (Row.get 3 (T12 .locals) u .now) (Row.get 4 (T12 .locals) u .now) (Row.get 5 (T12 .locals) u .now) (Row.get 6 (T12 .locals) u .now) (Row.get 7 (T12 .locals) u .now) (Row.get 8 (T12 .locals) u .now) (Row.get 9 (T12
               .locals) u .now) (Row.get 10 (T12 .locals) u) (Row.get 11 (T12 .locals) u) (Row.get 12 (T12 .locals) u) (vs .0) (vs .1) (vs .2) (vs .3)) (λ u vs. μ·0 (Row.get 1 (T12 .locals) u .now) (Row.get 2 (T12 .locals) u .now) (Row.get 3 (T12 .locals) u .now) (Row.get 4 (T12 .locals) u .now) (Row.get 5 (T12 .locals) u .now) (Row.get 6 (T12 .locals) u .now)
               (Row.get 7 (T12 .locals) u .now) (Row.get 8 (T12 .locals) u .now) (Row.get 9 (T12 .locals) u .now) (Row.get 10 (T12 .locals) u) (Row.get 11 (T12 .locals) u) (Row.get 12 (T12 .locals) u) (vs .0) (vs .1) (vs .2) (vs .3)) at20 (Typed.s-seq 𝓤 H A W 𝓣 E G12 G14 b3 b20 Δ3 (Typed.ask s11) at19 (Scalar.t-op2 𝓤 H A W E 𝓣 G12 (Syntax.lt Syntax.unsigned)
-              (Scalar.oAt 12 (Syntax.tyInt Syntax.w64) (Row.valS (Row.sInt Syntax.w64))) (Scalar.oInt Syntax.w64 32) 14 (Rows.sc-here Row.sBool) Syntax.tyBool (Row.valS Row.sBool) (Row.sBool .of) (Scalar.reads-sc 𝓤 H A W (Row.sInt Syntax.w64), Path'.refl) tt (Reads.room-gone 𝓤 H A Syntax.tyBool) (Scalar.holds-sc 𝓤 H A W Row.sBool) Path'.refl (λ u. Path'.refl) λ
+              (Scalar.oAt 12 (Syntax.tyInt Syntax.w64) (Row.valS (Row.sInt Syntax.w64))) (Scalar.oInt Syntax.w64 64) 14 (Rows.sc-here Row.sBool) Syntax.tyBool (Row.valS Row.sBool) (Row.sBool .of) (Scalar.reads-sc 𝓤 H A W (Row.sInt Syntax.w64), Path'.refl) tt (Reads.room-gone 𝓤 H A Syntax.tyBool) (Scalar.holds-sc 𝓤 H A W Row.sBool) Path'.refl (λ u. Path'.refl) λ
               u. tt) d19)
 
           d22 : Typed.Typed 𝓤 H A 𝓣 E G12 b23 Δ1 at22
@@ -862,7 +853,7 @@ module _ (claims· : Claims) where
 
           d27 : Typed.Typed 𝓤 H A 𝓣 E G12 b26 Δ0 at27
           d27 = Typed.s-seq 𝓤 H A W 𝓣 E G12 G34 b24 b25 Δ0 (Typed.both s30) at26 (Plain.t-call-plain 𝓤 H A W 𝓣 0 ps·4 r·4 (claims· .8) (claims· .9) "handset::replies::reply_with" (known .4) E (λ pos β. β) G12 (Num.vAt 11 λ x. x, (Num.vAt 10 λ x. x, tt)) 0 List.[] (Call.sub-id 𝓤 H A W (G12 .slots))
-              ((Scalar.reads-sc 𝓤 H A W (Row.sInt Syntax.w8), Path'.refl), ((Scalar.reads-sc 𝓤 H A W (Row.sInt Syntax.w32), Path'.refl), tt)) (Reads.room-gone 𝓤 H A ty·10) tt Path'.refl) (Typed.g-pre 𝓤 H A W 𝓣 E G34 G35 b25 Δ0 (Typed.pass T34 T35 s31) at25 (Scalar.g-room 𝓤 H A W E G34 10 (Syntax.tyInt Syntax.w32) (Scalar.room-sc 𝓤 H A W (Row.sInt Syntax.w32)))
+              ((Scalar.reads-sc 𝓤 H A W (Row.sInt Syntax.w8), Path'.refl), ((Scalar.reads-sc 𝓤 H A W (Row.sInt Syntax.w64), Path'.refl), tt)) (Reads.room-gone 𝓤 H A ty·10) tt Path'.refl) (Typed.g-pre 𝓤 H A W 𝓣 E G34 G35 b25 Δ0 (Typed.pass T34 T35 s31) at25 (Scalar.g-room 𝓤 H A W E G34 10 (Syntax.tyInt Syntax.w64) (Scalar.room-sc 𝓤 H A W (Row.sInt Syntax.w64)))
               (Typed.g-pre 𝓤 H A W 𝓣 E G35 G36 b25 Δ0 (Typed.pass T35 T36 s32) at24 (Scalar.g-room 𝓤 H A W E G35 11 (Syntax.tyInt Syntax.w8) (Scalar.room-sc 𝓤 H A W (Row.sInt Syntax.w8))) (Typed.g-pre 𝓤 H A W 𝓣 E G36 G1 b25 Δ0 (Typed.pass T36 T1 s33) at23 (Scalar.g-room 𝓤 H A W E G36 12 (Syntax.tyInt Syntax.w64) (Scalar.room-sc 𝓤 H A W (Row.sInt Syntax.w64)))
               d23)))
 
@@ -870,8 +861,8 @@ module _ (claims· : Claims) where
           d28 = Typed.t-seq 𝓤 H A W 𝓣 E G12 G12 b23 b26 Δ0 at22 at27 d22 d27
 
           d31 : Typed.Typed 𝓤 H A 𝓣 E G0 b30 Δ0 at31
-          d31 = Typed.s-seq 𝓤 H A W 𝓣 E G0 G10 b0 b29 Δ0 (Typed.pass T0 T10 s8) at30 (Scalar.t-use 𝓤 H A W E 𝓣 G0 (Scalar.oInt Syntax.w32 0) 10 (Rows.sc-here (Row.sInt Syntax.w32)) (Syntax.tyInt Syntax.w32) (Row.valS (Row.sInt Syntax.w32)) (Row.sInt Syntax.w32 .of) tt (Reads.room-gone 𝓤 H A (Syntax.tyInt Syntax.w32)) (Scalar.holds-sc 𝓤 H A W (Row.sInt
-              Syntax.w32)) Path'.refl (λ u. Path'.refl) λ u. tt) (Typed.s-seq 𝓤 H A W 𝓣 E G10 G11 b1 b28 Δ0 (Typed.pass T10 T11 s9) at29 (Scalar.t-use 𝓤 H A W E 𝓣 G10 (Scalar.oInt Syntax.w8 0) 11 (Rows.sc-here (Row.sInt Syntax.w8)) (Syntax.tyInt Syntax.w8) (Row.valS (Row.sInt Syntax.w8)) (Row.sInt Syntax.w8 .of) tt (Reads.room-gone 𝓤 H A (Syntax.tyInt
+          d31 = Typed.s-seq 𝓤 H A W 𝓣 E G0 G10 b0 b29 Δ0 (Typed.pass T0 T10 s8) at30 (Scalar.t-use 𝓤 H A W E 𝓣 G0 (Scalar.oInt Syntax.w64 0) 10 (Rows.sc-here (Row.sInt Syntax.w64)) (Syntax.tyInt Syntax.w64) (Row.valS (Row.sInt Syntax.w64)) (Row.sInt Syntax.w64 .of) tt (Reads.room-gone 𝓤 H A (Syntax.tyInt Syntax.w64)) (Scalar.holds-sc 𝓤 H A W (Row.sInt
+              Syntax.w64)) Path'.refl (λ u. Path'.refl) λ u. tt) (Typed.s-seq 𝓤 H A W 𝓣 E G10 G11 b1 b28 Δ0 (Typed.pass T10 T11 s9) at29 (Scalar.t-use 𝓤 H A W E 𝓣 G10 (Scalar.oInt Syntax.w8 0) 11 (Rows.sc-here (Row.sInt Syntax.w8)) (Syntax.tyInt Syntax.w8) (Row.valS (Row.sInt Syntax.w8)) (Row.sInt Syntax.w8 .of) tt (Reads.room-gone 𝓤 H A (Syntax.tyInt
               Syntax.w8)) (Scalar.holds-sc 𝓤 H A W (Row.sInt Syntax.w8)) Path'.refl (λ u. Path'.refl) λ u. tt) (Typed.s-seq 𝓤 H A W 𝓣 E G11 G12 b2 b27 Δ0 (Typed.pass T11 T12 s10) at28 (Scalar.t-use 𝓤 H A W E 𝓣 G11 (Scalar.oInt Syntax.w64 0) 12 (Rows.sc-here (Row.sInt Syntax.w64)) (Syntax.tyInt Syntax.w64) (Row.valS (Row.sInt Syntax.w64)) (Row.sInt Syntax.w64
               .of) tt (Reads.room-gone 𝓤 H A (Syntax.tyInt Syntax.w64)) (Scalar.holds-sc 𝓤 H A W (Row.sInt Syntax.w64)) Path'.refl (λ u. Path'.refl) λ u. tt) d28))
 
@@ -1016,27 +1007,27 @@ module _ (claims· : Claims) where
           (Row.get 10 (T12 .locals) (m11 (c .before) (c .slice-known .given))) (Row.get 11 (T12 .locals) (m11 (c .before) (c .slice-known .given))) (Row.get 12 (T12 .locals) (m11 (c .before) (c .slice-known .given))) (Row.get 8 (T12 .locals) (m11 (c .before) (c .slice-known .given)) .now) (Row.get 10 (T12 .locals) (m11 (c .before) (c .slice-known .given)))
           (Row.get 11 (T12 .locals) (m11 (c .before) (c .slice-known .given))) (Row.get 12 (T12 .locals) (m11 (c .before) (c .slice-known .given)))
 
-      abbrev pub m12 : (before : After-slice-known) → (drone-flags : List.List (Referent.rtF (Referent.fInt Syntax.w8) .Denot)) → (bits : Rows.sc-here (Row.sInt Syntax.w32) .Mod) → (unusable-by : Rows.sc-here (Row.sInt Syntax.w8) .Mod) → (drone : Rows.sc-here (Row.sInt Syntax.w64) .Mod) → Typed.Mo T12
-      m12 = λ before drone-flags bits unusable-by drone. Row.set 12 (12, Rows.sc-here (Row.sInt Syntax.w64)) drone (Row.setRow 11 (11, Rows.sc-here (Row.sInt Syntax.w8)) (Row.setRow 10 (10, Rows.sc-here (Row.sInt Syntax.w32)) (Row.setRow 8 (8, Mut.mslice (Referent.rtF (Referent.fInt Syntax.w8)) ty·3 7) (T12 .locals)))) (Row.set 11
-          (11, Rows.sc-here (Row.sInt Syntax.w8)) unusable-by (Row.setRow 10 (10, Rows.sc-here (Row.sInt Syntax.w32)) (Row.setRow 8 (8, Mut.mslice (Referent.rtF (Referent.fInt Syntax.w8)) ty·3 7) (T12 .locals))) (Row.set 10 (10, Rows.sc-here (Row.sInt Syntax.w32)) bits (Row.setRow 8 (8, Mut.mslice (Referent.rtF (Referent.fInt Syntax.w8)) ty·3 7) (T12 .locals))
+      abbrev pub m12 : (before : After-slice-known) → (drone-flags : List.List (Referent.rtF (Referent.fInt Syntax.w8) .Denot)) → (bits : Rows.sc-here (Row.sInt Syntax.w64) .Mod) → (unusable-by : Rows.sc-here (Row.sInt Syntax.w8) .Mod) → (drone : Rows.sc-here (Row.sInt Syntax.w64) .Mod) → Typed.Mo T12
+      m12 = λ before drone-flags bits unusable-by drone. Row.set 12 (12, Rows.sc-here (Row.sInt Syntax.w64)) drone (Row.setRow 11 (11, Rows.sc-here (Row.sInt Syntax.w8)) (Row.setRow 10 (10, Rows.sc-here (Row.sInt Syntax.w64)) (Row.setRow 8 (8, Mut.mslice (Referent.rtF (Referent.fInt Syntax.w8)) ty·3 7) (T12 .locals)))) (Row.set 11
+          (11, Rows.sc-here (Row.sInt Syntax.w8)) unusable-by (Row.setRow 10 (10, Rows.sc-here (Row.sInt Syntax.w64)) (Row.setRow 8 (8, Mut.mslice (Referent.rtF (Referent.fInt Syntax.w8)) ty·3 7) (T12 .locals))) (Row.set 10 (10, Rows.sc-here (Row.sInt Syntax.w64)) bits (Row.setRow 8 (8, Mut.mslice (Referent.rtF (Referent.fInt Syntax.w8)) ty·3 7) (T12 .locals))
           (Row.set 8 (8, Mut.mslice (Referent.rtF (Referent.fInt Syntax.w8)) ty·3 7) record { ptr = Row.get 8 (T12 .locals) (m11 (before .before) (before .slice-known .given)) .ptr; name = Row.get 8 (T12 .locals) (m11 (before .before) (before .slice-known .given)) .name; now = drone-flags } (T12 .locals) (m11 (before .before) (before .slice-known .given)))))
 
-      abbrev W3 : (before : After-slice-known) → (drone-flags : List.List (Referent.rtF (Referent.fInt Syntax.w8) .Denot)) → (bits : Rows.sc-here (Row.sInt Syntax.w32) .Mod) → (unusable-by : Rows.sc-here (Row.sInt Syntax.w8) .Mod) → (drone : Rows.sc-here (Row.sInt Syntax.w64) .Mod) → Typed.Want O3
+      abbrev W3 : (before : After-slice-known) → (drone-flags : List.List (Referent.rtF (Referent.fInt Syntax.w8) .Denot)) → (bits : Rows.sc-here (Row.sInt Syntax.w64) .Mod) → (unusable-by : Rows.sc-here (Row.sInt Syntax.w8) .Mod) → (drone : Rows.sc-here (Row.sInt Syntax.w64) .Mod) → Typed.Want O3
       W3 = λ before drone-flags bits unusable-by drone. Typed.inLoop T12 O2 (Typed.Round T12 O2 put0 (λ u vs. Inv·0 (Row.get 1 (T12 .locals) u .now) (Row.get 2 (T12 .locals) u .now) (Row.get 3 (T12 .locals) u .now) (Row.get 4 (T12 .locals) u .now) (Row.get 5 (T12 .locals) u .now) (Row.get 6 (T12 .locals) u .now) (Row.get 7 (T12 .locals) u .now) (Row.get 8
           (T12 .locals) u .now) (Row.get 9 (T12 .locals) u .now) (Row.get 10 (T12 .locals) u) (Row.get 11 (T12 .locals) u) (Row.get 12 (T12 .locals) u) (vs .0) (vs .1) (vs .2) (vs .3)) (λ u vs. μ·0 (Row.get 1 (T12 .locals) u .now) (Row.get 2 (T12 .locals) u .now) (Row.get 3 (T12 .locals) u .now) (Row.get 4 (T12 .locals) u .now) (Row.get 5 (T12 .locals) u .now)
           (Row.get 6 (T12 .locals) u .now) (Row.get 7 (T12 .locals) u .now) (Row.get 8 (T12 .locals) u .now) (Row.get 9 (T12 .locals) u .now) (Row.get 10 (T12 .locals) u) (Row.get 11 (T12 .locals) u) (Row.get 12 (T12 .locals) u) (vs .0) (vs .1) (vs .2) (vs .3)) at20 (m11 (before .before) (before .slice-known .given)) (drone-flags, bits, unusable-by, drone)) (W2
           (before .before) (before .slice-known .given))
 
-      abbrev pub m13 : (before : After-slice-known) → (drone-flags : List.List (Referent.rtF (Referent.fInt Syntax.w8) .Denot)) → (bits : Rows.sc-here (Row.sInt Syntax.w32) .Mod) → (unusable-by : Rows.sc-here (Row.sInt Syntax.w8) .Mod) → (drone : Rows.sc-here (Row.sInt Syntax.w64) .Mod) → Typed.Mo T14
+      abbrev pub m13 : (before : After-slice-known) → (drone-flags : List.List (Referent.rtF (Referent.fInt Syntax.w8) .Denot)) → (bits : Rows.sc-here (Row.sInt Syntax.w64) .Mod) → (unusable-by : Rows.sc-here (Row.sInt Syntax.w8) .Mod) → (drone : Rows.sc-here (Row.sInt Syntax.w64) .Mod) → Typed.Mo T14
       m13 = λ before drone-flags bits unusable-by drone. s11 .next (m12 before drone-flags bits unusable-by drone)
 
-      abbrev W4 : (before : After-slice-known) → (drone-flags : List.List (Referent.rtF (Referent.fInt Syntax.w8) .Denot)) → (bits : Rows.sc-here (Row.sInt Syntax.w32) .Mod) → (unusable-by : Rows.sc-here (Row.sInt Syntax.w8) .Mod) → (drone : Rows.sc-here (Row.sInt Syntax.w64) .Mod) → Typed.Want O4
+      abbrev W4 : (before : After-slice-known) → (drone-flags : List.List (Referent.rtF (Referent.fInt Syntax.w8) .Denot)) → (bits : Rows.sc-here (Row.sInt Syntax.w64) .Mod) → (unusable-by : Rows.sc-here (Row.sInt Syntax.w8) .Mod) → (drone : Rows.sc-here (Row.sInt Syntax.w64) .Mod) → Typed.Want O4
       W4 = λ before drone-flags bits unusable-by drone. Typed.wantNext T15 O3 (at17 (W3 before drone-flags bits unusable-by drone)) (W3 before drone-flags bits unusable-by drone)
 
       module _ (before· : After-slice-known) where
         pub record At-loop·own : Type 0 where
           pub drone-flags : List.List (Referent.rtF (Referent.fInt Syntax.w8) .Denot)
-          pub bits : Rows.sc-here (Row.sInt Syntax.w32) .Mod
+          pub bits : Rows.sc-here (Row.sInt Syntax.w64) .Mod
           pub unusable-by : Rows.sc-here (Row.sInt Syntax.w8) .Mod
           pub drone : Rows.sc-here (Row.sInt Syntax.w64) .Mod
           pub inv : Inv·0 (Row.get 1 (T12 .locals) (m11 (before· .before) (before· .slice-known .given)) .now) (Row.get 2 (T12 .locals) (m11 (before· .before) (before· .slice-known .given)) .now) (Row.get 3 (T12 .locals) (m11 (before· .before) (before· .slice-known .given)) .now) (Row.get 4 (T12 .locals) (m11 (before· .before) (before· .slice-known .given))
@@ -1050,7 +1041,7 @@ module _ (claims· : Claims) where
 
       module _ (before· : At-loop) where
         pub record In-loop·own : Type 0 where
-          pub taken : Nat._<_ (Row.get 12 (T12 .locals) (m12 (before· .before) (before· .loop .drone-flags) (before· .loop .bits) (before· .loop .unusable-by) (before· .loop .drone))) 32
+          pub taken : Nat._<_ (Row.get 12 (T12 .locals) (m12 (before· .before) (before· .loop .drone-flags) (before· .loop .bits) (before· .loop .unusable-by) (before· .loop .drone))) 64
 
       pub record In-loop : Type 0 where
         pub before : At-loop
@@ -1061,7 +1052,7 @@ module _ (claims· : Claims) where
 
       module _ (before· : At-loop) where
         pub record After-loop·own : Type 0 where
-          pub left : Nat._≤_ 32 (Row.get 12 (T12 .locals) (m12 (before· .before) (before· .loop .drone-flags) (before· .loop .bits) (before· .loop .unusable-by) (before· .loop .drone)))
+          pub left : Nat._≤_ 64 (Row.get 12 (T12 .locals) (m12 (before· .before) (before· .loop .drone-flags) (before· .loop .bits) (before· .loop .unusable-by) (before· .loop .drone)))
 
       pub record After-loop : Type 0 where
         pub before : At-loop
@@ -1168,14 +1159,14 @@ module _ (claims· : Claims) where
 
       module _ (before· : After-unusable-number) where
         abbrev pub After-next-asked·own : Type 0
-        After-next-asked·own = Called.Called ps·3 r·3 (claims· .7) T30 args·2 (m25 (before· .before) (After-unusable-number·gave before·))
+        After-next-asked·own = Called.Called ps·3 r·1 (claims· .7) T30 args·2 (m25 (before· .before) (After-unusable-number·gave before·))
 
       pub record After-next-asked : Type 0 where
         pub before : After-unusable-number
         pub next-asked : After-next-asked·own before
 
       abbrev pub After-next-asked·gave : (c : After-next-asked) → s27 .gives (m25 (c .before .before) (After-unusable-number·gave (c .before)))
-      After-next-asked·gave = λ c. Called.given ps·3 r·3 (claims· .7) T30 args·2 (m25 (c .before .before) (After-unusable-number·gave (c .before))) (c .next-asked)
+      After-next-asked·gave = λ c. Called.given ps·3 r·1 (claims· .7) T30 args·2 (m25 (c .before .before) (After-unusable-number·gave (c .before))) (c .next-asked)
 
       abbrev pub Need-loop-less : Type 0
       Need-loop-less = (c : After-next-asked) → Nat._<_ (μ·0 (Row.get 1 (T12 .locals) (m11 (c .before .before .before .before .before .before .before .before .before .before) (c .before .before .before .before .before .before .before .before .before .slice-known .given)) .now) (Row.get 2 (T12 .locals) (m11 (c .before .before .before .before .before .before
@@ -1248,7 +1239,7 @@ module _ (claims· : Claims) where
         lay6 : (c : After-unusable-number) → at8 (W3 (c .before .before .before .before .before .before .before .before) (c .before .before .before .before .before .before .before .loop .drone-flags) (c .before .before .before .before .before .before .before .loop .bits) (c .before .before .before .before .before .before .before .loop .unusable-by) (c
             .before .before .before .before .before .before .before .loop .drone)) (m23 (c .before) (After-unusable-number·gave c))
         lay6 = λ c.
-            (add-next-asked record { before = c .before; unusable-number = c .unusable-number }, (next-asked-requires record { before = c .before; unusable-number = c .unusable-number }, λ g. (μ·0 (Row.get 1 (T12 .locals) (m11 (c .before .before .before .before .before .before .before .before .before) (c .before .before .before .before .before .before .before .before .slice-known .given)) .now) (Row.get 2 (T12 .locals) (m11 (c .before .before .before .before .before .before .before .before .before) (c .before .before .before .before .before .before .before .before .slice-known .given)) .now) (Row.get 3 (T12 .locals) (m11 (c .before .before .before .before .before .before .before .before .before) (c .before .before .before .before .before .before .before .before .slice-known .given)) .now) (Row.get 4 (T12 .locals) (m11 (c .before .before .before .before .before .before .before .before .before) (c .before .before .before .before .before .before .before .before .slice-known .given)) .now) (Row.get 5 (T12 .locals) (m11 (c .before .before .before .before .before .before .before .before .before) (c .before .before .before .before .before .before .before .before .slice-known .given)) .now) (Row.get 6 (T12 .locals) (m11 (c .before .before .before .before .before .before .before .before .before) (c .before .before .before .before .before .before .before .before .slice-known .given)) .now) (Row.get 7 (T12 .locals) (m11 (c .before .before .before .before .before .before .before .before .before) (c .before .before .before .before .before .before .before .before .slice-known .given)) .now) (Row.get 8 (T12 .locals) (m11 (c .before .before .before .before .before .before .before .before .before) (c .before .before .before .before .before .before .before .before .slice-known .given)) .now) (Row.get 9 (T12 .locals) (m11 (c .before .before .before .before .before .before .before .before .before) (c .before .before .before .before .before .before .before .before .slice-known .given)) .now) (Row.get 10 (T12 .locals) (m11 (c .before .before .before .before .before .before .before .before .before) (c .before .before .before .before .before .before .before .before .slice-known .given))) (Row.get 11 (T12 .locals) (m11 (c .before .before .before .before .before .before .before .before .before) (c .before .before .before .before .before .before .before .before .slice-known .given))) (Row.get 12 (T12 .locals) (m11 (c .before .before .before .before .before .before .before .before .before) (c .before .before .before .before .before .before .before .before .slice-known .given))) (Row.get 8 (T12 .locals) (m28 record { before = c .before; unusable-number = c .unusable-number } g) .now) (Row.get 10 (T12 .locals) (m28 record { before = c .before; unusable-number = c .unusable-number } g)) (Row.get 11 (T12 .locals) (m28 record { before = c .before; unusable-number = c .unusable-number } g)) (Row.get 12 (T12 .locals) (m28 record { before = c .before; unusable-number = c .unusable-number } g)), loop-less record { before = record { before = c .before; unusable-number = c .unusable-number }; next-asked = Called.called ps·3 r·3 (claims· .7) T30 args·2 (m25 (c .before) (After-unusable-number·gave c)) g }, ((Row.get 8 (T12 .locals) (m28 record { before = c .before; unusable-number = c .unusable-number } g) .now, Row.get 10 (T12 .locals) (m28 record { before = c .before; unusable-number = c .unusable-number } g), Row.get 11 (T12 .locals) (m28 record { before = c .before; unusable-number = c .unusable-number } g), Row.get 12 (T12 .locals) (m28 record { before = c .before; unusable-number = c .unusable-number } g)), Path'.refl {a = m28 record { before = c .before; unusable-number = c .unusable-number } g}, loop-again record { before = record { before = c .before; unusable-number = c .unusable-number }; next-asked = Called.called ps·3 r·3 (claims· .7) T30 args·2 (m25 (c .before) (After-unusable-number·gave c)) g }, Path'.refl {a = μ·0 (Row.get 1 (T12 .locals) (m11 (c .before .before .before .before .before .before .before .before .before) (c .before .before .before .before .before .before .before .before .slice-known .given)) .now) (Row.get 2 (T12 .locals) (m11 (c .before .before .before .before .before .before .before .before .before) (c .before .before .before .before .before .before .before .before .slice-known .given)) .now) (Row.get 3 (T12 .locals) (m11 (c .before .before .before .before .before .before .before .before .before) (c .before .before .before .before .before .before .before .before .slice-known .given)) .now) (Row.get 4 (T12 .locals) (m11 (c .before .before .before .before .before .before .before .before .before) (c .before .before .before .before .before .before .before .before .slice-known .given)) .now) (Row.get 5 (T12 .locals) (m11 (c .before .before .before .before .before .before .before .before .before) (c .before .before .before .before .before .before .before .before .slice-known .given)) .now) (Row.get 6 (T12 .locals) (m11 (c .before .before .before .before .before .before .before .before .before) (c .before .before .before .before .before .before .before .before .slice-known .given)) .now) (Row.get 7 (T12 .locals) (m11 (c .before .before .before .before .before .before .before .before .before) (c .before .before .before .before .before .before .before .before .slice-known .given)) .now) (Row.get 8 (T12 .locals) (m11 (c .before .before .before .before .before .before .before .before .before) (c .before .before .before .before .before .before .before .before .slice-known .given)) .now) (Row.get 9 (T12 .locals) (m11 (c .before .before .before .before .before .before .before .before .before) (c .before .before .before .before .before .before .before .before .slice-known .given)) .now) (Row.get 10 (T12 .locals) (m11 (c .before .before .before .before .before .before .before .before .before) (c .before .before .before .before .before .before .before .before .slice-known .given))) (Row.get 11 (T12 .locals) (m11 (c .before .before .before .before .before .before .before .before .before) (c .before .before .before .before .before .before .before .before .slice-known .given))) (Row.get 12 (T12 .locals) (m11 (c .before .before .before .before .before .before .before .before .before) (c .before .before .before .before .before .before .before .before .slice-known .given))) (Row.get 8 (T12 .locals) (m28 record { before = c .before; unusable-number = c .unusable-number } g) .now) (Row.get 10 (T12 .locals) (m28 record { before = c .before; unusable-number = c .unusable-number } g)) (Row.get 11 (T12 .locals) (m28 record { before = c .before; unusable-number = c .unusable-number } g)) (Row.get 12 (T12 .locals) (m28 record { before = c .before; unusable-number = c .unusable-number } g))}))))
+            (add-next-asked record { before = c .before; unusable-number = c .unusable-number }, (next-asked-requires record { before = c .before; unusable-number = c .unusable-number }, λ g. (μ·0 (Row.get 1 (T12 .locals) (m11 (c .before .before .before .before .before .before .before .before .before) (c .before .before .before .before .before .before .before .before .slice-known .given)) .now) (Row.get 2 (T12 .locals) (m11 (c .before .before .before .before .before .before .before .before .before) (c .before .before .before .before .before .before .before .before .slice-known .given)) .now) (Row.get 3 (T12 .locals) (m11 (c .before .before .before .before .before .before .before .before .before) (c .before .before .before .before .before .before .before .before .slice-known .given)) .now) (Row.get 4 (T12 .locals) (m11 (c .before .before .before .before .before .before .before .before .before) (c .before .before .before .before .before .before .before .before .slice-known .given)) .now) (Row.get 5 (T12 .locals) (m11 (c .before .before .before .before .before .before .before .before .before) (c .before .before .before .before .before .before .before .before .slice-known .given)) .now) (Row.get 6 (T12 .locals) (m11 (c .before .before .before .before .before .before .before .before .before) (c .before .before .before .before .before .before .before .before .slice-known .given)) .now) (Row.get 7 (T12 .locals) (m11 (c .before .before .before .before .before .before .before .before .before) (c .before .before .before .before .before .before .before .before .slice-known .given)) .now) (Row.get 8 (T12 .locals) (m11 (c .before .before .before .before .before .before .before .before .before) (c .before .before .before .before .before .before .before .before .slice-known .given)) .now) (Row.get 9 (T12 .locals) (m11 (c .before .before .before .before .before .before .before .before .before) (c .before .before .before .before .before .before .before .before .slice-known .given)) .now) (Row.get 10 (T12 .locals) (m11 (c .before .before .before .before .before .before .before .before .before) (c .before .before .before .before .before .before .before .before .slice-known .given))) (Row.get 11 (T12 .locals) (m11 (c .before .before .before .before .before .before .before .before .before) (c .before .before .before .before .before .before .before .before .slice-known .given))) (Row.get 12 (T12 .locals) (m11 (c .before .before .before .before .before .before .before .before .before) (c .before .before .before .before .before .before .before .before .slice-known .given))) (Row.get 8 (T12 .locals) (m28 record { before = c .before; unusable-number = c .unusable-number } g) .now) (Row.get 10 (T12 .locals) (m28 record { before = c .before; unusable-number = c .unusable-number } g)) (Row.get 11 (T12 .locals) (m28 record { before = c .before; unusable-number = c .unusable-number } g)) (Row.get 12 (T12 .locals) (m28 record { before = c .before; unusable-number = c .unusable-number } g)), loop-less record { before = record { before = c .before; unusable-number = c .unusable-number }; next-asked = Called.called ps·3 r·1 (claims· .7) T30 args·2 (m25 (c .before) (After-unusable-number·gave c)) g }, ((Row.get 8 (T12 .locals) (m28 record { before = c .before; unusable-number = c .unusable-number } g) .now, Row.get 10 (T12 .locals) (m28 record { before = c .before; unusable-number = c .unusable-number } g), Row.get 11 (T12 .locals) (m28 record { before = c .before; unusable-number = c .unusable-number } g), Row.get 12 (T12 .locals) (m28 record { before = c .before; unusable-number = c .unusable-number } g)), Path'.refl {a = m28 record { before = c .before; unusable-number = c .unusable-number } g}, loop-again record { before = record { before = c .before; unusable-number = c .unusable-number }; next-asked = Called.called ps·3 r·1 (claims· .7) T30 args·2 (m25 (c .before) (After-unusable-number·gave c)) g }, Path'.refl {a = μ·0 (Row.get 1 (T12 .locals) (m11 (c .before .before .before .before .before .before .before .before .before) (c .before .before .before .before .before .before .before .before .slice-known .given)) .now) (Row.get 2 (T12 .locals) (m11 (c .before .before .before .before .before .before .before .before .before) (c .before .before .before .before .before .before .before .before .slice-known .given)) .now) (Row.get 3 (T12 .locals) (m11 (c .before .before .before .before .before .before .before .before .before) (c .before .before .before .before .before .before .before .before .slice-known .given)) .now) (Row.get 4 (T12 .locals) (m11 (c .before .before .before .before .before .before .before .before .before) (c .before .before .before .before .before .before .before .before .slice-known .given)) .now) (Row.get 5 (T12 .locals) (m11 (c .before .before .before .before .before .before .before .before .before) (c .before .before .before .before .before .before .before .before .slice-known .given)) .now) (Row.get 6 (T12 .locals) (m11 (c .before .before .before .before .before .before .before .before .before) (c .before .before .before .before .before .before .before .before .slice-known .given)) .now) (Row.get 7 (T12 .locals) (m11 (c .before .before .before .before .before .before .before .before .before) (c .before .before .before .before .before .before .before .before .slice-known .given)) .now) (Row.get 8 (T12 .locals) (m11 (c .before .before .before .before .before .before .before .before .before) (c .before .before .before .before .before .before .before .before .slice-known .given)) .now) (Row.get 9 (T12 .locals) (m11 (c .before .before .before .before .before .before .before .before .before) (c .before .before .before .before .before .before .before .before .slice-known .given)) .now) (Row.get 10 (T12 .locals) (m11 (c .before .before .before .before .before .before .before .before .before) (c .before .before .before .before .before .before .before .before .slice-known .given))) (Row.get 11 (T12 .locals) (m11 (c .before .before .before .before .before .before .before .before .before) (c .before .before .before .before .before .before .before .before .slice-known .given))) (Row.get 12 (T12 .locals) (m11 (c .before .before .before .before .before .before .before .before .before) (c .before .before .before .before .before .before .before .before .slice-known .given))) (Row.get 8 (T12 .locals) (m28 record { before = c .before; unusable-number = c .unusable-number } g) .now) (Row.get 10 (T12 .locals) (m28 record { before = c .before; unusable-number = c .unusable-number } g)) (Row.get 11 (T12 .locals) (m28 record { before = c .before; unusable-number = c .unusable-number } g)) (Row.get 12 (T12 .locals) (m28 record { before = c .before; unusable-number = c .unusable-number } g))}))))
 
         lay5 : (c : After-with-bit) → at9 (W3 (c .before .before .before .before .before .before .before) (c .before .before .before .before .before .before .loop .drone-flags) (c .before .before .before .before .before .before .loop .bits) (c .before .before .before .before .before .before .loop .unusable-by) (c .before .before .before .before .before
             .before .loop .drone)) (m22 (c .before) (After-with-bit·gave c))
@@ -1270,7 +1261,7 @@ module _ (claims· : Claims) where
 
         pub laid : (c : Start) → at39 (W0 (c .κs) (c .args)) (m0 (c .κs) (c .args))
         laid = λ c. λ g. λ g'. λ g''. λ g'3. λ g'4. λ g'5. λ g'6. λ g'7.
-            (((Row.get 8 (T12 .locals) (m11 record { before = record { before = record { before = record { before = record { before = record { before = record { before = c; shared-slice-known = record { given = g } }; shared-slice-known2 = record { given = g' } }; shared-slice-known3 = record { given = g'' } }; shared-slice-known4 = record { given = g'3 } }; shared-slice-known5 = record { given = g'4 } }; shared-slice-known6 = record { given = g'5 } }; shared-slice-known7 = record { given = g'6 } } g'7) .now, Row.get 10 (T12 .locals) (m11 record { before = record { before = record { before = record { before = record { before = record { before = record { before = c; shared-slice-known = record { given = g } }; shared-slice-known2 = record { given = g' } }; shared-slice-known3 = record { given = g'' } }; shared-slice-known4 = record { given = g'3 } }; shared-slice-known5 = record { given = g'4 } }; shared-slice-known6 = record { given = g'5 } }; shared-slice-known7 = record { given = g'6 } } g'7), Row.get 11 (T12 .locals) (m11 record { before = record { before = record { before = record { before = record { before = record { before = record { before = c; shared-slice-known = record { given = g } }; shared-slice-known2 = record { given = g' } }; shared-slice-known3 = record { given = g'' } }; shared-slice-known4 = record { given = g'3 } }; shared-slice-known5 = record { given = g'4 } }; shared-slice-known6 = record { given = g'5 } }; shared-slice-known7 = record { given = g'6 } } g'7), Row.get 12 (T12 .locals) (m11 record { before = record { before = record { before = record { before = record { before = record { before = record { before = c; shared-slice-known = record { given = g } }; shared-slice-known2 = record { given = g' } }; shared-slice-known3 = record { given = g'' } }; shared-slice-known4 = record { given = g'3 } }; shared-slice-known5 = record { given = g'4 } }; shared-slice-known6 = record { given = g'5 } }; shared-slice-known7 = record { given = g'6 } } g'7)), Path'.refl {a = m11 record { before = record { before = record { before = record { before = record { before = record { before = record { before = c; shared-slice-known = record { given = g } }; shared-slice-known2 = record { given = g' } }; shared-slice-known3 = record { given = g'' } }; shared-slice-known4 = record { given = g'3 } }; shared-slice-known5 = record { given = g'4 } }; shared-slice-known6 = record { given = g'5 } }; shared-slice-known7 = record { given = g'6 } } g'7}, loop-holds record { before = record { before = record { before = record { before = record { before = record { before = record { before = record { before = c; shared-slice-known = record { given = g } }; shared-slice-known2 = record { given = g' } }; shared-slice-known3 = record { given = g'' } }; shared-slice-known4 = record { given = g'3 } }; shared-slice-known5 = record { given = g'4 } }; shared-slice-known6 = record { given = g'5 } }; shared-slice-known7 = record { given = g'6 } }; slice-known = record { given = g'7 } }), λ vs inv. (tt, (λ taken. lay1 record { before = record { before = record { before = record { before = record { before = record { before = record { before = record { before = record { before = record { before = c; shared-slice-known = record { given = g } }; shared-slice-known2 = record { given = g' } }; shared-slice-known3 = record { given = g'' } }; shared-slice-known4 = record { given = g'3 } }; shared-slice-known5 = record { given = g'4 } }; shared-slice-known6 = record { given = g'5 } }; shared-slice-known7 = record { given = g'6 } }; slice-known = record { given = g'7 } }; loop = record { drone-flags = vs .0; bits = vs .1; unusable-by = vs .2; drone = vs .3; inv = inv } }; loop-test = record { taken = Tests.ltb-true (Row.get 12 (T12 .locals) (m12 record { before = record { before = record { before = record { before = record { before = record { before = record { before = record { before = c; shared-slice-known = record { given = g } }; shared-slice-known2 = record { given = g' } }; shared-slice-known3 = record { given = g'' } }; shared-slice-known4 = record { given = g'3 } }; shared-slice-known5 = record { given = g'4 } }; shared-slice-known6 = record { given = g'5 } }; shared-slice-known7 = record { given = g'6 } }; slice-known = record { given = g'7 } } (vs .0) (vs .1) (vs .2) (vs .3))) 32 taken } }, λ left. lay2 record { before = record { before = record { before = record { before = record { before = record { before = record { before = record { before = record { before = record { before = c; shared-slice-known = record { given = g } }; shared-slice-known2 = record { given = g' } }; shared-slice-known3 = record { given = g'' } }; shared-slice-known4 = record { given = g'3 } }; shared-slice-known5 = record { given = g'4 } }; shared-slice-known6 = record { given = g'5 } }; shared-slice-known7 = record { given = g'6 } }; slice-known = record { given = g'7 } }; loop = record { drone-flags = vs .0; bits = vs .1; unusable-by = vs .2; drone = vs .3; inv = inv } }; loop-test = record { left = Tests.ltb-false (Row.get 12 (T12 .locals) (m12 record { before = record { before = record { before = record { before = record { before = record { before = record { before = record { before = c; shared-slice-known = record { given = g } }; shared-slice-known2 = record { given = g' } }; shared-slice-known3 = record { given = g'' } }; shared-slice-known4 = record { given = g'3 } }; shared-slice-known5 = record { given = g'4 } }; shared-slice-known6 = record { given = g'5 } }; shared-slice-known7 = record { given = g'6 } }; slice-known = record { given = g'7 } } (vs .0) (vs .1) (vs .2) (vs .3))) 32 left } })))
+            (((Row.get 8 (T12 .locals) (m11 record { before = record { before = record { before = record { before = record { before = record { before = record { before = c; shared-slice-known = record { given = g } }; shared-slice-known2 = record { given = g' } }; shared-slice-known3 = record { given = g'' } }; shared-slice-known4 = record { given = g'3 } }; shared-slice-known5 = record { given = g'4 } }; shared-slice-known6 = record { given = g'5 } }; shared-slice-known7 = record { given = g'6 } } g'7) .now, Row.get 10 (T12 .locals) (m11 record { before = record { before = record { before = record { before = record { before = record { before = record { before = c; shared-slice-known = record { given = g } }; shared-slice-known2 = record { given = g' } }; shared-slice-known3 = record { given = g'' } }; shared-slice-known4 = record { given = g'3 } }; shared-slice-known5 = record { given = g'4 } }; shared-slice-known6 = record { given = g'5 } }; shared-slice-known7 = record { given = g'6 } } g'7), Row.get 11 (T12 .locals) (m11 record { before = record { before = record { before = record { before = record { before = record { before = record { before = c; shared-slice-known = record { given = g } }; shared-slice-known2 = record { given = g' } }; shared-slice-known3 = record { given = g'' } }; shared-slice-known4 = record { given = g'3 } }; shared-slice-known5 = record { given = g'4 } }; shared-slice-known6 = record { given = g'5 } }; shared-slice-known7 = record { given = g'6 } } g'7), Row.get 12 (T12 .locals) (m11 record { before = record { before = record { before = record { before = record { before = record { before = record { before = c; shared-slice-known = record { given = g } }; shared-slice-known2 = record { given = g' } }; shared-slice-known3 = record { given = g'' } }; shared-slice-known4 = record { given = g'3 } }; shared-slice-known5 = record { given = g'4 } }; shared-slice-known6 = record { given = g'5 } }; shared-slice-known7 = record { given = g'6 } } g'7)), Path'.refl {a = m11 record { before = record { before = record { before = record { before = record { before = record { before = record { before = c; shared-slice-known = record { given = g } }; shared-slice-known2 = record { given = g' } }; shared-slice-known3 = record { given = g'' } }; shared-slice-known4 = record { given = g'3 } }; shared-slice-known5 = record { given = g'4 } }; shared-slice-known6 = record { given = g'5 } }; shared-slice-known7 = record { given = g'6 } } g'7}, loop-holds record { before = record { before = record { before = record { before = record { before = record { before = record { before = record { before = c; shared-slice-known = record { given = g } }; shared-slice-known2 = record { given = g' } }; shared-slice-known3 = record { given = g'' } }; shared-slice-known4 = record { given = g'3 } }; shared-slice-known5 = record { given = g'4 } }; shared-slice-known6 = record { given = g'5 } }; shared-slice-known7 = record { given = g'6 } }; slice-known = record { given = g'7 } }), λ vs inv. (tt, (λ taken. lay1 record { before = record { before = record { before = record { before = record { before = record { before = record { before = record { before = record { before = record { before = c; shared-slice-known = record { given = g } }; shared-slice-known2 = record { given = g' } }; shared-slice-known3 = record { given = g'' } }; shared-slice-known4 = record { given = g'3 } }; shared-slice-known5 = record { given = g'4 } }; shared-slice-known6 = record { given = g'5 } }; shared-slice-known7 = record { given = g'6 } }; slice-known = record { given = g'7 } }; loop = record { drone-flags = vs .0; bits = vs .1; unusable-by = vs .2; drone = vs .3; inv = inv } }; loop-test = record { taken = Tests.ltb-true (Row.get 12 (T12 .locals) (m12 record { before = record { before = record { before = record { before = record { before = record { before = record { before = record { before = c; shared-slice-known = record { given = g } }; shared-slice-known2 = record { given = g' } }; shared-slice-known3 = record { given = g'' } }; shared-slice-known4 = record { given = g'3 } }; shared-slice-known5 = record { given = g'4 } }; shared-slice-known6 = record { given = g'5 } }; shared-slice-known7 = record { given = g'6 } }; slice-known = record { given = g'7 } } (vs .0) (vs .1) (vs .2) (vs .3))) 64 taken } }, λ left. lay2 record { before = record { before = record { before = record { before = record { before = record { before = record { before = record { before = record { before = record { before = c; shared-slice-known = record { given = g } }; shared-slice-known2 = record { given = g' } }; shared-slice-known3 = record { given = g'' } }; shared-slice-known4 = record { given = g'3 } }; shared-slice-known5 = record { given = g'4 } }; shared-slice-known6 = record { given = g'5 } }; shared-slice-known7 = record { given = g'6 } }; slice-known = record { given = g'7 } }; loop = record { drone-flags = vs .0; bits = vs .1; unusable-by = vs .2; drone = vs .3; inv = inv } }; loop-test = record { left = Tests.ltb-false (Row.get 12 (T12 .locals) (m12 record { before = record { before = record { before = record { before = record { before = record { before = record { before = record { before = c; shared-slice-known = record { given = g } }; shared-slice-known2 = record { given = g' } }; shared-slice-known3 = record { given = g'' } }; shared-slice-known4 = record { given = g'3 } }; shared-slice-known5 = record { given = g'4 } }; shared-slice-known6 = record { given = g'5 } }; shared-slice-known7 = record { given = g'6 } }; slice-known = record { given = g'7 } } (vs .0) (vs .1) (vs .2) (vs .3))) 64 left } })))
 
         module _ (κs : Lifetimes.Lfts 9) (qs : Lifetimes.Shares 9) where
           pub asked : (a : Kinds.Dens κs ps) → (good : Kinds.GoodsP κs ps a) → (pre : Pre· κs a) → (bs : List.List Nat.ℕ) → Φ (Any.wantQ 9 ps r xs m κs qs a (Post· κs a)) (Function.init 9 ps r xs m κs qs a)
@@ -1278,6 +1269,6 @@ module _ (claims· : Claims) where
               { κs = κs; args = record { drone-count = a .0; dependency-count = a .1 .0; names = a .1 .1 .0; stop-counts = a .1 .1 .1 .0; locations = a .1 .1 .1 .1 .0; times = a .1 .1 .1 .1 .1 .0; visited = a .1 .1 .1 .1 .1 .1 .0; drone-flags = a .1 .1 .1 .1 .1 .1 .1 .0; dependencies = a .1 .1 .1 .1 .1 .1 .1 .1 .0 }; good = good; pre = pre }
 
         module _ {M : Type 1} (𝓤 : URA.URA M) (H : Wp.Heap 𝓤) (A : Atoms.Atoms 𝓤) (W : Kit.Given 𝓤 H A) (𝓣 : Wp.Tables 𝓤 H) (known0 : Plain.Known 𝓤 H A W 𝓣 9 ps·0 r·0 (claims· .0) (claims· .1) "conductor::calls::grant") (known1 : Plain.Known 𝓤 H A W 𝓣 0 ps·1 r·1 (claims· .2) (claims· .3) "handset::replies::with_bit") (known2 : Plain.Known 𝓤 H A W 𝓣 0 ps·2
-            r·2 (claims· .4) (claims· .5) "handset::replies::unusable_number") (known3 : Plain.Known 𝓤 H A W 𝓣 0 ps·3 r·3 (claims· .6) (claims· .7) "handset::replies::next_asked") (known4 : Plain.Known 𝓤 H A W 𝓣 0 ps·4 r·4 (claims· .8) (claims· .9) "handset::replies::reply_with") where
+            r·2 (claims· .4) (claims· .5) "handset::replies::unusable_number") (known3 : Plain.Known 𝓤 H A W 𝓣 0 ps·3 r·1 (claims· .6) (claims· .7) "handset::replies::next_asked") (known4 : Plain.Known 𝓤 H A W 𝓣 0 ps·4 r·4 (claims· .8) (claims· .9) "handset::replies::reply_with") where
           pub spec : Statement.Triple 𝓤 (Wp.WpFn 𝓤 H (𝓣 .C) (𝓣 .Λ) (Function.fnOf 9 ps r xs m hs body)) (Function.plainOf 𝓤 H A 9 ps r Pre· Post·)
           spec = Plain.t-fn-plain 𝓤 H A W 𝓣 9 ps r xs m hs body (λ κs qs bs. Φ) (λ κs qs bs bd. typed κs qs 𝓤 H A W 𝓣 (known0, known1, known2, known3, known4) bs bd) Pre· Post· asked

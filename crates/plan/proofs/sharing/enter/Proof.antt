@@ -4,6 +4,7 @@ use mathlib.Core.Path.{refl}
 use Prim.Native.Nat.{_-_}
 use native.Mathlib.Omega.{arith}
 use Rattle.below.specs.Below.{at}
+use Rattle.plan.specs.Sharing.{slots}
 use Rattle.plan.proofs.SharingLaws.{Seeking, seeking-start, seeking-node, seeking-more, seeking-found, seeking-end}
 use Rattle.plan.proofs.sharing.enter.Statement.{statement}
 use Rattle.plan.proofs.sharing.enter.Tie as tie
@@ -16,7 +17,7 @@ abbrev Inv-loop : tie.InvT-loop
 Inv-loop locations links w l slot₀ digits₀ slot digits = Seeking (at locations) links w slot digits
 
 abbrev μ-loop : tie.MeasureT-loop
-μ-loop locations links w l slot₀ digits₀ slot digits = 3072 - slot
+μ-loop locations links w l slot₀ digits₀ slot digits = slots - slot
 
 mul-wide : tie.Need-mul-wide Inv-loop μ-loop
 mul-wide c = search needs

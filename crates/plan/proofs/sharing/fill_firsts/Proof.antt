@@ -7,7 +7,7 @@ use lib.ListN.{length-replicate}
 use Rattle.below.specs.Below.{at, fillBelow}
 use Rattle.below.proofs.Index.{zeros-at}
 use Rattle.below.proofs.Fill.{fill-none, fill-store, fill-end}
-use Rattle.plan.specs.Sharing.{firstAt, Trees}
+use Rattle.plan.specs.Sharing.{slots, firstAt, Trees}
 use Rattle.plan.proofs.SharingLaws.{first-within, trees-none}
 use Rattle.plan.proofs.sharing.fill_firsts.Statement.{statement}
 use Rattle.plan.proofs.sharing.fill_firsts.Tie as tie
@@ -22,7 +22,7 @@ abbrev μ-loop : tie.MeasureT-loop
 μ-loop locations n first₀ links₀ w₀ first links w = n - w
 
 loop-holds : tie.Need-loop-holds Inv-loop μ-loop
-loop-holds c = (omega arith, trees-none _ _ (length-replicate {A = ℕ} 3072 0) (zeros-at 3072), fill-none _ _)
+loop-holds c = (omega arith, trees-none _ _ (length-replicate {A = ℕ} slots 0) (zeros-at slots), fill-none _ _)
 
 enter-requires : tie.Need-enter-requires Inv-loop μ-loop
 enter-requires c κs = (c .before .before .loop .inv .1, omega arith, omega arith)

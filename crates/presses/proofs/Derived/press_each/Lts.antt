@@ -93,7 +93,7 @@ ty·11 = Syntax.tyRef (Syntax.named 9) Syntax.imm (Syntax.tyInt Syntax.w16)
 
 abbrev ty·12 : Syntax.Ty
 ty·12 = Syntax.tyStruct (List._∷_ 112 (List._∷_ 114 (List._∷_ 101 (List._∷_ 115 (List._∷_ 115 (List._∷_ 101 (List._∷_ 115 (List._∷_ 58 (List._∷_ 58 (List._∷_ 97 (List._∷_ 110 (List._∷_ 115 (List._∷_ 119 (List._∷_ 101 (List._∷_ 114 (List._∷_ 115 (List._∷_ 58 (List._∷_ 58 (List._∷_ 83 (List._∷_ 104 (List._∷_ 111 (List._∷_ 119 (List._∷_ 110
-    List.[]))))))))))))))))))))))) (Syntax.tcons (Syntax.tyInt Syntax.w64) (Syntax.tcons (Syntax.tyInt Syntax.w32) Syntax.tnil))
+    List.[]))))))))))))))))))))))) (Syntax.tcons (Syntax.tyInt Syntax.w64) (Syntax.tcons (Syntax.tyInt Syntax.w64) Syntax.tnil))
 
 abbrev ty·13 : Syntax.Ty
 ty·13 = Syntax.tyEnum (List._∷_ 104 (List._∷_ 97 (List._∷_ 110 (List._∷_ 100 (List._∷_ 115 (List._∷_ 101 (List._∷_ 116 (List._∷_ 58 (List._∷_ 58 (List._∷_ 114 (List._∷_ 101 (List._∷_ 112 (List._∷_ 108 (List._∷_ 105 (List._∷_ 101 (List._∷_ 115 (List._∷_ 58 (List._∷_ 58 (List._∷_ 82 (List._∷_ 101 (List._∷_ 112 (List._∷_ 111 (List._∷_ 114 (List._∷_ 116
@@ -101,7 +101,7 @@ ty·13 = Syntax.tyEnum (List._∷_ 104 (List._∷_ 97 (List._∷_ 110 (List._∷
 
 abbrev ty·14 : Syntax.Ty
 ty·14 = Syntax.tyEnum (List._∷_ 104 (List._∷_ 97 (List._∷_ 110 (List._∷_ 100 (List._∷_ 115 (List._∷_ 101 (List._∷_ 116 (List._∷_ 58 (List._∷_ 58 (List._∷_ 114 (List._∷_ 101 (List._∷_ 112 (List._∷_ 108 (List._∷_ 105 (List._∷_ 101 (List._∷_ 115 (List._∷_ 58 (List._∷_ 58 (List._∷_ 80 (List._∷_ 114 (List._∷_ 101 (List._∷_ 115 (List._∷_ 115 (List._∷_ 82 (List._∷_
-    101 (List._∷_ 112 (List._∷_ 108 (List._∷_ 121 List.[])))))))))))))))))))))))))))) (Syntax.ttcons (Syntax.tcons (Syntax.tyInt Syntax.w32) Syntax.tnil) (Syntax.ttcons Syntax.tnil (Syntax.ttcons Syntax.tnil (Syntax.ttcons Syntax.tnil (Syntax.ttcons Syntax.tnil Syntax.ttnil)))))
+    101 (List._∷_ 112 (List._∷_ 108 (List._∷_ 121 List.[])))))))))))))))))))))))))))) (Syntax.ttcons (Syntax.tcons (Syntax.tyInt Syntax.w64) Syntax.tnil) (Syntax.ttcons Syntax.tnil (Syntax.ttcons Syntax.tnil (Syntax.ttcons Syntax.tnil (Syntax.ttcons Syntax.tnil Syntax.ttnil)))))
 
 abbrev row·0 : Row.Row
 row·0 = Rows.any-gone ty·12
@@ -143,67 +143,61 @@ abbrev row·12 : Row.Row
 row·12 = Rows.any-gone (Syntax.tyInt Syntax.w64)
 
 abbrev row·13 : Row.Row
-row·13 = Rows.any-gone (Syntax.tyInt Syntax.w32)
+row·13 = Rows.any-gone ty·14
 
 abbrev row·14 : Row.Row
-row·14 = Rows.any-gone ty·14
+row·14 = Rows.any-gone Syntax.tyBool
 
 abbrev row·15 : Row.Row
-row·15 = Rows.any-gone Syntax.tyBool
+row·15 = Rows.any-gone ty·2
 
 abbrev row·16 : Row.Row
-row·16 = Rows.any-gone ty·2
+row·16 = Rows.any-gone (Syntax.tyStruct (List._∷_ 38 (List._∷_ 91 (List._∷_ 93 List.[]))) (Syntax.tcons ty·2 (Syntax.tcons (Syntax.tyInt Syntax.w64) Syntax.tnil)))
 
 abbrev row·17 : Row.Row
-row·17 = Rows.any-gone (Syntax.tyStruct (List._∷_ 38 (List._∷_ 91 (List._∷_ 93 List.[]))) (Syntax.tcons ty·2 (Syntax.tcons (Syntax.tyInt Syntax.w64) Syntax.tnil)))
+row·17 = Rows.any-gone ty·1
 
 abbrev row·18 : Row.Row
-row·18 = Rows.any-gone ty·1
+row·18 = Rows.any-gone (Syntax.tyStruct (List._∷_ 38 (List._∷_ 91 (List._∷_ 93 List.[]))) (Syntax.tcons ty·1 (Syntax.tcons (Syntax.tyInt Syntax.w64) Syntax.tnil)))
 
 abbrev row·19 : Row.Row
-row·19 = Rows.any-gone (Syntax.tyStruct (List._∷_ 38 (List._∷_ 91 (List._∷_ 93 List.[]))) (Syntax.tcons ty·1 (Syntax.tcons (Syntax.tyInt Syntax.w64) Syntax.tnil)))
+row·19 = Rows.any-gone ty·13
 
 abbrev row·20 : Row.Row
-row·20 = Rows.any-gone ty·13
+row·20 = Rows.whole (Declared'.row Shown.the-type)
 
 abbrev row·21 : Row.Row
-row·21 = Rows.whole (Declared'.row Shown.the-type)
+row·21 = Rows.sc-here Row.sBool
 
 abbrev row·22 : Row.Row
-row·22 = Rows.sc-here (Row.sInt Syntax.w32)
+row·22 = Relend.mslice-owed (Referent.rtF (Referent.fInt Syntax.w16)) ty·10 6 10 Row.off
 
 abbrev row·23 : Row.Row
-row·23 = Rows.sc-here Row.sBool
+row·23 = Relend.msptr (Referent.rtF (Referent.fInt Syntax.w16)) ty·2 10
 
 abbrev row·24 : Row.Row
-row·24 = Relend.mslice-owed (Referent.rtF (Referent.fInt Syntax.w16)) ty·10 6 10 Row.off
+row·24 = Mut.mslice (Referent.rtF (Referent.fInt Syntax.w16)) ty·2 10
 
 abbrev row·25 : Row.Row
-row·25 = Relend.msptr (Referent.rtF (Referent.fInt Syntax.w16)) ty·2 10
+row·25 = Relend.mslice-owed (Referent.rtF (Referent.fInt Syntax.w8)) ty·4 7 11 Row.off
 
 abbrev row·26 : Row.Row
-row·26 = Mut.mslice (Referent.rtF (Referent.fInt Syntax.w16)) ty·2 10
+row·26 = Relend.msptr (Referent.rtF (Referent.fInt Syntax.w8)) ty·1 11
 
 abbrev row·27 : Row.Row
-row·27 = Relend.mslice-owed (Referent.rtF (Referent.fInt Syntax.w8)) ty·4 7 11 Row.off
+row·27 = Mut.mslice (Referent.rtF (Referent.fInt Syntax.w8)) ty·1 11
 
 abbrev row·28 : Row.Row
-row·28 = Relend.msptr (Referent.rtF (Referent.fInt Syntax.w8)) ty·1 11
+row·28 = Rows.whole (Declared.row Report.the-type)
 
 abbrev row·29 : Row.Row
-row·29 = Mut.mslice (Referent.rtF (Referent.fInt Syntax.w8)) ty·1 11
+row·29 = Rows.whole (Declared.row PressReply.the-type)
 
 abbrev row·30 : Row.Row
-row·30 = Rows.whole (Declared.row Report.the-type)
+row·30 = Mut.msleft (Referent.rtF (Referent.fInt Syntax.w16)) ty·2
 
 abbrev row·31 : Row.Row
-row·31 = Rows.whole (Declared.row PressReply.the-type)
-
-abbrev row·32 : Row.Row
-row·32 = Mut.msleft (Referent.rtF (Referent.fInt Syntax.w16)) ty·2
-
-abbrev row·33 : Row.Row
-row·33 = Mut.msleft (Referent.rtF (Referent.fInt Syntax.w8)) ty·1
+row·31 = Mut.msleft (Referent.rtF (Referent.fInt Syntax.w8)) ty·1
 
 abbrev pub ps : List.List (Kinds.PK 10)
 ps = List._∷_ (ShrSlice.pShrS (Referent.rtF (Referent.fInt Syntax.w16)) 0 tt) (List._∷_ (ShrSlice.pShrS (Referent.rtF (Referent.fInt Syntax.w16)) 1 tt) (List._∷_ (ShrSlice.pShrS (Referent.rtF (Referent.fInt Syntax.w8)) 2 tt) (List._∷_ (ShrSlice.pShrS (Referent.rtF (Referent.fInt Syntax.w16)) 3 tt) (List._∷_ (ShrSlice.pShrS (Referent.rtF (Referent.fInt
@@ -215,7 +209,7 @@ r = Value.rVal record { ty = Declared'.row Shown.the-type; one = Path'.refl; val
     { copies = Laws'4.copy Shown.the-type Laws''.the-copy 𝓤 H A W; lawful = Laws'4.lawful Shown.the-type Laws''.the-laws 𝓤 H A W; makes = Laws'4.makes Shown.the-type Laws''.the-plain 𝓤 H A; in-mem = Local.mem-whole 𝓤 H A W (Declared'.row Shown.the-type); of-mem = Local.whole-mem 𝓤 H A W (Declared'.row Shown.the-type) }
 
 abbrev pub xs : List.List Syntax.Ty
-xs = List._∷_ (Syntax.tyInt Syntax.w64) (List._∷_ (Syntax.tyInt Syntax.w32) (List._∷_ (Syntax.tyInt Syntax.w64) (List._∷_ ty·14 (List._∷_ Syntax.tyBool (List._∷_ ty·2 (List._∷_ (Syntax.tyStruct (List._∷_ 38 (List._∷_ 91 (List._∷_ 93 List.[]))) (Syntax.tcons ty·2 (Syntax.tcons (Syntax.tyInt Syntax.w64) Syntax.tnil))) (List._∷_ ty·1 (List._∷_ (Syntax.tyStruct
+xs = List._∷_ (Syntax.tyInt Syntax.w64) (List._∷_ (Syntax.tyInt Syntax.w64) (List._∷_ (Syntax.tyInt Syntax.w64) (List._∷_ ty·14 (List._∷_ Syntax.tyBool (List._∷_ ty·2 (List._∷_ (Syntax.tyStruct (List._∷_ 38 (List._∷_ 91 (List._∷_ 93 List.[]))) (Syntax.tcons ty·2 (Syntax.tcons (Syntax.tyInt Syntax.w64) Syntax.tnil))) (List._∷_ ty·1 (List._∷_ (Syntax.tyStruct
     (List._∷_ 38 (List._∷_ 91 (List._∷_ 93 List.[]))) (Syntax.tcons ty·1 (Syntax.tcons (Syntax.tyInt Syntax.w64) Syntax.tnil))) (List._∷_ ty·13 List.[])))))))))
 
 abbrev pub m : Nat.ℕ
@@ -245,11 +239,8 @@ ps·2 = List._∷_ (Value.pVal record { ty = Declared.row PressReply.the-type; o
 abbrev pub r·2 : Kinds.RK 0
 r·2 = Num.rNum Syntax.w64
 
-abbrev pub r·3 : Kinds.RK 0
-r·3 = Num.rNum Syntax.w32
-
 abbrev pub ps·4 : List.List (Kinds.PK 0)
-ps·4 = List._∷_ (Num.pNum Syntax.w64) (List._∷_ (Num.pNum Syntax.w32) List.[])
+ps·4 = List._∷_ (Num.pNum Syntax.w64) (List._∷_ (Num.pNum Syntax.w64) List.[])
 
 abbrev pub r·4 : Kinds.RK 0
 r·4 = Value.rVal record { ty = Declared'.row Shown.the-type; one = Path'.refl; val = Laws'4.val Shown.the-type Laws''.the-laws; tells = Laws'4.tells Shown.the-type Laws''.the-laws; still = Laws'4.still Shown.the-type Laws''.the-copy Exit.yes; row = Rows.whole (Declared'.row Shown.the-type); rd = λ x. x; mk = λ x. x } λ M 𝓤 H A W. record
@@ -263,7 +254,7 @@ abbrev b0 : Syntax.Body
 b0 = Syntax.assign (Syntax.place 12 List.[]) (Syntax.rvOpd (Syntax.int Syntax.w64 0))
 
 abbrev b1 : Syntax.Body
-b1 = Syntax.assign (Syntax.place 13 List.[]) (Syntax.rvOpd (Syntax.int Syntax.w32 0))
+b1 = Syntax.assign (Syntax.place 13 List.[]) (Syntax.rvOpd (Syntax.int Syntax.w64 0))
 
 abbrev b2 : Syntax.Body
 b2 = Syntax.assign (Syntax.place 14 List.[]) (Syntax.rvOpd (Syntax.int Syntax.w64 0))
@@ -369,73 +360,73 @@ abbrev pub body : Syntax.Body
 body = b34
 
 abbrev pub Claims : Type 1
-Claims = Kinds.In 1 ps·0 × Kinds.Out 1 ps·0 r·0 × Kinds.In 9 ps·1 × Kinds.Out 9 ps·1 r·1 × Kinds.In 0 ps·2 × Kinds.Out 0 ps·2 r·2 × Kinds.In 0 ps·2 × Kinds.Out 0 ps·2 r·3 × Kinds.In 0 ps·4 × Kinds.Out 0 ps·4 r·4
+Claims = Kinds.In 1 ps·0 × Kinds.Out 1 ps·0 r·0 × Kinds.In 9 ps·1 × Kinds.Out 9 ps·1 r·1 × Kinds.In 0 ps·2 × Kinds.Out 0 ps·2 r·2 × Kinds.In 0 ps·2 × Kinds.Out 0 ps·2 r·2 × Kinds.In 0 ps·4 × Kinds.Out 0 ps·4 r·4
 
 abbrev pub t1 : List.List Row.Entry
-t1 = List._∷_ (16, row·15) (List._∷_ (17, row·16) (List._∷_ (18, row·17) (List._∷_ (19, row·18) (List._∷_ (20, row·19) (List._∷_ (21, row·20) List.[])))))
+t1 = List._∷_ (16, row·14) (List._∷_ (17, row·15) (List._∷_ (18, row·16) (List._∷_ (19, row·17) (List._∷_ (20, row·18) (List._∷_ (21, row·19) List.[])))))
 
 abbrev pub t5 : List.List Row.Entry
-t5 = List._∷_ (0, row·0) (List._∷_ (1, row·1) (List._∷_ (2, row·2) (List._∷_ (3, row·3) (List._∷_ (4, row·4) (List._∷_ (5, row·5) (List._∷_ (6, row·6) (List._∷_ (7, row·7) (List._∷_ (8, row·8) (List._∷_ (9, row·9) (List._∷_ (10, row·10) (List._∷_ (11, row·11) (List._∷_ (12, row·10) (List._∷_ (13, row·22) (List._∷_ (14, row·10) (List._∷_ (15, row·14)
+t5 = List._∷_ (0, row·0) (List._∷_ (1, row·1) (List._∷_ (2, row·2) (List._∷_ (3, row·3) (List._∷_ (4, row·4) (List._∷_ (5, row·5) (List._∷_ (6, row·6) (List._∷_ (7, row·7) (List._∷_ (8, row·8) (List._∷_ (9, row·9) (List._∷_ (10, row·10) (List._∷_ (11, row·11) (List._∷_ (12, row·10) (List._∷_ (13, row·10) (List._∷_ (14, row·10) (List._∷_ (15, row·13)
     List.[])))))))))))))))
 
 abbrev pub t6 : List.List Row.Entry
-t6 = List._∷_ (16, row·23) (List._∷_ (17, row·16) (List._∷_ (18, row·17) (List._∷_ (19, row·18) (List._∷_ (20, row·19) (List._∷_ (21, row·20) List.[])))))
+t6 = List._∷_ (16, row·21) (List._∷_ (17, row·15) (List._∷_ (18, row·16) (List._∷_ (19, row·17) (List._∷_ (20, row·18) (List._∷_ (21, row·19) List.[])))))
 
 abbrev pub t7 : List.List Row.Entry
-t7 = List._∷_ (0, row·0) (List._∷_ (1, row·1) (List._∷_ (2, row·2) (List._∷_ (3, row·3) (List._∷_ (4, row·4) (List._∷_ (5, row·5) (List._∷_ (6, row·6) (List._∷_ (7, row·7) (List._∷_ (8, row·8) (List._∷_ (9, row·9) (List._∷_ (10, row·10) (List._∷_ (11, row·11) (List._∷_ (12, row·12) (List._∷_ (13, row·13) (List._∷_ (14, row·10) (List._∷_ (15, row·14)
+t7 = List._∷_ (0, row·0) (List._∷_ (1, row·1) (List._∷_ (2, row·2) (List._∷_ (3, row·3) (List._∷_ (4, row·4) (List._∷_ (5, row·5) (List._∷_ (6, row·6) (List._∷_ (7, row·7) (List._∷_ (8, row·8) (List._∷_ (9, row·9) (List._∷_ (10, row·10) (List._∷_ (11, row·11) (List._∷_ (12, row·12) (List._∷_ (13, row·12) (List._∷_ (14, row·10) (List._∷_ (15, row·13)
     List.[])))))))))))))))
 
 abbrev pub t9 : List.List Row.Entry
-t9 = List._∷_ (0, row·0) (List._∷_ (1, row·1) (List._∷_ (2, row·2) (List._∷_ (3, row·3) (List._∷_ (4, row·4) (List._∷_ (5, row·5) (List._∷_ (6, row·6) (List._∷_ (7, row·24) (List._∷_ (8, row·8) (List._∷_ (9, row·9) (List._∷_ (10, row·10) (List._∷_ (11, row·11) (List._∷_ (12, row·12) (List._∷_ (13, row·13) (List._∷_ (14, row·10) (List._∷_ (15, row·14)
+t9 = List._∷_ (0, row·0) (List._∷_ (1, row·1) (List._∷_ (2, row·2) (List._∷_ (3, row·3) (List._∷_ (4, row·4) (List._∷_ (5, row·5) (List._∷_ (6, row·6) (List._∷_ (7, row·22) (List._∷_ (8, row·8) (List._∷_ (9, row·9) (List._∷_ (10, row·10) (List._∷_ (11, row·11) (List._∷_ (12, row·12) (List._∷_ (13, row·12) (List._∷_ (14, row·10) (List._∷_ (15, row·13)
     List.[])))))))))))))))
 
 abbrev pub t10 : List.List Row.Entry
-t10 = List._∷_ (16, row·15) (List._∷_ (17, row·25) (List._∷_ (18, row·17) (List._∷_ (19, row·18) (List._∷_ (20, row·19) (List._∷_ (21, row·20) List.[])))))
+t10 = List._∷_ (16, row·14) (List._∷_ (17, row·23) (List._∷_ (18, row·16) (List._∷_ (19, row·17) (List._∷_ (20, row·18) (List._∷_ (21, row·19) List.[])))))
 
 abbrev pub t11 : List.List Row.Entry
-t11 = List._∷_ (16, row·15) (List._∷_ (17, row·16) (List._∷_ (18, row·26) (List._∷_ (19, row·18) (List._∷_ (20, row·19) (List._∷_ (21, row·20) List.[])))))
+t11 = List._∷_ (16, row·14) (List._∷_ (17, row·15) (List._∷_ (18, row·24) (List._∷_ (19, row·17) (List._∷_ (20, row·18) (List._∷_ (21, row·19) List.[])))))
 
 abbrev pub t12 : List.List Row.Entry
-t12 = List._∷_ (0, row·0) (List._∷_ (1, row·1) (List._∷_ (2, row·2) (List._∷_ (3, row·3) (List._∷_ (4, row·4) (List._∷_ (5, row·5) (List._∷_ (6, row·6) (List._∷_ (7, row·24) (List._∷_ (8, row·27) (List._∷_ (9, row·9) (List._∷_ (10, row·10) (List._∷_ (11, row·11) (List._∷_ (12, row·12) (List._∷_ (13, row·13) (List._∷_ (14, row·10) (List._∷_ (15, row·14)
+t12 = List._∷_ (0, row·0) (List._∷_ (1, row·1) (List._∷_ (2, row·2) (List._∷_ (3, row·3) (List._∷_ (4, row·4) (List._∷_ (5, row·5) (List._∷_ (6, row·6) (List._∷_ (7, row·22) (List._∷_ (8, row·25) (List._∷_ (9, row·9) (List._∷_ (10, row·10) (List._∷_ (11, row·11) (List._∷_ (12, row·12) (List._∷_ (13, row·12) (List._∷_ (14, row·10) (List._∷_ (15, row·13)
     List.[])))))))))))))))
 
 abbrev pub t13 : List.List Row.Entry
-t13 = List._∷_ (16, row·15) (List._∷_ (17, row·16) (List._∷_ (18, row·26) (List._∷_ (19, row·28) (List._∷_ (20, row·19) (List._∷_ (21, row·20) List.[])))))
+t13 = List._∷_ (16, row·14) (List._∷_ (17, row·15) (List._∷_ (18, row·24) (List._∷_ (19, row·26) (List._∷_ (20, row·18) (List._∷_ (21, row·19) List.[])))))
 
 abbrev pub t14 : List.List Row.Entry
-t14 = List._∷_ (16, row·15) (List._∷_ (17, row·16) (List._∷_ (18, row·26) (List._∷_ (19, row·18) (List._∷_ (20, row·29) (List._∷_ (21, row·20) List.[])))))
+t14 = List._∷_ (16, row·14) (List._∷_ (17, row·15) (List._∷_ (18, row·24) (List._∷_ (19, row·17) (List._∷_ (20, row·27) (List._∷_ (21, row·19) List.[])))))
 
 abbrev pub t15 : List.List Row.Entry
-t15 = List._∷_ (16, row·15) (List._∷_ (17, row·16) (List._∷_ (18, row·26) (List._∷_ (19, row·18) (List._∷_ (20, row·29) (List._∷_ (21, row·30) List.[])))))
+t15 = List._∷_ (16, row·14) (List._∷_ (17, row·15) (List._∷_ (18, row·24) (List._∷_ (19, row·17) (List._∷_ (20, row·27) (List._∷_ (21, row·28) List.[])))))
 
 abbrev pub t16 : List.List Row.Entry
-t16 = List._∷_ (0, row·0) (List._∷_ (1, row·1) (List._∷_ (2, row·2) (List._∷_ (3, row·3) (List._∷_ (4, row·4) (List._∷_ (5, row·5) (List._∷_ (6, row·6) (List._∷_ (7, row·24) (List._∷_ (8, row·27) (List._∷_ (9, row·9) (List._∷_ (10, row·10) (List._∷_ (11, row·11) (List._∷_ (12, row·12) (List._∷_ (13, row·13) (List._∷_ (14, row·10) (List._∷_ (15, row·31)
+t16 = List._∷_ (0, row·0) (List._∷_ (1, row·1) (List._∷_ (2, row·2) (List._∷_ (3, row·3) (List._∷_ (4, row·4) (List._∷_ (5, row·5) (List._∷_ (6, row·6) (List._∷_ (7, row·22) (List._∷_ (8, row·25) (List._∷_ (9, row·9) (List._∷_ (10, row·10) (List._∷_ (11, row·11) (List._∷_ (12, row·12) (List._∷_ (13, row·12) (List._∷_ (14, row·10) (List._∷_ (15, row·29)
     List.[])))))))))))))))
 
 abbrev pub t17 : List.List Row.Entry
-t17 = List._∷_ (16, row·15) (List._∷_ (17, row·16) (List._∷_ (18, row·32) (List._∷_ (19, row·18) (List._∷_ (20, row·33) (List._∷_ (21, row·30) List.[])))))
+t17 = List._∷_ (16, row·14) (List._∷_ (17, row·15) (List._∷_ (18, row·30) (List._∷_ (19, row·17) (List._∷_ (20, row·31) (List._∷_ (21, row·28) List.[])))))
 
 abbrev pub t18 : List.List Row.Entry
-t18 = List._∷_ (16, row·15) (List._∷_ (17, row·16) (List._∷_ (18, row·32) (List._∷_ (19, row·18) (List._∷_ (20, row·33) (List._∷_ (21, row·20) List.[])))))
+t18 = List._∷_ (16, row·14) (List._∷_ (17, row·15) (List._∷_ (18, row·30) (List._∷_ (19, row·17) (List._∷_ (20, row·31) (List._∷_ (21, row·19) List.[])))))
 
 abbrev pub t20 : List.List Row.Entry
-t20 = List._∷_ (16, row·15) (List._∷_ (17, row·16) (List._∷_ (18, row·17) (List._∷_ (19, row·18) (List._∷_ (20, row·33) (List._∷_ (21, row·20) List.[])))))
+t20 = List._∷_ (16, row·14) (List._∷_ (17, row·15) (List._∷_ (18, row·16) (List._∷_ (19, row·17) (List._∷_ (20, row·31) (List._∷_ (21, row·19) List.[])))))
 
 abbrev pub T0 : Row.Cx
 T0 = record
-    { locals = List._++_ (List._∷_ (0, row·0) (List._∷_ (1, row·1) (List._∷_ (2, row·2) (List._∷_ (3, row·3) (List._∷_ (4, row·4) (List._∷_ (5, row·5) (List._∷_ (6, row·6) (List._∷_ (7, row·7) (List._∷_ (8, row·8) (List._∷_ (9, row·9) (List._∷_ (10, row·10) (List._∷_ (11, row·11) (List._∷_ (12, row·12) (List._∷_ (13, row·13) (List._∷_ (14, row·12) (List._∷_ (15, row·14) List.[])))))))))))))))) t1; slots = List.[] }
+    { locals = List._++_ (List._∷_ (0, row·0) (List._∷_ (1, row·1) (List._∷_ (2, row·2) (List._∷_ (3, row·3) (List._∷_ (4, row·4) (List._∷_ (5, row·5) (List._∷_ (6, row·6) (List._∷_ (7, row·7) (List._∷_ (8, row·8) (List._∷_ (9, row·9) (List._∷_ (10, row·10) (List._∷_ (11, row·11) (List._∷_ (12, row·12) (List._∷_ (13, row·12) (List._∷_ (14, row·12) (List._∷_ (15, row·13) List.[])))))))))))))))) t1; slots = List.[] }
 
 abbrev pub T1 : Row.Cx
 T1 = record
-    { locals = List._++_ (List._∷_ (0, row·21) (List._∷_ (1, row·1) (List._∷_ (2, row·2) (List._∷_ (3, row·3) (List._∷_ (4, row·4) (List._∷_ (5, row·5) (List._∷_ (6, row·6) (List._∷_ (7, row·7) (List._∷_ (8, row·8) (List._∷_ (9, row·9) (List._∷_ (10, row·12) (List._∷_ (11, row·11) (List._∷_ (12, row·12) (List._∷_ (13, row·13) (List._∷_ (14, row·12) (List._∷_ (15, row·14) List.[])))))))))))))))) t1; slots = List.[] }
+    { locals = List._++_ (List._∷_ (0, row·20) (List._∷_ (1, row·1) (List._∷_ (2, row·2) (List._∷_ (3, row·3) (List._∷_ (4, row·4) (List._∷_ (5, row·5) (List._∷_ (6, row·6) (List._∷_ (7, row·7) (List._∷_ (8, row·8) (List._∷_ (9, row·9) (List._∷_ (10, row·12) (List._∷_ (11, row·11) (List._∷_ (12, row·12) (List._∷_ (13, row·12) (List._∷_ (14, row·12) (List._∷_ (15, row·13) List.[])))))))))))))))) t1; slots = List.[] }
 
 abbrev pub T11 : Row.Cx
 T11 = record
-    { locals = List._++_ (List._∷_ (0, row·0) (List._∷_ (1, row·1) (List._∷_ (2, row·2) (List._∷_ (3, row·3) (List._∷_ (4, row·4) (List._∷_ (5, row·5) (List._∷_ (6, row·6) (List._∷_ (7, row·7) (List._∷_ (8, row·8) (List._∷_ (9, row·9) (List._∷_ (10, row·10) (List._∷_ (11, row·11) (List._∷_ (12, row·10) (List._∷_ (13, row·13) (List._∷_ (14, row·12) (List._∷_ (15, row·14) List.[])))))))))))))))) t1; slots = List.[] }
+    { locals = List._++_ (List._∷_ (0, row·0) (List._∷_ (1, row·1) (List._∷_ (2, row·2) (List._∷_ (3, row·3) (List._∷_ (4, row·4) (List._∷_ (5, row·5) (List._∷_ (6, row·6) (List._∷_ (7, row·7) (List._∷_ (8, row·8) (List._∷_ (9, row·9) (List._∷_ (10, row·10) (List._∷_ (11, row·11) (List._∷_ (12, row·10) (List._∷_ (13, row·12) (List._∷_ (14, row·12) (List._∷_ (15, row·13) List.[])))))))))))))))) t1; slots = List.[] }
 
 abbrev pub T12 : Row.Cx
 T12 = record
-    { locals = List._++_ (List._∷_ (0, row·0) (List._∷_ (1, row·1) (List._∷_ (2, row·2) (List._∷_ (3, row·3) (List._∷_ (4, row·4) (List._∷_ (5, row·5) (List._∷_ (6, row·6) (List._∷_ (7, row·7) (List._∷_ (8, row·8) (List._∷_ (9, row·9) (List._∷_ (10, row·10) (List._∷_ (11, row·11) (List._∷_ (12, row·10) (List._∷_ (13, row·22) (List._∷_ (14, row·12) (List._∷_ (15, row·14) List.[])))))))))))))))) t1; slots = List.[] }
+    { locals = List._++_ (List._∷_ (0, row·0) (List._∷_ (1, row·1) (List._∷_ (2, row·2) (List._∷_ (3, row·3) (List._∷_ (4, row·4) (List._∷_ (5, row·5) (List._∷_ (6, row·6) (List._∷_ (7, row·7) (List._∷_ (8, row·8) (List._∷_ (9, row·9) (List._∷_ (10, row·10) (List._∷_ (11, row·11) (List._∷_ (12, row·10) (List._∷_ (13, row·10) (List._∷_ (14, row·12) (List._∷_ (15, row·13) List.[])))))))))))))))) t1; slots = List.[] }
 
 abbrev pub T13 : Row.Cx
 T13 = record { locals = List._++_ t5 t1; slots = List.[] }
@@ -448,7 +439,7 @@ T16 = record { locals = List._++_ t7 t1; slots = List.[] }
 
 abbrev pub T17 : Row.Cx
 T17 = record
-    { locals = List._++_ (List._∷_ (0, row·0) (List._∷_ (1, row·1) (List._∷_ (2, row·2) (List._∷_ (3, row·3) (List._∷_ (4, row·4) (List._∷_ (5, row·5) (List._∷_ (6, row·6) (List._∷_ (7, row·7) (List._∷_ (8, row·8) (List._∷_ (9, row·9) (List._∷_ (10, row·10) (List._∷_ (11, row·11) (List._∷_ (12, row·12) (List._∷_ (13, row·22) (List._∷_ (14, row·10) (List._∷_ (15, row·14) List.[])))))))))))))))) t6; slots = List.[] }
+    { locals = List._++_ (List._∷_ (0, row·0) (List._∷_ (1, row·1) (List._∷_ (2, row·2) (List._∷_ (3, row·3) (List._∷_ (4, row·4) (List._∷_ (5, row·5) (List._∷_ (6, row·6) (List._∷_ (7, row·7) (List._∷_ (8, row·8) (List._∷_ (9, row·9) (List._∷_ (10, row·10) (List._∷_ (11, row·11) (List._∷_ (12, row·12) (List._∷_ (13, row·10) (List._∷_ (14, row·10) (List._∷_ (15, row·13) List.[])))))))))))))))) t6; slots = List.[] }
 
 abbrev pub T18 : Row.Cx
 T18 = record { locals = List._++_ t7 t6; slots = List.[] }
@@ -476,35 +467,35 @@ T29 = record { locals = List._++_ t16 t18; slots = List.[] }
 
 abbrev pub T31 : Row.Cx
 T31 = record
-    { locals = List._++_ (List._∷_ (0, row·0) (List._∷_ (1, row·1) (List._∷_ (2, row·2) (List._∷_ (3, row·3) (List._∷_ (4, row·4) (List._∷_ (5, row·5) (List._∷_ (6, row·6) (List._∷_ (7, row·7) (List._∷_ (8, row·27) (List._∷_ (9, row·9) (List._∷_ (10, row·10) (List._∷_ (11, row·11) (List._∷_ (12, row·12) (List._∷_ (13, row·13) (List._∷_ (14, row·10) (List._∷_ (15, row·31) List.[])))))))))))))))) t20; slots = List.[] }
+    { locals = List._++_ (List._∷_ (0, row·0) (List._∷_ (1, row·1) (List._∷_ (2, row·2) (List._∷_ (3, row·3) (List._∷_ (4, row·4) (List._∷_ (5, row·5) (List._∷_ (6, row·6) (List._∷_ (7, row·7) (List._∷_ (8, row·25) (List._∷_ (9, row·9) (List._∷_ (10, row·10) (List._∷_ (11, row·11) (List._∷_ (12, row·12) (List._∷_ (13, row·12) (List._∷_ (14, row·10) (List._∷_ (15, row·29) List.[])))))))))))))))) t20; slots = List.[] }
 
 abbrev pub T35 : Row.Cx
 T35 = record
-    { locals = List._++_ (List._∷_ (0, row·0) (List._∷_ (1, row·1) (List._∷_ (2, row·2) (List._∷_ (3, row·3) (List._∷_ (4, row·4) (List._∷_ (5, row·5) (List._∷_ (6, row·6) (List._∷_ (7, row·7) (List._∷_ (8, row·8) (List._∷_ (9, row·9) (List._∷_ (10, row·10) (List._∷_ (11, row·11) (List._∷_ (12, row·12) (List._∷_ (13, row·13) (List._∷_ (14, row·10) (List._∷_ (15, row·31) List.[])))))))))))))))) t1; slots = List.[] }
+    { locals = List._++_ (List._∷_ (0, row·0) (List._∷_ (1, row·1) (List._∷_ (2, row·2) (List._∷_ (3, row·3) (List._∷_ (4, row·4) (List._∷_ (5, row·5) (List._∷_ (6, row·6) (List._∷_ (7, row·7) (List._∷_ (8, row·8) (List._∷_ (9, row·9) (List._∷_ (10, row·10) (List._∷_ (11, row·11) (List._∷_ (12, row·12) (List._∷_ (13, row·12) (List._∷_ (14, row·10) (List._∷_ (15, row·29) List.[])))))))))))))))) t1; slots = List.[] }
 
 abbrev pub T38 : Row.Cx
 T38 = record
-    { locals = List._++_ (List._∷_ (0, row·0) (List._∷_ (1, row·1) (List._∷_ (2, row·2) (List._∷_ (3, row·3) (List._∷_ (4, row·4) (List._∷_ (5, row·5) (List._∷_ (6, row·6) (List._∷_ (7, row·7) (List._∷_ (8, row·8) (List._∷_ (9, row·9) (List._∷_ (10, row·10) (List._∷_ (11, row·11) (List._∷_ (12, row·10) (List._∷_ (13, row·13) (List._∷_ (14, row·10) (List._∷_ (15, row·31) List.[])))))))))))))))) t1; slots = List.[] }
+    { locals = List._++_ (List._∷_ (0, row·0) (List._∷_ (1, row·1) (List._∷_ (2, row·2) (List._∷_ (3, row·3) (List._∷_ (4, row·4) (List._∷_ (5, row·5) (List._∷_ (6, row·6) (List._∷_ (7, row·7) (List._∷_ (8, row·8) (List._∷_ (9, row·9) (List._∷_ (10, row·10) (List._∷_ (11, row·11) (List._∷_ (12, row·10) (List._∷_ (13, row·12) (List._∷_ (14, row·10) (List._∷_ (15, row·29) List.[])))))))))))))))) t1; slots = List.[] }
 
 abbrev pub T39 : Row.Cx
 T39 = record
-    { locals = List._++_ (List._∷_ (0, row·0) (List._∷_ (1, row·1) (List._∷_ (2, row·2) (List._∷_ (3, row·3) (List._∷_ (4, row·4) (List._∷_ (5, row·5) (List._∷_ (6, row·6) (List._∷_ (7, row·7) (List._∷_ (8, row·8) (List._∷_ (9, row·9) (List._∷_ (10, row·10) (List._∷_ (11, row·11) (List._∷_ (12, row·10) (List._∷_ (13, row·22) (List._∷_ (14, row·10) (List._∷_ (15, row·31) List.[])))))))))))))))) t1; slots = List.[] }
+    { locals = List._++_ (List._∷_ (0, row·0) (List._∷_ (1, row·1) (List._∷_ (2, row·2) (List._∷_ (3, row·3) (List._∷_ (4, row·4) (List._∷_ (5, row·5) (List._∷_ (6, row·6) (List._∷_ (7, row·7) (List._∷_ (8, row·8) (List._∷_ (9, row·9) (List._∷_ (10, row·10) (List._∷_ (11, row·11) (List._∷_ (12, row·10) (List._∷_ (13, row·10) (List._∷_ (14, row·10) (List._∷_ (15, row·29) List.[])))))))))))))))) t1; slots = List.[] }
 
 abbrev pub T42 : Row.Cx
 T42 = record
-    { locals = List._++_ (List._∷_ (0, row·21) (List._∷_ (1, row·1) (List._∷_ (2, row·2) (List._∷_ (3, row·3) (List._∷_ (4, row·4) (List._∷_ (5, row·5) (List._∷_ (6, row·6) (List._∷_ (7, row·7) (List._∷_ (8, row·8) (List._∷_ (9, row·9) (List._∷_ (10, row·10) (List._∷_ (11, row·11) (List._∷_ (12, row·10) (List._∷_ (13, row·22) (List._∷_ (14, row·10) (List._∷_ (15, row·14) List.[])))))))))))))))) t1; slots = List.[] }
+    { locals = List._++_ (List._∷_ (0, row·20) (List._∷_ (1, row·1) (List._∷_ (2, row·2) (List._∷_ (3, row·3) (List._∷_ (4, row·4) (List._∷_ (5, row·5) (List._∷_ (6, row·6) (List._∷_ (7, row·7) (List._∷_ (8, row·8) (List._∷_ (9, row·9) (List._∷_ (10, row·10) (List._∷_ (11, row·11) (List._∷_ (12, row·10) (List._∷_ (13, row·10) (List._∷_ (14, row·10) (List._∷_ (15, row·13) List.[])))))))))))))))) t1; slots = List.[] }
 
 abbrev pub T43 : Row.Cx
 T43 = record
-    { locals = List._++_ (List._∷_ (0, row·21) (List._∷_ (1, row·1) (List._∷_ (2, row·2) (List._∷_ (3, row·3) (List._∷_ (4, row·4) (List._∷_ (5, row·5) (List._∷_ (6, row·6) (List._∷_ (7, row·7) (List._∷_ (8, row·8) (List._∷_ (9, row·9) (List._∷_ (10, row·10) (List._∷_ (11, row·11) (List._∷_ (12, row·12) (List._∷_ (13, row·22) (List._∷_ (14, row·10) (List._∷_ (15, row·14) List.[])))))))))))))))) t1; slots = List.[] }
+    { locals = List._++_ (List._∷_ (0, row·20) (List._∷_ (1, row·1) (List._∷_ (2, row·2) (List._∷_ (3, row·3) (List._∷_ (4, row·4) (List._∷_ (5, row·5) (List._∷_ (6, row·6) (List._∷_ (7, row·7) (List._∷_ (8, row·8) (List._∷_ (9, row·9) (List._∷_ (10, row·10) (List._∷_ (11, row·11) (List._∷_ (12, row·12) (List._∷_ (13, row·10) (List._∷_ (14, row·10) (List._∷_ (15, row·13) List.[])))))))))))))))) t1; slots = List.[] }
 
 abbrev pub T44 : Row.Cx
 T44 = record
-    { locals = List._++_ (List._∷_ (0, row·21) (List._∷_ (1, row·1) (List._∷_ (2, row·2) (List._∷_ (3, row·3) (List._∷_ (4, row·4) (List._∷_ (5, row·5) (List._∷_ (6, row·6) (List._∷_ (7, row·7) (List._∷_ (8, row·8) (List._∷_ (9, row·9) (List._∷_ (10, row·10) (List._∷_ (11, row·11) (List._∷_ (12, row·12) (List._∷_ (13, row·13) (List._∷_ (14, row·10) (List._∷_ (15, row·14) List.[])))))))))))))))) t1; slots = List.[] }
+    { locals = List._++_ (List._∷_ (0, row·20) (List._∷_ (1, row·1) (List._∷_ (2, row·2) (List._∷_ (3, row·3) (List._∷_ (4, row·4) (List._∷_ (5, row·5) (List._∷_ (6, row·6) (List._∷_ (7, row·7) (List._∷_ (8, row·8) (List._∷_ (9, row·9) (List._∷_ (10, row·10) (List._∷_ (11, row·11) (List._∷_ (12, row·12) (List._∷_ (13, row·12) (List._∷_ (14, row·10) (List._∷_ (15, row·13) List.[])))))))))))))))) t1; slots = List.[] }
 
 abbrev pub T45 : Row.Cx
 T45 = record
-    { locals = List._++_ (List._∷_ (0, row·21) (List._∷_ (1, row·1) (List._∷_ (2, row·2) (List._∷_ (3, row·3) (List._∷_ (4, row·4) (List._∷_ (5, row·5) (List._∷_ (6, row·6) (List._∷_ (7, row·7) (List._∷_ (8, row·8) (List._∷_ (9, row·9) (List._∷_ (10, row·10) (List._∷_ (11, row·11) (List._∷_ (12, row·12) (List._∷_ (13, row·13) (List._∷_ (14, row·12) (List._∷_ (15, row·14) List.[])))))))))))))))) t1; slots = List.[] }
+    { locals = List._++_ (List._∷_ (0, row·20) (List._∷_ (1, row·1) (List._∷_ (2, row·2) (List._∷_ (3, row·3) (List._∷_ (4, row·4) (List._∷_ (5, row·5) (List._∷_ (6, row·6) (List._∷_ (7, row·7) (List._∷_ (8, row·8) (List._∷_ (9, row·9) (List._∷_ (10, row·10) (List._∷_ (11, row·11) (List._∷_ (12, row·12) (List._∷_ (13, row·12) (List._∷_ (14, row·12) (List._∷_ (15, row·13) List.[])))))))))))))))) t1; slots = List.[] }
 
 abbrev args·0 : ArgsT ps·0 (T26 .locals)
 args·0 = (record { pos = 11; ty = ty·11; ref = λ x. x }, (Num.vAt 14 λ x. x, tt))
@@ -529,13 +520,13 @@ O4 = Typed.withNext (Option.some T16) O3
 
 abbrev pub InvT-loop : Type 1
 InvT-loop = List.List (Referent.rtF (Referent.fInt Syntax.w16) .Denot) → List.List (Referent.rtF (Referent.fInt Syntax.w16) .Denot) → List.List (Referent.rtF (Referent.fInt Syntax.w8) .Denot) → List.List (Referent.rtF (Referent.fInt Syntax.w16) .Denot) → List.List (Referent.rtF (Referent.fInt Syntax.w16) .Denot) → List.List (Referent.rtF (Referent.fInt
-    Syntax.w32) .Denot) → List.List (Referent.rtF (Referent.fInt Syntax.w16) .Denot) → List.List (Referent.rtF (Referent.fInt Syntax.w8) .Denot) → List.List (Rec.rt .Denot) → Rows.sc-here (Row.sInt Syntax.w64) .Mod → List.List (Referent.rtF (Referent.fInt Syntax.w16) .Denot) → Rows.sc-here (Row.sInt Syntax.w64) .Mod → Rows.sc-here (Row.sInt Syntax.w32) .Mod →
-    Rows.sc-here (Row.sInt Syntax.w64) .Mod → List.List (Referent.rtF (Referent.fInt Syntax.w16) .Denot) → List.List (Referent.rtF (Referent.fInt Syntax.w8) .Denot) → Rows.sc-here (Row.sInt Syntax.w64) .Mod → Rows.sc-here (Row.sInt Syntax.w32) .Mod → Rows.sc-here (Row.sInt Syntax.w64) .Mod → Type 0
+    Syntax.w32) .Denot) → List.List (Referent.rtF (Referent.fInt Syntax.w16) .Denot) → List.List (Referent.rtF (Referent.fInt Syntax.w8) .Denot) → List.List (Rec.rt .Denot) → Rows.sc-here (Row.sInt Syntax.w64) .Mod → List.List (Referent.rtF (Referent.fInt Syntax.w16) .Denot) → Rows.sc-here (Row.sInt Syntax.w64) .Mod → Rows.sc-here (Row.sInt Syntax.w64) .Mod →
+    Rows.sc-here (Row.sInt Syntax.w64) .Mod → List.List (Referent.rtF (Referent.fInt Syntax.w16) .Denot) → List.List (Referent.rtF (Referent.fInt Syntax.w8) .Denot) → Rows.sc-here (Row.sInt Syntax.w64) .Mod → Rows.sc-here (Row.sInt Syntax.w64) .Mod → Rows.sc-here (Row.sInt Syntax.w64) .Mod → Type 0
 
 abbrev pub MeasureT-loop : Type 0
 MeasureT-loop = List.List (Referent.rtF (Referent.fInt Syntax.w16) .Denot) → List.List (Referent.rtF (Referent.fInt Syntax.w16) .Denot) → List.List (Referent.rtF (Referent.fInt Syntax.w8) .Denot) → List.List (Referent.rtF (Referent.fInt Syntax.w16) .Denot) → List.List (Referent.rtF (Referent.fInt Syntax.w16) .Denot) → List.List (Referent.rtF (Referent.fInt
-    Syntax.w32) .Denot) → List.List (Referent.rtF (Referent.fInt Syntax.w16) .Denot) → List.List (Referent.rtF (Referent.fInt Syntax.w8) .Denot) → List.List (Rec.rt .Denot) → Rows.sc-here (Row.sInt Syntax.w64) .Mod → List.List (Referent.rtF (Referent.fInt Syntax.w16) .Denot) → Rows.sc-here (Row.sInt Syntax.w64) .Mod → Rows.sc-here (Row.sInt Syntax.w32) .Mod →
-    Rows.sc-here (Row.sInt Syntax.w64) .Mod → List.List (Referent.rtF (Referent.fInt Syntax.w16) .Denot) → List.List (Referent.rtF (Referent.fInt Syntax.w8) .Denot) → Rows.sc-here (Row.sInt Syntax.w64) .Mod → Rows.sc-here (Row.sInt Syntax.w32) .Mod → Rows.sc-here (Row.sInt Syntax.w64) .Mod → Nat.ℕ
+    Syntax.w32) .Denot) → List.List (Referent.rtF (Referent.fInt Syntax.w16) .Denot) → List.List (Referent.rtF (Referent.fInt Syntax.w8) .Denot) → List.List (Rec.rt .Denot) → Rows.sc-here (Row.sInt Syntax.w64) .Mod → List.List (Referent.rtF (Referent.fInt Syntax.w16) .Denot) → Rows.sc-here (Row.sInt Syntax.w64) .Mod → Rows.sc-here (Row.sInt Syntax.w64) .Mod →
+    Rows.sc-here (Row.sInt Syntax.w64) .Mod → List.List (Referent.rtF (Referent.fInt Syntax.w16) .Denot) → List.List (Referent.rtF (Referent.fInt Syntax.w8) .Denot) → Rows.sc-here (Row.sInt Syntax.w64) .Mod → Rows.sc-here (Row.sInt Syntax.w64) .Mod → Rows.sc-here (Row.sInt Syntax.w64) .Mod → Nat.ℕ
 
 module _ (claims· : Claims) where
   abbrev s0 : Typed.Gives T0 T0
@@ -569,7 +560,7 @@ module _ (claims· : Claims) where
   s9 = Scalar.n-use T0 (Scalar.oInt Syntax.w64 0) 12 (Rows.sc-here (Row.sInt Syntax.w64)) (Row.sInt Syntax.w64 .of)
 
   abbrev s10 : Typed.Mo T11 → Typed.Mo T12
-  s10 = Scalar.n-use T11 (Scalar.oInt Syntax.w32 0) 13 (Rows.sc-here (Row.sInt Syntax.w32)) (Row.sInt Syntax.w32 .of)
+  s10 = Scalar.n-use T11 (Scalar.oInt Syntax.w64 0) 13 (Rows.sc-here (Row.sInt Syntax.w64)) (Row.sInt Syntax.w64 .of)
 
   abbrev s11 : Typed.Mo T12 → Typed.Mo T13
   s11 = Scalar.n-use T12 (Scalar.oInt Syntax.w64 0) 14 (Rows.sc-here (Row.sInt Syntax.w64)) (Row.sInt Syntax.w64 .of)
@@ -581,7 +572,7 @@ module _ (claims· : Claims) where
   s13 = Scalar.n-room T15 12 (Syntax.tyInt Syntax.w64)
 
   abbrev s14 : Typed.Mo T17 → Typed.Mo T18
-  s14 = Scalar.n-room T17 13 (Syntax.tyInt Syntax.w32)
+  s14 = Scalar.n-room T17 13 (Syntax.tyInt Syntax.w64)
 
   abbrev s15 : Typed.Mo T18 → Typed.Mo T16
   s15 = Scalar.n-room T18 16 Syntax.tyBool
@@ -626,7 +617,7 @@ module _ (claims· : Claims) where
   s34 = Call.callB ps·2 r·2 (claims· .4) (claims· .5) T35 (record { pos = 15; st = List.[]; d = 0; at = λ x. x }, tt) 12 List.[] (Syntax.tyInt Syntax.w64)
 
   abbrev s35 : Typed.Both T38 T39
-  s35 = Call.callB ps·2 r·3 (claims· .6) (claims· .7) T38 (record { pos = 15; st = List.[]; d = 0; at = λ x. x }, tt) 13 List.[] (Syntax.tyInt Syntax.w32)
+  s35 = Call.callB ps·2 r·2 (claims· .6) (claims· .7) T38 (record { pos = 15; st = List.[]; d = 0; at = λ x. x }, tt) 13 List.[] (Syntax.tyInt Syntax.w64)
 
   abbrev s36 : Typed.Mo T39 → Typed.Mo T13
   s36 = Scalar.n-room T39 15 ty·14
@@ -641,7 +632,7 @@ module _ (claims· : Claims) where
   s39 = Scalar.n-room T42 12 (Syntax.tyInt Syntax.w64)
 
   abbrev s40 : Typed.Mo T43 → Typed.Mo T44
-  s40 = Scalar.n-room T43 13 (Syntax.tyInt Syntax.w32)
+  s40 = Scalar.n-room T43 13 (Syntax.tyInt Syntax.w64)
 
   abbrev s41 : Typed.Mo T44 → Typed.Mo T45
   s41 = Scalar.n-room T44 14 (Syntax.tyInt Syntax.w64)
@@ -649,15 +640,15 @@ module _ (claims· : Claims) where
   abbrev s42 : Typed.Mo T45 → Typed.Mo T1
   s42 = Scalar.n-room T45 10 (Syntax.tyInt Syntax.w64)
 
-  abbrev put0 : List.List (Referent.rtF (Referent.fInt Syntax.w16) .Denot) × List.List (Referent.rtF (Referent.fInt Syntax.w8) .Denot) × Rows.sc-here (Row.sInt Syntax.w64) .Mod × Rows.sc-here (Row.sInt Syntax.w32) .Mod × Rows.sc-here (Row.sInt Syntax.w64) .Mod → Typed.Mo T13 → Typed.Mo T13
-  put0 = λ vs u. Row.set 14 (14, Rows.sc-here (Row.sInt Syntax.w64)) (vs .4) (T13 .locals) (Row.set 13 (13, Rows.sc-here (Row.sInt Syntax.w32)) (vs .3) (T13 .locals) (Row.set 12 (12, Rows.sc-here (Row.sInt Syntax.w64)) (vs .2) (T13 .locals) (Row.set 8 (8, Mut.mslice (Referent.rtF (Referent.fInt Syntax.w8)) ty·4 7) record
+  abbrev put0 : List.List (Referent.rtF (Referent.fInt Syntax.w16) .Denot) × List.List (Referent.rtF (Referent.fInt Syntax.w8) .Denot) × Rows.sc-here (Row.sInt Syntax.w64) .Mod × Rows.sc-here (Row.sInt Syntax.w64) .Mod × Rows.sc-here (Row.sInt Syntax.w64) .Mod → Typed.Mo T13 → Typed.Mo T13
+  put0 = λ vs u. Row.set 14 (14, Rows.sc-here (Row.sInt Syntax.w64)) (vs .4) (T13 .locals) (Row.set 13 (13, Rows.sc-here (Row.sInt Syntax.w64)) (vs .3) (T13 .locals) (Row.set 12 (12, Rows.sc-here (Row.sInt Syntax.w64)) (vs .2) (T13 .locals) (Row.set 8 (8, Mut.mslice (Referent.rtF (Referent.fInt Syntax.w8)) ty·4 7) record
       { ptr = Row.get 8 (T13 .locals) u .ptr; name = Row.get 8 (T13 .locals) u .name; now = vs .1 } (T13 .locals) (Row.set 7 (7, Mut.mslice (Referent.rtF (Referent.fInt Syntax.w16)) ty·10 6) record { ptr = Row.get 7 (T13 .locals) u .ptr; name = Row.get 7 (T13 .locals) u .name; now = vs .0 } (T13 .locals) u))))
 
   module _ (Pre· : (κs : Lifetimes.Lfts 10) → Kinds.Dens κs ps → Type 0) (Post· : (κs : Lifetimes.Lfts 10) → (a : Kinds.Dens κs ps) → Kinds.Plain 10 ps r κs) where
     module _ (M : Type 1) where
       abbrev pub Closed : Type 2
       Closed = (𝓤 : URA.URA M) (H : Wp.Heap 𝓤) (A : Atoms.Atoms 𝓤) (W : Kit.Given 𝓤 H A) (𝓣 : Wp.Tables 𝓤 H) (known0 : Plain.Known 𝓤 H A W 𝓣 1 ps·0 r·0 (claims· .0) (claims· .1) "presses::answers::report_at") (known1 : Plain.Known 𝓤 H A W 𝓣 9 ps·1 r·1 (claims· .2) (claims· .3) "handset::button::press") (known2 : Plain.Known 𝓤 H A W 𝓣 0 ps·2 r·2 (claims· .4)
-          (claims· .5) "presses::answers::number_in") (known3 : Plain.Known 𝓤 H A W 𝓣 0 ps·2 r·3 (claims· .6) (claims· .7) "presses::answers::bits_in") (known4 : Plain.Known 𝓤 H A W 𝓣 0 ps·4 r·4 (claims· .8) (claims· .9) "presses::answers::show") → Statement.Triple 𝓤 (Wp.WpFn 𝓤 H (𝓣 .C) (𝓣 .Λ) (Function.fnOf 10 ps r xs m hs body)) (Function.plainOf 𝓤 H A 10 ps r
+          (claims· .5) "presses::answers::number_in") (known3 : Plain.Known 𝓤 H A W 𝓣 0 ps·2 r·2 (claims· .6) (claims· .7) "presses::answers::bits_in") (known4 : Plain.Known 𝓤 H A W 𝓣 0 ps·4 r·4 (claims· .8) (claims· .9) "presses::answers::show") → Statement.Triple 𝓤 (Wp.WpFn 𝓤 H (𝓣 .C) (𝓣 .Λ) (Function.fnOf 10 ps r xs m hs body)) (Function.plainOf 𝓤 H A 10 ps r
           Pre· Post·)
 
     module _ (Inv·0 : InvT-loop) (μ·0 : MeasureT-loop) where
@@ -803,33 +794,33 @@ module _ (claims· : Claims) where
 
       module _ {M : Type 1} (𝓤 : URA.URA M) (H : Wp.Heap 𝓤) (A : Atoms.Atoms 𝓤) (W : Kit.Given 𝓤 H A) (𝓣 : Wp.Tables 𝓤 H) where
         abbrev Knowns : Type 1
-        Knowns = Plain.Known 𝓤 H A W 𝓣 1 ps·0 r·0 (claims· .0) (claims· .1) "presses::answers::report_at" × Plain.Known 𝓤 H A W 𝓣 9 ps·1 r·1 (claims· .2) (claims· .3) "handset::button::press" × Plain.Known 𝓤 H A W 𝓣 0 ps·2 r·2 (claims· .4) (claims· .5) "presses::answers::number_in" × Plain.Known 𝓤 H A W 𝓣 0 ps·2 r·3 (claims· .6) (claims· .7)
+        Knowns = Plain.Known 𝓤 H A W 𝓣 1 ps·0 r·0 (claims· .0) (claims· .1) "presses::answers::report_at" × Plain.Known 𝓤 H A W 𝓣 9 ps·1 r·1 (claims· .2) (claims· .3) "handset::button::press" × Plain.Known 𝓤 H A W 𝓣 0 ps·2 r·2 (claims· .4) (claims· .5) "presses::answers::number_in" × Plain.Known 𝓤 H A W 𝓣 0 ps·2 r·2 (claims· .6) (claims· .7)
             "presses::answers::bits_in" × Plain.Known 𝓤 H A W 𝓣 0 ps·4 r·4 (claims· .8) (claims· .9) "presses::answers::show"
 
       module _ (κs : Lifetimes.Lfts 10) (qs : Lifetimes.Shares 10) where
         abbrev g9 : List.List Row.Entry
         g9 = List._∷_ (0, Rows.any-gone ty·12) (List._∷_ (1, Rows.sslice (Referent.rtF (Referent.fInt Syntax.w16)) ty·5 0) (List._∷_ (2, Rows.sslice (Referent.rtF (Referent.fInt Syntax.w16)) ty·6 1) (List._∷_ (3, Rows.sslice (Referent.rtF (Referent.fInt Syntax.w8)) ty·3 2) (List._∷_ (4, Rows.sslice (Referent.rtF (Referent.fInt Syntax.w16)) ty·7 3) (List._∷_
             (5, Rows.sslice (Referent.rtF (Referent.fInt Syntax.w16)) ty·8 4) (List._∷_ (6, Rows.sslice (Referent.rtF (Referent.fInt Syntax.w32)) ty·9 5) (List._∷_ (7, Relend.mslice-owed (Referent.rtF (Referent.fInt Syntax.w16)) ty·10 6 10 (Row.lease (κs .1 .1 .1 .1 .1 .1 .0) (qs .1 .1 .1 .1 .1 .1 .0))) (List._∷_
-            (8, Mut.mslice (Referent.rtF (Referent.fInt Syntax.w8)) ty·4 7) (List._∷_ (9, Rows.sslice Rec.rt ty·0 8) (List._∷_ (10, Rows.sc-here (Row.sInt Syntax.w64)) (List._∷_ (11, Rows.sslice (Referent.rtF (Referent.fInt Syntax.w16)) ty·11 9) (List._∷_ (12, Rows.any-gone (Syntax.tyInt Syntax.w64)) (List._∷_ (13, Rows.any-gone (Syntax.tyInt Syntax.w32))
+            (8, Mut.mslice (Referent.rtF (Referent.fInt Syntax.w8)) ty·4 7) (List._∷_ (9, Rows.sslice Rec.rt ty·0 8) (List._∷_ (10, Rows.sc-here (Row.sInt Syntax.w64)) (List._∷_ (11, Rows.sslice (Referent.rtF (Referent.fInt Syntax.w16)) ty·11 9) (List._∷_ (12, Rows.any-gone (Syntax.tyInt Syntax.w64)) (List._∷_ (13, Rows.any-gone (Syntax.tyInt Syntax.w64))
             (List._∷_ (14, Rows.sc-here (Row.sInt Syntax.w64)) (List._∷_ (15, Rows.any-gone ty·14) List.[])))))))))))))))
 
         abbrev g12 : List.List Row.Entry
         g12 = List._∷_ (0, Rows.any-gone ty·12) (List._∷_ (1, Rows.sslice (Referent.rtF (Referent.fInt Syntax.w16)) ty·5 0) (List._∷_ (2, Rows.sslice (Referent.rtF (Referent.fInt Syntax.w16)) ty·6 1) (List._∷_ (3, Rows.sslice (Referent.rtF (Referent.fInt Syntax.w8)) ty·3 2) (List._∷_ (4, Rows.sslice (Referent.rtF (Referent.fInt Syntax.w16)) ty·7 3) (List._∷_
             (5, Rows.sslice (Referent.rtF (Referent.fInt Syntax.w16)) ty·8 4) (List._∷_ (6, Rows.sslice (Referent.rtF (Referent.fInt Syntax.w32)) ty·9 5) (List._∷_ (7, Relend.mslice-owed (Referent.rtF (Referent.fInt Syntax.w16)) ty·10 6 10 (Row.lease (κs .1 .1 .1 .1 .1 .1 .0) (qs .1 .1 .1 .1 .1 .1 .0))) (List._∷_
             (8, Relend.mslice-owed (Referent.rtF (Referent.fInt Syntax.w8)) ty·4 7 11 (Row.lease (κs .1 .1 .1 .1 .1 .1 .1 .0) (qs .1 .1 .1 .1 .1 .1 .1 .0))) (List._∷_ (9, Rows.sslice Rec.rt ty·0 8) (List._∷_ (10, Rows.sc-here (Row.sInt Syntax.w64)) (List._∷_ (11, Rows.sslice (Referent.rtF (Referent.fInt Syntax.w16)) ty·11 9) (List._∷_
-            (12, Rows.any-gone (Syntax.tyInt Syntax.w64)) (List._∷_ (13, Rows.any-gone (Syntax.tyInt Syntax.w32)) (List._∷_ (14, Rows.sc-here (Row.sInt Syntax.w64)) (List._∷_ (15, Rows.any-gone ty·14) List.[])))))))))))))))
+            (12, Rows.any-gone (Syntax.tyInt Syntax.w64)) (List._∷_ (13, Rows.any-gone (Syntax.tyInt Syntax.w64)) (List._∷_ (14, Rows.sc-here (Row.sInt Syntax.w64)) (List._∷_ (15, Rows.any-gone ty·14) List.[])))))))))))))))
 
         abbrev g16 : List.List Row.Entry
         g16 = List._∷_ (0, Rows.any-gone ty·12) (List._∷_ (1, Rows.sslice (Referent.rtF (Referent.fInt Syntax.w16)) ty·5 0) (List._∷_ (2, Rows.sslice (Referent.rtF (Referent.fInt Syntax.w16)) ty·6 1) (List._∷_ (3, Rows.sslice (Referent.rtF (Referent.fInt Syntax.w8)) ty·3 2) (List._∷_ (4, Rows.sslice (Referent.rtF (Referent.fInt Syntax.w16)) ty·7 3) (List._∷_
             (5, Rows.sslice (Referent.rtF (Referent.fInt Syntax.w16)) ty·8 4) (List._∷_ (6, Rows.sslice (Referent.rtF (Referent.fInt Syntax.w32)) ty·9 5) (List._∷_ (7, Relend.mslice-owed (Referent.rtF (Referent.fInt Syntax.w16)) ty·10 6 10 (Row.lease (κs .1 .1 .1 .1 .1 .1 .0) (qs .1 .1 .1 .1 .1 .1 .0))) (List._∷_
             (8, Relend.mslice-owed (Referent.rtF (Referent.fInt Syntax.w8)) ty·4 7 11 (Row.lease (κs .1 .1 .1 .1 .1 .1 .1 .0) (qs .1 .1 .1 .1 .1 .1 .1 .0))) (List._∷_ (9, Rows.sslice Rec.rt ty·0 8) (List._∷_ (10, Rows.sc-here (Row.sInt Syntax.w64)) (List._∷_ (11, Rows.sslice (Referent.rtF (Referent.fInt Syntax.w16)) ty·11 9) (List._∷_
-            (12, Rows.any-gone (Syntax.tyInt Syntax.w64)) (List._∷_ (13, Rows.any-gone (Syntax.tyInt Syntax.w32)) (List._∷_ (14, Rows.sc-here (Row.sInt Syntax.w64)) (List._∷_ (15, Rows.whole (Declared.row PressReply.the-type)) List.[])))))))))))))))
+            (12, Rows.any-gone (Syntax.tyInt Syntax.w64)) (List._∷_ (13, Rows.any-gone (Syntax.tyInt Syntax.w64)) (List._∷_ (14, Rows.sc-here (Row.sInt Syntax.w64)) (List._∷_ (15, Rows.whole (Declared.row PressReply.the-type)) List.[])))))))))))))))
 
         abbrev g19 : List.List Row.Entry
         g19 = List._∷_ (0, Rows.any-gone ty·12) (List._∷_ (1, Rows.sslice (Referent.rtF (Referent.fInt Syntax.w16)) ty·5 0) (List._∷_ (2, Rows.sslice (Referent.rtF (Referent.fInt Syntax.w16)) ty·6 1) (List._∷_ (3, Rows.sslice (Referent.rtF (Referent.fInt Syntax.w8)) ty·3 2) (List._∷_ (4, Rows.sslice (Referent.rtF (Referent.fInt Syntax.w16)) ty·7 3) (List._∷_
             (5, Rows.sslice (Referent.rtF (Referent.fInt Syntax.w16)) ty·8 4) (List._∷_ (6, Rows.sslice (Referent.rtF (Referent.fInt Syntax.w32)) ty·9 5) (List._∷_ (7, Mut.mslice (Referent.rtF (Referent.fInt Syntax.w16)) ty·10 6) (List._∷_
             (8, Relend.mslice-owed (Referent.rtF (Referent.fInt Syntax.w8)) ty·4 7 11 (Row.lease (κs .1 .1 .1 .1 .1 .1 .1 .0) (qs .1 .1 .1 .1 .1 .1 .1 .0))) (List._∷_ (9, Rows.sslice Rec.rt ty·0 8) (List._∷_ (10, Rows.sc-here (Row.sInt Syntax.w64)) (List._∷_ (11, Rows.sslice (Referent.rtF (Referent.fInt Syntax.w16)) ty·11 9) (List._∷_
-            (12, Rows.any-gone (Syntax.tyInt Syntax.w64)) (List._∷_ (13, Rows.any-gone (Syntax.tyInt Syntax.w32)) (List._∷_ (14, Rows.sc-here (Row.sInt Syntax.w64)) (List._∷_ (15, Rows.whole (Declared.row PressReply.the-type)) List.[])))))))))))))))
+            (12, Rows.any-gone (Syntax.tyInt Syntax.w64)) (List._∷_ (13, Rows.any-gone (Syntax.tyInt Syntax.w64)) (List._∷_ (14, Rows.sc-here (Row.sInt Syntax.w64)) (List._∷_ (15, Rows.whole (Declared.row PressReply.the-type)) List.[])))))))))))))))
 
         abbrev slots·0 : List.List Row.Life
         slots·0 = List._∷_ (Row.lease (κs .0) (qs .0)) (List._∷_ (Row.lease (κs .1 .0) (qs .1 .0)) (List._∷_ (Row.lease (κs .1 .1 .0) (qs .1 .1 .0)) (List._∷_ (Row.lease (κs .1 .1 .1 .0) (qs .1 .1 .1 .0)) (List._∷_ (Row.lease (κs .1 .1 .1 .1 .0) (qs .1 .1 .1 .1 .0)) (List._∷_ (Row.lease (κs .1 .1 .1 .1 .1 .0) (qs .1 .1 .1 .1 .1 .0)) (List._∷_ (Row.lease (κs
@@ -975,7 +966,7 @@ module _ (claims· : Claims) where
 
           d6 : Typed.Typed 𝓤 H A 𝓣 E G15 b6 Δ4 at6
           d6 = Scalar.t-cond 𝓤 H A W E 𝓣 G15 16 (λ x. x) b4 b5 Δ4 at3 at5 (Scalar.reads-sc 𝓤 H A W Row.sBool) Path'.refl (Typed.g-pre 𝓤 H A W 𝓣 E G15 G17 b4 Δ4 (Typed.pass T15 T17 s13) at2 (Scalar.g-room 𝓤 H A W E G15 12 (Syntax.tyInt Syntax.w64) (Scalar.room-sc 𝓤 H A W (Row.sInt Syntax.w64))) (Typed.g-pre 𝓤 H A W 𝓣 E G17 G18 b4 Δ4 (Typed.pass T17 T18 s14)
-              at1 (Scalar.g-room 𝓤 H A W E G17 13 (Syntax.tyInt Syntax.w32) (Scalar.room-sc 𝓤 H A W (Row.sInt Syntax.w32))) (Typed.g-pre 𝓤 H A W 𝓣 E G18 G16 b4 Δ4 (Typed.pass T18 T16 s15) at0 (Scalar.g-room 𝓤 H A W E G18 16 Syntax.tyBool (Scalar.room-sc 𝓤 H A W Row.sBool)) d0))) (Typed.g-pre 𝓤 H A W 𝓣 E G15 G13 b5 Δ4 (Typed.pass T15 T13 s16) at4 (Scalar.g-room 𝓤
+              at1 (Scalar.g-room 𝓤 H A W E G17 13 (Syntax.tyInt Syntax.w64) (Scalar.room-sc 𝓤 H A W (Row.sInt Syntax.w64))) (Typed.g-pre 𝓤 H A W 𝓣 E G18 G16 b4 Δ4 (Typed.pass T18 T16 s15) at0 (Scalar.g-room 𝓤 H A W E G18 16 Syntax.tyBool (Scalar.room-sc 𝓤 H A W Row.sBool)) d0))) (Typed.g-pre 𝓤 H A W 𝓣 E G15 G13 b5 Δ4 (Typed.pass T15 T13 s16) at4 (Scalar.g-room 𝓤
               H A W E G15 16 Syntax.tyBool (Scalar.room-sc 𝓤 H A W Row.sBool)) d4)
 
           d7 : Typed.Typed 𝓤 H A 𝓣 E G13 b15 Δ3 at7
@@ -983,9 +974,9 @@ module _ (claims· : Claims) where
               (Scalar.reads-sc 𝓤 H A W (Row.sInt Syntax.w64), Path'.refl) tt (Scalar.room-sc 𝓤 H A W (Row.sInt Syntax.w64)) (Scalar.holds-sc 𝓤 H A W (Row.sInt Syntax.w64)) Path'.refl (λ u. Path'.refl) λ u. tt)
 
           d9 : Typed.Typed 𝓤 H A 𝓣 E G38 b16 Δ3 at9
-          d9 = Typed.s-seq 𝓤 H A W 𝓣 E G38 G39 b14 b15 Δ3 (Typed.both s35) at8 (Plain.t-call-plain 𝓤 H A W 𝓣 0 ps·2 r·3 (claims· .6) (claims· .7) "presses::answers::bits_in" (known .3) E (λ pos β. β) G38 (record { pos = 15; st = List.[]; d = 0; at = λ x. x }, tt) 13 List.[] (Call.sub-id 𝓤 H A W (G38 .slots))
+          d9 = Typed.s-seq 𝓤 H A W 𝓣 E G38 G39 b14 b15 Δ3 (Typed.both s35) at8 (Plain.t-call-plain 𝓤 H A W 𝓣 0 ps·2 r·2 (claims· .6) (claims· .7) "presses::answers::bits_in" (known .3) E (λ pos β. β) G38 (record { pos = 15; st = List.[]; d = 0; at = λ x. x }, tt) 13 List.[] (Call.sub-id 𝓤 H A W (G38 .slots))
               ((Yields.yields-copy 𝓤 H A W (λ ρ. Unit) (Declared.row PressReply.the-type) Path'.refl (Copies.cEnum PressReply.the-type Laws.the-laws Laws.the-copy .copy 𝓤 H A W) (Rows.whole (Declared.row PressReply.the-type)) (λ x. x) (λ x. x) (λ ρ told. Local.mem-whole 𝓤 H A W (Declared.row PressReply.the-type) ρ) λ ρ told. Local.whole-mem 𝓤 H A W (Declared.row PressReply.the-type) ρ, Path'.refl), tt)
-              (Reads.room-gone 𝓤 H A (Syntax.tyInt Syntax.w32)) tt Path'.refl) (Typed.g-pre 𝓤 H A W 𝓣 E G39 G13 b15 Δ3 (Typed.pass T39 T13 s36) at7 (Scalar.g-room 𝓤 H A W E G39 15 ty·14 (Local.room-whole 𝓤 H A W (Declared.row PressReply.the-type) ty·14 Path'.refl)) d7)
+              (Reads.room-gone 𝓤 H A (Syntax.tyInt Syntax.w64)) tt Path'.refl) (Typed.g-pre 𝓤 H A W 𝓣 E G39 G13 b15 Δ3 (Typed.pass T39 T13 s36) at7 (Scalar.g-room 𝓤 H A W E G39 15 ty·14 (Local.room-whole 𝓤 H A W (Declared.row PressReply.the-type) ty·14 Path'.refl)) d7)
 
           d12 : Typed.Typed 𝓤 H A 𝓣 E G35 b17 Δ3 at12
           d12 = Typed.g-pre 𝓤 H A W 𝓣 E G35 G35 b17 Δ3 (Typed.give s32) at10 (Know.g-sl-known 𝓤 H A W (Referent.fInt Syntax.w8) E G35 8 7 ty·4 (Row.lease (κs .1 .1 .1 .1 .1 .1 .1 .0) (qs .1 .1 .1 .1 .1 .1 .1 .0)) 0 (λ x. x) record { fits = Dec'.lit< tt } (Reads.as-is 𝓤 H A (Mut.mslice (Referent.rtF (Referent.fInt Syntax.w8)) ty·4 7)) Path'.refl tt)
@@ -1042,8 +1033,8 @@ module _ (claims· : Claims) where
 
           d37 : Typed.Typed 𝓤 H A 𝓣 E G13 b30 Δ0 at37
           d37 = Typed.s-seq 𝓤 H A W 𝓣 E G13 G42 b28 b29 Δ0 (Typed.both s38) at36 (Plain.t-call-plain 𝓤 H A W 𝓣 0 ps·4 r·4 (claims· .8) (claims· .9) "presses::answers::show" (known .4) E (λ pos β. β) G13 (Num.vAt 12 λ x. x, (Num.vAt 13 λ x. x, tt)) 0 List.[] (Call.sub-id 𝓤 H A W (G13 .slots))
-              ((Scalar.reads-sc 𝓤 H A W (Row.sInt Syntax.w64), Path'.refl), ((Scalar.reads-sc 𝓤 H A W (Row.sInt Syntax.w32), Path'.refl), tt)) (Reads.room-gone 𝓤 H A ty·12) tt Path'.refl) (Typed.g-pre 𝓤 H A W 𝓣 E G42 G43 b29 Δ0 (Typed.pass T42 T43 s39) at35 (Scalar.g-room 𝓤 H A W E G42 12 (Syntax.tyInt Syntax.w64) (Scalar.room-sc 𝓤 H A W (Row.sInt Syntax.w64)))
-              (Typed.g-pre 𝓤 H A W 𝓣 E G43 G44 b29 Δ0 (Typed.pass T43 T44 s40) at34 (Scalar.g-room 𝓤 H A W E G43 13 (Syntax.tyInt Syntax.w32) (Scalar.room-sc 𝓤 H A W (Row.sInt Syntax.w32))) (Typed.g-pre 𝓤 H A W 𝓣 E G44 G45 b29 Δ0 (Typed.pass T44 T45 s41) at33 (Scalar.g-room 𝓤 H A W E G44 14 (Syntax.tyInt Syntax.w64) (Scalar.room-sc 𝓤 H A W (Row.sInt
+              ((Scalar.reads-sc 𝓤 H A W (Row.sInt Syntax.w64), Path'.refl), ((Scalar.reads-sc 𝓤 H A W (Row.sInt Syntax.w64), Path'.refl), tt)) (Reads.room-gone 𝓤 H A ty·12) tt Path'.refl) (Typed.g-pre 𝓤 H A W 𝓣 E G42 G43 b29 Δ0 (Typed.pass T42 T43 s39) at35 (Scalar.g-room 𝓤 H A W E G42 12 (Syntax.tyInt Syntax.w64) (Scalar.room-sc 𝓤 H A W (Row.sInt Syntax.w64)))
+              (Typed.g-pre 𝓤 H A W 𝓣 E G43 G44 b29 Δ0 (Typed.pass T43 T44 s40) at34 (Scalar.g-room 𝓤 H A W E G43 13 (Syntax.tyInt Syntax.w64) (Scalar.room-sc 𝓤 H A W (Row.sInt Syntax.w64))) (Typed.g-pre 𝓤 H A W 𝓣 E G44 G45 b29 Δ0 (Typed.pass T44 T45 s41) at33 (Scalar.g-room 𝓤 H A W E G44 14 (Syntax.tyInt Syntax.w64) (Scalar.room-sc 𝓤 H A W (Row.sInt
               Syntax.w64))) (Typed.g-pre 𝓤 H A W 𝓣 E G45 G1 b29 Δ0 (Typed.pass T45 T1 s42) at32 (Scalar.g-room 𝓤 H A W E G45 10 (Syntax.tyInt Syntax.w64) (Scalar.room-sc 𝓤 H A W (Row.sInt Syntax.w64))) d32))))
 
           d38 : Typed.Typed 𝓤 H A 𝓣 E G13 b31 Δ0 at38
@@ -1051,8 +1042,8 @@ module _ (claims· : Claims) where
 
           d41 : Typed.Typed 𝓤 H A 𝓣 E G0 b34 Δ0 at41
           d41 = Typed.s-seq 𝓤 H A W 𝓣 E G0 G11 b0 b33 Δ0 (Typed.pass T0 T11 s9) at40 (Scalar.t-use 𝓤 H A W E 𝓣 G0 (Scalar.oInt Syntax.w64 0) 12 (Rows.sc-here (Row.sInt Syntax.w64)) (Syntax.tyInt Syntax.w64) (Row.valS (Row.sInt Syntax.w64)) (Row.sInt Syntax.w64 .of) tt (Reads.room-gone 𝓤 H A (Syntax.tyInt Syntax.w64)) (Scalar.holds-sc 𝓤 H A W (Row.sInt
-              Syntax.w64)) Path'.refl (λ u. Path'.refl) λ u. tt) (Typed.s-seq 𝓤 H A W 𝓣 E G11 G12 b1 b32 Δ0 (Typed.pass T11 T12 s10) at39 (Scalar.t-use 𝓤 H A W E 𝓣 G11 (Scalar.oInt Syntax.w32 0) 13 (Rows.sc-here (Row.sInt Syntax.w32)) (Syntax.tyInt Syntax.w32) (Row.valS (Row.sInt Syntax.w32)) (Row.sInt Syntax.w32 .of) tt (Reads.room-gone 𝓤 H A (Syntax.tyInt
-              Syntax.w32)) (Scalar.holds-sc 𝓤 H A W (Row.sInt Syntax.w32)) Path'.refl (λ u. Path'.refl) λ u. tt) (Typed.s-seq 𝓤 H A W 𝓣 E G12 G13 b2 b31 Δ0 (Typed.pass T12 T13 s11) at38 (Scalar.t-use 𝓤 H A W E 𝓣 G12 (Scalar.oInt Syntax.w64 0) 14 (Rows.sc-here (Row.sInt Syntax.w64)) (Syntax.tyInt Syntax.w64) (Row.valS (Row.sInt Syntax.w64)) (Row.sInt Syntax.w64
+              Syntax.w64)) Path'.refl (λ u. Path'.refl) λ u. tt) (Typed.s-seq 𝓤 H A W 𝓣 E G11 G12 b1 b32 Δ0 (Typed.pass T11 T12 s10) at39 (Scalar.t-use 𝓤 H A W E 𝓣 G11 (Scalar.oInt Syntax.w64 0) 13 (Rows.sc-here (Row.sInt Syntax.w64)) (Syntax.tyInt Syntax.w64) (Row.valS (Row.sInt Syntax.w64)) (Row.sInt Syntax.w64 .of) tt (Reads.room-gone 𝓤 H A (Syntax.tyInt
+              Syntax.w64)) (Scalar.holds-sc 𝓤 H A W (Row.sInt Syntax.w64)) Path'.refl (λ u. Path'.refl) λ u. tt) (Typed.s-seq 𝓤 H A W 𝓣 E G12 G13 b2 b31 Δ0 (Typed.pass T12 T13 s11) at38 (Scalar.t-use 𝓤 H A W E 𝓣 G12 (Scalar.oInt Syntax.w64 0) 14 (Rows.sc-here (Row.sInt Syntax.w64)) (Syntax.tyInt Syntax.w64) (Row.valS (Row.sInt Syntax.w64)) (Row.sInt Syntax.w64
               .of) tt (Reads.room-gone 𝓤 H A (Syntax.tyInt Syntax.w64)) (Scalar.holds-sc 𝓤 H A W (Row.sInt Syntax.w64)) Path'.refl (λ u. Path'.refl) λ u. tt) d38))
 
           d44 : Typed.Typed 𝓤 H A 𝓣 E G0 b34 Δ0 at44
@@ -1220,27 +1211,27 @@ module _ (claims· : Claims) where
           (c .before) (c .shared-slice-known7 .given))) (Row.get 14 (T13 .locals) (m12 (c .before) (c .shared-slice-known7 .given))) (Row.get 7 (T13 .locals) (m12 (c .before) (c .shared-slice-known7 .given)) .now) (Row.get 8 (T13 .locals) (m12 (c .before) (c .shared-slice-known7 .given)) .now) (Row.get 12 (T13 .locals) (m12 (c .before) (c .shared-slice-known7
           .given))) (Row.get 13 (T13 .locals) (m12 (c .before) (c .shared-slice-known7 .given))) (Row.get 14 (T13 .locals) (m12 (c .before) (c .shared-slice-known7 .given)))
 
-      abbrev pub m13 : (before : After-shared-slice-known7) → (visited : List.List (Referent.rtF (Referent.fInt Syntax.w16) .Denot)) → (drone-flags : List.List (Referent.rtF (Referent.fInt Syntax.w8) .Denot)) → (number : Rows.sc-here (Row.sInt Syntax.w64) .Mod) → (bits : Rows.sc-here (Row.sInt Syntax.w32) .Mod) → (i : Rows.sc-here (Row.sInt Syntax.w64) .Mod)
+      abbrev pub m13 : (before : After-shared-slice-known7) → (visited : List.List (Referent.rtF (Referent.fInt Syntax.w16) .Denot)) → (drone-flags : List.List (Referent.rtF (Referent.fInt Syntax.w8) .Denot)) → (number : Rows.sc-here (Row.sInt Syntax.w64) .Mod) → (bits : Rows.sc-here (Row.sInt Syntax.w64) .Mod) → (i : Rows.sc-here (Row.sInt Syntax.w64) .Mod)
           → Typed.Mo T13
-      m13 = λ before visited drone-flags number bits i. Row.set 14 (14, Rows.sc-here (Row.sInt Syntax.w64)) i (Row.setRow 13 (13, Rows.sc-here (Row.sInt Syntax.w32)) (Row.setRow 12 (12, Rows.sc-here (Row.sInt Syntax.w64)) (Row.setRow 8 (8, Mut.mslice (Referent.rtF (Referent.fInt Syntax.w8)) ty·4 7) (Row.setRow 7
-          (7, Mut.mslice (Referent.rtF (Referent.fInt Syntax.w16)) ty·10 6) (T13 .locals))))) (Row.set 13 (13, Rows.sc-here (Row.sInt Syntax.w32)) bits (Row.setRow 12 (12, Rows.sc-here (Row.sInt Syntax.w64)) (Row.setRow 8 (8, Mut.mslice (Referent.rtF (Referent.fInt Syntax.w8)) ty·4 7) (Row.setRow 7
+      m13 = λ before visited drone-flags number bits i. Row.set 14 (14, Rows.sc-here (Row.sInt Syntax.w64)) i (Row.setRow 13 (13, Rows.sc-here (Row.sInt Syntax.w64)) (Row.setRow 12 (12, Rows.sc-here (Row.sInt Syntax.w64)) (Row.setRow 8 (8, Mut.mslice (Referent.rtF (Referent.fInt Syntax.w8)) ty·4 7) (Row.setRow 7
+          (7, Mut.mslice (Referent.rtF (Referent.fInt Syntax.w16)) ty·10 6) (T13 .locals))))) (Row.set 13 (13, Rows.sc-here (Row.sInt Syntax.w64)) bits (Row.setRow 12 (12, Rows.sc-here (Row.sInt Syntax.w64)) (Row.setRow 8 (8, Mut.mslice (Referent.rtF (Referent.fInt Syntax.w8)) ty·4 7) (Row.setRow 7
           (7, Mut.mslice (Referent.rtF (Referent.fInt Syntax.w16)) ty·10 6) (T13 .locals)))) (Row.set 12 (12, Rows.sc-here (Row.sInt Syntax.w64)) number (Row.setRow 8 (8, Mut.mslice (Referent.rtF (Referent.fInt Syntax.w8)) ty·4 7) (Row.setRow 7 (7, Mut.mslice (Referent.rtF (Referent.fInt Syntax.w16)) ty·10 6) (T13 .locals))) (Row.set 8
           (8, Mut.mslice (Referent.rtF (Referent.fInt Syntax.w8)) ty·4 7) record { ptr = Row.get 8 (T13 .locals) (m12 (before .before) (before .shared-slice-known7 .given)) .ptr; name = Row.get 8 (T13 .locals) (m12 (before .before) (before .shared-slice-known7 .given)) .name; now = drone-flags } (Row.setRow 7
           (7, Mut.mslice (Referent.rtF (Referent.fInt Syntax.w16)) ty·10 6) (T13 .locals)) (Row.set 7 (7, Mut.mslice (Referent.rtF (Referent.fInt Syntax.w16)) ty·10 6) record
           { ptr = Row.get 7 (T13 .locals) (m12 (before .before) (before .shared-slice-known7 .given)) .ptr; name = Row.get 7 (T13 .locals) (m12 (before .before) (before .shared-slice-known7 .given)) .name; now = visited } (T13 .locals) (m12 (before .before) (before .shared-slice-known7 .given))))))
 
-      abbrev W3 : (before : After-shared-slice-known7) → (visited : List.List (Referent.rtF (Referent.fInt Syntax.w16) .Denot)) → (drone-flags : List.List (Referent.rtF (Referent.fInt Syntax.w8) .Denot)) → (number : Rows.sc-here (Row.sInt Syntax.w64) .Mod) → (bits : Rows.sc-here (Row.sInt Syntax.w32) .Mod) → (i : Rows.sc-here (Row.sInt Syntax.w64) .Mod) →
+      abbrev W3 : (before : After-shared-slice-known7) → (visited : List.List (Referent.rtF (Referent.fInt Syntax.w16) .Denot)) → (drone-flags : List.List (Referent.rtF (Referent.fInt Syntax.w8) .Denot)) → (number : Rows.sc-here (Row.sInt Syntax.w64) .Mod) → (bits : Rows.sc-here (Row.sInt Syntax.w64) .Mod) → (i : Rows.sc-here (Row.sInt Syntax.w64) .Mod) →
           Typed.Want O3
       W3 = λ before visited drone-flags number bits i. Typed.inLoop T13 O2 (Typed.Round T13 O2 put0 (λ u vs. Inv·0 (Row.get 1 (T13 .locals) u .now) (Row.get 2 (T13 .locals) u .now) (Row.get 3 (T13 .locals) u .now) (Row.get 4 (T13 .locals) u .now) (Row.get 5 (T13 .locals) u .now) (Row.get 6 (T13 .locals) u .now) (Row.get 7 (T13 .locals) u .now) (Row.get 8
           (T13 .locals) u .now) (Row.get 9 (T13 .locals) u .now) (Row.get 10 (T13 .locals) u) (Row.get 11 (T13 .locals) u .now) (Row.get 12 (T13 .locals) u) (Row.get 13 (T13 .locals) u) (Row.get 14 (T13 .locals) u) (vs .0) (vs .1) (vs .2) (vs .3) (vs .4)) (λ u vs. μ·0 (Row.get 1 (T13 .locals) u .now) (Row.get 2 (T13 .locals) u .now) (Row.get 3 (T13 .locals) u
           .now) (Row.get 4 (T13 .locals) u .now) (Row.get 5 (T13 .locals) u .now) (Row.get 6 (T13 .locals) u .now) (Row.get 7 (T13 .locals) u .now) (Row.get 8 (T13 .locals) u .now) (Row.get 9 (T13 .locals) u .now) (Row.get 10 (T13 .locals) u) (Row.get 11 (T13 .locals) u .now) (Row.get 12 (T13 .locals) u) (Row.get 13 (T13 .locals) u) (Row.get 14 (T13 .locals) u)
           (vs .0) (vs .1) (vs .2) (vs .3) (vs .4)) at29 (m12 (before .before) (before .shared-slice-known7 .given)) (visited, drone-flags, number, bits, i)) (W2 (before .before) (before .shared-slice-known7 .given))
 
-      abbrev pub m14 : (before : After-shared-slice-known7) → (visited : List.List (Referent.rtF (Referent.fInt Syntax.w16) .Denot)) → (drone-flags : List.List (Referent.rtF (Referent.fInt Syntax.w8) .Denot)) → (number : Rows.sc-here (Row.sInt Syntax.w64) .Mod) → (bits : Rows.sc-here (Row.sInt Syntax.w32) .Mod) → (i : Rows.sc-here (Row.sInt Syntax.w64) .Mod)
+      abbrev pub m14 : (before : After-shared-slice-known7) → (visited : List.List (Referent.rtF (Referent.fInt Syntax.w16) .Denot)) → (drone-flags : List.List (Referent.rtF (Referent.fInt Syntax.w8) .Denot)) → (number : Rows.sc-here (Row.sInt Syntax.w64) .Mod) → (bits : Rows.sc-here (Row.sInt Syntax.w64) .Mod) → (i : Rows.sc-here (Row.sInt Syntax.w64) .Mod)
           → Typed.Mo T15
       m14 = λ before visited drone-flags number bits i. s12 .next (m13 before visited drone-flags number bits i)
 
-      abbrev W4 : (before : After-shared-slice-known7) → (visited : List.List (Referent.rtF (Referent.fInt Syntax.w16) .Denot)) → (drone-flags : List.List (Referent.rtF (Referent.fInt Syntax.w8) .Denot)) → (number : Rows.sc-here (Row.sInt Syntax.w64) .Mod) → (bits : Rows.sc-here (Row.sInt Syntax.w32) .Mod) → (i : Rows.sc-here (Row.sInt Syntax.w64) .Mod) →
+      abbrev W4 : (before : After-shared-slice-known7) → (visited : List.List (Referent.rtF (Referent.fInt Syntax.w16) .Denot)) → (drone-flags : List.List (Referent.rtF (Referent.fInt Syntax.w8) .Denot)) → (number : Rows.sc-here (Row.sInt Syntax.w64) .Mod) → (bits : Rows.sc-here (Row.sInt Syntax.w64) .Mod) → (i : Rows.sc-here (Row.sInt Syntax.w64) .Mod) →
           Typed.Want O4
       W4 = λ before visited drone-flags number bits i. Typed.wantNext T16 O3 (at26 (W3 before visited drone-flags number bits i)) (W3 before visited drone-flags number bits i)
 
@@ -1249,7 +1240,7 @@ module _ (claims· : Claims) where
           pub visited : List.List (Referent.rtF (Referent.fInt Syntax.w16) .Denot)
           pub drone-flags : List.List (Referent.rtF (Referent.fInt Syntax.w8) .Denot)
           pub number : Rows.sc-here (Row.sInt Syntax.w64) .Mod
-          pub bits : Rows.sc-here (Row.sInt Syntax.w32) .Mod
+          pub bits : Rows.sc-here (Row.sInt Syntax.w64) .Mod
           pub i : Rows.sc-here (Row.sInt Syntax.w64) .Mod
           pub inv : Inv·0 (Row.get 1 (T13 .locals) (m12 (before· .before) (before· .shared-slice-known7 .given)) .now) (Row.get 2 (T13 .locals) (m12 (before· .before) (before· .shared-slice-known7 .given)) .now) (Row.get 3 (T13 .locals) (m12 (before· .before) (before· .shared-slice-known7 .given)) .now) (Row.get 4 (T13 .locals) (m12 (before· .before)
               (before· .shared-slice-known7 .given)) .now) (Row.get 5 (T13 .locals) (m12 (before· .before) (before· .shared-slice-known7 .given)) .now) (Row.get 6 (T13 .locals) (m12 (before· .before) (before· .shared-slice-known7 .given)) .now) (Row.get 7 (T13 .locals) (m12 (before· .before) (before· .shared-slice-known7 .given)) .now) (Row.get 8 (T13 .locals)
@@ -1412,14 +1403,14 @@ module _ (claims· : Claims) where
 
       module _ (before· : After-number-in) where
         abbrev pub After-bits-in·own : Type 0
-        After-bits-in·own = Called.Called ps·2 r·3 (claims· .7) T38 (record { pos = 15; st = List.[]; d = 0; at = λ x. x }, tt) (m30 (before· .before) (After-number-in·gave before·))
+        After-bits-in·own = Called.Called ps·2 r·2 (claims· .7) T38 (record { pos = 15; st = List.[]; d = 0; at = λ x. x }, tt) (m30 (before· .before) (After-number-in·gave before·))
 
       pub record After-bits-in : Type 0 where
         pub before : After-number-in
         pub bits-in : After-bits-in·own before
 
       abbrev pub After-bits-in·gave : (c : After-bits-in) → s35 .gives (m30 (c .before .before) (After-number-in·gave (c .before)))
-      After-bits-in·gave = λ c. Called.given ps·2 r·3 (claims· .7) T38 (record { pos = 15; st = List.[]; d = 0; at = λ x. x }, tt) (m30 (c .before .before) (After-number-in·gave (c .before))) (c .bits-in)
+      After-bits-in·gave = λ c. Called.given ps·2 r·2 (claims· .7) T38 (record { pos = 15; st = List.[]; d = 0; at = λ x. x }, tt) (m30 (c .before .before) (After-number-in·gave (c .before))) (c .bits-in)
 
       abbrev pub m32 : (before : After-number-in) → (given : s35 .gives (m30 (before .before) (After-number-in·gave before))) → Typed.Mo T13
       m32 = λ before given. s36 (m31 before given)
@@ -1522,7 +1513,7 @@ module _ (claims· : Claims) where
 
         lay6 : (c : After-number-in) → at9 (W3 (c .before .before .before .before .before .before .before .before .before .before .before) (c .before .before .before .before .before .before .before .before .before .before .loop .visited) (c .before .before .before .before .before .before .before .before .before .before .loop .drone-flags) (c .before .before
             .before .before .before .before .before .before .before .before .loop .number) (c .before .before .before .before .before .before .before .before .before .before .loop .bits) (c .before .before .before .before .before .before .before .before .before .before .loop .i)) (m30 (c .before) (After-number-in·gave c))
-        lay6 = λ c. (bits-in-requires record { before = c .before; number-in = c .number-in }, λ g. lay7 record { before = record { before = c .before; number-in = c .number-in }; bits-in = Called.called ps·2 r·3 (claims· .7) T38 (record { pos = 15; st = List.[]; d = 0; at = λ x. x }, tt) (m30 (c .before) (After-number-in·gave c)) g })
+        lay6 = λ c. (bits-in-requires record { before = c .before; number-in = c .number-in }, λ g. lay7 record { before = record { before = c .before; number-in = c .number-in }; bits-in = Called.called ps·2 r·2 (claims· .7) T38 (record { pos = 15; st = List.[]; d = 0; at = λ x. x }, tt) (m30 (c .before) (After-number-in·gave c)) g })
 
         lay5 : (c : After-press) → at19 (W3 (c .before .before .before .before .before .before) (c .before .before .before .before .before .loop .visited) (c .before .before .before .before .before .loop .drone-flags) (c .before .before .before .before .before .loop .number) (c .before .before .before .before .before .loop .bits) (c .before .before .before
             .before .before .loop .i)) (m24 (c .before) (After-press·gave c))
@@ -1553,6 +1544,6 @@ module _ (claims· : Claims) where
               { κs = κs; args = record { drone-count = a .0; dependency-count = a .1 .0; names = a .1 .1 .0; stop-counts = a .1 .1 .1 .0; locations = a .1 .1 .1 .1 .0; times = a .1 .1 .1 .1 .1 .0; visited = a .1 .1 .1 .1 .1 .1 .0; drone-flags = a .1 .1 .1 .1 .1 .1 .1 .0; dependencies = a .1 .1 .1 .1 .1 .1 .1 .1 .0; count = a .1 .1 .1 .1 .1 .1 .1 .1 .1 .0; reported = a .1 .1 .1 .1 .1 .1 .1 .1 .1 .1 .0 }; good = good; fits = record { count = record { fits = good .1 .1 .1 .1 .1 .1 .1 .1 .1 .0 .1 } }; pre = pre }
 
         module _ {M : Type 1} (𝓤 : URA.URA M) (H : Wp.Heap 𝓤) (A : Atoms.Atoms 𝓤) (W : Kit.Given 𝓤 H A) (𝓣 : Wp.Tables 𝓤 H) (known0 : Plain.Known 𝓤 H A W 𝓣 1 ps·0 r·0 (claims· .0) (claims· .1) "presses::answers::report_at") (known1 : Plain.Known 𝓤 H A W 𝓣 9 ps·1 r·1 (claims· .2) (claims· .3) "handset::button::press") (known2 : Plain.Known 𝓤 H A W 𝓣 0 ps·2
-            r·2 (claims· .4) (claims· .5) "presses::answers::number_in") (known3 : Plain.Known 𝓤 H A W 𝓣 0 ps·2 r·3 (claims· .6) (claims· .7) "presses::answers::bits_in") (known4 : Plain.Known 𝓤 H A W 𝓣 0 ps·4 r·4 (claims· .8) (claims· .9) "presses::answers::show") where
+            r·2 (claims· .4) (claims· .5) "presses::answers::number_in") (known3 : Plain.Known 𝓤 H A W 𝓣 0 ps·2 r·2 (claims· .6) (claims· .7) "presses::answers::bits_in") (known4 : Plain.Known 𝓤 H A W 𝓣 0 ps·4 r·4 (claims· .8) (claims· .9) "presses::answers::show") where
           pub spec : Statement.Triple 𝓤 (Wp.WpFn 𝓤 H (𝓣 .C) (𝓣 .Λ) (Function.fnOf 10 ps r xs m hs body)) (Function.plainOf 𝓤 H A 10 ps r Pre· Post·)
           spec = Plain.t-fn-plain 𝓤 H A W 𝓣 10 ps r xs m hs body (λ κs qs bs. Φ) (λ κs qs bs bd. typed κs qs 𝓤 H A W 𝓣 (known0, known1, known2, known3, known4) bs bd) Pre· Post· asked

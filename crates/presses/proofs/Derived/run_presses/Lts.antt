@@ -70,19 +70,19 @@ abbrev ty·0 : Syntax.Ty
 ty·0 = Syntax.tyArray (Syntax.tyInt Syntax.w16) 1
 
 abbrev ty·1 : Syntax.Ty
-ty·1 = Syntax.tyArray (Syntax.tyInt Syntax.w8) 32
+ty·1 = Syntax.tyArray (Syntax.tyInt Syntax.w8) 64
 
 abbrev ty·2 : Syntax.Ty
-ty·2 = Syntax.tyArray (Syntax.tyInt Syntax.w8) 768
+ty·2 = Syntax.tyArray (Syntax.tyInt Syntax.w16) 64
 
 abbrev ty·3 : Syntax.Ty
-ty·3 = Syntax.tyArray (Syntax.tyInt Syntax.w16) 32
+ty·3 = Syntax.tyArray (Syntax.tyInt Syntax.w8) 1536
 
 abbrev ty·4 : Syntax.Ty
-ty·4 = Syntax.tyArray (Syntax.tyInt Syntax.w16) 1024
+ty·4 = Syntax.tyArray (Syntax.tyInt Syntax.w16) 2048
 
 abbrev ty·5 : Syntax.Ty
-ty·5 = Syntax.tyArray (Syntax.tyInt Syntax.w32) 1024
+ty·5 = Syntax.tyArray (Syntax.tyInt Syntax.w32) 2048
 
 abbrev ty·6 : Syntax.Ty
 ty·6 = Syntax.tyRef Syntax.erased Syntax.mut Rec.behind
@@ -115,10 +115,10 @@ abbrev ty·15 : Syntax.Ty
 ty·15 = Syntax.tyRef (Syntax.named 1) Syntax.imm (Syntax.tyInt Syntax.w16)
 
 abbrev ty·16 : Syntax.Ty
-ty·16 = Syntax.tyRef Syntax.erased Syntax.mut (Syntax.tyArray Rec.behind 2048)
+ty·16 = Syntax.tyRef Syntax.erased Syntax.mut (Syntax.tyArray Rec.behind 4096)
 
 abbrev ty·17 : Syntax.Ty
-ty·17 = Syntax.tyRef Syntax.erased Syntax.imm (Syntax.tyArray Rec.behind 2048)
+ty·17 = Syntax.tyRef Syntax.erased Syntax.imm (Syntax.tyArray Rec.behind 4096)
 
 abbrev ty·18 : Syntax.Ty
 ty·18 = Syntax.tyStruct (List._∷_ 112 (List._∷_ 108 (List._∷_ 97 (List._∷_ 110 (List._∷_ 58 (List._∷_ 58 (List._∷_ 99 (List._∷_ 104 (List._∷_ 101 (List._∷_ 99 (List._∷_ 107 (List._∷_ 58 (List._∷_ 58 (List._∷_ 83 (List._∷_ 116 (List._∷_ 111 (List._∷_ 112 (List._∷_ 65 (List._∷_ 116 List.[]))))))))))))))))))) (Syntax.tcons (Syntax.tyInt Syntax.w64)
@@ -126,7 +126,7 @@ ty·18 = Syntax.tyStruct (List._∷_ 112 (List._∷_ 108 (List._∷_ 97 (List._�
 
 abbrev ty·19 : Syntax.Ty
 ty·19 = Syntax.tyStruct (List._∷_ 112 (List._∷_ 114 (List._∷_ 101 (List._∷_ 115 (List._∷_ 115 (List._∷_ 101 (List._∷_ 115 (List._∷_ 58 (List._∷_ 58 (List._∷_ 97 (List._∷_ 110 (List._∷_ 115 (List._∷_ 119 (List._∷_ 101 (List._∷_ 114 (List._∷_ 115 (List._∷_ 58 (List._∷_ 58 (List._∷_ 83 (List._∷_ 104 (List._∷_ 111 (List._∷_ 119 (List._∷_ 110
-    List.[]))))))))))))))))))))))) (Syntax.tcons (Syntax.tyInt Syntax.w64) (Syntax.tcons (Syntax.tyInt Syntax.w32) Syntax.tnil))
+    List.[]))))))))))))))))))))))) (Syntax.tcons (Syntax.tyInt Syntax.w64) (Syntax.tcons (Syntax.tyInt Syntax.w64) Syntax.tnil))
 
 abbrev row·0 : Row.Row
 row·0 = Rows'.any-gone ty·19
@@ -144,10 +144,10 @@ abbrev row·4 : Row.Row
 row·4 = Rows'.any-gone ty·0
 
 abbrev row·5 : Row.Row
-row·5 = Rows'.any-gone ty·2
+row·5 = Rows'.any-gone ty·3
 
 abbrev row·6 : Row.Row
-row·6 = Rows'.any-gone ty·3
+row·6 = Rows'.any-gone ty·2
 
 abbrev row·7 : Row.Row
 row·7 = Rows'.any-gone ty·4
@@ -159,7 +159,7 @@ abbrev row·9 : Row.Row
 row·9 = Rows'.any-gone ty·1
 
 abbrev row·10 : Row.Row
-row·10 = Rows'.any-gone (Syntax.tyArray Rec.mir 2048)
+row·10 = Rows'.any-gone (Syntax.tyArray Rec.mir 4096)
 
 abbrev row·11 : Row.Row
 row·11 = Rows'.any-gone (Syntax.tyEnum (List._∷_ 114 (List._∷_ 101 (List._∷_ 97 (List._∷_ 100 (List._∷_ 105 (List._∷_ 110 (List._∷_ 103 (List._∷_ 58 (List._∷_ 58 (List._∷_ 114 (List._∷_ 101 (List._∷_ 112 (List._∷_ 108 (List._∷_ 105 (List._∷_ 101 (List._∷_ 115 (List._∷_ 58 (List._∷_ 58 (List._∷_ 82 (List._∷_ 101 (List._∷_ 97 (List._∷_ 100 (List._∷_ 105
@@ -181,13 +181,13 @@ abbrev row·15 : Row.Row
 row·15 = Rows'.any-gone (Syntax.tyStruct (List._∷_ 38 (List._∷_ 91 (List._∷_ 93 List.[]))) (Syntax.tcons ty·10 (Syntax.tcons (Syntax.tyInt Syntax.w64) Syntax.tnil)))
 
 abbrev row·16 : Row.Row
-row·16 = Rows'.any-gone (Syntax.tyRef Syntax.erased Syntax.mut ty·2)
+row·16 = Rows'.any-gone (Syntax.tyRef Syntax.erased Syntax.mut ty·3)
 
 abbrev row·17 : Row.Row
 row·17 = Rows'.any-gone (Syntax.tyStruct (List._∷_ 38 (List._∷_ 91 (List._∷_ 93 List.[]))) (Syntax.tcons ty·8 (Syntax.tcons (Syntax.tyInt Syntax.w64) Syntax.tnil)))
 
 abbrev row·18 : Row.Row
-row·18 = Rows'.any-gone (Syntax.tyRef Syntax.erased Syntax.mut ty·3)
+row·18 = Rows'.any-gone (Syntax.tyRef Syntax.erased Syntax.mut ty·2)
 
 abbrev row·19 : Row.Row
 row·19 = Rows'.any-gone (Syntax.tyRef Syntax.erased Syntax.mut ty·4)
@@ -217,13 +217,13 @@ abbrev row·27 : Row.Row
 row·27 = Rows'.any-gone (Syntax.tyStruct (List._∷_ 38 (List._∷_ 91 (List._∷_ 93 List.[]))) (Syntax.tcons ty·12 (Syntax.tcons (Syntax.tyInt Syntax.w64) Syntax.tnil)))
 
 abbrev row·28 : Row.Row
-row·28 = Rows'.any-gone (Syntax.tyRef Syntax.erased Syntax.imm ty·2)
+row·28 = Rows'.any-gone (Syntax.tyRef Syntax.erased Syntax.imm ty·3)
 
 abbrev row·29 : Row.Row
 row·29 = Rows'.any-gone (Syntax.tyStruct (List._∷_ 38 (List._∷_ 91 (List._∷_ 93 List.[]))) (Syntax.tcons ty·9 (Syntax.tcons (Syntax.tyInt Syntax.w64) Syntax.tnil)))
 
 abbrev row·30 : Row.Row
-row·30 = Rows'.any-gone (Syntax.tyRef Syntax.erased Syntax.imm ty·3)
+row·30 = Rows'.any-gone (Syntax.tyRef Syntax.erased Syntax.imm ty·2)
 
 abbrev row·31 : Row.Row
 row·31 = Rows'.any-gone (Syntax.tyRef Syntax.erased Syntax.imm ty·4)
@@ -250,40 +250,40 @@ abbrev row·38 : Row.Row
 row·38 = Rows.arrF (Referent.rtF (Referent.fInt Syntax.w16)) 1 0
 
 abbrev row·39 : Row.Row
-row·39 = Rows'.whole (Array'.Array (Referent.rtF (Referent.fInt Syntax.w8)) 768)
+row·39 = Rows'.whole (Array'.Array (Referent.rtF (Referent.fInt Syntax.w8)) 1536)
 
 abbrev row·40 : Row.Row
-row·40 = Rows.arrF (Referent.rtF (Referent.fInt Syntax.w8)) 768 0
+row·40 = Rows.arrF (Referent.rtF (Referent.fInt Syntax.w8)) 1536 0
 
 abbrev row·41 : Row.Row
-row·41 = Rows'.whole (Array'.Array (Referent.rtF (Referent.fInt Syntax.w16)) 32)
+row·41 = Rows'.whole (Array'.Array (Referent.rtF (Referent.fInt Syntax.w16)) 64)
 
 abbrev row·42 : Row.Row
-row·42 = Rows.arrF (Referent.rtF (Referent.fInt Syntax.w16)) 32 0
+row·42 = Rows.arrF (Referent.rtF (Referent.fInt Syntax.w16)) 64 0
 
 abbrev row·43 : Row.Row
-row·43 = Rows'.whole (Array'.Array (Referent.rtF (Referent.fInt Syntax.w16)) 1024)
+row·43 = Rows'.whole (Array'.Array (Referent.rtF (Referent.fInt Syntax.w16)) 2048)
 
 abbrev row·44 : Row.Row
-row·44 = Rows.arrF (Referent.rtF (Referent.fInt Syntax.w16)) 1024 0
+row·44 = Rows.arrF (Referent.rtF (Referent.fInt Syntax.w16)) 2048 0
 
 abbrev row·45 : Row.Row
-row·45 = Rows'.whole (Array'.Array (Referent.rtF (Referent.fInt Syntax.w32)) 1024)
+row·45 = Rows'.whole (Array'.Array (Referent.rtF (Referent.fInt Syntax.w32)) 2048)
 
 abbrev row·46 : Row.Row
-row·46 = Rows.arrF (Referent.rtF (Referent.fInt Syntax.w32)) 1024 0
+row·46 = Rows.arrF (Referent.rtF (Referent.fInt Syntax.w32)) 2048 0
 
 abbrev row·47 : Row.Row
-row·47 = Rows'.whole (Array'.Array (Referent.rtF (Referent.fInt Syntax.w8)) 32)
+row·47 = Rows'.whole (Array'.Array (Referent.rtF (Referent.fInt Syntax.w8)) 64)
 
 abbrev row·48 : Row.Row
-row·48 = Rows.arrF (Referent.rtF (Referent.fInt Syntax.w8)) 32 0
+row·48 = Rows.arrF (Referent.rtF (Referent.fInt Syntax.w8)) 64 0
 
 abbrev row·49 : Row.Row
-row·49 = Rows'.whole (Array'.Array Rec.rt 2048)
+row·49 = Rows'.whole (Array'.Array Rec.rt 4096)
 
 abbrev row·50 : Row.Row
-row·50 = Rows.arrF Rec.rt 2048 0
+row·50 = Rows.arrF Rec.rt 4096 0
 
 abbrev row·51 : Row.Row
 row·51 = Rows.arr-owed (Referent.rtF (Referent.fInt Syntax.w16)) 1 2
@@ -304,25 +304,25 @@ abbrev row·56 : Row.Row
 row·56 = Mut.mslice (Referent.rtF (Referent.fInt Syntax.w16)) ty·10 3
 
 abbrev row·57 : Row.Row
-row·57 = Rows.arr-owed (Referent.rtF (Referent.fInt Syntax.w8)) 768 4
+row·57 = Rows.arr-owed (Referent.rtF (Referent.fInt Syntax.w8)) 1536 4
 
 abbrev row·58 : Row.Row
-row·58 = Relend.msptr (Referent.rtF (Referent.fInt Syntax.w8)) (Syntax.tyRef Syntax.erased Syntax.mut ty·2) 4
+row·58 = Relend.msptr (Referent.rtF (Referent.fInt Syntax.w8)) (Syntax.tyRef Syntax.erased Syntax.mut ty·3) 4
 
 abbrev row·59 : Row.Row
 row·59 = Mut.mslice (Referent.rtF (Referent.fInt Syntax.w8)) ty·8 4
 
 abbrev row·60 : Row.Row
-row·60 = Rows.arr-owed (Referent.rtF (Referent.fInt Syntax.w16)) 32 5
+row·60 = Rows.arr-owed (Referent.rtF (Referent.fInt Syntax.w16)) 64 5
 
 abbrev row·61 : Row.Row
-row·61 = Relend.msptr (Referent.rtF (Referent.fInt Syntax.w16)) (Syntax.tyRef Syntax.erased Syntax.mut ty·3) 5
+row·61 = Relend.msptr (Referent.rtF (Referent.fInt Syntax.w16)) (Syntax.tyRef Syntax.erased Syntax.mut ty·2) 5
 
 abbrev row·62 : Row.Row
 row·62 = Mut.mslice (Referent.rtF (Referent.fInt Syntax.w16)) ty·10 5
 
 abbrev row·63 : Row.Row
-row·63 = Rows.arr-owed (Referent.rtF (Referent.fInt Syntax.w16)) 1024 6
+row·63 = Rows.arr-owed (Referent.rtF (Referent.fInt Syntax.w16)) 2048 6
 
 abbrev row·64 : Row.Row
 row·64 = Relend.msptr (Referent.rtF (Referent.fInt Syntax.w16)) (Syntax.tyRef Syntax.erased Syntax.mut ty·4) 6
@@ -331,7 +331,7 @@ abbrev row·65 : Row.Row
 row·65 = Mut.mslice (Referent.rtF (Referent.fInt Syntax.w16)) ty·10 6
 
 abbrev row·66 : Row.Row
-row·66 = Rows.arr-owed (Referent.rtF (Referent.fInt Syntax.w32)) 1024 7
+row·66 = Rows.arr-owed (Referent.rtF (Referent.fInt Syntax.w32)) 2048 7
 
 abbrev row·67 : Row.Row
 row·67 = Relend.msptr (Referent.rtF (Referent.fInt Syntax.w32)) (Syntax.tyRef Syntax.erased Syntax.mut ty·5) 7
@@ -340,16 +340,16 @@ abbrev row·68 : Row.Row
 row·68 = Mut.mslice (Referent.rtF (Referent.fInt Syntax.w32)) ty·11 7
 
 abbrev row·69 : Row.Row
-row·69 = Rows.arr-owed (Referent.rtF (Referent.fInt Syntax.w16)) 32 8
+row·69 = Rows.arr-owed (Referent.rtF (Referent.fInt Syntax.w16)) 64 8
 
 abbrev row·70 : Row.Row
-row·70 = Relend.msptr (Referent.rtF (Referent.fInt Syntax.w16)) (Syntax.tyRef Syntax.erased Syntax.mut ty·3) 8
+row·70 = Relend.msptr (Referent.rtF (Referent.fInt Syntax.w16)) (Syntax.tyRef Syntax.erased Syntax.mut ty·2) 8
 
 abbrev row·71 : Row.Row
 row·71 = Mut.mslice (Referent.rtF (Referent.fInt Syntax.w16)) ty·10 8
 
 abbrev row·72 : Row.Row
-row·72 = Rows.arr-owed (Referent.rtF (Referent.fInt Syntax.w8)) 32 9
+row·72 = Rows.arr-owed (Referent.rtF (Referent.fInt Syntax.w8)) 64 9
 
 abbrev row·73 : Row.Row
 row·73 = Relend.msptr (Referent.rtF (Referent.fInt Syntax.w8)) (Syntax.tyRef Syntax.erased Syntax.mut ty·1) 9
@@ -358,7 +358,7 @@ abbrev row·74 : Row.Row
 row·74 = Mut.mslice (Referent.rtF (Referent.fInt Syntax.w8)) ty·8 9
 
 abbrev row·75 : Row.Row
-row·75 = Rows.arr-owed Rec.rt 2048 10
+row·75 = Rows.arr-owed Rec.rt 4096 10
 
 abbrev row·76 : Row.Row
 row·76 = Relend.msptr Rec.rt ty·16 10
@@ -403,25 +403,25 @@ abbrev row·89 : Row.Row
 row·89 = Rows'.sslice (Referent.rtF (Referent.fInt Syntax.w16)) ty·12 12
 
 abbrev row·90 : Row.Row
-row·90 = Rows.arr-shr (Referent.rtF (Referent.fInt Syntax.w8)) 768 13
+row·90 = Rows.arr-shr (Referent.rtF (Referent.fInt Syntax.w8)) 1536 13
 
 abbrev row·91 : Row.Row
-row·91 = Relend.ssptr (Referent.rtF (Referent.fInt Syntax.w8)) (Syntax.tyRef Syntax.erased Syntax.imm ty·2) 13
+row·91 = Relend.ssptr (Referent.rtF (Referent.fInt Syntax.w8)) (Syntax.tyRef Syntax.erased Syntax.imm ty·3) 13
 
 abbrev row·92 : Row.Row
 row·92 = Rows'.sslice (Referent.rtF (Referent.fInt Syntax.w8)) ty·9 13
 
 abbrev row·93 : Row.Row
-row·93 = Rows.arr-shr (Referent.rtF (Referent.fInt Syntax.w16)) 32 14
+row·93 = Rows.arr-shr (Referent.rtF (Referent.fInt Syntax.w16)) 64 14
 
 abbrev row·94 : Row.Row
-row·94 = Relend.ssptr (Referent.rtF (Referent.fInt Syntax.w16)) (Syntax.tyRef Syntax.erased Syntax.imm ty·3) 14
+row·94 = Relend.ssptr (Referent.rtF (Referent.fInt Syntax.w16)) (Syntax.tyRef Syntax.erased Syntax.imm ty·2) 14
 
 abbrev row·95 : Row.Row
 row·95 = Rows'.sslice (Referent.rtF (Referent.fInt Syntax.w16)) ty·12 14
 
 abbrev row·96 : Row.Row
-row·96 = Rows.arr-shr (Referent.rtF (Referent.fInt Syntax.w16)) 1024 15
+row·96 = Rows.arr-shr (Referent.rtF (Referent.fInt Syntax.w16)) 2048 15
 
 abbrev row·97 : Row.Row
 row·97 = Relend.ssptr (Referent.rtF (Referent.fInt Syntax.w16)) (Syntax.tyRef Syntax.erased Syntax.imm ty·4) 15
@@ -430,7 +430,7 @@ abbrev row·98 : Row.Row
 row·98 = Rows'.sslice (Referent.rtF (Referent.fInt Syntax.w16)) ty·12 15
 
 abbrev row·99 : Row.Row
-row·99 = Rows.arr-shr (Referent.rtF (Referent.fInt Syntax.w32)) 1024 16
+row·99 = Rows.arr-shr (Referent.rtF (Referent.fInt Syntax.w32)) 2048 16
 
 abbrev row·100 : Row.Row
 row·100 = Relend.ssptr (Referent.rtF (Referent.fInt Syntax.w32)) (Syntax.tyRef Syntax.erased Syntax.imm ty·5) 16
@@ -439,16 +439,16 @@ abbrev row·101 : Row.Row
 row·101 = Rows'.sslice (Referent.rtF (Referent.fInt Syntax.w32)) ty·13 16
 
 abbrev row·102 : Row.Row
-row·102 = Rows.arr-owed (Referent.rtF (Referent.fInt Syntax.w16)) 32 17
+row·102 = Rows.arr-owed (Referent.rtF (Referent.fInt Syntax.w16)) 64 17
 
 abbrev row·103 : Row.Row
-row·103 = Relend.msptr (Referent.rtF (Referent.fInt Syntax.w16)) (Syntax.tyRef Syntax.erased Syntax.mut ty·3) 17
+row·103 = Relend.msptr (Referent.rtF (Referent.fInt Syntax.w16)) (Syntax.tyRef Syntax.erased Syntax.mut ty·2) 17
 
 abbrev row·104 : Row.Row
 row·104 = Mut.mslice (Referent.rtF (Referent.fInt Syntax.w16)) ty·10 17
 
 abbrev row·105 : Row.Row
-row·105 = Rows.arr-owed (Referent.rtF (Referent.fInt Syntax.w8)) 32 18
+row·105 = Rows.arr-owed (Referent.rtF (Referent.fInt Syntax.w8)) 64 18
 
 abbrev row·106 : Row.Row
 row·106 = Relend.msptr (Referent.rtF (Referent.fInt Syntax.w8)) (Syntax.tyRef Syntax.erased Syntax.mut ty·1) 18
@@ -457,7 +457,7 @@ abbrev row·107 : Row.Row
 row·107 = Mut.mslice (Referent.rtF (Referent.fInt Syntax.w8)) ty·8 18
 
 abbrev row·108 : Row.Row
-row·108 = Rows.arr-shr Rec.rt 2048 19
+row·108 = Rows.arr-shr Rec.rt 4096 19
 
 abbrev row·109 : Row.Row
 row·109 = Relend.ssptr Rec.rt ty·17 19
@@ -473,20 +473,20 @@ r = Value.rVal record { ty = Declared'.row Shown.the-type; one = Path'.refl; val
     { copies = Laws'3.copy Shown.the-type Laws.the-copy 𝓤 H A W; lawful = Laws'3.lawful Shown.the-type Laws.the-laws 𝓤 H A W; makes = Laws'3.makes Shown.the-type Laws.the-plain 𝓤 H A; in-mem = Local.mem-whole 𝓤 H A W (Declared'.row Shown.the-type); of-mem = Local.whole-mem 𝓤 H A W (Declared'.row Shown.the-type) }
 
 abbrev pub xs : List.List Syntax.Ty
-xs = List._∷_ ty·0 (List._∷_ ty·0 (List._∷_ ty·2 (List._∷_ ty·3 (List._∷_ ty·4 (List._∷_ ty·5 (List._∷_ ty·3 (List._∷_ ty·1 (List._∷_ (Syntax.tyArray Rec.mir 2048) (List._∷_ (Syntax.tyEnum (List._∷_ 114 (List._∷_ 101 (List._∷_ 97 (List._∷_ 100 (List._∷_ 105 (List._∷_ 110 (List._∷_ 103 (List._∷_ 58 (List._∷_ 58 (List._∷_ 114 (List._∷_ 101 (List._∷_ 112
+xs = List._∷_ ty·0 (List._∷_ ty·0 (List._∷_ ty·3 (List._∷_ ty·2 (List._∷_ ty·4 (List._∷_ ty·5 (List._∷_ ty·2 (List._∷_ ty·1 (List._∷_ (Syntax.tyArray Rec.mir 4096) (List._∷_ (Syntax.tyEnum (List._∷_ 114 (List._∷_ 101 (List._∷_ 97 (List._∷_ 100 (List._∷_ 105 (List._∷_ 110 (List._∷_ 103 (List._∷_ 58 (List._∷_ 58 (List._∷_ 114 (List._∷_ 101 (List._∷_ 112
     (List._∷_ 108 (List._∷_ 105 (List._∷_ 101 (List._∷_ 115 (List._∷_ 58 (List._∷_ 58 (List._∷_ 82 (List._∷_ 101 (List._∷_ 97 (List._∷_ 100 (List._∷_ 105 (List._∷_ 110 (List._∷_ 103 List.[]))))))))))))))))))))))))) (Syntax.ttcons Syntax.tnil (Syntax.ttcons (Syntax.tcons (Syntax.tyEnum (List._∷_ 114 (List._∷_ 101 (List._∷_ 97 (List._∷_ 100 (List._∷_ 105 (List._∷_
     110 (List._∷_ 103 (List._∷_ 58 (List._∷_ 58 (List._∷_ 114 (List._∷_ 101 (List._∷_ 112 (List._∷_ 108 (List._∷_ 105 (List._∷_ 101 (List._∷_ 115 (List._∷_ 58 (List._∷_ 58 (List._∷_ 82 (List._∷_ 101 (List._∷_ 102 (List._∷_ 117 (List._∷_ 115 (List._∷_ 97 (List._∷_ 108 List.[]))))))))))))))))))))))))) (Syntax.ttcons Syntax.tnil (Syntax.ttcons (Syntax.tcons
     (Syntax.tyInt Syntax.w64) Syntax.tnil) (Syntax.ttcons (Syntax.tcons (Syntax.tyInt Syntax.w64) Syntax.tnil) (Syntax.ttcons (Syntax.tcons (Syntax.tyInt Syntax.w64) Syntax.tnil) (Syntax.ttcons (Syntax.tcons (Syntax.tyInt Syntax.w64) Syntax.tnil) (Syntax.ttcons (Syntax.tcons (Syntax.tyInt Syntax.w64) Syntax.tnil) (Syntax.ttcons (Syntax.tcons (Syntax.tyInt
     Syntax.w64) Syntax.tnil) (Syntax.ttcons (Syntax.tcons ty·18 Syntax.tnil) (Syntax.ttcons (Syntax.tcons ty·18 Syntax.tnil) (Syntax.ttcons (Syntax.tcons ty·18 Syntax.tnil) (Syntax.ttcons (Syntax.tcons ty·18 (Syntax.tcons ty·18 Syntax.tnil)) (Syntax.ttcons Syntax.tnil Syntax.ttnil))))))))))))) Syntax.tnil) Syntax.ttnil))) (List._∷_ (Syntax.tyInt Syntax.w64)
     (List._∷_ Rec.mir (List._∷_ (Syntax.tyRef Syntax.erased Syntax.mut ty·0) (List._∷_ (Syntax.tyStruct (List._∷_ 38 (List._∷_ 91 (List._∷_ 93 List.[]))) (Syntax.tcons ty·10 (Syntax.tcons (Syntax.tyInt Syntax.w64) Syntax.tnil))) (List._∷_ (Syntax.tyRef Syntax.erased Syntax.mut ty·0) (List._∷_ (Syntax.tyStruct (List._∷_ 38 (List._∷_ 91 (List._∷_ 93 List.[])))
-    (Syntax.tcons ty·10 (Syntax.tcons (Syntax.tyInt Syntax.w64) Syntax.tnil))) (List._∷_ (Syntax.tyRef Syntax.erased Syntax.mut ty·2) (List._∷_ (Syntax.tyStruct (List._∷_ 38 (List._∷_ 91 (List._∷_ 93 List.[]))) (Syntax.tcons ty·8 (Syntax.tcons (Syntax.tyInt Syntax.w64) Syntax.tnil))) (List._∷_ (Syntax.tyRef Syntax.erased Syntax.mut ty·3) (List._∷_
+    (Syntax.tcons ty·10 (Syntax.tcons (Syntax.tyInt Syntax.w64) Syntax.tnil))) (List._∷_ (Syntax.tyRef Syntax.erased Syntax.mut ty·3) (List._∷_ (Syntax.tyStruct (List._∷_ 38 (List._∷_ 91 (List._∷_ 93 List.[]))) (Syntax.tcons ty·8 (Syntax.tcons (Syntax.tyInt Syntax.w64) Syntax.tnil))) (List._∷_ (Syntax.tyRef Syntax.erased Syntax.mut ty·2) (List._∷_
     (Syntax.tyStruct (List._∷_ 38 (List._∷_ 91 (List._∷_ 93 List.[]))) (Syntax.tcons ty·10 (Syntax.tcons (Syntax.tyInt Syntax.w64) Syntax.tnil))) (List._∷_ (Syntax.tyRef Syntax.erased Syntax.mut ty·4) (List._∷_ (Syntax.tyStruct (List._∷_ 38 (List._∷_ 91 (List._∷_ 93 List.[]))) (Syntax.tcons ty·10 (Syntax.tcons (Syntax.tyInt Syntax.w64) Syntax.tnil))) (List._∷_
-    (Syntax.tyRef Syntax.erased Syntax.mut ty·5) (List._∷_ (Syntax.tyStruct (List._∷_ 38 (List._∷_ 91 (List._∷_ 93 List.[]))) (Syntax.tcons ty·11 (Syntax.tcons (Syntax.tyInt Syntax.w64) Syntax.tnil))) (List._∷_ (Syntax.tyRef Syntax.erased Syntax.mut ty·3) (List._∷_ (Syntax.tyStruct (List._∷_ 38 (List._∷_ 91 (List._∷_ 93 List.[]))) (Syntax.tcons ty·10
+    (Syntax.tyRef Syntax.erased Syntax.mut ty·5) (List._∷_ (Syntax.tyStruct (List._∷_ 38 (List._∷_ 91 (List._∷_ 93 List.[]))) (Syntax.tcons ty·11 (Syntax.tcons (Syntax.tyInt Syntax.w64) Syntax.tnil))) (List._∷_ (Syntax.tyRef Syntax.erased Syntax.mut ty·2) (List._∷_ (Syntax.tyStruct (List._∷_ 38 (List._∷_ 91 (List._∷_ 93 List.[]))) (Syntax.tcons ty·10
     (Syntax.tcons (Syntax.tyInt Syntax.w64) Syntax.tnil))) (List._∷_ (Syntax.tyRef Syntax.erased Syntax.mut ty·1) (List._∷_ (Syntax.tyStruct (List._∷_ 38 (List._∷_ 91 (List._∷_ 93 List.[]))) (Syntax.tcons ty·8 (Syntax.tcons (Syntax.tyInt Syntax.w64) Syntax.tnil))) (List._∷_ ty·16 (List._∷_ (Syntax.tyStruct (List._∷_ 38 (List._∷_ 91 (List._∷_ 93 List.[])))
     (Syntax.tcons ty·6 (Syntax.tcons (Syntax.tyInt Syntax.w64) Syntax.tnil))) (List._∷_ Syntax.tyBool (List._∷_ (Syntax.tyRef Syntax.erased Syntax.imm ty·0) (List._∷_ (Syntax.tyStruct (List._∷_ 38 (List._∷_ 91 (List._∷_ 93 List.[]))) (Syntax.tcons ty·12 (Syntax.tcons (Syntax.tyInt Syntax.w64) Syntax.tnil))) (List._∷_ (Syntax.tyRef Syntax.erased Syntax.imm ty·0)
-    (List._∷_ (Syntax.tyStruct (List._∷_ 38 (List._∷_ 91 (List._∷_ 93 List.[]))) (Syntax.tcons ty·12 (Syntax.tcons (Syntax.tyInt Syntax.w64) Syntax.tnil))) (List._∷_ (Syntax.tyRef Syntax.erased Syntax.imm ty·2) (List._∷_ (Syntax.tyStruct (List._∷_ 38 (List._∷_ 91 (List._∷_ 93 List.[]))) (Syntax.tcons ty·9 (Syntax.tcons (Syntax.tyInt Syntax.w64) Syntax.tnil)))
-    (List._∷_ (Syntax.tyRef Syntax.erased Syntax.imm ty·3) (List._∷_ (Syntax.tyStruct (List._∷_ 38 (List._∷_ 91 (List._∷_ 93 List.[]))) (Syntax.tcons ty·12 (Syntax.tcons (Syntax.tyInt Syntax.w64) Syntax.tnil))) (List._∷_ (Syntax.tyRef Syntax.erased Syntax.imm ty·4) (List._∷_ (Syntax.tyStruct (List._∷_ 38 (List._∷_ 91 (List._∷_ 93 List.[]))) (Syntax.tcons ty·12
-    (Syntax.tcons (Syntax.tyInt Syntax.w64) Syntax.tnil))) (List._∷_ (Syntax.tyRef Syntax.erased Syntax.imm ty·5) (List._∷_ (Syntax.tyStruct (List._∷_ 38 (List._∷_ 91 (List._∷_ 93 List.[]))) (Syntax.tcons ty·13 (Syntax.tcons (Syntax.tyInt Syntax.w64) Syntax.tnil))) (List._∷_ (Syntax.tyRef Syntax.erased Syntax.mut ty·3) (List._∷_ (Syntax.tyStruct (List._∷_ 38
+    (List._∷_ (Syntax.tyStruct (List._∷_ 38 (List._∷_ 91 (List._∷_ 93 List.[]))) (Syntax.tcons ty·12 (Syntax.tcons (Syntax.tyInt Syntax.w64) Syntax.tnil))) (List._∷_ (Syntax.tyRef Syntax.erased Syntax.imm ty·3) (List._∷_ (Syntax.tyStruct (List._∷_ 38 (List._∷_ 91 (List._∷_ 93 List.[]))) (Syntax.tcons ty·9 (Syntax.tcons (Syntax.tyInt Syntax.w64) Syntax.tnil)))
+    (List._∷_ (Syntax.tyRef Syntax.erased Syntax.imm ty·2) (List._∷_ (Syntax.tyStruct (List._∷_ 38 (List._∷_ 91 (List._∷_ 93 List.[]))) (Syntax.tcons ty·12 (Syntax.tcons (Syntax.tyInt Syntax.w64) Syntax.tnil))) (List._∷_ (Syntax.tyRef Syntax.erased Syntax.imm ty·4) (List._∷_ (Syntax.tyStruct (List._∷_ 38 (List._∷_ 91 (List._∷_ 93 List.[]))) (Syntax.tcons ty·12
+    (Syntax.tcons (Syntax.tyInt Syntax.w64) Syntax.tnil))) (List._∷_ (Syntax.tyRef Syntax.erased Syntax.imm ty·5) (List._∷_ (Syntax.tyStruct (List._∷_ 38 (List._∷_ 91 (List._∷_ 93 List.[]))) (Syntax.tcons ty·13 (Syntax.tcons (Syntax.tyInt Syntax.w64) Syntax.tnil))) (List._∷_ (Syntax.tyRef Syntax.erased Syntax.mut ty·2) (List._∷_ (Syntax.tyStruct (List._∷_ 38
     (List._∷_ 91 (List._∷_ 93 List.[]))) (Syntax.tcons ty·10 (Syntax.tcons (Syntax.tyInt Syntax.w64) Syntax.tnil))) (List._∷_ (Syntax.tyRef Syntax.erased Syntax.mut ty·1) (List._∷_ (Syntax.tyStruct (List._∷_ 38 (List._∷_ 91 (List._∷_ 93 List.[]))) (Syntax.tcons ty·8 (Syntax.tcons (Syntax.tyInt Syntax.w64) Syntax.tnil))) (List._∷_ ty·17 (List._∷_ (Syntax.tyStruct
     (List._∷_ 38 (List._∷_ 91 (List._∷_ 93 List.[]))) (Syntax.tcons ty·7 (Syntax.tcons (Syntax.tyInt Syntax.w64) Syntax.tnil))) List.[]))))))))))))))))))))))))))))))))))))))))))))))))
 
@@ -516,7 +516,7 @@ abbrev pub r·2 : Kinds.RK 0
 r·2 = Num.rNum Syntax.w64
 
 abbrev pub ps·3 : List.List (Kinds.PK 0)
-ps·3 = List._∷_ (Num.pNum Syntax.w64) (List._∷_ (Num.pNum Syntax.w32) List.[])
+ps·3 = List._∷_ (Num.pNum Syntax.w64) (List._∷_ (Num.pNum Syntax.w64) List.[])
 
 abbrev pub r·3 : Kinds.RK 0
 r·3 = Value.rVal record { ty = Declared'.row Shown.the-type; one = Path'.refl; val = Laws'3.val Shown.the-type Laws.the-laws; tells = Laws'3.tells Shown.the-type Laws.the-laws; still = Laws'3.still Shown.the-type Laws.the-copy Exit.yes; row = Rows'.whole (Declared'.row Shown.the-type); rd = λ x. x; mk = λ x. x } λ M 𝓤 H A W. record
@@ -545,28 +545,28 @@ abbrev b1 : Syntax.Body
 b1 = Syntax.assign (Syntax.place 5 List.[]) (Syntax.aggregate (List._∷_ (Syntax.int Syntax.w16 0) List.[]))
 
 abbrev b2 : Syntax.Body
-b2 = Syntax.assign (Syntax.place 6 List.[]) (Syntax.repeat (Syntax.int Syntax.w8 0) 768)
+b2 = Syntax.assign (Syntax.place 6 List.[]) (Syntax.repeat (Syntax.int Syntax.w8 0) 1536)
 
 abbrev b3 : Syntax.Body
-b3 = Syntax.assign (Syntax.place 7 List.[]) (Syntax.repeat (Syntax.int Syntax.w16 0) 32)
+b3 = Syntax.assign (Syntax.place 7 List.[]) (Syntax.repeat (Syntax.int Syntax.w16 0) 64)
 
 abbrev b4 : Syntax.Body
-b4 = Syntax.assign (Syntax.place 8 List.[]) (Syntax.repeat (Syntax.int Syntax.w16 0) 1024)
+b4 = Syntax.assign (Syntax.place 8 List.[]) (Syntax.repeat (Syntax.int Syntax.w16 0) 2048)
 
 abbrev b5 : Syntax.Body
-b5 = Syntax.assign (Syntax.place 9 List.[]) (Syntax.repeat (Syntax.int Syntax.w32 0) 1024)
+b5 = Syntax.assign (Syntax.place 9 List.[]) (Syntax.repeat (Syntax.int Syntax.w32 0) 2048)
 
 abbrev b6 : Syntax.Body
-b6 = Syntax.assign (Syntax.place 10 List.[]) (Syntax.repeat (Syntax.int Syntax.w16 0) 32)
+b6 = Syntax.assign (Syntax.place 10 List.[]) (Syntax.repeat (Syntax.int Syntax.w16 0) 64)
 
 abbrev b7 : Syntax.Body
-b7 = Syntax.assign (Syntax.place 11 List.[]) (Syntax.repeat (Syntax.int Syntax.w8 0) 32)
+b7 = Syntax.assign (Syntax.place 11 List.[]) (Syntax.repeat (Syntax.int Syntax.w8 0) 64)
 
 abbrev b8 : Syntax.Body
 b8 = Syntax.call "records::record::zero_record" List.[] (Syntax.place 15 List.[])
 
 abbrev b9 : Syntax.Body
-b9 = Syntax.assign (Syntax.place 12 List.[]) (Syntax.repeat (Syntax.copy (Syntax.place 15 List.[])) 2048)
+b9 = Syntax.assign (Syntax.place 12 List.[]) (Syntax.repeat (Syntax.copy (Syntax.place 15 List.[])) 4096)
 
 abbrev b10 : Syntax.Body
 b10 = Syntax.assign (Syntax.place 16 List.[]) (Syntax.addrOf (Syntax.place 4 List.[]))
@@ -584,43 +584,43 @@ abbrev b14 : Syntax.Body
 b14 = Syntax.assign (Syntax.place 20 List.[]) (Syntax.addrOf (Syntax.place 6 List.[]))
 
 abbrev b15 : Syntax.Body
-b15 = Syntax.assign (Syntax.place 21 List.[]) (Syntax.aggregate (List._∷_ (Syntax.copy (Syntax.place 20 List.[])) (List._∷_ (Syntax.int Syntax.w64 768) List.[])))
+b15 = Syntax.assign (Syntax.place 21 List.[]) (Syntax.aggregate (List._∷_ (Syntax.copy (Syntax.place 20 List.[])) (List._∷_ (Syntax.intBig Syntax.w64 1536) List.[])))
 
 abbrev b16 : Syntax.Body
 b16 = Syntax.assign (Syntax.place 22 List.[]) (Syntax.addrOf (Syntax.place 7 List.[]))
 
 abbrev b17 : Syntax.Body
-b17 = Syntax.assign (Syntax.place 23 List.[]) (Syntax.aggregate (List._∷_ (Syntax.copy (Syntax.place 22 List.[])) (List._∷_ (Syntax.int Syntax.w64 32) List.[])))
+b17 = Syntax.assign (Syntax.place 23 List.[]) (Syntax.aggregate (List._∷_ (Syntax.copy (Syntax.place 22 List.[])) (List._∷_ (Syntax.int Syntax.w64 64) List.[])))
 
 abbrev b18 : Syntax.Body
 b18 = Syntax.assign (Syntax.place 24 List.[]) (Syntax.addrOf (Syntax.place 8 List.[]))
 
 abbrev b19 : Syntax.Body
-b19 = Syntax.assign (Syntax.place 25 List.[]) (Syntax.aggregate (List._∷_ (Syntax.copy (Syntax.place 24 List.[])) (List._∷_ (Syntax.intBig Syntax.w64 1024) List.[])))
+b19 = Syntax.assign (Syntax.place 25 List.[]) (Syntax.aggregate (List._∷_ (Syntax.copy (Syntax.place 24 List.[])) (List._∷_ (Syntax.intBig Syntax.w64 2048) List.[])))
 
 abbrev b20 : Syntax.Body
 b20 = Syntax.assign (Syntax.place 26 List.[]) (Syntax.addrOf (Syntax.place 9 List.[]))
 
 abbrev b21 : Syntax.Body
-b21 = Syntax.assign (Syntax.place 27 List.[]) (Syntax.aggregate (List._∷_ (Syntax.copy (Syntax.place 26 List.[])) (List._∷_ (Syntax.intBig Syntax.w64 1024) List.[])))
+b21 = Syntax.assign (Syntax.place 27 List.[]) (Syntax.aggregate (List._∷_ (Syntax.copy (Syntax.place 26 List.[])) (List._∷_ (Syntax.intBig Syntax.w64 2048) List.[])))
 
 abbrev b22 : Syntax.Body
 b22 = Syntax.assign (Syntax.place 28 List.[]) (Syntax.addrOf (Syntax.place 10 List.[]))
 
 abbrev b23 : Syntax.Body
-b23 = Syntax.assign (Syntax.place 29 List.[]) (Syntax.aggregate (List._∷_ (Syntax.copy (Syntax.place 28 List.[])) (List._∷_ (Syntax.int Syntax.w64 32) List.[])))
+b23 = Syntax.assign (Syntax.place 29 List.[]) (Syntax.aggregate (List._∷_ (Syntax.copy (Syntax.place 28 List.[])) (List._∷_ (Syntax.int Syntax.w64 64) List.[])))
 
 abbrev b24 : Syntax.Body
 b24 = Syntax.assign (Syntax.place 30 List.[]) (Syntax.addrOf (Syntax.place 11 List.[]))
 
 abbrev b25 : Syntax.Body
-b25 = Syntax.assign (Syntax.place 31 List.[]) (Syntax.aggregate (List._∷_ (Syntax.copy (Syntax.place 30 List.[])) (List._∷_ (Syntax.int Syntax.w64 32) List.[])))
+b25 = Syntax.assign (Syntax.place 31 List.[]) (Syntax.aggregate (List._∷_ (Syntax.copy (Syntax.place 30 List.[])) (List._∷_ (Syntax.int Syntax.w64 64) List.[])))
 
 abbrev b26 : Syntax.Body
 b26 = Syntax.assign (Syntax.place 32 List.[]) (Syntax.addrOf (Syntax.place 12 List.[]))
 
 abbrev b27 : Syntax.Body
-b27 = Syntax.assign (Syntax.place 33 List.[]) (Syntax.aggregate (List._∷_ (Syntax.copy (Syntax.place 32 List.[])) (List._∷_ (Syntax.intBig Syntax.w64 2048) List.[])))
+b27 = Syntax.assign (Syntax.place 33 List.[]) (Syntax.aggregate (List._∷_ (Syntax.copy (Syntax.place 32 List.[])) (List._∷_ (Syntax.intBig Syntax.w64 4096) List.[])))
 
 abbrev b28 : Syntax.Body
 b28 = Syntax.call "conductor::calls::read_plan" (List._∷_ (Syntax.copy (Syntax.place 1 List.[])) (List._∷_ (Syntax.copy (Syntax.place 17 List.[])) (List._∷_ (Syntax.copy (Syntax.place 19 List.[])) (List._∷_ (Syntax.copy (Syntax.place 21 List.[])) (List._∷_ (Syntax.copy (Syntax.place 23 List.[])) (List._∷_ (Syntax.copy (Syntax.place 25 List.[])) (List._∷_
@@ -633,7 +633,7 @@ abbrev b30 : Syntax.Body
 b30 = Syntax.assign (Syntax.place 34 List.[]) (Syntax.op2 Syntax.ne (Syntax.copy (Syntax.place 14 List.[])) (Syntax.int Syntax.w64 0))
 
 abbrev b31 : Syntax.Body
-b31 = Syntax.call "presses::answers::show" (List._∷_ (Syntax.copy (Syntax.place 14 List.[])) (List._∷_ (Syntax.int Syntax.w32 0) List.[])) (Syntax.place 0 List.[])
+b31 = Syntax.call "presses::answers::show" (List._∷_ (Syntax.copy (Syntax.place 14 List.[])) (List._∷_ (Syntax.int Syntax.w64 0) List.[])) (Syntax.place 0 List.[])
 
 abbrev b32 : Syntax.Body
 b32 = Syntax.return
@@ -663,43 +663,43 @@ abbrev b40 : Syntax.Body
 b40 = Syntax.assign (Syntax.place 39 List.[]) (Syntax.addrOf (Syntax.place 6 List.[]))
 
 abbrev b41 : Syntax.Body
-b41 = Syntax.assign (Syntax.place 40 List.[]) (Syntax.aggregate (List._∷_ (Syntax.copy (Syntax.place 39 List.[])) (List._∷_ (Syntax.int Syntax.w64 768) List.[])))
+b41 = Syntax.assign (Syntax.place 40 List.[]) (Syntax.aggregate (List._∷_ (Syntax.copy (Syntax.place 39 List.[])) (List._∷_ (Syntax.intBig Syntax.w64 1536) List.[])))
 
 abbrev b42 : Syntax.Body
 b42 = Syntax.assign (Syntax.place 41 List.[]) (Syntax.addrOf (Syntax.place 7 List.[]))
 
 abbrev b43 : Syntax.Body
-b43 = Syntax.assign (Syntax.place 42 List.[]) (Syntax.aggregate (List._∷_ (Syntax.copy (Syntax.place 41 List.[])) (List._∷_ (Syntax.int Syntax.w64 32) List.[])))
+b43 = Syntax.assign (Syntax.place 42 List.[]) (Syntax.aggregate (List._∷_ (Syntax.copy (Syntax.place 41 List.[])) (List._∷_ (Syntax.int Syntax.w64 64) List.[])))
 
 abbrev b44 : Syntax.Body
 b44 = Syntax.assign (Syntax.place 43 List.[]) (Syntax.addrOf (Syntax.place 8 List.[]))
 
 abbrev b45 : Syntax.Body
-b45 = Syntax.assign (Syntax.place 44 List.[]) (Syntax.aggregate (List._∷_ (Syntax.copy (Syntax.place 43 List.[])) (List._∷_ (Syntax.intBig Syntax.w64 1024) List.[])))
+b45 = Syntax.assign (Syntax.place 44 List.[]) (Syntax.aggregate (List._∷_ (Syntax.copy (Syntax.place 43 List.[])) (List._∷_ (Syntax.intBig Syntax.w64 2048) List.[])))
 
 abbrev b46 : Syntax.Body
 b46 = Syntax.assign (Syntax.place 45 List.[]) (Syntax.addrOf (Syntax.place 9 List.[]))
 
 abbrev b47 : Syntax.Body
-b47 = Syntax.assign (Syntax.place 46 List.[]) (Syntax.aggregate (List._∷_ (Syntax.copy (Syntax.place 45 List.[])) (List._∷_ (Syntax.intBig Syntax.w64 1024) List.[])))
+b47 = Syntax.assign (Syntax.place 46 List.[]) (Syntax.aggregate (List._∷_ (Syntax.copy (Syntax.place 45 List.[])) (List._∷_ (Syntax.intBig Syntax.w64 2048) List.[])))
 
 abbrev b48 : Syntax.Body
 b48 = Syntax.assign (Syntax.place 47 List.[]) (Syntax.addrOf (Syntax.place 10 List.[]))
 
 abbrev b49 : Syntax.Body
-b49 = Syntax.assign (Syntax.place 48 List.[]) (Syntax.aggregate (List._∷_ (Syntax.copy (Syntax.place 47 List.[])) (List._∷_ (Syntax.int Syntax.w64 32) List.[])))
+b49 = Syntax.assign (Syntax.place 48 List.[]) (Syntax.aggregate (List._∷_ (Syntax.copy (Syntax.place 47 List.[])) (List._∷_ (Syntax.int Syntax.w64 64) List.[])))
 
 abbrev b50 : Syntax.Body
 b50 = Syntax.assign (Syntax.place 49 List.[]) (Syntax.addrOf (Syntax.place 11 List.[]))
 
 abbrev b51 : Syntax.Body
-b51 = Syntax.assign (Syntax.place 50 List.[]) (Syntax.aggregate (List._∷_ (Syntax.copy (Syntax.place 49 List.[])) (List._∷_ (Syntax.int Syntax.w64 32) List.[])))
+b51 = Syntax.assign (Syntax.place 50 List.[]) (Syntax.aggregate (List._∷_ (Syntax.copy (Syntax.place 49 List.[])) (List._∷_ (Syntax.int Syntax.w64 64) List.[])))
 
 abbrev b52 : Syntax.Body
 b52 = Syntax.assign (Syntax.place 51 List.[]) (Syntax.addrOf (Syntax.place 12 List.[]))
 
 abbrev b53 : Syntax.Body
-b53 = Syntax.assign (Syntax.place 52 List.[]) (Syntax.aggregate (List._∷_ (Syntax.copy (Syntax.place 51 List.[])) (List._∷_ (Syntax.intBig Syntax.w64 2048) List.[])))
+b53 = Syntax.assign (Syntax.place 52 List.[]) (Syntax.aggregate (List._∷_ (Syntax.copy (Syntax.place 51 List.[])) (List._∷_ (Syntax.intBig Syntax.w64 4096) List.[])))
 
 abbrev b54 : Syntax.Body
 b54 = Syntax.call "presses::runs::press_each" (List._∷_ (Syntax.copy (Syntax.place 36 List.[])) (List._∷_ (Syntax.copy (Syntax.place 38 List.[])) (List._∷_ (Syntax.copy (Syntax.place 40 List.[])) (List._∷_ (Syntax.copy (Syntax.place 42 List.[])) (List._∷_ (Syntax.copy (Syntax.place 44 List.[])) (List._∷_ (Syntax.copy (Syntax.place 46 List.[])) (List._∷_
@@ -1445,49 +1445,49 @@ module _ (claims· : Claims) where
   s5 = λ bs. AtSlots.n-as-by T6 5 (Rows.arrF (Referent.rtF (Referent.fInt Syntax.w16)) 1 0) λ x. x
 
   abbrev s6 : (bs : List.List Nat.ℕ) → Typed.Mo T7 → Typed.Mo T8
-  s6 = λ bs. Repeat.n-repeat (Referent.rtF (Referent.fInt Syntax.w8)) 768 T7 6 λ m. 0
+  s6 = λ bs. Repeat.n-repeat (Referent.rtF (Referent.fInt Syntax.w8)) 1536 T7 6 λ m. 0
 
   abbrev s7 : (bs : List.List Nat.ℕ) → Typed.Mo T8 → Typed.Mo T9
-  s7 = λ bs. AtSlots.n-as-by T8 6 (Rows.arrF (Referent.rtF (Referent.fInt Syntax.w8)) 768 0) λ x. x
+  s7 = λ bs. AtSlots.n-as-by T8 6 (Rows.arrF (Referent.rtF (Referent.fInt Syntax.w8)) 1536 0) λ x. x
 
   abbrev s8 : (bs : List.List Nat.ℕ) → Typed.Mo T9 → Typed.Mo T10
-  s8 = λ bs. Repeat.n-repeat (Referent.rtF (Referent.fInt Syntax.w16)) 32 T9 7 λ m. 0
+  s8 = λ bs. Repeat.n-repeat (Referent.rtF (Referent.fInt Syntax.w16)) 64 T9 7 λ m. 0
 
   abbrev s9 : (bs : List.List Nat.ℕ) → Typed.Mo T10 → Typed.Mo T11
-  s9 = λ bs. AtSlots.n-as-by T10 7 (Rows.arrF (Referent.rtF (Referent.fInt Syntax.w16)) 32 0) λ x. x
+  s9 = λ bs. AtSlots.n-as-by T10 7 (Rows.arrF (Referent.rtF (Referent.fInt Syntax.w16)) 64 0) λ x. x
 
   abbrev s10 : (bs : List.List Nat.ℕ) → Typed.Mo T11 → Typed.Mo T12
-  s10 = λ bs. Repeat.n-repeat (Referent.rtF (Referent.fInt Syntax.w16)) 1024 T11 8 λ m. 0
+  s10 = λ bs. Repeat.n-repeat (Referent.rtF (Referent.fInt Syntax.w16)) 2048 T11 8 λ m. 0
 
   abbrev s11 : (bs : List.List Nat.ℕ) → Typed.Mo T12 → Typed.Mo T13
-  s11 = λ bs. AtSlots.n-as-by T12 8 (Rows.arrF (Referent.rtF (Referent.fInt Syntax.w16)) 1024 0) λ x. x
+  s11 = λ bs. AtSlots.n-as-by T12 8 (Rows.arrF (Referent.rtF (Referent.fInt Syntax.w16)) 2048 0) λ x. x
 
   abbrev s12 : (bs : List.List Nat.ℕ) → Typed.Mo T13 → Typed.Mo T14
-  s12 = λ bs. Repeat.n-repeat (Referent.rtF (Referent.fInt Syntax.w32)) 1024 T13 9 λ m. 0
+  s12 = λ bs. Repeat.n-repeat (Referent.rtF (Referent.fInt Syntax.w32)) 2048 T13 9 λ m. 0
 
   abbrev s13 : (bs : List.List Nat.ℕ) → Typed.Mo T14 → Typed.Mo T15
-  s13 = λ bs. AtSlots.n-as-by T14 9 (Rows.arrF (Referent.rtF (Referent.fInt Syntax.w32)) 1024 0) λ x. x
+  s13 = λ bs. AtSlots.n-as-by T14 9 (Rows.arrF (Referent.rtF (Referent.fInt Syntax.w32)) 2048 0) λ x. x
 
   abbrev s14 : (bs : List.List Nat.ℕ) → Typed.Mo T15 → Typed.Mo T16
-  s14 = λ bs. Repeat.n-repeat (Referent.rtF (Referent.fInt Syntax.w16)) 32 T15 10 λ m. 0
+  s14 = λ bs. Repeat.n-repeat (Referent.rtF (Referent.fInt Syntax.w16)) 64 T15 10 λ m. 0
 
   abbrev s15 : (bs : List.List Nat.ℕ) → Typed.Mo T16 → Typed.Mo T17
-  s15 = λ bs. AtSlots.n-as-by T16 10 (Rows.arrF (Referent.rtF (Referent.fInt Syntax.w16)) 32 0) λ x. x
+  s15 = λ bs. AtSlots.n-as-by T16 10 (Rows.arrF (Referent.rtF (Referent.fInt Syntax.w16)) 64 0) λ x. x
 
   abbrev s16 : (bs : List.List Nat.ℕ) → Typed.Mo T17 → Typed.Mo T18
-  s16 = λ bs. Repeat.n-repeat (Referent.rtF (Referent.fInt Syntax.w8)) 32 T17 11 λ m. 0
+  s16 = λ bs. Repeat.n-repeat (Referent.rtF (Referent.fInt Syntax.w8)) 64 T17 11 λ m. 0
 
   abbrev s17 : (bs : List.List Nat.ℕ) → Typed.Mo T18 → Typed.Mo T19
-  s17 = λ bs. AtSlots.n-as-by T18 11 (Rows.arrF (Referent.rtF (Referent.fInt Syntax.w8)) 32 0) λ x. x
+  s17 = λ bs. AtSlots.n-as-by T18 11 (Rows.arrF (Referent.rtF (Referent.fInt Syntax.w8)) 64 0) λ x. x
 
   abbrev s18 : (bs : List.List Nat.ℕ) → Typed.Both T19 T20
   s18 = λ bs. Call.callB ps·0 r·0 (claims· .0) (claims· .1) T19 tt 15 List.[] Rec.mir
 
   abbrev s19 : (bs : List.List Nat.ℕ) → Typed.Mo T20 → Typed.Mo T21
-  s19 = λ bs. Repeat.n-repeat Rec.rt 2048 T20 12 λ m. m .1 .1 .1 .1 .1 .1 .1 .1 .1 .1 .1 .1 .1 .1 .1 .0
+  s19 = λ bs. Repeat.n-repeat Rec.rt 4096 T20 12 λ m. m .1 .1 .1 .1 .1 .1 .1 .1 .1 .1 .1 .1 .1 .1 .1 .0
 
   abbrev s20 : (bs : List.List Nat.ℕ) → Typed.Mo T21 → Typed.Mo T22
-  s20 = λ bs. AtSlots.n-as-by T21 12 (Rows.arrF Rec.rt 2048 0) λ x. x
+  s20 = λ bs. AtSlots.n-as-by T21 12 (Rows.arrF Rec.rt 4096 0) λ x. x
 
   abbrev s21 : (bs : List.List Nat.ℕ) → Typed.Mo T22 → Typed.Mo T23
   s21 = λ bs. Scalar.n-room T22 15 Rec.mir
@@ -1505,46 +1505,46 @@ module _ (claims· : Claims) where
   s27 = λ bs. Relend.k-sl-aggregate (Referent.rtF (Referent.fInt Syntax.w16)) (Relend.asMut (Referent.rtF (Referent.fInt Syntax.w16))) T28 18 19 3 (Syntax.tyRef Syntax.erased Syntax.mut ty·0) ty·10 (λ x. x) (Scalar.oInt Syntax.w64 1)
 
   abbrev s29 : (bs : List.List Nat.ℕ) → Typed.Gives T29 T31
-  s29 = λ bs. Borrow.k-arr-borrow (Referent.rtF (Referent.fInt Syntax.w8)) T29 (Row.hd 0 (Row.tl (Row.tl (Row.tl (Row.tl (Row.tl (Row.tl bs))))))) 6 20 768 4 (Syntax.tyRef Syntax.erased Syntax.mut ty·2) λ x. x
+  s29 = λ bs. Borrow.k-arr-borrow (Referent.rtF (Referent.fInt Syntax.w8)) T29 (Row.hd 0 (Row.tl (Row.tl (Row.tl (Row.tl (Row.tl (Row.tl bs))))))) 6 20 1536 4 (Syntax.tyRef Syntax.erased Syntax.mut ty·3) λ x. x
 
   abbrev s30 : (bs : List.List Nat.ℕ) → Typed.Asks T31 T32
-  s30 = λ bs. Relend.k-sl-aggregate (Referent.rtF (Referent.fInt Syntax.w8)) (Relend.asMut (Referent.rtF (Referent.fInt Syntax.w8))) T31 20 21 4 (Syntax.tyRef Syntax.erased Syntax.mut ty·2) ty·8 (λ x. x) (Scalar.oInt Syntax.w64 768)
+  s30 = λ bs. Relend.k-sl-aggregate (Referent.rtF (Referent.fInt Syntax.w8)) (Relend.asMut (Referent.rtF (Referent.fInt Syntax.w8))) T31 20 21 4 (Syntax.tyRef Syntax.erased Syntax.mut ty·3) ty·8 (λ x. x) (Scalar.oBig Syntax.w64 1536)
 
   abbrev s32 : (bs : List.List Nat.ℕ) → Typed.Gives T32 T34
-  s32 = λ bs. Borrow.k-arr-borrow (Referent.rtF (Referent.fInt Syntax.w16)) T32 (Row.hd 0 (Row.tl (Row.tl (Row.tl (Row.tl (Row.tl (Row.tl (Row.tl bs)))))))) 7 22 32 5 (Syntax.tyRef Syntax.erased Syntax.mut ty·3) λ x. x
+  s32 = λ bs. Borrow.k-arr-borrow (Referent.rtF (Referent.fInt Syntax.w16)) T32 (Row.hd 0 (Row.tl (Row.tl (Row.tl (Row.tl (Row.tl (Row.tl (Row.tl bs)))))))) 7 22 64 5 (Syntax.tyRef Syntax.erased Syntax.mut ty·2) λ x. x
 
   abbrev s33 : (bs : List.List Nat.ℕ) → Typed.Asks T34 T35
-  s33 = λ bs. Relend.k-sl-aggregate (Referent.rtF (Referent.fInt Syntax.w16)) (Relend.asMut (Referent.rtF (Referent.fInt Syntax.w16))) T34 22 23 5 (Syntax.tyRef Syntax.erased Syntax.mut ty·3) ty·10 (λ x. x) (Scalar.oInt Syntax.w64 32)
+  s33 = λ bs. Relend.k-sl-aggregate (Referent.rtF (Referent.fInt Syntax.w16)) (Relend.asMut (Referent.rtF (Referent.fInt Syntax.w16))) T34 22 23 5 (Syntax.tyRef Syntax.erased Syntax.mut ty·2) ty·10 (λ x. x) (Scalar.oInt Syntax.w64 64)
 
   abbrev s35 : (bs : List.List Nat.ℕ) → Typed.Gives T35 T37
-  s35 = λ bs. Borrow.k-arr-borrow (Referent.rtF (Referent.fInt Syntax.w16)) T35 (Row.hd 0 (Row.tl (Row.tl (Row.tl (Row.tl (Row.tl (Row.tl (Row.tl (Row.tl bs))))))))) 8 24 1024 6 (Syntax.tyRef Syntax.erased Syntax.mut ty·4) λ x. x
+  s35 = λ bs. Borrow.k-arr-borrow (Referent.rtF (Referent.fInt Syntax.w16)) T35 (Row.hd 0 (Row.tl (Row.tl (Row.tl (Row.tl (Row.tl (Row.tl (Row.tl (Row.tl bs))))))))) 8 24 2048 6 (Syntax.tyRef Syntax.erased Syntax.mut ty·4) λ x. x
 
   abbrev s36 : (bs : List.List Nat.ℕ) → Typed.Asks T37 T38
-  s36 = λ bs. Relend.k-sl-aggregate (Referent.rtF (Referent.fInt Syntax.w16)) (Relend.asMut (Referent.rtF (Referent.fInt Syntax.w16))) T37 24 25 6 (Syntax.tyRef Syntax.erased Syntax.mut ty·4) ty·10 (λ x. x) (Scalar.oBig Syntax.w64 1024)
+  s36 = λ bs. Relend.k-sl-aggregate (Referent.rtF (Referent.fInt Syntax.w16)) (Relend.asMut (Referent.rtF (Referent.fInt Syntax.w16))) T37 24 25 6 (Syntax.tyRef Syntax.erased Syntax.mut ty·4) ty·10 (λ x. x) (Scalar.oBig Syntax.w64 2048)
 
   abbrev s38 : (bs : List.List Nat.ℕ) → Typed.Gives T38 T40
-  s38 = λ bs. Borrow.k-arr-borrow (Referent.rtF (Referent.fInt Syntax.w32)) T38 (Row.hd 0 (Row.tl (Row.tl (Row.tl (Row.tl (Row.tl (Row.tl (Row.tl (Row.tl (Row.tl bs)))))))))) 9 26 1024 7 (Syntax.tyRef Syntax.erased Syntax.mut ty·5) λ x. x
+  s38 = λ bs. Borrow.k-arr-borrow (Referent.rtF (Referent.fInt Syntax.w32)) T38 (Row.hd 0 (Row.tl (Row.tl (Row.tl (Row.tl (Row.tl (Row.tl (Row.tl (Row.tl (Row.tl bs)))))))))) 9 26 2048 7 (Syntax.tyRef Syntax.erased Syntax.mut ty·5) λ x. x
 
   abbrev s39 : (bs : List.List Nat.ℕ) → Typed.Asks T40 T41
-  s39 = λ bs. Relend.k-sl-aggregate (Referent.rtF (Referent.fInt Syntax.w32)) (Relend.asMut (Referent.rtF (Referent.fInt Syntax.w32))) T40 26 27 7 (Syntax.tyRef Syntax.erased Syntax.mut ty·5) ty·11 (λ x. x) (Scalar.oBig Syntax.w64 1024)
+  s39 = λ bs. Relend.k-sl-aggregate (Referent.rtF (Referent.fInt Syntax.w32)) (Relend.asMut (Referent.rtF (Referent.fInt Syntax.w32))) T40 26 27 7 (Syntax.tyRef Syntax.erased Syntax.mut ty·5) ty·11 (λ x. x) (Scalar.oBig Syntax.w64 2048)
 
   abbrev s41 : (bs : List.List Nat.ℕ) → Typed.Gives T41 T43
-  s41 = λ bs. Borrow.k-arr-borrow (Referent.rtF (Referent.fInt Syntax.w16)) T41 (Row.hd 0 (Row.tl (Row.tl (Row.tl (Row.tl (Row.tl (Row.tl (Row.tl (Row.tl (Row.tl (Row.tl bs))))))))))) 10 28 32 8 (Syntax.tyRef Syntax.erased Syntax.mut ty·3) λ x. x
+  s41 = λ bs. Borrow.k-arr-borrow (Referent.rtF (Referent.fInt Syntax.w16)) T41 (Row.hd 0 (Row.tl (Row.tl (Row.tl (Row.tl (Row.tl (Row.tl (Row.tl (Row.tl (Row.tl (Row.tl bs))))))))))) 10 28 64 8 (Syntax.tyRef Syntax.erased Syntax.mut ty·2) λ x. x
 
   abbrev s42 : (bs : List.List Nat.ℕ) → Typed.Asks T43 T44
-  s42 = λ bs. Relend.k-sl-aggregate (Referent.rtF (Referent.fInt Syntax.w16)) (Relend.asMut (Referent.rtF (Referent.fInt Syntax.w16))) T43 28 29 8 (Syntax.tyRef Syntax.erased Syntax.mut ty·3) ty·10 (λ x. x) (Scalar.oInt Syntax.w64 32)
+  s42 = λ bs. Relend.k-sl-aggregate (Referent.rtF (Referent.fInt Syntax.w16)) (Relend.asMut (Referent.rtF (Referent.fInt Syntax.w16))) T43 28 29 8 (Syntax.tyRef Syntax.erased Syntax.mut ty·2) ty·10 (λ x. x) (Scalar.oInt Syntax.w64 64)
 
   abbrev s44 : (bs : List.List Nat.ℕ) → Typed.Gives T44 T46
-  s44 = λ bs. Borrow.k-arr-borrow (Referent.rtF (Referent.fInt Syntax.w8)) T44 (Row.hd 0 (Row.tl (Row.tl (Row.tl (Row.tl (Row.tl (Row.tl (Row.tl (Row.tl (Row.tl (Row.tl (Row.tl bs)))))))))))) 11 30 32 9 (Syntax.tyRef Syntax.erased Syntax.mut ty·1) λ x. x
+  s44 = λ bs. Borrow.k-arr-borrow (Referent.rtF (Referent.fInt Syntax.w8)) T44 (Row.hd 0 (Row.tl (Row.tl (Row.tl (Row.tl (Row.tl (Row.tl (Row.tl (Row.tl (Row.tl (Row.tl (Row.tl bs)))))))))))) 11 30 64 9 (Syntax.tyRef Syntax.erased Syntax.mut ty·1) λ x. x
 
   abbrev s45 : (bs : List.List Nat.ℕ) → Typed.Asks T46 T47
-  s45 = λ bs. Relend.k-sl-aggregate (Referent.rtF (Referent.fInt Syntax.w8)) (Relend.asMut (Referent.rtF (Referent.fInt Syntax.w8))) T46 30 31 9 (Syntax.tyRef Syntax.erased Syntax.mut ty·1) ty·8 (λ x. x) (Scalar.oInt Syntax.w64 32)
+  s45 = λ bs. Relend.k-sl-aggregate (Referent.rtF (Referent.fInt Syntax.w8)) (Relend.asMut (Referent.rtF (Referent.fInt Syntax.w8))) T46 30 31 9 (Syntax.tyRef Syntax.erased Syntax.mut ty·1) ty·8 (λ x. x) (Scalar.oInt Syntax.w64 64)
 
   abbrev s47 : (bs : List.List Nat.ℕ) → Typed.Gives T47 T49
-  s47 = λ bs. Borrow.k-arr-borrow Rec.rt T47 (Row.hd 0 (Row.tl (Row.tl (Row.tl (Row.tl (Row.tl (Row.tl (Row.tl (Row.tl (Row.tl (Row.tl (Row.tl (Row.tl bs))))))))))))) 12 32 2048 10 ty·16 λ x. x
+  s47 = λ bs. Borrow.k-arr-borrow Rec.rt T47 (Row.hd 0 (Row.tl (Row.tl (Row.tl (Row.tl (Row.tl (Row.tl (Row.tl (Row.tl (Row.tl (Row.tl (Row.tl (Row.tl bs))))))))))))) 12 32 4096 10 ty·16 λ x. x
 
   abbrev s48 : (bs : List.List Nat.ℕ) → Typed.Asks T49 T50
-  s48 = λ bs. Relend.k-sl-aggregate Rec.rt (Relend.asMut Rec.rt) T49 32 33 10 ty·16 ty·6 (λ x. x) (Scalar.oBig Syntax.w64 2048)
+  s48 = λ bs. Relend.k-sl-aggregate Rec.rt (Relend.asMut Rec.rt) T49 32 33 10 ty·16 ty·6 (λ x. x) (Scalar.oBig Syntax.w64 4096)
 
   abbrev s49 : (bs : List.List Nat.ℕ) → Typed.Both T50 T51
   s49 = λ bs. Call.callB ps·1 r·1 (claims· .2) (claims· .3) T50 args·0 13 (List._∷_ 0 (List._∷_ 2 (List._∷_ 3 (List._∷_ 4 (List._∷_ 5 (List._∷_ 6 (List._∷_ 7 (List._∷_ 8 (List._∷_ 9 (List._∷_ 10 List.[])))))))))) (Syntax.tyEnum (List._∷_ 114 (List._∷_ 101 (List._∷_ 97 (List._∷_ 100 (List._∷_ 105 (List._∷_ 110 (List._∷_ 103 (List._∷_ 58 (List._∷_ 58 (List._∷_
@@ -1561,25 +1561,25 @@ module _ (claims· : Claims) where
   s54 = λ bs. Borrow.k-back-arr (Referent.rtF (Referent.fInt Syntax.w16)) T53 19 5 3 1 ty·10 (λ x. x) λ x. x
 
   abbrev s57 : (bs : List.List Nat.ℕ) → Typed.Both T56 T59
-  s57 = λ bs. Borrow.k-back-arr (Referent.rtF (Referent.fInt Syntax.w8)) T56 21 6 4 768 ty·8 (λ x. x) λ x. x
+  s57 = λ bs. Borrow.k-back-arr (Referent.rtF (Referent.fInt Syntax.w8)) T56 21 6 4 1536 ty·8 (λ x. x) λ x. x
 
   abbrev s60 : (bs : List.List Nat.ℕ) → Typed.Both T59 T62
-  s60 = λ bs. Borrow.k-back-arr (Referent.rtF (Referent.fInt Syntax.w16)) T59 23 7 5 32 ty·10 (λ x. x) λ x. x
+  s60 = λ bs. Borrow.k-back-arr (Referent.rtF (Referent.fInt Syntax.w16)) T59 23 7 5 64 ty·10 (λ x. x) λ x. x
 
   abbrev s63 : (bs : List.List Nat.ℕ) → Typed.Both T62 T65
-  s63 = λ bs. Borrow.k-back-arr (Referent.rtF (Referent.fInt Syntax.w16)) T62 25 8 6 1024 ty·10 (λ x. x) λ x. x
+  s63 = λ bs. Borrow.k-back-arr (Referent.rtF (Referent.fInt Syntax.w16)) T62 25 8 6 2048 ty·10 (λ x. x) λ x. x
 
   abbrev s66 : (bs : List.List Nat.ℕ) → Typed.Both T65 T68
-  s66 = λ bs. Borrow.k-back-arr (Referent.rtF (Referent.fInt Syntax.w32)) T65 27 9 7 1024 ty·11 (λ x. x) λ x. x
+  s66 = λ bs. Borrow.k-back-arr (Referent.rtF (Referent.fInt Syntax.w32)) T65 27 9 7 2048 ty·11 (λ x. x) λ x. x
 
   abbrev s69 : (bs : List.List Nat.ℕ) → Typed.Both T68 T71
-  s69 = λ bs. Borrow.k-back-arr (Referent.rtF (Referent.fInt Syntax.w16)) T68 29 10 8 32 ty·10 (λ x. x) λ x. x
+  s69 = λ bs. Borrow.k-back-arr (Referent.rtF (Referent.fInt Syntax.w16)) T68 29 10 8 64 ty·10 (λ x. x) λ x. x
 
   abbrev s72 : (bs : List.List Nat.ℕ) → Typed.Both T71 T74
-  s72 = λ bs. Borrow.k-back-arr (Referent.rtF (Referent.fInt Syntax.w8)) T71 31 11 9 32 ty·8 (λ x. x) λ x. x
+  s72 = λ bs. Borrow.k-back-arr (Referent.rtF (Referent.fInt Syntax.w8)) T71 31 11 9 64 ty·8 (λ x. x) λ x. x
 
   abbrev s75 : (bs : List.List Nat.ℕ) → Typed.Both T74 T77
-  s75 = λ bs. Borrow.k-back-arr Rec.rt T74 33 12 10 2048 ty·6 (λ x. x) λ x. x
+  s75 = λ bs. Borrow.k-back-arr Rec.rt T74 33 12 10 4096 ty·6 (λ x. x) λ x. x
 
   abbrev s77 : (bs : List.List Nat.ℕ) → Typed.Both T77 T79
   s77 = λ bs. Call.callB ps·2 r·2 (claims· .4) (claims· .5) T77 (record { pos = 13; st = List.[]; d = 0; at = λ x. x }, tt) 14 List.[] (Syntax.tyInt Syntax.w64)
@@ -1601,10 +1601,10 @@ module _ (claims· : Claims) where
   s81 = λ bs. Scalar.n-room T83 5 ty·0
 
   abbrev s82 : (bs : List.List Nat.ℕ) → Typed.Mo T84 → Typed.Mo T85
-  s82 = λ bs. Scalar.n-room T84 6 ty·2
+  s82 = λ bs. Scalar.n-room T84 6 ty·3
 
   abbrev s83 : (bs : List.List Nat.ℕ) → Typed.Mo T85 → Typed.Mo T86
-  s83 = λ bs. Scalar.n-room T85 7 ty·3
+  s83 = λ bs. Scalar.n-room T85 7 ty·2
 
   abbrev s84 : (bs : List.List Nat.ℕ) → Typed.Mo T86 → Typed.Mo T87
   s84 = λ bs. Scalar.n-room T86 8 ty·4
@@ -1613,13 +1613,13 @@ module _ (claims· : Claims) where
   s85 = λ bs. Scalar.n-room T87 9 ty·5
 
   abbrev s86 : (bs : List.List Nat.ℕ) → Typed.Mo T88 → Typed.Mo T89
-  s86 = λ bs. Scalar.n-room T88 10 ty·3
+  s86 = λ bs. Scalar.n-room T88 10 ty·2
 
   abbrev s87 : (bs : List.List Nat.ℕ) → Typed.Mo T89 → Typed.Mo T90
   s87 = λ bs. Scalar.n-room T89 11 ty·1
 
   abbrev s88 : (bs : List.List Nat.ℕ) → Typed.Mo T90 → Typed.Mo T91
-  s88 = λ bs. Scalar.n-room T90 12 (Syntax.tyArray Rec.mir 2048)
+  s88 = λ bs. Scalar.n-room T90 12 (Syntax.tyArray Rec.mir 4096)
 
   abbrev s89 : (bs : List.List Nat.ℕ) → Typed.Mo T91 → Typed.Mo T92
   s89 = λ bs. Scalar.n-room T91 34 Syntax.tyBool
@@ -1649,46 +1649,46 @@ module _ (claims· : Claims) where
   s99 = λ bs. Relend.k-sl-aggregate (Referent.rtF (Referent.fInt Syntax.w16)) (Relend.asShr (Referent.rtF (Referent.fInt Syntax.w16))) T101 37 38 12 (Syntax.tyRef Syntax.erased Syntax.imm ty·0) ty·12 (λ x. x) (Scalar.oInt Syntax.w64 1)
 
   abbrev s101 : (bs : List.List Nat.ℕ) → Typed.Gives T102 T104
-  s101 = λ bs. Share.k-arr-share (Referent.rtF (Referent.fInt Syntax.w8)) T102 6 39 768 13 (Syntax.tyRef Syntax.erased Syntax.imm ty·2) λ x. x
+  s101 = λ bs. Share.k-arr-share (Referent.rtF (Referent.fInt Syntax.w8)) T102 6 39 1536 13 (Syntax.tyRef Syntax.erased Syntax.imm ty·3) λ x. x
 
   abbrev s102 : (bs : List.List Nat.ℕ) → Typed.Asks T104 T105
-  s102 = λ bs. Relend.k-sl-aggregate (Referent.rtF (Referent.fInt Syntax.w8)) (Relend.asShr (Referent.rtF (Referent.fInt Syntax.w8))) T104 39 40 13 (Syntax.tyRef Syntax.erased Syntax.imm ty·2) ty·9 (λ x. x) (Scalar.oInt Syntax.w64 768)
+  s102 = λ bs. Relend.k-sl-aggregate (Referent.rtF (Referent.fInt Syntax.w8)) (Relend.asShr (Referent.rtF (Referent.fInt Syntax.w8))) T104 39 40 13 (Syntax.tyRef Syntax.erased Syntax.imm ty·3) ty·9 (λ x. x) (Scalar.oBig Syntax.w64 1536)
 
   abbrev s104 : (bs : List.List Nat.ℕ) → Typed.Gives T105 T107
-  s104 = λ bs. Share.k-arr-share (Referent.rtF (Referent.fInt Syntax.w16)) T105 7 41 32 14 (Syntax.tyRef Syntax.erased Syntax.imm ty·3) λ x. x
+  s104 = λ bs. Share.k-arr-share (Referent.rtF (Referent.fInt Syntax.w16)) T105 7 41 64 14 (Syntax.tyRef Syntax.erased Syntax.imm ty·2) λ x. x
 
   abbrev s105 : (bs : List.List Nat.ℕ) → Typed.Asks T107 T108
-  s105 = λ bs. Relend.k-sl-aggregate (Referent.rtF (Referent.fInt Syntax.w16)) (Relend.asShr (Referent.rtF (Referent.fInt Syntax.w16))) T107 41 42 14 (Syntax.tyRef Syntax.erased Syntax.imm ty·3) ty·12 (λ x. x) (Scalar.oInt Syntax.w64 32)
+  s105 = λ bs. Relend.k-sl-aggregate (Referent.rtF (Referent.fInt Syntax.w16)) (Relend.asShr (Referent.rtF (Referent.fInt Syntax.w16))) T107 41 42 14 (Syntax.tyRef Syntax.erased Syntax.imm ty·2) ty·12 (λ x. x) (Scalar.oInt Syntax.w64 64)
 
   abbrev s107 : (bs : List.List Nat.ℕ) → Typed.Gives T108 T110
-  s107 = λ bs. Share.k-arr-share (Referent.rtF (Referent.fInt Syntax.w16)) T108 8 43 1024 15 (Syntax.tyRef Syntax.erased Syntax.imm ty·4) λ x. x
+  s107 = λ bs. Share.k-arr-share (Referent.rtF (Referent.fInt Syntax.w16)) T108 8 43 2048 15 (Syntax.tyRef Syntax.erased Syntax.imm ty·4) λ x. x
 
   abbrev s108 : (bs : List.List Nat.ℕ) → Typed.Asks T110 T111
-  s108 = λ bs. Relend.k-sl-aggregate (Referent.rtF (Referent.fInt Syntax.w16)) (Relend.asShr (Referent.rtF (Referent.fInt Syntax.w16))) T110 43 44 15 (Syntax.tyRef Syntax.erased Syntax.imm ty·4) ty·12 (λ x. x) (Scalar.oBig Syntax.w64 1024)
+  s108 = λ bs. Relend.k-sl-aggregate (Referent.rtF (Referent.fInt Syntax.w16)) (Relend.asShr (Referent.rtF (Referent.fInt Syntax.w16))) T110 43 44 15 (Syntax.tyRef Syntax.erased Syntax.imm ty·4) ty·12 (λ x. x) (Scalar.oBig Syntax.w64 2048)
 
   abbrev s110 : (bs : List.List Nat.ℕ) → Typed.Gives T111 T113
-  s110 = λ bs. Share.k-arr-share (Referent.rtF (Referent.fInt Syntax.w32)) T111 9 45 1024 16 (Syntax.tyRef Syntax.erased Syntax.imm ty·5) λ x. x
+  s110 = λ bs. Share.k-arr-share (Referent.rtF (Referent.fInt Syntax.w32)) T111 9 45 2048 16 (Syntax.tyRef Syntax.erased Syntax.imm ty·5) λ x. x
 
   abbrev s111 : (bs : List.List Nat.ℕ) → Typed.Asks T113 T114
-  s111 = λ bs. Relend.k-sl-aggregate (Referent.rtF (Referent.fInt Syntax.w32)) (Relend.asShr (Referent.rtF (Referent.fInt Syntax.w32))) T113 45 46 16 (Syntax.tyRef Syntax.erased Syntax.imm ty·5) ty·13 (λ x. x) (Scalar.oBig Syntax.w64 1024)
+  s111 = λ bs. Relend.k-sl-aggregate (Referent.rtF (Referent.fInt Syntax.w32)) (Relend.asShr (Referent.rtF (Referent.fInt Syntax.w32))) T113 45 46 16 (Syntax.tyRef Syntax.erased Syntax.imm ty·5) ty·13 (λ x. x) (Scalar.oBig Syntax.w64 2048)
 
   abbrev s113 : (bs : List.List Nat.ℕ) → Typed.Gives T114 T116
-  s113 = λ bs. Borrow.k-arr-borrow (Referent.rtF (Referent.fInt Syntax.w16)) T114 (Row.hd 0 (Row.tl (Row.tl (Row.tl (Row.tl (Row.tl (Row.tl (Row.tl (Row.tl (Row.tl (Row.tl bs))))))))))) 10 47 32 17 (Syntax.tyRef Syntax.erased Syntax.mut ty·3) λ x. x
+  s113 = λ bs. Borrow.k-arr-borrow (Referent.rtF (Referent.fInt Syntax.w16)) T114 (Row.hd 0 (Row.tl (Row.tl (Row.tl (Row.tl (Row.tl (Row.tl (Row.tl (Row.tl (Row.tl (Row.tl bs))))))))))) 10 47 64 17 (Syntax.tyRef Syntax.erased Syntax.mut ty·2) λ x. x
 
   abbrev s114 : (bs : List.List Nat.ℕ) → Typed.Asks T116 T117
-  s114 = λ bs. Relend.k-sl-aggregate (Referent.rtF (Referent.fInt Syntax.w16)) (Relend.asMut (Referent.rtF (Referent.fInt Syntax.w16))) T116 47 48 17 (Syntax.tyRef Syntax.erased Syntax.mut ty·3) ty·10 (λ x. x) (Scalar.oInt Syntax.w64 32)
+  s114 = λ bs. Relend.k-sl-aggregate (Referent.rtF (Referent.fInt Syntax.w16)) (Relend.asMut (Referent.rtF (Referent.fInt Syntax.w16))) T116 47 48 17 (Syntax.tyRef Syntax.erased Syntax.mut ty·2) ty·10 (λ x. x) (Scalar.oInt Syntax.w64 64)
 
   abbrev s116 : (bs : List.List Nat.ℕ) → Typed.Gives T117 T119
-  s116 = λ bs. Borrow.k-arr-borrow (Referent.rtF (Referent.fInt Syntax.w8)) T117 (Row.hd 0 (Row.tl (Row.tl (Row.tl (Row.tl (Row.tl (Row.tl (Row.tl (Row.tl (Row.tl (Row.tl (Row.tl bs)))))))))))) 11 49 32 18 (Syntax.tyRef Syntax.erased Syntax.mut ty·1) λ x. x
+  s116 = λ bs. Borrow.k-arr-borrow (Referent.rtF (Referent.fInt Syntax.w8)) T117 (Row.hd 0 (Row.tl (Row.tl (Row.tl (Row.tl (Row.tl (Row.tl (Row.tl (Row.tl (Row.tl (Row.tl (Row.tl bs)))))))))))) 11 49 64 18 (Syntax.tyRef Syntax.erased Syntax.mut ty·1) λ x. x
 
   abbrev s117 : (bs : List.List Nat.ℕ) → Typed.Asks T119 T120
-  s117 = λ bs. Relend.k-sl-aggregate (Referent.rtF (Referent.fInt Syntax.w8)) (Relend.asMut (Referent.rtF (Referent.fInt Syntax.w8))) T119 49 50 18 (Syntax.tyRef Syntax.erased Syntax.mut ty·1) ty·8 (λ x. x) (Scalar.oInt Syntax.w64 32)
+  s117 = λ bs. Relend.k-sl-aggregate (Referent.rtF (Referent.fInt Syntax.w8)) (Relend.asMut (Referent.rtF (Referent.fInt Syntax.w8))) T119 49 50 18 (Syntax.tyRef Syntax.erased Syntax.mut ty·1) ty·8 (λ x. x) (Scalar.oInt Syntax.w64 64)
 
   abbrev s119 : (bs : List.List Nat.ℕ) → Typed.Gives T120 T122
-  s119 = λ bs. Share.k-arr-share Rec.rt T120 12 51 2048 19 ty·17 λ x. x
+  s119 = λ bs. Share.k-arr-share Rec.rt T120 12 51 4096 19 ty·17 λ x. x
 
   abbrev s120 : (bs : List.List Nat.ℕ) → Typed.Asks T122 T123
-  s120 = λ bs. Relend.k-sl-aggregate Rec.rt (Relend.asShr Rec.rt) T122 51 52 19 ty·17 ty·7 (λ x. x) (Scalar.oBig Syntax.w64 2048)
+  s120 = λ bs. Relend.k-sl-aggregate Rec.rt (Relend.asShr Rec.rt) T122 51 52 19 ty·17 ty·7 (λ x. x) (Scalar.oBig Syntax.w64 4096)
 
   abbrev s121 : (bs : List.List Nat.ℕ) → Typed.Both T123 T124
   s121 = λ bs. Call.callB ps·4 r·4 (claims· .8) (claims· .9) T123 args·1 0 (List._∷_ 11 (List._∷_ 12 (List._∷_ 13 (List._∷_ 14 (List._∷_ 15 (List._∷_ 16 (List._∷_ 17 (List._∷_ 18 (List._∷_ 19 (List._∷_ 1 List.[])))))))))) ty·19
@@ -1730,46 +1730,46 @@ module _ (claims· : Claims) where
   s137 = λ bs. Scalar.n-room T138 5 ty·0
 
   abbrev s139 : (bs : List.List Nat.ℕ) → Typed.Mo T140 → Typed.Mo T142
-  s139 = λ bs. Share.n-back-arr-shr (Referent.rtF (Referent.fInt Syntax.w8)) T140 6 768 13 λ x. x
+  s139 = λ bs. Share.n-back-arr-shr (Referent.rtF (Referent.fInt Syntax.w8)) T140 6 1536 13 λ x. x
 
   abbrev s141 : (bs : List.List Nat.ℕ) → Typed.Mo T142 → Typed.Mo T144
-  s141 = λ bs. Scalar.n-room T142 6 ty·2
+  s141 = λ bs. Scalar.n-room T142 6 ty·3
 
   abbrev s143 : (bs : List.List Nat.ℕ) → Typed.Mo T144 → Typed.Mo T146
-  s143 = λ bs. Share.n-back-arr-shr (Referent.rtF (Referent.fInt Syntax.w16)) T144 7 32 14 λ x. x
+  s143 = λ bs. Share.n-back-arr-shr (Referent.rtF (Referent.fInt Syntax.w16)) T144 7 64 14 λ x. x
 
   abbrev s145 : (bs : List.List Nat.ℕ) → Typed.Mo T146 → Typed.Mo T148
-  s145 = λ bs. Scalar.n-room T146 7 ty·3
+  s145 = λ bs. Scalar.n-room T146 7 ty·2
 
   abbrev s147 : (bs : List.List Nat.ℕ) → Typed.Mo T148 → Typed.Mo T150
-  s147 = λ bs. Share.n-back-arr-shr (Referent.rtF (Referent.fInt Syntax.w16)) T148 8 1024 15 λ x. x
+  s147 = λ bs. Share.n-back-arr-shr (Referent.rtF (Referent.fInt Syntax.w16)) T148 8 2048 15 λ x. x
 
   abbrev s149 : (bs : List.List Nat.ℕ) → Typed.Mo T150 → Typed.Mo T152
   s149 = λ bs. Scalar.n-room T150 8 ty·4
 
   abbrev s151 : (bs : List.List Nat.ℕ) → Typed.Mo T152 → Typed.Mo T154
-  s151 = λ bs. Share.n-back-arr-shr (Referent.rtF (Referent.fInt Syntax.w32)) T152 9 1024 16 λ x. x
+  s151 = λ bs. Share.n-back-arr-shr (Referent.rtF (Referent.fInt Syntax.w32)) T152 9 2048 16 λ x. x
 
   abbrev s153 : (bs : List.List Nat.ℕ) → Typed.Mo T154 → Typed.Mo T156
   s153 = λ bs. Scalar.n-room T154 9 ty·5
 
   abbrev s155 : (bs : List.List Nat.ℕ) → Typed.Both T156 T158
-  s155 = λ bs. Borrow.k-back-arr (Referent.rtF (Referent.fInt Syntax.w16)) T156 48 10 17 32 ty·10 (λ x. x) λ x. x
+  s155 = λ bs. Borrow.k-back-arr (Referent.rtF (Referent.fInt Syntax.w16)) T156 48 10 17 64 ty·10 (λ x. x) λ x. x
 
   abbrev s157 : (bs : List.List Nat.ℕ) → Typed.Mo T158 → Typed.Mo T160
-  s157 = λ bs. Scalar.n-room T158 10 ty·3
+  s157 = λ bs. Scalar.n-room T158 10 ty·2
 
   abbrev s159 : (bs : List.List Nat.ℕ) → Typed.Both T160 T162
-  s159 = λ bs. Borrow.k-back-arr (Referent.rtF (Referent.fInt Syntax.w8)) T160 50 11 18 32 ty·8 (λ x. x) λ x. x
+  s159 = λ bs. Borrow.k-back-arr (Referent.rtF (Referent.fInt Syntax.w8)) T160 50 11 18 64 ty·8 (λ x. x) λ x. x
 
   abbrev s161 : (bs : List.List Nat.ℕ) → Typed.Mo T162 → Typed.Mo T164
   s161 = λ bs. Scalar.n-room T162 11 ty·1
 
   abbrev s163 : (bs : List.List Nat.ℕ) → Typed.Mo T164 → Typed.Mo T166
-  s163 = λ bs. Share.n-back-arr-shr Rec.rt T164 12 2048 19 λ x. x
+  s163 = λ bs. Share.n-back-arr-shr Rec.rt T164 12 4096 19 λ x. x
 
   abbrev s165 : (bs : List.List Nat.ℕ) → Typed.Mo T166 → Typed.Mo T168
-  s165 = λ bs. Scalar.n-room T166 12 (Syntax.tyArray Rec.mir 2048)
+  s165 = λ bs. Scalar.n-room T166 12 (Syntax.tyArray Rec.mir 4096)
 
   abbrev s166 : (bs : List.List Nat.ℕ) → Typed.Mo T168 → Typed.Mo T1
   s166 = λ bs. Scalar.n-room T168 2 (Syntax.tyInt Syntax.w64)
@@ -3006,49 +3006,49 @@ module _ (claims· : Claims) where
               (Scalar.room-sc 𝓤 H A W (Row.sInt Syntax.w64))) (Typed.g-pre 𝓤 H A W 𝓣 E G94 G1 b32 Δ1 (Typed.pass T94 T1 (s92 bs)) (at0 bs) (Scalar.g-room 𝓤 H A W E G94 14 (Syntax.tyInt Syntax.w64) (Scalar.room-sc 𝓤 H A W (Row.sInt Syntax.w64))) d0)))
 
           d9 : Typed.Typed 𝓤 H A 𝓣 E G86 b33 Δ1 (at9 bs)
-          d9 = Typed.g-pre 𝓤 H A W 𝓣 E G86 G87 b33 Δ1 (Typed.pass T86 T87 (s84 bs)) (at8 bs) (Scalar.g-room 𝓤 H A W E G86 8 ty·4 (Init.room-arr 𝓤 H A W (Referent.rtF (Referent.fInt Syntax.w16)) 1024 0 1024 Path'.refl)) (Typed.g-pre 𝓤 H A W 𝓣 E G87 G88 b33 Δ1 (Typed.pass T87 T88 (s85 bs)) (at7 bs) (Scalar.g-room 𝓤 H A W E G87 9 ty·5 (Init.room-arr 𝓤 H A W
-              (Referent.rtF (Referent.fInt Syntax.w32)) 1024 0 1024 Path'.refl)) (Typed.g-pre 𝓤 H A W 𝓣 E G88 G89 b33 Δ1 (Typed.pass T88 T89 (s86 bs)) (at6 bs) (Scalar.g-room 𝓤 H A W E G88 10 ty·3 (Init.room-arr 𝓤 H A W (Referent.rtF (Referent.fInt Syntax.w16)) 32 0 32 Path'.refl)) (Typed.g-pre 𝓤 H A W 𝓣 E G89 G90 b33 Δ1 (Typed.pass T89 T90 (s87 bs)) (at5 bs)
-              (Scalar.g-room 𝓤 H A W E G89 11 ty·1 (Init.room-arr 𝓤 H A W (Referent.rtF (Referent.fInt Syntax.w8)) 32 0 32 Path'.refl)) (Typed.g-pre 𝓤 H A W 𝓣 E G90 G91 b33 Δ1 (Typed.pass T90 T91 (s88 bs)) (at4 bs) (Scalar.g-room 𝓤 H A W E G90 12 (Syntax.tyArray Rec.mir 2048) (Init.room-arr 𝓤 H A W Rec.rt 2048 0 2048 Path'.refl)) d4))))
+          d9 = Typed.g-pre 𝓤 H A W 𝓣 E G86 G87 b33 Δ1 (Typed.pass T86 T87 (s84 bs)) (at8 bs) (Scalar.g-room 𝓤 H A W E G86 8 ty·4 (Init.room-arr 𝓤 H A W (Referent.rtF (Referent.fInt Syntax.w16)) 2048 0 2048 Path'.refl)) (Typed.g-pre 𝓤 H A W 𝓣 E G87 G88 b33 Δ1 (Typed.pass T87 T88 (s85 bs)) (at7 bs) (Scalar.g-room 𝓤 H A W E G87 9 ty·5 (Init.room-arr 𝓤 H A W
+              (Referent.rtF (Referent.fInt Syntax.w32)) 2048 0 2048 Path'.refl)) (Typed.g-pre 𝓤 H A W 𝓣 E G88 G89 b33 Δ1 (Typed.pass T88 T89 (s86 bs)) (at6 bs) (Scalar.g-room 𝓤 H A W E G88 10 ty·2 (Init.room-arr 𝓤 H A W (Referent.rtF (Referent.fInt Syntax.w16)) 64 0 64 Path'.refl)) (Typed.g-pre 𝓤 H A W 𝓣 E G89 G90 b33 Δ1 (Typed.pass T89 T90 (s87 bs)) (at5 bs)
+              (Scalar.g-room 𝓤 H A W E G89 11 ty·1 (Init.room-arr 𝓤 H A W (Referent.rtF (Referent.fInt Syntax.w8)) 64 0 64 Path'.refl)) (Typed.g-pre 𝓤 H A W 𝓣 E G90 G91 b33 Δ1 (Typed.pass T90 T91 (s88 bs)) (at4 bs) (Scalar.g-room 𝓤 H A W E G90 12 (Syntax.tyArray Rec.mir 4096) (Init.room-arr 𝓤 H A W Rec.rt 4096 0 4096 Path'.refl)) d4))))
 
           d14 : Typed.Typed 𝓤 H A 𝓣 E G80 b34 Δ1 (at14 bs)
           d14 = Typed.t-skip 𝓤 H A W 𝓣 E Δ1 tt
 
           d16 : Typed.Typed 𝓤 H A 𝓣 E G81 b35 Δ1 (at16 bs)
           d16 = Scalar.t-cond 𝓤 H A W E 𝓣 G81 34 (λ x. x) b33 b34 Δ1 (at13 bs) (at15 bs) (Scalar.reads-sc 𝓤 H A W Row.sBool) Path'.refl (Typed.g-pre 𝓤 H A W 𝓣 E G81 G83 b33 Δ1 (Typed.pass T81 T83 (s80 bs)) (at12 bs) (Scalar.g-room 𝓤 H A W E G81 4 ty·0 (Init.room-arr 𝓤 H A W (Referent.rtF (Referent.fInt Syntax.w16)) 1 0 1 Path'.refl)) (Typed.g-pre 𝓤 H A W 𝓣 E
-              G83 G84 b33 Δ1 (Typed.pass T83 T84 (s81 bs)) (at11 bs) (Scalar.g-room 𝓤 H A W E G83 5 ty·0 (Init.room-arr 𝓤 H A W (Referent.rtF (Referent.fInt Syntax.w16)) 1 0 1 Path'.refl)) (Typed.g-pre 𝓤 H A W 𝓣 E G84 G85 b33 Δ1 (Typed.pass T84 T85 (s82 bs)) (at10 bs) (Scalar.g-room 𝓤 H A W E G84 6 ty·2 (Init.room-arr 𝓤 H A W (Referent.rtF (Referent.fInt
-              Syntax.w8)) 768 0 768 Path'.refl)) (Typed.g-pre 𝓤 H A W 𝓣 E G85 G86 b33 Δ1 (Typed.pass T85 T86 (s83 bs)) (at9 bs) (Scalar.g-room 𝓤 H A W E G85 7 ty·3 (Init.room-arr 𝓤 H A W (Referent.rtF (Referent.fInt Syntax.w16)) 32 0 32 Path'.refl)) d9)))) (Typed.g-pre 𝓤 H A W 𝓣 E G81 G80 b34 Δ1 (Typed.pass T81 T80 (s93 bs)) (at14 bs) (Scalar.g-room 𝓤 H A W E
+              G83 G84 b33 Δ1 (Typed.pass T83 T84 (s81 bs)) (at11 bs) (Scalar.g-room 𝓤 H A W E G83 5 ty·0 (Init.room-arr 𝓤 H A W (Referent.rtF (Referent.fInt Syntax.w16)) 1 0 1 Path'.refl)) (Typed.g-pre 𝓤 H A W 𝓣 E G84 G85 b33 Δ1 (Typed.pass T84 T85 (s82 bs)) (at10 bs) (Scalar.g-room 𝓤 H A W E G84 6 ty·3 (Init.room-arr 𝓤 H A W (Referent.rtF (Referent.fInt
+              Syntax.w8)) 1536 0 1536 Path'.refl)) (Typed.g-pre 𝓤 H A W 𝓣 E G85 G86 b33 Δ1 (Typed.pass T85 T86 (s83 bs)) (at9 bs) (Scalar.g-room 𝓤 H A W E G85 7 ty·2 (Init.room-arr 𝓤 H A W (Referent.rtF (Referent.fInt Syntax.w16)) 64 0 64 Path'.refl)) d9)))) (Typed.g-pre 𝓤 H A W 𝓣 E G81 G80 b34 Δ1 (Typed.pass T81 T80 (s93 bs)) (at14 bs) (Scalar.g-room 𝓤 H A W E
               G81 34 Syntax.tyBool (Scalar.room-sc 𝓤 H A W Row.sBool)) d14)
 
           d17 : Typed.Typed 𝓤 H A 𝓣 E G1 b55 Δ0 (at17 bs)
           d17 = Typed.t-return 𝓤 H A W 𝓣 E Δ0 tt
 
           d23 : Typed.Typed 𝓤 H A 𝓣 E G163 b55 Δ0 (at23 bs)
-          d23 = Typed.g-pre 𝓤 H A W 𝓣 E G163 G164 b55 Δ0 (Typed.pass T162 T164 (s161 bs)) (at22 bs) (Scalar.g-room 𝓤 H A W E G163 11 ty·1 (Init.room-arr 𝓤 H A W (Referent.rtF (Referent.fInt Syntax.w8)) 32 0 32 Path'.refl)) (Typed.g-pre 𝓤 H A W 𝓣 E G164 G165 b55 Δ0 (λ Ψ. Ψ) (at21 bs) (Lifetime.g-end 𝓤 H A W E G164 19 Path'.refl) (Typed.g-pre 𝓤 H A W 𝓣 E G165
-              G166 b55 Δ0 (Typed.pass T164 T166 (s163 bs)) (at20 bs) (Share.g-back-arr-shr 𝓤 H A W E Rec.rt G165 12 2048 19 (λ x. x) (Reads.as-is 𝓤 H A (Rows.arr-shr Rec.rt 2048 19)) Path'.refl) (Typed.g-pre 𝓤 H A W 𝓣 E G166 G167 b55 Δ0 (λ Ψ. Ψ) (at19 bs) (Lifetime.g-forget 𝓤 H A W E G166 19 Row.dead Path'.refl) (Typed.g-pre 𝓤 H A W 𝓣 E G167 G168 b55 Δ0
-              (Typed.pass T166 T168 (s165 bs)) (at18 bs) (Scalar.g-room 𝓤 H A W E G167 12 (Syntax.tyArray Rec.mir 2048) (Init.room-arr 𝓤 H A W Rec.rt 2048 0 2048 Path'.refl)) (Typed.g-pre 𝓤 H A W 𝓣 E G168 G1 b55 Δ0 (Typed.pass T168 T1 (s166 bs)) (at17 bs) (Scalar.g-room 𝓤 H A W E G168 2 (Syntax.tyInt Syntax.w64) (Scalar.room-sc 𝓤 H A W (Row.sInt Syntax.w64)))
+          d23 = Typed.g-pre 𝓤 H A W 𝓣 E G163 G164 b55 Δ0 (Typed.pass T162 T164 (s161 bs)) (at22 bs) (Scalar.g-room 𝓤 H A W E G163 11 ty·1 (Init.room-arr 𝓤 H A W (Referent.rtF (Referent.fInt Syntax.w8)) 64 0 64 Path'.refl)) (Typed.g-pre 𝓤 H A W 𝓣 E G164 G165 b55 Δ0 (λ Ψ. Ψ) (at21 bs) (Lifetime.g-end 𝓤 H A W E G164 19 Path'.refl) (Typed.g-pre 𝓤 H A W 𝓣 E G165
+              G166 b55 Δ0 (Typed.pass T164 T166 (s163 bs)) (at20 bs) (Share.g-back-arr-shr 𝓤 H A W E Rec.rt G165 12 4096 19 (λ x. x) (Reads.as-is 𝓤 H A (Rows.arr-shr Rec.rt 4096 19)) Path'.refl) (Typed.g-pre 𝓤 H A W 𝓣 E G166 G167 b55 Δ0 (λ Ψ. Ψ) (at19 bs) (Lifetime.g-forget 𝓤 H A W E G166 19 Row.dead Path'.refl) (Typed.g-pre 𝓤 H A W 𝓣 E G167 G168 b55 Δ0
+              (Typed.pass T166 T168 (s165 bs)) (at18 bs) (Scalar.g-room 𝓤 H A W E G167 12 (Syntax.tyArray Rec.mir 4096) (Init.room-arr 𝓤 H A W Rec.rt 4096 0 4096 Path'.refl)) (Typed.g-pre 𝓤 H A W 𝓣 E G168 G1 b55 Δ0 (Typed.pass T168 T1 (s166 bs)) (at17 bs) (Scalar.g-room 𝓤 H A W E G168 2 (Syntax.tyInt Syntax.w64) (Scalar.room-sc 𝓤 H A W (Row.sInt Syntax.w64)))
               d17)))))
 
           d28 : Typed.Typed 𝓤 H A 𝓣 E G158 b55 Δ0 (at28 bs)
-          d28 = Typed.g-pre 𝓤 H A W 𝓣 E G158 G159 b55 Δ0 (λ Ψ. Ψ) (at27 bs) (Lifetime.g-forget 𝓤 H A W E G158 17 Row.dead Path'.refl) (Typed.g-pre 𝓤 H A W 𝓣 E G159 G160 b55 Δ0 (Typed.pass T158 T160 (s157 bs)) (at26 bs) (Scalar.g-room 𝓤 H A W E G159 10 ty·3 (Init.room-arr 𝓤 H A W (Referent.rtF (Referent.fInt Syntax.w16)) 32 0 32 Path'.refl)) (Typed.g-pre 𝓤 H
-              A W 𝓣 E G160 G161 b55 Δ0 (λ Ψ. Ψ) (at25 bs) (Lifetime.g-end 𝓤 H A W E G160 18 Path'.refl) (Typed.g-pre 𝓤 H A W 𝓣 E G161 G162 b55 Δ0 (Typed.both (s159 bs)) (at24 bs) (Borrow.g-back-arr 𝓤 H A W E (Referent.rtF (Referent.fInt Syntax.w8)) G161 50 11 18 32 ty·8 (λ x. x) (λ x. x) (Reads.as-is 𝓤 H A (Mut.msleft (Referent.rtF (Referent.fInt Syntax.w8))
-              ty·8)) (Reads.as-is 𝓤 H A (Rows.arr-owed (Referent.rtF (Referent.fInt Syntax.w8)) 32 18)) Path'.refl) (Typed.g-pre 𝓤 H A W 𝓣 E G162 G163 b55 Δ0 (λ Ψ. Ψ) (at23 bs) (Lifetime.g-forget 𝓤 H A W E G162 18 Row.dead Path'.refl) d23))))
+          d28 = Typed.g-pre 𝓤 H A W 𝓣 E G158 G159 b55 Δ0 (λ Ψ. Ψ) (at27 bs) (Lifetime.g-forget 𝓤 H A W E G158 17 Row.dead Path'.refl) (Typed.g-pre 𝓤 H A W 𝓣 E G159 G160 b55 Δ0 (Typed.pass T158 T160 (s157 bs)) (at26 bs) (Scalar.g-room 𝓤 H A W E G159 10 ty·2 (Init.room-arr 𝓤 H A W (Referent.rtF (Referent.fInt Syntax.w16)) 64 0 64 Path'.refl)) (Typed.g-pre 𝓤 H
+              A W 𝓣 E G160 G161 b55 Δ0 (λ Ψ. Ψ) (at25 bs) (Lifetime.g-end 𝓤 H A W E G160 18 Path'.refl) (Typed.g-pre 𝓤 H A W 𝓣 E G161 G162 b55 Δ0 (Typed.both (s159 bs)) (at24 bs) (Borrow.g-back-arr 𝓤 H A W E (Referent.rtF (Referent.fInt Syntax.w8)) G161 50 11 18 64 ty·8 (λ x. x) (λ x. x) (Reads.as-is 𝓤 H A (Mut.msleft (Referent.rtF (Referent.fInt Syntax.w8))
+              ty·8)) (Reads.as-is 𝓤 H A (Rows.arr-owed (Referent.rtF (Referent.fInt Syntax.w8)) 64 18)) Path'.refl) (Typed.g-pre 𝓤 H A W 𝓣 E G162 G163 b55 Δ0 (λ Ψ. Ψ) (at23 bs) (Lifetime.g-forget 𝓤 H A W E G162 18 Row.dead Path'.refl) d23))))
 
           d33 : Typed.Typed 𝓤 H A 𝓣 E G153 b55 Δ0 (at33 bs)
-          d33 = Typed.g-pre 𝓤 H A W 𝓣 E G153 G154 b55 Δ0 (Typed.pass T152 T154 (s151 bs)) (at32 bs) (Share.g-back-arr-shr 𝓤 H A W E (Referent.rtF (Referent.fInt Syntax.w32)) G153 9 1024 16 (λ x. x) (Reads.as-is 𝓤 H A (Rows.arr-shr (Referent.rtF (Referent.fInt Syntax.w32)) 1024 16)) Path'.refl) (Typed.g-pre 𝓤 H A W 𝓣 E G154 G155 b55 Δ0 (λ Ψ. Ψ) (at31 bs)
-              (Lifetime.g-forget 𝓤 H A W E G154 16 Row.dead Path'.refl) (Typed.g-pre 𝓤 H A W 𝓣 E G155 G156 b55 Δ0 (Typed.pass T154 T156 (s153 bs)) (at30 bs) (Scalar.g-room 𝓤 H A W E G155 9 ty·5 (Init.room-arr 𝓤 H A W (Referent.rtF (Referent.fInt Syntax.w32)) 1024 0 1024 Path'.refl)) (Typed.g-pre 𝓤 H A W 𝓣 E G156 G157 b55 Δ0 (λ Ψ. Ψ) (at29 bs) (Lifetime.g-end 𝓤 H
-              A W E G156 17 Path'.refl) (Typed.g-pre 𝓤 H A W 𝓣 E G157 G158 b55 Δ0 (Typed.both (s155 bs)) (at28 bs) (Borrow.g-back-arr 𝓤 H A W E (Referent.rtF (Referent.fInt Syntax.w16)) G157 48 10 17 32 ty·10 (λ x. x) (λ x. x) (Reads.as-is 𝓤 H A (Mut.msleft (Referent.rtF (Referent.fInt Syntax.w16)) ty·10)) (Reads.as-is 𝓤 H A (Rows.arr-owed (Referent.rtF
-              (Referent.fInt Syntax.w16)) 32 17)) Path'.refl) d28))))
+          d33 = Typed.g-pre 𝓤 H A W 𝓣 E G153 G154 b55 Δ0 (Typed.pass T152 T154 (s151 bs)) (at32 bs) (Share.g-back-arr-shr 𝓤 H A W E (Referent.rtF (Referent.fInt Syntax.w32)) G153 9 2048 16 (λ x. x) (Reads.as-is 𝓤 H A (Rows.arr-shr (Referent.rtF (Referent.fInt Syntax.w32)) 2048 16)) Path'.refl) (Typed.g-pre 𝓤 H A W 𝓣 E G154 G155 b55 Δ0 (λ Ψ. Ψ) (at31 bs)
+              (Lifetime.g-forget 𝓤 H A W E G154 16 Row.dead Path'.refl) (Typed.g-pre 𝓤 H A W 𝓣 E G155 G156 b55 Δ0 (Typed.pass T154 T156 (s153 bs)) (at30 bs) (Scalar.g-room 𝓤 H A W E G155 9 ty·5 (Init.room-arr 𝓤 H A W (Referent.rtF (Referent.fInt Syntax.w32)) 2048 0 2048 Path'.refl)) (Typed.g-pre 𝓤 H A W 𝓣 E G156 G157 b55 Δ0 (λ Ψ. Ψ) (at29 bs) (Lifetime.g-end 𝓤 H
+              A W E G156 17 Path'.refl) (Typed.g-pre 𝓤 H A W 𝓣 E G157 G158 b55 Δ0 (Typed.both (s155 bs)) (at28 bs) (Borrow.g-back-arr 𝓤 H A W E (Referent.rtF (Referent.fInt Syntax.w16)) G157 48 10 17 64 ty·10 (λ x. x) (λ x. x) (Reads.as-is 𝓤 H A (Mut.msleft (Referent.rtF (Referent.fInt Syntax.w16)) ty·10)) (Reads.as-is 𝓤 H A (Rows.arr-owed (Referent.rtF
+              (Referent.fInt Syntax.w16)) 64 17)) Path'.refl) d28))))
 
           d39 : Typed.Typed 𝓤 H A 𝓣 E G147 b55 Δ0 (at39 bs)
-          d39 = Typed.g-pre 𝓤 H A W 𝓣 E G147 G148 b55 Δ0 (Typed.pass T146 T148 (s145 bs)) (at38 bs) (Scalar.g-room 𝓤 H A W E G147 7 ty·3 (Init.room-arr 𝓤 H A W (Referent.rtF (Referent.fInt Syntax.w16)) 32 0 32 Path'.refl)) (Typed.g-pre 𝓤 H A W 𝓣 E G148 G149 b55 Δ0 (λ Ψ. Ψ) (at37 bs) (Lifetime.g-end 𝓤 H A W E G148 15 Path'.refl) (Typed.g-pre 𝓤 H A W 𝓣 E G149
-              G150 b55 Δ0 (Typed.pass T148 T150 (s147 bs)) (at36 bs) (Share.g-back-arr-shr 𝓤 H A W E (Referent.rtF (Referent.fInt Syntax.w16)) G149 8 1024 15 (λ x. x) (Reads.as-is 𝓤 H A (Rows.arr-shr (Referent.rtF (Referent.fInt Syntax.w16)) 1024 15)) Path'.refl) (Typed.g-pre 𝓤 H A W 𝓣 E G150 G151 b55 Δ0 (λ Ψ. Ψ) (at35 bs) (Lifetime.g-forget 𝓤 H A W E G150 15
-              Row.dead Path'.refl) (Typed.g-pre 𝓤 H A W 𝓣 E G151 G152 b55 Δ0 (Typed.pass T150 T152 (s149 bs)) (at34 bs) (Scalar.g-room 𝓤 H A W E G151 8 ty·4 (Init.room-arr 𝓤 H A W (Referent.rtF (Referent.fInt Syntax.w16)) 1024 0 1024 Path'.refl)) (Typed.g-pre 𝓤 H A W 𝓣 E G152 G153 b55 Δ0 (λ Ψ. Ψ) (at33 bs) (Lifetime.g-end 𝓤 H A W E G152 16 Path'.refl) d33)))))
+          d39 = Typed.g-pre 𝓤 H A W 𝓣 E G147 G148 b55 Δ0 (Typed.pass T146 T148 (s145 bs)) (at38 bs) (Scalar.g-room 𝓤 H A W E G147 7 ty·2 (Init.room-arr 𝓤 H A W (Referent.rtF (Referent.fInt Syntax.w16)) 64 0 64 Path'.refl)) (Typed.g-pre 𝓤 H A W 𝓣 E G148 G149 b55 Δ0 (λ Ψ. Ψ) (at37 bs) (Lifetime.g-end 𝓤 H A W E G148 15 Path'.refl) (Typed.g-pre 𝓤 H A W 𝓣 E G149
+              G150 b55 Δ0 (Typed.pass T148 T150 (s147 bs)) (at36 bs) (Share.g-back-arr-shr 𝓤 H A W E (Referent.rtF (Referent.fInt Syntax.w16)) G149 8 2048 15 (λ x. x) (Reads.as-is 𝓤 H A (Rows.arr-shr (Referent.rtF (Referent.fInt Syntax.w16)) 2048 15)) Path'.refl) (Typed.g-pre 𝓤 H A W 𝓣 E G150 G151 b55 Δ0 (λ Ψ. Ψ) (at35 bs) (Lifetime.g-forget 𝓤 H A W E G150 15
+              Row.dead Path'.refl) (Typed.g-pre 𝓤 H A W 𝓣 E G151 G152 b55 Δ0 (Typed.pass T150 T152 (s149 bs)) (at34 bs) (Scalar.g-room 𝓤 H A W E G151 8 ty·4 (Init.room-arr 𝓤 H A W (Referent.rtF (Referent.fInt Syntax.w16)) 2048 0 2048 Path'.refl)) (Typed.g-pre 𝓤 H A W 𝓣 E G152 G153 b55 Δ0 (λ Ψ. Ψ) (at33 bs) (Lifetime.g-end 𝓤 H A W E G152 16 Path'.refl) d33)))))
 
           d45 : Typed.Typed 𝓤 H A 𝓣 E G141 b55 Δ0 (at45 bs)
-          d45 = Typed.g-pre 𝓤 H A W 𝓣 E G141 G142 b55 Δ0 (Typed.pass T140 T142 (s139 bs)) (at44 bs) (Share.g-back-arr-shr 𝓤 H A W E (Referent.rtF (Referent.fInt Syntax.w8)) G141 6 768 13 (λ x. x) (Reads.as-is 𝓤 H A (Rows.arr-shr (Referent.rtF (Referent.fInt Syntax.w8)) 768 13)) Path'.refl) (Typed.g-pre 𝓤 H A W 𝓣 E G142 G143 b55 Δ0 (λ Ψ. Ψ) (at43 bs)
-              (Lifetime.g-forget 𝓤 H A W E G142 13 Row.dead Path'.refl) (Typed.g-pre 𝓤 H A W 𝓣 E G143 G144 b55 Δ0 (Typed.pass T142 T144 (s141 bs)) (at42 bs) (Scalar.g-room 𝓤 H A W E G143 6 ty·2 (Init.room-arr 𝓤 H A W (Referent.rtF (Referent.fInt Syntax.w8)) 768 0 768 Path'.refl)) (Typed.g-pre 𝓤 H A W 𝓣 E G144 G145 b55 Δ0 (λ Ψ. Ψ) (at41 bs) (Lifetime.g-end 𝓤 H A
-              W E G144 14 Path'.refl) (Typed.g-pre 𝓤 H A W 𝓣 E G145 G146 b55 Δ0 (Typed.pass T144 T146 (s143 bs)) (at40 bs) (Share.g-back-arr-shr 𝓤 H A W E (Referent.rtF (Referent.fInt Syntax.w16)) G145 7 32 14 (λ x. x) (Reads.as-is 𝓤 H A (Rows.arr-shr (Referent.rtF (Referent.fInt Syntax.w16)) 32 14)) Path'.refl) (Typed.g-pre 𝓤 H A W 𝓣 E G146 G147 b55 Δ0 (λ Ψ. Ψ)
-              (at39 bs) (Lifetime.g-forget 𝓤 H A W E G146 14 Row.dead Path'.refl) d39)))))
+          d45 = Typed.g-pre 𝓤 H A W 𝓣 E G141 G142 b55 Δ0 (Typed.pass T140 T142 (s139 bs)) (at44 bs) (Share.g-back-arr-shr 𝓤 H A W E (Referent.rtF (Referent.fInt Syntax.w8)) G141 6 1536 13 (λ x. x) (Reads.as-is 𝓤 H A (Rows.arr-shr (Referent.rtF (Referent.fInt Syntax.w8)) 1536 13)) Path'.refl) (Typed.g-pre 𝓤 H A W 𝓣 E G142 G143 b55 Δ0 (λ Ψ. Ψ) (at43 bs)
+              (Lifetime.g-forget 𝓤 H A W E G142 13 Row.dead Path'.refl) (Typed.g-pre 𝓤 H A W 𝓣 E G143 G144 b55 Δ0 (Typed.pass T142 T144 (s141 bs)) (at42 bs) (Scalar.g-room 𝓤 H A W E G143 6 ty·3 (Init.room-arr 𝓤 H A W (Referent.rtF (Referent.fInt Syntax.w8)) 1536 0 1536 Path'.refl)) (Typed.g-pre 𝓤 H A W 𝓣 E G144 G145 b55 Δ0 (λ Ψ. Ψ) (at41 bs) (Lifetime.g-end 𝓤 H
+              A W E G144 14 Path'.refl) (Typed.g-pre 𝓤 H A W 𝓣 E G145 G146 b55 Δ0 (Typed.pass T144 T146 (s143 bs)) (at40 bs) (Share.g-back-arr-shr 𝓤 H A W E (Referent.rtF (Referent.fInt Syntax.w16)) G145 7 64 14 (λ x. x) (Reads.as-is 𝓤 H A (Rows.arr-shr (Referent.rtF (Referent.fInt Syntax.w16)) 64 14)) Path'.refl) (Typed.g-pre 𝓤 H A W 𝓣 E G146 G147 b55 Δ0 (λ Ψ.
+              Ψ) (at39 bs) (Lifetime.g-forget 𝓤 H A W E G146 14 Row.dead Path'.refl) d39)))))
 
           d51 : Typed.Typed 𝓤 H A 𝓣 E G135 b55 Δ0 (at51 bs)
           d51 = Typed.g-pre 𝓤 H A W 𝓣 E G135 G136 b55 Δ0 (Typed.pass T134 T136 (s133 bs)) (at50 bs) (Scalar.g-room 𝓤 H A W E G135 4 ty·0 (Init.room-arr 𝓤 H A W (Referent.rtF (Referent.fInt Syntax.w16)) 1 0 1 Path'.refl)) (Typed.g-pre 𝓤 H A W 𝓣 E G136 G137 b55 Δ0 (λ Ψ. Ψ) (at49 bs) (Lifetime.g-end 𝓤 H A W E G136 12 Path'.refl) (Typed.g-pre 𝓤 H A W 𝓣 E G137
@@ -3079,52 +3079,52 @@ module _ (claims· : Claims) where
           d66 : Typed.Typed 𝓤 H A 𝓣 E G120 b58 Δ0 (at66 bs)
           d66 = Typed.g-pre 𝓤 H A W 𝓣 E G120 G121 b58 Δ0 (λ Ψ. Ψ) (at65 bs) (Lifetime.g-begin 𝓤 H A W E G120 19
               (tt, (tt, (tt, (tt, (tt, (tt, (tt, (tt, (tt, (tt, (tt, (tt, (tt, (tt, (tt, (tt, (tt, (tt, (tt, (tt, (tt, (tt, (tt, (tt, (tt, (tt, (tt, (tt, (tt, (tt, (tt, (tt, (tt, (tt, (tt, (tt, (tt, (tt, (tt, (tt, (tt, (tt, (tt, (tt, (tt, (tt, (tt, (tt, (tt, (tt, (tt, (tt, (tt, tt)))))))))))))))))))))))))))))))))))))))))))))))))))))) (Typed.s-seq 𝓤 H A W 𝓣 E
-              G121 G122 b52 b57 Δ0 (Typed.give (s119 bs)) (at64 bs) (Share.t-arr-share 𝓤 H A W E 𝓣 Rec.rt G121 12 51 2048 19 ty·17 (λ x. x) (Reads.as-is 𝓤 H A (Rows.arrF Rec.rt 2048 0)) (Reads.room-gone 𝓤 H A ty·17) Path'.refl (λ b o. tt) (Dec'.lit< tt, Dec'.lit< tt)) (Typed.s-seq 𝓤 H A W 𝓣 E G122 G123 b53 b56 Δ0 (Typed.ask (s120 bs)) (at63 bs)
-              (Relend.t-sl-aggregate 𝓤 H A W E Rec.rt 𝓣 (Relend.asShr Rec.rt) G122 51 52 19 ty·17 ty·7 (λ x. x) (Scalar.oBig Syntax.w64 2048) (Reads.as-is 𝓤 H A (Relend.ssptr Rec.rt ty·17 19)) (Reads.room-gone 𝓤 H A (Syntax.tyStruct (List._∷_ 38 (List._∷_ 91 (List._∷_ 93 List.[]))) (Syntax.tcons ty·7 (Syntax.tcons (Syntax.tyInt Syntax.w64) Syntax.tnil)))) record
+              G121 G122 b52 b57 Δ0 (Typed.give (s119 bs)) (at64 bs) (Share.t-arr-share 𝓤 H A W E 𝓣 Rec.rt G121 12 51 4096 19 ty·17 (λ x. x) (Reads.as-is 𝓤 H A (Rows.arrF Rec.rt 4096 0)) (Reads.room-gone 𝓤 H A ty·17) Path'.refl (λ b o. tt) (Dec'.lit< tt, Dec'.lit< tt)) (Typed.s-seq 𝓤 H A W 𝓣 E G122 G123 b53 b56 Δ0 (Typed.ask (s120 bs)) (at63 bs)
+              (Relend.t-sl-aggregate 𝓤 H A W E Rec.rt 𝓣 (Relend.asShr Rec.rt) G122 51 52 19 ty·17 ty·7 (λ x. x) (Scalar.oBig Syntax.w64 4096) (Reads.as-is 𝓤 H A (Relend.ssptr Rec.rt ty·17 19)) (Reads.room-gone 𝓤 H A (Syntax.tyStruct (List._∷_ 38 (List._∷_ 91 (List._∷_ 93 List.[]))) (Syntax.tcons ty·7 (Syntax.tcons (Syntax.tyInt Syntax.w64) Syntax.tnil)))) record
               { lower = record { fits = Dec'.lit< tt } } Path'.refl Path'.refl λ b o k. tt) d63))
 
           d68 : Typed.Typed 𝓤 H A 𝓣 E G118 b60 Δ0 (at68 bs)
-          d68 = Typed.s-seq 𝓤 H A W 𝓣 E G118 G119 b50 b59 Δ0 (Typed.give (s116 bs)) (at67 bs) (Borrow.t-arr-borrow 𝓤 H A W E 𝓣 (Referent.rtF (Referent.fInt Syntax.w8)) G118 11 49 32 18 (Syntax.tyRef Syntax.erased Syntax.mut ty·1) (λ x. x) (Reads.as-is 𝓤 H A (Rows.arrF (Referent.rtF (Referent.fInt Syntax.w8)) 32 0)) (Reads.room-gone 𝓤 H A (Syntax.tyRef
+          d68 = Typed.s-seq 𝓤 H A W 𝓣 E G118 G119 b50 b59 Δ0 (Typed.give (s116 bs)) (at67 bs) (Borrow.t-arr-borrow 𝓤 H A W E 𝓣 (Referent.rtF (Referent.fInt Syntax.w8)) G118 11 49 64 18 (Syntax.tyRef Syntax.erased Syntax.mut ty·1) (λ x. x) (Reads.as-is 𝓤 H A (Rows.arrF (Referent.rtF (Referent.fInt Syntax.w8)) 64 0)) (Reads.room-gone 𝓤 H A (Syntax.tyRef
               Syntax.erased Syntax.mut ty·1)) Path'.refl (λ b o. tt) (Dec'.lit< tt, Dec'.lit< tt)) (Typed.s-seq 𝓤 H A W 𝓣 E G119 G120 b51 b58 Δ0 (Typed.ask (s117 bs)) (at66 bs) (Relend.t-sl-aggregate 𝓤 H A W E (Referent.rtF (Referent.fInt Syntax.w8)) 𝓣 (Relend.asMut (Referent.rtF (Referent.fInt Syntax.w8))) G119 49 50 18 (Syntax.tyRef Syntax.erased Syntax.mut
-              ty·1) ty·8 (λ x. x) (Scalar.oInt Syntax.w64 32) (Reads.as-is 𝓤 H A (Relend.msptr (Referent.rtF (Referent.fInt Syntax.w8)) (Syntax.tyRef Syntax.erased Syntax.mut ty·1) 18)) (Reads.room-gone 𝓤 H A (Syntax.tyStruct (List._∷_ 38 (List._∷_ 91 (List._∷_ 93 List.[]))) (Syntax.tcons ty·8 (Syntax.tcons (Syntax.tyInt Syntax.w64) Syntax.tnil)))) tt Path'.refl
+              ty·1) ty·8 (λ x. x) (Scalar.oInt Syntax.w64 64) (Reads.as-is 𝓤 H A (Relend.msptr (Referent.rtF (Referent.fInt Syntax.w8)) (Syntax.tyRef Syntax.erased Syntax.mut ty·1) 18)) (Reads.room-gone 𝓤 H A (Syntax.tyStruct (List._∷_ 38 (List._∷_ 91 (List._∷_ 93 List.[]))) (Syntax.tcons ty·8 (Syntax.tcons (Syntax.tyInt Syntax.w64) Syntax.tnil)))) tt Path'.refl
               Path'.refl λ b o k. tt) d66)
 
           d70 : Typed.Typed 𝓤 H A 𝓣 E G116 b61 Δ0 (at70 bs)
-          d70 = Typed.s-seq 𝓤 H A W 𝓣 E G116 G117 b49 b60 Δ0 (Typed.ask (s114 bs)) (at69 bs) (Relend.t-sl-aggregate 𝓤 H A W E (Referent.rtF (Referent.fInt Syntax.w16)) 𝓣 (Relend.asMut (Referent.rtF (Referent.fInt Syntax.w16))) G116 47 48 17 (Syntax.tyRef Syntax.erased Syntax.mut ty·3) ty·10 (λ x. x) (Scalar.oInt Syntax.w64 32) (Reads.as-is 𝓤 H A
-              (Relend.msptr (Referent.rtF (Referent.fInt Syntax.w16)) (Syntax.tyRef Syntax.erased Syntax.mut ty·3) 17)) (Reads.room-gone 𝓤 H A (Syntax.tyStruct (List._∷_ 38 (List._∷_ 91 (List._∷_ 93 List.[]))) (Syntax.tcons ty·10 (Syntax.tcons (Syntax.tyInt Syntax.w64) Syntax.tnil)))) tt Path'.refl Path'.refl λ b o k. tt) (Typed.g-pre 𝓤 H A W 𝓣 E G117 G118 b60
+          d70 = Typed.s-seq 𝓤 H A W 𝓣 E G116 G117 b49 b60 Δ0 (Typed.ask (s114 bs)) (at69 bs) (Relend.t-sl-aggregate 𝓤 H A W E (Referent.rtF (Referent.fInt Syntax.w16)) 𝓣 (Relend.asMut (Referent.rtF (Referent.fInt Syntax.w16))) G116 47 48 17 (Syntax.tyRef Syntax.erased Syntax.mut ty·2) ty·10 (λ x. x) (Scalar.oInt Syntax.w64 64) (Reads.as-is 𝓤 H A
+              (Relend.msptr (Referent.rtF (Referent.fInt Syntax.w16)) (Syntax.tyRef Syntax.erased Syntax.mut ty·2) 17)) (Reads.room-gone 𝓤 H A (Syntax.tyStruct (List._∷_ 38 (List._∷_ 91 (List._∷_ 93 List.[]))) (Syntax.tcons ty·10 (Syntax.tcons (Syntax.tyInt Syntax.w64) Syntax.tnil)))) tt Path'.refl Path'.refl λ b o k. tt) (Typed.g-pre 𝓤 H A W 𝓣 E G117 G118 b60
               Δ0 (λ Ψ. Ψ) (at68 bs) (Lifetime.g-begin 𝓤 H A W E G117 18
               (tt, (tt, (tt, (tt, (tt, (tt, (tt, (tt, (tt, (tt, (tt, (tt, (tt, (tt, (tt, (tt, (tt, (tt, (tt, (tt, (tt, (tt, (tt, (tt, (tt, (tt, (tt, (tt, (tt, (tt, (tt, (tt, (tt, (tt, (tt, (tt, (tt, (tt, (tt, (tt, (tt, (tt, (tt, (tt, (tt, (tt, (tt, (tt, (tt, (tt, (tt, (tt, (tt, tt)))))))))))))))))))))))))))))))))))))))))))))))))))))) d68)
 
           d73 : Typed.Typed 𝓤 H A 𝓣 E G113 b63 Δ0 (at73 bs)
-          d73 = Typed.s-seq 𝓤 H A W 𝓣 E G113 G114 b47 b62 Δ0 (Typed.ask (s111 bs)) (at72 bs) (Relend.t-sl-aggregate 𝓤 H A W E (Referent.rtF (Referent.fInt Syntax.w32)) 𝓣 (Relend.asShr (Referent.rtF (Referent.fInt Syntax.w32))) G113 45 46 16 (Syntax.tyRef Syntax.erased Syntax.imm ty·5) ty·13 (λ x. x) (Scalar.oBig Syntax.w64 1024) (Reads.as-is 𝓤 H A
+          d73 = Typed.s-seq 𝓤 H A W 𝓣 E G113 G114 b47 b62 Δ0 (Typed.ask (s111 bs)) (at72 bs) (Relend.t-sl-aggregate 𝓤 H A W E (Referent.rtF (Referent.fInt Syntax.w32)) 𝓣 (Relend.asShr (Referent.rtF (Referent.fInt Syntax.w32))) G113 45 46 16 (Syntax.tyRef Syntax.erased Syntax.imm ty·5) ty·13 (λ x. x) (Scalar.oBig Syntax.w64 2048) (Reads.as-is 𝓤 H A
               (Relend.ssptr (Referent.rtF (Referent.fInt Syntax.w32)) (Syntax.tyRef Syntax.erased Syntax.imm ty·5) 16)) (Reads.room-gone 𝓤 H A (Syntax.tyStruct (List._∷_ 38 (List._∷_ 91 (List._∷_ 93 List.[]))) (Syntax.tcons ty·13 (Syntax.tcons (Syntax.tyInt Syntax.w64) Syntax.tnil)))) record { lower = record { fits = Dec'.lit< tt } } Path'.refl Path'.refl λ b o
               k. tt) (Typed.g-pre 𝓤 H A W 𝓣 E G114 G115 b62 Δ0 (λ Ψ. Ψ) (at71 bs) (Lifetime.g-begin 𝓤 H A W E G114 17
               (tt, (tt, (tt, (tt, (tt, (tt, (tt, (tt, (tt, (tt, (tt, (tt, (tt, (tt, (tt, (tt, (tt, (tt, (tt, (tt, (tt, (tt, (tt, (tt, (tt, (tt, (tt, (tt, (tt, (tt, (tt, (tt, (tt, (tt, (tt, (tt, (tt, (tt, (tt, (tt, (tt, (tt, (tt, (tt, (tt, (tt, (tt, (tt, (tt, (tt, (tt, (tt, (tt, tt)))))))))))))))))))))))))))))))))))))))))))))))))))))) (Typed.s-seq 𝓤 H A W 𝓣 E
-              G115 G116 b48 b61 Δ0 (Typed.give (s113 bs)) (at70 bs) (Borrow.t-arr-borrow 𝓤 H A W E 𝓣 (Referent.rtF (Referent.fInt Syntax.w16)) G115 10 47 32 17 (Syntax.tyRef Syntax.erased Syntax.mut ty·3) (λ x. x) (Reads.as-is 𝓤 H A (Rows.arrF (Referent.rtF (Referent.fInt Syntax.w16)) 32 0)) (Reads.room-gone 𝓤 H A (Syntax.tyRef Syntax.erased Syntax.mut ty·3))
+              G115 G116 b48 b61 Δ0 (Typed.give (s113 bs)) (at70 bs) (Borrow.t-arr-borrow 𝓤 H A W E 𝓣 (Referent.rtF (Referent.fInt Syntax.w16)) G115 10 47 64 17 (Syntax.tyRef Syntax.erased Syntax.mut ty·2) (λ x. x) (Reads.as-is 𝓤 H A (Rows.arrF (Referent.rtF (Referent.fInt Syntax.w16)) 64 0)) (Reads.room-gone 𝓤 H A (Syntax.tyRef Syntax.erased Syntax.mut ty·2))
               Path'.refl (λ b o. tt) (Dec'.lit< tt, Dec'.lit< tt)) d70))
 
           d76 : Typed.Typed 𝓤 H A 𝓣 E G110 b65 Δ0 (at76 bs)
-          d76 = Typed.s-seq 𝓤 H A W 𝓣 E G110 G111 b45 b64 Δ0 (Typed.ask (s108 bs)) (at75 bs) (Relend.t-sl-aggregate 𝓤 H A W E (Referent.rtF (Referent.fInt Syntax.w16)) 𝓣 (Relend.asShr (Referent.rtF (Referent.fInt Syntax.w16))) G110 43 44 15 (Syntax.tyRef Syntax.erased Syntax.imm ty·4) ty·12 (λ x. x) (Scalar.oBig Syntax.w64 1024) (Reads.as-is 𝓤 H A
+          d76 = Typed.s-seq 𝓤 H A W 𝓣 E G110 G111 b45 b64 Δ0 (Typed.ask (s108 bs)) (at75 bs) (Relend.t-sl-aggregate 𝓤 H A W E (Referent.rtF (Referent.fInt Syntax.w16)) 𝓣 (Relend.asShr (Referent.rtF (Referent.fInt Syntax.w16))) G110 43 44 15 (Syntax.tyRef Syntax.erased Syntax.imm ty·4) ty·12 (λ x. x) (Scalar.oBig Syntax.w64 2048) (Reads.as-is 𝓤 H A
               (Relend.ssptr (Referent.rtF (Referent.fInt Syntax.w16)) (Syntax.tyRef Syntax.erased Syntax.imm ty·4) 15)) (Reads.room-gone 𝓤 H A (Syntax.tyStruct (List._∷_ 38 (List._∷_ 91 (List._∷_ 93 List.[]))) (Syntax.tcons ty·12 (Syntax.tcons (Syntax.tyInt Syntax.w64) Syntax.tnil)))) record { lower = record { fits = Dec'.lit< tt } } Path'.refl Path'.refl λ b o
               k. tt) (Typed.g-pre 𝓤 H A W 𝓣 E G111 G112 b64 Δ0 (λ Ψ. Ψ) (at74 bs) (Lifetime.g-begin 𝓤 H A W E G111 16
               (tt, (tt, (tt, (tt, (tt, (tt, (tt, (tt, (tt, (tt, (tt, (tt, (tt, (tt, (tt, (tt, (tt, (tt, (tt, (tt, (tt, (tt, (tt, (tt, (tt, (tt, (tt, (tt, (tt, (tt, (tt, (tt, (tt, (tt, (tt, (tt, (tt, (tt, (tt, (tt, (tt, (tt, (tt, (tt, (tt, (tt, (tt, (tt, (tt, (tt, (tt, (tt, (tt, tt)))))))))))))))))))))))))))))))))))))))))))))))))))))) (Typed.s-seq 𝓤 H A W 𝓣 E
-              G112 G113 b46 b63 Δ0 (Typed.give (s110 bs)) (at73 bs) (Share.t-arr-share 𝓤 H A W E 𝓣 (Referent.rtF (Referent.fInt Syntax.w32)) G112 9 45 1024 16 (Syntax.tyRef Syntax.erased Syntax.imm ty·5) (λ x. x) (Reads.as-is 𝓤 H A (Rows.arrF (Referent.rtF (Referent.fInt Syntax.w32)) 1024 0)) (Reads.room-gone 𝓤 H A (Syntax.tyRef Syntax.erased Syntax.imm ty·5))
+              G112 G113 b46 b63 Δ0 (Typed.give (s110 bs)) (at73 bs) (Share.t-arr-share 𝓤 H A W E 𝓣 (Referent.rtF (Referent.fInt Syntax.w32)) G112 9 45 2048 16 (Syntax.tyRef Syntax.erased Syntax.imm ty·5) (λ x. x) (Reads.as-is 𝓤 H A (Rows.arrF (Referent.rtF (Referent.fInt Syntax.w32)) 2048 0)) (Reads.room-gone 𝓤 H A (Syntax.tyRef Syntax.erased Syntax.imm ty·5))
               Path'.refl (λ b o. tt) (Dec'.lit< tt, Dec'.lit< tt)) d73))
 
           d79 : Typed.Typed 𝓤 H A 𝓣 E G107 b67 Δ0 (at79 bs)
-          d79 = Typed.s-seq 𝓤 H A W 𝓣 E G107 G108 b43 b66 Δ0 (Typed.ask (s105 bs)) (at78 bs) (Relend.t-sl-aggregate 𝓤 H A W E (Referent.rtF (Referent.fInt Syntax.w16)) 𝓣 (Relend.asShr (Referent.rtF (Referent.fInt Syntax.w16))) G107 41 42 14 (Syntax.tyRef Syntax.erased Syntax.imm ty·3) ty·12 (λ x. x) (Scalar.oInt Syntax.w64 32) (Reads.as-is 𝓤 H A
-              (Relend.ssptr (Referent.rtF (Referent.fInt Syntax.w16)) (Syntax.tyRef Syntax.erased Syntax.imm ty·3) 14)) (Reads.room-gone 𝓤 H A (Syntax.tyStruct (List._∷_ 38 (List._∷_ 91 (List._∷_ 93 List.[]))) (Syntax.tcons ty·12 (Syntax.tcons (Syntax.tyInt Syntax.w64) Syntax.tnil)))) tt Path'.refl Path'.refl λ b o k. tt) (Typed.g-pre 𝓤 H A W 𝓣 E G108 G109 b66
+          d79 = Typed.s-seq 𝓤 H A W 𝓣 E G107 G108 b43 b66 Δ0 (Typed.ask (s105 bs)) (at78 bs) (Relend.t-sl-aggregate 𝓤 H A W E (Referent.rtF (Referent.fInt Syntax.w16)) 𝓣 (Relend.asShr (Referent.rtF (Referent.fInt Syntax.w16))) G107 41 42 14 (Syntax.tyRef Syntax.erased Syntax.imm ty·2) ty·12 (λ x. x) (Scalar.oInt Syntax.w64 64) (Reads.as-is 𝓤 H A
+              (Relend.ssptr (Referent.rtF (Referent.fInt Syntax.w16)) (Syntax.tyRef Syntax.erased Syntax.imm ty·2) 14)) (Reads.room-gone 𝓤 H A (Syntax.tyStruct (List._∷_ 38 (List._∷_ 91 (List._∷_ 93 List.[]))) (Syntax.tcons ty·12 (Syntax.tcons (Syntax.tyInt Syntax.w64) Syntax.tnil)))) tt Path'.refl Path'.refl λ b o k. tt) (Typed.g-pre 𝓤 H A W 𝓣 E G108 G109 b66
               Δ0 (λ Ψ. Ψ) (at77 bs) (Lifetime.g-begin 𝓤 H A W E G108 15
               (tt, (tt, (tt, (tt, (tt, (tt, (tt, (tt, (tt, (tt, (tt, (tt, (tt, (tt, (tt, (tt, (tt, (tt, (tt, (tt, (tt, (tt, (tt, (tt, (tt, (tt, (tt, (tt, (tt, (tt, (tt, (tt, (tt, (tt, (tt, (tt, (tt, (tt, (tt, (tt, (tt, (tt, (tt, (tt, (tt, (tt, (tt, (tt, (tt, (tt, (tt, (tt, (tt, tt)))))))))))))))))))))))))))))))))))))))))))))))))))))) (Typed.s-seq 𝓤 H A W 𝓣 E
-              G109 G110 b44 b65 Δ0 (Typed.give (s107 bs)) (at76 bs) (Share.t-arr-share 𝓤 H A W E 𝓣 (Referent.rtF (Referent.fInt Syntax.w16)) G109 8 43 1024 15 (Syntax.tyRef Syntax.erased Syntax.imm ty·4) (λ x. x) (Reads.as-is 𝓤 H A (Rows.arrF (Referent.rtF (Referent.fInt Syntax.w16)) 1024 0)) (Reads.room-gone 𝓤 H A (Syntax.tyRef Syntax.erased Syntax.imm ty·4))
+              G109 G110 b44 b65 Δ0 (Typed.give (s107 bs)) (at76 bs) (Share.t-arr-share 𝓤 H A W E 𝓣 (Referent.rtF (Referent.fInt Syntax.w16)) G109 8 43 2048 15 (Syntax.tyRef Syntax.erased Syntax.imm ty·4) (λ x. x) (Reads.as-is 𝓤 H A (Rows.arrF (Referent.rtF (Referent.fInt Syntax.w16)) 2048 0)) (Reads.room-gone 𝓤 H A (Syntax.tyRef Syntax.erased Syntax.imm ty·4))
               Path'.refl (λ b o. tt) (Dec'.lit< tt, Dec'.lit< tt)) d76))
 
           d82 : Typed.Typed 𝓤 H A 𝓣 E G104 b69 Δ0 (at82 bs)
-          d82 = Typed.s-seq 𝓤 H A W 𝓣 E G104 G105 b41 b68 Δ0 (Typed.ask (s102 bs)) (at81 bs) (Relend.t-sl-aggregate 𝓤 H A W E (Referent.rtF (Referent.fInt Syntax.w8)) 𝓣 (Relend.asShr (Referent.rtF (Referent.fInt Syntax.w8))) G104 39 40 13 (Syntax.tyRef Syntax.erased Syntax.imm ty·2) ty·9 (λ x. x) (Scalar.oInt Syntax.w64 768) (Reads.as-is 𝓤 H A (Relend.ssptr
-              (Referent.rtF (Referent.fInt Syntax.w8)) (Syntax.tyRef Syntax.erased Syntax.imm ty·2) 13)) (Reads.room-gone 𝓤 H A (Syntax.tyStruct (List._∷_ 38 (List._∷_ 91 (List._∷_ 93 List.[]))) (Syntax.tcons ty·9 (Syntax.tcons (Syntax.tyInt Syntax.w64) Syntax.tnil)))) tt Path'.refl Path'.refl λ b o k. tt) (Typed.g-pre 𝓤 H A W 𝓣 E G105 G106 b68 Δ0 (λ Ψ. Ψ) (at80
-              bs) (Lifetime.g-begin 𝓤 H A W E G105 14
+          d82 = Typed.s-seq 𝓤 H A W 𝓣 E G104 G105 b41 b68 Δ0 (Typed.ask (s102 bs)) (at81 bs) (Relend.t-sl-aggregate 𝓤 H A W E (Referent.rtF (Referent.fInt Syntax.w8)) 𝓣 (Relend.asShr (Referent.rtF (Referent.fInt Syntax.w8))) G104 39 40 13 (Syntax.tyRef Syntax.erased Syntax.imm ty·3) ty·9 (λ x. x) (Scalar.oBig Syntax.w64 1536) (Reads.as-is 𝓤 H A (Relend.ssptr
+              (Referent.rtF (Referent.fInt Syntax.w8)) (Syntax.tyRef Syntax.erased Syntax.imm ty·3) 13)) (Reads.room-gone 𝓤 H A (Syntax.tyStruct (List._∷_ 38 (List._∷_ 91 (List._∷_ 93 List.[]))) (Syntax.tcons ty·9 (Syntax.tcons (Syntax.tyInt Syntax.w64) Syntax.tnil)))) record { lower = record { fits = Dec'.lit< tt } } Path'.refl Path'.refl λ b o k. tt)
+              (Typed.g-pre 𝓤 H A W 𝓣 E G105 G106 b68 Δ0 (λ Ψ. Ψ) (at80 bs) (Lifetime.g-begin 𝓤 H A W E G105 14
               (tt, (tt, (tt, (tt, (tt, (tt, (tt, (tt, (tt, (tt, (tt, (tt, (tt, (tt, (tt, (tt, (tt, (tt, (tt, (tt, (tt, (tt, (tt, (tt, (tt, (tt, (tt, (tt, (tt, (tt, (tt, (tt, (tt, (tt, (tt, (tt, (tt, (tt, (tt, (tt, (tt, (tt, (tt, (tt, (tt, (tt, (tt, (tt, (tt, (tt, (tt, (tt, (tt, tt)))))))))))))))))))))))))))))))))))))))))))))))))))))) (Typed.s-seq 𝓤 H A W 𝓣 E
-              G106 G107 b42 b67 Δ0 (Typed.give (s104 bs)) (at79 bs) (Share.t-arr-share 𝓤 H A W E 𝓣 (Referent.rtF (Referent.fInt Syntax.w16)) G106 7 41 32 14 (Syntax.tyRef Syntax.erased Syntax.imm ty·3) (λ x. x) (Reads.as-is 𝓤 H A (Rows.arrF (Referent.rtF (Referent.fInt Syntax.w16)) 32 0)) (Reads.room-gone 𝓤 H A (Syntax.tyRef Syntax.erased Syntax.imm ty·3))
+              G106 G107 b42 b67 Δ0 (Typed.give (s104 bs)) (at79 bs) (Share.t-arr-share 𝓤 H A W E 𝓣 (Referent.rtF (Referent.fInt Syntax.w16)) G106 7 41 64 14 (Syntax.tyRef Syntax.erased Syntax.imm ty·2) (λ x. x) (Reads.as-is 𝓤 H A (Rows.arrF (Referent.rtF (Referent.fInt Syntax.w16)) 64 0)) (Reads.room-gone 𝓤 H A (Syntax.tyRef Syntax.erased Syntax.imm ty·2))
               Path'.refl (λ b o. tt) (Dec'.lit< tt, Dec'.lit< tt)) d79))
 
           d85 : Typed.Typed 𝓤 H A 𝓣 E G101 b71 Δ0 (at85 bs)
@@ -3132,7 +3132,7 @@ module _ (claims· : Claims) where
               (Referent.rtF (Referent.fInt Syntax.w16)) (Syntax.tyRef Syntax.erased Syntax.imm ty·0) 12)) (Reads.room-gone 𝓤 H A (Syntax.tyStruct (List._∷_ 38 (List._∷_ 91 (List._∷_ 93 List.[]))) (Syntax.tcons ty·12 (Syntax.tcons (Syntax.tyInt Syntax.w64) Syntax.tnil)))) tt Path'.refl Path'.refl λ b o k. tt) (Typed.g-pre 𝓤 H A W 𝓣 E G102 G103 b70 Δ0 (λ Ψ. Ψ)
               (at83 bs) (Lifetime.g-begin 𝓤 H A W E G102 13
               (tt, (tt, (tt, (tt, (tt, (tt, (tt, (tt, (tt, (tt, (tt, (tt, (tt, (tt, (tt, (tt, (tt, (tt, (tt, (tt, (tt, (tt, (tt, (tt, (tt, (tt, (tt, (tt, (tt, (tt, (tt, (tt, (tt, (tt, (tt, (tt, (tt, (tt, (tt, (tt, (tt, (tt, (tt, (tt, (tt, (tt, (tt, (tt, (tt, (tt, (tt, (tt, (tt, tt)))))))))))))))))))))))))))))))))))))))))))))))))))))) (Typed.s-seq 𝓤 H A W 𝓣 E
-              G103 G104 b40 b69 Δ0 (Typed.give (s101 bs)) (at82 bs) (Share.t-arr-share 𝓤 H A W E 𝓣 (Referent.rtF (Referent.fInt Syntax.w8)) G103 6 39 768 13 (Syntax.tyRef Syntax.erased Syntax.imm ty·2) (λ x. x) (Reads.as-is 𝓤 H A (Rows.arrF (Referent.rtF (Referent.fInt Syntax.w8)) 768 0)) (Reads.room-gone 𝓤 H A (Syntax.tyRef Syntax.erased Syntax.imm ty·2))
+              G103 G104 b40 b69 Δ0 (Typed.give (s101 bs)) (at82 bs) (Share.t-arr-share 𝓤 H A W E 𝓣 (Referent.rtF (Referent.fInt Syntax.w8)) G103 6 39 1536 13 (Syntax.tyRef Syntax.erased Syntax.imm ty·3) (λ x. x) (Reads.as-is 𝓤 H A (Rows.arrF (Referent.rtF (Referent.fInt Syntax.w8)) 1536 0)) (Reads.room-gone 𝓤 H A (Syntax.tyRef Syntax.erased Syntax.imm ty·3))
               Path'.refl (λ b o. tt) (Dec'.lit< tt, Dec'.lit< tt)) d82))
 
           d88 : Typed.Typed 𝓤 H A 𝓣 E G98 b73 Δ0 (at88 bs)
@@ -3163,27 +3163,27 @@ module _ (claims· : Claims) where
               (Syntax.tyInt Syntax.w64) (Row.valS (Row.sInt Syntax.w64))) (Scalar.oInt Syntax.w64 0) 34 (Rows'.sc-here Row.sBool) Syntax.tyBool (Row.valS Row.sBool) (Row.sBool .of) (Scalar.reads-sc 𝓤 H A W (Row.sInt Syntax.w64), Path'.refl) tt (Reads.room-gone 𝓤 H A Syntax.tyBool) (Scalar.holds-sc 𝓤 H A W Row.sBool) Path'.refl (λ u. Path'.refl) λ u. tt) d91)
 
           d96 : Typed.Typed 𝓤 H A 𝓣 E G76 b77 Δ0 (at96 bs)
-          d96 = Typed.g-pre 𝓤 H A W 𝓣 E G76 G77 b77 Δ0 (Typed.both (s75 bs)) (at95 bs) (Borrow.g-back-arr 𝓤 H A W E Rec.rt G76 33 12 10 2048 ty·6 (λ x. x) (λ x. x) (Reads.as-is 𝓤 H A (Mut.msleft Rec.rt ty·6)) (Reads.as-is 𝓤 H A (Rows.arr-owed Rec.rt 2048 10)) Path'.refl) (Typed.g-pre 𝓤 H A W 𝓣 E G77 G78 b77 Δ0 (λ Ψ. Ψ) (at94 bs) (Lifetime.g-forget 𝓤 H A W E
+          d96 = Typed.g-pre 𝓤 H A W 𝓣 E G76 G77 b77 Δ0 (Typed.both (s75 bs)) (at95 bs) (Borrow.g-back-arr 𝓤 H A W E Rec.rt G76 33 12 10 4096 ty·6 (λ x. x) (λ x. x) (Reads.as-is 𝓤 H A (Mut.msleft Rec.rt ty·6)) (Reads.as-is 𝓤 H A (Rows.arr-owed Rec.rt 4096 10)) Path'.refl) (Typed.g-pre 𝓤 H A W 𝓣 E G77 G78 b77 Δ0 (λ Ψ. Ψ) (at94 bs) (Lifetime.g-forget 𝓤 H A W E
               G77 10 Row.dead Path'.refl) (Typed.s-seq 𝓤 H A W 𝓣 E G78 G79 b29 b76 Δ0 (Typed.both (s77 bs)) (at93 bs) (Plain.t-call-plain 𝓤 H A W 𝓣 0 ps·2 r·2 (claims· .4) (claims· .5) "dispatch::program::number_of" (known .2) E (λ pos β. β) G78 (record { pos = 13; st = List.[]; d = 0; at = λ x. x }, tt) 14 List.[] (Call.sub-id 𝓤 H A W (G78 .slots))
               ((Yields.yields-copy 𝓤 H A W (λ ρ. Unit) (Declared.row Reading.the-type) Path'.refl (Copies.cEnum Reading.the-type Laws'.the-laws Laws'.the-copy .copy 𝓤 H A W) (Rows'.whole (Declared.row Reading.the-type)) (λ x. x) (λ x. x) (λ ρ told. Local.mem-whole 𝓤 H A W (Declared.row Reading.the-type) ρ) λ ρ told. Local.whole-mem 𝓤 H A W (Declared.row Reading.the-type) ρ, Path'.refl), tt)
               (Reads.room-gone 𝓤 H A (Syntax.tyInt Syntax.w64)) tt Path'.refl) d93))
 
           d102 : Typed.Typed 𝓤 H A 𝓣 E G70 b77 Δ0 (at102 bs)
-          d102 = Typed.g-pre 𝓤 H A W 𝓣 E G70 G71 b77 Δ0 (Typed.both (s69 bs)) (at101 bs) (Borrow.g-back-arr 𝓤 H A W E (Referent.rtF (Referent.fInt Syntax.w16)) G70 29 10 8 32 ty·10 (λ x. x) (λ x. x) (Reads.as-is 𝓤 H A (Mut.msleft (Referent.rtF (Referent.fInt Syntax.w16)) ty·10)) (Reads.as-is 𝓤 H A (Rows.arr-owed (Referent.rtF (Referent.fInt Syntax.w16)) 32
+          d102 = Typed.g-pre 𝓤 H A W 𝓣 E G70 G71 b77 Δ0 (Typed.both (s69 bs)) (at101 bs) (Borrow.g-back-arr 𝓤 H A W E (Referent.rtF (Referent.fInt Syntax.w16)) G70 29 10 8 64 ty·10 (λ x. x) (λ x. x) (Reads.as-is 𝓤 H A (Mut.msleft (Referent.rtF (Referent.fInt Syntax.w16)) ty·10)) (Reads.as-is 𝓤 H A (Rows.arr-owed (Referent.rtF (Referent.fInt Syntax.w16)) 64
               8)) Path'.refl) (Typed.g-pre 𝓤 H A W 𝓣 E G71 G72 b77 Δ0 (λ Ψ. Ψ) (at100 bs) (Lifetime.g-forget 𝓤 H A W E G71 8 Row.dead Path'.refl) (Typed.g-pre 𝓤 H A W 𝓣 E G72 G73 b77 Δ0 (λ Ψ. Ψ) (at99 bs) (Lifetime.g-end 𝓤 H A W E G72 9 Path'.refl) (Typed.g-pre 𝓤 H A W 𝓣 E G73 G74 b77 Δ0 (Typed.both (s72 bs)) (at98 bs) (Borrow.g-back-arr 𝓤 H A W E (Referent.rtF
-              (Referent.fInt Syntax.w8)) G73 31 11 9 32 ty·8 (λ x. x) (λ x. x) (Reads.as-is 𝓤 H A (Mut.msleft (Referent.rtF (Referent.fInt Syntax.w8)) ty·8)) (Reads.as-is 𝓤 H A (Rows.arr-owed (Referent.rtF (Referent.fInt Syntax.w8)) 32 9)) Path'.refl) (Typed.g-pre 𝓤 H A W 𝓣 E G74 G75 b77 Δ0 (λ Ψ. Ψ) (at97 bs) (Lifetime.g-forget 𝓤 H A W E G74 9 Row.dead
+              (Referent.fInt Syntax.w8)) G73 31 11 9 64 ty·8 (λ x. x) (λ x. x) (Reads.as-is 𝓤 H A (Mut.msleft (Referent.rtF (Referent.fInt Syntax.w8)) ty·8)) (Reads.as-is 𝓤 H A (Rows.arr-owed (Referent.rtF (Referent.fInt Syntax.w8)) 64 9)) Path'.refl) (Typed.g-pre 𝓤 H A W 𝓣 E G74 G75 b77 Δ0 (λ Ψ. Ψ) (at97 bs) (Lifetime.g-forget 𝓤 H A W E G74 9 Row.dead
               Path'.refl) (Typed.g-pre 𝓤 H A W 𝓣 E G75 G76 b77 Δ0 (λ Ψ. Ψ) (at96 bs) (Lifetime.g-end 𝓤 H A W E G75 10 Path'.refl) d96)))))
 
           d108 : Typed.Typed 𝓤 H A 𝓣 E G64 b77 Δ0 (at108 bs)
-          d108 = Typed.g-pre 𝓤 H A W 𝓣 E G64 G65 b77 Δ0 (Typed.both (s63 bs)) (at107 bs) (Borrow.g-back-arr 𝓤 H A W E (Referent.rtF (Referent.fInt Syntax.w16)) G64 25 8 6 1024 ty·10 (λ x. x) (λ x. x) (Reads.as-is 𝓤 H A (Mut.msleft (Referent.rtF (Referent.fInt Syntax.w16)) ty·10)) (Reads.as-is 𝓤 H A (Rows.arr-owed (Referent.rtF (Referent.fInt Syntax.w16))
-              1024 6)) Path'.refl) (Typed.g-pre 𝓤 H A W 𝓣 E G65 G66 b77 Δ0 (λ Ψ. Ψ) (at106 bs) (Lifetime.g-forget 𝓤 H A W E G65 6 Row.dead Path'.refl) (Typed.g-pre 𝓤 H A W 𝓣 E G66 G67 b77 Δ0 (λ Ψ. Ψ) (at105 bs) (Lifetime.g-end 𝓤 H A W E G66 7 Path'.refl) (Typed.g-pre 𝓤 H A W 𝓣 E G67 G68 b77 Δ0 (Typed.both (s66 bs)) (at104 bs) (Borrow.g-back-arr 𝓤 H A W E
-              (Referent.rtF (Referent.fInt Syntax.w32)) G67 27 9 7 1024 ty·11 (λ x. x) (λ x. x) (Reads.as-is 𝓤 H A (Mut.msleft (Referent.rtF (Referent.fInt Syntax.w32)) ty·11)) (Reads.as-is 𝓤 H A (Rows.arr-owed (Referent.rtF (Referent.fInt Syntax.w32)) 1024 7)) Path'.refl) (Typed.g-pre 𝓤 H A W 𝓣 E G68 G69 b77 Δ0 (λ Ψ. Ψ) (at103 bs) (Lifetime.g-forget 𝓤 H A W E
+          d108 = Typed.g-pre 𝓤 H A W 𝓣 E G64 G65 b77 Δ0 (Typed.both (s63 bs)) (at107 bs) (Borrow.g-back-arr 𝓤 H A W E (Referent.rtF (Referent.fInt Syntax.w16)) G64 25 8 6 2048 ty·10 (λ x. x) (λ x. x) (Reads.as-is 𝓤 H A (Mut.msleft (Referent.rtF (Referent.fInt Syntax.w16)) ty·10)) (Reads.as-is 𝓤 H A (Rows.arr-owed (Referent.rtF (Referent.fInt Syntax.w16))
+              2048 6)) Path'.refl) (Typed.g-pre 𝓤 H A W 𝓣 E G65 G66 b77 Δ0 (λ Ψ. Ψ) (at106 bs) (Lifetime.g-forget 𝓤 H A W E G65 6 Row.dead Path'.refl) (Typed.g-pre 𝓤 H A W 𝓣 E G66 G67 b77 Δ0 (λ Ψ. Ψ) (at105 bs) (Lifetime.g-end 𝓤 H A W E G66 7 Path'.refl) (Typed.g-pre 𝓤 H A W 𝓣 E G67 G68 b77 Δ0 (Typed.both (s66 bs)) (at104 bs) (Borrow.g-back-arr 𝓤 H A W E
+              (Referent.rtF (Referent.fInt Syntax.w32)) G67 27 9 7 2048 ty·11 (λ x. x) (λ x. x) (Reads.as-is 𝓤 H A (Mut.msleft (Referent.rtF (Referent.fInt Syntax.w32)) ty·11)) (Reads.as-is 𝓤 H A (Rows.arr-owed (Referent.rtF (Referent.fInt Syntax.w32)) 2048 7)) Path'.refl) (Typed.g-pre 𝓤 H A W 𝓣 E G68 G69 b77 Δ0 (λ Ψ. Ψ) (at103 bs) (Lifetime.g-forget 𝓤 H A W E
               G68 7 Row.dead Path'.refl) (Typed.g-pre 𝓤 H A W 𝓣 E G69 G70 b77 Δ0 (λ Ψ. Ψ) (at102 bs) (Lifetime.g-end 𝓤 H A W E G69 8 Path'.refl) d102)))))
 
           d114 : Typed.Typed 𝓤 H A 𝓣 E G58 b77 Δ0 (at114 bs)
-          d114 = Typed.g-pre 𝓤 H A W 𝓣 E G58 G59 b77 Δ0 (Typed.both (s57 bs)) (at113 bs) (Borrow.g-back-arr 𝓤 H A W E (Referent.rtF (Referent.fInt Syntax.w8)) G58 21 6 4 768 ty·8 (λ x. x) (λ x. x) (Reads.as-is 𝓤 H A (Mut.msleft (Referent.rtF (Referent.fInt Syntax.w8)) ty·8)) (Reads.as-is 𝓤 H A (Rows.arr-owed (Referent.rtF (Referent.fInt Syntax.w8)) 768 4))
+          d114 = Typed.g-pre 𝓤 H A W 𝓣 E G58 G59 b77 Δ0 (Typed.both (s57 bs)) (at113 bs) (Borrow.g-back-arr 𝓤 H A W E (Referent.rtF (Referent.fInt Syntax.w8)) G58 21 6 4 1536 ty·8 (λ x. x) (λ x. x) (Reads.as-is 𝓤 H A (Mut.msleft (Referent.rtF (Referent.fInt Syntax.w8)) ty·8)) (Reads.as-is 𝓤 H A (Rows.arr-owed (Referent.rtF (Referent.fInt Syntax.w8)) 1536 4))
               Path'.refl) (Typed.g-pre 𝓤 H A W 𝓣 E G59 G60 b77 Δ0 (λ Ψ. Ψ) (at112 bs) (Lifetime.g-forget 𝓤 H A W E G59 4 Row.dead Path'.refl) (Typed.g-pre 𝓤 H A W 𝓣 E G60 G61 b77 Δ0 (λ Ψ. Ψ) (at111 bs) (Lifetime.g-end 𝓤 H A W E G60 5 Path'.refl) (Typed.g-pre 𝓤 H A W 𝓣 E G61 G62 b77 Δ0 (Typed.both (s60 bs)) (at110 bs) (Borrow.g-back-arr 𝓤 H A W E (Referent.rtF
-              (Referent.fInt Syntax.w16)) G61 23 7 5 32 ty·10 (λ x. x) (λ x. x) (Reads.as-is 𝓤 H A (Mut.msleft (Referent.rtF (Referent.fInt Syntax.w16)) ty·10)) (Reads.as-is 𝓤 H A (Rows.arr-owed (Referent.rtF (Referent.fInt Syntax.w16)) 32 5)) Path'.refl) (Typed.g-pre 𝓤 H A W 𝓣 E G62 G63 b77 Δ0 (λ Ψ. Ψ) (at109 bs) (Lifetime.g-forget 𝓤 H A W E G62 5 Row.dead
+              (Referent.fInt Syntax.w16)) G61 23 7 5 64 ty·10 (λ x. x) (λ x. x) (Reads.as-is 𝓤 H A (Mut.msleft (Referent.rtF (Referent.fInt Syntax.w16)) ty·10)) (Reads.as-is 𝓤 H A (Rows.arr-owed (Referent.rtF (Referent.fInt Syntax.w16)) 64 5)) Path'.refl) (Typed.g-pre 𝓤 H A W 𝓣 E G62 G63 b77 Δ0 (λ Ψ. Ψ) (at109 bs) (Lifetime.g-forget 𝓤 H A W E G62 5 Row.dead
               Path'.refl) (Typed.g-pre 𝓤 H A W 𝓣 E G63 G64 b77 Δ0 (λ Ψ. Ψ) (at108 bs) (Lifetime.g-end 𝓤 H A W E G63 6 Path'.refl) d108)))))
 
           d120 : Typed.Typed 𝓤 H A 𝓣 E G52 b77 Δ0 (at120 bs)
@@ -3206,52 +3206,52 @@ module _ (claims· : Claims) where
           d125 : Typed.Typed 𝓤 H A 𝓣 E G47 b80 Δ0 (at125 bs)
           d125 = Typed.g-pre 𝓤 H A W 𝓣 E G47 G48 b80 Δ0 (λ Ψ. Ψ) (at124 bs) (Lifetime.g-begin 𝓤 H A W E G47 10
               (tt, (tt, (tt, (tt, (tt, (tt, (tt, (tt, (tt, (tt, (tt, (tt, (tt, (tt, (tt, (tt, (tt, (tt, (tt, (tt, (tt, (tt, (tt, (tt, (tt, (tt, (tt, (tt, (tt, (tt, (tt, (tt, (tt, (tt, (tt, (tt, (tt, (tt, (tt, (tt, (tt, (tt, (tt, (tt, (tt, (tt, (tt, (tt, (tt, (tt, (tt, (tt, (tt, tt)))))))))))))))))))))))))))))))))))))))))))))))))))))) (Typed.s-seq 𝓤 H A W 𝓣 E G48
-              G49 b26 b79 Δ0 (Typed.give (s47 bs)) (at123 bs) (Borrow.t-arr-borrow 𝓤 H A W E 𝓣 Rec.rt G48 12 32 2048 10 ty·16 (λ x. x) (Reads.as-is 𝓤 H A (Rows.arrF Rec.rt 2048 0)) (Reads.room-gone 𝓤 H A ty·16) Path'.refl (λ b o. tt) (Dec'.lit< tt, Dec'.lit< tt)) (Typed.s-seq 𝓤 H A W 𝓣 E G49 G50 b27 b78 Δ0 (Typed.ask (s48 bs)) (at122 bs) (Relend.t-sl-aggregate 𝓤
-              H A W E Rec.rt 𝓣 (Relend.asMut Rec.rt) G49 32 33 10 ty·16 ty·6 (λ x. x) (Scalar.oBig Syntax.w64 2048) (Reads.as-is 𝓤 H A (Relend.msptr Rec.rt ty·16 10)) (Reads.room-gone 𝓤 H A (Syntax.tyStruct (List._∷_ 38 (List._∷_ 91 (List._∷_ 93 List.[]))) (Syntax.tcons ty·6 (Syntax.tcons (Syntax.tyInt Syntax.w64) Syntax.tnil)))) record
+              G49 b26 b79 Δ0 (Typed.give (s47 bs)) (at123 bs) (Borrow.t-arr-borrow 𝓤 H A W E 𝓣 Rec.rt G48 12 32 4096 10 ty·16 (λ x. x) (Reads.as-is 𝓤 H A (Rows.arrF Rec.rt 4096 0)) (Reads.room-gone 𝓤 H A ty·16) Path'.refl (λ b o. tt) (Dec'.lit< tt, Dec'.lit< tt)) (Typed.s-seq 𝓤 H A W 𝓣 E G49 G50 b27 b78 Δ0 (Typed.ask (s48 bs)) (at122 bs) (Relend.t-sl-aggregate 𝓤
+              H A W E Rec.rt 𝓣 (Relend.asMut Rec.rt) G49 32 33 10 ty·16 ty·6 (λ x. x) (Scalar.oBig Syntax.w64 4096) (Reads.as-is 𝓤 H A (Relend.msptr Rec.rt ty·16 10)) (Reads.room-gone 𝓤 H A (Syntax.tyStruct (List._∷_ 38 (List._∷_ 91 (List._∷_ 93 List.[]))) (Syntax.tcons ty·6 (Syntax.tcons (Syntax.tyInt Syntax.w64) Syntax.tnil)))) record
               { lower = record { fits = Dec'.lit< tt } } Path'.refl Path'.refl λ b o k. tt) d122))
 
           d127 : Typed.Typed 𝓤 H A 𝓣 E G45 b82 Δ0 (at127 bs)
-          d127 = Typed.s-seq 𝓤 H A W 𝓣 E G45 G46 b24 b81 Δ0 (Typed.give (s44 bs)) (at126 bs) (Borrow.t-arr-borrow 𝓤 H A W E 𝓣 (Referent.rtF (Referent.fInt Syntax.w8)) G45 11 30 32 9 (Syntax.tyRef Syntax.erased Syntax.mut ty·1) (λ x. x) (Reads.as-is 𝓤 H A (Rows.arrF (Referent.rtF (Referent.fInt Syntax.w8)) 32 0)) (Reads.room-gone 𝓤 H A (Syntax.tyRef
+          d127 = Typed.s-seq 𝓤 H A W 𝓣 E G45 G46 b24 b81 Δ0 (Typed.give (s44 bs)) (at126 bs) (Borrow.t-arr-borrow 𝓤 H A W E 𝓣 (Referent.rtF (Referent.fInt Syntax.w8)) G45 11 30 64 9 (Syntax.tyRef Syntax.erased Syntax.mut ty·1) (λ x. x) (Reads.as-is 𝓤 H A (Rows.arrF (Referent.rtF (Referent.fInt Syntax.w8)) 64 0)) (Reads.room-gone 𝓤 H A (Syntax.tyRef
               Syntax.erased Syntax.mut ty·1)) Path'.refl (λ b o. tt) (Dec'.lit< tt, Dec'.lit< tt)) (Typed.s-seq 𝓤 H A W 𝓣 E G46 G47 b25 b80 Δ0 (Typed.ask (s45 bs)) (at125 bs) (Relend.t-sl-aggregate 𝓤 H A W E (Referent.rtF (Referent.fInt Syntax.w8)) 𝓣 (Relend.asMut (Referent.rtF (Referent.fInt Syntax.w8))) G46 30 31 9 (Syntax.tyRef Syntax.erased Syntax.mut ty·1)
-              ty·8 (λ x. x) (Scalar.oInt Syntax.w64 32) (Reads.as-is 𝓤 H A (Relend.msptr (Referent.rtF (Referent.fInt Syntax.w8)) (Syntax.tyRef Syntax.erased Syntax.mut ty·1) 9)) (Reads.room-gone 𝓤 H A (Syntax.tyStruct (List._∷_ 38 (List._∷_ 91 (List._∷_ 93 List.[]))) (Syntax.tcons ty·8 (Syntax.tcons (Syntax.tyInt Syntax.w64) Syntax.tnil)))) tt Path'.refl
+              ty·8 (λ x. x) (Scalar.oInt Syntax.w64 64) (Reads.as-is 𝓤 H A (Relend.msptr (Referent.rtF (Referent.fInt Syntax.w8)) (Syntax.tyRef Syntax.erased Syntax.mut ty·1) 9)) (Reads.room-gone 𝓤 H A (Syntax.tyStruct (List._∷_ 38 (List._∷_ 91 (List._∷_ 93 List.[]))) (Syntax.tcons ty·8 (Syntax.tcons (Syntax.tyInt Syntax.w64) Syntax.tnil)))) tt Path'.refl
               Path'.refl λ b o k. tt) d125)
 
           d129 : Typed.Typed 𝓤 H A 𝓣 E G43 b83 Δ0 (at129 bs)
-          d129 = Typed.s-seq 𝓤 H A W 𝓣 E G43 G44 b23 b82 Δ0 (Typed.ask (s42 bs)) (at128 bs) (Relend.t-sl-aggregate 𝓤 H A W E (Referent.rtF (Referent.fInt Syntax.w16)) 𝓣 (Relend.asMut (Referent.rtF (Referent.fInt Syntax.w16))) G43 28 29 8 (Syntax.tyRef Syntax.erased Syntax.mut ty·3) ty·10 (λ x. x) (Scalar.oInt Syntax.w64 32) (Reads.as-is 𝓤 H A (Relend.msptr
-              (Referent.rtF (Referent.fInt Syntax.w16)) (Syntax.tyRef Syntax.erased Syntax.mut ty·3) 8)) (Reads.room-gone 𝓤 H A (Syntax.tyStruct (List._∷_ 38 (List._∷_ 91 (List._∷_ 93 List.[]))) (Syntax.tcons ty·10 (Syntax.tcons (Syntax.tyInt Syntax.w64) Syntax.tnil)))) tt Path'.refl Path'.refl λ b o k. tt) (Typed.g-pre 𝓤 H A W 𝓣 E G44 G45 b82 Δ0 (λ Ψ. Ψ) (at127
+          d129 = Typed.s-seq 𝓤 H A W 𝓣 E G43 G44 b23 b82 Δ0 (Typed.ask (s42 bs)) (at128 bs) (Relend.t-sl-aggregate 𝓤 H A W E (Referent.rtF (Referent.fInt Syntax.w16)) 𝓣 (Relend.asMut (Referent.rtF (Referent.fInt Syntax.w16))) G43 28 29 8 (Syntax.tyRef Syntax.erased Syntax.mut ty·2) ty·10 (λ x. x) (Scalar.oInt Syntax.w64 64) (Reads.as-is 𝓤 H A (Relend.msptr
+              (Referent.rtF (Referent.fInt Syntax.w16)) (Syntax.tyRef Syntax.erased Syntax.mut ty·2) 8)) (Reads.room-gone 𝓤 H A (Syntax.tyStruct (List._∷_ 38 (List._∷_ 91 (List._∷_ 93 List.[]))) (Syntax.tcons ty·10 (Syntax.tcons (Syntax.tyInt Syntax.w64) Syntax.tnil)))) tt Path'.refl Path'.refl λ b o k. tt) (Typed.g-pre 𝓤 H A W 𝓣 E G44 G45 b82 Δ0 (λ Ψ. Ψ) (at127
               bs) (Lifetime.g-begin 𝓤 H A W E G44 9
               (tt, (tt, (tt, (tt, (tt, (tt, (tt, (tt, (tt, (tt, (tt, (tt, (tt, (tt, (tt, (tt, (tt, (tt, (tt, (tt, (tt, (tt, (tt, (tt, (tt, (tt, (tt, (tt, (tt, (tt, (tt, (tt, (tt, (tt, (tt, (tt, (tt, (tt, (tt, (tt, (tt, (tt, (tt, (tt, (tt, (tt, (tt, (tt, (tt, (tt, (tt, (tt, (tt, tt)))))))))))))))))))))))))))))))))))))))))))))))))))))) d127)
 
           d132 : Typed.Typed 𝓤 H A 𝓣 E G40 b85 Δ0 (at132 bs)
-          d132 = Typed.s-seq 𝓤 H A W 𝓣 E G40 G41 b21 b84 Δ0 (Typed.ask (s39 bs)) (at131 bs) (Relend.t-sl-aggregate 𝓤 H A W E (Referent.rtF (Referent.fInt Syntax.w32)) 𝓣 (Relend.asMut (Referent.rtF (Referent.fInt Syntax.w32))) G40 26 27 7 (Syntax.tyRef Syntax.erased Syntax.mut ty·5) ty·11 (λ x. x) (Scalar.oBig Syntax.w64 1024) (Reads.as-is 𝓤 H A (Relend.msptr
+          d132 = Typed.s-seq 𝓤 H A W 𝓣 E G40 G41 b21 b84 Δ0 (Typed.ask (s39 bs)) (at131 bs) (Relend.t-sl-aggregate 𝓤 H A W E (Referent.rtF (Referent.fInt Syntax.w32)) 𝓣 (Relend.asMut (Referent.rtF (Referent.fInt Syntax.w32))) G40 26 27 7 (Syntax.tyRef Syntax.erased Syntax.mut ty·5) ty·11 (λ x. x) (Scalar.oBig Syntax.w64 2048) (Reads.as-is 𝓤 H A (Relend.msptr
               (Referent.rtF (Referent.fInt Syntax.w32)) (Syntax.tyRef Syntax.erased Syntax.mut ty·5) 7)) (Reads.room-gone 𝓤 H A (Syntax.tyStruct (List._∷_ 38 (List._∷_ 91 (List._∷_ 93 List.[]))) (Syntax.tcons ty·11 (Syntax.tcons (Syntax.tyInt Syntax.w64) Syntax.tnil)))) record { lower = record { fits = Dec'.lit< tt } } Path'.refl Path'.refl λ b o k. tt)
               (Typed.g-pre 𝓤 H A W 𝓣 E G41 G42 b84 Δ0 (λ Ψ. Ψ) (at130 bs) (Lifetime.g-begin 𝓤 H A W E G41 8
               (tt, (tt, (tt, (tt, (tt, (tt, (tt, (tt, (tt, (tt, (tt, (tt, (tt, (tt, (tt, (tt, (tt, (tt, (tt, (tt, (tt, (tt, (tt, (tt, (tt, (tt, (tt, (tt, (tt, (tt, (tt, (tt, (tt, (tt, (tt, (tt, (tt, (tt, (tt, (tt, (tt, (tt, (tt, (tt, (tt, (tt, (tt, (tt, (tt, (tt, (tt, (tt, (tt, tt)))))))))))))))))))))))))))))))))))))))))))))))))))))) (Typed.s-seq 𝓤 H A W 𝓣 E G42
-              G43 b22 b83 Δ0 (Typed.give (s41 bs)) (at129 bs) (Borrow.t-arr-borrow 𝓤 H A W E 𝓣 (Referent.rtF (Referent.fInt Syntax.w16)) G42 10 28 32 8 (Syntax.tyRef Syntax.erased Syntax.mut ty·3) (λ x. x) (Reads.as-is 𝓤 H A (Rows.arrF (Referent.rtF (Referent.fInt Syntax.w16)) 32 0)) (Reads.room-gone 𝓤 H A (Syntax.tyRef Syntax.erased Syntax.mut ty·3)) Path'.refl
+              G43 b22 b83 Δ0 (Typed.give (s41 bs)) (at129 bs) (Borrow.t-arr-borrow 𝓤 H A W E 𝓣 (Referent.rtF (Referent.fInt Syntax.w16)) G42 10 28 64 8 (Syntax.tyRef Syntax.erased Syntax.mut ty·2) (λ x. x) (Reads.as-is 𝓤 H A (Rows.arrF (Referent.rtF (Referent.fInt Syntax.w16)) 64 0)) (Reads.room-gone 𝓤 H A (Syntax.tyRef Syntax.erased Syntax.mut ty·2)) Path'.refl
               (λ b o. tt) (Dec'.lit< tt, Dec'.lit< tt)) d129))
 
           d135 : Typed.Typed 𝓤 H A 𝓣 E G37 b87 Δ0 (at135 bs)
-          d135 = Typed.s-seq 𝓤 H A W 𝓣 E G37 G38 b19 b86 Δ0 (Typed.ask (s36 bs)) (at134 bs) (Relend.t-sl-aggregate 𝓤 H A W E (Referent.rtF (Referent.fInt Syntax.w16)) 𝓣 (Relend.asMut (Referent.rtF (Referent.fInt Syntax.w16))) G37 24 25 6 (Syntax.tyRef Syntax.erased Syntax.mut ty·4) ty·10 (λ x. x) (Scalar.oBig Syntax.w64 1024) (Reads.as-is 𝓤 H A (Relend.msptr
+          d135 = Typed.s-seq 𝓤 H A W 𝓣 E G37 G38 b19 b86 Δ0 (Typed.ask (s36 bs)) (at134 bs) (Relend.t-sl-aggregate 𝓤 H A W E (Referent.rtF (Referent.fInt Syntax.w16)) 𝓣 (Relend.asMut (Referent.rtF (Referent.fInt Syntax.w16))) G37 24 25 6 (Syntax.tyRef Syntax.erased Syntax.mut ty·4) ty·10 (λ x. x) (Scalar.oBig Syntax.w64 2048) (Reads.as-is 𝓤 H A (Relend.msptr
               (Referent.rtF (Referent.fInt Syntax.w16)) (Syntax.tyRef Syntax.erased Syntax.mut ty·4) 6)) (Reads.room-gone 𝓤 H A (Syntax.tyStruct (List._∷_ 38 (List._∷_ 91 (List._∷_ 93 List.[]))) (Syntax.tcons ty·10 (Syntax.tcons (Syntax.tyInt Syntax.w64) Syntax.tnil)))) record { lower = record { fits = Dec'.lit< tt } } Path'.refl Path'.refl λ b o k. tt)
               (Typed.g-pre 𝓤 H A W 𝓣 E G38 G39 b86 Δ0 (λ Ψ. Ψ) (at133 bs) (Lifetime.g-begin 𝓤 H A W E G38 7
               (tt, (tt, (tt, (tt, (tt, (tt, (tt, (tt, (tt, (tt, (tt, (tt, (tt, (tt, (tt, (tt, (tt, (tt, (tt, (tt, (tt, (tt, (tt, (tt, (tt, (tt, (tt, (tt, (tt, (tt, (tt, (tt, (tt, (tt, (tt, (tt, (tt, (tt, (tt, (tt, (tt, (tt, (tt, (tt, (tt, (tt, (tt, (tt, (tt, (tt, (tt, (tt, (tt, tt)))))))))))))))))))))))))))))))))))))))))))))))))))))) (Typed.s-seq 𝓤 H A W 𝓣 E G39
-              G40 b20 b85 Δ0 (Typed.give (s38 bs)) (at132 bs) (Borrow.t-arr-borrow 𝓤 H A W E 𝓣 (Referent.rtF (Referent.fInt Syntax.w32)) G39 9 26 1024 7 (Syntax.tyRef Syntax.erased Syntax.mut ty·5) (λ x. x) (Reads.as-is 𝓤 H A (Rows.arrF (Referent.rtF (Referent.fInt Syntax.w32)) 1024 0)) (Reads.room-gone 𝓤 H A (Syntax.tyRef Syntax.erased Syntax.mut ty·5))
+              G40 b20 b85 Δ0 (Typed.give (s38 bs)) (at132 bs) (Borrow.t-arr-borrow 𝓤 H A W E 𝓣 (Referent.rtF (Referent.fInt Syntax.w32)) G39 9 26 2048 7 (Syntax.tyRef Syntax.erased Syntax.mut ty·5) (λ x. x) (Reads.as-is 𝓤 H A (Rows.arrF (Referent.rtF (Referent.fInt Syntax.w32)) 2048 0)) (Reads.room-gone 𝓤 H A (Syntax.tyRef Syntax.erased Syntax.mut ty·5))
               Path'.refl (λ b o. tt) (Dec'.lit< tt, Dec'.lit< tt)) d132))
 
           d138 : Typed.Typed 𝓤 H A 𝓣 E G34 b89 Δ0 (at138 bs)
-          d138 = Typed.s-seq 𝓤 H A W 𝓣 E G34 G35 b17 b88 Δ0 (Typed.ask (s33 bs)) (at137 bs) (Relend.t-sl-aggregate 𝓤 H A W E (Referent.rtF (Referent.fInt Syntax.w16)) 𝓣 (Relend.asMut (Referent.rtF (Referent.fInt Syntax.w16))) G34 22 23 5 (Syntax.tyRef Syntax.erased Syntax.mut ty·3) ty·10 (λ x. x) (Scalar.oInt Syntax.w64 32) (Reads.as-is 𝓤 H A (Relend.msptr
-              (Referent.rtF (Referent.fInt Syntax.w16)) (Syntax.tyRef Syntax.erased Syntax.mut ty·3) 5)) (Reads.room-gone 𝓤 H A (Syntax.tyStruct (List._∷_ 38 (List._∷_ 91 (List._∷_ 93 List.[]))) (Syntax.tcons ty·10 (Syntax.tcons (Syntax.tyInt Syntax.w64) Syntax.tnil)))) tt Path'.refl Path'.refl λ b o k. tt) (Typed.g-pre 𝓤 H A W 𝓣 E G35 G36 b88 Δ0 (λ Ψ. Ψ) (at136
+          d138 = Typed.s-seq 𝓤 H A W 𝓣 E G34 G35 b17 b88 Δ0 (Typed.ask (s33 bs)) (at137 bs) (Relend.t-sl-aggregate 𝓤 H A W E (Referent.rtF (Referent.fInt Syntax.w16)) 𝓣 (Relend.asMut (Referent.rtF (Referent.fInt Syntax.w16))) G34 22 23 5 (Syntax.tyRef Syntax.erased Syntax.mut ty·2) ty·10 (λ x. x) (Scalar.oInt Syntax.w64 64) (Reads.as-is 𝓤 H A (Relend.msptr
+              (Referent.rtF (Referent.fInt Syntax.w16)) (Syntax.tyRef Syntax.erased Syntax.mut ty·2) 5)) (Reads.room-gone 𝓤 H A (Syntax.tyStruct (List._∷_ 38 (List._∷_ 91 (List._∷_ 93 List.[]))) (Syntax.tcons ty·10 (Syntax.tcons (Syntax.tyInt Syntax.w64) Syntax.tnil)))) tt Path'.refl Path'.refl λ b o k. tt) (Typed.g-pre 𝓤 H A W 𝓣 E G35 G36 b88 Δ0 (λ Ψ. Ψ) (at136
               bs) (Lifetime.g-begin 𝓤 H A W E G35 6
               (tt, (tt, (tt, (tt, (tt, (tt, (tt, (tt, (tt, (tt, (tt, (tt, (tt, (tt, (tt, (tt, (tt, (tt, (tt, (tt, (tt, (tt, (tt, (tt, (tt, (tt, (tt, (tt, (tt, (tt, (tt, (tt, (tt, (tt, (tt, (tt, (tt, (tt, (tt, (tt, (tt, (tt, (tt, (tt, (tt, (tt, (tt, (tt, (tt, (tt, (tt, (tt, (tt, tt)))))))))))))))))))))))))))))))))))))))))))))))))))))) (Typed.s-seq 𝓤 H A W 𝓣 E G36
-              G37 b18 b87 Δ0 (Typed.give (s35 bs)) (at135 bs) (Borrow.t-arr-borrow 𝓤 H A W E 𝓣 (Referent.rtF (Referent.fInt Syntax.w16)) G36 8 24 1024 6 (Syntax.tyRef Syntax.erased Syntax.mut ty·4) (λ x. x) (Reads.as-is 𝓤 H A (Rows.arrF (Referent.rtF (Referent.fInt Syntax.w16)) 1024 0)) (Reads.room-gone 𝓤 H A (Syntax.tyRef Syntax.erased Syntax.mut ty·4))
+              G37 b18 b87 Δ0 (Typed.give (s35 bs)) (at135 bs) (Borrow.t-arr-borrow 𝓤 H A W E 𝓣 (Referent.rtF (Referent.fInt Syntax.w16)) G36 8 24 2048 6 (Syntax.tyRef Syntax.erased Syntax.mut ty·4) (λ x. x) (Reads.as-is 𝓤 H A (Rows.arrF (Referent.rtF (Referent.fInt Syntax.w16)) 2048 0)) (Reads.room-gone 𝓤 H A (Syntax.tyRef Syntax.erased Syntax.mut ty·4))
               Path'.refl (λ b o. tt) (Dec'.lit< tt, Dec'.lit< tt)) d135))
 
           d141 : Typed.Typed 𝓤 H A 𝓣 E G31 b91 Δ0 (at141 bs)
-          d141 = Typed.s-seq 𝓤 H A W 𝓣 E G31 G32 b15 b90 Δ0 (Typed.ask (s30 bs)) (at140 bs) (Relend.t-sl-aggregate 𝓤 H A W E (Referent.rtF (Referent.fInt Syntax.w8)) 𝓣 (Relend.asMut (Referent.rtF (Referent.fInt Syntax.w8))) G31 20 21 4 (Syntax.tyRef Syntax.erased Syntax.mut ty·2) ty·8 (λ x. x) (Scalar.oInt Syntax.w64 768) (Reads.as-is 𝓤 H A (Relend.msptr
-              (Referent.rtF (Referent.fInt Syntax.w8)) (Syntax.tyRef Syntax.erased Syntax.mut ty·2) 4)) (Reads.room-gone 𝓤 H A (Syntax.tyStruct (List._∷_ 38 (List._∷_ 91 (List._∷_ 93 List.[]))) (Syntax.tcons ty·8 (Syntax.tcons (Syntax.tyInt Syntax.w64) Syntax.tnil)))) tt Path'.refl Path'.refl λ b o k. tt) (Typed.g-pre 𝓤 H A W 𝓣 E G32 G33 b90 Δ0 (λ Ψ. Ψ) (at139
-              bs) (Lifetime.g-begin 𝓤 H A W E G32 5
+          d141 = Typed.s-seq 𝓤 H A W 𝓣 E G31 G32 b15 b90 Δ0 (Typed.ask (s30 bs)) (at140 bs) (Relend.t-sl-aggregate 𝓤 H A W E (Referent.rtF (Referent.fInt Syntax.w8)) 𝓣 (Relend.asMut (Referent.rtF (Referent.fInt Syntax.w8))) G31 20 21 4 (Syntax.tyRef Syntax.erased Syntax.mut ty·3) ty·8 (λ x. x) (Scalar.oBig Syntax.w64 1536) (Reads.as-is 𝓤 H A (Relend.msptr
+              (Referent.rtF (Referent.fInt Syntax.w8)) (Syntax.tyRef Syntax.erased Syntax.mut ty·3) 4)) (Reads.room-gone 𝓤 H A (Syntax.tyStruct (List._∷_ 38 (List._∷_ 91 (List._∷_ 93 List.[]))) (Syntax.tcons ty·8 (Syntax.tcons (Syntax.tyInt Syntax.w64) Syntax.tnil)))) record { lower = record { fits = Dec'.lit< tt } } Path'.refl Path'.refl λ b o k. tt)
+              (Typed.g-pre 𝓤 H A W 𝓣 E G32 G33 b90 Δ0 (λ Ψ. Ψ) (at139 bs) (Lifetime.g-begin 𝓤 H A W E G32 5
               (tt, (tt, (tt, (tt, (tt, (tt, (tt, (tt, (tt, (tt, (tt, (tt, (tt, (tt, (tt, (tt, (tt, (tt, (tt, (tt, (tt, (tt, (tt, (tt, (tt, (tt, (tt, (tt, (tt, (tt, (tt, (tt, (tt, (tt, (tt, (tt, (tt, (tt, (tt, (tt, (tt, (tt, (tt, (tt, (tt, (tt, (tt, (tt, (tt, (tt, (tt, (tt, (tt, tt)))))))))))))))))))))))))))))))))))))))))))))))))))))) (Typed.s-seq 𝓤 H A W 𝓣 E G33
-              G34 b16 b89 Δ0 (Typed.give (s32 bs)) (at138 bs) (Borrow.t-arr-borrow 𝓤 H A W E 𝓣 (Referent.rtF (Referent.fInt Syntax.w16)) G33 7 22 32 5 (Syntax.tyRef Syntax.erased Syntax.mut ty·3) (λ x. x) (Reads.as-is 𝓤 H A (Rows.arrF (Referent.rtF (Referent.fInt Syntax.w16)) 32 0)) (Reads.room-gone 𝓤 H A (Syntax.tyRef Syntax.erased Syntax.mut ty·3)) Path'.refl
+              G34 b16 b89 Δ0 (Typed.give (s32 bs)) (at138 bs) (Borrow.t-arr-borrow 𝓤 H A W E 𝓣 (Referent.rtF (Referent.fInt Syntax.w16)) G33 7 22 64 5 (Syntax.tyRef Syntax.erased Syntax.mut ty·2) (λ x. x) (Reads.as-is 𝓤 H A (Rows.arrF (Referent.rtF (Referent.fInt Syntax.w16)) 64 0)) (Reads.room-gone 𝓤 H A (Syntax.tyRef Syntax.erased Syntax.mut ty·2)) Path'.refl
               (λ b o. tt) (Dec'.lit< tt, Dec'.lit< tt)) d138))
 
           d144 : Typed.Typed 𝓤 H A 𝓣 E G28 b93 Δ0 (at144 bs)
@@ -3259,8 +3259,8 @@ module _ (claims· : Claims) where
               (Referent.rtF (Referent.fInt Syntax.w16)) (Syntax.tyRef Syntax.erased Syntax.mut ty·0) 3)) (Reads.room-gone 𝓤 H A (Syntax.tyStruct (List._∷_ 38 (List._∷_ 91 (List._∷_ 93 List.[]))) (Syntax.tcons ty·10 (Syntax.tcons (Syntax.tyInt Syntax.w64) Syntax.tnil)))) tt Path'.refl Path'.refl λ b o k. tt) (Typed.g-pre 𝓤 H A W 𝓣 E G29 G30 b92 Δ0 (λ Ψ. Ψ) (at142
               bs) (Lifetime.g-begin 𝓤 H A W E G29 4
               (tt, (tt, (tt, (tt, (tt, (tt, (tt, (tt, (tt, (tt, (tt, (tt, (tt, (tt, (tt, (tt, (tt, (tt, (tt, (tt, (tt, (tt, (tt, (tt, (tt, (tt, (tt, (tt, (tt, (tt, (tt, (tt, (tt, (tt, (tt, (tt, (tt, (tt, (tt, (tt, (tt, (tt, (tt, (tt, (tt, (tt, (tt, (tt, (tt, (tt, (tt, (tt, (tt, tt)))))))))))))))))))))))))))))))))))))))))))))))))))))) (Typed.s-seq 𝓤 H A W 𝓣 E G30
-              G31 b14 b91 Δ0 (Typed.give (s29 bs)) (at141 bs) (Borrow.t-arr-borrow 𝓤 H A W E 𝓣 (Referent.rtF (Referent.fInt Syntax.w8)) G30 6 20 768 4 (Syntax.tyRef Syntax.erased Syntax.mut ty·2) (λ x. x) (Reads.as-is 𝓤 H A (Rows.arrF (Referent.rtF (Referent.fInt Syntax.w8)) 768 0)) (Reads.room-gone 𝓤 H A (Syntax.tyRef Syntax.erased Syntax.mut ty·2)) Path'.refl
-              (λ b o. tt) (Dec'.lit< tt, Dec'.lit< tt)) d141))
+              G31 b14 b91 Δ0 (Typed.give (s29 bs)) (at141 bs) (Borrow.t-arr-borrow 𝓤 H A W E 𝓣 (Referent.rtF (Referent.fInt Syntax.w8)) G30 6 20 1536 4 (Syntax.tyRef Syntax.erased Syntax.mut ty·3) (λ x. x) (Reads.as-is 𝓤 H A (Rows.arrF (Referent.rtF (Referent.fInt Syntax.w8)) 1536 0)) (Reads.room-gone 𝓤 H A (Syntax.tyRef Syntax.erased Syntax.mut ty·3))
+              Path'.refl (λ b o. tt) (Dec'.lit< tt, Dec'.lit< tt)) d141))
 
           d147 : Typed.Typed 𝓤 H A 𝓣 E G25 b95 Δ0 (at147 bs)
           d147 = Typed.s-seq 𝓤 H A W 𝓣 E G25 G26 b11 b94 Δ0 (Typed.ask (s24 bs)) (at146 bs) (Relend.t-sl-aggregate 𝓤 H A W E (Referent.rtF (Referent.fInt Syntax.w16)) 𝓣 (Relend.asMut (Referent.rtF (Referent.fInt Syntax.w16))) G25 16 17 2 (Syntax.tyRef Syntax.erased Syntax.mut ty·0) ty·10 (λ x. x) (Scalar.oInt Syntax.w64 1) (Reads.as-is 𝓤 H A (Relend.msptr
@@ -3277,40 +3277,40 @@ module _ (claims· : Claims) where
               b o. tt) (Dec'.lit< tt, Dec'.lit< tt)) d147))
 
           d152 : Typed.Typed 𝓤 H A 𝓣 E G20 b97 Δ0 (at152 bs)
-          d152 = Typed.s-seq 𝓤 H A W 𝓣 E G20 G21 b9 b96 Δ0 (Typed.pass T20 T21 (s19 bs)) (at151 bs) (Repeat.t-repeat-by 𝓤 H A W E 𝓣 Rec.rt (Rec.lawful 𝓤 H A W) (Rec.cp .copy 𝓤 H A W) 2048 G20 12 (Scalar.oAt 15 Rec.mir λ x. Steps.only (Rec.cp .vals x)) (λ m. m .1 .1 .1 .1 .1 .1 .1 .1 .1 .1 .1 .1 .1 .1 .1 .0) (λ ρ. Unit) (Reads.room-gone 𝓤 H A (Syntax.tyArray
-              Rec.mir 2048)) (Rec.reads 𝓤 H A W, Path'.refl) Path'.refl (Own.told-none 𝓤 H A (G20 .slots)) λ ρ m pf wa. Gives.elem-local 𝓤 H A W E ρ Rec.rt (λ x. Steps.only (Rec.cp .vals x)) (Rec.cp .tells) (Row.out 12 (G20 .locals)) m (λ ρ. Unit) pf 15 Rec.mir (λ x. x) (Yields.yields-copy 𝓤 H A W (λ ρ. Unit) Rec.rt Path'.refl (Rec.cp .copy 𝓤 H A W) Rec.row (λ
-              x. x) (λ x. x) (λ ρ told. Local.mem-whole 𝓤 H A W Rec.rt ρ) λ ρ told. Local.whole-mem 𝓤 H A W Rec.rt ρ)) (Typed.g-pre 𝓤 H A W 𝓣 E G21 G22 b96 Δ0 (Typed.pass T21 T22 (s20 bs)) (at150 bs) (AtSlots.g-as-by 𝓤 H A W E (λ ρ. Unit) G21 12 (Rows.arrF Rec.rt 2048 0) (λ x. x) (Own.told-none 𝓤 H A (G21 .slots)) λ ρ told. Repeat.whole-arr 𝓤 H A W Rec.rt 2048
+          d152 = Typed.s-seq 𝓤 H A W 𝓣 E G20 G21 b9 b96 Δ0 (Typed.pass T20 T21 (s19 bs)) (at151 bs) (Repeat.t-repeat-by 𝓤 H A W E 𝓣 Rec.rt (Rec.lawful 𝓤 H A W) (Rec.cp .copy 𝓤 H A W) 4096 G20 12 (Scalar.oAt 15 Rec.mir λ x. Steps.only (Rec.cp .vals x)) (λ m. m .1 .1 .1 .1 .1 .1 .1 .1 .1 .1 .1 .1 .1 .1 .1 .0) (λ ρ. Unit) (Reads.room-gone 𝓤 H A (Syntax.tyArray
+              Rec.mir 4096)) (Rec.reads 𝓤 H A W, Path'.refl) Path'.refl (Own.told-none 𝓤 H A (G20 .slots)) λ ρ m pf wa. Gives.elem-local 𝓤 H A W E ρ Rec.rt (λ x. Steps.only (Rec.cp .vals x)) (Rec.cp .tells) (Row.out 12 (G20 .locals)) m (λ ρ. Unit) pf 15 Rec.mir (λ x. x) (Yields.yields-copy 𝓤 H A W (λ ρ. Unit) Rec.rt Path'.refl (Rec.cp .copy 𝓤 H A W) Rec.row (λ
+              x. x) (λ x. x) (λ ρ told. Local.mem-whole 𝓤 H A W Rec.rt ρ) λ ρ told. Local.whole-mem 𝓤 H A W Rec.rt ρ)) (Typed.g-pre 𝓤 H A W 𝓣 E G21 G22 b96 Δ0 (Typed.pass T21 T22 (s20 bs)) (at150 bs) (AtSlots.g-as-by 𝓤 H A W E (λ ρ. Unit) G21 12 (Rows.arrF Rec.rt 4096 0) (λ x. x) (Own.told-none 𝓤 H A (G21 .slots)) λ ρ told. Repeat.whole-arr 𝓤 H A W Rec.rt 4096
               tt ρ) d150)
 
           d155 : Typed.Typed 𝓤 H A 𝓣 E G17 b99 Δ0 (at155 bs)
-          d155 = Typed.s-seq 𝓤 H A W 𝓣 E G17 G18 b7 b98 Δ0 (Typed.pass T17 T18 (s16 bs)) (at154 bs) (Repeat.t-repeat 𝓤 H A W E 𝓣 (Referent.rtF (Referent.fInt Syntax.w8)) (Plain'.uint-lawful 𝓤 H A W Syntax.w8) (Copies.cRf (Referent.fInt Syntax.w8) .copy 𝓤 H A W) (Plain'.uint-makes 𝓤 H A W Syntax.w8) 32 G17 11 (Scalar.oInt Syntax.w8 0) (λ m. 0)
-              (Reads.room-gone 𝓤 H A ty·1) tt Path'.refl λ m wa. (Path'.refl, Dec'.lit< tt)) (Typed.g-pre 𝓤 H A W 𝓣 E G18 G19 b98 Δ0 (Typed.pass T18 T19 (s17 bs)) (at153 bs) (AtSlots.g-as-by 𝓤 H A W E (λ ρ. Unit) G18 11 (Rows.arrF (Referent.rtF (Referent.fInt Syntax.w8)) 32 0) (λ x. x) (Own.told-none 𝓤 H A (G18 .slots)) λ ρ told. Repeat.whole-arr 𝓤 H A W
-              (Referent.rtF (Referent.fInt Syntax.w8)) 32 tt ρ) (Typed.s-seq 𝓤 H A W 𝓣 E G19 G20 b8 b97 Δ0 (Typed.both (s18 bs)) (at152 bs) (Plain.t-call-plain 𝓤 H A W 𝓣 0 ps·0 r·0 (claims· .0) (claims· .1) "records::record::zero_record" (known .0) E (λ pos β. β) G19 tt 15 List.[] (Call.sub-id 𝓤 H A W (G19 .slots)) tt (Reads.room-gone 𝓤 H A Rec.mir) tt
+          d155 = Typed.s-seq 𝓤 H A W 𝓣 E G17 G18 b7 b98 Δ0 (Typed.pass T17 T18 (s16 bs)) (at154 bs) (Repeat.t-repeat 𝓤 H A W E 𝓣 (Referent.rtF (Referent.fInt Syntax.w8)) (Plain'.uint-lawful 𝓤 H A W Syntax.w8) (Copies.cRf (Referent.fInt Syntax.w8) .copy 𝓤 H A W) (Plain'.uint-makes 𝓤 H A W Syntax.w8) 64 G17 11 (Scalar.oInt Syntax.w8 0) (λ m. 0)
+              (Reads.room-gone 𝓤 H A ty·1) tt Path'.refl λ m wa. (Path'.refl, Dec'.lit< tt)) (Typed.g-pre 𝓤 H A W 𝓣 E G18 G19 b98 Δ0 (Typed.pass T18 T19 (s17 bs)) (at153 bs) (AtSlots.g-as-by 𝓤 H A W E (λ ρ. Unit) G18 11 (Rows.arrF (Referent.rtF (Referent.fInt Syntax.w8)) 64 0) (λ x. x) (Own.told-none 𝓤 H A (G18 .slots)) λ ρ told. Repeat.whole-arr 𝓤 H A W
+              (Referent.rtF (Referent.fInt Syntax.w8)) 64 tt ρ) (Typed.s-seq 𝓤 H A W 𝓣 E G19 G20 b8 b97 Δ0 (Typed.both (s18 bs)) (at152 bs) (Plain.t-call-plain 𝓤 H A W 𝓣 0 ps·0 r·0 (claims· .0) (claims· .1) "records::record::zero_record" (known .0) E (λ pos β. β) G19 tt 15 List.[] (Call.sub-id 𝓤 H A W (G19 .slots)) tt (Reads.room-gone 𝓤 H A Rec.mir) tt
               Path'.refl) d152))
 
           d158 : Typed.Typed 𝓤 H A 𝓣 E G14 b100 Δ0 (at158 bs)
-          d158 = Typed.g-pre 𝓤 H A W 𝓣 E G14 G15 b100 Δ0 (Typed.pass T14 T15 (s13 bs)) (at157 bs) (AtSlots.g-as-by 𝓤 H A W E (λ ρ. Unit) G14 9 (Rows.arrF (Referent.rtF (Referent.fInt Syntax.w32)) 1024 0) (λ x. x) (Own.told-none 𝓤 H A (G14 .slots)) λ ρ told. Repeat.whole-arr 𝓤 H A W (Referent.rtF (Referent.fInt Syntax.w32)) 1024 tt ρ) (Typed.s-seq 𝓤 H A W 𝓣 E
-              G15 G16 b6 b99 Δ0 (Typed.pass T15 T16 (s14 bs)) (at156 bs) (Repeat.t-repeat 𝓤 H A W E 𝓣 (Referent.rtF (Referent.fInt Syntax.w16)) (Plain'.uint-lawful 𝓤 H A W Syntax.w16) (Copies.cRf (Referent.fInt Syntax.w16) .copy 𝓤 H A W) (Plain'.uint-makes 𝓤 H A W Syntax.w16) 32 G15 10 (Scalar.oInt Syntax.w16 0) (λ m. 0) (Reads.room-gone 𝓤 H A ty·3) tt
-              Path'.refl λ m wa. (Path'.refl, Dec'.lit< tt)) (Typed.g-pre 𝓤 H A W 𝓣 E G16 G17 b99 Δ0 (Typed.pass T16 T17 (s15 bs)) (at155 bs) (AtSlots.g-as-by 𝓤 H A W E (λ ρ. Unit) G16 10 (Rows.arrF (Referent.rtF (Referent.fInt Syntax.w16)) 32 0) (λ x. x) (Own.told-none 𝓤 H A (G16 .slots)) λ ρ told. Repeat.whole-arr 𝓤 H A W (Referent.rtF (Referent.fInt
-              Syntax.w16)) 32 tt ρ) d155))
+          d158 = Typed.g-pre 𝓤 H A W 𝓣 E G14 G15 b100 Δ0 (Typed.pass T14 T15 (s13 bs)) (at157 bs) (AtSlots.g-as-by 𝓤 H A W E (λ ρ. Unit) G14 9 (Rows.arrF (Referent.rtF (Referent.fInt Syntax.w32)) 2048 0) (λ x. x) (Own.told-none 𝓤 H A (G14 .slots)) λ ρ told. Repeat.whole-arr 𝓤 H A W (Referent.rtF (Referent.fInt Syntax.w32)) 2048 tt ρ) (Typed.s-seq 𝓤 H A W 𝓣 E
+              G15 G16 b6 b99 Δ0 (Typed.pass T15 T16 (s14 bs)) (at156 bs) (Repeat.t-repeat 𝓤 H A W E 𝓣 (Referent.rtF (Referent.fInt Syntax.w16)) (Plain'.uint-lawful 𝓤 H A W Syntax.w16) (Copies.cRf (Referent.fInt Syntax.w16) .copy 𝓤 H A W) (Plain'.uint-makes 𝓤 H A W Syntax.w16) 64 G15 10 (Scalar.oInt Syntax.w16 0) (λ m. 0) (Reads.room-gone 𝓤 H A ty·2) tt
+              Path'.refl λ m wa. (Path'.refl, Dec'.lit< tt)) (Typed.g-pre 𝓤 H A W 𝓣 E G16 G17 b99 Δ0 (Typed.pass T16 T17 (s15 bs)) (at155 bs) (AtSlots.g-as-by 𝓤 H A W E (λ ρ. Unit) G16 10 (Rows.arrF (Referent.rtF (Referent.fInt Syntax.w16)) 64 0) (λ x. x) (Own.told-none 𝓤 H A (G16 .slots)) λ ρ told. Repeat.whole-arr 𝓤 H A W (Referent.rtF (Referent.fInt
+              Syntax.w16)) 64 tt ρ) d155))
 
           d161 : Typed.Typed 𝓤 H A 𝓣 E G11 b102 Δ0 (at161 bs)
-          d161 = Typed.s-seq 𝓤 H A W 𝓣 E G11 G12 b4 b101 Δ0 (Typed.pass T11 T12 (s10 bs)) (at160 bs) (Repeat.t-repeat 𝓤 H A W E 𝓣 (Referent.rtF (Referent.fInt Syntax.w16)) (Plain'.uint-lawful 𝓤 H A W Syntax.w16) (Copies.cRf (Referent.fInt Syntax.w16) .copy 𝓤 H A W) (Plain'.uint-makes 𝓤 H A W Syntax.w16) 1024 G11 8 (Scalar.oInt Syntax.w16 0) (λ m. 0)
-              (Reads.room-gone 𝓤 H A ty·4) tt Path'.refl λ m wa. (Path'.refl, Dec'.lit< tt)) (Typed.g-pre 𝓤 H A W 𝓣 E G12 G13 b101 Δ0 (Typed.pass T12 T13 (s11 bs)) (at159 bs) (AtSlots.g-as-by 𝓤 H A W E (λ ρ. Unit) G12 8 (Rows.arrF (Referent.rtF (Referent.fInt Syntax.w16)) 1024 0) (λ x. x) (Own.told-none 𝓤 H A (G12 .slots)) λ ρ told. Repeat.whole-arr 𝓤 H A W
-              (Referent.rtF (Referent.fInt Syntax.w16)) 1024 tt ρ) (Typed.s-seq 𝓤 H A W 𝓣 E G13 G14 b5 b100 Δ0 (Typed.pass T13 T14 (s12 bs)) (at158 bs) (Repeat.t-repeat 𝓤 H A W E 𝓣 (Referent.rtF (Referent.fInt Syntax.w32)) (Plain'.uint-lawful 𝓤 H A W Syntax.w32) (Copies.cRf (Referent.fInt Syntax.w32) .copy 𝓤 H A W) (Plain'.uint-makes 𝓤 H A W Syntax.w32) 1024 G13
+          d161 = Typed.s-seq 𝓤 H A W 𝓣 E G11 G12 b4 b101 Δ0 (Typed.pass T11 T12 (s10 bs)) (at160 bs) (Repeat.t-repeat 𝓤 H A W E 𝓣 (Referent.rtF (Referent.fInt Syntax.w16)) (Plain'.uint-lawful 𝓤 H A W Syntax.w16) (Copies.cRf (Referent.fInt Syntax.w16) .copy 𝓤 H A W) (Plain'.uint-makes 𝓤 H A W Syntax.w16) 2048 G11 8 (Scalar.oInt Syntax.w16 0) (λ m. 0)
+              (Reads.room-gone 𝓤 H A ty·4) tt Path'.refl λ m wa. (Path'.refl, Dec'.lit< tt)) (Typed.g-pre 𝓤 H A W 𝓣 E G12 G13 b101 Δ0 (Typed.pass T12 T13 (s11 bs)) (at159 bs) (AtSlots.g-as-by 𝓤 H A W E (λ ρ. Unit) G12 8 (Rows.arrF (Referent.rtF (Referent.fInt Syntax.w16)) 2048 0) (λ x. x) (Own.told-none 𝓤 H A (G12 .slots)) λ ρ told. Repeat.whole-arr 𝓤 H A W
+              (Referent.rtF (Referent.fInt Syntax.w16)) 2048 tt ρ) (Typed.s-seq 𝓤 H A W 𝓣 E G13 G14 b5 b100 Δ0 (Typed.pass T13 T14 (s12 bs)) (at158 bs) (Repeat.t-repeat 𝓤 H A W E 𝓣 (Referent.rtF (Referent.fInt Syntax.w32)) (Plain'.uint-lawful 𝓤 H A W Syntax.w32) (Copies.cRf (Referent.fInt Syntax.w32) .copy 𝓤 H A W) (Plain'.uint-makes 𝓤 H A W Syntax.w32) 2048 G13
               9 (Scalar.oInt Syntax.w32 0) (λ m. 0) (Reads.room-gone 𝓤 H A ty·5) tt Path'.refl λ m wa. (Path'.refl, Dec'.lit< tt)) d158))
 
           d164 : Typed.Typed 𝓤 H A 𝓣 E G8 b103 Δ0 (at164 bs)
-          d164 = Typed.g-pre 𝓤 H A W 𝓣 E G8 G9 b103 Δ0 (Typed.pass T8 T9 (s7 bs)) (at163 bs) (AtSlots.g-as-by 𝓤 H A W E (λ ρ. Unit) G8 6 (Rows.arrF (Referent.rtF (Referent.fInt Syntax.w8)) 768 0) (λ x. x) (Own.told-none 𝓤 H A (G8 .slots)) λ ρ told. Repeat.whole-arr 𝓤 H A W (Referent.rtF (Referent.fInt Syntax.w8)) 768 tt ρ) (Typed.s-seq 𝓤 H A W 𝓣 E G9 G10 b3
-              b102 Δ0 (Typed.pass T9 T10 (s8 bs)) (at162 bs) (Repeat.t-repeat 𝓤 H A W E 𝓣 (Referent.rtF (Referent.fInt Syntax.w16)) (Plain'.uint-lawful 𝓤 H A W Syntax.w16) (Copies.cRf (Referent.fInt Syntax.w16) .copy 𝓤 H A W) (Plain'.uint-makes 𝓤 H A W Syntax.w16) 32 G9 7 (Scalar.oInt Syntax.w16 0) (λ m. 0) (Reads.room-gone 𝓤 H A ty·3) tt Path'.refl λ m wa.
-              (Path'.refl, Dec'.lit< tt)) (Typed.g-pre 𝓤 H A W 𝓣 E G10 G11 b102 Δ0 (Typed.pass T10 T11 (s9 bs)) (at161 bs) (AtSlots.g-as-by 𝓤 H A W E (λ ρ. Unit) G10 7 (Rows.arrF (Referent.rtF (Referent.fInt Syntax.w16)) 32 0) (λ x. x) (Own.told-none 𝓤 H A (G10 .slots)) λ ρ told. Repeat.whole-arr 𝓤 H A W (Referent.rtF (Referent.fInt Syntax.w16)) 32 tt ρ) d161))
+          d164 = Typed.g-pre 𝓤 H A W 𝓣 E G8 G9 b103 Δ0 (Typed.pass T8 T9 (s7 bs)) (at163 bs) (AtSlots.g-as-by 𝓤 H A W E (λ ρ. Unit) G8 6 (Rows.arrF (Referent.rtF (Referent.fInt Syntax.w8)) 1536 0) (λ x. x) (Own.told-none 𝓤 H A (G8 .slots)) λ ρ told. Repeat.whole-arr 𝓤 H A W (Referent.rtF (Referent.fInt Syntax.w8)) 1536 tt ρ) (Typed.s-seq 𝓤 H A W 𝓣 E G9 G10
+              b3 b102 Δ0 (Typed.pass T9 T10 (s8 bs)) (at162 bs) (Repeat.t-repeat 𝓤 H A W E 𝓣 (Referent.rtF (Referent.fInt Syntax.w16)) (Plain'.uint-lawful 𝓤 H A W Syntax.w16) (Copies.cRf (Referent.fInt Syntax.w16) .copy 𝓤 H A W) (Plain'.uint-makes 𝓤 H A W Syntax.w16) 64 G9 7 (Scalar.oInt Syntax.w16 0) (λ m. 0) (Reads.room-gone 𝓤 H A ty·2) tt Path'.refl λ m wa.
+              (Path'.refl, Dec'.lit< tt)) (Typed.g-pre 𝓤 H A W 𝓣 E G10 G11 b102 Δ0 (Typed.pass T10 T11 (s9 bs)) (at161 bs) (AtSlots.g-as-by 𝓤 H A W E (λ ρ. Unit) G10 7 (Rows.arrF (Referent.rtF (Referent.fInt Syntax.w16)) 64 0) (λ x. x) (Own.told-none 𝓤 H A (G10 .slots)) λ ρ told. Repeat.whole-arr 𝓤 H A W (Referent.rtF (Referent.fInt Syntax.w16)) 64 tt ρ) d161))
 
           d167 : Typed.Typed 𝓤 H A 𝓣 E G5 b105 Δ0 (at167 bs)
           d167 = Typed.s-seq 𝓤 H A W 𝓣 E G5 G6 b1 b104 Δ0 (Typed.pass T5 T6 (s4 bs)) (at166 bs) (Make.t-make-wt 𝓤 H A W E 𝓣 (Array'.Array (Referent.rtF (Referent.fInt Syntax.w16)) 1) Path'.refl (Gives.arrayValOf λ x. Steps.only (Copies.cRf (Referent.fInt Syntax.w16) .vals x)) (Array'.array-lawful 𝓤 H A W (Referent.rtF (Referent.fInt Syntax.w16))
               (Plain'.uint-lawful 𝓤 H A W Syntax.w16) 1) (Array'.array-makes 𝓤 H A W (Referent.rtF (Referent.fInt Syntax.w16)) (Plain'.uint-makes 𝓤 H A W Syntax.w16) 1) G5 5 (List._∷_ (Scalar.oInt Syntax.w16 0) List.[]) (λ m. List._∷_ 0 List.[]) (Reads.room-gone 𝓤 H A ty·0) (tt, tt) Path'.refl (λ m wa. Path'.refl) λ m wa.
               (List._∷_ (Row.valS (Row.sInt Syntax.w16) 0) List.[], ((Path'.refl, Path'.refl), ((Path'.refl, Dec'.lit< tt), tt)))) (Typed.g-pre 𝓤 H A W 𝓣 E G6 G7 b104 Δ0 (Typed.pass T6 T7 (s5 bs)) (at165 bs) (AtSlots.g-as-by 𝓤 H A W E (λ ρ. Unit) G6 5 (Rows.arrF (Referent.rtF (Referent.fInt Syntax.w16)) 1 0) (λ x. x) (Own.told-none 𝓤 H A (G6 .slots)) λ ρ told.
               Repeat.whole-arr 𝓤 H A W (Referent.rtF (Referent.fInt Syntax.w16)) 1 tt ρ) (Typed.s-seq 𝓤 H A W 𝓣 E G7 G8 b2 b103 Δ0 (Typed.pass T7 T8 (s6 bs)) (at164 bs) (Repeat.t-repeat 𝓤 H A W E 𝓣 (Referent.rtF (Referent.fInt Syntax.w8)) (Plain'.uint-lawful 𝓤 H A W Syntax.w8) (Copies.cRf (Referent.fInt Syntax.w8) .copy 𝓤 H A W) (Plain'.uint-makes 𝓤 H A W
-              Syntax.w8) 768 G7 6 (Scalar.oInt Syntax.w8 0) (λ m. 0) (Reads.room-gone 𝓤 H A ty·2) tt Path'.refl λ m wa. (Path'.refl, Dec'.lit< tt)) d164))
+              Syntax.w8) 1536 G7 6 (Scalar.oInt Syntax.w8 0) (λ m. 0) (Reads.room-gone 𝓤 H A ty·3) tt Path'.refl λ m wa. (Path'.refl, Dec'.lit< tt)) d164))
 
           d169 : Typed.Typed 𝓤 H A 𝓣 E G0 b106 Δ0 (at169 bs)
           d169 = Typed.s-seq 𝓤 H A W 𝓣 E G0 G4 b0 b105 Δ0 (Typed.pass T0 T4 (s2 bs)) (at168 bs) (Make.t-make-wt 𝓤 H A W E 𝓣 (Array'.Array (Referent.rtF (Referent.fInt Syntax.w16)) 1) Path'.refl (Gives.arrayValOf λ x. Steps.only (Copies.cRf (Referent.fInt Syntax.w16) .vals x)) (Array'.array-lawful 𝓤 H A W (Referent.rtF (Referent.fInt Syntax.w16))
@@ -3438,7 +3438,7 @@ module _ (claims· : Claims) where
         pub names : After-names·own before
 
       abbrev pub Need-slice-aggregate-read-plan-3 : Type 0
-      Need-slice-aggregate-read-plan-3 = (c : After-names) → Relend.CountIs T31 20 21 (λ x. x) (λ u. 768) (m27 (c .before) (c .names .given))
+      Need-slice-aggregate-read-plan-3 = (c : After-names) → Relend.CountIs T31 20 21 (λ x. x) (λ u. 1536) (m27 (c .before) (c .names .given))
 
       abbrev pub m28 : (before : After-dependency-count) → (given : s29 (before .before .before .before .before .before .blocks) .gives (m26 (before .before) (before .dependency-count .given))) → Typed.Mo T32
       m28 = λ before given. s30 (before .before .before .before .before .before .blocks) .next (m27 before given)
@@ -3455,7 +3455,7 @@ module _ (claims· : Claims) where
         pub stop-counts : After-stop-counts·own before
 
       abbrev pub Need-slice-aggregate-read-plan-4 : Type 0
-      Need-slice-aggregate-read-plan-4 = (c : After-stop-counts) → Relend.CountIs T34 22 23 (λ x. x) (λ u. 32) (m29 (c .before) (c .stop-counts .given))
+      Need-slice-aggregate-read-plan-4 = (c : After-stop-counts) → Relend.CountIs T34 22 23 (λ x. x) (λ u. 64) (m29 (c .before) (c .stop-counts .given))
 
       abbrev pub m30 : (before : After-names) → (given : s32 (before .before .before .before .before .before .before .blocks) .gives (m28 (before .before) (before .names .given))) → Typed.Mo T35
       m30 = λ before given. s33 (before .before .before .before .before .before .before .blocks) .next (m29 before given)
@@ -3472,7 +3472,7 @@ module _ (claims· : Claims) where
         pub locations : After-locations·own before
 
       abbrev pub Need-slice-aggregate-read-plan-5 : Type 0
-      Need-slice-aggregate-read-plan-5 = (c : After-locations) → Relend.CountIs T37 24 25 (λ x. x) (λ u. 1024) (m31 (c .before) (c .locations .given))
+      Need-slice-aggregate-read-plan-5 = (c : After-locations) → Relend.CountIs T37 24 25 (λ x. x) (λ u. 2048) (m31 (c .before) (c .locations .given))
 
       abbrev pub m32 : (before : After-stop-counts) → (given : s35 (before .before .before .before .before .before .before .before .blocks) .gives (m30 (before .before) (before .stop-counts .given))) → Typed.Mo T38
       m32 = λ before given. s36 (before .before .before .before .before .before .before .before .blocks) .next (m31 before given)
@@ -3489,7 +3489,7 @@ module _ (claims· : Claims) where
         pub times : After-times·own before
 
       abbrev pub Need-slice-aggregate-read-plan-6 : Type 0
-      Need-slice-aggregate-read-plan-6 = (c : After-times) → Relend.CountIs T40 26 27 (λ x. x) (λ u. 1024) (m33 (c .before) (c .times .given))
+      Need-slice-aggregate-read-plan-6 = (c : After-times) → Relend.CountIs T40 26 27 (λ x. x) (λ u. 2048) (m33 (c .before) (c .times .given))
 
       abbrev pub m34 : (before : After-locations) → (given : s38 (before .before .before .before .before .before .before .before .before .blocks) .gives (m32 (before .before) (before .locations .given))) → Typed.Mo T41
       m34 = λ before given. s39 (before .before .before .before .before .before .before .before .before .blocks) .next (m33 before given)
@@ -3506,7 +3506,7 @@ module _ (claims· : Claims) where
         pub visited : After-visited·own before
 
       abbrev pub Need-slice-aggregate-read-plan-7 : Type 0
-      Need-slice-aggregate-read-plan-7 = (c : After-visited) → Relend.CountIs T43 28 29 (λ x. x) (λ u. 32) (m35 (c .before) (c .visited .given))
+      Need-slice-aggregate-read-plan-7 = (c : After-visited) → Relend.CountIs T43 28 29 (λ x. x) (λ u. 64) (m35 (c .before) (c .visited .given))
 
       abbrev pub m36 : (before : After-times) → (given : s41 (before .before .before .before .before .before .before .before .before .before .blocks) .gives (m34 (before .before) (before .times .given))) → Typed.Mo T44
       m36 = λ before given. s42 (before .before .before .before .before .before .before .before .before .before .blocks) .next (m35 before given)
@@ -3523,7 +3523,7 @@ module _ (claims· : Claims) where
         pub drone-flags : After-drone-flags·own before
 
       abbrev pub Need-slice-aggregate-read-plan-8 : Type 0
-      Need-slice-aggregate-read-plan-8 = (c : After-drone-flags) → Relend.CountIs T46 30 31 (λ x. x) (λ u. 32) (m37 (c .before) (c .drone-flags .given))
+      Need-slice-aggregate-read-plan-8 = (c : After-drone-flags) → Relend.CountIs T46 30 31 (λ x. x) (λ u. 64) (m37 (c .before) (c .drone-flags .given))
 
       abbrev pub m38 : (before : After-visited) → (given : s44 (before .before .before .before .before .before .before .before .before .before .before .blocks) .gives (m36 (before .before) (before .visited .given))) → Typed.Mo T47
       m38 = λ before given. s45 (before .before .before .before .before .before .before .before .before .before .before .blocks) .next (m37 before given)
@@ -3540,7 +3540,7 @@ module _ (claims· : Claims) where
         pub dependencies : After-dependencies·own before
 
       abbrev pub Need-slice-aggregate-read-plan-9 : Type 0
-      Need-slice-aggregate-read-plan-9 = (c : After-dependencies) → Relend.CountIs T49 32 33 (λ x. x) (λ u. 2048) (m39 (c .before) (c .dependencies .given))
+      Need-slice-aggregate-read-plan-9 = (c : After-dependencies) → Relend.CountIs T49 32 33 (λ x. x) (λ u. 4096) (m39 (c .before) (c .dependencies .given))
 
       abbrev pub m40 : (before : After-drone-flags) → (given : s47 (before .before .before .before .before .before .before .before .before .before .before .before .blocks) .gives (m38 (before .before) (before .drone-flags .given))) → Typed.Mo T50
       m40 = λ before given. s48 (before .before .before .before .before .before .before .before .before .before .before .before .blocks) .next (m39 before given)
@@ -3803,7 +3803,7 @@ module _ (claims· : Claims) where
         pub names3 : After-names3·own before
 
       abbrev pub Need-slice-aggregate-press-each-3 : Type 0
-      Need-slice-aggregate-press-each-3 = (c : After-names3) → Relend.CountIs T104 39 40 (λ x. x) (λ u. 768) (m72 (c .before) (c .names3 .given))
+      Need-slice-aggregate-press-each-3 = (c : After-names3) → Relend.CountIs T104 39 40 (λ x. x) (λ u. 1536) (m72 (c .before) (c .names3 .given))
 
       abbrev pub m73 : (before : After-dependency-count3) → (given : s101 (before .before .before .before .before .before .before .before .before .before .before .before .before .before .before .before .before .before .before .before .before .before .before .before .before .before .before .blocks) .gives (m71 (before .before) (before .dependency-count3
           .given))) → Typed.Mo T105
@@ -3822,7 +3822,7 @@ module _ (claims· : Claims) where
         pub stop-counts3 : After-stop-counts3·own before
 
       abbrev pub Need-slice-aggregate-press-each-4 : Type 0
-      Need-slice-aggregate-press-each-4 = (c : After-stop-counts3) → Relend.CountIs T107 41 42 (λ x. x) (λ u. 32) (m74 (c .before) (c .stop-counts3 .given))
+      Need-slice-aggregate-press-each-4 = (c : After-stop-counts3) → Relend.CountIs T107 41 42 (λ x. x) (λ u. 64) (m74 (c .before) (c .stop-counts3 .given))
 
       abbrev pub m75 : (before : After-names3) → (given : s104 (before .before .before .before .before .before .before .before .before .before .before .before .before .before .before .before .before .before .before .before .before .before .before .before .before .before .before .before .blocks) .gives (m73 (before .before) (before .names3 .given))) →
           Typed.Mo T108
@@ -3841,7 +3841,7 @@ module _ (claims· : Claims) where
         pub locations3 : After-locations3·own before
 
       abbrev pub Need-slice-aggregate-press-each-5 : Type 0
-      Need-slice-aggregate-press-each-5 = (c : After-locations3) → Relend.CountIs T110 43 44 (λ x. x) (λ u. 1024) (m76 (c .before) (c .locations3 .given))
+      Need-slice-aggregate-press-each-5 = (c : After-locations3) → Relend.CountIs T110 43 44 (λ x. x) (λ u. 2048) (m76 (c .before) (c .locations3 .given))
 
       abbrev pub m77 : (before : After-stop-counts3) → (given : s107 (before .before .before .before .before .before .before .before .before .before .before .before .before .before .before .before .before .before .before .before .before .before .before .before .before .before .before .before .before .blocks) .gives (m75 (before .before) (before .stop-counts3
           .given))) → Typed.Mo T111
@@ -3860,7 +3860,7 @@ module _ (claims· : Claims) where
         pub times3 : After-times3·own before
 
       abbrev pub Need-slice-aggregate-press-each-6 : Type 0
-      Need-slice-aggregate-press-each-6 = (c : After-times3) → Relend.CountIs T113 45 46 (λ x. x) (λ u. 1024) (m78 (c .before) (c .times3 .given))
+      Need-slice-aggregate-press-each-6 = (c : After-times3) → Relend.CountIs T113 45 46 (λ x. x) (λ u. 2048) (m78 (c .before) (c .times3 .given))
 
       abbrev pub m79 : (before : After-locations3) → (given : s110 (before .before .before .before .before .before .before .before .before .before .before .before .before .before .before .before .before .before .before .before .before .before .before .before .before .before .before .before .before .before .blocks) .gives (m77 (before .before) (before
           .locations3 .given))) → Typed.Mo T114
@@ -3879,7 +3879,7 @@ module _ (claims· : Claims) where
         pub visited3 : After-visited3·own before
 
       abbrev pub Need-slice-aggregate-press-each-7 : Type 0
-      Need-slice-aggregate-press-each-7 = (c : After-visited3) → Relend.CountIs T116 47 48 (λ x. x) (λ u. 32) (m80 (c .before) (c .visited3 .given))
+      Need-slice-aggregate-press-each-7 = (c : After-visited3) → Relend.CountIs T116 47 48 (λ x. x) (λ u. 64) (m80 (c .before) (c .visited3 .given))
 
       abbrev pub m81 : (before : After-times3) → (given : s113 (before .before .before .before .before .before .before .before .before .before .before .before .before .before .before .before .before .before .before .before .before .before .before .before .before .before .before .before .before .before .before .blocks) .gives (m79 (before .before) (before
           .times3 .given))) → Typed.Mo T117
@@ -3898,7 +3898,7 @@ module _ (claims· : Claims) where
         pub drone-flags3 : After-drone-flags3·own before
 
       abbrev pub Need-slice-aggregate-press-each-8 : Type 0
-      Need-slice-aggregate-press-each-8 = (c : After-drone-flags3) → Relend.CountIs T119 49 50 (λ x. x) (λ u. 32) (m82 (c .before) (c .drone-flags3 .given))
+      Need-slice-aggregate-press-each-8 = (c : After-drone-flags3) → Relend.CountIs T119 49 50 (λ x. x) (λ u. 64) (m82 (c .before) (c .drone-flags3 .given))
 
       abbrev pub m83 : (before : After-visited3) → (given : s116 (before .before .before .before .before .before .before .before .before .before .before .before .before .before .before .before .before .before .before .before .before .before .before .before .before .before .before .before .before .before .before .before .blocks) .gives (m81 (before .before)
           (before .visited3 .given))) → Typed.Mo T120
@@ -3919,7 +3919,7 @@ module _ (claims· : Claims) where
         pub dependencies3 : After-dependencies3·own before
 
       abbrev pub Need-slice-aggregate-press-each-9 : Type 0
-      Need-slice-aggregate-press-each-9 = (c : After-dependencies3) → Relend.CountIs T122 51 52 (λ x. x) (λ u. 2048) (m84 (c .before) (c .dependencies3 .given))
+      Need-slice-aggregate-press-each-9 = (c : After-dependencies3) → Relend.CountIs T122 51 52 (λ x. x) (λ u. 4096) (m84 (c .before) (c .dependencies3 .given))
 
       abbrev pub m85 : (before : After-drone-flags3) → (given : s119 (before .before .before .before .before .before .before .before .before .before .before .before .before .before .before .before .before .before .before .before .before .before .before .before .before .before .before .before .before .before .before .before .before .blocks) .gives (m83
           (before .before) (before .drone-flags3 .given))) → Typed.Mo T123
@@ -4057,7 +4057,7 @@ module _ (claims· : Claims) where
             .before .before .before .before .before .before .before .before .before .before .κs) (c .before .before .before .before .before .before .before .before .before .before .before .before .before .before .before .before .before .before .before .before .before .before .before .before .args) (c .before .before .before .before .before .before .before
             .before .before .before .before .before .before .before .before .before .before .before .before .before .before .before .before .before .blocks)) (m67 (c .before))
         lay7 = λ c. λ g.
-            (Relend.count-is T98 35 36 (λ x. x) (λ u. 1) (m68 record { before = c .before; if1 = c .if1 } g) (slice-aggregate-press-each record { before = record { before = c .before; if1 = c .if1 }; drone-count3 = record { given = g } }), λ g'. (Relend.count-is T101 37 38 (λ x. x) (λ u. 1) (m70 record { before = record { before = c .before; if1 = c .if1 }; drone-count3 = record { given = g } } g') (slice-aggregate-press-each-2 record { before = record { before = record { before = c .before; if1 = c .if1 }; drone-count3 = record { given = g } }; dependency-count3 = record { given = g' } }), λ g''. (Relend.count-is T104 39 40 (λ x. x) (λ u. 768) (m72 record { before = record { before = record { before = c .before; if1 = c .if1 }; drone-count3 = record { given = g } }; dependency-count3 = record { given = g' } } g'') (slice-aggregate-press-each-3 record { before = record { before = record { before = record { before = c .before; if1 = c .if1 }; drone-count3 = record { given = g } }; dependency-count3 = record { given = g' } }; names3 = record { given = g'' } }), λ g'3. (Relend.count-is T107 41 42 (λ x. x) (λ u. 32) (m74 record { before = record { before = record { before = record { before = c .before; if1 = c .if1 }; drone-count3 = record { given = g } }; dependency-count3 = record { given = g' } }; names3 = record { given = g'' } } g'3) (slice-aggregate-press-each-4 record { before = record { before = record { before = record { before = record { before = c .before; if1 = c .if1 }; drone-count3 = record { given = g } }; dependency-count3 = record { given = g' } }; names3 = record { given = g'' } }; stop-counts3 = record { given = g'3 } }), λ g'4. (Relend.count-is T110 43 44 (λ x. x) (λ u. 1024) (m76 record { before = record { before = record { before = record { before = record { before = c .before; if1 = c .if1 }; drone-count3 = record { given = g } }; dependency-count3 = record { given = g' } }; names3 = record { given = g'' } }; stop-counts3 = record { given = g'3 } } g'4) (slice-aggregate-press-each-5 record { before = record { before = record { before = record { before = record { before = record { before = c .before; if1 = c .if1 }; drone-count3 = record { given = g } }; dependency-count3 = record { given = g' } }; names3 = record { given = g'' } }; stop-counts3 = record { given = g'3 } }; locations3 = record { given = g'4 } }), λ g'5. (Relend.count-is T113 45 46 (λ x. x) (λ u. 1024) (m78 record { before = record { before = record { before = record { before = record { before = record { before = c .before; if1 = c .if1 }; drone-count3 = record { given = g } }; dependency-count3 = record { given = g' } }; names3 = record { given = g'' } }; stop-counts3 = record { given = g'3 } }; locations3 = record { given = g'4 } } g'5) (slice-aggregate-press-each-6 record { before = record { before = record { before = record { before = record { before = record { before = record { before = c .before; if1 = c .if1 }; drone-count3 = record { given = g } }; dependency-count3 = record { given = g' } }; names3 = record { given = g'' } }; stop-counts3 = record { given = g'3 } }; locations3 = record { given = g'4 } }; times3 = record { given = g'5 } }), λ g'6. (Relend.count-is T116 47 48 (λ x. x) (λ u. 32) (m80 record { before = record { before = record { before = record { before = record { before = record { before = record { before = c .before; if1 = c .if1 }; drone-count3 = record { given = g } }; dependency-count3 = record { given = g' } }; names3 = record { given = g'' } }; stop-counts3 = record { given = g'3 } }; locations3 = record { given = g'4 } }; times3 = record { given = g'5 } } g'6) (slice-aggregate-press-each-7 record { before = record { before = record { before = record { before = record { before = record { before = record { before = record { before = c .before; if1 = c .if1 }; drone-count3 = record { given = g } }; dependency-count3 = record { given = g' } }; names3 = record { given = g'' } }; stop-counts3 = record { given = g'3 } }; locations3 = record { given = g'4 } }; times3 = record { given = g'5 } }; visited3 = record { given = g'6 } }), λ g'7. (Relend.count-is T119 49 50 (λ x. x) (λ u. 32) (m82 record { before = record { before = record { before = record { before = record { before = record { before = record { before = record { before = c .before; if1 = c .if1 }; drone-count3 = record { given = g } }; dependency-count3 = record { given = g' } }; names3 = record { given = g'' } }; stop-counts3 = record { given = g'3 } }; locations3 = record { given = g'4 } }; times3 = record { given = g'5 } }; visited3 = record { given = g'6 } } g'7) (slice-aggregate-press-each-8 record { before = record { before = record { before = record { before = record { before = record { before = record { before = record { before = record { before = c .before; if1 = c .if1 }; drone-count3 = record { given = g } }; dependency-count3 = record { given = g' } }; names3 = record { given = g'' } }; stop-counts3 = record { given = g'3 } }; locations3 = record { given = g'4 } }; times3 = record { given = g'5 } }; visited3 = record { given = g'6 } }; drone-flags3 = record { given = g'7 } }), λ g'8. (Relend.count-is T122 51 52 (λ x. x) (λ u. 2048) (m84 record { before = record { before = record { before = record { before = record { before = record { before = record { before = record { before = record { before = c .before; if1 = c .if1 }; drone-count3 = record { given = g } }; dependency-count3 = record { given = g' } }; names3 = record { given = g'' } }; stop-counts3 = record { given = g'3 } }; locations3 = record { given = g'4 } }; times3 = record { given = g'5 } }; visited3 = record { given = g'6 } }; drone-flags3 = record { given = g'7 } } g'8) (slice-aggregate-press-each-9 record { before = record { before = record { before = record { before = record { before = record { before = record { before = record { before = record { before = record { before = c .before; if1 = c .if1 }; drone-count3 = record { given = g } }; dependency-count3 = record { given = g' } }; names3 = record { given = g'' } }; stop-counts3 = record { given = g'3 } }; locations3 = record { given = g'4 } }; times3 = record { given = g'5 } }; visited3 = record { given = g'6 } }; drone-flags3 = record { given = g'7 } }; dependencies3 = record { given = g'8 } }), (press-each-requires record { before = record { before = record { before = record { before = record { before = record { before = record { before = record { before = record { before = record { before = c .before; if1 = c .if1 }; drone-count3 = record { given = g } }; dependency-count3 = record { given = g' } }; names3 = record { given = g'' } }; stop-counts3 = record { given = g'3 } }; locations3 = record { given = g'4 } }; times3 = record { given = g'5 } }; visited3 = record { given = g'6 } }; drone-flags3 = record { given = g'7 } }; dependencies3 = record { given = g'8 } }, λ g'9. lay8 record { before = record { before = record { before = record { before = record { before = record { before = record { before = record { before = record { before = record { before = record { before = c .before; if1 = c .if1 }; drone-count3 = record { given = g } }; dependency-count3 = record { given = g' } }; names3 = record { given = g'' } }; stop-counts3 = record { given = g'3 } }; locations3 = record { given = g'4 } }; times3 = record { given = g'5 } }; visited3 = record { given = g'6 } }; drone-flags3 = record { given = g'7 } }; dependencies3 = record { given = g'8 } }; press-each = Called.called ps·4 r·4 (claims· .9) T123 args·1 (m85 record { before = record { before = record { before = record { before = record { before = record { before = record { before = record { before = record { before = c .before; if1 = c .if1 }; drone-count3 = record { given = g } }; dependency-count3 = record { given = g' } }; names3 = record { given = g'' } }; stop-counts3 = record { given = g'3 } }; locations3 = record { given = g'4 } }; times3 = record { given = g'5 } }; visited3 = record { given = g'6 } }; drone-flags3 = record { given = g'7 } } g'8) g'9 }))))))))))
+            (Relend.count-is T98 35 36 (λ x. x) (λ u. 1) (m68 record { before = c .before; if1 = c .if1 } g) (slice-aggregate-press-each record { before = record { before = c .before; if1 = c .if1 }; drone-count3 = record { given = g } }), λ g'. (Relend.count-is T101 37 38 (λ x. x) (λ u. 1) (m70 record { before = record { before = c .before; if1 = c .if1 }; drone-count3 = record { given = g } } g') (slice-aggregate-press-each-2 record { before = record { before = record { before = c .before; if1 = c .if1 }; drone-count3 = record { given = g } }; dependency-count3 = record { given = g' } }), λ g''. (Relend.count-is T104 39 40 (λ x. x) (λ u. 1536) (m72 record { before = record { before = record { before = c .before; if1 = c .if1 }; drone-count3 = record { given = g } }; dependency-count3 = record { given = g' } } g'') (slice-aggregate-press-each-3 record { before = record { before = record { before = record { before = c .before; if1 = c .if1 }; drone-count3 = record { given = g } }; dependency-count3 = record { given = g' } }; names3 = record { given = g'' } }), λ g'3. (Relend.count-is T107 41 42 (λ x. x) (λ u. 64) (m74 record { before = record { before = record { before = record { before = c .before; if1 = c .if1 }; drone-count3 = record { given = g } }; dependency-count3 = record { given = g' } }; names3 = record { given = g'' } } g'3) (slice-aggregate-press-each-4 record { before = record { before = record { before = record { before = record { before = c .before; if1 = c .if1 }; drone-count3 = record { given = g } }; dependency-count3 = record { given = g' } }; names3 = record { given = g'' } }; stop-counts3 = record { given = g'3 } }), λ g'4. (Relend.count-is T110 43 44 (λ x. x) (λ u. 2048) (m76 record { before = record { before = record { before = record { before = record { before = c .before; if1 = c .if1 }; drone-count3 = record { given = g } }; dependency-count3 = record { given = g' } }; names3 = record { given = g'' } }; stop-counts3 = record { given = g'3 } } g'4) (slice-aggregate-press-each-5 record { before = record { before = record { before = record { before = record { before = record { before = c .before; if1 = c .if1 }; drone-count3 = record { given = g } }; dependency-count3 = record { given = g' } }; names3 = record { given = g'' } }; stop-counts3 = record { given = g'3 } }; locations3 = record { given = g'4 } }), λ g'5. (Relend.count-is T113 45 46 (λ x. x) (λ u. 2048) (m78 record { before = record { before = record { before = record { before = record { before = record { before = c .before; if1 = c .if1 }; drone-count3 = record { given = g } }; dependency-count3 = record { given = g' } }; names3 = record { given = g'' } }; stop-counts3 = record { given = g'3 } }; locations3 = record { given = g'4 } } g'5) (slice-aggregate-press-each-6 record { before = record { before = record { before = record { before = record { before = record { before = record { before = c .before; if1 = c .if1 }; drone-count3 = record { given = g } }; dependency-count3 = record { given = g' } }; names3 = record { given = g'' } }; stop-counts3 = record { given = g'3 } }; locations3 = record { given = g'4 } }; times3 = record { given = g'5 } }), λ g'6. (Relend.count-is T116 47 48 (λ x. x) (λ u. 64) (m80 record { before = record { before = record { before = record { before = record { before = record { before = record { before = c .before; if1 = c .if1 }; drone-count3 = record { given = g } }; dependency-count3 = record { given = g' } }; names3 = record { given = g'' } }; stop-counts3 = record { given = g'3 } }; locations3 = record { given = g'4 } }; times3 = record { given = g'5 } } g'6) (slice-aggregate-press-each-7 record { before = record { before = record { before = record { before = record { before = record { before = record { before = record { before = c .before; if1 = c .if1 }; drone-count3 = record { given = g } }; dependency-count3 = record { given = g' } }; names3 = record { given = g'' } }; stop-counts3 = record { given = g'3 } }; locations3 = record { given = g'4 } }; times3 = record { given = g'5 } }; visited3 = record { given = g'6 } }), λ g'7. (Relend.count-is T119 49 50 (λ x. x) (λ u. 64) (m82 record { before = record { before = record { before = record { before = record { before = record { before = record { before = record { before = c .before; if1 = c .if1 }; drone-count3 = record { given = g } }; dependency-count3 = record { given = g' } }; names3 = record { given = g'' } }; stop-counts3 = record { given = g'3 } }; locations3 = record { given = g'4 } }; times3 = record { given = g'5 } }; visited3 = record { given = g'6 } } g'7) (slice-aggregate-press-each-8 record { before = record { before = record { before = record { before = record { before = record { before = record { before = record { before = record { before = c .before; if1 = c .if1 }; drone-count3 = record { given = g } }; dependency-count3 = record { given = g' } }; names3 = record { given = g'' } }; stop-counts3 = record { given = g'3 } }; locations3 = record { given = g'4 } }; times3 = record { given = g'5 } }; visited3 = record { given = g'6 } }; drone-flags3 = record { given = g'7 } }), λ g'8. (Relend.count-is T122 51 52 (λ x. x) (λ u. 4096) (m84 record { before = record { before = record { before = record { before = record { before = record { before = record { before = record { before = record { before = c .before; if1 = c .if1 }; drone-count3 = record { given = g } }; dependency-count3 = record { given = g' } }; names3 = record { given = g'' } }; stop-counts3 = record { given = g'3 } }; locations3 = record { given = g'4 } }; times3 = record { given = g'5 } }; visited3 = record { given = g'6 } }; drone-flags3 = record { given = g'7 } } g'8) (slice-aggregate-press-each-9 record { before = record { before = record { before = record { before = record { before = record { before = record { before = record { before = record { before = record { before = c .before; if1 = c .if1 }; drone-count3 = record { given = g } }; dependency-count3 = record { given = g' } }; names3 = record { given = g'' } }; stop-counts3 = record { given = g'3 } }; locations3 = record { given = g'4 } }; times3 = record { given = g'5 } }; visited3 = record { given = g'6 } }; drone-flags3 = record { given = g'7 } }; dependencies3 = record { given = g'8 } }), (press-each-requires record { before = record { before = record { before = record { before = record { before = record { before = record { before = record { before = record { before = record { before = c .before; if1 = c .if1 }; drone-count3 = record { given = g } }; dependency-count3 = record { given = g' } }; names3 = record { given = g'' } }; stop-counts3 = record { given = g'3 } }; locations3 = record { given = g'4 } }; times3 = record { given = g'5 } }; visited3 = record { given = g'6 } }; drone-flags3 = record { given = g'7 } }; dependencies3 = record { given = g'8 } }, λ g'9. lay8 record { before = record { before = record { before = record { before = record { before = record { before = record { before = record { before = record { before = record { before = record { before = c .before; if1 = c .if1 }; drone-count3 = record { given = g } }; dependency-count3 = record { given = g' } }; names3 = record { given = g'' } }; stop-counts3 = record { given = g'3 } }; locations3 = record { given = g'4 } }; times3 = record { given = g'5 } }; visited3 = record { given = g'6 } }; drone-flags3 = record { given = g'7 } }; dependencies3 = record { given = g'8 } }; press-each = Called.called ps·4 r·4 (claims· .9) T123 args·1 (m85 record { before = record { before = record { before = record { before = record { before = record { before = record { before = record { before = record { before = c .before; if1 = c .if1 }; drone-count3 = record { given = g } }; dependency-count3 = record { given = g' } }; names3 = record { given = g'' } }; stop-counts3 = record { given = g'3 } }; locations3 = record { given = g'4 } }; times3 = record { given = g'5 } }; visited3 = record { given = g'6 } }; drone-flags3 = record { given = g'7 } } g'8) g'9 }))))))))))
 
         lay6 : (c : Else1) → at15 (c .before .before .before .before .before .before .before .before .before .before .before .before .before .before .before .before .before .before .before .before .before .before .before .before .blocks) (W1 (c .before .before) (After-number-of·gave (c .before))) (m53 (c .before .before) (After-number-of·gave (c .before)))
         lay6 = λ c. lay7 record { before = c .before; if1 = c .if1 }
@@ -4082,7 +4082,7 @@ module _ (claims· : Claims) where
 
         lay1 : (c : After-zero-record) → at152 (c .before .before .before .blocks) (W0 (c .before .before .before .κs) (c .before .before .before .args) (c .before .before .before .blocks)) (m19 (c .before) (After-zero-record·gave c))
         lay1 = λ c. λ g.
-            (Relend.count-is T25 16 17 (λ x. x) (λ u. 1) (m23 record { before = c .before; zero-record = c .zero-record } g) (slice-aggregate-read-plan record { before = record { before = c .before; zero-record = c .zero-record }; drone-count = record { given = g } }), λ g'. (Relend.count-is T28 18 19 (λ x. x) (λ u. 1) (m25 record { before = record { before = c .before; zero-record = c .zero-record }; drone-count = record { given = g } } g') (slice-aggregate-read-plan-2 record { before = record { before = record { before = c .before; zero-record = c .zero-record }; drone-count = record { given = g } }; dependency-count = record { given = g' } }), λ g''. (Relend.count-is T31 20 21 (λ x. x) (λ u. 768) (m27 record { before = record { before = record { before = c .before; zero-record = c .zero-record }; drone-count = record { given = g } }; dependency-count = record { given = g' } } g'') (slice-aggregate-read-plan-3 record { before = record { before = record { before = record { before = c .before; zero-record = c .zero-record }; drone-count = record { given = g } }; dependency-count = record { given = g' } }; names = record { given = g'' } }), λ g'3. (Relend.count-is T34 22 23 (λ x. x) (λ u. 32) (m29 record { before = record { before = record { before = record { before = c .before; zero-record = c .zero-record }; drone-count = record { given = g } }; dependency-count = record { given = g' } }; names = record { given = g'' } } g'3) (slice-aggregate-read-plan-4 record { before = record { before = record { before = record { before = record { before = c .before; zero-record = c .zero-record }; drone-count = record { given = g } }; dependency-count = record { given = g' } }; names = record { given = g'' } }; stop-counts = record { given = g'3 } }), λ g'4. (Relend.count-is T37 24 25 (λ x. x) (λ u. 1024) (m31 record { before = record { before = record { before = record { before = record { before = c .before; zero-record = c .zero-record }; drone-count = record { given = g } }; dependency-count = record { given = g' } }; names = record { given = g'' } }; stop-counts = record { given = g'3 } } g'4) (slice-aggregate-read-plan-5 record { before = record { before = record { before = record { before = record { before = record { before = c .before; zero-record = c .zero-record }; drone-count = record { given = g } }; dependency-count = record { given = g' } }; names = record { given = g'' } }; stop-counts = record { given = g'3 } }; locations = record { given = g'4 } }), λ g'5. (Relend.count-is T40 26 27 (λ x. x) (λ u. 1024) (m33 record { before = record { before = record { before = record { before = record { before = record { before = c .before; zero-record = c .zero-record }; drone-count = record { given = g } }; dependency-count = record { given = g' } }; names = record { given = g'' } }; stop-counts = record { given = g'3 } }; locations = record { given = g'4 } } g'5) (slice-aggregate-read-plan-6 record { before = record { before = record { before = record { before = record { before = record { before = record { before = c .before; zero-record = c .zero-record }; drone-count = record { given = g } }; dependency-count = record { given = g' } }; names = record { given = g'' } }; stop-counts = record { given = g'3 } }; locations = record { given = g'4 } }; times = record { given = g'5 } }), λ g'6. (Relend.count-is T43 28 29 (λ x. x) (λ u. 32) (m35 record { before = record { before = record { before = record { before = record { before = record { before = record { before = c .before; zero-record = c .zero-record }; drone-count = record { given = g } }; dependency-count = record { given = g' } }; names = record { given = g'' } }; stop-counts = record { given = g'3 } }; locations = record { given = g'4 } }; times = record { given = g'5 } } g'6) (slice-aggregate-read-plan-7 record { before = record { before = record { before = record { before = record { before = record { before = record { before = record { before = c .before; zero-record = c .zero-record }; drone-count = record { given = g } }; dependency-count = record { given = g' } }; names = record { given = g'' } }; stop-counts = record { given = g'3 } }; locations = record { given = g'4 } }; times = record { given = g'5 } }; visited = record { given = g'6 } }), λ g'7. (Relend.count-is T46 30 31 (λ x. x) (λ u. 32) (m37 record { before = record { before = record { before = record { before = record { before = record { before = record { before = record { before = c .before; zero-record = c .zero-record }; drone-count = record { given = g } }; dependency-count = record { given = g' } }; names = record { given = g'' } }; stop-counts = record { given = g'3 } }; locations = record { given = g'4 } }; times = record { given = g'5 } }; visited = record { given = g'6 } } g'7) (slice-aggregate-read-plan-8 record { before = record { before = record { before = record { before = record { before = record { before = record { before = record { before = record { before = c .before; zero-record = c .zero-record }; drone-count = record { given = g } }; dependency-count = record { given = g' } }; names = record { given = g'' } }; stop-counts = record { given = g'3 } }; locations = record { given = g'4 } }; times = record { given = g'5 } }; visited = record { given = g'6 } }; drone-flags = record { given = g'7 } }), λ g'8. (Relend.count-is T49 32 33 (λ x. x) (λ u. 2048) (m39 record { before = record { before = record { before = record { before = record { before = record { before = record { before = record { before = record { before = c .before; zero-record = c .zero-record }; drone-count = record { given = g } }; dependency-count = record { given = g' } }; names = record { given = g'' } }; stop-counts = record { given = g'3 } }; locations = record { given = g'4 } }; times = record { given = g'5 } }; visited = record { given = g'6 } }; drone-flags = record { given = g'7 } } g'8) (slice-aggregate-read-plan-9 record { before = record { before = record { before = record { before = record { before = record { before = record { before = record { before = record { before = record { before = c .before; zero-record = c .zero-record }; drone-count = record { given = g } }; dependency-count = record { given = g' } }; names = record { given = g'' } }; stop-counts = record { given = g'3 } }; locations = record { given = g'4 } }; times = record { given = g'5 } }; visited = record { given = g'6 } }; drone-flags = record { given = g'7 } }; dependencies = record { given = g'8 } }), (read-plan-requires record { before = record { before = record { before = record { before = record { before = record { before = record { before = record { before = record { before = record { before = c .before; zero-record = c .zero-record }; drone-count = record { given = g } }; dependency-count = record { given = g' } }; names = record { given = g'' } }; stop-counts = record { given = g'3 } }; locations = record { given = g'4 } }; times = record { given = g'5 } }; visited = record { given = g'6 } }; drone-flags = record { given = g'7 } }; dependencies = record { given = g'8 } }, λ g'9. lay2 record { before = record { before = record { before = record { before = record { before = record { before = record { before = record { before = record { before = record { before = record { before = c .before; zero-record = c .zero-record }; drone-count = record { given = g } }; dependency-count = record { given = g' } }; names = record { given = g'' } }; stop-counts = record { given = g'3 } }; locations = record { given = g'4 } }; times = record { given = g'5 } }; visited = record { given = g'6 } }; drone-flags = record { given = g'7 } }; dependencies = record { given = g'8 } }; read-plan = Called.called ps·1 r·1 (claims· .3) T50 args·0 (m40 record { before = record { before = record { before = record { before = record { before = record { before = record { before = record { before = record { before = c .before; zero-record = c .zero-record }; drone-count = record { given = g } }; dependency-count = record { given = g' } }; names = record { given = g'' } }; stop-counts = record { given = g'3 } }; locations = record { given = g'4 } }; times = record { given = g'5 } }; visited = record { given = g'6 } }; drone-flags = record { given = g'7 } } g'8) g'9 }))))))))))
+            (Relend.count-is T25 16 17 (λ x. x) (λ u. 1) (m23 record { before = c .before; zero-record = c .zero-record } g) (slice-aggregate-read-plan record { before = record { before = c .before; zero-record = c .zero-record }; drone-count = record { given = g } }), λ g'. (Relend.count-is T28 18 19 (λ x. x) (λ u. 1) (m25 record { before = record { before = c .before; zero-record = c .zero-record }; drone-count = record { given = g } } g') (slice-aggregate-read-plan-2 record { before = record { before = record { before = c .before; zero-record = c .zero-record }; drone-count = record { given = g } }; dependency-count = record { given = g' } }), λ g''. (Relend.count-is T31 20 21 (λ x. x) (λ u. 1536) (m27 record { before = record { before = record { before = c .before; zero-record = c .zero-record }; drone-count = record { given = g } }; dependency-count = record { given = g' } } g'') (slice-aggregate-read-plan-3 record { before = record { before = record { before = record { before = c .before; zero-record = c .zero-record }; drone-count = record { given = g } }; dependency-count = record { given = g' } }; names = record { given = g'' } }), λ g'3. (Relend.count-is T34 22 23 (λ x. x) (λ u. 64) (m29 record { before = record { before = record { before = record { before = c .before; zero-record = c .zero-record }; drone-count = record { given = g } }; dependency-count = record { given = g' } }; names = record { given = g'' } } g'3) (slice-aggregate-read-plan-4 record { before = record { before = record { before = record { before = record { before = c .before; zero-record = c .zero-record }; drone-count = record { given = g } }; dependency-count = record { given = g' } }; names = record { given = g'' } }; stop-counts = record { given = g'3 } }), λ g'4. (Relend.count-is T37 24 25 (λ x. x) (λ u. 2048) (m31 record { before = record { before = record { before = record { before = record { before = c .before; zero-record = c .zero-record }; drone-count = record { given = g } }; dependency-count = record { given = g' } }; names = record { given = g'' } }; stop-counts = record { given = g'3 } } g'4) (slice-aggregate-read-plan-5 record { before = record { before = record { before = record { before = record { before = record { before = c .before; zero-record = c .zero-record }; drone-count = record { given = g } }; dependency-count = record { given = g' } }; names = record { given = g'' } }; stop-counts = record { given = g'3 } }; locations = record { given = g'4 } }), λ g'5. (Relend.count-is T40 26 27 (λ x. x) (λ u. 2048) (m33 record { before = record { before = record { before = record { before = record { before = record { before = c .before; zero-record = c .zero-record }; drone-count = record { given = g } }; dependency-count = record { given = g' } }; names = record { given = g'' } }; stop-counts = record { given = g'3 } }; locations = record { given = g'4 } } g'5) (slice-aggregate-read-plan-6 record { before = record { before = record { before = record { before = record { before = record { before = record { before = c .before; zero-record = c .zero-record }; drone-count = record { given = g } }; dependency-count = record { given = g' } }; names = record { given = g'' } }; stop-counts = record { given = g'3 } }; locations = record { given = g'4 } }; times = record { given = g'5 } }), λ g'6. (Relend.count-is T43 28 29 (λ x. x) (λ u. 64) (m35 record { before = record { before = record { before = record { before = record { before = record { before = record { before = c .before; zero-record = c .zero-record }; drone-count = record { given = g } }; dependency-count = record { given = g' } }; names = record { given = g'' } }; stop-counts = record { given = g'3 } }; locations = record { given = g'4 } }; times = record { given = g'5 } } g'6) (slice-aggregate-read-plan-7 record { before = record { before = record { before = record { before = record { before = record { before = record { before = record { before = c .before; zero-record = c .zero-record }; drone-count = record { given = g } }; dependency-count = record { given = g' } }; names = record { given = g'' } }; stop-counts = record { given = g'3 } }; locations = record { given = g'4 } }; times = record { given = g'5 } }; visited = record { given = g'6 } }), λ g'7. (Relend.count-is T46 30 31 (λ x. x) (λ u. 64) (m37 record { before = record { before = record { before = record { before = record { before = record { before = record { before = record { before = c .before; zero-record = c .zero-record }; drone-count = record { given = g } }; dependency-count = record { given = g' } }; names = record { given = g'' } }; stop-counts = record { given = g'3 } }; locations = record { given = g'4 } }; times = record { given = g'5 } }; visited = record { given = g'6 } } g'7) (slice-aggregate-read-plan-8 record { before = record { before = record { before = record { before = record { before = record { before = record { before = record { before = record { before = c .before; zero-record = c .zero-record }; drone-count = record { given = g } }; dependency-count = record { given = g' } }; names = record { given = g'' } }; stop-counts = record { given = g'3 } }; locations = record { given = g'4 } }; times = record { given = g'5 } }; visited = record { given = g'6 } }; drone-flags = record { given = g'7 } }), λ g'8. (Relend.count-is T49 32 33 (λ x. x) (λ u. 4096) (m39 record { before = record { before = record { before = record { before = record { before = record { before = record { before = record { before = record { before = c .before; zero-record = c .zero-record }; drone-count = record { given = g } }; dependency-count = record { given = g' } }; names = record { given = g'' } }; stop-counts = record { given = g'3 } }; locations = record { given = g'4 } }; times = record { given = g'5 } }; visited = record { given = g'6 } }; drone-flags = record { given = g'7 } } g'8) (slice-aggregate-read-plan-9 record { before = record { before = record { before = record { before = record { before = record { before = record { before = record { before = record { before = record { before = c .before; zero-record = c .zero-record }; drone-count = record { given = g } }; dependency-count = record { given = g' } }; names = record { given = g'' } }; stop-counts = record { given = g'3 } }; locations = record { given = g'4 } }; times = record { given = g'5 } }; visited = record { given = g'6 } }; drone-flags = record { given = g'7 } }; dependencies = record { given = g'8 } }), (read-plan-requires record { before = record { before = record { before = record { before = record { before = record { before = record { before = record { before = record { before = record { before = c .before; zero-record = c .zero-record }; drone-count = record { given = g } }; dependency-count = record { given = g' } }; names = record { given = g'' } }; stop-counts = record { given = g'3 } }; locations = record { given = g'4 } }; times = record { given = g'5 } }; visited = record { given = g'6 } }; drone-flags = record { given = g'7 } }; dependencies = record { given = g'8 } }, λ g'9. lay2 record { before = record { before = record { before = record { before = record { before = record { before = record { before = record { before = record { before = record { before = record { before = c .before; zero-record = c .zero-record }; drone-count = record { given = g } }; dependency-count = record { given = g' } }; names = record { given = g'' } }; stop-counts = record { given = g'3 } }; locations = record { given = g'4 } }; times = record { given = g'5 } }; visited = record { given = g'6 } }; drone-flags = record { given = g'7 } }; dependencies = record { given = g'8 } }; read-plan = Called.called ps·1 r·1 (claims· .3) T50 args·0 (m40 record { before = record { before = record { before = record { before = record { before = record { before = record { before = record { before = record { before = c .before; zero-record = c .zero-record }; drone-count = record { given = g } }; dependency-count = record { given = g' } }; names = record { given = g'' } }; stop-counts = record { given = g'3 } }; locations = record { given = g'4 } }; times = record { given = g'5 } }; visited = record { given = g'6 } }; drone-flags = record { given = g'7 } } g'8) g'9 }))))))))))
 
         pub laid : (c : Start) → at171 (c .blocks) (W0 (c .κs) (c .args) (c .blocks)) (m0 (c .κs) (c .args) (c .blocks))
         laid = λ c. λ g. λ g'.

@@ -40,10 +40,10 @@ use prog.Wp
 use types.Kit
 
 abbrev ty·0 : Syntax.Ty
-ty·0 = Syntax.tyArray (Syntax.tyInt Syntax.w8) 2048
+ty·0 = Syntax.tyArray (Syntax.tyInt Syntax.w8) 4096
 
 abbrev ty·1 : Syntax.Ty
-ty·1 = Syntax.tyArray (Syntax.tyInt Syntax.w16) 2048
+ty·1 = Syntax.tyArray (Syntax.tyInt Syntax.w16) 4096
 
 abbrev ty·2 : Syntax.Ty
 ty·2 = Syntax.tyRef (Syntax.named 1) Syntax.imm Rec.behind
@@ -61,13 +61,13 @@ abbrev row·2 : Row.Row
 row·2 = Rows.sslice Rec.rt ty·2 1
 
 abbrev row·3 : Row.Row
-row·3 = Rows.mref (Array.Array (Array.Array (Referent.rtF (Referent.fInt Syntax.w16)) 2048) 2) (Syntax.tyRef (Syntax.named 2) Syntax.mut (Syntax.tyArray ty·1 2)) 2
+row·3 = Rows.mref (Array.Array (Array.Array (Referent.rtF (Referent.fInt Syntax.w16)) 4096) 2) (Syntax.tyRef (Syntax.named 2) Syntax.mut (Syntax.tyArray ty·1 2)) 2
 
 abbrev row·4 : Row.Row
-row·4 = Rows.mref (Array.Array (Array.Array (Referent.rtF (Referent.fInt Syntax.w8)) 2048) 2) (Syntax.tyRef (Syntax.named 3) Syntax.mut (Syntax.tyArray ty·0 2)) 3
+row·4 = Rows.mref (Array.Array (Array.Array (Referent.rtF (Referent.fInt Syntax.w8)) 4096) 2) (Syntax.tyRef (Syntax.named 3) Syntax.mut (Syntax.tyArray ty·0 2)) 3
 
 abbrev row·5 : Row.Row
-row·5 = Rows.mref (Array.Array (Referent.rtF (Referent.fInt Syntax.w8)) 2048) (Syntax.tyRef (Syntax.named 4) Syntax.mut ty·0) 4
+row·5 = Rows.mref (Array.Array (Referent.rtF (Referent.fInt Syntax.w8)) 4096) (Syntax.tyRef (Syntax.named 4) Syntax.mut ty·0) 4
 
 abbrev row·6 : Row.Row
 row·6 = Rows.any-gone Syntax.tyBool
@@ -91,56 +91,56 @@ abbrev row·12 : Row.Row
 row·12 = Rows.sc-here Row.sBool
 
 abbrev row·13 : Row.Row
-row·13 = Rows.mref-owed (Array.Array (Array.Array (Referent.rtF (Referent.fInt Syntax.w16)) 2048) 2) (Syntax.tyRef (Syntax.named 2) Syntax.mut (Syntax.tyArray ty·1 2)) 2 5 Row.off
+row·13 = Rows.mref-owed (Array.Array (Array.Array (Referent.rtF (Referent.fInt Syntax.w16)) 4096) 2) (Syntax.tyRef (Syntax.named 2) Syntax.mut (Syntax.tyArray ty·1 2)) 2 5 Row.off
 
 abbrev row·14 : Row.Row
-row·14 = Rows.mref (Array.Array (Array.Array (Referent.rtF (Referent.fInt Syntax.w16)) 2048) 2) (Syntax.tyRef Syntax.erased Syntax.mut (Syntax.tyArray ty·1 2)) 5
+row·14 = Rows.mref (Array.Array (Array.Array (Referent.rtF (Referent.fInt Syntax.w16)) 4096) 2) (Syntax.tyRef Syntax.erased Syntax.mut (Syntax.tyArray ty·1 2)) 5
 
 abbrev row·15 : Row.Row
-row·15 = Rows.mref-owed (Array.Array (Array.Array (Referent.rtF (Referent.fInt Syntax.w8)) 2048) 2) (Syntax.tyRef (Syntax.named 3) Syntax.mut (Syntax.tyArray ty·0 2)) 3 6 Row.off
+row·15 = Rows.mref-owed (Array.Array (Array.Array (Referent.rtF (Referent.fInt Syntax.w8)) 4096) 2) (Syntax.tyRef (Syntax.named 3) Syntax.mut (Syntax.tyArray ty·0 2)) 3 6 Row.off
 
 abbrev row·16 : Row.Row
-row·16 = Rows.mref (Array.Array (Array.Array (Referent.rtF (Referent.fInt Syntax.w8)) 2048) 2) (Syntax.tyRef Syntax.erased Syntax.mut (Syntax.tyArray ty·0 2)) 6
+row·16 = Rows.mref (Array.Array (Array.Array (Referent.rtF (Referent.fInt Syntax.w8)) 4096) 2) (Syntax.tyRef Syntax.erased Syntax.mut (Syntax.tyArray ty·0 2)) 6
 
 abbrev row·17 : Row.Row
-row·17 = Rows.mref-owed (Array.Array (Referent.rtF (Referent.fInt Syntax.w8)) 2048) (Syntax.tyRef (Syntax.named 4) Syntax.mut ty·0) 4 7 Row.off
+row·17 = Rows.mref-owed (Array.Array (Referent.rtF (Referent.fInt Syntax.w8)) 4096) (Syntax.tyRef (Syntax.named 4) Syntax.mut ty·0) 4 7 Row.off
 
 abbrev row·18 : Row.Row
-row·18 = Rows.mref (Array.Array (Referent.rtF (Referent.fInt Syntax.w8)) 2048) (Syntax.tyRef Syntax.erased Syntax.mut ty·0) 7
+row·18 = Rows.mref (Array.Array (Referent.rtF (Referent.fInt Syntax.w8)) 4096) (Syntax.tyRef Syntax.erased Syntax.mut ty·0) 7
 
 abbrev row·19 : Row.Row
 row·19 = Rows.sc-here Row.sUnit
 
 abbrev row·20 : Row.Row
-row·20 = Rows.mleft (Array.Array (Array.Array (Referent.rtF (Referent.fInt Syntax.w16)) 2048) 2) (Syntax.tyRef Syntax.erased Syntax.mut (Syntax.tyArray ty·1 2))
+row·20 = Rows.mleft (Array.Array (Array.Array (Referent.rtF (Referent.fInt Syntax.w16)) 4096) 2) (Syntax.tyRef Syntax.erased Syntax.mut (Syntax.tyArray ty·1 2))
 
 abbrev row·21 : Row.Row
-row·21 = Rows.mleft (Array.Array (Array.Array (Referent.rtF (Referent.fInt Syntax.w8)) 2048) 2) (Syntax.tyRef Syntax.erased Syntax.mut (Syntax.tyArray ty·0 2))
+row·21 = Rows.mleft (Array.Array (Array.Array (Referent.rtF (Referent.fInt Syntax.w8)) 4096) 2) (Syntax.tyRef Syntax.erased Syntax.mut (Syntax.tyArray ty·0 2))
 
 abbrev row·22 : Row.Row
-row·22 = Rows.mleft (Array.Array (Referent.rtF (Referent.fInt Syntax.w8)) 2048) (Syntax.tyRef Syntax.erased Syntax.mut ty·0)
+row·22 = Rows.mleft (Array.Array (Referent.rtF (Referent.fInt Syntax.w8)) 4096) (Syntax.tyRef Syntax.erased Syntax.mut ty·0)
 
 abbrev row·23 : Row.Row
-row·23 = Rows.mref-owed (Array.Array (Array.Array (Referent.rtF (Referent.fInt Syntax.w16)) 2048) 2) (Syntax.tyRef (Syntax.named 2) Syntax.mut (Syntax.tyArray ty·1 2)) 2 8 Row.off
+row·23 = Rows.mref-owed (Array.Array (Array.Array (Referent.rtF (Referent.fInt Syntax.w16)) 4096) 2) (Syntax.tyRef (Syntax.named 2) Syntax.mut (Syntax.tyArray ty·1 2)) 2 8 Row.off
 
 abbrev row·24 : Row.Row
-row·24 = Rows.mref (Array.Array (Array.Array (Referent.rtF (Referent.fInt Syntax.w16)) 2048) 2) (Syntax.tyRef Syntax.erased Syntax.mut (Syntax.tyArray ty·1 2)) 8
+row·24 = Rows.mref (Array.Array (Array.Array (Referent.rtF (Referent.fInt Syntax.w16)) 4096) 2) (Syntax.tyRef Syntax.erased Syntax.mut (Syntax.tyArray ty·1 2)) 8
 
 abbrev row·25 : Row.Row
-row·25 = Rows.mref-owed (Array.Array (Array.Array (Referent.rtF (Referent.fInt Syntax.w8)) 2048) 2) (Syntax.tyRef (Syntax.named 3) Syntax.mut (Syntax.tyArray ty·0 2)) 3 9 Row.off
+row·25 = Rows.mref-owed (Array.Array (Array.Array (Referent.rtF (Referent.fInt Syntax.w8)) 4096) 2) (Syntax.tyRef (Syntax.named 3) Syntax.mut (Syntax.tyArray ty·0 2)) 3 9 Row.off
 
 abbrev row·26 : Row.Row
-row·26 = Rows.mref (Array.Array (Array.Array (Referent.rtF (Referent.fInt Syntax.w8)) 2048) 2) (Syntax.tyRef Syntax.erased Syntax.mut (Syntax.tyArray ty·0 2)) 9
+row·26 = Rows.mref (Array.Array (Array.Array (Referent.rtF (Referent.fInt Syntax.w8)) 4096) 2) (Syntax.tyRef Syntax.erased Syntax.mut (Syntax.tyArray ty·0 2)) 9
 
 abbrev row·27 : Row.Row
-row·27 = Rows.mref-owed (Array.Array (Referent.rtF (Referent.fInt Syntax.w8)) 2048) (Syntax.tyRef (Syntax.named 4) Syntax.mut ty·0) 4 10 Row.off
+row·27 = Rows.mref-owed (Array.Array (Referent.rtF (Referent.fInt Syntax.w8)) 4096) (Syntax.tyRef (Syntax.named 4) Syntax.mut ty·0) 4 10 Row.off
 
 abbrev row·28 : Row.Row
-row·28 = Rows.mref (Array.Array (Referent.rtF (Referent.fInt Syntax.w8)) 2048) (Syntax.tyRef Syntax.erased Syntax.mut ty·0) 10
+row·28 = Rows.mref (Array.Array (Referent.rtF (Referent.fInt Syntax.w8)) 4096) (Syntax.tyRef Syntax.erased Syntax.mut ty·0) 10
 
 abbrev pub ps : List.List (Kinds.PK 5)
-ps = List._∷_ (ShrSlice.pShrS (Referent.rtF (Referent.fInt Syntax.w16)) 0 tt) (List._∷_ (ShrSlice.pShrS Rec.rt 1 tt) (List._∷_ (Kinds.pMut (Array.Array (Array.Array (Referent.rtF (Referent.fInt Syntax.w16)) 2048) 2) 2 tt) (List._∷_ (Kinds.pMut (Array.Array (Array.Array (Referent.rtF (Referent.fInt Syntax.w8)) 2048) 2) 3 tt) (List._∷_ (Kinds.pMut (Array.Array
-    (Referent.rtF (Referent.fInt Syntax.w8)) 2048) 4 tt) List.[]))))
+ps = List._∷_ (ShrSlice.pShrS (Referent.rtF (Referent.fInt Syntax.w16)) 0 tt) (List._∷_ (ShrSlice.pShrS Rec.rt 1 tt) (List._∷_ (Kinds.pMut (Array.Array (Array.Array (Referent.rtF (Referent.fInt Syntax.w16)) 4096) 2) 2 tt) (List._∷_ (Kinds.pMut (Array.Array (Array.Array (Referent.rtF (Referent.fInt Syntax.w8)) 4096) 2) 3 tt) (List._∷_ (Kinds.pMut (Array.Array
+    (Referent.rtF (Referent.fInt Syntax.w8)) 4096) 4 tt) List.[]))))
 
 abbrev pub r : Kinds.RK 5
 r = Num.rNum Syntax.w64
@@ -171,8 +171,8 @@ abbrev pub r·2 : Kinds.RK 1
 r·2 = Bool.rBool
 
 abbrev pub ps·3 : List.List (Kinds.PK 4)
-ps·3 = List._∷_ (ShrSlice.pShrS Rec.rt 0 tt) (List._∷_ (Num.pNum Syntax.w64) (List._∷_ (Kinds.pMut (Array.Array (Array.Array (Referent.rtF (Referent.fInt Syntax.w16)) 2048) 2) 1 tt) (List._∷_ (Kinds.pMut (Array.Array (Array.Array (Referent.rtF (Referent.fInt Syntax.w8)) 2048) 2) 2 tt) (List._∷_ (Kinds.pMut (Array.Array (Referent.rtF (Referent.fInt
-    Syntax.w8)) 2048) 3 tt) List.[]))))
+ps·3 = List._∷_ (ShrSlice.pShrS Rec.rt 0 tt) (List._∷_ (Num.pNum Syntax.w64) (List._∷_ (Kinds.pMut (Array.Array (Array.Array (Referent.rtF (Referent.fInt Syntax.w16)) 4096) 2) 1 tt) (List._∷_ (Kinds.pMut (Array.Array (Array.Array (Referent.rtF (Referent.fInt Syntax.w8)) 4096) 2) 2 tt) (List._∷_ (Kinds.pMut (Array.Array (Referent.rtF (Referent.fInt
+    Syntax.w8)) 4096) 3 tt) List.[]))))
 
 abbrev pub r·3 : Kinds.RK 4
 r·3 = Unit'.rUnit
@@ -489,13 +489,13 @@ module _ (claims· : Claims) where
   s11 = Scalar.n-room T14 10 Syntax.tyBool
 
   abbrev s13 : Typed.Gives T10 T17
-  s13 = Reborrow.k-mref-relend T10 3 12 2 5 (Array.Array (Array.Array (Referent.rtF (Referent.fInt Syntax.w16)) 2048) 2) (Syntax.tyRef (Syntax.named 2) Syntax.mut (Syntax.tyArray ty·1 2)) (Syntax.tyRef Syntax.erased Syntax.mut (Syntax.tyArray ty·1 2)) Row.off List.[] λ x. x
+  s13 = Reborrow.k-mref-relend T10 3 12 2 5 (Array.Array (Array.Array (Referent.rtF (Referent.fInt Syntax.w16)) 4096) 2) (Syntax.tyRef (Syntax.named 2) Syntax.mut (Syntax.tyArray ty·1 2)) (Syntax.tyRef Syntax.erased Syntax.mut (Syntax.tyArray ty·1 2)) Row.off List.[] λ x. x
 
   abbrev s15 : Typed.Gives T17 T19
-  s15 = Reborrow.k-mref-relend T17 4 13 3 6 (Array.Array (Array.Array (Referent.rtF (Referent.fInt Syntax.w8)) 2048) 2) (Syntax.tyRef (Syntax.named 3) Syntax.mut (Syntax.tyArray ty·0 2)) (Syntax.tyRef Syntax.erased Syntax.mut (Syntax.tyArray ty·0 2)) Row.off List.[] λ x. x
+  s15 = Reborrow.k-mref-relend T17 4 13 3 6 (Array.Array (Array.Array (Referent.rtF (Referent.fInt Syntax.w8)) 4096) 2) (Syntax.tyRef (Syntax.named 3) Syntax.mut (Syntax.tyArray ty·0 2)) (Syntax.tyRef Syntax.erased Syntax.mut (Syntax.tyArray ty·0 2)) Row.off List.[] λ x. x
 
   abbrev s17 : Typed.Gives T19 T21
-  s17 = Reborrow.k-mref-relend T19 5 14 4 7 (Array.Array (Referent.rtF (Referent.fInt Syntax.w8)) 2048) (Syntax.tyRef (Syntax.named 4) Syntax.mut ty·0) (Syntax.tyRef Syntax.erased Syntax.mut ty·0) Row.off List.[] λ x. x
+  s17 = Reborrow.k-mref-relend T19 5 14 4 7 (Array.Array (Referent.rtF (Referent.fInt Syntax.w8)) 4096) (Syntax.tyRef (Syntax.named 4) Syntax.mut ty·0) (Syntax.tyRef Syntax.erased Syntax.mut ty·0) Row.off List.[] λ x. x
 
   abbrev s18 : Typed.Both T21 T22
   s18 = Call.callB ps·3 r·3 (claims· .6) (claims· .7) T21 args·1 11 (List._∷_ 1 (List._∷_ 5 (List._∷_ 6 (List._∷_ 7 List.[])))) Syntax.tyUnit
@@ -504,13 +504,13 @@ module _ (claims· : Claims) where
   s19 = Scalar.n-room T22 11 Syntax.tyUnit
 
   abbrev s21 : Typed.Asks T23 T25
-  s21 = Reborrow.k-back-mref T23 12 3 2 (Array.Array (Array.Array (Referent.rtF (Referent.fInt Syntax.w16)) 2048) 2) (Syntax.tyRef (Syntax.named 2) Syntax.mut (Syntax.tyArray ty·1 2)) (Syntax.tyRef Syntax.erased Syntax.mut (Syntax.tyArray ty·1 2)) List.[] (λ x. x) λ x. x
+  s21 = Reborrow.k-back-mref T23 12 3 2 (Array.Array (Array.Array (Referent.rtF (Referent.fInt Syntax.w16)) 4096) 2) (Syntax.tyRef (Syntax.named 2) Syntax.mut (Syntax.tyArray ty·1 2)) (Syntax.tyRef Syntax.erased Syntax.mut (Syntax.tyArray ty·1 2)) List.[] (λ x. x) λ x. x
 
   abbrev s24 : Typed.Asks T25 T28
-  s24 = Reborrow.k-back-mref T25 13 4 3 (Array.Array (Array.Array (Referent.rtF (Referent.fInt Syntax.w8)) 2048) 2) (Syntax.tyRef (Syntax.named 3) Syntax.mut (Syntax.tyArray ty·0 2)) (Syntax.tyRef Syntax.erased Syntax.mut (Syntax.tyArray ty·0 2)) List.[] (λ x. x) λ x. x
+  s24 = Reborrow.k-back-mref T25 13 4 3 (Array.Array (Array.Array (Referent.rtF (Referent.fInt Syntax.w8)) 4096) 2) (Syntax.tyRef (Syntax.named 3) Syntax.mut (Syntax.tyArray ty·0 2)) (Syntax.tyRef Syntax.erased Syntax.mut (Syntax.tyArray ty·0 2)) List.[] (λ x. x) λ x. x
 
   abbrev s27 : Typed.Asks T28 T10
-  s27 = Reborrow.k-back-mref T28 14 5 4 (Array.Array (Referent.rtF (Referent.fInt Syntax.w8)) 2048) (Syntax.tyRef (Syntax.named 4) Syntax.mut ty·0) (Syntax.tyRef Syntax.erased Syntax.mut ty·0) List.[] (λ x. x) λ x. x
+  s27 = Reborrow.k-back-mref T28 14 5 4 (Array.Array (Referent.rtF (Referent.fInt Syntax.w8)) 4096) (Syntax.tyRef (Syntax.named 4) Syntax.mut ty·0) (Syntax.tyRef Syntax.erased Syntax.mut ty·0) List.[] (λ x. x) λ x. x
 
   abbrev s29 : Typed.Mo T10 → Typed.Mo T33
   s29 = Scalar.n-use T10 (Scalar.oAt 6 (Syntax.tyInt Syntax.w64) (Row.valS (Row.sInt Syntax.w64))) 0 (Rows.sc-here (Row.sInt Syntax.w64)) (Row.sInt Syntax.w64 .of)
@@ -525,13 +525,13 @@ module _ (claims· : Claims) where
   s32 = Scalar.n-room T14 10 Syntax.tyBool
 
   abbrev s34 : Typed.Gives T10 T38
-  s34 = Reborrow.k-mref-relend T10 3 16 2 8 (Array.Array (Array.Array (Referent.rtF (Referent.fInt Syntax.w16)) 2048) 2) (Syntax.tyRef (Syntax.named 2) Syntax.mut (Syntax.tyArray ty·1 2)) (Syntax.tyRef Syntax.erased Syntax.mut (Syntax.tyArray ty·1 2)) Row.off List.[] λ x. x
+  s34 = Reborrow.k-mref-relend T10 3 16 2 8 (Array.Array (Array.Array (Referent.rtF (Referent.fInt Syntax.w16)) 4096) 2) (Syntax.tyRef (Syntax.named 2) Syntax.mut (Syntax.tyArray ty·1 2)) (Syntax.tyRef Syntax.erased Syntax.mut (Syntax.tyArray ty·1 2)) Row.off List.[] λ x. x
 
   abbrev s36 : Typed.Gives T38 T40
-  s36 = Reborrow.k-mref-relend T38 4 17 3 9 (Array.Array (Array.Array (Referent.rtF (Referent.fInt Syntax.w8)) 2048) 2) (Syntax.tyRef (Syntax.named 3) Syntax.mut (Syntax.tyArray ty·0 2)) (Syntax.tyRef Syntax.erased Syntax.mut (Syntax.tyArray ty·0 2)) Row.off List.[] λ x. x
+  s36 = Reborrow.k-mref-relend T38 4 17 3 9 (Array.Array (Array.Array (Referent.rtF (Referent.fInt Syntax.w8)) 4096) 2) (Syntax.tyRef (Syntax.named 3) Syntax.mut (Syntax.tyArray ty·0 2)) (Syntax.tyRef Syntax.erased Syntax.mut (Syntax.tyArray ty·0 2)) Row.off List.[] λ x. x
 
   abbrev s38 : Typed.Gives T40 T42
-  s38 = Reborrow.k-mref-relend T40 5 18 4 10 (Array.Array (Referent.rtF (Referent.fInt Syntax.w8)) 2048) (Syntax.tyRef (Syntax.named 4) Syntax.mut ty·0) (Syntax.tyRef Syntax.erased Syntax.mut ty·0) Row.off List.[] λ x. x
+  s38 = Reborrow.k-mref-relend T40 5 18 4 10 (Array.Array (Referent.rtF (Referent.fInt Syntax.w8)) 4096) (Syntax.tyRef (Syntax.named 4) Syntax.mut ty·0) (Syntax.tyRef Syntax.erased Syntax.mut ty·0) Row.off List.[] λ x. x
 
   abbrev s39 : Typed.Both T42 T43
   s39 = Call.callB ps·3 r·3 (claims· .6) (claims· .7) T42 args·2 15 (List._∷_ 1 (List._∷_ 8 (List._∷_ 9 (List._∷_ 10 List.[])))) Syntax.tyUnit
@@ -540,13 +540,13 @@ module _ (claims· : Claims) where
   s40 = Scalar.n-room T43 15 Syntax.tyUnit
 
   abbrev s42 : Typed.Asks T44 T46
-  s42 = Reborrow.k-back-mref T44 16 3 2 (Array.Array (Array.Array (Referent.rtF (Referent.fInt Syntax.w16)) 2048) 2) (Syntax.tyRef (Syntax.named 2) Syntax.mut (Syntax.tyArray ty·1 2)) (Syntax.tyRef Syntax.erased Syntax.mut (Syntax.tyArray ty·1 2)) List.[] (λ x. x) λ x. x
+  s42 = Reborrow.k-back-mref T44 16 3 2 (Array.Array (Array.Array (Referent.rtF (Referent.fInt Syntax.w16)) 4096) 2) (Syntax.tyRef (Syntax.named 2) Syntax.mut (Syntax.tyArray ty·1 2)) (Syntax.tyRef Syntax.erased Syntax.mut (Syntax.tyArray ty·1 2)) List.[] (λ x. x) λ x. x
 
   abbrev s45 : Typed.Asks T46 T49
-  s45 = Reborrow.k-back-mref T46 17 4 3 (Array.Array (Array.Array (Referent.rtF (Referent.fInt Syntax.w8)) 2048) 2) (Syntax.tyRef (Syntax.named 3) Syntax.mut (Syntax.tyArray ty·0 2)) (Syntax.tyRef Syntax.erased Syntax.mut (Syntax.tyArray ty·0 2)) List.[] (λ x. x) λ x. x
+  s45 = Reborrow.k-back-mref T46 17 4 3 (Array.Array (Array.Array (Referent.rtF (Referent.fInt Syntax.w8)) 4096) 2) (Syntax.tyRef (Syntax.named 3) Syntax.mut (Syntax.tyArray ty·0 2)) (Syntax.tyRef Syntax.erased Syntax.mut (Syntax.tyArray ty·0 2)) List.[] (λ x. x) λ x. x
 
   abbrev s48 : Typed.Asks T49 T10
-  s48 = Reborrow.k-back-mref T49 18 5 4 (Array.Array (Referent.rtF (Referent.fInt Syntax.w8)) 2048) (Syntax.tyRef (Syntax.named 4) Syntax.mut ty·0) (Syntax.tyRef Syntax.erased Syntax.mut ty·0) List.[] (λ x. x) λ x. x
+  s48 = Reborrow.k-back-mref T49 18 5 4 (Array.Array (Referent.rtF (Referent.fInt Syntax.w8)) 4096) (Syntax.tyRef (Syntax.named 4) Syntax.mut ty·0) (Syntax.tyRef Syntax.erased Syntax.mut ty·0) List.[] (λ x. x) λ x. x
 
   abbrev s50 : Typed.Mo T10 → Typed.Mo T33
   s50 = Scalar.n-use T10 (Scalar.oAt 6 (Syntax.tyInt Syntax.w64) (Row.valS (Row.sInt Syntax.w64))) 0 (Rows.sc-here (Row.sInt Syntax.w64)) (Row.sInt Syntax.w64 .of)
@@ -707,103 +707,103 @@ module _ (claims· : Claims) where
       module _ (κs : Lifetimes.Lfts 5) (qs : Lifetimes.Shares 5) where
         abbrev g10 : List.List Row.Entry
         g10 = List._∷_ (0, Rows.any-gone (Syntax.tyInt Syntax.w64)) (List._∷_ (1, Rows.sslice (Referent.rtF (Referent.fInt Syntax.w16)) ty·3 0) (List._∷_ (2, Rows.sslice Rec.rt ty·2 1) (List._∷_
-            (3, Rows.mref-owed (Array.Array (Array.Array (Referent.rtF (Referent.fInt Syntax.w16)) 2048) 2) (Syntax.tyRef (Syntax.named 2) Syntax.mut (Syntax.tyArray ty·1 2)) 2 5 (Row.lease (κs .1 .1 .0) (qs .1 .1 .0))) (List._∷_
-            (4, Rows.mref (Array.Array (Array.Array (Referent.rtF (Referent.fInt Syntax.w8)) 2048) 2) (Syntax.tyRef (Syntax.named 3) Syntax.mut (Syntax.tyArray ty·0 2)) 3) (List._∷_ (5, Rows.mref (Array.Array (Referent.rtF (Referent.fInt Syntax.w8)) 2048) (Syntax.tyRef (Syntax.named 4) Syntax.mut ty·0) 4) (List._∷_ (6, Rows.sc-here (Row.sInt Syntax.w64))
+            (3, Rows.mref-owed (Array.Array (Array.Array (Referent.rtF (Referent.fInt Syntax.w16)) 4096) 2) (Syntax.tyRef (Syntax.named 2) Syntax.mut (Syntax.tyArray ty·1 2)) 2 5 (Row.lease (κs .1 .1 .0) (qs .1 .1 .0))) (List._∷_
+            (4, Rows.mref (Array.Array (Array.Array (Referent.rtF (Referent.fInt Syntax.w8)) 4096) 2) (Syntax.tyRef (Syntax.named 3) Syntax.mut (Syntax.tyArray ty·0 2)) 3) (List._∷_ (5, Rows.mref (Array.Array (Referent.rtF (Referent.fInt Syntax.w8)) 4096) (Syntax.tyRef (Syntax.named 4) Syntax.mut ty·0) 4) (List._∷_ (6, Rows.sc-here (Row.sInt Syntax.w64))
             (List._∷_ (7, Rows.sc-here (Row.sInt Syntax.w64)) (List._∷_ (8, Rows.any-gone Syntax.tyBool) (List._∷_ (9, Rows.any-gone Syntax.tyBool) (List._∷_ (10, Rows.any-gone Syntax.tyBool) (List._∷_ (11, Rows.any-gone Syntax.tyUnit) (List._∷_
-            (12, Rows.mref (Array.Array (Array.Array (Referent.rtF (Referent.fInt Syntax.w16)) 2048) 2) (Syntax.tyRef Syntax.erased Syntax.mut (Syntax.tyArray ty·1 2)) 5) (List._∷_ (13, Rows.any-gone (Syntax.tyRef Syntax.erased Syntax.mut (Syntax.tyArray ty·0 2))) (List._∷_ (14, Rows.any-gone (Syntax.tyRef Syntax.erased Syntax.mut ty·0)) (List._∷_
+            (12, Rows.mref (Array.Array (Array.Array (Referent.rtF (Referent.fInt Syntax.w16)) 4096) 2) (Syntax.tyRef Syntax.erased Syntax.mut (Syntax.tyArray ty·1 2)) 5) (List._∷_ (13, Rows.any-gone (Syntax.tyRef Syntax.erased Syntax.mut (Syntax.tyArray ty·0 2))) (List._∷_ (14, Rows.any-gone (Syntax.tyRef Syntax.erased Syntax.mut ty·0)) (List._∷_
             (15, Rows.any-gone Syntax.tyUnit) List.[])))))))))))))))
 
         abbrev g11 : List.List Row.Entry
         g11 = List._∷_ (0, Rows.any-gone (Syntax.tyInt Syntax.w64)) (List._∷_ (1, Rows.sslice (Referent.rtF (Referent.fInt Syntax.w16)) ty·3 0) (List._∷_ (2, Rows.sslice Rec.rt ty·2 1) (List._∷_
-            (3, Rows.mref-owed (Array.Array (Array.Array (Referent.rtF (Referent.fInt Syntax.w16)) 2048) 2) (Syntax.tyRef (Syntax.named 2) Syntax.mut (Syntax.tyArray ty·1 2)) 2 5 (Row.lease (κs .1 .1 .0) (qs .1 .1 .0))) (List._∷_
-            (4, Rows.mref-owed (Array.Array (Array.Array (Referent.rtF (Referent.fInt Syntax.w8)) 2048) 2) (Syntax.tyRef (Syntax.named 3) Syntax.mut (Syntax.tyArray ty·0 2)) 3 6 (Row.lease (κs .1 .1 .1 .0) (qs .1 .1 .1 .0))) (List._∷_ (5, Rows.mref (Array.Array (Referent.rtF (Referent.fInt Syntax.w8)) 2048) (Syntax.tyRef (Syntax.named 4) Syntax.mut ty·0) 4)
+            (3, Rows.mref-owed (Array.Array (Array.Array (Referent.rtF (Referent.fInt Syntax.w16)) 4096) 2) (Syntax.tyRef (Syntax.named 2) Syntax.mut (Syntax.tyArray ty·1 2)) 2 5 (Row.lease (κs .1 .1 .0) (qs .1 .1 .0))) (List._∷_
+            (4, Rows.mref-owed (Array.Array (Array.Array (Referent.rtF (Referent.fInt Syntax.w8)) 4096) 2) (Syntax.tyRef (Syntax.named 3) Syntax.mut (Syntax.tyArray ty·0 2)) 3 6 (Row.lease (κs .1 .1 .1 .0) (qs .1 .1 .1 .0))) (List._∷_ (5, Rows.mref (Array.Array (Referent.rtF (Referent.fInt Syntax.w8)) 4096) (Syntax.tyRef (Syntax.named 4) Syntax.mut ty·0) 4)
             (List._∷_ (6, Rows.sc-here (Row.sInt Syntax.w64)) (List._∷_ (7, Rows.sc-here (Row.sInt Syntax.w64)) (List._∷_ (8, Rows.any-gone Syntax.tyBool) (List._∷_ (9, Rows.any-gone Syntax.tyBool) (List._∷_ (10, Rows.any-gone Syntax.tyBool) (List._∷_ (11, Rows.any-gone Syntax.tyUnit) (List._∷_
-            (12, Rows.mref (Array.Array (Array.Array (Referent.rtF (Referent.fInt Syntax.w16)) 2048) 2) (Syntax.tyRef Syntax.erased Syntax.mut (Syntax.tyArray ty·1 2)) 5) (List._∷_ (13, Rows.mref (Array.Array (Array.Array (Referent.rtF (Referent.fInt Syntax.w8)) 2048) 2) (Syntax.tyRef Syntax.erased Syntax.mut (Syntax.tyArray ty·0 2)) 6) (List._∷_
+            (12, Rows.mref (Array.Array (Array.Array (Referent.rtF (Referent.fInt Syntax.w16)) 4096) 2) (Syntax.tyRef Syntax.erased Syntax.mut (Syntax.tyArray ty·1 2)) 5) (List._∷_ (13, Rows.mref (Array.Array (Array.Array (Referent.rtF (Referent.fInt Syntax.w8)) 4096) 2) (Syntax.tyRef Syntax.erased Syntax.mut (Syntax.tyArray ty·0 2)) 6) (List._∷_
             (14, Rows.any-gone (Syntax.tyRef Syntax.erased Syntax.mut ty·0)) (List._∷_ (15, Rows.any-gone Syntax.tyUnit) List.[])))))))))))))))
 
         abbrev g12 : List.List Row.Entry
         g12 = List._∷_ (0, Rows.any-gone (Syntax.tyInt Syntax.w64)) (List._∷_ (1, Rows.sslice (Referent.rtF (Referent.fInt Syntax.w16)) ty·3 0) (List._∷_ (2, Rows.sslice Rec.rt ty·2 1) (List._∷_
-            (3, Rows.mref-owed (Array.Array (Array.Array (Referent.rtF (Referent.fInt Syntax.w16)) 2048) 2) (Syntax.tyRef (Syntax.named 2) Syntax.mut (Syntax.tyArray ty·1 2)) 2 5 (Row.lease (κs .1 .1 .0) (qs .1 .1 .0))) (List._∷_
-            (4, Rows.mref-owed (Array.Array (Array.Array (Referent.rtF (Referent.fInt Syntax.w8)) 2048) 2) (Syntax.tyRef (Syntax.named 3) Syntax.mut (Syntax.tyArray ty·0 2)) 3 6 (Row.lease (κs .1 .1 .1 .0) (qs .1 .1 .1 .0))) (List._∷_
-            (5, Rows.mref-owed (Array.Array (Referent.rtF (Referent.fInt Syntax.w8)) 2048) (Syntax.tyRef (Syntax.named 4) Syntax.mut ty·0) 4 7 (Row.lease (κs .1 .1 .1 .1 .0) (qs .1 .1 .1 .1 .0))) (List._∷_ (6, Rows.sc-here (Row.sInt Syntax.w64)) (List._∷_ (7, Rows.sc-here (Row.sInt Syntax.w64)) (List._∷_ (8, Rows.any-gone Syntax.tyBool) (List._∷_
-            (9, Rows.any-gone Syntax.tyBool) (List._∷_ (10, Rows.any-gone Syntax.tyBool) (List._∷_ (11, Rows.any-gone Syntax.tyUnit) (List._∷_ (12, Rows.mref (Array.Array (Array.Array (Referent.rtF (Referent.fInt Syntax.w16)) 2048) 2) (Syntax.tyRef Syntax.erased Syntax.mut (Syntax.tyArray ty·1 2)) 5) (List._∷_
-            (13, Rows.mref (Array.Array (Array.Array (Referent.rtF (Referent.fInt Syntax.w8)) 2048) 2) (Syntax.tyRef Syntax.erased Syntax.mut (Syntax.tyArray ty·0 2)) 6) (List._∷_ (14, Rows.mref (Array.Array (Referent.rtF (Referent.fInt Syntax.w8)) 2048) (Syntax.tyRef Syntax.erased Syntax.mut ty·0) 7) (List._∷_ (15, Rows.any-gone Syntax.tyUnit)
+            (3, Rows.mref-owed (Array.Array (Array.Array (Referent.rtF (Referent.fInt Syntax.w16)) 4096) 2) (Syntax.tyRef (Syntax.named 2) Syntax.mut (Syntax.tyArray ty·1 2)) 2 5 (Row.lease (κs .1 .1 .0) (qs .1 .1 .0))) (List._∷_
+            (4, Rows.mref-owed (Array.Array (Array.Array (Referent.rtF (Referent.fInt Syntax.w8)) 4096) 2) (Syntax.tyRef (Syntax.named 3) Syntax.mut (Syntax.tyArray ty·0 2)) 3 6 (Row.lease (κs .1 .1 .1 .0) (qs .1 .1 .1 .0))) (List._∷_
+            (5, Rows.mref-owed (Array.Array (Referent.rtF (Referent.fInt Syntax.w8)) 4096) (Syntax.tyRef (Syntax.named 4) Syntax.mut ty·0) 4 7 (Row.lease (κs .1 .1 .1 .1 .0) (qs .1 .1 .1 .1 .0))) (List._∷_ (6, Rows.sc-here (Row.sInt Syntax.w64)) (List._∷_ (7, Rows.sc-here (Row.sInt Syntax.w64)) (List._∷_ (8, Rows.any-gone Syntax.tyBool) (List._∷_
+            (9, Rows.any-gone Syntax.tyBool) (List._∷_ (10, Rows.any-gone Syntax.tyBool) (List._∷_ (11, Rows.any-gone Syntax.tyUnit) (List._∷_ (12, Rows.mref (Array.Array (Array.Array (Referent.rtF (Referent.fInt Syntax.w16)) 4096) 2) (Syntax.tyRef Syntax.erased Syntax.mut (Syntax.tyArray ty·1 2)) 5) (List._∷_
+            (13, Rows.mref (Array.Array (Array.Array (Referent.rtF (Referent.fInt Syntax.w8)) 4096) 2) (Syntax.tyRef Syntax.erased Syntax.mut (Syntax.tyArray ty·0 2)) 6) (List._∷_ (14, Rows.mref (Array.Array (Referent.rtF (Referent.fInt Syntax.w8)) 4096) (Syntax.tyRef Syntax.erased Syntax.mut ty·0) 7) (List._∷_ (15, Rows.any-gone Syntax.tyUnit)
             List.[])))))))))))))))
 
         abbrev g13 : List.List Row.Entry
         g13 = List._∷_ (0, Rows.any-gone (Syntax.tyInt Syntax.w64)) (List._∷_ (1, Rows.sslice (Referent.rtF (Referent.fInt Syntax.w16)) ty·3 0) (List._∷_ (2, Rows.sslice Rec.rt ty·2 1) (List._∷_
-            (3, Rows.mref-owed (Array.Array (Array.Array (Referent.rtF (Referent.fInt Syntax.w16)) 2048) 2) (Syntax.tyRef (Syntax.named 2) Syntax.mut (Syntax.tyArray ty·1 2)) 2 5 (Row.lease (κs .1 .1 .0) (qs .1 .1 .0))) (List._∷_
-            (4, Rows.mref-owed (Array.Array (Array.Array (Referent.rtF (Referent.fInt Syntax.w8)) 2048) 2) (Syntax.tyRef (Syntax.named 3) Syntax.mut (Syntax.tyArray ty·0 2)) 3 6 (Row.lease (κs .1 .1 .1 .0) (qs .1 .1 .1 .0))) (List._∷_
-            (5, Rows.mref-owed (Array.Array (Referent.rtF (Referent.fInt Syntax.w8)) 2048) (Syntax.tyRef (Syntax.named 4) Syntax.mut ty·0) 4 7 (Row.lease (κs .1 .1 .1 .1 .0) (qs .1 .1 .1 .1 .0))) (List._∷_ (6, Rows.sc-here (Row.sInt Syntax.w64)) (List._∷_ (7, Rows.sc-here (Row.sInt Syntax.w64)) (List._∷_ (8, Rows.any-gone Syntax.tyBool) (List._∷_
-            (9, Rows.any-gone Syntax.tyBool) (List._∷_ (10, Rows.any-gone Syntax.tyBool) (List._∷_ (11, Rows.sc-here Row.sUnit) (List._∷_ (12, Rows.mleft (Array.Array (Array.Array (Referent.rtF (Referent.fInt Syntax.w16)) 2048) 2) (Syntax.tyRef Syntax.erased Syntax.mut (Syntax.tyArray ty·1 2))) (List._∷_
-            (13, Rows.mleft (Array.Array (Array.Array (Referent.rtF (Referent.fInt Syntax.w8)) 2048) 2) (Syntax.tyRef Syntax.erased Syntax.mut (Syntax.tyArray ty·0 2))) (List._∷_ (14, Rows.mleft (Array.Array (Referent.rtF (Referent.fInt Syntax.w8)) 2048) (Syntax.tyRef Syntax.erased Syntax.mut ty·0)) (List._∷_ (15, Rows.any-gone Syntax.tyUnit)
+            (3, Rows.mref-owed (Array.Array (Array.Array (Referent.rtF (Referent.fInt Syntax.w16)) 4096) 2) (Syntax.tyRef (Syntax.named 2) Syntax.mut (Syntax.tyArray ty·1 2)) 2 5 (Row.lease (κs .1 .1 .0) (qs .1 .1 .0))) (List._∷_
+            (4, Rows.mref-owed (Array.Array (Array.Array (Referent.rtF (Referent.fInt Syntax.w8)) 4096) 2) (Syntax.tyRef (Syntax.named 3) Syntax.mut (Syntax.tyArray ty·0 2)) 3 6 (Row.lease (κs .1 .1 .1 .0) (qs .1 .1 .1 .0))) (List._∷_
+            (5, Rows.mref-owed (Array.Array (Referent.rtF (Referent.fInt Syntax.w8)) 4096) (Syntax.tyRef (Syntax.named 4) Syntax.mut ty·0) 4 7 (Row.lease (κs .1 .1 .1 .1 .0) (qs .1 .1 .1 .1 .0))) (List._∷_ (6, Rows.sc-here (Row.sInt Syntax.w64)) (List._∷_ (7, Rows.sc-here (Row.sInt Syntax.w64)) (List._∷_ (8, Rows.any-gone Syntax.tyBool) (List._∷_
+            (9, Rows.any-gone Syntax.tyBool) (List._∷_ (10, Rows.any-gone Syntax.tyBool) (List._∷_ (11, Rows.sc-here Row.sUnit) (List._∷_ (12, Rows.mleft (Array.Array (Array.Array (Referent.rtF (Referent.fInt Syntax.w16)) 4096) 2) (Syntax.tyRef Syntax.erased Syntax.mut (Syntax.tyArray ty·1 2))) (List._∷_
+            (13, Rows.mleft (Array.Array (Array.Array (Referent.rtF (Referent.fInt Syntax.w8)) 4096) 2) (Syntax.tyRef Syntax.erased Syntax.mut (Syntax.tyArray ty·0 2))) (List._∷_ (14, Rows.mleft (Array.Array (Referent.rtF (Referent.fInt Syntax.w8)) 4096) (Syntax.tyRef Syntax.erased Syntax.mut ty·0)) (List._∷_ (15, Rows.any-gone Syntax.tyUnit)
             List.[])))))))))))))))
 
         abbrev g14 : List.List Row.Entry
         g14 = List._∷_ (0, Rows.any-gone (Syntax.tyInt Syntax.w64)) (List._∷_ (1, Rows.sslice (Referent.rtF (Referent.fInt Syntax.w16)) ty·3 0) (List._∷_ (2, Rows.sslice Rec.rt ty·2 1) (List._∷_
-            (3, Rows.mref-owed (Array.Array (Array.Array (Referent.rtF (Referent.fInt Syntax.w16)) 2048) 2) (Syntax.tyRef (Syntax.named 2) Syntax.mut (Syntax.tyArray ty·1 2)) 2 5 (Row.lease (κs .1 .1 .0) (qs .1 .1 .0))) (List._∷_
-            (4, Rows.mref-owed (Array.Array (Array.Array (Referent.rtF (Referent.fInt Syntax.w8)) 2048) 2) (Syntax.tyRef (Syntax.named 3) Syntax.mut (Syntax.tyArray ty·0 2)) 3 6 (Row.lease (κs .1 .1 .1 .0) (qs .1 .1 .1 .0))) (List._∷_
-            (5, Rows.mref-owed (Array.Array (Referent.rtF (Referent.fInt Syntax.w8)) 2048) (Syntax.tyRef (Syntax.named 4) Syntax.mut ty·0) 4 7 (Row.lease (κs .1 .1 .1 .1 .0) (qs .1 .1 .1 .1 .0))) (List._∷_ (6, Rows.sc-here (Row.sInt Syntax.w64)) (List._∷_ (7, Rows.sc-here (Row.sInt Syntax.w64)) (List._∷_ (8, Rows.any-gone Syntax.tyBool) (List._∷_
-            (9, Rows.any-gone Syntax.tyBool) (List._∷_ (10, Rows.any-gone Syntax.tyBool) (List._∷_ (11, Rows.any-gone Syntax.tyUnit) (List._∷_ (12, Rows.mleft (Array.Array (Array.Array (Referent.rtF (Referent.fInt Syntax.w16)) 2048) 2) (Syntax.tyRef Syntax.erased Syntax.mut (Syntax.tyArray ty·1 2))) (List._∷_
-            (13, Rows.mleft (Array.Array (Array.Array (Referent.rtF (Referent.fInt Syntax.w8)) 2048) 2) (Syntax.tyRef Syntax.erased Syntax.mut (Syntax.tyArray ty·0 2))) (List._∷_ (14, Rows.mleft (Array.Array (Referent.rtF (Referent.fInt Syntax.w8)) 2048) (Syntax.tyRef Syntax.erased Syntax.mut ty·0)) (List._∷_ (15, Rows.any-gone Syntax.tyUnit)
+            (3, Rows.mref-owed (Array.Array (Array.Array (Referent.rtF (Referent.fInt Syntax.w16)) 4096) 2) (Syntax.tyRef (Syntax.named 2) Syntax.mut (Syntax.tyArray ty·1 2)) 2 5 (Row.lease (κs .1 .1 .0) (qs .1 .1 .0))) (List._∷_
+            (4, Rows.mref-owed (Array.Array (Array.Array (Referent.rtF (Referent.fInt Syntax.w8)) 4096) 2) (Syntax.tyRef (Syntax.named 3) Syntax.mut (Syntax.tyArray ty·0 2)) 3 6 (Row.lease (κs .1 .1 .1 .0) (qs .1 .1 .1 .0))) (List._∷_
+            (5, Rows.mref-owed (Array.Array (Referent.rtF (Referent.fInt Syntax.w8)) 4096) (Syntax.tyRef (Syntax.named 4) Syntax.mut ty·0) 4 7 (Row.lease (κs .1 .1 .1 .1 .0) (qs .1 .1 .1 .1 .0))) (List._∷_ (6, Rows.sc-here (Row.sInt Syntax.w64)) (List._∷_ (7, Rows.sc-here (Row.sInt Syntax.w64)) (List._∷_ (8, Rows.any-gone Syntax.tyBool) (List._∷_
+            (9, Rows.any-gone Syntax.tyBool) (List._∷_ (10, Rows.any-gone Syntax.tyBool) (List._∷_ (11, Rows.any-gone Syntax.tyUnit) (List._∷_ (12, Rows.mleft (Array.Array (Array.Array (Referent.rtF (Referent.fInt Syntax.w16)) 4096) 2) (Syntax.tyRef Syntax.erased Syntax.mut (Syntax.tyArray ty·1 2))) (List._∷_
+            (13, Rows.mleft (Array.Array (Array.Array (Referent.rtF (Referent.fInt Syntax.w8)) 4096) 2) (Syntax.tyRef Syntax.erased Syntax.mut (Syntax.tyArray ty·0 2))) (List._∷_ (14, Rows.mleft (Array.Array (Referent.rtF (Referent.fInt Syntax.w8)) 4096) (Syntax.tyRef Syntax.erased Syntax.mut ty·0)) (List._∷_ (15, Rows.any-gone Syntax.tyUnit)
             List.[])))))))))))))))
 
         abbrev g15 : List.List Row.Entry
-        g15 = List._∷_ (0, Rows.any-gone (Syntax.tyInt Syntax.w64)) (List._∷_ (1, Rows.sslice (Referent.rtF (Referent.fInt Syntax.w16)) ty·3 0) (List._∷_ (2, Rows.sslice Rec.rt ty·2 1) (List._∷_ (3, Rows.mref (Array.Array (Array.Array (Referent.rtF (Referent.fInt Syntax.w16)) 2048) 2) (Syntax.tyRef (Syntax.named 2) Syntax.mut (Syntax.tyArray ty·1 2)) 2)
-            (List._∷_ (4, Rows.mref-owed (Array.Array (Array.Array (Referent.rtF (Referent.fInt Syntax.w8)) 2048) 2) (Syntax.tyRef (Syntax.named 3) Syntax.mut (Syntax.tyArray ty·0 2)) 3 6 (Row.lease (κs .1 .1 .1 .0) (qs .1 .1 .1 .0))) (List._∷_
-            (5, Rows.mref-owed (Array.Array (Referent.rtF (Referent.fInt Syntax.w8)) 2048) (Syntax.tyRef (Syntax.named 4) Syntax.mut ty·0) 4 7 (Row.lease (κs .1 .1 .1 .1 .0) (qs .1 .1 .1 .1 .0))) (List._∷_ (6, Rows.sc-here (Row.sInt Syntax.w64)) (List._∷_ (7, Rows.sc-here (Row.sInt Syntax.w64)) (List._∷_ (8, Rows.any-gone Syntax.tyBool) (List._∷_
+        g15 = List._∷_ (0, Rows.any-gone (Syntax.tyInt Syntax.w64)) (List._∷_ (1, Rows.sslice (Referent.rtF (Referent.fInt Syntax.w16)) ty·3 0) (List._∷_ (2, Rows.sslice Rec.rt ty·2 1) (List._∷_ (3, Rows.mref (Array.Array (Array.Array (Referent.rtF (Referent.fInt Syntax.w16)) 4096) 2) (Syntax.tyRef (Syntax.named 2) Syntax.mut (Syntax.tyArray ty·1 2)) 2)
+            (List._∷_ (4, Rows.mref-owed (Array.Array (Array.Array (Referent.rtF (Referent.fInt Syntax.w8)) 4096) 2) (Syntax.tyRef (Syntax.named 3) Syntax.mut (Syntax.tyArray ty·0 2)) 3 6 (Row.lease (κs .1 .1 .1 .0) (qs .1 .1 .1 .0))) (List._∷_
+            (5, Rows.mref-owed (Array.Array (Referent.rtF (Referent.fInt Syntax.w8)) 4096) (Syntax.tyRef (Syntax.named 4) Syntax.mut ty·0) 4 7 (Row.lease (κs .1 .1 .1 .1 .0) (qs .1 .1 .1 .1 .0))) (List._∷_ (6, Rows.sc-here (Row.sInt Syntax.w64)) (List._∷_ (7, Rows.sc-here (Row.sInt Syntax.w64)) (List._∷_ (8, Rows.any-gone Syntax.tyBool) (List._∷_
             (9, Rows.any-gone Syntax.tyBool) (List._∷_ (10, Rows.any-gone Syntax.tyBool) (List._∷_ (11, Rows.any-gone Syntax.tyUnit) (List._∷_ (12, Rows.any-gone (Syntax.tyRef Syntax.erased Syntax.mut (Syntax.tyArray ty·1 2))) (List._∷_
-            (13, Rows.mleft (Array.Array (Array.Array (Referent.rtF (Referent.fInt Syntax.w8)) 2048) 2) (Syntax.tyRef Syntax.erased Syntax.mut (Syntax.tyArray ty·0 2))) (List._∷_ (14, Rows.mleft (Array.Array (Referent.rtF (Referent.fInt Syntax.w8)) 2048) (Syntax.tyRef Syntax.erased Syntax.mut ty·0)) (List._∷_ (15, Rows.any-gone Syntax.tyUnit)
+            (13, Rows.mleft (Array.Array (Array.Array (Referent.rtF (Referent.fInt Syntax.w8)) 4096) 2) (Syntax.tyRef Syntax.erased Syntax.mut (Syntax.tyArray ty·0 2))) (List._∷_ (14, Rows.mleft (Array.Array (Referent.rtF (Referent.fInt Syntax.w8)) 4096) (Syntax.tyRef Syntax.erased Syntax.mut ty·0)) (List._∷_ (15, Rows.any-gone Syntax.tyUnit)
             List.[])))))))))))))))
 
         abbrev g16 : List.List Row.Entry
-        g16 = List._∷_ (0, Rows.any-gone (Syntax.tyInt Syntax.w64)) (List._∷_ (1, Rows.sslice (Referent.rtF (Referent.fInt Syntax.w16)) ty·3 0) (List._∷_ (2, Rows.sslice Rec.rt ty·2 1) (List._∷_ (3, Rows.mref (Array.Array (Array.Array (Referent.rtF (Referent.fInt Syntax.w16)) 2048) 2) (Syntax.tyRef (Syntax.named 2) Syntax.mut (Syntax.tyArray ty·1 2)) 2)
-            (List._∷_ (4, Rows.mref (Array.Array (Array.Array (Referent.rtF (Referent.fInt Syntax.w8)) 2048) 2) (Syntax.tyRef (Syntax.named 3) Syntax.mut (Syntax.tyArray ty·0 2)) 3) (List._∷_
-            (5, Rows.mref-owed (Array.Array (Referent.rtF (Referent.fInt Syntax.w8)) 2048) (Syntax.tyRef (Syntax.named 4) Syntax.mut ty·0) 4 7 (Row.lease (κs .1 .1 .1 .1 .0) (qs .1 .1 .1 .1 .0))) (List._∷_ (6, Rows.sc-here (Row.sInt Syntax.w64)) (List._∷_ (7, Rows.sc-here (Row.sInt Syntax.w64)) (List._∷_ (8, Rows.any-gone Syntax.tyBool) (List._∷_
+        g16 = List._∷_ (0, Rows.any-gone (Syntax.tyInt Syntax.w64)) (List._∷_ (1, Rows.sslice (Referent.rtF (Referent.fInt Syntax.w16)) ty·3 0) (List._∷_ (2, Rows.sslice Rec.rt ty·2 1) (List._∷_ (3, Rows.mref (Array.Array (Array.Array (Referent.rtF (Referent.fInt Syntax.w16)) 4096) 2) (Syntax.tyRef (Syntax.named 2) Syntax.mut (Syntax.tyArray ty·1 2)) 2)
+            (List._∷_ (4, Rows.mref (Array.Array (Array.Array (Referent.rtF (Referent.fInt Syntax.w8)) 4096) 2) (Syntax.tyRef (Syntax.named 3) Syntax.mut (Syntax.tyArray ty·0 2)) 3) (List._∷_
+            (5, Rows.mref-owed (Array.Array (Referent.rtF (Referent.fInt Syntax.w8)) 4096) (Syntax.tyRef (Syntax.named 4) Syntax.mut ty·0) 4 7 (Row.lease (κs .1 .1 .1 .1 .0) (qs .1 .1 .1 .1 .0))) (List._∷_ (6, Rows.sc-here (Row.sInt Syntax.w64)) (List._∷_ (7, Rows.sc-here (Row.sInt Syntax.w64)) (List._∷_ (8, Rows.any-gone Syntax.tyBool) (List._∷_
             (9, Rows.any-gone Syntax.tyBool) (List._∷_ (10, Rows.any-gone Syntax.tyBool) (List._∷_ (11, Rows.any-gone Syntax.tyUnit) (List._∷_ (12, Rows.any-gone (Syntax.tyRef Syntax.erased Syntax.mut (Syntax.tyArray ty·1 2))) (List._∷_ (13, Rows.any-gone (Syntax.tyRef Syntax.erased Syntax.mut (Syntax.tyArray ty·0 2))) (List._∷_
-            (14, Rows.mleft (Array.Array (Referent.rtF (Referent.fInt Syntax.w8)) 2048) (Syntax.tyRef Syntax.erased Syntax.mut ty·0)) (List._∷_ (15, Rows.any-gone Syntax.tyUnit) List.[])))))))))))))))
+            (14, Rows.mleft (Array.Array (Referent.rtF (Referent.fInt Syntax.w8)) 4096) (Syntax.tyRef Syntax.erased Syntax.mut ty·0)) (List._∷_ (15, Rows.any-gone Syntax.tyUnit) List.[])))))))))))))))
 
         abbrev g19 : List.List Row.Entry
         g19 = List._∷_ (0, Rows.any-gone (Syntax.tyInt Syntax.w64)) (List._∷_ (1, Rows.sslice (Referent.rtF (Referent.fInt Syntax.w16)) ty·3 0) (List._∷_ (2, Rows.sslice Rec.rt ty·2 1) (List._∷_
-            (3, Rows.mref-owed (Array.Array (Array.Array (Referent.rtF (Referent.fInt Syntax.w16)) 2048) 2) (Syntax.tyRef (Syntax.named 2) Syntax.mut (Syntax.tyArray ty·1 2)) 2 8 (Row.lease (κs .1 .1 .0) (qs .1 .1 .0))) (List._∷_
-            (4, Rows.mref (Array.Array (Array.Array (Referent.rtF (Referent.fInt Syntax.w8)) 2048) 2) (Syntax.tyRef (Syntax.named 3) Syntax.mut (Syntax.tyArray ty·0 2)) 3) (List._∷_ (5, Rows.mref (Array.Array (Referent.rtF (Referent.fInt Syntax.w8)) 2048) (Syntax.tyRef (Syntax.named 4) Syntax.mut ty·0) 4) (List._∷_ (6, Rows.sc-here (Row.sInt Syntax.w64))
+            (3, Rows.mref-owed (Array.Array (Array.Array (Referent.rtF (Referent.fInt Syntax.w16)) 4096) 2) (Syntax.tyRef (Syntax.named 2) Syntax.mut (Syntax.tyArray ty·1 2)) 2 8 (Row.lease (κs .1 .1 .0) (qs .1 .1 .0))) (List._∷_
+            (4, Rows.mref (Array.Array (Array.Array (Referent.rtF (Referent.fInt Syntax.w8)) 4096) 2) (Syntax.tyRef (Syntax.named 3) Syntax.mut (Syntax.tyArray ty·0 2)) 3) (List._∷_ (5, Rows.mref (Array.Array (Referent.rtF (Referent.fInt Syntax.w8)) 4096) (Syntax.tyRef (Syntax.named 4) Syntax.mut ty·0) 4) (List._∷_ (6, Rows.sc-here (Row.sInt Syntax.w64))
             (List._∷_ (7, Rows.sc-here (Row.sInt Syntax.w64)) (List._∷_ (8, Rows.any-gone Syntax.tyBool) (List._∷_ (9, Rows.any-gone Syntax.tyBool) (List._∷_ (10, Rows.any-gone Syntax.tyBool) (List._∷_ (11, Rows.any-gone Syntax.tyUnit) (List._∷_ (12, Rows.any-gone (Syntax.tyRef Syntax.erased Syntax.mut (Syntax.tyArray ty·1 2))) (List._∷_
             (13, Rows.any-gone (Syntax.tyRef Syntax.erased Syntax.mut (Syntax.tyArray ty·0 2))) (List._∷_ (14, Rows.any-gone (Syntax.tyRef Syntax.erased Syntax.mut ty·0)) (List._∷_ (15, Rows.any-gone Syntax.tyUnit) List.[])))))))))))))))
 
         abbrev g21 : List.List Row.Entry
         g21 = List._∷_ (0, Rows.any-gone (Syntax.tyInt Syntax.w64)) (List._∷_ (1, Rows.sslice (Referent.rtF (Referent.fInt Syntax.w16)) ty·3 0) (List._∷_ (2, Rows.sslice Rec.rt ty·2 1) (List._∷_
-            (3, Rows.mref-owed (Array.Array (Array.Array (Referent.rtF (Referent.fInt Syntax.w16)) 2048) 2) (Syntax.tyRef (Syntax.named 2) Syntax.mut (Syntax.tyArray ty·1 2)) 2 8 (Row.lease (κs .1 .1 .0) (qs .1 .1 .0))) (List._∷_
-            (4, Rows.mref-owed (Array.Array (Array.Array (Referent.rtF (Referent.fInt Syntax.w8)) 2048) 2) (Syntax.tyRef (Syntax.named 3) Syntax.mut (Syntax.tyArray ty·0 2)) 3 9 (Row.lease (κs .1 .1 .1 .0) (qs .1 .1 .1 .0))) (List._∷_ (5, Rows.mref (Array.Array (Referent.rtF (Referent.fInt Syntax.w8)) 2048) (Syntax.tyRef (Syntax.named 4) Syntax.mut ty·0) 4)
+            (3, Rows.mref-owed (Array.Array (Array.Array (Referent.rtF (Referent.fInt Syntax.w16)) 4096) 2) (Syntax.tyRef (Syntax.named 2) Syntax.mut (Syntax.tyArray ty·1 2)) 2 8 (Row.lease (κs .1 .1 .0) (qs .1 .1 .0))) (List._∷_
+            (4, Rows.mref-owed (Array.Array (Array.Array (Referent.rtF (Referent.fInt Syntax.w8)) 4096) 2) (Syntax.tyRef (Syntax.named 3) Syntax.mut (Syntax.tyArray ty·0 2)) 3 9 (Row.lease (κs .1 .1 .1 .0) (qs .1 .1 .1 .0))) (List._∷_ (5, Rows.mref (Array.Array (Referent.rtF (Referent.fInt Syntax.w8)) 4096) (Syntax.tyRef (Syntax.named 4) Syntax.mut ty·0) 4)
             (List._∷_ (6, Rows.sc-here (Row.sInt Syntax.w64)) (List._∷_ (7, Rows.sc-here (Row.sInt Syntax.w64)) (List._∷_ (8, Rows.any-gone Syntax.tyBool) (List._∷_ (9, Rows.any-gone Syntax.tyBool) (List._∷_ (10, Rows.any-gone Syntax.tyBool) (List._∷_ (11, Rows.any-gone Syntax.tyUnit) (List._∷_
             (12, Rows.any-gone (Syntax.tyRef Syntax.erased Syntax.mut (Syntax.tyArray ty·1 2))) (List._∷_ (13, Rows.any-gone (Syntax.tyRef Syntax.erased Syntax.mut (Syntax.tyArray ty·0 2))) (List._∷_ (14, Rows.any-gone (Syntax.tyRef Syntax.erased Syntax.mut ty·0)) (List._∷_ (15, Rows.any-gone Syntax.tyUnit) List.[])))))))))))))))
 
         abbrev g23 : List.List Row.Entry
         g23 = List._∷_ (0, Rows.any-gone (Syntax.tyInt Syntax.w64)) (List._∷_ (1, Rows.sslice (Referent.rtF (Referent.fInt Syntax.w16)) ty·3 0) (List._∷_ (2, Rows.sslice Rec.rt ty·2 1) (List._∷_
-            (3, Rows.mref-owed (Array.Array (Array.Array (Referent.rtF (Referent.fInt Syntax.w16)) 2048) 2) (Syntax.tyRef (Syntax.named 2) Syntax.mut (Syntax.tyArray ty·1 2)) 2 8 (Row.lease (κs .1 .1 .0) (qs .1 .1 .0))) (List._∷_
-            (4, Rows.mref-owed (Array.Array (Array.Array (Referent.rtF (Referent.fInt Syntax.w8)) 2048) 2) (Syntax.tyRef (Syntax.named 3) Syntax.mut (Syntax.tyArray ty·0 2)) 3 9 (Row.lease (κs .1 .1 .1 .0) (qs .1 .1 .1 .0))) (List._∷_
-            (5, Rows.mref-owed (Array.Array (Referent.rtF (Referent.fInt Syntax.w8)) 2048) (Syntax.tyRef (Syntax.named 4) Syntax.mut ty·0) 4 10 (Row.lease (κs .1 .1 .1 .1 .0) (qs .1 .1 .1 .1 .0))) (List._∷_ (6, Rows.sc-here (Row.sInt Syntax.w64)) (List._∷_ (7, Rows.sc-here (Row.sInt Syntax.w64)) (List._∷_ (8, Rows.any-gone Syntax.tyBool) (List._∷_
+            (3, Rows.mref-owed (Array.Array (Array.Array (Referent.rtF (Referent.fInt Syntax.w16)) 4096) 2) (Syntax.tyRef (Syntax.named 2) Syntax.mut (Syntax.tyArray ty·1 2)) 2 8 (Row.lease (κs .1 .1 .0) (qs .1 .1 .0))) (List._∷_
+            (4, Rows.mref-owed (Array.Array (Array.Array (Referent.rtF (Referent.fInt Syntax.w8)) 4096) 2) (Syntax.tyRef (Syntax.named 3) Syntax.mut (Syntax.tyArray ty·0 2)) 3 9 (Row.lease (κs .1 .1 .1 .0) (qs .1 .1 .1 .0))) (List._∷_
+            (5, Rows.mref-owed (Array.Array (Referent.rtF (Referent.fInt Syntax.w8)) 4096) (Syntax.tyRef (Syntax.named 4) Syntax.mut ty·0) 4 10 (Row.lease (κs .1 .1 .1 .1 .0) (qs .1 .1 .1 .1 .0))) (List._∷_ (6, Rows.sc-here (Row.sInt Syntax.w64)) (List._∷_ (7, Rows.sc-here (Row.sInt Syntax.w64)) (List._∷_ (8, Rows.any-gone Syntax.tyBool) (List._∷_
             (9, Rows.any-gone Syntax.tyBool) (List._∷_ (10, Rows.any-gone Syntax.tyBool) (List._∷_ (11, Rows.any-gone Syntax.tyUnit) (List._∷_ (12, Rows.any-gone (Syntax.tyRef Syntax.erased Syntax.mut (Syntax.tyArray ty·1 2))) (List._∷_ (13, Rows.any-gone (Syntax.tyRef Syntax.erased Syntax.mut (Syntax.tyArray ty·0 2))) (List._∷_
             (14, Rows.any-gone (Syntax.tyRef Syntax.erased Syntax.mut ty·0)) (List._∷_ (15, Rows.any-gone Syntax.tyUnit) List.[])))))))))))))))
 
         abbrev g25 : List.List Row.Entry
         g25 = List._∷_ (0, Rows.any-gone (Syntax.tyInt Syntax.w64)) (List._∷_ (1, Rows.sslice (Referent.rtF (Referent.fInt Syntax.w16)) ty·3 0) (List._∷_ (2, Rows.sslice Rec.rt ty·2 1) (List._∷_
-            (3, Rows.mref-owed (Array.Array (Array.Array (Referent.rtF (Referent.fInt Syntax.w16)) 2048) 2) (Syntax.tyRef (Syntax.named 2) Syntax.mut (Syntax.tyArray ty·1 2)) 2 8 (Row.lease (κs .1 .1 .0) (qs .1 .1 .0))) (List._∷_
-            (4, Rows.mref-owed (Array.Array (Array.Array (Referent.rtF (Referent.fInt Syntax.w8)) 2048) 2) (Syntax.tyRef (Syntax.named 3) Syntax.mut (Syntax.tyArray ty·0 2)) 3 9 (Row.lease (κs .1 .1 .1 .0) (qs .1 .1 .1 .0))) (List._∷_
-            (5, Rows.mref-owed (Array.Array (Referent.rtF (Referent.fInt Syntax.w8)) 2048) (Syntax.tyRef (Syntax.named 4) Syntax.mut ty·0) 4 10 (Row.lease (κs .1 .1 .1 .1 .0) (qs .1 .1 .1 .1 .0))) (List._∷_ (6, Rows.sc-here (Row.sInt Syntax.w64)) (List._∷_ (7, Rows.sc-here (Row.sInt Syntax.w64)) (List._∷_ (8, Rows.any-gone Syntax.tyBool) (List._∷_
+            (3, Rows.mref-owed (Array.Array (Array.Array (Referent.rtF (Referent.fInt Syntax.w16)) 4096) 2) (Syntax.tyRef (Syntax.named 2) Syntax.mut (Syntax.tyArray ty·1 2)) 2 8 (Row.lease (κs .1 .1 .0) (qs .1 .1 .0))) (List._∷_
+            (4, Rows.mref-owed (Array.Array (Array.Array (Referent.rtF (Referent.fInt Syntax.w8)) 4096) 2) (Syntax.tyRef (Syntax.named 3) Syntax.mut (Syntax.tyArray ty·0 2)) 3 9 (Row.lease (κs .1 .1 .1 .0) (qs .1 .1 .1 .0))) (List._∷_
+            (5, Rows.mref-owed (Array.Array (Referent.rtF (Referent.fInt Syntax.w8)) 4096) (Syntax.tyRef (Syntax.named 4) Syntax.mut ty·0) 4 10 (Row.lease (κs .1 .1 .1 .1 .0) (qs .1 .1 .1 .1 .0))) (List._∷_ (6, Rows.sc-here (Row.sInt Syntax.w64)) (List._∷_ (7, Rows.sc-here (Row.sInt Syntax.w64)) (List._∷_ (8, Rows.any-gone Syntax.tyBool) (List._∷_
             (9, Rows.any-gone Syntax.tyBool) (List._∷_ (10, Rows.any-gone Syntax.tyBool) (List._∷_ (11, Rows.any-gone Syntax.tyUnit) (List._∷_ (12, Rows.any-gone (Syntax.tyRef Syntax.erased Syntax.mut (Syntax.tyArray ty·1 2))) (List._∷_ (13, Rows.any-gone (Syntax.tyRef Syntax.erased Syntax.mut (Syntax.tyArray ty·0 2))) (List._∷_
             (14, Rows.any-gone (Syntax.tyRef Syntax.erased Syntax.mut ty·0)) (List._∷_ (15, Rows.sc-here Row.sUnit) List.[])))))))))))))))
 
         abbrev g27 : List.List Row.Entry
-        g27 = List._∷_ (0, Rows.any-gone (Syntax.tyInt Syntax.w64)) (List._∷_ (1, Rows.sslice (Referent.rtF (Referent.fInt Syntax.w16)) ty·3 0) (List._∷_ (2, Rows.sslice Rec.rt ty·2 1) (List._∷_ (3, Rows.mref (Array.Array (Array.Array (Referent.rtF (Referent.fInt Syntax.w16)) 2048) 2) (Syntax.tyRef (Syntax.named 2) Syntax.mut (Syntax.tyArray ty·1 2)) 2)
-            (List._∷_ (4, Rows.mref-owed (Array.Array (Array.Array (Referent.rtF (Referent.fInt Syntax.w8)) 2048) 2) (Syntax.tyRef (Syntax.named 3) Syntax.mut (Syntax.tyArray ty·0 2)) 3 9 (Row.lease (κs .1 .1 .1 .0) (qs .1 .1 .1 .0))) (List._∷_
-            (5, Rows.mref-owed (Array.Array (Referent.rtF (Referent.fInt Syntax.w8)) 2048) (Syntax.tyRef (Syntax.named 4) Syntax.mut ty·0) 4 10 (Row.lease (κs .1 .1 .1 .1 .0) (qs .1 .1 .1 .1 .0))) (List._∷_ (6, Rows.sc-here (Row.sInt Syntax.w64)) (List._∷_ (7, Rows.sc-here (Row.sInt Syntax.w64)) (List._∷_ (8, Rows.any-gone Syntax.tyBool) (List._∷_
+        g27 = List._∷_ (0, Rows.any-gone (Syntax.tyInt Syntax.w64)) (List._∷_ (1, Rows.sslice (Referent.rtF (Referent.fInt Syntax.w16)) ty·3 0) (List._∷_ (2, Rows.sslice Rec.rt ty·2 1) (List._∷_ (3, Rows.mref (Array.Array (Array.Array (Referent.rtF (Referent.fInt Syntax.w16)) 4096) 2) (Syntax.tyRef (Syntax.named 2) Syntax.mut (Syntax.tyArray ty·1 2)) 2)
+            (List._∷_ (4, Rows.mref-owed (Array.Array (Array.Array (Referent.rtF (Referent.fInt Syntax.w8)) 4096) 2) (Syntax.tyRef (Syntax.named 3) Syntax.mut (Syntax.tyArray ty·0 2)) 3 9 (Row.lease (κs .1 .1 .1 .0) (qs .1 .1 .1 .0))) (List._∷_
+            (5, Rows.mref-owed (Array.Array (Referent.rtF (Referent.fInt Syntax.w8)) 4096) (Syntax.tyRef (Syntax.named 4) Syntax.mut ty·0) 4 10 (Row.lease (κs .1 .1 .1 .1 .0) (qs .1 .1 .1 .1 .0))) (List._∷_ (6, Rows.sc-here (Row.sInt Syntax.w64)) (List._∷_ (7, Rows.sc-here (Row.sInt Syntax.w64)) (List._∷_ (8, Rows.any-gone Syntax.tyBool) (List._∷_
             (9, Rows.any-gone Syntax.tyBool) (List._∷_ (10, Rows.any-gone Syntax.tyBool) (List._∷_ (11, Rows.any-gone Syntax.tyUnit) (List._∷_ (12, Rows.any-gone (Syntax.tyRef Syntax.erased Syntax.mut (Syntax.tyArray ty·1 2))) (List._∷_ (13, Rows.any-gone (Syntax.tyRef Syntax.erased Syntax.mut (Syntax.tyArray ty·0 2))) (List._∷_
             (14, Rows.any-gone (Syntax.tyRef Syntax.erased Syntax.mut ty·0)) (List._∷_ (15, Rows.any-gone Syntax.tyUnit) List.[])))))))))))))))
 
         abbrev g29 : List.List Row.Entry
-        g29 = List._∷_ (0, Rows.any-gone (Syntax.tyInt Syntax.w64)) (List._∷_ (1, Rows.sslice (Referent.rtF (Referent.fInt Syntax.w16)) ty·3 0) (List._∷_ (2, Rows.sslice Rec.rt ty·2 1) (List._∷_ (3, Rows.mref (Array.Array (Array.Array (Referent.rtF (Referent.fInt Syntax.w16)) 2048) 2) (Syntax.tyRef (Syntax.named 2) Syntax.mut (Syntax.tyArray ty·1 2)) 2)
-            (List._∷_ (4, Rows.mref (Array.Array (Array.Array (Referent.rtF (Referent.fInt Syntax.w8)) 2048) 2) (Syntax.tyRef (Syntax.named 3) Syntax.mut (Syntax.tyArray ty·0 2)) 3) (List._∷_
-            (5, Rows.mref-owed (Array.Array (Referent.rtF (Referent.fInt Syntax.w8)) 2048) (Syntax.tyRef (Syntax.named 4) Syntax.mut ty·0) 4 10 (Row.lease (κs .1 .1 .1 .1 .0) (qs .1 .1 .1 .1 .0))) (List._∷_ (6, Rows.sc-here (Row.sInt Syntax.w64)) (List._∷_ (7, Rows.sc-here (Row.sInt Syntax.w64)) (List._∷_ (8, Rows.any-gone Syntax.tyBool) (List._∷_
+        g29 = List._∷_ (0, Rows.any-gone (Syntax.tyInt Syntax.w64)) (List._∷_ (1, Rows.sslice (Referent.rtF (Referent.fInt Syntax.w16)) ty·3 0) (List._∷_ (2, Rows.sslice Rec.rt ty·2 1) (List._∷_ (3, Rows.mref (Array.Array (Array.Array (Referent.rtF (Referent.fInt Syntax.w16)) 4096) 2) (Syntax.tyRef (Syntax.named 2) Syntax.mut (Syntax.tyArray ty·1 2)) 2)
+            (List._∷_ (4, Rows.mref (Array.Array (Array.Array (Referent.rtF (Referent.fInt Syntax.w8)) 4096) 2) (Syntax.tyRef (Syntax.named 3) Syntax.mut (Syntax.tyArray ty·0 2)) 3) (List._∷_
+            (5, Rows.mref-owed (Array.Array (Referent.rtF (Referent.fInt Syntax.w8)) 4096) (Syntax.tyRef (Syntax.named 4) Syntax.mut ty·0) 4 10 (Row.lease (κs .1 .1 .1 .1 .0) (qs .1 .1 .1 .1 .0))) (List._∷_ (6, Rows.sc-here (Row.sInt Syntax.w64)) (List._∷_ (7, Rows.sc-here (Row.sInt Syntax.w64)) (List._∷_ (8, Rows.any-gone Syntax.tyBool) (List._∷_
             (9, Rows.any-gone Syntax.tyBool) (List._∷_ (10, Rows.any-gone Syntax.tyBool) (List._∷_ (11, Rows.any-gone Syntax.tyUnit) (List._∷_ (12, Rows.any-gone (Syntax.tyRef Syntax.erased Syntax.mut (Syntax.tyArray ty·1 2))) (List._∷_ (13, Rows.any-gone (Syntax.tyRef Syntax.erased Syntax.mut (Syntax.tyArray ty·0 2))) (List._∷_
             (14, Rows.any-gone (Syntax.tyRef Syntax.erased Syntax.mut ty·0)) (List._∷_ (15, Rows.any-gone Syntax.tyUnit) List.[])))))))))))))))
 
@@ -999,36 +999,36 @@ module _ (claims· : Claims) where
 
           d14 : Typed.Typed 𝓤 H A 𝓣 E G28 b16 Δ2 at12
           d14 = Typed.g-pre 𝓤 H A W 𝓣 E G28 G29 b16 Δ2 (λ Ψ. Ψ) at12 (Lifetime.g-forget 𝓤 H A W E G28 6 Row.dead Path'.refl) (Typed.g-pre 𝓤 H A W 𝓣 E G29 G30 b16 Δ2 (λ Ψ. Ψ) at12 (Lifetime.g-end 𝓤 H A W E G29 7 Path'.refl) (Typed.g-pre 𝓤 H A W 𝓣 E G30 G31 b16 Δ2 (Typed.ask s27) at10 (Reborrow.g-back-mref 𝓤 H A W E G30 14 5 4 7 (Array.Array (Referent.rtF
-              (Referent.fInt Syntax.w8)) 2048) (Syntax.tyRef (Syntax.named 4) Syntax.mut ty·0) (Syntax.tyRef Syntax.erased Syntax.mut ty·0) (Row.lease (κs .1 .1 .1 .1 .0) (qs .1 .1 .1 .1 .0)) (λ x. x) (λ x. x) (Reads.as-is 𝓤 H A (Rows.mleft (Array.Array (Referent.rtF (Referent.fInt Syntax.w8)) 2048) (Syntax.tyRef Syntax.erased Syntax.mut ty·0))) (Reads.as-is 𝓤 H
-              A (Rows.mref-owed (Array.Array (Referent.rtF (Referent.fInt Syntax.w8)) 2048) (Syntax.tyRef (Syntax.named 4) Syntax.mut ty·0) 4 7 (Row.lease (κs .1 .1 .1 .1 .0) (qs .1 .1 .1 .1 .0)))) Path'.refl Path'.refl) d11))
+              (Referent.fInt Syntax.w8)) 4096) (Syntax.tyRef (Syntax.named 4) Syntax.mut ty·0) (Syntax.tyRef Syntax.erased Syntax.mut ty·0) (Row.lease (κs .1 .1 .1 .1 .0) (qs .1 .1 .1 .1 .0)) (λ x. x) (λ x. x) (Reads.as-is 𝓤 H A (Rows.mleft (Array.Array (Referent.rtF (Referent.fInt Syntax.w8)) 4096) (Syntax.tyRef Syntax.erased Syntax.mut ty·0))) (Reads.as-is 𝓤 H
+              A (Rows.mref-owed (Array.Array (Referent.rtF (Referent.fInt Syntax.w8)) 4096) (Syntax.tyRef (Syntax.named 4) Syntax.mut ty·0) 4 7 (Row.lease (κs .1 .1 .1 .1 .0) (qs .1 .1 .1 .1 .0)))) Path'.refl Path'.refl) d11))
 
           d16 : Typed.Typed 𝓤 H A 𝓣 E G26 b16 Δ2 at15
-          d16 = Typed.g-pre 𝓤 H A W 𝓣 E G26 G27 b16 Δ2 (λ Ψ. Ψ) at15 (Lifetime.g-end 𝓤 H A W E G26 6 Path'.refl) (Typed.g-pre 𝓤 H A W 𝓣 E G27 G28 b16 Δ2 (Typed.ask s24) at12 (Reborrow.g-back-mref 𝓤 H A W E G27 13 4 3 6 (Array.Array (Array.Array (Referent.rtF (Referent.fInt Syntax.w8)) 2048) 2) (Syntax.tyRef (Syntax.named 3) Syntax.mut (Syntax.tyArray ty·0
-              2)) (Syntax.tyRef Syntax.erased Syntax.mut (Syntax.tyArray ty·0 2)) (Row.lease (κs .1 .1 .1 .0) (qs .1 .1 .1 .0)) (λ x. x) (λ x. x) (Reads.as-is 𝓤 H A (Rows.mleft (Array.Array (Array.Array (Referent.rtF (Referent.fInt Syntax.w8)) 2048) 2) (Syntax.tyRef Syntax.erased Syntax.mut (Syntax.tyArray ty·0 2)))) (Reads.as-is 𝓤 H A (Rows.mref-owed
-              (Array.Array (Array.Array (Referent.rtF (Referent.fInt Syntax.w8)) 2048) 2) (Syntax.tyRef (Syntax.named 3) Syntax.mut (Syntax.tyArray ty·0 2)) 3 6 (Row.lease (κs .1 .1 .1 .0) (qs .1 .1 .1 .0)))) Path'.refl Path'.refl) d14)
+          d16 = Typed.g-pre 𝓤 H A W 𝓣 E G26 G27 b16 Δ2 (λ Ψ. Ψ) at15 (Lifetime.g-end 𝓤 H A W E G26 6 Path'.refl) (Typed.g-pre 𝓤 H A W 𝓣 E G27 G28 b16 Δ2 (Typed.ask s24) at12 (Reborrow.g-back-mref 𝓤 H A W E G27 13 4 3 6 (Array.Array (Array.Array (Referent.rtF (Referent.fInt Syntax.w8)) 4096) 2) (Syntax.tyRef (Syntax.named 3) Syntax.mut (Syntax.tyArray ty·0
+              2)) (Syntax.tyRef Syntax.erased Syntax.mut (Syntax.tyArray ty·0 2)) (Row.lease (κs .1 .1 .1 .0) (qs .1 .1 .1 .0)) (λ x. x) (λ x. x) (Reads.as-is 𝓤 H A (Rows.mleft (Array.Array (Array.Array (Referent.rtF (Referent.fInt Syntax.w8)) 4096) 2) (Syntax.tyRef Syntax.erased Syntax.mut (Syntax.tyArray ty·0 2)))) (Reads.as-is 𝓤 H A (Rows.mref-owed
+              (Array.Array (Array.Array (Referent.rtF (Referent.fInt Syntax.w8)) 4096) 2) (Syntax.tyRef (Syntax.named 3) Syntax.mut (Syntax.tyArray ty·0 2)) 3 6 (Row.lease (κs .1 .1 .1 .0) (qs .1 .1 .1 .0)))) Path'.refl Path'.refl) d14)
 
           d18 : Typed.Typed 𝓤 H A 𝓣 E G24 b16 Δ2 at18
-          d18 = Typed.g-pre 𝓤 H A W 𝓣 E G24 G25 b16 Δ2 (Typed.ask s21) at15 (Reborrow.g-back-mref 𝓤 H A W E G24 12 3 2 5 (Array.Array (Array.Array (Referent.rtF (Referent.fInt Syntax.w16)) 2048) 2) (Syntax.tyRef (Syntax.named 2) Syntax.mut (Syntax.tyArray ty·1 2)) (Syntax.tyRef Syntax.erased Syntax.mut (Syntax.tyArray ty·1 2)) (Row.lease (κs .1 .1 .0) (qs .1
-              .1 .0)) (λ x. x) (λ x. x) (Reads.as-is 𝓤 H A (Rows.mleft (Array.Array (Array.Array (Referent.rtF (Referent.fInt Syntax.w16)) 2048) 2) (Syntax.tyRef Syntax.erased Syntax.mut (Syntax.tyArray ty·1 2)))) (Reads.as-is 𝓤 H A (Rows.mref-owed (Array.Array (Array.Array (Referent.rtF (Referent.fInt Syntax.w16)) 2048) 2) (Syntax.tyRef (Syntax.named 2)
+          d18 = Typed.g-pre 𝓤 H A W 𝓣 E G24 G25 b16 Δ2 (Typed.ask s21) at15 (Reborrow.g-back-mref 𝓤 H A W E G24 12 3 2 5 (Array.Array (Array.Array (Referent.rtF (Referent.fInt Syntax.w16)) 4096) 2) (Syntax.tyRef (Syntax.named 2) Syntax.mut (Syntax.tyArray ty·1 2)) (Syntax.tyRef Syntax.erased Syntax.mut (Syntax.tyArray ty·1 2)) (Row.lease (κs .1 .1 .0) (qs .1
+              .1 .0)) (λ x. x) (λ x. x) (Reads.as-is 𝓤 H A (Rows.mleft (Array.Array (Array.Array (Referent.rtF (Referent.fInt Syntax.w16)) 4096) 2) (Syntax.tyRef Syntax.erased Syntax.mut (Syntax.tyArray ty·1 2)))) (Reads.as-is 𝓤 H A (Rows.mref-owed (Array.Array (Array.Array (Referent.rtF (Referent.fInt Syntax.w16)) 4096) 2) (Syntax.tyRef (Syntax.named 2)
               Syntax.mut (Syntax.tyArray ty·1 2)) 2 5 (Row.lease (κs .1 .1 .0) (qs .1 .1 .0)))) Path'.refl Path'.refl) (Typed.g-pre 𝓤 H A W 𝓣 E G25 G26 b16 Δ2 (λ Ψ. Ψ) at15 (Lifetime.g-forget 𝓤 H A W E G25 5 Row.dead Path'.refl) d16)
 
           d21 : Typed.Typed 𝓤 H A 𝓣 E G21 b17 Δ2 at21
           d21 = Typed.s-seq 𝓤 H A W 𝓣 E G21 G22 b13 b16 Δ2 (Typed.both s18) at20 (Plain.t-call-plain 𝓤 H A W 𝓣 4 ps·3 r·3 (claims· .6) (claims· .7) "records::lent::spread_used" (known .3) E (λ pos β. β) G21
               (record { pos = 2; ty = ty·2; ref = λ x. x }, (Num.vAt 6 λ x. x, (record { pos = 12; ty = Syntax.tyRef Syntax.erased Syntax.mut (Syntax.tyArray ty·1 2); ref = λ x. x }, (record { pos = 13; ty = Syntax.tyRef Syntax.erased Syntax.mut (Syntax.tyArray ty·0 2); ref = λ x. x }, (record { pos = 14; ty = Syntax.tyRef Syntax.erased Syntax.mut ty·0; ref = λ x. x }, tt)))))
               11 (List._∷_ 1 (List._∷_ 5 (List._∷_ 6 (List._∷_ 7 List.[])))) (Call.sub-id 𝓤 H A W (G21 .slots))
-              (ShrSlice.spares-sslice 𝓤 H A W Rec.rt ty·2 1, Shared.reads-sslice 𝓤 H A W Rec.rt ty·2 1, Path'.refl, ((Scalar.reads-sc 𝓤 H A W (Row.sInt Syntax.w64), Path'.refl), (Reads.as-is 𝓤 H A (Rows.mref (Array.Array (Array.Array (Referent.rtF (Referent.fInt Syntax.w16)) 2048) 2) (Syntax.tyRef Syntax.erased Syntax.mut (Syntax.tyArray ty·1 2)) 5), Reads.reads-mref 𝓤 H A W (Array.Array (Array.Array (Referent.rtF (Referent.fInt Syntax.w16)) 2048) 2) (Syntax.tyRef Syntax.erased Syntax.mut (Syntax.tyArray ty·1 2)) 5, Path'.refl, (Reads.as-is 𝓤 H A (Rows.mref (Array.Array (Array.Array (Referent.rtF (Referent.fInt Syntax.w8)) 2048) 2) (Syntax.tyRef Syntax.erased Syntax.mut (Syntax.tyArray ty·0 2)) 6), Reads.reads-mref 𝓤 H A W (Array.Array (Array.Array (Referent.rtF (Referent.fInt Syntax.w8)) 2048) 2) (Syntax.tyRef Syntax.erased Syntax.mut (Syntax.tyArray ty·0 2)) 6, Path'.refl, (Reads.as-is 𝓤 H A (Rows.mref (Array.Array (Referent.rtF (Referent.fInt Syntax.w8)) 2048) (Syntax.tyRef Syntax.erased Syntax.mut ty·0) 7), Reads.reads-mref 𝓤 H A W (Array.Array (Referent.rtF (Referent.fInt Syntax.w8)) 2048) (Syntax.tyRef Syntax.erased Syntax.mut ty·0) 7, Path'.refl, tt)))))
+              (ShrSlice.spares-sslice 𝓤 H A W Rec.rt ty·2 1, Shared.reads-sslice 𝓤 H A W Rec.rt ty·2 1, Path'.refl, ((Scalar.reads-sc 𝓤 H A W (Row.sInt Syntax.w64), Path'.refl), (Reads.as-is 𝓤 H A (Rows.mref (Array.Array (Array.Array (Referent.rtF (Referent.fInt Syntax.w16)) 4096) 2) (Syntax.tyRef Syntax.erased Syntax.mut (Syntax.tyArray ty·1 2)) 5), Reads.reads-mref 𝓤 H A W (Array.Array (Array.Array (Referent.rtF (Referent.fInt Syntax.w16)) 4096) 2) (Syntax.tyRef Syntax.erased Syntax.mut (Syntax.tyArray ty·1 2)) 5, Path'.refl, (Reads.as-is 𝓤 H A (Rows.mref (Array.Array (Array.Array (Referent.rtF (Referent.fInt Syntax.w8)) 4096) 2) (Syntax.tyRef Syntax.erased Syntax.mut (Syntax.tyArray ty·0 2)) 6), Reads.reads-mref 𝓤 H A W (Array.Array (Array.Array (Referent.rtF (Referent.fInt Syntax.w8)) 4096) 2) (Syntax.tyRef Syntax.erased Syntax.mut (Syntax.tyArray ty·0 2)) 6, Path'.refl, (Reads.as-is 𝓤 H A (Rows.mref (Array.Array (Referent.rtF (Referent.fInt Syntax.w8)) 4096) (Syntax.tyRef Syntax.erased Syntax.mut ty·0) 7), Reads.reads-mref 𝓤 H A W (Array.Array (Referent.rtF (Referent.fInt Syntax.w8)) 4096) (Syntax.tyRef Syntax.erased Syntax.mut ty·0) 7, Path'.refl, tt)))))
               (Reads.room-gone 𝓤 H A Syntax.tyUnit) (tt, (tt, (tt, (tt, tt)))) Path'.refl) (Typed.g-pre 𝓤 H A W 𝓣 E G22 G23 b16 Δ2 (Typed.pass T22 T23 s19) at18 (Scalar.g-room 𝓤 H A W E G22 11 Syntax.tyUnit (Scalar.room-sc 𝓤 H A W Row.sUnit)) (Typed.g-pre 𝓤 H A W 𝓣 E G23 G24 b16 Δ2 (λ Ψ. Ψ) at18 (Lifetime.g-end 𝓤 H A W E G23 5 Path'.refl) d18))
 
           d24 : Typed.Typed 𝓤 H A 𝓣 E G18 b19 Δ2 at24
-          d24 = Typed.s-seq 𝓤 H A W 𝓣 E G18 G19 b11 b18 Δ2 (Typed.give s15) at22 (Reborrow.t-mref-relend 𝓤 H A W E 𝓣 G18 4 13 3 6 (Array.Array (Array.Array (Referent.rtF (Referent.fInt Syntax.w8)) 2048) 2) (Syntax.tyArray ty·0 2) (Syntax.tyRef (Syntax.named 3) Syntax.mut (Syntax.tyArray ty·0 2)) (Syntax.tyRef Syntax.erased Syntax.mut (Syntax.tyArray ty·0 2))
-              (Row.lease (κs .1 .1 .1 .0) (qs .1 .1 .1 .0)) (λ x. x) (Reads.as-is 𝓤 H A (Rows.mref (Array.Array (Array.Array (Referent.rtF (Referent.fInt Syntax.w8)) 2048) 2) (Syntax.tyRef (Syntax.named 3) Syntax.mut (Syntax.tyArray ty·0 2)) 3)) (Reads.room-gone 𝓤 H A (Syntax.tyRef Syntax.erased Syntax.mut (Syntax.tyArray ty·0 2))) Path'.refl tt Path'.refl
+          d24 = Typed.s-seq 𝓤 H A W 𝓣 E G18 G19 b11 b18 Δ2 (Typed.give s15) at22 (Reborrow.t-mref-relend 𝓤 H A W E 𝓣 G18 4 13 3 6 (Array.Array (Array.Array (Referent.rtF (Referent.fInt Syntax.w8)) 4096) 2) (Syntax.tyArray ty·0 2) (Syntax.tyRef (Syntax.named 3) Syntax.mut (Syntax.tyArray ty·0 2)) (Syntax.tyRef Syntax.erased Syntax.mut (Syntax.tyArray ty·0 2))
+              (Row.lease (κs .1 .1 .1 .0) (qs .1 .1 .1 .0)) (λ x. x) (Reads.as-is 𝓤 H A (Rows.mref (Array.Array (Array.Array (Referent.rtF (Referent.fInt Syntax.w8)) 4096) 2) (Syntax.tyRef (Syntax.named 3) Syntax.mut (Syntax.tyArray ty·0 2)) 3)) (Reads.room-gone 𝓤 H A (Syntax.tyRef Syntax.erased Syntax.mut (Syntax.tyArray ty·0 2))) Path'.refl tt Path'.refl
               Path'.refl λ b o. tt) (Typed.g-pre 𝓤 H A W 𝓣 E G19 G20 b18 Δ2 (λ Ψ. Ψ) at22 (Lifetime.g-begin 𝓤 H A W E G19 7 (tt, (tt, (tt, ((tt, tt), ((tt, tt), (tt, (tt, (tt, (tt, (tt, (tt, (tt, (tt, (tt, (tt, (tt, (tt, (tt, (tt, tt)))))))))))))))))))) (Typed.s-seq 𝓤 H A W 𝓣 E G20 G21 b12 b17 Δ2 (Typed.give s17) at21 (Reborrow.t-mref-relend 𝓤 H A W E 𝓣 G20 5 14
-              4 7 (Array.Array (Referent.rtF (Referent.fInt Syntax.w8)) 2048) ty·0 (Syntax.tyRef (Syntax.named 4) Syntax.mut ty·0) (Syntax.tyRef Syntax.erased Syntax.mut ty·0) (Row.lease (κs .1 .1 .1 .1 .0) (qs .1 .1 .1 .1 .0)) (λ x. x) (Reads.as-is 𝓤 H A (Rows.mref (Array.Array (Referent.rtF (Referent.fInt Syntax.w8)) 2048) (Syntax.tyRef (Syntax.named 4)
+              4 7 (Array.Array (Referent.rtF (Referent.fInt Syntax.w8)) 4096) ty·0 (Syntax.tyRef (Syntax.named 4) Syntax.mut ty·0) (Syntax.tyRef Syntax.erased Syntax.mut ty·0) (Row.lease (κs .1 .1 .1 .1 .0) (qs .1 .1 .1 .1 .0)) (λ x. x) (Reads.as-is 𝓤 H A (Rows.mref (Array.Array (Referent.rtF (Referent.fInt Syntax.w8)) 4096) (Syntax.tyRef (Syntax.named 4)
               Syntax.mut ty·0) 4)) (Reads.room-gone 𝓤 H A (Syntax.tyRef Syntax.erased Syntax.mut ty·0)) Path'.refl tt Path'.refl Path'.refl λ b o. tt) d21))
 
           d26 : Typed.Typed 𝓤 H A 𝓣 E G16 b20 Δ2 at26
-          d26 = Typed.s-seq 𝓤 H A W 𝓣 E G16 G17 b10 b19 Δ2 (Typed.give s13) at24 (Reborrow.t-mref-relend 𝓤 H A W E 𝓣 G16 3 12 2 5 (Array.Array (Array.Array (Referent.rtF (Referent.fInt Syntax.w16)) 2048) 2) (Syntax.tyArray ty·1 2) (Syntax.tyRef (Syntax.named 2) Syntax.mut (Syntax.tyArray ty·1 2)) (Syntax.tyRef Syntax.erased Syntax.mut (Syntax.tyArray ty·1
-              2)) (Row.lease (κs .1 .1 .0) (qs .1 .1 .0)) (λ x. x) (Reads.as-is 𝓤 H A (Rows.mref (Array.Array (Array.Array (Referent.rtF (Referent.fInt Syntax.w16)) 2048) 2) (Syntax.tyRef (Syntax.named 2) Syntax.mut (Syntax.tyArray ty·1 2)) 2)) (Reads.room-gone 𝓤 H A (Syntax.tyRef Syntax.erased Syntax.mut (Syntax.tyArray ty·1 2))) Path'.refl tt Path'.refl
+          d26 = Typed.s-seq 𝓤 H A W 𝓣 E G16 G17 b10 b19 Δ2 (Typed.give s13) at24 (Reborrow.t-mref-relend 𝓤 H A W E 𝓣 G16 3 12 2 5 (Array.Array (Array.Array (Referent.rtF (Referent.fInt Syntax.w16)) 4096) 2) (Syntax.tyArray ty·1 2) (Syntax.tyRef (Syntax.named 2) Syntax.mut (Syntax.tyArray ty·1 2)) (Syntax.tyRef Syntax.erased Syntax.mut (Syntax.tyArray ty·1
+              2)) (Row.lease (κs .1 .1 .0) (qs .1 .1 .0)) (λ x. x) (Reads.as-is 𝓤 H A (Rows.mref (Array.Array (Array.Array (Referent.rtF (Referent.fInt Syntax.w16)) 4096) 2) (Syntax.tyRef (Syntax.named 2) Syntax.mut (Syntax.tyArray ty·1 2)) 2)) (Reads.room-gone 𝓤 H A (Syntax.tyRef Syntax.erased Syntax.mut (Syntax.tyArray ty·1 2))) Path'.refl tt Path'.refl
               Path'.refl λ b o. tt) (Typed.g-pre 𝓤 H A W 𝓣 E G17 G18 b19 Δ2 (λ Ψ. Ψ) at24 (Lifetime.g-begin 𝓤 H A W E G17 6 (tt, (tt, (tt, ((tt, tt), (tt, (tt, (tt, (tt, (tt, (tt, (tt, (tt, (tt, (tt, (tt, (tt, (tt, (tt, (tt, tt)))))))))))))))))))) d24)
 
           d29 : Typed.Typed 𝓤 H A 𝓣 E G10 b21 Δ2 at29
@@ -1048,36 +1048,36 @@ module _ (claims· : Claims) where
 
           d40 : Typed.Typed 𝓤 H A 𝓣 E G49 b29 Δ0 at38
           d40 = Typed.g-pre 𝓤 H A W 𝓣 E G49 G50 b29 Δ0 (λ Ψ. Ψ) at38 (Lifetime.g-forget 𝓤 H A W E G49 9 Row.dead Path'.refl) (Typed.g-pre 𝓤 H A W 𝓣 E G50 G51 b29 Δ0 (λ Ψ. Ψ) at38 (Lifetime.g-end 𝓤 H A W E G50 10 Path'.refl) (Typed.g-pre 𝓤 H A W 𝓣 E G51 G52 b29 Δ0 (Typed.ask s48) at36 (Reborrow.g-back-mref 𝓤 H A W E G51 18 5 4 10 (Array.Array (Referent.rtF
-              (Referent.fInt Syntax.w8)) 2048) (Syntax.tyRef (Syntax.named 4) Syntax.mut ty·0) (Syntax.tyRef Syntax.erased Syntax.mut ty·0) (Row.lease (κs .1 .1 .1 .1 .0) (qs .1 .1 .1 .1 .0)) (λ x. x) (λ x. x) (Reads.as-is 𝓤 H A (Rows.mleft (Array.Array (Referent.rtF (Referent.fInt Syntax.w8)) 2048) (Syntax.tyRef Syntax.erased Syntax.mut ty·0))) (Reads.as-is 𝓤 H
-              A (Rows.mref-owed (Array.Array (Referent.rtF (Referent.fInt Syntax.w8)) 2048) (Syntax.tyRef (Syntax.named 4) Syntax.mut ty·0) 4 10 (Row.lease (κs .1 .1 .1 .1 .0) (qs .1 .1 .1 .1 .0)))) Path'.refl Path'.refl) d37))
+              (Referent.fInt Syntax.w8)) 4096) (Syntax.tyRef (Syntax.named 4) Syntax.mut ty·0) (Syntax.tyRef Syntax.erased Syntax.mut ty·0) (Row.lease (κs .1 .1 .1 .1 .0) (qs .1 .1 .1 .1 .0)) (λ x. x) (λ x. x) (Reads.as-is 𝓤 H A (Rows.mleft (Array.Array (Referent.rtF (Referent.fInt Syntax.w8)) 4096) (Syntax.tyRef Syntax.erased Syntax.mut ty·0))) (Reads.as-is 𝓤 H
+              A (Rows.mref-owed (Array.Array (Referent.rtF (Referent.fInt Syntax.w8)) 4096) (Syntax.tyRef (Syntax.named 4) Syntax.mut ty·0) 4 10 (Row.lease (κs .1 .1 .1 .1 .0) (qs .1 .1 .1 .1 .0)))) Path'.refl Path'.refl) d37))
 
           d42 : Typed.Typed 𝓤 H A 𝓣 E G47 b29 Δ0 at41
-          d42 = Typed.g-pre 𝓤 H A W 𝓣 E G47 G48 b29 Δ0 (λ Ψ. Ψ) at41 (Lifetime.g-end 𝓤 H A W E G47 9 Path'.refl) (Typed.g-pre 𝓤 H A W 𝓣 E G48 G49 b29 Δ0 (Typed.ask s45) at38 (Reborrow.g-back-mref 𝓤 H A W E G48 17 4 3 9 (Array.Array (Array.Array (Referent.rtF (Referent.fInt Syntax.w8)) 2048) 2) (Syntax.tyRef (Syntax.named 3) Syntax.mut (Syntax.tyArray ty·0
-              2)) (Syntax.tyRef Syntax.erased Syntax.mut (Syntax.tyArray ty·0 2)) (Row.lease (κs .1 .1 .1 .0) (qs .1 .1 .1 .0)) (λ x. x) (λ x. x) (Reads.as-is 𝓤 H A (Rows.mleft (Array.Array (Array.Array (Referent.rtF (Referent.fInt Syntax.w8)) 2048) 2) (Syntax.tyRef Syntax.erased Syntax.mut (Syntax.tyArray ty·0 2)))) (Reads.as-is 𝓤 H A (Rows.mref-owed
-              (Array.Array (Array.Array (Referent.rtF (Referent.fInt Syntax.w8)) 2048) 2) (Syntax.tyRef (Syntax.named 3) Syntax.mut (Syntax.tyArray ty·0 2)) 3 9 (Row.lease (κs .1 .1 .1 .0) (qs .1 .1 .1 .0)))) Path'.refl Path'.refl) d40)
+          d42 = Typed.g-pre 𝓤 H A W 𝓣 E G47 G48 b29 Δ0 (λ Ψ. Ψ) at41 (Lifetime.g-end 𝓤 H A W E G47 9 Path'.refl) (Typed.g-pre 𝓤 H A W 𝓣 E G48 G49 b29 Δ0 (Typed.ask s45) at38 (Reborrow.g-back-mref 𝓤 H A W E G48 17 4 3 9 (Array.Array (Array.Array (Referent.rtF (Referent.fInt Syntax.w8)) 4096) 2) (Syntax.tyRef (Syntax.named 3) Syntax.mut (Syntax.tyArray ty·0
+              2)) (Syntax.tyRef Syntax.erased Syntax.mut (Syntax.tyArray ty·0 2)) (Row.lease (κs .1 .1 .1 .0) (qs .1 .1 .1 .0)) (λ x. x) (λ x. x) (Reads.as-is 𝓤 H A (Rows.mleft (Array.Array (Array.Array (Referent.rtF (Referent.fInt Syntax.w8)) 4096) 2) (Syntax.tyRef Syntax.erased Syntax.mut (Syntax.tyArray ty·0 2)))) (Reads.as-is 𝓤 H A (Rows.mref-owed
+              (Array.Array (Array.Array (Referent.rtF (Referent.fInt Syntax.w8)) 4096) 2) (Syntax.tyRef (Syntax.named 3) Syntax.mut (Syntax.tyArray ty·0 2)) 3 9 (Row.lease (κs .1 .1 .1 .0) (qs .1 .1 .1 .0)))) Path'.refl Path'.refl) d40)
 
           d44 : Typed.Typed 𝓤 H A 𝓣 E G45 b29 Δ0 at44
-          d44 = Typed.g-pre 𝓤 H A W 𝓣 E G45 G46 b29 Δ0 (Typed.ask s42) at41 (Reborrow.g-back-mref 𝓤 H A W E G45 16 3 2 8 (Array.Array (Array.Array (Referent.rtF (Referent.fInt Syntax.w16)) 2048) 2) (Syntax.tyRef (Syntax.named 2) Syntax.mut (Syntax.tyArray ty·1 2)) (Syntax.tyRef Syntax.erased Syntax.mut (Syntax.tyArray ty·1 2)) (Row.lease (κs .1 .1 .0) (qs .1
-              .1 .0)) (λ x. x) (λ x. x) (Reads.as-is 𝓤 H A (Rows.mleft (Array.Array (Array.Array (Referent.rtF (Referent.fInt Syntax.w16)) 2048) 2) (Syntax.tyRef Syntax.erased Syntax.mut (Syntax.tyArray ty·1 2)))) (Reads.as-is 𝓤 H A (Rows.mref-owed (Array.Array (Array.Array (Referent.rtF (Referent.fInt Syntax.w16)) 2048) 2) (Syntax.tyRef (Syntax.named 2)
+          d44 = Typed.g-pre 𝓤 H A W 𝓣 E G45 G46 b29 Δ0 (Typed.ask s42) at41 (Reborrow.g-back-mref 𝓤 H A W E G45 16 3 2 8 (Array.Array (Array.Array (Referent.rtF (Referent.fInt Syntax.w16)) 4096) 2) (Syntax.tyRef (Syntax.named 2) Syntax.mut (Syntax.tyArray ty·1 2)) (Syntax.tyRef Syntax.erased Syntax.mut (Syntax.tyArray ty·1 2)) (Row.lease (κs .1 .1 .0) (qs .1
+              .1 .0)) (λ x. x) (λ x. x) (Reads.as-is 𝓤 H A (Rows.mleft (Array.Array (Array.Array (Referent.rtF (Referent.fInt Syntax.w16)) 4096) 2) (Syntax.tyRef Syntax.erased Syntax.mut (Syntax.tyArray ty·1 2)))) (Reads.as-is 𝓤 H A (Rows.mref-owed (Array.Array (Array.Array (Referent.rtF (Referent.fInt Syntax.w16)) 4096) 2) (Syntax.tyRef (Syntax.named 2)
               Syntax.mut (Syntax.tyArray ty·1 2)) 2 8 (Row.lease (κs .1 .1 .0) (qs .1 .1 .0)))) Path'.refl Path'.refl) (Typed.g-pre 𝓤 H A W 𝓣 E G46 G47 b29 Δ0 (λ Ψ. Ψ) at41 (Lifetime.g-forget 𝓤 H A W E G46 8 Row.dead Path'.refl) d42)
 
           d47 : Typed.Typed 𝓤 H A 𝓣 E G42 b30 Δ0 at47
           d47 = Typed.s-seq 𝓤 H A W 𝓣 E G42 G43 b26 b29 Δ0 (Typed.both s39) at46 (Plain.t-call-plain 𝓤 H A W 𝓣 4 ps·3 r·3 (claims· .6) (claims· .7) "records::lent::spread_used" (known .3) E (λ pos β. β) G42
               (record { pos = 2; ty = ty·2; ref = λ x. x }, (Num.vAt 7 λ x. x, (record { pos = 16; ty = Syntax.tyRef Syntax.erased Syntax.mut (Syntax.tyArray ty·1 2); ref = λ x. x }, (record { pos = 17; ty = Syntax.tyRef Syntax.erased Syntax.mut (Syntax.tyArray ty·0 2); ref = λ x. x }, (record { pos = 18; ty = Syntax.tyRef Syntax.erased Syntax.mut ty·0; ref = λ x. x }, tt)))))
               15 (List._∷_ 1 (List._∷_ 8 (List._∷_ 9 (List._∷_ 10 List.[])))) (Call.sub-id 𝓤 H A W (G42 .slots))
-              (ShrSlice.spares-sslice 𝓤 H A W Rec.rt ty·2 1, Shared.reads-sslice 𝓤 H A W Rec.rt ty·2 1, Path'.refl, ((Scalar.reads-sc 𝓤 H A W (Row.sInt Syntax.w64), Path'.refl), (Reads.as-is 𝓤 H A (Rows.mref (Array.Array (Array.Array (Referent.rtF (Referent.fInt Syntax.w16)) 2048) 2) (Syntax.tyRef Syntax.erased Syntax.mut (Syntax.tyArray ty·1 2)) 8), Reads.reads-mref 𝓤 H A W (Array.Array (Array.Array (Referent.rtF (Referent.fInt Syntax.w16)) 2048) 2) (Syntax.tyRef Syntax.erased Syntax.mut (Syntax.tyArray ty·1 2)) 8, Path'.refl, (Reads.as-is 𝓤 H A (Rows.mref (Array.Array (Array.Array (Referent.rtF (Referent.fInt Syntax.w8)) 2048) 2) (Syntax.tyRef Syntax.erased Syntax.mut (Syntax.tyArray ty·0 2)) 9), Reads.reads-mref 𝓤 H A W (Array.Array (Array.Array (Referent.rtF (Referent.fInt Syntax.w8)) 2048) 2) (Syntax.tyRef Syntax.erased Syntax.mut (Syntax.tyArray ty·0 2)) 9, Path'.refl, (Reads.as-is 𝓤 H A (Rows.mref (Array.Array (Referent.rtF (Referent.fInt Syntax.w8)) 2048) (Syntax.tyRef Syntax.erased Syntax.mut ty·0) 10), Reads.reads-mref 𝓤 H A W (Array.Array (Referent.rtF (Referent.fInt Syntax.w8)) 2048) (Syntax.tyRef Syntax.erased Syntax.mut ty·0) 10, Path'.refl, tt)))))
+              (ShrSlice.spares-sslice 𝓤 H A W Rec.rt ty·2 1, Shared.reads-sslice 𝓤 H A W Rec.rt ty·2 1, Path'.refl, ((Scalar.reads-sc 𝓤 H A W (Row.sInt Syntax.w64), Path'.refl), (Reads.as-is 𝓤 H A (Rows.mref (Array.Array (Array.Array (Referent.rtF (Referent.fInt Syntax.w16)) 4096) 2) (Syntax.tyRef Syntax.erased Syntax.mut (Syntax.tyArray ty·1 2)) 8), Reads.reads-mref 𝓤 H A W (Array.Array (Array.Array (Referent.rtF (Referent.fInt Syntax.w16)) 4096) 2) (Syntax.tyRef Syntax.erased Syntax.mut (Syntax.tyArray ty·1 2)) 8, Path'.refl, (Reads.as-is 𝓤 H A (Rows.mref (Array.Array (Array.Array (Referent.rtF (Referent.fInt Syntax.w8)) 4096) 2) (Syntax.tyRef Syntax.erased Syntax.mut (Syntax.tyArray ty·0 2)) 9), Reads.reads-mref 𝓤 H A W (Array.Array (Array.Array (Referent.rtF (Referent.fInt Syntax.w8)) 4096) 2) (Syntax.tyRef Syntax.erased Syntax.mut (Syntax.tyArray ty·0 2)) 9, Path'.refl, (Reads.as-is 𝓤 H A (Rows.mref (Array.Array (Referent.rtF (Referent.fInt Syntax.w8)) 4096) (Syntax.tyRef Syntax.erased Syntax.mut ty·0) 10), Reads.reads-mref 𝓤 H A W (Array.Array (Referent.rtF (Referent.fInt Syntax.w8)) 4096) (Syntax.tyRef Syntax.erased Syntax.mut ty·0) 10, Path'.refl, tt)))))
               (Reads.room-gone 𝓤 H A Syntax.tyUnit) (tt, (tt, (tt, (tt, tt)))) Path'.refl) (Typed.g-pre 𝓤 H A W 𝓣 E G43 G44 b29 Δ0 (Typed.pass T43 T44 s40) at44 (Scalar.g-room 𝓤 H A W E G43 15 Syntax.tyUnit (Scalar.room-sc 𝓤 H A W Row.sUnit)) (Typed.g-pre 𝓤 H A W 𝓣 E G44 G45 b29 Δ0 (λ Ψ. Ψ) at44 (Lifetime.g-end 𝓤 H A W E G44 8 Path'.refl) d44))
 
           d50 : Typed.Typed 𝓤 H A 𝓣 E G39 b32 Δ0 at50
-          d50 = Typed.s-seq 𝓤 H A W 𝓣 E G39 G40 b24 b31 Δ0 (Typed.give s36) at48 (Reborrow.t-mref-relend 𝓤 H A W E 𝓣 G39 4 17 3 9 (Array.Array (Array.Array (Referent.rtF (Referent.fInt Syntax.w8)) 2048) 2) (Syntax.tyArray ty·0 2) (Syntax.tyRef (Syntax.named 3) Syntax.mut (Syntax.tyArray ty·0 2)) (Syntax.tyRef Syntax.erased Syntax.mut (Syntax.tyArray ty·0 2))
-              (Row.lease (κs .1 .1 .1 .0) (qs .1 .1 .1 .0)) (λ x. x) (Reads.as-is 𝓤 H A (Rows.mref (Array.Array (Array.Array (Referent.rtF (Referent.fInt Syntax.w8)) 2048) 2) (Syntax.tyRef (Syntax.named 3) Syntax.mut (Syntax.tyArray ty·0 2)) 3)) (Reads.room-gone 𝓤 H A (Syntax.tyRef Syntax.erased Syntax.mut (Syntax.tyArray ty·0 2))) Path'.refl tt Path'.refl
+          d50 = Typed.s-seq 𝓤 H A W 𝓣 E G39 G40 b24 b31 Δ0 (Typed.give s36) at48 (Reborrow.t-mref-relend 𝓤 H A W E 𝓣 G39 4 17 3 9 (Array.Array (Array.Array (Referent.rtF (Referent.fInt Syntax.w8)) 4096) 2) (Syntax.tyArray ty·0 2) (Syntax.tyRef (Syntax.named 3) Syntax.mut (Syntax.tyArray ty·0 2)) (Syntax.tyRef Syntax.erased Syntax.mut (Syntax.tyArray ty·0 2))
+              (Row.lease (κs .1 .1 .1 .0) (qs .1 .1 .1 .0)) (λ x. x) (Reads.as-is 𝓤 H A (Rows.mref (Array.Array (Array.Array (Referent.rtF (Referent.fInt Syntax.w8)) 4096) 2) (Syntax.tyRef (Syntax.named 3) Syntax.mut (Syntax.tyArray ty·0 2)) 3)) (Reads.room-gone 𝓤 H A (Syntax.tyRef Syntax.erased Syntax.mut (Syntax.tyArray ty·0 2))) Path'.refl tt Path'.refl
               Path'.refl λ b o. tt) (Typed.g-pre 𝓤 H A W 𝓣 E G40 G41 b31 Δ0 (λ Ψ. Ψ) at48 (Lifetime.g-begin 𝓤 H A W E G40 10 (tt, (tt, (tt, ((tt, tt), ((tt, tt), (tt, (tt, (tt, (tt, (tt, (tt, (tt, (tt, (tt, (tt, (tt, (tt, (tt, (tt, tt)))))))))))))))))))) (Typed.s-seq 𝓤 H A W 𝓣 E G41 G42 b25 b30 Δ0 (Typed.give s38) at47 (Reborrow.t-mref-relend 𝓤 H A W E 𝓣 G41 5
-              18 4 10 (Array.Array (Referent.rtF (Referent.fInt Syntax.w8)) 2048) ty·0 (Syntax.tyRef (Syntax.named 4) Syntax.mut ty·0) (Syntax.tyRef Syntax.erased Syntax.mut ty·0) (Row.lease (κs .1 .1 .1 .1 .0) (qs .1 .1 .1 .1 .0)) (λ x. x) (Reads.as-is 𝓤 H A (Rows.mref (Array.Array (Referent.rtF (Referent.fInt Syntax.w8)) 2048) (Syntax.tyRef (Syntax.named 4)
+              18 4 10 (Array.Array (Referent.rtF (Referent.fInt Syntax.w8)) 4096) ty·0 (Syntax.tyRef (Syntax.named 4) Syntax.mut ty·0) (Syntax.tyRef Syntax.erased Syntax.mut ty·0) (Row.lease (κs .1 .1 .1 .1 .0) (qs .1 .1 .1 .1 .0)) (λ x. x) (Reads.as-is 𝓤 H A (Rows.mref (Array.Array (Referent.rtF (Referent.fInt Syntax.w8)) 4096) (Syntax.tyRef (Syntax.named 4)
               Syntax.mut ty·0) 4)) (Reads.room-gone 𝓤 H A (Syntax.tyRef Syntax.erased Syntax.mut ty·0)) Path'.refl tt Path'.refl Path'.refl λ b o. tt) d47))
 
           d52 : Typed.Typed 𝓤 H A 𝓣 E G37 b33 Δ0 at52
-          d52 = Typed.s-seq 𝓤 H A W 𝓣 E G37 G38 b23 b32 Δ0 (Typed.give s34) at50 (Reborrow.t-mref-relend 𝓤 H A W E 𝓣 G37 3 16 2 8 (Array.Array (Array.Array (Referent.rtF (Referent.fInt Syntax.w16)) 2048) 2) (Syntax.tyArray ty·1 2) (Syntax.tyRef (Syntax.named 2) Syntax.mut (Syntax.tyArray ty·1 2)) (Syntax.tyRef Syntax.erased Syntax.mut (Syntax.tyArray ty·1
-              2)) (Row.lease (κs .1 .1 .0) (qs .1 .1 .0)) (λ x. x) (Reads.as-is 𝓤 H A (Rows.mref (Array.Array (Array.Array (Referent.rtF (Referent.fInt Syntax.w16)) 2048) 2) (Syntax.tyRef (Syntax.named 2) Syntax.mut (Syntax.tyArray ty·1 2)) 2)) (Reads.room-gone 𝓤 H A (Syntax.tyRef Syntax.erased Syntax.mut (Syntax.tyArray ty·1 2))) Path'.refl tt Path'.refl
+          d52 = Typed.s-seq 𝓤 H A W 𝓣 E G37 G38 b23 b32 Δ0 (Typed.give s34) at50 (Reborrow.t-mref-relend 𝓤 H A W E 𝓣 G37 3 16 2 8 (Array.Array (Array.Array (Referent.rtF (Referent.fInt Syntax.w16)) 4096) 2) (Syntax.tyArray ty·1 2) (Syntax.tyRef (Syntax.named 2) Syntax.mut (Syntax.tyArray ty·1 2)) (Syntax.tyRef Syntax.erased Syntax.mut (Syntax.tyArray ty·1
+              2)) (Row.lease (κs .1 .1 .0) (qs .1 .1 .0)) (λ x. x) (Reads.as-is 𝓤 H A (Rows.mref (Array.Array (Array.Array (Referent.rtF (Referent.fInt Syntax.w16)) 4096) 2) (Syntax.tyRef (Syntax.named 2) Syntax.mut (Syntax.tyArray ty·1 2)) 2)) (Reads.room-gone 𝓤 H A (Syntax.tyRef Syntax.erased Syntax.mut (Syntax.tyArray ty·1 2))) Path'.refl tt Path'.refl
               Path'.refl λ b o. tt) (Typed.g-pre 𝓤 H A W 𝓣 E G38 G39 b32 Δ0 (λ Ψ. Ψ) at50 (Lifetime.g-begin 𝓤 H A W E G38 9 (tt, (tt, (tt, ((tt, tt), (tt, (tt, (tt, (tt, (tt, (tt, (tt, (tt, (tt, (tt, (tt, (tt, (tt, (tt, (tt, tt)))))))))))))))))))) d50)
 
           d54 : Typed.Typed 𝓤 H A 𝓣 E G12 b34 Δ0 at54
@@ -1107,9 +1107,9 @@ module _ (claims· : Claims) where
         pub record Args : Type 0 where
           pub dependency-count : Kinds.Den {n = 5} κs (ShrSlice.pShrS (Referent.rtF (Referent.fInt Syntax.w16)) 0 tt)
           pub deps : Kinds.Den {n = 5} κs (ShrSlice.pShrS Rec.rt 1 tt)
-          pub stops : Kinds.Den {n = 5} κs (Kinds.pMut (Array.Array (Array.Array (Referent.rtF (Referent.fInt Syntax.w16)) 2048) 2) 2 tt)
-          pub drones : Kinds.Den {n = 5} κs (Kinds.pMut (Array.Array (Array.Array (Referent.rtF (Referent.fInt Syntax.w8)) 2048) 2) 3 tt)
-          pub flags : Kinds.Den {n = 5} κs (Kinds.pMut (Array.Array (Referent.rtF (Referent.fInt Syntax.w8)) 2048) 4 tt)
+          pub stops : Kinds.Den {n = 5} κs (Kinds.pMut (Array.Array (Array.Array (Referent.rtF (Referent.fInt Syntax.w16)) 4096) 2) 2 tt)
+          pub drones : Kinds.Den {n = 5} κs (Kinds.pMut (Array.Array (Array.Array (Referent.rtF (Referent.fInt Syntax.w8)) 4096) 2) 3 tt)
+          pub flags : Kinds.Den {n = 5} κs (Kinds.pMut (Array.Array (Referent.rtF (Referent.fInt Syntax.w8)) 4096) 4 tt)
 
         abbrev pub dens : (a : Args) → Kinds.Dens κs ps
         dens = λ a. (a .dependency-count, (a .deps, (a .stops, (a .drones, (a .flags, tt)))))

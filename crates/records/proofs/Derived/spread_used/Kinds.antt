@@ -8,8 +8,8 @@ use mathlib.Core.List
 use mir.Syntax
 
 abbrev pub ps : List.List (Kinds.PK 4)
-ps = List._∷_ (ShrSlice.pShrS Rec.rt 0 tt) (List._∷_ (Kinds.pNum Syntax.w64) (List._∷_ (Kinds.pMut (Array.Array (Array.Array (Referent.rtF (Referent.fInt Syntax.w16)) 2048) 2) 1 tt) (List._∷_ (Kinds.pMut (Array.Array (Array.Array (Referent.rtF (Referent.fInt Syntax.w8)) 2048) 2) 2 tt) (List._∷_ (Kinds.pMut (Array.Array (Referent.rtF (Referent.fInt
-    Syntax.w8)) 2048) 3 tt) List.[]))))
+ps = List._∷_ (ShrSlice.pShrS Rec.rt 0 tt) (List._∷_ (Kinds.pNum Syntax.w64) (List._∷_ (Kinds.pMut (Array.Array (Array.Array (Referent.rtF (Referent.fInt Syntax.w16)) 4096) 2) 1 tt) (List._∷_ (Kinds.pMut (Array.Array (Array.Array (Referent.rtF (Referent.fInt Syntax.w8)) 4096) 2) 2 tt) (List._∷_ (Kinds.pMut (Array.Array (Referent.rtF (Referent.fInt
+    Syntax.w8)) 4096) 3 tt) List.[]))))
 
 abbrev pub r : Kinds.RK 4
 r = Kinds.rUnit

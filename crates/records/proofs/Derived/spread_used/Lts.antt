@@ -49,10 +49,10 @@ use prog.Wp
 use types.Kit
 
 abbrev ty·0 : Syntax.Ty
-ty·0 = Syntax.tyArray (Syntax.tyInt Syntax.w8) 2048
+ty·0 = Syntax.tyArray (Syntax.tyInt Syntax.w8) 4096
 
 abbrev ty·1 : Syntax.Ty
-ty·1 = Syntax.tyArray (Syntax.tyInt Syntax.w16) 2048
+ty·1 = Syntax.tyArray (Syntax.tyInt Syntax.w16) 4096
 
 abbrev ty·2 : Syntax.Ty
 ty·2 = Syntax.tyRef (Syntax.named 0) Syntax.imm Rec.behind
@@ -67,13 +67,13 @@ abbrev row·2 : Row.Row
 row·2 = Rows'.sc-here (Row.sInt Syntax.w64)
 
 abbrev row·3 : Row.Row
-row·3 = Rows'.mref (Array'.Array (Array'.Array (Referent.rtF (Referent.fInt Syntax.w16)) 2048) 2) (Syntax.tyRef (Syntax.named 1) Syntax.mut (Syntax.tyArray ty·1 2)) 1
+row·3 = Rows'.mref (Array'.Array (Array'.Array (Referent.rtF (Referent.fInt Syntax.w16)) 4096) 2) (Syntax.tyRef (Syntax.named 1) Syntax.mut (Syntax.tyArray ty·1 2)) 1
 
 abbrev row·4 : Row.Row
-row·4 = Rows'.mref (Array'.Array (Array'.Array (Referent.rtF (Referent.fInt Syntax.w8)) 2048) 2) (Syntax.tyRef (Syntax.named 2) Syntax.mut (Syntax.tyArray ty·0 2)) 2
+row·4 = Rows'.mref (Array'.Array (Array'.Array (Referent.rtF (Referent.fInt Syntax.w8)) 4096) 2) (Syntax.tyRef (Syntax.named 2) Syntax.mut (Syntax.tyArray ty·0 2)) 2
 
 abbrev row·5 : Row.Row
-row·5 = Rows'.mref (Array'.Array (Referent.rtF (Referent.fInt Syntax.w8)) 2048) (Syntax.tyRef (Syntax.named 3) Syntax.mut ty·0) 3
+row·5 = Rows'.mref (Array'.Array (Referent.rtF (Referent.fInt Syntax.w8)) 4096) (Syntax.tyRef (Syntax.named 3) Syntax.mut ty·0) 3
 
 abbrev row·6 : Row.Row
 row·6 = Rows'.any-gone (Syntax.tyInt Syntax.w64)
@@ -106,35 +106,35 @@ abbrev row·15 : Row.Row
 row·15 = Rows'.sc-here Row.sPtr
 
 abbrev row·16 : Row.Row
-row·16 = Rows'.mref-owed (Array'.Array (Array'.Array (Referent.rtF (Referent.fInt Syntax.w16)) 2048) 2) (Syntax.tyRef (Syntax.named 1) Syntax.mut (Syntax.tyArray ty·1 2)) 1 4 Row.off
+row·16 = Rows'.mref-owed (Array'.Array (Array'.Array (Referent.rtF (Referent.fInt Syntax.w16)) 4096) 2) (Syntax.tyRef (Syntax.named 1) Syntax.mut (Syntax.tyArray ty·1 2)) 1 4 Row.off
 
 abbrev row·17 : Row.Row
-row·17 = Rows'.mref (Array'.Array (Array'.Array (Referent.rtF (Referent.fInt Syntax.w16)) 2048) 2) (Syntax.tyRef Syntax.erased Syntax.mut (Syntax.tyArray ty·1 2)) 4
+row·17 = Rows'.mref (Array'.Array (Array'.Array (Referent.rtF (Referent.fInt Syntax.w16)) 4096) 2) (Syntax.tyRef Syntax.erased Syntax.mut (Syntax.tyArray ty·1 2)) 4
 
 abbrev row·18 : Row.Row
-row·18 = Rows'.mref-owed (Array'.Array (Array'.Array (Referent.rtF (Referent.fInt Syntax.w8)) 2048) 2) (Syntax.tyRef (Syntax.named 2) Syntax.mut (Syntax.tyArray ty·0 2)) 2 5 Row.off
+row·18 = Rows'.mref-owed (Array'.Array (Array'.Array (Referent.rtF (Referent.fInt Syntax.w8)) 4096) 2) (Syntax.tyRef (Syntax.named 2) Syntax.mut (Syntax.tyArray ty·0 2)) 2 5 Row.off
 
 abbrev row·19 : Row.Row
-row·19 = Rows'.mref (Array'.Array (Array'.Array (Referent.rtF (Referent.fInt Syntax.w8)) 2048) 2) (Syntax.tyRef Syntax.erased Syntax.mut (Syntax.tyArray ty·0 2)) 5
+row·19 = Rows'.mref (Array'.Array (Array'.Array (Referent.rtF (Referent.fInt Syntax.w8)) 4096) 2) (Syntax.tyRef Syntax.erased Syntax.mut (Syntax.tyArray ty·0 2)) 5
 
 abbrev row·20 : Row.Row
-row·20 = Rows'.mref-owed (Array'.Array (Referent.rtF (Referent.fInt Syntax.w8)) 2048) (Syntax.tyRef (Syntax.named 3) Syntax.mut ty·0) 3 6 Row.off
+row·20 = Rows'.mref-owed (Array'.Array (Referent.rtF (Referent.fInt Syntax.w8)) 4096) (Syntax.tyRef (Syntax.named 3) Syntax.mut ty·0) 3 6 Row.off
 
 abbrev row·21 : Row.Row
-row·21 = Rows'.mref (Array'.Array (Referent.rtF (Referent.fInt Syntax.w8)) 2048) (Syntax.tyRef Syntax.erased Syntax.mut ty·0) 6
+row·21 = Rows'.mref (Array'.Array (Referent.rtF (Referent.fInt Syntax.w8)) 4096) (Syntax.tyRef Syntax.erased Syntax.mut ty·0) 6
 
 abbrev row·22 : Row.Row
-row·22 = Rows'.mleft (Array'.Array (Array'.Array (Referent.rtF (Referent.fInt Syntax.w16)) 2048) 2) (Syntax.tyRef Syntax.erased Syntax.mut (Syntax.tyArray ty·1 2))
+row·22 = Rows'.mleft (Array'.Array (Array'.Array (Referent.rtF (Referent.fInt Syntax.w16)) 4096) 2) (Syntax.tyRef Syntax.erased Syntax.mut (Syntax.tyArray ty·1 2))
 
 abbrev row·23 : Row.Row
-row·23 = Rows'.mleft (Array'.Array (Array'.Array (Referent.rtF (Referent.fInt Syntax.w8)) 2048) 2) (Syntax.tyRef Syntax.erased Syntax.mut (Syntax.tyArray ty·0 2))
+row·23 = Rows'.mleft (Array'.Array (Array'.Array (Referent.rtF (Referent.fInt Syntax.w8)) 4096) 2) (Syntax.tyRef Syntax.erased Syntax.mut (Syntax.tyArray ty·0 2))
 
 abbrev row·24 : Row.Row
-row·24 = Rows'.mleft (Array'.Array (Referent.rtF (Referent.fInt Syntax.w8)) 2048) (Syntax.tyRef Syntax.erased Syntax.mut ty·0)
+row·24 = Rows'.mleft (Array'.Array (Referent.rtF (Referent.fInt Syntax.w8)) 4096) (Syntax.tyRef Syntax.erased Syntax.mut ty·0)
 
 abbrev pub ps : List.List (Kinds.PK 4)
-ps = List._∷_ (ShrSlice.pShrS Rec.rt 0 tt) (List._∷_ (Num.pNum Syntax.w64) (List._∷_ (Kinds.pMut (Array'.Array (Array'.Array (Referent.rtF (Referent.fInt Syntax.w16)) 2048) 2) 1 tt) (List._∷_ (Kinds.pMut (Array'.Array (Array'.Array (Referent.rtF (Referent.fInt Syntax.w8)) 2048) 2) 2 tt) (List._∷_ (Kinds.pMut (Array'.Array (Referent.rtF (Referent.fInt
-    Syntax.w8)) 2048) 3 tt) List.[]))))
+ps = List._∷_ (ShrSlice.pShrS Rec.rt 0 tt) (List._∷_ (Num.pNum Syntax.w64) (List._∷_ (Kinds.pMut (Array'.Array (Array'.Array (Referent.rtF (Referent.fInt Syntax.w16)) 4096) 2) 1 tt) (List._∷_ (Kinds.pMut (Array'.Array (Array'.Array (Referent.rtF (Referent.fInt Syntax.w8)) 4096) 2) 2 tt) (List._∷_ (Kinds.pMut (Array'.Array (Referent.rtF (Referent.fInt
+    Syntax.w8)) 4096) 3 tt) List.[]))))
 
 abbrev pub r : Kinds.RK 4
 r = Unit'.rUnit
@@ -153,7 +153,7 @@ abbrev pub r·0 : Kinds.RK 0
 r·0 = Num.rNum Syntax.w64
 
 abbrev pub ps·1 : List.List (Kinds.PK 3)
-ps·1 = List._∷_ Rec.param (List._∷_ (Num.pNum Syntax.w64) (List._∷_ (Kinds.pMut (Array'.Array (Array'.Array (Referent.rtF (Referent.fInt Syntax.w16)) 2048) 2) 0 tt) (List._∷_ (Kinds.pMut (Array'.Array (Array'.Array (Referent.rtF (Referent.fInt Syntax.w8)) 2048) 2) 1 tt) (List._∷_ (Kinds.pMut (Array'.Array (Referent.rtF (Referent.fInt Syntax.w8)) 2048) 2 tt)
+ps·1 = List._∷_ Rec.param (List._∷_ (Num.pNum Syntax.w64) (List._∷_ (Kinds.pMut (Array'.Array (Array'.Array (Referent.rtF (Referent.fInt Syntax.w16)) 4096) 2) 0 tt) (List._∷_ (Kinds.pMut (Array'.Array (Array'.Array (Referent.rtF (Referent.fInt Syntax.w8)) 4096) 2) 1 tt) (List._∷_ (Kinds.pMut (Array'.Array (Referent.rtF (Referent.fInt Syntax.w8)) 4096) 2 tt)
     List.[]))))
 
 abbrev pub r·1 : Kinds.RK 3
@@ -388,12 +388,12 @@ abbrev pub O4 : Typed.Outs
 O4 = Typed.withNext (Option.some T5) O3
 
 abbrev pub InvT-loop : Type 1
-InvT-loop = List.List (Rec.rt .Denot) → Rows'.sc-here (Row.sInt Syntax.w64) .Mod → Array'.Array (Array'.Array (Referent.rtF (Referent.fInt Syntax.w16)) 2048) 2 .Denot → Array'.Array (Array'.Array (Referent.rtF (Referent.fInt Syntax.w8)) 2048) 2 .Denot → Array'.Array (Referent.rtF (Referent.fInt Syntax.w8)) 2048 .Denot → Rows'.sc-here (Row.sInt Syntax.w64)
-    .Mod → Rows'.sc-here (Row.sInt Syntax.w64) .Mod → Array'.Array (Array'.Array (Referent.rtF (Referent.fInt Syntax.w16)) 2048) 2 .Denot → Array'.Array (Array'.Array (Referent.rtF (Referent.fInt Syntax.w8)) 2048) 2 .Denot → Array'.Array (Referent.rtF (Referent.fInt Syntax.w8)) 2048 .Denot → Rows'.sc-here (Row.sInt Syntax.w64) .Mod → Type 0
+InvT-loop = List.List (Rec.rt .Denot) → Rows'.sc-here (Row.sInt Syntax.w64) .Mod → Array'.Array (Array'.Array (Referent.rtF (Referent.fInt Syntax.w16)) 4096) 2 .Denot → Array'.Array (Array'.Array (Referent.rtF (Referent.fInt Syntax.w8)) 4096) 2 .Denot → Array'.Array (Referent.rtF (Referent.fInt Syntax.w8)) 4096 .Denot → Rows'.sc-here (Row.sInt Syntax.w64)
+    .Mod → Rows'.sc-here (Row.sInt Syntax.w64) .Mod → Array'.Array (Array'.Array (Referent.rtF (Referent.fInt Syntax.w16)) 4096) 2 .Denot → Array'.Array (Array'.Array (Referent.rtF (Referent.fInt Syntax.w8)) 4096) 2 .Denot → Array'.Array (Referent.rtF (Referent.fInt Syntax.w8)) 4096 .Denot → Rows'.sc-here (Row.sInt Syntax.w64) .Mod → Type 0
 
 abbrev pub MeasureT-loop : Type 0
-MeasureT-loop = List.List (Rec.rt .Denot) → Rows'.sc-here (Row.sInt Syntax.w64) .Mod → Array'.Array (Array'.Array (Referent.rtF (Referent.fInt Syntax.w16)) 2048) 2 .Denot → Array'.Array (Array'.Array (Referent.rtF (Referent.fInt Syntax.w8)) 2048) 2 .Denot → Array'.Array (Referent.rtF (Referent.fInt Syntax.w8)) 2048 .Denot → Rows'.sc-here (Row.sInt
-    Syntax.w64) .Mod → Rows'.sc-here (Row.sInt Syntax.w64) .Mod → Array'.Array (Array'.Array (Referent.rtF (Referent.fInt Syntax.w16)) 2048) 2 .Denot → Array'.Array (Array'.Array (Referent.rtF (Referent.fInt Syntax.w8)) 2048) 2 .Denot → Array'.Array (Referent.rtF (Referent.fInt Syntax.w8)) 2048 .Denot → Rows'.sc-here (Row.sInt Syntax.w64) .Mod → Nat.ℕ
+MeasureT-loop = List.List (Rec.rt .Denot) → Rows'.sc-here (Row.sInt Syntax.w64) .Mod → Array'.Array (Array'.Array (Referent.rtF (Referent.fInt Syntax.w16)) 4096) 2 .Denot → Array'.Array (Array'.Array (Referent.rtF (Referent.fInt Syntax.w8)) 4096) 2 .Denot → Array'.Array (Referent.rtF (Referent.fInt Syntax.w8)) 4096 .Denot → Rows'.sc-here (Row.sInt
+    Syntax.w64) .Mod → Rows'.sc-here (Row.sInt Syntax.w64) .Mod → Array'.Array (Array'.Array (Referent.rtF (Referent.fInt Syntax.w16)) 4096) 2 .Denot → Array'.Array (Array'.Array (Referent.rtF (Referent.fInt Syntax.w8)) 4096) 2 .Denot → Array'.Array (Referent.rtF (Referent.fInt Syntax.w8)) 4096 .Denot → Rows'.sc-here (Row.sInt Syntax.w64) .Mod → Nat.ℕ
 
 module _ (claims· : Claims) where
   abbrev s0 : Typed.Mo T0 → Typed.Mo T2
@@ -433,13 +433,13 @@ module _ (claims· : Claims) where
   s11 = Scalar.n-room T14 12 Syntax.tyPtr
 
   abbrev s13 : Typed.Gives T15 T17
-  s13 = Reborrow.k-mref-relend T15 3 14 1 4 (Array'.Array (Array'.Array (Referent.rtF (Referent.fInt Syntax.w16)) 2048) 2) (Syntax.tyRef (Syntax.named 1) Syntax.mut (Syntax.tyArray ty·1 2)) (Syntax.tyRef Syntax.erased Syntax.mut (Syntax.tyArray ty·1 2)) Row.off List.[] λ x. x
+  s13 = Reborrow.k-mref-relend T15 3 14 1 4 (Array'.Array (Array'.Array (Referent.rtF (Referent.fInt Syntax.w16)) 4096) 2) (Syntax.tyRef (Syntax.named 1) Syntax.mut (Syntax.tyArray ty·1 2)) (Syntax.tyRef Syntax.erased Syntax.mut (Syntax.tyArray ty·1 2)) Row.off List.[] λ x. x
 
   abbrev s15 : Typed.Gives T17 T19
-  s15 = Reborrow.k-mref-relend T17 4 15 2 5 (Array'.Array (Array'.Array (Referent.rtF (Referent.fInt Syntax.w8)) 2048) 2) (Syntax.tyRef (Syntax.named 2) Syntax.mut (Syntax.tyArray ty·0 2)) (Syntax.tyRef Syntax.erased Syntax.mut (Syntax.tyArray ty·0 2)) Row.off List.[] λ x. x
+  s15 = Reborrow.k-mref-relend T17 4 15 2 5 (Array'.Array (Array'.Array (Referent.rtF (Referent.fInt Syntax.w8)) 4096) 2) (Syntax.tyRef (Syntax.named 2) Syntax.mut (Syntax.tyArray ty·0 2)) (Syntax.tyRef Syntax.erased Syntax.mut (Syntax.tyArray ty·0 2)) Row.off List.[] λ x. x
 
   abbrev s17 : Typed.Gives T19 T21
-  s17 = Reborrow.k-mref-relend T19 5 16 3 6 (Array'.Array (Referent.rtF (Referent.fInt Syntax.w8)) 2048) (Syntax.tyRef (Syntax.named 3) Syntax.mut ty·0) (Syntax.tyRef Syntax.erased Syntax.mut ty·0) Row.off List.[] λ x. x
+  s17 = Reborrow.k-mref-relend T19 5 16 3 6 (Array'.Array (Referent.rtF (Referent.fInt Syntax.w8)) 4096) (Syntax.tyRef (Syntax.named 3) Syntax.mut ty·0) (Syntax.tyRef Syntax.erased Syntax.mut ty·0) Row.off List.[] λ x. x
 
   abbrev s18 : Typed.Both T21 T22
   s18 = Call.callB ps·1 r·1 (claims· .2) (claims· .3) T21 args·0 10 (List._∷_ 4 (List._∷_ 5 (List._∷_ 6 List.[]))) Syntax.tyUnit
@@ -451,13 +451,13 @@ module _ (claims· : Claims) where
   s20 = Scalar.n-room T23 13 Rec.mir
 
   abbrev s22 : Typed.Asks T24 T26
-  s22 = Reborrow.k-back-mref T24 14 3 1 (Array'.Array (Array'.Array (Referent.rtF (Referent.fInt Syntax.w16)) 2048) 2) (Syntax.tyRef (Syntax.named 1) Syntax.mut (Syntax.tyArray ty·1 2)) (Syntax.tyRef Syntax.erased Syntax.mut (Syntax.tyArray ty·1 2)) List.[] (λ x. x) λ x. x
+  s22 = Reborrow.k-back-mref T24 14 3 1 (Array'.Array (Array'.Array (Referent.rtF (Referent.fInt Syntax.w16)) 4096) 2) (Syntax.tyRef (Syntax.named 1) Syntax.mut (Syntax.tyArray ty·1 2)) (Syntax.tyRef Syntax.erased Syntax.mut (Syntax.tyArray ty·1 2)) List.[] (λ x. x) λ x. x
 
   abbrev s25 : Typed.Asks T26 T29
-  s25 = Reborrow.k-back-mref T26 15 4 2 (Array'.Array (Array'.Array (Referent.rtF (Referent.fInt Syntax.w8)) 2048) 2) (Syntax.tyRef (Syntax.named 2) Syntax.mut (Syntax.tyArray ty·0 2)) (Syntax.tyRef Syntax.erased Syntax.mut (Syntax.tyArray ty·0 2)) List.[] (λ x. x) λ x. x
+  s25 = Reborrow.k-back-mref T26 15 4 2 (Array'.Array (Array'.Array (Referent.rtF (Referent.fInt Syntax.w8)) 4096) 2) (Syntax.tyRef (Syntax.named 2) Syntax.mut (Syntax.tyArray ty·0 2)) (Syntax.tyRef Syntax.erased Syntax.mut (Syntax.tyArray ty·0 2)) List.[] (λ x. x) λ x. x
 
   abbrev s28 : Typed.Asks T29 T5
-  s28 = Reborrow.k-back-mref T29 16 5 3 (Array'.Array (Referent.rtF (Referent.fInt Syntax.w8)) 2048) (Syntax.tyRef (Syntax.named 3) Syntax.mut ty·0) (Syntax.tyRef Syntax.erased Syntax.mut ty·0) List.[] (λ x. x) λ x. x
+  s28 = Reborrow.k-back-mref T29 16 5 3 (Array'.Array (Referent.rtF (Referent.fInt Syntax.w8)) 4096) (Syntax.tyRef (Syntax.named 3) Syntax.mut ty·0) (Syntax.tyRef Syntax.erased Syntax.mut ty·0) List.[] (λ x. x) λ x. x
 
   abbrev s30 : Typed.Asks T5 T5
   s30 = Scalar.k-op2 T5 (Syntax.add Syntax.unsigned) (Scalar.oAt 7 (Syntax.tyInt Syntax.w64) (Row.valS (Row.sInt Syntax.w64))) (Scalar.oInt Syntax.w64 1) 7 (Rows'.sc-here (Row.sInt Syntax.w64)) (Row.sInt Syntax.w64 .of)
@@ -474,10 +474,10 @@ module _ (claims· : Claims) where
   abbrev s34 : Typed.Mo T37 → Typed.Mo T1
   s34 = Scalar.n-room T37 2 (Syntax.tyInt Syntax.w64)
 
-  abbrev put0 : Array'.Array (Array'.Array (Referent.rtF (Referent.fInt Syntax.w16)) 2048) 2 .Denot × Array'.Array (Array'.Array (Referent.rtF (Referent.fInt Syntax.w8)) 2048) 2 .Denot × Array'.Array (Referent.rtF (Referent.fInt Syntax.w8)) 2048 .Denot × Rows'.sc-here (Row.sInt Syntax.w64) .Mod → Typed.Mo T5 → Typed.Mo T5
-  put0 = λ vs u. Row.set 7 (7, Rows'.sc-here (Row.sInt Syntax.w64)) (vs .3) (T5 .locals) (Row.set 5 (5, Rows'.mref (Array'.Array (Referent.rtF (Referent.fInt Syntax.w8)) 2048) (Syntax.tyRef (Syntax.named 3) Syntax.mut ty·0) 3) record { ptr = Row.get 5 (T5 .locals) u .ptr; name = Row.get 5 (T5 .locals) u .name; now = vs .2 } (T5 .locals) (Row.set 4
-      (4, Rows'.mref (Array'.Array (Array'.Array (Referent.rtF (Referent.fInt Syntax.w8)) 2048) 2) (Syntax.tyRef (Syntax.named 2) Syntax.mut (Syntax.tyArray ty·0 2)) 2) record { ptr = Row.get 4 (T5 .locals) u .ptr; name = Row.get 4 (T5 .locals) u .name; now = vs .1 } (T5 .locals) (Row.set 3
-      (3, Rows'.mref (Array'.Array (Array'.Array (Referent.rtF (Referent.fInt Syntax.w16)) 2048) 2) (Syntax.tyRef (Syntax.named 1) Syntax.mut (Syntax.tyArray ty·1 2)) 1) record { ptr = Row.get 3 (T5 .locals) u .ptr; name = Row.get 3 (T5 .locals) u .name; now = vs .0 } (T5 .locals) u)))
+  abbrev put0 : Array'.Array (Array'.Array (Referent.rtF (Referent.fInt Syntax.w16)) 4096) 2 .Denot × Array'.Array (Array'.Array (Referent.rtF (Referent.fInt Syntax.w8)) 4096) 2 .Denot × Array'.Array (Referent.rtF (Referent.fInt Syntax.w8)) 4096 .Denot × Rows'.sc-here (Row.sInt Syntax.w64) .Mod → Typed.Mo T5 → Typed.Mo T5
+  put0 = λ vs u. Row.set 7 (7, Rows'.sc-here (Row.sInt Syntax.w64)) (vs .3) (T5 .locals) (Row.set 5 (5, Rows'.mref (Array'.Array (Referent.rtF (Referent.fInt Syntax.w8)) 4096) (Syntax.tyRef (Syntax.named 3) Syntax.mut ty·0) 3) record { ptr = Row.get 5 (T5 .locals) u .ptr; name = Row.get 5 (T5 .locals) u .name; now = vs .2 } (T5 .locals) (Row.set 4
+      (4, Rows'.mref (Array'.Array (Array'.Array (Referent.rtF (Referent.fInt Syntax.w8)) 4096) 2) (Syntax.tyRef (Syntax.named 2) Syntax.mut (Syntax.tyArray ty·0 2)) 2) record { ptr = Row.get 4 (T5 .locals) u .ptr; name = Row.get 4 (T5 .locals) u .name; now = vs .1 } (T5 .locals) (Row.set 3
+      (3, Rows'.mref (Array'.Array (Array'.Array (Referent.rtF (Referent.fInt Syntax.w16)) 4096) 2) (Syntax.tyRef (Syntax.named 1) Syntax.mut (Syntax.tyArray ty·1 2)) 1) record { ptr = Row.get 3 (T5 .locals) u .ptr; name = Row.get 3 (T5 .locals) u .name; now = vs .0 } (T5 .locals) u)))
 
   module _ (Pre· : (κs : Lifetimes.Lfts 4) → Kinds.Dens κs ps → Type 0) (Post· : (κs : Lifetimes.Lfts 4) → (a : Kinds.Dens κs ps) → Kinds.Plain 4 ps r κs) where
     module _ (M : Type 1) where
@@ -599,65 +599,65 @@ module _ (claims· : Claims) where
       module _ (κs : Lifetimes.Lfts 4) (qs : Lifetimes.Shares 4) where
         abbrev g13 : List.List Row.Entry
         g13 = List._∷_ (0, Rows'.any-gone Syntax.tyUnit) (List._∷_ (1, Rows'.sslice Rec.rt ty·2 0) (List._∷_ (2, Rows'.sc-here (Row.sInt Syntax.w64)) (List._∷_
-            (3, Rows'.mref-owed (Array'.Array (Array'.Array (Referent.rtF (Referent.fInt Syntax.w16)) 2048) 2) (Syntax.tyRef (Syntax.named 1) Syntax.mut (Syntax.tyArray ty·1 2)) 1 4 (Row.lease (κs .1 .0) (qs .1 .0))) (List._∷_
-            (4, Rows'.mref (Array'.Array (Array'.Array (Referent.rtF (Referent.fInt Syntax.w8)) 2048) 2) (Syntax.tyRef (Syntax.named 2) Syntax.mut (Syntax.tyArray ty·0 2)) 2) (List._∷_ (5, Rows'.mref (Array'.Array (Referent.rtF (Referent.fInt Syntax.w8)) 2048) (Syntax.tyRef (Syntax.named 3) Syntax.mut ty·0) 3) (List._∷_ (6, Rows'.sc-here (Row.sInt Syntax.w64))
+            (3, Rows'.mref-owed (Array'.Array (Array'.Array (Referent.rtF (Referent.fInt Syntax.w16)) 4096) 2) (Syntax.tyRef (Syntax.named 1) Syntax.mut (Syntax.tyArray ty·1 2)) 1 4 (Row.lease (κs .1 .0) (qs .1 .0))) (List._∷_
+            (4, Rows'.mref (Array'.Array (Array'.Array (Referent.rtF (Referent.fInt Syntax.w8)) 4096) 2) (Syntax.tyRef (Syntax.named 2) Syntax.mut (Syntax.tyArray ty·0 2)) 2) (List._∷_ (5, Rows'.mref (Array'.Array (Referent.rtF (Referent.fInt Syntax.w8)) 4096) (Syntax.tyRef (Syntax.named 3) Syntax.mut ty·0) 3) (List._∷_ (6, Rows'.sc-here (Row.sInt Syntax.w64))
             (List._∷_ (7, Rows'.sc-here (Row.sInt Syntax.w64)) (List._∷_ (8, Rows'.any-gone (Syntax.tyInt Syntax.w64)) (List._∷_ (9, Rows'.any-gone Syntax.tyBool) (List._∷_ (10, Rows'.any-gone Syntax.tyUnit) (List._∷_ (11, Rows'.any-gone (Syntax.tyInt Syntax.w64)) (List._∷_ (12, Rows'.any-gone Syntax.tyPtr) (List._∷_ (13, Rec.row) (List._∷_
-            (14, Rows'.mref (Array'.Array (Array'.Array (Referent.rtF (Referent.fInt Syntax.w16)) 2048) 2) (Syntax.tyRef Syntax.erased Syntax.mut (Syntax.tyArray ty·1 2)) 4) (List._∷_ (15, Rows'.any-gone (Syntax.tyRef Syntax.erased Syntax.mut (Syntax.tyArray ty·0 2))) List.[])))))))))))))))
+            (14, Rows'.mref (Array'.Array (Array'.Array (Referent.rtF (Referent.fInt Syntax.w16)) 4096) 2) (Syntax.tyRef Syntax.erased Syntax.mut (Syntax.tyArray ty·1 2)) 4) (List._∷_ (15, Rows'.any-gone (Syntax.tyRef Syntax.erased Syntax.mut (Syntax.tyArray ty·0 2))) List.[])))))))))))))))
 
         abbrev g14 : List.List Row.Entry
         g14 = List._∷_ (0, Rows'.any-gone Syntax.tyUnit) (List._∷_ (1, Rows'.sslice Rec.rt ty·2 0) (List._∷_ (2, Rows'.sc-here (Row.sInt Syntax.w64)) (List._∷_
-            (3, Rows'.mref-owed (Array'.Array (Array'.Array (Referent.rtF (Referent.fInt Syntax.w16)) 2048) 2) (Syntax.tyRef (Syntax.named 1) Syntax.mut (Syntax.tyArray ty·1 2)) 1 4 (Row.lease (κs .1 .0) (qs .1 .0))) (List._∷_
-            (4, Rows'.mref-owed (Array'.Array (Array'.Array (Referent.rtF (Referent.fInt Syntax.w8)) 2048) 2) (Syntax.tyRef (Syntax.named 2) Syntax.mut (Syntax.tyArray ty·0 2)) 2 5 (Row.lease (κs .1 .1 .0) (qs .1 .1 .0))) (List._∷_ (5, Rows'.mref (Array'.Array (Referent.rtF (Referent.fInt Syntax.w8)) 2048) (Syntax.tyRef (Syntax.named 3) Syntax.mut ty·0) 3)
+            (3, Rows'.mref-owed (Array'.Array (Array'.Array (Referent.rtF (Referent.fInt Syntax.w16)) 4096) 2) (Syntax.tyRef (Syntax.named 1) Syntax.mut (Syntax.tyArray ty·1 2)) 1 4 (Row.lease (κs .1 .0) (qs .1 .0))) (List._∷_
+            (4, Rows'.mref-owed (Array'.Array (Array'.Array (Referent.rtF (Referent.fInt Syntax.w8)) 4096) 2) (Syntax.tyRef (Syntax.named 2) Syntax.mut (Syntax.tyArray ty·0 2)) 2 5 (Row.lease (κs .1 .1 .0) (qs .1 .1 .0))) (List._∷_ (5, Rows'.mref (Array'.Array (Referent.rtF (Referent.fInt Syntax.w8)) 4096) (Syntax.tyRef (Syntax.named 3) Syntax.mut ty·0) 3)
             (List._∷_ (6, Rows'.sc-here (Row.sInt Syntax.w64)) (List._∷_ (7, Rows'.sc-here (Row.sInt Syntax.w64)) (List._∷_ (8, Rows'.any-gone (Syntax.tyInt Syntax.w64)) (List._∷_ (9, Rows'.any-gone Syntax.tyBool) (List._∷_ (10, Rows'.any-gone Syntax.tyUnit) (List._∷_ (11, Rows'.any-gone (Syntax.tyInt Syntax.w64)) (List._∷_ (12, Rows'.any-gone Syntax.tyPtr)
-            (List._∷_ (13, Rec.row) (List._∷_ (14, Rows'.mref (Array'.Array (Array'.Array (Referent.rtF (Referent.fInt Syntax.w16)) 2048) 2) (Syntax.tyRef Syntax.erased Syntax.mut (Syntax.tyArray ty·1 2)) 4) (List._∷_
-            (15, Rows'.mref (Array'.Array (Array'.Array (Referent.rtF (Referent.fInt Syntax.w8)) 2048) 2) (Syntax.tyRef Syntax.erased Syntax.mut (Syntax.tyArray ty·0 2)) 5) List.[])))))))))))))))
+            (List._∷_ (13, Rec.row) (List._∷_ (14, Rows'.mref (Array'.Array (Array'.Array (Referent.rtF (Referent.fInt Syntax.w16)) 4096) 2) (Syntax.tyRef Syntax.erased Syntax.mut (Syntax.tyArray ty·1 2)) 4) (List._∷_
+            (15, Rows'.mref (Array'.Array (Array'.Array (Referent.rtF (Referent.fInt Syntax.w8)) 4096) 2) (Syntax.tyRef Syntax.erased Syntax.mut (Syntax.tyArray ty·0 2)) 5) List.[])))))))))))))))
 
         abbrev g15 : List.List Row.Entry
         g15 = List._∷_ (0, Rows'.any-gone Syntax.tyUnit) (List._∷_ (1, Rows'.sslice Rec.rt ty·2 0) (List._∷_ (2, Rows'.sc-here (Row.sInt Syntax.w64)) (List._∷_
-            (3, Rows'.mref-owed (Array'.Array (Array'.Array (Referent.rtF (Referent.fInt Syntax.w16)) 2048) 2) (Syntax.tyRef (Syntax.named 1) Syntax.mut (Syntax.tyArray ty·1 2)) 1 4 (Row.lease (κs .1 .0) (qs .1 .0))) (List._∷_
-            (4, Rows'.mref-owed (Array'.Array (Array'.Array (Referent.rtF (Referent.fInt Syntax.w8)) 2048) 2) (Syntax.tyRef (Syntax.named 2) Syntax.mut (Syntax.tyArray ty·0 2)) 2 5 (Row.lease (κs .1 .1 .0) (qs .1 .1 .0))) (List._∷_
-            (5, Rows'.mref-owed (Array'.Array (Referent.rtF (Referent.fInt Syntax.w8)) 2048) (Syntax.tyRef (Syntax.named 3) Syntax.mut ty·0) 3 6 (Row.lease (κs .1 .1 .1 .0) (qs .1 .1 .1 .0))) (List._∷_ (6, Rows'.sc-here (Row.sInt Syntax.w64)) (List._∷_ (7, Rows'.sc-here (Row.sInt Syntax.w64)) (List._∷_ (8, Rows'.any-gone (Syntax.tyInt Syntax.w64)) (List._∷_
+            (3, Rows'.mref-owed (Array'.Array (Array'.Array (Referent.rtF (Referent.fInt Syntax.w16)) 4096) 2) (Syntax.tyRef (Syntax.named 1) Syntax.mut (Syntax.tyArray ty·1 2)) 1 4 (Row.lease (κs .1 .0) (qs .1 .0))) (List._∷_
+            (4, Rows'.mref-owed (Array'.Array (Array'.Array (Referent.rtF (Referent.fInt Syntax.w8)) 4096) 2) (Syntax.tyRef (Syntax.named 2) Syntax.mut (Syntax.tyArray ty·0 2)) 2 5 (Row.lease (κs .1 .1 .0) (qs .1 .1 .0))) (List._∷_
+            (5, Rows'.mref-owed (Array'.Array (Referent.rtF (Referent.fInt Syntax.w8)) 4096) (Syntax.tyRef (Syntax.named 3) Syntax.mut ty·0) 3 6 (Row.lease (κs .1 .1 .1 .0) (qs .1 .1 .1 .0))) (List._∷_ (6, Rows'.sc-here (Row.sInt Syntax.w64)) (List._∷_ (7, Rows'.sc-here (Row.sInt Syntax.w64)) (List._∷_ (8, Rows'.any-gone (Syntax.tyInt Syntax.w64)) (List._∷_
             (9, Rows'.any-gone Syntax.tyBool) (List._∷_ (10, Rows'.any-gone Syntax.tyUnit) (List._∷_ (11, Rows'.any-gone (Syntax.tyInt Syntax.w64)) (List._∷_ (12, Rows'.any-gone Syntax.tyPtr) (List._∷_ (13, Rec.row) (List._∷_
-            (14, Rows'.mref (Array'.Array (Array'.Array (Referent.rtF (Referent.fInt Syntax.w16)) 2048) 2) (Syntax.tyRef Syntax.erased Syntax.mut (Syntax.tyArray ty·1 2)) 4) (List._∷_ (15, Rows'.mref (Array'.Array (Array'.Array (Referent.rtF (Referent.fInt Syntax.w8)) 2048) 2) (Syntax.tyRef Syntax.erased Syntax.mut (Syntax.tyArray ty·0 2)) 5)
+            (14, Rows'.mref (Array'.Array (Array'.Array (Referent.rtF (Referent.fInt Syntax.w16)) 4096) 2) (Syntax.tyRef Syntax.erased Syntax.mut (Syntax.tyArray ty·1 2)) 4) (List._∷_ (15, Rows'.mref (Array'.Array (Array'.Array (Referent.rtF (Referent.fInt Syntax.w8)) 4096) 2) (Syntax.tyRef Syntax.erased Syntax.mut (Syntax.tyArray ty·0 2)) 5)
             List.[])))))))))))))))
 
         abbrev g17 : List.List Row.Entry
         g17 = List._∷_ (0, Rows'.any-gone Syntax.tyUnit) (List._∷_ (1, Rows'.sslice Rec.rt ty·2 0) (List._∷_ (2, Rows'.sc-here (Row.sInt Syntax.w64)) (List._∷_
-            (3, Rows'.mref-owed (Array'.Array (Array'.Array (Referent.rtF (Referent.fInt Syntax.w16)) 2048) 2) (Syntax.tyRef (Syntax.named 1) Syntax.mut (Syntax.tyArray ty·1 2)) 1 4 (Row.lease (κs .1 .0) (qs .1 .0))) (List._∷_
-            (4, Rows'.mref-owed (Array'.Array (Array'.Array (Referent.rtF (Referent.fInt Syntax.w8)) 2048) 2) (Syntax.tyRef (Syntax.named 2) Syntax.mut (Syntax.tyArray ty·0 2)) 2 5 (Row.lease (κs .1 .1 .0) (qs .1 .1 .0))) (List._∷_
-            (5, Rows'.mref-owed (Array'.Array (Referent.rtF (Referent.fInt Syntax.w8)) 2048) (Syntax.tyRef (Syntax.named 3) Syntax.mut ty·0) 3 6 (Row.lease (κs .1 .1 .1 .0) (qs .1 .1 .1 .0))) (List._∷_ (6, Rows'.sc-here (Row.sInt Syntax.w64)) (List._∷_ (7, Rows'.sc-here (Row.sInt Syntax.w64)) (List._∷_ (8, Rows'.any-gone (Syntax.tyInt Syntax.w64)) (List._∷_
+            (3, Rows'.mref-owed (Array'.Array (Array'.Array (Referent.rtF (Referent.fInt Syntax.w16)) 4096) 2) (Syntax.tyRef (Syntax.named 1) Syntax.mut (Syntax.tyArray ty·1 2)) 1 4 (Row.lease (κs .1 .0) (qs .1 .0))) (List._∷_
+            (4, Rows'.mref-owed (Array'.Array (Array'.Array (Referent.rtF (Referent.fInt Syntax.w8)) 4096) 2) (Syntax.tyRef (Syntax.named 2) Syntax.mut (Syntax.tyArray ty·0 2)) 2 5 (Row.lease (κs .1 .1 .0) (qs .1 .1 .0))) (List._∷_
+            (5, Rows'.mref-owed (Array'.Array (Referent.rtF (Referent.fInt Syntax.w8)) 4096) (Syntax.tyRef (Syntax.named 3) Syntax.mut ty·0) 3 6 (Row.lease (κs .1 .1 .1 .0) (qs .1 .1 .1 .0))) (List._∷_ (6, Rows'.sc-here (Row.sInt Syntax.w64)) (List._∷_ (7, Rows'.sc-here (Row.sInt Syntax.w64)) (List._∷_ (8, Rows'.any-gone (Syntax.tyInt Syntax.w64)) (List._∷_
             (9, Rows'.any-gone Syntax.tyBool) (List._∷_ (10, Rows'.sc-here Row.sUnit) (List._∷_ (11, Rows'.any-gone (Syntax.tyInt Syntax.w64)) (List._∷_ (12, Rows'.any-gone Syntax.tyPtr) (List._∷_ (13, Rec.row) (List._∷_
-            (14, Rows'.mleft (Array'.Array (Array'.Array (Referent.rtF (Referent.fInt Syntax.w16)) 2048) 2) (Syntax.tyRef Syntax.erased Syntax.mut (Syntax.tyArray ty·1 2))) (List._∷_ (15, Rows'.mleft (Array'.Array (Array'.Array (Referent.rtF (Referent.fInt Syntax.w8)) 2048) 2) (Syntax.tyRef Syntax.erased Syntax.mut (Syntax.tyArray ty·0 2)))
+            (14, Rows'.mleft (Array'.Array (Array'.Array (Referent.rtF (Referent.fInt Syntax.w16)) 4096) 2) (Syntax.tyRef Syntax.erased Syntax.mut (Syntax.tyArray ty·1 2))) (List._∷_ (15, Rows'.mleft (Array'.Array (Array'.Array (Referent.rtF (Referent.fInt Syntax.w8)) 4096) 2) (Syntax.tyRef Syntax.erased Syntax.mut (Syntax.tyArray ty·0 2)))
             List.[])))))))))))))))
 
         abbrev g19 : List.List Row.Entry
         g19 = List._∷_ (0, Rows'.any-gone Syntax.tyUnit) (List._∷_ (1, Rows'.sslice Rec.rt ty·2 0) (List._∷_ (2, Rows'.sc-here (Row.sInt Syntax.w64)) (List._∷_
-            (3, Rows'.mref-owed (Array'.Array (Array'.Array (Referent.rtF (Referent.fInt Syntax.w16)) 2048) 2) (Syntax.tyRef (Syntax.named 1) Syntax.mut (Syntax.tyArray ty·1 2)) 1 4 (Row.lease (κs .1 .0) (qs .1 .0))) (List._∷_
-            (4, Rows'.mref-owed (Array'.Array (Array'.Array (Referent.rtF (Referent.fInt Syntax.w8)) 2048) 2) (Syntax.tyRef (Syntax.named 2) Syntax.mut (Syntax.tyArray ty·0 2)) 2 5 (Row.lease (κs .1 .1 .0) (qs .1 .1 .0))) (List._∷_
-            (5, Rows'.mref-owed (Array'.Array (Referent.rtF (Referent.fInt Syntax.w8)) 2048) (Syntax.tyRef (Syntax.named 3) Syntax.mut ty·0) 3 6 (Row.lease (κs .1 .1 .1 .0) (qs .1 .1 .1 .0))) (List._∷_ (6, Rows'.sc-here (Row.sInt Syntax.w64)) (List._∷_ (7, Rows'.sc-here (Row.sInt Syntax.w64)) (List._∷_ (8, Rows'.any-gone (Syntax.tyInt Syntax.w64)) (List._∷_
+            (3, Rows'.mref-owed (Array'.Array (Array'.Array (Referent.rtF (Referent.fInt Syntax.w16)) 4096) 2) (Syntax.tyRef (Syntax.named 1) Syntax.mut (Syntax.tyArray ty·1 2)) 1 4 (Row.lease (κs .1 .0) (qs .1 .0))) (List._∷_
+            (4, Rows'.mref-owed (Array'.Array (Array'.Array (Referent.rtF (Referent.fInt Syntax.w8)) 4096) 2) (Syntax.tyRef (Syntax.named 2) Syntax.mut (Syntax.tyArray ty·0 2)) 2 5 (Row.lease (κs .1 .1 .0) (qs .1 .1 .0))) (List._∷_
+            (5, Rows'.mref-owed (Array'.Array (Referent.rtF (Referent.fInt Syntax.w8)) 4096) (Syntax.tyRef (Syntax.named 3) Syntax.mut ty·0) 3 6 (Row.lease (κs .1 .1 .1 .0) (qs .1 .1 .1 .0))) (List._∷_ (6, Rows'.sc-here (Row.sInt Syntax.w64)) (List._∷_ (7, Rows'.sc-here (Row.sInt Syntax.w64)) (List._∷_ (8, Rows'.any-gone (Syntax.tyInt Syntax.w64)) (List._∷_
             (9, Rows'.any-gone Syntax.tyBool) (List._∷_ (10, Rows'.any-gone Syntax.tyUnit) (List._∷_ (11, Rows'.any-gone (Syntax.tyInt Syntax.w64)) (List._∷_ (12, Rows'.any-gone Syntax.tyPtr) (List._∷_ (13, Rec.row) (List._∷_
-            (14, Rows'.mleft (Array'.Array (Array'.Array (Referent.rtF (Referent.fInt Syntax.w16)) 2048) 2) (Syntax.tyRef Syntax.erased Syntax.mut (Syntax.tyArray ty·1 2))) (List._∷_ (15, Rows'.mleft (Array'.Array (Array'.Array (Referent.rtF (Referent.fInt Syntax.w8)) 2048) 2) (Syntax.tyRef Syntax.erased Syntax.mut (Syntax.tyArray ty·0 2)))
+            (14, Rows'.mleft (Array'.Array (Array'.Array (Referent.rtF (Referent.fInt Syntax.w16)) 4096) 2) (Syntax.tyRef Syntax.erased Syntax.mut (Syntax.tyArray ty·1 2))) (List._∷_ (15, Rows'.mleft (Array'.Array (Array'.Array (Referent.rtF (Referent.fInt Syntax.w8)) 4096) 2) (Syntax.tyRef Syntax.erased Syntax.mut (Syntax.tyArray ty·0 2)))
             List.[])))))))))))))))
 
         abbrev g20 : List.List Row.Entry
         g20 = List._∷_ (0, Rows'.any-gone Syntax.tyUnit) (List._∷_ (1, Rows'.sslice Rec.rt ty·2 0) (List._∷_ (2, Rows'.sc-here (Row.sInt Syntax.w64)) (List._∷_
-            (3, Rows'.mref-owed (Array'.Array (Array'.Array (Referent.rtF (Referent.fInt Syntax.w16)) 2048) 2) (Syntax.tyRef (Syntax.named 1) Syntax.mut (Syntax.tyArray ty·1 2)) 1 4 (Row.lease (κs .1 .0) (qs .1 .0))) (List._∷_
-            (4, Rows'.mref-owed (Array'.Array (Array'.Array (Referent.rtF (Referent.fInt Syntax.w8)) 2048) 2) (Syntax.tyRef (Syntax.named 2) Syntax.mut (Syntax.tyArray ty·0 2)) 2 5 (Row.lease (κs .1 .1 .0) (qs .1 .1 .0))) (List._∷_
-            (5, Rows'.mref-owed (Array'.Array (Referent.rtF (Referent.fInt Syntax.w8)) 2048) (Syntax.tyRef (Syntax.named 3) Syntax.mut ty·0) 3 6 (Row.lease (κs .1 .1 .1 .0) (qs .1 .1 .1 .0))) (List._∷_ (6, Rows'.sc-here (Row.sInt Syntax.w64)) (List._∷_ (7, Rows'.sc-here (Row.sInt Syntax.w64)) (List._∷_ (8, Rows'.any-gone (Syntax.tyInt Syntax.w64)) (List._∷_
+            (3, Rows'.mref-owed (Array'.Array (Array'.Array (Referent.rtF (Referent.fInt Syntax.w16)) 4096) 2) (Syntax.tyRef (Syntax.named 1) Syntax.mut (Syntax.tyArray ty·1 2)) 1 4 (Row.lease (κs .1 .0) (qs .1 .0))) (List._∷_
+            (4, Rows'.mref-owed (Array'.Array (Array'.Array (Referent.rtF (Referent.fInt Syntax.w8)) 4096) 2) (Syntax.tyRef (Syntax.named 2) Syntax.mut (Syntax.tyArray ty·0 2)) 2 5 (Row.lease (κs .1 .1 .0) (qs .1 .1 .0))) (List._∷_
+            (5, Rows'.mref-owed (Array'.Array (Referent.rtF (Referent.fInt Syntax.w8)) 4096) (Syntax.tyRef (Syntax.named 3) Syntax.mut ty·0) 3 6 (Row.lease (κs .1 .1 .1 .0) (qs .1 .1 .1 .0))) (List._∷_ (6, Rows'.sc-here (Row.sInt Syntax.w64)) (List._∷_ (7, Rows'.sc-here (Row.sInt Syntax.w64)) (List._∷_ (8, Rows'.any-gone (Syntax.tyInt Syntax.w64)) (List._∷_
             (9, Rows'.any-gone Syntax.tyBool) (List._∷_ (10, Rows'.any-gone Syntax.tyUnit) (List._∷_ (11, Rows'.any-gone (Syntax.tyInt Syntax.w64)) (List._∷_ (12, Rows'.any-gone Syntax.tyPtr) (List._∷_ (13, Rows'.any-gone Rec.mir) (List._∷_
-            (14, Rows'.mleft (Array'.Array (Array'.Array (Referent.rtF (Referent.fInt Syntax.w16)) 2048) 2) (Syntax.tyRef Syntax.erased Syntax.mut (Syntax.tyArray ty·1 2))) (List._∷_ (15, Rows'.mleft (Array'.Array (Array'.Array (Referent.rtF (Referent.fInt Syntax.w8)) 2048) 2) (Syntax.tyRef Syntax.erased Syntax.mut (Syntax.tyArray ty·0 2)))
+            (14, Rows'.mleft (Array'.Array (Array'.Array (Referent.rtF (Referent.fInt Syntax.w16)) 4096) 2) (Syntax.tyRef Syntax.erased Syntax.mut (Syntax.tyArray ty·1 2))) (List._∷_ (15, Rows'.mleft (Array'.Array (Array'.Array (Referent.rtF (Referent.fInt Syntax.w8)) 4096) 2) (Syntax.tyRef Syntax.erased Syntax.mut (Syntax.tyArray ty·0 2)))
             List.[])))))))))))))))
 
         abbrev g21 : List.List Row.Entry
-        g21 = List._∷_ (0, Rows'.any-gone Syntax.tyUnit) (List._∷_ (1, Rows'.sslice Rec.rt ty·2 0) (List._∷_ (2, Rows'.sc-here (Row.sInt Syntax.w64)) (List._∷_ (3, Rows'.mref (Array'.Array (Array'.Array (Referent.rtF (Referent.fInt Syntax.w16)) 2048) 2) (Syntax.tyRef (Syntax.named 1) Syntax.mut (Syntax.tyArray ty·1 2)) 1) (List._∷_
-            (4, Rows'.mref-owed (Array'.Array (Array'.Array (Referent.rtF (Referent.fInt Syntax.w8)) 2048) 2) (Syntax.tyRef (Syntax.named 2) Syntax.mut (Syntax.tyArray ty·0 2)) 2 5 (Row.lease (κs .1 .1 .0) (qs .1 .1 .0))) (List._∷_
-            (5, Rows'.mref-owed (Array'.Array (Referent.rtF (Referent.fInt Syntax.w8)) 2048) (Syntax.tyRef (Syntax.named 3) Syntax.mut ty·0) 3 6 (Row.lease (κs .1 .1 .1 .0) (qs .1 .1 .1 .0))) (List._∷_ (6, Rows'.sc-here (Row.sInt Syntax.w64)) (List._∷_ (7, Rows'.sc-here (Row.sInt Syntax.w64)) (List._∷_ (8, Rows'.any-gone (Syntax.tyInt Syntax.w64)) (List._∷_
+        g21 = List._∷_ (0, Rows'.any-gone Syntax.tyUnit) (List._∷_ (1, Rows'.sslice Rec.rt ty·2 0) (List._∷_ (2, Rows'.sc-here (Row.sInt Syntax.w64)) (List._∷_ (3, Rows'.mref (Array'.Array (Array'.Array (Referent.rtF (Referent.fInt Syntax.w16)) 4096) 2) (Syntax.tyRef (Syntax.named 1) Syntax.mut (Syntax.tyArray ty·1 2)) 1) (List._∷_
+            (4, Rows'.mref-owed (Array'.Array (Array'.Array (Referent.rtF (Referent.fInt Syntax.w8)) 4096) 2) (Syntax.tyRef (Syntax.named 2) Syntax.mut (Syntax.tyArray ty·0 2)) 2 5 (Row.lease (κs .1 .1 .0) (qs .1 .1 .0))) (List._∷_
+            (5, Rows'.mref-owed (Array'.Array (Referent.rtF (Referent.fInt Syntax.w8)) 4096) (Syntax.tyRef (Syntax.named 3) Syntax.mut ty·0) 3 6 (Row.lease (κs .1 .1 .1 .0) (qs .1 .1 .1 .0))) (List._∷_ (6, Rows'.sc-here (Row.sInt Syntax.w64)) (List._∷_ (7, Rows'.sc-here (Row.sInt Syntax.w64)) (List._∷_ (8, Rows'.any-gone (Syntax.tyInt Syntax.w64)) (List._∷_
             (9, Rows'.any-gone Syntax.tyBool) (List._∷_ (10, Rows'.any-gone Syntax.tyUnit) (List._∷_ (11, Rows'.any-gone (Syntax.tyInt Syntax.w64)) (List._∷_ (12, Rows'.any-gone Syntax.tyPtr) (List._∷_ (13, Rows'.any-gone Rec.mir) (List._∷_ (14, Rows'.any-gone (Syntax.tyRef Syntax.erased Syntax.mut (Syntax.tyArray ty·1 2))) (List._∷_
-            (15, Rows'.mleft (Array'.Array (Array'.Array (Referent.rtF (Referent.fInt Syntax.w8)) 2048) 2) (Syntax.tyRef Syntax.erased Syntax.mut (Syntax.tyArray ty·0 2))) List.[])))))))))))))))
+            (15, Rows'.mleft (Array'.Array (Array'.Array (Referent.rtF (Referent.fInt Syntax.w8)) 4096) 2) (Syntax.tyRef Syntax.erased Syntax.mut (Syntax.tyArray ty·0 2))) List.[])))))))))))))))
 
         abbrev g22 : List.List Row.Entry
-        g22 = List._∷_ (0, Rows'.any-gone Syntax.tyUnit) (List._∷_ (1, Rows'.sslice Rec.rt ty·2 0) (List._∷_ (2, Rows'.sc-here (Row.sInt Syntax.w64)) (List._∷_ (3, Rows'.mref (Array'.Array (Array'.Array (Referent.rtF (Referent.fInt Syntax.w16)) 2048) 2) (Syntax.tyRef (Syntax.named 1) Syntax.mut (Syntax.tyArray ty·1 2)) 1) (List._∷_
-            (4, Rows'.mref (Array'.Array (Array'.Array (Referent.rtF (Referent.fInt Syntax.w8)) 2048) 2) (Syntax.tyRef (Syntax.named 2) Syntax.mut (Syntax.tyArray ty·0 2)) 2) (List._∷_ (5, Rows'.mref-owed (Array'.Array (Referent.rtF (Referent.fInt Syntax.w8)) 2048) (Syntax.tyRef (Syntax.named 3) Syntax.mut ty·0) 3 6 (Row.lease (κs .1 .1 .1 .0) (qs .1 .1 .1 .0)))
+        g22 = List._∷_ (0, Rows'.any-gone Syntax.tyUnit) (List._∷_ (1, Rows'.sslice Rec.rt ty·2 0) (List._∷_ (2, Rows'.sc-here (Row.sInt Syntax.w64)) (List._∷_ (3, Rows'.mref (Array'.Array (Array'.Array (Referent.rtF (Referent.fInt Syntax.w16)) 4096) 2) (Syntax.tyRef (Syntax.named 1) Syntax.mut (Syntax.tyArray ty·1 2)) 1) (List._∷_
+            (4, Rows'.mref (Array'.Array (Array'.Array (Referent.rtF (Referent.fInt Syntax.w8)) 4096) 2) (Syntax.tyRef (Syntax.named 2) Syntax.mut (Syntax.tyArray ty·0 2)) 2) (List._∷_ (5, Rows'.mref-owed (Array'.Array (Referent.rtF (Referent.fInt Syntax.w8)) 4096) (Syntax.tyRef (Syntax.named 3) Syntax.mut ty·0) 3 6 (Row.lease (κs .1 .1 .1 .0) (qs .1 .1 .1 .0)))
             (List._∷_ (6, Rows'.sc-here (Row.sInt Syntax.w64)) (List._∷_ (7, Rows'.sc-here (Row.sInt Syntax.w64)) (List._∷_ (8, Rows'.any-gone (Syntax.tyInt Syntax.w64)) (List._∷_ (9, Rows'.any-gone Syntax.tyBool) (List._∷_ (10, Rows'.any-gone Syntax.tyUnit) (List._∷_ (11, Rows'.any-gone (Syntax.tyInt Syntax.w64)) (List._∷_ (12, Rows'.any-gone Syntax.tyPtr)
             (List._∷_ (13, Rows'.any-gone Rec.mir) (List._∷_ (14, Rows'.any-gone (Syntax.tyRef Syntax.erased Syntax.mut (Syntax.tyArray ty·1 2))) (List._∷_ (15, Rows'.any-gone (Syntax.tyRef Syntax.erased Syntax.mut (Syntax.tyArray ty·0 2))) List.[])))))))))))))))
 
@@ -798,37 +798,37 @@ module _ (claims· : Claims) where
 
           d9 : Typed.Typed 𝓤 H A 𝓣 E G29 b14 Δ3 at7
           d9 = Typed.g-pre 𝓤 H A W 𝓣 E G29 G30 b14 Δ3 (λ Ψ. Ψ) at7 (Lifetime.g-forget 𝓤 H A W E G29 5 Row.dead Path'.refl) (Typed.g-pre 𝓤 H A W 𝓣 E G30 G31 b14 Δ3 (λ Ψ. Ψ) at7 (Lifetime.g-end 𝓤 H A W E G30 6 Path'.refl) (Typed.g-pre 𝓤 H A W 𝓣 E G31 G32 b14 Δ3 (Typed.ask s28) at5 (Reborrow.g-back-mref 𝓤 H A W E G31 16 5 3 6 (Array'.Array (Referent.rtF
-              (Referent.fInt Syntax.w8)) 2048) (Syntax.tyRef (Syntax.named 3) Syntax.mut ty·0) (Syntax.tyRef Syntax.erased Syntax.mut ty·0) (Row.lease (κs .1 .1 .1 .0) (qs .1 .1 .1 .0)) (λ x. x) (λ x. x) (Reads.as-is 𝓤 H A (Rows'.mleft (Array'.Array (Referent.rtF (Referent.fInt Syntax.w8)) 2048) (Syntax.tyRef Syntax.erased Syntax.mut ty·0))) (Reads.as-is 𝓤 H A
-              (Rows'.mref-owed (Array'.Array (Referent.rtF (Referent.fInt Syntax.w8)) 2048) (Syntax.tyRef (Syntax.named 3) Syntax.mut ty·0) 3 6 (Row.lease (κs .1 .1 .1 .0) (qs .1 .1 .1 .0)))) Path'.refl Path'.refl) (Typed.g-pre 𝓤 H A W 𝓣 E G32 G5 b14 Δ3 (λ Ψ. Ψ) at5 (Lifetime.g-forget 𝓤 H A W E G32 6 Row.dead Path'.refl) d5)))
+              (Referent.fInt Syntax.w8)) 4096) (Syntax.tyRef (Syntax.named 3) Syntax.mut ty·0) (Syntax.tyRef Syntax.erased Syntax.mut ty·0) (Row.lease (κs .1 .1 .1 .0) (qs .1 .1 .1 .0)) (λ x. x) (λ x. x) (Reads.as-is 𝓤 H A (Rows'.mleft (Array'.Array (Referent.rtF (Referent.fInt Syntax.w8)) 4096) (Syntax.tyRef Syntax.erased Syntax.mut ty·0))) (Reads.as-is 𝓤 H A
+              (Rows'.mref-owed (Array'.Array (Referent.rtF (Referent.fInt Syntax.w8)) 4096) (Syntax.tyRef (Syntax.named 3) Syntax.mut ty·0) 3 6 (Row.lease (κs .1 .1 .1 .0) (qs .1 .1 .1 .0)))) Path'.refl Path'.refl) (Typed.g-pre 𝓤 H A W 𝓣 E G32 G5 b14 Δ3 (λ Ψ. Ψ) at5 (Lifetime.g-forget 𝓤 H A W E G32 6 Row.dead Path'.refl) d5)))
 
           d12 : Typed.Typed 𝓤 H A 𝓣 E G26 b14 Δ3 at10
           d12 = Typed.g-pre 𝓤 H A W 𝓣 E G26 G27 b14 Δ3 (λ Ψ. Ψ) at10 (Lifetime.g-forget 𝓤 H A W E G26 4 Row.dead Path'.refl) (Typed.g-pre 𝓤 H A W 𝓣 E G27 G28 b14 Δ3 (λ Ψ. Ψ) at10 (Lifetime.g-end 𝓤 H A W E G27 5 Path'.refl) (Typed.g-pre 𝓤 H A W 𝓣 E G28 G29 b14 Δ3 (Typed.ask s25) at7 (Reborrow.g-back-mref 𝓤 H A W E G28 15 4 2 5 (Array'.Array (Array'.Array
-              (Referent.rtF (Referent.fInt Syntax.w8)) 2048) 2) (Syntax.tyRef (Syntax.named 2) Syntax.mut (Syntax.tyArray ty·0 2)) (Syntax.tyRef Syntax.erased Syntax.mut (Syntax.tyArray ty·0 2)) (Row.lease (κs .1 .1 .0) (qs .1 .1 .0)) (λ x. x) (λ x. x) (Reads.as-is 𝓤 H A (Rows'.mleft (Array'.Array (Array'.Array (Referent.rtF (Referent.fInt Syntax.w8)) 2048) 2)
-              (Syntax.tyRef Syntax.erased Syntax.mut (Syntax.tyArray ty·0 2)))) (Reads.as-is 𝓤 H A (Rows'.mref-owed (Array'.Array (Array'.Array (Referent.rtF (Referent.fInt Syntax.w8)) 2048) 2) (Syntax.tyRef (Syntax.named 2) Syntax.mut (Syntax.tyArray ty·0 2)) 2 5 (Row.lease (κs .1 .1 .0) (qs .1 .1 .0)))) Path'.refl Path'.refl) d9))
+              (Referent.rtF (Referent.fInt Syntax.w8)) 4096) 2) (Syntax.tyRef (Syntax.named 2) Syntax.mut (Syntax.tyArray ty·0 2)) (Syntax.tyRef Syntax.erased Syntax.mut (Syntax.tyArray ty·0 2)) (Row.lease (κs .1 .1 .0) (qs .1 .1 .0)) (λ x. x) (λ x. x) (Reads.as-is 𝓤 H A (Rows'.mleft (Array'.Array (Array'.Array (Referent.rtF (Referent.fInt Syntax.w8)) 4096) 2)
+              (Syntax.tyRef Syntax.erased Syntax.mut (Syntax.tyArray ty·0 2)))) (Reads.as-is 𝓤 H A (Rows'.mref-owed (Array'.Array (Array'.Array (Referent.rtF (Referent.fInt Syntax.w8)) 4096) 2) (Syntax.tyRef (Syntax.named 2) Syntax.mut (Syntax.tyArray ty·0 2)) 2 5 (Row.lease (κs .1 .1 .0) (qs .1 .1 .0)))) Path'.refl Path'.refl) d9))
 
           d15 : Typed.Typed 𝓤 H A 𝓣 E G23 b14 Δ3 at15
           d15 = Typed.g-pre 𝓤 H A W 𝓣 E G23 G24 b14 Δ3 (Typed.pass T23 T24 s20) at13 (Scalar.g-room 𝓤 H A W E G23 13 Rec.mir (Loc.room-whole 𝓤 H A W Rec.rt Rec.mir Path'.refl)) (Typed.g-pre 𝓤 H A W 𝓣 E G24 G25 b14 Δ3 (λ Ψ. Ψ) at13 (Lifetime.g-end 𝓤 H A W E G24 4 Path'.refl) (Typed.g-pre 𝓤 H A W 𝓣 E G25 G26 b14 Δ3 (Typed.ask s22) at10 (Reborrow.g-back-mref 𝓤
-              H A W E G25 14 3 1 4 (Array'.Array (Array'.Array (Referent.rtF (Referent.fInt Syntax.w16)) 2048) 2) (Syntax.tyRef (Syntax.named 1) Syntax.mut (Syntax.tyArray ty·1 2)) (Syntax.tyRef Syntax.erased Syntax.mut (Syntax.tyArray ty·1 2)) (Row.lease (κs .1 .0) (qs .1 .0)) (λ x. x) (λ x. x) (Reads.as-is 𝓤 H A (Rows'.mleft (Array'.Array (Array'.Array
-              (Referent.rtF (Referent.fInt Syntax.w16)) 2048) 2) (Syntax.tyRef Syntax.erased Syntax.mut (Syntax.tyArray ty·1 2)))) (Reads.as-is 𝓤 H A (Rows'.mref-owed (Array'.Array (Array'.Array (Referent.rtF (Referent.fInt Syntax.w16)) 2048) 2) (Syntax.tyRef (Syntax.named 1) Syntax.mut (Syntax.tyArray ty·1 2)) 1 4 (Row.lease (κs .1 .0) (qs .1 .0)))) Path'.refl
+              H A W E G25 14 3 1 4 (Array'.Array (Array'.Array (Referent.rtF (Referent.fInt Syntax.w16)) 4096) 2) (Syntax.tyRef (Syntax.named 1) Syntax.mut (Syntax.tyArray ty·1 2)) (Syntax.tyRef Syntax.erased Syntax.mut (Syntax.tyArray ty·1 2)) (Row.lease (κs .1 .0) (qs .1 .0)) (λ x. x) (λ x. x) (Reads.as-is 𝓤 H A (Rows'.mleft (Array'.Array (Array'.Array
+              (Referent.rtF (Referent.fInt Syntax.w16)) 4096) 2) (Syntax.tyRef Syntax.erased Syntax.mut (Syntax.tyArray ty·1 2)))) (Reads.as-is 𝓤 H A (Rows'.mref-owed (Array'.Array (Array'.Array (Referent.rtF (Referent.fInt Syntax.w16)) 4096) 2) (Syntax.tyRef (Syntax.named 1) Syntax.mut (Syntax.tyArray ty·1 2)) 1 4 (Row.lease (κs .1 .0) (qs .1 .0)))) Path'.refl
               Path'.refl) d12))
 
           d17 : Typed.Typed 𝓤 H A 𝓣 E G21 b15 Δ3 at17
           d17 = Typed.s-seq 𝓤 H A W 𝓣 E G21 G22 b13 b14 Δ3 (Typed.both s18) at16 (Plain.t-call-plain 𝓤 H A W 𝓣 3 ps·1 r·1 (claims· .2) (claims· .3) "records::columns::put_record" (known .1) E (λ pos β. β) G21
               (record { pos = 13; st = List.[]; d = 0; at = λ x. x }, (Num.vAt 7 λ x. x, (record { pos = 14; ty = Syntax.tyRef Syntax.erased Syntax.mut (Syntax.tyArray ty·1 2); ref = λ x. x }, (record { pos = 15; ty = Syntax.tyRef Syntax.erased Syntax.mut (Syntax.tyArray ty·0 2); ref = λ x. x }, (record { pos = 16; ty = Syntax.tyRef Syntax.erased Syntax.mut ty·0; ref = λ x. x }, tt)))))
               10 (List._∷_ 4 (List._∷_ 5 (List._∷_ 6 List.[]))) (Call.sub-id 𝓤 H A W (G21 .slots))
-              ((Rec.yields 𝓤 H A W, Path'.refl), ((Scalar.reads-sc 𝓤 H A W (Row.sInt Syntax.w64), Path'.refl), (Reads.as-is 𝓤 H A (Rows'.mref (Array'.Array (Array'.Array (Referent.rtF (Referent.fInt Syntax.w16)) 2048) 2) (Syntax.tyRef Syntax.erased Syntax.mut (Syntax.tyArray ty·1 2)) 4), Reads.reads-mref 𝓤 H A W (Array'.Array (Array'.Array (Referent.rtF (Referent.fInt Syntax.w16)) 2048) 2) (Syntax.tyRef Syntax.erased Syntax.mut (Syntax.tyArray ty·1 2)) 4, Path'.refl, (Reads.as-is 𝓤 H A (Rows'.mref (Array'.Array (Array'.Array (Referent.rtF (Referent.fInt Syntax.w8)) 2048) 2) (Syntax.tyRef Syntax.erased Syntax.mut (Syntax.tyArray ty·0 2)) 5), Reads.reads-mref 𝓤 H A W (Array'.Array (Array'.Array (Referent.rtF (Referent.fInt Syntax.w8)) 2048) 2) (Syntax.tyRef Syntax.erased Syntax.mut (Syntax.tyArray ty·0 2)) 5, Path'.refl, (Reads.as-is 𝓤 H A (Rows'.mref (Array'.Array (Referent.rtF (Referent.fInt Syntax.w8)) 2048) (Syntax.tyRef Syntax.erased Syntax.mut ty·0) 6), Reads.reads-mref 𝓤 H A W (Array'.Array (Referent.rtF (Referent.fInt Syntax.w8)) 2048) (Syntax.tyRef Syntax.erased Syntax.mut ty·0) 6, Path'.refl, tt)))))
+              ((Rec.yields 𝓤 H A W, Path'.refl), ((Scalar.reads-sc 𝓤 H A W (Row.sInt Syntax.w64), Path'.refl), (Reads.as-is 𝓤 H A (Rows'.mref (Array'.Array (Array'.Array (Referent.rtF (Referent.fInt Syntax.w16)) 4096) 2) (Syntax.tyRef Syntax.erased Syntax.mut (Syntax.tyArray ty·1 2)) 4), Reads.reads-mref 𝓤 H A W (Array'.Array (Array'.Array (Referent.rtF (Referent.fInt Syntax.w16)) 4096) 2) (Syntax.tyRef Syntax.erased Syntax.mut (Syntax.tyArray ty·1 2)) 4, Path'.refl, (Reads.as-is 𝓤 H A (Rows'.mref (Array'.Array (Array'.Array (Referent.rtF (Referent.fInt Syntax.w8)) 4096) 2) (Syntax.tyRef Syntax.erased Syntax.mut (Syntax.tyArray ty·0 2)) 5), Reads.reads-mref 𝓤 H A W (Array'.Array (Array'.Array (Referent.rtF (Referent.fInt Syntax.w8)) 4096) 2) (Syntax.tyRef Syntax.erased Syntax.mut (Syntax.tyArray ty·0 2)) 5, Path'.refl, (Reads.as-is 𝓤 H A (Rows'.mref (Array'.Array (Referent.rtF (Referent.fInt Syntax.w8)) 4096) (Syntax.tyRef Syntax.erased Syntax.mut ty·0) 6), Reads.reads-mref 𝓤 H A W (Array'.Array (Referent.rtF (Referent.fInt Syntax.w8)) 4096) (Syntax.tyRef Syntax.erased Syntax.mut ty·0) 6, Path'.refl, tt)))))
               (Reads.room-gone 𝓤 H A Syntax.tyUnit) (tt, (tt, (tt, tt))) Path'.refl) (Typed.g-pre 𝓤 H A W 𝓣 E G22 G23 b14 Δ3 (Typed.pass T22 T23 s19) at15 (Scalar.g-room 𝓤 H A W E G22 10 Syntax.tyUnit (Scalar.room-sc 𝓤 H A W Row.sUnit)) d15)
 
           d20 : Typed.Typed 𝓤 H A 𝓣 E G18 b17 Δ3 at20
-          d20 = Typed.s-seq 𝓤 H A W 𝓣 E G18 G19 b11 b16 Δ3 (Typed.give s15) at18 (Reborrow.t-mref-relend 𝓤 H A W E 𝓣 G18 4 15 2 5 (Array'.Array (Array'.Array (Referent.rtF (Referent.fInt Syntax.w8)) 2048) 2) (Syntax.tyArray ty·0 2) (Syntax.tyRef (Syntax.named 2) Syntax.mut (Syntax.tyArray ty·0 2)) (Syntax.tyRef Syntax.erased Syntax.mut (Syntax.tyArray ty·0
-              2)) (Row.lease (κs .1 .1 .0) (qs .1 .1 .0)) (λ x. x) (Reads.as-is 𝓤 H A (Rows'.mref (Array'.Array (Array'.Array (Referent.rtF (Referent.fInt Syntax.w8)) 2048) 2) (Syntax.tyRef (Syntax.named 2) Syntax.mut (Syntax.tyArray ty·0 2)) 2)) (Reads.room-gone 𝓤 H A (Syntax.tyRef Syntax.erased Syntax.mut (Syntax.tyArray ty·0 2))) Path'.refl tt Path'.refl
+          d20 = Typed.s-seq 𝓤 H A W 𝓣 E G18 G19 b11 b16 Δ3 (Typed.give s15) at18 (Reborrow.t-mref-relend 𝓤 H A W E 𝓣 G18 4 15 2 5 (Array'.Array (Array'.Array (Referent.rtF (Referent.fInt Syntax.w8)) 4096) 2) (Syntax.tyArray ty·0 2) (Syntax.tyRef (Syntax.named 2) Syntax.mut (Syntax.tyArray ty·0 2)) (Syntax.tyRef Syntax.erased Syntax.mut (Syntax.tyArray ty·0
+              2)) (Row.lease (κs .1 .1 .0) (qs .1 .1 .0)) (λ x. x) (Reads.as-is 𝓤 H A (Rows'.mref (Array'.Array (Array'.Array (Referent.rtF (Referent.fInt Syntax.w8)) 4096) 2) (Syntax.tyRef (Syntax.named 2) Syntax.mut (Syntax.tyArray ty·0 2)) 2)) (Reads.room-gone 𝓤 H A (Syntax.tyRef Syntax.erased Syntax.mut (Syntax.tyArray ty·0 2))) Path'.refl tt Path'.refl
               Path'.refl λ b o. tt) (Typed.g-pre 𝓤 H A W 𝓣 E G19 G20 b16 Δ3 (λ Ψ. Ψ) at18 (Lifetime.g-begin 𝓤 H A W E G19 6 (tt, (tt, (tt, ((tt, tt), ((tt, tt), (tt, (tt, (tt, (tt, (tt, (tt, (tt, (tt, (tt, (tt, (tt, (tt, tt)))))))))))))))))) (Typed.s-seq 𝓤 H A W 𝓣 E G20 G21 b12 b15 Δ3 (Typed.give s17) at17 (Reborrow.t-mref-relend 𝓤 H A W E 𝓣 G20 5 16 3 6
-              (Array'.Array (Referent.rtF (Referent.fInt Syntax.w8)) 2048) ty·0 (Syntax.tyRef (Syntax.named 3) Syntax.mut ty·0) (Syntax.tyRef Syntax.erased Syntax.mut ty·0) (Row.lease (κs .1 .1 .1 .0) (qs .1 .1 .1 .0)) (λ x. x) (Reads.as-is 𝓤 H A (Rows'.mref (Array'.Array (Referent.rtF (Referent.fInt Syntax.w8)) 2048) (Syntax.tyRef (Syntax.named 3) Syntax.mut
+              (Array'.Array (Referent.rtF (Referent.fInt Syntax.w8)) 4096) ty·0 (Syntax.tyRef (Syntax.named 3) Syntax.mut ty·0) (Syntax.tyRef Syntax.erased Syntax.mut ty·0) (Row.lease (κs .1 .1 .1 .0) (qs .1 .1 .1 .0)) (λ x. x) (Reads.as-is 𝓤 H A (Rows'.mref (Array'.Array (Referent.rtF (Referent.fInt Syntax.w8)) 4096) (Syntax.tyRef (Syntax.named 3) Syntax.mut
               ty·0) 3)) (Reads.room-gone 𝓤 H A (Syntax.tyRef Syntax.erased Syntax.mut ty·0)) Path'.refl tt Path'.refl Path'.refl λ b o. tt) d17))
 
           d22 : Typed.Typed 𝓤 H A 𝓣 E G16 b18 Δ3 at22
-          d22 = Typed.s-seq 𝓤 H A W 𝓣 E G16 G17 b10 b17 Δ3 (Typed.give s13) at20 (Reborrow.t-mref-relend 𝓤 H A W E 𝓣 G16 3 14 1 4 (Array'.Array (Array'.Array (Referent.rtF (Referent.fInt Syntax.w16)) 2048) 2) (Syntax.tyArray ty·1 2) (Syntax.tyRef (Syntax.named 1) Syntax.mut (Syntax.tyArray ty·1 2)) (Syntax.tyRef Syntax.erased Syntax.mut (Syntax.tyArray ty·1
-              2)) (Row.lease (κs .1 .0) (qs .1 .0)) (λ x. x) (Reads.as-is 𝓤 H A (Rows'.mref (Array'.Array (Array'.Array (Referent.rtF (Referent.fInt Syntax.w16)) 2048) 2) (Syntax.tyRef (Syntax.named 1) Syntax.mut (Syntax.tyArray ty·1 2)) 1)) (Reads.room-gone 𝓤 H A (Syntax.tyRef Syntax.erased Syntax.mut (Syntax.tyArray ty·1 2))) Path'.refl tt Path'.refl
+          d22 = Typed.s-seq 𝓤 H A W 𝓣 E G16 G17 b10 b17 Δ3 (Typed.give s13) at20 (Reborrow.t-mref-relend 𝓤 H A W E 𝓣 G16 3 14 1 4 (Array'.Array (Array'.Array (Referent.rtF (Referent.fInt Syntax.w16)) 4096) 2) (Syntax.tyArray ty·1 2) (Syntax.tyRef (Syntax.named 1) Syntax.mut (Syntax.tyArray ty·1 2)) (Syntax.tyRef Syntax.erased Syntax.mut (Syntax.tyArray ty·1
+              2)) (Row.lease (κs .1 .0) (qs .1 .0)) (λ x. x) (Reads.as-is 𝓤 H A (Rows'.mref (Array'.Array (Array'.Array (Referent.rtF (Referent.fInt Syntax.w16)) 4096) 2) (Syntax.tyRef (Syntax.named 1) Syntax.mut (Syntax.tyArray ty·1 2)) 1)) (Reads.room-gone 𝓤 H A (Syntax.tyRef Syntax.erased Syntax.mut (Syntax.tyArray ty·1 2))) Path'.refl tt Path'.refl
               Path'.refl λ b o. tt) (Typed.g-pre 𝓤 H A W 𝓣 E G17 G18 b17 Δ3 (λ Ψ. Ψ) at20 (Lifetime.g-begin 𝓤 H A W E G17 5 (tt, (tt, (tt, ((tt, tt), (tt, (tt, (tt, (tt, (tt, (tt, (tt, (tt, (tt, (tt, (tt, (tt, (tt, tt)))))))))))))))))) d20)
 
           d26 : Typed.Typed 𝓤 H A 𝓣 E G12 b19 Δ3 at26
@@ -877,9 +877,9 @@ module _ (claims· : Claims) where
         pub record Args : Type 0 where
           pub deps : Kinds.Den {n = 4} κs (ShrSlice.pShrS Rec.rt 0 tt)
           pub used : Kinds.Den {n = 4} κs (Num.pNum Syntax.w64)
-          pub stops : Kinds.Den {n = 4} κs (Kinds.pMut (Array'.Array (Array'.Array (Referent.rtF (Referent.fInt Syntax.w16)) 2048) 2) 1 tt)
-          pub drones : Kinds.Den {n = 4} κs (Kinds.pMut (Array'.Array (Array'.Array (Referent.rtF (Referent.fInt Syntax.w8)) 2048) 2) 2 tt)
-          pub flags : Kinds.Den {n = 4} κs (Kinds.pMut (Array'.Array (Referent.rtF (Referent.fInt Syntax.w8)) 2048) 3 tt)
+          pub stops : Kinds.Den {n = 4} κs (Kinds.pMut (Array'.Array (Array'.Array (Referent.rtF (Referent.fInt Syntax.w16)) 4096) 2) 1 tt)
+          pub drones : Kinds.Den {n = 4} κs (Kinds.pMut (Array'.Array (Array'.Array (Referent.rtF (Referent.fInt Syntax.w8)) 4096) 2) 2 tt)
+          pub flags : Kinds.Den {n = 4} κs (Kinds.pMut (Array'.Array (Referent.rtF (Referent.fInt Syntax.w8)) 4096) 3 tt)
 
         abbrev pub dens : (a : Args) → Kinds.Dens κs ps
         dens = λ a. (a .deps, (a .used, (a .stops, (a .drones, (a .flags, tt)))))
@@ -935,36 +935,36 @@ module _ (claims· : Claims) where
           (T5 .locals) (m4 (c .before) (After-within-used·gave c)) .now) (Row.get 6 (T5 .locals) (m4 (c .before) (After-within-used·gave c))) (Row.get 7 (T5 .locals) (m4 (c .before) (After-within-used·gave c))) (Row.get 3 (T5 .locals) (m4 (c .before) (After-within-used·gave c)) .now) (Row.get 4 (T5 .locals) (m4 (c .before) (After-within-used·gave c)) .now)
           (Row.get 5 (T5 .locals) (m4 (c .before) (After-within-used·gave c)) .now) (Row.get 7 (T5 .locals) (m4 (c .before) (After-within-used·gave c)))
 
-      abbrev pub m5 : (before : After-within-used) → (stops : Array'.Array (Array'.Array (Referent.rtF (Referent.fInt Syntax.w16)) 2048) 2 .Denot) → (drones : Array'.Array (Array'.Array (Referent.rtF (Referent.fInt Syntax.w8)) 2048) 2 .Denot) → (flags : Array'.Array (Referent.rtF (Referent.fInt Syntax.w8)) 2048 .Denot) → (i : Rows'.sc-here (Row.sInt
+      abbrev pub m5 : (before : After-within-used) → (stops : Array'.Array (Array'.Array (Referent.rtF (Referent.fInt Syntax.w16)) 4096) 2 .Denot) → (drones : Array'.Array (Array'.Array (Referent.rtF (Referent.fInt Syntax.w8)) 4096) 2 .Denot) → (flags : Array'.Array (Referent.rtF (Referent.fInt Syntax.w8)) 4096 .Denot) → (i : Rows'.sc-here (Row.sInt
           Syntax.w64) .Mod) → Typed.Mo T5
-      m5 = λ before stops drones flags i. Row.set 7 (7, Rows'.sc-here (Row.sInt Syntax.w64)) i (Row.setRow 5 (5, Rows'.mref (Array'.Array (Referent.rtF (Referent.fInt Syntax.w8)) 2048) (Syntax.tyRef (Syntax.named 3) Syntax.mut ty·0) 3) (Row.setRow 4
-          (4, Rows'.mref (Array'.Array (Array'.Array (Referent.rtF (Referent.fInt Syntax.w8)) 2048) 2) (Syntax.tyRef (Syntax.named 2) Syntax.mut (Syntax.tyArray ty·0 2)) 2) (Row.setRow 3 (3, Rows'.mref (Array'.Array (Array'.Array (Referent.rtF (Referent.fInt Syntax.w16)) 2048) 2) (Syntax.tyRef (Syntax.named 1) Syntax.mut (Syntax.tyArray ty·1 2)) 1) (T5
-          .locals)))) (Row.set 5 (5, Rows'.mref (Array'.Array (Referent.rtF (Referent.fInt Syntax.w8)) 2048) (Syntax.tyRef (Syntax.named 3) Syntax.mut ty·0) 3) record { ptr = Row.get 5 (T5 .locals) (m4 (before .before) (After-within-used·gave before)) .ptr; name = Row.get 5 (T5 .locals) (m4 (before .before) (After-within-used·gave before)) .name; now = flags }
-          (Row.setRow 4 (4, Rows'.mref (Array'.Array (Array'.Array (Referent.rtF (Referent.fInt Syntax.w8)) 2048) 2) (Syntax.tyRef (Syntax.named 2) Syntax.mut (Syntax.tyArray ty·0 2)) 2) (Row.setRow 3 (3, Rows'.mref (Array'.Array (Array'.Array (Referent.rtF (Referent.fInt Syntax.w16)) 2048) 2) (Syntax.tyRef (Syntax.named 1) Syntax.mut (Syntax.tyArray ty·1 2)) 1)
-          (T5 .locals))) (Row.set 4 (4, Rows'.mref (Array'.Array (Array'.Array (Referent.rtF (Referent.fInt Syntax.w8)) 2048) 2) (Syntax.tyRef (Syntax.named 2) Syntax.mut (Syntax.tyArray ty·0 2)) 2) record
+      m5 = λ before stops drones flags i. Row.set 7 (7, Rows'.sc-here (Row.sInt Syntax.w64)) i (Row.setRow 5 (5, Rows'.mref (Array'.Array (Referent.rtF (Referent.fInt Syntax.w8)) 4096) (Syntax.tyRef (Syntax.named 3) Syntax.mut ty·0) 3) (Row.setRow 4
+          (4, Rows'.mref (Array'.Array (Array'.Array (Referent.rtF (Referent.fInt Syntax.w8)) 4096) 2) (Syntax.tyRef (Syntax.named 2) Syntax.mut (Syntax.tyArray ty·0 2)) 2) (Row.setRow 3 (3, Rows'.mref (Array'.Array (Array'.Array (Referent.rtF (Referent.fInt Syntax.w16)) 4096) 2) (Syntax.tyRef (Syntax.named 1) Syntax.mut (Syntax.tyArray ty·1 2)) 1) (T5
+          .locals)))) (Row.set 5 (5, Rows'.mref (Array'.Array (Referent.rtF (Referent.fInt Syntax.w8)) 4096) (Syntax.tyRef (Syntax.named 3) Syntax.mut ty·0) 3) record { ptr = Row.get 5 (T5 .locals) (m4 (before .before) (After-within-used·gave before)) .ptr; name = Row.get 5 (T5 .locals) (m4 (before .before) (After-within-used·gave before)) .name; now = flags }
+          (Row.setRow 4 (4, Rows'.mref (Array'.Array (Array'.Array (Referent.rtF (Referent.fInt Syntax.w8)) 4096) 2) (Syntax.tyRef (Syntax.named 2) Syntax.mut (Syntax.tyArray ty·0 2)) 2) (Row.setRow 3 (3, Rows'.mref (Array'.Array (Array'.Array (Referent.rtF (Referent.fInt Syntax.w16)) 4096) 2) (Syntax.tyRef (Syntax.named 1) Syntax.mut (Syntax.tyArray ty·1 2)) 1)
+          (T5 .locals))) (Row.set 4 (4, Rows'.mref (Array'.Array (Array'.Array (Referent.rtF (Referent.fInt Syntax.w8)) 4096) 2) (Syntax.tyRef (Syntax.named 2) Syntax.mut (Syntax.tyArray ty·0 2)) 2) record
           { ptr = Row.get 4 (T5 .locals) (m4 (before .before) (After-within-used·gave before)) .ptr; name = Row.get 4 (T5 .locals) (m4 (before .before) (After-within-used·gave before)) .name; now = drones } (Row.setRow 3
-          (3, Rows'.mref (Array'.Array (Array'.Array (Referent.rtF (Referent.fInt Syntax.w16)) 2048) 2) (Syntax.tyRef (Syntax.named 1) Syntax.mut (Syntax.tyArray ty·1 2)) 1) (T5 .locals)) (Row.set 3 (3, Rows'.mref (Array'.Array (Array'.Array (Referent.rtF (Referent.fInt Syntax.w16)) 2048) 2) (Syntax.tyRef (Syntax.named 1) Syntax.mut (Syntax.tyArray ty·1 2)) 1)
+          (3, Rows'.mref (Array'.Array (Array'.Array (Referent.rtF (Referent.fInt Syntax.w16)) 4096) 2) (Syntax.tyRef (Syntax.named 1) Syntax.mut (Syntax.tyArray ty·1 2)) 1) (T5 .locals)) (Row.set 3 (3, Rows'.mref (Array'.Array (Array'.Array (Referent.rtF (Referent.fInt Syntax.w16)) 4096) 2) (Syntax.tyRef (Syntax.named 1) Syntax.mut (Syntax.tyArray ty·1 2)) 1)
           record { ptr = Row.get 3 (T5 .locals) (m4 (before .before) (After-within-used·gave before)) .ptr; name = Row.get 3 (T5 .locals) (m4 (before .before) (After-within-used·gave before)) .name; now = stops } (T5 .locals) (m4 (before .before) (After-within-used·gave before)))))
 
-      abbrev W3 : (before : After-within-used) → (stops : Array'.Array (Array'.Array (Referent.rtF (Referent.fInt Syntax.w16)) 2048) 2 .Denot) → (drones : Array'.Array (Array'.Array (Referent.rtF (Referent.fInt Syntax.w8)) 2048) 2 .Denot) → (flags : Array'.Array (Referent.rtF (Referent.fInt Syntax.w8)) 2048 .Denot) → (i : Rows'.sc-here (Row.sInt Syntax.w64)
+      abbrev W3 : (before : After-within-used) → (stops : Array'.Array (Array'.Array (Referent.rtF (Referent.fInt Syntax.w16)) 4096) 2 .Denot) → (drones : Array'.Array (Array'.Array (Referent.rtF (Referent.fInt Syntax.w8)) 4096) 2 .Denot) → (flags : Array'.Array (Referent.rtF (Referent.fInt Syntax.w8)) 4096 .Denot) → (i : Rows'.sc-here (Row.sInt Syntax.w64)
           .Mod) → Typed.Want O3
       W3 = λ before stops drones flags i. Typed.inLoop T5 O2 (Typed.Round T5 O2 put0 (λ u vs. Inv·0 (Row.get 1 (T5 .locals) u .now) (Row.get 2 (T5 .locals) u) (Row.get 3 (T5 .locals) u .now) (Row.get 4 (T5 .locals) u .now) (Row.get 5 (T5 .locals) u .now) (Row.get 6 (T5 .locals) u) (Row.get 7 (T5 .locals) u) (vs .0) (vs .1) (vs .2) (vs .3)) (λ u vs. μ·0
           (Row.get 1 (T5 .locals) u .now) (Row.get 2 (T5 .locals) u) (Row.get 3 (T5 .locals) u .now) (Row.get 4 (T5 .locals) u .now) (Row.get 5 (T5 .locals) u .now) (Row.get 6 (T5 .locals) u) (Row.get 7 (T5 .locals) u) (vs .0) (vs .1) (vs .2) (vs .3)) at30 (m4 (before .before) (After-within-used·gave before)) (stops, drones, flags, i)) (W2 (before .before)
           (After-within-used·gave before))
 
-      abbrev pub m6 : (before : After-within-used) → (stops : Array'.Array (Array'.Array (Referent.rtF (Referent.fInt Syntax.w16)) 2048) 2 .Denot) → (drones : Array'.Array (Array'.Array (Referent.rtF (Referent.fInt Syntax.w8)) 2048) 2 .Denot) → (flags : Array'.Array (Referent.rtF (Referent.fInt Syntax.w8)) 2048 .Denot) → (i : Rows'.sc-here (Row.sInt
+      abbrev pub m6 : (before : After-within-used) → (stops : Array'.Array (Array'.Array (Referent.rtF (Referent.fInt Syntax.w16)) 4096) 2 .Denot) → (drones : Array'.Array (Array'.Array (Referent.rtF (Referent.fInt Syntax.w8)) 4096) 2 .Denot) → (flags : Array'.Array (Referent.rtF (Referent.fInt Syntax.w8)) 4096 .Denot) → (i : Rows'.sc-here (Row.sInt
           Syntax.w64) .Mod) → Typed.Mo T7
       m6 = λ before stops drones flags i. s4 .next (m5 before stops drones flags i)
 
-      abbrev W4 : (before : After-within-used) → (stops : Array'.Array (Array'.Array (Referent.rtF (Referent.fInt Syntax.w16)) 2048) 2 .Denot) → (drones : Array'.Array (Array'.Array (Referent.rtF (Referent.fInt Syntax.w8)) 2048) 2 .Denot) → (flags : Array'.Array (Referent.rtF (Referent.fInt Syntax.w8)) 2048 .Denot) → (i : Rows'.sc-here (Row.sInt Syntax.w64)
+      abbrev W4 : (before : After-within-used) → (stops : Array'.Array (Array'.Array (Referent.rtF (Referent.fInt Syntax.w16)) 4096) 2 .Denot) → (drones : Array'.Array (Array'.Array (Referent.rtF (Referent.fInt Syntax.w8)) 4096) 2 .Denot) → (flags : Array'.Array (Referent.rtF (Referent.fInt Syntax.w8)) 4096 .Denot) → (i : Rows'.sc-here (Row.sInt Syntax.w64)
           .Mod) → Typed.Want O4
       W4 = λ before stops drones flags i. Typed.wantNext T5 O3 (at28 (W3 before stops drones flags i)) (W3 before stops drones flags i)
 
       module _ (before· : After-within-used) where
         pub record At-loop·own : Type 0 where
-          pub stops : Array'.Array (Array'.Array (Referent.rtF (Referent.fInt Syntax.w16)) 2048) 2 .Denot
-          pub drones : Array'.Array (Array'.Array (Referent.rtF (Referent.fInt Syntax.w8)) 2048) 2 .Denot
-          pub flags : Array'.Array (Referent.rtF (Referent.fInt Syntax.w8)) 2048 .Denot
+          pub stops : Array'.Array (Array'.Array (Referent.rtF (Referent.fInt Syntax.w16)) 4096) 2 .Denot
+          pub drones : Array'.Array (Array'.Array (Referent.rtF (Referent.fInt Syntax.w8)) 4096) 2 .Denot
+          pub flags : Array'.Array (Referent.rtF (Referent.fInt Syntax.w8)) 4096 .Denot
           pub i : Rows'.sc-here (Row.sInt Syntax.w64) .Mod
           pub inv : Inv·0 (Row.get 1 (T5 .locals) (m4 (before· .before) (After-within-used·gave before·)) .now) (Row.get 2 (T5 .locals) (m4 (before· .before) (After-within-used·gave before·))) (Row.get 3 (T5 .locals) (m4 (before· .before) (After-within-used·gave before·)) .now) (Row.get 4 (T5 .locals) (m4 (before· .before) (After-within-used·gave before·))
               .now) (Row.get 5 (T5 .locals) (m4 (before· .before) (After-within-used·gave before·)) .now) (Row.get 6 (T5 .locals) (m4 (before· .before) (After-within-used·gave before·))) (Row.get 7 (T5 .locals) (m4 (before· .before) (After-within-used·gave before·))) stops drones flags i

@@ -48,10 +48,10 @@ use prog.Wp
 use types.Kit
 
 abbrev ty·0 : Syntax.Ty
-ty·0 = Syntax.tyArray (Syntax.tyInt Syntax.w8) 2048
+ty·0 = Syntax.tyArray (Syntax.tyInt Syntax.w8) 4096
 
 abbrev ty·1 : Syntax.Ty
-ty·1 = Syntax.tyArray (Syntax.tyInt Syntax.w16) 2048
+ty·1 = Syntax.tyArray (Syntax.tyInt Syntax.w16) 4096
 
 abbrev ty·2 : Syntax.Ty
 ty·2 = Syntax.tyRef (Syntax.named 0) Syntax.mut Rec.behind
@@ -66,19 +66,19 @@ abbrev row·2 : Row.Row
 row·2 = Rows'.sc-here Row.sBool
 
 abbrev row·3 : Row.Row
-row·3 = Rows'.sref (Array'.Array (Referent.rtF (Referent.fInt Syntax.w8)) 2048) (Syntax.tyRef (Syntax.named 1) Syntax.imm ty·0) 1
+row·3 = Rows'.sref (Array'.Array (Referent.rtF (Referent.fInt Syntax.w8)) 4096) (Syntax.tyRef (Syntax.named 1) Syntax.imm ty·0) 1
 
 abbrev row·4 : Row.Row
-row·4 = Rows'.sref (Array'.Array (Referent.rtF (Referent.fInt Syntax.w16)) 2048) (Syntax.tyRef (Syntax.named 2) Syntax.imm ty·1) 2
+row·4 = Rows'.sref (Array'.Array (Referent.rtF (Referent.fInt Syntax.w16)) 4096) (Syntax.tyRef (Syntax.named 2) Syntax.imm ty·1) 2
 
 abbrev row·5 : Row.Row
-row·5 = Rows'.sref (Array'.Array (Referent.rtF (Referent.fInt Syntax.w8)) 2048) (Syntax.tyRef (Syntax.named 3) Syntax.imm ty·0) 3
+row·5 = Rows'.sref (Array'.Array (Referent.rtF (Referent.fInt Syntax.w8)) 4096) (Syntax.tyRef (Syntax.named 3) Syntax.imm ty·0) 3
 
 abbrev row·6 : Row.Row
-row·6 = Rows'.sref (Array'.Array (Referent.rtF (Referent.fInt Syntax.w16)) 2048) (Syntax.tyRef (Syntax.named 4) Syntax.imm ty·1) 4
+row·6 = Rows'.sref (Array'.Array (Referent.rtF (Referent.fInt Syntax.w16)) 4096) (Syntax.tyRef (Syntax.named 4) Syntax.imm ty·1) 4
 
 abbrev row·7 : Row.Row
-row·7 = Rows'.sref (Array'.Array (Referent.rtF (Referent.fInt Syntax.w8)) 2048) (Syntax.tyRef (Syntax.named 5) Syntax.imm ty·0) 5
+row·7 = Rows'.sref (Array'.Array (Referent.rtF (Referent.fInt Syntax.w8)) 4096) (Syntax.tyRef (Syntax.named 5) Syntax.imm ty·0) 5
 
 abbrev row·8 : Row.Row
 row·8 = Rows'.any-gone (Syntax.tyInt Syntax.w64)
@@ -102,8 +102,8 @@ abbrev row·14 : Row.Row
 row·14 = Rows'.sc-here Row.sPtr
 
 abbrev pub ps : List.List (Kinds.PK 6)
-ps = List._∷_ (MutSlice.pMutS Rec.rt 0 tt) (List._∷_ Bool.pBool (List._∷_ (ShrRef.pShr (Array'.Array (Referent.rtF (Referent.fInt Syntax.w8)) 2048) 1 tt) (List._∷_ (ShrRef.pShr (Array'.Array (Referent.rtF (Referent.fInt Syntax.w16)) 2048) 2 tt) (List._∷_ (ShrRef.pShr (Array'.Array (Referent.rtF (Referent.fInt Syntax.w8)) 2048) 3 tt) (List._∷_ (ShrRef.pShr
-    (Array'.Array (Referent.rtF (Referent.fInt Syntax.w16)) 2048) 4 tt) (List._∷_ (ShrRef.pShr (Array'.Array (Referent.rtF (Referent.fInt Syntax.w8)) 2048) 5 tt) List.[]))))))
+ps = List._∷_ (MutSlice.pMutS Rec.rt 0 tt) (List._∷_ Bool.pBool (List._∷_ (ShrRef.pShr (Array'.Array (Referent.rtF (Referent.fInt Syntax.w8)) 4096) 1 tt) (List._∷_ (ShrRef.pShr (Array'.Array (Referent.rtF (Referent.fInt Syntax.w16)) 4096) 2 tt) (List._∷_ (ShrRef.pShr (Array'.Array (Referent.rtF (Referent.fInt Syntax.w8)) 4096) 3 tt) (List._∷_ (ShrRef.pShr
+    (Array'.Array (Referent.rtF (Referent.fInt Syntax.w16)) 4096) 4 tt) (List._∷_ (ShrRef.pShr (Array'.Array (Referent.rtF (Referent.fInt Syntax.w8)) 4096) 5 tt) List.[]))))))
 
 abbrev pub r : Kinds.RK 6
 r = Unit'.rUnit
@@ -121,8 +121,8 @@ abbrev pub r·0 : Kinds.RK 0
 r·0 = Num.rNum Syntax.w64
 
 abbrev pub ps·1 : List.List (Kinds.PK 5)
-ps·1 = List._∷_ (Num.pNum Syntax.w64) (List._∷_ (ShrRef.pShr (Array'.Array (Referent.rtF (Referent.fInt Syntax.w8)) 2048) 0 tt) (List._∷_ (ShrRef.pShr (Array'.Array (Referent.rtF (Referent.fInt Syntax.w16)) 2048) 1 tt) (List._∷_ (ShrRef.pShr (Array'.Array (Referent.rtF (Referent.fInt Syntax.w8)) 2048) 2 tt) (List._∷_ (ShrRef.pShr (Array'.Array (Referent.rtF
-    (Referent.fInt Syntax.w16)) 2048) 3 tt) (List._∷_ (ShrRef.pShr (Array'.Array (Referent.rtF (Referent.fInt Syntax.w8)) 2048) 4 tt) List.[])))))
+ps·1 = List._∷_ (Num.pNum Syntax.w64) (List._∷_ (ShrRef.pShr (Array'.Array (Referent.rtF (Referent.fInt Syntax.w8)) 4096) 0 tt) (List._∷_ (ShrRef.pShr (Array'.Array (Referent.rtF (Referent.fInt Syntax.w16)) 4096) 1 tt) (List._∷_ (ShrRef.pShr (Array'.Array (Referent.rtF (Referent.fInt Syntax.w8)) 4096) 2 tt) (List._∷_ (ShrRef.pShr (Array'.Array (Referent.rtF
+    (Referent.fInt Syntax.w16)) 4096) 3 tt) (List._∷_ (ShrRef.pShr (Array'.Array (Referent.rtF (Referent.fInt Syntax.w8)) 4096) 4 tt) List.[])))))
 
 abbrev pub r·1 : Kinds.RK 5
 r·1 = Rec.result
@@ -298,12 +298,12 @@ abbrev pub O4 : Typed.Outs
 O4 = Typed.withNext (Option.some T5) O3
 
 abbrev pub InvT-loop : Type 1
-InvT-loop = List.List (Rec.rt .Denot) → Rows'.sc-here Row.sBool .Mod → Array'.Array (Referent.rtF (Referent.fInt Syntax.w8)) 2048 .Denot → Array'.Array (Referent.rtF (Referent.fInt Syntax.w16)) 2048 .Denot → Array'.Array (Referent.rtF (Referent.fInt Syntax.w8)) 2048 .Denot → Array'.Array (Referent.rtF (Referent.fInt Syntax.w16)) 2048 .Denot → Array'.Array
-    (Referent.rtF (Referent.fInt Syntax.w8)) 2048 .Denot → Rows'.sc-here (Row.sInt Syntax.w64) .Mod → Rows'.sc-here (Row.sInt Syntax.w64) .Mod → List.List (Rec.rt .Denot) → Rows'.sc-here (Row.sInt Syntax.w64) .Mod → Type 0
+InvT-loop = List.List (Rec.rt .Denot) → Rows'.sc-here Row.sBool .Mod → Array'.Array (Referent.rtF (Referent.fInt Syntax.w8)) 4096 .Denot → Array'.Array (Referent.rtF (Referent.fInt Syntax.w16)) 4096 .Denot → Array'.Array (Referent.rtF (Referent.fInt Syntax.w8)) 4096 .Denot → Array'.Array (Referent.rtF (Referent.fInt Syntax.w16)) 4096 .Denot → Array'.Array
+    (Referent.rtF (Referent.fInt Syntax.w8)) 4096 .Denot → Rows'.sc-here (Row.sInt Syntax.w64) .Mod → Rows'.sc-here (Row.sInt Syntax.w64) .Mod → List.List (Rec.rt .Denot) → Rows'.sc-here (Row.sInt Syntax.w64) .Mod → Type 0
 
 abbrev pub MeasureT-loop : Type 0
-MeasureT-loop = List.List (Rec.rt .Denot) → Rows'.sc-here Row.sBool .Mod → Array'.Array (Referent.rtF (Referent.fInt Syntax.w8)) 2048 .Denot → Array'.Array (Referent.rtF (Referent.fInt Syntax.w16)) 2048 .Denot → Array'.Array (Referent.rtF (Referent.fInt Syntax.w8)) 2048 .Denot → Array'.Array (Referent.rtF (Referent.fInt Syntax.w16)) 2048 .Denot →
-    Array'.Array (Referent.rtF (Referent.fInt Syntax.w8)) 2048 .Denot → Rows'.sc-here (Row.sInt Syntax.w64) .Mod → Rows'.sc-here (Row.sInt Syntax.w64) .Mod → List.List (Rec.rt .Denot) → Rows'.sc-here (Row.sInt Syntax.w64) .Mod → Nat.ℕ
+MeasureT-loop = List.List (Rec.rt .Denot) → Rows'.sc-here Row.sBool .Mod → Array'.Array (Referent.rtF (Referent.fInt Syntax.w8)) 4096 .Denot → Array'.Array (Referent.rtF (Referent.fInt Syntax.w16)) 4096 .Denot → Array'.Array (Referent.rtF (Referent.fInt Syntax.w8)) 4096 .Denot → Array'.Array (Referent.rtF (Referent.fInt Syntax.w16)) 4096 .Denot →
+    Array'.Array (Referent.rtF (Referent.fInt Syntax.w8)) 4096 .Denot → Rows'.sc-here (Row.sInt Syntax.w64) .Mod → Rows'.sc-here (Row.sInt Syntax.w64) .Mod → List.List (Rec.rt .Denot) → Rows'.sc-here (Row.sInt Syntax.w64) .Mod → Nat.ℕ
 
 module _ (claims· : Claims) where
   abbrev s0 : Typed.Mo T0 → Typed.Mo T2
@@ -558,7 +558,7 @@ module _ (claims· : Claims) where
 
           d12 : Typed.Typed 𝓤 H A 𝓣 E G5 b15 Δ3 at12
           d12 = Typed.s-seq 𝓤 H A W 𝓣 E G5 G11 b7 b14 Δ3 (Typed.both s7) at11 (Plain.t-call-plain 𝓤 H A W 𝓣 5 ps·1 r·1 (claims· .2) (claims· .3) "records::columns::record_at" (known .1) E (λ pos β. β) G5 args·0 12 (List._∷_ 1 (List._∷_ 2 (List._∷_ 3 (List._∷_ 4 (List._∷_ 5 List.[]))))) (Call.sub-id 𝓤 H A W (G5 .slots))
-              ((Scalar.reads-sc 𝓤 H A W (Row.sInt Syntax.w64), Path'.refl), (ShrRef.spares-sref 𝓤 H A W (Array'.Array (Referent.rtF (Referent.fInt Syntax.w8)) 2048) (Syntax.tyRef (Syntax.named 1) Syntax.imm ty·0) 1, Reads.reads-sref 𝓤 H A W (Array'.Array (Referent.rtF (Referent.fInt Syntax.w8)) 2048) (Syntax.tyRef (Syntax.named 1) Syntax.imm ty·0) 1, Path'.refl, (ShrRef.spares-sref 𝓤 H A W (Array'.Array (Referent.rtF (Referent.fInt Syntax.w16)) 2048) (Syntax.tyRef (Syntax.named 2) Syntax.imm ty·1) 2, Reads.reads-sref 𝓤 H A W (Array'.Array (Referent.rtF (Referent.fInt Syntax.w16)) 2048) (Syntax.tyRef (Syntax.named 2) Syntax.imm ty·1) 2, Path'.refl, (ShrRef.spares-sref 𝓤 H A W (Array'.Array (Referent.rtF (Referent.fInt Syntax.w8)) 2048) (Syntax.tyRef (Syntax.named 3) Syntax.imm ty·0) 3, Reads.reads-sref 𝓤 H A W (Array'.Array (Referent.rtF (Referent.fInt Syntax.w8)) 2048) (Syntax.tyRef (Syntax.named 3) Syntax.imm ty·0) 3, Path'.refl, (ShrRef.spares-sref 𝓤 H A W (Array'.Array (Referent.rtF (Referent.fInt Syntax.w16)) 2048) (Syntax.tyRef (Syntax.named 4) Syntax.imm ty·1) 4, Reads.reads-sref 𝓤 H A W (Array'.Array (Referent.rtF (Referent.fInt Syntax.w16)) 2048) (Syntax.tyRef (Syntax.named 4) Syntax.imm ty·1) 4, Path'.refl, (ShrRef.spares-sref 𝓤 H A W (Array'.Array (Referent.rtF (Referent.fInt Syntax.w8)) 2048) (Syntax.tyRef (Syntax.named 5) Syntax.imm ty·0) 5, Reads.reads-sref 𝓤 H A W (Array'.Array (Referent.rtF (Referent.fInt Syntax.w8)) 2048) (Syntax.tyRef (Syntax.named 5) Syntax.imm ty·0) 5, Path'.refl, tt))))))
+              ((Scalar.reads-sc 𝓤 H A W (Row.sInt Syntax.w64), Path'.refl), (ShrRef.spares-sref 𝓤 H A W (Array'.Array (Referent.rtF (Referent.fInt Syntax.w8)) 4096) (Syntax.tyRef (Syntax.named 1) Syntax.imm ty·0) 1, Reads.reads-sref 𝓤 H A W (Array'.Array (Referent.rtF (Referent.fInt Syntax.w8)) 4096) (Syntax.tyRef (Syntax.named 1) Syntax.imm ty·0) 1, Path'.refl, (ShrRef.spares-sref 𝓤 H A W (Array'.Array (Referent.rtF (Referent.fInt Syntax.w16)) 4096) (Syntax.tyRef (Syntax.named 2) Syntax.imm ty·1) 2, Reads.reads-sref 𝓤 H A W (Array'.Array (Referent.rtF (Referent.fInt Syntax.w16)) 4096) (Syntax.tyRef (Syntax.named 2) Syntax.imm ty·1) 2, Path'.refl, (ShrRef.spares-sref 𝓤 H A W (Array'.Array (Referent.rtF (Referent.fInt Syntax.w8)) 4096) (Syntax.tyRef (Syntax.named 3) Syntax.imm ty·0) 3, Reads.reads-sref 𝓤 H A W (Array'.Array (Referent.rtF (Referent.fInt Syntax.w8)) 4096) (Syntax.tyRef (Syntax.named 3) Syntax.imm ty·0) 3, Path'.refl, (ShrRef.spares-sref 𝓤 H A W (Array'.Array (Referent.rtF (Referent.fInt Syntax.w16)) 4096) (Syntax.tyRef (Syntax.named 4) Syntax.imm ty·1) 4, Reads.reads-sref 𝓤 H A W (Array'.Array (Referent.rtF (Referent.fInt Syntax.w16)) 4096) (Syntax.tyRef (Syntax.named 4) Syntax.imm ty·1) 4, Path'.refl, (ShrRef.spares-sref 𝓤 H A W (Array'.Array (Referent.rtF (Referent.fInt Syntax.w8)) 4096) (Syntax.tyRef (Syntax.named 5) Syntax.imm ty·0) 5, Reads.reads-sref 𝓤 H A W (Array'.Array (Referent.rtF (Referent.fInt Syntax.w8)) 4096) (Syntax.tyRef (Syntax.named 5) Syntax.imm ty·0) 5, Path'.refl, tt))))))
               (Reads.room-gone 𝓤 H A Rec.mir) (tt, (tt, (tt, (tt, (tt, tt))))) Path'.refl) d11
 
           d13 : Typed.Typed 𝓤 H A 𝓣 E G7 b16 Δ3 at13
@@ -595,11 +595,11 @@ module _ (claims· : Claims) where
         pub record Args : Type 0 where
           pub deps : Kinds.Den {n = 6} κs (MutSlice.pMutS Rec.rt 0 tt)
           pub stores : Kinds.Den {n = 6} κs Bool.pBool
-          pub first-drones : Kinds.Den {n = 6} κs (ShrRef.pShr (Array'.Array (Referent.rtF (Referent.fInt Syntax.w8)) 2048) 1 tt)
-          pub first-stops : Kinds.Den {n = 6} κs (ShrRef.pShr (Array'.Array (Referent.rtF (Referent.fInt Syntax.w16)) 2048) 2 tt)
-          pub second-drones : Kinds.Den {n = 6} κs (ShrRef.pShr (Array'.Array (Referent.rtF (Referent.fInt Syntax.w8)) 2048) 3 tt)
-          pub second-stops : Kinds.Den {n = 6} κs (ShrRef.pShr (Array'.Array (Referent.rtF (Referent.fInt Syntax.w16)) 2048) 4 tt)
-          pub flags : Kinds.Den {n = 6} κs (ShrRef.pShr (Array'.Array (Referent.rtF (Referent.fInt Syntax.w8)) 2048) 5 tt)
+          pub first-drones : Kinds.Den {n = 6} κs (ShrRef.pShr (Array'.Array (Referent.rtF (Referent.fInt Syntax.w8)) 4096) 1 tt)
+          pub first-stops : Kinds.Den {n = 6} κs (ShrRef.pShr (Array'.Array (Referent.rtF (Referent.fInt Syntax.w16)) 4096) 2 tt)
+          pub second-drones : Kinds.Den {n = 6} κs (ShrRef.pShr (Array'.Array (Referent.rtF (Referent.fInt Syntax.w8)) 4096) 3 tt)
+          pub second-stops : Kinds.Den {n = 6} κs (ShrRef.pShr (Array'.Array (Referent.rtF (Referent.fInt Syntax.w16)) 4096) 4 tt)
+          pub flags : Kinds.Den {n = 6} κs (ShrRef.pShr (Array'.Array (Referent.rtF (Referent.fInt Syntax.w8)) 4096) 5 tt)
 
         abbrev pub dens : (a : Args) → Kinds.Dens κs ps
         dens = λ a. (a .deps, (a .stores, (a .first-drones, (a .first-stops, (a .second-drones, (a .second-stops, (a .flags, tt)))))))

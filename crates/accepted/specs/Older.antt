@@ -1,0 +1,89 @@
+-- Two boards, one with raised limits (request 12): a plan text that the lower limits take is read by the higher ones as before; one that the higher ones take is taken by the lower ones too,
+-- or refused with 1, 4, 6 or 11 and no part of it kept. Assumes nothing.
+use mathlib.Core.Path.{_≡_}
+use mathlib.Core.Logic.{_↔_}
+use mathlib.Core.Bool.{true, false, cond}
+use mathlib.Core.List.{List, [], _∷_}
+use Prim.Native.Nat.{ℕ, _*_, _≤_, _<_}
+use lib.Dec.{ltb, leb}
+use lib.ListN.{length}
+use Rattle.below.specs.Below.{at, isIn}
+use Rattle.tables.specs.Limits.{Limits}
+use Rattle.tables.specs.Tables.{Tables, fullSize}
+use Rattle.tables.specs.Zero.{zeroedTables}
+use Rattle.text.specs.Written.{Route}
+use Rattle.text.specs.OverLimits.{linesOver}
+use Rattle.text.specs.declared.reader.LinesAnswer.{LinesAnswer}
+use Rattle.text.specs.declared.reader.LinesAnswer.the-variants.{WellFormed, Refused as NotWellFormed}
+use Rattle.log.specs.CallLog.{Call, Entry}
+use Rattle.log.specs.Calls.{step, Ran}
+use Rattle.reading.specs.Reading.{readPlan}
+use Rattle.reading.specs.Replies.{ReadingReply, taken, refusedBy, refusedAt, readingNumber, isTaken, lineMeant}
+use Rattle.accepted.specs.TextPlan.{stopsIn, routesPlan, textRoutes, textPlan}
+
+-- ---- "Every plan text taken until now reads as before"
+
+-- a table and one of a larger full size, which holds the same up to the lower full size, and zeros from there on
+abbrev pub Extends : (full full′ : ℕ) (table table′ : List ℕ) → Type 0
+Extends full full′ table table′ = (i : ℕ) → i < full′ → at table′ i ≡ cond (ltb i full) (at table i) 0
+
+pub record TablesExtend (L L′ : Limits) (t t′ : Tables) : Type 0 where
+  pub drone-count : Extends 1 1 (t .plan .droneCount) (t′ .plan .droneCount)
+  pub dependency-count : Extends 1 1 (t .plan .dependencyCount) (t′ .plan .dependencyCount)
+  pub names : Extends (L .drones * L .name) (L′ .drones * L′ .name) (t .plan .names) (t′ .plan .names)
+  pub stop-counts : Extends (L .drones) (L′ .drones) (t .plan .stopCounts) (t′ .plan .stopCounts)
+  pub locations : Extends (L .stops) (L′ .stops) (t .plan .locations) (t′ .plan .locations)
+  pub times : Extends (L .stops) (L′ .stops) (t .plan .times) (t′ .plan .times)
+  pub first-drones : Extends (L .dependencies) (L′ .dependencies) (t .plan .firstDrones) (t′ .plan .firstDrones)
+  pub first-stops : Extends (L .dependencies) (L′ .dependencies) (t .plan .firstStops) (t′ .plan .firstStops)
+  pub second-drones : Extends (L .dependencies) (L′ .dependencies) (t .plan .secondDrones) (t′ .plan .secondDrones)
+  pub second-stops : Extends (L .dependencies) (L′ .dependencies) (t .plan .secondStops) (t′ .plan .secondStops)
+  pub visited : Extends (L .drones) (L′ .drones) (t .visited) (t′ .visited)
+  pub drone-flags : Extends (L .drones) (L′ .drones) (t .droneFlags) (t′ .droneFlags)
+  pub flags : Extends (L .dependencies) (L′ .dependencies) (t .flags) (t′ .flags)
+
+-- taken by the higher limits too, with the same entries and the same plan
+pub record AsBefore (L L′ : Limits) (text : List ℕ) (t t′ : Tables) : Type 0 where
+  pub is-taken : readPlan L′ text t′ .reply ≡ taken
+  pub tables-extend : TablesExtend L L′ (readPlan L text t .tables) (readPlan L′ text t′ .tables)
+  pub one-plan : textPlan L′ text ≡ textPlan L text
+
+abbrev pub ReadsAsBefore : Limits → Limits → Type 0
+ReadsAsBefore L L′ = (text : List ℕ) (t t′ : Tables) → fullSize L′ t′ ≡ true → readPlan L text t .reply ≡ taken → AsBefore L L′ text t t′
+
+-- .. and any list of calls after it gets the same replies
+abbrev pub CallsAsBefore : Limits → Limits → Type 0
+CallsAsBefore L L′ =
+    (text : List ℕ) (t t′ : Tables) (calls : List Call) (got got′ : List Entry) (after after′ : Tables) → readPlan L text t .reply ≡ taken → readPlan L′ text t′ .reply ≡ taken
+    → Ran (step L) (readPlan L text t .tables) calls got after → Ran (step L′) (readPlan L′ text t′ .tables) calls got′ after′ → got ≡ got′
+
+-- ---- "Boards with just the old limits refuse a plan that is over them, and taken here, with 1, 4, 6 or 11 and never keep a part of it"
+
+-- after the lines: 11 where the dependencies are too many
+abbrev pub olderLines : Limits → List Route → LinesAnswer → ReadingReply
+olderLines L ds (NotWellFormed r) = lineMeant r
+olderLines L ds (WellFormed n) = cond (leb (routesPlan ds .count) (L .dependencies)) taken (refusedBy 11)
+
+-- what the board with the lower limits says of a text with these routes
+abbrev pub olderReply : Limits → List ℕ → List Route → ReadingReply
+olderReply L text ds = cond (ltb (L .text) (length text)) (refusedAt 1 (L .text)) (olderLines L ds (linesOver L ds))
+
+-- routes and text within the limits that were raised
+pub record WithinLimits (L : Limits) (text : List ℕ) (ds : List Route) : Type 0 where
+  pub text-short : length text ≤ L .text
+  pub drones-few : length ds ≤ L .drones
+  pub stops-few : stopsIn ds ≤ L .stops
+  pub dependencies-few : routesPlan ds .count ≤ L .dependencies
+
+pub record OlderAnswer (L L′ : Limits) (text : List ℕ) (t : Tables) : Type 0 where
+  pub replied : readPlan L text t .reply ≡ olderReply L text (textRoutes L′ text)
+  -- "with 1, 4, 6 or 11": 0 is a text that is taken
+  pub numbers : isIn (readingNumber (readPlan L text t .reply)) (0 ∷ 1 ∷ 4 ∷ 6 ∷ 11 ∷ []) ≡ true
+  -- refused exactly when it is over the limits
+  pub taken-within : (readPlan L text t .reply ≡ taken) ↔ WithinLimits L text (textRoutes L′ text)
+  -- "never keep a part of it": after 1 the tables are as they were, after the others zeroed
+  pub unchanged : L .text < length text → readPlan L text t .tables ≡ t
+  pub zeroed : length text ≤ L .text → isTaken (readPlan L text t .reply) ≡ false → readPlan L text t .tables ≡ zeroedTables L t
+
+abbrev pub OlderBoards : Limits → Limits → Type 0
+OlderBoards L L′ = (text : List ℕ) (t t′ : Tables) → fullSize L t ≡ true → readPlan L′ text t′ .reply ≡ taken → OlderAnswer L L′ text t
