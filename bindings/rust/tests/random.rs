@@ -269,7 +269,11 @@ fn flown_and_carried_home() {
             if r.one_in(8) {
                 compare_call(&mut seen, &mut tables, &Call::Withdraw(r.below(plan.routes.len())), 0);
             }
-            compare_call(&mut seen, &mut tables, &Call::Press(reported), 0);
+            // the arrival of a drone that was withdrawn meanwhile is refused and grants nothing: the next press reports none
+            if compare_call(&mut seen, &mut tables, &Call::Press(reported), 0).number != 0 {
+                reported = None;
+                continue;
+            }
             let under_way: Vec<usize> = (0..plan.routes.len()).filter(|d| tables.drone_flags[*d] == 1).collect();
             if under_way.is_empty() {
                 break;
